@@ -45,6 +45,7 @@ WORD = re.compile(r"[A-Za-z_][\w'-]*(?:\.[A-Za-z_][\w'-]*)*")
 SIGNATURE = re.compile(r"\s*(?:(?:pub|abbrev|unfoldable) )*([\w'-]+) :(?: |$)")
 FAMILY = re.compile(r"\s*(?:pub )?data ([\w'-]+)\b.* where\s*$")
 USE = re.compile(r"(?m)^use ([\w.]+?)(?: as (\w+)|\.\{([^}]*)\})")
+GROUP = re.compile(r"(?m)^use ([\w.]+)\.\{([^}]*)\}")
 STRING = re.compile(r"""b?'[{}()\[\]]'|"(?:\\.|[^"\\])*\"""", re.S)
 
 
@@ -78,12 +79,18 @@ def block_at(text, brace):
     sys.exit(f"tables.py: a brace isn't shut: {text[brace:brace + 60]!r}")
 
 
+def spread(group):
+    """A line for each name of a group of imports, behind the module that declares it."""
+    names = [it.strip().rpartition(".") if re.match(r"\w", it.strip()) else ("", "", it.strip()) for it in group[2].split(",")]
+    return "\n".join(f"use {group[1]}{dot}{below}.{{{name}}}" for below, dot, name in names)
+
+
 @functools.cache
 def text_of(path):
-    """A file without its comments, and code without its strings."""
+    """A file without its comments and with a line for each import, and code without its strings."""
     mark = "//" if path.suffix == ".rt" else "--"
     text = re.sub(rf"(?m)(?:^|(?<=\s)){mark}.*$", "", path.read_text(encoding="utf-8"))
-    return STRING.sub("_", text) if path.suffix == ".rt" else text
+    return STRING.sub("_", text) if path.suffix == ".rt" else GROUP.sub(spread, text)
 
 
 def type_of(name):

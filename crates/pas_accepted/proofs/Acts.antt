@@ -1,47 +1,30 @@
 -- Each act of a replay in the order of the text.
-use Rattle.std.proofs.Common.{◌≡◌, ℕ, ◌+◌, ◌==◌, max, nat_le, true, false, List, [], ◌∷◌, ◌++◌, inl, inr, refl, ap, sym, ◌∙◌, subst, append-nil, append_assoc, arith}
-use Rattle.std.specs.Prelude.{map, MatchResult, Option, None, Some}
-use Rattle.std.proofs.lemmas.Bool.{false_from_ne_true, le-leb, leb-true}
-use Rattle.std.proofs.lemmas.Option.{none-some}
+use Rattle.std.proofs.Common.{◌≡◌, ℕ, ◌+◌, ◌==◌, max, nat_le, true, false, List, [], ◌∷◌, ◌++◌, inl, inr, refl, ap, sym, ◌∙◌, subst, append-nil, append_assoc}
+use Rattle.std.proofs.Common.{arith, map, MatchResult, Option, None, Some, le-leb, leb-true}
+use Rattle.std.proofs.lemmas.{Bool.false_from_ne_true, Option.none-some}
 use Rattle.pas_profile.specs.Profiles.{IsValid}
-use Rattle.pas_profile.specs.declared.name.Block.{Block}
-use Rattle.pas_profile.specs.declared.profile.Profile.{Profile}
-use Rattle.pas_profile.specs.declared.word.Word.TheVariants as Word
+use Rattle.pas_profile.specs.declared.{name.Block.Block, profile.Profile.Profile, word.Word.Word}
 use Rattle.pas_core.proofs.OneActor.{legal_before}
-use Rattle.pas_steps.specs.Desks.{made, triples}
-use Rattle.pas_steps.specs.Events.{events_by}
-use Rattle.pas_steps.specs.Lists.{Legal, part, word_after}
-use Rattle.pas_steps.specs.declared.step.Made.{Made}
-use Rattle.pas_steps.specs.declared.step.Step.TheVariants.{Tick}
-use Rattle.pas_cache.specs.Caches.{Cached}
-use Rattle.pas_cache.specs.Refusals.{IsTrulyRefused}
+use Rattle.pas_steps.specs.{Desks.made, Desks.triples, Events.events_by, Lists.Legal, Lists.part, Lists.word_after}
+use Rattle.pas_steps.specs.declared.step.{Made.Made, Step.TheVariants.Tick}
+use Rattle.pas_cache.specs.{Caches.Cached, Refusals.IsTrulyRefused}
 use Rattle.pas_report.specs.Lines.{line_of}
-use Rattle.pas_report.specs.declared.record.Record.{Record}
-use Rattle.pas_report.specs.declared.record.Said.{Said}
-use Rattle.pas_trace.specs.declared.item.Request.{Request}
-use Rattle.pas_trace.specs.declared.plan.Op.{Op}
-use Rattle.pas_trace.specs.declared.plan.What.{What}
-use Rattle.pas_trace.specs.declared.plan.What.TheVariants as What
+use Rattle.pas_report.specs.declared.record.{Record.Record, Said.Said}
+use Rattle.pas_trace.specs.declared.{item.Request.Request, plan.Op.Op, plan.What.What}
 use Rattle.pas_trace.specs.Asked.{keeper_in}
 use Rattle.pas_trace.specs.Acts.{Act, Operates, Guards, Settles, Ticks, MakesPass, ReadsEpoch, StopsIdle, MarksPhase, Wakes, MarksClose, Ends, Lowers}
-use Rattle.pas_answers.specs.Answers.{Answer, IsAnswered, IsIdleFor, IsServed, IsStopped, Progress, having, said_by, wanted_by, after_reading, after_settling, after_stop, after_tick, after_wake, begun as woken, epoch_look, records_of, settled, stopped, with_cache, with_records}
-use Rattle.pas_answers.specs.Guarding.{IsTried, Tried, after_trying}
-use Rattle.pas_answers.specs.Reaching.{Advances, AnswersTried}
-use Rattle.pas_answers.specs.Refusals.{ActRefusesTruly, RefusesTruly, TriedRefusesTruly}
-use Rattle.pas_answers.proofs.Consequences.{tidy_piece}
-use Rattle.pas_answers.proofs.Tidy.{look_tidy, tick_tidy}
-use Rattle.pas_check.specs.Begins.{stopping, sweeping}
+use Rattle.pas_answers.specs.Answers.{Answer, IsAnswered, IsIdleFor, IsServed, IsStopped, Progress, having, said_by, wanted_by, after_reading, after_settling}
+use Rattle.pas_answers.specs.Answers.{after_stop, after_tick, after_wake, begun as woken, epoch_look, records_of, settled, stopped, with_cache, with_records}
+use Rattle.pas_answers.specs.{Guarding.IsTried, Guarding.Tried, Guarding.after_trying, Reaching.Advances, Reaching.AnswersTried, Refusals.ActRefusesTruly}
+use Rattle.pas_answers.specs.{Refusals.RefusesTruly, Refusals.TriedRefusesTruly}
+use Rattle.pas_answers.proofs.{Consequences.tidy_piece, Tidy.look_tidy, Tidy.tick_tidy}
+use Rattle.pas_check.specs.{Begins.stopping, Begins.sweeping, Tasks.emptying}
 use Rattle.pas_check.specs.States.{Does, Due, Stand, Task, Tries, Writes, with_at}
-use Rattle.pas_check.specs.Tasks.{emptying}
 use Rattle.pas_accepted.proofs.Going.{LeadsOn, on_as, on_both, on_line, on_task}
-use Rattle.pas_accepted.proofs.Guarding.{given_comes, lowered_comes, thread_comes}
-use Rattle.pas_accepted.proofs.GuardsInBooks.{booked_as}
-use Rattle.pas_accepted.proofs.LogEntries.{logged_as}
-use Rattle.pas_accepted.proofs.Operations.{what_comes}
-use Rattle.pas_accepted.proofs.Passes.{pass_comes}
+use Rattle.pas_accepted.proofs.{Guarding.given_comes, Guarding.lowered_comes, Guarding.thread_comes, GuardsInBooks.booked_as, LogEntries.logged_as}
+use Rattle.pas_accepted.proofs.{Operations.what_comes, Passes.pass_comes, Stopping.emptied, Stopping.stop_leads, Stopping.stop_tells, Telling.Comes}
+use Rattle.pas_accepted.proofs.{Telling.Tells}
 use Rattle.pas_accepted.proofs.Pieces.{lines_both, lines_by, table_at, table_same}
-use Rattle.pas_accepted.proofs.Stopping.{emptied, stop_leads, stop_tells}
-use Rattle.pas_accepted.proofs.Telling.{Comes, Tells}
 
 -- an act whose records lead on to what it came to
 abbrev pub Written : Profile → Progress → Stand → Progress → List Task → Type 0
@@ -174,14 +157,13 @@ module _ (f : Profile) (valid : IsValid f) (p : Progress) (s : Stand) (ts : List
       }
 
   idle_is : (k n : ℕ) → p.epoch ≡ word_after p.list Word.Epoch → IsIdleFor p k n → nat_le (s.idle_since k + n) s.epoch ≡ true
-  idle_is k n reads idle = le-leb (s.idle_since k + n) s.epoch (let since = tells.awake k in let epoch = tells.epoch in omega (arith, idle, since, epoch, reads))
+  idle_is k n reads idle = le-leb (s.idle_since k + n) s.epoch (let since = tells.awake k in omega (arith, idle, since, tells.epoch, reads))
 
   idle_isnt : (k n : ℕ) → p.epoch ≡ word_after p.list Word.Epoch → (IsIdleFor p k n → ⊥) → nat_le (s.idle_since k + n) s.epoch ≡ false
   idle_isnt k n reads busy = false_from_ne_true (nat_le (s.idle_since k + n) s.epoch) (λ t.
       let le = leb-true (s.idle_since k + n) s.epoch t in
       let since = tells.awake k in
-      let epoch = tells.epoch in
-      busy (omega (arith, le, since, epoch, reads)))
+      busy (omega (arith, le, since, tells.epoch, reads)))
 
   idle_comes : (k n : ℕ) (steps : List Made) (c : Cached) → p.epoch ≡ word_after p.list Word.Epoch → IsIdleFor p k n → IsStopped k (p.caches k) c steps → Legal f (triples k steps ++ p.list) → s.left ≡ Does (StopsIdle k n) ∷ ts
       → Comes f s (records_of (events_by k (part k p.list) steps) ++ stopped k) (after_stop p k steps c (stopped k)) ts

@@ -1,31 +1,18 @@
 -- The steps of a flush end names, and stamp and put back what they ended: none is a tick.
 use Rattle.std.proofs.Common.{◌≡◌, ℕ, ◌/◌, Bool, true, false, List, [], ◌∷◌, ◌++◌, inl, inr, refl, sym, subst}
-use Rattle.pas_profile.specs.Blocks.{address_of, grain_of}
-use Rattle.pas_profile.specs.Directories.{deed_word_of}
-use Rattle.pas_profile.specs.declared.name.Name.{Name}
-use Rattle.pas_profile.specs.declared.word.Word.TheVariants as Word
-use Rattle.pas_steps.specs.Desks.{made}
-use Rattle.pas_steps.specs.InTurn.{InTurn}
+use Rattle.pas_profile.specs.{Blocks.address_of, Blocks.grain_of, Directories.deed_word_of}
+use Rattle.pas_profile.specs.declared.{name.Name.Name, word.Word.Word}
+use Rattle.pas_steps.specs.{Desks.made, InTurn.InTurn}
 use Rattle.pas_steps.specs.Kinds.{Kinds, Only, Putting, is_in, kind_of, returning}
-use Rattle.pas_steps.specs.declared.step.Made.{Made}
-use Rattle.pas_steps.specs.declared.step.Step.TheVariants.{Look, Stamp}
-use Rattle.pas_steps.proofs.Apart.{only_both, only_within}
-use Rattle.pas_steps.proofs.Calls.{returns_are}
-use Rattle.pas_rights.proofs.Orders.{return_returns}
-use Rattle.pas_rights.proofs.Puts.{puts_kinds}
+use Rattle.pas_steps.specs.declared.step.{Made.Made, Step.TheVariants.Look, Step.TheVariants.Stamp}
+use Rattle.pas_steps.proofs.{Apart.only_both, Apart.only_within, Calls.returns_are}
+use Rattle.pas_rights.proofs.{Orders.return_returns, Puts.puts_kinds}
 use Rattle.pas_free_log.specs.Endings.{EndSteps, Tries, TriesBy, last_step}
-use Rattle.pas_free_log.specs.Flushes.{AfterEnd, EntrySteps, Settled}
-use Rattle.pas_free_log.specs.Frames.{freeing}
-use Rattle.pas_free_log.specs.Logs.{is_sized}
-use Rattle.pas_free_log.specs.Returns.{PageSteps, count_on, first_on}
-use Rattle.pas_free_log.specs.Stamps.{page_count, pages_from}
-use Rattle.pas_free_log.specs.declared.ending.Outcome.{Outcome}
-use Rattle.pas_free_log.specs.declared.ending.Outcome.TheVariants.{Ended, Refused}
-use Rattle.pas_free_log.specs.declared.log.Entry.{Entry}
-use Rattle.pas_free_log.specs.declared.noting.EndedRun.{EndedRun}
-use Rattle.pas_cache.specs.Caches.{Cached}
-use Rattle.pas_cache.specs.Changes.{EmptiesLog}
-use Rattle.pas_cache.specs.Kinds.{releasing}
+use Rattle.pas_free_log.specs.{Flushes.AfterEnd, Flushes.EntrySteps, Flushes.Settled, Frames.freeing, Logs.is_sized, Returns.PageSteps, Returns.count_on}
+use Rattle.pas_free_log.specs.{Returns.first_on, Stamps.page_count, Stamps.pages_from}
+use Rattle.pas_free_log.specs.declared.{ending.Outcome.Outcome, ending.Outcome.TheVariants.Ended, ending.Outcome.TheVariants.Refused, log.Entry.Entry}
+use Rattle.pas_free_log.specs.declared.{noting.EndedRun.EndedRun}
+use Rattle.pas_cache.specs.{Caches.Cached, Changes.EmptiesLog, Kinds.releasing}
 use Rattle.pas_answers.specs.Answers.{IsStopped}
 
 none_only : (ks : Kinds) (steps : List Made) → steps ≡ [] → Only ks steps

@@ -1,43 +1,27 @@
 -- The entries of a log that is emptied answer what is due, one after the other.
-use Rattle.std.proofs.Common.{◌≡◌, ℕ, ◌==◌, Bool, true, false, if◌then◌else◌, List, [], ◌∷◌, ◌++◌, Option, Some, None, inr, refl, ap, sym, ◌∙◌, subst, append_assoc}
-use Rattle.std.specs.Prelude.{map, reverse}
-use Rattle.std.proofs.lemmas.List.{map-append, reverse-append}
-use Rattle.std.proofs.lemmas.Option.{none-some}
-use Rattle.pas_profile.specs.Blocks.{address_of}
-use Rattle.pas_profile.specs.Profiles.{IsValid}
-use Rattle.pas_profile.specs.declared.event.Event.{Event}
-use Rattle.pas_profile.specs.declared.profile.Profile.{Profile}
-use Rattle.pas_profile.specs.declared.word.Word.TheVariants as Word
-use Rattle.pas_machine.specs.Machine.{Admits, Run}
-use Rattle.pas_machine.specs.State.{Live, live_in}
-use Rattle.pas_core.proofs.MachineRuns.{runs}
-use Rattle.pas_core.proofs.OneActor.{legal_earlier}
-use Rattle.pas_steps.specs.Desks.{made, triples}
-use Rattle.pas_steps.specs.Events.{events_by}
-use Rattle.pas_steps.specs.Lists.{Legal, part, visible}
-use Rattle.pas_steps.specs.declared.step.Made.{Made}
-use Rattle.pas_steps.specs.declared.step.Step.TheVariants.{Look}
+use Rattle.std.proofs.Common.{◌≡◌, ℕ, ◌==◌, Bool, true, false, if◌then◌else◌, List, [], ◌∷◌, ◌++◌, Option, Some, None, inr, refl, ap, sym, ◌∙◌, subst}
+use Rattle.std.proofs.Common.{append_assoc, map, reverse}
+use Rattle.std.proofs.lemmas.{List.map-append, List.reverse-append, Option.none-some}
+use Rattle.pas_profile.specs.{Blocks.address_of, Profiles.IsValid}
+use Rattle.pas_profile.specs.declared.{event.Event.Event, profile.Profile.Profile, word.Word.Word}
+use Rattle.pas_machine.specs.{Machine.Admits, Machine.Run, State.Live, State.live_in}
+use Rattle.pas_core.proofs.{MachineRuns.runs, OneActor.legal_earlier}
+use Rattle.pas_steps.specs.{Desks.made, Desks.triples, Events.events_by, Lists.Legal, Lists.part, Lists.visible}
+use Rattle.pas_steps.specs.declared.step.{Made.Made, Step.TheVariants.Look}
 use Rattle.pas_steps.proofs.Adding.{triples_append}
-use Rattle.pas_free_log.specs.Endings.{reason_for}
-use Rattle.pas_free_log.specs.Flushes.{Settled, event_for, shown_for}
-use Rattle.pas_free_log.specs.declared.ending.Outcome.{Outcome}
-use Rattle.pas_free_log.specs.declared.ending.Outcome.TheVariants.{Ended, Refused}
-use Rattle.pas_free_log.specs.declared.log.Entry.{Entry}
-use Rattle.pas_free_log.specs.declared.noting.EndedRun.{EndedRun}
+use Rattle.pas_free_log.specs.{Endings.reason_for, Flushes.Settled, Flushes.event_for, Flushes.shown_for}
+use Rattle.pas_free_log.specs.declared.{ending.Outcome.Outcome, ending.Outcome.TheVariants.Ended, ending.Outcome.TheVariants.Refused, log.Entry.Entry}
+use Rattle.pas_free_log.specs.declared.{noting.EndedRun.EndedRun}
 use Rattle.pas_cache.specs.Changes.{EmptiesLog}
 use Rattle.pas_report.specs.Lines.{line_of_event}
 use Rattle.pas_answers.specs.Answers.{Progress, records_of}
-use Rattle.pas_check.specs.Begins.{entries_due}
+use Rattle.pas_check.specs.{Begins.entries_due, Takes.IsEventOf, Tasks.emptying}
 use Rattle.pas_check.specs.States.{Due, Frees, Stand, Task, with_due}
-use Rattle.pas_check.specs.Takes.{IsEventOf}
-use Rattle.pas_check.specs.Tasks.{emptying}
 use Rattle.pas_check.specs.declared.entry.Entry.{Entry as Known}
 use Rattle.pas_check.proofs.Entries.{end_is, reject_is}
 use Rattle.pas_accepted.proofs.Going.{LeadsOn, on_as, on_both, on_line, on_same}
 use Rattle.pas_accepted.proofs.LogEntries.{known_again, known_as, logged_as, reason_may}
-use Rattle.pas_accepted.proofs.Pieces.{lines_by, lines_more, visible_piece}
-use Rattle.pas_accepted.proofs.SizedEnds.{AllHeed, Heeds, all_heed}
-use Rattle.pas_accepted.proofs.Telling.{Tells}
+use Rattle.pas_accepted.proofs.{Pieces.lines_by, Pieces.lines_more, Pieces.visible_piece, SizedEnds.AllHeed, SizedEnds.Heeds, SizedEnds.all_heed, Telling.Tells}
 
 -- ---- the event of an entry
 event_is : (f : Profile) (s : Stand) (k : ℕ) (entry : Entry) (outcome : Outcome) → Heeds s.events entry outcome → Run f s.events → Admits f s.events (event_for k s.epoch entry outcome)

@@ -1,39 +1,26 @@
 -- A free: its entry is logged, after a full log was emptied; or it is said why it can't be any block's.
-use Rattle.std.proofs.Common.{◌≡◌, ℕ, ◌/◌, ◌%◌, nat_le, Bool, true, false, List, [], ◌∷◌, ◌++◌, length, Option, Some, None, inl, inr, refl, ap, sym, ◌∙◌, append-nil}
-use Rattle.std.proofs.lemmas.Bool.{and_from, and_parts, eq-eqb, false_from_ne_true, le-leb, leb-true, ne_eqb}
-use Rattle.std.proofs.lemmas.List.{length-map, map-append}
-use Rattle.pas_profile.specs.Blocks.{address_of}
-use Rattle.pas_profile.specs.Profiles.{IsPage, IsValid}
-use Rattle.pas_profile.specs.declared.event.FreeFault.{FreeFault}
-use Rattle.pas_profile.specs.declared.event.FreeFault.TheVariants.{Outside, Unaligned}
-use Rattle.pas_profile.specs.declared.name.Block.{Block}
-use Rattle.pas_profile.specs.declared.profile.Profile.{Profile}
-use Rattle.pas_profile.specs.declared.word.Word.TheVariants as Word
-use Rattle.pas_steps.specs.Desks.{triples}
-use Rattle.pas_steps.specs.Events.{events_by}
+use Rattle.std.proofs.Common.{◌≡◌, ℕ, ◌/◌, ◌%◌, nat_le, Bool, true, false, List, [], ◌∷◌, ◌++◌, length, Option, Some, None, inl, inr, refl, ap, sym, ◌∙◌}
+use Rattle.std.proofs.Common.{append-nil, eq-eqb, le-leb, leb-true, ne_eqb}
+use Rattle.std.proofs.lemmas.{Bool.and_from, Bool.and_parts, Bool.false_from_ne_true, List.length-map, List.map-append}
+use Rattle.pas_profile.specs.{Blocks.address_of, Profiles.IsPage, Profiles.IsValid}
+use Rattle.pas_profile.specs.declared.{event.FreeFault.FreeFault, event.FreeFault.TheVariants.Outside, event.FreeFault.TheVariants.Unaligned, name.Block.Block}
+use Rattle.pas_profile.specs.declared.{profile.Profile.Profile, word.Word.Word}
+use Rattle.pas_steps.specs.{Desks.triples, Events.events_by}
 use Rattle.pas_steps.specs.Lists.{Legal, part, visible, word_after}
 use Rattle.pas_free_log.specs.Frames.{freeing as freeing_kinds}
 use Rattle.pas_free_log.specs.declared.log.Entry.{Entry}
-use Rattle.pas_cache.specs.Caches.{Cached}
-use Rattle.pas_cache.specs.Calls.{RefusesName}
-use Rattle.pas_cache.specs.Changes.{EmptiesFull}
+use Rattle.pas_cache.specs.{Caches.Cached, Calls.RefusesName, Changes.EmptiesFull}
 use Rattle.pas_report.specs.Lines.{line_of}
-use Rattle.pas_report.specs.declared.record.Record.{Record}
-use Rattle.pas_report.specs.declared.record.Said.{Said}
+use Rattle.pas_report.specs.declared.record.{Record.Record, Said.Said}
 use Rattle.pas_answers.specs.Answers.{Answer, IsFreed, IsFreedBy, Progress, after_answer, records_of, room_noted, said_by, said_of_fault}
 use Rattle.pas_answers.proofs.Tidy.{Tidy}
 use Rattle.pas_check.specs.Begins.{entry_of as known_entry, freeing, freeing_at, freeing_named, is_aligned, is_page, logging, tells as saying}
-use Rattle.pas_check.specs.States.{Stand, Task}
-use Rattle.pas_check.specs.Tasks.{emptying}
+use Rattle.pas_check.specs.{States.Stand, States.Task, Tasks.emptying}
 use Rattle.pas_check.specs.declared.entry.Entry.{Entry as Known}
 use Rattle.pas_check.proofs.Ticks.{epoch_kept}
-use Rattle.pas_accepted.proofs.FlushKinds.{flush_only}
-use Rattle.pas_accepted.proofs.Flushing.{flush_leads}
+use Rattle.pas_accepted.proofs.{FlushKinds.flush_only, Flushing.flush_leads, LogEntries.logged_as, Pieces.lines_both, Pieces.lines_by, Pieces.table_same}
+use Rattle.pas_accepted.proofs.{Stopping.emptied, Stopping.logs_with, Telling.Comes, Telling.Tells, Telling.told_after}
 use Rattle.pas_accepted.proofs.Going.{LeadsOn, on_as, on_both, on_line, on_same}
-use Rattle.pas_accepted.proofs.LogEntries.{logged_as}
-use Rattle.pas_accepted.proofs.Pieces.{lines_both, lines_by, table_same}
-use Rattle.pas_accepted.proofs.Stopping.{emptied, logs_with}
-use Rattle.pas_accepted.proofs.Telling.{Comes, Tells, told_after}
 
 -- ---- where a name stands
 page_is : (f : Profile) (page : ℕ) → IsPage f page → is_page f page ≡ true

@@ -1,12 +1,10 @@
 -- Lines that lead a check from one state to another.
 use Rattle.std.proofs.Common.{◌≡◌, ℕ, List, [], ◌∷◌, ◌++◌, inl, inr, refl, ap, sym, subst, append_assoc}
 use Rattle.pas_profile.specs.declared.profile.Profile.{Profile}
-use Rattle.pas_check.specs.Accepted.{IsDone, IsWhole}
+use Rattle.pas_check.specs.{Accepted.IsDone, Accepted.IsWhole, Takes.Takes, Takes.TakesDue}
 use Rattle.pas_check.specs.Begins.{after_task, past_outcomes, ready, ready_with}
 use Rattle.pas_check.specs.States.{Due, Examines, Stand, Task, with_due}
-use Rattle.pas_check.specs.Takes.{Takes, TakesDue}
-use Rattle.pas_check.proofs.Beginnings.{begun_alike}
-use Rattle.pas_check.proofs.Goings.{at_first, by_none}
+use Rattle.pas_check.proofs.{Beginnings.begun_alike, Goings.at_first, Goings.by_none}
 
 -- The lines lead from one state to the other: whatever is whole from there on is whole with them from here on.
 abbrev pub LeadsOn : Profile → Stand → List (List ℕ) → Stand → Type 0

@@ -1,48 +1,33 @@
 -- Guarded requests: the lines of the keeper, and where it gave nothing, those of the thread; and the close of a keeper.
-use Rattle.std.proofs.Common.{◌≡◌, ℕ, ◌+◌, ◌-◌, ◌*◌, ◌/◌, ◌%◌, ◌==◌, nat_le, Bool, if◌then◌else◌, true, false, ◌&&◌, ◌||◌, not, List, [], ◌∷◌, ◌++◌, length, Option, Some, None, inl, inr, refl, ap, sym, ◌∙◌, subst, arith, append-nil}
-use Rattle.std.specs.Prelude.{map, MatchOption, MatchResult}
+use Rattle.std.proofs.Common.{◌≡◌, ℕ, ◌+◌, ◌-◌, ◌*◌, ◌/◌, ◌%◌, ◌==◌, nat_le, Bool, if◌then◌else◌, true, false, ◌&&◌, ◌||◌, not, List, [], ◌∷◌, ◌++◌, length}
+use Rattle.std.proofs.Common.{Option, Some, None, inl, inr, refl, ap, sym, ◌∙◌, subst, arith, append-nil, map, MatchOption, MatchResult, eq-eqb, le-leb}
 use Rattle.std.specs.List.{AllByRecursion, filter}
-use Rattle.std.proofs.lemmas.Bool.{and_from, eq-eqb, le-leb}
+use Rattle.std.proofs.lemmas.Bool.{and_from}
 use Rattle.pas_bits.specs.Runs.{in_run}
-use Rattle.pas_profile.specs.Blocks.{address_of, grain_of, length_of}
-use Rattle.pas_profile.specs.Profiles.{IsValid}
-use Rattle.pas_profile.specs.declared.directory.Directory.{Directory}
-use Rattle.pas_profile.specs.declared.event.Event.{Event}
-use Rattle.pas_profile.specs.declared.name.Block.{Block}
-use Rattle.pas_profile.specs.declared.profile.Profile.{Profile}
-use Rattle.pas_profile.specs.declared.word.Word.TheVariants as Word
-use Rattle.pas_machine.specs.Machine.{Run}
-use Rattle.pas_machine.specs.State.{deed_in}
-use Rattle.pas_core.proofs.MachineRuns.{runs}
-use Rattle.pas_core.proofs.OneActor.{legal_earlier}
+use Rattle.pas_profile.specs.{Blocks.address_of, Blocks.grain_of, Blocks.length_of, Profiles.IsValid}
+use Rattle.pas_profile.specs.declared.{directory.Directory.Directory, event.Event.Event, name.Block.Block, profile.Profile.Profile, word.Word.Word}
+use Rattle.pas_machine.specs.{Machine.Run, State.deed_in}
+use Rattle.pas_core.proofs.{MachineRuns.runs, OneActor.legal_earlier}
 use Rattle.pas_scan.specs.Runs.{large_directory}
-use Rattle.pas_steps.specs.Desks.{triples}
-use Rattle.pas_steps.specs.Events.{actor_of, events_by}
+use Rattle.pas_steps.specs.{Desks.triples, Events.actor_of, Events.events_by, Views.KnowsDeed}
 use Rattle.pas_steps.specs.Kinds.{Backing, Giving, LookLife, returning}
 use Rattle.pas_steps.specs.Lists.{Legal, Whole, part, visible, word_after}
-use Rattle.pas_steps.specs.Views.{KnowsDeed}
 use Rattle.pas_steps.specs.declared.step.Made.{Made}
-use Rattle.pas_steps.proofs.Adding.{triples_append}
-use Rattle.pas_steps.proofs.Events.{events_own}
-use Rattle.pas_steps.proofs.Parts.{part_of_own}
-use Rattle.pas_cache.specs.Refusals.{IsTrulyRefused}
-use Rattle.pas_cache.specs.Serves.{IsDeedOf, pages_of}
+use Rattle.pas_steps.proofs.{Adding.triples_append, Events.events_own, Parts.part_of_own}
+use Rattle.pas_cache.specs.{Refusals.IsTrulyRefused, Serves.IsDeedOf, Serves.pages_of}
 use Rattle.pas_rights.specs.Gives.{give_steps}
 use Rattle.pas_report.specs.Lines.{line_of, line_of_event}
-use Rattle.pas_report.specs.declared.record.Record.{Record}
-use Rattle.pas_report.specs.declared.record.Said.{Said}
-use Rattle.pas_trace.specs.Acts.{Lowers}
-use Rattle.pas_trace.specs.Named.{Named, named}
+use Rattle.pas_report.specs.declared.record.{Record.Record, Said.Said}
+use Rattle.pas_trace.specs.{Acts.Lowers, Named.Named, Named.named}
 use Rattle.pas_trace.specs.declared.item.Request.{Request}
 use Rattle.pas_guard.specs.Raises.{IsNotRaised, IsRaised, RaiseSteps, guard_of as guard_at}
-use Rattle.pas_guard.specs.Seeks.{seeking}
-use Rattle.pas_guard.specs.Sweeps.{sweeping as sweeping_kinds, lowered_record as lowered_by}
+use Rattle.pas_guard.specs.{Seeks.seeking, Sweeps.sweeping as sweeping_kinds, Sweeps.lowered_record as lowered_by}
 use Rattle.pas_guard.specs.declared.book.Guard.{Guard}
 use Rattle.pas_guard.proofs.Raised.{raised_backs, raised_leaves}
-use Rattle.pas_answers.specs.Answers.{Answer, Books, IsGiven, IsServed, Progress, after_answer, having, records_of, said_by, said_of_request, wanted_by, with_book}
+use Rattle.pas_answers.specs.Answers.{Answer, Books, IsGiven, IsServed, Progress, after_answer, having, records_of, said_by, said_of_request, wanted_by}
+use Rattle.pas_answers.specs.Answers.{with_book}
 use Rattle.pas_answers.specs.Guarding.{IsLowered, IsTried, Tried, TryEnds, after_giving, after_lowering, after_trying, said_of_guard}
-use Rattle.pas_answers.proofs.Consequences.{tidy_piece}
-use Rattle.pas_answers.proofs.Keepers.{sweep_tidy, try_tidy}
+use Rattle.pas_answers.proofs.{Consequences.tidy_piece, Keepers.sweep_tidy, Keepers.try_tidy}
 use Rattle.pas_check.specs.Begins.{goes_down, guard_of, has_sides, lowered_record, page_above, page_below, raising, sweeping}
 use Rattle.pas_check.specs.States.{Does, Due, Serves, Stand, Task, Tries, with_name, with_one}
 use Rattle.pas_check.specs.Takes.{IsPreparing, Takes, directory_of, is_back}
@@ -52,18 +37,16 @@ use Rattle.pas_check.proofs.Ticks.{epoch_kept}
 use Rattle.pas_accepted.proofs.Going.{LeadsOn, on_as, on_both, on_line, on_same, on_task}
 use Rattle.pas_accepted.proofs.GuardsInBooks.{AreBooked, booked_raise, booked_sweep, going, going_told, guards_of, raised_by}
 use Rattle.pas_accepted.proofs.Pieces.{lines_both, lines_by, lines_more, visible_piece}
-use Rattle.pas_accepted.proofs.LogEntries.{logged_as}
-use Rattle.pas_accepted.proofs.Remakes.{asked_tells, asked_then}
+use Rattle.pas_accepted.proofs.{LogEntries.logged_as, Remakes.asked_tells, Remakes.asked_then, Telling.Comes, Telling.Tells}
 use Rattle.pas_accepted.proofs.Requests.{all_deeds, all_prepared, deed_known, kind_asked, request_leads, served, served_plain}
 use Rattle.pas_accepted.proofs.Sweeps.{IsSwept, lowered_are, lowered_lead, swept_is}
-use Rattle.pas_accepted.proofs.Telling.{Comes, Tells}
 
 -- ---- the lines of a sweep
 -- the guards that stay up
 abbrev pub up_after : Stand → ℕ → Bool → List Known
 up_after s keeper all = filter (λ guard. not (goes_down s.events keeper all guard)) s.guards
 
-pub sweep_leads : (f : Profile) (s : Stand) (keeper : ℕ) (all : Bool) (more : List Due) (ts : List Task) (book : List Guard) (said : List Record) → guards_of keeper s.guards ≡ map (raised_by keeper) book
+sweep_leads : (f : Profile) (s : Stand) (keeper : ℕ) (all : Bool) (more : List Due) (ts : List Task) (book : List Guard) (said : List Record) → guards_of keeper s.guards ≡ map (raised_by keeper) book
     → said ≡ map (lowered_by keeper) (going s.events all book) → LeadsOn f (record (sweeping s keeper all more) { left = ts }) (lines_by said) (record s { guards = up_after s keeper all; due = more; left = ts })
 sweep_leads f s keeper all more ts book said told are =
     let u : Stand = record s { guards = up_after s keeper all; left = ts } in
@@ -131,7 +114,7 @@ module _ (f : Profile) (w : Stand) (keeper k : ℕ) (r : Request) (es : List Eve
   taken_by line next (inl none) = absurd none
   taken_by line next (inr takes) = inr (inr (inr (refl, takes)))
 
-  pub on_thread : LeadsOn f (trying w keeper k r false es) [] by_thread
+  on_thread : LeadsOn f (trying w keeper k r false es) [] by_thread
   on_thread [] whole = let none = ap (λ (ds : List Due). length ds) (subst (IsDone f) whole.1 whole.2) in absurd (omega (arith, none))
   on_thread (line ∷ more) whole = (whole.0, (whole.1.0, taken_by line whole.1.0 whole.1.1, whole.1.2), whole.2)
 
@@ -149,7 +132,7 @@ module _ (f : Profile) (valid : IsValid f) (w : Stand) (keeper k : ℕ) (r : Req
   visible_is : (es : List Event) → events_by keeper (part keeper l) steps ≡ es → visible (triples keeper steps ++ l) ≡ es ++ w.events
   visible_is es is = visible_piece keeper steps l ∙ ap (λ xs. xs ++ visible l) is ∙ ap (λ xs. es ++ xs) (sym events)
 
-  pub guarded_leads : (block : Block) → IsGiven keeper (wanted_by f r) (part keeper l) steps block → has_sides f block ≡ true
+  guarded_leads : (block : Block) → IsGiven keeper (wanted_by f r) (part keeper l) steps block → has_sides f block ≡ true
       → LeadsOn f (trying w keeper k r false w.events) (lines_by (records_of (events_by keeper (part keeper l) steps) ++ guard_said keeper r block ∷ [])) (guarded w keeper r block (visible (triples keeper steps ++ l)))
   guarded_leads block h sides =
       let give : Event = Event.Give keeper block in
@@ -179,7 +162,7 @@ module _ (f : Profile) (valid : IsValid f) (w : Stand) (keeper k : ℕ) (r : Req
       (ap (guarded w keeper r block) shown)
       (on_both f start mid end (lines_by (records_of before) ++ line_of_event give ∷ []) (line_of (guard_said keeper r block) ∷ []) given (on_line f mid end (line_of (guard_said keeper r block)) (inr (refl, refl))))
 
-  pub tried_leads : AllByRecursion (IsDeedOf (directory_of f r)) (events_by keeper (part keeper l) steps)
+  tried_leads : AllByRecursion (IsDeedOf (directory_of f r)) (events_by keeper (part keeper l) steps)
       → LeadsOn f (trying w keeper k r false w.events) (lines_by (records_of (events_by keeper (part keeper l) steps))) (trying w keeper k r false (visible (triples keeper steps ++ l)))
   tried_leads deeds =
       let es : List Event = events_by keeper (part keeper l) steps in
@@ -196,13 +179,13 @@ module _ (f : Profile) (d : Directory) (keeper n : ℕ) (guards guards' : List G
   room_is : block.room ≡ n * 4096
   room_is = ap (λ (b : Block). b.room) h.block_is
 
-  pub below_is : page_below block ≡ h.first
-  below_is = let at = begins in omega (arith, at)
+  below_is : page_below block ≡ h.first
+  below_is = omega (arith, begins)
 
-  pub above_is : page_above block ≡ h.first + n + 1
-  above_is = let at = begins in let room = room_is in omega (arith, at, room)
+  above_is : page_above block ≡ h.first + n + 1
+  above_is = omega (arith, begins, room_is)
 
-  pub sides_are : has_sides f block ≡ true
+  sides_are : has_sides f block ≡ true
   sides_are =
       let low = h.found.of_region.0 in
       let high = h.found.of_region.1 in
@@ -212,19 +195,16 @@ module _ (f : Profile) (d : Directory) (keeper n : ℕ) (guards guards' : List G
       (and_from (nat_le 1 (page_below block)) (nat_le (page_below block) f.pages) (le-leb 1 (page_below block) (omega (arith, low, below))) (le-leb (page_below block) f.pages (omega (arith, high, below))))
       (and_from (nat_le 1 (page_above block)) (nat_le (page_above block) f.pages) (le-leb 1 (page_above block) (omega (arith, low, above))) (le-leb (page_above block) f.pages (omega (arith, high, above))))
 
-  pub block_aligned : address_of block.name % 16 ≡ 0
-  block_aligned = let at = begins in omega (arith, at)
+  block_aligned : address_of block.name % 16 ≡ 0
+  block_aligned = omega (arith, begins)
 
-  pub guard_is : guard_of keeper block ≡ raised_by keeper (guard_at h.first n block)
+  guard_is : guard_of keeper block ≡ raised_by keeper (guard_at h.first n block)
   guard_is = λ i. record { keeper = keeper; low = below_is i; high = above_is i; name = block.name }
 
-  pub said_is : (name : ℕ) → said_of_guard keeper name n (Some block) ≡ Record.Said keeper (Said.Guarded (page_below block) (page_above block) name) ∷ []
+  said_is : (name : ℕ) → said_of_guard keeper name n (Some block) ≡ Record.Said keeper (Said.Guarded (page_below block) (page_above block) name) ∷ []
   said_is name =
-      let at = begins in
-      let below = below_is in
-      let above = above_is in
-      let one : address_of block.name / 4096 - 1 ≡ page_below block = omega (arith, at, below) in
-      let two : address_of block.name / 4096 + n ≡ page_above block = omega (arith, at, above) in
+      let one : address_of block.name / 4096 - 1 ≡ page_below block = omega (arith, begins, below_is) in
+      let two : address_of block.name / 4096 + n ≡ page_above block = omega (arith, begins, above_is) in
       λ i. Record.Said keeper (Said.Guarded (one i) (two i) name) ∷ []
 
 -- ---- the epoch over what a keeper does
@@ -367,10 +347,10 @@ module _ (f : Profile) (valid : IsValid f) (p : Progress) (s : Stand) (ts : List
     not_raised : IsNotRaised f (large_directory r.heap) n is.left t.guards is.raise.searched is.raise.after
     not_raised = subst (λ (o : Option Block). MatchOption o (IsNotRaised f (large_directory r.heap) n is.left t.guards is.raise.searched is.raise.after) (IsRaised f (large_directory r.heap) n is.left t.guards is.raise.searched is.raise.after)) none is.raise.outcome
 
-    pub none_tells : Tells p1 s1
+    none_tells : Tells p1 s1
     none_tells = tried_tells p.names s1 p1.records refl tells.names refl refl refl (subst (λ (b : List Guard). AreBooked (with_book p.books keeper b) up) (sym not_raised.same) booked)
 
-    pub none_leads : LeadsOn f s (lines_by t.records) (by_thread f s1 keeper k r (visible list1))
+    none_leads : LeadsOn f s (lines_by t.records) (by_thread f s1 keeper k r (visible list1))
     none_leads =
         let deeds : AllByRecursion (IsDeedOf (directory_of f r)) (events_by keeper (part keeper l1) is.raised)
         = subst (λ v. AllByRecursion (IsDeedOf (directory_of f r)) (events_by keeper v is.raised)) (sym part_is) (subst (λ (o : Option Block). TryEnds f keeper r view is.raised o) none is.ends) in

@@ -1,8 +1,8 @@
 -- The guards that are up, as a check keeps them, in one list, and as the keepers' books do; and which of them a sweep lowers.
-use Rattle.std.proofs.Common.{◌≡◌, ◌≢◌, ℕ, ◌%◌, ◌==◌, nat_lt, Bool, true, false, not, ◌&&◌, ◌||◌, if◌then◌else◌, List, [], ◌∷◌, ◌++◌, inl, inr, refl, ap, sym, subst, ◌∙◌}
+use Rattle.std.proofs.Common.{◌≡◌, ◌≢◌, ℕ, ◌%◌, ◌==◌, nat_lt, Bool, true, false, not, ◌&&◌, ◌||◌, if◌then◌else◌, List, [], ◌∷◌, ◌++◌, inl, inr, refl, ap, sym}
+use Rattle.std.proofs.Common.{subst, ◌∙◌, map, eq-eqb, eqb-true, ne_eqb}
 use Rattle.std.specs.List.{AllByRecursion, filter}
-use Rattle.std.specs.Prelude.{map}
-use Rattle.std.proofs.lemmas.Bool.{cases_eq, eq-eqb, eqb-true, ne_eqb, false≢true}
+use Rattle.std.proofs.lemmas.Bool.{cases_eq, false≢true}
 use Rattle.pas_profile.specs.Blocks.{address_of}
 use Rattle.pas_profile.specs.declared.event.Event.{Event}
 use Rattle.pas_machine.specs.State.{ends_in}
@@ -34,7 +34,7 @@ module _ (p t : Known → Bool) where
   both_of true x all some same = ap (λ (xs : List Known). if t x then x ∷ xs else xs) same
   both_of false x all some same = same
 
-  pub both_tests : (xs : List Known) → filter (λ x. p x && t x) xs ≡ filter t (filter p xs)
+  both_tests : (xs : List Known) → filter (λ x. p x && t x) xs ≡ filter t (filter p xs)
   both_tests [] = refl
   both_tests (x ∷ xs) = both_of (p x) x (filter p xs) (filter (λ y. p y && t y) xs) (both_tests xs)
 
@@ -46,7 +46,7 @@ module _ (p t : Known → Bool) where
       ∙ ap (λ (c : Bool). if not c then x ∷ filter (λ y. not (t y)) all else filter (λ y. not (t y)) all) (sym tx)
   rest_of false b x kept all px tx same = ap (λ (c : Bool). if c then x ∷ filter p kept else filter p kept) px ∙ same
 
-  pub rest_tests : (xs : List Known) → filter p (filter (λ x. not (p x && t x)) xs) ≡ filter (λ x. not (t x)) (filter p xs)
+  rest_tests : (xs : List Known) → filter p (filter (λ x. not (p x && t x)) xs) ≡ filter (λ x. not (t x)) (filter p xs)
   rest_tests [] = refl
   rest_tests (x ∷ xs) = rest_of (p x) (t x) x (filter (λ y. not (p y && t y)) xs) (filter p xs) refl refl (rest_tests xs)
 
@@ -57,7 +57,7 @@ module _ (p t : Known → Bool) where
   other_of q true false c x kept all qx apart same = ap (λ (d : Bool). if d then x ∷ filter q kept else filter q kept) qx ∙ ap (λ (ys : List Known). if c then x ∷ ys else ys) same
   other_of q false b c x kept all qx apart same = ap (λ (d : Bool). if d then x ∷ filter q kept else filter q kept) qx ∙ ap (λ (ys : List Known). if c then x ∷ ys else ys) same
 
-  pub other_tests : (q : Known → Bool) → ((x : Known) → q x ≡ true → p x ≡ false) → (xs : List Known) → filter q (filter (λ x. not (p x && t x)) xs) ≡ filter q xs
+  other_tests : (q : Known → Bool) → ((x : Known) → q x ≡ true → p x ≡ false) → (xs : List Known) → filter q (filter (λ x. not (p x && t x)) xs) ≡ filter q xs
   other_tests q apart [] = refl
   other_tests q apart (x ∷ xs) = other_of q (p x) (t x) (q x) x (filter (λ y. not (p y && t y)) xs) xs refl (apart x) (other_tests q apart xs)
 
@@ -71,9 +71,6 @@ mapped_filter g t (x ∷ xs) = mapped_if (t (g x)) g x (filter (λ y. t (g y)) x
 
 -- ---- a sweep of one keeper
 module _ (es : List Event) (keeper : ℕ) (all : Bool) (guards : List Known) (book : List Guard) (told : guards_of keeper guards ≡ map (raised_by keeper) book) where
-  is_his : Known → Bool
-  is_his guard = guard.keeper == keeper
-
   -- those that go down are those of his book
   pub going_told : filter (goes_down es keeper all) guards ≡ map (raised_by keeper) (going es all book)
   going_told =
@@ -81,14 +78,14 @@ module _ (es : List Event) (keeper : ℕ) (all : Bool) (guards : List Known) (bo
       ∙ ap (filter (λ guard. all || nat_lt guard.name.turn (ends_in es (address_of guard.name)))) told
       ∙ mapped_filter (raised_by keeper) (λ guard. all || nat_lt guard.name.turn (ends_in es (address_of guard.name))) book
 
-  pub staying_told : guards_of keeper (filter (λ guard. not (goes_down es keeper all guard)) guards) ≡ map (raised_by keeper) (staying es all book)
+  staying_told : guards_of keeper (filter (λ guard. not (goes_down es keeper all guard)) guards) ≡ map (raised_by keeper) (staying es all book)
   staying_told =
       rest_tests (λ guard. guard.keeper == keeper) (λ guard. all || nat_lt guard.name.turn (ends_in es (address_of guard.name))) guards
       ∙ ap (filter (λ guard. not (all || nat_lt guard.name.turn (ends_in es (address_of guard.name))))) told
       ∙ mapped_filter (raised_by keeper) (λ guard. not (all || nat_lt guard.name.turn (ends_in es (address_of guard.name)))) book
 
 -- those of the others stay
-pub others_told : (es : List Event) (keeper j : ℕ) (all : Bool) (guards : List Known) → j ≢ keeper → guards_of j (filter (λ guard. not (goes_down es keeper all guard)) guards) ≡ guards_of j guards
+others_told : (es : List Event) (keeper j : ℕ) (all : Bool) (guards : List Known) → j ≢ keeper → guards_of j (filter (λ guard. not (goes_down es keeper all guard)) guards) ≡ guards_of j guards
 others_told es keeper j all guards other =
     other_tests (λ guard. guard.keeper == keeper) (λ guard. all || nat_lt guard.name.turn (ends_in es (address_of guard.name))) (λ guard. guard.keeper == j)
     (λ guard his. ne_eqb guard.keeper keeper (λ same. other (sym (eqb-true guard.keeper j his) ∙ same))) guards
@@ -101,7 +98,7 @@ book_if books keeper book guards j his others = elim (cases_eq j keeper) [
   | inr ne ↦ others ne ∙ ap (λ (t : Bool). map (raised_by j) (if t then book else books j)) (sym (ne_eqb j keeper ne))
 ]
 
-pub swept_books : (books : Books) (es : List Event) (keeper : ℕ) (all : Bool) (guards : List Known) → ((j : ℕ) → guards_of j guards ≡ map (raised_by j) (books j)) → (j : ℕ)
+swept_books : (books : Books) (es : List Event) (keeper : ℕ) (all : Bool) (guards : List Known) → ((j : ℕ) → guards_of j guards ≡ map (raised_by j) (books j)) → (j : ℕ)
     → guards_of j (filter (λ guard. not (goes_down es keeper all guard)) guards) ≡ map (raised_by j) (with_book books keeper (staying es all (books keeper)) j)
 swept_books books es keeper all guards told j = book_if books keeper (staying es all (books keeper)) (filter (λ guard. not (goes_down es keeper all guard)) guards) j
     (λ e. ap (λ i. guards_of i (filter (λ guard. not (goes_down es keeper all guard)) guards)) e ∙ staying_told es keeper all guards (books keeper) (told keeper) ∙ ap (λ i. map (raised_by i) (staying es all (books keeper))) (sym e))
@@ -120,7 +117,7 @@ map_end : (g : Guard → Known) (xs : List Guard) (x : Guard) → map g (xs ++ x
 map_end g [] x = refl
 map_end g (y ∷ ys) x = ap (λ (zs : List Known). g y ∷ zs) (map_end g ys x)
 
-pub raised_books : (books : Books) (keeper : ℕ) (guard : Guard) (guards : List Known) → ((j : ℕ) → guards_of j guards ≡ map (raised_by j) (books j)) → (j : ℕ)
+raised_books : (books : Books) (keeper : ℕ) (guard : Guard) (guards : List Known) → ((j : ℕ) → guards_of j guards ≡ map (raised_by j) (books j)) → (j : ℕ)
     → guards_of j (guards ++ raised_by keeper guard ∷ []) ≡ map (raised_by j) (with_book books keeper (books keeper ++ guard ∷ []) j)
 raised_books books keeper guard guards told j = book_if books keeper (books keeper ++ guard ∷ []) (guards ++ raised_by keeper guard ∷ []) j
     (λ e.

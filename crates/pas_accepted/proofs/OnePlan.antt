@@ -1,18 +1,12 @@
 -- The verdict for one plan of a text is that for each.
-use Rattle.std.proofs.Common.{◌≡◌, ℕ, ◌==◌, if◌then◌else◌, List, [], ◌∷◌, ◌++◌, Result, Ok, ap, sym, ◌∙◌, subst}
-use Rattle.std.specs.Prelude.{map}
+use Rattle.std.proofs.Common.{◌≡◌, ℕ, ◌==◌, if◌then◌else◌, List, [], ◌∷◌, ◌++◌, Result, Ok, ap, sym, ◌∙◌, subst, map}
 use Rattle.pas_profile.specs.declared.profile.Profile.{Profile}
-use Rattle.pas_trace.specs.Acts.{acts_of}
-use Rattle.pas_trace.specs.Reasons.{guard_in}
+use Rattle.pas_trace.specs.{Acts.acts_of, Reasons.guard_in}
 use Rattle.pas_trace.specs.Plans.{IsPlanOf, Parsed, ops_of, phases_in, phases_of, shared_in}
-use Rattle.pas_trace.specs.declared.fault.TraceFault.{TraceFault}
-use Rattle.pas_trace.specs.declared.plan.Op.{Op}
-use Rattle.pas_trace.specs.declared.plan.Plan.{Plan}
+use Rattle.pas_trace.specs.declared.{fault.TraceFault.TraceFault, plan.Op.Op, plan.Plan.Plan}
 use Rattle.pas_check.specs.Accepted.{IsAccepted, IsStopped, IsVerdict, IsWhole}
-use Rattle.pas_check.specs.Lines.{lines_in}
-use Rattle.pas_check.specs.States.{Does, Reports, Stand}
-use Rattle.pas_check.specs.declared.verdict.Verdict.{Verdict}
-use Rattle.pas_check.specs.declared.verdict.Verdict.TheVariants.{Yes, No}
+use Rattle.pas_check.specs.{Lines.lines_in, States.Does, States.Reports, States.Stand}
+use Rattle.pas_check.specs.declared.verdict.Verdict.{Verdict, TheVariants.Yes, TheVariants.No}
 
 -- a verdict on a transcript for a region and phases of operations
 abbrev first : Profile → ℕ → List (List Op) → Stand

@@ -1,33 +1,23 @@
 -- A thread's operation, by what it asks for.
-use Rattle.std.proofs.Common.{◌≡◌, ℕ, List, [], ◌∷◌, ◌++◌, None, Some, refl, ap, sym, ◌∙◌, Option}
-use Rattle.std.specs.Prelude.{MatchResult}
+use Rattle.std.proofs.Common.{◌≡◌, ℕ, List, [], ◌∷◌, ◌++◌, None, Some, refl, ap, sym, ◌∙◌, Option, MatchResult}
 use Rattle.pas_profile.specs.Profiles.{IsValid}
 use Rattle.pas_profile.specs.declared.profile.Profile.{Profile}
-use Rattle.pas_steps.specs.Desks.{triples}
-use Rattle.pas_steps.specs.Events.{events_by}
-use Rattle.pas_steps.specs.Lists.{Legal, part, visible}
+use Rattle.pas_steps.specs.{Desks.triples, Events.events_by, Lists.Legal, Lists.part, Lists.visible}
 use Rattle.pas_free_log.specs.Frames.{freeing}
-use Rattle.pas_cache.specs.Caches.{Cached}
-use Rattle.pas_cache.specs.Refusals.{IsTrulyRefused}
+use Rattle.pas_cache.specs.{Caches.Cached, Refusals.IsTrulyRefused}
 use Rattle.pas_report.specs.declared.record.Record.{Record}
-use Rattle.pas_trace.specs.declared.item.Request.{Request}
-use Rattle.pas_trace.specs.declared.plan.What.{What}
+use Rattle.pas_trace.specs.declared.{item.Request.Request, plan.What.What}
 use Rattle.pas_trace.specs.declared.plan.What.TheVariants.{Alloc, Guarded, Free, FreeSized, Raw, RawSized, Remake, Flush, Stop, Tick, Pass, Idle}
 use Rattle.pas_answers.specs.Answers.{Answer, IsAnswered, IsFreedBy, IsServed, Progress, after_answer, having, records_of, room_noted, said_by, wanted_by}
 use Rattle.pas_trace.specs.Named.{standing_for}
 use Rattle.pas_answers.specs.Refusals.{RefusesTruly}
 use Rattle.pas_answers.proofs.Tidy.{Tidy, answer_tidy}
 use Rattle.pas_check.specs.Begins.{begun_what, entry_of as known_entry, freeing_named, remaking_named, unsized}
-use Rattle.pas_check.specs.States.{Serves, Stand, Task}
-use Rattle.pas_check.specs.Tasks.{emptying}
+use Rattle.pas_check.specs.{States.Serves, States.Stand, States.Task, Tasks.emptying}
 use Rattle.pas_check.proofs.Ticks.{epoch_kept}
-use Rattle.pas_accepted.proofs.FlushKinds.{flush_only}
-use Rattle.pas_accepted.proofs.Flushing.{flush_leads}
-use Rattle.pas_accepted.proofs.Frees.{free_comes, freed_comes, silent_lines}
-use Rattle.pas_accepted.proofs.Going.{LeadsOn, on_as, on_both}
-use Rattle.pas_accepted.proofs.Pieces.{lines_by}
-use Rattle.pas_accepted.proofs.Remakes.{asked_tells, asked_then, remade_comes}
-use Rattle.pas_accepted.proofs.Requests.{request_leads, served, served_plain}
+use Rattle.pas_accepted.proofs.{FlushKinds.flush_only, Flushing.flush_leads, Frees.free_comes, Frees.freed_comes, Frees.silent_lines, Going.LeadsOn}
+use Rattle.pas_accepted.proofs.{Going.on_as, Going.on_both, Pieces.lines_by, Remakes.asked_tells, Remakes.asked_then, Remakes.remade_comes}
+use Rattle.pas_accepted.proofs.{Requests.request_leads, Requests.served, Requests.served_plain}
 use Rattle.pas_accepted.proofs.Stopping.{emptied, logs_with, stop_leads, stop_tells}
 use Rattle.pas_accepted.proofs.Telling.{Comes, Tells, piece_of, told_after}
 

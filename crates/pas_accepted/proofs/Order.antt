@@ -1,20 +1,16 @@
 -- Acts stand in their places: whenever a thread may be stopped as idle, the scavenger read the epoch just before; and a keeper acts only for requests whose guards it keeps.
-use Rattle.std.proofs.Common.{◌≡◌, ℕ, ◌+◌, Bool, true, false, List, [], ◌∷◌, ◌++◌, inl, inr, refl, ap, sym, ◌∙◌, subst, append_assoc, true≢false}
-use Rattle.std.specs.Prelude.{map, Option, None, Some}
-use Rattle.pas_profile.specs.declared.profile.Profile.{Profile}
-use Rattle.pas_profile.specs.declared.word.Word.TheVariants as Word
+use Rattle.std.proofs.Common.{◌≡◌, ℕ, ◌+◌, Bool, true, false, List, [], ◌∷◌, ◌++◌, inl, inr, refl, ap, sym, ◌∙◌, subst, append_assoc, true≢false, map, Option}
+use Rattle.std.proofs.Common.{None, Some}
+use Rattle.pas_profile.specs.declared.{profile.Profile.Profile, word.Word.Word}
 use Rattle.pas_steps.specs.Lists.{Legal, word_after}
-use Rattle.pas_trace.specs.Acts.{Act, Guards, ReadsEpoch, Settles, StopsIdle, Wakes, Ends, Lowers, act_kept, active_threads, acts_from, acts_of, acts_of_chore, acts_of_op, acts_of_ops, acts_of_work, close_acts, idle_stops, idle_threads, numbers_from, phase_acts}
+use Rattle.pas_trace.specs.Acts.{Act, Guards, ReadsEpoch, Settles, StopsIdle, Wakes, Ends, Lowers, act_kept, active_threads, acts_from, acts_of, acts_of_chore}
+use Rattle.pas_trace.specs.Acts.{acts_of_op, acts_of_ops, acts_of_work, close_acts, idle_stops, idle_threads, numbers_from, phase_acts}
 use Rattle.pas_trace.specs.Asked.{keeper_in, keeper_of, of_task, work_of}
-use Rattle.pas_trace.specs.declared.plan.Chore.{Chore}
-use Rattle.pas_trace.specs.declared.plan.Op.{Op}
-use Rattle.pas_trace.specs.declared.plan.Work.{Work}
+use Rattle.pas_trace.specs.declared.plan.{Chore.Chore, Op.Op, Work.Work}
 use Rattle.pas_free_log.specs.Frames.{freeing}
-use Rattle.pas_answers.specs.Answers.{Progress}
-use Rattle.pas_answers.specs.Reaching.{Advances}
+use Rattle.pas_answers.specs.{Answers.Progress, Reaching.Advances}
 use Rattle.pas_check.proofs.Ticks.{epoch_kept}
-use Rattle.pas_accepted.proofs.Acts.{IsInPlace}
-use Rattle.pas_accepted.proofs.FlushKinds.{stop_only}
+use Rattle.pas_accepted.proofs.{Acts.IsInPlace, FlushKinds.stop_only}
 
 -- ---- whether the epoch that the scavenger read is known to be that of the word
 abbrev pub read_after : Bool → Act → Bool

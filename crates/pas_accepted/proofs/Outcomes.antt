@@ -1,44 +1,29 @@
 -- What comes of a page in a pass may come there.
 use Rattle.std.proofs.Common.{◌≡◌, ◌≢◌, ℕ, ◌-◌, ◌^◌, ◌<◌, Bool, true, false, List, [], ◌∷◌, ◌++◌, Option, Some, None, inl, inr, refl, ap, ◌∙◌, subst, arith}
-use Rattle.pas_profile.specs.Directories.{deed_word_of}
-use Rattle.pas_profile.specs.Profiles.{IsValid}
-use Rattle.pas_profile.specs.declared.directory.Directory.{Directory}
-use Rattle.pas_profile.specs.declared.event.Outcome.{Outcome}
+use Rattle.pas_profile.specs.{Directories.deed_word_of, Profiles.IsValid}
+use Rattle.pas_profile.specs.declared.{directory.Directory.Directory, event.Outcome.Outcome, profile.Profile.Profile, word.Word.Word}
 use Rattle.pas_profile.specs.declared.event.Outcome.TheVariants.{Unbacked, Bare, Young, InUse, NotOffered}
-use Rattle.pas_profile.specs.declared.profile.Profile.{Profile}
-use Rattle.pas_profile.specs.declared.word.Word.TheVariants as Word
 use Rattle.pas_profile.proofs.Codecs.{deed_word_of-positive}
-use Rattle.pas_machine.specs.Machine.{Run}
-use Rattle.pas_machine.specs.State.{backed_in, deed_in, epoch_in}
+use Rattle.pas_machine.specs.{Machine.Run, State.backed_in, State.deed_in, State.epoch_in}
 use Rattle.pas_core.specs.Good.{word_of_backed, word_of_deed}
-use Rattle.pas_core.proofs.Deeds.{backed_of, deed_of}
-use Rattle.pas_core.proofs.MachineRuns.{runs}
-use Rattle.pas_core.proofs.OneActor.{legal_earlier}
-use Rattle.pas_core.proofs.Stamps.{stamps_are_ends, words_fit}
-use Rattle.pas_steps.specs.Desks.{made, triples}
-use Rattle.pas_steps.specs.Kinds.{LookFree, Only, Taking}
+use Rattle.pas_core.proofs.{Deeds.backed_of, Deeds.deed_of, MachineRuns.runs, OneActor.legal_earlier, Stamps.stamps_are_ends, Stamps.words_fit}
+use Rattle.pas_steps.specs.{Desks.made, Desks.triples, Kinds.LookFree, Kinds.Only, Kinds.Taking, Views.all_ones, Views.known_epoch}
 use Rattle.pas_steps.specs.Lists.{Legal, Whole, part, visible, word_after}
-use Rattle.pas_steps.specs.Views.{all_ones, known_epoch}
 use Rattle.pas_steps.specs.declared.step.Made.{Made}
 use Rattle.pas_steps.specs.declared.step.Step.TheVariants.{Hint, Look, Take, TakeRight}
 use Rattle.pas_steps.proofs.Apart.{no_events, only_both, only_within}
 use Rattle.pas_rights.specs.Looks.{AreUsed, IsUsed, looks, looks_until}
-use Rattle.pas_rights.specs.Takes.{takes}
-use Rattle.pas_rights.specs.Words.{ones}
+use Rattle.pas_rights.specs.{Takes.takes, Words.ones}
 use Rattle.pas_rights.proofs.Orders.{until_only}
-use Rattle.pas_scavenger.specs.Judgements.{used_at}
+use Rattle.pas_scavenger.specs.{Judgements.used_at, Readings.takes_until}
 use Rattle.pas_scavenger.specs.Pages.{EndsWith, EndsWithout, ExamineSteps, first_looks, quiet, unback_of}
-use Rattle.pas_scavenger.specs.Readings.{takes_until}
 use Rattle.pas_scavenger.proofs.Examinations.{asks_sized, examine_event, taken_on, takes_are}
-use Rattle.pas_answers.proofs.Consequences.{parts_kept, tidy_piece}
-use Rattle.pas_answers.proofs.Parts.{Each}
-use Rattle.pas_answers.proofs.Tidy.{Tidy, tidy_over}
-use Rattle.pas_check.specs.States.{Examines, Stand}
-use Rattle.pas_check.specs.Takes.{MayCome}
+use Rattle.pas_answers.proofs.{Consequences.parts_kept, Consequences.tidy_piece, Parts.Each, Tidy.Tidy, Tidy.tidy_over}
+use Rattle.pas_check.specs.{States.Examines, States.Stand, Takes.MayCome}
 use Rattle.pas_accepted.proofs.Pieces.{visible_piece}
 
 -- steps without an event leave what is visible
-pub quiet_visible : (steps : List Made) (l : Whole) → Only quiet steps → visible (triples 0 steps ++ l) ≡ visible l
+quiet_visible : (steps : List Made) (l : Whole) → Only quiet steps → visible (triples 0 steps ++ l) ≡ visible l
 quiet_visible steps l only = visible_piece 0 steps l ∙ ap (λ es. es ++ visible l) (no_events quiet refl 0 (part 0 l) steps only)
 
 -- ---- what a word that was read says

@@ -1,32 +1,24 @@
 -- A pass: its first line says the greatest tick, and then come its outcomes.
-use Rattle.std.proofs.Common.{◌≡◌, ℕ, ◌*◌, List, [], ◌∷◌, ◌++◌, inr, refl, ap, sym, ◌∙◌, subst, append-nil}
-use Rattle.std.specs.Prelude.{map, reverse}
+use Rattle.std.proofs.Common.{◌≡◌, ℕ, ◌*◌, List, [], ◌∷◌, ◌++◌, inr, refl, ap, sym, ◌∙◌, subst, append-nil, map, reverse}
 use Rattle.std.proofs.lemmas.List.{reverse-reverse}
 use Rattle.pas_profile.specs.Profiles.{IsValid, vector_words}
-use Rattle.pas_profile.specs.declared.event.Outcome.{Outcome}
-use Rattle.pas_profile.specs.declared.profile.Profile.{Profile}
-use Rattle.pas_profile.specs.declared.word.Word.TheVariants as Word
+use Rattle.pas_profile.specs.declared.{event.Outcome.Outcome, profile.Profile.Profile, word.Word.Word}
 use Rattle.pas_core.proofs.OneActor.{legal_earlier}
 use Rattle.pas_steps.specs.Desks.{made, triples}
 use Rattle.pas_steps.specs.Lists.{Legal, Whole, part, visible}
-use Rattle.pas_steps.specs.declared.step.Made.{Made}
-use Rattle.pas_steps.specs.declared.step.Step.TheVariants.{Look}
+use Rattle.pas_steps.specs.declared.step.{Made.Made, Step.TheVariants.Look}
 use Rattle.pas_passes.specs.Records.{record_of, records_of_pass}
 use Rattle.pas_report.specs.Lines.{line_of}
-use Rattle.pas_report.specs.declared.record.Record.{Record}
-use Rattle.pas_report.specs.declared.record.Said.{Said}
+use Rattle.pas_report.specs.declared.record.{Record.Record, Said.Said}
 use Rattle.pas_scavenger.specs.Passes.{PassSteps, all_tried, outcomes_in, passing}
 use Rattle.pas_trace.specs.Acts.{MakesPass}
 use Rattle.pas_answers.specs.Answers.{Progress, after_pass}
-use Rattle.pas_answers.proofs.Consequences.{tidy_piece}
-use Rattle.pas_answers.proofs.Tidy.{look_tidy, tidy_over}
+use Rattle.pas_answers.proofs.{Consequences.tidy_piece, Tidy.look_tidy, Tidy.tidy_over}
 use Rattle.pas_check.specs.States.{Does, Examines, Stand, Task, Writes, with_due}
 use Rattle.pas_check.proofs.Ticks.{epoch_kept}
 use Rattle.pas_accepted.proofs.Going.{LeadsOn, on_as, on_both, on_line, on_past, on_same, on_task}
-use Rattle.pas_accepted.proofs.Outcomes.{MayPass, at_pass}
-use Rattle.pas_accepted.proofs.Pieces.{lines_by}
-use Rattle.pas_accepted.proofs.Telling.{Comes, Tells}
-use Rattle.pas_accepted.proofs.Tries.{Passed, both_pieces, words_pass}
+use Rattle.pas_accepted.proofs.{Outcomes.MayPass, Outcomes.at_pass, Pieces.lines_by, Telling.Comes, Telling.Tells, Tries.Passed, Tries.both_pieces}
+use Rattle.pas_accepted.proofs.{Tries.words_pass}
 
 module _ (f : Profile) (valid : IsValid f) (p : Progress) (s : Stand) (ts : List Task) (tells : Tells p s) (due : s.due ≡ []) (left : s.left ≡ Does MakesPass ∷ ts) where
   -- by the epoch that the check knows

@@ -1,51 +1,33 @@
 -- Another size for a block: it is kept, which is said; or another one is asked for in its place, and the old name is logged once that is given.
-use Rattle.std.proofs.Common.{◌≡◌, ℕ, ◌==◌, nat_le, Bool, true, false, if◌then◌else◌, List, [], ◌∷◌, ◌++◌, length, Option, Some, None, Result, Ok, Err, ◌⊎◌, inl, inr, refl, ap, sym, ◌∙◌, subst, append-nil, append_assoc}
-use Rattle.std.specs.Prelude.{map, reverse, MatchOption, MatchResult}
-use Rattle.std.proofs.lemmas.Bool.{eq-eqb}
+use Rattle.std.proofs.Common.{◌≡◌, ℕ, ◌==◌, nat_le, Bool, true, false, if◌then◌else◌, List, [], ◌∷◌, ◌++◌, length, Option, Some, None, Result, Ok, Err, ◌⊎◌}
+use Rattle.std.proofs.Common.{inl, inr, refl, ap, sym, ◌∙◌, subst, append-nil, append_assoc, map, reverse, MatchOption, MatchResult, eq-eqb}
 use Rattle.std.proofs.lemmas.List.{map-append, reverse-append}
-use Rattle.pas_profile.specs.Profiles.{IsValid}
-use Rattle.pas_profile.specs.Requests.{route_in}
-use Rattle.pas_profile.specs.declared.directory.Route.{Route}
-use Rattle.pas_profile.specs.declared.event.Event.{Event}
-use Rattle.pas_profile.specs.declared.event.NoRoom.{NoRoom}
-use Rattle.pas_profile.specs.declared.name.Block.{Block}
-use Rattle.pas_profile.specs.declared.name.Name.{Name}
-use Rattle.pas_profile.specs.declared.profile.Profile.{Profile}
-use Rattle.pas_profile.specs.declared.word.Word.TheVariants as Word
+use Rattle.pas_profile.specs.{Profiles.IsValid, Requests.route_in}
+use Rattle.pas_profile.specs.declared.{directory.Route.Route, event.Event.Event, event.NoRoom.NoRoom, name.Block.Block, name.Name.Name, profile.Profile.Profile}
+use Rattle.pas_profile.specs.declared.{word.Word.Word}
 use Rattle.pas_core.proofs.OneActor.{legal_earlier}
-use Rattle.pas_steps.specs.Desks.{triples}
-use Rattle.pas_steps.specs.Events.{events_by}
+use Rattle.pas_steps.specs.{Desks.triples, Events.events_by}
 use Rattle.pas_steps.specs.Lists.{Legal, Whole, part, visible, word_after}
 use Rattle.pas_steps.specs.declared.step.Made.{Made}
-use Rattle.pas_steps.proofs.Adding.{triples_append}
-use Rattle.pas_steps.proofs.Frames.{events_append}
-use Rattle.pas_steps.proofs.Parts.{part_of_own}
+use Rattle.pas_steps.proofs.{Adding.triples_append, Frames.events_append, Parts.part_of_own}
 use Rattle.pas_free_log.specs.Logs.{entry_of}
-use Rattle.pas_cache.specs.Caches.{Cached}
-use Rattle.pas_cache.specs.Calls.{TakesEntry}
-use Rattle.pas_cache.specs.Changes.{EmptiesFull}
-use Rattle.pas_cache.specs.Kinds.{allocating}
-use Rattle.pas_cache.specs.Refusals.{IsTrulyRefused}
-use Rattle.pas_cache.specs.Serves.{ServesBy, Wanted}
+use Rattle.pas_cache.specs.{Caches.Cached, Calls.TakesEntry, Changes.EmptiesFull, Kinds.allocating, Refusals.IsTrulyRefused, Serves.ServesBy, Serves.Wanted}
 use Rattle.pas_cache.proofs.Budget.{log_kept}
 use Rattle.pas_report.specs.Lines.{line_of}
-use Rattle.pas_report.specs.declared.record.Record.{Record}
-use Rattle.pas_report.specs.declared.record.Said.{Said}
-use Rattle.pas_trace.specs.declared.item.Request.{Request}
-use Rattle.pas_trace.specs.declared.plan.What.TheVariants.{Alloc}
-use Rattle.pas_answers.specs.Answers.{Answer, Caches, IsKept, IsRemadeBy, IsReplaced, IsServed, Progress, after_answer, block_of, having, records_of, request_for, said_by, said_of_request, wanted_by, with_cache}
+use Rattle.pas_report.specs.declared.record.{Record.Record, Said.Said}
+use Rattle.pas_trace.specs.declared.{item.Request.Request, plan.What.TheVariants.Alloc}
+use Rattle.pas_answers.specs.Answers.{Answer, Caches, IsKept, IsRemadeBy, IsReplaced, IsServed, Progress, after_answer, block_of, having, records_of}
+use Rattle.pas_answers.specs.Answers.{request_for, said_by, said_of_request, wanted_by, with_cache}
 use Rattle.pas_trace.specs.Named.{Named, named}
 use Rattle.pas_answers.specs.Refusals.{request_in_move, request_in_remade}
-use Rattle.pas_answers.proofs.Parts.{Each}
-use Rattle.pas_answers.proofs.Tidy.{Tidy, answer_tidy}
+use Rattle.pas_answers.proofs.{Parts.Each, Tidy.Tidy, Tidy.answer_tidy}
 use Rattle.pas_check.specs.Begins.{is_full, logging, remaking, remaking_named, suits, tells as saying, unsized}
 use Rattle.pas_check.specs.States.{Stand, Task, with_name}
 use Rattle.pas_check.specs.declared.entry.Entry.{Entry as Known}
 use Rattle.pas_check.proofs.Ticks.{epoch_kept}
-use Rattle.pas_accepted.proofs.Frees.{comes_after, full_is, logged_comes}
+use Rattle.pas_accepted.proofs.{Frees.comes_after, Frees.full_is, Frees.logged_comes, Pieces.lines_by, Pieces.table_same, Requests.request_leads}
+use Rattle.pas_accepted.proofs.{Requests.served, Requests.serving}
 use Rattle.pas_accepted.proofs.Going.{LeadsOn, on_as, on_both, on_line}
-use Rattle.pas_accepted.proofs.Pieces.{lines_by, table_same}
-use Rattle.pas_accepted.proofs.Requests.{request_leads, served, serving}
 use Rattle.pas_accepted.proofs.Telling.{Comes, Tells, piece_of, told_after}
 
 -- no request changes when its thread read the epoch

@@ -1,21 +1,15 @@
 -- The report of a replay is allowed line by line.
-use Rattle.std.proofs.Common.{◌≡◌, ℕ, zero, suc, ◌≤◌, Bool, true, false, List, [], ◌∷◌, ◌++◌, Option, Some, None, codes, inr, refl, ap, sym, ◌∙◌, subst, arith, append-nil, append_assoc}
+use Rattle.std.proofs.Common.{◌≡◌, ℕ, zero, suc, ◌≤◌, Bool, true, false, List, [], ◌∷◌, ◌++◌, Option, Some, None, codes, inr, refl, ap, sym, ◌∙◌, subst, arith}
+use Rattle.std.proofs.Common.{append-nil, append_assoc}
 use Rattle.std.specs.Fmt.{decimal}
-use Rattle.pas_profile.specs.declared.directory.Directory.{Directory}
-use Rattle.pas_profile.specs.declared.event.Event.{Event}
-use Rattle.pas_profile.specs.declared.profile.Profile.{Profile}
+use Rattle.pas_profile.specs.declared.{directory.Directory.Directory, event.Event.Event, profile.Profile.Profile}
 use Rattle.pas_machine.specs.State.{deed_in, epoch_in}
 use Rattle.pas_machine.specs.Totals.{backed_total, deeds_total, ended_total, given_total, live_total}
 use Rattle.pas_steps.specs.Lists.{Whole, visible}
-use Rattle.pas_report.specs.Lines.{kind_text}
-use Rattle.pas_report.specs.Marks.{Marked, marks_after, marks_text}
+use Rattle.pas_report.specs.{Lines.kind_text, Marks.Marked, Marks.marks_after, Marks.marks_text, Rests.AreTrueMarks}
 use Rattle.pas_report.specs.Reports.{live_on, machine_page, machine_pages, page_text, report_text, total_line, totals_text, uncovered_on}
-use Rattle.pas_report.specs.Rests.{AreTrueMarks}
-use Rattle.pas_check.specs.Accepted.{IsWhole}
-use Rattle.pas_check.specs.Begins.{page_due, pages_due}
-use Rattle.pas_check.specs.Lines.{is_line, lines_in}
+use Rattle.pas_check.specs.{Accepted.IsWhole, Begins.page_due, Begins.pages_due, Lines.is_line, Lines.lines_in, Takes.AreAllowedMarks, Takes.head_line}
 use Rattle.pas_check.specs.States.{Due, Heads, Reports, Shows, Stand, Totals}
-use Rattle.pas_check.specs.Takes.{AreAllowedMarks, head_line}
 use Rattle.pas_check.proofs.Cuts.{cut_line, kind_first, number_first, totals_end}
 use Rattle.pas_accepted.proofs.Going.{LeadsOn, on_as, on_both, on_line, on_same, on_task}
 

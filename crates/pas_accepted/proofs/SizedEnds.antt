@@ -1,40 +1,25 @@
 -- A block that a flush ended by an entry with a room had that room.
-use Rattle.std.proofs.Common.{◌≡◌, ◌≢◌, ℕ, ◌+◌, ◌/◌, ◌%◌, ◌==◌, Bool, true, false, not, ◌&&◌, if◌then◌else◌, List, [], ◌∷◌, ◌++◌, Option, Some, None, refl, ap, sym, ◌∙◌, subst, arith, append_assoc}
+use Rattle.std.proofs.Common.{◌≡◌, ◌≢◌, ℕ, ◌+◌, ◌/◌, ◌%◌, ◌==◌, Bool, true, false, not, ◌&&◌, if◌then◌else◌, List, [], ◌∷◌, ◌++◌, Option, Some, None, refl, ap}
+use Rattle.std.proofs.Common.{sym, ◌∙◌, subst, arith, append_assoc, ne_eqb}
 use Rattle.std.specs.List.{AllByRecursion}
-use Rattle.std.proofs.lemmas.Bool.{cond_both, false≢true, ne_eqb}
-use Rattle.std.proofs.lemmas.Option.{none-some, same_Some}
-use Rattle.pas_profile.specs.Blocks.{address_of, grain_of, length_of}
-use Rattle.pas_profile.specs.Lives.{is_live, live_word, turn_of}
-use Rattle.pas_profile.specs.Profiles.{IsValid}
-use Rattle.pas_profile.specs.declared.event.Event.{Event}
-use Rattle.pas_profile.specs.declared.name.Name.{Name}
-use Rattle.pas_profile.specs.declared.profile.Profile.{Profile}
-use Rattle.pas_profile.specs.declared.word.Word.TheVariants as Word
+use Rattle.std.proofs.lemmas.{Bool.cond_both, Bool.false≢true, Option.none-some, Option.same_Some}
+use Rattle.pas_profile.specs.{Blocks.address_of, Blocks.grain_of, Blocks.length_of, Lives.is_live, Lives.live_word, Lives.turn_of, Profiles.IsValid}
+use Rattle.pas_profile.specs.declared.{event.Event.Event, name.Name.Name, profile.Profile.Profile, word.Word.Word}
 use Rattle.pas_machine.specs.Machine.{HasOtherRoom}
 use Rattle.pas_machine.specs.State.{Live, ends_in, gives_in, live_in}
 use Rattle.pas_core.specs.Good.{IsLifeOf, IsLifeOfLive}
-use Rattle.pas_core.proofs.Lives.{block_of_word, life_at}
-use Rattle.pas_core.proofs.OneActor.{legal_earlier}
-use Rattle.pas_steps.specs.Desks.{made, triples}
-use Rattle.pas_steps.specs.Effects.{life_word_at, succeeds}
+use Rattle.pas_core.proofs.{Lives.block_of_word, Lives.life_at, OneActor.legal_earlier}
+use Rattle.pas_steps.specs.{Desks.made, Desks.triples, Effects.life_word_at, Effects.succeeds, Kinds.Only, Kinds.is_in, Kinds.kind_of, Views.epoch_of}
 use Rattle.pas_steps.specs.Events.{event_of, reason_of, sized_reason, with_event}
-use Rattle.pas_steps.specs.Kinds.{Only, is_in, kind_of}
 use Rattle.pas_steps.specs.Lists.{Legal, Whole, part, visible, word_after}
-use Rattle.pas_steps.specs.Views.{epoch_of}
-use Rattle.pas_steps.specs.declared.step.Made.{Made}
-use Rattle.pas_steps.specs.declared.step.Step.{Step}
+use Rattle.pas_steps.specs.declared.step.{Made.Made, Step.Step}
 use Rattle.pas_steps.specs.declared.step.Step.TheVariants.{Look, Deed, Back, Give, End, EndSized, Unback}
 use Rattle.pas_steps.proofs.Apart.{only_both}
-use Rattle.pas_free_log.specs.Endings.{EndSteps, TriesBy, last_step}
-use Rattle.pas_free_log.specs.Flushes.{EntriesSteps, EntrySteps, Settled}
-use Rattle.pas_free_log.specs.Frames.{freeing}
-use Rattle.pas_free_log.specs.Logs.{is_sized}
-use Rattle.pas_free_log.specs.declared.ending.Outcome.{Outcome}
-use Rattle.pas_free_log.specs.declared.ending.Outcome.TheVariants.{Ended, Refused}
-use Rattle.pas_free_log.specs.declared.log.Entry.{Entry}
+use Rattle.pas_free_log.specs.{Endings.EndSteps, Endings.TriesBy, Endings.last_step, Flushes.EntriesSteps, Flushes.EntrySteps, Flushes.Settled, Frames.freeing}
+use Rattle.pas_free_log.specs.{Logs.is_sized}
+use Rattle.pas_free_log.specs.declared.{ending.Outcome.Outcome, ending.Outcome.TheVariants.Ended, ending.Outcome.TheVariants.Refused, log.Entry.Entry}
 use Rattle.pas_check.specs.Calls.{Differs}
-use Rattle.pas_accepted.proofs.FlushKinds.{ends_only, entry_only, turn_only}
-use Rattle.pas_accepted.proofs.LogEntries.{known_as}
+use Rattle.pas_accepted.proofs.{FlushKinds.ends_only, FlushKinds.entry_only, FlushKinds.turn_only, LogEntries.known_as}
 
 -- ---- what lives after steps of a flush lived before them
 ended_if : (t : Bool) (old : Option Live) (b : Live) → (if t then None else old) ≡ Some b → old ≡ Some b
@@ -64,10 +49,8 @@ lived_then k (m ∷ xs) l address b only is =
 -- ---- the length that a life word tells is that of the block
 same_length : (f : Profile) (g word room : ℕ) (b : Live) (gives ends turn : ℕ) → IsLifeOfLive f g word b gives ends → word ≡ live_word turn (room / 16) → ends ≡ turn → room % 16 ≡ 0 → b.block.room ≡ room
 same_length f g word room b gives ends turn life is same whole =
-    let w = life.word_is in
-    let grains = life.whole in
-    let long : length_of b.block ≡ room / 16 = omega (arith, w, is, same) in
-    omega (arith, long, grains, whole)
+    let long : length_of b.block ≡ room / 16 = omega (arith, life.word_is, is, same) in
+    omega (arith, long, life.whole, whole)
 
 -- ---- one entry
 -- the block of an entry that was ended had the entry's room, if there is one
@@ -98,8 +81,7 @@ module _ (f : Profile) (valid : IsValid f) (k : ℕ) (l : Whole) (rest : List Ma
   last_heeds true entry first guess answer before grains sized tries found legal differs =
       room_is entry.name entry.room answer legal (found ∙ ap (live_word entry.name.turn) tries.0) differs.1
   last_heeds false entry first guess answer before grains sized tries found legal differs =
-      let some = differs.0 in
-      false≢true (sym sized ∙ ap not (ne_eqb entry.room 0 (omega (arith, some))))
+      false≢true (sym sized ∙ ap not (ne_eqb entry.room 0 (omega (arith, differs.0))))
 
 -- ---- all entries
 both : (after ends before : List Made) → (after ++ ends) ++ before ≡ after ++ (ends ++ before)

@@ -1,12 +1,9 @@
 -- A thread's log is emptied, and its local allocators are stopped without an event.
-use Rattle.std.proofs.Common.{◌≡◌, ℕ, ◌==◌, List, [], ◌++◌, refl, ap, sym, ◌∙◌, subst}
-use Rattle.std.specs.Prelude.{map}
+use Rattle.std.proofs.Common.{◌≡◌, ℕ, ◌==◌, List, [], ◌++◌, refl, ap, sym, ◌∙◌, subst, map}
 use Rattle.pas_profile.specs.Profiles.{IsValid}
 use Rattle.pas_profile.specs.declared.profile.Profile.{Profile}
 use Rattle.pas_core.proofs.OneActor.{legal_earlier}
-use Rattle.pas_steps.specs.Desks.{triples}
-use Rattle.pas_steps.specs.Events.{events_by}
-use Rattle.pas_steps.specs.Lists.{Legal, part, visible}
+use Rattle.pas_steps.specs.{Desks.triples, Events.events_by, Lists.Legal, Lists.part, Lists.visible}
 use Rattle.pas_steps.specs.declared.step.Made.{Made}
 use Rattle.pas_steps.proofs.Frames.{events_append}
 use Rattle.pas_free_log.specs.Frames.{freeing}
@@ -19,12 +16,8 @@ use Rattle.pas_check.specs.States.{Due, Stand, Task, with_at}
 use Rattle.pas_check.specs.Tasks.{emptying}
 use Rattle.pas_check.specs.declared.entry.Entry.{Entry as Known}
 use Rattle.pas_check.proofs.Ticks.{epoch_kept}
-use Rattle.pas_accepted.proofs.FlushKinds.{stop_only}
-use Rattle.pas_accepted.proofs.Flushing.{flush_leads}
-use Rattle.pas_accepted.proofs.Going.{LeadsOn, on_as}
-use Rattle.pas_accepted.proofs.LogEntries.{logged_as}
-use Rattle.pas_accepted.proofs.Pieces.{lines_by, table_at, visible_piece}
-use Rattle.pas_accepted.proofs.Telling.{Tells, piece_of, told_after}
+use Rattle.pas_accepted.proofs.{FlushKinds.stop_only, Flushing.flush_leads, Going.LeadsOn, Going.on_as, LogEntries.logged_as, Pieces.lines_by, Pieces.table_at}
+use Rattle.pas_accepted.proofs.{Pieces.visible_piece, Telling.Tells, Telling.piece_of, Telling.told_after}
 
 -- where thread k's log was emptied and has these names
 abbrev pub emptied : Progress → Stand → ℕ → List Made → List Known → List Due → List Task → Stand

@@ -1,29 +1,20 @@
 -- A keeper's sweep lowers just the guards whose blocks have ended, or all; and it makes no event.
 use Rattle.std.proofs.Common.{◌≡◌, ℕ, ◌/◌, ◌%◌, nat_lt, Bool, true, false, not, ◌||◌, if◌then◌else◌, List, [], ◌∷◌, ◌++◌, inr, refl, ap, sym, ◌∙◌, subst, arith}
-use Rattle.std.specs.Prelude.{map}
-use Rattle.pas_profile.specs.Blocks.{address_of}
-use Rattle.pas_profile.specs.Lives.{turn_of}
-use Rattle.pas_profile.specs.Profiles.{IsValid}
-use Rattle.pas_profile.specs.declared.event.Event.{Event}
-use Rattle.pas_profile.specs.declared.profile.Profile.{Profile}
-use Rattle.pas_profile.specs.declared.word.Word.TheVariants as Word
+use Rattle.std.proofs.Common.{map}
+use Rattle.pas_profile.specs.{Blocks.address_of, Lives.turn_of, Profiles.IsValid}
+use Rattle.pas_profile.specs.declared.{event.Event.Event, profile.Profile.Profile, word.Word.Word}
 use Rattle.pas_machine.specs.State.{ends_in, gives_in, live_in}
-use Rattle.pas_core.proofs.Lives.{life_at, turn_is}
-use Rattle.pas_core.proofs.OneActor.{legal_earlier}
-use Rattle.pas_steps.specs.Desks.{triples}
-use Rattle.pas_steps.specs.Effects.{life_word_at}
-use Rattle.pas_steps.specs.Kinds.{LookLife}
+use Rattle.pas_core.proofs.{Lives.life_at, Lives.turn_is, OneActor.legal_earlier}
+use Rattle.pas_steps.specs.{Desks.triples, Effects.life_word_at, Kinds.LookLife}
 use Rattle.pas_steps.specs.Lists.{Legal, Whole, part, visible, word_after}
 use Rattle.pas_steps.specs.declared.step.Made.{Made}
-use Rattle.pas_steps.proofs.Adding.{triples_append}
-use Rattle.pas_steps.proofs.Apart.{no_events}
+use Rattle.pas_steps.proofs.{Adding.triples_append, Apart.no_events}
 use Rattle.pas_rights.specs.PutsBack.{giving_back}
 use Rattle.pas_report.specs.Lines.{line_of}
 use Rattle.pas_report.specs.declared.record.Record.{Record}
 use Rattle.pas_guard.specs.Sweeps.{Swept, SweptOne, is_over, life_look, lowered_record as lowered_by}
 use Rattle.pas_guard.specs.declared.book.Guard.{Guard}
-use Rattle.pas_check.specs.Begins.{lowered_due, lowered_record}
-use Rattle.pas_check.specs.States.{Due, Stand}
+use Rattle.pas_check.specs.{Begins.lowered_due, Begins.lowered_record, States.Due, States.Stand}
 use Rattle.pas_check.specs.declared.guard.Guard.{Guard as Known}
 use Rattle.pas_accepted.proofs.Going.{LeadsOn, on_both, on_line, on_same}
 use Rattle.pas_accepted.proofs.GuardsInBooks.{AreAligned, going, is_down, raised_by, staying}

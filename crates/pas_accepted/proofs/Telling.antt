@@ -1,8 +1,6 @@
 -- What a check knows before an act is what the replay has come to there.
-use Rattle.std.proofs.Common.{◌≡◌, ℕ, List, [], ◌++◌, ap, sym, ◌∙◌, subst}
-use Rattle.std.specs.Prelude.{map}
-use Rattle.pas_profile.specs.declared.profile.Profile.{Profile}
-use Rattle.pas_profile.specs.declared.word.Word.TheVariants as Word
+use Rattle.std.proofs.Common.{◌≡◌, ℕ, List, [], ◌++◌, ap, sym, ◌∙◌, subst, map}
+use Rattle.pas_profile.specs.declared.{profile.Profile.Profile, word.Word.Word}
 use Rattle.pas_steps.specs.Desks.{triples}
 use Rattle.pas_steps.specs.Lists.{Legal, Whole, part, visible, word_after}
 use Rattle.pas_steps.specs.declared.step.Made.{Made}
@@ -12,14 +10,9 @@ use Rattle.pas_report.specs.declared.record.Record.{Record}
 use Rattle.pas_report.proofs.Showable.{AreOfRegion}
 use Rattle.pas_cache.specs.Caches.{Cached}
 use Rattle.pas_answers.specs.Answers.{Progress, with_cache}
-use Rattle.pas_answers.proofs.Consequences.{tidy_piece}
-use Rattle.pas_answers.proofs.Parts.{Each, legal_part, of_front}
-use Rattle.pas_answers.proofs.Tidy.{Tidy}
+use Rattle.pas_answers.proofs.{Consequences.tidy_piece, Parts.Each, Parts.legal_part, Parts.of_front, Tidy.Tidy}
 use Rattle.pas_check.specs.States.{Stand, Task}
-use Rattle.pas_accepted.proofs.Going.{LeadsOn}
-use Rattle.pas_accepted.proofs.GuardsInBooks.{AreBooked, booked_as}
-use Rattle.pas_accepted.proofs.LogEntries.{logged_as}
-use Rattle.pas_accepted.proofs.Pieces.{lines_by, table_same}
+use Rattle.pas_accepted.proofs.{Going.LeadsOn, GuardsInBooks.AreBooked, GuardsInBooks.booked_as, LogEntries.logged_as, Pieces.lines_by, Pieces.table_same}
 
 -- The events so far are those that are visible in the list, the names and the logs are the replay's, the threads read their epochs at the same places,
 -- and the greatest tick is the epoch. The guards are those in the keepers' books. Nobody has an unstamped page.

@@ -1,34 +1,24 @@
 -- The pages of a pass, tried one after the other: their outcomes rise, and each may come.
-use Rattle.std.proofs.Common.{◌≡◌, ℕ, zero, suc, ◌+◌, ◌*◌, ◌<◌, ◌≤◌, Bool, true, false, if◌then◌else◌, List, [], ◌∷◌, ◌++◌, Option, Some, None, inl, refl, ap, sym, ◌∙◌, subst, arith, append-nil}
-use Rattle.std.specs.Prelude.{map, reverse}
+use Rattle.std.proofs.Common.{◌≡◌, ℕ, zero, suc, ◌+◌, ◌*◌, ◌<◌, ◌≤◌, Bool, true, false, if◌then◌else◌, List, [], ◌∷◌, ◌++◌, Option, Some, None, inl, refl, ap}
+use Rattle.std.proofs.Common.{sym, ◌∙◌, subst, arith, append-nil, map, reverse}
 use Rattle.std.proofs.lemmas.List.{map-append, reverse-append}
 use Rattle.pas_bits.specs.Bits.{has_bit}
 use Rattle.pas_profile.specs.Profiles.{IsValid}
-use Rattle.pas_profile.specs.declared.event.Outcome.{Outcome}
+use Rattle.pas_profile.specs.declared.{event.Outcome.Outcome, profile.Profile.Profile, word.Word.Word}
 use Rattle.pas_profile.specs.declared.event.Outcome.TheVariants.{Unbacked, Bare, Young, InUse, NotOffered}
-use Rattle.pas_profile.specs.declared.profile.Profile.{Profile}
-use Rattle.pas_profile.specs.declared.word.Word.TheVariants as Word
 use Rattle.pas_core.proofs.OneActor.{legal_earlier}
-use Rattle.pas_steps.specs.Desks.{made, triple, triples}
-use Rattle.pas_steps.specs.InTurn.{InTurn, numbers_below}
-use Rattle.pas_steps.specs.Kinds.{Only}
+use Rattle.pas_steps.specs.{Desks.made, Desks.triple, Desks.triples, InTurn.InTurn, InTurn.numbers_below, Kinds.Only, Views.known_epoch}
 use Rattle.pas_steps.specs.Lists.{Legal, Whole, part, visible}
-use Rattle.pas_steps.specs.Views.{known_epoch}
-use Rattle.pas_steps.specs.declared.step.Made.{Made}
-use Rattle.pas_steps.specs.declared.step.Step.TheVariants.{Look, Unhint}
-use Rattle.pas_steps.proofs.Apart.{epoch_same, only_both, only_within}
-use Rattle.pas_steps.proofs.Parts.{part_of_own}
+use Rattle.pas_steps.specs.declared.step.{Made.Made, Step.TheVariants.Look, Step.TheVariants.Unhint}
+use Rattle.pas_steps.proofs.{Apart.epoch_same, Apart.only_both, Apart.only_within, Parts.part_of_own}
 use Rattle.pas_passes.specs.Records.{record_of}
 use Rattle.pas_report.specs.Lines.{line_of}
 use Rattle.pas_report.specs.declared.record.Record.{Record}
 use Rattle.pas_scavenger.specs.Pages.{examining, unback_of}
 use Rattle.pas_scavenger.specs.Passes.{TriedSteps, TrySteps, Tried, WordRead, WordSteps, all_tried, outcomes_in, pages_set, trying, with_outcome}
-use Rattle.pas_scavenger.proofs.Examinations.{examine_sized}
-use Rattle.pas_scavenger.proofs.Trying.{outcomes_append}
-use Rattle.pas_answers.proofs.Consequences.{tidy_piece}
-use Rattle.pas_answers.proofs.Tidy.{tidy_over}
-use Rattle.pas_check.specs.States.{Examines, Stand, with_due}
-use Rattle.pas_check.specs.Takes.{after_outcome, record_of as allowed_record}
+use Rattle.pas_scavenger.proofs.{Examinations.examine_sized, Trying.outcomes_append}
+use Rattle.pas_answers.proofs.{Consequences.tidy_piece, Tidy.tidy_over}
+use Rattle.pas_check.specs.{States.Examines, States.Stand, States.with_due, Takes.after_outcome, Takes.record_of as allowed_record}
 use Rattle.pas_accepted.proofs.Going.{LeadsOn, on_as, on_both, on_line, on_same}
 use Rattle.pas_accepted.proofs.Outcomes.{MayPass, at_pass, outcome_may, outcome_shown}
 use Rattle.pas_accepted.proofs.Pieces.{lines_both, lines_by}
@@ -38,7 +28,7 @@ pub both_pieces : (k : ℕ) (ys xs : List Made) (l : Whole) → triples k (ys ++
 both_pieces k [] xs l = refl
 both_pieces k (y ∷ ys) xs l = ap (λ (w : Whole). triple k y ∷ w) (both_pieces k ys xs l)
 
-pub pass_on : (s : Stand) (l : Whole) (steps : List Made) → Only trying steps → MayPass s l → MayPass s (triples 0 steps ++ l)
+pass_on : (s : Stand) (l : Whole) (steps : List Made) → Only trying steps → MayPass s l → MayPass s (triples 0 steps ++ l)
 pass_on s l steps only may = record {
   tidy = tidy_piece 0 steps l may.tidy (tidy_over trying refl steps (part 0 l) only (may.tidy 0));
   known = ap known_epoch (part_of_own 0 steps l) ∙ epoch_same trying refl steps (part 0 l) only ∙ may.known;
@@ -138,7 +128,7 @@ none_passed f s l first high steps below none = record {
   leads = on_same f (at_pass s l first) (at_pass s (triples 0 steps ++ l) first) (ap (λ ms. at_pass s (triples 0 ms ++ l) first) (sym none));
 }
 
-pub tries_pass : (f : Profile) → IsValid f → (s : Stand) (l : Whole) (first low high : ℕ) (tried : List Tried) (steps : List Made) → MayPass s l → Legal f (triples 0 steps ++ l) → low ≤ high → Below low first
+tries_pass : (f : Profile) → IsValid f → (s : Stand) (l : Whole) (first low high : ℕ) (tried : List Tried) (steps : List Made) → MayPass s l → Legal f (triples 0 steps ++ l) → low ≤ high → Below low first
     → Descends low high (map (λ t. t.page) tried) → InTurn (TriedSteps f.age s.epoch) tried steps → Passed f s l first high (outcomes_in tried) steps
 tries_pass f valid s l first low high [] steps may legal le below falls h = none_passed f s l first high steps (λ x more some. below x (omega (arith, le, more)) some) h
 tries_pass f valid s l first low high (t ∷ earlier) steps may legal le below falls h =
@@ -162,7 +152,7 @@ tries_pass f valid s l first low high (t ∷ earlier) steps may legal le below f
 -- ---- the words
 raised : (low high more : ℕ) (xs : List ℕ) → high ≤ more → Descends low high xs → Descends low more xs
 raised low high more [] le falls = tt
-raised low high more (x ∷ xs) le falls = (falls.0, (let lt = falls.1 in omega (arith, lt, le)), falls.2)
+raised low high more (x ∷ xs) le falls = (falls.0, (omega (arith, falls.1, le)), falls.2)
 
 set_more : (t : Bool) (n m : ℕ) (xs : List ℕ) → Descends (64 * n) (64 * n + m) xs → Descends (64 * n) (64 * n + suc m) (if t then (64 * n + m) ∷ xs else xs)
 set_more true n m xs falls = (omega arith, omega arith, falls)

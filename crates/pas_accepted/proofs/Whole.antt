@@ -1,35 +1,22 @@
 -- THE WHOLE REPLAY: its acts one after the other, and then its report.
-use Rattle.std.proofs.Common.{◌≡◌, ℕ, Bool, false, List, [], ◌∷◌, ◌++◌, refl, ap, sym, ◌∙◌, subst, append-nil, append_assoc, true≢false}
-use Rattle.std.specs.Prelude.{map}
+use Rattle.std.proofs.Common.{◌≡◌, ℕ, Bool, false, List, [], ◌∷◌, ◌++◌, refl, ap, sym, ◌∙◌, subst, append-nil, append_assoc, true≢false, map}
 use Rattle.pas_profile.specs.Profiles.{IsValid}
-use Rattle.pas_profile.specs.declared.event.Event.{Event}
-use Rattle.pas_profile.specs.declared.profile.Profile.{Profile}
+use Rattle.pas_profile.specs.declared.{event.Event.Event, profile.Profile.Profile}
 use Rattle.pas_core.proofs.OneActor.{legal_before}
 use Rattle.pas_steps.specs.Lists.{Legal, Whole, visible}
 use Rattle.pas_trace.specs.Acts.{Act}
 use Rattle.pas_trace.specs.declared.plan.Plan.{Plan}
-use Rattle.pas_report.specs.Lines.{lines_of}
-use Rattle.pas_report.specs.Marks.{Marked, marks_after}
-use Rattle.pas_report.specs.Reports.{report_text}
-use Rattle.pas_report.specs.Rests.{AreTrueMarks}
+use Rattle.pas_report.specs.{Lines.lines_of, Marks.Marked, Marks.marks_after, Reports.report_text, Rests.AreTrueMarks}
 use Rattle.pas_report.specs.declared.record.Record.{Record}
-use Rattle.pas_answers.specs.Answers.{Progress}
-use Rattle.pas_answers.specs.Reaching.{Reaches}
-use Rattle.pas_answers.specs.Refusals.{AllRefuseTruly}
+use Rattle.pas_answers.specs.{Answers.Progress, Reaching.Reaches, Refusals.AllRefuseTruly, Ways.InOrder}
 use Rattle.pas_answers.specs.Replays.{IsReplay, acts_of_plan, at_start, keepers_of, phases_of, region_of, threads_of}
-use Rattle.pas_answers.specs.Ways.{InOrder}
 use Rattle.pas_answers.proofs.Reached.{was_so}
-use Rattle.pas_check.specs.Accepted.{IsAccepted, IsWhole}
-use Rattle.pas_check.specs.Lines.{lines_in}
+use Rattle.pas_check.specs.{Accepted.IsAccepted, Accepted.IsWhole, Lines.lines_in}
 use Rattle.pas_check.specs.States.{Does, Reports, Stand, Task, at_first}
 use Rattle.pas_check.proofs.Cuts.{cut_records}
-use Rattle.pas_accepted.proofs.Acts.{Written, act_written}
-use Rattle.pas_accepted.proofs.Going.{on_as, on_both, on_same}
+use Rattle.pas_accepted.proofs.{Acts.Written, Acts.act_written, Going.on_as, Going.on_both, Going.on_same, Pieces.lines_both, Pieces.lines_by, Regions.whole_in}
+use Rattle.pas_accepted.proofs.{Reports.cut_report, Reports.report_lines, Reports.report_whole, Telling.Comes, Telling.Tells}
 use Rattle.pas_accepted.proofs.Order.{AreInPlace, IsRead, acts_in_place, read_after, in_place, still_read}
-use Rattle.pas_accepted.proofs.Pieces.{lines_both, lines_by}
-use Rattle.pas_accepted.proofs.Regions.{whole_in}
-use Rattle.pas_accepted.proofs.Reports.{cut_report, report_lines, report_whole}
-use Rattle.pas_accepted.proofs.Telling.{Comes, Tells}
 
 -- ---- acts
 written_none : (f : Profile) (p q : Progress) (s : Stand) (ts : List Task) → Tells p s → s.due ≡ [] → s.left ≡ ts → q ≡ p → Written f p s q ts
@@ -64,7 +51,7 @@ acts_written f valid (act ∷ acts) known p q s ts tells due left is truly are r
 first_tells : (plan : Plan) → Tells at_start (at_first plan)
 first_tells plan = record { events = refl; names = refl; logs = λ k. refl; awake = λ k. refl; epoch = refl; books = record { told = λ j. refl; aligned = λ j. tt }; tidy = λ k. record { kept = tt; stamped = λ page. refl } }
 
-pub acts_of_replay : (plan : Plan) (whole : Whole) (records : List Record) → IsValid (region_of plan) → (is : IsReplay InOrder plan whole records) → Written (region_of plan) at_start (at_first plan) is.reached (Reports ∷ [])
+acts_of_replay : (plan : Plan) (whole : Whole) (records : List Record) → IsValid (region_of plan) → (is : IsReplay InOrder plan whole records) → Written (region_of plan) at_start (at_first plan) is.reached (Reports ∷ [])
 acts_of_replay plan whole records valid is =
     acts_written (region_of plan) valid (acts_of_plan plan) false at_start is.reached (at_first plan) (Reports ∷ []) (first_tells plan) refl refl is.answers is.refusals (acts_in_place (threads_of plan) (keepers_of plan) (phases_of plan) false)
     (λ bad. absurd (true≢false (sym bad))) (subst (Legal (region_of plan)) is.one_order is.legal)

@@ -1,42 +1,23 @@
 -- The acts of a thread at its desk: an operation, its stop, and its reading of the epoch.
-use Rattle.std.proofs.Common.{◌≡◌, ℕ, ◌+◌, ◌≤◌, ◌==◌, if◌then◌else◌, inl, inr, List, [], ◌∷◌, ◌++◌, length, Option, None, refl, ap, sym, ◌∙◌, subst, arith, length-append}
-use Rattle.std.proofs.lemmas.List.{append-nil}
-use Rattle.std.proofs.lemmas.Bool.{eq-eqb}
-use Rattle.pas_profile.specs.declared.profile.Profile.{Profile}
-use Rattle.pas_profile.specs.declared.name.Block.{Block}
-use Rattle.pas_steps.specs.Agreement.{Agreed}
-use Rattle.pas_steps.specs.Calls.{Calls}
-use Rattle.pas_steps.specs.Events.{events_of, events_by}
-use Rattle.pas_steps.specs.Lists.{Whole, part}
-use Rattle.pas_steps.specs.Views.{View}
-use Rattle.pas_steps.specs.Desks.{Standing, CanCall, triples}
+use Rattle.std.proofs.Common.{◌≡◌, ℕ, ◌+◌, ◌≤◌, ◌==◌, if◌then◌else◌, inl, inr, List, [], ◌∷◌, ◌++◌, length, Option, None, refl, ap, sym, ◌∙◌, subst, arith}
+use Rattle.std.proofs.Common.{length-append, append-nil, eq-eqb}
+use Rattle.pas_profile.specs.declared.{profile.Profile.Profile, name.Block.Block, event.Range.Range}
+use Rattle.pas_steps.specs.{Agreement.Agreed, Calls.Calls, Events.events_of, Events.events_by, Lists.Whole, Lists.part, Views.View, Desks.Standing}
+use Rattle.pas_steps.specs.{Desks.CanCall, Desks.triples}
 use Rattle.pas_steps.specs.declared.step.Made.{Made}
-use Rattle.pas_steps.proofs.Called.{call_none, call_as}
-use Rattle.pas_steps.proofs.SpareRoom.{Spares}
-use Rattle.pas_steps.proofs.Parts.{part_of_own, part_of_others}
-use Rattle.pas_steps.proofs.Unknown.{unknown_stays}
-use Rattle.pas_trace.specs.declared.plan.Op.{Op}
-use Rattle.pas_trace.specs.declared.plan.What.{What}
-use Rattle.pas_trace.specs.declared.plan.What.TheVariants.{Stop}
+use Rattle.pas_steps.proofs.{Called.call_none, Called.call_as, SpareRoom.Spares, Parts.part_of_own, Parts.part_of_others, Unknown.unknown_stays}
+use Rattle.pas_trace.specs.declared.{plan.Op.Op, plan.What.What, plan.What.TheVariants.Stop, item.Request.Request}
 use Rattle.pas_report.specs.Rooms.{records_in, Records}
-use Rattle.pas_report.specs.declared.record.Record.{Record}
-use Rattle.pas_report.specs.declared.record.Said.{Said}
-use Rattle.pas_cache.specs.Caches.{Cached, AtRest}
-use Rattle.pas_cache.specs.Calls.{Begins}
-use Rattle.pas_profile.specs.declared.event.Range.{Range}
-use Rattle.pas_cache.specs.Calls.{SettlesEach}
-use Rattle.pas_trace.specs.declared.item.Request.{Request}
-use Rattle.pas_answers.specs.Indexes.{IsNamedFor, request_made}
+use Rattle.pas_report.specs.declared.record.{Record.Record, Said.Said}
+use Rattle.pas_cache.specs.{Caches.Cached, Caches.AtRest, Calls.Begins, Calls.SettlesEach}
+use Rattle.pas_answers.specs.{Indexes.IsNamedFor, Indexes.request_made, Fit.IsFitWhat, Fit.cost_of_what, Reaching.Reaches}
 use Rattle.pas_trace.specs.Acts.{Act, Operates, Settles, StopsIdle, Wakes, Ends}
-use Rattle.pas_answers.specs.Answers.{having, Answer, answer_of, Progress, begun, settled, stopped, epoch_look, after_answer, after_settling, after_wake, after_stop, IsAnswered, IsStopped, records_of, said_by}
+use Rattle.pas_answers.specs.Answers.{having, Answer, answer_of, Progress, begun, settled, stopped, epoch_look, after_answer, after_settling, after_wake}
+use Rattle.pas_answers.specs.Answers.{after_stop, IsAnswered, IsStopped, records_of, said_by}
 use Rattle.pas_answers.specs.Calls.{named_by, owed_events, MayAnswer, AnswersMeant}
-use Rattle.pas_answers.specs.Fit.{IsFitWhat, cost_of_what}
-use Rattle.pas_answers.specs.Reaching.{Reaches}
-use Rattle.pas_answers.proofs.Kept.{none_stands, request_meant}
-use Rattle.pas_answers.proofs.OwnRecords.{piece_of, events_of_piece}
+use Rattle.pas_answers.proofs.{Kept.none_stands, Kept.request_meant, OwnRecords.piece_of, OwnRecords.events_of_piece}
 use Rattle.pas_answers.proofs.SingleActs.{its_cache, other_cache, if_same, records_count}
-use Rattle.pas_acts.specs.Works.{Later, Sits}
-use Rattle.pas_acts.specs.Turns.{RestsAt, Moves, LeavesRest}
+use Rattle.pas_acts.specs.{Works.Later, Works.Sits, Turns.RestsAt, Turns.Moves, Turns.LeavesRest}
 use Rattle.pas_acts.specs.AtDesks.{Here, here, MayOperate, ThreadActs, GoesThrough}
 use Rattle.pas_acts.proofs.Alone.{of_seat, rests_after}
 
@@ -91,33 +72,32 @@ module _ {f : Profile} {k : ℕ} {what : What} {meant came : Option Block} {σ �
   is_answered : IsAnswered f k what (having p.names v c) the_answer
   is_answered = of_seat may.rests.sits (λ (j : ℕ) (g : Profile). IsAnswered g j what (having p.names v c) the_answer) (did.performs.answered v p.list may.rests.sits.stood was_at_rest p.names may.means may.known)
 
-  pub answered : IsAnswered f k what (having p.names v (p.caches k)) the_answer
+  answered : IsAnswered f k what (having p.names v (p.caches k)) the_answer
   answered = subst (λ (d : Cached). IsAnswered f k what (having p.names v d) the_answer) (sym may.rests.cache) is_answered
 
-  pub calls_so : Calls σ σ' (AtRest f c) (λ x w. AtRest f c1 w) steps
+  calls_so : Calls σ σ' (AtRest f c) (λ x w. AtRest f c1 w) steps
   calls_so = subst (λ (g : Profile). Calls σ σ' (AtRest g c) (λ x w. AtRest g c1 w) steps) may.rests.sits.profile did.performs.calls
 
   abbrev pub piece : List Record
   piece = records_of (events_by k v steps) ++ said_by k did.said
 
-  pub pushed_so : records_in out' ≡ records_in out ++ piece
+  pushed_so : records_in out' ≡ records_in out ++ piece
   pushed_so = of_seat may.rests.sits (λ (j : ℕ) (g : Profile). records_in out' ≡ records_in out ++ (records_of (events_by j v steps) ++ said_by j did.said)) (did.pushed v p.list may.rests.sits.stood was_at_rest)
 
-  pub few_so : length (events_by k v steps) + length (said_by k did.said) + owed_events f c1 (steps ++ v) ≤ cost_of_what what + owed_events f c v
+  few_so : length (events_by k v steps) + length (said_by k did.said) + owed_events f c1 (steps ++ v) ≤ cost_of_what what + owed_events f c v
   few_so = of_seat may.rests.sits (λ (j : ℕ) (g : Profile). length (events_by j v steps) + length (said_by j did.said) + owed_events g c1 (steps ++ v) ≤ cost_of_what what + owed_events g c v)
       (did.performs.few v was_at_rest (did.performs.calls.adds.agreed v p.list may.rests.sits.stood was_at_rest))
 
   -- so is what came to its records, where it has a cache whose log is the same
-  pub paid_so : (c' : Cached) → length c'.log ≡ length c1.log → length piece + owed_events f c' (part k (triples k steps ++ p.list)) ≤ cost_of_what what + owed_events f c v
+  paid_so : (c' : Cached) → length c'.log ≡ length c1.log → length piece + owed_events f c' (part k (triples k steps ++ p.list)) ≤ cost_of_what what + owed_events f c v
   paid_so c' log =
-      let less = few_so in
       let owed = ap (λ (w : View). owed_events f c' w) (part_of_own k steps p.list) in
       let both = length-append (records_of (events_by k v steps)) (said_by k did.said) in
       let count = records_count (events_by k v steps) in
-      omega (arith, less, log, owed, both, count)
+      omega (arith, few_so, log, owed, both, count)
 
   -- the thread rests again with that
-  pub rests_again : {c' : Cached} {q : Progress} → (moves : Moves k (AtRest f c) (AtRest f c') σ σ' p q) → moves.steps ≡ steps → length c'.log ≡ length c1.log → q.caches k ≡ c' → RestsAt f k σ' c' out' later q
+  rests_again : {c' : Cached} {q : Progress} → (moves : Moves k (AtRest f c) (AtRest f c') σ σ' p q) → moves.steps ≡ steps → length c'.log ≡ length c1.log → q.caches k ≡ c' → RestsAt f k σ' c' out' later q
   rests_again {c'} moves same log cache =
       let paid = paid_so c' log in
       let owed = ap (λ (l : Whole). owed_events f c' (part k l)) (moves.list_is ∙ ap (λ (ms : List Made). triples k ms ++ p.list) same) in

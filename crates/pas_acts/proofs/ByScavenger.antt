@@ -1,34 +1,20 @@
 -- The acts of the scavenger.
-use Rattle.std.proofs.Common.{◌≡◌, ℕ, ◌+◌, ◌≤◌, List, [], ◌∷◌, ◌++◌, length, max, reverse, refl, ap, sym, ◌∙◌, subst, arith, length-append}
-use Rattle.std.proofs.lemmas.List.{append-nil, length-map, length-reverse}
-use Rattle.pas_profile.specs.declared.profile.Profile.{Profile}
-use Rattle.pas_profile.specs.declared.event.Event.{Event}
-use Rattle.pas_profile.specs.declared.event.Outcome.{Outcome}
-use Rattle.pas_profile.specs.declared.word.Word.TheVariants as Word
-use Rattle.pas_steps.specs.Calls.{Calls}
-use Rattle.pas_steps.specs.Clear.{HasNothing}
-use Rattle.pas_steps.specs.Events.{events_by, events_of}
-use Rattle.pas_steps.specs.Lists.{Whole, part}
-use Rattle.pas_steps.specs.Views.{View}
+use Rattle.std.proofs.Common.{◌≡◌, ℕ, ◌+◌, ◌≤◌, List, [], ◌∷◌, ◌++◌, length, max, reverse, refl, ap, sym, ◌∙◌, subst, arith, length-append, append-nil}
+use Rattle.std.proofs.lemmas.List.{length-map, length-reverse}
+use Rattle.pas_profile.specs.declared.{profile.Profile.Profile, event.Event.Event, event.Outcome.Outcome, word.Word.Word}
+use Rattle.pas_steps.specs.{Calls.Calls, Clear.HasNothing, Events.events_by, Events.events_of, Lists.Whole, Lists.part, Views.View}
 use Rattle.pas_steps.specs.Desks.{CanCall, Standing, Makes, made}
-use Rattle.pas_steps.specs.declared.step.Made.{Made}
-use Rattle.pas_steps.specs.declared.step.Step.TheVariants.{Look, Tick}
-use Rattle.pas_steps.proofs.SpareRoom.{Spares}
-use Rattle.pas_steps.proofs.Parts.{part_of_own}
+use Rattle.pas_steps.specs.declared.step.{Made.Made, Step.TheVariants.Look, Step.TheVariants.Tick}
+use Rattle.pas_steps.proofs.{SpareRoom.Spares, Parts.part_of_own}
 use Rattle.pas_scavenger.specs.Passes.{PassSteps}
 use Rattle.pas_report.specs.Rooms.{records_in, room_of, Records}
-use Rattle.pas_report.specs.declared.record.Record.{Record}
-use Rattle.pas_report.specs.declared.record.Said.{Said}
-use Rattle.pas_passes.specs.Answers.{AnswersTick, AnswersPass}
-use Rattle.pas_passes.specs.Records.{record_of, records_of_pass}
+use Rattle.pas_report.specs.declared.record.{Record.Record, Said.Said}
+use Rattle.pas_passes.specs.{Answers.AnswersTick, Answers.AnswersPass, Records.record_of, Records.records_of_pass}
 use Rattle.pas_trace.specs.Acts.{Act, Ticks, MakesPass, ReadsEpoch}
 use Rattle.pas_answers.specs.Answers.{Progress, after_tick, after_pass, after_reading, epoch_look}
 use Rattle.pas_answers.specs.Fit.{cost_of_act, unbacks_of_act}
-use Rattle.pas_answers.proofs.OwnRecords.{pass_of}
-use Rattle.pas_answers.proofs.SingleActs.{few_unbacks, reads}
-use Rattle.pas_acts.specs.Works.{Later, Sits}
-use Rattle.pas_acts.specs.Turns.{Moves, Says}
-use Rattle.pas_acts.specs.AtDesks.{HasRoomAt, for_act, ScavengerActs}
+use Rattle.pas_answers.proofs.{OwnRecords.pass_of, SingleActs.few_unbacks, SingleActs.reads}
+use Rattle.pas_acts.specs.{Works.Later, Works.Sits, Turns.Moves, Turns.Says, AtDesks.HasRoomAt, AtDesks.for_act, AtDesks.ScavengerActs}
 use Rattle.pas_acts.proofs.Alone.{sits_after}
 
 -- ---- before
@@ -39,9 +25,8 @@ pub pass_room : {f : Profile} {σ : Standing} {out : Records} {p : Progress} (la
 pass_room {f} {σ} {out} {p} later spare fits at =
     let v = part 0 p.list in
     let is = subst (λ (k : ℕ). spare + length (events_of k v) ≡ σ.seat.room) at.sits.actor (fits v p.list at.sits.stood) in
-    let room = at.sits.room in
     let pages = ap (λ (h : Profile). h.pages) at.sits.profile in
-    omega (arith, is, room, pages)
+    omega (arith, is, at.sits.room, pages)
 
 -- ---- after
 -- there is room again, where the act pays for the events of its steps and for what is said
@@ -50,10 +35,9 @@ room_again : {f : Profile} {σ σ' : Standing} {out out' : Records} {p q : Progr
 room_again {f} {σ} {σ'} {out} {out'} {p} {q} act later at moves says few paid =
     let longer = ap (λ (rs : List Record). length rs) says.pushed ∙ length-append (records_in out) says.said in
     let spare = at.spare in
-    let room = says.room in
     record {
       sits = subst (λ (l : Whole). Sits f 0 HasNothing σ' l later.events) (sym moves.list_is) (sits_after at.sits moves.calls (omega (arith, few)));
-      spare = omega (arith, longer, spare, room, paid);
+      spare = omega (arith, longer, spare, says.room, paid);
     }
 
 pub has_ticked : {f : Profile} {σ σ' : Standing} {out out' : Records} {later : Later} {p : Progress} (epoch : ℕ) → HasRoomAt f σ out (for_act f (Ticks epoch) later) p

@@ -1,46 +1,28 @@
 -- A keeper at its desk: a guarded request that it tries, and the close.
-use Rattle.std.proofs.Common.{◌≡◌, ◌≢◌, ℕ, ◌+◌, ◌≤◌, Bool, true, false, if◌then◌else◌, List, [], ◌∷◌, ◌++◌, length, Option, None, Some, refl, ap, sym, ◌∙◌, subst, arith, length-append}
-use Rattle.std.proofs.lemmas.Bool.{eq-eqb, ne_eqb}
-use Rattle.pas_profile.specs.declared.event.Event.{Event}
-use Rattle.pas_profile.specs.declared.name.Block.{Block}
-use Rattle.pas_profile.specs.declared.profile.Profile.{Profile}
-use Rattle.pas_steps.specs.Agreement.{Agreed}
-use Rattle.pas_steps.specs.Calls.{Calls}
-use Rattle.pas_steps.specs.Desks.{Standing, CanCall}
-use Rattle.pas_steps.specs.Events.{events_of, events_by}
-use Rattle.pas_steps.specs.Lists.{Whole, part}
-use Rattle.pas_steps.specs.Unknown.{unknown_pages}
-use Rattle.pas_steps.specs.Views.{View}
+use Rattle.std.proofs.Common.{◌≡◌, ◌≢◌, ℕ, ◌+◌, ◌≤◌, Bool, true, false, if◌then◌else◌, List, [], ◌∷◌, ◌++◌, length, Option, None, Some, refl, ap, sym, ◌∙◌}
+use Rattle.std.proofs.Common.{subst, arith, length-append, eq-eqb, ne_eqb}
+use Rattle.pas_profile.specs.declared.{event.Event.Event, name.Block.Block, profile.Profile.Profile}
+use Rattle.pas_steps.specs.{Agreement.Agreed, Calls.Calls, Desks.Standing, Desks.CanCall, Events.events_of, Events.events_by, Lists.Whole, Lists.part}
+use Rattle.pas_steps.specs.{Unknown.unknown_pages, Views.View}
 use Rattle.pas_steps.specs.declared.step.Made.{Made}
-use Rattle.pas_steps.proofs.Apart.{no_events}
-use Rattle.pas_steps.proofs.Parts.{part_of_own}
-use Rattle.pas_steps.proofs.SpareRoom.{Spares}
-use Rattle.pas_steps.proofs.Unknown.{unknown_stays}
-use Rattle.pas_trace.specs.Acts.{Guards}
-use Rattle.pas_trace.specs.Asked.{request_in}
-use Rattle.pas_trace.specs.Reasons.{cost_of_size}
-use Rattle.pas_trace.specs.declared.item.Request.{Request}
-use Rattle.pas_trace.specs.declared.plan.Op.{Op}
+use Rattle.pas_steps.proofs.{Apart.no_events, Parts.part_of_own, SpareRoom.Spares, Unknown.unknown_stays}
+use Rattle.pas_trace.specs.{Acts.Guards, Asked.request_in, Reasons.cost_of_size}
+use Rattle.pas_trace.specs.declared.{item.Request.Request, plan.Op.Op}
 use Rattle.pas_report.specs.Rooms.{records_in, room_of, Records}
 use Rattle.pas_report.specs.declared.record.Record.{Record}
-use Rattle.pas_guard.specs.Books.{FitsBook, guards_in}
-use Rattle.pas_guard.specs.Raises.{RaiseSteps, guard_of}
-use Rattle.pas_guard.specs.Sweeps.{sweeping}
-use Rattle.pas_guard.specs.declared.book.Guard.{Guard}
-use Rattle.pas_guard.specs.declared.book.GuardBook.{GuardBook}
-use Rattle.pas_answers.specs.Answers.{Books, with_book, Progress}
-use Rattle.pas_answers.specs.Calls.{MayStand}
+use Rattle.pas_guard.specs.{Books.FitsBook, Books.guards_in, Raises.RaiseSteps, Raises.guard_of, Sweeps.sweeping}
+use Rattle.pas_guard.specs.declared.book.{Guard.Guard, GuardBook.GuardBook}
+use Rattle.pas_answers.specs.{Answers.Books, Answers.with_book, Answers.Progress, Calls.MayStand}
 use Rattle.pas_answers.specs.Guarding.{Tried, try_steps, IsTried, after_trying, after_giving, IsLowered, after_lowering}
 use Rattle.pas_answers.specs.Keeping.{owed_by_keeper, cost_of_try, MayTry, TriesRequest, MayLowerAll, LowersAll}
 use Rattle.pas_answers.specs.Reaching.{AnswersOp, AnswersTried, AnswersGuarded, Advances}
-use Rattle.pas_answers.proofs.OwnRecords.{swept_each, try_each}
-use Rattle.pas_answers.proofs.Tries.{swept_count}
+use Rattle.pas_answers.proofs.{OwnRecords.swept_each, OwnRecords.try_each, Tries.swept_count}
 use Rattle.pas_acts.specs.Keepers.{keeper_has, KeeperHas, HasStill, LaterKept, and_try, KeeperAt, KeeperTries, KeeperLowers}
 use Rattle.pas_acts.specs.Works.{Sits}
 use Rattle.pas_acts.proofs.Alone.{of_seat, sits_after, sits_still}
 
 -- ---- books of which that of one keeper became another
-pub its_book : (books : Books) (k : ℕ) (guards : List Guard) → with_book books k guards k ≡ guards
+its_book : (books : Books) (k : ℕ) (guards : List Guard) → with_book books k guards k ≡ guards
 its_book books k guards = ap (λ (b : Bool). if b then guards else books k) (eq-eqb k k refl)
 
 pub other_book : (books : Books) (k j : ℕ) (guards : List Guard) → j ≢ k → with_book books k guards j ≡ books j
@@ -90,14 +72,13 @@ may_try {f} {k} {σ} {book} {out} {p} later size spare fits at =
     let is = subst (λ (j : ℕ). spare + length (events_of j v) ≡ σ.seat.room) s.actor (fits v p.list s.stood) in
     let room = s.room in
     let records = at.spare in
-    let places = at.places in
     record {
       view = v;
       whole = p.list;
       stood = s.stood;
       met = subst (λ (g : Profile). MayTry g book size spare out v) (sym s.profile) record {
         fits = s.rest;
-        place = omega (arith, places);
+        place = omega (arith, at.places);
         room = omega (arith, is, room);
         records = omega (arith, records);
       };

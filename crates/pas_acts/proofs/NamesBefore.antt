@@ -1,34 +1,26 @@
 -- What each thread knows of the names when a phase begins.
-use Rattle.std.proofs.Common.{◌≡◌, ℕ, ◌<◌, ◌≤◌, ◌==◌, ◌||◌, Bool, true, false, if◌then◌else◌, inl, inr, List, [], ◌∷◌, ◌++◌, length, Option, Some, None, refl, ap, sym, ◌∙◌, subst, arith, length-append}
-use Rattle.std.specs.Prelude.{MatchOption}
+use Rattle.std.proofs.Common.{◌≡◌, ℕ, ◌<◌, ◌≤◌, ◌==◌, ◌||◌, Bool, true, false, if◌then◌else◌, inl, inr, List, [], ◌∷◌, ◌++◌, length, Option, Some, None, refl}
+use Rattle.std.proofs.Common.{ap, sym, ◌∙◌, subst, arith, length-append, MatchOption, ne_eqb, eq-eqb, true≢false}
 use Rattle.std.specs.List.{AllByRecursion}
-use Rattle.std.proofs.lemmas.Bool.{ne_eqb, eq-eqb, cases_eq, true≢false, or_parts}
-use Rattle.pas_profile.specs.declared.profile.Profile.{Profile}
-use Rattle.pas_profile.specs.declared.name.Block.{Block}
+use Rattle.std.proofs.lemmas.Bool.{cases_eq, or_parts}
+use Rattle.pas_profile.specs.declared.{profile.Profile.Profile, name.Block.Block}
 use Rattle.pas_trace.proofs.Costs.{some_cost}
 pub use Rattle.pas_trace.proofs.EveryPlan.{below_front}
 use Rattle.pas_trace.specs.Asked.{work_of, of_task, request_of, freed_of, request_in, keeper_in}
 use Rattle.pas_trace.specs.EveryPlan.{is_asked, asked_with, asked_after, asked_by, AreSound, IsSoundTask, IsSoundWork, IsActorBy, IsThread}
 use Rattle.pas_trace.specs.EveryPhase.{FreesItsOwn}
-use Rattle.pas_trace.specs.declared.plan.What.{What}
-use Rattle.pas_trace.specs.declared.plan.What.TheVariants.{Alloc, Guarded, Remake}
-use Rattle.pas_trace.specs.declared.item.Request.{Request}
-use Rattle.pas_trace.specs.declared.plan.Task.{Task}
-use Rattle.pas_trace.specs.declared.plan.Work.{Work}
-use Rattle.pas_trace.specs.declared.plan.Op.{Op}
+use Rattle.pas_trace.specs.declared.{plan.What.What, plan.What.TheVariants.Alloc, plan.What.TheVariants.Guarded, plan.What.TheVariants.Remake}
+use Rattle.pas_trace.specs.declared.{item.Request.Request, plan.Task.Task, plan.Work.Work, plan.Op.Op}
 use Rattle.pas_trace.specs.Acts.{Act, Settles, act_kept, own_acts}
-use Rattle.pas_answers.specs.Answers.{Named, standing_for, Progress}
-use Rattle.pas_answers.specs.Calls.{block_behind, MayStand}
+use Rattle.pas_answers.specs.{Answers.Named, Answers.standing_for, Answers.Progress, Calls.block_behind, Calls.MayStand, Names.block_named, Names.names_held}
+use Rattle.pas_answers.specs.{Replays.at_start}
 use Rattle.pas_answers.specs.Fit.{KeepsAbove, IsFitTask, IsFitWork, IsFitWhat, AreFit, AreBelow, cost_of_what, own_costs_of}
-use Rattle.pas_answers.specs.Names.{block_named, names_held}
-use Rattle.pas_answers.specs.Replays.{at_start}
 use Rattle.pas_answers.specs.declared.names.Names.{Names}
-use Rattle.pas_acts.specs.NameBooks.{requests_in, room_for, name_asked, name_asked_by, names_asked, names_of, ArePlaced, came_to, known_in, table, NamesAt, Requests}
+use Rattle.pas_acts.specs.NameBooks.{requests_in, room_for, name_asked, name_asked_by, names_asked, names_of, ArePlaced, came_to, known_in, table, NamesAt}
+use Rattle.pas_acts.specs.NameBooks.{Requests}
 use Rattle.pas_acts.specs.Works.{KnowsNames}
 use Rattle.pas_acts.specs.declared.names.NameBook.{NameBook}
-use Rattle.pas_acts.proofs.Noting.{is_same, not_before}
-use Rattle.pas_acts.proofs.Pairing.{kept_cost}
-use Rattle.pas_acts.proofs.Places.{kept_asks}
+use Rattle.pas_acts.proofs.{Noting.is_same, Noting.not_before, Pairing.kept_cost, Places.kept_asks}
 
 -- ---- a phase and the rest
 pub sound_front : (f : Profile) (asked : List ℕ) (xs ys : List Op) → AreSound f asked (xs ++ ys) → AreSound f asked xs
@@ -96,7 +88,7 @@ few_asked (Guarded keeper name heap size align) = let one = some_cost size in om
 few_asked (Remake name old heap size align) = omega arith
 few_asked what = omega arith
 
-pub own_asked : (k : ℕ) (ops : List Op) → length (names_asked (own_acts k ops)) ≤ own_costs_of k (own_acts k ops)
+own_asked : (k : ℕ) (ops : List Op) → length (names_asked (own_acts k ops)) ≤ own_costs_of k (own_acts k ops)
 own_asked k [] = omega arith
 own_asked k (op ∷ ops) =
     let rest = own_asked k ops in
@@ -141,10 +133,6 @@ module _ {f : Profile} {ops : List Op} {book : NameBook} {p : Progress} {names :
     placed = subst (λ (ns : List ℕ). ArePlaced book1 0 (ns ++ names_asked acts)) (sym no_names) placed;
     room = let size = ap (λ (rs : List Named). length rs) none in omega (arith, size, room);
   }
-
-  -- a thread that has no act now
-  pub names_idle : KnowsNames f [] (table book1 requests) names
-  names_idle = knows_by [] tt tt (omega arith)
 
 -- A thread of the phase knows its names once they are noted.
 pub names_before : {f : Profile} {book : NameBook} {p : Progress} {names : List Named} (k : ℕ) (phase rest : List Op) (book1 : NameBook) (requests : Requests) (at : NamesAt f (phase ++ rest) book p) → 1 ≤ k → FreesItsOwn k at.asked phase → book1.names ≡ book.names

@@ -1,14 +1,14 @@
 -- The places of the names of a phase's operations, one after the other.
-use Rattle.std.proofs.Common.{◌≡◌, ◌≢◌, ℕ, zero, suc, ◌+◌, ◌<◌, ◌≤◌, ◌==◌, ◌||◌, Bool, true, false, if◌then◌else◌, inl, inr, List, [], ◌∷◌, ◌++◌, length, take, replicate, get_or, Option, Some, None, refl, ap, sym, ◌∙◌, subst, arith, length-append, append_assoc}
-use Rattle.std.proofs.lemmas.List.{take_more, length-take, append-nil, get_or-replicate, length-replicate, get_or_past}
-use Rattle.std.proofs.lemmas.Bool.{cases_lt, ne_eqb, eq-eqb, cases_eq, true≢false, or_parts}
+use Rattle.std.proofs.Common.{◌≡◌, ◌≢◌, ℕ, zero, suc, ◌+◌, ◌<◌, ◌≤◌, ◌==◌, ◌||◌, Bool, true, false, if◌then◌else◌, inl, inr, List, [], ◌∷◌, ◌++◌, length, take}
+use Rattle.std.proofs.Common.{replicate, get_or, Option, Some, None, refl, ap, sym, ◌∙◌, subst, arith, length-append, append_assoc, length-take, append-nil}
+use Rattle.std.proofs.Common.{ne_eqb, eq-eqb, true≢false}
+use Rattle.std.proofs.lemmas.List.{take_more, get_or-replicate, length-replicate, get_or_past}
+use Rattle.std.proofs.lemmas.Bool.{cases_lt, cases_eq, or_parts}
 use Rattle.pas_profile.specs.declared.profile.Profile.{Profile}
 use Rattle.pas_trace.specs.Asked.{request_in, keeper_in}
 use Rattle.pas_trace.specs.EveryPlan.{is_asked, asked_with, asked_after, asked_by, AreSound, IsSoundWhat}
-use Rattle.pas_trace.specs.declared.plan.What.{What}
-use Rattle.pas_trace.specs.declared.plan.What.TheVariants.{Alloc, Guarded, Remake}
-use Rattle.pas_trace.specs.declared.item.Request.{Request}
-use Rattle.pas_trace.specs.declared.plan.Op.{Op}
+use Rattle.pas_trace.specs.declared.{plan.What.What, plan.What.TheVariants.Alloc, plan.What.TheVariants.Guarded, plan.What.TheVariants.Remake}
+use Rattle.pas_trace.specs.declared.{item.Request.Request, plan.Op.Op}
 use Rattle.pas_trace.specs.Acts.{Act, Settles, act_kept, own_acts}
 use Rattle.pas_answers.specs.Fit.{IsBelow, AreBelow}
 use Rattle.pas_acts.specs.NameBooks.{name_asked, names_asked, place_in, ArePlaced}
@@ -33,7 +33,7 @@ own_one false o op acts = refl
 pub asks_more : (k : ℕ) (op : Op) (ops : List Op) → asks k (op ∷ ops) ≡ (if op.actor == k then name_asked op.what else []) ++ asks k ops
 asks_more k op ops = own_one (op.actor == k) (keeper_in op.what) op (own_acts k ops)
 
-pub asks_last : (k : ℕ) (ops : List Op) (op : Op) → asks k (ops ++ op ∷ []) ≡ asks k ops ++ (if op.actor == k then name_asked op.what else [])
+asks_last : (k : ℕ) (ops : List Op) (op : Op) → asks k (ops ++ op ∷ []) ≡ asks k ops ++ (if op.actor == k then name_asked op.what else [])
 asks_last k [] op = asks_more k op [] ∙ append-nil (if op.actor == k then name_asked op.what else [])
 asks_last k (o ∷ ops) op =
     let first = if o.actor == k then name_asked o.what else [] in
@@ -71,7 +71,7 @@ not_before (Guarded keeper name heap size align) asked n none = let both = or_pa
 not_before (Remake name old heap size align) asked n none = let both = or_parts (name == n) (is_asked asked n) none in (ap (λ (t : Bool). t || false) both.0, both.1)
 not_before what asked n none = (refl, none)
 
-pub never_before : (ops : List Op) (asked : List ℕ) (n : ℕ) → is_asked (asked_by asked ops) n ≡ false → is_asked asked n ≡ false
+never_before : (ops : List Op) (asked : List ℕ) (n : ℕ) → is_asked (asked_by asked ops) n ≡ false → is_asked asked n ≡ false
 never_before [] asked n none = none
 never_before (op ∷ ops) asked n none = (not_before op.what asked n (never_before ops (asked_after op.what asked) n none)).1
 
@@ -80,7 +80,7 @@ if_none true [] ns n one two = two
 if_none true (m ∷ ms) ns n one two = let both = or_parts (m == n) (is_asked ms n) one in ap (λ (s : Bool). s || is_asked (ms ++ ns) n) both.0 ∙ if_none true ms ns n both.1 two
 if_none false ms ns n one two = two
 
-pub not_asked : (k : ℕ) (ops : List Op) (asked : List ℕ) (n : ℕ) → is_asked (asked_by asked ops) n ≡ false → is_asked (asks k ops) n ≡ false
+not_asked : (k : ℕ) (ops : List Op) (asked : List ℕ) (n : ℕ) → is_asked (asked_by asked ops) n ≡ false → is_asked (asks k ops) n ≡ false
 not_asked k [] asked n none = refl
 not_asked k (op ∷ ops) asked n none =
     let one = not_before op.what asked n (never_before ops (asked_after op.what asked) n none) in
@@ -139,7 +139,7 @@ one_more true old new name xs here placed = let at = here refl in placed_all new
 one_more false old new name xs here placed = subst (λ (ns : List ℕ). ArePlaced new 0 ns) (sym (append-nil xs)) placed
 
 -- what each thread asked for, after the operation at a place
-pub asks_next : (k : ℕ) (ops : List Op) (i : ℕ) (d : Op) (names : List ℕ) → i < length ops → name_asked (get_or ops i d).what ≡ names → asks k (take (i + 1) ops) ≡ asks k (take i ops) ++ (if (get_or ops i d).actor == k then names else [])
+asks_next : (k : ℕ) (ops : List Op) (i : ℕ) (d : Op) (names : List ℕ) → i < length ops → name_asked (get_or ops i d).what ≡ names → asks k (take (i + 1) ops) ≡ asks k (take i ops) ++ (if (get_or ops i d).actor == k then names else [])
 asks_next k ops i d names lt is = ap (λ (xs : List Op). asks k xs) (take_more ops i d lt) ∙ asks_last k (take i ops) (get_or ops i d) ∙ ap (λ (ns : List ℕ). asks k (take i ops) ++ (if (get_or ops i d).actor == k then ns else [])) is
 
 pub is_same : (a k : ℕ) → a == k ≡ true → a ≡ k
@@ -169,7 +169,7 @@ count_if a k place old n here there = elim (cases_eq a k) [
 ]
 
 -- .. and how many a thread asked for then
-pub count_next : (ops : List Op) (i : ℕ) (d : Op) (name k : ℕ) → i < length ops → name_asked (get_or ops i d).what ≡ name ∷ []
+count_next : (ops : List Op) (i : ℕ) (d : Op) (name k : ℕ) → i < length ops → name_asked (get_or ops i d).what ≡ name ∷ []
     → length (asks k (take (i + 1) ops)) ≡ (if (get_or ops i d).actor == k then length (asks k (take i ops)) + 1 else length (asks k (take i ops)))
 count_next ops i d name k lt is =
     ap (λ (ns : List ℕ). length ns) (asks_next k ops i d (name ∷ []) lt is) ∙ if_length ((get_or ops i d).actor == k) (asks k (take i ops)) name 0

@@ -1,22 +1,14 @@
 -- A thread and its keeper: what an operation of the thread comes to for both.
-use Rattle.std.proofs.Common.{◌≡◌, ◌≢◌, ℕ, ◌+◌, ◌==◌, ◌⊎◌, Bool, true, false, if◌then◌else◌, inl, inr, List, [], ◌∷◌, ◌++◌, length, Option, None, Some, refl, ap, sym, ◌∙◌, subst, arith, length-append, append_assoc}
-use Rattle.std.proofs.lemmas.List.{append-nil}
-use Rattle.std.proofs.lemmas.Bool.{eq-eqb, ne_eqb}
-use Rattle.pas_profile.specs.declared.name.Block.{Block}
-use Rattle.pas_profile.specs.declared.profile.Profile.{Profile}
+use Rattle.std.proofs.Common.{◌≡◌, ◌≢◌, ℕ, ◌+◌, ◌==◌, ◌⊎◌, if◌then◌else◌, inl, inr, List, [], ◌∷◌, ◌++◌, length, Option, None, Some, refl, ap, sym, ◌∙◌, subst}
+use Rattle.std.proofs.Common.{arith, length-append, append_assoc, append-nil}
+use Rattle.pas_profile.specs.declared.{name.Block.Block, profile.Profile.Profile}
 use Rattle.pas_profile.proofs.Lists.{all_both, all_map}
-use Rattle.pas_steps.specs.Desks.{Standing}
-use Rattle.pas_steps.specs.Lists.{Whole, part}
-use Rattle.pas_steps.specs.Views.{View}
+use Rattle.pas_steps.specs.{Desks.Standing, Lists.Whole, Lists.part, Views.View}
 use Rattle.pas_steps.proofs.Parts.{part_of_others}
 use Rattle.pas_trace.specs.Acts.{Act, Operates, Guards, Settles, act_kept}
 use Rattle.pas_trace.specs.Asked.{of_task, request_in, keeper_of, keeper_in}
 use Rattle.pas_trace.specs.Reasons.{cost_of_size}
-use Rattle.pas_trace.specs.declared.item.Request.{Request}
-use Rattle.pas_trace.specs.declared.plan.Op.{Op}
-use Rattle.pas_trace.specs.declared.plan.Task.{Task}
-use Rattle.pas_trace.specs.declared.plan.What.{What}
-use Rattle.pas_trace.specs.declared.plan.Work.{Work}
+use Rattle.pas_trace.specs.declared.{item.Request.Request, plan.Op.Op, plan.Task.Task, plan.What.What, plan.Work.Work}
 use Rattle.pas_report.specs.Rooms.{records_in, room_of, Records}
 use Rattle.pas_report.specs.declared.record.Record.{Record}
 use Rattle.pas_cache.specs.Caches.{Cached}
@@ -25,20 +17,16 @@ use Rattle.pas_guard.specs.declared.book.GuardBook.{GuardBook}
 use Rattle.pas_answers.specs.Answers.{Named, Books, Progress, settled, after_settling}
 use Rattle.pas_answers.specs.Calls.{what_of, MayStand, IsKnown, IsMeant, named_by, named_with, owed_events}
 use Rattle.pas_answers.specs.Fit.{IsFitWhat, cost_of_what, own_cost_of, own_cost_of_act, own_costs_of}
-use Rattle.pas_answers.specs.Guarding.{after_trying, after_giving}
-use Rattle.pas_answers.specs.Keeping.{owed_by_keeper, cost_of_try}
-use Rattle.pas_answers.specs.Ways.{is_of, AreSpoken, EachOf, records_by}
-use Rattle.pas_answers.proofs.Kept.{task_of}
-use Rattle.pas_answers.proofs.OwnRecords.{all_by, none_by, records_both}
-use Rattle.pas_answers.proofs.SingleActs.{its_cache}
+use Rattle.pas_answers.specs.{Guarding.after_trying, Guarding.after_giving, Keeping.owed_by_keeper, Keeping.cost_of_try, Ways.is_of, Ways.EachOf}
+use Rattle.pas_answers.specs.{Ways.records_by}
+use Rattle.pas_answers.proofs.{Kept.task_of, OwnRecords.all_by, OwnRecords.none_by, OwnRecords.records_both, SingleActs.its_cache}
 use Rattle.pas_acts.specs.AtDesks.{Here, here, and_for, MayOperate, ThreadActs}
 use Rattle.pas_acts.specs.Keepers.{KeeperHas, LaterKept, KeeperAt, KeeperTries, Keeping, NoKeeper, OneKeeper, StandsAt, StandsStill, HasStill, KeptStands}
-use Rattle.pas_acts.specs.Pairs.{head_acts, MayTryTask, TriesTask, for_request, for_guard, for_guards, IsTriedBy, IsUnguarded, KeeperWaits, IsOfTwo, EachOfTwo, KeptPushed, KeptStill, owed_of, PairActs}
-use Rattle.pas_acts.specs.Turns.{RestsAt}
-use Rattle.pas_acts.specs.Works.{Later}
-use Rattle.pas_acts.proofs.Alone.{rests_still, stands_at}
-use Rattle.pas_acts.proofs.AtDesk.{own_cost, rests_for, settled_rest}
-use Rattle.pas_acts.proofs.Keeping.{keeper_still, guarded_by_keeper, guarded_by_thread}
+use Rattle.pas_acts.specs.Pairs.{head_acts, MayTryTask, TriesTask, for_request, for_guard, for_guards, IsTriedBy, IsUnguarded, KeeperWaits, IsOfTwo, EachOfTwo}
+use Rattle.pas_acts.specs.Pairs.{KeptPushed, KeptStill, owed_of, PairActs}
+use Rattle.pas_acts.specs.{Turns.RestsAt, Works.Later}
+use Rattle.pas_acts.proofs.{Alone.rests_still, Alone.stands_at, AtDesk.own_cost, AtDesk.rests_for, AtDesk.settled_rest, Keeping.keeper_still}
+use Rattle.pas_acts.proofs.{Keeping.guarded_by_keeper, Keeping.guarded_by_thread}
 
 -- ---- records of two actors
 of_one : (j k : ℕ) (rs : List Record) → EachOf j rs → EachOfTwo j k rs
@@ -49,36 +37,6 @@ of_other j k rs each = all_map (λ r. (n : ℕ) → is_of n r ≡ (k == n)) (IsO
 
 pub two_both : (j k : ℕ) (xs ys : List Record) → EachOfTwo j k xs → EachOfTwo j k ys → EachOfTwo j k (xs ++ ys)
 two_both j k xs ys a b = all_both (IsOfTwo j k) xs ys a b
-
--- none is a mark
-pub two_spoken : (j k : ℕ) (rs : List Record) → EachOfTwo j k rs → AreSpoken rs
-two_spoken j k rs each = all_map (IsOfTwo j k) (λ r. (n : ℕ) × (is_of n r ≡ true)) rs
-    (λ r of. elim of [ inl is ↦ (j, is j ∙ eq-eqb j j refl) | inr is ↦ (k, is k ∙ eq-eqb k k refl) ]) each
-
--- none is another's
-pub two_none : (j k n : ℕ) (rs : List Record) → j ≢ n → k ≢ n → EachOfTwo j k rs → records_by n rs ≡ []
-two_none j k n [] one two each = refl
-two_none j k n (r ∷ rs) one two each =
-    let away : is_of n r ≡ false = elim each.0 [ inl is ↦ is n ∙ ne_eqb j n one | inr is ↦ is n ∙ ne_eqb k n two ] in
-    ap (λ (t : Bool). if t then r ∷ records_by n rs else records_by n rs) away ∙ two_none j k n rs one two each.1
-
--- each is one's or the other's
-either_one : (s t : Bool) (r : Record) (xs ys : List Record) (n : ℕ) → (s ≡ true) × (t ≡ false) ⊎ (s ≡ false) × (t ≡ true) → n ≡ length xs + length ys → n + 1 ≡ length (if s then r ∷ xs else xs) + length (if t then r ∷ ys else ys)
-either_one true false r xs ys n one count = omega (arith, count)
-either_one false true r xs ys n one count = omega (arith, count)
-either_one true true r xs ys n one count = elim one [ inl is ↦ absurd (let bad : true ≡ false = is.1 in cc) | inr is ↦ absurd (let bad : true ≡ false = is.0 in cc) ]
-either_one false false r xs ys n one count = elim one [ inl is ↦ absurd (let bad : false ≡ true = is.0 in cc) | inr is ↦ absurd (let bad : false ≡ true = is.1 in cc) ]
-
-pub two_count : (j k : ℕ) (rs : List Record) → j ≢ k → EachOfTwo j k rs → length rs ≡ length (records_by j rs) + length (records_by k rs)
-two_count j k [] apart each = omega arith
-two_count j k (r ∷ rs) apart each =
-    let rest = two_count j k rs apart each.1 in
-    let here : (is_of j r ≡ true) × (is_of k r ≡ false) ⊎ (is_of j r ≡ false) × (is_of k r ≡ true) = elim each.0 [
-      | inl is ↦ inl (is j ∙ eq-eqb j j refl, is k ∙ ne_eqb j k apart)
-      | inr is ↦ inr (is j ∙ ne_eqb k j (λ e. apart (sym e)), is k ∙ eq-eqb k k refl)
-    ] in
-    let one = either_one (is_of j r) (is_of k r) r (records_by j rs) (records_by k rs) (length rs) here rest in
-    omega (arith, one)
 
 -- ---- what an operation's first act asks and costs, whether it is guarded or not
 pub kept_cost : (k : ℕ) (o : Option ℕ) (op : Op) → own_cost_of_act k (act_kept o op) ≡ own_cost_of k (Some op)
@@ -123,7 +81,7 @@ owes_same f (OneKeeper old) NoKeeper l m v stands = absurd stands
 owes_same f (OneKeeper old) (OneKeeper new) l m v stands = ap (λ (b : GuardBook). owed_by_keeper f (guards_in b) v) stands.book
 
 -- an act of the thread alone
-pub alone_acts : {f : Profile} {k : ℕ} {acts : List Act} {came : List Named} {old new : Here} {later : Later} {p : Progress} (keeper : ℕ) (kept kept' : Keeping) (more : LaterKept) → k ≢ keeper → KeeperWaits f keeper [] kept more p
+alone_acts : {f : Profile} {k : ℕ} {acts : List Act} {came : List Named} {old new : Here} {later : Later} {p : Progress} (keeper : ℕ) (kept kept' : Keeping) (more : LaterKept) → k ≢ keeper → KeeperWaits f keeper [] kept more p
     → (did : ThreadActs f k acts came [] old new later p) → KeptStands kept kept' p.list did.reached.list → PairActs f k keeper acts came old new kept kept' later more p
 alone_acts {f} {k} {acts} {came} {old} {new} {later} {p} keeper kept kept' more apart waits did stands =
     let parts : part keeper did.reached.list ≡ part keeper p.list = ap (λ (l : Whole). part keeper l) did.moves.list_is ∙ part_of_others keeper k did.moves.steps p.list apart in
@@ -169,7 +127,7 @@ module _ {f : Profile} {keeper : ℕ} {r : Request} {block : Option Block} {h h'
   of_guard {came} {old} {new} {h''} {later} acts = subst (λ (o : Option ℕ). PairActs f k keeper (act_kept o op ∷ (Settles k ∷ [])) came old new (OneKeeper h) (OneKeeper h'') later more p) (sym kept) acts
 
   -- The keeper gave a block. Of the thread only the runs that its cache noted are handed on.
-  pub given_acts : {σ σ' : Standing} {c c' : Cached} {out : Records} {later : Later} (b : Block) → block ≡ Some b → cost_of_what op.what ≡ cost_of_size r.size + 2 → StandsStill σ σ' p.list after.list → RestsAt f k σ c out (and_for (cost_of_what op.what) later) p → c' ≡ settled c
+  given_acts : {σ σ' : Standing} {c c' : Cached} {out : Records} {later : Later} (b : Block) → block ≡ Some b → cost_of_what op.what ≡ cost_of_size r.size + 2 → StandsStill σ σ' p.list after.list → RestsAt f k σ c out (and_for (cost_of_what op.what) later) p → c' ≡ settled c
       → PairActs f k keeper (head_acts op) (named_by op.what (Some b)) (here σ c out) (here σ' c' out) (OneKeeper h) (OneKeeper h') later more p
   given_acts {σ} {σ'} {c} {c'} {out} {later} b given cost stays at done =
       let midway = after_giving after r.name b in
@@ -203,7 +161,7 @@ module _ {f : Profile} {keeper : ℕ} {r : Request} {block : Option Block} {h h'
       }
 
   -- It gave none. The thread makes the request from there on.
-  pub left_acts : {σ σ' : Standing} {c : Cached} {out : Records} {new : Here} {h'' : KeeperHas} {later : Later} (came : Option Block) → block ≡ None → (did : ThreadActs f k (Operates op ∷ (Settles k ∷ [])) (named_by op.what came) [] (here σ' c out) new later after)
+  left_acts : {σ σ' : Standing} {c : Cached} {out : Records} {new : Here} {h'' : KeeperHas} {later : Later} (came : Option Block) → block ≡ None → (did : ThreadActs f k (Operates op ∷ (Settles k ∷ [])) (named_by op.what came) [] (here σ' c out) new later after)
       → HasStill h' h'' after.list did.reached.list → PairActs f k keeper (head_acts op) (named_by op.what came) (here σ c out) new (OneKeeper h) (OneKeeper h'') later more p
   left_acts {σ} {σ'} {c} {out} {new} {h''} {later} came none did still =
       let parts : part keeper did.reached.list ≡ part keeper after.list = ap (λ (l : Whole). part keeper l) did.moves.list_is ∙ part_of_others keeper k did.moves.steps after.list apart in
@@ -212,7 +170,6 @@ module _ {f : Profile} {keeper : ℕ} {r : Request} {block : Option Block} {h h'
       let both = length-append told did.own in
       let pays = ap (λ (o : Option Block). cost_of_try r.size o) none in
       let paid = tries.paid in
-      let own_paid = did.paid in
       of_guard record {
         reached = did.reached;
         reaches = (did.reaches.0, guarded_by_thread f keeper op r p did.reaches.0 tries.tried asks tries.is (tries.block_is ∙ none) did.reaches.1, did.reaches.2);
@@ -232,7 +189,7 @@ module _ {f : Profile} {keeper : ℕ} {r : Request} {block : Option Block} {h h'
         still = tt;
         each = two_both k keeper told did.own (of_other k keeper told tries.each) (of_one k keeper did.own did.each);
         names = did.names;
-        paid = omega (arith, paid, own_paid, pays, owed, mine, both);
+        paid = omega (arith, paid, did.paid, pays, owed, mine, both);
       }
 
 -- ---- by the task

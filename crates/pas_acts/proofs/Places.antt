@@ -1,19 +1,13 @@
 -- What the names stand for to a thread, by the places of its requests.
-use Rattle.std.proofs.Common.{◌≡◌, ℕ, zero, suc, ◌+◌, ◌<◌, ◌≤◌, ◌==◌, Bool, true, false, if◌then◌else◌, inl, inr, List, [], ◌∷◌, ◌++◌, map, get_or, length, Option, Some, None, refl, ap, sym, ◌∙◌, subst, arith, append_assoc}
-use Rattle.std.proofs.lemmas.List.{append-nil}
-use Rattle.std.proofs.lemmas.Bool.{ne_eqb, eq-eqb, cases_eq, false≢true}
-use Rattle.pas_profile.specs.declared.name.Block.{Block}
-use Rattle.pas_profile.specs.declared.profile.Profile.{Profile}
-use Rattle.pas_trace.specs.declared.plan.What.{What}
-use Rattle.pas_trace.specs.declared.plan.What.TheVariants.{Alloc, Guarded, Remake}
-use Rattle.pas_trace.specs.declared.plan.Op.{Op}
+use Rattle.std.proofs.Common.{◌≡◌, ℕ, zero, suc, ◌+◌, ◌<◌, ◌≤◌, ◌==◌, Bool, true, false, if◌then◌else◌, inl, inr, List, [], ◌∷◌, ◌++◌, map, get_or, length}
+use Rattle.std.proofs.Common.{Option, Some, None, refl, ap, sym, ◌∙◌, subst, arith, append_assoc, append-nil, ne_eqb, eq-eqb}
+use Rattle.std.proofs.lemmas.Bool.{cases_eq, false≢true}
+use Rattle.pas_profile.specs.declared.{name.Block.Block, profile.Profile.Profile}
+use Rattle.pas_trace.specs.declared.plan.{What.What, What.TheVariants.Alloc, What.TheVariants.Guarded, What.TheVariants.Remake, Op.Op}
 use Rattle.pas_trace.specs.Acts.{Act, act_kept}
-use Rattle.pas_answers.specs.Answers.{Named, named, standing_for}
-use Rattle.pas_answers.specs.Calls.{block_behind, MayStand, named_by}
+use Rattle.pas_answers.specs.{Answers.Named, Answers.named, Answers.standing_for, Calls.block_behind, Calls.MayStand, Calls.named_by, Names.block_in}
 use Rattle.pas_acts.specs.NameBooks.{name_asked, name_asked_by, names_asked, names_of, place_in, ArePlaced, request_at, named_of, came_to}
-use Rattle.pas_acts.specs.declared.names.Request.{Request}
-use Rattle.pas_answers.specs.Names.{block_in}
-use Rattle.pas_acts.specs.declared.names.NameBook.{NameBook}
+use Rattle.pas_acts.specs.declared.names.{Request.Request, NameBook.NameBook}
 
 -- ---- names in order
 abbrev or_else : Option (Option Block) → Option (Option Block) → Option (Option Block)
@@ -67,13 +61,13 @@ skip : (r : Named) (rs : List Named) (n : ℕ) → (r.name ≡ n → ⊥) → st
 skip r rs n other = ap (λ (t : Bool). if t then Some r.block else standing_for rs n) (ne_eqb r.name n other)
 
 -- a name whose place comes after those of the requests is of none of them, nor one whose place comes before
-pub past_none : (book : NameBook) (i : ℕ) (rs : List Named) (n : ℕ) → ArePlaced book i (names_of rs) → i + length rs ≤ place_in book n → standing_for rs n ≡ None
+past_none : (book : NameBook) (i : ℕ) (rs : List Named) (n : ℕ) → ArePlaced book i (names_of rs) → i + length rs ≤ place_in book n → standing_for rs n ≡ None
 past_none book i [] n placed le = refl
 past_none book i (r ∷ rs) n placed le =
     let here = placed.0 in
     skip r rs n (λ is. let same = ap (λ (m : ℕ). place_in book m) is in omega (arith, here, same, le)) ∙ past_none book (i + 1) rs n placed.1 (omega (arith, le))
 
-pub before_none : (book : NameBook) (i : ℕ) (rs : List Named) (n : ℕ) → ArePlaced book i (names_of rs) → place_in book n < i → standing_for rs n ≡ None
+before_none : (book : NameBook) (i : ℕ) (rs : List Named) (n : ℕ) → ArePlaced book i (names_of rs) → place_in book n < i → standing_for rs n ≡ None
 before_none book i [] n placed lt = refl
 before_none book i (r ∷ rs) n placed lt =
     let here = placed.0 in
@@ -88,7 +82,7 @@ at_place book i (r ∷ rs) n (suc j) placed is =
     skip r rs n (λ same. let there = ap (λ (m : ℕ). place_in book m) same in omega (arith, here, there, is)) ∙ at_place book (i + 1) rs n j placed.1 (omega (arith, is))
 
 -- the request at a place of the room
-pub at_index : (items : List Request) (i n : ℕ) (d : Request) → i < length items → request_at (map named_of items) i n ≡ (if (get_or items i d).name == n then Some (block_in (get_or items i d).meaning) else None)
+at_index : (items : List Request) (i n : ℕ) (d : Request) → i < length items → request_at (map named_of items) i n ≡ (if (get_or items i d).name == n then Some (block_in (get_or items i d).meaning) else None)
 at_index [] i n d lt = absurd (omega (arith, lt))
 at_index (r ∷ items) zero n d lt = refl
 at_index (r ∷ items) (suc i) n d lt = at_index items i n d (omega (arith, lt))
@@ -121,10 +115,9 @@ not_yet : (book : NameBook) (rs : List Named) (ms : List ℕ) (name n : ℕ) →
 not_yet book rs ms name n placed is = elim (cases_eq name n) [
   | inl same ↦
       let both = placed_both book 0 (names_of rs) (name ∷ ms) placed in
-      let here = both.1.0 in
       let count = names_count rs in
       let place = ap (λ (m : ℕ). place_in book m) same in
-      past_none book 0 rs n both.0 (omega (arith, here, count, place))
+      past_none book 0 rs n both.0 (omega (arith, both.1.0, count, place))
   | inr other ↦ absurd (false≢true (sym (ne_eqb name n other) ∙ is))
 ]
 

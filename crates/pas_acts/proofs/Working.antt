@@ -1,37 +1,26 @@
 -- The operations of one thread in a phase, one after the other.
-use Rattle.std.proofs.Common.{Option, None, Some, ◌≡◌, ℕ, ◌+◌, ◌<◌, ◌≤◌, Bool, if◌then◌else◌, List, [], ◌∷◌, ◌++◌, length, drop, get_or, refl, ap, sym, ◌∙◌, subst, arith, length-append, append_assoc, drop_of_length-le}
-use Rattle.std.proofs.lemmas.List.{append-nil, drop_more}
-use Rattle.std.proofs.lemmas.Bool.{eq-eqb, ne_eqb}
-use Rattle.pas_profile.specs.declared.profile.Profile.{Profile}
-use Rattle.pas_profile.specs.declared.name.Block.{Block}
+use Rattle.std.proofs.Common.{Option, None, Some, ◌≡◌, ℕ, ◌+◌, ◌<◌, ◌≤◌, Bool, if◌then◌else◌, List, [], ◌∷◌, ◌++◌, length, drop, get_or, refl, ap, sym, ◌∙◌}
+use Rattle.std.proofs.Common.{subst, arith, length-append, append_assoc, drop_of_length-le, append-nil, eq-eqb, ne_eqb}
+use Rattle.std.proofs.lemmas.List.{drop_more}
+use Rattle.pas_profile.specs.declared.{profile.Profile.Profile, name.Block.Block}
 use Rattle.pas_steps.specs.Desks.{Standing}
-use Rattle.pas_trace.specs.Asked.{keeper_in}
-use Rattle.pas_trace.specs.EveryPlan.{asked_after}
-use Rattle.pas_trace.specs.declared.plan.Op.{Op}
-use Rattle.pas_trace.specs.declared.plan.What.{What}
-use Rattle.pas_trace.specs.declared.plan.Chore.{Chore}
-use Rattle.pas_trace.specs.declared.plan.Work.{Work}
+use Rattle.pas_trace.specs.{Asked.keeper_in, EveryPlan.asked_after}
+use Rattle.pas_trace.specs.declared.plan.{Op.Op, What.What, Chore.Chore, Work.Work}
 use Rattle.pas_report.specs.Rooms.{records_in, Records}
 use Rattle.pas_report.specs.declared.record.Record.{Record}
 use Rattle.pas_cache.specs.Caches.{Cached}
 use Rattle.pas_trace.specs.Acts.{Act, Settles, act_kept, own_acts}
-use Rattle.pas_answers.specs.Answers.{Progress, Named}
+use Rattle.pas_answers.specs.{Answers.Progress, Answers.Named, Names.block_named, Names.names_held, Ways.records_by}
 use Rattle.pas_answers.specs.Calls.{MayStand, IsMeant, named_by, freed_by}
 use Rattle.pas_answers.specs.Fit.{IsFitWork, IsFitWhat, AreFit, cost_of_what, own_cost_of_act, own_costs_of}
-use Rattle.pas_answers.specs.Names.{block_named, names_held}
-use Rattle.pas_answers.specs.Ways.{records_by}
-use Rattle.pas_answers.proofs.KnownNames.{known_more}
-use Rattle.pas_answers.proofs.Kept.{meant_by, meant_stands}
-use Rattle.pas_answers.proofs.OwnRecords.{records_both}
-use Rattle.pas_answers.proofs.Reached.{reach_both}
-use Rattle.pas_answers.proofs.SingleActs.{known_if, sum_both}
+use Rattle.pas_answers.proofs.{KnownNames.known_more, Kept.meant_by, Kept.meant_stands, OwnRecords.records_both, Reached.reach_both, SingleActs.known_if}
+use Rattle.pas_answers.proofs.{SingleActs.sum_both}
 use Rattle.pas_acts.specs.NameBooks.{Table, requests_in, room_for, names_of, name_asked, names_asked, ArePlaced, known_in}
 use Rattle.pas_acts.specs.declared.names.NameBook.{NameBook}
 use Rattle.pas_acts.specs.Keepers.{LaterKept, Keeping, NoKeeper, OneKeeper}
 use Rattle.pas_acts.specs.Pairs.{head_acts, for_guards, KeeperWaits, KeptPushed, KeptStill, PairActs, PairAt, PairWorks}
 use Rattle.pas_acts.specs.Works.{Later, Keeps, keeps, KnowsNames, ThreadAt}
-use Rattle.pas_acts.specs.Turns.{RestsAt}
-use Rattle.pas_acts.specs.AtDesks.{here, and_for, MayOperate}
+use Rattle.pas_acts.specs.{Turns.RestsAt, AtDesks.here, AtDesks.and_for, AtDesks.MayOperate}
 use Rattle.pas_acts.proofs.AtDesk.{sits_for}
 use Rattle.pas_acts.proofs.Pairing.{head_cost, kept_same, nothing_kept, nobody_still, two_both}
 use Rattle.pas_acts.proofs.Places.{names_both, names_count, asked_both, kept_asks, names_named, placed_both, tells_more, stand_more}
@@ -96,11 +85,10 @@ asks_now op next = ap (λ (ns : List ℕ). ns ++ names_asked next) (kept_asks (k
 pub room_now : {f : Profile} {next : List Act} {known : Table} {names : List Named} {what : What} (op : Op) → op.what ≡ what → KnowsNames f (head_acts op ++ next) known names
     → length (requests_in known.requests) + length (name_asked what) ≤ room_for known.requests
 room_now {f} {next} op asks knows =
-    let room = knows.room in
     let now = ap (λ (ns : List ℕ). length ns) (asks_now op next) in
     let both = length-append (name_asked op.what) (names_asked next) in
     let same = ap (λ (w : What). length (name_asked w)) asks in
-    omega (arith, room, now, both, same)
+    omega (arith, knows.room, now, both, same)
 
 -- ---- after an operation
 -- what the thread knows after it: the name that the operation asked for is its last request
@@ -124,7 +112,6 @@ knows_more {f} {next} {known} {known'} {came} {names} op knows kept stands =
     let same = names_kept what kept in
     let room = knows.room in
     let now = ap (λ (ns : List ℕ). length ns) asks in
-    let room' = kept.room in
     let count = names_count rs in
     let count' = names_count rs' in
     let grown = ap (λ (ns : List ℕ). length ns) same ∙ length-append (names_of rs) (name_asked what) in
@@ -136,7 +123,7 @@ knows_more {f} {next} {known} {known'} {came} {names} op knows kept stands =
       stand = λ n. stand_more f rs rs' what came n (block_named known.book.names n) kept.requests stands (knows.stand n);
       known = known_more what came knows.asked names knows.known;
       placed = subst (λ (ns : List ℕ). ArePlaced known.book 0 ns) (sym (ap (λ (ns : List ℕ). ns ++ names_asked next) same ∙ append_assoc (names_of rs) (name_asked what) (names_asked next))) placed;
-      room = omega (arith, room, room', now, count, count', grown, both);
+      room = omega (arith, room, kept.room, now, count, count', grown, both);
     }
 
 -- the keeper waits for what comes next
@@ -194,8 +181,6 @@ works_both : {f : Profile} {k keeper : ℕ} {xs ys mid next : List Act} {σ0 σ 
 works_both {f} {k} {keeper} {xs} {ys} {mid} {next} {σ0} {σ} {σ'} {h0} {h} {h'} {k0} {k1} {k2} {later} {more} {p} one two =
     let count = length-append one.said two.said in
     let cost = sum_both (own_cost_of_act k) xs ys in
-    let first = one.paid in
-    let second = two.paid in
     record {
       reached = two.reached;
       reaches = reach_both f xs ys p one.reached two.reached one.reaches two.reaches;
@@ -212,7 +197,7 @@ works_both {f} {k} {keeper} {xs} {ys} {mid} {next} {σ0} {σ} {σ'} {h0} {h} {h'
       noted = two.noted ∙ ap (λ (ns : List ℕ). ns ++ names_asked ys) one.noted ∙ append_assoc (names_of (requests_in h0.table.requests)) (names_asked xs) (names_asked ys)
           ∙ ap (λ (ns : List ℕ). names_of (requests_in h0.table.requests) ++ ns) (sym (asked_both xs ys));
       room_noted = two.room_noted ∙ one.room_noted;
-      paid = omega (arith, count, cost, first, second);
+      paid = omega (arith, count, cost, one.paid, two.paid);
     }
 
 works_none : {f : Profile} {k keeper : ℕ} {acts : List Act} {σ : Standing} {has : Keeps} (kept : Keeping) {later : Later} {more : LaterKept} {p : Progress} → PairAt f k keeper acts σ has kept later more p → PairWorks f k keeper [] acts σ σ has has kept kept later more p

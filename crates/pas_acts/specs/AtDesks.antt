@@ -1,27 +1,17 @@
 -- What one actor does for acts of its own at its desk, whatever stands beside it: in the order of the text others have their turns there, on threads they
 -- sit elsewhere. What a name stands for is no table here: an operation is told what the freed or reallocated name means, and tells what the asked one came to.
 use Rattle.std.specs.Prelude.{ℕ, ◌+◌, ◌≤◌, ◌≡◌, ◌≢◌, Bool, true, false, List, [], ◌∷◌, ◌++◌, length, Option}
-use Rattle.pas_profile.specs.declared.profile.Profile.{Profile}
-use Rattle.pas_profile.specs.declared.name.Block.{Block}
-use Rattle.pas_steps.specs.Clear.{HasNothing}
-use Rattle.pas_steps.specs.Desks.{Standing}
-use Rattle.pas_steps.specs.Lists.{part}
-use Rattle.pas_trace.specs.declared.plan.What.{What}
+use Rattle.pas_profile.specs.declared.{profile.Profile.Profile, name.Block.Block, event.Range.Range}
+use Rattle.pas_steps.specs.{Clear.HasNothing, Desks.Standing, Lists.part}
+use Rattle.pas_trace.specs.declared.plan.{What.What, Op.Op}
 use Rattle.pas_report.specs.Rooms.{records_in, room_of, Records}
 use Rattle.pas_report.specs.declared.record.Record.{Record}
-use Rattle.pas_cache.specs.Caches.{Cached, AtRest}
-use Rattle.pas_profile.specs.declared.event.Range.{Range}
-use Rattle.pas_cache.specs.Calls.{SettlesEach}
-use Rattle.pas_trace.specs.declared.plan.Op.{Op}
+use Rattle.pas_cache.specs.{Caches.Cached, Caches.AtRest, Calls.SettlesEach}
 use Rattle.pas_trace.specs.Acts.{Act, Operates, Settles}
-use Rattle.pas_answers.specs.Indexes.{request_by, IsNamedFor}
-use Rattle.pas_answers.specs.Answers.{Named, Progress, stopped}
+use Rattle.pas_answers.specs.{Indexes.request_by, Indexes.IsNamedFor, Answers.Named, Answers.Progress, Answers.stopped, Reaching.Reaches, Ways.EachOf}
 use Rattle.pas_answers.specs.Calls.{MayStand, IsKnown, IsMeant, owed_events}
 use Rattle.pas_answers.specs.Fit.{IsFitWhat, cost_of_what, cost_of_act, own_costs_of, unbacks_of_act}
-use Rattle.pas_answers.specs.Reaching.{Reaches}
-use Rattle.pas_answers.specs.Ways.{EachOf}
-use Rattle.pas_acts.specs.Works.{Later, Sits}
-use Rattle.pas_acts.specs.Turns.{RestsAt, Moves, Says}
+use Rattle.pas_acts.specs.{Works.Later, Works.Sits, Turns.RestsAt, Turns.Moves, Turns.Says}
 
 -- ---- a thread
 -- what a thread has in hand: its desk, its cache and its records

@@ -2,30 +2,19 @@
 use Rattle.std.specs.Prelude.{ℕ, ◌+◌, ◌<◌, ◌≤◌, ◌≡◌, ◌≢◌, ◌==◌, ◌⊎◌, List, [], ◌∷◌, ◌++◌, length, Option, None, Some}
 use Rattle.std.specs.List.{AllByRecursion}
 use Rattle.pas_profile.specs.Profiles.{IsAdmitted}
-use Rattle.pas_profile.specs.declared.name.Block.{Block}
-use Rattle.pas_profile.specs.declared.profile.Profile.{Profile}
-use Rattle.pas_steps.specs.Desks.{Standing}
-use Rattle.pas_steps.specs.Lists.{part}
-use Rattle.pas_steps.specs.Views.{View}
+use Rattle.pas_profile.specs.declared.{name.Block.Block, profile.Profile.Profile}
+use Rattle.pas_steps.specs.{Desks.Standing, Lists.part, Views.View}
 use Rattle.pas_trace.specs.Acts.{Act, Guards, Settles, act_kept}
 use Rattle.pas_trace.specs.Asked.{request_in, keeper_in}
-use Rattle.pas_trace.specs.declared.item.Request.{Request}
-use Rattle.pas_trace.specs.declared.plan.Op.{Op}
-use Rattle.pas_trace.specs.declared.plan.Task.{Task}
+use Rattle.pas_trace.specs.declared.{item.Request.Request, plan.Op.Op, plan.Task.Task}
 use Rattle.pas_report.specs.Rooms.{records_in, room_of}
 use Rattle.pas_report.specs.declared.record.Record.{Record}
 use Rattle.pas_guard.specs.Books.{guards_in, size_of_book}
-use Rattle.pas_answers.specs.Answers.{Named, Progress}
-use Rattle.pas_answers.specs.Calls.{owed_events}
-use Rattle.pas_answers.specs.Fit.{own_costs_of}
-use Rattle.pas_answers.specs.Keeping.{owed_by_keeper}
-use Rattle.pas_answers.specs.Reaching.{Reaches}
-use Rattle.pas_answers.specs.Ways.{is_of, records_by}
-use Rattle.pas_acts.specs.AtDesks.{Here}
+use Rattle.pas_answers.specs.{Answers.Named, Answers.Progress, Calls.owed_events, Fit.own_costs_of, Keeping.owed_by_keeper, Reaching.Reaches, Ways.is_of}
+use Rattle.pas_answers.specs.{Ways.records_by}
+use Rattle.pas_acts.specs.{AtDesks.Here, Turns.RestsAt, Works.Later, Works.Keeps, Works.ThreadAt}
 use Rattle.pas_acts.specs.Keepers.{LaterKept, and_try, KeeperAt, Keeping, NoKeeper, OneKeeper, MayTryAt, TriesAt}
 use Rattle.pas_acts.specs.NameBooks.{requests_in, room_for, names_of, names_asked}
-use Rattle.pas_acts.specs.Turns.{RestsAt}
-use Rattle.pas_acts.specs.Works.{Later, Keeps, ThreadAt}
 
 -- the acts of a thread's operation
 abbrev pub head_acts : Op → List Act

@@ -1,17 +1,12 @@
 -- An actor at its desk, before its acts and after them.
 use Rattle.std.specs.Prelude.{ℕ, ◌+◌, ◌≤◌, ◌≡◌, ◌≢◌, List, ◌++◌, length}
 use Rattle.pas_profile.specs.declared.profile.Profile.{Profile}
-use Rattle.pas_steps.specs.Calls.{Calls}
-use Rattle.pas_steps.specs.Desks.{Standing, triples}
-use Rattle.pas_steps.specs.Lists.{part}
-use Rattle.pas_steps.specs.Views.{View}
+use Rattle.pas_steps.specs.{Calls.Calls, Desks.Standing, Desks.triples, Lists.part, Views.View}
 use Rattle.pas_steps.specs.declared.step.Made.{Made}
 use Rattle.pas_report.specs.Rooms.{records_in, room_of, Records}
 use Rattle.pas_report.specs.declared.record.Record.{Record}
 use Rattle.pas_cache.specs.Caches.{Cached, AtRest}
-use Rattle.pas_answers.specs.Answers.{Progress}
-use Rattle.pas_answers.specs.Calls.{owed_events}
-use Rattle.pas_answers.specs.Ways.{EachOf}
+use Rattle.pas_answers.specs.{Answers.Progress, Calls.owed_events, Ways.EachOf}
 use Rattle.pas_acts.specs.Works.{Later, Sits}
 
 -- Thread k sits at the desk with this cache and these records, where the replay came as far as p. There is room for the events and the records that it owes,

@@ -5,11 +5,9 @@ ghost use Rattle.pas_cache.specs.Caches.{cached};
 ghost use Rattle.pas_report.specs.Rooms.{Records as TheRecords};
 ghost use Rattle.pas_utility.specs.Outcomes.{places_of};
 ghost use Rattle.pas_trace.specs.Acts.{Operates, Settles, StopsIdle, Ticks, MakesPass, ReadsEpoch};
-ghost use Rattle.pas_answers.specs.Answers.{Progress};
-ghost use Rattle.pas_answers.specs.Calls.{what_of, MayStand, named_by};
+ghost use Rattle.pas_answers.specs.{Answers.Progress, Calls.what_of, Calls.MayStand, Calls.named_by};
 ghost use Rattle.pas_trace.specs.declared.plan.Op.{Op as TheOp};
-ghost use Rattle.pas_acts.specs.Works.{Later};
-ghost use Rattle.pas_acts.specs.Turns.{RestsAt};
+ghost use Rattle.pas_acts.specs.{Works.Later, Turns.RestsAt};
 ghost use Rattle.pas_acts.specs.AtDesks.{here, told_if, MayOperate, GoesThrough, ThreadActs, for_act, HasRoomAt, ScavengerActs};
 
 use pas_answers::{Remake, answer_meant, answer_stop, is_idle_for};

@@ -2,13 +2,10 @@
 ghost use Rattle.std.specs.Prelude.{◌≡◌, ◌≢◌, ◌+◌, ◌<◌, ◌≤◌, ◌^◌, ◌++◌, ℕ, List, [], None, length, option_and_then};
 ghost use Rattle.pas_profile.specs.declared.profile.Profile.{Profile as TheProfile};
 ghost use Rattle.pas_cache.specs.Caches.{cached};
-ghost use Rattle.pas_trace.specs.Asked.{request_of, freed_of, keeper_of};
-ghost use Rattle.pas_trace.specs.Acts.{Act, own_acts};
-ghost use Rattle.pas_answers.specs.Answers.{Progress};
-ghost use Rattle.pas_answers.specs.Calls.{what_of, named_with};
+ghost use Rattle.pas_trace.specs.{Asked.request_of, Asked.freed_of, Asked.keeper_of, Acts.Act, Acts.own_acts};
+ghost use Rattle.pas_answers.specs.{Answers.Progress, Calls.what_of, Calls.named_with};
 ghost use Rattle.pas_acts.specs.NameBooks.{requests_in, room_for, names_of, name_asked, ArePlaced, known_in, table};
-ghost use Rattle.pas_acts.specs.Works.{keeps, Later};
-ghost use Rattle.pas_acts.specs.Keepers.{LaterKept, StandsAt};
+ghost use Rattle.pas_acts.specs.{Works.keeps, Works.Later, Keepers.LaterKept, Keepers.StandsAt};
 ghost use Rattle.pas_acts.specs.Pairs.{head_acts, MayTryTask, TriesTask, PairAt, PairWorks};
 
 use crate::at_desk;

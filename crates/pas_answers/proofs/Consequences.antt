@@ -1,54 +1,34 @@
 -- What follows once the acts of a plan were answered by a legal list, at whose end all actors have nothing.
-use Rattle.std.proofs.Common.{◌≡◌, ℕ, ◌==◌, Bool, true, false, if◌then◌else◌, max, inl, inr, List, [], ◌∷◌, ◌++◌, Option, Some, None, refl, sym, subst}
-use Rattle.std.specs.Prelude.{All}
-use Rattle.std.proofs.lemmas.Bool.{cases_eq, eq-eqb}
-use Rattle.pas_profile.specs.declared.profile.Profile.{Profile}
-use Rattle.pas_profile.specs.declared.word.Word.{Word}
-use Rattle.pas_steps.specs.Views.{View}
-use Rattle.pas_steps.specs.Events.{events_by}
-use Rattle.pas_steps.specs.Desks.{made, triples}
-use Rattle.pas_steps.specs.declared.step.Made.{Made}
-use Rattle.pas_steps.specs.declared.step.Step.TheVariants.{Tick}
+use Rattle.std.proofs.Common.{◌≡◌, ℕ, ◌==◌, Bool, true, false, if◌then◌else◌, max, inl, inr, List, [], ◌∷◌, ◌++◌, Option, Some, None, refl, sym, subst, All}
+use Rattle.std.proofs.Common.{eq-eqb}
+use Rattle.std.proofs.lemmas.Bool.{cases_eq}
+use Rattle.pas_profile.specs.declared.{profile.Profile.Profile, word.Word.Word, name.Block.Block}
+use Rattle.pas_steps.specs.{Views.View, Events.events_by, Desks.made, Desks.triples, Clear.HasNothing, Lists.Whole, Lists.part, Lists.Legal}
+use Rattle.pas_steps.specs.declared.step.{Made.Made, Step.TheVariants.Tick}
 use Rattle.pas_steps.proofs.Parts.{part_of_own, part_of_others}
 use Rattle.pas_core.specs.Stamps.{AllStamped, AllKeepToEnds}
-use Rattle.pas_core.proofs.Stamps.{stamps_are_ends}
-use Rattle.pas_report.specs.Lines.{CanShow}
-use Rattle.pas_report.specs.Rests.{AreStamped}
-use Rattle.pas_report.proofs.Showable.{AreOfRegion}
+use Rattle.pas_core.proofs.{Stamps.stamps_are_ends, MachineRuns.runs}
+use Rattle.pas_report.specs.{Lines.CanShow, Rests.AreStamped}
+use Rattle.pas_report.proofs.{Showable.AreOfRegion, TrueMarks.true_marks}
 use Rattle.pas_profile.specs.Profiles.{IsValid}
-use Rattle.pas_steps.specs.Clear.{HasNothing}
-use Rattle.pas_steps.specs.Lists.{Whole, part, Legal}
-use Rattle.pas_core.proofs.MachineRuns.{runs}
-use Rattle.pas_trace.specs.declared.plan.Plan.{Plan}
-use Rattle.pas_report.specs.declared.record.Record.{Record}
-use Rattle.pas_report.specs.declared.record.Said.{Said}
-use Rattle.pas_report.proofs.TrueMarks.{true_marks}
+use Rattle.pas_trace.specs.declared.{plan.Plan.Plan, item.Request.Request, plan.Op.Op}
+use Rattle.pas_report.specs.declared.record.{Record.Record, Said.Said}
 use Rattle.pas_cache.specs.Caches.{Cached}
 use Rattle.pas_scavenger.specs.Passes.{passing}
 use Rattle.pas_passes.specs.Records.{records_of_pass}
 use Rattle.pas_trace.specs.Acts.{Act, Operates, Guards, Settles, Ticks, MakesPass, ReadsEpoch, StopsIdle, MarksPhase, Wakes, MarksClose, Ends, Lowers}
 use Rattle.pas_answers.specs.Answers.{Progress, having, records_of, said_by, stopped, epoch_look, IsStopped, after_stop}
-use Rattle.pas_profile.specs.declared.name.Block.{Block}
 use Rattle.pas_trace.specs.Asked.{request_in}
-use Rattle.pas_trace.specs.declared.item.Request.{Request}
-use Rattle.pas_trace.specs.declared.plan.Op.{Op}
-use Rattle.pas_answers.specs.Guarding.{after_trying}
-use Rattle.pas_answers.specs.Phases.{AreInPhases}
+use Rattle.pas_answers.specs.{Guarding.after_trying, Phases.AreInPhases, Indexes.GoByIndexes, Refusals.AreRefusalsTrue, Fit.AreOfThreads, Rests.RestBetween}
 use Rattle.pas_answers.specs.Reaching.{AnswersOp, AnswersTried, AnswersGuarded, Advances, Reaches}
-use Rattle.pas_answers.specs.Indexes.{GoByIndexes}
-use Rattle.pas_answers.specs.Refusals.{AreRefusalsTrue}
-use Rattle.pas_answers.specs.Fit.{AreOfThreads}
 use Rattle.pas_answers.specs.Replays.{at_start, acts_of_plan, threads_of, keepers_of, phases_of, IsReplay, region_of}
-use Rattle.pas_answers.specs.Rests.{RestBetween}
 use Rattle.pas_answers.specs.Ways.{Way, InOrder, OnThreads, IsOneOrder, arranged}
-use Rattle.pas_answers.proofs.Reached.{was_so, tried_on, pieces_back}
+use Rattle.pas_answers.proofs.{Reached.was_so, Reached.tried_on, Reached.pieces_back, OwnCalls.calls_alone, Requests.known_directory}
 use Rattle.pas_answers.proofs.Keepers.{sweep_tidy, swept_shown, try_tidy, try_shown}
-use Rattle.pas_answers.proofs.OwnCalls.{calls_alone}
 use Rattle.pas_guard.specs.Keepers.{MakesCalls}
 use Rattle.pas_answers.proofs.Parts.{Each, same_parts, legal_part, of_front, of_rest}
 use Rattle.pas_answers.proofs.Shown.{EachShown, each_both, each_arranged, piece_shown, records_shown, pass_shown, all_shown}
 use Rattle.pas_answers.proofs.Tidy.{Tidy, KeptPart, tidy_over, look_tidy, tick_tidy, stop_tidy, answer_tidy}
-use Rattle.pas_answers.proofs.Requests.{known_directory}
 
 -- ---- the whole replay, by the parts of the actors
 -- what steps of the region and their records leave tidy and to be shown

@@ -1,22 +1,12 @@
 -- What frees, flushes and stops promise.
-use Rattle.std.proofs.Common.{◌≡◌, ℕ, ◌+◌, ◌≤◌, ◌++◌, List, [], ◌∷◌, length, Option, Some, None, Result, Ok, Err, inl, inr, refl, ap, sym, ◌∙◌, subst, arith, length-append, nat_le}
-use Rattle.std.specs.Prelude.{MatchResult}
-use Rattle.pas_profile.specs.declared.name.Block.{Block}
-use Rattle.pas_profile.specs.declared.name.Name.{Name}
-use Rattle.pas_profile.specs.declared.profile.Profile.{Profile}
-use Rattle.pas_profile.specs.declared.event.Event.{Event}
-use Rattle.pas_profile.specs.declared.event.FreeFault.{FreeFault}
+use Rattle.std.proofs.Common.{◌≡◌, ℕ, ◌+◌, ◌≤◌, ◌++◌, List, [], ◌∷◌, length, Option, Some, None, Result, Ok, Err, inl, inr, refl, ap, sym, ◌∙◌, subst, arith}
+use Rattle.std.proofs.Common.{length-append, nat_le, MatchResult}
+use Rattle.pas_profile.specs.declared.{name.Block.Block, name.Name.Name, profile.Profile.Profile, event.Event.Event, event.FreeFault.FreeFault}
 use Rattle.pas_steps.specs.declared.step.Made.{Made}
-use Rattle.pas_steps.specs.Views.{View}
-use Rattle.pas_steps.specs.Events.{events_by}
-use Rattle.pas_steps.specs.Agreement.{Agreed}
-use Rattle.pas_steps.specs.Desks.{Standing, CanCall}
-use Rattle.pas_steps.proofs.Called.{call_none, call_as}
-use Rattle.pas_steps.proofs.Frames.{events_append}
+use Rattle.pas_steps.specs.{Views.View, Events.events_by, Agreement.Agreed, Desks.Standing, Desks.CanCall}
+use Rattle.pas_steps.proofs.{Called.call_none, Called.call_as, Frames.events_append, Unknown.unknown_stays}
 use Rattle.pas_trace.specs.Asked.{request_of, cost_of_task}
-use Rattle.pas_trace.specs.declared.plan.Task.{Task}
-use Rattle.pas_trace.specs.declared.plan.Work.{Work}
-use Rattle.pas_trace.specs.declared.plan.What.TheVariants.{Raw}
+use Rattle.pas_trace.specs.declared.plan.{Task.Task, Work.Work, What.TheVariants.Raw}
 use Rattle.pas_report.specs.declared.record.Said.{Said}
 use Rattle.pas_free_log.specs.declared.log.Entry.{Entry}
 use Rattle.pas_cache.specs.Caches.{Cached, AtRest}
@@ -25,10 +15,8 @@ use Rattle.pas_answers.specs.Answers.{Named, standing_for, said_of_fault, entry_
 use Rattle.pas_answers.specs.Calls.{what_of, block_behind, owed_events, MayPerform, PerformsMeant, FreesOne}
 use Rattle.pas_answers.specs.Fit.{IsFitTask, IsFitWork, IsFitWhat, cost_of_work}
 use Rattle.pas_answers.specs.Indexes.{IsNamedFor, request_made}
-use Rattle.pas_answers.proofs.Kept.{task_of}
-use Rattle.pas_answers.proofs.OwedEvents.{full_events}
+use Rattle.pas_answers.proofs.{Kept.task_of, OwedEvents.full_events}
 use Rattle.pas_cache.proofs.Budget.{emptied_events}
-use Rattle.pas_steps.proofs.Unknown.{unknown_stays}
 
 -- ---- a free
 -- the events of the flush of a full log, and what is owed with the name in the log

@@ -1,32 +1,24 @@
 -- What a keeper's steps and records keep: they are tidy, and each record can be shown.
-use Rattle.std.proofs.Common.{ℕ, ◌+◌, ◌*◌, ◌≤◌, Bool, true, false, ◌||◌, List, [], ◌∷◌, ◌++◌, length, Option, Some, None, Result, refl, ap, sym, ◌∙◌, subst, arith, append_assoc, length-append}
-use Rattle.std.specs.Prelude.{MatchOption}
-use Rattle.pas_profile.specs.declared.event.NoRoom.{NoRoom}
-use Rattle.pas_profile.specs.declared.name.Block.{Block}
-use Rattle.pas_profile.specs.declared.profile.Profile.{Profile}
-use Rattle.pas_steps.specs.Desks.{Standing}
-use Rattle.pas_steps.specs.Events.{events_by}
+use Rattle.std.proofs.Common.{ℕ, ◌+◌, ◌*◌, ◌≤◌, Bool, true, false, ◌||◌, List, [], ◌∷◌, ◌++◌, length, Option, Some, None, Result, refl, ap, sym, ◌∙◌, subst}
+use Rattle.std.proofs.Common.{arith, append_assoc, length-append, MatchOption}
+use Rattle.pas_profile.specs.declared.{event.NoRoom.NoRoom, name.Block.Block, profile.Profile.Profile}
+use Rattle.pas_steps.specs.{Desks.Standing, Events.events_by, Views.View}
 use Rattle.pas_steps.specs.Kinds.{Backing, Giving, LookLife, returning}
-use Rattle.pas_steps.specs.Views.{View}
 use Rattle.pas_steps.specs.declared.step.Made.{Made}
 use Rattle.pas_trace.specs.declared.item.Request.{Request}
 use Rattle.pas_report.specs.declared.record.Record.{Record}
 use Rattle.pas_report.proofs.Showable.{AreOfRegion}
-use Rattle.pas_cache.specs.Caches.{Cached}
-use Rattle.pas_cache.specs.Calls.{AllocatesPages}
-use Rattle.pas_cache.specs.Serves.{pages_of}
+use Rattle.pas_cache.specs.{Caches.Cached, Calls.AllocatesPages, Serves.pages_of}
 use Rattle.pas_large.specs.Named.{missed_steps}
 use Rattle.pas_rights.specs.Gives.{give_steps}
 use Rattle.pas_scan.specs.Runs.{large_directory}
-use Rattle.pas_guard.specs.Seeks.{seeking}
-use Rattle.pas_guard.specs.Raises.{IsRaised, IsNotRaised, RaiseSteps}
+use Rattle.pas_guard.specs.{Seeks.seeking, Raises.IsRaised, Raises.IsNotRaised, Raises.RaiseSteps}
 use Rattle.pas_guard.specs.Sweeps.{is_over, sweeping, SweptOne, Swept, SweepSteps}
 use Rattle.pas_guard.specs.declared.book.Guard.{Guard}
 use Rattle.pas_guard.proofs.Raised.{raised_backs, raised_leaves}
 use Rattle.pas_answers.specs.Answers.{wanted_by, records_of}
 use Rattle.pas_answers.specs.Guarding.{said_of_guard, Tried, try_steps, guarded_steps, IsTried}
-use Rattle.pas_answers.proofs.Parts.{of_front}
-use Rattle.pas_answers.proofs.Shown.{EachShown, each_both, records_shown}
+use Rattle.pas_answers.proofs.{Parts.of_front, Shown.EachShown, Shown.each_both, Shown.records_shown}
 use Rattle.pas_answers.proofs.Tidy.{Tidy, tidy_over, tidy_none, tidy_both}
 
 -- ---- tidy
@@ -42,7 +34,7 @@ given_tidy f heap k guards left (Some block) searched after v is tidy =
     let given = tidy_over (Giving ∷ (LookLife ∷ [])) refl give (is.backs ++ v) (refl, (refl, tt)) backed in
     tidy_both after is.left (give ++ is.backs) v is.after_is (tidy_over returning refl is.left ((give ++ is.backs) ++ v) (raised_leaves is) (subst Tidy (sym (append_assoc give is.backs v)) given))
 
-pub raise_tidy : (f : Profile) (heap k : ℕ) (guards left : List Guard) (answer : Option Block) (steps : List Made) (v : View) → RaiseSteps f heap k guards left answer steps → Tidy v → Tidy (steps ++ v)
+raise_tidy : (f : Profile) (heap k : ℕ) (guards left : List Guard) (answer : Option Block) (steps : List Made) (v : View) → RaiseSteps f heap k guards left answer steps → Tidy v → Tidy (steps ++ v)
 raise_tidy f heap k guards left answer steps v is tidy =
     tidy_both steps is.after is.searched v is.steps_are (given_tidy f heap k guards left answer is.searched is.after (is.searched ++ v) is.outcome (tidy_over seeking refl is.searched v is.kinds tidy))
 
@@ -76,9 +68,7 @@ try_shown f keeper r v guards t is of =
 pub try_short : (f : Profile) (keeper : ℕ) (r : Request) (v : View) (guards : List Guard) (t : Tried) → IsTried f keeper r v guards t → length t.steps ≤ try_steps f r guards
 try_short f keeper r v guards t is =
     let all = ap (λ (xs : List Made). length xs) is.steps_are ∙ length-append is.raised is.swept in
-    let swept = is.sweep.few in
-    let raised = is.raise.few in
-    omega (arith, all, swept, raised)
+    omega (arith, all, is.sweep.few, is.raise.few)
 
 missed_few : (found : Option ℕ) (n : ℕ) → missed_steps found n ≤ 48 * n
 missed_few None n = omega arith
@@ -89,5 +79,4 @@ pub whole_short : {σ σ' : Standing} {tells : Bool} {found : Option ℕ} {c c' 
 whole_short {σ} {found = found} keeper r v guards t is call =
     let tried = try_short σ.seat.profile keeper r v guards t is in
     let missed = missed_few found (pages_of (wanted_by σ.seat.profile r)) in
-    let short = call.short in
-    omega (arith, tried, missed, short)
+    omega (arith, tried, missed, call.short)

@@ -1,15 +1,10 @@
 -- An operation by what it asks for, and what the name that it frees or reallocates stands for.
-use Rattle.std.proofs.Common.{◌≡◌, ℕ, List, Option, Some, None, refl, ap, sym}
-use Rattle.pas_profile.specs.declared.name.Block.{Block}
-use Rattle.pas_profile.specs.declared.profile.Profile.{Profile}
-use Rattle.pas_trace.specs.declared.plan.What.{What}
-use Rattle.std.specs.Prelude.{option_and_then}
+use Rattle.std.proofs.Common.{◌≡◌, ℕ, List, Option, Some, None, refl, ap, sym, option_and_then}
+use Rattle.pas_profile.specs.declared.{name.Block.Block, profile.Profile.Profile}
+use Rattle.pas_trace.specs.declared.plan.{What.What, Task.Task, Work.Work}
 use Rattle.pas_trace.specs.Asked.{work_of, of_task, request_of, freed_of}
 use Rattle.pas_trace.specs.declared.plan.What.TheVariants.{Alloc, Guarded, Free, FreeSized, Raw, RawSized, Remake, Flush, Stop}
-use Rattle.pas_trace.specs.declared.plan.Task.{Task}
-use Rattle.pas_trace.specs.declared.plan.Work.{Work}
-use Rattle.pas_answers.specs.Answers.{Named, standing_for}
-use Rattle.pas_answers.specs.Indexes.{request_made, request_by}
+use Rattle.pas_answers.specs.{Answers.Named, Answers.standing_for, Indexes.request_made, Indexes.request_by}
 use Rattle.pas_answers.specs.Calls.{what_of, MayStand, block_behind, IsMeant, named_with, named_by, freed_by}
 
 -- it is the one that asks its thread for this

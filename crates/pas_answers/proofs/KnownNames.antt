@@ -1,7 +1,6 @@
 -- A name that was asked for stands for something.
 use Rattle.std.proofs.Common.{◌≡◌, ℕ, ◌==◌, ◌||◌, Bool, true, false, if◌then◌else◌, inl, inr, List, ◌∷◌, ◌++◌, Option, Some, None, refl, sym, ◌∙◌, subst}
-use Rattle.pas_profile.specs.declared.profile.Profile.{Profile}
-use Rattle.pas_profile.specs.declared.name.Block.{Block}
+use Rattle.pas_profile.specs.declared.{profile.Profile.Profile, name.Block.Block}
 use Rattle.pas_steps.specs.Views.{View}
 use Rattle.pas_steps.specs.declared.step.Made.{Made}
 use Rattle.pas_trace.specs.declared.plan.What.{What}
@@ -21,7 +20,7 @@ same_names : (asked : List ℕ) {names names' : List Named} → names' ≡ names
 same_names asked same known = subst (λ (ns : List Named). AreKnown asked ns) (sym same) known
 
 -- a reallocation asks for its new name, which stands for this then
-pub remade_names : (f : Profile) (k name size align : ℕ) (o : Option (Option Block)) (b : Having) (a : Answer) → IsRemadeBy f k name size align o b a → (came : Option Block) × (a.names ≡ named name came ∷ b.names)
+remade_names : (f : Profile) (k name size align : ℕ) (o : Option (Option Block)) (b : Having) (a : Answer) → IsRemadeBy f k name size align o b a → (came : Option Block) × (a.names ≡ named name came ∷ b.names)
 remade_names f k name size align None b a is = absurd is
 remade_names f k name size align (Some None) b a is = (None, is.3)
 remade_names f k name size align (Some (Some old)) b a (inl kept) = (Some old, kept.names_are)

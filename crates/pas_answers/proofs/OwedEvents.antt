@@ -1,10 +1,8 @@
 -- What is owed in the end, before and after steps.
 use Rattle.std.proofs.Common.{◌≡◌, ℕ, ◌+◌, Bool, true, false, List, length, ap, arith}
-use Rattle.pas_free_log.specs.declared.log.Entry.{Entry}
-use Rattle.pas_free_log.specs.declared.noting.EndedRun.{EndedRun}
+use Rattle.pas_free_log.specs.declared.{log.Entry.Entry, noting.EndedRun.EndedRun}
 use Rattle.pas_steps.specs.declared.step.Made.{Made}
-use Rattle.pas_steps.specs.Views.{View}
-use Rattle.pas_steps.specs.Events.{events_by}
+use Rattle.pas_steps.specs.{Views.View, Events.events_by}
 use Rattle.pas_cache.specs.Changes.{EmptiesFull}
 use Rattle.pas_cache.proofs.Budget.{emptied_events}
 

@@ -1,32 +1,26 @@
 -- Each keeper's part of the list of a replay is made of whole calls of `raise` and `sweep` with its one book.
-use Rattle.std.proofs.Common.{◌≡◌, ◌≢◌, ℕ, zero, suc, ◌+◌, ◌<◌, ◌≤◌, ◌==◌, Bool, true, false, if◌then◌else◌, inl, inr, List, [], ◌∷◌, ◌++◌, length, Option, Some, None, refl, ap, sym, ◌∙◌, subst, arith, append_assoc, append-nil}
-use Rattle.std.specs.Prelude.{map, MatchOption}
+use Rattle.std.proofs.Common.{◌≡◌, ◌≢◌, ℕ, zero, suc, ◌+◌, ◌<◌, ◌≤◌, ◌==◌, Bool, true, false, if◌then◌else◌, inl, inr, List, [], ◌∷◌, ◌++◌, length, Option}
+use Rattle.std.proofs.Common.{Some, None, refl, ap, sym, ◌∙◌, subst, arith, append_assoc, append-nil, map, MatchOption, eq-eqb, ne_eqb}
 use Rattle.std.specs.List.{AllByRecursion, filter}
-use Rattle.std.proofs.lemmas.Bool.{cases_eq, eq-eqb, ne_eqb}
+use Rattle.std.proofs.lemmas.Bool.{cases_eq}
 use Rattle.pas_profile.specs.Profiles.{IsValid}
-use Rattle.pas_profile.specs.declared.name.Block.{Block}
-use Rattle.pas_profile.specs.declared.profile.Profile.{Profile}
+use Rattle.pas_profile.specs.declared.{name.Block.Block, profile.Profile.Profile}
 use Rattle.pas_profile.proofs.Lists.{all_both}
-use Rattle.pas_steps.specs.Agreement.{Agrees, Agreed}
-use Rattle.pas_steps.specs.Desks.{made}
+use Rattle.pas_steps.specs.{Agreement.Agrees, Agreement.Agreed, Desks.made, Views.View}
 use Rattle.pas_steps.specs.Lists.{Triple, Whole, part, Legal}
-use Rattle.pas_steps.specs.Views.{View}
-use Rattle.pas_steps.specs.declared.step.Made.{Made}
-use Rattle.pas_steps.specs.declared.step.Step.TheVariants.{Tick}
+use Rattle.pas_steps.specs.declared.step.{Made.Made, Step.TheVariants.Tick}
 use Rattle.pas_steps.proofs.Parts.{part_of_own, part_of_others, each_part}
 use Rattle.pas_core.proofs.Nexts.{agreed_steps}
-use Rattle.pas_trace.specs.Acts.{Act, Operates, Guards, Settles, Ticks, MakesPass, ReadsEpoch, StopsIdle, MarksPhase, Wakes, MarksClose, Ends, Lowers, operation_in, is_active, numbers_from, threads_where, active_threads, idle_threads, act_kept, acts_of_chore, acts_of_work, acts_of_op, acts_of_ops, phase_acts, acts_from, acts_of}
+use Rattle.pas_trace.specs.Acts.{Act, Operates, Guards, Settles, Ticks, MakesPass, ReadsEpoch, StopsIdle, MarksPhase, Wakes, MarksClose, Ends, Lowers}
+use Rattle.pas_trace.specs.Acts.{operation_in, is_active, numbers_from, threads_where, active_threads, idle_threads, act_kept, acts_of_chore, acts_of_work}
+use Rattle.pas_trace.specs.Acts.{acts_of_op, acts_of_ops, phase_acts, acts_from, acts_of}
 use Rattle.pas_trace.specs.Asked.{request_in, work_of, keeper_of}
-use Rattle.pas_trace.specs.declared.item.Request.{Request}
-use Rattle.pas_trace.specs.declared.plan.Chore.{Chore}
-use Rattle.pas_trace.specs.declared.plan.Op.{Op}
-use Rattle.pas_trace.specs.declared.plan.Work.{Work}
+use Rattle.pas_trace.specs.declared.{item.Request.Request, plan.Chore.Chore, plan.Op.Op, plan.Work.Work}
 use Rattle.pas_guard.specs.Keepers.{Call, MakesCalls, IsKeeper}
 use Rattle.pas_guard.specs.declared.book.Guard.{Guard}
 use Rattle.pas_cache.specs.Serves.{pages_of}
-use Rattle.pas_answers.specs.Answers.{wanted_by, Progress, epoch_look}
-use Rattle.pas_answers.specs.Fit.{AreOfThreads}
-use Rattle.pas_answers.specs.Guarding.{Tried, IsTried, after_trying}
+use Rattle.pas_answers.specs.{Answers.wanted_by, Answers.Progress, Answers.epoch_look, Fit.AreOfThreads, Guarding.Tried, Guarding.IsTried}
+use Rattle.pas_answers.specs.{Guarding.after_trying}
 use Rattle.pas_answers.specs.Reaching.{AnswersOp, AnswersTried, AnswersGuarded, Advances, Reaches}
 
 -- ---- whose steps an act makes beside those of its keeper, if it has one

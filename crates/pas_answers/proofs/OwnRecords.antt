@@ -1,24 +1,16 @@
 -- The records of a piece are of its actor.
-use Rattle.std.proofs.Common.{◌≡◌, ◌≢◌, ℕ, ◌==◌, Bool, true, false, ◌||◌, if◌then◌else◌, List, [], ◌∷◌, ◌++◌, reverse, Option, Some, None, refl, ap, sym, ◌∙◌, subst}
-use Rattle.std.specs.Prelude.{map}
-use Rattle.std.proofs.lemmas.Bool.{eq-eqb, ne_eqb}
-use Rattle.pas_profile.specs.declared.event.Event.{Event}
-use Rattle.pas_profile.specs.declared.event.Outcome.{Outcome}
-use Rattle.pas_profile.specs.declared.event.Outcome.TheVariants.{Unbacked}
-use Rattle.pas_steps.specs.Events.{events_by, actor_of}
-use Rattle.pas_steps.specs.Views.{View}
+use Rattle.std.proofs.Common.{◌≡◌, ◌≢◌, ℕ, ◌==◌, Bool, true, false, ◌||◌, if◌then◌else◌, List, [], ◌∷◌, ◌++◌, reverse, Option, Some, None, refl, ap, sym, ◌∙◌}
+use Rattle.std.proofs.Common.{subst, map, eq-eqb, ne_eqb}
+use Rattle.pas_profile.specs.declared.{event.Event.Event, event.Outcome.Outcome, event.Outcome.TheVariants.Unbacked, name.Block.Block, profile.Profile.Profile}
+use Rattle.pas_steps.specs.{Events.events_by, Events.actor_of, Views.View}
 use Rattle.pas_steps.specs.declared.step.Made.{Made}
-use Rattle.pas_report.specs.declared.record.Record.{Record}
-use Rattle.pas_report.specs.declared.record.Said.{Said}
+use Rattle.pas_report.specs.declared.record.{Record.Record, Said.Said}
 use Rattle.pas_passes.specs.Records.{record_of, records_of_pass}
-use Rattle.pas_answers.specs.Answers.{records_of, said_by, wanted_by}
-use Rattle.pas_profile.specs.declared.name.Block.{Block}
-use Rattle.pas_profile.specs.declared.profile.Profile.{Profile}
+use Rattle.pas_answers.specs.{Answers.records_of, Answers.said_by, Answers.wanted_by, Guarding.said_of_guard, Guarding.Tried, Guarding.IsTried}
 use Rattle.pas_trace.specs.declared.item.Request.{Request}
 use Rattle.pas_cache.specs.Serves.{pages_of}
 use Rattle.pas_guard.specs.Sweeps.{is_over, SweptOne, Swept}
 use Rattle.pas_guard.specs.declared.book.Guard.{Guard}
-use Rattle.pas_answers.specs.Guarding.{said_of_guard, Tried, IsTried}
 use Rattle.pas_answers.specs.Ways.{is_of, AreSpoken, EachOf, records_by}
 use Rattle.std.specs.List.{AllByRecursion}
 use Rattle.pas_profile.proofs.Lists.{all_both, all_map, all_reverse}

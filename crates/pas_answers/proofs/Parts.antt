@@ -1,10 +1,7 @@
 -- Each actor's part of a list: its steps are of the region, and it is that of the pieces in the order of the acts.
 use Rattle.std.proofs.Common.{◌≡◌, ℕ, ◌==◌, Bool, true, false, if◌then◌else◌, List, [], ◌∷◌, ◌++◌, ap}
 use Rattle.pas_profile.specs.declared.profile.Profile.{Profile}
-use Rattle.pas_steps.specs.Views.{View}
-use Rattle.pas_steps.specs.Allowed.{IsStepOf}
-use Rattle.pas_steps.specs.Lists.{Whole, part, Legal}
-use Rattle.pas_steps.specs.Desks.{triples}
+use Rattle.pas_steps.specs.{Views.View, Allowed.IsStepOf, Lists.Whole, Lists.part, Lists.Legal, Desks.triples}
 use Rattle.pas_steps.specs.declared.step.Made.{Made}
 use Rattle.pas_report.proofs.Showable.{AreOfRegion}
 use Rattle.pas_answers.specs.Ways.{Way, InOrder, OnThreads, IsOneOrder}

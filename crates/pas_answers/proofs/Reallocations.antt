@@ -1,35 +1,22 @@
 -- What a reallocation promises.
-use Rattle.std.proofs.Common.{◌≡◌, ℕ, ◌+◌, ◌<◌, ◌≤◌, ◌++◌, Bool, true, false, if◌then◌else◌, List, [], ◌∷◌, length, Option, Some, None, Result, Ok, Err, inl, inr, refl, ap, sym, ◌∙◌, subst, arith, length-append, append_assoc, nat_le}
-use Rattle.std.specs.Prelude.{◌-◌, ◌/◌}
-use Rattle.std.proofs.lemmas.Bool.{leb-true}
+use Rattle.std.proofs.Common.{◌≡◌, ℕ, ◌+◌, ◌<◌, ◌≤◌, ◌++◌, Bool, true, false, if◌then◌else◌, List, [], ◌∷◌, length, Option, Some, None, Result, Ok, Err, inl}
+use Rattle.std.proofs.Common.{inr, refl, ap, sym, ◌∙◌, subst, arith, length-append, append_assoc, nat_le, ◌-◌, ◌/◌, leb-true}
 use Rattle.pas_profile.specs.Profiles.{IsAdmitted}
-use Rattle.pas_profile.specs.declared.event.NoRoom.{NoRoom}
-use Rattle.pas_profile.specs.declared.name.Block.{Block}
-use Rattle.pas_profile.specs.declared.profile.Profile.{Profile}
+use Rattle.pas_profile.specs.declared.{event.NoRoom.NoRoom, name.Block.Block, profile.Profile.Profile}
 use Rattle.pas_steps.specs.declared.step.Made.{Made}
-use Rattle.pas_steps.specs.Views.{View}
-use Rattle.pas_steps.specs.Agreement.{Agreed}
-use Rattle.pas_steps.specs.Events.{events_by}
-use Rattle.pas_steps.specs.Desks.{Standing, CanCall}
-use Rattle.pas_steps.proofs.Adding.{agreed_first, agreed_later}
-use Rattle.pas_steps.proofs.Called.{call_none}
-use Rattle.pas_steps.proofs.Frames.{events_append}
+use Rattle.pas_steps.specs.{Views.View, Agreement.Agreed, Events.events_by, Desks.Standing, Desks.CanCall}
+use Rattle.pas_steps.proofs.{Adding.agreed_first, Adding.agreed_later, Called.call_none, Frames.events_append}
 use Rattle.pas_trace.specs.Reasons.{cost_of_size}
-use Rattle.pas_trace.specs.declared.item.Request.{Request}
-use Rattle.pas_trace.specs.declared.plan.Task.{Task}
-use Rattle.pas_trace.specs.declared.plan.What.TheVariants.{Remake}
+use Rattle.pas_trace.specs.declared.{item.Request.Request, plan.Task.Task, plan.What.TheVariants.Remake}
 use Rattle.pas_report.specs.declared.record.Said.{Said}
 use Rattle.pas_free_log.specs.Logs.{entry_of}
 use Rattle.pas_free_log.specs.declared.log.Entry.{Entry}
-use Rattle.pas_cache.specs.Caches.{Cached}
-use Rattle.pas_cache.specs.Serves.{wanted_for}
-use Rattle.pas_cache.specs.declared.moving.Moved.{Moved}
-use Rattle.pas_cache.specs.declared.moving.Moved.TheVariants.{Kept, New}
+use Rattle.pas_cache.specs.{Caches.Cached, Serves.wanted_for}
+use Rattle.pas_cache.specs.declared.moving.Moved.{Moved, TheVariants.Kept, TheVariants.New}
 use Rattle.pas_answers.specs.Answers.{Named, named as the_name, having, Answer, answer_of, suits, request_for, said_of_room, IsRemadeBy, IsAnswered}
 use Rattle.pas_answers.specs.Calls.{what_of, IsBlockOf, MayStand, IsMeant, IsKnown, owed_events, MayPerform, PerformsMeant}
-use Rattle.pas_answers.specs.Fit.{IsFitWhat, cost_of_what}
-use Rattle.pas_answers.specs.Indexes.{unless_suited, IsNamedFor, request_made}
-use Rattle.pas_answers.specs.Moves.{flush_of_full, MayMove, Moves}
+use Rattle.pas_answers.specs.{Fit.IsFitWhat, Fit.cost_of_what, Indexes.unless_suited, Indexes.IsNamedFor, Indexes.request_made, Moves.flush_of_full}
+use Rattle.pas_answers.specs.{Moves.MayMove, Moves.Moves}
 use Rattle.pas_answers.proofs.Frees.{fits_task, stands_for, taken_few}
 use Rattle.pas_answers.proofs.Requests.{may_request, named_for, is_given, block_stands}
 

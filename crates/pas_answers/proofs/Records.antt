@@ -1,23 +1,17 @@
 -- What an operation adds to the records.
-use Rattle.std.proofs.Common.{◌≡◌, ℕ, ◌+◌, ◌<◌, ◌≤◌, ◌++◌, List, [], ◌∷◌, length, drop, Option, Some, None, ap, sym, ◌∙◌, subst, arith, length-append, append_assoc, append-nil}
-use Rattle.std.specs.Prelude.{map, reverse}
-use Rattle.std.proofs.lemmas.List.{reverse-append, length-reverse, length-map}
-use Rattle.std.proofs.Math.Seq.{drop-append_seam}
-use Rattle.pas_profile.specs.declared.event.Event.{Event}
+use Rattle.std.proofs.Common.{◌≡◌, ℕ, ◌+◌, ◌<◌, ◌≤◌, ◌++◌, List, [], ◌∷◌, length, drop, Option, Some, None, ap, sym, ◌∙◌, subst, arith, length-append}
+use Rattle.std.proofs.Common.{append_assoc, append-nil, map, reverse}
+use Rattle.std.proofs.{lemmas.List.reverse-append, lemmas.List.length-reverse, lemmas.List.length-map, Math.Seq.drop-append_seam}
+use Rattle.pas_profile.specs.declared.{event.Event.Event, name.Block.Block}
 use Rattle.pas_steps.specs.declared.step.Made.{Made}
-use Rattle.pas_steps.specs.Views.{View}
-use Rattle.pas_steps.specs.Events.{events_of, events_by}
-use Rattle.pas_steps.specs.Lists.{Whole}
+use Rattle.pas_steps.specs.{Views.View, Events.events_of, Events.events_by, Lists.Whole}
 use Rattle.pas_steps.specs.Desks.{Standing, triples, CanCall, Adds}
 use Rattle.pas_steps.proofs.Frames.{events_split}
 use Rattle.pas_trace.specs.declared.plan.What.{What}
 use Rattle.pas_report.specs.Rooms.{records_in, room_of, Records}
-use Rattle.pas_report.specs.declared.record.Record.{Record}
-use Rattle.pas_report.specs.declared.record.Said.{Said}
+use Rattle.pas_report.specs.declared.record.{Record.Record, Said.Said}
 use Rattle.pas_cache.specs.Caches.{Cached, AtRest}
-use Rattle.pas_answers.specs.Answers.{records_of, said_by}
-use Rattle.pas_answers.specs.Calls.{PerformsMeant, MayAnswer, AnswersMeant}
-use Rattle.pas_profile.specs.declared.name.Block.{Block}
+use Rattle.pas_answers.specs.{Answers.records_of, Answers.said_by, Calls.PerformsMeant, Calls.MayAnswer, Calls.AnswersMeant}
 
 -- ---- what the desk shows
 -- the events shown are those of each view
@@ -51,8 +45,7 @@ records_fit {σ} {σ'} {said} {c'} what meant came c spare out old new can perfo
     let rest = can_rest c what spare out can in
     let events = ap (λ (es : List Event). length es) (shown_new performs.calls.adds old new before after can.view can.whole can.stood rest.met) ∙ length-reverse (events_by σ.seat.actor can.view performs.steps) in
     let few = performs.few can.view can.met.may.rest (performs.calls.adds.agreed can.view can.whole can.stood can.met.may.rest) in
-    let room = can.met.records in
-    omega (arith, events, few, room)
+    omega (arith, events, few, can.met.records)
 
 -- .. and room for what is said then
 pub said_fits : {said : Option Said} (k : ℕ) (out pushed : Records) (events : List Event) (message : Said) → said ≡ Some message → length (records_in out) + length events + length (said_by k said) ≤ room_of out

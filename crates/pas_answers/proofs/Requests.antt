@@ -1,54 +1,36 @@
 -- What a request promises.
-use Rattle.std.proofs.Common.{◌≡◌, ◌≢◌, ℕ, ◌+◌, ◌-◌, ◌<◌, ◌≤◌, ◌++◌, Bool, List, [], ◌∷◌, length, Option, Some, None, Result, Ok, Err, inl, inr, refl, ap, sym, ◌∙◌, subst, arith}
-use Rattle.std.specs.Prelude.{◌*◌, ◌/◌, ◌%◌, max, MatchResult}
-use Rattle.std.proofs.lemmas.Bool.{cases_lt}
-use Rattle.std.proofs.Math.Nat.{mul-mod_left, mod-add-div', mul_assoc}
+use Rattle.std.proofs.Common.{◌≡◌, ◌≢◌, ℕ, ◌+◌, ◌-◌, ◌<◌, ◌≤◌, ◌++◌, Bool, List, [], ◌∷◌, length, Option, Some, None, Result, Ok, Err, inl, inr, refl, ap, sym}
+use Rattle.std.proofs.Common.{◌∙◌, subst, arith, ◌*◌, ◌/◌, ◌%◌, max, MatchResult}
+use Rattle.std.proofs.{lemmas.Bool.cases_lt, Math.Nat.mul-mod_left, Math.Nat.mod-add-div', Math.Nat.mul_assoc, lemmas.Option.same_Some}
 use Rattle.std.specs.List.{AllByRecursion}
-use Rattle.std.proofs.lemmas.Option.{same_Some}
-use Rattle.pas_profile.specs.Directories.{IsDirectory, deed_word_of}
-use Rattle.pas_profile.specs.Blocks.{address_of, grain_of, length_of}
-use Rattle.pas_profile.specs.Classes.{IsAlignment}
+use Rattle.pas_profile.specs.{Directories.IsDirectory, Directories.deed_word_of, Blocks.address_of, Blocks.grain_of, Blocks.length_of, Classes.IsAlignment}
+use Rattle.pas_profile.specs.{Routes.room_by, Routes.IsRouteOf, Requests.route_in, Requests.room_in}
 use Rattle.pas_profile.specs.Profiles.{IsValid, IsAdmitted, IsPage, IsDirectoryOf}
-use Rattle.pas_profile.specs.Routes.{room_by, IsRouteOf}
-use Rattle.pas_profile.proofs.ClassFacts.{route_is, class_known, class_size_whole}
+use Rattle.pas_profile.proofs.{ClassFacts.route_is, ClassFacts.class_known, ClassFacts.class_size_whole, Codecs.same_from_deed_word}
+use Rattle.pas_profile.proofs.{Codecs.directory_from_profile, Codecs.deed_word_of-positive}
 use Rattle.pas_bits.proofs.Runs.{first_of_run}
 use Rattle.pas_bitfit.proofs.Aligned.{sixteens}
-use Rattle.pas_profile.specs.Requests.{route_in, room_in}
-use Rattle.pas_profile.specs.declared.profile.Profile.{Profile}
-use Rattle.pas_profile.specs.declared.directory.Directory.{Directory}
-use Rattle.pas_profile.specs.declared.event.Event.{Event}
-use Rattle.pas_profile.specs.declared.event.NoRoom.{NoRoom}
-use Rattle.pas_profile.specs.declared.name.Block.{Block}
-use Rattle.pas_profile.specs.declared.word.Word.TheVariants as Word
-use Rattle.pas_profile.proofs.Codecs.{same_from_deed_word, directory_from_profile, deed_word_of-positive}
+use Rattle.pas_profile.specs.declared.{profile.Profile.Profile, directory.Directory.Directory, event.Event.Event, event.NoRoom.NoRoom, name.Block.Block}
+use Rattle.pas_profile.specs.declared.{word.Word.Word, directory.Route.Route}
 use Rattle.pas_machine.specs.State.{deed_in}
 use Rattle.pas_core.specs.Good.{word_of_deed}
-use Rattle.pas_core.proofs.Deeds.{known_is, deed_of, directory_is_of}
-use Rattle.pas_core.proofs.Rights.{deeds_known}
+use Rattle.pas_core.proofs.{Deeds.known_is, Deeds.deed_of, Deeds.directory_is_of, Rights.deeds_known}
 use Rattle.pas_steps.specs.declared.step.Made.{Made}
-use Rattle.pas_steps.specs.Views.{View, known_deed, KnowsDeed}
-use Rattle.pas_steps.specs.Agreement.{Agreed}
-use Rattle.pas_steps.specs.Events.{events_by}
+use Rattle.pas_steps.specs.{Views.View, Views.known_deed, Views.KnowsDeed, Agreement.Agreed, Events.events_by, Desks.Standing, Desks.CanCall}
+use Rattle.pas_steps.specs.{Unknown.unknown_pages}
 use Rattle.pas_steps.specs.Lists.{Whole, part, word_after, visible, Legal}
-use Rattle.pas_steps.specs.Desks.{Standing, CanCall}
-use Rattle.pas_trace.specs.declared.item.Request.{Request}
-use Rattle.pas_trace.specs.declared.plan.What.TheVariants.{Alloc, Guarded}
+use Rattle.pas_trace.specs.declared.{item.Request.Request, plan.What.TheVariants.Alloc, plan.What.TheVariants.Guarded, plan.Task.Task}
 use Rattle.pas_cache.specs.Caches.{Cached, AtRest}
-use Rattle.pas_profile.specs.declared.directory.Route.{Route}
 use Rattle.pas_trace.specs.Reasons.{cost_of_size}
 use Rattle.pas_trace.proofs.Costs.{small_cost, large_cost, some_cost}
 use Rattle.pas_cache.specs.Calls.{Allocates, AllocatesPages, most_events, IsNamed, MayRequestBy, MayRequest, AllocatesBy, AllocatesRequest}
 use Rattle.pas_cache.proofs.Budget.{log_kept}
 use Rattle.pas_cache.specs.Serves.{IsSmallRoute, Wanted, wanted_for, pages_of, IsBlockFor, IsDeedOf, IsSilent, MakesFew, MakesAtMost, MakesDeedsOf}
-use Rattle.pas_steps.specs.Unknown.{unknown_pages}
 use Rattle.pas_answers.specs.Answers.{named as the_name, block_of, said_by, said_of_request, IsGiven, RefusalEnds, RequestEnds}
-use Rattle.pas_answers.specs.Indexes.{IsNamedFor, request_made}
-use Rattle.pas_trace.specs.declared.plan.Task.{Task}
+use Rattle.pas_answers.specs.{Indexes.IsNamedFor, Indexes.request_made, Fit.cost_of_what}
 use Rattle.pas_report.specs.declared.record.Said.{Said}
-use Rattle.pas_answers.specs.Fit.{cost_of_what}
 use Rattle.pas_answers.specs.Calls.{what_of, IsBlockOf, MayStand, owed_events, MayPerform, Serves, events_for, PerformsMeant}
-use Rattle.pas_steps.proofs.Adding.{adds_none, can_call}
-use Rattle.pas_steps.proofs.Unknown.{unknown_stays, has_room}
+use Rattle.pas_steps.proofs.{Adding.adds_none, Adding.can_call, Unknown.unknown_stays, Unknown.has_room}
 use Rattle.pas_cache.proofs.Routes.{is_small, is_large, small_may, small_did, none_named, pages_asked}
 
 -- ---- what a request asks
@@ -65,7 +47,7 @@ may_request f c heap size align spare v rest fits = elim (cases_lt 2048 size) [
 ]
 
 pub can_request : {σ : Standing} (c : Cached) (name heap size align spare : ℕ) → CanCall σ (MayPerform σ.seat.profile c (Alloc name heap size align) spare) → CanCall σ (MayRequest σ.seat.profile (wanted_for σ.seat.profile heap size align) c spare)
-can_request {σ} c name heap size align spare can = can_call adds_none can (λ v l stood met. let room = met.room in may_request σ.seat.profile c heap size align spare v met.rest (omega (arith, room)))
+can_request {σ} c name heap size align spare can = can_call adds_none can (λ v l stood met. may_request σ.seat.profile c heap size align spare v met.rest (omega (arith, met.room)))
 
 -- ---- how it was served
 silent_ends : (r : Route) (d : Directory) (es : List Event) → es ≡ [] → RefusalEnds r d es
@@ -170,7 +152,7 @@ known_directory f l k page d valid legal of knows =
 
 -- ---- its block
 some_grains : (classes size align : ℕ) (route : Route) → IsRouteOf classes size align route → 0 < room_by route (max size 1) / 16
-some_grains classes size align (Route.Class class) is = let enough = is.suits.room in let whole = class_size_whole class (class_known classes size align class is) in omega (arith, enough, whole)
+some_grains classes size align (Route.Class class) is = let whole = class_size_whole class (class_known classes size align class is) in omega (arith, is.suits.room, whole)
 some_grains classes size align Route.Bitfit is = omega arith
 some_grains classes size align Route.Large is = omega arith
 
@@ -191,7 +173,7 @@ block_stands f c heap size align steps block v admitted rest agreed of =
     let same : grain_of block.name / 256 ≡ address_of block.name / 4096 = omega arith in
     λ b is. subst (IsBlockOf f) (same_Some _ _ is) record {
       region = record { page = subst (IsPage f) same page; aligned = sixteenth (address_of block.name) align admitted.aligned of.aligned };
-      heap = let heap_is = of.of_heap in let few = admitted.of_profile in omega (arith, heap_is, few);
+      heap = omega (arith, of.of_heap, admitted.of_profile);
       turn = omega (arith, small);
     }
 

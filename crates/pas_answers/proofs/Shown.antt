@@ -1,17 +1,12 @@
 -- Each record of a piece can be shown, and so each record that is written, in whatever order.
-use Rattle.std.proofs.Common.{ℕ, zero, suc, ◌+◌, Bool, true, false, if◌then◌else◌, List, [], ◌∷◌, ◌++◌, Option}
-use Rattle.std.specs.Prelude.{All}
+use Rattle.std.proofs.Common.{ℕ, zero, suc, ◌+◌, Bool, true, false, if◌then◌else◌, List, [], ◌∷◌, ◌++◌, Option, All}
 use Rattle.std.specs.List.{AllByRecursion}
 use Rattle.std.proofs.lemmas.List.Elements.{All-nil, All-push, All-append}
-use Rattle.pas_profile.specs.declared.profile.Profile.{Profile}
-use Rattle.pas_profile.specs.declared.event.Outcome.{Outcome}
-use Rattle.pas_profile.specs.declared.event.Outcome.TheVariants.{Unbacked}
-use Rattle.pas_steps.specs.Events.{events_by}
-use Rattle.pas_steps.specs.Views.{View}
+use Rattle.pas_profile.specs.declared.{profile.Profile.Profile, event.Outcome.Outcome, event.Outcome.TheVariants.Unbacked}
+use Rattle.pas_steps.specs.{Events.events_by, Views.View}
 use Rattle.pas_steps.specs.declared.step.Made.{Made}
 use Rattle.pas_report.specs.Lines.{CanShow}
-use Rattle.pas_report.specs.declared.record.Record.{Record}
-use Rattle.pas_report.specs.declared.record.Said.{Said}
+use Rattle.pas_report.specs.declared.record.{Record.Record, Said.Said}
 use Rattle.pas_report.proofs.Showable.{AreOfRegion, steps_showable}
 use Rattle.pas_passes.specs.Records.{record_of, records_of_pass}
 use Rattle.pas_answers.specs.Answers.{records_of, said_by}

@@ -1,28 +1,18 @@
 -- What a single act changes and shows, whatever region it is done at.
-use Rattle.std.proofs.Common.{◌≡◌, ◌≢◌, ℕ, ◌+◌, ◌≤◌, ◌++◌, Bool, if◌then◌else◌, List, length, refl, ap, ◌∙◌, arith, true, false, [], ◌∷◌, reverse, length-append}
-use Rattle.std.proofs.lemmas.Bool.{eq-eqb, ne_eqb}
-use Rattle.pas_profile.specs.declared.profile.Profile.{Profile}
+use Rattle.std.proofs.Common.{◌≡◌, ◌≢◌, ℕ, ◌+◌, ◌≤◌, ◌++◌, Bool, if◌then◌else◌, List, length, refl, ap, ◌∙◌, arith, true, false, [], ◌∷◌, reverse}
+use Rattle.std.proofs.Common.{length-append, eq-eqb, ne_eqb}
+use Rattle.pas_profile.specs.declared.{profile.Profile.Profile, event.Event.Event, event.Outcome.Outcome, word.Word.Word}
 use Rattle.pas_cache.specs.Caches.{Cached}
 use Rattle.pas_answers.specs.Answers.{Caches, with_cache, Named, epoch_look, records_of}
 use Rattle.std.proofs.lemmas.List.{length-reverse, length-map}
-use Rattle.pas_profile.specs.declared.event.Event.{Event}
 use Rattle.pas_trace.specs.Acts.{Act}
-use Rattle.pas_trace.specs.declared.plan.What.{What}
-use Rattle.pas_trace.specs.declared.plan.What.TheVariants.{Free, FreeSized, Remake}
+use Rattle.pas_trace.specs.declared.plan.What.{What, TheVariants.Free, TheVariants.FreeSized, TheVariants.Remake}
 use Rattle.pas_report.specs.declared.record.Record.{Record}
-use Rattle.pas_answers.specs.Calls.{AreKnown, IsKnown}
-use Rattle.pas_answers.specs.Fit.{IsFitWhat, sum_over}
-use Rattle.pas_profile.specs.declared.event.Outcome.{Outcome}
-use Rattle.pas_profile.specs.declared.word.Word.TheVariants as Word
-use Rattle.pas_steps.specs.Calls.{Calls}
-use Rattle.pas_steps.specs.Clear.{HasNothing}
-use Rattle.pas_steps.specs.Kinds.{LookEpoch}
-use Rattle.pas_steps.specs.Desks.{Standing, Makes}
+use Rattle.pas_answers.specs.{Calls.AreKnown, Calls.IsKnown, Fit.IsFitWhat, Fit.sum_over}
+use Rattle.pas_steps.specs.{Calls.Calls, Clear.HasNothing, Kinds.LookEpoch, Desks.Standing, Desks.Makes}
 use Rattle.pas_steps.specs.declared.step.Step.TheVariants.{Look}
-use Rattle.pas_steps.proofs.Called.{call_none, call_step}
-use Rattle.pas_steps.proofs.Calls.{does_idly}
-use Rattle.pas_scavenger.specs.Pages.{unback_of}
-use Rattle.pas_scavenger.specs.Passes.{unbacks_in}
+use Rattle.pas_steps.proofs.{Called.call_none, Called.call_step, Calls.does_idly}
+use Rattle.pas_scavenger.specs.{Pages.unback_of, Passes.unbacks_in}
 use Rattle.pas_scavenger.proofs.Trying.{nothing_still, one_unback}
 
 -- ---- caches of which that of thread k became another

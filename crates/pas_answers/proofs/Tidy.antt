@@ -1,40 +1,27 @@
 -- What answers an operation leaves its actor's view tidy: no epoch is learned between an end and its stamps, a page is stamped only where it is unstamped,
 -- and at the end none is.
-use Rattle.std.proofs.Common.{◌≡◌, ℕ, zero, suc, ◌+◌, ◌-◌, ◌/◌, ◌^◌, ◌<◌, ◌≤◌, ◌==◌, nat_le, Bool, true, false, ◌&&◌, if◌then◌else◌, List, [], ◌∷◌, ◌++◌, length, Option, Some, None, Result, Ok, Err, MatchResult, inl, inr, refl, ap, sym, ◌∙◌, subst, arith, append_assoc}
-use Rattle.std.proofs.lemmas.Bool.{true≢false, eqb-false, eq-eqb, ne_eqb, false_from_ne_true, cond-false, and_left}
-use Rattle.pas_profile.specs.Lives.{live_word}
-use Rattle.pas_profile.specs.Directories.{directory_read, deed_word_of}
-use Rattle.pas_profile.specs.declared.profile.Profile.{Profile}
-use Rattle.pas_profile.specs.declared.event.NoRoom.{NoRoom}
-use Rattle.pas_profile.specs.declared.name.Block.{Block}
-use Rattle.pas_profile.specs.declared.name.Name.{Name}
-use Rattle.pas_profile.specs.declared.word.Word.{Word}
+use Rattle.std.proofs.Common.{◌≡◌, ℕ, zero, suc, ◌+◌, ◌-◌, ◌/◌, ◌^◌, ◌<◌, ◌≤◌, ◌==◌, nat_le, Bool, true, false, ◌&&◌, if◌then◌else◌, List, [], ◌∷◌, ◌++◌}
+use Rattle.std.proofs.Common.{length, Option, Some, None, Result, Ok, Err, MatchResult, inl, inr, refl, ap, sym, ◌∙◌, subst, arith, append_assoc, true≢false}
+use Rattle.std.proofs.Common.{eq-eqb, ne_eqb}
+use Rattle.std.proofs.lemmas.Bool.{eqb-false, false_from_ne_true, cond-false, and_left}
+use Rattle.pas_profile.specs.{Lives.live_word, Directories.directory_read, Directories.deed_word_of, Blocks.address_of, Blocks.grain_of}
+use Rattle.pas_profile.specs.declared.{profile.Profile.Profile, event.NoRoom.NoRoom, name.Block.Block, name.Name.Name, word.Word.Word}
 use Rattle.pas_bits.specs.Runs.{meets_page}
-use Rattle.pas_profile.specs.Blocks.{address_of, grain_of}
-use Rattle.pas_steps.specs.Views.{View, is_unstamped}
-use Rattle.pas_steps.specs.Allowed.{IsStepOf}
-use Rattle.pas_steps.specs.Desks.{made}
-use Rattle.pas_steps.specs.declared.step.Made.{Made}
-use Rattle.pas_steps.specs.declared.step.Step.{Step}
+use Rattle.pas_steps.specs.{Views.View, Views.is_unstamped, Allowed.IsStepOf, Desks.made}
+use Rattle.pas_steps.specs.declared.step.{Made.Made, Step.Step}
 use Rattle.pas_steps.specs.declared.step.Step.TheVariants.{Look, EndSized, Stamp, Tick}
 use Rattle.pas_core.specs.Stamps.{AllStamped, KeepsToEnds}
-use Rattle.pas_rights.proofs.Orders.{return_returns}
-use Rattle.pas_rights.proofs.Puts.{puts_kinds}
+use Rattle.pas_rights.proofs.{Orders.return_returns, Puts.puts_kinds}
 use Rattle.pas_free_log.specs.Endings.{guess_by, Tries, TriesBy, last_step, IsRefusedBy, IsEndOf, EndSteps}
-use Rattle.pas_free_log.specs.Logs.{entry_of, sized_entry, is_sized}
+use Rattle.pas_free_log.specs.{Logs.entry_of, Logs.sized_entry, Logs.is_sized, Stamps.page_count}
 use Rattle.pas_free_log.specs.Returns.{PageSteps, PagesSteps, first_on, count_on}
-use Rattle.pas_free_log.specs.Stamps.{page_count}
-use Rattle.pas_free_log.specs.declared.log.Entry.{Entry}
-use Rattle.pas_free_log.specs.declared.noting.EndedRun.{EndedRun}
+use Rattle.pas_free_log.specs.declared.{log.Entry.Entry, noting.EndedRun.EndedRun, ending.Outcome.Outcome, ending.Outcome.TheVariants.Ended}
+use Rattle.pas_free_log.specs.declared.{ending.Outcome.TheVariants.Refused}
 use Rattle.pas_free_log.specs.Flushes.{Settled, AfterEnd, EntrySteps, EntriesSteps}
-use Rattle.pas_free_log.specs.declared.ending.Outcome.{Outcome}
-use Rattle.pas_free_log.specs.declared.ending.Outcome.TheVariants.{Ended, Refused}
 use Rattle.pas_free_log.proofs.OneEntry.{count_some, guess_is, not_ended}
-use Rattle.pas_cache.specs.Caches.{Cached}
-use Rattle.pas_cache.specs.Calls.{TakesEntry}
-use Rattle.pas_cache.specs.Changes.{EmptiesLog, EmptiesFull}
-use Rattle.pas_steps.specs.Kinds.{Kinds, Only, kind_of, look_kind, is_in, apart, LookEpoch, Putting, Ending, Stamping, Ticking, looking, returning, place_of, unstamping}
-use Rattle.pas_cache.specs.Kinds.{releasing, allocating}
+use Rattle.pas_cache.specs.{Caches.Cached, Calls.TakesEntry, Changes.EmptiesLog, Changes.EmptiesFull, Kinds.releasing, Kinds.allocating}
+use Rattle.pas_steps.specs.Kinds.{Kinds, Only, kind_of, look_kind, is_in, apart, LookEpoch, Putting, Ending, Stamping, Ticking, looking, returning, place_of}
+use Rattle.pas_steps.specs.Kinds.{unstamping}
 use Rattle.pas_steps.proofs.Apart.{holds_over, only_both, only_within, unstamped_same, unstamped_step_same, out_within}
 use Rattle.pas_steps.proofs.Calls.{returns_are}
 use Rattle.pas_trace.specs.declared.plan.What.{What}
@@ -162,9 +149,8 @@ run_tidy g n steps v some was h =
       kept = at.kept;
       stamped = λ p. false_from_ne_true (is_unstamped (steps ++ v) p) (λ un.
           let on = at.pending.only p un in
-          let past = on.1 in
           let within = (met_by g n p on.0).1 in
-          absurd (omega (arith, count, past, within)));
+          absurd (omega (arith, count, on.1, within)));
     }
 
 -- ---- an entry of the log

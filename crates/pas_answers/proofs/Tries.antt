@@ -1,69 +1,40 @@
 -- What a keeper's two calls come to for a request that it tries, and at the close.
-use Rattle.std.proofs.Common.{◌≡◌, ℕ, ◌+◌, ◌*◌, ◌/◌, ◌%◌, ◌<◌, ◌≤◌, ◌++◌, Bool, true, false, ◌||◌, List, [], ◌∷◌, length, drop, Option, Some, None, refl, ap, sym, ◌∙◌, subst, arith, append_assoc, append-nil, length-append, true≢false}
-use Rattle.std.specs.Prelude.{◌-◌, ◌^◌, map, reverse, max}
+use Rattle.std.proofs.Common.{◌≡◌, ℕ, ◌+◌, ◌*◌, ◌/◌, ◌%◌, ◌<◌, ◌≤◌, ◌++◌, Bool, true, false, ◌||◌, List, [], ◌∷◌, length, drop, Option, Some, None, refl, ap}
+use Rattle.std.proofs.Common.{sym, ◌∙◌, subst, arith, append_assoc, append-nil, length-append, true≢false, ◌-◌, ◌^◌, map, reverse, max}
 use Rattle.std.specs.List.{AllByRecursion}
-use Rattle.std.proofs.lemmas.List.{length-map, length-reverse}
-use Rattle.std.proofs.lemmas.Option.{same_Some}
-use Rattle.std.proofs.Math.Nat.{zero-mod}
+use Rattle.std.proofs.{lemmas.List.length-map, lemmas.List.length-reverse, lemmas.Option.same_Some, Math.Nat.zero-mod}
 use Rattle.pas_bits.specs.Runs.{in_run}
 use Rattle.pas_bitfit.proofs.Aligned.{stands_aligned}
-use Rattle.pas_profile.specs.Blocks.{address_of, grain_of, length_of}
-use Rattle.pas_profile.specs.Classes.{IsAlignment}
+use Rattle.pas_profile.specs.{Blocks.address_of, Blocks.grain_of, Blocks.length_of, Classes.IsAlignment, Routes.room_by}
 use Rattle.pas_profile.specs.Requests.{is_shared, kind_of_route, route_in, room_in}
-use Rattle.pas_profile.specs.Routes.{room_by}
-use Rattle.pas_profile.specs.declared.directory.Directory.{Directory}
-use Rattle.pas_profile.specs.declared.directory.Route.{Route}
-use Rattle.pas_profile.specs.declared.event.Event.{Event}
-use Rattle.pas_profile.specs.declared.name.Block.{Block}
-use Rattle.pas_profile.specs.declared.profile.Profile.{Profile}
+use Rattle.pas_profile.specs.declared.{directory.Directory.Directory, directory.Route.Route, event.Event.Event, name.Block.Block, profile.Profile.Profile}
 use Rattle.pas_profile.proofs.Lists.{all_both, all_map}
 use Rattle.pas_scan.specs.Runs.{large_directory}
-use Rattle.pas_steps.specs.Agreement.{Agreed}
-use Rattle.pas_steps.specs.Calls.{Calls}
+use Rattle.pas_steps.specs.{Agreement.Agreed, Calls.Calls, Events.events_by, Lists.Whole, Unknown.unknown_pages, Views.View, Views.KnowsDeed}
 use Rattle.pas_steps.specs.Desks.{Seat, Standing, CanCall, triples}
-use Rattle.pas_steps.specs.Events.{events_by}
 use Rattle.pas_steps.specs.Kinds.{Backing, Only, returning, kind_of, is_in}
-use Rattle.pas_steps.specs.Lists.{Whole}
-use Rattle.pas_steps.specs.Unknown.{unknown_pages}
-use Rattle.pas_steps.specs.Views.{View, KnowsDeed}
-use Rattle.pas_steps.specs.declared.step.Made.{Made}
-use Rattle.pas_steps.specs.declared.step.Step.{Step}
-use Rattle.pas_steps.specs.declared.step.Step.TheVariants.{Deed}
-use Rattle.pas_steps.proofs.Adding.{agreed_first, agreed_later}
-use Rattle.pas_steps.proofs.Apart.{no_events, events_same}
-use Rattle.pas_steps.proofs.Called.{call_then, next_call}
-use Rattle.pas_steps.proofs.Events.{ComesOf, comes_of, each_event}
-use Rattle.pas_steps.proofs.Frames.{events_append}
-use Rattle.pas_steps.proofs.Kept.{knows_still}
-use Rattle.pas_steps.proofs.Past.{always_map, always_pair}
-use Rattle.pas_steps.proofs.SpareRoom.{Spares, spare_falls}
-use Rattle.pas_steps.proofs.Unknown.{unknown_stays}
+use Rattle.pas_steps.specs.declared.step.{Made.Made, Step.Step, Step.TheVariants.Deed}
+use Rattle.pas_steps.proofs.{Adding.agreed_first, Adding.agreed_later, Apart.no_events, Apart.events_same, Called.call_then, Called.next_call, Events.ComesOf}
+use Rattle.pas_steps.proofs.{Events.comes_of, Events.each_event, Frames.events_append, Kept.knows_still, Past.always_map, Past.always_pair, SpareRoom.Spares}
+use Rattle.pas_steps.proofs.{SpareRoom.spare_falls, Unknown.unknown_stays}
 use Rattle.pas_rights.specs.Gives.{give_steps}
-use Rattle.pas_large.specs.Claims.{in_span}
-use Rattle.pas_large.specs.Evidence.{DeedsOf}
-use Rattle.pas_large.specs.Finds.{MayFind}
-use Rattle.pas_large.proofs.Claims.{in_parts, span_in}
-use Rattle.pas_large.proofs.Gives.{run_is, back_events}
-use Rattle.pas_large.proofs.Outcomes.{MadeOf}
+use Rattle.pas_large.specs.{Claims.in_span, Evidence.DeedsOf, Finds.MayFind}
+use Rattle.pas_large.proofs.{Claims.in_parts, Claims.span_in, Gives.run_is, Gives.back_events, Outcomes.MadeOf}
 use Rattle.pas_trace.specs.Reasons.{cost_of_size}
 use Rattle.pas_trace.specs.declared.item.Request.{Request}
 use Rattle.pas_trace.proofs.Costs.{large_cost}
 use Rattle.pas_report.specs.Rooms.{records_in, room_of, Records}
-use Rattle.pas_report.specs.declared.record.Record.{Record}
-use Rattle.pas_report.specs.declared.record.Said.{Said}
+use Rattle.pas_report.specs.declared.record.{Record.Record, Said.Said}
 use Rattle.pas_cache.specs.Serves.{Wanted, wanted_for, pages_of, IsPreparing, IsDeedOf}
 use Rattle.pas_cache.proofs.Routes.{is_large, pages_asked}
-use Rattle.pas_guard.specs.Books.{FitsBook, guards_in, size_of_book}
+use Rattle.pas_guard.specs.{Books.FitsBook, Books.guards_in, Books.size_of_book, Seeks.seeking}
 use Rattle.pas_guard.specs.Raises.{RaiseRoom, RaiseSteps, Raises, IsRaised, guard_of}
-use Rattle.pas_guard.specs.Seeks.{seeking}
 use Rattle.pas_guard.specs.Sweeps.{is_over, sweeping, SweptOne, Swept, SweepSteps, Sweeps}
-use Rattle.pas_guard.specs.declared.book.Guard.{Guard}
-use Rattle.pas_guard.specs.declared.book.GuardBook.{GuardBook}
+use Rattle.pas_guard.specs.declared.book.{Guard.Guard, GuardBook.GuardBook}
 use Rattle.pas_guard.proofs.Raised.{raised_backs, raised_few, raised_leaves}
-use Rattle.pas_answers.specs.Answers.{wanted_by, records_of, IsGiven}
-use Rattle.pas_answers.specs.Calls.{IsBlockOf, MayStand}
+use Rattle.pas_answers.specs.{Answers.wanted_by, Answers.records_of, Answers.IsGiven, Calls.IsBlockOf, Calls.MayStand}
 use Rattle.pas_answers.specs.Guarding.{said_of_guard, TryEnds, try_steps, IsTried}
-use Rattle.pas_answers.specs.Keeping.{owed_by_keeper, MayTry, cost_of_try, TriesRequest, MayLowerAll, LowersAll}
+use Rattle.pas_answers.specs.Keeping.{owed_by_keeper, MayTry, cost_of_try, TriesRequest, LowersAll}
 use Rattle.pas_answers.proofs.Records.{IsShown, shown_new, shown_longer}
 
 -- ---- a sweep
@@ -94,9 +65,6 @@ pub fewer_up : {σ σ' : Standing} {all : Bool} {guards guards' : List Guard} {s
 fewer_up {σ} {all = all} {guards = guards} {guards' = guards'} s = let count = swept_count all σ.seat.actor guards guards' s.more s.steps s.sweep.swept in omega (arith, count)
 
 -- ---- the close
-pub can_lower : {σ : Standing} {book : GuardBook} {out : Records} → CanCall σ (MayLowerAll σ.seat.profile book out) → CanCall σ (FitsBook σ.seat.profile (guards_in book))
-can_lower can = record { view = can.view; whole = can.whole; stood = can.stood; met = can.met.fits }
-
 pub lowers_all : {σ σ' : Standing} {book book' : GuardBook} {out out' : Records} → Sweeps true (guards_in book) (guards_in book') (records_in out) (records_in out') σ σ' → room_of out' ≡ room_of out → size_of_book book' ≡ size_of_book book → LowersAll book book' out out' σ σ'
 lowers_all {σ} {book = book} {book' = book'} s room size =
     let gone = all_gone σ.seat.actor (guards_in book) (guards_in book') s.more s.steps s.sweep.swept in
@@ -194,22 +162,18 @@ module _ (f : Profile) (heap n : ℕ) (guards guards' : List Guard) (steps : Lis
     turn_small v agreed =
         let here = agreed_first f v given is.searched (before_give v agreed) in
         let turn = ap (λ (b : Block). b.name.turn) up.block_is in
-        let small = here.1.0.turn in
-        omega (arith, turn, small)
+        omega (arith, turn, here.1.0.turn)
 
     page_is : address_of block.name ≡ (up.first + 1) * 4096
     page_is = ap (λ (b : Block). address_of b.name) up.block_is
 
     block_of_region : (v : View) → heap < f.heaps → Agreed f v steps → IsBlockOf f block
     block_of_region v of agreed =
-        let at = page_is in
         let region = up.found.of_region in
-        let low = region.0 in
-        let high = region.1 in
         let of_heap = ap (λ (b : Block). b.heap) up.block_is in
         let turn = turn_small v agreed in
         record {
-          region = record { page = (omega (arith, at, low), omega (arith, at, high)); aligned = omega (arith, at) };
+          region = record { page = (omega (arith, page_is, region.0), omega (arith, page_is, region.1)); aligned = omega (arith, page_is) };
           heap = omega (arith, of_heap, of);
           turn = omega (arith, turn);
         }
@@ -221,19 +185,16 @@ module _ (f : Profile) (heap n : ℕ) (guards guards' : List Guard) (steps : Lis
         let span = up.found.got.from v (may_find f d guards v fits) (agreed_later f v is.after is.searched all) in
         let page : in_span (up.first + 1) (up.first + 1 + n) (g / 256) ≡ true = sym (run_is d (up.first + 1) n up.word g) ∙ ap (λ (b : Block). in_run (grain_of b.name) (length_of b) g) (sym up.block_is) ∙ inside in
         let at = in_parts (up.first + 1) (up.first + 1 + n) (g / 256) page in
-        let low = at.0 in
-        let high = at.1 in
-        let before = span.got.deeds (g / 256) (span_in up.first (up.first + (n + 2)) (g / 256) (omega (arith, low)) (omega (arith, high))) in
+        let before = span.got.deeds (g / 256) (span_in up.first (up.first + (n + 2)) (g / 256) (omega (arith, at.0)) (omega (arith, at.1))) in
         subst (λ (w : View). KnowsDeed (g / 256) d w) (sym (append_assoc is.after is.searched v) ∙ ap (λ (xs : List Made). xs ++ v) (sym is.steps_are))
         (knows_still f d (g / 256) is.after (is.searched ++ v) (agreed_first f v is.after is.searched all) before)
 
     some_ends : (k align : ℕ) (v : View) → FitsBook f guards v → Agreed f v steps → address_of block.name % align ≡ 0 → IsGiven k (record { directory = d; route = Route.Large; room = n * 4096; align = align }) v steps block
     some_ends k align v fits agreed aligned =
-        let at = page_is in
         record {
           of_heap = ap (λ (b : Block). b.heap) up.block_is;
           room = ap (λ (b : Block). b.room) up.block_is;
-          placed = omega (arith, at);
+          placed = omega (arith, page_is);
           aligned = aligned;
           of_directory = deeds_known v fits agreed;
           before = events_by k (is.searched ++ v) up.backs ++ events_by k v is.searched;
@@ -429,8 +390,7 @@ module _ {σ σ1 σ2 : Standing} (r : Request) (book book1 book2 : GuardBook) (o
       let most = most_cost answer in
       let count = swept_count false k (guards_in book) guards1 s.more s.steps s.sweep.swept in
       let swept = ap (λ (rs : List Record). length rs) s.added ∙ length-append (records_in out) s.more in
-      let room = can.met.records in
-      omega (arith, shown, few, most, count, swept, room)
+      omega (arith, shown, few, most, count, swept, can.met.records)
 
   -- ---- the answer
   -- the block that was given may be freed
@@ -465,9 +425,7 @@ module _ {σ σ1 σ2 : Standing} (r : Request) (book book1 book2 : GuardBook) (o
   short =
       let raise : RaiseSteps f r.heap (pages_of (wanted_by f r)) guards1 guards2 answer u.steps = subst (λ (m : ℕ). RaiseSteps f r.heap m guards1 guards2 answer u.steps) (count_wanted f r n is large) raise_so in
       let all = length-append u.steps s.steps in
-      let swept = s.sweep.few in
-      let raised = raise.few in
-      omega (arith, all, swept, raised)
+      omega (arith, all, s.sweep.few, raise.few)
 
   pub tries : (out2 out3 : Records) (old new : List Event) → IsAlignment r.align → IsShown σ1 old → IsShown σ2 new → records_in out2 ≡ records_in out1 ++ map Record.Event (drop (length old) new)
       → records_in out3 ≡ records_in out2 ++ said_of_guard k r.name (pages_of (wanted_by f r)) answer → room_of out3 ≡ room_of out → size_of_book book2 ≡ size_of_book book → TriesRequest r book book2 out out3 σ σ2 answer

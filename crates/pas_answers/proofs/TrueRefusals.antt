@@ -1,30 +1,19 @@
 -- In a replay whose pieces stand together in a legal list each refusal is true of the whole state, and each run that was named serves exactly where it is whole.
-use Rattle.std.proofs.Common.{◌≡◌, ℕ, ◌<◌, inl, inr, List, [], ◌∷◌, ◌++◌, Option, Some, None, Result, Ok, Err, MatchResult, refl, sym, subst}
-use Rattle.std.specs.Prelude.{MatchOption}
+use Rattle.std.proofs.Common.{◌≡◌, ℕ, ◌<◌, inl, inr, List, [], ◌∷◌, ◌++◌, Option, Some, None, Result, Ok, Err, MatchResult, refl, sym, subst, MatchOption}
 use Rattle.pas_profile.specs.Profiles.{IsValid, IsAdmitted}
-use Rattle.pas_profile.specs.declared.event.NoRoom.{NoRoom}
-use Rattle.pas_profile.specs.declared.name.Block.{Block}
-use Rattle.pas_profile.specs.declared.profile.Profile.{Profile}
-use Rattle.pas_steps.specs.Desks.{triples}
-use Rattle.pas_steps.specs.Lists.{Whole, part, Legal}
+use Rattle.pas_profile.specs.declared.{event.NoRoom.NoRoom, name.Block.Block, profile.Profile.Profile}
+use Rattle.pas_steps.specs.{Desks.triples, Lists.Whole, Lists.part, Lists.Legal}
 use Rattle.pas_steps.specs.declared.step.Made.{Made}
 use Rattle.pas_core.proofs.OneActor.{legal_before, legal_earlier}
-use Rattle.pas_trace.specs.EveryPlan.{asked_after}
-use Rattle.pas_trace.specs.Asked.{request_in}
-use Rattle.pas_trace.specs.declared.item.Request.{Request}
-use Rattle.pas_trace.specs.declared.plan.Op.{Op}
-use Rattle.pas_trace.specs.declared.plan.What.{What}
-use Rattle.pas_trace.specs.declared.plan.What.TheVariants.{Alloc, Guarded, Remake}
-use Rattle.pas_cache.specs.Caches.{Cached, AtRest}
-use Rattle.pas_cache.specs.Refusals.{IsTrulyRefused, TakesWhatIsNamed}
-use Rattle.pas_cache.specs.Serves.{wanted_for, ServesRequest}
+use Rattle.pas_trace.specs.{EveryPlan.asked_after, Asked.request_in}
+use Rattle.pas_trace.specs.declared.{item.Request.Request, plan.Op.Op, plan.What.What, plan.What.TheVariants.Alloc, plan.What.TheVariants.Guarded}
+use Rattle.pas_trace.specs.declared.{plan.What.TheVariants.Remake}
+use Rattle.pas_cache.specs.{Caches.Cached, Caches.AtRest, Refusals.IsTrulyRefused, Refusals.TakesWhatIsNamed, Serves.wanted_for, Serves.ServesRequest}
 use Rattle.pas_cache.proofs.Alone.{truly_refused, takes_named}
 use Rattle.pas_trace.specs.Acts.{Act, Operates, Guards, Ticks}
 use Rattle.pas_answers.specs.Answers.{Having, having, Answer, standing_for, wanted_by, request_for, IsReplaced, IsRemadeBy, IsAnswered, Progress}
-use Rattle.pas_answers.specs.Reaching.{AnswersTried, AnswersGuarded, Reaches}
-use Rattle.pas_answers.specs.Guarding.{after_trying}
+use Rattle.pas_answers.specs.{Reaching.AnswersTried, Reaching.AnswersGuarded, Reaching.Reaches, Guarding.after_trying, Fit.IsFitWhat, Fit.AreFit}
 use Rattle.pas_answers.proofs.Reached.{was_so}
-use Rattle.pas_answers.specs.Fit.{IsFitWhat, AreFit}
 use Rattle.pas_answers.specs.Refusals.{request_in_remade, RefusesTruly, TriedRefusesTruly, GuardedRefusesTruly, AllRefuseTruly}
 use Rattle.pas_answers.specs.Indexes.{TakesItsRun, TriedTakesItsRun, GuardedTakesItsRun, AllTakeTheirRuns}
 

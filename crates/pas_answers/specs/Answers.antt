@@ -1,41 +1,24 @@
 -- Which steps and records answer an operation, and how far a replay has come after an act.
-use Rattle.std.specs.Prelude.{ℕ, ◌+◌, ◌/◌, ◌%◌, ◌≡◌, ◌<◌, ◌≤◌, ◌==◌, ◌⊎◌, true, false, if◌then◌else◌, List, [], ◌∷◌, ◌++◌, map, max, reverse, Option, None, Some, Result, Ok, Err, MatchResult}
+use Rattle.std.specs.Prelude.{ℕ, ◌+◌, ◌/◌, ◌%◌, ◌≡◌, ◌<◌, ◌≤◌, ◌==◌, ◌⊎◌, true, false, if◌then◌else◌, List, [], ◌∷◌, ◌++◌, map, max, reverse, Option, None}
+use Rattle.std.specs.Prelude.{Some, Result, Ok, Err, MatchResult}
 use Rattle.std.specs.List.{AllByRecursion}
-use Rattle.pas_profile.specs.declared.directory.Directory.{Directory}
-use Rattle.pas_profile.specs.declared.directory.Route.{Route}
-use Rattle.pas_profile.specs.declared.profile.Profile.{Profile}
-use Rattle.pas_profile.specs.declared.name.Name.{Name}
-use Rattle.pas_profile.specs.declared.name.Block.{Block}
-use Rattle.pas_profile.specs.declared.word.Word.TheVariants as Word
-use Rattle.pas_profile.specs.declared.event.Event.{Event}
-use Rattle.pas_profile.specs.declared.event.FreeFault.{FreeFault}
-use Rattle.pas_profile.specs.declared.event.Outcome.{Outcome}
-use Rattle.pas_profile.specs.declared.event.FreeFault.TheVariants.{Outside, Unaligned}
-use Rattle.pas_profile.specs.declared.event.NoRoom.{NoRoom}
-use Rattle.pas_profile.specs.declared.event.NoRoom.TheVariants.{NoSpace, Held}
+use Rattle.pas_profile.specs.declared.{directory.Directory.Directory, directory.Route.Route, profile.Profile.Profile, name.Name.Name, name.Block.Block}
+use Rattle.pas_profile.specs.declared.{word.Word.Word, event.Event.Event, event.FreeFault.FreeFault, event.Outcome.Outcome, event.FreeFault.TheVariants.Outside}
+use Rattle.pas_profile.specs.declared.{event.FreeFault.TheVariants.Unaligned, event.NoRoom.NoRoom, event.NoRoom.TheVariants.NoSpace}
+use Rattle.pas_profile.specs.declared.{event.NoRoom.TheVariants.Held}
 use Rattle.pas_bits.specs.Runs.{in_run}
 use Rattle.pas_profile.specs.Blocks.{address_of, grain_of, length_of}
-use Rattle.pas_steps.specs.Views.{View, KnowsDeed}
-use Rattle.pas_steps.specs.Events.{events_by}
-use Rattle.pas_steps.specs.Lists.{Whole, part}
-use Rattle.pas_steps.specs.Desks.{made, triples}
-use Rattle.pas_steps.specs.declared.step.Made.{Made}
-use Rattle.pas_steps.specs.declared.step.Step.TheVariants.{Look}
-use Rattle.pas_steps.specs.declared.step.Step.TheVariants as Step
-use Rattle.pas_trace.specs.declared.plan.What.{What}
+use Rattle.pas_steps.specs.{Views.View, Views.KnowsDeed, Events.events_by, Lists.Whole, Lists.part, Desks.made, Desks.triples, Kinds.Only}
+use Rattle.pas_steps.specs.declared.step.{Made.Made, Step.TheVariants.Look, Step.Step}
+use Rattle.pas_trace.specs.declared.{plan.What.What, item.Request.Request}
 use Rattle.pas_trace.specs.declared.plan.What.TheVariants.{Alloc, Guarded, Free, FreeSized, Raw, RawSized, Remake, Flush, Stop, Tick, Pass, Idle}
 pub use Rattle.pas_trace.specs.Named.{Named, named, standing_for, suits, request_for}
-use Rattle.pas_trace.specs.declared.item.Request.{Request}
-use Rattle.pas_report.specs.declared.record.Record.{Record}
-use Rattle.pas_report.specs.declared.record.Said.{Said}
-use Rattle.pas_cache.specs.Caches.{Cached, AtRest}
-use Rattle.pas_cache.specs.Changes.{EmptiesLog, StopsEach}
-use Rattle.pas_steps.specs.Kinds.{Only}
-use Rattle.pas_cache.specs.Kinds.{allocating, releasing}
+use Rattle.pas_report.specs.declared.record.{Record.Record, Said.Said}
+use Rattle.pas_cache.specs.{Caches.Cached, Caches.AtRest, Changes.EmptiesLog, Changes.StopsEach, Kinds.allocating, Kinds.releasing, Calls.TakesEntry}
+use Rattle.pas_cache.specs.{Calls.RefusesName}
 use Rattle.pas_cache.specs.Serves.{Wanted, wanted_for, ServesRequest, IsPreparing, IsPlaced, IsDeedOf}
 use Rattle.pas_free_log.specs.declared.log.Entry.{Entry}
 use Rattle.pas_free_log.specs.Logs.{entry_of, sized_entry}
-use Rattle.pas_cache.specs.Calls.{TakesEntry, RefusesName}
 use Rattle.pas_passes.specs.Records.{records_of_pass}
 use Rattle.pas_guard.specs.declared.book.Guard.{Guard}
 

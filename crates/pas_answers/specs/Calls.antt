@@ -1,33 +1,19 @@
 -- What one operation asks and promises.
-use Rattle.std.specs.Prelude.{ℕ, ◌+◌, ◌-◌, ◌^◌, ◌<◌, ◌≤◌, ◌≡◌, true, false, List, [], ◌∷◌, ◌++◌, length, Option, None, Some, MatchOption, option_and_then, Result, Ok, Err, MatchResult}
-use Rattle.pas_profile.specs.declared.profile.Profile.{Profile}
-use Rattle.pas_steps.specs.Views.{View}
-use Rattle.pas_steps.specs.Agreement.{Agreed}
-use Rattle.pas_steps.specs.Events.{events_by}
-use Rattle.pas_steps.specs.Lists.{Whole}
-use Rattle.pas_steps.specs.Desks.{Standing}
+use Rattle.std.specs.Prelude.{ℕ, ◌+◌, ◌-◌, ◌^◌, ◌<◌, ◌≤◌, ◌≡◌, true, false, List, [], ◌∷◌, ◌++◌, length, Option, None, Some, MatchOption, option_and_then}
+use Rattle.std.specs.Prelude.{Result, Ok, Err, MatchResult}
+use Rattle.pas_profile.specs.declared.{profile.Profile.Profile, event.NoRoom.NoRoom, name.Block.Block}
+use Rattle.pas_steps.specs.{Views.View, Agreement.Agreed, Events.events_by, Lists.Whole, Desks.Standing, Kinds.Only, Unknown.unknown_pages}
 use Rattle.pas_steps.specs.declared.step.Made.{Made}
-use Rattle.pas_trace.specs.Asked.{request_in, freed_in}
-use Rattle.pas_trace.specs.EveryPlan.{is_asked}
-use Rattle.pas_trace.specs.declared.plan.What.{What}
+use Rattle.pas_trace.specs.{Asked.request_in, Asked.freed_in, EveryPlan.is_asked}
+use Rattle.pas_trace.specs.declared.{plan.What.What, plan.Task.Task, item.Request.Request}
 use Rattle.pas_trace.specs.declared.plan.What.TheVariants.{Alloc, Guarded, Free, FreeSized, Raw, RawSized, Remake, Flush, Stop}
-use Rattle.pas_trace.specs.declared.plan.Task.{Task}
-use Rattle.pas_trace.specs.declared.item.Request.{Request}
 use Rattle.pas_report.specs.Rooms.{records_in, room_of, Records}
 use Rattle.pas_report.specs.declared.record.Said.{Said}
 use Rattle.pas_free_log.specs.declared.log.Entry.{Entry}
-use Rattle.pas_cache.specs.Caches.{Cached, AtRest}
-use Rattle.pas_profile.specs.declared.event.NoRoom.{NoRoom}
-use Rattle.pas_profile.specs.declared.name.Block.{Block}
-use Rattle.pas_steps.specs.Kinds.{Only}
-use Rattle.pas_cache.specs.Calls.{Rests}
-use Rattle.pas_cache.specs.Names.{IsInRegion}
-use Rattle.pas_cache.specs.Kinds.{allocating}
+use Rattle.pas_cache.specs.{Caches.Cached, Caches.AtRest, Calls.Rests, Names.IsInRegion, Kinds.allocating}
 use Rattle.pas_cache.specs.Serves.{Wanted, ServesRequest, IsBlockFor, MakesAtMost}
-use Rattle.pas_steps.specs.Unknown.{unknown_pages}
 use Rattle.pas_answers.specs.Answers.{having, answer_of, Named, named, standing_for, IsFreed, IsAnswered, RefusalEnds, records_of, said_by}
-use Rattle.pas_answers.specs.Fit.{cost_of_what}
-use Rattle.pas_answers.specs.Names.{block_named}
+use Rattle.pas_answers.specs.{Fit.cost_of_what, Names.block_named}
 use Rattle.pas_answers.specs.declared.names.Names.{Names}
 
 -- ---- the operation that asks its thread for this

@@ -1,9 +1,7 @@
 -- What the names of a trace stand for, in the replay's table.
 use Rattle.std.specs.Prelude.{ℕ, Option, None, Some, slice_index_or, length}
 use Rattle.pas_profile.specs.declared.name.Block.{Block}
-use Rattle.pas_answers.specs.declared.names.Meaning.{Meaning}
-use Rattle.pas_answers.specs.declared.names.Meaning.TheVariants.{Nothing, Given}
-use Rattle.pas_answers.specs.declared.names.Names.{Names}
+use Rattle.pas_answers.specs.declared.names.{Meaning.Meaning, Meaning.TheVariants.Nothing, Meaning.TheVariants.Given, Names.Names}
 
 -- the block, by its address, turn, room and heap
 abbrev pub block_in : Meaning → Option Block

@@ -3,8 +3,7 @@ use Rattle.std.specs.Prelude.{ℕ, ◌≡◌, List, [], ◌∷◌, ◌++◌}
 use Rattle.pas_profile.specs.declared.profile.Profile.{Profile}
 use Rattle.pas_steps.specs.Lists.{Whole, part}
 use Rattle.pas_trace.specs.Acts.{Act, MarksPhase, MarksClose}
-use Rattle.pas_answers.specs.Answers.{Progress}
-use Rattle.pas_answers.specs.Reaching.{Reaches}
+use Rattle.pas_answers.specs.{Answers.Progress, Reaching.Reaches}
 
 -- The steps told so far are the first of the whole list, whose newest step stands in front: it ends with a list that has of each actor the same part as they.
 pub record StandFirst (told whole : Whole) : Type 0 where

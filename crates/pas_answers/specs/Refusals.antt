@@ -1,21 +1,17 @@
 -- Refusals in a replay whose pieces stand together in the list of all steps: each is true of the whole state.
 use Rattle.std.specs.Prelude.{ℕ, ◌⊎◌, List, [], ◌∷◌, ◌++◌, Option, None, Some, MatchOption, MatchResult}
 use Rattle.std.proofs.Common.{inl, inr}
-use Rattle.pas_profile.specs.declared.name.Block.{Block}
-use Rattle.pas_profile.specs.declared.profile.Profile.{Profile}
-use Rattle.pas_steps.specs.Desks.{triples}
-use Rattle.pas_steps.specs.Lists.{Whole, part}
-use Rattle.pas_trace.specs.declared.plan.What.{What}
+use Rattle.pas_profile.specs.declared.{name.Block.Block, profile.Profile.Profile}
+use Rattle.pas_steps.specs.{Desks.triples, Lists.Whole, Lists.part}
+use Rattle.pas_trace.specs.declared.{plan.What.What, item.Request.Request, plan.Op.Op}
 use Rattle.pas_trace.specs.declared.plan.What.TheVariants.{Alloc, Guarded, Free, FreeSized, Raw, RawSized, Remake, Flush, Stop, Tick, Pass, Idle}
-use Rattle.pas_trace.specs.declared.item.Request.{Request}
 use Rattle.pas_cache.specs.Refusals.{IsTrulyRefused}
 use Rattle.pas_trace.specs.Acts.{Act, Operates, Guards, Settles, Ticks, MakesPass, ReadsEpoch, StopsIdle, MarksPhase, Wakes, MarksClose, Ends, Lowers}
-use Rattle.pas_answers.specs.Answers.{Having, having, Answer, standing_for, wanted_by, request_for, IsServed, IsKept, IsReplaced, IsRemadeBy, IsAnswered, Progress}
+use Rattle.pas_answers.specs.Answers.{Having, having, Answer, standing_for, wanted_by, request_for, IsServed, IsKept, IsReplaced, IsRemadeBy, IsAnswered}
+use Rattle.pas_answers.specs.Answers.{Progress}
 use Rattle.pas_trace.specs.Asked.{request_in}
-use Rattle.pas_trace.specs.declared.plan.Op.{Op}
-use Rattle.pas_answers.specs.Guarding.{after_trying}
+use Rattle.pas_answers.specs.{Guarding.after_trying, Ways.Way, Ways.InOrder, Ways.OnThreads}
 use Rattle.pas_answers.specs.Reaching.{AnswersTried, AnswersGuarded, Advances, Reaches}
-use Rattle.pas_answers.specs.Ways.{Way, InOrder, OnThreads}
 
 -- ---- the request in an answer
 -- a request that actor k made for an operation, and how it was answered

@@ -1,32 +1,21 @@
 -- What a replay shows.
 use Rattle.std.specs.Prelude.{ℕ, ◌<◌, ◌≡◌, List, [], Some, map}
 use Rattle.pas_profile.specs.Profiles.{IsDirectoryOf, IsWordOf}
-use Rattle.pas_profile.specs.declared.profile.Profile.{Profile}
-use Rattle.pas_profile.specs.declared.word.Word.{Word}
-use Rattle.pas_profile.specs.declared.directory.Directory.{Directory}
-use Rattle.pas_machine.specs.Machine.{Run}
-use Rattle.pas_machine.specs.State.{deed_in}
-use Rattle.pas_steps.specs.Views.{KnowsDeed}
+use Rattle.pas_profile.specs.declared.{profile.Profile.Profile, word.Word.Word, directory.Directory.Directory}
+use Rattle.pas_machine.specs.{Machine.Run, State.deed_in}
+use Rattle.pas_steps.specs.{Views.KnowsDeed, Clear.HasNothing, States.profile_of, States.word_in}
 use Rattle.pas_steps.specs.Lists.{Whole, part, word_after, visible, Legal}
-use Rattle.pas_steps.specs.Clear.{HasNothing}
-use Rattle.pas_steps.specs.States.{profile_of, word_in}
 use Rattle.pas_steps.specs.declared.state.State.{State}
 use Rattle.pas_trace.specs.Plans.{ops_of}
-use Rattle.pas_trace.specs.declared.plan.Op.{Op}
-use Rattle.pas_trace.specs.declared.plan.Plan.{Plan}
+use Rattle.pas_trace.specs.declared.plan.{Op.Op, Plan.Plan}
 use Rattle.pas_report.specs.Rests.{AreStamped, AreTrueMarks}
 use Rattle.pas_report.specs.declared.record.Record.{Record}
 use Rattle.pas_cache.specs.Caches.{Cached}
 use Rattle.pas_guard.specs.Keepers.{Call, MakesCalls}
 use Rattle.pas_guard.specs.declared.book.Guard.{Guard}
 pub use Rattle.pas_trace.specs.Acts.{region_of, threads_of, keepers_of, acts_of_plan}
-use Rattle.pas_answers.specs.Answers.{Caches, Books, Progress}
-use Rattle.pas_answers.specs.Reaching.{Reaches}
-use Rattle.pas_answers.specs.Phases.{AreInPhases}
-use Rattle.pas_answers.specs.Indexes.{GoByIndexes}
-use Rattle.pas_answers.specs.Refusals.{AreRefusalsTrue}
-use Rattle.pas_answers.specs.Rests.{RestBetween}
-use Rattle.pas_answers.specs.Ways.{Way, IsOneOrder, arranged}
+use Rattle.pas_answers.specs.{Answers.Caches, Answers.Books, Answers.Progress, Reaching.Reaches, Phases.AreInPhases, Indexes.GoByIndexes}
+use Rattle.pas_answers.specs.{Refusals.AreRefusalsTrue, Rests.RestBetween, Ways.Way, Ways.IsOneOrder, Ways.arranged}
 
 -- the phases of a plan, as lists of operations
 abbrev pub phases_of : Plan → List (List Op)

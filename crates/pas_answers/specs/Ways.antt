@@ -3,9 +3,8 @@
 use Rattle.std.specs.Prelude.{ℕ, zero, suc, ◌+◌, ◌≡◌, ◌==◌, Bool, true, false, if◌then◌else◌, List, [], ◌∷◌, ◌++◌}
 use Rattle.std.specs.List.{AllByRecursion}
 use Rattle.pas_profile.specs.declared.event.Event.{Event}
-use Rattle.pas_steps.specs.Lists.{Whole, part}
+use Rattle.pas_steps.specs.{Lists.Whole, Lists.part, Events.actor_of}
 use Rattle.pas_report.specs.declared.record.Record.{Record}
-use Rattle.pas_steps.specs.Events.{actor_of}
 
 pub data Way : Type 0 where
   InOrder : Way

@@ -3,12 +3,9 @@ ghost use Rattle.std.specs.Prelude.{◌≡◌, ◌+◌, ◌-◌, ◌^◌, ◌≤
 ghost use Rattle.pas_trace.specs.declared.plan.What.TheVariants as TheWhat;
 ghost use Rattle.pas_report.specs.Rooms.{records_in, room_of};
 ghost use Rattle.pas_steps.specs.Desks.{CanCall};
-ghost use Rattle.pas_cache.specs.Caches.{cached};
-ghost use Rattle.pas_cache.specs.Calls.{Frees};
+ghost use Rattle.pas_cache.specs.{Caches.cached, Calls.Frees};
 ghost use Rattle.pas_trace.specs.EveryPlan.{IsRoomNamed};
-ghost use Rattle.pas_answers.specs.Answers.{said_of_room, entry_with};
-ghost use Rattle.pas_answers.specs.Fit.{IsFitWhat};
-ghost use Rattle.pas_answers.specs.Indexes.{IsNamedFor, request_made};
+ghost use Rattle.pas_answers.specs.{Answers.said_of_room, Answers.entry_with, Fit.IsFitWhat, Indexes.IsNamedFor, Indexes.request_made};
 ghost use Rattle.pas_profile.specs.Profiles.{IsAdmitted};
 ghost use Rattle.pas_profile.specs.declared.name.Block.{Block as TheBlock};
 ghost use Rattle.pas_answers.specs.Calls.{what_of, IsBlockOf, MayStand, MayPerform, PerformsMeant, FreesOne, MayAnswer, AnswersMeant};

@@ -11,9 +11,7 @@ pub trait Remake {
     ghost use Rattle.std.specs.Prelude.{◌≡◌, ◌<◌, ◌+◌, ◌-◌, ◌/◌, ◌^◌};
     ghost use Rattle.pas_profile.specs.Profiles.{IsAdmitted};
     ghost use Rattle.pas_steps.specs.Desks.{CanCall};
-    ghost use Rattle.pas_cache.specs.Caches.{cached};
-    ghost use Rattle.pas_cache.specs.Names.{IsInRegion};
-    ghost use Rattle.pas_cache.specs.Serves.{wanted_for};
+    ghost use Rattle.pas_cache.specs.{Caches.cached, Names.IsInRegion, Serves.wanted_for};
     ghost use Rattle.pas_answers.specs.Moves.{MayMove, Moves};
 
     /// The block gets so many bytes, where none count as one, at a multiple of the alignment: it is kept exactly where it suits. Otherwise another block of

@@ -1,6 +1,5 @@
 -- Where the block of a run stands, and how long it is.
-use Rattle.std.proofs.Common.{◌≡◌, ℕ, ◌+◌, ◌*◌, ◌/◌, ◌%◌, ◌==◌, Bool, true, false, ◌||◌, not, refl, ap, sym, ◌∙◌, arith, nat_lt}
-use Rattle.std.proofs.lemmas.Bool.{eq-eqb, eqb-true}
+use Rattle.std.proofs.Common.{◌≡◌, ℕ, ◌+◌, ◌*◌, ◌/◌, ◌%◌, ◌==◌, Bool, true, false, ◌||◌, not, refl, ap, sym, ◌∙◌, arith, nat_lt, eq-eqb, eqb-true}
 use Rattle.std.proofs.Math.Nat.{add-mul-mod_self_right, mul-mod_left, mod-add-div', mul_assoc}
 use Rattle.pas_profile.specs.Classes.{IsAlignment}
 use Rattle.pas_profile.proofs.Sizes.{passes_below, passes_at}
@@ -25,7 +24,7 @@ pub stands_aligned : (page first align : ℕ) → IsAlignment align → first % 
 stands_aligned page first align is at =
     let whole : align / 16 * 16 ≡ align = let m = sixteens align is in omega (arith, m) in
     let grains : first / (align / 16) * (align / 16) ≡ first = let m = mod-add-div' first (align / 16) in omega (arith, m, at) in
-    let pages : 4096 / align * align ≡ 4096 = let m = mod-add-div' 4096 align in let z = is.2 in omega (arith, m, z) in
+    let pages : 4096 / align * align ≡ 4096 = let m = mod-add-div' 4096 align in omega (arith, m, is.2) in
     let bytes : first * 16 ≡ first / (align / 16) * align = ap (λ n. n * 16) (sym grains) ∙ mul_assoc (first / (align / 16)) (align / 16) 16 ∙ ap (λ n. first / (align / 16) * n) whole in
     let before : page * 4096 ≡ page * (4096 / align) * align = ap (λ n. page * n) (sym pages) ∙ sym (mul_assoc page (4096 / align) align) in
     ap (λ n. n % align) (omega (arith, before) ∙ refl) ∙ add-mul-mod_self_right (first * 16) (page * (4096 / align)) align ∙ ap (λ n. n % align) bytes ∙ mul-mod_left (first / (align / 16)) align

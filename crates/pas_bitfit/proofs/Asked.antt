@@ -1,25 +1,20 @@
 -- A block of the room and the alignment that were asked for.
 use Rattle.std.proofs.Common.{◌≡◌, ℕ, ◌%◌, ◌≤◌, Bool, List, Ok, Err, Result, ap, ◌∙◌, arith, MatchResult}
-use Rattle.pas_profile.specs.Classes.{IsAlignment}
-use Rattle.pas_profile.specs.Blocks.{address_of}
-use Rattle.pas_profile.specs.declared.directory.Directory.{Directory}
-use Rattle.pas_profile.specs.declared.event.NoRoom.{NoRoom}
-use Rattle.pas_profile.specs.declared.name.Block.{Block}
-use Rattle.pas_profile.specs.declared.profile.Profile.{Profile}
+use Rattle.pas_profile.specs.{Classes.IsAlignment, Blocks.address_of}
+use Rattle.pas_profile.specs.declared.{directory.Directory.Directory, event.NoRoom.NoRoom, name.Block.Block, profile.Profile.Profile}
 use Rattle.pas_steps.specs.Desks.{Standing}
 use Rattle.pas_steps.specs.declared.step.Made.{Made}
 use Rattle.pas_choice.specs.Allocates.{IsGiven, AllocatesRun}
-use Rattle.pas_bitfit.specs.Allocates.{bitfit_directory, run_for, IsOfRequest}
-use Rattle.pas_bitfit.specs.Runs.{IsWanted, runs, run_at}
+use Rattle.pas_bitfit.specs.{Allocates.bitfit_directory, Allocates.run_for, Allocates.IsOfRequest, Runs.IsWanted, Runs.runs, Runs.run_at}
 use Rattle.pas_bitfit.proofs.Aligned.{stands_aligned}
 
 pub is_wanted : (room align : ℕ) → (16 ≤ room) × (room ≤ 2048) × (room % 16 ≡ 0) → IsAlignment align → IsWanted (run_for room align)
-is_wanted room align sized is = let low = sized.0 in let high = sized.1 in let a = is.0 in let b = is.1 in record { grains = (omega (arith, low), omega (arith, high)); align = (omega (arith, a), omega (arith, b)) }
+is_wanted room align sized is = record { grains = (omega (arith, sized.0), omega (arith, sized.1)); align = (omega (arith, is.0), omega (arith, is.1)) }
 
 module _ (room align : ℕ) (sized : (16 ≤ room) × (room ≤ 2048) × (room % 16 ≡ 0)) (alignment : IsAlignment align) where
   of_request : (f : Profile) (d : Directory) (searched after : List Made) (block : Block) → IsGiven (runs (run_for room align)) (run_at (run_for room align)) f d searched after block → IsOfRequest room align block
   of_request f d searched after block is = record {
-    room_is = ap (λ (b : Block). b.room) is.block_is ∙ (let whole = sized.2 in omega (arith, whole));
+    room_is = ap (λ (b : Block). b.room) is.block_is ∙ (omega (arith, sized.2));
     aligned = ap (λ (b : Block). address_of b.name % align) is.block_is ∙ stands_aligned is.page is.found align alignment is.served.serves.chosen.this.aligned;
   }
 

@@ -11,18 +11,18 @@ use Rattle.pas_bitfit.specs.declared.wanted.Wanted.{Wanted}
 
 module _ (wanted : Wanted) (mask : Mask4) (is : IsWanted wanted) where
   place_of : (g : ℕ) → Fits wanted (is_set mask) g → IsPlace mask wanted.grains wanted.align 256 g
-  place_of g fits = record { aligned = fits.aligned; within = fits.within; set = λ x low high. let end = fits.within in fits.free x (omega (arith, high, end)) low high }
+  place_of g fits = record { aligned = fits.aligned; within = fits.within; set = λ x low high. fits.free x (omega (arith, high, fits.within)) low high }
 
   pub none_fits : HasNoPlace mask wanted.grains wanted.align 256 → IsUnfit (runs wanted) (is_set mask)
   none_fits none = record {
     none = λ g fits. none g (place_of g fits);
-    used = λ all. none 0 (record { aligned = grind arith; within = let n = is.grains.1 in omega (arith, n); set = λ x low high. let n = is.grains.1 in all x (omega (arith, high, n)) });
+    used = λ all. none 0 (record { aligned = grind arith; within = omega (arith, is.grains.1); set = λ x low high. all x (omega (arith, high, is.grains.1)) });
   }
 
   -- no grain is free
   pub empty_fits : IsEmpty mask.0 → IsUnfit (runs wanted) (is_set mask)
   empty_fits empty = none_fits (λ g place.
-      let some = is.grains.0 in absurd (true≢false (sym (place.set g (omega arith) (omega (arith, some))) ∙ empty g)))
+      absurd (true≢false (sym (place.set g (omega arith) (omega (arith, is.grains.0))) ∙ empty g)))
 
   pub lowest_fits : (first : ℕ) (grains : Mask4) → IsLowestPlace mask wanted.grains wanted.align 256 first → ((g : ℕ) → is_set grains g ≡ in_run first wanted.grains g) → IsChosen (runs wanted) (is_set mask) first grains
   lowest_fits first grains lowest run =

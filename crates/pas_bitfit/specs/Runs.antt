@@ -1,11 +1,10 @@
 -- Runs of free grains of a page.
 use Rattle.std.specs.Prelude.{ℕ, ◌+◌, ◌%◌, ◌<◌, ◌≤◌, ◌≡◌, refl}
 use Rattle.pas_bits.specs.Runs.{in_run}
-use Rattle.pas_profile.specs.declared.directory.Kind.TheVariants as Kind
+use Rattle.pas_profile.specs.declared.directory.Kind.{Kind}
 use Rattle.pas_steps.specs.Evidence.{Readings, IsAntitone}
 use Rattle.pas_rights.specs.Looks.{AllFree}
-use Rattle.pas_choice.specs.Allocates.{IsRunOf}
-use Rattle.pas_choice.specs.Choices.{Choice}
+use Rattle.pas_choice.specs.{Allocates.IsRunOf, Choices.Choice}
 use Rattle.pas_choice.specs.declared.choosing.Run.{Run}
 use Rattle.pas_bitfit.specs.declared.wanted.Wanted.{Wanted}
 

@@ -1,7 +1,6 @@
 //! A bit-fit block is allocated.
 ghost use Rattle.std.specs.Prelude.{◌≡◌, ◌≤◌, ◌%◌};
-ghost use Rattle.pas_profile.specs.Classes.{IsAlignment};
-ghost use Rattle.pas_profile.specs.Profiles.{IsDirectoryOf};
+ghost use Rattle.pas_profile.specs.{Classes.IsAlignment, Profiles.IsDirectoryOf};
 ghost use Rattle.pas_steps.specs.Desks.{CanCall};
 ghost use Rattle.pas_search.specs.Searches.{SearchRoom};
 ghost use Rattle.pas_bitfit.specs.Allocates.{bitfit_directory, Allocates};

@@ -1,10 +1,8 @@
 -- Counts of the numbers below a bound that pass a test, and of the bits of a number.
-use Rattle.std.proofs.Common.{◌≡◌, ℕ, zero, suc, ◌+◌, ◌*◌, ◌/◌, ◌%◌, ◌^◌, ◌<◌, ◌==◌, Bool, true, false, if◌then◌else◌, ap, sym, ◌∙◌, refl, arith, add-one, add-zero, add-suc}
-use Rattle.std.proofs.Math.Nat.{pow-suc, div-lt_iff_lt-mul, mod-lt}
-use Rattle.std.proofs.lemmas.Nat.{ones_cat, pow_pos, shr_split}
-use Rattle.std.proofs.lemmas.Nat.Bits.{bit_at_cat_low}
-use Rattle.std.specs.Int.{bit_at}
-use Rattle.std.specs.Int.RustNames.{count_ones}
+use Rattle.std.proofs.Common.{◌≡◌, ℕ, zero, suc, ◌+◌, ◌*◌, ◌/◌, ◌%◌, ◌^◌, ◌<◌, ◌==◌, Bool, true, false, if◌then◌else◌, ap, sym, ◌∙◌, refl, arith, add-one}
+use Rattle.std.proofs.Common.{add-zero, add-suc, pow_pos}
+use Rattle.std.proofs.{Math.Nat.pow-suc, Math.Nat.div-lt_iff_lt-mul, Math.Nat.mod-lt, lemmas.Nat.ones_cat, lemmas.Nat.shr_split, lemmas.Nat.Bits.bit_at_cat_low}
+use Rattle.std.specs.Int.{bit_at, RustNames.count_ones}
 use Rattle.pas_bits.specs.Bits.{has_bit, count_below}
 
 -- ---- one more

@@ -1,22 +1,19 @@
 -- Set bits of a mask, word by word: the lowest ones, those of runs, how many there are, and places of runs among them.
-use Rattle.std.proofs.Common.{◌≡◌, ◌≢◌, ℕ, ◌+◌, ◌-◌, ◌/◌, ◌%◌, ◌^◌, ◌<◌, ◌≤◌, ◌==◌, true, false, inl, inr, ap, sym, ◌∙◌, arith, ◌*◌, ◌⊎◌, ◌&&◌, ◌↔◌, IsTrue, not, min, Bool, length, slice_index, lit<, bit_and, subst, refl, Option, None, Some, MatchBool, MatchOption}
-use Rattle.std.specs.Int.{bit_at, w64, trailing_zeros}
+use Rattle.std.proofs.Common.{◌≡◌, ◌≢◌, ℕ, ◌+◌, ◌-◌, ◌/◌, ◌%◌, ◌^◌, ◌<◌, ◌≤◌, ◌==◌, true, false, inl, inr, ap, sym, ◌∙◌, arith, ◌*◌, ◌⊎◌, ◌&&◌, ◌↔◌, IsTrue}
+use Rattle.std.proofs.Common.{not, min, Bool, length, slice_index, lit<, bit_and, subst, refl, Option, None, Some, MatchBool, MatchOption, w64, shr-shr}
+use Rattle.std.proofs.Common.{pow_pos, div-add-mod', count_ones}
+use Rattle.std.specs.{Int.bit_at, Int.trailing_zeros, Option.is_some}
 use Rattle.std.proofs.lemmas.Bool.{cases_lt, and_parts, not-false, not-true}
-use Rattle.std.proofs.lemmas.Nat.{shr-shr, shr_le, pow_pos, and_le_l, same_from_place, mod-mul-add, div-add-mod'}
+use Rattle.std.proofs.lemmas.Nat.{shr_le, and_le_l, same_from_place, mod-mul-add}
 use Rattle.std.proofs.lemmas.Nat.Bits.{bit_at-trailing_zeros, bit_at_above, bit_at_mask_inside, bit_at_mask_below, bit_at_mask_above, ones_shr}
-use Rattle.pas_bits.specs.Bits.{has_bit, count_below}
+use Rattle.pas_bits.specs.{Bits.has_bit, Bits.count_below, Runs.in_run}
 use Rattle.pas_bits.proofs.Words.{none_of_zero, is_one, bit_of_and, by_word, at_word, set_within, WordsFit}
-use Rattle.std.proofs.Math.Nat.{pow-le-pow_right}
-use Rattle.std.proofs.lemmas.Bool.Decides.{nat_tests}
-use Rattle.pas_bits.specs.Runs.{in_run}
+use Rattle.std.proofs.{Math.Nat.pow-le-pow_right, lemmas.Bool.Decides.nat_tests, Math.Bool.and-true, lemmas.Grind.div_ceil_times}
 use Rattle.pas_bits.proofs.Runs.{run_of, to_run, run_below, run_above}
 use Rattle.pas_bits.specs.declared.mask.Mask4.{Mask4}
-use Rattle.pas_bits.specs.Masks.{is_set, AreSet, AreApart, set_count, AllSetBelow, AreClear, IsLowestSet, IsLowestClear, IsEmpty, HasMember, IsRunEnd, IsPlace, HasNoPlace, IsLowestPlace}
-use Rattle.std.proofs.Math.Bool.{and-true}
-use Rattle.std.specs.Int.RustNames.{count_ones}
+use Rattle.pas_bits.specs.Masks.{is_set, AreSet, AreApart, set_count, AllSetBelow, AreClear, IsLowestSet, IsLowestClear, IsEmpty, HasMember, IsRunEnd, IsPlace}
+use Rattle.pas_bits.specs.Masks.{HasNoPlace, IsLowestPlace}
 use Rattle.pas_bits.proofs.Counts.{count_same, count_add, ones_counted}
-use Rattle.std.specs.Option.{is_some}
-use Rattle.std.proofs.lemmas.Grind.{div_ceil_times}
 
 -- ==== The lowest set bit of a word from a place on.
 
@@ -65,14 +62,14 @@ min_is a b = elim (cases_lt b a) [ inl lt ↦ inr (grind (arith, nat_tests, lt),
 -- where a run's end is in a word that begins at the number `base`
 cut : (at base b : ℕ) → b < 64 → (b < min (at - base) 64 → base + b < at) × (min (at - base) 64 ≤ b → at ≤ base + b)
 cut at base b h = elim (min_is (at - base) 64) [
-  | inl e ↦ (λ lt. let m = e.0 in omega (arith, m, lt), λ le. let m = e.0 in omega (arith, m, le))
-  | inr e ↦ (λ lt. let m = e.1 in omega (arith, m, h), λ le. let m = e.0 in absurd (omega (arith, m, le, h)))
+  | inl e ↦ (λ lt. omega (arith, e.0, lt), λ le. omega (arith, e.0, le))
+  | inr e ↦ (λ lt. omega (arith, e.1, h), λ le. absurd (omega (arith, e.0, le, h)))
 ]
 
 pub cut_le : (at to base : ℕ) → at ≤ to → min (at - base) 64 ≤ min (to - base) 64
 cut_le at to base h = elim (min_is (at - base) 64) [
-  | inl e ↦ elim (min_is (to - base) 64) [ inl f ↦ let m = e.0 in let n = f.0 in omega (arith, m, n, h) | inr f ↦ let m = e.0 in let n = f.0 in let k = e.1 in omega (arith, m, n, k) ]
-  | inr e ↦ elim (min_is (to - base) 64) [ inl f ↦ let m = e.1 in let n = f.1 in absurd (omega (arith, m, n, h)) | inr f ↦ let m = e.0 in let n = f.0 in omega (arith, m, n) ]
+  | inl e ↦ elim (min_is (to - base) 64) [ inl f ↦ omega (arith, e.0, f.0, h) | inr f ↦ omega (arith, e.0, f.0, e.1) ]
+  | inr e ↦ elim (min_is (to - base) 64) [ inl f ↦ absurd (omega (arith, e.1, f.1, h)) | inr f ↦ omega (arith, e.0, f.0) ]
 ]
 
 mask_between : (low high : ℕ) → low ≤ high → 2 ^ high - 1 - (2 ^ low - 1) ≡ 2 ^ high - 2 ^ low
@@ -128,7 +125,7 @@ pub has_run_where : (r : Bool) (mask others run : Mask4) (first grains : ℕ) �
     → (IsTrue r ↔ AreApart others run) → IsTrue r ↔ AreSet mask first grains
 has_run_where r mask others run first grains within other is answer = (
   λ holds x a b. not-false (is_set mask x) (sym (other x (omega (arith, b, within))) ∙ answer.0 holds x (is x ∙ to_run first grains x a b)),
-  λ set. answer.1 (λ x h. let at = run_of first grains x (sym (is x) ∙ h) in let lt = at.1 in other x (omega (arith, lt, within)) ∙ ap not (set x at.0 at.1)),
+  λ set. answer.1 (λ x h. let at = run_of first grains x (sym (is x) ∙ h) in other x (omega (arith, at.1, within)) ∙ ap not (set x at.0 at.1)),
 )
 
 -- ==== How many bits of a mask are set.
@@ -212,7 +209,7 @@ lowest_clear mask others other None bare = λ x h. set_where mask others x other
 lowest_clear mask others other (Some g) low = record {
   within = low.within;
   clear = clear_where mask others g other low.within low.set;
-  lowest = λ x h. let lt = low.within in set_where mask others x other (omega (arith, h, lt)) (low.lowest x (omega arith) h);
+  lowest = λ x h. set_where mask others x other (omega (arith, h, low.within)) (low.lowest x (omega arith) h);
 }
 
 -- ---- places
@@ -224,7 +221,7 @@ next_multiple : (k a b : ℕ) → a % k ≡ 0 → b % k ≡ 0 → a < b → a + 
 next_multiple k a b ea eb lt = elim (cases_lt b (a + k)) [
   | inl near ↦
       let s = same_from_place (b / k) 0 (a / k) (b - a) k (omega (arith, lt, near)) (omega (arith, lt, near)) (omega (arith, multiple k a ea, multiple k b eb, lt)) in
-      let apart = s.1 in absurd (omega (arith, apart, lt))
+      absurd (omega (arith, s.1, lt))
   | inr far ↦ far
 ]
 
@@ -234,7 +231,7 @@ rounded set align up h is =
     let b = div_ceil_times set align h in
     let same : up * align ≡ (set / align + min 1 (set % align)) * align = ap (λ n. n * align) is in
     let whole : up * align ≡ up * align + 0 = omega arith in
-    (let le = b.0 in omega (arith, le, same), let lt = b.1 in omega (arith, lt, same), ap (λ n. n % align) whole ∙ mod-mul-add up align 0 h)
+    (omega (arith, b.0, same), omega (arith, b.1, same), ap (λ n. n % align) whole ∙ mod-mul-add up align 0 h)
 
 -- no place below the number
 abbrev pub NoPlaceBelow : Mask4 → ℕ → ℕ → ℕ → ℕ → Type 0
@@ -262,7 +259,7 @@ none_to_place mask n align end start set place some whole near before low h lt o
 pub none_within : (mask : Mask4) (n align end place : ℕ) → end < place + n → NoPlaceBelow mask n align end place → HasNoPlace mask n align end
 none_within mask n align end place late before h other = elim (cases_lt h place) [
   | inl below ↦ before h below other
-  | inr ge ↦ let w = other.within in absurd (omega (arith, w, late, ge))
+  | inr ge ↦ absurd (omega (arith, other.within, late, ge))
 ]
 
 -- none up to the clear bit that ends a run that is too short

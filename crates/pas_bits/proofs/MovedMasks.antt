@@ -1,16 +1,14 @@
 -- Masks that are moved, joined and spread.
-use Rattle.std.proofs.Common.{◌≡◌, ℕ, ◌+◌, ◌-◌, ◌*◌, ◌/◌, ◌%◌, ◌^◌, ◌<◌, ◌≤◌, ◌==◌, ◌↔◌, nat_le, IsTrue, Bool, true, false, ◌&&◌, ◌||◌, if◌then◌else◌, [], ◌∷◌, length, slice_index, refl, ap, sym, ◌∙◌, subst, arith, bit_or, inl, inr}
+use Rattle.std.proofs.Common.{◌≡◌, ℕ, ◌+◌, ◌-◌, ◌*◌, ◌/◌, ◌%◌, ◌^◌, ◌<◌, ◌≤◌, ◌==◌, ◌↔◌, nat_le, IsTrue, Bool, true, false, ◌&&◌, ◌||◌, if◌then◌else◌, [], ◌∷◌}
+use Rattle.std.proofs.Common.{length, slice_index, refl, ap, sym, ◌∙◌, subst, arith, bit_or, inl, inr, lt-ltb, le-ltb, le-leb, div-add-mod', shr-shr, pow_pos}
 use Rattle.std.specs.Int.{bit_at}
-use Rattle.std.proofs.lemmas.Bool.{cases_lt, cases_Bool, and_parts, lt-ltb, le-ltb, le-leb, lt-leb, or_left, or_right, and_left}
-use Rattle.std.proofs.lemmas.Bool.Decides.{nat_tests}
-use Rattle.std.proofs.lemmas.List.{get_or_past}
-use Rattle.std.proofs.lemmas.Nat.{div-add-mod', shr-shr, pow_pos}
+use Rattle.std.proofs.lemmas.Bool.{cases_lt, cases_Bool, and_parts, lt-leb, or_left, or_right, and_left}
+use Rattle.std.proofs.{lemmas.Bool.Decides.nat_tests, lemmas.List.get_or_past, Math.Bool.or-false}
 use Rattle.std.proofs.lemmas.Nat.Bits.{bit_at-zero, bit_at_above, bit_at_cat_low, bit_at_cat_high}
 use Rattle.pas_bits.specs.Bits.{has_bit}
 use Rattle.pas_bits.specs.declared.mask.Mask4.{Mask4}
 use Rattle.pas_bits.specs.Masks.{is_set, AreSet, IsNear, bit_of_two}
 use Rattle.pas_bits.proofs.Words.{is_zero, none_of_zero, bit_of_or, at_word, none_past, four_words}
-use Rattle.std.proofs.Math.Bool.{or-false}
 
 -- ---- bits of a word that was moved
 bit_of_mod : (n w i : ℕ) → i < w → bit_at (n % 2 ^ w) i ≡ bit_at n i
@@ -154,7 +152,7 @@ AreNear mask n near = (g : ℕ) → g < 256 → IsTrue (is_set near g) ↔ IsNea
 pub near_longer : (mask near moved longer : Mask4) (n by : ℕ) → by ≤ n → AreNear mask n near → ((g : ℕ) → g < 256 → is_set moved g ≡ (nat_le by g && is_set near (g - by))) → ((g : ℕ) → is_set longer g ≡ (is_set near g || is_set moved g)) → AreNear mask (n + by) longer
 near_longer mask near moved longer n by few all up joined g within = (
   λ h. elim (cases_Bool (is_set near g)) [
-    | inl here ↦ let found = (all g within).0 here in let b = found.2 in (found.0, found.1, omega (arith, b), found.3)
+    | inl here ↦ let found = (all g within).0 here in (found.0, found.1, omega (arith, found.2), found.3)
     | inr none ↦
         let parts = and_parts (nat_le by g) (is_set near (g - by)) (sym (up g within) ∙ (ap (λ t. t || is_set moved g) (sym none) ∙ sym (joined g) ∙ h)) in
         let low : by ≤ g = grind (arith, nat_tests, parts.0) in

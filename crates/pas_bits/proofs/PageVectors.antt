@@ -1,15 +1,12 @@
 -- Bits of the words of page vectors.
-use Rattle.std.proofs.Common.{◌≡◌, ◌≢◌, ℕ, ◌+◌, ◌-◌, ◌*◌, ◌/◌, ◌%◌, ◌^◌, ◌<◌, ◌==◌, Bool, true, false, not, ◌&&◌, ◌||◌, if◌then◌else◌, refl, ap, sym, ◌∙◌, arith, bit_and, bit_or, inl, inr}
-use Rattle.std.specs.Int.{bit_not, w64, trailing_zeros}
-use Rattle.std.proofs.lemmas.Nat.{pow_below}
-use Rattle.std.proofs.lemmas.Nat.Bits.{bit_at-pow_same, bit_at-pow_other}
-use Rattle.std.proofs.lemmas.Bool.{eqb-true, eqb-false, eq-eqb, ne_eqb, cases_eq}
+use Rattle.std.proofs.Common.{◌≡◌, ◌≢◌, ℕ, ◌+◌, ◌-◌, ◌*◌, ◌/◌, ◌%◌, ◌^◌, ◌<◌, ◌==◌, Bool, true, false, not, ◌&&◌, ◌||◌, if◌then◌else◌, refl, ap, sym, ◌∙◌}
+use Rattle.std.proofs.Common.{arith, bit_and, bit_or, inl, inr, w64, eqb-true, eq-eqb, ne_eqb}
+use Rattle.std.specs.Int.{bit_not, trailing_zeros}
+use Rattle.std.proofs.{lemmas.Nat.pow_below, lemmas.Nat.Bits.bit_at-pow_same, lemmas.Nat.Bits.bit_at-pow_other, lemmas.Bool.eqb-false, lemmas.Bool.cases_eq}
+use Rattle.std.proofs.{Math.Bool.or_comm, lemmas.Bool.Decides.nat_tests}
 use Rattle.pas_bits.specs.Bits.{has_bit}
 use Rattle.pas_bits.specs.PageVectors.{page_mask, is_in_word, HasNoPage, IsLowestPage}
-use Rattle.pas_bits.proofs.Masks.{none_from, lowest_from}
-use Rattle.pas_bits.proofs.Words.{bit_of_or, bit_cleared}
-use Rattle.std.proofs.Math.Bool.{or_comm}
-use Rattle.std.proofs.lemmas.Bool.Decides.{nat_tests}
+use Rattle.pas_bits.proofs.{Masks.none_from, Masks.lowest_from, Words.bit_of_or, Words.bit_cleared}
 
 -- ---- the bit of a page
 pub page_mask_lt : (q : ℕ) → page_mask q < 2 ^ 64
@@ -22,9 +19,6 @@ page_mask_bit q b =
       | inl e ↦ ap (λ n. has_bit (2 ^ n) b) e ∙ ap (λ x. x == 1) (bit_at-pow_same b) ∙ sym (eq-eqb (q % 64) b e)
       | inr ne ↦ ap (λ x. x == 1) (bit_at-pow_other (q % 64) b (λ e. ne (sym e))) ∙ sym (ne_eqb (q % 64) b ne)
     ]
-
-pub same_page : (q p : ℕ) → q / 64 ≡ p / 64 → q % 64 ≡ p % 64 → q ≡ p
-same_page q p d r = omega arith
 
 -- two pages of one word are one exactly where their bits are
 same_bit : (q p : ℕ) → q / 64 ≡ p / 64 → (q % 64 == p % 64) ≡ (q == p)
@@ -72,11 +66,10 @@ no_page n number next low is nothing p from at = none_from n low (p % 64) nothin
 pub lowest_found : (n number next low : ℕ) → low ≡ next - 64 * number → low < 64 → n < 2 ^ 64 → n / 2 ^ low ≢ 0 → IsLowestPage n number next (64 * number + low + trailing_zeros w64 (n / 2 ^ low))
 lowest_found n number next low is small fits some =
     let found = lowest_from n low fits some in
-    let within = found.within in
-    let place : low + trailing_zeros w64 (n / 2 ^ low) ≡ (64 * number + low + trailing_zeros w64 (n / 2 ^ low)) % 64 = omega (arith, within) in
+    let place : low + trailing_zeros w64 (n / 2 ^ low) ≡ (64 * number + low + trailing_zeros w64 (n / 2 ^ low)) % 64 = omega (arith, found.within) in
     record {
       above = omega (arith, is);
-      here = omega (arith, within);
+      here = omega (arith, found.within);
       set = ap (λ (b : ℕ). has_bit n b) (sym place) ∙ found.set;
-      lowest = λ p from at lt. found.lowest (p % 64) (omega (arith, is, from, at)) (omega (arith, is, from, at, lt, within));
+      lowest = λ p from at lt. found.lowest (p % 64) (omega (arith, is, from, at)) (omega (arith, is, from, at, lt, found.within));
     }

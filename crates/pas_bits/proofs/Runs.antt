@@ -1,7 +1,6 @@
 -- Membership in a run, and the pages of a run of grains.
 use Rattle.std.proofs.Common.{◌≡◌, ℕ, ◌+◌, ◌*◌, ◌/◌, ◌<◌, ◌≤◌, true, false, arith, inl, inr}
-use Rattle.std.proofs.lemmas.Bool.{cases_lt}
-use Rattle.std.proofs.lemmas.Bool.Decides.{nat_tests}
+use Rattle.std.proofs.lemmas.Bool.{cases_lt, Decides.nat_tests}
 use Rattle.pas_bits.specs.Runs.{in_run, meets_page}
 
 pub run_of : (g n x : ℕ) → in_run g n x ≡ true → (g ≤ x) × (x < g + n)
@@ -29,7 +28,7 @@ met_by g n page h = (grind (arith, nat_tests, h), grind (arith, nat_tests, h))
 
 -- a run meets the page of each of its grains
 pub run_meets : (g n x : ℕ) → in_run g n x ≡ true → meets_page g n (x / 256) ≡ true
-run_meets g n x h = let at = run_of g n x h in let low = at.0 in let high = at.1 in to_meet g n (x / 256) (omega (arith, low)) (omega (arith, high))
+run_meets g n x h = let at = run_of g n x h in to_meet g n (x / 256) (omega (arith, at.0)) (omega (arith, at.1))
 
 -- a grain that the run has on the page that it meets
 pub record IsMet (g n page : ℕ) : Type 0 where

@@ -1,44 +1,28 @@
 -- A request whose actor alone made steps meanwhile, whatever its desk tells: a refusal is true, and the run that a door named is taken where it is whole.
 use Rattle.std.proofs.Common.{◌≡◌, ℕ, List, ◌++◌, Option, Result, Ok, Err, refl, ap, sym, ◌∙◌, subst, true≢false, inl, inr}
-use Rattle.pas_profile.specs.Profiles.{IsValid, IsAdmitted, IsDirectoryOf}
+use Rattle.pas_profile.specs.{Profiles.IsValid, Profiles.IsAdmitted, Profiles.IsDirectoryOf, Directories.IsKind}
 use Rattle.pas_profile.specs.Requests.{is_shared, kind_of_route, route_in, room_in, class_home}
-use Rattle.pas_profile.specs.Directories.{IsKind}
-use Rattle.pas_profile.specs.declared.directory.Directory.{Directory}
-use Rattle.pas_profile.specs.declared.directory.Route.{Route}
-use Rattle.pas_profile.specs.declared.name.Block.{Block}
-use Rattle.pas_steps.specs.Views.{View, has_right}
-use Rattle.pas_profile.specs.declared.event.NoRoom.{NoRoom}
-use Rattle.pas_profile.specs.declared.event.NoRoom.TheVariants.{NoSpace}
-use Rattle.pas_profile.specs.declared.profile.Profile.{Profile}
-use Rattle.pas_steps.specs.Desks.{triples}
-use Rattle.pas_steps.specs.Lists.{Whole, part, Legal}
+use Rattle.pas_profile.specs.declared.{directory.Directory.Directory, directory.Route.Route, name.Block.Block, event.NoRoom.NoRoom}
+use Rattle.pas_profile.specs.declared.{event.NoRoom.TheVariants.NoSpace, profile.Profile.Profile}
+use Rattle.pas_steps.specs.{Views.View, Views.has_right, Desks.triples, Lists.Whole, Lists.part, Lists.Legal}
 use Rattle.pas_steps.specs.declared.step.Made.{Made}
-use Rattle.pas_steps.proofs.Adding.{triples_append}
-use Rattle.pas_steps.proofs.Parts.{part_of_own, part_of_others}
+use Rattle.pas_steps.proofs.{Adding.triples_append, Parts.part_of_own, Parts.part_of_others}
 use Rattle.pas_core.specs.Fits.{HasNoFit}
-use Rattle.pas_core.proofs.Nexts.{agreed_steps}
-use Rattle.pas_core.proofs.OneActor.{legal_earlier}
+use Rattle.pas_core.proofs.{Nexts.agreed_steps, OneActor.legal_earlier}
 use Rattle.pas_scan.specs.Runs.{large_directory}
-use Rattle.pas_search.specs.Kinds.{AreSearch}
-use Rattle.pas_search.specs.Searches.{IsRefused}
-use Rattle.pas_search.specs.Telling.{IsTrueReason}
+use Rattle.pas_search.specs.{Kinds.AreSearch, Searches.IsRefused, Telling.IsTrueReason}
 use Rattle.pas_search.proofs.Alone.{refused_told, OwnLacks, still_lacks, none_held_there}
-use Rattle.pas_bitfit.specs.Allocates.{bitfit_directory, run_for}
-use Rattle.pas_bitfit.specs.Runs.{NoneFits, fewer_runs}
-use Rattle.pas_large.specs.Finds.{MayFind}
-use Rattle.pas_large.specs.Alone.{GoesByDoor}
+use Rattle.pas_bitfit.specs.{Allocates.bitfit_directory, Allocates.run_for, Runs.NoneFits, Runs.fewer_runs}
+use Rattle.pas_large.specs.{Finds.MayFind, Alone.GoesByDoor}
 use Rattle.pas_large.proofs.Alone.{refused_alone, goes_by_door}
 use Rattle.pas_segregated.specs.Refills.{Filling}
 use Rattle.pas_segregated.specs.declared.slots.Slots.{Slots}
-use Rattle.pas_cache.specs.Caches.{Cached, AtRest}
-use Rattle.pas_cache.specs.Changes.{LeavesSpent}
-use Rattle.pas_cache.specs.Locals.{local_for, RestsWith}
-use Rattle.pas_cache.specs.Parts.{IsTrueOf}
+use Rattle.pas_cache.specs.{Caches.Cached, Caches.AtRest, Changes.LeavesSpent, Locals.local_for, Locals.RestsWith, Parts.IsTrueOf}
 use Rattle.pas_cache.specs.Refusals.{IsTrulyRefusedBy, IsTrulyRefused, OthersHaveNone, GoesByDoorOn, TakesWhatIsNamed}
-use Rattle.pas_cache.specs.Serves.{Wanted, wanted_for, pages_of, filling_in, IsFilling, HasNoneCached, Fetches, IsObtained, IsAnswered, ServesLocals, ServesClass, ServesBitfit, ServesPages, ServesBy, ServesRequest}
-use Rattle.pas_cache.proofs.Routes.{may_search_bitfit, bitfit_wanted, may_find}
+use Rattle.pas_cache.specs.Serves.{Wanted, wanted_for, pages_of, filling_in, IsFilling, HasNoneCached, Fetches, IsObtained, IsAnswered, ServesLocals}
+use Rattle.pas_cache.specs.Serves.{ServesClass, ServesBitfit, ServesPages, ServesBy, ServesRequest}
+use Rattle.pas_cache.proofs.{Routes.may_search_bitfit, Routes.bitfit_wanted, Routes.may_find, Served.wanted_is, Served.filling_for}
 use Rattle.pas_cache.proofs.Obtained.{no_fit_before, none_shortened, may_search, refused_steps, refusal}
-use Rattle.pas_cache.proofs.Served.{wanted_is, filling_for}
 
 -- ---- a request of a class
 spent_none : (heap class : ℕ) (locals : List Slots) (steps : List Made) → LeavesSpent (local_for heap class locals) steps → HasNoneCached heap class locals
@@ -82,7 +66,7 @@ module _ (f : Profile) (k : ℕ) (l : Whole) (valid : IsValid f) (fill : Filling
       subst (λ xs. IsTrueAfter (xs ++ before) room) (sym ends.2)
       (subst (IsTrueAfter before) (sym ends.0) (obtained_refused fewer before why (legal_earlier f k given before l legal) how))
 
-  pub locals_refused : (locals' : List Slots) (steps : List Made) (room : NoRoom) → Legal f (triples k steps ++ l) → ServesLocals fill f locals locals' steps (Err room) → IsTrueAfter steps room
+  locals_refused : (locals' : List Slots) (steps : List Made) (room : NoRoom) → Legal f (triples k steps ++ l) → ServesLocals fill f locals locals' steps (Err room) → IsTrueAfter steps room
   locals_refused locals' steps room legal serves =
       subst (λ xs. IsTrueAfter xs room) (sym serves.steps_are)
       (answered_refused serves.fewer locals' serves.given serves.before serves.found room (subst (λ xs. Legal f (triples k xs ++ l)) serves.steps_are legal) serves.obtained serves.ends)

@@ -1,26 +1,13 @@
 -- For callers: the room of one request after another.
-use Rattle.std.proofs.Common.{refl, ◌≡◌, ℕ, ◌+◌, ◌≤◌, ◌++◌, length, ap, sym, ◌∙◌, subst, arith, Option, Result, Bool, List}
-use Rattle.std.specs.Prelude.{map}
+use Rattle.std.proofs.Common.{refl, ◌≡◌, ℕ, ◌+◌, ◌≤◌, ◌++◌, length, ap, sym, ◌∙◌, subst, arith, Option, Result, Bool, List, map}
 use Rattle.std.proofs.lemmas.List.{length-map, length-reverse}
-use Rattle.pas_profile.specs.declared.profile.Profile.{Profile}
-use Rattle.pas_cache.specs.Serves.{Wanted, ServesBy}
-use Rattle.pas_cache.specs.Changes.{EmptiesLog}
+use Rattle.pas_profile.specs.declared.{profile.Profile.Profile, event.Event.Event, directory.Route.Route, event.NoRoom.NoRoom, name.Block.Block}
+use Rattle.pas_cache.specs.{Serves.Wanted, Serves.ServesBy, Changes.EmptiesLog, Caches.Cached, Caches.AtRest, Calls.MayAllocate, Calls.Allocates}
 use Rattle.pas_free_log.specs.Flushes.{shown_for}
-use Rattle.pas_free_log.specs.declared.log.Entry.{Entry}
-use Rattle.pas_free_log.specs.declared.noting.EndedRun.{EndedRun}
-use Rattle.pas_profile.specs.declared.event.Event.{Event}
-use Rattle.pas_profile.specs.declared.directory.Route.{Route}
-use Rattle.pas_profile.specs.declared.event.NoRoom.{NoRoom}
-use Rattle.pas_profile.specs.declared.name.Block.{Block}
-use Rattle.pas_steps.specs.Views.{View}
-use Rattle.pas_steps.specs.Events.{events_by}
+use Rattle.pas_free_log.specs.declared.{log.Entry.Entry, noting.EndedRun.EndedRun}
+use Rattle.pas_steps.specs.{Views.View, Events.events_by, Unknown.unknown_pages}
 use Rattle.pas_steps.specs.Desks.{Standing, Seat, CanCall, triples}
-use Rattle.pas_steps.proofs.Adding.{adds_none, adds_under, can_call}
-use Rattle.pas_steps.proofs.SpareRoom.{Spares, spare_falls}
-use Rattle.pas_steps.specs.Unknown.{unknown_pages}
-use Rattle.pas_cache.specs.Caches.{Cached, AtRest}
-use Rattle.pas_cache.specs.Calls.{MayAllocate, Allocates}
-use Rattle.pas_steps.proofs.Unknown.{has_room}
+use Rattle.pas_steps.proofs.{Adding.adds_none, Adding.adds_under, Adding.can_call, SpareRoom.Spares, SpareRoom.spare_falls, Unknown.has_room}
 use Rattle.pas_steps.specs.declared.step.Made.{Made}
 
 -- The actor is at rest, and there is room for n events and for a deed of each page whose deed isn't known.

@@ -1,37 +1,23 @@
 -- An epoch is read, a log is flushed, names are logged, a cache is stopped, and runs are handed on.
-use Rattle.std.proofs.Common.{◌≡◌, ℕ, [], sym, subst, arith, ◌+◌, ◌-◌, ◌*◌, ◌%◌, ◌^◌, ◌<◌, ◌≤◌, nat_le, Bool, true, false, List, ◌∷◌, ◌++◌, length, refl, ap, ◌∙◌, length-append}
-use Rattle.std.proofs.lemmas.List.Elements.{All-nil, All-push, All-same}
+use Rattle.std.proofs.Common.{◌≡◌, ℕ, [], sym, subst, arith, ◌+◌, ◌-◌, ◌*◌, ◌%◌, ◌^◌, ◌<◌, ◌≤◌, nat_le, Bool, true, false, List, ◌∷◌, ◌++◌, length, refl, ap}
+use Rattle.std.proofs.Common.{◌∙◌, length-append, All, Ok, Err, le-leb, leb-false}
+use Rattle.std.proofs.lemmas.{List.Elements.All-nil, List.Elements.All-push, List.Elements.All-same, Bool.lt-leb}
 use Rattle.pas_steps.specs.Desks.{Standing, CanCall, Seat, Makes, made}
-use Rattle.pas_cache.specs.Caches.{AtRest, Cached}
+use Rattle.pas_cache.specs.{Caches.AtRest, Caches.Cached, Contents.CacheOf, Parts.Releases, Kinds.releasing}
 use Rattle.pas_cache.specs.Calls.{MayAllocate, Begins, Frees, FlushesLog, StopsCache, SettlesEach}
-use Rattle.pas_cache.specs.Contents.{CacheOf}
 use Rattle.pas_cache.specs.Locals.{HasOneEach, IsFormed, IsLocal, RestsWith}
-use Rattle.std.specs.Prelude.{All, List, Ok, Err}
 use Rattle.pas_segregated.specs.declared.slots.Slots.{Slots}
-use Rattle.std.proofs.lemmas.Bool.{le-leb, lt-leb, leb-false}
-use Rattle.pas_profile.specs.declared.profile.Profile.{Profile}
-use Rattle.pas_profile.specs.declared.event.FreeFault.{FreeFault}
-use Rattle.pas_steps.specs.Views.{View}
-use Rattle.pas_steps.specs.declared.step.Made.{Made}
-use Rattle.pas_steps.specs.declared.step.Step.TheVariants.{Look}
-use Rattle.pas_steps.proofs.Adding.{adds_none, adds_step, adds_under}
-use Rattle.pas_steps.specs.Clear.{IsClear, HasNothing}
-use Rattle.pas_free_log.specs.Conditions.{IsEntryOf}
-use Rattle.pas_free_log.specs.declared.log.Entry.{Entry}
-use Rattle.pas_free_log.specs.declared.noting.EndedRun.{EndedRun}
-use Rattle.pas_free_log.specs.Flushes.{Flushes}
+use Rattle.pas_profile.specs.declared.{profile.Profile.Profile, event.FreeFault.FreeFault, event.Range.Range, word.Word.Word}
+use Rattle.pas_steps.specs.{Views.View, Clear.IsClear, Clear.HasNothing, Kinds.looking}
+use Rattle.pas_steps.specs.declared.step.{Made.Made, Step.TheVariants.Look}
+use Rattle.pas_steps.proofs.{Adding.adds_none, Adding.adds_step, Adding.adds_under, Apart.no_events, Called.call_none, Called.call_then, Called.next_call}
+use Rattle.pas_steps.proofs.{Calls.does_none, Calls.does_idly}
+use Rattle.pas_free_log.specs.{Conditions.IsEntryOf, Flushes.Flushes}
+use Rattle.pas_free_log.specs.declared.{log.Entry.Entry, noting.EndedRun.EndedRun}
 use Rattle.pas_cache.specs.Changes.{EmptiesLog, EmptiesFull, LogsEntry, StopsEach}
 use Rattle.pas_cache.specs.Names.{IsInRegion, IsFaultOf, MayFlush, EmptiesWhere, LogsInto}
-use Rattle.pas_cache.specs.Parts.{Releases}
 use Rattle.pas_steps.specs.Calls.{Leads, Calls, Does, nothing}
-use Rattle.pas_steps.specs.Kinds.{looking}
-use Rattle.pas_steps.proofs.Apart.{no_events}
-use Rattle.pas_steps.proofs.Called.{call_none, call_then, next_call}
-use Rattle.pas_steps.proofs.Calls.{does_none, does_idly}
-use Rattle.pas_cache.specs.Kinds.{releasing}
 use Rattle.pas_cache.proofs.Resting.{rests_kept}
-use Rattle.pas_profile.specs.declared.event.Range.{Range}
-use Rattle.pas_profile.specs.declared.word.Word.TheVariants as Word
 
 -- ==== A cache while its fields are open.
 
@@ -94,7 +80,7 @@ begins {σ} c epoch look = record {
 }
 
 -- ---- flush
-pub empties : {σ σ' : Standing} (logged : List Entry) (noted noted' : List EndedRun) (flush : Flushes logged noted noted' σ σ') → EmptiesLog σ.seat.actor logged noted noted' flush.steps
+empties : {σ σ' : Standing} (logged : List Entry) (noted noted' : List EndedRun) (flush : Flushes logged noted noted' σ σ') → EmptiesLog σ.seat.actor logged noted noted' flush.steps
 empties logged noted noted' flush = record { epoch = flush.epoch; settled = flush.settled; entries_are = flush.entries_are; noted_are = flush.noted; entries = flush.entries; order = flush.order; steps_are = flush.steps_are; events = flush.events; stamps = flush.stamps; few = flush.few }
 
 pub flushes_log : {σ σ' : Standing} (c c' : Cached) (noted : List EndedRun) → c' ≡ record c { log = []; noted = noted } → Flushes c.log c.noted noted σ σ' → FlushesLog c c' σ σ'
@@ -159,8 +145,7 @@ logged_names : (f : Profile) (k : ℕ) (log log' : List Entry) (noted noted' : L
 logged_names f k log log' noted noted' entry steps logs is names =
     let kept = kept_names f (nat_le 64 (length log)) k log logs.kept noted noted' steps refl logs.emptied names in
     let n : length log' ≡ length logs.kept + 1 = ap length logs.log_is ∙ length-append logs.kept (entry ∷ []) in
-    let few = kept.1 in
-    (All-same (IsEntryOf f) log' (logs.kept ++ entry ∷ []) logs.log_is (All-push (IsEntryOf f) logs.kept entry kept.0 is), omega (arith, n, few))
+    (All-same (IsEntryOf f) log' (logs.kept ++ entry ∷ []) logs.log_is (All-push (IsEntryOf f) logs.kept entry kept.0 is), omega (arith, n, kept.1))
 
 pub frees : {σ σ' : Standing} (c c' : Cached) (entry : Entry) → entry.name.turn < 2 ^ 40 - 1 → (entry.room % 16 ≡ 0) × (entry.room ≤ 4096 * σ.seat.profile.pages) → IsInRegion σ.seat.profile entry.name → LogsInto c.log c'.log c.noted c'.noted entry σ σ' → c' ≡ record c { log = c'.log; noted = c'.noted } → Frees entry c c' σ σ' (Ok tt)
 frees {σ} c c' entry turn size region logs is = record {

@@ -1,11 +1,10 @@
 -- What a test finds in a list of local allocators, and lists with one more or in another order.
-use Rattle.std.proofs.Common.{◌≡◌, ℕ, zero, suc, ◌+◌, ◌-◌, ◌<◌, ◌≤◌, Bool, true, false, not, ◌||◌, cond, List, [], ◌∷◌, ◌++◌, length, get_or, set, length-set, length-append, ◌⊎◌, Some, None, inl, inr, refl, ap, sym, ◌∙◌, subst, arith, true≢false}
+use Rattle.std.proofs.Common.{◌≡◌, ℕ, zero, suc, ◌+◌, ◌-◌, ◌<◌, ◌≤◌, Bool, true, false, not, ◌||◌, cond, List, [], ◌∷◌, ◌++◌, length, get_or, set, length-set}
+use Rattle.std.proofs.Common.{length-append, ◌⊎◌, Some, None, inl, inr, refl, ap, sym, ◌∙◌, subst, arith, true≢false}
 use Rattle.std.specs.List.{list_any, find, filter, count_by, remove, refill}
-use Rattle.std.proofs.lemmas.List.{get_or-append_right, set-append_right}
+use Rattle.std.proofs.lemmas.{List.get_or-append_right, List.set-append_right, Bool.cases_Bool, List.Sums.sum_by-cons}
 use Rattle.arrayvec.proofs.ArrayVecLemmas.{items-with_items}
 use Rattle.std.specs.List.Sorted.{IsPermutation}
-use Rattle.std.proofs.lemmas.Bool.{cases_Bool}
-use Rattle.std.proofs.lemmas.List.Sums.{sum_by-cons}
 use Rattle.std.proofs.lemmas.List.Sorted.{IsPermutation-refl, IsPermutation-cons, IsPermutation-trans, IsPermutation-middle}
 
 abbrev one_if : Bool → ℕ
@@ -26,7 +25,7 @@ module _ {X : Type 0} (test : X → Bool) where
     pub passes : test x ≡ true
     pub without : count_by test xs ≤ 1 → IsPermutation xs (x ∷ filter (λ y. not (test y)) xs)
 
-  pub counted : (x : X) (xs : List X) → count_by test (x ∷ xs) ≡ cond (test x) 1 0 + count_by test xs
+  counted : (x : X) (xs : List X) → count_by test (x ∷ xs) ≡ cond (test x) 1 0 + count_by test xs
   counted x xs = sum_by-cons (λ y. cond (test y) 1 0) x xs
 
   counted_is : (x : X) (xs : List X) → test x ≡ true → count_by test (x ∷ xs) ≡ 1 + count_by test xs
@@ -60,11 +59,10 @@ module _ {X : Type 0} (test : X → Bool) where
   later_passes : (x : X) (xs : List X) (y : X) → test x ≡ false → Passes xs y → Passes (x ∷ xs) y
   later_passes x xs y isnt h =
       let n = counted_not x xs isnt in
-      let some = h.count in
       record {
         found = ap (λ t. cond t (Some x) (find test xs)) isnt ∙ h.found;
         any = ap (λ t. t || list_any test xs) isnt ∙ h.any;
-        count = omega (arith, n, some);
+        count = omega (arith, n, h.count);
         passes = h.passes;
         without = λ one.
             let others : List X = filter (λ z. not (test z)) xs in
@@ -73,10 +71,10 @@ module _ {X : Type 0} (test : X → Bool) where
             (IsPermutation-trans (x ∷ xs) (x ∷ y ∷ others) (y ∷ x ∷ others) (IsPermutation-cons x xs (y ∷ others) (h.without (omega (arith, n, one)))) (IsPermutation-middle (x ∷ []) y others));
       }
 
-  pub passing : (xs : List X) → NonePasses xs ⊎ ((x : X) × Passes xs x)
+  passing : (xs : List X) → NonePasses xs ⊎ ((x : X) × Passes xs x)
   passing [] = inl (record { found = refl; any = refl; count = refl; others = refl })
   passing (x ∷ xs) = elim (cases_Bool (test x)) [
-    | inl is ↦ inr (x, first_passes x xs is (λ zero_there. elim (passing xs) [ inl none ↦ none | inr some ↦ let n = some.1.count in absurd (omega (arith, n, zero_there)) ]))
+    | inl is ↦ inr (x, first_passes x xs is (λ zero_there. elim (passing xs) [ inl none ↦ none | inr some ↦ absurd (omega (arith, some.1.count, zero_there)) ]))
     | inr isnt ↦ elim (passing xs) [ inl none ↦ inl (none_passes x xs isnt none) | inr some ↦ inr (some.0, later_passes x xs some.0 isnt some.1) ]
   ]
 
@@ -88,7 +86,7 @@ module _ {X : Type 0} (test : X → Bool) where
   none_any xs h = elim (passing xs) [ inl none ↦ none | inr some ↦ absurd (true≢false (sym some.1.any ∙ h)) ]
 
   none_count : (xs : List X) → count_by test xs ≡ 0 → NonePasses xs
-  none_count xs h = elim (passing xs) [ inl none ↦ none | inr some ↦ let n = some.1.count in absurd (omega (arith, n, h)) ]
+  none_count xs h = elim (passing xs) [ inl none ↦ none | inr some ↦ absurd (omega (arith, some.1.count, h)) ]
 
   pub found_passes : (xs : List X) (x : X) → find test xs ≡ Some x → Passes xs x
   found_passes xs x h = elim (passing xs) [ inl none ↦ let found = none.found in cc | inr some ↦ let found = some.1.found in subst (Passes xs) (cc) some.1 ]

@@ -1,25 +1,21 @@
 -- Slots are obtained: cached ones, or those of a refill.
-use Rattle.std.proofs.Common.{◌≡◌, Bool, ℕ, ◌==◌, true, false, List, [], ◌∷◌, ◌++◌, Ok, Err, Result, None, refl, ap, sym, ◌∙◌, subst, true≢false, ◌≢◌, ◌+◌, length, Some, inl, inr, arith, append_assoc, length-append, ◌*◌, ◌/◌, ◌%◌, ◌<◌, ◌≤◌, cond, Option, get_or, append-nil}
-use Rattle.std.specs.Prelude.{All, MatchResult, not, ◌≤◌, ◌⊎◌}
+use Rattle.std.proofs.Common.{◌≡◌, Bool, ℕ, ◌==◌, true, false, List, [], ◌∷◌, ◌++◌, Ok, Err, Result, None, refl, ap, sym, ◌∙◌, subst, true≢false, ◌≢◌, ◌+◌}
+use Rattle.std.proofs.Common.{length, Some, inl, inr, arith, append_assoc, length-append, ◌*◌, ◌/◌, ◌%◌, ◌<◌, ◌≤◌, cond, Option, get_or, append-nil, All}
+use Rattle.std.proofs.Common.{MatchResult, not, ◌⊎◌, eq-eqb, eqb-true}
 use Rattle.std.specs.List.{cons_option, list_any, AllByRecursion, remove}
-use Rattle.std.specs.Result.{result_ok}
-use Rattle.std.proofs.lemmas.Bool.{eq-eqb, eqb-true, and_parts, and_from, or_parts, or_from, false_from_ne_true, cases_eq, cases_Bool}
-use Rattle.std.proofs.lemmas.List.Elements.{All-head, All-tail}
-use Rattle.pas_profile.specs.Classes.{IsClass}
-use Rattle.pas_profile.specs.Directories.{IsKind, deed_word_of, number_of}
-use Rattle.pas_profile.specs.Requests.{is_shared, kind_of_class}
-use Rattle.pas_profile.specs.Profiles.{IsDirectoryOf, IsPage}
-use Rattle.pas_profile.specs.declared.directory.Directory.{Directory}
-use Rattle.pas_profile.specs.declared.event.NoRoom.{NoRoom}
-use Rattle.pas_profile.specs.declared.profile.Profile.{Profile}
-use Rattle.pas_steps.specs.Agreement.{Agreed, Agrees}
-use Rattle.pas_steps.specs.Calls.{Leads}
+use Rattle.std.specs.{Result.result_ok, List.Sorted.IsPermutation}
+use Rattle.std.proofs.lemmas.Bool.{and_parts, and_from, or_parts, or_from, false_from_ne_true, cases_eq, cases_Bool}
+use Rattle.std.proofs.{lemmas.List.Elements.All-head, lemmas.List.Elements.All-tail, Math.Bool.not-not, lemmas.Option.cond_some, lemmas.Option.none-some}
+use Rattle.std.proofs.{lemmas.List.Sorted.length_permutation}
+use Rattle.pas_profile.specs.{Classes.IsClass, Directories.IsKind, Directories.deed_word_of, Directories.number_of, Requests.is_shared, Requests.kind_of_class}
+use Rattle.pas_profile.specs.{Profiles.IsDirectoryOf, Profiles.IsPage}
+use Rattle.pas_profile.specs.declared.{directory.Directory.Directory, event.NoRoom.NoRoom, profile.Profile.Profile, event.Event.Event, directory.Kind.Kind}
+use Rattle.pas_steps.specs.{Agreement.Agreed, Agreement.Agrees, Calls.Leads, Views.View, Views.known_deed, Views.KnowsDeed, Events.event_of, Events.events_by}
+use Rattle.pas_steps.specs.{Past.Once, Evidence.Readings, Evidence.IsAntitone, Unknown.unknown_pages, Unknown.HasRoom, Kinds.Only, Kinds.returning, Lists.Whole}
 use Rattle.pas_steps.specs.Desks.{Standing, CanCall, triples, Seat}
-use Rattle.pas_steps.specs.Views.{View, known_deed, KnowsDeed}
-use Rattle.pas_steps.specs.declared.step.Made.{Made}
+use Rattle.pas_steps.specs.declared.step.{Made.Made, Step.Step, Step.TheVariants.Deed}
 use Rattle.pas_search.specs.Searches.{MaySearch, SearchRoom, IsRefused, DeedMadeHere, FromOffered, ByDeed, FewEvents}
-use Rattle.pas_segregated.specs.Refills.{Filling, GetsSlots, Refills}
-use Rattle.pas_segregated.specs.Stops.{home_of, LeavesWhere, StopStepsAt}
+use Rattle.pas_segregated.specs.{Refills.Filling, Refills.GetsSlots, Refills.Refills, Stops.home_of, Stops.LeavesWhere, Stops.StopStepsAt, Masks.start_of}
 use Rattle.pas_segregated.specs.declared.slots.Slots.{Slots}
 use Rattle.pas_cache.specs.Locals.{keeps_right, any_keeps, is_for, local_for, IsLocal, RestsWith, others_than, HasOneEach, IsPlaceOf}
 use Rattle.pas_cache.specs.Parts.{MayObtain, IsFoundFor, Releases, StopsPlace, BringsCached, Obtains, StandsLast, IsToldOf}
@@ -27,40 +23,20 @@ use Rattle.pas_cache.specs.Serves.{IsFilling, IsRefill, IsFew, IsPreparing, Make
 use Rattle.pas_cache.proofs.Locals.{none_found, none_any, found_passes, at_place, none_left}
 use Rattle.pas_cache.proofs.Resting.{rests_gained, rests_kept, here, rests_reordered}
 use Rattle.pas_profile.proofs.Codecs.{same_from_deed_word, same_parts, deed_word_of-positive}
-use Rattle.std.proofs.Math.Bool.{not-not}
-use Rattle.pas_steps.proofs.Unknown.{unknown_stays, unknown_less, room_after}
-use Rattle.pas_profile.specs.declared.event.Event.{Event}
-use Rattle.pas_steps.specs.Events.{event_of, events_by}
-use Rattle.pas_steps.specs.Past.{Once}
-use Rattle.pas_steps.specs.declared.step.Step.{Step}
-use Rattle.pas_steps.specs.declared.step.Step.TheVariants.{Deed}
+use Rattle.pas_steps.proofs.{Unknown.unknown_stays, Unknown.unknown_less, Unknown.room_after, Frames.events_append, Kept.deed_stays, Apart.no_events}
+use Rattle.pas_steps.proofs.{Apart.events_same, Events.each_event, Called.call_none}
 use Rattle.pas_steps.proofs.Adding.{agreed_first, agreed_later, adds_under, triples_append, adds_none, can_call}
-use Rattle.pas_steps.proofs.Frames.{events_append}
-use Rattle.pas_steps.proofs.Kept.{deed_stays}
 use Rattle.pas_search.specs.Kinds.{AreQuiet, IsDeedOrBack, EventsAt, IsQuiet}
-use Rattle.pas_steps.specs.Evidence.{Readings, IsAntitone}
 use Rattle.pas_search.proofs.ForBackEnds.{events_quiet}
-use Rattle.pas_steps.specs.Unknown.{unknown_pages, HasRoom}
-use Rattle.pas_steps.specs.Kinds.{Only, returning}
-use Rattle.pas_steps.proofs.Apart.{no_events, events_same}
 use Rattle.pas_cache.specs.Kinds.{releasing}
-use Rattle.std.proofs.lemmas.Option.{cond_some, none-some}
-use Rattle.pas_steps.proofs.Events.{each_event}
-use Rattle.pas_steps.specs.Lists.{Whole}
 use Rattle.pas_core.proofs.OneActor.{free_stays, offered_stays, deed_same}
-use Rattle.pas_core.specs.Fits.{HasNoFit}
-use Rattle.pas_core.specs.Rights.{free_of_page}
-use Rattle.std.specs.List.Sorted.{IsPermutation}
-use Rattle.std.proofs.lemmas.List.Sorted.{length_permutation}
+use Rattle.pas_core.specs.{Fits.HasNoFit, Rights.free_of_page}
 use Rattle.pas_bits.specs.Masks.{is_set, IsEmpty, HasMember}
-use Rattle.pas_steps.proofs.Called.{call_none}
 use Rattle.pas_search.specs.Telling.{IsTold}
-use Rattle.pas_segregated.specs.Masks.{start_of}
 use Rattle.pas_rights.specs.PutsBack.{BackSteps}
 use Rattle.pas_segregated.proofs.Starts.{start_below}
 use Rattle.pas_cache.specs.Changes.{LeavesSpent, StopsFirst, IsTakenOut, IsShortened}
 use Rattle.pas_cache.proofs.Stops.{releases_as, releases_none, releases_then, rests_then}
-use Rattle.pas_profile.specs.declared.directory.Kind.TheVariants as Kind
 
 -- ==== Slots come by a refill.
 
@@ -82,7 +58,7 @@ is_one f fill is slots right home =
     (eq-eqb slots.class fill.class (unshared (is_shared f fill.directory.heap) slots.class fill.class (ap (λ t. kind_of_class (not t) slots.class) (sym right) ∙ (ap (λ d. d.kind) home ∙ is.home))))
 
 -- ---- an actor whose local allocators are all of other directories has no right of a page of this one
-pub no_right_in : (f : Profile) (v : View) (d : Directory) (test : Slots → Bool) → IsKind d.kind → ((slots : Slots) → slots.right ≡ true → home_of slots ≡ d → test slots ≡ true) → (locals : List Slots) → All (IsLocal f v) locals → list_any test locals ≡ false
+no_right_in : (f : Profile) (v : View) (d : Directory) (test : Slots → Bool) → IsKind d.kind → ((slots : Slots) → slots.right ≡ true → home_of slots ≡ d → test slots ≡ true) → (locals : List Slots) → All (IsLocal f v) locals → list_any test locals ≡ false
     → (p : ℕ) → KnowsDeed p d v → any_keeps locals p ≡ false
 no_right_in f v d test is all_there [] all none p of = refl
 no_right_in f v d test is all_there (first ∷ rest) all none p of =
@@ -112,15 +88,15 @@ pub search_call : {σ : Standing} {n spare : ℕ} (fill : Filling) (locals : Lis
 search_call {σ} fill locals is none can = can_call adds_none can (λ v l stood met. record { may = may_search σ.seat.profile v fill locals is none met.rest; room = met.room })
 
 -- ---- what a refill says, by its answer
-pub refill_of : {σ σ' : Standing} (fill : Filling) (tells : Bool) (answer : Result Slots NoRoom) → (h : Refills fill tells σ σ' answer) → IsRefill fill σ.seat.profile (h.after ++ h.searched) answer
+refill_of : {σ σ' : Standing} (fill : Filling) (tells : Bool) (answer : Result Slots NoRoom) → (h : Refills fill tells σ σ' answer) → IsRefill fill σ.seat.profile (h.after ++ h.searched) answer
 refill_of fill tells answer h = record { searched = h.searched; searches = h.searches; few = h.few; after = h.after; outcome = h.outcome; steps_are = refl }
 
-pub found_by : (fill : Filling) (f : Profile) (steps : List Made) (answer : Result Slots NoRoom) → IsRefill fill f steps answer → MatchResult answer (IsFoundFor fill) (λ room. Unit {0})
+found_by : (fill : Filling) (f : Profile) (steps : List Made) (answer : Result Slots NoRoom) → IsRefill fill f steps answer → MatchResult answer (IsFoundFor fill) (λ room. Unit {0})
 found_by fill f steps (Ok slots) refill = record { home = refill.outcome.home; class_is = refill.outcome.class_is; some = refill.outcome.some }
 found_by fill f steps (Err room) refill = tt
 
 -- the one that is cached for the heap and the class is at home in its directory
-pub cached_home : (f : Profile) (v : View) (fill : Filling) → IsFilling f fill → (slots : Slots) → IsLocal f v slots → is_for fill.directory.heap fill.class slots ≡ true → home_of slots ≡ fill.directory
+cached_home : (f : Profile) (v : View) (fill : Filling) → IsFilling f fill → (slots : Slots) → IsLocal f v slots → is_for fill.directory.heap fill.class slots ≡ true → home_of slots ≡ fill.directory
 cached_home f v fill is slots at for =
     let pair = and_parts (slots.heap == fill.directory.heap) (slots.class == fill.class) for in
     let heap : slots.heap ≡ fill.directory.heap = eqb-true slots.heap fill.directory.heap pair.0 in
@@ -129,7 +105,7 @@ cached_home f v fill is slots at for =
     same_parts (home_of slots) fill.directory heap kind
 
 -- ---- what it does to what the actor holds and has
-pub refill_leads : {fill : Filling} {f : Profile} {steps : List Made} {slots : Slots} → IsRefill fill f steps (Ok slots) → Leads f (MaySearch fill.directory) (GetsSlots fill.directory slots) steps
+refill_leads : {fill : Filling} {f : Profile} {steps : List Made} {slots : Slots} → IsRefill fill f steps (Ok slots) → Leads f (MaySearch fill.directory) (GetsSlots fill.directory slots) steps
 refill_leads {fill} {f} {slots = slots} h = subst (Leads f (MaySearch fill.directory) (GetsSlots fill.directory slots)) (sym h.steps_are) h.outcome.gets
 
 -- the steps of a refusal are those of the search alone
@@ -140,7 +116,7 @@ pub refusal : {fill : Filling} {f : Profile} {steps : List Made} {room : NoRoom}
 refusal {fill} {f} {room = room} h = subst (λ xs. IsRefused fill.no_fit f fill.directory xs room) (refused_steps h) h.outcome.0
 
 -- ---- the actor is at rest with the slots that were found besides
-pub rests_refilled : (f : Profile) (fill : Filling) (locals : List Slots) → IsFilling f fill → local_for fill.directory.heap fill.class locals ≡ None → (steps : List Made) (v : View) → RestsWith f locals v → Agreed f v steps
+rests_refilled : (f : Profile) (fill : Filling) (locals : List Slots) → IsFilling f fill → local_for fill.directory.heap fill.class locals ≡ None → (steps : List Made) (v : View) → RestsWith f locals v → Agreed f v steps
     → (answer : Result Slots NoRoom) → IsRefill fill f steps answer → RestsWith f (cons_option (result_ok answer) locals) (steps ++ v)
 rests_refilled f fill locals is none steps v h agreed (Ok slots) refill =
     let d : Directory = fill.directory in
@@ -211,7 +187,7 @@ found_few fill f steps (Ok slots) h k v may agreed =
 found_few fill f steps (Err room) h k v may agreed = silent_few f k steps v (refusal h).quiet agreed
 
 -- after steps without events
-pub refill_few : (fill : Filling) (f : Profile) (ys xs : List Made) (found : Result Slots NoRoom) → IsRefill fill f ys found → Only releasing xs → (k : ℕ) (v : View) → MaySearch fill.directory (xs ++ v) → Agreed f v (ys ++ xs) → IsFew f 1 k (ys ++ xs) v
+refill_few : (fill : Filling) (f : Profile) (ys xs : List Made) (found : Result Slots NoRoom) → IsRefill fill f ys found → Only releasing xs → (k : ℕ) (v : View) → MaySearch fill.directory (xs ++ v) → Agreed f v (ys ++ xs) → IsFew f 1 k (ys ++ xs) v
 refill_few fill f ys xs found refill kinds k v may agreed =
     let here = found_few fill f ys found refill k (xs ++ v) may (agreed_first f v ys xs agreed) in
     let before = unknown_stays f xs v (agreed_later f v ys xs agreed) in
@@ -246,7 +222,7 @@ none_in : (heap class : ℕ) (locals others : List Slots) → others ≡ others_
 none_in heap class locals others is = ap (local_for heap class) is ∙ none_left (is_for heap class) locals
 
 module _ {heap class : ℕ} {locals : List Slots} {place : ℕ} (d : Slots) (one : HasOneEach locals) (at : IsPlaceOf heap class locals place) where
-  pub placed : (local_for heap class locals ≡ Some (get_or locals place d)) × (others_than heap class locals ≡ remove locals place)
+  placed : (local_for heap class locals ≡ Some (get_or locals place d)) × (others_than heap class locals ≡ remove locals place)
   placed = at_place (is_for heap class) locals place d at.within (at.serves d) (one heap class)
 
   pub brings : (locals' : List Slots) → HasMember (get_or locals place d).starts → locals' ≡ remove locals place ++ get_or locals place d ∷ [] → BringsCached heap class locals locals'

@@ -1,48 +1,31 @@
 -- An actor at rest with local allocators: what it has of each, that it is at rest again after a call, and that one gives its lowest slot.
-use Rattle.std.proofs.Common.{◌≡◌, ℕ, ◌+◌, ◌*◌, ◌/◌, ◌%◌, ◌^◌, ◌<◌, ◌≤◌, ◌==◌, true, refl, ap, sym, ◌∙◌, arith, Bool, false, ◌||◌, if◌then◌else◌, List, ◌∷◌, ◌++◌, get_or, None, subst, true≢false, ◌&&◌, not, [], inl}
-use Rattle.std.proofs.lemmas.Bool.{eq-eqb, and_from, eqb-true, and_parts, or_right, false_from_ne_true, cond-false}
-use Rattle.pas_profile.specs.Classes.{IsClass, class_grains, IsSlotStart}
-use Rattle.pas_bits.specs.Runs.{in_run}
-use Rattle.pas_profile.specs.Blocks.{grain_of, length_of}
-use Rattle.pas_profile.specs.declared.name.Block.{Block}
-use Rattle.pas_profile.specs.declared.profile.Profile.{Profile}
-use Rattle.pas_profile.proofs.ClassFacts.{class_size_whole, class_grains_positive, slot_end}
+use Rattle.std.proofs.Common.{◌≡◌, ℕ, ◌+◌, ◌*◌, ◌/◌, ◌%◌, ◌^◌, ◌<◌, ◌≤◌, ◌==◌, true, refl, ap, sym, ◌∙◌, arith, Bool, false, ◌||◌, if◌then◌else◌, List, ◌∷◌}
+use Rattle.std.proofs.Common.{◌++◌, get_or, None, subst, true≢false, ◌&&◌, not, [], inl, eq-eqb, eqb-true, All}
+use Rattle.std.proofs.lemmas.Bool.{and_from, and_parts, or_right, false_from_ne_true, cond-false}
+use Rattle.pas_profile.specs.{Classes.IsClass, Classes.class_grains, Classes.IsSlotStart, Blocks.grain_of, Blocks.length_of, Directories.deed_word_of}
+use Rattle.pas_profile.specs.{Profiles.IsPage, Profiles.IsDirectoryOf, Requests.is_shared}
+use Rattle.pas_bits.specs.{Runs.in_run, Masks.is_set, Masks.IsLowestSet, Masks.HasMember}
+use Rattle.pas_profile.specs.declared.{name.Block.Block, profile.Profile.Profile, directory.Directory.Directory, word.Word.Word}
+use Rattle.pas_profile.proofs.{ClassFacts.class_size_whole, ClassFacts.class_grains_positive, ClassFacts.slot_end, Codecs.deed_word_of-positive}
 use Rattle.pas_bits.proofs.Runs.{run_of, to_run}
-use Rattle.pas_bits.specs.Masks.{is_set, IsLowestSet, HasMember}
 use Rattle.pas_rights.specs.Gives.{MayGive, give_steps, GivesRun}
 use Rattle.pas_rights.proofs.Gives.{may_give_on}
-use Rattle.pas_steps.specs.Desks.{Standing, CanCall, made}
+use Rattle.pas_steps.specs.{Desks.Standing, Desks.CanCall, Desks.made, Agreement.Agreed}
 use Rattle.pas_steps.specs.Views.{View, holds, knows_backed, known_deed}
-use Rattle.pas_steps.proofs.Called.{call_as}
+use Rattle.pas_steps.proofs.{Called.call_as, Kept.deed_stays, Calls.does_then, Calls.does_as, Calls.does_step, Sets.given_fate}
 use Rattle.pas_segregated.specs.Stops.{home_of, of_slots, MayStopAt, home_by}
 use Rattle.pas_segregated.specs.declared.slots.Slots.{Slots}
 use Rattle.pas_segregated.proofs.Starts.{start_at, start_below}
 use Rattle.pas_cache.specs.Locals.{covers, keeps_right, any_covers, any_keeps, is_for, local_for, IsLocal, AreApart, RestsWith}
-use Rattle.pas_cache.specs.Changes.{IsWithoutSlot, GivesSlot}
-use Rattle.pas_cache.specs.Parts.{MayGiveSlot, GivesLowest}
-use Rattle.std.specs.Prelude.{All}
-use Rattle.std.specs.List.{list_any, count_by}
-use Rattle.std.specs.List.Sorted.{IsPermutation}
-use Rattle.std.proofs.lemmas.List.Elements.{All-head, All-tail, All-cons}
-use Rattle.std.proofs.lemmas.List.Recursion.{or_at}
-use Rattle.std.proofs.lemmas.List.Sorted.{All-permutation, sum_by-IsPermutation, list_any-IsPermutation}
-use Rattle.pas_profile.specs.declared.directory.Directory.{Directory}
-use Rattle.pas_profile.proofs.Codecs.{deed_word_of-positive}
-use Rattle.pas_steps.specs.Agreement.{Agreed}
+use Rattle.pas_cache.specs.{Changes.IsWithoutSlot, Changes.GivesSlot, Parts.MayGiveSlot, Parts.GivesLowest}
+use Rattle.std.specs.List.{list_any, count_by, Sorted.IsPermutation}
+use Rattle.std.proofs.{lemmas.List.Elements.All-head, lemmas.List.Elements.All-tail, lemmas.List.Elements.All-cons, lemmas.List.Recursion.or_at}
+use Rattle.std.proofs.{lemmas.List.Sorted.All-permutation, lemmas.List.Sorted.sum_by-IsPermutation, lemmas.List.Sorted.list_any-IsPermutation}
+use Rattle.std.proofs.{Math.Bool.and-false}
 use Rattle.pas_steps.specs.Calls.{Effect, Fate, Kept, Gained, Lost, now, nothing, ClearAfter, Does}
-use Rattle.pas_steps.specs.declared.step.Made.{Made}
-use Rattle.pas_steps.proofs.Kept.{deed_stays}
-use Rattle.pas_segregated.specs.Refills.{got, GetsSlots}
+use Rattle.pas_steps.specs.declared.step.{Made.Made, Step.TheVariants.Look, Step.TheVariants.Give}
+use Rattle.pas_segregated.specs.{Refills.got, Refills.GetsSlots, Masks.start_of}
 use Rattle.pas_cache.proofs.Locals.{none_found, no_other, one_more, one_fewer}
-use Rattle.pas_profile.specs.Directories.{deed_word_of}
-use Rattle.pas_profile.specs.Profiles.{IsPage, IsDirectoryOf}
-use Rattle.pas_profile.specs.Requests.{is_shared}
-use Rattle.pas_steps.specs.declared.step.Step.TheVariants.{Look, Give}
-use Rattle.pas_steps.proofs.Calls.{does_then, does_as, does_step}
-use Rattle.pas_segregated.specs.Masks.{start_of}
-use Rattle.pas_steps.proofs.Sets.{given_fate}
-use Rattle.std.proofs.Math.Bool.{and-false}
-use Rattle.pas_profile.specs.declared.word.Word.TheVariants as Word
 
 -- ==== The lowest slot is given.
 
@@ -50,7 +33,7 @@ use Rattle.pas_profile.specs.declared.word.Word.TheVariants as Word
 abbrev pub first_grain : Slots → ℕ → ℕ
 first_grain slots start = slots.page * 256 + start
 
-pub grain_is : (slots : Slots) (start : ℕ) → (slots.page * 4096 + start * 16) / 16 ≡ first_grain slots start
+grain_is : (slots : Slots) (start : ℕ) → (slots.page * 4096 + start * 16) / 16 ≡ first_grain slots start
 grain_is slots start = omega arith
 
 -- ---- the grains of a slot
@@ -59,7 +42,7 @@ pub record InSlot (slots : Slots) (start g : ℕ) : Type 0 where
   pub low : start ≤ g % 256
   pub high : g % 256 < start + class_grains slots.class
 
-pub in_slot : (slots : Slots) (start g : ℕ) → IsClass slots.class → IsSlotStart slots.class start → in_run (first_grain slots start) (class_grains slots.class) g ≡ true → InSlot slots start g
+in_slot : (slots : Slots) (start g : ℕ) → IsClass slots.class → IsSlotStart slots.class start → in_run (first_grain slots start) (class_grains slots.class) g ≡ true → InSlot slots start g
 in_slot slots start g is slot inside =
     let r = run_of (first_grain slots start) (class_grains slots.class) g inside in
     let low = r.0 in
@@ -68,7 +51,7 @@ in_slot slots start g is slot inside =
     record { page = omega (arith, low, high, ends); low = omega (arith, low, high, ends); high = omega (arith, low, high, ends) }
 
 -- they are among those of all slots
-pub slot_covers : (slots : Slots) (start g : ℕ) → IsSlotStart slots.class start → is_set slots.starts start ≡ true → InSlot slots start g → covers slots g ≡ true
+slot_covers : (slots : Slots) (start g : ℕ) → IsSlotStart slots.class start → is_set slots.starts start ≡ true → InSlot slots start g → covers slots g ≡ true
 slot_covers slots start g slot set at =
     and_from (slots.page == g / 256) (is_set slots.starts ((g % 256) / class_grains slots.class * class_grains slots.class))
     (eq-eqb slots.page (g / 256) (sym at.page))
@@ -80,7 +63,7 @@ module _ (slots : Slots) (start : ℕ) (lowest : IsLowestSet slots.starts 0 star
   slot_within f v may = (class_grains_positive slots.class may.local.class, slot_end slots.class start may.local.class (may.local.starts start lowest.set))
 
   pub region_within : (f : Profile) (v : View) → MayGiveSlot f slots v → slots.page * 256 + start + class_grains slots.class ≤ 256 * (f.pages + 1)
-  region_within f v may = let high = may.local.page.1 in let ends = (slot_within f v may).1 in omega (arith, high, ends)
+  region_within f v may = let ends = (slot_within f v may).1 in omega (arith, may.local.page.1, ends)
 
   may_give : (f : Profile) (v : View) → MayGiveSlot f slots v → MayGive f slots.heap slots.page start (class_grains slots.class) v
   may_give f v may =
@@ -122,7 +105,7 @@ some_grain f v t here some =
     slot_covers t start (first_grain t start) slot some.2 (record { page = omega (arith, lt); low = omega (arith, lt); high = omega (arith, lt, positive) })
 
 -- one whose grains were all kept is as it was
-pub local_after : (f : Profile) (e : Effect) (steps : List Made) (v : View) (t : Slots) → Does e v (steps ++ v) → Agreed f v steps → ((g : ℕ) → covers t g ≡ true → (holds v g ≡ true) × (e.grains g ≡ Kept)) → IsLocal f v t → IsLocal f (steps ++ v) t
+local_after : (f : Profile) (e : Effect) (steps : List Made) (v : View) (t : Slots) → Does e v (steps ++ v) → Agreed f v steps → ((g : ℕ) → covers t g ≡ true → (holds v g ≡ true) × (e.grains g ≡ Kept)) → IsLocal f v t → IsLocal f (steps ++ v) t
 local_after f e steps v t does agreed stays at = record {
   page = at.page;
   class = at.class;
@@ -170,7 +153,7 @@ rests_by f e steps v xs ys does grains rights clears h known apart = record {
 pub rests_kept : (f : Profile) (locals : List Slots) (steps : List Made) (v : View) → Does nothing v (steps ++ v) → Agreed f v steps → RestsWith f locals v → RestsWith f locals (steps ++ v)
 rests_kept f locals steps v does agreed h = rests_by f nothing steps v locals locals does (λ g. refl) (λ page. refl) (λ page. refl) h (locals_after f nothing steps v locals does agreed (λ g here. (h.grains g ∙ here, refl)) h.known) h.apart
 
-pub unless_covered : (t : Bool) (fate : Fate) → (t ≡ true → ⊥) → (if t then fate else Kept) ≡ Kept
+unless_covered : (t : Bool) (fate : Fate) → (t ≡ true → ⊥) → (if t then fate else Kept) ≡ Kept
 unless_covered t fate isnt = cond-false t fate Kept (false_from_ne_true t isnt)
 
 less : (c r : Bool) → (c ≡ true → r ≡ false) → now (if c then Lost else Kept) (c || r) ≡ r
@@ -184,13 +167,13 @@ module _ (f : Profile) (slots : Slots) (rest : List Slots) (v : View) (h : Rests
   pub here : IsLocal f v slots
   here = All-head (IsLocal f v) slots rest h.known
 
-  pub others : All (IsLocal f v) rest
+  others : All (IsLocal f v) rest
   others = All-tail (IsLocal f v) slots rest h.known
 
-  pub no_other_grain : (g : ℕ) → covers slots g ≡ true → any_covers rest g ≡ false
+  no_other_grain : (g : ℕ) → covers slots g ≡ true → any_covers rest g ≡ false
   no_other_grain g = no_other (λ t. covers t g) slots rest (h.apart.grains g)
 
-  pub no_other_right : (page : ℕ) → keeps_right slots page ≡ true → any_keeps rest page ≡ false
+  no_other_right : (page : ℕ) → keeps_right slots page ≡ true → any_keeps rest page ≡ false
   no_other_right page = no_other (λ t. keeps_right t page) slots rest (h.apart.rights page)
 
   held_here : (g : ℕ) → covers slots g ≡ true → holds v g ≡ true
@@ -208,10 +191,10 @@ module _ (f : Profile) (slots : Slots) (rest : List Slots) (v : View) (h : Rests
   may_give_slot = record { held = held_here; local = here; stamped = (h.clear.on slots.page).stamped }
 
   -- the others after a call that keeps what this one doesn't cover
-  pub others_after : (e : Effect) (steps : List Made) → Does e v (steps ++ v) → Agreed f v steps → ((g : ℕ) → covers slots g ≡ false → e.grains g ≡ Kept) → All (IsLocal f (steps ++ v)) rest
+  others_after : (e : Effect) (steps : List Made) → Does e v (steps ++ v) → Agreed f v steps → ((g : ℕ) → covers slots g ≡ false → e.grains g ≡ Kept) → All (IsLocal f (steps ++ v)) rest
   others_after e steps does agreed kept = locals_after f e steps v rest does agreed (λ g there. (h.grains g ∙ or_right (covers slots g) (any_covers rest g) there, kept g (false_from_ne_true (covers slots g) (λ mine. true≢false (sym there ∙ no_other_grain g mine))))) others
 
-  pub fewer_apart : AreApart rest
+  fewer_apart : AreApart rest
   fewer_apart = record {
     one_each = λ heap class. one_fewer (is_for heap class) slots rest (h.apart.one_each heap class);
     grains = λ g. one_fewer (λ t. covers t g) slots rest (h.apart.grains g);

@@ -1,78 +1,48 @@
 -- By which route a request goes, and what requests for bit-fit pages and for whole pages do.
-use Rattle.std.proofs.Common.{◌≡◌, ℕ, ◌<◌, ◌≤◌, if◌then◌else◌, Option, None, Some, sym, subst, arith, max, ◌+◌, ◌-◌, ◌*◌, ◌/◌, ◌%◌, ◌==◌, Bool, true, false, List, [], ◌++◌, length, Ok, Err, Result, refl, ap, ◌∙◌, length-append, ◌||◌, ◌∷◌, ◌⊎◌, inl, inr, append_assoc, true≢false}
-use Rattle.std.proofs.lemmas.Bool.{le-leb, eqb-true, cases_Bool, and_parts, false_from_ne_true}
-use Rattle.pas_profile.specs.Classes.{sizes_of, IsAlignment}
+use Rattle.std.proofs.Common.{◌≡◌, ℕ, ◌<◌, ◌≤◌, if◌then◌else◌, Option, None, Some, sym, subst, arith, max, ◌+◌, ◌-◌, ◌*◌, ◌/◌, ◌%◌, ◌==◌, Bool, true, false}
+use Rattle.std.proofs.Common.{List, [], ◌++◌, length, Ok, Err, Result, refl, ap, ◌∙◌, length-append, ◌||◌, ◌∷◌, ◌⊎◌, inl, inr, append_assoc, true≢false, le-leb}
+use Rattle.std.proofs.Common.{eqb-true, All, MatchResult, min}
+use Rattle.std.proofs.{lemmas.Bool.cases_Bool, lemmas.Bool.and_parts, lemmas.Bool.false_from_ne_true, Math.Nat.le-max_right, Math.Nat.zero-mod}
+use Rattle.std.proofs.{lemmas.List.Elements.All-head, lemmas.List.Elements.All-tail}
+use Rattle.pas_profile.specs.{Classes.sizes_of, Classes.IsAlignment, Profiles.IsPage, Blocks.address_of, Blocks.grain_of, Blocks.length_of}
 use Rattle.pas_profile.specs.Routes.{first_class, route_with, route_of, room_by, room_of, IsRouteOf}
-use Rattle.pas_profile.specs.declared.directory.Route.{Route}
-use Rattle.pas_profile.proofs.Sizes.{large_for}
+use Rattle.pas_profile.specs.declared.{directory.Route.Route, directory.Directory.Directory, event.NoRoom.NoRoom, name.Block.Block, profile.Profile.Profile}
+use Rattle.pas_profile.specs.declared.{event.Event.Event, directory.Kind.Kind}
+use Rattle.pas_profile.proofs.{Sizes.large_for, ClassFacts.bitfit_suits, ClassFacts.route_is, Codecs.deed_word_of-positive, Lists.all_both, Lists.all_map}
 use Rattle.pas_cache.specs.Serves.{IsSmallRoute, Wanted, wanted_for, IsBlockFor, IsFew, IsSilent, IsToldBy, IsPreparing, IsDeedOf, MakesDeedsOf}
-use Rattle.std.specs.Prelude.{All, MatchResult, max, min}
-use Rattle.pas_profile.specs.Profiles.{IsPage}
 use Rattle.pas_profile.specs.Requests.{is_shared, kind_of_class, kind_of_route, route_in, room_in}
 use Rattle.pas_bits.specs.Runs.{in_run}
-use Rattle.pas_profile.specs.Blocks.{address_of, grain_of, length_of}
-use Rattle.pas_profile.specs.declared.directory.Directory.{Directory}
-use Rattle.pas_profile.specs.declared.event.NoRoom.{NoRoom}
-use Rattle.pas_profile.specs.declared.name.Block.{Block}
-use Rattle.pas_profile.specs.declared.profile.Profile.{Profile}
-use Rattle.pas_profile.proofs.ClassFacts.{bitfit_suits, route_is}
 use Rattle.pas_bits.proofs.Runs.{run_of}
-use Rattle.pas_steps.specs.Agreement.{Agreed}
-use Rattle.pas_steps.specs.Calls.{Kept, Lost, now}
-use Rattle.pas_steps.specs.Events.{events_by}
+use Rattle.pas_steps.specs.{Agreement.Agreed, Calls.Kept, Calls.Lost, Calls.now, Events.events_by, Views.View, Views.KnowsDeed, Views.known_deed, Lists.Whole}
+use Rattle.pas_steps.specs.{Desks.Standing, Desks.CanCall, Desks.triples, Unknown.unknown_pages}
 use Rattle.pas_steps.specs.Kinds.{returning, Only, Backing, looking, kind_of, is_in}
-use Rattle.pas_steps.specs.Views.{View, KnowsDeed, known_deed}
-use Rattle.pas_steps.specs.declared.step.Made.{Made}
+use Rattle.pas_steps.specs.declared.step.{Made.Made, Step.Step, Step.TheVariants.Deed}
 use Rattle.pas_steps.proofs.Adding.{agreed_later, adds_under, agreed_first, adds_none, can_call}
-use Rattle.pas_steps.proofs.Apart.{only_both, only_within, events_same}
-use Rattle.pas_steps.proofs.Calls.{returns_are}
+use Rattle.pas_steps.proofs.{Apart.only_both, Apart.only_within, Apart.events_same, Calls.returns_are, Frames.events_append, Past.always_pair}
+use Rattle.pas_steps.proofs.{Unknown.unknown_stays, Events.ComesOf, Events.comes_of, Events.each_event}
 use Rattle.pas_search.proofs.ForBackEnds.{events_quiet}
-use Rattle.pas_search.specs.Kinds.{searching}
+use Rattle.pas_search.specs.{Kinds.searching, Serving.right_of, Telling.IsTold}
 use Rattle.pas_search.specs.Searches.{MaySearch, IsRefused, SearchRoom, search_steps}
-use Rattle.pas_search.specs.Serving.{right_of}
-use Rattle.pas_search.specs.Telling.{IsTold}
-use Rattle.pas_steps.specs.Lists.{Whole}
 use Rattle.pas_segregated.specs.declared.slots.Slots.{Slots}
 use Rattle.pas_choice.specs.Allocates.{GaveBlock, IsGiven}
 use Rattle.pas_bitfit.specs.Allocates.{bitfit_directory, run_for, IsOfRequest, IsAllocated, Allocates}
 use Rattle.pas_bitfit.specs.Runs.{NoneFits, runs, run_at}
 use Rattle.pas_rights.specs.Gives.{give_steps}
-use Rattle.pas_rights.proofs.Gives.{covers}
-use Rattle.pas_rights.proofs.Orders.{leave_returns}
-use Rattle.pas_cache.specs.Caches.{Cached, AtRest}
-use Rattle.pas_cache.specs.Calls.{MayAllocate, Allocates as Serves, MayAllocatePages, AllocatesPages, most_events, IsNamed, MayRequestBy, MayRequest, AllocatesBy, AllocatesRequest}
-use Rattle.pas_cache.specs.Kinds.{allocating}
+use Rattle.pas_rights.proofs.{Gives.covers, Orders.leave_returns}
+use Rattle.pas_cache.specs.{Caches.Cached, Caches.AtRest, Kinds.allocating}
+use Rattle.pas_cache.specs.Calls.{MayAllocate, Allocates as Serves, MayAllocatePages, AllocatesPages, most_events, IsNamed, MayRequestBy, MayRequest}
+use Rattle.pas_cache.specs.Calls.{AllocatesBy, AllocatesRequest}
 use Rattle.pas_cache.specs.Locals.{any_keeps, IsLocal, RestsWith, keeps_right}
 use Rattle.pas_cache.proofs.Obtained.{chosen_few, silent_few, prepared, no_right_of}
 use Rattle.pas_cache.proofs.Resting.{locals_after, rests_by, rests_kept}
-use Rattle.pas_steps.specs.Desks.{Standing, CanCall, triples}
-use Rattle.std.proofs.Math.Nat.{le-max_right, zero-mod}
 use Rattle.std.specs.List.{AllByRecursion}
-use Rattle.std.proofs.lemmas.List.Elements.{All-head, All-tail}
-use Rattle.pas_profile.specs.declared.event.Event.{Event}
-use Rattle.pas_profile.proofs.Codecs.{deed_word_of-positive}
 use Rattle.pas_bitfit.proofs.Aligned.{stands_aligned}
-use Rattle.pas_steps.specs.Unknown.{unknown_pages}
-use Rattle.pas_steps.specs.declared.step.Step.{Step}
-use Rattle.pas_steps.specs.declared.step.Step.TheVariants.{Deed}
-use Rattle.pas_steps.proofs.Frames.{events_append}
-use Rattle.pas_steps.proofs.Past.{always_pair}
-use Rattle.pas_steps.proofs.Unknown.{unknown_stays}
 use Rattle.pas_large.specs.Allocates.{GaveLarge, IsServedNamed, IsScanned, AllocatesLarge}
 use Rattle.pas_large.proofs.Outcomes.{MadeOf, IsGivenRun, IsRefusedRun, HasEnded, ended}
-use Rattle.pas_large.specs.Claims.{in_span}
-use Rattle.pas_large.specs.Finds.{MayFind, FindRoom, finding}
-use Rattle.pas_large.specs.Pages.{OnlyDeedsShow}
-use Rattle.pas_large.specs.Named.{missed_steps}
-use Rattle.pas_large.specs.Telling.{IsToldByDoor}
-use Rattle.pas_large.proofs.Claims.{in_parts}
-use Rattle.pas_large.proofs.Gives.{run_is, back_events}
+use Rattle.pas_large.specs.{Claims.in_span, Finds.MayFind, Finds.FindRoom, Finds.finding, Pages.OnlyDeedsShow, Named.missed_steps, Telling.IsToldByDoor}
+use Rattle.pas_large.proofs.{Claims.in_parts, Gives.run_is, Gives.back_events, Allocates.scans_only}
 use Rattle.pas_scan.specs.Runs.{large_directory}
 use Rattle.pas_segregated.specs.Stops.{home_of}
-use Rattle.pas_profile.proofs.Lists.{all_both, all_map}
-use Rattle.pas_steps.proofs.Events.{ComesOf, comes_of, each_event}
-use Rattle.pas_large.proofs.Allocates.{scans_only}
-use Rattle.pas_profile.specs.declared.directory.Kind.TheVariants as Kind
 
 -- ==== The route, by the size, in a region of so many classes.
 
@@ -204,7 +174,7 @@ module _ (f : Profile) (heap room align : ℕ) (locals : List Slots) (searched a
 
 -- ---- how many steps there are at most
 bitfit_short : (f : Profile) (heap room align : ℕ) (searched after : List Made) (answer : Result Block NoRoom) → length searched ≤ search_steps 15 f.pages → BitfitEnds f heap room align searched after answer → length (after ++ searched) ≤ 59 + search_steps 15 f.pages
-bitfit_short f heap room align searched after (Ok block) few h = let n = length-append after searched in let short = h.0.few in omega (arith, n, few, short)
+bitfit_short f heap room align searched after (Ok block) few h = let n = length-append after searched in omega (arith, n, few, h.0.few)
 bitfit_short f heap room align searched after (Err why) few h = let n = length-append after searched in let none = ap length h.1 in omega (arith, n, few, none)
 
 -- ---- what it says of the whole state
@@ -413,7 +383,7 @@ pages_allocates {σ} {σ'} size align heap n found tells c answer is some alignm
       };
       change = record { cache = refl; tried = a.tried; rest = a.rest; old = a.old; returns = a.returns; outcome = subst (λ k. IsServedNamed f d k found a.tried a.rest answer ⊎ IsScanned f d k found a.tried a.rest answer) (sym count) a.outcome; steps_are = refl };
       kinds = subst (Only allocating) (sym same) (kinds f heap n e.got e.after answer e.outcome e.kinds);
-      short = (let short = a.few in let missed = ap (missed_steps found) count in omega (arith, short, count, missed));
+      short = (let missed = ap (missed_steps found) count in omega (arith, a.few, count, missed));
       few = λ k v met agreed.
           subst (λ m. length (events_by k v (a.rest ++ a.tried)) + unknown_pages f ((a.rest ++ a.tried) ++ v) ≤ most_events m answer + unknown_pages f v) (sym count)
           (subst (λ xs. length (events_by k v xs) + unknown_pages f (xs ++ v) ≤ most_events n answer + unknown_pages f v) (sym same) (few f heap n e.got e.after answer e.outcome e.shows k v (subst (Agreed f v) same agreed)));

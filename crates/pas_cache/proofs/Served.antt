@@ -1,59 +1,35 @@
 -- A request is answered from the local allocators.
-use Rattle.std.proofs.Common.{◌≡◌, ℕ, ◌+◌, ◌/◌, ◌^◌, ◌<◌, ◌≤◌, Bool, false, List, [], ◌∷◌, ◌++◌, length, Ok, Err, Result, inl, inr, Option, Some, true≢false, refl, ap, sym, ◌∙◌, subst, arith, append_assoc, append-nil, length-append, true}
-use Rattle.std.specs.Prelude.{MatchResult, All, ◌%◌, max}
-use Rattle.std.proofs.lemmas.List.Elements.{All-weaker}
-use Rattle.std.proofs.lemmas.List.Sorted.{IsPermutation-sym, IsPermutation-to_front}
-use Rattle.pas_steps.specs.Calls.{Calls}
-use Rattle.pas_steps.proofs.Called.{call_as, next_call}
-use Rattle.pas_steps.proofs.Calls.{leads_as, leads_at}
-use Rattle.pas_profile.specs.Profiles.{IsAdmitted, IsDirectoryOf, IsPage}
-use Rattle.pas_profile.specs.Routes.{room_by}
+use Rattle.std.proofs.Common.{◌≡◌, ℕ, ◌+◌, ◌/◌, ◌^◌, ◌<◌, ◌≤◌, Bool, false, List, [], ◌∷◌, ◌++◌, length, Ok, Err, Result, inl, inr, Option, Some, true≢false}
+use Rattle.std.proofs.Common.{refl, ap, sym, ◌∙◌, subst, arith, append_assoc, append-nil, length-append, true, MatchResult, All, ◌%◌, max}
+use Rattle.std.proofs.lemmas.List.{Elements.All-weaker, Sorted.IsPermutation-sym, Sorted.IsPermutation-to_front}
+use Rattle.pas_steps.specs.{Calls.Calls, Views.View, Views.known_deed, Events.events_by, Agreement.Agreed, Lists.Whole, Desks.Standing, Desks.Seat}
+use Rattle.pas_steps.specs.{Desks.CanCall, Unknown.unknown_pages, Kinds.returning, Kinds.Only}
+use Rattle.pas_steps.proofs.{Called.call_as, Called.next_call, Calls.leads_as, Calls.leads_at, SpareRoom.Spares, SpareRoom.spare_falls, Frames.events_append}
+use Rattle.pas_steps.proofs.{Kept.deed_stays, Apart.no_events, Apart.only_both, Apart.only_within, Unknown.unknown_stays, Unknown.none_unknown}
+use Rattle.pas_profile.specs.{Profiles.IsAdmitted, Profiles.IsDirectoryOf, Profiles.IsPage, Routes.room_by, Classes.IsClass, Classes.class_size}
+use Rattle.pas_profile.specs.{Classes.IsSlotStart, Directories.IsKind, Directories.IsKindAmong, Directories.deed_word_of}
 use Rattle.pas_profile.specs.Requests.{is_shared, kind_of_class, kind_of_route, route_in, room_in, class_home}
-use Rattle.pas_profile.specs.declared.directory.Kind.{Kind as TheKind}
+use Rattle.pas_profile.specs.declared.{directory.Kind.Kind as TheKind, directory.Route.Route, profile.Profile.Profile, directory.Directory.Directory}
+use Rattle.pas_profile.specs.declared.{event.Event.Event, event.NoRoom.NoRoom, name.Block.Block}
 use Rattle.pas_heap.specs.Heaps.{marks_of, is_marked}
 use Rattle.pas_heap.specs.declared.table.HeapTable.{HeapTable}
-use Rattle.pas_profile.specs.declared.directory.Route.{Route}
-use Rattle.pas_profile.proofs.ClassFacts.{class_suits, class_known, routed_slot_aligned}
-use Rattle.pas_cache.specs.Caches.{Cached, AtRest}
-use Rattle.pas_cache.specs.Calls.{MayAllocate, Allocates}
+use Rattle.pas_profile.proofs.{ClassFacts.class_suits, ClassFacts.class_known, ClassFacts.routed_slot_aligned, Codecs.deed_word_of-positive}
+use Rattle.pas_cache.specs.{Caches.Cached, Caches.AtRest, Calls.MayAllocate, Calls.Allocates, Changes.GivesSlot, Changes.LeavesSpent, Kinds.releasing}
+use Rattle.pas_cache.specs.{Kinds.allocating}
 use Rattle.std.specs.List.{AllByRecursion}
-use Rattle.pas_profile.specs.Classes.{IsClass, class_size, IsSlotStart}
-use Rattle.pas_bits.specs.Bits.{has_bit}
-use Rattle.pas_profile.specs.Directories.{IsKind, IsKindAmong, deed_word_of}
-use Rattle.pas_profile.specs.declared.profile.Profile.{Profile}
-use Rattle.pas_profile.specs.declared.directory.Directory.{Directory}
-use Rattle.pas_profile.specs.declared.event.Event.{Event}
-use Rattle.pas_profile.specs.declared.event.NoRoom.{NoRoom}
-use Rattle.pas_profile.specs.declared.name.Block.{Block}
-use Rattle.pas_profile.proofs.Codecs.{deed_word_of-positive}
-use Rattle.pas_steps.specs.Views.{View, known_deed}
-use Rattle.pas_steps.specs.Events.{events_by}
-use Rattle.pas_steps.specs.Agreement.{Agreed}
-use Rattle.pas_steps.specs.Lists.{Whole}
-use Rattle.pas_steps.specs.Desks.{Standing, Seat, CanCall}
+use Rattle.pas_bits.specs.{Bits.has_bit, Masks.HasMember}
 use Rattle.pas_steps.specs.declared.step.Made.{Made}
 use Rattle.pas_steps.proofs.Adding.{adds_none, adds_call, can_call, agreed_first, agreed_later}
-use Rattle.pas_steps.proofs.SpareRoom.{Spares, spare_falls}
-use Rattle.pas_steps.proofs.Frames.{events_append}
-use Rattle.pas_steps.proofs.Kept.{deed_stays}
 use Rattle.pas_search.proofs.ForBackEnds.{events_quiet}
-use Rattle.pas_search.specs.Searches.{search_steps}
-use Rattle.pas_segregated.specs.Refills.{Filling}
-use Rattle.pas_segregated.specs.Takes.{fewer_slots}
+use Rattle.pas_search.specs.{Searches.search_steps, Kinds.searching}
+use Rattle.pas_segregated.specs.{Refills.Filling, Takes.fewer_slots}
 use Rattle.pas_segregated.specs.declared.slots.Slots.{Slots}
-use Rattle.pas_steps.specs.Unknown.{unknown_pages}
 use Rattle.pas_cache.specs.Locals.{local_for, IsFormed, IsLocal, RestsWith}
-use Rattle.pas_bits.specs.Masks.{HasMember}
-use Rattle.pas_cache.specs.Changes.{GivesSlot, LeavesSpent}
-use Rattle.pas_cache.specs.Serves.{Wanted, wanted_for, class_wanted, IsFilling, IsRefill, IsObtained, IsAnswered, ServesLocals, IsPreparing, IsBlockFor, IsSilent, filling_in, IsToldBy}
+use Rattle.pas_cache.specs.Serves.{Wanted, wanted_for, class_wanted, IsFilling, IsRefill, IsObtained, IsAnswered, ServesLocals, IsPreparing, IsBlockFor}
+use Rattle.pas_cache.specs.Serves.{IsSilent, filling_in, IsToldBy}
 use Rattle.pas_cache.specs.Parts.{MayGiveSlot, GivesLowest, MayObtain, Obtains, ServesFrom, IsToldOf}
-use Rattle.pas_steps.specs.Kinds.{returning, Only}
-use Rattle.pas_steps.proofs.Apart.{no_events, only_both, only_within}
-use Rattle.pas_search.specs.Kinds.{searching}
-use Rattle.pas_cache.specs.Kinds.{releasing, allocating}
 use Rattle.pas_cache.proofs.Resting.{here, may_give_slot, rests_reordered, rests_given, given_page}
 use Rattle.pas_cache.proofs.Obtained.{obtain_rests, refill_events, prepared, refused_steps, refusal}
-use Rattle.pas_steps.proofs.Unknown.{unknown_stays, none_unknown}
 
 -- ---- room
 pub fewer_room : {σ : Standing} {spare : ℕ} {locals : List Slots} → CanCall σ (MayObtain σ.seat.profile 2 spare locals) → CanCall σ (MayObtain σ.seat.profile 1 spare locals)
@@ -155,7 +131,7 @@ serves_given {σ} {σ1} {σ2} fill tells locals fewer after slots rest block can
         };
         events = λ k v. (events_by k v xs, events_append k ys xs v ∙ ap (λ es. es ++ events_by k v xs) (give_event slots rest block ys two.gives k (xs ++ v)), prepared_before fill xs slots one.how k v);
       };
-      place = let n : length after ≡ length fewer + 1 = ap length list ∙ length-append fewer (rest ∷ []) in let few = one.place in omega (arith, n, few);
+      place = let n : length after ≡ length fewer + 1 = ap length list ∙ length-append fewer (rest ∷ []) in omega (arith, n, one.place);
       told = λ t v l stood h. tt;
     }
 
@@ -168,7 +144,7 @@ serves_none {σ} fill tells locals fewer room one = record {
   kinds = obtained_kinds one.how;
   few = λ k v h agreed. let few = one.few k v h agreed in record { paid = omega (arith, few.paid); most = omega (arith, few.most) };
   outcome = silent_before one.steps room one.how;
-  place = let few = one.place in omega (arith, few);
+  place = omega (arith, one.place);
   told = one.told;
 }
 
@@ -194,8 +170,8 @@ cached_two {fill = fill} {locals = locals} {locals' = locals'} {answer = answer}
 
 -- ---- how many steps there are at most
 refill_short : {fill : Filling} {f : Profile} {steps : List Made} {found : Result Slots NoRoom} → IsRefill fill f steps found → length steps ≤ 11 + search_steps fill.steps f.pages
-refill_short {found = Ok slots} h = let n = ap length h.steps_are ∙ length-append h.after h.searched in let few = h.few in let after = h.outcome.after_few in omega (arith, n, few, after)
-refill_short {found = Err room} h = let n = ap length (refused_steps h) in let few = h.few in omega (arith, n, few)
+refill_short {found = Ok slots} h = let n = ap length h.steps_are ∙ length-append h.after h.searched in omega (arith, n, h.few, h.outcome.after_few)
+refill_short {found = Err room} h = let n = ap length (refused_steps h) in omega (arith, n, h.few)
 
 given_few : (fewer locals' : List Slots) (given : List Made) (found : Result Slots NoRoom) (answer : Result Block NoRoom) → IsAnswered fewer locals' given found answer → length given ≤ 2
 given_few fewer locals' given (Ok got) (Ok block) h = let n = ap length h.1.steps_are in omega (arith, n)

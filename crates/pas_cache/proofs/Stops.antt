@@ -1,26 +1,19 @@
 -- Local allocators are stopped.
-use Rattle.std.proofs.Common.{length-append, ◌≡◌, ℕ, ◌+◌, ◌<◌, ◌≤◌, ◌==◌, true, false, List, [], ◌∷◌, ◌++◌, length, refl, ap, sym, ◌∙◌, subst, arith, true≢false}
-use Rattle.std.specs.Prelude.{slice_index_or, remove, nat_le}
+use Rattle.std.proofs.Common.{length-append, ◌≡◌, ℕ, ◌+◌, ◌<◌, ◌≤◌, ◌==◌, true, false, List, [], ◌∷◌, ◌++◌, length, refl, ap, sym, ◌∙◌, subst, arith}
+use Rattle.std.proofs.Common.{true≢false, slice_index_or, remove, nat_le, le-leb, eqb-true}
 use Rattle.std.specs.List.Sorted.{IsPermutation}
-use Rattle.std.proofs.lemmas.Bool.{le-leb, lt-leb, eqb-true, eqb-false}
-use Rattle.std.proofs.lemmas.List.Sorted.{IsPermutation-remove}
-use Rattle.pas_steps.specs.Views.{View}
+use Rattle.std.proofs.lemmas.{Bool.lt-leb, Bool.eqb-false, List.Sorted.IsPermutation-remove}
+use Rattle.pas_steps.specs.{Views.View, Calls.Calls, Kinds.Only}
 use Rattle.pas_profile.specs.declared.event.Event.{Event}
 use Rattle.pas_steps.specs.Desks.{Standing, Seat, CanCall, Adds}
-use Rattle.pas_steps.specs.Calls.{Calls}
-use Rattle.pas_steps.specs.Kinds.{Only}
 use Rattle.pas_steps.specs.declared.step.Made.{Made}
-use Rattle.pas_steps.proofs.Adding.{adds_none, adds_under, can_call}
-use Rattle.pas_steps.proofs.Apart.{only_both, only_within, no_events}
-use Rattle.pas_steps.proofs.Called.{call_none, call_then, next_call}
-use Rattle.pas_steps.proofs.SpareRoom.{Spares, spare_falls}
+use Rattle.pas_steps.proofs.{Adding.adds_none, Adding.adds_under, Adding.can_call, Apart.only_both, Apart.only_within, Apart.no_events, Called.call_none}
+use Rattle.pas_steps.proofs.{Called.call_then, Called.next_call, SpareRoom.Spares, SpareRoom.spare_falls}
 use Rattle.pas_rights.specs.PutsBack.{giving_back}
 use Rattle.pas_segregated.specs.Stops.{home_of, StopStepsAt, MayStopAt, StopsAt}
 use Rattle.pas_segregated.specs.declared.slots.Slots.{Slots}
-use Rattle.pas_cache.specs.Changes.{StopsFirst, StopsEach, IsShortened}
-use Rattle.pas_cache.specs.Kinds.{releasing}
-use Rattle.pas_cache.specs.Locals.{IsLocal, RestsWith}
-use Rattle.pas_cache.specs.Parts.{Rests, Releases, StopsPlace}
+use Rattle.pas_cache.specs.{Changes.StopsFirst, Changes.StopsEach, Changes.IsShortened, Kinds.releasing, Locals.IsLocal, Locals.RestsWith, Parts.Rests}
+use Rattle.pas_cache.specs.{Parts.Releases, Parts.StopsPlace}
 use Rattle.pas_cache.proofs.Locals.{at_end}
 use Rattle.pas_cache.proofs.Resting.{here, may_stop, rests_stopped, rests_reordered}
 

@@ -1,32 +1,15 @@
 -- What the calls of a cache promise.
 use Rattle.std.specs.Prelude.{ℕ, ◌+◌, ◌*◌, ◌≤◌, ◌≡◌, Bool, true, List, [], ◌∷◌, ◌++◌, length, Option, None, Result, Ok, Err, MatchResult}
-use Rattle.pas_profile.specs.declared.event.FreeFault.{FreeFault}
-use Rattle.pas_profile.specs.declared.event.NoRoom.{NoRoom}
-use Rattle.pas_profile.specs.declared.directory.Route.{Route}
-use Rattle.pas_profile.specs.declared.name.Name.{Name}
-use Rattle.pas_profile.specs.declared.name.Block.{Block}
-use Rattle.pas_profile.specs.declared.profile.Profile.{Profile}
-use Rattle.pas_profile.specs.declared.word.Word.TheVariants as Word
-use Rattle.pas_steps.specs.Views.{View}
-use Rattle.pas_steps.specs.Events.{events_by}
-use Rattle.pas_steps.specs.Lists.{Whole}
-use Rattle.pas_steps.specs.Calls.{Calls}
-use Rattle.pas_steps.specs.Desks.{Standing, triples, made}
-use Rattle.pas_steps.specs.declared.step.Made.{Made}
-use Rattle.pas_steps.specs.declared.step.Step.TheVariants.{Look}
-use Rattle.pas_large.specs.Named.{missed_steps}
-use Rattle.pas_large.specs.Telling.{IsToldByDoor}
+use Rattle.pas_profile.specs.declared.{event.FreeFault.FreeFault, event.NoRoom.NoRoom, directory.Route.Route, name.Name.Name, name.Block.Block}
+use Rattle.pas_profile.specs.declared.{profile.Profile.Profile, word.Word.Word, event.Range.Range}
+use Rattle.pas_steps.specs.{Views.View, Events.events_by, Lists.Whole, Calls.Calls, Desks.Standing, Desks.triples, Desks.made, Unknown.HasRoom}
+use Rattle.pas_steps.specs.{Unknown.unknown_pages, Clear.HasNothing, Kinds.Only}
+use Rattle.pas_steps.specs.declared.step.{Made.Made, Step.TheVariants.Look}
+use Rattle.pas_large.specs.{Named.missed_steps, Telling.IsToldByDoor}
 use Rattle.pas_search.specs.Searches.{search_steps}
-use Rattle.pas_steps.specs.Unknown.{HasRoom, unknown_pages}
-use Rattle.pas_free_log.specs.declared.noting.EndedRun.{EndedRun}
-use Rattle.pas_profile.specs.declared.event.Range.{Range}
-use Rattle.pas_cache.specs.Caches.{Cached, AtRest}
-use Rattle.pas_steps.specs.Clear.{HasNothing}
-use Rattle.pas_cache.specs.Names.{IsInRegion, IsFaultOf}
-use Rattle.pas_free_log.specs.declared.log.Entry.{Entry}
-use Rattle.pas_cache.specs.Changes.{EmptiesLog, LogsEntry, StopsEach}
-use Rattle.pas_steps.specs.Kinds.{Only}
-use Rattle.pas_cache.specs.Kinds.{releasing, allocating}
+use Rattle.pas_free_log.specs.declared.{noting.EndedRun.EndedRun, log.Entry.Entry}
+use Rattle.pas_cache.specs.{Caches.Cached, Caches.AtRest, Names.IsInRegion, Names.IsFaultOf, Changes.EmptiesLog, Changes.LogsEntry, Changes.StopsEach}
+use Rattle.pas_cache.specs.{Kinds.releasing, Kinds.allocating}
 use Rattle.pas_cache.specs.Serves.{Wanted, turn_of, HasCached, ServesRequest, IsBlockFor, pages_of, MakesFew, MakesAtMost, MakesDeedsOf, IsSilent, IsToldBy}
 
 -- an actor at rest with the one cache is at rest with the other after these steps

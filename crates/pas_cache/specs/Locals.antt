@@ -2,15 +2,12 @@
 -- last used at the end.
 use Rattle.std.specs.Prelude.{ℕ, ◌<◌, ◌≤◌, ◌≡◌, ◌==◌, Bool, true, ◌&&◌, not, List, length, Option, All, slice_index_or}
 use Rattle.std.specs.List.{list_any, find, filter, count_by}
-use Rattle.pas_profile.specs.Classes.{IsClass}
-use Rattle.pas_profile.specs.Profiles.{IsPage, IsDirectoryOf}
-use Rattle.pas_profile.specs.Requests.{is_shared}
+use Rattle.pas_profile.specs.{Classes.IsClass, Profiles.IsPage, Profiles.IsDirectoryOf, Requests.is_shared}
 use Rattle.pas_profile.specs.declared.profile.Profile.{Profile}
 use Rattle.pas_steps.specs.Views.{View, holds, has_right, knows_backed, KnowsDeed}
 use Rattle.pas_steps.specs.Clear.{IsClear}
-use Rattle.pas_segregated.specs.Masks.{AreStarts}
+use Rattle.pas_segregated.specs.{Masks.AreStarts, Stops.home_of, Stops.in_slots}
 use Rattle.pas_bits.specs.Masks.{HasMember}
-use Rattle.pas_segregated.specs.Stops.{home_of, in_slots}
 use Rattle.pas_segregated.specs.declared.slots.Slots.{Slots}
 
 -- ---- what it has

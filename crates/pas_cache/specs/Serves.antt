@@ -1,48 +1,26 @@
 -- How a request of a class changes a cache, and what its block is.
 use Rattle.std.specs.Prelude.{ℕ, ◌+◌, ◌*◌, ◌/◌, ◌^◌, ◌<◌, ◌≤◌, ◌%◌, ◌≡◌, true, ◌⊎◌, List, [], ◌∷◌, ◌++◌, length, Option, Some, Result, Ok, Err, MatchResult}
 use Rattle.std.specs.List.{AllByRecursion}
-use Rattle.pas_profile.specs.Profiles.{IsPage, IsDirectoryOf}
+use Rattle.pas_profile.specs.{Profiles.IsPage, Profiles.IsDirectoryOf, Classes.IsClass, Classes.IsSlotStart, Classes.class_size, Blocks.address_of}
+use Rattle.pas_profile.specs.{Blocks.grain_of, Blocks.length_of}
 use Rattle.pas_profile.specs.Requests.{directory_for, is_shared, kind_of_class, route_in, room_in}
-use Rattle.pas_profile.specs.Classes.{IsClass, IsSlotStart, class_size}
-use Rattle.pas_profile.specs.declared.directory.Directory.{Directory}
-use Rattle.pas_profile.specs.declared.directory.Kind.{Kind as TheKind}
-use Rattle.pas_profile.specs.declared.directory.Kind.TheVariants as Kind
-use Rattle.pas_profile.specs.declared.directory.Route.{Route}
-use Rattle.pas_profile.specs.declared.event.Event.{Event}
-use Rattle.pas_profile.specs.declared.event.NoRoom.{NoRoom}
-use Rattle.pas_profile.specs.declared.name.Block.{Block}
-use Rattle.pas_profile.specs.declared.profile.Profile.{Profile}
-use Rattle.pas_bits.specs.Runs.{in_run}
-use Rattle.pas_profile.specs.Blocks.{address_of, grain_of, length_of}
-use Rattle.pas_steps.specs.Views.{View, KnowsDeed}
-use Rattle.pas_steps.specs.Events.{events_by}
-use Rattle.pas_steps.specs.Agreement.{Agreed}
-use Rattle.pas_steps.specs.Lists.{Whole}
+use Rattle.pas_profile.specs.declared.{directory.Directory.Directory, directory.Kind.Kind as TheKind, directory.Kind.Kind, directory.Route.Route}
+use Rattle.pas_profile.specs.declared.{event.Event.Event, event.NoRoom.NoRoom, name.Block.Block, profile.Profile.Profile}
+use Rattle.pas_bits.specs.{Runs.in_run, Masks.HasMember}
+use Rattle.pas_steps.specs.{Views.View, Views.KnowsDeed, Events.events_by, Agreement.Agreed, Lists.Whole, Evidence.Readings, Evidence.IsAntitone, Calls.Leads}
+use Rattle.pas_steps.specs.{Kinds.Only, Past.Always, Unknown.unknown_pages}
 use Rattle.pas_steps.specs.declared.step.Made.{Made}
-use Rattle.pas_search.specs.Kinds.{AreSearch, ReturnsDuly}
-use Rattle.pas_steps.specs.Evidence.{Readings, IsAntitone}
-use Rattle.pas_search.specs.Searches.{search_steps, IsRefused}
+use Rattle.pas_search.specs.{Kinds.AreSearch, Kinds.ReturnsDuly, Searches.search_steps, Searches.IsRefused, Telling.IsTrueReason}
 use Rattle.pas_core.specs.Fits.{HasNoFit}
-use Rattle.pas_search.specs.Telling.{IsTrueReason}
-use Rattle.pas_bits.specs.Masks.{HasMember}
-use Rattle.pas_steps.specs.Calls.{Leads}
-use Rattle.pas_steps.specs.Kinds.{Only}
-use Rattle.pas_steps.specs.Past.{Always}
-use Rattle.pas_cache.specs.Kinds.{releasing}
-use Rattle.pas_segregated.specs.Takes.{NoSlot, TookSlots}
+use Rattle.pas_cache.specs.{Kinds.releasing, Locals.local_for, Locals.others_than, Locals.RestsWith, Caches.Cached, Changes.GivesSlot, Changes.IsTakenOut}
+use Rattle.pas_cache.specs.{Changes.IsShortened}
+use Rattle.pas_segregated.specs.{Takes.NoSlot, Takes.TookSlots, Refills.Filling, Refills.GivesSlots}
 use Rattle.pas_choice.specs.Choices.{TookChosen}
 use Rattle.pas_partial.specs.Rows.{rows}
-use Rattle.pas_segregated.specs.Refills.{Filling, GivesSlots}
-use Rattle.pas_large.specs.Allocates.{IsServedNamed, IsScanned}
-use Rattle.pas_large.specs.Pages.{claiming_old}
-use Rattle.pas_bitfit.specs.Allocates.{run_for, IsAllocated}
-use Rattle.pas_bitfit.specs.Runs.{NoneFits}
+use Rattle.pas_large.specs.{Allocates.IsServedNamed, Allocates.IsScanned, Pages.claiming_old}
+use Rattle.pas_bitfit.specs.{Allocates.run_for, Allocates.IsAllocated, Runs.NoneFits}
 use Rattle.pas_bits.specs.declared.mask.Mask4.{Mask4}
 use Rattle.pas_segregated.specs.declared.slots.Slots.{Slots}
-use Rattle.pas_cache.specs.Locals.{local_for, others_than, RestsWith}
-use Rattle.pas_steps.specs.Unknown.{unknown_pages}
-use Rattle.pas_cache.specs.Caches.{Cached}
-use Rattle.pas_cache.specs.Changes.{GivesSlot, IsTakenOut, IsShortened}
 
 -- ---- the route
 -- a request is small: its route is a class or bit-fit pages

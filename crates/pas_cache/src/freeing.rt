@@ -1,7 +1,6 @@
 //! Names are logged, and the log is flushed.
 ghost use Rattle.std.specs.Prelude.{◌≡◌, ◌<◌, ◌≤◌, MatchResult, length, nat_le};
-ghost use Rattle.pas_steps.specs.Desks.{CanCall};
-ghost use Rattle.pas_steps.specs.Clear.{IsClear};
+ghost use Rattle.pas_steps.specs.{Desks.CanCall, Clear.IsClear};
 ghost use Rattle.pas_free_log.specs.Logs.{entries_in};
 ghost use Rattle.pas_cache.specs.Names.{IsInRegion, IsFaultOf, MayFlush, EmptiesWhere, LogsInto};
 
@@ -59,8 +58,7 @@ impl ThreadCache {
     ghost use Rattle.std.specs.Prelude.{◌≡◌, ◌<◌, ◌≤◌, ◌-◌, ◌*◌, ◌%◌, ◌^◌, ◌+◌, length};
     ghost use Rattle.pas_free_log.specs.Logs.{entry_of, sized_entry};
     ghost use Rattle.pas_steps.specs.Desks.{CanCall};
-    ghost use Rattle.pas_cache.specs.Caches.{cached, seat_of, AtRest};
-    ghost use Rattle.pas_cache.specs.Calls.{Frees, FlushesLog};
+    ghost use Rattle.pas_cache.specs.{Caches.cached, Caches.seat_of, Caches.AtRest, Calls.Frees, Calls.FlushesLog};
 
     /// Logs the name of a block that is freed; its block ends at the next flush. A log of 64 names is flushed first, and otherwise no step is
     /// made.

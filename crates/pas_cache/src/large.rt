@@ -9,13 +9,10 @@ use pas_steps::Desk;
 
 impl ThreadCache {
     ghost use Rattle.std.specs.Prelude.{◌≡◌, ◌<◌, ◌+◌, ◌-◌, ◌/◌, ℕ, Option, []};
-    ghost use Rattle.pas_profile.specs.Classes.{IsAlignment};
-    ghost use Rattle.pas_profile.specs.Requests.{route_in};
+    ghost use Rattle.pas_profile.specs.{Classes.IsAlignment, Requests.route_in};
     ghost use Rattle.pas_profile.specs.declared.directory.Route.TheVariants as TheRoute;
     ghost use Rattle.pas_steps.specs.Desks.{CanCall};
-    ghost use Rattle.pas_cache.specs.Serves.{wanted_for};
-    ghost use Rattle.pas_cache.specs.Caches.{cached, seat_of};
-    ghost use Rattle.pas_cache.specs.Calls.{MayAllocatePages, AllocatesPages, SettlesEach};
+    ghost use Rattle.pas_cache.specs.{Serves.wanted_for, Caches.cached, Caches.seat_of, Calls.MayAllocatePages, Calls.AllocatesPages, Calls.SettlesEach};
 
     /// A block of the heap for so many bytes, in whole pages. It begins with a page, so it suits every alignment.
     ///

@@ -1,16 +1,11 @@
 //! What a cache's request comes to where no other actor makes a step meanwhile, whatever its desk tells. Each law is the contract of an empty function.
 ghost use Rattle.std.specs.Prelude.{ℕ, ◌≡◌, List, ◌++◌, Option, Result, Err};
 ghost use Rattle.pas_profile.specs.Profiles.{IsValid, IsAdmitted};
-ghost use Rattle.pas_profile.specs.declared.event.NoRoom.{NoRoom};
-ghost use Rattle.pas_profile.specs.declared.event.NoRoom.TheVariants.{NoSpace};
-ghost use Rattle.pas_profile.specs.declared.name.Block.{Block};
-ghost use Rattle.pas_profile.specs.declared.profile.Profile.{Profile};
-ghost use Rattle.pas_steps.specs.Desks.{triples};
-ghost use Rattle.pas_steps.specs.Lists.{Whole, part, Legal};
+ghost use Rattle.pas_profile.specs.declared.{event.NoRoom.NoRoom, event.NoRoom.TheVariants.NoSpace, name.Block.Block, profile.Profile.Profile};
+ghost use Rattle.pas_steps.specs.{Desks.triples, Lists.Whole, Lists.part, Lists.Legal};
 ghost use Rattle.pas_steps.specs.declared.step.Made.{Made};
-ghost use Rattle.pas_cache.specs.Caches.{Cached, AtRest};
-ghost use Rattle.pas_cache.specs.Refusals.{IsTrulyRefused, OthersHaveNone, TakesWhatIsNamed};
-ghost use Rattle.pas_cache.specs.Serves.{wanted_for, ServesRequest};
+ghost use Rattle.pas_cache.specs.{Caches.Cached, Caches.AtRest, Refusals.IsTrulyRefused, Refusals.OthersHaveNone, Refusals.TakesWhatIsNamed, Serves.wanted_for};
+ghost use Rattle.pas_cache.specs.{Serves.ServesRequest};
 
 /// Where the steps by which a request was refused stand together in a legal list, which is so where no other actor made a step meanwhile, the refusal is true,
 /// whatever run a door named for it: no slot was cached, nothing could serve the request before these steps, nothing can after them, and the reason is true

@@ -3,9 +3,7 @@ ghost use Rattle.std.specs.Prelude.{◌≡◌, ◌<◌, ◌++◌, ◌∷◌, [],
 ghost use Rattle.std.specs.List.{list_any};
 ghost use Rattle.pas_bits.specs.Masks.{HasMember, IsEmpty};
 ghost use Rattle.pas_segregated.specs.declared.slots.Slots.{Slots as Local};
-ghost use Rattle.pas_cache.specs.Locals.{is_for, HasOneEach, IsPlaceOf};
-ghost use Rattle.pas_cache.specs.Parts.{BringsCached};
-ghost use Rattle.pas_cache.specs.Serves.{HasNoneCached};
+ghost use Rattle.pas_cache.specs.{Locals.is_for, Locals.HasOneEach, Locals.IsPlaceOf, Parts.BringsCached, Serves.HasNoneCached};
 
 use pas_segregated::Slots;
 

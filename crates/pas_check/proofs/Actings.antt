@@ -1,43 +1,33 @@
 -- Acts, done.
-use Rattle.std.proofs.Common.{◌≡◌, ◌≢◌, ℕ, ◌+◌, ◌/◌, ◌%◌, ◌^◌, ◌<◌, ◌≤◌, ◌==◌, if◌then◌else◌, nat_le, max, Bool, true, false, List, [], ◌∷◌, ◌++◌, Option, None, Some, length, get_or, set, inl, inr, refl, ap, sym, subst, ◌∙◌, arith, get_or-set_other, get_or-set_same, length-set}
-use Rattle.std.proofs.lemmas.Bool.{and_from, and_parts, cases_eq, eq-eqb, eqb-true, false_from_ne_true, le-leb, leb-true, lt-leb, ne_eqb}
-use Rattle.pas_profile.specs.Directories.{IsKind}
-use Rattle.pas_profile.specs.Profiles.{IsPage}
-use Rattle.pas_profile.specs.Blocks.{address_of}
-use Rattle.pas_profile.specs.declared.directory.Directory.{Directory}
-use Rattle.pas_profile.specs.declared.event.Event.{Event}
-use Rattle.pas_profile.specs.declared.name.Block.{Block}
-use Rattle.pas_profile.specs.declared.name.Name.{Name}
-use Rattle.pas_profile.specs.declared.profile.Profile.{Profile}
+use Rattle.std.proofs.Common.{◌≡◌, ◌≢◌, ℕ, ◌+◌, ◌/◌, ◌%◌, ◌^◌, ◌<◌, ◌≤◌, ◌==◌, if◌then◌else◌, nat_le, max, Bool, true, false, List, [], ◌∷◌, ◌++◌, Option, None}
+use Rattle.std.proofs.Common.{Some, length, get_or, set, inl, inr, refl, ap, sym, subst, ◌∙◌, arith, get_or-set_other, get_or-set_same, length-set, eq-eqb}
+use Rattle.std.proofs.Common.{eqb-true, le-leb, leb-true, ne_eqb}
+use Rattle.std.proofs.lemmas.Bool.{and_from, and_parts, cases_eq, false_from_ne_true, lt-leb}
+use Rattle.pas_profile.specs.{Directories.IsKind, Profiles.IsPage, Blocks.address_of}
+use Rattle.pas_profile.specs.declared.{directory.Directory.Directory, event.Event.Event, name.Block.Block, name.Name.Name, profile.Profile.Profile}
 use Rattle.pas_machine.specs.Machines.{profile_of, StandsFor}
 use Rattle.pas_machine.specs.declared.machine.Machine.{Machine}
-use Rattle.pas_report.specs.declared.record.Record.{Record}
-use Rattle.pas_report.specs.declared.record.Said.{Said}
+use Rattle.pas_report.specs.declared.record.{Record.Record, Said.Said}
 use Rattle.pas_trace.specs.Acts.{Act, MakesPass, MarksClose, MarksPhase, StopsIdle, Ticks, Wakes}
 use Rattle.pas_trace.specs.declared.item.Request.{Request}
-use Rattle.pas_check.specs.Begins.{after_task, begun_act, entries_due, entry_of, flushing, freeing_at, freeing_named, is_aligned, is_full, is_page, logging, remaking, remaking_named, request_for, stopping, suits, tells, unsized}
-use Rattle.pas_check.specs.Bounds.{FitsRequest, HaveHeaps, IsKept}
+use Rattle.pas_check.specs.Begins.{after_task, begun_act, entries_due, entry_of, flushing, freeing_at, freeing_named, is_aligned, is_full, is_page, logging}
+use Rattle.pas_check.specs.Begins.{remaking, remaking_named, request_for, stopping, suits, tells, unsized}
+use Rattle.pas_check.specs.{Bounds.FitsRequest, Bounds.HaveHeaps, Bounds.IsKept, Meanings.heap_in, Meanings.meaning_at, Meanings.meaning_of, Tables.logged}
+use Rattle.pas_check.specs.{Tables.logs_held, Tables.meant}
 use Rattle.pas_check.specs.Calls.{EntriesTaken, IsAsked, IsExamining, IsFollowed, IsWanted, OutcomesTaken, RequestTaken, after_request}
 use Rattle.pas_check.specs.Leading.{Fails, IsLed, IsWithin, Leads}
-use Rattle.pas_check.specs.Meanings.{heap_in, meaning_at, meaning_of}
 use Rattle.pas_trace.specs.Named.{standing_for}
 use Rattle.pas_check.specs.States.{Due, Writes, Serves, Examines, Task, Does, Stand, with_at, with_due, with_name}
-use Rattle.pas_check.specs.Tables.{logged, logs_held, meant}
-use Rattle.pas_check.specs.Tasks.{ActTaken, Asks, EntryLogged, FreesEntry, FreesNamed, IsNext, IsSuited, LogEmptied, PassTaken, Remakes, Resizes, SaysNamed, Stands, being_logged, emptying}
-use Rattle.pas_check.specs.declared.acting.Judge.{Judge}
-use Rattle.pas_check.specs.declared.cutting.Cursor.{Cursor}
-use Rattle.pas_check.specs.declared.entry.Entry.{Entry}
-use Rattle.pas_check.specs.declared.logging.Logs.{Logs}
-use Rattle.pas_check.specs.declared.naming.Meaning.{Meaning}
-use Rattle.pas_check.specs.declared.naming.Meaning.TheVariants.{Unasked, Refused, Given}
-use Rattle.pas_check.specs.declared.naming.Names.{Names}
-use Rattle.pas_check.specs.declared.serving.Wanted.{Wanted}
-use Rattle.pas_check.proofs.Beginnings.{begun_alike}
-use Rattle.pas_check.proofs.Kept.{kept_same}
+use Rattle.pas_check.specs.Tasks.{ActTaken, Asks, EntryLogged, FreesEntry, FreesNamed, IsNext, IsSuited, LogEmptied, PassTaken, Remakes, Resizes, SaysNamed}
+use Rattle.pas_check.specs.Tasks.{Stands, being_logged, emptying}
+use Rattle.pas_check.specs.declared.{acting.Judge.Judge, cutting.Cursor.Cursor, entry.Entry.Entry, logging.Logs.Logs, naming.Meaning.Meaning}
+use Rattle.pas_check.specs.declared.{naming.Meaning.TheVariants.Unasked, naming.Meaning.TheVariants.Refused, naming.Meaning.TheVariants.Given}
+use Rattle.pas_check.specs.declared.{naming.Names.Names, serving.Wanted.Wanted}
+use Rattle.pas_check.proofs.{Beginnings.begun_alike, Kept.kept_same}
 use Rattle.pas_check.proofs.Leads.{leads_alike, leads_fails, leads_nowhere, leads_on}
 
 -- further on
-pub later : {f : Profile} {j : Judge} {s : Stand} {from : Cursor} (to : Cursor) → from.lines ≤ to.lines → Stands f j s from → Stands f j s to
+later : {f : Profile} {j : Judge} {s : Stand} {from : Cursor} (to : Cursor) → from.lines ≤ to.lines → Stands f j s from → Stands f j s to
 later {f} {j} {s} {from} to more stands = record {
   profile = stands.profile;
   events = stands.events;
@@ -56,18 +46,18 @@ module _ (f : Profile) (text : List ℕ) (old : Judge) (from : Cursor) (act : Ac
   begins s ts next = leads_alike f text s (after_task f s (Does act) ts) from within (begun_alike f s (Does act) ts next.due next.left)
 
   -- it has one line
-  pub act_of_line : (new : Judge) (to : Cursor) (item : Record)
+  act_of_line : (new : Judge) (to : Cursor) (item : Record)
       → ((s : Stand) (ts : List Task) → IsNext f old s from act ts → ((begun_act f s act).due ≡ Writes item ∷ []) × Stands f new (with_due (after_task f s (Does act) ts) []) from)
       → (is : Bool) → ((s : Stand) (more : List Due) → s.due ≡ Writes item ∷ more → IsLed f text s from (with_due s more) to is) → ActTaken f text old from new to act is
   act_of_line new to item begun true led = λ s ts next.
       let b = begun s ts next in
       let leads = led (after_task f s (Does act) ts) [] b.0 in
-      let count : from.lines ≤ to.lines = (let e = leads.count in omega (arith, e)) in
+      let count : from.lines ≤ to.lines = (omega (arith, leads.count)) in
       (with_due (after_task f s (Does act) ts) [], leads_on (begins s ts next) leads, later to count b.1, refl, refl)
   act_of_line new to item begun false led = λ s ts next. leads_fails (begins s ts next) (led (after_task f s (Does act) ts) [] (begun s ts next).0)
 
   -- it has none
-  pub act_of_none : (new : Judge) → ((s : Stand) (ts : List Task) → IsNext f old s from act ts
+  act_of_none : (new : Judge) → ((s : Stand) (ts : List Task) → IsNext f old s from act ts
       → ((begun_act f s act).due ≡ []) × Stands f new (after_task f s (Does act) ts) from) → ActTaken f text old from new from act true
   act_of_none new begun = λ s ts next. (after_task f s (Does act) ts, begins s ts next, (begun s ts next).1, (begun s ts next).0, refl)
 
@@ -135,7 +125,7 @@ woken f text old new at within k held machine names logs epoch guards awake = ac
         awake = λ j has. idle s stands j has;
         epoch = stands.epoch ∙ sym epoch;
         guards = stands.guards ∙ sym guards;
-        small = (let less = stands.small in omega (arith, epoch, less));
+        small = (omega (arith, epoch, stands.small));
         kept = kept_same (after_task f s (Does (Wakes k)) ts) s at at refl refl (omega arith) stands.kept;
       },
     ))
@@ -204,7 +194,7 @@ module _ (f : Profile) (text : List ℕ) (old : Judge) (from to : Cursor) (k : �
 
 -- ---- acts that empty a log
 -- another list of what is due
-pub with_other_due : {f : Profile} {j : Judge} {s : Stand} {at : Cursor} (more : List Due) → Stands f j s at → Stands f j (with_due s more) at
+with_other_due : {f : Profile} {j : Judge} {s : Stand} {at : Cursor} (more : List Due) → Stands f j s at → Stands f j (with_due s more) at
 with_other_due {f} {j} {s} {at} more stands = record {
   profile = stands.profile;
   events = stands.events;
@@ -248,7 +238,7 @@ module _ (f : Profile) (text : List ℕ) (old new : Judge) (from to : Cursor) (k
       let first = leads_on (begins f text old from (StopsIdle k n) within s ts next)
       (subst (λ (u : Stand). Leads f text u from e.0 to) (sym (stop_same s n ts (idle s next.stands))) e.1) in
       let last = led e.0 [] e.3 in
-      let count : to.lines ≤ end.lines = (let c = last.count in omega (arith, c)) in
+      let count : to.lines ≤ end.lines = (omega (arith, last.count)) in
       (with_due e.0 [], leads_on first last, with_other_due [] (later end count e.2), refl, e.4)
   idle_stopped n end idle emptied false led = λ s ts next.
       let e = emptied s (Writes (Record.Said 0 (Said.Stopped k)) ∷ []) ts next.stands in
@@ -341,15 +331,13 @@ pub idle_long : (f : Profile) (j : Judge) (s : Stand) (at : Cursor) (k n since :
     → since ≡ get_or j.awake.items k 0 → since + n ≤ j.epoch → nat_le (s.idle_since k + n) s.epoch ≡ true
 idle_long f j s at k n since stands held is long =
     let same = stands.awake k held in
-    let now = stands.epoch in
-    le-leb (s.idle_since k + n) s.epoch (omega (arith, same, now, is, long))
+    le-leb (s.idle_since k + n) s.epoch (omega (arith, same, stands.epoch, is, long))
 
 pub idle_short : (f : Profile) (j : Judge) (s : Stand) (at : Cursor) (k n since : ℕ) → Stands f j s at → k < length j.awake.items
     → since ≡ get_or j.awake.items k 0 → j.epoch < since + n → nat_le (s.idle_since k + n) s.epoch ≡ false
 idle_short f j s at k n since stands held is short =
     let same = stands.awake k held in
-    let now = stands.epoch in
-    let low : s.epoch < s.idle_since k + n = omega (arith, same, now, is, short) in
+    let low : s.epoch < s.idle_since k + n = omega (arith, same, stands.epoch, is, short) in
     lt-leb (s.idle_since k + n) s.epoch low
 
 -- ---- a pass
@@ -372,7 +360,7 @@ module _ (f : Profile) (text : List ℕ) (old : Judge) (from : Cursor) (within :
       let b : Stand = after_task f s (Does MakesPass) ts in
       let u : Stand = with_due b (Examines 0 ∷ []) in
       let first = led b (Examines 0 ∷ []) (pass_due s ts next) in
-      let count : from.lines ≤ mid.lines = (let c = first.count in omega (arith, c)) in
+      let count : from.lines ≤ mid.lines = (omega (arith, first.count)) in
       let follows : IsFollowed f u = record { fits = followed.fits; no_pass = followed.no_pass; events = followed.events; epoch = followed.epoch } in
       let there : IsExamining old.machine u mid 0 old.epoch = record {
         stands = stands.events;
@@ -432,10 +420,10 @@ module _ (f : Profile) (text : List ℕ) (old : Judge) (from to : Cursor) (k : �
   request_fits : FitsRequest f k r
   request_fits = record {
     actor = few;
-    name = (let e = wants.name in omega (arith, e, low));
+    name = (omega (arith, wants.name, low));
     heap = (let e : r.heap ≡ w.directory.heap = ap (λ (d : Directory). d.heap) wants.directory in omega (arith, e, heap));
     kind = subst (λ (d : Directory). IsKind d.kind) (sym wants.directory) kind;
-    room = (let e = wants.room in omega (arith, e, room));
+    room = (omega (arith, wants.room, room));
   }
 
   asked_there : (s : Stand) (ts : List Task) → Stands f old s from → IsAsked old.machine (asking s ts) from k w r replaced []
@@ -444,7 +432,7 @@ module _ (f : Profile) (text : List ℕ) (old : Judge) (from to : Cursor) (k : �
     stands = stands.events;
     kept = kept_same (asking s ts) s from from refl refl (omega arith) stands.kept;
     fits = subst (λ g. FitsRequest g k r) (sym stands.profile) request_fits;
-    epoch = (let e = stands.epoch in let less = stands.small in omega (arith, e, less));
+    epoch = (omega (arith, stands.epoch, stands.small));
     due = refl;
   }
 
@@ -505,13 +493,13 @@ module _ (f : Profile) (text : List ℕ) (old : Judge) (from to : Cursor) (k : �
           leads_fails (subst (λ (u : Stand). Leads f text s from u to) (logged_there s ts end.0) end.1) (logged (named_there s ts end.0) [] ts end.2)
 
 -- ---- a free
-pub is_outside : (f g : Profile) (page : ℕ) → g ≡ f → (IsPage g page → ⊥) → is_page f page ≡ false
+is_outside : (f g : Profile) (page : ℕ) → g ≡ f → (IsPage g page → ⊥) → is_page f page ≡ false
 is_outside f g page same none = false_from_ne_true (is_page f page)
     (λ is.
     let both = and_parts (nat_le 1 page) (nat_le page f.pages) is in
     none (subst (λ h. IsPage h page) (sym same) (leb-true 1 page both.0, leb-true page f.pages both.1)))
 
-pub is_inside : (f g : Profile) (page : ℕ) → g ≡ f → IsPage g page → is_page f page ≡ true
+is_inside : (f g : Profile) (page : ℕ) → g ≡ f → IsPage g page → is_page f page ≡ true
 is_inside f g page same is =
     let here = subst (λ h. IsPage h page) same is in
     and_from (nat_le 1 page) (nat_le page f.pages) (le-leb 1 page here.0) (le-leb page f.pages here.1)
@@ -603,11 +591,11 @@ said_named f text old from k name within act found said says names sets to is le
       }),
     )) is led
 
-pub suits_it : (block : Block) (size align : ℕ) → IsSuited block size align → suits block size align ≡ true
+suits_it : (block : Block) (size align : ℕ) → IsSuited block size align → suits block size align ≡ true
 suits_it block size align is =
     and_from (nat_le (max size 1) block.room) (address_of block.name % align == 0) (le-leb (max size 1) block.room is.0) (eq-eqb (address_of block.name % align) 0 is.1)
 
-pub suits_not : (block : Block) (size align : ℕ) → (IsSuited block size align → ⊥) → suits block size align ≡ false
+suits_not : (block : Block) (size align : ℕ) → (IsSuited block size align → ⊥) → suits block size align ≡ false
 suits_not block size align never = false_from_ne_true (suits block size align)
     (λ is.
     let both = and_parts (nat_le (max size 1) block.room) (address_of block.name % align == 0) is in

@@ -1,25 +1,18 @@
 -- The numbers of a plan's acts fit their places.
-use Rattle.std.proofs.Common.{◌≡◌, ◌≢◌, Option, None, Some, ℕ, zero, suc, ◌+◌, ◌*◌, ◌^◌, ◌<◌, ◌≤◌, Bool, true, false, cond, List, [], ◌∷◌, ◌++◌, map, max, length, refl, sym, subst, arith}
-use Rattle.std.specs.Prelude.{MatchOption}
+use Rattle.std.proofs.Common.{◌≡◌, ◌≢◌, Option, None, Some, ℕ, zero, suc, ◌+◌, ◌*◌, ◌^◌, ◌<◌, ◌≤◌, Bool, true, false, cond, List, [], ◌∷◌, ◌++◌, map, max}
+use Rattle.std.proofs.Common.{length, refl, sym, subst, arith, MatchOption}
 use Rattle.std.specs.List.{AllByRecursion, filter}
-use Rattle.pas_profile.specs.Directories.{IsKind}
-use Rattle.pas_profile.specs.Profiles.{IsAdmitted, IsValid}
-use Rattle.pas_profile.specs.Requests.{is_shared, kind_of_route, route_in}
-use Rattle.pas_profile.specs.Routes.{IsRouteOf, room_by}
-use Rattle.pas_profile.specs.declared.directory.Route.{Route}
-use Rattle.pas_profile.specs.declared.directory.Route.TheVariants.{Class, Bitfit, Large}
-use Rattle.pas_profile.specs.declared.profile.Profile.{Profile}
-use Rattle.pas_profile.proofs.ClassFacts.{class_known, route_is}
-use Rattle.pas_profile.proofs.Sizes.{class_size_le}
-use Rattle.pas_trace.specs.Acts.{Act, StopsIdle, Wakes, Ends, Lowers, act_kept, is_active, numbers_from, acts_from, acts_of, acts_of_chore, acts_of_op, acts_of_ops, acts_of_work, active_threads, close_acts, idle_threads, phase_acts, threads_where}
+use Rattle.pas_profile.specs.{Directories.IsKind, Profiles.IsAdmitted, Profiles.IsValid, Requests.is_shared, Requests.kind_of_route, Requests.route_in}
+use Rattle.pas_profile.specs.{Routes.IsRouteOf, Routes.room_by}
+use Rattle.pas_profile.specs.declared.{directory.Route.Route, directory.Route.TheVariants.Class, directory.Route.TheVariants.Bitfit}
+use Rattle.pas_profile.specs.declared.{directory.Route.TheVariants.Large, profile.Profile.Profile}
+use Rattle.pas_profile.proofs.{ClassFacts.class_known, ClassFacts.route_is, Sizes.class_size_le}
+use Rattle.pas_trace.specs.Acts.{Act, StopsIdle, Wakes, Ends, Lowers, act_kept, is_active, numbers_from, acts_from, acts_of, acts_of_chore, acts_of_op}
+use Rattle.pas_trace.specs.Acts.{acts_of_ops, acts_of_work, active_threads, close_acts, idle_threads, phase_acts, threads_where}
 use Rattle.pas_trace.specs.Asked.{epoch_of, keeper_in, keeper_of, of_task, request_of, work_of}
 use Rattle.pas_trace.specs.EveryPlan.{AreBelow, AreKept, AreSound, IsActorBy, IsSoundWork, IsSoundTask, all_ops, asked_after}
-use Rattle.pas_trace.specs.declared.plan.Chore.{Chore}
-use Rattle.pas_trace.specs.declared.plan.Op.{Op}
-use Rattle.pas_trace.specs.declared.plan.Task.{Task}
-use Rattle.pas_trace.specs.declared.plan.Work.{Work}
-use Rattle.pas_check.specs.Bounds.{FitsRequest}
-use Rattle.pas_check.specs.Calls.{asked_for}
+use Rattle.pas_trace.specs.declared.plan.{Chore.Chore, Op.Op, Task.Task, Work.Work}
+use Rattle.pas_check.specs.{Bounds.FitsRequest, Calls.asked_for}
 use Rattle.pas_check.specs.Checks.{AllFit, ArePlanned, FitsAct, FitsHeaps, FitsWhat, IsPlanned, IsThread}
 
 -- ---- a request's
@@ -40,12 +33,12 @@ request_fits f k name heap size align valid within few low one = record {
   name = low;
   heap = omega (arith, one);
   kind = kind_routed (is_shared f heap) f.classes size align (route_in f size align) (route_is f.classes size align);
-  room = (let most = valid.pages in room_small (route_in f size align) (max size 1) (omega (arith, within, most)));
+  room = (room_small (route_in f size align) (max size 1) (omega (arith, within, valid.pages)));
 }
 
 heaps_fit : (f : Profile) (k name heap size align : ℕ) → IsValid f → IsAdmitted f size align heap → k < 2 ^ 8 → name < 2 ^ 32 → FitsHeaps f k (asked_for name heap size align)
 heaps_fit f k name heap size align valid may few low = (
-  (let of = may.of_profile in let most = valid.heaps in omega (arith, of, most)),
+  (omega (arith, may.of_profile, valid.heaps)),
   λ other one. request_fits f k name other size align valid may.within few low one,
 )
 
@@ -87,7 +80,7 @@ keeper_behind : (f : Profile) (guard actor : ℕ) (work : Work) (o : Option ℕ)
     → MatchOption o (Unit {0}) (λ keeper. (keeper ≡ f.threads + actor) × (guard ≢ 0)) → MatchOption o (Unit {0}) (λ keeper. (actor < keeper) × (keeper < 2 ^ 8))
 keeper_behind f guard actor work None few by is kept = tt
 keeper_behind f guard actor (Work.Own task) (Some keeper) few by is kept =
-    let place = kept.0 in let some : 1 ≤ actor = by.0 in let last : actor ≤ f.threads = by.1 in (omega (arith, place, some, last), omega (arith, place, last, few))
+    let some : 1 ≤ actor = by.0 in let last : actor ≤ f.threads = by.1 in (omega (arith, kept.0, some, last), omega (arith, kept.0, last, few))
 keeper_behind f guard actor (Work.Chore chore) (Some keeper) few by is kept = absurd (cc)
 
 pub all_planned : (f : Profile) (limit guard : ℕ) (asked : List ℕ) (ops : List Op) → f.threads ≤ 16 → AreSound f asked ops → AreBelow limit ops → AreKept f guard ops → ArePlanned f limit ops
@@ -99,7 +92,7 @@ all_planned f limit guard asked (op ∷ ops) few sound below kept = (
 
 module _ (f : Profile) (limit : ℕ) (valid : IsValid f) (few : limit ≤ 2 ^ 32) (keepers : ℕ) (many : keepers ≤ f.threads) where
   threads_are : (chosen : ℕ → Bool) → AreThreads (threads_where chosen f.threads)
-  threads_are chosen = let most = valid.threads in chosen_are chosen (numbers_from 1 f.threads) (numbers_are 1 f.threads (omega arith) (omega (arith, most)))
+  threads_are chosen = chosen_are chosen (numbers_from 1 f.threads) (numbers_are 1 f.threads (omega arith) (omega (arith, valid.threads)))
 
   -- ---- an operation
   task_fits : (k : ℕ) (asked : List ℕ) (task : Task) → k < 2 ^ 8 → MatchOption (request_of task) (Unit {0}) (λ r. r.name < limit) → IsSoundTask f asked task
@@ -120,15 +113,14 @@ module _ (f : Profile) (limit : ℕ) (valid : IsValid f) (few : limit ≤ 2 ^ 32
   kept_fits : (op : Op) (o : Option ℕ) → IsThread op.actor → FitsWhat f op.actor op.what → MatchOption o (Unit {0}) (λ keeper. (op.actor < keeper) × (keeper < 2 ^ 8)) → FitsAct f (act_kept o op)
   kept_fits op None thread fits kept = (thread, fits)
   kept_fits op (Some keeper) thread fits kept =
-      let after = kept.0 in (thread, fits, (omega (arith, after), kept.1), λ same. absurd (omega (arith, after, same)))
+      (thread, fits, (omega (arith, kept.0), kept.1), λ same. absurd (omega (arith, kept.0, same)))
 
   work_fits : (idle : List ℕ) (op : Op) (work : Work) → AreThreads idle → work_of op.what ≡ work → IsPlanned f limit op → AllFit f (acts_of_work idle op work)
   work_fits idle op (Work.Own task) all is planned =
       let actor : IsActorBy f (Work.Own task) op.actor = subst (λ (w : Work). IsActorBy f w op.actor) is planned.actor in
       let some : 1 ≤ op.actor = actor.0 in
       let last : op.actor ≤ f.threads = actor.1 in
-      let most = valid.threads in
-      let small : op.actor < 2 ^ 8 = omega (arith, last, most) in
+      let small : op.actor < 2 ^ 8 = omega (arith, last, valid.threads) in
       let below : MatchOption (request_of task) (Unit {0}) (λ r. r.name < limit) =
       subst (λ (w : Work). MatchOption (of_task request_of w) (Unit {0}) (λ r. r.name < limit)) is planned.named in
       let sound : IsSoundTask f planned.sound.0 task = subst (IsSoundWork f planned.sound.0) is planned.sound.1 in
@@ -159,7 +151,7 @@ module _ (f : Profile) (limit : ℕ) (valid : IsValid f) (few : limit ≤ 2 ^ 32
             (all_made f Lowers (λ k is. is) (numbers_from (f.threads + 1) keepers) (numbers_are (f.threads + 1) keepers (omega arith) (omega (arith, most, many)))),
       )
 
-  pub later_fits : (n : ℕ) (phases : List (List Op)) → n + length phases < 2 ^ 32 → ArePlanned f limit (all_ops phases) → AllFit f (acts_from f.threads keepers n phases)
+  later_fits : (n : ℕ) (phases : List (List Op)) → n + length phases < 2 ^ 32 → ArePlanned f limit (all_ops phases) → AllFit f (acts_from f.threads keepers n phases)
   later_fits n [] short planned = close_fits
   later_fits n (phase ∷ phases) short planned = (
     omega (arith, short),

@@ -2,20 +2,17 @@
 use Rattle.std.proofs.Common.{◌≡◌, ℕ, ◌+◌, ◌/◌, nat_le, Bool, true, false, List, [], ◌∷◌, ◌++◌, map, Option, None, Some, inl, inr, refl, ap, sym, subst, ◌∙◌}
 use Rattle.std.specs.List.{filter}
 use Rattle.pas_profile.specs.Blocks.{address_of}
-use Rattle.pas_profile.specs.declared.name.Block.{Block}
-use Rattle.pas_profile.specs.declared.profile.Profile.{Profile}
-use Rattle.pas_trace.specs.Asked.{request_in}
+use Rattle.pas_profile.specs.declared.{name.Block.Block, profile.Profile.Profile}
+use Rattle.pas_trace.specs.{Asked.request_in, Named.standing_for}
 use Rattle.pas_trace.specs.Acts.{Operates, Guards, Settles, ReadsEpoch, StopsIdle, Wakes, Ends, Lowers}
-use Rattle.pas_trace.specs.declared.item.Request.{Request}
-use Rattle.pas_trace.specs.declared.plan.What.{What}
+use Rattle.pas_trace.specs.declared.{item.Request.Request, plan.What.What}
 use Rattle.pas_trace.specs.declared.plan.What.TheVariants.{Alloc, Guarded, Free, FreeSized, Raw, RawSized, Remake, Flush, Stop, Tick, Pass, Idle}
-use Rattle.pas_check.specs.Begins.{after_task, begun, begun_from, begun_what, entries_due, entry_of, freeing, freeing_at, freeing_named, goes_down, guarding, is_aligned, is_full, is_page, logging, lowered_due, past_outcomes, ready, ready_with, remaking, remaking_named, request_for, settled_with, stopping, suits, unsized}
-use Rattle.pas_check.specs.Going.{AreAlike}
-use Rattle.pas_trace.specs.Named.{standing_for}
+use Rattle.pas_check.specs.Begins.{after_task, begun, begun_from, begun_what, entries_due, entry_of, freeing, freeing_at, freeing_named, goes_down, guarding}
+use Rattle.pas_check.specs.Begins.{is_aligned, is_full, is_page, logging, lowered_due, past_outcomes, ready, ready_with, remaking, remaking_named, request_for}
+use Rattle.pas_check.specs.Begins.{settled_with, stopping, suits, unsized}
+use Rattle.pas_check.specs.{Going.AreAlike, Takes.Takes, Takes.TakesDue, Takes.TakesFirst}
 use Rattle.pas_check.specs.States.{Due, Tries, Task, Does, Stand, with_due}
-use Rattle.pas_check.specs.Takes.{Takes, TakesDue, TakesFirst}
-use Rattle.pas_check.specs.declared.entry.Entry.{Entry}
-use Rattle.pas_check.specs.declared.guard.Guard.{Guard}
+use Rattle.pas_check.specs.declared.{entry.Entry.Entry, guard.Guard.Guard}
 use Rattle.pas_check.proofs.Leads.{first_none}
 
 -- no outcome of a pass is due first

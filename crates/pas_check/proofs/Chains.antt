@@ -4,15 +4,10 @@ use Rattle.std.specs.List.{filter}
 use Rattle.pas_profile.specs.declared.profile.Profile.{Profile}
 use Rattle.pas_trace.specs.Acts.{Act, MakesPass}
 use Rattle.pas_check.specs.Checks.{ActsTaken, IsSized, IsSizedAs, IsSoFar, TakenTo}
-use Rattle.pas_check.specs.Begins.{begun_act}
-use Rattle.pas_check.specs.Leading.{IsWithin}
+use Rattle.pas_check.specs.{Begins.begun_act, Leading.IsWithin, Tasks.ActTaken, Tasks.PassTaken}
 use Rattle.pas_check.specs.States.{Task, Does, Reports, Stand}
-use Rattle.pas_check.specs.Tasks.{ActTaken, PassTaken}
-use Rattle.pas_check.specs.declared.acting.Judge.{Judge}
-use Rattle.pas_check.specs.declared.cutting.Cursor.{Cursor}
-use Rattle.pas_check.proofs.Actings.{heaps_of, nothing_begun}
-use Rattle.pas_check.proofs.Followed.{is_followed}
-use Rattle.pas_check.proofs.Leads.{leads_fails, leads_on}
+use Rattle.pas_check.specs.declared.{acting.Judge.Judge, cutting.Cursor.Cursor}
+use Rattle.pas_check.proofs.{Actings.heaps_of, Actings.nothing_begun, Followed.is_followed, Leads.leads_fails, Leads.leads_on}
 
 -- the acts said otherwise
 pub so_far_as : {f : Profile} {text : List ℕ} {first : Stand} {judge : Judge} {at : Cursor} {acts others : List Act} → acts ≡ others
@@ -36,17 +31,13 @@ module _ (text : List ℕ) (old new : Judge) (from to : Cursor) where
   pub pass_taken : (taken : Bool) → ((f : Profile) → PassTaken f text old from new to taken) → ActsTaken text old from new to (MakesPass ∷ []) taken
   pass_taken true done = λ more f first so.
       let ts : List Task = map Does more ++ Reports ∷ [] in
-      let epoch = so.stands.epoch in
-      let small = so.stands.small in
       let r = done f so.stand ts (record { stands = so.stands; due = so.due; left = so.left })
-      (is_followed f more so.fit.1 (record so.stand { left = ts }) (omega (arith, epoch, small)) (heaps_of so.stands) refl) in
+      (is_followed f more so.fit.1 (record so.stand { left = ts }) (omega (arith, so.stands.epoch, so.stands.small)) (heaps_of so.stands) refl) in
       record { stand = r.0; led = leads_on so.led r.1; stands = r.2; due = r.3; left = r.4; fit = so.fit.1 }
   pass_taken false done = λ more f first so.
       let ts : List Task = map Does more ++ Reports ∷ [] in
-      let epoch = so.stands.epoch in
-      let small = so.stands.small in
       leads_fails so.led (done f so.stand ts (record { stands = so.stands; due = so.due; left = so.left })
-      (is_followed f more so.fit.1 (record so.stand { left = ts }) (omega (arith, epoch, small)) (heaps_of so.stands) refl))
+      (is_followed f more so.fit.1 (record so.stand { left = ts }) (omega (arith, so.stands.epoch, so.stands.small)) (heaps_of so.stands) refl))
 
 -- one after another, in the middle of which the judge is another one
 pub taken_on : (text : List ℕ) (old mid new : Judge) (from at to : Cursor) (acts between left : List Act) (taken : Bool) → TakenTo text old from mid at acts between true
@@ -88,7 +79,5 @@ pub sized_as_before : {old new : Judge} → IsSizedAs old new → IsSized old �
 sized_as_before {old} {new} same sized =
     let logs = same.logs in
     let awake = same.awake in
-    let had = sized.logs in
-    let woke = sized.awake in
     let threads = ap (λ (f : Profile). f.threads) same.profile in
-    record { logs = omega (arith, logs, had, threads); awake = omega (arith, awake, woke, threads) }
+    record { logs = omega (arith, logs, sized.logs, threads); awake = omega (arith, awake, sized.awake, threads) }

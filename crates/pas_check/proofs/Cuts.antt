@@ -1,19 +1,13 @@
 -- The lines of a text that is made of lines are these.
-use Rattle.std.proofs.Common.{◌≡◌, ℕ, zero, suc, ◌+◌, ◌/◌, ◌%◌, ◌^◌, ◌<◌, ◌==◌, Bool, true, false, if◌then◌else◌, List, [], ◌∷◌, ◌++◌, map, codes, refl, ap, sym, ◌∙◌, arith, append_assoc, inl, inr, length, take, drop}
+use Rattle.std.proofs.Common.{◌≡◌, ℕ, zero, suc, ◌+◌, ◌/◌, ◌%◌, ◌^◌, ◌<◌, ◌==◌, Bool, true, false, if◌then◌else◌, List, [], ◌∷◌, ◌++◌, map, codes, refl, ap}
+use Rattle.std.proofs.Common.{sym, ◌∙◌, arith, append_assoc, inl, inr, length, take, drop, eq-eqb, ne_eqb, take-append-drop, drop-drop}
 use Rattle.std.specs.Fmt.{decimal, digits, digits_onto, digit_glyph}
-use Rattle.std.proofs.lemmas.Bool.{false≢true, cases_eq, eq-eqb, ne_eqb}
-use Rattle.std.proofs.lemmas.Bool.Decides.{nat_tests}
-use Rattle.std.proofs.lemmas.List.{take-append-drop, drop-drop}
+use Rattle.std.proofs.lemmas.Bool.{false≢true, cases_eq, Decides.nat_tests}
 use Rattle.std.specs.List.{concat}
 use Rattle.memchr.specs.Find.{Nowhere, Passes, is_byte}
-use Rattle.pas_profile.specs.Classes.{class_size}
-use Rattle.pas_profile.specs.declared.directory.Kind.{Kind}
-use Rattle.pas_profile.specs.declared.name.Name.{Name}
-use Rattle.pas_profile.specs.declared.event.Event.{Event}
-use Rattle.pas_profile.specs.declared.event.Why.TheVariants as Why
-use Rattle.pas_profile.specs.Blocks.{address_of}
-use Rattle.pas_report.specs.declared.record.Said.{Said}
-use Rattle.pas_report.specs.declared.record.Record.{Record}
+use Rattle.pas_profile.specs.{Classes.class_size, Blocks.address_of}
+use Rattle.pas_profile.specs.declared.{directory.Kind.Kind, name.Name.Name, event.Event.Event, event.Why.Why}
+use Rattle.pas_report.specs.declared.record.{Said.Said, Record.Record}
 use Rattle.pas_report.specs.Lines.{hex_digit, hex_digits, kind_text, name_text, line_of, lines_of, line_of_event, line_of_answer}
 use Rattle.pas_report.specs.Reports.{totals_text}
 use Rattle.pas_check.specs.Lines.{put_front, lines_in, is_line, is_nothing}

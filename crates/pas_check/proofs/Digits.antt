@@ -1,9 +1,8 @@
 -- Numbers that stand in front of a text are read back.
-use Rattle.std.proofs.Common.{◌≡◌, ℕ, zero, suc, ◌+◌, ◌-◌, ◌*◌, ◌/◌, ◌%◌, ◌^◌, ◌<◌, ◌≤◌, nat_lt, Bool, true, false, if◌then◌else◌, ◌⊎◌, inl, inr, List, [], ◌∷◌, ◌++◌, refl, ap, sym, ◌∙◌, arith}
+use Rattle.std.proofs.Common.{◌≡◌, ℕ, zero, suc, ◌+◌, ◌-◌, ◌*◌, ◌/◌, ◌%◌, ◌^◌, ◌<◌, ◌≤◌, nat_lt, Bool, true, false, if◌then◌else◌, ◌⊎◌, List, [], ◌∷◌, ◌++◌}
+use Rattle.std.proofs.Common.{refl, ap, sym, ◌∙◌, arith, lt-ltb, le-ltb}
 use Rattle.std.specs.Fmt.{decimal}
-use Rattle.std.proofs.lemmas.Bool.{and_parts, lt-ltb, le-ltb}
-use Rattle.std.proofs.lemmas.Bool.Decides.{nat_tests}
-use Rattle.std.proofs.lemmas.Grind.{pow_more}
+use Rattle.std.proofs.lemmas.{Bool.and_parts, Bool.Decides.nat_tests, Grind.pow_more}
 use Rattle.std.proofs.Math.Nat.{pow-le-pow_right, pow-suc, div-add-mod, div-div-eq-div-mul, mul-add, mul_comm, mul_assoc, mul_left_comm}
 use Rattle.pas_trace.specs.Numbers.{is_digit, all_digits, value_from, hex_value}
 use Rattle.pas_trace.proofs.Digits.{digit-is}
@@ -12,7 +11,7 @@ use Rattle.pas_report.specs.Lines.{hex_digit, hex_digits}
 use Rattle.pas_check.specs.Readings.{digits_after, past_digits, number_at, hex_after, small, of_u8, of_u32}
 
 -- ---- decimals
-pub small_is : (limit n : ℕ) → n < limit → small limit n ≡ n
+small_is : (limit n : ℕ) → n < limit → small limit n ≡ n
 small_is limit n h = let t : nat_lt n limit ≡ true = lt-ltb n limit h in rw t refl
 
 digits_value : (ds : List ℕ) (n end : ℕ) (rest : List ℕ) → all_digits ds ≡ true → is_digit end ≡ false → digits_after n (ds ++ end ∷ rest) ≡ value_from n ds
@@ -43,10 +42,6 @@ u8_back n end rest fits stops = ap (small (2 ^ 8)) (number_back n end rest (omeg
 
 pub u32_back : (n end : ℕ) (rest : List ℕ) → n < 2 ^ 32 → is_digit end ≡ false → of_u32 (decimal n ++ end ∷ rest) ≡ n
 u32_back n end rest fits stops = ap (small (2 ^ 32)) (number_back n end rest (omega (arith, fits)) stops) ∙ small_is (2 ^ 32) n fits
-
-is_none : (b : ℕ) → (b < 48) ⊎ (57 < b) → is_digit b ≡ false
-is_none b (inl h) = grind (arith, nat_tests, h)
-is_none b (inr h) = grind (arith, nat_tests, h)
 
 grown : (t : Bool) (v w x : ℕ) → v ≤ w → w ≤ x → v ≤ (if t then x else v)
 grown true v w x a b = omega (arith, a, b)
@@ -91,20 +86,11 @@ hex16_back n rest fits = hex_value_is 16 0 n rest ∙ omega (arith, fits)
 
 -- ---- loops over the digits
 -- one more digit, and the first byte that is none
-pub digit_more : (v b : ℕ) (bs : List ℕ) → 48 ≤ b → b ≤ 57 → digits_after v (b ∷ bs) ≡ digits_after (10 * v + (b - 48)) bs
+digit_more : (v b : ℕ) (bs : List ℕ) → 48 ≤ b → b ≤ 57 → digits_after v (b ∷ bs) ≡ digits_after (10 * v + (b - 48)) bs
 digit_more v b bs lo hi = let t : is_digit b ≡ true = digit-is b lo hi in rw t refl
 
-pub digit_stops : (v b : ℕ) (bs : List ℕ) → (b < 48) ⊎ (57 < b) → digits_after v (b ∷ bs) ≡ v
-digit_stops v b bs h = let t : is_digit b ≡ false = is_none b h in rw t refl
-
-pub past_more : (b : ℕ) (bs : List ℕ) → 48 ≤ b → b ≤ 57 → past_digits (b ∷ bs) ≡ past_digits bs
-past_more b bs lo hi = let t : is_digit b ≡ true = digit-is b lo hi in rw t refl
-
-pub past_stops : (b : ℕ) (bs : List ℕ) → (b < 48) ⊎ (57 < b) → past_digits (b ∷ bs) ≡ b ∷ bs
-past_stops b bs h = let t : is_digit b ≡ false = is_none b h in rw t refl
-
 -- a value grows
-pub digits_grow : (v : ℕ) (bs : List ℕ) → v ≤ digits_after v bs
+digits_grow : (v : ℕ) (bs : List ℕ) → v ≤ digits_after v bs
 digits_grow v [] = omega arith
 digits_grow v (b ∷ bs) = grown (is_digit b) v (10 * v + (b - 48)) (digits_after (10 * v + (b - 48)) bs) (omega arith) (digits_grow (10 * v + (b - 48)) bs)
 

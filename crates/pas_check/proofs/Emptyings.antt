@@ -3,15 +3,11 @@ use Rattle.std.proofs.Common.{◌≡◌, ℕ, ◌+◌, ◌≤◌, true, false, L
 use Rattle.pas_profile.specs.declared.event.Event.{Event}
 use Rattle.pas_machine.specs.Machines.{profile_of}
 use Rattle.pas_machine.specs.declared.machine.Machine.{Machine}
-use Rattle.pas_check.specs.Begins.{entries_due}
-use Rattle.pas_check.specs.Calls.{EntriesTaken, EntryTaken}
-use Rattle.pas_check.specs.Leading.{Fails, IsWithin, lines_from}
+use Rattle.pas_check.specs.{Begins.entries_due, Calls.EntriesTaken, Calls.EntryTaken, Leading.Fails, Leading.IsWithin, Leading.lines_from, Takes.IsEventOf}
+use Rattle.pas_check.specs.{Takes.TakesEntry}
 use Rattle.pas_check.specs.States.{Due, Frees, Stand, with_due, with_one}
-use Rattle.pas_check.specs.Takes.{IsEventOf, TakesEntry}
-use Rattle.pas_check.specs.declared.cutting.Cursor.{Cursor}
-use Rattle.pas_check.specs.declared.entry.Entry.{Entry}
-use Rattle.pas_check.proofs.Entries.{one_event}
-use Rattle.pas_check.proofs.Kept.{EndsBy, kept_more}
+use Rattle.pas_check.specs.declared.{cutting.Cursor.Cursor, entry.Entry.Entry}
+use Rattle.pas_check.proofs.{Entries.one_event, Kept.EndsBy, Kept.kept_more}
 use Rattle.pas_check.proofs.Leads.{due_lacks, due_refused, due_taken, leads_fails, leads_nowhere, leads_on}
 
 ends_by : (s : Stand) (k : ℕ) (entry : Entry) (e : Event) → IsEventOf s k entry e → EndsBy s.epoch e

@@ -1,21 +1,14 @@
 -- The event of an entry of a log. In a run it is the one that the definition names; and there is only one.
 use Rattle.std.proofs.Common.{◌≡◌, ◌≢◌, ℕ, ◌<◌, ◌≤◌, List, Option, Some, None, inl, inr, refl, ap, sym, subst, ◌∙◌, arith}
 use Rattle.std.proofs.lemmas.Option.{none-some, same_Some}
-use Rattle.pas_profile.specs.declared.profile.Profile.{Profile}
-use Rattle.pas_profile.specs.declared.name.Block.{Block}
-use Rattle.pas_profile.specs.declared.name.Name.{Name}
-use Rattle.pas_profile.specs.declared.event.Event.{Event}
-use Rattle.pas_profile.specs.declared.event.Why.{Why}
-use Rattle.pas_profile.specs.declared.event.Why.TheVariants.{Ended, NoBlock, SizeDiffers}
+use Rattle.pas_profile.specs.declared.{profile.Profile.Profile, name.Block.Block, name.Name.Name, event.Event.Event, event.Why.Why, event.Why.TheVariants.Ended}
+use Rattle.pas_profile.specs.declared.{event.Why.TheVariants.NoBlock, event.Why.TheVariants.SizeDiffers}
 use Rattle.pas_profile.specs.Blocks.{address_of}
-use Rattle.pas_machine.specs.Laws.{IsCounted}
-use Rattle.pas_machine.specs.Places.{block_of}
+use Rattle.pas_machine.specs.{Laws.IsCounted, Places.block_of}
 use Rattle.pas_machine.specs.Machine.{Run, Admits, HasOtherRoom, IsLive, IsReason}
 use Rattle.pas_machine.specs.State.{Live, live_in, gives_in, ends_in}
 use Rattle.pas_machine.proofs.LiveBlocks.{all_counted}
-use Rattle.pas_check.specs.Calls.{Differs}
-use Rattle.pas_check.specs.States.{Stand}
-use Rattle.pas_check.specs.Takes.{MayRefuse, IsEventOf}
+use Rattle.pas_check.specs.{Calls.Differs, States.Stand, Takes.MayRefuse, Takes.IsEventOf}
 use Rattle.pas_check.specs.declared.entry.Entry.{Entry}
 
 -- a live block's turn is the number of ends at its address
@@ -28,17 +21,10 @@ live_turn f es name run live =
     sym live.2 ∙ turn_counts (live_in es (address_of name)) live.0 (gives_in es (address_of name)) (ends_in es (address_of name)) live.1 (all_counted f es run (address_of name))
 
 -- a name that lives with the room of its entry, if it names one, can't be refused
-pub no_reason : (f : Profile) (es : List Event) (entry : Entry) → Run f es → IsLive es entry.name → (Differs es entry → ⊥) → (why : Why) → MayRefuse entry why → IsReason es entry.name why → ⊥
+no_reason : (f : Profile) (es : List Event) (entry : Entry) → Run f es → IsLive es entry.name → (Differs es entry → ⊥) → (why : Why) → MayRefuse entry why → IsReason es entry.name why → ⊥
 no_reason f es entry run live same Ended may reason = let turn = live_turn f es entry.name run live in absurd (omega (arith, turn, reason))
 no_reason f es entry run live same NoBlock may reason = reason.1 live
 no_reason f es entry run live same (SizeDiffers asked) may reason = same (may.0, subst (HasOtherRoom es entry.name) may.1 reason.1)
-
--- one that lives with another room can be refused for it
-pub room_reason : (f : Profile) (es : List Event) (entry : Entry) → Run f es → Differs es entry → IsReason es entry.name (SizeDiffers entry.room)
-room_reason f es entry run differs =
-    let other = differs.1 in
-    let turn = live_turn f es entry.name run (other.block, other.lives, other.turn_is) in
-    (omega (arith, turn), other)
 
 -- THE EVENT of an entry, where it may come next
 pub end_is : (f : Profile) (s : Stand) (k : ℕ) (entry : Entry) → Run f s.events → Admits f s.events (Event.End k entry.name s.epoch) → (Differs s.events entry → ⊥) → IsEventOf s k entry (Event.End k entry.name s.epoch)
@@ -50,12 +36,12 @@ reject_is f s k entry why may admitted = inl (why, may, admitted.1, refl)
 -- there is one
 one_reason : (es : List Event) (entry : Entry) (w v : Why) → MayRefuse entry w → MayRefuse entry v → IsReason es entry.name w → IsReason es entry.name v → w ≡ v
 one_reason es entry Ended Ended p q a b = refl
-one_reason es entry Ended NoBlock p q a b = let few = b.0 in absurd (omega (arith, a, few))
-one_reason es entry Ended (SizeDiffers asked) p q a b = let few = b.0 in absurd (omega (arith, a, few))
-one_reason es entry NoBlock Ended p q a b = let few = a.0 in absurd (omega (arith, b, few))
+one_reason es entry Ended NoBlock p q a b = absurd (omega (arith, a, b.0))
+one_reason es entry Ended (SizeDiffers asked) p q a b = absurd (omega (arith, a, b.0))
+one_reason es entry NoBlock Ended p q a b = absurd (omega (arith, b, a.0))
 one_reason es entry NoBlock NoBlock p q a b = refl
 one_reason es entry NoBlock (SizeDiffers asked) p q a b = let other = b.1 in absurd (a.1 (other.block, other.lives, other.turn_is))
-one_reason es entry (SizeDiffers asked) Ended p q a b = let few = a.0 in absurd (omega (arith, b, few))
+one_reason es entry (SizeDiffers asked) Ended p q a b = absurd (omega (arith, b, a.0))
 one_reason es entry (SizeDiffers asked) NoBlock p q a b = let other = a.1 in absurd (b.1 (other.block, other.lives, other.turn_is))
 one_reason es entry (SizeDiffers asked) (SizeDiffers other) p q a b = ap SizeDiffers (p.1 ∙ sym q.1)
 
@@ -92,19 +78,19 @@ module _ (f : Profile) (es : List Event) (run : Run f es) (entry : Entry) where
     it_is other has = same_Some other b (sym has ∙ is)
 
     pub ended_before : entry.name.turn < b.block.name.turn → IsReason es entry.name Ended
-    ended_before turn = let same = counts in omega (arith, same, turn)
+    ended_before turn = omega (arith, counts, turn)
 
     pub not_yet : b.block.name.turn < entry.name.turn → IsReason es entry.name NoBlock
     not_yet turn = (
-      (let same = counts in omega (arith, same, turn)),
+      (omega (arith, counts, turn)),
       λ live. let same : b.block.name.turn ≡ entry.name.turn = ap (λ (l : Live). l.block.name.turn) (sym (it_is live.0 live.1)) ∙ live.2 in absurd (omega (arith, same, turn)),
     )
 
     pub other_room : entry.name.turn ≡ b.block.name.turn → b.block.room ≢ entry.room → IsReason es entry.name (SizeDiffers entry.room)
-    other_room turn differs = ((let same = counts in omega (arith, same, turn)), record { block = b; lives = is; turn_is = sym turn; differs = differs })
+    other_room turn differs = ((omega (arith, counts, turn)), record { block = b; lives = is; turn_is = sym turn; differs = differs })
 
     pub may_end : entry.name.turn ≡ b.block.name.turn → (0 < entry.room → b.block.room ≡ entry.room) → (why : Why) → MayRefuse entry why → IsReason es entry.name why → ⊥
-    may_end turn room Ended may reason = let same = counts in absurd (omega (arith, same, turn, reason))
+    may_end turn room Ended may reason = absurd (omega (arith, counts, turn, reason))
     may_end turn room NoBlock may reason = reason.1 (b, is, sym turn)
     may_end turn room (SizeDiffers asked) may reason =
         reason.1.differs (ap (λ (l : Live). l.block.room) (it_is reason.1.block reason.1.lives) ∙ room may.0 ∙ sym may.1)

@@ -1,20 +1,15 @@
 -- Outcomes of a pass, taken or not.
-use Rattle.std.proofs.Common.{◌≡◌, ℕ, ◌<◌, ◌==◌, Bool, true, false, if◌then◌else◌, List, Option, Some, None, refl, ap, sym, subst, ◌∙◌}
-use Rattle.std.proofs.lemmas.Bool.{eqb-true, eq-eqb}
+use Rattle.std.proofs.Common.{◌≡◌, ℕ, ◌<◌, ◌==◌, Bool, true, false, if◌then◌else◌, List, Option, Some, None, refl, ap, sym, subst, ◌∙◌, eqb-true, eq-eqb}
 use Rattle.std.proofs.lemmas.Option.{none-some, same_Some}
 use Rattle.pas_profile.specs.Profiles.{IsPage}
-use Rattle.pas_profile.specs.declared.event.Event.{Event}
-use Rattle.pas_profile.specs.declared.event.Outcome.{Outcome}
+use Rattle.pas_profile.specs.declared.event.{Event.Event, Outcome.Outcome}
 use Rattle.pas_profile.specs.declared.event.Outcome.TheVariants.{Unbacked, Bare, Young, InUse, NotOffered}
 use Rattle.pas_machine.specs.Machines.{profile_of, StandsFor}
 use Rattle.pas_machine.specs.declared.machine.Machine.{Machine}
 use Rattle.pas_report.specs.Lines.{line_of}
-use Rattle.pas_report.specs.declared.record.Record.{Record}
-use Rattle.pas_report.specs.declared.record.Said.{Said}
+use Rattle.pas_report.specs.declared.record.{Record.Record, Said.Said}
 use Rattle.pas_check.specs.Calls.{outcome_in, outcome_in_event, outcome_in_said, IsExamined, OutcomeTaken}
-use Rattle.pas_check.specs.Ranges.{Fits}
-use Rattle.pas_check.specs.States.{Stand}
-use Rattle.pas_check.specs.Takes.{MayCome, record_of, after_outcome}
+use Rattle.pas_check.specs.{Ranges.Fits, States.Stand, Takes.MayCome, Takes.record_of, Takes.after_outcome}
 use Rattle.pas_check.specs.declared.examining.Examined.{Examined}
 use Rattle.pas_trace.proofs.PassedChecks.{if_some}
 use Rattle.pas_check.proofs.OneNext.{outcome_fits}

@@ -2,10 +2,8 @@
 use Rattle.std.proofs.Common.{◌≡◌, ℕ, suc, ◌+◌, List, [], ◌∷◌, ◌++◌, length, take, inl, inr, refl, ap, sym, subst, ◌∙◌, arith, append_assoc, length-append}
 use Rattle.std.proofs.Math.Seq.{take-append_seam}
 use Rattle.pas_profile.specs.declared.profile.Profile.{Profile}
-use Rattle.pas_check.specs.States.{Stand}
-use Rattle.pas_check.specs.Takes.{Takes}
+use Rattle.pas_check.specs.{States.Stand, Takes.Takes, Going.SoFar, Going.AreAlike}
 use Rattle.pas_check.specs.Accepted.{IsDone, MayGo, IsWhole, IsStopped}
-use Rattle.pas_check.specs.Going.{SoFar, AreAlike}
 
 append_none : (xs : List (List ℕ)) → xs ++ [] ≡ xs
 append_none [] = refl

@@ -1,38 +1,23 @@
 -- Guards that are raised and lowered.
-use Rattle.std.proofs.Common.{◌≡◌, ◌≢◌, ℕ, ◌+◌, ◌^◌, ◌<◌, ◌≤◌, ◌==◌, not, if◌then◌else◌, Bool, true, false, cond, List, [], ◌∷◌, ◌++◌, map, Option, None, Some, refl, ap, sym, subst, ◌∙◌, append_assoc, append-nil, arith}
-use Rattle.std.specs.List.{filter}
-use Rattle.std.specs.Global.{Vec}
-use Rattle.std.proofs.lemmas.Bool.{eqb-true}
-use Rattle.pas_profile.specs.Blocks.{address_of}
-use Rattle.pas_profile.specs.Directories.{IsKind}
-use Rattle.pas_profile.specs.declared.directory.Directory.{Directory}
-use Rattle.pas_profile.specs.declared.event.Event.{Event}
-use Rattle.pas_profile.specs.declared.name.Block.{Block}
-use Rattle.pas_profile.specs.declared.profile.Profile.{Profile}
-use Rattle.pas_machine.specs.Machine.{IsPlace, Run}
-use Rattle.pas_machine.specs.Machines.{profile_of, StandsFor}
-use Rattle.pas_machine.specs.State.{ends_in}
+use Rattle.std.proofs.Common.{◌≡◌, ◌≢◌, ℕ, ◌+◌, ◌^◌, ◌<◌, ◌≤◌, ◌==◌, not, if◌then◌else◌, Bool, true, false, cond, List, [], ◌∷◌, ◌++◌, map, Option, None, Some}
+use Rattle.std.proofs.Common.{refl, ap, sym, subst, ◌∙◌, append_assoc, append-nil, arith, eqb-true}
+use Rattle.std.specs.{List.filter, Global.Vec}
+use Rattle.pas_profile.specs.{Blocks.address_of, Directories.IsKind}
+use Rattle.pas_profile.specs.declared.{directory.Directory.Directory, event.Event.Event, name.Block.Block, profile.Profile.Profile}
+use Rattle.pas_machine.specs.{Machine.IsPlace, Machine.Run, Machines.profile_of, Machines.StandsFor, State.ends_in}
 use Rattle.pas_machine.specs.declared.machine.Machine.{Machine}
-use Rattle.pas_report.specs.declared.record.Record.{Record}
-use Rattle.pas_report.specs.declared.record.Said.{Said}
-use Rattle.pas_trace.specs.Acts.{Act, Lowers}
+use Rattle.pas_report.specs.declared.record.{Record.Record, Said.Said}
+use Rattle.pas_trace.specs.{Acts.Act, Acts.Lowers, Named.standing_for}
 use Rattle.pas_trace.specs.declared.item.Request.{Request}
 use Rattle.pas_check.specs.Begins.{after_task, goes_down, guard_of, has_sides, lowered_due, lowered_record, page_above, page_below, raising}
-use Rattle.pas_check.specs.Bounds.{FitsRequest, FitsTry, IsKept}
+use Rattle.pas_check.specs.{Bounds.FitsRequest, Bounds.FitsTry, Bounds.IsKept, Tables.meant}
 use Rattle.pas_check.specs.Calls.{AreLeft, IsAsked, IsTrying, IsWanted, OneSwept, RequestTaken, SweepGoes, TrialTaken, after_request, staying}
 use Rattle.pas_check.specs.Leading.{Fails, IsLed, IsWithin, Leads, lines_from}
-use Rattle.pas_trace.specs.Named.{standing_for}
 use Rattle.pas_check.specs.States.{Due, Writes, Serves, Tries, Never, Task, Does, Stand, with_due, with_name}
-use Rattle.pas_check.specs.Tables.{meant}
 use Rattle.pas_check.specs.Tasks.{ActTaken, AsksKeeper, GuardsSwept, IsCarried, IsNext, Stands, being_swept}
-use Rattle.pas_check.specs.declared.acting.Judge.{Judge}
-use Rattle.pas_check.specs.declared.cutting.Cursor.{Cursor}
-use Rattle.pas_check.specs.declared.guard.Guard.{Guard}
-use Rattle.pas_check.specs.declared.guarding.Trial.TheVariants.{Gives, Passes, Stops}
-use Rattle.pas_check.specs.declared.naming.Names.{Names}
-use Rattle.pas_check.specs.declared.serving.Wanted.{Wanted}
-use Rattle.pas_check.proofs.Actings.{after_plain, begins}
-use Rattle.pas_check.proofs.Kept.{kept_same}
+use Rattle.pas_check.specs.declared.{acting.Judge.Judge, cutting.Cursor.Cursor, guard.Guard.Guard, guarding.Trial.TheVariants.Gives}
+use Rattle.pas_check.specs.declared.{guarding.Trial.TheVariants.Passes, guarding.Trial.TheVariants.Stops, naming.Names.Names, serving.Wanted.Wanted}
+use Rattle.pas_check.proofs.{Actings.after_plain, Actings.begins, Kept.kept_same}
 use Rattle.pas_check.proofs.Leads.{due_lacks, due_refused, leads_fails, leads_nowhere, leads_on}
 
 -- ---- nothing ends where no grain of the region is
@@ -69,16 +54,16 @@ module _ (machine : Machine) (text : List ℕ) (from : Cursor) (guards : List Gu
     left_with es down is = ap (λ b. cond (not b) (guard ∷ staying es keeper all rest) (staying es keeper all rest)) is
 
     module _ (down : Bool) (tells : (es : List Event) → StandsFor machine es → down ≡ goes_down es keeper all guard) where
-      pub left_up : down ≡ false → (left more : List Guard) → more ≡ left ++ guard ∷ [] → AreLeft machine guards keeper all left (guard ∷ rest) → AreLeft machine guards keeper all more rest
+      left_up : down ≡ false → (left more : List Guard) → more ≡ left ++ guard ∷ [] → AreLeft machine guards keeper all left (guard ∷ rest) → AreLeft machine guards keeper all more rest
       left_up up left more added before es stands =
           ap (λ gs. gs ++ staying es keeper all rest) added ∙ append_assoc left (guard ∷ []) (staying es keeper all rest)
           ∙ ap (λ gs. left ++ gs) (sym (left_with es false (sym (tells es stands) ∙ up))) ∙ before es stands
 
-      pub left_down : down ≡ true → (left : List Guard) → AreLeft machine guards keeper all left (guard ∷ rest) → AreLeft machine guards keeper all left rest
+      left_down : down ≡ true → (left : List Guard) → AreLeft machine guards keeper all left (guard ∷ rest) → AreLeft machine guards keeper all left rest
       left_down is left before es stands = ap (λ gs. left ++ gs) (sym (left_with es true (sym (tells es stands) ∙ is))) ∙ before es stands
 
       module _ (before : SweepGoes machine text from at guards keeper all (guard ∷ rest)) where
-        pub sweep_stays : down ≡ false → SweepGoes machine text from at guards keeper all rest
+        sweep_stays : down ≡ false → SweepGoes machine text from at guards keeper all rest
         sweep_stays up f s more stands due =
             subst (λ (ds : List Due). Leads f text s from (with_due s ds) at) (due_with s.events false (sym (tells s.events stands) ∙ up) more) (before f s more stands due)
 
@@ -87,13 +72,13 @@ module _ (machine : Machine) (text : List ℕ) (from : Cursor) (guards : List Gu
         first is f s more stands due =
             subst (λ (ds : List Due). Leads f text s from (with_due s ds) at) (due_with s.events true (sym (tells s.events stands) ∙ is) more) (before f s more stands due)
 
-        pub sweep_lowers : down ≡ true → ((f : Profile) (s : Stand) (more : List Due) → s.due ≡ Writes item ∷ more → IsLed f text s at (with_due s more) to true)
+        sweep_lowers : down ≡ true → ((f : Profile) (s : Stand) (more : List Due) → s.due ≡ Writes item ∷ more → IsLed f text s at (with_due s more) to true)
             → SweepGoes machine text from to guards keeper all rest
         sweep_lowers is led f s more stands due =
             let next : List Due = map lowered_due (filter (goes_down s.events keeper all) rest) ++ more in
             leads_on (first is f s more stands due) (led f (with_due s (Writes item ∷ next)) next refl)
 
-        pub sweep_amiss : down ≡ true → ((f : Profile) (s : Stand) (more : List Due) → s.due ≡ Writes item ∷ more → IsLed f text s at (with_due s more) to false)
+        sweep_amiss : down ≡ true → ((f : Profile) (s : Stand) (more : List Due) → s.due ≡ Writes item ∷ more → IsLed f text s at (with_due s more) to false)
             → (f : Profile) (s : Stand) (more : List Due) → StandsFor machine s.events → s.due ≡ map lowered_due (filter (goes_down s.events keeper all) guards) ++ more → Fails f text s from to.lines
         sweep_amiss is led f s more stands due =
             let next : List Due = map lowered_due (filter (goes_down s.events keeper all) rest) ++ more in
@@ -127,7 +112,7 @@ module _ (f : Profile) (text : List ℕ) (old : Judge) (from to : Cursor) (keepe
   swept_on guards lines left s more ts stands =
       let u = being_swept s keeper all more ts in
       let led = lines f u more stands.events (swept_due s more ts stands) in
-      let count : from.lines ≤ to.lines = (let c = led.count in omega (arith, c)) in (
+      let count : from.lines ≤ to.lines = (omega (arith, led.count)) in (
         led,
         record {
           profile = stands.profile;
@@ -182,13 +167,13 @@ module _ (f : Profile) (text : List ℕ) (old : Judge) (from : Cursor) (k keeper
 -- ---- its thread is served
 module _ (f : Profile) (text : List ℕ) (old : Judge) (from : Cursor) (w : Wanted) (low : w.name < 2 ^ 32) (room : w.room < 2 ^ 32) (heap : w.directory.heap < 2 ^ 8)
     (kind : IsKind w.directory.kind) (r : Request) (wants : IsWanted f r w) where
-  pub fits_by : (k : ℕ) → k < 2 ^ 8 → FitsRequest f k r
+  fits_by : (k : ℕ) → k < 2 ^ 8 → FitsRequest f k r
   fits_by k few = record {
     actor = few;
-    name = (let e = wants.name in omega (arith, e, low));
+    name = (omega (arith, wants.name, low));
     heap = (let e : r.heap ≡ w.directory.heap = ap (λ (d : Directory). d.heap) wants.directory in omega (arith, e, heap));
     kind = subst (λ (d : Directory). IsKind d.kind) (sym wants.directory) kind;
-    room = (let e = wants.room in omega (arith, e, room));
+    room = (omega (arith, wants.room, room));
   }
 
   module _ (k : ℕ) (few : k < 2 ^ 8) (s : Stand) (stands : Stands f old s from) where
@@ -198,7 +183,7 @@ module _ (f : Profile) (text : List ℕ) (old : Judge) (from : Cursor) (w : Want
       stands = stands.events;
       kept = stands.kept;
       fits = subst (λ g. FitsRequest g k r) (sym stands.profile) (fits_by k few);
-      epoch = (let e = stands.epoch in let less = stands.small in omega (arith, e, less));
+      epoch = (omega (arith, stands.epoch, stands.small));
       due = due;
     }
 
@@ -237,7 +222,7 @@ module _ (f : Profile) (text : List ℕ) (old : Judge) (from : Cursor) (w : Want
         stands = stands.events;
         kept = stands.kept;
         fits = subst (λ g. FitsTry g keeper k r) (sym stands.profile) (record { own = fits_by k few; kept = fits_by keeper behind; apart = apart });
-        epoch = (let e = stands.epoch in let less = stands.small in omega (arith, e, less));
+        epoch = (omega (arith, stands.epoch, stands.small));
         due = due;
       }
 
@@ -304,7 +289,7 @@ module _ (f : Profile) (text : List ℕ) (old : Judge) (from : Cursor) (keeper n
       let same : raised_from s ≡ up s = ap (λ b. raising b (with_name s name (Some block)) keeper name block []) (ap (λ g. has_sides g block) (sym stands.profile) ∙ sides) in
       let t : Stand = with_due (up s) [] in
       let line = led (up s) [] refl in
-      let count : from.lines ≤ to.lines = (let c = line.count in omega (arith, c)) in (
+      let count : from.lines ≤ to.lines = (omega (arith, line.count)) in (
         t,
         subst (λ (u : Stand). Leads f text u from t to) (sym same) line,
         record {

@@ -1,18 +1,13 @@
 -- What every line keeps: few events, and ends at small epochs.
-use Rattle.std.proofs.Common.{◌≡◌, ℕ, suc, ◌+◌, ◌^◌, ◌<◌, ◌≤◌, ◌==◌, max, Bool, true, false, if◌then◌else◌, List, [], ◌∷◌, length, Option, Some, ap, sym, subst, arith}
+use Rattle.std.proofs.Common.{◌≡◌, ℕ, suc, ◌+◌, ◌^◌, ◌<◌, ◌≤◌, ◌==◌, max, Bool, true, false, if◌then◌else◌, List, [], ◌∷◌, length, Option, Some, ap, sym, subst}
+use Rattle.std.proofs.Common.{arith}
 use Rattle.std.proofs.lemmas.Option.{same_Some}
-use Rattle.pas_profile.specs.Directories.{IsKind}
-use Rattle.pas_profile.specs.Profiles.{IsValid}
-use Rattle.pas_profile.specs.Blocks.{address_of}
-use Rattle.pas_profile.specs.declared.directory.Directory.{Directory}
-use Rattle.pas_profile.specs.declared.event.Event.{Event}
-use Rattle.pas_profile.specs.declared.profile.Profile.{Profile}
-use Rattle.pas_machine.specs.Machine.{Run}
-use Rattle.pas_machine.specs.Machines.{profile_of, StandsFor}
+use Rattle.pas_profile.specs.{Directories.IsKind, Profiles.IsValid, Blocks.address_of}
+use Rattle.pas_profile.specs.declared.{directory.Directory.Directory, event.Event.Event, profile.Profile.Profile}
+use Rattle.pas_machine.specs.{Machine.Run, Machines.profile_of, Machines.StandsFor}
 use Rattle.pas_machine.specs.State.{deed_in, epoch_in, gives_in, live_in, touches}
 use Rattle.pas_machine.specs.declared.machine.Machine.{Machine}
-use Rattle.pas_check.specs.Bounds.{IsKept, IsSmall}
-use Rattle.pas_check.specs.States.{Stand}
+use Rattle.pas_check.specs.{Bounds.IsKept, Bounds.IsSmall, States.Stand}
 use Rattle.pas_check.specs.declared.cutting.Cursor.{Cursor}
 
 -- an end isn't later than this, and a deed's kind is one
@@ -47,7 +42,7 @@ kinds_more (Event.Reject k name why) es epoch by kinds page d is = kinds page d 
 
 pub kept_more : (t s : Stand) (at to : Cursor) (e : Event) → t.events ≡ e ∷ s.events → t.epoch ≡ s.epoch → to.lines ≡ at.lines + 1 → EndsBy s.epoch e → IsKept s at → IsKept t to
 kept_more t s at to e events epoch count by kept = record {
-  few = (let long : length t.events ≡ suc (length s.events) = ap length events in let few = kept.few in omega (arith, long, few, count));
+  few = (let long : length t.events ≡ suc (length s.events) = ap length events in omega (arith, long, kept.few, count));
   kinds = subst AreKinds (sym events) (kinds_more e s.events s.epoch by kept.kinds);
   ends = λ page.
       let here : epoch_in t.events page ≡ epoch_in (e ∷ s.events) page = ap (λ es. epoch_in es page) events in
@@ -58,7 +53,7 @@ kept_more t s at to e events epoch count by kept = record {
 -- without an event
 pub kept_same : (t s : Stand) (at to : Cursor) → t.events ≡ s.events → t.epoch ≡ s.epoch → at.lines ≤ to.lines → IsKept s at → IsKept t to
 kept_same t s at to events epoch count kept = record {
-  few = (let long : length t.events ≡ length s.events = ap length events in let few = kept.few in omega (arith, long, few, count));
+  few = (let long : length t.events ≡ length s.events = ap length events in omega (arith, long, kept.few, count));
   kinds = subst AreKinds (sym events) kept.kinds;
   ends = λ page. let here : epoch_in t.events page ≡ epoch_in s.events page = ap (λ es. epoch_in es page) events in let low = kept.ends page in omega (arith, here, low, epoch);
 }
@@ -78,7 +73,7 @@ pub small_of : (f : Profile) (machine : Machine) (s : Stand) (at : Cursor) → p
 small_of f machine s at same valid stands kept lines epoch = record {
   valid = valid;
   run = subst (λ g. Run g s.events) same stands.run;
-  gives = λ a. (let few = gives_few s.events a in let less = kept.few in omega (arith, few, less, lines));
+  gives = λ a. (let few = gives_few s.events a in omega (arith, few, kept.few, lines));
   ends = λ page. (let low = kept.ends page in omega (arith, low, epoch));
   epoch = epoch;
 }

@@ -1,9 +1,7 @@
 -- How a check goes from place to place.
 use Rattle.std.proofs.Common.{◌≡◌, ℕ, zero, suc, ◌+◌, ◌↔◌, Bool, true, false, List, [], ◌∷◌, length, take, inl, inr, refl, ap, sym, subst, ◌∙◌, arith}
 use Rattle.pas_profile.specs.declared.profile.Profile.{Profile}
-use Rattle.pas_check.specs.Accepted.{IsDone, IsWhole, MayGo}
-use Rattle.pas_check.specs.Begins.{past_outcomes, ready, ready_with}
-use Rattle.pas_check.specs.Going.{AreAlike}
+use Rattle.pas_check.specs.{Accepted.IsDone, Accepted.IsWhole, Accepted.MayGo, Begins.past_outcomes, Begins.ready, Begins.ready_with, Going.AreAlike}
 use Rattle.pas_check.specs.Leading.{Fails, IsJustLine, IsLed, IsWithin, Leads, lines_from}
 use Rattle.pas_check.specs.States.{Due, Writes, Frees, Serves, Tries, Never, Examines, Heads, Shows, Totals, Stand, with_due}
 use Rattle.pas_check.specs.Takes.{IsJust, Takes, TakesDue, TakesFirst}
@@ -14,8 +12,8 @@ module _ {f : Profile} {text : List ℕ} {s t : Stand} {old mid : Cursor} (first
   pub leads_on : {u : Stand} {new : Cursor} → Leads f text t mid u new → Leads f text s old u new
   leads_on {u} {new} second = record {
     taken = first.taken + second.taken;
-    count = (let a = first.count in let b = second.count in omega (arith, a, b));
-    length_is = (let a = first.length_is in let b = second.length_is in omega (arith, a, b));
+    count = (omega (arith, first.count, second.count));
+    length_is = (omega (arith, first.length_is, second.length_is));
     go = λ n.
         let e : first.taken + second.taken + n ≡ first.taken + (second.taken + n) = omega arith in
         let one = first.go (second.taken + n) in
@@ -30,18 +28,17 @@ module _ {f : Profile} {text : List ℕ} {s t : Stand} {old mid : Cursor} (first
       let at = fails.stopped in
       let long = first.length_is in
       let further = fails.further in
-      let is = at.number in
       let sum : first.taken + at.before + 1 ≡ first.taken + (at.before + 1) = omega arith in
       record {
         further = first.taken + further;
-        number_is = (let a = first.count in let b = fails.number_is in omega (arith, a, b));
+        number_is = (omega (arith, first.count, fails.number_is));
         stopped = record {
           before = first.taken + at.before;
-          number = omega (arith, is);
+          number = omega (arith, at.number);
           go = (first.go at.before).1 at.go;
           stops = elim at.stops [
-            | inl h ↦ inl ((let few = h.0 in omega (arith, few, long)), λ g. h.1 ((first.go (at.before + 1)).0 (subst (λ m. MayGo f s (take m (lines_from text old))) sum g)))
-            | inr h ↦ inr ((let all = h.0 in omega (arith, all, long)), λ g. h.1 (first.whole.0 g))
+            | inl h ↦ inl ((omega (arith, h.0, long)), λ g. h.1 ((first.go (at.before + 1)).0 (subst (λ m. MayGo f s (take m (lines_from text old))) sum g)))
+            | inr h ↦ inr ((omega (arith, h.0, long)), λ g. h.1 (first.whole.0 g))
           ];
         };
       }
@@ -121,7 +118,7 @@ module _ (f : Profile) (text : List ℕ) (s : Stand) (old : Cursor) where
   }
 
   -- there is none
-  pub fails_early : lines_from text old ≡ [] → (IsDone f s → ⊥) → Fails f text s old (old.lines + 1)
+  fails_early : lines_from text old ≡ [] → (IsDone f s → ⊥) → Fails f text s old (old.lines + 1)
   fails_early none undone = record {
     further = 1;
     number_is = refl;
@@ -134,7 +131,7 @@ module _ (f : Profile) (text : List ℕ) (s : Stand) (old : Cursor) where
   }
 
 -- ---- where something is due that isn't the outcomes of a pass
-pub ready_is : (f : Profile) (s : Stand) (d : Due) (more : List Due) → s.due ≡ d ∷ more → past_outcomes (d ∷ more) ≡ d ∷ more → ready f s ≡ s
+ready_is : (f : Profile) (s : Stand) (d : Due) (more : List Due) → s.due ≡ d ∷ more → past_outcomes (d ∷ more) ≡ d ∷ more → ready f s ≡ s
 ready_is f s d more due no_pass = ap (ready_with f s) (ap past_outcomes due ∙ no_pass) ∙ ap (with_due s) (sym due)
 
 pub first_none : (f : Profile) (s : Stand) (d : Due) (more : List Due) → past_outcomes (d ∷ more) ≡ d ∷ more → (line : List ℕ) (next : Stand)

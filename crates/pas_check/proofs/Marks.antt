@@ -1,9 +1,8 @@
 -- What a cut of an input does to its trace and its transcript.
-use Rattle.std.proofs.Common.{◌≡◌, ℕ, ◌+◌, ◌-◌, ◌==◌, Bool, true, false, if◌then◌else◌, List, [], ◌∷◌, ◌++◌, refl, ap, sym, ◌∙◌, arith, append_assoc, length, take, drop, inl, inr}
+use Rattle.std.proofs.Common.{◌≡◌, ℕ, ◌+◌, ◌-◌, ◌==◌, Bool, true, false, if◌then◌else◌, List, [], ◌∷◌, ◌++◌, refl, ap, sym, ◌∙◌, arith, append_assoc, length}
+use Rattle.std.proofs.Common.{take, drop, inl, inr, drop-drop, eq-eqb, ne_eqb}
 use Rattle.std.specs.List.{concat}
-use Rattle.std.proofs.Math.Seq.{take-add}
-use Rattle.std.proofs.lemmas.List.{drop-drop, take_rest}
-use Rattle.std.proofs.lemmas.Bool.{cases_eq, eq-eqb, ne_eqb}
+use Rattle.std.proofs.{Math.Seq.take-add, lemmas.List.take_rest, lemmas.Bool.cases_eq}
 use Rattle.pas_check.specs.Lines.{put_front, lines_in}
 use Rattle.pas_check.specs.Inputs.{is_mark, before_mark, after_mark, trace_in, transcript_in}
 

@@ -1,27 +1,20 @@
 -- A line that may come next leads to one state: no outcome of a pass has the line of what follows the pass.
 use Rattle.std.proofs.Common.{◌≡◌, ◌≢◌, ℕ, suc, ◌^◌, ◌<◌, ◌⊎◌, List, Option, None, [], ◌∷◌, ◌++◌, length, codes, inl, inr, refl, ap, sym, subst, ◌∙◌, arith}
 use Rattle.std.specs.Fmt.{decimal}
-use Rattle.pas_profile.specs.declared.event.Event.{Event}
-use Rattle.pas_profile.specs.declared.event.Why.{Why}
-use Rattle.pas_profile.specs.declared.event.Outcome.{Outcome}
+use Rattle.pas_profile.specs.declared.{event.Event.Event, event.Why.Why, event.Outcome.Outcome, name.Block.Block, name.Name.Name, profile.Profile.Profile}
 use Rattle.pas_profile.specs.declared.event.Outcome.TheVariants.{Unbacked, Bare, Young, InUse, NotOffered}
-use Rattle.pas_profile.specs.declared.name.Block.{Block}
-use Rattle.pas_profile.specs.declared.name.Name.{Name}
-use Rattle.pas_profile.specs.declared.profile.Profile.{Profile}
 use Rattle.pas_report.specs.Lines.{hex_digits, line_of, line_of_answer, line_of_event}
-use Rattle.pas_report.specs.declared.record.Record.{Record}
-use Rattle.pas_report.specs.declared.record.Said.{Said}
+use Rattle.pas_report.specs.declared.record.{Record.Record, Said.Said}
 use Rattle.pas_trace.specs.declared.item.Request.{Request}
-use Rattle.pas_check.specs.Begins.{past_outcomes, ready}
+use Rattle.pas_check.specs.{Begins.past_outcomes, Begins.ready, Ranges.Fits, Ranges.FitsEntry, Ranges.FitsEvent, Readings.byte_at, Readings.of_u8}
+use Rattle.pas_check.specs.{Readings.past_digits}
 use Rattle.pas_check.specs.Bounds.{FitsFirst, FitsRequest, FitsNext, IsOfThread, IsSmall}
-use Rattle.pas_check.specs.Ranges.{Fits, FitsEntry, FitsEvent}
-use Rattle.pas_check.specs.Readings.{byte_at, of_u8, past_digits}
 use Rattle.pas_check.specs.States.{Due, Writes, Frees, Serves, Tries, Never, Examines, Heads, Shows, Totals, Stand}
-use Rattle.pas_check.specs.Takes.{IsEventOf, IsOutcome, IsPreparing, IsRefusal, serving, Takes, TakesRequest, TakesDue, TakesFirst, TakesOutcome, directory_of, record_of}
+use Rattle.pas_check.specs.Takes.{IsEventOf, IsOutcome, IsPreparing, IsRefusal, serving, Takes, TakesRequest, TakesDue, TakesFirst, TakesOutcome, directory_of}
+use Rattle.pas_check.specs.Takes.{record_of}
 use Rattle.pas_check.specs.declared.entry.Entry.{Entry}
-use Rattle.pas_check.proofs.Digits.{past_number, u8_back}
+use Rattle.pas_check.proofs.{Digits.past_number, Digits.u8_back, Takings.why_fits}
 use Rattle.pas_check.proofs.OneNext.{gives_fits, one_next, one_outcome, outcome_fits, prepares_fits, refusal_fits, same_record, small_serving}
-use Rattle.pas_check.proofs.Takings.{why_fits}
 
 -- ---- the lines of outcomes begin with a number
 behind_actor : (epoch page : ℕ) (o : Outcome) → byte_at 0 (past_digits (line_of (record_of epoch page o))) ≡ 32
@@ -159,7 +152,7 @@ module _ (f : Profile) (s : Stand) (small : IsSmall f s) (last : ℕ) (rest : Li
   no_request t new k r old more fits b (inr (inr y)) =
       no_record (Record.Said k y.said) (fits.actor, refusal_fits f t new k r fits y.said y.refuses) (no_refusal f t k r y.said y.refuses) y.line_is
 
-  pub outcome_apart : (t : Stand) → IsSmall f t → (due : List Due) → FitsNext f due → past_outcomes due ≡ due → (b : Stand) → TakesDue f t due line b → ⊥
+  outcome_apart : (t : Stand) → IsSmall f t → (due : List Due) → FitsNext f due → past_outcomes due ≡ due → (b : Stand) → TakesDue f t due line b → ⊥
   outcome_apart t new [] fits no_pass b y = y
   outcome_apart t new (Writes item ∷ more) fits no_pass b y = no_writing item fits y.0
   outcome_apart t new (Frees k entry ∷ more) fits no_pass b y = no_entry_of t k entry y.event new.epoch fits y.of_entry y.line_is

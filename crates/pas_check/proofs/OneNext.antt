@@ -1,30 +1,22 @@
 -- A line that may come leads to one state, where it answers what is due.
-use Rattle.std.proofs.Common.{◌≡◌, ◌≢◌, ℕ, ◌/◌, ◌%◌, ◌^◌, ◌<◌, ◌≤◌, ◌==◌, ◌||◌, Bool, true, false, if◌then◌else◌, List, [], ◌∷◌, Option, Some, None, inl, inr, refl, ap, sym, subst, ◌∙◌, arith}
-use Rattle.std.proofs.lemmas.Bool.{eqb-true}
+use Rattle.std.proofs.Common.{◌≡◌, ◌≢◌, ℕ, ◌/◌, ◌%◌, ◌^◌, ◌<◌, ◌≤◌, ◌==◌, ◌||◌, Bool, true, false, if◌then◌else◌, List, [], ◌∷◌, Option, Some, None, inl, inr}
+use Rattle.std.proofs.Common.{refl, ap, sym, subst, ◌∙◌, arith, eqb-true}
 use Rattle.std.proofs.lemmas.Option.{none-some}
-use Rattle.pas_profile.specs.Profiles.{IsPage, IsValid}
+use Rattle.pas_profile.specs.{Profiles.IsPage, Profiles.IsValid, Blocks.address_of, Blocks.grain_of, Blocks.length_of}
 use Rattle.pas_bits.proofs.Runs.{first_of_run}
-use Rattle.pas_profile.specs.Blocks.{address_of, grain_of, length_of}
-use Rattle.pas_profile.specs.declared.directory.Directory.{Directory}
-use Rattle.pas_profile.specs.declared.event.Event.{Event}
-use Rattle.pas_profile.specs.declared.event.Outcome.{Outcome}
+use Rattle.pas_profile.specs.declared.{directory.Directory.Directory, event.Event.Event, event.Outcome.Outcome, name.Block.Block, name.Name.Name}
+use Rattle.pas_profile.specs.declared.{profile.Profile.Profile}
 use Rattle.pas_profile.specs.declared.event.Outcome.TheVariants.{Unbacked, Bare, Young, InUse, NotOffered}
-use Rattle.pas_profile.specs.declared.name.Block.{Block}
-use Rattle.pas_profile.specs.declared.name.Name.{Name}
-use Rattle.pas_profile.specs.declared.profile.Profile.{Profile}
-use Rattle.pas_machine.specs.Machine.{Run, Admits}
-use Rattle.pas_machine.specs.State.{deed_in, backed_in}
+use Rattle.pas_machine.specs.{Machine.Run, Machine.Admits, State.deed_in, State.backed_in}
 use Rattle.pas_report.specs.Lines.{line_of}
-use Rattle.pas_report.specs.declared.record.Record.{Record}
-use Rattle.pas_report.specs.declared.record.Said.{Said}
-use Rattle.pas_check.specs.Begins.{has_sides, raising, replacing}
+use Rattle.pas_report.specs.declared.record.{Record.Record, Said.Said}
+use Rattle.pas_check.specs.{Begins.has_sides, Begins.raising, Begins.replacing, Ranges.FitsEvent, Ranges.FitsSaid, Ranges.Fits}
 use Rattle.pas_check.specs.Bounds.{FitsRequest, FitsFirst, FitsTry, IsSmall}
 use Rattle.pas_trace.specs.declared.item.Request.{Request}
-use Rattle.pas_check.specs.Ranges.{FitsEvent, FitsSaid, Fits}
 use Rattle.pas_check.specs.States.{Due, Writes, Frees, Serves, Tries, Never, Examines, Heads, Shows, Totals, Stand, with_due, with_one, with_name}
-use Rattle.pas_check.specs.Takes.{IsPreparing, IsFor, IsRefusal, directory_of, is_back, serving, MayCome, record_of, after_outcome, TakesRequest, TakesTry, TakesOutcome, TakesDue}
-use Rattle.pas_check.proofs.Entries.{one_event}
-use Rattle.pas_check.proofs.Readings.{one_line}
+use Rattle.pas_check.specs.Takes.{IsPreparing, IsFor, IsRefusal, directory_of, is_back, serving, MayCome, record_of, after_outcome, TakesRequest, TakesTry}
+use Rattle.pas_check.specs.Takes.{TakesOutcome, TakesDue}
+use Rattle.pas_check.proofs.{Entries.one_event, Readings.one_line}
 
 pub same_record : (line : List ℕ) (r q : Record) → Fits r → Fits q → line ≡ line_of r → line ≡ line_of q → r ≡ q
 same_record line r q fits fits' a b = one_line r q fits fits' (sym a ∙ b)
@@ -88,9 +80,6 @@ module _ (f : Profile) (s : Stand) (small : IsSmall f s) (k : ℕ) (r : Request)
 
   block_is : (b c : Block) → Record.Event (Event.Give k b) ≡ Record.Event (Event.Give k c) → b ≡ c
   block_is b c same = cc
-
-  said_is : (a b : Said) → Record.Said k a ≡ Record.Said k b → a ≡ b
-  said_is a b same = cc
 
   module _ (replaced : Option Name) (more : List Due) (line : List ℕ) (a b : Stand) where
     one_request : TakesRequest f s k r replaced more line a → TakesRequest f s k r replaced more line b → a ≡ b
@@ -203,8 +192,8 @@ same_outcome epoch p q NotOffered (InUse x b) e = absurd (cc)
 pub outcome_fits : (f : Profile) (s : Stand) → IsSmall f s → (page : ℕ) (o : Outcome) → IsPage f page → MayCome f s page o → Fits (record_of s.epoch page o)
 outcome_fits f s small page Unbacked of may = (omega arith, small_page f page small.valid of, small.epoch)
 outcome_fits f s small page Bare of may = (omega arith, small_page f page small.valid of)
-outcome_fits f s small page (Young stamp) of may = let few = small.ends page in let is = may.0 in (omega arith, (small_page f page small.valid of, omega (arith, few, is)))
-outcome_fits f s small page (InUse word value) of may = let few = may.0 in let less = may.1 in (omega arith, (small_page f page small.valid of, omega (arith, few), omega (arith, less)))
+outcome_fits f s small page (Young stamp) of may = let few = small.ends page in (omega arith, (small_page f page small.valid of, omega (arith, few, may.0)))
+outcome_fits f s small page (InUse word value) of may = (omega arith, (small_page f page small.valid of, omega (arith, may.0), omega (arith, may.1)))
 outcome_fits f s small page NotOffered of may = (omega arith, small_page f page small.valid of)
 
 pub one_outcome : (f : Profile) (s : Stand) → IsSmall f s → (last : ℕ) (more : List Due) (line : List ℕ) (a b : Stand) → TakesOutcome f s last more line a → TakesOutcome f s last more line b → a ≡ b

@@ -1,16 +1,10 @@
 -- What the machine says of a page, and its line in the report.
-use Rattle.std.specs.Prelude.{MatchBool}
-use Rattle.std.proofs.Common.{◌≡◌, ℕ, ◌+◌, ◌*◌, ◌/◌, ◌%◌, ◌<◌, ◌≤◌, ◌==◌, nat_le, nat_lt, not, Bool, true, false, if◌then◌else◌, List, [], ◌∷◌, Option, None, Some, refl, ap, sym, subst, ◌∙◌, arith}
-use Rattle.std.proofs.lemmas.Bool.{and_parts, eqb-true, leb-true}
-use Rattle.std.proofs.lemmas.Option.{none-some}
+use Rattle.std.proofs.Common.{MatchBool, ◌≡◌, ℕ, ◌+◌, ◌*◌, ◌/◌, ◌%◌, ◌<◌, ◌≤◌, ◌==◌, nat_le, nat_lt, not, Bool, true, false, if◌then◌else◌, List, [], ◌∷◌}
+use Rattle.std.proofs.Common.{Option, None, Some, refl, ap, sym, subst, ◌∙◌, arith, eqb-true, leb-true}
+use Rattle.std.proofs.lemmas.{Bool.and_parts, Option.none-some}
 use Rattle.pas_profile.specs.Blocks.{address_of, length_of}
-use Rattle.pas_profile.specs.declared.directory.Directory.{Directory}
-use Rattle.pas_profile.specs.declared.event.Event.{Event}
-use Rattle.pas_profile.specs.declared.name.Block.{Block}
-use Rattle.pas_profile.specs.declared.profile.Profile.{Profile}
-use Rattle.pas_machine.specs.Machine.{Run}
-use Rattle.pas_machine.specs.Places.{IsCovered}
-use Rattle.pas_machine.specs.State.{Live, backed_in, live_in}
+use Rattle.pas_profile.specs.declared.{directory.Directory.Directory, event.Event.Event, name.Block.Block, profile.Profile.Profile}
+use Rattle.pas_machine.specs.{Machine.Run, Places.IsCovered, State.Live, State.backed_in, State.live_in}
 use Rattle.pas_steps.specs.Views.{usable_by_kind}
 use Rattle.pas_report.specs.Marks.{Marked}
 use Rattle.pas_report.specs.Reports.{covers, is_covered, machine_page, page_text}
@@ -19,9 +13,8 @@ use Rattle.pas_check.specs.Leading.{Fails, IsLed, IsWithin, lines_from}
 use Rattle.pas_check.specs.Shown.{HasNoRoom, HasRoom, IsBare, IsHinted, IsPageLine, IsWith, MayShow, TellsPage, grain_on, line_with, marks_for}
 use Rattle.pas_check.specs.States.{Due, Shows, Stand, with_due}
 use Rattle.pas_check.specs.Takes.{AreAllowedMarks}
-use Rattle.pas_check.specs.declared.cutting.Cursor.{Cursor}
-use Rattle.pas_check.specs.declared.reporting.Shown.{Shown}
-use Rattle.pas_check.proofs.Leads.{due_lacks, due_refused, due_taken}
+use Rattle.pas_check.specs.declared.{cutting.Cursor.Cursor, reporting.Shown.Shown}
+use Rattle.pas_check.proofs.Leads.{due_refused, due_taken}
 
 -- ---- a live block begins at a grain
 given_even : (t : Bool) (a k : ℕ) (block : Block) (old : Option Live) (b : Live) → (address_of block.name == a) ≡ t → address_of block.name % 16 ≡ 0
@@ -130,10 +123,7 @@ module _ (s : Stand) (shown : Shown) (tells : TellsPage s.events shown) where
   line_is m = λ t. page_text shown.page shown.directory (tells.live t) (tells.free t) (tells.stamp t) m
 
   module _ (f : Profile) (text : List ℕ) (old new : Cursor) (more : List Due) (due : s.due ≡ Shows shown.page shown.directory ∷ more) (count : new.lines ≡ old.lines + 1) where
-    pub page_lacks : lines_from text old ≡ [] → IsLed f text s old (with_due s more) new false
-    page_lacks none = subst (Fails f text s old) (sym count) (due_lacks f s (Shows shown.page shown.directory) more due refl text old none)
-
-    pub page_taken : (line : List ℕ) → lines_from text old ≡ line ∷ lines_from text new → IsWithin text new → (is : Bool)
+    page_taken : (line : List ℕ) → lines_from text old ≡ line ∷ lines_from text new → IsWithin text new → (is : Bool)
         → MatchBool is (IsPageLine shown line) (IsPageLine shown line → ⊥) → IsLed f text s old (with_due s more) new is
     page_taken line has within true is =
         due_taken f s (Shows shown.page shown.directory) more due refl text old (with_due s more) new line has count within

@@ -1,24 +1,17 @@
 -- The lines of the outcomes of a pass, one after the other.
 use Rattle.std.proofs.Common.{◌≡◌, ℕ, ◌+◌, ◌^◌, ◌<◌, List, [], ◌∷◌, None, Some, inl, inr, refl, ap, sym, subst, ◌∙◌, arith}
 use Rattle.pas_profile.specs.Profiles.{IsValid}
-use Rattle.pas_profile.specs.declared.event.Event.{Event}
-use Rattle.pas_profile.specs.declared.event.Outcome.{Outcome}
+use Rattle.pas_profile.specs.declared.{event.Event.Event, event.Outcome.Outcome, profile.Profile.Profile}
 use Rattle.pas_profile.specs.declared.event.Outcome.TheVariants.{Unbacked, Bare, Young, InUse, NotOffered}
-use Rattle.pas_profile.specs.declared.profile.Profile.{Profile}
-use Rattle.pas_machine.specs.Machine.{Run}
-use Rattle.pas_machine.specs.Machines.{profile_of}
-use Rattle.pas_machine.specs.State.{epoch_in, gives_in}
+use Rattle.pas_machine.specs.{Machine.Run, Machines.profile_of, State.epoch_in, State.gives_in}
 use Rattle.pas_machine.specs.declared.machine.Machine.{Machine}
-use Rattle.pas_check.specs.Begins.{past_outcomes, ready}
-use Rattle.pas_check.specs.Bounds.{FitsNext, IsKept, IsSmall}
+use Rattle.pas_check.specs.{Begins.past_outcomes, Begins.ready, Bounds.FitsNext, Bounds.IsKept, Bounds.IsSmall, Leading.IsWithin, Leading.lines_from}
 use Rattle.pas_check.specs.Calls.{IsExamining, OutcomeTaken, OutcomesGo, OutcomesTaken, after_pass}
-use Rattle.pas_check.specs.Leading.{IsWithin, lines_from}
 use Rattle.pas_check.specs.States.{Due, Examines, Stand, with_due}
 use Rattle.pas_check.specs.Takes.{Takes, TakesDue, TakesFirst, TakesOutcome, after_outcome}
 use Rattle.pas_check.specs.declared.cutting.Cursor.{Cursor}
-use Rattle.pas_check.proofs.Kept.{kept_more, kept_same, small_of}
+use Rattle.pas_check.proofs.{Kept.kept_more, Kept.kept_same, Kept.small_of, Nexts.one_takes}
 use Rattle.pas_check.proofs.Leads.{IsSameAt, leads_idly, leads_line, leads_nowhere, leads_on}
-use Rattle.pas_check.proofs.Nexts.{one_takes}
 
 -- ---- what an outcome changes
 outcome_shape : (t : Stand) (page : ℕ) (o : Outcome) → after_outcome t page o ≡ record t { events = (after_outcome t page o).events }
@@ -74,7 +67,7 @@ module _ (old : Machine) (text : List ℕ) (from : Cursor) (epoch : ℕ) where
       same_ready = ready_there ∙ sym ready_then
 
     -- the pass is over where no line is left, or the next one is none of its outcomes
-    pub outcomes_end : IsWithin text at → ((s : Stand) (ex : IsExamining old s from 0 epoch)
+    outcomes_end : IsWithin text at → ((s : Stand) (ex : IsExamining old s from 0 epoch)
         → IsSameAt (profile_of old) text (t s ex) (with_due (t s ex) []) at (lines_from text at)) → OutcomesTaken old mid text from at epoch
     outcomes_end within same s ex = (
       with_due (t s ex) [],
@@ -91,7 +84,7 @@ module _ (old : Machine) (text : List ℕ) (from : Cursor) (epoch : ℕ) where
     module _ (line : List ℕ) (rest : List (List ℕ)) (valid : IsValid (profile_of old)) (same : profile_of mid ≡ profile_of old) (low : at.lines < 2 ^ 32)
         (has : lines_from text at ≡ line ∷ rest) where
       small : (s : Stand) (ex : IsExamining old s from 0 epoch) → IsSmall (profile_of old) (t s ex)
-      small s ex = small_of (profile_of old) mid (t s ex) at same valid (before s ex).3 (before s ex).4 low (let e = t_epoch s ex in let less = ex.small in omega (arith, e, less))
+      small s ex = small_of (profile_of old) mid (t s ex) at same valid (before s ex).3 (before s ex).4 low (let e = t_epoch s ex in omega (arith, e, ex.small))
 
       -- another line
       module _ (new : Machine) (none : OutcomeTaken mid new last epoch line None) where

@@ -1,26 +1,19 @@
 -- The acts of operations and of phases.
-use Rattle.std.proofs.Common.{◌≡◌, ℕ, zero, suc, ◌+◌, ◌-◌, ◌<◌, Bool, not, true, false, List, [], ◌∷◌, ◌++◌, map, length, length-drop, drop, take, get_or, refl, ap, sym, subst, ◌∙◌, append_assoc, append-nil, arith}
+use Rattle.std.proofs.Common.{◌≡◌, ℕ, zero, suc, ◌+◌, ◌-◌, ◌<◌, Bool, not, true, false, List, [], ◌∷◌, ◌++◌, map, length, length-drop, drop, take, get_or, refl}
+use Rattle.std.proofs.Common.{ap, sym, subst, ◌∙◌, append_assoc, append-nil, arith}
 use Rattle.std.proofs.lemmas.List.{drop_more}
 use Rattle.pas_bits.specs.Masks.{is_set}
 use Rattle.pas_bits.specs.declared.mask.Mask4.{Mask4}
 use Rattle.pas_profile.specs.declared.profile.Profile.{Profile}
 use Rattle.pas_machine.specs.Machines.{profile_of}
-use Rattle.pas_trace.specs.Acts.{Act, MarksPhase, Settles, act_kept, Wakes, active_threads, acts_from, acts_of, acts_of_chore, acts_of_op, acts_of_ops, acts_of_work, close_acts, idle_threads, is_active, phase_acts, threads_where}
+use Rattle.pas_trace.specs.Acts.{Act, MarksPhase, Settles, act_kept, Wakes, active_threads, acts_from, acts_of, acts_of_chore, acts_of_op, acts_of_ops}
+use Rattle.pas_trace.specs.Acts.{acts_of_work, close_acts, idle_threads, is_active, phase_acts, threads_where}
 use Rattle.pas_trace.specs.Asked.{work_of, of_task, keeper_of, keeper_in}
-use Rattle.pas_trace.specs.declared.plan.Chore.{Chore}
-use Rattle.pas_trace.specs.EveryPlan.{all_ops}
-use Rattle.pas_trace.specs.Plans.{ops_of}
-use Rattle.pas_trace.specs.declared.plan.Op.{Op}
-use Rattle.pas_trace.specs.declared.plan.Phase.{Phase}
-use Rattle.pas_trace.specs.declared.plan.Task.{Task}
-use Rattle.pas_trace.specs.declared.plan.What.TheVariants.{Alloc}
-use Rattle.pas_trace.specs.declared.plan.Work.{Work}
+use Rattle.pas_trace.specs.declared.plan.{Chore.Chore, Op.Op, Phase.Phase, Task.Task, What.TheVariants.Alloc, Work.Work}
+use Rattle.pas_trace.specs.{EveryPlan.all_ops, Plans.ops_of}
 use Rattle.pas_check.specs.Checks.{ActsTaken, ArePlanned, IsPlanned, IsSizedAs, TakenTo, threads_in}
-use Rattle.pas_check.specs.Leading.{StaysWithin}
-use Rattle.pas_check.specs.Tables.{names_held}
-use Rattle.pas_check.specs.Tasks.{ActTaken}
-use Rattle.pas_check.specs.declared.acting.Judge.{Judge}
-use Rattle.pas_check.specs.declared.cutting.Cursor.{Cursor}
+use Rattle.pas_check.specs.{Leading.StaysWithin, Tables.names_held, Tasks.ActTaken}
+use Rattle.pas_check.specs.declared.{acting.Judge.Judge, cutting.Cursor.Cursor}
 use Rattle.pas_check.proofs.ActsOfPlans.{planned_back, planned_front}
 use Rattle.pas_check.proofs.Chains.{act_taken, idly_taken, so_far_as, taken_as, taken_on, then_taken}
 use Rattle.pas_trace.proofs.ThreadsInOrder.{threads_alike}
@@ -95,13 +88,9 @@ pub phase_at : (threads keepers n : ℕ) (phases : List Phase) (i : ℕ) (d : Ph
     → acts_from threads keepers n (map ops_of (drop i phases)) ≡ MarksPhase n ∷ (phase_acts threads (ops_of (get_or phases i d)) ++ acts_from threads keepers (n + 1) (map ops_of (drop (i + 1) phases)))
 phase_at threads keepers n phases i d lt = ap (λ (ps : List Phase). acts_from threads keepers n (map ops_of ps)) (drop_more phases i d lt)
 
-pub first_phase : (threads keepers : ℕ) (phases : List Phase) (d : Phase) → 0 < length phases
+first_phase : (threads keepers : ℕ) (phases : List Phase) (d : Phase) → 0 < length phases
     → acts_of threads keepers (map ops_of phases) ≡ phase_acts threads (ops_of (get_or phases 0 d)) ++ acts_from threads keepers 2 (map ops_of (drop 1 phases))
 first_phase threads keepers phases d lt = ap (λ (ps : List Phase). acts_of threads keepers (map ops_of ps)) (drop_more phases 0 d lt)
-
-pub no_phase : (threads keepers : ℕ) (phases : List Phase) → length phases ≡ 0 → acts_of threads keepers (map ops_of phases) ≡ close_acts threads keepers
-no_phase threads keepers [] none = refl
-no_phase threads keepers (p ∷ ps) none = absurd (omega (arith, none))
 
 -- the same, of the profile and the names of another judge
 pub planned_as : (old new : Judge) (ops : List Op) → IsSizedAs old new → ArePlanned (profile_of old.machine) (names_held old.names) ops → ArePlanned (profile_of new.machine) (names_held new.names) ops
@@ -160,6 +149,3 @@ close_on keepers text old mid new from at to phases taken threads one two =
     let close : ActsTaken text mid at new to (close_acts n keepers) taken = subst (λ (m : ℕ). ActsTaken text mid at new to (close_acts m keepers) taken) threads two in
     taken_on text old mid new from at to (acts_of n keepers phases) (close_acts n keepers) [] taken one
     (taken_as text mid new at to taken (close_acts n keepers ++ []) (close_acts n keepers) [] [] (append-nil (close_acts n keepers)) refl (close []))
-
-pub close_amiss : (text : List ℕ) (old new : Judge) (from to : Cursor) (acts left rest : List Act) → TakenTo text old from new to acts left false → TakenTo text old from new to acts rest false
-close_amiss text old new from to acts left rest amiss = amiss

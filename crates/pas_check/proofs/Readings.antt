@@ -1,27 +1,18 @@
 -- THE LINE of a record is read as that record. So no two records whose numbers fit have one line.
-use Rattle.std.proofs.Common.{◌≡◌, ℕ, ◌^◌, ◌<◌, ◌==◌, Bool, true, false, List, [], ◌∷◌, ◌++◌, length, drop, codes, refl, ap, sym, ◌∙◌, arith}
+use Rattle.std.proofs.Common.{◌≡◌, ℕ, ◌^◌, ◌<◌, ◌==◌, Bool, true, false, List, [], ◌∷◌, ◌++◌, length, drop, codes, refl, ap, sym, ◌∙◌, arith, eqb-true}
 use Rattle.std.specs.Fmt.{decimal}
-use Rattle.pas_profile.specs.Classes.{IsClass, class_size}
-use Rattle.pas_profile.specs.Requests.{kind_of_route}
-use Rattle.pas_profile.specs.Routes.{route_of}
+use Rattle.pas_profile.specs.{Classes.IsClass, Classes.class_size, Requests.kind_of_route, Routes.route_of, Directories.IsKind, Blocks.address_of}
 use Rattle.pas_profile.proofs.Sizes.{class_passes, class_size_le}
-use Rattle.pas_profile.specs.Directories.{IsKind}
-use Rattle.std.proofs.lemmas.Bool.{and_parts, eqb-true, false≢true}
-use Rattle.std.proofs.lemmas.Bool.Decides.{nat_tests}
+use Rattle.std.proofs.lemmas.Bool.{and_parts, false≢true, Decides.nat_tests}
 use Rattle.pas_trace.specs.Numbers.{is_digit, all_digits}
 use Rattle.pas_generated.proofs.Digits.{are-digits}
-use Rattle.pas_profile.specs.declared.directory.Kind.{Kind}
-use Rattle.pas_profile.specs.declared.directory.Directory.{Directory}
-use Rattle.pas_profile.specs.declared.name.Name.{Name}
-use Rattle.pas_profile.specs.declared.name.Block.{Block}
-use Rattle.pas_profile.specs.declared.event.Event.{Event}
-use Rattle.pas_profile.specs.declared.event.Why.TheVariants as Why
-use Rattle.pas_profile.specs.Blocks.{address_of}
-use Rattle.pas_report.specs.declared.record.Said.{Said}
-use Rattle.pas_report.specs.declared.record.Record.{Record}
+use Rattle.pas_profile.specs.declared.{directory.Kind.Kind, directory.Directory.Directory, name.Name.Name, name.Block.Block, event.Event.Event, event.Why.Why}
+use Rattle.pas_report.specs.declared.record.{Said.Said, Record.Record}
 use Rattle.pas_report.specs.Lines.{hex_digits, kind_text, name_text, line_of, line_of_event, line_of_answer, CanShow}
 use Rattle.pas_check.specs.Ranges.{FitsName, FitsBlock, FitsEvent, FitsSaid, Fits}
-use Rattle.pas_check.specs.Readings.{number_at, past_digits, hex_after, byte_at, of_u8, of_u32, name_at, past_name, kind_at, directory_at, deed_at, back_at, unback_at, give_at, freed_at, held_at, in_use_at, young_at, size_differs_at, kept_at, guarded_at, lowered_at, word_at, record_at}
+use Rattle.pas_check.specs.Readings.{number_at, past_digits, hex_after, byte_at, of_u8, of_u32, name_at, past_name, kind_at, directory_at, deed_at, back_at}
+use Rattle.pas_check.specs.Readings.{unback_at, give_at, freed_at, held_at, in_use_at, young_at, size_differs_at, kept_at, guarded_at, lowered_at, word_at}
+use Rattle.pas_check.specs.Readings.{record_at}
 use Rattle.pas_check.proofs.Digits.{number_back, past_number, u8_back, u32_back, hex8_back, hex16_back}
 
 -- ---- names
@@ -35,7 +26,7 @@ past_is : (name : Name) (end : ℕ) (rest : List ℕ) → FitsName name → is_d
 past_is name end rest fits stops = past_number name.turn end rest fits.turn stops
 
 -- ---- kinds
-pub size_fits : (class : ℕ) → class_size class < 2 ^ 32
+size_fits : (class : ℕ) → class_size class < 2 ^ 32
 size_fits class = omega (arith, class_size_le class)
 
 abbrev is_of_class : Kind → ℕ → Bool
@@ -198,7 +189,7 @@ read_said k (Said.Guarded low high name) few fits =
 read_said k (Said.Lowered low high) few fits = by_actor k (codes "lowered " ++ (decimal low ++ (codes " " ++ (decimal high ++ codes "\n")))) few ∙ ap (Record.Said k) (lowered_is low high fits.0 fits.1)
 
 -- THE LINE is read as its record
-pub read_back : (r : Record) → Fits r → record_at (line_of r) ≡ r
+read_back : (r : Record) → Fits r → record_at (line_of r) ≡ r
 read_back (Record.Event e) fits = read_event e fits
 read_back (Record.Said k said) fits = read_said k said fits.0 fits.1
 read_back (Record.Phase n) fits = ap Record.Phase (u32_back n 10 [] fits refl)

@@ -1,21 +1,17 @@
 -- The lines of the report, one after the other.
-use Rattle.std.proofs.Common.{◌≡◌, ℕ, zero, suc, ◌+◌, ◌*◌, Bool, true, false, if◌then◌else◌, List, [], ◌∷◌, ◌++◌, Option, None, Some, refl, ap, sym, subst, ◌∙◌, arith, append_assoc}
-use Rattle.pas_profile.specs.declared.directory.Directory.{Directory}
-use Rattle.pas_profile.specs.declared.event.Event.{Event}
-use Rattle.pas_profile.specs.declared.profile.Profile.{Profile}
-use Rattle.pas_machine.specs.Laws.{IsCounted}
-use Rattle.pas_machine.specs.Machine.{Run}
+use Rattle.std.proofs.Common.{◌≡◌, ℕ, zero, suc, ◌+◌, ◌*◌, Bool, true, false, if◌then◌else◌, List, [], ◌∷◌, ◌++◌, Option, None, Some, refl, ap, sym, subst, ◌∙◌}
+use Rattle.std.proofs.Common.{arith, append_assoc}
+use Rattle.pas_profile.specs.declared.{directory.Directory.Directory, event.Event.Event, profile.Profile.Profile}
+use Rattle.pas_machine.specs.{Laws.IsCounted, Machine.Run}
 use Rattle.pas_machine.specs.State.{Live, deed_in, ends_in, gives_in, live_in}
 use Rattle.pas_machine.specs.Totals.{address_at, ended_total, given_total, has_block, live_total}
 use Rattle.pas_machine.proofs.LiveBlocks.{all_counted}
 use Rattle.pas_report.specs.Reports.{total_line, totals_text}
 use Rattle.pas_report.proofs.Counting.{sum_and_count, sum_same}
-use Rattle.pas_check.specs.Begins.{page_due, pages_due}
+use Rattle.pas_check.specs.{Begins.page_due, Begins.pages_due, Shown.TellsTotals}
 use Rattle.pas_check.specs.Leading.{IsJustLine, IsLed, IsWithin, Leads}
-use Rattle.pas_check.specs.Shown.{TellsTotals}
 use Rattle.pas_check.specs.States.{Due, Shows, Totals, Stand, with_due}
-use Rattle.pas_check.specs.declared.cutting.Cursor.{Cursor}
-use Rattle.pas_check.specs.declared.reporting.Totalled.{Totalled}
+use Rattle.pas_check.specs.declared.{cutting.Cursor.Cursor, reporting.Totalled.Totalled}
 use Rattle.pas_check.proofs.Leads.{just_led, leads_fails, leads_nowhere, leads_on}
 
 -- ---- two stretches, the first of which was taken
@@ -72,7 +68,7 @@ pages_last es k (suc n) more is = absurd (omega (arith, is))
 -- ---- the totals
 counted : (o : Option Live) (gives ends : ℕ) → IsCounted o gives ends → gives ≡ ends + (if has_block o then 1 else 0)
 counted None gives ends is = omega (arith, is)
-counted (Some b) gives ends is = let same = is.0 in omega (arith, same)
+counted (Some b) gives ends is = omega (arith, is.0)
 
 pub given_is : (f : Profile) (es : List Event) → Run f es → given_total f es ≡ ended_total f es + live_total f es
 given_is f es run =
@@ -84,8 +80,6 @@ pub totals_led : (f : Profile) (text : List ℕ) (s : Stand) (more : List Due) (
     → IsJustLine text old new wanted is → IsLed f text s old (with_due s more) new is
 totals_led f text s more totals old new wanted is run tells made due count just =
     let given = given_is f s.events run in
-    let live = tells.live in
-    let ended = tells.ended in
-    let sum : totals.ended + totals.live ≡ given_total f s.events = omega (arith, given, live, ended) in
+    let sum : totals.ended + totals.live ≡ given_total f s.events = omega (arith, given, tells.live, tells.ended) in
     let same : wanted ≡ total_line f s.events = made ∙ (λ t. totals_text (tells.deeds t) (tells.backed t) (tells.live t) (sum t) (tells.ended t)) in
     just_led f s Totals more due refl text old (total_line f s.events) (λ line next. (λ x. x, λ x. x)) new count is (subst (λ (l : List ℕ). IsJustLine text old new l is) same just)

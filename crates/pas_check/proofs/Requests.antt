@@ -1,22 +1,16 @@
 -- The lines of a request, one after the other.
 use Rattle.std.proofs.Common.{◌≡◌, ℕ, ◌+◌, ◌^◌, ◌<◌, ◌⊎◌, true, false, List, [], ◌∷◌, Option, None, Some, inl, inr, refl, ap, sym, subst, ◌∙◌, arith}
-use Rattle.pas_profile.specs.Directories.{IsKind}
-use Rattle.pas_profile.specs.Profiles.{IsValid}
-use Rattle.pas_profile.specs.declared.directory.Directory.{Directory}
-use Rattle.pas_profile.specs.declared.event.Event.{Event}
-use Rattle.pas_profile.specs.declared.name.Block.{Block}
-use Rattle.pas_profile.specs.declared.name.Name.{Name}
+use Rattle.pas_profile.specs.{Directories.IsKind, Profiles.IsValid}
+use Rattle.pas_profile.specs.declared.{directory.Directory.Directory, event.Event.Event, name.Block.Block, name.Name.Name}
 use Rattle.pas_machine.specs.Machines.{profile_of, StandsFor}
 use Rattle.pas_machine.specs.declared.machine.Machine.{Machine}
 use Rattle.pas_trace.specs.declared.item.Request.{Request}
-use Rattle.pas_check.specs.Bounds.{FitsRequest, IsSmall}
-use Rattle.pas_check.specs.Begins.{replacing}
+use Rattle.pas_check.specs.{Bounds.FitsRequest, Bounds.IsSmall, Begins.replacing}
 use Rattle.pas_check.specs.Calls.{EndingTaken, IsAsked, IsWanted, PreparingTaken, RequestGoes, RequestTaken, after_request}
 use Rattle.pas_check.specs.Leading.{Fails, IsWithin, Leads, lines_from}
 use Rattle.pas_check.specs.States.{Due, Serves, Stand, with_due, with_name, with_one}
 use Rattle.pas_check.specs.Takes.{IsPreparing, TakesGive, TakesPreparing, TakesRefusal, TakesRequest, directory_of}
-use Rattle.pas_check.specs.declared.cutting.Cursor.{Cursor}
-use Rattle.pas_check.specs.declared.serving.Wanted.{Wanted}
+use Rattle.pas_check.specs.declared.{cutting.Cursor.Cursor, serving.Wanted.Wanted}
 use Rattle.pas_check.proofs.Kept.{EndsBy, kept_more, kept_same, small_of}
 use Rattle.pas_check.proofs.Leads.{due_lacks, due_refused, due_taken, leads_fails, leads_nowhere, leads_on}
 use Rattle.pas_check.proofs.OneNext.{one_next}
@@ -60,7 +54,7 @@ module _ (old : Machine) (text : List ℕ) (from : Cursor) (k : ℕ) (w : Wanted
 
         small : IsSmall (profile_of old) t
         small = small_of (profile_of old) mid t at same valid (before s r replaced more asked).3 (before s r replaced more asked).4 low
-            (let e = t_epoch in let less = asked.epoch in omega (arith, e, less))
+            (omega (arith, t_epoch, asked.epoch))
 
         one : (a c : Stand) → TakesRequest (profile_of old) t k r replaced more line a → TakesRequest (profile_of old) t k r replaced more line c → a ≡ c
         one a c x y = one_next (profile_of old) t small (Serves k r replaced ∷ more) asked.fits line a c x y

@@ -1,30 +1,19 @@
 -- Gives and refusals of a request, taken or not.
-use Rattle.std.specs.Prelude.{MatchBool}
-use Rattle.std.proofs.Common.{◌≡◌, ◌≢◌, ℕ, ◌+◌, ◌*◌, ◌-◌, ◌/◌, ◌^◌, ◌<◌, ◌≤◌, nat_le, nat_lt, Bool, true, false, List, Option, Some, None, inl, inr, refl, ap, subst, ◌∙◌, arith}
-use Rattle.std.proofs.lemmas.Bool.{leb-true, ltb-true, le-leb, lt-ltb, and_from, and_parts, cases_lt}
-use Rattle.std.proofs.lemmas.Option.{none-some}
-use Rattle.pas_profile.specs.Classes.{IsClass}
-use Rattle.pas_profile.specs.Directories.{IsKind}
-use Rattle.pas_profile.specs.Profiles.{IsPage}
-use Rattle.pas_profile.specs.Requests.{kind_of_class, route_in}
-use Rattle.pas_profile.specs.Routes.{IsRouteOf}
+use Rattle.std.proofs.Common.{MatchBool, ◌≡◌, ◌≢◌, ℕ, ◌+◌, ◌*◌, ◌-◌, ◌/◌, ◌^◌, ◌<◌, ◌≤◌, nat_le, nat_lt, Bool, true, false, List, Option, Some, None, inl, inr}
+use Rattle.std.proofs.Common.{refl, ap, subst, ◌∙◌, arith, leb-true, ltb-true, le-leb, lt-ltb}
+use Rattle.std.proofs.lemmas.{Bool.and_from, Bool.and_parts, Bool.cases_lt, Option.none-some}
+use Rattle.pas_profile.specs.{Classes.IsClass, Directories.IsKind, Profiles.IsPage, Requests.kind_of_class, Requests.route_in, Routes.IsRouteOf}
+use Rattle.pas_profile.specs.{Blocks.grain_of, Blocks.length_of}
 use Rattle.pas_bits.specs.Runs.{in_run}
-use Rattle.pas_profile.specs.Blocks.{grain_of, length_of}
-use Rattle.pas_profile.specs.declared.directory.Directory.{Directory}
-use Rattle.pas_profile.specs.declared.directory.Route.TheVariants.{Class}
-use Rattle.pas_profile.specs.declared.event.Event.{Event}
-use Rattle.pas_profile.specs.declared.name.Block.{Block}
-use Rattle.pas_profile.specs.declared.profile.Profile.{Profile}
-use Rattle.pas_machine.specs.Machines.{profile_of, StandsFor}
-use Rattle.pas_machine.specs.Places.{IsEach}
-use Rattle.pas_machine.specs.State.{deed_in}
+use Rattle.pas_profile.specs.declared.{directory.Directory.Directory, directory.Route.TheVariants.Class, event.Event.Event, name.Block.Block}
+use Rattle.pas_profile.specs.declared.{profile.Profile.Profile}
+use Rattle.pas_machine.specs.{Machines.profile_of, Machines.StandsFor, Places.IsEach, State.deed_in}
 use Rattle.pas_machine.specs.declared.machine.Machine.{Machine}
 use Rattle.pas_report.specs.Lines.{line_of, line_of_event}
 use Rattle.pas_report.specs.declared.record.Record.{Record}
 use Rattle.pas_trace.specs.declared.item.Request.{Request}
 use Rattle.pas_check.specs.Calls.{GiveTaken, IsGiven, IsWanted, LiesOn, RefusalSeen, RefusesBy}
-use Rattle.pas_check.specs.Ranges.{Fits, FitsEvent}
-use Rattle.pas_check.specs.States.{Stand}
+use Rattle.pas_check.specs.{Ranges.Fits, Ranges.FitsEvent, States.Stand}
 use Rattle.pas_check.specs.declared.serving.Wanted.{Wanted}
 use Rattle.pas_profile.proofs.ClassFacts.{class_known, route_is}
 use Rattle.pas_check.proofs.OneNext.{deed_page, gives_fits, refusal_fits}

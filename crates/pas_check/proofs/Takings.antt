@@ -1,27 +1,16 @@
 -- Lines that the machine judges, taken or not.
-use Rattle.std.proofs.Common.{◌≡◌, ◌≢◌, ℕ, ◌^◌, ◌<◌, ◌≤◌, Bool, true, false, List, Option, Some, None, inl, inr, refl, ap, sym, subst, ◌∙◌, arith}
-use Rattle.std.specs.Prelude.{Result, Ok, Err, IfOk, IfSome}
+use Rattle.std.proofs.Common.{◌≡◌, ◌≢◌, ℕ, ◌^◌, ◌<◌, ◌≤◌, Bool, true, false, List, Option, Some, None, inl, inr, refl, ap, sym, subst, ◌∙◌, arith, Result, Ok}
+use Rattle.std.proofs.Common.{Err, IfOk, IfSome}
 use Rattle.std.proofs.lemmas.Option.{none-some, same_Some}
-use Rattle.pas_profile.specs.declared.profile.Profile.{Profile}
-use Rattle.pas_profile.specs.Directories.{IsKind}
-use Rattle.pas_profile.specs.Profiles.{IsPage, IsValid}
-use Rattle.pas_profile.specs.declared.directory.Directory.{Directory}
-use Rattle.pas_profile.specs.declared.event.Event.{Event}
-use Rattle.pas_profile.specs.declared.event.Why.{Why}
-use Rattle.pas_profile.specs.Blocks.{address_of}
-use Rattle.pas_machine.specs.Machine.{Admits, IsPlace}
-use Rattle.pas_machine.specs.Machines.{profile_of, StandsFor}
-use Rattle.pas_machine.specs.State.{deed_in, backed_in}
-use Rattle.pas_machine.specs.Reasons.{IsFirst}
-use Rattle.pas_machine.specs.declared.fault.Illegal.{Illegal}
-use Rattle.pas_machine.specs.declared.machine.Machine.{Machine}
+use Rattle.pas_profile.specs.declared.{profile.Profile.Profile, directory.Directory.Directory, event.Event.Event, event.Why.Why}
+use Rattle.pas_profile.specs.{Directories.IsKind, Profiles.IsPage, Profiles.IsValid, Blocks.address_of}
+use Rattle.pas_machine.specs.{Machine.Admits, Machine.IsPlace, Machines.profile_of, Machines.StandsFor, State.deed_in, State.backed_in, Reasons.IsFirst}
+use Rattle.pas_machine.specs.declared.{fault.Illegal.Illegal, machine.Machine.Machine}
 use Rattle.pas_machine.proofs.Verdicts.{never_of}
 use Rattle.pas_report.specs.Lines.{line_of, line_of_event}
 use Rattle.pas_report.specs.declared.record.Record.{Record}
 use Rattle.pas_check.specs.Calls.{event_in, IsStepped, EntryTaken, PreparingTaken}
-use Rattle.pas_check.specs.Ranges.{FitsEvent, FitsWhy}
-use Rattle.pas_check.specs.States.{Stand}
-use Rattle.pas_check.specs.Takes.{MayRefuse, IsEventOf, IsPreparing}
+use Rattle.pas_check.specs.{Ranges.FitsEvent, Ranges.FitsWhy, States.Stand, Takes.MayRefuse, Takes.IsEventOf, Takes.IsPreparing}
 use Rattle.pas_check.specs.declared.entry.Entry.{Entry}
 use Rattle.pas_check.proofs.Entries.{one_event}
 
@@ -33,7 +22,7 @@ not_stepped machine e reason first es stands admitted = never_of (profile_of mac
 pub why_fits : (entry : Entry) (why : Why) → entry.room < 2 ^ 32 → MayRefuse entry why → FitsWhy why
 why_fits entry Why.Ended room may = tt
 why_fits entry Why.NoBlock room may = tt
-why_fits entry (Why.SizeDiffers asked) room may = let same = may.1 in omega (arith, same, room)
+why_fits entry (Why.SizeDiffers asked) room may = omega (arith, may.1, room)
 
 -- the event of an entry is of a grain of the region, where it may come
 entry_place : (f : Profile) (s : Stand) (k : ℕ) (entry : Entry) (e : Event) → IsEventOf s k entry e → Admits f s.events e → IsPlace f (address_of entry.name)

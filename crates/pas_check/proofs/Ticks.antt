@@ -1,16 +1,10 @@
 -- Steps that aren't ticks leave the epoch as it is.
-use Rattle.std.proofs.Common.{◌≡◌, ℕ, Bool, true, false, if◌then◌else◌, List, [], ◌∷◌, ◌++◌, refl, ◌∙◌}
-use Rattle.std.proofs.lemmas.Bool.{true≢false}
+use Rattle.std.proofs.Common.{◌≡◌, ℕ, Bool, true, false, if◌then◌else◌, List, [], ◌∷◌, ◌++◌, refl, ◌∙◌, true≢false}
 use Rattle.pas_profile.specs.Layouts.{same_word}
-use Rattle.pas_profile.specs.declared.word.Word.TheVariants as Word
-use Rattle.pas_steps.specs.Desks.{triples}
-use Rattle.pas_steps.specs.Effects.{target, new_value}
+use Rattle.pas_profile.specs.declared.word.Word.{Word}
+use Rattle.pas_steps.specs.{Desks.triples, Effects.target, Effects.new_value, Lists.Whole, Lists.part, Lists.word_after, Views.epoch_of}
 use Rattle.pas_steps.specs.Kinds.{Kinds, Ticking, Only, kind_of, is_in, apart, place_of}
-use Rattle.pas_steps.specs.Lists.{Whole, part, word_after}
-use Rattle.pas_steps.specs.Views.{epoch_of}
-use Rattle.pas_steps.specs.declared.step.Made.{Made}
-use Rattle.pas_steps.specs.declared.step.Step.{Step}
-use Rattle.pas_steps.specs.declared.step.Step.TheVariants.{Look, Tick}
+use Rattle.pas_steps.specs.declared.step.{Made.Made, Step.Step, Step.TheVariants.Look, Step.TheVariants.Tick}
 use Rattle.pas_steps.proofs.Apart.{in_apart}
 
 same_both : (t : Bool) (x : ℕ) → (if t then x else x) ≡ x

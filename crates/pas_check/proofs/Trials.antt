@@ -2,26 +2,19 @@
 use Rattle.std.proofs.Common.{◌≡◌, ℕ, ◌+◌, ◌^◌, ◌<◌, ◌⊎◌, ◌↔◌, Bool, true, false, List, [], ◌∷◌, None, Some, inl, inr, refl, ap, sym, subst, ◌∙◌, arith}
 use Rattle.std.proofs.lemmas.Bool.{false≢true}
 use Rattle.pas_profile.specs.Profiles.{IsValid}
-use Rattle.pas_profile.specs.declared.event.Event.{Event}
-use Rattle.pas_profile.specs.declared.name.Block.{Block}
+use Rattle.pas_profile.specs.declared.{event.Event.Event, name.Block.Block}
 use Rattle.pas_machine.specs.Machines.{profile_of, StandsFor}
 use Rattle.pas_machine.specs.declared.machine.Machine.{Machine}
 use Rattle.pas_trace.specs.declared.item.Request.{Request}
-use Rattle.pas_check.specs.Begins.{has_sides, raising}
-use Rattle.pas_check.specs.Bounds.{FitsRequest, IsKept, IsSmall}
+use Rattle.pas_check.specs.{Begins.has_sides, Begins.raising, Bounds.FitsRequest, Bounds.IsKept, Bounds.IsSmall, Ranges.FitsEvent}
 use Rattle.pas_check.specs.Calls.{BacksBy, GiveTaken, IsTrying, IsWanted, PreparingTaken, TrialEnded, TrialGoes, TrialStays, TrialTaken, trying}
 use Rattle.pas_check.specs.Leading.{Fails, IsWithin, Leads, lines_from}
-use Rattle.pas_check.specs.Ranges.{FitsEvent}
 use Rattle.pas_check.specs.States.{Due, Serves, Tries, Stand, with_due, with_name, with_one}
 use Rattle.pas_check.specs.Takes.{TakesGive, TakesGuarded, TakesKeeping, TakesPreparing, TakesTry, Takes, directory_of, serving}
-use Rattle.pas_check.specs.declared.cutting.Cursor.{Cursor}
-use Rattle.pas_check.specs.declared.guarding.Trial.{Trial}
-use Rattle.pas_check.specs.declared.guarding.Trial.TheVariants.{Gives, Passes, Stops}
-use Rattle.pas_check.specs.declared.serving.Wanted.{Wanted}
-use Rattle.pas_check.proofs.Kept.{kept_more, kept_same, small_of}
+use Rattle.pas_check.specs.declared.{cutting.Cursor.Cursor, guarding.Trial.Trial, guarding.Trial.TheVariants.Gives, guarding.Trial.TheVariants.Passes}
+use Rattle.pas_check.specs.declared.{guarding.Trial.TheVariants.Stops, serving.Wanted.Wanted}
+use Rattle.pas_check.proofs.{Kept.kept_more, Kept.kept_same, Kept.small_of, OneNext.one_next, OneNext.prepares_fits, Requests.prepares_by}
 use Rattle.pas_check.proofs.Leads.{IsSameAt, due_lacks, due_refused, due_taken, due_takes, leads_fails, leads_idly, leads_nowhere, leads_on, takes_due, undone}
-use Rattle.pas_check.proofs.OneNext.{one_next, prepares_fits}
-use Rattle.pas_check.proofs.Requests.{prepares_by}
 
 -- what was due before a guard is raised has no part in it
 raise_due : (sides : Bool) (v : Stand) (due : List Due) (keeper name : ℕ) (block : Block) (more : List Due) → raising sides (with_due v due) keeper name block more ≡ raising sides v keeper name block more
@@ -123,7 +116,7 @@ module _ (old : Machine) (text : List ℕ) (from : Cursor) (keeper : ℕ) (w : W
             kept_more (record s { events = give ∷ b.0 }) u at to give refl refl count tt (t_kept s k r more asked),
           )
 
-      pub trial_gives : (stood new : Machine) → IsWithin text to → PreparingTaken mid stood keeper w.directory line false → (block : Block) → GiveTaken stood new keeper w line (Some block)
+      trial_gives : (stood new : Machine) → IsWithin text to → PreparingTaken mid stood keeper w.directory line false → (block : Block) → GiveTaken stood new keeper w line (Some block)
           → TrialTaken old new text from to keeper w (Gives block)
       trial_gives stood new within none block given = gives_there new within block (subst (λ (m : Machine). GiveTaken m new keeper w line (Some block)) none.0 given)
 
@@ -143,7 +136,7 @@ module _ (old : Machine) (text : List ℕ) (from : Cursor) (keeper : ℕ) (w : W
           here.1 u r None more after (wants_mid r asked.wants) (subst (λ g. IsSmall g u) (sym same) (small s k r more asked)) (subst (λ g. FitsRequest g keeper r) (sym same) asked.fits.kept)
           (before s k r more asked).2 (subst (λ g. TakesGive g u keeper r None more line after) (sym same) takes)
 
-      pub trial_stops : (stood new : Machine) → PreparingTaken mid stood keeper w.directory line false → GiveTaken stood new keeper w line None → backed ≡ true → TrialTaken old new text from to keeper w Stops
+      trial_stops : (stood new : Machine) → PreparingTaken mid stood keeper w.directory line false → GiveTaken stood new keeper w line None → backed ≡ true → TrialTaken old new text from to keeper w Stops
       trial_stops stood new none given has_backed s k r more asked = fails_to s k r more asked never
         where
           never : (next : Stand) → TakesTry (profile_of old) (t s k r more asked) keeper k r backed more line next → ⊥
@@ -165,7 +158,7 @@ module _ (old : Machine) (text : List ℕ) (from : Cursor) (keeper : ℕ) (w : W
         passes_back none_backed x = due_takes (profile_of old) (t s k r more asked) (Tries keeper k r backed) more refl refl line next
             (inr (inr (none_backed, takes_due (profile_of old) (serving (t s k r more asked) k r more) (Serves k r None) more refl refl line next x)))
 
-      pub trial_passes : (stood new : Machine) → IsWithin text at → PreparingTaken mid stood keeper w.directory line false → GiveTaken stood new keeper w line None → backed ≡ false
+      trial_passes : (stood new : Machine) → IsWithin text at → PreparingTaken mid stood keeper w.directory line false → GiveTaken stood new keeper w line None → backed ≡ false
           → TrialTaken old new text from to keeper w (Passes at)
       trial_passes stood new within none given none_backed s k r more asked =
           let f = profile_of old in

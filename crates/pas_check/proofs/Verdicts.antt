@@ -3,14 +3,12 @@ use Rattle.std.proofs.Common.{◌≡◌, ℕ, zero, suc, ◌+◌, ◌<◌, ◌�
 use Rattle.std.proofs.lemmas.Bool.{cases_lt}
 use Rattle.pas_profile.specs.declared.profile.Profile.{Profile}
 use Rattle.pas_trace.specs.declared.plan.Plan.{Plan}
-use Rattle.pas_check.specs.Lines.{lines_in}
-use Rattle.pas_check.specs.States.{Stand, at_first}
+use Rattle.pas_check.specs.{Lines.lines_in, States.Stand, States.at_first}
 use Rattle.pas_check.specs.Accepted.{MayGo, IsWhole, IsStopped, IsVerdict}
-use Rattle.pas_check.specs.declared.verdict.Verdict.{Verdict}
-use Rattle.pas_check.specs.declared.verdict.Verdict.TheVariants.{Yes, No}
+use Rattle.pas_check.specs.declared.verdict.Verdict.{Verdict, TheVariants.Yes, TheVariants.No}
 
 -- where lines may come, a first part of them may
-pub goes_front : (n : ℕ) (f : Profile) (s : Stand) (lines : List (List ℕ)) → MayGo f s lines → MayGo f s (take n lines)
+goes_front : (n : ℕ) (f : Profile) (s : Stand) (lines : List (List ℕ)) → MayGo f s lines → MayGo f s (take n lines)
 goes_front zero f s lines go = (s, refl)
 goes_front (suc n) f s [] go = go
 goes_front (suc n) f s (line ∷ lines) go =

@@ -3,34 +3,22 @@ use Rattle.std.proofs.Common.{◌≡◌, ℕ, ◌+◌, ◌^◌, ◌<◌, ◌≤�
 use Rattle.std.proofs.lemmas.List.{length-map}
 use Rattle.pas_profile.specs.declared.profile.Profile.{Profile}
 use Rattle.pas_machine.specs.Machines.{profile_of}
-use Rattle.pas_trace.specs.Acts.{acts_of, keepers_of}
-use Rattle.pas_trace.specs.EveryPlan.{all_ops}
-use Rattle.pas_trace.specs.Plans.{IsPlanOf, ops_of, phases_of}
-use Rattle.pas_trace.specs.declared.plan.Phase.{Phase}
-use Rattle.pas_trace.specs.declared.plan.Plan.{Plan}
-use Rattle.pas_trace.proofs.EveryPlan.{every_plan}
-use Rattle.pas_trace.proofs.Keepers.{keepers_few}
-use Rattle.pas_check.specs.Accepted.{IsStopped, IsVerdict, IsWhole}
-use Rattle.pas_check.specs.Begins.{after_task}
+use Rattle.pas_trace.specs.{Acts.acts_of, Acts.keepers_of, EveryPlan.all_ops, Plans.IsPlanOf, Plans.ops_of, Plans.phases_of}
+use Rattle.pas_trace.specs.declared.plan.{Phase.Phase, Plan.Plan}
+use Rattle.pas_trace.proofs.{EveryPlan.every_plan, Keepers.keepers_few}
+use Rattle.pas_check.specs.{Accepted.IsStopped, Accepted.IsVerdict, Accepted.IsWhole, Begins.after_task, Shown.IsKnown, Tables.names_held, Takes.Takes}
 use Rattle.pas_check.specs.Checks.{ArePlanned, IsOpened, IsSoFar, TakenTo, opening, threads_in}
 use Rattle.pas_check.specs.Leading.{Fails, IsLed, IsWithin, Leads, lines_from}
-use Rattle.pas_check.specs.Shown.{IsKnown}
 use Rattle.pas_check.specs.States.{Reports, Stand, at_first, with_due}
-use Rattle.pas_check.specs.Tables.{names_held}
-use Rattle.pas_check.specs.Takes.{Takes}
-use Rattle.pas_check.specs.declared.acting.Judge.{Judge}
-use Rattle.pas_check.specs.declared.cutting.Cursor.{Cursor}
-use Rattle.pas_check.specs.declared.verdict.Verdict.TheVariants.{Yes, No}
-use Rattle.pas_check.proofs.ActsOfPlans.{acts_fit, all_planned}
-use Rattle.pas_check.proofs.Beginnings.{begun_alike}
-use Rattle.pas_check.proofs.Chains.{so_far_as}
+use Rattle.pas_check.specs.declared.{acting.Judge.Judge, cutting.Cursor.Cursor, verdict.Verdict.TheVariants.Yes, verdict.Verdict.TheVariants.No}
+use Rattle.pas_check.proofs.{ActsOfPlans.acts_fit, ActsOfPlans.all_planned, Beginnings.begun_alike, Chains.so_far_as}
 use Rattle.pas_check.proofs.Leads.{fails_line, leads_alike, leads_fails, leads_nowhere, leads_on}
 
 -- ---- a plan's operations
 pub plan_few : (text : List ℕ) (plan : Plan) → IsPlanOf text plan → length text ≤ 16777216 → length (phases_of plan.phases) < 2 ^ 31
 plan_few text plan is short = let few = (every_plan is).phases in omega (arith, few, short)
 
-pub plan_planned : (text : List ℕ) (plan : Plan) → IsPlanOf text plan → ArePlanned plan.profile plan.names_limit (all_ops (map ops_of (phases_of plan.phases)))
+plan_planned : (text : List ℕ) (plan : Plan) → IsPlanOf text plan → ArePlanned plan.profile plan.names_limit (all_ops (map ops_of (phases_of plan.phases)))
 plan_planned text plan is =
     all_planned plan.profile plan.names_limit plan.guard [] (all_ops (map ops_of (phases_of plan.phases))) (every_plan is).valid.threads (every_plan is).operations (every_plan is).names (every_plan is).keepers
 
@@ -47,7 +35,7 @@ opening_within transcript = record { bytes = omega arith; lines = omega arith }
 -- ---- the check begins
 module _ (text : List ℕ) (plan : Plan) (transcript : List ℕ) (judge : Judge) (is : IsPlanOf text plan) (short : length text ≤ 16777216) (opened : IsOpened plan judge)
     (within : IsWithin transcript opening) where
-  pub so_far : IsSoFar plan.profile transcript (at_first plan) judge opening (acts_of plan.profile.threads (keepers_of plan) (map ops_of (phases_of plan.phases)))
+  so_far : IsSoFar plan.profile transcript (at_first plan) judge opening (acts_of plan.profile.threads (keepers_of plan) (map ops_of (phases_of plan.phases)))
   so_far =
       let few = plan_few text plan is short in
       let same = length-map (phases_of plan.phases) ops_of in
@@ -61,9 +49,9 @@ module _ (text : List ℕ) (plan : Plan) (transcript : List ℕ) (judge : Judge)
       }
 
 -- ---- the first line that isn't allowed
-pub no_verdict : (plan : Plan) (transcript : List ℕ) (n : ℕ) → Fails plan.profile transcript (at_first plan) opening n → IsVerdict plan transcript (No n)
+no_verdict : (plan : Plan) (transcript : List ℕ) (n : ℕ) → Fails plan.profile transcript (at_first plan) opening n → IsVerdict plan transcript (No n)
 no_verdict plan transcript n fails =
-    let e : fails.further ≡ n = (let is = fails.number_is in omega (arith, is)) in
+    let e : fails.further ≡ n = (omega (arith, fails.number_is)) in
     subst (λ (m : ℕ). IsStopped plan.profile (at_first plan) (lines_from transcript opening) m) e fails.stopped
 
 -- ---- the acts
@@ -92,7 +80,7 @@ module _ (plan : Plan) (transcript : List ℕ) (judge : Judge) (at : Cursor) (so
   known low = record {
     events = so.stand.events;
     stands = so.stands.events;
-    few = (let few = so.stands.kept.few in omega (arith, few, low));
+    few = (omega (arith, so.stands.kept.few, low));
     kinds = so.stands.kept.kinds;
   }
 

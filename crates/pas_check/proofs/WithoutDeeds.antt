@@ -1,23 +1,17 @@
 -- On a page without a deed no block was ever given; and the blocks of a region are those of its pages.
-use Rattle.std.proofs.Common.{◌≡◌, ◌≢◌, ℕ, zero, suc, ◌+◌, ◌*◌, ◌/◌, ◌%◌, ◌<◌, ◌==◌, Bool, true, false, if◌then◌else◌, List, [], ◌∷◌, Option, None, Some, refl, ap, sym, ◌∙◌, arith, add-zero, add-suc}
-use Rattle.std.proofs.lemmas.Bool.{eqb-true}
+use Rattle.std.proofs.Common.{◌≡◌, ◌≢◌, ℕ, zero, suc, ◌+◌, ◌*◌, ◌/◌, ◌%◌, ◌<◌, ◌==◌, Bool, true, false, if◌then◌else◌, List, [], ◌∷◌, Option, None, Some, refl}
+use Rattle.std.proofs.Common.{ap, sym, ◌∙◌, arith, add-zero, add-suc, eqb-true}
 use Rattle.std.proofs.lemmas.Option.{none-some}
 use Rattle.pas_bits.specs.Bits.{count_below}
-use Rattle.pas_bits.proofs.Counts.{count_add, count_same, count_suc}
+use Rattle.pas_bits.proofs.{Counts.count_add, Counts.count_same, Counts.count_suc, Runs.first_of_run}
 use Rattle.pas_profile.specs.Blocks.{address_of, grain_of, length_of}
-use Rattle.pas_profile.specs.declared.directory.Directory.{Directory}
-use Rattle.pas_profile.specs.declared.event.Event.{Event}
-use Rattle.pas_profile.specs.declared.name.Block.{Block}
-use Rattle.pas_profile.specs.declared.profile.Profile.{Profile}
-use Rattle.pas_machine.specs.Laws.{IsCounted}
-use Rattle.pas_machine.specs.Machine.{MayGive, Run}
+use Rattle.pas_profile.specs.declared.{directory.Directory.Directory, event.Event.Event, name.Block.Block, profile.Profile.Profile}
+use Rattle.pas_machine.specs.{Laws.IsCounted, Machine.MayGive, Machine.Run, Totals.address_at, Totals.has_block, Totals.sum_below}
 use Rattle.pas_machine.specs.State.{Live, deed_in, ends_in, gives_in, live_in}
-use Rattle.pas_machine.specs.Totals.{address_at, has_block, sum_below}
 use Rattle.pas_machine.proofs.LiveBlocks.{all_counted}
 use Rattle.pas_report.proofs.Counting.{grains_counted, sum_same}
 use Rattle.pas_report.specs.Reports.{live_on}
 use Rattle.pas_check.specs.Shown.{given_on}
-use Rattle.pas_bits.proofs.Runs.{first_of_run}
 
 -- ---- a block is given only where there is a deed
 deed_under : (f : Profile) (es : List Event) (block : Block) → MayGive f es block → deed_in es (address_of block.name / 4096) ≢ None
@@ -47,7 +41,7 @@ no_block f es run a none = counted (live_in es a) (all_counted f es run a)
   where
     counted : (o : Option Live) → IsCounted o (gives_in es a) (ends_in es a) → has_block o ≡ false
     counted None is = refl
-    counted (Some b) is = let more = is.0 in let never = no_gives f es run a none in absurd (omega (arith, more, never))
+    counted (Some b) is = let never = no_gives f es run a none in absurd (omega (arith, is.0, never))
 
 -- ---- counts and sums
 none_counted : (n : ℕ) (p : ℕ → Bool) → ((i : ℕ) → i < n → p i ≡ false) → count_below n p ≡ 0

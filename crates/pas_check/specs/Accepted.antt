@@ -2,12 +2,8 @@
 use Rattle.std.specs.Prelude.{ℕ, ◌+◌, ◌<◌, ◌≡◌, ◌⊎◌, List, [], ◌∷◌, length, take}
 use Rattle.pas_profile.specs.declared.profile.Profile.{Profile}
 use Rattle.pas_trace.specs.declared.plan.Plan.{Plan}
-use Rattle.pas_check.specs.Lines.{lines_in}
-use Rattle.pas_check.specs.States.{Stand, at_first}
-use Rattle.pas_check.specs.Begins.{ready}
-use Rattle.pas_check.specs.Takes.{Takes}
-use Rattle.pas_check.specs.declared.verdict.Verdict.{Verdict}
-use Rattle.pas_check.specs.declared.verdict.Verdict.TheVariants.{Yes, No}
+use Rattle.pas_check.specs.{Lines.lines_in, States.Stand, States.at_first, Begins.ready, Takes.Takes}
+use Rattle.pas_check.specs.declared.verdict.Verdict.{Verdict, TheVariants.Yes, TheVariants.No}
 
 -- each of the lines may come after those before it
 abbrev pub Goes : Profile → Stand → List (List ℕ) → Stand → Type 0

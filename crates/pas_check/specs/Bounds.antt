@@ -1,19 +1,13 @@
 -- States whose numbers fit, as those of each check do.
 use Rattle.std.specs.Prelude.{ℕ, ◌^◌, ◌<◌, ◌≤◌, ◌≡◌, ◌≢◌, ◌⊎◌, List, [], ◌∷◌, Some, length}
-use Rattle.pas_profile.specs.Directories.{IsKind}
-use Rattle.pas_profile.specs.Profiles.{IsValid}
-use Rattle.pas_profile.specs.Requests.{room_in}
-use Rattle.pas_profile.specs.declared.directory.Directory.{Directory}
-use Rattle.pas_profile.specs.declared.name.Block.{Block}
-use Rattle.pas_profile.specs.declared.profile.Profile.{Profile}
-use Rattle.pas_machine.specs.Machine.{Run}
-use Rattle.pas_machine.specs.State.{deed_in, gives_in, epoch_in}
+use Rattle.pas_profile.specs.{Directories.IsKind, Profiles.IsValid, Requests.room_in}
+use Rattle.pas_profile.specs.declared.{directory.Directory.Directory, name.Block.Block, profile.Profile.Profile}
+use Rattle.pas_machine.specs.{Machine.Run, State.deed_in, State.gives_in, State.epoch_in}
 use Rattle.pas_report.specs.declared.record.Record.{Record}
 use Rattle.pas_trace.specs.declared.item.Request.{Request}
 use Rattle.pas_trace.specs.Named.{Named, standing_for}
 use Rattle.pas_check.specs.States.{Due, Writes, Frees, Serves, Tries, Never, Examines, Heads, Shows, Totals, Stand}
-use Rattle.pas_check.specs.Ranges.{Fits, FitsEntry}
-use Rattle.pas_check.specs.Takes.{IsOutcome, directory_of}
+use Rattle.pas_check.specs.{Ranges.Fits, Ranges.FitsEntry, Takes.IsOutcome, Takes.directory_of}
 use Rattle.pas_check.specs.declared.cutting.Cursor.{Cursor}
 
 pub record FitsRequest (f : Profile) (k : ℕ) (r : Request) : Type 0 where

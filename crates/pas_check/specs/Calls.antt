@@ -1,38 +1,26 @@
 -- What the private functions of the checker promise of a line.
-use Rattle.std.specs.Prelude.{ℕ, ◌^◌, ◌<◌, ◌/◌, ◌%◌, ◌≡◌, ◌==◌, if◌then◌else◌, not, ◌||◌, map, Bool, true, false, List, [], ◌∷◌, ◌++◌, Option, None, Some, IfSome}
-use Rattle.std.specs.List.{filter}
-use Rattle.std.specs.Global.{Vec}
+use Rattle.std.specs.Prelude.{ℕ, ◌^◌, ◌<◌, ◌/◌, ◌%◌, ◌≡◌, ◌==◌, if◌then◌else◌, not, ◌||◌, map, Bool, true, false, List, [], ◌∷◌, ◌++◌, Option, None, Some}
+use Rattle.std.specs.Prelude.{IfSome}
+use Rattle.std.specs.{List.filter, Global.Vec}
 use Rattle.pas_report.specs.Lines.{line_of, line_of_event}
-use Rattle.pas_report.specs.declared.record.Record.{Record}
-use Rattle.pas_report.specs.declared.record.Said.{Said}
-use Rattle.pas_profile.specs.declared.directory.Directory.{Directory}
-use Rattle.pas_profile.specs.declared.profile.Profile.{Profile}
-use Rattle.pas_profile.specs.declared.event.Event.{Event}
+use Rattle.pas_report.specs.declared.record.{Record.Record, Said.Said}
+use Rattle.pas_profile.specs.declared.{directory.Directory.Directory, profile.Profile.Profile, event.Event.Event, event.Why.Why, name.Block.Block}
+use Rattle.pas_profile.specs.declared.{name.Name.Name}
 use Rattle.pas_profile.specs.declared.event.Outcome.TheVariants.{Unbacked, Bare, Young, InUse, NotOffered}
-use Rattle.pas_profile.specs.declared.event.Why.{Why}
-use Rattle.pas_profile.specs.declared.name.Block.{Block}
-use Rattle.pas_profile.specs.declared.name.Name.{Name}
-use Rattle.pas_profile.specs.Requests.{room_in}
+use Rattle.pas_profile.specs.{Requests.room_in, Blocks.address_of, Blocks.grain_of, Blocks.length_of}
 use Rattle.pas_bits.specs.Runs.{in_run}
-use Rattle.pas_profile.specs.Blocks.{address_of, grain_of, length_of}
-use Rattle.pas_machine.specs.State.{deed_in}
-use Rattle.pas_machine.specs.Machine.{Admits, HasOtherRoom, IsReason}
-use Rattle.pas_machine.specs.Machines.{profile_of, StandsFor}
+use Rattle.pas_machine.specs.{State.deed_in, Machine.Admits, Machine.HasOtherRoom, Machine.IsReason, Machines.profile_of, Machines.StandsFor}
 use Rattle.pas_machine.specs.declared.machine.Machine.{Machine}
 use Rattle.pas_trace.specs.declared.item.Request.{Request}
 use Rattle.pas_check.specs.Begins.{begun_from, entries_due, goes_down, has_sides, lowered_due, past_outcomes, raising, replacing}
 use Rattle.pas_check.specs.Bounds.{FitsNext, FitsRequest, FitsTry, IsKept, IsSmall}
-use Rattle.pas_check.specs.Leading.{Fails, IsWithin, Leads}
-use Rattle.pas_check.specs.Ranges.{Fits, FitsEvent}
+use Rattle.pas_check.specs.{Leading.Fails, Leading.IsWithin, Leading.Leads, Ranges.Fits, Ranges.FitsEvent}
 use Rattle.pas_check.specs.States.{Due, Examines, Serves, Tries, Stand, with_due, with_name, with_one}
-use Rattle.pas_check.specs.Takes.{IsFor, IsRefusal, MayCome, MayRefuse, TakesEntry, TakesGive, TakesOutcome, TakesPreparing, TakesRefusal, after_outcome, directory_of, is_back}
-use Rattle.pas_check.specs.declared.cutting.Cursor.{Cursor}
-use Rattle.pas_check.specs.declared.examining.Examined.{Examined}
-use Rattle.pas_check.specs.declared.entry.Entry.{Entry}
-use Rattle.pas_check.specs.declared.guard.Guard.{Guard}
-use Rattle.pas_check.specs.declared.guarding.Trial.{Trial}
-use Rattle.pas_check.specs.declared.guarding.Trial.TheVariants.{Gives, Passes, Stops}
-use Rattle.pas_check.specs.declared.serving.Wanted.{Wanted}
+use Rattle.pas_check.specs.Takes.{IsFor, IsRefusal, MayCome, MayRefuse, TakesEntry, TakesGive, TakesOutcome, TakesPreparing, TakesRefusal, after_outcome}
+use Rattle.pas_check.specs.Takes.{directory_of, is_back}
+use Rattle.pas_check.specs.declared.{cutting.Cursor.Cursor, examining.Examined.Examined, entry.Entry.Entry, guard.Guard.Guard, guarding.Trial.Trial}
+use Rattle.pas_check.specs.declared.{guarding.Trial.TheVariants.Gives, guarding.Trial.TheVariants.Passes, guarding.Trial.TheVariants.Stops}
+use Rattle.pas_check.specs.declared.{serving.Wanted.Wanted}
 
 -- the event of a record
 abbrev pub event_in : Record → Option Event

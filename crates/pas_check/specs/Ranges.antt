@@ -1,13 +1,8 @@
 -- Records whose numbers fit their places.
 use Rattle.std.specs.Prelude.{◌^◌, ◌<◌, List, [], ◌∷◌}
-use Rattle.pas_profile.specs.Directories.{IsKind}
-use Rattle.pas_profile.specs.declared.name.Name.{Name}
-use Rattle.pas_profile.specs.declared.name.Block.{Block}
-use Rattle.pas_profile.specs.declared.event.Event.{Event}
-use Rattle.pas_profile.specs.declared.event.Why.{Why}
-use Rattle.pas_profile.specs.Blocks.{address_of}
-use Rattle.pas_report.specs.declared.record.Said.{Said}
-use Rattle.pas_report.specs.declared.record.Record.{Record}
+use Rattle.pas_profile.specs.{Directories.IsKind, Blocks.address_of}
+use Rattle.pas_profile.specs.declared.{name.Name.Name, name.Block.Block, event.Event.Event, event.Why.Why}
+use Rattle.pas_report.specs.declared.record.{Said.Said, Record.Record}
 use Rattle.pas_check.specs.declared.entry.Entry.{Entry}
 
 pub record FitsName (name : Name) : Type 0 where

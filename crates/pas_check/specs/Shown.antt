@@ -1,10 +1,7 @@
 -- What the report tells of a page, and which marks it may have there.
 use Rattle.std.specs.Prelude.{ℕ, ◌+◌, ◌*◌, ◌^◌, ◌<◌, ◌≤◌, ◌≡◌, Bool, true, false, not, List, Some, length, MatchBool}
 use Rattle.pas_profile.specs.Directories.{IsKind}
-use Rattle.pas_profile.specs.declared.directory.Directory.{Directory}
-use Rattle.pas_profile.specs.declared.directory.Kind.{Kind}
-use Rattle.pas_profile.specs.declared.event.Event.{Event}
-use Rattle.pas_profile.specs.declared.profile.Profile.{Profile}
+use Rattle.pas_profile.specs.declared.{directory.Directory.Directory, directory.Kind.Kind, event.Event.Event, profile.Profile.Profile}
 use Rattle.pas_machine.specs.Machines.{StandsFor}
 use Rattle.pas_machine.specs.State.{backed_in, deed_in, epoch_in, gives_in}
 use Rattle.pas_machine.specs.Totals.{backed_total, deeds_total, ended_total, live_total, sum_below}
@@ -12,8 +9,7 @@ use Rattle.pas_machine.specs.declared.machine.Machine.{Machine}
 use Rattle.pas_steps.specs.Views.{usable_by_kind}
 use Rattle.pas_report.specs.Marks.{Marked}
 use Rattle.pas_report.specs.Reports.{is_covered, live_on, page_text, uncovered_on}
-use Rattle.pas_check.specs.declared.reporting.Shown.{Shown}
-use Rattle.pas_check.specs.declared.reporting.Totalled.{Totalled}
+use Rattle.pas_check.specs.declared.reporting.{Shown.Shown, Totalled.Totalled}
 
 -- ---- a page
 abbrev pub grain_on : ℕ → ℕ → ℕ

@@ -3,9 +3,7 @@ use Rattle.std.specs.Prelude.{ℕ, ◌*◌, ◌≡◌, List, Option, slice_index
 use Rattle.pas_profile.specs.declared.name.Block.{Block}
 use Rattle.pas_check.specs.Meanings.{meaning_at, meaning_of}
 use Rattle.pas_trace.specs.Named.{Named, standing_for}
-use Rattle.pas_check.specs.declared.naming.Names.{Names}
-use Rattle.pas_check.specs.declared.entry.Entry.{Entry}
-use Rattle.pas_check.specs.declared.logging.Logs.{Logs}
+use Rattle.pas_check.specs.declared.{naming.Names.Names, entry.Entry.Entry, logging.Logs.Logs}
 
 -- what a name stands for; None where no request had it
 abbrev pub meant : Names → ℕ → Option (Option Block)

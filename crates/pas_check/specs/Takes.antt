@@ -1,25 +1,15 @@
 -- Which line may come next, by what stands before it, and what follows from it.
 use Rattle.std.specs.Prelude.{ℕ, ◌+◌, ◌*◌, ◌-◌, ◌/◌, ◌%◌, ◌^◌, ◌<◌, ◌≡◌, ◌≢◌, ◌⊎◌, Bool, true, false, not, ◌||◌, List, [], ◌∷◌, Option, None, Some, codes}
-use Rattle.pas_profile.specs.declared.directory.Directory.{Directory}
-use Rattle.pas_profile.specs.declared.event.Event.{Event}
-use Rattle.pas_profile.specs.declared.event.Outcome.{Outcome}
+use Rattle.pas_profile.specs.declared.{directory.Directory.Directory, event.Event.Event, event.Outcome.Outcome, event.Why.Why, name.Block.Block, name.Name.Name}
+use Rattle.pas_profile.specs.declared.{profile.Profile.Profile}
 use Rattle.pas_profile.specs.declared.event.Outcome.TheVariants.{Unbacked, Bare, Young, InUse, NotOffered}
-use Rattle.pas_profile.specs.declared.event.Why.{Why}
-use Rattle.pas_profile.specs.declared.name.Block.{Block}
-use Rattle.pas_profile.specs.declared.name.Name.{Name}
-use Rattle.pas_profile.specs.declared.profile.Profile.{Profile}
-use Rattle.pas_profile.specs.Profiles.{IsPage}
-use Rattle.pas_profile.specs.Requests.{room_in, directory_for}
+use Rattle.pas_profile.specs.{Profiles.IsPage, Requests.room_in, Requests.directory_for, Blocks.address_of, Blocks.grain_of, Blocks.length_of}
 use Rattle.pas_bits.specs.Runs.{in_run}
-use Rattle.pas_profile.specs.Blocks.{address_of, grain_of, length_of}
-use Rattle.pas_machine.specs.Machine.{Admits, IsReason}
-use Rattle.pas_machine.specs.State.{deed_in, backed_in, epoch_in}
+use Rattle.pas_machine.specs.{Machine.Admits, Machine.IsReason, State.deed_in, State.backed_in, State.epoch_in}
 use Rattle.pas_steps.specs.Views.{usable_by_kind}
-use Rattle.pas_report.specs.Lines.{line_of, line_of_event, line_of_answer}
-use Rattle.pas_report.specs.Marks.{Marked}
-use Rattle.pas_report.specs.Reports.{is_covered, machine_page, total_line}
-use Rattle.pas_report.specs.declared.record.Record.{Record}
-use Rattle.pas_report.specs.declared.record.Said.{Said}
+use Rattle.pas_report.specs.{Lines.line_of, Lines.line_of_event, Lines.line_of_answer, Marks.Marked, Reports.is_covered, Reports.machine_page}
+use Rattle.pas_report.specs.{Reports.total_line}
+use Rattle.pas_report.specs.declared.record.{Record.Record, Said.Said}
 use Rattle.pas_trace.specs.declared.item.Request.{Request}
 use Rattle.pas_check.specs.States.{Due, Writes, Frees, Serves, Tries, Never, Examines, Heads, Shows, Totals, Stand, with_due, with_one, with_name}
 use Rattle.pas_check.specs.Begins.{has_sides, raising, ready, replacing}

@@ -1,20 +1,15 @@
 //! The acts of a replay, each with the lines that answer it.
-ghost use Rattle.std.specs.Prelude.{ℕ, ◌≡◌, ◌≢◌, ◌%◌, ◌+◌, ◌*◌, ◌^◌, ◌<◌, ◌≤◌, true, List, [], ◌∷◌, None, Some, length, slice_index, IfOk, IfSome, MatchBool, MatchOption};
-ghost use Rattle.pas_profile.specs.Directories.{IsKind};
-ghost use Rattle.pas_profile.specs.Classes.{IsAlignment};
-ghost use Rattle.pas_profile.specs.Profiles.{IsValid};
-ghost use Rattle.pas_profile.specs.Blocks.{address_of};
+ghost use Rattle.std.specs.Prelude.{ℕ, ◌≡◌, ◌≢◌, ◌%◌, ◌+◌, ◌*◌, ◌^◌, ◌<◌, ◌≤◌, true, List, [], ◌∷◌, None, Some, length, slice_index, IfOk, IfSome, MatchBool};
+ghost use Rattle.std.specs.Prelude.{MatchOption};
+ghost use Rattle.pas_profile.specs.{Directories.IsKind, Classes.IsAlignment, Profiles.IsValid, Blocks.address_of};
 ghost use Rattle.pas_profile.specs.declared.profile.Profile.{Profile};
 ghost use Rattle.pas_machine.specs.Machines.{profile_of};
-ghost use Rattle.pas_trace.specs.Asked.{keeper_in};
+ghost use Rattle.pas_trace.specs.{Asked.keeper_in, EveryPlan.IsBelow, EveryPlan.IsSoundWhat};
 ghost use Rattle.pas_trace.specs.Acts.{Act, act_kept, MarksClose, MarksPhase, Operates, StopsIdle, Ticks, Wakes};
-ghost use Rattle.pas_trace.specs.EveryPlan.{IsBelow, IsSoundWhat};
 ghost use Rattle.pas_trace.specs.declared.item.Request.{Request};
-ghost use Rattle.pas_check.specs.Calls.{IsWanted};
-ghost use Rattle.pas_check.specs.Checks.{IsSizedAs};
-ghost use Rattle.pas_check.specs.Leading.{IsWithin, StaysWithin};
-ghost use Rattle.pas_check.specs.Tables.{logs_held, names_held};
-ghost use Rattle.pas_check.specs.Tasks.{ActTaken, Asks, EntryLogged, Flushes, FreesEntry, FreesNamed, IsSuited, LogEmptied, PassTaken, Remakes, Resizes, SaysNamed};
+ghost use Rattle.pas_check.specs.{Calls.IsWanted, Checks.IsSizedAs, Leading.IsWithin, Leading.StaysWithin, Tables.logs_held, Tables.names_held};
+ghost use Rattle.pas_check.specs.Tasks.{ActTaken, Asks, EntryLogged, Flushes, FreesEntry, FreesNamed, IsSuited, LogEmptied, PassTaken, Remakes, Resizes};
+ghost use Rattle.pas_check.specs.Tasks.{SaysNamed};
 ghost use Rattle.pas_check.specs.declared.cutting.Cursor.{Cursor as TheCursor};
 
 use crate::cutting::Cursor;

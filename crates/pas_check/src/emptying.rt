@@ -1,8 +1,7 @@
 //! The lines of a log that is emptied.
 ghost use Rattle.std.specs.Prelude.{◌≡◌, ◌≤◌, [], length, IfOk};
 ghost use Rattle.pas_machine.specs.Machines.{profile_of};
-ghost use Rattle.pas_check.specs.Calls.{EntriesTaken};
-ghost use Rattle.pas_check.specs.Leading.{IsWithin, StaysWithin};
+ghost use Rattle.pas_check.specs.{Calls.EntriesTaken, Leading.IsWithin, Leading.StaysWithin};
 
 use crate::cutting::{Cursor, next_line};
 use crate::entry::Entry;

@@ -1,20 +1,14 @@
 //! Guarded requests: the lines of a keeper, and those of guards that are lowered.
 ghost use Rattle.std.specs.Prelude.{ℕ, ◌≡◌, ◌≢◌, ◌<◌, ◌≤◌, ◌∷◌, [], List, None, Some, true, false, length, nat_lt, IfOk, IfSome, MatchOption};
-ghost use Rattle.pas_profile.specs.Blocks.{address_of};
-ghost use Rattle.pas_profile.specs.Directories.{IsKind};
-ghost use Rattle.pas_profile.specs.Profiles.{IsValid};
-ghost use Rattle.pas_profile.specs.declared.event.Event.{Event as TheEvent};
-ghost use Rattle.pas_profile.specs.declared.profile.Profile.{Profile};
-ghost use Rattle.pas_machine.specs.Machines.{profile_of, StandsFor};
-ghost use Rattle.pas_machine.specs.State.{ends_in};
+ghost use Rattle.pas_profile.specs.{Blocks.address_of, Directories.IsKind, Profiles.IsValid};
+ghost use Rattle.pas_profile.specs.declared.{event.Event.Event as TheEvent, profile.Profile.Profile};
+ghost use Rattle.pas_machine.specs.{Machines.profile_of, Machines.StandsFor, State.ends_in};
 ghost use Rattle.pas_trace.specs.Acts.{Act, Lowers};
 ghost use Rattle.pas_trace.specs.declared.item.Request.{Request};
 ghost use Rattle.pas_check.specs.Begins.{goes_down, guard_of, has_sides, lowered_record, raising};
 ghost use Rattle.pas_check.specs.Calls.{BacksBy, IsGiftOf, IsRead, IsWanted, LinesSwept, OneSwept, TrialEnded, TrialStays, TrialTaken};
-ghost use Rattle.pas_check.specs.Checks.{IsSizedAs};
-ghost use Rattle.pas_check.specs.Leading.{IsWithin, StaysWithin};
+ghost use Rattle.pas_check.specs.{Checks.IsSizedAs, Leading.IsWithin, Leading.StaysWithin, Tables.names_held};
 ghost use Rattle.pas_check.specs.States.{Serves, Stand, Tries, with_name};
-ghost use Rattle.pas_check.specs.Tables.{names_held};
 ghost use Rattle.pas_check.specs.Tasks.{ActTaken, AsksKeeper, GuardsSwept, IsCarried, Stands};
 
 use crate::acting::Judge;

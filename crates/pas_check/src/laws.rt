@@ -1,28 +1,19 @@
 //! What the definitions of the checker promise. Each law is the contract of an empty function.
 ghost use Rattle.std.specs.Prelude.{List, ℕ, ◌≡◌, ◌+◌, ◌++◌, ◌∷◌, [], length, map, true};
-ghost use Rattle.pas_profile.specs.declared.event.Event.{Event};
-ghost use Rattle.pas_profile.specs.declared.event.Why.{Why};
-ghost use Rattle.pas_profile.specs.declared.profile.Profile.{Profile};
+ghost use Rattle.pas_profile.specs.declared.{event.Event.Event, event.Why.Why, profile.Profile.Profile};
 ghost use Rattle.pas_profile.specs.declared.word.Word.TheVariants as Word;
 ghost use Rattle.pas_machine.specs.Machine.{Run, Admits};
-ghost use Rattle.pas_steps.specs.Desks.{triples};
+ghost use Rattle.pas_steps.specs.{Desks.triples, Lists.Whole, Lists.word_after};
 ghost use Rattle.pas_steps.specs.Kinds.{Kinds, Ticking, Only, apart};
-ghost use Rattle.pas_steps.specs.Lists.{Whole, word_after};
 ghost use Rattle.pas_steps.specs.declared.step.Made.{Made};
-ghost use Rattle.pas_check.specs.Lines.{lines_in};
-ghost use Rattle.pas_check.specs.States.{Due, Stand, Task};
-ghost use Rattle.pas_check.specs.Calls.{Differs};
+ghost use Rattle.pas_check.specs.{Lines.lines_in, States.Due, States.Stand, States.Task, Calls.Differs, Begins.after_task, Begins.past_outcomes, Begins.ready};
+ghost use Rattle.pas_check.specs.{Bounds.FitsFirst, Bounds.FitsNext, Bounds.IsSmall, Going.AreAlike, Going.SoFar, Ranges.Fits};
 ghost use Rattle.pas_check.specs.Takes.{MayRefuse, IsEventOf, Takes, TakesDue};
 ghost use Rattle.pas_trace.specs.declared.plan.Plan.{Plan};
 ghost use Rattle.pas_report.specs.Lines.{line_of, lines_of};
 ghost use Rattle.pas_report.specs.declared.record.Record.{Record};
 ghost use Rattle.pas_check.specs.Accepted.{IsDone, IsStopped, IsVerdict, IsWhole};
-ghost use Rattle.pas_check.specs.Begins.{after_task, past_outcomes, ready};
-ghost use Rattle.pas_check.specs.Bounds.{FitsFirst, FitsNext, IsSmall};
-ghost use Rattle.pas_check.specs.Going.{AreAlike, SoFar};
-ghost use Rattle.pas_check.specs.Ranges.{Fits};
-ghost use Rattle.pas_check.specs.declared.entry.Entry.{Entry};
-ghost use Rattle.pas_check.specs.declared.verdict.Verdict.{Verdict};
+ghost use Rattle.pas_check.specs.declared.{entry.Entry.Entry, verdict.Verdict.Verdict};
 
 /// No two records whose numbers fit their places have one line. So a line of a transcript says one thing.
 #[tactic(auto, using(crate::proofs::Readings::one_line))]

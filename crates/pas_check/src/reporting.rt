@@ -1,18 +1,14 @@
 //! The lines of the report.
 ghost use Rattle.std.specs.Prelude.{ℕ, ◌≡◌, ◌+◌, ◌*◌, ◌^◌, ◌<◌, ◌≤◌, nat_lt, true, not, List, [], ◌∷◌, ◌++◌, length, MatchBool};
-ghost use Rattle.pas_profile.specs.Directories.{IsKind};
-ghost use Rattle.pas_profile.specs.Profiles.{IsPage, IsValid};
-ghost use Rattle.pas_profile.specs.declared.event.Event.{Event as TheEvent};
-ghost use Rattle.pas_profile.specs.declared.profile.Profile.{Profile as TheProfile};
-ghost use Rattle.pas_machine.specs.Machines.{profile_of, StandsFor};
-ghost use Rattle.pas_machine.specs.State.{backed_in, deed_in};
+ghost use Rattle.pas_profile.specs.{Directories.IsKind, Profiles.IsPage, Profiles.IsValid};
+ghost use Rattle.pas_profile.specs.declared.{event.Event.Event as TheEvent, profile.Profile.Profile as TheProfile};
+ghost use Rattle.pas_machine.specs.{Machines.profile_of, Machines.StandsFor, State.backed_in, State.deed_in};
 ghost use Rattle.pas_machine.specs.Totals.{backed_total, deeds_total, given_total, live_total};
 ghost use Rattle.pas_steps.specs.Views.{usable_by_kind};
-ghost use Rattle.pas_report.specs.Marks.{mark_bit, marks_of};
-ghost use Rattle.pas_report.specs.Reports.{is_covered, live_on as live_on_page, uncovered_on};
-ghost use Rattle.pas_check.specs.Begins.{page_due, pages_due, report_due};
-ghost use Rattle.pas_check.specs.Leading.{IsLed, IsWithin, StaysWithin};
-ghost use Rattle.pas_check.specs.Shown.{given_on as given_on_page, HasNoRoom, HasRoom, IsBare, IsHinted, IsKnown, IsPageLine, IsUsed, IsWith, TellsPage, TellsTotals};
+ghost use Rattle.pas_report.specs.{Marks.mark_bit, Marks.marks_of, Reports.is_covered, Reports.live_on as live_on_page, Reports.uncovered_on};
+ghost use Rattle.pas_check.specs.{Begins.page_due, Begins.pages_due, Begins.report_due, Leading.IsLed, Leading.IsWithin, Leading.StaysWithin};
+ghost use Rattle.pas_check.specs.Shown.{given_on as given_on_page, HasNoRoom, HasRoom, IsBare, IsHinted, IsKnown, IsPageLine, IsUsed, IsWith, TellsPage};
+ghost use Rattle.pas_check.specs.Shown.{TellsTotals};
 ghost use Rattle.pas_check.specs.States.{Due, Shows, Stand, Totals, with_due};
 
 use crate::cutting::{Cursor, next_line, take_line};

@@ -1,10 +1,8 @@
 //! The lines of a request: deeds and backs, as many as there are, and then a give or a refusal.
 ghost use Rattle.std.specs.Prelude.{ℕ, ◌≡◌, ◌<◌, ◌≤◌, List, length, IfOk, IfSome};
-ghost use Rattle.pas_profile.specs.Directories.{IsKind};
-ghost use Rattle.pas_profile.specs.Profiles.{IsValid};
+ghost use Rattle.pas_profile.specs.{Directories.IsKind, Profiles.IsValid};
 ghost use Rattle.pas_machine.specs.Machines.{profile_of};
-ghost use Rattle.pas_check.specs.Calls.{EndingTaken, IsRead, RequestTaken};
-ghost use Rattle.pas_check.specs.Leading.{IsWithin};
+ghost use Rattle.pas_check.specs.{Calls.EndingTaken, Calls.IsRead, Calls.RequestTaken, Leading.IsWithin};
 
 use crate::cutting::{Cursor, next_line};
 use crate::reading::read_record;

@@ -1,12 +1,8 @@
 //! Lines that end a request: a give, or a refusal.
 ghost use Rattle.std.specs.Prelude.{ℕ, ◌≡◌, ◌≢◌, ◌*◌, ◌<◌, ◌≤◌, IfOk, IfSome, List, MatchBool, Some};
-ghost use Rattle.pas_profile.specs.Directories.{IsKind};
-ghost use Rattle.pas_profile.specs.Classes.{IsAlignment};
-ghost use Rattle.pas_profile.specs.Profiles.{IsValid};
+ghost use Rattle.pas_profile.specs.{Directories.IsKind, Classes.IsAlignment, Profiles.IsValid};
 ghost use Rattle.pas_profile.specs.declared.event.Event.{Event as TheEvent};
-ghost use Rattle.pas_machine.specs.State.{deed_in};
-ghost use Rattle.pas_machine.specs.Places.{IsEach};
-ghost use Rattle.pas_machine.specs.Machines.{profile_of, StandsFor};
+ghost use Rattle.pas_machine.specs.{State.deed_in, Places.IsEach, Machines.profile_of, Machines.StandsFor};
 ghost use Rattle.pas_trace.specs.declared.item.Request.{Request};
 ghost use Rattle.pas_check.specs.Calls.{asked_for, GiveTaken, IsFitting, IsGiven, IsRead, IsWanted, LiesOn, RefusalSeen, RefusesBy};
 ghost use Rattle.pas_check.specs.States.{Stand};

@@ -1,17 +1,11 @@
 //! Lines that the machine judges: those of the entries of a log, and the deeds and backs of a request.
 ghost use Rattle.std.specs.Prelude.{ℕ, ◌≡◌, List, IfOk, MatchBool, None, Some};
-ghost use Rattle.pas_profile.specs.Directories.{IsKind};
-ghost use Rattle.pas_profile.specs.Profiles.{IsValid};
-ghost use Rattle.pas_profile.specs.declared.event.Event.{Event as TheEvent};
-ghost use Rattle.pas_profile.specs.declared.profile.Profile.{Profile};
-ghost use Rattle.pas_profile.specs.Blocks.{address_of};
-ghost use Rattle.pas_machine.specs.Machine.{IsPlace, Run};
-ghost use Rattle.pas_machine.specs.Machines.{profile_of, StandsFor};
+ghost use Rattle.pas_profile.specs.{Directories.IsKind, Profiles.IsValid, Blocks.address_of};
+ghost use Rattle.pas_profile.specs.declared.{event.Event.Event as TheEvent, profile.Profile.Profile};
+ghost use Rattle.pas_machine.specs.{Machine.IsPlace, Machine.Run, Machines.profile_of, Machines.StandsFor, State.Live, State.gives_in, State.live_in};
 ghost use Rattle.pas_report.specs.Lines.{IsShowable};
-ghost use Rattle.pas_machine.specs.State.{Live, gives_in, live_in};
 ghost use Rattle.pas_check.specs.Calls.{event_in, IsEventRead, IsRead, IsStepped, IsTrueReason, EntryTaken, PreparingTaken};
-ghost use Rattle.pas_check.specs.States.{Stand};
-ghost use Rattle.pas_check.specs.Takes.{IsEventOf, IsPreparing};
+ghost use Rattle.pas_check.specs.{States.Stand, Takes.IsEventOf, Takes.IsPreparing};
 
 use crate::entry::Entry;
 use crate::reading::is_line;

@@ -1,8 +1,7 @@
 //! The check of a transcript.
 ghost use Rattle.std.specs.Prelude.{ℕ, ◌≡◌, ◌≤◌, List, length, IfOk};
-ghost use Rattle.pas_trace.specs.Plans.{IsPlanOf};
+ghost use Rattle.pas_trace.specs.{Plans.IsPlanOf, Acts.keepers_of};
 ghost use Rattle.pas_check.specs.Accepted.{IsVerdict};
-ghost use Rattle.pas_trace.specs.Acts.{keepers_of};
 
 use crate::acting::Judge;
 use crate::checking::take_acts;

@@ -1,43 +1,30 @@
 -- A block is given of the run that a search found, and then the page is left.
-use Rattle.std.proofs.Common.{◌≡◌, ℕ, ◌+◌, ◌*◌, ◌/◌, ◌%◌, ◌^◌, ◌<◌, ◌≤◌, ◌==◌, Bool, true, false, ◌&&◌, if◌then◌else◌, List, [], ◌++◌, length, Ok, Err, refl, ap, sym, ◌∙◌, subst, arith, inl, inr, ◌⊎◌, append_assoc, length-append, true≢false}
-use Rattle.std.proofs.lemmas.Bool.{eq-eqb, eqb-true, and_parts, and_from}
-use Rattle.pas_profile.specs.Profiles.{IsPage, IsDirectoryOf}
+use Rattle.std.proofs.Common.{◌≡◌, ℕ, ◌+◌, ◌*◌, ◌/◌, ◌%◌, ◌^◌, ◌<◌, ◌≤◌, ◌==◌, Bool, true, false, ◌&&◌, if◌then◌else◌, List, [], ◌++◌, length, Ok, Err, refl}
+use Rattle.std.proofs.Common.{ap, sym, ◌∙◌, subst, arith, inl, inr, ◌⊎◌, append_assoc, length-append, true≢false, eq-eqb, eqb-true}
+use Rattle.std.proofs.lemmas.Bool.{and_parts, and_from}
+use Rattle.pas_profile.specs.{Profiles.IsPage, Profiles.IsDirectoryOf, Blocks.address_of, Blocks.grain_of, Blocks.length_of}
 use Rattle.pas_bits.specs.Runs.{in_run}
-use Rattle.pas_profile.specs.Blocks.{address_of, grain_of, length_of}
-use Rattle.pas_profile.specs.declared.directory.Directory.{Directory}
-use Rattle.pas_profile.specs.declared.event.NoRoom.{NoRoom}
-use Rattle.pas_profile.specs.declared.name.Block.{Block}
-use Rattle.pas_profile.specs.declared.profile.Profile.{Profile}
+use Rattle.pas_profile.specs.declared.{directory.Directory.Directory, event.NoRoom.NoRoom, name.Block.Block, profile.Profile.Profile}
 use Rattle.pas_bits.proofs.Runs.{run_of, to_run}
 use Rattle.pas_rights.specs.Gives.{MayGive, block_of, give_steps, GaveRun, GivesRun}
 use Rattle.pas_rights.specs.Leaves.{MayLeave, Leaves}
 use Rattle.pas_rights.proofs.Gives.{may_give_on, covers}
 use Rattle.pas_steps.specs.Calls.{Calls, Kept, Gained, Lost, now, later, Does}
-use Rattle.pas_steps.specs.Desks.{Standing, CanCall}
-use Rattle.pas_steps.specs.Events.{events_of, events_by}
-use Rattle.pas_steps.specs.Evidence.{Readings}
-use Rattle.pas_steps.specs.Kinds.{returning}
+use Rattle.pas_steps.specs.{Desks.Standing, Desks.CanCall, Events.events_of, Events.events_by, Evidence.Readings, Kinds.returning}
 use Rattle.pas_steps.specs.Views.{View, holds, has_right, KnowsDeed}
 use Rattle.pas_steps.specs.declared.step.Made.{Made}
-use Rattle.pas_steps.proofs.Adding.{room_left}
-use Rattle.pas_steps.proofs.Apart.{events_same}
+use Rattle.pas_steps.proofs.{Adding.room_left, Apart.events_same, Calls.does_as, Calls.does_then, Calls.returns_are, Frames.events_split, Sets.same_truth}
+use Rattle.pas_steps.proofs.{SpareRoom.Spares}
 use Rattle.pas_steps.proofs.Called.{call_as, call_knows, call_then, next_call}
-use Rattle.pas_steps.proofs.Calls.{does_as, does_then, returns_are}
-use Rattle.pas_steps.proofs.Frames.{events_split}
-use Rattle.pas_steps.proofs.Sets.{same_truth}
-use Rattle.pas_steps.proofs.SpareRoom.{Spares}
-use Rattle.pas_search.specs.Kinds.{deeds_made}
+use Rattle.pas_search.specs.{Kinds.deeds_made, Serving.right_of, Telling.IsLowestOffered, Telling.IsLowestBare}
 use Rattle.pas_search.specs.Searches.{MaySearch, SearchRoom, FromOffered, ByDeed, Searches}
-use Rattle.pas_search.specs.Serving.{right_of}
-use Rattle.pas_search.specs.Telling.{IsLowestOffered, IsLowestBare}
 use Rattle.pas_search.specs.declared.serving.Served.{Served}
-use Rattle.pas_choice.specs.Allocates.{IsRunOf, GaveBlock, AllocatesRun}
-use Rattle.pas_choice.specs.Choices.{Choice, choosing}
+use Rattle.pas_choice.specs.{Allocates.IsRunOf, Allocates.GaveBlock, Allocates.AllocatesRun, Choices.Choice, Choices.choosing}
 use Rattle.pas_choice.specs.declared.choosing.Run.{Run}
 use Rattle.pas_search.proofs.Found.{KeepsNew, found_call, left_after}
 
 pub room_to_search : {σ : Standing} {f : Profile} {d : Directory} {spare : ℕ} → CanCall σ (SearchRoom f d 2 spare) → CanCall σ (SearchRoom f d 1 spare)
-room_to_search can = record { view = can.view; whole = can.whole; stood = can.stood; met = record { may = can.met.may; room = (let two = can.met.room.0 in omega (arith, two), elim can.met.room.1 [ inl all ↦ inl all | inr more ↦ inr (omega (arith, more)) ]) } }
+room_to_search can = record { view = can.view; whole = can.whole; stood = can.stood; met = record { may = can.met.may; room = (omega (arith, can.met.room.0), elim can.met.room.1 [ inl all ↦ inl all | inr more ↦ inr (omega (arith, more)) ]) } }
 
 few_deeds : (m : ℕ) {A B : Type 0} → (A → m ≡ 0) → (B → m ≡ 1) → A ⊎ B → m ≤ 1
 few_deeds m f g (inl a) = let z = f a in omega (arith, z)
@@ -94,7 +81,7 @@ module _ {Found : Type 0} (choice : Choice Found) (run : Found → Run) (law : (
       (λ g inside. kept.found.keeps.does.held g ∙ ap (λ t. now (if t then Gained else Kept) (holds v g)) (in_region g ∙ inside)) kept.found.deed kept.found.keeps.backed clear.stamped
 
   pub run_within : served.page * 256 + r.first + r.grains ≤ 256 * (σ1.seat.profile.pages + 1)
-  run_within = let of : IsPage σ1.seat.profile page = subst (λ s. IsPage s.profile page) (sym searches.adds.seat_is) searches.outcome.page in let high = of.1 in let w = is_run.within in omega (arith, high, w)
+  run_within = let of : IsPage σ1.seat.profile page = subst (λ s. IsPage s.profile page) (sym searches.adds.seat_is) searches.outcome.page in omega (arith, of.1, is_run.within)
 
   pub can_give : {spare : ℕ} → CanCall σ (SearchRoom σ.seat.profile d 2 spare) → CanCall σ1 (MayGive σ1.seat.profile d.heap served.page r.first r.grains)
   can_give can = next_call new_call (may_search can) may_give
@@ -111,7 +98,7 @@ module _ {Found : Type 0} (choice : Choice Found) (run : Found → Run) (law : (
       let made : deeds_made xs ≤ 1 = few_deeds (deeds_made xs) (λ (c : FromOffered choice.no_fit d page xs). c.no_deed) (λ (c : ByDeed choice.no_fit f d page xs). c.one_deed) searches.outcome.choice in
       let fits : length (events_by k can.view xs) + 1 ≤ spare = elim can.met.room.1 [
         | inl all ↦ let most = few.1 all in omega (arith, most, two)
-        | inr three ↦ let most = few.0 in omega (arith, most, made, three)
+        | inr three ↦ omega (arith, few.0, made, three)
       ] in
       room_left {spare = spare1} 1 searches.adds sought law' (omega (arith, now, split, fits))
 
@@ -158,7 +145,7 @@ module _ {Found : Type 0} (choice : Choice Found) (run : Found → Run) (law : (
           }))
 
       page_is : address_of block.name / 4096 ≡ page
-      page_is = let w = is_run.within in let s = is_run.some in ap (λ (b : Block). address_of b.name / 4096) gives.block_is ∙ omega (arith, w, s)
+      page_is = ap (λ (b : Block). address_of b.name / 4096) gives.block_is ∙ omega (arith, is_run.within, is_run.some)
 
       pub allocates : AllocatesRun choice run d tells σ σ3 (Ok block)
       allocates = record {
@@ -176,7 +163,7 @@ module _ {Found : Type 0} (choice : Choice Found) (run : Found → Run) (law : (
           left = left.steps;
           after_is = ap (λ (x : Run). left.steps ++ give_steps page x.first block gives.word gives.answer) r_is;
           leaves = left.order;
-          few = let sum = length-append left.steps given in let few = left.few in omega (arith, sum, few);
+          few = let sum = length-append left.steps given in omega (arith, sum, left.few);
           block_is = gives.block_is ∙ ap (λ (x : Run). block_of d.heap page x.first x.grains gives.word) r_is;
           gave = whole_call.leads;
           events = λ k v. ap (events_by k v) (append_assoc left.steps given xs) ∙ events_same returning refl k v left.steps (given ++ xs) (returns_are page left.steps left.returns);

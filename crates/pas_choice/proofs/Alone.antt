@@ -1,19 +1,12 @@
 -- A request for a run whose actor alone made steps meanwhile.
 use Rattle.std.proofs.Common.{◌≡◌, Bool, List, [], ◌++◌, Result, Ok, Err, MatchResult}
 use Rattle.pas_profile.specs.Profiles.{IsValid, IsDirectoryOf}
-use Rattle.pas_profile.specs.declared.directory.Directory.{Directory}
-use Rattle.pas_profile.specs.declared.event.NoRoom.{NoRoom}
-use Rattle.pas_profile.specs.declared.name.Block.{Block}
-use Rattle.pas_profile.specs.declared.profile.Profile.{Profile}
-use Rattle.pas_steps.specs.Desks.{Standing, triples}
-use Rattle.pas_steps.specs.Evidence.{IsAntitone}
-use Rattle.pas_steps.specs.Lists.{Whole, part, Legal}
+use Rattle.pas_profile.specs.declared.{directory.Directory.Directory, event.NoRoom.NoRoom, name.Block.Block, profile.Profile.Profile}
+use Rattle.pas_steps.specs.{Desks.Standing, Desks.triples, Evidence.IsAntitone, Lists.Whole, Lists.part, Lists.Legal}
 use Rattle.pas_steps.specs.declared.step.Made.{Made}
-use Rattle.pas_search.specs.Alone.{FindsWhatThereIs}
-use Rattle.pas_search.specs.Searches.{MaySearch, IsRefused}
+use Rattle.pas_search.specs.{Alone.FindsWhatThereIs, Searches.MaySearch, Searches.IsRefused}
 use Rattle.pas_search.proofs.Alone.{IsFoundOrRefused, found_before}
-use Rattle.pas_choice.specs.Allocates.{IsGiven, AllocatesRun}
-use Rattle.pas_choice.specs.Choices.{Choice}
+use Rattle.pas_choice.specs.{Allocates.IsGiven, Allocates.AllocatesRun, Choices.Choice}
 use Rattle.pas_choice.specs.declared.choosing.Run.{Run}
 
 found_or_refused : {Found : Type 0} (choice : Choice Found) (run : Found → Run) (f : Profile) (d : Directory) (searched after : List Made) (answer : Result Block NoRoom) → MatchResult answer (IsGiven choice run f d searched after) (λ why. IsRefused choice.no_fit f d searched why × (after ≡ [])) → IsFoundOrRefused choice.no_fit f d searched answer

@@ -1,35 +1,26 @@
 -- A page of which a part is taken, or that is left since nothing fits.
-use Rattle.std.proofs.Common.{◌≡◌, ℕ, ◌+◌, ◌*◌, ◌/◌, ◌%◌, ◌<◌, ◌==◌, true, false, ◌&&◌, Bool, if◌then◌else◌, List, [], ◌∷◌, ◌++◌, None, Some, refl, ap, sym, ◌∙◌, subst, arith, inl, inr, true≢false, append_assoc, length-append}
-use Rattle.std.proofs.lemmas.Bool.{eqb-true, and_from, and_parts, and_right}
+use Rattle.std.proofs.Common.{◌≡◌, ℕ, ◌+◌, ◌*◌, ◌/◌, ◌%◌, ◌<◌, ◌==◌, true, false, ◌&&◌, Bool, if◌then◌else◌, List, [], ◌∷◌, ◌++◌, None, Some, refl, ap, sym}
+use Rattle.std.proofs.Common.{◌∙◌, subst, arith, inl, inr, true≢false, append_assoc, length-append, eqb-true}
+use Rattle.std.proofs.lemmas.Bool.{and_from, and_parts, and_right}
 use Rattle.pas_profile.specs.declared.directory.Directory.{Directory}
 use Rattle.pas_bits.specs.declared.mask.Mask4.{Mask4}
-use Rattle.pas_bits.specs.Bits.{has_bit}
-use Rattle.pas_bits.specs.Masks.{is_set}
+use Rattle.pas_bits.specs.{Bits.has_bit, Masks.is_set}
 use Rattle.pas_bits.proofs.Words.{at_word}
-use Rattle.pas_rights.specs.Leaves.{Leaves}
-use Rattle.pas_rights.specs.Looks.{looks, ReadsPage}
-use Rattle.pas_rights.specs.Puts.{masked}
-use Rattle.pas_rights.specs.PutsBack.{taking_grains}
+use Rattle.pas_rights.specs.{Leaves.Leaves, Looks.looks, Looks.ReadsPage, Puts.masked, PutsBack.taking_grains, Words.words}
 use Rattle.pas_rights.specs.Takes.{HasRight, taken, takes, TakesMask}
-use Rattle.pas_rights.specs.Words.{words}
 use Rattle.pas_rights.proofs.Hints.{due_none}
 use Rattle.pas_rights.proofs.Looks.{looks_only, looks_on, looks_held, looks_free, looks_know, looks_read}
 use Rattle.pas_rights.proofs.Takes.{MayTakeAll, takes_always, takes_only, takes_on, takes_keep, takes_few, takes_known}
 use Rattle.pas_rights.proofs.Words.{bit_of, bit_on, keeps_by, since_kept}
 use Rattle.pas_steps.specs.Calls.{Calls, Leads, Gained, Kept, nothing, Does}
 use Rattle.pas_steps.specs.Desks.{Standing, CanCall, made, Makes}
-use Rattle.pas_steps.specs.Evidence.{ShowsHere, KeptHere, GetsHere}
-use Rattle.pas_steps.specs.Frames.{IsOnPage, GivesUp}
+use Rattle.pas_steps.specs.{Evidence.ShowsHere, Evidence.KeptHere, Evidence.GetsHere, Frames.IsOnPage, Frames.GivesUp, Past.Always, Past.Since, Views.View}
+use Rattle.pas_steps.specs.{Views.has_right, Views.known_free}
 use Rattle.pas_steps.specs.Kinds.{Kinds, LookFree, Taking, Only, kind_of, is_in}
-use Rattle.pas_steps.specs.Past.{Always, Since}
-use Rattle.pas_steps.specs.Views.{View, has_right, known_free}
-use Rattle.pas_steps.specs.declared.step.Made.{Made}
-use Rattle.pas_steps.specs.declared.step.Step.TheVariants.{Back}
-use Rattle.pas_steps.proofs.Adding.{agreed_later, adds_under}
+use Rattle.pas_steps.specs.declared.step.{Made.Made, Step.TheVariants.Back}
+use Rattle.pas_steps.proofs.{Adding.agreed_later, Adding.adds_under, Called.call_then, Called.next_call, Calls.does_after_nothing, Calls.does_as}
+use Rattle.pas_steps.proofs.{Calls.does_idly, Past.always_both, Past.always_map}
 use Rattle.pas_steps.proofs.Apart.{only_within, only_both, holds_same, rights_same}
-use Rattle.pas_steps.proofs.Called.{call_then, next_call}
-use Rattle.pas_steps.proofs.Calls.{does_after_nothing, does_as, does_idly}
-use Rattle.pas_steps.proofs.Past.{always_both, always_map}
 use Rattle.pas_search.specs.Serving.{MayServe, IsJustGot, GotBefore, ReadsNoneHeld, ServesPage}
 use Rattle.pas_search.proofs.Returns.{keeps_marks}
 use Rattle.pas_search.proofs.Pages.{on_page, Prepares, leaves_page, keeps_page, once_read}

@@ -2,23 +2,13 @@
 use Rattle.std.specs.Prelude.{ℕ, ◌+◌, ◌/◌, ◌^◌, ◌<◌, ◌≤◌, ◌≡◌, Bool, true, false, List, [], ◌∷◌, ◌++◌, length, Result, MatchResult}
 use Rattle.pas_bits.specs.Runs.{in_run}
 use Rattle.pas_profile.specs.Blocks.{address_of, grain_of, length_of}
-use Rattle.pas_profile.specs.declared.directory.Directory.{Directory}
-use Rattle.pas_profile.specs.declared.event.Event.{Event}
-use Rattle.pas_profile.specs.declared.event.NoRoom.{NoRoom}
-use Rattle.pas_profile.specs.declared.name.Block.{Block}
-use Rattle.pas_profile.specs.declared.profile.Profile.{Profile}
-use Rattle.pas_rights.specs.Gives.{block_of, give_steps}
-use Rattle.pas_rights.specs.Leaves.{LeaveSteps}
-use Rattle.pas_steps.specs.Calls.{Leads, Lost, Does}
-use Rattle.pas_steps.specs.Desks.{Standing, Adds, triples}
-use Rattle.pas_steps.specs.Events.{events_by}
-use Rattle.pas_steps.specs.Lists.{Whole}
-use Rattle.pas_steps.specs.Views.{View, holds, KnowsDeed}
+use Rattle.pas_profile.specs.declared.{directory.Directory.Directory, event.Event.Event, event.NoRoom.NoRoom, name.Block.Block, profile.Profile.Profile}
+use Rattle.pas_rights.specs.{Gives.block_of, Gives.give_steps, Leaves.LeaveSteps}
+use Rattle.pas_steps.specs.{Calls.Leads, Calls.Lost, Calls.Does, Desks.Standing, Desks.Adds, Desks.triples, Events.events_by, Lists.Whole, Views.View}
+use Rattle.pas_steps.specs.{Views.holds, Views.KnowsDeed}
 use Rattle.pas_steps.specs.declared.step.Made.{Made}
-use Rattle.pas_search.specs.Kinds.{AreSearch}
+use Rattle.pas_search.specs.{Kinds.AreSearch, Serving.right_of, Telling.IsTold}
 use Rattle.pas_search.specs.Searches.{search_steps, MaySearch, IsServed, IsRefused}
-use Rattle.pas_search.specs.Serving.{right_of}
-use Rattle.pas_search.specs.Telling.{IsTold}
 use Rattle.pas_search.specs.declared.serving.Served.{Served}
 use Rattle.pas_choice.specs.Choices.{Choice, choosing}
 use Rattle.pas_choice.specs.declared.choosing.Run.{Run}

@@ -3,8 +3,7 @@ ghost use Rattle.std.specs.Prelude.{◌≡◌};
 ghost use Rattle.pas_profile.specs.Profiles.{IsDirectoryOf};
 ghost use Rattle.pas_steps.specs.Desks.{CanCall};
 ghost use Rattle.pas_search.specs.Searches.{SearchRoom};
-ghost use Rattle.pas_choice.specs.Allocates.{AllocatesRun};
-ghost use Rattle.pas_choice.specs.Choices.{choosing};
+ghost use Rattle.pas_choice.specs.{Allocates.AllocatesRun, Choices.choosing};
 
 use crate::choosing::ChoosingRun;
 use crate::serving::ByChoice;

@@ -1,49 +1,40 @@
 -- The answer of each legal step agrees with its actor's view, since what an actor read once is so for good.
-use Rattle.std.proofs.Common.{ℕ, ◌==◌, List, [], ◌∷◌, inl, inr, ◌≡◌, ◌≢◌, ◌+◌, ◌*◌, ◌/◌, ◌<◌, ◌≤◌, Bool, true, false, ◌&&◌, Some, refl, ap, sym, ◌∙◌, subst, arith, ◌^◌, if◌then◌else◌, Option, None, ◌%◌}
-use Rattle.pas_profile.specs.declared.profile.Profile.{Profile}
-use Rattle.pas_steps.specs.Past.{Once}
+use Rattle.std.proofs.Common.{ℕ, ◌==◌, List, [], ◌∷◌, inl, inr, ◌≡◌, ◌≢◌, ◌+◌, ◌*◌, ◌/◌, ◌<◌, ◌≤◌, Bool, true, false, ◌&&◌, Some, refl, ap, sym, ◌∙◌, subst}
+use Rattle.std.proofs.Common.{arith, ◌^◌, if◌then◌else◌, Option, None, ◌%◌, eqb-true, leb-true}
+use Rattle.pas_profile.specs.declared.{profile.Profile.Profile, directory.Directory.Directory, name.Name.Name, word.Word.Word, name.Block.Block}
+use Rattle.pas_profile.specs.declared.{event.Event.Event}
+use Rattle.pas_steps.specs.{Past.Once, Effects.life_word_at, Effects.target, Effects.free_word_at, Allowed.IsStepOf, Events.event_of, Events.with_event}
 use Rattle.pas_steps.specs.Lists.{Triple, Whole, part, Legal, word_after, visible, IsNext}
-use Rattle.pas_steps.specs.declared.step.Made.{Made}
-use Rattle.std.proofs.lemmas.Bool.{cond_both, false≢true, eqb-true, and_parts, leb-true, and_from, false_from_ne_true}
-use Rattle.pas_profile.specs.Directories.{deed_word_of, kind_number, number_of}
+use Rattle.pas_steps.specs.declared.step.{Made.Made, Step.Step}
+use Rattle.std.proofs.lemmas.Bool.{cond_both, false≢true, and_parts, and_from, false_from_ne_true}
+use Rattle.pas_profile.specs.{Directories.deed_word_of, Directories.kind_number, Directories.number_of, Profiles.IsValid, Profiles.IsDirectoryOf}
+use Rattle.pas_profile.specs.{Blocks.address_of, Blocks.grain_of, Blocks.length_of}
 use Rattle.pas_profile.specs.Lives.{live_word, is_live, turn_of, grains_of}
-use Rattle.pas_profile.specs.Profiles.{IsValid, IsDirectoryOf}
-use Rattle.pas_profile.specs.declared.directory.Directory.{Directory}
-use Rattle.pas_profile.specs.declared.name.Name.{Name}
-use Rattle.pas_profile.specs.declared.word.Word.{Word}
 use Rattle.pas_profile.proofs.Codecs.{kind_number_lt, deed_word_of-positive, is_live-live_word, grains_of-live_word}
-use Rattle.pas_bits.specs.Runs.{in_run, meets_page}
-use Rattle.pas_profile.specs.Blocks.{address_of, grain_of, length_of}
+use Rattle.pas_bits.specs.{Runs.in_run, Runs.meets_page, Bits.has_bit}
 use Rattle.pas_machine.specs.State.{Live, live_in, deed_in, backed_in, gives_in, ends_in}
 use Rattle.pas_machine.specs.Machine.{Bears, Run}
-use Rattle.pas_steps.specs.Effects.{life_word_at, target, free_word_at}
 use Rattle.pas_steps.specs.Views.{ends_on, EndedOn, EndedOnBoth, epoch_of, reads_life, IsLiveRead, ReadLive, reads_backed, ReadBacked, holds, known_deed}
-use Rattle.pas_steps.specs.Allowed.{IsStepOf}
-use Rattle.pas_steps.specs.Agreement.{heap_recorded, IsDeedWord, AgreesDeed, AgreesFree, AgreesLife, AgreesEnd, AgreesBacked, AgreesParked, AgreesEmpty, AgreesEligible, AgreesEpoch, AgreesStamp, Agrees}
-use Rattle.pas_steps.specs.declared.step.Step.{Step}
-use Rattle.pas_steps.specs.declared.step.Step.TheVariants.{End, EndSized, Look, Back, Give, Unback, Deed, Take, Put, TakeRight, Offer, Park, Unpark, Stamp, Hint, Unhint}
+use Rattle.pas_steps.specs.Agreement.{heap_recorded, IsDeedWord, AgreesDeed, AgreesFree, AgreesLife, AgreesEnd, AgreesBacked, AgreesParked, AgreesEmpty}
+use Rattle.pas_steps.specs.Agreement.{AgreesEligible, AgreesEpoch, AgreesStamp, Agrees}
+use Rattle.pas_steps.specs.declared.step.Step.TheVariants.{End, EndSized, Look, Back, Give, Unback, Deed, Take, Put, TakeRight, Offer, Park, Unpark, Stamp}
+use Rattle.pas_steps.specs.declared.step.Step.TheVariants.{Hint, Unhint}
 use Rattle.pas_core.specs.Good.{word_of_deed, IsLifeOf, Held, is_free, is_covered_by, covers, IsPlacedOnce}
 use Rattle.pas_core.proofs.Deeds.{deed_kept, known_is, deed_words, deed_of, directory_is_of, backed_of}
 use Rattle.pas_core.proofs.Stamps.{IsFound, end_finds, epoch_known, epoch_small, stamp_small, stamp_known}
-use Rattle.pas_core.proofs.MachineRuns.{lists_borne, runs, one_backed}
+use Rattle.pas_core.proofs.{MachineRuns.lists_borne, MachineRuns.runs, MachineRuns.one_backed, Grains.is_held_by-true, Grains.placed_once}
 use Rattle.pas_bits.proofs.Runs.{IsMet, met, first_of_run}
-use Rattle.pas_profile.specs.declared.name.Block.{Block}
-use Rattle.pas_profile.specs.declared.event.Event.{Event}
-use Rattle.pas_steps.specs.Events.{event_of, with_event}
-use Rattle.pas_core.specs.Given.{WasGiven}
+use Rattle.pas_core.specs.{Given.WasGiven, Rights.parked_bit, Rights.empty_bit, Rights.eligible_bit}
 use Rattle.pas_core.proofs.Lives.{look_is, word_is, life_of, life_is_known, live_is_live, one_more, turn_small}
 use Rattle.std.proofs.lemmas.Option.{same_Some}
-use Rattle.pas_steps.proofs.Flags.{was_set}
-use Rattle.pas_bits.specs.Bits.{has_bit}
-use Rattle.pas_core.proofs.Grains.{is_held_by-true, placed_once}
-use Rattle.pas_core.specs.Rights.{parked_bit, empty_bit, eligible_bit}
-use Rattle.pas_core.proofs.Rights.{deeds_known, backed_small, backed_known, right_not_offered, right_not_parked, offered_is_known, offered_page, parked_page, hinted_page, free_known}
-use Rattle.pas_steps.proofs.Targets.{guess_fits}
+use Rattle.pas_steps.proofs.{Flags.was_set, Targets.guess_fits}
+use Rattle.pas_core.proofs.Rights.{deeds_known, backed_small, backed_known, right_not_offered, right_not_parked, offered_is_known, offered_page, parked_page}
+use Rattle.pas_core.proofs.Rights.{hinted_page, free_known}
 
 -- ==== What a step of an actor told once is so for good, where every later step keeps it.
 
 -- what holds before a step that tells it, and is kept by each step, holds after every list whose part has such a step
-pub since_once : (f : Profile) (k : ℕ) (P : Made → List Made → Type 0) (Q : Whole → Type 0) → ((t : Triple) (l : Whole) → Legal f (t ∷ l) → P t.made (part k l) → Q l) → ((t : Triple) (l : Whole) → Legal f (t ∷ l) → Q l → Q (t ∷ l))
+since_once : (f : Profile) (k : ℕ) (P : Made → List Made → Type 0) (Q : Whole → Type 0) → ((t : Triple) (l : Whole) → Legal f (t ∷ l) → P t.made (part k l) → Q l) → ((t : Triple) (l : Whole) → Legal f (t ∷ l) → Q l → Q (t ∷ l))
     → (l : Whole) → Legal f l → Once P (part k l) → Q l
 since_once f k P Q told kept [] legal h = absurd h
 since_once f k P Q told kept (t ∷ l) legal h =
@@ -53,7 +44,7 @@ since_once f k P Q told kept (t ∷ l) legal h =
 
 -- ---- where it lay
 -- a block that ends lies in the region
-pub end_within : (f : Profile) (l : Whole) → IsValid f → Legal f l → (name : Name) (guess a : ℕ) → IsStepOf f (End name guess) → a ≡ word_after l (life_word_at (grain_of name)) → a ≡ live_word name.turn guess → (256 ≤ grain_of name) × (grain_of name + guess ≤ 256 * (f.pages + 1))
+end_within : (f : Profile) (l : Whole) → IsValid f → Legal f l → (name : Name) (guess a : ℕ) → IsStepOf f (End name guess) → a ≡ word_after l (life_word_at (grain_of name)) → a ≡ live_word name.turn guess → (256 ≤ grain_of name) × (grain_of name + guess ≤ 256 * (f.pages + 1))
 end_within f l valid legal name guess a of is hit = let at : IsFound f l name guess = end_finds f l valid legal name guess a of is hit in (at.first, at.last)
 
 -- ---- the deeds of its pages
@@ -94,10 +85,9 @@ no_end l s a none = record { heap = 0; pages = λ page h. absurd (false≢true (
 end_pages : (f : Profile) (l : Whole) → IsValid f → Legal f l → (name : Name) (guess a : ℕ) → IsStepOf f (End name guess) → a ≡ word_after l (life_word_at (grain_of name)) → (t : Bool) → (a == live_word name.turn guess) ≡ t → HasEnded l (End name guess) a
 end_pages f l valid legal name guess a of is true e =
     let at : IsFound f l name guess = end_finds f l valid legal name guess a of is (eqb-true a (live_word name.turn guess) e) in
-    let some = of.3 in
     record {
       heap = at.block.block.heap;
-      pages = λ page h. live_heap f l valid legal (address_of name) guess page at.block at.lives at.grains_are (omega (arith, some)) (and_parts (a == live_word name.turn guess) (meets_page (grain_of name) guess page) h).1;
+      pages = λ page h. live_heap f l valid legal (address_of name) guess page at.block at.lives at.grains_are (omega (arith, of.3)) (and_parts (a == live_word name.turn guess) (meets_page (grain_of name) guess page) h).1;
     }
 end_pages f l valid legal name guess a of is false e =
     no_end l (End name guess) a (λ page. ap (λ b. b && meets_page (grain_of name) guess page) e)
@@ -110,7 +100,7 @@ has_ended f l valid legal (EndSized name room) a of is =
 has_ended f l valid legal s a of is = no_end l s a (λ page. refl)
 
 -- a page of a block that an actor once ended has a deed
-pub ended_has_deed : (f : Profile) (l : Whole) → IsValid f → Legal f l → (k page : ℕ) → EndedOn (part k l) page → word_after l (Word.Deed page) ≢ 0
+ended_has_deed : (f : Profile) (l : Whole) → IsValid f → Legal f l → (k page : ℕ) → EndedOn (part k l) page → word_after l (Word.Deed page) ≢ 0
 ended_has_deed f l valid legal k page =
     since_once f k (λ m before. ends_on m.step m.answer page ≡ true) (λ l. word_after l (Word.Deed page) ≢ 0)
     (λ t l legal h.
@@ -137,7 +127,7 @@ kept_one t l page other h =
     }
 
 -- two pages of one block that an actor once ended have deeds of one heap
-pub ended_has_heap : (f : Profile) (l : Whole) → IsValid f → Legal f l → (k page other : ℕ) → EndedOnBoth (part k l) page other → heap_recorded (word_after l (Word.Deed page)) ≡ heap_recorded (word_after l (Word.Deed other))
+ended_has_heap : (f : Profile) (l : Whole) → IsValid f → Legal f l → (k page other : ℕ) → EndedOnBoth (part k l) page other → heap_recorded (word_after l (Word.Deed page)) ≡ heap_recorded (word_after l (Word.Deed other))
 ended_has_heap f l valid legal k page other h =
     let both : AreOfOne l page other = since_once f k (λ m before. (ends_on m.step m.answer page ≡ true) × (ends_on m.step m.answer other ≡ true)) (λ l. AreOfOne l page other)
     (λ t l legal h.
@@ -166,7 +156,7 @@ backed_deed f (Event.Back k q ∷ es) run p h = back_has (q == p) q p es (backed
 backed_deed f (Event.Unback k q e ∷ es) run p h = backed_deed f es run.1 p (was_set (q == p) (backed_in es p) h)
 backed_deed f (e ∷ es) run p h = backed_deed f es run.1 p h
 
-pub some_deed : (o : Option Directory) → o ≢ None → word_of_deed o ≢ 0
+some_deed : (o : Option Directory) → o ≢ None → word_of_deed o ≢ 0
 some_deed None h = absurd (h refl)
 some_deed (Some d) h = deed_word_of-positive d
 
@@ -187,7 +177,7 @@ backed_read l (Unback q) a p is h = backed_word l a q p is h
 backed_read l s a p is h = absurd (false≢true h)
 
 -- a page that an actor once read as backed has a deed
-pub read_backed : (f : Profile) (l : Whole) → IsValid f → Legal f l → (k p : ℕ) → ReadBacked (part k l) p → word_after l (Word.Deed p) ≢ 0
+read_backed : (f : Profile) (l : Whole) → IsValid f → Legal f l → (k p : ℕ) → ReadBacked (part k l) p → word_after l (Word.Deed p) ≢ 0
 read_backed f l valid legal k p =
     since_once f k (λ m before. (reads_backed m.step p ≡ true) × (m.answer ≡ 1)) (λ l. word_after l (Word.Deed p) ≢ 0)
     (λ t l legal h. let next : IsNext f l t = legal.0 in backed_has_deed f l valid legal.1 p (sym (backed_read l t.made.step t.made.answer p next.answer_is h.0) ∙ h.1))
@@ -211,7 +201,7 @@ record WasThere (l : Whole) (g turn grains : ℕ) : Type 0 where
 
 there : (f : Profile) (l : Whole) (g word turn grains gives ends : ℕ) (live : Option Live) → live_in (visible l) (16 * g) ≡ live → gives_in (visible l) (16 * g) ≡ gives → IsLifeOf f g word live gives ends
     → is_live word ≡ true → turn_of word ≡ turn → grains_of word ≡ grains → WasThere l g turn grains
-there f l g word turn grains gives ends None is gave life alive t n = let w = life.word_is in let few = life.few in let big : 2 ^ 63 ≤ word = leb-true (2 ^ 63) word alive in absurd (omega (arith, w, few, big))
+there f l g word turn grains gives ends None is gave life alive t n = let big : 2 ^ 63 ≤ word = leb-true (2 ^ 63) word alive in absurd (omega (arith, life.word_is, life.few, big))
 there f l g word turn grains gives ends (Some b) is gave life alive t n =
     let w = life.word_is in let few = life.few in let short = life.short in let own = life.turn in let one = life.gives_are in
     let at : address_of b.block.name ≡ 16 * g = life.address in
@@ -248,7 +238,7 @@ was_there f l valid legal k g turn grains =
 
 same_grains : (f : Profile) (g word : ℕ) (live : Option Live) (gives ends : ℕ) (block : Block) → IsLifeOf f g word live gives ends → ((b : Live) → live ≡ Some b → b.block.name.turn ≡ block.name.turn → b.block ≡ block)
     → is_live word ≡ true → turn_of word ≡ block.name.turn → grains_of word ≡ length_of block
-same_grains f g word None gives ends block life same alive t = let w = life.word_is in let few = life.few in let big : 2 ^ 63 ≤ word = leb-true (2 ^ 63) word alive in absurd (omega (arith, w, few, big))
+same_grains f g word None gives ends block life same alive t = let big : 2 ^ 63 ≤ word = leb-true (2 ^ 63) word alive in absurd (omega (arith, life.word_is, life.few, big))
 same_grains f g word (Some b) gives ends block life same alive t =
     let w = life.word_is in let few = life.few in let short = life.short in
     let e : ends ≡ block.name.turn = omega (arith, w, few, t) in
@@ -256,7 +246,7 @@ same_grains f g word (Some b) gives ends block life same alive t =
     n ∙ ap length_of (same b refl (life.turn ∙ e))
 
 -- a block that an actor once read as live, and that still lives, has the length that it had then
-pub read_again : (f : Profile) (l : Whole) → IsValid f → Legal f l → (k g grains : ℕ) → is_live (word_after l (life_word_at g)) ≡ true → ReadLive (part k l) g (turn_of (word_after l (life_word_at g))) grains → grains_of (word_after l (life_word_at g)) ≡ grains
+read_again : (f : Profile) (l : Whole) → IsValid f → Legal f l → (k g grains : ℕ) → is_live (word_after l (life_word_at g)) ≡ true → ReadLive (part k l) g (turn_of (word_after l (life_word_at g))) grains → grains_of (word_after l (life_word_at g)) ≡ grains
 read_again f l valid legal k g grains alive read =
     let was : WasThere l g (turn_of (word_after l (life_word_at g))) grains = was_there f l valid legal k g (turn_of (word_after l (life_word_at g))) grains read in
     same_grains f g (word_after l (life_word_at g)) (live_in (visible l) (16 * g)) (gives_in (visible l) (16 * g)) (ends_in (visible l) (16 * g)) was.block (life_of f l valid legal g)
@@ -322,11 +312,11 @@ held_is_dead f l valid legal k g h = false_from_ne_true (is_live (word_after l (
 
 -- a life word is that of a live block, or the turn alone
 live_codec : (f : Profile) (g word : ℕ) (live : Option Live) (gives ends : ℕ) → IsLifeOf f g word live gives ends → is_live word ≡ true → word ≡ live_word (turn_of word) (grains_of word)
-live_codec f g word None gives ends life h = let w = life.word_is in let few = life.few in absurd (omega (arith, w, few, leb-true (2 ^ 63) word h))
-live_codec f g word (Some b) gives ends life h = let w = life.word_is in let few = life.few in let short = life.short in omega (arith, w, few, short)
+live_codec f g word None gives ends life h = absurd (omega (arith, life.word_is, life.few, leb-true (2 ^ 63) word h))
+live_codec f g word (Some b) gives ends life h = omega (arith, life.word_is, life.few, life.short)
 
 turn_codec : (f : Profile) (g word : ℕ) (live : Option Live) (gives ends : ℕ) → IsLifeOf f g word live gives ends → is_live word ≡ false → word ≡ turn_of word
-turn_codec f g word None gives ends life h = let w = life.word_is in let few = life.few in omega (arith, w, few)
+turn_codec f g word None gives ends life h = omega (arith, life.word_is, life.few)
 turn_codec f g word (Some b) gives ends life h = absurd (false≢true (sym h ∙ live_is_live f g word b gives ends life))
 
 life_agrees : (f : Profile) (l : Whole) → IsValid f → Legal f l → (k g a : ℕ) → a ≡ word_after l (life_word_at g) → AgreesLife f (part k l) g a
@@ -345,7 +335,7 @@ life_agrees f l valid legal k g a is = subst (AgreesLife f (part k l) g) (sym is
 end_apart : (f : Profile) (l : Whole) → IsValid f → Legal f l → (k : ℕ) (name : Name) (guess a : ℕ) → IsStepOf f (End name guess) → a ≡ word_after l (life_word_at (grain_of name)) → a ≡ live_word name.turn guess → (x : ℕ) → in_run (grain_of name) guess x ≡ true
     → holds (part k l) x ≡ false
 end_apart f l valid legal k name guess a of is live x inside =
-    let turn : name.turn < 2 ^ 40 = let t = of.2 in omega (arith, t) in
+    let turn : name.turn < 2 ^ 40 = omega (arith, of.2) in
     let word : live_word name.turn guess ≡ word_after l (life_word_at (grain_of name)) = sym live ∙ is in
     let n : guess ≡ grains_of (word_after l (life_word_at (grain_of name))) = sym (grains_of-live_word name.turn guess turn (guess_fits guess f.pages valid.pages of.4)) ∙ ap grains_of word in
     covered_is_free f l valid legal k (grain_of name) x (ap is_live (sym word) ∙ is_live-live_word name.turn guess) (ap (λ m. in_run (grain_of name) m x) (sym n) ∙ inside)

@@ -1,7 +1,7 @@
 -- The steps of some actors in a list of those of all.
-use Rattle.std.proofs.Common.{ℕ, Bool, true, false, if◌then◌else◌, ◌≡◌, ◌==◌, List, [], ◌∷◌, ◌++◌, length, refl, sym, ap, ◌∙◌, arith, suc, subst, eqb-true, eq-eqb, ne_eqb, true≢false}
-use Rattle.pas_steps.specs.Desks.{triple, triples}
-use Rattle.pas_steps.specs.Lists.{Triple, Whole, part}
+use Rattle.std.proofs.Common.{ℕ, Bool, true, false, if◌then◌else◌, ◌≡◌, ◌==◌, List, [], ◌∷◌, ◌++◌, length, refl, sym, ap, ◌∙◌, arith, suc, subst, eqb-true}
+use Rattle.std.proofs.Common.{eq-eqb, ne_eqb, true≢false}
+use Rattle.pas_steps.specs.{Desks.triple, Desks.triples, Lists.Triple, Lists.Whole, Lists.part}
 use Rattle.pas_steps.specs.declared.step.Made.{Made}
 use Rattle.pas_core.specs.Orders.{steps_by}
 

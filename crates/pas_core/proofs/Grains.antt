@@ -1,18 +1,12 @@
 -- Each grain is in exactly one place: free, held by one actor, or covered by one live block.
-use Rattle.std.proofs.Common.{◌≡◌, ℕ, ◌+◌, ◌-◌, ◌*◌, ◌/◌, ◌%◌, ◌^◌, ◌<◌, ◌≤◌, ◌==◌, nat_lt, nat_le, Bool, true, false, not, ◌&&◌, ◌||◌, if◌then◌else◌, [], ◌∷◌, refl, ap, sym, ◌∙◌, arith, bit_and, bit_or}
-use Rattle.std.specs.Int.{bit_not, w64}
-use Rattle.std.proofs.lemmas.Nat.Bits.{bit_at_ones}
-use Rattle.std.proofs.lemmas.Bool.{eqb-true, and_parts, le-leb, lt-leb, cond_both}
-use Rattle.std.proofs.lemmas.Bool.Decides.{nat_tests}
-use Rattle.pas_bits.specs.Bits.{has_bit}
-use Rattle.pas_profile.specs.Layouts.{same_word}
-use Rattle.pas_profile.specs.Lives.{live_word, is_live, grains_of}
-use Rattle.pas_profile.specs.Profiles.{IsValid}
-use Rattle.pas_profile.specs.declared.profile.Profile.{Profile}
-use Rattle.pas_profile.specs.declared.name.Block.{Block}
-use Rattle.pas_profile.specs.declared.word.Word.{Word}
-use Rattle.pas_bits.specs.Runs.{in_run}
-use Rattle.pas_profile.specs.Blocks.{address_of, grain_of, length_of}
+use Rattle.std.proofs.Common.{◌≡◌, ℕ, ◌+◌, ◌-◌, ◌*◌, ◌/◌, ◌%◌, ◌^◌, ◌<◌, ◌≤◌, ◌==◌, nat_lt, nat_le, Bool, true, false, not, ◌&&◌, ◌||◌, if◌then◌else◌, [], ◌∷◌}
+use Rattle.std.proofs.Common.{refl, ap, sym, ◌∙◌, arith, bit_and, bit_or, w64, eqb-true, le-leb}
+use Rattle.std.specs.Int.{bit_not}
+use Rattle.std.proofs.lemmas.{Nat.Bits.bit_at_ones, Bool.and_parts, Bool.lt-leb, Bool.cond_both, Bool.Decides.nat_tests}
+use Rattle.pas_bits.specs.{Bits.has_bit, Runs.in_run}
+use Rattle.pas_profile.specs.{Layouts.same_word, Lives.live_word, Lives.is_live, Lives.grains_of, Profiles.IsValid, Blocks.address_of, Blocks.grain_of}
+use Rattle.pas_profile.specs.{Blocks.length_of}
+use Rattle.pas_profile.specs.declared.{profile.Profile.Profile, name.Block.Block, word.Word.Word}
 use Rattle.pas_steps.specs.Effects.{free_word_at, life_word_at, in_mask, target, new_value}
 use Rattle.pas_steps.specs.Views.{Move, Stays, Gets, Puts, Gives, Ends, grain_move, held_after, holds, epoch_of}
 use Rattle.pas_steps.specs.Allowed.{Allowed, IsStepOf}
@@ -20,8 +14,7 @@ use Rattle.pas_steps.specs.Lists.{Whole, word_after, part, IsNext, Legal}
 use Rattle.pas_steps.specs.declared.step.Step.{Step}
 use Rattle.pas_steps.specs.declared.step.Step.TheVariants.{Look, Take, Put, Give, End, EndSized}
 use Rattle.pas_core.specs.Good.{Place, IsFree, Held, Covered, is_free, is_held_by, is_covered_by, covers, IsPlacedOnce}
-use Rattle.pas_bits.proofs.Words.{bit_cleared, bit_of_or}
-use Rattle.pas_bits.proofs.Runs.{first_of_run}
+use Rattle.pas_bits.proofs.{Words.bit_cleared, Words.bit_of_or, Runs.first_of_run}
 use Rattle.pas_core.proofs.Deeds.{looked}
 use Rattle.pas_steps.proofs.Targets.{guess_fits}
 
@@ -31,14 +24,14 @@ pub life_same : (c b : ℕ) → same_word (life_word_at c) (life_word_at b) ≡ 
 life_same c b = grind (arith, nat_tests)
 
 -- the free word of a page that a grain stands in
-pub free_same : (l : Whole) (page word g : ℕ) → ((word == g / 64 % 4) && (page == g / 256)) ≡ true → word_after l (Word.Free page word) ≡ word_after l (free_word_at g)
+free_same : (l : Whole) (page word g : ℕ) → ((word == g / 64 % 4) && (page == g / 256)) ≡ true → word_after l (Word.Free page word) ≡ word_after l (free_word_at g)
 free_same l page word g h =
     let parts = and_parts (word == g / 64 % 4) (page == g / 256) h in
     ap (λ w. word_after l (Word.Free page w)) (eqb-true word (g / 64 % 4) parts.0) ∙ ap (λ p. word_after l (Word.Free p (g / 64 % 4))) (eqb-true page (g / 256) parts.1)
 
 -- ---- the numbers of a step of a valid profile fit
 pub give_short : (f : Profile) (address room : ℕ) → IsValid f → address + room ≤ 4096 * (f.pages + 1) → room / 16 < 2 ^ 23
-give_short f address room valid h = let p = valid.pages in omega (arith, p, h)
+give_short f address room valid h = omega (arith, valid.pages, h)
 
 -- ---- places and moves, whatever the step
 abbrev place_after : ℕ → Move → Place → Place
@@ -216,11 +209,11 @@ step_fits f l k (Give block) a g at valid of allowed is = fits_if k (Gives (grai
 step_fits f l k (End name guess) a g at valid of allowed is = fits_if k (Ends (grain_of name)) at.place ((a == live_word name.turn guess) && in_run (grain_of name) guess g) (λ h.
     let parts = and_parts (a == live_word name.turn guess) (in_run (grain_of name) guess g) h in
     is_covered_by-true (grain_of name) at.place (sym (at.covered (grain_of name)) ∙ ap (λ w. covers w (grain_of name) g) (sym is ∙ eqb-true a (live_word name.turn guess) parts.0)
-    ∙ covers_live name.turn guess (grain_of name) g (let t = of.2 in omega (arith, t)) (guess_fits guess f.pages valid.pages of.4) ∙ parts.1))
+    ∙ covers_live name.turn guess (grain_of name) g (omega (arith, of.2)) (guess_fits guess f.pages valid.pages of.4) ∙ parts.1))
 step_fits f l k (EndSized name room) a g at valid of allowed is = fits_if k (Ends (grain_of name)) at.place ((a == live_word name.turn (room / 16)) && in_run (grain_of name) (room / 16) g) (λ h.
     let parts = and_parts (a == live_word name.turn (room / 16)) (in_run (grain_of name) (room / 16) g) h in
     is_covered_by-true (grain_of name) at.place (sym (at.covered (grain_of name)) ∙ ap (λ w. covers w (grain_of name) g) (sym is ∙ eqb-true a (live_word name.turn (room / 16)) parts.0)
-    ∙ covers_live name.turn (room / 16) (grain_of name) g (let t = of.0.2 in omega (arith, t)) (guess_fits (room / 16) f.pages valid.pages of.0.4) ∙ parts.1))
+    ∙ covers_live name.turn (room / 16) (grain_of name) g (omega (arith, of.0.2)) (guess_fits (room / 16) f.pages valid.pages of.0.4) ∙ parts.1))
 step_fits f l k s a g at valid of allowed is = tt
 
 -- ---- the induction

@@ -1,34 +1,26 @@
 -- Life words: the blocks that live, those that were given, and their turns.
-use Rattle.std.proofs.Common.{◌≡◌, ◌≢◌, ℕ, ◌+◌, ◌-◌, ◌*◌, ◌/◌, ◌%◌, ◌^◌, ◌<◌, ◌≤◌, ◌==◌, Bool, true, false, ◌&&◌, if◌then◌else◌, List, [], ◌∷◌, Option, Some, None, refl, ap, sym, ◌∙◌, subst, arith, inl, inr, ◌++◌, length, zero, suc}
-use Rattle.std.proofs.lemmas.Bool.{false≢true, eqb-true, eq-eqb, cases_eq, and_parts, le-leb, cond_both, eqb-false}
-use Rattle.pas_profile.specs.Layouts.{same_word}
-use Rattle.pas_profile.specs.Lives.{live_word, is_live, turn_of}
-use Rattle.pas_profile.specs.Profiles.{IsValid}
-use Rattle.pas_profile.specs.declared.profile.Profile.{Profile}
-use Rattle.pas_profile.specs.declared.name.Block.{Block}
-use Rattle.pas_profile.specs.declared.name.Name.{Name}
-use Rattle.pas_profile.specs.declared.word.Word.{Word}
-use Rattle.pas_profile.specs.declared.event.Event.{Event}
-use Rattle.pas_profile.specs.declared.event.Why.{Why}
+use Rattle.std.proofs.Common.{◌≡◌, ◌≢◌, ℕ, ◌+◌, ◌-◌, ◌*◌, ◌/◌, ◌%◌, ◌^◌, ◌<◌, ◌≤◌, ◌==◌, Bool, true, false, ◌&&◌, if◌then◌else◌, List, [], ◌∷◌, Option, Some}
+use Rattle.std.proofs.Common.{None, refl, ap, sym, ◌∙◌, subst, arith, inl, inr, ◌++◌, length, zero, suc, eqb-true, eq-eqb, le-leb}
+use Rattle.std.proofs.lemmas.Bool.{false≢true, cases_eq, and_parts, cond_both, eqb-false}
+use Rattle.pas_profile.specs.{Layouts.same_word, Lives.live_word, Lives.is_live, Lives.turn_of, Profiles.IsValid, Blocks.address_of, Blocks.grain_of}
+use Rattle.pas_profile.specs.{Blocks.length_of}
+use Rattle.pas_profile.specs.declared.{profile.Profile.Profile, name.Block.Block, name.Name.Name, word.Word.Word, event.Event.Event, event.Why.Why}
 use Rattle.pas_bits.specs.Runs.{in_run}
-use Rattle.pas_profile.specs.Blocks.{address_of, grain_of, length_of}
 use Rattle.pas_machine.specs.State.{Live, live_in, gives_in, ends_in}
-use Rattle.pas_steps.specs.Effects.{life_word_at, target, new_value}
-use Rattle.pas_steps.specs.Views.{View, Move, Stays, Gets, Gives, Ends, grain_move, held_after, holds, epoch_of, looks_at_life, life_after, known_life, given_after, given_count}
+use Rattle.pas_steps.specs.{Effects.life_word_at, Effects.target, Effects.new_value, Allowed.Allowed, Allowed.IsStepOf, Allowed.IsBlockOf}
+use Rattle.pas_steps.specs.Views.{View, Move, Stays, Gets, Gives, Ends, grain_move, held_after, holds, epoch_of, looks_at_life, life_after, known_life}
+use Rattle.pas_steps.specs.Views.{given_after, given_count}
 use Rattle.pas_steps.specs.Events.{event_of, end_event, with_event, reason_of, sized_reason, sized_event}
-use Rattle.pas_steps.specs.Allowed.{Allowed, IsStepOf, IsBlockOf}
 use Rattle.pas_steps.specs.Lists.{Whole, word_after, part, visible, IsNext, Legal, Triple}
 use Rattle.pas_steps.specs.declared.step.Step.{Step}
 use Rattle.pas_steps.specs.declared.step.Step.TheVariants.{Look, Deed, Back, Give, End, EndSized}
 use Rattle.pas_core.specs.Good.{Place, IsFree, Held, Covered, is_held_by, is_covered_by, covers, IsPlacedOnce, IsLifeOf, IsLifeOfNone, IsLifeOfLive, IsBare}
 use Rattle.pas_core.proofs.Grains.{life_same, give_short, Fits, is_held_by-true, covers_live, some_grain, step_fits, placed_once}
-use Rattle.std.proofs.lemmas.Option.{same_Some, none-some}
+use Rattle.std.proofs.lemmas.{Option.same_Some, Option.none-some, Bool.Decides.nat_tests}
 use Rattle.pas_core.proofs.Deeds.{event_if, end_if, looked}
 use Rattle.pas_bits.proofs.Runs.{first_of_run}
-use Rattle.std.proofs.lemmas.Bool.Decides.{nat_tests}
-use Rattle.pas_machine.specs.Machine.{Admits, Run}
+use Rattle.pas_machine.specs.{Machine.Admits, Machine.Run, Totals.sum_below}
 use Rattle.pas_core.specs.Given.{WasGiven}
-use Rattle.pas_machine.specs.Totals.{sum_below}
 use Rattle.pas_steps.proofs.Parts.{each_part}
 
 -- ==== The life words are those of the machine, and what actors know of them is true.
@@ -117,16 +109,16 @@ life_is_known f l valid legal k g = each_part f (λ l k v. TellsLife v g (word_a
 -- ---- life words of the machine
 -- the block that a live word tells of
 pub block_of_word : (f : Profile) (g word : ℕ) (live : Option Live) (gives ends t n : ℕ) → IsLifeOf f g word live gives ends → t < 2 ^ 40 → word ≡ live_word t n → (b : Live) × (live ≡ Some b) × (b.block.name.turn ≡ t) × (ends ≡ t)
-block_of_word f g word None gives ends t n h small is = let w = h.word_is in let few = h.few in absurd (omega (arith, w, few, is))
-block_of_word f g word (Some b) gives ends t n h small is = let w = h.word_is in let few = h.few in let short = h.short in let e : ends ≡ t = omega (arith, w, few, short, is, small) in (b, refl, h.turn ∙ e, e)
+block_of_word f g word None gives ends t n h small is = absurd (omega (arith, h.word_is, h.few, is))
+block_of_word f g word (Some b) gives ends t n h small is = let e : ends ≡ t = omega (arith, h.word_is, h.few, h.short, is, small) in (b, refl, h.turn ∙ e, e)
 
 -- the turn of a life word is the number of blocks that ended there
 pub turn_is : (f : Profile) (g word : ℕ) (live : Option Live) (gives ends : ℕ) → IsLifeOf f g word live gives ends → turn_of word ≡ ends
-turn_is f g word None gives ends h = let few = h.few in ap turn_of h.word_is ∙ omega (arith, few)
-turn_is f g word (Some b) gives ends h = let few = h.few in ap turn_of h.word_is ∙ omega (arith, few)
+turn_is f g word None gives ends h = ap turn_of h.word_is ∙ omega (arith, h.few)
+turn_is f g word (Some b) gives ends h = ap turn_of h.word_is ∙ omega (arith, h.few)
 
 pub live_is_live : (f : Profile) (g word : ℕ) (b : Live) (gives ends : ℕ) → IsLifeOfLive f g word b gives ends → is_live word ≡ true
-live_is_live f g word b gives ends h = let w = h.word_is in let big : 2 ^ 63 ≤ word = omega (arith, w) in le-leb (2 ^ 63) word big
+live_is_live f g word b gives ends h = let big : 2 ^ 63 ≤ word = omega (arith, h.word_is) in le-leb (2 ^ 63) word big
 
 -- the grain of an address
 address_same : (address g : ℕ) → address % 16 ≡ 0 → (address == 16 * g) ≡ (address / 16 == g)
@@ -164,7 +156,7 @@ give_life true f g word k block live gives ends was none new =
 give_life false f g word k block live gives ends was none new = was
 
 ended : (f : Profile) (g word : ℕ) (live : Option Live) (gives ends t n : ℕ) → IsLifeOf f g word live gives ends → t < 2 ^ 40 - 1 → word ≡ live_word t n → IsLifeOfNone (t + 1) gives (ends + 1)
-ended f g word None gives ends t n h small is = let w = h.word_is in let few = h.few in absurd (omega (arith, w, few, is))
+ended f g word None gives ends t n h small is = absurd (omega (arith, h.word_is, h.few, is))
 ended f g word (Some b) gives ends t n h small is =
     let w = h.word_is in let few = h.few in let short = h.short in
     let e : ends ≡ t = omega (arith, w, few, short, is, small) in
@@ -325,9 +317,9 @@ ended_live false live block old b is turn = old b is turn
 
 pub one_more : (f : Profile) (e : Event) (es : List Event) (block : Block) → Admits f es e → WasGiven es block → WasGiven (e ∷ es) block
 one_more f (Event.Give k new) es block admits given = record {
-  earlier = let more = cond_both (address_of new.name == address_of block.name) (gives_in es (address_of block.name) + 1) (gives_in es (address_of block.name)) (λ n. (gives_in es (address_of block.name)) ≤ n) (λ here. omega arith) (λ other. omega arith) in let old = given.earlier in omega (arith, more, old);
+  earlier = let more = cond_both (address_of new.name == address_of block.name) (gives_in es (address_of block.name) + 1) (gives_in es (address_of block.name)) (λ n. (gives_in es (address_of block.name)) ≤ n) (λ here. omega arith) (λ other. omega arith) in omega (arith, more, given.earlier);
   same = given_live (address_of new.name == address_of block.name) (live_in es (address_of block.name)) (record { actor = k; block = new }) block
-      (λ x turn. let next : new.name.turn ≡ gives_in es (address_of block.name) = admits.turn ∙ ap (gives_in es) (eqb-true (address_of new.name) (address_of block.name) x) in let old = given.earlier in absurd (omega (arith, next, turn, old))) given.same;
+      (λ x turn. let next : new.name.turn ≡ gives_in es (address_of block.name) = admits.turn ∙ ap (gives_in es) (eqb-true (address_of new.name) (address_of block.name) x) in absurd (omega (arith, next, turn, given.earlier))) given.same;
 }
 one_more f (Event.End k name e) es block admits given = record { earlier = given.earlier; same = ended_live (address_of name == address_of block.name) (live_in es (address_of block.name)) block given.same }
 one_more f s es block admits given = record { earlier = given.earlier; same = given.same }
@@ -343,7 +335,7 @@ new_block f k block es admits =
     let here : (address_of block.name == address_of block.name) ≡ true = eq-eqb (address_of block.name) (address_of block.name) refl in
     record {
       earlier = let one : gives_in (Event.Give k block ∷ es) (address_of block.name) ≡ gives_in es (address_of block.name) + 1 = ap (λ x. if x then gives_in es (address_of block.name) + 1 else gives_in es (address_of block.name)) here in
-          let turn = admits.turn in omega (arith, one, turn);
+          omega (arith, one, admits.turn);
       same = λ b is turn.
           let one : Some (record { actor = k; block = block }) ≡ Some b = sym (ap (λ x. if x then Some (record { actor = k; block = block }) else live_in es (address_of block.name)) here) ∙ is in
           ap (λ y. y.block) (sym (same_Some (record { actor = k; block = block }) b one));
@@ -360,7 +352,7 @@ count_gives [] = 0
 count_gives (e ∷ es) = gives_counted e (count_gives es)
 
 -- the gives at one address are some of all
-pub gives_few : (es : List Event) (address : ℕ) → gives_in es address ≤ count_gives es
+gives_few : (es : List Event) (address : ℕ) → gives_in es address ≤ count_gives es
 gives_few [] address = omega arith
 gives_few (Event.Give k block ∷ es) address = cond_both (address_of block.name == address) (gives_in es address + 1) (gives_in es address) (λ n. n ≤ (count_gives es) + 1) (λ here. omega (arith, gives_few es address)) (λ other. omega (arith, gives_few es address))
 gives_few (e ∷ es) address = gives_few es address
@@ -375,7 +367,7 @@ counts_few [] = omega arith
 counts_few (e ∷ es) = let rest = counted_few e (count_gives es) (length es) (counts_few es) in omega (arith, rest)
 
 -- a step adds as many gives as its event is
-pub count_step : (k e : ℕ) (s : Step) (a : ℕ) (es : List Event) → count_gives (with_event (event_of k e s a) es) ≡ given_after s (count_gives es)
+count_step : (k e : ℕ) (s : Step) (a : ℕ) (es : List Event) → count_gives (with_event (event_of k e s a) es) ≡ given_after s (count_gives es)
 count_step k e (Deed page directory) a es = event_if (λ x. count_gives x ≡ count_gives es) (a == 0) (Event.Deed k page directory) es refl refl
 count_step k e (Back page) a es = event_if (λ x. count_gives x ≡ count_gives es) (a == 0) (Event.Back k page) es refl refl
 count_step k e (End name guess) a es = end_if (λ x. count_gives x ≡ count_gives es) (a == live_word name.turn guess) (is_live a && (turn_of a == name.turn)) (Event.End k name e) (Event.Reject k name (reason_of name a)) es (λ hit. refl) refl refl
@@ -390,7 +382,7 @@ turns_few es address = let some = gives_few es address in let few = counts_few e
 
 -- ---- an actor gives at most 2 ^ 32 blocks
 few_next : (f : Profile) (v : View) (s : Step) → Allowed f v s → given_count v ≤ 2 ^ 32 → given_after s (given_count v) ≤ 2 ^ 32
-few_next f v (Give block) allowed h = let few = allowed.few in omega (arith, few)
+few_next f v (Give block) allowed h = omega (arith, allowed.few)
 few_next f v s allowed h = h
 
 given_small : (f : Profile) (l : Whole) → Legal f l → (k : ℕ) → given_count (part k l) ≤ 2 ^ 32
@@ -426,7 +418,7 @@ all_gives : (f : Profile) (l : Whole) → Legal f l → count_gives (visible l) 
 all_gives f [] legal = omega arith
 all_gives f (t ∷ l) legal =
     let next : IsNext f l t = legal.0 in
-    let actor : t.actor < f.threads + 1 = let low = next.actor in omega (arith, low) in
+    let actor : t.actor < f.threads + 1 = omega (arith, next.actor) in
     let is : count_gives (visible (t ∷ l)) ≡ given_after t.made.step (count_gives (visible l)) = count_step t.actor (epoch_of (part t.actor l)) t.made.step t.made.answer (visible l) in
     let more : given_after t.made.step (count_gives (visible l)) ≡ count_gives (visible l) + given_after t.made.step 0 = more_given t.made.step (count_gives (visible l)) in
     let rises : sum_below (f.threads + 1) (λ k. given_count (part k l)) + given_after t.made.step 0 ≤ sum_below (f.threads + 1) (λ k. given_count (part k (t ∷ l)))
@@ -438,13 +430,12 @@ all_gives f (t ∷ l) legal =
 -- no address was given more often than all actors give
 gives_small : (f : Profile) (l : Whole) → IsValid f → Legal f l → (address : ℕ) → gives_in (visible l) address < 2 ^ 37
 gives_small f l valid legal address =
-    let threads = valid.threads in
     let all : sum_below (f.threads + 1) (λ k. given_count (part k l)) ≤ (f.threads + 1) * 2 ^ 32 = sum_small (f.threads + 1) (λ k. given_count (part k l)) (given_small f l legal) in
-    omega (arith, threads, all, all_gives f l legal, gives_few (visible l) address)
+    omega (arith, valid.threads, all, all_gives f l legal, gives_few (visible l) address)
 
 ends_below : (f : Profile) (g word : ℕ) (live : Option Live) (gives ends : ℕ) → IsLifeOf f g word live gives ends → ends ≤ gives
-ends_below f g word None gives ends h = let is = h.gives_are in omega (arith, is)
-ends_below f g word (Some b) gives ends h = let is = h.gives_are in omega (arith, is)
+ends_below f g word None gives ends h = omega (arith, h.gives_are)
+ends_below f g word (Some b) gives ends h = omega (arith, h.gives_are)
 
 -- the turn of each life word is small
 pub turn_small : (f : Profile) (l : Whole) → IsValid f → Legal f l → (g : ℕ) → turn_of (word_after l (life_word_at g)) < 2 ^ 37

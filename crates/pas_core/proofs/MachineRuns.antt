@@ -1,46 +1,36 @@
 -- The machine behind a legal list: its visible events are a run, the words are those of the machine, each grain is in one place in the machine's words,
 -- and in some list a page is unbacked.
-use Rattle.std.proofs.Common.{◌≡◌, ◌≢◌, ℕ, ◌+◌, ◌-◌, ◌*◌, ◌/◌, ◌%◌, ◌^◌, ◌<◌, ◌≤◌, ◌==◌, nat_lt, Bool, true, false, ◌&&◌, if◌then◌else◌, List, [], ◌∷◌, Option, Some, None, refl, ap, sym, ◌∙◌, subst, arith, inl, inr, max}
-use Rattle.std.proofs.lemmas.Bool.{false≢true, eqb-true, eqb-false, eq-eqb, and_parts, and_from, cond_both, false_from_ne_true, leb-true, cases_eq}
-use Rattle.std.proofs.lemmas.Bool.Decides.{nat_tests}
-use Rattle.pas_profile.specs.Directories.{kind_number, deed_word_of}
+use Rattle.std.proofs.Common.{◌≡◌, ◌≢◌, ℕ, ◌+◌, ◌-◌, ◌*◌, ◌/◌, ◌%◌, ◌^◌, ◌<◌, ◌≤◌, ◌==◌, nat_lt, Bool, true, false, ◌&&◌, if◌then◌else◌, List, [], ◌∷◌, Option}
+use Rattle.std.proofs.Common.{Some, None, refl, ap, sym, ◌∙◌, subst, arith, inl, inr, max, eqb-true, eq-eqb, leb-true}
+use Rattle.std.proofs.lemmas.Bool.{false≢true, eqb-false, and_parts, and_from, cond_both, false_from_ne_true, cases_eq}
+use Rattle.std.proofs.lemmas.{Bool.Decides.nat_tests, Nat.Bits.bit_at_ones}
+use Rattle.pas_profile.specs.{Directories.kind_number, Directories.deed_word_of, Profiles.IsValid, Profiles.IsPage, Profiles.IsDirectoryOf, Blocks.address_of}
+use Rattle.pas_profile.specs.{Blocks.grain_of, Blocks.length_of}
 use Rattle.pas_profile.specs.Lives.{live_word, is_live, turn_of, grains_of}
-use Rattle.pas_profile.specs.Profiles.{IsValid, IsPage, IsDirectoryOf}
-use Rattle.pas_profile.specs.declared.profile.Profile.{Profile}
-use Rattle.pas_profile.specs.declared.directory.Directory.{Directory}
-use Rattle.pas_profile.specs.declared.name.Block.{Block}
-use Rattle.pas_profile.specs.declared.name.Name.{Name}
-use Rattle.pas_profile.specs.declared.word.Word.{Word}
-use Rattle.pas_profile.specs.declared.event.Event.{Event}
-use Rattle.pas_profile.specs.declared.event.Why.{Why}
-use Rattle.pas_bits.specs.Runs.{in_run, meets_page}
-use Rattle.pas_profile.specs.Blocks.{address_of, grain_of, length_of}
+use Rattle.pas_profile.specs.declared.{profile.Profile.Profile, directory.Directory.Directory, name.Block.Block, name.Name.Name, word.Word.Word}
+use Rattle.pas_profile.specs.declared.{event.Event.Event, event.Why.Why, directory.Kind.TheVariants.Large}
+use Rattle.pas_bits.specs.{Runs.in_run, Runs.meets_page, Bits.has_bit}
 use Rattle.pas_machine.specs.State.{Live, deed_in, backed_in, live_in, gives_in, ends_in, touches, epoch_in}
 use Rattle.pas_machine.specs.Machine.{IsPlace, Bears, IsClear, IsLive, MayGive, IsReason, Admits, Run}
 use Rattle.pas_steps.specs.Effects.{life_word_at, target, free_word_at, in_mask}
 use Rattle.pas_steps.specs.Views.{holds, epoch_of, known_deed, View, Gets, Stays, held_after, holds_on, holds_all, knows_backed, known_stamp, all_ones}
-use Rattle.pas_steps.specs.Events.{event_of, with_event, reason_of}
+use Rattle.pas_steps.specs.{Events.event_of, Events.with_event, Events.reason_of, Desks.made, Desks.triple, Desks.triples}
 use Rattle.pas_steps.specs.Allowed.{Allowed, IsStepOf, IsBlockOf, KnowsBearing, MayUnback}
 use Rattle.pas_steps.specs.Lists.{Whole, word_after, part, visible, Legal, IsNext}
-use Rattle.pas_steps.specs.declared.step.Step.{Step}
+use Rattle.pas_steps.specs.declared.step.{Step.Step, Made.Made}
 use Rattle.pas_steps.specs.declared.step.Step.TheVariants.{Deed, Back, Give, End, EndSized, Unback, Look, Take, Tick}
-use Rattle.pas_core.specs.Good.{word_of_deed, word_of_backed, IsLifeOf, IsLifeOfNone, IsLifeOfLive, AgreesWithWords, Place, IsFree, Held, Covered, is_free, is_held_by, is_covered_by, covers, IsPlacedOnce, IsInOnePlace}
-use Rattle.pas_core.proofs.Grains.{some_grain, placed_once, covers_live}
+use Rattle.pas_core.specs.Good.{word_of_deed, word_of_backed, IsLifeOf, IsLifeOfNone, IsLifeOfLive, AgreesWithWords, Place, IsFree, Held, Covered, is_free}
+use Rattle.pas_core.specs.Good.{is_held_by, is_covered_by, covers, IsPlacedOnce, IsInOnePlace}
+use Rattle.pas_core.proofs.{Grains.some_grain, Grains.placed_once, Grains.covers_live, Rights.deeds_known, Rights.backed_known, Stamps.stamp_known}
+use Rattle.pas_core.proofs.{Stamps.ends_before, Stamps.moved_held}
 use Rattle.pas_core.proofs.Deeds.{known_is, deed_of, backed_of, directory_is_of, is_backed}
-use Rattle.pas_core.proofs.Rights.{deeds_known, backed_known}
-use Rattle.pas_core.proofs.Lives.{life_is_known, block_of_word, turn_is, live_is_live, no_block, dead_while_held, life_of, life_at, bare_of, live_of, live_is_aligned}
-use Rattle.pas_core.proofs.Stamps.{stamp_known, ends_before, moved_held}
+use Rattle.pas_core.proofs.Lives.{life_is_known, block_of_word, turn_is, live_is_live, no_block, dead_while_held, life_of, life_at, bare_of, live_of}
+use Rattle.pas_core.proofs.Lives.{live_is_aligned}
 use Rattle.pas_profile.proofs.Codecs.{kind_number_lt}
 use Rattle.pas_bits.proofs.Runs.{run_of, first_of_run, IsMet, met}
-use Rattle.pas_bits.specs.Bits.{has_bit}
 use Rattle.pas_machine.specs.Laws.{AreBorne, AreApart}
 use Rattle.pas_machine.proofs.LiveBlocks.{all_borne, live_apart}
-use Rattle.std.proofs.lemmas.Nat.Bits.{bit_at_ones}
-use Rattle.pas_profile.specs.declared.directory.Kind.TheVariants.{Large}
-use Rattle.pas_steps.specs.Desks.{made, triple, triples}
-use Rattle.pas_steps.specs.declared.step.Made.{Made}
-use Rattle.pas_steps.proofs.Kept.{any_from}
-use Rattle.pas_steps.proofs.Bits.{all_below-from}
+use Rattle.pas_steps.proofs.{Kept.any_from, Bits.all_below-from}
 
 -- ==== The visible events of every legal list are a run of the machine.
 
@@ -133,7 +123,7 @@ end_admits f false false k ep g a word guess name es run of is small life ze ye 
 -- a block of the name lives, and its room isn't the one that was named
 other_room : (f : Profile) (g word a room : ℕ) (name : Name) (es : List Event) (live : Option Live) → live_in es (address_of name) ≡ live → a ≡ word → IsLifeOf f g word live (gives_in es (address_of name)) (ends_in es (address_of name))
     → (a == live_word name.turn (room / 16)) ≡ false → is_live a ≡ true → turn_of a ≡ name.turn → IsReason es name (Why.SizeDiffers room)
-other_room f g word a room name es None at is life ne lives turn = let w = life.word_is in let few = life.few in let big : 2 ^ 63 ≤ word = grind (arith, nat_tests, lives, is) in absurd (omega (arith, w, few, big))
+other_room f g word a room name es None at is life ne lives turn = let big : 2 ^ 63 ≤ word = grind (arith, nat_tests, lives, is) in absurd (omega (arith, life.word_is, life.few, big))
 other_room f g word a room name es (Some b) at is life ne lives turn =
     let w = life.word_is in
     let ends : turn_of a ≡ ends_in es (address_of name) = ap turn_of is ∙ turn_is f g word (Some b) (gives_in es (address_of name)) (ends_in es (address_of name)) life in (
@@ -177,7 +167,7 @@ untouched_if : (f : Profile) (l : Whole) → IsValid f → Legal f l → (k page
 untouched_if f l valid legal k page address held None is = refl
 untouched_if f l valid legal k page address held (Some b) is = false_from_ne_true (touches (Some b) page) (λ h.
     let life : IsLifeOfLive f (address / 16) (word_after l (life_word_at (address / 16))) b (gives_in (visible l) address) (ends_in (visible l) address) = live_of f l valid legal address b is in
-    let first : address_of b.block.name / 16 ≡ address / 16 = let e = life.address in omega (arith, e) in
+    let first : address_of b.block.name / 16 ≡ address / 16 = omega (arith, life.address) in
     let at : IsMet (address / 16) (length_of b.block) page = met (address / 16) (length_of b.block) page life.some (ap (λ g. meets_page g (length_of b.block) page) (sym first) ∙ h) in
     no_block f l k (address / 16) at.grain b (gives_in (visible l) address) (ends_in (visible l) address) (placed_once f l valid legal at.grain) (held at.grain at.of_page) life at.of_run)
 
@@ -230,7 +220,7 @@ record LivesAt (l : Whole) (a : ℕ) : Type 0 where
   lives : live_in (visible l) (16 * a) ≡ Some block
 
 found_block : (f : Profile) (l : Whole) (a word : ℕ) (live : Option Live) (gives ends : ℕ) → live_in (visible l) (16 * a) ≡ live → IsLifeOf f a word live gives ends → is_live word ≡ true → LivesAt l a
-found_block f l a word None gives ends is life live = let w = life.word_is in let few = life.few in let big : 2 ^ 63 ≤ word = leb-true (2 ^ 63) word live in absurd (omega (arith, w, few, big))
+found_block f l a word None gives ends is life live = let big : 2 ^ 63 ≤ word = leb-true (2 ^ 63) word live in absurd (omega (arith, life.word_is, life.few, big))
 found_block f l a word (Some b) gives ends is life live = record { block = b; lives = is }
 
 in_place : (f : Profile) (l : Whole) (g : ℕ) → Legal f l → (o : Place) → has_bit (word_after l (free_word_at g)) (g % 64) ≡ is_free o → ((k : ℕ) → holds (part k l) g ≡ is_held_by k o)

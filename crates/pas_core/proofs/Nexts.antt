@@ -1,25 +1,17 @@
 -- One step more.
-use Rattle.std.proofs.Common.{◌≡◌, ℕ, ◌≤◌, ◌∷◌, sym, subst, Bool, true, false, if◌then◌else◌, List, length-set, refl, ap, ◌∙◌, ◌≢◌, ◌==◌, ◌++◌, []}
-use Rattle.pas_profile.specs.Profiles.{IsValid, IsWordOf}
-use Rattle.pas_profile.specs.declared.profile.Profile.{Profile}
-use Rattle.pas_steps.specs.Effects.{target, new_value}
-use Rattle.pas_steps.specs.Views.{View, epoch_of}
-use Rattle.pas_steps.specs.Allowed.{Allowed, IsStepOf}
+use Rattle.std.proofs.Common.{◌≡◌, ℕ, ◌≤◌, ◌∷◌, sym, subst, Bool, true, false, if◌then◌else◌, List, length-set, refl, ap, ◌∙◌, ◌≢◌, ◌==◌, ◌++◌, [], slice_index}
+use Rattle.std.proofs.Common.{slice_set, eq-eqb, eqb-true, ne_eqb}
+use Rattle.pas_profile.specs.{Profiles.IsValid, Profiles.IsWordOf, Layouts.index_of, Layouts.same_word}
+use Rattle.pas_profile.specs.declared.{profile.Profile.Profile, word.Word.Word}
+use Rattle.pas_steps.specs.{Effects.target, Effects.new_value, Views.View, Views.epoch_of, Allowed.Allowed, Allowed.IsStepOf, Agreement.Agrees}
+use Rattle.pas_steps.specs.{Agreement.Agreed, Desks.made, Desks.triple, Desks.triples}
 use Rattle.pas_steps.specs.Lists.{Whole, part, word_after, IsNext, Legal}
-use Rattle.pas_steps.specs.Agreement.{Agrees, Agreed}
-use Rattle.pas_steps.specs.Desks.{made, triple, triples}
-use Rattle.pas_steps.specs.declared.step.Step.{Step}
-use Rattle.pas_steps.specs.declared.step.Made.{Made}
+use Rattle.pas_steps.specs.declared.step.{Step.Step, Made.Made}
 use Rattle.pas_core.proofs.Agreement.{answer_agrees_at}
-use Rattle.std.specs.Prelude.{slice_index, slice_set}
-use Rattle.pas_profile.specs.Layouts.{index_of, same_word}
-use Rattle.pas_profile.specs.declared.word.Word.{Word}
 use Rattle.pas_profile.proofs.Places.{same_word-true}
-use Rattle.pas_steps.proofs.Targets.{place_written}
-use Rattle.pas_core.specs.WordLists.{AreWordsAfter}
-use Rattle.std.proofs.lemmas.Bool.{eq-eqb, eqb-true, ne_eqb, false≢true}
-use Rattle.pas_steps.proofs.Parts.{part_of_own, part_of_others}
-use Rattle.pas_core.specs.Orders.{IsOneOrder, with_step, ExtendsOnePart}
+use Rattle.pas_steps.proofs.{Targets.place_written, Parts.part_of_own, Parts.part_of_others}
+use Rattle.pas_core.specs.{WordLists.AreWordsAfter, Orders.IsOneOrder, Orders.with_step, Orders.ExtendsOnePart}
+use Rattle.std.proofs.lemmas.Bool.{false≢true}
 
 -- ==== The next step of an actor, for desks: a step that a view allows may come next with its word's value as the answer.
 

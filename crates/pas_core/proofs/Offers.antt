@@ -1,35 +1,28 @@
 -- Nothing is lost: hints, checks and offers of pages.
-use Rattle.std.proofs.Common.{◌≡◌, ℕ, ◌+◌, ◌*◌, ◌/◌, ◌%◌, ◌^◌, ◌<◌, ◌==◌, Bool, true, false, not, ◌&&◌, ◌||◌, if◌then◌else◌, [], ◌∷◌, refl, ap, sym, ◌∙◌, arith, bit_and, bit_or, inl, inr, ◌≢◌, subst, ◌⊎◌, List, ◌++◌}
-use Rattle.std.specs.Int.{bit_not, w64}
-use Rattle.std.proofs.lemmas.Bool.{false≢true, eqb-true, eq-eqb, and_parts, cases_Bool, false_from_ne_true, cond_both, cond-false, cond-true, not-true, or_from, and_from, ne_eqb, cases_lt, cases_eq}
+use Rattle.std.proofs.Common.{◌≡◌, ℕ, ◌+◌, ◌*◌, ◌/◌, ◌%◌, ◌^◌, ◌<◌, ◌==◌, Bool, true, false, not, ◌&&◌, ◌||◌, if◌then◌else◌, [], ◌∷◌, refl, ap, sym, ◌∙◌, arith}
+use Rattle.std.proofs.Common.{bit_and, bit_or, inl, inr, ◌≢◌, subst, ◌⊎◌, List, ◌++◌, w64, eqb-true, eq-eqb, ne_eqb}
+use Rattle.std.specs.Int.{bit_not}
+use Rattle.std.proofs.lemmas.Bool.{false≢true, and_parts, cases_Bool, false_from_ne_true, cond_both, cond-false, cond-true, not-true, or_from, and_from}
+use Rattle.std.proofs.lemmas.Bool.{cases_lt, cases_eq}
 use Rattle.std.proofs.lemmas.Nat.{and_le_r}
 use Rattle.pas_bits.specs.Bits.{has_bit}
-use Rattle.pas_profile.specs.Layouts.{same_word}
-use Rattle.pas_profile.specs.Profiles.{IsValid}
-use Rattle.pas_profile.specs.declared.profile.Profile.{Profile}
-use Rattle.pas_profile.specs.declared.word.Word.{Word}
-use Rattle.pas_steps.specs.Effects.{free_word_at, target}
-use Rattle.pas_steps.specs.Views.{all_ones, hint_after, owes_hint, examined_after, examines, epoch_of, way, ToParked, ToOffer, FromParked, FromOffer, ByDeed, Rests, Way, has_right, known_deed, usable_by, no_usable, check_after, owes_check}
-use Rattle.pas_steps.specs.Allowed.{Allowed, IsStepOf, HoldsOn}
+use Rattle.pas_profile.specs.{Layouts.same_word, Profiles.IsValid, Directories.number_of, Directories.directory_read}
+use Rattle.pas_profile.specs.declared.{profile.Profile.Profile, word.Word.Word}
+use Rattle.pas_steps.specs.{Effects.free_word_at, Effects.target, Allowed.Allowed, Allowed.IsStepOf, Allowed.HoldsOn, Desks.made, Desks.triple, Desks.triples}
+use Rattle.pas_steps.specs.{Clear.IsClear}
+use Rattle.pas_steps.specs.Views.{all_ones, hint_after, owes_hint, examined_after, examines, epoch_of, way, ToParked, ToOffer, FromParked, FromOffer, ByDeed}
+use Rattle.pas_steps.specs.Views.{Rests, Way, has_right, known_deed, usable_by, no_usable, check_after, owes_check}
 use Rattle.pas_steps.specs.Lists.{Whole, part, word_after, IsNext, Legal}
-use Rattle.pas_steps.specs.Desks.{made, triple, triples}
-use Rattle.pas_steps.specs.declared.step.Step.{Step}
+use Rattle.pas_steps.specs.declared.step.{Step.Step, Made.Made}
 use Rattle.pas_steps.specs.declared.step.Step.TheVariants.{Look, Back, Take, Put, Hint, Unback, Unhint, Deed, TakeRight, Offer, Park, Unpark}
-use Rattle.pas_core.specs.Good.{Held, is_free, IsPlacedOnce}
-use Rattle.pas_core.specs.Rights.{empty_bit, parked_bit, IsUsableFree, IsOwed, IsRightInOnePlace, IsRightOffered, IsRightParked, NobodyHasRight, NobodyOwes, AllClear}
-use Rattle.pas_core.specs.Hints.{IsEmptyBacked, IsMinded}
-use Rattle.pas_bits.proofs.Words.{bit_cleared}
-use Rattle.pas_bits.proofs.PageVectors.{page_bit-clear, page_bit-set}
+use Rattle.pas_core.specs.{Good.Held, Good.is_free, Good.IsPlacedOnce, Hints.IsEmptyBacked, Hints.IsMinded}
+use Rattle.pas_core.specs.Rights.{empty_bit, parked_bit, IsUsableFree, IsOwed, IsRightInOnePlace, IsRightOffered, IsRightParked, NobodyHasRight, NobodyOwes}
+use Rattle.pas_core.specs.Rights.{AllClear}
+use Rattle.pas_bits.proofs.{Words.bit_cleared, PageVectors.page_bit-clear, PageVectors.page_bit-set}
 use Rattle.pas_core.proofs.Deeds.{next_value, looked, known_is, word_stays}
-use Rattle.pas_core.proofs.Grains.{is_held_by-true, placed_once}
-use Rattle.pas_core.proofs.Stamps.{words_fit}
-use Rattle.pas_steps.proofs.Flags.{stays_set}
-use Rattle.pas_steps.proofs.Bits.{none_set, all_set, all_below-at}
-use Rattle.pas_profile.specs.Directories.{number_of, directory_read}
+use Rattle.pas_core.proofs.{Grains.is_held_by-true, Grains.placed_once, Stamps.words_fit}
+use Rattle.pas_steps.proofs.{Flags.stays_set, Bits.none_set, Bits.all_set, Bits.all_below-at, Parts.part_of_others}
 use Rattle.pas_core.proofs.Rights.{Spot, InParked, is_with, is_parked, spot_after, spot_of, DeedFits, IsSpotted, spotted, parked_spot, right_in_one_place}
-use Rattle.pas_steps.specs.Clear.{IsClear}
-use Rattle.pas_steps.specs.declared.step.Made.{Made}
-use Rattle.pas_steps.proofs.Parts.{part_of_others}
 
 -- ==== A backed page whose grains are all free isn't forgotten: its empty bit is set, or some actor owes its hint, or some actor examines it.
 
@@ -53,7 +46,7 @@ abbrev puts : Step → ℕ → Bool
 puts (Put q w mask) p = q == p
 puts s p = false
 
-pub clear_was : (t : Bool) (old mask b : ℕ) → mask < 2 ^ 64 → b < 64 → has_bit (if t then bit_and old (bit_not w64 mask) else old) b ≡ true → has_bit old b ≡ true
+clear_was : (t : Bool) (old mask b : ℕ) → mask < 2 ^ 64 → b < 64 → has_bit (if t then bit_and old (bit_not w64 mask) else old) b ≡ true → has_bit old b ≡ true
 clear_was true old mask b hm hb h = (and_parts (has_bit old b) (not (has_bit mask b)) (sym (bit_cleared old mask b hm hb) ∙ h)).0
 clear_was false old mask b hm hb h = h
 
@@ -157,7 +150,7 @@ minded_step f l valid legal j s a p of is was now h = keeps l j s a p refl refl 
 
 -- a backed page whose grains are all free has its empty bit set, or some actor owes its hint, or some actor examines it
 pub empty_is_minded : (f : Profile) (l : Whole) → IsValid f → Legal f l → (p : ℕ) → IsEmptyBacked l p → IsMinded l p
-empty_is_minded f [] valid legal p h = let one = h.backed in absurd (omega (arith, one))
+empty_is_minded f [] valid legal p h = absurd (omega (arith, h.backed))
 empty_is_minded f (t ∷ l) valid legal p h =
     let next : IsNext f l t = legal.0 in
     let s = t.made.step in
@@ -294,8 +287,7 @@ free_is_offered f l legal p w b deed free lacks paid = offered_place f l legal p
 pub no_other_actor : (f : Profile) (l : Whole) → Legal f l → (k : ℕ) → f.threads < k → part k l ≡ []
 no_other_actor f [] legal k past = refl
 no_other_actor f (t ∷ l) legal k past =
-    let within = legal.0.actor in
-    ap (λ x. if x then t.made ∷ part k l else part k l) (ne_eqb t.actor k (λ e. omega (arith, e, within, past))) ∙ no_other_actor f l legal.1 k past
+    ap (λ x. if x then t.made ∷ part k l else part k l) (ne_eqb t.actor k (λ e. omega (arith, e, legal.0.actor, past))) ∙ no_other_actor f l legal.1 k past
 
 -- ---- all at rest
 clear_owes : (f : Profile) (l : Whole) → Legal f l → AllClear f l → (p w : ℕ) → w < 4 → NobodyOwes l p w

@@ -1,44 +1,33 @@
 -- Laws of one actor alone, in a list that is legal as a whole: what its steps leave as it was, which grains are free and where rights are before and
 -- after them, and what its search finds.
-use Rattle.std.proofs.Common.{◌≡◌, ℕ, ◌/◌, true, false, if◌then◌else◌, List, [], ◌∷◌, ◌++◌, refl, ap, ◌∙◌, true≢false, ◌≢◌, ◌+◌, ◌*◌, ◌%◌, ◌<◌, ◌==◌, Bool, ◌&&◌, ◌||◌, sym, arith, inl, inr, None, Some, subst, Result, Ok, Err}
-use Rattle.pas_bits.specs.Bits.{has_bit}
-use Rattle.pas_profile.specs.Directories.{number_of, deed_word_of, deed_word_numbered}
-use Rattle.pas_profile.specs.Layouts.{same_word}
-use Rattle.pas_profile.specs.declared.word.Word.{Word}
-use Rattle.pas_bits.specs.PageVectors.{page_mask}
+use Rattle.std.proofs.Common.{◌≡◌, ℕ, ◌/◌, true, false, if◌then◌else◌, List, [], ◌∷◌, ◌++◌, refl, ap, ◌∙◌, true≢false, ◌≢◌, ◌+◌, ◌*◌, ◌%◌, ◌<◌, ◌==◌, Bool}
+use Rattle.std.proofs.Common.{◌&&◌, ◌||◌, sym, arith, inl, inr, None, Some, subst, Result, Ok, Err, eq-eqb, eqb-true}
+use Rattle.pas_bits.specs.{Bits.has_bit, PageVectors.page_mask}
+use Rattle.pas_profile.specs.{Directories.number_of, Directories.deed_word_of, Directories.deed_word_numbered, Layouts.same_word, Profiles.IsValid}
+use Rattle.pas_profile.specs.{Profiles.IsDirectoryOf}
+use Rattle.pas_profile.specs.declared.{word.Word.Word, profile.Profile.Profile, event.Event.Event, directory.Directory.Directory, event.NoRoom.NoRoom}
+use Rattle.pas_profile.specs.declared.{event.NoRoom.TheVariants.NoSpace}
 use Rattle.pas_steps.specs.Effects.{target, new_value, free_word_at, in_mask}
-use Rattle.pas_steps.specs.Views.{epoch_of, View, Move, Stays, Gets, Puts, Gives, Ends, grain_move, held_after, holds, Way, Rests, ByDeed, FromOffer, FromParked, ToOffer, ToParked, way, had_after, has_right, deed_after, known_deed, KnowsDeed}
+use Rattle.pas_steps.specs.Views.{epoch_of, View, Move, Stays, Gets, Puts, Gives, Ends, grain_move, held_after, holds, Way, Rests, ByDeed, FromOffer}
+use Rattle.pas_steps.specs.Views.{FromParked, ToOffer, ToParked, way, had_after, has_right, deed_after, known_deed, KnowsDeed}
 use Rattle.pas_steps.specs.Lists.{Whole, part, word_after, Legal}
-use Rattle.pas_steps.specs.Desks.{triples, triple}
+use Rattle.pas_steps.specs.{Desks.triples, Desks.triple, Past.Once, Past.Always, Events.event_of, Allowed.Allowed, Agreement.Agrees}
 use Rattle.pas_steps.specs.Kinds.{Kinds, kind_of, place_of, is_in, apart, Only, Taking, Claiming, Deeding, lending}
-use Rattle.pas_steps.specs.declared.step.Made.{Made}
-use Rattle.pas_steps.specs.declared.step.Step.{Step}
+use Rattle.pas_steps.specs.declared.step.{Made.Made, Step.Step}
 use Rattle.pas_steps.specs.declared.step.Step.TheVariants.{Look, Deed, Take, Put, TakeRight, Offer, Give, End, EndSized, Park, Unpark}
-use Rattle.pas_steps.proofs.Apart.{in_apart}
+use Rattle.pas_steps.proofs.{Apart.in_apart, Past.since_once, Past.always_map, Past.once_map, Parts.part_of_own, Parts.part_of_others, Parts.each_part}
+use Rattle.pas_steps.proofs.{Adding.triples_append, Frames.right_own, Frames.right_of_own, Frames.lacks_now, Kept.deed_stays}
 use Rattle.pas_core.proofs.Deeds.{looked, deed_kept, deed_was_none, known_is, numbered_ne}
-use Rattle.pas_core.proofs.Rights.{put_keeps, one_has_right, offered_has_deed, offered_spot, own_eligible, is_on_offer, Spot, Nowhere, With, Offered, InParked, is_with, is_offered, is_parked, spot_after, spot_of, Suits, DeedFits, IsSpotted, step_suits, spotted}
-use Rattle.std.proofs.lemmas.Bool.{cases_Bool, eq-eqb, eqb-true, cond_both, or_left, or_parts, or_from, cases_eq, false≢true, and_parts}
-use Rattle.pas_profile.specs.Profiles.{IsValid, IsDirectoryOf}
-use Rattle.pas_profile.specs.declared.profile.Profile.{Profile}
-use Rattle.pas_steps.specs.Past.{Once, Always}
-use Rattle.pas_steps.specs.Events.{event_of}
-use Rattle.pas_profile.specs.declared.event.Event.{Event}
-use Rattle.pas_steps.proofs.Past.{since_once, always_map, once_map}
+use Rattle.pas_core.proofs.Rights.{put_keeps, one_has_right, offered_has_deed, offered_spot, own_eligible, is_on_offer, Spot, Nowhere, With, Offered, InParked}
+use Rattle.pas_core.proofs.Rights.{is_with, is_offered, is_parked, spot_after, spot_of, Suits, DeedFits, IsSpotted, step_suits, spotted}
+use Rattle.std.proofs.lemmas.Bool.{cases_Bool, cond_both, or_left, or_parts, or_from, cases_eq, false≢true, and_parts}
 use Rattle.pas_core.specs.Rights.{free_of_page, eligible_bit, parked_bit, AllRest}
-use Rattle.pas_steps.proofs.Parts.{part_of_own, part_of_others, each_part}
 use Rattle.pas_core.specs.Good.{Place, Held, is_free, is_held_by, IsPlacedOnce}
 use Rattle.pas_core.proofs.Grains.{Fits, free_moved, free_step, step_fits, placed_once, is_held_by-true}
-use Rattle.pas_steps.specs.Evidence.{Readings, IsAntitone, ReadsFree, ReadsDeed, ShowsHere, KeptHere, UnfitHere, DeedHere, ReadsEligible, ReadsParked, ZeroHere, OneHere, ParkedHere, LacksAfter, HeldHere}
-use Rattle.pas_profile.specs.declared.directory.Directory.{Directory}
+use Rattle.pas_steps.specs.Evidence.{Readings, IsAntitone, ReadsFree, ReadsDeed, ShowsHere, KeptHere, UnfitHere, DeedHere, ReadsEligible, ReadsParked, ZeroHere}
+use Rattle.pas_steps.specs.Evidence.{OneHere, ParkedHere, LacksAfter, HeldHere}
 use Rattle.pas_profile.proofs.Codecs.{deed_word_of-positive, numbered}
-use Rattle.pas_steps.specs.Allowed.{Allowed}
-use Rattle.pas_steps.specs.Agreement.{Agrees}
-use Rattle.pas_steps.proofs.Adding.{triples_append}
-use Rattle.pas_steps.proofs.Frames.{right_own, right_of_own, lacks_now}
-use Rattle.pas_steps.proofs.Kept.{deed_stays}
 use Rattle.pas_core.proofs.Nexts.{agrees_next}
-use Rattle.pas_profile.specs.declared.event.NoRoom.{NoRoom}
-use Rattle.pas_profile.specs.declared.event.NoRoom.TheVariants.{NoSpace}
 use Rattle.pas_core.specs.Fits.{IsOfferedFit, IsBarePage, HasNoFit}
 use Rattle.pas_core.specs.Alone.{ShowsOffered, ShowsBare, ShowsNone, ShowsHeld, ShowsAnswer, SearchesAlone, IsPlainAnswer}
 
@@ -484,19 +473,18 @@ module _ (no_fit : Readings → Type 0) (f : Profile) (d : Directory) (k : ℕ) 
       | inl u ↦ fit.fits (unfit_entry no_fit f k l page xs fewer legal lends u)
       | inr z ↦ true≢false (sym fit.offered ∙ (spotted f l first page).eligible (number_of d) ∙ zero_told f k l d page xs legal (rest.rights page k) z.0 z.1)
     ];
-    bare = λ page bare. let high = bare.of_region.1 in deed_exit f k l page xs legal (shows.deeds page bare.of_region.0 (omega (arith, high))) (deed_quiet f k l page xs legal shows.quiet ∙ bare.no_deed);
+    bare = λ page bare. deed_exit f k l page xs legal (shows.deeds page bare.of_region.0 (omega (arith, bare.of_region.1))) (deed_quiet f k l page xs legal shows.quiet ∙ bare.no_deed);
   }
 
   -- ---- no page is in another's hands
   nobody_holds : (page : ℕ) → ShowsNone no_fit f d xs → ShowsHeld f d (part k l) page xs → ⊥
   nobody_holds page none shows =
-      let high = shows.of_region.1 in
       let lacks : has_right (part k l) page ≡ false = rest.rights page k in
       let same = spot_same f k l page xs legal lacks shows.lacked in
       let at = spotted f w legal page in
       let known : known_deed (part k w) page ≡ deed_word_of d = ap (λ v. known_deed v page) (part_of_own k xs l) ∙ shows.of_directory in
       let deed : word_after w (Word.Deed page) ≡ deed_word_of d = sym (known_is (known_deed (part k w) page) (word_after w (Word.Deed page)) (at.known k) (λ z. deed_word_of-positive d (sym known ∙ z))) ∙ known in
-      let not_offered : is_offered (number_of d) (spot_of l page) ≡ false = elim (none.searched page shows.of_region.0 (omega (arith, high))) [
+      let not_offered : is_offered (number_of d) (spot_of l page) ≡ false = elim (none.searched page shows.of_region.0 (omega (arith, shows.of_region.1))) [
         | inl u ↦ absurd (unfit_lacks no_fit page xs u shows.lacked)
         | inr z ↦ zero_told f k l d page xs legal lacks z.0 z.1
       ] in

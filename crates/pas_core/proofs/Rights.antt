@@ -1,34 +1,28 @@
 -- Rights and what views know: where the right of a page is, the bits of page vectors that are set, and that what views know of deeds, of free grains and
 -- of backed pages is true.
-use Rattle.std.proofs.Common.{◌≡◌, ◌≢◌, ℕ, ◌/◌, ◌%◌, ◌==◌, Bool, true, false, ◌&&◌, if◌then◌else◌, [], ◌∷◌, refl, ap, sym, ◌∙◌, subst, inl, inr, arith, ◌^◌, ◌<◌, not, ◌||◌, bit_and, bit_or, ◌+◌, ◌*◌, ◌≤◌}
-use Rattle.std.proofs.lemmas.Bool.{false≢true, eqb-true, and_parts, cond_both, eqb-false, eq-eqb, or_left, or_cases, false_from_ne_true, cases_eq}
+use Rattle.std.proofs.Common.{◌≡◌, ◌≢◌, ℕ, ◌/◌, ◌%◌, ◌==◌, Bool, true, false, ◌&&◌, if◌then◌else◌, [], ◌∷◌, refl, ap, sym, ◌∙◌, subst, inl, inr, arith, ◌^◌}
+use Rattle.std.proofs.Common.{◌<◌, not, ◌||◌, bit_and, bit_or, ◌+◌, ◌*◌, ◌≤◌, eqb-true, eq-eqb, w64}
+use Rattle.std.proofs.lemmas.Bool.{false≢true, and_parts, cond_both, eqb-false, or_left, or_cases, false_from_ne_true, cases_eq}
 use Rattle.pas_bits.specs.Bits.{has_bit}
 use Rattle.pas_profile.specs.Directories.{number_of, deed_word_of, deed_word_numbered, IsKind}
-use Rattle.pas_profile.specs.Layouts.{same_word}
-use Rattle.pas_profile.specs.declared.profile.Profile.{Profile}
-use Rattle.pas_profile.specs.declared.directory.Directory.{Directory}
-use Rattle.pas_profile.specs.declared.word.Word.{Word}
-use Rattle.pas_steps.specs.Effects.{target, free_word_at, in_mask}
-use Rattle.pas_steps.specs.Views.{Way, Rests, ByDeed, FromOffer, FromParked, ToOffer, ToParked, way, had_after, has_right, deed_after, known_deed, epoch_of, free_after, known_free, View, holds, holds_on, backed_after, knows_backed}
-use Rattle.pas_steps.specs.Allowed.{Allowed, IsStepOf, MayUnback}
+use Rattle.pas_profile.specs.{Layouts.same_word, Profiles.IsPage, Profiles.IsDirectoryOf, Profiles.IsValid}
+use Rattle.pas_profile.specs.declared.{profile.Profile.Profile, directory.Directory.Directory, word.Word.Word}
+use Rattle.pas_steps.specs.{Effects.target, Effects.free_word_at, Effects.in_mask, Allowed.Allowed, Allowed.IsStepOf, Allowed.MayUnback, Agreement.IsDeedWord}
+use Rattle.pas_steps.specs.{Frames.unbacks}
+use Rattle.pas_steps.specs.Views.{Way, Rests, ByDeed, FromOffer, FromParked, ToOffer, ToParked, way, had_after, has_right, deed_after, known_deed, epoch_of}
+use Rattle.pas_steps.specs.Views.{free_after, known_free, View, holds, holds_on, backed_after, knows_backed}
 use Rattle.pas_steps.specs.Lists.{Whole, part, word_after, IsNext, Legal, Triple}
 use Rattle.pas_steps.specs.declared.step.Step.{Step}
 use Rattle.pas_steps.specs.declared.step.Step.TheVariants.{Look, Deed, TakeRight, Offer, Park, Unpark, Take, Put, Hint, Unhint, Back, Unback}
 use Rattle.pas_core.specs.Rights.{parked_bit, eligible_bit, empty_bit, IsRightInOnePlace}
-use Rattle.pas_bits.proofs.Words.{none_of_zero, bit_cleared, bit_of_or}
-use Rattle.pas_bits.proofs.PageVectors.{page_bit-clear, page_bit-set}
-use Rattle.pas_core.proofs.Deeds.{next_value, looked, IsKnown, known_is, word_stays, deed_tells, look_tells, deed_at, numbered_ne, deed_words, deed_has_page, number_told}
+use Rattle.pas_bits.proofs.{Words.none_of_zero, Words.bit_cleared, Words.bit_of_or, PageVectors.page_bit-clear, PageVectors.page_bit-set}
+use Rattle.pas_core.proofs.Deeds.{next_value, looked, IsKnown, known_is, word_stays, deed_tells, look_tells, deed_at, numbered_ne, deed_words, deed_has_page}
+use Rattle.pas_core.proofs.Deeds.{number_told}
 use Rattle.pas_core.proofs.Grains.{if_true, if_false, one_holder}
 use Rattle.pas_profile.proofs.Codecs.{deed_word_of-positive, numbered}
-use Rattle.std.proofs.lemmas.Bool.Decides.{nat_tests}
-use Rattle.std.specs.Int.{bit_not, w64}
-use Rattle.std.proofs.lemmas.Nat.Bits.{bit_at_ones}
-use Rattle.pas_profile.specs.Profiles.{IsPage, IsDirectoryOf, IsValid}
-use Rattle.pas_steps.specs.Agreement.{IsDeedWord}
-use Rattle.pas_steps.proofs.Flags.{was_set}
-use Rattle.pas_steps.specs.Frames.{unbacks}
-use Rattle.pas_steps.proofs.Kept.{any_one, backed_holds}
-use Rattle.pas_steps.proofs.Parts.{each_part}
+use Rattle.std.proofs.lemmas.{Bool.Decides.nat_tests, Nat.Bits.bit_at_ones}
+use Rattle.std.specs.Int.{bit_not}
+use Rattle.pas_steps.proofs.{Flags.was_set, Kept.any_one, Kept.backed_holds, Parts.each_part}
 
 -- ==== The right of each page is at one spot after a legal list, and what views know of deeds is true. Each needs the other, so one induction
 -- proves both: an offer goes into the vector of the directory that its actor knows, and a set bit of that vector tells the directory.
@@ -91,7 +85,7 @@ pub record IsSpotted (l : Whole) (p : ℕ) : Type 0 where
   pub known : (k : ℕ) → IsKnown (known_deed (part k l) p) (word_after l (Word.Deed p))
 
 -- ---- the spots, from their tests
-pub is_with-true : (k : ℕ) (o : Spot) → is_with k o ≡ true → o ≡ With k
+is_with-true : (k : ℕ) (o : Spot) → is_with k o ≡ true → o ≡ With k
 is_with-true k (With j) h = ap With (eqb-true j k h)
 is_with-true k s h = absurd (false≢true h)
 
@@ -99,7 +93,7 @@ pub is_offered-true : (n : ℕ) (o : Spot) → is_offered n o ≡ true → o ≡
 is_offered-true n (Offered m) h = ap Offered (eqb-true m n h)
 is_offered-true n s h = absurd (false≢true h)
 
-pub is_parked-true : (o : Spot) → is_parked o ≡ true → o ≡ InParked
+is_parked-true : (o : Spot) → is_parked o ≡ true → o ≡ InParked
 is_parked-true InParked h = refl
 is_parked-true s h = absurd (false≢true h)
 
@@ -550,7 +544,7 @@ other_free f l j k e s a g at clear of allowed is ne h =
 nowhere_not_with : (j : ℕ) (o : Spot) → o ≡ Nowhere → o ≡ With j → ⊥
 nowhere_not_with j o h g = let e : Nowhere ≡ With j = sym h ∙ g in absurd cc
 
-pub cleared : (f : Profile) (l : Whole) → Legal f l → (g : ℕ) → IsClear l g
+cleared : (f : Profile) (l : Whole) → Legal f l → (g : ℕ) → IsClear l g
 cleared f [] legal g = record { bare = λ h. ap (λ x. x == 1) (bit_at_ones 64 (g % 64) (omega arith)); free = λ k h. absurd (false≢true h) }
 cleared f (t ∷ l) legal g =
     let clear : IsClear l g = cleared f l legal.1 g in

@@ -1,43 +1,32 @@
 -- Epochs, stamps, and the ends that stamps tell of.
-use Rattle.std.proofs.Common.{◌≡◌, ℕ, ◌+◌, ◌^◌, ◌<◌, ◌≤◌, ◌==◌, max, [], ◌∷◌, Option, arith, ◌/◌, ◌*◌, Some, None, refl, sym, ◌∙◌, ◌%◌, ◌⊎◌, Bool, true, false, ◌&&◌, if◌then◌else◌, List, ap, subst, inl, inr}
-use Rattle.std.specs.Int.{bit_not, w64}
+use Rattle.std.proofs.Common.{◌≡◌, ℕ, ◌+◌, ◌^◌, ◌<◌, ◌≤◌, ◌==◌, max, [], ◌∷◌, Option, arith, ◌/◌, ◌*◌, Some, None, refl, sym, ◌∙◌, ◌%◌, ◌⊎◌, Bool, true, false}
+use Rattle.std.proofs.Common.{◌&&◌, if◌then◌else◌, List, ap, subst, inl, inr, w64, eqb-true, eq-eqb}
+use Rattle.std.specs.Int.{bit_not}
 use Rattle.std.proofs.lemmas.Nat.{and_le_l, or_lt}
-use Rattle.pas_profile.specs.Directories.{deed_word_of}
-use Rattle.pas_profile.specs.Layouts.{opening, same_word}
-use Rattle.pas_profile.specs.Lives.{live_word, is_live, turn_of}
-use Rattle.pas_profile.specs.Profiles.{IsValid, IsDirectoryOf}
-use Rattle.pas_profile.specs.declared.profile.Profile.{Profile}
-use Rattle.pas_profile.specs.declared.directory.Directory.{Directory}
-use Rattle.pas_profile.specs.declared.word.Word.{Word}
-use Rattle.pas_bits.specs.Runs.{in_run, meets_page}
-use Rattle.pas_profile.specs.Blocks.{address_of, length_of, grain_of}
+use Rattle.pas_profile.specs.{Directories.deed_word_of, Layouts.opening, Layouts.same_word, Lives.live_word, Lives.is_live, Lives.turn_of, Profiles.IsValid}
+use Rattle.pas_profile.specs.{Profiles.IsDirectoryOf, Blocks.address_of, Blocks.length_of, Blocks.grain_of}
+use Rattle.pas_profile.specs.declared.{profile.Profile.Profile, directory.Directory.Directory, word.Word.Word, name.Name.Name, name.Block.Block}
+use Rattle.pas_profile.specs.declared.{event.Event.Event}
+use Rattle.pas_bits.specs.{Runs.in_run, Runs.meets_page, PageVectors.page_mask, Bits.has_bit}
 use Rattle.pas_steps.specs.Effects.{target, new_value, life_word_at, in_mask}
-use Rattle.pas_bits.specs.PageVectors.{page_mask}
-use Rattle.pas_steps.specs.Views.{epoch_after, known_epoch, or_zero, epoch_of, View, Move, Stays, Gets, Puts, Gives, Ends, held_after, holds, holds_all, stamp_after, known_stamp, unstamped_after, is_unstamped, ends_on}
+use Rattle.pas_steps.specs.Views.{epoch_after, known_epoch, or_zero, epoch_of, View, Move, Stays, Gets, Puts, Gives, Ends, held_after, holds, holds_all}
+use Rattle.pas_steps.specs.Views.{stamp_after, known_stamp, unstamped_after, is_unstamped, ends_on}
 use Rattle.pas_steps.specs.Allowed.{IsStepOf, Allowed, HoldsOn, MayPutNow, MayGiveNow}
 use Rattle.pas_steps.specs.Lists.{Triple, Whole, part, word_after, IsNext, Legal, visible}
 use Rattle.pas_steps.specs.declared.step.Step.{Step}
-use Rattle.pas_steps.specs.declared.step.Step.TheVariants.{Look, Deed, Back, Take, Put, Give, End, EndSized, TakeRight, Offer, Park, Unpark, Stamp, Hint, Tick, Unhint, Unback}
-use Rattle.pas_core.proofs.Grains.{give_short, one_holder}
-use Rattle.pas_bits.proofs.PageVectors.{page_mask_lt}
+use Rattle.pas_steps.specs.declared.step.Step.TheVariants.{Look, Deed, Back, Take, Put, Give, End, EndSized, TakeRight, Offer, Park, Unpark, Stamp, Hint, Tick}
+use Rattle.pas_steps.specs.declared.step.Step.TheVariants.{Unhint, Unback}
+use Rattle.pas_core.proofs.{Grains.give_short, Grains.one_holder, Lives.life_at}
+use Rattle.pas_bits.proofs.{PageVectors.page_mask_lt, Runs.IsMet, Runs.met}
 use Rattle.pas_core.proofs.Deeds.{next_value, looked, event_if, end_if}
-use Rattle.std.proofs.lemmas.Bool.{cond_both, false≢true, eqb-true, eq-eqb, and_parts, and_from, false_from_ne_true, cases_Bool}
+use Rattle.std.proofs.lemmas.Bool.{cond_both, false≢true, and_parts, and_from, false_from_ne_true, cases_Bool}
 use Rattle.pas_profile.proofs.Codecs.{kind_number_lt}
-use Rattle.pas_profile.specs.declared.name.Name.{Name}
 use Rattle.pas_machine.specs.State.{Live, live_in, gives_in, ends_in, touches, epoch_in}
 use Rattle.pas_core.specs.Good.{IsLifeOf}
-use Rattle.pas_core.proofs.Lives.{life_at}
-use Rattle.pas_steps.proofs.Targets.{guess_fits}
-use Rattle.pas_bits.specs.Bits.{has_bit}
-use Rattle.pas_profile.specs.declared.name.Block.{Block}
-use Rattle.pas_profile.specs.declared.event.Event.{Event}
+use Rattle.pas_steps.proofs.{Targets.guess_fits, Bits.all_below-at, Flags.stays_set, Flags.was_set, Parts.each_part}
 use Rattle.pas_steps.specs.Events.{event_of, with_event, reason_of, sized_reason}
 use Rattle.pas_steps.specs.Desks.{made}
 use Rattle.pas_core.specs.Stamps.{IsSoAtEnd, EachEnd, IsStampedOr, KeepsToEnds, AllKeepToEnds}
-use Rattle.pas_steps.proofs.Bits.{all_below-at}
-use Rattle.pas_steps.proofs.Flags.{stays_set, was_set}
-use Rattle.pas_bits.proofs.Runs.{IsMet, met}
-use Rattle.pas_steps.proofs.Parts.{each_part}
 
 -- ==== The epoch only grows, every word fits 64 bits, and epochs and stamps are below 2 ^ 40.
 
@@ -138,7 +127,7 @@ pub record IsFound (f : Profile) (l : Whole) (name : Name) (guess : ℕ) : Type 
 
 found : (f : Profile) (l : Whole) (name : Name) (word guess gives ends : ℕ) (live : Option Live) → live_in (visible l) (address_of name) ≡ live → IsLifeOf f (grain_of name) word live gives ends
     → name.turn < 2 ^ 40 → guess < 2 ^ 23 → word ≡ live_word name.turn guess → IsFound f l name guess
-found f l name word guess gives ends None is life turn short h = let w = life.word_is in let few = life.few in absurd (omega (arith, w, few, h))
+found f l name word guess gives ends None is life turn short h = absurd (omega (arith, life.word_is, life.few, h))
 found f l name word guess gives ends (Some b) is life turn short h =
     let w = life.word_is in let few = life.few in let small = life.short in
     let first = life.first in let last = life.last in
@@ -147,9 +136,8 @@ found f l name word guess gives ends (Some b) is life turn short h =
 
 pub end_finds : (f : Profile) (l : Whole) → IsValid f → Legal f l → (name : Name) (guess a : ℕ) → IsStepOf f (End name guess) → a ≡ word_after l (life_word_at (grain_of name)) → a ≡ live_word name.turn guess → IsFound f l name guess
 end_finds f l valid legal name guess a of is hit =
-    let turn = of.2 in
     found f l name (word_after l (life_word_at (grain_of name))) guess (gives_in (visible l) (address_of name)) (ends_in (visible l) (address_of name)) (live_in (visible l) (address_of name)) refl (life_at f l valid legal (address_of name) of.1)
-    (omega (arith, turn)) (guess_fits guess f.pages valid.pages of.4) (sym is ∙ hit)
+    (omega (arith, of.2)) (guess_fits guess f.pages valid.pages of.4) (sym is ∙ hit)
 
 -- ==== The stamps: what is known of them is true, and the epoch of each end on a page is at most the page's stamp, or the page is unstamped for the
 -- actor that made the end.
@@ -159,7 +147,7 @@ abbrev pub stamps : Step → ℕ → Bool
 stamps (Stamp q) p = q == p
 stamps s p = false
 
-pub stamp_rests : (e : ℕ) (s : Step) (p old : ℕ) → stamps s p ≡ false → next_value e s (Word.Stamp p) old ≡ old
+stamp_rests : (e : ℕ) (s : Step) (p old : ℕ) → stamps s p ≡ false → next_value e s (Word.Stamp p) old ≡ old
 stamp_rests e (Look word) p old other = looked (same_word word (Word.Stamp p)) old
 stamp_rests e (Stamp q) p old other = ap (λ t. if t then max old e else old) other
 stamp_rests e s p old other = refl
@@ -250,7 +238,7 @@ so_map : (P Q : ℕ → ℕ → Type 0) (e : Event) (es : List Event) (p : ℕ) 
 so_map P Q (Event.End k name e) es p f h = λ on. f k e (h on)
 so_map P Q e es p f h = tt
 
-pub ends_map : (P Q : ℕ → ℕ → Type 0) (es : List Event) (p : ℕ) → ((k e : ℕ) → P k e → Q k e) → EachEnd P es p → EachEnd Q es p
+ends_map : (P Q : ℕ → ℕ → Type 0) (es : List Event) (p : ℕ) → ((k e : ℕ) → P k e → Q k e) → EachEnd P es p → EachEnd Q es p
 ends_map P Q [] p f h = tt
 ends_map P Q (e ∷ es) p f h = (so_map P Q e es p f h.0, ends_map P Q es p f h.1)
 
@@ -259,8 +247,7 @@ end_touches : (f : Profile) (l : Whole) → IsValid f → Legal f l → (name : 
     → touches (live_in (visible l) (address_of name)) p ≡ true → ends_on (End name guess) a p ≡ true
 end_touches f l valid legal name guess a p of is hit on =
     let at : IsFound f l name guess = end_finds f l valid legal name guess a of is (eqb-true a (live_word name.turn guess) hit) in
-    let e = at.address_is in
-    let first : address_of at.block.block.name / 16 ≡ grain_of name = omega (arith, e) in
+    let first : address_of at.block.block.name / 16 ≡ grain_of name = omega (arith, at.address_is) in
     let meets : meets_page (grain_of name) guess p ≡ true = ap (λ g. meets_page g guess p) (sym first) ∙ ap (λ n. meets_page (address_of at.block.block.name / 16) n p) (sym at.grains_are) ∙ ap (λ o. touches o p) (sym at.lives) ∙ on in
     and_from (a == live_word name.turn guess) (meets_page (grain_of name) guess p) hit meets
 
@@ -336,7 +323,7 @@ ends_stamped f (t ∷ l) valid legal p =
     (ends_map (IsStampedOr l p) (IsStampedOr (t ∷ l) p) (visible l) p (λ k n. late_next f t l legal p k n) (ends_stamped f l valid legal.1 p))
 
 -- ---- the machine's epoch of a page
-pub ends_bound : (es : List Event) (p n : ℕ) → EachEnd (λ k e. e ≤ n) es p → epoch_in es p ≤ n
+ends_bound : (es : List Event) (p n : ℕ) → EachEnd (λ k e. e ≤ n) es p → epoch_in es p ≤ n
 ends_bound [] p n h = omega arith
 ends_bound (Event.End k name e ∷ es) p n h = cond_both (touches (live_in es (address_of name)) p) (max (epoch_in es p) e) (epoch_in es p) (λ m. m ≤ n) (λ on. omega (arith, h.0 on, ends_bound es p n h.1)) (λ off. ends_bound es p n h.1)
 ends_bound (e ∷ es) p n h = ends_bound es p n h.1
@@ -369,8 +356,7 @@ touched_by_end : (f : Profile) (l : Whole) → IsValid f → Legal f l → (name
     → touches (live_in (visible l) (address_of name)) p ≡ true
 touched_by_end f l valid legal name guess a p of is hit meets =
     let at : IsFound f l name guess = end_finds f l valid legal name guess a of is (eqb-true a (live_word name.turn guess) hit) in
-    let e = at.address_is in
-    let first : address_of at.block.block.name / 16 ≡ grain_of name = omega (arith, e) in
+    let first : address_of at.block.block.name / 16 ≡ grain_of name = omega (arith, at.address_is) in
     ap (λ o. touches o p) at.lives ∙ ap (λ n. meets_page (address_of at.block.block.name / 16) n p) at.grains_are ∙ ap (λ g. meets_page g guess p) first ∙ meets
 
 end_reached : (z y : Bool) (k e : ℕ) (name : Name) (reject : Event) (es : List Event) (p : ℕ) → z ≡ true → touches (live_in es (address_of name)) p ≡ true → e ≤ epoch_in (with_event (if z then Some (Event.End k name e) else (if y then None else Some reject)) es) p
@@ -424,7 +410,6 @@ exact f (t ∷ l) valid legal keeps p =
     let a = t.made.answer in
     let e : ℕ = epoch_of (part t.actor l) in
     let more : epoch_in (visible l) p ≤ epoch_in (visible (t ∷ l)) p = with_more (event_of t.actor (epoch_of (part t.actor l)) t.made.step t.made.answer) (visible l) p in
-    let old = before.stamp in
     let own : is_unstamped (t.made ∷ part t.actor l) p ≡ true → epoch_of (t.made ∷ part t.actor l) ≤ epoch_in (visible (t ∷ l)) p = λ h.
     let same : epoch_of (t.made ∷ part t.actor l) ≡ epoch_of (part t.actor l) = same_epoch (part t.actor l) t.made.step t.made.answer p keeps.0 h in
     elim (was_or_ends t.made.step t.made.answer p (is_unstamped (part t.actor l) p) h) [
@@ -436,8 +421,8 @@ exact f (t ∷ l) valid legal keeps p =
         | inl h ↦
             let le = before.late t.actor (keeps_unstamped (part t.actor l) t.made.step p keeps.0 h) in
             let value = stamp_value (epoch_of (part t.actor l)) t.made.step p (word_after l (Word.Stamp p)) in
-            omega (arith, old, more, le, value)
-        | inr h ↦ let same = stamp_rests (epoch_of (part t.actor l)) t.made.step p (word_after l (Word.Stamp p)) h in omega (arith, old, more, same)
+            omega (arith, before.stamp, more, le, value)
+        | inr h ↦ let same = stamp_rests (epoch_of (part t.actor l)) t.made.step p (word_after l (Word.Stamp p)) h in omega (arith, before.stamp, more, same)
       ];
       late = λ k. cond_both (t.actor == k) (t.made ∷ part k l) (part k l) (λ v. is_unstamped v p ≡ true → epoch_of v ≤ epoch_in (visible (t ∷ l)) p)
           (λ here. subst (λ j. is_unstamped (t.made ∷ part j l) p ≡ true → epoch_of (t.made ∷ part j l) ≤ epoch_in (visible (t ∷ l)) p) (eqb-true t.actor k here) own) (λ other h. let le = before.late k h in omega (arith, le, more));
@@ -447,9 +432,8 @@ exact f (t ∷ l) valid legal keeps p =
 pub stamps_are_ends : (f : Profile) (l : Whole) → IsValid f → Legal f l → AllKeepToEnds l → (p : ℕ) → ((k : ℕ) → is_unstamped (part k l) p ≡ false) → word_after l (Word.Stamp p) ≡ epoch_in (visible l) p
 stamps_are_ends f l valid legal keeps p settled =
     let at : IsExact l p = exact f l valid legal keeps p in
-    let most = at.stamp in
     let least : epoch_in (visible l) p ≤ word_after l (Word.Stamp p) = ends_bound (visible l) p (word_after l (Word.Stamp p)) (ends_map (IsStampedOr l p) (λ j e. e ≤ word_after l (Word.Stamp p)) (visible l) p (λ j n late. elim late [
       | inl le ↦ le
       | inr un ↦ absurd (false≢true (sym (settled j) ∙ un.0))
     ]) (ends_stamped f l valid legal p)) in
-    omega (arith, most, least)
+    omega (arith, at.stamp, least)

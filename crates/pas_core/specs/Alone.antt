@@ -2,19 +2,12 @@
 -- show, and what its answer says of the words before it.
 use Rattle.std.specs.Prelude.{ℕ, ◌+◌, ◌/◌, ◌%◌, ◌<◌, ◌≡◌, ◌⊎◌, true, false, List, ◌++◌, Result, Ok, Err, None}
 use Rattle.pas_profile.specs.Profiles.{IsPage}
-use Rattle.pas_profile.specs.declared.directory.Directory.{Directory}
-use Rattle.pas_profile.specs.declared.event.NoRoom.{NoRoom}
-use Rattle.pas_profile.specs.declared.event.NoRoom.TheVariants.{NoSpace, Held}
-use Rattle.pas_profile.specs.declared.profile.Profile.{Profile}
-use Rattle.pas_steps.specs.Desks.{triples}
-use Rattle.pas_steps.specs.Events.{event_of}
+use Rattle.pas_profile.specs.declared.{directory.Directory.Directory, event.NoRoom.NoRoom, event.NoRoom.TheVariants.NoSpace, event.NoRoom.TheVariants.Held}
+use Rattle.pas_profile.specs.declared.{profile.Profile.Profile}
+use Rattle.pas_steps.specs.{Desks.triples, Events.event_of, Kinds.kind_of, Kinds.is_in, Kinds.lending, Lists.Whole, Lists.part, Lists.Legal, Past.Once}
+use Rattle.pas_steps.specs.{Past.Always, Views.View, Views.holds, Views.KnowsDeed}
 use Rattle.pas_steps.specs.Evidence.{Readings, OneHere, LacksAfter, ShowsHere, Searched, AllDeeds, HeldHere}
-use Rattle.pas_steps.specs.Kinds.{kind_of, is_in, lending}
-use Rattle.pas_steps.specs.Lists.{Whole, part, Legal}
-use Rattle.pas_steps.specs.Past.{Once, Always}
-use Rattle.pas_steps.specs.Views.{View, holds, KnowsDeed}
-use Rattle.pas_steps.specs.declared.step.Made.{Made}
-use Rattle.pas_steps.specs.declared.step.Step.TheVariants.{Deed}
+use Rattle.pas_steps.specs.declared.step.{Made.Made, Step.TheVariants.Deed}
 use Rattle.pas_core.specs.Fits.{HasNoFit}
 
 -- ---- what the steps of a search show, the newest first, where the actor's view before them was this one

@@ -1,12 +1,8 @@
 -- Pages that can serve a small request, in a state. What fits is the back end's matter: it says when nothing fits among a page's free grains.
 use Rattle.std.specs.Prelude.{ℕ, ◌≡◌, true}
-use Rattle.pas_profile.specs.Directories.{number_of}
-use Rattle.pas_profile.specs.Profiles.{IsPage}
-use Rattle.pas_profile.specs.declared.directory.Directory.{Directory}
-use Rattle.pas_profile.specs.declared.profile.Profile.{Profile}
-use Rattle.pas_profile.specs.declared.word.Word.TheVariants as Word
-use Rattle.pas_steps.specs.Evidence.{Readings}
-use Rattle.pas_steps.specs.Lists.{Whole, word_after}
+use Rattle.pas_profile.specs.{Directories.number_of, Profiles.IsPage}
+use Rattle.pas_profile.specs.declared.{directory.Directory.Directory, profile.Profile.Profile, word.Word.Word}
+use Rattle.pas_steps.specs.{Evidence.Readings, Lists.Whole, Lists.word_after}
 use Rattle.pas_core.specs.Rights.{eligible_bit, free_of_page}
 
 -- the page is offered to the directory, and fits

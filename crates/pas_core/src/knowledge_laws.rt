@@ -4,10 +4,9 @@ ghost use Rattle.pas_bits.specs.Bits.{has_bit};
 ghost use Rattle.pas_profile.specs.Profiles.{IsValid};
 ghost use Rattle.pas_profile.specs.declared.profile.Profile.{Profile};
 ghost use Rattle.pas_profile.specs.declared.word.Word.TheVariants as Word;
-ghost use Rattle.pas_steps.specs.Effects.{free_word_at, life_word_at};
+ghost use Rattle.pas_steps.specs.{Effects.free_word_at, Effects.life_word_at, Agreement.Agrees};
 ghost use Rattle.pas_steps.specs.Views.{has_right, known_deed, known_free, knows_backed, known_life, known_stamp, epoch_of};
 ghost use Rattle.pas_steps.specs.Lists.{Triple, Whole, part, word_after, IsNext, Legal};
-ghost use Rattle.pas_steps.specs.Agreement.{Agrees};
 
 /// The answer of a step that may come next agrees with what its actor holds, has, knows and did: a word that is known is read again, a
 /// grain that is held isn't free and no block lives at it, a page whose right the actor has is neither offered nor parked, and a page

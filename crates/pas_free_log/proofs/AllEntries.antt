@@ -1,41 +1,24 @@
 -- What a flush does for all entries of a log.
-use Rattle.std.proofs.Common.{◌≡◌, ℕ, Bool, true, false, ◌+◌, ◌*◌, ◌/◌, ◌≤◌, List, [], ◌∷◌, ◌++◌, length, inl, inr, ap, sym, ◌∙◌, arith, length-append, zero, suc, ◌-◌, ◌<◌, Some, refl, append_assoc, take, get_or, subst}
-use Rattle.std.specs.Prelude.{map, reverse}
+use Rattle.std.proofs.Common.{◌≡◌, ℕ, Bool, true, false, ◌+◌, ◌*◌, ◌/◌, ◌≤◌, List, [], ◌∷◌, ◌++◌, length, inl, inr, ap, sym, ◌∙◌, arith, length-append, zero}
+use Rattle.std.proofs.Common.{suc, ◌-◌, ◌<◌, Some, refl, append_assoc, take, get_or, subst, map, reverse, append-nil}
 use Rattle.std.specs.List.{flat_map}
-use Rattle.std.proofs.lemmas.List.{length-map, length-reverse, append-nil, flat_map_more, reverse-append, take_more}
-use Rattle.pas_profile.specs.Directories.{deed_word_of, directory_read}
-use Rattle.pas_profile.specs.declared.name.Name.{Name}
-use Rattle.pas_profile.specs.declared.word.Word.TheVariants as Word
-use Rattle.pas_profile.specs.Blocks.{address_of, grain_of}
-use Rattle.pas_steps.specs.Desks.{made, Standing}
-use Rattle.pas_steps.specs.declared.step.Made.{Made}
-use Rattle.pas_steps.specs.declared.step.Step.TheVariants.{Look, Stamp}
-use Rattle.pas_steps.proofs.Past.{in_turn_length}
-use Rattle.pas_rights.proofs.Orders.{return_few}
-use Rattle.pas_rights.proofs.Puts.{puts_few}
-use Rattle.pas_free_log.specs.Stamps.{pages_met, stamps_with, stamps_by}
-use Rattle.pas_free_log.specs.Endings.{guess_by, TriesBy, EndSteps}
-use Rattle.pas_free_log.specs.Logs.{is_sized}
-use Rattle.pas_free_log.specs.Returns.{PageSteps, first_on, count_on}
-use Rattle.pas_free_log.specs.declared.log.Entry.{Entry}
+use Rattle.std.proofs.lemmas.List.{length-map, length-reverse, flat_map_more, reverse-append, take_more}
+use Rattle.pas_profile.specs.{Directories.deed_word_of, Directories.directory_read, Blocks.address_of, Blocks.grain_of}
+use Rattle.pas_profile.specs.declared.{name.Name.Name, word.Word.Word}
+use Rattle.pas_steps.specs.{Desks.made, Desks.Standing, Clear.IsClear, Calls.nothing, Calls.Does, Calls.Calls, Kinds.Only, Events.events_by}
+use Rattle.pas_steps.specs.{Allowed.IsEpochKnown}
+use Rattle.pas_steps.specs.declared.step.{Made.Made, Step.TheVariants.Look, Step.TheVariants.Stamp}
+use Rattle.pas_steps.proofs.{Past.in_turn_length, Apart.only_within, Apart.only_both, Apart.epoch_same, Frames.events_append, Calls.still_clear}
+use Rattle.pas_rights.proofs.{Orders.return_few, Puts.puts_few}
+use Rattle.pas_free_log.specs.{Stamps.pages_met, Stamps.stamps_with, Stamps.stamps_by, Endings.guess_by, Endings.TriesBy, Endings.EndSteps, Logs.is_sized}
+use Rattle.pas_free_log.specs.{Returns.PageSteps, Returns.first_on, Returns.count_on, Frames.ending, Frames.freeing, Noted.IsRange, Noted.AreRanges}
+use Rattle.pas_free_log.specs.{Conditions.MayEnd}
+use Rattle.pas_free_log.specs.declared.{log.Entry.Entry, ending.Outcome.Outcome, ending.Outcome.TheVariants.Ended, ending.Outcome.TheVariants.Refused}
+use Rattle.pas_free_log.specs.declared.{noting.EndedRun.EndedRun}
 use Rattle.pas_free_log.specs.Flushes.{Settled, stamps_by_outcome, stamps_for, AfterEnd, EntriesSteps, event_for, shown_for, noted_for, noted_after, Flushes}
-use Rattle.pas_free_log.specs.declared.ending.Outcome.{Outcome}
-use Rattle.pas_free_log.specs.declared.ending.Outcome.TheVariants.{Ended, Refused}
 use Rattle.std.proofs.lemmas.List.Elements.{All-append, All-take}
-use Rattle.pas_free_log.specs.declared.noting.EndedRun.{EndedRun}
 use Rattle.pas_steps.specs.Views.{View, known_epoch, epoch_of, or_zero}
-use Rattle.pas_steps.specs.Clear.{IsClear}
-use Rattle.pas_steps.specs.Calls.{nothing, Does, Calls}
-use Rattle.pas_steps.specs.Kinds.{Only}
-use Rattle.pas_steps.specs.Events.{events_by}
-use Rattle.pas_steps.proofs.Apart.{only_within, only_both, epoch_same}
-use Rattle.pas_steps.proofs.Frames.{events_append}
-use Rattle.pas_free_log.specs.Frames.{ending, freeing}
-use Rattle.pas_free_log.specs.Noted.{IsRange, AreRanges}
 use Rattle.pas_free_log.proofs.OneEntry.{stamps_append}
-use Rattle.pas_steps.specs.Allowed.{IsEpochKnown}
-use Rattle.pas_steps.proofs.Calls.{still_clear}
-use Rattle.pas_free_log.specs.Conditions.{MayEnd}
 
 -- ==== How many steps a flush makes at most.
 
@@ -64,7 +47,7 @@ after_few epoch name (Ended grains) steps h =
     omega (arith, few, pages)
 after_few epoch name (Refused read) steps h = let none = ap length h in omega (arith, none)
 
-pub entries_few : (epoch : ℕ) (settled : List Settled) (steps : List Made) → EntriesSteps settled steps → length steps ≤ 3 * length settled + 14 * length (flat_map (stamps_for epoch) settled)
+entries_few : (epoch : ℕ) (settled : List Settled) (steps : List Made) → EntriesSteps settled steps → length steps ≤ 3 * length settled + 14 * length (flat_map (stamps_for epoch) settled)
 entries_few epoch [] steps h = let none = ap length h in omega (arith, none)
 entries_few epoch (entry ∷ earlier) steps h =
     let e = h.2 in
@@ -77,7 +60,7 @@ entries_few epoch (entry ∷ earlier) steps h =
     omega (arith, all, here, ends, after, before, stamps)
 
 -- what came of each entry
-pub settled_count : (settled : List Settled) (logged : List Entry) → reverse (map (λ s. s.entry) settled) ≡ logged → length settled ≡ length logged
+settled_count : (settled : List Settled) (logged : List Entry) → reverse (map (λ s. s.entry) settled) ≡ logged → length settled ≡ length logged
 settled_count settled logged are = sym (length-map settled (λ s. s.entry)) ∙ sym (length-reverse (map (λ s. s.entry) settled)) ∙ ap length are
 
 -- ==== All entries of a log.

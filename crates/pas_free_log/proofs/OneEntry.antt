@@ -1,61 +1,44 @@
 -- What a flush does for one entry of a log.
-use Rattle.std.proofs.Common.{◌≡◌, ℕ, true, false, List, [], ◌∷◌, ◌++◌, refl, ap, sym, ◌∙◌, append_assoc, true≢false, ◌+◌, ◌-◌, ◌/◌, ◌%◌, ◌≤◌, ◌==◌, if◌then◌else◌, Option, Some, arith, ◌&&◌, suc, ◌*◌, ◌<◌, ◌||◌, min, inl, inr, subst, ◌≢◌, ◌^◌, None, Bool}
-use Rattle.std.proofs.lemmas.List.{append-nil, map-append}
-use Rattle.pas_steps.specs.declared.step.Made.{Made}
-use Rattle.pas_steps.specs.declared.step.Step.{Step}
+use Rattle.std.proofs.Common.{◌≡◌, ℕ, true, false, List, [], ◌∷◌, ◌++◌, refl, ap, sym, ◌∙◌, append_assoc, true≢false, ◌+◌, ◌-◌, ◌/◌, ◌%◌, ◌≤◌, ◌==◌}
+use Rattle.std.proofs.Common.{if◌then◌else◌, Option, Some, arith, ◌&&◌, suc, ◌*◌, ◌<◌, ◌||◌, min, inl, inr, subst, ◌≢◌, ◌^◌, None, Bool, append-nil, ne_eqb}
+use Rattle.std.proofs.Common.{eqb-true, eq-eqb, IfSome, option_to_list}
+use Rattle.std.proofs.lemmas.{List.map-append, Bool.Decides.nat_tests, List.Elements.All-nil, List.Elements.All-cons}
+use Rattle.pas_steps.specs.declared.step.{Made.Made, Step.Step}
 use Rattle.pas_steps.specs.declared.step.Step.TheVariants.{Stamp, Look, End, EndSized}
 use Rattle.pas_steps.specs.Kinds.{Kinds, Stamping, kind_of, place_of, is_in, apart, Only, LookDeed, Putting, returning, Ending}
-use Rattle.pas_steps.specs.Views.{View, EndedOn, epoch_of, known_deed, known_epoch, is_unstamped, examines, holds, or_zero, ends_on, Stays, Ends, grain_move, held_after}
+use Rattle.pas_steps.specs.Views.{View, EndedOn, epoch_of, known_deed, known_epoch, is_unstamped, examines, holds, or_zero, ends_on, Stays, Ends, grain_move}
+use Rattle.pas_steps.specs.Views.{held_after}
 use Rattle.pas_steps.proofs.Apart.{in_apart, only_within, only_both, deeds_same, unstamped_same, examines_same, epoch_same, events_same}
 use Rattle.pas_free_log.specs.Stamps.{stamped_by, stamps_by, page_count, pages_from, pages_met, stamps_with}
-use Rattle.std.proofs.lemmas.Bool.{ne_eqb, cases_eq, cases_Bool, eqb-true, eqb-false, eq-eqb, not-true, and_parts, and_from, false≢true}
-use Rattle.std.proofs.lemmas.Bool.Decides.{nat_tests}
-use Rattle.pas_profile.specs.Directories.{deed_word_of, directory_read, IsKind}
-use Rattle.pas_profile.specs.Profiles.{IsValid, IsDirectoryOf}
-use Rattle.pas_profile.specs.declared.directory.Directory.{Directory}
-use Rattle.pas_profile.specs.declared.profile.Profile.{Profile}
-use Rattle.pas_profile.specs.declared.word.Word.TheVariants as Word
-use Rattle.pas_bits.specs.Runs.{in_run, meets_page}
-use Rattle.pas_profile.specs.Blocks.{address_of, grain_of}
+use Rattle.std.proofs.lemmas.Bool.{cases_eq, cases_Bool, eqb-false, not-true, and_parts, and_from, false≢true}
+use Rattle.pas_profile.specs.{Directories.deed_word_of, Directories.directory_read, Directories.IsKind, Profiles.IsValid, Profiles.IsDirectoryOf}
+use Rattle.pas_profile.specs.{Blocks.address_of, Blocks.grain_of}
+use Rattle.pas_profile.specs.declared.{directory.Directory.Directory, profile.Profile.Profile, word.Word.Word, directory.Kind.Kind, name.Name.Name}
+use Rattle.pas_profile.specs.declared.{event.Event.Event, event.Range.Range}
+use Rattle.pas_bits.specs.{Runs.in_run, Runs.meets_page, Masks.is_set}
 use Rattle.pas_bits.proofs.Runs.{to_run, run_of, run_above, met_by}
-use Rattle.pas_steps.specs.Allowed.{HoldsOn, IsEpochKnown, IsStepOf}
+use Rattle.pas_steps.specs.{Allowed.HoldsOn, Allowed.IsEpochKnown, Allowed.IsStepOf, Frames.OnlyReturns, Effects.succeeds}
 use Rattle.pas_steps.specs.Agreement.{AgreesDeed, AgreesLife, AgreesEnd, Agrees}
 use Rattle.pas_steps.specs.Calls.{nothing, put, Does, Calls, Kept, Lost, now, Leads}
-use Rattle.pas_steps.specs.Frames.{OnlyReturns}
 use Rattle.pas_steps.specs.Desks.{Standing, made, Makes, CanCall, Adds, AnyView}
-use Rattle.pas_steps.proofs.Adding.{adds_none, adds_step, adds_under}
-use Rattle.pas_steps.proofs.Called.{call_then}
-use Rattle.pas_steps.proofs.Calls.{does_after_nothing, does_idly, returns_are, does_none, unexamined_over, leads_idly, nothing_then, end_fails, does_step, end_effect, EndsBlock, end_succeeds, leads_as, leads_then, end_later, ends_back}
-use Rattle.pas_steps.proofs.ReadDeeds.{directory_told}
+use Rattle.pas_steps.proofs.{Adding.adds_none, Adding.adds_step, Adding.adds_under, Called.call_then, ReadDeeds.directory_told, Past.once_later}
+use Rattle.pas_steps.proofs.Calls.{does_after_nothing, does_idly, returns_are, does_none, unexamined_over, leads_idly, nothing_then, end_fails, does_step}
+use Rattle.pas_steps.proofs.Calls.{end_effect, EndsBlock, end_succeeds, leads_as, leads_then, end_later, ends_back}
 use Rattle.pas_steps.proofs.Sets.{put_freed, put_as, freed_both, freed_nothing}
-use Rattle.pas_rights.specs.Returns.{Returned}
-use Rattle.pas_rights.proofs.Ends.{settled_clear}
-use Rattle.pas_rights.proofs.Orders.{same_page, ends}
+use Rattle.pas_rights.specs.{Returns.Returned, Puts.masked, Puts.MayPut, Puts.PutsMask}
+use Rattle.pas_rights.proofs.{Ends.settled_clear, Orders.same_page, Orders.ends}
 use Rattle.pas_free_log.specs.Frames.{putting_back, run_freed, PutsBack, ending}
 use Rattle.pas_free_log.specs.Returns.{MayReturn, ReturnsPage, PageSteps, PagesSteps, first_on, count_on, ReturnsRun}
 use Rattle.pas_bits.specs.declared.mask.Mask4.{Mask4}
-use Rattle.pas_bits.specs.Masks.{is_set}
-use Rattle.pas_rights.specs.Puts.{masked, MayPut, PutsMask}
-use Rattle.pas_steps.proofs.Past.{once_later}
 use Rattle.pas_free_log.specs.Conditions.{IsRun, IsRunOnPage, IsNameOf, IsEntryOf, KnowsEpoch, MayEnd}
-use Rattle.std.specs.Prelude.{IfSome, option_to_list}
 use Rattle.pas_profile.specs.Lives.{live_word, is_live, turn_of, grains_of}
-use Rattle.pas_profile.specs.declared.directory.Kind.{Kind}
-use Rattle.pas_profile.specs.declared.name.Name.{Name}
-use Rattle.pas_profile.proofs.ClassFacts.{class_grains_positive, class_grains_le}
-use Rattle.pas_profile.proofs.Codecs.{read_is, is_live-live_word, turn_of-live_word}
-use Rattle.pas_free_log.specs.Endings.{guess_by, guess_by_kind, is_of, Tries, TriesBy, IsRefusedBy, last_step, IsEndOf, IsOfRegion, EndsOne, reason_by, reason_for}
-use Rattle.pas_free_log.specs.declared.ending.Outcome.{Outcome}
-use Rattle.pas_free_log.specs.declared.ending.Outcome.TheVariants.{Refused, Ended}
-use Rattle.pas_free_log.specs.declared.log.Entry.{Entry}
-use Rattle.pas_free_log.specs.Logs.{entry_of, is_sized}
-use Rattle.pas_profile.specs.declared.event.Event.{Event}
+use Rattle.pas_profile.proofs.{ClassFacts.class_grains_positive, ClassFacts.class_grains_le, Codecs.read_is, Codecs.is_live-live_word, Codecs.turn_of-live_word}
+use Rattle.pas_free_log.specs.Endings.{guess_by, guess_by_kind, is_of, Tries, TriesBy, IsRefusedBy, last_step, IsEndOf, IsOfRegion, EndsOne, reason_by}
+use Rattle.pas_free_log.specs.Endings.{reason_for}
+use Rattle.pas_free_log.specs.declared.{ending.Outcome.Outcome, ending.Outcome.TheVariants.Refused, ending.Outcome.TheVariants.Ended, log.Entry.Entry}
+use Rattle.pas_free_log.specs.declared.{noting.EndedRun.EndedRun}
+use Rattle.pas_free_log.specs.{Logs.entry_of, Logs.is_sized, Flushes.event_for, Flushes.EndsEntry}
 use Rattle.pas_steps.specs.Events.{events_by, with_event, end_event, reason_of, event_of, sized_reason}
-use Rattle.pas_steps.specs.Effects.{succeeds}
-use Rattle.std.proofs.lemmas.List.Elements.{All-nil, All-cons}
-use Rattle.pas_profile.specs.declared.event.Range.{Range}
-use Rattle.pas_free_log.specs.declared.noting.EndedRun.{EndedRun}
-use Rattle.pas_free_log.specs.Flushes.{event_for, EndsEntry}
 use Rattle.pas_free_log.specs.Noted.{IsRange, AreRanges, is_whole, range_of, run_of_kind, run_in, large_run}
 
 -- ==== The stamps of two calls, and steps that stamp no page.
@@ -76,11 +59,11 @@ no_stamp (Stamp p) e stamps h = absurd (true≢false h)
 no_stamp s e stamps h = refl
 
 -- the stamps of the steps before them
-pub stamps_same : (ks : Kinds) → apart ks (Stamping ∷ []) ≡ true → (v : View) (ys xs : List Made) → Only ks ys → stamps_by v (ys ++ xs) ≡ stamps_by v xs
+stamps_same : (ks : Kinds) → apart ks (Stamping ∷ []) ≡ true → (v : View) (ys xs : List Made) → Only ks ys → stamps_by v (ys ++ xs) ≡ stamps_by v xs
 stamps_same ks w v [] xs only = refl
 stamps_same ks w v (y ∷ ys) xs only = no_stamp y.step (epoch_of (ys ++ xs ++ v)) (stamps_by v (ys ++ xs)) (in_apart ks (Stamping ∷ []) (place_of (kind_of y.step)) w only.0) ∙ stamps_same ks w v ys xs only.1
 
-pub no_stamps : (ks : Kinds) → apart ks (Stamping ∷ []) ≡ true → (v : View) (steps : List Made) → Only ks steps → stamps_by v steps ≡ []
+no_stamps : (ks : Kinds) → apart ks (Stamping ∷ []) ≡ true → (v : View) (steps : List Made) → Only ks steps → stamps_by v steps ≡ []
 no_stamps ks w v steps only = ap (stamps_by v) (sym (append-nil steps)) ∙ stamps_same ks w v steps [] only
 
 -- ==== The steps for the grains of one page.
@@ -97,7 +80,7 @@ first_meets : (g n : ℕ) → 1 ≤ n → meets_page g n (g / 256) ≡ true
 first_meets g n some = grind (arith, nat_tests, some)
 
 -- the deed word of a page on which the actor ended a block is that of a directory of the region
-pub read_here : (f : Profile) (v : View) (g n deed : ℕ) → 1 ≤ n → MayReturn g n v → AgreesDeed f v (g / 256) deed → (d : Directory) × (deed ≡ deed_word_of d) × IsDirectoryOf f d
+read_here : (f : Profile) (v : View) (g n deed : ℕ) → 1 ≤ n → MayReturn g n v → AgreesDeed f v (g / 256) deed → (d : Directory) × (deed ≡ deed_word_of d) × IsDirectoryOf f d
 read_here f v g n deed some met agrees = agrees.a_deed (agrees.ended (met.ended (g / 256) (first_meets g n some)))
 
 stamp_held : (g n deed : ℕ) (v : View) → 1 ≤ n → MayReturn g n v → HoldsOn (made (Look (Word.Deed (g / 256))) deed ∷ v) (g / 256)
@@ -117,10 +100,10 @@ may_put_now g n deed stamped mask v grains met = record { held = λ x inside. me
 pub count_some : (g n : ℕ) → 1 ≤ n → page_count g n ≡ (g + n - 1) / 256 - g / 256 + 1
 count_some g n some = ap (λ t. if t then 0 else (g + n - 1) / 256 - g / 256 + 1) (ne_eqb n 0 (λ z. omega (arith, z, some)))
 
-pub count_one : (g n : ℕ) → 1 ≤ n → g % 256 + n ≤ 256 → page_count g n ≡ 1
+count_one : (g n : ℕ) → 1 ≤ n → g % 256 + n ≤ 256 → page_count g n ≡ 1
 count_one g n some within = count_some g n some ∙ omega (arith, some, within)
 
-pub pages_one : (g n : ℕ) → 1 ≤ n → g % 256 + n ≤ 256 → pages_met g n ≡ g / 256 ∷ []
+pages_one : (g n : ℕ) → 1 ≤ n → g % 256 + n ≤ 256 → pages_met g n ≡ g / 256 ∷ []
 pages_one g n some within = ap (λ c. pages_from (g / 256) c) (count_one g n some within) ∙ ap (λ p. p ∷ []) (omega arith)
 
 its_page : (g n q : ℕ) → page_count g n ≡ 1 → (g / 256 == q) ≡ in_run (g / 256) (page_count g n) q
@@ -226,20 +209,17 @@ pub record IsNextBorder (g n from next : ℕ) : Type 0 where
 pub next_is : (g n from next : ℕ) → g ≤ from → from < g + n → next ≡ next_border g n from → IsNextBorder g n from next
 next_is g n from next low high is = record { some = omega (arith, is, high); within = omega (arith, is); on_page = omega (arith, is, high); border = λ left. omega (arith, is, low, left) }
 
-pub count_next : (g n from next : ℕ) → g ≤ from → from < g + n → IsBorder g n from → IsNextBorder g n from next → page_count g (next - g) ≡ suc (page_count g (from - g))
+count_next : (g n from next : ℕ) → g ≤ from → from < g + n → IsBorder g n from → IsNextBorder g n from next → page_count g (next - g) ≡ suc (page_count g (from - g))
 count_next g n from next low high border is =
     let c = count_so_far g n from low high border in
-    let a = is.some in
-    let b = is.on_page in
-    let d = count_some g (next - g) (omega (arith, low, a)) in
-    omega (arith, c, d, low, a, b)
+    let d = count_some g (next - g) (omega (arith, low, is.some)) in
+    omega (arith, c, d, low, is.some, is.on_page)
 
 -- ---- one page more
 pages_more : (g n from next : ℕ) → g ≤ from → from < g + n → IsBorder g n from → IsNextBorder g n from next → pages_met g (next - g) ≡ pages_met from (next - from) ++ pages_met g (from - g)
 pages_more g n from next low high border is =
-    let a = is.some in
     ap (λ k. pages_from (g / 256) k) (count_next g n from next low high border is) ∙ ap (λ p. p ∷ pages_met g (from - g)) (count_so_far g n from low high border)
-    ∙ sym (ap (λ ps. ps ++ pages_met g (from - g)) (pages_one from (next - from) (omega (arith, a)) is.on_page))
+    ∙ sym (ap (λ ps. ps ++ pages_met g (from - g)) (pages_one from (next - from) (omega (arith, is.some)) is.on_page))
 
 pub back_more : (g n from next : ℕ) (ys xs : List Made) → g ≤ from → from < g + n → IsBorder g n from → IsNextBorder g n from next → PutsBack g (from - g) xs → PutsBack from (next - from) ys → PutsBack g (next - g) (ys ++ xs)
 back_more g n from next ys xs low high border is a b = record {
@@ -252,11 +232,10 @@ back_more g n from next ys xs low high border is a b = record {
 
 pub more_freed : {v w u : View} (g n from next : ℕ) → g ≤ from → from < g + n → IsBorder g n from → IsNextBorder g n from next → Does (run_freed g (from - g)) v w → Does (run_freed from (next - from)) w u → Does (run_freed g (next - g)) v u
 more_freed g n from next low high border is d e =
-    let some = is.some in
-    let one = count_one from (next - from) (omega (arith, some)) is.on_page in
+    let one = count_one from (next - from) (omega (arith, is.some)) is.on_page in
     let more = count_next g n from next low high border is in
     freed_both (in_run g (from - g)) (in_run (g / 256) (page_count g (from - g))) (in_run from (next - from)) (in_run (from / 256) (page_count from (next - from))) (in_run g (next - g)) (in_run (g / 256) (page_count g (next - g))) d e
-    (λ x. join g (from - g) from (next - from) (next - g) x (omega (arith, low)) (omega (arith, low, some)))
+    (λ x. join g (from - g) from (next - from) (next - g) x (omega (arith, low)) (omega (arith, low, is.some)))
     (λ q. join (g / 256) (page_count g (from - g)) (from / 256) (page_count from (next - from)) (page_count g (next - g)) q (sym (count_so_far g n from low high border)) (omega (arith, one, more)))
 
 count_is : (g n from next : ℕ) → from < g + n → next ≡ next_border g n from → first_on g (from / 256) ≡ from → count_on g n (from / 256) ≡ next - from
@@ -292,9 +271,7 @@ may_more g n from next xs v low is back does met =
 pub on_page : (f : Profile) (g n from next : ℕ) → IsRun f g n → g ≤ from → from < g + n → IsNextBorder g n from next → IsRunOnPage f from (next - from)
 on_page f g n from next run low high is =
     let some = is.some in
-    let first = run.first in
-    let last = run.last in
-    record { some = omega (arith, some); page = (omega (arith, first, low), omega (arith, last, high)); within = is.on_page }
+    record { some = omega (arith, some); page = (omega (arith, run.first, low), omega (arith, run.last, high)); within = is.on_page }
 
 -- ==== The end of one name: the tries, and what the last one came to.
 
@@ -333,10 +310,10 @@ some_bytes : (entry : Entry) → is_sized entry ≡ true → 0 < entry.room
 some_bytes entry sized = let ne = eqb-false entry.room 0 (not-true (entry.room == 0) sized) in omega (arith, ne)
 
 pub some_room : (f : Profile) (entry : Entry) → IsEntryOf f entry → is_sized entry ≡ true → 1 ≤ entry.room / 16
-some_room f entry of sized = let some = some_bytes entry sized in let whole = of.whole in omega (arith, some, whole)
+some_room f entry of sized = let some = some_bytes entry sized in omega (arith, some, of.whole)
 
 pub room_end : (f : Profile) (entry : Entry) → IsEntryOf f entry → is_sized entry ≡ true → IsStepOf f (EndSized entry.name entry.room)
-room_end f entry of sized = let within = of.within in ((of.name.page, of.name.aligned, of.name.turn, some_room f entry of sized, omega (arith, within)), of.whole)
+room_end f entry of sized = ((of.name.page, of.name.aligned, of.name.turn, some_room f entry of sized, omega (arith, of.within)), of.whole)
 
 pub refused_by_room : (entry : Entry) (a : ℕ) → is_sized entry ≡ true → a ≢ live_word entry.name.turn (entry.room / 16) → IsEndOf entry (entry.room / 16) a (Refused a)
 refused_by_room entry a sized ne = (subst (λ t. IsRefusedBy t entry.name (entry.room / 16) a) (sym sized) ne, refl)
@@ -368,7 +345,7 @@ gone_since f v name first guess read a is length agrees ne = elim (cases_Bool (i
 -- the block that ended at the second try
 pub ended_again : (f : Profile) (v : View) (name : Name) (first guess read a : ℕ) → IsNameOf f name → is_of name read ≡ true → guess ≡ grains_of read → a ≡ live_word name.turn guess → AgreesEnd f (made (End name first) read ∷ v) name guess a → IsRun f (grain_of name) guess
 ended_again f v name first guess read a named is length live agrees =
-    let turn : name.turn < 2 ^ 40 = let t = named.turn in omega (arith, t) in
+    let turn : name.turn < 2 ^ 40 = omega (arith, named.turn) in
     let lives : is_live a ≡ true = ap is_live live ∙ is_live-live_word name.turn guess in
     let same = still_length f v name first guess read a is length agrees.life (is_of_name name a lives (ap turn_of live ∙ turn_of-live_word name.turn guess turn)) in
     let some = (agrees.life.length lives).0 in
@@ -395,7 +372,7 @@ no_event k e name guess a ne is =
     ∙ ap (λ t. if t then None else Some (Event.Reject k name (reason_of name a))) is
 
 -- a life word that isn't the name's is not that of its block
-pub not_live : (name : Name) (guess a : ℕ) → name.turn < 2 ^ 40 - 1 → is_of name a ≡ false → a ≢ live_word name.turn guess
+not_live : (name : Name) (guess a : ℕ) → name.turn < 2 ^ 40 - 1 → is_of name a ≡ false → a ≢ live_word name.turn guess
 not_live name guess a turn is live =
     let small : name.turn < 2 ^ 40 = omega (arith, turn) in
     false≢true (sym is ∙ is_of_name name a (ap is_live live ∙ is_live-live_word name.turn guess) (ap turn_of live ∙ turn_of-live_word name.turn guess small))
@@ -440,7 +417,7 @@ pub record EndsWith (name : Name) (n : ℕ) (s : Step) : Type 0 where
 success : (k e : ℕ) (name : Name) (n a : ℕ) (other : Option Event) → a ≡ live_word name.turn n → (if succeeds name n a then Some (Event.End k name e) else other) ≡ Some (Event.End k name e)
 success k e name n a other live = ap (λ t. if t then Some (Event.End k name e) else other) (eq-eqb a (live_word name.turn n) live)
 
-pub ends_by_length : (name : Name) (n : ℕ) → EndsWith name n (End name n)
+ends_by_length : (name : Name) (n : ℕ) → EndsWith name n (End name n)
 ends_by_length name n = record {
   kind = refl;
   moves = λ a x. refl;
@@ -493,7 +470,7 @@ guess_is true entry first guess before tries e = tries.0
 guess_is false entry first guess before tries e = absurd (true≢false (sym e))
 
 -- what the last try came to, by what its answer agrees with
-pub ends_by : {σ σ1 : Standing} (entry : Entry) (outcome : Outcome) (directory : Option Directory) (deed guess a : ℕ) (before : List Made) → directory ≡ directory_read deed → TriesBy (is_sized entry) entry (guess_by (directory_read deed)) guess before
+ends_by : {σ σ1 : Standing} (entry : Entry) (outcome : Outcome) (directory : Option Directory) (deed guess a : ℕ) (before : List Made) → directory ≡ directory_read deed → TriesBy (is_sized entry) entry (guess_by (directory_read deed)) guess before
     → Adds σ σ1 KnowsEpoch (made (last_step (is_sized entry) entry guess) a ∷ before ++ first_look entry.name deed) → CanCall σ KnowsEpoch
     → ((v : View) → AgreesEnd σ.seat.profile (before ++ first_look entry.name deed ++ v) entry.name guess a → IsEndOf entry guess a outcome × IsOfRegion σ.seat.profile entry.name outcome) → EndsOne entry σ σ1 outcome directory
 ends_by {σ} entry outcome directory deed guess a before tells tries adds can told =

@@ -1,31 +1,15 @@
 -- The flush of a log.
 use Rattle.std.specs.Prelude.{ℕ, ◌+◌, ◌-◌, ◌*◌, ◌≤◌, ◌≡◌, List, [], ◌∷◌, ◌++◌, length, map, reverse, take, Option, Some, option_to_list}
 use Rattle.std.specs.List.{flat_map}
-use Rattle.pas_profile.specs.Directories.{directory_read}
-use Rattle.pas_profile.specs.declared.directory.Directory.{Directory}
-use Rattle.pas_profile.specs.declared.name.Name.{Name}
-use Rattle.pas_profile.specs.declared.word.Word.TheVariants as Word
-use Rattle.pas_profile.specs.declared.event.Event.{Event}
-use Rattle.pas_profile.specs.Blocks.{grain_of}
-use Rattle.pas_steps.specs.Views.{View, known_epoch, epoch_of}
-use Rattle.pas_steps.specs.Events.{events_by}
-use Rattle.pas_steps.specs.Calls.{nothing, Does, Calls}
-use Rattle.pas_steps.specs.Kinds.{Only}
-use Rattle.pas_steps.specs.Desks.{Standing, made}
-use Rattle.pas_steps.specs.InTurn.{InTurn}
-use Rattle.pas_steps.specs.declared.step.Made.{Made}
-use Rattle.pas_steps.specs.declared.step.Step.TheVariants.{Look}
-use Rattle.pas_steps.specs.Clear.{IsClear}
-use Rattle.pas_free_log.specs.Conditions.{MayEnd}
-use Rattle.pas_free_log.specs.Stamps.{stamps_by, pages_met, stamps_with}
-use Rattle.pas_free_log.specs.Frames.{ending, freeing}
-use Rattle.pas_free_log.specs.Endings.{reason_for, EndSteps}
-use Rattle.pas_free_log.specs.Returns.{RunSteps}
-use Rattle.pas_free_log.specs.Noted.{AreRanges, noted_by}
-use Rattle.pas_free_log.specs.declared.log.Entry.{Entry}
-use Rattle.pas_free_log.specs.declared.noting.EndedRun.{EndedRun}
-use Rattle.pas_free_log.specs.declared.ending.Outcome.{Outcome}
-use Rattle.pas_free_log.specs.declared.ending.Outcome.TheVariants.{Ended, Refused}
+use Rattle.pas_profile.specs.{Directories.directory_read, Blocks.grain_of}
+use Rattle.pas_profile.specs.declared.{directory.Directory.Directory, name.Name.Name, word.Word.Word, event.Event.Event}
+use Rattle.pas_steps.specs.{Views.View, Views.known_epoch, Views.epoch_of, Events.events_by, Calls.nothing, Calls.Does, Calls.Calls, Kinds.Only, Desks.Standing}
+use Rattle.pas_steps.specs.{Desks.made, InTurn.InTurn, Clear.IsClear}
+use Rattle.pas_steps.specs.declared.step.{Made.Made, Step.TheVariants.Look}
+use Rattle.pas_free_log.specs.{Conditions.MayEnd, Stamps.stamps_by, Stamps.pages_met, Stamps.stamps_with, Frames.ending, Frames.freeing, Endings.reason_for}
+use Rattle.pas_free_log.specs.{Endings.EndSteps, Returns.RunSteps, Noted.AreRanges, Noted.noted_by}
+use Rattle.pas_free_log.specs.declared.{log.Entry.Entry, noting.EndedRun.EndedRun, ending.Outcome.Outcome, ending.Outcome.TheVariants.Ended}
+use Rattle.pas_free_log.specs.declared.{ending.Outcome.TheVariants.Refused}
 
 -- ---- one entry
 -- an entry, what came of the end of its name, and of which directory its page was read

@@ -1,8 +1,7 @@
 -- What a log shows.
 use Rattle.std.specs.Prelude.{ℕ, ◌==◌, Bool, not, List}
 use Rattle.pas_profile.specs.declared.name.Name.{Name}
-use Rattle.pas_free_log.specs.declared.log.Entry.{Entry}
-use Rattle.pas_free_log.specs.declared.log.FreeLog.{FreeLog}
+use Rattle.pas_free_log.specs.declared.log.{Entry.Entry, FreeLog.FreeLog}
 
 -- A log is the list of its entries, in order. Contracts above may say so by this name.
 abbrev pub entries_in : FreeLog → List Entry

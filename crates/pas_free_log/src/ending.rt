@@ -1,11 +1,9 @@
 //! The end of one name.
 ghost use Rattle.std.specs.Prelude.{◌≡◌, ◌≤◌, true, false, IfSome, MatchOption};
-ghost use Rattle.pas_profile.specs.Lives.{grains_of};
-ghost use Rattle.pas_profile.specs.Directories.{IsKind};
+ghost use Rattle.pas_profile.specs.{Lives.grains_of, Directories.IsKind};
 ghost use Rattle.pas_steps.specs.Desks.{CanCall};
-ghost use Rattle.pas_free_log.specs.Conditions.{IsNameOf, IsEntryOf, KnowsEpoch};
-ghost use Rattle.pas_free_log.specs.Endings.{guess_by, is_of, EndsOne};
-ghost use Rattle.pas_free_log.specs.Logs.{entry_of, is_sized};
+ghost use Rattle.pas_free_log.specs.{Conditions.IsNameOf, Conditions.IsEntryOf, Conditions.KnowsEpoch, Endings.guess_by, Endings.is_of, Endings.EndsOne};
+ghost use Rattle.pas_free_log.specs.{Logs.entry_of, Logs.is_sized};
 
 use crate::log::Entry;
 use pas_profile::classes::class_size;

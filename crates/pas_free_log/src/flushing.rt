@@ -1,10 +1,7 @@
 //! The flush of a log.
 ghost use Rattle.std.specs.Prelude.{◌≡◌, ◌≤◌, ◌+◌, [], All, length};
-ghost use Rattle.pas_steps.specs.Desks.{CanCall};
-ghost use Rattle.pas_free_log.specs.Logs.{entries_in};
-ghost use Rattle.pas_steps.specs.Clear.{IsClear};
-ghost use Rattle.pas_free_log.specs.Conditions.{IsEntryOf, MayEnd};
-ghost use Rattle.pas_free_log.specs.Flushes.{EndsEntry, Flushes};
+ghost use Rattle.pas_steps.specs.{Desks.CanCall, Clear.IsClear};
+ghost use Rattle.pas_free_log.specs.{Logs.entries_in, Conditions.IsEntryOf, Conditions.MayEnd, Flushes.EndsEntry, Flushes.Flushes};
 
 use crate::ending::{Outcome, end_logged};
 use crate::log::{Entry, FreeLog};

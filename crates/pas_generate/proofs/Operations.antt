@@ -1,8 +1,8 @@
 -- The operation of a number, by cases.
-use Rattle.std.proofs.Common.{◌≡◌, ℕ, ◌+◌, ◌/◌, ◌%◌, Bool, true, false, ◌||◌, nat_eq, nat_lt, length, refl, sym, ap, ◌∙◌}
-use Rattle.std.proofs.lemmas.Bool.{ne_eqb}
+use Rattle.std.proofs.Common.{◌≡◌, ℕ, ◌+◌, ◌/◌, ◌%◌, Bool, true, false, ◌||◌, nat_eq, nat_lt, length, refl, sym, ap, ◌∙◌, ne_eqb}
 use Rattle.pas_generate.specs.Draws.{moved, moved_by, drawn}
-use Rattle.pas_generate.specs.Operations.{State, allocates, allocation, after_allocation, free_of, after_free, thread_of, drawn_operation, after_drawn, operation_at, after_operation}
+use Rattle.pas_generate.specs.Operations.{State, allocates, allocation, after_allocation, free_of, after_free, thread_of, drawn_operation, after_drawn}
+use Rattle.pas_generate.specs.Operations.{operation_at, after_operation}
 use Rattle.pas_generate.specs.declared.operation.Operation.{Operation}
 
 pub tick_at : (threads n : ℕ) (s : State) → n % 1000 ≡ 999 → (operation_at threads n s ≡ Operation.Tick (n / 1000 + 1)) × (after_operation threads n s ≡ s)

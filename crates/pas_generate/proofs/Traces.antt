@@ -1,10 +1,8 @@
 -- One operation more.
-use Rattle.std.proofs.Common.{◌≡◌, ℕ, ◌+◌, List, [], ◌++◌, add-one, append_assoc, refl, sym, ap, ◌∙◌}
-use Rattle.std.proofs.lemmas.List.{append-nil}
+use Rattle.std.proofs.Common.{◌≡◌, ℕ, ◌+◌, List, [], ◌++◌, add-one, append_assoc, refl, sym, ap, ◌∙◌, append-nil}
 use Rattle.pas_generate.specs.Operations.{State, first_state, operation_at, after_operation}
 use Rattle.pas_generate.specs.declared.operation.Operation.{Operation}
-use Rattle.pas_generate.specs.Lines.{line_of}
-use Rattle.pas_generate.specs.Traces.{state_after, lines_of}
+use Rattle.pas_generate.specs.{Lines.line_of, Traces.state_after, Traces.lines_of}
 
 pub no_state : (threads seed : ℕ) (s : State) → s ≡ first_state seed → s ≡ state_after threads seed 0
 unfolding state_after

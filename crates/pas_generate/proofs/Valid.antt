@@ -1,8 +1,7 @@
 -- Drawn requests are valid.
 use Rattle.std.proofs.Common.{◌≡◌, ℕ, zero, suc, ◌+◌, ◌*◌, ◌/◌, ◌^◌, ◌<◌, ◌≤◌, ◌⊎◌, inl, inr, Bool, true, false, cond, nat_eq, nat_lt, refl, arith, lit<}
 use Rattle.std.proofs.Math.Nat.{mod-lt}
-use Rattle.pas_generate.specs.Draws.{drawn, draw, moved_by}
-use Rattle.pas_generate.specs.Requests.{IsValid, lot, request_from}
+use Rattle.pas_generate.specs.{Draws.drawn, Draws.draw, Draws.moved_by, Requests.IsValid, Requests.lot, Requests.request_from}
 
 below : (x n : ℕ) → 0 < n → drawn x n < n
 unfolding drawn

@@ -1,9 +1,7 @@
 -- The lines of a trace.
 use Rattle.std.specs.Prelude.{ℕ, ◌+◌, ◌≤◌, List, ◌++◌, codes, vec_len, vec_capacity}
-use Rattle.std.specs.Fmt.{decimal}
-use Rattle.std.specs.Global.{Vec}
-use Rattle.pas_generate.specs.declared.operation.Request.{Request}
-use Rattle.pas_generate.specs.declared.operation.Operation.{Operation}
+use Rattle.std.specs.{Fmt.decimal, Global.Vec}
+use Rattle.pas_generate.specs.declared.operation.{Request.Request, Operation.Operation}
 
 -- the header, and that the last of the six heaps is shared
 unfoldable pub header : ℕ → ℕ → List ℕ

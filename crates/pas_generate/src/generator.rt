@@ -19,18 +19,8 @@ pub(crate) struct Generator {
 
 impl Generator {
     ghost use Rattle.std.specs.Prelude.{◌≡◌, ◌+◌, ◌<◌, ◌≤◌, ◌||◌, IfOk, length, nat_eq, nat_lt, vec_capacity, vec_len};
-    ghost use Rattle.pas_generate.specs.Operations.{
-      Stands,
-      after_allocation,
-      after_drawn,
-      after_free,
-      after_operation,
-      allocation,
-      drawn_operation,
-      first_state,
-      free_of,
-      operation_at,
-    };
+    ghost use Rattle.pas_generate.specs.Operations.{Stands, after_allocation, after_drawn, after_free, after_operation, allocation, drawn_operation};
+    ghost use Rattle.pas_generate.specs.Operations.{first_state, free_of, operation_at};
 
     /// A generator of at most so many operations.
     pub(crate) fn try_new(

@@ -1,14 +1,6 @@
 //! Lines at the end of a text that has room for them.
 ghost use Rattle.std.specs.Prelude.{◌≡◌, ◌+◌, ◌++◌, length};
-ghost use Rattle.pas_generate.specs.Lines.{
-  HasRoom,
-  Keeps,
-  allocation_line,
-  free_line,
-  header,
-  line_of,
-  tick_line,
-};
+ghost use Rattle.pas_generate.specs.Lines.{HasRoom, Keeps, allocation_line, free_line, header, line_of, tick_line};
 
 use crate::operation::{Operation, Request};
 use itoa::{Buffer, Integer};

@@ -1,15 +1,12 @@
 -- The checks of generated items hold.
-use Rattle.std.proofs.Common.{◌≡◌, ◌⊎◌, ℕ, ◌+◌, ◌*◌, ◌/◌, ◌<◌, ◌≤◌, ◌==◌, nat_le, Bool, true, false, not, ◌||◌, if◌then◌else◌, List, [], ◌∷◌, length, None, Some, inl, inr, refl, ap, ◌∙◌, arith}
-use Rattle.std.proofs.Math.Nat.{mul-le-mul}
-use Rattle.std.proofs.lemmas.Bool.{le-leb, lt-ltb, and_from, cases_lt}
-use Rattle.pas_trace.specs.Reasons.{first_failed, is_thread, is_alignment, is_named, is_named_now, thread_of, operations_in, guard_after, guard_in, actors_by, cost_of_size, cost_of, costs_of, record_bound, few_enough, checks_of, reason_of}
-use Rattle.pas_trace.specs.declared.fault.Reason.{Reason}
-use Rattle.pas_trace.proofs.Costs.{small_cost, large_cost}
-use Rattle.pas_trace.proofs.PassedChecks.{AreHeld}
-use Rattle.pas_trace.specs.declared.item.Item.{Item}
-use Rattle.pas_trace.specs.declared.item.Item.TheVariants.{Operates, Scavenges}
-use Rattle.pas_trace.specs.declared.item.Wish.TheVariants.{Asks, Frees}
-use Rattle.pas_trace.specs.declared.plan.Chore.{Chore}
+use Rattle.std.proofs.Common.{◌≡◌, ◌⊎◌, ℕ, ◌+◌, ◌*◌, ◌/◌, ◌<◌, ◌≤◌, ◌==◌, nat_le, Bool, true, false, not, ◌||◌, if◌then◌else◌, List, [], ◌∷◌, length, None}
+use Rattle.std.proofs.Common.{Some, inl, inr, refl, ap, ◌∙◌, arith, le-leb, lt-ltb}
+use Rattle.std.proofs.{Math.Nat.mul-le-mul, lemmas.Bool.and_from, lemmas.Bool.cases_lt}
+use Rattle.pas_trace.specs.Reasons.{first_failed, is_thread, is_alignment, is_named, is_named_now, thread_of, operations_in, guard_after, guard_in, actors_by}
+use Rattle.pas_trace.specs.Reasons.{cost_of_size, cost_of, costs_of, record_bound, few_enough, checks_of, reason_of}
+use Rattle.pas_trace.specs.declared.{fault.Reason.Reason, item.Item.Item, item.Item.TheVariants.Operates, item.Item.TheVariants.Scavenges}
+use Rattle.pas_trace.specs.declared.{item.Wish.TheVariants.Asks, item.Wish.TheVariants.Frees, plan.Chore.Chore}
+use Rattle.pas_trace.proofs.{Costs.small_cost, Costs.large_cost, PassedChecks.AreHeld}
 use Rattle.pas_generate.specs.Traces.{IsJob}
 use Rattle.pas_generated.specs.Meant.{region}
 
@@ -55,7 +52,7 @@ pass-fine ops threads pages n items job more counted =
     none-failed (checks_of (region pages threads) items (Scavenges Chore.Pass)) (few ops threads pages n items (Scavenges Chore.Pass) job more (λ guard. refl) counted (let most : pages ≤ 4096 = job.pages_most in omega arith))
 
 -- ---- allocations
-pub thread-fine : (pages threads t : ℕ) → 1 ≤ t → t ≤ threads → is_thread (region pages threads) t ≡ true
+thread-fine : (pages threads t : ℕ) → 1 ≤ t → t ≤ threads → is_thread (region pages threads) t ≡ true
 thread-fine pages threads t lo hi = and_from (nat_le 1 t) (nat_le t threads) (le-leb 1 t lo) (le-leb t threads hi)
 
 align-fine : (a : ℕ) → (a ≡ 16) ⊎ ((a ≡ 32) ⊎ (a ≡ 64)) → is_alignment a ≡ true

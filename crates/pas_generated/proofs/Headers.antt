@@ -1,9 +1,8 @@
 -- What the first line says.
-use Rattle.std.proofs.Common.{◌≡◌, ℕ, ◌^◌, ◌<◌, ◌≤◌, nat_le, Bool, if◌then◌else◌, List, [], ◌∷◌, codes, Some, None, refl, ap, ◌∙◌, arith}
+use Rattle.std.proofs.Common.{◌≡◌, ℕ, ◌^◌, ◌<◌, ◌≤◌, nat_le, Bool, if◌then◌else◌, List, [], ◌∷◌, codes, Some, None, refl, ap, ◌∙◌, arith, le-leb}
 use Rattle.std.specs.Fmt.{decimal}
-use Rattle.std.proofs.lemmas.Bool.{le-leb, and_from}
-use Rattle.pas_trace.specs.Numbers.{number_of}
-use Rattle.pas_trace.specs.Reasons.{within, header_with, header_of_words}
+use Rattle.std.proofs.lemmas.Bool.{and_from}
+use Rattle.pas_trace.specs.{Numbers.number_of, Reasons.within, Reasons.header_with, Reasons.header_of_words}
 use Rattle.pas_generate.specs.Lines.{header}
 use Rattle.pas_generated.specs.Meant.{heading}
 use Rattle.pas_generated.proofs.Digits.{number-back}

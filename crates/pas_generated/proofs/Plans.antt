@@ -1,19 +1,16 @@
 -- The plan of a text that is read, made of its items.
-use Rattle.std.proofs.Common.{◌≡◌, ℕ, zero, suc, ◌+◌, ◌*◌, ◌^◌, ◌<◌, ◌≤◌, ◌==◌, ◌||◌, Bool, true, false, if◌then◌else◌, inl, inr, List, [], ◌∷◌, ◌++◌, map, length, Option, None, Some, Ok, refl, ap, sym, ◌∙◌, subst, arith, length-append}
-use Rattle.std.specs.Global.{Global, Vec}
-use Rattle.std.proofs.lemmas.Bool.{cases_eq, ne_eqb, false≢true}
-use Rattle.std.proofs.lemmas.List.{length-map}
+use Rattle.std.proofs.Common.{◌≡◌, ℕ, zero, suc, ◌+◌, ◌*◌, ◌^◌, ◌<◌, ◌≤◌, ◌==◌, ◌||◌, Bool, true, false, if◌then◌else◌, inl, inr, List, [], ◌∷◌, ◌++◌, map}
+use Rattle.std.proofs.Common.{length, Option, None, Some, Ok, refl, ap, sym, ◌∙◌, subst, arith, length-append, Global, ne_eqb}
+use Rattle.std.specs.Global.{Vec}
+use Rattle.std.proofs.lemmas.{Bool.cases_eq, Bool.false≢true, List.length-map}
 use denote.RawPtr.{null_ptr}
 use Rattle.pas_profile.specs.declared.profile.Profile.{Profile}
-use Rattle.pas_trace.specs.declared.header.Header.{Header}
+use Rattle.pas_trace.specs.declared.{header.Header.Header, item.Item.Item, plan.Op.Op, plan.Phase.Phase, plan.Plan.Plan}
 use Rattle.pas_trace.specs.Wishes.{name_made, is_name}
 use Rattle.pas_trace.specs.Reasons.{is_named, heap_of, guard_in, actors_by, record_bound}
-use Rattle.pas_trace.specs.Plans.{parsed, shared_in, add_last, line_of_newest, keeper_for, phases_after, phases_in, bound_of, bounds_upto, all_bounds, ops_of, IsPlanOf}
-use Rattle.pas_trace.specs.declared.item.Item.{Item}
+use Rattle.pas_trace.specs.Plans.{parsed, shared_in, add_last, line_of_newest, keeper_for, phases_after, phases_in, bound_of, bounds_upto, all_bounds, ops_of}
+use Rattle.pas_trace.specs.Plans.{IsPlanOf}
 use Rattle.pas_trace.specs.declared.item.Item.TheVariants.{Blank, Shares, Guards, NextPhase, Operates, Scavenges}
-use Rattle.pas_trace.specs.declared.plan.Op.{Op}
-use Rattle.pas_trace.specs.declared.plan.Phase.{Phase}
-use Rattle.pas_trace.specs.declared.plan.Plan.{Plan}
 
 -- ---- vectors
 holding : {X : Type 0} (heap : Global) (xs : List X) → length xs < 2 ^ 63 → Vec X
@@ -27,16 +24,16 @@ AtMost n (p ∷ ps) = (length p ≤ n) × AtMost n ps
 
 most-more : (n : ℕ) (ps : List (List Op)) → AtMost n ps → AtMost (n + 1) ps
 most-more n [] h = tt
-most-more n (p ∷ ps) h = (let le = h.0 in omega (arith, le), most-more n ps h.1)
+most-more n (p ∷ ps) h = (omega (arith, h.0), most-more n ps h.1)
 
 most-next : (n : ℕ) (ps : List (List Op)) → AtMost n ps → AtMost (n + 1) (ps ++ [] ∷ [])
 most-next n [] h = (omega arith, tt)
-most-next n (p ∷ ps) h = (let le = h.0 in omega (arith, le), most-next n ps h.1)
+most-next n (p ∷ ps) h = (omega (arith, h.0), most-next n ps h.1)
 
 most-add : (n : ℕ) (op : Op) (ps : List (List Op)) → AtMost n ps → AtMost (n + 1) (add_last (Some op) ps)
 most-add n op [] h = (omega arith, tt)
-most-add n op (p ∷ []) h = (let le = h.0 in omega (arith, le, length-append p (op ∷ [])), tt)
-most-add n op (p ∷ q ∷ ps) h = (let le = h.0 in omega (arith, le), most-add n op (q ∷ ps) h.1)
+most-add n op (p ∷ []) h = (omega (arith, h.0, length-append p (op ∷ [])), tt)
+most-add n op (p ∷ q ∷ ps) h = (omega (arith, h.0), most-add n op (q ∷ ps) h.1)
 
 most-after : (f : Profile) (heaps : ℕ → ℕ) (keeper : Option ℕ) (n line : ℕ) (i : Item) (ps : List (List Op)) → AtMost n ps → AtMost (n + 1) (phases_after f heaps keeper i line ps)
 most-after f heaps keeper n line Blank ps h = most-more n ps h
@@ -73,7 +70,7 @@ few-in f (i ∷ items) = omega (arith, few-after f (heap_of items) (keeper_for f
 -- the phases with these operations
 held : Global → (n : ℕ) → n < 2 ^ 63 → (ps : List (List Op)) → AtMost n ps → List Phase
 held heap n small [] h = []
-held heap n small (p ∷ ps) h = record { ops = holding heap p (let le = h.0 in omega (arith, le)) } ∷ held heap n small ps h.1
+held heap n small (p ∷ ps) h = record { ops = holding heap p (omega (arith, h.0)) } ∷ held heap n small ps h.1
 
 held-back : (heap : Global) (n : ℕ) (small : n < 2 ^ 63) (ps : List (List Op)) (h : AtMost n ps) → map ops_of (held heap n small ps h) ≡ ps
 unfolding held holding

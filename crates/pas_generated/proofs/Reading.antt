@@ -1,11 +1,9 @@
 -- Texts that are read line by line, with nothing between them.
-use Rattle.std.proofs.Common.{◌≡◌, ℕ, ◌+◌, List, [], ◌∷◌, ◌++◌, None, Some, Ok, refl, sym, ap, ◌∙◌, append_assoc}
-use Rattle.std.proofs.lemmas.List.{append-nil}
-use Rattle.pas_trace.specs.declared.header.Header.{Header}
+use Rattle.std.proofs.Common.{◌≡◌, ℕ, ◌+◌, List, [], ◌∷◌, ◌++◌, None, Some, Ok, refl, sym, ap, ◌∙◌, append_assoc, append-nil}
+use Rattle.pas_trace.specs.declared.{header.Header.Header, item.Item.Item}
 use Rattle.pas_trace.specs.Texts.{lines_of}
 use Rattle.pas_trace.specs.Reasons.{started, header_of_words, reason_of, checked, kept, line_says}
 use Rattle.pas_trace.specs.Plans.{after_item, items_from, with_items, with_header, parsed_lines, parsed}
-use Rattle.pas_trace.specs.declared.item.Item.{Item}
 use Rattle.pas_trace.proofs.WordLines.{Lacks, IsLine, lines-until}
 use Rattle.pas_generated.proofs.Says.{Says}
 

@@ -1,13 +1,11 @@
 -- What the lines of operations say.
-use Rattle.std.proofs.Common.{◌≡◌, ℕ, ◌^◌, ◌<◌, ◌≤◌, ◌==◌, nat_lt, nat_le, Bool, true, false, if◌then◌else◌, List, [], ◌∷◌, ◌++◌, get_or, codes, Some, None, Ok, refl, ap, ◌∙◌, arith, lit<}
+use Rattle.std.proofs.Common.{◌≡◌, ℕ, ◌^◌, ◌<◌, ◌≤◌, ◌==◌, nat_lt, nat_le, Bool, true, false, if◌then◌else◌, List, [], ◌∷◌, ◌++◌, get_or, codes, Some, None, Ok}
+use Rattle.std.proofs.Common.{refl, ap, ◌∙◌, arith, lit<, le-leb, lt-ltb, ne_eqb}
 use Rattle.std.specs.Fmt.{decimal}
-use Rattle.std.proofs.lemmas.Bool.{le-leb, lt-ltb, ne_eqb}
 use Rattle.pas_trace.specs.Texts.{words_of}
 use Rattle.pas_trace.specs.Items.{below, from_one, trace_name, epoch_word, item1, item2, item5, item_of_words, item_of_line}
-use Rattle.pas_trace.specs.declared.item.Item.{Item}
-use Rattle.pas_trace.specs.declared.item.Item.TheVariants.{Operates, Scavenges}
-use Rattle.pas_trace.specs.declared.item.Wish.TheVariants.{Asks, Frees}
-use Rattle.pas_trace.specs.declared.plan.Chore.{Chore}
+use Rattle.pas_trace.specs.declared.{item.Item.Item, item.Item.TheVariants.Operates, item.Item.TheVariants.Scavenges, item.Wish.TheVariants.Asks}
+use Rattle.pas_trace.specs.declared.{item.Wish.TheVariants.Frees, plan.Chore.Chore}
 use Rattle.pas_generate.specs.Lines.{free_line, tick_line}
 use Rattle.pas_generated.proofs.Digits.{number-back}
 use Rattle.pas_trace.proofs.WordLines.{Lacks, IsLine}

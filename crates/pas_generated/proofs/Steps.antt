@@ -1,17 +1,13 @@
 -- One operation more: its lines are read, and what is kept between two operations holds again.
-use Rattle.std.proofs.Common.{◌≡◌, ◌⊎◌, ℕ, zero, suc, ◌+◌, ◌*◌, ◌/◌, ◌%◌, ◌^◌, ◌<◌, ◌≤◌, nat_eq, nat_lt, Bool, true, false, ◌||◌, List, ◌∷◌, length, codes, inl, inr, refl, ap, ◌∙◌, arith}
+use Rattle.std.proofs.Common.{◌≡◌, ◌⊎◌, ℕ, zero, suc, ◌+◌, ◌*◌, ◌/◌, ◌%◌, ◌^◌, ◌<◌, ◌≤◌, nat_eq, nat_lt, Bool, true, false, ◌||◌, List, ◌∷◌, length, codes, inl}
+use Rattle.std.proofs.Common.{inr, refl, ap, ◌∙◌, arith, eq-eqb, ne_eqb}
 use Rattle.std.proofs.Math.Nat.{mod-lt}
-use Rattle.std.proofs.lemmas.Bool.{eq-eqb, ne_eqb}
 use Rattle.pas_trace.specs.Reasons.{is_named, operations_in, guard_in, cost_of, costs_of, kept}
-use Rattle.pas_trace.specs.declared.item.Item.{Item}
-use Rattle.pas_trace.specs.declared.item.Item.TheVariants.{NextPhase, Operates, Scavenges}
-use Rattle.pas_trace.specs.declared.item.Wish.TheVariants.{Asks, Frees}
-use Rattle.pas_trace.specs.declared.plan.Chore.{Chore}
-use Rattle.pas_generate.specs.Draws.{drawn, draw, moved_by}
-use Rattle.pas_generate.specs.Requests.{request_from}
-use Rattle.pas_generate.specs.Lines.{line_of, tick_line}
-use Rattle.pas_generate.specs.Operations.{State, place, none, freed, freeing_thread, allocation, after_allocation, free_of, after_free, allocates, begun, thread_of, drawn_operation, after_drawn}
-use Rattle.pas_generate.specs.Traces.{IsJob}
+use Rattle.pas_trace.specs.declared.{item.Item.Item, item.Item.TheVariants.NextPhase, item.Item.TheVariants.Operates, item.Item.TheVariants.Scavenges}
+use Rattle.pas_trace.specs.declared.{item.Wish.TheVariants.Asks, item.Wish.TheVariants.Frees, plan.Chore.Chore}
+use Rattle.pas_generate.specs.{Draws.drawn, Draws.draw, Draws.moved_by, Requests.request_from, Lines.line_of, Lines.tick_line, Traces.IsJob}
+use Rattle.pas_generate.specs.Operations.{State, place, none, freed, freeing_thread, allocation, after_allocation, free_of, after_free, allocates, begun}
+use Rattle.pas_generate.specs.Operations.{thread_of, drawn_operation, after_drawn}
 use Rattle.pas_generate.proofs.Valid.{valid}
 use Rattle.pas_generated.specs.Meant.{region, heading, with_allocation, with_free, with_drawn}
 use Rattle.pas_generated.proofs.Splits.{lacks-by}
@@ -89,7 +85,7 @@ aligned-small a (inl e) = omega arith
 aligned-small a (inr (inl e)) = omega arith
 aligned-small a (inr (inr e)) = omega arith
 
-pub allocation-step : (ops threads pages n t : ℕ) (s : State) (items : List Item) → IsJob ops threads pages → n < ops → 1 ≤ t → t ≤ threads → Follows pages threads n s items
+allocation-step : (ops threads pages n t : ℕ) (s : State) (items : List Item) → IsJob ops threads pages → n < ops → 1 ≤ t → t ≤ threads → Follows pages threads n s items
     → Step pages threads n items (line_of (allocation t s)) (after_allocation t s) (with_allocation t s items)
 allocation-step ops threads pages n t s items job more lo hi h =
     let f = region pages threads in
@@ -143,7 +139,7 @@ drawn-below : (x n : ℕ) → 0 < n → drawn x n < n
 unfolding drawn
 drawn-below x n some = mod-lt (x / 2 ^ 33) some
 
-pub free-step : (ops threads pages n t : ℕ) (s : State) (items : List Item) → IsJob ops threads pages → n < ops → 1 ≤ t → t ≤ threads → 0 < length s.unfreed → Follows pages threads n s items
+free-step : (ops threads pages n t : ℕ) (s : State) (items : List Item) → IsJob ops threads pages → n < ops → 1 ≤ t → t ≤ threads → 0 < length s.unfreed → Follows pages threads n s items
     → Step pages threads n items (line_of (free_of t s)) (after_free s) (with_free t s items)
 free-step ops threads pages n t s items job more lo hi some h =
     let f = region pages threads in

@@ -1,23 +1,16 @@
 -- The whole text is read, one operation after the other.
-use Rattle.std.proofs.Common.{◌≡◌, ◌≢◌, ℕ, zero, suc, ◌+◌, ◌*◌, ◌/◌, ◌%◌, ◌<◌, ◌≤◌, List, [], ◌∷◌, ◌++◌, length, codes, inl, inr, Ok, Err, refl, sym, ap, subst, ◌∙◌, arith}
-use Rattle.std.proofs.lemmas.Bool.{ne_eqb, cases_eq}
-use Rattle.std.proofs.lemmas.List.Elements.{All-nil}
-use Rattle.std.specs.Global.{Global}
+use Rattle.std.proofs.Common.{◌≡◌, ◌≢◌, ℕ, zero, suc, ◌+◌, ◌*◌, ◌/◌, ◌%◌, ◌<◌, ◌≤◌, List, [], ◌∷◌, ◌++◌, length, codes, inl, inr, Ok, Err, refl, sym, ap, subst}
+use Rattle.std.proofs.Common.{◌∙◌, arith, ne_eqb, Global}
+use Rattle.std.proofs.lemmas.{Bool.cases_eq, List.Elements.All-nil}
 use Rattle.pas_trace.specs.Plans.{parsed, IsPlanOf}
-use Rattle.pas_trace.specs.declared.fault.TraceFault.{TraceFault}
-use Rattle.pas_trace.specs.declared.plan.Plan.{Plan}
-use Rattle.pas_trace.specs.declared.item.Item.{Item}
-use Rattle.pas_trace.specs.declared.item.Item.TheVariants.{Shares, Scavenges, NextPhase}
-use Rattle.pas_trace.specs.declared.plan.Chore.{Chore}
-use Rattle.pas_generate.specs.Lines.{header, line_of}
-use Rattle.pas_generate.specs.Operations.{State, operation_at, after_operation}
+use Rattle.pas_trace.specs.declared.{fault.TraceFault.TraceFault, plan.Plan.Plan, item.Item.Item, item.Item.TheVariants.Shares, item.Item.TheVariants.Scavenges}
+use Rattle.pas_trace.specs.declared.{item.Item.TheVariants.NextPhase, plan.Chore.Chore}
+use Rattle.pas_generate.specs.{Lines.header, Lines.line_of, Operations.State, Operations.operation_at, Operations.after_operation}
 use Rattle.pas_generate.specs.Traces.{IsJob, state_after, lines_of, trace_text}
 use Rattle.pas_generate.proofs.Operations.{tick_at, pass_at, drawn_at}
 use Rattle.pas_generated.specs.Meant.{heading, with_drawn, with_operation, items_after, meant}
-use Rattle.pas_generated.proofs.Splits.{lacks-by, line-then}
-use Rattle.pas_generated.proofs.Headers.{header_words, header-line, header-says}
+use Rattle.pas_generated.proofs.{Splits.lacks-by, Splits.line-then, Headers.header_words, Headers.header-line, Headers.header-says, Plans.has-plan}
 use Rattle.pas_generated.proofs.Reading.{Reads, reads-none, reads-both, reads-line, parsed-by}
-use Rattle.pas_generated.proofs.Plans.{has-plan}
 use Rattle.pas_generated.proofs.Steps.{Follows, Step, tick-step, pass-step, drawn-step}
 
 -- ---- the operation of a number
@@ -92,7 +85,7 @@ all-read : (ops pages threads seed n : ℕ) → IsJob ops threads pages → n �
 all-read ops pages threads seed zero job within = none-read pages threads seed
 all-read ops pages threads seed (suc n) job within = more-read ops pages threads seed n job (omega arith) (all-read ops pages threads seed n job (omega arith))
 
-pub lines-few : (seed ops threads pages : ℕ) → IsJob ops threads pages → length (items_after threads seed ops) ≤ 2 * ops + 1
+lines-few : (seed ops threads pages : ℕ) → IsJob ops threads pages → length (items_after threads seed ops) ≤ 2 * ops + 1
 lines-few seed ops threads pages job = (all-read ops pages threads seed ops job (omega arith)).follows.counted.lines
 
 -- ---- the text

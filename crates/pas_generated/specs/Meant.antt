@@ -1,15 +1,11 @@
 -- What a generated trace means.
 use Rattle.std.specs.Prelude.{ℕ, zero, suc, ◌+◌, ◌/◌, ◌%◌, nat_eq, if◌then◌else◌, List, [], ◌∷◌}
 use Rattle.pas_profile.specs.declared.profile.Profile.{Profile}
-use Rattle.pas_trace.specs.declared.header.Header.{Header}
-use Rattle.pas_trace.specs.declared.item.Item.{Item}
+use Rattle.pas_trace.specs.declared.{header.Header.Header, item.Item.Item, item.Wish.TheVariants.Asks, item.Wish.TheVariants.Frees, plan.Chore.Chore}
 use Rattle.pas_trace.specs.declared.item.Item.TheVariants.{Shares, NextPhase, Operates, Scavenges}
-use Rattle.pas_trace.specs.declared.item.Wish.TheVariants.{Asks, Frees}
-use Rattle.pas_trace.specs.declared.plan.Chore.{Chore}
 use Rattle.pas_trace.specs.Plans.{Parsed}
-use Rattle.pas_generate.specs.Requests.{request_from}
+use Rattle.pas_generate.specs.{Requests.request_from, Traces.state_after}
 use Rattle.pas_generate.specs.Operations.{State, allocates, begun, thread_of, freed, freeing_thread}
-use Rattle.pas_generate.specs.Traces.{state_after}
 
 -- the region: six heaps, none of them shared as yet, and an age of 2
 abbrev pub region : ℕ → ℕ → Profile

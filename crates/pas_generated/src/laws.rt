@@ -3,8 +3,7 @@ ghost use Rattle.std.specs.Prelude.{◌≡◌, ◌≢◌, ℕ, Ok, Err};
 ghost use Rattle.std.specs.Global.{Global};
 ghost use Rattle.pas_generate.specs.Traces.{IsJob, trace_text};
 ghost use Rattle.pas_trace.specs.Plans.{parsed, IsPlanOf};
-ghost use Rattle.pas_trace.specs.declared.fault.TraceFault.{TraceFault};
-ghost use Rattle.pas_trace.specs.declared.plan.Plan.{Plan};
+ghost use Rattle.pas_trace.specs.declared.{fault.TraceFault.TraceFault, plan.Plan.Plan};
 ghost use Rattle.pas_generated.specs.Meant.{meant};
 
 /// The text of each valid job, whatever its seed, is read as what the job means: a region of six heaps with so many

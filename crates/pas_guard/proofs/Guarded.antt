@@ -1,29 +1,19 @@
 -- A guard that is up stays as it is, step by step.
 use Rattle.std.proofs.Common.{◌≡◌, ℕ, arith, ◌/◌, ◌==◌, Bool, true, false, if◌then◌else◌, List, [], ◌∷◌, ◌++◌, refl, ap, sym, ◌∙◌, subst, true≢false, inl, inr}
-use Rattle.std.proofs.lemmas.Bool.{cases_Bool, eqb-true, eq-eqb}
-use Rattle.std.specs.Prelude.{bit_or}
-use Rattle.pas_profile.specs.Layouts.{same_word}
-use Rattle.pas_profile.specs.Profiles.{IsValid}
-use Rattle.pas_profile.specs.Blocks.{grain_of}
-use Rattle.pas_profile.specs.declared.directory.Directory.{Directory}
-use Rattle.pas_profile.specs.declared.profile.Profile.{Profile}
+use Rattle.std.proofs.Common.{eqb-true, eq-eqb, bit_or}
+use Rattle.std.proofs.lemmas.Bool.{cases_Bool}
+use Rattle.pas_profile.specs.{Layouts.same_word, Profiles.IsValid, Blocks.grain_of}
+use Rattle.pas_profile.specs.declared.{directory.Directory.Directory, profile.Profile.Profile}
 use Rattle.pas_profile.specs.declared.word.Word.TheVariants as Words
 use Rattle.pas_profile.proofs.Codecs.{deed_word_of-positive}
-use Rattle.pas_steps.specs.Allowed.{Allowed}
-use Rattle.pas_steps.specs.Effects.{target, new_value}
+use Rattle.pas_steps.specs.{Allowed.Allowed, Effects.target, Effects.new_value, Past.Since}
 use Rattle.pas_steps.specs.Lists.{Triple, Whole, part, word_after, IsNext, Legal}
 use Rattle.pas_steps.specs.Views.{View, Stays, Gives, held_after, grain_move, holds, epoch_of, known_deed, KnowsDeed}
-use Rattle.pas_steps.specs.declared.step.Made.{Made}
-use Rattle.pas_steps.specs.declared.step.Step.{Step}
+use Rattle.pas_steps.specs.declared.step.{Made.Made, Step.Step}
 use Rattle.pas_steps.specs.declared.step.Step.TheVariants.{Look, Back, Give, Unback}
-use Rattle.pas_core.proofs.Deeds.{deed_kept, looked, known_is}
-use Rattle.pas_core.proofs.Grains.{one_holder}
+use Rattle.pas_core.proofs.{Deeds.deed_kept, Deeds.looked, Deeds.known_is, Grains.one_holder, Rights.deeds_known}
 use Rattle.pas_large.specs.Claims.{StaysPut}
-use Rattle.pas_guard.specs.Raises.{BacksNot}
-use Rattle.pas_guard.specs.Evidence.{BackedReadHere}
-use Rattle.pas_guard.specs.Seeks.{LeftSince}
-use Rattle.pas_steps.specs.Past.{Since}
-use Rattle.pas_core.proofs.Rights.{deeds_known}
+use Rattle.pas_guard.specs.{Raises.BacksNot, Evidence.BackedReadHere, Seeks.LeftSince}
 use Rattle.pas_guard.specs.Guarded.{StandsGuard, LeavesGuard, KeepsGuard, GivesOn, IsUntouched, AreUntouched}
 
 -- only a back makes a page that isn't backed a backed one
@@ -47,7 +37,7 @@ module _ (f : Profile) (l : Whole) (keeper page : ℕ) (d : Directory) (valid : 
   no_back : (k : ℕ) (s : Step) → (k == keeper) ≡ false → Allowed f (part k l) s → s ≡ Back page → ⊥
   no_back k s other may e = let now = subst (Allowed f (part k l)) e may in let on = now.0 in true≢false (sym (alone k on.0 on.1 on.2) ∙ other)
 
-  pub no_give : (k : ℕ) (s : Step) → (k == keeper) ≡ false → Allowed f (part k l) s → GivesOn page s → ⊥
+  no_give : (k : ℕ) (s : Step) → (k == keeper) ≡ false → Allowed f (part k l) s → GivesOn page s → ⊥
   no_give k s other may on = let now = subst (Allowed f (part k l)) on.1 may in let g = on.2 in true≢false (sym (alone k g.0 g.1 (now.held g.0 g.2)) ∙ other)
 
 -- ---- the keeper's own
@@ -62,7 +52,7 @@ own_give page m leaves on =
 
 -- ---- one step more
 module _ (f : Profile) (l : Whole) (t : Triple) (keeper page : ℕ) (d : Directory) (valid : IsValid f) (legal : Legal f l) (next : IsNext f l t) (stands : StandsGuard l keeper page d) (keeps : (t.actor == keeper) ≡ true → LeavesGuard page t.made) where
-  pub untouched_next : IsUntouched page t.made.step
+  untouched_next : IsUntouched page t.made.step
   untouched_next = elim (cases_Bool (t.actor == keeper)) [
     | inl own ↦ record { unbacked = (keeps own).unbacked; ungiven = own_give page t.made (keeps own) }
     | inr other ↦ record { unbacked = no_back f l keeper page d valid legal stands t.actor t.made.step other next.allowed; ungiven = no_give f l keeper page d valid legal stands t.actor t.made.step other next.allowed }
@@ -72,7 +62,7 @@ module _ (f : Profile) (l : Whole) (t : Triple) (keeper page : ℕ) (d : Directo
   held_next true is g at = ap (λ m. held_after m (holds (part keeper l) g)) ((keeps is).stays g at) ∙ stands.held g at
   held_next false is g at = stands.held g at
 
-  pub stands_next : StandsGuard (t ∷ l) keeper page d
+  stands_next : StandsGuard (t ∷ l) keeper page d
   stands_next = record {
     held = held_next (t.actor == keeper) refl;
     deed = deed_kept l t page (λ z. deed_word_of-positive d (sym stands.deed ∙ z)) ∙ stands.deed;
@@ -158,7 +148,7 @@ begins_by f t l keeper page v m steps valid legal next same is own (inr later) m
 pub head_same : (x y : Made) (xs ys : List Made) → x ∷ xs ≡ y ∷ ys → (x ≡ y) × (xs ≡ ys)
 head_same x y xs ys e = (cc, cc)
 
-pub begins : (f : Profile) (l : Whole) (keeper page : ℕ) (v : View) (steps : List Made) → IsValid f → Legal f l → part keeper l ≡ steps ++ v → Since (BackedReadHere v page 0) (LeftSince page) steps → StandsBare l keeper page
+begins : (f : Profile) (l : Whole) (keeper page : ℕ) (v : View) (steps : List Made) → IsValid f → Legal f l → part keeper l ≡ steps ++ v → Since (BackedReadHere v page 0) (LeftSince page) steps → StandsBare l keeper page
 begins f [] keeper page v [] valid legal is since = absurd since
 begins f [] keeper page v (m ∷ steps) valid legal is since = absurd (let e : [] ≡ m ∷ (steps ++ v) = is in cc)
 begins f (t ∷ l) keeper page v [] valid legal is since = absurd since

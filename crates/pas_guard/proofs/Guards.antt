@@ -1,19 +1,14 @@
 -- A run that is held is guarded.
-use Rattle.std.proofs.Common.{◌≡◌, ℕ, ◌+◌, ◌/◌, ◌<◌, ◌^◌, ◌==◌, Bool, true, false, ◌||◌, if◌then◌else◌, List, ◌++◌, length, inl, refl, ap, sym, ◌∙◌, subst, arith, length-append, append_assoc}
+use Rattle.std.proofs.Common.{◌≡◌, ℕ, ◌+◌, ◌/◌, ◌<◌, ◌^◌, ◌==◌, Bool, true, false, ◌||◌, if◌then◌else◌, List, ◌++◌, length, inl, refl, ap, sym, ◌∙◌, subst}
+use Rattle.std.proofs.Common.{arith, length-append, append_assoc}
 use Rattle.std.proofs.lemmas.Bool.Decides.{nat_tests}
-use Rattle.pas_profile.specs.declared.directory.Directory.{Directory}
-use Rattle.pas_profile.specs.declared.name.Block.{Block}
-use Rattle.pas_rights.specs.Leaves.{MayLeave, Leaves}
+use Rattle.pas_profile.specs.declared.{directory.Directory.Directory, name.Block.Block}
+use Rattle.pas_rights.specs.{Leaves.MayLeave, Leaves.Leaves, Gives.give_steps}
 use Rattle.pas_steps.specs.Calls.{Calls, Kept, Lost, now, ClearAfter, Does, on_page}
-use Rattle.pas_steps.specs.Desks.{Standing, CanCall}
-use Rattle.pas_steps.specs.Views.{View, has_right, KnowsDeed}
+use Rattle.pas_steps.specs.{Desks.Standing, Desks.CanCall, Views.View, Views.has_right, Views.KnowsDeed}
 use Rattle.pas_steps.specs.declared.step.Made.{Made}
-use Rattle.pas_steps.proofs.Called.{call_then, next_call, call_as}
-use Rattle.pas_steps.proofs.Calls.{does_as, does_then}
-use Rattle.pas_steps.proofs.Sets.{both_fates, kept_kept}
-use Rattle.pas_large.specs.Claims.{in_span, HasPages}
-use Rattle.pas_rights.specs.Gives.{give_steps}
-use Rattle.pas_large.specs.Gives.{GaveRun, GivesRun}
+use Rattle.pas_steps.proofs.{Called.call_then, Called.next_call, Called.call_as, Calls.does_as, Calls.does_then, Sets.both_fates, Sets.kept_kept}
+use Rattle.pas_large.specs.{Claims.in_span, Claims.HasPages, Gives.GaveRun, Gives.GivesRun}
 use Rattle.pas_large.proofs.Claims.{call_knowing, span_in}
 use Rattle.pas_guard.specs.Guards.{given_and_left, GuardedRun, GuardsRun}
 
@@ -110,6 +105,6 @@ module _ (d : Directory) (first k : ℕ) (block : Block) where
             block_is = give.block_is;
             left = left;
             left_order = (high.steps, low.steps ++ give.left, high.order, (low.steps, give.left, low.order, give.left_order, refl), refl);
-            few = (let i = length-append high.steps (low.steps ++ gs) in let j = length-append low.steps gs in let a = high.few in let b = low.few in let c = give.few in let e = ap (λ s. length s) same in omega (arith, i, j, a, b, c, e));
+            few = (let i = length-append high.steps (low.steps ++ gs) in let j = length-append low.steps gs in let e = ap (λ s. length s) same in omega (arith, i, j, high.few, low.few, give.few, e));
             calls = subst (Calls σ σ3 (HasPages d first (first + (k + 2))) (GuardedRun d first k block)) (sym same) (call_as (GuardedRun d first k block) done (λ v met. met) (λ v w met both. record { does = both.0.does; deeds = both.1; turn = both.0.turn }));
           }

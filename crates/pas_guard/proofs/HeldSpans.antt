@@ -1,17 +1,14 @@
 -- Pages that the actor has whole, which it got, and what becomes of them.
 use Rattle.std.proofs.Common.{ℕ, ◌+◌, ◌/◌, ◌<◌, ◌≤◌, ◌==◌, Bool, true, false, ◌||◌, if◌then◌else◌, refl, ◌∙◌, inl, inr, arith, ◌≡◌, ◌≢◌, ap, sym, true≢false}
-use Rattle.std.proofs.lemmas.Bool.{cases_lt, cases_Bool, eqb-true, eq-eqb}
-use Rattle.std.proofs.lemmas.Bool.Decides.{nat_tests}
+use Rattle.std.proofs.Common.{eqb-true, eq-eqb}
+use Rattle.std.proofs.lemmas.Bool.{cases_lt, cases_Bool, Decides.nat_tests}
 use Rattle.pas_profile.specs.declared.directory.Directory.{Directory}
-use Rattle.pas_rights.specs.Puts.{masked}
-use Rattle.pas_rights.specs.PutsBack.{put_and_left}
-use Rattle.pas_rights.specs.Words.{full}
+use Rattle.pas_rights.specs.{Puts.masked, PutsBack.put_and_left, Words.full}
 use Rattle.pas_rights.proofs.Looks.{on_full}
 use Rattle.pas_steps.specs.Calls.{Kept, Gained, Lost, now, nothing, Does}
 use Rattle.pas_steps.specs.Views.{View, holds, has_right, KnowsDeed}
 use Rattle.pas_steps.proofs.Calls.{does_as, does_then}
-use Rattle.pas_large.specs.Claims.{in_span}
-use Rattle.pas_large.specs.Pages.{of_pages, GotPages}
+use Rattle.pas_large.specs.{Claims.in_span, Pages.of_pages, Pages.GotPages}
 use Rattle.pas_large.proofs.Claims.{span_in, in_parts, span_none, got_both}
 use Rattle.pas_large.proofs.Pages.{undone}
 use Rattle.pas_guard.specs.Seeks.{HasSpan}
@@ -83,9 +80,9 @@ module _ {v w u : View} (d : Directory) (a c : ℕ) (some : a < c) (span : HasSp
           | inr e ↦ left.backed x (ap (λ m. if m then Lost else Kept) (on_full a x ∙ e)) (span.got.does.backed x (ap (λ t. if t then Gained else Kept) (but_first a c (x / 256) (there (x / 256) e)) ∙ kept) bears)
         ];
       };
-      apart = λ g is. let at = in_parts (a + 1) c (g / 256) is in let low = at.0 in span.got.apart g (span_in a c (g / 256) (omega (arith, low)) at.1);
-      lacked = λ p is. let at = in_parts (a + 1) c p is in let low = at.0 in span.lacked p (span_in a c p (omega (arith, low)) at.1);
-      deeds = λ p is. let at = in_parts (a + 1) c p is in let low = at.0 in knows p (span.got.deeds p (span_in a c p (omega (arith, low)) at.1));
+      apart = λ g is. let at = in_parts (a + 1) c (g / 256) is in span.got.apart g (span_in a c (g / 256) (omega (arith, at.0)) at.1);
+      lacked = λ p is. let at = in_parts (a + 1) c p is in span.lacked p (span_in a c p (omega (arith, at.0)) at.1);
+      deeds = λ p is. let at = in_parts (a + 1) c p is in knows p (span.got.deeds p (span_in a c p (omega (arith, at.0)) at.1));
     };
-    lacked = λ p is. let at = in_parts (a + 1) c p is in let low = at.0 in span.lacked p (span_in a c p (omega (arith, low)) at.1);
+    lacked = λ p is. let at = in_parts (a + 1) c p is in span.lacked p (span_in a c p (omega (arith, at.0)) at.1);
   }

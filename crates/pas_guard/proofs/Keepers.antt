@@ -1,43 +1,29 @@
 -- While a keeper's guard is up, its outer pages stand whole and bare.
-use Rattle.std.proofs.Common.{◌≡◌, ℕ, zero, suc, ◌+◌, ◌/◌, ◌<◌, ◌==◌, Bool, true, false, ◌||◌, if◌then◌else◌, ◌⊎◌, List, [], ◌∷◌, ◌++◌, length, inl, inr, refl, ap, sym, ◌∙◌, subst, arith, append_assoc, append-nil, true≢false, Option, Some, None}
-use Rattle.std.specs.Prelude.{Contains, slice_index_or}
-use Rattle.std.proofs.lemmas.Bool.{cases_Bool, eqb-true, eq-eqb}
-use Rattle.std.proofs.lemmas.Bool.Decides.{nat_tests}
-use Rattle.std.proofs.lemmas.List.Elements.{Contains-append_right, Contains-push_cases}
-use Rattle.pas_profile.specs.Profiles.{IsValid}
-use Rattle.pas_profile.specs.Blocks.{address_of}
-use Rattle.pas_profile.specs.declared.directory.Directory.{Directory}
-use Rattle.pas_profile.specs.declared.name.Block.{Block}
-use Rattle.pas_profile.specs.declared.profile.Profile.{Profile}
+use Rattle.std.proofs.Common.{◌≡◌, ℕ, zero, suc, ◌+◌, ◌/◌, ◌<◌, ◌==◌, Bool, true, false, ◌||◌, if◌then◌else◌, ◌⊎◌, List, [], ◌∷◌, ◌++◌, length, inl, inr, refl}
+use Rattle.std.proofs.Common.{ap, sym, ◌∙◌, subst, arith, append_assoc, append-nil, true≢false, Option, Some, None, Contains, slice_index_or, eqb-true, eq-eqb}
+use Rattle.std.proofs.lemmas.{Bool.cases_Bool, Bool.Decides.nat_tests, List.Elements.Contains-append_right, List.Elements.Contains-push_cases}
+use Rattle.pas_profile.specs.{Profiles.IsValid, Blocks.address_of}
+use Rattle.pas_profile.specs.declared.{directory.Directory.Directory, name.Block.Block, profile.Profile.Profile}
 use Rattle.pas_report.specs.declared.record.Record.{Record}
 use Rattle.pas_scan.specs.Runs.{large_directory}
-use Rattle.pas_steps.specs.Agreement.{Agreed}
-use Rattle.pas_steps.specs.Allowed.{IsStepOf}
-use Rattle.pas_steps.specs.Effects.{target, in_mask}
+use Rattle.pas_steps.specs.{Agreement.Agreed, Allowed.IsStepOf, Effects.target, Effects.in_mask, Past.Once, Past.Always, Clear.IsClear}
 use Rattle.pas_steps.specs.Kinds.{Kinds, Giving, Only, is_in, kind_of}
 use Rattle.pas_steps.specs.Lists.{Triple, Whole, part, word_after, Legal}
-use Rattle.pas_steps.specs.Past.{Once, Always}
 use Rattle.pas_steps.specs.Views.{Stays, Puts, grain_move, KnowsDeed}
-use Rattle.pas_steps.specs.declared.step.Made.{Made}
-use Rattle.pas_steps.specs.declared.step.Step.{Step}
+use Rattle.pas_steps.specs.declared.step.{Made.Made, Step.Step}
 use Rattle.pas_steps.specs.declared.step.Step.TheVariants.{Take, Put, Give, End, EndSized}
-use Rattle.pas_steps.proofs.Adding.{agreed_first, agreed_later}
-use Rattle.pas_steps.proofs.Past.{once_later}
+use Rattle.pas_steps.proofs.{Adding.agreed_first, Adding.agreed_later, Past.once_later}
 use Rattle.pas_core.proofs.Nexts.{agrees_next}
-use Rattle.pas_steps.specs.Clear.{IsClear}
 use Rattle.pas_large.specs.Claims.{in_span, StaysPut}
 use Rattle.pas_large.proofs.Claims.{span_in}
-use Rattle.pas_guard.specs.Books.{is_outer_of, is_outer, FitsBook}
-use Rattle.pas_guard.specs.Guarded.{StandsGuard}
+use Rattle.pas_guard.specs.{Books.is_outer_of, Books.is_outer, Books.FitsBook, Guarded.StandsGuard, Seeks.seeking}
 use Rattle.pas_guard.specs.Keepers.{Call, MakesCall, MakesCalls, GivesBlockOf, PutsNoneOf, IsUpIn, IsUp, IsUpThrough, StandsBetween, StandsThrough}
 use Rattle.pas_guard.specs.Raises.{BacksNot, guard_of, IsRaised, RaiseSteps}
-use Rattle.pas_guard.specs.Seeks.{seeking}
 use Rattle.pas_guard.specs.Sweeps.{is_over, SweptOne, Swept, sweeping, SweepSteps}
 use Rattle.pas_guard.specs.declared.book.Guard.{Guard}
 use Rattle.pas_guard.proofs.Guarded.{head_same, stands_on, own_keep, guard_begins, untouched_between}
-use Rattle.pas_guard.proofs.Raised.{raised_backs, raised_pages, raised_leaves}
+use Rattle.pas_guard.proofs.{Raised.raised_backs, Raised.raised_pages, Raised.raised_leaves, Sweeps.kept_steady}
 use Rattle.pas_guard.proofs.Raises.{no_backs, after_steady, after_unbacked, fits_find}
-use Rattle.pas_guard.proofs.Sweeps.{kept_steady}
 
 -- ==== The list of all actors, and the steps of one.
 
@@ -139,7 +125,7 @@ pub first_or_later : (g : Guard) (gs : List Guard) (x : Guard) → Contains (g �
 first_or_later g gs x has = at_cases g gs x has.0 has.1 has.2
 
 pub none_in : (x : Guard) → Contains [] x → ⊥
-none_in x has = let lt = has.1 in omega (arith, lt)
+none_in x has = omega (arith, has.1)
 
 either_true : (a b : Bool) → b ≡ true → (a || b) ≡ true
 either_true true b h = refl
@@ -372,7 +358,7 @@ up_stands f keeper guard later l valid legal agreed up =
     (λ older legal_older at. calls_stand f keeper valid up.calls up.guards up.before up.called older legal_older at) up.calls_now up.up
 
 -- ---- all places
-pub at_the_end : (keeper : ℕ) (guard : Guard) (newer older : Whole) → StandsThrough keeper guard newer older → StandsBetween (newer ++ older) keeper guard
+at_the_end : (keeper : ℕ) (guard : Guard) (newer older : Whole) → StandsThrough keeper guard newer older → StandsBetween (newer ++ older) keeper guard
 at_the_end keeper guard [] older stands = stands
 at_the_end keeper guard (t ∷ newer) older stands = stands.0
 

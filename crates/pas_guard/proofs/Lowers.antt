@@ -1,22 +1,16 @@
 -- A guard is lowered.
-use Rattle.std.proofs.Common.{◌≡◌, ℕ, ◌/◌, ◌==◌, Bool, true, false, ◌||◌, if◌then◌else◌, ◌++◌, inl, refl, ap, sym, ◌∙◌, arith, length-append}
-use Rattle.std.proofs.lemmas.Bool.{eqb-true, eq-eqb, ne_eqb}
-use Rattle.pas_profile.specs.declared.directory.Directory.{Directory}
-use Rattle.pas_profile.specs.declared.profile.Profile.{Profile}
-use Rattle.pas_rights.specs.Puts.{masked}
+use Rattle.std.proofs.Common.{◌≡◌, ℕ, ◌/◌, ◌==◌, Bool, true, false, ◌||◌, if◌then◌else◌, ◌++◌, inl, refl, ap, sym, ◌∙◌, arith, length-append, eqb-true, eq-eqb}
+use Rattle.std.proofs.Common.{ne_eqb}
+use Rattle.pas_profile.specs.declared.{directory.Directory.Directory, profile.Profile.Profile}
+use Rattle.pas_rights.specs.{Puts.masked, Words.full}
 use Rattle.pas_scan.specs.Runs.{large_directory}
 use Rattle.pas_rights.specs.PutsBack.{giving_back, given_back, MayPutAndReturn, PutsAndReturns}
-use Rattle.pas_rights.specs.Words.{full}
 use Rattle.pas_rights.proofs.Looks.{on_full}
 use Rattle.pas_steps.specs.Calls.{Calls, Kept, Lost, now, Does}
-use Rattle.pas_steps.specs.Desks.{Standing, CanCall}
-use Rattle.pas_steps.specs.Views.{View, holds, KnowsDeed}
-use Rattle.pas_steps.proofs.Apart.{only_both}
+use Rattle.pas_steps.specs.{Desks.Standing, Desks.CanCall, Views.View, Views.holds, Views.KnowsDeed}
+use Rattle.pas_steps.proofs.{Apart.only_both, Calls.does_as, Calls.does_then, Sets.both_fates}
 use Rattle.pas_steps.proofs.Called.{call_then, next_call, call_as, call_knows}
-use Rattle.pas_steps.proofs.Calls.{does_as, does_then}
-use Rattle.pas_steps.proofs.Sets.{both_fates}
-use Rattle.pas_guard.specs.Books.{is_outer_of}
-use Rattle.pas_guard.specs.Lowers.{MayLower, lowered, Lowers}
+use Rattle.pas_guard.specs.{Books.is_outer_of, Lowers.MayLower, Lowers.lowered, Lowers.Lowers}
 use Rattle.pas_guard.specs.declared.book.Guard.{Guard}
 
 either : (a b : Bool) → b ≡ true → (a || b) ≡ true
@@ -78,7 +72,7 @@ lowers {σ} guard low high = record {
     on_low = low.on;
     on_high = high.on;
     kinds = only_both giving_back high.steps low.steps high.kinds low.kinds;
-    few = let n = length-append high.steps low.steps in let a = low.few in let b = high.few in omega (arith, n, a, b);
+    few = let n = length-append high.steps low.steps in omega (arith, n, low.few, high.few);
     steps_are = refl;
   };
 }

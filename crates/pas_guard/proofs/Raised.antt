@@ -1,13 +1,10 @@
 -- The steps of a raise after its search: which they are, and how many back the pages of its block.
 use Rattle.std.proofs.Common.{ℕ, ◌+◌, ◌≤◌, List, [], ◌∷◌, length}
-use Rattle.pas_profile.specs.declared.directory.Directory.{Directory}
-use Rattle.pas_profile.specs.declared.name.Block.{Block}
-use Rattle.pas_profile.specs.declared.profile.Profile.{Profile}
+use Rattle.pas_profile.specs.declared.{directory.Directory.Directory, name.Block.Block, profile.Profile.Profile}
 use Rattle.pas_steps.specs.Kinds.{Backing, Only, returning}
 use Rattle.pas_steps.specs.declared.step.Made.{Made}
 use Rattle.pas_large.proofs.InOrder.{BacksIn, only_backs, backs_in, backs_few, only_leaves}
-use Rattle.pas_guard.specs.Guards.{left_last_first}
-use Rattle.pas_guard.specs.Raises.{IsRaised}
+use Rattle.pas_guard.specs.{Guards.left_last_first, Raises.IsRaised}
 use Rattle.pas_guard.specs.declared.book.Guard.{Guard}
 
 module _ {f : Profile} {d : Directory} {k : ℕ} {guards guards' : List Guard} {searched after : List Made} {block : Block} (r : IsRaised f d k guards guards' searched after block) where

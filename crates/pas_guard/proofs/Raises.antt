@@ -1,31 +1,22 @@
 -- A guard goes up, and the actor fits the book still.
-use Rattle.std.proofs.Common.{◌≡◌, ◌≢◌, ℕ, ◌+◌, ◌*◌, ◌/◌, ◌<◌, ◌≤◌, ◌==◌, Bool, true, false, ◌||◌, if◌then◌else◌, List, [], ◌∷◌, ◌++◌, inl, inr, refl, ap, sym, ◌∙◌, subst, arith, length-append, append_assoc, true≢false, Some, None}
-use Rattle.std.proofs.lemmas.Bool.{cases_Bool, eqb-true, eq-eqb, ne_eqb}
-use Rattle.std.proofs.lemmas.Bool.Decides.{nat_tests}
+use Rattle.std.proofs.Common.{◌≡◌, ◌≢◌, ℕ, ◌+◌, ◌*◌, ◌/◌, ◌<◌, ◌≤◌, ◌==◌, Bool, true, false, ◌||◌, if◌then◌else◌, List, [], ◌∷◌, ◌++◌, inl, inr, refl, ap, sym}
+use Rattle.std.proofs.Common.{◌∙◌, subst, arith, length-append, append_assoc, true≢false, Some, None, eqb-true, eq-eqb, ne_eqb}
+use Rattle.std.proofs.lemmas.Bool.{cases_Bool, Decides.nat_tests}
 use Rattle.pas_profile.specs.Blocks.{address_of, grain_of}
-use Rattle.pas_profile.specs.declared.directory.Directory.{Directory}
-use Rattle.pas_profile.specs.declared.name.Block.{Block}
-use Rattle.pas_profile.specs.declared.profile.Profile.{Profile}
+use Rattle.pas_profile.specs.declared.{directory.Directory.Directory, name.Block.Block, profile.Profile.Profile}
 use Rattle.pas_scan.specs.Runs.{large_directory}
 use Rattle.pas_steps.specs.Calls.{Calls, Kept, Gained, Lost, now, nothing, Does}
 use Rattle.pas_steps.specs.Desks.{Standing, CanCall}
 use Rattle.pas_steps.specs.Kinds.{Kinds, Backing, Only, is_in, kind_of, returning}
-use Rattle.pas_steps.specs.declared.step.Step.TheVariants.{Back, Give}
-use Rattle.pas_steps.proofs.Past.{always_map, always_both}
+use Rattle.pas_steps.specs.declared.step.{Step.TheVariants.Back, Step.TheVariants.Give, Made.Made}
+use Rattle.pas_steps.proofs.{Past.always_map, Past.always_both, Called.next_call, Calls.leads_at, Kept.knows_still, SpareRoom.Spares}
 use Rattle.pas_profile.proofs.Codecs.{deed_word_of-positive}
 use Rattle.pas_large.proofs.Gives.{run_is}
 use Rattle.pas_guard.proofs.Seeks.{steady_kinds}
 use Rattle.pas_steps.specs.Views.{View, Stays, Gives, grain_move, holds, has_right, known_deed, KnowsDeed}
-use Rattle.pas_steps.specs.declared.step.Made.{Made}
 use Rattle.pas_steps.proofs.Adding.{adds_under, agreed_first, agreed_later, adds_call}
-use Rattle.pas_steps.proofs.Called.{next_call}
-use Rattle.pas_steps.proofs.Calls.{leads_at}
-use Rattle.pas_steps.proofs.Kept.{knows_still}
-use Rattle.pas_steps.proofs.SpareRoom.{Spares}
-use Rattle.pas_large.specs.Claims.{in_span, StaysPut, HasPages}
-use Rattle.pas_large.specs.Finds.{MayFind, FindRoom}
+use Rattle.pas_large.specs.{Claims.in_span, Claims.StaysPut, Claims.HasPages, Finds.MayFind, Finds.FindRoom, Gives.run_block}
 use Rattle.pas_rights.specs.Gives.{give_steps}
-use Rattle.pas_large.specs.Gives.{run_block}
 use Rattle.pas_large.proofs.InOrder.{BacksIn, only_backs, backs_in, only_leaves}
 use Rattle.pas_large.proofs.Claims.{has_got, room_after, span_in, steady_both}
 use Rattle.pas_guard.specs.Books.{is_outer_of, is_outer, AreApart, Each, IsGuardOf, KnowsGuard, FitsBook}
@@ -143,7 +134,7 @@ module _ (f : Profile) (heap first k : ℕ) (gs : List Guard) (block : Block) wh
       | inr out ↦ ap (λ t. now (if t then Lost else Kept) (now (if t then Gained else Kept) (has_right v q))) out ∙ fits.rights q
     ]
 
-    pub fits_more : 1 ≤ first → first + (k + 2) ≤ f.pages + 1 → heap < f.heaps → 1 ≤ k → block.heap ≡ heap → address_of block.name / 4096 ≡ first + 1 → ((p : ℕ) (e : Directory) → KnowsDeed p e v → KnowsDeed p e u) → FitsBook f (gs ++ guard ∷ []) u
+    fits_more : 1 ≤ first → first + (k + 2) ≤ f.pages + 1 → heap < f.heaps → 1 ≤ k → block.heap ≡ heap → address_of block.name / 4096 ≡ first + 1 → ((p : ℕ) (e : Directory) → KnowsDeed p e v → KnowsDeed p e u) → FitsBook f (gs ++ guard ∷ []) u
     fits_more low high of some of_heap at knows = record {
       apart = apart_more gs guard fits.apart (new_page first low_in) (new_page (first + k + 1) high_in);
       of_region = each_more (IsGuardOf f) gs guard fits.of_region (record {
@@ -212,7 +203,7 @@ pub fits_find : (f : Profile) (d : Directory) (gs : List Guard) (v : View) → F
 fits_find f d gs v fits = record { lacks = λ p h. fits.rights p; clear = fits.clear }
 
 pub can_seek : {σ : Standing} (heap n spare : ℕ) (gs : List Guard) → 1 ≤ n → CanCall σ (RaiseRoom σ.seat.profile gs n spare) → CanCall σ (FindRoom σ.seat.profile (large_directory heap) 1 spare)
-can_seek {σ} heap n spare gs some can = record { view = can.view; whole = can.whole; stood = can.stood; met = record { may = fits_find σ.seat.profile (large_directory heap) gs can.view can.met.fits; room = (let room = can.met.room in omega (arith, room, some)) } }
+can_seek {σ} heap n spare gs some can = record { view = can.view; whole = can.whole; stood = can.stood; met = record { may = fits_find σ.seat.profile (large_directory heap) gs can.view can.met.fits; room = (omega (arith, can.met.room, some)) } }
 
 -- ---- after it
 fits_nothing : (f : Profile) (gs : List Guard) (v w : View) → FitsBook f gs v → Does nothing v w → ((p : ℕ) (e : Directory) → KnowsDeed p e v → KnowsDeed p e w) → FitsBook f gs w
@@ -239,7 +230,7 @@ not_raised {σ} heap k gs seek =
         rise = seek.rise;
         returns = seek.returns;
         shows = seek.shows;
-        few = (let few = seek.few in omega (arith, few));
+        few = (omega (arith, seek.few));
         steady = λ v met agreed g is. seek.steady v (fits_find f d gs v met) agreed (g / 256) (whole_outer f gs v met (g / 256) is) g refl;
         unbacked = λ v met agreed p is. no_backs seeking p seek.steps refl seek.kinds;
         outcome = record { found = seek.outcome; nothing = refl; same = refl };
@@ -300,7 +291,7 @@ module _ {σ σ1 : Standing} (heap k first : ℕ) (gs : List Guard) (seek : Seek
           unbacked = λ v met agreed p is.
               let before = agreed_later f_ v after seek.steps agreed in let out = run_out f_ d_ gs first (first + (k + 2)) v (seek.steps ++ v) met (sought.leads.from v met before) p is in
               backs_both p after seek.steps (after_unbacked d_ first k g.word g.answer block g.block_is g.left g.backs (only_leaves d_ (left_last_first first k) g.left g.left_order) (backs_in (first + 1) k g.backs g.back_order) p (inner p out)) (no_backs seeking p seek.steps refl seek.kinds);
-          few = (let few = seek.few in let j = length-append after seek.steps in let a = g.few in omega (arith, few, j, a));
+          few = (let j = length-append after seek.steps in omega (arith, seek.few, j, g.few));
           outcome = record {
             first = first;
             found = seek.outcome;

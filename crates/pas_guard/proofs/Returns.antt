@@ -1,31 +1,22 @@
 -- Pages that a search for a run gives back are those that it got, and grains that it puts are those that it took. And its deeds rise.
-use Rattle.std.proofs.Common.{ℕ, ◌/◌, ◌%◌, ◌<◌, ◌≡◌, ◌==◌, ◌&&◌, Bool, true, false, if◌then◌else◌, List, [], ◌∷◌, ◌++◌, ◌⊎◌, inl, inr, refl, ap, sym, ◌∙◌, subst, arith, true≢false}
-use Rattle.std.proofs.lemmas.Bool.{eqb-true}
+use Rattle.std.proofs.Common.{ℕ, ◌/◌, ◌%◌, ◌<◌, ◌≡◌, ◌==◌, ◌&&◌, Bool, true, false, if◌then◌else◌, List, [], ◌∷◌, ◌++◌, ◌⊎◌, inl, inr, refl, ap, sym, ◌∙◌}
+use Rattle.std.proofs.Common.{subst, arith, true≢false, eqb-true}
 use Rattle.pas_bits.specs.Bits.{has_bit}
 use Rattle.pas_profile.specs.Directories.{number_of}
 use Rattle.pas_profile.specs.declared.directory.Directory.{Directory}
-use Rattle.pas_rights.specs.PutsBack.{GivesDuly, PutsAndLeaves}
-use Rattle.pas_rights.specs.Words.{full}
-use Rattle.pas_rights.proofs.Hints.{put_and_leave_due}
-use Rattle.pas_rights.proofs.Looks.{on_full}
+use Rattle.pas_rights.specs.{PutsBack.GivesDuly, PutsBack.PutsAndLeaves, Words.full}
+use Rattle.pas_rights.proofs.{Hints.put_and_leave_due, Looks.on_full}
 use Rattle.pas_scan.proofs.LeftPages.{holds_own}
 use Rattle.pas_steps.specs.Calls.{Calls, Kept, Gained, now}
-use Rattle.pas_steps.specs.Desks.{Standing, CanCall}
-use Rattle.pas_steps.specs.Evidence.{GetsRight, GetsHere}
-use Rattle.pas_steps.specs.Frames.{IsOnPage}
+use Rattle.pas_steps.specs.{Desks.Standing, Desks.CanCall, Evidence.GetsRight, Evidence.GetsHere, Frames.IsOnPage, Past.Once, Past.Always}
 use Rattle.pas_steps.specs.Kinds.{Kinds, Deeding, is_in, Only}
-use Rattle.pas_steps.specs.Past.{Once, Always}
 use Rattle.pas_steps.specs.Views.{Way, ByDeed, FromOffer, FromParked, ToOffer, ToParked, Rests, had_after, right_after, holds, has_right}
-use Rattle.pas_steps.specs.declared.step.Made.{Made}
-use Rattle.pas_steps.specs.declared.step.Step.{Step}
+use Rattle.pas_steps.specs.declared.step.{Made.Made, Step.Step}
 use Rattle.pas_steps.specs.declared.step.Step.TheVariants.{Deed, TakeRight, Offer, Park, Unpark}
-use Rattle.pas_steps.proofs.Frames.{right_own}
-use Rattle.pas_steps.proofs.Past.{always_map}
+use Rattle.pas_steps.proofs.{Frames.right_own, Past.always_map}
 use Rattle.pas_search.specs.Kinds.{IsReturnOf, ReturnsDuly}
 use Rattle.pas_search.proofs.Returns.{return_page, duly_in}
-use Rattle.pas_large.specs.Claims.{in_span, Releases}
-use Rattle.pas_large.specs.Evidence.{DeedsBelow, DeedsRise}
-use Rattle.pas_large.specs.Finds.{MayFind}
+use Rattle.pas_large.specs.{Claims.in_span, Claims.Releases, Evidence.DeedsBelow, Evidence.DeedsRise, Finds.MayFind}
 use Rattle.pas_large.proofs.Claims.{span_in}
 use Rattle.pas_large.proofs.Pages.{below_both, below_none, from_none, rise_none, rise_both}
 use Rattle.pas_guard.specs.Seeks.{HasSpan}
@@ -65,7 +56,7 @@ gets_or_had p (Offer q d) a had h = inr (inr (by_leave (q == p) had (ToOffer (nu
 gets_or_had p (Park q) a had h = inr (inr (by_leave (q == p) had ToParked refl h))
 gets_or_had p s a had h = inr (inr h)
 
-pub right_was_got : (p : ℕ) (xs : List Made) → Always ReturnsDuly xs → has_right xs p ≡ true → Once (GetsHere p) xs
+right_was_got : (p : ℕ) (xs : List Made) → Always ReturnsDuly xs → has_right xs p ≡ true → Once (GetsHere p) xs
 right_was_got p [] due h = absurd (true≢false (sym h))
 right_was_got p (m ∷ xs) due h = elim (gets_or_had p m.step m.answer (has_right xs p) h) [
   | inl gets ↦ inl gets

@@ -1,47 +1,36 @@
 -- The search for a run whose outer pages aren't backed, one turn more.
-use Rattle.std.proofs.Common.{ℕ, ◌+◌, ◌*◌, ◌/◌, ◌%◌, ◌<◌, ◌≤◌, ◌==◌, Bool, true, false, ◌||◌, if◌then◌else◌, MatchBool, List, [], ◌∷◌, ◌++◌, refl, ◌∙◌, inl, inr, ◌⊎◌, arith, Option, ◌≡◌, ◌≢◌, Some, None, ap, sym, subst, append_assoc, true≢false, length, length-append}
-use Rattle.std.proofs.lemmas.Bool.{cases_lt, cases_eq, cases_Bool, eqb-true, eq-eqb}
-use Rattle.std.proofs.lemmas.List.{append-nil}
+use Rattle.std.proofs.Common.{ℕ, ◌+◌, ◌*◌, ◌/◌, ◌%◌, ◌<◌, ◌≤◌, ◌==◌, Bool, true, false, ◌||◌, if◌then◌else◌, MatchBool, List, [], ◌∷◌, ◌++◌, refl, ◌∙◌, inl}
+use Rattle.std.proofs.Common.{inr, ◌⊎◌, arith, Option, ◌≡◌, ◌≢◌, Some, None, ap, sym, subst, append_assoc, true≢false, length, length-append, eqb-true, eq-eqb}
+use Rattle.std.proofs.Common.{append-nil}
+use Rattle.std.proofs.lemmas.Bool.{cases_lt, cases_eq, cases_Bool}
 use Rattle.pas_bits.specs.Bits.{has_bit}
-use Rattle.pas_profile.specs.declared.directory.Directory.{Directory}
-use Rattle.pas_profile.specs.declared.profile.Profile.{Profile}
-use Rattle.pas_profile.specs.declared.word.Word.TheVariants as Word
-use Rattle.pas_rights.specs.Puts.{masked}
-use Rattle.pas_rights.specs.PutsBack.{giving_back, MayPutAndLeave, PutsAndLeaves}
-use Rattle.pas_rights.specs.Words.{full}
-use Rattle.pas_rights.proofs.Looks.{on_full}
+use Rattle.pas_profile.specs.declared.{directory.Directory.Directory, profile.Profile.Profile, word.Word.Word}
+use Rattle.pas_rights.specs.{Puts.masked, PutsBack.giving_back, PutsBack.MayPutAndLeave, PutsBack.PutsAndLeaves, Words.full}
+use Rattle.pas_rights.proofs.{Looks.on_full, Words.keeps_by}
 use Rattle.pas_scan.specs.Runs.{page_looks, IsFirstRun, HasNoRun, HasUnusable, FindsRun}
 use Rattle.pas_scan.specs.Usable.{ReadUsable, UnusableHere, LeftAlone, ParksNotHere, MakesNoDeedHere, WholeHere}
 use Rattle.pas_scan.proofs.LeftPages.{usable_before, usable_later, unusable_before, left_alone_by, lacks_by, holds_own}
-use Rattle.pas_steps.specs.Agreement.{Agrees, Agreed}
+use Rattle.pas_steps.specs.{Agreement.Agrees, Agreement.Agreed, Evidence.ReadsFree, Frames.KeepsRight, Past.Once, Past.Always, Past.Since}
+use Rattle.pas_steps.specs.{Unknown.unknown_pages}
 use Rattle.pas_steps.specs.Calls.{Calls, Leads, Kept, Gained, now, nothing, Does}
 use Rattle.pas_steps.specs.Desks.{Seat, Standing, AnyView, Adds, CanCall, Makes, made}
-use Rattle.pas_steps.specs.Evidence.{ReadsFree}
-use Rattle.pas_steps.specs.Frames.{KeepsRight}
-use Rattle.pas_rights.proofs.Words.{keeps_by}
-use Rattle.pas_steps.specs.declared.step.Step.{Step}
+use Rattle.pas_steps.specs.declared.step.{Step.Step, Made.Made, Step.TheVariants.Deed, Step.TheVariants.Look}
 use Rattle.pas_steps.specs.Kinds.{Kinds, Deeding, Only, kind_of, is_in, place_of, apart, moving}
-use Rattle.pas_steps.specs.Past.{Once, Always, Since}
-use Rattle.pas_steps.specs.Unknown.{unknown_pages}
 use Rattle.pas_steps.specs.Views.{View, held_after, holds, has_right, KnowsDeed}
-use Rattle.pas_steps.specs.declared.step.Made.{Made}
-use Rattle.pas_steps.specs.declared.step.Step.TheVariants.{Deed, Look}
 use Rattle.pas_steps.proofs.Adding.{adds_none, adds_step, adds_call, agreed_first, agreed_later}
 use Rattle.pas_steps.proofs.Apart.{in_apart, grain_same, no_events, only_both, only_within, holds_same}
-use Rattle.pas_steps.proofs.Called.{call_then, next_call}
+use Rattle.pas_steps.proofs.{Called.call_then, Called.next_call, Frames.right_own, Kept.right_on, Kept.knows_still, SpareRoom.Spares, Unknown.unknown_stays}
+use Rattle.pas_steps.proofs.{Evidence.unknown}
 use Rattle.pas_steps.proofs.Calls.{does_none, does_idly, leads_none, leads_at}
-use Rattle.pas_steps.proofs.Frames.{right_own}
-use Rattle.pas_steps.proofs.Kept.{right_on, knows_still}
 use Rattle.pas_steps.proofs.Past.{once_later, once_earlier, once_map, always_both, always_map}
-use Rattle.pas_steps.proofs.SpareRoom.{Spares}
-use Rattle.pas_steps.proofs.Unknown.{unknown_stays}
 use Rattle.pas_search.specs.Kinds.{ReturnsDuly}
 use Rattle.pas_search.proofs.Returns.{duly_both, duly_none}
-use Rattle.pas_large.specs.Claims.{StaysPut, in_span, MayClaimPages, HasRunRoom, AloneFrom, DeedsIn, HasPages, Releases, ClaimsRun, HoldsRun, FailsRun, HoldsSpan}
+use Rattle.pas_large.specs.Claims.{StaysPut, in_span, MayClaimPages, HasRunRoom, AloneFrom, DeedsIn, HasPages, Releases, ClaimsRun, HoldsRun, FailsRun}
+use Rattle.pas_large.specs.Claims.{HoldsSpan}
 use Rattle.pas_large.specs.Evidence.{LostHere, BrokenHere, BadHere, AllUsable, FailsHere, HasFailed, DeedsOf, DeedsBelow, DeedsRise}
-use Rattle.pas_large.specs.Finds.{MayFind, FindRoom}
-use Rattle.pas_large.specs.Pages.{OnceAfter, OnlyDeedsShow, claiming}
-use Rattle.pas_large.proofs.Claims.{StaysHere, steady_on, steady_both, out_of, narrower, span_in, in_parts, span_past, has_got, room_after, alone_on, deeds_below, deeds_from}
+use Rattle.pas_large.specs.{Finds.MayFind, Finds.FindRoom, Pages.OnceAfter, Pages.OnlyDeedsShow, Pages.claiming}
+use Rattle.pas_large.proofs.Claims.{StaysHere, steady_on, steady_both, out_of, narrower, span_in, in_parts, span_past, has_got, room_after, alone_on}
+use Rattle.pas_large.proofs.Claims.{deeds_below, deeds_from}
 use Rattle.pas_large.proofs.Finds.{DeedOf, bad_later, alone_looks, knew, deeds_map, may_find}
 use Rattle.pas_large.proofs.Pages.{shows_both, below_both, below_wider, rise_both}
 use Rattle.pas_guard.proofs.Spans.{no_span, span_kept, span_beside, span_joined, claim_keeps}
@@ -50,7 +39,6 @@ use Rattle.pas_guard.proofs.Returns.{rise_later, below_later, release_duly, firs
 use Rattle.pas_guard.specs.Evidence.{BackedReadHere, HoldsRunWhole, OuterBackedHere, IsBad, OuterFailsHere, HasFailedOnce}
 use Rattle.pas_guard.specs.Guarded.{LeavesGuard}
 use Rattle.pas_guard.specs.Seeks.{LeftSince, backed_looks, ZeroBackedHere, SomeBackedHere, LooksBacked, HoldsWhole, HasSpan, seeking, Seeks}
-use Rattle.pas_steps.proofs.Evidence.{unknown}
 
 -- ---- evidence, and later steps
 bad_more : (v : View) (d : Directory) (k s : ℕ) (ys xs : List Made) → IsBad v d k s xs → IsBad v d k s (ys ++ xs)
@@ -67,7 +55,7 @@ deeds_none ks d n P ys xs none = always_both (λ m before. is_in ks (kind_of m.s
 
 -- an outer page that was looked at while the run was held
 some_is_one : (f : Profile) (v : View) (page : ℕ) (m : Made) → SomeBackedHere page m [] → Agrees f v m.step m.answer → m.answer ≡ 1
-some_is_one f v page m h agrees = let read = subst (λ s. Agrees f v s m.answer) h.0 agrees in let small = read.small in let some = h.1 in omega (arith, small, some)
+some_is_one f v page m h agrees = let read = subst (λ s. Agrees f v s m.answer) h.0 agrees in omega (arith, read.small, h.1)
 
 outer_some : (f : Profile) (v : View) (page : ℕ) (R : List Made → Type 0) (ls ss : List Made) → ((b : List Made) → Only backed_looks b → R (b ++ ss)) → Only backed_looks ls → Agreed f v (ls ++ ss) → ((g : ℕ) → g / 256 ≡ page → holds (ss ++ v) g ≡ true) → Once (SomeBackedHere page) ls
     → Once (λ m before. R before × BackedReadHere v page 1 m before) (ls ++ ss)
@@ -282,7 +270,7 @@ module _ {σ σ1 : Standing} (d : Directory) (k from free next : ℕ) (so : Soug
     looked_deeds : (rs : List Made) → free < from + (k + 2) → (v : View) (met : MayFind d v) → Agreed f v (ys ++ xs) → DeedsOf d (k + 2) (λ s. (s < from) × HasFailedOnce v d k s (rs ++ (ys ++ xs))) (ys ++ xs)
     looked_deeds rs short v met agreed = deeds_none page_looks d (k + 2) (λ s. (s < from) × HasFailedOnce v d k s (rs ++ (ys ++ xs))) ys xs refl find.kinds
         (deeds_map d (k + 2) (λ s. ((s ≡ from) × (free ≡ from + (k + 2))) ⊎ ((s < from) × HasFailedOnce v d k s xs)) (λ s. (s < from) × HasFailedOnce v d k s (rs ++ (ys ++ xs))) xs
-        (λ s h. elim h [ inl full ↦ (let e = full.1 in absurd (omega (arith, e, short))) | inr failed ↦ (failed.0, failed_more v d k s rs (ys ++ xs) (failed_more v d k s ys xs failed.1)) ]) (so.deeds v met (agreed_later f v ys xs agreed)))
+        (λ s h. elim h [ inl full ↦ (absurd (omega (arith, full.1, short))) | inr failed ↦ (failed.0, failed_more v d k s rs (ys ++ xs) (failed_more v d k s ys xs failed.1)) ]) (so.deeds v met (agreed_later f v ys xs agreed)))
 
   pub can_release_looked : {σ2 : Standing} {found : Option ℕ} → FindsRun d next next 1 σ1 σ2 found → CanCall σ (MayFind d) → CanCall σ2 (HasPages d from free)
   can_release_looked find can = can_release (looked find) can
@@ -298,7 +286,7 @@ module _ {σ σ1 : Standing} (d : Directory) (k from free next : ℕ) (so : Soug
         rise = rise_later giving_back free rs (ys ++ xs) refl r.kinds (looked_below find) (looked_rise find);
         returns = release_duly d from free (looked find) can (looked_returns find) r;
         shows = shows_both f rs (ys ++ xs) (λ n v agreed. let none = ap (λ es. length es) (no_events giving_back refl n v rs r.kinds) in let stays = unknown_stays f rs v agreed in omega (arith, none, stays)) (looked_shows find);
-        few = (let i = length-append rs (ys ++ xs) in let j = length-append ys xs in let a = r.few in let b = find.few in let c = so.few in let e = ap (λ (x : Profile). x.pages) same in omega (arith, i, j, a, b, c, e, order, first, in_region));
+        few = (let i = length-append rs (ys ++ xs) in let j = length-append ys xs in let e = ap (λ (x : Profile). x.pages) same in omega (arith, i, j, r.few, find.few, so.few, e, order, first, in_region));
         steady = put_steady find r;
         outcome = record {
           still = calls.leads;
@@ -332,7 +320,7 @@ module _ {σ σ1 : Standing} (d : Directory) (k from free next : ℕ) (so : Soug
         low = so.low;
         order = (so.order.0, omega (arith, order, at));
         within = (omega (arith, at, short), omega (arith, region));
-        few = (let j = length-append ys xs in let b = find.few in let c = so.few in omega (arith, j, b, c, at));
+        few = (let j = length-append ys xs in omega (arith, j, find.few, so.few, at));
         usable = λ p ge lt. elim (cases_lt p next) [
           | inl old ↦ looked_usable find p ge old
           | inr new ↦ usable_before d p ys xs (so.alone p (omega (arith, new, order))) (run.usable p (omega (arith, at, new), lt) new)
@@ -361,7 +349,7 @@ module _ {σ σ1 : Standing} (d : Directory) (k from free next : ℕ) (so : Soug
         low = omega (arith, low, first, order, past);
         order = (omega arith, omega arith);
         within = (omega arith, omega (arith, region));
-        few = (let i = length-append rs (ys ++ xs) in let j = length-append ys xs in let a = r.few in let b = find.few in let c = so.few in omega (arith, i, j, a, b, c, order, first, past));
+        few = (let i = length-append rs (ys ++ xs) in let j = length-append ys xs in omega (arith, i, j, r.few, find.few, so.few, order, first, past));
         usable = λ p ge lt. usable_later d p rs (ys ++ xs) (usable_before d p ys xs (so.alone p (omega (arith, ge, past, order))) (run.usable p (ge, lt) (omega (arith, ge, past))));
         holding = λ v met agreed. no_span page (rs ++ (ys ++ xs));
         alone = λ p ge. r.alone (ys ++ xs) p (omega (arith, ge, past, order)) (looked_alone find p (omega (arith, ge, past, order)));
@@ -374,14 +362,14 @@ module _ {σ σ1 : Standing} (d : Directory) (k from free next : ℕ) (so : Soug
           ]
         ]);
         deeds = λ v met agreed. let before = agreed_later f v rs (ys ++ xs) agreed in
-            deeds_map d (k + 2) (λ s. (s < from) × HasFailedOnce v d k s (rs ++ (ys ++ xs))) (λ s. ((s ≡ page) × (page ≡ page + (k + 2))) ⊎ ((s < page) × HasFailedOnce v d k s (rs ++ (ys ++ xs)))) (rs ++ (ys ++ xs)) (λ s h. let lt = h.0 in inr (omega (arith, lt, first, order, past), h.1))
+            deeds_map d (k + 2) (λ s. (s < from) × HasFailedOnce v d k s (rs ++ (ys ++ xs))) (λ s. ((s ≡ page) × (page ≡ page + (k + 2))) ⊎ ((s < page) × HasFailedOnce v d k s (rs ++ (ys ++ xs)))) (rs ++ (ys ++ xs)) (λ s h. inr (omega (arith, h.0, first, order, past), h.1))
             (deeds_none giving_back d (k + 2) (λ s. (s < from) × HasFailedOnce v d k s (rs ++ (ys ++ xs))) rs (ys ++ xs) refl r.kinds (looked_deeds find rs (omega (arith, short, order)) v met before));
       }
 
   -- ---- all pages of a run were read as usable, and those that aren't held are claimed
   module _ (whole : next ≡ from + (k + 2)) where
     all_usable : (b : List Made) → AllUsable d (k + 2) from (b ++ xs)
-    all_usable b p is = let lt = is.1 in usable_later d p b xs (so.usable p is.0 (omega (arith, lt, whole)))
+    all_usable b p is = usable_later d p b xs (so.usable p is.0 (omega (arith, is.1, whole)))
 
     pub can_claim : (spare spare1 : ℕ) → CanCall σ (FindRoom f d 1 spare) → Spares σ spare → Spares σ1 spare1 → CanCall σ1 (HasRunRoom σ1.seat.profile d free next 1 spare1)
     can_claim spare spare1 can law law1 =
@@ -432,7 +420,7 @@ module _ {σ σ1 : Standing} (d : Directory) (k from free next : ℕ) (so : Soug
       -- deeds of the claim are of the run, and those before of it or of one that failed
       claim_deeds : (v : View) (met : MayFind d v) → Agreed f v (zs ++ xs) → (P : ℕ → Type 0) → P from → ((s : ℕ) → s < from → HasFailedOnce v d k s xs → P s) → DeedsOf d (k + 2) P (zs ++ xs)
       claim_deeds v met agreed P its more = always_both (λ m before. (p : ℕ) (e : Directory) → m.step ≡ Deed p e → m.answer ≡ 0 → (e ≡ d) × (free ≤ p) × (p < next)) (DeedOf d (k + 2) P) zs xs
-          (λ m before h p e is z. let at = h p e is z in let ge = at.1 in let lt = at.2 in let first = so.order.0 in (at.0, (from, (omega (arith, ge, first), omega (arith, lt, whole)), all_usable before, its)))
+          (λ m before h p e is z. let at = h p e is z in (at.0, (from, (omega (arith, at.1, so.order.0), omega (arith, at.2, whole)), all_usable before, its)))
           claim.made (deeds_map d (k + 2) (λ s. ((s ≡ from) × (free ≡ from + (k + 2))) ⊎ ((s < from) × HasFailedOnce v d k s xs)) P xs (λ s h. elim h [ inl full ↦ subst P (sym full.0) its | inr failed ↦ more s failed.0 failed.1 ]) (so.deeds v met (agreed_later f v zs xs agreed)))
 
     -- the claim failed, and what is held is put back
@@ -443,7 +431,7 @@ module _ {σ σ1 : Standing} (d : Directory) (k from free next : ℕ) (so : Soug
       fails : FailsRun true f d free next page ws
       fails = subst (λ x. FailsRun true x d free next page ws) same claim.outcome
 
-      pub lost_call : Calls σ σ2 (MayFind d) (HasSpan d from free) (ws ++ xs)
+      lost_call : Calls σ σ2 (MayFind d) (HasSpan d from free) (ws ++ xs)
       lost_call = record {
         adds = claim_adds claim;
         leads = record {
@@ -457,14 +445,14 @@ module _ {σ σ1 : Standing} (d : Directory) (k from free next : ℕ) (so : Soug
       can_release_lost can = can_release lost_call can
 
       lost_below : DeedsBelow (page + 1) (ws ++ xs)
-      lost_below = claim_below claim (page + 1) (let ge = fails.in_run.0 in omega (arith, ge)) fails.made
+      lost_below = claim_below claim (page + 1) (omega (arith, fails.in_run.0)) fails.made
 
       lost_lacks : (p : ℕ) → in_span from free p ≡ false → has_right (ws ++ xs) p ≡ false
       lost_lacks p out = right_own p ws xs (so.lacks p out) ∙ ap (λ s. has_right s p) (sym (append-nil ws)) ∙ fails.lacks [] (λ q. refl) p
 
       module _ (v : View) (agreed : Agreed f v (ws ++ xs)) where
         failing : OnceAfter xs (λ m b. LostHere d page m b ⊎ BrokenHere page m b) ws
-        failing = elim (fails.failed refl xs v so.alone (so.usable page (let a = so.order.0 in let b = fails.in_run.0 in omega (arith, a, b)) fails.in_run.1) agreed) [
+        failing = elim (fails.failed refl xs v so.alone (so.usable page (omega (arith, so.order.0, fails.in_run.0)) fails.in_run.1) agreed) [
           | inl lost ↦ once_map (λ m b. LostHere d page m (b ++ xs)) (λ m b. LostHere d page m (b ++ xs) ⊎ BrokenHere page m (b ++ xs)) ws (λ m b x. inl x) lost
           | inr broken ↦ once_map (λ m b. BrokenHere page m (b ++ xs)) (λ m b. LostHere d page m (b ++ xs) ⊎ BrokenHere page m (b ++ xs)) ws (λ m b x. inr x) broken
         ]
@@ -474,7 +462,7 @@ module _ {σ σ1 : Standing} (d : Directory) (k from free next : ℕ) (so : Soug
 
         run_failed : HasFailed d (k + 2) from (ws ++ xs)
         run_failed = once_earlier (λ m b. LostHere d page m (b ++ xs) ⊎ BrokenHere page m (b ++ xs)) (FailsHere d (k + 2) from) ws xs
-            (λ m b x. (all_usable b, (page, (let a = so.order.0 in let c = fails.in_run.0 in omega (arith, a, c), let e = fails.in_run.1 in omega (arith, e, whole)), x))) failing
+            (λ m b x. (all_usable b, (page, (omega (arith, so.order.0, fails.in_run.0), omega (arith, fails.in_run.1, whole)), x))) failing
 
       pub seek_lost : {σ3 : Standing} → CanCall σ (MayFind d) → Releases d from free σ2 σ3 → Sought d k (page + 1) (page + 1) next σ σ3
       seek_lost can r =
@@ -491,7 +479,7 @@ module _ {σ σ1 : Standing} (d : Directory) (k from free next : ℕ) (so : Soug
             low = omega arith;
             order = (omega arith, omega (arith, lt));
             within = (omega (arith, whole, first, ge), so.within.1);
-            few = (let i = length-append rs (ws ++ xs) in let j = length-append ws xs in let a = r.few in let b = fails.few in let c = so.few in omega (arith, i, j, a, b, c, first, ge));
+            few = (let i = length-append rs (ws ++ xs) in let j = length-append ws xs in omega (arith, i, j, r.few, fails.few, so.few, first, ge));
             usable = λ p from_page below. usable_later d p rs (ws ++ xs) (claim_usable claim p (omega (arith, from_page, first, ge)) below);
             holding = λ v met agreed. no_span (page + 1) (rs ++ (ws ++ xs));
             alone = λ p from_page. r.alone (ws ++ xs) p (omega (arith, from_page, ge)) (fails.alone xs so.alone p from_page);
@@ -531,7 +519,7 @@ module _ {σ σ1 : Standing} (d : Directory) (k from free next : ℕ) (so : Soug
           low = so.low;
           order = (omega (arith, first, last), omega arith);
           within = so.within;
-          few = (let j = length-append zs xs in let b = holds_it.few in let c = so.few in omega (arith, j, b, c, last));
+          few = (let j = length-append zs xs in omega (arith, j, holds_it.few, so.few, last));
           usable = claim_usable claim;
           holding = λ v met agreed.
               let before = agreed_later f v zs xs agreed in let after = agreed_first f v zs xs agreed in let has = so_call.leads.from v met before in
@@ -564,9 +552,6 @@ module _ {σ σ1 σ2 : Standing} (d : Directory) (k from next high : ℕ) (whole
   high_is : high ≡ from + k + 1
   high_is = omega (arith, whole, last)
 
-  same_there : σ1.seat.profile ≡ g_
-  same_there = ap (λ (s : Seat). s.profile) so.adds.seat_is
-
   held_page : (v : View) (met : MayFind d v) → Agreed g_ v us → (p : ℕ) → from ≤ p → p < next → (g : ℕ) → g / 256 ≡ p → holds (us ++ v) g ≡ true
   held_page v met agreed p ge lt g at = (so.got.from v met agreed).got.does.held g ∙ ap (λ t. now (if t then Gained else Kept) (holds v g)) (ap (in_span from next) at ∙ span_in from next p ge lt)
 
@@ -594,13 +579,13 @@ module _ {σ σ1 σ2 : Standing} (d : Directory) (k from next high : ℕ) (whole
   look_lacks p out = right_own p ls us (so.lacks p out) ∙ lacks_by backed_looks refl p ls looks.kinds
 
   usable_now : (b : List Made) → AllUsable d (k + 2) from (b ++ us)
-  usable_now b p is = let lt = is.1 in usable_later d p b us (so.usable p is.0 (omega (arith, lt, whole)))
+  usable_now b p is = usable_later d p b us (so.usable p is.0 (omega (arith, is.1, whole)))
 
   -- all pages of the run had been read as usable, and are held
   held_run : (v : View) (met : MayFind d v) → Agreed g_ v us → (b : List Made) → Only backed_looks b → HeldRun v d k from (b ++ us)
   held_run v met agreed b only = (
     usable_now b,
-    λ g is. let lt = is.1 in ap (λ s. holds s g) (append_assoc b us v) ∙ holds_same backed_looks refl g b (us ++ v) only ∙ held_page v met agreed (g / 256) is.0 (omega (arith, lt, whole)) g refl,
+    λ g is. ap (λ s. holds s g) (append_assoc b us v) ∙ holds_same backed_looks refl g b (us ++ v) only ∙ held_page v met agreed (g / 256) is.0 (omega (arith, is.1, whole)) g refl,
   )
 
   look_steady : (v : View) (met : MayFind d v) → Agreed g_ v (ls ++ us) → (p : ℕ) → HoldsWhole p v → (g : ℕ) → g / 256 ≡ p → StaysPut g (ls ++ us)
@@ -624,17 +609,17 @@ module _ {σ σ1 σ2 : Standing} (d : Directory) (k from next high : ℕ) (whole
         rise = look_rise d k from next high whole last so looks;
         returns = look_returns d k from next high whole last so looks;
         shows = look_shows d k from next high whole last so looks;
-        few = (let j = length-append ls us in let a = looks.few in let c = so.few in let region = so.within.1 in let order = so.order.0 in omega (arith, j, a, c, region, order));
+        few = (let j = length-append ls us in omega (arith, j, looks.few, so.few, so.within.1, so.order.0));
         steady = look_steady d k from next high whole last so looks;
         outcome = record {
-          of_region = (so.low, let region = so.within.1 in omega (arith, whole, region));
+          of_region = (so.low, omega (arith, whole, so.within.1));
           got = subst (λ x. Leads f (MayFind d) (HasSpan d from x) (ls ++ us)) whole call.leads;
           usable = usable_now d k from next high whole last so looks ls;
           taken = λ v met agreed.
               let held = span_kept from next ls us (λ p ge lt. keeps_by p backed_looks ls refl looks.kinds) (so.holding v met (agreed_later f v ls us agreed)) in record {
                 usable = usable_now d k from next high whole last so looks ls;
-                right = λ p is. let lt = is.1 in held.right p is.0 (omega (arith, lt, whole));
-                whole = λ p word is small. let lt = is.1 in held.whole p word is.0 (omega (arith, lt, whole)) small;
+                right = λ p is. held.right p is.0 (omega (arith, is.1, whole));
+                whole = λ p word is small. held.whole p word is.0 (omega (arith, is.1, whole)) small;
               };
           bare = λ v met agreed.
               let before = agreed_later f v ls us agreed in let region = so.order.0 in (
@@ -701,7 +686,7 @@ module _ {σ σ1 σ2 : Standing} (d : Directory) (k from next high : ℕ) (whole
           low = omega arith;
           order = (omega (arith, whole), omega arith);
           within = (omega (arith, whole), so.within.1);
-          few = (let i = length-append ps (ls_ ++ us_) in let j = length-append ls_ us_ in let a = h.few in let b = looks.few in let c = so.few in omega (arith, i, j, a, b, c));
+          few = (let i = length-append ps (ls_ ++ us_) in let j = length-append ls_ us_ in omega (arith, i, j, h.few, looks.few, so.few));
           usable = λ p ge lt. usable_later d p ps (ls_ ++ us_) (usable_later d p ls_ us_ (so.usable p (omega (arith, ge)) lt));
           holding = λ v met agreed. let before = agreed_later f v ps (ls_ ++ us_) agreed in
               let held = span_kept from next ls_ us_ (λ p ge lt. keeps_by p backed_looks ls_ refl looks.kinds) (so.holding v met (agreed_later f v ls_ us_ before)) in

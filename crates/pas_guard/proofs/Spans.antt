@@ -1,22 +1,16 @@
 -- Pages that were taken whole with rights that were kept since, and later steps.
 use Rattle.std.proofs.Common.{ℕ, ◌+◌, ◌*◌, ◌/◌, ◌%◌, ◌<◌, ◌≤◌, ◌≡◌, ◌≢◌, true, List, [], ◌∷◌, ◌++◌, inl, inr, ap, sym, ◌∙◌, arith, true≢false}
 use Rattle.std.proofs.lemmas.Bool.{cases_lt}
-use Rattle.pas_profile.specs.declared.directory.Directory.{Directory}
-use Rattle.pas_profile.specs.declared.profile.Profile.{Profile}
+use Rattle.pas_profile.specs.declared.{directory.Directory.Directory, profile.Profile.Profile}
 use Rattle.pas_profile.proofs.Codecs.{deed_word_of-positive}
-use Rattle.pas_steps.specs.Agreement.{Agrees, Agreed}
-use Rattle.pas_steps.specs.Evidence.{GetsRight, GetsHere, KeptHere}
+use Rattle.pas_steps.specs.{Agreement.Agrees, Agreement.Agreed, Evidence.GetsRight, Evidence.GetsHere, Evidence.KeptHere, Past.Once, Past.Always}
 use Rattle.pas_steps.specs.Frames.{OnlyOn, IsOnPage, GivesUp, KeepsRight}
-use Rattle.pas_steps.specs.Past.{Once, Always}
 use Rattle.pas_steps.specs.Views.{View, has_right, known_deed, KnowsDeed}
-use Rattle.pas_steps.specs.declared.step.Made.{Made}
-use Rattle.pas_steps.specs.declared.step.Step.{Step}
-use Rattle.pas_steps.proofs.Frames.{rights_stay}
-use Rattle.pas_steps.proofs.Kept.{right_on, knows_still}
+use Rattle.pas_steps.specs.declared.step.{Made.Made, Step.Step}
+use Rattle.pas_steps.proofs.{Frames.rights_stay, Kept.right_on, Kept.knows_still}
 use Rattle.pas_rights.proofs.Words.{since_kept}
 use Rattle.pas_search.specs.Kinds.{IsReturnOf, ReturnsDuly}
-use Rattle.pas_large.specs.Claims.{HoldsSpan}
-use Rattle.pas_large.specs.Evidence.{TakenWholeHere}
+use Rattle.pas_large.specs.{Claims.HoldsSpan, Evidence.TakenWholeHere}
 use Rattle.pas_large.proofs.Pages.{since_more}
 
 pub no_span : (first : ℕ) (xs : List Made) → HoldsSpan first first xs

@@ -1,23 +1,18 @@
 -- A sweep over the guards that are up, one guard more.
-use Rattle.std.proofs.Common.{◌≡◌, ℕ, ◌+◌, ◌*◌, ◌/◌, ◌<◌, ◌≤◌, ◌==◌, Bool, true, false, ◌||◌, if◌then◌else◌, ◌⊎◌, List, [], ◌∷◌, ◌++◌, length, inl, inr, refl, ap, sym, ◌∙◌, subst, arith, append_assoc, append-nil, length-append, true≢false}
-use Rattle.std.specs.Prelude.{remove, slice_index_or}
-use Rattle.std.proofs.lemmas.Bool.{cases_Bool, eqb-true, eq-eqb, ne_eqb}
-use Rattle.pas_profile.specs.Profiles.{IsPage}
-use Rattle.pas_profile.specs.Blocks.{address_of}
+use Rattle.std.proofs.Common.{◌≡◌, ℕ, ◌+◌, ◌*◌, ◌/◌, ◌<◌, ◌≤◌, ◌==◌, Bool, true, false, ◌||◌, if◌then◌else◌, ◌⊎◌, List, [], ◌∷◌, ◌++◌, length, inl, inr, refl}
+use Rattle.std.proofs.Common.{ap, sym, ◌∙◌, subst, arith, append_assoc, append-nil, length-append, true≢false, remove, slice_index_or, eqb-true, eq-eqb, ne_eqb}
+use Rattle.std.proofs.lemmas.Bool.{cases_Bool}
+use Rattle.pas_profile.specs.{Profiles.IsPage, Blocks.address_of}
 use Rattle.pas_profile.specs.declared.profile.Profile.{Profile}
 use Rattle.pas_report.specs.declared.record.Record.{Record}
 use Rattle.pas_scan.specs.Runs.{large_directory}
 use Rattle.pas_steps.specs.Calls.{Calls, Leads, Kept, Lost, now, Does}
 use Rattle.pas_steps.specs.Desks.{Seat, Standing, AnyView, CanCall}
-use Rattle.pas_steps.specs.Kinds.{LookLife, Only}
+use Rattle.pas_steps.specs.{Kinds.LookLife, Kinds.Only, Views.View, Views.has_right, Views.KnowsDeed}
 use Rattle.pas_rights.specs.PutsBack.{giving_back}
-use Rattle.pas_steps.specs.Views.{View, has_right, KnowsDeed}
 use Rattle.pas_steps.specs.declared.step.Made.{Made}
-use Rattle.pas_steps.proofs.Adding.{adds_call, agreed_first, agreed_later}
-use Rattle.pas_steps.proofs.Apart.{only_within, only_both}
-use Rattle.pas_steps.proofs.Called.{call_none, next_call}
-use Rattle.pas_steps.proofs.Calls.{does_idly, leads_at}
-use Rattle.pas_steps.proofs.Kept.{knows_still}
+use Rattle.pas_steps.proofs.{Adding.adds_call, Adding.agreed_first, Adding.agreed_later, Apart.only_within, Apart.only_both, Called.call_none, Called.next_call}
+use Rattle.pas_steps.proofs.{Calls.does_idly, Calls.leads_at, Kept.knows_still}
 use Rattle.pas_large.specs.Claims.{StaysPut}
 use Rattle.pas_large.proofs.Claims.{steady_on, steady_both}
 use Rattle.pas_guard.specs.Books.{is_outer_of, is_outer, AreApart, Each, IsGuardOf, KnowsGuard, FitsBook}
@@ -30,11 +25,11 @@ abbrev pub no_guard : Guard
 no_guard = record { low = 0; high = 0; block = record { name = record { address = record { 0 = 0 }; turn = 0 }; room = 0; heap = 0 } }
 
 -- ---- a list, and the guard at a place of it
-pub at_place : (ks rs : List Guard) (g d : Guard) → slice_index_or (ks ++ g ∷ rs) (length ks) d ≡ g
+at_place : (ks rs : List Guard) (g d : Guard) → slice_index_or (ks ++ g ∷ rs) (length ks) d ≡ g
 at_place [] rs g d = refl
 at_place (k ∷ ks) rs g d = at_place ks rs g d
 
-pub taken_out : (ks rs : List Guard) (g : Guard) → remove (ks ++ g ∷ rs) (length ks) ≡ ks ++ rs
+taken_out : (ks rs : List Guard) (g : Guard) → remove (ks ++ g ∷ rs) (length ks) ≡ ks ++ rs
 taken_out [] rs g = refl
 taken_out (k ∷ ks) rs g = ap (λ xs. k ∷ xs) (taken_out ks rs g)
 
@@ -92,7 +87,7 @@ held_less : (t rest : Bool) → (t ≡ true → rest ≡ false) → now (if t th
 held_less true rest none = sym (none refl)
 held_less false rest none = refl
 
-pub fits_less : (f : Profile) (ks rs : List Guard) (g : Guard) (v w : View) → FitsBook f (ks ++ g ∷ rs) v → Does (lowered g) v w → ((q : ℕ) → has_right w q ≡ has_right v q) → ((p h : ℕ) → KnowsDeed p (large_directory h) v → KnowsDeed p (large_directory h) w) → FitsBook f (ks ++ rs) w
+fits_less : (f : Profile) (ks rs : List Guard) (g : Guard) (v w : View) → FitsBook f (ks ++ g ∷ rs) v → Does (lowered g) v w → ((q : ℕ) → has_right w q ≡ has_right v q) → ((p h : ℕ) → KnowsDeed p (large_directory h) v → KnowsDeed p (large_directory h) w) → FitsBook f (ks ++ rs) w
 fits_less f ks rs g v w fits does rights knows = record {
   apart = (apart_split ks rs g fits.apart).0;
   of_region = (each_split (IsGuardOf f) ks rs g fits.of_region).1;
@@ -102,7 +97,7 @@ fits_less f ks rs g v w fits does rights knows = record {
   clear = record { on = λ q. does.clear q (fits.clear.on q) };
 }
 
-pub may_lower : (f : Profile) (ks rs : List Guard) (g : Guard) (v : View) → FitsBook f (ks ++ g ∷ rs) v → MayLower f g v
+may_lower : (f : Profile) (ks rs : List Guard) (g : Guard) (v : View) → FitsBook f (ks ++ g ∷ rs) v → MayLower f g v
 may_lower f ks rs g v fits = record {
   of = (each_split (IsGuardOf f) ks rs g fits.of_region).0;
   knows = (each_split (KnowsGuard v) ks rs g fits.knows).0;
@@ -184,7 +179,7 @@ no_rest kept (g ∷ rest) le = absurd (let n = length-append kept (g ∷ rest) i
 
 pub swept_all : {σ σ1 : Standing} (all : Bool) (guards up : List Guard) (place : ℕ) (said said' : List Record) (so : SweptSoFar all guards up place said said' σ σ1) → length up ≤ place → Sweeps all guards up said said' σ σ1
 swept_all {σ} all guards up place said said' so le =
-    let none = no_rest so.kept so.rest (let e = ap (λ (xs : List Guard). length xs) so.up in let at = so.at in omega (arith, e, at, le)) in
+    let none = no_rest so.kept so.rest (let e = ap (λ (xs : List Guard). length xs) so.up in omega (arith, e, so.at, le)) in
     let done : guards ≡ so.done = so.whole ∙ ap (λ xs. so.done ++ xs) none ∙ append-nil so.done in
     let kept : up ≡ so.kept = so.up ∙ ap (λ xs. so.kept ++ xs) none ∙ append-nil so.kept in
     let swept : Swept all σ.seat.actor guards up so.more so.steps = subst (λ x. Swept all σ.seat.actor x up so.more so.steps) (sym done) (subst (λ x. Swept all σ.seat.actor so.done x so.more so.steps) (sym kept) so.swept) in record {
@@ -253,7 +248,7 @@ module _ {σ σ1 : Standing} (all : Bool) (guards up : List Guard) (place : ℕ)
           rest = later;
           whole = done_is;
           up = up_is ∙ sym (append_assoc so.kept (guard ∷ []) later);
-          at = let n = length-append so.kept (guard ∷ []) in let at = so.at in omega (arith, n, at);
+          at = let n = length-append so.kept (guard ∷ []) in omega (arith, n, so.at);
           steps = ls ++ so.steps;
           more = so.more ++ [];
           calls = looked;

@@ -1,41 +1,27 @@
 -- How long a guard is up, by the calls of its keeper: until a grain of an outer page is put.
-use Rattle.std.proofs.Common.{ℕ, ◌+◌, ◌/◌, ◌≡◌, ◌==◌, Bool, true, false, ◌||◌, if◌then◌else◌, ◌⊎◌, List, [], ◌∷◌, ◌++◌, inl, inr, refl, ap, sym, ◌∙◌, subst, arith, append_assoc, true≢false, Option, Some, None}
-use Rattle.std.specs.Prelude.{Contains}
-use Rattle.std.proofs.lemmas.Bool.{eq-eqb}
+use Rattle.std.proofs.Common.{ℕ, ◌+◌, ◌/◌, ◌≡◌, ◌==◌, Bool, true, false, ◌||◌, if◌then◌else◌, ◌⊎◌, List, [], ◌∷◌, ◌++◌, inl, inr, refl, ap, sym, ◌∙◌, subst}
+use Rattle.std.proofs.Common.{arith, append_assoc, true≢false, Option, Some, None, Contains, eq-eqb}
 use Rattle.std.proofs.lemmas.List.Elements.{Contains-append_left, Contains-append_right, Contains-push}
-use Rattle.pas_profile.specs.Blocks.{address_of}
-use Rattle.pas_profile.specs.Profiles.{IsValid}
-use Rattle.pas_profile.specs.declared.directory.Directory.{Directory}
-use Rattle.pas_profile.specs.declared.name.Block.{Block}
-use Rattle.pas_profile.specs.declared.profile.Profile.{Profile}
+use Rattle.pas_profile.specs.{Blocks.address_of, Profiles.IsValid}
+use Rattle.pas_profile.specs.declared.{directory.Directory.Directory, name.Block.Block, profile.Profile.Profile}
 use Rattle.pas_profile.specs.declared.word.Word.TheVariants as Words
 use Rattle.pas_report.specs.declared.record.Record.{Record}
-use Rattle.pas_rights.specs.Gives.{give_steps}
-use Rattle.pas_rights.specs.Puts.{PutsHere}
-use Rattle.pas_rights.specs.PutsBack.{BackSteps}
-use Rattle.pas_rights.specs.Words.{full}
+use Rattle.pas_rights.specs.{Gives.give_steps, Puts.PutsHere, PutsBack.BackSteps, Words.full}
 use Rattle.pas_rights.proofs.Looks.{full_set, full_word}
 use Rattle.pas_scan.specs.Runs.{large_directory}
-use Rattle.pas_steps.specs.Agreement.{Agreed}
-use Rattle.pas_steps.specs.Kinds.{Backing, returning}
+use Rattle.pas_steps.specs.{Agreement.Agreed, Kinds.Backing, Kinds.returning, Past.Once, Past.Always, Views.View}
 use Rattle.pas_steps.specs.Lists.{Triple, Whole, part, Legal}
-use Rattle.pas_steps.specs.Past.{Once, Always}
-use Rattle.pas_steps.specs.Views.{View}
-use Rattle.pas_steps.specs.declared.step.Made.{Made}
-use Rattle.pas_steps.specs.declared.step.Step.TheVariants.{Look, Give}
+use Rattle.pas_steps.specs.declared.step.{Made.Made, Step.TheVariants.Look, Step.TheVariants.Give}
 use Rattle.pas_steps.proofs.Past.{once_later}
-use Rattle.pas_large.specs.Claims.{StaysPut}
-use Rattle.pas_large.specs.Gives.{run_block}
-use Rattle.pas_guard.specs.Books.{is_outer_of, FitsBook}
-use Rattle.pas_guard.specs.Keepers.{Call, MakesCall, MakesCalls, GivesBlockOf, PutsNoneOf, IsUpIn, IsUp, IsKeeper, IsBeside, GivesGuarded, StandsBetween, StandsThrough}
-use Rattle.pas_guard.specs.Raises.{guard_of, IsRaised}
-use Rattle.pas_guard.specs.Seeks.{seeking}
+use Rattle.pas_large.specs.{Claims.StaysPut, Gives.run_block}
+use Rattle.pas_guard.specs.{Books.is_outer_of, Books.FitsBook, Raises.guard_of, Raises.IsRaised, Seeks.seeking}
+use Rattle.pas_guard.specs.Keepers.{Call, MakesCall, MakesCalls, GivesBlockOf, PutsNoneOf, IsUpIn, IsUp, IsKeeper, IsBeside, GivesGuarded, StandsBetween}
+use Rattle.pas_guard.specs.Keepers.{StandsThrough}
 use Rattle.pas_guard.specs.Sweeps.{is_over, life_look, SweptOne, Swept, sweeping}
 use Rattle.pas_guard.specs.declared.book.Guard.{Guard}
-use Rattle.pas_guard.proofs.Guarded.{head_same}
-use Rattle.pas_guard.proofs.Raised.{raised_backs, raised_leaves}
-use Rattle.pas_guard.proofs.Sweeps.{kept_steady}
-use Rattle.pas_guard.proofs.Keepers.{part_both, older_legal, split_at, none_gives, first_or_later, none_in, low_outer, outer_in, older_always, up_stands, one_more}
+use Rattle.pas_guard.proofs.{Guarded.head_same, Raised.raised_backs, Raised.raised_leaves, Sweeps.kept_steady}
+use Rattle.pas_guard.proofs.Keepers.{part_both, older_legal, split_at, none_gives, first_or_later, none_in, low_outer, outer_in, older_always, up_stands}
+use Rattle.pas_guard.proofs.Keepers.{one_more}
 
 -- ---- a lowering puts grains of the low page
 full_put : (page : ℕ) (d : Directory) (steps : List Made) → BackSteps page d full steps → Once (PutsHere page) steps
@@ -121,8 +107,8 @@ guard_is : (d : Directory) (first k word : ℕ) (block : Block) (guard : Guard) 
 guard_is d first k word block guard is same beside =
     let at = ap (λ (b : Block). address_of b.name) is in let room = ap (λ (b : Block). b.room) is in
     let there = ap (λ (b : Block). address_of b.name) same in let room_there = ap (λ (b : Block). b.room) same in
-    let low : first ≡ guard.low = (let begins = beside.begins in omega (arith, at, there, begins)) in
-    let high : first + k + 1 ≡ guard.high = (let ends = beside.ends in omega (arith, at, room, there, room_there, ends)) in
+    let low : first ≡ guard.low = (omega (arith, at, there, beside.begins)) in
+    let high : first + k + 1 ≡ guard.high = (omega (arith, at, room, there, room_there, beside.ends)) in
     ap (λ n. record { low = n; high = first + k + 1; block = block }) low ∙ ap (λ n. record { low = guard.low; high = n; block = block }) high ∙ ap (λ b. record { low = guard.low; high = guard.high; block = b }) same
 
 raised_in_book : (f : Profile) (d : Directory) (k : ℕ) (guards guards' : List Guard) (searched after : List Made) (block : Block) (guard : Guard) → IsRaised f d k guards guards' searched after block → IsBeside guard → Once (GivesBlockOf guard) after → Contains guards' guard

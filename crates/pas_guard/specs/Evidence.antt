@@ -1,13 +1,10 @@
 -- What shows that a run can't be guarded, over the steps of one call, the newest first, from the view v on. A run has an outer page at each end and k
 -- pages between them.
 use Rattle.std.specs.Prelude.{ℕ, ◌+◌, ◌/◌, ◌≡◌, ◌⊎◌, true, List, ◌++◌}
-use Rattle.pas_profile.specs.declared.directory.Directory.{Directory}
-use Rattle.pas_profile.specs.declared.word.Word.TheVariants as Word
+use Rattle.pas_profile.specs.declared.{directory.Directory.Directory, word.Word.Word}
 use Rattle.pas_scan.specs.Runs.{IsInRun}
-use Rattle.pas_steps.specs.Views.{View, holds}
-use Rattle.pas_steps.specs.Past.{Once}
-use Rattle.pas_steps.specs.declared.step.Made.{Made}
-use Rattle.pas_steps.specs.declared.step.Step.TheVariants.{Look}
+use Rattle.pas_steps.specs.{Views.View, Views.holds, Past.Once}
+use Rattle.pas_steps.specs.declared.step.{Made.Made, Step.TheVariants.Look}
 use Rattle.pas_large.specs.Evidence.{HasBad, AllUsable, HasFailed}
 
 -- the backed word of the page was read so while all grains of the page were the actor's

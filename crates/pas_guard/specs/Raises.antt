@@ -1,29 +1,14 @@
 -- A guard goes up.
 use Rattle.std.specs.Prelude.{ℕ, ◌+◌, ◌*◌, ◌/◌, ◌≤◌, ◌≡◌, true, ◌∷◌, [], List, ◌++◌, length, Option, MatchOption}
-use Rattle.pas_profile.specs.declared.directory.Directory.{Directory}
-use Rattle.pas_profile.specs.declared.name.Block.{Block}
-use Rattle.pas_profile.specs.declared.profile.Profile.{Profile}
+use Rattle.pas_profile.specs.declared.{directory.Directory.Directory, name.Block.Block, profile.Profile.Profile}
 use Rattle.pas_scan.specs.Runs.{large_directory}
-use Rattle.pas_steps.specs.Agreement.{Agreed}
-use Rattle.pas_steps.specs.Calls.{Leads}
-use Rattle.pas_steps.specs.Past.{Always}
-use Rattle.pas_steps.specs.declared.step.Step.TheVariants.{Back}
-use Rattle.pas_large.specs.Claims.{StaysPut}
-use Rattle.pas_steps.specs.Desks.{Standing, Adds}
-use Rattle.pas_steps.specs.InTurn.{InTurn}
-use Rattle.pas_steps.specs.Kinds.{Only}
-use Rattle.pas_steps.specs.Unknown.{unknown_pages}
-use Rattle.pas_steps.specs.Views.{View}
-use Rattle.pas_steps.specs.declared.step.Made.{Made}
-use Rattle.pas_rights.specs.Gives.{give_steps}
-use Rattle.pas_rights.specs.Leaves.{LeaveSteps}
+use Rattle.pas_steps.specs.{Agreement.Agreed, Calls.Leads, Past.Always, Desks.Standing, Desks.Adds, InTurn.InTurn, Kinds.Only, Unknown.unknown_pages}
+use Rattle.pas_steps.specs.{Views.View}
+use Rattle.pas_steps.specs.declared.step.{Step.TheVariants.Back, Made.Made}
+use Rattle.pas_large.specs.{Claims.StaysPut, Evidence.DeedsRise, Gives.BackStep, Gives.pages_from, Gives.run_block, Pages.OnlyDeedsShow}
+use Rattle.pas_rights.specs.{Gives.give_steps, Leaves.LeaveSteps}
 use Rattle.pas_search.specs.Kinds.{ReturnsDuly}
-use Rattle.pas_large.specs.Evidence.{DeedsRise}
-use Rattle.pas_large.specs.Gives.{BackStep, pages_from, run_block}
-use Rattle.pas_large.specs.Pages.{OnlyDeedsShow}
-use Rattle.pas_guard.specs.Books.{is_outer, FitsBook}
-use Rattle.pas_guard.specs.Guards.{left_last_first}
-use Rattle.pas_guard.specs.Seeks.{seeking, SoughtRun, SoughtNone}
+use Rattle.pas_guard.specs.{Books.is_outer, Books.FitsBook, Guards.left_last_first, Seeks.seeking, Seeks.SoughtRun, Seeks.SoughtNone}
 use Rattle.pas_guard.specs.declared.book.Guard.{Guard}
 
 -- the actor fits the book, and there is room for the deeds that aren't known, and for n events more

@@ -1,11 +1,9 @@
 //! Guards whose blocks have ended are lowered.
 ghost use Rattle.std.specs.Prelude.{◌≡◌, ◌≤◌, ◌+◌, ◌/◌, ◌%◌, length};
-ghost use Rattle.pas_profile.specs.Profiles.{IsPage};
-ghost use Rattle.pas_profile.specs.Blocks.{address_of};
+ghost use Rattle.pas_profile.specs.{Profiles.IsPage, Blocks.address_of};
 ghost use Rattle.pas_report.specs.Rooms.{records_in, room_of};
 ghost use Rattle.pas_steps.specs.Desks.{AnyView, CanCall};
-ghost use Rattle.pas_guard.specs.Books.{guards_in, size_of_book, FitsBook};
-ghost use Rattle.pas_guard.specs.Sweeps.{LooksOver, Sweeps};
+ghost use Rattle.pas_guard.specs.{Books.guards_in, Books.size_of_book, Books.FitsBook, Sweeps.LooksOver, Sweeps.Sweeps};
 
 use crate::book::{Guard, GuardBook};
 use crate::lowering::lower;

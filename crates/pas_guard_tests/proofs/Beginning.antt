@@ -1,21 +1,14 @@
 -- The keeper of a new region may begin.
 use Rattle.std.proofs.Common.{◌≡◌, ℕ, ◌-◌, ◌≤◌, List, [], length, refl, ap, sym, ◌∙◌, subst, arith}
 use Rattle.pas_profile.specs.declared.profile.Profile.{Profile}
-use Rattle.pas_steps.specs.Clear.{HasNothing}
-use Rattle.pas_steps.specs.Desks.{Seat, Standing, CanCall}
-use Rattle.pas_steps.specs.Lists.{Whole}
-use Rattle.pas_steps.specs.Unknown.{unknown_pages}
-use Rattle.pas_steps.specs.Views.{View}
+use Rattle.pas_steps.specs.{Clear.HasNothing, Desks.Seat, Desks.Standing, Desks.CanCall, Lists.Whole, Unknown.unknown_pages, Views.View}
 use Rattle.pas_storms.proofs.Going.{few_below}
 use Rattle.pas_report.specs.Rooms.{records_in, room_of, Records}
 use Rattle.pas_report.specs.declared.record.Record.{Record}
 use Rattle.pas_guard.specs.Books.{FitsBook, guards_in, size_of_book}
-use Rattle.pas_guard.specs.declared.book.Guard.{Guard}
-use Rattle.pas_guard.specs.declared.book.GuardBook.{GuardBook}
-use Rattle.pas_plain.specs.Plain.{events_shown, room_of_pass}
-use Rattle.pas_plain.specs.Storms.{StormStands, seat_for}
-use Rattle.pas_plain.specs.declared.pass.PlainPass.{PlainPass}
-use Rattle.pas_plain.specs.declared.region.PlainRegion.{PlainRegion}
+use Rattle.pas_guard.specs.declared.book.{Guard.Guard, GuardBook.GuardBook}
+use Rattle.pas_plain.specs.{Plain.events_shown, Plain.room_of_pass, Storms.StormStands, Storms.seat_for}
+use Rattle.pas_plain.specs.declared.{pass.PlainPass.PlainPass, region.PlainRegion.PlainRegion}
 use Rattle.pas_guard_tests.specs.Kept.{guarded_region, Begins, MayKeep}
 
 -- an actor that made no step has nothing
@@ -35,7 +28,6 @@ pub may_begin : (σ : Standing) {region : PlainRegion} {own foreign : PlainPass}
     → ((v : View) (w l : Whole) → StormStands region own foreign v w → σ.stands v l) → CanCall σ (MayKeep σ.seat.profile book out 4 spare)
 may_begin σ {region} {own} {foreign} begins seat {spare} book out empty size none room spare_is stands =
     let shown : length (events_shown own) ≡ 0 = ap length begins.stands.own_part.shown in
-    let many = begins.room_of in
     let pages : σ.seat.profile.pages ≡ 12 = ap (λ (f : Profile). f.pages) (seat_profile σ begins seat) in
     let few : unknown_pages σ.seat.profile [] ≤ σ.seat.profile.pages = few_below σ.seat.profile.pages [] in
     let guards = ap (λ (gs : List Guard). length gs) empty in
@@ -47,7 +39,7 @@ may_begin σ {region} {own} {foreign} begins seat {spare} book out empty size no
       met = record {
         fits = subst (λ (gs : List Guard). FitsBook σ.seat.profile gs []) (sym empty) (fits_empty σ.seat.profile);
         places = omega (arith, guards, size);
-        room = omega (arith, spare_is, shown, many, few, pages);
+        room = omega (arith, spare_is, shown, begins.room_of, few, pages);
         records = omega (arith, records, guards, few, pages, room);
       };
     }

@@ -1,36 +1,22 @@
 -- What a keeper has between its calls in a storm.
-use Rattle.std.proofs.Common.{◌≡◌, ℕ, zero, suc, ◌+◌, ◌<◌, ◌≤◌, false, List, [], ◌∷◌, ◌++◌, length, Option, Some, None, refl, ap, sym, ◌∙◌, subst, arith, length-append}
-use Rattle.std.specs.Prelude.{slice_index_or, MatchOption}
+use Rattle.std.proofs.Common.{◌≡◌, ℕ, zero, suc, ◌+◌, ◌<◌, ◌≤◌, false, List, [], ◌∷◌, ◌++◌, length, Option, Some, None, refl, ap, sym, ◌∙◌, subst, arith}
+use Rattle.std.proofs.Common.{length-append, slice_index_or, MatchOption}
 use Rattle.pas_profile.specs.Profiles.{IsAdmitted}
-use Rattle.pas_profile.specs.declared.directory.Directory.{Directory}
-use Rattle.pas_profile.specs.declared.event.Event.{Event}
-use Rattle.pas_profile.specs.declared.name.Block.{Block}
-use Rattle.pas_profile.specs.declared.profile.Profile.{Profile}
-use Rattle.pas_profile.specs.declared.word.Word.TheVariants as Word
+use Rattle.pas_profile.specs.declared.{directory.Directory.Directory, event.Event.Event, name.Block.Block, profile.Profile.Profile, word.Word.Word}
 use Rattle.pas_scan.specs.Runs.{large_directory}
-use Rattle.pas_steps.specs.Calls.{nothing, Does}
+use Rattle.pas_steps.specs.{Calls.nothing, Calls.Does, Events.events_by, Views.View, Views.KnowsDeed}
 use Rattle.pas_steps.specs.Desks.{Seat, Standing, AnyView, CanCall, Makes, made, triples}
-use Rattle.pas_steps.specs.Events.{events_by}
-use Rattle.pas_steps.specs.Views.{View, KnowsDeed}
-use Rattle.pas_steps.specs.declared.step.Made.{Made}
-use Rattle.pas_steps.specs.declared.step.Step.TheVariants.{Look}
-use Rattle.pas_steps.proofs.Apart.{no_events, only_both}
-use Rattle.pas_steps.proofs.Called.{call_none, call_then, call_idly}
-use Rattle.pas_steps.proofs.Calls.{does_none, does_then}
-use Rattle.pas_steps.proofs.Kept.{knows_still}
-use Rattle.pas_steps.proofs.SpareRoom.{Spares, spare_falls}
-use Rattle.pas_steps.proofs.Unknown.{unknown_stays}
+use Rattle.pas_steps.specs.declared.step.{Made.Made, Step.TheVariants.Look}
+use Rattle.pas_steps.proofs.{Apart.no_events, Apart.only_both, Called.call_none, Called.call_then, Called.call_idly, Calls.does_none, Calls.does_then}
+use Rattle.pas_steps.proofs.{Kept.knows_still, SpareRoom.Spares, SpareRoom.spare_falls, Unknown.unknown_stays}
 use Rattle.pas_report.specs.Rooms.{records_in, Records}
 use Rattle.pas_report.specs.declared.record.Record.{Record}
 use Rattle.pas_trace.specs.declared.item.Request.{Request}
 use Rattle.pas_guard.specs.Books.{Each, IsGuardOf, KnowsGuard, FitsBook, guards_in}
-use Rattle.pas_guard.specs.Raises.{IsRaised, IsNotRaised, guard_of}
-use Rattle.pas_guard.specs.Seeks.{backed_looks}
-use Rattle.pas_guard.specs.declared.book.Guard.{Guard}
-use Rattle.pas_guard.specs.declared.book.GuardBook.{GuardBook}
+use Rattle.pas_guard.specs.{Raises.IsRaised, Raises.IsNotRaised, Raises.guard_of, Seeks.backed_looks}
+use Rattle.pas_guard.specs.declared.book.{Guard.Guard, GuardBook.GuardBook}
 use Rattle.pas_cache.specs.Serves.{pages_of}
-use Rattle.pas_answers.specs.Answers.{wanted_by}
-use Rattle.pas_answers.specs.Guarding.{Tried, IsTried}
+use Rattle.pas_answers.specs.{Answers.wanted_by, Guarding.Tried, Guarding.IsTried}
 use Rattle.pas_answers.specs.Keeping.{cost_of_try, MayTry, TriesRequest, MayLowerAll, LowersAll}
 use Rattle.pas_answers.proofs.Tries.{swept_count}
 use Rattle.pas_guard_tests.specs.Kept.{MayKeep, Looked}
@@ -159,22 +145,19 @@ keeps_after_try {σ} {σ'} {book} {book'} {out} {out'} {spare} {spare'} {block} 
     let few = t.few v fits agreed in
     let up = one_more f k (record { name = name; heap = 0; size = 4096; align = 16 }) v (guards_in book) _ tried.1 in
     let places = can.met.places in
-    let size = t.size in
     let room = can.met.room in
     let records = can.met.records in
     let added = ap (λ (rs : List Record). length rs) tried.2 ∙ length-append (records_in out) tried.0 in
-    let paid = tried.3 in
     let most = few_try block in
-    let rooms = t.room in
     record {
       view = xs ++ v;
       whole = triples k xs ++ can.whole;
       stood = t.calls.adds.added v can.whole can.stood fits;
       met = subst (λ (s : Seat). MayKeep s.profile book' out' m spare' (xs ++ v)) (sym t.calls.adds.seat_is) (record {
         fits = t.calls.leads.from v fits agreed;
-        places = omega (arith, up, places, size, is);
+        places = omega (arith, up, places, t.size, is);
         room = omega (arith, left, few, room, is);
-        records = omega (arith, records, added, paid, most, rooms, is);
+        records = omega (arith, records, added, tried.3, most, t.room, is);
       });
     }
 

@@ -1,7 +1,6 @@
 //! A storm round guards, and what is found afterwards.
 ghost use Rattle.std.specs.Prelude.{◌≡◌, [], IfOk};
-ghost use Rattle.pas_steps.specs.Lists.{Whole};
-ghost use Rattle.pas_steps.specs.Views.{View};
+ghost use Rattle.pas_steps.specs.{Lists.Whole, Views.View};
 ghost use Rattle.pas_plain.specs.Storms.{StormStands};
 ghost use Rattle.pas_guard.specs.Books.{guards_in, size_of_book};
 ghost use Rattle.pas_report.specs.Rooms.{records_in, room_of};

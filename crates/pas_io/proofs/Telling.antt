@@ -1,7 +1,7 @@
 -- What several reads or writes in a row do to the bytes that are told.
 use Rattle.std.proofs.Common.{◌≡◌, ℕ, ◌+◌, ◌≤◌, List, [], ◌++◌, Option, None, Some, take, drop, length, ap, sym, ◌∙◌, subst, append_assoc, arith, length-take}
-use Rattle.std.proofs.lemmas.List.{take-append-le, take-append-drop, take_all, drop_all}
-use Rattle.std.proofs.Math.Seq.{take-add, take-append-add}
+use Rattle.std.proofs.Common.{take-append-drop, take_all}
+use Rattle.std.proofs.{lemmas.List.take-append-le, lemmas.List.drop_all, Math.Seq.take-add, Math.Seq.take-append-add}
 use borrow.Rule.Slice.PartMut.{put_mid, post_of}
 use Rattle.pas_io.specs.Inputs.{HasRead}
 use Rattle.pas_io.specs.Told.{KeepsTold, Moves, MovesTold, Writes, WritesFront}
@@ -35,7 +35,7 @@ pub left_more : (told : List ℕ) (left left' : Option (List ℕ)) (buffer buffe
 left_more told left left' buffer buffer' k n is moves = let Moved : Option (List ℕ) → Type 0 = λ l. MovesTold l left' buffer buffer' n in subst Moved is moves
 
 -- ---- a buffer that grows keeps its front
-pub grown_front : (items new more : List ℕ) (n size : ℕ) → n ≡ length items → n ≤ size → new ≡ take size items ++ more → take n new ≡ take n items
+grown_front : (items new more : List ℕ) (n size : ℕ) → n ≡ length items → n ≤ size → new ≡ take size items ++ more → take n new ≡ take n items
 grown_front items new more n size full less is =
     let whole : take size items ≡ items = take_all size items (omega arith) in
     ap (λ (t : List ℕ). take n t) (is ∙ ap (λ (t : List ℕ). t ++ more) whole) ∙ take-append-le n items more (omega arith)

@@ -36,10 +36,7 @@ impl MemorySource {
 
 impl Source for MemorySource {
     ghost use Rattle.std.specs.Prelude.{◌≡◌, ◌≤◌, ◌+◌, Some, length, IfOk, IsErr, OnErr, ◌↔◌};
-    ghost use Rattle.pas_io.specs.Told.{Rose, MovesTold};
-    ghost use Rattle.pas_io.specs.Reached.{HasGone, HasRun};
-    ghost use Rattle.pas_io.specs.Unread.{left};
-    ghost use Rattle.pas_io.specs.Schedules.{CallFails, Called};
+    ghost use Rattle.pas_io.specs.{Told.Rose, Told.MovesTold, Reached.HasGone, Reached.HasRun, Unread.left, Schedules.CallFails, Schedules.Called};
 
     ghost rest = { λ s. Some (left s.unread) };
 
@@ -116,9 +113,7 @@ impl MemorySink {
 
 impl Sink for MemorySink {
     ghost use Rattle.std.specs.Prelude.{◌≡◌, ◌≢◌, ◌≤◌, ◌<◌, ◌+◌, ◌-◌, ◌⊎◌, ◌↔◌, min, Some, [], take, length, vec_len, IfOk, IsErr, OnErr};
-    ghost use Rattle.pas_io.specs.Told.{Rose, Writes};
-    ghost use Rattle.pas_io.specs.Taken.{taken, room_of};
-    ghost use Rattle.pas_io.specs.Schedules.{CallFails, Called};
+    ghost use Rattle.pas_io.specs.{Told.Rose, Told.Writes, Taken.taken, Taken.room_of, Schedules.CallFails, Schedules.Called};
 
     ghost held = { λ s. Some (taken s) };
 

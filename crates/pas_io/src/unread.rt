@@ -11,8 +11,7 @@ pub(crate) struct Unread {
 
 impl Unread {
     ghost use Rattle.std.specs.Prelude.{◌≡◌, Some, length};
-    ghost use Rattle.pas_io.specs.Told.{Moves};
-    ghost use Rattle.pas_io.specs.Unread.{left};
+    ghost use Rattle.pas_io.specs.{Told.Moves, Unread.left};
 
     pub(crate) fn new(bytes: Vec<u8>) -> Unread
         ensures { left result ≡ bytes.items }

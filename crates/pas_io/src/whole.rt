@@ -1,8 +1,7 @@
 //! Reading and writing whole texts.
 ghost use Rattle.std.specs.Prelude.{◌≡◌, ◌<◌, ◌≤◌, ◌+◌, ◌-◌, ◌^◌, ℕ, List, Some, length, IfOk, OnOk, OnErr, IsErrOf};
-ghost use Rattle.pas_io.specs.Told.{Rose, Writes, WritesFront};
+ghost use Rattle.pas_io.specs.{Told.Rose, Told.Writes, Told.WritesFront, Reached.StopsAtEnd};
 ghost use Rattle.pas_io.specs.Inputs.{HasRead, IsInput, IsReadOut, IsReadUp, IsShort, Takes};
-ghost use Rattle.pas_io.specs.Reached.{StopsAtEnd};
 ghost use Rattle.pas_io.specs.declared.reach.Reach.TheVariants as Reach;
 
 use crate::{Failed, Sink, Source};

@@ -1,17 +1,15 @@
 -- Rows of words: their bits, rows of which so many words were read, groups of words in lanes, and how many bits are set.
-use Rattle.std.proofs.Common.{◌≡◌, ◌≢◌, ℕ, ◌+◌, ◌-◌, ◌*◌, ◌/◌, ◌%◌, ◌^◌, ◌<◌, ◌≤◌, ◌==◌, ◌&&◌, not, Bool, true, false, List, length, slice_index, inl, inr, ap, sym, ◌∙◌, arith, bit_and, zero, suc, [], ◌∷◌, map, bit_or, if◌then◌else◌, take, drop, subst, refl, add-one, add-zero}
-use Rattle.std.specs.Int.{w64, trailing_zeros}
-use Rattle.std.proofs.lemmas.Bool.{cases_lt}
-use Rattle.std.proofs.lemmas.List.{get_or_past, get_or-map, length-map}
-use Rattle.std.proofs.lemmas.Nat.{and_le_l, le_or_l, le_or_r}
-use Rattle.std.proofs.lemmas.Nat.Bits.{bit_at-trailing_zeros}
+use Rattle.std.proofs.Common.{◌≡◌, ◌≢◌, ℕ, ◌+◌, ◌-◌, ◌*◌, ◌/◌, ◌%◌, ◌^◌, ◌<◌, ◌≤◌, ◌==◌, ◌&&◌, not, Bool, true, false, List, length, slice_index, inl, inr, ap}
+use Rattle.std.proofs.Common.{sym, ◌∙◌, arith, bit_and, zero, suc, [], ◌∷◌, map, bit_or, if◌then◌else◌, take, drop, subst, refl, add-one, add-zero, w64}
+use Rattle.std.proofs.Common.{count_ones}
+use Rattle.std.specs.Int.{trailing_zeros}
+use Rattle.std.proofs.{lemmas.Bool.cases_lt, lemmas.List.get_or_past, lemmas.List.get_or-map, lemmas.List.length-map, lemmas.Nat.and_le_l, lemmas.Nat.le_or_l}
+use Rattle.std.proofs.{lemmas.Nat.le_or_r, lemmas.Nat.Bits.bit_at-trailing_zeros, lemmas.Simd.get_or-chunk, lemmas.Simd.get_or-zip2, lemmas.Simd.length-chunk}
+use Rattle.std.proofs.{Math.Seq.drop-cons}
 use Rattle.pas_bits.specs.Bits.{has_bit, count_below}
 use Rattle.pas_bits.proofs.Words.{none_of_zero, bit_of_and, bit_of_not}
 use Rattle.pas_lanes.specs.Rows.{is_set, IsClearBelow, HasMember, IsLowestSet, IsWithinBelow, HasMemberOutside, set_count}
 use Rattle.std.specs.Simd.Lanes.{chunk, fold_l, zip2, sum_l}
-use Rattle.std.proofs.lemmas.Simd.{get_or-chunk, get_or-zip2, length-chunk}
-use Rattle.std.specs.Int.RustNames.{count_ones}
-use Rattle.std.proofs.Math.Seq.{drop-cons}
 use Rattle.pas_bits.proofs.Counts.{count_same, count_add, count_suc, ones_counted}
 
 -- ==== Words of a row, and rows of which so many words were read.
@@ -21,10 +19,10 @@ abbrev pub WordsFit : List ℕ → Type 0
 WordsFit words = (word : ℕ) → slice_index words word < 2 ^ 64
 
 -- the bits of the word of this number
-pub by_word : (words : List ℕ) (word x : ℕ) → x / 64 ≡ word → is_set words x ≡ has_bit (slice_index words word) (x % 64)
+by_word : (words : List ℕ) (word x : ℕ) → x / 64 ≡ word → is_set words x ≡ has_bit (slice_index words word) (x % 64)
 by_word words word x at = ap (λ w. has_bit (slice_index words w) (x % 64)) at
 
-pub at_word : (words : List ℕ) (word b : ℕ) → b < 64 → is_set words (64 * word + b) ≡ has_bit (slice_index words word) b
+at_word : (words : List ℕ) (word b : ℕ) → b < 64 → is_set words (64 * word + b) ≡ has_bit (slice_index words word) b
 at_word words word b h =
     by_word words word (64 * word + b) (omega (arith, h)) ∙ ap (has_bit (slice_index words word)) (omega (arith, h))
 
@@ -64,7 +62,7 @@ lowest_set words word fits some clear =
       set = at_word words word (trailing_zeros w64 (slice_index words word)) low.within ∙ low.set;
       lowest = λ x h. elim (cases_lt x (64 * word)) [
         | inl lt ↦ clear x lt
-        | inr ge ↦ let inside = low.within in by_word words word x (omega (arith, ge, h, inside)) ∙ low.lowest (x % 64) (omega (arith, ge, h, inside))
+        | inr ge ↦ by_word words word x (omega (arith, ge, h, low.within)) ∙ low.lowest (x % 64) (omega (arith, ge, h, low.within))
       ];
     }
 

@@ -1,52 +1,29 @@
 -- A large block: the run that was found is given, or the refusal has its reason.
-use Rattle.pas_steps.proofs.SpareRoom.{Spares}
-use Rattle.std.proofs.Common.{◌≡◌, ℕ, ◌+◌, ◌*◌, ◌≤◌, true, List, ◌++◌, length-append, Option, Some, None, Result, MatchResult, Ok, Err, inl, inr, refl, ap, sym, ◌∙◌, subst, arith, append_assoc, ◌/◌}
-use Rattle.pas_profile.specs.declared.directory.Directory.{Directory}
-use Rattle.pas_profile.specs.declared.event.NoRoom.{NoRoom}
-use Rattle.pas_profile.specs.declared.name.Block.{Block}
-use Rattle.pas_profile.specs.declared.profile.Profile.{Profile}
-use Rattle.pas_scan.specs.Runs.{large_directory}
+use Rattle.pas_steps.proofs.{SpareRoom.Spares, Called.call_then, Called.next_call, Calls.leads_then, Calls.leads_idly, Calls.does_then, Apart.only_both}
+use Rattle.std.proofs.Common.{◌≡◌, ℕ, ◌+◌, ◌*◌, ◌≤◌, true, List, ◌++◌, length-append, Option, Some, None, Result, MatchResult, Ok, Err, inl, inr, refl, ap, sym}
+use Rattle.std.proofs.Common.{◌∙◌, subst, arith, append_assoc, ◌/◌, Bool}
+use Rattle.pas_profile.specs.declared.{directory.Directory.Directory, event.NoRoom.NoRoom, name.Block.Block, profile.Profile.Profile}
+use Rattle.pas_scan.specs.{Runs.large_directory, Usable.DeedReadHere, Usable.WholeHere}
 use Rattle.pas_steps.specs.Calls.{Leads, Calls, nothing, Does}
 use Rattle.pas_steps.specs.Desks.{Seat, Standing, CanCall, triples, AnyView}
 use Rattle.pas_steps.specs.Kinds.{looking, kind_of, is_in, Only}
-use Rattle.pas_steps.specs.Frames.{IsScan, OnlyScans}
-use Rattle.pas_steps.specs.declared.step.Step.{Step}
+use Rattle.pas_steps.specs.{Frames.IsScan, Frames.OnlyScans, Views.View, Views.holds, Past.Always, Agreement.Agreed, Lists.Whole, Lists.part, Lists.Legal}
+use Rattle.pas_steps.specs.{Evidence.KeptHere}
+use Rattle.pas_steps.specs.declared.step.{Step.Step, Made.Made}
 use Rattle.pas_steps.proofs.Past.{always_map, once_later, once_map, since_once}
-use Rattle.pas_steps.specs.Views.{View, holds}
-use Rattle.pas_steps.specs.declared.step.Made.{Made}
 use Rattle.pas_steps.proofs.Adding.{Tells, adds_call, agreed_later, legal_after, triples_append}
-use Rattle.pas_steps.proofs.Called.{call_then, next_call}
-use Rattle.pas_steps.proofs.Calls.{leads_then, leads_idly, does_then}
 use Rattle.pas_large.specs.Allocates.{GaveLarge, IsAllocatedLarge, IsRefusedLarge, AllocatesByScan, AllocatesLarge}
-use Rattle.pas_large.specs.Named.{HoldsNamed, ClaimsNamed}
-use Rattle.pas_large.specs.Evidence.{TakenWholeHere}
-use Rattle.pas_large.specs.Telling.{IsNamedWhole, IsToldLarge}
-use Rattle.pas_large.proofs.Named.{named_steps}
+use Rattle.pas_large.specs.{Named.HoldsNamed, Named.ClaimsNamed, Evidence.TakenWholeHere, Telling.IsNamedWhole, Telling.IsToldLarge, Claims.in_span}
+use Rattle.pas_large.specs.{Claims.HasPages, Gives.GivesRun, Pages.GotPages, Pages.OnlyDeedsShow, Pages.claiming_old, Refusals.IsReason, Refusals.Refuses}
+use Rattle.pas_large.proofs.{Named.named_steps, Claims.has_got, Claims.room_after, Claims.span_in, ToldReasons.none_after, ToldReasons.true_reason}
+use Rattle.pas_large.proofs.{Pages.undone, Refusals.reason_before, Finds.may_find}
 use Rattle.pas_large.proofs.ToldByDoor.{never_missed, got_whole, usable_later, usable_earlier, told_earlier}
-use Rattle.pas_large.specs.Claims.{in_span, HasPages}
 use Rattle.pas_large.specs.Finds.{MayFind, FindRoom, LooksAlone, Finds}
 use Rattle.pas_rights.specs.Gives.{give_steps}
-use Rattle.pas_large.specs.Gives.{GivesRun}
-use Rattle.pas_large.specs.Pages.{GotPages, OnlyDeedsShow, claiming_old}
 use Rattle.pas_search.specs.Kinds.{ReturnsDuly}
-use Rattle.pas_steps.specs.Past.{Always}
-use Rattle.pas_large.specs.Refusals.{IsReason, Refuses}
-use Rattle.pas_large.proofs.Claims.{has_got, room_after, span_in}
-use Rattle.std.specs.Prelude.{Bool}
-use Rattle.pas_profile.specs.Blocks.{address_of}
-use Rattle.pas_steps.specs.Agreement.{Agreed}
-use Rattle.pas_steps.specs.Lists.{Whole, part, Legal}
+use Rattle.pas_profile.specs.{Blocks.address_of, Directories.IsKind, Profiles.IsValid}
 use Rattle.pas_core.proofs.OneActor.{legal_earlier}
-use Rattle.pas_steps.proofs.Apart.{only_both}
-use Rattle.pas_scan.specs.Usable.{DeedReadHere, WholeHere}
-use Rattle.pas_profile.specs.Directories.{IsKind}
-use Rattle.pas_profile.specs.Profiles.{IsValid}
-use Rattle.pas_steps.specs.Evidence.{KeptHere}
-use Rattle.pas_large.proofs.ToldReasons.{none_after, true_reason}
 use Rattle.pas_large.proofs.Lifted.{find_again, after_still, found_run, found_none}
-use Rattle.pas_large.proofs.Pages.{undone}
-use Rattle.pas_large.proofs.Refusals.{reason_before}
-use Rattle.pas_large.proofs.Finds.{may_find}
 
 module _ {σ σ1 : Standing} (d : Directory) (n first : ℕ) (tells : Bool) (find : Finds d n tells σ σ1 (Some first)) where
   found_call : Calls σ σ1 (MayFind d) (GotPages (in_span first (first + n)) d) find.steps
@@ -85,7 +62,7 @@ allocates heap n first tells find block give =
       kinds = find.kinds;
       returns = find.returns;
       shows = find.shows;
-      few = (let k = length-append (give.left ++ (give_steps first 0 block give.word give.answer ++ give.backs)) find.steps in let a = give.few in let b = find.few in omega (arith, k, a, b));
+      few = (let k = length-append (give.left ++ (give_steps first 0 block give.word give.answer ++ give.backs)) find.steps in omega (arith, k, give.few, find.few));
       outcome = record {
         first = first;
         found = find.outcome;
@@ -126,11 +103,11 @@ refuses_large {σ} {σ1} heap n tells find why laws parts refused =
       kinds = find.kinds;
       returns = find.returns;
       shows = find.shows;
-      few = (let k = length-append refused.steps find.steps in let a = refused.few in let e = ap (λ (x : Profile). x.pages) same in let b = find.few in omega (arith, k, a, b, e));
+      few = (let k = length-append refused.steps find.steps in let e = ap (λ (x : Profile). x.pages) same in omega (arith, k, refused.few, find.few, e));
       outcome = record {
         found = find.outcome;
         scans = refused.scans;
-        few = let few = refused.few in let e = ap (λ (x : Profile). x.pages) same in omega (arith, few, e);
+        few = let e = ap (λ (x : Profile). x.pages) same in omega (arith, refused.few, e);
         reason = reason;
         still = leads_then (Does nothing) find.outcome.still (scans_lead f refused.steps refused.scans) (λ v w met does. tt) (λ v w u a b. does_then a b);
       };

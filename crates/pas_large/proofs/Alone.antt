@@ -1,46 +1,23 @@
 -- A request for whole pages that is refused where no other actor made a step meanwhile, whatever its desk tells.
 use Rattle.std.proofs.Common.{◌≡◌, ℕ, ◌*◌, ◌<◌, true, false, ◌⊎◌, Bool, List, ◌++◌, Option, Result, Ok, Err, inl, inr, refl, ap, sym, ◌∙◌, subst, true≢false}
 use Rattle.std.proofs.lemmas.Bool.{cases_eq}
-use Rattle.pas_profile.specs.Blocks.{address_of}
-use Rattle.pas_profile.specs.Directories.{IsKind}
-use Rattle.pas_profile.specs.Profiles.{IsValid, IsDirectoryOf}
-use Rattle.pas_profile.specs.declared.directory.Directory.{Directory}
-use Rattle.pas_profile.specs.declared.event.NoRoom.{NoRoom}
-use Rattle.pas_profile.specs.declared.event.NoRoom.TheVariants.{Held}
-use Rattle.pas_profile.specs.declared.name.Block.{Block}
-use Rattle.pas_profile.specs.declared.profile.Profile.{Profile}
-use Rattle.pas_steps.specs.Agreement.{Agreed}
-use Rattle.pas_steps.specs.Calls.{nothing, Does}
-use Rattle.pas_steps.specs.Desks.{Standing, triples}
-use Rattle.pas_steps.specs.Past.{Always}
-use Rattle.pas_steps.proofs.Adding.{triples_append}
-use Rattle.pas_search.specs.Kinds.{ReturnsDuly}
-use Rattle.pas_steps.specs.Frames.{GivesUp}
+use Rattle.pas_profile.specs.{Blocks.address_of, Directories.IsKind, Profiles.IsValid, Profiles.IsDirectoryOf}
+use Rattle.pas_profile.specs.declared.{directory.Directory.Directory, event.NoRoom.NoRoom, event.NoRoom.TheVariants.Held, name.Block.Block}
+use Rattle.pas_profile.specs.declared.{profile.Profile.Profile}
+use Rattle.pas_steps.specs.{Agreement.Agreed, Calls.nothing, Calls.Does, Desks.Standing, Desks.triples, Past.Always, Frames.GivesUp, Lists.Whole, Lists.part}
+use Rattle.pas_steps.specs.{Lists.Legal, Views.has_right}
+use Rattle.pas_steps.proofs.{Adding.triples_append, Apart.only_both, Parts.part_of_own, Parts.part_of_others, Past.once_later}
+use Rattle.pas_search.specs.{Kinds.ReturnsDuly, Telling.IsTrueReason}
 use Rattle.pas_steps.specs.Kinds.{looking, kind_of, is_in, Only}
-use Rattle.pas_steps.specs.Lists.{Whole, part, Legal}
-use Rattle.pas_steps.specs.Views.{has_right}
-use Rattle.pas_steps.specs.declared.step.Made.{Made}
-use Rattle.pas_steps.specs.declared.step.Step.{Step}
-use Rattle.pas_steps.proofs.Apart.{only_both}
-use Rattle.pas_steps.proofs.Parts.{part_of_own, part_of_others}
-use Rattle.pas_steps.proofs.Past.{once_later}
-use Rattle.pas_core.proofs.Nexts.{agreed_steps}
-use Rattle.pas_core.proofs.OneActor.{legal_earlier}
-use Rattle.pas_scan.specs.Runs.{large_directory}
-use Rattle.pas_scan.specs.Usable.{DeedReadHere}
-use Rattle.pas_search.specs.Telling.{IsTrueReason}
+use Rattle.pas_steps.specs.declared.step.{Made.Made, Step.Step}
+use Rattle.pas_core.proofs.{Nexts.agreed_steps, OneActor.legal_earlier}
+use Rattle.pas_scan.specs.{Runs.large_directory, Usable.DeedReadHere}
 use Rattle.pas_search.proofs.Alone.{none_in_hands, OwnLacks, still_lacks}
 use Rattle.pas_large.specs.Allocates.{IsRefusedLarge, IsServedNamed, IsScanned, AllocatesLarge}
-use Rattle.pas_large.specs.Alone.{GoesByDoor, FindsTheRunThereIs}
-use Rattle.pas_large.specs.Evidence.{BadHere, IsVain}
-use Rattle.pas_large.specs.Finds.{MayFind, LooksAlone}
-use Rattle.pas_large.specs.Pages.{claiming_old}
+use Rattle.pas_large.specs.{Alone.GoesByDoor, Alone.FindsTheRunThereIs, Evidence.BadHere, Evidence.IsVain, Finds.MayFind, Finds.LooksAlone, Pages.claiming_old}
 use Rattle.pas_large.specs.Telling.{IsUsablePage, HasNoUsableRun, IsNamedWhole, TakesNamed}
-use Rattle.pas_large.proofs.Allocates.{scans_only, holds_whole}
-use Rattle.pas_large.proofs.Lifted.{find_again}
-use Rattle.pas_large.proofs.Told.{once_of, unusable_here}
-use Rattle.pas_large.proofs.ToldByDoor.{never_missed, usable_later}
-use Rattle.pas_large.proofs.ToldReasons.{none_after, true_reason}
+use Rattle.pas_large.proofs.{Allocates.scans_only, Allocates.holds_whole, Lifted.find_again, Told.once_of, Told.unusable_here, ToldByDoor.never_missed}
+use Rattle.pas_large.proofs.{ToldByDoor.usable_later, ToldReasons.none_after, ToldReasons.true_reason}
 
 -- ---- looks alone lose and break no page
 is_look_of : (s t : Step) → is_in looking (kind_of s) ≡ true → s ≡ t → is_in looking (kind_of t) ≡ false → ⊥
@@ -91,20 +68,20 @@ module _ (f : Profile) (k : ℕ) (l : Whole) (d : Directory) (n : ℕ) (searched
   only : Only looking (after ++ searched)
   only = only_both looking after searched (scans_only after is.scans) looked
 
-  pub no_run_before : HasNoUsableRun f d n l
+  no_run_before : HasNoUsableRun f d n l
   no_run_before = no_run f k l d n searched before looked is.found.vain
 
-  pub no_run_after : HasNoUsableRun f d n w
+  no_run_after : HasNoUsableRun f d n w
   no_run_after = none_after f k l d n (after ++ searched) only no_run_before
 
-  pub reason_after : IsTrueReason f d w why
+  reason_after : IsTrueReason f d w why
   reason_after = true_reason f k l d (after ++ searched) legal only (agreed_steps f k l (after ++ searched) valid legal) (λ p of. once_later (DeedReadHere p) after searched (is.found.vain.deeds p of)) why is.reason
 
   -- ---- where nobody had a right before
   nobody : ((p j : ℕ) → has_right (part j l) p ≡ false) → (p j : ℕ) → has_right (part j w) p ≡ false
   nobody = nobody_after k l (after ++ searched) (is.still.from (part k l) met (agreed_steps f k l (after ++ searched) valid legal))
 
-  pub none_held : IsDirectoryOf f d → ((p j : ℕ) → has_right (part j l) p ≡ false) → (p : ℕ) → why ≡ Held p → ⊥
+  none_held : IsDirectoryOf f d → ((p j : ℕ) → has_right (part j l) p ≡ false) → (p : ℕ) → why ≡ Held p → ⊥
   none_held of none p held = none_in_hands f d w p of legal (λ j. nobody none p j) (subst (IsTrueReason f d w) held reason_after).0
 
   -- nor has the actor itself one of a page of the directory, whoever had others

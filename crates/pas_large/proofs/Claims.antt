@@ -1,46 +1,37 @@
 -- The claim of the pages of a run, one page more, and how they are left.
-use Rattle.pas_steps.specs.Clear.{IsClear}
-use Rattle.pas_steps.proofs.SpareRoom.{Spares, spare_falls}
-use Rattle.std.proofs.Common.{◌≡◌, ◌≢◌, ℕ, ◌+◌, ◌/◌, ◌-◌, ◌<◌, ◌≤◌, ◌==◌, ◌*◌, min, nat_le, nat_lt, Bool, true, false, ◌||◌, if◌then◌else◌, List, [], ◌∷◌, ◌++◌, inl, inr, refl, ap, sym, ◌∙◌, arith, true≢false, length, subst, append_assoc, length-append, append-nil, Some, None}
-use Rattle.std.proofs.lemmas.Bool.{and_parts, cases_Bool, cases_eq, eqb-true}
-use Rattle.std.proofs.lemmas.Bool.Decides.{nat_tests}
-use Rattle.pas_profile.specs.declared.directory.Directory.{Directory}
+use Rattle.pas_steps.specs.{Clear.IsClear, Frames.IsOnPage, Frames.OnlyOn, Past.Once, Past.Always, Past.Since, Evidence.KeptHere, Evidence.GetsHere}
+use Rattle.pas_steps.specs.{Agreement.Agreed, Events.events_by, Unknown.unknown_pages}
+use Rattle.pas_steps.proofs.{SpareRoom.Spares, SpareRoom.spare_falls, Sets.both_fates, Apart.only_both, Apart.only_within}
+use Rattle.std.proofs.Common.{◌≡◌, ◌≢◌, ℕ, ◌+◌, ◌/◌, ◌-◌, ◌<◌, ◌≤◌, ◌==◌, ◌*◌, min, nat_le, nat_lt, Bool, true, false, ◌||◌, if◌then◌else◌, List, [], ◌∷◌, ◌++◌}
+use Rattle.std.proofs.Common.{inl, inr, refl, ap, sym, ◌∙◌, arith, true≢false, length, subst, append_assoc, length-append, append-nil, Some, None, eqb-true}
+use Rattle.std.proofs.lemmas.Bool.{and_parts, cases_Bool, cases_eq, Decides.nat_tests}
+use Rattle.pas_profile.specs.declared.{directory.Directory.Directory, profile.Profile.Profile}
 use Rattle.pas_steps.specs.Calls.{Kept, Gained, Lost, now, nothing, Does, Calls, Leads}
-use Rattle.pas_steps.specs.Frames.{IsOnPage, OnlyOn}
-use Rattle.pas_steps.specs.Past.{Once, Always, Since}
-use Rattle.pas_steps.specs.Evidence.{KeptHere, GetsHere}
 use Rattle.pas_steps.specs.Views.{View, Stays, grain_move, held_after, holds, has_right, KnowsDeed}
-use Rattle.pas_steps.specs.declared.step.Made.{Made}
-use Rattle.pas_steps.specs.declared.step.Step.TheVariants.{Deed}
+use Rattle.pas_steps.specs.declared.step.{Made.Made, Step.TheVariants.Deed}
 use Rattle.pas_steps.proofs.Calls.{does_as, does_then, does_after_nothing, does_none}
 use Rattle.pas_steps.proofs.Kept.{right_on, on_grain, holds_on_page, knows_still}
 use Rattle.pas_steps.proofs.Past.{always_both, always_map, once_later, once_earlier}
-use Rattle.pas_steps.proofs.Sets.{both_fates}
-use Rattle.pas_scan.specs.Runs.{page_looks}
-use Rattle.pas_scan.specs.Usable.{LeftAlone}
+use Rattle.pas_scan.specs.{Runs.page_looks, Usable.LeftAlone}
 use Rattle.pas_large.specs.Pages.{of_pages, GotPages, MayClaim, DeedsOn, OnlyDeedsShow, claiming, claiming_old, LosesPage, BreaksPage, WinsPage, ClaimsPage}
-use Rattle.pas_large.specs.Claims.{in_span, MayClaimPages, HasRunRoom, AloneFrom, DeedsIn, HoldsSpan, FailsAt, ClaimsPages, HasPages, Releases, ClaimsRun, LacksAll, StaysPut}
+use Rattle.pas_large.specs.Claims.{in_span, MayClaimPages, HasRunRoom, AloneFrom, DeedsIn, HoldsSpan, FailsAt, ClaimsPages, HasPages, Releases, ClaimsRun}
+use Rattle.pas_large.specs.Claims.{LacksAll, StaysPut}
 use Rattle.pas_search.specs.Kinds.{IsReturnOf, ReturnsDuly}
 use Rattle.pas_search.proofs.Returns.{duly_both, duly_in, return_page}
-use Rattle.pas_rights.proofs.Hints.{put_and_leave_due}
-use Rattle.pas_large.proofs.Pages.{DeedsFrom, from_on, from_none, rise_none, rise_both, MadeHere, since_more, undone, no_deeds, knew_before, shows_both, shows_taking, after_more}
+use Rattle.pas_rights.proofs.{Hints.put_and_leave_due, Looks.on_full}
+use Rattle.pas_large.proofs.Pages.{DeedsFrom, from_on, from_none, rise_none, rise_both, MadeHere, since_more, undone, no_deeds, knew_before, shows_both}
+use Rattle.pas_large.proofs.Pages.{shows_taking, after_more}
 use Rattle.pas_profile.specs.Directories.{IsDirectory}
-use Rattle.pas_profile.specs.declared.profile.Profile.{Profile}
-use Rattle.pas_rights.specs.Puts.{masked}
+use Rattle.pas_rights.specs.{Puts.masked, Words.full}
 use Rattle.pas_rights.specs.PutsBack.{giving_back, taking_grains, GivesDuly, MayPutAndLeave, PutsAndLeaves}
-use Rattle.pas_rights.specs.Words.{full}
-use Rattle.pas_rights.proofs.Looks.{on_full}
-use Rattle.pas_steps.specs.Agreement.{Agreed}
 use Rattle.pas_steps.specs.Desks.{Seat, Standing, CanCall, Adds}
-use Rattle.pas_steps.specs.Events.{events_by}
-use Rattle.pas_steps.specs.Unknown.{unknown_pages}
 use Rattle.pas_steps.proofs.Adding.{adds_none, adds_call, can_call, agreed_first, agreed_later, adds_under}
-use Rattle.pas_steps.proofs.Apart.{only_both, only_within}
 use Rattle.pas_steps.proofs.Called.{call_none, call_then, next_call, call_as}
 use Rattle.pas_scan.proofs.LeftPages.{usable_later, left_alone_by, holds_own}
 use Rattle.pas_large.specs.Evidence.{LostHere, BrokenHere, TakenWholeHere, DeedsBelow, MissedHere, GotOf, LeftOrBroken}
 use Rattle.pas_large.specs.declared.claiming.Claimed.{Claimed}
-use Rattle.pas_large.proofs.Left.{parks_both, deeds_both, OffPage, off_on, off_parks, off_deeds, left_of_alone, left_off, got_off, left_before, got_before, missed_before, left_hints, released}
+use Rattle.pas_large.proofs.Left.{parks_both, deeds_both, OffPage, off_on, off_parks, off_deeds, left_of_alone, left_off, got_off, left_before, got_before}
+use Rattle.pas_large.proofs.Left.{missed_before, left_hints, released}
 
 -- ---- pages from one to below another, one page more, and what becomes of them
 pub span_in : (first stop p : ℕ) → first ≤ p → p < stop → in_span first stop p ≡ true
@@ -184,11 +175,11 @@ abbrev MadeIn : Directory → ℕ → ℕ → Made → List Made → Type 0
 MadeIn d first end m before = (p : ℕ) (e : Directory) → m.step ≡ Deed p e → m.answer ≡ 0 → (e ≡ d) × (first ≤ p) × (p < end)
 
 deeds_join : (d : Directory) (first stop end page : ℕ) (ys xs : List Made) → first ≤ page → page < end → stop ≤ end → DeedsOn d page ys → DeedsIn d first stop xs → DeedsIn d first end (ys ++ xs)
-deeds_join d first stop end page ys xs low high le on within = always_both (MadeHere d page) (MadeIn d first end) ys xs (λ m before h p e same z. let its = h p e same z in let at = its.1 in (its.0, omega (arith, at, low), omega (arith, at, high))) on
-    (always_map (MadeIn d first stop) (MadeIn d first end) xs (λ m before h p e same z. let its = h p e same z in let lt = its.2 in (its.0, its.1, omega (arith, lt, le))) within)
+deeds_join d first stop end page ys xs low high le on within = always_both (MadeHere d page) (MadeIn d first end) ys xs (λ m before h p e same z. let its = h p e same z in (its.0, omega (arith, its.1, low), omega (arith, its.1, high))) on
+    (always_map (MadeIn d first stop) (MadeIn d first end) xs (λ m before h p e same z. let its = h p e same z in (its.0, its.1, omega (arith, its.2, le))) within)
 
 deeds_wider : (d : Directory) (first stop end : ℕ) (xs : List Made) → stop ≤ end → DeedsIn d first stop xs → DeedsIn d first end xs
-deeds_wider d first stop end xs le = always_map (MadeIn d first stop) (MadeIn d first end) xs (λ m before h p e same z. let its = h p e same z in let lt = its.2 in (its.0, its.1, omega (arith, lt, le)))
+deeds_wider d first stop end xs le = always_map (MadeIn d first stop) (MadeIn d first end) xs (λ m before h p e same z. let its = h p e same z in (its.0, its.1, omega (arith, its.2, le)))
 
 pub deeds_below : (d : Directory) (first stop end : ℕ) (xs : List Made) → stop ≤ end → DeedsIn d first stop xs → DeedsBelow end xs
 deeds_below d first stop end xs le = always_map (MadeIn d first stop) (λ m before. (p : ℕ) (e : Directory) → m.step ≡ Deed p e → m.answer ≡ 0 → p < end) xs (λ m before h p e same z. let lt = (h p e same z).2 in omega (arith, lt, le))
@@ -213,7 +204,7 @@ module _ {σ σ1 : Standing} (deeds : Bool) (d : Directory) (first end page : �
   rest_may : (v : View) → MayClaimPages d first end v → Agreed σ.seat.profile v xs → MayClaimPages d page end (xs ++ v)
   rest_may v met agreed = let got = so_got v met agreed in record {
     lacks = λ p ge lt knows.
-        got.does.right p ∙ ap (λ t. now (if t then Gained else Kept) (has_right v p)) (span_past first page p ge) ∙ met.lacks p (let low = so_far.span.0 in omega (arith, low, ge)) lt (knew_before σ.seat.profile d p xs v agreed knows);
+        got.does.right p ∙ ap (λ t. now (if t then Gained else Kept) (has_right v p)) (span_past first page p ge) ∙ met.lacks p (omega (arith, so_far.span.0, ge)) lt (knew_before σ.seat.profile d p xs v agreed knows);
     clear = record { on = λ q. got.does.clear q (met.clear.on q) };
   }
 
@@ -241,7 +232,7 @@ module _ {σ σ1 : Standing} (deeds : Bool) (d : Directory) (first end page : �
       adds = adds_call {D = MayClaim d page} so_adds h.adds (λ v l stood met. page_may v met (so_adds.agreed v l stood met));
       kinds = only_both claiming ys xs h.kinds so_far.kinds;
       old = λ none. only_both claiming_old ys xs (h.old none) (so_far.old none);
-      few = let n = length-append ys xs in let b = so_far.few in omega (arith, n, few, b, low, high, above);
+      few = let n = length-append ys xs in omega (arith, n, few, so_far.few, low, high, above);
       returns = duly_both ys xs h.returns so_far.returns;
       gets = gets;
       made = deeds_join d first (min (page + 1) page) (min (stop + 1) end) page ys xs low (omega (arith, high, above)) (omega (arith, high, above)) h.made so_far.made;
@@ -292,7 +283,7 @@ module _ {σ σ1 : Standing} (deeds : Bool) (d : Directory) (first end page : �
           | inr ne ↦ right_on page p ys (xs ++ before) h.on ne ∙ old
         ])
         (λ lt. failed)
-        (let few = h.few in omega (arith, few, high))
+        (omega (arith, h.few, high))
         (λ p ge lt. once_later (GetsHere p) ys xs (so_far.gets p ge lt))
         (λ lt bare. missed_before d page ys xs page_alone (missed bare))
         others_of
@@ -331,7 +322,7 @@ module _ {σ σ1 : Standing} (deeds : Bool) (d : Directory) (first end page : �
         })
         (λ before none p out. let ne = not_in first page p low out in ap (λ s. has_right s p) (all_at before) ∙ right_on page p ys (xs ++ before) h.on ne ∙ so_far.lacks before none p (grind (arith, nat_tests)))
         (λ lt. absurd (omega (arith, lt, last)))
-        (let few = wins.few in omega (arith, few))
+        (omega (arith, wins.few))
         (λ p ge lt. elim (cases_eq p page) [
           | inl e ↦ subst (λ q. Once (GetsHere q) (ys ++ xs)) (sym e) (once_earlier (GetsHere page) (GetsHere page) ys xs (λ m before gets. gets) wins.gets)
           | inr ne ↦ once_later (GetsHere p) ys xs (so_far.gets p ge (omega (arith, lt, ne)))
@@ -339,7 +330,7 @@ module _ {σ σ1 : Standing} (deeds : Bool) (d : Directory) (first end page : �
         (λ lt. absurd (omega (arith, lt, last)))
         (λ bare p is. elim (cases_eq p page) [
           | inl e ↦ subst (λ q. GotOf d q (ys ++ xs)) (sym e) (got_before d page ys xs page_alone (wins.of bare))
-          | inr ne ↦ let at = in_parts first (page + 1) p is in let ge = at.0 in let lt = at.1 in others_of bare p (span_in first page p ge (omega (arith, lt, ne)))
+          | inr ne ↦ let at = in_parts first (page + 1) p is in let ge = at.0 in others_of bare p (span_in first page p ge (omega (arith, at.1, ne)))
         ])
         (λ bare p out. others_left bare p (not_in first page p low out) (narrower first page (page + 1) p (omega arith) out))
 
@@ -441,7 +432,7 @@ left_more d directory first page low so_far h =
           (λ g is. let at : page ≡ g / 256 = eqb-true page (g / 256) (sym (on_full page g) ∙ is) in
           steady_holds g so_far.steps before (so_far.steady g (span_past first page (g / 256) (omega (arith, at)))) ∙ held g (span_in first (page + 1) (g / 256) (omega (arith, at, low)) (omega (arith, at))))
           (so_far.due before (λ g is. held g (span_wider first page (page + 1) (g / 256) (omega arith) is)) all) h);
-      few = let n = length-append ys so_far.steps in let a = h.few in let b = so_far.few in omega (arith, n, a, b, low);
+      few = let n = length-append ys so_far.steps in omega (arith, n, h.few, so_far.few, low);
       lacks = λ before p none. ap (λ s. has_right s p) (append_assoc ys so_far.steps before) ∙ elim (cases_eq p page) [
         | inl e ↦ ap (has_right (ys ++ (so_far.steps ++ before))) e ∙ h.lacks (so_far.steps ++ before)
         | inr ne ↦ right_on page p ys (so_far.steps ++ before) h.on ne ∙ so_far.lacks before p (λ out. none (span_apart first page p ne out))
@@ -465,12 +456,12 @@ run_claimed {σ} {σ1} deeds d first end stop e h =
       shows = all.shows;
       steady = all.steady;
       of = λ bare none. all.of bare;
-      outcome = record { few = (let few = all.few in omega (arith, few)); got = all.got; holding = all.holding; lacks = all.lacks; alone = λ before free p ge. all.alone before free p (omega (arith, ge)) };
+      outcome = record { few = (omega (arith, all.few)); got = all.got; holding = all.holding; lacks = all.lacks; alone = λ before free p ge. all.alone before free p (omega (arith, ge)) };
     }
 
 module _ {σ σ1 : Standing} (deeds : Bool) (d : Directory) (first end stop : ℕ) (ne : stop ≢ end) (h : ClaimsPages deeds d first end σ σ1 stop) where
   before_end : stop < end
-  before_end = let le = h.span.1 in omega (arith, ne, le)
+  before_end = omega (arith, ne, h.span.1)
 
   may_release : (v : View) → MayClaimPages d first end v → GotPages (in_span first stop) d v (h.steps ++ v) → HasPages d first stop (h.steps ++ v)
   may_release v met got = has_got d first stop met.clear got
@@ -497,7 +488,7 @@ module _ {σ σ1 : Standing} (deeds : Bool) (d : Directory) (first end stop : �
         kinds = only_both claiming r.steps h.steps (only_within giving_back claiming r.steps refl r.kinds) h.kinds;
         old = λ none. only_both claiming_old r.steps h.steps (only_within giving_back claiming_old r.steps refl r.kinds) (h.old none);
         returns = duly_in (in_span first stop) r.steps h.steps r.within (r.due h.steps (own_held can) (always_map ReturnsDuly GivesDuly h.steps (λ m before is. is.1) h.returns)) (λ p is. let at = in_parts first stop p is in h.gets p at.0 at.1) h.returns;
-        made = deeds_wider d first (stop + 1) end (r.steps ++ h.steps) (let lt = before_end in omega (arith, lt)) made_below;
+        made = deeds_wider d first (stop + 1) end (r.steps ++ h.steps) (omega (arith, before_end)) made_below;
         rise = rise_both (stop + 1) r.steps h.steps (rise_none giving_back r.steps refl r.kinds) h.rise (from_none giving_back (stop + 1) r.steps refl r.kinds) (deeds_below d first (min (stop + 1) end) (stop + 1) h.steps (omega arith) h.made);
         shows = shows_both σ.seat.profile r.steps h.steps (shows_taking σ.seat.profile r.steps (only_within giving_back taking_grains r.steps refl r.kinds)) h.shows;
         steady = λ g out. steady_both g r.steps h.steps (r.steady g (narrower first stop end (g / 256) h.span.1 out)) (h.steady g out);
@@ -505,7 +496,7 @@ module _ {σ σ1 : Standing} (deeds : Bool) (d : Directory) (first end stop : �
         outcome = record {
           in_run = (h.span.0, before_end);
           made = made_below;
-          few = (let n = length-append r.steps h.steps in let a = r.few in let b = h.few in let le = h.span.0 in let lt = before_end in omega (arith, n, a, b, le, lt));
+          few = (let n = length-append r.steps h.steps in omega (arith, n, r.few, h.few, h.span.0, before_end));
           still = calls.leads;
           lacks = λ before none p. ap (λ s. has_right s p) (append_assoc r.steps h.steps before) ∙ r.lacks (h.steps ++ before) p (λ out. h.lacks before none p out);
           alone = λ before free p ge. subst (LeftAlone p) (sym (append_assoc r.steps h.steps before)) (r.alone (h.steps ++ before) p (omega (arith, ge)) (h.alone before free p (omega (arith, ge))));

@@ -1,46 +1,33 @@
 -- The search for a run that can be claimed, one run more.
-use Rattle.pas_steps.proofs.SpareRoom.{Spares}
-use Rattle.std.proofs.Common.{ℕ, ◌+◌, ◌<◌, ◌≤◌, List, [], ◌++◌, refl, ◌∙◌, inl, inr, ◌⊎◌, arith, Option, ◌≡◌, true, Some, None, ap, sym, subst, append_assoc, true≢false, length, ◌*◌, length-append}
+use Rattle.pas_steps.proofs.{SpareRoom.Spares, Frames.right_own, Apart.no_events, Apart.only_both, Apart.only_within, Kept.deed_stays, Unknown.unknown_stays}
+use Rattle.pas_steps.proofs.{Evidence.unknown}
+use Rattle.std.proofs.Common.{ℕ, ◌+◌, ◌<◌, ◌≤◌, List, [], ◌++◌, refl, ◌∙◌, inl, inr, ◌⊎◌, arith, Option, ◌≡◌, true, Some, None, ap, sym, subst, append_assoc}
+use Rattle.std.proofs.Common.{true≢false, length, ◌*◌, length-append, Bool, append-nil}
 use Rattle.std.proofs.lemmas.Bool.{cases_lt, cases_eq}
-use Rattle.pas_profile.specs.declared.directory.Directory.{Directory}
-use Rattle.pas_profile.specs.declared.profile.Profile.{Profile}
-use Rattle.pas_steps.specs.Views.{View, known_deed, KnowsDeed}
-use Rattle.pas_steps.specs.Agreement.{Agreed}
-use Rattle.pas_steps.specs.Past.{Once, Always}
-use Rattle.pas_steps.specs.Kinds.{Only, kind_of, is_in}
+use Rattle.pas_profile.specs.declared.{directory.Directory.Directory, profile.Profile.Profile}
+use Rattle.pas_steps.specs.{Views.View, Views.known_deed, Views.KnowsDeed, Agreement.Agreed, Past.Once, Past.Always, Calls.Leads, Calls.nothing, Calls.Does}
+use Rattle.pas_steps.specs.{Lists.Whole, Lists.part, Lists.Legal}
+use Rattle.pas_steps.specs.Kinds.{Only, kind_of, is_in, looking}
 use Rattle.pas_scan.specs.Runs.{page_looks, HasUnusable, IsFirstRun, HasNoRun, IsInRun, FindsRun}
-use Rattle.pas_steps.specs.declared.step.Made.{Made}
+use Rattle.pas_steps.specs.declared.step.{Made.Made, Step.TheVariants.Deed}
 use Rattle.pas_steps.proofs.Past.{once_later, once_earlier, once_map, always_both, always_map}
 use Rattle.pas_scan.specs.Usable.{DeedReadHere, UnusableHere, LeftAlone, ParksNotHere, MakesNoDeedHere, ReadUsable}
 use Rattle.pas_scan.proofs.LeftPages.{usable_before, usable_later, unusable_before, left_alone_by, holds_own, deed_before, lacks_by}
-use Rattle.pas_steps.proofs.Frames.{right_own}
 use Rattle.pas_search.specs.Kinds.{ReturnsDuly}
 use Rattle.pas_search.proofs.Returns.{duly_both, duly_none}
 use Rattle.pas_large.specs.Evidence.{DeedsBelow, DeedsRise, LostHere, BrokenHere, BadHere, HasBad, IsVain, AllUsable, FailsHere, HasFailed, DeedsOf}
 use Rattle.pas_large.specs.Pages.{OnceAfter, GotPages, OnlyDeedsShow, claiming}
 use Rattle.pas_large.specs.Claims.{AloneFrom, FailsRun, in_span, MayClaimPages, HasRunRoom, LacksAll, ClaimsRun, HoldsRun}
-use Rattle.pas_steps.specs.Calls.{Leads, nothing, Does}
 use Rattle.pas_steps.specs.Desks.{Seat, Standing, Adds, CanCall, triples}
-use Rattle.pas_steps.specs.declared.step.Step.TheVariants.{Deed}
 use Rattle.pas_steps.proofs.Adding.{Tells, adds_none, adds_call, agreed_first, agreed_later, legal_after}
-use Rattle.pas_steps.proofs.Apart.{no_events, only_both, only_within}
 use Rattle.pas_steps.proofs.Calls.{does_none, leads_none, leads_idly, leads_then, does_then, still_clear}
-use Rattle.pas_steps.proofs.Kept.{deed_stays}
-use Rattle.pas_steps.proofs.Unknown.{unknown_stays}
-use Rattle.std.specs.Prelude.{Bool}
-use Rattle.std.proofs.lemmas.List.{append-nil}
-use Rattle.pas_profile.specs.Directories.{IsKind}
-use Rattle.pas_profile.specs.Profiles.{IsValid}
-use Rattle.pas_steps.specs.Kinds.{looking}
-use Rattle.pas_steps.specs.Lists.{Whole, part, Legal}
-use Rattle.pas_core.proofs.Nexts.{agreed_steps}
-use Rattle.pas_core.proofs.OneActor.{lends_none, legal_earlier}
+use Rattle.pas_profile.specs.{Directories.IsKind, Profiles.IsValid}
+use Rattle.pas_core.proofs.{Nexts.agreed_steps, OneActor.lends_none, OneActor.legal_earlier}
 use Rattle.pas_large.specs.Telling.{IsUsableRun, IsLowestRun}
 use Rattle.pas_large.proofs.Told.{usable_told, has_unusable, fails_told}
 use Rattle.pas_large.specs.Finds.{MayFind, FindRoom, finding, Finds}
 use Rattle.pas_large.proofs.Pages.{below_both, below_none, below_wider, from_none, rise_none, rise_both, shows_both, known_of}
 use Rattle.pas_large.proofs.Claims.{deeds_below, deeds_from, room_after, got_after}
-use Rattle.pas_steps.proofs.Evidence.{unknown}
 
 -- ---- the search of runs so far: each run that begins below page `from` can't serve, and the pages from there to below `next` were read as usable
 pub record VainSoFar (d : Directory) (n from next : ℕ) (steps : List Made) : Type 0 where
@@ -89,7 +76,7 @@ module _ (f : Profile) (d : Directory) (n from next first : ℕ) (some : 1 ≤ f
   before = ys ++ xs
 
   first_alone : AloneFrom first (ys ++ xs)
-  first_alone p ge = let low = found.from_there in alone_looks p ys xs looks (so_far.alone p (omega (arith, low, ge)))
+  first_alone p ge = alone_looks p ys xs looks (so_far.alone p (omega (arith, found.from_there, ge)))
 
   all_usable : AllUsable d n first (ys ++ xs)
   all_usable p here = let low = found.from_there in let ge = here.0 in elim (cases_lt p next) [
@@ -116,7 +103,7 @@ module _ (f : Profile) (d : Directory) (n from next first : ℕ) (some : 1 ≤ f
 
     vain_goes_on : VainSoFar d n (page + 1) (first + n) (zs ++ (ys ++ xs))
     vain_goes_on = record {
-      order = (let lt = fails.in_run.1 in omega (arith, lt), (let le = fails.in_run.0 in omega (arith, le)));
+      order = (omega (arith, fails.in_run.1), (omega (arith, fails.in_run.0)));
       runs = λ s low lt. elim (cases_lt s first) [
         | inl early ↦ lower_bad zs s low early
         | inr late ↦ let high = fails.in_run.1 in
@@ -126,7 +113,7 @@ module _ (f : Profile) (d : Directory) (n from next first : ℕ) (some : 1 ≤ f
         | inl below ↦ once_later (DeedReadHere p) zs before (once_later (DeedReadHere p) ys xs (so_far.deeds p low below))
         | inr above ↦ once_later (DeedReadHere p) zs before (deed_before p ys xs (found.deeds p above lt))
       ];
-      usable = λ p ge lt. usable_still zs p (let low = fails.in_run.0 in omega (arith, ge, low), lt);
+      usable = λ p ge lt. usable_still zs p (omega (arith, ge, fails.in_run.0), lt);
       alone = fails.alone before first_alone;
     }
 
@@ -210,7 +197,7 @@ module _ {σ σ1 : Standing} (d : Directory) (n from next : ℕ) (low : 1 ≤ fr
     abbrev ys : List Made
     ys = find.steps
 
-    pub look_adds : Adds σ σ2 (MayFind d) (ys ++ xs)
+    look_adds : Adds σ σ2 (MayFind d) (ys ++ xs)
     look_adds = adds_call so_far.adds find.adds (λ v l stood met. tt)
 
     look_still : Leads f (MayFind d) (Does nothing) (ys ++ xs)
@@ -255,13 +242,13 @@ module _ {σ σ1 : Standing} (d : Directory) (n from next : ℕ) (low : 1 ≤ fr
         let legal = legal_alone find (laws t) at.2 v l stood met in
         let only = looks_alone find at.2 in
         let none = subst (λ x. HasNoRun x d from next n find.steps) (same find) find.outcome in
-        (λ start low le usable. has_unusable f σ.seat.actor l d n start find.steps legal only (none.runs start (let one = at.0 in omega (arith, one, low)) le) usable, subst (Only looking) (sym (all_alone find at.2)) only);
+        (λ start low le usable. has_unusable f σ.seat.actor l d n start find.steps legal only (none.runs start (omega (arith, at.0, low)) le) usable, subst (Only looking) (sym (all_alone find at.2)) only);
     steps = find.steps ++ xs;
     adds = look_adds find;
     kinds = look_kinds find;
     returns = look_returns find;
     shows = look_shows find;
-    few = (let k = length-append find.steps xs in let a = find.few in let b = so_far.few in let within = so_far.within in let e = ap (λ (x : Profile). x.pages) (same find) in let le = so_far.vain.order.0 in omega (arith, k, a, b, within, e, le));
+    few = (let k = length-append find.steps xs in let e = ap (λ (x : Profile). x.pages) (same find) in omega (arith, k, find.few, so_far.few, so_far.within, e, so_far.vain.order.0));
     outcome = record {
       still = look_still find;
       vain = vain_ends f d n from next find.steps xs low so_far.vain (subst (λ x. HasNoRun x d from next n find.steps) (same find) find.outcome);
@@ -336,9 +323,9 @@ module _ {σ σ1 : Standing} (d : Directory) (n from next : ℕ) (low : 1 ≤ fr
 
     lowest_told : (l : Whole) → Legal f (triples σ.seat.actor find.steps ++ l) → (from ≡ 1) × (next ≡ 1) × (xs ≡ []) → IsLowestRun f d n l first
     lowest_told l legal at = record {
-      of_region = (let ge = run_at.from_there in omega (arith, ge, low), run_at.of_region);
+      of_region = (omega (arith, run_at.from_there, low), run_at.of_region);
       usable = usable_alone σ.seat.actor l legal at;
-      lowest = λ other some lt u. has_unusable f σ.seat.actor l d n other find.steps legal (looks_alone find at.2) (run_at.lower other (let one = at.0 in omega (arith, one, some)) lt) u;
+      lowest = λ other some lt u. has_unusable f σ.seat.actor l d n other find.steps legal (looks_alone find at.2) (run_at.lower other (omega (arith, at.0, some)) lt) u;
     }
 
     -- and its claim doesn't fail
@@ -375,11 +362,11 @@ module _ {σ σ1 : Standing} (d : Directory) (n from next : ℕ) (low : 1 ≤ fr
           kinds = claim_kinds claim;
           returns = claim_returns claim;
           rise = claim_rise claim;
-          below = below_both (page + 1) claim.steps ls (deeds_below d first (page + 1) (page + 1) claim.steps (omega arith) fails.made) (below_wider from (page + 1) ls (let ge = run_at.from_there in let le = fails.in_run.0 in omega (arith, ge, le)) (look_below find));
+          below = below_both (page + 1) claim.steps ls (deeds_below d first (page + 1) (page + 1) claim.steps (omega arith) fails.made) (below_wider from (page + 1) ls (omega (arith, run_at.from_there, fails.in_run.0)) (look_below find));
           shows = claim_shows claim;
           lacks = fails.lacks ls (look_lacks find);
           within = run_at.of_region;
-          few = (let k = length-append claim.steps ls in let j = length-append find.steps xs in let a = find.few in let b = so_far.few in let c = fails.few in let ge = run_at.from_there in omega (arith, k, j, a, b, c, ge));
+          few = (let k = length-append claim.steps ls in let j = length-append find.steps xs in omega (arith, k, j, find.few, so_far.few, fails.few, run_at.from_there));
           vain = vain_goes_on f d n from next first low find.steps xs so_far.vain find.kinds run_at page claim.steps fails can.view agreed;
           deeds = claim_deeds claim (λ other. HasFailed d n other (claim.steps ++ ls)) failed (λ s h. once_later _ claim.steps ls (once_later _ find.steps xs h));
         }
@@ -404,9 +391,9 @@ module _ {σ σ1 : Standing} (d : Directory) (n from next : ℕ) (low : 1 ≤ fr
           kinds = claim_kinds claim;
           returns = claim_returns claim;
           shows = claim_shows claim;
-          few = (let k = length-append claim.steps ls in let j = length-append find.steps xs in let a = find.few in let b = so_far.few in let c = holds_it.few in let ge = run_at.from_there in let region = run_at.of_region in omega (arith, k, j, a, b, c, ge, region));
+          few = (let k = length-append claim.steps ls in let j = length-append find.steps xs in omega (arith, k, j, find.few, so_far.few, holds_it.few, run_at.from_there, run_at.of_region));
           outcome = record {
-            of_region = (let ge = run_at.from_there in omega (arith, ge, low), run_at.of_region);
+            of_region = (omega (arith, run_at.from_there, low), run_at.of_region);
             got = record {
               from = λ v met agreed.
                   let before = agreed_later f v claim.steps ls agreed in

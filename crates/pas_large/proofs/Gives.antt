@@ -1,40 +1,28 @@
 -- The pages of a run are backed, its block is given, and they are left.
-use Rattle.std.proofs.Common.{◌≡◌, ℕ, zero, suc, ◌+◌, ◌-◌, ◌*◌, ◌/◌, ◌<◌, ◌≤◌, ◌==◌, true, if◌then◌else◌, List, [], ◌∷◌, ◌++◌, length, inl, inr, refl, ap, sym, ◌∙◌, subst, arith, length-append, true≢false, ◌^◌}
-use Rattle.std.proofs.lemmas.Bool.{cases_eq, eq-eqb, and_from}
-use Rattle.pas_profile.specs.Profiles.{IsPage, IsDirectoryOf}
-use Rattle.pas_profile.specs.declared.directory.Directory.{Directory}
-use Rattle.pas_profile.specs.declared.profile.Profile.{Profile}
+use Rattle.std.proofs.Common.{◌≡◌, ℕ, zero, suc, ◌+◌, ◌-◌, ◌*◌, ◌/◌, ◌<◌, ◌≤◌, ◌==◌, true, if◌then◌else◌, List, [], ◌∷◌, ◌++◌, length, inl, inr, refl, ap, sym}
+use Rattle.std.proofs.Common.{◌∙◌, subst, arith, length-append, true≢false, ◌^◌, eq-eqb}
+use Rattle.std.proofs.lemmas.Bool.{cases_eq, and_from}
+use Rattle.pas_profile.specs.{Profiles.IsPage, Profiles.IsDirectoryOf, Lives.turn_of, Blocks.grain_of, Blocks.length_of}
+use Rattle.pas_profile.specs.declared.{directory.Directory.Directory, profile.Profile.Profile, name.Block.Block}
 use Rattle.pas_profile.proofs.Codecs.{deed_word_of-positive}
-use Rattle.pas_rights.specs.Leaves.{MayLeave, Leaves}
-use Rattle.pas_steps.specs.Agreement.{Agrees}
-use Rattle.pas_steps.specs.Allowed.{Allowed}
+use Rattle.pas_rights.specs.Leaves.{MayLeave, Leaves, LeaveSteps}
+use Rattle.pas_steps.specs.{Agreement.Agrees, Allowed.Allowed, Events.events_by, Events.event_of, InTurn.InTurn}
 use Rattle.pas_steps.specs.Calls.{Calls, Kept, Lost, now, nothing, Does, ClearAfter}
 use Rattle.pas_steps.specs.Desks.{Standing, CanCall, CanMake, Makes, made}
-use Rattle.pas_steps.specs.Events.{events_by, event_of}
 use Rattle.pas_steps.specs.Kinds.{Backing, Only, Giving, LookLife}
 use Rattle.pas_steps.specs.Views.{View, holds, holds_on, has_right, knows_backed, KnowsDeed, epoch_of}
-use Rattle.pas_steps.specs.declared.step.Made.{Made}
-use Rattle.pas_steps.specs.declared.step.Step.TheVariants.{Back}
-use Rattle.pas_steps.proofs.Apart.{deeds_same}
-use Rattle.pas_steps.proofs.Kept.{any_from}
+use Rattle.pas_steps.specs.declared.step.{Made.Made, Step.TheVariants.Back}
+use Rattle.pas_steps.proofs.{Apart.deeds_same, Kept.any_from, Sets.both_fates, Sets.same_truth, Sets.kept_kept, Frames.with_few}
 use Rattle.pas_steps.proofs.Called.{call_none, call_step, call_then, next_call, call_as}
 use Rattle.pas_steps.proofs.Calls.{does_as, does_then, does_none, does_idly, does_after_nothing, kept_first}
-use Rattle.pas_steps.proofs.Sets.{both_fates, same_truth, kept_kept}
-use Rattle.pas_steps.proofs.Frames.{with_few}
 use Rattle.pas_large.proofs.Claims.{pages_call, call_knowing, span_wider, span_in, in_parts, span_past, span_none, span_more}
 use Rattle.pas_large.proofs.InOrder.{only_backs, backs_few}
-use Rattle.pas_large.specs.Claims.{in_span, HasPages}
-use Rattle.pas_rights.specs.Leaves.{LeaveSteps}
-use Rattle.pas_steps.specs.InTurn.{InTurn}
+use Rattle.pas_large.specs.{Claims.in_span, Claims.HasPages, Pages.of_pages}
 use Rattle.pas_large.specs.Gives.{BackStep, pages_from, BackedRun, BacksRun, MayLeaveRun, left_run, LeavesRun, run_block, given_run, GaveRun, GivesRun, LeftRun}
 use Rattle.pas_rights.specs.Gives.{MayGive, block_of, give_steps, GivesRun as GivesBlock}
 use Rattle.pas_rights.proofs.Gives.{bears_by}
-use Rattle.pas_profile.specs.Lives.{turn_of}
 use Rattle.pas_bits.specs.Runs.{in_run}
-use Rattle.pas_profile.specs.Blocks.{grain_of, length_of}
-use Rattle.pas_profile.specs.declared.name.Block.{Block}
 use Rattle.pas_bits.proofs.Runs.{run_of, to_run}
-use Rattle.pas_large.specs.Pages.{of_pages}
 
 -- ---- pages in turn
 none_in_turn : (P : ℕ → List Made → Type 0) (first : ℕ) → InTurn P (pages_from first (first - first)) []
@@ -102,7 +90,7 @@ module _ {σ σ1 : Standing} (d : Directory) (first end page : ℕ) (low : first
                 (and_from (if page == page then true else knows_backed (xs ++ v) page) (holds_on (made (Back page) a ∷ (xs ++ v)) page) (ap (λ t. if t then true else knows_backed (xs ++ v) page) (eq-eqb page page refl))
                 (any_from 256 (λ b. holds (made (Back page) a ∷ (xs ++ v)) (page * 256 + b)) 0 (omega arith) (step.held (page * 256 + 0) ∙ held_here v met old (page * 256 + 0) (omega arith))));
           }
-          | inr ne ↦ step.backed g refl (old.bears g (let at = in_parts first (page + 1) (g / 256) is in let lt = at.1 in span_in first page (g / 256) at.0 (omega (arith, lt, ne))))
+          | inr ne ↦ step.backed g refl (old.bears g (let at = in_parts first (page + 1) (g / 256) is in span_in first page (g / 256) at.0 (omega (arith, at.1, ne))))
         ];
       }
 
@@ -147,7 +135,7 @@ left_run_more d first page low so_far h =
       steps = h.steps ++ so_far.steps;
       calls = call_as (LeftRun d first (page + 1)) (call_knowing d (in_span first (page + 1)) calls (λ v met. met.deeds)) (λ v met. met) (λ v w met left. record { does = left.0; deeds = left.1 });
       order = more_in_turn (λ q piece. LeaveSteps q d piece) first page (page + 1) h.steps so_far.steps low refl h.order so_far.order;
-      few = let n = length-append h.steps so_far.steps in let a = h.few in let b = so_far.few in omega (arith, n, a, b, low);
+      few = let n = length-append h.steps so_far.steps in omega (arith, n, h.few, so_far.few, low);
     }
 
 -- ---- room for the backs
@@ -159,8 +147,8 @@ back_events k v (m ∷ more) = let rest = back_events k v more in let one = with
 -- the grains of a run of pages
 run_span : (first n g : ℕ) → in_run (first * 256 + 0) (n * 256) g ≡ in_span first (first + n) (g / 256)
 run_span first n g = same_truth (in_run (first * 256 + 0) (n * 256) g) (in_span first (first + n) (g / 256))
-    (λ h. let at = run_of (first * 256 + 0) (n * 256) g h in let a = at.0 in let b = at.1 in span_in first (first + n) (g / 256) (omega (arith, a)) (omega (arith, b)))
-    (λ h. let at = in_parts first (first + n) (g / 256) h in let a = at.0 in let b = at.1 in to_run (first * 256 + 0) (n * 256) g (omega (arith, a)) (omega (arith, b)))
+    (λ h. let at = run_of (first * 256 + 0) (n * 256) g h in span_in first (first + n) (g / 256) (omega (arith, at.0)) (omega (arith, at.1)))
+    (λ h. let at = in_parts first (first + n) (g / 256) h in to_run (first * 256 + 0) (n * 256) g (omega (arith, at.0)) (omega (arith, at.1)))
 
 pub run_is : (d : Directory) (first n word g : ℕ) → in_run (grain_of (run_block d first n word).name) (length_of (run_block d first n word)) g ≡ in_span first (first + n) (g / 256)
 run_is d first n word g =
@@ -226,7 +214,7 @@ module _ {σ σ1 : Standing} (d : Directory) (first n : ℕ) (backs : BacksRun d
       block_is = is_run_block d first n give.word block give.block_is;
       left = left.steps;
       left_order = run_in_turn (λ page piece. LeaveSteps page d piece) first n left.steps left.order;
-      few = let a = length-append left.steps (gs ++ backs.steps) in let b = backs_few first n backs.steps order in let c = left.few in omega (arith, a, b, c);
+      few = let a = length-append left.steps (gs ++ backs.steps) in let b = backs_few first n backs.steps order in omega (arith, a, b, left.few);
       calls = call_then (GaveRun d first n block) given_call left.calls (λ v met given. given.leave)
           (λ v met given left. record {
             does = does_as (of_pages (in_span first (first + n)) Lost) (does_then given.does left.does) (λ g. inl refl) (λ q. kept_first (if in_span first (first + n) q then Lost else Kept)) (λ q h. h);

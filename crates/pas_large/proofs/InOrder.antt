@@ -1,13 +1,10 @@
 -- The steps for the pages of a run in their order: which steps they are, and how many.
 use Rattle.std.proofs.Common.{◌≡◌, ℕ, zero, suc, ◌+◌, ◌<◌, ◌≤◌, true, List, [], ◌∷◌, ◌++◌, length, refl, ap, sym, ◌∙◌, subst, arith, length-append}
 use Rattle.pas_profile.specs.declared.directory.Directory.{Directory}
-use Rattle.pas_steps.specs.InTurn.{InTurn}
+use Rattle.pas_steps.specs.{InTurn.InTurn, Past.Always}
 use Rattle.pas_steps.specs.Kinds.{Backing, Only, returning, kind_of, is_in}
-use Rattle.pas_steps.specs.Past.{Always}
-use Rattle.pas_steps.specs.declared.step.Made.{Made}
-use Rattle.pas_steps.specs.declared.step.Step.TheVariants.{Back}
-use Rattle.pas_steps.proofs.Calls.{returns_are}
-use Rattle.pas_steps.proofs.Past.{always_map, in_turn_always}
+use Rattle.pas_steps.specs.declared.step.{Made.Made, Step.TheVariants.Back}
+use Rattle.pas_steps.proofs.{Calls.returns_are, Past.always_map, Past.in_turn_always}
 use Rattle.pas_rights.specs.Leaves.{LeaveSteps}
 use Rattle.pas_rights.proofs.Orders.{leave_returns}
 use Rattle.pas_large.specs.Gives.{BackStep, pages_from}
@@ -26,7 +23,7 @@ backs_in first (suc n) steps h =
     subst (BacksIn first (first + suc n)) (sym (h.4 ∙ ap (λ piece. piece ++ h.1) h.2.1)) (
       (λ page e. let same : first + n ≡ page = cc in (omega (arith, same), omega (arith, same))),
       always_map (λ m before. (page : ℕ) → m.step ≡ Back page → (first ≤ page) × (page < first + n)) (λ m before. (page : ℕ) → m.step ≡ Back page → (first ≤ page) × (page < first + suc n)) h.1
-          (λ m before its page e. let at = its page e in let high = at.1 in (at.0, omega (arith, high))) (backs_in first n h.1 h.3),
+          (λ m before its page e. let at = its page e in (at.0, omega (arith, at.1))) (backs_in first n h.1 h.3),
     )
 
 pub backs_few : (first n : ℕ) (steps : List Made) → InTurn BackStep (pages_from first n) steps → length steps ≤ n

@@ -1,35 +1,25 @@
 -- What a claim without a deed gets of a page, and what is left of it: the page is as it was for the steps of the call, or it was broken.
-use Rattle.std.proofs.Common.{◌≡◌, ◌≢◌, ℕ, zero, suc, ◌+◌, ◌*◌, ◌/◌, ◌%◌, ◌<◌, ◌==◌, Bool, true, false, ◌||◌, if◌then◌else◌, MatchBool, List, [], ◌∷◌, ◌++◌, ◌⊎◌, inl, inr, slice_index, refl, ap, sym, ◌∙◌, subst, arith, append_assoc, true≢false}
-use Rattle.std.proofs.lemmas.Bool.{and_from, cases_Bool, cases_eq, cond_both, eq-eqb}
+use Rattle.std.proofs.Common.{◌≡◌, ◌≢◌, ℕ, zero, suc, ◌+◌, ◌*◌, ◌/◌, ◌%◌, ◌<◌, ◌==◌, Bool, true, false, ◌||◌, if◌then◌else◌, MatchBool, List, [], ◌∷◌, ◌++◌}
+use Rattle.std.proofs.Common.{◌⊎◌, inl, inr, slice_index, refl, ap, sym, ◌∙◌, subst, arith, append_assoc, true≢false, eq-eqb}
+use Rattle.std.proofs.lemmas.Bool.{and_from, cases_Bool, cases_eq, cond_both}
 use Rattle.pas_bits.specs.declared.mask.Mask4.{Mask4}
-use Rattle.pas_bits.specs.Masks.{is_set}
+use Rattle.pas_bits.specs.{Masks.is_set, Bits.has_bit}
 use Rattle.pas_bits.proofs.Words.{at_word}
-use Rattle.pas_bits.specs.Bits.{has_bit}
 use Rattle.pas_profile.specs.Directories.{IsDirectory}
 use Rattle.pas_profile.specs.declared.directory.Directory.{Directory}
-use Rattle.pas_rights.specs.Leaves.{EndsLeave, LeaveSteps}
+use Rattle.pas_rights.specs.{Leaves.EndsLeave, Leaves.LeaveSteps, Puts.masked, Puts.WordPut, Puts.PutsBelow, PutsBack.giving_back, PutsBack.GivesDuly}
+use Rattle.pas_rights.specs.{PutsBack.PutsAndLeaves, Words.words, Words.full}
 use Rattle.pas_rights.specs.Looks.{looks, HasUsable, HasNoUsable, HintsEmpty, HintsWhere, ReadsBacked, ReadsAllFree, TakesNone}
-use Rattle.pas_rights.specs.Puts.{masked, WordPut, PutsBelow}
-use Rattle.pas_rights.specs.PutsBack.{giving_back, GivesDuly, PutsAndLeaves}
-use Rattle.pas_rights.specs.Words.{words, full}
-use Rattle.pas_rights.proofs.Hints.{leave_due}
+use Rattle.pas_rights.proofs.{Hints.leave_due, Orders.parked_on, Orders.leave_returns, Puts.none_in, Puts.in_word, Puts.puts_kinds}
 use Rattle.pas_rights.proofs.Looks.{looks_only, looks_read, none_used, on_full}
-use Rattle.pas_rights.proofs.Orders.{parked_on, leave_returns}
-use Rattle.pas_rights.proofs.Puts.{none_in, in_word, puts_kinds}
-use Rattle.pas_steps.specs.Desks.{Standing, made}
-use Rattle.pas_steps.specs.Effects.{in_mask}
+use Rattle.pas_steps.specs.{Desks.Standing, Desks.made, Effects.in_mask, Past.Once, Past.Always}
 use Rattle.pas_steps.specs.Evidence.{Readings, OneHere, ShowsHere, KeptHere, GetsHere}
 use Rattle.pas_steps.specs.Frames.{IsOnPage, OnlyOn, GivesUp, KeepsRight}
 use Rattle.pas_steps.specs.Kinds.{Kinds, LookFree, Deeding, Taking, Giving, Ending, Putting, Parking, kind_of, is_in, Only, returning}
-use Rattle.pas_steps.specs.Past.{Once, Always}
 use Rattle.pas_steps.specs.Views.{View, Puts, Stays, grain_move, held_after, holds, has_right}
-use Rattle.pas_steps.specs.declared.step.Made.{Made}
-use Rattle.pas_steps.specs.declared.step.Step.{Step}
+use Rattle.pas_steps.specs.declared.step.{Made.Made, Step.Step}
 use Rattle.pas_steps.specs.declared.step.Step.TheVariants.{Deed, Put, Offer, Park}
-use Rattle.pas_steps.proofs.Apart.{holds_over, holds_same, rights_same}
-use Rattle.pas_steps.proofs.Calls.{returns_are}
-use Rattle.pas_steps.proofs.Frames.{right_own}
-use Rattle.pas_steps.proofs.Kept.{right_on, holds_on_page}
+use Rattle.pas_steps.proofs.{Apart.holds_over, Apart.holds_same, Apart.rights_same, Calls.returns_are, Frames.right_own, Kept.right_on, Kept.holds_on_page}
 use Rattle.pas_steps.proofs.Past.{always_both, always_map, once_earlier, once_later}
 use Rattle.pas_scan.specs.Usable.{OfHere, ParksNotHere, IsFresh, MakesNoDeedHere, LeftAlone}
 use Rattle.pas_scan.proofs.LeftPages.{holds_own, since_earlier}
@@ -59,7 +49,7 @@ OffPage p = Always (λ m before. (q : ℕ) × (p ≢ q) × IsOnPage q m.step)
 pub off_on : (q p : ℕ) (ys : List Made) → p ≢ q → OnlyOn q ys → OffPage p ys
 off_on q p ys ne = always_map (λ m before. IsOnPage q m.step) (λ m before. (r : ℕ) × (p ≢ r) × IsOnPage r m.step) ys (λ m before on. (q, ne, on))
 
-pub off_right : (p : ℕ) (ys xs : List Made) → OffPage p ys → has_right (ys ++ xs) p ≡ has_right xs p
+off_right : (p : ℕ) (ys xs : List Made) → OffPage p ys → has_right (ys ++ xs) p ≡ has_right xs p
 off_right p [] xs off = refl
 off_right p (m ∷ ys) xs off = right_on off.0.0 p (m ∷ []) (ys ++ xs) (off.0.2, tt) off.0.1 ∙ off_right p ys xs off.1
 

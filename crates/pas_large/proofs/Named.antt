@@ -1,14 +1,10 @@
 -- The claim of the run that a door names.
-use Rattle.std.proofs.Common.{◌≡◌, ℕ, ◌+◌, ◌*◌, ◌≤◌, false, [], Option, Some, None, refl, ap, sym, ◌∙◌, subst, arith}
-use Rattle.std.proofs.lemmas.List.{append-nil}
+use Rattle.std.proofs.Common.{◌≡◌, ℕ, ◌+◌, ◌*◌, ◌≤◌, false, [], Option, Some, None, refl, ap, sym, ◌∙◌, subst, arith, append-nil}
 use Rattle.pas_profile.specs.declared.directory.Directory.{Directory}
-use Rattle.pas_steps.specs.Desks.{Standing}
-use Rattle.pas_steps.specs.Views.{View}
-use Rattle.pas_steps.proofs.Adding.{adds_under}
-use Rattle.pas_steps.proofs.Calls.{leads_as}
+use Rattle.pas_steps.specs.{Desks.Standing, Views.View}
+use Rattle.pas_steps.proofs.{Adding.adds_under, Calls.leads_as}
 use Rattle.pas_large.specs.Claims.{ClaimsRun, HoldsSpan, LacksAll, MayClaimPages}
-use Rattle.pas_large.specs.Finds.{MayFind}
-use Rattle.pas_large.specs.Named.{missed_steps, ClaimsNamed}
+use Rattle.pas_large.specs.{Finds.MayFind, Named.missed_steps, Named.ClaimsNamed}
 use Rattle.pas_scan.specs.Runs.{IsInRun}
 use Rattle.pas_large.proofs.Claims.{alone_at_first}
 
@@ -16,7 +12,7 @@ use Rattle.pas_large.proofs.Claims.{alone_at_first}
 may_claim_named : (d : Directory) (first end : ℕ) (v : View) → MayFind d v → MayClaimPages d first end v
 may_claim_named d first end v met = record { lacks = λ p low high knows. met.lacks p knows; clear = met.clear }
 
-pub some_none : (first : ℕ) (found : Option ℕ) → found ≡ Some first → found ≡ None → ⊥
+some_none : (first : ℕ) (found : Option ℕ) → found ≡ Some first → found ≡ None → ⊥
 some_none first found named none = cc
 
 -- what may be spent with a run that was named
@@ -36,7 +32,7 @@ holds_named d n first found named region claim = record {
     got = leads_as claim.outcome.got (λ v met. may_claim_named d first (first + n) v met) (λ v w met got. got);
     of = claim.of refl refl;
     holding = subst (HoldsSpan first (first + n)) (append-nil claim.steps) (claim.outcome.holding [] (alone_at_first first));
-    few = (let few = claim.outcome.few in omega (arith, few));
+    few = (omega (arith, claim.outcome.few));
   };
 }
 
@@ -53,6 +49,6 @@ misses_named d n first page found named claim = record {
     still = leads_as claim.outcome.still (λ v met. may_claim_named d first (first + n) v met) (λ v w met does. does);
     lacks = subst LacksAll (append-nil claim.steps) (claim.outcome.lacks [] (λ p. refl));
     left = claim.outcome.left refl;
-    few = (let few = claim.outcome.few in let lt = claim.outcome.in_run.1 in let most = named_steps n first found named in omega (arith, few, lt, most));
+    few = (let most = named_steps n first found named in omega (arith, claim.outcome.few, claim.outcome.in_run.1, most));
   };
 }

@@ -1,25 +1,15 @@
 -- A request for whole pages, however its run was found: what its steps did.
-use Rattle.std.proofs.Common.{◌≡◌, ℕ, ◌+◌, ◌≤◌, true, List, ◌++◌, ◌∷◌, [], length, Option, Result, MatchResult, Ok, Err, inl, inr, refl, ap, sym, ◌∙◌, subst, true≢false, append_assoc, ◌⊎◌}
-use Rattle.pas_profile.specs.declared.directory.Directory.{Directory}
-use Rattle.pas_profile.specs.declared.event.NoRoom.{NoRoom}
-use Rattle.pas_profile.specs.declared.name.Block.{Block}
-use Rattle.pas_profile.specs.declared.profile.Profile.{Profile}
-use Rattle.pas_steps.specs.Calls.{Leads, nothing, Does}
-use Rattle.pas_steps.specs.Frames.{OnlyScans}
+use Rattle.std.proofs.Common.{◌≡◌, ℕ, ◌+◌, ◌≤◌, true, List, ◌++◌, ◌∷◌, [], length, Option, Result, MatchResult, Ok, Err, inl, inr, refl, ap, sym, ◌∙◌, subst}
+use Rattle.std.proofs.Common.{true≢false, append_assoc, ◌⊎◌}
+use Rattle.pas_profile.specs.declared.{directory.Directory.Directory, event.NoRoom.NoRoom, name.Block.Block, profile.Profile.Profile}
+use Rattle.pas_steps.specs.{Calls.Leads, Calls.nothing, Calls.Does, Frames.OnlyScans, Past.Always}
 use Rattle.pas_steps.specs.Kinds.{Backing, Only, returning, kind_of, is_in}
-use Rattle.pas_steps.specs.Past.{Always}
-use Rattle.pas_steps.specs.declared.step.Made.{Made}
-use Rattle.pas_steps.specs.declared.step.Step.TheVariants.{Deed}
-use Rattle.pas_steps.proofs.Apart.{only_both, only_within}
-use Rattle.pas_steps.proofs.Past.{always_map}
+use Rattle.pas_steps.specs.declared.step.{Made.Made, Step.TheVariants.Deed}
+use Rattle.pas_steps.proofs.{Apart.only_both, Apart.only_within, Past.always_map}
 use Rattle.pas_large.specs.Allocates.{GaveLarge, IsAllocatedLarge, IsRefusedLarge, IsServedNamed, IsScanned}
-use Rattle.pas_large.specs.Evidence.{DeedsOf}
-use Rattle.pas_large.specs.Finds.{MayFind, finding}
+use Rattle.pas_large.specs.{Evidence.DeedsOf, Finds.MayFind, Finds.finding, Gives.pages_from, Gives.run_block, Pages.OnlyDeedsShow, Pages.claiming_old}
 use Rattle.pas_rights.specs.Gives.{give_steps}
-use Rattle.pas_large.specs.Gives.{pages_from, run_block}
-use Rattle.pas_large.specs.Pages.{OnlyDeedsShow, claiming_old}
-use Rattle.pas_large.proofs.InOrder.{only_backs, backs_few, only_leaves}
-use Rattle.pas_large.proofs.Pages.{shows_both}
+use Rattle.pas_large.proofs.{InOrder.only_backs, InOrder.backs_few, InOrder.only_leaves, Pages.shows_both}
 
 -- each deed that was made is of the directory
 abbrev pub MadeOf : Directory → List Made → Type 0

@@ -1,19 +1,15 @@
 -- The claim of one page: its right and its grains, and how it is left.
-use Rattle.std.proofs.Common.{◌≡◌, ℕ, ◌==◌, Bool, true, false, if◌then◌else◌, [], ◌∷◌, ◌++◌, inl, refl, ◌∙◌, subst, arith, length-append, ap, append_assoc, ◌⊎◌, ◌+◌, ◌*◌, ◌/◌, ◌%◌, ◌<◌, ◌≤◌, ◌&&◌, List, inr, sym, true≢false, ◌≢◌, length, Some, None, MatchBool}
-use Rattle.std.proofs.lemmas.Bool.{eqb-true, eq-eqb, ne_eqb, eqb-false, cases_eq, cases_Bool, and_parts, and_from}
-use Rattle.pas_profile.specs.declared.directory.Directory.{Directory}
+use Rattle.std.proofs.Common.{◌≡◌, ℕ, ◌==◌, Bool, true, false, if◌then◌else◌, [], ◌∷◌, ◌++◌, inl, refl, ◌∙◌, subst, arith, length-append, ap, append_assoc, ◌⊎◌}
+use Rattle.std.proofs.Common.{◌+◌, ◌*◌, ◌/◌, ◌%◌, ◌<◌, ◌≤◌, ◌&&◌, List, inr, sym, true≢false, ◌≢◌, length, Some, None, MatchBool, eqb-true, eq-eqb, ne_eqb}
+use Rattle.std.proofs.Common.{append-nil}
+use Rattle.std.proofs.lemmas.Bool.{eqb-false, cases_eq, cases_Bool, and_parts, and_from}
+use Rattle.pas_profile.specs.declared.{directory.Directory.Directory, profile.Profile.Profile, event.Event.Event, word.Word.Word}
 use Rattle.pas_bits.specs.declared.mask.Mask4.{Mask4}
 use Rattle.pas_bits.proofs.Words.{at_word}
-use Rattle.pas_rights.specs.Leaves.{LosesHere}
-use Rattle.pas_rights.specs.Puts.{masked}
+use Rattle.pas_rights.specs.{Leaves.LosesHere, Puts.masked, Takes.GetsGrains, Takes.TakesMask, Takes.takes, Words.words, Words.full, Claims.Claims}
 use Rattle.pas_rights.specs.PutsBack.{giving_back, taking_grains, GivesDuly, MayPutAndLeave, PutsAndLeaves}
-use Rattle.pas_rights.specs.Takes.{GetsGrains, TakesMask, takes}
-use Rattle.pas_rights.specs.Words.{words, full}
-use Rattle.pas_rights.proofs.Hints.{due_none, put_and_leave_due}
-use Rattle.pas_rights.proofs.Puts.{puts_kinds}
-use Rattle.pas_rights.proofs.Looks.{full_set, full_word}
+use Rattle.pas_rights.proofs.{Hints.due_none, Hints.put_and_leave_due, Puts.puts_kinds, Looks.full_set, Looks.full_word, Words.keeps_by}
 use Rattle.pas_rights.proofs.Takes.{takes_only, takes_on, takes_keep, takes_few, takes_right, takes_leave, takes_got, takes_read}
-use Rattle.pas_rights.proofs.Words.{keeps_by}
 use Rattle.pas_steps.specs.Calls.{Calls, Kept, Lost, later, Does, ClearAfter, Gained, now, Fate, nothing}
 use Rattle.pas_steps.specs.Desks.{Standing, CanCall, AnyView, Makes, Adds, made}
 use Rattle.pas_steps.specs.Frames.{IsOnPage, KeepsRight, IsRead, GivesUp}
@@ -24,37 +20,23 @@ use Rattle.pas_steps.proofs.Called.{call_as, call_then, next_call, call_knows}
 use Rattle.pas_steps.proofs.Calls.{does_as, does_then, kept_first, does_on_page, leads_as, leads_at, leads_idly, owes_over, unexamined_over}
 use Rattle.pas_steps.proofs.Kept.{looks_read, right_reads, deed_stays, knows_still}
 use Rattle.pas_steps.proofs.Past.{always_both, always_pair, once_later, once_earlier, always_map, once_map}
-use Rattle.pas_large.specs.Pages.{OnceAfter, TookPage, TakesPage, getting, DeedsOn, OnlyDeedsShow, GetsPage, MayClaim, of_pages, GotPages, getting_old, claiming, claiming_old, IsClaimed, ClaimsPage, GetsRightOf, LosesRightOf}
-use Rattle.pas_bits.specs.Bits.{has_bit}
-use Rattle.pas_profile.specs.declared.profile.Profile.{Profile}
-use Rattle.pas_bits.specs.Masks.{is_set, AllSetBelow, IsLowestClear}
+use Rattle.pas_large.specs.Pages.{OnceAfter, TookPage, TakesPage, getting, DeedsOn, OnlyDeedsShow, GetsPage, MayClaim, of_pages, GotPages, getting_old}
+use Rattle.pas_large.specs.Pages.{claiming, claiming_old, IsClaimed, ClaimsPage, GetsRightOf, LosesRightOf}
+use Rattle.pas_bits.specs.{Bits.has_bit, Masks.is_set, Masks.AllSetBelow, Masks.IsLowestClear}
 use Rattle.pas_steps.specs.Evidence.{GetsHere, ShowsHere, KeptHere, ReadsDeed, GetsRight, NoDeedHere}
-use Rattle.pas_steps.specs.Past.{Once, Since, Always}
-use Rattle.pas_steps.specs.declared.step.Made.{Made}
-use Rattle.pas_steps.proofs.Frames.{rights_stay, events_append}
+use Rattle.pas_steps.specs.{Past.Once, Past.Since, Past.Always, Agreement.Agreed, Events.with_event, Events.events_by, Unknown.unknown_pages}
+use Rattle.pas_steps.specs.declared.step.{Made.Made, Step.Step, Step.TheVariants.Look, Step.TheVariants.Deed, Step.TheVariants.TakeRight}
+use Rattle.pas_steps.proofs.{Frames.rights_stay, Frames.events_append, Unknown.unknown_stays, Unknown.unknown_less, Evidence.deed_known, Sets.got_lost}
 use Rattle.pas_search.specs.Serving.{MayServe, HoldsNone, GotBefore, right_of}
 use Rattle.pas_search.proofs.Returns.{duly_none, duly_on}
 use Rattle.pas_large.specs.Evidence.{BrokenHere, TakenWholeHere, LostRightHere, LostHere, DeedsBelow, DeedsRise, MissedHere}
-use Rattle.pas_profile.specs.Directories.{number_of, deed_word_of}
-use Rattle.pas_profile.specs.Profiles.{IsPage}
-use Rattle.pas_profile.specs.declared.event.Event.{Event}
-use Rattle.pas_profile.specs.declared.word.Word.TheVariants as Word
+use Rattle.pas_profile.specs.{Directories.number_of, Directories.deed_word_of, Profiles.IsPage}
 use Rattle.pas_profile.proofs.Codecs.{deed_word_of-positive}
-use Rattle.pas_steps.specs.Agreement.{Agreed}
-use Rattle.pas_steps.specs.Events.{with_event, events_by}
-use Rattle.pas_steps.specs.declared.step.Step.{Step}
-use Rattle.pas_steps.specs.declared.step.Step.TheVariants.{Look, Deed, TakeRight}
 use Rattle.pas_steps.proofs.Adding.{adds_none, adds_step, adds_call, adds_under, agreed_first, agreed_later}
-use Rattle.pas_steps.proofs.Unknown.{unknown_stays, unknown_less}
-use Rattle.pas_rights.specs.Claims.{Claims}
 use Rattle.pas_scan.specs.Runs.{page_looks}
 use Rattle.pas_scan.specs.Usable.{OfHere, ReadUsable, MakesNoDeedHere, LeftAlone}
 use Rattle.pas_scan.proofs.LeftPages.{left_alone_by}
-use Rattle.std.proofs.lemmas.List.{append-nil}
-use Rattle.pas_steps.specs.Unknown.{unknown_pages}
 use Rattle.pas_large.specs.declared.claiming.Claimed.{Claimed}
-use Rattle.pas_steps.proofs.Evidence.{deed_known}
-use Rattle.pas_steps.proofs.Sets.{got_lost}
 use Rattle.std.proofs.Math.Bool.{and-true}
 use Rattle.pas_core.proofs.Deeds.{looked}
 use Rattle.pas_large.proofs.Left.{deeds_none, deeds_both, parks_none, parks_kept, parks_both, nothing_held}
@@ -179,7 +161,7 @@ module _ (d : Directory) (page : ℕ) (got : Mask4) {σ σ1 : Standing} (taken :
       on = always_both (λ m before. IsOnPage page m.step) (λ m before. IsOnPage page m.step) (back.after ++ back.puts) ts (λ m before h. h) back.on (takes_on page (words full) answers 4);
       kinds = only_both taking_grains (back.after ++ back.puts) ts (only_within giving_back taking_grains (back.after ++ back.puts) refl back.kinds) (only_within (Taking ∷ []) taking_grains ts refl (takes_only page (words full) answers 4));
       due = put_and_leave_due page d got ts (takes_got page full taken.answers got taken.got_is) ts_due back;
-      few = let n = length-append (back.after ++ back.puts) ts in let a = back.few in let b = takes_few page (words full) answers 4 in omega (arith, n, a, b);
+      few = let n = length-append (back.after ++ back.puts) ts in let b = takes_few page (words full) answers 4 in omega (arith, n, back.few, b);
       outcome = record { leads = left_call.leads; lacks = λ before. ap (λ s. has_right s page) (append_assoc (back.after ++ back.puts) ts before) ∙ back.lacks (ts ++ before); none = all_back; broken = broken };
     }
 
@@ -335,7 +317,7 @@ claim_lost deeds d page get = record {
   kinds = only_within getting claiming get.steps refl get.kinds;
   old = λ none. only_within getting_old claiming_old get.steps refl (get.old none);
   returns = duly_none getting get.steps refl refl get.kinds;
-  few = let few = get.few in omega (arith, few);
+  few = omega (arith, get.few);
   made = get.made;
   rise = get.rise;
   shows = get.shows;
@@ -369,7 +351,7 @@ below_wider a b steps le = always_map (BelowHere a) (BelowHere b) steps (λ m be
 pub below_both : (end : ℕ) (ys xs : List Made) → DeedsBelow end ys → DeedsBelow end xs → DeedsBelow end (ys ++ xs)
 below_both end ys xs = always_both (BelowHere end) (BelowHere end) ys xs (λ m before h. h)
 
-pub below_on : (d : Directory) (page : ℕ) (steps : List Made) → DeedsOn d page steps → DeedsBelow (page + 1) steps
+below_on : (d : Directory) (page : ℕ) (steps : List Made) → DeedsOn d page steps → DeedsBelow (page + 1) steps
 below_on d page steps = always_map (MadeHere d page) (BelowHere (page + 1)) steps (λ m before h p e same z. let at = (h p e same z).1 in omega (arith, at))
 
 pub from_on : (d : Directory) (page : ℕ) (steps : List Made) → DeedsOn d page steps → DeedsFrom page steps
@@ -433,7 +415,7 @@ module _ (deeds : Bool) (d : Directory) (page : ℕ) {σ σ1 : Standing} (get : 
     no_deed : deeds ≡ false → Always (MakesNoDeedHere page) all
     no_deed none = deeds_both page takes.steps get.steps (deeds_none taking_grains page takes.steps refl takes.kinds) (deeds_none getting_old page get.steps refl (get.old none))
 
-    pub claims : (claimed : Claimed) → IsClaimed deeds σ.seat.profile d page (takes.steps ++ get.steps) claimed → ClaimsPage deeds d page σ σ2 claimed
+    claims : (claimed : Claimed) → IsClaimed deeds σ.seat.profile d page (takes.steps ++ get.steps) claimed → ClaimsPage deeds d page σ σ2 claimed
     claims claimed outcome = record {
       steps = all;
       adds = all_adds;
@@ -441,7 +423,7 @@ module _ (deeds : Bool) (d : Directory) (page : ℕ) {σ σ1 : Standing} (get : 
       kinds = only_both claiming takes.steps get.steps (only_within taking_grains claiming takes.steps refl takes.kinds) (only_within getting claiming get.steps refl get.kinds);
       old = λ none. only_both claiming_old takes.steps get.steps (only_within taking_grains claiming_old takes.steps refl takes.kinds) (only_within getting_old claiming_old get.steps refl (get.old none));
       returns = duly_on page takes.steps get.steps takes.on takes.due just_before.got (duly_none getting get.steps refl refl get.kinds);
-      few = let n = length-append takes.steps get.steps in let a = takes.few in let b = get.few in omega (arith, n, a, b);
+      few = let n = length-append takes.steps get.steps in omega (arith, n, takes.few, get.few);
       rise = rise_both (page + 1) takes.steps get.steps (rise_none taking_grains takes.steps refl takes.kinds) get.rise (from_none taking_grains (page + 1) takes.steps refl takes.kinds) (below_on d page get.steps get.made);
       made = always_both (MadeHere d page) (MadeHere d page) takes.steps get.steps (λ m before h. h) (no_deeds taking_grains d page takes.steps refl takes.kinds) get.made;
       shows = shows_both σ.seat.profile takes.steps get.steps (shows_taking σ.seat.profile takes.steps takes.kinds) get.shows;
@@ -457,7 +439,7 @@ module _ (deeds : Bool) (d : Directory) (page : ℕ) {σ σ1 : Standing} (get : 
   claim_whole takes =
       let took = leads_at {R = TookPage page} get.adds.seat_is takes.outcome.leads in
       claims takes Claimed.Whole (record {
-        few = let n = length-append takes.steps get.steps in let a = takes.outcome.few in let b = get.few in omega (arith, n, a, b);
+        few = let n = length-append takes.steps get.steps in omega (arith, n, takes.outcome.few, get.few);
         leads = record {
           from = λ v met agreed.
               let f = σ.seat.profile in let zs = takes.steps in

@@ -1,35 +1,23 @@
 -- The reason of a refusal: the eligible words, and then the verdict.
 use Rattle.pas_large.proofs.Pages.{since_more}
-use Rattle.std.proofs.Common.{◌≡◌, ◌≢◌, ℕ, ◌+◌, ◌/◌, ◌%◌, ◌<◌, Bool, true, false, List, ◌∷◌, length, inl, inr, refl, ap, sym, ◌∙◌, subst, arith, MatchBool, ◌≤◌, [], ◌++◌, append_assoc, true≢false, length-append, ◌*◌}
-use Rattle.std.proofs.Math.ListN.{set, get_or}
-use Rattle.std.proofs.lemmas.List.{get_or-set_same, get_or-set_other}
-use Rattle.std.proofs.lemmas.Bool.{MatchBool-at_false, cases_lt}
+use Rattle.std.proofs.Common.{◌≡◌, ◌≢◌, ℕ, ◌+◌, ◌/◌, ◌%◌, ◌<◌, Bool, true, false, List, ◌∷◌, length, inl, inr, refl, ap, sym, ◌∙◌, subst, arith, MatchBool, ◌≤◌}
+use Rattle.std.proofs.Common.{[], ◌++◌, append_assoc, true≢false, length-append, ◌*◌, get_or-set_same, get_or-set_other}
+use Rattle.std.proofs.{Math.ListN.set, Math.ListN.get_or, lemmas.Bool.MatchBool-at_false, lemmas.Bool.cases_lt}
 use Rattle.pas_bits.specs.Bits.{has_bit}
 use Rattle.pas_profile.specs.Directories.{number_of}
-use Rattle.pas_profile.specs.declared.directory.Directory.{Directory}
-use Rattle.pas_profile.specs.declared.word.Word.TheVariants as Word
-use Rattle.pas_steps.specs.Past.{Once, Always, Since}
-use Rattle.pas_steps.specs.Frames.{OnlyScans, IsScan}
-use Rattle.pas_steps.specs.Desks.{made, Seat, Standing}
-use Rattle.pas_steps.specs.declared.step.Made.{Made}
-use Rattle.pas_steps.specs.declared.step.Step.{Step}
-use Rattle.pas_steps.specs.declared.step.Step.TheVariants.{Look}
+use Rattle.pas_profile.specs.declared.{directory.Directory.Directory, word.Word.Word, profile.Profile.Profile, event.NoRoom.NoRoom}
+use Rattle.pas_profile.specs.declared.{event.NoRoom.TheVariants.NoSpace, event.NoRoom.TheVariants.Held}
+use Rattle.pas_steps.specs.{Past.Once, Past.Always, Past.Since, Frames.OnlyScans, Frames.IsScan, Desks.made, Desks.Seat, Desks.Standing, Kinds.kind_of}
+use Rattle.pas_steps.specs.{Kinds.is_in}
+use Rattle.pas_steps.specs.declared.step.{Made.Made, Step.Step, Step.TheVariants.Look}
 use Rattle.pas_scan.specs.Marks.{is_marked}
-use Rattle.pas_steps.specs.Evidence.{ReadsEligible, NoDeedHere, ZeroHere, OneHere, GetsHere, LeftHere, ParkedHere, ParkedLater, LacksAfter, MissingHere, HeldHere}
-use Rattle.pas_scan.proofs.Reading.{scans_lack, right_scans, place_of}
+use Rattle.pas_steps.specs.Evidence.{ReadsEligible, NoDeedHere, ZeroHere, OneHere, GetsHere, LeftHere, ParkedHere, ParkedLater, LacksAfter, MissingHere}
+use Rattle.pas_steps.specs.Evidence.{HeldHere}
+use Rattle.pas_scan.proofs.{Reading.scans_lack, Reading.right_scans, Reading.place_of, LeftPages.since_earlier, Judging.scans_append}
 use Rattle.pas_large.specs.Refusals.{LastOffered, NotReadHere, IsAccounted, AllAccounted, IsReason, MarksOffered, Refuses}
-use Rattle.pas_steps.specs.Kinds.{kind_of, is_in}
-use Rattle.pas_profile.specs.declared.profile.Profile.{Profile}
-use Rattle.pas_profile.specs.declared.event.NoRoom.{NoRoom}
-use Rattle.pas_profile.specs.declared.event.NoRoom.TheVariants.{NoSpace, Held}
 use Rattle.pas_steps.specs.Views.{View, has_right, known_deed, KnowsDeed}
-use Rattle.pas_steps.proofs.Adding.{adds_call, agreed_first}
-use Rattle.pas_steps.proofs.Past.{once_later, once_earlier, always_map}
-use Rattle.pas_scan.proofs.LeftPages.{since_earlier}
+use Rattle.pas_steps.proofs.{Adding.adds_call, Adding.agreed_first, Past.once_later, Past.once_earlier, Past.always_map, Frames.right_own, Evidence.zero_before}
 use Rattle.pas_scan.specs.Scan.{AllParked, IsVerdict, Judges, judging, last_block}
-use Rattle.pas_scan.proofs.Judging.{scans_append}
-use Rattle.pas_steps.proofs.Frames.{right_own}
-use Rattle.pas_steps.proofs.Evidence.{zero_before}
 
 -- ---- the offered pages are marked: one eligible word more
 -- what is marked below a block, and what was read of it
@@ -147,12 +135,12 @@ module _ (d : Directory) (marks : List ℕ) {σ σ1 σ2 : Standing} (offers : Ma
           lower = accounted page (omega (arith, within)) verdict.2;
         }
 
-  pub refuses : Refuses d σ σ2 room
+  refuses : Refuses d σ σ2 room
   refuses = record {
     steps = js ++ ms;
     adds = adds_call offers.adds judges.adds (λ v l stood met. tt);
     scans = scans_append js ms judges.scans offers.scans;
-    few = let n = length-append js ms in let a = subst (λ x. length js ≤ 65 * (last_block x room + 1)) same judges.few in let b = offers.few in let last = last_within f room (held_page room (subst (λ x. IsVerdict x marks d js room) same judges.verdict)) in omega (arith, n, a, b, last);
+    few = let n = length-append js ms in let a = subst (λ x. length js ≤ 65 * (last_block x room + 1)) same judges.few in let last = last_within f room (held_page room (subst (λ x. IsVerdict x marks d js room) same judges.verdict)) in omega (arith, n, a, offers.few, last);
     reason = λ before none. reason_of before none room (subst (λ x. IsVerdict x marks d js room) same judges.verdict);
   }
 

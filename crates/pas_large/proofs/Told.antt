@@ -1,35 +1,29 @@
 -- On a desk that tells the whole state: what the looks of a search tell of it, and that no page of a usable run is lost or broken.
-use Rattle.std.proofs.Common.{◌≡◌, ◌≢◌, ℕ, ◌+◌, ◌*◌, ◌/◌, ◌%◌, ◌<◌, ◌==◌, Bool, true, false, ◌||◌, ◌&&◌, if◌then◌else◌, List, [], ◌∷◌, ◌++◌, inl, inr, refl, ap, sym, ◌∙◌, subst, arith, true≢false}
-use Rattle.std.proofs.lemmas.Bool.{eqb-true, eq-eqb, false≢true}
+use Rattle.std.proofs.Common.{◌≡◌, ◌≢◌, ℕ, ◌+◌, ◌*◌, ◌/◌, ◌%◌, ◌<◌, ◌==◌, Bool, true, false, ◌||◌, ◌&&◌, if◌then◌else◌, List, [], ◌∷◌, ◌++◌, inl, inr, refl, ap}
+use Rattle.std.proofs.Common.{sym, ◌∙◌, subst, arith, true≢false, eqb-true, eq-eqb}
+use Rattle.std.proofs.{lemmas.Bool.false≢true, Math.Bool.or-false}
 use Rattle.pas_bits.specs.Bits.{has_bit}
-use Rattle.pas_profile.specs.Directories.{deed_word_of, number_of, IsKind}
-use Rattle.pas_profile.specs.Layouts.{same_word}
-use Rattle.pas_profile.specs.declared.directory.Directory.{Directory}
-use Rattle.pas_profile.specs.declared.profile.Profile.{Profile}
-use Rattle.pas_profile.specs.declared.word.Word.{Word}
+use Rattle.pas_profile.specs.{Directories.deed_word_of, Directories.number_of, Directories.IsKind, Layouts.same_word}
+use Rattle.pas_profile.specs.declared.{directory.Directory.Directory, profile.Profile.Profile, word.Word.Word}
 use Rattle.pas_profile.proofs.Codecs.{deed_word_of-positive}
-use Rattle.pas_steps.specs.Effects.{target, new_value, free_word_at}
+use Rattle.pas_steps.specs.{Effects.target, Effects.new_value, Effects.free_word_at, Past.Once, Past.Always, Past.Since, Desks.triples}
 use Rattle.pas_steps.specs.Views.{Way, Rests, ByDeed, FromOffer, FromParked, ToOffer, ToParked, way, epoch_of, holds, has_right, KnowsDeed}
 use Rattle.pas_steps.specs.Lists.{Whole, part, word_after, Legal}
-use Rattle.pas_steps.specs.Past.{Once, Always, Since}
 use Rattle.pas_steps.specs.Kinds.{looking, kind_of, is_in, Only}
-use Rattle.pas_steps.specs.Desks.{triples}
 use Rattle.pas_steps.specs.Evidence.{ReadsEligible, ReadsParked, ReadsDeed, ReadsFree, OneHere, NoDeedHere}
-use Rattle.pas_steps.specs.declared.step.Step.{Step}
-use Rattle.pas_steps.specs.declared.step.Made.{Made}
+use Rattle.pas_steps.specs.declared.step.{Step.Step, Made.Made}
 use Rattle.pas_steps.specs.declared.step.Step.TheVariants.{Look, Deed, TakeRight, Offer, Park, Unpark}
-use Rattle.pas_steps.proofs.Frames.{right_own}
-use Rattle.pas_steps.proofs.Parts.{part_of_own}
+use Rattle.pas_steps.proofs.{Frames.right_own, Parts.part_of_own}
 use Rattle.pas_core.specs.Rights.{eligible_bit, parked_bit, free_of_page}
 use Rattle.pas_core.proofs.Deeds.{looked, known_is, number_told}
 use Rattle.pas_core.proofs.OneActor.{LendsNone, unfit_entry, deed_none, legal_before}
-use Rattle.pas_core.proofs.Rights.{Spot, Nowhere, With, Offered, InParked, is_with, is_offered, is_offered-true, spot_after, spot_of, DeedFits, spotted, no_deed, free_without_deed}
+use Rattle.pas_core.proofs.Rights.{Spot, Nowhere, With, Offered, InParked, is_with, is_offered, is_offered-true, spot_after, spot_of, DeedFits, spotted}
+use Rattle.pas_core.proofs.Rights.{no_deed, free_without_deed}
 use Rattle.pas_scan.specs.Usable.{OfHere, WholeHere, ReadUsable, UnusableHere, ParksNotHere, IsFresh, MakesNoDeedHere}
 use Rattle.pas_scan.specs.Runs.{IsInRun, HasUnusable}
 use Rattle.pas_scan.proofs.LeftPages.{holds_none_by}
 use Rattle.pas_large.specs.Evidence.{LostRightHere, LostDeedHere, NotAll, FailsHere}
 use Rattle.pas_large.specs.Telling.{IsWholePage, IsUsablePage, IsUsableRun}
-use Rattle.std.proofs.Math.Bool.{or-false}
 
 -- ---- looks change no word
 look_keeps : (s : Step) (e v : ℕ) (w : Word) → is_in looking (kind_of s) ≡ true → (if same_word (target s) w then new_value e s v else v) ≡ v
@@ -83,7 +77,7 @@ module _ (f : Profile) (k : ℕ) (l : Whole) (d : Directory) (p : ℕ) (steps : 
   none_told : Once (NoDeedHere p) steps → word_after l (Word.Deed p) ≡ 0
   none_told = once_of (NoDeedHere p) f k l (word_after l (Word.Deed p) ≡ 0) steps legal only (λ m before t ok looks x. sym (deed_told l p m.step m.answer x.0 t.is) ∙ x.1)
 
-  pub one_told : Once (OneHere d p) steps → eligible_bit l (number_of d) p ≡ true
+  one_told : Once (OneHere d p) steps → eligible_bit l (number_of d) p ≡ true
   one_told = once_of (OneHere d p) f k l (eligible_bit l (number_of d) p ≡ true) steps legal only (λ m before t ok looks x. sym (eligible_told l d p m.step m.answer x.0 t.is) ∙ x.1)
 
   whole_told : (word b : ℕ) → word < 4 → b < 64 → Once (WholeHere p word) steps → free_of_page l p (64 * word + b) ≡ true
@@ -100,7 +94,7 @@ module _ (f : Profile) (k : ℕ) (l : Whole) (d : Directory) (p : ℕ) (steps : 
   }
 
 -- all grains of a usable page are free
-pub usable_free : (f : Profile) (d : Directory) (l : Whole) (p : ℕ) → Legal f l → IsUsablePage d l p → (b : ℕ) → b < 256 → free_of_page l p b ≡ true
+usable_free : (f : Profile) (d : Directory) (l : Whole) (p : ℕ) → Legal f l → IsUsablePage d l p → (b : ℕ) → b < 256 → free_of_page l p b ≡ true
 usable_free f d l p legal (inl none) b lt =
     let page : (p * 256 + b) / 256 ≡ p = omega (arith, lt) in
     let bit : b % 64 ≡ (p * 256 + b) % 64 = omega arith in
@@ -121,7 +115,7 @@ unusable_here f k l d p usable m before t ok looks (inr (inl none)) =
     true≢false (sym whole.offered ∙ sym (eligible_told l d p m.step m.answer none.0.0.0 t.is) ∙ none.0.0.1)
 unusable_here f k l d p usable m before t ok looks (inr (inr used)) =
     let same = free_told l p used.0 m.step m.answer used.2 t.is in
-    used.3 (λ b lt. ap (λ x. x || holds before (p * 256 + (64 * used.0 + b))) (ap (λ n. has_bit n b) same ∙ (let small = used.1 in grain_bit l p used.0 b used.1 lt ∙ usable_free f d l p (legal_before f k before l ok) usable (64 * used.0 + b) (omega (arith, small, lt)))))
+    used.3 (λ b lt. ap (λ x. x || holds before (p * 256 + (64 * used.0 + b))) (ap (λ n. has_bit n b) same ∙ (grain_bit l p used.0 b used.1 lt ∙ usable_free f d l p (legal_before f k before l ok) usable (64 * used.0 + b) (omega (arith, used.1, lt)))))
 
 unusable_told : (f : Profile) (k : ℕ) (l : Whole) (d : Directory) (p : ℕ) (steps : List Made) → Legal f (triples k steps ++ l) → Only looking steps → Once (UnusableHere d p) steps → IsUsablePage d l p → ⊥
 unusable_told f k l d p steps legal only h usable = once_of (UnusableHere d p) f k l ⊥ steps legal only (unusable_here f k l d p usable) h

@@ -1,43 +1,33 @@
 -- On a desk that tells the whole state: the run that a door named is given exactly where its pages are whole at entry, and a claim that fails leaves each page
 -- as usable as it was.
-use Rattle.std.proofs.Common.{◌≡◌, ℕ, ◌+◌, ◌*◌, ◌/◌, ◌%◌, ◌<◌, ◌==◌, Bool, true, false, not, ◌&&◌, ◌||◌, if◌then◌else◌, List, [], ◌∷◌, ◌++◌, Result, Ok, Err, inl, inr, refl, ap, sym, ◌∙◌, subst, arith, true≢false}
+use Rattle.std.proofs.Common.{◌≡◌, ℕ, ◌+◌, ◌*◌, ◌/◌, ◌%◌, ◌<◌, ◌==◌, Bool, true, false, not, ◌&&◌, ◌||◌, if◌then◌else◌, List, [], ◌∷◌, ◌++◌, Result, Ok, Err}
+use Rattle.std.proofs.Common.{inl, inr, refl, ap, sym, ◌∙◌, subst, arith, true≢false, eq-eqb, eqb-true}
 use Rattle.std.proofs.Math.Bool.{or-false}
-use Rattle.std.proofs.lemmas.Bool.{and_from, cases_Bool, cases_eq, eq-eqb, eqb-true, false_from_ne_true, or_left, or_right}
+use Rattle.std.proofs.lemmas.Bool.{and_from, cases_Bool, cases_eq, false_from_ne_true, or_left, or_right}
 use Rattle.pas_bits.specs.Bits.{has_bit}
-use Rattle.pas_profile.specs.Directories.{IsKind, deed_word_of, number_of}
-use Rattle.pas_profile.specs.Profiles.{IsValid}
-use Rattle.pas_profile.specs.declared.directory.Directory.{Directory}
-use Rattle.pas_profile.specs.declared.event.NoRoom.{NoRoom}
-use Rattle.pas_profile.specs.declared.name.Block.{Block}
-use Rattle.pas_profile.specs.declared.profile.Profile.{Profile}
-use Rattle.pas_profile.specs.declared.word.Word.TheVariants as Word
+use Rattle.pas_profile.specs.{Directories.IsKind, Directories.deed_word_of, Directories.number_of, Profiles.IsValid}
+use Rattle.pas_profile.specs.declared.{directory.Directory.Directory, event.NoRoom.NoRoom, name.Block.Block, profile.Profile.Profile, word.Word.Word}
 use Rattle.pas_profile.proofs.Codecs.{deed_word_of-positive}
-use Rattle.pas_steps.specs.Calls.{nothing, Does}
-use Rattle.pas_steps.specs.Desks.{triples}
-use Rattle.pas_steps.specs.Effects.{free_word_at, in_mask}
-use Rattle.pas_steps.specs.Evidence.{GetsRight, GetsHere}
+use Rattle.pas_steps.specs.{Calls.nothing, Calls.Does, Desks.triples, Effects.free_word_at, Effects.in_mask, Evidence.GetsRight, Evidence.GetsHere, Past.Once}
+use Rattle.pas_steps.specs.{Past.Always}
 use Rattle.pas_steps.specs.Kinds.{Only, kind_of, is_in, lending}
 use Rattle.pas_steps.specs.Lists.{Whole, part, word_after, Legal}
-use Rattle.pas_steps.specs.Past.{Once, Always}
-use Rattle.pas_steps.specs.Views.{Stays, Gets, Puts, grain_move, held_after, holds, Way, Rests, ByDeed, FromOffer, FromParked, ToOffer, ToParked, way, epoch_of, has_right, known_deed}
-use Rattle.pas_steps.specs.declared.step.Made.{Made}
-use Rattle.pas_steps.specs.declared.step.Step.{Step}
+use Rattle.pas_steps.specs.Views.{Stays, Gets, Puts, grain_move, held_after, holds, Way, Rests, ByDeed, FromOffer, FromParked, ToOffer, ToParked, way, epoch_of}
+use Rattle.pas_steps.specs.Views.{has_right, known_deed}
+use Rattle.pas_steps.specs.declared.step.{Made.Made, Step.Step}
 use Rattle.pas_steps.specs.declared.step.Step.TheVariants.{Deed, Take, Put, TakeRight, Offer, Park, Unpark, Give, End, EndSized}
-use Rattle.pas_steps.proofs.Frames.{right_own}
-use Rattle.pas_steps.proofs.Parts.{part_of_own}
-use Rattle.pas_core.specs.Good.{Place, is_free, is_held_by}
-use Rattle.pas_core.specs.Rights.{eligible_bit, free_of_page}
+use Rattle.pas_steps.proofs.{Frames.right_own, Parts.part_of_own}
+use Rattle.pas_core.specs.{Good.Place, Good.is_free, Good.is_held_by, Rights.eligible_bit, Rights.free_of_page}
 use Rattle.pas_core.proofs.Deeds.{known_is, number_told}
 use Rattle.pas_core.proofs.Grains.{Fits, free_moved, free_step, step_fits, placed_once, is_held_by-true}
 use Rattle.pas_core.proofs.OneActor.{LendsNone, lends_none, deed_same, legal_before, unfit_entry}
-use Rattle.pas_core.proofs.Rights.{Spot, Nowhere, With, Offered, InParked, is_with, is_offered, is_offered-true, spot_after, spot_of, Suits, DeedFits, step_suits, spotted}
+use Rattle.pas_core.proofs.Rights.{Spot, Nowhere, With, Offered, InParked, is_with, is_offered, is_offered-true, spot_after, spot_of, Suits, DeedFits}
+use Rattle.pas_core.proofs.Rights.{step_suits, spotted}
 use Rattle.pas_scan.specs.Usable.{OfHere, WholeHere}
 use Rattle.pas_scan.proofs.LeftPages.{holds_own}
 use Rattle.pas_search.specs.Kinds.{IsReturnOf, ReturnsDuly}
 use Rattle.pas_large.specs.Evidence.{NotAll, MissedHere, GotOf, LeftOrBroken}
-use Rattle.pas_large.specs.Finds.{MayFind}
-use Rattle.pas_large.specs.Pages.{claiming_old}
-use Rattle.pas_large.specs.Telling.{IsWholePage, IsUsablePage, IsToldLarge}
+use Rattle.pas_large.specs.{Finds.MayFind, Pages.claiming_old, Telling.IsWholePage, Telling.IsUsablePage, Telling.IsToldLarge}
 use Rattle.pas_large.proofs.Told.{deed_told, free_told, grain_bit, clean_own, usable_clean, nowhere_else, lost_right, fewer_not_all}
 
 -- ---- grains, where the actor gives and ends no block: one is free now or held by the call exactly where it was free at entry

@@ -1,27 +1,17 @@
 -- On a desk that tells the whole state: a refusal that only looked is true at exit.
 use Rattle.std.proofs.Common.{◌≡◌, ℕ, ◌+◌, ◌*◌, ◌/◌, ◌%◌, true, false, List, [], ◌∷◌, ◌++◌, inl, inr, refl, ap, sym, ◌∙◌, arith, true≢false}
 use Rattle.pas_bits.specs.Bits.{has_bit}
-use Rattle.pas_profile.specs.Directories.{deed_word_of, number_of}
-use Rattle.pas_profile.specs.Profiles.{IsPage}
-use Rattle.pas_profile.specs.declared.directory.Directory.{Directory}
-use Rattle.pas_profile.specs.declared.event.NoRoom.{NoRoom}
-use Rattle.pas_profile.specs.declared.event.NoRoom.TheVariants.{NoSpace, Held}
-use Rattle.pas_profile.specs.declared.profile.Profile.{Profile}
-use Rattle.pas_profile.specs.declared.word.Word.TheVariants as Word
+use Rattle.pas_profile.specs.{Directories.deed_word_of, Directories.number_of, Profiles.IsPage}
+use Rattle.pas_profile.specs.declared.{directory.Directory.Directory, event.NoRoom.NoRoom, event.NoRoom.TheVariants.NoSpace, event.NoRoom.TheVariants.Held}
+use Rattle.pas_profile.specs.declared.{profile.Profile.Profile, word.Word.Word}
 use Rattle.pas_profile.proofs.Codecs.{deed_word_of-positive}
-use Rattle.pas_steps.specs.Agreement.{Agreed}
-use Rattle.pas_steps.specs.Effects.{free_word_at}
-use Rattle.pas_steps.specs.Views.{known_deed, KnowsDeed}
+use Rattle.pas_steps.specs.{Agreement.Agreed, Effects.free_word_at, Views.known_deed, Views.KnowsDeed, Past.Once, Kinds.looking, Kinds.Only, Desks.triples}
 use Rattle.pas_steps.specs.Lists.{Whole, part, word_after, Legal}
-use Rattle.pas_steps.specs.Past.{Once}
-use Rattle.pas_steps.specs.Kinds.{looking, Only}
-use Rattle.pas_steps.specs.Desks.{triples}
 use Rattle.pas_steps.specs.Evidence.{OneHere, LeftHere, ParkedLater, MissingHere, LacksAfter, HeldHere}
 use Rattle.pas_steps.specs.declared.step.Made.{Made}
-use Rattle.pas_steps.proofs.Parts.{part_of_own}
+use Rattle.pas_steps.proofs.{Parts.part_of_own, Past.since_once}
 use Rattle.pas_core.specs.Rights.{eligible_bit, parked_bit}
-use Rattle.pas_core.proofs.Deeds.{known_is}
-use Rattle.pas_core.proofs.Rights.{spotted}
+use Rattle.pas_core.proofs.{Deeds.known_is, Rights.spotted}
 use Rattle.pas_scan.specs.Usable.{DeedReadHere, OfHere}
 use Rattle.pas_scan.proofs.LeftPages.{lacks_by}
 use Rattle.pas_search.specs.Telling.{IsInHands, IsTrueReason}
@@ -29,7 +19,6 @@ use Rattle.pas_large.specs.Refusals.{NotReadHere, IsAccounted, IsHeldLarge, IsRe
 use Rattle.pas_large.specs.Telling.{IsUsablePage, HasNoUsableRun}
 use Rattle.pas_large.proofs.Pages.{known_of}
 use Rattle.pas_large.proofs.Told.{looks_same, once_of, deed_told, eligible_told, parked_bit_told}
-use Rattle.pas_steps.proofs.Past.{since_once}
 
 -- ---- no run at exit
 usable_before : (k : ℕ) (l : Whole) (d : Directory) (steps : List Made) → Only looking steps → (p : ℕ) → IsUsablePage d (triples k steps ++ l) p → IsUsablePage d l p
@@ -108,5 +97,5 @@ module _ (f : Profile) (k : ℕ) (l : Whole) (d : Directory) (steps : List Made)
       }
 
   pub true_reason : (why : NoRoom) → IsReason f d steps why → IsTrueReason f d w why
-  true_reason NoSpace all = λ p hands. not_in_hands p hands (all (part k l) agreed p hands.of_region.0 (let high = hands.of_region.1 in omega (arith, high)))
+  true_reason NoSpace all = λ p hands. not_in_hands p hands (all (part k l) agreed p hands.of_region.0 (omega (arith, hands.of_region.1)))
   true_reason (Held page) held = (in_hands page held, λ p lt hands. not_in_hands p hands (held.lower (part k l) agreed p hands.of_region.0 lt))

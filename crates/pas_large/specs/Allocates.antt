@@ -1,29 +1,15 @@
 -- The allocation of a large block.
 use Rattle.std.specs.Prelude.{ℕ, ◌+◌, ◌*◌, ◌/◌, ◌^◌, ◌<◌, ◌≤◌, ◌≡◌, Bool, true, false, List, ◌++◌, length, Option, Result, Ok, Err, MatchResult, ◌⊎◌}
-use Rattle.pas_profile.specs.declared.directory.Directory.{Directory}
-use Rattle.pas_profile.specs.declared.event.NoRoom.{NoRoom}
-use Rattle.pas_profile.specs.declared.name.Block.{Block}
-use Rattle.pas_profile.specs.declared.profile.Profile.{Profile}
+use Rattle.pas_profile.specs.declared.{directory.Directory.Directory, event.NoRoom.NoRoom, name.Block.Block, profile.Profile.Profile}
 use Rattle.pas_scan.specs.Runs.{large_directory}
-use Rattle.pas_steps.specs.Calls.{Leads, nothing, Does}
-use Rattle.pas_steps.specs.Desks.{Standing, Adds, triples}
-use Rattle.pas_steps.specs.Lists.{Whole}
-use Rattle.pas_steps.specs.Frames.{OnlyScans}
-use Rattle.pas_steps.specs.Kinds.{Only}
-use Rattle.pas_steps.specs.Past.{Always}
-use Rattle.pas_steps.specs.Views.{View, holds, KnowsDeed}
+use Rattle.pas_steps.specs.{Calls.Leads, Calls.nothing, Calls.Does, Desks.Standing, Desks.Adds, Desks.triples, Lists.Whole, Frames.OnlyScans, Kinds.Only}
+use Rattle.pas_steps.specs.{Past.Always, Views.View, Views.holds, Views.KnowsDeed, InTurn.InTurn}
 use Rattle.pas_steps.specs.declared.step.Made.{Made}
 use Rattle.pas_search.specs.Kinds.{ReturnsDuly}
-use Rattle.pas_large.specs.Claims.{in_span}
+use Rattle.pas_large.specs.{Claims.in_span, Named.HoldsNamed, Named.MissesNamed, Named.missed_steps, Pages.OnlyDeedsShow, Pages.claiming_old, Gives.BackStep}
+use Rattle.pas_large.specs.{Gives.pages_from, Gives.run_block, Refusals.IsReason, Telling.IsToldLarge, Telling.IsToldByDoor}
 use Rattle.pas_large.specs.Finds.{MayFind, finding, FoundRun, FoundNone, LooksAlone}
-use Rattle.pas_large.specs.Named.{HoldsNamed, MissesNamed, missed_steps}
-use Rattle.pas_large.specs.Pages.{OnlyDeedsShow, claiming_old}
-use Rattle.pas_large.specs.Gives.{BackStep, pages_from, run_block}
-use Rattle.pas_rights.specs.Gives.{give_steps}
-use Rattle.pas_rights.specs.Leaves.{LeaveSteps}
-use Rattle.pas_steps.specs.InTurn.{InTurn}
-use Rattle.pas_large.specs.Refusals.{IsReason}
-use Rattle.pas_large.specs.Telling.{IsToldLarge, IsToldByDoor}
+use Rattle.pas_rights.specs.{Gives.give_steps, Leaves.LeaveSteps}
 
 -- What the actor holds and has is as it was: none of the block's grains was held. The pages are known to be of the directory.
 pub record GaveLarge (d : Directory) (first n : ℕ) (block : Block) (v w : View) : Type 0 where

@@ -1,21 +1,13 @@
 -- The claim of the pages of a run, and how they are left.
-use Rattle.std.specs.Prelude.{ℕ, ◌+◌, ◌-◌, ◌*◌, ◌/◌, ◌<◌, ◌≤◌, ◌≡◌, ◌⊎◌, min, nat_le, nat_lt, Bool, true, false, ◌&&◌, List, ◌++◌, length, Option, None, MatchOption}
-use Rattle.pas_profile.specs.declared.directory.Directory.{Directory}
-use Rattle.pas_profile.specs.declared.profile.Profile.{Profile}
-use Rattle.pas_rights.specs.Looks.{HintsEmpty}
-use Rattle.pas_rights.specs.PutsBack.{giving_back, GivesDuly}
-use Rattle.pas_steps.specs.Agreement.{Agreed}
+use Rattle.std.specs.Prelude.{ℕ, ◌+◌, ◌-◌, ◌*◌, ◌/◌, ◌<◌, ◌≤◌, ◌≡◌, ◌⊎◌, min, nat_le, nat_lt, Bool, true, false, ◌&&◌, List, ◌++◌, length, Option, None}
+use Rattle.std.specs.Prelude.{MatchOption}
+use Rattle.pas_profile.specs.declared.{directory.Directory.Directory, profile.Profile.Profile}
+use Rattle.pas_rights.specs.{Looks.HintsEmpty, PutsBack.giving_back, PutsBack.GivesDuly}
+use Rattle.pas_steps.specs.{Agreement.Agreed, Clear.IsClear, Desks.Standing, Desks.Adds, Evidence.KeptHere, Evidence.GetsHere, Frames.IsOnPage, Kinds.Only}
+use Rattle.pas_steps.specs.{Past.Once, Past.Always, Past.Since, Unknown.unknown_pages}
 use Rattle.pas_steps.specs.Calls.{Calls, Leads, Lost, nothing, Does}
-use Rattle.pas_steps.specs.Clear.{IsClear}
-use Rattle.pas_steps.specs.Desks.{Standing, Adds}
-use Rattle.pas_steps.specs.Evidence.{KeptHere, GetsHere}
-use Rattle.pas_steps.specs.Frames.{IsOnPage}
-use Rattle.pas_steps.specs.Kinds.{Only}
-use Rattle.pas_steps.specs.Past.{Once, Always, Since}
-use Rattle.pas_steps.specs.Unknown.{unknown_pages}
 use Rattle.pas_steps.specs.Views.{View, Stays, grain_move, holds, has_right, known_deed, KnowsDeed}
-use Rattle.pas_steps.specs.declared.step.Made.{Made}
-use Rattle.pas_steps.specs.declared.step.Step.TheVariants.{Deed}
+use Rattle.pas_steps.specs.declared.step.{Made.Made, Step.TheVariants.Deed}
 use Rattle.pas_scan.specs.Usable.{ReadUsable, LeftAlone}
 use Rattle.pas_search.specs.Kinds.{IsReturnOf, ReturnsDuly}
 use Rattle.pas_large.specs.Evidence.{LostHere, BrokenHere, TakenWholeHere, DeedsRise, MissedHere, GotOf, LeftOrBroken}

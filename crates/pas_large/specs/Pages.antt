@@ -1,21 +1,13 @@
 -- The claim of one page of a run.
 use Rattle.std.specs.Prelude.{ℕ, ◌+◌, ◌/◌, ◌<◌, ◌≤◌, ◌≡◌, ◌==◌, ◌⊎◌, Bool, true, false, if◌then◌else◌, MatchBool, List, ◌++◌, ◌∷◌, [], length}
-use Rattle.pas_profile.specs.declared.directory.Directory.{Directory}
-use Rattle.pas_profile.specs.declared.profile.Profile.{Profile}
+use Rattle.pas_profile.specs.declared.{directory.Directory.Directory, profile.Profile.Profile}
 use Rattle.pas_rights.specs.PutsBack.{taking_grains, GivesDuly}
-use Rattle.pas_steps.specs.Agreement.{Agreed}
+use Rattle.pas_steps.specs.{Agreement.Agreed, Clear.IsClear, Desks.Standing, Desks.AnyView, Desks.Adds, Events.events_by, Evidence.KeptHere, Evidence.GetsHere}
+use Rattle.pas_steps.specs.{Frames.OnlyOn, Frames.KeepsRight, Past.Once, Past.Always, Past.Since, Unknown.unknown_pages}
 use Rattle.pas_steps.specs.Calls.{Leads, Fate, Kept, Gained, Lost, Effect, nothing, Does}
-use Rattle.pas_steps.specs.Clear.{IsClear}
-use Rattle.pas_steps.specs.Desks.{Standing, AnyView, Adds}
-use Rattle.pas_steps.specs.Events.{events_by}
-use Rattle.pas_steps.specs.Evidence.{KeptHere, GetsHere}
-use Rattle.pas_steps.specs.Frames.{OnlyOn, KeepsRight}
 use Rattle.pas_steps.specs.Kinds.{Kinds, LookDeed, Deeding, Claiming, Only}
-use Rattle.pas_steps.specs.Past.{Once, Always, Since}
-use Rattle.pas_steps.specs.Unknown.{unknown_pages}
 use Rattle.pas_steps.specs.Views.{View, holds, has_right, known_deed, KnowsDeed}
-use Rattle.pas_steps.specs.declared.step.Made.{Made}
-use Rattle.pas_steps.specs.declared.step.Step.TheVariants.{Deed}
+use Rattle.pas_steps.specs.declared.step.{Made.Made, Step.TheVariants.Deed}
 use Rattle.pas_scan.specs.Usable.{OfHere, ReadUsable, LeftAlone}
 use Rattle.pas_search.specs.Kinds.{ReturnsDuly}
 use Rattle.pas_search.specs.Serving.{MayServe, HoldsNone, GotBefore, right_of}

@@ -1,13 +1,9 @@
 //! What a request for whole pages finds where no other actor makes a step meanwhile, whatever its desk tells. The law is the contract of an empty function.
 ghost use Rattle.std.specs.Prelude.{ℕ, ◌<◌, ◌++◌, Option, Result};
-ghost use Rattle.pas_profile.specs.declared.event.NoRoom.{NoRoom};
-ghost use Rattle.pas_profile.specs.declared.name.Block.{Block};
+ghost use Rattle.pas_profile.specs.declared.{event.NoRoom.NoRoom, name.Block.Block};
 ghost use Rattle.pas_scan.specs.Runs.{large_directory};
-ghost use Rattle.pas_steps.specs.Desks.{triples};
-ghost use Rattle.pas_steps.specs.Lists.{Whole, part, Legal};
-ghost use Rattle.pas_large.specs.Allocates.{AllocatesLarge};
-ghost use Rattle.pas_large.specs.Alone.{FindsTheRunThereIs};
-ghost use Rattle.pas_large.specs.Finds.{MayFind};
+ghost use Rattle.pas_steps.specs.{Desks.triples, Lists.Whole, Lists.part, Lists.Legal};
+ghost use Rattle.pas_large.specs.{Allocates.AllocatesLarge, Alone.FindsTheRunThereIs, Finds.MayFind};
 
 use pas_steps::Desk;
 

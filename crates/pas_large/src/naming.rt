@@ -2,8 +2,7 @@
 ghost use Rattle.std.specs.Prelude.{◌≡◌, ◌≤◌, ◌<◌, ◌+◌, ◌↔◌, IsTrue, ℕ, Option};
 ghost use Rattle.pas_scan.specs.Runs.{large_directory};
 ghost use Rattle.pas_steps.specs.Desks.{CanCall};
-ghost use Rattle.pas_large.specs.Finds.{FindRoom};
-ghost use Rattle.pas_large.specs.Named.{ClaimsNamed};
+ghost use Rattle.pas_large.specs.{Finds.FindRoom, Named.ClaimsNamed};
 
 use crate::door::Door;
 use crate::running::claim_run;

@@ -1,19 +1,20 @@
 -- Ranges of pages: in order, long enough, cut, and looked up.
-use Rattle.std.proofs.Common.{◌≡◌, ℕ, ◌<◌, ◌≤◌, min, max, nat_le, nat_lt, Bool, true, false, ◌||◌, if◌then◌else◌, List, [], ◌∷◌, inl, inr, refl, ap, sym, ◌∙◌, subst, arith, true≢false, ◌+◌, ◌-◌, ◌⊎◌, Option, Some, None, MatchOption, not, ◌&&◌, ◌++◌, ◌≢◌, length, get_or, set, take, drop, append_assoc, length-set, zero, suc}
-use Rattle.std.proofs.Math.Bool.{or_comm}
-use Rattle.std.proofs.lemmas.Bool.{cases_Bool, cases_lt, and_parts, or_cases, or_from, or_left, or_right, cases_order, or_parts, cases_eq, eq-eqb, ne_eqb}
-use Rattle.std.proofs.lemmas.Bool.Decides.{nat_tests}
+use Rattle.std.proofs.Common.{◌≡◌, ℕ, ◌<◌, ◌≤◌, min, max, nat_le, nat_lt, Bool, true, false, ◌||◌, if◌then◌else◌, List, [], ◌∷◌, inl, inr, refl, ap, sym, ◌∙◌}
+use Rattle.std.proofs.Common.{subst, arith, true≢false, ◌+◌, ◌-◌, ◌⊎◌, Option, Some, None, MatchOption, not, ◌&&◌, ◌++◌, ◌≢◌, length, get_or, set, take, drop}
+use Rattle.std.proofs.Common.{append_assoc, length-set, zero, suc, eq-eqb, ne_eqb, take_at, drop-drop, length-take-le}
+use Rattle.std.proofs.{Math.Bool.or_comm, lemmas.Bool.Decides.nat_tests}
+use Rattle.std.proofs.lemmas.Bool.{cases_Bool, cases_lt, and_parts, or_cases, or_from, or_left, or_right, cases_order, or_parts, cases_eq}
 use Rattle.pas_large_index.specs.declared.span.Span.{Span}
 use Rattle.pas_large_index.specs.Spans.{in_span, has_page, AreApart, hull, joined, lowest_fit, IsPlaceOf, left_of, cut_at, cut_lowest, EndsFrom}
 use Rattle.pas_large_index.specs.Sets.{HasMore, FitsAt, IsLowestFit, HasNoFit, HasFewer}
 use Rattle.std.specs.List.{remove, refill}
-use Rattle.std.proofs.lemmas.List.{drop_more, drop_all, take_more, take_at, set_split, drop-drop, length-take-le}
+use Rattle.std.proofs.lemmas.List.{drop_more, drop_all, take_more, set_split}
 use Rattle.arrayvec.proofs.ArrayVecLemmas.{items-with_items}
 
 -- ==== Ranges in order: their pages, and what becomes of them with one more.
 
 -- ---- tests
-pub same_truth : (a b : Bool) → (a ≡ true → b ≡ true) → (b ≡ true → a ≡ true) → a ≡ b
+same_truth : (a b : Bool) → (a ≡ true → b ≡ true) → (b ≡ true → a ≡ true) → a ≡ b
 same_truth a b to from = grind arith
 
 or_assoc : (a b c : Bool) → (a || (b || c)) ≡ ((a || b) || c)
@@ -23,61 +24,61 @@ or_between : (a b c : Bool) → (b || (a || c)) ≡ ((a || b) || c)
 or_between a b c = grind arith
 
 -- ---- one range
-pub span_parts : (s : Span) (p : ℕ) → in_span s p ≡ true → (s.first ≤ p) × (p < s.end)
+span_parts : (s : Span) (p : ℕ) → in_span s p ≡ true → (s.first ≤ p) × (p < s.end)
 span_parts s p h =
     let parts = and_parts (nat_le s.first p) (nat_lt p s.end) h in let a = parts.0 in let b = parts.1 in (grind (arith, nat_tests), grind (arith, nat_tests))
 
-pub span_in : (s : Span) (p : ℕ) → s.first ≤ p → p < s.end → in_span s p ≡ true
+span_in : (s : Span) (p : ℕ) → s.first ≤ p → p < s.end → in_span s p ≡ true
 span_in s p low high = grind (arith, nat_tests)
 
-pub span_below : (s : Span) (p : ℕ) → p < s.first → in_span s p ≡ false
+span_below : (s : Span) (p : ℕ) → p < s.first → in_span s p ≡ false
 span_below s p below = grind (arith, nat_tests)
 
-pub span_past : (s : Span) (p : ℕ) → s.end ≤ p → in_span s p ≡ false
+span_past : (s : Span) (p : ℕ) → s.end ≤ p → in_span s p ≡ false
 span_past s p past = grind (arith, nat_tests)
 
-pub lt_is : (a b : ℕ) → nat_lt a b ≡ true → a < b
+lt_is : (a b : ℕ) → nat_lt a b ≡ true → a < b
 lt_is a b h = grind (arith, nat_tests)
 
-pub lt_isnt : (a b : ℕ) → nat_lt a b ≡ false → b ≤ a
+lt_isnt : (a b : ℕ) → nat_lt a b ≡ false → b ≤ a
 lt_isnt a b h = grind (arith, nat_tests)
 
-pub is_lt : (a b : ℕ) → a < b → nat_lt a b ≡ true
+is_lt : (a b : ℕ) → a < b → nat_lt a b ≡ true
 is_lt a b h = grind (arith, nat_tests)
 
-pub isnt_lt : (a b : ℕ) → b ≤ a → nat_lt a b ≡ false
+isnt_lt : (a b : ℕ) → b ≤ a → nat_lt a b ≡ false
 isnt_lt a b h = grind (arith, nat_tests)
 
-pub le_is : (a b : ℕ) → nat_le a b ≡ true → a ≤ b
+le_is : (a b : ℕ) → nat_le a b ≡ true → a ≤ b
 le_is a b h = grind (arith, nat_tests)
 
-pub le_isnt : (a b : ℕ) → nat_le a b ≡ false → b < a
+le_isnt : (a b : ℕ) → nat_le a b ≡ false → b < a
 le_isnt a b h = grind (arith, nat_tests)
 
 -- ---- several
-pub none_below : (low : ℕ) (spans : List Span) (p : ℕ) → AreApart low spans → p ≤ low → has_page spans p ≡ false
+none_below : (low : ℕ) (spans : List Span) (p : ℕ) → AreApart low spans → p ≤ low → has_page spans p ≡ false
 none_below low [] p h le = refl
 none_below low (s ∷ rest) p h le =
     let a = h.0 in let b = h.1 in
     or_from (in_span s p) (has_page rest p) (span_below s p (omega (arith, a, le))) (none_below s.end rest p h.3 (omega (arith, a, b, le)))
 
-pub above_low : (low : ℕ) (spans : List Span) (p : ℕ) → AreApart low spans → has_page spans p ≡ true → low < p
+above_low : (low : ℕ) (spans : List Span) (p : ℕ) → AreApart low spans → has_page spans p ≡ true → low < p
 above_low low spans p h is = elim (cases_lt low p) [ inl above ↦ above | inr below ↦ absurd (true≢false (sym is ∙ none_below low spans p h below)) ]
 
-pub apart_from : (low lower : ℕ) (spans : List Span) → lower ≤ low → AreApart low spans → AreApart lower spans
+apart_from : (low lower : ℕ) (spans : List Span) → lower ≤ low → AreApart low spans → AreApart lower spans
 apart_from low lower [] le h = tt
-apart_from low lower (s ∷ rest) le h = let a = h.0 in (omega (arith, a, le), h.1, h.2, h.3)
+apart_from low lower (s ∷ rest) le h = (omega (arith, h.0, le), h.1, h.2, h.3)
 
 -- ---- one more
-pub joins_later : (new s : Span) (rest : List Span) → nat_lt s.end new.first ≡ true → joined new (s ∷ rest) ≡ s ∷ joined new rest
+joins_later : (new s : Span) (rest : List Span) → nat_lt s.end new.first ≡ true → joined new (s ∷ rest) ≡ s ∷ joined new rest
 joins_later new s rest is = ap (λ t. if t then s ∷ joined new rest else if nat_lt new.end s.first then new ∷ s ∷ rest else joined (hull s new) rest) is
 
-pub joins_before : (new s : Span) (rest : List Span) → nat_lt s.end new.first ≡ false → nat_lt new.end s.first ≡ true → joined new (s ∷ rest) ≡ new ∷ s ∷ rest
+joins_before : (new s : Span) (rest : List Span) → nat_lt s.end new.first ≡ false → nat_lt new.end s.first ≡ true → joined new (s ∷ rest) ≡ new ∷ s ∷ rest
 joins_before new s rest isnt is =
     ap (λ t. if t then s ∷ joined new rest else if nat_lt new.end s.first then new ∷ s ∷ rest else joined (hull s new) rest) isnt
     ∙ ap (λ t. if t then new ∷ s ∷ rest else joined (hull s new) rest) is
 
-pub joins_into : (new s : Span) (rest : List Span) → nat_lt s.end new.first ≡ false → nat_lt new.end s.first ≡ false → joined new (s ∷ rest) ≡ joined (hull s new) rest
+joins_into : (new s : Span) (rest : List Span) → nat_lt s.end new.first ≡ false → nat_lt new.end s.first ≡ false → joined new (s ∷ rest) ≡ joined (hull s new) rest
 joins_into new s rest isnt either =
     ap (λ t. if t then s ∷ joined new rest else if nat_lt new.end s.first then new ∷ s ∷ rest else joined (hull s new) rest) isnt
     ∙ ap (λ t. if t then new ∷ s ∷ rest else joined (hull s new) rest) either
@@ -107,8 +108,8 @@ hull_has s new p some other low high =
       ]
     ])
     (λ is. elim (or_cases (in_span s p) (in_span new p) is) [
-      | inl one ↦ let parts = span_parts s p one in let a = parts.0 in let b = parts.1 in span_in (hull s new) p (omega (arith, a)) (omega (arith, b))
-      | inr two ↦ let parts = span_parts new p two in let a = parts.0 in let b = parts.1 in span_in (hull s new) p (omega (arith, a)) (omega (arith, b))
+      | inl one ↦ let parts = span_parts s p one in span_in (hull s new) p (omega (arith, parts.0)) (omega (arith, parts.1))
+      | inr two ↦ let parts = span_parts new p two in span_in (hull s new) p (omega (arith, parts.0)) (omega (arith, parts.1))
     ])
 
 pub joined_has : (low : ℕ) (new : Span) (spans : List Span) → AreApart low spans → new.first < new.end → HasMore new (has_page spans) (has_page (joined new spans))
@@ -152,7 +153,7 @@ end_same low s t xs ys h k first same = elim (cases_lt s.end t.end) [
 rest_has : (s : Span) (xs : List Span) (p : ℕ) → s.end < p → has_page (s ∷ xs) p ≡ has_page xs p
 rest_has s xs p past = ap (λ t. t || has_page xs p) (span_past s p (omega (arith, past)))
 
-pub same_lists_of : (low : ℕ) (xs ys : List Span) → AreApart low xs → AreApart low ys → ((p : ℕ) → has_page xs p ≡ has_page ys p) → xs ≡ ys
+same_lists_of : (low : ℕ) (xs ys : List Span) → AreApart low xs → AreApart low ys → ((p : ℕ) → has_page xs p ≡ has_page ys p) → xs ≡ ys
 same_lists_of low [] [] h k same = refl
 same_lists_of low [] (t ∷ ys) h k same = let a = k.1 in absurd (true≢false (sym (or_left (in_span t t.first) (has_page ys t.first) (span_in t t.first (omega arith) a)) ∙ sym (same t.first)))
 same_lists_of low (s ∷ xs) [] h k same = let a = h.1 in absurd (true≢false (sym (or_left (in_span s s.first) (has_page xs s.first) (span_in s s.first (omega arith) a)) ∙ same s.first))
@@ -175,7 +176,7 @@ joined_only new spans others h first some last apart more =
 -- ==== Where enough pages follow each other, in a list of ranges and in its set of pages.
 
 -- the first range begins there and has as many, or one of the others does
-pub fit_step : (low : ℕ) (s : Span) (rest : List Span) (n p : ℕ) → AreApart low (s ∷ rest) → FitsAt (has_page (s ∷ rest)) n p → IsPlaceOf p n s ⊎ FitsAt (has_page rest) n p
+fit_step : (low : ℕ) (s : Span) (rest : List Span) (n p : ℕ) → AreApart low (s ∷ rest) → FitsAt (has_page (s ∷ rest)) n p → IsPlaceOf p n s ⊎ FitsAt (has_page rest) n p
 fit_step low s rest n p h fit =
     let b = h.1 in
     elim (cases_order p s.first) [
@@ -205,7 +206,7 @@ fit_step low s rest n p h fit =
       ]
     ]
 
-pub fit_here : (low : ℕ) (s : Span) (rest : List Span) (n p : ℕ) → AreApart low (s ∷ rest) → IsPlaceOf p n s → FitsAt (has_page (s ∷ rest)) n p
+fit_here : (low : ℕ) (s : Span) (rest : List Span) (n p : ℕ) → AreApart low (s ∷ rest) → IsPlaceOf p n s → FitsAt (has_page (s ∷ rest)) n p
 fit_here low s rest n p h place =
     let b = h.1 in let is = place.begins in let long = place.long in
     record {
@@ -214,7 +215,7 @@ fit_here low s rest n p h place =
       pages = λ page from to. or_left (in_span s page) (has_page rest page) (span_in s page (omega (arith, is, from)) (omega (arith, is, to, long)));
     }
 
-pub fit_later : (low : ℕ) (s : Span) (rest : List Span) (n p : ℕ) → AreApart low (s ∷ rest) → FitsAt (has_page rest) n p → FitsAt (has_page (s ∷ rest)) n p
+fit_later : (low : ℕ) (s : Span) (rest : List Span) (n p : ℕ) → AreApart low (s ∷ rest) → FitsAt (has_page rest) n p → FitsAt (has_page (s ∷ rest)) n p
 fit_later low s rest n p h fit =
     let past = above_low s.end rest p h.3 fit.begins in
     record {
@@ -223,13 +224,13 @@ fit_later low s rest n p h fit =
       pages = λ page from to. or_right (in_span s page) (has_page rest page) (fit.pages page from to);
     }
 
-pub no_fit : (n p : ℕ) → FitsAt (has_page []) n p → ⊥
+no_fit : (n p : ℕ) → FitsAt (has_page []) n p → ⊥
 no_fit n p fit = true≢false (sym fit.begins)
 
-pub fits_here : (n : ℕ) (s : Span) (rest : List Span) → nat_le n (s.end - s.first) ≡ true → lowest_fit n (s ∷ rest) ≡ Some s.first
+fits_here : (n : ℕ) (s : Span) (rest : List Span) → nat_le n (s.end - s.first) ≡ true → lowest_fit n (s ∷ rest) ≡ Some s.first
 fits_here n s rest is = ap (λ t. if t then Some s.first else lowest_fit n rest) is
 
-pub fits_later : (n : ℕ) (s : Span) (rest : List Span) → nat_le n (s.end - s.first) ≡ false → lowest_fit n (s ∷ rest) ≡ lowest_fit n rest
+fits_later : (n : ℕ) (s : Span) (rest : List Span) → nat_le n (s.end - s.first) ≡ false → lowest_fit n (s ∷ rest) ≡ lowest_fit n rest
 fits_later n s rest isnt = ap (λ t. if t then Some s.first else lowest_fit n rest) isnt
 
 -- what is found, as a fact on the set
@@ -238,28 +239,27 @@ IsFound spans n found = MatchOption found (HasNoFit (has_page spans) n) (IsLowes
 
 found_later : (low : ℕ) (s : Span) (rest : List Span) (n : ℕ) → AreApart low (s ∷ rest) → (s.end - s.first < n) → (found : Option ℕ) → IsFound rest n found → IsFound (s ∷ rest) n found
 found_later low s rest n h short None none = λ p fit. elim (fit_step low s rest n p h fit) [
-  | inl here ↦ let long = here.long in absurd (omega (arith, short, long))
+  | inl here ↦ absurd (omega (arith, short, here.long))
   | inr later ↦ none p later
 ]
 found_later low s rest n h short (Some first) some = record {
   fits = fit_later low s rest n first h some.fits;
   lowest = λ p lt fit. elim (fit_step low s rest n p h fit) [
-    | inl here ↦ let long = here.long in absurd (omega (arith, short, long))
+    | inl here ↦ absurd (omega (arith, short, here.long))
     | inr later ↦ some.lowest p lt later
   ];
 }
 
-pub lowest_found : (low : ℕ) (spans : List Span) (n : ℕ) → AreApart low spans → IsFound spans n (lowest_fit n spans)
+lowest_found : (low : ℕ) (spans : List Span) (n : ℕ) → AreApart low spans → IsFound spans n (lowest_fit n spans)
 lowest_found low [] n h = λ p fit. no_fit n p fit
 lowest_found low (s ∷ rest) n h =
-    let b = h.1 in
     elim (cases_Bool (nat_le n (s.end - s.first))) [
       | inl long ↦ let le = le_is n (s.end - s.first) long in
           subst (IsFound (s ∷ rest) n) (sym (fits_here n s rest long)) (record {
-            fits = fit_here low s rest n s.first h (record { begins = refl; long = omega (arith, le, b) });
+            fits = fit_here low s rest n s.first h (record { begins = refl; long = omega (arith, le, h.1) });
             lowest = λ p lt fit. elim (fit_step low s rest n p h fit) [
-              | inl here ↦ let is = here.begins in absurd (omega (arith, is, lt))
-              | inr later ↦ let past = above_low s.end rest p h.3 later.begins in absurd (omega (arith, past, b, lt))
+              | inl here ↦ absurd (omega (arith, here.begins, lt))
+              | inr later ↦ let past = above_low s.end rest p h.3 later.begins in absurd (omega (arith, past, h.1, lt))
             ];
           })
       | inr short ↦ subst (IsFound (s ∷ rest) n) (sym (fits_later n s rest short)) (found_later low s rest n h (le_isnt n (s.end - s.first) short) (lowest_fit n rest) (lowest_found s.end rest n h.3))
@@ -271,16 +271,16 @@ lowest_found low (s ∷ rest) n h =
 abbrev pub from_to : ℕ → ℕ → Span
 from_to first n = record { first = first; end = first + n }
 
-pub cuts_here : (first n : ℕ) (s : Span) (rest : List Span) → s.first ≡ first → cut_at first n (s ∷ rest) ≡ left_of n s ++ rest
+cuts_here : (first n : ℕ) (s : Span) (rest : List Span) → s.first ≡ first → cut_at first n (s ∷ rest) ≡ left_of n s ++ rest
 cuts_here first n s rest is = ap (λ t. if t then left_of n s ++ rest else s ∷ cut_at first n rest) (eq-eqb s.first first is)
 
-pub cuts_later : (first n : ℕ) (s : Span) (rest : List Span) → (s.first ≡ first → ⊥) → cut_at first n (s ∷ rest) ≡ s ∷ cut_at first n rest
+cuts_later : (first n : ℕ) (s : Span) (rest : List Span) → (s.first ≡ first → ⊥) → cut_at first n (s ∷ rest) ≡ s ∷ cut_at first n rest
 cuts_later first n s rest isnt = ap (λ t. if t then left_of n s ++ rest else s ∷ cut_at first n rest) (ne_eqb s.first first isnt)
 
-pub leaves_some : (n : ℕ) (s : Span) → n < s.end - s.first → left_of n s ≡ record { first = s.first + n; end = s.end } ∷ []
+leaves_some : (n : ℕ) (s : Span) → n < s.end - s.first → left_of n s ≡ record { first = s.first + n; end = s.end } ∷ []
 leaves_some n s lt = ap (λ t. if t then record { first = s.first + n; end = s.end } ∷ [] else []) (is_lt n (s.end - s.first) lt)
 
-pub leaves_none : (n : ℕ) (s : Span) → s.end - s.first ≤ n → left_of n s ≡ []
+leaves_none : (n : ℕ) (s : Span) → s.end - s.first ≤ n → left_of n s ≡ []
 leaves_none n s le = ap (λ t. if t then record { first = s.first + n; end = s.end } ∷ [] else []) (isnt_lt n (s.end - s.first) le)
 
 left_apart : (low n : ℕ) (s : Span) (rest : List Span) → AreApart low (s ∷ rest) → AreApart low (left_of n s ++ rest)
@@ -330,14 +330,13 @@ left_has low n p s rest h long =
 pub cut_has : (low first n : ℕ) (spans : List Span) → AreApart low spans → FitsAt (has_page spans) n first → HasFewer (from_to first n) (has_page spans) (has_page (cut_at first n spans))
 cut_has low first n [] h fit p = refl
 cut_has low first n (s ∷ rest) h fit p =
-    let b = h.1 in
     elim (fit_step low s rest n first h fit) [
       | inl here ↦ let is = here.begins in let long = here.long in
           ap (λ l. has_page l p) (cuts_here first n s rest is)
           ∙ (left_has low n p s rest h long
           ∙ ap (λ f. (in_span s p || has_page rest p) && not (in_span (from_to f n) p)) is)
       | inr later ↦ let past = above_low s.end rest first h.3 later.begins in
-          ap (λ l. has_page l p) (cuts_later first n s rest (λ is. omega (arith, is, past, b)))
+          ap (λ l. has_page l p) (cuts_later first n s rest (λ is. omega (arith, is, past, h.1)))
           ∙ front_or (in_span s p) (has_page (cut_at first n rest) p) (has_page rest p) (in_span (from_to first n) p) (cut_has s.end first n rest h.3 later p)
           (λ is. elim (cases_lt p first) [
             | inl below ↦ span_below (from_to first n) p below
@@ -383,14 +382,8 @@ none_cut n (s ∷ rest) is = elim (cases_Bool (nat_le n (s.end - s.first))) [
 
 -- ==== Places in a list of ranges, and one range more that was looked at.
 
-le_yes : (a b : ℕ) → a ≤ b → nat_le a b ≡ true
-le_yes a b h = grind (arith, nat_tests)
-
-le_no : (a b : ℕ) → b < a → nat_le a b ≡ false
-le_no a b h = grind (arith, nat_tests)
-
 above_first : (s : Span) (rest : List Span) (p : ℕ) → AreApart 0 (s ∷ rest) → has_page rest p ≡ true → s.first < p
-above_first s rest p h is = let past = above_low s.end rest p h.3 is in let a = h.1 in omega (arith, past, a)
+above_first s rest p h is = let past = above_low s.end rest p h.3 is in omega (arith, past, h.1)
 
 dropped_more : (front spans : List Span) (place here : ℕ) → length front ≡ place → here < length spans → drop (suc place) (front ++ drop here spans) ≡ drop (here + 1) spans
 dropped_more [] spans place here n lt = subst (λ p. drop (suc p) (drop here spans) ≡ drop (here + 1) spans) n (drop-drop 1 here spans)
@@ -398,10 +391,10 @@ dropped_more (x ∷ front) spans zero here n lt = absurd (omega (arith, n))
 dropped_more (x ∷ front) spans (suc place) here n lt = dropped_more front spans place here (omega (arith, n)) lt
 
 -- ---- parts of a list in order
-pub apart_drop : (i : ℕ) (low : ℕ) (spans : List Span) → AreApart low spans → AreApart low (drop i spans)
+apart_drop : (i : ℕ) (low : ℕ) (spans : List Span) → AreApart low spans → AreApart low (drop i spans)
 apart_drop zero low spans h = h
 apart_drop (suc i) low [] h = tt
-apart_drop (suc i) low (s ∷ rest) h = let a = h.0 in let b = h.1 in apart_from s.end low (drop i rest) (omega (arith, a, b)) (apart_drop i s.end rest h.3)
+apart_drop (suc i) low (s ∷ rest) h = apart_from s.end low (drop i rest) (omega (arith, h.0, h.1)) (apart_drop i s.end rest h.3)
 
 pub at_place : (spans : List Span) (i : ℕ) (d : Span) → AreApart 0 spans → i < length spans → AreApart 0 (get_or spans i d ∷ drop (i + 1) spans)
 at_place spans i d h lt = subst (AreApart 0) (drop_more spans i d lt) (apart_drop i 0 spans h)
@@ -414,26 +407,13 @@ StandsBehind first spans i = (new : Span) → new.first ≡ first → joined new
 one_on : (spans : List Span) (i : ℕ) (d : Span) (ys : List Span) → i < length spans → take i spans ++ (get_or spans i d ∷ ys) ≡ take (i + 1) spans ++ ys
 one_on spans i d ys lt = sym (append_assoc (take i spans) (get_or spans i d ∷ []) ys) ∙ ap (λ t. t ++ ys) (sym (take_more spans i d lt))
 
-pub behind_more : (first : ℕ) (spans : List Span) (i : ℕ) (d : Span) → i < length spans → (get_or spans i d).end < first → StandsBehind first spans i → StandsBehind first spans (i + 1)
-behind_more first spans i d lt before so_far new is =
-    so_far new is
-    ∙ (ap (λ r. take i spans ++ joined new r) (drop_more spans i d lt)
-    ∙ (ap (λ r. take i spans ++ r) (joins_later new (get_or spans i d) (drop (i + 1) spans) (is_lt (get_or spans i d).end new.first (omega (arith, is, before))))
-    ∙ one_on spans i d (joined new (drop (i + 1) spans)) lt))
-
-pub ends_at : (first : ℕ) (spans : List Span) (i : ℕ) (d : Span) → i < length spans → first ≤ (get_or spans i d).end → EndsFrom first (drop i spans)
-ends_at first spans i d lt le = subst (EndsFrom first) (sym (drop_more spans i d lt)) le
-
-pub ends_past : (first : ℕ) (spans : List Span) (i : ℕ) → length spans ≤ i → EndsFrom first (drop i spans)
-ends_past first spans i past = subst (EndsFrom first) (sym (drop_all i spans past)) tt
-
 ends_of : (first : ℕ) (spans : List Span) (i : ℕ) (d : Span) → i < length spans → EndsFrom first (drop i spans) → first ≤ (get_or spans i d).end
 ends_of first spans i d lt h = subst (EndsFrom first) (drop_more spans i d lt) h
 
 -- ---- ranges that a new one meets
 ends_later : (first : ℕ) (s : Span) (rest : List Span) → AreApart 0 (s ∷ rest) → first ≤ s.first → EndsFrom first rest
 ends_later first s [] h le = tt
-ends_later first s (t ∷ rest) h le = let a = h.1 in let b = h.3.0 in let c = h.3.1 in omega (arith, a, b, c, le)
+ends_later first s (t ∷ rest) h le = omega (arith, h.1, h.3.0, h.3.1, le)
 
 -- the range so far has all pages of the new one and of those from the place to here
 pub record Gathers (new whole : Span) (spans : List Span) (place here : ℕ) : Type 0 where
@@ -445,32 +425,15 @@ pub record Gathers (new whole : Span) (spans : List Span) (place here : ℕ) : T
 pub gathers_more : (new whole : Span) (spans : List Span) (place here : ℕ) (d : Span) → AreApart 0 spans → here < length spans → (get_or spans here d).first ≤ whole.end → Gathers new whole spans place here → Gathers new (hull (get_or spans here d) whole) spans place (here + 1)
 gathers_more new whole spans place here d h lt meets so_far =
     let s : Span = get_or spans here d in
-    let low = so_far.from in
     let ends = ends_of whole.first spans here d lt so_far.behind in
     record {
-      from = omega (arith, low);
+      from = omega (arith, so_far.from);
       within = omega (arith, lt);
       joins = so_far.joins ∙ (ap (λ r. joined whole r) (drop_more spans here d lt) ∙ joins_into whole s (drop (here + 1) spans) (isnt_lt s.end whole.first ends) (isnt_lt whole.end s.first meets));
       behind = ends_later (min s.first whole.first) s (drop (here + 1) spans) (at_place spans here d h lt) (omega arith);
     }
 
-pub gathered_past : (new whole : Span) (spans : List Span) (place here : ℕ) → length spans ≤ here → Gathers new whole spans place here → joined new (drop place spans) ≡ whole ∷ drop here spans
-gathered_past new whole spans place here past so_far =
-    so_far.joins ∙ (ap (λ r. joined whole r) (drop_all here spans past) ∙ ap (λ r. whole ∷ r) (sym (drop_all here spans past)))
-
-pub gathered_before : (new whole : Span) (spans : List Span) (place here : ℕ) (d : Span) → here < length spans → whole.end < (get_or spans here d).first → Gathers new whole spans place here → joined new (drop place spans) ≡ whole ∷ drop here spans
-gathered_before new whole spans place here d lt apart so_far =
-    let s : Span = get_or spans here d in
-    so_far.joins ∙ (ap (λ r. joined whole r) (drop_more spans here d lt) ∙ (joins_before whole s (drop (here + 1) spans) (isnt_lt s.end whole.first (ends_of whole.first spans here d lt so_far.behind)) (is_lt whole.end s.first apart)
-    ∙ ap (λ r. whole ∷ r) (sym (drop_more spans here d lt))))
-
 -- ---- the lowest one that has as many
-pub fit_at : (n : ℕ) (spans : List Span) (i : ℕ) (d : Span) → i < length spans → n ≤ (get_or spans i d).end - (get_or spans i d).first → lowest_fit n (drop i spans) ≡ Some (get_or spans i d).first
-fit_at n spans i d lt long = ap (lowest_fit n) (drop_more spans i d lt) ∙ fits_here n (get_or spans i d) (drop (i + 1) spans) (le_yes n ((get_or spans i d).end - (get_or spans i d).first) long)
-
-pub fit_more : (n : ℕ) (spans : List Span) (i : ℕ) (d : Span) → i < length spans → (get_or spans i d).end - (get_or spans i d).first < n → lowest_fit n (drop i spans) ≡ lowest_fit n (drop (i + 1) spans)
-fit_more n spans i d lt short = ap (lowest_fit n) (drop_more spans i d lt) ∙ fits_later n (get_or spans i d) (drop (i + 1) spans) (le_no n ((get_or spans i d).end - (get_or spans i d).first) short)
-
 -- ---- the range that begins at a page
 pub record LooksFor (first n : ℕ) (spans : List Span) (i : ℕ) : Type 0 where
   pub within : i ≤ length spans
@@ -504,7 +467,7 @@ looked first n spans i d h lt is so_far =
     ]
 
 -- ---- the list afterwards
-pub cut_there : (first n : ℕ) (spans : List Span) (i : ℕ) (d : Span) → i < length spans → (get_or spans i d).first ≡ first → cut_at first n spans ≡ take i spans ++ cut_at first n (drop i spans)
+cut_there : (first n : ℕ) (spans : List Span) (i : ℕ) (d : Span) → i < length spans → (get_or spans i d).first ≡ first → cut_at first n spans ≡ take i spans ++ cut_at first n (drop i spans)
     → cut_at first n spans ≡ take i spans ++ (left_of n (get_or spans i d) ++ drop (i + 1) spans)
 cut_there first n spans i d lt is before = before ∙ ap (λ r. take i spans ++ r) (ap (cut_at first n) (drop_more spans i d lt) ∙ cuts_here first n (get_or spans i d) (drop (i + 1) spans) is)
 
@@ -522,9 +485,6 @@ shortened spans i n s ys same lt some =
     ∙ (refill_same spans (set spans i new) (length-set spans i new)
     ∙ (set_split spans i new lt
     ∙ (ap (λ k. take i spans ++ new ∷ drop k spans) (one_up i) ∙ ap (λ l. take i spans ++ (l ++ drop (i + 1) spans)) (sym (leaves_some n s some)))))
-
-pub removed : (spans : List Span) (i n : ℕ) (s : Span) → s.end - s.first ≤ n → remove spans i ≡ take i spans ++ (left_of n s ++ drop (i + 1) spans)
-removed spans i n s none = ap (λ k. take i spans ++ drop k spans) (one_up i) ∙ ap (λ l. take i spans ++ (l ++ drop (i + 1) spans)) (sym (leaves_none n s none))
 
 -- those from a place to here were taken out, one more
 pub without_more : (spans : List Span) (place here : ℕ) → place ≤ here → here < length spans → remove (take place spans ++ drop here spans) place ≡ take place spans ++ drop (here + 1) spans

@@ -1,17 +1,14 @@
 -- What every run of the machine keeps about its live blocks.
-use Rattle.std.proofs.Common.{◌≡◌, ◌≢◌, ℕ, ◌+◌, ◌/◌, ◌%◌, ◌<◌, ◌==◌, Bool, true, false, if◌then◌else◌, List, [], ◌∷◌, Option, Some, None, refl, ap, sym, ◌∙◌, subst, arith}
-use Rattle.std.proofs.lemmas.Bool.{false≢true, eqb-true}
-use Rattle.pas_profile.specs.declared.profile.Profile.{Profile}
-use Rattle.pas_profile.specs.declared.directory.Directory.{Directory}
-use Rattle.pas_profile.specs.declared.name.Block.{Block}
-use Rattle.pas_profile.specs.declared.event.Event.{Event}
+use Rattle.std.proofs.Common.{◌≡◌, ◌≢◌, ℕ, ◌+◌, ◌/◌, ◌%◌, ◌<◌, ◌==◌, Bool, true, false, if◌then◌else◌, List, [], ◌∷◌, Option, Some, None, refl, ap, sym, ◌∙◌}
+use Rattle.std.proofs.Common.{subst, arith, eqb-true}
+use Rattle.std.proofs.lemmas.{Bool.false≢true, Option.none-some, Option.same_Some}
+use Rattle.pas_profile.specs.declared.{profile.Profile.Profile, directory.Directory.Directory, name.Block.Block, event.Event.Event}
 use Rattle.pas_bits.specs.Runs.{in_run, meets_page}
 use Rattle.pas_profile.specs.Blocks.{address_of, grain_of, length_of}
 use Rattle.pas_bits.proofs.Runs.{first_of_run, run_meets}
 use Rattle.pas_machine.specs.State.{Live, live_in, gives_in, ends_in, deed_in, backed_in, touches}
 use Rattle.pas_machine.specs.Machine.{Run, MayGive, Bears}
 use Rattle.pas_machine.specs.Laws.{AreApart, IsWhere, IsCounted, AreCounted, AreBorne}
-use Rattle.std.proofs.lemmas.Option.{none-some, same_Some}
 
 -- ---- what holds of each block that is given holds of each live block
 given_if : (P : ℕ → Live → Type 0) (t : Bool) (a k : ℕ) (block : Block) (old : Option Live) (b : Live) → (address_of block.name == a) ≡ t → P (address_of block.name) (record { actor = k; block = block }) → ((b : Live) → old ≡ Some b → P a b)

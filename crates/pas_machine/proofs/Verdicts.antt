@@ -1,31 +1,23 @@
 -- Which events may come next, why others may not, and what a machine keeps.
-use Rattle.std.proofs.Common.{◌≡◌, ◌≢◌, ℕ, ◌+◌, ◌/◌, ◌%◌, ◌<◌, ◌≤◌, ◌⊎◌, ◌==◌, Bool, true, false, if◌then◌else◌, List, [], ◌∷◌, Option, Some, None, refl, ap, sym, ◌∙◌, subst, arith, inl, inr, ◌-◌, ◌*◌, length, get_or, is_some, replicate, set, max, get_or-set_same, get_or-set_other}
-use Rattle.std.proofs.lemmas.Bool.{false≢true, true_from_ne_false, false_from_ne_true, ltb-true, ltb-false, eqb-true, eq-eqb, ne_eqb}
-use Rattle.std.proofs.lemmas.Bool.Decides.{eqb_tells, leb_tells, nat_tests}
-use Rattle.pas_profile.specs.declared.profile.Profile.{Profile}
-use Rattle.pas_profile.specs.declared.directory.Directory.{Directory}
-use Rattle.pas_profile.specs.declared.name.Address.{Address}
-use Rattle.pas_profile.specs.declared.name.Name.{Name}
-use Rattle.pas_profile.specs.declared.name.Block.{Block}
-use Rattle.pas_profile.specs.declared.event.Event.{Event}
-use Rattle.pas_profile.specs.declared.event.Why.{Why}
-use Rattle.pas_profile.specs.Profiles.{IsPage}
+use Rattle.std.proofs.Common.{◌≡◌, ◌≢◌, ℕ, ◌+◌, ◌/◌, ◌%◌, ◌<◌, ◌≤◌, ◌⊎◌, ◌==◌, Bool, true, false, if◌then◌else◌, List, [], ◌∷◌, Option, Some, None, refl, ap}
+use Rattle.std.proofs.Common.{sym, ◌∙◌, subst, arith, inl, inr, ◌-◌, ◌*◌, length, get_or, is_some, replicate, set, max, get_or-set_same, get_or-set_other}
+use Rattle.std.proofs.Common.{ltb-true, ltb-false, eqb-true, eq-eqb, ne_eqb, nat_lt, MatchBool}
+use Rattle.std.proofs.{lemmas.Bool.false≢true, lemmas.Bool.true_from_ne_false, lemmas.Bool.false_from_ne_true, lemmas.Bool.Decides.eqb_tells}
+use Rattle.std.proofs.{lemmas.Bool.Decides.leb_tells, lemmas.Bool.Decides.nat_tests, lemmas.Option.none-some, lemmas.Option.same_Some, Math.Logic.∥∥₁_elim}
+use Rattle.std.proofs.{Math.Logic.∥∥₁_map, lemmas.List.get_or_default, lemmas.List.get_or-replicate}
+use Rattle.pas_profile.specs.declared.{profile.Profile.Profile, directory.Directory.Directory, name.Address.Address, name.Name.Name, name.Block.Block}
+use Rattle.pas_profile.specs.declared.{event.Event.Event, event.Why.Why}
+use Rattle.pas_profile.specs.{Profiles.IsPage, Blocks.address_of, Blocks.grain_of, Blocks.length_of}
 use Rattle.pas_bits.specs.Runs.{in_run, meets_page}
-use Rattle.pas_profile.specs.Blocks.{address_of, grain_of, length_of}
 use Rattle.pas_bits.proofs.Runs.{first_of_run, run_of, to_run, run_meets, met, to_meet, IsMet}
 use Rattle.pas_machine.specs.State.{Live, deed_in, backed_in, live_in, gives_in, ends_in, epoch_in, touches}
 use Rattle.pas_machine.specs.Machine.{Run, Admits, MayGive, Bears, IsLive, HasOtherRoom, IsReason, IsPlace}
 use Rattle.pas_machine.specs.Reasons.{reason_number, Applies, IsFirst, IsVerdict, IsOutside, IsNoPlace, IsNoRun, IsGrainOf, HasDeedOf, Covers}
-use Rattle.pas_machine.specs.declared.fault.Illegal.{Illegal}
-use Rattle.std.proofs.lemmas.Option.{none-some, same_Some}
-use Rattle.std.specs.Prelude.{nat_lt, MatchBool}
-use Rattle.std.proofs.Math.Logic.{∥∥₁_elim, ∥∥₁_map}
+use Rattle.pas_machine.specs.declared.{fault.Illegal.Illegal, places.Page.Page, places.Place.Place}
 use Rattle.std.specs.Coded.{le_prop}
-use Rattle.std.proofs.lemmas.List.{get_or_default, get_or-replicate}
 use Rattle.pas_machine.specs.Laws.{IsCounted}
-use Rattle.pas_machine.specs.Places.{Shows, IsLiveBlock, IsCovered, IsSome, IsEach, IsWhole, IsWithin, IsInside, blank_page, blank_place, bare_place, block_of, block_at, page_in, place_in, place_with, grains_of, ended_at}
-use Rattle.pas_machine.specs.declared.places.Page.{Page}
-use Rattle.pas_machine.specs.declared.places.Place.{Place}
+use Rattle.pas_machine.specs.Places.{Shows, IsLiveBlock, IsCovered, IsSome, IsEach, IsWhole, IsWithin, IsInside, blank_page, blank_place, bare_place, block_of}
+use Rattle.pas_machine.specs.Places.{block_at, page_in, place_in, place_with, grains_of, ended_at}
 use Rattle.pas_machine.proofs.LiveBlocks.{lives_where, live_long, all_counted, all_borne, live_apart, no_block}
 
 -- ==== That a reason applies exactly where an event may not come next, and that there is one first reason.
@@ -49,14 +41,14 @@ none_of None never = refl
 none_of (Some x) never = absurd (never (λ h. cc))
 
 -- ---- pages and places
-pub page_of : (f : Profile) (page : ℕ) → (IsOutside f page → ⊥) → IsPage f page
+page_of : (f : Profile) (page : ℕ) → (IsOutside f page → ⊥) → IsPage f page
 page_of f page never = (le_of 1 page (λ h. never (inl h)), le_of page f.pages (λ h. never (inr h)))
 
-pub not_outside : (f : Profile) (page : ℕ) → IsPage f page → IsOutside f page → ⊥
+not_outside : (f : Profile) (page : ℕ) → IsPage f page → IsOutside f page → ⊥
 not_outside f page is (inl h) = let low : 1 ≤ page = is.0 in omega arith
 not_outside f page is (inr h) = let high : page ≤ f.pages = is.1 in omega arith
 
-pub place_of : (f : Profile) (address : ℕ) → (IsNoPlace f address → ⊥) → IsPlace f address
+place_of : (f : Profile) (address : ℕ) → (IsNoPlace f address → ⊥) → IsPlace f address
 place_of f address never = (page_of f (address / 4096) (λ h. never (inl h)), equal_of (address % 16) 0 (λ h. never (inr h)))
 
 not_no_place : (f : Profile) (address : ℕ) → IsPlace f address → IsNoPlace f address → ⊥
@@ -214,15 +206,15 @@ inside_never f block is (inr h) = outside h.2
     at = run_of (grain_of block.name) (length_of block) h.0 h.1
 
     outside : IsOutside f (h.0 / 256) → ⊥
-    outside (inl low) = let from = at.0 in let first = is.within.0 in omega (arith, low, from, first)
-    outside (inr high) = let until = at.1 in let last = is.within.1 in omega (arith, high, until, last)
+    outside (inl low) = omega (arith, low, at.0, is.within.0)
+    outside (inr high) = omega (arith, high, at.1, is.within.1)
 
 -- a page in the range of a run's pages has a grain of it
 grain_on : (g n p : ℕ) → 0 < n → g / 256 ≤ p → p < (g + n + 255) / 256 → IsMet g n p
 grain_on g n p some low high = met g n p some (to_meet g n p (omega (arith, low)) (omega (arith, high)))
 
 page_on : (g n x : ℕ) → in_run g n x ≡ true → (g / 256 ≤ x / 256) × (x / 256 < (g + n + 255) / 256)
-page_on g n x h = let at = run_of g n x h in let low = at.0 in let high = at.1 in (omega (arith, low), omega (arith, high))
+page_on g n x h = let at = run_of g n x h in (omega (arith, at.0), omega (arith, at.1))
 
 -- ---- what a machine keeps, at one place
 pub page_is : (f : Profile) (pages : List Page) (places : List Place) (covered : List Bool) (es : List Event) → Shows f pages places covered es → (page : ℕ) → page ≤ f.pages → (len : ℕ) → len ≡ length pages → len ≡ f.pages + 1
@@ -230,7 +222,7 @@ pub page_is : (f : Profile) (pages : List Page) (places : List Place) (covered :
 page_is f pages places covered es shows page within len same sized p is =
     let low : page < length pages = omega (arith, within, same, sized) in is ∙ (get_or_default pages page p blank_page low ∙ shows.pages_are page within)
 
-pub place_is : (f : Profile) (pages : List Page) (places : List Place) (covered : List Bool) (es : List Event) → Shows f pages places covered es → (g : ℕ) → g < grains_of f → (len : ℕ) → len ≡ length places → len ≡ grains_of f
+place_is : (f : Profile) (pages : List Page) (places : List Place) (covered : List Bool) (es : List Event) → Shows f pages places covered es → (g : ℕ) → g < grains_of f → (len : ℕ) → len ≡ length places → len ≡ grains_of f
     → (p : Place) → p ≡ get_or places g p → p ≡ place_in es g
 place_is f pages places covered es shows g within len same sized p is =
     let low : g < length places = omega (arith, within, same, sized) in is ∙ (get_or_default places g p blank_place low ∙ shows.places_are g within)
@@ -273,7 +265,7 @@ live_there (Some b) block h = (b, refl, same_Some _ _ h)
 -- the block that was found at the place of a name
 module _ {f : Profile} {pages : List Page} {places : List Place} {covered : List Bool} {es : List Event} (shows : Shows f pages places covered es) (name : Name) (place : IsPlace f (address_of name)) (len : ℕ) (same : len ≡ length places)
     (sized : len ≡ grains_of f) (p : Place) (read : p ≡ get_or places (grain_of name) p) (block : Block) (found : block_at p name.address ≡ Some block) where
-  pub found_there : (b : Live) × (live_in es (address_of name) ≡ Some b) × (b.block ≡ block)
+  found_there : (b : Live) × (live_in es (address_of name) ≡ Some b) × (b.block ≡ block)
   found_there =
       let on : address_of name / 4096 ≤ f.pages = place.0.1 in
       live_there (live_in es (address_of name)) block (sym (block_is f pages places covered es shows name.address place.1 (omega (arith, on)) len same sized p read) ∙ found)
@@ -381,7 +373,7 @@ until_page block = (grain_of block.name + length_of block + 255) / 256
 page_within : (f : Profile) (block : Block) → IsWithin f block → (x : ℕ) → IsGrainOf block x → (x / 256 ≤ f.pages) × (x < grains_of f)
 page_within f block within x has =
     let at = run_of (grain_of block.name) (length_of block) x has in
-    let until = at.1 in let high = within.1 in (omega (arith, until, high), omega (arith, until, high))
+    (omega (arith, at.1, within.1), omega (arith, at.1, within.1))
 
 -- what the machine was asked of each page and each grain of the run
 module _ {f : Profile} {pages : List Page} {places : List Place} {covered : List Bool} {es : List Event} (shows : Shows f pages places covered es) (block : Block) (is : IsInside f block) where
@@ -412,9 +404,8 @@ gives_are es a aligned p is = ap (λ (q : Place). q.gives) is ∙ ap (gives_in e
 pub place_at : (f : Profile) (pages : List Page) (places : List Place) (covered : List Bool) (es : List Event) → Shows f pages places covered es → (block : Block) → IsInside f block → (len : ℕ) → len ≡ length places
     → len ≡ grains_of f → (p : Place) → p ≡ get_or places (grain_of block.name) p → p ≡ place_in es (grain_of block.name)
 place_at f pages places covered es shows block is =
-    let high = is.within.1 in
     let long : 0 < length_of block = long_of block is.whole in
-    place_is f pages places covered es shows (grain_of block.name) (omega (arith, high, long))
+    place_is f pages places covered es shows (grain_of block.name) (omega (arith, is.within.1, long))
 
 -- a live block ends within the region
 live_within : (f : Profile) (es : List Event) → Run f es → (a : ℕ) (b : Live) → live_in es a ≡ Some b → a / 16 + length_of b.block ≤ grains_of f
@@ -444,7 +435,7 @@ opens f pages places covered e e' e'' = record {
 -- ==== What a machine keeps after an event that may come next is what the events lead to.
 
 -- ---- one element is written
-pub written : {X : Type 0} (xs : List X) (d : X) (i most : ℕ) (x : X) (old new : ℕ → X) → i < length xs → ((j : ℕ) → j < most → get_or xs j d ≡ old j) → x ≡ new i → ((j : ℕ) → i ≢ j → old j ≡ new j)
+written : {X : Type 0} (xs : List X) (d : X) (i most : ℕ) (x : X) (old new : ℕ → X) → i < length xs → ((j : ℕ) → j < most → get_or xs j d ≡ old j) → x ≡ new i → ((j : ℕ) → i ≢ j → old j ≡ new j)
     → (j : ℕ) → j < most → get_or (set xs i x) j d ≡ new j
 written xs d i most x old new low before here others j within = elim (eqb_tells i j) [
   | inl h ↦ subst (λ n. get_or (set xs i x) n d ≡ new n) h.1 (get_or-set_same xs i x d low ∙ here)

@@ -1,14 +1,9 @@
 -- What a machine stands for, and what a step of it does.
 use Rattle.std.specs.Prelude.{◌-◌, ◌^◌, ◌≡◌, List, ◌∷◌, Result, Ok, Err}
-use Rattle.pas_profile.specs.declared.profile.Profile.{Profile}
-use Rattle.pas_profile.specs.declared.event.Event.{Event}
+use Rattle.pas_profile.specs.declared.{profile.Profile.Profile, event.Event.Event}
 use Rattle.pas_profile.specs.Blocks.{address_of}
-use Rattle.pas_machine.specs.State.{gives_in}
-use Rattle.pas_machine.specs.Machine.{Admits}
-use Rattle.pas_machine.specs.Reasons.{IsFirst}
-use Rattle.pas_machine.specs.Places.{Shows}
-use Rattle.pas_machine.specs.declared.fault.StepFault.{StepFault}
-use Rattle.pas_machine.specs.declared.machine.Machine.{Machine}
+use Rattle.pas_machine.specs.{State.gives_in, Machine.Admits, Reasons.IsFirst, Places.Shows}
+use Rattle.pas_machine.specs.declared.{fault.StepFault.StepFault, machine.Machine.Machine}
 
 abbrev pub profile_of : Machine → Profile
 profile_of machine = machine.profile

@@ -1,31 +1,18 @@
 -- What a transcript tells, so that the kernel can compare it with what the definition comes to: the records of its lines, the rows of its report, and its
 -- totals; or the fault of a text that is no trace. A record and a row stand for their lines, since `line_of` and `report_text` print just these fields.
-use Rattle.std.specs.Prelude.{ℕ, ◌+◌, ◌*◌, ◌/◌, ◌==◌, Bool, true, false, not, List, [], ◌∷◌, length, count_by, reverse, Option, None, Some, Result, Ok, Err}
+use Rattle.std.proofs.Common.{ℕ, ◌+◌, ◌*◌, ◌/◌, ◌==◌, Bool, true, false, not, List, [], ◌∷◌, length, count_by, reverse, Option, None, Some, Result, Ok, Err}
 use Rattle.std.specs.List.{flat_map}
-use Rattle.pas_profile.specs.declared.directory.Directory.{Directory}
-use Rattle.pas_profile.specs.declared.directory.Kind.{Kind as TheKind}
-use Rattle.pas_profile.specs.declared.event.Event.{Event as TheEvent}
-use Rattle.pas_profile.specs.declared.event.Event.TheVariants as Event
-use Rattle.pas_profile.specs.declared.event.Why.TheVariants as Why
-use Rattle.pas_profile.specs.declared.name.Block.{Block}
-use Rattle.pas_profile.specs.declared.name.Name.{Name}
-use Rattle.pas_profile.specs.declared.profile.Profile.{Profile}
+use Rattle.pas_profile.specs.declared.{directory.Directory.Directory, directory.Kind.Kind as TheKind, event.Event.Event as TheEvent, event.Event.Event}
+use Rattle.pas_profile.specs.declared.{event.Why.Why, name.Block.Block, name.Name.Name, profile.Profile.Profile}
 use Rattle.pas_bits.specs.Bits.{count_below}
 use Rattle.pas_profile.specs.Blocks.{grain_of}
 use Rattle.pas_machine.specs.State.{deed_in, epoch_in}
 use Rattle.pas_machine.specs.Totals.{deeds_total, backed_total, live_total, given_total, ended_total}
-use Rattle.pas_report.specs.Marks.{Marked}
-use Rattle.pas_report.specs.Reports.{live_on}
-use Rattle.pas_report.specs.declared.record.Record.{Record as TheRecord}
-use Rattle.pas_report.specs.declared.record.Record.TheVariants as Record
-use Rattle.pas_report.specs.declared.record.Said.TheVariants as Said
+use Rattle.pas_report.specs.{Marks.Marked, Reports.live_on}
+use Rattle.pas_report.specs.declared.record.{Record.Record as TheRecord, Record.Record, Said.Said}
 use Rattle.pas_trace.specs.Plans.{Parsed, parsed, fault_at}
-use Rattle.pas_trace.specs.declared.fault.Reason.{Reason}
-use Rattle.pas_trace.specs.declared.fault.TraceFault.{TraceFault}
-use Rattle.pas_one_text.specs.State.{World}
-use Rattle.pas_one_text.specs.Pages.{page_numbers, blocks_on, is_covered}
-use Rattle.pas_one_text.specs.Reports.{marks_of}
-use Rattle.pas_one_text.specs.Order.{region_of, replay_of}
+use Rattle.pas_trace.specs.declared.fault.{Reason.Reason, TraceFault.TraceFault}
+use Rattle.pas_one_text.specs.{State.World, Pages.page_numbers, Pages.blocks_on, Pages.is_covered, Reports.marks_of, Order.region_of, Order.replay_of}
 
 -- ---- what is seen
 pub record Row : Type 0 where
@@ -176,9 +163,6 @@ tick_of epoch = Record.Said 0 (Said.Tick epoch)
 
 abbrev pub pass_of : ℕ → TheRecord
 pass_of epoch = Record.Said 0 (Said.Pass epoch)
-
-abbrev pub bare_of : ℕ → TheRecord
-bare_of page = Record.Said 0 (Said.Bare page)
 
 abbrev pub young_of : ℕ → ℕ → TheRecord
 young_of page stamp = Record.Said 0 (Said.Young page stamp)

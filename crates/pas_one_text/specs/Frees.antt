@@ -3,22 +3,14 @@ use Rattle.std.specs.Prelude.{ℕ, ◌+◌, ◌*◌, ◌%◌, ◌==◌, nat_le, 
 use Rattle.std.specs.List.{filter}
 use Rattle.pas_bits.specs.Runs.{meets_page}
 use Rattle.pas_profile.specs.Blocks.{address_of, grain_of, length_of}
-use Rattle.pas_profile.specs.declared.event.Event.{Event}
-use Rattle.pas_profile.specs.declared.event.FreeFault.{FreeFault}
-use Rattle.pas_profile.specs.declared.event.Why.{Why}
-use Rattle.pas_profile.specs.declared.name.Block.{Block}
-use Rattle.pas_profile.specs.declared.name.Name.{Name}
-use Rattle.pas_profile.specs.declared.profile.Profile.{Profile}
+use Rattle.pas_profile.specs.declared.{event.Event.Event, event.FreeFault.FreeFault, event.Why.Why, name.Block.Block, name.Name.Name, profile.Profile.Profile}
 use Rattle.pas_machine.specs.State.{ends_in}
 use Rattle.pas_free_log.specs.declared.log.Entry.{Entry}
 use Rattle.pas_free_log.specs.Logs.{sized_entry, is_sized}
-use Rattle.pas_report.specs.declared.record.Record.{Record}
-use Rattle.pas_report.specs.declared.record.Said.{Said}
+use Rattle.pas_report.specs.declared.record.{Record.Record, Said.Said}
 use Rattle.pas_answers.specs.Answers.{said_of_fault, standing_for}
 use Rattle.pas_one_text.specs.State.{World, each, block_at, shows, says, locals_of, log_of, set_log}
-use Rattle.pas_one_text.specs.Indexes.{notes}
-use Rattle.pas_one_text.specs.Pages.{page_numbers, minds}
-use Rattle.pas_one_text.specs.Classes.{gives_up}
+use Rattle.pas_one_text.specs.{Indexes.notes, Pages.page_numbers, Pages.minds, Classes.gives_up}
 
 -- ---- a flush
 -- the pages of a block, in order

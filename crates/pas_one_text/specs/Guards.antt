@@ -2,16 +2,13 @@
 -- lowers them; it is an actor of its own, has no cache, and says so in lines of its own.
 use Rattle.std.specs.Prelude.{ℕ, ◌+◌, ◌/◌, ◌==◌, nat_lt, Bool, not, ◌&&◌, if◌then◌else◌, List, [], ◌∷◌, ◌++◌, Option, None, Some}
 use Rattle.std.specs.List.{filter}
-use Rattle.pas_profile.specs.Blocks.{address_of}
-use Rattle.pas_profile.specs.Requests.{room_in}
+use Rattle.pas_profile.specs.{Blocks.address_of, Requests.room_in}
 use Rattle.pas_profile.specs.declared.profile.Profile.{Profile}
 use Rattle.pas_machine.specs.State.{backed_in, ends_in}
 use Rattle.pas_trace.specs.declared.item.Request.{Request}
-use Rattle.pas_report.specs.declared.record.Record.{Record}
-use Rattle.pas_report.specs.declared.record.Said.{Said}
+use Rattle.pas_report.specs.declared.record.{Record.Record, Said.Said}
 use Rattle.pas_one_text.specs.State.{Guard, World, each, says}
-use Rattle.pas_one_text.specs.Pages.{page_numbers, minds}
-use Rattle.pas_one_text.specs.Searches.{address_on, name_at}
+use Rattle.pas_one_text.specs.{Pages.page_numbers, Pages.minds, Searches.address_on, Searches.name_at}
 use Rattle.pas_one_text.specs.Runs.{is_run, deeds_run, gives_run, serves_pages}
 
 -- ---- guards are lowered

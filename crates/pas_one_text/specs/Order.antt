@@ -1,28 +1,17 @@
 -- THE WHOLE: what `pas order` prints for the bytes of a trace.
 use Rattle.std.specs.Prelude.{ℕ, ◌/◌, ◌==◌, if◌then◌else◌, List, [], map, Option, None, Some, Result, Ok, Err}
-use Rattle.pas_profile.specs.declared.name.Block.{Block}
+use Rattle.pas_profile.specs.declared.{name.Block.Block, directory.Route.Route, profile.Profile.Profile}
 use Rattle.pas_profile.specs.Requests.{route_in, room_in}
-use Rattle.pas_profile.specs.declared.directory.Route.{Route}
-use Rattle.pas_profile.specs.declared.profile.Profile.{Profile}
 use Rattle.pas_free_log.specs.Logs.{entry_of, sized_entry}
-use Rattle.pas_trace.specs.declared.fault.TraceFault.{TraceFault}
-use Rattle.pas_trace.specs.declared.plan.Op.{Op}
-use Rattle.pas_trace.specs.declared.plan.What.{What}
-use Rattle.pas_trace.specs.Asked.{request_in}
+use Rattle.pas_trace.specs.declared.{fault.TraceFault.TraceFault, plan.Op.Op, plan.What.What}
+use Rattle.pas_trace.specs.{Asked.request_in, Reasons.guard_in, Acts.Act, Acts.numbers_from, Acts.acts_of}
 use Rattle.pas_trace.specs.Plans.{Parsed, parsed, phases_in, shared_in}
-use Rattle.pas_trace.specs.Reasons.{guard_in}
-use Rattle.pas_report.specs.declared.record.Record.{Record}
-use Rattle.pas_report.specs.declared.record.Said.{Said}
+use Rattle.pas_report.specs.declared.record.{Record.Record, Said.Said}
 use Rattle.pas_answers.specs.Answers.{standing_for, suits}
-use Rattle.pas_trace.specs.Acts.{Act, numbers_from, acts_of}
 use Rattle.pas_one_text.specs.State.{World, each, no_cache, cache_of, set_cache, says, names_it}
-use Rattle.pas_one_text.specs.Indexes.{settles}
-use Rattle.pas_one_text.specs.Classes.{serves_class}
-use Rattle.pas_one_text.specs.Runs.{serves_bitfit, serves_pages}
-use Rattle.pas_one_text.specs.Guards.{guards, lowers_all}
+use Rattle.pas_one_text.specs.{Indexes.settles, Classes.serves_class, Runs.serves_bitfit, Runs.serves_pages, Guards.guards, Guards.lowers_all, Reports.text_of}
 use Rattle.pas_one_text.specs.Frees.{flushes, stops, logs, frees, frees_named}
 use Rattle.pas_one_text.specs.Passes.{ticks, passes, reads_epoch, stops_idle}
-use Rattle.pas_one_text.specs.Reports.{text_of}
 
 -- ---- the operations of thread k; those of the scavenger are acts of their own
 -- a request, by the route of its size and alignment

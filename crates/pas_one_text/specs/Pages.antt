@@ -1,13 +1,9 @@
 -- WHAT GRAINS AND PAGES ARE in a state. Grain b of a page is one of its 256, from 0 on.
 use Rattle.std.specs.Prelude.{ℕ, zero, suc, ◌+◌, ◌*◌, ◌==◌, Bool, true, false, not, ◌&&◌, ◌||◌, List, ◌∷◌, Option, None, Some, if◌then◌else◌}
 use Rattle.std.specs.List.{list_any, flat_map, filter}
-use Rattle.pas_profile.specs.Classes.{class_grains}
-use Rattle.pas_profile.specs.Directories.{number_of}
+use Rattle.pas_profile.specs.{Classes.class_grains, Directories.number_of, Blocks.grain_of, Blocks.length_of}
 use Rattle.pas_bits.specs.Runs.{in_run, meets_page}
-use Rattle.pas_profile.specs.Blocks.{grain_of, length_of}
-use Rattle.pas_profile.specs.declared.directory.Directory.{Directory}
-use Rattle.pas_profile.specs.declared.name.Block.{Block}
-use Rattle.pas_profile.specs.declared.profile.Profile.{Profile}
+use Rattle.pas_profile.specs.declared.{directory.Directory.Directory, name.Block.Block, profile.Profile.Profile}
 use Rattle.pas_machine.specs.State.{deed_in, backed_in}
 use Rattle.pas_steps.specs.Views.{usable_by_kind}
 use Rattle.pas_trace.specs.Acts.{numbers_from}

@@ -1,13 +1,9 @@
 -- LINES AND REPORT of a state: what is printed of it.
 use Rattle.std.specs.Prelude.{ℕ, Bool, false, not, List, ◌++◌, reverse, Option, None, Some}
-use Rattle.pas_profile.specs.declared.directory.Directory.{Directory}
-use Rattle.pas_profile.specs.declared.profile.Profile.{Profile}
+use Rattle.pas_profile.specs.declared.{directory.Directory.Directory, profile.Profile.Profile}
 use Rattle.pas_machine.specs.State.{deed_in, backed_in}
-use Rattle.pas_report.specs.Lines.{lines_of}
-use Rattle.pas_report.specs.Marks.{Marked}
-use Rattle.pas_report.specs.Reports.{report_text}
-use Rattle.pas_one_text.specs.State.{World}
-use Rattle.pas_one_text.specs.Pages.{is_offered, is_hinted}
+use Rattle.pas_report.specs.{Lines.lines_of, Marks.Marked, Reports.report_text}
+use Rattle.pas_one_text.specs.{State.World, Pages.is_offered, Pages.is_hinted}
 
 -- a page of a directory is offered, or else parked
 abbrev pub offered_by : World → Option Directory → ℕ → Bool

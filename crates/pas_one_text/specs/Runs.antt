@@ -1,16 +1,11 @@
 -- REQUESTS THAT NO CLASS SERVES: a run of grains on a bit-fit page, or a run of whole pages. No cache holds anything of them.
 use Rattle.std.specs.Prelude.{ℕ, ◌+◌, ◌*◌, ◌/◌, nat_le, Bool, ◌&&◌, ◌||◌, if◌then◌else◌, List, [], ◌∷◌, take, Option, None, Some, Result, Ok, Err}
 use Rattle.std.specs.List.{find, filter}
-use Rattle.pas_profile.specs.declared.directory.Directory.{Directory}
-use Rattle.pas_profile.specs.declared.directory.Kind.{Kind}
-use Rattle.pas_profile.specs.declared.event.NoRoom.{NoRoom}
-use Rattle.pas_profile.specs.declared.profile.Profile.{Profile}
+use Rattle.pas_profile.specs.declared.{directory.Directory.Directory, directory.Kind.Kind, event.NoRoom.NoRoom, profile.Profile.Profile}
 use Rattle.pas_trace.specs.Acts.{numbers_from}
-use Rattle.pas_one_text.specs.State.{World, each}
-use Rattle.pas_one_text.specs.Indexes.{named_first, loses_named}
+use Rattle.pas_one_text.specs.{State.World, State.each, Indexes.named_first, Indexes.loses_named, Classes.spaced}
 use Rattle.pas_one_text.specs.Pages.{page_numbers, each_of, are_free, is_empty, is_unowned, is_offered}
 use Rattle.pas_one_text.specs.Searches.{refusal, searched, deeds, backs, readies, address_on, gives, refuses}
-use Rattle.pas_one_text.specs.Classes.{spaced}
 
 -- ---- a run of grains on one page
 -- the directory of the pages of a heap that are split bit by bit

@@ -1,10 +1,10 @@
 -- The replays of the random traces 1 to 40, by computing.
-use Rattle.std.specs.Prelude.{◌≡◌, true, false, [], ◌∷◌, codes}
-use Rattle.std.proofs.Common.{refl}
-use Rattle.pas_profile.specs.declared.directory.Kind.TheVariants as Kind
-use Rattle.pas_one_text.specs.Pages.{each_of}
-use Rattle.pas_one_text.specs.Passes.{free_bits}
-use Rattle.pas_one_text.proofs.Seen.{counted, shown, row_of, marked, totalled, deed_of, back_of, unback_of, give_of, freed_of, ended_of, no_block_of, outside_of, unaligned_of, no_space_of, skipped_of, tick_of, pass_of, young_of, in_use_of, not_offered_of, stopped_of, phase_of, closed}
+use Rattle.std.proofs.Common.{◌≡◌, true, false, [], ◌∷◌, codes, refl}
+use Rattle.pas_profile.specs.declared.directory.Kind.{Kind}
+use Rattle.pas_one_text.specs.{Pages.each_of, Passes.free_bits}
+use Rattle.pas_one_text.proofs.Seen.{counted, shown, row_of, marked, totalled, deed_of, back_of, unback_of, give_of, freed_of, ended_of, no_block_of}
+use Rattle.pas_one_text.proofs.Seen.{outside_of, unaligned_of, no_space_of, skipped_of, tick_of, pass_of, young_of, in_use_of, not_offered_of, stopped_of}
+use Rattle.pas_one_text.proofs.Seen.{phase_of, closed}
 
 trace_1 : counted (codes "pas 1 pages 5 threads 1 heaps 2 age 1\na 1 1 1 8192 16\na 1 2 0 2048 16\nr 1 0x00001d50 0\na 1 3 0 2000 4096\nf 1 3\na 1 4 0 448 256\na 1 5 1 400 128\nf 1 1\na 1 6 1 0 16\ntick 2\nflush 1\na 1 7 0 200 32\na 1 8 0 400 16\na 1 9 1 12000 2048\nstop 1\na 1 10 0 1 128\na 1 11 0 5000 256\n") ≡ shown (deed_of 1 1 1 Kind.Large ∷ deed_of 1 2 1 Kind.Large ∷ back_of 1 1 ∷ back_of 1 2 ∷ give_of 1 4096 0 8192 1 ∷ deed_of 1 3 0 Kind.Bitfit ∷ back_of 1 3 ∷ give_of 1 12288 0 2048 0 ∷ deed_of 1 4 0 Kind.Bitfit ∷ back_of 1 4 ∷ give_of 1 16384 0 2000 0 ∷ deed_of 1 5 0 (Kind.Class 15) ∷ back_of 1 5 ∷ give_of 1 20480 0 512 0 ∷ no_space_of 1 5 ∷ no_space_of 1 6 ∷ tick_of 2 ∷ no_block_of 1 7504 0 ∷ freed_of 1 16384 0 2 ∷ freed_of 1 4096 0 2 ∷ no_space_of 1 7 ∷ no_space_of 1 8 ∷ no_space_of 1 9 ∷ no_space_of 1 10 ∷ no_space_of 1 11 ∷ closed ∷ []) (row_of 1 1 Kind.Large 0 256 2 (marked true true false true) ∷ row_of 2 1 Kind.Large 0 256 2 (marked true true false true) ∷ row_of 3 0 Kind.Bitfit 1 128 0 (marked true true false false) ∷ row_of 4 0 Kind.Bitfit 0 256 2 (marked true true false true) ∷ row_of 5 0 (Kind.Class 15) 1 224 0 (marked true true false false) ∷ []) (totalled 5 5 2 4 2)
 unfolding counted each_of free_bits

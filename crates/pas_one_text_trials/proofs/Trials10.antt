@@ -1,10 +1,10 @@
 -- The replays of the random traces 4001 to 4040, by computing.
-use Rattle.std.specs.Prelude.{◌≡◌, true, false, [], ◌∷◌, codes}
-use Rattle.std.proofs.Common.{refl}
-use Rattle.pas_profile.specs.declared.directory.Kind.TheVariants as Kind
-use Rattle.pas_one_text.specs.Pages.{each_of}
-use Rattle.pas_one_text.specs.Passes.{free_bits}
-use Rattle.pas_one_text.proofs.Seen.{counted, shown, row_of, marked, totalled, deed_of, back_of, unback_of, give_of, freed_of, ended_of, no_block_of, size_differs_of, outside_of, unaligned_of, no_space_of, skipped_of, kept_of, tick_of, pass_of, young_of, in_use_of, phase_of, closed}
+use Rattle.std.proofs.Common.{◌≡◌, true, false, [], ◌∷◌, codes, refl}
+use Rattle.pas_profile.specs.declared.directory.Kind.{Kind}
+use Rattle.pas_one_text.specs.{Pages.each_of, Passes.free_bits}
+use Rattle.pas_one_text.proofs.Seen.{counted, shown, row_of, marked, totalled, deed_of, back_of, unback_of, give_of, freed_of, ended_of, no_block_of}
+use Rattle.pas_one_text.proofs.Seen.{size_differs_of, outside_of, unaligned_of, no_space_of, skipped_of, kept_of, tick_of, pass_of, young_of, in_use_of}
+use Rattle.pas_one_text.proofs.Seen.{phase_of, closed}
 
 trace_4001 : counted (codes "pas 4 pages 5 threads 1 heaps 3 age 3\ntick 3\npass\na 1 1 1 24 16\nm 1 2 1 5000 16\nm 1 3 1 12000 16\nm 1 4 1 1500 16\nfs 1 1 24 16\na 1 5 0 16 2048\nm 1 6 2 5000 16\nstop 1\na 1 7 1 512 256\nm 1 8 2 1024 256\ntick 6\npass\nm 1 9 1 24 16\nm 1 10 5 513 16\na 1 11 2 700 16\nm 1 12 1 12000 256\nfs 1 6 5000 16\nflush 1\nm 1 13 3 12000 16\nflush 1\nrs 1 0x00003208 0 4096 16\nflush 1\n") ≡ shown (tick_of 3 ∷ pass_of 3 ∷ deed_of 1 1 1 (Kind.Class 1) ∷ back_of 1 1 ∷ give_of 1 4096 0 32 1 ∷ deed_of 1 2 1 Kind.Large ∷ deed_of 1 3 1 Kind.Large ∷ back_of 1 2 ∷ back_of 1 3 ∷ give_of 1 8192 0 8192 1 ∷ no_space_of 1 3 ∷ deed_of 1 4 1 Kind.Bitfit ∷ back_of 1 4 ∷ give_of 1 16384 0 1504 1 ∷ deed_of 1 5 0 Kind.Bitfit ∷ back_of 1 5 ∷ give_of 1 20480 0 16 0 ∷ kept_of 1 8192 0 6 ∷ freed_of 1 4096 0 3 ∷ ended_of 1 4096 0 ∷ ended_of 1 4096 0 ∷ no_space_of 1 7 ∷ kept_of 1 8192 0 8 ∷ tick_of 6 ∷ pass_of 6 ∷ unback_of 0 1 6 ∷ kept_of 1 4096 0 9 ∷ no_space_of 1 10 ∷ no_space_of 1 11 ∷ no_space_of 1 12 ∷ freed_of 1 8192 0 6 ∷ skipped_of 1 13 ∷ unaligned_of 1 12808 0 ∷ closed ∷ []) (row_of 1 1 (Kind.Class 1) 0 256 3 (marked false true false false) ∷ row_of 2 1 Kind.Large 0 256 6 (marked true true false true) ∷ row_of 3 1 Kind.Large 0 256 6 (marked true true false true) ∷ row_of 4 1 Kind.Bitfit 1 162 0 (marked true true false false) ∷ row_of 5 0 Kind.Bitfit 1 255 0 (marked true true false false) ∷ []) (totalled 5 4 2 4 2)
 unfolding counted each_of free_bits

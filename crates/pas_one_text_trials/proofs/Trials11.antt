@@ -1,10 +1,10 @@
 -- The replays of the random traces 4041 to 4080, by computing.
-use Rattle.std.specs.Prelude.{◌≡◌, true, false, [], ◌∷◌, codes}
-use Rattle.std.proofs.Common.{refl}
-use Rattle.pas_profile.specs.declared.directory.Kind.TheVariants as Kind
-use Rattle.pas_one_text.specs.Pages.{each_of}
-use Rattle.pas_one_text.specs.Passes.{free_bits}
-use Rattle.pas_one_text.proofs.Seen.{counted, shown, row_of, marked, totalled, deed_of, back_of, unback_of, give_of, freed_of, ended_of, no_block_of, size_differs_of, unaligned_of, no_space_of, held_of, skipped_of, kept_of, tick_of, pass_of, young_of, in_use_of, stopped_of, phase_of, closed}
+use Rattle.std.proofs.Common.{◌≡◌, true, false, [], ◌∷◌, codes, refl}
+use Rattle.pas_profile.specs.declared.directory.Kind.{Kind}
+use Rattle.pas_one_text.specs.{Pages.each_of, Passes.free_bits}
+use Rattle.pas_one_text.proofs.Seen.{counted, shown, row_of, marked, totalled, deed_of, back_of, unback_of, give_of, freed_of, ended_of, no_block_of}
+use Rattle.pas_one_text.proofs.Seen.{size_differs_of, unaligned_of, no_space_of, held_of, skipped_of, kept_of, tick_of, pass_of, young_of, in_use_of}
+use Rattle.pas_one_text.proofs.Seen.{stopped_of, phase_of, closed}
 
 trace_4041 : counted (codes "pas 4 pages 5 threads 3 heaps 2 age 2\nshared 0\nshared 1\na 3 1 1 256 32\na 1 2 0 100 32\nm 1 3 2 700 16\nphase\nm 2 4 2 2000 64\nm 2 5 3 16 64\nfs 3 2 100 32\na 3 6 0 700 64\nm 2 7 3 1500 16\na 1 8 0 1 16\na 2 9 0 5000 4096\nstop 1\nm 2 10 4 1024 16\nm 3 11 3 800 256\nfs 1 3 700 16\nfs 1 8 1 16\ntick 3\npass\na 3 12 0 1 2048\nm 2 13 7 5000 256\nfs 1 1 256 32\nfs 2 7 16 16\nflush 2\npass\na 2 14 1 12000 16\nfs 3 6 700 64\n") ≡ shown (deed_of 3 1 1 Kind.Shared ∷ back_of 3 1 ∷ give_of 3 4096 0 256 1 ∷ deed_of 1 2 0 Kind.Shared ∷ back_of 1 2 ∷ give_of 1 8192 0 128 0 ∷ give_of 1 8960 0 768 0 ∷ phase_of 2 ∷ deed_of 2 3 0 Kind.Bitfit ∷ back_of 2 3 ∷ give_of 2 12288 0 2000 0 ∷ kept_of 2 8960 0 5 ∷ deed_of 3 4 0 Kind.Shared ∷ back_of 3 4 ∷ give_of 3 16384 0 768 0 ∷ give_of 2 14288 0 1504 0 ∷ give_of 1 8704 0 16 0 ∷ no_space_of 2 9 ∷ freed_of 1 8192 0 0 ∷ kept_of 2 12288 0 10 ∷ give_of 3 10240 0 1024 0 ∷ tick_of 3 ∷ pass_of 3 ∷ deed_of 3 5 0 Kind.Bitfit ∷ back_of 3 5 ∷ give_of 3 20480 0 16 0 ∷ no_space_of 2 13 ∷ ended_of 2 8192 0 ∷ freed_of 2 8960 0 3 ∷ size_differs_of 2 14288 0 16 ∷ pass_of 3 ∷ no_space_of 2 14 ∷ closed ∷ ended_of 1 8960 0 ∷ freed_of 1 8704 0 3 ∷ freed_of 1 4096 0 3 ∷ ended_of 3 8192 0 ∷ ended_of 3 8960 0 ∷ freed_of 3 16384 0 3 ∷ []) (row_of 1 1 Kind.Shared 0 256 3 (marked true true false true) ∷ row_of 2 0 Kind.Shared 1 192 3 (marked true true false false) ∷ row_of 3 0 Kind.Bitfit 2 37 0 (marked true true false false) ∷ row_of 4 0 Kind.Shared 0 256 3 (marked true true false true) ∷ row_of 5 0 Kind.Bitfit 1 255 0 (marked true true false false) ∷ []) (totalled 5 5 4 9 5)
 unfolding counted each_of free_bits

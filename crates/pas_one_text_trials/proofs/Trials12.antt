@@ -1,10 +1,9 @@
 -- The replays of the random traces 1041 to 1080, by computing.
-use Rattle.std.specs.Prelude.{◌≡◌, true, false, [], ◌∷◌, codes}
-use Rattle.std.proofs.Common.{refl}
-use Rattle.pas_profile.specs.declared.directory.Kind.TheVariants as Kind
-use Rattle.pas_one_text.specs.Pages.{each_of}
-use Rattle.pas_one_text.specs.Passes.{free_bits}
-use Rattle.pas_one_text.proofs.Seen.{counted, shown, row_of, marked, totalled, deed_of, back_of, give_of, freed_of, ended_of, no_space_of, skipped_of, tick_of, pass_of, young_of, in_use_of, stopped_of, phase_of, closed}
+use Rattle.std.proofs.Common.{◌≡◌, true, false, [], ◌∷◌, codes, refl}
+use Rattle.pas_profile.specs.declared.directory.Kind.{Kind}
+use Rattle.pas_one_text.specs.{Pages.each_of, Passes.free_bits}
+use Rattle.pas_one_text.proofs.Seen.{counted, shown, row_of, marked, totalled, deed_of, back_of, give_of, freed_of, ended_of, no_space_of, skipped_of, tick_of}
+use Rattle.pas_one_text.proofs.Seen.{pass_of, young_of, in_use_of, stopped_of, phase_of, closed}
 
 trace_1041 : counted (codes "pas 1 pages 8 threads 2 heaps 1 age 1\nflush 1\nflush 2\na 2 1 0 8192 16\na 1 2 0 4096 16\na 1 3 0 8192 16\nf 2 1\nphase\nidle 0\nf 1 2\nf 1 3\nflush 1\na 1 4 0 8192 16\na 1 5 0 4096 16\nphase\na 2 6 0 8192 16\na 1 7 0 4096 16\na 1 8 0 8192 16\nf 2 6\nphase\nidle 0\nf 1 8\nflush 1\na 1 9 0 4096 16\nphase\na 1 10 0 4096 16\na 2 11 0 12288 16\nf 2 4\na 1 12 0 4096 16\nf 2 9\nf 2 6\nf 2 1\nf 2 8\nflush 1\na 1 13 0 12288 16\nflush 2\nf 2 7\nflush 1\nf 1 3\nf 1 2\nflush 2\n") ≡ shown (deed_of 2 1 0 Kind.Large ∷ deed_of 2 2 0 Kind.Large ∷ back_of 2 1 ∷ back_of 2 2 ∷ give_of 2 4096 0 8192 0 ∷ deed_of 1 3 0 Kind.Large ∷ back_of 1 3 ∷ give_of 1 12288 0 4096 0 ∷ deed_of 1 4 0 Kind.Large ∷ deed_of 1 5 0 Kind.Large ∷ back_of 1 4 ∷ back_of 1 5 ∷ give_of 1 16384 0 8192 0 ∷ phase_of 2 ∷ freed_of 2 4096 0 0 ∷ stopped_of 2 ∷ freed_of 1 12288 0 0 ∷ freed_of 1 16384 0 0 ∷ give_of 1 12288 1 8192 0 ∷ give_of 1 20480 0 4096 0 ∷ phase_of 3 ∷ give_of 2 4096 1 8192 0 ∷ deed_of 1 6 0 Kind.Large ∷ back_of 1 6 ∷ give_of 1 24576 0 4096 0 ∷ deed_of 1 7 0 Kind.Large ∷ deed_of 1 8 0 Kind.Large ∷ back_of 1 7 ∷ back_of 1 8 ∷ give_of 1 28672 0 8192 0 ∷ phase_of 4 ∷ freed_of 2 4096 1 0 ∷ stopped_of 2 ∷ freed_of 1 28672 0 0 ∷ give_of 1 8192 0 4096 0 ∷ phase_of 5 ∷ give_of 1 28672 1 4096 0 ∷ no_space_of 2 11 ∷ give_of 1 4096 2 4096 0 ∷ no_space_of 1 13 ∷ freed_of 2 12288 1 0 ∷ freed_of 2 8192 0 0 ∷ ended_of 2 4096 1 ∷ ended_of 2 4096 0 ∷ ended_of 2 28672 0 ∷ freed_of 2 24576 0 0 ∷ closed ∷ ended_of 1 16384 0 ∷ ended_of 1 12288 0 ∷ []) (row_of 1 0 Kind.Large 1 0 0 (marked true false true true) ∷ row_of 2 0 Kind.Large 0 256 0 (marked true true false true) ∷ row_of 3 0 Kind.Large 0 256 0 (marked true true false true) ∷ row_of 4 0 Kind.Large 0 256 0 (marked true true false true) ∷ row_of 5 0 Kind.Large 1 0 0 (marked true false true true) ∷ row_of 6 0 Kind.Large 0 256 0 (marked true true false true) ∷ row_of 7 0 Kind.Large 1 0 0 (marked true false true true) ∷ row_of 8 0 Kind.Large 0 256 0 (marked true true false true) ∷ []) (totalled 8 8 3 11 8)
 unfolding counted each_of free_bits

@@ -1,10 +1,10 @@
 -- The replays of the random traces 2041 to 2080, by computing.
-use Rattle.std.specs.Prelude.{◌≡◌, true, false, [], ◌∷◌, codes}
-use Rattle.std.proofs.Common.{refl}
-use Rattle.pas_profile.specs.declared.directory.Kind.TheVariants as Kind
-use Rattle.pas_one_text.specs.Pages.{each_of}
-use Rattle.pas_one_text.specs.Passes.{free_bits}
-use Rattle.pas_one_text.proofs.Seen.{counted, shown, row_of, marked, totalled, deed_of, back_of, unback_of, give_of, freed_of, ended_of, no_block_of, size_differs_of, outside_of, unaligned_of, no_space_of, skipped_of, tick_of, pass_of, young_of, in_use_of, not_offered_of, stopped_of, phase_of, closed}
+use Rattle.std.proofs.Common.{◌≡◌, true, false, [], ◌∷◌, codes, refl}
+use Rattle.pas_profile.specs.declared.directory.Kind.{Kind}
+use Rattle.pas_one_text.specs.{Pages.each_of, Passes.free_bits}
+use Rattle.pas_one_text.proofs.Seen.{counted, shown, row_of, marked, totalled, deed_of, back_of, unback_of, give_of, freed_of, ended_of, no_block_of}
+use Rattle.pas_one_text.proofs.Seen.{size_differs_of, outside_of, unaligned_of, no_space_of, skipped_of, tick_of, pass_of, young_of, in_use_of, not_offered_of}
+use Rattle.pas_one_text.proofs.Seen.{stopped_of, phase_of, closed}
 
 trace_2041 : counted (codes "pas 2 pages 5 threads 3 heaps 2 age 3\na 3 1 1 16384 1024\na 1 2 0 128 2048\na 1 3 0 1000 64\nstop 1\nfs 1 2 128 2048\nfs 1 3 1000 64\nf 3 1\npass\npass\nphase\na 2 4 0 300 256\n") ≡ shown (deed_of 3 1 1 Kind.Large ∷ deed_of 3 2 1 Kind.Large ∷ deed_of 3 3 1 Kind.Large ∷ deed_of 3 4 1 Kind.Large ∷ back_of 3 1 ∷ back_of 3 2 ∷ back_of 3 3 ∷ back_of 3 4 ∷ give_of 3 4096 0 16384 1 ∷ deed_of 1 5 0 Kind.Bitfit ∷ back_of 1 5 ∷ give_of 1 20480 0 128 0 ∷ give_of 1 20608 0 1008 0 ∷ pass_of 0 ∷ pass_of 0 ∷ phase_of 2 ∷ no_space_of 2 4 ∷ closed ∷ freed_of 1 20480 0 0 ∷ freed_of 1 20608 0 0 ∷ freed_of 3 4096 0 0 ∷ []) (row_of 1 1 Kind.Large 0 256 0 (marked true true false true) ∷ row_of 2 1 Kind.Large 0 256 0 (marked true true false true) ∷ row_of 3 1 Kind.Large 0 256 0 (marked true true false true) ∷ row_of 4 1 Kind.Large 0 256 0 (marked true true false true) ∷ row_of 5 0 Kind.Bitfit 0 256 0 (marked true true false true) ∷ []) (totalled 5 5 0 3 3)
 unfolding counted each_of free_bits

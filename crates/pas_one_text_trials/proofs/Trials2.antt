@@ -1,10 +1,10 @@
 -- The replays of the random traces 41 to 80, by computing.
-use Rattle.std.specs.Prelude.{◌≡◌, true, false, [], ◌∷◌, codes}
-use Rattle.std.proofs.Common.{refl}
-use Rattle.pas_profile.specs.declared.directory.Kind.TheVariants as Kind
-use Rattle.pas_one_text.specs.Pages.{each_of}
-use Rattle.pas_one_text.specs.Passes.{free_bits}
-use Rattle.pas_one_text.proofs.Seen.{counted, shown, row_of, marked, totalled, deed_of, back_of, unback_of, give_of, freed_of, ended_of, no_block_of, outside_of, unaligned_of, no_space_of, held_of, skipped_of, tick_of, pass_of, young_of, in_use_of, not_offered_of, stopped_of, phase_of, closed}
+use Rattle.std.proofs.Common.{◌≡◌, true, false, [], ◌∷◌, codes, refl}
+use Rattle.pas_profile.specs.declared.directory.Kind.{Kind}
+use Rattle.pas_one_text.specs.{Pages.each_of, Passes.free_bits}
+use Rattle.pas_one_text.proofs.Seen.{counted, shown, row_of, marked, totalled, deed_of, back_of, unback_of, give_of, freed_of, ended_of, no_block_of}
+use Rattle.pas_one_text.proofs.Seen.{outside_of, unaligned_of, no_space_of, held_of, skipped_of, tick_of, pass_of, young_of, in_use_of, not_offered_of}
+use Rattle.pas_one_text.proofs.Seen.{stopped_of, phase_of, closed}
 
 trace_41 : counted (codes "pas 1 pages 2 threads 1 heaps 3 age 2\nshared 0\npass\ntick 1\npass\na 1 1 0 513 32\na 1 2 2 400 128\n") ≡ shown (pass_of 0 ∷ tick_of 1 ∷ pass_of 1 ∷ deed_of 1 1 0 Kind.Bitfit ∷ back_of 1 1 ∷ give_of 1 4096 0 528 0 ∷ deed_of 1 2 2 (Kind.Class 15) ∷ back_of 1 2 ∷ give_of 1 8192 0 512 2 ∷ closed ∷ []) (row_of 1 0 Kind.Bitfit 1 223 0 (marked true true false false) ∷ row_of 2 2 (Kind.Class 15) 1 224 0 (marked true true false false) ∷ []) (totalled 2 2 2 2 0)
 unfolding counted each_of free_bits

@@ -1,10 +1,9 @@
 -- The replays of the random traces 81 to 120, by computing.
-use Rattle.std.specs.Prelude.{◌≡◌, true, false, [], ◌∷◌, codes}
-use Rattle.std.proofs.Common.{refl}
-use Rattle.pas_profile.specs.declared.directory.Kind.TheVariants as Kind
-use Rattle.pas_one_text.specs.Pages.{each_of}
-use Rattle.pas_one_text.specs.Passes.{free_bits}
-use Rattle.pas_one_text.proofs.Seen.{counted, shown, row_of, marked, totalled, deed_of, back_of, unback_of, give_of, freed_of, ended_of, no_block_of, unaligned_of, no_space_of, held_of, skipped_of, tick_of, pass_of, young_of, in_use_of, stopped_of, phase_of, closed}
+use Rattle.std.proofs.Common.{◌≡◌, true, false, [], ◌∷◌, codes, refl}
+use Rattle.pas_profile.specs.declared.directory.Kind.{Kind}
+use Rattle.pas_one_text.specs.{Pages.each_of, Passes.free_bits}
+use Rattle.pas_one_text.proofs.Seen.{counted, shown, row_of, marked, totalled, deed_of, back_of, unback_of, give_of, freed_of, ended_of, no_block_of}
+use Rattle.pas_one_text.proofs.Seen.{unaligned_of, no_space_of, held_of, skipped_of, tick_of, pass_of, young_of, in_use_of, stopped_of, phase_of, closed}
 
 trace_81 : counted (codes "pas 1 pages 3 threads 3 heaps 3 age 3\na 3 1 1 600 32\npass\na 2 2 2 256 16\ntick 1\nstop 1\na 1 3 0 100 256\npass\nphase\nflush 3\na 2 4 0 100 32\nidle 0\npass\na 2 5 1 400 16\nphase\nidle 0\nstop 3\nf 1 4\ntick 3\na 1 6 1 2049 32\nphase\npass\nphase\nf 2 3\na 3 7 2 2048 16\n") ≡ shown (deed_of 3 1 1 Kind.Bitfit ∷ back_of 3 1 ∷ give_of 3 4096 0 608 1 ∷ pass_of 0 ∷ deed_of 2 2 2 (Kind.Class 11) ∷ back_of 2 2 ∷ give_of 2 8192 0 256 2 ∷ tick_of 1 ∷ deed_of 1 3 0 (Kind.Class 11) ∷ back_of 1 3 ∷ give_of 1 12288 0 256 0 ∷ pass_of 1 ∷ phase_of 2 ∷ no_space_of 2 4 ∷ stopped_of 1 ∷ pass_of 1 ∷ no_space_of 2 5 ∷ phase_of 3 ∷ stopped_of 2 ∷ skipped_of 1 4 ∷ tick_of 3 ∷ no_space_of 1 6 ∷ phase_of 4 ∷ pass_of 3 ∷ phase_of 5 ∷ no_space_of 3 7 ∷ closed ∷ freed_of 2 12288 0 3 ∷ []) (row_of 1 1 Kind.Bitfit 1 218 0 (marked true true false false) ∷ row_of 2 2 (Kind.Class 11) 1 240 0 (marked true true false false) ∷ row_of 3 0 (Kind.Class 11) 0 256 3 (marked true true false true) ∷ []) (totalled 3 3 2 3 1)
 unfolding counted each_of free_bits

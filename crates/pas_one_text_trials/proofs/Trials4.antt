@@ -1,10 +1,10 @@
 -- The replays of the random traces 121 to 160, by computing.
-use Rattle.std.specs.Prelude.{◌≡◌, true, false, [], ◌∷◌, codes}
-use Rattle.std.proofs.Common.{refl}
-use Rattle.pas_profile.specs.declared.directory.Kind.TheVariants as Kind
-use Rattle.pas_one_text.specs.Pages.{each_of}
-use Rattle.pas_one_text.specs.Passes.{free_bits}
-use Rattle.pas_one_text.proofs.Seen.{counted, shown, row_of, marked, totalled, deed_of, back_of, unback_of, give_of, freed_of, ended_of, no_block_of, outside_of, unaligned_of, no_space_of, held_of, skipped_of, tick_of, pass_of, young_of, in_use_of, not_offered_of, stopped_of, phase_of, closed}
+use Rattle.std.proofs.Common.{◌≡◌, true, false, [], ◌∷◌, codes, refl}
+use Rattle.pas_profile.specs.declared.directory.Kind.{Kind}
+use Rattle.pas_one_text.specs.{Pages.each_of, Passes.free_bits}
+use Rattle.pas_one_text.proofs.Seen.{counted, shown, row_of, marked, totalled, deed_of, back_of, unback_of, give_of, freed_of, ended_of, no_block_of}
+use Rattle.pas_one_text.proofs.Seen.{outside_of, unaligned_of, no_space_of, held_of, skipped_of, tick_of, pass_of, young_of, in_use_of, not_offered_of}
+use Rattle.pas_one_text.proofs.Seen.{stopped_of, phase_of, closed}
 
 trace_121 : counted (codes "pas 1 pages 3 threads 2 heaps 1 age 1\nshared 0\nr 1 0x00001200 2\nphase\nstop 1\nstop 1\na 1 1 0 24 16\nf 1 1\ntick 3\nflush 1\nf 1 1\na 2 2 0 1500 64\na 2 3 0 256 2048\nf 2 3\na 1 4 0 512 256\nidle 0\nf 2 2\nf 2 2\na 1 5 0 2048 16\na 2 6 0 12000 64\na 1 7 0 256 32\na 1 8 0 256 16\na 2 9 0 513 128\na 1 10 0 0 64\nflush 1\npass\n") ≡ shown (phase_of 2 ∷ no_block_of 1 4608 2 ∷ deed_of 1 1 0 Kind.Shared ∷ back_of 1 1 ∷ give_of 1 4096 0 32 0 ∷ tick_of 3 ∷ freed_of 1 4096 0 3 ∷ deed_of 2 2 0 Kind.Bitfit ∷ back_of 2 2 ∷ give_of 2 8192 0 1504 0 ∷ give_of 2 10240 0 256 0 ∷ give_of 1 4608 0 512 0 ∷ deed_of 1 3 0 Kind.Bitfit ∷ back_of 1 3 ∷ give_of 1 12288 0 2048 0 ∷ no_space_of 2 6 ∷ give_of 1 4352 0 256 0 ∷ give_of 1 6656 0 256 0 ∷ give_of 2 10496 0 528 0 ∷ give_of 1 4224 0 64 0 ∷ ended_of 1 4096 0 ∷ pass_of 3 ∷ closed ∷ freed_of 2 10240 0 3 ∷ freed_of 2 8192 0 3 ∷ ended_of 2 8192 0 ∷ []) (row_of 1 0 Kind.Shared 4 188 3 (marked true true false false) ∷ row_of 2 0 Kind.Bitfit 1 223 3 (marked true true false false) ∷ row_of 3 0 Kind.Bitfit 1 128 0 (marked true true false false) ∷ []) (totalled 3 3 6 9 3)
 unfolding counted each_of free_bits

@@ -1,10 +1,10 @@
 -- The replays of the random traces 161 to 200, by computing.
-use Rattle.std.specs.Prelude.{◌≡◌, true, false, [], ◌∷◌, codes}
-use Rattle.std.proofs.Common.{refl}
-use Rattle.pas_profile.specs.declared.directory.Kind.TheVariants as Kind
-use Rattle.pas_one_text.specs.Pages.{each_of}
-use Rattle.pas_one_text.specs.Passes.{free_bits}
-use Rattle.pas_one_text.proofs.Seen.{counted, shown, row_of, marked, totalled, deed_of, back_of, unback_of, give_of, freed_of, ended_of, no_block_of, outside_of, unaligned_of, no_space_of, held_of, skipped_of, tick_of, pass_of, young_of, in_use_of, not_offered_of, stopped_of, phase_of, closed}
+use Rattle.std.proofs.Common.{◌≡◌, true, false, [], ◌∷◌, codes, refl}
+use Rattle.pas_profile.specs.declared.directory.Kind.{Kind}
+use Rattle.pas_one_text.specs.{Pages.each_of, Passes.free_bits}
+use Rattle.pas_one_text.proofs.Seen.{counted, shown, row_of, marked, totalled, deed_of, back_of, unback_of, give_of, freed_of, ended_of, no_block_of}
+use Rattle.pas_one_text.proofs.Seen.{outside_of, unaligned_of, no_space_of, held_of, skipped_of, tick_of, pass_of, young_of, in_use_of, not_offered_of}
+use Rattle.pas_one_text.proofs.Seen.{stopped_of, phase_of, closed}
 
 trace_161 : counted (codes "pas 1 pages 3 threads 1 heaps 3 age 1\nshared 1\npass\nstop 1\na 1 1 1 2000 16\nf 1 1\nidle 0\nphase\nidle 2\nidle 0\nflush 1\nphase\nphase\nphase\nf 1 1\na 1 2 0 128 16\nf 1 2\ntick 3\nflush 1\nf 1 2\nf 1 2\n") ≡ shown (pass_of 0 ∷ deed_of 1 1 1 Kind.Bitfit ∷ back_of 1 1 ∷ give_of 1 4096 0 2000 1 ∷ phase_of 2 ∷ freed_of 1 4096 0 0 ∷ phase_of 3 ∷ phase_of 4 ∷ phase_of 5 ∷ deed_of 1 2 0 (Kind.Class 7) ∷ back_of 1 2 ∷ give_of 1 8192 0 128 0 ∷ tick_of 3 ∷ ended_of 1 4096 0 ∷ freed_of 1 8192 0 3 ∷ closed ∷ ended_of 1 8192 0 ∷ ended_of 1 8192 0 ∷ []) (row_of 1 1 Kind.Bitfit 0 256 0 (marked true true false true) ∷ row_of 2 0 (Kind.Class 7) 0 256 3 (marked true true false true) ∷ []) (totalled 2 2 0 2 2)
 unfolding counted each_of free_bits

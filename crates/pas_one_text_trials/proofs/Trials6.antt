@@ -1,10 +1,10 @@
 -- The replays of the random traces 201 to 240, by computing.
-use Rattle.std.specs.Prelude.{◌≡◌, true, false, [], ◌∷◌, codes}
-use Rattle.std.proofs.Common.{refl}
-use Rattle.pas_profile.specs.declared.directory.Kind.TheVariants as Kind
-use Rattle.pas_one_text.specs.Pages.{each_of}
-use Rattle.pas_one_text.specs.Passes.{free_bits}
-use Rattle.pas_one_text.proofs.Seen.{counted, shown, row_of, marked, totalled, deed_of, back_of, unback_of, give_of, freed_of, ended_of, no_block_of, outside_of, unaligned_of, no_space_of, held_of, skipped_of, tick_of, pass_of, young_of, in_use_of, not_offered_of, stopped_of, phase_of, closed}
+use Rattle.std.proofs.Common.{◌≡◌, true, false, [], ◌∷◌, codes, refl}
+use Rattle.pas_profile.specs.declared.directory.Kind.{Kind}
+use Rattle.pas_one_text.specs.{Pages.each_of, Passes.free_bits}
+use Rattle.pas_one_text.proofs.Seen.{counted, shown, row_of, marked, totalled, deed_of, back_of, unback_of, give_of, freed_of, ended_of, no_block_of}
+use Rattle.pas_one_text.proofs.Seen.{outside_of, unaligned_of, no_space_of, held_of, skipped_of, tick_of, pass_of, young_of, in_use_of, not_offered_of}
+use Rattle.pas_one_text.proofs.Seen.{stopped_of, phase_of, closed}
 
 trace_201 : counted (codes "pas 1 pages 2 threads 1 heaps 2 age 2\nshared 1\ntick 0\na 1 1 1 300 4096\nf 1 1\nf 1 1\nf 1 1\na 1 2 1 500 16\nr 1 0x00001008 0\na 1 3 0 1 32\na 1 4 1 513 16\na 1 5 0 1000 16\na 1 6 1 1 16\na 1 7 1 1500 16\n") ≡ shown (tick_of 0 ∷ deed_of 1 1 1 Kind.Bitfit ∷ back_of 1 1 ∷ give_of 1 4096 0 304 1 ∷ deed_of 1 2 1 Kind.Shared ∷ back_of 1 2 ∷ give_of 1 8192 0 512 1 ∷ unaligned_of 1 4104 0 ∷ no_space_of 1 3 ∷ give_of 1 4400 0 528 1 ∷ no_space_of 1 5 ∷ give_of 1 10240 0 16 1 ∷ give_of 1 4928 0 1504 1 ∷ closed ∷ freed_of 1 4096 0 0 ∷ ended_of 1 4096 0 ∷ ended_of 1 4096 0 ∷ []) (row_of 1 1 Kind.Bitfit 2 129 0 (marked true true false false) ∷ row_of 2 1 Kind.Shared 2 223 0 (marked true true false false) ∷ []) (totalled 2 2 4 5 1)
 unfolding counted each_of free_bits

@@ -1,10 +1,9 @@
 -- The replays of the random traces 1001 to 1040, by computing.
-use Rattle.std.specs.Prelude.{◌≡◌, true, false, [], ◌∷◌, codes}
-use Rattle.std.proofs.Common.{refl}
-use Rattle.pas_profile.specs.declared.directory.Kind.TheVariants as Kind
-use Rattle.pas_one_text.specs.Pages.{each_of}
-use Rattle.pas_one_text.specs.Passes.{free_bits}
-use Rattle.pas_one_text.proofs.Seen.{counted, shown, row_of, marked, totalled, deed_of, back_of, give_of, freed_of, ended_of, no_space_of, skipped_of, tick_of, pass_of, young_of, in_use_of, stopped_of, phase_of, closed}
+use Rattle.std.proofs.Common.{◌≡◌, true, false, [], ◌∷◌, codes, refl}
+use Rattle.pas_profile.specs.declared.directory.Kind.{Kind}
+use Rattle.pas_one_text.specs.{Pages.each_of, Passes.free_bits}
+use Rattle.pas_one_text.proofs.Seen.{counted, shown, row_of, marked, totalled, deed_of, back_of, give_of, freed_of, ended_of, no_space_of, skipped_of, tick_of}
+use Rattle.pas_one_text.proofs.Seen.{pass_of, young_of, in_use_of, stopped_of, phase_of, closed}
 
 trace_1001 : counted (codes "pas 1 pages 8 threads 2 heaps 2 age 1\nflush 1\na 2 1 1 8192 16\na 1 2 0 4096 16\na 2 3 0 4096 16\na 2 4 0 4096 16\nf 1 2\nphase\nidle 0\nf 2 4\nflush 2\na 2 5 0 4096 16\nphase\na 1 6 0 4096 16\na 2 7 0 4096 16\na 1 8 0 4096 16\na 1 9 0 8192 16\nf 2 7\nphase\nidle 0\nf 1 8\nf 1 9\nflush 1\na 1 10 0 4096 16\nphase\nflush 2\nf 1 1\nflush 2\nf 1 3\na 1 11 0 4096 16\na 2 12 0 4096 16\na 2 13 0 8192 16\nf 1 11\nphase\nidle 0\nf 2 12\nf 2 13\nflush 2\na 2 14 0 4096 16\na 2 15 0 8192 16\nphase\na 2 16 0 4096 16\na 1 17 0 4096 16\na 1 18 0 4096 16\nf 2 16\nphase\nidle 0\nf 1 17\nflush 1\na 1 19 0 4096 16\na 1 20 0 8192 16\na 1 21 0 8192 16\na 1 22 0 4096 16\nphase\nflush 1\nf 1 19\na 2 23 1 4096 16\nf 2 12\na 2 24 1 4096 16\na 2 25 0 4096 16\na 1 26 0 4096 16\na 1 27 0 4096 16\nf 2 25\nphase\nidle 0\nf 1 26\nflush 1\na 1 28 0 4096 16\na 1 29 0 8192 16\nphase\nflush 2\na 1 30 0 512 16\nidle 2\n") ≡ shown (deed_of 2 1 1 Kind.Large ∷ deed_of 2 2 1 Kind.Large ∷ back_of 2 1 ∷ back_of 2 2 ∷ give_of 2 4096 0 8192 1 ∷ deed_of 1 3 0 Kind.Large ∷ back_of 1 3 ∷ give_of 1 12288 0 4096 0 ∷ deed_of 2 4 0 Kind.Large ∷ back_of 2 4 ∷ give_of 2 16384 0 4096 0 ∷ deed_of 2 5 0 Kind.Large ∷ back_of 2 5 ∷ give_of 2 20480 0 4096 0 ∷ phase_of 2 ∷ freed_of 1 12288 0 0 ∷ stopped_of 1 ∷ freed_of 2 20480 0 0 ∷ give_of 2 20480 1 4096 0 ∷ phase_of 3 ∷ give_of 1 12288 1 4096 0 ∷ deed_of 2 6 0 Kind.Large ∷ back_of 2 6 ∷ give_of 2 24576 0 4096 0 ∷ deed_of 1 7 0 Kind.Large ∷ back_of 1 7 ∷ give_of 1 28672 0 4096 0 ∷ no_space_of 1 9 ∷ phase_of 4 ∷ freed_of 2 24576 0 0 ∷ stopped_of 2 ∷ skipped_of 1 9 ∷ freed_of 1 28672 0 0 ∷ give_of 1 28672 1 4096 0 ∷ phase_of 5 ∷ give_of 1 24576 1 4096 0 ∷ deed_of 2 8 0 Kind.Large ∷ back_of 2 8 ∷ give_of 2 32768 0 4096 0 ∷ no_space_of 2 13 ∷ phase_of 6 ∷ freed_of 1 4096 0 0 ∷ freed_of 1 16384 0 0 ∷ freed_of 1 24576 1 0 ∷ stopped_of 1 ∷ skipped_of 2 13 ∷ freed_of 2 32768 0 0 ∷ give_of 2 32768 1 4096 0 ∷ no_space_of 2 15 ∷ phase_of 7 ∷ give_of 2 16384 1 4096 0 ∷ give_of 1 24576 2 4096 0 ∷ no_space_of 1 18 ∷ phase_of 8 ∷ freed_of 2 16384 1 0 ∷ stopped_of 2 ∷ freed_of 1 24576 2 0 ∷ give_of 1 24576 3 4096 0 ∷ no_space_of 1 20 ∷ no_space_of 1 21 ∷ give_of 1 16384 2 4096 0 ∷ phase_of 9 ∷ give_of 2 4096 1 4096 1 ∷ give_of 2 8192 0 4096 1 ∷ no_space_of 2 25 ∷ no_space_of 1 26 ∷ no_space_of 1 27 ∷ skipped_of 2 25 ∷ phase_of 10 ∷ ended_of 2 32768 0 ∷ stopped_of 2 ∷ skipped_of 1 26 ∷ freed_of 1 24576 3 0 ∷ give_of 1 24576 4 4096 0 ∷ no_space_of 1 29 ∷ phase_of 11 ∷ no_space_of 1 30 ∷ closed ∷ []) (row_of 1 1 Kind.Large 1 0 0 (marked true false true true) ∷ row_of 2 1 Kind.Large 1 0 0 (marked true false true true) ∷ row_of 3 0 Kind.Large 1 0 0 (marked true false true true) ∷ row_of 4 0 Kind.Large 1 0 0 (marked true false true true) ∷ row_of 5 0 Kind.Large 1 0 0 (marked true false true true) ∷ row_of 6 0 Kind.Large 1 0 0 (marked true false true true) ∷ row_of 7 0 Kind.Large 1 0 0 (marked true false true true) ∷ row_of 8 0 Kind.Large 1 0 0 (marked true false true true) ∷ []) (totalled 8 8 8 19 11)
 unfolding counted each_of free_bits

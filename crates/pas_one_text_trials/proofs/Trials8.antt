@@ -1,10 +1,10 @@
 -- The replays of the random traces 2001 to 2040, by computing.
-use Rattle.std.specs.Prelude.{◌≡◌, true, false, [], ◌∷◌, codes}
-use Rattle.std.proofs.Common.{refl}
-use Rattle.pas_profile.specs.declared.directory.Kind.TheVariants as Kind
-use Rattle.pas_one_text.specs.Pages.{each_of}
-use Rattle.pas_one_text.specs.Passes.{free_bits}
-use Rattle.pas_one_text.proofs.Seen.{counted, shown, row_of, marked, totalled, deed_of, back_of, unback_of, give_of, freed_of, ended_of, no_block_of, size_differs_of, outside_of, unaligned_of, no_space_of, held_of, skipped_of, tick_of, pass_of, young_of, in_use_of, stopped_of, phase_of, closed}
+use Rattle.std.proofs.Common.{◌≡◌, true, false, [], ◌∷◌, codes, refl}
+use Rattle.pas_profile.specs.declared.directory.Kind.{Kind}
+use Rattle.pas_one_text.specs.{Pages.each_of, Passes.free_bits}
+use Rattle.pas_one_text.proofs.Seen.{counted, shown, row_of, marked, totalled, deed_of, back_of, unback_of, give_of, freed_of, ended_of, no_block_of}
+use Rattle.pas_one_text.proofs.Seen.{size_differs_of, outside_of, unaligned_of, no_space_of, held_of, skipped_of, tick_of, pass_of, young_of, in_use_of}
+use Rattle.pas_one_text.proofs.Seen.{stopped_of, phase_of, closed}
 
 trace_2001 : counted (codes "pas 2 pages 2 threads 1 heaps 1 age 1\nshared 0\na 1 1 0 1500 1024\nstop 1\na 1 2 0 400 16\nphase\nfs 1 2 400 16\ntick 0\nfs 1 1 512 16\nfs 1 2 400 16\nphase\nf 1 2\na 1 3 0 16 16\npass\nfs 1 3 600 16\na 1 4 0 0 256\nstop 1\na 1 5 0 128 64\nidle 2\nidle 0\na 1 6 0 128 16\na 1 7 0 200 16\n") ≡ shown (deed_of 1 1 0 Kind.Bitfit ∷ back_of 1 1 ∷ give_of 1 4096 0 1504 0 ∷ deed_of 1 2 0 Kind.Shared ∷ back_of 1 2 ∷ give_of 1 8192 0 448 0 ∷ phase_of 2 ∷ tick_of 0 ∷ phase_of 3 ∷ give_of 1 9984 0 16 0 ∷ pass_of 0 ∷ give_of 1 10240 0 256 0 ∷ freed_of 1 8192 0 0 ∷ size_differs_of 1 4096 0 512 ∷ ended_of 1 8192 0 ∷ ended_of 1 8192 0 ∷ size_differs_of 1 9984 0 608 ∷ give_of 1 8192 1 128 0 ∷ give_of 1 8320 0 128 0 ∷ give_of 1 8864 0 224 0 ∷ closed ∷ []) (row_of 1 0 Kind.Bitfit 1 162 0 (marked true true false false) ∷ row_of 2 0 Kind.Shared 5 209 0 (marked true true false false) ∷ []) (totalled 2 2 6 7 1)
 unfolding counted each_of free_bits

@@ -1,10 +1,10 @@
 -- The replays of the random traces 3001 to 3040, by computing.
-use Rattle.std.specs.Prelude.{◌≡◌, true, false, [], ◌∷◌, codes}
-use Rattle.std.proofs.Common.{refl}
-use Rattle.pas_profile.specs.declared.directory.Kind.TheVariants as Kind
-use Rattle.pas_one_text.specs.Pages.{each_of}
-use Rattle.pas_one_text.specs.Passes.{free_bits}
-use Rattle.pas_one_text.proofs.Seen.{counted, shown, row_of, marked, totalled, deed_of, back_of, unback_of, give_of, freed_of, ended_of, no_block_of, size_differs_of, no_space_of, skipped_of, kept_of, guarded_of, lowered_of, tick_of, pass_of, young_of, in_use_of, phase_of, closed}
+use Rattle.std.proofs.Common.{◌≡◌, true, false, [], ◌∷◌, codes, refl}
+use Rattle.pas_profile.specs.declared.directory.Kind.{Kind}
+use Rattle.pas_one_text.specs.{Pages.each_of, Passes.free_bits}
+use Rattle.pas_one_text.proofs.Seen.{counted, shown, row_of, marked, totalled, deed_of, back_of, unback_of, give_of, freed_of, ended_of, no_block_of}
+use Rattle.pas_one_text.proofs.Seen.{size_differs_of, no_space_of, skipped_of, kept_of, guarded_of, lowered_of, tick_of, pass_of, young_of, in_use_of, phase_of}
+use Rattle.pas_one_text.proofs.Seen.{closed}
 
 trace_3001 : counted (codes "pas 4 pages 7 threads 2 heaps 1 age 2\nguard 2\na 2 1 0 4096 16\na 2 2 0 16 16\nflush 2\nfs 2 1 4096 16\na 2 3 0 8192 16\na 2 4 0 4096 16\nm 2 5 2 16 16\nflush 2\nflush 1\nflush 2\ntick 3\npass\na 1 6 0 4096 16\nflush 2\nflush 2\nfs 1 6 4096 16\na 2 7 0 4096 16\nphase\nfs 1 5 16 16\na 2 8 0 256 16\nstop 1\nphase\nfs 1 2 0 16\n") ≡ shown (deed_of 2 1 0 Kind.Large ∷ back_of 2 1 ∷ give_of 2 4096 0 4096 0 ∷ deed_of 2 2 0 (Kind.Class 0) ∷ back_of 2 2 ∷ give_of 2 8192 0 16 0 ∷ deed_of 4 3 0 Kind.Large ∷ deed_of 4 4 0 Kind.Large ∷ deed_of 4 5 0 Kind.Large ∷ deed_of 4 6 0 Kind.Large ∷ back_of 4 4 ∷ back_of 4 5 ∷ give_of 4 16384 0 8192 0 ∷ guarded_of 4 3 6 3 ∷ deed_of 2 7 0 Kind.Large ∷ back_of 2 7 ∷ give_of 2 28672 0 4096 0 ∷ kept_of 2 8192 0 5 ∷ freed_of 2 4096 0 0 ∷ tick_of 3 ∷ pass_of 3 ∷ unback_of 0 1 3 ∷ back_of 1 1 ∷ give_of 1 4096 1 4096 0 ∷ no_space_of 2 7 ∷ phase_of 2 ∷ no_space_of 2 8 ∷ freed_of 1 4096 1 3 ∷ freed_of 1 8192 0 3 ∷ phase_of 3 ∷ closed ∷ ended_of 1 8192 0 ∷ lowered_of 4 3 6 ∷ []) (row_of 1 0 Kind.Large 0 256 3 (marked true true false true) ∷ row_of 2 0 (Kind.Class 0) 0 256 3 (marked true true false true) ∷ row_of 3 0 Kind.Large 0 256 0 (marked false true false false) ∷ row_of 4 0 Kind.Large 1 0 0 (marked true false true false) ∷ row_of 5 0 Kind.Large 0 0 0 (marked true false true false) ∷ row_of 6 0 Kind.Large 0 256 0 (marked false true false false) ∷ row_of 7 0 Kind.Large 1 0 0 (marked true false true false) ∷ []) (totalled 7 5 2 5 3)
 unfolding counted each_of free_bits

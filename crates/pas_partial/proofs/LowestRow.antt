@@ -1,7 +1,8 @@
 -- Rows of slots, and the lowest that is free.
-use Rattle.std.proofs.Common.{◌≡◌, ℕ, zero, suc, ◌+◌, ◌-◌, ◌*◌, ◌<◌, ◌≤◌, ◌↔◌, IsTrue, nat_le, Bool, true, ◌&&◌, ◌||◌, ap, sym, ◌∙◌, subst, arith, inl, inr, ◌⊎◌, true≢false}
+use Rattle.std.proofs.Common.{◌≡◌, ℕ, zero, suc, ◌+◌, ◌-◌, ◌*◌, ◌<◌, ◌≤◌, ◌↔◌, IsTrue, nat_le, Bool, true, ◌&&◌, ◌||◌, ap, sym, ◌∙◌, subst, arith, inl, inr}
+use Rattle.std.proofs.Common.{◌⊎◌, true≢false, leb-true, le-leb}
 use Rattle.std.proofs.Math.Nat.{suc-mul, zero-mul}
-use Rattle.std.proofs.lemmas.Bool.{and_from, and_parts, or_cases, leb-true, le-leb, cases_lt}
+use Rattle.std.proofs.lemmas.Bool.{and_from, and_parts, or_cases, cases_lt}
 use Rattle.pas_bits.specs.Runs.{in_run}
 use Rattle.pas_bits.proofs.Runs.{run_of, to_run}
 use Rattle.pas_bits.specs.declared.mask.Mask4.{Mask4}
@@ -21,7 +22,7 @@ abbrev pub AreRow : Mask4 → ℕ → ℕ → ℕ → Mask4 → Type 0
 AreRow mask first step n row = (s : ℕ) → IsTrue (is_set row s) ↔ IsInRow (λ x. is_set mask x ≡ true) first step n s
 
 -- under what says less
-pub row_as : (Good Fair : ℕ → Type 0) (first step n s : ℕ) → ((x : ℕ) → Good x → Fair x) → IsInRow Good first step n s → IsInRow Fair first step n s
+row_as : (Good Fair : ℕ → Type 0) (first step n s : ℕ) → ((x : ℕ) → Good x → Fair x) → IsInRow Good first step n s → IsInRow Fair first step n s
 row_as Good Fair first step n s fair row = (row.0, row.1, row.2, λ j le. fair (first + j * step) (row.3 j le))
 
 -- the last place of a row is good
@@ -43,7 +44,7 @@ row_one mask row first step good run s = (
   λ h. let at = run_of first 1 s (sym (run s) ∙ h) in let low = at.0 in let high = at.1 in
       let e : first ≡ s = omega (arith, low, high) in subst (IsInRow (λ x. is_set mask x ≡ true) first step 1) e (row_first (λ x. is_set mask x ≡ true) first step 1 (omega arith) good),
   λ here.
-      let lt = here.1 in let e = here.2 in let none : here.0 ≡ 0 = omega (arith, lt) in let z : here.0 * step ≡ 0 = ap (λ i. i * step) none ∙ zero-mul step in
+      let e = here.2 in let none : here.0 ≡ 0 = omega (arith, here.1) in let z : here.0 * step ≡ 0 = ap (λ i. i * step) none ∙ zero-mul step in
       run s ∙ to_run first 1 s (omega (arith, e, z)) (omega (arith, e, z)),
 )
 
@@ -80,7 +81,7 @@ module _ (mask row moved joined more : Mask4) (first step n : ℕ) (some : 1 ≤
   pub row_more : AreRow mask first step (n + 1) more
   row_more s = (
     λ h. elim (or_cases (is_set row s) (is_set joined s) (sym (more_is s) ∙ h)) [
-      | inl had ↦ let was = (row_is s).0 had in let lt = was.1 in (was.0, omega (arith, lt), was.2, was.3)
+      | inl had ↦ let was = (row_is s).0 had in (was.0, omega (arith, was.1), was.2, was.3)
       | inr new ↦ let at = and_parts (is_set moved s) (is_set mask s) (sym (joined_is s) ∙ new) in after s at.1 at.0
     ],
     λ here. more_is s ∙ either_true (is_set row s) (is_set joined s) (elim (before s here.0 here.1 here.2 here.3) [

@@ -1,9 +1,9 @@
 -- What a search of shared pages found, as slots, once the page was left.
-use Rattle.std.proofs.Common.{◌≡◌, ℕ, ◌+◌, ◌*◌, ◌/◌, ◌%◌, ◌==◌, Bool, true, if◌then◌else◌, List, [], ◌++◌, Ok, Err, refl, ap, sym, ◌∙◌, arith, true≢false, false}
-use Rattle.std.proofs.lemmas.Bool.{eq-eqb, and_from}
+use Rattle.std.proofs.Common.{◌≡◌, ℕ, ◌+◌, ◌*◌, ◌/◌, ◌%◌, ◌==◌, Bool, true, if◌then◌else◌, List, [], ◌++◌, Ok, Err, refl, ap, sym, ◌∙◌, arith, true≢false}
+use Rattle.std.proofs.Common.{false, eq-eqb}
+use Rattle.std.proofs.lemmas.Bool.{and_from}
 use Rattle.pas_profile.specs.Classes.{IsClass, class_grains}
-use Rattle.pas_profile.specs.declared.directory.Directory.{Directory}
-use Rattle.pas_profile.specs.declared.event.NoRoom.{NoRoom}
+use Rattle.pas_profile.specs.declared.{directory.Directory.Directory, event.NoRoom.NoRoom}
 use Rattle.pas_profile.proofs.ClassFacts.{class_grains_positive, slot_lt}
 use Rattle.pas_bits.specs.declared.mask.Mask4.{Mask4}
 use Rattle.pas_bits.specs.Masks.{is_set, HasMember}
@@ -12,17 +12,14 @@ use Rattle.pas_steps.specs.Calls.{Calls, Kept, Gained, now}
 use Rattle.pas_steps.specs.Desks.{Standing, CanCall}
 use Rattle.pas_steps.specs.Views.{View, holds, has_right, knows_backed}
 use Rattle.pas_steps.specs.declared.step.Made.{Made}
-use Rattle.pas_steps.proofs.Called.{call_knows, call_then, next_call}
-use Rattle.pas_steps.proofs.Calls.{returns_are}
+use Rattle.pas_steps.proofs.{Called.call_knows, Called.call_then, Called.next_call, Calls.returns_are}
 use Rattle.pas_search.specs.Searches.{MaySearch, SearchRoom, Searches}
 use Rattle.pas_search.specs.declared.serving.Served.{Served}
-use Rattle.pas_segregated.specs.Refills.{GetsSlots, Refills}
-use Rattle.pas_segregated.specs.Stops.{in_slots}
+use Rattle.pas_segregated.specs.{Refills.GetsSlots, Refills.Refills, Stops.in_slots}
 use Rattle.pas_segregated.specs.declared.slots.Slots.{Slots}
 use Rattle.pas_segregated.proofs.Starts.{start_at}
 use Rattle.pas_search.proofs.Found.{KeepsNew, found_call, left_after}
-use Rattle.pas_partial.specs.Refills.{shared_directory, shared_slots}
-use Rattle.pas_partial.specs.Rows.{IsFreeSlot, IsLowestRow, partial}
+use Rattle.pas_partial.specs.{Refills.shared_directory, Refills.shared_slots, Rows.IsFreeSlot, Rows.IsLowestRow, Rows.partial}
 use Rattle.pas_partial.proofs.LowestRow.{row_last, row_first}
 
 module _ (heap class : ℕ) (is : IsClass class) {tells : Bool} {σ σ1 : Standing} (served : Served Mask4) (searches : Searches (partial class) tells (shared_directory heap) σ σ1 (Ok served)) where

@@ -1,9 +1,7 @@
 -- A refill from a shared page.
 use Rattle.std.specs.Prelude.{ℕ}
-use Rattle.pas_profile.specs.declared.directory.Directory.{Directory}
-use Rattle.pas_profile.specs.declared.directory.Kind.TheVariants as Kind
-use Rattle.pas_segregated.specs.Refills.{Filling}
-use Rattle.pas_segregated.specs.Takes.{NoSlot}
+use Rattle.pas_profile.specs.declared.directory.{Directory.Directory, Kind.Kind}
+use Rattle.pas_segregated.specs.{Refills.Filling, Takes.NoSlot}
 use Rattle.pas_choice.specs.Choices.{TookChosen}
 use Rattle.pas_partial.specs.Rows.{rows}
 

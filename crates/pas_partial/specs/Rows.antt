@@ -1,7 +1,7 @@
 -- Slots of a shared page that follow each other.
 use Rattle.std.specs.Prelude.{ℕ, ◌+◌, ◌*◌, ◌<◌, ◌≤◌, ◌≡◌, ◌↔◌, IsTrue}
 use Rattle.pas_profile.specs.Classes.{IsClass, class_grains, IsSlotStart}
-use Rattle.pas_profile.specs.declared.directory.Kind.TheVariants as Kind
+use Rattle.pas_profile.specs.declared.directory.Kind.{Kind}
 use Rattle.pas_bits.specs.declared.mask.Mask4.{Mask4}
 use Rattle.pas_bits.specs.Masks.{is_set}
 use Rattle.pas_steps.specs.Evidence.{Readings}

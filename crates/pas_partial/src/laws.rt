@@ -2,12 +2,9 @@
 ghost use Rattle.std.specs.Prelude.{ℕ, ◌++◌, Result};
 ghost use Rattle.pas_profile.specs.Profiles.{IsDirectoryOf};
 ghost use Rattle.pas_profile.specs.declared.event.NoRoom.{NoRoom};
-ghost use Rattle.pas_steps.specs.Desks.{triples};
-ghost use Rattle.pas_steps.specs.Lists.{Whole, part, Legal};
-ghost use Rattle.pas_search.specs.Alone.{FindsWhatThereIs};
-ghost use Rattle.pas_search.specs.Searches.{MaySearch};
-ghost use Rattle.pas_segregated.specs.Refills.{Refills};
-ghost use Rattle.pas_segregated.specs.Takes.{NoSlot};
+ghost use Rattle.pas_steps.specs.{Desks.triples, Lists.Whole, Lists.part, Lists.Legal};
+ghost use Rattle.pas_search.specs.{Alone.FindsWhatThereIs, Searches.MaySearch};
+ghost use Rattle.pas_segregated.specs.{Refills.Refills, Takes.NoSlot};
 ghost use Rattle.pas_segregated.specs.declared.slots.Slots.{Slots as TheSlots};
 ghost use Rattle.pas_partial.specs.Refills.{shared_directory, shared_slots};
 

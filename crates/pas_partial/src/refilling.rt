@@ -1,7 +1,6 @@
 //! A refill: a few free slots of a shared page.
 ghost use Rattle.std.specs.Prelude.{◌≡◌};
-ghost use Rattle.pas_profile.specs.Classes.{IsClass};
-ghost use Rattle.pas_profile.specs.Profiles.{IsDirectoryOf};
+ghost use Rattle.pas_profile.specs.{Classes.IsClass, Profiles.IsDirectoryOf};
 ghost use Rattle.pas_steps.specs.Desks.{CanCall};
 ghost use Rattle.pas_search.specs.Searches.{SearchRoom};
 ghost use Rattle.pas_segregated.specs.Refills.{Refills};

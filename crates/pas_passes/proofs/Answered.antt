@@ -1,19 +1,13 @@
 -- A tick and a pass with their records.
-use Rattle.std.proofs.Common.{◌≡◌, ℕ, ◌+◌, Some, List, [], ◌∷◌, ◌++◌, length, refl, ap, sym, ◌∙◌, append_assoc}
-use Rattle.std.specs.Prelude.{map, max, reverse}
+use Rattle.std.proofs.Common.{◌≡◌, ℕ, ◌+◌, Some, List, [], ◌∷◌, ◌++◌, length, refl, ap, sym, ◌∙◌, append_assoc, map, max, reverse}
 use Rattle.pas_profile.specs.declared.event.Outcome.{Outcome}
-use Rattle.pas_report.specs.declared.record.Record.{Record}
-use Rattle.pas_report.specs.declared.record.Said.{Said}
+use Rattle.pas_report.specs.declared.record.{Record.Record, Said.Said}
 use Rattle.pas_scavenger.specs.Passes.{Passes, unbacks_in}
 use Rattle.pas_scavenger.proofs.Trying.{nothing_still}
-use Rattle.pas_steps.specs.Calls.{Calls}
-use Rattle.pas_steps.specs.Clear.{HasNothing}
-use Rattle.pas_steps.specs.Desks.{Standing, Makes, made}
+use Rattle.pas_steps.specs.{Calls.Calls, Clear.HasNothing, Desks.Standing, Desks.Makes, Desks.made}
 use Rattle.pas_steps.specs.declared.step.Step.TheVariants.{Tick}
-use Rattle.pas_steps.proofs.Called.{call_none, call_step}
-use Rattle.pas_steps.proofs.Calls.{does_idly}
-use Rattle.pas_passes.specs.Answers.{ticking, AnswersTick, AnswersPass}
-use Rattle.pas_passes.specs.Records.{record_of, records_of_pass}
+use Rattle.pas_steps.proofs.{Called.call_none, Called.call_step, Calls.does_idly}
+use Rattle.pas_passes.specs.{Answers.ticking, Answers.AnswersTick, Answers.AnswersPass, Records.record_of, Records.records_of_pass}
 use Rattle.pas_passes.proofs.Shown.{pass_shown}
 
 -- ---- a tick

@@ -1,15 +1,10 @@
 -- The events among the records of a pass are those of its steps.
-use Rattle.std.proofs.Common.{◌≡◌, ℕ, List, [], ◌∷◌, ◌++◌, refl, ap, sym, ◌∙◌}
-use Rattle.std.specs.Prelude.{map, reverse}
-use Rattle.std.proofs.lemmas.Grind.{flat_map-append}
-use Rattle.std.proofs.lemmas.List.{reverse-append, append-nil}
+use Rattle.std.proofs.Common.{◌≡◌, ℕ, List, [], ◌∷◌, ◌++◌, refl, ap, sym, ◌∙◌, map, reverse, append-nil}
+use Rattle.std.proofs.lemmas.{Grind.flat_map-append, List.reverse-append}
 use Rattle.pas_profile.specs.declared.event.Outcome.{Outcome}
 use Rattle.pas_profile.specs.declared.event.Outcome.TheVariants.{Unbacked, Bare, Young, InUse, NotOffered}
-use Rattle.pas_steps.specs.Desks.{Standing}
-use Rattle.pas_steps.specs.Events.{events_by}
-use Rattle.pas_steps.specs.Views.{View}
-use Rattle.pas_scavenger.specs.Pages.{unback_of}
-use Rattle.pas_scavenger.specs.Passes.{Passes, unbacks_in}
+use Rattle.pas_steps.specs.{Desks.Standing, Events.events_by, Views.View}
+use Rattle.pas_scavenger.specs.{Pages.unback_of, Passes.Passes, Passes.unbacks_in}
 use Rattle.pas_passes.specs.Records.{record_of, records_of_pass, event_in, events_in}
 
 one_event : (k epoch page : ℕ) (o : Outcome) → event_in (record_of k epoch page o) ≡ reverse (unback_of k epoch page o)
@@ -20,7 +15,7 @@ one_event k epoch page (InUse word value) = refl
 one_event k epoch page NotOffered = refl
 
 -- of the outcomes, which the events have the newest first
-pub outcomes_shown : (k epoch : ℕ) (found : List (ℕ × Outcome)) → events_in (map (λ p. record_of k epoch p.0 p.1) found) ≡ reverse (unbacks_in k epoch (reverse found))
+outcomes_shown : (k epoch : ℕ) (found : List (ℕ × Outcome)) → events_in (map (λ p. record_of k epoch p.0 p.1) found) ≡ reverse (unbacks_in k epoch (reverse found))
 outcomes_shown k epoch [] = refl
 outcomes_shown k epoch (x ∷ found) =
     let one = x ∷ [] in

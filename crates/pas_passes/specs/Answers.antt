@@ -1,18 +1,11 @@
 -- Which steps and records answer a tick and a pass.
 use Rattle.std.specs.Prelude.{ℕ, ◌+◌, ◌≡◌, List, [], ◌∷◌, ◌++◌, Some, length, reverse}
 use Rattle.pas_profile.specs.declared.event.Outcome.{Outcome}
-use Rattle.pas_report.specs.declared.record.Record.{Record}
-use Rattle.pas_report.specs.declared.record.Said.{Said}
+use Rattle.pas_report.specs.declared.record.{Record.Record, Said.Said}
 use Rattle.pas_scavenger.specs.Passes.{Passes, unbacks_in}
-use Rattle.pas_steps.specs.Calls.{Calls}
-use Rattle.pas_steps.specs.Clear.{HasNothing}
-use Rattle.pas_steps.specs.Desks.{Standing, made}
-use Rattle.pas_steps.specs.Effects.{new_value}
-use Rattle.pas_steps.specs.Events.{events_by}
-use Rattle.pas_steps.specs.Kinds.{Kinds, Ticking, Only}
-use Rattle.pas_steps.specs.Views.{View, known_epoch}
-use Rattle.pas_steps.specs.declared.step.Made.{Made}
-use Rattle.pas_steps.specs.declared.step.Step.TheVariants.{Tick}
+use Rattle.pas_steps.specs.{Calls.Calls, Clear.HasNothing, Desks.Standing, Desks.made, Effects.new_value, Events.events_by, Kinds.Kinds, Kinds.Ticking}
+use Rattle.pas_steps.specs.{Kinds.Only, Views.View, Views.known_epoch}
+use Rattle.pas_steps.specs.declared.step.{Made.Made, Step.TheVariants.Tick}
 use Rattle.pas_passes.specs.Records.{records_of_pass, events_in}
 
 abbrev pub ticking : Kinds

@@ -1,11 +1,9 @@
 //! A pass over the pages that are hinted as empty.
 ghost use Rattle.std.specs.Prelude.{◌≡◌, ◌+◌, ◌≤◌, ◌++◌, length, map};
 ghost use Rattle.pas_report.specs.Rooms.{records_in, room_of};
-ghost use Rattle.pas_steps.specs.Clear.{HasNothing};
-ghost use Rattle.pas_steps.specs.Desks.{CanCall};
+ghost use Rattle.pas_steps.specs.{Clear.HasNothing, Desks.CanCall};
 ghost use Rattle.pas_utility.specs.Outcomes.{pairs_in, places_of};
-ghost use Rattle.pas_passes.specs.Answers.{AnswersPass};
-ghost use Rattle.pas_passes.specs.Records.{record_of};
+ghost use Rattle.pas_passes.specs.{Answers.AnswersPass, Records.record_of};
 
 use pas_profile::{Event, Outcome};
 use pas_report::{Record, Records, Said};

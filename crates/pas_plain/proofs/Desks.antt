@@ -1,34 +1,21 @@
 -- Desks at a plain region, and their passes.
-use Rattle.std.proofs.Common.{◌≡◌, ◌≢◌, ℕ, zero, suc, ◌+◌, ◌-◌, ◌^◌, ◌≤◌, min, All, List, [], ◌∷◌, ◌++◌, length, reverse, refl, ap, sym, ◌∙◌, arith, true, subst}
-use Rattle.pas_profile.specs.Rooms.{shown, EventRoom}
+use Rattle.std.proofs.Common.{◌≡◌, ◌≢◌, ℕ, zero, suc, ◌+◌, ◌-◌, ◌^◌, ◌≤◌, min, All, List, [], ◌∷◌, ◌++◌, length, reverse, refl, ap, sym, ◌∙◌, arith, true}
+use Rattle.std.proofs.Common.{subst, slice_index}
+use Rattle.pas_profile.specs.{Rooms.shown, Rooms.EventRoom, Layouts.index_of, Profiles.IsWordOf}
 use Rattle.pas_profile.specs.declared.profile.Profile.{Profile}
-use Rattle.pas_steps.specs.Events.{events_of, event_of}
+use Rattle.pas_steps.specs.{Events.events_of, Events.event_of, Lists.Whole, Lists.part, Lists.Legal, Allowed.Allowed, Allowed.IsStepOf, Agreement.Agrees}
+use Rattle.pas_steps.specs.{Calls.nothing, Calls.Does, Calls.Calls, Clear.IsClear, Clear.HasNothing, Effects.target}
 use Rattle.pas_steps.specs.Views.{known_epoch, View, epoch_of, or_zero}
-use Rattle.pas_steps.specs.Lists.{Whole, part, Legal}
 use Rattle.pas_steps.specs.Desks.{triples, Seat, Standing, made, triple, CanMake, Makes}
-use Rattle.pas_steps.specs.declared.step.Made.{Made}
-use Rattle.pas_steps.proofs.Parts.{part_of_others, part_of_own}
-use Rattle.pas_steps.proofs.Frames.{with_few}
+use Rattle.pas_steps.specs.declared.step.{Made.Made, Step.Step}
+use Rattle.pas_steps.proofs.{Parts.part_of_others, Parts.part_of_own, Frames.with_few, Called.call_none, Called.call_step, Called.call_as, Calls.still_clear}
+use Rattle.pas_steps.proofs.{Calls.does_idly, Targets.target_of_region}
 use Rattle.pas_plain.specs.Plain.{actor_of, PassStands, pass_for, passes_from, profile_of, room_of_pass, events_shown, RegionStands, epoch_known, IsExchanged}
-use Rattle.pas_plain.specs.declared.pass.PlainPass.{PlainPass}
-use Rattle.pas_steps.specs.Allowed.{Allowed, IsStepOf}
-use Rattle.pas_steps.specs.Agreement.{Agrees}
-use Rattle.pas_steps.specs.Calls.{nothing, Does, Calls}
-use Rattle.pas_steps.specs.Clear.{IsClear, HasNothing}
+use Rattle.pas_plain.specs.declared.{pass.PlainPass.PlainPass, region.PlainRegion.PlainRegion, desk.PlainDesk.PlainDesk}
 use Rattle.pas_steps.specs.Kinds.{Kinds, kind_of, is_in, apart, changing}
-use Rattle.pas_steps.specs.declared.step.Step.{Step}
-use Rattle.pas_steps.proofs.Called.{call_none, call_step, call_as}
-use Rattle.pas_steps.proofs.Calls.{still_clear, does_idly}
 use Rattle.pas_plain.specs.Seats.{region_of, pass_of, DeskStands, standing_of, IsChanged}
 use Rattle.pas_plain.specs.Storms.{Acts, StormStands, seat_for, storm_of, own_stands}
-use Rattle.pas_plain.specs.declared.region.PlainRegion.{PlainRegion}
-use Rattle.pas_plain.specs.declared.desk.PlainDesk.{PlainDesk}
 use Rattle.std.proofs.lemmas.List.{length-reverse}
-use Rattle.std.specs.Prelude.{slice_index}
-use Rattle.pas_profile.specs.Layouts.{index_of}
-use Rattle.pas_profile.specs.Profiles.{IsWordOf}
-use Rattle.pas_steps.specs.Effects.{target}
-use Rattle.pas_steps.proofs.Targets.{target_of_region}
 use Rattle.pas_core.specs.WordLists.{AreWordsAfter}
 use Rattle.pas_core.proofs.Nexts.{legal_next, agrees_next, words_next}
 use Rattle.pas_region.specs.Noted.{IsNoted}
@@ -101,9 +88,6 @@ disturbed old seated acts_done new foreign foreign' waiting region pass own acts
           (subst (λ (p : PlainPass). StormStands (region_of acts_done) p foreign' v after.0) (sym pass') (subst (λ (p : PlainPass). StormStands (region_of acts_done) waiting p v after.0) (sym risen) after.1)),
     )
 
-pub profile_kept : (seated acts_done : PlainDesk) → Acts (standing_of seated) (standing_of acts_done) → profile_of (region_of acts_done) ≡ profile_of (region_of seated)
-profile_kept seated acts_done acts = ap (λ (s : Seat). s.profile) acts.calls.adds.seat_is
-
 -- ---- an own step
 storm_next : (mid new : PlainDesk) (foreign : PlainPass) (s : Step) (a : ℕ) → Makes (standing_of mid) (standing_of new) s a → (v : View) (w : Whole) → StormStands (region_of mid) (pass_of mid) foreign v w → Allowed (profile_of (region_of mid)) v s
     → StormStands (region_of new) (pass_of new) foreign (made s a ∷ v) (triple (actor_of (pass_of mid)) (made s a) ∷ w)
@@ -158,11 +142,7 @@ storm_makes old mid new foreign foreign' s a own profile stands makes =
     }
 
 -- ---- for those who write intruders
--- an actor that has nothing makes no step
-pub acts_not : {σ : Standing} → Acts σ σ
-acts_not = record { steps = []; calls = call_none {R = λ v w. HasNothing w} (λ v met. met) }
-
-pub still_nothing : {v w : View} → Does nothing v w → HasNothing v → HasNothing w
+still_nothing : {v w : View} → Does nothing v w → HasNothing v → HasNothing w
 still_nothing does none = record { grains = λ g. does.held g ∙ none.grains g; rights = λ page. does.right page ∙ none.rights page; clear = still_clear does none.clear }
 
 -- one that changes nothing of what it holds, has and owes, and that it may always make
@@ -219,8 +199,7 @@ pub spare : {f : Profile} {room k : ℕ} {d : PlainDesk} {v : View} (n : ℕ) �
 spare {d = d} {v = v} n at few =
     let j = actor_of d.pass in
     let e : length (events_shown d.pass) ≡ length (events_of j v) = ap length at.stood.pass.shown ∙ length-reverse _ ∙ ap (λ x. length (events_of j x)) at.stood.part_is in
-    let size = at.of_room in
-    omega (arith, e, events_few j v, size, few)
+    omega (arith, e, events_few j v, at.of_room, few)
 
 -- ==== A region, a pass and a desk after a step.
 
@@ -229,7 +208,7 @@ own_part : (k : ℕ) (m : Made) (l : Whole) → part k (triple k m ∷ l) ≡ m 
 own_part k m l = part_of_own k (m ∷ []) l
 
 -- ---- the pass
-pub pass_next : (f : Profile) (old new : PlainPass) (s : Step) (a : ℕ) (l : Whole) → PassStands f old l → actor_of new ≡ actor_of old → IsNoted old.notes new.notes (actor_of old) s a → PassStands f new (triple (actor_of old) (made s a) ∷ l)
+pass_next : (f : Profile) (old new : PlainPass) (s : Step) (a : ℕ) (l : Whole) → PassStands f old l → actor_of new ≡ actor_of old → IsNoted old.notes new.notes (actor_of old) s a → PassStands f new (triple (actor_of old) (made s a) ∷ l)
 pass_next f old new s a l stands same noted =
     let k = actor_of old in
     let next = triple k (made s a) ∷ l in
@@ -247,7 +226,7 @@ pass_next f old new s a l stands same noted =
 are_words_after : (r : PlainRegion) (l : Whole) → RegionStands r l → AreWordsAfter (profile_of r) r.words.items l
 are_words_after r l stands = record { sized = omega (arith, r.sized, r.words.ok.0); values = stands.ends }
 
-pub region_next : (old new : PlainRegion) (e : ℕ) (s : Step) (a : ℕ) (l : Whole) (k : ℕ) → RegionStands old l → IsExchanged old new e s a → e ≡ epoch_of (part k l) → IsWordOf (profile_of old) (target s)
+region_next : (old new : PlainRegion) (e : ℕ) (s : Step) (a : ℕ) (l : Whole) (k : ℕ) → RegionStands old l → IsExchanged old new e s a → e ≡ epoch_of (part k l) → IsWordOf (profile_of old) (target s)
     → Legal (profile_of old) (triple k (made s a) ∷ l) → RegionStands new (triple k (made s a) ∷ l)
 region_next old new e s a l k stands changed ep of legal =
     let f = profile_of old in

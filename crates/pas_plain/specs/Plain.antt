@@ -1,19 +1,12 @@
 -- What a plain region, a pass and a plain desk stand for.
 use Rattle.std.specs.Prelude.{ℕ, ◌+◌, ◌-◌, ◌^◌, ◌≡◌, ◌≤◌, List, [], ◌∷◌, length, min, reverse, slice_index, slice_set, Option}
-use Rattle.pas_profile.specs.Layouts.{index_of}
-use Rattle.pas_profile.specs.Profiles.{IsWordOf}
-use Rattle.pas_profile.specs.declared.event.Event.{Event}
-use Rattle.pas_profile.specs.declared.profile.Profile.{Profile}
-use Rattle.pas_profile.specs.Rooms.{EventRoom}
-use Rattle.pas_profile.specs.declared.word.Word.{Word}
-use Rattle.pas_steps.specs.Effects.{target, new_value}
-use Rattle.pas_steps.specs.Events.{events_of}
-use Rattle.pas_steps.specs.Views.{known_epoch}
+use Rattle.pas_profile.specs.{Layouts.index_of, Profiles.IsWordOf, Rooms.EventRoom}
+use Rattle.pas_profile.specs.declared.{event.Event.Event, profile.Profile.Profile, word.Word.Word}
+use Rattle.pas_steps.specs.{Effects.target, Effects.new_value, Events.events_of, Views.known_epoch}
 use Rattle.pas_steps.specs.Lists.{Whole, part, word_after, Legal}
 use Rattle.pas_steps.specs.declared.step.Step.{Step}
 use Rattle.pas_region.specs.Noted.{events_noted, room_of_notes, count_of_notes, epoch_noted, notes_for}
-use Rattle.pas_plain.specs.declared.region.PlainRegion.{PlainRegion}
-use Rattle.pas_plain.specs.declared.pass.PlainPass.{PlainPass}
+use Rattle.pas_plain.specs.declared.{region.PlainRegion.PlainRegion, pass.PlainPass.PlainPass}
 
 -- ---- regions
 abbrev pub profile_of : PlainRegion → Profile

@@ -1,20 +1,12 @@
 -- Two actors at one plain region, of whom one acts between the steps of the other.
 use Rattle.std.specs.Prelude.{◌+◌, ◌-◌, ◌^◌, ◌≡◌, ◌≢◌, List, length, min, reverse}
 use Rattle.std.proofs.Common.{ap, sym, ◌∙◌}
-use Rattle.std.proofs.Math.Nat.{sub-add_cancel}
-use Rattle.std.proofs.lemmas.List.{length-reverse}
-use Rattle.pas_steps.specs.Calls.{Calls}
-use Rattle.pas_steps.specs.Clear.{HasNothing}
-use Rattle.pas_steps.specs.Desks.{Seat, Standing}
-use Rattle.pas_steps.specs.Events.{events_of}
-use Rattle.pas_steps.specs.Lists.{Whole, part}
-use Rattle.pas_steps.specs.Views.{View}
+use Rattle.std.proofs.{Math.Nat.sub-add_cancel, lemmas.List.length-reverse}
+use Rattle.pas_steps.specs.{Calls.Calls, Clear.HasNothing, Desks.Seat, Desks.Standing, Events.events_of, Lists.Whole, Lists.part, Views.View}
 use Rattle.pas_steps.specs.declared.step.Made.{Made}
 use Rattle.pas_plain.specs.Plain.{profile_of, RegionStands, actor_of, events_shown, room_of_pass, count_of_pass, PassStands}
 use Rattle.pas_plain.specs.Seats.{region_of, pass_of, seat_of, DeskStands}
-use Rattle.pas_plain.specs.declared.region.PlainRegion.{PlainRegion}
-use Rattle.pas_plain.specs.declared.pass.PlainPass.{PlainPass}
-use Rattle.pas_plain.specs.declared.desk.PlainDesk.{PlainDesk}
+use Rattle.pas_plain.specs.declared.{region.PlainRegion.PlainRegion, pass.PlainPass.PlainPass, desk.PlainDesk.PlainDesk}
 
 -- an actor that had nothing and was clear made these steps, after which it has nothing and is clear again
 pub record Acts (desk desk' : Standing) : Type 0 where

@@ -1,7 +1,6 @@
 //! A desk that tells of its own side only.
 ghost use Rattle.std.specs.Prelude.{◌≡◌};
-ghost use Rattle.pas_steps.specs.Views.{View};
-ghost use Rattle.pas_steps.specs.Lists.{Whole};
+ghost use Rattle.pas_steps.specs.{Views.View, Lists.Whole};
 
 use pas_profile::{Event, Profile};
 use pas_steps::{Desk, Step};

@@ -1,7 +1,6 @@
 //! The desk of an actor at a plain region.
 ghost use Rattle.std.specs.Prelude.{◌≡◌};
-ghost use Rattle.pas_steps.specs.Lists.{Whole, part};
-ghost use Rattle.pas_steps.specs.Views.{View};
+ghost use Rattle.pas_steps.specs.{Lists.Whole, Lists.part, Views.View};
 ghost use Rattle.pas_plain.specs.Plain.{profile_of, actor_of, RegionStands, PassStands};
 ghost use Rattle.pas_plain.specs.Seats.{region_of, pass_of, IsPassOf, DeskStands};
 
@@ -34,11 +33,8 @@ impl PlainRegion {
 impl PlainDesk {
     ghost use Rattle.std.specs.Prelude.{◌+◌, ◌≤◌, length};
     ghost use Rattle.pas_profile.specs.Profiles.{IsWordOf};
-    ghost use Rattle.pas_steps.specs.Effects.{target};
-    ghost use Rattle.pas_steps.specs.Events.{wants};
-    ghost use Rattle.pas_steps.specs.Ranges.{IsRanged};
-    ghost use Rattle.pas_plain.specs.Plain.{events_shown, room_of_pass};
-    ghost use Rattle.pas_plain.specs.Seats.{IsChanged};
+    ghost use Rattle.pas_steps.specs.{Effects.target, Events.wants, Ranges.IsRanged};
+    ghost use Rattle.pas_plain.specs.{Plain.events_shown, Plain.room_of_pass, Seats.IsChanged};
 
     /// Lets the actor rise: the region, and the actor's pass.
     #[inline]
@@ -88,11 +84,9 @@ impl PlainDesk {
 impl Desk for PlainDesk {
     ghost use Rattle.std.specs.Prelude.{◌+◌, ◌-◌, ◌^◌, true, length, min, reverse};
     ghost use Rattle.std.proofs.Common.{ap, sym, ◌∙◌};
-    ghost use Rattle.std.proofs.lemmas.List.{length-reverse};
-    ghost use Rattle.std.proofs.Math.Nat.{sub-add_cancel};
+    ghost use Rattle.std.proofs.{lemmas.List.length-reverse, Math.Nat.sub-add_cancel};
     ghost use Rattle.pas_steps.specs.Events.{events_of};
-    ghost use Rattle.pas_plain.specs.Plain.{events_shown, room_of_pass, count_of_pass};
-    ghost use Rattle.pas_plain.specs.Seats.{standing_of};
+    ghost use Rattle.pas_plain.specs.{Plain.events_shown, Plain.room_of_pass, Plain.count_of_pass, Seats.standing_of};
 
     type Home = ();
 

@@ -15,9 +15,7 @@ pub struct PlainPass {
 }
 
 impl PlainPass {
-    ghost use Rattle.pas_steps.specs.Events.{wants};
-    ghost use Rattle.pas_steps.specs.Ranges.{IsRanged};
-    ghost use Rattle.pas_steps.specs.Views.{or_zero};
+    ghost use Rattle.pas_steps.specs.{Events.wants, Ranges.IsRanged, Views.or_zero};
     ghost use Rattle.pas_region.specs.Noted.{IsNoted};
     ghost use Rattle.pas_plain.specs.Plain.{pass_for, actor_of, events_shown, room_of_pass, count_of_pass, epoch_known};
 

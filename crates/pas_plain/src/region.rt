@@ -1,7 +1,6 @@
 //! A region whose words stand in one vector.
 ghost use Rattle.std.specs.Prelude.{◌≡◌, ◌<◌, vec_len, length, slice_index};
-ghost use Rattle.pas_profile.specs.Profiles.{IsValid};
-ghost use Rattle.pas_profile.specs.Layouts.{words_of};
+ghost use Rattle.pas_profile.specs.{Profiles.IsValid, Layouts.words_of};
 
 use pas_profile::{Layout, NoMemory, Profile};
 use pas_region::opening_words;
@@ -32,11 +31,9 @@ fn load(words: &[u64], at: usize) -> u64
 
 impl PlainRegion {
     ghost use Rattle.pas_profile.specs.Profiles.{IsWordOf};
-    ghost use Rattle.pas_steps.specs.Effects.{target as target_word};
-    ghost use Rattle.pas_steps.specs.Ranges.{IsRanged};
+    ghost use Rattle.pas_steps.specs.{Effects.target as target_word, Ranges.IsRanged, States.profile_of as the_profile_of, States.word_in};
     ghost use Rattle.std.specs.Prelude.{IfOk, []};
     ghost use Rattle.pas_profile.specs.declared.word.Word.{Word};
-    ghost use Rattle.pas_steps.specs.States.{profile_of as the_profile_of, word_in};
     ghost use Rattle.pas_plain.specs.Plain.{profile_of, word_at, RegionStands, IsExchanged};
 
     /// A region that nobody used yet.

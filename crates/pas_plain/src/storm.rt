@@ -1,9 +1,7 @@
 //! A desk between whose own steps another actor acts, for tests.
 ghost use Rattle.std.specs.Prelude.{◌≡◌};
-ghost use Rattle.pas_steps.specs.Views.{View};
-ghost use Rattle.pas_steps.specs.Lists.{Whole};
-ghost use Rattle.pas_plain.specs.Seats.{region_of, pass_of};
-ghost use Rattle.pas_plain.specs.Storms.{StormStands, MayStorm, seat_for};
+ghost use Rattle.pas_steps.specs.{Views.View, Lists.Whole};
+ghost use Rattle.pas_plain.specs.{Seats.region_of, Seats.pass_of, Storms.StormStands, Storms.MayStorm, Storms.seat_for};
 
 use crate::desk::PlainDesk;
 use crate::pass::PlainPass;
@@ -18,8 +16,7 @@ const LEAST_SPARE: u32 = 70;
 /// view allows.
 pub trait Intruder {
     ghost use Rattle.std.specs.Prelude.{◌≡◌, ◌≤◌};
-    ghost use Rattle.pas_steps.specs.Clear.{HasNothing};
-    ghost use Rattle.pas_steps.specs.Desks.{CanCall};
+    ghost use Rattle.pas_steps.specs.{Clear.HasNothing, Desks.CanCall};
     ghost use Rattle.pas_plain.specs.Storms.{Acts};
 
     /// Acts before the own step of this number, from 1 on. The desk's actor has nothing and is clear, and is so again afterwards. There

@@ -1,19 +1,20 @@
 -- The acts of a plan fit where its operations do, and cost no more than they, and one record for each phase and one for the close.
-use Rattle.std.proofs.Common.{◌≡◌, ℕ, ◌+◌, ◌*◌, ◌<◌, ◌≤◌, ◌==◌, Bool, true, false, if◌then◌else◌, cond, List, [], ◌∷◌, ◌++◌, length, Option, None, Some, refl, ap, sym, subst, arith, append_assoc}
-use Rattle.std.specs.Prelude.{map, not, MatchOption}
+use Rattle.std.proofs.Common.{◌≡◌, ℕ, ◌+◌, ◌*◌, ◌<◌, ◌≤◌, ◌==◌, Bool, true, false, if◌then◌else◌, cond, List, [], ◌∷◌, ◌++◌, length, Option, None, Some, refl}
+use Rattle.std.proofs.Common.{ap, sym, subst, arith, append_assoc, map, not, MatchOption, eq-eqb}
 use Rattle.std.specs.List.{AllByRecursion, filter}
-use Rattle.std.proofs.lemmas.Bool.{eq-eqb}
 use Rattle.std.proofs.Math.Nat.{suc-mul}
 use Rattle.pas_profile.specs.declared.profile.Profile.{Profile}
-use Rattle.pas_trace.specs.EveryPlan.{all_ops, asked_with, asked_after, IsThread, IsActorBy, IsActorOf, IsSoundWork, AreSound, records_of_chore, records_of_work, records_of_what, records_of_ops, own_records}
+use Rattle.pas_trace.specs.EveryPlan.{all_ops, asked_with, asked_after, IsThread, IsActorBy, IsActorOf, IsSoundWork, AreSound, records_of_chore}
+use Rattle.pas_trace.specs.EveryPlan.{records_of_work, records_of_what, records_of_ops, own_records}
 use Rattle.pas_trace.specs.Asked.{work_of, of_task, request_of, keeper_of, cost_of_task}
-use Rattle.pas_trace.specs.declared.plan.Chore.{Chore}
-use Rattle.pas_trace.specs.declared.plan.Work.{Work}
-use Rattle.pas_trace.specs.declared.plan.Op.{Op}
-use Rattle.pas_trace.specs.Acts.{Act, Settles, StopsIdle, MarksPhase, MarksClose, Wakes, Ends, Lowers, operation_in, act_kept, is_active, numbers_from, active_threads, idle_threads, idle_stops, acts_of_chore, acts_of_work, acts_of_op, acts_of_ops, phase_acts, close_acts, acts_from, acts_of}
+use Rattle.pas_trace.specs.declared.plan.{Chore.Chore, Work.Work, Op.Op}
+use Rattle.pas_trace.specs.Acts.{Act, Settles, StopsIdle, MarksPhase, MarksClose, Wakes, Ends, Lowers, operation_in, act_kept, is_active, numbers_from}
+use Rattle.pas_trace.specs.Acts.{active_threads, idle_threads, idle_stops, acts_of_chore, acts_of_work, acts_of_op, acts_of_ops, phase_acts, close_acts}
+use Rattle.pas_trace.specs.Acts.{acts_from, acts_of}
 use Rattle.pas_trace.proofs.ThreadsInOrder.{numbers_count}
 use Rattle.pas_answers.proofs.SingleActs.{sum_both}
-use Rattle.pas_answers.specs.Fit.{KeepsAbove, IsFitWork, IsFitWhat, AreFit, AreOfThreads, cost_of_work, cost_of_what, cost_of_act, costs_of, own_cost_of_act, own_costs_of, unbacks_of_act, unbacks_of, sum_over, AreBelow}
+use Rattle.pas_answers.specs.Fit.{KeepsAbove, IsFitWork, IsFitWhat, AreFit, AreOfThreads, cost_of_work, cost_of_what, cost_of_act, costs_of, own_cost_of_act}
+use Rattle.pas_answers.specs.Fit.{own_costs_of, unbacks_of_act, unbacks_of, sum_over, AreBelow}
 
 -- ---- so many threads
 one_chosen : (b : Bool) (k : ℕ) (chosen ks : List ℕ) → length chosen ≤ length ks → length (cond b (k ∷ chosen) chosen) ≤ length (k ∷ ks)

@@ -1,29 +1,23 @@
 -- How many guarded requests operations have, and the books of their keepers.
-use Rattle.std.proofs.Common.{◌≡◌, ℕ, zero, suc, ◌+◌, ◌<◌, ◌≤◌, ◌==◌, Bool, true, false, if◌then◌else◌, List, [], ◌∷◌, ◌++◌, map, length, drop, get_or, slice_index_or, inl, inr, Result, Ok, Err, ap, sym, ◌∙◌, arith, length-append}
-use Rattle.std.specs.List.{AllByRecursion}
-use Rattle.std.specs.Global.{Vec}
-use Rattle.std.specs.Prelude.{IfOk}
-use Rattle.std.proofs.lemmas.Bool.{cases_lt, cases_eq, eq-eqb, ne_eqb}
-use Rattle.std.proofs.lemmas.List.{drop_more, get_or_append_left}
+use Rattle.std.proofs.Common.{◌≡◌, ℕ, zero, suc, ◌+◌, ◌<◌, ◌≤◌, ◌==◌, Bool, true, false, if◌then◌else◌, List, [], ◌∷◌, ◌++◌, map, length, drop, get_or}
+use Rattle.std.proofs.Common.{slice_index_or, inl, inr, Result, Ok, Err, ap, sym, ◌∙◌, arith, length-append, IfOk, eq-eqb, ne_eqb}
+use Rattle.std.specs.{List.AllByRecursion, Global.Vec}
+use Rattle.std.proofs.lemmas.{Bool.cases_lt, Bool.cases_eq, List.drop_more, List.get_or_append_left}
 use Rattle.pas_profile.specs.declared.profile.Profile.{Profile}
 use Rattle.pas_trace.specs.Asked.{work_of, of_task, keeper_of, keeper_in}
 use Rattle.pas_trace.specs.EveryPlan.{all_ops, IsActorBy, records_of_work, records_of_what, records_of_ops}
 use Rattle.pas_trace.specs.Plans.{ops_of}
-use Rattle.pas_trace.specs.declared.plan.Op.{Op}
-use Rattle.pas_trace.specs.declared.plan.Phase.{Phase}
-use Rattle.pas_trace.specs.declared.plan.Task.{Task}
-use Rattle.pas_trace.specs.declared.plan.Work.{Work}
+use Rattle.pas_trace.specs.declared.plan.{Op.Op, Phase.Phase, Task.Task, Work.Work}
 use Rattle.pas_guard.specs.Books.{guards_in, size_of_book}
 use Rattle.pas_guard.specs.declared.book.GuardBook.{GuardBook}
 use Rattle.pas_plans.specs.Keepers.{one_guarded, guarded_of, AreBooksFor}
-use Rattle.pas_plans.proofs.ActsOfPlan.{ArePlanned, all_front, all_back}
-use Rattle.pas_plans.proofs.Making.{at_end}
+use Rattle.pas_plans.proofs.{ActsOfPlan.ArePlanned, ActsOfPlan.all_front, ActsOfPlan.all_back, Making.at_end}
 
 -- ---- counts
 abbrev guards_of : ℕ → Op → ℕ
 guards_of k op = if op.actor == k then one_guarded (keeper_in op.what) else 0
 
-pub guarded_both : (k : ℕ) (xs ys : List Op) → guarded_of k (xs ++ ys) ≡ guarded_of k xs + guarded_of k ys
+guarded_both : (k : ℕ) (xs ys : List Op) → guarded_of k (xs ++ ys) ≡ guarded_of k xs + guarded_of k ys
 guarded_both k [] ys = omega arith
 guarded_both k (x ∷ xs) ys = let rest = guarded_both k xs ys in omega (arith, rest)
 
@@ -68,7 +62,7 @@ guarded_few f k (op ∷ ops) =
 
 -- ---- actors
 within_work : (f : Profile) (work : Work) (k : ℕ) → f.threads ≤ 16 → IsActorBy f work k → k < 17
-within_work f (Work.Own task) k few of = let most = of.1 in omega (arith, most, few)
+within_work f (Work.Own task) k few of = omega (arith, of.1, few)
 within_work f (Work.Chore chore) k few of = omega (arith, of)
 
 pub actors_within : (f : Profile) (ops : List Op) → f.threads ≤ 16 → ArePlanned f ops → AllByRecursion (λ (op : Op). op.actor < 17) ops

@@ -1,21 +1,17 @@
 -- What the acts of a plan ask of its keepers.
-use Rattle.std.proofs.Common.{◌≡◌, ◌≢◌, ℕ, ◌+◌, ◌-◌, ◌<◌, ◌≤◌, ◌==◌, Bool, true, false, if◌then◌else◌, List, [], ◌∷◌, Option, None, Some, inl, inr, slice_index, refl, ap, sym, ◌∙◌, subst, arith}
-use Rattle.std.specs.Prelude.{map, MatchOption}
+use Rattle.std.proofs.Common.{◌≡◌, ◌≢◌, ℕ, ◌+◌, ◌-◌, ◌<◌, ◌≤◌, ◌==◌, Bool, true, false, if◌then◌else◌, List, [], ◌∷◌, Option, None, Some, inl, inr, slice_index}
+use Rattle.std.proofs.Common.{refl, ap, sym, ◌∙◌, subst, arith, map, MatchOption, eq-eqb, ne_eqb}
 use Rattle.std.specs.List.{AllByRecursion}
-use Rattle.std.proofs.lemmas.Bool.{eq-eqb, ne_eqb, cases_eq}
+use Rattle.std.proofs.lemmas.Bool.{cases_eq}
 use Rattle.pas_profile.specs.declared.profile.Profile.{Profile}
 use Rattle.pas_profile.proofs.Lists.{all_both}
 use Rattle.pas_trace.specs.Asked.{work_of, of_task, request_of, request_in, keeper_of, keeper_in}
 use Rattle.pas_trace.specs.EveryPlan.{all_ops, operations_of, IsActorBy, IsActorOf, IsKept, AreKept, kept_of_work, kept_records}
 use Rattle.pas_trace.specs.Plans.{IsPlanOf, bounds_of}
-use Rattle.pas_trace.specs.declared.plan.Chore.{Chore}
-use Rattle.pas_trace.specs.declared.plan.Op.{Op}
-use Rattle.pas_trace.specs.declared.plan.Plan.{Plan}
-use Rattle.pas_trace.specs.declared.plan.Task.{Task}
-use Rattle.pas_trace.specs.declared.plan.Work.{Work}
-use Rattle.pas_trace.proofs.EveryPlan.{every_plan}
-use Rattle.pas_trace.proofs.Keepers.{plan_actors, keepers_few}
-use Rattle.pas_trace.specs.Acts.{Act, Guards, Settles, StopsIdle, MarksPhase, Wakes, Ends, Lowers, act_kept, numbers_from, active_threads, idle_threads, acts_of_chore, acts_of_work, acts_of_op, acts_of_ops, phase_acts, close_acts, acts_from, acts_of}
+use Rattle.pas_trace.specs.declared.plan.{Chore.Chore, Op.Op, Plan.Plan, Task.Task, Work.Work}
+use Rattle.pas_trace.proofs.{EveryPlan.every_plan, Keepers.plan_actors, Keepers.keepers_few}
+use Rattle.pas_trace.specs.Acts.{Act, Guards, Settles, StopsIdle, MarksPhase, Wakes, Ends, Lowers, act_kept, numbers_from, active_threads, idle_threads}
+use Rattle.pas_trace.specs.Acts.{acts_of_chore, acts_of_work, acts_of_op, acts_of_ops, phase_acts, close_acts, acts_from, acts_of}
 use Rattle.pas_answers.specs.Fit.{sum_over, kept_cost_of, kept_cost_of_act, kept_costs_of}
 use Rattle.pas_answers.specs.Replays.{phases_of, region_of, threads_of, keepers_of, acts_of_plan}
 use Rattle.pas_plans.specs.Keepers.{one_guarded, guarded_of}
@@ -24,7 +20,7 @@ use Rattle.pas_plans.proofs.ActsOfPlan.{ArePlanned, all_front, all_back, sum_of_
 use Rattle.pas_plans.proofs.PlanFacts.{plan_planned}
 
 -- ---- what is so of each act of a plan
-pub all_map : (P : Act → Type 0) (to : ℕ → Act) → ((k : ℕ) → P (to k)) → (ks : List ℕ) → AllByRecursion P (map to ks)
+all_map : (P : Act → Type 0) (to : ℕ → Act) → ((k : ℕ) → P (to k)) → (ks : List ℕ) → AllByRecursion P (map to ks)
 all_map P to each [] = tt
 all_map P to each (k ∷ ks) = (each k, all_map P to each ks)
 
@@ -43,7 +39,7 @@ module _ (P : Act → Type 0) (Q : Op → Type 0) (threads keepers : ℕ) (each 
       (marks n, all_both P (phase_acts threads p) (acts_from threads keepers (n + 1) ps) (all_of_phase p (all_front Q p (all_ops ps) all)) (all_later (n + 1) ps (all_back Q p (all_ops ps) all)))
 
   -- the first phase has no mark
-  pub all_acts : (phases : List (List Op)) → AllByRecursion Q (all_ops phases) → AllByRecursion P (acts_of threads keepers phases)
+  all_acts : (phases : List (List Op)) → AllByRecursion Q (all_ops phases) → AllByRecursion P (acts_of threads keepers phases)
   all_acts [] all = last
   all_acts (p ∷ ps) all = (all_later 1 (p ∷ ps) all).1
 
@@ -135,7 +131,7 @@ module _ (much most : Op → ℕ) (k : ℕ) (enough : (op : Op) (keeper : ℕ) �
   asked_work idle op (Work.Own task) is = asked_kept op (keeper_of task) (ap (λ (w : Work). of_task keeper_of w) is)
   asked_work idle op (Work.Chore chore) is = let none = asked_chore idle chore in omega (arith, none)
 
-  pub asked_all : (f : Profile) (keepers : ℕ) (phases : List (List Op)) → ArePlanned f (all_ops phases) → sum_over (asked_of_act much k) (acts_of f.threads keepers phases) ≤ sum_of_ops (λ op. if op.actor == k then most op else 0) (all_ops phases)
+  asked_all : (f : Profile) (keepers : ℕ) (phases : List (List Op)) → ArePlanned f (all_ops phases) → sum_over (asked_of_act much k) (acts_of f.threads keepers phases) ≤ sum_of_ops (λ op. if op.actor == k then most op else 0) (all_ops phases)
   asked_all f keepers phases planned =
       let all = of_plan f (asked_of_act much k) (λ op. if op.actor == k then most op else 0) 0 (λ idle op few is. asked_work idle op (work_of op.what) refl) (λ j. refl) (λ j. refl) (λ j. refl) (λ n. refl) refl keepers phases planned in
       omega (arith, all)

@@ -1,9 +1,7 @@
 -- Names below a limit: of all phases, of each, and below a higher limit.
 use Rattle.std.proofs.Common.{ℕ, ◌≤◌, List, [], ◌∷◌, ◌++◌, arith}
 use Rattle.pas_trace.specs.EveryPlan.{all_ops}
-use Rattle.pas_trace.specs.declared.plan.What.{What}
-use Rattle.pas_trace.specs.declared.plan.What.TheVariants.{Alloc, Guarded, Remake}
-use Rattle.pas_trace.specs.declared.plan.Op.{Op}
+use Rattle.pas_trace.specs.declared.plan.{What.What, What.TheVariants.Alloc, What.TheVariants.Guarded, What.TheVariants.Remake, Op.Op}
 use Rattle.pas_trace.proofs.EveryPlan.{below_front}
 use Rattle.pas_answers.specs.Fit.{IsBelow, AreBelow, AllBelow}
 use Rattle.pas_plans.proofs.ActsOfPlan.{back_below}

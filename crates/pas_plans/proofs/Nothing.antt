@@ -1,12 +1,10 @@
 -- What an actor that did nothing yet has and owes, and one without a local allocator.
 use Rattle.std.proofs.Common.{◌≡◌, ℕ, zero, suc, false, List, [], refl, ap, arith}
 use Rattle.pas_profile.specs.declared.profile.Profile.{Profile}
-use Rattle.pas_steps.specs.Clear.{HasNothing}
-use Rattle.pas_steps.specs.Unknown.{unknown_below}
+use Rattle.pas_steps.specs.{Clear.HasNothing, Unknown.unknown_below}
 use Rattle.pas_cache.specs.Locals.{any_covers, any_keeps}
 use Rattle.pas_segregated.specs.declared.slots.Slots.{Slots}
-use Rattle.pas_answers.specs.Calls.{owed_events}
-use Rattle.pas_answers.specs.Replays.{empty_cache}
+use Rattle.pas_answers.specs.{Calls.owed_events, Replays.empty_cache}
 
 unknown_all : (n : ℕ) → unknown_below n [] ≡ n
 unknown_all zero = refl

@@ -1,21 +1,14 @@
 -- Each plan can be replayed: its operations follow one another, and its bounds suffice for their records.
-use Rattle.std.proofs.Common.{◌≡◌, ◌≢◌, ◌∷◌, Option, None, Some, refl, ap, ◌∙◌, ℕ, ◌+◌, ◌*◌, ◌<◌, ◌≤◌, List, [], length, slice_index, arith}
-use Rattle.std.specs.Prelude.{◌^◌}
+use Rattle.std.proofs.Common.{◌≡◌, ◌≢◌, ◌∷◌, Option, None, Some, refl, ap, ◌∙◌, ℕ, ◌+◌, ◌*◌, ◌<◌, ◌≤◌, List, [], length, slice_index, arith, ◌^◌, MatchOption}
 use Rattle.std.proofs.lemmas.List.{length-map}
 use Rattle.pas_profile.specs.Profiles.{IsValid, IsAdmitted}
 use Rattle.pas_profile.specs.declared.profile.Profile.{Profile}
 use Rattle.std.specs.List.{AllByRecursion}
-use Rattle.std.specs.Prelude.{MatchOption}
-use Rattle.pas_trace.specs.Reasons.{actors_by}
+use Rattle.pas_trace.specs.{Reasons.actors_by, Plans.IsPlanOf, Plans.bounds_of, Plans.ops_of, Acts.Act, Acts.Operates, Acts.MakesPass}
 use Rattle.pas_trace.specs.Asked.{work_of, of_task, keeper_of, keeper_in}
 use Rattle.pas_trace.specs.EveryPlan.{all_ops, asked_after, IsThread, IsActorBy, IsActorOf, IsSoundTask, IsSoundWork, AreSound, AreKept}
-use Rattle.pas_trace.specs.declared.plan.Op.{Op}
-use Rattle.pas_trace.specs.declared.plan.Task.{Task}
-use Rattle.pas_trace.specs.declared.plan.Work.{Work}
-use Rattle.pas_trace.specs.Plans.{IsPlanOf, bounds_of, ops_of}
-use Rattle.pas_trace.specs.declared.plan.Plan.{Plan}
+use Rattle.pas_trace.specs.declared.plan.{Op.Op, Task.Task, Work.Work, Plan.Plan}
 use Rattle.pas_trace.proofs.EveryPlan.{every_plan, threads_among, keepers_among}
-use Rattle.pas_trace.specs.Acts.{Act, Operates, MakesPass}
 use Rattle.pas_answers.specs.Fit.{KeepsAbove, AreFit, AreOfThreads, cost_of_act, costs_of, own_costs_of, unbacks_of_act, unbacks_of, AllBelow}
 use Rattle.pas_answers.specs.Replays.{phases_of, region_of, threads_of, keepers_of, acts_of_plan}
 use Rattle.pas_plans.proofs.ActsOfPlan.{ArePlanned, are_planned, plan_costs, plan_owns, plan_unbacks, acts_fit, of_threads}
@@ -57,7 +50,7 @@ module _ (f : Profile) (threads : ℕ) (more : f.threads ≤ threads) where
   same_cost MakesPass = refl
   same_cost act = refl
 
-  pub same_costs : (acts : List Act) → costs_of region acts ≡ costs_of f acts
+  same_costs : (acts : List Act) → costs_of region acts ≡ costs_of f acts
   same_costs [] = refl
   same_costs (act ∷ acts) = ap (λ n. n + costs_of region acts) (same_cost act) ∙ ap (λ n. cost_of_act f act + n) (same_costs acts)
 
@@ -65,7 +58,7 @@ module _ (f : Profile) (threads : ℕ) (more : f.threads ≤ threads) where
   same_unback MakesPass = refl
   same_unback act = refl
 
-  pub same_unbacks : (acts : List Act) → unbacks_of region acts ≡ unbacks_of f acts
+  same_unbacks : (acts : List Act) → unbacks_of region acts ≡ unbacks_of f acts
   same_unbacks [] = refl
   same_unbacks (act ∷ acts) = ap (λ n. n + unbacks_of region acts) (same_unback act) ∙ ap (λ n. unbacks_of_act f act + n) (same_unbacks acts)
 
@@ -75,8 +68,7 @@ above_one : (f : Profile) (guard : ℕ) (actor : ℕ) (o : Option ℕ) → 1 ≤
 above_one f guard actor None some most kept = tt
 above_one f guard actor (Some keeper) some most kept =
     let within = keepers_among guard f.threads actor kept.1 most in
-    let place = kept.0 in
-    ((omega (arith, place, some), omega (arith, place, within)), omega (arith, place, some, most))
+    ((omega (arith, kept.0, some), omega (arith, kept.0, within)), omega (arith, kept.0, some, most))
 
 of_thread : (f : Profile) (work : Work) (k : ℕ) (o : Option ℕ) → IsActorBy f work k → of_task keeper_of work ≡ o → (keeper : ℕ) → o ≡ Some keeper → IsThread f k
 of_thread f (Work.Own task) k o of is keeper some = of
@@ -99,12 +91,11 @@ plan_valid {text} {plan} is =
     let sound = every_plan is in
     let valid = sound.valid in
     let among = threads_among plan.guard plan.profile.threads in
-    let some = valid.some_thread in
     record {
       some_page = valid.some_page;
       pages = valid.pages;
       classes = valid.classes;
-      some_thread = omega (arith, among, some);
+      some_thread = omega (arith, among, valid.some_thread);
       threads = sound.actors;
       some_age = valid.some_age;
       age = valid.age;

@@ -2,9 +2,7 @@
 ghost use Rattle.std.specs.Prelude.{◌≡◌, ◌==◌, ◌<◌, ◌≤◌, ◌+◌, ◌^◌, ℕ, if◌then◌else◌, List, IfOk, slice_index_or};
 ghost use Rattle.std.specs.List.{AllByRecursion};
 ghost use Rattle.pas_profile.specs.Profiles.{IsValid};
-ghost use Rattle.pas_trace.specs.Asked.{keeper_in};
-ghost use Rattle.pas_trace.specs.Plans.{IsPlanOf};
-ghost use Rattle.pas_trace.specs.EveryPlan.{operations_of};
+ghost use Rattle.pas_trace.specs.{Asked.keeper_in, Plans.IsPlanOf, EveryPlan.operations_of};
 ghost use Rattle.pas_answers.specs.Replays.{region_of, keepers_of};
 ghost use Rattle.pas_plans.specs.Keepers.{one_guarded, guarded_of, AreBooksFor, AreBooks};
 

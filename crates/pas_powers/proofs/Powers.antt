@@ -1,23 +1,16 @@
 -- The smallest power of two, and where a run of its own length stands.
-use Rattle.std.proofs.Common.{◌≡◌, ℕ, ◌+◌, ◌*◌, ◌/◌, ◌%◌, ◌^◌, ◌==◌, ◌≤◌, ◌<◌, Bool, true, List, Ok, Err, Result, zero, suc, inl, inr, refl, ap, ◌∙◌, arith, subst, max, min, MatchResult}
-use Rattle.std.proofs.lemmas.Bool.{cases_lt, eqb-true}
-use Rattle.std.proofs.lemmas.Nat.{pow_pos, pow_below}
+use Rattle.std.proofs.Common.{◌≡◌, ℕ, ◌+◌, ◌*◌, ◌/◌, ◌%◌, ◌^◌, ◌==◌, ◌≤◌, ◌<◌, Bool, true, List, Ok, Err, Result, zero, suc, inl, inr, refl, ap, ◌∙◌, arith}
+use Rattle.std.proofs.Common.{subst, max, min, MatchResult, eqb-true, pow_pos}
+use Rattle.std.proofs.lemmas.{Bool.cases_lt, Nat.pow_below}
 use Rattle.std.specs.Int.{IsPowerOfTwo}
 use Rattle.pas_bitfit.proofs.Aligned.{stands_aligned}
-use Rattle.pas_bitfit.specs.Allocates.{bitfit_directory}
-use Rattle.pas_bitfit.specs.Runs.{IsWanted, runs}
+use Rattle.pas_bitfit.specs.{Allocates.bitfit_directory, Runs.IsWanted, Runs.runs}
 use Rattle.pas_bits.specs.declared.mask.Mask4.{Mask4}
-use Rattle.pas_choice.specs.Allocates.{IsGiven, AllocatesRun}
-use Rattle.pas_choice.specs.Choices.{IsUnfit, IsChosen}
+use Rattle.pas_choice.specs.{Allocates.IsGiven, Allocates.AllocatesRun, Choices.IsUnfit, Choices.IsChosen}
 use Rattle.pas_profile.proofs.Sizes.{passes_below, passes_at}
-use Rattle.pas_profile.specs.Blocks.{address_of}
-use Rattle.pas_profile.specs.Classes.{IsAlignment}
-use Rattle.pas_profile.specs.declared.directory.Directory.{Directory}
-use Rattle.pas_profile.specs.declared.event.NoRoom.{NoRoom}
-use Rattle.pas_profile.specs.declared.name.Block.{Block}
-use Rattle.pas_profile.specs.declared.profile.Profile.{Profile}
-use Rattle.pas_steps.specs.Desks.{Standing}
-use Rattle.pas_steps.specs.Evidence.{Readings}
+use Rattle.pas_profile.specs.{Blocks.address_of, Classes.IsAlignment}
+use Rattle.pas_profile.specs.declared.{directory.Directory.Directory, event.NoRoom.NoRoom, name.Block.Block, profile.Profile.Profile}
+use Rattle.pas_steps.specs.{Desks.Standing, Evidence.Readings}
 use Rattle.pas_steps.specs.declared.step.Made.{Made}
 use Rattle.pas_powers.specs.Allocates.{IsOfPower}
 use Rattle.pas_powers.specs.Powers.{IsPower, IsSmallestFor, own_run, powers, run_at}

@@ -3,8 +3,7 @@ use Rattle.std.specs.Prelude.{ℕ, ◌*◌, ◌%◌, ◌≡◌, Bool, Result, Ma
 use Rattle.pas_bitfit.specs.Allocates.{bitfit_directory}
 use Rattle.pas_choice.specs.Allocates.{AllocatesRun}
 use Rattle.pas_profile.specs.Blocks.{address_of}
-use Rattle.pas_profile.specs.declared.event.NoRoom.{NoRoom}
-use Rattle.pas_profile.specs.declared.name.Block.{Block}
+use Rattle.pas_profile.specs.declared.{event.NoRoom.NoRoom, name.Block.Block}
 use Rattle.pas_steps.specs.Desks.{Standing}
 use Rattle.pas_powers.specs.Powers.{IsSmallestFor, powers, run_at}
 use Rattle.pas_powers.specs.declared.power.Power.{Power}

@@ -4,10 +4,9 @@ use Rattle.std.specs.Int.{IsPowerOfTwo}
 use Rattle.pas_bits.specs.Runs.{in_run}
 use Rattle.pas_bitfit.specs.Runs.{NoneFits, IsLowestFit, fewer_runs, run_at as run_of, is_run_at as is_run_of}
 use Rattle.pas_bitfit.specs.declared.wanted.Wanted.{Wanted}
-use Rattle.pas_choice.specs.Allocates.{IsRunOf}
-use Rattle.pas_choice.specs.Choices.{Choice}
+use Rattle.pas_choice.specs.{Allocates.IsRunOf, Choices.Choice}
 use Rattle.pas_choice.specs.declared.choosing.Run.{Run}
-use Rattle.pas_profile.specs.declared.directory.Kind.TheVariants as Kind
+use Rattle.pas_profile.specs.declared.directory.Kind.{Kind}
 use Rattle.pas_steps.specs.Evidence.{Readings, IsAntitone}
 use Rattle.pas_powers.specs.declared.power.Power.{Power}
 

@@ -1,11 +1,10 @@
 -- Sizes of classes, the slots of their pages, and what a route says.
-use Rattle.std.proofs.Common.{◌≡◌, ℕ, zero, suc, ◌+◌, ◌*◌, ◌/◌, ◌%◌, ◌<◌, ◌≤◌, max, Bool, true, false, leb, eqb, if◌then◌else◌, List, [], ◌∷◌, length, get_or, Option, None, Some, refl, ap, sym, ◌∙◌, subst, arith, inl, inr}
-use Rattle.std.proofs.Math.Nat.{dvd-add, dvd-mul_left_of_dvd}
+use Rattle.std.proofs.Common.{◌≡◌, ℕ, zero, suc, ◌+◌, ◌*◌, ◌/◌, ◌%◌, ◌<◌, ◌≤◌, max, Bool, true, false, leb, eqb, if◌then◌else◌, List, [], ◌∷◌, length, get_or}
+use Rattle.std.proofs.Common.{Option, None, Some, refl, ap, sym, ◌∙◌, subst, arith, inl, inr, div-add-mod', leb-true, eqb-true, le-leb, eq-eqb}
+use Rattle.std.proofs.{Math.Nat.dvd-add, Math.Nat.dvd-mul_left_of_dvd, lemmas.List.get_or_past, lemmas.Nat.Gcd.dvd_of_mod-eq-zero}
+use Rattle.std.proofs.{lemmas.Nat.Gcd.mod-eq-zero_of_dvd}
 use Rattle.std.specs.Int.{◌∣◌}
-use Rattle.std.proofs.lemmas.Nat.{div-add-mod'}
-use Rattle.std.proofs.lemmas.List.{get_or_past}
-use Rattle.std.proofs.lemmas.Nat.Gcd.{dvd_of_mod-eq-zero, mod-eq-zero_of_dvd}
-use Rattle.std.proofs.lemmas.Bool.{leb-true, eqb-true, le-leb, eq-eqb, and_parts, and_from, cases_Bool, cases_lt, lt-leb, false≢true}
+use Rattle.std.proofs.lemmas.Bool.{and_parts, and_from, cases_Bool, cases_lt, lt-leb, false≢true}
 use Rattle.pas_profile.specs.Classes.{IsClass, class_size, sizes_of, class_grains, usable_grains, IsSlotStart}
 use Rattle.pas_profile.specs.Routes.{first_class, route_of, route_with, route_without_class, Suits, IsSmallest, NoneSuits, IsRouteOf}
 use Rattle.pas_profile.specs.declared.directory.Route.TheVariants.{Class, Bitfit, Large}
@@ -121,7 +120,7 @@ smallest_from classes size align class f =
 none_from : (classes size align : ℕ) → Missing (sizes_of classes) (max size 1) align → NoneSuits classes size align
 none_from classes size align none k lt s = elim (cases_lt k (length (sizes_of classes))) [
   | inl within ↦ not_from size align k (read_size classes k (max size 1) align false lt (none k within)) s
-  | inr beyond ↦ let past = get_or_past (sizes_of classes) k 0 beyond in let size_is = size_at classes k lt in let room = s.room in omega (arith, past, size_is, room)
+  | inr beyond ↦ let past = get_or_past (sizes_of classes) k 0 beyond in let size_is = size_at classes k lt in omega (arith, past, size_is, s.room)
 ]
 
 without_class : (classes size align : ℕ) → NoneSuits classes size align → IsRouteOf classes size align (route_without_class (max size 1))
@@ -144,7 +143,7 @@ class_suits classes size align class e = subst (IsRouteOf classes size align) e 
 
 -- what suits a request is a class
 pub class_known : (classes size align class : ℕ) → IsSmallest classes size align class → IsClass class
-class_known classes size align class is = let room = is.suits.room in class_from_size class (omega (arith, room))
+class_known classes size align class is = class_from_size class (omega (arith, is.suits.room))
 
 -- a route to a bit-fit page
 pub bitfit_suits : (classes size align : ℕ) → route_of classes size align ≡ Bitfit → (size ≤ 2048) × NoneSuits classes size align

@@ -1,13 +1,11 @@
 -- The words of deeds and of lives say what they were made from, and nothing else.
-use Rattle.std.proofs.Common.{◌≡◌, ◌≢◌, ℕ, ◌-◌, ◌*◌, ◌/◌, ◌%◌, ◌^◌, ◌<◌, ◌≤◌, Bool, true, false, ltb, eqb, if◌then◌else◌, Option, None, Some, refl, ap, sym, ◌∙◌, subst, arith}
-use Rattle.std.proofs.lemmas.Bool.{ltb-true, ltb-false, lt-ltb, le-ltb, eqb-true, le-leb}
+use Rattle.std.proofs.Common.{◌≡◌, ◌≢◌, ℕ, ◌-◌, ◌*◌, ◌/◌, ◌%◌, ◌^◌, ◌<◌, ◌≤◌, Bool, true, false, ltb, eqb, if◌then◌else◌, Option, None, Some, refl, ap, sym}
+use Rattle.std.proofs.Common.{◌∙◌, subst, arith, ltb-true, ltb-false, lt-ltb, le-ltb, eqb-true, le-leb}
 use Rattle.std.proofs.lemmas.Nat.{mul-add-lt}
 use Rattle.pas_profile.specs.Directories.{IsKind, kind_number, IsDirectory, number_of, deed_word_of, kind_of, with_kind, directory_read, deed_word_numbered}
 use Rattle.pas_profile.specs.Profiles.{IsValid, IsDirectoryOf}
-use Rattle.pas_profile.specs.declared.profile.Profile.{Profile}
+use Rattle.pas_profile.specs.declared.{profile.Profile.Profile, directory.Directory.Directory, directory.Kind.Kind}
 use Rattle.pas_profile.specs.Lives.{live_word, turn_of, grains_of, is_live}
-use Rattle.pas_profile.specs.declared.directory.Directory.{Directory}
-use Rattle.pas_profile.specs.declared.directory.Kind.{Kind}
 use Rattle.pas_profile.specs.declared.directory.Kind.TheVariants.{Class, Bitfit, Shared, Large}
 
 -- A kind's number is below 23, and names the kind.
@@ -46,9 +44,6 @@ same_kind a b ha hb e =
 
 pub number_lt : (d : Directory) (heaps : ℕ) → d.heap < heaps → IsKind d.kind → number_of d < 23 * heaps
 number_lt d heaps h k = mul-add-lt d.heap 23 (kind_number d.kind) heaps h (kind_number_lt d.kind k)
-
-pub number_below : (d : Directory) → IsDirectory d → number_of d < 23 * 32
-number_below d h = number_lt d 32 h.heap h.kind
 
 -- a directory of a profile is one of some region
 pub directory_from_profile : (f : Profile) (d : Directory) → IsValid f → IsDirectoryOf f d → IsDirectory d

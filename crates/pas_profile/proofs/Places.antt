@@ -1,8 +1,6 @@
 -- Distinct words have distinct places, and every place is below the number of words.
-use Rattle.std.proofs.Common.{◌≡◌, ◌≢◌, ℕ, ◌*◌, ◌<◌, ◌==◌, true, false, ◌&&◌, if◌then◌else◌, refl, ap, sym, ◌∙◌, arith}
-use Rattle.std.proofs.Math.Nat.{mul_comm}
-use Rattle.std.proofs.lemmas.Nat.{mul-add-lt, same_from_place}
-use Rattle.std.proofs.lemmas.Bool.{eqb-true, eq-eqb, and_parts, and_from, false_from_ne_true}
+use Rattle.std.proofs.Common.{◌≡◌, ◌≢◌, ℕ, ◌*◌, ◌<◌, ◌==◌, true, false, ◌&&◌, if◌then◌else◌, refl, ap, sym, ◌∙◌, arith, eqb-true, eq-eqb}
+use Rattle.std.proofs.{Math.Nat.mul_comm, lemmas.Nat.mul-add-lt, lemmas.Nat.same_from_place, lemmas.Bool.and_parts, lemmas.Bool.and_from}
 use Rattle.pas_profile.specs.declared.word.Word.{Word}
 use Rattle.pas_profile.specs.Profiles.{IsWordIn, vector_words}
 use Rattle.pas_profile.specs.Layouts.{index_of, words_of, same_word, word_kind, word_minor, word_major}
@@ -31,9 +29,6 @@ same_word-true x y h =
     sym (from_numbers x) ∙ ap (λ k. word_from k (word_minor x) (word_major x)) (eqb-true _ _ inner.0)
     ∙ ap (λ i. word_from (word_kind y) i (word_major x)) (eqb-true _ _ inner.1)
     ∙ ap (λ j. word_from (word_kind y) (word_minor y) j) (eqb-true _ _ outer.1) ∙ from_numbers y
-
-pub other_word : (x y : Word) → x ≢ y → same_word x y ≡ false
-other_word x y h = false_from_ne_true (same_word x y) (λ e. h (same_word-true x y e))
 
 -- every place is below the number of words
 pub index_lt : (pages heaps : ℕ) (w : Word) → IsWordIn pages heaps w → index_of pages w < words_of pages heaps

@@ -1,12 +1,10 @@
 -- The room of a request is large enough, and its directory is one of the profile.
 use Rattle.std.proofs.Common.{◌≡◌, ℕ, max, Bool, true, false, ap, sym, arith}
-use Rattle.pas_profile.specs.Directories.{IsKind, IsKindAmong}
-use Rattle.pas_profile.specs.Profiles.{IsAdmitted, IsDirectoryOf}
+use Rattle.pas_profile.specs.{Directories.IsKind, Directories.IsKindAmong, Profiles.IsAdmitted, Profiles.IsDirectoryOf}
 use Rattle.pas_profile.specs.Requests.{is_shared, kind_of_route, route_in, directory_for}
 use Rattle.pas_profile.specs.Routes.{route_of, room_by, room_of, IsRouteOf, IsRoomFor}
-use Rattle.pas_profile.specs.declared.directory.Route.{Route}
-use Rattle.pas_profile.specs.declared.directory.Route.TheVariants.{Class, Bitfit, Large}
-use Rattle.pas_profile.specs.declared.profile.Profile.{Profile}
+use Rattle.pas_profile.specs.declared.{directory.Route.Route, directory.Route.TheVariants.Class, directory.Route.TheVariants.Bitfit}
+use Rattle.pas_profile.specs.declared.{directory.Route.TheVariants.Large, profile.Profile.Profile}
 use Rattle.pas_profile.proofs.ClassFacts.{route_is, class_known, class_size_whole}
 
 -- ---- rooms

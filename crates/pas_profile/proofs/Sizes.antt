@@ -1,14 +1,13 @@
 -- Sizes of classes, of all and of those of a region, and the search of the class list.
-use Rattle.std.proofs.Common.{◌≡◌, ℕ, zero, suc, ◌<◌, Bool, true, ◌&&◌, refl, ◌≤◌, ◌==◌, nat_le, leb, length, get_or, arith, inl, inr, ◌+◌, ◌*◌, ◌%◌, max, ltb, eqb, false, if◌then◌else◌, List, drop, Some, None, ap, sym, ◌∙◌, subst}
-use Rattle.std.proofs.lemmas.Bool.Decides.{Decides-below_and}
-use Rattle.std.proofs.lemmas.List.{length-take, length-take-le, get_or-take, get_or_past, drop_all}
-use Rattle.std.proofs.lemmas.Bool.{leb-true, eqb-true, cases_lt, or_cases, or_left, or_right, and_parts, lt-ltb, le-ltb, le-leb, lt-leb, and_left}
+use Rattle.std.proofs.Common.{◌≡◌, ℕ, zero, suc, ◌<◌, Bool, true, ◌&&◌, refl, ◌≤◌, ◌==◌, nat_le, leb, length, get_or, arith, inl, inr, ◌+◌, ◌*◌, ◌%◌, max, ltb}
+use Rattle.std.proofs.Common.{eqb, false, if◌then◌else◌, List, drop, Some, None, ap, sym, ◌∙◌, subst, length-take, length-take-le, get_or-take, leb-true}
+use Rattle.std.proofs.Common.{eqb-true, lt-ltb, le-ltb, le-leb}
+use Rattle.std.proofs.{lemmas.Bool.Decides.Decides-below_and, lemmas.List.get_or_past, lemmas.List.drop_all, Math.Seq.drop-cons}
+use Rattle.std.proofs.lemmas.Bool.{cases_lt, or_cases, or_left, or_right, and_parts, lt-leb, and_left}
 use Rattle.pas_profile.specs.Classes.{class_sizes, IsClass, class_size, sizes_of, IsClassCount}
-use Rattle.pas_profile.specs.Profiles.{AreClassesFor}
-use Rattle.std.proofs.Math.Seq.{drop-cons}
-use Rattle.pas_profile.specs.Routes.{first_class, route_of, route_with}
-use Rattle.pas_profile.specs.declared.directory.Route.TheVariants.{Class, Bitfit, Large}
-use Rattle.pas_profile.specs.declared.routing.TheConstants.{CLASS_BY_GRAINS}
+use Rattle.pas_profile.specs.{Profiles.AreClassesFor, Routes.first_class, Routes.route_of, Routes.route_with}
+use Rattle.pas_profile.specs.declared.{directory.Route.TheVariants.Class, directory.Route.TheVariants.Bitfit, directory.Route.TheVariants.Large}
+use Rattle.pas_profile.specs.declared.{routing.TheConstants.CLASS_BY_GRAINS}
 
 -- ==== What holds at each number below one that is written out, by computing it there.
 
@@ -56,22 +55,16 @@ count_of pages classes is = elim (or_cases (classes == 20) ((classes == 16) && n
   | inr few ↦ or_left (classes == 16) (classes == 20) (and_parts (classes == 16) (nat_le pages 4096) few).0
 ]
 
-pub count_ge : (pages classes : ℕ) → AreClassesFor pages classes → 16 ≤ classes
-count_ge pages classes is = elim (or_cases (classes == 16) (classes == 20) (count_of pages classes is)) [
-  | inl few ↦ omega (arith, eqb-true classes 16 few)
-  | inr all ↦ omega (arith, eqb-true classes 20 all)
-]
-
 pub sizes_le : (classes : ℕ) → length (sizes_of classes) ≤ classes
 sizes_le classes = omega (arith, length-take classes class_sizes)
 
-pub sizes_are : (classes : ℕ) → classes ≤ 20 → length (sizes_of classes) ≡ classes
+sizes_are : (classes : ℕ) → classes ≤ 20 → length (sizes_of classes) ≡ classes
 sizes_are classes few = length-take-le classes class_sizes few
 
 pub size_at : (classes class : ℕ) → class < classes → get_or (sizes_of classes) class 0 ≡ class_size class
 size_at classes class lt = get_or-take classes class_sizes class 0 lt
 
-pub size_le : (classes class : ℕ) → get_or (sizes_of classes) class 0 ≤ class_size class
+size_le : (classes class : ℕ) → get_or (sizes_of classes) class 0 ≤ class_size class
 size_le classes class = elim (cases_lt class classes) [
   | inl lt ↦ omega (arith, size_at classes class lt)
   | inr ge ↦ let none = get_or_past (sizes_of classes) class 0 (omega (arith, ge, sizes_le classes)) in omega (arith, none)
@@ -87,7 +80,7 @@ one_step : (cs : List ℕ) (i n size align : ℕ) → i < length cs →
 one_step cs i n size align h = ap (λ (l : List ℕ). first_class l n size align) (drop-cons cs i 0 h)
 
 -- a class that doesn't suit is passed over, and so are the places past the last class
-pub passed_over : (cs : List ℕ) (i size align : ℕ) → suits (get_or cs i 0) size align ≡ false →
+passed_over : (cs : List ℕ) (i size align : ℕ) → suits (get_or cs i 0) size align ≡ false →
     first_class (drop (i + 1) cs) (i + 1) size align ≡ first_class (drop i cs) i size align
 passed_over cs i size align e = elim (cases_lt i (length cs)) [
   | inl h ↦
@@ -101,7 +94,7 @@ passed_over cs i size align e = elim (cases_lt i (length cs)) [
 ]
 
 -- a class that suits is found
-pub found_here : (cs : List ℕ) (i size align : ℕ) → i < length cs → suits (get_or cs i 0) size align ≡ true → first_class (drop i cs) i size align ≡ Some i
+found_here : (cs : List ℕ) (i size align : ℕ) → i < length cs → suits (get_or cs i 0) size align ≡ true → first_class (drop i cs) i size align ≡ Some i
 found_here cs i size align h e =
     one_step cs i i size align h ∙ ap (λ b. if b then Some i else first_class (drop (suc i) cs) (i + 1) size align) e
 

@@ -1,8 +1,7 @@
 -- Where a block stands. A grain of the region is the number `page * 256 + grain`, which is its address divided by 16, so that grains follow
 -- each other over the end of a page. The grains of one page are numbered alike, from 0 on.
 use Rattle.std.specs.Prelude.{ℕ, ◌/◌}
-use Rattle.pas_profile.specs.declared.name.Name.{Name}
-use Rattle.pas_profile.specs.declared.name.Block.{Block}
+use Rattle.pas_profile.specs.declared.name.{Name.Name, Block.Block}
 
 -- the address of a name, in bytes
 abbrev pub address_of : Name → ℕ

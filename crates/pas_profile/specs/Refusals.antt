@@ -1,8 +1,6 @@
 -- The numbers of the reasons why something is refused.
 use Rattle.std.specs.Prelude.{ℕ}
-use Rattle.pas_profile.specs.declared.event.Why.{Why}
-use Rattle.pas_profile.specs.declared.event.NoRoom.{NoRoom}
-use Rattle.pas_profile.specs.declared.event.FreeFault.{FreeFault}
+use Rattle.pas_profile.specs.declared.event.{Why.Why, NoRoom.NoRoom, FreeFault.FreeFault}
 
 abbrev pub why_number : Why → ℕ
 why_number Why.Ended = 1

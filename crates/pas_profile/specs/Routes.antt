@@ -1,8 +1,7 @@
 -- How a request is served.
 use Rattle.std.specs.Prelude.{ℕ, ◌+◌, ◌-◌, ◌*◌, ◌/◌, ◌%◌, ◌<◌, ◌≤◌, ◌≡◌, ◌==◌, nat_le, max, ◌&&◌, if◌then◌else◌, List, [], ◌∷◌, Option, None, Some}
 use Rattle.pas_profile.specs.Classes.{class_size, sizes_of}
-use Rattle.pas_profile.specs.declared.directory.Route.{Route}
-use Rattle.pas_profile.specs.declared.directory.Route.TheVariants.{Class, Bitfit, Large}
+use Rattle.pas_profile.specs.declared.directory.Route.{Route, TheVariants.Class, TheVariants.Bitfit, TheVariants.Large}
 
 -- the number of the first of these class sizes, which are numbered from n on, that is large enough and a multiple of the alignment
 abbrev pub first_class : List ℕ → ℕ → ℕ → ℕ → Option ℕ

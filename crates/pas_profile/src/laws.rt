@@ -3,10 +3,8 @@
 ghost use Rattle.std.specs.Prelude.{◌≡◌, ◌≢◌, ◌<◌, ◌≤◌, ◌+◌, ◌*◌, ◌%◌, ◌^◌, ℕ, Some, None, true, false};
 ghost use Rattle.pas_profile.specs.Classes.{IsClass, IsAlignment, IsSlotStart, class_grains};
 ghost use Rattle.pas_profile.specs.Directories.{IsDirectory, number_of, deed_word_of, directory_read};
-ghost use Rattle.pas_profile.specs.Layouts.{index_of};
+ghost use Rattle.pas_profile.specs.{Layouts.index_of, Profiles.IsAdmitted, Profiles.IsDirectoryOf, Profiles.IsWordIn, Requests.directory_for};
 ghost use Rattle.pas_profile.specs.Lives.{life_word_of, turn_of, grains_of, is_live};
-ghost use Rattle.pas_profile.specs.Profiles.{IsAdmitted, IsDirectoryOf, IsWordIn};
-ghost use Rattle.pas_profile.specs.Requests.{directory_for};
 ghost use Rattle.pas_profile.specs.Routes.{Suits, IsRouteOf, IsRoomFor, route_of, room_of};
 
 use crate::directory::Directory;

@@ -1,7 +1,6 @@
 //! The route of a request, and the room that it gets.
 ghost use Rattle.std.specs.Prelude.{◌≡◌, ◌≤◌};
-ghost use Rattle.pas_profile.specs.Classes.{IsAlignment, IsClassCount};
-ghost use Rattle.pas_profile.specs.Routes.{route_of, room_of};
+ghost use Rattle.pas_profile.specs.{Classes.IsAlignment, Classes.IsClassCount, Routes.route_of, Routes.room_of};
 
 use crate::classes::{CLASS_SIZES, class_size};
 use crate::directory::Route;

@@ -1,32 +1,19 @@
 -- A block gets another size.
-use Rattle.std.proofs.Common.{◌≡◌, ℕ, ◌+◌, ◌≤◌, ◌++◌, Bool, true, false, if◌then◌else◌, [], length, Option, Result, Ok, Err, inl, inr, refl, ap, sym, ◌∙◌, subst, arith}
-use Rattle.std.specs.Prelude.{◌-◌, nat_le}
-use Rattle.std.proofs.lemmas.Bool.{le-leb}
-use Rattle.pas_profile.specs.declared.directory.Route.{Route}
-use Rattle.pas_profile.specs.declared.event.FreeFault.{FreeFault}
-use Rattle.pas_profile.specs.declared.event.FreeFault.TheVariants.{Outside, Unaligned}
-use Rattle.pas_profile.specs.declared.event.NoRoom.{NoRoom}
-use Rattle.pas_profile.specs.declared.name.Block.{Block}
-use Rattle.pas_profile.specs.declared.name.Name.{Name}
-use Rattle.pas_profile.specs.declared.profile.Profile.{Profile}
+use Rattle.std.proofs.Common.{◌≡◌, ℕ, ◌+◌, ◌≤◌, ◌++◌, Bool, true, false, if◌then◌else◌, [], length, Option, Result, Ok, Err, inl, inr, refl, ap, sym, ◌∙◌}
+use Rattle.std.proofs.Common.{subst, arith, ◌-◌, nat_le, le-leb}
+use Rattle.pas_profile.specs.declared.{directory.Route.Route, event.FreeFault.FreeFault, event.FreeFault.TheVariants.Outside}
+use Rattle.pas_profile.specs.declared.{event.FreeFault.TheVariants.Unaligned, event.NoRoom.NoRoom, name.Block.Block, name.Name.Name, profile.Profile.Profile}
 use Rattle.pas_trace.specs.Reasons.{cost_of_size}
-use Rattle.pas_steps.specs.Desks.{Seat, Standing, CanCall}
-use Rattle.pas_steps.specs.Events.{events_by}
-use Rattle.pas_steps.proofs.Called.{call_none, call_then, next_call}
-use Rattle.pas_steps.proofs.SpareRoom.{Spares, spare_falls}
-use Rattle.pas_steps.proofs.Unknown.{none_unknown}
-use Rattle.pas_steps.specs.Views.{View}
-use Rattle.pas_steps.proofs.Adding.{adds_none, can_call}
-use Rattle.pas_cache.specs.Caches.{Cached, AtRest}
-use Rattle.pas_cache.specs.Calls.{MayAllocate, MayAllocatePages, MayRequestBy, MayRequest, Allocates, AllocatesPages, AllocatesBy, AllocatesRequest, IsNamed, TakesEntry, Frees}
+use Rattle.pas_steps.specs.{Desks.Seat, Desks.Standing, Desks.CanCall, Events.events_by, Views.View}
+use Rattle.pas_steps.proofs.{Called.call_none, Called.call_then, Called.next_call, SpareRoom.Spares, SpareRoom.spare_falls, Unknown.none_unknown}
+use Rattle.pas_steps.proofs.{Adding.adds_none, Adding.can_call}
+use Rattle.pas_cache.specs.{Caches.Cached, Caches.AtRest, Names.IsInRegion, Names.IsFaultOf, Serves.Wanted, Serves.wanted_for, Serves.pages_of}
+use Rattle.pas_cache.specs.Calls.{MayAllocate, MayAllocatePages, MayRequestBy, MayRequest, Allocates, AllocatesPages, AllocatesBy, AllocatesRequest, IsNamed}
+use Rattle.pas_cache.specs.Calls.{TakesEntry, Frees}
 use Rattle.pas_free_log.specs.Logs.{entry_of}
-use Rattle.pas_cache.specs.Names.{IsInRegion, IsFaultOf}
-use Rattle.pas_cache.specs.Serves.{Wanted, wanted_for, pages_of}
 use Rattle.pas_cache.specs.declared.moving.Moved.TheVariants.{Kept, New}
-use Rattle.pas_answers.specs.Calls.{Serves}
+use Rattle.pas_answers.specs.{Calls.Serves, Answers.suits, Moves.flush_of_full, Moves.MayMove, Moves.Moves}
 use Rattle.pas_answers.proofs.Requests.{serves}
-use Rattle.pas_answers.specs.Answers.{suits}
-use Rattle.pas_answers.specs.Moves.{flush_of_full, MayMove, Moves}
 
 -- ---- the request
 small_room : (f : Profile) (c : Cached) (less spare : ℕ) (v : View) → less ≤ spare → MayAllocate f c less v → MayAllocate f c spare v
@@ -56,25 +43,21 @@ small_left : {σ σ1 : Standing} (wanted : Wanted) (tells : Bool) (c c1 : Cached
 small_left {σ} wanted tells c c1 answer less spare spare1 did can law law1 =
     let f = σ.seat.profile in
     let v = can.view in
-    let room = can.met.room.0 in
     let few = did.few σ.seat.actor v can.met.rest (did.calls.adds.agreed v can.whole can.stood can.met.rest) in
-    let paid = few.paid in
-    let most = few.most in
     let falls = spare_falls spare spare1 (length (events_by σ.seat.actor v did.steps)) did.calls.adds (record { view = v; whole = can.whole; stood = can.stood; met = can.met.rest }) law law1 refl in
     let within : length (events_by σ.seat.actor v did.steps) ≤ less = elim can.met.room.1 [
-      | inl all ↦ let none = none_unknown f v all in omega (arith, paid, none, room)
-      | inr more ↦ omega (arith, most, more)
+      | inl all ↦ let none = none_unknown f v all in omega (arith, few.paid, none, can.met.room.0)
+      | inr more ↦ omega (arith, few.most, more)
     ] in
-    (omega (arith, falls, within), omega (arith, room))
+    (omega (arith, falls, within), omega (arith, can.met.room.0))
 
 large_left : {σ σ1 : Standing} (wanted : Wanted) (found : Option ℕ) (tells : Bool) (c c1 : Cached) (block : Block) (less spare spare1 : ℕ) → AllocatesPages wanted found tells c c1 σ σ1 (Ok block) → CanCall σ (MayAllocatePages σ.seat.profile c (pages_of wanted) less) → Spares σ spare → Spares σ1 spare1
     → (spare ≤ spare1 + less) × (1 ≤ less)
 large_left {σ} wanted found tells c c1 block less spare spare1 did can law law1 =
     let v = can.view in
-    let room = can.met.room in
     let few = did.few σ.seat.actor v can.met.rest (did.calls.adds.agreed v can.whole can.stood can.met.rest) in
     let falls = spare_falls spare spare1 (length (events_by σ.seat.actor v did.steps)) did.calls.adds (record { view = v; whole = can.whole; stood = can.stood; met = can.met.rest }) law law1 refl in
-    (omega (arith, falls, few, room), omega (arith, room))
+    (omega (arith, falls, few, can.met.room), omega (arith, can.met.room))
 
 left_by : (σ σ1 : Standing) (route : Route) (wanted : Wanted) (found : Option ℕ) (tells : Bool) (c c1 : Cached) (block : Block) (less spare spare1 : ℕ) → AllocatesBy route wanted found tells c c1 σ σ1 (Ok block) → CanCall σ (MayRequestBy route σ.seat.profile c (pages_of wanted) less)
     → Spares σ spare → Spares σ1 spare1 → (spare ≤ spare1 + less) × (1 ≤ less)
@@ -100,9 +83,7 @@ room_to_free {σ} {σ1} {tells = tells} heap size align spare spare1 c c1 block 
     let at : length c.log ≡ 64 = ap length (sym s.log_is) ∙ full in
     let flush : spare - flush_of_full c.log ≡ spare - 64 = ap (λ t. spare - (if t then 64 else 0)) (full_log (length c.log) at) in
     let left = left_by σ σ1 w.route w r.found tells c c1 block (spare - flush_of_full c.log) spare spare1 r.allocates can law law1 in
-    let most = left.0 in
-    let some = left.1 in
-    omega (arith, flush, most, some)
+    omega (arith, flush, left.0, left.1)
 
 pub can_free : {σ σ1 : Standing} {Answers : Option ℕ → Type 0} {Same : Type 0} {tells : Bool} (heap size align spare : ℕ) (c c1 : Cached) (block : Block) → AllocatesRequest Answers Same (wanted_for σ.seat.profile heap size align) tells c c1 σ σ1 (Ok block)
     → CanCall σ (MayMove σ.seat.profile (wanted_for σ.seat.profile heap size align) c spare) → CanCall σ1 (AtRest σ1.seat.profile c1)

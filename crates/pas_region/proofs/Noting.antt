@@ -4,9 +4,8 @@ use Rattle.std.specs.Option.{option_to_list}
 use Rattle.std.proofs.lemmas.List.{reverse-append}
 use Rattle.pas_profile.specs.declared.event.Event.{Event}
 use Rattle.pas_profile.specs.Rooms.{shown}
-use Rattle.pas_steps.specs.Events.{event_of, events_of, with_event}
+use Rattle.pas_steps.specs.{Events.event_of, Events.events_of, Events.with_event, Desks.made}
 use Rattle.pas_steps.specs.Views.{View, epoch_after, epoch_of, or_zero}
-use Rattle.pas_steps.specs.Desks.{made}
 use Rattle.pas_steps.specs.declared.step.Step.{Step}
 use Rattle.pas_region.specs.declared.notes.Notes.{Notes}
 use Rattle.pas_region.specs.Noted.{events_noted, count_of_notes, AreNotesOf, IsNoted}

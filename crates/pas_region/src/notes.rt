@@ -29,9 +29,7 @@ fn record(room: &mut EventRoom, event: Option<Event>)
 }
 
 impl Notes {
-    ghost use Rattle.pas_steps.specs.Events.{wants};
-    ghost use Rattle.pas_steps.specs.Ranges.{IsRanged};
-    ghost use Rattle.pas_steps.specs.Views.{or_zero};
+    ghost use Rattle.pas_steps.specs.{Events.wants, Ranges.IsRanged, Views.or_zero};
     ghost use Rattle.pas_region.specs.Noted.{notes_for, IsNoted, events_noted, room_of_notes, count_of_notes, epoch_noted};
 
     /// Those of an actor that made no step.

@@ -1,7 +1,6 @@
 //! A log that is full, and its flush.
 ghost use Rattle.std.specs.Prelude.{◌<◌, All};
-ghost use Rattle.pas_free_log.specs.Conditions.{IsEntryOf};
-ghost use Rattle.pas_free_log.specs.Logs.{entries_in, entry_of};
+ghost use Rattle.pas_free_log.specs.{Conditions.IsEntryOf, Logs.entries_in, Logs.entry_of};
 
 use crate::plain::{PROFILE, seated};
 use arrayvec::ArrayVec;

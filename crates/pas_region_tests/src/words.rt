@@ -1,6 +1,5 @@
 ghost use Rattle.std.specs.Prelude.{◌≤◌};
-ghost use Rattle.pas_profile.specs.Classes.{IsClass};
-ghost use Rattle.pas_profile.specs.Profiles.{IsValid};
+ghost use Rattle.pas_profile.specs.{Classes.IsClass, Profiles.IsValid};
 
 use pas_profile::classes::class_size;
 use pas_profile::*;

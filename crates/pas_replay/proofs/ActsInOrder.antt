@@ -1,25 +1,21 @@
 -- The acts of a replay, one after the other.
-use Rattle.std.proofs.Common.{◌≡◌, ℕ, ◌+◌, ◌-◌, ◌<◌, ◌≤◌, not, List, [], ◌∷◌, ◌++◌, map, length, drop, get_or, refl, ap, sym, ◌∙◌, subst, arith, Option, length-append, append_assoc}
+use Rattle.std.proofs.Common.{◌≡◌, ℕ, ◌+◌, ◌-◌, ◌<◌, ◌≤◌, not, List, [], ◌∷◌, ◌++◌, map, length, drop, get_or, refl, ap, sym, ◌∙◌, subst, arith, Option}
+use Rattle.std.proofs.Common.{length-append, append_assoc}
 use Rattle.std.proofs.lemmas.List.{drop_more}
 use Rattle.pas_profile.specs.declared.profile.Profile.{Profile}
-use Rattle.pas_trace.specs.declared.plan.Op.{Op}
-use Rattle.pas_trace.specs.declared.plan.What.TheVariants.{Alloc}
+use Rattle.pas_trace.specs.declared.plan.{Op.Op, What.TheVariants.Alloc}
 use Rattle.pas_report.specs.Rooms.{records_in, room_of, Records}
 use Rattle.pas_report.specs.declared.record.Record.{Record}
 use Rattle.pas_trace.specs.Acts.{Act, Wakes, Lowers, is_active, numbers_from, active_threads, idle_threads, acts_of_op, acts_of_ops, phase_acts}
-use Rattle.pas_answers.specs.Answers.{Progress, with_records}
+use Rattle.pas_answers.specs.{Answers.Progress, Answers.with_records, Reaching.Advances, Fit.AreFit, Fit.cost_of_act, Names.names_held}
 use Rattle.pas_large.specs.Doors.{Indexes}
-use Rattle.pas_answers.specs.Reaching.{Advances}
 use Rattle.pas_plain.specs.declared.pass.PlainPass.{PlainPass}
-use Rattle.pas_answers.specs.Fit.{AreFit, cost_of_act}
-use Rattle.pas_answers.specs.Names.{names_held}
 use Rattle.pas_bits.specs.Masks.{is_set}
 use Rattle.pas_bits.specs.declared.mask.Mask4.{Mask4}
 use Rattle.pas_plans.specs.Awake.{awake_in, idle_in}
 use Rattle.pas_replay.specs.Sessions.{own_events, ActorStands, Replay, Hand, GoesBy, IsAt, SoFar}
 use Rattle.pas_plans.proofs.ActsLeft.{number_next, number_last, threads_alike}
-use Rattle.pas_replay.proofs.Going.{all_rest}
-use Rattle.pas_replay.proofs.Threads.{still_places, owed_kept}
+use Rattle.pas_replay.proofs.{Going.all_rest, Threads.still_places, Threads.owed_kept}
 use Rattle.pas_replay.proofs.Turning.{AsksNoIndex, less_events, less_tries, other_stands}
 
 -- ---- marks

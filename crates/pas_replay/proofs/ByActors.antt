@@ -1,16 +1,9 @@
 -- What each actor's turn needs and leaves: instances of the turn.
-use Rattle.std.proofs.Common.{◌≡◌, ℕ, ◌-◌, ◌≤◌, ◌==◌, Bool, true, false, if◌then◌else◌, List, [], ◌∷◌, ◌++◌, length, set, get_or, Option, None, Some, refl, ap, sym, ◌∙◌, subst, arith}
-use Rattle.std.proofs.lemmas.Bool.{eq-eqb}
-use Rattle.std.proofs.lemmas.List.{append-nil}
-use Rattle.pas_profile.specs.declared.name.Block.{Block}
-use Rattle.pas_profile.specs.declared.profile.Profile.{Profile}
-use Rattle.pas_trace.specs.Asked.{work_of, keeper_of}
-use Rattle.pas_trace.specs.EveryPlan.{asked_after}
-use Rattle.pas_trace.specs.declared.plan.Op.{Op}
-use Rattle.pas_trace.specs.declared.plan.What.{What}
-use Rattle.pas_trace.specs.declared.plan.Task.{Task}
-use Rattle.pas_trace.specs.declared.plan.Work.{Work}
-use Rattle.pas_trace.specs.declared.plan.Chore.{Chore}
+use Rattle.std.proofs.Common.{◌≡◌, ℕ, ◌-◌, ◌≤◌, ◌==◌, Bool, true, false, if◌then◌else◌, List, [], ◌∷◌, ◌++◌, length, set, get_or, Option, None, Some, refl, ap}
+use Rattle.std.proofs.Common.{sym, ◌∙◌, subst, arith, eq-eqb, append-nil}
+use Rattle.pas_profile.specs.declared.{name.Block.Block, profile.Profile.Profile}
+use Rattle.pas_trace.specs.{Asked.work_of, Asked.keeper_of, EveryPlan.asked_after}
+use Rattle.pas_trace.specs.declared.plan.{Op.Op, What.What, Task.Task, Work.Work, Chore.Chore}
 use Rattle.pas_plain.specs.Seats.{standing_of}
 use Rattle.pas_plain.specs.declared.desk.PlainDesk.{PlainDesk}
 use Rattle.pas_report.specs.Rooms.{records_in, room_of, Records}
@@ -19,22 +12,18 @@ use Rattle.pas_cache.specs.Caches.{cached}
 use Rattle.pas_cache.specs.declared.cache.ThreadCache.{ThreadCache}
 use Rattle.pas_guard.specs.declared.book.GuardBook.{GuardBook}
 use Rattle.pas_trace.specs.Acts.{Act, act_kept, acts_of_op, acts_of_work, acts_of_chore, Operates, Settles}
-use Rattle.pas_answers.specs.Answers.{Named, Progress}
+use Rattle.pas_answers.specs.{Answers.Named, Answers.Progress, Names.block_named, Names.names_held}
 use Rattle.pas_answers.specs.Calls.{Tells, AllMayStand, MayStand, IsMeant, named_by, freed_by}
 use Rattle.pas_answers.specs.Fit.{AreFit, cost_of_what, cost_of_act, own_cost_of_act}
-use Rattle.pas_answers.specs.Names.{block_named, names_held}
 use Rattle.pas_answers.specs.declared.names.Names.{Names}
-use Rattle.pas_answers.proofs.Kept.{meant_by, meant_stands}
-use Rattle.pas_answers.proofs.KnownNames.{known_more}
-use Rattle.pas_answers.proofs.SingleActs.{if_same, known_if}
+use Rattle.pas_answers.proofs.{Kept.meant_by, Kept.meant_stands, KnownNames.known_more, SingleActs.if_same, SingleActs.known_if}
 use Rattle.pas_acts.specs.Turns.{RestsAt}
 use Rattle.pas_acts.specs.AtDesks.{here, and_for, MayOperate, ThreadActs}
 use Rattle.pas_acts.proofs.AtDesk.{rests_for}
 use Rattle.pas_replay.specs.Sessions.{Hand, Slots, IsTaken, TakesSeat, Replay, HasNames, IsAt, SoFar}
-use Rattle.pas_replay.proofs.Threads.{there_is}
+use Rattle.pas_replay.proofs.{Threads.there_is, Going.rest_one, Going.rest_two}
 use Rattle.pas_large.specs.Doors.{Indexes}
 use Rattle.pas_replay.specs.Operating.{ActsByIndexes}
-use Rattle.pas_replay.proofs.Going.{rest_one, rest_two}
 use Rattle.pas_replay.proofs.Turning.{hand, AsksNoIndex, thread_now, later_for, thread_turn}
 
 -- ---- an act of a thread for which no name stands: it wakes, it is stopped where it is idle, it ends

@@ -1,23 +1,16 @@
 -- What a door to plain indexes tells, as the definition of a replay says it.
-use Rattle.std.proofs.Common.{◌≡◌, ℕ, List, [], ◌∷◌, ◌++◌, length, drop, take, Option, Some, None, ap, sym, ◌∙◌, subst, refl}
-use Rattle.std.proofs.lemmas.List.{length-set, take_at}
+use Rattle.std.proofs.Common.{◌≡◌, ℕ, List, [], ◌∷◌, ◌++◌, length, drop, take, Option, Some, None, ap, sym, ◌∙◌, subst, refl, length-set, take_at}
 use Rattle.pas_large_index.specs.Spans.{span_of, cut_lowest, added}
 use Rattle.pas_profile.specs.Requests.{route_in}
-use Rattle.pas_profile.specs.declared.directory.Route.{Route}
-use Rattle.pas_profile.specs.declared.event.Range.{Range}
-use Rattle.pas_profile.specs.declared.profile.Profile.{Profile}
+use Rattle.pas_profile.specs.declared.{directory.Route.Route, event.Range.Range, profile.Profile.Profile}
 use Rattle.pas_free_log.specs.declared.noting.EndedRun.{EndedRun}
 use Rattle.pas_large.specs.Doors.{Indexes, ranges_of, found_in, cut_in, added_in}
-use Rattle.pas_trace.specs.declared.item.Request.{Request}
-use Rattle.pas_cache.specs.Calls.{IsNamed, SettlesEach}
-use Rattle.pas_cache.specs.Serves.{pages_of}
+use Rattle.pas_trace.specs.declared.{item.Request.Request, plan.Op.Op}
+use Rattle.pas_cache.specs.{Calls.IsNamed, Calls.SettlesEach, Serves.pages_of}
 use Rattle.pas_trace.specs.Acts.{Operates, Settles}
-use Rattle.pas_trace.specs.declared.plan.Op.{Op}
-use Rattle.pas_acts.specs.Works.{Later}
-use Rattle.pas_answers.specs.Answers.{Named, wanted_by, Progress}
-use Rattle.pas_answers.specs.Reaching.{Reaches}
+use Rattle.pas_acts.specs.{Works.Later, AtDesks.Here, AtDesks.GoesThrough}
+use Rattle.pas_answers.specs.{Answers.Named, Answers.wanted_by, Answers.Progress, Reaching.Reaches}
 use Rattle.pas_answers.specs.Indexes.{request_by, IsNamedFor, IsNamedBy, AllAreNamedBy, after_request, after_operation, with_noted, indexes_after_all}
-use Rattle.pas_acts.specs.AtDesks.{Here, GoesThrough}
 use Rattle.pas_replay.specs.Operating.{ActsByIndexes}
 
 -- doors of which each is to one vector of indexes
@@ -78,7 +71,7 @@ noted_many : (runs : List EndedRun) (indexes : Indexes) → length (with_noted i
 noted_many [] indexes = refl
 noted_many (run ∷ runs) indexes = noted_many runs (added_in indexes run.heap run.range) ∙ length-set indexes run.heap (added (span_of run.range) (ranges_of indexes run.heap))
 
-pub operated_many : (f : Profile) (op : Op) (p q : Progress) (is : Reaches f (Operates op ∷ (Settles op.actor ∷ [])) p q) (indexes : Indexes) → length (indexes_after_all f (Operates op ∷ (Settles op.actor ∷ [])) p q is indexes) ≡ length indexes
+operated_many : (f : Profile) (op : Op) (p q : Progress) (is : Reaches f (Operates op ∷ (Settles op.actor ∷ [])) p q) (indexes : Indexes) → length (indexes_after_all f (Operates op ∷ (Settles op.actor ∷ [])) p q is indexes) ≡ length indexes
 operated_many f op p q is indexes = noted_many (is.0.caches op.actor).noted (after_operation f (request_by p.names op.what) indexes) ∙ after_many f (request_by p.names op.what) indexes
 
 -- a vector whose elements were all written back has what the indexes hold then

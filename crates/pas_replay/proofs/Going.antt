@@ -1,18 +1,16 @@
 -- How a replay goes on: the acts that were answered are followed by others, and all actors are at rest between them.
-use Rattle.std.proofs.Common.{◌≡◌, ℕ, zero, suc, ◌<◌, ◌≤◌, ◌==◌, Bool, true, false, if◌then◌else◌, List, [], ◌∷◌, ◌++◌, refl, ap, sym, subst, arith}
-use Rattle.std.proofs.lemmas.Bool.{eqb-true, le-leb, lt-leb}
+use Rattle.std.proofs.Common.{◌≡◌, ℕ, zero, suc, ◌<◌, ◌≤◌, ◌==◌, Bool, true, false, if◌then◌else◌, List, [], ◌∷◌, ◌++◌, refl, ap, sym, subst, arith, eqb-true}
+use Rattle.std.proofs.Common.{le-leb}
+use Rattle.std.proofs.lemmas.Bool.{lt-leb}
 use Rattle.pas_profile.specs.declared.profile.Profile.{Profile}
-use Rattle.pas_steps.specs.Lists.{part}
-use Rattle.pas_steps.specs.Views.{View}
+use Rattle.pas_steps.specs.{Lists.part, Views.View}
 use Rattle.pas_guard.specs.Books.{FitsBook}
 use Rattle.pas_large.specs.Doors.{Indexes}
 use Rattle.pas_cache.specs.Caches.{Cached, AtRest}
 use Rattle.pas_trace.specs.Acts.{Act, Operates, Settles}
 use Rattle.pas_trace.specs.declared.plan.Op.{Op}
-use Rattle.pas_answers.specs.Answers.{Progress, settled, after_settling}
-use Rattle.pas_answers.specs.Indexes.{indexes_after, indexes_after_all, AllAreNamedBy}
-use Rattle.pas_answers.specs.Reaching.{Reaches}
-use Rattle.pas_answers.specs.Rests.{AreAtRest, AllAtRest}
+use Rattle.pas_answers.specs.{Answers.Progress, Answers.settled, Answers.after_settling, Indexes.indexes_after, Indexes.indexes_after_all}
+use Rattle.pas_answers.specs.{Indexes.AllAreNamedBy, Reaching.Reaches, Rests.AreAtRest, Rests.AllAtRest}
 use Rattle.pas_replay.specs.Sessions.{rests_as, rests, Replay, Hand, IsAt, GoesBy}
 
 -- ---- at rest
@@ -28,9 +26,7 @@ rests_of_keeper threads f p (suc i) v past rest = subst (λ (kind : Bool). rests
 pub all_rest : {r : Replay} {acts : List Act} {h : Hand} {p : Progress} → IsAt r acts h p → AreAtRest r.threads r.profile p.caches p.books p.list
 all_rest {r} {p = p} at = record {
   working = λ k (is : (1 ≤ k) × (k ≤ r.threads)).
-      let low = is.1 in
-      let threads = at.threads in
-      rests_of_thread r.threads r.profile p k (part k p.list) is (at.each k (omega (arith, low, threads))).rest;
+      rests_of_thread r.threads r.profile p k (part k p.list) is (at.each k (omega (arith, is.1, at.threads))).rest;
   keeping = λ k (is : (r.threads < k) × (k ≤ r.profile.threads)). rests_of_keeper r.threads r.profile p k (part k p.list) is.0 (at.each k is.1).rest;
   scavenger = (at.each 0 (omega arith)).rest;
 }

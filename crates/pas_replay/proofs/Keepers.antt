@@ -1,51 +1,40 @@
 -- The turn of a keeper, and what is left of a guarded request after it.
-use Rattle.std.proofs.Common.{◌≡◌, ◌≢◌, ℕ, zero, suc, ◌+◌, ◌-◌, ◌<◌, ◌≤◌, ◌==◌, nat_le, Bool, true, false, inl, inr, List, [], ◌∷◌, ◌++◌, length, set, get_or, Option, Some, None, refl, ap, sym, ◌∙◌, subst, arith, length-append}
-use Rattle.std.proofs.lemmas.Bool.{cases_eq, eq-eqb, lt-leb}
-use Rattle.std.proofs.lemmas.List.{length-set}
-use Rattle.pas_profile.specs.declared.profile.Profile.{Profile}
-use Rattle.pas_profile.specs.declared.name.Block.{Block}
-use Rattle.pas_steps.specs.Lists.{part}
-use Rattle.pas_steps.specs.Unknown.{unknown_pages}
-use Rattle.pas_steps.specs.Views.{View}
+use Rattle.std.proofs.Common.{◌≡◌, ◌≢◌, ℕ, zero, suc, ◌+◌, ◌-◌, ◌<◌, ◌≤◌, ◌==◌, nat_le, Bool, true, false, inl, inr, List, [], ◌∷◌, ◌++◌, length, set, get_or}
+use Rattle.std.proofs.Common.{Option, Some, None, refl, ap, sym, ◌∙◌, subst, arith, length-append, eq-eqb, length-set}
+use Rattle.std.proofs.lemmas.Bool.{cases_eq, lt-leb}
+use Rattle.pas_profile.specs.declared.{profile.Profile.Profile, name.Block.Block}
+use Rattle.pas_steps.specs.{Lists.part, Unknown.unknown_pages, Views.View}
 use Rattle.pas_plain.specs.Seats.{standing_of}
-use Rattle.pas_plain.specs.declared.desk.PlainDesk.{PlainDesk}
-use Rattle.pas_plain.specs.declared.pass.PlainPass.{PlainPass}
+use Rattle.pas_plain.specs.declared.{desk.PlainDesk.PlainDesk, pass.PlainPass.PlainPass}
 use Rattle.pas_report.specs.Rooms.{records_in, room_of, Records}
 use Rattle.pas_report.specs.declared.record.Record.{Record}
 use Rattle.pas_guard.specs.Books.{FitsBook, guards_in, size_of_book}
-use Rattle.pas_guard.specs.declared.book.Guard.{Guard}
-use Rattle.pas_guard.specs.declared.book.GuardBook.{GuardBook}
+use Rattle.pas_guard.specs.declared.book.{Guard.Guard, GuardBook.GuardBook}
 use Rattle.pas_free_log.specs.declared.noting.EndedRun.{EndedRun}
 use Rattle.pas_cache.specs.Caches.{Cached, cached}
 use Rattle.pas_cache.specs.declared.cache.ThreadCache.{ThreadCache}
 use Rattle.pas_large.specs.Doors.{Indexes}
 use Rattle.pas_trace.specs.Acts.{Act, Operates, Guards, Settles, Lowers}
-use Rattle.pas_trace.specs.Asked.{request_in}
-use Rattle.pas_trace.specs.EveryPlan.{asked_after}
-use Rattle.pas_trace.specs.Reasons.{cost_of_size}
-use Rattle.pas_trace.specs.declared.item.Request.{Request}
-use Rattle.pas_trace.specs.declared.plan.Op.{Op}
+use Rattle.pas_trace.specs.{Asked.request_in, EveryPlan.asked_after, Reasons.cost_of_size}
+use Rattle.pas_trace.specs.declared.{item.Request.Request, plan.Op.Op}
 use Rattle.pas_answers.specs.Answers.{Named, Progress, Caches, settled, after_settling}
 use Rattle.pas_answers.specs.Calls.{Tells, MayStand, AreKnown, what_of, named_with}
 use Rattle.pas_answers.specs.Fit.{AreFit, AreOfThreads, cost_of_what, costs_of, own_costs_of, kept_cost_of, kept_costs_of}
 use Rattle.pas_answers.specs.Guarding.{Tried, IsTried, after_trying, after_giving}
 use Rattle.pas_answers.specs.Indexes.{request_by, with_noted, after_operation, after_tried, after_guarded, TriedIsNamedBy, GuardedIsNamedBy, AllAreNamedBy}
-use Rattle.pas_answers.specs.Keeping.{owed_by_keeper, cost_of_try}
-use Rattle.pas_answers.specs.Reaching.{AnswersTried, AnswersGuarded}
-use Rattle.pas_answers.specs.Rests.{AreAtRest}
+use Rattle.pas_answers.specs.{Keeping.owed_by_keeper, Keeping.cost_of_try, Reaching.AnswersTried, Reaching.AnswersGuarded, Rests.AreAtRest}
 use Rattle.pas_answers.specs.declared.names.Names.{Names}
-use Rattle.pas_answers.proofs.KnownNames.{known_more}
-use Rattle.pas_answers.proofs.SingleActs.{its_cache, other_cache, if_same}
+use Rattle.pas_answers.proofs.{KnownNames.known_more, SingleActs.its_cache, SingleActs.other_cache, SingleActs.if_same}
 use Rattle.pas_plans.specs.Tries.{tries_of, AreKeptFor}
 use Rattle.pas_acts.specs.Keepers.{keeper_has, LaterKept, and_try, KeeperAt, KeeperTries, KeeperLowers}
-use Rattle.pas_acts.specs.Works.{Sits}
-use Rattle.pas_acts.specs.Turns.{Moves}
-use Rattle.pas_acts.proofs.AtDesk.{sits_for, settled_rest}
-use Rattle.pas_acts.proofs.Keeping.{other_book}
+use Rattle.pas_acts.specs.{Works.Sits, Turns.Moves}
+use Rattle.pas_acts.proofs.{AtDesk.sits_for, AtDesk.settled_rest, Keeping.other_book}
 use Rattle.pas_replay.specs.declared.seats.Guarded.{Guarded}
-use Rattle.pas_replay.specs.Sessions.{Slots, IsTaken, TakesSeat, task_of, asked_by, Session, session, SoFarAt, HasTried, rests_as, rests, owes_as, owes, own_events, ActorStands, records_owed_as, owed_of, owed_by, AreCaches, Replay, Hand, HasNames, IsAt, GoesBy, HasNamed}
+use Rattle.pas_replay.specs.Sessions.{Slots, IsTaken, TakesSeat, task_of, asked_by, Session, session, SoFarAt, HasTried, rests_as, rests, owes_as, owes}
+use Rattle.pas_replay.specs.Sessions.{own_events, ActorStands, records_owed_as, owed_of, owed_by, AreCaches, Replay, Hand, HasNames, IsAt, GoesBy, HasNamed}
 use Rattle.pas_replay.proofs.Going.{all_rest, rest_first, rest_one, goes_both}
-use Rattle.pas_replay.proofs.Threads.{OthersKept, there_is, set_caches, book_is, place_is, set_books, set_places, still_places, owed_moves, owed_at, keeper_owes}
+use Rattle.pas_replay.proofs.Threads.{OthersKept, there_is, set_caches, book_is, place_is, set_books, set_places, still_places, owed_moves, owed_at}
+use Rattle.pas_replay.proofs.Threads.{keeper_owes}
 use Rattle.pas_replay.proofs.Turning.{hand, SitsAs, MovesAs, sits_now, turn, kept_by_moves, either_less, less_events, less_tries}
 
 -- for how much there is room besides, when keeper k has its turn: for what the acts that are left ask of it, what the others owe, and what all of them cost
@@ -70,8 +59,7 @@ keeper_now {r} {acts} {desk0} {desk} {passes0} {passes} {caches} {books} {places
     let f = r.profile in
     let k = suc j in
     let v = part k p.list in
-    let kept = at.kept in
-    let within : k ≤ r.threads + r.keepers = omega (arith, place, most, kept) in
+    let within : k ≤ r.threads + r.keepers = omega (arith, place, most, at.kept) in
     let past : r.threads < k = omega (arith, place, some) in
     let sits = subst (λ (kind : Bool). SitsAs kind r k desk acts p) (lt-leb k r.threads past) (sits_now k within seat at) in
     let book : p.books k ≡ guards_in there = ap p.books place ∙ book_is r.threads p.books books i there some most at.books_are is in
@@ -113,41 +101,39 @@ module _ {r : Replay} {acts more : List Act} {desk0 desk desk' : PlainDesk} {pas
   past : r.threads < k
   past = omega (arith, place, some)
 
-  pub within : k ≤ r.threads + r.keepers
-  within = let kept = at.kept in omega (arith, place, most, kept)
+  within : k ≤ r.threads + r.keepers
+  within = omega (arith, place, most, at.kept)
 
   was : p.books k ≡ guards_in there
   was = ap p.books place ∙ book_is r.threads p.books books i there some most at.books_are is
 
-  pub kept_so : OthersKept k p q
+  kept_so : OthersKept k p q
   kept_so = kept_by_moves x.moves (λ j ne. ap (λ (cs : Caches). cs j) x.caches) x.books
 
-  pub keeper_was : owed_of r.threads r.profile p k ≡ owed_by_keeper r.profile (guards_in there) (part k p.list)
+  keeper_was : owed_of r.threads r.profile p k ≡ owed_by_keeper r.profile (guards_in there) (part k p.list)
   keeper_was = keeper_owes r.threads r.profile p k past ∙ ap (λ (gs : List Guard). owed_by_keeper r.profile gs (part k p.list)) was
 
   -- what is owed then, and what it owed itself
-  pub owed_then : owed_by r.threads r.profile q (r.threads + r.keepers) + owed_by_keeper r.profile (guards_in there) (part k p.list) ≡ owed_by r.threads r.profile p (r.threads + r.keepers) + owed_by_keeper r.profile (guards_in book) (part k q.list)
+  owed_then : owed_by r.threads r.profile q (r.threads + r.keepers) + owed_by_keeper r.profile (guards_in there) (part k p.list) ≡ owed_by r.threads r.profile p (r.threads + r.keepers) + owed_by_keeper r.profile (guards_in book) (part k q.list)
   owed_then =
       let change = owed_moves r.threads r.profile p q k kept_so (r.threads + r.keepers) (omega (arith, past)) within in
-      let old = keeper_was in
       let new = keeper_owes r.threads r.profile q k past ∙ ap (λ (gs : List Guard). owed_by_keeper r.profile gs (part k q.list)) x.book_is in
-      omega (arith, change, old, new)
+      omega (arith, change, keeper_was, new)
 
   -- .. and no more than all owed before
-  pub owed_least : owed_by_keeper r.profile (guards_in there) (part k p.list) ≤ owed_by r.threads r.profile p (r.threads + r.keepers)
+  owed_least : owed_by_keeper r.profile (guards_in there) (part k p.list) ≤ owed_by r.threads r.profile p (r.threads + r.keepers)
   owed_least =
       let least = owed_at r.threads r.profile p k (r.threads + r.keepers) (omega (arith, past)) within in
-      let old = keeper_was in
-      omega (arith, least, old)
+      omega (arith, least, keeper_was)
 
-  pub moves_so : MovesAs (nat_le k r.threads) r k desk desk' p q
+  moves_so : MovesAs (nat_le k r.threads) r k desk desk' p q
   moves_so =
       let kind : false ≡ nat_le k r.threads = sym (lt-leb k r.threads past) in
       subst (λ (b : Bool). MovesAs b r k desk desk' p q) kind
       (subst (λ (gs : List Guard). Moves k (FitsBook r.profile (p.books k)) (FitsBook r.profile gs) (standing_of desk) (standing_of desk') p q) (sym x.book_is)
       (subst (λ (gs : List Guard). Moves k (FitsBook r.profile gs) (FitsBook r.profile (guards_in book)) (standing_of desk) (standing_of desk') p q) (sym was) x.moves))
 
-  pub sits_so : SitsAs (nat_le k r.threads) r k desk' more q
+  sits_so : SitsAs (nat_le k r.threads) r k desk' more q
   sits_so =
       let kind : false ≡ nat_le k r.threads = sym (lt-leb k r.threads past) in
       subst (λ (b : Bool). SitsAs b r k desk' more q) kind
@@ -204,10 +190,9 @@ lower_turn {r} {more} {desk0} {desk} {desk'} {indexes = indexes} {table} {out} {
     let then_owed = owed_then k i there book place some most seat is at turned in
     let least = owed_least k i there book place some most seat is at turned in
     let mine = keeper_was k i there book place some most seat is at turned in
-    let spare = did.stands.spare in
     keeper_turn k i there book place some most seat is at turned (λ s rest. goes_both r.threads f indexes (Lowers k ∷ []) more p q s did.reaches (tt, tt) (rest_one r.threads f (Lowers k) p q did.reaches (all_rest at) (rest_first r.threads f more q s rest.0.0 rest.1)) rest)
     (subst (λ (ns : List Named). HasNames f more table ns) (sym did.names) record { asked = names.asked; fit = names.fit; tells = names.tells; stand = names.stand; known = names.known }) at.operate.1 at.keep.1
-    (did.pushed ∙ ap (λ (rs : List Record). rs ++ did.said) at.records_are ∙ sym did.records_are) (omega (arith, then_owed, least, mine, spare))
+    (did.pushed ∙ ap (λ (rs : List Record). rs ++ did.said) at.records_are ∙ sym did.records_are) (omega (arith, then_owed, least, mine, did.stands.spare))
 
 -- ---- it tries a guarded request
 -- where its keeper gave no block, its thread answers it from there on as any request
@@ -253,11 +238,7 @@ asks_keeper request i mine is = record { request_is = ap request_in is; cost = a
 -- it is the one of the keepers that has the thread's place
 pub its_place : {r : Replay} {more : List Act} {op : Op} {h : Hand} {p : Progress} (k i : ℕ) → op.actor ≡ i → IsAt r (Guards k op ∷ more) h p → (k ≡ r.threads + i) × (1 ≤ i) × (i ≤ length h.books)
 its_place k i mine at =
-    let keeper = at.keep.0.0 in
-    let within = at.keep.0.1 in
-    let kept = at.kept in
-    let some = at.names.fit.2.0 in
-    (omega (arith, keeper, mine), omega (arith, mine, some), omega (arith, mine, within, kept))
+    (omega (arith, at.keep.0.0, mine), omega (arith, mine, at.names.fit.2.0), omega (arith, mine, at.keep.0.1, at.kept))
 
 -- what it came to, by whether it gave a block
 pub has_tried_by : (op : Op) (k : ℕ) (before after : Session) (result : Option Block)
@@ -286,26 +267,22 @@ left_turn {r} {more} {op} {request} {desk0} {desk} {desk'} {indexes = indexes} {
     let f = r.profile in
     let q = after_trying p k did.tried in
     let names = at.names in
-    let room = did.stands.places in
     let turned : KeeperTurned r k (Guards k op ∷ more) (Operates op ∷ more) there book desk desk' p q = record {
       moves = did.moves;
       sits = sits_for did.stands.sits (omega arith);
       book_is = did.stands.book;
-      place = omega (arith, room);
+      place = omega (arith, did.stands.places);
       caches = refl;
       books = λ j ne. other_book p.books k j did.tried.guards ne;
       free = thread_events r.threads f k op more;
       tries = λ j. omega arith;
     } in
     let change = owed_then k i there book place some most seat is at turned in
-    let paid = did.paid in
     let cost = ap (λ (b : Option Block). cost_of_try request.size b) none in
     let longer = ap (λ (rs : List Record). length rs) did.pushed ∙ length-append (records_in out) did.tried.records in
-    let same = did.room in
-    let spare = at.spare in
     keeper_turn k i there book place some most seat is at turned (λ s rest. left_to_thread r.threads f k op request p indexes more did.tried (all_rest at) did.is asks.request_is (did.block_is ∙ none) s rest)
     (record { asked = names.asked; fit = (names.fit.2, names.fit.3, names.fit.4); tells = names.tells; stand = names.stand; known = names.known }) at.operate (tt, at.keep.1)
-    (did.pushed ∙ ap (λ (rs : List Record). rs ++ did.tried.records) at.records_are) (omega (arith, change, paid, cost, longer, same, spare))
+    (did.pushed ∙ ap (λ (rs : List Record). rs ++ did.tried.records) at.records_are) (omega (arith, change, did.paid, cost, longer, did.room, at.spare))
 
 -- where it gave this block, once the table has it
 pub gave_turn : {r : Replay} {more : List Act} {op : Op} {request : Request} {desk0 desk desk' : PlainDesk} {passes0 passes : Slots} {caches : List ThreadCache} {books : List GuardBook} {places : ℕ} {indexes : Indexes} {table : Names} {out out' : Records} {p : Progress} {result : Option Block} {block : Block} (k i : ℕ) (there book : GuardBook) (table' : Names)
@@ -330,7 +307,6 @@ gave_turn {r} {more} {op} {request} {desk0} {desk} {desk'} {indexes = indexes} {
     let change = owed_then k i there book place some most seat is at turned in
     let least = owed_least k i there book place some most seat is at turned in
     let mine = keeper_was k i there book place some most seat is at turned in
-    let spare = did.stands.spare in
     keeper_turn k i there book place some most seat is at turned (λ s rest. done_by_keeper r.threads f k op request p block indexes more did.tried (all_rest at) did.is asks.request_is (did.block_is ∙ gave) s rest)
     (record {
       asked = asked_after op.what names.asked;
@@ -339,7 +315,7 @@ gave_turn {r} {more} {op} {request} {desk0} {desk} {desk'} {indexes = indexes} {
       stand = named.stand f names.stand (subst (λ (b : Option Block). MayStand f b) gave did.given);
       known = subst (λ (o : Option Request). AreKnown (asked_after op.what names.asked) (named_with o (Some block) ++ p.names)) asks.request_is (known_more op.what (Some block) names.asked p.names names.known);
     }) at.operate.1 at.keep.1
-    (did.pushed ∙ ap (λ (rs : List Record). rs ++ did.tried.records) at.records_are) (omega (arith, change, least, mine, spare))
+    (did.pushed ∙ ap (λ (rs : List Record). rs ++ did.tried.records) at.records_are) (omega (arith, change, least, mine, did.stands.spare))
 
 -- ---- what is left then: the runs that its thread's cache noted are handed on, whoever sits at the desk
 settled_as : (f : Profile) (kind : Bool) (c : Cached) (guards : List Guard) (v : View) → rests_as kind f c guards v → rests_as kind f (settled c) guards v
@@ -378,14 +354,14 @@ module _ (threads : ℕ) (f : Profile) (p : Progress) (k : ℕ) where
   owes_then zero v = refl
   owes_then (suc i) v = same_of (λ j c. owes_as (nat_le (suc i) threads) f c v) (λ c j. owes_settled f (nat_le (suc i) threads) c v) (suc i)
 
-  pub owed_then_by : (n : ℕ) → owed_by threads f then n ≡ owed_by threads f p n
+  owed_then_by : (n : ℕ) → owed_by threads f then n ≡ owed_by threads f p n
   owed_then_by zero = refl
   owed_then_by (suc n) =
       let this = same_of (λ j c. records_owed_as (nat_le (suc n) threads) f c (p.books (suc n)) (part (suc n) p.list)) (λ c j. owed_settled f (nat_le (suc n) threads) c (p.books (suc n)) (part (suc n) p.list)) (suc n) in
       let rest = owed_then_by n in
       omega (arith, this, rest)
 
-  pub stands_then : {j : ℕ} {slot : Option PlainPass} (more : List Act) → ActorStands threads f j p slot (Settles k ∷ more) → ActorStands threads f j then slot more
+  stands_then : {j : ℕ} {slot : Option PlainPass} (more : List Act) → ActorStands threads f j p slot (Settles k ∷ more) → ActorStands threads f j then slot more
   stands_then {j} more st =
       let room = st.room in
       let owed = owes_then j (part j p.list) in

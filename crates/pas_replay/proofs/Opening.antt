@@ -1,15 +1,14 @@
 -- How a kit is made: the rooms, the passes and the caches.
-use Rattle.std.proofs.Common.{◌≡◌, ℕ, zero, suc, ◌+◌, ◌<◌, ◌≤◌, List, [], ◌∷◌, ◌++◌, map, length, reverse, All, slice_index, slice_index_or, Option, Some, None, refl, ap, sym, ◌∙◌, subst, arith}
-use Rattle.std.proofs.lemmas.List.{get_or-map}
-use Rattle.std.proofs.lemmas.Option.{same_Some}
+use Rattle.std.proofs.Common.{◌≡◌, ℕ, zero, suc, ◌+◌, ◌<◌, ◌≤◌, List, [], ◌∷◌, ◌++◌, map, length, reverse, All, slice_index, slice_index_or, Option, Some, None}
+use Rattle.std.proofs.Common.{refl, ap, sym, ◌∙◌, subst, arith}
+use Rattle.std.proofs.lemmas.{List.get_or-map, Option.same_Some}
 use Rattle.pas_profile.specs.Rooms.{EventRoom}
 use Rattle.pas_trace.specs.Plans.{bounds_of}
 use Rattle.pas_trace.specs.declared.plan.Plan.{Plan}
 use Rattle.pas_plain.specs.Plain.{PassStands, pass_for, passes_from}
 use Rattle.pas_plain.specs.declared.pass.PlainPass.{PlainPass}
 use Rattle.pas_plans.specs.Parts.{AreRooms}
-use Rattle.pas_replay.specs.Kits.{IsFresh}
-use Rattle.pas_replay.specs.Sessions.{pass_in}
+use Rattle.pas_replay.specs.{Kits.IsFresh, Sessions.pass_in}
 use Rattle.pas_answers.specs.Replays.{region_of}
 
 -- ---- passes
@@ -22,7 +21,7 @@ pub passes_count : (n : ℕ) (rooms : List EventRoom) → length (passes_from n 
 passes_count n [] = refl
 passes_count n (room ∷ rooms) = let m = passes_count (n + 1) rooms in omega (arith, m)
 
-pub pass_at : (n k : ℕ) (rooms : List EventRoom) (d : PlainPass) (r : EventRoom) → k < length rooms → slice_index_or (passes_from n rooms) k d ≡ pass_for (n + k) (slice_index_or rooms k r)
+pass_at : (n k : ℕ) (rooms : List EventRoom) (d : PlainPass) (r : EventRoom) → k < length rooms → slice_index_or (passes_from n rooms) k d ≡ pass_for (n + k) (slice_index_or rooms k r)
 pass_at n k [] d r bad = absurd (omega (arith, bad))
 pass_at n zero (room ∷ rooms) d r lt = ap (λ j. pass_for j room) (omega arith)
 pass_at n (suc k) (room ∷ rooms) d r lt = pass_at (n + 1) k rooms d r (omega (arith, lt)) ∙ ap (λ j. pass_for j (slice_index_or rooms k r)) (omega arith)

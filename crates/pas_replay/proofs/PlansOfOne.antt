@@ -1,23 +1,19 @@
 -- The bounds of a plan say whether it is of one thread, and the acts of such a plan are that thread's.
-use Rattle.std.proofs.Common.{◌≡◌, ◌≢◌, ℕ, ◌+◌, ◌≤◌, ◌==◌, Bool, true, false, if◌then◌else◌, List, [], ◌∷◌, Option, None, Some, slice_index, refl, ap, sym, ◌∙◌, subst, arith}
-use Rattle.std.specs.Prelude.{map, MatchOption}
+use Rattle.std.proofs.Common.{◌≡◌, ◌≢◌, ℕ, ◌+◌, ◌≤◌, ◌==◌, Bool, true, false, if◌then◌else◌, List, [], ◌∷◌, Option, None, Some, slice_index, refl, ap, sym, ◌∙◌}
+use Rattle.std.proofs.Common.{subst, arith, map, MatchOption, eq-eqb}
 use Rattle.std.specs.List.{AllByRecursion}
-use Rattle.std.proofs.lemmas.Bool.{eq-eqb}
 use Rattle.pas_profile.specs.declared.profile.Profile.{Profile}
 use Rattle.pas_profile.proofs.Lists.{all_both}
 use Rattle.pas_trace.specs.Asked.{work_of, of_task, keeper_of, keeper_in}
 use Rattle.pas_trace.specs.EveryPlan.{all_ops, IsActorBy, IsActorOf, AreKept, records_of_chore, records_of_work, records_of_what, own_records}
 use Rattle.pas_trace.specs.Plans.{IsPlanOf, bounds_of}
-use Rattle.pas_trace.specs.declared.plan.Chore.{Chore}
-use Rattle.pas_trace.specs.declared.plan.Work.{Work}
-use Rattle.pas_trace.specs.declared.plan.Op.{Op}
-use Rattle.pas_trace.specs.declared.plan.Plan.{Plan}
+use Rattle.pas_trace.specs.declared.plan.{Chore.Chore, Work.Work, Op.Op, Plan.Plan}
 use Rattle.pas_trace.proofs.EveryPlan.{every_plan}
-use Rattle.pas_trace.specs.Acts.{Act, Operates, Guards, Settles, Ticks, MakesPass, ReadsEpoch, StopsIdle, Wakes, Ends, Lowers, act_kept, active_threads, idle_threads, acts_of_work, acts_of_op, acts_of_ops, phase_acts, acts_from, acts_of}
+use Rattle.pas_trace.specs.Acts.{Act, Operates, Guards, Settles, Ticks, MakesPass, ReadsEpoch, StopsIdle, Wakes, Ends, Lowers, act_kept, active_threads}
+use Rattle.pas_trace.specs.Acts.{idle_threads, acts_of_work, acts_of_op, acts_of_ops, phase_acts, acts_from, acts_of}
 use Rattle.pas_answers.specs.Replays.{phases_of, threads_of, keepers_of, acts_of_plan}
 use Rattle.pas_replay.specs.OneThread.{IsOfOneThread}
-use Rattle.pas_plans.proofs.ActsOfPlan.{ArePlanned, all_front, all_back}
-use Rattle.pas_plans.proofs.PlanFacts.{plan_planned}
+use Rattle.pas_plans.proofs.{ActsOfPlan.ArePlanned, ActsOfPlan.all_front, ActsOfPlan.all_back, PlanFacts.plan_planned}
 
 -- ---- operations of thread 1
 abbrev pub IsOfOne : Op → Type 0
@@ -37,7 +33,7 @@ chore_record f Chore.Pass one = omega arith
 chore_record f (Chore.Idle n) one = omega (arith, one)
 
 thread_or_record : (f : Profile) (k : ℕ) (work : Work) → f.threads ≡ 1 → IsActorBy f work k → (if k == 0 then records_of_work f work else 0) ≡ 0 → k ≡ 1
-thread_or_record f k (Work.Own task) one of none = let some = of.0 in let most = of.1 in omega (arith, one, some, most)
+thread_or_record f k (Work.Own task) one of none = omega (arith, one, of.0, of.1)
 thread_or_record f k (Work.Chore chore) one of none = absurd (its_record (k == 0) (records_of_chore f chore) (eq-eqb k 0 of) (chore_record f chore one) none)
 
 no_records : (f : Profile) (ops : List Op) → f.threads ≡ 1 → ArePlanned f ops → own_records f 0 ops ≡ 0 → AreOfOne ops

@@ -1,19 +1,15 @@
 -- The records of a plan of one thread are written in the same order in both ways.
-use Rattle.std.proofs.Common.{◌≡◌, ℕ, ◌==◌, List, [], ◌∷◌, ◌++◌, None, ap, sym, ◌∙◌, subst, append_assoc}
+use Rattle.std.proofs.Common.{◌≡◌, ℕ, ◌==◌, List, [], ◌∷◌, ◌++◌, None, ap, sym, ◌∙◌, subst, append_assoc, append-nil}
 use Rattle.std.specs.List.{AllByRecursion}
-use Rattle.std.proofs.lemmas.List.{append-nil}
 use Rattle.pas_profile.specs.declared.profile.Profile.{Profile}
 use Rattle.pas_profile.proofs.Lists.{all_both}
-use Rattle.pas_steps.specs.Events.{events_by}
-use Rattle.pas_steps.specs.Lists.{Whole, part}
+use Rattle.pas_steps.specs.{Events.events_by, Lists.Whole, Lists.part}
 use Rattle.pas_steps.specs.declared.state.State.{State}
-use Rattle.pas_trace.specs.Plans.{IsPlanOf}
-use Rattle.pas_trace.specs.Reasons.{actors_by}
+use Rattle.pas_trace.specs.{Plans.IsPlanOf, Reasons.actors_by}
 use Rattle.pas_trace.specs.declared.plan.Plan.{Plan}
 use Rattle.pas_report.specs.declared.record.Record.{Record}
 use Rattle.pas_trace.specs.Acts.{Act, Operates, Settles, MarksPhase, Wakes, MarksClose, Ends}
-use Rattle.pas_answers.specs.Answers.{Progress, records_of, said_by}
-use Rattle.pas_answers.specs.Reaching.{Advances, Reaches}
+use Rattle.pas_answers.specs.{Answers.Progress, Answers.records_of, Answers.said_by, Reaching.Advances, Reaching.Reaches}
 use Rattle.pas_answers.specs.Replays.{at_start, IsReplay, Shows, region_of, threads_of, acts_of_plan}
 use Rattle.pas_answers.specs.Ways.{InOrder, OnThreads, is_of, EachOf, records_by, by_actors, by_phases, arranged}
 use Rattle.pas_answers.proofs.OwnRecords.{each_both, piece_of, all_by, none_by}

@@ -1,50 +1,38 @@
 -- How a replay starts, and what it shows at its end.
-use Rattle.std.proofs.Common.{◌≡◌, ℕ, zero, suc, ◌+◌, ◌-◌, ◌*◌, ◌/◌, ◌<◌, ◌≤◌, nat_le, Bool, true, false, if◌then◌else◌, inl, inr, List, [], ◌∷◌, length, Option, Some, None, refl, ap, sym, ◌∙◌, subst, arith, slice_index}
-use Rattle.std.proofs.lemmas.Bool.{cases_lt, le-leb, lt-leb}
-use Rattle.std.proofs.Math.Nat.{suc-mul}
+use Rattle.std.proofs.Common.{◌≡◌, ℕ, zero, suc, ◌+◌, ◌-◌, ◌*◌, ◌/◌, ◌<◌, ◌≤◌, nat_le, Bool, true, false, if◌then◌else◌, inl, inr, List, [], ◌∷◌, length}
+use Rattle.std.proofs.Common.{Option, Some, None, refl, ap, sym, ◌∙◌, subst, arith, slice_index, le-leb}
+use Rattle.std.proofs.{lemmas.Bool.cases_lt, lemmas.Bool.lt-leb, Math.Nat.suc-mul}
 use Rattle.pas_profile.specs.Profiles.{IsValid, IsWordOf}
-use Rattle.pas_profile.specs.declared.profile.Profile.{Profile}
-use Rattle.pas_profile.specs.declared.word.Word.{Word}
-use Rattle.pas_steps.specs.Clear.{HasNothing}
+use Rattle.pas_profile.specs.declared.{profile.Profile.Profile, word.Word.Word}
+use Rattle.pas_steps.specs.{Clear.HasNothing, States.profile_of as the_profile_of, States.word_in, Unknown.unknown_pages, Views.View}
 use Rattle.pas_steps.specs.Lists.{Whole, part, word_after, Legal}
-use Rattle.pas_steps.specs.States.{profile_of as the_profile_of, word_in}
-use Rattle.pas_steps.specs.Unknown.{unknown_pages}
-use Rattle.pas_steps.specs.Views.{View}
 use Rattle.pas_steps.specs.declared.state.State.{State}
-use Rattle.pas_trace.specs.EveryPlan.{operations_of}
-use Rattle.pas_trace.specs.Plans.{IsPlanOf, bounds_of}
+use Rattle.pas_trace.specs.{EveryPlan.operations_of, Plans.IsPlanOf, Plans.bounds_of}
 use Rattle.pas_trace.specs.declared.plan.Plan.{Plan}
 use Rattle.pas_plain.specs.Plain.{profile_of, RegionStands}
-use Rattle.pas_plain.specs.declared.pass.PlainPass.{PlainPass}
-use Rattle.pas_plain.specs.declared.region.PlainRegion.{PlainRegion}
+use Rattle.pas_plain.specs.declared.{pass.PlainPass.PlainPass, region.PlainRegion.PlainRegion}
 use Rattle.pas_report.specs.Rooms.{records_in, room_of, Records}
 use Rattle.pas_report.specs.declared.record.Record.{Record}
 use Rattle.pas_guard.specs.Books.{FitsBook, is_outer}
-use Rattle.pas_guard.specs.declared.book.Guard.{Guard}
-use Rattle.pas_guard.specs.declared.book.GuardBook.{GuardBook}
+use Rattle.pas_guard.specs.declared.book.{Guard.Guard, GuardBook.GuardBook}
 use Rattle.pas_cache.specs.Caches.{Cached, AtRest}
 use Rattle.pas_cache.specs.declared.cache.ThreadCache.{ThreadCache}
 use Rattle.pas_cache.proofs.FlushesAndFrees.{rests_empty}
-use Rattle.pas_answers.specs.Calls.{owed_events}
+use Rattle.pas_answers.specs.{Calls.owed_events, Names.names_held, Ways.InOrder}
 use Rattle.pas_answers.specs.Fit.{AreFit, AreOfThreads, own_costs_of, kept_costs_of}
-use Rattle.pas_answers.specs.Names.{names_held}
 use Rattle.pas_answers.specs.Replays.{at_start, phases_of, region_of, threads_of, keepers_of, acts_of_plan, empty_cache, Shows}
-use Rattle.pas_answers.specs.Ways.{InOrder}
-use Rattle.pas_answers.proofs.Consequences.{replays}
-use Rattle.pas_answers.proofs.Reached.{in_phases}
+use Rattle.pas_answers.proofs.{Consequences.replays, Reached.in_phases, TrueRefusals.all_refuse, TrueRefusals.all_take}
 use Rattle.pas_large.specs.Doors.{Indexes}
-use Rattle.pas_answers.proofs.TrueRefusals.{all_refuse, all_take}
 use Rattle.pas_answers.specs.declared.names.Names.{Names}
 use Rattle.pas_replay.specs.Kits.{IsFresh, IsKitOf, replay_of}
-use Rattle.pas_replay.specs.Sessions.{pass_in, SeatStands, rests_as, owes_as, ActorStands, records_owed_as, AreEmpty, AreLowered, Replay, Hand, hand_of, GoesBy, SoFar, owed_by}
-use Rattle.pas_replay.specs.declared.kit.PlainKit.{PlainKit}
-use Rattle.pas_replay.specs.declared.seats.Actors.{Actors}
+use Rattle.pas_replay.specs.Sessions.{pass_in, SeatStands, rests_as, owes_as, ActorStands, records_owed_as, AreEmpty, AreLowered, Replay, Hand, hand_of, GoesBy}
+use Rattle.pas_replay.specs.Sessions.{SoFar, owed_by}
+use Rattle.pas_replay.specs.declared.{kit.PlainKit.PlainKit, seats.Actors.Actors}
 use Rattle.pas_replay.proofs.Going.{all_rest}
 use Rattle.pas_trace.proofs.Keepers.{plan_actors}
 use Rattle.pas_plans.specs.Keepers.{guarded_of}
 use Rattle.pas_plans.proofs.PlanFacts.{plan_operate, plan_fit, plan_own, plan_scavenger, plan_total}
-use Rattle.pas_plans.proofs.KeeperActs.{plan_kept_own, plan_tries, plan_keeps}
-use Rattle.pas_plans.proofs.Nothing.{nothing_owed, nothing, no_slots}
+use Rattle.pas_plans.proofs.{KeeperActs.plan_kept_own, KeeperActs.plan_tries, KeeperActs.plan_keeps, Nothing.nothing_owed, Nothing.nothing, Nothing.no_slots}
 
 -- an actor that made no step, which rests
 starts_at : (plan : Plan) (k need : ℕ) (slot : Option PlainPass) (Rest : View → Type 0) → Rest [] → need ≤ slice_index (bounds_of plan.bounds) k → IsFresh plan k slot → SeatStands (region_of plan) k Rest slot [] need
@@ -118,12 +106,11 @@ start {text} {plan} {kit} {out} read made empty room =
           stand = λ n block is. absurd (let bad : None ≡ Some block = sym (made.no_name n) ∙ is in cc);
           known = λ n is. absurd (let bad : false ≡ true = is in cc);
         };
-        caches_are = λ i d lt. let many = made.unused.many in sym (made.unused.each i d (omega (arith, lt, many)));
-        books_are = λ i d lt. let many = made.books.many in sym (made.books.empty i d (omega (arith, lt, many)));
+        caches_are = λ i d lt. sym (made.unused.each i d (omega (arith, lt, made.unused.many)));
+        books_are = λ i d lt. sym (made.books.empty i d (omega (arith, lt, made.books.many)));
         books_have = λ i d lt.
-            let many = made.books.many in
-            let none = ap (λ (gs : List Guard). length gs) (made.books.empty i d (omega (arith, lt, many))) in
-            let places = made.books.places i d (omega (arith, lt, many)) in
+            let none = ap (λ (gs : List Guard). length gs) (made.books.empty i d (omega (arith, lt, made.books.many))) in
+            let places = made.books.places i d (omega (arith, lt, made.books.many)) in
             let next : i + 1 ≡ suc i = omega arith in
             let guarded = ap (λ (k : ℕ). guarded_of k (operations_of plan)) next in
             let tries = plan_tries read (suc i) in
@@ -149,8 +136,7 @@ module _ {r : Replay} {h : Hand} (so : SoFar r [] h) (empty : AreEmpty h.caches)
       let f = r.profile in
       let p = so.0 in
       let count = so.1.threads in
-      let many = so.1.many in
-      let within : i < length h.caches = omega (arith, most, many) in
+      let within : i < length h.caches = omega (arith, most, so.1.many) in
       let d = some_cache h.caches (omega (arith, within)) in
       let rest = subst (λ (kind : Bool). rests_as kind f (p.caches (suc i)) (p.books (suc i)) (part (suc i) p.list)) (le-leb (suc i) r.threads most) (so.1.each (suc i) (omega (arith, most, count))).rest in
       let none = no_slots (p.caches (suc i)).locals (ap (λ (c : Cached). c.locals) (so.1.caches_are i d within) ∙ empty i d within) in
@@ -161,8 +147,7 @@ module _ {r : Replay} {h : Hand} (so : SoFar r [] h) (empty : AreEmpty h.caches)
       let f = r.profile in
       let p = so.0 in
       let count = so.1.threads in
-      let kept = so.1.kept in
-      let within : j < length h.books = omega (arith, most, kept) in
+      let within : j < length h.books = omega (arith, most, so.1.kept) in
       let d = some_book h.books (omega (arith, within)) in
       let fits = subst (λ (kind : Bool). rests_as kind f (p.caches (suc i)) (p.books (suc i)) (part (suc i) p.list)) (lt-leb (suc i) r.threads (omega (arith, place))) (so.1.each (suc i) (omega (arith, place, most, count))).rest in
       let none = ap p.books place ∙ so.1.books_are j d within ∙ lowered j d within in
@@ -176,7 +161,7 @@ module _ {r : Replay} {h : Hand} (so : SoFar r [] h) (empty : AreEmpty h.caches)
     | inr within ↦ bare_thread i (omega (arith, within))
   ]
 
-  pub bare_at : (k : ℕ) → HasNothing (part k so.0.list)
+  bare_at : (k : ℕ) → HasNothing (part k so.0.list)
   bare_at k = elim (cases_lt (r.threads + r.keepers) k) [ inl past ↦ subst HasNothing (sym (so.1.nobody k past)) nothing | inr within ↦ bare k (omega (arith, within)) ]
 
 pub shows : {plan : Plan} {region : PlainRegion} (actors : Actors) (table : Names) {out : Records} {state : State} (limit : ℕ) → IsValid (region_of plan) → AreOfThreads (threads_of plan) (acts_of_plan plan) → AreFit (region_of plan) limit [] (acts_of_plan plan)

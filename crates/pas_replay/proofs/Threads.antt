@@ -1,20 +1,15 @@
 -- The caches of all threads, the books of all keepers, and what the actors owe, when one did something.
-use Rattle.std.proofs.Common.{◌≡◌, ◌≢◌, ℕ, zero, suc, ◌+◌, ◌-◌, ◌<◌, ◌≤◌, nat_le, Bool, inl, inr, List, [], length, get_or, set, refl, ap, sym, ◌∙◌, subst, arith}
-use Rattle.std.proofs.lemmas.Bool.{cases_eq, le-leb, lt-leb}
-use Rattle.std.proofs.lemmas.List.{length-set, get_or-set_other}
-use Rattle.std.proofs.lemmas.Grind.{get_or-set_at}
+use Rattle.std.proofs.Common.{◌≡◌, ◌≢◌, ℕ, zero, suc, ◌+◌, ◌-◌, ◌<◌, ◌≤◌, nat_le, Bool, inl, inr, List, [], length, get_or, set, refl, ap, sym, ◌∙◌, subst}
+use Rattle.std.proofs.Common.{arith, le-leb, length-set, get_or-set_other}
+use Rattle.std.proofs.lemmas.{Bool.cases_eq, Bool.lt-leb, Grind.get_or-set_at}
 use Rattle.pas_profile.specs.declared.profile.Profile.{Profile}
-use Rattle.pas_steps.specs.Lists.{part}
-use Rattle.pas_steps.specs.Views.{View}
+use Rattle.pas_steps.specs.{Lists.part, Views.View}
 use Rattle.pas_cache.specs.Caches.{Cached, cached}
 use Rattle.pas_cache.specs.declared.cache.ThreadCache.{ThreadCache}
 use Rattle.pas_guard.specs.Books.{guards_in, size_of_book}
-use Rattle.pas_guard.specs.declared.book.Guard.{Guard}
-use Rattle.pas_guard.specs.declared.book.GuardBook.{GuardBook}
+use Rattle.pas_guard.specs.declared.book.{Guard.Guard, GuardBook.GuardBook}
 use Rattle.pas_trace.specs.Acts.{Act}
-use Rattle.pas_answers.specs.Answers.{Caches, Books, Progress}
-use Rattle.pas_answers.specs.Calls.{owed_events}
-use Rattle.pas_answers.specs.Keeping.{owed_by_keeper}
+use Rattle.pas_answers.specs.{Answers.Caches, Answers.Books, Answers.Progress, Calls.owed_events, Keeping.owed_by_keeper}
 use Rattle.pas_plans.specs.Tries.{tries_of}
 use Rattle.pas_replay.specs.Sessions.{AreCaches, HaveBooks, HavePlaces, records_owed_as, owed_of, owed_by}
 
@@ -75,7 +70,7 @@ set_books {books} {books'} threads list i book some most its others all j d less
 
 -- what is so of each book of a list, by its place, is so where one was set
 module _ (P : ℕ → GuardBook → Type 0) (list : List GuardBook) (i : ℕ) (book : GuardBook) where
-  pub set_each : i < length list → P i book → ((j : ℕ) (d : GuardBook) → j < length list → P j (get_or list j d)) → (j : ℕ) (d : GuardBook) → j < length list → P j (get_or (set list i book) j d)
+  set_each : i < length list → P i book → ((j : ℕ) (d : GuardBook) → j < length list → P j (get_or list j d)) → (j : ℕ) (d : GuardBook) → j < length list → P j (get_or (set list i book) j d)
   set_each lt this all j d less = elim (cases_eq i j) [
     | inl same ↦ subst (λ (m : ℕ). P m (get_or (set list i book) m d)) same (subst (P i) (sym (get_or-set_at list i i book d refl lt)) this)
     | inr other ↦ subst (P j) (sym (get_or-set_other list i j book d (λ e. other (sym e)))) (all j d less)

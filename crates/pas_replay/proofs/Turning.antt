@@ -1,44 +1,35 @@
 -- THE TURN: an actor sits down, does acts of its own as at any desk, and all others still stand.
-use Rattle.std.proofs.Common.{◌≡◌, ◌≢◌, ℕ, zero, suc, ◌+◌, ◌-◌, ◌<◌, ◌≤◌, nat_le, Bool, true, false, if◌then◌else◌, inl, inr, List, [], ◌∷◌, ◌++◌, length, set, Option, Some, refl, ap, sym, ◌∙◌, subst, arith, length-append, append_assoc}
-use Rattle.std.proofs.lemmas.Bool.{cases_eq, le-leb}
-use Rattle.std.proofs.lemmas.List.{length-set}
-use Rattle.std.proofs.lemmas.Option.{same_Some}
+use Rattle.std.proofs.Common.{◌≡◌, ◌≢◌, ℕ, zero, suc, ◌+◌, ◌-◌, ◌<◌, ◌≤◌, nat_le, Bool, true, false, if◌then◌else◌, inl, inr, List, [], ◌∷◌, ◌++◌, length, set}
+use Rattle.std.proofs.Common.{Option, Some, refl, ap, sym, ◌∙◌, subst, arith, length-append, append_assoc, le-leb, length-set}
+use Rattle.std.proofs.lemmas.{Bool.cases_eq, Option.same_Some}
 use Rattle.pas_profile.specs.declared.profile.Profile.{Profile}
-use Rattle.pas_steps.specs.Events.{events_of}
-use Rattle.pas_steps.specs.Views.{View}
-use Rattle.pas_steps.specs.Lists.{Whole, part}
-use Rattle.pas_steps.specs.Desks.{triples}
+use Rattle.pas_steps.specs.{Events.events_of, Views.View, Lists.Whole, Lists.part, Desks.triples}
 use Rattle.pas_steps.specs.declared.step.Made.{Made}
 use Rattle.pas_steps.proofs.Parts.{part_of_others}
 use Rattle.pas_plain.specs.Plain.{profile_of, actor_of, room_of_pass, RegionStands, PassStands}
 use Rattle.pas_plain.specs.Seats.{region_of, pass_of, standing_of, DeskStands}
 use Rattle.pas_plain.proofs.Desks.{pass_rests}
-use Rattle.pas_plain.specs.declared.region.PlainRegion.{PlainRegion}
-use Rattle.pas_plain.specs.declared.pass.PlainPass.{PlainPass}
-use Rattle.pas_plain.specs.declared.desk.PlainDesk.{PlainDesk}
+use Rattle.pas_plain.specs.declared.{region.PlainRegion.PlainRegion, pass.PlainPass.PlainPass, desk.PlainDesk.PlainDesk}
 use Rattle.pas_report.specs.Rooms.{records_in, room_of, Records}
 use Rattle.pas_report.specs.declared.record.Record.{Record}
-use Rattle.pas_guard.specs.declared.book.Guard.{Guard}
-use Rattle.pas_guard.specs.declared.book.GuardBook.{GuardBook}
+use Rattle.pas_guard.specs.declared.book.{Guard.Guard, GuardBook.GuardBook}
 use Rattle.pas_cache.specs.Caches.{Cached, cached, AtRest}
 use Rattle.pas_cache.specs.declared.cache.ThreadCache.{ThreadCache}
 use Rattle.pas_trace.specs.Acts.{Act}
-use Rattle.pas_answers.specs.Answers.{Progress, Named, Caches}
-use Rattle.pas_answers.specs.Calls.{owed_events}
-use Rattle.pas_answers.specs.Fit.{AreFit, AreOfThreads, sum_over, costs_of, own_cost_of_act, own_costs_of, kept_cost_of_act, kept_costs_of, unbacks_of_act, unbacks_of}
-use Rattle.pas_answers.specs.Names.{names_held}
+use Rattle.pas_answers.specs.{Answers.Progress, Answers.Named, Answers.Caches, Calls.owed_events, Names.names_held, Reaching.Advances, Rests.AreAtRest}
+use Rattle.pas_answers.specs.{Rests.AllAtRest}
+use Rattle.pas_answers.specs.Fit.{AreFit, AreOfThreads, sum_over, costs_of, own_cost_of_act, own_costs_of, kept_cost_of_act, kept_costs_of, unbacks_of_act}
+use Rattle.pas_answers.specs.Fit.{unbacks_of}
 use Rattle.pas_large.specs.Doors.{Indexes}
 use Rattle.pas_answers.specs.Indexes.{indexes_after, indexes_after_all, ActIsNamedBy, AllAreNamedBy}
-use Rattle.pas_answers.specs.Reaching.{Advances}
-use Rattle.pas_answers.specs.Rests.{AreAtRest, AllAtRest}
 use Rattle.pas_answers.specs.declared.names.Names.{Names}
 use Rattle.pas_answers.proofs.SingleActs.{sum_both}
 use Rattle.pas_plans.specs.Tries.{tries_of_act, tries_of, AreKeptFor}
-use Rattle.pas_acts.specs.Works.{Later, Sits}
-use Rattle.pas_acts.specs.Turns.{RestsAt, Moves}
+use Rattle.pas_acts.specs.{Works.Later, Works.Sits, Turns.RestsAt, Turns.Moves}
 use Rattle.pas_acts.specs.AtDesks.{here, and_for, ThreadActs, for_act, HasRoomAt, ScavengerActs}
 use Rattle.pas_acts.proofs.AtDesk.{sits_for}
-use Rattle.pas_replay.specs.Sessions.{Slots, pass_in, risen, IsTaken, MaySit, MayTakeSeat, TakesSeat, SeatStands, rests_as, rests, owes_as, owes, own_events, ActorStands, owed_by, AreCaches, HaveBooks, HavePlaces, Replay, Hand, hand_at, HasNames, IsAt, GoesBy}
+use Rattle.pas_replay.specs.Sessions.{Slots, pass_in, risen, IsTaken, MaySit, MayTakeSeat, TakesSeat, SeatStands, rests_as, rests, owes_as, owes, own_events}
+use Rattle.pas_replay.specs.Sessions.{ActorStands, owed_by, AreCaches, HaveBooks, HavePlaces, Replay, Hand, hand_at, HasNames, IsAt, GoesBy}
 use Rattle.pas_replay.specs.declared.seats.Actors.{Actors}
 use Rattle.pas_replay.proofs.Turns.{risen_length, put_there, put_elsewhere}
 use Rattle.pas_replay.proofs.Going.{all_rest, rest_first, rest_one, goes_both}
@@ -81,15 +72,15 @@ module _ {r : Replay} {acts : List Act} {desk0 desk : PlainDesk} {passes0 passes
   at = sat_down seat before
 
   le : k ≤ r.profile.threads
-  le = let threads = before.threads in omega (arith, within, threads)
+  le = omega (arith, within, before.threads)
 
-  pub has_place : k < length passes
-  has_place = let sized = risen_length desk passes in let many = at.actors in omega (arith, sized, many, le)
+  has_place : k < length passes
+  has_place = let sized = risen_length desk passes in omega (arith, sized, at.actors, le)
 
   its_pass : (at.each k le).pass ≡ pass_of desk
   its_pass = same_Some _ _ (sym (at.each k le).present ∙ ap (λ (m : ℕ). pass_in (set passes m (Some (pass_of desk))) k) seat.actor_is ∙ put_there passes k (Some (pass_of desk)) has_place)
 
-  pub stood_now : DeskStands desk (part k p.list) p.list
+  stood_now : DeskStands desk (part k p.list) p.list
   stood_now = record {
     region = at.stands;
     pass = subst (λ (g : Profile). PassStands g (pass_of desk) p.list) (sym at.profile_is) (subst (λ (x : PlainPass). PassStands r.profile x p.list) its_pass (at.each k le).stands);
@@ -197,7 +188,7 @@ module _ {r : Replay} {acts more : List Act} {desk0 desk desk' : PlainDesk} {pas
 
   pub turn : IsTaken desk' passes × IsAt r more (hand desk' passes caches' books' places' indexes' table' out') q
   turn = (
-    let lt = has_place k within seat before in let actor = x.sits.actor in omega (arith, actor, lt),
+    let lt = has_place k within seat before in omega (arith, x.sits.actor, lt),
     record {
       profile_is = x.sits.profile;
       actors = risen_length desk' passes ∙ sym (risen_length desk passes) ∙ ap (λ (ps : Slots). length ps) seat.passes_are ∙ before.actors;
@@ -252,8 +243,7 @@ thread_now zero cost extra more some most seat cache own costs at = absurd (omeg
 thread_now {r} {acts} {desk0} {desk} {passes0} {passes} {p = p} {c} (suc i) cost extra more some most seat cache own costs at =
     let f = r.profile in
     let k = suc i in
-    let many = at.many in
-    let within : k ≤ r.threads = omega (arith, most, many) in
+    let within : k ≤ r.threads = omega (arith, most, at.many) in
     let least = owed_at r.threads f p k (r.threads + r.keepers) some (omega (arith, within)) in
     let mine = thread_owes r.threads f p k within in
     let owed = ap (λ (d : Cached). owed_events f d (part k p.list)) cache in

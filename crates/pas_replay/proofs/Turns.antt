@@ -1,10 +1,8 @@
 -- The one desk of a replay, at which the actors take turns.
-use Rattle.std.proofs.Common.{◌≡◌, ◌≢◌, ℕ, ◌<◌, length, set, Option, Some, None, ap, sym, ◌∙◌, get_or-set_same, get_or-set_other}
-use Rattle.std.proofs.lemmas.List.{length-set, set-set, set_comm, set-get_or}
-use Rattle.pas_plain.specs.Plain.{actor_of}
-use Rattle.pas_plain.specs.Seats.{region_of, pass_of}
-use Rattle.pas_plain.specs.declared.pass.PlainPass.{PlainPass}
-use Rattle.pas_plain.specs.declared.desk.PlainDesk.{PlainDesk}
+use Rattle.std.proofs.Common.{◌≡◌, ◌≢◌, ℕ, ◌<◌, length, set, Option, Some, None, ap, sym, ◌∙◌, get_or-set_same, get_or-set_other, length-set, set-set}
+use Rattle.std.proofs.lemmas.List.{set_comm, set-get_or}
+use Rattle.pas_plain.specs.{Plain.actor_of, Seats.region_of, Seats.pass_of}
+use Rattle.pas_plain.specs.declared.{pass.PlainPass.PlainPass, desk.PlainDesk.PlainDesk}
 use Rattle.pas_replay.specs.Sessions.{Slots, pass_in, risen, MayTakeSeat, TakesSeat}
 
 -- ---- the places of the passes

@@ -5,14 +5,12 @@ use Rattle.pas_trace.specs.declared.plan.Plan.{Plan}
 use Rattle.pas_plain.specs.Plain.{profile_of, actor_of, room_of_pass, RegionStands, PassStands}
 use Rattle.pas_plain.specs.declared.pass.PlainPass.{PlainPass}
 use Rattle.pas_large.specs.Doors.{no_ranges}
-use Rattle.pas_answers.specs.Fit.{AllBelow}
-use Rattle.pas_answers.specs.Names.{block_named, names_held}
+use Rattle.pas_answers.specs.{Fit.AllBelow, Names.block_named, Names.names_held}
 use Rattle.pas_answers.specs.Replays.{phases_of, region_of, threads_of, keepers_of, acts_of_plan}
 use Rattle.pas_replay.specs.declared.kit.PlainKit.{PlainKit}
 use Rattle.pas_utility.specs.Outcomes.{places_of}
 use Rattle.pas_replay.specs.Sessions.{pass_in, Replay}
-use Rattle.pas_plans.specs.Parts.{AreUnused}
-use Rattle.pas_plans.specs.Keepers.{AreBooks}
+use Rattle.pas_plans.specs.{Parts.AreUnused, Keepers.AreBooks}
 
 -- an actor that did nothing yet: its pass has room for its bound
 pub record IsFresh (plan : Plan) (k : ℕ) (slot : Option PlainPass) : Type 0 where

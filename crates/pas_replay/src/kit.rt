@@ -3,8 +3,7 @@
 ghost use Rattle.std.specs.Prelude.{◌≡◌, ◌≤◌, ◌<◌, ◌+◌, ℕ, List, IfOk, Some, [], length, map};
 ghost use Rattle.pas_trace.specs.Plans.{IsPlanOf};
 ghost use Rattle.pas_report.specs.Rooms.{records_in, room_of};
-ghost use Rattle.pas_answers.specs.Replays.{phases_of, Shows};
-ghost use Rattle.pas_answers.specs.Ways.{InOrder};
+ghost use Rattle.pas_answers.specs.{Replays.phases_of, Replays.Shows, Ways.InOrder};
 ghost use Rattle.pas_large.specs.Doors.{no_ranges};
 ghost use Rattle.pas_replay.specs.Kits.{IsKitOf};
 

@@ -1,7 +1,6 @@
 //! The phases of a plan in order, and the close.
 ghost use Rattle.std.specs.Prelude.{◌≡◌, ◌+◌, ◌<◌, ◌≤◌, ◌^◌, ◌++◌, List, map, length, [], ◌∷◌};
-ghost use Rattle.pas_trace.specs.Asked.{keeper_of};
-ghost use Rattle.pas_trace.specs.Plans.{ops_of};
+ghost use Rattle.pas_trace.specs.{Asked.keeper_of, Plans.ops_of};
 ghost use Rattle.pas_trace.specs.declared.plan.Op.{Op as TheOp};
 ghost use Rattle.pas_answers.specs.Calls.{what_of};
 ghost use Rattle.pas_trace.specs.Acts.{Act, act_kept, Settles, Wakes, ReadsEpoch, Ends, Lowers, numbers_from, idle_stops, acts_of_op, acts_of_ops, acts_of};

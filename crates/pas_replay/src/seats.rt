@@ -1,8 +1,7 @@
 //! The actors' places at the region. One sits at the desk at a time.
 ghost use Rattle.std.specs.Prelude.{◌≡◌, ◌≢◌, ◌<◌, ◌+◌, ◌-◌, ◌≤◌, ◌++◌, ℕ, List, None, [], ◌∷◌, length, MatchOption, option_and_then, slice_set};
 ghost use Rattle.pas_profile.specs.declared.profile.Profile.{Profile as TheProfile};
-ghost use Rattle.pas_plain.specs.Plain.{actor_of};
-ghost use Rattle.pas_plain.specs.Seats.{pass_of, standing_of};
+ghost use Rattle.pas_plain.specs.{Plain.actor_of, Seats.pass_of, Seats.standing_of};
 ghost use Rattle.pas_plain.specs.declared.desk.PlainDesk.{PlainDesk as TheDesk};
 ghost use Rattle.pas_cache.specs.Caches.{cached};
 ghost use Rattle.pas_cache.specs.declared.cache.ThreadCache.{ThreadCache as TheCache};
@@ -11,17 +10,14 @@ ghost use Rattle.pas_guard.specs.declared.book.GuardBook.{GuardBook as TheBook};
 ghost use Rattle.pas_report.specs.Rooms.{Records as TheRecords};
 ghost use Rattle.pas_trace.specs.Asked.{request_of, freed_of, keeper_of};
 ghost use Rattle.pas_trace.specs.Acts.{Act, Operates, Guards, Settles, Ticks, MakesPass, ReadsEpoch, StopsIdle, Wakes, Ends, Lowers};
-ghost use Rattle.pas_answers.specs.Answers.{Named, Progress, settled};
-ghost use Rattle.pas_answers.specs.Indexes.{with_noted};
-ghost use Rattle.pas_acts.specs.Works.{Later};
-ghost use Rattle.pas_acts.specs.AtDesks.{here, MayOperate};
+ghost use Rattle.pas_answers.specs.{Answers.Named, Answers.Progress, Answers.settled, Indexes.with_noted, Fit.IsFitWhat, Names.block_named, Names.names_held};
+ghost use Rattle.pas_acts.specs.{Works.Later, AtDesks.here, AtDesks.MayOperate};
 ghost use Rattle.pas_replay.specs.Operating.{ActsByIndexes};
 ghost use Rattle.pas_answers.specs.Calls.{what_of, Tells, MayStand, AllMayStand, named_with, named_by};
 ghost use Rattle.pas_trace.specs.declared.plan.Op.{Op as TheOp};
-ghost use Rattle.pas_answers.specs.Fit.{IsFitWhat};
-ghost use Rattle.pas_answers.specs.Names.{block_named, names_held};
 ghost use Rattle.pas_answers.specs.declared.names.Names.{Names as TheNames};
-ghost use Rattle.pas_replay.specs.Sessions.{Replay, pass_in, hand_of, hand_at, session, IsTaken, MaySit, MayTakeSeat, TakesSeat, SoFarAt, MayGoOn, GoesOn, HasRead, MayGoOnAt, GoesOnAt, task_of, HasTried};
+ghost use Rattle.pas_replay.specs.Sessions.{Replay, pass_in, hand_of, hand_at, session, IsTaken, MaySit, MayTakeSeat, TakesSeat, SoFarAt, MayGoOn, GoesOn};
+ghost use Rattle.pas_replay.specs.Sessions.{HasRead, MayGoOnAt, GoesOnAt, task_of, HasTried};
 
 use pas_acts::at_desk::SCAVENGER;
 use pas_acts::{at_desk, keepers, turns};

@@ -1,19 +1,13 @@
 -- The words of a state after a legal list agree with the machine, so its totals are those of the list's visible events.
 use Rattle.std.proofs.Common.{◌≡◌, ℕ, ◌+◌, ◌*◌, ◌/◌, ◌%◌, ◌<◌, ◌==◌, not, Bool, true, false, Option, None, Some, ap, sym, ◌∙◌, subst, arith, eq-eqb, ne_eqb}
-use Rattle.pas_profile.specs.declared.directory.Directory.{Directory}
-use Rattle.pas_profile.specs.declared.profile.Profile.{Profile}
-use Rattle.pas_profile.specs.declared.word.Word.{Word}
+use Rattle.pas_profile.specs.declared.{directory.Directory.Directory, profile.Profile.Profile, word.Word.Word}
 use Rattle.pas_profile.specs.Blocks.{length_of}
 use Rattle.pas_machine.specs.State.{Live, deed_in, backed_in, live_in, gives_in, ends_in}
 use Rattle.pas_machine.specs.Totals.{has_deed, has_block, page_at, address_at}
-use Rattle.pas_steps.specs.Effects.{life_word_at}
-use Rattle.pas_steps.specs.Lists.{Whole, word_after, visible}
-use Rattle.pas_steps.specs.States.{profile_of, word_in}
+use Rattle.pas_steps.specs.{Effects.life_word_at, Lists.Whole, Lists.word_after, Lists.visible, States.profile_of, States.word_in}
 use Rattle.pas_steps.specs.declared.state.State.{State}
 use Rattle.pas_core.specs.Good.{word_of_deed, word_of_backed, IsLifeOf, AgreesWithWords}
-use Rattle.pas_report.specs.Reports.{total_line}
-use Rattle.pas_report.specs.Rests.{HasWords}
-use Rattle.pas_report.specs.Counts.{grains_in, life_of_grain, totals_by_words}
+use Rattle.pas_report.specs.{Reports.total_line, Rests.HasWords, Counts.grains_in, Counts.life_of_grain, Counts.totals_by_words}
 use Rattle.pas_report.proofs.Totals.{IsLifeWord, AreTotalled, bare_life, live_life, line_totalled}
 
 -- ---- one word

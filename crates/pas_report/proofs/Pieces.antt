@@ -1,5 +1,6 @@
 -- A text that goes out in pieces.
-use Rattle.std.proofs.Common.{◌≡◌, ℕ, zero, suc, ◌+◌, ◌-◌, ◌≤◌, List, [], ◌++◌, Option, ap, sym, ◌∙◌, subst, append_assoc, append-nil, add-zero, add-suc, arith, codes}
+use Rattle.std.proofs.Common.{◌≡◌, ℕ, zero, suc, ◌+◌, ◌-◌, ◌≤◌, List, [], ◌++◌, Option, ap, sym, ◌∙◌, subst, append_assoc, append-nil, add-zero, add-suc, arith}
+use Rattle.std.proofs.Common.{codes}
 use Rattle.pas_io.specs.Told.{Writes, WritesFront}
 use Rattle.pas_io.proofs.Telling.{writes_more}
 use Rattle.pas_steps.specs.declared.state.State.{State}
@@ -69,7 +70,7 @@ pub report_front : (state : State) (n : ℕ) (before after : Option (List ℕ)) 
 report_front state n before after within wrote = front_longer before after (so_far state n) (pages_between state n (pages_of state - n) ++ totals_by_words state) (report_by_words state) (so_far_front state n within) wrote
 
 -- the lines of all pages, and that of the totals
-pub report_is : (state : State) (n : ℕ) (line : List ℕ) → n ≡ pages_of state → line ≡ totals_by_words state → so_far state n ++ line ≡ report_by_words state
+report_is : (state : State) (n : ℕ) (line : List ℕ) → n ≡ pages_of state → line ≡ totals_by_words state → so_far state n ++ line ≡ report_by_words state
 report_is state n line all is = (λ t. so_far state (all t) ++ is t) ∙ append_assoc (codes "report\n") (pages_by_words state (pages_of state)) (totals_by_words state)
 
 pub report_put_out : (state : State) (n : ℕ) (line waiting : List ℕ) (before now : Option (List ℕ)) → n ≡ pages_of state → line ≡ totals_by_words state → IsPutOut before now waiting (so_far state n ++ line) → IsPutOut before now waiting (report_by_words state)

@@ -1,32 +1,26 @@
 -- The report by the words of a region at rest is that of the machine.
-use Rattle.std.proofs.Common.{◌≡◌, ℕ, zero, suc, ◌+◌, ◌*◌, ◌/◌, ◌%◌, ◌<◌, ◌≤◌, ◌==◌, nat_le, nat_lt, Bool, true, false, not, ◌++◌, Option, None, Some, codes, refl, ap, sym, ◌∙◌, inl, inr, arith}
-use Rattle.std.proofs.lemmas.Bool.{false≢true, cases_eq, eq-eqb, and_parts, leb-true, or_from, or_left, or_right, false_from_ne_true}
-use Rattle.pas_bits.specs.Bits.{has_bit}
-use Rattle.pas_profile.specs.Directories.{number_of, directory_read, IsDirectory}
-use Rattle.pas_profile.specs.Lives.{is_live}
-use Rattle.pas_profile.specs.Profiles.{IsValid, IsPage, IsDirectoryOf}
-use Rattle.pas_profile.specs.declared.directory.Directory.{Directory}
-use Rattle.pas_profile.specs.declared.profile.Profile.{Profile}
-use Rattle.pas_profile.specs.declared.word.Word.TheVariants as Word
+use Rattle.std.proofs.Common.{◌≡◌, ℕ, zero, suc, ◌+◌, ◌*◌, ◌/◌, ◌%◌, ◌<◌, ◌≤◌, ◌==◌, nat_le, nat_lt, Bool, true, false, not, ◌++◌, Option, None, Some, codes}
+use Rattle.std.proofs.Common.{refl, ap, sym, ◌∙◌, inl, inr, arith, eq-eqb, leb-true}
+use Rattle.std.proofs.lemmas.Bool.{false≢true, cases_eq, and_parts, or_from, or_left, or_right, false_from_ne_true}
+use Rattle.pas_bits.specs.{Bits.has_bit, Runs.in_run}
+use Rattle.pas_profile.specs.{Directories.number_of, Directories.directory_read, Directories.IsDirectory, Lives.is_live, Profiles.IsValid, Profiles.IsPage}
+use Rattle.pas_profile.specs.{Profiles.IsDirectoryOf, Blocks.length_of}
+use Rattle.pas_profile.specs.declared.{directory.Directory.Directory, profile.Profile.Profile, word.Word.Word}
 use Rattle.pas_profile.proofs.Codecs.{number_lt, read-deed_word_of, directory_from_profile}
-use Rattle.pas_bits.specs.Runs.{in_run}
-use Rattle.pas_profile.specs.Blocks.{length_of}
 use Rattle.pas_machine.specs.State.{Live, deed_in, backed_in, live_in, gives_in, ends_in, epoch_in}
 use Rattle.pas_machine.specs.Totals.{has_block}
-use Rattle.pas_steps.specs.Effects.{free_word_at, life_word_at}
+use Rattle.pas_steps.specs.{Effects.free_word_at, Effects.life_word_at, States.profile_of, States.word_in}
 use Rattle.pas_steps.specs.Lists.{Whole, word_after, visible, Legal}
-use Rattle.pas_steps.specs.States.{profile_of, word_in}
 use Rattle.pas_steps.specs.declared.state.State.{State}
 use Rattle.pas_core.specs.Good.{word_of_deed, IsFreeGrain, IsCoveredByOne, IsInOnePlace}
-use Rattle.pas_core.proofs.Deeds.{deed_of, backed_of, directory_is_of}
-use Rattle.pas_core.proofs.Lives.{life_of, live_is_aligned}
-use Rattle.pas_core.proofs.MachineRuns.{agrees, in_one_place}
-use Rattle.pas_report.specs.Counts.{IsDeedWord, AreDeedWords, pages_of, live_counted_on, free_counted_on, offered_by, marked_in, line_by_words, page_by_words, pages_by_words, report_by_words}
+use Rattle.pas_core.proofs.{Deeds.deed_of, Deeds.backed_of, Deeds.directory_is_of, Lives.life_of, Lives.live_is_aligned, MachineRuns.agrees}
+use Rattle.pas_core.proofs.{MachineRuns.in_one_place}
+use Rattle.pas_report.specs.Counts.{IsDeedWord, AreDeedWords, pages_of, live_counted_on, free_counted_on, offered_by, marked_in, line_by_words, page_by_words}
+use Rattle.pas_report.specs.Counts.{pages_by_words, report_by_words}
 use Rattle.pas_report.specs.Marks.{offered_after, marks_after}
 use Rattle.pas_report.specs.Reports.{covers, some_below, is_covered, live_on, uncovered_on, page_text, machine_page, machine_pages, report_text}
 use Rattle.pas_report.specs.Rests.{HasWords, AreFreeOrCovered, NobodyHolds, AreStamped}
-use Rattle.pas_report.proofs.Agreeing.{backed_agrees, life_agrees, line_agrees}
-use Rattle.pas_report.proofs.Counting.{grains_same}
+use Rattle.pas_report.proofs.{Agreeing.backed_agrees, Agreeing.life_agrees, Agreeing.line_agrees, Counting.grains_same}
 
 -- ---- whether some number passes a test
 pub some_of : (n x : ℕ) (p : ℕ → Bool) → x < n → p x ≡ true → some_below n p ≡ true

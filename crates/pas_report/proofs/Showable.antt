@@ -1,17 +1,11 @@
 -- Each event of steps of the region can be shown.
-use Rattle.std.proofs.Common.{ℕ, List, reverse, subst}
+use Rattle.std.proofs.Common.{ℕ, List, subst}
 use Rattle.std.specs.List.{AllByRecursion}
-use Rattle.pas_profile.specs.declared.profile.Profile.{Profile}
-use Rattle.pas_profile.specs.declared.event.Event.{Event}
-use Rattle.pas_steps.specs.Allowed.{IsStepOf}
-use Rattle.pas_steps.specs.Events.{events_by}
-use Rattle.pas_steps.specs.Past.{Always}
-use Rattle.pas_steps.specs.Views.{View}
-use Rattle.pas_steps.specs.declared.step.Made.{Made}
-use Rattle.pas_steps.specs.declared.step.Step.{Step}
+use Rattle.pas_profile.specs.declared.{profile.Profile.Profile, event.Event.Event}
+use Rattle.pas_steps.specs.{Allowed.IsStepOf, Events.events_by, Past.Always, Views.View}
+use Rattle.pas_steps.specs.declared.step.{Made.Made, Step.Step}
 use Rattle.pas_report.specs.Lines.{IsShowable}
 use Rattle.pas_steps.proofs.Events.{ComesOf, comes_of, each_event}
-use Rattle.pas_profile.proofs.Lists.{all_reverse}
 
 -- the steps are of the region
 abbrev pub AreOfRegion : Profile → List Made → Type 0
@@ -26,6 +20,3 @@ event_showable f k s a e of comes = tt
 
 pub steps_showable : (f : Profile) (k : ℕ) (steps : List Made) (v : View) → AreOfRegion f steps → AreShowable (events_by k v steps)
 steps_showable f k steps v of = each_event IsShowable (λ m before. IsStepOf f m.step) k v (λ m before epoch e of is. event_showable f k m.step m.answer e of (comes_of k epoch m.step m.answer e is)) steps of
-
-pub showable_reverse : (es : List Event) → AreShowable es → AreShowable (reverse es)
-showable_reverse es all = all_reverse IsShowable es all

@@ -1,15 +1,15 @@
 -- Where the words of a state agree with the machine that the events reach, their totals are the machine's.
-use Rattle.std.proofs.Common.{◌≡◌, ℕ, ◌+◌, ◌^◌, ◌<◌, ◌==◌, not, Bool, true, false, if◌then◌else◌, List, sym, ◌∙◌, arith}
-use Rattle.std.proofs.lemmas.Bool.{le-leb, lt-leb}
+use Rattle.std.proofs.Common.{◌≡◌, ℕ, ◌+◌, ◌^◌, ◌<◌, ◌==◌, not, Bool, true, false, if◌then◌else◌, List, sym, ◌∙◌, arith, le-leb}
+use Rattle.std.proofs.lemmas.Bool.{lt-leb}
 use Rattle.pas_profile.specs.Lives.{turn_of, is_live, live_word}
-use Rattle.pas_profile.specs.declared.event.Event.{Event}
-use Rattle.pas_profile.specs.declared.word.Word.TheVariants as Word
+use Rattle.pas_profile.specs.declared.{event.Event.Event, word.Word.Word}
 use Rattle.pas_machine.specs.State.{deed_in, backed_in, live_in, gives_in, ends_in}
 use Rattle.pas_machine.specs.Totals.{has_deed, has_block, page_at, address_at, deeds_total, backed_total, live_total, given_total, ended_total}
 use Rattle.pas_steps.specs.States.{profile_of, word_in}
 use Rattle.pas_steps.specs.declared.state.State.{State}
 use Rattle.pas_report.specs.Reports.{totals_text, total_line}
-use Rattle.pas_report.specs.Counts.{pages_of, grains_in, life_of_grain, deeds_counted, backed_counted, live_counted, ended_counted, given_counted, totals_by_words}
+use Rattle.pas_report.specs.Counts.{pages_of, grains_in, life_of_grain, deeds_counted, backed_counted, live_counted, ended_counted, given_counted}
+use Rattle.pas_report.specs.Counts.{totals_by_words}
 use Rattle.pas_report.proofs.Counting.{sum_same, sum_and_count}
 use Rattle.pas_bits.proofs.Counts.{count_same}
 

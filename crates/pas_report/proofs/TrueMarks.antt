@@ -1,25 +1,18 @@
 -- What the marks of a page say at rest: where the right of a page with a deed is, which pages have room, and which are empty.
-use Rattle.std.proofs.Common.{◌≡◌, ◌≢◌, ℕ, ◌+◌, ◌*◌, ◌/◌, ◌%◌, ◌<◌, Bool, true, false, not, Option, None, Some, refl, ap, sym, ◌∙◌, subst, inl, inr, arith, eq-eqb}
+use Rattle.std.proofs.Common.{◌≡◌, ◌≢◌, ℕ, ◌+◌, ◌*◌, ◌/◌, ◌%◌, ◌<◌, Bool, true, false, not, Option, None, Some, refl, ap, sym, ◌∙◌, subst, inl, inr, arith}
+use Rattle.std.proofs.Common.{eq-eqb}
 use Rattle.std.proofs.lemmas.Bool.{false≢true}
 use Rattle.pas_bits.specs.Bits.{has_bit}
-use Rattle.pas_profile.specs.Directories.{number_of, deed_word_of}
-use Rattle.pas_profile.specs.Profiles.{IsValid, IsPage, IsDirectoryOf}
-use Rattle.pas_profile.specs.declared.profile.Profile.{Profile}
-use Rattle.pas_profile.specs.declared.directory.Directory.{Directory}
-use Rattle.pas_profile.specs.declared.word.Word.TheVariants as Word
+use Rattle.pas_profile.specs.{Directories.number_of, Directories.deed_word_of, Profiles.IsValid, Profiles.IsPage, Profiles.IsDirectoryOf}
+use Rattle.pas_profile.specs.declared.{profile.Profile.Profile, directory.Directory.Directory, word.Word.Word}
 use Rattle.pas_profile.proofs.Codecs.{deed_word_of-positive, same_from_deed_word}
 use Rattle.pas_machine.specs.State.{deed_in, backed_in}
-use Rattle.pas_steps.specs.Clear.{HasNothing}
+use Rattle.pas_steps.specs.{Clear.HasNothing, Views.usable_by, Views.usable_by_kind}
 use Rattle.pas_steps.specs.Lists.{Whole, part, word_after, visible, Legal}
-use Rattle.pas_steps.specs.Views.{usable_by, usable_by_kind}
 use Rattle.pas_core.specs.Good.{word_of_deed, word_of_backed}
 use Rattle.pas_core.specs.Rights.{eligible_bit, IsRightInOnePlace, IsRightOffered, IsUsableFree, AllClear}
-use Rattle.pas_core.proofs.Deeds.{deed_of, backed_of, directory_is_of}
-use Rattle.pas_core.proofs.Offers.{offered_at_rest, hinted_at_rest}
-use Rattle.pas_core.proofs.Rights.{right_in_one_place}
-use Rattle.pas_report.specs.Marks.{offered_after, marks_after}
-use Rattle.pas_report.specs.Reports.{is_covered}
-use Rattle.pas_report.specs.Rests.{AreFreeOrCovered, AreTrueMarks, NobodyHasRights}
+use Rattle.pas_core.proofs.{Deeds.deed_of, Deeds.backed_of, Deeds.directory_is_of, Offers.offered_at_rest, Offers.hinted_at_rest, Rights.right_in_one_place}
+use Rattle.pas_report.specs.{Marks.offered_after, Marks.marks_after, Reports.is_covered, Rests.AreFreeOrCovered, Rests.AreTrueMarks, Rests.NobodyHasRights}
 use Rattle.pas_report.proofs.ReportOfWords.{backed_after, deed_read_after, nobody_holds}
 
 -- one of two marks is set where the other isn't

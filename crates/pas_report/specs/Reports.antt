@@ -1,16 +1,12 @@
 -- The report: a line for each page with a deed, in order, and the total line.
 use Rattle.std.specs.Prelude.{ℕ, zero, suc, ◌+◌, ◌*◌, ◌/◌, Bool, false, not, ◌||◌, List, [], ◌++◌, Option, None, Some, codes}
 use Rattle.std.specs.Fmt.{decimal}
-use Rattle.pas_profile.specs.declared.profile.Profile.{Profile}
-use Rattle.pas_profile.specs.declared.directory.Directory.{Directory}
-use Rattle.pas_profile.specs.declared.event.Event.{Event}
-use Rattle.pas_bits.specs.Bits.{count_below}
-use Rattle.pas_bits.specs.Runs.{in_run}
+use Rattle.pas_profile.specs.declared.{profile.Profile.Profile, directory.Directory.Directory, event.Event.Event}
+use Rattle.pas_bits.specs.{Bits.count_below, Runs.in_run}
 use Rattle.pas_profile.specs.Blocks.{length_of}
 use Rattle.pas_machine.specs.State.{Live, deed_in, live_in, epoch_in}
 use Rattle.pas_machine.specs.Totals.{has_block, deeds_total, backed_total, live_total, given_total, ended_total}
-use Rattle.pas_report.specs.Lines.{kind_text}
-use Rattle.pas_report.specs.Marks.{Marked, marks_text}
+use Rattle.pas_report.specs.{Lines.kind_text, Marks.Marked, Marks.marks_text}
 
 -- ---- what the machine says of a page
 -- the block that lives at an address covers the grain

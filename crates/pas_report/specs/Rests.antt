@@ -2,17 +2,12 @@
 use Rattle.std.specs.Prelude.{ℕ, ◌+◌, ◌*◌, ◌/◌, ◌%◌, ◌<◌, ◌≡◌, ◌≢◌, true, false, not, None, Some}
 use Rattle.pas_bits.specs.Bits.{has_bit}
 use Rattle.pas_profile.specs.Profiles.{IsPage, IsWordOf}
-use Rattle.pas_profile.specs.declared.profile.Profile.{Profile}
-use Rattle.pas_profile.specs.declared.word.Word.{Word}
-use Rattle.pas_profile.specs.declared.directory.Directory.{Directory}
+use Rattle.pas_profile.specs.declared.{profile.Profile.Profile, word.Word.Word, directory.Directory.Directory}
 use Rattle.pas_machine.specs.State.{backed_in, deed_in, epoch_in}
-use Rattle.pas_steps.specs.Effects.{free_word_at}
+use Rattle.pas_steps.specs.{Effects.free_word_at, States.profile_of, States.word_in, Views.holds, Views.has_right, Views.usable_by_kind}
 use Rattle.pas_steps.specs.Lists.{Whole, part, word_after, visible}
-use Rattle.pas_steps.specs.States.{profile_of, word_in}
-use Rattle.pas_steps.specs.Views.{holds, has_right, usable_by_kind}
 use Rattle.pas_steps.specs.declared.state.State.{State}
-use Rattle.pas_report.specs.Marks.{marks_after}
-use Rattle.pas_report.specs.Reports.{is_covered}
+use Rattle.pas_report.specs.{Marks.marks_after, Reports.is_covered}
 
 -- the state has the words that the list left
 pub record HasWords (state : State) (l : Whole) : Type 0 where

@@ -1,17 +1,12 @@
 //! What the report of a region at rest says of the allocator's machine. Each law is the contract of an empty function.
 ghost use Rattle.std.specs.Prelude.{◌≡◌, ◌≢◌, ◌<◌, ◌+◌, ◌*◌, ◌/◌, ℕ, not, true, false, None, Some};
 ghost use Rattle.pas_profile.specs.Profiles.{IsPage, IsValid};
-ghost use Rattle.pas_profile.specs.declared.profile.Profile.{Profile};
-ghost use Rattle.pas_profile.specs.declared.directory.Directory.{Directory};
+ghost use Rattle.pas_profile.specs.declared.{profile.Profile.Profile, directory.Directory.Directory};
 ghost use Rattle.pas_machine.specs.State.{backed_in, deed_in};
-ghost use Rattle.pas_steps.specs.Lists.{Legal, Whole, visible};
-ghost use Rattle.pas_steps.specs.States.{profile_of};
-ghost use Rattle.pas_steps.specs.Views.{usable_by_kind};
+ghost use Rattle.pas_steps.specs.{Lists.Legal, Lists.Whole, Lists.visible, States.profile_of, Views.usable_by_kind};
 ghost use Rattle.pas_steps.specs.declared.state.State.{State};
 ghost use Rattle.pas_core.specs.Rights.{AllClear};
-ghost use Rattle.pas_report.specs.Counts.{AreDeedWords, marked_in, report_by_words};
-ghost use Rattle.pas_report.specs.Marks.{marks_after};
-ghost use Rattle.pas_report.specs.Reports.{is_covered, report_text};
+ghost use Rattle.pas_report.specs.{Counts.AreDeedWords, Counts.marked_in, Counts.report_by_words, Marks.marks_after, Reports.is_covered, Reports.report_text};
 ghost use Rattle.pas_report.specs.Rests.{AreFreeOrCovered, AreStamped, HasWords, NobodyHasRights, NobodyHolds};
 
 /// Where the words of a region are those after a legal list of steps, each page's deed word is 0 or a directory's, and each page has the marks

@@ -3,27 +3,11 @@ ghost use Rattle.std.specs.Prelude.{◌≡◌, ◌+◌, ◌≤◌, ◌++◌, len
 ghost use Rattle.arrayvec.specs.ArrayString.{array_string_len};
 ghost use Rattle.pas_profile.specs.Directories.{IsKind};
 ghost use Rattle.pas_report.specs.declared.record.Record.TheVariants as Record;
-ghost use Rattle.pas_report.specs.Lines.{
-  CanShow,
-  IsShowable,
-  back_line as back_text,
-  deed_line as deed_text,
-  freed_line as freed_text,
-  give_line as give_text,
-  guarded_line as guarded_text,
-  held_line as held_text,
-  in_use_line as in_use_text,
-  line_of,
-  line_of_answer,
-  line_of_event,
-  kept_line as kept_text,
-  lowered_line as lowered_text,
-  numbered_line as numbered_text,
-  refused_line as refused_text,
-  size_differs_line as size_differs_text,
-  unback_line as unback_text,
-  young_line as young_text,
-};
+ghost use Rattle.pas_report.specs.Lines.{CanShow, IsShowable, back_line as back_text, deed_line as deed_text, freed_line as freed_text, give_line as give_text};
+ghost use Rattle.pas_report.specs.Lines.{guarded_line as guarded_text, held_line as held_text, in_use_line as in_use_text, line_of, line_of_answer};
+ghost use Rattle.pas_report.specs.Lines.{line_of_event, kept_line as kept_text, lowered_line as lowered_text, numbered_line as numbered_text};
+ghost use Rattle.pas_report.specs.Lines.{refused_line as refused_text, size_differs_line as size_differs_text, unback_line as unback_text};
+ghost use Rattle.pas_report.specs.Lines.{young_line as young_text};
 
 use crate::record::{Record, Said};
 use crate::text::{Line, push_field, push_hex, push_kind, push_name, push_number};

@@ -3,8 +3,7 @@ ghost use Rattle.std.specs.Prelude.{◌≡◌, ◌≤◌, ◌+◌, ◌↔◌, �
 ghost use Rattle.arrayvec.specs.ArrayString.{array_string_len};
 ghost use Rattle.pas_profile.specs.Profiles.{IsValid, IsDirectoryOf};
 ghost use Rattle.pas_io.specs.Told.{Rose, Writes, WritesFront};
-ghost use Rattle.pas_report.specs.Counts.{AreDeedWords, IsDeedWord, report_by_words};
-ghost use Rattle.pas_report.specs.Pieces.{IsPutOut};
+ghost use Rattle.pas_report.specs.{Counts.AreDeedWords, Counts.IsDeedWord, Counts.report_by_words, Pieces.IsPutOut};
 
 use crate::pages::{push_page, push_totals};
 use crate::text::{LINE_BYTES, Lines};

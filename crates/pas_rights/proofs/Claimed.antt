@@ -3,14 +3,10 @@ use Rattle.std.proofs.Common.{◌≡◌, ℕ, ◌%◌, Bool, true, false, if◌t
 use Rattle.pas_bits.specs.Bits.{has_bit}
 use Rattle.pas_profile.specs.Directories.{number_of}
 use Rattle.pas_profile.specs.declared.directory.Directory.{Directory}
-use Rattle.pas_steps.specs.Calls.{Kept, Gained, now}
-use Rattle.pas_steps.specs.Desks.{Standing, Makes, made}
-use Rattle.pas_steps.specs.Frames.{IsOnPage}
-use Rattle.pas_steps.specs.Kinds.{Claiming}
-use Rattle.pas_steps.specs.Views.{View, FromOffer, has_right}
+use Rattle.pas_steps.specs.{Calls.Kept, Calls.Gained, Calls.now, Desks.Standing, Desks.Makes, Desks.made, Frames.IsOnPage, Kinds.Claiming, Views.View}
+use Rattle.pas_steps.specs.{Views.FromOffer, Views.has_right}
 use Rattle.pas_steps.specs.declared.step.Step.TheVariants.{TakeRight}
-use Rattle.pas_steps.proofs.Adding.{adds_none, adds_step}
-use Rattle.pas_steps.proofs.Calls.{does_on_page}
+use Rattle.pas_steps.proofs.{Adding.adds_none, Adding.adds_step, Calls.does_on_page}
 use Rattle.pas_rights.specs.Claims.{Claims}
 use Rattle.pas_rights.proofs.Orders.{gets, gets_none}
 

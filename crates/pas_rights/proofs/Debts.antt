@@ -1,24 +1,18 @@
 -- What is owed on a page after the steps of these calls, and whether the right is the actor's.
-use Rattle.std.proofs.Common.{◌≡◌, ◌≢◌, ℕ, zero, suc, ◌+◌, ◌*◌, ◌/◌, ◌%◌, ◌<◌, ◌==◌, Bool, true, false, not, ◌&&◌, if◌then◌else◌, inl, inr, List, [], ◌∷◌, ◌++◌, Option, None, Some, refl, ap, sym, ◌∙◌, subst, arith, append_assoc, true≢false, MatchBool}
-use Rattle.std.proofs.lemmas.Bool.{eq-eqb, ne_eqb, cases_Bool, cases_eq, MatchBool-at_false}
+use Rattle.std.proofs.Common.{◌≡◌, ◌≢◌, ℕ, zero, suc, ◌+◌, ◌*◌, ◌/◌, ◌%◌, ◌<◌, ◌==◌, Bool, true, false, not, ◌&&◌, if◌then◌else◌, inl, inr, List, [], ◌∷◌, ◌++◌}
+use Rattle.std.proofs.Common.{Option, None, Some, refl, ap, sym, ◌∙◌, subst, arith, append_assoc, true≢false, MatchBool, eq-eqb, ne_eqb}
+use Rattle.std.proofs.lemmas.Bool.{cases_Bool, cases_eq, MatchBool-at_false}
 use Rattle.pas_bits.specs.declared.mask.Mask4.{Mask4}
 use Rattle.pas_profile.specs.Directories.{IsDirectory, deed_word_of, number_of}
-use Rattle.pas_profile.specs.declared.directory.Directory.{Directory}
-use Rattle.pas_profile.specs.declared.profile.Profile.{Profile}
-use Rattle.pas_profile.specs.declared.word.Word.TheVariants as Word
+use Rattle.pas_profile.specs.declared.{directory.Directory.Directory, profile.Profile.Profile, word.Word.Word}
 use Rattle.pas_profile.proofs.Codecs.{deed_word_of-positive}
 use Rattle.pas_steps.specs.Views.{View, ToOffer, FromParked, ToParked, has_right, known_deed, no_usable, all_ones, owes_check, owes_hint}
-use Rattle.pas_steps.specs.Agreement.{Agreed}
-use Rattle.pas_steps.specs.Clear.{OwesNothing}
-use Rattle.pas_steps.specs.Desks.{made}
+use Rattle.pas_steps.specs.{Agreement.Agreed, Clear.OwesNothing, Desks.made}
 use Rattle.pas_steps.specs.declared.step.Made.{Made}
 use Rattle.pas_steps.specs.declared.step.Step.TheVariants.{Look, Offer, Park, Unpark}
-use Rattle.pas_steps.proofs.Adding.{agreed_first, agreed_later}
-use Rattle.pas_steps.proofs.Flags.{ends_none}
-use Rattle.pas_rights.specs.Leaves.{ReoffersWhere, EndsLeave, LeaveSteps}
+use Rattle.pas_steps.proofs.{Adding.agreed_first, Adding.agreed_later, Flags.ends_none}
+use Rattle.pas_rights.specs.{Leaves.ReoffersWhere, Leaves.EndsLeave, Leaves.LeaveSteps, Returns.ReofferSteps, Returns.ReturnSteps, Words.words, Words.ones}
 use Rattle.pas_rights.specs.Looks.{looks, looks_until, HasUsable, HasNoUsable, IsAllFree, HasUsed, AreUsed, is_free, HintSteps, HintsWhere}
-use Rattle.pas_rights.specs.Returns.{ReofferSteps, ReturnSteps}
-use Rattle.pas_rights.specs.Words.{words, ones}
 use Rattle.pas_rights.specs.declared.reading.Used.{Used}
 use Rattle.pas_rights.proofs.Looks.{no_usable_word, unusable_used, used_word}
 use Rattle.pas_rights.proofs.Orders.{right_looks, right_until, deed_looks, same_page, ends, gives, gets_none, offered_on, parked_on, left_on, returned_on}

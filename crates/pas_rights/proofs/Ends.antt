@@ -1,12 +1,13 @@
 -- The promises of the calls, put together from those of their parts.
 use Rattle.std.proofs.Common.{ℕ, Bool, List, [], ◌∷◌, ◌++◌, refl, ap, ◌∙◌, subst, append_assoc, ◌≡◌, ◌==◌, true, false, if◌then◌else◌, inl, MatchBool, Option}
+use Rattle.std.proofs.Common.{eqb-true}
 use Rattle.pas_profile.specs.Directories.{IsDirectory}
-use Rattle.pas_profile.specs.declared.directory.Directory.{Directory}
+use Rattle.pas_profile.specs.declared.{directory.Directory.Directory, profile.Profile.Profile}
 use Rattle.pas_steps.specs.Views.{View, known_deed, KnowsDeed, has_right, is_unstamped, examines}
 use Rattle.pas_steps.specs.Desks.{AnyView, Standing, Adds, made}
-use Rattle.pas_steps.specs.declared.step.Made.{Made}
-use Rattle.pas_steps.specs.declared.step.Step.TheVariants.{Park}
-use Rattle.pas_steps.proofs.Adding.{adds_call, adds_under}
+use Rattle.pas_steps.specs.declared.step.{Made.Made, Step.TheVariants.Park}
+use Rattle.pas_steps.proofs.{Adding.adds_call, Adding.adds_under, Apart.unstamped_same, Calls.does_as, Calls.does_returns, Calls.returns_are, Kept.examined_on}
+use Rattle.pas_steps.proofs.{Kept.returns_on}
 use Rattle.pas_rights.specs.Leaves.{MayLeave, EndsLeave, LeaveSteps, Leaves}
 use Rattle.pas_rights.specs.Returns.{ReoffersPage, ReturnSteps, Returned, Settles}
 use Rattle.pas_bits.specs.declared.mask.Mask4.{Mask4}
@@ -15,16 +16,8 @@ use Rattle.pas_rights.specs.Words.{words}
 use Rattle.pas_rights.specs.declared.reading.Used.{Used}
 use Rattle.pas_rights.proofs.Orders.{right_looks, deed_looks, leave_returns, leave_loses, return_returns, leave_few, return_few}
 use Rattle.pas_rights.proofs.Debts.{leave_owes, leave_lacks, return_owes, return_right}
-use Rattle.std.proofs.lemmas.Bool.{eqb-true}
-use Rattle.pas_profile.specs.declared.profile.Profile.{Profile}
-use Rattle.pas_steps.specs.Agreement.{Agreed}
+use Rattle.pas_steps.specs.{Agreement.Agreed, Clear.OwesNothing, Clear.IsClearOn, Frames.OnlyReturns, Kinds.returning}
 use Rattle.pas_steps.specs.Calls.{Fate, Kept, Gained, Lost, now, Does, ClearAfter, on_page}
-use Rattle.pas_steps.specs.Clear.{OwesNothing, IsClearOn}
-use Rattle.pas_steps.specs.Frames.{OnlyReturns}
-use Rattle.pas_steps.specs.Kinds.{returning}
-use Rattle.pas_steps.proofs.Apart.{unstamped_same}
-use Rattle.pas_steps.proofs.Calls.{does_as, does_returns, returns_are}
-use Rattle.pas_steps.proofs.Kept.{examined_on, returns_on}
 
 -- after looks the page may still be left
 pub may_still : (p : ℕ) (d : Directory) (free : Mask4) (v : View) → MayLeave p d v → MayLeave p d (looks p (words free) 4 ++ v)

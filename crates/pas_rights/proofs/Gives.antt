@@ -1,27 +1,18 @@
 -- A run of grains is given as a block.
-use Rattle.std.proofs.Common.{◌≡◌, ℕ, ◌+◌, ◌*◌, ◌/◌, ◌%◌, ◌^◌, ◌<◌, ◌≤◌, ◌==◌, Bool, true, false, ◌&&◌, if◌then◌else◌, [], ◌∷◌, Some, refl, ap, sym, ◌∙◌, subst, arith, inl}
-use Rattle.std.proofs.lemmas.Bool.{eq-eqb, and_from}
-use Rattle.pas_profile.specs.Lives.{turn_of}
-use Rattle.pas_profile.specs.Profiles.{IsPage, IsDirectoryOf}
+use Rattle.std.proofs.Common.{◌≡◌, ℕ, ◌+◌, ◌*◌, ◌/◌, ◌%◌, ◌^◌, ◌<◌, ◌≤◌, ◌==◌, Bool, true, false, ◌&&◌, if◌then◌else◌, [], ◌∷◌, Some, refl, ap, sym, ◌∙◌, subst}
+use Rattle.std.proofs.Common.{arith, inl, eq-eqb}
+use Rattle.std.proofs.lemmas.Bool.{and_from}
+use Rattle.pas_profile.specs.{Lives.turn_of, Profiles.IsPage, Profiles.IsDirectoryOf, Blocks.grain_of, Blocks.length_of}
 use Rattle.pas_bits.specs.Runs.{in_run}
-use Rattle.pas_profile.specs.Blocks.{grain_of, length_of}
-use Rattle.pas_profile.specs.declared.directory.Directory.{Directory}
-use Rattle.pas_profile.specs.declared.name.Block.{Block}
-use Rattle.pas_profile.specs.declared.profile.Profile.{Profile}
-use Rattle.pas_profile.specs.declared.word.Word.TheVariants as Word
+use Rattle.pas_profile.specs.declared.{directory.Directory.Directory, name.Block.Block, profile.Profile.Profile, word.Word.Word}
 use Rattle.pas_bits.proofs.Runs.{run_of, first_of_run}
-use Rattle.pas_steps.specs.Agreement.{Agreed}
-use Rattle.pas_steps.specs.Allowed.{IsBlockOf, KnowsBearing, MayGiveNow}
+use Rattle.pas_steps.specs.{Agreement.Agreed, Allowed.IsBlockOf, Allowed.KnowsBearing, Allowed.MayGiveNow, Lists.Whole}
 use Rattle.pas_steps.specs.Calls.{Kept, Lost, later, grain_fate, freed}
 use Rattle.pas_steps.specs.Desks.{Standing, made, Makes, CanMake, CanCall, Adds}
-use Rattle.pas_steps.specs.Lists.{Whole}
 use Rattle.pas_steps.specs.Views.{View, Gives, Stays, holds, holds_on, knows_backed, known_life, KnowsDeed, is_unstamped}
 use Rattle.pas_steps.specs.declared.step.Step.TheVariants.{Look, Give}
 use Rattle.pas_steps.proofs.Adding.{adds_none, adds_step, can_step, room_left}
-use Rattle.pas_steps.proofs.Kept.{backed_holds}
-use Rattle.pas_steps.proofs.Calls.{does_as, does_step, does_then}
-use Rattle.pas_steps.proofs.Frames.{given_le}
-use Rattle.pas_steps.proofs.SpareRoom.{Spares}
+use Rattle.pas_steps.proofs.{Kept.backed_holds, Calls.does_as, Calls.does_step, Calls.does_then, Frames.given_le, SpareRoom.Spares}
 use Rattle.pas_rights.specs.Gives.{in_piece, MayGive, block_of, give_steps, GaveRun, GivesRun}
 
 -- ---- what may be given
@@ -35,7 +26,7 @@ pub may_give_on : {f : Profile} {v : View} (d : Directory) (page first n : ℕ) 
 may_give_on {f} {v} d page first n of_profile within held deed backed stamped = record {
   held = held;
   bears = λ g inside.
-      let at = run_of (page * 256 + first) n g inside in let low = at.0 in let high = at.1 in let here : page ≡ g / 256 = omega (arith, low, high, within) in
+      let at = run_of (page * 256 + first) n g inside in let here : page ≡ g / 256 = omega (arith, at.0, at.1, within) in
       subst (KnowsBearing f v d.heap) here (bears_by d page of_profile deed backed stamped);
 }
 
@@ -48,7 +39,7 @@ pub block_is : (heap page first n word turn : ℕ) → turn ≡ turn_of word →
 block_is heap page first n word turn t = ap (λ x. record { name = record { address = record { 0 = page * 4096 + first * 16 }; turn = x }; room = n * 16; heap = heap }) t
 
 -- they are those of the run
-pub run_is : (heap page first n word g : ℕ) → in_run (grain_of (block_of heap page first n word).name) (length_of (block_of heap page first n word)) g ≡ in_run (page * 256 + first) n g
+run_is : (heap page first n word g : ℕ) → in_run (grain_of (block_of heap page first n word).name) (length_of (block_of heap page first n word)) g ≡ in_run (page * 256 + first) n g
 run_is heap page first n word g =
     let at : (page * 4096 + first * 16) / 16 ≡ page * 256 + first = omega arith in let long : n * 16 / 16 ≡ n = omega arith in
     ap (λ x. in_run x (n * 16 / 16) g) at ∙ ap (λ x. in_run (page * 256 + first) x g) long
@@ -66,7 +57,7 @@ module _ (heap page first n word : ℕ) where
     f = σ.seat.profile
 
     of_the_region : IsBlockOf f block
-    of_the_region = let low = of_region.0 in record { first = omega (arith, low); last = omega (arith, within); heap = of_heap; turn = omega arith }
+    of_the_region = record { first = omega (arith, of_region.0); last = omega (arith, within); heap = of_heap; turn = omega arith }
 
     module _ (v : View) (may : MayGive f heap page first n v) where
       abbrev looked : View

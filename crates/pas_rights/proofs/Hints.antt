@@ -1,29 +1,21 @@
 -- A page is hinted only after looks that read it as backed, and each of its grains as free; and grains are put only after they were taken.
-use Rattle.std.proofs.Common.{◌≡◌, ℕ, zero, suc, ◌+◌, ◌*◌, ◌<◌, Bool, true, false, List, [], ◌∷◌, ◌++◌, Option, None, Some, inl, inr, refl, ap, sym, ◌∙◌, subst, arith, append_assoc, true≢false, MatchBool}
+use Rattle.std.proofs.Common.{◌≡◌, ℕ, zero, suc, ◌+◌, ◌*◌, ◌<◌, Bool, true, false, List, [], ◌∷◌, ◌++◌, Option, None, Some, inl, inr, refl, ap, sym, ◌∙◌, subst}
+use Rattle.std.proofs.Common.{arith, append_assoc, true≢false, MatchBool}
 use Rattle.std.proofs.lemmas.Bool.{cases_eq}
 use Rattle.pas_bits.specs.Bits.{has_bit}
-use Rattle.pas_profile.specs.declared.directory.Directory.{Directory}
-use Rattle.pas_profile.specs.declared.word.Word.TheVariants as Word
+use Rattle.pas_profile.specs.declared.{directory.Directory.Directory, word.Word.Word}
 use Rattle.pas_bits.specs.declared.mask.Mask4.{Mask4}
 use Rattle.pas_bits.proofs.Words.{at_word, full_bit}
-use Rattle.pas_steps.specs.Desks.{Standing, made}
+use Rattle.pas_steps.specs.{Desks.Standing, Desks.made, Past.Always, Past.Since, Views.holds}
 use Rattle.pas_steps.specs.Kinds.{Kinds, LookFree, Putting, Hinting, kind_of, place_of, is_in, apart, Only}
-use Rattle.pas_steps.specs.Past.{Always, Since}
 use Rattle.pas_steps.specs.declared.step.Made.{Made}
 use Rattle.pas_steps.specs.declared.step.Step.TheVariants.{Look, Offer, Park, Unpark}
-use Rattle.pas_steps.specs.Views.{holds}
-use Rattle.pas_steps.proofs.Apart.{in_apart}
-use Rattle.pas_steps.proofs.Past.{always_both, always_map}
-use Rattle.pas_rights.specs.Leaves.{ReoffersWhere, EndsLeave, LeaveSteps}
+use Rattle.pas_steps.proofs.{Apart.in_apart, Past.always_both, Past.always_map}
+use Rattle.pas_rights.specs.{Leaves.ReoffersWhere, Leaves.EndsLeave, Leaves.LeaveSteps, Puts.masked, Puts.PutsBelow, PutsBack.BackSteps, PutsBack.GivesDuly}
+use Rattle.pas_rights.specs.{PutsBack.PutsAndLeaves, Returns.ReofferSteps, Returns.ReturnSteps, Words.words, Words.ones}
 use Rattle.pas_rights.specs.Looks.{looks, looks_until, is_free, IsAllFree, HasUsed, HintSteps, HintsWhere, ReadsAllFree, TakesNone, ReadsEmpty}
-use Rattle.pas_rights.specs.Puts.{masked, PutsBelow}
-use Rattle.pas_rights.specs.PutsBack.{BackSteps, GivesDuly, PutsAndLeaves}
-use Rattle.pas_rights.specs.Returns.{ReofferSteps, ReturnSteps}
-use Rattle.pas_rights.specs.Words.{words, ones}
 use Rattle.pas_rights.specs.declared.reading.Used.{Used}
-use Rattle.pas_rights.proofs.Looks.{looks_only}
-use Rattle.pas_rights.proofs.Orders.{until_only}
-use Rattle.pas_rights.proofs.Puts.{holds_more, puts_due}
+use Rattle.pas_rights.proofs.{Looks.looks_only, Orders.until_only, Puts.holds_more, Puts.puts_due}
 
 -- ---- steps of two calls
 read_earlier : (P Q : Made → Type 0) (ys xs : List Made) → Since (λ m before. P m) (λ m before. Q m) ys → Since (λ m before. P m) (λ m before. Q m) (ys ++ xs)

@@ -1,34 +1,23 @@
 -- Looks at the free words of a page, and what they show.
-use Rattle.std.proofs.Common.{◌≡◌, ◌≢◌, ℕ, zero, suc, ◌+◌, ◌-◌, ◌*◌, ◌/◌, ◌%◌, ◌^◌, ◌<◌, ◌≤◌, ◌==◌, Bool, true, false, not, ◌&&◌, if◌then◌else◌, List, [], ◌∷◌, ◌++◌, length, refl, ap, sym, ◌∙◌, subst, arith, inl, inr, ◌⊎◌, slice_index, MatchBool}
-use Rattle.std.proofs.lemmas.Bool.{cases_eq, eq-eqb, and_from, and_parts, not_from_false, true≢false, false_from_ne_true, lt-ltb}
+use Rattle.std.proofs.Common.{◌≡◌, ◌≢◌, ℕ, zero, suc, ◌+◌, ◌-◌, ◌*◌, ◌/◌, ◌%◌, ◌^◌, ◌<◌, ◌≤◌, ◌==◌, Bool, true, false, not, ◌&&◌, if◌then◌else◌, List, [], ◌∷◌}
+use Rattle.std.proofs.Common.{◌++◌, length, refl, ap, sym, ◌∙◌, subst, arith, inl, inr, ◌⊎◌, slice_index, MatchBool, eq-eqb, true≢false, lt-ltb}
+use Rattle.std.proofs.lemmas.Bool.{cases_eq, and_from, and_parts, not_from_false, false_from_ne_true}
 use Rattle.pas_profile.specs.Classes.{usable_grains}
-use Rattle.pas_bits.specs.Bits.{has_bit}
+use Rattle.pas_bits.specs.{Bits.has_bit, Masks.is_set, Masks.IsEmpty, Masks.HasMember}
 use Rattle.pas_profile.specs.Directories.{IsKind, IsDirectory, deed_word_of, directory_read}
-use Rattle.pas_profile.specs.declared.directory.Directory.{Directory}
-use Rattle.pas_profile.specs.declared.directory.Kind.{Kind}
-use Rattle.pas_profile.specs.declared.profile.Profile.{Profile}
-use Rattle.pas_profile.specs.declared.word.Word.TheVariants as Word
-use Rattle.pas_profile.proofs.ClassFacts.{usable_grains_ge}
-use Rattle.pas_profile.proofs.Codecs.{read-deed_word_of}
+use Rattle.pas_profile.specs.declared.{directory.Directory.Directory, directory.Kind.Kind, profile.Profile.Profile, word.Word.Word}
+use Rattle.pas_profile.proofs.{ClassFacts.usable_grains_ge, Codecs.read-deed_word_of}
 use Rattle.pas_bits.specs.declared.mask.Mask4.{Mask4}
-use Rattle.pas_bits.specs.Masks.{is_set, IsEmpty, HasMember}
 use Rattle.pas_bits.proofs.Words.{at_word, full_bit}
-use Rattle.pas_steps.specs.Agreement.{Agreed}
+use Rattle.pas_steps.specs.{Agreement.Agreed, Frames.AreLooks, Frames.OnlyOn, Frames.IsOnPage, Past.Since}
 use Rattle.pas_steps.specs.Desks.{AnyView, Standing, Makes, Adds, made}
 use Rattle.pas_steps.specs.Evidence.{Readings, ReadsFree, ShowsHere, KeptHere}
-use Rattle.pas_steps.specs.Frames.{AreLooks, OnlyOn, IsOnPage}
 use Rattle.pas_steps.specs.Kinds.{LookFree, Only, kind_of, is_in}
-use Rattle.pas_steps.specs.Past.{Since}
 use Rattle.pas_steps.specs.Views.{View, all_ones, usable_by, usable_by_kind, no_usable, holds, has_right, known_free}
-use Rattle.pas_steps.specs.declared.step.Made.{Made}
-use Rattle.pas_steps.specs.declared.step.Step.TheVariants.{Look}
-use Rattle.pas_steps.proofs.Adding.{adds_step}
-use Rattle.pas_steps.proofs.Apart.{holds_same, rights_same}
-use Rattle.pas_steps.proofs.Bits.{all_below-from}
-use Rattle.pas_steps.proofs.Flags.{stays_set}
+use Rattle.pas_steps.specs.declared.step.{Made.Made, Step.TheVariants.Look}
+use Rattle.pas_steps.proofs.{Adding.adds_step, Apart.holds_same, Apart.rights_same, Bits.all_below-from, Flags.stays_set}
 use Rattle.pas_rights.specs.Looks.{looks, HasUsable, HasNoUsable, IsAllFree, HasUsed}
-use Rattle.pas_rights.specs.Puts.{masked}
-use Rattle.pas_rights.specs.Words.{words, full}
+use Rattle.pas_rights.specs.{Puts.masked, Words.words, Words.full}
 use Rattle.pas_rights.proofs.Words.{each_always, each_few, each_agreed, keeps_by, words_read, or_none}
 
 -- ---- the steps
@@ -59,7 +48,7 @@ module _ (page : ℕ) (answers : ℕ → ℕ) where
   looks_held f n v agreed g at lt held = let w = g / 64 % 4 in
       (each_agreed f (word_look page answers) n w v lt agreed).0.held g at refl (holds_same (LookFree ∷ []) refl g (looks page answers w) v (looks_only page answers w) ∙ held)
 
-  pub looks_keep_known : (n : ℕ) (v : View) (g : ℕ) → known_free v g ≡ true → known_free (looks page answers n ++ v) g ≡ true
+  looks_keep_known : (n : ℕ) (v : View) (g : ℕ) → known_free v g ≡ true → known_free (looks page answers n ++ v) g ≡ true
   looks_keep_known zero v g known = known
   looks_keep_known (suc n) v g known =
       stays_set ((n == g / 64 % 4) && (page == g / 256) && has_right (looks page answers n ++ v) (g / 256) && has_bit (answers n) (g % 64)) (known_free (looks page answers n ++ v) g) (looks_keep_known n v g known)
@@ -153,4 +142,4 @@ match_not P Q R S false h f g = g h
 
 -- a word that isn't all ones
 pub used_word : (free : Mask4) → HasUsed free → (w : ℕ) × (w < 4) × (words free w ≢ all_ones)
-used_word free used = let g = used.0 in let lt = used.1 in (g / 64, omega (arith, lt), λ e. true≢false (sym (ap (λ n. has_bit n (g % 64)) e ∙ full_bit (g % 64) (omega arith)) ∙ used.2))
+used_word free used = let g = used.0 in (g / 64, omega (arith, used.1), λ e. true≢false (sym (ap (λ n. has_bit n (g % 64)) e ∙ full_bit (g % 64) (omega arith)) ∙ used.2))

@@ -1,26 +1,19 @@
 -- What each step of these calls asks, and how their steps stand in order.
-use Rattle.std.proofs.Common.{◌≡◌, ◌≢◌, ℕ, ◌%◌, ◌==◌, Bool, true, false, ◌&&◌, if◌then◌else◌, inl, inr, List, [], ◌∷◌, ◌++◌, Option, None, Some, length, refl, ap, sym, ◌∙◌, subst, append_assoc, ◌+◌, ◌≤◌, length-append, arith}
-use Rattle.std.proofs.lemmas.Bool.{eq-eqb}
+use Rattle.std.proofs.Common.{◌≡◌, ◌≢◌, ℕ, ◌%◌, ◌==◌, Bool, true, false, ◌&&◌, if◌then◌else◌, inl, inr, List, [], ◌∷◌, ◌++◌, Option, None, Some, length, refl}
+use Rattle.std.proofs.Common.{ap, sym, ◌∙◌, subst, append_assoc, ◌+◌, ◌≤◌, length-append, arith, eq-eqb}
 use Rattle.pas_bits.specs.Bits.{has_bit}
-use Rattle.pas_profile.specs.declared.directory.Directory.{Directory}
-use Rattle.pas_profile.specs.declared.word.Word.TheVariants as Word
+use Rattle.pas_profile.specs.declared.{directory.Directory.Directory, word.Word.Word}
 use Rattle.pas_profile.proofs.Codecs.{deed_word_of-positive}
 use Rattle.pas_steps.specs.Views.{Way, Rests, had_after, View, has_right, known_deed, KnowsDeed}
-use Rattle.pas_steps.specs.Past.{Once}
+use Rattle.pas_steps.specs.{Past.Once, Desks.made, Kinds.LookFree, Kinds.Only}
 use Rattle.pas_steps.specs.Frames.{IsReturn, GivesUp, AreLooks, OnlyReturns}
-use Rattle.pas_steps.specs.Desks.{made}
-use Rattle.pas_steps.specs.declared.step.Made.{Made}
-use Rattle.pas_steps.specs.Kinds.{LookFree, Only}
-use Rattle.pas_steps.specs.declared.step.Step.TheVariants.{Look, Offer, Park}
-use Rattle.pas_steps.proofs.Apart.{rights_same, deeds_same}
-use Rattle.pas_steps.proofs.Past.{once_later, always_both}
+use Rattle.pas_steps.specs.declared.step.{Made.Made, Step.TheVariants.Look, Step.TheVariants.Offer, Step.TheVariants.Park}
+use Rattle.pas_steps.proofs.{Apart.rights_same, Apart.deeds_same, Past.once_later, Past.always_both}
 use Rattle.pas_rights.specs.Leaves.{ReoffersWhere, OfferSteps, ParkSteps, EndsLeave, LeaveSteps, LosesHere}
-use Rattle.pas_rights.specs.Returns.{ReofferSteps, ReturnSteps}
+use Rattle.pas_rights.specs.{Returns.ReofferSteps, Returns.ReturnSteps, Words.words, Words.ones}
 use Rattle.pas_rights.specs.Looks.{looks, looks_until, AreUsed, is_free, HintsWhere}
-use Rattle.pas_rights.specs.Words.{words, ones}
 use Rattle.pas_rights.specs.declared.reading.Used.{Used}
-use Rattle.pas_rights.proofs.Looks.{looks_are, looks_few, looks_only}
-use Rattle.pas_rights.proofs.Words.{each_always}
+use Rattle.pas_rights.proofs.{Looks.looks_are, Looks.looks_few, Looks.looks_only, Words.each_always}
 
 -- ---- what looks at the free words keep
 pub until_only : (p : ℕ) (used : Option Used) → Only (LookFree ∷ []) (looks_until p used)
@@ -57,7 +50,7 @@ pub knows_some : (p : ℕ) (d : Directory) (v : View) → KnowsDeed p d v → kn
 knows_some p d v knows z = deed_word_of-positive d (sym knows ∙ z)
 
 -- ---- only looks at the page and returns of its right
-pub returns_append : (p : ℕ) (ys xs : List Made) → OnlyReturns p ys → OnlyReturns p xs → OnlyReturns p (ys ++ xs)
+returns_append : (p : ℕ) (ys xs : List Made) → OnlyReturns p ys → OnlyReturns p xs → OnlyReturns p (ys ++ xs)
 returns_append p ys xs a b = always_both (λ m before. IsReturn p m.step) (λ m before. IsReturn p m.step) ys xs (λ m before h. h) a b
 
 looks_return : (p : ℕ) (answers : ℕ → ℕ) (n : ℕ) → OnlyReturns p (looks p answers n)
@@ -152,7 +145,7 @@ leave_few p d steps h =
 
 pub until_few : (p : ℕ) (used : Option Used) → AreUsed used → length (looks_until p used) ≤ 4
 until_few p None are = omega arith
-until_few p (Some used) are = let lt = are.within in let n = looks_few p ones used.word in omega (arith, lt, n)
+until_few p (Some used) are = let n = looks_few p ones used.word in omega (arith, are.within, n)
 
 pub return_few : (p : ℕ) (d : Directory) (steps : List Made) → ReturnSteps p d steps → length steps ≤ 8
 return_few p d steps h =

@@ -1,25 +1,17 @@
 -- The grains of a mask of one page, put back word by word.
-use Rattle.std.proofs.Common.{◌≡◌, ◌≢◌, ℕ, zero, suc, ◌<◌, ◌+◌, ◌/◌, ◌%◌, ◌≤◌, ◌==◌, nat_lt, Bool, true, false, ◌&&◌, ◌||◌, if◌then◌else◌, List, [], ◌∷◌, ◌++◌, length, slice_index, inl, inr, refl, ap, sym, ◌∙◌, subst, arith, append_assoc, true≢false}
-use Rattle.std.proofs.lemmas.Bool.{cases_eq, eqb-true, ne_eqb, lt-ltb, le-ltb, and_parts, and_right}
-use Rattle.std.proofs.lemmas.Bool.Decides.{nat_tests}
-use Rattle.pas_bits.specs.Bits.{has_bit}
+use Rattle.std.proofs.Common.{◌≡◌, ◌≢◌, ℕ, zero, suc, ◌<◌, ◌+◌, ◌/◌, ◌%◌, ◌≤◌, ◌==◌, nat_lt, Bool, true, false, ◌&&◌, ◌||◌, if◌then◌else◌, List, [], ◌∷◌, ◌++◌}
+use Rattle.std.proofs.Common.{length, slice_index, inl, inr, refl, ap, sym, ◌∙◌, subst, arith, append_assoc, true≢false, eqb-true, ne_eqb, lt-ltb, le-ltb}
+use Rattle.std.proofs.lemmas.Bool.{cases_eq, and_parts, and_right, Decides.nat_tests}
+use Rattle.pas_bits.specs.{Bits.has_bit, Masks.is_set, Masks.HasMember}
 use Rattle.pas_bits.specs.declared.mask.Mask4.{Mask4}
-use Rattle.pas_bits.specs.Masks.{is_set, HasMember}
 use Rattle.pas_bits.proofs.Words.{none_of_zero}
 use Rattle.pas_steps.specs.Calls.{Calls, Does, Kept, Lost, now, put}
-use Rattle.pas_steps.specs.Effects.{in_mask}
-use Rattle.pas_steps.specs.Frames.{IsOnPage, OnlyOn}
-use Rattle.pas_steps.specs.InTurn.{numbers_below}
+use Rattle.pas_steps.specs.{Effects.in_mask, Frames.IsOnPage, Frames.OnlyOn, InTurn.numbers_below, Desks.Standing, Past.Once, Past.Always}
 use Rattle.pas_steps.specs.Kinds.{Putting, Only, is_in, kind_of}
-use Rattle.pas_steps.specs.Desks.{Standing}
-use Rattle.pas_steps.specs.Past.{Once, Always}
 use Rattle.pas_steps.specs.Views.{View, Move, Stays, Gets, Puts, Ends, grain_move, held_after, holds}
 use Rattle.pas_steps.specs.declared.step.Made.{Made}
-use Rattle.pas_steps.proofs.Apart.{unstamped_same}
-use Rattle.pas_steps.proofs.Called.{call_then, call_as}
-use Rattle.pas_steps.proofs.Calls.{does_none}
+use Rattle.pas_steps.proofs.{Apart.unstamped_same, Called.call_then, Called.call_as, Calls.does_none, Sets.put_both, Sets.put_as, Sets.put_nothing}
 use Rattle.pas_steps.proofs.Past.{in_turn_always, in_turn_length, once_earlier, once_later}
-use Rattle.pas_steps.proofs.Sets.{put_both, put_as, put_nothing}
 use Rattle.pas_rights.specs.Puts.{masked, MayPut, WordPut, PutsBelow, PutsHere, MayPutWord, PutsWord, PutsMask}
 use Rattle.pas_rights.specs.PutsBack.{GivesDuly}
 
@@ -70,14 +62,14 @@ pub shared : (s t m : Bool) → ((s && m) || (t && m)) ≡ ((s || t) && m)
 shared true t m = or_same m t
 shared false t m = refl
 
-pub below_more : (page : ℕ) (mask : Mask4) (n g : ℕ) → (masked_below page mask n g || in_mask page n (slice_index mask.0 n) g) ≡ masked_below page mask (n + 1) g
+below_more : (page : ℕ) (mask : Mask4) (n g : ℕ) → (masked_below page mask n g || in_mask page n (slice_index mask.0 n) g) ≡ masked_below page mask (n + 1) g
 below_more page mask n g =
     ap (λ t. masked_below page mask n g || t) (in_word page mask n g) ∙ shared (nat_lt (g / 64 % 4) n) (n == g / 64 % 4) (masked page mask g) ∙ ap (λ t. t && masked page mask g) (sym (next_word (g / 64 % 4) n))
 
-pub none_below : (page : ℕ) (mask : Mask4) (g : ℕ) → masked_below page mask 0 g ≡ false
+none_below : (page : ℕ) (mask : Mask4) (g : ℕ) → masked_below page mask 0 g ≡ false
 none_below page mask g = ap (λ t. t && masked page mask g) (le-ltb (g / 64 % 4) 0 (omega arith))
 
-pub all_below : (page : ℕ) (mask : Mask4) (g : ℕ) → masked_below page mask 4 g ≡ masked page mask g
+all_below : (page : ℕ) (mask : Mask4) (g : ℕ) → masked_below page mask 4 g ≡ masked page mask g
 all_below page mask g = ap (λ t. t && masked page mask g) (lt-ltb (g / 64 % 4) 4 (omega arith))
 
 pub puts_kinds : (page : ℕ) (mask : Mask4) (n : ℕ) (steps : List Made) → PutsBelow page mask n steps → Only (Putting ∷ []) steps

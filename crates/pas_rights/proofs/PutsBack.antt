@@ -1,38 +1,27 @@
 -- Grains of a page are put back, and what follows that; and its right meanwhile.
-use Rattle.std.proofs.Common.{◌≡◌, ℕ, ◌+◌, ◌*◌, ◌/◌, ◌%◌, ◌==◌, Bool, true, false, if◌then◌else◌, List, [], ◌∷◌, ◌++◌, Option, None, Some, inl, inr, refl, ap, sym, ◌∙◌, subst, arith, append_assoc, length-append, true≢false}
-use Rattle.std.proofs.lemmas.Bool.{and_right, eqb-true}
-use Rattle.pas_profile.specs.declared.directory.Directory.{Directory}
-use Rattle.pas_profile.specs.declared.profile.Profile.{Profile}
+use Rattle.std.proofs.Common.{◌≡◌, ℕ, ◌+◌, ◌*◌, ◌/◌, ◌%◌, ◌==◌, Bool, true, false, if◌then◌else◌, List, [], ◌∷◌, ◌++◌, Option, None, Some, inl, inr, refl, ap}
+use Rattle.std.proofs.Common.{sym, ◌∙◌, subst, arith, append_assoc, length-append, true≢false, eqb-true}
+use Rattle.std.proofs.lemmas.Bool.{and_right}
+use Rattle.pas_profile.specs.declared.{directory.Directory.Directory, profile.Profile.Profile}
 use Rattle.pas_bits.specs.declared.mask.Mask4.{Mask4}
 use Rattle.pas_bits.specs.Masks.{is_set, IsEmpty, HasMember}
-use Rattle.pas_steps.specs.Agreement.{Agreed}
+use Rattle.pas_steps.specs.{Agreement.Agreed, Clear.IsClearOn, Desks.Standing, Desks.CanCall, Desks.made}
 use Rattle.pas_steps.specs.Calls.{Calls, Fate, Kept, Lost, later, put, ClearAfter, Does}
-use Rattle.pas_steps.specs.Clear.{IsClearOn}
-use Rattle.pas_steps.specs.Desks.{Standing, CanCall, made}
 use Rattle.pas_steps.specs.Frames.{IsOnPage, OnlyOn, GivesUp, KeepsRight}
 use Rattle.pas_steps.specs.Kinds.{Kinds, LookFree, LookBacked, Putting, Unparking, Hinting, Only, returning}
 use Rattle.pas_steps.specs.Views.{View, holds, has_right, KnowsDeed}
-use Rattle.pas_steps.specs.declared.step.Made.{Made}
-use Rattle.pas_steps.specs.declared.step.Step.TheVariants.{Offer, Unpark}
-use Rattle.pas_steps.proofs.Adding.{agreed_first, agreed_later}
+use Rattle.pas_steps.specs.declared.step.{Made.Made, Step.TheVariants.Offer, Step.TheVariants.Unpark}
+use Rattle.pas_steps.proofs.{Adding.agreed_first, Adding.agreed_later, Kept.returns_on, Past.always_both, Sets.kept_kept}
 use Rattle.pas_steps.proofs.Apart.{only_both, only_within, holds_same, rights_same, unstamped_same, examines_same}
 use Rattle.pas_steps.proofs.Called.{call_none, call_as, call_then, call_knows, next_call}
 use Rattle.pas_steps.proofs.Calls.{does_none, does_as, does_then, kept_first, returns_are}
-use Rattle.pas_steps.proofs.Kept.{returns_on}
-use Rattle.pas_steps.proofs.Past.{always_both}
-use Rattle.pas_steps.proofs.Sets.{kept_kept}
-use Rattle.pas_rights.specs.Leaves.{MayLeave, Leaves}
-use Rattle.pas_rights.specs.Looks.{looks_until, is_free, HintsWhere}
-use Rattle.pas_rights.specs.Puts.{masked, MayPut, PutsMask}
+use Rattle.pas_rights.specs.{Leaves.MayLeave, Leaves.Leaves, Looks.looks_until, Looks.is_free, Looks.HintsWhere, Puts.masked, Puts.MayPut, Puts.PutsMask}
+use Rattle.pas_rights.specs.{Words.ones}
 use Rattle.pas_rights.specs.PutsBack.{giving_back, MayPutAndReturn, given_back, PutsAndReturns, MayPutAndLeave, put_and_left, PutsAndLeaves}
 use Rattle.pas_rights.specs.Returns.{ReofferSteps, ReturnSteps, Settles, Returned}
-use Rattle.pas_rights.specs.Words.{ones}
 use Rattle.pas_rights.specs.declared.reading.Used.{Used}
-use Rattle.pas_rights.proofs.Looks.{looks_held}
+use Rattle.pas_rights.proofs.{Looks.looks_held, Debts.leave_lacks, Orders.until_only, Words.keeps_by}
 use Rattle.pas_bits.proofs.Words.{full_bit}
-use Rattle.pas_rights.proofs.Debts.{leave_lacks}
-use Rattle.pas_rights.proofs.Orders.{until_only}
-use Rattle.pas_rights.proofs.Words.{keeps_by}
 
 -- ---- what follows puts keeps a right
 abbrev settling : Kinds
@@ -51,7 +40,7 @@ unparks_only f page d steps v (inr h) agreed right =
     let whole : 64 * (page / 64) + page % 64 ≡ page = omega arith in
     absurd (true≢false (sym h.2 ∙ here.1.0.right (page % 64) (omega arith) (ap (has_right v) whole ∙ right)))
 
-pub return_keeps : (f : Profile) (page : ℕ) (d : Directory) (steps : List Made) (v : View) → ReturnSteps page d steps → Agreed f v steps → has_right v page ≡ true → KeepsRight page steps
+return_keeps : (f : Profile) (page : ℕ) (d : Directory) (steps : List Made) (v : View) → ReturnSteps page d steps → Agreed f v steps → has_right v page ≡ true → KeepsRight page steps
 return_keeps f page d steps v h agreed right =
     let looked = looks_until page h.used in
     let all : Agreed f v (h.after ++ (looked ++ h.first)) = subst (Agreed f v) h.steps_are agreed in
@@ -113,11 +102,11 @@ module _ {σ σ1 : Standing} (page : ℕ) (d : Directory) (mask : Mask4) (puts :
   put_call may knows = call_knows page d (call_as (Does (put (masked page mask) page)) puts.calls may (λ v w met does. does)) knows
 
   -- what settles the page then has it clear again
-  pub settled : {r : Fate} (v w : View) → Settles page r (puts.steps ++ v) w → IsClearOn page v → IsClearOn page w
+  settled : {r : Fate} (v w : View) → Settles page r (puts.steps ++ v) w → IsClearOn page v → IsClearOn page w
   settled v w settles clear =
       settles.clear (unstamped_same (Putting ∷ []) refl page puts.steps v puts.kinds ∙ clear.stamped) (examines_same (Putting ∷ []) refl page puts.steps v puts.kinds ∙ clear.examined)
 
-  pub clear_after : {r : Fate} (v u : View) → Settles page r (puts.steps ++ v) u → (q : ℕ) → ClearAfter (later (if page == q then Lost else Kept) (if page == q then Kept else Kept)) q v u → IsClearOn q v → IsClearOn q u
+  clear_after : {r : Fate} (v u : View) → Settles page r (puts.steps ++ v) u → (q : ℕ) → ClearAfter (later (if page == q then Lost else Kept) (if page == q then Kept else Kept)) q v u → IsClearOn q v → IsClearOn q u
   clear_after v u settles q = clear_again (page == q) q v u (λ e. subst (λ p. IsClearOn p v → IsClearOn p u) (eqb-true page q e) (settled v u settles))
 
   only_back : (ys : List Made) → Only returning ys → Only giving_back (ys ++ puts.steps)
@@ -147,7 +136,7 @@ module _ {σ σ1 : Standing} (page : ℕ) (d : Directory) (mask : Mask4) (puts :
       order = inr (some, puts.steps, ret.steps, puts.order, ret.order, refl);
       kinds = only_back ret.steps (returns_are page ret.steps ret.returns);
       on = both_on page ret.steps puts.steps (returns_on page ret.steps ret.returns) puts.on;
-      few = let all = length-append ret.steps puts.steps in let a = ret.few in let b = puts.few in omega (arith, all, a, b);
+      few = let all = length-append ret.steps puts.steps in omega (arith, all, ret.few, puts.few);
       keeps = keeps_right;
     }
 
@@ -169,7 +158,7 @@ module _ {σ σ1 : Standing} (page : ℕ) (d : Directory) (mask : Mask4) (puts :
         (λ v met a b. does_as (put_and_left page (masked page mask)) (does_then a.0 b.does) (λ g. inl refl) (λ q. kept_first (if page == q then Lost else Kept)) (clear_after v (left.steps ++ (puts.steps ++ v)) b));
     on = both_on page left.steps puts.steps (returns_on page left.steps left.returns) puts.on;
     kinds = only_back left.steps (returns_are page left.steps left.returns);
-    few = let all = length-append left.steps puts.steps in let a = left.few in let b = puts.few in omega (arith, all, a, b);
+    few = let all = length-append left.steps puts.steps in omega (arith, all, left.few, puts.few);
     put_order = puts.order;
     order = left.order;
     left = left.left;

@@ -1,31 +1,24 @@
 -- Grains of one page, taken word by word.
-use Rattle.std.proofs.Common.{◌≡◌, ◌≢◌, ℕ, zero, suc, ◌+◌, ◌*◌, ◌/◌, ◌%◌, ◌<◌, ◌≤◌, ◌==◌, nat_lt, Bool, true, false, ◌&&◌, ◌||◌, if◌then◌else◌, List, [], ◌∷◌, ◌++◌, length, inl, refl, ap, sym, ◌∙◌, subst, arith, append_assoc, add-one, append-nil, true≢false}
+use Rattle.std.proofs.Common.{◌≡◌, ◌≢◌, ℕ, zero, suc, ◌+◌, ◌*◌, ◌/◌, ◌%◌, ◌<◌, ◌≤◌, ◌==◌, nat_lt, Bool, true, false, ◌&&◌, ◌||◌, if◌then◌else◌, List, [], ◌∷◌}
+use Rattle.std.proofs.Common.{◌++◌, length, inl, refl, ap, sym, ◌∙◌, subst, arith, append_assoc, add-one, append-nil, true≢false, ne_eqb, eqb-true, lt-ltb}
+use Rattle.std.proofs.Common.{le-ltb}
 use Rattle.std.proofs.Math.Bool.{and_comm}
-use Rattle.std.proofs.lemmas.Bool.{ne_eqb, eqb-true, lt-ltb, le-ltb, and_parts, and_from, and_left, or_right, or_from, false_from_ne_true}
-use Rattle.pas_bits.specs.Bits.{has_bit}
+use Rattle.std.proofs.lemmas.Bool.{and_parts, and_from, and_left, or_right, or_from, false_from_ne_true}
+use Rattle.pas_bits.specs.{Bits.has_bit, Masks.is_set}
 use Rattle.pas_profile.specs.declared.profile.Profile.{Profile}
 use Rattle.pas_bits.specs.declared.mask.Mask4.{Mask4}
-use Rattle.pas_bits.specs.Masks.{is_set}
 use Rattle.pas_bits.proofs.Words.{none_of_zero}
-use Rattle.pas_steps.specs.Agreement.{Agreed, AgreesFree}
+use Rattle.pas_steps.specs.{Agreement.Agreed, Agreement.AgreesFree, Desks.Standing, Desks.made, Effects.in_mask, Frames.OnlyOn, Frames.IsOnPage}
+use Rattle.pas_steps.specs.{Frames.KeepsRight, Past.Always, Past.Since}
 use Rattle.pas_steps.specs.Calls.{Calls, Kept, Gained, Does, grain_fate}
-use Rattle.pas_steps.specs.Desks.{Standing, made}
-use Rattle.pas_steps.specs.Effects.{in_mask}
 use Rattle.pas_steps.specs.Evidence.{Readings, ReadsFree, ShowsHere, KeptHere}
-use Rattle.pas_steps.specs.Frames.{OnlyOn, IsOnPage, KeepsRight}
 use Rattle.pas_steps.specs.Kinds.{Taking, Only, kind_of, is_in}
-use Rattle.pas_steps.specs.Past.{Always, Since}
 use Rattle.pas_steps.specs.Views.{View, Gets, Stays, held_after, holds, has_right, known_free}
-use Rattle.pas_steps.specs.declared.step.Made.{Made}
-use Rattle.pas_steps.specs.declared.step.Step.TheVariants.{Take}
-use Rattle.pas_steps.proofs.Adding.{agreed_first, agreed_later, adds_under}
-use Rattle.pas_steps.proofs.Apart.{rights_same}
+use Rattle.pas_steps.specs.declared.step.{Made.Made, Step.TheVariants.Take}
+use Rattle.pas_steps.proofs.{Adding.agreed_first, Adding.agreed_later, Adding.adds_under, Apart.rights_same, Flags.ap_if, Sets.both_fates, Sets.same_truth}
 use Rattle.pas_steps.proofs.Calls.{does_none, does_then, does_as, does_step}
-use Rattle.pas_steps.proofs.Flags.{ap_if}
-use Rattle.pas_steps.proofs.Sets.{both_fates, same_truth}
-use Rattle.pas_rights.specs.Puts.{masked}
+use Rattle.pas_rights.specs.{Puts.masked, Words.words}
 use Rattle.pas_rights.specs.Takes.{word_take, takes, taken, GetsGrains, TakesMask}
-use Rattle.pas_rights.specs.Words.{words}
 use Rattle.pas_rights.proofs.Puts.{none_in, next_word, shared}
 use Rattle.pas_rights.proofs.Words.{each_always, each_few, each_agreed, keeps_by, words_read, bit_of, or_none}
 
@@ -190,7 +183,7 @@ module _ (page : ℕ) (mask answers got : Mask4) (got_is : (g : ℕ) → is_set 
   }
 
   -- all of the mask is got that is known as free
-  pub takes_all : (f : Profile) (v : View) → Agreed f v (takes page (words mask) (words answers) 4) → ((g : ℕ) → masked page mask g ≡ true → known_free v g ≡ true) → (g : ℕ) → masked page got g ≡ masked page mask g
+  takes_all : (f : Profile) (v : View) → Agreed f v (takes page (words mask) (words answers) 4) → ((g : ℕ) → masked page mask g ≡ true → known_free v g ≡ true) → (g : ℕ) → masked page got g ≡ masked page mask g
   takes_all f v agreed known g = same_truth (masked page got g) (masked page mask g)
       (λ here. let at = and_parts (page == g / 256) (is_set got (g % 256)) here in and_from (page == g / 256) (is_set mask (g % 256)) at.0 (and_parts (is_set answers (g % 256)) (is_set mask (g % 256)) (sym (got_is (g % 256)) ∙ at.1)).1)
       (λ here. let at = and_parts (page == g / 256) (is_set mask (g % 256)) here in

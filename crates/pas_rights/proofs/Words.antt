@@ -1,24 +1,15 @@
 -- Steps for each free word in turn, and readings that stand while the right is kept.
-use Rattle.std.proofs.Common.{◌≡◌, ℕ, zero, suc, ◌+◌, ◌*◌, ◌/◌, ◌%◌, ◌<◌, ◌≤◌, Bool, true, false, ◌||◌, List, [], ◌∷◌, ◌++◌, length, slice_index, inl, inr, refl, ap, sym, ◌∙◌, subst, arith, append_assoc, length-append}
+use Rattle.std.proofs.Common.{◌≡◌, ℕ, zero, suc, ◌+◌, ◌*◌, ◌/◌, ◌%◌, ◌<◌, ◌≤◌, Bool, true, false, ◌||◌, List, [], ◌∷◌, ◌++◌, length, slice_index, inl, inr}
+use Rattle.std.proofs.Common.{refl, ap, sym, ◌∙◌, subst, arith, append_assoc, length-append, true≢false}
 use Rattle.std.proofs.lemmas.Bool.{cases_eq}
-use Rattle.pas_bits.specs.Bits.{has_bit}
+use Rattle.pas_bits.specs.{Bits.has_bit, Masks.is_set}
 use Rattle.pas_profile.specs.declared.profile.Profile.{Profile}
 use Rattle.pas_bits.specs.declared.mask.Mask4.{Mask4}
-use Rattle.pas_bits.specs.Masks.{is_set}
-use Rattle.pas_steps.specs.Agreement.{Agreed}
-use Rattle.pas_steps.specs.Evidence.{KeptHere}
-use Rattle.pas_steps.specs.Frames.{GivesUp, KeepsRight}
+use Rattle.pas_steps.specs.{Agreement.Agreed, Evidence.KeptHere, Frames.GivesUp, Frames.KeepsRight, Past.Always, Past.Since, Views.View, Views.has_right}
 use Rattle.pas_steps.specs.Kinds.{Kinds, Offering, Parking, kind_of, place_of, is_in, apart, Only}
-use Rattle.pas_steps.specs.Past.{Always, Since}
-use Rattle.pas_steps.specs.Views.{View, has_right}
-use Rattle.pas_steps.specs.declared.step.Made.{Made}
-use Rattle.pas_steps.specs.declared.step.Step.{Step}
-use Rattle.pas_steps.proofs.Adding.{agreed_first, agreed_later}
-use Rattle.pas_steps.proofs.Apart.{in_apart}
-use Rattle.pas_steps.proofs.Frames.{rights_stay}
-use Rattle.pas_steps.proofs.Past.{always_both, always_map}
+use Rattle.pas_steps.specs.declared.step.{Made.Made, Step.Step}
+use Rattle.pas_steps.proofs.{Adding.agreed_first, Adding.agreed_later, Apart.in_apart, Frames.rights_stay, Past.always_both, Past.always_map}
 use Rattle.pas_rights.specs.Words.{each_word}
-use Rattle.std.proofs.lemmas.Bool.{true≢false}
 
 -- ---- each word
 pub each_always : (P : Made → Type 0) (steps : ℕ → List Made) → ((word : ℕ) → Always (λ m before. P m) (steps word)) → (n : ℕ) → Always (λ m before. P m) (each_word steps n)

@@ -2,16 +2,11 @@
 use Rattle.std.specs.Prelude.{ℕ, ◌≤◌, ◌≡◌, Bool, true, false, List, [], ◌∷◌, ◌++◌, length, MatchBool}
 use Rattle.pas_bits.specs.declared.mask.Mask4.{Mask4}
 use Rattle.pas_profile.specs.declared.directory.Directory.{Directory}
-use Rattle.pas_steps.specs.Calls.{Calls, Lost}
-use Rattle.pas_steps.specs.Desks.{Standing, Adds, made}
-use Rattle.pas_steps.specs.Frames.{AreLooks, OnlyReturns, GivesUp}
-use Rattle.pas_steps.specs.Past.{Once}
-use Rattle.pas_steps.specs.Views.{View, has_right, KnowsDeed}
-use Rattle.pas_steps.specs.declared.step.Made.{Made}
-use Rattle.pas_steps.specs.declared.step.Step.TheVariants.{Offer, Park}
+use Rattle.pas_steps.specs.{Calls.Calls, Calls.Lost, Desks.Standing, Desks.Adds, Desks.made, Frames.AreLooks, Frames.OnlyReturns, Frames.GivesUp, Past.Once}
+use Rattle.pas_steps.specs.{Views.View, Views.has_right, Views.KnowsDeed}
+use Rattle.pas_steps.specs.declared.step.{Made.Made, Step.TheVariants.Offer, Step.TheVariants.Park}
 use Rattle.pas_rights.specs.Looks.{looks, HasUsable, HasNoUsable, IsAllFree, HasUsed, HintsWhere}
-use Rattle.pas_rights.specs.Returns.{ReofferSteps, Settles}
-use Rattle.pas_rights.specs.Words.{words}
+use Rattle.pas_rights.specs.{Returns.ReofferSteps, Returns.Settles, Words.words}
 
 -- the page's deed is known, and the right is the actor's
 pub record MayLeave (page : ℕ) (directory : Directory) (v : View) : Type 0 where

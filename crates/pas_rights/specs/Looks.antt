@@ -1,16 +1,11 @@
 -- Looks at the free words of a page, and what they show; and the hint of a page that may be empty.
 use Rattle.std.specs.Prelude.{ℕ, ◌<◌, ◌≤◌, ◌+◌, ◌≡◌, ◌≢◌, Bool, true, false, ◌⊎◌, List, [], ◌∷◌, Option, None, Some, MatchOption}
 use Rattle.pas_bits.specs.declared.mask.Mask4.{Mask4}
-use Rattle.pas_bits.specs.Masks.{is_set, AllSetBelow}
-use Rattle.pas_bits.specs.Bits.{has_bit}
-use Rattle.pas_profile.specs.declared.directory.Directory.{Directory}
-use Rattle.pas_profile.specs.declared.word.Word.TheVariants as Word
+use Rattle.pas_bits.specs.{Masks.is_set, Masks.AllSetBelow, Bits.has_bit}
+use Rattle.pas_profile.specs.declared.{directory.Directory.Directory, word.Word.Word}
 use Rattle.pas_steps.specs.Desks.{Standing, AnyView, Adds, made}
-use Rattle.pas_steps.specs.Evidence.{Readings}
-use Rattle.pas_steps.specs.Past.{Since}
-use Rattle.pas_steps.specs.Views.{usable_by_kind, all_ones}
-use Rattle.pas_steps.specs.declared.step.Made.{Made}
-use Rattle.pas_steps.specs.declared.step.Step.TheVariants.{Look, Take, Hint}
+use Rattle.pas_steps.specs.{Evidence.Readings, Past.Since, Views.usable_by_kind, Views.all_ones}
+use Rattle.pas_steps.specs.declared.step.{Made.Made, Step.TheVariants.Look, Step.TheVariants.Take, Step.TheVariants.Hint}
 use Rattle.pas_rights.specs.Words.{each_word, words, ones}
 use Rattle.pas_rights.specs.declared.reading.Used.{Used}
 

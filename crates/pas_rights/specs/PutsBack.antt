@@ -3,19 +3,13 @@ use Rattle.std.specs.Prelude.{ℕ, ◌≤◌, ◌≡◌, ◌==◌, ◌⊎◌, Bo
 use Rattle.pas_profile.specs.declared.directory.Directory.{Directory}
 use Rattle.pas_bits.specs.declared.mask.Mask4.{Mask4}
 use Rattle.pas_bits.specs.Masks.{IsEmpty, HasMember}
-use Rattle.pas_steps.specs.Agreement.{Agreed}
+use Rattle.pas_steps.specs.{Agreement.Agreed, Clear.IsClearOn, Desks.Standing, Frames.OnlyOn, Frames.KeepsRight, Past.Once}
 use Rattle.pas_steps.specs.Calls.{Calls, Effect, Kept, Lost, Does, freed}
-use Rattle.pas_steps.specs.Clear.{IsClearOn}
-use Rattle.pas_steps.specs.Desks.{Standing}
-use Rattle.pas_steps.specs.Frames.{OnlyOn, KeepsRight}
 use Rattle.pas_steps.specs.Kinds.{Kinds, Taking, Putting, Only, returning}
-use Rattle.pas_steps.specs.Past.{Once}
 use Rattle.pas_steps.specs.Views.{View, holds, has_right, KnowsDeed}
 use Rattle.pas_steps.specs.declared.step.Made.{Made}
-use Rattle.pas_rights.specs.Leaves.{LeaveSteps, LosesHere}
-use Rattle.pas_rights.specs.Looks.{HintsEmpty}
+use Rattle.pas_rights.specs.{Leaves.LeaveSteps, Leaves.LosesHere, Looks.HintsEmpty, Returns.ReturnSteps}
 use Rattle.pas_rights.specs.Puts.{masked, MayPut, PutsBelow, PutsTaken}
-use Rattle.pas_rights.specs.Returns.{ReturnSteps}
 
 -- what is done where grains are put back, and where some were taken before
 abbrev pub giving_back : Kinds

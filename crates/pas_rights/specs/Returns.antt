@@ -3,12 +3,9 @@ use Rattle.std.specs.Prelude.{ℕ, ◌%◌, ◌≤◌, ◌≡◌, true, false, �
 use Rattle.pas_bits.specs.Bits.{has_bit}
 use Rattle.pas_profile.specs.declared.directory.Directory.{Directory}
 use Rattle.pas_steps.specs.Calls.{Calls, Does, Fate, Kept, on_page}
-use Rattle.pas_steps.specs.Clear.{OwesNothing, IsClearOn}
-use Rattle.pas_steps.specs.Desks.{Standing, Adds, made}
-use Rattle.pas_steps.specs.Frames.{OnlyReturns}
+use Rattle.pas_steps.specs.{Clear.OwesNothing, Clear.IsClearOn, Desks.Standing, Desks.Adds, Desks.made, Frames.OnlyReturns}
 use Rattle.pas_steps.specs.Views.{View, KnowsDeed, is_unstamped, examines}
-use Rattle.pas_steps.specs.declared.step.Made.{Made}
-use Rattle.pas_steps.specs.declared.step.Step.TheVariants.{Offer, Unpark}
+use Rattle.pas_steps.specs.declared.step.{Made.Made, Step.TheVariants.Offer, Step.TheVariants.Unpark}
 use Rattle.pas_rights.specs.Looks.{looks_until, AreUsed, is_free, HintsWhere}
 use Rattle.pas_rights.specs.declared.reading.Used.{Used}
 

@@ -1,8 +1,7 @@
 //! An actor asks for the right of an offered page.
 ghost use Rattle.pas_profile.specs.Profiles.{IsPage, IsDirectoryOf};
-ghost use Rattle.pas_steps.specs.Desks.{CanCall};
+ghost use Rattle.pas_steps.specs.{Desks.CanCall, Views.KnowsDeed};
 ghost use Rattle.pas_rights.specs.Claims.{Claims};
-ghost use Rattle.pas_steps.specs.Views.{KnowsDeed};
 ghost use Rattle.std.specs.Prelude.{◌≡◌};
 
 use pas_bits::page_vector::has_page;

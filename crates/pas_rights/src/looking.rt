@@ -1,10 +1,8 @@
 //! What the free words of a page show, and the hint of a page that may be empty.
 ghost use Rattle.std.specs.Prelude.{◌≡◌, ◌<◌, ℕ, MatchBool};
 ghost use Rattle.pas_bits.specs.Masks.{is_set};
-ghost use Rattle.pas_profile.specs.Directories.{IsKind};
-ghost use Rattle.pas_profile.specs.Profiles.{IsPage};
-ghost use Rattle.pas_steps.specs.Views.{usable_by_kind};
-ghost use Rattle.pas_steps.specs.Desks.{AnyView, CanCall};
+ghost use Rattle.pas_profile.specs.{Directories.IsKind, Profiles.IsPage};
+ghost use Rattle.pas_steps.specs.{Views.usable_by_kind, Desks.AnyView, Desks.CanCall};
 ghost use Rattle.pas_rights.specs.Looks.{HasUsable, HasNoUsable, IsAllFree, HasUsed, Hinted};
 
 use pas_bits::Mask4;

@@ -1,9 +1,8 @@
 //! What an actor owes after it put grains back.
 ghost use Rattle.std.specs.Prelude.{◌≡◌};
 ghost use Rattle.pas_profile.specs.Profiles.{IsPage, IsDirectoryOf};
-ghost use Rattle.pas_steps.specs.Desks.{CanCall};
+ghost use Rattle.pas_steps.specs.{Desks.CanCall, Views.KnowsDeed};
 ghost use Rattle.pas_rights.specs.Returns.{Returned, ReoffersPage};
-ghost use Rattle.pas_steps.specs.Views.{KnowsDeed};
 
 use crate::looking::hint_backed;
 use crate::reading::first_used;

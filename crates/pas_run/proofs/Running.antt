@@ -1,19 +1,15 @@
 -- A state is stepped along a list as the list's words are.
-use Rattle.std.proofs.Common.{◌≡◌, ℕ, ◌+◌, ◌<◌, ◌≤◌, ◌==◌, Bool, true, false, if◌then◌else◌, List, [], ◌∷◌, length, get_or, set, take, Option, None, refl, ap, sym, ◌∙◌, subst, arith, inl, inr}
-use Rattle.std.proofs.lemmas.Bool.{eqb-true, eqb-false, cases_eq}
-use Rattle.std.proofs.lemmas.List.{length-append, length-set, length-take-le, take_at, take-take, take-append-le, get_or_at, get_or_append_left, get_or-take, get_or-set_same, get_or-set_other}
-use Rattle.pas_profile.specs.Layouts.{same_word}
-use Rattle.pas_profile.specs.Profiles.{IsValid, IsWordOf}
-use Rattle.pas_profile.specs.declared.profile.Profile.{Profile}
-use Rattle.pas_profile.specs.declared.word.Word.{Word}
+use Rattle.std.proofs.Common.{◌≡◌, ℕ, ◌+◌, ◌<◌, ◌≤◌, ◌==◌, Bool, true, false, if◌then◌else◌, List, [], ◌∷◌, length, get_or, set, take, Option, None, refl, ap}
+use Rattle.std.proofs.Common.{sym, ◌∙◌, subst, arith, inl, inr, eqb-true, length-append, length-set, length-take-le, take_at, take-take, get_or-take}
+use Rattle.std.proofs.Common.{get_or-set_same, get_or-set_other}
+use Rattle.std.proofs.lemmas.{Bool.eqb-false, Bool.cases_eq, List.take-append-le, List.get_or_at, List.get_or_append_left}
+use Rattle.pas_profile.specs.{Layouts.same_word, Profiles.IsValid, Profiles.IsWordOf}
+use Rattle.pas_profile.specs.declared.{profile.Profile.Profile, word.Word.Word}
 use Rattle.pas_profile.proofs.Places.{same_word-true}
-use Rattle.pas_steps.specs.Effects.{target, new_value}
+use Rattle.pas_steps.specs.{Effects.target, Effects.new_value, Ranges.IsRanged, States.profile_of, States.word_in}
 use Rattle.pas_steps.specs.Views.{epoch_after, known_epoch, or_zero, epoch_of}
 use Rattle.pas_steps.specs.Lists.{Triple, Whole, part, word_after, IsNext, Legal}
-use Rattle.pas_steps.specs.Ranges.{IsRanged}
-use Rattle.pas_steps.specs.States.{profile_of, word_in}
-use Rattle.pas_steps.specs.declared.state.State.{State}
-use Rattle.pas_steps.specs.declared.step.Step.{Step}
+use Rattle.pas_steps.specs.declared.{state.State.State, step.Step.Step}
 use Rattle.pas_steps.proofs.Targets.{is_ranged, target_of_region}
 use Rattle.pas_run.specs.Runs.{in_order, CanRun, IsOpening, IsAfter, IsStepped}
 

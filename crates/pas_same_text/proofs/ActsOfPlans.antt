@@ -1,24 +1,18 @@
 -- WHO ACTS in the replay of a plan: one of its threads, the scavenger, or one of its keepers, which are the actors behind the threads. What they ask for is admitted.
-use Rattle.std.proofs.Common.{◌≡◌, ◌≢◌, ℕ, zero, suc, ◌+◌, ◌<◌, ◌≤◌, Bool, true, false, cond, List, [], ◌∷◌, ◌++◌, map, Option, None, Some, MatchOption, refl, sym, arith}
-use Rattle.std.specs.Prelude.{not}
+use Rattle.std.proofs.Common.{◌≡◌, ◌≢◌, ℕ, zero, suc, ◌+◌, ◌<◌, ◌≤◌, Bool, true, false, cond, List, [], ◌∷◌, ◌++◌, map, Option, None, Some, MatchOption, refl}
+use Rattle.std.proofs.Common.{sym, arith, not}
 use Rattle.std.specs.List.{AllByRecursion, filter}
-use Rattle.pas_profile.specs.Profiles.{IsValid, IsAdmitted}
-use Rattle.pas_profile.specs.Requests.{route_in}
+use Rattle.pas_profile.specs.{Profiles.IsValid, Profiles.IsAdmitted, Requests.route_in}
 use Rattle.pas_profile.specs.declared.directory.Route.{Route}
-use Rattle.pas_profile.proofs.Lists.{all_both}
-use Rattle.pas_profile.proofs.Sizes.{large_for}
-use Rattle.pas_trace.specs.Acts.{Act, Settles, StopsIdle, Wakes, Ends, Lowers, region_of, threads_of, keepers_of, acts_of_plan, act_kept, is_active, numbers_from, threads_where, active_threads, idle_threads, acts_of_chore, acts_of_work, acts_of_op, acts_of_ops, phase_acts, close_acts, acts_from, acts_of}
+use Rattle.pas_profile.proofs.{Lists.all_both, Sizes.large_for}
+use Rattle.pas_trace.specs.Acts.{Act, Settles, StopsIdle, Wakes, Ends, Lowers, region_of, threads_of, keepers_of, acts_of_plan, act_kept, is_active}
+use Rattle.pas_trace.specs.Acts.{numbers_from, threads_where, active_threads, idle_threads, acts_of_chore, acts_of_work, acts_of_op, acts_of_ops, phase_acts}
+use Rattle.pas_trace.specs.Acts.{close_acts, acts_from, acts_of}
 use Rattle.pas_trace.specs.Asked.{work_of, of_task, request_of, request_in, keeper_of, keeper_in}
 use Rattle.pas_trace.specs.EveryPlan.{all_ops, asked_after, operations_of, IsActorBy, IsActorOf, IsSoundTask, IsSoundWork, AreSound, AreKept}
 use Rattle.pas_trace.specs.Plans.{IsPlanOf, ops_of}
-use Rattle.pas_trace.specs.declared.item.Request.{Request}
-use Rattle.pas_trace.specs.declared.plan.Chore.{Chore}
-use Rattle.pas_trace.specs.declared.plan.Op.{Op}
-use Rattle.pas_trace.specs.declared.plan.Plan.{Plan}
-use Rattle.pas_trace.specs.declared.plan.Task.{Task}
-use Rattle.pas_trace.specs.declared.plan.Work.{Work}
-use Rattle.pas_trace.proofs.EveryPlan.{every_plan, keepers_among, threads_among}
-use Rattle.pas_trace.proofs.Keepers.{plan_actors}
+use Rattle.pas_trace.specs.declared.{item.Request.Request, plan.Chore.Chore, plan.Op.Op, plan.Plan.Plan, plan.Task.Task, plan.Work.Work}
+use Rattle.pas_trace.proofs.{EveryPlan.every_plan, EveryPlan.keepers_among, EveryPlan.threads_among, Keepers.plan_actors}
 use Rattle.pas_same_text.specs.Known.{IsAdmittedWhat, IsGuardedWhat, IsPlanned, ArePlanned}
 use Rattle.pas_same_text.specs.Seats.{IsThreadOf, IsKeeperOf}
 
@@ -65,10 +59,8 @@ module _ (plan : Plan) where
   kept_own : (keeper : Option ℕ) (op : Op) → IsOwn op.actor → IsAdmittedWhat (region_of plan) op.what → ((k : ℕ) → keeper ≡ Some k → IsGuardedWhat (region_of plan) k op.what) → KeepsIt op.actor keeper → AreOwn (act_kept keeper op ∷ (Settles op.actor ∷ []))
   kept_own None op thread admitted guarded keeps = ((thread, admitted), ((thread, tt), tt))
   kept_own (Some keeper) op thread admitted guarded keeps =
-      let some = thread.0 in
-      let is = keeps.0 in
       let among = keepers_among plan.guard (threads_of plan) op.actor keeps.1 thread.1 in
-      ((((omega (arith, some, is), omega (arith, is, among)), thread), (admitted, guarded keeper refl)), ((thread, tt), tt))
+      ((((omega (arith, thread.0, keeps.0), omega (arith, keeps.0, among)), thread), (admitted, guarded keeper refl)), ((thread, tt), tt))
 
   work_own : (idle : List ℕ) (op : Op) (work : Work) → AllByRecursion IsOwn idle → IsActorBy plan.profile work op.actor → IsAdmittedWhat (region_of plan) op.what → ((k : ℕ) → of_task keeper_of work ≡ Some k → IsGuardedWhat (region_of plan) k op.what) → KeepsIt op.actor (of_task keeper_of work) → AreOwn (acts_of_work idle op work)
   work_own idle op (Work.Own task) idles actor admitted guarded keeps = kept_own (keeper_of task) op actor admitted guarded keeps
@@ -176,12 +168,11 @@ plan_region {text} {plan} is =
     let sound = every_plan is in
     let valid = sound.valid in
     let among = threads_among plan.guard plan.profile.threads in
-    let some = valid.some_thread in
     record {
       some_page = valid.some_page;
       pages = valid.pages;
       classes = valid.classes;
-      some_thread = omega (arith, among, some);
+      some_thread = omega (arith, among, valid.some_thread);
       threads = sound.actors;
       some_age = valid.some_age;
       age = valid.age;

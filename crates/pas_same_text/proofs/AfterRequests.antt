@@ -1,45 +1,28 @@
 -- AFTER A REQUEST THAT WAS SERVED its thread is at rest with its cache again: by what the request's steps show.
-use Rattle.std.proofs.Common.{◌≡◌, ℕ, ◌+◌, ◌≤◌, ◌==◌, Bool, true, false, not, ◌||◌, cond, List, [], ◌∷◌, ◌++◌, All, None, Some, Result, Ok, Err, ◌⊎◌, inl, inr, refl, ap, sym, ◌∙◌, subst, append_assoc, arith}
-use Rattle.std.specs.List.{find, filter, count_by}
-use Rattle.std.specs.List.Sorted.{IsPermutation}
-use Rattle.std.proofs.lemmas.Bool.{eqb-true, false_from_ne_true}
-use Rattle.std.proofs.lemmas.List.Elements.{All-head, All-tail}
-use Rattle.std.proofs.lemmas.List.Sorted.{IsPermutation-refl, IsPermutation-cons, IsPermutation-trans, IsPermutation-middle, IsPermutation-sym, IsPermutation-to_front}
-use Rattle.std.proofs.lemmas.List.Sums.{sum_by-cons}
-use Rattle.pas_profile.specs.Classes.{IsClass}
-use Rattle.pas_profile.specs.Directories.{IsKind, deed_word_of}
-use Rattle.pas_profile.specs.Profiles.{IsValid, IsAdmitted, IsDirectoryOf}
+use Rattle.std.proofs.Common.{◌≡◌, ℕ, ◌+◌, ◌≤◌, ◌==◌, Bool, true, false, not, ◌||◌, cond, List, [], ◌∷◌, ◌++◌, All, None, Some, Result, Ok, Err, ◌⊎◌, inl, inr}
+use Rattle.std.proofs.Common.{refl, ap, sym, ◌∙◌, subst, append_assoc, arith, eqb-true}
+use Rattle.std.specs.List.{find, filter, count_by, Sorted.IsPermutation}
+use Rattle.std.proofs.lemmas.{Bool.false_from_ne_true, List.Elements.All-head, List.Elements.All-tail, List.Sums.sum_by-cons}
+use Rattle.std.proofs.lemmas.List.Sorted.{IsPermutation-refl, IsPermutation-cons, IsPermutation-trans, IsPermutation-middle, IsPermutation-sym}
+use Rattle.std.proofs.lemmas.List.Sorted.{IsPermutation-to_front}
+use Rattle.pas_profile.specs.{Classes.IsClass, Directories.IsKind, Directories.deed_word_of, Profiles.IsValid, Profiles.IsAdmitted, Profiles.IsDirectoryOf}
 use Rattle.pas_profile.specs.Requests.{route_in, is_shared, kind_of_class, kind_of_route, class_home, directory_for}
-use Rattle.pas_profile.specs.declared.directory.Directory.{Directory}
-use Rattle.pas_profile.specs.declared.directory.Kind.TheVariants as Kind
-use Rattle.pas_profile.specs.declared.directory.Route.{Route}
-use Rattle.pas_profile.specs.declared.event.NoRoom.{NoRoom}
-use Rattle.pas_profile.specs.declared.name.Block.{Block}
-use Rattle.pas_profile.specs.declared.profile.Profile.{Profile}
-use Rattle.pas_profile.proofs.ClassFacts.{class_suits, class_known}
-use Rattle.pas_profile.proofs.Codecs.{same_from_deed_word}
-use Rattle.pas_steps.specs.Agreement.{Agreed}
-use Rattle.pas_steps.specs.Calls.{Kept, Lost, now}
-use Rattle.pas_steps.specs.Desks.{triples}
-use Rattle.pas_steps.specs.Lists.{part, Legal}
-use Rattle.pas_steps.specs.Views.{View, KnowsDeed, known_deed}
+use Rattle.pas_profile.specs.declared.{directory.Directory.Directory, directory.Kind.Kind, directory.Route.Route, event.NoRoom.NoRoom, name.Block.Block}
+use Rattle.pas_profile.specs.declared.{profile.Profile.Profile}
+use Rattle.pas_profile.proofs.{ClassFacts.class_suits, ClassFacts.class_known, Codecs.same_from_deed_word}
+use Rattle.pas_steps.specs.{Agreement.Agreed, Calls.Kept, Calls.Lost, Calls.now, Desks.triples, Lists.part, Lists.Legal, Views.View, Views.KnowsDeed}
+use Rattle.pas_steps.specs.{Views.known_deed}
 use Rattle.pas_steps.specs.declared.step.Made.{Made}
 use Rattle.pas_steps.proofs.Adding.{agreed_first, agreed_later}
-use Rattle.pas_core.proofs.Nexts.{agreed_steps}
-use Rattle.pas_core.proofs.OneActor.{legal_earlier}
-use Rattle.pas_search.specs.Searches.{MaySearch}
-use Rattle.pas_search.specs.Serving.{right_of}
+use Rattle.pas_core.proofs.{Nexts.agreed_steps, OneActor.legal_earlier}
+use Rattle.pas_search.specs.{Searches.MaySearch, Serving.right_of}
 use Rattle.pas_choice.specs.Allocates.{GaveBlock}
 use Rattle.pas_bitfit.specs.Allocates.{bitfit_directory, IsAllocated}
-use Rattle.pas_large.specs.Allocates.{IsServedNamed, IsScanned}
-use Rattle.pas_large.specs.Finds.{MayFind}
-use Rattle.pas_segregated.specs.Refills.{GetsSlots}
-use Rattle.pas_segregated.specs.Stops.{home_of}
+use Rattle.pas_large.specs.{Allocates.IsServedNamed, Allocates.IsScanned, Finds.MayFind}
+use Rattle.pas_segregated.specs.{Refills.GetsSlots, Stops.home_of}
 use Rattle.pas_segregated.specs.declared.slots.Slots.{Slots}
-use Rattle.pas_cache.specs.Caches.{AtRest}
-use Rattle.pas_cache.specs.Contents.{Cached}
-use Rattle.pas_cache.specs.Locals.{IsLocal, RestsWith, keeps_right, any_keeps, local_for, others_than}
-use Rattle.pas_cache.specs.Locals.{is_for as is_for_slots}
+use Rattle.pas_cache.specs.{Caches.AtRest, Contents.Cached}
+use Rattle.pas_cache.specs.Locals.{IsLocal, RestsWith, keeps_right, any_keeps, local_for, others_than, is_for as is_for_slots}
 use Rattle.pas_cache.specs.Serves.{filling_in, FindsCached, IsRefill, Fetches, IsObtained, ServesClass, ServesBitfit, ServesPages, ServesBy, pages_of}
 use Rattle.pas_cache.specs.Serves.{IsAnswered as IsAnsweredBy}
 use Rattle.pas_cache.proofs.Resting.{locals_after, rests_by, rests_kept, rests_reordered, rests_gained, rests_given}
@@ -47,14 +30,10 @@ use Rattle.pas_cache.proofs.Routes.{may_search_bitfit, may_find}
 use Rattle.pas_trace.specs.EveryPlan.{IsThread}
 use Rattle.pas_trace.specs.declared.item.Request.{Request}
 use Rattle.pas_answers.specs.Answers.{Progress, Answer, wanted_by}
-use Rattle.pas_one_text.specs.State.{World}
-use Rattle.pas_one_text.specs.Runs.{large_of}
-use Rattle.pas_same_text.specs.Same.{IsSame}
-use Rattle.pas_same_text.specs.Acts.{IsBetween}
-use Rattle.pas_same_text.proofs.CacheLists.{same_own}
+use Rattle.pas_one_text.specs.{State.World, Runs.large_of}
+use Rattle.pas_same_text.specs.{Same.IsSame, Acts.IsBetween}
+use Rattle.pas_same_text.proofs.{CacheLists.same_own, OneUp.up_to, Tests.and_second}
 use Rattle.pas_same_text.proofs.FetchedClasses.{HasPlace, IsFetched, none_kept, place_fetched, keeps_unshared}
-use Rattle.pas_same_text.proofs.OneUp.{up_to}
-use Rattle.pas_same_text.proofs.Tests.{and_second}
 
 -- ---- the one that passes a test is taken out of a list
 module _ {X : Type 0} (test : X → Bool) where

@@ -6,37 +6,21 @@ use Rattle.pas_steps.specs.Lists.{Whole, visible, Legal}
 use Rattle.pas_core.proofs.OneActor.{legal_before}
 use Rattle.pas_large.specs.Doors.{Indexes, no_ranges}
 use Rattle.pas_report.specs.declared.record.Record.{Record}
-use Rattle.pas_report.specs.Lines.{lines_of}
-use Rattle.pas_report.specs.Marks.{marks_after}
-use Rattle.pas_report.specs.Reports.{report_text}
-use Rattle.pas_report.specs.Rests.{AreTrueMarks}
-use Rattle.pas_trace.specs.Acts.{Act, acts_of}
-use Rattle.pas_trace.specs.Plans.{IsPlanOf}
+use Rattle.pas_report.specs.{Lines.lines_of, Marks.marks_after, Reports.report_text, Rests.AreTrueMarks}
+use Rattle.pas_trace.specs.{Acts.Act, Acts.acts_of, Plans.IsPlanOf}
 use Rattle.pas_trace.specs.declared.plan.Plan.{Plan}
 use Rattle.pas_trace.proofs.Keepers.{plan_actors}
-use Rattle.pas_answers.specs.Answers.{Progress}
-use Rattle.pas_answers.specs.Indexes.{indexes_after, indexes_after_all}
-use Rattle.pas_answers.specs.Reaching.{Reaches}
+use Rattle.pas_answers.specs.{Answers.Progress, Indexes.indexes_after, Indexes.indexes_after_all, Reaching.Reaches, Rests.AreAtRest, Rests.AllAtRest}
+use Rattle.pas_answers.specs.{Ways.InOrder}
 use Rattle.pas_answers.specs.Replays.{at_start, phases_of, region_of, threads_of, keepers_of, acts_of_plan, IsReplay}
-use Rattle.pas_answers.specs.Rests.{AreAtRest, AllAtRest}
-use Rattle.pas_answers.specs.Ways.{InOrder}
 use Rattle.pas_answers.proofs.Reached.{was_so}
 use Rattle.pas_one_text.specs.State.{World, each}
 use Rattle.pas_one_text.specs.Order.{acts_on, opened, replayed, order_text}
-use Rattle.pas_same_text.specs.Same.{IsSame}
-use Rattle.pas_same_text.specs.Acts.{IsBetween}
+use Rattle.pas_same_text.specs.{Same.IsSame, Acts.IsBetween, Seats.AreSeated, Told.IsTold}
 use Rattle.pas_same_text.specs.Known.{ArePlanned, IsCarried, IsKnown, IsKept, AreKnown}
-use Rattle.pas_same_text.specs.Seats.{AreSeated}
-use Rattle.pas_same_text.specs.Told.{IsTold}
-use Rattle.pas_same_text.proofs.ActsOfPlans.{plan_acts, plan_region}
-use Rattle.pas_same_text.proofs.OneAct.{act_same}
-use Rattle.pas_same_text.proofs.SeatedActs.{seated_next}
-use Rattle.pas_same_text.proofs.Seats.{between_from}
-use Rattle.pas_same_text.proofs.SameIndexes.{start_indexes}
-use Rattle.pas_same_text.proofs.Stamped.{stamped_kept}
-use Rattle.pas_same_text.proofs.UsableBlocks.{act_usable}
-use Rattle.pas_same_text.proofs.WiderText.{wider_bytes_told}
-use Rattle.pas_same_text.proofs.WholeText.{start_same, start_usable, text_told}
+use Rattle.pas_same_text.proofs.{ActsOfPlans.plan_acts, ActsOfPlans.plan_region, OneAct.act_same, SeatedActs.seated_next, Seats.between_from}
+use Rattle.pas_same_text.proofs.{SameIndexes.start_indexes, Stamped.stamped_kept, UsableBlocks.act_usable, WiderText.wider_bytes_told, WholeText.start_same}
+use Rattle.pas_same_text.proofs.{WholeText.start_usable, WholeText.text_told}
 
 -- ---- one act
 -- what is so between two acts is so after the next

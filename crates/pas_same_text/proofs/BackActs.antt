@@ -1,46 +1,29 @@
 -- THE ACTS THAT GIVE BACK: flushes, stops, stops of idle threads, the close, and frees into any log.
-use Rattle.std.proofs.Common.{◌≡◌, ℕ, ◌+◌, ◌%◌, ◌≤◌, ◌==◌, nat_le, Bool, true, false, if◌then◌else◌, List, [], ◌∷◌, ◌++◌, length, Option, None, Some, inl, inr, refl, ap, sym, ◌∙◌, subst, append_assoc, arith, append-nil}
-use Rattle.std.proofs.lemmas.Bool.{false≢true, eq-eqb}
-use Rattle.std.proofs.lemmas.Bool.Decides.{nat_tests}
-use Rattle.std.proofs.lemmas.List.Elements.{All-nil}
-use Rattle.pas_profile.specs.Blocks.{address_of}
-use Rattle.pas_profile.specs.Profiles.{IsValid}
-use Rattle.pas_profile.specs.declared.name.Block.{Block}
-use Rattle.pas_profile.specs.declared.name.Name.{Name}
-use Rattle.pas_profile.specs.declared.profile.Profile.{Profile}
-use Rattle.pas_steps.specs.Events.{events_by}
-use Rattle.pas_steps.specs.Lists.{part, visible}
-use Rattle.pas_steps.specs.Views.{View}
+use Rattle.std.proofs.Common.{◌≡◌, ℕ, ◌+◌, ◌%◌, ◌≤◌, ◌==◌, nat_le, Bool, true, false, if◌then◌else◌, List, [], ◌∷◌, ◌++◌, length, Option, None, Some, inl, inr}
+use Rattle.std.proofs.Common.{refl, ap, sym, ◌∙◌, subst, append_assoc, arith, append-nil, eq-eqb}
+use Rattle.std.proofs.lemmas.{Bool.false≢true, Bool.Decides.nat_tests, List.Elements.All-nil}
+use Rattle.pas_profile.specs.{Blocks.address_of, Profiles.IsValid}
+use Rattle.pas_profile.specs.declared.{name.Block.Block, name.Name.Name, profile.Profile.Profile}
+use Rattle.pas_steps.specs.{Events.events_by, Lists.part, Lists.visible, Views.View}
 use Rattle.pas_steps.specs.declared.step.Made.{Made}
-use Rattle.pas_free_log.specs.Conditions.{IsEntryOf}
-use Rattle.pas_free_log.specs.Logs.{entry_of, sized_entry}
-use Rattle.pas_free_log.specs.declared.log.Entry.{Entry}
-use Rattle.pas_free_log.specs.declared.noting.EndedRun.{EndedRun}
-use Rattle.pas_cache.specs.Calls.{TakesEntry}
-use Rattle.pas_cache.specs.Changes.{LogsEntry, EmptiesFull}
-use Rattle.pas_cache.specs.Contents.{Cached}
+use Rattle.pas_free_log.specs.{Conditions.IsEntryOf, Logs.entry_of, Logs.sized_entry}
+use Rattle.pas_free_log.specs.declared.{log.Entry.Entry, noting.EndedRun.EndedRun}
+use Rattle.pas_cache.specs.{Calls.TakesEntry, Changes.LogsEntry, Changes.EmptiesFull, Contents.Cached}
 use Rattle.pas_guard.specs.declared.book.Guard.{Guard}
 use Rattle.pas_segregated.specs.declared.slots.Slots.{Slots}
-use Rattle.pas_report.specs.declared.record.Record.{Record}
-use Rattle.pas_report.specs.declared.record.Said.{Said as TheSaid}
-use Rattle.pas_report.specs.declared.record.Said.TheVariants as Said
-use Rattle.pas_trace.specs.Acts.{Act}
-use Rattle.pas_trace.specs.EveryPlan.{IsThread}
+use Rattle.pas_report.specs.declared.record.{Record.Record, Said.Said as TheSaid, Said.Said}
+use Rattle.pas_trace.specs.{Acts.Act, EveryPlan.IsThread}
 use Rattle.pas_trace.specs.declared.plan.What.TheVariants.{Free, FreeSized, Raw, RawSized, Flush, Stop}
-use Rattle.pas_answers.specs.Answers.{Progress, Named, named, Answer, having, suits, IsRemadeBy, IsFreed, IsFreedBy, IsFlushed, IsStopped, standing_for, records_of, said_by, with_records, with_steps, after_answer, after_stop, room_noted}
-use Rattle.pas_answers.specs.Answers.{with_cache as with_cached}
+use Rattle.pas_answers.specs.Answers.{Progress, Named, named, Answer, having, suits, IsRemadeBy, IsFreed, IsFreedBy, IsFlushed, IsStopped, standing_for}
+use Rattle.pas_answers.specs.Answers.{records_of, said_by, with_records, with_steps, after_answer, after_stop, room_noted, with_cache as with_cached}
 use Rattle.pas_one_text.specs.State.{World, Cache, cache_of, set_cache, log_of, says, names_it}
-use Rattle.pas_one_text.specs.Order.{keeps_block, replaces, remakes}
+use Rattle.pas_one_text.specs.{Order.keeps_block, Order.replaces, Order.remakes, Passes.stops_idle}
 use Rattle.pas_one_text.specs.Frees.{adds, frees, frees_what, frees_named, flushes, stops}
-use Rattle.pas_one_text.specs.Passes.{stops_idle}
 use Rattle.pas_same_text.specs.Same.{IsSame, IsSameCache}
 use Rattle.pas_same_text.specs.Acts.{HasBoth, IsResting, IsBetween, AreBlocksUsable, HasUsableBlocks, StaysSameWhere}
-use Rattle.pas_same_text.proofs.CacheLists.{same_own, same_with, same_again}
-use Rattle.pas_same_text.proofs.FlushActs.{flush_same}
-use Rattle.pas_same_text.proofs.Frames.{unchanged, pages_next}
+use Rattle.pas_same_text.proofs.{CacheLists.same_own, CacheLists.same_with, CacheLists.same_again, FlushActs.flush_same, Frames.unchanged, Frames.pages_next}
+use Rattle.pas_same_text.proofs.{SmallActs.says_same, SmallActs.cache_state, StopActs.stop_same}
 use Rattle.pas_same_text.proofs.LoggedFrees.{after_with, said_same, page_inside, freed_is, refused_same, skipped_same, freed_same}
-use Rattle.pas_same_text.proofs.SmallActs.{says_same, cache_state}
-use Rattle.pas_same_text.proofs.StopActs.{stop_same}
 
 -- ---- a replay of the same list, with the same caches
 same_between : (f : Profile) (p : Progress) (k : ℕ) (steps : List Made) (c : Cached) (names : List Named) (records : List Record) → IsBetween f (with_records (record (with_steps p k steps c) { names = names }) records) → IsBetween f (with_steps p k steps c)
@@ -191,7 +174,7 @@ module _ (f : Profile) (k : ℕ) (entry : Entry) (p : Progress) (w : World) (c' 
       let test : nat_le 64 (length (log_of w k)) ≡ true = ap (λ (es : List Entry). nat_le 64 (length es)) (same.caches.each k thread).log ∙ full in
       freed_is f k entry w true true inside (eq-eqb (address_of entry.name % 16) 0 takes.region.aligned) ∙ ap (λ (t : Bool). adds k entry (if t then flushes f k w else w)) test
 
-  pub full_same : IsSame f (after_with p k steps None p.names c') (frees f k entry w)
+  full_same : IsSame f (after_with p k steps None p.names c') (frees f k entry w)
   full_same = subst (λ (x : World). IsSame f (after_with p k steps None p.names c') x) (sym text) added
 
 module _ (f : Profile) (k : ℕ) (entry : Entry) (p : Progress) (w : World) (c' : Cached) (steps : List Made) (thread : IsThread f k) (valid : IsValid f) (before : IsBetween f p) (same : IsSame f p w) (usable : AreBlocksUsable (visible p.list))
@@ -212,7 +195,7 @@ module _ (f : Profile) (k : ℕ) (p p' : Progress) (w : World) (thread : IsThrea
   there : IsBetween f (with_steps p k a.steps a.cache)
   there = same_between f p k a.steps a.cache p.names (records_of (events_by k (part k p.list) a.steps) ++ said_by k a.said) (subst (IsBetween f) to after)
 
-  pub entry_any : (entry : Entry) → IsFreed f k (p.caches k) a.cache entry a.steps a.said → IsSame f p' (frees f k entry w)
+  entry_any : (entry : Entry) → IsFreed f k (p.caches k) a.cache entry a.steps a.said → IsSame f p' (frees f k entry w)
   entry_any entry freed = subst (λ (q : Progress). IsSame f q (frees f k entry w)) (sym to) (freed_any f k entry p w a.cache a.steps thread valid before same usable there a.said freed)
 
   named_by : (name : ℕ) (size : Option ℕ) (meant : Option (Option Block)) → IsFreedBy f k (p.caches k) a.cache name size meant a.steps a.said → IsSame f p' (frees_what f k name (room_noted size) meant w)
@@ -220,7 +203,7 @@ module _ (f : Profile) (k : ℕ) (p p' : Progress) (w : World) (thread : IsThrea
   named_by name size (Some None) freed = subst (λ (q : Progress). IsSame f q (says (Record.Said k (Said.Skipped name)) w)) (sym to) (skipped_same f k name p w a.cache a.steps a.said same freed.0 freed.1 freed.2)
   named_by name size (Some (Some block)) freed = entry_any (sized_entry block.name (room_noted size)) freed
 
-  pub name_any : (name : ℕ) (size : Option ℕ) → IsFreedBy f k (p.caches k) a.cache name size (standing_for p.names name) a.steps a.said → IsSame f p' (frees_named f k name (room_noted size) w)
+  name_any : (name : ℕ) (size : Option ℕ) → IsFreedBy f k (p.caches k) a.cache name size (standing_for p.names name) a.steps a.said → IsSame f p' (frees_named f k name (room_noted size) w)
   name_any name size freed = subst (λ (ns : List Named). IsSame f p' (frees_what f k name (room_noted size) (standing_for ns name) w)) (sym same.names) (named_by name size (standing_for p.names name) freed)
 
 pub raw_act : (f : Profile) (line k : ℕ) (block : Name) → IsThread f k → StaysSameWhere HasUsableBlocks f (Act.Operates (record { line = line; actor = k; what = Raw block }))

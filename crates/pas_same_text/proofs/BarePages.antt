@@ -1,29 +1,18 @@
 -- OUTER PAGES STAY BARE: whom nothing lets back a page, and what a keeper does that raises a guard.
-use Rattle.std.proofs.Common.{◌≡◌, ℕ, ◌/◌, ◌==◌, Bool, true, false, if◌then◌else◌, List, [], ◌∷◌, ◌++◌, inl, inr, ap, sym, ◌∙◌, subst, arith}
-use Rattle.std.proofs.lemmas.Bool.{true≢false, cases_Bool, eqb-true, eq-eqb}
-use Rattle.pas_profile.specs.Layouts.{same_word}
-use Rattle.pas_profile.specs.Profiles.{IsValid}
-use Rattle.pas_profile.specs.declared.profile.Profile.{Profile}
-use Rattle.pas_profile.specs.declared.word.Word.TheVariants as Word
+use Rattle.std.proofs.Common.{◌≡◌, ℕ, ◌/◌, ◌==◌, Bool, true, false, if◌then◌else◌, List, [], ◌∷◌, ◌++◌, inl, inr, ap, sym, ◌∙◌, subst, arith, true≢false}
+use Rattle.std.proofs.Common.{eqb-true, eq-eqb}
+use Rattle.std.proofs.lemmas.Bool.{cases_Bool}
+use Rattle.pas_profile.specs.{Layouts.same_word, Profiles.IsValid}
+use Rattle.pas_profile.specs.declared.{profile.Profile.Profile, word.Word.Word}
 use Rattle.pas_machine.specs.State.{backed_in}
-use Rattle.pas_steps.specs.Allowed.{Allowed}
-use Rattle.pas_steps.specs.Desks.{triples}
-use Rattle.pas_steps.specs.Effects.{target, new_value}
+use Rattle.pas_steps.specs.{Allowed.Allowed, Desks.triples, Effects.target, Effects.new_value, Past.Since, Views.View, Views.holds, Views.epoch_of}
 use Rattle.pas_steps.specs.Kinds.{Kinds, Backing, Only, is_in, kind_of}
 use Rattle.pas_steps.specs.Lists.{Whole, part, word_after, visible, Legal}
-use Rattle.pas_steps.specs.Past.{Since}
-use Rattle.pas_steps.specs.Views.{View, holds, epoch_of}
-use Rattle.pas_steps.specs.declared.step.Made.{Made}
-use Rattle.pas_steps.specs.declared.step.Step.{Step}
-use Rattle.pas_steps.specs.declared.step.Step.TheVariants.{Look, Back, Unback}
+use Rattle.pas_steps.specs.declared.step.{Made.Made, Step.Step, Step.TheVariants.Look, Step.TheVariants.Back, Step.TheVariants.Unback}
 use Rattle.pas_steps.proofs.Parts.{part_of_others}
 use Rattle.pas_core.specs.Good.{word_of_backed}
-use Rattle.pas_core.proofs.Deeds.{looked}
-use Rattle.pas_core.proofs.Grains.{one_holder}
-use Rattle.pas_core.proofs.MachineRuns.{agrees}
-use Rattle.pas_guard.specs.Evidence.{BackedReadHere}
-use Rattle.pas_guard.specs.Raises.{BacksNot}
-use Rattle.pas_guard.specs.Seeks.{LeftSince}
+use Rattle.pas_core.proofs.{Deeds.looked, Grains.one_holder, MachineRuns.agrees}
+use Rattle.pas_guard.specs.{Evidence.BackedReadHere, Raises.BacksNot, Seeks.LeftSince}
 
 -- ---- one step: only a back makes a page that isn't backed a backed one
 stays_bare : (e : ℕ) (s : Step) (page old : ℕ) → (s ≡ Back page → ⊥) → old ≡ 0 → (if same_word (target s) (Word.Backed page) then new_value e s old else old) ≡ 0

@@ -1,31 +1,21 @@
 -- WHERE A BIT-FIT BLOCK FITS on a page: in the text exactly where it does by the free grains of the replay.
-use Rattle.std.proofs.Common.{◌≡◌, ℕ, suc, ◌+◌, ◌*◌, ◌/◌, ◌%◌, ◌<◌, ◌≤◌, ◌==◌, nat_le, nat_lt, Bool, true, false, not, ◌&&◌, ◌||◌, [], ◌∷◌, refl, ap, sym, ◌∙◌, arith}
-use Rattle.std.proofs.lemmas.Bool.{true≢false, eq-eqb, eqb-true, and_from, false_from_ne_true}
-use Rattle.std.proofs.lemmas.Bool.Decides.{nat_tests}
-use Rattle.std.proofs.lemmas.Nat.{div_below, mul-le}
-use Rattle.std.proofs.Math.Nat.{mul-mod_left, mod-add-div', suc-mul}
+use Rattle.std.proofs.Common.{◌≡◌, ℕ, suc, ◌+◌, ◌*◌, ◌/◌, ◌%◌, ◌<◌, ◌≤◌, ◌==◌, nat_le, nat_lt, Bool, true, false, not, ◌&&◌, ◌||◌, [], ◌∷◌, refl, ap, sym, ◌∙◌}
+use Rattle.std.proofs.Common.{arith, true≢false, eq-eqb, eqb-true}
+use Rattle.std.proofs.{lemmas.Bool.and_from, lemmas.Bool.false_from_ne_true, lemmas.Bool.Decides.nat_tests, lemmas.Nat.div_below, lemmas.Nat.mul-le}
+use Rattle.std.proofs.{Math.Nat.mul-mod_left, Math.Nat.mod-add-div', Math.Nat.suc-mul}
 use Rattle.std.specs.List.{list_any, filter}
-use Rattle.pas_profile.specs.Classes.{IsAlignment}
-use Rattle.pas_profile.specs.Profiles.{IsValid}
+use Rattle.pas_profile.specs.{Classes.IsAlignment, Profiles.IsValid}
 use Rattle.pas_profile.specs.declared.profile.Profile.{Profile}
 use Rattle.pas_profile.proofs.Sizes.{passes_below, passes_at}
 use Rattle.pas_steps.specs.Evidence.{Readings}
 use Rattle.pas_core.specs.Rights.{free_of_page}
-use Rattle.pas_bitfit.specs.Allocates.{run_for}
-use Rattle.pas_bitfit.specs.Runs.{Fits, NoneFits, IsLowestFit}
+use Rattle.pas_bitfit.specs.{Allocates.run_for, Runs.Fits, Runs.NoneFits, Runs.IsLowestFit}
 use Rattle.pas_answers.specs.Answers.{Progress}
-use Rattle.pas_one_text.specs.State.{World}
-use Rattle.pas_one_text.specs.Pages.{is_free, are_free, is_guarded}
-use Rattle.pas_one_text.specs.Searches.{some_of}
-use Rattle.pas_one_text.specs.Classes.{spaced}
-use Rattle.pas_one_text.specs.Runs.{lowest_place}
-use Rattle.pas_same_text.specs.Same.{HasSame}
-use Rattle.pas_same_text.specs.Acts.{IsBetween}
-use Rattle.pas_same_text.specs.Searched.{FitsSame}
-use Rattle.pas_same_text.proofs.FreeGrains.{bit_unguarded, bit_read, read_unless}
-use Rattle.pas_same_text.proofs.GivenBack.{each_at, each_all}
+use Rattle.pas_one_text.specs.{State.World, Pages.is_free, Pages.are_free, Pages.is_guarded, Searches.some_of, Classes.spaced, Runs.lowest_place}
+use Rattle.pas_same_text.specs.{Same.HasSame, Acts.IsBetween, Searched.FitsSame}
+use Rattle.pas_same_text.proofs.{FreeGrains.bit_unguarded, FreeGrains.bit_read, FreeGrains.read_unless, GivenBack.each_at, GivenBack.each_all, Tests.and_first}
+use Rattle.pas_same_text.proofs.{Tests.and_second}
 use Rattle.pas_same_text.proofs.SpacedPlaces.{some_first, some_filtered, in_spaced, from_spaced, first_spaced}
-use Rattle.pas_same_text.proofs.Tests.{and_first, and_second}
 
 -- ---- an alignment splits a page
 abbrev splits : ℕ → Bool
@@ -37,7 +27,7 @@ splits_all = refl
 or_last : (x y z : Bool) → (x || not y || z) ≡ true → x ≡ false → y ≡ true → z ≡ true
 or_last x y z h hx hy = grind arith
 
-pub page_splits : (align : ℕ) → IsAlignment align → 256 / (align / 16) * (align / 16) ≡ 256
+page_splits : (align : ℕ) → IsAlignment align → 256 / (align / 16) * (align / 16) ≡ 256
 page_splits align is =
     let low = is.0 in let high = is.1 in
     eqb-true (256 / (align / 16) * (align / 16)) 256
@@ -80,12 +70,9 @@ module _ (f : Profile) (p : Progress) (w : World) (valid : IsValid f) (between :
   -- an aligned grain at which a block begins is one of them
   place_there : (page g : ℕ) → Fits (run_for room align) (free_of_page p.list page) g → list_any (test page) (spaced 0 step (256 / step)) ≡ true
   place_there page g fits =
-      let aligned = fits.aligned in
-      let within = fits.within in
-      let times : g / step * step ≡ g = let m = mod-add-div' g step in omega (arith, m, aligned) in
+      let times : g / step * step ≡ g = let m = mod-add-div' g step in omega (arith, m, fits.aligned) in
       let whole : 256 / step * step ≡ 256 = page_splits align is in
-      let low = is.0 in
-      let lt : g / step < 256 / step = div_below g step (256 / step) (omega (arith, low)) (omega (arith, whole, within, some)) in
+      let lt : g / step < 256 / step = div_below g step (256 / step) (omega (arith, is.0)) (omega (arith, whole, fits.within, some)) in
       in_spaced (test page) (256 / step) 0 step (g / step) lt (ap (test page) (omega (arith, times)) ∙ fits_test page g fits)
 
   pub bitfit_fits : FitsSame (NoneFits (run_for room align)) f p w (lowest_place w n step)
@@ -103,12 +90,9 @@ module _ (f : Profile) (p : Progress) (w : World) (valid : IsValid f) (between :
   -- THE PLACE: where the lowest run among some readings is free, and what is free was read as free, it is the one of the text
   pub lowest_is : (page first : ℕ) (r : Readings) → IsLowestFit (run_for room align) r first → ((b : ℕ) → b < 256 → free_of_page p.list page b ≡ true → r b ≡ true) → Fits (run_for room align) (free_of_page p.list page) first → lowest_place w n step page ≡ first ∷ []
   lowest_is page first r lowest more fits =
-      let aligned = fits.aligned in
-      let within = fits.within in
-      let times : first / step * step ≡ first = let m = mod-add-div' first step in omega (arith, m, aligned) in
+      let times : first / step * step ≡ first = let m = mod-add-div' first step in omega (arith, m, fits.aligned) in
       let whole : 256 / step * step ≡ 256 = page_splits align is in
-      let low = is.0 in
-      let lt : first / step < 256 / step = div_below first step (256 / step) (omega (arith, low)) (omega (arith, whole, within, some)) in
+      let lt : first / step < 256 / step = div_below first step (256 / step) (omega (arith, is.0)) (omega (arith, whole, fits.within, some)) in
       first_spaced (test page) (256 / step) 0 step (first / step) lt (ap (test page) (omega (arith, times)) ∙ fits_test page first fits) (λ j small. lower j small times) ∙ ap (λ (x : ℕ). x ∷ []) (omega (arith, times))
     where
       lower : (j : ℕ) → j < first / step → first / step * step ≡ first → test page (0 + j * step) ≡ false

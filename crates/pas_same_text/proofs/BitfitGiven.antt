@@ -1,86 +1,52 @@
 -- A BIT-FIT REQUEST THAT IS SERVED: the page that was searched for gets a deed and memory where it has none, and the lowest place on it is given.
-use Rattle.std.proofs.Common.{◌≡◌, ◌≢◌, ℕ, ◌+◌, ◌*◌, ◌/◌, ◌%◌, ◌<◌, ◌≤◌, ◌==◌, Bool, true, false, not, ◌&&◌, ◌||◌, if◌then◌else◌, List, [], ◌∷◌, ◌++◌, Option, None, Some, Result, Ok, ◌⊎◌, inl, inr, refl, ap, sym, ◌∙◌, subst, arith, append_assoc, append-nil}
-use Rattle.std.proofs.lemmas.Bool.{true≢false, false≢true, eq-eqb, false_from_ne_true}
+use Rattle.std.proofs.Common.{◌≡◌, ◌≢◌, ℕ, ◌+◌, ◌*◌, ◌/◌, ◌%◌, ◌<◌, ◌≤◌, ◌==◌, Bool, true, false, not, ◌&&◌, ◌||◌, if◌then◌else◌, List, [], ◌∷◌, ◌++◌, Option}
+use Rattle.std.proofs.Common.{None, Some, Result, Ok, ◌⊎◌, inl, inr, refl, ap, sym, ◌∙◌, subst, arith, append_assoc, append-nil, true≢false, eq-eqb}
+use Rattle.std.proofs.lemmas.Bool.{false≢true, false_from_ne_true}
 use Rattle.std.specs.List.{flat_map, filter}
-use Rattle.pas_bits.specs.Bits.{has_bit}
-use Rattle.pas_bits.specs.Runs.{in_run, meets_page}
+use Rattle.pas_bits.specs.{Bits.has_bit, Runs.in_run, Runs.meets_page}
 use Rattle.pas_bits.proofs.Runs.{run_of, to_run}
-use Rattle.pas_profile.specs.Blocks.{address_of, grain_of, length_of}
-use Rattle.pas_profile.specs.Directories.{number_of, deed_word_of}
+use Rattle.pas_profile.specs.{Blocks.address_of, Blocks.grain_of, Blocks.length_of, Directories.number_of, Directories.deed_word_of}
 use Rattle.pas_profile.specs.Profiles.{IsValid, IsAdmitted, IsPage, IsDirectoryOf}
 use Rattle.pas_profile.specs.Requests.{route_in, room_in, is_shared, kind_of_route, directory_for}
-use Rattle.pas_profile.specs.declared.directory.Directory.{Directory}
-use Rattle.pas_profile.specs.declared.directory.Route.{Route}
-use Rattle.pas_profile.specs.declared.event.Event.{Event}
-use Rattle.pas_profile.specs.declared.event.NoRoom.{NoRoom}
-use Rattle.pas_profile.specs.declared.name.Block.{Block}
-use Rattle.pas_profile.specs.declared.profile.Profile.{Profile}
+use Rattle.pas_profile.specs.declared.{directory.Directory.Directory, directory.Route.Route, event.Event.Event, event.NoRoom.NoRoom, name.Block.Block}
+use Rattle.pas_profile.specs.declared.{profile.Profile.Profile}
 use Rattle.pas_machine.specs.Machine.{Run}
 use Rattle.pas_machine.specs.State.{Live, live_in, deed_in, gives_in}
-use Rattle.pas_steps.specs.Agreement.{Agreed}
-use Rattle.pas_steps.specs.Calls.{Kept, Gained}
-use Rattle.pas_steps.specs.Calls.{now as has_now}
-use Rattle.pas_steps.specs.Desks.{triples}
-use Rattle.pas_steps.specs.Effects.{free_word_at}
-use Rattle.pas_steps.specs.Events.{events_by}
-use Rattle.pas_steps.specs.Evidence.{Readings}
+use Rattle.pas_steps.specs.{Agreement.Agreed, Calls.Kept, Calls.Gained, Calls.now as has_now, Desks.triples, Effects.free_word_at, Events.events_by}
+use Rattle.pas_steps.specs.{Evidence.Readings, Past.Always, Views.View, Views.has_right, Views.known_deed}
 use Rattle.pas_steps.specs.Kinds.{Only, Giving, LookLife, returning}
 use Rattle.pas_steps.specs.Lists.{Whole, part, word_after, visible, Legal}
-use Rattle.pas_steps.specs.Past.{Always}
-use Rattle.pas_steps.specs.Views.{View, has_right, known_deed}
-use Rattle.pas_steps.specs.declared.step.Made.{Made}
-use Rattle.pas_steps.specs.declared.step.Step.TheVariants.{Offer, Unpark, Hint}
-use Rattle.pas_steps.proofs.Adding.{triples_append}
-use Rattle.pas_steps.proofs.Parts.{part_of_own}
+use Rattle.pas_steps.specs.declared.step.{Made.Made, Step.TheVariants.Offer, Step.TheVariants.Unpark, Step.TheVariants.Hint}
+use Rattle.pas_steps.proofs.{Adding.triples_append, Parts.part_of_own, Calls.returns_are}
 use Rattle.pas_core.specs.Rights.{empty_bit, eligible_bit, free_of_page}
-use Rattle.pas_core.proofs.MachineRuns.{runs}
-use Rattle.pas_core.proofs.Nexts.{agreed_steps}
+use Rattle.pas_core.proofs.{MachineRuns.runs, Nexts.agreed_steps, Rights.right_not_offered}
 use Rattle.pas_core.proofs.OneActor.{LendsNone, lends_none, legal_earlier, fit_entry}
-use Rattle.pas_core.proofs.Rights.{right_not_offered}
 use Rattle.pas_rights.specs.Gives.{give_steps}
-use Rattle.pas_rights.proofs.Hints.{leave_due}
-use Rattle.pas_rights.proofs.Orders.{leave_returns}
-use Rattle.pas_steps.proofs.Calls.{returns_are}
-use Rattle.pas_search.specs.Kinds.{IsReturnOf, KeepsMarks, searching}
-use Rattle.pas_search.specs.Searches.{MaySearch}
+use Rattle.pas_rights.proofs.{Hints.leave_due, Orders.leave_returns}
+use Rattle.pas_search.specs.{Kinds.IsReturnOf, Kinds.KeepsMarks, Kinds.searching, Searches.MaySearch}
 use Rattle.pas_choice.specs.Allocates.{IsGiven}
 use Rattle.pas_bitfit.specs.Allocates.{run_for}
-use Rattle.pas_bitfit.specs.Runs.{Fits, NoneFits, IsLowestFit, fewer_runs, run_at}
-use Rattle.pas_bitfit.specs.Runs.{runs as run_choice}
-use Rattle.pas_cache.specs.Contents.{Cached}
-use Rattle.pas_cache.specs.Kinds.{allocating}
-use Rattle.pas_cache.specs.Serves.{ServesBitfit, ServesBy, wanted_for}
+use Rattle.pas_bitfit.specs.Runs.{Fits, NoneFits, IsLowestFit, fewer_runs, run_at, runs as run_choice}
+use Rattle.pas_cache.specs.{Contents.Cached, Kinds.allocating, Serves.ServesBitfit, Serves.ServesBy, Serves.wanted_for}
 use Rattle.pas_cache.proofs.Routes.{bitfit_room, may_search_bitfit}
-use Rattle.pas_report.specs.declared.record.Record.{Record}
-use Rattle.pas_report.specs.declared.record.Said.{Said as TheSaid}
+use Rattle.pas_report.specs.declared.record.{Record.Record, Said.Said as TheSaid}
 use Rattle.pas_trace.specs.EveryPlan.{IsThread}
-use Rattle.pas_answers.specs.Answers.{Progress, Named, named, Answer, having, IsServed, after_answer, records_of, said_of_request}
-use Rattle.pas_answers.specs.Answers.{block_of as block_answered}
+use Rattle.pas_answers.specs.Answers.{Progress, Named, named, Answer, having, IsServed, after_answer, records_of, said_of_request, block_of as block_answered}
 use Rattle.pas_answers.specs.Answers.{with_cache as with_cached}
-use Rattle.pas_one_text.specs.State.{World, Local, Cache}
+use Rattle.pas_one_text.specs.{State.World, State.Local, State.Cache, Order.serves}
 use Rattle.pas_one_text.specs.Pages.{is_covered, is_free_of, is_free, is_cached, locals_on, is_offered}
 use Rattle.pas_one_text.specs.Searches.{searched, readies, address_on, gives}
 use Rattle.pas_one_text.specs.Runs.{bitfit_of, lowest_place, gives_place, places}
-use Rattle.pas_one_text.specs.Order.{serves}
-use Rattle.pas_same_text.specs.Same.{IsSame, HasSame, AreSameCaches}
-use Rattle.pas_same_text.specs.Acts.{IsBetween}
-use Rattle.pas_same_text.specs.Searched.{IsSearch}
-use Rattle.pas_same_text.specs.Words.{free_bit}
-use Rattle.pas_same_text.proofs.BitfitFits.{bitfit_fits, lowest_is}
-use Rattle.pas_same_text.proofs.CachedSlots.{block_of, block_same}
-use Rattle.pas_same_text.proofs.CacheLists.{same_kept}
-use Rattle.pas_same_text.proofs.FlushActs.{events_recorded}
-use Rattle.pas_same_text.proofs.Flushes.{visible_steps, given_lives}
-use Rattle.pas_same_text.proofs.OuterPages.{guards_as, still_unguarded}
-use Rattle.pas_same_text.proofs.GivingBack.{HintsPage, OffersPage, IsMarked, once_parts, none_marked, returns_marked, hint_marks, offer_marks, offered_by, hints_of, hint_read, epoch_stays_by, marked_left}
-use Rattle.pas_same_text.proofs.LoggedFrees.{after_with}
-use Rattle.pas_same_text.proofs.ReadyPages.{AllAtPage, shown, shown_events, shown_records, shown_lives, shown_rest, search_at, same_live, deed_beside, given_ready}
-use Rattle.pas_same_text.proofs.SearchedMarks.{IsSearchedTo, hints_kept, offers_kept}
-use Rattle.pas_same_text.proofs.SearchedPages.{offered_chosen, deed_chosen}
-use Rattle.pas_same_text.proofs.SearchMarks.{free_shown}
-use Rattle.pas_same_text.proofs.StopSteps.{ReadsRoom, leave_room}
-use Rattle.pas_same_text.proofs.RoomsRead.{read_offered, never_read}
-use Rattle.pas_same_text.proofs.FreeGrains.{free_uncovered}
+use Rattle.pas_same_text.specs.{Same.IsSame, Same.HasSame, Same.AreSameCaches, Acts.IsBetween, Searched.IsSearch, Words.free_bit}
+use Rattle.pas_same_text.proofs.{BitfitFits.bitfit_fits, BitfitFits.lowest_is, CachedSlots.block_of, CachedSlots.block_same, CacheLists.same_kept}
+use Rattle.pas_same_text.proofs.{FlushActs.events_recorded, Flushes.visible_steps, Flushes.given_lives, OuterPages.guards_as, OuterPages.still_unguarded}
+use Rattle.pas_same_text.proofs.{LoggedFrees.after_with, SearchedMarks.IsSearchedTo, SearchedMarks.hints_kept, SearchedMarks.offers_kept}
+use Rattle.pas_same_text.proofs.{SearchedPages.offered_chosen, SearchedPages.deed_chosen, SearchMarks.free_shown, StopSteps.ReadsRoom, StopSteps.leave_room}
+use Rattle.pas_same_text.proofs.{RoomsRead.read_offered, RoomsRead.never_read, FreeGrains.free_uncovered}
+use Rattle.pas_same_text.proofs.GivingBack.{HintsPage, OffersPage, IsMarked, once_parts, none_marked, returns_marked, hint_marks, offer_marks, offered_by}
+use Rattle.pas_same_text.proofs.GivingBack.{hints_of, hint_read, epoch_stays_by, marked_left}
+use Rattle.pas_same_text.proofs.ReadyPages.{AllAtPage, shown, shown_events, shown_records, shown_lives, shown_rest, search_at, same_live, deed_beside}
+use Rattle.pas_same_text.proofs.ReadyPages.{given_ready}
 
 -- the page that serves isn't hinted by the search
 pub not_hinted : (page : ℕ) (xs : List Made) → Always (KeepsMarks page) xs → HintsPage page xs → ⊥
@@ -201,7 +167,7 @@ module _ (f : Profile) (k name heap size align : ℕ) (p p' : Progress) (w : Wor
   sized = bitfit_room f.classes size align route
 
   some : 1 ≤ n
-  some = let low = sized.0 in omega (arith, low)
+  some = omega (arith, sized.0)
 
   within : first + n ≤ 256
   within = lowest.this.within
@@ -222,10 +188,10 @@ module _ (f : Profile) (k name heap size align : ℕ) (p p' : Progress) (w : Wor
       ap (λ (x : ℕ). x / 16) of_room ∙ whole
 
   covers : (b : ℕ) → first ≤ b → b < first + n → in_run (grain_of block.name) (length_of block) (256 * page + b) ≡ true
-  covers b low high = let g = grain in let m = long in to_run (grain_of block.name) (length_of block) (256 * page + b) (omega (arith, low, g)) (omega (arith, high, g, m))
+  covers b low high = to_run (grain_of block.name) (length_of block) (256 * page + b) (omega (arith, low, grain)) (omega (arith, high, grain, long))
 
   ready : readies k d page w ≡ shown es w
-  ready = let end = within in let one = some in let m = long in given_ready k d page f es w k block first at run (omega (arith, end, one)) grain (omega (arith, m, one))
+  ready = given_ready k d page f es w k block first at run (omega (arith, within, some)) grain (omega (arith, long, some))
 
   -- ---- what was free
   old : HasSame f p w
@@ -290,7 +256,7 @@ module _ (f : Profile) (k name heap size align : ℕ) (p p' : Progress) (w : Wor
   block_is = block_same block (address_on page first) (gives_in (shown es w).events (address_on page first)) bytes heap
       address
       (run.0.turn ∙ (ap (λ (xs : List Event). gives_in xs (address_of block.name)) (sym (shown_events es w)) ∙ ap (gives_in (shown es w).events) address))
-      (let of_room : block.room ≡ n * 16 = ap (λ (b : Block). b.room) given.block_is in let whole = sized.2 in omega (arith, of_room, whole))
+      (let of_room : block.room ≡ n * 16 = ap (λ (b : Block). b.room) given.block_is in omega (arith, of_room, sized.2))
       (ap (λ (b : Block). b.heap) given.block_is)
 
   same_now : HasSame f q v
@@ -365,7 +331,7 @@ module _ (f : Profile) (k name heap size align : ℕ) (p p' : Progress) (w : Wor
 
   -- no look of the leave reads the first grain as free
   taken : (xs : List Made) → Legal f (triples k xs ++ base) → Only returning xs → free_bit (triples k xs ++ base) (256 * page + first) ≡ true → ⊥
-  taken xs legal only free = let one = some in free_uncovered f (triples k xs ++ base) valid legal (256 * page + first) free (address_of block.name) live (lives xs only) (covers first (omega arith) (omega (arith, one)))
+  taken xs legal only free = free_uncovered f (triples k xs ++ base) valid legal (256 * page + first) free (address_of block.name) live (lives xs only) (covers first (omega arith) (omega (arith, some)))
 
   own_hint : HintsPage page (rest ++ search) → empty_bit l page ≡ true
   own_hint h = absurd (elim (once_parts (λ m. m.step ≡ Hint page) rest search h) [

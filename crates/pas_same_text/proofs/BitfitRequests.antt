@@ -4,47 +4,27 @@ use Rattle.std.proofs.lemmas.Bool.{false≢true, false_from_ne_true}
 use Rattle.std.specs.List.{find}
 use Rattle.pas_profile.specs.Profiles.{IsValid, IsAdmitted, IsDirectoryOf}
 use Rattle.pas_profile.specs.Requests.{route_in, room_in, is_shared, kind_of_route, directory_for}
-use Rattle.pas_profile.specs.declared.directory.Directory.{Directory}
-use Rattle.pas_profile.specs.declared.directory.Route.{Route}
-use Rattle.pas_profile.specs.declared.event.NoRoom.{NoRoom}
-use Rattle.pas_profile.specs.declared.name.Block.{Block}
-use Rattle.pas_profile.specs.declared.profile.Profile.{Profile}
+use Rattle.pas_profile.specs.declared.{directory.Directory.Directory, directory.Route.Route, event.NoRoom.NoRoom, name.Block.Block, profile.Profile.Profile}
 use Rattle.pas_machine.specs.State.{deed_in}
-use Rattle.pas_steps.specs.Desks.{triples}
-use Rattle.pas_steps.specs.Evidence.{Readings}
-use Rattle.pas_steps.specs.Lists.{part, Legal}
+use Rattle.pas_steps.specs.{Desks.triples, Evidence.Readings, Lists.part, Lists.Legal}
 use Rattle.pas_steps.specs.declared.step.Made.{Made}
 use Rattle.pas_core.specs.Fits.{HasNoFit}
-use Rattle.pas_bitfit.specs.Allocates.{run_for}
-use Rattle.pas_bitfit.specs.Runs.{NoneFits}
-use Rattle.pas_search.specs.Kinds.{AreSearch, AreQuiet}
-use Rattle.pas_search.specs.Telling.{IsTrueReason}
-use Rattle.pas_cache.specs.Contents.{Cached}
-use Rattle.pas_cache.specs.Refusals.{IsTrulyRefusedBy}
+use Rattle.pas_bitfit.specs.{Allocates.run_for, Runs.NoneFits}
+use Rattle.pas_search.specs.{Kinds.AreSearch, Kinds.AreQuiet, Telling.IsTrueReason}
+use Rattle.pas_cache.specs.{Contents.Cached, Refusals.IsTrulyRefusedBy}
 use Rattle.pas_cache.specs.Serves.{ServesBitfit, ServesBy, IsTrueRefusal, no_fit_by, wanted_for}
-use Rattle.pas_cache.proofs.Alone.{truly_refused}
-use Rattle.pas_cache.proofs.Routes.{bitfit_room}
+use Rattle.pas_cache.proofs.{Alone.truly_refused, Routes.bitfit_room}
 use Rattle.pas_report.specs.declared.record.Said.{Said as TheSaid}
-use Rattle.pas_trace.specs.Acts.{Act}
-use Rattle.pas_trace.specs.EveryPlan.{IsThread}
+use Rattle.pas_trace.specs.{Acts.Act, EveryPlan.IsThread}
 use Rattle.pas_trace.specs.declared.plan.What.TheVariants.{Alloc}
-use Rattle.pas_answers.specs.Answers.{Progress, Named, named, Answer, having, IsServed, after_answer, said_of_room, said_of_request}
-use Rattle.pas_answers.specs.Answers.{block_of as block_answered}
-use Rattle.pas_one_text.specs.State.{World}
-use Rattle.pas_one_text.specs.Pages.{page_numbers, is_unowned, is_offered}
+use Rattle.pas_answers.specs.Answers.{Progress, Named, named, Answer, having, IsServed, after_answer, said_of_room, said_of_request, block_of as block_answered}
+use Rattle.pas_one_text.specs.{State.World, Pages.page_numbers, Pages.is_unowned, Pages.is_offered, Runs.bitfit_of, Runs.lowest_place, Runs.places}
+use Rattle.pas_one_text.specs.{Order.serves}
 use Rattle.pas_one_text.specs.Searches.{some_of, page_or, refusal, refuses, searched}
-use Rattle.pas_one_text.specs.Runs.{bitfit_of, lowest_place, places}
-use Rattle.pas_one_text.specs.Order.{serves}
-use Rattle.pas_same_text.specs.Same.{IsSame, HasSame, ArePagesSame}
-use Rattle.pas_same_text.specs.Acts.{IsBetween, StaysSame}
-use Rattle.pas_same_text.specs.Searched.{FitsSame}
-use Rattle.pas_same_text.proofs.BitfitFits.{bitfit_fits}
-use Rattle.pas_same_text.proofs.BitfitGiven.{bitfit_served}
-use Rattle.pas_same_text.proofs.LoggedFrees.{after_with}
-use Rattle.pas_same_text.proofs.RefusedRequests.{refused_to, refused_same}
+use Rattle.pas_same_text.specs.{Same.IsSame, Same.HasSame, Same.ArePagesSame, Acts.IsBetween, Acts.StaysSame, Searched.FitsSame}
+use Rattle.pas_same_text.proofs.{BitfitFits.bitfit_fits, BitfitGiven.bitfit_served, LoggedFrees.after_with, RefusedRequests.refused_to}
+use Rattle.pas_same_text.proofs.{RefusedRequests.refused_same, SearchedPages.find_none, Tests.and_first, Tests.and_second}
 use Rattle.pas_same_text.proofs.RestingPages.{open_unguarded, had_open, owned_is, no_word}
-use Rattle.pas_same_text.proofs.SearchedPages.{find_none}
-use Rattle.pas_same_text.proofs.Tests.{and_first, and_second}
 
 -- ---- where no page serves in the replay, none does in the text
 module _ (no_fit : Readings → Type 0) (f : Profile) (d : Directory) (p : Progress) (w : World) (fits : ℕ → List ℕ) (legal : Legal f p.list) (of : IsDirectoryOf f d) (pages : ArePagesSame f p.list w) (same : FitsSame no_fit f p w fits) (none : HasNoFit no_fit f d p.list) where

@@ -1,12 +1,12 @@
 -- Lists of caches, of which one becomes another.
 use Rattle.std.proofs.Common.{◌≡◌, ℕ, suc, ◌-◌, ◌≤◌, ◌≢◌, ◌==◌, Bool, true, false, if◌then◌else◌, List, [], ◌∷◌, ◌++◌, length, refl, ap, sym, ◌∙◌, subst, arith}
-use Rattle.std.proofs.lemmas.Bool.{eq-eqb, eqb-true, ne_eqb, eqb-false}
+use Rattle.std.proofs.Common.{eq-eqb, eqb-true, ne_eqb}
+use Rattle.std.proofs.lemmas.Bool.{eqb-false}
 use Rattle.std.specs.List.{flat_map}
 use Rattle.pas_profile.specs.declared.profile.Profile.{Profile}
 use Rattle.pas_cache.specs.Contents.{Cached}
 use Rattle.pas_trace.specs.EveryPlan.{IsThread}
-use Rattle.pas_answers.specs.Answers.{Caches}
-use Rattle.pas_answers.specs.Answers.{with_cache as with_cached}
+use Rattle.pas_answers.specs.Answers.{Caches, with_cache as with_cached}
 use Rattle.pas_one_text.specs.State.{Local, Cache, cache_in, with_cache}
 use Rattle.pas_same_text.specs.Same.{IsSameCache, AreSameCaches}
 
@@ -42,7 +42,7 @@ other_at c cs j k new true false e h ne more = ap (λ (t : Bool). if t then new 
 other_at c cs j k new false true e h ne more = ap (λ (t : Bool). if t then c else cache_in (with_cache cs (k - 1) new) (j - 1)) h
 other_at c cs j k new false false e h ne more = ap (λ (t : Bool). if t then c else cache_in (with_cache cs (k - 1) new) (j - 1)) h ∙ more refl refl
 
-pub other_with : (cs : List Cache) (j k : ℕ) (new : Cache) → 1 ≤ j → 1 ≤ k → j ≢ k → cache_in (with_cache cs k new) j ≡ cache_in cs j
+other_with : (cs : List Cache) (j k : ℕ) (new : Cache) → 1 ≤ j → 1 ≤ k → j ≢ k → cache_in (with_cache cs k new) j ≡ cache_in cs j
 other_with [] j k new one some ne = refl
 other_with (c ∷ cs) j k new one some ne = other_at c cs j k new (k == 1) (j == 1) refl refl ne (λ h e.
     let jn : j ≢ 1 = eqb-false j 1 h in
@@ -64,7 +64,7 @@ locals_with (c ∷ cs) k new is = locals_at c cs k new (k == 1) refl is (locals_
 pub same_own : (caches : Caches) (k : ℕ) (c : Cached) → with_cached caches k c k ≡ c
 same_own caches k c = ap (λ (b : Bool). if b then c else caches k) (eq-eqb k k refl)
 
-pub same_other : (caches : Caches) (j k : ℕ) (c : Cached) → j ≢ k → with_cached caches k c j ≡ caches j
+same_other : (caches : Caches) (j k : ℕ) (c : Cached) → j ≢ k → with_cached caches k c j ≡ caches j
 same_other caches j k c ne = ap (λ (b : Bool). if b then c else caches j) (ne_eqb j k ne)
 
 each_with : (f : Profile) (caches : Caches) (own : List Cache) (j k : ℕ) (c : Cached) (new : Cache) → IsThread f j → IsThread f k → AreSameCaches f caches own → IsSameCache c new → (t : Bool) → (j == k) ≡ t

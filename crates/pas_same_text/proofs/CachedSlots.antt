@@ -1,62 +1,40 @@
 -- A request of a class for which the thread's cache has a slot.
-use Rattle.std.proofs.Common.{◌≡◌, ℕ, ◌+◌, ◌*◌, ◌<◌, ◌==◌, Bool, true, false, not, ◌&&◌, if◌then◌else◌, List, [], ◌∷◌, ◌++◌, Option, None, Some, Result, Ok, Err, inl, inr, refl, ap, sym, ◌∙◌, subst, arith, append-nil}
-use Rattle.std.proofs.lemmas.Bool.{eqb-true, false≢true}
-use Rattle.std.proofs.lemmas.Option.{same_Some, none-some}
+use Rattle.std.proofs.Common.{◌≡◌, ℕ, ◌+◌, ◌*◌, ◌<◌, ◌==◌, Bool, true, false, not, ◌&&◌, if◌then◌else◌, List, [], ◌∷◌, ◌++◌, Option, None, Some, Result, Ok}
+use Rattle.std.proofs.Common.{Err, inl, inr, refl, ap, sym, ◌∙◌, subst, arith, append-nil, eqb-true}
+use Rattle.std.proofs.lemmas.{Bool.false≢true, Option.same_Some, Option.none-some}
 use Rattle.std.specs.List.{find}
 use Rattle.pas_bits.specs.Masks.{HasMember, IsLowestSet}
-use Rattle.pas_profile.specs.Blocks.{address_of}
-use Rattle.pas_profile.specs.Classes.{class_size}
-use Rattle.pas_profile.specs.Directories.{number_of}
-use Rattle.pas_profile.specs.Profiles.{IsValid, IsDirectoryOf}
-use Rattle.pas_profile.specs.Requests.{route_in, room_in, directory_for}
-use Rattle.pas_profile.specs.declared.directory.Directory.{Directory}
-use Rattle.pas_profile.specs.declared.directory.Route.{Route}
-use Rattle.pas_profile.specs.declared.event.NoRoom.{NoRoom}
-use Rattle.pas_profile.specs.declared.event.Event.{Event}
-use Rattle.pas_profile.specs.declared.name.Block.{Block}
-use Rattle.pas_profile.specs.declared.profile.Profile.{Profile}
-use Rattle.pas_profile.specs.declared.word.Word.TheVariants as Word
-use Rattle.pas_machine.specs.State.{gives_in}
-use Rattle.pas_machine.specs.Machine.{Run}
-use Rattle.pas_steps.specs.Desks.{made}
-use Rattle.pas_steps.specs.Lists.{part, visible}
-use Rattle.pas_steps.specs.Views.{usable_by_kind}
-use Rattle.pas_steps.specs.declared.step.Made.{Made}
-use Rattle.pas_steps.specs.declared.step.Step.TheVariants.{Look, Give}
+use Rattle.pas_profile.specs.{Blocks.address_of, Classes.class_size, Directories.number_of, Profiles.IsValid, Profiles.IsDirectoryOf, Requests.route_in}
+use Rattle.pas_profile.specs.{Requests.room_in, Requests.directory_for}
+use Rattle.pas_profile.specs.declared.{directory.Directory.Directory, directory.Route.Route, event.NoRoom.NoRoom, event.Event.Event, name.Block.Block}
+use Rattle.pas_profile.specs.declared.{profile.Profile.Profile, word.Word.Word}
+use Rattle.pas_machine.specs.{State.gives_in, Machine.Run}
+use Rattle.pas_steps.specs.{Desks.made, Lists.part, Lists.visible, Views.usable_by_kind}
+use Rattle.pas_steps.specs.declared.step.{Made.Made, Step.TheVariants.Look, Step.TheVariants.Give}
 use Rattle.pas_core.specs.Rights.{eligible_bit}
 use Rattle.pas_core.proofs.MachineRuns.{runs}
 use Rattle.pas_segregated.specs.declared.slots.Slots.{Slots}
 use Rattle.pas_cache.specs.Changes.{GivesSlot, IsWithoutSlot, IsTakenOut, LeavesSpent}
-use Rattle.pas_cache.specs.Contents.{Cached}
+use Rattle.pas_cache.specs.{Contents.Cached, Locals.local_for, Locals.others_than, Locals.is_for as is_for_slots}
 use Rattle.pas_cache.specs.Serves.{ServesClass, ServesBy, IsObtained, IsAnswered, filling_in, wanted_for}
-use Rattle.pas_cache.specs.Locals.{local_for, others_than}
-use Rattle.pas_cache.specs.Locals.{is_for as is_for_slots}
-use Rattle.pas_report.specs.declared.record.Record.{Record}
-use Rattle.pas_report.specs.declared.record.Said.{Said as TheSaid}
-use Rattle.pas_trace.specs.EveryPlan.{IsThread}
-use Rattle.pas_trace.specs.Acts.{Act}
+use Rattle.pas_report.specs.declared.record.{Record.Record, Said.Said as TheSaid}
+use Rattle.pas_trace.specs.{EveryPlan.IsThread, Acts.Act}
 use Rattle.pas_trace.specs.declared.plan.What.TheVariants.{Alloc}
-use Rattle.pas_answers.specs.Answers.{Progress, Named, named, Answer, having, IsServed, after_answer, said_of_request}
-use Rattle.pas_answers.specs.Answers.{block_of as block_answered}
+use Rattle.pas_answers.specs.Answers.{Progress, Named, named, Answer, having, IsServed, after_answer, said_of_request, block_of as block_answered}
 use Rattle.pas_one_text.specs.State.{Local, World, cache_of, locals_of}
 use Rattle.pas_one_text.specs.Classes.{is_for, others, gives_first, gives_up, fetches, serves_class, serves_class_by}
 use Rattle.pas_one_text.specs.Pages.{is_free, is_guarded, has_room, is_offered}
-use Rattle.pas_one_text.specs.Searches.{some_of, address_on}
+use Rattle.pas_one_text.specs.{Searches.some_of, Searches.address_on, Order.serves}
 use Rattle.pas_same_text.specs.Same.{IsSame, HasSame, IsSameCache, IsSameLocal, AreSameLocals, has_number}
-use Rattle.pas_one_text.specs.Order.{serves}
 use Rattle.pas_same_text.specs.Acts.{IsBetween, StaysSameWhere, HasCachedSlot}
-use Rattle.pas_same_text.proofs.CacheLists.{same_with}
-use Rattle.pas_same_text.proofs.FreeGrains.{free_same}
-use Rattle.pas_same_text.proofs.GivenBack.{each_same}
-use Rattle.pas_same_text.proofs.LoggedFrees.{after_with}
+use Rattle.pas_same_text.proofs.{CacheLists.same_with, FreeGrains.free_same, GivenBack.each_same, LoggedFrees.after_with, SmallActs.records_next}
+use Rattle.pas_same_text.proofs.{Tests.and_first, Tests.and_second}
 use Rattle.pas_same_text.proofs.RestingPages.{is_open, had_open, bit_offered, offered_bit}
 use Rattle.pas_same_text.proofs.SameLocals.{Finds, found_same, others_same, last_same, slot_given}
-use Rattle.pas_same_text.proofs.SmallActs.{records_next}
-use Rattle.pas_same_text.proofs.Tests.{and_first, and_second}
 use Rattle.pas_steps.proofs.Sets.{same_truth}
 
 -- a page has room where it had, if its grains are free where they were
-pub room_same : (w w' : World) (d : Directory) (page : ℕ) → ((b : ℕ) → b < 256 → is_free w' page b ≡ is_free w page b) → has_room w' d page ≡ has_room w d page
+room_same : (w w' : World) (d : Directory) (page : ℕ) → ((b : ℕ) → b < 256 → is_free w' page b ≡ is_free w page b) → has_room w' d page ≡ has_room w d page
 room_same w w' d page free =
     ap (λ (t : Bool). not t) (each_same 256 0 (λ b. not (usable_by_kind d.kind b && is_free w' page b)) (λ b. not (usable_by_kind d.kind b && is_free w page b))
     (λ b low small. ap (λ (t : Bool). not (usable_by_kind d.kind b && t)) (free b small)))
@@ -165,7 +143,7 @@ module _ (f : Profile) (k name : ℕ) (p : Progress) (w : World) (s s' : Slots) 
       (offered_bit f (given_to p k name block answer page start word c') to g.valid g.after has_same q d of)
       (λ h. bit_offered f (given_to p k name block answer page start word c') to g.valid g.after has_same q d of h (open_kept d q ∙ had_open w d q (g.same.pages.offered q d of ∙ h)))
 
-  pub given_same : IsSame f (given_to p k name block answer page start word c') to
+  given_same : IsSame f (given_to p k name block answer page start word c') to
   given_same = record {
     pages = record { events = has_same.events; live = has_same.live; hinted = g.same.pages.hinted; offered = offered_kept };
     caches = has_same.caches;

@@ -1,8 +1,6 @@
 -- WHETHER A SLOT OF A CLASS FITS on a page: in the text exactly where it does by the free grains of the replay.
-use Rattle.std.proofs.Common.{◌≡◌, ℕ, ◌+◌, ◌*◌, ◌/◌, ◌<◌, ◌≤◌, Bool, true, false, if◌then◌else◌, List, [], ◌∷◌, refl, ap, sym, ◌∙◌, arith}
-use Rattle.std.proofs.lemmas.Bool.{true≢false, eq-eqb, false_from_ne_true}
-use Rattle.std.proofs.lemmas.Nat.{div_below, mul-le}
-use Rattle.std.proofs.Math.Nat.{mul-mod_left, mod-add-div', suc-mul}
+use Rattle.std.proofs.Common.{◌≡◌, ℕ, ◌+◌, ◌*◌, ◌/◌, ◌<◌, ◌≤◌, Bool, true, false, if◌then◌else◌, List, [], ◌∷◌, refl, ap, sym, ◌∙◌, arith, true≢false, eq-eqb}
+use Rattle.std.proofs.{lemmas.Bool.false_from_ne_true, lemmas.Nat.div_below, lemmas.Nat.mul-le, Math.Nat.mul-mod_left, Math.Nat.mod-add-div', Math.Nat.suc-mul}
 use Rattle.std.specs.List.{list_any}
 use Rattle.pas_profile.specs.Classes.{IsClass, class_grains, slots_of, IsSlotStart}
 use Rattle.pas_profile.specs.Profiles.{IsValid}
@@ -12,16 +10,11 @@ use Rattle.pas_core.specs.Rights.{free_of_page}
 use Rattle.pas_rights.specs.Looks.{AllFree}
 use Rattle.pas_segregated.specs.Takes.{NoSlot}
 use Rattle.pas_answers.specs.Answers.{Progress}
-use Rattle.pas_one_text.specs.State.{World}
-use Rattle.pas_one_text.specs.Pages.{is_free, are_free, is_guarded}
-use Rattle.pas_one_text.specs.Searches.{some_of}
+use Rattle.pas_one_text.specs.{State.World, Pages.is_free, Pages.are_free, Pages.is_guarded, Searches.some_of}
 use Rattle.pas_one_text.specs.Classes.{spaced, free_slots, first_row, row_from, slots_for}
-use Rattle.pas_same_text.specs.Same.{HasSame}
-use Rattle.pas_same_text.specs.Acts.{IsBetween}
-use Rattle.pas_same_text.specs.Searched.{FitsSame}
-use Rattle.pas_same_text.proofs.FreeGrains.{bit_unguarded, bit_read, read_unless}
-use Rattle.pas_same_text.proofs.GivenBack.{each_at, each_all}
-use Rattle.pas_same_text.proofs.SpacedPlaces.{some_filtered, in_spaced, from_spaced}
+use Rattle.pas_same_text.specs.{Same.HasSame, Acts.IsBetween, Searched.FitsSame}
+use Rattle.pas_same_text.proofs.{FreeGrains.bit_unguarded, FreeGrains.bit_read, FreeGrains.read_unless, GivenBack.each_at, GivenBack.each_all}
+use Rattle.pas_same_text.proofs.{SpacedPlaces.some_filtered, SpacedPlaces.in_spaced, SpacedPlaces.from_spaced}
 
 -- the first few are some where some are
 some_row : (step : ℕ) (xs : List ℕ) → some_of (first_row step xs) ≡ some_of xs
@@ -59,11 +52,8 @@ module _ (f : Profile) (p : Progress) (w : World) (valid : IsValid f) (between :
 
   pub slot_index : (s : ℕ) → IsSlotStart class s → (i : ℕ) × (i < slots_of class) × (i * step ≡ s)
   slot_index s slot =
-      let aligned = slot.aligned in
-      let within = slot.within in
-      let some = some_grains in
-      let times : s / step * step ≡ s = let m = mod-add-div' s step in omega (arith, m, aligned) in
-      (s / step, div_below s step (slots_of class) (omega (arith, some)) (omega (arith, within, some)), times)
+      let times : s / step * step ≡ s = let m = mod-add-div' s step in omega (arith, m, slot.aligned) in
+      (s / step, div_below s step (slots_of class) (omega (arith, some_grains)) (omega (arith, slot.within, some_grains)), times)
 
   -- it is free in the text exactly where its grains are in the replay
   pub slot_tested : (page s : ℕ) → IsSlotStart class s → AllFree (free_of_page p.list page) s step → test page s ≡ true
@@ -80,7 +70,7 @@ module _ (f : Profile) (p : Progress) (w : World) (valid : IsValid f) (between :
   there : (page s : ℕ) → IsSlotStart class s → AllFree (free_of_page p.list page) s step → list_any (test page) (spaced 0 step (slots_of class)) ≡ true
   there page s slot free =
       let o = slot_index s slot in
-      in_spaced (test page) (slots_of class) 0 step o.0 o.1 (ap (test page) (let times = o.2 in omega (arith, times)) ∙ slot_tested page s slot free)
+      in_spaced (test page) (slots_of class) 0 step o.0 o.1 (ap (test page) (omega (arith, o.2)) ∙ slot_tested page s slot free)
 
   pub class_fits : (shared : Bool) → FitsSame (NoSlot class) f p w (slots_for shared w class)
   class_fits shared = record {

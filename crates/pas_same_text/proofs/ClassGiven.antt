@@ -1,59 +1,34 @@
 -- A REQUEST OF A CLASS THAT A PAGE SERVES, where the cache has place for a local allocator: the page that was searched for gets a deed and memory where it has none, its
 -- slots are taken, the lowest of them is given, and the others are cached.
-use Rattle.std.proofs.Common.{◌≡◌, ◌≢◌, ℕ, ◌+◌, ◌*◌, ◌/◌, ◌%◌, ◌<◌, ◌≤◌, ◌==◌, Bool, true, false, not, ◌&&◌, if◌then◌else◌, List, [], ◌∷◌, ◌++◌, None, Some, Result, Ok, ◌⊎◌, inl, inr, refl, ap, sym, ◌∙◌, subst, append_assoc, arith, append-nil}
-use Rattle.std.proofs.lemmas.Bool.{true≢false, false≢true, eq-eqb, eqb-true, or_cases, or_left, or_right, false_from_ne_true}
+use Rattle.std.proofs.Common.{◌≡◌, ◌≢◌, ℕ, ◌+◌, ◌*◌, ◌/◌, ◌%◌, ◌<◌, ◌≤◌, ◌==◌, Bool, true, false, not, ◌&&◌, if◌then◌else◌, List, [], ◌∷◌, ◌++◌, None, Some}
+use Rattle.std.proofs.Common.{Result, Ok, ◌⊎◌, inl, inr, refl, ap, sym, ◌∙◌, subst, append_assoc, arith, append-nil, true≢false, eq-eqb, eqb-true}
+use Rattle.std.proofs.lemmas.Bool.{false≢true, or_cases, or_left, or_right, false_from_ne_true}
 use Rattle.pas_bits.specs.Masks.{is_set}
-use Rattle.pas_profile.specs.Blocks.{address_of, grain_of, length_of}
-use Rattle.pas_profile.specs.Classes.{class_size, class_grains, IsSlotStart}
-use Rattle.pas_profile.specs.Directories.{number_of, deed_word_of}
-use Rattle.pas_profile.specs.Profiles.{IsDirectoryOf}
-use Rattle.pas_profile.specs.Requests.{class_home, is_shared, kind_of_class}
-use Rattle.pas_profile.specs.declared.directory.Directory.{Directory}
-use Rattle.pas_profile.specs.declared.event.Event.{Event}
-use Rattle.pas_profile.specs.declared.event.NoRoom.{NoRoom}
-use Rattle.pas_profile.specs.declared.name.Block.{Block}
-use Rattle.pas_profile.specs.declared.profile.Profile.{Profile}
-use Rattle.pas_profile.specs.declared.word.Word.TheVariants as Word
+use Rattle.pas_profile.specs.{Blocks.address_of, Blocks.grain_of, Blocks.length_of, Classes.class_size, Classes.class_grains, Classes.IsSlotStart}
+use Rattle.pas_profile.specs.{Directories.number_of, Directories.deed_word_of, Profiles.IsDirectoryOf, Requests.class_home, Requests.is_shared}
+use Rattle.pas_profile.specs.{Requests.kind_of_class}
+use Rattle.pas_profile.specs.declared.{directory.Directory.Directory, event.Event.Event, event.NoRoom.NoRoom, name.Block.Block, profile.Profile.Profile}
+use Rattle.pas_profile.specs.declared.{word.Word.Word}
 use Rattle.pas_profile.proofs.ClassFacts.{class_grains_positive, usable_grains_le}
-use Rattle.pas_machine.specs.Machine.{Run}
-use Rattle.pas_machine.specs.State.{deed_in, gives_in}
-use Rattle.pas_steps.specs.Agreement.{Agreed}
-use Rattle.pas_steps.specs.Calls.{Kept, Gained, Lost}
-use Rattle.pas_steps.specs.Calls.{now as has_now}
-use Rattle.pas_steps.specs.Desks.{triples}
-use Rattle.pas_steps.specs.Events.{events_by}
-use Rattle.pas_steps.specs.Evidence.{ShowsHere}
+use Rattle.pas_machine.specs.{Machine.Run, State.deed_in, State.gives_in}
+use Rattle.pas_steps.specs.{Agreement.Agreed, Desks.triples, Events.events_by, Evidence.ShowsHere, Past.Once, Past.Always, Frames.OnlyReturns}
+use Rattle.pas_steps.specs.Calls.{Kept, Gained, Lost, now as has_now}
 use Rattle.pas_steps.specs.Kinds.{Kinds, Only, Giving, LookLife, returning}
 use Rattle.pas_steps.specs.Lists.{Whole, part, word_after, visible, Legal}
-use Rattle.pas_steps.specs.Past.{Once, Always}
 use Rattle.pas_steps.specs.Views.{View, held_after, grain_move, holds, has_right, known_deed}
-use Rattle.pas_steps.specs.declared.step.Made.{Made}
-use Rattle.pas_steps.specs.declared.step.Step.TheVariants.{Offer, Hint}
-use Rattle.pas_steps.specs.Frames.{OnlyReturns}
-use Rattle.pas_steps.proofs.Adding.{triples_append}
+use Rattle.pas_steps.specs.declared.step.{Made.Made, Step.TheVariants.Offer, Step.TheVariants.Hint}
+use Rattle.pas_steps.proofs.{Adding.triples_append, Frames.right_of_own, Parts.part_of_own}
 use Rattle.pas_steps.proofs.Apart.{only_both, only_within, holds_same, rights_same, deeds_same, events_same}
-use Rattle.pas_steps.proofs.Frames.{right_of_own}
-use Rattle.pas_steps.proofs.Parts.{part_of_own}
 use Rattle.pas_core.specs.Rights.{empty_bit, eligible_bit, free_of_page}
-use Rattle.pas_core.proofs.MachineRuns.{runs}
-use Rattle.pas_core.proofs.Nexts.{agreed_steps}
+use Rattle.pas_core.proofs.{MachineRuns.runs, Nexts.agreed_steps, Rights.right_not_offered}
 use Rattle.pas_core.proofs.OneActor.{LendsNone, lends_none, legal_earlier, free_stays}
-use Rattle.pas_core.proofs.Rights.{right_not_offered}
 use Rattle.pas_rights.specs.Leaves.{LeaveSteps}
-use Rattle.pas_rights.proofs.Hints.{leave_due}
-use Rattle.pas_rights.proofs.Orders.{leave_returns}
-use Rattle.pas_search.specs.Kinds.{KeepsMarks, searching}
-use Rattle.pas_search.specs.Searches.{MaySearch}
-use Rattle.pas_segregated.specs.Masks.{start_of}
-use Rattle.pas_segregated.specs.Refills.{GivesSlots, GetsSlots}
-use Rattle.pas_segregated.specs.Stops.{in_slots, LeavesWhere}
-use Rattle.pas_segregated.specs.Takes.{NoSlot, fewer_slots}
+use Rattle.pas_rights.proofs.{Hints.leave_due, Orders.leave_returns}
+use Rattle.pas_search.specs.{Kinds.KeepsMarks, Kinds.searching, Searches.MaySearch}
+use Rattle.pas_segregated.specs.{Masks.start_of, Refills.GivesSlots, Refills.GetsSlots, Stops.in_slots, Stops.LeavesWhere, Takes.NoSlot, Takes.fewer_slots}
 use Rattle.pas_segregated.specs.declared.slots.Slots.{Slots}
 use Rattle.pas_segregated.proofs.Starts.{start_at}
-use Rattle.pas_cache.specs.Changes.{GivesSlot}
-use Rattle.pas_cache.specs.Contents.{Cached}
-use Rattle.pas_cache.specs.Kinds.{allocating}
-use Rattle.pas_cache.specs.Serves.{filling_in, took_in, IsRefill}
+use Rattle.pas_cache.specs.{Changes.GivesSlot, Contents.Cached, Kinds.allocating, Serves.filling_in, Serves.took_in, Serves.IsRefill}
 use Rattle.pas_report.specs.declared.record.Record.{Record}
 use Rattle.pas_answers.specs.Answers.{Progress, Named, named, records_of}
 use Rattle.pas_one_text.specs.State.{World, Local, cache_of, locals_of}
@@ -62,31 +37,19 @@ use Rattle.pas_one_text.specs.Pages.{is_free, is_guarded, is_offered}
 use Rattle.pas_one_text.specs.Searches.{some_of, searched, readies, address_on}
 use Rattle.pas_one_text.specs.Classes.{others, slots_for, gives_first, local_on, takes_page, fetches}
 use Rattle.pas_same_text.specs.Same.{IsSame, HasSame, IsSameCache, IsSameLocal, AreSameLocals, AreSameCaches, has_number}
-use Rattle.pas_same_text.specs.Acts.{IsBetween}
-use Rattle.pas_same_text.specs.Searched.{IsSearch}
-use Rattle.pas_same_text.specs.Words.{free_bit}
-use Rattle.pas_same_text.proofs.BitfitGiven.{not_hinted}
-use Rattle.pas_same_text.proofs.CacheLists.{same_with}
+use Rattle.pas_same_text.specs.{Acts.IsBetween, Searched.IsSearch, Words.free_bit}
+use Rattle.pas_same_text.proofs.{BitfitGiven.not_hinted, CacheLists.same_with, ClassFits.class_fits, ClassFits.read_unguarded, FetchedClasses.HasPlace}
+use Rattle.pas_same_text.proofs.{FetchedClasses.may_fetch, FetchedClasses.keeps_unshared, FlushActs.events_recorded, Flushes.visible_steps}
+use Rattle.pas_same_text.proofs.{FreeGrains.free_same, FreeGrains.free_unheld, LoggedFrees.after_with, MadePlace.all_left, ReadSlots.shared_row}
+use Rattle.pas_same_text.proofs.{OuterPages.guards_as, OuterPages.guarded_as, OuterPages.still_unguarded, SameLocals.others_same, SameLocals.last_same}
+use Rattle.pas_same_text.proofs.{SameLocals.slot_given, SearchedMarks.IsSearchedTo, SearchedMarks.hints_kept, SearchedMarks.offers_kept}
+use Rattle.pas_same_text.proofs.{SearchedPages.offered_chosen, SearchedPages.deed_chosen, SearchMarks.stays_free, StopSteps.ReadsRoom, StopSteps.leave_room}
+use Rattle.pas_same_text.proofs.{StopSteps.room_later, TakenSince.right_kept, TakenSince.exclusive_free, TakenSlots.all_taken, TakenSlots.row_taken}
+use Rattle.pas_same_text.proofs.{TakenSlots.slots_rise, RoomsRead.read_offered, RoomsRead.never_read}
 use Rattle.pas_same_text.proofs.CachedSlots.{block_same, text_block, text_locals, HasHead, head_of}
-use Rattle.pas_same_text.proofs.ClassFits.{class_fits, read_unguarded}
-use Rattle.pas_same_text.proofs.FetchedClasses.{HasPlace, may_fetch, keeps_unshared}
-use Rattle.pas_same_text.proofs.FlushActs.{events_recorded}
-use Rattle.pas_same_text.proofs.Flushes.{visible_steps}
-use Rattle.pas_same_text.proofs.FreeGrains.{free_same, free_unheld}
-use Rattle.pas_same_text.proofs.GivingBack.{HintsPage, OffersPage, IsMarked, once_parts, marked_parts, none_marked, returns_marked, hint_marks, offer_marks, offered_by, hints_of, hint_read, epoch_stays_by}
-use Rattle.pas_same_text.proofs.LoggedFrees.{after_with}
-use Rattle.pas_same_text.proofs.MadePlace.{all_left}
-use Rattle.pas_same_text.proofs.ReadSlots.{shared_row}
+use Rattle.pas_same_text.proofs.GivingBack.{HintsPage, OffersPage, IsMarked, once_parts, marked_parts, none_marked, returns_marked, hint_marks, offer_marks}
+use Rattle.pas_same_text.proofs.GivingBack.{offered_by, hints_of, hint_read, epoch_stays_by}
 use Rattle.pas_same_text.proofs.ReadyPages.{AllAtPage, shown, shown_events, shown_records, shown_lives, shown_rest, search_at, deed_beside, given_ready}
-use Rattle.pas_same_text.proofs.OuterPages.{guards_as, guarded_as, still_unguarded}
-use Rattle.pas_same_text.proofs.SameLocals.{others_same, last_same, slot_given}
-use Rattle.pas_same_text.proofs.SearchedMarks.{IsSearchedTo, hints_kept, offers_kept}
-use Rattle.pas_same_text.proofs.SearchedPages.{offered_chosen, deed_chosen}
-use Rattle.pas_same_text.proofs.SearchMarks.{stays_free}
-use Rattle.pas_same_text.proofs.StopSteps.{ReadsRoom, leave_room, room_later}
-use Rattle.pas_same_text.proofs.TakenSince.{right_kept, exclusive_free}
-use Rattle.pas_same_text.proofs.TakenSlots.{all_taken, row_taken, slots_rise}
-use Rattle.pas_same_text.proofs.RoomsRead.{read_offered, never_read}
 
 -- the replay after the block was given of slots that were fetched, of which these are left
 abbrev pub fetched_to : Progress → ℕ → ℕ → List Made → Slots → Block → Progress
@@ -150,9 +113,6 @@ module _ (f : Profile) (k name heap class : ℕ) (p : Progress) (w : World) (has
 
   legal : Legal f (triples k ((given ++ left) ++ search) ++ l)
   legal = subst (Legal f) list_is after.legal
-
-  legal_back : Legal f (triples k (given ++ left) ++ base)
-  legal_back = subst (Legal f) list_back after.legal
 
   legal_refill : Legal f (triples k (left ++ search) ++ l)
   legal_refill = subst (λ (ms : List Made). Legal f (triples k ms ++ l)) refill.steps_are (legal_earlier f k given ys l after.legal)
@@ -296,7 +256,7 @@ module _ (f : Profile) (k name heap class : ℕ) (p : Progress) (w : World) (has
   small = gives.lowest.within
 
   address : address_of block.name ≡ address_on page n
-  address = let at_slot = gives.address in let first = slot.0 in omega (arith, at_slot, first)
+  address = omega (arith, gives.address, slot.0)
 
   room : block.room ≡ class_size class
   room = gives.room ∙ ap class_size of_class
@@ -311,7 +271,7 @@ module _ (f : Profile) (k name heap class : ℕ) (p : Progress) (w : World) (has
   long = ap (λ (x : ℕ). x / 16) room
 
   ready : readies k d page w ≡ shown es w
-  ready = let one = some in let m = long in given_ready k d page f es w k block start at run small grain (omega (arith, m, one))
+  ready = given_ready k d page f es w k block start at run small grain (omega (arith, long, some))
 
   -- ---- the text
   abbrev v : World
@@ -415,9 +375,8 @@ module _ (f : Profile) (k name heap class : ℕ) (p : Progress) (w : World) (has
   -- ---- the page that serves isn't hinted: its first slot is held while it is left
   first_held : holds (search ++ own) (256 * page + start) ≡ true
   first_held =
-      let lt = small in
-      let at_page : page ≡ (256 * page + start) / 256 = omega (arith, lt) in
-      let at_grain : (256 * page + start) % 256 ≡ start = omega (arith, lt) in
+      let at_page : page ≡ (256 * page + start) / 256 = omega (arith, small) in
+      let at_grain : (256 * page + start) % 256 ≡ start = omega (arith, small) in
       let is_start : IsSlotStart slots.class start = got.starts start gives.lowest.set in
       let one : 1 ≤ class_grains slots.class = subst (λ (x : ℕ). 1 ≤ class_grains x) (sym of_class) some in
       let begins : start_of slots.class start ≡ start = start_at slots.class start start is_start (omega arith) (omega (arith, one)) in
@@ -438,7 +397,7 @@ module _ (f : Profile) (k name heap class : ℕ) (p : Progress) (w : World) (has
   legal_left = subst (Legal f) (sym (triples_append k left search l)) legal_refill
 
   unhinted : (t : Bool) → LeavesWhere t page d left → HintsPage page left → ⊥
-  unhinted true leaves h = let lt = small in never_read f k base returning page start small taken left legal_left got.after_kinds ((hint_read page left (hints_of left (leave_due page d left leaves)) h).free (start / 64) (omega (arith, lt)))
+  unhinted true leaves h = never_read f k base returning page start small taken left legal_left got.after_kinds ((hint_read page left (hints_of left (leave_due page d left leaves)) h).free (start / 64) (omega (arith, small)))
   unhinted false none h = subst (HintsPage page) none h
 
   own_hint : HintsPage page ((given ++ left) ++ search) → empty_bit l page ≡ true
@@ -528,7 +487,7 @@ module _ (f : Profile) (k name heap class : ℕ) (p : Progress) (w : World) (has
     read = (shown_rest es w).read ∙ has.same.read;
   }
 
-  pub fetch_given : IsSame f q (fetches f k name heap class w)
+  fetch_given : IsSame f q (fetches f k name heap class w)
   fetch_given = subst (IsSame f q) (sym text) fetched_same
 
 -- THE FETCH IS SERVED as the text says

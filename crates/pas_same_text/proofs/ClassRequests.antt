@@ -1,36 +1,21 @@
 -- A REQUEST OF A CLASS, whatever the thread's cache has: a cached slot is given, or place is made and slots are fetched, of which one is given, or the request is refused.
 use Rattle.std.proofs.Common.{◌≡◌, ℕ, List, [], ◌∷◌, ◌++◌, Option, None, Some, Result, Ok, Err, inl, inr, refl, ap, sym, ◌∙◌, subst}
-use Rattle.pas_profile.specs.Profiles.{IsValid, IsAdmitted}
-use Rattle.pas_profile.specs.Requests.{class_home, route_in, room_in}
-use Rattle.pas_profile.specs.declared.directory.Directory.{Directory}
-use Rattle.pas_profile.specs.declared.directory.Route.{Route}
-use Rattle.pas_profile.specs.declared.event.NoRoom.{NoRoom}
-use Rattle.pas_profile.specs.declared.name.Block.{Block}
-use Rattle.pas_profile.specs.declared.profile.Profile.{Profile}
+use Rattle.pas_profile.specs.{Profiles.IsValid, Profiles.IsAdmitted, Requests.class_home, Requests.route_in, Requests.room_in}
+use Rattle.pas_profile.specs.declared.{directory.Directory.Directory, directory.Route.Route, event.NoRoom.NoRoom, name.Block.Block, profile.Profile.Profile}
 use Rattle.pas_steps.specs.Lists.{part}
 use Rattle.pas_steps.specs.declared.step.Made.{Made}
 use Rattle.pas_segregated.specs.declared.slots.Slots.{Slots}
-use Rattle.pas_cache.specs.Changes.{GivesSlot}
-use Rattle.pas_cache.specs.Contents.{Cached}
+use Rattle.pas_cache.specs.{Changes.GivesSlot, Contents.Cached}
 use Rattle.pas_cache.specs.Serves.{filling_in, IsObtained, IsAnswered, ServesClass}
 use Rattle.pas_report.specs.declared.record.Said.{Said as TheSaid}
-use Rattle.pas_trace.specs.Acts.{Act}
-use Rattle.pas_trace.specs.EveryPlan.{IsThread}
+use Rattle.pas_trace.specs.{Acts.Act, EveryPlan.IsThread}
 use Rattle.pas_trace.specs.declared.plan.What.TheVariants.{Alloc}
-use Rattle.pas_answers.specs.Answers.{Progress, Named, named, Answer, having, IsServed, after_answer, said_of_request}
-use Rattle.pas_answers.specs.Answers.{block_of as block_answered}
-use Rattle.pas_one_text.specs.State.{World}
-use Rattle.pas_one_text.specs.Classes.{fetches, serves_class}
-use Rattle.pas_one_text.specs.Order.{serves}
-use Rattle.pas_same_text.specs.Same.{IsSame}
-use Rattle.pas_same_text.specs.Acts.{IsBetween, StaysSame}
-use Rattle.pas_same_text.proofs.CacheLists.{same_own}
-use Rattle.pas_same_text.proofs.CachedSlots.{cached_answered}
-use Rattle.pas_same_text.proofs.ClassGiven.{fetched_to, fetch_served}
+use Rattle.pas_answers.specs.Answers.{Progress, Named, named, Answer, having, IsServed, after_answer, said_of_request, block_of as block_answered}
+use Rattle.pas_one_text.specs.{State.World, Classes.fetches, Classes.serves_class, Order.serves}
+use Rattle.pas_same_text.specs.{Same.IsSame, Acts.IsBetween, Acts.StaysSame}
+use Rattle.pas_same_text.proofs.{CacheLists.same_own, CachedSlots.cached_answered, ClassGiven.fetched_to, ClassGiven.fetch_served, LoggedFrees.after_with}
+use Rattle.pas_same_text.proofs.{OneUp.up_to, RefusedClasses.class_served_by, RefusedClasses.fetched_so, RefusedClasses.class_refused}
 use Rattle.pas_same_text.proofs.FetchedClasses.{IsFetched, with_place, place_fetched, text_fetched, fetch_between, fetch_carried}
-use Rattle.pas_same_text.proofs.LoggedFrees.{after_with}
-use Rattle.pas_same_text.proofs.OneUp.{up_to}
-use Rattle.pas_same_text.proofs.RefusedClasses.{class_served_by, fetched_so, class_refused}
 
 module _ (f : Profile) (k name heap size align class : ℕ) (p p' : Progress) (w : World) (thread : IsThread f k) (admitted : IsAdmitted f size align heap) (route : route_in f size align ≡ Route.Class class) (valid : IsValid f) (before : IsBetween f p) (after : IsBetween f p') (same : IsSame f p w)
     (a : Answer) (served : IsServed f k (record { name = name; heap = heap; size = size; align = align }) (having p.names (part k p.list) (p.caches k)) a) (reached : p' ≡ after_answer p k a) where

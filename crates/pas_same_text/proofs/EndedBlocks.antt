@@ -1,29 +1,20 @@
 -- What the text does where a block ends: its grains come back to its pages, and no other page changes.
-use Rattle.std.proofs.Common.{◌≡◌, ℕ, ◌+◌, ◌*◌, ◌==◌, nat_lt, Bool, true, false, not, ◌&&◌, if◌then◌else◌, List, [], ◌∷◌, ◌++◌, length, Some, None, inl, inr, refl, ap, sym, ◌∙◌}
-use Rattle.std.proofs.lemmas.Bool.{false≢true, eqb-true, eq-eqb}
-use Rattle.std.proofs.lemmas.Option.{same_Some}
+use Rattle.std.proofs.Common.{◌≡◌, ℕ, ◌+◌, ◌*◌, ◌==◌, nat_lt, Bool, true, false, not, ◌&&◌, if◌then◌else◌, List, [], ◌∷◌, ◌++◌, length, Some, inl, inr, refl}
+use Rattle.std.proofs.Common.{ap, sym, ◌∙◌, eqb-true}
+use Rattle.std.proofs.{lemmas.Bool.false≢true, lemmas.Option.same_Some, Math.Bool.or-false}
 use Rattle.std.specs.List.{list_any, filter}
-use Rattle.std.proofs.Math.Bool.{or-false}
 use Rattle.pas_bits.specs.Runs.{in_run, meets_page}
-use Rattle.pas_profile.specs.Blocks.{address_of, grain_of, length_of}
-use Rattle.pas_profile.specs.Profiles.{IsPage}
-use Rattle.pas_profile.specs.declared.event.Event.{Event}
-use Rattle.pas_profile.specs.declared.event.Why.{Why}
-use Rattle.pas_profile.specs.declared.name.Block.{Block}
-use Rattle.pas_profile.specs.declared.name.Name.{Name}
-use Rattle.pas_profile.specs.declared.profile.Profile.{Profile}
-use Rattle.pas_machine.specs.Machine.{Run}
-use Rattle.pas_machine.specs.State.{Live, live_in}
+use Rattle.pas_profile.specs.{Blocks.address_of, Blocks.grain_of, Blocks.length_of, Profiles.IsPage}
+use Rattle.pas_profile.specs.declared.{event.Event.Event, event.Why.Why, name.Block.Block, name.Name.Name, profile.Profile.Profile}
+use Rattle.pas_machine.specs.{Machine.Run, State.Live, State.live_in}
 use Rattle.pas_steps.proofs.Sets.{same_truth}
 use Rattle.pas_free_log.specs.declared.noting.EndedRun.{EndedRun}
 use Rattle.pas_one_text.specs.State.{Local, World, is_at, shows, cache_of, noted_of, with_cache}
-use Rattle.pas_one_text.specs.Indexes.{notes, run_of}
+use Rattle.pas_one_text.specs.{Indexes.notes, Indexes.run_of, Frees.pages_of, Frees.ends_block, Frees.rejects}
 use Rattle.pas_one_text.specs.Pages.{is_covered, is_cached, is_hinted, blocks_on, locals_on, page_numbers}
-use Rattle.pas_one_text.specs.Frees.{pages_of, ends_block, rejects}
 use Rattle.pas_same_text.specs.Same.{lives_in, has_number}
-use Rattle.pas_same_text.proofs.CacheLists.{all_locals, locals_with}
+use Rattle.pas_same_text.proofs.{CacheLists.all_locals, CacheLists.locals_with, LiveBlocks.LivesSo, LiveBlocks.lives_so}
 use Rattle.pas_same_text.proofs.GivenBack.{Returns, minded_last, page_within, page_there, all_only_hints}
-use Rattle.pas_same_text.proofs.LiveBlocks.{LivesSo, lives_so}
 use Rattle.pas_same_text.proofs.Tests.{and_first, and_second, any_filtered, filtered_any, any_weaker, any_split, filtered_has, has_filtered}
 
 -- ---- a name without effect
@@ -102,9 +93,6 @@ module _ (f : Profile) (k : ℕ) (name : Name) (b : Live) (w : World) (run : Run
       ap (λ (t : Bool). not (is_covered (blocks_on after page) (256 * page + g)) && not t) (cached_same page g)
       ∙ ap (λ (t : Bool). not t && not (is_cached (locals_on w page) g)) (same_truth (is_covered (blocks_on after page) (256 * page + g)) (is_covered (blocks_on w page) (256 * page + g)) (fewer page g) (elsewhere page g of none)))
       refl
-
-  pub ended_gone : live_in (Event.End k name w.epoch ∷ w.events) (address_of name) ≡ None
-  ended_gone = ap (λ (t : Bool). if t then None else live_in w.events (address_of name)) (eq-eqb (address_of name) (address_of name) refl)
 
   pub ended_caches : (ends_block f k name b.block w).caches ≡ with_cache w.caches k (record (cache_of w k) { noted = noted_then })
   ended_caches = (all_only_hints (pages_of f b.block) after).caches

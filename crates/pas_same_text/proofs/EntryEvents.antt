@@ -1,14 +1,10 @@
 -- What a logged free shows: the event that the machine allows it.
-use Rattle.std.proofs.Common.{◌≡◌, ℕ, ◌<◌, ◌≤◌, ◌==◌, nat_lt, Bool, true, false, not, ◌&&◌, if◌then◌else◌, List, [], ◌∷◌, Option, None, Some, refl, ap, sym, ◌∙◌, subst, arith}
-use Rattle.std.proofs.lemmas.Bool.{eq-eqb, eqb-true, ne_eqb, eqb-false, and_from}
-use Rattle.std.proofs.lemmas.Bool.Decides.{nat_tests}
+use Rattle.std.proofs.Common.{◌≡◌, ℕ, ◌<◌, ◌≤◌, ◌==◌, nat_lt, Bool, true, false, not, ◌&&◌, if◌then◌else◌, List, [], ◌∷◌, Option, None, Some, refl, ap, sym}
+use Rattle.std.proofs.Common.{◌∙◌, subst, arith, eq-eqb, eqb-true, ne_eqb}
+use Rattle.std.proofs.lemmas.Bool.{eqb-false, and_from, Decides.nat_tests}
 use Rattle.std.specs.List.{find, filter}
 use Rattle.pas_profile.specs.Blocks.{address_of}
-use Rattle.pas_profile.specs.declared.event.Event.{Event}
-use Rattle.pas_profile.specs.declared.event.Why.{Why}
-use Rattle.pas_profile.specs.declared.name.Block.{Block}
-use Rattle.pas_profile.specs.declared.name.Name.{Name}
-use Rattle.pas_profile.specs.declared.profile.Profile.{Profile}
+use Rattle.pas_profile.specs.declared.{event.Event.Event, event.Why.Why, name.Block.Block, name.Name.Name, profile.Profile.Profile}
 use Rattle.pas_machine.specs.Laws.{IsCounted}
 use Rattle.pas_machine.specs.Machine.{Run, IsLive, IsReason, HasOtherRoom}
 use Rattle.pas_machine.specs.State.{Live, live_in, backed_in, gives_in, ends_in}
@@ -19,8 +15,7 @@ use Rattle.pas_one_text.specs.State.{World, each, is_at, block_at, shows}
 use Rattle.pas_one_text.specs.Indexes.{notes}
 use Rattle.pas_one_text.specs.Pages.{is_empty, is_hinted, hints, minds}
 use Rattle.pas_one_text.specs.Frees.{pages_of, reason, is_other_room, ends_block, ends_if, rejects, takes_effect, ends}
-use Rattle.pas_same_text.specs.Same.{lives_in}
-use Rattle.pas_same_text.specs.Entries.{IsShown, IsEntryReason, IsEntryEvent}
+use Rattle.pas_same_text.specs.{Same.lives_in, Entries.IsShown, Entries.IsEntryReason, Entries.IsEntryEvent}
 
 -- ---- the block at an address
 abbrev block_of_live : Option Live → Option Block
@@ -52,7 +47,7 @@ ended_found : (rest : Option Block) (old : Option Live) (t : Bool) → rest ≡ 
 ended_found rest old true is = refl
 ended_found rest old false is = is
 
-pub found_is : (es : List Event) (a : ℕ) → find (is_at a) (lives_in es) ≡ block_of_live (live_in es a)
+found_is : (es : List Event) (a : ℕ) → find (is_at a) (lives_in es) ≡ block_of_live (live_in es a)
 found_is [] a = refl
 found_is (Event.Deed k q d ∷ es) a = found_is es a
 found_is (Event.Back k q ∷ es) a = found_is es a

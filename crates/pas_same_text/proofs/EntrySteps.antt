@@ -1,56 +1,35 @@
 -- One logged free by its steps: the event that they make, the block that ended, and what is noted, marked and hinted.
-use Rattle.std.proofs.Common.{◌≡◌, ℕ, zero, suc, ◌+◌, ◌*◌, ◌/◌, ◌%◌, ◌^◌, ◌<◌, ◌≤◌, ◌==◌, nat_lt, Bool, true, false, not, ◌&&◌, if◌then◌else◌, List, [], ◌∷◌, ◌++◌, Option, None, Some, inl, inr, refl, ap, sym, ◌∙◌, subst, arith}
-use Rattle.std.proofs.lemmas.Bool.{eq-eqb, true≢false}
+use Rattle.std.proofs.Common.{◌≡◌, ℕ, zero, suc, ◌+◌, ◌*◌, ◌/◌, ◌%◌, ◌^◌, ◌<◌, ◌≤◌, ◌==◌, nat_lt, Bool, true, false, not, ◌&&◌, if◌then◌else◌, List, [], ◌∷◌}
+use Rattle.std.proofs.Common.{◌++◌, Option, None, Some, inl, inr, refl, ap, sym, ◌∙◌, subst, arith, eq-eqb, true≢false}
 use Rattle.std.proofs.Math.Bool.{and-false}
 use Rattle.pas_bits.specs.Runs.{meets_page}
 use Rattle.pas_bits.proofs.Runs.{to_meet}
-use Rattle.pas_profile.specs.Blocks.{address_of, grain_of, length_of}
-use Rattle.pas_profile.specs.Directories.{directory_read, deed_word_of}
-use Rattle.pas_profile.specs.Lives.{live_word, is_live, turn_of}
-use Rattle.pas_profile.specs.Profiles.{IsValid}
-use Rattle.pas_profile.specs.declared.directory.Directory.{Directory}
-use Rattle.pas_profile.specs.declared.event.Event.{Event}
-use Rattle.pas_profile.specs.declared.event.Why.{Why}
-use Rattle.pas_profile.specs.declared.name.Name.{Name}
-use Rattle.pas_profile.specs.declared.profile.Profile.{Profile}
-use Rattle.pas_profile.specs.declared.word.Word.TheVariants as Word
+use Rattle.pas_profile.specs.{Blocks.address_of, Blocks.grain_of, Blocks.length_of, Directories.directory_read, Directories.deed_word_of, Lives.live_word}
+use Rattle.pas_profile.specs.{Lives.is_live, Lives.turn_of, Profiles.IsValid}
+use Rattle.pas_profile.specs.declared.{directory.Directory.Directory, event.Event.Event, event.Why.Why, name.Name.Name, profile.Profile.Profile, word.Word.Word}
 use Rattle.pas_profile.proofs.Codecs.{read-deed_word_of, directory_from_profile}
 use Rattle.pas_machine.specs.State.{Live, live_in, deed_in, gives_in, ends_in}
-use Rattle.pas_steps.specs.Allowed.{IsStepOf, IsEndIn}
-use Rattle.pas_steps.specs.Desks.{made, triples}
-use Rattle.pas_steps.specs.Effects.{target, life_word_at}
-use Rattle.pas_steps.specs.Events.{event_of, events_by, with_event}
+use Rattle.pas_steps.specs.{Allowed.IsStepOf, Allowed.IsEndIn, Desks.made, Desks.triples, Effects.target, Effects.life_word_at, Events.event_of}
+use Rattle.pas_steps.specs.{Events.events_by, Events.with_event, Past.Always, Views.epoch_of, Views.or_zero}
 use Rattle.pas_steps.specs.Kinds.{Only, kind_of, is_in, LookDeed, Putting, Stamping, returning}
 use Rattle.pas_steps.specs.Lists.{Whole, part, word_after, visible, Legal}
-use Rattle.pas_steps.specs.Past.{Always}
-use Rattle.pas_steps.specs.Views.{epoch_of, or_zero}
-use Rattle.pas_steps.specs.declared.step.Made.{Made}
-use Rattle.pas_steps.specs.declared.step.Step.TheVariants.{Look, Stamp}
+use Rattle.pas_steps.specs.declared.step.{Made.Made, Step.TheVariants.Look, Step.TheVariants.Stamp}
 use Rattle.pas_steps.proofs.Apart.{only_both, only_within, epoch_same, events_same}
-use Rattle.pas_steps.proofs.Calls.{returns_are}
-use Rattle.pas_steps.proofs.Past.{in_turn_always}
+use Rattle.pas_steps.proofs.{Calls.returns_are, Past.in_turn_always}
 use Rattle.pas_core.specs.Good.{IsLifeOf, IsLifeOfLive, word_of_deed}
-use Rattle.pas_core.proofs.Deeds.{deed_of, directory_is_of}
-use Rattle.pas_core.proofs.Lives.{life_of, block_of_word}
-use Rattle.pas_core.proofs.OneActor.{legal_earlier}
+use Rattle.pas_core.proofs.{Deeds.deed_of, Deeds.directory_is_of, Lives.life_of, Lives.block_of_word, OneActor.legal_earlier}
 use Rattle.pas_rights.specs.Looks.{HintsEmpty}
-use Rattle.pas_rights.proofs.Orders.{return_returns}
-use Rattle.pas_rights.proofs.Puts.{puts_kinds}
+use Rattle.pas_rights.proofs.{Orders.return_returns, Puts.puts_kinds}
 use Rattle.pas_free_log.specs.Endings.{guess_by, TriesBy, last_step, IsEndOf, EndSteps, reason_by, reason_for}
 use Rattle.pas_free_log.specs.Flushes.{Settled, EntrySteps, AfterEnd, event_for}
-use Rattle.pas_free_log.specs.Frames.{ending, putting_back}
-use Rattle.pas_free_log.specs.Logs.{is_sized}
+use Rattle.pas_free_log.specs.{Frames.ending, Frames.putting_back, Logs.is_sized, Stamps.page_count, Stamps.pages_from}
 use Rattle.pas_free_log.specs.Returns.{PageSteps, PagesSteps, RunSteps, first_on, count_on}
-use Rattle.pas_free_log.specs.Stamps.{page_count, pages_from}
-use Rattle.pas_free_log.specs.declared.ending.Outcome.{Outcome}
-use Rattle.pas_free_log.specs.declared.ending.Outcome.TheVariants.{Ended, Refused}
-use Rattle.pas_free_log.specs.declared.log.Entry.{Entry}
+use Rattle.pas_free_log.specs.declared.{ending.Outcome.Outcome, ending.Outcome.TheVariants.Ended, ending.Outcome.TheVariants.Refused, log.Entry.Entry}
 use Rattle.pas_free_log.proofs.OneEntry.{first_look, trying, AreIdle, idle_look, tries_idle, EndsWith, last_ends, last_refused, guess_is, not_ended, count_some}
 use Rattle.pas_one_text.specs.Frees.{is_other_room}
 use Rattle.pas_same_text.specs.Entries.{IsEntryReason}
-use Rattle.pas_same_text.proofs.Flushes.{visible_steps}
+use Rattle.pas_same_text.proofs.{Flushes.visible_steps, ReturnHints.return_hints}
 use Rattle.pas_same_text.proofs.GivingBack.{IsMarked, marked_parts, none_marked, returns_marked, hints_none, hints_both}
-use Rattle.pas_same_text.proofs.ReturnHints.{return_hints}
 
 -- ---- the pages of a block that ended
 page_kinds : (g n : ℕ) (steps : List Made) → PageSteps g n steps → Only putting_back steps
@@ -93,7 +72,7 @@ run_marks : (k g n q : ℕ) (steps : List Made) → PagesSteps k g n steps → I
 run_marks zero g n q steps h marked = absurd (subst (IsMarked q) h marked)
 run_marks (suc k) g n q steps h marked = elim (marked_parts q h.0 h.1 (subst (IsMarked q) h.4 marked)) [
   | inl first ↦ let at = sym (first_page g k) ∙ page_marks (first_on g (g / 256 + k)) (count_on g n (g / 256 + k)) q h.0 h.2 first in (omega (arith, at), omega (arith, at))
-  | inr later ↦ let rest = run_marks k g n q h.1 h.3 later in let low = rest.0 in let high = rest.1 in (low, omega (arith, high))
+  | inr later ↦ let rest = run_marks k g n q h.1 h.3 later in let low = rest.0 in (low, omega (arith, rest.1))
 ]
 
 -- a page that is marked is one of the block's
@@ -176,7 +155,7 @@ module _ (f : Profile) (k epoch : ℕ) (s : Settled) (piece : List Made) (l : Wh
 
   -- ---- the block
   place : 16 * grain_of entry.name ≡ address_of entry.name
-  place = let aligned = within.1 in omega (arith, aligned)
+  place = omega (arith, within.1)
 
   abbrev g : ℕ
   g = grain_of entry.name
@@ -197,13 +176,12 @@ module _ (f : Profile) (k epoch : ℕ) (s : Settled) (piece : List Made) (l : Wh
 
   pub found_block : e.answer ≡ live_word entry.name.turn e.guess → IsEndOfBlock f l entry e.guess
   found_block hit =
-      let turn : entry.name.turn < 2 ^ 40 = let t = within.2 in omega (arith, t) in
+      let turn : entry.name.turn < 2 ^ 40 = omega (arith, within.2) in
       let o = block_of_word f g word (live_in (visible lm) (16 * g)) (gives_in (visible lm) (16 * g)) (ends_in (visible lm) (16 * g)) entry.name.turn e.guess life turn (sym answer_is ∙ hit) in
       let b : Live = o.0 in
       let alive : IsLifeOfLive f g word b (gives_in (visible lm) (16 * g)) (ends_in (visible lm) (16 * g)) = subst (λ (x : Option Live). IsLifeOf f g word x (gives_in (visible lm) (16 * g)) (ends_in (visible lm) (16 * g))) o.1 life in
       let same : live_word entry.name.turn e.guess ≡ live_word (ends_in (visible lm) (16 * g)) (length_of b.block) = sym hit ∙ (answer_is ∙ alive.word_is) in
-      let ended = o.3 in
-      let long : length_of b.block ≡ e.guess = omega (arith, same, ended) in
+      let long : length_of b.block ≡ e.guess = omega (arith, same, o.3) in
       let some : 1 ≤ e.guess = within.3 in
       record {
         block = b;

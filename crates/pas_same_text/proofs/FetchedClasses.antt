@@ -1,60 +1,35 @@
 -- SLOTS OF A CLASS ARE FETCHED for a request, whatever is found: place is made for a local allocator, in the text too, and from there on the fetch is a request of
 -- its own.
-use Rattle.std.proofs.Common.{◌≡◌, ℕ, ◌≤◌, ◌<◌, ◌==◌, nat_le, Bool, true, false, not, ◌&&◌, ◌||◌, if◌then◌else◌, List, [], ◌∷◌, ◌++◌, length, All, Option, None, Some, Result, refl, ap, sym, ◌∙◌, subst, append-nil, append_assoc, arith}
-use Rattle.std.proofs.lemmas.Bool.{true≢false, eq-eqb, eqb-true, false_from_ne_true}
-use Rattle.std.proofs.lemmas.Bool.Decides.{nat_tests}
-use Rattle.std.proofs.lemmas.List.Elements.{All-head, All-tail}
+use Rattle.std.proofs.Common.{◌≡◌, ℕ, ◌≤◌, ◌<◌, ◌==◌, nat_le, Bool, true, false, not, ◌&&◌, ◌||◌, if◌then◌else◌, List, [], ◌∷◌, ◌++◌, length, All, Option, None}
+use Rattle.std.proofs.Common.{Some, Result, refl, ap, sym, ◌∙◌, subst, append-nil, append_assoc, arith, true≢false, eq-eqb, eqb-true}
+use Rattle.std.proofs.lemmas.{Bool.false_from_ne_true, Bool.Decides.nat_tests, List.Elements.All-head, List.Elements.All-tail}
 use Rattle.std.specs.List.{find}
 use Rattle.pas_bits.specs.Masks.{is_set, IsEmpty}
-use Rattle.pas_profile.specs.Classes.{IsClass, IsSlotStart}
-use Rattle.pas_profile.specs.Directories.{IsKind}
-use Rattle.pas_profile.specs.Profiles.{IsValid, IsDirectoryOf}
-use Rattle.pas_profile.specs.Requests.{class_home, is_shared, kind_of_class}
-use Rattle.pas_profile.specs.declared.directory.Directory.{Directory}
-use Rattle.pas_profile.specs.declared.directory.Kind.TheVariants as Kind
-use Rattle.pas_profile.specs.declared.event.Event.{Event}
-use Rattle.pas_profile.specs.declared.event.NoRoom.{NoRoom}
-use Rattle.pas_profile.specs.declared.profile.Profile.{Profile}
-use Rattle.pas_profile.specs.declared.word.Word.TheVariants as Word
-use Rattle.pas_profile.proofs.ClassFacts.{class_grains_positive, usable_grains_le}
-use Rattle.pas_profile.proofs.Codecs.{same_from_deed_word}
-use Rattle.pas_steps.specs.Desks.{triples}
-use Rattle.pas_steps.specs.Events.{events_by}
+use Rattle.pas_profile.specs.{Classes.IsClass, Classes.IsSlotStart, Directories.IsKind, Profiles.IsValid, Profiles.IsDirectoryOf, Requests.class_home}
+use Rattle.pas_profile.specs.{Requests.is_shared, Requests.kind_of_class}
+use Rattle.pas_profile.specs.declared.{directory.Directory.Directory, directory.Kind.Kind, event.Event.Event, event.NoRoom.NoRoom, profile.Profile.Profile}
+use Rattle.pas_profile.specs.declared.{word.Word.Word}
+use Rattle.pas_profile.proofs.{ClassFacts.class_grains_positive, ClassFacts.usable_grains_le, Codecs.same_from_deed_word}
+use Rattle.pas_steps.specs.{Desks.triples, Events.events_by, Views.View, Views.KnowsDeed, Views.known_deed}
 use Rattle.pas_steps.specs.Lists.{Whole, part, word_after, Legal}
-use Rattle.pas_steps.specs.Views.{View, KnowsDeed, known_deed}
 use Rattle.pas_steps.specs.declared.step.Made.{Made}
-use Rattle.pas_steps.proofs.Adding.{triples_append}
-use Rattle.pas_steps.proofs.Apart.{no_events}
-use Rattle.pas_steps.proofs.Frames.{events_append}
-use Rattle.pas_steps.proofs.Parts.{part_of_own}
-use Rattle.pas_core.proofs.Nexts.{agreed_steps}
-use Rattle.pas_core.proofs.OneActor.{legal_earlier}
+use Rattle.pas_steps.proofs.{Adding.triples_append, Apart.no_events, Frames.events_append, Parts.part_of_own}
+use Rattle.pas_core.proofs.{Nexts.agreed_steps, OneActor.legal_earlier}
 use Rattle.pas_search.specs.Searches.{MaySearch}
 use Rattle.pas_segregated.specs.Stops.{home_of}
 use Rattle.pas_segregated.specs.declared.slots.Slots.{Slots}
-use Rattle.pas_cache.specs.Caches.{AtRest}
-use Rattle.pas_cache.specs.Changes.{LeavesSpent, StopsFirst}
-use Rattle.pas_cache.specs.Contents.{Cached}
-use Rattle.pas_cache.specs.Kinds.{releasing}
-use Rattle.pas_cache.specs.Locals.{IsLocal, RestsWith, keeps_right, any_keeps, local_for, others_than}
-use Rattle.pas_cache.specs.Locals.{is_for as is_for_slots}
-use Rattle.pas_cache.specs.Serves.{filling_in, Fetches}
+use Rattle.pas_cache.specs.{Caches.AtRest, Changes.LeavesSpent, Changes.StopsFirst, Contents.Cached, Kinds.releasing, Serves.filling_in, Serves.Fetches}
+use Rattle.pas_cache.specs.Locals.{IsLocal, RestsWith, keeps_right, any_keeps, local_for, others_than, is_for as is_for_slots}
 use Rattle.pas_report.specs.declared.record.Said.{Said as TheSaid}
 use Rattle.pas_trace.specs.EveryPlan.{IsThread}
-use Rattle.pas_answers.specs.Answers.{Progress, Named, records_of, said_by}
-use Rattle.pas_one_text.specs.State.{Local, World, locals_of}
-use Rattle.pas_one_text.specs.Searches.{some_of}
+use Rattle.pas_answers.specs.Answers.{Progress, Named, records_of, said_by, Caches}
+use Rattle.pas_one_text.specs.{State.Local, State.World, State.locals_of, Searches.some_of}
 use Rattle.pas_one_text.specs.Classes.{is_for, fetches, gives_first, gives_up, serves_class_by, serves_class}
 use Rattle.pas_same_text.specs.Same.{IsSame, IsSameLocal, AreSameLocals, ArePagesSame, has_number}
 use Rattle.pas_same_text.specs.Acts.{AreResting, IsBetween}
-use Rattle.pas_same_text.proofs.CacheLists.{same_own, same_again}
-use Rattle.pas_same_text.proofs.LoggedFrees.{after_with}
-use Rattle.pas_same_text.proofs.MiddleRest.{cached_again, middle_rest}
-use Rattle.pas_answers.specs.Answers.{Caches}
+use Rattle.pas_same_text.proofs.{CacheLists.same_own, CacheLists.same_again, LoggedFrees.after_with, MiddleRest.cached_again, MiddleRest.middle_rest}
+use Rattle.pas_same_text.proofs.{OneUp.up_to, SameLocals.Finds, SameLocals.found_same, Tests.and_first, Tests.and_second}
 use Rattle.pas_same_text.proofs.MadePlace.{placed_by, place_made, none_same, most_left, known_found}
-use Rattle.pas_same_text.proofs.OneUp.{up_to}
-use Rattle.pas_same_text.proofs.SameLocals.{Finds, found_same}
-use Rattle.pas_same_text.proofs.Tests.{and_first, and_second}
 
 -- the text once place was made for a local allocator of the heap and class
 abbrev pub with_place : ℕ → ℕ → ℕ → World → World
@@ -186,10 +161,9 @@ module _ (f : Profile) (k heap class : ℕ) (p : Progress) (w : World) (found : 
 
   few_kept : length o.fetch.place.kept ≤ 32
   few_kept =
-      let many = own.few in
       let less = most_left heap class c.locals in
       let long = ap (λ (ss : List Slots). length ss) o.fetch.place.taken.others in
-      omega (arith, many, less, long)
+      omega (arith, own.few, less, long)
 
   place_left : length fewer < 32
   place_left = few_stopped o.fetch.place.kept fewer o.fetch.place.stopped (nat_le 32 (length o.fetch.place.kept)) refl few_kept o.fetch.place.shortened.first
@@ -237,10 +211,9 @@ module _ (f : Profile) (k heap class : ℕ) (p : Progress) (w : World) (found : 
   no_slots : (s : Slots) (l : Local) → IsSameLocal s l → IsLocal f (part k p.list) s → IsEmpty s.starts → some_of l.slots ≡ false
   no_slots s l is known empty = none_some l.slots (λ g. is.slots g ∙ false_from_ne_true (is_set s.starts g) (λ set.
       let slot : IsSlotStart s.class g = known.starts g set in
-      let within = slot.within in
       let most = usable_grains_le s.class known.class in
       let some = class_grains_positive s.class known.class in
-      true≢false (sym set ∙ empty g (omega (arith, within, most, some)))))
+      true≢false (sym set ∙ empty g (omega (arith, slot.within, most, some)))))
 
   module _ (name : ℕ) where
     abbrev served_as : Option Local → World

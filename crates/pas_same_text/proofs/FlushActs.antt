@@ -1,53 +1,30 @@
 -- FLUSHES as acts: all entries of a log take effect.
-use Rattle.std.proofs.Common.{◌≡◌, ℕ, ◌+◌, ◌*◌, ◌/◌, ◌%◌, ◌<◌, ◌==◌, Bool, true, false, if◌then◌else◌, List, [], ◌∷◌, ◌++◌, map, reverse, Some, refl, ap, sym, ◌∙◌, subst, arith}
-use Rattle.std.proofs.lemmas.Bool.{true≢false, eqb-true, eqb-false}
-use Rattle.std.proofs.lemmas.Grind.{reverse_onto}
-use Rattle.std.proofs.lemmas.List.{reverse-append}
-use Rattle.std.proofs.lemmas.Option.{none-some}
+use Rattle.std.proofs.Common.{◌≡◌, ℕ, ◌+◌, ◌*◌, ◌/◌, ◌%◌, ◌<◌, ◌==◌, Bool, true, false, if◌then◌else◌, List, [], ◌∷◌, ◌++◌, map, reverse, Some, refl, ap, sym}
+use Rattle.std.proofs.Common.{◌∙◌, subst, arith, true≢false, eqb-true}
+use Rattle.std.proofs.lemmas.{Bool.eqb-false, Grind.reverse_onto, List.reverse-append, Option.none-some}
 use Rattle.pas_bits.proofs.Runs.{IsMet, met}
-use Rattle.pas_profile.specs.Blocks.{length_of}
-use Rattle.pas_profile.specs.Profiles.{IsValid, IsPage, IsDirectoryOf}
-use Rattle.pas_profile.specs.declared.directory.Directory.{Directory}
-use Rattle.pas_profile.specs.declared.event.Event.{Event}
-use Rattle.pas_profile.specs.declared.profile.Profile.{Profile}
-use Rattle.pas_profile.specs.declared.word.Word.TheVariants as Word
-use Rattle.pas_machine.specs.Machine.{Run}
-use Rattle.pas_machine.specs.State.{Live, live_in, deed_in}
+use Rattle.pas_profile.specs.{Blocks.length_of, Profiles.IsValid, Profiles.IsPage, Profiles.IsDirectoryOf}
+use Rattle.pas_profile.specs.declared.{directory.Directory.Directory, event.Event.Event, profile.Profile.Profile, word.Word.Word}
+use Rattle.pas_machine.specs.{Machine.Run, State.Live, State.live_in, State.deed_in}
 use Rattle.pas_machine.proofs.LiveBlocks.{live_apart, live_long}
-use Rattle.pas_steps.specs.Desks.{made, triples}
-use Rattle.pas_steps.specs.Events.{events_by}
-use Rattle.pas_steps.specs.Lists.{part, visible, Legal}
-use Rattle.pas_steps.specs.Views.{holds, usable_by_kind}
-use Rattle.pas_steps.specs.declared.step.Made.{Made}
-use Rattle.pas_steps.specs.declared.step.Step.TheVariants.{Look}
+use Rattle.pas_steps.specs.{Desks.made, Desks.triples, Events.events_by, Lists.part, Lists.visible, Lists.Legal, Views.holds, Views.usable_by_kind}
+use Rattle.pas_steps.specs.declared.step.{Made.Made, Step.TheVariants.Look}
 use Rattle.pas_core.specs.Good.{IsPartOf}
-use Rattle.pas_core.proofs.MachineRuns.{runs}
-use Rattle.pas_core.proofs.OneActor.{legal_earlier}
-use Rattle.pas_free_log.specs.Frames.{freeing}
-use Rattle.pas_free_log.specs.Flushes.{Settled, noted_after}
-use Rattle.pas_free_log.specs.declared.log.Entry.{Entry}
-use Rattle.pas_free_log.specs.declared.noting.EndedRun.{EndedRun}
+use Rattle.pas_core.proofs.{MachineRuns.runs, OneActor.legal_earlier}
+use Rattle.pas_free_log.specs.{Frames.freeing, Flushes.Settled, Flushes.noted_after}
+use Rattle.pas_free_log.specs.declared.{log.Entry.Entry, noting.EndedRun.EndedRun}
 use Rattle.pas_segregated.specs.declared.slots.Slots.{Slots}
-use Rattle.pas_cache.specs.Changes.{EmptiesLog}
-use Rattle.pas_cache.specs.Contents.{Cached}
-use Rattle.pas_cache.specs.Locals.{any_covers}
+use Rattle.pas_cache.specs.{Changes.EmptiesLog, Contents.Cached, Locals.any_covers}
 use Rattle.pas_report.specs.declared.record.Record.{Record}
 use Rattle.pas_trace.specs.EveryPlan.{IsThread}
-use Rattle.pas_answers.specs.Answers.{Progress, records_of, with_steps, with_records}
-use Rattle.pas_answers.specs.Answers.{with_cache as with_cached}
-use Rattle.pas_one_text.specs.State.{World, each, set_log}
-use Rattle.pas_one_text.specs.Frees.{ends, flushes}
-use Rattle.pas_one_text.specs.Pages.{is_of}
-use Rattle.pas_same_text.specs.Same.{IsSame, HasSame, AreSameCaches}
-use Rattle.pas_same_text.specs.Acts.{IsBetween, AreBlocksUsable}
-use Rattle.pas_same_text.specs.Words.{free_bit}
+use Rattle.pas_answers.specs.Answers.{Progress, records_of, with_steps, with_records, with_cache as with_cached}
+use Rattle.pas_one_text.specs.{State.World, State.each, State.set_log, Frees.ends, Frees.flushes, Pages.is_of}
+use Rattle.pas_same_text.specs.{Same.IsSame, Same.HasSame, Same.AreSameCaches, Acts.IsBetween, Acts.AreBlocksUsable, Words.free_bit}
 use Rattle.pas_same_text.proofs.FlushedLogs.{IsFlushedTo, IsEndedOn, OnlyFewer, flushed_start, flushed_all}
-use Rattle.pas_same_text.proofs.FreeGrains.{held_still}
+use Rattle.pas_same_text.proofs.{FreeGrains.held_still, OuterPages.guards_as, OuterPages.still_unguarded, RestingPages.is_open, RestingPages.deed_now}
+use Rattle.pas_same_text.proofs.{StillIndexes.same_guards, StillIndexes.flushes_keep}
 use Rattle.pas_same_text.proofs.GivenPages.{IsGivenBack, open_from, covered_not_held, free_left, given_pages}
 use Rattle.pas_same_text.proofs.GivingBack.{OffersPage, hint_marks, offer_marks, offered_of_region, epoch_stays_by}
-use Rattle.pas_same_text.proofs.OuterPages.{guards_as, still_unguarded}
-use Rattle.pas_same_text.proofs.RestingPages.{is_open, deed_now}
-use Rattle.pas_same_text.proofs.StillIndexes.{same_guards, flushes_keep}
 
 -- ---- records
 map_reversed : (es : List Event) → map Record.Event (reverse es) ≡ reverse (map Record.Event es)
@@ -149,7 +126,7 @@ module _ (f : Profile) (k : ℕ) (p : Progress) (w : World) (steps : List Made) 
   cache_is : record (p.caches k) { log = []; noted = noted_after (p.caches k).noted h.settled } ≡ c'
   cache_is = ap (λ (ns : List EndedRun). record (p.caches k) { log = []; noted = ns }) (sym h.noted_are) ∙ sym cache
 
-  pub flush_has : HasSame f (with_steps p k steps c') v
+  flush_has : HasSame f (with_steps p k steps c') v
   flush_has = record {
     events = to.events;
     live = to.live;
@@ -162,7 +139,7 @@ module _ (f : Profile) (k : ℕ) (p : Progress) (w : World) (steps : List Made) 
   kept_at j true e = ap (λ (c : Cached). c.locals) cache ∙ ap (λ (i : ℕ). (p.caches i).locals) (sym (eqb-true j k e))
   kept_at j false e = refl
 
-  pub still_held : (j g : ℕ) → holds (part j (with_steps p k steps c').list) g ≡ true → holds (part j p.list) g ≡ true
+  still_held : (j g : ℕ) → holds (part j (with_steps p k steps c').list) g ≡ true → holds (part j p.list) g ≡ true
   still_held j g held = held_still f p (with_steps p k steps c') before after refl j g (λ h. ap (λ (ls : List Slots). any_covers ls g) (sym (kept_at j (j == k) refl)) ∙ h) held
 
   given : IsGivenBack f k p.list w steps v

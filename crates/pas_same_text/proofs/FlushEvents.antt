@@ -1,23 +1,15 @@
 -- What a flush shows: one event for each logged free, in the order of the log.
-use Rattle.std.proofs.Common.{◌≡◌, ℕ, ◌==◌, nat_lt, Bool, true, false, not, ◌&&◌, if◌then◌else◌, List, [], ◌∷◌, refl, ap, sym, ◌∙◌, subst}
-use Rattle.std.proofs.lemmas.Bool.{true≢false, not-true}
+use Rattle.std.proofs.Common.{◌≡◌, ℕ, ◌==◌, nat_lt, Bool, true, false, not, ◌&&◌, if◌then◌else◌, List, [], ◌∷◌, refl, ap, sym, ◌∙◌, subst, true≢false}
+use Rattle.std.proofs.lemmas.Bool.{not-true}
 use Rattle.pas_profile.specs.Lives.{turn_of}
-use Rattle.pas_profile.specs.declared.event.Event.{Event}
-use Rattle.pas_profile.specs.declared.event.Why.{Why}
-use Rattle.pas_profile.specs.declared.profile.Profile.{Profile}
+use Rattle.pas_profile.specs.declared.{event.Event.Event, event.Why.Why, profile.Profile.Profile}
 use Rattle.pas_machine.specs.Machine.{Run}
-use Rattle.pas_free_log.specs.Endings.{reason_by}
-use Rattle.pas_free_log.specs.Flushes.{event_for}
-use Rattle.pas_free_log.specs.Logs.{is_sized}
-use Rattle.pas_free_log.specs.declared.ending.Outcome.{Outcome}
-use Rattle.pas_free_log.specs.declared.ending.Outcome.TheVariants.{Ended, Refused}
-use Rattle.pas_free_log.specs.declared.log.Entry.{Entry}
-use Rattle.pas_one_text.specs.State.{World, each, live_after}
-use Rattle.pas_one_text.specs.Frees.{ends}
+use Rattle.pas_free_log.specs.{Endings.reason_by, Flushes.event_for, Logs.is_sized}
+use Rattle.pas_free_log.specs.declared.{ending.Outcome.Outcome, ending.Outcome.TheVariants.Ended, ending.Outcome.TheVariants.Refused, log.Entry.Entry}
+use Rattle.pas_one_text.specs.{State.World, State.each, State.live_after, Frees.ends}
 use Rattle.pas_same_text.specs.Entries.{IsShown, IsEntryReason, IsEntryEvent, HaveOutcomes, are_unsized, onto, events_of_flush, HasShown}
 use Rattle.pas_same_text.specs.Same.{lives_in}
-use Rattle.pas_same_text.proofs.EntryEvents.{entry_shown}
-use Rattle.pas_same_text.proofs.Tests.{and_first, and_second}
+use Rattle.pas_same_text.proofs.{EntryEvents.entry_shown, Tests.and_first, Tests.and_second}
 
 -- ---- one
 reason_named : (entry : Entry) (sized : Bool) (read : ℕ) → is_sized entry ≡ sized → sized ≡ false → IsEntryReason entry (reason_by sized entry read)

@@ -1,48 +1,28 @@
 -- A FLUSH, entry by entry: its steps beside what the text does.
-use Rattle.std.proofs.Common.{◌≡◌, ℕ, zero, suc, ◌-◌, ◌/◌, ◌<◌, ◌≤◌, ◌==◌, nat_lt, Bool, true, false, if◌then◌else◌, List, [], ◌∷◌, ◌++◌, length, map, reverse, take, Option, None, Some, inl, inr, refl, ap, sym, ◌∙◌, subst, append_assoc, length-append, arith, append-nil}
-use Rattle.std.specs.Prelude.{option_to_list}
-use Rattle.std.proofs.lemmas.Bool.{eq-eqb, or_left, or_right}
-use Rattle.std.proofs.lemmas.Bool.Decides.{nat_tests}
-use Rattle.std.proofs.lemmas.Grind.{reverse_onto}
-use Rattle.std.proofs.lemmas.Option.{same_Some, none-some}
+use Rattle.std.proofs.Common.{◌≡◌, ℕ, zero, suc, ◌-◌, ◌/◌, ◌<◌, ◌≤◌, ◌==◌, nat_lt, Bool, true, false, if◌then◌else◌, List, [], ◌∷◌, ◌++◌, length, map, reverse}
+use Rattle.std.proofs.Common.{take, Option, None, Some, inl, inr, refl, ap, sym, ◌∙◌, subst, append_assoc, length-append, arith, append-nil, option_to_list}
+use Rattle.std.proofs.Common.{eq-eqb}
+use Rattle.std.proofs.lemmas.{Bool.or_left, Bool.or_right, Bool.Decides.nat_tests, Grind.reverse_onto, Option.same_Some, Option.none-some}
 use Rattle.std.specs.List.{flat_map}
 use Rattle.pas_bits.specs.Runs.{meets_page}
-use Rattle.pas_profile.specs.Blocks.{address_of, grain_of, length_of}
-use Rattle.pas_profile.specs.Profiles.{IsValid, IsPage}
-use Rattle.pas_profile.specs.declared.directory.Directory.{Directory}
-use Rattle.pas_profile.specs.declared.event.Event.{Event}
-use Rattle.pas_profile.specs.declared.name.Name.{Name}
-use Rattle.pas_profile.specs.declared.profile.Profile.{Profile}
-use Rattle.pas_profile.specs.declared.word.Word.TheVariants as Word
-use Rattle.pas_machine.specs.Machine.{Run}
-use Rattle.pas_machine.specs.State.{Live, live_in, deed_in}
+use Rattle.pas_profile.specs.{Blocks.address_of, Blocks.grain_of, Blocks.length_of, Profiles.IsValid, Profiles.IsPage}
+use Rattle.pas_profile.specs.declared.{directory.Directory.Directory, event.Event.Event, name.Name.Name, profile.Profile.Profile, word.Word.Word}
+use Rattle.pas_machine.specs.{Machine.Run, State.Live, State.live_in, State.deed_in}
 use Rattle.pas_machine.proofs.LiveBlocks.{lives_where}
-use Rattle.pas_steps.specs.Desks.{made, triples}
-use Rattle.pas_steps.specs.Kinds.{Only, LookEpoch}
+use Rattle.pas_steps.specs.{Desks.made, Desks.triples, Kinds.Only, Kinds.LookEpoch, Past.Always, Views.epoch_of, Views.or_zero}
 use Rattle.pas_steps.specs.Lists.{Whole, part, visible, Legal}
-use Rattle.pas_steps.specs.Past.{Always}
-use Rattle.pas_steps.specs.Views.{epoch_of, or_zero}
-use Rattle.pas_steps.specs.declared.step.Made.{Made}
-use Rattle.pas_steps.specs.declared.step.Step.TheVariants.{Look}
-use Rattle.pas_steps.proofs.Adding.{triples_append}
-use Rattle.pas_steps.proofs.Apart.{only_both, only_within, epoch_same}
-use Rattle.pas_steps.proofs.Parts.{part_of_own}
-use Rattle.pas_core.proofs.MachineRuns.{runs}
-use Rattle.pas_core.proofs.OneActor.{legal_earlier}
+use Rattle.pas_steps.specs.declared.step.{Made.Made, Step.TheVariants.Look}
+use Rattle.pas_steps.proofs.{Adding.triples_append, Apart.only_both, Apart.only_within, Apart.epoch_same, Parts.part_of_own}
+use Rattle.pas_core.proofs.{MachineRuns.runs, OneActor.legal_earlier}
 use Rattle.pas_rights.specs.Looks.{HintsEmpty}
-use Rattle.pas_free_log.specs.Endings.{IsEndOf, reason_for}
+use Rattle.pas_free_log.specs.{Endings.IsEndOf, Endings.reason_for, Frames.ending, Frames.freeing, Noted.large_run, Noted.noted_by}
 use Rattle.pas_free_log.specs.Flushes.{Settled, EntrySteps, EntriesSteps, AfterEnd, event_for, shown_for, noted_for, noted_after}
-use Rattle.pas_free_log.specs.Frames.{ending, freeing}
-use Rattle.pas_free_log.specs.Noted.{large_run, noted_by}
-use Rattle.pas_free_log.specs.declared.ending.Outcome.{Outcome}
-use Rattle.pas_free_log.specs.declared.ending.Outcome.TheVariants.{Ended, Refused}
-use Rattle.pas_free_log.specs.declared.log.Entry.{Entry}
-use Rattle.pas_free_log.specs.declared.noting.EndedRun.{EndedRun}
+use Rattle.pas_free_log.specs.declared.{ending.Outcome.Outcome, ending.Outcome.TheVariants.Ended, ending.Outcome.TheVariants.Refused, log.Entry.Entry}
+use Rattle.pas_free_log.specs.declared.{noting.EndedRun.EndedRun}
 use Rattle.pas_cache.specs.Contents.{Cached}
 use Rattle.pas_report.specs.declared.record.Record.{Record}
 use Rattle.pas_trace.specs.EveryPlan.{IsThread}
-use Rattle.pas_answers.specs.Answers.{Caches}
-use Rattle.pas_answers.specs.Answers.{with_cache as with_cached}
+use Rattle.pas_answers.specs.Answers.{Caches, with_cache as with_cached}
 use Rattle.pas_one_text.specs.State.{World, Cache, each, cache_of, with_cache, noted_of, set_log, live_after}
 use Rattle.pas_one_text.specs.Frees.{ends, ends_block, is_other_room, rejects, pages_of}
 use Rattle.pas_one_text.specs.Pages.{page_numbers}
@@ -51,7 +31,8 @@ use Rattle.pas_same_text.specs.Same.{AreSameCaches, IsSameCache, lives_in, has_n
 use Rattle.pas_same_text.proofs.CacheLists.{all_locals, locals_with, same_with, same_own, same_again, with_own}
 use Rattle.pas_same_text.proofs.EndedBlocks.{rejected_returns, ended_returns, ended_caches, ended_locals, noted_then}
 use Rattle.pas_same_text.proofs.EntryEvents.{reject_text, end_text, reject_shown, end_shown}
-use Rattle.pas_same_text.proofs.EntrySteps.{IsEndOfBlock, found_block, block_marked, name_same, entry_kinds, entry_events, entry_hints, after_marked, read_directory, reason_is}
+use Rattle.pas_same_text.proofs.EntrySteps.{IsEndOfBlock, found_block, block_marked, name_same, entry_kinds, entry_events, entry_hints, after_marked}
+use Rattle.pas_same_text.proofs.EntrySteps.{read_directory, reason_is}
 use Rattle.pas_same_text.proofs.GivenBack.{Returns, returns_nothing, returns_then, returns_like, has_both, page_there}
 use Rattle.pas_same_text.proofs.GivingBack.{IsMarked, marked_parts, none_marked, hints_none, hints_both}
 use Rattle.pas_same_text.proofs.Tests.{has_filtered}

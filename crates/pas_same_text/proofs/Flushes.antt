@@ -1,37 +1,21 @@
 -- The events of a flush, by its steps and in the text.
 use Rattle.std.proofs.Common.{◌≡◌, ℕ, true, List, [], ◌∷◌, ◌++◌, map, reverse, refl, ap, sym, ◌∙◌, subst, append_assoc, Some, if◌then◌else◌, Bool}
-use Rattle.std.proofs.lemmas.Grind.{reverse_onto}
-use Rattle.std.proofs.lemmas.List.{reverse-reverse}
-use Rattle.pas_profile.specs.declared.event.Event.{Event}
-use Rattle.pas_profile.specs.declared.profile.Profile.{Profile}
-use Rattle.pas_profile.specs.declared.word.Word.TheVariants as Word
+use Rattle.std.proofs.lemmas.{Grind.reverse_onto, List.reverse-reverse}
+use Rattle.pas_profile.specs.declared.{event.Event.Event, profile.Profile.Profile, word.Word.Word, name.Block.Block}
 use Rattle.pas_profile.specs.Blocks.{address_of}
-use Rattle.pas_profile.specs.declared.name.Block.{Block}
-use Rattle.pas_machine.specs.Machine.{Run}
-use Rattle.pas_machine.specs.State.{live_in}
-use Rattle.pas_steps.specs.Desks.{made, triple, triples}
-use Rattle.pas_steps.specs.Events.{event_of, events_by, with_event}
+use Rattle.pas_machine.specs.{Machine.Run, State.live_in}
+use Rattle.pas_steps.specs.{Desks.made, Desks.triple, Desks.triples, Events.event_of, Events.events_by, Events.with_event, Views.View, Views.epoch_of}
 use Rattle.pas_steps.specs.Lists.{Whole, part, visible, Legal}
-use Rattle.pas_steps.specs.Views.{View, epoch_of}
-use Rattle.pas_steps.specs.declared.step.Made.{Made}
-use Rattle.pas_steps.specs.declared.step.Step.TheVariants.{Look}
+use Rattle.pas_steps.specs.declared.step.{Made.Made, Step.TheVariants.Look}
 use Rattle.pas_steps.specs.Kinds.{Kinds, Only, apart, showing}
-use Rattle.pas_steps.proofs.Adding.{triples_append}
-use Rattle.pas_steps.proofs.Frames.{with_append}
-use Rattle.pas_steps.proofs.Parts.{part_of_own}
-use Rattle.pas_steps.proofs.Apart.{no_events}
-use Rattle.pas_core.proofs.MachineRuns.{runs}
-use Rattle.pas_core.proofs.OneActor.{legal_earlier}
+use Rattle.pas_steps.proofs.{Adding.triples_append, Frames.with_append, Parts.part_of_own, Apart.no_events}
+use Rattle.pas_core.proofs.{MachineRuns.runs, OneActor.legal_earlier}
 use Rattle.pas_free_log.specs.Flushes.{Settled, shown_for}
-use Rattle.pas_free_log.specs.declared.ending.Outcome.{Outcome}
-use Rattle.pas_free_log.specs.declared.log.Entry.{Entry}
-use Rattle.pas_free_log.specs.declared.noting.EndedRun.{EndedRun}
-use Rattle.pas_one_text.specs.State.{World, each, set_log}
-use Rattle.pas_one_text.specs.Frees.{ends, flushes}
+use Rattle.pas_free_log.specs.declared.{ending.Outcome.Outcome, log.Entry.Entry, noting.EndedRun.EndedRun}
+use Rattle.pas_one_text.specs.{State.World, State.each, State.set_log, Frees.ends, Frees.flushes}
 use Rattle.pas_same_text.specs.Entries.{HaveOutcomes, events_of_flush, are_unsized, onto, HasShown, IsFlushOf}
 use Rattle.pas_same_text.specs.Same.{lives_in}
-use Rattle.pas_same_text.proofs.FlushEvents.{flush_shown}
-use Rattle.pas_same_text.proofs.Tests.{eqb_itself}
+use Rattle.pas_same_text.proofs.{FlushEvents.flush_shown, Tests.eqb_itself}
 
 -- ---- lists
 onto_is : (xs es : List Event) → onto xs es ≡ reverse xs ++ es

@@ -1,24 +1,15 @@
 -- What an act that changes no page keeps.
 use Rattle.std.proofs.Common.{◌≡◌, ℕ, ◌/◌, ◌%◌, ◌==◌, Bool, true, false, not, ◌&&◌, ◌||◌, if◌then◌else◌, List, ◌∷◌, refl, ap, sym, ◌∙◌}
-use Rattle.pas_profile.specs.Directories.{number_of}
-use Rattle.pas_profile.specs.declared.directory.Directory.{Directory}
-use Rattle.pas_profile.specs.declared.event.Event.{Event}
-use Rattle.pas_profile.specs.declared.name.Block.{Block}
-use Rattle.pas_profile.specs.declared.profile.Profile.{Profile}
-use Rattle.pas_profile.specs.declared.word.Word.{Word}
+use Rattle.pas_profile.specs.{Directories.number_of, Layouts.same_word, Blocks.grain_of, Blocks.length_of}
+use Rattle.pas_profile.specs.declared.{directory.Directory.Directory, event.Event.Event, name.Block.Block, profile.Profile.Profile, word.Word.Word}
 use Rattle.pas_profile.specs.declared.word.Word.TheVariants as TheWord
-use Rattle.pas_profile.specs.Layouts.{same_word}
-use Rattle.pas_bits.specs.Bits.{has_bit}
-use Rattle.pas_steps.specs.Lists.{Whole, word_after, visible}
-use Rattle.pas_steps.specs.Desks.{made, triple}
+use Rattle.pas_bits.specs.{Bits.has_bit, Runs.meets_page}
+use Rattle.pas_steps.specs.{Lists.Whole, Lists.word_after, Lists.visible, Desks.made, Desks.triple, Views.usable_by_kind}
 use Rattle.pas_steps.specs.declared.step.Step.TheVariants.{Look, Tick}
 use Rattle.pas_core.specs.Rights.{empty_bit, eligible_bit}
 use Rattle.pas_one_text.specs.State.{Local, Guard, World}
 use Rattle.pas_one_text.specs.Pages.{is_offered, is_same, is_free_of, each_of}
-use Rattle.pas_bits.specs.Runs.{meets_page}
-use Rattle.pas_profile.specs.Blocks.{grain_of, length_of}
 use Rattle.pas_machine.specs.State.{deed_in}
-use Rattle.pas_steps.specs.Views.{usable_by_kind}
 use Rattle.std.specs.List.{list_any, filter}
 use Rattle.pas_same_text.specs.Same.{ArePagesSame, lives_in}
 use Rattle.pas_same_text.proofs.CacheLists.{all_locals}

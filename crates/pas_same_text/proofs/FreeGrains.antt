@@ -1,26 +1,20 @@
 -- A grain is free in the text exactly where its bit is set or a guard has its page, and a page is kept exactly where an actor has its right: whenever all
 -- actors are at rest.
-use Rattle.std.proofs.Common.{◌≡◌, ℕ, ◌+◌, ◌*◌, ◌/◌, ◌<◌, ◌≤◌, ◌≢◌, Bool, true, false, not, ◌&&◌, ◌||◌, List, length, Some, ◌⊎◌, inl, inr, refl, ap, sym, ◌∙◌, subst, arith, ◌%◌}
-use Rattle.std.proofs.lemmas.Bool.{eq-eqb, eqb-true, false≢true, true≢false, or_cases, or_left, or_right, false_from_ne_true, cases_lt}
+use Rattle.std.proofs.Common.{◌≡◌, ℕ, ◌+◌, ◌*◌, ◌/◌, ◌<◌, ◌≤◌, ◌≢◌, Bool, true, false, not, ◌&&◌, ◌||◌, List, length, Some, ◌⊎◌, inl, inr, refl, ap, sym, ◌∙◌}
+use Rattle.std.proofs.Common.{subst, arith, ◌%◌, eq-eqb, eqb-true, true≢false}
+use Rattle.std.proofs.lemmas.Bool.{false≢true, or_cases, or_left, or_right, false_from_ne_true, cases_lt}
 use Rattle.std.specs.List.{list_any}
 use Rattle.std.proofs.Math.Bool.{and-false, or-false}
-use Rattle.pas_bits.specs.Runs.{in_run, meets_page}
-use Rattle.pas_bits.specs.Bits.{has_bit}
+use Rattle.pas_bits.specs.{Runs.in_run, Runs.meets_page, Bits.has_bit}
 use Rattle.pas_bits.proofs.Runs.{run_meets}
-use Rattle.pas_profile.specs.Blocks.{address_of, length_of}
-use Rattle.pas_profile.specs.Blocks.{grain_of as first_grain}
-use Rattle.pas_profile.specs.Profiles.{IsValid}
-use Rattle.pas_profile.specs.declared.name.Block.{Block}
-use Rattle.pas_profile.specs.declared.profile.Profile.{Profile}
+use Rattle.pas_profile.specs.{Blocks.address_of, Blocks.length_of, Blocks.grain_of as first_grain, Profiles.IsValid}
+use Rattle.pas_profile.specs.declared.{name.Block.Block, profile.Profile.Profile}
 use Rattle.pas_machine.specs.State.{Live, live_in}
 use Rattle.pas_machine.proofs.LiveBlocks.{lives_where}
 use Rattle.pas_steps.specs.Lists.{part, visible, word_after, Whole, Legal}
-use Rattle.pas_steps.specs.Views.{View, holds, has_right}
-use Rattle.pas_steps.specs.Effects.{free_word_at}
-use Rattle.pas_core.specs.Good.{IsPartOf, IsInOnePlace}
-use Rattle.pas_core.specs.Rights.{free_of_page}
-use Rattle.pas_core.proofs.MachineRuns.{runs, in_one_place}
-use Rattle.pas_core.proofs.Offers.{no_other_actor}
+use Rattle.pas_steps.specs.{Views.View, Views.holds, Views.has_right, Effects.free_word_at}
+use Rattle.pas_core.specs.{Good.IsPartOf, Good.IsInOnePlace, Rights.free_of_page}
+use Rattle.pas_core.proofs.{MachineRuns.runs, MachineRuns.in_one_place, Offers.no_other_actor}
 use Rattle.pas_segregated.specs.declared.slots.Slots.{Slots}
 use Rattle.pas_cache.specs.Locals.{any_covers}
 use Rattle.pas_guard.specs.Books.{is_outer}
@@ -29,17 +23,14 @@ use Rattle.pas_trace.specs.EveryPlan.{IsThread}
 use Rattle.pas_answers.specs.Answers.{Books, Progress}
 use Rattle.pas_one_text.specs.State.{World, cache_in}
 use Rattle.pas_one_text.specs.Pages.{is_free, is_covered, is_cached, is_guarded, blocks_on, locals_on}
-use Rattle.pas_same_text.specs.Same.{HasSame, lives_in}
-use Rattle.pas_same_text.specs.Acts.{IsBetween}
-use Rattle.pas_same_text.specs.Words.{free_bit}
-use Rattle.pas_same_text.proofs.LiveBlocks.{LivesSo, lives_so, lives_listed}
-use Rattle.pas_same_text.proofs.OuterPages.{guarded_by, outer_guarded}
+use Rattle.pas_same_text.specs.{Same.HasSame, Same.lives_in, Acts.IsBetween, Words.free_bit}
+use Rattle.pas_same_text.proofs.{LiveBlocks.LivesSo, LiveBlocks.lives_so, LiveBlocks.lives_listed, OuterPages.guarded_by, OuterPages.outer_guarded}
 use Rattle.pas_same_text.proofs.Slots.{has_grain, grains_same, IsOfCache, of_cache, in_all, cached_any, any_cached}
 use Rattle.pas_same_text.proofs.Tests.{and_second, any_filtered, filtered_any, on_page}
 
 -- ---- actors
 -- an actor that is neither the scavenger nor past the last thread is a thread
-pub thread_or : (f : Profile) (k : ℕ) → k ≢ 0 → (f.threads < k → ⊥) → IsThread f k
+thread_or : (f : Profile) (k : ℕ) → k ≢ 0 → (f.threads < k → ⊥) → IsThread f k
 thread_or f k some few = let last : k ≤ f.threads = le_or (cases_lt f.threads k) in (omega (arith, some), last)
   where
     le_or : (f.threads < k) ⊎ (k ≤ f.threads) → k ≤ f.threads
@@ -78,8 +69,8 @@ module _ (f : Profile) (p : Progress) (between : IsBetween f p) where
 
   outer_thread : (k page : ℕ) → is_outer (p.books k) page ≡ true → IsThread f k
   outer_thread k page h = thread_or f k
-      (λ zero. outer_none k page (λ is. let low = is.0 in omega (arith, low, zero)) h)
-      (λ past. outer_none k page (λ is. let high = is.1 in omega (arith, high, past)) h)
+      (λ zero. outer_none k page (λ is. omega (arith, is.0, zero)) h)
+      (λ past. outer_none k page (λ is. omega (arith, is.1, past)) h)
 
   -- who holds a grain is an actor of the region, and so is who has a right
   pub holder_thread : (k g : ℕ) → holds (part k p.list) g ≡ true → IsThread f k

@@ -1,22 +1,18 @@
 -- What the text does where grains come back to pages: which grains are free then, and which pages are hinted.
-use Rattle.std.proofs.Common.{◌≡◌, ℕ, zero, suc, ◌+◌, ◌<◌, ◌≤◌, ◌≢◌, ◌==◌, Bool, true, false, ◌&&◌, ◌||◌, if◌then◌else◌, List, [], ◌∷◌, ◌++◌, inl, inr, refl, ap, sym, ◌∙◌, arith}
-use Rattle.std.proofs.lemmas.Bool.{false≢true, true≢false, eqb-true, eq-eqb, or_cases, cases_eq, and_from, or_parts}
-use Rattle.std.proofs.lemmas.List.Folds.{list_any-append}
+use Rattle.std.proofs.Common.{◌≡◌, ℕ, zero, suc, ◌+◌, ◌<◌, ◌≤◌, ◌≢◌, ◌==◌, Bool, true, false, ◌&&◌, ◌||◌, if◌then◌else◌, List, [], ◌∷◌, ◌++◌, inl, inr, refl}
+use Rattle.std.proofs.Common.{ap, sym, ◌∙◌, arith, true≢false, eqb-true, eq-eqb}
+use Rattle.std.proofs.lemmas.Bool.{false≢true, or_cases, cases_eq, and_from, or_parts}
+use Rattle.std.proofs.{lemmas.List.Folds.list_any-append, Math.Bool.or-true, Math.Bool.or-false}
 use Rattle.std.specs.List.{list_any, filter}
-use Rattle.std.proofs.Math.Bool.{or-true, or-false}
 use Rattle.pas_bits.specs.Runs.{meets_page}
-use Rattle.pas_profile.specs.Blocks.{grain_of, length_of}
-use Rattle.pas_profile.specs.Profiles.{IsPage}
-use Rattle.pas_profile.specs.declared.name.Block.{Block}
-use Rattle.pas_profile.specs.declared.profile.Profile.{Profile}
-use Rattle.pas_profile.specs.declared.event.Event.{Event}
+use Rattle.pas_profile.specs.{Blocks.grain_of, Blocks.length_of, Profiles.IsPage}
+use Rattle.pas_profile.specs.declared.{name.Block.Block, profile.Profile.Profile, event.Event.Event}
 use Rattle.pas_machine.specs.State.{backed_in}
 use Rattle.pas_trace.specs.Acts.{numbers_from}
 use Rattle.pas_one_text.specs.State.{Local, World, each}
 use Rattle.pas_one_text.specs.Pages.{each_of, is_free, is_free_of, is_empty, is_hinted, hints, minds, page_numbers}
 use Rattle.pas_same_text.specs.Same.{has_number}
-use Rattle.pas_same_text.proofs.CacheLists.{all_locals}
-use Rattle.pas_same_text.proofs.Tests.{and_first, and_second}
+use Rattle.pas_same_text.proofs.{CacheLists.all_locals, Tests.and_first, Tests.and_second}
 
 -- ---- tests of numbers that follow each other
 pub each_same : (n from : ℕ) (test other : ℕ → Bool) → ((b : ℕ) → from ≤ b → b < from + n → test b ≡ other b) → each_of from n test ≡ each_of from n other
@@ -32,7 +28,7 @@ each_more_at true false r s first rest h = first refl
 each_more_at false y r s first rest h = absurd (false≢true h)
 
 -- each number passes the one test that passes the other
-pub each_more : (n from : ℕ) (test other : ℕ → Bool) → ((b : ℕ) → from ≤ b → b < from + n → test b ≡ true → other b ≡ true) → each_of from n test ≡ true → each_of from n other ≡ true
+each_more : (n from : ℕ) (test other : ℕ → Bool) → ((b : ℕ) → from ≤ b → b < from + n → test b ≡ true → other b ≡ true) → each_of from n test ≡ true → each_of from n other ≡ true
 unfolding each_of
 each_more zero from test other more h = refl
 each_more (suc n) from test other more h =
@@ -115,7 +111,7 @@ all_only_hints (page ∷ pages) w = hints_then w (minds page w) (each minds page
 abbrev pub is_idle : World → ℕ → Bool
 is_idle w page = backed_in w.events page && is_empty w page
 
-pub idle_kept : (w v : World) (page : ℕ) → OnlyHints w v → is_idle v page ≡ is_idle w page
+idle_kept : (w v : World) (page : ℕ) → OnlyHints w v → is_idle v page ≡ is_idle w page
 idle_kept w v page only =
     ap (λ (es : List Event). backed_in es page && is_empty v page) only.events
     ∙ ap (λ (t : Bool). backed_in w.events page && t) (empty_kept w v page (λ b small. free_kept w v page b only.live (ap all_locals only.caches)))
@@ -152,7 +148,7 @@ joined false true false true = refl
 joined false true false false = refl
 joined false false r i = refl
 
-pub hinted_all : (pages : List ℕ) (w : World) (q : ℕ) → is_hinted (each minds pages w) q ≡ (is_hinted w q || (has_number pages q && is_idle w q))
+hinted_all : (pages : List ℕ) (w : World) (q : ℕ) → is_hinted (each minds pages w) q ≡ (is_hinted w q || (has_number pages q && is_idle w q))
 hinted_all [] w q = sym (or-false (is_hinted w q))
 hinted_all (page ∷ pages) w q =
     hinted_all pages (minds page w) q
@@ -168,7 +164,7 @@ pub record Returns (f : Profile) (pages : List ℕ) (w v : World) : Type 0 where
   pub others : (page b : ℕ) → IsPage f page → has_number pages page ≡ false → b < 256 → is_free v page b ≡ is_free w page b
   pub hinted : (page : ℕ) → is_hinted v page ≡ (is_hinted w page || (has_number pages page && is_idle v page))
 
-pub idle_grows : (f : Profile) (pages : List ℕ) (w v : World) (page : ℕ) → Returns f pages w v → is_idle w page ≡ true → is_idle v page ≡ true
+idle_grows : (f : Profile) (pages : List ℕ) (w v : World) (page : ℕ) → Returns f pages w v → is_idle w page ≡ true → is_idle v page ≡ true
 idle_grows f pages w v page r h = both (backed_in w.events page) (backed_in v.events page) (is_empty w page) (is_empty v page) (sym (r.backed page)) (each_more 256 0 (is_free w page) (is_free v page) (λ b low high. r.grows page b high)) h
   where
     both : (x y e g : Bool) → x ≡ y → (e ≡ true → g ≡ true) → (x && e) ≡ true → (y && g) ≡ true
@@ -263,7 +259,7 @@ numbers_within : (n from page : ℕ) → has_number (numbers_from from n) page �
 numbers_within zero from page h = absurd (false≢true h)
 numbers_within (suc n) from page h = elim (or_cases (from == page) (has_number (numbers_from (from + 1) n) page) h) [
   | inl here ↦ let is : from ≡ page = eqb-true from page here in (omega (arith, is), omega (arith, is))
-  | inr later ↦ let in_rest = numbers_within n (from + 1) page later in let low = in_rest.0 in let high = in_rest.1 in (omega (arith, low), omega (arith, high))
+  | inr later ↦ let in_rest = numbers_within n (from + 1) page later in (omega (arith, in_rest.0), omega (arith, in_rest.1))
 ]
 
 have_at : (from page : ℕ) (rest : Bool) (t : Bool) → (from == page) ≡ t → (from ≢ page → rest ≡ true) → ((from == page) || rest) ≡ true
@@ -275,7 +271,7 @@ numbers_have zero from page low high = absurd (omega (arith, low, high))
 numbers_have (suc n) from page low high = have_at from page (has_number (numbers_from (from + 1) n) page) (from == page) refl (λ ne. numbers_have n (from + 1) page (omega (arith, low, ne)) (omega (arith, high)))
 
 pub page_within : (f : Profile) (page : ℕ) → has_number (page_numbers f) page ≡ true → IsPage f page
-page_within f page h = let at = numbers_within f.pages 1 page h in let high = at.1 in (at.0, omega (arith, high))
+page_within f page h = let at = numbers_within f.pages 1 page h in (at.0, omega (arith, at.1))
 
 pub page_there : (f : Profile) (page : ℕ) → IsPage f page → has_number (page_numbers f) page ≡ true
-page_there f page of = let high = of.1 in numbers_have f.pages 1 page of.0 (omega (arith, high))
+page_there f page of = numbers_have f.pages 1 page of.0 (omega (arith, of.1))

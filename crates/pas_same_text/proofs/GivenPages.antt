@@ -1,48 +1,38 @@
 -- Pages after an act that only gives back: which are hinted, and which are offered.
 use Rattle.std.proofs.Common.{◌≡◌, ℕ, ◌+◌, ◌*◌, ◌/◌, ◌%◌, ◌<◌, true, false, not, ◌&&◌, ◌||◌, List, ◌++◌, Some, ◌⊎◌, inl, inr, refl, ap, sym, ◌∙◌, subst, arith}
-use Rattle.std.proofs.lemmas.Bool.{true≢false, false≢true, or_cases, false_from_ne_true, eq-eqb, or_left, or_right, and_from, not-true, not-false}
-use Rattle.pas_profile.specs.Directories.{number_of}
-use Rattle.pas_profile.specs.Profiles.{IsValid, IsPage, IsDirectoryOf}
-use Rattle.pas_profile.specs.declared.directory.Directory.{Directory}
-use Rattle.pas_profile.specs.declared.event.Event.{Event}
-use Rattle.pas_profile.specs.declared.profile.Profile.{Profile}
+use Rattle.std.proofs.Common.{true≢false, eq-eqb}
+use Rattle.std.proofs.lemmas.Bool.{false≢true, or_cases, false_from_ne_true, or_left, or_right, and_from, not-true, not-false}
+use Rattle.pas_profile.specs.{Directories.number_of, Profiles.IsValid, Profiles.IsPage, Profiles.IsDirectoryOf}
+use Rattle.pas_profile.specs.declared.{directory.Directory.Directory, event.Event.Event, profile.Profile.Profile}
 use Rattle.pas_machine.specs.State.{Live, live_in, backed_in}
-use Rattle.pas_steps.specs.Desks.{triples}
-use Rattle.pas_steps.specs.Kinds.{Only}
+use Rattle.pas_steps.specs.{Desks.triples, Kinds.Only, Past.Always, Views.holds, Views.usable_by_kind}
 use Rattle.pas_steps.specs.Lists.{Whole, part, visible, Legal}
-use Rattle.pas_steps.specs.Past.{Always}
-use Rattle.pas_steps.specs.Views.{holds, usable_by_kind}
 use Rattle.pas_steps.specs.declared.step.Made.{Made}
 use Rattle.pas_steps.proofs.Sets.{same_truth}
-use Rattle.pas_core.specs.Good.{IsPartOf, IsInOnePlace, word_of_backed}
-use Rattle.pas_core.specs.Hints.{IsEmptyBacked}
-use Rattle.pas_core.specs.Rights.{empty_bit, eligible_bit}
-use Rattle.pas_core.proofs.MachineRuns.{agrees, in_one_place, one_backed}
-use Rattle.pas_core.proofs.Offers.{hinted_at_rest}
-use Rattle.pas_core.proofs.Rights.{hinted_page, right_in_one_place}
+use Rattle.pas_core.specs.{Good.IsPartOf, Good.IsInOnePlace, Good.word_of_backed, Hints.IsEmptyBacked, Rights.empty_bit, Rights.eligible_bit}
+use Rattle.pas_core.proofs.{MachineRuns.agrees, MachineRuns.in_one_place, MachineRuns.one_backed, Offers.hinted_at_rest, Rights.hinted_page}
+use Rattle.pas_core.proofs.{Rights.right_in_one_place}
 use Rattle.pas_rights.specs.Looks.{HintsEmpty}
 use Rattle.pas_free_log.specs.Frames.{freeing}
 use Rattle.pas_answers.specs.Answers.{Progress}
 use Rattle.pas_one_text.specs.State.{World}
 use Rattle.pas_one_text.specs.Pages.{each_of, is_free, is_empty, is_hinted, is_guarded, is_of, is_offered, has_room}
-use Rattle.pas_same_text.specs.Same.{HasSame, ArePagesSame, has_number}
-use Rattle.pas_same_text.specs.Acts.{IsBetween}
-use Rattle.pas_same_text.specs.Words.{free_bit}
-use Rattle.pas_same_text.proofs.FreeGrains.{free_unless, bit_free, bit_unguarded}
+use Rattle.pas_same_text.specs.{Same.HasSame, Same.ArePagesSame, Same.has_number, Acts.IsBetween, Words.free_bit}
+use Rattle.pas_same_text.proofs.{FreeGrains.free_unless, FreeGrains.bit_free, FreeGrains.bit_unguarded, OuterPages.guarded_by, Tests.and_first}
+use Rattle.pas_same_text.proofs.{Tests.and_second}
 use Rattle.pas_same_text.proofs.GivenBack.{Returns, is_idle, each_at, each_all}
 use Rattle.pas_same_text.proofs.GivingBack.{OffersPage, HintsPage, hinted_stays, hinted_by, offered_by, hinted_empty}
-use Rattle.pas_same_text.proofs.OuterPages.{guarded_by}
-use Rattle.pas_same_text.proofs.RestingPages.{Fails, some_fails, is_open, is_opened, open_unguarded, open_room, had_open, clear_of, bit_tells, bit_offered, offered_bit}
-use Rattle.pas_same_text.proofs.Tests.{and_first, and_second}
+use Rattle.pas_same_text.proofs.RestingPages.{Fails, some_fails, is_open, is_opened, open_unguarded, open_room, had_open, clear_of, bit_tells, bit_offered}
+use Rattle.pas_same_text.proofs.RestingPages.{offered_bit}
 
 -- ---- room
 -- a page with a free grain that its blocks may cover has room
-pub room_from : (w : World) (d : Directory) (page b : ℕ) → b < 256 → usable_by_kind d.kind b ≡ true → is_free w page b ≡ true → has_room w d page ≡ true
+room_from : (w : World) (d : Directory) (page b : ℕ) → b < 256 → usable_by_kind d.kind b ≡ true → is_free w page b ≡ true → has_room w d page ≡ true
 room_from w d page b small usable free = ap not (false_from_ne_true (each_of 0 256 (λ x. not (usable_by_kind d.kind x && is_free w page x))) (λ all.
     false≢true (sym (ap not (and_from (usable_by_kind d.kind b) (is_free w page b) usable free)) ∙ each_at 256 0 b (λ x. not (usable_by_kind d.kind x && is_free w page x)) all (omega arith) small)))
 
 -- where free grains stay free, room stays
-pub room_grows : (w v : World) (d : Directory) (page : ℕ) → ((b : ℕ) → b < 256 → is_free w page b ≡ true → is_free v page b ≡ true) → has_room w d page ≡ true → has_room v d page ≡ true
+room_grows : (w v : World) (d : Directory) (page : ℕ) → ((b : ℕ) → b < 256 → is_free w page b ≡ true → is_free v page b ≡ true) → has_room w d page ≡ true → has_room v d page ≡ true
 room_grows w v d page grows room =
     let o : Fails 0 256 (λ b. not (usable_by_kind d.kind b && is_free w page b)) = some_fails 256 0 (λ b. not (usable_by_kind d.kind b && is_free w page b)) (not-true (each_of 0 256 (λ b. not (usable_by_kind d.kind b && is_free w page b))) room) in
     let both : (usable_by_kind d.kind o.number && is_free w page o.number) ≡ true = not-false (usable_by_kind d.kind o.number && is_free w page o.number) o.fails in
@@ -84,7 +74,7 @@ module _ (f : Profile) (p : Progress) (w : World) (valid : IsValid f) (between :
   backed_is : (page : ℕ) → backed_in w.events page ≡ backed_in (visible p.list) page
   backed_is page = ap (λ (es : List Event). backed_in es page) same.events
 
-  pub idle_page : (page : ℕ) → is_idle w page ≡ true → IsEmptyBacked p.list page
+  idle_page : (page : ℕ) → is_idle w page ≡ true → IsEmptyBacked p.list page
   idle_page page h =
       let backed : backed_in w.events page ≡ true = and_first (backed_in w.events page) (is_empty w page) h in
       let empty : is_empty w page ≡ true = and_second (backed_in w.events page) (is_empty w page) h in

@@ -1,27 +1,21 @@
 -- What the text does where the local allocators of a cache go: their slots come back to their pages.
-use Rattle.std.proofs.Common.{◌≡◌, ℕ, ◌+◌, ◌-◌, ◌*◌, ◌≤◌, ◌==◌, Bool, true, false, not, ◌&&◌, ◌||◌, if◌then◌else◌, cond, List, [], ◌∷◌, ◌++◌, length, map, refl, ap, sym, ◌∙◌, subst, arith}
-use Rattle.std.proofs.lemmas.Bool.{eq-eqb, eqb-true, false≢true, or_right}
-use Rattle.std.proofs.lemmas.List.Folds.{list_any-append}
-use Rattle.std.proofs.lemmas.List.Sums.{sum_by-cons}
+use Rattle.std.proofs.Common.{◌≡◌, ℕ, ◌+◌, ◌-◌, ◌*◌, ◌≤◌, ◌==◌, Bool, true, false, not, ◌&&◌, ◌||◌, if◌then◌else◌, cond, List, [], ◌∷◌, ◌++◌, length, map, refl}
+use Rattle.std.proofs.Common.{ap, sym, ◌∙◌, subst, arith, eq-eqb, eqb-true}
+use Rattle.std.proofs.lemmas.{Bool.false≢true, Bool.or_right, List.Folds.list_any-append, List.Sums.sum_by-cons}
 use Rattle.std.specs.List.{list_any, count_by}
 use Rattle.pas_bits.specs.Runs.{in_run}
-use Rattle.pas_profile.specs.Classes.{class_grains}
-use Rattle.pas_profile.specs.Profiles.{IsPage}
+use Rattle.pas_profile.specs.{Classes.class_grains, Profiles.IsPage}
 use Rattle.pas_profile.specs.declared.profile.Profile.{Profile}
 use Rattle.pas_steps.proofs.Sets.{same_truth}
 use Rattle.pas_segregated.specs.declared.slots.Slots.{Slots}
-use Rattle.pas_cache.specs.Locals.{HasOneEach}
-use Rattle.pas_cache.specs.Locals.{is_for as is_for_slots}
+use Rattle.pas_cache.specs.Locals.{HasOneEach, is_for as is_for_slots}
 use Rattle.pas_one_text.specs.State.{Local, Cache, World, each, cache_in, cache_of, with_cache, locals_of, set_locals}
-use Rattle.pas_one_text.specs.Classes.{is_for, others, gives_up}
-use Rattle.pas_one_text.specs.Frees.{gives_up_all}
+use Rattle.pas_one_text.specs.{Classes.is_for, Classes.others, Classes.gives_up, Frees.gives_up_all}
 use Rattle.pas_one_text.specs.Pages.{is_covered, is_cached, blocks_on, locals_on}
 use Rattle.pas_same_text.specs.Same.{AreSameLocals}
 use Rattle.pas_same_text.proofs.CacheLists.{all_locals, own_with, many_with, with_own}
 use Rattle.pas_same_text.proofs.GivenBack.{Returns, OnlyHints, minded_last, all_only_hints, returns_nothing, returns_then}
-use Rattle.pas_same_text.proofs.SameLocals.{for_same}
-use Rattle.pas_same_text.proofs.Slots.{has_grain, cached_any, any_cached}
-use Rattle.pas_same_text.proofs.Tests.{or_none, and_more, weaker_at}
+use Rattle.pas_same_text.proofs.{SameLocals.for_same, Slots.has_grain, Slots.cached_any, Slots.any_cached, Tests.or_none, Tests.and_more, Tests.weaker_at}
 
 -- ---- one local allocator of a heap and class
 abbrev pub AreUnique : List Local → Type 0
@@ -77,7 +71,7 @@ given_at : (c : Cache) (cs : List Cache) (k : ℕ) (new : Cache) (p : Local → 
 given_at c cs k new p true one more h = swap_at true c.locals new.locals p (all_locals cs) (all_locals cs) one (λ e. e) h
 given_at c cs k new p false one more h = swap_at true c.locals c.locals p (all_locals (with_cache cs (k - 1) new)) (all_locals cs) (λ e. e) (more one) h
 
-pub any_with : (cs : List Cache) (k : ℕ) (new : Cache) (p : Local → Bool) → (list_any p new.locals ≡ true → list_any p (cache_in cs k).locals ≡ true) → list_any p (all_locals (with_cache cs k new)) ≡ true → list_any p (all_locals cs) ≡ true
+any_with : (cs : List Cache) (k : ℕ) (new : Cache) (p : Local → Bool) → (list_any p new.locals ≡ true → list_any p (cache_in cs k).locals ≡ true) → list_any p (all_locals (with_cache cs k new)) ≡ true → list_any p (all_locals cs) ≡ true
 any_with [] k new p one h = h
 any_with (c ∷ cs) k new p one h = given_at c cs k new p (k == 1) one (λ less. any_with cs (k - 1) new p less) h
 
@@ -87,7 +81,7 @@ taken_at : (c : Cache) (cs : List Cache) (k : ℕ) (new : Cache) (p : Local → 
 taken_at c cs k new p true one more h = swap_at true new.locals c.locals p (all_locals cs) (all_locals cs) one (λ e. e) h
 taken_at c cs k new p false one more h = swap_at true c.locals c.locals p (all_locals cs) (all_locals (with_cache cs (k - 1) new)) (λ e. e) (more one) h
 
-pub with_any : (cs : List Cache) (k : ℕ) (new : Cache) (p : Local → Bool) → (list_any p (cache_in cs k).locals ≡ true → list_any p new.locals ≡ true) → list_any p (all_locals cs) ≡ true → list_any p (all_locals (with_cache cs k new)) ≡ true
+with_any : (cs : List Cache) (k : ℕ) (new : Cache) (p : Local → Bool) → (list_any p (cache_in cs k).locals ≡ true → list_any p new.locals ≡ true) → list_any p (all_locals cs) ≡ true → list_any p (all_locals (with_cache cs k new)) ≡ true
 with_any [] k new p one h = h
 with_any (c ∷ cs) k new p one h = taken_at c cs k new p (k == 1) one (λ less. with_any cs (k - 1) new p less) h
 
@@ -96,7 +90,7 @@ twice_at : (c : Cache) (cs : List Cache) (k : ℕ) (a b : Cache) (t : Bool) → 
 twice_at c cs k a b true e more = ap (λ (u : Bool). if u then b ∷ cs else a ∷ with_cache cs (k - 1) b) e
 twice_at c cs k a b false e more = ap (λ (u : Bool). if u then b ∷ with_cache cs (k - 1) a else c ∷ with_cache (with_cache cs (k - 1) a) (k - 1) b) e ∙ ap (λ (xs : List Cache). c ∷ xs) (more refl)
 
-pub with_twice : (cs : List Cache) (k : ℕ) (a b : Cache) → with_cache (with_cache cs k a) k b ≡ with_cache cs k b
+with_twice : (cs : List Cache) (k : ℕ) (a b : Cache) → with_cache (with_cache cs k a) k b ≡ with_cache cs k b
 with_twice [] k a b = refl
 with_twice (c ∷ cs) k a b = twice_at c cs k a b (k == 1) refl (λ e. with_twice cs (k - 1) a b)
 

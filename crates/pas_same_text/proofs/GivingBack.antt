@@ -1,32 +1,20 @@
 -- What steps that only give back leave of the words: free grains, offers, hints and backed pages stay; and which step sets a bit.
-use Rattle.std.proofs.Common.{◌≡◌, ℕ, ◌/◌, ◌%◌, ◌<◌, ◌==◌, Bool, true, false, ◌&&◌, if◌then◌else◌, List, [], ◌∷◌, ◌++◌, ◌⊎◌, inl, inr, refl, ap, sym, ◌∙◌, subst, arith}
-use Rattle.std.proofs.lemmas.Bool.{true≢false, false≢true, eqb-true}
+use Rattle.std.proofs.Common.{◌≡◌, ℕ, ◌/◌, ◌%◌, ◌<◌, ◌==◌, Bool, true, false, ◌&&◌, if◌then◌else◌, List, [], ◌∷◌, ◌++◌, ◌⊎◌, inl, inr, refl, ap, sym, ◌∙◌}
+use Rattle.std.proofs.Common.{subst, arith, true≢false, eqb-true}
+use Rattle.std.proofs.lemmas.Bool.{false≢true}
 use Rattle.pas_bits.specs.Bits.{has_bit}
 use Rattle.pas_bits.proofs.PageVectors.{page_bit-set, page_bit-clear}
-use Rattle.pas_profile.specs.Directories.{number_of}
-use Rattle.pas_profile.specs.Layouts.{same_word}
-use Rattle.pas_profile.specs.Profiles.{IsPage}
-use Rattle.pas_profile.specs.declared.directory.Directory.{Directory}
-use Rattle.pas_profile.specs.declared.profile.Profile.{Profile}
-use Rattle.pas_profile.specs.declared.word.Word.{Word}
-use Rattle.pas_steps.specs.Allowed.{IsStepOf}
-use Rattle.pas_steps.specs.Desks.{triples}
-use Rattle.pas_steps.specs.Effects.{target, new_value, free_word_at}
-use Rattle.pas_steps.specs.Frames.{OnlyReturns, IsReturn}
+use Rattle.pas_profile.specs.{Directories.number_of, Layouts.same_word, Profiles.IsPage}
+use Rattle.pas_profile.specs.declared.{directory.Directory.Directory, profile.Profile.Profile, word.Word.Word}
+use Rattle.pas_steps.specs.{Allowed.IsStepOf, Desks.triples, Effects.target, Effects.new_value, Effects.free_word_at, Frames.OnlyReturns, Frames.IsReturn}
+use Rattle.pas_steps.specs.{Past.Once, Past.Always, Views.epoch_of}
 use Rattle.pas_steps.specs.Kinds.{Kinds, kind_of, place_of, is_in, apart, Only, Taking, Backing, Unbacking, Hinting, Unhinting, Offering, Ticking}
 use Rattle.pas_steps.specs.Lists.{Whole, part, word_after, Legal}
-use Rattle.pas_steps.specs.Past.{Once, Always}
-use Rattle.pas_steps.specs.Views.{epoch_of}
-use Rattle.pas_steps.specs.declared.step.Made.{Made}
-use Rattle.pas_steps.specs.declared.step.Step.{Step}
+use Rattle.pas_steps.specs.declared.step.{Made.Made, Step.Step}
 use Rattle.pas_steps.specs.declared.step.Step.TheVariants.{Look, Back, Put, TakeRight, Offer, Hint, Tick, Unback, Unhint}
-use Rattle.pas_steps.proofs.Apart.{in_apart}
-use Rattle.pas_steps.proofs.Past.{since_once}
-use Rattle.pas_steps.proofs.Flags.{stays_set}
-use Rattle.pas_core.specs.Rights.{empty_bit, eligible_bit}
-use Rattle.pas_core.specs.Hints.{IsEmptyBacked}
-use Rattle.pas_core.proofs.Deeds.{looked}
-use Rattle.pas_core.proofs.OneActor.{free_stays}
+use Rattle.pas_steps.proofs.{Apart.in_apart, Past.since_once, Flags.stays_set}
+use Rattle.pas_core.specs.{Rights.empty_bit, Rights.eligible_bit, Hints.IsEmptyBacked}
+use Rattle.pas_core.proofs.{Deeds.looked, OneActor.free_stays}
 use Rattle.pas_rights.specs.Looks.{ReadsBacked, ReadsAllFree, TakesNone, ReadsEmpty, HintsEmpty}
 use Rattle.pas_rights.specs.PutsBack.{GivesDuly}
 use Rattle.pas_rights.proofs.Hints.{due_later}
@@ -166,7 +154,7 @@ offer_marks q (m ∷ xs) (inl h) = inl (ap (is_mark q) h.1 ∙ eqb_itself q)
 offer_marks q (m ∷ xs) (inr h) = inr (offer_marks q xs h)
 
 -- ---- a hint rests on looks that read the page as backed and empty
-pub hints_later : (m : Made) (before xs : List Made) → HintsEmpty m before → HintsEmpty m (before ++ xs)
+hints_later : (m : Made) (before xs : List Made) → HintsEmpty m before → HintsEmpty m (before ++ xs)
 hints_later m before xs h page is = (due_later m before xs (h, λ p word mask g same here. absurd (not_put p word mask (sym is ∙ same)))).0 page is
   where
     not_put : (p word mask : ℕ) → Hint page ≡ Put p word mask → ⊥

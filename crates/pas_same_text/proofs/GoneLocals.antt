@@ -1,22 +1,20 @@
 -- ONE LOCAL ALLOCATOR GOES, in the text alone: wherever it stands in its cache.
-use Rattle.std.proofs.Common.{◌≡◌, ℕ, ◌==◌, Bool, true, false, not, ◌||◌, if◌then◌else◌, List, [], ◌∷◌, Some, refl, ap, sym, ◌∙◌}
-use Rattle.std.proofs.lemmas.Bool.{false≢true, eqb-true, or_right}
-use Rattle.std.proofs.lemmas.Option.{same_Some}
+use Rattle.std.proofs.Common.{◌≡◌, ℕ, ◌==◌, Bool, true, false, not, ◌||◌, if◌then◌else◌, List, [], ◌∷◌, Some, refl, ap, sym, ◌∙◌, eqb-true}
+use Rattle.std.proofs.lemmas.{Bool.false≢true, Bool.or_right, Option.same_Some}
 use Rattle.std.specs.List.{list_any, find}
 use Rattle.pas_profile.specs.Profiles.{IsPage}
 use Rattle.pas_profile.specs.declared.profile.Profile.{Profile}
 use Rattle.pas_one_text.specs.State.{Local, Cache, World, cache_of, locals_of, set_locals}
 use Rattle.pas_one_text.specs.Classes.{is_for, others, gives_up}
-use Rattle.pas_same_text.proofs.GivenBack.{Returns, OnlyHints, all_only_hints}
-use Rattle.pas_same_text.proofs.GivenUp.{AreUnique, one_returns}
-use Rattle.pas_same_text.proofs.Tests.{and_first, and_second, or_more}
+use Rattle.pas_same_text.proofs.{GivenBack.Returns, GivenBack.OnlyHints, GivenBack.all_only_hints, GivenUp.AreUnique, GivenUp.one_returns, Tests.and_first}
+use Rattle.pas_same_text.proofs.{Tests.and_second, Tests.or_more}
 
 -- ---- the others of a cache
 less_next : (p : Local → Bool) (x : Local) (ys : List Local) (t rest : Bool) → (list_any p ys ≡ true → rest ≡ true) → list_any p (if t then x ∷ ys else ys) ≡ true → (p x || rest) ≡ true
 less_next p x ys true rest more h = or_more (p x) (list_any p ys) rest more h
 less_next p x ys false rest more h = or_right (p x) rest (more h)
 
-pub any_less : (p : Local → Bool) (heap class : ℕ) (ls : List Local) → list_any p (others heap class ls) ≡ true → list_any p ls ≡ true
+any_less : (p : Local → Bool) (heap class : ℕ) (ls : List Local) → list_any p (others heap class ls) ≡ true → list_any p ls ≡ true
 any_less p heap class [] h = h
 any_less p heap class (x ∷ xs) h = less_next p x (others heap class xs) (not (is_for heap class x)) (list_any p xs) (any_less p heap class xs) h
 
@@ -31,7 +29,7 @@ other_next p heap class x l xs true e rest found none more h =
     ap (list_any p) left ∙ (ap (λ (t : Bool). t || list_any p xs) (sym (ap p is ∙ none)) ∙ h)
 other_next p heap class x l xs false e rest found none more h = or_more (p x) (list_any p xs) (list_any p (others heap class xs)) (more found) h
 
-pub any_other : (p : Local → Bool) (heap class : ℕ) (l : Local) (ls : List Local) → AreUnique ls → find (is_for heap class) ls ≡ Some l → p l ≡ false → list_any p ls ≡ true → list_any p (others heap class ls) ≡ true
+any_other : (p : Local → Bool) (heap class : ℕ) (l : Local) (ls : List Local) → AreUnique ls → find (is_for heap class) ls ≡ Some l → p l ≡ false → list_any p ls ≡ true → list_any p (others heap class ls) ≡ true
 any_other p heap class l [] unique found none h = absurd (false≢true h)
 any_other p heap class l (x ∷ xs) unique found none h =
     other_next p heap class x l xs (is_for heap class x) refl unique.0 found none (λ later any. any_other p heap class l xs unique.1 later none any) h

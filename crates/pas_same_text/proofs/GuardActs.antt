@@ -1,57 +1,31 @@
 -- GUARDED REQUESTS: the keeper lowers the guards whose blocks have ended, and tries to raise one; where it raises none, the thread makes the request as any.
-use Rattle.std.proofs.Common.{◌≡◌, ℕ, ◌+◌, ◌-◌, ◌*◌, ◌/◌, false, List, [], ◌∷◌, ◌++◌, Option, None, Some, refl, ap, sym, ◌∙◌, subst, arith, append_assoc, append-nil}
+use Rattle.std.proofs.Common.{◌≡◌, ℕ, ◌+◌, ◌-◌, ◌*◌, ◌/◌, false, List, [], ◌∷◌, ◌++◌, Option, None, Some, refl, ap, sym, ◌∙◌, subst, arith, append_assoc}
+use Rattle.std.proofs.Common.{append-nil}
 use Rattle.std.specs.List.{filter}
-use Rattle.pas_profile.specs.Blocks.{address_of}
-use Rattle.pas_profile.specs.Profiles.{IsValid, IsAdmitted, IsDirectoryOf}
-use Rattle.pas_profile.specs.Requests.{route_in, room_in}
-use Rattle.pas_profile.specs.declared.directory.Directory.{Directory}
-use Rattle.pas_profile.specs.declared.directory.Route.{Route}
-use Rattle.pas_profile.specs.declared.event.Event.{Event}
-use Rattle.pas_profile.specs.declared.name.Block.{Block}
-use Rattle.pas_profile.specs.declared.profile.Profile.{Profile}
-use Rattle.pas_steps.specs.Desks.{triples}
-use Rattle.pas_steps.specs.Events.{events_by}
-use Rattle.pas_steps.specs.Lists.{part, Legal}
-use Rattle.pas_steps.specs.Views.{View}
+use Rattle.pas_profile.specs.{Blocks.address_of, Profiles.IsValid, Profiles.IsAdmitted, Profiles.IsDirectoryOf, Requests.route_in, Requests.room_in}
+use Rattle.pas_profile.specs.declared.{directory.Directory.Directory, directory.Route.Route, event.Event.Event, name.Block.Block, profile.Profile.Profile}
+use Rattle.pas_steps.specs.{Desks.triples, Events.events_by, Lists.part, Lists.Legal, Views.View}
 use Rattle.pas_steps.specs.declared.step.Made.{Made}
 use Rattle.pas_steps.proofs.Parts.{part_of_own}
 use Rattle.pas_core.proofs.OneActor.{legal_before, legal_earlier}
 use Rattle.pas_cache.specs.Contents.{Cached}
-use Rattle.pas_large.specs.Doors.{Indexes, found_in}
-use Rattle.pas_large.specs.Finds.{MayFind}
+use Rattle.pas_large.specs.{Doors.Indexes, Doors.found_in, Finds.MayFind}
 use Rattle.pas_guard.specs.Raises.{IsRaised, IsNotRaised}
 use Rattle.pas_guard.specs.declared.book.Guard.{Guard as BookGuard}
-use Rattle.pas_report.specs.declared.record.Record.{Record}
-use Rattle.pas_report.specs.declared.record.Said.{Said}
-use Rattle.pas_trace.specs.Acts.{Act, numbers_from}
-use Rattle.pas_trace.specs.EveryPlan.{IsThread}
-use Rattle.pas_trace.specs.declared.item.Request.{Request}
-use Rattle.pas_trace.specs.declared.plan.Op.{Op}
-use Rattle.pas_trace.specs.declared.plan.What.{What}
-use Rattle.pas_answers.specs.Answers.{Progress, with_book, records_of}
+use Rattle.pas_report.specs.declared.record.{Record.Record, Said.Said}
+use Rattle.pas_trace.specs.{Acts.Act, Acts.numbers_from, EveryPlan.IsThread}
+use Rattle.pas_trace.specs.declared.{item.Request.Request, plan.Op.Op, plan.What.What}
+use Rattle.pas_answers.specs.{Answers.Progress, Answers.with_book, Answers.records_of, Indexes.after_request, Indexes.after_tried, Indexes.TriedIsNamedBy}
+use Rattle.pas_answers.specs.{Reaching.AnswersTried}
 use Rattle.pas_answers.specs.Guarding.{Tried, IsTried, said_of_guard, after_trying, after_giving}
-use Rattle.pas_answers.specs.Indexes.{after_request, after_tried, TriedIsNamedBy}
-use Rattle.pas_answers.specs.Reaching.{AnswersTried}
-use Rattle.pas_one_text.specs.State.{World, each}
-use Rattle.pas_one_text.specs.Searches.{backs}
-use Rattle.pas_one_text.specs.Runs.{large_of}
+use Rattle.pas_one_text.specs.{State.World, State.each, Searches.backs, Runs.large_of, Order.serves}
 use Rattle.pas_one_text.specs.Guards.{guards_of, lowers_ended, is_over, raises, guards}
-use Rattle.pas_one_text.specs.Order.{serves}
-use Rattle.pas_same_text.specs.Same.{IsSame}
-use Rattle.pas_same_text.specs.Acts.{IsBetween}
-use Rattle.pas_same_text.specs.Known.{IsKnown, IsKept, KeepsSame}
-use Rattle.pas_same_text.proofs.KeepersRest.{book_finds}
-use Rattle.pas_same_text.proofs.LowerActs.{sweep_same, ended_text}
-use Rattle.pas_same_text.proofs.MissedGuards.{missed_same}
-use Rattle.pas_same_text.proofs.PagesRequests.{pages_answered, named_large}
-use Rattle.pas_same_text.proofs.RaisedGuards.{raised_same}
-use Rattle.pas_same_text.proofs.ReadyPages.{shown}
-use Rattle.pas_same_text.proofs.RunEvents.{deeded, deeds_of}
-use Rattle.pas_same_text.proofs.SameIndexes.{request_indexes, all_lowered_keep}
+use Rattle.pas_same_text.specs.{Same.IsSame, Acts.IsBetween, Known.IsKnown, Known.IsKept, Known.KeepsSame}
+use Rattle.pas_same_text.proofs.{KeepersRest.book_finds, LowerActs.sweep_same, LowerActs.ended_text, MissedGuards.missed_same, PagesRequests.pages_answered}
+use Rattle.pas_same_text.proofs.{PagesRequests.named_large, RaisedGuards.raised_same, ReadyPages.shown, RunEvents.deeded, RunEvents.deeds_of}
+use Rattle.pas_same_text.proofs.{SameIndexes.request_indexes, SameIndexes.all_lowered_keep, Seats.thread_of, Seats.keeper_of, StillIndexes.each_keeps}
+use Rattle.pas_same_text.proofs.{StillIndexes.backs_keep, StillIndexes.same_indexes, TriedRuns.sought_text, TriedRuns.missed_text}
 use Rattle.pas_same_text.proofs.SeatedActs.{own_book, other_book, swept, swept_between, raise_legal, raise_fits, lists, tried_between}
-use Rattle.pas_same_text.proofs.Seats.{thread_of, keeper_of}
-use Rattle.pas_same_text.proofs.StillIndexes.{each_keeps, backs_keep, same_indexes}
-use Rattle.pas_same_text.proofs.TriedRuns.{sought_text, missed_text}
 
 -- deeds change no index
 deeds_keep_indexes : (k : ℕ) (d : Directory) (qs : List ℕ) (w : World) → (shown (deeds_of k d qs) w).indexes ≡ w.indexes

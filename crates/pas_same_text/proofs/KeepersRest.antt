@@ -1,39 +1,25 @@
 -- A KEEPER RESTS after its calls, and so do all others.
-use Rattle.std.proofs.Common.{◌≡◌, ℕ, ◌+◌, ◌/◌, ◌<◌, ◌≤◌, ◌==◌, Bool, true, false, not, ◌||◌, if◌then◌else◌, List, [], ◌∷◌, ◌++◌, Option, None, Some, ◌⊎◌, inl, inr, refl, ap, sym, ◌∙◌, subst, arith}
-use Rattle.std.proofs.lemmas.Bool.{eqb-true, eqb-false, or_cases, or_right}
-use Rattle.std.specs.Prelude.{All}
-use Rattle.std.proofs.lemmas.List.Elements.{All-nil}
+use Rattle.std.proofs.Common.{◌≡◌, ℕ, ◌+◌, ◌/◌, ◌<◌, ◌≤◌, ◌==◌, Bool, true, false, not, ◌||◌, if◌then◌else◌, List, [], ◌∷◌, ◌++◌, Option, None, Some, ◌⊎◌, inl}
+use Rattle.std.proofs.Common.{inr, refl, ap, sym, ◌∙◌, subst, arith, eqb-true, All}
+use Rattle.std.proofs.lemmas.{Bool.eqb-false, Bool.or_cases, Bool.or_right, List.Elements.All-nil}
 use Rattle.std.specs.List.{filter}
-use Rattle.pas_profile.specs.Blocks.{address_of}
-use Rattle.pas_profile.specs.Profiles.{IsValid}
-use Rattle.pas_profile.specs.declared.name.Block.{Block}
-use Rattle.pas_profile.specs.declared.profile.Profile.{Profile}
-use Rattle.pas_profile.specs.declared.word.Word.TheVariants as Word
+use Rattle.pas_profile.specs.{Blocks.address_of, Profiles.IsValid}
+use Rattle.pas_profile.specs.declared.{name.Block.Block, profile.Profile.Profile, word.Word.Word}
 use Rattle.pas_machine.specs.State.{backed_in}
-use Rattle.pas_steps.specs.Clear.{HasNothing}
-use Rattle.pas_steps.specs.Desks.{triples}
-use Rattle.pas_steps.specs.Kinds.{Giving, LookLife, returning}
+use Rattle.pas_steps.specs.{Clear.HasNothing, Desks.triples, Kinds.Giving, Kinds.LookLife, Kinds.returning, Past.Since, Views.View}
 use Rattle.pas_steps.specs.Lists.{Whole, part, word_after, visible, Legal}
-use Rattle.pas_steps.specs.Past.{Since}
-use Rattle.pas_steps.specs.Views.{View}
 use Rattle.pas_steps.specs.declared.step.Made.{Made}
-use Rattle.pas_steps.proofs.Parts.{part_of_own, part_of_others}
-use Rattle.pas_core.proofs.Nexts.{agreed_steps}
-use Rattle.pas_core.proofs.OneActor.{legal_earlier}
-use Rattle.pas_steps.proofs.Adding.{triples_append}
-use Rattle.pas_cache.specs.Contents.{Cached}
-use Rattle.pas_cache.specs.Locals.{any_covers, any_keeps, IsLocal}
+use Rattle.pas_steps.proofs.{Parts.part_of_own, Parts.part_of_others, Adding.triples_append}
+use Rattle.pas_core.proofs.{Nexts.agreed_steps, OneActor.legal_earlier}
+use Rattle.pas_cache.specs.{Contents.Cached, Locals.any_covers, Locals.any_keeps, Locals.IsLocal}
 use Rattle.pas_segregated.specs.declared.slots.Slots.{Slots}
 use Rattle.pas_rights.specs.Gives.{give_steps}
 use Rattle.pas_large.specs.Finds.{MayFind}
 use Rattle.pas_large.proofs.InOrder.{BacksIn}
 use Rattle.pas_guard.proofs.Raised.{raised_pages, raised_leaves}
 use Rattle.pas_guard.specs.Books.{is_outer_of, is_outer, Each, FitsBook}
-use Rattle.pas_guard.specs.Evidence.{BackedReadHere}
-use Rattle.pas_guard.specs.Keepers.{IsBeside}
+use Rattle.pas_guard.specs.{Evidence.BackedReadHere, Keepers.IsBeside, Seeks.LeftSince, Sweeps.sweeping, Sweeps.SweepSteps}
 use Rattle.pas_guard.specs.Raises.{guard_of, BacksNot, IsRaised, RaiseSteps}
-use Rattle.pas_guard.specs.Seeks.{LeftSince}
-use Rattle.pas_guard.specs.Sweeps.{sweeping, SweepSteps}
 use Rattle.pas_guard.specs.declared.book.Guard.{Guard}
 use Rattle.pas_report.specs.declared.record.Record.{Record}
 use Rattle.pas_trace.specs.EveryPlan.{IsThread}
@@ -41,10 +27,8 @@ use Rattle.pas_answers.specs.Answers.{Books, Progress}
 use Rattle.pas_one_text.specs.Runs.{large_of}
 use Rattle.pas_same_text.specs.Acts.{IsResting, AreResting, IsBetween}
 use Rattle.pas_same_text.proofs.BarePages.{bare_on, none_backs, held_unbacked, bare_since, bare_events, bare_word}
-use Rattle.pas_same_text.proofs.FreeGrains.{outer_held}
-use Rattle.pas_same_text.proofs.LoweredGuards.{some_outer}
-use Rattle.pas_same_text.proofs.SweptGuards.{IsSwept, swept_told, goes_down}
-use Rattle.pas_same_text.proofs.Tests.{or_none, eqb_turned}
+use Rattle.pas_same_text.proofs.{FreeGrains.outer_held, LoweredGuards.some_outer, SweptGuards.IsSwept, SweptGuards.swept_told, SweptGuards.goes_down}
+use Rattle.pas_same_text.proofs.{Tests.or_none, Tests.eqb_turned}
 
 -- ---- an actor without slots rests with its book
 fitted : (f : Profile) (c : Cached) (old left : List Guard) (v w : View) → c.locals ≡ [] → IsResting f c old v → FitsBook f left w → IsResting f c left w
@@ -100,7 +84,7 @@ module _ (f : Profile) (p : Progress) (keeper : ℕ) (books : Books) (steps : Li
   by_others P j false e at_left rest = subst P (sym (others j e)) (rest e)
 
   not_scavenger : keeper ≡ 0 → ⊥
-  not_scavenger zero = let low = is.0 in omega (arith, low, zero)
+  not_scavenger zero = omega (arith, is.0, zero)
 
   pub keeper_resting : AreResting f p.caches books l
   keeper_resting = record {
@@ -202,9 +186,9 @@ module _ (f : Profile) (keeper heap n : ℕ) (l : Whole) (guards guards' : List 
     guard_bare : (page : ℕ) → is_outer_of (guard_of r.first n block) page ≡ true → word_after (triples keeper steps ++ l) (Word.Backed page) ≡ 0
     guard_bare page outer = elim (or_cases (r.first == page) (r.first + n + 1 == page) outer) [
       | inl low ↦ subst (λ (q : ℕ). word_after (triples keeper steps ++ l) (Word.Backed q) ≡ 0) (eqb-true r.first page low)
-          (own_bare r.first (λ out. let o = out.0 in omega (arith, o)) (bare_since f keeper r.first (part keeper l) raise.searched l search_legal read_bare.0))
+          (own_bare r.first (λ out. omega (arith, out.0)) (bare_since f keeper r.first (part keeper l) raise.searched l search_legal read_bare.0))
       | inr high ↦ subst (λ (q : ℕ). word_after (triples keeper steps ++ l) (Word.Backed q) ≡ 0) (eqb-true (r.first + n + 1) page high)
-          (own_bare (r.first + n + 1) (λ out. let o = out.1 in omega (arith, o)) (bare_since f keeper (r.first + n + 1) (part keeper l) raise.searched l search_legal read_bare.1))
+          (own_bare (r.first + n + 1) (λ out. omega (arith, out.1)) (bare_since f keeper (r.first + n + 1) (part keeper l) raise.searched l search_legal read_bare.1))
     ]
 
   old_bare : (answer : Option Block) (steps : List Made) (raise : RaiseSteps f heap n guards guards' answer steps) → Legal f (triples keeper steps ++ l) → (page : ℕ) → is_outer guards page ≡ true → word_after (triples keeper steps ++ l) (Word.Backed page) ≡ 0

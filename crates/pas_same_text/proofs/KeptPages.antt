@@ -1,25 +1,19 @@
 -- Which pages the caches keep, in the text and in a replay.
 use Rattle.std.proofs.Common.{◌≡◌, ℕ, ◌==◌, Bool, true, false, ◌&&◌, ◌||◌, List, [], ◌∷◌, refl, ap, sym, ◌∙◌, arith}
-use Rattle.std.proofs.lemmas.Bool.{false≢true, false_from_ne_true}
+use Rattle.std.proofs.{lemmas.Bool.false≢true, lemmas.Bool.false_from_ne_true, Math.Bool.and_comm}
 use Rattle.std.specs.List.{list_any}
-use Rattle.std.proofs.Math.Bool.{and_comm}
 use Rattle.pas_profile.specs.Profiles.{IsValid}
 use Rattle.pas_profile.specs.declared.profile.Profile.{Profile}
-use Rattle.pas_steps.specs.Lists.{part}
-use Rattle.pas_steps.specs.Views.{has_right}
+use Rattle.pas_steps.specs.{Lists.part, Views.has_right}
 use Rattle.pas_core.specs.Rights.{NobodyHasRight}
 use Rattle.pas_segregated.specs.declared.slots.Slots.{Slots}
 use Rattle.pas_cache.specs.Locals.{any_keeps, keeps_right}
 use Rattle.pas_trace.specs.EveryPlan.{IsThread}
 use Rattle.pas_answers.specs.Answers.{Progress}
-use Rattle.pas_one_text.specs.State.{Local, World, cache_in}
-use Rattle.pas_one_text.specs.Pages.{is_kept}
-use Rattle.pas_same_text.specs.Same.{HasSame, IsSameLocal, AreSameLocals}
-use Rattle.pas_same_text.specs.Acts.{IsBetween}
-use Rattle.pas_same_text.proofs.CacheLists.{all_locals}
-use Rattle.pas_same_text.proofs.FreeGrains.{righted_is}
-use Rattle.pas_same_text.proofs.Slots.{IsOfCache, of_cache, in_all}
-use Rattle.pas_same_text.proofs.Tests.{any_filtered, filtered_any}
+use Rattle.pas_one_text.specs.{State.Local, State.World, State.cache_in, Pages.is_kept}
+use Rattle.pas_same_text.specs.{Same.HasSame, Same.IsSameLocal, Same.AreSameLocals, Acts.IsBetween}
+use Rattle.pas_same_text.proofs.{CacheLists.all_locals, FreeGrains.righted_is, Slots.IsOfCache, Slots.of_cache, Slots.in_all, Tests.any_filtered}
+use Rattle.pas_same_text.proofs.{Tests.filtered_any}
 
 -- a local allocator that keeps the page
 abbrev keeps_page : ℕ → Local → Bool

@@ -2,13 +2,10 @@
 use Rattle.std.proofs.Common.{ℕ, zero, suc, List, [], ◌∷◌, inl, inr, sym, subst, arith}
 use Rattle.std.specs.List.{AllByRecursion}
 use Rattle.pas_profile.specs.declared.directory.Directory.{Directory}
-use Rattle.pas_steps.specs.InTurn.{InTurn}
-use Rattle.pas_steps.specs.Past.{Always}
+use Rattle.pas_steps.specs.{InTurn.InTurn, Past.Always}
 use Rattle.pas_steps.specs.declared.step.Made.{Made}
-use Rattle.pas_rights.specs.Leaves.{LeaveSteps}
-use Rattle.pas_rights.specs.PutsBack.{GivesDuly}
-use Rattle.pas_rights.proofs.Hints.{due_both, leave_due}
-use Rattle.pas_rights.proofs.Orders.{leave_returns}
+use Rattle.pas_rights.specs.{Leaves.LeaveSteps, PutsBack.GivesDuly}
+use Rattle.pas_rights.proofs.{Hints.due_both, Hints.leave_due, Orders.leave_returns}
 use Rattle.pas_scan.specs.Runs.{IsInRun}
 use Rattle.pas_large.specs.Gives.{pages_from}
 use Rattle.pas_same_text.proofs.GivingBack.{IsMarked, marked_parts, returns_marked}
@@ -36,7 +33,7 @@ all_in_run first (suc n) = ((omega arith, omega arith), one_more first n (pages_
   where
     one_more : (first n : ℕ) (ps : List ℕ) → AllByRecursion (IsInRun first n) ps → AllByRecursion (IsInRun first (suc n)) ps
     one_more first n [] all = tt
-    one_more first n (x ∷ ps) all = let low = all.0.0 in let high = all.0.1 in ((low, omega (arith, high)), one_more first n ps all.1)
+    one_more first n (x ∷ ps) all = let low = all.0.0 in ((low, omega (arith, all.0.1)), one_more first n ps all.1)
 
 pub left_marked : (d : Directory) (first n q : ℕ) (left : List Made) → LeftInTurn d first n left → IsMarked q left → IsInRun first n q
 left_marked d first n q left turn h = all_marked d (IsInRun first n) (pages_from first n) q left (all_in_run first n) turn h

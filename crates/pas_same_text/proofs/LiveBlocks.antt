@@ -1,17 +1,14 @@
 -- The live blocks in a list, and those that the machine has by their addresses.
-use Rattle.std.proofs.Common.{◌≡◌, ℕ, ◌/◌, ◌<◌, ◌≢◌, ◌==◌, Bool, true, false, not, ◌&&◌, ◌||◌, if◌then◌else◌, List, [], ◌∷◌, Option, Some, None, ◌⊎◌, inl, inr, refl, ap, sym, ◌∙◌}
-use Rattle.std.proofs.lemmas.Bool.{eq-eqb, ne_eqb, eqb-false, false≢true, true≢false, or_cases, or_left, or_right, not-true, and_from}
+use Rattle.std.proofs.Common.{◌≡◌, ℕ, ◌/◌, ◌<◌, ◌≢◌, ◌==◌, Bool, true, false, not, ◌&&◌, ◌||◌, if◌then◌else◌, List, [], ◌∷◌, Option, Some, None, ◌⊎◌, inl, inr}
+use Rattle.std.proofs.Common.{refl, ap, sym, ◌∙◌, eq-eqb, ne_eqb, true≢false}
+use Rattle.std.proofs.lemmas.Bool.{eqb-false, false≢true, or_cases, or_left, or_right, not-true, and_from}
 use Rattle.std.proofs.lemmas.Option.{same_Some, none-some}
 use Rattle.std.specs.List.{list_any}
 use Rattle.pas_bits.specs.Runs.{in_run}
 use Rattle.pas_bits.proofs.Runs.{first_of_run}
 use Rattle.pas_profile.specs.Blocks.{address_of, grain_of, length_of}
-use Rattle.pas_profile.specs.declared.event.Event.{Event}
-use Rattle.pas_profile.specs.declared.name.Block.{Block}
-use Rattle.pas_profile.specs.declared.name.Name.{Name}
-use Rattle.pas_profile.specs.declared.profile.Profile.{Profile}
-use Rattle.pas_machine.specs.State.{Live, live_in}
-use Rattle.pas_machine.specs.Machine.{Run, MayGive}
+use Rattle.pas_profile.specs.declared.{event.Event.Event, name.Block.Block, name.Name.Name, profile.Profile.Profile}
+use Rattle.pas_machine.specs.{State.Live, State.live_in, Machine.Run, Machine.MayGive}
 use Rattle.pas_one_text.specs.State.{is_at}
 use Rattle.pas_same_text.specs.Same.{lives_in}
 use Rattle.pas_same_text.proofs.Tests.{and_first, and_second, any_filtered, filtered_any}

@@ -1,36 +1,24 @@
 -- Frees that are answered at once, and frees into a log with room.
-use Rattle.std.proofs.Common.{◌≡◌, ℕ, ◌+◌, ◌*◌, ◌/◌, ◌%◌, ◌<◌, ◌≤◌, ◌==◌, nat_le, nat_lt, Bool, true, false, ◌&&◌, if◌then◌else◌, List, [], ◌∷◌, ◌++◌, length, Option, None, Some, inl, inr, refl, ap, sym, ◌∙◌, subst, arith, append-nil}
-use Rattle.std.proofs.lemmas.Bool.{eq-eqb, ne_eqb, false_from_ne_true}
-use Rattle.std.proofs.lemmas.Bool.Decides.{nat_tests}
+use Rattle.std.proofs.Common.{◌≡◌, ℕ, ◌+◌, ◌*◌, ◌/◌, ◌%◌, ◌<◌, ◌≤◌, ◌==◌, nat_le, nat_lt, Bool, true, false, ◌&&◌, if◌then◌else◌, List, [], ◌∷◌, ◌++◌, length}
+use Rattle.std.proofs.Common.{Option, None, Some, inl, inr, refl, ap, sym, ◌∙◌, subst, arith, append-nil, eq-eqb, ne_eqb}
+use Rattle.std.proofs.lemmas.Bool.{false_from_ne_true, Decides.nat_tests}
 use Rattle.pas_profile.specs.Blocks.{address_of}
-use Rattle.pas_profile.specs.declared.event.FreeFault.{FreeFault}
-use Rattle.pas_profile.specs.declared.event.FreeFault.TheVariants.{Outside, Unaligned}
-use Rattle.pas_profile.specs.declared.name.Block.{Block}
-use Rattle.pas_profile.specs.declared.name.Name.{Name}
-use Rattle.pas_profile.specs.declared.profile.Profile.{Profile}
-use Rattle.pas_steps.specs.Events.{events_by}
-use Rattle.pas_steps.specs.Lists.{part}
+use Rattle.pas_profile.specs.declared.{event.FreeFault.FreeFault, event.FreeFault.TheVariants.Outside, event.FreeFault.TheVariants.Unaligned, name.Block.Block}
+use Rattle.pas_profile.specs.declared.{name.Name.Name, profile.Profile.Profile}
+use Rattle.pas_steps.specs.{Events.events_by, Lists.part}
 use Rattle.pas_steps.specs.declared.step.Made.{Made}
 use Rattle.pas_free_log.specs.Logs.{entry_of, sized_entry}
-use Rattle.pas_free_log.specs.declared.log.Entry.{Entry}
-use Rattle.pas_free_log.specs.declared.noting.EndedRun.{EndedRun}
-use Rattle.pas_cache.specs.Calls.{TakesEntry, RefusesName}
-use Rattle.pas_cache.specs.Changes.{LogsEntry, EmptiesFull}
-use Rattle.pas_cache.specs.Contents.{Cached}
-use Rattle.pas_report.specs.declared.record.Record.{Record}
-use Rattle.pas_report.specs.declared.record.Said.{Said as TheSaid}
-use Rattle.pas_report.specs.declared.record.Said.TheVariants as Said
-use Rattle.pas_trace.specs.Acts.{Act}
-use Rattle.pas_trace.specs.EveryPlan.{IsThread}
+use Rattle.pas_free_log.specs.declared.{log.Entry.Entry, noting.EndedRun.EndedRun}
+use Rattle.pas_cache.specs.{Calls.TakesEntry, Calls.RefusesName, Changes.LogsEntry, Changes.EmptiesFull, Contents.Cached}
+use Rattle.pas_report.specs.declared.record.{Record.Record, Said.Said as TheSaid, Said.Said}
+use Rattle.pas_trace.specs.{Acts.Act, EveryPlan.IsThread}
 use Rattle.pas_trace.specs.declared.plan.What.TheVariants.{Free, FreeSized, Raw, RawSized}
-use Rattle.pas_answers.specs.Answers.{Progress, Named, Answer, after_answer, IsFreed, IsFreedBy, standing_for, with_records, with_steps, records_of, said_by, said_of_fault, room_noted}
+use Rattle.pas_answers.specs.Answers.{Progress, Named, Answer, after_answer, IsFreed, IsFreedBy, standing_for, with_records, with_steps, records_of, said_by}
+use Rattle.pas_answers.specs.Answers.{said_of_fault, room_noted}
 use Rattle.pas_one_text.specs.State.{World, Cache, cache_of, set_cache, log_of, says}
 use Rattle.pas_one_text.specs.Frees.{adds, logs, frees, frees_what, frees_named, refuses_free, flushes}
-use Rattle.pas_same_text.specs.Same.{IsSame, IsSameCache}
-use Rattle.pas_same_text.specs.Acts.{StaysSameWhere, HasLogRoom}
-use Rattle.pas_same_text.proofs.CacheLists.{same_with, same_kept}
-use Rattle.pas_same_text.proofs.Frames.{unchanged, pages_next}
-use Rattle.pas_same_text.proofs.SmallActs.{records_next, cache_state}
+use Rattle.pas_same_text.specs.{Same.IsSame, Same.IsSameCache, Acts.StaysSameWhere, Acts.HasLogRoom}
+use Rattle.pas_same_text.proofs.{CacheLists.same_with, CacheLists.same_kept, Frames.unchanged, Frames.pages_next, SmallActs.records_next, SmallActs.cache_state}
 
 -- a replay after an answer with these steps and what is said besides
 abbrev pub after_with : Progress → ℕ → List Made → Option TheSaid → List Named → Cached → Progress
@@ -118,7 +106,7 @@ logged_same f k entry p w c' steps is same room takes =
     (subst (λ (ms : List Made). IsSame f (after_with p k ms None p.names c') (adds k entry w)) (sym to.0)
     (subst (λ (c : Cached). IsSame f (after_with p k [] None p.names c) (adds k entry w)) (sym to.1) (added_same f k entry p w is same)))
 
-pub refused_text : (f : Profile) (k : ℕ) (entry : Entry) (w : World) (c c' : Cached) (steps : List Made) (fault : FreeFault) → RefusesName f c c' entry.name steps fault → frees f k entry w ≡ refuses_free k entry.name fault w
+refused_text : (f : Profile) (k : ℕ) (entry : Entry) (w : World) (c c' : Cached) (steps : List Made) (fault : FreeFault) → RefusesName f c c' entry.name steps fault → frees f k entry w ≡ refuses_free k entry.name fault w
 refused_text f k entry w c c' steps Outside refuses = freed_is f k entry w false (address_of entry.name % 16 == 0) (page_outside f.pages (address_of entry.name) refuses.fault_is) refl
 refused_text f k entry w c c' steps Unaligned refuses =
     freed_is f k entry w true false (page_inside f.pages (address_of entry.name) refuses.fault_is.0.0 refuses.fault_is.0.1) (ne_eqb (address_of entry.name % 16) 0 refuses.fault_is.1)

@@ -1,14 +1,10 @@
 -- GUARDS GO DOWN: a sweep of a keeper, in the replay and in the text.
-use Rattle.std.proofs.Common.{◌≡◌, ◌≢◌, ℕ, ◌+◌, ◌*◌, ◌/◌, ◌==◌, nat_lt, Bool, true, false, if◌then◌else◌, List, [], ◌∷◌, ◌++◌, map, reverse, Some, inl, inr, refl, ap, sym, ◌∙◌, subst, arith}
-use Rattle.std.proofs.lemmas.Bool.{false≢true, eqb-true, eqb-false, or_cases, false_from_ne_true}
+use Rattle.std.proofs.Common.{◌≡◌, ◌≢◌, ℕ, ◌+◌, ◌*◌, ◌/◌, ◌==◌, nat_lt, Bool, true, false, if◌then◌else◌, List, [], ◌∷◌, ◌++◌, map, reverse, Some, inl, inr}
+use Rattle.std.proofs.Common.{refl, ap, sym, ◌∙◌, subst, arith, eqb-true}
+use Rattle.std.proofs.lemmas.Bool.{false≢true, eqb-false, or_cases, false_from_ne_true}
 use Rattle.std.specs.List.{filter}
-use Rattle.pas_profile.specs.Blocks.{address_of}
-use Rattle.pas_profile.specs.Directories.{deed_word_of}
-use Rattle.pas_profile.specs.Profiles.{IsValid, IsDirectoryOf}
-use Rattle.pas_profile.specs.declared.directory.Directory.{Directory}
-use Rattle.pas_profile.specs.declared.event.Event.{Event}
-use Rattle.pas_profile.specs.declared.profile.Profile.{Profile}
-use Rattle.pas_profile.specs.declared.word.Word.TheVariants as Word
+use Rattle.pas_profile.specs.{Blocks.address_of, Directories.deed_word_of, Profiles.IsValid, Profiles.IsDirectoryOf}
+use Rattle.pas_profile.specs.declared.{directory.Directory.Directory, event.Event.Event, profile.Profile.Profile, word.Word.Word}
 use Rattle.pas_profile.proofs.Codecs.{same_from_deed_word}
 use Rattle.pas_machine.specs.State.{live_in, deed_in, ends_in}
 use Rattle.pas_steps.specs.Desks.{triples}
@@ -17,31 +13,24 @@ use Rattle.pas_steps.specs.Views.{View, holds, KnowsDeed, usable_by_kind}
 use Rattle.pas_steps.specs.declared.step.Made.{Made}
 use Rattle.pas_steps.proofs.Apart.{only_within}
 use Rattle.pas_core.specs.Good.{word_of_deed}
-use Rattle.pas_core.proofs.Deeds.{deed_of}
-use Rattle.pas_core.proofs.Grains.{one_holder}
+use Rattle.pas_core.proofs.{Deeds.deed_of, Grains.one_holder}
 use Rattle.pas_free_log.specs.Frames.{freeing}
 use Rattle.pas_report.specs.declared.record.Record.{Record}
 use Rattle.pas_guard.specs.Books.{is_outer_of, is_outer, Each, IsGuardOf, KnowsGuard}
 use Rattle.pas_guard.specs.Sweeps.{sweeping, SweepSteps}
 use Rattle.pas_guard.specs.declared.book.Guard.{Guard as BookGuard}
-use Rattle.pas_trace.specs.Acts.{Act}
-use Rattle.pas_trace.specs.EveryPlan.{IsThread}
-use Rattle.pas_answers.specs.Answers.{Progress, with_book, with_records}
-use Rattle.pas_answers.specs.Guarding.{after_lowering}
-use Rattle.pas_one_text.specs.State.{Guard, World, each}
+use Rattle.pas_trace.specs.{Acts.Act, EveryPlan.IsThread}
+use Rattle.pas_answers.specs.{Answers.Progress, Answers.with_book, Answers.with_records, Guarding.after_lowering}
+use Rattle.pas_one_text.specs.{State.Guard, State.World, State.each, Pages.is_of, Runs.large_of}
 use Rattle.pas_one_text.specs.Guards.{is_over, lowers, lowers_ended, lowers_all}
-use Rattle.pas_one_text.specs.Pages.{is_of}
-use Rattle.pas_one_text.specs.Runs.{large_of}
 use Rattle.pas_same_text.specs.Same.{told_guard, IsSame, HasSame, AreSameCaches, lives_in}
-use Rattle.pas_same_text.specs.Acts.{IsBetween, StaysSame}
-use Rattle.pas_same_text.specs.Words.{free_bit}
-use Rattle.pas_same_text.proofs.Flushes.{unshown}
+use Rattle.pas_same_text.specs.{Acts.IsBetween, Acts.StaysSame, Words.free_bit}
+use Rattle.pas_same_text.proofs.{Flushes.unshown, GivingBack.hint_marks, GivingBack.offer_marks, GivingBack.epoch_stays_by, RestingPages.is_open}
+use Rattle.pas_same_text.proofs.{RestingPages.deed_now, RestingPages.word_known, SweptGuards.goes_down, SweptGuards.IsSwept, SweptGuards.swept_told}
 use Rattle.pas_same_text.proofs.FreeGrains.{cached_held, outer_held, held_by, never_both, holder_thread}
 use Rattle.pas_same_text.proofs.GivenPages.{IsGivenBack, open_from, covered_not_held, free_left, given_pages}
-use Rattle.pas_same_text.proofs.GivingBack.{hint_marks, offer_marks, epoch_stays_by}
-use Rattle.pas_same_text.proofs.LoweredGuards.{outer_pages, AreOfRegion, AreLowered, all_lowered, said_reversed, lowered_unguarded, others_stay, some_outer, apart_split, own_left, left_of, outer_number}
-use Rattle.pas_same_text.proofs.RestingPages.{is_open, deed_now, word_known}
-use Rattle.pas_same_text.proofs.SweptGuards.{goes_down, IsSwept, swept_told}
+use Rattle.pas_same_text.proofs.LoweredGuards.{outer_pages, AreOfRegion, AreLowered, all_lowered, said_reversed, lowered_unguarded, others_stay, some_outer}
+use Rattle.pas_same_text.proofs.LoweredGuards.{apart_split, own_left, left_of, outer_number}
 
 -- the replay after a sweep, which left these guards
 abbrev pub swept_to : Progress → ℕ → List BookGuard → List Made → List Record → Progress

@@ -1,22 +1,18 @@
 -- GUARDS ARE LOWERED in the text: their outer pages are anybody's again, and nothing else changes but hints.
-use Rattle.std.proofs.Common.{◌≡◌, ℕ, ◌==◌, Bool, true, false, not, ◌||◌, if◌then◌else◌, List, [], ◌∷◌, ◌++◌, map, reverse, inl, inr, refl, ap, sym, ◌∙◌, subst, append_assoc, append-nil}
-use Rattle.std.proofs.lemmas.Bool.{false≢true, true≢false, eq-eqb, eqb-true, or_cases, or_left, or_right, false_from_ne_true, or_parts}
+use Rattle.std.proofs.Common.{◌≡◌, ℕ, ◌==◌, Bool, true, false, not, ◌||◌, if◌then◌else◌, List, [], ◌∷◌, ◌++◌, map, reverse, inl, inr, refl, ap, sym, ◌∙◌, subst}
+use Rattle.std.proofs.Common.{append_assoc, append-nil, true≢false, eq-eqb, eqb-true}
+use Rattle.std.proofs.lemmas.Bool.{false≢true, or_cases, or_left, or_right, false_from_ne_true, or_parts}
 use Rattle.std.specs.List.{list_any, filter}
 use Rattle.pas_profile.specs.Profiles.{IsPage}
 use Rattle.pas_profile.specs.declared.profile.Profile.{Profile}
-use Rattle.pas_report.specs.declared.record.Record.{Record}
-use Rattle.pas_report.specs.declared.record.Said.TheVariants as Said
+use Rattle.pas_report.specs.declared.record.{Record.Record, Said.Said}
 use Rattle.pas_guard.specs.Books.{is_outer_of, is_outer, AreApart}
 use Rattle.pas_guard.specs.declared.book.Guard.{Guard as BookGuard}
-use Rattle.pas_one_text.specs.State.{Guard, World, each}
-use Rattle.pas_one_text.specs.Pages.{is_guarded, minds}
-use Rattle.pas_one_text.specs.Guards.{without_guard, lowers}
+use Rattle.pas_one_text.specs.{State.Guard, State.World, State.each, Pages.is_guarded, Pages.minds, Guards.without_guard, Guards.lowers}
 use Rattle.pas_same_text.specs.Same.{told_guard, has_number}
 use Rattle.pas_same_text.proofs.GivenBack.{Returns, OnlyHints, returns_nothing, returns_then, returns_like, minded_last, all_only_hints}
-use Rattle.pas_same_text.proofs.OuterPages.{has_outer}
-use Rattle.pas_same_text.proofs.SmallActs.{records_next}
-use Rattle.pas_same_text.proofs.StillIndexes.{same_guards, minds_keep}
-use Rattle.pas_same_text.proofs.Tests.{or_none, eqb_turned}
+use Rattle.pas_same_text.proofs.{OuterPages.has_outer, SmallActs.records_next, StillIndexes.same_guards, StillIndexes.minds_keep, Tests.or_none}
+use Rattle.pas_same_text.proofs.{Tests.eqb_turned}
 
 -- ---- which pages come back, what is said, and which guards are left
 abbrev pub outer_pages : List Guard → List ℕ

@@ -1,40 +1,27 @@
 -- PLACE IS MADE in a cache for one local allocator more: the spent one of its heap and class goes, or where there is none and the cache is full, the one used
 -- longest ago.
-use Rattle.std.proofs.Common.{◌≡◌, ℕ, ◌+◌, ◌/◌, ◌%◌, ◌<◌, ◌≤◌, ◌==◌, nat_le, Bool, true, false, not, ◌&&◌, ◌||◌, if◌then◌else◌, cond, List, [], ◌∷◌, ◌++◌, length, All, Option, None, Some, inl, refl, ap, sym, ◌∙◌, subst, append-nil, arith}
-use Rattle.std.proofs.lemmas.Bool.{true≢false, eq-eqb, eqb-true}
-use Rattle.std.proofs.lemmas.Bool.Decides.{nat_tests}
-use Rattle.std.proofs.lemmas.List.Sums.{sum_by-cons}
-use Rattle.std.proofs.lemmas.List.Elements.{All-head, All-tail}
-use Rattle.std.proofs.lemmas.Option.{same_Some}
+use Rattle.std.proofs.Common.{◌≡◌, ℕ, ◌+◌, ◌/◌, ◌%◌, ◌<◌, ◌≤◌, ◌==◌, nat_le, Bool, true, false, not, ◌&&◌, ◌||◌, if◌then◌else◌, cond, List, [], ◌∷◌, ◌++◌}
+use Rattle.std.proofs.Common.{length, All, Option, None, Some, inl, refl, ap, sym, ◌∙◌, subst, append-nil, arith, true≢false, eq-eqb, eqb-true}
+use Rattle.std.proofs.lemmas.{Bool.Decides.nat_tests, List.Sums.sum_by-cons, List.Elements.All-head, List.Elements.All-tail, Option.same_Some}
 use Rattle.std.specs.List.{find, count_by}
 use Rattle.pas_bits.specs.Masks.{is_set, IsEmpty}
 use Rattle.pas_profile.specs.Profiles.{IsValid}
 use Rattle.pas_profile.specs.declared.profile.Profile.{Profile}
-use Rattle.pas_steps.specs.Kinds.{Only}
-use Rattle.pas_steps.specs.Lists.{part}
+use Rattle.pas_steps.specs.{Kinds.Only, Lists.part}
 use Rattle.pas_steps.specs.declared.step.Made.{Made}
-use Rattle.pas_segregated.specs.Masks.{start_of}
-use Rattle.pas_segregated.specs.Stops.{home_of, LeavesWhere, StopStepsAt}
+use Rattle.pas_segregated.specs.{Masks.start_of, Stops.home_of, Stops.LeavesWhere, Stops.StopStepsAt}
 use Rattle.pas_segregated.specs.declared.slots.Slots.{Slots}
 use Rattle.pas_segregated.proofs.Starts.{start_below}
-use Rattle.pas_cache.specs.Changes.{LeavesSpent, StopsFirst}
-use Rattle.pas_cache.specs.Contents.{Cached}
-use Rattle.pas_cache.specs.Kinds.{releasing}
-use Rattle.pas_cache.specs.Locals.{IsLocal, covers, any_covers, local_for, others_than}
-use Rattle.pas_cache.specs.Locals.{is_for as is_for_slots}
-use Rattle.pas_cache.specs.Serves.{MakesPlace}
+use Rattle.pas_cache.specs.{Changes.LeavesSpent, Changes.StopsFirst, Contents.Cached, Kinds.releasing, Serves.MakesPlace}
+use Rattle.pas_cache.specs.Locals.{IsLocal, covers, any_covers, local_for, others_than, is_for as is_for_slots}
 use Rattle.pas_trace.specs.EveryPlan.{IsThread}
 use Rattle.pas_answers.specs.Answers.{Progress}
 use Rattle.pas_one_text.specs.State.{Local, World, locals_of}
 use Rattle.pas_one_text.specs.Classes.{is_for, others, gives_up, gives_up_first, makes_place}
-use Rattle.pas_same_text.specs.Same.{IsSame, AreSameLocals}
-use Rattle.pas_same_text.specs.Acts.{IsBetween}
-use Rattle.pas_same_text.proofs.CachedSlots.{found_passes}
-use Rattle.pas_same_text.proofs.CacheLists.{same_kept}
-use Rattle.pas_same_text.proofs.GivenUp.{AreUnique, unique_of, own_counted}
-use Rattle.pas_same_text.proofs.OneUp.{up_to, up_same}
+use Rattle.pas_same_text.specs.{Same.IsSame, Same.AreSameLocals, Acts.IsBetween}
+use Rattle.pas_same_text.proofs.{CachedSlots.found_passes, CacheLists.same_kept, GivenUp.AreUnique, GivenUp.unique_of, GivenUp.own_counted, OneUp.up_to}
+use Rattle.pas_same_text.proofs.{OneUp.up_same, Tests.and_first, Tests.and_second}
 use Rattle.pas_same_text.proofs.SameLocals.{Finds, for_same, found_same, others_same}
-use Rattle.pas_same_text.proofs.Tests.{and_first, and_second}
 
 -- ---- lists of local allocators
 none_next : (heap class : ℕ) (s : Slots) (l : Local) (rest : Option Slots) (other : Option Local) (t : Bool) → is_for_slots heap class s ≡ t → is_for heap class l ≡ is_for_slots heap class s → (rest ≡ None → other ≡ None) → (if t then Some s else rest) ≡ None → (if is_for heap class l then Some l else other) ≡ None
@@ -108,7 +95,7 @@ placed_by k None w = makes_place k w
 placed_by k (Some l) w = gives_up k l w
 
 -- nothing was done
-pub unmoved : (f : Profile) (k : ℕ) (p : Progress) (w : World) → IsSame f p w → IsSame f (up_to p k [] (p.caches k).locals) w
+unmoved : (f : Profile) (k : ℕ) (p : Progress) (w : World) → IsSame f p w → IsSame f (up_to p k [] (p.caches k).locals) w
 unmoved f k p w same = record { pages = same.pages; caches = same_kept f p.caches w.caches k same.caches; guards = same.guards; names = same.names; records = same.records; epoch = same.epoch; read = same.read }
 
 module _ (f : Profile) (k : ℕ) (p : Progress) (w : World) (valid : IsValid f) (thread : IsThread f k) (before : IsBetween f p) (same : IsSame f p w) where

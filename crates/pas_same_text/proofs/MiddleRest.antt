@@ -1,31 +1,25 @@
 -- IN THE MIDDLE OF AN ACT: where its thread rests with another cache, all actors rest.
-use Rattle.std.proofs.Common.{◌≡◌, ℕ, ◌*◌, ◌/◌, ◌==◌, Bool, true, false, if◌then◌else◌, List, [], ◌∷◌, ◌++◌, inl, inr, refl, ap, sym, ◌∙◌, subst, arith}
-use Rattle.std.proofs.lemmas.Bool.{false≢true, eq-eqb, eqb-true, eqb-false, or_left, or_right}
+use Rattle.std.proofs.Common.{◌≡◌, ℕ, ◌*◌, ◌/◌, ◌==◌, Bool, true, false, if◌then◌else◌, List, [], ◌∷◌, ◌++◌, inl, inr, refl, ap, sym, ◌∙◌, subst, arith, eq-eqb}
+use Rattle.std.proofs.Common.{eqb-true}
+use Rattle.std.proofs.lemmas.Bool.{false≢true, eqb-false, or_left, or_right}
 use Rattle.pas_profile.specs.Profiles.{IsValid}
 use Rattle.pas_profile.specs.declared.profile.Profile.{Profile}
 use Rattle.pas_machine.specs.State.{backed_in}
-use Rattle.pas_steps.specs.Clear.{HasNothing}
-use Rattle.pas_steps.specs.Desks.{triples}
+use Rattle.pas_steps.specs.{Clear.HasNothing, Desks.triples, Views.View}
 use Rattle.pas_steps.specs.Lists.{Whole, part, visible, Legal}
-use Rattle.pas_steps.specs.Views.{View}
 use Rattle.pas_steps.specs.declared.step.Made.{Made}
 use Rattle.pas_steps.proofs.Parts.{part_of_others}
 use Rattle.pas_segregated.specs.declared.slots.Slots.{Slots}
-use Rattle.pas_cache.specs.Caches.{AtRest}
-use Rattle.pas_cache.specs.Contents.{Cached}
-use Rattle.pas_cache.specs.Locals.{any_covers}
+use Rattle.pas_cache.specs.{Caches.AtRest, Contents.Cached, Locals.any_covers}
 use Rattle.pas_guard.specs.Books.{is_outer_of, is_outer}
 use Rattle.pas_guard.specs.declared.book.Guard.{Guard}
 use Rattle.pas_trace.specs.EveryPlan.{IsThread}
-use Rattle.pas_answers.specs.Answers.{Caches, Progress}
-use Rattle.pas_answers.specs.Answers.{with_cache as with_cached}
+use Rattle.pas_answers.specs.Answers.{Caches, Progress, with_cache as with_cached}
 use Rattle.pas_same_text.specs.Acts.{IsResting, AreResting, IsBetween}
-use Rattle.pas_same_text.proofs.CacheLists.{again_at}
-use Rattle.pas_same_text.proofs.KeepersRest.{others_bare}
-use Rattle.pas_same_text.proofs.Seats.{thread_rests, thread_at_rest}
+use Rattle.pas_same_text.proofs.{CacheLists.again_at, KeepersRest.others_bare, Seats.thread_rests, Seats.thread_at_rest}
 
 -- an actor that is at rest with its cache alone has no guard up
-pub thread_book : (f : Profile) (c : Cached) (gs : List Guard) (v : View) → IsResting f c gs v → AtRest f c v → gs ≡ []
+thread_book : (f : Profile) (c : Cached) (gs : List Guard) (v : View) → IsResting f c gs v → AtRest f c v → gs ≡ []
 thread_book f c [] v resting rest = refl
 thread_book f c (g ∷ gs) v resting rest = absurd (elim resting.locals.one_kind [
   | inl none ↦ false≢true (sym (ap (λ (ls : List Slots). any_covers ls (256 * g.low)) none) ∙ covered)
@@ -76,5 +70,5 @@ module _ (f : Profile) (p : Progress) (k : ℕ) (c' : Cached) (xs : List Made) (
     none = before.rest.none;
     beside = before.rest.beside;
     bare = λ j page outer. still_bare j page outer (k == j) refl;
-    scavenger = subst HasNothing (sym (part_of_others 0 k xs p.list (λ same. let low = thread.0 in omega (arith, low, same)))) before.rest.scavenger;
+    scavenger = subst HasNothing (sym (part_of_others 0 k xs p.list (λ same. omega (arith, thread.0, same)))) before.rest.scavenger;
   }

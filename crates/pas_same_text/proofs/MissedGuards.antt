@@ -1,54 +1,34 @@
 -- NO GUARD GOES UP: the search of a keeper found no run. The pages whose deeds it made are free then, and offered; all else is as it was.
-use Rattle.std.proofs.Common.{◌≡◌, ℕ, ◌+◌, ◌*◌, ◌/◌, ◌<◌, ◌==◌, Bool, true, false, ◌||◌, if◌then◌else◌, List, [], ◌∷◌, ◌++◌, Some, inl, inr, refl, ap, sym, ◌∙◌, subst, arith}
-use Rattle.std.proofs.lemmas.Bool.{true≢false, false≢true, eq-eqb, or_cases, or_left, or_right, eqb-true}
+use Rattle.std.proofs.Common.{◌≡◌, ℕ, ◌+◌, ◌*◌, ◌/◌, ◌<◌, ◌==◌, Bool, true, false, ◌||◌, if◌then◌else◌, List, [], ◌∷◌, ◌++◌, Some, inl, inr, refl, ap, sym, ◌∙◌}
+use Rattle.std.proofs.Common.{subst, arith, true≢false, eq-eqb, eqb-true}
+use Rattle.std.proofs.lemmas.Bool.{false≢true, or_cases, or_left, or_right}
 use Rattle.std.proofs.lemmas.Option.{same_Some}
 use Rattle.std.specs.List.{AllByRecursion}
-use Rattle.pas_profile.specs.Directories.{number_of}
-use Rattle.pas_profile.specs.Profiles.{IsValid, IsDirectoryOf}
-use Rattle.pas_profile.specs.declared.directory.Directory.{Directory}
-use Rattle.pas_profile.specs.declared.event.Event.{Event}
-use Rattle.pas_profile.specs.declared.name.Block.{Block}
-use Rattle.pas_profile.specs.declared.profile.Profile.{Profile}
-use Rattle.pas_profile.specs.declared.word.Word.TheVariants as Word
+use Rattle.pas_profile.specs.{Directories.number_of, Profiles.IsValid, Profiles.IsDirectoryOf}
+use Rattle.pas_profile.specs.declared.{directory.Directory.Directory, event.Event.Event, name.Block.Block, profile.Profile.Profile, word.Word.Word}
 use Rattle.pas_machine.specs.State.{Live, live_in, deed_in}
-use Rattle.pas_steps.specs.Desks.{triples}
-use Rattle.pas_steps.specs.Events.{events_by}
-use Rattle.pas_steps.specs.Kinds.{Only}
+use Rattle.pas_steps.specs.{Desks.triples, Events.events_by, Kinds.Only, Past.Always, Views.holds, Views.usable_by_kind}
 use Rattle.pas_steps.specs.Lists.{Whole, part, word_after, visible, Legal}
-use Rattle.pas_steps.specs.Past.{Always}
-use Rattle.pas_steps.specs.Views.{holds, usable_by_kind}
-use Rattle.pas_steps.specs.declared.step.Made.{Made}
-use Rattle.pas_steps.specs.declared.step.Step.{Step}
-use Rattle.pas_steps.specs.declared.step.Step.TheVariants.{Deed}
+use Rattle.pas_steps.specs.declared.step.{Made.Made, Step.Step, Step.TheVariants.Deed}
 use Rattle.pas_steps.proofs.Apart.{only_within}
-use Rattle.pas_core.specs.Good.{IsPartOf}
-use Rattle.pas_core.specs.Rights.{eligible_bit}
+use Rattle.pas_core.specs.{Good.IsPartOf, Rights.eligible_bit}
 use Rattle.pas_core.proofs.Rights.{right_in_one_place}
 use Rattle.pas_search.specs.Kinds.{ReturnsDuly}
-use Rattle.pas_cache.specs.Kinds.{allocating}
-use Rattle.pas_cache.specs.Locals.{any_covers}
-use Rattle.pas_large.specs.Evidence.{DeedsRise}
-use Rattle.pas_large.specs.Finds.{MayFind}
+use Rattle.pas_cache.specs.{Kinds.allocating, Locals.any_covers}
+use Rattle.pas_large.specs.{Evidence.DeedsRise, Finds.MayFind}
 use Rattle.pas_large.proofs.Outcomes.{MadeOf}
-use Rattle.pas_guard.specs.Books.{is_outer}
-use Rattle.pas_guard.specs.Seeks.{seeking, SoughtNone}
+use Rattle.pas_guard.specs.{Books.is_outer, Seeks.seeking, Seeks.SoughtNone}
 use Rattle.pas_answers.specs.Answers.{Caches, Books, Progress, records_of}
-use Rattle.pas_one_text.specs.State.{World, Cache}
-use Rattle.pas_one_text.specs.Pages.{is_free, is_offered}
-use Rattle.pas_one_text.specs.Runs.{large_of}
+use Rattle.pas_one_text.specs.{State.World, State.Cache, Pages.is_free, Pages.is_offered, Runs.large_of}
 use Rattle.pas_same_text.specs.Same.{has_number, IsSame, HasSame, AreSameCaches, AreSameGuards}
-use Rattle.pas_same_text.specs.Acts.{IsBetween}
-use Rattle.pas_same_text.specs.Words.{free_bit}
-use Rattle.pas_same_text.proofs.FlushActs.{events_recorded}
+use Rattle.pas_same_text.specs.{Acts.IsBetween, Words.free_bit}
+use Rattle.pas_same_text.proofs.{FlushActs.events_recorded, GivenPages.open_from, GivenPages.free_left, GivingBack.epoch_stays_by, OuterPages.still_unguarded}
+use Rattle.pas_same_text.proofs.{RestingPages.deed_now, RestingPages.bit_tells, RestingPages.bit_offered, SoughtRuns.held_deed, SoughtRuns.IsRunOf}
+use Rattle.pas_same_text.proofs.{SoughtRuns.IsMadeOf}
 use Rattle.pas_same_text.proofs.FreeGrains.{holder_thread, cached_held, outer_held, held_by, free_uncovered}
-use Rattle.pas_same_text.proofs.GivenPages.{open_from, free_left}
-use Rattle.pas_same_text.proofs.GivingBack.{epoch_stays_by}
-use Rattle.pas_same_text.proofs.OuterPages.{still_unguarded}
 use Rattle.pas_same_text.proofs.ReadyPages.{shown, shown_events, shown_records, shown_lives, shown_rest}
-use Rattle.pas_same_text.proofs.RestingPages.{deed_now, bit_tells, bit_offered}
 use Rattle.pas_same_text.proofs.RunEvents.{with_deed, deeded, deeds_of, deeds_live}
 use Rattle.pas_same_text.proofs.RunMarks.{DeedsOn, IsRunTo, run_hints, run_offers}
-use Rattle.pas_same_text.proofs.SoughtRuns.{held_deed, IsRunOf, IsMadeOf}
 use Rattle.pas_same_text.proofs.TriedRuns.{unowned_free, visible_mid, made_events, none_made, none_pages}
 
 -- ---- the pages whose deeds were made

@@ -1,36 +1,21 @@
 -- ONE ACT keeps the text, by all that is known of it.
 use Rattle.std.proofs.Common.{◌≡◌, ℕ, ◌≤◌, Bool, if◌then◌else◌, List, Option, None, Some, inl, inr, refl, sym, subst}
-use Rattle.pas_profile.specs.Profiles.{IsAdmitted}
-use Rattle.pas_profile.specs.Requests.{route_in}
-use Rattle.pas_profile.specs.declared.directory.Route.{Route}
-use Rattle.pas_profile.specs.declared.name.Block.{Block}
-use Rattle.pas_profile.specs.declared.profile.Profile.{Profile}
+use Rattle.pas_profile.specs.{Profiles.IsAdmitted, Requests.route_in}
+use Rattle.pas_profile.specs.declared.{directory.Route.Route, name.Block.Block, profile.Profile.Profile}
 use Rattle.pas_steps.specs.Lists.{part}
 use Rattle.pas_large.specs.Doors.{Indexes}
-use Rattle.pas_trace.specs.Acts.{Act}
-use Rattle.pas_trace.specs.declared.item.Request.{Request}
-use Rattle.pas_trace.specs.EveryPlan.{IsThread}
-use Rattle.pas_trace.specs.declared.plan.What.{What}
+use Rattle.pas_trace.specs.{Acts.Act, EveryPlan.IsThread}
+use Rattle.pas_trace.specs.declared.{item.Request.Request, plan.What.What}
 use Rattle.pas_answers.specs.Answers.{Progress, Named, Answer, having, standing_for, request_for, IsServed, IsRemadeBy, after_answer}
-use Rattle.pas_answers.specs.Calls.{block_behind}
-use Rattle.pas_answers.specs.Indexes.{unless_suited, request_made, IsNamedBy}
+use Rattle.pas_answers.specs.{Calls.block_behind, Indexes.unless_suited, Indexes.request_made, Indexes.IsNamedBy}
 use Rattle.pas_one_text.specs.State.{World}
 use Rattle.pas_one_text.specs.Order.{keeps_block, replaces, remakes, acts_on}
-use Rattle.pas_same_text.specs.Same.{IsSame}
-use Rattle.pas_same_text.specs.Acts.{IsBetween, HandsOnOwn}
-use Rattle.pas_same_text.specs.Known.{IsKnown, KeepsSame}
-use Rattle.pas_same_text.specs.Seats.{IsActOf}
-use Rattle.pas_same_text.specs.Requests.{IsAsked, AnswersSame, RequestStaysSame}
+use Rattle.pas_same_text.specs.{Same.IsSame, Acts.IsBetween, Acts.HandsOnOwn, Known.IsKnown, Known.KeepsSame, Seats.IsActOf, Requests.IsAsked}
+use Rattle.pas_same_text.specs.{Requests.AnswersSame, Requests.RequestStaysSame}
 use Rattle.pas_same_text.proofs.BackActs.{flush_act, stop_act, end_act, idle_act, raw_act, raw_sized_act, free_act, free_sized_act, remakes_idly}
-use Rattle.pas_same_text.proofs.BitfitRequests.{bitfit_answered}
-use Rattle.pas_same_text.proofs.ClassRequests.{class_answered}
-use Rattle.pas_same_text.proofs.GuardActs.{guards_keep}
-use Rattle.pas_same_text.proofs.LowerActs.{lower_act}
-use Rattle.pas_same_text.proofs.PagesRequests.{pages_answered, named_large}
-use Rattle.pas_same_text.proofs.PassActs.{pass_same}
-use Rattle.pas_same_text.proofs.Replaced.{replaced_same}
-use Rattle.pas_same_text.proofs.SameIndexes.{indexes_kept}
-use Rattle.pas_same_text.proofs.Seats.{thread_of, keeper_of}
+use Rattle.pas_same_text.proofs.{BitfitRequests.bitfit_answered, ClassRequests.class_answered, GuardActs.guards_keep, LowerActs.lower_act}
+use Rattle.pas_same_text.proofs.{PagesRequests.pages_answered, PagesRequests.named_large, PassActs.pass_same, Replaced.replaced_same, SameIndexes.indexes_kept}
+use Rattle.pas_same_text.proofs.{Seats.thread_of, Seats.keeper_of}
 use Rattle.pas_same_text.proofs.SmallActs.{phase_same, close_same, wake_same, reading_same, tick_same, settling_same}
 
 -- ---- a request, by its route

@@ -1,48 +1,33 @@
 -- ONE LOCAL ALLOCATOR OF A CACHE IS STOPPED, or left where it has no slot: the text gives it up.
-use Rattle.std.proofs.Common.{◌≡◌, ℕ, ◌/◌, ◌==◌, Bool, true, false, ◌||◌, if◌then◌else◌, List, [], ◌∷◌, ◌++◌, reverse, Some, inl, inr, refl, ap, sym, ◌∙◌, subst, append-nil}
-use Rattle.std.proofs.lemmas.Bool.{false≢true, eq-eqb, eqb-true}
+use Rattle.std.proofs.Common.{◌≡◌, ℕ, ◌/◌, ◌==◌, Bool, true, false, ◌||◌, if◌then◌else◌, List, [], ◌∷◌, ◌++◌, reverse, Some, inl, inr, refl, ap, sym, ◌∙◌}
+use Rattle.std.proofs.Common.{subst, append-nil, eq-eqb, eqb-true}
+use Rattle.std.proofs.lemmas.Bool.{false≢true}
 use Rattle.std.specs.List.{find}
 use Rattle.pas_profile.specs.Profiles.{IsValid, IsPage, IsDirectoryOf}
-use Rattle.pas_profile.specs.declared.directory.Directory.{Directory}
-use Rattle.pas_profile.specs.declared.event.Event.{Event}
-use Rattle.pas_profile.specs.declared.profile.Profile.{Profile}
+use Rattle.pas_profile.specs.declared.{directory.Directory.Directory, event.Event.Event, profile.Profile.Profile}
 use Rattle.pas_machine.specs.State.{live_in}
-use Rattle.pas_steps.specs.Events.{events_by}
-use Rattle.pas_steps.specs.Kinds.{Only}
-use Rattle.pas_steps.specs.Lists.{part, visible}
-use Rattle.pas_steps.specs.Views.{holds}
+use Rattle.pas_steps.specs.{Events.events_by, Kinds.Only, Lists.part, Lists.visible, Views.holds}
 use Rattle.pas_steps.specs.declared.step.Made.{Made}
 use Rattle.pas_steps.proofs.Apart.{only_within, events_same}
 use Rattle.pas_core.proofs.Grains.{one_holder}
 use Rattle.pas_free_log.specs.Frames.{freeing}
 use Rattle.pas_segregated.specs.Stops.{home_of, StopStepsAt}
 use Rattle.pas_segregated.specs.declared.slots.Slots.{Slots}
-use Rattle.pas_cache.specs.Contents.{Cached}
-use Rattle.pas_cache.specs.Kinds.{releasing}
-use Rattle.pas_cache.specs.Locals.{IsLocal, covers, any_covers}
+use Rattle.pas_cache.specs.{Contents.Cached, Kinds.releasing, Locals.IsLocal, Locals.covers, Locals.any_covers}
 use Rattle.pas_trace.specs.EveryPlan.{IsThread}
-use Rattle.pas_answers.specs.Answers.{Progress, with_steps}
-use Rattle.pas_answers.specs.Answers.{with_cache as with_cached}
+use Rattle.pas_answers.specs.Answers.{Progress, with_steps, with_cache as with_cached}
 use Rattle.pas_guard.specs.Books.{is_outer}
-use Rattle.pas_one_text.specs.State.{Local, World, locals_of}
-use Rattle.pas_one_text.specs.Pages.{is_of}
-use Rattle.pas_one_text.specs.Classes.{is_for, others, gives_up}
+use Rattle.pas_one_text.specs.{State.Local, State.World, State.locals_of, Pages.is_of, Classes.is_for, Classes.others, Classes.gives_up}
 use Rattle.pas_report.specs.declared.record.Record.{Record}
 use Rattle.pas_same_text.specs.Same.{IsSame, HasSame, IsSameCache, IsSameLocal, AreSameLocals, AreSameCaches, lives_in}
-use Rattle.pas_same_text.specs.Acts.{IsBetween}
-use Rattle.pas_same_text.specs.Words.{free_bit}
-use Rattle.pas_same_text.proofs.CacheLists.{same_with}
-use Rattle.pas_same_text.proofs.Flushes.{visible_steps}
+use Rattle.pas_same_text.specs.{Acts.IsBetween, Words.free_bit}
+use Rattle.pas_same_text.proofs.{CacheLists.same_with, Flushes.visible_steps, GivenUp.AreUnique, GivenUp.unique_of, GoneLocals.left, GoneLocals.gone_returns}
+use Rattle.pas_same_text.proofs.{GoneLocals.gone_only, OuterPages.guards_as, OuterPages.still_unguarded, RestingPages.is_open, StillIndexes.same_guards}
+use Rattle.pas_same_text.proofs.{StillIndexes.given_up_keeps, StopActs.slot_room, StopActs.read_room, StopSteps.IsMarkedBy, StopSteps.one_marked}
+use Rattle.pas_same_text.proofs.{StopSteps.one_hints}
 use Rattle.pas_same_text.proofs.FreeGrains.{cached_held, outer_held, held_by, never_both, holder_thread}
 use Rattle.pas_same_text.proofs.GivenPages.{IsGivenBack, covered_not_held, free_left, given_pages}
-use Rattle.pas_same_text.proofs.GivenUp.{AreUnique, unique_of}
 use Rattle.pas_same_text.proofs.GivingBack.{IsMarked, hint_marks, offer_marks, epoch_stays_by}
-use Rattle.pas_same_text.proofs.GoneLocals.{left, gone_returns, gone_only}
-use Rattle.pas_same_text.proofs.OuterPages.{guards_as, still_unguarded}
-use Rattle.pas_same_text.proofs.RestingPages.{is_open}
-use Rattle.pas_same_text.proofs.StillIndexes.{same_guards, given_up_keeps}
-use Rattle.pas_same_text.proofs.StopActs.{slot_room, read_room}
-use Rattle.pas_same_text.proofs.StopSteps.{IsMarkedBy, one_marked, one_hints}
 
 -- the replay after its steps, with the local allocators that are left
 abbrev pub up_to : Progress → ℕ → List Made → List Slots → Progress

@@ -1,12 +1,11 @@
 -- OUTER PAGES of guards: those of the text are those of the keepers' books.
-use Rattle.std.proofs.Common.{◌≡◌, ℕ, ◌==◌, Bool, true, false, ◌&&◌, ◌||◌, List, [], ◌∷◌, map, inl, inr, refl, ap, sym, ◌∙◌, subst}
-use Rattle.std.proofs.lemmas.Bool.{eq-eqb, false≢true, or_cases, or_left, or_right, and_from, false_from_ne_true}
+use Rattle.std.proofs.Common.{◌≡◌, ℕ, ◌==◌, Bool, true, false, ◌&&◌, ◌||◌, List, [], ◌∷◌, map, inl, inr, refl, ap, sym, ◌∙◌, subst, eq-eqb}
+use Rattle.std.proofs.lemmas.Bool.{false≢true, or_cases, or_left, or_right, and_from, false_from_ne_true}
 use Rattle.std.specs.List.{list_any, filter}
 use Rattle.pas_guard.specs.Books.{is_outer_of, is_outer}
 use Rattle.pas_guard.specs.declared.book.Guard.{Guard as BookGuard}
 use Rattle.pas_answers.specs.Answers.{Books}
-use Rattle.pas_one_text.specs.State.{Guard, World}
-use Rattle.pas_one_text.specs.Pages.{is_guarded}
+use Rattle.pas_one_text.specs.{State.Guard, State.World, Pages.is_guarded}
 use Rattle.pas_same_text.specs.Same.{told_guard, AreSameGuards}
 use Rattle.pas_same_text.proofs.Tests.{and_second, any_filtered, filtered_any, any_weaker}
 

@@ -1,38 +1,32 @@
 -- WHAT A SEARCH FOR A RUN READ of a page, where no other actor makes a step: a page that was read as usable was usable before the search, and one that was usable before it is
 -- never read as not usable, lost or broken.
-use Rattle.std.proofs.Common.{◌≡◌, ◌≢◌, ℕ, ◌+◌, ◌*◌, ◌/◌, ◌%◌, ◌<◌, ◌==◌, Bool, true, false, ◌&&◌, ◌||◌, if◌then◌else◌, List, [], ◌∷◌, ◌++◌, ◌⊎◌, inl, inr, refl, ap, sym, ◌∙◌, subst, arith}
-use Rattle.std.proofs.lemmas.Bool.{true≢false, false≢true, eqb-true, eq-eqb, cases_eq, or_from}
+use Rattle.std.proofs.Common.{◌≡◌, ◌≢◌, ℕ, ◌+◌, ◌*◌, ◌/◌, ◌%◌, ◌<◌, ◌==◌, Bool, true, false, ◌&&◌, ◌||◌, if◌then◌else◌, List, [], ◌∷◌, ◌++◌, ◌⊎◌, inl, inr}
+use Rattle.std.proofs.Common.{refl, ap, sym, ◌∙◌, subst, arith, true≢false, eqb-true, eq-eqb}
+use Rattle.std.proofs.lemmas.Bool.{false≢true, cases_eq, or_from}
 use Rattle.pas_bits.specs.Bits.{has_bit}
-use Rattle.pas_profile.specs.Directories.{IsKind, number_of, deed_word_of}
-use Rattle.pas_profile.specs.Layouts.{same_word}
-use Rattle.pas_profile.specs.declared.directory.Directory.{Directory}
-use Rattle.pas_profile.specs.declared.profile.Profile.{Profile}
-use Rattle.pas_profile.specs.declared.word.Word.TheVariants as Word
+use Rattle.pas_profile.specs.{Directories.IsKind, Directories.number_of, Directories.deed_word_of, Layouts.same_word}
+use Rattle.pas_profile.specs.declared.{directory.Directory.Directory, profile.Profile.Profile, word.Word.Word}
 use Rattle.pas_profile.proofs.Codecs.{deed_word_of-positive}
-use Rattle.pas_steps.specs.Allowed.{Allowed}
-use Rattle.pas_steps.specs.Desks.{triple, triples}
-use Rattle.pas_steps.specs.Effects.{target, new_value, free_word_at}
+use Rattle.pas_steps.specs.{Allowed.Allowed, Desks.triple, Desks.triples, Effects.target, Effects.new_value, Effects.free_word_at, Past.Once, Past.Always}
+use Rattle.pas_steps.specs.{Past.Since}
 use Rattle.pas_steps.specs.Evidence.{ReadsEligible, ReadsFree, GetsRight, NoDeedHere, GetsHere, OneHere}
 use Rattle.pas_steps.specs.Lists.{Whole, part, word_after, Legal}
-use Rattle.pas_steps.specs.Past.{Once, Always, Since}
 use Rattle.pas_steps.specs.Views.{Way, Rests, ByDeed, FromOffer, FromParked, ToOffer, ToParked, way, epoch_of, holds, has_right, KnowsDeed}
-use Rattle.pas_steps.specs.declared.step.Made.{Made}
-use Rattle.pas_steps.specs.declared.step.Step.{Step}
+use Rattle.pas_steps.specs.declared.step.{Made.Made, Step.Step}
 use Rattle.pas_steps.specs.declared.step.Step.TheVariants.{Look, Deed, TakeRight, Offer, Park, Unpark}
-use Rattle.pas_steps.proofs.Frames.{right_own}
-use Rattle.pas_steps.proofs.Parts.{part_of_own}
+use Rattle.pas_steps.proofs.{Frames.right_own, Parts.part_of_own}
 use Rattle.pas_core.specs.Rights.{eligible_bit, free_of_page}
 use Rattle.pas_core.proofs.Deeds.{looked, known_is, number_told, deed_kept}
 use Rattle.pas_core.proofs.OneActor.{LendsNone, deed_none, deed_read, legal_before, unfit_entry}
-use Rattle.pas_core.proofs.Rights.{Spot, Nowhere, With, Offered, InParked, is_with, is_offered, is_offered-true, spot_after, spot_of, DeedFits, spotted, no_deed, free_without_deed, offered_has_deed}
+use Rattle.pas_core.proofs.Rights.{Spot, Nowhere, With, Offered, InParked, is_with, is_offered, is_offered-true, spot_after, spot_of, DeedFits, spotted}
+use Rattle.pas_core.proofs.Rights.{no_deed, free_without_deed, offered_has_deed}
 use Rattle.pas_scan.specs.Usable.{OfHere, WholeHere, ReadUsable, ParksNotHere, IsFresh, OtherDeedHere, NotOfferedHere, UsedHere, MakesNoDeedHere}
 use Rattle.pas_search.specs.Kinds.{IsReturnOf, ReturnsDuly}
 use Rattle.pas_large.specs.Evidence.{NotAll, LostRightHere, LostDeedHere, LostHere, BrokenHere, BadHere}
 use Rattle.pas_large.specs.Telling.{IsWholePage, IsUsablePage}
 use Rattle.pas_large.proofs.Outcomes.{MadeOf}
 use Rattle.pas_same_text.specs.Words.{free_bit}
-use Rattle.pas_same_text.proofs.GivingBack.{offer_one}
-use Rattle.pas_same_text.proofs.SearchMarks.{stays_used, stays_free}
+use Rattle.pas_same_text.proofs.{GivingBack.offer_one, SearchMarks.stays_used, SearchMarks.stays_free}
 
 -- ---- what readings tell of words
 eligible_told : (l : Whole) (d : Directory) (p : ℕ) (s : Step) (a : ℕ) → ReadsEligible d p s → a ≡ word_after l (target s) → has_bit a (p % 64) ≡ eligible_bit l (number_of d) p
@@ -53,23 +47,23 @@ grain_bit l p word b small lt =
     ∙ (ap (λ (u : ℕ). has_bit (word_after l (Word.Free ((p * 256 + (64 * word + b)) / 256) u)) b) (sym at)
     ∙ ap (has_bit (word_after l (free_word_at (p * 256 + (64 * word + b))))) (sym bit))
 
-pub of_page : (l : Whole) (page b : ℕ) → free_of_page l page b ≡ free_bit l (page * 256 + b)
+of_page : (l : Whole) (page b : ℕ) → free_of_page l page b ≡ free_bit l (page * 256 + b)
 of_page l page b = let bit : b % 64 ≡ (page * 256 + b) % 64 = omega arith in ap (λ (n : ℕ). has_bit (word_after l (free_word_at (page * 256 + b))) n) bit
 
 -- all grains of a usable page are free
-pub usable_free : (f : Profile) (d : Directory) (l : Whole) (p : ℕ) → Legal f l → IsUsablePage d l p → (b : ℕ) → b < 256 → free_bit l (p * 256 + b) ≡ true
+usable_free : (f : Profile) (d : Directory) (l : Whole) (p : ℕ) → Legal f l → IsUsablePage d l p → (b : ℕ) → b < 256 → free_bit l (p * 256 + b) ≡ true
 usable_free f d l p legal (inl none) b lt =
     let page : (p * 256 + b) / 256 ≡ p = omega (arith, lt) in
     free_without_deed f l legal (p * 256 + b) (ap (λ (q : ℕ). word_after l (Word.Deed q)) page ∙ none)
 usable_free f d l p legal (inr whole) b lt = sym (of_page l p b) ∙ whole.free b lt
 
 -- ---- DEEDS while one actor goes on
-pub deed_later : (k : ℕ) (l : Whole) (p : ℕ) (xs : List Made) → word_after l (Word.Deed p) ≢ 0 → word_after (triples k xs ++ l) (Word.Deed p) ≡ word_after l (Word.Deed p)
+deed_later : (k : ℕ) (l : Whole) (p : ℕ) (xs : List Made) → word_after l (Word.Deed p) ≢ 0 → word_after (triples k xs ++ l) (Word.Deed p) ≡ word_after l (Word.Deed p)
 deed_later k l p [] some = refl
 deed_later k l p (m ∷ xs) some = let e = deed_later k l p xs some in deed_kept (triples k xs ++ l) (triple k m) p (λ none. some (sym e ∙ none)) ∙ e
 
 -- where there is a deed none is made
-pub never_made : (f : Profile) (k : ℕ) (l : Whole) (p : ℕ) (xs : List Made) → Legal f (triples k xs ++ l) → word_after l (Word.Deed p) ≢ 0 → Always (MakesNoDeedHere p) xs
+never_made : (f : Profile) (k : ℕ) (l : Whole) (p : ℕ) (xs : List Made) → Legal f (triples k xs ++ l) → word_after l (Word.Deed p) ≢ 0 → Always (MakesNoDeedHere p) xs
 never_made f k l p [] legal some = tt
 never_made f k l p (m ∷ xs) legal some = (
   λ d is zero. some (sym (deed_later k l p xs some) ∙ (sym (legal.0.answer_is ∙ ap (λ (s : Step). word_after (triples k xs ++ l) (target s)) is) ∙ zero)),

@@ -1,67 +1,37 @@
 -- A REQUEST FOR WHOLE PAGES: by the run that the heap's index named, where it is whole, or else by the lowest usable one; or it is refused, and changes no page.
-use Rattle.std.proofs.Common.{◌≡◌, ℕ, ◌*◌, ◌/◌, ◌≤◌, true, List, ◌∷◌, ◌++◌, Option, None, Some, Result, Ok, Err, ◌⊎◌, inl, inr, refl, ap, sym, ◌∙◌, subst, arith, append_assoc}
-use Rattle.std.proofs.lemmas.Bool.{true≢false}
-use Rattle.pas_profile.specs.Blocks.{address_of}
-use Rattle.pas_profile.specs.Profiles.{IsValid, IsAdmitted, IsDirectoryOf}
+use Rattle.std.proofs.Common.{◌≡◌, ℕ, ◌*◌, ◌/◌, ◌≤◌, true, List, ◌∷◌, ◌++◌, Option, None, Some, Result, Ok, Err, ◌⊎◌, inl, inr, refl, ap, sym, ◌∙◌, subst}
+use Rattle.std.proofs.Common.{arith, append_assoc, true≢false}
+use Rattle.pas_profile.specs.{Blocks.address_of, Profiles.IsValid, Profiles.IsAdmitted, Profiles.IsDirectoryOf}
 use Rattle.pas_profile.specs.Requests.{route_in, room_in, is_shared, kind_of_route, directory_for}
-use Rattle.pas_profile.specs.declared.directory.Directory.{Directory}
-use Rattle.pas_profile.specs.declared.directory.Route.{Route}
-use Rattle.pas_profile.specs.declared.event.NoRoom.{NoRoom}
-use Rattle.pas_profile.specs.declared.name.Block.{Block}
-use Rattle.pas_profile.specs.declared.profile.Profile.{Profile}
-use Rattle.pas_steps.specs.Agreement.{Agreed}
-use Rattle.pas_steps.specs.Calls.{nothing, Does}
-use Rattle.pas_steps.specs.Desks.{triples}
+use Rattle.pas_profile.specs.declared.{directory.Directory.Directory, directory.Route.Route, event.NoRoom.NoRoom, name.Block.Block, profile.Profile.Profile}
+use Rattle.pas_steps.specs.{Agreement.Agreed, Calls.nothing, Calls.Does, Desks.triples, Lists.Whole, Lists.part, Lists.Legal, Past.Always, Views.View}
 use Rattle.pas_steps.specs.Kinds.{Kinds, Only, kind_of, place_of, is_in, apart, showing, looking}
-use Rattle.pas_steps.specs.Lists.{Whole, part, Legal}
-use Rattle.pas_steps.specs.Past.{Always}
-use Rattle.pas_steps.specs.Views.{View}
 use Rattle.pas_steps.specs.declared.step.Made.{Made}
-use Rattle.pas_steps.proofs.Adding.{triples_append}
+use Rattle.pas_steps.proofs.{Adding.triples_append, Calls.still_clear, Parts.part_of_own, Past.always_both, Past.always_map}
 use Rattle.pas_steps.proofs.Apart.{in_apart, no_event, only_both, only_within}
-use Rattle.pas_steps.proofs.Calls.{still_clear}
-use Rattle.pas_steps.proofs.Parts.{part_of_own}
-use Rattle.pas_steps.proofs.Past.{always_both, always_map}
-use Rattle.pas_core.proofs.Nexts.{agreed_steps}
-use Rattle.pas_core.proofs.OneActor.{legal_earlier}
+use Rattle.pas_core.proofs.{Nexts.agreed_steps, OneActor.legal_earlier}
 use Rattle.pas_search.specs.Kinds.{AreSearch, AreQuiet, IsQuiet, ReturnsDuly, searching}
 use Rattle.pas_search.proofs.Returns.{duly_both, duly_none}
 use Rattle.pas_large.specs.Allocates.{IsAllocatedLarge, IsAllocatedNamed, IsServedNamed, IsScanned}
-use Rattle.pas_large.specs.Alone.{GoesByDoor}
-use Rattle.pas_large.specs.Doors.{Indexes, found_in}
-use Rattle.pas_large.specs.Finds.{MayFind, finding}
-use Rattle.pas_large.specs.Pages.{claiming_old}
-use Rattle.pas_large.specs.Telling.{IsLowestRun, IsNamedWhole}
-use Rattle.pas_large.proofs.Allocates.{holds_whole, scans_only}
-use Rattle.pas_large.proofs.Alone.{goes_by_door, refused_alone}
-use Rattle.pas_large.proofs.Pages.{rise_none, knew_before}
-use Rattle.pas_cache.specs.Contents.{Cached}
-use Rattle.pas_cache.specs.Serves.{ServesPages, ServesBy, wanted_for}
+use Rattle.pas_large.specs.{Alone.GoesByDoor, Doors.Indexes, Doors.found_in, Finds.MayFind, Finds.finding, Pages.claiming_old, Telling.IsLowestRun}
+use Rattle.pas_large.specs.{Telling.IsNamedWhole}
+use Rattle.pas_large.proofs.{Allocates.holds_whole, Allocates.scans_only, Alone.goes_by_door, Alone.refused_alone, Pages.rise_none, Pages.knew_before}
+use Rattle.pas_cache.specs.{Contents.Cached, Serves.ServesPages, Serves.ServesBy, Serves.wanted_for, Calls.IsNamed}
 use Rattle.pas_cache.proofs.Routes.{large_size, pages_asked, may_find}
 use Rattle.pas_report.specs.declared.record.Said.{Said as TheSaid}
-use Rattle.pas_trace.specs.Acts.{Act}
-use Rattle.pas_trace.specs.EveryPlan.{IsThread}
-use Rattle.pas_trace.specs.declared.item.Request.{Request}
-use Rattle.pas_trace.specs.declared.plan.What.TheVariants.{Alloc}
-use Rattle.pas_answers.specs.Answers.{Progress, Named, named, Answer, having, IsServed, after_answer, said_of_request}
-use Rattle.pas_answers.specs.Answers.{block_of as block_answered}
+use Rattle.pas_trace.specs.{Acts.Act, EveryPlan.IsThread}
+use Rattle.pas_trace.specs.declared.{item.Request.Request, plan.What.TheVariants.Alloc}
+use Rattle.pas_answers.specs.Answers.{Progress, Named, named, Answer, having, IsServed, after_answer, said_of_request, block_of as block_answered}
 use Rattle.pas_answers.specs.Indexes.{IsNamedBy, ActIsNamedBy}
-use Rattle.pas_cache.specs.Calls.{IsNamed}
-use Rattle.pas_one_text.specs.State.{World}
-use Rattle.pas_one_text.specs.Indexes.{loses_named}
-use Rattle.pas_one_text.specs.Searches.{refusal, refuses}
+use Rattle.pas_one_text.specs.{State.World, Indexes.loses_named, Searches.refusal, Searches.refuses, Order.serves, Order.acts_on}
 use Rattle.pas_one_text.specs.Runs.{large_of, named_run, lowest_run, run_or, serves_run, gives_pages}
-use Rattle.pas_one_text.specs.Order.{serves, acts_on}
-use Rattle.pas_same_text.specs.Same.{IsSame, HasSame}
-use Rattle.pas_same_text.specs.Acts.{IsBetween, IsTaken}
-use Rattle.pas_same_text.proofs.LoggedFrees.{after_with}
-use Rattle.pas_same_text.proofs.RefusedRequests.{refused_to, refused_same}
-use Rattle.pas_same_text.proofs.RunGiven.{GaveRun, given_to, run_given}
-use Rattle.pas_same_text.proofs.RunsFound.{DeedsInRun, lowest_alone, deeds_in_run}
+use Rattle.pas_same_text.specs.{Same.IsSame, Same.HasSame, Acts.IsBetween, Acts.IsTaken}
+use Rattle.pas_same_text.proofs.{LoggedFrees.after_with, RefusedRequests.refused_to, RefusedRequests.refused_same, RunGiven.GaveRun, RunGiven.given_to}
+use Rattle.pas_same_text.proofs.{RunGiven.run_given, RunsFound.DeedsInRun, RunsFound.lowest_alone, RunsFound.deeds_in_run}
 use Rattle.pas_same_text.proofs.RunsSame.{lowest_found, none_lowest, named_whole, whole_named}
 
 -- ---- the indexes are no part of what is the same
-pub loses_same : (f : Profile) (p : Progress) (w : World) (heap n : ℕ) → IsSame f p w → IsSame f p (loses_named heap n w)
+loses_same : (f : Profile) (p : Progress) (w : World) (heap n : ℕ) → IsSame f p w → IsSame f p (loses_named heap n w)
 loses_same f p w heap n same = record {
   pages = record { events = same.pages.events; live = same.pages.live; hinted = same.pages.hinted; offered = same.pages.offered };
   caches = same.caches;

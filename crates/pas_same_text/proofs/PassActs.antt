@@ -1,51 +1,36 @@
 -- PASSES as acts: the pages that were hinted come to the outcomes of the text, and their hints and offers are those of the text afterwards.
-use Rattle.std.proofs.Common.{◌≡◌, ℕ, suc, ◌*◌, ◌<◌, ◌≤◌, Bool, true, false, ◌&&◌, List, [], ◌∷◌, ◌++◌, map, reverse, append_assoc, inl, inr, refl, ap, sym, ◌∙◌, subst, arith}
-use Rattle.std.proofs.lemmas.Bool.{false≢true, cases_Bool, false_from_ne_true}
-use Rattle.std.proofs.lemmas.Grind.{reverse_onto}
-use Rattle.std.proofs.lemmas.List.{reverse-append, reverse-reverse, map-append}
-use Rattle.std.proofs.lemmas.List.Elements.{filter_agree}
-use Rattle.std.proofs.lemmas.Simd.{map-map}
+use Rattle.std.proofs.Common.{◌≡◌, ℕ, suc, ◌*◌, ◌<◌, ◌≤◌, Bool, true, false, ◌&&◌, List, [], ◌∷◌, ◌++◌, map, reverse, append_assoc, inl, inr, refl, ap, sym}
+use Rattle.std.proofs.Common.{◌∙◌, subst, arith}
+use Rattle.std.proofs.lemmas.{Bool.false≢true, Bool.cases_Bool, Bool.false_from_ne_true, Grind.reverse_onto, List.reverse-append, List.reverse-reverse}
+use Rattle.std.proofs.lemmas.{List.map-append, List.Elements.filter_agree, Simd.map-map}
 use Rattle.std.specs.List.{filter}
 use Rattle.pas_profile.specs.Directories.{number_of}
 use Rattle.pas_profile.specs.Profiles.{IsValid, IsPage, IsDirectoryOf, vector_words}
-use Rattle.pas_profile.specs.declared.directory.Directory.{Directory}
-use Rattle.pas_profile.specs.declared.event.Event.{Event}
-use Rattle.pas_profile.specs.declared.event.Outcome.{Outcome}
-use Rattle.pas_profile.specs.declared.profile.Profile.{Profile}
-use Rattle.pas_profile.specs.declared.word.Word.TheVariants as Word
+use Rattle.pas_profile.specs.declared.{directory.Directory.Directory, event.Event.Event, event.Outcome.Outcome, profile.Profile.Profile, word.Word.Word}
 use Rattle.pas_profile.proofs.Codecs.{same_from_deed_word}
 use Rattle.pas_machine.specs.State.{backed_in}
 use Rattle.pas_steps.specs.Desks.{made, triples}
 use Rattle.pas_steps.specs.Lists.{Whole, part, word_after, visible, Legal}
-use Rattle.pas_steps.specs.declared.step.Made.{Made}
-use Rattle.pas_steps.specs.declared.step.Step.TheVariants.{Look}
+use Rattle.pas_steps.specs.declared.step.{Made.Made, Step.TheVariants.Look}
 use Rattle.pas_steps.proofs.Sets.{same_truth}
 use Rattle.pas_core.specs.Rights.{empty_bit, eligible_bit}
-use Rattle.pas_core.proofs.OneActor.{legal_earlier, deed_same, offered_deed}
-use Rattle.pas_core.proofs.Rights.{hinted_page}
+use Rattle.pas_core.proofs.{OneActor.legal_earlier, OneActor.deed_same, OneActor.offered_deed, Rights.hinted_page}
 use Rattle.pas_scavenger.specs.Passes.{outcomes_in, all_tried, passing, unbacks_in, PassSteps}
 use Rattle.pas_passes.specs.Records.{record_of}
-use Rattle.pas_report.specs.declared.record.Record.{Record}
-use Rattle.pas_report.specs.declared.record.Said.{Said}
+use Rattle.pas_report.specs.declared.record.{Record.Record, Said.Said}
 use Rattle.pas_trace.specs.Acts.{Act}
 use Rattle.pas_answers.specs.Answers.{Progress, after_pass}
-use Rattle.pas_one_text.specs.State.{World, says}
-use Rattle.pas_one_text.specs.Order.{acts_on}
+use Rattle.pas_one_text.specs.{State.World, State.says, Order.acts_on, Passes.outcome_of, Passes.passes}
 use Rattle.pas_one_text.specs.Pages.{page_numbers, is_free, is_empty, is_hinted, is_offered}
-use Rattle.pas_one_text.specs.Passes.{outcome_of, passes}
 use Rattle.pas_same_text.specs.Same.{IsSame, HasSame, AreSameCaches, has_number}
 use Rattle.pas_same_text.specs.Acts.{IsBetween, IsTaken, AreEndsStamped}
-use Rattle.pas_same_text.proofs.CacheLists.{all_locals}
-use Rattle.pas_same_text.proofs.Flushes.{visible_steps}
+use Rattle.pas_same_text.proofs.{CacheLists.all_locals, Flushes.visible_steps, GivenPages.open_grows, GivenPages.page_idle, GivenPages.idle_hinted}
+use Rattle.pas_same_text.proofs.{GivingBack.OffersPage, GivingBack.offered_by, GivingBack.epoch_stays_by, PassText.HasCome, PassText.pass_comes}
+use Rattle.pas_same_text.proofs.{OuterPages.guards_as, OuterPages.still_unguarded, Tests.has_filtered}
 use Rattle.pas_same_text.proofs.GivenBack.{free_kept, empty_kept, is_idle, page_there}
-use Rattle.pas_same_text.proofs.GivenPages.{open_grows, page_idle, idle_hinted}
-use Rattle.pas_same_text.proofs.GivingBack.{OffersPage, offered_by, epoch_stays_by}
 use Rattle.pas_same_text.proofs.PassOrder.{IsPast, falling, falling_skips, rising, past_all}
 use Rattle.pas_same_text.proofs.PassOutcomes.{WasOffered, pair, stays_hinted, has_same}
-use Rattle.pas_same_text.proofs.PassText.{HasCome, pass_comes}
-use Rattle.pas_same_text.proofs.OuterPages.{guards_as, still_unguarded}
 use Rattle.pas_same_text.proofs.RestingPages.{is_open, had_open, offered_bit, bit_offered}
-use Rattle.pas_same_text.proofs.Tests.{has_filtered}
 
 -- ---- lists
 map_turned : {A B : Type 0} (g : A → B) (xs : List A) → reverse (map g xs) ≡ map g (reverse xs)
@@ -103,7 +88,7 @@ module _ (f : Profile) (p : Progress) (w : World) (epoch : ℕ) (found : List (�
 
   -- ---- the pages, and what was found
   below : (q : ℕ) → IsPage f q → q < bound
-  below q of = let high = of.1 in omega (arith, high)
+  below q of = omega (arith, of.1)
 
   none_past : (q : ℕ) → suc f.pages ≤ q → hinted q ≡ false
   none_past q low = false_from_ne_true (hinted q) (λ bit. let high = (hinted_page f l before.legal q bit).1 in omega (arith, high, low))

@@ -1,36 +1,24 @@
 -- THE PAGES OF A PASS in order: it tries just the pages that were hinted when it began, upwards.
-use Rattle.std.proofs.Common.{◌≡◌, ℕ, zero, suc, ◌+◌, ◌*◌, ◌/◌, ◌%◌, ◌<◌, ◌≤◌, Bool, true, false, if◌then◌else◌, List, [], ◌∷◌, ◌++◌, map, reverse, append_assoc, append-nil, Option, None, Some, inl, inr, refl, ap, sym, ◌∙◌, subst, arith}
-use Rattle.std.proofs.lemmas.Bool.{true≢false, cases_Bool, cases_eq, ne_eqb, eq-eqb}
-use Rattle.std.proofs.lemmas.Grind.{reverse_onto}
-use Rattle.std.proofs.lemmas.List.Elements.{filter-append}
+use Rattle.std.proofs.Common.{◌≡◌, ℕ, zero, suc, ◌+◌, ◌*◌, ◌/◌, ◌%◌, ◌<◌, ◌≤◌, Bool, true, false, if◌then◌else◌, List, [], ◌∷◌, ◌++◌, map, reverse}
+use Rattle.std.proofs.Common.{append_assoc, append-nil, Option, None, Some, inl, inr, refl, ap, sym, ◌∙◌, subst, arith, true≢false, ne_eqb, eq-eqb}
+use Rattle.std.proofs.lemmas.{Bool.cases_Bool, Bool.cases_eq, Grind.reverse_onto, List.Elements.filter-append}
 use Rattle.std.specs.List.{filter}
 use Rattle.pas_bits.specs.Bits.{has_bit}
 use Rattle.pas_profile.specs.Profiles.{IsValid, vector_words}
-use Rattle.pas_profile.specs.declared.directory.Directory.{Directory}
-use Rattle.pas_profile.specs.declared.event.Outcome.{Outcome}
-use Rattle.pas_profile.specs.declared.profile.Profile.{Profile}
-use Rattle.pas_profile.specs.declared.word.Word.TheVariants as Word
-use Rattle.pas_steps.specs.Desks.{made, triples}
-use Rattle.pas_steps.specs.InTurn.{InTurn, numbers_below}
-use Rattle.pas_steps.specs.Lists.{Whole, word_after, Legal}
-use Rattle.pas_steps.specs.declared.step.Made.{Made}
-use Rattle.pas_steps.specs.declared.step.Step.TheVariants.{Look, Offer}
+use Rattle.pas_profile.specs.declared.{directory.Directory.Directory, event.Outcome.Outcome, profile.Profile.Profile, word.Word.Word}
+use Rattle.pas_steps.specs.{Desks.made, Desks.triples, InTurn.InTurn, InTurn.numbers_below, Lists.Whole, Lists.word_after, Lists.Legal}
+use Rattle.pas_steps.specs.declared.step.{Made.Made, Step.TheVariants.Look, Step.TheVariants.Offer}
 use Rattle.pas_steps.proofs.Adding.{triples_append}
-use Rattle.pas_core.specs.Hints.{IsEmptyBacked}
-use Rattle.pas_core.specs.Rights.{empty_bit}
+use Rattle.pas_core.specs.{Hints.IsEmptyBacked, Rights.empty_bit}
 use Rattle.pas_core.proofs.OneActor.{legal_earlier}
 use Rattle.pas_scavenger.specs.Passes.{Tried, TriedSteps, TrySteps, with_outcome, outcomes_in, WordRead, pages_set, WordSteps, all_tried}
 use Rattle.pas_scavenger.proofs.Trying.{outcomes_append}
 use Rattle.pas_trace.specs.Acts.{numbers_from}
 use Rattle.pas_answers.specs.Answers.{Progress}
-use Rattle.pas_one_text.specs.State.{World}
-use Rattle.pas_one_text.specs.Passes.{outcome_of}
-use Rattle.pas_same_text.specs.Same.{IsSame}
-use Rattle.pas_same_text.specs.Acts.{IsBetween, AreEndsStamped}
-use Rattle.pas_same_text.proofs.Frames.{look_word}
-use Rattle.pas_same_text.proofs.GivingBack.{OffersPage, once_parts}
-use Rattle.pas_same_text.proofs.PassOutcomes.{WasOffered, pair, stays_hinted}
-use Rattle.pas_same_text.proofs.PassTries.{IsTried, tried}
+use Rattle.pas_one_text.specs.{State.World, Passes.outcome_of}
+use Rattle.pas_same_text.specs.{Same.IsSame, Acts.IsBetween, Acts.AreEndsStamped}
+use Rattle.pas_same_text.proofs.{Frames.look_word, GivingBack.OffersPage, GivingBack.once_parts, PassOutcomes.WasOffered, PassOutcomes.pair}
+use Rattle.pas_same_text.proofs.{PassOutcomes.stays_hinted, PassTries.IsTried, PassTries.tried}
 use Rattle.pas_same_text.proofs.PassedPages.{is_on, Spares, words_stay, spare_both, try_spares}
 
 -- ---- the numbers below n that pass a test, the greatest first

@@ -1,39 +1,23 @@
 -- THE OUTCOME OF A PAGE in the text, by the words of the replay.
-use Rattle.std.proofs.Common.{◌≡◌, ◌≢◌, ℕ, ◌+◌, ◌*◌, ◌/◌, ◌%◌, ◌<◌, ◌≤◌, ◌==◌, nat_lt, Bool, true, false, if◌then◌else◌, List, Option, None, Some, refl, ap, sym, ◌∙◌, arith}
-use Rattle.std.proofs.lemmas.Bool.{true≢false, eq-eqb, lt-ltb, le-ltb}
+use Rattle.std.proofs.Common.{◌≡◌, ◌≢◌, ℕ, ◌+◌, ◌*◌, ◌/◌, ◌%◌, ◌<◌, ◌≤◌, ◌==◌, nat_lt, Bool, true, false, if◌then◌else◌, List, Option, None, Some, refl, ap}
+use Rattle.std.proofs.Common.{sym, ◌∙◌, arith, true≢false, eq-eqb, lt-ltb, le-ltb}
 use Rattle.pas_bits.specs.Bits.{has_bit}
 use Rattle.pas_bits.proofs.Words.{full_bit}
-use Rattle.pas_profile.specs.Classes.{usable_grains}
+use Rattle.pas_profile.specs.{Classes.usable_grains, Profiles.IsValid, Profiles.IsPage, Profiles.IsDirectoryOf}
 use Rattle.pas_profile.specs.Directories.{IsKind, number_of, deed_word_of, directory_read}
-use Rattle.pas_profile.specs.Profiles.{IsValid, IsPage, IsDirectoryOf}
-use Rattle.pas_profile.specs.declared.directory.Directory.{Directory}
-use Rattle.pas_profile.specs.declared.directory.Kind.{Kind}
-use Rattle.pas_profile.specs.declared.event.Event.{Event}
-use Rattle.pas_profile.specs.declared.event.Outcome.{Outcome}
-use Rattle.pas_profile.specs.declared.profile.Profile.{Profile}
-use Rattle.pas_profile.specs.declared.word.Word.TheVariants as Word
+use Rattle.pas_profile.specs.declared.{directory.Directory.Directory, directory.Kind.Kind, event.Event.Event, event.Outcome.Outcome, profile.Profile.Profile}
+use Rattle.pas_profile.specs.declared.{word.Word.Word}
 use Rattle.pas_profile.proofs.ClassFacts.{usable_grains_ge}
 use Rattle.pas_profile.proofs.Codecs.{deed_word_of-positive, read-deed_word_of, directory_from_profile, same_from_deed_word}
 use Rattle.pas_machine.specs.State.{backed_in, epoch_in}
-use Rattle.pas_steps.specs.Lists.{Whole, word_after}
-use Rattle.pas_steps.specs.Views.{all_ones, usable_by, usable_by_kind}
-use Rattle.pas_core.specs.Good.{word_of_backed}
-use Rattle.pas_core.specs.Hints.{IsEmptyBacked}
-use Rattle.pas_core.specs.Rights.{eligible_bit, IsUsableFree, IsRightOffered}
-use Rattle.pas_core.proofs.Deeds.{backed_of}
-use Rattle.pas_core.proofs.Offers.{offered_at_rest}
-use Rattle.pas_core.proofs.Rights.{right_in_one_place}
+use Rattle.pas_steps.specs.{Lists.Whole, Lists.word_after, Views.all_ones, Views.usable_by, Views.usable_by_kind}
+use Rattle.pas_core.specs.{Good.word_of_backed, Hints.IsEmptyBacked, Rights.eligible_bit, Rights.IsUsableFree, Rights.IsRightOffered}
+use Rattle.pas_core.proofs.{Deeds.backed_of, Offers.offered_at_rest, Rights.right_in_one_place}
 use Rattle.pas_answers.specs.Answers.{Progress}
-use Rattle.pas_one_text.specs.State.{World}
-use Rattle.pas_one_text.specs.Pages.{is_kept, is_guarded}
-use Rattle.pas_one_text.specs.Passes.{used_word, outcome_backed, outcome_of}
-use Rattle.pas_same_text.specs.Same.{IsSame, HasSame}
-use Rattle.pas_same_text.specs.Acts.{IsBetween, AreEndsStamped}
-use Rattle.pas_same_text.proofs.GivenPages.{backed_unguarded}
-use Rattle.pas_same_text.proofs.KeptPages.{nobody_keeps}
-use Rattle.pas_same_text.proofs.RestingPages.{clear_of, bit_tells}
-use Rattle.pas_same_text.proofs.Stamped.{stamps_told}
-use Rattle.pas_same_text.proofs.UsedWords.{used_none, used_first, value_is}
+use Rattle.pas_one_text.specs.{State.World, Pages.is_kept, Pages.is_guarded, Passes.used_word, Passes.outcome_backed, Passes.outcome_of}
+use Rattle.pas_same_text.specs.{Same.IsSame, Same.HasSame, Acts.IsBetween, Acts.AreEndsStamped}
+use Rattle.pas_same_text.proofs.{GivenPages.backed_unguarded, KeptPages.nobody_keeps, RestingPages.clear_of, RestingPages.bit_tells, Stamped.stamps_told}
+use Rattle.pas_same_text.proofs.{UsedWords.used_none, UsedWords.used_first, UsedWords.value_is}
 
 -- the page was offered by a directory after this list
 pub record WasOffered (f : Profile) (l : Whole) (page : ℕ) : Type 0 where

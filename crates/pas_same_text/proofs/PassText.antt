@@ -1,27 +1,21 @@
 -- A PASS IN THE TEXT: each page has the outcome that it had when the pass began, and what comes of all of them.
-use Rattle.std.proofs.Common.{◌≡◌, ℕ, zero, suc, ◌+◌, ◌*◌, ◌^◌, ◌≤◌, ◌==◌, nat_lt, Bool, true, false, not, if◌then◌else◌, List, [], ◌∷◌, ◌++◌, map, reverse, append_assoc, append-nil, Option, None, Some, inl, inr, refl, ap, sym, ◌∙◌, subst, arith}
-use Rattle.std.proofs.lemmas.Bool.{true≢false, false≢true, or_cases, or_left, or_right, eq-eqb, eqb-true, ne_eqb, not_from_false}
-use Rattle.std.proofs.lemmas.Grind.{reverse_onto}
-use Rattle.std.proofs.lemmas.List.Concat.{flat_map-append}
+use Rattle.std.proofs.Common.{◌≡◌, ℕ, zero, suc, ◌+◌, ◌*◌, ◌^◌, ◌≤◌, ◌==◌, nat_lt, Bool, true, false, not, if◌then◌else◌, List, [], ◌∷◌, ◌++◌, map, reverse}
+use Rattle.std.proofs.Common.{append_assoc, append-nil, Option, None, Some, inl, inr, refl, ap, sym, ◌∙◌, subst, arith, true≢false, eq-eqb, eqb-true, ne_eqb}
+use Rattle.std.proofs.lemmas.Bool.{false≢true, or_cases, or_left, or_right, not_from_false}
+use Rattle.std.proofs.lemmas.{Grind.reverse_onto, List.Concat.flat_map-append}
 use Rattle.std.specs.List.{find, filter, list_any}
-use Rattle.pas_profile.specs.declared.event.Event.{Event}
-use Rattle.pas_profile.specs.declared.event.Outcome.{Outcome}
-use Rattle.pas_profile.specs.declared.profile.Profile.{Profile}
+use Rattle.pas_profile.specs.declared.{event.Event.Event, event.Outcome.Outcome, profile.Profile.Profile}
 use Rattle.pas_machine.specs.State.{backed_in, epoch_in}
-use Rattle.pas_scavenger.specs.Pages.{unback_of}
-use Rattle.pas_scavenger.specs.Passes.{unbacks_in}
+use Rattle.pas_scavenger.specs.{Pages.unback_of, Passes.unbacks_in}
 use Rattle.pas_passes.specs.Records.{record_of}
-use Rattle.pas_report.specs.declared.record.Record.{Record}
-use Rattle.pas_report.specs.declared.record.Said.{Said}
+use Rattle.pas_report.specs.declared.record.{Record.Record, Said.Said}
 use Rattle.pas_trace.specs.Acts.{numbers_from}
 use Rattle.pas_one_text.specs.State.{Cache, World, each, says}
 use Rattle.pas_one_text.specs.Pages.{page_numbers, is_free, are_free, is_kept, is_hinted}
 use Rattle.pas_one_text.specs.Passes.{used_word, free_bits, outcome_backed, outcome_of, comes_to, examines, passes}
 use Rattle.pas_same_text.specs.Same.{has_number, lives_in}
-use Rattle.pas_same_text.proofs.CacheLists.{all_locals}
-use Rattle.pas_same_text.proofs.GivenBack.{each_same, free_kept}
-use Rattle.pas_same_text.proofs.PassOutcomes.{pair, stays_hinted}
-use Rattle.pas_same_text.proofs.Tests.{filtered_has, has_filtered}
+use Rattle.pas_same_text.proofs.{CacheLists.all_locals, GivenBack.each_same, GivenBack.free_kept, PassOutcomes.pair, PassOutcomes.stays_hinted}
+use Rattle.pas_same_text.proofs.{Tests.filtered_has, Tests.has_filtered}
 
 -- ---- what the outcome of a page rests on
 bits_same : (w v : World) (page word : ℕ) → ((b : ℕ) → is_free v page b ≡ is_free w page b) → (n : ℕ) → free_bits v page word n ≡ free_bits w page word n

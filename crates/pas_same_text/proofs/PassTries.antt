@@ -1,53 +1,35 @@
 -- WHAT COMES OF A PAGE THAT IS TRIED: its outcome is that of the text, and where that ends its hint, it has none afterwards.
-use Rattle.std.proofs.Common.{◌≡◌, ◌≢◌, ℕ, ◌+◌, ◌/◌, ◌%◌, ◌<◌, ◌≤◌, Bool, true, false, if◌then◌else◌, List, [], ◌∷◌, ◌++◌, Option, None, Some, inl, inr, refl, ap, sym, ◌∙◌, subst, arith}
-use Rattle.std.proofs.lemmas.Bool.{true≢false, false≢true, eq-eqb, false_from_ne_true}
+use Rattle.std.proofs.Common.{◌≡◌, ◌≢◌, ℕ, ◌+◌, ◌/◌, ◌%◌, ◌<◌, ◌≤◌, Bool, true, false, if◌then◌else◌, List, [], ◌∷◌, ◌++◌, Option, None, Some, inl, inr, refl}
+use Rattle.std.proofs.Common.{ap, sym, ◌∙◌, subst, arith, true≢false, eq-eqb}
+use Rattle.std.proofs.lemmas.Bool.{false≢true, false_from_ne_true}
 use Rattle.pas_bits.specs.Bits.{has_bit}
 use Rattle.pas_bits.specs.declared.mask.Mask4.{Mask4}
 use Rattle.pas_bits.proofs.PageVectors.{page_bit-clear}
-use Rattle.pas_profile.specs.Directories.{number_of}
-use Rattle.pas_profile.specs.Profiles.{IsValid, IsPage}
-use Rattle.pas_profile.specs.declared.directory.Directory.{Directory}
-use Rattle.pas_profile.specs.declared.event.Outcome.{Outcome}
-use Rattle.pas_profile.specs.declared.profile.Profile.{Profile}
-use Rattle.pas_profile.specs.declared.word.Word.TheVariants as Word
-use Rattle.pas_steps.specs.Desks.{made, triple, triples}
-use Rattle.pas_steps.specs.Effects.{target}
-use Rattle.pas_steps.specs.Kinds.{Kinds, kind_of, place_of, is_in, apart, looking, returning, Only, LookStamp, Taking, Putting, Offering, Hinting, Unbacking, Unhinting}
-use Rattle.pas_steps.specs.Lists.{Whole, word_after, Legal}
-use Rattle.pas_steps.specs.Past.{Once, Always}
-use Rattle.pas_steps.specs.Views.{all_ones}
-use Rattle.pas_steps.specs.declared.step.Made.{Made}
-use Rattle.pas_steps.specs.declared.step.Step.{Step}
+use Rattle.pas_profile.specs.{Directories.number_of, Profiles.IsValid, Profiles.IsPage}
+use Rattle.pas_profile.specs.declared.{directory.Directory.Directory, event.Outcome.Outcome, profile.Profile.Profile, word.Word.Word}
+use Rattle.pas_steps.specs.{Desks.made, Desks.triple, Desks.triples, Effects.target, Lists.Whole, Lists.word_after, Lists.Legal, Past.Once, Past.Always}
+use Rattle.pas_steps.specs.{Views.all_ones}
+use Rattle.pas_steps.specs.Kinds.{Kinds, kind_of, place_of, is_in, apart, looking, returning, Only, LookStamp, Taking, Putting, Offering, Hinting, Unbacking}
+use Rattle.pas_steps.specs.Kinds.{Unhinting}
+use Rattle.pas_steps.specs.declared.step.{Made.Made, Step.Step}
 use Rattle.pas_steps.specs.declared.step.Step.TheVariants.{Look, Offer, Hint, Unback, Unhint}
-use Rattle.pas_steps.proofs.Adding.{triples_append}
-use Rattle.pas_steps.proofs.Apart.{in_apart, only_both, only_within}
-use Rattle.pas_steps.proofs.Calls.{returns_are}
-use Rattle.pas_core.specs.Hints.{IsEmptyBacked}
-use Rattle.pas_core.specs.Rights.{empty_bit, eligible_bit}
-use Rattle.pas_core.proofs.OneActor.{legal_earlier}
-use Rattle.pas_core.proofs.Rights.{hinted_page}
+use Rattle.pas_steps.proofs.{Adding.triples_append, Apart.in_apart, Apart.only_both, Apart.only_within, Calls.returns_are}
+use Rattle.pas_core.specs.{Hints.IsEmptyBacked, Rights.empty_bit, Rights.eligible_bit}
+use Rattle.pas_core.proofs.{OneActor.legal_earlier, Rights.hinted_page}
 use Rattle.pas_rights.specs.Looks.{looks, looks_until, ReadsBacked, HintsEmpty}
 use Rattle.pas_rights.specs.Words.{ones}
 use Rattle.pas_rights.specs.declared.reading.Used.{Used}
-use Rattle.pas_rights.proofs.Hints.{leave_due}
-use Rattle.pas_rights.proofs.Orders.{leave_returns, return_returns}
-use Rattle.pas_rights.proofs.Puts.{puts_kinds}
-use Rattle.pas_scavenger.specs.Judgements.{used_at, Judged}
+use Rattle.pas_rights.proofs.{Hints.leave_due, Orders.leave_returns, Orders.return_returns, Puts.puts_kinds}
+use Rattle.pas_scavenger.specs.{Judgements.used_at, Judgements.Judged, Passes.TrySteps, Puttings.BackSteps, Readings.takes_until}
 use Rattle.pas_scavenger.specs.Pages.{first_looks, EndsWithout, EndsWith, ExamineSteps}
-use Rattle.pas_scavenger.specs.Passes.{TrySteps}
-use Rattle.pas_scavenger.specs.Puttings.{BackSteps}
-use Rattle.pas_scavenger.specs.Readings.{takes_until}
 use Rattle.pas_scavenger.proofs.Examinations.{takes_are, taken_on}
 use Rattle.pas_answers.specs.Answers.{Progress}
-use Rattle.pas_one_text.specs.State.{World}
-use Rattle.pas_one_text.specs.Passes.{outcome_of}
-use Rattle.pas_same_text.specs.Same.{IsSame}
-use Rattle.pas_same_text.specs.Acts.{IsBetween, AreEndsStamped}
+use Rattle.pas_one_text.specs.{State.World, Passes.outcome_of}
+use Rattle.pas_same_text.specs.{Same.IsSame, Acts.IsBetween, Acts.AreEndsStamped}
 use Rattle.pas_same_text.proofs.GivingBack.{HintsPage, OffersPage, WasRead, backed_stays, hinted_by, hint_read, hints_both, hints_none, hints_of, once_parts}
 use Rattle.pas_same_text.proofs.PassOutcomes.{WasOffered, stays_hinted, bare_outcome, used_outcome, kept_outcome, young_outcome, old_outcome, empty_backed}
 use Rattle.pas_same_text.proofs.PassReadings.{looked_word, frees_stay, stamps_stay, looks_told, IsAsked, asking, asks_only, asks_told, none_used}
-use Rattle.pas_same_text.proofs.PassedPages.{AreWordsKept, IsSpared, first_only}
-use Rattle.pas_same_text.proofs.ReturnHints.{return_hints}
+use Rattle.pas_same_text.proofs.{PassedPages.AreWordsKept, PassedPages.IsSpared, PassedPages.first_only, ReturnHints.return_hints}
 
 -- ---- steps of some kinds hint no page, or offer none
 none_hints : (ks : Kinds) → apart ks (Hinting ∷ []) ≡ true → (page : ℕ) (xs : List Made) → Only ks xs → HintsPage page xs → ⊥

@@ -1,43 +1,27 @@
 -- WHAT A PASS LEAVES of the pages that it doesn't examine: steps on other pages leave a page's words, and its bits of the page vectors.
-use Rattle.std.proofs.Common.{◌≡◌, ℕ, ◌/◌, ◌%◌, ◌==◌, max, bit_and, bit_or, Bool, true, false, ◌&&◌, if◌then◌else◌, List, [], ◌∷◌, ◌++◌, Option, None, Some, slice_index, inl, inr, refl, ap, sym, ◌∙◌, subst}
+use Rattle.std.proofs.Common.{◌≡◌, ℕ, ◌/◌, ◌%◌, ◌==◌, max, bit_and, bit_or, Bool, true, false, ◌&&◌, if◌then◌else◌, List, [], ◌∷◌, ◌++◌, Option, None, Some}
+use Rattle.std.proofs.Common.{slice_index, inl, inr, refl, ap, sym, ◌∙◌, subst, w64}
 use Rattle.std.proofs.lemmas.Bool.{false≢true}
-use Rattle.std.specs.Int.{bit_not, w64}
+use Rattle.std.specs.Int.{bit_not}
 use Rattle.pas_bits.specs.Bits.{has_bit}
 use Rattle.pas_bits.specs.declared.mask.Mask4.{Mask4}
 use Rattle.pas_bits.proofs.PageVectors.{page_bit-set, page_bit-clear}
-use Rattle.pas_profile.specs.Blocks.{grain_of}
-use Rattle.pas_profile.specs.Directories.{number_of, deed_word_of}
-use Rattle.pas_profile.specs.Layouts.{same_word}
-use Rattle.pas_profile.specs.declared.directory.Directory.{Directory}
-use Rattle.pas_profile.specs.declared.event.Outcome.{Outcome}
-use Rattle.pas_profile.specs.declared.word.Word.{Word}
-use Rattle.pas_steps.specs.Desks.{made, triples}
-use Rattle.pas_steps.specs.Effects.{target, new_value}
-use Rattle.pas_steps.specs.Frames.{IsReturn, OnlyReturns}
-use Rattle.pas_steps.specs.InTurn.{numbers_below}
+use Rattle.pas_profile.specs.{Blocks.grain_of, Directories.number_of, Directories.deed_word_of, Layouts.same_word}
+use Rattle.pas_profile.specs.declared.{directory.Directory.Directory, event.Outcome.Outcome, word.Word.Word}
+use Rattle.pas_steps.specs.{Desks.made, Desks.triples, Effects.target, Effects.new_value, Frames.IsReturn, Frames.OnlyReturns, InTurn.numbers_below}
+use Rattle.pas_steps.specs.{Lists.Whole, Lists.part, Lists.word_after, Past.Always, Views.epoch_of}
 use Rattle.pas_steps.specs.Kinds.{kind_of, is_in, looking, Only, LookFree}
-use Rattle.pas_steps.specs.Lists.{Whole, part, word_after}
-use Rattle.pas_steps.specs.Past.{Always}
-use Rattle.pas_steps.specs.Views.{epoch_of}
-use Rattle.pas_steps.specs.declared.step.Made.{Made}
-use Rattle.pas_steps.specs.declared.step.Step.{Step}
-use Rattle.pas_steps.specs.declared.step.Step.TheVariants.{Look, Deed, Back, Take, Put, Give, End, EndSized, TakeRight, Offer, Park, Unpark, Stamp, Hint, Tick, Unback, Unhint}
-use Rattle.pas_steps.proofs.Apart.{only_both, only_within}
-use Rattle.pas_steps.proofs.Past.{always_both, always_map, in_turn_always}
+use Rattle.pas_steps.specs.declared.step.{Made.Made, Step.Step}
+use Rattle.pas_steps.specs.declared.step.Step.TheVariants.{Look, Deed, Back, Take, Put, Give, End, EndSized, TakeRight, Offer, Park, Unpark, Stamp, Hint, Tick}
+use Rattle.pas_steps.specs.declared.step.Step.TheVariants.{Unback, Unhint}
+use Rattle.pas_steps.proofs.{Apart.only_both, Apart.only_within, Past.always_both, Past.always_map, Past.in_turn_always}
 use Rattle.pas_core.specs.Rights.{empty_bit, eligible_bit}
 use Rattle.pas_core.proofs.Deeds.{looked}
-use Rattle.pas_rights.specs.Looks.{looks_until}
-use Rattle.pas_rights.specs.Puts.{WordPut, PutsBelow}
-use Rattle.pas_rights.specs.Takes.{word_take, takes}
-use Rattle.pas_rights.specs.Words.{ones}
+use Rattle.pas_rights.specs.{Looks.looks_until, Puts.WordPut, Puts.PutsBelow, Takes.word_take, Takes.takes, Words.ones}
 use Rattle.pas_rights.specs.declared.reading.Used.{Used}
-use Rattle.pas_rights.proofs.Orders.{until_only, leave_returns, return_returns}
-use Rattle.pas_rights.proofs.Words.{each_always}
-use Rattle.pas_scavenger.specs.Judgements.{used_at, Judged}
+use Rattle.pas_rights.proofs.{Orders.until_only, Orders.leave_returns, Orders.return_returns, Words.each_always}
+use Rattle.pas_scavenger.specs.{Judgements.used_at, Judgements.Judged, Passes.TrySteps, Puttings.BackSteps, Readings.takes_until}
 use Rattle.pas_scavenger.specs.Pages.{first_looks, AsksSteps, EndsWithout, ExamineSteps}
-use Rattle.pas_scavenger.specs.Passes.{TrySteps}
-use Rattle.pas_scavenger.specs.Puttings.{BackSteps}
-use Rattle.pas_scavenger.specs.Readings.{takes_until}
 use Rattle.pas_scavenger.proofs.Examinations.{taken_on}
 
 -- ---- on which page a step works

@@ -1,21 +1,14 @@
 -- THE RUNS THAT A KEEPER TRIES, in the text: one after the other from the lowest up, all pages of each that is usable get deeds, until one serves.
-use Rattle.std.proofs.Common.{◌≡◌, ◌≢◌, ℕ, zero, suc, ◌+◌, ◌<◌, ◌≤◌, nat_lt, Bool, true, false, not, ◌&&◌, if◌then◌else◌, List, [], ◌∷◌, ◌++◌, None, Some, inl, inr, refl, ap, sym, ◌∙◌, subst, arith, append_assoc}
-use Rattle.std.proofs.lemmas.Bool.{true≢false, ne_eqb, cases_eq, lt-ltb, ltb-true, cases_lt}
-use Rattle.std.proofs.lemmas.Bool.Decides.{nat_tests}
-use Rattle.std.proofs.lemmas.List.{map-append}
+use Rattle.std.proofs.Common.{◌≡◌, ◌≢◌, ℕ, zero, suc, ◌+◌, ◌<◌, ◌≤◌, nat_lt, Bool, true, false, not, ◌&&◌, if◌then◌else◌, List, [], ◌∷◌, ◌++◌, None, Some, inl}
+use Rattle.std.proofs.Common.{inr, refl, ap, sym, ◌∙◌, subst, arith, append_assoc, true≢false, ne_eqb, lt-ltb, ltb-true}
+use Rattle.std.proofs.lemmas.{Bool.cases_eq, Bool.cases_lt, Bool.Decides.nat_tests, List.map-append}
 use Rattle.std.specs.List.{AllByRecursion}
-use Rattle.pas_profile.specs.declared.directory.Directory.{Directory}
-use Rattle.pas_profile.specs.declared.event.Event.{Event}
-use Rattle.pas_profile.specs.declared.profile.Profile.{Profile}
-use Rattle.pas_machine.specs.Machine.{Run}
-use Rattle.pas_machine.specs.State.{deed_in, backed_in}
+use Rattle.pas_profile.specs.declared.{directory.Directory.Directory, event.Event.Event, profile.Profile.Profile}
+use Rattle.pas_machine.specs.{Machine.Run, State.deed_in, State.backed_in}
 use Rattle.pas_scan.specs.Runs.{IsInRun}
 use Rattle.pas_trace.specs.Acts.{numbers_from}
-use Rattle.pas_one_text.specs.State.{World}
-use Rattle.pas_one_text.specs.Pages.{page_numbers}
-use Rattle.pas_one_text.specs.Searches.{deeds}
+use Rattle.pas_one_text.specs.{State.World, Pages.page_numbers, Searches.deeds, Guards.are_bare, Guards.raises, Guards.raises_from}
 use Rattle.pas_one_text.specs.Runs.{large_of, is_run, deeds_run, serves_pages}
-use Rattle.pas_one_text.specs.Guards.{are_bare, raises, raises_from}
 use Rattle.pas_same_text.proofs.ReadyPages.{shown, shown_events}
 use Rattle.pas_same_text.proofs.RunEvents.{each_in_turn, shown_both, deeds_of, AreFalling, AllInRun, deeds_in_turn}
 
@@ -172,11 +165,9 @@ module _ (f : Profile) (keeper k name heap n : ℕ) (w : World) (made : List ℕ
         one q h = elim (cases_lt q p) [
           | inl before ↦
               let here = h.1.1.1 in
-              let a = here.0 in
-              let b = here.1 in
-              let past = up.past h.1.1.0 h.1.1.2.0 (omega (arith, a, before)) h.1.1.2.2 in
+              let past = up.past h.1.1.0 h.1.1.2.0 (omega (arith, here.0, before)) h.1.1.2.2 in
               let from = h.0 in
-              absurd (omega (arith, b, past, from))
+              absurd (omega (arith, here.1, past, from))
           | inr from ↦ (from, h.1.0)
         ]
 
@@ -197,7 +188,7 @@ module _ (f : Profile) (keeper k name heap n : ℕ) (w : World) (made : List ℕ
       | inl before ↦ up.past r some before h
       | inr at ↦ (let same : r ≡ p = omega (arith, lt, at) in absurd (true≢false (sym h ∙ (ap (is_run f w heap (n + 2)) same ∙ none))))
     ];
-    near = let near = up.near in omega (arith, near);
+    near = omega (arith, up.near);
   }
 
   -- ---- one run
@@ -248,20 +239,19 @@ module _ (f : Profile) (keeper k name heap n : ℕ) (w : World) (made : List ℕ
 
     all_below : AllByRecursion (λ q. q < first + (n + 2)) made
     all_below = all_so (λ q. (r : ℕ) × IsInRun r (n + 2) q × ((1 ≤ r) × (r < end) × (is_run f w heap (n + 2) r ≡ true))) (λ q. q < first + (n + 2)) made
-        (λ q h. let high = h.1.1 in let before = h.2.1 in omega (arith, high, before, last)) is.of_runs
+        (λ q h. omega (arith, h.1.1, h.2.1, last)) is.of_runs
 
     pub found_text : raises_from f keeper k name heap n (page_numbers f) w ≡ raises keeper name heap first n (shown (deeds_of keeper d made) w)
     found_text =
         let low = region.0 in
-        let high = region.1 in
         ap (raises_from f keeper k name heap n (page_numbers f)) (sym begun)
-        ∙ (walk f.pages 1 0 (omega arith) low (omega (arith, high)) begin ∙ ap (raises keeper name heap first n) (whole (first + (n + 2)) all_below))
+        ∙ (walk f.pages 1 0 (omega arith) low (omega (arith, region.1)) begin ∙ ap (raises keeper name heap first n) (whole (first + (n + 2)) all_below))
 
   -- ---- NO RUN SERVES
   module _ (last : end ≡ f.pages + 1) (none : (r : ℕ) → 1 ≤ r → r < end → is_run f w heap (n + 2) r ≡ true → are_bare w r n ≡ false) where
     through : (m p e : ℕ) → 1 ≤ p → p + m ≡ end → IsUpTo e p → raises_from f keeper k name heap n (numbers_from p m) (upto e) ≡ serves_pages f k name heap n (shown (deeds_of keeper d made) w)
     through zero p e low at up = ap (serves_pages f k name heap n) (whole e (all_so (λ q. (r : ℕ) × IsInRun r (n + 2) q × ((1 ≤ r) × (r < end) × (is_run f w heap (n + 2) r ≡ true))) (λ q. q < e) made
-        (λ q h. let high = h.1.1 in let before = h.2.1 in let past = up.past h.0 h.2.0 (omega (arith, before, at)) h.2.2 in omega (arith, high, past)) is.of_runs))
+        (λ q h. let past = up.past h.0 h.2.0 (omega (arith, h.2.1, at)) h.2.2 in omega (arith, h.1.1, past)) is.of_runs))
     through (suc m) p e low at up = pass_by (serves_pages f k name heap n (shown (deeds_of keeper d made) w)) e p m low (omega (arith, at)) up (none p low (omega (arith, at)))
         (λ e' up'. through m (p + 1) e' (omega arith) (omega (arith, at)) up')
 

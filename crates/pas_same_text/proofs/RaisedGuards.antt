@@ -1,90 +1,50 @@
 -- A GUARD GOES UP: the search of a keeper found a run. Its inner pages get memory where they have none, their block is given, and the keeper holds the two pages beside it.
-use Rattle.std.proofs.Common.{◌≡◌, ℕ, zero, suc, ◌+◌, ◌*◌, ◌/◌, ◌%◌, ◌<◌, ◌==◌, Bool, true, false, not, ◌&&◌, ◌||◌, if◌then◌else◌, List, [], ◌∷◌, ◌++◌, map, None, Some, ◌⊎◌, inl, inr, refl, ap, sym, ◌∙◌, subst, arith, append_assoc}
-use Rattle.std.proofs.lemmas.Bool.{true≢false, false≢true, eq-eqb, eqb-true, eqb-false, ne_eqb, or_cases, or_left, or_right, false_from_ne_true, cases_lt}
-use Rattle.std.proofs.lemmas.List.{map-append}
-use Rattle.std.proofs.lemmas.Option.{same_Some}
+use Rattle.std.proofs.Common.{◌≡◌, ℕ, zero, suc, ◌+◌, ◌*◌, ◌/◌, ◌%◌, ◌<◌, ◌==◌, Bool, true, false, not, ◌&&◌, ◌||◌, if◌then◌else◌, List, [], ◌∷◌, ◌++◌, map}
+use Rattle.std.proofs.Common.{None, Some, ◌⊎◌, inl, inr, refl, ap, sym, ◌∙◌, subst, arith, append_assoc, true≢false, eq-eqb, eqb-true, ne_eqb}
+use Rattle.std.proofs.lemmas.Bool.{false≢true, eqb-false, or_cases, or_left, or_right, false_from_ne_true, cases_lt}
+use Rattle.std.proofs.lemmas.{List.map-append, Option.same_Some}
 use Rattle.std.specs.List.{AllByRecursion, flat_map, filter}
-use Rattle.pas_bits.specs.Bits.{has_bit}
-use Rattle.pas_bits.specs.Runs.{in_run, meets_page}
-use Rattle.pas_profile.specs.Blocks.{address_of, grain_of, length_of}
-use Rattle.pas_profile.specs.Directories.{number_of}
-use Rattle.pas_profile.specs.Profiles.{IsValid, IsDirectoryOf}
-use Rattle.pas_profile.specs.declared.directory.Directory.{Directory}
-use Rattle.pas_profile.specs.declared.event.Event.{Event}
-use Rattle.pas_profile.specs.declared.name.Block.{Block}
-use Rattle.pas_profile.specs.declared.profile.Profile.{Profile}
-use Rattle.pas_profile.specs.declared.word.Word.TheVariants as Word
+use Rattle.pas_bits.specs.{Bits.has_bit, Runs.in_run, Runs.meets_page}
+use Rattle.pas_profile.specs.{Blocks.address_of, Blocks.grain_of, Blocks.length_of, Directories.number_of, Profiles.IsValid, Profiles.IsDirectoryOf}
+use Rattle.pas_profile.specs.declared.{directory.Directory.Directory, event.Event.Event, name.Block.Block, profile.Profile.Profile, word.Word.Word}
 use Rattle.pas_machine.specs.Machine.{Run}
 use Rattle.pas_machine.specs.State.{Live, live_in, deed_in, gives_in}
-use Rattle.pas_steps.specs.Calls.{Kept, Gained}
-use Rattle.pas_steps.specs.Calls.{now as has_now}
-use Rattle.pas_steps.specs.Desks.{triples}
-use Rattle.pas_steps.specs.Events.{events_by, with_event}
-use Rattle.pas_steps.specs.InTurn.{InTurn}
+use Rattle.pas_steps.specs.{Calls.Kept, Calls.Gained, Calls.now as has_now, Desks.triples, Events.events_by, Events.with_event, InTurn.InTurn, Past.Once}
+use Rattle.pas_steps.specs.{Past.Always, Views.View, Views.has_right}
 use Rattle.pas_steps.specs.Kinds.{Only, Giving, LookLife, Backing, returning}
 use Rattle.pas_steps.specs.Lists.{Whole, part, word_after, visible, Legal}
-use Rattle.pas_steps.specs.Past.{Once, Always}
-use Rattle.pas_steps.specs.Views.{View, has_right}
-use Rattle.pas_steps.specs.declared.step.Made.{Made}
-use Rattle.pas_steps.specs.declared.step.Step.TheVariants.{Hint}
-use Rattle.pas_steps.proofs.Adding.{triples_append}
-use Rattle.pas_steps.proofs.Apart.{events_same, only_both, only_within}
-use Rattle.pas_steps.proofs.Frames.{events_append}
-use Rattle.pas_steps.proofs.Parts.{part_of_own}
-use Rattle.pas_core.specs.Good.{IsPartOf}
-use Rattle.pas_core.specs.Rights.{eligible_bit}
-use Rattle.pas_core.proofs.MachineRuns.{runs}
-use Rattle.pas_core.proofs.Nexts.{agreed_steps}
-use Rattle.pas_core.proofs.Rights.{right_not_offered}
-use Rattle.pas_rights.specs.Gives.{give_steps}
-use Rattle.pas_rights.specs.Looks.{ReadsAllFree}
+use Rattle.pas_steps.specs.declared.step.{Made.Made, Step.TheVariants.Hint}
+use Rattle.pas_steps.proofs.{Adding.triples_append, Apart.events_same, Apart.only_both, Apart.only_within, Frames.events_append, Parts.part_of_own}
+use Rattle.pas_core.specs.{Good.IsPartOf, Rights.eligible_bit}
+use Rattle.pas_core.proofs.{MachineRuns.runs, Nexts.agreed_steps, Rights.right_not_offered}
+use Rattle.pas_rights.specs.{Gives.give_steps, Looks.ReadsAllFree}
 use Rattle.pas_scan.specs.Runs.{IsInRun}
 use Rattle.pas_search.specs.Kinds.{ReturnsDuly}
-use Rattle.pas_large.specs.Claims.{in_span}
-use Rattle.pas_large.specs.Evidence.{DeedsRise}
-use Rattle.pas_large.specs.Finds.{MayFind}
-use Rattle.pas_large.specs.Gives.{BackStep, pages_from}
-use Rattle.pas_large.proofs.Claims.{span_in, in_parts}
-use Rattle.pas_large.proofs.Gives.{run_is}
-use Rattle.pas_large.proofs.Outcomes.{MadeOf}
+use Rattle.pas_large.specs.{Claims.in_span, Evidence.DeedsRise, Finds.MayFind, Gives.BackStep, Gives.pages_from}
+use Rattle.pas_large.proofs.{Claims.span_in, Claims.in_parts, Gives.run_is, Outcomes.MadeOf}
 use Rattle.pas_cache.specs.Kinds.{allocating}
-use Rattle.pas_guard.specs.Books.{is_outer_of, is_outer}
-use Rattle.pas_guard.specs.Guards.{left_last_first}
-use Rattle.pas_guard.specs.Raises.{guard_of, IsRaised}
+use Rattle.pas_guard.specs.{Books.is_outer_of, Books.is_outer, Guards.left_last_first, Raises.guard_of, Raises.IsRaised, Seeks.seeking, Seeks.HasSpan}
 use Rattle.pas_guard.proofs.Raised.{raised_backs, raised_leaves}
-use Rattle.pas_guard.specs.Seeks.{seeking, HasSpan}
 use Rattle.pas_guard.specs.declared.book.Guard.{Guard as BookGuard}
-use Rattle.pas_report.specs.declared.record.Record.{Record}
-use Rattle.pas_report.specs.declared.record.Said.{Said}
+use Rattle.pas_report.specs.declared.record.{Record.Record, Said.Said}
 use Rattle.pas_trace.specs.Acts.{numbers_from}
 use Rattle.pas_answers.specs.Answers.{Caches, Progress, Named, named, records_of}
 use Rattle.pas_one_text.specs.State.{World, Local, Cache, Guard, each, says}
 use Rattle.pas_one_text.specs.Pages.{is_free_of, is_free, is_cached, locals_on, is_offered}
-use Rattle.pas_one_text.specs.Searches.{backs, address_on, gives}
-use Rattle.pas_one_text.specs.Runs.{large_of}
-use Rattle.pas_one_text.specs.Guards.{guard_on, with_guard, raises}
+use Rattle.pas_one_text.specs.{Searches.backs, Searches.address_on, Searches.gives, Runs.large_of, Guards.guard_on, Guards.with_guard, Guards.raises}
 use Rattle.pas_same_text.specs.Same.{told_guard, has_number, IsSame, HasSame, AreSameCaches}
-use Rattle.pas_same_text.specs.Acts.{IsBetween}
-use Rattle.pas_same_text.specs.Words.{free_bit}
-use Rattle.pas_same_text.proofs.BitfitGiven.{one_more}
-use Rattle.pas_same_text.proofs.CachedSlots.{block_of, block_same}
-use Rattle.pas_same_text.proofs.FlushActs.{events_recorded}
-use Rattle.pas_same_text.proofs.Flushes.{visible_steps, legal_between}
-use Rattle.pas_same_text.proofs.FreeGrains.{outer_held, free_unheld, free_uncovered}
-use Rattle.pas_same_text.proofs.GivingBack.{HintsPage, OffersPage, IsMarked, once_parts, none_marked, hint_marks, offer_marks, offered_by, hints_of, hint_read, epoch_stays_by, marked_left}
-use Rattle.pas_same_text.proofs.KeepersRest.{outer_last}
+use Rattle.pas_same_text.specs.{Acts.IsBetween, Words.free_bit}
+use Rattle.pas_same_text.proofs.{BitfitGiven.one_more, CachedSlots.block_of, CachedSlots.block_same, FlushActs.events_recorded, Flushes.visible_steps}
+use Rattle.pas_same_text.proofs.{Flushes.legal_between, FreeGrains.outer_held, FreeGrains.free_unheld, FreeGrains.free_uncovered, KeepersRest.outer_last}
+use Rattle.pas_same_text.proofs.{OuterPages.not_outer, OuterPages.unguarded_by, RestingPages.bit_at, RunMarks.IsRunTo, RunMarks.run_hints, RunMarks.run_offers}
+use Rattle.pas_same_text.proofs.{SmallActs.records_next, SoughtRuns.IsRunOf, SoughtRuns.IsMadeOf, StopSteps.ReadsGrain, StopSteps.grain_read, Tests.on_page}
+use Rattle.pas_same_text.proofs.GivingBack.{HintsPage, OffersPage, IsMarked, once_parts, none_marked, hint_marks, offer_marks, offered_by, hints_of, hint_read}
+use Rattle.pas_same_text.proofs.GivingBack.{epoch_stays_by, marked_left}
 use Rattle.pas_same_text.proofs.LeftRuns.{all_marked, all_in_run, left_due, left_room}
 use Rattle.pas_same_text.proofs.MissedGuards.{made_listed, all_listed, deed_listed, deed_unlisted, live_listed, IsLeftFree, left_offered}
-use Rattle.pas_same_text.proofs.OuterPages.{not_outer, unguarded_by}
 use Rattle.pas_same_text.proofs.ReadyPages.{shown, shown_events, shown_records, shown_lives, shown_rest}
-use Rattle.pas_same_text.proofs.RestingPages.{bit_at}
 use Rattle.pas_same_text.proofs.RunEvents.{each_in_turn, shown_both, deeded, deeds_of, backs_in_turn, backs_beside, deeds_live, backs_live}
-use Rattle.pas_same_text.proofs.RunMarks.{IsRunTo, run_hints, run_offers}
-use Rattle.pas_same_text.proofs.SmallActs.{records_next}
-use Rattle.pas_same_text.proofs.SoughtRuns.{IsRunOf, IsMadeOf}
-use Rattle.pas_same_text.proofs.StopSteps.{ReadsGrain, grain_read}
 use Rattle.pas_same_text.proofs.TriedRuns.{unowned_free, visible_mid, made_events, found_made, found_pages}
-use Rattle.pas_same_text.proofs.Tests.{on_page}
 
 -- ---- what backings of pages in turn leave as it is
 module _ (k : ℕ) where
@@ -127,16 +87,16 @@ left_in_run first n = ((omega arith, omega arith), ((omega arith, omega arith), 
   where
     inner : (ps : List ℕ) → AllByRecursion (IsInRun (first + 1) n) ps → AllByRecursion (IsInRun first (n + 2)) ps
     inner [] all = tt
-    inner (x ∷ ps) all = let low = all.0.0 in let high = all.0.1 in ((omega (arith, low), omega (arith, high)), inner ps all.1)
+    inner (x ∷ ps) all = ((omega (arith, all.0.0), omega (arith, all.0.1)), inner ps all.1)
 
 -- a page of the run is an inner one, or an outer one
 inner_or : (first n x : ℕ) → IsInRun first (n + 2) x → IsInRun (first + 1) n x ⊎ ((first ≡ x) ⊎ (first + n + 1 ≡ x))
 inner_or first n x here = elim (cases_lt first x) [
   | inl above ↦ elim (cases_lt x (first + 1 + n)) [
     | inl below ↦ inl (omega (arith, above), below)
-    | inr past ↦ (let high = here.1 in inr (inr (omega (arith, past, high))))
+    | inr past ↦ (inr (inr (omega (arith, past, here.1))))
   ]
-  | inr at ↦ (let low = here.0 in inr (inl (omega (arith, at, low))))
+  | inr at ↦ (inr (inl (omega (arith, at, here.0))))
 ]
 
 -- where all grains were read as free, each was
@@ -332,7 +292,7 @@ module _ (f : Profile) (k name heap n : ℕ) (p q : Progress) (w : World) (valid
   covered_in : (x b : ℕ) → b < 256 → in_run (grain_of block.name) (length_of block) (256 * x + b) ≡ true → IsInRun first (n + 2) x
   covered_in x b small h =
       let at = in_parts (first + 1) (first + 1 + n) x (ap (in_span (first + 1) (first + 1 + n)) (sym (on_page x b small)) ∙ (sym (in_block (256 * x + b)) ∙ h)) in
-      let low = at.0 in let high = at.1 in (omega (arith, low), omega (arith, high))
+      (omega (arith, at.0), omega (arith, at.1))
 
   apart : (x b : ℕ) → (IsInRun first (n + 2) x → ⊥) → b < 256 → in_run (grain_of told.name) (length_of told) (256 * x + b) ≡ false
   apart x b out small = false_from_ne_true (in_run (grain_of told.name) (length_of told) (256 * x + b)) (λ h.

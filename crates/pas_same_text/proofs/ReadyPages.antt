@@ -1,23 +1,15 @@
 -- A PAGE IS MADE READY for a block: the events of a search before a give are those of the text, by the machine's rules alone.
-use Rattle.std.proofs.Common.{◌≡◌, ◌≢◌, ℕ, ◌==◌, Bool, true, false, if◌then◌else◌, List, [], ◌∷◌, ◌++◌, map, Option, None, Some, ◌⊎◌, inl, inr, refl, ap, sym, ◌∙◌, subst, ◌+◌, ◌*◌, ◌/◌, ◌<◌, ◌≤◌, arith}
-use Rattle.std.proofs.lemmas.Bool.{true≢false, eq-eqb, eqb-true, false_from_ne_true}
-use Rattle.std.proofs.lemmas.Option.{same_Some, none-some}
-use Rattle.pas_profile.specs.declared.directory.Directory.{Directory}
-use Rattle.pas_profile.specs.declared.event.Event.{Event}
-use Rattle.pas_profile.specs.declared.profile.Profile.{Profile}
+use Rattle.std.proofs.Common.{◌≡◌, ◌≢◌, ℕ, ◌==◌, Bool, true, false, if◌then◌else◌, List, [], ◌∷◌, ◌++◌, map, Option, None, Some, ◌⊎◌, inl, inr, refl, ap, sym}
+use Rattle.std.proofs.Common.{◌∙◌, subst, ◌+◌, ◌*◌, ◌/◌, ◌<◌, ◌≤◌, arith, true≢false, eq-eqb, eqb-true}
+use Rattle.std.proofs.lemmas.{Bool.false_from_ne_true, Option.same_Some, Option.none-some}
+use Rattle.pas_profile.specs.declared.{directory.Directory.Directory, event.Event.Event, profile.Profile.Profile, name.Block.Block}
 use Rattle.pas_profile.specs.Blocks.{grain_of, length_of}
-use Rattle.pas_profile.specs.declared.name.Block.{Block}
-use Rattle.pas_machine.specs.Machine.{Admits, Run, Bears}
-use Rattle.pas_machine.specs.State.{deed_in, backed_in}
-use Rattle.pas_steps.specs.Events.{event_of, with_event, events_by}
-use Rattle.pas_steps.specs.Views.{View, epoch_of}
-use Rattle.pas_steps.specs.declared.step.Made.{Made}
-use Rattle.pas_steps.specs.declared.step.Step.{Step}
+use Rattle.pas_machine.specs.{Machine.Admits, Machine.Run, Machine.Bears, State.deed_in, State.backed_in}
+use Rattle.pas_steps.specs.{Events.event_of, Events.with_event, Events.events_by, Views.View, Views.epoch_of}
+use Rattle.pas_steps.specs.declared.step.{Made.Made, Step.Step}
 use Rattle.pas_search.specs.Kinds.{IsQuiet, IsDeedOrBack, EventsAt}
 use Rattle.pas_report.specs.declared.record.Record.{Record}
-use Rattle.pas_one_text.specs.State.{World, shows, live_after}
-use Rattle.pas_one_text.specs.Pages.{is_none}
-use Rattle.pas_one_text.specs.Searches.{deeds, backs, readies}
+use Rattle.pas_one_text.specs.{State.World, State.shows, State.live_after, Pages.is_none, Searches.deeds, Searches.backs, Searches.readies}
 use Rattle.pas_same_text.specs.Same.{lives_in}
 use Rattle.pas_same_text.proofs.Tests.{eqb_itself}
 use Rattle.pas_bits.proofs.Runs.{to_run}
@@ -152,7 +144,7 @@ module _ (k : ℕ) (d : Directory) (page : ℕ) where
       at e IsAtPage.Backs may none = absurd (back_there (es ++ w.events) none)
 
   -- THE PAGE IS READY: it got a deed and memory exactly where it had none
-  pub readied : (f : Profile) (es : List Event) (w : World) → AllAtPage k d page es → Run f (es ++ w.events) → deed_in (es ++ w.events) page ≢ None → backed_in (es ++ w.events) page ≡ true → readies k d page w ≡ shown es w
+  readied : (f : Profile) (es : List Event) (w : World) → AllAtPage k d page es → Run f (es ++ w.events) → deed_in (es ++ w.events) page ≢ None → backed_in (es ++ w.events) page ≡ true → readies k d page w ≡ shown es w
   readied f [] w all run some backed = ap (backs k page) (owned w some) ∙ was_backed w backed
   readied f (e ∷ es) w all run some backed = at e all.0 run.0 backed
     where

@@ -1,31 +1,19 @@
 -- THE REASON of a refusal: where it is true of the whole state, it is the one that the text says.
-use Rattle.std.proofs.Common.{◌≡◌, ℕ, Bool, true, ◌&&◌, List, Some, inl, inr, refl, ap, sym, ◌∙◌, arith}
-use Rattle.std.proofs.lemmas.Bool.{true≢false, eq-eqb, and_from, false_from_ne_true}
-use Rattle.pas_profile.specs.Directories.{number_of, deed_word_of}
-use Rattle.pas_profile.specs.Profiles.{IsValid, IsDirectoryOf}
-use Rattle.pas_profile.specs.declared.directory.Directory.{Directory}
-use Rattle.pas_profile.specs.declared.event.Event.{Event}
-use Rattle.pas_profile.specs.declared.event.NoRoom.{NoRoom}
-use Rattle.pas_profile.specs.declared.profile.Profile.{Profile}
-use Rattle.pas_profile.specs.declared.word.Word.TheVariants as Word
+use Rattle.std.proofs.Common.{◌≡◌, ℕ, Bool, true, ◌&&◌, List, Some, inl, inr, refl, ap, sym, ◌∙◌, arith, true≢false, eq-eqb}
+use Rattle.std.proofs.lemmas.Bool.{and_from, false_from_ne_true}
+use Rattle.pas_profile.specs.{Directories.number_of, Directories.deed_word_of, Profiles.IsValid, Profiles.IsDirectoryOf}
+use Rattle.pas_profile.specs.declared.{directory.Directory.Directory, event.Event.Event, event.NoRoom.NoRoom, profile.Profile.Profile, word.Word.Word}
 use Rattle.pas_profile.proofs.Codecs.{deed_word_of-positive, same_from_deed_word}
 use Rattle.pas_machine.specs.State.{deed_in}
 use Rattle.pas_steps.specs.Lists.{Whole, word_after, visible}
-use Rattle.pas_core.specs.Good.{word_of_deed}
-use Rattle.pas_core.specs.Rights.{IsRightInOnePlace}
-use Rattle.pas_core.proofs.Deeds.{deed_of, deed_has_page}
-use Rattle.pas_core.proofs.Rights.{right_in_one_place, right_not_offered, right_not_parked}
+use Rattle.pas_core.specs.{Good.word_of_deed, Rights.IsRightInOnePlace}
+use Rattle.pas_core.proofs.{Deeds.deed_of, Deeds.deed_has_page, Rights.right_in_one_place, Rights.right_not_offered, Rights.right_not_parked}
 use Rattle.pas_search.specs.Telling.{IsInHands, IsTrueReason}
 use Rattle.pas_answers.specs.Answers.{Progress}
-use Rattle.pas_one_text.specs.State.{World}
-use Rattle.pas_one_text.specs.Pages.{is_same, is_of, is_kept}
-use Rattle.pas_one_text.specs.Searches.{refusal_by, refusal}
-use Rattle.pas_same_text.specs.Same.{HasSame}
-use Rattle.pas_same_text.specs.Acts.{IsBetween}
-use Rattle.pas_same_text.proofs.KeptPages.{keeper, kept_by}
-use Rattle.pas_same_text.proofs.RestingPages.{deed_now, deed_from_word}
-use Rattle.pas_same_text.proofs.SearchedPages.{find_first, find_none}
-use Rattle.pas_same_text.proofs.Tests.{and_first, and_second}
+use Rattle.pas_one_text.specs.{State.World, Pages.is_same, Pages.is_of, Pages.is_kept, Searches.refusal_by, Searches.refusal}
+use Rattle.pas_same_text.specs.{Same.HasSame, Acts.IsBetween}
+use Rattle.pas_same_text.proofs.{KeptPages.keeper, KeptPages.kept_by, RestingPages.deed_now, RestingPages.deed_from_word, SearchedPages.find_first}
+use Rattle.pas_same_text.proofs.{SearchedPages.find_none, Tests.and_first, Tests.and_second}
 
 module _ (f : Profile) (p : Progress) (w : World) (valid : IsValid f) (between : IsBetween f p) (same : HasSame f p w) (d : Directory) (of : IsDirectoryOf f d) where
   abbrev l : Whole

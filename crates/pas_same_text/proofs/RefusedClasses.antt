@@ -1,22 +1,14 @@
 -- A REQUEST OF A CLASS THAT IS REFUSED: place is made for a local allocator, and then no page serves, in the text either.
 use Rattle.std.proofs.Common.{◌≡◌, ℕ, Bool, true, false, List, [], ◌∷◌, ◌++◌, Option, None, Some, Result, Ok, Err, inl, inr, ap, sym, ◌∙◌, subst}
-use Rattle.pas_profile.specs.Profiles.{IsValid, IsAdmitted, IsDirectoryOf}
+use Rattle.pas_profile.specs.{Profiles.IsValid, Profiles.IsAdmitted, Profiles.IsDirectoryOf, Classes.IsClass}
 use Rattle.pas_profile.specs.Requests.{class_home, is_shared, kind_of_route, route_in, room_in}
-use Rattle.pas_profile.specs.Classes.{IsClass}
-use Rattle.pas_profile.specs.declared.directory.Directory.{Directory}
-use Rattle.pas_profile.specs.declared.directory.Route.{Route}
-use Rattle.pas_profile.specs.declared.event.NoRoom.{NoRoom}
-use Rattle.pas_profile.specs.declared.name.Block.{Block}
-use Rattle.pas_profile.specs.declared.profile.Profile.{Profile}
+use Rattle.pas_profile.specs.declared.{directory.Directory.Directory, directory.Route.Route, event.NoRoom.NoRoom, name.Block.Block, profile.Profile.Profile}
 use Rattle.pas_profile.proofs.ClassFacts.{class_known, class_suits}
-use Rattle.pas_steps.specs.Desks.{triples}
-use Rattle.pas_steps.specs.Lists.{part, Legal}
+use Rattle.pas_steps.specs.{Desks.triples, Lists.part, Lists.Legal}
 use Rattle.pas_steps.specs.declared.step.Made.{Made}
 use Rattle.pas_core.specs.Fits.{HasNoFit}
 use Rattle.pas_core.proofs.OneActor.{legal_earlier}
-use Rattle.pas_search.specs.Kinds.{AreSearch}
-use Rattle.pas_search.specs.Searches.{IsRefused}
-use Rattle.pas_search.specs.Telling.{IsTrueReason}
+use Rattle.pas_search.specs.{Kinds.AreSearch, Searches.IsRefused, Telling.IsTrueReason}
 use Rattle.pas_search.proofs.Alone.{refused_told}
 use Rattle.pas_segregated.specs.Takes.{NoSlot, fewer_slots}
 use Rattle.pas_segregated.specs.declared.slots.Slots.{Slots}
@@ -24,21 +16,13 @@ use Rattle.pas_cache.specs.Contents.{Cached}
 use Rattle.pas_cache.specs.Serves.{wanted_for, filling_in, IsRefill, Fetches, IsObtained, IsAnswered, ServesClass, ServesBy}
 use Rattle.pas_report.specs.declared.record.Said.{Said as TheSaid}
 use Rattle.pas_trace.specs.EveryPlan.{IsThread}
-use Rattle.pas_answers.specs.Answers.{Progress, Named, named, Answer, having, IsServed, after_answer, said_of_room, said_of_request}
-use Rattle.pas_answers.specs.Answers.{block_of as block_answered}
-use Rattle.pas_one_text.specs.State.{World}
-use Rattle.pas_one_text.specs.Searches.{refusal, refuses}
+use Rattle.pas_answers.specs.Answers.{Progress, Named, named, Answer, having, IsServed, after_answer, said_of_room, said_of_request, block_of as block_answered}
+use Rattle.pas_one_text.specs.{State.World, Searches.refusal, Searches.refuses, Order.serves}
 use Rattle.pas_one_text.specs.Classes.{slots_for, takes_page, fetches, serves_class}
-use Rattle.pas_one_text.specs.Order.{serves}
-use Rattle.pas_same_text.specs.Same.{IsSame, HasSame}
-use Rattle.pas_same_text.specs.Acts.{IsBetween}
-use Rattle.pas_same_text.proofs.BitfitRequests.{none_searched}
-use Rattle.pas_same_text.proofs.CacheLists.{same_own}
-use Rattle.pas_same_text.proofs.ClassFits.{class_fits}
+use Rattle.pas_same_text.specs.{Same.IsSame, Same.HasSame, Acts.IsBetween}
+use Rattle.pas_same_text.proofs.{BitfitRequests.none_searched, CacheLists.same_own, ClassFits.class_fits, LoggedFrees.after_with, OneUp.up_to}
+use Rattle.pas_same_text.proofs.{RefusedRequests.refused_to, RefusedRequests.refused_same}
 use Rattle.pas_same_text.proofs.FetchedClasses.{HasPlace, IsFetched, with_place, may_fetch, place_fetched, text_fetched, fetch_between, fetch_carried}
-use Rattle.pas_same_text.proofs.LoggedFrees.{after_with}
-use Rattle.pas_same_text.proofs.OneUp.{up_to}
-use Rattle.pas_same_text.proofs.RefusedRequests.{refused_to, refused_same}
 
 -- ---- the fetch as a request of its own
 module _ (f : Profile) (k name heap class : ℕ) (p : Progress) (w : World) (room : NoRoom) (steps : List Made) (has : HasPlace f k heap class p w) (refill : IsRefill (filling_in (class_home f heap class) class) f steps (Err room)) (after : IsBetween f (refused_to p k name steps room)) where
@@ -65,21 +49,21 @@ module _ (f : Profile) (k name heap class : ℕ) (p : Progress) (w : World) (roo
   text = ap (λ (r : Result ℕ NoRoom). takes_page f k name heap class r w)
       (none_searched (NoSlot class) f d p w (slots_for (is_shared f heap) w class) has.between.legal has.directory has.same.pages (class_fits f p w has.valid has.between old class has.known (is_shared f heap)) told.0)
 
-  pub fetch_refused : IsSame f (refused_to p k name steps room) (fetches f k name heap class w)
+  fetch_refused : IsSame f (refused_to p k name steps room) (fetches f k name heap class w)
   fetch_refused = subst (IsSame f (refused_to p k name steps room)) (sym text) (refused_same f k name p w d steps room has.valid has.thread has.directory has.between after has.same searches refused.quiet told.2)
 
 -- ---- the pages of a request of a class
-pub home_of_class : (f : Profile) (heap size align class : ℕ) → route_in f size align ≡ Route.Class class → (wanted_for f heap size align).directory ≡ class_home f heap class
+home_of_class : (f : Profile) (heap size align class : ℕ) → route_in f size align ≡ Route.Class class → (wanted_for f heap size align).directory ≡ class_home f heap class
 home_of_class f heap size align class route = ap (λ (r : Route). let e : Directory = record { heap = heap; kind = kind_of_route (is_shared f heap) r } in e) route
 
 kind_is : (f : Profile) (heap size align class : ℕ) → IsAdmitted f size align heap → route_in f size align ≡ Route.Class class → IsClass class → (shared : Bool) → IsDirectoryOf f (record { heap = heap; kind = kind_of_route shared (Route.Class class) })
 kind_is f heap size align class admitted route known true = record { heap = admitted.of_profile; kind = tt; class = tt }
 kind_is f heap size align class admitted route known false = record { heap = admitted.of_profile; kind = known; class = (class_suits f.classes size align class route).known }
 
-pub class_of_request : (f : Profile) (size align class : ℕ) → route_in f size align ≡ Route.Class class → IsClass class
+class_of_request : (f : Profile) (size align class : ℕ) → route_in f size align ≡ Route.Class class → IsClass class
 class_of_request f size align class route = class_known f.classes size align class (class_suits f.classes size align class route)
 
-pub class_directory_of : (f : Profile) (heap size align class : ℕ) → IsAdmitted f size align heap → route_in f size align ≡ Route.Class class → IsDirectoryOf f (class_home f heap class)
+class_directory_of : (f : Profile) (heap size align class : ℕ) → IsAdmitted f size align heap → route_in f size align ≡ Route.Class class → IsDirectoryOf f (class_home f heap class)
 class_directory_of f heap size align class admitted route = kind_is f heap size align class admitted route (class_of_request f size align class route) (is_shared f heap)
 
 -- how the thread's cache serves it, in these pages

@@ -1,15 +1,10 @@
 -- A REQUEST THAT IS REFUSED after a search: no page changes, and the reason is that of the text.
 use Rattle.std.proofs.Common.{◌≡◌, ◌≢◌, ℕ, suc, List, [], ◌∷◌, ◌++◌, None, Some, ◌⊎◌, inl, refl, ap, sym, ◌∙◌, subst, arith}
 use Rattle.pas_profile.specs.Profiles.{IsValid, IsDirectoryOf}
-use Rattle.pas_profile.specs.declared.directory.Directory.{Directory}
-use Rattle.pas_profile.specs.declared.event.Event.{Event}
-use Rattle.pas_profile.specs.declared.event.NoRoom.{NoRoom}
-use Rattle.pas_profile.specs.declared.profile.Profile.{Profile}
-use Rattle.pas_steps.specs.Events.{events_by}
-use Rattle.pas_steps.specs.Lists.{part, visible}
+use Rattle.pas_profile.specs.declared.{directory.Directory.Directory, event.Event.Event, event.NoRoom.NoRoom, profile.Profile.Profile}
+use Rattle.pas_steps.specs.{Events.events_by, Lists.part, Lists.visible}
 use Rattle.pas_steps.specs.declared.step.Made.{Made}
-use Rattle.pas_steps.proofs.Apart.{only_within}
-use Rattle.pas_steps.proofs.Past.{always_map}
+use Rattle.pas_steps.proofs.{Apart.only_within, Past.always_map}
 use Rattle.pas_search.specs.Kinds.{AreSearch, IsQuiet, IsDeedOrBack, AreQuiet, EventsAt, searching}
 use Rattle.pas_search.specs.Telling.{IsTrueReason}
 use Rattle.pas_search.proofs.ForBackEnds.{events_quiet}
@@ -17,17 +12,10 @@ use Rattle.pas_cache.specs.Kinds.{allocating}
 use Rattle.pas_report.specs.declared.record.Record.{Record}
 use Rattle.pas_trace.specs.EveryPlan.{IsThread}
 use Rattle.pas_answers.specs.Answers.{Progress, Named, named, records_of, said_of_room}
-use Rattle.pas_one_text.specs.State.{World}
-use Rattle.pas_one_text.specs.Searches.{refusal, refuses}
-use Rattle.pas_same_text.specs.Same.{IsSame, HasSame}
-use Rattle.pas_same_text.specs.Acts.{IsBetween}
-use Rattle.pas_same_text.proofs.CacheLists.{same_kept}
-use Rattle.pas_same_text.proofs.Flushes.{visible_steps}
-use Rattle.pas_same_text.proofs.GivingBack.{epoch_stays_by}
-use Rattle.pas_same_text.proofs.LoggedFrees.{after_with}
-use Rattle.pas_same_text.proofs.Refusals.{refusal_told}
-use Rattle.pas_same_text.proofs.SearchedMarks.{IsSearchedTo, hint_other, offer_other}
-use Rattle.pas_same_text.proofs.SmallActs.{records_next}
+use Rattle.pas_one_text.specs.{State.World, Searches.refusal, Searches.refuses}
+use Rattle.pas_same_text.specs.{Same.IsSame, Same.HasSame, Acts.IsBetween}
+use Rattle.pas_same_text.proofs.{CacheLists.same_kept, Flushes.visible_steps, GivingBack.epoch_stays_by, LoggedFrees.after_with, Refusals.refusal_told}
+use Rattle.pas_same_text.proofs.{SearchedMarks.IsSearchedTo, SearchedMarks.hint_other, SearchedMarks.offer_other, SmallActs.records_next}
 
 -- steps without an event are at any page
 quiet_at : (d : Directory) (page : ℕ) (steps : List Made) → AreQuiet steps → EventsAt d page steps

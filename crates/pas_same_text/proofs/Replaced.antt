@@ -1,53 +1,29 @@
 -- REALLOCATIONS THAT REPLACE A BLOCK: the request for another one as an act of its own, and where it was served the old name logged then.
-use Rattle.std.proofs.Common.{◌≡◌, ℕ, ◌%◌, ◌≤◌, Bool, true, if◌then◌else◌, List, [], ◌∷◌, ◌++◌, All, length, map, reverse, Option, None, Some, Result, Ok, Err, MatchResult, inl, refl, ap, sym, ◌∙◌, subst, append_assoc, append-nil}
-use Rattle.std.proofs.lemmas.Bool.{eq-eqb}
+use Rattle.std.proofs.Common.{◌≡◌, ℕ, ◌%◌, ◌≤◌, Bool, true, if◌then◌else◌, List, [], ◌∷◌, ◌++◌, All, length, map, reverse, Option, None, Some, Result, Ok, Err}
+use Rattle.std.proofs.Common.{MatchResult, inl, refl, ap, sym, ◌∙◌, subst, append_assoc, append-nil, eq-eqb}
 use Rattle.std.proofs.lemmas.List.{map-append, reverse-append}
-use Rattle.pas_profile.specs.Blocks.{address_of}
-use Rattle.pas_profile.specs.Profiles.{IsValid, IsAdmitted}
-use Rattle.pas_profile.specs.Requests.{route_in, room_in}
-use Rattle.pas_profile.specs.declared.event.Event.{Event}
-use Rattle.pas_profile.specs.declared.event.NoRoom.{NoRoom}
-use Rattle.pas_profile.specs.declared.name.Block.{Block}
-use Rattle.pas_profile.specs.declared.profile.Profile.{Profile}
-use Rattle.pas_steps.specs.Desks.{triples}
-use Rattle.pas_steps.specs.Events.{events_by}
-use Rattle.pas_steps.specs.Lists.{Whole, part, Legal}
-use Rattle.pas_steps.specs.Views.{View}
+use Rattle.pas_profile.specs.{Blocks.address_of, Profiles.IsValid, Profiles.IsAdmitted, Requests.route_in, Requests.room_in}
+use Rattle.pas_profile.specs.declared.{event.Event.Event, event.NoRoom.NoRoom, name.Block.Block, profile.Profile.Profile}
+use Rattle.pas_steps.specs.{Desks.triples, Events.events_by, Lists.Whole, Lists.part, Lists.Legal, Views.View}
 use Rattle.pas_steps.specs.declared.step.Made.{Made}
-use Rattle.pas_steps.proofs.Adding.{triples_append}
-use Rattle.pas_steps.proofs.Frames.{events_append}
-use Rattle.pas_steps.proofs.Parts.{part_of_own}
+use Rattle.pas_steps.proofs.{Adding.triples_append, Frames.events_append, Parts.part_of_own}
 use Rattle.pas_core.proofs.OneActor.{legal_earlier}
-use Rattle.pas_free_log.specs.Conditions.{IsEntryOf}
-use Rattle.pas_free_log.specs.Logs.{entry_of}
+use Rattle.pas_free_log.specs.{Conditions.IsEntryOf, Logs.entry_of}
 use Rattle.pas_free_log.specs.declared.log.Entry.{Entry}
-use Rattle.pas_cache.specs.Caches.{AtRest}
-use Rattle.pas_cache.specs.Calls.{TakesEntry}
-use Rattle.pas_cache.specs.Contents.{Cached}
-use Rattle.pas_cache.specs.Locals.{RestsWith}
-use Rattle.pas_cache.specs.Serves.{ServesBy}
+use Rattle.pas_cache.specs.{Caches.AtRest, Calls.TakesEntry, Contents.Cached, Locals.RestsWith, Serves.ServesBy}
 use Rattle.pas_segregated.specs.declared.slots.Slots.{Slots}
-use Rattle.pas_report.specs.declared.record.Record.{Record}
-use Rattle.pas_report.specs.declared.record.Said.{Said as TheSaid}
-use Rattle.pas_trace.specs.Acts.{Act}
-use Rattle.pas_trace.specs.EveryPlan.{IsThread}
-use Rattle.pas_trace.specs.declared.item.Request.{Request}
-use Rattle.pas_trace.specs.declared.plan.What.TheVariants.{Alloc}
-use Rattle.pas_answers.specs.Answers.{Caches, Progress, Named, named, standing_for, Answer, having, IsReplaced, wanted_by, records_of, said_by, said_of_request, with_steps, after_answer}
-use Rattle.pas_answers.specs.Answers.{block_of as block_answered}
+use Rattle.pas_report.specs.declared.record.{Record.Record, Said.Said as TheSaid}
+use Rattle.pas_trace.specs.{Acts.Act, EveryPlan.IsThread}
+use Rattle.pas_trace.specs.declared.{item.Request.Request, plan.What.TheVariants.Alloc}
+use Rattle.pas_answers.specs.Answers.{Caches, Progress, Named, named, standing_for, Answer, having, IsReplaced, wanted_by, records_of, said_by, said_of_request}
+use Rattle.pas_answers.specs.Answers.{with_steps, after_answer, block_of as block_answered}
 use Rattle.pas_answers.specs.Indexes.{IsNamedBy}
-use Rattle.pas_one_text.specs.State.{World}
-use Rattle.pas_one_text.specs.Frees.{logs, frees}
-use Rattle.pas_one_text.specs.Order.{serves, logs_replaced, replaces}
-use Rattle.pas_same_text.specs.Same.{IsSame}
-use Rattle.pas_same_text.specs.Acts.{IsResting, IsBetween, HasUsableBlocks}
-use Rattle.pas_same_text.specs.Requests.{IsAsked, AnswersSame, RequestStaysSame}
-use Rattle.pas_same_text.proofs.AfterRequests.{served_rests, served_log}
-use Rattle.pas_same_text.proofs.BackActs.{freed_any}
-use Rattle.pas_same_text.proofs.CacheLists.{same_own}
-use Rattle.pas_same_text.proofs.MiddleRest.{cached_again, at_rest_now, middle_rest}
-use Rattle.pas_same_text.proofs.LoggedFrees.{after_with, page_inside, freed_is}
-use Rattle.pas_same_text.proofs.UsableBlocks.{act_usable}
+use Rattle.pas_one_text.specs.{State.World, Frees.logs, Frees.frees, Order.serves, Order.logs_replaced, Order.replaces}
+use Rattle.pas_same_text.specs.{Same.IsSame, Acts.IsResting, Acts.IsBetween, Acts.HasUsableBlocks, Requests.IsAsked, Requests.AnswersSame}
+use Rattle.pas_same_text.specs.{Requests.RequestStaysSame}
+use Rattle.pas_same_text.proofs.{AfterRequests.served_rests, AfterRequests.served_log, BackActs.freed_any, CacheLists.same_own, MiddleRest.cached_again}
+use Rattle.pas_same_text.proofs.{MiddleRest.at_rest_now, MiddleRest.middle_rest, LoggedFrees.after_with, LoggedFrees.page_inside, LoggedFrees.freed_is}
+use Rattle.pas_same_text.proofs.{UsableBlocks.act_usable}
 
 -- ---- records of steps that follow others
 records_both : (later earlier : List Event) → records_of (later ++ earlier) ≡ records_of earlier ++ records_of later
@@ -94,7 +70,7 @@ module _ (f : Profile) (k : ℕ) (r : Request) (old : Block) (p : Progress) (a :
         few_entries = subst (λ (es : List Entry). length es ≤ 64) (sym log) is.served.rest.few_entries;
       }
 
-  pub middle : IsBetween f midway
+  middle : IsBetween f midway
   middle = record { legal = legal; rest = middle_rest f p k came.cache came.steps valid thread before is.served.rest legal (own_rest is.served.answer refl is.logged) }
 
 -- ---- the act, with all that is known of its request
@@ -198,7 +174,7 @@ module _ (f : Profile) (k : ℕ) (r : Request) (old : Block) (p : Progress) (a :
       served_to block (is.served.names_are ∙ ap (λ (x : Result Block NoRoom). named r.name (block_answered x) ∷ p.names) e) (is.served.said_is ∙ ap (said_of_request r.name) e) takes
   by_answer (Err room) e none = unserved (is.served.names_are ∙ ap (λ (x : Result Block NoRoom). named r.name (block_answered x) ∷ p.names) e) none.0 none.1
 
-  pub replaced_asked : IsSame f (after_answer p k a) to
+  replaced_asked : IsSame f (after_answer p k a) to
   replaced_asked = by_answer is.served.answer refl is.logged
 
 -- ---- THE ACT, by what is known of it, and what its request comes to

@@ -1,17 +1,14 @@
 -- What follows a return of grains hints no page but one that it read as backed and empty.
 use Rattle.std.proofs.Common.{◌≡◌, ℕ, zero, suc, ◌<◌, true, false, Bool, List, [], ◌∷◌, ◌++◌, Option, None, Some, inl, inr, refl, ap, sym, subst, arith}
-use Rattle.std.proofs.lemmas.Bool.{cases_eq, true≢false}
+use Rattle.std.proofs.Common.{true≢false}
+use Rattle.std.proofs.lemmas.Bool.{cases_eq}
 use Rattle.pas_bits.proofs.Words.{full_bit}
-use Rattle.pas_profile.specs.declared.directory.Directory.{Directory}
-use Rattle.pas_profile.specs.declared.word.Word.TheVariants as Word
-use Rattle.pas_steps.specs.Desks.{made}
+use Rattle.pas_profile.specs.declared.{directory.Directory.Directory, word.Word.Word}
+use Rattle.pas_steps.specs.{Desks.made, Past.Always, Past.Since}
 use Rattle.pas_steps.specs.Kinds.{LookFree, Unparking, Offering, Only}
-use Rattle.pas_steps.specs.Past.{Always, Since}
-use Rattle.pas_steps.specs.declared.step.Made.{Made}
-use Rattle.pas_steps.specs.declared.step.Step.TheVariants.{Look}
+use Rattle.pas_steps.specs.declared.step.{Made.Made, Step.TheVariants.Look}
 use Rattle.pas_rights.specs.Looks.{looks, looks_until, is_free, HintSteps, HintsWhere, ReadsAllFree, TakesNone, ReadsEmpty, HintsEmpty}
-use Rattle.pas_rights.specs.Returns.{ReofferSteps, ReturnSteps}
-use Rattle.pas_rights.specs.Words.{ones}
+use Rattle.pas_rights.specs.{Returns.ReofferSteps, Returns.ReturnSteps, Words.ones}
 use Rattle.pas_rights.specs.declared.reading.Used.{Used}
 use Rattle.pas_rights.proofs.Orders.{until_only}
 use Rattle.pas_same_text.proofs.GivingBack.{hint_step, hints_none, hints_both}

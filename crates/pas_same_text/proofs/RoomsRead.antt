@@ -1,31 +1,20 @@
 -- A page of which a look read room, and which no step took since, is open in the text: it is offered there where its bit is set.
 use Rattle.std.proofs.Common.{◌≡◌, ℕ, ◌/◌, ◌%◌, true, List, [], ◌∷◌, ◌++◌, ap, sym, ◌∙◌, subst, ◌+◌, ◌*◌, ◌<◌, inl, inr, arith}
 use Rattle.pas_bits.specs.Bits.{has_bit}
-use Rattle.pas_profile.specs.declared.word.Word.TheVariants as Word
-use Rattle.pas_profile.specs.Directories.{number_of, deed_word_of, IsKind}
-use Rattle.pas_profile.specs.Profiles.{IsValid, IsDirectoryOf}
-use Rattle.pas_profile.specs.declared.directory.Directory.{Directory}
-use Rattle.pas_profile.specs.declared.profile.Profile.{Profile}
+use Rattle.pas_profile.specs.declared.{word.Word.Word, directory.Directory.Directory, profile.Profile.Profile}
+use Rattle.pas_profile.specs.{Directories.number_of, Directories.deed_word_of, Directories.IsKind, Profiles.IsValid, Profiles.IsDirectoryOf}
 use Rattle.pas_profile.proofs.Codecs.{same_from_deed_word}
-use Rattle.pas_steps.specs.Desks.{triples}
+use Rattle.pas_steps.specs.{Desks.triples, Views.known_deed, Views.usable_by_kind, Effects.target, Effects.free_word_at, Past.Once}
 use Rattle.pas_steps.specs.Kinds.{Kinds, Only, apart, Taking}
 use Rattle.pas_steps.specs.Lists.{Whole, part, word_after, Legal}
-use Rattle.pas_steps.specs.Views.{known_deed, usable_by_kind}
-use Rattle.pas_steps.specs.declared.step.Made.{Made}
-use Rattle.pas_steps.specs.declared.step.Step.{Step}
-use Rattle.pas_steps.specs.Effects.{target, free_word_at}
-use Rattle.pas_steps.specs.Past.{Once}
+use Rattle.pas_steps.specs.declared.step.{Made.Made, Step.Step}
 use Rattle.pas_core.specs.Rights.{eligible_bit}
 use Rattle.pas_core.proofs.Rights.{right_in_one_place}
 use Rattle.pas_answers.specs.Answers.{Progress}
-use Rattle.pas_one_text.specs.State.{World}
-use Rattle.pas_one_text.specs.Pages.{is_of, is_offered}
-use Rattle.pas_same_text.specs.Same.{HasSame}
-use Rattle.pas_same_text.specs.Acts.{IsBetween}
-use Rattle.pas_same_text.specs.Words.{free_bit}
-use Rattle.pas_same_text.proofs.GivenPages.{open_from}
+use Rattle.pas_one_text.specs.{State.World, Pages.is_of, Pages.is_offered}
+use Rattle.pas_same_text.specs.{Same.HasSame, Acts.IsBetween, Words.free_bit}
+use Rattle.pas_same_text.proofs.{GivenPages.open_from, StopSteps.ReadsRoom, StopSteps.grain_read}
 use Rattle.pas_same_text.proofs.RestingPages.{bit_at, bit_offered, bit_tells, deed_now, is_open, word_known, word_now}
-use Rattle.pas_same_text.proofs.StopSteps.{ReadsRoom, grain_read}
 use Rattle.pas_rights.specs.Looks.{ReadsAllFree}
 
 -- no look reads all grains of a word as free if one of them never is

@@ -1,36 +1,26 @@
 -- THE EVENTS BEFORE A RUN IS GIVEN: a deed of each of its pages that had none, the lowest first, and a backing of each that had no memory, the lowest first. They are those of the text.
-use Rattle.std.proofs.Common.{◌≡◌, ◌≢◌, ℕ, zero, suc, ◌+◌, ◌<◌, ◌==◌, Bool, true, false, if◌then◌else◌, List, [], ◌∷◌, ◌++◌, map, Option, None, Some, inl, inr, refl, ap, sym, ◌∙◌, subst, arith}
-use Rattle.std.proofs.lemmas.Bool.{true≢false, cases_eq, ne_eqb, eqb-true}
+use Rattle.std.proofs.Common.{◌≡◌, ◌≢◌, ℕ, zero, suc, ◌+◌, ◌<◌, ◌==◌, Bool, true, false, if◌then◌else◌, List, [], ◌∷◌, ◌++◌, map, Option, None, Some, inl, inr}
+use Rattle.std.proofs.Common.{refl, ap, sym, ◌∙◌, subst, arith, true≢false, ne_eqb, eqb-true}
+use Rattle.std.proofs.lemmas.Bool.{cases_eq}
 use Rattle.std.specs.List.{AllByRecursion}
-use Rattle.pas_profile.specs.declared.directory.Directory.{Directory}
-use Rattle.pas_profile.specs.declared.event.Event.{Event}
-use Rattle.pas_profile.specs.declared.profile.Profile.{Profile}
-use Rattle.pas_machine.specs.Machine.{Run}
-use Rattle.pas_machine.specs.State.{deed_in, backed_in}
-use Rattle.pas_steps.specs.Desks.{made, triples}
-use Rattle.pas_steps.specs.Events.{event_of, with_event, events_by}
-use Rattle.pas_steps.specs.InTurn.{InTurn}
-use Rattle.pas_steps.specs.Kinds.{Only, kind_of, is_in}
+use Rattle.pas_profile.specs.declared.{directory.Directory.Directory, event.Event.Event, profile.Profile.Profile}
+use Rattle.pas_machine.specs.{Machine.Run, State.deed_in, State.backed_in}
+use Rattle.pas_steps.specs.{Desks.made, Desks.triples, Events.event_of, Events.with_event, Events.events_by, InTurn.InTurn, Kinds.Only, Kinds.kind_of}
+use Rattle.pas_steps.specs.{Kinds.is_in, Past.Always, Views.View, Views.epoch_of}
 use Rattle.pas_steps.specs.Lists.{Whole, part, visible, Legal}
-use Rattle.pas_steps.specs.Past.{Always}
-use Rattle.pas_steps.specs.Views.{View, epoch_of}
-use Rattle.pas_steps.specs.declared.step.Made.{Made}
-use Rattle.pas_steps.specs.declared.step.Step.{Step}
+use Rattle.pas_steps.specs.declared.step.{Made.Made, Step.Step}
 use Rattle.pas_steps.specs.declared.step.Step.TheVariants.{Deed, Back, Give, End, EndSized, Unback}
 use Rattle.pas_steps.proofs.Past.{always_map}
 use Rattle.pas_core.specs.Good.{word_of_backed}
 use Rattle.pas_core.proofs.Deeds.{backed_of}
 use Rattle.pas_scan.specs.Runs.{IsInRun}
-use Rattle.pas_large.specs.Evidence.{DeedsBelow, DeedsRise}
+use Rattle.pas_large.specs.{Evidence.DeedsBelow, Evidence.DeedsRise, Gives.BackStep, Gives.pages_from}
 use Rattle.pas_guard.specs.Seeks.{seeking}
 use Rattle.pas_large.proofs.Outcomes.{MadeOf}
-use Rattle.pas_large.specs.Gives.{BackStep, pages_from}
 use Rattle.pas_trace.specs.Acts.{numbers_from}
-use Rattle.pas_one_text.specs.State.{World, shows, each}
-use Rattle.pas_one_text.specs.Searches.{deeds, backs}
-use Rattle.pas_same_text.proofs.Flushes.{visible_steps}
+use Rattle.pas_one_text.specs.{State.World, State.shows, State.each, Searches.deeds, Searches.backs}
+use Rattle.pas_same_text.proofs.{Flushes.visible_steps, RunsFound.DeedsInRun}
 use Rattle.pas_same_text.proofs.ReadyPages.{shown, shown_events, unowned, owned}
-use Rattle.pas_same_text.proofs.RunsFound.{DeedsInRun}
 
 -- ---- pages of a run, one by one from the first
 abbrev pub in_turn : (ℕ → World → World) → ℕ → ℕ → World → World
@@ -78,7 +68,7 @@ AllInRun first n = AllByRecursion (IsInRun first n)
 
 module _ (k : ℕ) (d : Directory) where
   -- what holds of each deed that was made holds of each such page
-  pub deeded_all : (P : ℕ → Type 0) (xs : List Made) → Always (λ m before. (page : ℕ) (e : Directory) → m.step ≡ Deed page e → m.answer ≡ 0 → P page) xs → AllByRecursion P (deeded xs)
+  deeded_all : (P : ℕ → Type 0) (xs : List Made) → Always (λ m before. (page : ℕ) (e : Directory) → m.step ≡ Deed page e → m.answer ≡ 0 → P page) xs → AllByRecursion P (deeded xs)
   deeded_all P [] all = tt
   deeded_all P (m ∷ xs) all = one m.step m.answer all.0 (deeded_all P xs all.1)
     where
@@ -146,30 +136,30 @@ module _ (k : ℕ) (d : Directory) where
 
   lower_still : (p q : ℕ) (ps : List ℕ) → q < p → AllByRecursion (λ x. x < q) ps → AllByRecursion (λ x. x < p) ps
   lower_still p q [] lt below = tt
-  lower_still p q (x ∷ ps) lt below = let under = below.0 in (omega (arith, under, lt), lower_still p q ps lt below.1)
+  lower_still p q (x ∷ ps) lt below = (omega (arith, below.0, lt), lower_still p q ps lt below.1)
 
   none_within : (first : ℕ) (ps : List ℕ) (w : World) → AllInRun first 0 ps → w ≡ shown (deeds_of k d ps) w
   none_within first [] w within = refl
-  none_within first (q ∷ ps) w within = let low = within.0.0 in let high = within.0.1 in absurd (omega (arith, low, high))
+  none_within first (q ∷ ps) w within = absurd (omega (arith, within.0.0, within.0.1))
 
   -- THE DEEDS of a run: each of its pages has one then
   pub deeds_in_turn : (f : Profile) (n first : ℕ) (ps : List ℕ) (w : World) → AreFalling ps → AllInRun first n ps → Run f (deeds_of k d ps ++ w.events) → ((p : ℕ) → IsInRun first n p → deed_in (deeds_of k d ps ++ w.events) p ≢ None) → in_turn (deeds k d) first n w ≡ shown (deeds_of k d ps) w
   deeds_in_turn f zero first ps w falls within run all = none_within first ps w within
   deeds_in_turn f (suc n) first [] w falls within run all =
-      ap (deeds k d (first + n)) (deeds_in_turn f n first [] w tt tt run (λ p here. all p (here.0, let high = here.1 in omega (arith, high)))) ∙ owned k d (first + n) w (all (first + n) (omega arith, omega arith))
+      ap (deeds k d (first + n)) (deeds_in_turn f n first [] w tt tt run (λ p here. all p (here.0, omega (arith, here.1)))) ∙ owned k d (first + n) w (all (first + n) (omega arith, omega arith))
   deeds_in_turn f (suc n) first (q ∷ ps) w falls within run all = elim (cases_eq q (first + n)) [
     | inl same ↦
         let lower : AllByRecursion (λ x. x < first + n) ps = subst (λ (y : ℕ). AllByRecursion (λ x. x < y) ps) same falls.0 in
         let rest : in_turn (deeds k d) first n w ≡ shown (deeds_of k d ps) w =
         deeds_in_turn f n first ps w falls.1 (fewer_in_run n first ps within.1 lower) run.1
-        (λ p here. let low = here.0 in let high = here.1 in let ne : q ≢ p = (λ (e : q ≡ p). omega (arith, e, same, high)) in λ none. all p (low, omega (arith, high)) (deed_apart q p (deeds_of k d ps ++ w.events) ne ∙ none)) in
+        (λ p here. let low = here.0 in let ne : q ≢ p = (λ (e : q ≡ p). omega (arith, e, same, here.1)) in λ none. all p (low, omega (arith, here.1)) (deed_apart q p (deeds_of k d ps ++ w.events) ne ∙ none)) in
         let bare : deed_in (shown (deeds_of k d ps) w).events q ≡ None = ap (λ (es : List Event). deed_in es q) (shown_events (deeds_of k d ps) w) ∙ run.0.2 in
         ap (deeds k d (first + n)) rest ∙ (ap (λ (y : ℕ). deeds k d y (shown (deeds_of k d ps) w)) (sym same) ∙ unowned k d q (shown (deeds_of k d ps) w) bare)
     | inr ne ↦
-        let under : q < first + n = let high = within.0.1 in omega (arith, high, ne) in
+        let under : q < first + n = omega (arith, within.0.1, ne) in
         let lower : AllByRecursion (λ x. x < first + n) (q ∷ ps) = (under, lower_still (first + n) q ps under falls.0) in
         let rest : in_turn (deeds k d) first n w ≡ shown (deeds_of k d (q ∷ ps)) w =
-        deeds_in_turn f n first (q ∷ ps) w falls (fewer_in_run n first (q ∷ ps) within lower) run (λ p here. all p (here.0, let high = here.1 in omega (arith, high))) in
+        deeds_in_turn f n first (q ∷ ps) w falls (fewer_in_run n first (q ∷ ps) within lower) run (λ p here. all p (here.0, omega (arith, here.1))) in
         let has : deed_in (shown (deeds_of k d (q ∷ ps)) w).events (first + n) ≢ None = λ none. all (first + n) (omega arith, omega arith) (ap (λ (es : List Event). deed_in es (first + n)) (sym (shown_events (deeds_of k d (q ∷ ps)) w)) ∙ none) in
         ap (deeds k d (first + n)) rest ∙ owned k d (first + n) (shown (deeds_of k d (q ∷ ps)) w) has
   ]

@@ -1,91 +1,52 @@
 -- A REQUEST FOR WHOLE PAGES THAT IS SERVED by a run: its pages get deeds and memory where they have none, the lowest first, and their block is given.
-use Rattle.std.proofs.Common.{◌≡◌, ◌≢◌, ℕ, ◌+◌, ◌*◌, ◌/◌, ◌<◌, ◌≤◌, ◌==◌, Bool, true, false, not, ◌&&◌, if◌then◌else◌, List, [], ◌∷◌, ◌++◌, Option, None, Some, ◌⊎◌, inl, inr, refl, ap, sym, ◌∙◌, subst, arith, append_assoc, append-nil}
+use Rattle.std.proofs.Common.{◌≡◌, ◌≢◌, ℕ, ◌+◌, ◌*◌, ◌/◌, ◌<◌, ◌≤◌, ◌==◌, Bool, true, false, not, ◌&&◌, if◌then◌else◌, List, [], ◌∷◌, ◌++◌, Option, None, Some}
+use Rattle.std.proofs.Common.{◌⊎◌, inl, inr, refl, ap, sym, ◌∙◌, subst, arith, append_assoc, append-nil}
 use Rattle.std.proofs.lemmas.Bool.{false≢true, false_from_ne_true}
 use Rattle.std.specs.List.{flat_map, filter}
 use Rattle.pas_bits.specs.Runs.{in_run, meets_page}
-use Rattle.pas_profile.specs.Blocks.{address_of, grain_of, length_of}
-use Rattle.pas_profile.specs.Directories.{number_of, deed_word_of}
-use Rattle.pas_profile.specs.Profiles.{IsValid, IsDirectoryOf}
-use Rattle.pas_profile.specs.declared.directory.Directory.{Directory}
-use Rattle.pas_profile.specs.declared.event.Event.{Event}
-use Rattle.pas_profile.specs.declared.name.Block.{Block}
-use Rattle.pas_profile.specs.declared.profile.Profile.{Profile}
-use Rattle.pas_profile.specs.declared.word.Word.TheVariants as Word
+use Rattle.pas_profile.specs.{Blocks.address_of, Blocks.grain_of, Blocks.length_of, Directories.number_of, Directories.deed_word_of, Profiles.IsValid}
+use Rattle.pas_profile.specs.{Profiles.IsDirectoryOf}
+use Rattle.pas_profile.specs.declared.{directory.Directory.Directory, event.Event.Event, name.Block.Block, profile.Profile.Profile, word.Word.Word}
 use Rattle.pas_profile.proofs.Codecs.{deed_word_of-positive}
 use Rattle.pas_machine.specs.Machine.{Run}
 use Rattle.pas_machine.specs.State.{Live, live_in, deed_in, gives_in}
-use Rattle.pas_steps.specs.Agreement.{Agreed}
-use Rattle.pas_steps.specs.Calls.{Leads, Kept, Gained}
-use Rattle.pas_steps.specs.Calls.{now as has_now}
-use Rattle.pas_steps.specs.Desks.{triples}
-use Rattle.pas_steps.specs.Events.{events_by}
-use Rattle.pas_steps.specs.InTurn.{InTurn}
+use Rattle.pas_steps.specs.{Agreement.Agreed, Desks.triples, Events.events_by, InTurn.InTurn, Past.Always, Views.View, Views.has_right, Views.known_deed}
+use Rattle.pas_steps.specs.Calls.{Leads, Kept, Gained, now as has_now}
 use Rattle.pas_steps.specs.Kinds.{Only, Giving, LookLife, Backing, returning}
 use Rattle.pas_steps.specs.Lists.{Whole, part, word_after, visible, Legal}
-use Rattle.pas_steps.specs.Past.{Always}
-use Rattle.pas_steps.specs.Views.{View, has_right, known_deed}
-use Rattle.pas_steps.specs.declared.step.Made.{Made}
-use Rattle.pas_steps.specs.declared.step.Step.TheVariants.{Deed, Hint}
-use Rattle.pas_steps.proofs.Adding.{triples_append}
-use Rattle.pas_steps.proofs.Apart.{events_same, only_both, only_within}
-use Rattle.pas_steps.proofs.Frames.{events_append}
-use Rattle.pas_steps.proofs.Past.{always_map}
-use Rattle.pas_steps.proofs.Parts.{part_of_own}
-use Rattle.pas_core.specs.Good.{word_of_deed}
-use Rattle.pas_core.specs.Rights.{eligible_bit}
-use Rattle.pas_core.proofs.Deeds.{deed_of}
-use Rattle.pas_core.proofs.MachineRuns.{runs}
-use Rattle.pas_core.proofs.Nexts.{agreed_steps}
-use Rattle.pas_core.proofs.OneActor.{legal_earlier}
-use Rattle.pas_core.proofs.Rights.{right_not_offered}
+use Rattle.pas_steps.specs.declared.step.{Made.Made, Step.TheVariants.Deed, Step.TheVariants.Hint}
+use Rattle.pas_steps.proofs.{Adding.triples_append, Apart.events_same, Apart.only_both, Apart.only_within, Frames.events_append, Past.always_map}
+use Rattle.pas_steps.proofs.{Parts.part_of_own}
+use Rattle.pas_core.specs.{Good.word_of_deed, Rights.eligible_bit}
+use Rattle.pas_core.proofs.{Deeds.deed_of, MachineRuns.runs, Nexts.agreed_steps, OneActor.legal_earlier, Rights.right_not_offered}
 use Rattle.pas_rights.specs.Gives.{give_steps}
 use Rattle.pas_scan.specs.Runs.{IsInRun}
 use Rattle.pas_search.specs.Kinds.{ReturnsDuly}
-use Rattle.pas_large.specs.Allocates.{GaveLarge}
-use Rattle.pas_large.specs.Claims.{in_span}
-use Rattle.pas_large.specs.Evidence.{DeedsRise}
-use Rattle.pas_large.specs.Finds.{MayFind, finding}
+use Rattle.pas_large.specs.{Allocates.GaveLarge, Claims.in_span, Evidence.DeedsRise, Finds.MayFind, Finds.finding, Gives.BackStep, Gives.pages_from}
+use Rattle.pas_large.specs.{Gives.run_block, Pages.GotPages}
 use Rattle.pas_guard.specs.Seeks.{seeking}
-use Rattle.pas_large.proofs.Outcomes.{MadeOf}
-use Rattle.pas_large.specs.Gives.{BackStep, pages_from, run_block}
-use Rattle.pas_large.proofs.InOrder.{only_backs, only_leaves}
-use Rattle.pas_large.specs.Pages.{GotPages}
-use Rattle.pas_large.proofs.Claims.{span_in, in_parts}
-use Rattle.pas_large.proofs.Gives.{run_is}
-use Rattle.pas_cache.specs.Caches.{AtRest}
-use Rattle.pas_cache.specs.Contents.{Cached}
-use Rattle.pas_cache.specs.Kinds.{allocating}
+use Rattle.pas_large.proofs.{Outcomes.MadeOf, InOrder.only_backs, InOrder.only_leaves, Claims.span_in, Claims.in_parts, Gives.run_is}
+use Rattle.pas_cache.specs.{Caches.AtRest, Contents.Cached, Kinds.allocating}
 use Rattle.pas_cache.proofs.Routes.{may_find}
 use Rattle.pas_report.specs.declared.record.Record.{Record}
-use Rattle.pas_trace.specs.Acts.{numbers_from}
-use Rattle.pas_trace.specs.EveryPlan.{IsThread}
-use Rattle.pas_answers.specs.Answers.{Progress, Named, named, records_of}
-use Rattle.pas_answers.specs.Answers.{with_cache as with_cached}
+use Rattle.pas_trace.specs.{Acts.numbers_from, EveryPlan.IsThread}
+use Rattle.pas_answers.specs.Answers.{Progress, Named, named, records_of, with_cache as with_cached}
 use Rattle.pas_one_text.specs.State.{World, Local, Cache, each}
 use Rattle.pas_one_text.specs.Pages.{is_free_of, is_free, is_cached, locals_on, is_offered}
 use Rattle.pas_one_text.specs.Searches.{deeds, backs, address_on, gives}
 use Rattle.pas_one_text.specs.Runs.{large_of, gives_pages}
-use Rattle.pas_same_text.specs.Same.{IsSame, HasSame, AreSameCaches}
-use Rattle.pas_same_text.specs.Acts.{IsBetween}
-use Rattle.pas_same_text.specs.Words.{free_bit}
-use Rattle.pas_same_text.proofs.BitfitGiven.{one_more}
-use Rattle.pas_same_text.proofs.CachedSlots.{block_of, block_same}
-use Rattle.pas_same_text.proofs.CacheLists.{same_kept}
-use Rattle.pas_same_text.proofs.FlushActs.{events_recorded}
-use Rattle.pas_same_text.proofs.Flushes.{visible_steps, legal_between, given_lives}
-use Rattle.pas_same_text.proofs.GivingBack.{HintsPage, OffersPage, IsMarked, once_parts, none_marked, hint_marks, offer_marks, offered_by, hints_of, hint_read, epoch_stays_by, marked_left}
+use Rattle.pas_same_text.specs.{Same.IsSame, Same.HasSame, Same.AreSameCaches, Acts.IsBetween, Words.free_bit}
+use Rattle.pas_same_text.proofs.{BitfitGiven.one_more, CachedSlots.block_of, CachedSlots.block_same, CacheLists.same_kept, FlushActs.events_recorded}
+use Rattle.pas_same_text.proofs.{Flushes.visible_steps, Flushes.legal_between, Flushes.given_lives, LoggedFrees.after_with, OuterPages.guards_as}
+use Rattle.pas_same_text.proofs.{OuterPages.still_unguarded, RestingPages.word_known, RunsFound.DeedsInRun, StopSteps.ReadsRoom, Tests.on_page}
+use Rattle.pas_same_text.proofs.{RoomsRead.read_offered, RoomsRead.never_read, FreeGrains.free_uncovered}
+use Rattle.pas_same_text.proofs.GivingBack.{HintsPage, OffersPage, IsMarked, once_parts, none_marked, hint_marks, offer_marks, offered_by, hints_of, hint_read}
+use Rattle.pas_same_text.proofs.GivingBack.{epoch_stays_by, marked_left}
 use Rattle.pas_same_text.proofs.LeftRuns.{LeftInTurn, left_marked, left_due, left_room}
-use Rattle.pas_same_text.proofs.LoggedFrees.{after_with}
-use Rattle.pas_same_text.proofs.OuterPages.{guards_as, still_unguarded}
 use Rattle.pas_same_text.proofs.ReadyPages.{shown, shown_events, shown_records, shown_lives, shown_rest}
-use Rattle.pas_same_text.proofs.RestingPages.{word_known}
-use Rattle.pas_same_text.proofs.RunEvents.{in_turn, each_in_turn, shown_both, deeded, deeds_of, deeded_falls, deeded_within, deeded_events, deeds_beside, deeds_in_turn, backs_in_turn, backs_beside, deeds_live, backs_live}
+use Rattle.pas_same_text.proofs.RunEvents.{in_turn, each_in_turn, shown_both, deeded, deeds_of, deeded_falls, deeded_within, deeded_events, deeds_beside}
+use Rattle.pas_same_text.proofs.RunEvents.{deeds_in_turn, backs_in_turn, backs_beside, deeds_live, backs_live}
 use Rattle.pas_same_text.proofs.RunMarks.{DeedsOn, IsRunTo, run_hints, run_offers}
-use Rattle.pas_same_text.proofs.RunsFound.{DeedsInRun}
-use Rattle.pas_same_text.proofs.StopSteps.{ReadsRoom}
-use Rattle.pas_same_text.proofs.Tests.{on_page}
-use Rattle.pas_same_text.proofs.RoomsRead.{read_offered, never_read}
-use Rattle.pas_same_text.proofs.FreeGrains.{free_uncovered}
 
 -- The n pages from the first one on were got by the first of these steps, which made deeds of pages of this run alone, the lowest first. By the others they were backed, the lowest
 -- first, their block was given, and they were left.

@@ -2,26 +2,14 @@
 use Rattle.std.proofs.Common.{◌≡◌, ℕ, ◌/◌, ◌%◌, ◌<◌, ◌==◌, Bool, true, List, [], ◌∷◌, ◌++◌, ◌⊎◌, inl, inr, refl, ap, sym, ◌∙◌, subst, arith, false}
 use Rattle.std.proofs.lemmas.Bool.{false≢true, cases_Bool}
 use Rattle.std.specs.List.{list_any}
-use Rattle.pas_profile.specs.Directories.{number_of}
-use Rattle.pas_profile.specs.Profiles.{IsValid, IsDirectoryOf}
-use Rattle.pas_profile.specs.declared.directory.Directory.{Directory}
-use Rattle.pas_profile.specs.declared.profile.Profile.{Profile}
-use Rattle.pas_profile.specs.declared.word.Word.TheVariants as Word
+use Rattle.pas_profile.specs.{Directories.number_of, Profiles.IsValid, Profiles.IsDirectoryOf}
+use Rattle.pas_profile.specs.declared.{directory.Directory.Directory, profile.Profile.Profile, word.Word.Word}
 use Rattle.pas_machine.specs.State.{deed_in}
-use Rattle.pas_steps.specs.Desks.{triples}
-use Rattle.pas_steps.specs.Effects.{target}
-use Rattle.pas_steps.specs.Kinds.{Only}
-use Rattle.pas_steps.specs.Lists.{Whole, word_after, Legal}
-use Rattle.pas_steps.specs.Past.{Once, Always}
-use Rattle.pas_steps.specs.declared.step.Made.{Made}
-use Rattle.pas_steps.specs.declared.step.Step.{Step}
-use Rattle.pas_steps.specs.declared.step.Step.TheVariants.{Deed, Offer, Hint}
-use Rattle.pas_steps.proofs.Past.{always_map, since_once}
-use Rattle.pas_steps.proofs.Sets.{same_truth}
-use Rattle.pas_core.specs.Hints.{IsEmptyBacked}
-use Rattle.pas_core.specs.Rights.{empty_bit, eligible_bit}
-use Rattle.pas_core.proofs.Offers.{hinted_at_rest}
-use Rattle.pas_core.proofs.OneActor.{LendsNone, lends_none, legal_earlier}
+use Rattle.pas_steps.specs.{Desks.triples, Effects.target, Kinds.Only, Lists.Whole, Lists.word_after, Lists.Legal, Past.Once, Past.Always}
+use Rattle.pas_steps.specs.declared.step.{Made.Made, Step.Step, Step.TheVariants.Deed, Step.TheVariants.Offer, Step.TheVariants.Hint}
+use Rattle.pas_steps.proofs.{Past.always_map, Past.since_once, Sets.same_truth}
+use Rattle.pas_core.specs.{Hints.IsEmptyBacked, Rights.empty_bit, Rights.eligible_bit}
+use Rattle.pas_core.proofs.{Offers.hinted_at_rest, OneActor.LendsNone, OneActor.lends_none, OneActor.legal_earlier}
 use Rattle.pas_rights.specs.Looks.{ReadsBacked, ReadsAllFree, TakesNone, ReadsEmpty}
 use Rattle.pas_scan.specs.Usable.{MakesNoDeedHere}
 use Rattle.pas_search.specs.Kinds.{ReturnsDuly}
@@ -30,13 +18,10 @@ use Rattle.pas_cache.specs.Kinds.{allocating}
 use Rattle.pas_answers.specs.Answers.{Progress}
 use Rattle.pas_one_text.specs.State.{World}
 use Rattle.pas_one_text.specs.Pages.{is_free, is_hinted, is_guarded, is_offered}
-use Rattle.pas_same_text.specs.Same.{HasSame, ArePagesSame}
-use Rattle.pas_same_text.specs.Acts.{IsBetween}
+use Rattle.pas_same_text.specs.{Same.HasSame, Same.ArePagesSame, Acts.IsBetween}
 use Rattle.pas_same_text.proofs.GivingBack.{HintsPage, OffersPage, once_parts, backed_stays, hinted_stays, hinted_by, offered_by}
-use Rattle.pas_same_text.proofs.PagesRead.{offered_then}
-use Rattle.pas_same_text.proofs.RestingPages.{clear_of, offered_bit}
-use Rattle.pas_same_text.proofs.SearchedMarks.{offers_got, offered_still}
-use Rattle.pas_same_text.proofs.SearchMarks.{read_free}
+use Rattle.pas_same_text.proofs.{PagesRead.offered_then, RestingPages.clear_of, RestingPages.offered_bit, SearchedMarks.offers_got, SearchedMarks.offered_still}
+use Rattle.pas_same_text.proofs.{SearchMarks.read_free}
 
 -- each deed that was made is of the directory, and of a page that is one of these
 abbrev pub DeedsOn : Directory → (ℕ → Bool) → List Made → Type 0
@@ -50,7 +35,7 @@ module _ (f : Profile) (k : ℕ) (l : Whole) (q : ℕ) where
   read_backed (m ∷ xs) legal kinds (inl h) =
       sym (backed_stays seeking refl k xs l q kinds.1) ∙ (sym (legal.0.answer_is ∙ ap (λ (s : Step). word_after (triples k xs ++ l) (target s)) h.0) ∙ h.1)
 
-  pub hint_then : (xs : List Made) → Legal f (triples k xs ++ l) → Only seeking xs → Always ReturnsDuly xs → HintsPage q xs → IsEmptyBacked l q
+  hint_then : (xs : List Made) → Legal f (triples k xs ++ l) → Only seeking xs → Always ReturnsDuly xs → HintsPage q xs → IsEmptyBacked l q
   hint_then [] legal kinds due h = absurd h
   hint_then (m ∷ xs) legal kinds due (inr h) = hint_then xs legal.1 kinds.1 due.1 h
   hint_then (m ∷ xs) legal kinds due (inl h) =

@@ -1,27 +1,16 @@
 -- THE RUN THAT A SEARCH FOUND, where no other actor makes a step: the lowest usable one before the search, and no page of another gets a deed.
 use Rattle.std.proofs.Common.{◌≡◌, ℕ, false, List, [], ◌∷◌, ◌++◌, ◌⊎◌, inl, inr, refl, ◌∙◌, subst}
 use Rattle.std.proofs.lemmas.Bool.{cases_eq}
-use Rattle.pas_profile.specs.Directories.{deed_word_of}
-use Rattle.pas_profile.specs.Profiles.{IsDirectoryOf}
-use Rattle.pas_profile.specs.declared.directory.Directory.{Directory}
-use Rattle.pas_profile.specs.declared.profile.Profile.{Profile}
-use Rattle.pas_profile.specs.declared.word.Word.TheVariants as Word
-use Rattle.pas_steps.specs.Desks.{triples}
-use Rattle.pas_steps.specs.Kinds.{Only}
+use Rattle.pas_profile.specs.{Directories.deed_word_of, Profiles.IsDirectoryOf}
+use Rattle.pas_profile.specs.declared.{directory.Directory.Directory, profile.Profile.Profile, word.Word.Word}
+use Rattle.pas_steps.specs.{Desks.triples, Kinds.Only, Past.Always, Views.has_right, Views.known_deed}
 use Rattle.pas_steps.specs.Lists.{Whole, part, word_after, Legal}
-use Rattle.pas_steps.specs.Past.{Always}
-use Rattle.pas_steps.specs.Views.{has_right, known_deed}
-use Rattle.pas_steps.specs.declared.step.Made.{Made}
-use Rattle.pas_steps.specs.declared.step.Step.TheVariants.{Deed}
+use Rattle.pas_steps.specs.declared.step.{Made.Made, Step.TheVariants.Deed}
 use Rattle.pas_steps.proofs.Past.{always_map}
-use Rattle.pas_core.proofs.Deeds.{known_is}
-use Rattle.pas_core.proofs.OneActor.{LendsNone, lends_none, legal_before}
-use Rattle.pas_core.proofs.Rights.{deeds_known}
+use Rattle.pas_core.proofs.{Deeds.known_is, OneActor.LendsNone, OneActor.lends_none, OneActor.legal_before, Rights.deeds_known}
 use Rattle.pas_scan.specs.Runs.{IsInRun}
 use Rattle.pas_search.specs.Kinds.{ReturnsDuly}
-use Rattle.pas_large.specs.Evidence.{HasFailed}
-use Rattle.pas_large.specs.Finds.{MayFind, FoundRun, finding}
-use Rattle.pas_large.specs.Telling.{IsUsablePage, IsLowestRun}
+use Rattle.pas_large.specs.{Evidence.HasFailed, Finds.MayFind, Finds.FoundRun, Finds.finding, Telling.IsUsablePage, Telling.IsLowestRun}
 use Rattle.pas_large.proofs.Outcomes.{MadeOf}
 use Rattle.pas_same_text.proofs.PagesRead.{usable_was, lost_never, bad_never}
 

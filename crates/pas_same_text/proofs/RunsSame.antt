@@ -1,31 +1,23 @@
 -- WHICH PAGES MAY BE ONE OF A RUN, and which run the text gives: those of a replay, whenever all actors are at rest.
 use Rattle.std.proofs.Common.{◌≡◌, ℕ, ◌+◌, ◌-◌, ◌<◌, ◌≤◌, nat_le, Bool, true, false, if◌then◌else◌, Option, None, Some, inl, inr, refl, ap, sym, ◌∙◌, arith}
 use Rattle.std.proofs.lemmas.Bool.{or_cases, or_left, or_right, and_from, false_from_ne_true}
-use Rattle.std.proofs.lemmas.Bool.Decides.{nat_tests}
-use Rattle.std.proofs.lemmas.Option.{same_Some}
-use Rattle.pas_profile.specs.Directories.{number_of}
-use Rattle.pas_profile.specs.Profiles.{IsValid, IsPage, IsDirectoryOf}
-use Rattle.pas_profile.specs.declared.directory.Directory.{Directory}
-use Rattle.pas_profile.specs.declared.profile.Profile.{Profile}
+use Rattle.std.proofs.lemmas.{Bool.Decides.nat_tests, Option.same_Some}
+use Rattle.pas_profile.specs.{Directories.number_of, Profiles.IsValid, Profiles.IsPage, Profiles.IsDirectoryOf}
+use Rattle.pas_profile.specs.declared.{directory.Directory.Directory, profile.Profile.Profile}
 use Rattle.pas_profile.proofs.Codecs.{deed_word_of-positive}
 use Rattle.pas_machine.specs.State.{deed_in}
 use Rattle.pas_steps.specs.Lists.{Whole}
 use Rattle.pas_core.specs.Rights.{eligible_bit}
-use Rattle.pas_core.proofs.Deeds.{deed_has_page}
-use Rattle.pas_core.proofs.OneActor.{offered_deed}
+use Rattle.pas_core.proofs.{Deeds.deed_has_page, OneActor.offered_deed}
 use Rattle.pas_large.specs.Telling.{IsWholePage, IsUsablePage, IsUsableRun, HasNoUsableRun, IsLowestRun, IsNamedWhole}
 use Rattle.pas_answers.specs.Answers.{Progress}
-use Rattle.pas_one_text.specs.State.{World}
-use Rattle.pas_one_text.specs.Indexes.{named_first}
+use Rattle.pas_one_text.specs.{State.World, Indexes.named_first}
 use Rattle.pas_one_text.specs.Pages.{each_of, is_unowned, is_free, is_empty, is_offered}
 use Rattle.pas_one_text.specs.Runs.{large_of, is_whole, is_usable, if_whole, named_run, is_run, lowest_run}
-use Rattle.pas_same_text.specs.Same.{HasSame, ArePagesSame}
-use Rattle.pas_same_text.specs.Acts.{IsBetween}
-use Rattle.pas_same_text.proofs.FreeGrains.{read_unless}
-use Rattle.pas_same_text.proofs.GivenBack.{each_at, each_all}
+use Rattle.pas_same_text.specs.{Same.HasSame, Same.ArePagesSame, Acts.IsBetween}
+use Rattle.pas_same_text.proofs.{FreeGrains.read_unless, GivenBack.each_at, GivenBack.each_all, SearchedPages.find_first, SearchedPages.find_none}
+use Rattle.pas_same_text.proofs.{Tests.and_first, Tests.and_second}
 use Rattle.pas_same_text.proofs.RestingPages.{open_unguarded, had_open, owned_is, no_word, unowned_by}
-use Rattle.pas_same_text.proofs.SearchedPages.{find_first, find_none}
-use Rattle.pas_same_text.proofs.Tests.{and_first, and_second}
 
 -- the run that an index names, where it is whole
 whole_at : (w : World) (heap n x first : ℕ) (t : Bool) → each_of x n (is_whole w heap) ≡ t → (if t then Some x else None) ≡ Some first → (x ≡ first) × (each_of first n (is_whole w heap) ≡ true)

@@ -1,9 +1,7 @@
 -- THE INDEXES: each act changes those of the text as it changes those of a replay.
 use Rattle.std.proofs.Common.{◌≡◌, ℕ, zero, suc, ◌+◌, ◌/◌, nat_le, Bool, true, false, if◌then◌else◌, List, [], ◌∷◌, map, Option, None, Some, refl, ap, ◌∙◌}
 use Rattle.pas_profile.specs.Requests.{route_in, room_in}
-use Rattle.pas_profile.specs.declared.directory.Route.{Route}
-use Rattle.pas_profile.specs.declared.name.Block.{Block}
-use Rattle.pas_profile.specs.declared.profile.Profile.{Profile}
+use Rattle.pas_profile.specs.declared.{directory.Route.Route, name.Block.Block, profile.Profile.Profile}
 use Rattle.pas_large.specs.Doors.{Indexes, no_ranges}
 use Rattle.pas_large_index.specs.declared.span.Span.{Span}
 use Rattle.pas_free_log.specs.Logs.{entry_of, sized_entry}
@@ -14,18 +12,14 @@ use Rattle.pas_answers.specs.Answers.{Progress, Named, standing_for, suits, requ
 use Rattle.pas_answers.specs.Indexes.{unless_suited, request_made, request_by, after_request, after_operation, with_noted, indexes_after}
 use Rattle.pas_answers.specs.Calls.{block_behind}
 use Rattle.pas_one_text.specs.State.{World, Guard, each, cache_of, locals_of, noted_of, set_noted}
-use Rattle.pas_one_text.specs.Pages.{minds}
-use Rattle.pas_one_text.specs.Searches.{searched}
-use Rattle.pas_one_text.specs.Indexes.{indexes_run, loses_named}
-use Rattle.pas_one_text.specs.Classes.{is_for}
+use Rattle.pas_one_text.specs.{Pages.minds, Searches.searched, Indexes.indexes_run, Indexes.loses_named, Classes.is_for, Guards.guards_of, Guards.without_guard}
+use Rattle.pas_one_text.specs.{Guards.lowers, Frees.flushes, Frees.stops, Frees.logs, Passes.passes, Passes.stops_idle}
 use Rattle.pas_one_text.specs.Runs.{bitfit_of, lowest_place, serves_run, run_or, named_run, lowest_run}
-use Rattle.pas_one_text.specs.Guards.{guards_of, without_guard, lowers}
-use Rattle.pas_one_text.specs.Frees.{flushes, stops, logs}
 use Rattle.pas_one_text.specs.Order.{serves, keeps_block, logs_replaced, replaces, remakes, operates, acts_on, opened}
-use Rattle.pas_one_text.specs.Passes.{passes, stops_idle}
 use Rattle.std.specs.List.{find}
 use Rattle.pas_same_text.specs.Acts.{IsTaken, HandsOnOwn, KeepsIndexes}
-use Rattle.pas_same_text.proofs.StillIndexes.{same_indexes, minds_keep, flushes_keep, stops_keep, idle_keeps, logs_keep, frees_keep, what_keeps, class_keeps, places_keep, run_keeps, pass_keeps}
+use Rattle.pas_same_text.proofs.StillIndexes.{same_indexes, minds_keep, flushes_keep, stops_keep, idle_keeps, logs_keep, frees_keep, what_keeps, class_keeps}
+use Rattle.pas_same_text.proofs.StillIndexes.{places_keep, run_keeps, pass_keeps}
 
 -- a request takes out what was named for it
 pub request_indexes : (f : Profile) (k name heap : ℕ) (route : Route) (room align : ℕ) (w : World) → (serves f k name heap route room align w).indexes ≡ after_request route heap (room / 4096) w.indexes

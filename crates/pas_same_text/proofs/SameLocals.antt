@@ -1,15 +1,13 @@
 -- Local allocators of a cache, in the text and in a replay: one is looked up, taken out, put at the end, and gives its lowest slot.
-use Rattle.std.proofs.Common.{◌≡◌, ℕ, ◌<◌, ◌≢◌, ◌==◌, Bool, true, false, not, ◌&&◌, ◌||◌, if◌then◌else◌, List, [], ◌∷◌, ◌++◌, Option, Some, inl, inr, refl, ap, sym, ◌∙◌, subst, arith}
-use Rattle.std.proofs.lemmas.Bool.{eq-eqb, eqb-true, ne_eqb, eqb-false, false≢true, or_cases, or_left, false_from_ne_true}
+use Rattle.std.proofs.Common.{◌≡◌, ℕ, ◌<◌, ◌≢◌, ◌==◌, Bool, true, false, not, ◌&&◌, ◌||◌, if◌then◌else◌, List, [], ◌∷◌, ◌++◌, Option, Some, inl, inr, refl, ap}
+use Rattle.std.proofs.Common.{sym, ◌∙◌, subst, arith, eq-eqb, eqb-true, ne_eqb}
+use Rattle.std.proofs.lemmas.Bool.{eqb-false, false≢true, or_cases, or_left, false_from_ne_true}
 use Rattle.std.proofs.lemmas.Option.{same_Some, none-some}
 use Rattle.std.specs.List.{AllByRecursion, find}
 use Rattle.pas_bits.specs.Masks.{is_set, IsLowestSet}
 use Rattle.pas_segregated.specs.declared.slots.Slots.{Slots}
-use Rattle.pas_cache.specs.Changes.{IsWithoutSlot}
-use Rattle.pas_cache.specs.Locals.{local_for, others_than}
-use Rattle.pas_cache.specs.Locals.{is_for as is_for_slots}
-use Rattle.pas_one_text.specs.State.{Local}
-use Rattle.pas_one_text.specs.Classes.{is_for, others}
+use Rattle.pas_cache.specs.{Changes.IsWithoutSlot, Locals.local_for, Locals.others_than, Locals.is_for as is_for_slots}
+use Rattle.pas_one_text.specs.{State.Local, Classes.is_for, Classes.others}
 use Rattle.pas_same_text.specs.Same.{IsSameLocal, AreSameLocals, has_number, IsRising}
 
 -- ---- looked up

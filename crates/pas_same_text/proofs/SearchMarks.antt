@@ -1,35 +1,22 @@
 -- WHAT A SEARCH DOES to hints and offers, where no other actor makes a step: it hints no page but one that was hinted, and offers none but one that was
 -- offered; the page on which it may make a deed, and which it may back, is apart.
-use Rattle.std.proofs.Common.{◌≡◌, ◌≢◌, ℕ, ◌+◌, ◌*◌, ◌/◌, ◌%◌, ◌<◌, ◌==◌, Bool, true, false, ◌&&◌, ◌||◌, if◌then◌else◌, List, [], ◌∷◌, ◌++◌, Option, None, Some, ◌⊎◌, inl, inr, refl, ap, sym, ◌∙◌, subst, arith}
-use Rattle.std.proofs.lemmas.Bool.{true≢false, false≢true, eqb-true, or_from, false_from_ne_true}
-use Rattle.std.proofs.lemmas.Option.{same_Some}
+use Rattle.std.proofs.Common.{◌≡◌, ◌≢◌, ℕ, ◌+◌, ◌*◌, ◌/◌, ◌%◌, ◌<◌, ◌==◌, Bool, true, false, ◌&&◌, ◌||◌, if◌then◌else◌, List, [], ◌∷◌, ◌++◌, Option, None, Some}
+use Rattle.std.proofs.Common.{◌⊎◌, inl, inr, refl, ap, sym, ◌∙◌, subst, arith, true≢false, eqb-true}
+use Rattle.std.proofs.lemmas.{Bool.false≢true, Bool.or_from, Bool.false_from_ne_true, Option.same_Some}
 use Rattle.pas_bits.specs.Bits.{has_bit}
-use Rattle.pas_profile.specs.Directories.{number_of, deed_word_of, deed_word_numbered}
-use Rattle.pas_profile.specs.Profiles.{IsDirectoryOf}
-use Rattle.pas_profile.specs.declared.directory.Directory.{Directory}
-use Rattle.pas_profile.specs.declared.event.Event.{Event}
-use Rattle.pas_profile.specs.declared.profile.Profile.{Profile}
-use Rattle.pas_profile.specs.declared.word.Word.TheVariants as Word
+use Rattle.pas_profile.specs.{Directories.number_of, Directories.deed_word_of, Directories.deed_word_numbered, Profiles.IsDirectoryOf}
+use Rattle.pas_profile.specs.declared.{directory.Directory.Directory, event.Event.Event, profile.Profile.Profile, word.Word.Word}
 use Rattle.pas_machine.specs.State.{backed_in, deed_in}
-use Rattle.pas_steps.specs.Desks.{triples}
-use Rattle.pas_steps.specs.Effects.{target, in_mask, free_word_at}
-use Rattle.pas_steps.specs.Events.{event_of, with_event}
+use Rattle.pas_steps.specs.{Desks.triples, Effects.target, Effects.in_mask, Effects.free_word_at, Events.event_of, Events.with_event, Kinds.kind_of}
+use Rattle.pas_steps.specs.{Kinds.is_in, Kinds.lending, Past.Once, Past.Always}
 use Rattle.pas_steps.specs.Evidence.{Readings, ReadsFree, ShowsHere, GetsRight, GetsHere}
-use Rattle.pas_steps.specs.Kinds.{kind_of, is_in, lending}
 use Rattle.pas_steps.specs.Lists.{Whole, part, word_after, visible, Legal}
-use Rattle.pas_steps.specs.Past.{Once, Always}
 use Rattle.pas_steps.specs.Views.{Stays, Gets, Puts, grain_move, held_after, holds, epoch_of}
-use Rattle.pas_steps.specs.declared.step.Made.{Made}
-use Rattle.pas_steps.specs.declared.step.Step.{Step}
+use Rattle.pas_steps.specs.declared.step.{Made.Made, Step.Step}
 use Rattle.pas_steps.specs.declared.step.Step.TheVariants.{Deed, Back, Take, Put, Give, End, EndSized}
 use Rattle.pas_steps.proofs.Past.{since_once}
-use Rattle.pas_core.specs.Good.{word_of_deed, word_of_backed}
-use Rattle.pas_core.specs.Hints.{IsEmptyBacked}
-use Rattle.pas_core.specs.Rights.{eligible_bit}
-use Rattle.pas_core.proofs.Deeds.{deed_of, number_told, backed_of}
-use Rattle.pas_core.proofs.Grains.{free_moved, free_step}
-use Rattle.pas_core.proofs.OneActor.{LendsNone}
-use Rattle.pas_core.proofs.Rights.{offered_has_deed}
+use Rattle.pas_core.specs.{Good.word_of_deed, Good.word_of_backed, Hints.IsEmptyBacked, Rights.eligible_bit}
+use Rattle.pas_core.proofs.{Deeds.deed_of, Deeds.number_told, Deeds.backed_of, Grains.free_moved, Grains.free_step, OneActor.LendsNone, Rights.offered_has_deed}
 use Rattle.pas_rights.specs.Looks.{ReadsBacked, ReadsAllFree, TakesNone, ReadsEmpty}
 use Rattle.pas_search.specs.Kinds.{IsReturnOf, ReturnsDuly, IsQuiet, IsDeedOrBack, EventsAt}
 use Rattle.pas_same_text.specs.Words.{free_bit}
@@ -172,7 +159,7 @@ module _ (f : Profile) (k : ℕ) (l : Whole) where
   quiet_or d page m epoch (inl quiet) = inl (quiet k epoch)
   quiet_or d page m epoch (inr own) = inr own
 
-  pub backed_same : (d : Directory) (page q : ℕ) (xs : List Made) → page ≢ q → EventsAt d page xs → backed_in (visible (triples k xs ++ l)) q ≡ backed_in (visible l) q
+  backed_same : (d : Directory) (page q : ℕ) (xs : List Made) → page ≢ q → EventsAt d page xs → backed_in (visible (triples k xs ++ l)) q ≡ backed_in (visible l) q
   backed_same d page q [] ne at = refl
   backed_same d page q (m ∷ xs) ne at =
       let epoch : ℕ = epoch_of (part k (triples k xs ++ l)) in

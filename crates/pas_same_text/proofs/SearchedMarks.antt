@@ -2,34 +2,23 @@
 use Rattle.std.proofs.Common.{◌≡◌, ◌≢◌, ℕ, ◌<◌, ◌==◌, true, false, List, [], ◌∷◌, ◌++◌, Some, ◌⊎◌, inl, inr, refl, ap, sym, ◌∙◌, subst}
 use Rattle.std.proofs.lemmas.Bool.{cases_eq}
 use Rattle.std.specs.List.{list_any}
-use Rattle.pas_profile.specs.Directories.{number_of}
-use Rattle.pas_profile.specs.Profiles.{IsValid, IsDirectoryOf}
-use Rattle.pas_profile.specs.declared.directory.Directory.{Directory}
-use Rattle.pas_profile.specs.declared.event.Event.{Event}
-use Rattle.pas_profile.specs.declared.profile.Profile.{Profile}
+use Rattle.pas_profile.specs.{Directories.number_of, Profiles.IsValid, Profiles.IsDirectoryOf}
+use Rattle.pas_profile.specs.declared.{directory.Directory.Directory, event.Event.Event, profile.Profile.Profile}
 use Rattle.pas_machine.specs.State.{deed_in}
-use Rattle.pas_steps.specs.Desks.{triples}
-use Rattle.pas_steps.specs.Evidence.{GetsHere}
-use Rattle.pas_steps.specs.Kinds.{Only}
-use Rattle.pas_steps.specs.Lists.{Whole, visible, Legal}
-use Rattle.pas_steps.specs.Past.{Once, Always}
+use Rattle.pas_steps.specs.{Desks.triples, Evidence.GetsHere, Kinds.Only, Lists.Whole, Lists.visible, Lists.Legal, Past.Once, Past.Always}
 use Rattle.pas_steps.specs.declared.step.Made.{Made}
 use Rattle.pas_steps.proofs.Sets.{same_truth}
 use Rattle.pas_core.specs.Rights.{empty_bit, eligible_bit}
-use Rattle.pas_core.proofs.Offers.{hinted_at_rest}
-use Rattle.pas_core.proofs.OneActor.{LendsNone, lends_none, legal_earlier}
-use Rattle.pas_core.proofs.Rights.{right_in_one_place}
+use Rattle.pas_core.proofs.{Offers.hinted_at_rest, OneActor.LendsNone, OneActor.lends_none, OneActor.legal_earlier, Rights.right_in_one_place}
 use Rattle.pas_search.specs.Kinds.{IsReturnOf, ReturnsDuly, EventsAt, AreSearch, searching}
 use Rattle.pas_cache.specs.Kinds.{allocating}
 use Rattle.pas_answers.specs.Answers.{Progress}
 use Rattle.pas_one_text.specs.State.{World}
 use Rattle.pas_one_text.specs.Pages.{is_free, is_hinted, is_guarded, is_offered}
-use Rattle.pas_same_text.specs.Same.{HasSame, ArePagesSame}
-use Rattle.pas_same_text.specs.Acts.{IsBetween}
-use Rattle.pas_same_text.proofs.GivenPages.{open_grows}
+use Rattle.pas_same_text.specs.{Same.HasSame, Same.ArePagesSame, Acts.IsBetween}
+use Rattle.pas_same_text.proofs.{GivenPages.open_grows, SearchMarks.hint_was, SearchMarks.was_offered, SearchMarks.own_bit}
 use Rattle.pas_same_text.proofs.GivingBack.{HintsPage, OffersPage, hinted_stays, hinted_by, offered_by}
 use Rattle.pas_same_text.proofs.RestingPages.{had_open, clear_of, deed_now, bit_tells, bit_offered, offered_bit}
-use Rattle.pas_same_text.proofs.SearchMarks.{hint_was, was_offered, own_bit}
 
 -- a page that the search offers was got
 pub offers_got : (q : ℕ) (xs : List Made) → Always ReturnsDuly xs → OffersPage q xs → Once (GetsHere q) xs

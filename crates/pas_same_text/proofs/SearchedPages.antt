@@ -1,31 +1,22 @@
 -- THE PAGE that a search finds is the one that the text finds.
-use Rattle.std.proofs.Common.{◌≡◌, ◌≢◌, ℕ, zero, suc, ◌+◌, ◌<◌, ◌≤◌, Bool, true, false, ◌&&◌, if◌then◌else◌, List, [], ◌∷◌, ◌++◌, Option, None, Some, Ok, Err, inl, inr, refl, ap, sym, ◌∙◌, arith}
-use Rattle.std.proofs.lemmas.Bool.{true≢false, cases_Bool, cases_eq}
+use Rattle.std.proofs.Common.{◌≡◌, ◌≢◌, ℕ, zero, suc, ◌+◌, ◌<◌, ◌≤◌, Bool, true, false, ◌&&◌, if◌then◌else◌, List, [], ◌∷◌, ◌++◌, Option, None, Some, Ok, Err}
+use Rattle.std.proofs.Common.{inl, inr, refl, ap, sym, ◌∙◌, arith, true≢false}
+use Rattle.std.proofs.{lemmas.Bool.cases_Bool, lemmas.Bool.cases_eq, Math.Bool.and-false}
 use Rattle.std.specs.List.{find}
-use Rattle.std.proofs.Math.Bool.{and-false}
-use Rattle.pas_profile.specs.Directories.{number_of}
-use Rattle.pas_profile.specs.Profiles.{IsPage}
-use Rattle.pas_profile.specs.declared.directory.Directory.{Directory}
-use Rattle.pas_profile.specs.declared.profile.Profile.{Profile}
-use Rattle.pas_profile.specs.declared.word.Word.TheVariants as Word
+use Rattle.pas_profile.specs.{Directories.number_of, Profiles.IsPage}
+use Rattle.pas_profile.specs.declared.{directory.Directory.Directory, profile.Profile.Profile, word.Word.Word}
 use Rattle.pas_machine.specs.State.{deed_in}
-use Rattle.pas_steps.specs.Desks.{triples}
-use Rattle.pas_steps.specs.Effects.{target}
-use Rattle.pas_steps.specs.Evidence.{Readings, Searched}
+use Rattle.pas_steps.specs.{Desks.triples, Effects.target, Evidence.Readings, Evidence.Searched, Past.Once, Views.has_right}
 use Rattle.pas_steps.specs.Lists.{Whole, part, word_after, Legal}
-use Rattle.pas_steps.specs.Past.{Once}
-use Rattle.pas_steps.specs.Views.{has_right}
 use Rattle.pas_steps.specs.declared.step.Made.{Made}
-use Rattle.pas_core.specs.Good.{word_of_deed}
-use Rattle.pas_core.specs.Rights.{eligible_bit, free_of_page}
+use Rattle.pas_core.specs.{Good.word_of_deed, Rights.eligible_bit, Rights.free_of_page}
 use Rattle.pas_core.proofs.OneActor.{unfit_entry, deed_quiet, deed_exit, deed_none, spot_same, zero_told, one_told, entry_lacks, legal_before, offered_deed}
 use Rattle.pas_core.proofs.Rights.{is_offered, spot_of, spotted, right_not_offered}
 use Rattle.pas_search.specs.Searches.{FromOffered, ByDeed, DeedMadeHere}
 use Rattle.pas_trace.specs.Acts.{numbers_from}
 use Rattle.pas_answers.specs.Answers.{Progress}
 use Rattle.pas_one_text.specs.State.{World}
-use Rattle.pas_one_text.specs.Pages.{page_numbers, is_none, is_unowned}
-use Rattle.pas_one_text.specs.Pages.{is_offered as is_offered_text}
+use Rattle.pas_one_text.specs.Pages.{page_numbers, is_none, is_unowned, is_offered as is_offered_text}
 use Rattle.pas_one_text.specs.Searches.{some_of, page_or, refusal, searched}
 use Rattle.pas_same_text.specs.Searched.{IsSearch}
 use Rattle.pas_same_text.proofs.RestingPages.{open_unguarded, had_open, owned_is, unowned_by}

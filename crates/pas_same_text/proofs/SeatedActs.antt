@@ -1,38 +1,28 @@
 -- EACH ACT KEEPS THE SEATS: only keepers have guards up after it, they cache nothing, and the outer pages stand beside their blocks and aren't backed.
-use Rattle.std.proofs.Common.{◌≡◌, ℕ, ◌==◌, Bool, true, false, if◌then◌else◌, List, [], ◌∷◌, ◌++◌, Option, None, Some, inl, inr, refl, ap, sym, ◌∙◌, subst, arith}
-use Rattle.std.proofs.lemmas.Bool.{false≢true, eq-eqb, eqb-true, ne_eqb}
+use Rattle.std.proofs.Common.{◌≡◌, ℕ, ◌==◌, Bool, true, false, if◌then◌else◌, List, [], ◌∷◌, ◌++◌, Option, None, Some, inl, inr, refl, ap, sym, ◌∙◌, subst}
+use Rattle.std.proofs.Common.{arith, eq-eqb, eqb-true, ne_eqb}
+use Rattle.std.proofs.lemmas.Bool.{false≢true}
 use Rattle.pas_profile.specs.Profiles.{IsValid}
-use Rattle.pas_profile.specs.declared.name.Block.{Block}
-use Rattle.pas_profile.specs.declared.profile.Profile.{Profile}
-use Rattle.pas_profile.specs.declared.word.Word.TheVariants as Word
+use Rattle.pas_profile.specs.declared.{name.Block.Block, profile.Profile.Profile, word.Word.Word}
 use Rattle.pas_machine.specs.State.{backed_in}
 use Rattle.pas_steps.specs.Desks.{made, triples}
 use Rattle.pas_steps.specs.Lists.{Whole, part, word_after, visible, Legal}
-use Rattle.pas_steps.specs.declared.step.Made.{Made}
-use Rattle.pas_steps.specs.declared.step.Step.TheVariants as Step
-use Rattle.pas_steps.proofs.Adding.{triples_append}
-use Rattle.pas_steps.proofs.Parts.{part_of_own}
-use Rattle.pas_core.proofs.Nexts.{agreed_steps}
-use Rattle.pas_core.proofs.OneActor.{legal_before, legal_earlier}
-use Rattle.pas_cache.specs.Contents.{Cached}
-use Rattle.pas_cache.specs.Serves.{pages_of}
+use Rattle.pas_steps.specs.declared.step.{Made.Made, Step.Step}
+use Rattle.pas_steps.proofs.{Adding.triples_append, Parts.part_of_own}
+use Rattle.pas_core.proofs.{Nexts.agreed_steps, OneActor.legal_before, OneActor.legal_earlier}
+use Rattle.pas_cache.specs.{Contents.Cached, Serves.pages_of}
 use Rattle.pas_report.specs.declared.record.Record.{Record}
-use Rattle.pas_guard.specs.Books.{is_outer, Each, FitsBook}
-use Rattle.pas_guard.specs.Keepers.{IsBeside}
+use Rattle.pas_guard.specs.{Books.is_outer, Books.Each, Books.FitsBook, Keepers.IsBeside}
 use Rattle.pas_guard.specs.declared.book.Guard.{Guard}
-use Rattle.pas_trace.specs.Acts.{Act, stepper_of}
-use Rattle.pas_trace.specs.Asked.{request_in}
-use Rattle.pas_trace.specs.EveryPlan.{IsThread}
-use Rattle.pas_trace.specs.declared.item.Request.{Request}
-use Rattle.pas_trace.specs.declared.plan.Op.{Op}
+use Rattle.pas_trace.specs.{Acts.Act, Acts.stepper_of, Asked.request_in, EveryPlan.IsThread}
+use Rattle.pas_trace.specs.declared.{item.Request.Request, plan.Op.Op}
 use Rattle.pas_answers.specs.Answers.{Books, Progress, with_book, wanted_by, epoch_look}
 use Rattle.pas_answers.specs.Guarding.{Tried, IsTried, IsLowered, after_trying, after_lowering}
 use Rattle.pas_answers.specs.Reaching.{AnswersOp, AnswersTried, AnswersGuarded, Advances}
 use Rattle.pas_same_text.specs.Acts.{AreResting, IsBetween}
 use Rattle.pas_same_text.specs.Seats.{IsThreadOf, IsKeeperOf, IsActOf, AreSeated}
 use Rattle.pas_same_text.proofs.KeepersRest.{others_bare, keeper_resting, swept_beside, swept_bare, raised_beside, raised_bare}
-use Rattle.pas_same_text.proofs.LowerActs.{swept_to}
-use Rattle.pas_same_text.proofs.Seats.{keeper_of, IsNoKeepers}
+use Rattle.pas_same_text.proofs.{LowerActs.swept_to, Seats.keeper_of, Seats.IsNoKeepers}
 
 -- ==== AN ACT of no keeper: one actor makes steps, and at most its cache changes
 pub record IsMoved (p p' : Progress) (j : ℕ) : Type 0 where
@@ -41,7 +31,7 @@ pub record IsMoved (p p' : Progress) (j : ℕ) : Type 0 where
   pub books : p'.books ≡ p.books
   pub others : (k : ℕ) → (k == j) ≡ false → p'.caches k ≡ p.caches k
 
-pub moved : (f : Profile) (act : Act) (p p' : Progress) → IsNoKeepers act → Advances f act p p' → IsMoved p p' (stepper_of act)
+moved : (f : Profile) (act : Act) (p p' : Progress) → IsNoKeepers act → Advances f act p p' → IsMoved p p' (stepper_of act)
 moved f (Act.Operates op) p p' own is = subst (λ (q : Progress). IsMoved p q op.actor) (sym is.2) (record { steps = is.0.steps; list = refl; books = refl; others = λ k ne. ap (λ (t : Bool). if t then is.0.cache else p.caches k) ne })
 moved f (Act.Guards keeper op) p p' own is = absurd own
 moved f (Act.Settles k) p p' own is = subst (λ (q : Progress). IsMoved p q k) (sym is) (record { steps = []; list = refl; books = refl; others = λ j ne. ap (λ (t : Bool). if t then record (p.caches k) { noted = [] } else p.caches j) ne })
@@ -105,7 +95,7 @@ module _ (f : Profile) (keeper : ℕ) (r : Request) (p : Progress) (t : Tried) (
   whole : Legal f (triples keeper (h.raised ++ h.swept) ++ p.list)
   whole = subst (λ (ms : List Made). Legal f (triples keeper ms ++ p.list)) h.steps_are legal
 
-  pub sweep_legal : Legal f (triples keeper h.swept ++ p.list)
+  sweep_legal : Legal f (triples keeper h.swept ++ p.list)
   sweep_legal = legal_earlier f keeper h.raised h.swept p.list whole
 
   -- after the sweep
@@ -159,7 +149,7 @@ tried_legal f op r (Some block) p p' is legal = subst (λ (q : Progress). Legal 
 tried_legal f op r None p p' is legal = list_before f op p p' is legal
 
 thread_no_keeper : (threads : ℕ) (f : Profile) (k : ℕ) → IsThreadOf threads k → IsKeeperOf threads f k → ⊥
-thread_no_keeper threads f k own keeps = let few = own.1 in let past = keeps.0 in omega (arith, few, past)
+thread_no_keeper threads f k own keeps = omega (arith, own.1, keeps.0)
 
 after_tried : (threads : ℕ) (f : Profile) (op : Op) (r : Request) (block : Option Block) (p p' : Progress) → IsValid f → IsThreadOf threads op.actor → IsBetween f p → AreSeated threads f p → AnswersTried f op r block p p' → Legal f p'.list → AreSeated threads f p'
 after_tried threads f op r (Some block) p p' valid own before seated is legal =
@@ -179,7 +169,7 @@ guarded_seats threads f keeper op (Some r) p p' valid keeps own before seated is
     after_tried threads f op r t.block midway p' valid own (record { legal = here; rest = rest }) tried is.2 legal
 
 zero_no_keeper : (threads : ℕ) (f : Profile) → IsKeeperOf threads f 0 → ⊥
-zero_no_keeper threads f keeps = let past = keeps.0 in omega (arith, past)
+zero_no_keeper threads f keeps = omega (arith, keeps.0)
 
 pub seated_next : (threads : ℕ) (f : Profile) (act : Act) (p p' : Progress) → IsValid f → IsActOf threads f act → IsBetween f p → AreSeated threads f p → Advances f act p p' → Legal f p'.list → AreSeated threads f p'
 seated_next threads f (Act.Operates op) p p' valid own before seated is legal = seated_moved threads f p p' op.actor valid before legal (thread_no_keeper threads f op.actor own) seated (moved f (Act.Operates op) p p' tt is)

@@ -1,31 +1,22 @@
 -- WHERE THREADS AND KEEPERS ARE AT REST with their caches and books, all actors of the region rest.
 use Rattle.std.proofs.Common.{◌≡◌, ℕ, ◌<◌, ◌≤◌, List, [], ◌⊎◌, inl, inr, refl, sym, ◌∙◌, subst, arith}
-use Rattle.std.proofs.lemmas.Bool.{cases_lt}
-use Rattle.std.proofs.lemmas.List.Elements.{All-nil}
-use Rattle.std.proofs.Math.Bool.{or-false}
+use Rattle.std.proofs.{lemmas.Bool.cases_lt, lemmas.List.Elements.All-nil, Math.Bool.or-false}
 use Rattle.pas_profile.specs.declared.profile.Profile.{Profile}
-use Rattle.pas_steps.specs.Lists.{part, Legal}
-use Rattle.pas_steps.specs.Views.{View}
+use Rattle.pas_steps.specs.{Lists.part, Lists.Legal, Views.View}
 use Rattle.pas_free_log.specs.Conditions.{IsEntryOf}
-use Rattle.pas_cache.specs.Caches.{AtRest}
-use Rattle.pas_cache.specs.Contents.{Cached}
-use Rattle.pas_cache.specs.Locals.{any_covers, IsLocal}
+use Rattle.pas_cache.specs.{Caches.AtRest, Contents.Cached, Locals.any_covers, Locals.IsLocal}
 use Rattle.pas_guard.specs.Books.{FitsBook}
 use Rattle.pas_guard.specs.declared.book.Guard.{Guard}
-use Rattle.pas_trace.specs.Acts.{Act}
-use Rattle.pas_trace.specs.EveryPlan.{IsThread}
-use Rattle.pas_answers.specs.Answers.{Progress}
-use Rattle.pas_answers.specs.Replays.{empty_cache}
-use Rattle.pas_answers.specs.Rests.{AreAtRest}
-use Rattle.pas_same_text.specs.Acts.{IsResting, AreResting, IsBetween}
-use Rattle.pas_same_text.specs.Seats.{IsThreadOf, IsKeeperOf, AreSeated}
+use Rattle.pas_trace.specs.{Acts.Act, EveryPlan.IsThread}
+use Rattle.pas_answers.specs.{Answers.Progress, Replays.empty_cache, Rests.AreAtRest}
+use Rattle.pas_same_text.specs.{Acts.IsResting, Acts.AreResting, Acts.IsBetween, Seats.IsThreadOf, Seats.IsKeeperOf, Seats.AreSeated}
 
 -- whoever acts is an actor of the region
 pub thread_of : (threads : ℕ) (f : Profile) (k : ℕ) → IsThreadOf threads k → threads ≤ f.threads → IsThread f k
-thread_of threads f k own few = let low = own.0 in let high = own.1 in (low, omega (arith, high, few))
+thread_of threads f k own few = let low = own.0 in (low, omega (arith, own.1, few))
 
 pub keeper_of : (threads : ℕ) (f : Profile) (k : ℕ) → IsKeeperOf threads f k → IsThread f k
-keeper_of threads f k keeps = let past = keeps.0 in (omega (arith, past), keeps.1)
+keeper_of threads f k keeps = (omega (arith, keeps.0), keeps.1)
 
 -- a thread at rest with its cache, which has no guard up, rests
 pub thread_rests : (f : Profile) (c : Cached) (v : View) → AtRest f c v → IsResting f c [] v
@@ -85,13 +76,13 @@ module _ (threads : ℕ) (f : Profile) (p : Progress) (rest : AreAtRest threads 
   working k is (inl keeps) =
       subst (λ (c : Cached). IsResting f c (p.books k) (part k p.list)) (sym (seated.uncached k (keeps, is.1))) (keeper_rests f (p.books k) (part k p.list) (rest.keeping k (keeps, is.1)))
   working k is (inr works) =
-      let none : p.books k ≡ [] = seated.unbooked k (λ keeper. let past = keeper.0 in omega (arith, past, works)) in
+      let none : p.books k ≡ [] = seated.unbooked k (λ keeper. omega (arith, keeper.0, works)) in
       subst (λ (gs : List Guard). IsResting f (p.caches k) gs (part k p.list)) (sym none) (thread_rests f (p.caches k) (part k p.list) (rest.working k (is.0, works)))
 
   resting_from : AreResting f p.caches p.books p.list
   resting_from = record {
     working = λ k is. working k is (cases_lt threads k);
-    none = λ k other. seated.unbooked k (λ keeper. let past = keeper.0 in other (omega (arith, past), keeper.1));
+    none = λ k other. seated.unbooked k (λ keeper. other (omega (arith, keeper.0), keeper.1));
     beside = seated.beside;
     bare = seated.bare;
     scavenger = rest.scavenger;

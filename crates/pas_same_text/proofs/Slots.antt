@@ -1,12 +1,10 @@
 -- Which grains the caches have, in the text and in a replay.
-use Rattle.std.proofs.Common.{◌≡◌, ℕ, ◌+◌, ◌-◌, ◌*◌, ◌/◌, ◌%◌, ◌<◌, ◌≤◌, ◌≢◌, ◌==◌, Bool, true, false, ◌&&◌, ◌||◌, if◌then◌else◌, List, [], ◌∷◌, ◌++◌, length, ◌⊎◌, inl, inr, refl, ap, sym, ◌∙◌, arith}
-use Rattle.std.specs.Prelude.{All}
-use Rattle.std.proofs.lemmas.Bool.{ne_eqb, false≢true, or_cases, or_left, or_right}
-use Rattle.std.proofs.lemmas.List.Elements.{All-head, All-tail}
-use Rattle.std.proofs.lemmas.List.Folds.{list_any-append}
+use Rattle.std.proofs.Common.{◌≡◌, ℕ, ◌+◌, ◌-◌, ◌*◌, ◌/◌, ◌%◌, ◌<◌, ◌≤◌, ◌≢◌, ◌==◌, Bool, true, false, ◌&&◌, ◌||◌, if◌then◌else◌, List, [], ◌∷◌, ◌++◌, length}
+use Rattle.std.proofs.Common.{◌⊎◌, inl, inr, refl, ap, sym, ◌∙◌, arith, All, ne_eqb}
+use Rattle.std.proofs.lemmas.Bool.{false≢true, or_cases, or_left, or_right}
+use Rattle.std.proofs.lemmas.List.{Elements.All-head, Elements.All-tail, Folds.list_any-append}
 use Rattle.std.specs.List.{list_any, filter}
-use Rattle.pas_bits.specs.Masks.{is_set}
-use Rattle.pas_bits.specs.Runs.{in_run}
+use Rattle.pas_bits.specs.{Masks.is_set, Runs.in_run}
 use Rattle.pas_bits.proofs.Runs.{run_of, to_run}
 use Rattle.pas_profile.specs.Classes.{class_grains, IsClass}
 use Rattle.pas_profile.specs.declared.profile.Profile.{Profile}
@@ -16,8 +14,7 @@ use Rattle.pas_segregated.specs.Masks.{AreStarts, start_of}
 use Rattle.pas_segregated.specs.declared.slots.Slots.{Slots}
 use Rattle.pas_segregated.proofs.Starts.{start_at, start_below}
 use Rattle.pas_cache.specs.Locals.{IsLocal, any_covers, covers}
-use Rattle.pas_one_text.specs.State.{Local, Cache, cache_in}
-use Rattle.pas_one_text.specs.Pages.{is_cached}
+use Rattle.pas_one_text.specs.{State.Local, State.Cache, State.cache_in, Pages.is_cached}
 use Rattle.pas_same_text.specs.Same.{IsSameLocal, AreSameLocals}
 use Rattle.pas_same_text.proofs.CacheLists.{all_locals}
 use Rattle.pas_same_text.proofs.Tests.{IsFound, found, passed, any_filtered, filtered_any, on_page}
@@ -50,7 +47,7 @@ module _ (s : Slots) (l : Local) (b : ℕ) (same : IsSameLocal s l) (is : IsClas
 grain_of : (page b : ℕ) → b < 256 → (256 * page + b) % 256 ≡ b
 grain_of page b small = omega (arith, small)
 
-pub grain_same : (s : Slots) (l : Local) (page b : ℕ) → b < 256 → IsSameLocal s l → IsClass s.class → AreStarts s.class s.starts → has_grain page b l ≡ covers s (256 * page + b)
+grain_same : (s : Slots) (l : Local) (page b : ℕ) → b < 256 → IsSameLocal s l → IsClass s.class → AreStarts s.class s.starts → has_grain page b l ≡ covers s (256 * page + b)
 grain_same s l page b small same is starts =
     ap (λ (q : ℕ). (q == page) && list_any (λ x. in_run x (class_grains l.class) b) l.slots) same.page
     ∙ (ap (λ (t : Bool). (s.page == page) && t) (slots_same s l b same is starts)

@@ -3,21 +3,15 @@ use Rattle.std.proofs.Common.{◌≡◌, ℕ, max, List, [], ◌∷◌, ◌++◌
 use Rattle.std.proofs.lemmas.Grind.{reverse_onto}
 use Rattle.pas_profile.specs.declared.profile.Profile.{Profile}
 use Rattle.pas_profile.specs.declared.word.Word.TheVariants as TheWord
-use Rattle.pas_steps.specs.Lists.{word_after, Legal}
-use Rattle.pas_steps.specs.Desks.{made, triple}
+use Rattle.pas_steps.specs.{Lists.word_after, Lists.Legal, Desks.made, Desks.triple}
 use Rattle.pas_steps.specs.declared.step.Step.TheVariants.{Look, Tick}
 use Rattle.pas_free_log.specs.declared.noting.EndedRun.{EndedRun}
-use Rattle.pas_report.specs.declared.record.Record.{Record}
-use Rattle.pas_report.specs.declared.record.Said.TheVariants as Said
-use Rattle.pas_trace.specs.Acts.{Act}
-use Rattle.pas_trace.specs.EveryPlan.{IsThread}
+use Rattle.pas_report.specs.declared.record.{Record.Record, Said.Said}
+use Rattle.pas_trace.specs.{Acts.Act, EveryPlan.IsThread}
 use Rattle.pas_answers.specs.Answers.{Progress, with_records, begun, settled, after_settling, after_wake, after_reading, after_tick}
 use Rattle.pas_one_text.specs.State.{World, Cache, each, cache_of, set_cache, set_noted, noted_of, says}
-use Rattle.pas_one_text.specs.Indexes.{indexes_run, settles}
-use Rattle.pas_one_text.specs.Order.{begins}
-use Rattle.pas_one_text.specs.Passes.{ticks, reads_epoch}
-use Rattle.pas_same_text.specs.Same.{IsSame, IsSameCache}
-use Rattle.pas_same_text.specs.Acts.{StaysSame}
+use Rattle.pas_one_text.specs.{Indexes.indexes_run, Indexes.settles, Order.begins, Passes.ticks, Passes.reads_epoch}
+use Rattle.pas_same_text.specs.{Same.IsSame, Same.IsSameCache, Acts.StaysSame}
 use Rattle.pas_same_text.proofs.CacheLists.{locals_with, same_with}
 use Rattle.pas_same_text.proofs.Frames.{unchanged, look_word, look_pages, tick_pages, HaveSameState, pages_next}
 

@@ -1,38 +1,25 @@
 -- A KEEPER'S SEARCH for a run whose outer pages aren't backed, where no other actor makes a step: which runs failed in it, and of which pages it made deeds.
-use Rattle.std.proofs.Common.{◌≡◌, ◌≢◌, ℕ, ◌+◌, ◌*◌, ◌/◌, ◌≤◌, ◌==◌, Bool, true, false, if◌then◌else◌, List, [], ◌∷◌, ◌++◌, ◌⊎◌, inl, inr, refl, ap, sym, ◌∙◌, subst, arith}
-use Rattle.std.proofs.lemmas.Bool.{false≢true, eqb-true}
+use Rattle.std.proofs.Common.{◌≡◌, ◌≢◌, ℕ, ◌+◌, ◌*◌, ◌/◌, ◌≤◌, ◌==◌, Bool, true, false, if◌then◌else◌, List, [], ◌∷◌, ◌++◌, ◌⊎◌, inl, inr, refl, ap, sym, ◌∙◌}
+use Rattle.std.proofs.Common.{subst, arith, eqb-true}
+use Rattle.std.proofs.lemmas.Bool.{false≢true}
 use Rattle.std.specs.List.{AllByRecursion}
 use Rattle.pas_profile.specs.Profiles.{IsValid, IsPage, IsDirectoryOf}
-use Rattle.pas_profile.specs.declared.directory.Directory.{Directory}
-use Rattle.pas_profile.specs.declared.profile.Profile.{Profile}
-use Rattle.pas_profile.specs.declared.word.Word.TheVariants as Word
-use Rattle.pas_steps.specs.Desks.{triple, triples}
-use Rattle.pas_steps.specs.Effects.{target}
-use Rattle.pas_steps.specs.Kinds.{Only}
+use Rattle.pas_profile.specs.declared.{directory.Directory.Directory, profile.Profile.Profile, word.Word.Word}
+use Rattle.pas_steps.specs.{Desks.triple, Desks.triples, Effects.target, Kinds.Only, Past.Once, Past.Always, Views.View, Views.holds}
 use Rattle.pas_steps.specs.Lists.{Whole, part, word_after, Legal}
-use Rattle.pas_steps.specs.Past.{Once, Always}
-use Rattle.pas_steps.specs.Views.{View, holds}
-use Rattle.pas_steps.specs.declared.step.Made.{Made}
-use Rattle.pas_steps.specs.declared.step.Step.{Step}
-use Rattle.pas_steps.specs.declared.step.Step.TheVariants.{Look, Deed}
+use Rattle.pas_steps.specs.declared.step.{Made.Made, Step.Step, Step.TheVariants.Look, Step.TheVariants.Deed}
 use Rattle.pas_steps.proofs.Parts.{part_of_own}
-use Rattle.pas_core.proofs.Deeds.{deed_has_page, deed_kept}
+use Rattle.pas_core.proofs.{Deeds.deed_has_page, Deeds.deed_kept, Rights.free_without_deed}
 use Rattle.pas_core.proofs.OneActor.{LendsNone, lends_none, deed_none, legal_before}
-use Rattle.pas_core.proofs.Rights.{free_without_deed}
 use Rattle.pas_scan.specs.Runs.{IsInRun}
 use Rattle.pas_search.specs.Kinds.{ReturnsDuly}
-use Rattle.pas_large.specs.Evidence.{AllUsable, DeedsOf}
-use Rattle.pas_large.specs.Finds.{MayFind}
-use Rattle.pas_large.specs.Telling.{IsUsablePage, IsUsableRun}
+use Rattle.pas_large.specs.{Evidence.AllUsable, Evidence.DeedsOf, Finds.MayFind, Telling.IsUsablePage, Telling.IsUsableRun}
 use Rattle.pas_large.proofs.Outcomes.{MadeOf}
 use Rattle.pas_guard.specs.Evidence.{HoldsRunWhole, OuterBackedHere, IsBad, OuterFailsHere, HasFailedOnce}
 use Rattle.pas_guard.specs.Seeks.{seeking}
 use Rattle.pas_one_text.specs.Runs.{large_of}
-use Rattle.pas_same_text.proofs.GivingBack.{backed_stays}
-use Rattle.pas_same_text.proofs.PagesRead.{usable_was, bad_never}
-use Rattle.pas_same_text.proofs.RunEvents.{with_deed, deeded}
-use Rattle.pas_same_text.proofs.RunsFound.{lacks_usable, never_fails}
-use Rattle.pas_same_text.proofs.FreeGrains.{free_unheld}
+use Rattle.pas_same_text.proofs.{GivingBack.backed_stays, PagesRead.usable_was, PagesRead.bad_never, RunEvents.with_deed, RunEvents.deeded}
+use Rattle.pas_same_text.proofs.{RunsFound.lacks_usable, RunsFound.never_fails, FreeGrains.free_unheld}
 
 -- a page one of whose grains an actor holds has a deed
 pub held_deed : (f : Profile) (l : Whole) (k g : ℕ) → IsValid f → Legal f l → holds (part k l) g ≡ true → word_after l (Word.Deed (g / 256)) ≢ 0
@@ -72,7 +59,7 @@ module _ (f : Profile) (k heap n : ℕ) (l : Whole) (valid : IsValid f) (of : Is
     whole_region =
         let low : IsPage f first = deed_has_page f (triples k xs ++ l) legal first (whole_deed first (omega arith, omega arith)) in
         let high : IsPage f (first + n + 1) = deed_has_page f (triples k xs ++ l) legal (first + n + 1) (whole_deed (first + n + 1) (omega arith, omega arith)) in
-        let a = low.0 in let b = high.1 in (a, omega (arith, b))
+        let a = low.0 in (a, omega (arith, high.1))
 
   all_usable : (xs : List Made) → Legal f (triples k xs ++ l) → LendsNone xs → Always ReturnsDuly xs → (first : ℕ) → AllUsable d (n + 2) first xs → IsUsableRun d (n + 2) l first
   all_usable xs legal lends due first usable q here = usable_was f k l d q xs of.kind legal lends due (usable q here)
@@ -86,9 +73,6 @@ module _ (f : Profile) (k heap n : ℕ) (l : Whole) (valid : IsValid f) (of : Is
   module _ (xs : List Made) (legal : Legal f (triples k xs ++ l)) (kinds : Only seeking xs) (due : Always ReturnsDuly xs) where
     lends : LendsNone xs
     lends = lends_none seeking refl xs kinds
-
-    start : Legal f l
-    start = legal_before f k xs l legal
 
     pub failed_run : (first : ℕ) → HasFailedOnce (part k l) d n first xs → IsRunOf f heap n l first
     failed_run first (inl h) = absurd (never_fails f k l d (n + 2) of met first xs legal lends due h)

@@ -3,8 +3,7 @@ use Rattle.std.proofs.Common.{◌≡◌, ℕ, zero, suc, ◌+◌, ◌*◌, ◌<�
 use Rattle.std.proofs.lemmas.Bool.{false≢true, or_cases, or_left, or_right}
 use Rattle.std.proofs.Math.Nat.{suc-mul}
 use Rattle.std.specs.List.{list_any, filter}
-use Rattle.pas_one_text.specs.Searches.{some_of}
-use Rattle.pas_one_text.specs.Classes.{spaced}
+use Rattle.pas_one_text.specs.{Searches.some_of, Classes.spaced}
 
 -- some one passes the test
 pub some_first : (xs : List ℕ) → some_of (take 1 xs) ≡ some_of xs
@@ -35,9 +34,8 @@ from_spaced test (suc n) from step h = elim (or_cases (test from) (list_any test
   | inl here ↦ (0, omega arith, ap test (omega arith) ∙ here)
   | inr later ↦
       let o = from_spaced test n (from + step) step later in
-      let lt = o.1 in
       let m = suc-mul o.0 step in
-      (suc o.0, omega (arith, lt), ap test (omega (arith, m)) ∙ o.2)
+      (suc o.0, omega (arith, o.1), ap test (omega (arith, m)) ∙ o.2)
 ]
 
 -- the first that passes, where the i-th does and none before it

@@ -1,18 +1,15 @@
 -- Between two acts each page where a block ended is stamped, so its stamp is the greatest epoch of an end there.
-use Rattle.std.proofs.Common.{◌≡◌, ℕ, ◌==◌, Bool, true, false, if◌then◌else◌, [], ◌∷◌, refl, ap, subst}
-use Rattle.std.proofs.lemmas.Bool.{eqb-true}
+use Rattle.std.proofs.Common.{◌≡◌, ℕ, ◌==◌, Bool, true, false, if◌then◌else◌, [], ◌∷◌, refl, ap, subst, eqb-true}
 use Rattle.pas_profile.specs.Profiles.{IsValid}
 use Rattle.pas_profile.specs.declared.profile.Profile.{Profile}
-use Rattle.pas_steps.specs.Lists.{Whole, part}
-use Rattle.pas_steps.specs.Views.{View}
+use Rattle.pas_steps.specs.{Lists.Whole, Lists.part, Views.View}
 use Rattle.pas_steps.specs.declared.step.Made.{Made}
 use Rattle.pas_core.specs.Stamps.{KeepsToEnds, AllKeepToEnds}
 use Rattle.pas_core.proofs.Stamps.{stamps_are_ends}
 use Rattle.pas_report.specs.Rests.{AreStamped}
 use Rattle.pas_trace.specs.Acts.{Act}
 use Rattle.pas_answers.specs.Answers.{Progress}
-use Rattle.pas_answers.proofs.Consequences.{act_tidy, parts_kept}
-use Rattle.pas_answers.proofs.Tidy.{KeptPart, Tidy}
+use Rattle.pas_answers.proofs.{Consequences.act_tidy, Consequences.parts_kept, Tidy.KeptPart, Tidy.Tidy}
 use Rattle.pas_same_text.specs.Acts.{IsBetween, AreEndsStamped, KeepsStamped}
 
 -- ---- the parts of the actors

@@ -1,22 +1,14 @@
 -- WHAT STAYS IN THE TEXT: what changes no index and no guard.
-use Rattle.std.proofs.Common.{◌≡◌, ℕ, ◌+◌, ◌*◌, ◌%◌, ◌/◌, ◌==◌, nat_le, nat_lt, Bool, true, false, ◌&&◌, if◌then◌else◌, List, [], ◌∷◌, length, Option, None, Some, Result, Ok, Err, refl, ap, ◌∙◌}
-use Rattle.pas_profile.specs.Blocks.{address_of}
-use Rattle.pas_profile.specs.Requests.{class_home, is_shared}
-use Rattle.pas_profile.specs.declared.directory.Directory.{Directory}
-use Rattle.pas_profile.specs.declared.event.Event.{Event}
-use Rattle.pas_profile.specs.declared.event.FreeFault.{FreeFault}
-use Rattle.pas_profile.specs.declared.event.NoRoom.{NoRoom}
-use Rattle.pas_profile.specs.declared.event.Outcome.{Outcome}
-use Rattle.pas_profile.specs.declared.event.Why.{Why}
-use Rattle.pas_profile.specs.declared.name.Block.{Block}
-use Rattle.pas_profile.specs.declared.name.Name.{Name}
-use Rattle.pas_profile.specs.declared.profile.Profile.{Profile}
+use Rattle.std.proofs.Common.{◌≡◌, ℕ, ◌+◌, ◌*◌, ◌%◌, ◌/◌, ◌==◌, nat_le, nat_lt, Bool, true, false, ◌&&◌, if◌then◌else◌, List, [], ◌∷◌, length, Option, None}
+use Rattle.std.proofs.Common.{Some, Result, Ok, Err, refl, ap, ◌∙◌}
+use Rattle.pas_profile.specs.{Blocks.address_of, Requests.class_home, Requests.is_shared}
+use Rattle.pas_profile.specs.declared.{directory.Directory.Directory, event.Event.Event, event.FreeFault.FreeFault, event.NoRoom.NoRoom, event.Outcome.Outcome}
+use Rattle.pas_profile.specs.declared.{event.Why.Why, name.Block.Block, name.Name.Name, profile.Profile.Profile}
 use Rattle.pas_machine.specs.State.{backed_in}
 use Rattle.pas_large_index.specs.declared.span.Span.{Span}
 use Rattle.pas_free_log.specs.Logs.{sized_entry}
 use Rattle.pas_free_log.specs.declared.log.Entry.{Entry}
-use Rattle.pas_report.specs.declared.record.Record.{Record}
-use Rattle.pas_report.specs.declared.record.Said.{Said}
+use Rattle.pas_report.specs.declared.record.{Record.Record, Said.Said}
 use Rattle.pas_trace.specs.Acts.{numbers_from}
 use Rattle.pas_one_text.specs.State.{World, Guard, Local, each, shows, says, block_at, locals_of, log_of, set_log, set_locals}
 use Rattle.pas_one_text.specs.Pages.{page_numbers, is_empty, is_unowned, is_hinted, hints, minds}
@@ -24,7 +16,8 @@ use Rattle.pas_one_text.specs.Searches.{some_of, searched, deeds, backs, readies
 use Rattle.pas_one_text.specs.Indexes.{notes}
 use Rattle.pas_one_text.specs.Classes.{slots_for, gives_up, gives_up_first, gives_first, local_on, takes_page, fetches, makes_place, serves_class_by, others}
 use Rattle.pas_one_text.specs.Runs.{bitfit_of, large_of, lowest_place, gives_place, places, serves_run}
-use Rattle.pas_one_text.specs.Frees.{pages_of, reason, is_other_room, ends_block, rejects, ends_if, takes_effect, ends, flushes, stops, logs, refuses_free, frees, frees_what}
+use Rattle.pas_one_text.specs.Frees.{pages_of, reason, is_other_room, ends_block, rejects, ends_if, takes_effect, ends, flushes, stops, logs, refuses_free}
+use Rattle.pas_one_text.specs.Frees.{frees, frees_what}
 use Rattle.pas_one_text.specs.Passes.{outcome_of, comes_to, examines, passes}
 use Rattle.std.specs.List.{filter}
 
@@ -66,7 +59,7 @@ effect_keeps f k entry (Some b) w = either (b.name.turn == entry.name.turn) (end
     (either (is_other_room entry b) (rejects k entry.name (Why.SizeDiffers entry.room) w) (ends_block f k entry.name b w) (still w) refl (block_keeps f k entry.name b w)) refl
 effect_keeps f k entry None w = refl
 
-pub ends_keep : (f : Profile) (k : ℕ) (entry : Entry) (w : World) → still (ends f k entry w) ≡ still w
+ends_keep : (f : Profile) (k : ℕ) (entry : Entry) (w : World) → still (ends f k entry w) ≡ still w
 ends_keep f k entry w = effect_keeps f k entry (block_at w (address_of entry.name)) w
 
 pub flushes_keep : (f : Profile) (k : ℕ) (w : World) → still (flushes f k w) ≡ still w
@@ -97,16 +90,16 @@ what_keeps f k name room (Some None) w = refl
 what_keeps f k name room None w = refl
 
 -- ---- requests
-pub deeds_keep : (k : ℕ) (d : Directory) (page : ℕ) (w : World) → still (deeds k d page w) ≡ still w
+deeds_keep : (k : ℕ) (d : Directory) (page : ℕ) (w : World) → still (deeds k d page w) ≡ still w
 deeds_keep k d page w = either (is_unowned w page) (shows (Event.Deed k page d) w) w (still w) refl refl
 
 pub backs_keep : (k page : ℕ) (w : World) → still (backs k page w) ≡ still w
 backs_keep k page w = either (backed_in w.events page) w (shows (Event.Back k page) w) (still w) refl refl
 
-pub readies_keep : (k : ℕ) (d : Directory) (page : ℕ) (w : World) → still (readies k d page w) ≡ still w
+readies_keep : (k : ℕ) (d : Directory) (page : ℕ) (w : World) → still (readies k d page w) ≡ still w
 readies_keep k d page w = backs_keep k page (deeds k d page w) ∙ deeds_keep k d page w
 
-pub first_keeps : (k name : ℕ) (l : Local) (slots : List ℕ) (w : World) → still (gives_first k name l slots w) ≡ still w
+first_keeps : (k name : ℕ) (l : Local) (slots : List ℕ) (w : World) → still (gives_first k name l slots w) ≡ still w
 first_keeps k name l [] w = refl
 first_keeps k name l (s ∷ rest) w = refl
 
@@ -127,7 +120,7 @@ class_keeps f k name heap class None w = fetches_keep f k name heap class (makes
 class_keeps f k name heap class (Some l) w =
     either (some_of l.slots) (gives_first k name l l.slots w) (fetches f k name heap class (gives_up k l w)) (still w) (first_keeps k name l l.slots w) (fetches_keep f k name heap class (gives_up k l w) ∙ given_up_keeps k l w)
 
-pub place_keeps : (k name heap room page : ℕ) (slots : List ℕ) (w : World) → still (gives_place k name heap room page slots w) ≡ still w
+place_keeps : (k name heap room page : ℕ) (slots : List ℕ) (w : World) → still (gives_place k name heap room page slots w) ≡ still w
 place_keeps k name heap room page [] w = refl
 place_keeps k name heap room page (s ∷ more) w = refl
 

@@ -1,65 +1,39 @@
 -- STOPS: a flush, and then all local allocators of the cache go.
-use Rattle.std.proofs.Common.{◌≡◌, ℕ, ◌+◌, ◌*◌, ◌/◌, ◌%◌, ◌<◌, ◌≤◌, ◌==◌, Bool, true, false, not, ◌&&◌, if◌then◌else◌, List, [], ◌∷◌, ◌++◌, map, ◌⊎◌, inl, inr, refl, ap, sym, ◌∙◌, subst, arith}
-use Rattle.std.specs.Prelude.{All}
-use Rattle.std.proofs.lemmas.Bool.{false≢true, eq-eqb, eqb-true, or_left, or_right}
-use Rattle.std.proofs.lemmas.Bool.Decides.{nat_tests}
-use Rattle.std.proofs.lemmas.List.Elements.{All-head, All-tail}
+use Rattle.std.proofs.Common.{◌≡◌, ℕ, ◌+◌, ◌*◌, ◌/◌, ◌%◌, ◌<◌, ◌≤◌, ◌==◌, Bool, true, false, not, ◌&&◌, if◌then◌else◌, List, [], ◌∷◌, ◌++◌, map, ◌⊎◌, inl, inr}
+use Rattle.std.proofs.Common.{refl, ap, sym, ◌∙◌, subst, arith, All, eq-eqb, eqb-true}
+use Rattle.std.proofs.lemmas.{Bool.false≢true, Bool.or_left, Bool.or_right, Bool.Decides.nat_tests, List.Elements.All-head, List.Elements.All-tail}
 use Rattle.pas_bits.specs.Masks.{is_set, HasMember}
-use Rattle.pas_profile.specs.Classes.{class_grains, usable_grains, IsSlotStart}
-use Rattle.pas_profile.specs.Directories.{deed_word_of}
-use Rattle.pas_profile.specs.Profiles.{IsValid, IsPage, IsDirectoryOf}
-use Rattle.pas_profile.specs.Requests.{kind_of_class}
-use Rattle.pas_profile.specs.declared.directory.Directory.{Directory}
-use Rattle.pas_profile.specs.declared.event.Event.{Event}
-use Rattle.pas_profile.specs.declared.profile.Profile.{Profile}
-use Rattle.pas_profile.specs.declared.word.Word.TheVariants as Word
-use Rattle.pas_profile.proofs.ClassFacts.{class_grains_positive}
-use Rattle.pas_profile.proofs.Codecs.{same_from_deed_word}
-use Rattle.pas_steps.specs.Desks.{triples}
-use Rattle.pas_steps.specs.Events.{events_by}
-use Rattle.pas_steps.specs.Kinds.{Only}
+use Rattle.pas_profile.specs.{Classes.class_grains, Classes.usable_grains, Classes.IsSlotStart, Directories.deed_word_of, Profiles.IsValid, Profiles.IsPage}
+use Rattle.pas_profile.specs.{Profiles.IsDirectoryOf, Requests.kind_of_class}
+use Rattle.pas_profile.specs.declared.{directory.Directory.Directory, event.Event.Event, profile.Profile.Profile, word.Word.Word}
+use Rattle.pas_profile.proofs.{ClassFacts.class_grains_positive, Codecs.same_from_deed_word}
+use Rattle.pas_steps.specs.{Desks.triples, Events.events_by, Kinds.Only, Views.View, Views.holds, Views.usable_by_kind}
 use Rattle.pas_steps.specs.Lists.{part, word_after, visible, Legal}
-use Rattle.pas_steps.specs.Views.{View, holds, usable_by_kind}
 use Rattle.pas_steps.specs.declared.step.Made.{Made}
-use Rattle.pas_steps.proofs.Adding.{triples_append}
-use Rattle.pas_steps.proofs.Apart.{only_both, only_within}
-use Rattle.pas_steps.proofs.Frames.{events_append}
-use Rattle.pas_core.proofs.Grains.{one_holder}
-use Rattle.pas_core.proofs.OneActor.{legal_earlier, deed_same}
-use Rattle.pas_free_log.specs.Flushes.{noted_after}
-use Rattle.pas_free_log.specs.Frames.{freeing}
-use Rattle.pas_segregated.specs.Masks.{start_of}
-use Rattle.pas_segregated.specs.Stops.{home_of}
+use Rattle.pas_steps.proofs.{Adding.triples_append, Apart.only_both, Apart.only_within, Frames.events_append}
+use Rattle.pas_core.proofs.{Grains.one_holder, OneActor.legal_earlier, OneActor.deed_same}
+use Rattle.pas_free_log.specs.{Flushes.noted_after, Frames.freeing}
+use Rattle.pas_segregated.specs.{Masks.start_of, Stops.home_of}
 use Rattle.pas_segregated.specs.declared.slots.Slots.{Slots}
 use Rattle.pas_segregated.proofs.Starts.{start_at}
-use Rattle.pas_cache.specs.Changes.{EmptiesLog, StopsEach}
-use Rattle.pas_cache.specs.Contents.{Cached}
-use Rattle.pas_cache.specs.Kinds.{releasing}
-use Rattle.pas_cache.specs.Locals.{IsLocal, covers, any_covers}
+use Rattle.pas_cache.specs.{Changes.EmptiesLog, Changes.StopsEach, Contents.Cached, Kinds.releasing, Locals.IsLocal, Locals.covers, Locals.any_covers}
 use Rattle.pas_report.specs.declared.record.Record.{Record}
 use Rattle.pas_trace.specs.EveryPlan.{IsThread}
-use Rattle.pas_answers.specs.Answers.{Progress, records_of, with_steps, with_records}
-use Rattle.pas_answers.specs.Answers.{with_cache as with_cached}
+use Rattle.pas_answers.specs.Answers.{Progress, records_of, with_steps, with_records, with_cache as with_cached}
 use Rattle.pas_one_text.specs.State.{Local, World, cache_of, locals_of}
-use Rattle.pas_one_text.specs.Frees.{flushes, gives_up_all, stops}
-use Rattle.pas_one_text.specs.Pages.{is_of}
+use Rattle.pas_one_text.specs.{Frees.flushes, Frees.gives_up_all, Frees.stops, Pages.is_of}
 use Rattle.pas_same_text.specs.Same.{IsSame, HasSame, IsSameCache, AreSameLocals, AreSameCaches, lives_in, has_number}
-use Rattle.pas_same_text.specs.Acts.{IsBetween, AreBlocksUsable}
-use Rattle.pas_same_text.specs.Words.{free_bit}
-use Rattle.pas_same_text.proofs.CacheLists.{same_own, same_with, same_again}
+use Rattle.pas_same_text.specs.{Acts.IsBetween, Acts.AreBlocksUsable, Words.free_bit}
+use Rattle.pas_same_text.proofs.{CacheLists.same_own, CacheLists.same_with, CacheLists.same_again, FlushedLogs.IsFlushedTo, FlushedLogs.IsEndedOn}
+use Rattle.pas_same_text.proofs.{FlushedLogs.OnlyFewer, Flushes.visible_steps, GivenBack.returns_then, GivenBack.has_both, OuterPages.guards_as}
+use Rattle.pas_same_text.proofs.{OuterPages.still_unguarded, StillIndexes.same_guards, StillIndexes.stops_keep, RoomsRead.read_open}
 use Rattle.pas_same_text.proofs.FlushActs.{flush_to, flush_records, events_recorded, ended_room, lived}
-use Rattle.pas_same_text.proofs.FlushedLogs.{IsFlushedTo, IsEndedOn, OnlyFewer}
-use Rattle.pas_same_text.proofs.Flushes.{visible_steps}
 use Rattle.pas_same_text.proofs.FreeGrains.{cached_held, held_by, never_both, held_still}
-use Rattle.pas_same_text.proofs.GivenBack.{returns_then, has_both}
 use Rattle.pas_same_text.proofs.GivenPages.{IsGivenBack, open_from, covered_not_held, free_left, given_pages}
 use Rattle.pas_same_text.proofs.GivenUp.{IsGivenUp, AllOfRegion, unique_of, all_up}
 use Rattle.pas_same_text.proofs.GivingBack.{IsMarked, marked_parts, hint_marks, offer_marks, offered_of_region, hints_both, epoch_stays_by}
-use Rattle.pas_same_text.proofs.OuterPages.{guards_as, still_unguarded}
 use Rattle.pas_same_text.proofs.RestingPages.{is_open, deed_now, word_known, word_now}
-use Rattle.pas_same_text.proofs.StillIndexes.{same_guards, stops_keep}
 use Rattle.pas_same_text.proofs.StopSteps.{IsMarkedBy, IsMarkedIn, AllClasses, ReadsRoom, room_earlier, all_marked, all_hints}
-use Rattle.pas_same_text.proofs.RoomsRead.{read_open}
 
 -- ---- what is known of each local allocator of a cache
 all_classes : (f : Profile) (v : View) (slots : List Slots) → All (IsLocal f v) slots → AllClasses slots
@@ -93,8 +67,8 @@ one_of f v q steps slots known (IsMarkedIn.There s rest o) =
     record { own = r.own; marked = r.marked; known = r.known; has = λ g h. or_right (covers s g) (any_covers rest g) (r.has g h) }
 
 -- a slot's first grain is one that blocks of its page's directory may cover
-pub slot_usable : (right : Bool) (class b : ℕ) → 1 ≤ class_grains class → IsSlotStart class b → usable_by_kind (kind_of_class (not right) class) b ≡ true
-slot_usable true class b some slot = let within = slot.within in let lt : b < usable_grains class = omega (arith, within, some) in grind (arith, nat_tests, lt)
+slot_usable : (right : Bool) (class b : ℕ) → 1 ≤ class_grains class → IsSlotStart class b → usable_by_kind (kind_of_class (not right) class) b ≡ true
+slot_usable true class b some slot = let lt : b < usable_grains class = omega (arith, slot.within, some) in grind (arith, nat_tests, lt)
 slot_usable false class b some slot = refl
 
 -- slots whose page is of a directory in the text, after steps of their thread that give back, are at home there; that page is open where they had a slot whose grains are free now, or where room was read
@@ -158,7 +132,7 @@ module _ (f : Profile) (k : ℕ) (p : Progress) (w : World) (flushed stopped : L
   known = (before.rest.working k thread).locals.known
 
   up : IsGivenUp f k (locals_of vf k) vf v
-  up = all_up f k vf thread.0 (let many = to.same.many in let few = thread.1 in omega (arith, many, few)) (unique_of c.locals (locals_of vf k) own_same.locals (before.rest.working k thread).locals.apart.one_each)
+  up = all_up f k vf thread.0 (omega (arith, to.same.many, thread.1)) (unique_of c.locals (locals_of vf k) own_same.locals (before.rest.working k thread).locals.apart.one_each)
       (all_of_region f (part k p.list) c.locals (locals_of vf k) own_same.locals known)
 
   -- ---- events and caches

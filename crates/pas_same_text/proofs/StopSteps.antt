@@ -1,31 +1,19 @@
 -- The steps by which local allocators are stopped: which pages they mark, what a hint rests on, and why a page is offered.
-use Rattle.std.proofs.Common.{◌≡◌, ℕ, zero, suc, ◌/◌, ◌%◌, ◌<◌, Bool, true, false, List, [], ◌∷◌, ◌++◌, ◌⊎◌, inl, inr, refl, ap, sym, ◌∙◌, subst, arith, MatchBool}
-use Rattle.std.proofs.lemmas.Bool.{cases_eq, true≢false}
-use Rattle.pas_bits.specs.Bits.{has_bit}
-use Rattle.pas_bits.specs.Masks.{HasMember}
+use Rattle.std.proofs.Common.{◌≡◌, ℕ, zero, suc, ◌/◌, ◌%◌, ◌<◌, Bool, true, false, List, [], ◌∷◌, ◌++◌, ◌⊎◌, inl, inr, refl, ap, sym, ◌∙◌, subst, arith}
+use Rattle.std.proofs.Common.{MatchBool, true≢false}
+use Rattle.std.proofs.lemmas.Bool.{cases_eq}
+use Rattle.pas_bits.specs.{Bits.has_bit, Masks.HasMember}
 use Rattle.pas_bits.specs.declared.mask.Mask4.{Mask4}
 use Rattle.pas_profile.specs.Classes.{IsClass}
-use Rattle.pas_profile.specs.declared.directory.Directory.{Directory}
-use Rattle.pas_profile.specs.declared.profile.Profile.{Profile}
-use Rattle.pas_profile.specs.declared.word.Word.TheVariants as Word
-use Rattle.pas_steps.specs.Desks.{made, triples}
-use Rattle.pas_steps.specs.Effects.{target}
+use Rattle.pas_profile.specs.declared.{directory.Directory.Directory, profile.Profile.Profile, word.Word.Word}
+use Rattle.pas_steps.specs.{Desks.made, Desks.triples, Effects.target, Lists.Whole, Lists.word_after, Lists.Legal, Past.Once, Past.Always, Views.usable_by_kind}
 use Rattle.pas_steps.specs.Kinds.{Kinds, Only, apart, Taking, LookFree, Putting, Parking}
-use Rattle.pas_steps.specs.Lists.{Whole, word_after, Legal}
-use Rattle.pas_steps.specs.Past.{Once, Always}
-use Rattle.pas_steps.specs.Views.{usable_by_kind}
-use Rattle.pas_steps.specs.declared.step.Made.{Made}
-use Rattle.pas_steps.specs.declared.step.Step.TheVariants.{Look, Park}
+use Rattle.pas_steps.specs.declared.step.{Made.Made, Step.TheVariants.Look, Step.TheVariants.Park}
 use Rattle.pas_steps.proofs.Past.{once_later}
 use Rattle.pas_core.proofs.OneActor.{free_stays}
-use Rattle.pas_rights.specs.Leaves.{LeaveSteps, EndsLeave, ReoffersWhere}
+use Rattle.pas_rights.specs.{Leaves.LeaveSteps, Leaves.EndsLeave, Leaves.ReoffersWhere, PutsBack.BackSteps, Words.words}
 use Rattle.pas_rights.specs.Looks.{looks, HasUsable, HasNoUsable, HintsEmpty}
-use Rattle.pas_rights.specs.PutsBack.{BackSteps}
-use Rattle.pas_rights.specs.Words.{words}
-use Rattle.pas_rights.proofs.Hints.{leave_due}
-use Rattle.pas_rights.proofs.Looks.{looks_only}
-use Rattle.pas_rights.proofs.Orders.{leave_returns, return_returns}
-use Rattle.pas_rights.proofs.Puts.{puts_kinds}
+use Rattle.pas_rights.proofs.{Hints.leave_due, Looks.looks_only, Orders.leave_returns, Orders.return_returns, Puts.puts_kinds}
 use Rattle.pas_segregated.specs.Masks.{start_of}
 use Rattle.pas_segregated.specs.Stops.{home_of, StopStepsAt, LeavesWhere, AreGrains}
 use Rattle.pas_segregated.specs.declared.slots.Slots.{Slots}
@@ -134,7 +122,7 @@ left_marked s true q steps h marked =
 left_marked s false q steps h marked = absurd (subst (IsMarked q) h marked)
 
 has_member : (s : Slots) (mask : Mask4) → IsClass s.class → AreGrains s mask → HasMember mask → HasMember s.starts
-has_member s mask is grains m = let below = start_below s.class m.0 is in let le = below.0 in let small = m.1 in (start_of s.class m.0, omega (arith, le, small), sym (grains m.0 m.1) ∙ m.2)
+has_member s mask is grains m = let below = start_below s.class m.0 is in (start_of s.class m.0, omega (arith, below.0, m.1), sym (grains m.0 m.1) ∙ m.2)
 
 back_marked : (s : Slots) (mask : Mask4) (q : ℕ) (steps : List Made) → IsClass s.class → AreGrains s mask → BackSteps s.page (home_of s) mask steps → IsMarked q steps → IsMarkedBy s q steps
 back_marked s mask q steps is grains (inl h) marked = absurd (subst (IsMarked q) h.1 marked)

@@ -1,43 +1,28 @@
 -- A SWEEP, guard by guard: which guards go down by what the keeper reads, which are left, what is said, and which pages its steps mark.
-use Rattle.std.proofs.Common.{◌≡◌, ℕ, ◌+◌, ◌*◌, ◌/◌, ◌%◌, ◌==◌, nat_lt, Bool, true, false, not, ◌||◌, if◌then◌else◌, List, [], ◌∷◌, ◌++◌, map, inl, inr, refl, ap, sym, ◌∙◌, subst, arith}
-use Rattle.std.proofs.lemmas.Bool.{eq-eqb, or_left, or_right}
+use Rattle.std.proofs.Common.{◌≡◌, ℕ, ◌+◌, ◌*◌, ◌/◌, ◌%◌, ◌==◌, nat_lt, Bool, true, false, not, ◌||◌, if◌then◌else◌, List, [], ◌∷◌, ◌++◌, map, inl, inr, refl}
+use Rattle.std.proofs.Common.{ap, sym, ◌∙◌, subst, arith, eq-eqb}
+use Rattle.std.proofs.lemmas.Bool.{or_left, or_right}
 use Rattle.std.specs.List.{filter}
 use Rattle.pas_bits.specs.declared.mask.Mask4.{Mask4}
-use Rattle.pas_profile.specs.Blocks.{address_of}
-use Rattle.pas_profile.specs.Lives.{turn_of}
-use Rattle.pas_profile.specs.Profiles.{IsValid}
-use Rattle.pas_profile.specs.declared.directory.Directory.{Directory}
-use Rattle.pas_profile.specs.declared.event.Event.{Event}
-use Rattle.pas_profile.specs.declared.profile.Profile.{Profile}
-use Rattle.pas_profile.specs.declared.word.Word.TheVariants as Word
+use Rattle.pas_profile.specs.{Blocks.address_of, Lives.turn_of, Profiles.IsValid}
+use Rattle.pas_profile.specs.declared.{directory.Directory.Directory, event.Event.Event, profile.Profile.Profile, word.Word.Word}
 use Rattle.pas_machine.specs.State.{live_in, gives_in, ends_in}
-use Rattle.pas_steps.specs.Desks.{triples}
-use Rattle.pas_steps.specs.Effects.{life_word_at}
+use Rattle.pas_steps.specs.{Desks.triples, Effects.life_word_at, Past.Always}
 use Rattle.pas_steps.specs.Kinds.{Kinds, LookLife, Putting, Only}
 use Rattle.pas_steps.specs.Lists.{Whole, word_after, visible, Legal}
-use Rattle.pas_steps.specs.Past.{Always}
 use Rattle.pas_steps.specs.declared.step.Made.{Made}
 use Rattle.pas_steps.proofs.Adding.{triples_append}
-use Rattle.pas_core.proofs.Lives.{turn_is}
-use Rattle.pas_core.proofs.MachineRuns.{agrees}
-use Rattle.pas_core.proofs.OneActor.{legal_earlier}
-use Rattle.pas_rights.specs.Looks.{HintsEmpty}
-use Rattle.pas_rights.specs.PutsBack.{BackSteps}
-use Rattle.pas_rights.specs.Words.{full}
-use Rattle.pas_rights.proofs.Orders.{return_returns}
-use Rattle.pas_rights.proofs.Puts.{puts_kinds}
+use Rattle.pas_core.proofs.{Lives.turn_is, MachineRuns.agrees, OneActor.legal_earlier}
+use Rattle.pas_rights.specs.{Looks.HintsEmpty, PutsBack.BackSteps, Words.full}
+use Rattle.pas_rights.proofs.{Orders.return_returns, Puts.puts_kinds}
 use Rattle.pas_one_text.specs.Runs.{large_of}
 use Rattle.pas_report.specs.declared.record.Record.{Record}
-use Rattle.pas_guard.specs.Books.{is_outer_of, is_outer, Each}
-use Rattle.pas_guard.specs.Keepers.{IsBeside}
-use Rattle.pas_guard.specs.Lowers.{LowerSteps}
+use Rattle.pas_guard.specs.{Books.is_outer_of, Books.is_outer, Books.Each, Keepers.IsBeside, Lowers.LowerSteps}
 use Rattle.pas_guard.specs.Sweeps.{is_over, life_look, lowered_record, SweptOne, Swept, sweeping}
 use Rattle.pas_guard.specs.declared.book.Guard.{Guard as BookGuard}
 use Rattle.pas_same_text.specs.Same.{told_guard}
-use Rattle.pas_same_text.proofs.Flushes.{unshown}
+use Rattle.pas_same_text.proofs.{Flushes.unshown, LoweredGuards.lowered_line, ReturnHints.return_hints}
 use Rattle.pas_same_text.proofs.GivingBack.{IsMarked, marked_parts, none_marked, returns_marked, hints_none, hints_both}
-use Rattle.pas_same_text.proofs.LoweredGuards.{lowered_line}
-use Rattle.pas_same_text.proofs.ReturnHints.{return_hints}
 
 -- the guard goes down: all do, or its block has ended by these events
 abbrev pub goes_down : Bool → List Event → BookGuard → Bool

@@ -1,37 +1,30 @@
 -- WHAT A SEARCH TOOK of a page that it keeps: since it got the page's right, if it holds any of its grains. So its takes since then read just the grains as free that
 -- were free before the search.
-use Rattle.std.proofs.Common.{◌≡◌, ◌≢◌, ℕ, zero, suc, ◌+◌, ◌*◌, ◌/◌, ◌%◌, ◌<◌, ◌≤◌, ◌==◌, Bool, true, false, ◌&&◌, if◌then◌else◌, List, [], ◌∷◌, ◌++◌, IsTrue, ◌↔◌, inl, inr, refl, ap, sym, ◌∙◌, subst, append_assoc, arith}
-use Rattle.std.proofs.lemmas.Bool.{true≢false, false≢true, eq-eqb, eqb-true, ne_eqb, lt-ltb, cases_eq, or_cases, false_from_ne_true}
-use Rattle.pas_bits.specs.Bits.{has_bit}
-use Rattle.pas_bits.specs.Masks.{is_set}
+use Rattle.std.proofs.Common.{◌≡◌, ◌≢◌, ℕ, zero, suc, ◌+◌, ◌*◌, ◌/◌, ◌%◌, ◌<◌, ◌≤◌, ◌==◌, Bool, true, false, ◌&&◌, if◌then◌else◌, List, [], ◌∷◌, ◌++◌, IsTrue}
+use Rattle.std.proofs.Common.{◌↔◌, inl, inr, refl, ap, sym, ◌∙◌, subst, append_assoc, arith, true≢false, eq-eqb, eqb-true, ne_eqb, lt-ltb}
+use Rattle.std.proofs.lemmas.Bool.{false≢true, cases_eq, or_cases, false_from_ne_true}
+use Rattle.pas_bits.specs.{Bits.has_bit, Masks.is_set}
 use Rattle.pas_bits.specs.declared.mask.Mask4.{Mask4}
 use Rattle.pas_bits.proofs.Words.{none_of_zero}
-use Rattle.pas_profile.specs.Classes.{class_grains, usable_grains, is_usable}
-use Rattle.pas_profile.specs.Directories.{number_of}
-use Rattle.pas_profile.specs.declared.profile.Profile.{Profile}
-use Rattle.pas_profile.specs.declared.word.Word.TheVariants as Word
-use Rattle.pas_steps.specs.Allowed.{Allowed}
-use Rattle.pas_steps.specs.Desks.{made, triples}
-use Rattle.pas_steps.specs.Effects.{target, in_mask, free_word_at}
-use Rattle.pas_steps.specs.Kinds.{kind_of, is_in, lending}
+use Rattle.pas_profile.specs.{Classes.class_grains, Classes.usable_grains, Classes.is_usable, Directories.number_of}
+use Rattle.pas_profile.specs.declared.{profile.Profile.Profile, word.Word.Word}
+use Rattle.pas_steps.specs.{Allowed.Allowed, Desks.made, Desks.triples, Effects.target, Effects.in_mask, Effects.free_word_at, Kinds.kind_of, Kinds.is_in}
+use Rattle.pas_steps.specs.{Kinds.lending, Past.Once, Past.Always}
 use Rattle.pas_steps.specs.Lists.{Whole, part, word_after, Legal}
-use Rattle.pas_steps.specs.Past.{Once, Always}
-use Rattle.pas_steps.specs.Views.{View, Gets, Puts, Stays, grain_move, held_after, holds, Way, Rests, ByDeed, FromOffer, FromParked, ToOffer, ToParked, way, had_after, has_right}
-use Rattle.pas_steps.specs.declared.step.Made.{Made}
-use Rattle.pas_steps.specs.declared.step.Step.{Step}
+use Rattle.pas_steps.specs.Views.{View, Gets, Puts, Stays, grain_move, held_after, holds, Way, Rests, ByDeed, FromOffer, FromParked, ToOffer, ToParked, way}
+use Rattle.pas_steps.specs.Views.{had_after, has_right}
+use Rattle.pas_steps.specs.declared.step.{Made.Made, Step.Step}
 use Rattle.pas_steps.specs.declared.step.Step.TheVariants.{Deed, Take, Put, Give, End, EndSized, TakeRight, Offer, Park, Unpark}
 use Rattle.pas_steps.proofs.Parts.{part_of_own}
 use Rattle.pas_core.specs.Rights.{free_of_page}
 use Rattle.pas_core.proofs.OneActor.{LendsNone, lends_none}
 use Rattle.pas_core.proofs.Rights.{Spot, is_with, spot_of, Suits, IsSpotted, step_suits, spotted}
-use Rattle.pas_rights.specs.Takes.{takes, word_take}
-use Rattle.pas_rights.specs.Words.{words}
+use Rattle.pas_rights.specs.{Takes.takes, Takes.word_take, Words.words}
 use Rattle.pas_search.specs.Kinds.{IsReturnOf, ReturnsDuly, AreSearch, KeepsMarks, searching}
 use Rattle.pas_partial.specs.Rows.{IsFreeSlot}
 use Rattle.pas_segregated.specs.Takes.{TookSlots, takes_after, takes_since}
 use Rattle.pas_same_text.specs.Words.{free_bit}
-use Rattle.pas_same_text.proofs.SearchMarks.{stays_used, stays_free}
-use Rattle.pas_same_text.proofs.Tests.{and_first, and_second, eqb_turned}
+use Rattle.pas_same_text.proofs.{SearchMarks.stays_used, SearchMarks.stays_free, Tests.and_first, Tests.and_second, Tests.eqb_turned}
 
 -- ---- the right of a page that is neither offered nor parked stays
 module _ (page : ℕ) where
@@ -144,7 +137,7 @@ module _ (f : Profile) (k : ℕ) (l : Whole) (page g : ℕ) (of : g / 256 ≡ pa
   abbrev own : View
   own = part k l
 
-  pub taken_since : (xs : List Made) → Legal f (triples k xs ++ l) → LendsNone xs → Always (KeepsMarks page) xs → holds xs g ≡ true → (has_right (xs ++ own) page ≡ true) × (holds (takes_since page xs) g ≡ true)
+  taken_since : (xs : List Made) → Legal f (triples k xs ++ l) → LendsNone xs → Always (KeepsMarks page) xs → holds xs g ≡ true → (has_right (xs ++ own) page ≡ true) × (holds (takes_since page xs) g ≡ true)
   taken_since [] legal lends marks h = absurd (false≢true h)
   taken_since (m ∷ xs) legal lends marks h =
       let w : Whole = triples k xs ++ l in
@@ -176,7 +169,7 @@ module _ (f : Profile) (k : ℕ) (l : Whole) (page g : ℕ) (of : g / 256 ≡ pa
     here_or_later C s b since here later ts is = later ts is
 
     -- it read a grain as free exactly where that was free before the search, if the takes before it didn't get it
-    pub take_read : (xs : List Made) → Legal f (triples k xs ++ l) → LendsNone xs → Always ReturnsDuly xs → Always (KeepsMarks page) xs → Word.Free page word ≡ free_word_at g → holds rest g ≡ false
+    take_read : (xs : List Made) → Legal f (triples k xs ++ l) → LendsNone xs → Always ReturnsDuly xs → Always (KeepsMarks page) xs → Word.Free page word ≡ free_word_at g → holds rest g ≡ false
         → (ts : List Made) → takes_since page xs ≡ ts ++ made (Take page word mask) a ∷ rest → has_bit a (g % 64) ≡ free_bit l g
     take_read [] legal lends due marks at none ts is = absurd (none_there ts (made (Take page word mask) a) rest is)
     take_read (m ∷ xs) legal lends due marks at none ts is =

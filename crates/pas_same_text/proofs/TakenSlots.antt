@@ -1,27 +1,24 @@
 -- THE SLOTS that a search took of a page are those that the text takes of it: of an exclusive page all free ones, of a shared page the first free one and those behind
 -- it without a break, four at most.
-use Rattle.std.proofs.Common.{◌≡◌, ℕ, zero, suc, ◌+◌, ◌-◌, ◌*◌, ◌/◌, ◌<◌, ◌≤◌, ◌==◌, Bool, true, false, ◌||◌, if◌then◌else◌, List, [], ◌∷◌, IsTrue, ◌↔◌, inl, inr, refl, ap, sym, ◌∙◌, subst, arith}
-use Rattle.std.proofs.lemmas.Bool.{false≢true, eq-eqb, eqb-true, ne_eqb, or_cases, or_left, or_right, cases_Bool, false_from_ne_true}
+use Rattle.std.proofs.Common.{◌≡◌, ℕ, zero, suc, ◌+◌, ◌-◌, ◌*◌, ◌/◌, ◌<◌, ◌≤◌, ◌==◌, Bool, true, false, ◌||◌, if◌then◌else◌, List, [], ◌∷◌, IsTrue, ◌↔◌, inl}
+use Rattle.std.proofs.Common.{inr, refl, ap, sym, ◌∙◌, subst, arith, eq-eqb, eqb-true, ne_eqb}
+use Rattle.std.proofs.lemmas.Bool.{false≢true, or_cases, or_left, or_right, cases_Bool, false_from_ne_true}
 use Rattle.std.proofs.Math.Nat.{suc-mul, add-mul, mul-le-mul_right, mul-div_cancel}
 use Rattle.std.specs.List.{AllByRecursion, filter}
 use Rattle.pas_bits.specs.Masks.{is_set}
 use Rattle.pas_bits.specs.declared.mask.Mask4.{Mask4}
-use Rattle.pas_profile.specs.Classes.{IsClass, class_grains, slots_of}
-use Rattle.pas_profile.specs.Profiles.{IsValid}
+use Rattle.pas_profile.specs.{Classes.IsClass, Classes.class_grains, Classes.slots_of, Profiles.IsValid}
 use Rattle.pas_profile.specs.declared.profile.Profile.{Profile}
 use Rattle.pas_profile.proofs.ClassFacts.{class_grains_positive}
 use Rattle.pas_steps.proofs.Sets.{same_truth}
 use Rattle.pas_core.specs.Rights.{free_of_page}
 use Rattle.pas_partial.specs.Rows.{IsFreeSlot, IsLowestRow}
 use Rattle.pas_answers.specs.Answers.{Progress}
-use Rattle.pas_one_text.specs.State.{World}
-use Rattle.pas_one_text.specs.Pages.{are_free, is_guarded}
+use Rattle.pas_one_text.specs.{State.World, Pages.are_free, Pages.is_guarded}
 use Rattle.pas_one_text.specs.Classes.{spaced, free_slots, row_from, first_row, slots_for}
-use Rattle.pas_same_text.specs.Same.{HasSame, IsRising, has_number}
-use Rattle.pas_same_text.specs.Acts.{IsBetween}
+use Rattle.pas_same_text.specs.{Same.HasSame, Same.IsRising, Same.has_number, Acts.IsBetween}
 use Rattle.pas_same_text.proofs.ClassFits.{slot_there, slot_index, slot_tested, slot_free}
-use Rattle.pas_same_text.proofs.SpacedPlaces.{in_spaced, from_spaced, next_place}
-use Rattle.pas_same_text.proofs.Tests.{filtered_has, has_filtered}
+use Rattle.pas_same_text.proofs.{SpacedPlaces.in_spaced, SpacedPlaces.from_spaced, SpacedPlaces.next_place, Tests.filtered_has, Tests.has_filtered}
 
 -- ---- places that follow each other at a step, and pass a test
 -- they rise
@@ -93,9 +90,7 @@ module _ (test : ℕ → Bool) (step : ℕ) (some : 1 ≤ step) where
           | inl here ↦ (0, omega arith, omega arith, sym (eqb-true next s here) ∙ sym (first_place next), λ j le. ap test (at_first j le) ∙ so)
           | inr later ↦
               let o = in_row m n (next + step) s later in
-              let lt = o.1 in
-              let less = o.2 in
-              (suc o.0, omega (arith, lt), omega (arith, less), o.3 ∙ next_place next step o.0, λ j le. each_one o.0 j le o.4 so)
+              (suc o.0, omega (arith, o.1), omega (arith, o.2), o.3 ∙ next_place next step o.0, λ j le. each_one o.0 j le o.4 so)
         ]
     | inr fails ↦ absurd (false≢true (ap (λ (xs : List ℕ). has_number xs s) (sym (ap (row_from next step (suc m)) (failing next n fails) ∙ no_row next step (suc m) (places (next + step) n) (all_above test n (next + step) step next (omega (arith, some))))) ∙ h))
   ]
@@ -122,7 +117,7 @@ module _ (test : ℕ → Bool) (step : ℕ) (some : 1 ≤ step) where
 
   -- ---- the places before the first that passes
   skipped : (i n rest from : ℕ) → i + rest ≡ n → ((j : ℕ) → j < i → test (from + j * step) ≡ false) → places from n ≡ places (from + i * step) rest
-  skipped zero n rest from is before = ap (places from) (let e = is in omega (arith, e)) ∙ ap (λ (x : ℕ). places x rest) (sym (first_place from))
+  skipped zero n rest from is before = ap (places from) (omega (arith, is)) ∙ ap (λ (x : ℕ). places x rest) (sym (first_place from))
   skipped (suc i) zero rest from is before = absurd (omega (arith, is))
   skipped (suc i) (suc n) rest from is before =
       failing from n (ap test (sym (first_place from)) ∙ before 0 (omega arith))
@@ -190,14 +185,14 @@ module _ (f : Profile) (p : Progress) (w : World) (valid : IsValid f) (between :
     all_to s h =
         let o = filtered_has test (spaced 0 step count) s h in
         let i = there_place count 0 step s o.1 in
-        let at : i.0 * step ≡ s = let e = i.2 in omega (arith, e) in
+        let at : i.0 * step ≡ s = omega (arith, i.2) in
         (all s).1 (subst IsFree at (free_at i.0 i.1 (ap test at ∙ o.0)))
 
     all_from : (s : ℕ) → is_set starts s ≡ true → has_number (free_slots w class page) s ≡ true
     all_from s set =
         let free = (all s).0 set in
         let i = slot_index f p w valid between same class is s free.0 in
-        let at : 0 + i.0 * step ≡ s = let e = i.2 in omega (arith, e) in
+        let at : 0 + i.0 * step ≡ s = omega (arith, i.2) in
         has_filtered test (spaced 0 step count) s (tested s free) (ap (has_number (spaced 0 step count)) (sym at) ∙ place_there count 0 step i.0 i.1)
 
     pub all_taken : (s : ℕ) → has_number (slots_for false w class page) s ≡ is_set starts s
@@ -223,34 +218,29 @@ module _ (f : Profile) (p : Progress) (w : World) (valid : IsValid f) (between :
     -- no slot before it is free
     none_before : (j : ℕ) → j < index → test (0 + j * step) ≡ false
     none_before j lt =
-        let few = below in
         let at : 0 + j * step ≡ j * step = omega arith in
         false_from_ne_true (test (0 + j * step)) (λ so.
         let next : suc j * step ≤ index * step = mul-le-mul_right step lt in
         let m = suc-mul j step in
-        let place = at_first in
-        let one = some in
-        row.lowest (j * step) (omega (arith, next, m, place, one)) (free_at j (omega (arith, lt, few)) (ap test (sym at) ∙ so)))
+        row.lowest (j * step) (omega (arith, next, m, at_first, some)) (free_at j (omega (arith, lt, below)) (ap test (sym at) ∙ so)))
 
     slots_are : slots_for true w class page ≡ row_from first step 4 (filter test (spaced first step left))
     slots_are =
         let few = below in
-        let place : 0 + index * step ≡ first = let e = at_first in omega (arith, e) in
+        let place : 0 + index * step ≡ first = omega (arith, at_first) in
         ap (first_row step) (skipped test step some index count left 0 (omega (arith, few)) none_before ∙ ap (λ (x : ℕ). filter test (spaced x step left)) place)
         ∙ first_row_is test step some first left (omega (arith, few)) (tested first row.free)
 
     -- the i-th slot behind it
     behind : (i : ℕ) → first + i * step ≡ (index + i) * step
-    behind i = let place = at_first in let sum = add-mul index i step in omega (arith, place, sum)
+    behind i = let sum = add-mul index i step in omega (arith, at_first, sum)
 
     index_of : (i s : ℕ) → s ≡ first + i * step → IsFree s → i < left
     index_of i s at free =
         let o = slot_index f p w valid between same class is s free.0 in
-        let lt = o.1 in
-        let few = below in
         let same_place : o.0 * step ≡ (index + i) * step = o.2 ∙ (at ∙ behind i) in
         let is_index : o.0 ≡ index + i = same_times o.0 (index + i) same_place in
-        omega (arith, lt, is_index, few)
+        omega (arith, o.1, is_index, below)
       where
         same_times : (a b : ℕ) → a * step ≡ b * step → a ≡ b
         same_times a b e = sym (mul-div_cancel a some) ∙ (ap (λ (x : ℕ). x / step) e ∙ mul-div_cancel b some)
@@ -261,9 +251,8 @@ module _ (f : Profile) (p : Progress) (w : World) (valid : IsValid f) (between :
     row_to : (s : ℕ) → has_number row_left s ≡ true → is_set starts s ≡ true
     row_to s h =
         let o = in_row test step some 4 left first s h in
-        let less = o.2 in
         let few = below in
-        (row.are s).1 (o.0, o.1, o.3, λ j le. subst IsFree (sym (behind j)) (free_at (index + j) (omega (arith, le, less, few)) (ap test (sym (behind j)) ∙ o.4 j le)))
+        (row.are s).1 (o.0, o.1, o.3, λ j le. subst IsFree (sym (behind j)) (free_at (index + j) (omega (arith, le, o.2, few)) (ap test (sym (behind j)) ∙ o.4 j le)))
 
     row_of : (s : ℕ) → is_set starts s ≡ true → has_number row_left s ≡ true
     row_of s set =

@@ -1,9 +1,9 @@
 -- Tests on lists.
-use Rattle.std.proofs.Common.{◌≡◌, ℕ, ◌==◌, Bool, true, false, not, ◌&&◌, ◌||◌, if◌then◌else◌, List, [], ◌∷◌, ◌⊎◌, inl, inr, refl, ap, sym, ◌∙◌, arith, ◌+◌, ◌*◌, ◌/◌, ◌<◌}
-use Rattle.std.proofs.lemmas.Bool.{eq-eqb, eqb-true, false≢true, or_cases, or_left, or_right}
-use Rattle.std.proofs.lemmas.Bool.Decides.{nat_tests}
+use Rattle.std.proofs.Common.{◌≡◌, ℕ, ◌==◌, Bool, true, false, not, ◌&&◌, ◌||◌, if◌then◌else◌, List, [], ◌∷◌, ◌⊎◌, inl, inr, refl, ap, sym, ◌∙◌, arith, ◌+◌}
+use Rattle.std.proofs.Common.{◌*◌, ◌/◌, ◌<◌, eq-eqb, eqb-true}
+use Rattle.std.proofs.lemmas.Bool.{false≢true, or_cases, or_left, or_right}
+use Rattle.std.proofs.{lemmas.Bool.Decides.nat_tests, Math.Bool.or-false}
 use Rattle.std.specs.List.{list_any, filter}
-use Rattle.std.proofs.Math.Bool.{or-false}
 use Rattle.pas_same_text.specs.Same.{has_number}
 
 -- ---- tests

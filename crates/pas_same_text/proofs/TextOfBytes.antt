@@ -1,15 +1,12 @@
 -- THE TEXT OF THE BYTES is that of a replay of any plan of them.
 use Rattle.std.proofs.Common.{◌≡◌, ℕ, ◌==◌, if◌then◌else◌, List, Option, Some, ap, sym, ◌∙◌, arith}
 use Rattle.pas_profile.specs.declared.profile.Profile.{Profile}
-use Rattle.pas_trace.specs.Plans.{IsPlanOf, Parsed, shared_in}
-use Rattle.pas_trace.specs.Reasons.{guard_in}
-use Rattle.pas_trace.specs.declared.plan.Op.{Op}
-use Rattle.pas_trace.specs.declared.plan.Plan.{Plan}
+use Rattle.pas_trace.specs.{Plans.IsPlanOf, Plans.Parsed, Plans.shared_in, Reasons.guard_in}
+use Rattle.pas_trace.specs.declared.plan.{Op.Op, Plan.Plan}
 use Rattle.pas_trace.proofs.Keepers.{plan_actors}
 use Rattle.pas_answers.specs.Replays.{phases_of, region_of, keepers_of}
-use Rattle.pas_one_text.specs.State.{World}
+use Rattle.pas_one_text.specs.{State.World, Reports.text_of}
 use Rattle.pas_one_text.specs.Order.{replayed, replay_of, order_text, text_for, region_of as text_region}
-use Rattle.pas_one_text.specs.Reports.{text_of}
 
 -- the region of a plan without keepers has no other actors than its threads
 region_same : (plan : Plan) → keepers_of plan ≡ 0 → plan.profile ≡ region_of plan
@@ -24,7 +21,7 @@ module _ {A : Type 0} (tells : Profile → World → A) where
   by_parts f keepers phases = tells f (replayed f keepers phases)
 
   -- The replay of the text is that of its plan, in whose region the threads alone are actors.
-  pub replay_told : (bytes : List ℕ) (plan : Plan) (is : IsPlanOf bytes plan)
+  replay_told : (bytes : List ℕ) (plan : Plan) (is : IsPlanOf bytes plan)
       → (let p : Parsed = record { header = is.header; items = is.items } in tells (text_region p) (replay_of p)) ≡ tells plan.profile (replayed plan.profile (keepers_of plan) (phases_of plan))
   replay_told bytes plan is =
       let f : Profile = record is.header.profile { shared = shared_in is.items } in

@@ -1,63 +1,36 @@
 -- THE SEARCH OF A KEEPER beside the runs that it tries in the text: the same runs fail, the same one serves, if any, and the same pages get deeds.
-use Rattle.std.proofs.Common.{◌≡◌, ◌≢◌, ℕ, ◌+◌, ◌*◌, ◌/◌, ◌<◌, ◌≤◌, ◌==◌, nat_le, Bool, true, false, not, ◌&&◌, ◌||◌, if◌then◌else◌, List, [], ◌∷◌, ◌++◌, Option, None, Some, ◌⊎◌, inl, inr, refl, ap, sym, ◌∙◌, subst, arith}
-use Rattle.std.proofs.lemmas.Bool.{false≢true, eq-eqb, eqb-true, eqb-false, false_from_ne_true}
-use Rattle.std.proofs.Math.Path.{fun_ext}
-use Rattle.std.proofs.Math.Bool.{and-false}
+use Rattle.std.proofs.Common.{◌≡◌, ◌≢◌, ℕ, ◌+◌, ◌*◌, ◌/◌, ◌<◌, ◌≤◌, ◌==◌, nat_le, Bool, true, false, not, ◌&&◌, ◌||◌, if◌then◌else◌, List, [], ◌∷◌, ◌++◌}
+use Rattle.std.proofs.Common.{Option, None, Some, ◌⊎◌, inl, inr, refl, ap, sym, ◌∙◌, subst, arith, eq-eqb, eqb-true}
+use Rattle.std.proofs.{lemmas.Bool.false≢true, lemmas.Bool.eqb-false, lemmas.Bool.false_from_ne_true, Math.Path.fun_ext, Math.Bool.and-false}
 use Rattle.std.specs.List.{AllByRecursion}
-use Rattle.pas_profile.specs.Directories.{number_of}
-use Rattle.pas_profile.specs.Profiles.{IsValid, IsDirectoryOf}
-use Rattle.pas_profile.specs.declared.directory.Directory.{Directory}
-use Rattle.pas_profile.specs.declared.event.Event.{Event}
-use Rattle.pas_profile.specs.declared.name.Block.{Block}
-use Rattle.pas_profile.specs.declared.profile.Profile.{Profile}
-use Rattle.pas_profile.specs.declared.word.Word.TheVariants as Word
+use Rattle.pas_profile.specs.{Directories.number_of, Profiles.IsValid, Profiles.IsDirectoryOf}
+use Rattle.pas_profile.specs.declared.{directory.Directory.Directory, event.Event.Event, name.Block.Block, profile.Profile.Profile, word.Word.Word}
 use Rattle.pas_profile.proofs.Codecs.{deed_word_of-positive}
-use Rattle.pas_machine.specs.Machine.{Run}
-use Rattle.pas_machine.specs.State.{deed_in, backed_in}
-use Rattle.pas_steps.specs.Agreement.{Agreed}
-use Rattle.pas_steps.specs.Desks.{triples}
-use Rattle.pas_steps.specs.Events.{events_by}
-use Rattle.pas_steps.specs.Kinds.{Only}
+use Rattle.pas_machine.specs.{Machine.Run, State.deed_in, State.backed_in}
+use Rattle.pas_steps.specs.{Agreement.Agreed, Desks.triples, Events.events_by, Kinds.Only, Past.Always, Views.View, Views.known_deed}
 use Rattle.pas_steps.specs.Lists.{Whole, part, word_after, visible, Legal}
-use Rattle.pas_steps.specs.Past.{Always}
-use Rattle.pas_steps.specs.Views.{View, known_deed}
-use Rattle.pas_steps.specs.declared.step.Made.{Made}
-use Rattle.pas_steps.specs.declared.step.Step.TheVariants.{Deed}
-use Rattle.pas_steps.proofs.Parts.{part_of_own}
-use Rattle.pas_steps.proofs.Past.{always_map}
+use Rattle.pas_steps.specs.declared.step.{Made.Made, Step.TheVariants.Deed}
+use Rattle.pas_steps.proofs.{Parts.part_of_own, Past.always_map}
 use Rattle.pas_core.specs.Good.{word_of_deed}
-use Rattle.pas_core.proofs.Deeds.{deed_of, backed_of, known_is}
-use Rattle.pas_core.proofs.MachineRuns.{runs, one_backed}
-use Rattle.pas_core.proofs.Nexts.{agreed_steps}
+use Rattle.pas_core.proofs.{Deeds.deed_of, Deeds.backed_of, Deeds.known_is, MachineRuns.runs, MachineRuns.one_backed, Nexts.agreed_steps}
 use Rattle.pas_core.proofs.Rights.{Nowhere, is_with, spot_of, DeedFits, no_deed, spotted, deeds_known, free_without_deed}
 use Rattle.pas_scan.specs.Runs.{IsInRun}
 use Rattle.pas_search.specs.Kinds.{ReturnsDuly}
-use Rattle.pas_large.specs.Evidence.{DeedsOf, DeedsRise}
-use Rattle.pas_large.specs.Finds.{MayFind}
-use Rattle.pas_large.proofs.Claims.{span_in}
-use Rattle.pas_large.proofs.Outcomes.{MadeOf}
+use Rattle.pas_large.specs.{Evidence.DeedsOf, Evidence.DeedsRise, Finds.MayFind}
+use Rattle.pas_large.proofs.{Claims.span_in, Outcomes.MadeOf}
 use Rattle.pas_guard.specs.Evidence.{HasFailedOnce}
 use Rattle.pas_guard.specs.Seeks.{seeking, HasSpan, SoughtRun, SoughtNone}
 use Rattle.pas_answers.specs.Answers.{Progress}
-use Rattle.pas_one_text.specs.State.{World, Cache, Guard}
+use Rattle.pas_one_text.specs.{State.World, State.Cache, State.Guard, Guards.are_bare, Guards.raises, Guards.raises_from}
 use Rattle.pas_one_text.specs.Pages.{page_numbers, each_of, is_none, is_same, is_free, is_empty, is_kept}
 use Rattle.pas_one_text.specs.Runs.{large_of, is_usable, is_run, serves_pages}
-use Rattle.pas_one_text.specs.Guards.{are_bare, raises, raises_from}
-use Rattle.pas_same_text.specs.Same.{IsSame, HasSame}
-use Rattle.pas_same_text.specs.Acts.{IsBetween}
-use Rattle.pas_same_text.specs.Words.{free_bit}
-use Rattle.pas_same_text.proofs.BarePages.{bare_since, bare_events}
-use Rattle.pas_same_text.proofs.FreeGrains.{bit_free}
-use Rattle.pas_same_text.proofs.Flushes.{visible_steps}
-use Rattle.pas_same_text.proofs.GivenBack.{each_all}
-use Rattle.pas_same_text.proofs.GivenPages.{open_from}
-use Rattle.pas_same_text.proofs.GivingBack.{backed_stays}
-use Rattle.pas_same_text.proofs.KeptPages.{keeper}
+use Rattle.pas_same_text.specs.{Same.IsSame, Same.HasSame, Acts.IsBetween, Words.free_bit}
+use Rattle.pas_same_text.proofs.{BarePages.bare_since, BarePages.bare_events, FreeGrains.bit_free, Flushes.visible_steps, GivenBack.each_all}
+use Rattle.pas_same_text.proofs.{GivenPages.open_from, GivingBack.backed_stays, KeptPages.keeper, ReadyPages.shown, ReadyPages.shown_events}
+use Rattle.pas_same_text.proofs.{ReadyPages.shown_rest, RestingPages.is_open, RestingPages.owned_is, RestingPages.unowned_by, RunsSame.run_usable}
+use Rattle.pas_same_text.proofs.{RunsSame.usable_run}
 use Rattle.pas_same_text.proofs.RaiseWalk.{below, below_all, all_so, IsWalked, found_text, none_text}
-use Rattle.pas_same_text.proofs.ReadyPages.{shown, shown_events, shown_rest}
-use Rattle.pas_same_text.proofs.RestingPages.{is_open, owned_is, unowned_by}
 use Rattle.pas_same_text.proofs.RunEvents.{deeded, deeds_of, deeded_falls, deeded_events, deeds_live}
-use Rattle.pas_same_text.proofs.RunsSame.{run_usable, usable_run}
 use Rattle.pas_same_text.proofs.SoughtRuns.{IsRunOf, IsBackedRun, IsMadeOf, failed_run, found_run, bad_run, made_pages}
 
 -- what is read of a page for a run, where this is its deed
@@ -223,7 +196,7 @@ module _ (f : Profile) (k heap n : ℕ) (p : Progress) (w : World) (valid : IsVa
         deeds = found.deeds (part k l) met agreed;
         each = λ r h. elim h [
           | inl this ↦ (subst (IsRunOf f heap n l) (sym this) run_first, omega (arith, this))
-          | inr lower ↦ (let lt = lower.0 in (failed_run f k heap n l valid of met xs legal kinds due r lower.1, omega (arith, lt)))
+          | inr lower ↦ ((failed_run f k heap n l valid of met xs legal kinds due r lower.1, omega (arith, lower.0)))
         ];
         all = λ r run lt q here. by_place r run q here (r == first) refl (λ ne. omega (arith, lt, ne));
       }
@@ -265,7 +238,7 @@ module _ (f : Profile) (k heap n : ℕ) (p : Progress) (w : World) (valid : IsVa
       of_runs_none : AreOfRuns (f.pages + 1) Failed
       of_runs_none = record {
         deeds = found.deeds (part k l) met agreed;
-        each = λ r h. let run = failed_run f k heap n l valid of met xs legal kinds due r h in let high = run.of_region.1 in (run, omega (arith, high));
+        each = λ r h. let run = failed_run f k heap n l valid of met xs legal kinds due r h in (run, omega (arith, run.of_region.1));
         all = λ r run lt q here. (none_backed r run).deeds q here;
       }
 

@@ -1,72 +1,44 @@
 -- Each act leaves each live block on grains that blocks of its page's directory may cover.
-use Rattle.std.proofs.Common.{◌≡◌, ℕ, ◌/◌, ◌%◌, ◌<◌, ◌==◌, nat_le, max, Bool, true, false, if◌then◌else◌, List, [], ◌∷◌, ◌++◌, length, map, reverse, Option, None, Some, Result, Ok, Err, MatchResult, inl, inr, refl, ap, sym, ◌∙◌, subst, arith}
-use Rattle.std.proofs.lemmas.Bool.{eqb-true}
-use Rattle.std.proofs.lemmas.Bool.Decides.{nat_tests}
-use Rattle.std.proofs.lemmas.Option.{same_Some, none-some}
+use Rattle.std.proofs.Common.{◌≡◌, ℕ, ◌/◌, ◌%◌, ◌<◌, ◌==◌, nat_le, max, Bool, true, false, if◌then◌else◌, List, [], ◌∷◌, ◌++◌, length, map, reverse, Option}
+use Rattle.std.proofs.Common.{None, Some, Result, Ok, Err, MatchResult, inl, inr, refl, ap, sym, ◌∙◌, subst, arith, eqb-true}
+use Rattle.std.proofs.lemmas.{Bool.Decides.nat_tests, Option.same_Some, Option.none-some}
 use Rattle.std.specs.List.{AllByRecursion}
 use Rattle.pas_bits.specs.Runs.{in_run}
 use Rattle.pas_bits.proofs.Runs.{run_of}
-use Rattle.pas_profile.specs.Blocks.{address_of, grain_of, length_of}
+use Rattle.pas_profile.specs.{Blocks.address_of, Blocks.grain_of, Blocks.length_of, Directories.IsKind, Directories.deed_word_of, Profiles.IsValid}
+use Rattle.pas_profile.specs.{Routes.room_by}
 use Rattle.pas_profile.specs.Classes.{class_size, class_grains, usable_grains, IsClass}
-use Rattle.pas_profile.specs.Directories.{IsKind, deed_word_of}
-use Rattle.pas_profile.specs.Profiles.{IsValid}
-use Rattle.pas_profile.specs.Routes.{room_by}
 use Rattle.pas_profile.specs.Requests.{is_shared, kind_of_class, kind_of_route, route_in, room_in}
-use Rattle.pas_profile.specs.declared.directory.Directory.{Directory}
-use Rattle.pas_profile.specs.declared.directory.Route.{Route}
-use Rattle.pas_profile.specs.declared.event.Event.{Event}
-use Rattle.pas_profile.specs.declared.event.NoRoom.{NoRoom}
-use Rattle.pas_profile.specs.declared.event.Outcome.{Outcome}
+use Rattle.pas_profile.specs.declared.{directory.Directory.Directory, directory.Route.Route, event.Event.Event, event.NoRoom.NoRoom, event.Outcome.Outcome}
+use Rattle.pas_profile.specs.declared.{name.Block.Block, profile.Profile.Profile, word.Word.Word}
 use Rattle.pas_profile.specs.declared.event.Outcome.TheVariants as TheOutcome
-use Rattle.pas_profile.specs.declared.name.Block.{Block}
-use Rattle.pas_profile.specs.declared.profile.Profile.{Profile}
-use Rattle.pas_profile.specs.declared.word.Word.TheVariants as Word
-use Rattle.pas_profile.proofs.ClassFacts.{usable_grains_le, class_suits, class_known}
-use Rattle.pas_profile.proofs.Codecs.{same_from_deed_word}
-use Rattle.pas_machine.specs.Machine.{Run, Bears}
-use Rattle.pas_machine.specs.State.{Live, live_in, deed_in}
+use Rattle.pas_profile.proofs.{ClassFacts.usable_grains_le, ClassFacts.class_suits, ClassFacts.class_known, Codecs.same_from_deed_word}
+use Rattle.pas_machine.specs.{Machine.Run, Machine.Bears, State.Live, State.live_in, State.deed_in}
 use Rattle.pas_machine.proofs.LiveBlocks.{all_borne}
-use Rattle.pas_steps.specs.Desks.{triples}
-use Rattle.pas_steps.specs.Events.{events_by}
+use Rattle.pas_steps.specs.{Desks.triples, Events.events_by, Views.View, Views.known_deed, Views.usable_by_kind}
 use Rattle.pas_steps.specs.Lists.{Whole, part, word_after, visible, Legal}
-use Rattle.pas_steps.specs.Views.{View, known_deed, usable_by_kind}
 use Rattle.pas_steps.specs.declared.step.Made.{Made}
-use Rattle.pas_steps.proofs.Adding.{triples_append}
-use Rattle.pas_steps.proofs.Apart.{no_events}
-use Rattle.pas_steps.proofs.Frames.{events_append}
-use Rattle.pas_steps.proofs.Parts.{part_of_own}
+use Rattle.pas_steps.proofs.{Adding.triples_append, Apart.no_events, Frames.events_append, Parts.part_of_own}
 use Rattle.pas_core.specs.Good.{IsPartOf, word_of_deed}
-use Rattle.pas_core.proofs.Deeds.{deed_of, directory_is_of}
-use Rattle.pas_core.proofs.MachineRuns.{runs}
-use Rattle.pas_core.proofs.OneActor.{legal_before, legal_earlier}
-use Rattle.pas_free_log.specs.Flushes.{Settled, shown_for, event_for}
-use Rattle.pas_free_log.specs.Logs.{entry_of, sized_entry}
-use Rattle.pas_free_log.specs.declared.ending.Outcome.{Outcome as TheEnd}
-use Rattle.pas_free_log.specs.declared.ending.Outcome.TheVariants.{Ended, Refused}
-use Rattle.pas_free_log.specs.declared.log.Entry.{Entry}
-use Rattle.pas_free_log.specs.declared.noting.EndedRun.{EndedRun}
-use Rattle.pas_cache.specs.Calls.{TakesEntry}
-use Rattle.pas_cache.specs.Changes.{EmptiesLog, EmptiesFull}
-use Rattle.pas_cache.specs.Contents.{Cached}
+use Rattle.pas_core.proofs.{Deeds.deed_of, Deeds.directory_is_of, MachineRuns.runs, OneActor.legal_before, OneActor.legal_earlier}
+use Rattle.pas_free_log.specs.{Flushes.Settled, Flushes.shown_for, Flushes.event_for, Logs.entry_of, Logs.sized_entry}
+use Rattle.pas_free_log.specs.declared.{ending.Outcome.Outcome as TheEnd, ending.Outcome.TheVariants.Ended, ending.Outcome.TheVariants.Refused, log.Entry.Entry}
+use Rattle.pas_free_log.specs.declared.{noting.EndedRun.EndedRun}
+use Rattle.pas_cache.specs.{Calls.TakesEntry, Changes.EmptiesLog, Changes.EmptiesFull, Contents.Cached}
 use Rattle.pas_cache.specs.Serves.{Wanted, wanted_for, IsPlaced, IsInSlot, IsPreparing, IsDeedOf}
-use Rattle.pas_scavenger.specs.Pages.{unback_of}
-use Rattle.pas_scavenger.specs.Passes.{unbacks_in}
-use Rattle.pas_report.specs.declared.record.Record.{Record}
-use Rattle.pas_report.specs.declared.record.Said.{Said}
+use Rattle.pas_scavenger.specs.{Pages.unback_of, Passes.unbacks_in}
+use Rattle.pas_report.specs.declared.record.{Record.Record, Said.Said}
 use Rattle.pas_guard.specs.Sweeps.{SweepSteps, sweeping}
 use Rattle.pas_guard.specs.declared.book.Guard.{Guard}
-use Rattle.pas_trace.specs.Acts.{Act}
-use Rattle.pas_trace.specs.Asked.{request_in}
-use Rattle.pas_trace.specs.declared.item.Request.{Request}
-use Rattle.pas_trace.specs.declared.plan.Op.{Op}
-use Rattle.pas_trace.specs.declared.plan.What.{What}
-use Rattle.pas_answers.specs.Answers.{Progress, Having, Answer, having, IsGiven, RefusalEnds, RequestEnds, IsFreed, IsFreedBy, IsStopped, IsAnswered, IsRemadeBy, IsReplaced, request_for, standing_for, entry_with, wanted_by}
+use Rattle.pas_trace.specs.{Acts.Act, Asked.request_in}
+use Rattle.pas_trace.specs.declared.{item.Request.Request, plan.Op.Op, plan.What.What}
+use Rattle.pas_answers.specs.Answers.{Progress, Having, Answer, having, IsGiven, RefusalEnds, RequestEnds, IsFreed, IsFreedBy, IsStopped, IsAnswered}
+use Rattle.pas_answers.specs.Answers.{IsRemadeBy, IsReplaced, request_for, standing_for, entry_with, wanted_by}
 use Rattle.pas_answers.specs.Guarding.{Tried, IsTried, TryEnds, after_trying}
 use Rattle.pas_answers.specs.Reaching.{AnswersTried, AnswersGuarded}
 use Rattle.pas_answers.proofs.Reached.{tried_on, pieces_back}
 use Rattle.pas_same_text.specs.Acts.{AreBlocksUsable, HasUsableBlocks, KeepsUsable}
-use Rattle.pas_same_text.proofs.Flushes.{visible_steps}
-use Rattle.pas_same_text.proofs.RestingPages.{word_known}
+use Rattle.pas_same_text.proofs.{Flushes.visible_steps, RestingPages.word_known}
 
 -- ---- one event
 -- the block may be given so: each of its grains is one that blocks of its page's directory may cover
@@ -202,10 +174,8 @@ slot_at class false block g is slot room of =
     let at = run_of (grain_of block.name) (length_of block) g of in
     let low = at.0 in let high = at.1 in
     let long : length_of block ≡ class_grains class = ap (λ (n : ℕ). n / 16) room in
-    let address = slot.address in
-    let within = slot.is_start.within in
     let most = usable_grains_le class is in
-    let lt : g % 256 < usable_grains class = omega (arith, low, high, long, address, within, most) in
+    let lt : g % 256 < usable_grains class = omega (arith, low, high, long, slot.address, slot.is_start.within, most) in
     grind (arith, nat_tests, lt)
 
 placed_usable : (f : Profile) (shared : Bool) (size align : ℕ) (route : Route) (block : Block) (g : ℕ) → route_in f size align ≡ route → IsPlaced route block → block.room ≡ room_in f size align → in_run (grain_of block.name) (length_of block) g ≡ true → usable_by_kind (kind_of_route shared route) (g % 256) ≡ true

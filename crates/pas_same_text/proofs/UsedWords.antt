@@ -1,27 +1,19 @@
 -- FREE WORDS OF A PAGE in the text, whenever all actors are at rest: the lowest word with a grain that isn't free, and the free grains of a word as a number, are those of the replay.
-use Rattle.std.proofs.Common.{◌≡◌, ◌≢◌, ℕ, zero, suc, ◌+◌, ◌-◌, ◌*◌, ◌/◌, ◌%◌, ◌^◌, ◌<◌, ◌≤◌, ◌==◌, Bool, true, false, not, if◌then◌else◌, None, Some, ap, sym, ◌∙◌, arith}
-use Rattle.std.proofs.lemmas.Bool.{false_from_ne_true}
-use Rattle.std.proofs.lemmas.Nat.{mod-pow-add}
-use Rattle.std.proofs.lemmas.Nat.Bits.{bit_at-lt}
+use Rattle.std.proofs.Common.{◌≡◌, ◌≢◌, ℕ, zero, suc, ◌+◌, ◌-◌, ◌*◌, ◌/◌, ◌%◌, ◌^◌, ◌<◌, ◌≤◌, ◌==◌, Bool, true, false, not, if◌then◌else◌, None, Some, ap, sym}
+use Rattle.std.proofs.Common.{◌∙◌, arith}
+use Rattle.std.proofs.lemmas.{Bool.false_from_ne_true, Nat.mod-pow-add, Nat.Bits.bit_at-lt}
 use Rattle.std.specs.Int.{bit_at}
 use Rattle.pas_bits.specs.Bits.{has_bit}
 use Rattle.pas_bits.proofs.Words.{full_bit}
 use Rattle.pas_profile.specs.Profiles.{IsValid}
-use Rattle.pas_profile.specs.declared.profile.Profile.{Profile}
-use Rattle.pas_profile.specs.declared.word.Word.TheVariants as Word
-use Rattle.pas_steps.specs.Lists.{word_after}
-use Rattle.pas_steps.specs.Views.{all_ones}
+use Rattle.pas_profile.specs.declared.{profile.Profile.Profile, word.Word.Word}
+use Rattle.pas_steps.specs.{Lists.word_after, Views.all_ones}
 use Rattle.pas_steps.proofs.Bits.{all_set}
 use Rattle.pas_core.proofs.Stamps.{words_fit}
 use Rattle.pas_answers.specs.Answers.{Progress}
-use Rattle.pas_one_text.specs.State.{World}
-use Rattle.pas_one_text.specs.Pages.{is_free, are_free, is_guarded}
-use Rattle.pas_one_text.specs.Passes.{used_word, free_bits}
-use Rattle.pas_same_text.specs.Same.{HasSame}
-use Rattle.pas_same_text.specs.Acts.{IsBetween}
-use Rattle.pas_same_text.proofs.GivenBack.{each_at, each_all}
-use Rattle.pas_same_text.proofs.RestingPages.{free_at}
-use Rattle.pas_same_text.proofs.SearchedPages.{find_first, find_none}
+use Rattle.pas_one_text.specs.{State.World, Pages.is_free, Pages.are_free, Pages.is_guarded, Passes.used_word, Passes.free_bits}
+use Rattle.pas_same_text.specs.{Same.HasSame, Acts.IsBetween}
+use Rattle.pas_same_text.proofs.{GivenBack.each_at, GivenBack.each_all, RestingPages.free_at, SearchedPages.find_first, SearchedPages.find_none}
 
 -- ---- a number by its lowest bits
 bit_worth : (x m : ℕ) → x < 2 → (if x == 1 then m else 0) ≡ x * m

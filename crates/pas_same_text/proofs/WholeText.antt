@@ -1,33 +1,24 @@
 -- The first state of the text is that of a replay that did nothing yet, and the text of a state that is the replay's is what is written of it.
-use Rattle.std.proofs.Common.{◌≡◌, ℕ, zero, suc, ◌+◌, ◌%◌, ◌==◌, Bool, true, false, not, List, [], ◌++◌, length, map, if◌then◌else◌, ◌-◌, codes, Option, None, Some, inl, inr, refl, ap, sym, ◌∙◌, subst}
+use Rattle.std.proofs.Common.{◌≡◌, ℕ, zero, suc, ◌+◌, ◌%◌, ◌==◌, Bool, true, false, not, List, [], ◌++◌, length, map, if◌then◌else◌, ◌-◌, codes, Option, None}
+use Rattle.std.proofs.Common.{Some, inl, inr, refl, ap, sym, ◌∙◌, subst}
 use Rattle.std.proofs.lemmas.Option.{none-some}
 use Rattle.pas_bits.proofs.Words.{none_of_zero}
-use Rattle.pas_profile.specs.Directories.{directory_read}
-use Rattle.pas_profile.specs.Profiles.{IsValid}
-use Rattle.pas_profile.specs.declared.directory.Directory.{Directory}
-use Rattle.pas_profile.specs.declared.event.Event.{Event}
-use Rattle.pas_profile.specs.declared.profile.Profile.{Profile}
-use Rattle.pas_profile.specs.declared.word.Word.TheVariants as Word
+use Rattle.pas_profile.specs.{Directories.directory_read, Profiles.IsValid}
+use Rattle.pas_profile.specs.declared.{directory.Directory.Directory, event.Event.Event, profile.Profile.Profile, word.Word.Word}
 use Rattle.pas_profile.proofs.Codecs.{read-deed_word_of, directory_from_profile}
 use Rattle.pas_machine.specs.State.{deed_in, backed_in}
 use Rattle.pas_steps.specs.Lists.{Whole, word_after, visible, Legal}
-use Rattle.pas_core.specs.Good.{word_of_deed}
-use Rattle.pas_core.specs.Rights.{parked_bit, IsRightInOnePlace}
-use Rattle.pas_core.proofs.Deeds.{deed_of, directory_is_of}
-use Rattle.pas_core.proofs.Rights.{right_in_one_place}
-use Rattle.pas_report.specs.Lines.{lines_of}
-use Rattle.pas_report.specs.Marks.{Marked, marks_after, offered_after}
+use Rattle.pas_core.specs.{Good.word_of_deed, Rights.parked_bit, Rights.IsRightInOnePlace}
+use Rattle.pas_core.proofs.{Deeds.deed_of, Deeds.directory_is_of, Rights.right_in_one_place}
+use Rattle.pas_report.specs.{Lines.lines_of, Marks.Marked, Marks.marks_after, Marks.offered_after, Rests.AreTrueMarks}
 use Rattle.pas_report.specs.Reports.{machine_page, machine_pages, total_line, report_text}
-use Rattle.pas_report.specs.Rests.{AreTrueMarks}
 use Rattle.pas_report.specs.declared.record.Record.{Record}
 use Rattle.pas_trace.specs.Acts.{numbers_from}
-use Rattle.pas_answers.specs.Answers.{Progress}
-use Rattle.pas_answers.specs.Replays.{at_start, empty_cache, empty_caches}
+use Rattle.pas_answers.specs.{Answers.Progress, Replays.at_start, Replays.empty_cache, Replays.empty_caches}
 use Rattle.pas_one_text.specs.State.{Cache, World, no_cache, cache_in}
 use Rattle.pas_one_text.specs.Order.{opened}
 use Rattle.pas_one_text.specs.Reports.{offered_by, parked_by, marks_of, text_of}
-use Rattle.pas_same_text.specs.Same.{IsSame, IsSameCache, AreSameCaches}
-use Rattle.pas_same_text.specs.Acts.{AreBlocksUsable}
+use Rattle.pas_same_text.specs.{Same.IsSame, Same.IsSameCache, Same.AreSameCaches, Acts.AreBlocksUsable}
 use Rattle.pas_same_text.proofs.EntrySteps.{read_deed}
 
 -- ==== THE START

@@ -2,26 +2,20 @@
 use Rattle.std.proofs.Common.{ℕ, List, [], ◌∷◌, Option, None, Some, refl, ap}
 use Rattle.std.specs.List.{AllByRecursion, filter}
 use Rattle.pas_profile.specs.Requests.{route_in, room_in}
-use Rattle.pas_profile.specs.declared.event.Outcome.{Outcome}
-use Rattle.pas_profile.specs.declared.name.Block.{Block}
-use Rattle.pas_profile.specs.declared.profile.Profile.{Profile}
+use Rattle.pas_profile.specs.declared.{event.Outcome.Outcome, name.Block.Block, profile.Profile.Profile}
 use Rattle.pas_free_log.specs.Logs.{entry_of, sized_entry}
 use Rattle.pas_free_log.specs.declared.noting.EndedRun.{EndedRun}
-use Rattle.pas_report.specs.declared.record.Record.{Record}
-use Rattle.pas_report.specs.declared.record.Said.{Said}
+use Rattle.pas_report.specs.declared.record.{Record.Record, Said.Said}
 use Rattle.pas_answers.specs.Answers.{standing_for, suits}
-use Rattle.pas_trace.specs.Acts.{Act}
-use Rattle.pas_trace.specs.Asked.{request_in}
-use Rattle.pas_trace.specs.EveryPlan.{IsThread}
+use Rattle.pas_trace.specs.{Acts.Act, Asked.request_in, EveryPlan.IsThread}
 use Rattle.pas_trace.specs.declared.plan.What.{What}
-use Rattle.pas_one_text.specs.State.{Cache, each}
-use Rattle.pas_one_text.specs.Indexes.{indexes_run, settles}
-use Rattle.pas_one_text.specs.Pages.{page_numbers, is_hinted}
+use Rattle.pas_one_text.specs.{State.Cache, State.each, Indexes.indexes_run, Indexes.settles, Pages.page_numbers, Pages.is_hinted}
 use Rattle.pas_one_text.specs.Passes.{ticks, comes_to, examines, passes, reads_epoch}
 use Rattle.pas_one_text.specs.Order.{keeps_block, logs_replaced, logs_if_served, replaces, remakes, operates, begins, acts_on}
-use Rattle.pas_same_text.proofs.WiderCaches.{AreUnused, cache_same, outcome_same}
-use Rattle.pas_same_text.proofs.WiderFrees.{Leaves, nothing, said, after, as_read, either, each_leaves, changed, flushes_leave, stops_leave, idle_leaves, logs_leave, frees_leave, what_leaves}
-use Rattle.pas_same_text.proofs.WiderRequests.{serves_leave, all_lowered_leave, guards_leave}
+use Rattle.pas_same_text.proofs.{WiderCaches.AreUnused, WiderCaches.cache_same, WiderCaches.outcome_same, WiderRequests.serves_leave}
+use Rattle.pas_same_text.proofs.{WiderRequests.all_lowered_leave, WiderRequests.guards_leave}
+use Rattle.pas_same_text.proofs.WiderFrees.{Leaves, nothing, said, after, as_read, either, each_leaves, changed, flushes_leave, stops_leave, idle_leaves}
+use Rattle.pas_same_text.proofs.WiderFrees.{logs_leave, frees_leave, what_leaves}
 
 -- whoever uses a cache by the act is a thread
 abbrev pub IsByThreads : Profile → Act → Type 0

@@ -1,15 +1,10 @@
 -- MORE CACHES BEHIND those of the threads, which nobody uses: what is read of a state of the text doesn't go by them.
-use Rattle.std.proofs.Common.{◌≡◌, ℕ, zero, suc, ◌+◌, ◌-◌, ◌*◌, ◌/◌, ◌^◌, ◌≤◌, ◌≢◌, ◌==◌, nat_le, nat_lt, Bool, true, false, not, ◌&&◌, ◌||◌, if◌then◌else◌, List, [], ◌∷◌, ◌++◌, length, take, Option, None, Some, Err, refl, ap, ◌∙◌, append-nil, arith}
+use Rattle.std.proofs.Common.{◌≡◌, ℕ, zero, suc, ◌+◌, ◌-◌, ◌*◌, ◌/◌, ◌^◌, ◌≤◌, ◌≢◌, ◌==◌, nat_le, nat_lt, Bool, true, false, not, ◌&&◌, ◌||◌, if◌then◌else◌}
+use Rattle.std.proofs.Common.{List, [], ◌∷◌, ◌++◌, length, take, Option, None, Some, Err, refl, ap, ◌∙◌, append-nil, arith}
 use Rattle.std.specs.List.{list_any, filter, find}
-use Rattle.std.proofs.Math.Path.{fun_ext}
-use Rattle.std.proofs.lemmas.Bool.{eqb-false}
-use Rattle.std.proofs.lemmas.List.Concat.{flat_map-append}
-use Rattle.pas_profile.specs.Classes.{class_grains, slots_of}
-use Rattle.pas_profile.specs.declared.directory.Directory.{Directory}
-use Rattle.pas_profile.specs.declared.event.NoRoom.{NoRoom}
-use Rattle.pas_profile.specs.declared.event.Outcome.{Outcome}
-use Rattle.pas_profile.specs.declared.profile.Profile.{Profile}
-use Rattle.pas_profile.specs.Requests.{is_shared}
+use Rattle.std.proofs.{Math.Path.fun_ext, lemmas.Bool.eqb-false, lemmas.List.Concat.flat_map-append}
+use Rattle.pas_profile.specs.{Classes.class_grains, Classes.slots_of, Requests.is_shared}
+use Rattle.pas_profile.specs.declared.{directory.Directory.Directory, event.NoRoom.NoRoom, event.Outcome.Outcome, profile.Profile.Profile}
 use Rattle.pas_machine.specs.State.{backed_in, epoch_in}
 use Rattle.pas_one_text.specs.State.{Local, Cache, World, no_cache, cache_in, with_cache, cache_of}
 use Rattle.pas_one_text.specs.Indexes.{named_first}
@@ -18,8 +13,7 @@ use Rattle.pas_one_text.specs.Searches.{some_of, page_or, refusal_by, refusal, s
 use Rattle.pas_one_text.specs.Classes.{spaced, free_slots, first_row, slots_for, local_on}
 use Rattle.pas_one_text.specs.Runs.{lowest_place, large_of, is_whole, is_usable, if_whole, named_run, is_run, lowest_run}
 use Rattle.pas_one_text.specs.Passes.{used_word, free_bits, outcome_backed, outcome_of}
-use Rattle.pas_same_text.proofs.CacheLists.{all_locals}
-use Rattle.pas_same_text.proofs.Frames.{offered_same}
+use Rattle.pas_same_text.proofs.{CacheLists.all_locals, Frames.offered_same}
 
 -- each of these is that of a thread which did nothing
 pub record AreUnused (more : List Cache) : Type 0 where
@@ -32,11 +26,11 @@ wider more w = record w { caches = w.caches ++ more }
 
 -- ---- lists of caches
 module _ (more : List Cache) (unused : AreUnused more) where
-  pub cache_behind : (cs : List Cache) (k : ℕ) → cache_in (cs ++ more) k ≡ cache_in cs k
+  cache_behind : (cs : List Cache) (k : ℕ) → cache_in (cs ++ more) k ≡ cache_in cs k
   cache_behind [] k = unused.each k
   cache_behind (c ∷ cs) k = ap (λ (other : Cache). if k == 1 then c else other) (cache_behind cs (k - 1))
 
-  pub locals_behind : (cs : List Cache) → all_locals (cs ++ more) ≡ all_locals cs
+  locals_behind : (cs : List Cache) → all_locals (cs ++ more) ≡ all_locals cs
   locals_behind cs = flat_map-append (λ (c : Cache). c.locals) cs more ∙ (ap (λ (ls : List Local). all_locals cs ++ ls) unused.locals ∙ append-nil (all_locals cs))
 
 with_at : (more : List Cache) (c : Cache) (cs : List Cache) (k : ℕ) (new : Cache) (t : Bool) → (t ≡ false → with_cache (cs ++ more) (k - 1) new ≡ with_cache cs (k - 1) new ++ more)

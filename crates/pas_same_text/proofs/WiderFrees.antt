@@ -1,24 +1,18 @@
 -- FREES AND STOPS with more caches behind those of the threads, which nobody uses: they come to the same, with those caches behind.
-use Rattle.std.proofs.Common.{◌≡◌, ℕ, ◌+◌, ◌*◌, ◌%◌, ◌==◌, nat_le, nat_lt, Bool, true, false, ◌&&◌, if◌then◌else◌, List, [], ◌∷◌, ◌++◌, length, Option, None, Some, refl, ap, sym, ◌∙◌, subst, arith}
+use Rattle.std.proofs.Common.{◌≡◌, ℕ, ◌+◌, ◌*◌, ◌%◌, ◌==◌, nat_le, nat_lt, Bool, true, false, ◌&&◌, if◌then◌else◌, List, [], ◌∷◌, ◌++◌, length, Option, None}
+use Rattle.std.proofs.Common.{Some, refl, ap, sym, ◌∙◌, subst, arith}
 use Rattle.pas_profile.specs.Blocks.{address_of}
-use Rattle.pas_profile.specs.declared.event.Event.{Event}
-use Rattle.pas_profile.specs.declared.event.FreeFault.{FreeFault}
-use Rattle.pas_profile.specs.declared.event.Why.{Why}
-use Rattle.pas_profile.specs.declared.name.Block.{Block}
-use Rattle.pas_profile.specs.declared.profile.Profile.{Profile}
+use Rattle.pas_profile.specs.declared.{event.Event.Event, event.FreeFault.FreeFault, event.Why.Why, name.Block.Block, profile.Profile.Profile}
 use Rattle.pas_machine.specs.State.{backed_in}
 use Rattle.pas_free_log.specs.Logs.{sized_entry}
 use Rattle.pas_free_log.specs.declared.log.Entry.{Entry}
-use Rattle.pas_report.specs.declared.record.Record.{Record}
-use Rattle.pas_report.specs.declared.record.Said.{Said}
+use Rattle.pas_report.specs.declared.record.{Record.Record, Said.Said}
 use Rattle.pas_answers.specs.Answers.{said_of_fault}
 use Rattle.pas_trace.specs.EveryPlan.{IsThread}
 use Rattle.pas_one_text.specs.State.{Local, Cache, World, each, shows, says, block_at, cache_of, locals_of, set_cache}
-use Rattle.pas_one_text.specs.Indexes.{run_of, notes}
-use Rattle.pas_one_text.specs.Pages.{is_hinted, hints, minds}
-use Rattle.pas_one_text.specs.Classes.{others, gives_up}
-use Rattle.pas_one_text.specs.Frees.{pages_of, reason, is_other_room, ends_block, takes_effect, ends, flushes, gives_up_all, stops, adds, logs, frees, frees_what}
-use Rattle.pas_one_text.specs.Passes.{stops_idle}
+use Rattle.pas_one_text.specs.{Indexes.run_of, Indexes.notes, Pages.is_hinted, Pages.hints, Pages.minds, Classes.others, Classes.gives_up, Passes.stops_idle}
+use Rattle.pas_one_text.specs.Frees.{pages_of, reason, is_other_room, ends_block, takes_effect, ends, flushes, gives_up_all, stops, adds, logs, frees}
+use Rattle.pas_one_text.specs.Frees.{frees_what}
 use Rattle.pas_same_text.proofs.CacheLists.{many_with}
 use Rattle.pas_same_text.proofs.WiderCaches.{AreUnused, wider, with_behind, cache_same, empty_same}
 

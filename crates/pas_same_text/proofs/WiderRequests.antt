@@ -1,29 +1,24 @@
 -- REQUESTS with more caches behind those of the threads, which nobody uses: they come to the same, with those caches behind.
 use Rattle.std.proofs.Common.{ℕ, ◌+◌, ◌*◌, ◌/◌, nat_le, List, [], ◌∷◌, ◌++◌, length, Option, None, Some, Result, Ok, Err, refl, ap, ◌∙◌}
 use Rattle.std.specs.List.{filter, find}
-use Rattle.pas_profile.specs.Classes.{class_size}
-use Rattle.pas_profile.specs.Requests.{class_home, is_shared, room_in}
-use Rattle.pas_profile.specs.declared.directory.Directory.{Directory}
-use Rattle.pas_profile.specs.declared.directory.Route.{Route}
-use Rattle.pas_profile.specs.declared.event.Event.{Event}
-use Rattle.pas_profile.specs.declared.event.NoRoom.{NoRoom}
-use Rattle.pas_profile.specs.declared.profile.Profile.{Profile}
+use Rattle.pas_profile.specs.{Classes.class_size, Requests.class_home, Requests.is_shared, Requests.room_in}
+use Rattle.pas_profile.specs.declared.{directory.Directory.Directory, directory.Route.Route, event.Event.Event, event.NoRoom.NoRoom, profile.Profile.Profile}
 use Rattle.pas_machine.specs.State.{backed_in}
-use Rattle.pas_report.specs.declared.record.Record.{Record}
-use Rattle.pas_report.specs.declared.record.Said.{Said}
-use Rattle.pas_trace.specs.Acts.{numbers_from}
-use Rattle.pas_trace.specs.EveryPlan.{IsThread}
+use Rattle.pas_report.specs.declared.record.{Record.Record, Said.Said}
+use Rattle.pas_trace.specs.{Acts.numbers_from, EveryPlan.IsThread}
 use Rattle.pas_trace.specs.declared.item.Request.{Request}
 use Rattle.pas_one_text.specs.State.{Local, Cache, Guard, says}
-use Rattle.pas_one_text.specs.Indexes.{loses_named}
-use Rattle.pas_one_text.specs.Pages.{page_numbers, is_unowned, minds}
+use Rattle.pas_one_text.specs.{Indexes.loses_named, Pages.page_numbers, Pages.is_unowned, Pages.minds, Order.serves}
 use Rattle.pas_one_text.specs.Searches.{some_of, deeds, backs, readies, address_on, gives, refuses}
 use Rattle.pas_one_text.specs.Classes.{is_for, others, gives_up_first, gives_first, slots_for, takes_page, fetches, makes_place, serves_class_by, serves_class}
-use Rattle.pas_one_text.specs.Runs.{bitfit_of, lowest_place, gives_place, places, serves_bitfit, large_of, named_run, lowest_run, deeds_run, gives_run, serves_run, run_or, serves_pages}
-use Rattle.pas_one_text.specs.Guards.{guards_of, is_over, without_guard, lowers, lowers_ended, lowers_all, are_bare, guard_on, with_guard, raises, raises_from, guards}
-use Rattle.pas_one_text.specs.Order.{serves}
-use Rattle.pas_same_text.proofs.WiderCaches.{AreUnused, wider, refusal_same, searched_same, slots_for_same, local_same, place_same, places_same, named_same, run_same, lowest_same}
-use Rattle.pas_same_text.proofs.WiderFrees.{Leaves, nothing, shown, said, after, as_read, either, either_by, each_leaves, changed, locals_read, minds_leave, gone_leaves}
+use Rattle.pas_one_text.specs.Runs.{bitfit_of, lowest_place, gives_place, places, serves_bitfit, large_of, named_run, lowest_run, deeds_run, gives_run}
+use Rattle.pas_one_text.specs.Runs.{serves_run, run_or, serves_pages}
+use Rattle.pas_one_text.specs.Guards.{guards_of, is_over, without_guard, lowers, lowers_ended, lowers_all, are_bare, guard_on, with_guard, raises, raises_from}
+use Rattle.pas_one_text.specs.Guards.{guards}
+use Rattle.pas_same_text.proofs.WiderCaches.{AreUnused, wider, refusal_same, searched_same, slots_for_same, local_same, place_same, places_same, named_same}
+use Rattle.pas_same_text.proofs.WiderCaches.{run_same, lowest_same}
+use Rattle.pas_same_text.proofs.WiderFrees.{Leaves, nothing, shown, said, after, as_read, either, either_by, each_leaves, changed, locals_read, minds_leave}
+use Rattle.pas_same_text.proofs.WiderFrees.{gone_leaves}
 
 module _ (n : ℕ) (more : List Cache) where
   -- ---- deeds, memory, blocks and refusals

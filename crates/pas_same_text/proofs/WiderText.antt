@@ -2,15 +2,11 @@
 use Rattle.std.proofs.Common.{◌≡◌, ℕ, zero, suc, ◌+◌, Bool, not, List, [], ◌∷◌, ◌++◌, map, reverse, Option, None, Some, refl, ap, sym, ◌∙◌, zero-add, suc-add}
 use Rattle.std.specs.List.{AllByRecursion}
 use Rattle.std.proofs.Math.Path.{fun_ext}
-use Rattle.pas_profile.specs.declared.directory.Directory.{Directory}
-use Rattle.pas_profile.specs.declared.profile.Profile.{Profile}
+use Rattle.pas_profile.specs.declared.{directory.Directory.Directory, profile.Profile.Profile}
 use Rattle.pas_profile.proofs.Lists.{all_map}
 use Rattle.pas_machine.specs.State.{deed_in, backed_in}
-use Rattle.pas_report.specs.Lines.{lines_of}
-use Rattle.pas_report.specs.Marks.{Marked}
-use Rattle.pas_report.specs.Reports.{report_text}
-use Rattle.pas_trace.specs.Acts.{Act, numbers_from}
-use Rattle.pas_trace.specs.Plans.{IsPlanOf}
+use Rattle.pas_report.specs.{Lines.lines_of, Marks.Marked, Reports.report_text}
+use Rattle.pas_trace.specs.{Acts.Act, Acts.numbers_from, Plans.IsPlanOf}
 use Rattle.pas_trace.specs.declared.plan.Plan.{Plan}
 use Rattle.pas_trace.proofs.Keepers.{plan_actors}
 use Rattle.pas_answers.specs.Replays.{phases_of, region_of, threads_of, keepers_of, acts_of_plan}
@@ -18,15 +14,10 @@ use Rattle.pas_one_text.specs.State.{Cache, World, each, no_cache}
 use Rattle.pas_one_text.specs.Pages.{is_hinted}
 use Rattle.pas_one_text.specs.Order.{acts_on, opened, replayed, order_text}
 use Rattle.pas_one_text.specs.Reports.{offered_by, parked_by, marks_of, text_of}
-use Rattle.pas_same_text.specs.Known.{IsPlanned}
-use Rattle.pas_same_text.specs.Seats.{IsActOf}
-use Rattle.pas_same_text.proofs.CacheLists.{all_locals}
-use Rattle.pas_same_text.proofs.WholeText.{many_numbers, none_used}
-use Rattle.pas_same_text.proofs.ActsOfPlans.{plan_acts}
-use Rattle.pas_same_text.proofs.WiderCaches.{AreUnused, wider, offers_same}
-use Rattle.pas_same_text.proofs.WiderFrees.{IsWider}
-use Rattle.pas_same_text.proofs.WiderActs.{IsByThreads, acts_leave}
-use Rattle.pas_same_text.proofs.TextOfBytes.{bytes_told}
+use Rattle.pas_same_text.specs.{Known.IsPlanned, Seats.IsActOf}
+use Rattle.pas_same_text.proofs.{CacheLists.all_locals, WholeText.many_numbers, WholeText.none_used, ActsOfPlans.plan_acts, WiderCaches.AreUnused}
+use Rattle.pas_same_text.proofs.{WiderCaches.wider, WiderCaches.offers_same, WiderFrees.IsWider, WiderActs.IsByThreads, WiderActs.acts_leave}
+use Rattle.pas_same_text.proofs.{TextOfBytes.bytes_told}
 
 -- ---- a region with more actors opens with more caches behind
 abbrev unused_from : ℕ → ℕ → List Cache

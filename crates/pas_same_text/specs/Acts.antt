@@ -2,31 +2,23 @@
 use Rattle.std.specs.Prelude.{ℕ, ◌/◌, ◌%◌, ◌<◌, ◌≤◌, ◌≡◌, ◌⊎◌, true, false, ◌||◌, List, [], length, Some, All}
 use Rattle.pas_bits.specs.Masks.{HasMember}
 use Rattle.pas_profile.specs.Profiles.{IsValid}
-use Rattle.pas_profile.specs.declared.directory.Directory.{Directory}
-use Rattle.pas_profile.specs.declared.event.Event.{Event}
-use Rattle.pas_profile.specs.declared.profile.Profile.{Profile}
+use Rattle.pas_profile.specs.declared.{directory.Directory.Directory, event.Event.Event, profile.Profile.Profile}
 use Rattle.pas_machine.specs.State.{Live, live_in, deed_in, backed_in}
-use Rattle.pas_core.specs.Good.{IsPartOf}
+use Rattle.pas_core.specs.{Good.IsPartOf, Stamps.AllStamped, Stamps.AllKeepToEnds}
 use Rattle.pas_steps.specs.Clear.{IsClear, HasNothing}
 use Rattle.pas_steps.specs.Views.{View, holds, has_right, usable_by_kind}
 use Rattle.pas_steps.specs.Lists.{Whole, part, visible, Legal}
-use Rattle.pas_core.specs.Stamps.{AllStamped, AllKeepToEnds}
 use Rattle.pas_large.specs.Doors.{Indexes}
 use Rattle.pas_segregated.specs.declared.slots.Slots.{Slots}
 use Rattle.pas_free_log.specs.Conditions.{IsEntryOf}
 use Rattle.pas_cache.specs.Contents.{Cached}
 use Rattle.pas_cache.specs.Locals.{local_for, any_covers, any_keeps, IsLocal, AreApart}
-use Rattle.pas_guard.specs.Books.{is_outer, Each, IsGuardOf, KnowsGuard}
-use Rattle.pas_guard.specs.Books.{AreApart as AreGuardsApart}
+use Rattle.pas_guard.specs.Books.{is_outer, Each, IsGuardOf, KnowsGuard, AreApart as AreGuardsApart}
 use Rattle.pas_guard.specs.Keepers.{IsBeside}
 use Rattle.pas_guard.specs.declared.book.Guard.{Guard}
-use Rattle.pas_trace.specs.Acts.{Act}
-use Rattle.pas_trace.specs.EveryPlan.{IsThread}
-use Rattle.pas_answers.specs.Answers.{Caches, Books, Progress}
-use Rattle.pas_answers.specs.Indexes.{indexes_after}
-use Rattle.pas_answers.specs.Reaching.{Advances}
-use Rattle.pas_one_text.specs.State.{World}
-use Rattle.pas_one_text.specs.Order.{acts_on}
+use Rattle.pas_trace.specs.{Acts.Act, EveryPlan.IsThread}
+use Rattle.pas_answers.specs.{Answers.Caches, Answers.Books, Answers.Progress, Indexes.indexes_after, Reaching.Advances}
+use Rattle.pas_one_text.specs.{State.World, Order.acts_on}
 use Rattle.pas_same_text.specs.Same.{IsSame, HasSame}
 
 -- ---- actors between two acts

@@ -1,24 +1,16 @@
 -- WHAT A LOGGED FREE SHOWS.
 use Rattle.std.specs.Prelude.{ℕ, ◌≡◌, Bool, true, false, not, ◌&&◌, List, [], ◌∷◌, ◌++◌, Some}
-use Rattle.pas_profile.specs.Blocks.{address_of}
-use Rattle.pas_profile.specs.declared.event.Event.{Event}
-use Rattle.pas_profile.specs.declared.event.Why.{Why}
+use Rattle.pas_profile.specs.{Blocks.address_of, Profiles.IsValid}
+use Rattle.pas_profile.specs.declared.{event.Event.Event, event.Why.Why, profile.Profile.Profile, word.Word.Word}
 use Rattle.pas_machine.specs.State.{Live, live_in}
-use Rattle.pas_free_log.specs.declared.log.Entry.{Entry}
-use Rattle.pas_free_log.specs.Flushes.{event_for}
-use Rattle.pas_free_log.specs.Logs.{is_sized}
-use Rattle.pas_free_log.specs.declared.ending.Outcome.{Outcome}
+use Rattle.pas_free_log.specs.declared.{log.Entry.Entry, ending.Outcome.Outcome, noting.EndedRun.EndedRun}
+use Rattle.pas_free_log.specs.{Flushes.event_for, Logs.is_sized}
 use Rattle.pas_report.specs.declared.record.Record.{Record}
 use Rattle.pas_cache.specs.Changes.{EmptiesLog}
-use Rattle.pas_free_log.specs.declared.noting.EndedRun.{EndedRun}
-use Rattle.pas_profile.specs.Profiles.{IsValid}
-use Rattle.pas_profile.specs.declared.profile.Profile.{Profile}
-use Rattle.pas_profile.specs.declared.word.Word.TheVariants as Word
 use Rattle.pas_steps.specs.Desks.{triples}
 use Rattle.pas_steps.specs.Lists.{Whole, visible, word_after, Legal}
 use Rattle.pas_steps.specs.declared.step.Made.{Made}
-use Rattle.pas_one_text.specs.State.{World, live_after, log_of}
-use Rattle.pas_one_text.specs.Frees.{is_other_room}
+use Rattle.pas_one_text.specs.{State.World, State.live_after, State.log_of, Frees.is_other_room}
 use Rattle.pas_same_text.specs.Same.{lives_in}
 
 -- the text shows just this event more; caches and hints may change

@@ -1,24 +1,15 @@
 -- WHAT IS KNOWN OF AN ACT of a replay in the order of the text, and what it owes by that.
 use Rattle.std.specs.Prelude.{ℕ, ◌≡◌, List, Some, MatchOption}
 use Rattle.std.specs.List.{AllByRecursion}
-use Rattle.pas_profile.specs.Profiles.{IsValid, IsAdmitted}
-use Rattle.pas_profile.specs.Requests.{route_in}
-use Rattle.pas_profile.specs.declared.directory.Route.{Route}
-use Rattle.pas_profile.specs.declared.profile.Profile.{Profile}
+use Rattle.pas_profile.specs.{Profiles.IsValid, Profiles.IsAdmitted, Requests.route_in}
+use Rattle.pas_profile.specs.declared.{directory.Route.Route, profile.Profile.Profile}
 use Rattle.pas_steps.specs.Lists.{Legal}
 use Rattle.pas_large.specs.Doors.{Indexes}
-use Rattle.pas_trace.specs.Acts.{Act}
-use Rattle.pas_trace.specs.Asked.{request_in, keeper_in}
+use Rattle.pas_trace.specs.{Acts.Act, Asked.request_in, Asked.keeper_in}
 use Rattle.pas_trace.specs.declared.plan.What.{What}
-use Rattle.pas_answers.specs.Answers.{Progress}
-use Rattle.pas_answers.specs.Indexes.{ActIsNamedBy, AllAreNamedBy, indexes_after}
-use Rattle.pas_answers.specs.Reaching.{Reaches}
-use Rattle.pas_answers.specs.Rests.{AllAtRest}
-use Rattle.pas_one_text.specs.State.{World}
-use Rattle.pas_one_text.specs.Order.{acts_on}
-use Rattle.pas_same_text.specs.Same.{IsSame}
-use Rattle.pas_same_text.specs.Acts.{IsTaken, HasUsableBlocks, AreEndsStamped}
-use Rattle.pas_same_text.specs.Seats.{IsActOf, AreSeated}
+use Rattle.pas_answers.specs.{Answers.Progress, Indexes.ActIsNamedBy, Indexes.AllAreNamedBy, Indexes.indexes_after, Reaching.Reaches, Rests.AllAtRest}
+use Rattle.pas_one_text.specs.{State.World, Order.acts_on}
+use Rattle.pas_same_text.specs.{Same.IsSame, Acts.IsTaken, Acts.HasUsableBlocks, Acts.AreEndsStamped, Seats.IsActOf, Seats.AreSeated}
 
 -- ---- who acts, and what is asked for
 -- the operation's request is one that the profile admits, if it asks for anything

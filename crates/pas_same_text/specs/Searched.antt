@@ -1,20 +1,13 @@
 -- A SEARCH in a replay beside that of the text.
 use Rattle.std.specs.Prelude.{ℕ, ◌≡◌, true, false, List, ◌++◌}
 use Rattle.pas_profile.specs.Profiles.{IsValid, IsPage, IsDirectoryOf}
-use Rattle.pas_profile.specs.declared.directory.Directory.{Directory}
-use Rattle.pas_profile.specs.declared.profile.Profile.{Profile}
-use Rattle.pas_steps.specs.Desks.{triples}
-use Rattle.pas_steps.specs.Evidence.{Readings, IsAntitone}
-use Rattle.pas_steps.specs.Kinds.{kind_of, is_in, lending}
-use Rattle.pas_steps.specs.Lists.{part, Legal}
-use Rattle.pas_steps.specs.Past.{Always}
-use Rattle.pas_steps.specs.Views.{has_right, KnowsDeed}
+use Rattle.pas_profile.specs.declared.{directory.Directory.Directory, profile.Profile.Profile}
+use Rattle.pas_steps.specs.{Desks.triples, Evidence.Readings, Evidence.IsAntitone, Kinds.kind_of, Kinds.is_in, Kinds.lending, Lists.part, Lists.Legal}
+use Rattle.pas_steps.specs.{Past.Always, Views.has_right, Views.KnowsDeed}
 use Rattle.pas_steps.specs.declared.step.Made.{Made}
 use Rattle.pas_core.specs.Rights.{free_of_page}
 use Rattle.pas_answers.specs.Answers.{Progress}
-use Rattle.pas_one_text.specs.State.{World}
-use Rattle.pas_one_text.specs.Pages.{is_guarded}
-use Rattle.pas_one_text.specs.Searches.{some_of}
+use Rattle.pas_one_text.specs.{State.World, Pages.is_guarded, Searches.some_of}
 use Rattle.pas_same_text.specs.Same.{ArePagesSame}
 
 -- Where nothing fits on a page by its free grains in the replay, the text finds nothing that fits there, and it finds something where something does: of pages

@@ -3,11 +3,9 @@ use Rattle.std.specs.Prelude.{ℕ, ◌<◌, ◌≤◌, ◌≡◌, true, false, [
 use Rattle.pas_profile.specs.declared.profile.Profile.{Profile}
 use Rattle.pas_machine.specs.State.{backed_in}
 use Rattle.pas_steps.specs.Lists.{visible}
-use Rattle.pas_guard.specs.Books.{is_outer, Each}
-use Rattle.pas_guard.specs.Keepers.{IsBeside}
+use Rattle.pas_guard.specs.{Books.is_outer, Books.Each, Keepers.IsBeside}
 use Rattle.pas_trace.specs.Acts.{Act}
-use Rattle.pas_answers.specs.Answers.{Progress}
-use Rattle.pas_answers.specs.Replays.{empty_cache}
+use Rattle.pas_answers.specs.{Answers.Progress, Replays.empty_cache}
 
 -- one of so many threads; a keeper of the region behind them
 abbrev pub IsThreadOf : ℕ → ℕ → Type 0

@@ -1,14 +1,11 @@
 -- WHAT IS WRITTEN OF A REPLAY, told by a state of the text.
 use Rattle.std.specs.Prelude.{◌≡◌, List, ◌++◌, reverse}
 use Rattle.pas_steps.specs.Lists.{Whole, visible}
-use Rattle.pas_report.specs.Lines.{lines_of}
-use Rattle.pas_report.specs.Marks.{marks_after}
-use Rattle.pas_report.specs.Reports.{report_text}
+use Rattle.pas_report.specs.{Lines.lines_of, Marks.marks_after, Reports.report_text}
 use Rattle.pas_report.specs.declared.record.Record.{Record}
 use Rattle.pas_trace.specs.declared.plan.Plan.{Plan}
 use Rattle.pas_answers.specs.Replays.{region_of}
-use Rattle.pas_one_text.specs.State.{World}
-use Rattle.pas_one_text.specs.Reports.{text_of}
+use Rattle.pas_one_text.specs.{State.World, Reports.text_of}
 
 -- The text of the state is what is written of the replay: the lines of its records, and the report of the machine that its events reach, with the marks after its list. The
 -- state has its records and its events.

@@ -1,36 +1,25 @@
 -- Rows of words of pages.
-use Rattle.std.proofs.Common.{◌≡◌, ℕ, ◌/◌, ◌%◌, ◌<◌, ◌==◌, false, ◌||◌, List, length, ap, sym, ◌∙◌, inl, inr, ◌≢◌, ◌+◌, ◌-◌, ◌*◌, ◌≤◌, ◌&&◌, Bool, true, if◌then◌else◌, [], ◌∷◌, ◌++◌, slice_index, slice_set, replicate, refl, subst, arith, true≢false, length-append, get_or-set_same, get_or-set_other, ◌^◌, nat_lt, not, bit_and}
-use Rattle.std.proofs.Math.ListN.{set, get_or}
-use Rattle.std.proofs.lemmas.List.{get_or-replicate, get_or_past}
-use Rattle.std.proofs.lemmas.Bool.{cases_lt, cases_eq, ne_eqb, cases_Bool, false_from_ne_true, eq-eqb, lt-ltb, le-ltb, ltb-true, ltb-false, and_parts, not-true}
-use Rattle.pas_bits.specs.Bits.{has_bit}
-use Rattle.pas_bits.specs.PageVectors.{is_in_word}
+use Rattle.std.proofs.Common.{◌≡◌, ℕ, ◌/◌, ◌%◌, ◌<◌, ◌==◌, false, ◌||◌, List, length, ap, sym, ◌∙◌, inl, inr, ◌≢◌, ◌+◌, ◌-◌, ◌*◌, ◌≤◌, ◌&&◌, Bool, true}
+use Rattle.std.proofs.Common.{if◌then◌else◌, [], ◌∷◌, ◌++◌, slice_index, slice_set, replicate, refl, subst, arith, true≢false, length-append, get_or-set_same}
+use Rattle.std.proofs.Common.{get_or-set_other, ◌^◌, nat_lt, not, bit_and, ne_eqb, eq-eqb, lt-ltb, le-ltb, ltb-true, ltb-false, pow_pos}
+use Rattle.std.proofs.{Math.ListN.set, Math.ListN.get_or, lemmas.List.get_or-replicate, lemmas.List.get_or_past, Math.Pow.pow-lt, lemmas.Nat.Bits.bit_at_ones}
+use Rattle.std.proofs.{lemmas.Nat.Bits.bit_at_above, Math.Bool.and-true}
+use Rattle.std.proofs.lemmas.Bool.{cases_lt, cases_eq, cases_Bool, false_from_ne_true, and_parts, not-true}
+use Rattle.pas_bits.specs.{Bits.has_bit, PageVectors.is_in_word}
 use Rattle.pas_bits.proofs.Words.{none_of_zero, is_zero, is_one, bit_cleared}
-use Rattle.pas_scan.specs.Marks.{is_marked}
-use Rattle.pas_profile.specs.Directories.{IsKind, number_of, deed_word_numbered}
-use Rattle.pas_profile.specs.Profiles.{IsPage}
-use Rattle.pas_profile.specs.declared.directory.Directory.{Directory}
-use Rattle.pas_profile.specs.declared.profile.Profile.{Profile}
-use Rattle.pas_profile.specs.declared.word.Word.TheVariants as Word
+use Rattle.pas_scan.specs.{Marks.is_marked, Scan.IsFirstOffered}
+use Rattle.pas_profile.specs.{Directories.IsKind, Directories.number_of, Directories.deed_word_numbered, Profiles.IsPage}
+use Rattle.pas_profile.specs.declared.{directory.Directory.Directory, profile.Profile.Profile, word.Word.Word}
 use Rattle.pas_profile.proofs.Codecs.{numbered}
 use Rattle.pas_steps.specs.Views.{View, has_right, known_deed, deed_after}
-use Rattle.pas_steps.specs.Agreement.{Agreed, Agrees, AgreesEligible}
-use Rattle.pas_steps.specs.Past.{Once}
-use Rattle.pas_steps.specs.Frames.{IsScan, OnlyScans}
-use Rattle.pas_steps.specs.Desks.{made}
-use Rattle.pas_steps.specs.declared.step.Made.{Made}
-use Rattle.pas_steps.specs.declared.step.Step.TheVariants.{Look}
-use Rattle.pas_steps.specs.Evidence.{ReadsEligible, ZeroHere, IsSingle}
+use Rattle.pas_steps.specs.{Agreement.Agreed, Agreement.Agrees, Agreement.AgreesEligible, Past.Once, Frames.IsScan, Frames.OnlyScans, Desks.made}
+use Rattle.pas_steps.specs.{Evidence.ReadsEligible, Evidence.ZeroHere, Evidence.IsSingle}
+use Rattle.pas_steps.specs.declared.step.{Made.Made, Step.TheVariants.Look}
 use Rattle.pas_steps.proofs.Past.{once_later, once_earlier}
 use Rattle.pas_scan.specs.Rows.{eligible_looks, WordReadHere, shows_page, IsLowestShown, ShowsNone}
-use Rattle.pas_scan.specs.Scan.{IsFirstOffered}
 use Rattle.pas_scan.proofs.Reading.{right_scans, scans_lack, looks_count, looks_scan, looks_single}
-use Rattle.std.proofs.Math.Pow.{pow-lt}
-use Rattle.std.proofs.lemmas.Nat.{pow_pos}
-use Rattle.std.proofs.lemmas.Nat.Bits.{bit_at_ones, bit_at_above}
 use Rattle.pas_lanes.specs.Rows.{is_set, IsEmpty, IsLowestSet, IsWithin}
 use Rattle.pas_lanes.proofs.Rows.{none_past}
-use Rattle.std.proofs.Math.Bool.{and-true}
 
 -- ==== The set of marked pages.
 

@@ -1,25 +1,17 @@
 -- The members of a block of pages, and their parked bits.
-use Rattle.std.proofs.Common.{◌≡◌, ◌≢◌, ℕ, ◌+◌, ◌*◌, ◌/◌, ◌%◌, ◌^◌, ◌<◌, ◌≤◌, ◌==◌, Bool, true, false, not, ◌&&◌, ◌||◌, if◌then◌else◌, List, [], ◌∷◌, ◌++◌, refl, ap, sym, ◌∙◌, subst, arith, append_assoc, max, min, inl, inr, bit_and}
-use Rattle.std.specs.Int.{bit_not, w64}
-use Rattle.std.proofs.lemmas.Bool.{cases_lt, cases_eq, eq-eqb, ne_eqb, eqb-true, and_parts, or_right, or_cases, not-true, not-false}
-use Rattle.pas_bits.specs.Bits.{has_bit}
-use Rattle.pas_profile.specs.Directories.{deed_word_of}
-use Rattle.pas_profile.specs.Profiles.{IsPage}
-use Rattle.pas_profile.specs.declared.directory.Directory.{Directory}
-use Rattle.pas_profile.specs.declared.profile.Profile.{Profile}
-use Rattle.pas_profile.specs.declared.word.Word.TheVariants as Word
+use Rattle.std.proofs.Common.{◌≡◌, ◌≢◌, ℕ, ◌+◌, ◌*◌, ◌/◌, ◌%◌, ◌^◌, ◌<◌, ◌≤◌, ◌==◌, Bool, true, false, not, ◌&&◌, ◌||◌, if◌then◌else◌, List, [], ◌∷◌, ◌++◌}
+use Rattle.std.proofs.Common.{refl, ap, sym, ◌∙◌, subst, arith, append_assoc, max, min, inl, inr, bit_and, w64, eq-eqb, ne_eqb, eqb-true}
+use Rattle.std.specs.Int.{bit_not}
+use Rattle.std.proofs.lemmas.Bool.{cases_lt, cases_eq, and_parts, or_right, or_cases, not-true, not-false}
+use Rattle.pas_bits.specs.{Bits.has_bit, PageVectors.is_in_word}
+use Rattle.pas_profile.specs.{Directories.deed_word_of, Profiles.IsPage}
+use Rattle.pas_profile.specs.declared.{directory.Directory.Directory, profile.Profile.Profile, word.Word.Word}
 use Rattle.pas_steps.specs.Views.{View, known_deed, deed_after, KnowsDeed}
-use Rattle.pas_steps.specs.Past.{Once}
-use Rattle.pas_steps.specs.Frames.{IsScan, OnlyScans}
-use Rattle.pas_steps.specs.Desks.{made}
-use Rattle.pas_steps.specs.declared.step.Made.{Made}
-use Rattle.pas_steps.specs.declared.step.Step.TheVariants.{Look}
-use Rattle.pas_steps.proofs.Past.{once_later, always_both, always_map}
-use Rattle.pas_bits.specs.PageVectors.{is_in_word}
+use Rattle.pas_steps.specs.{Past.Once, Frames.IsScan, Frames.OnlyScans, Desks.made, Evidence.ReadsParked, Evidence.ParkedHere, Evidence.IsSingle, Kinds.kind_of}
+use Rattle.pas_steps.specs.{Kinds.is_in, Kinds.Only}
+use Rattle.pas_steps.specs.declared.step.{Made.Made, Step.TheVariants.Look}
+use Rattle.pas_steps.proofs.{Past.once_later, Past.always_both, Past.always_map, Apart.only_both}
 use Rattle.pas_scan.specs.Marks.{is_marked}
-use Rattle.pas_steps.specs.Evidence.{ReadsParked, ParkedHere, IsSingle}
-use Rattle.pas_steps.specs.Kinds.{kind_of, is_in, Only}
-use Rattle.pas_steps.proofs.Apart.{only_both}
 use Rattle.pas_scan.specs.Scan.{IsMember, AllParked, InBlock, judging}
 use Rattle.pas_bits.proofs.Words.{bit_cleared}
 use Rattle.pas_scan.proofs.Reading.{scans_lack, Below, From, below_more, below_append, single_append, single_more, place_of}
@@ -29,16 +21,16 @@ pub block_scans : (block : ℕ) (steps : List Made) → InBlock block steps → 
 block_scans block steps = always_map (λ m before. (page : ℕ) × (m.step ≡ Look (Word.Deed page)) × (page / 64 ≡ block)) (λ m before. IsScan m.step) steps (λ m before h. subst IsScan (sym h.1) (IsScan.LooksDeed h.0))
 
 block_from : (block : ℕ) (steps : List Made) → InBlock block steps → From (65 * block) steps
-block_from block steps = always_map (λ m before. (page : ℕ) × (m.step ≡ Look (Word.Deed page)) × (page / 64 ≡ block)) (λ m before. 65 * block ≤ place_of m.step) steps (λ m before h. let e = ap place_of h.1 in let at = h.2 in omega (arith, e, at))
+block_from block steps = always_map (λ m before. (page : ℕ) × (m.step ≡ Look (Word.Deed page)) × (page / 64 ≡ block)) (λ m before. 65 * block ≤ place_of m.step) steps (λ m before h. let e = ap place_of h.1 in omega (arith, e, h.2))
 
 block_below : (block : ℕ) (steps : List Made) → InBlock block steps → Below (65 * block + 64) steps
-block_below block steps = always_map (λ m before. (page : ℕ) × (m.step ≡ Look (Word.Deed page)) × (page / 64 ≡ block)) (λ m before. place_of m.step < 65 * block + 64) steps (λ m before h. let e = ap place_of h.1 in let at = h.2 in omega (arith, e, at))
+block_below block steps = always_map (λ m before. (page : ℕ) × (m.step ≡ Look (Word.Deed page)) × (page / 64 ≡ block)) (λ m before. place_of m.step < 65 * block + 64) steps (λ m before h. let e = ap place_of h.1 in omega (arith, e, h.2))
 
 other_page : (q p block a known : ℕ) → q / 64 ≡ block → p / 64 ≢ block → (if q == p then a else known) ≡ known
 other_page q p block a known at ne = ap (λ t. if t then a else known) (ne_eqb q p (λ e. ne (ap (λ x. x / 64) (sym e) ∙ at)))
 
 -- they tell nothing of other blocks
-pub other_block : (block : ℕ) (steps : List Made) (v : View) (p : ℕ) → InBlock block steps → p / 64 ≢ block → known_deed (steps ++ v) p ≡ known_deed v p
+other_block : (block : ℕ) (steps : List Made) (v : View) (p : ℕ) → InBlock block steps → p / 64 ≢ block → known_deed (steps ++ v) p ≡ known_deed v p
 other_block block [] v p h ne = refl
 other_block block (m ∷ more) v p h ne =
     ap (λ s. deed_after s m.answer p (known_deed (more ++ v) p)) h.0.1 ∙ other_page h.0.0 p block m.answer (known_deed (more ++ v) p) h.0.2 ne ∙ other_block block more v p h.1 ne
@@ -140,16 +132,16 @@ pub record IsSpan (block pages first end : ℕ) : Type 0 where
   pub end_is : end ≡ min (block * 64 + 64) (pages + 1)
 
 pub span_block : (block pages first end page : ℕ) → IsSpan block pages first end → first ≤ page → page < end → page / 64 ≡ block
-span_block block pages first end page span low high = let a = span.first_is in let b = span.end_is in omega (arith, a, b, low, high)
+span_block block pages first end page span low high = omega (arith, span.first_is, span.end_is, low, high)
 
 pub span_first : (block pages first end p : ℕ) → IsSpan block pages first end → p / 64 ≡ block → 1 ≤ p → first ≤ p
-span_first block pages first end p span at some = let a = span.first_is in omega (arith, a, at, some)
+span_first block pages first end p span at some = omega (arith, span.first_is, at, some)
 
 pub span_some : (block pages first end : ℕ) → IsSpan block pages first end → block ≤ pages / 64 → 1 ≤ pages → first ≤ end
-span_some block pages first end span le some = let a = span.first_is in let b = span.end_is in omega (arith, a, b, le, some)
+span_some block pages first end span le some = omega (arith, span.first_is, span.end_is, le, some)
 
 pub span_end : (block pages first end p : ℕ) → IsSpan block pages first end → p / 64 ≡ block → p ≤ pages → p < end
-span_end block pages first end p span at le = let b = span.end_is in omega (arith, b, at, le)
+span_end block pages first end p span at le = omega (arith, span.end_is, at, le)
 
 pub span_page : (f : Profile) (block first end p : ℕ) → IsSpan block f.pages first end → first ≤ p → p < end → IsPage f p
-span_page f block first end p span low high = let a = span.first_is in let b = span.end_is in (omega (arith, a, low), omega (arith, b, high))
+span_page f block first end p span low high = (omega (arith, span.first_is, low), omega (arith, span.end_is, high))

@@ -1,28 +1,23 @@
 -- Readings of pages, and the runs that they show.
-use Rattle.std.proofs.Common.{◌≡◌, ℕ, ◌+◌, ◌*◌, ◌/◌, ◌<◌, true, false, ◌||◌, List, [], ◌∷◌, ◌++◌, inl, inr, refl, ap, sym, ◌∙◌, true≢false, arith, ◌≢◌, ◌-◌, ◌≤◌, Bool, if◌then◌else◌, subst, MatchBool, ◌%◌, ◌^◌, length-append}
+use Rattle.std.proofs.Common.{◌≡◌, ℕ, ◌+◌, ◌*◌, ◌/◌, ◌<◌, true, false, ◌||◌, List, [], ◌∷◌, ◌++◌, inl, inr, refl, ap, sym, ◌∙◌, true≢false, arith, ◌≢◌, ◌-◌}
+use Rattle.std.proofs.Common.{◌≤◌, Bool, if◌then◌else◌, subst, MatchBool, ◌%◌, ◌^◌, length-append}
 use Rattle.pas_bits.specs.Bits.{has_bit}
-use Rattle.pas_profile.specs.declared.directory.Directory.{Directory}
+use Rattle.pas_profile.specs.declared.{directory.Directory.Directory, profile.Profile.Profile, word.Word.Word}
 use Rattle.pas_steps.specs.Views.{held_after, grain_move, holds, has_right, all_ones}
 use Rattle.pas_steps.specs.Past.{Once, Since}
 use Rattle.pas_steps.specs.Kinds.{Kinds, kind_of, place_of, is_in, apart, moving, righting, Only}
-use Rattle.pas_steps.specs.declared.step.Step.{Step}
-use Rattle.pas_steps.specs.declared.step.Made.{Made}
-use Rattle.pas_steps.specs.declared.step.Step.TheVariants.{Deed, Park, Look}
+use Rattle.pas_steps.specs.declared.step.{Step.Step, Made.Made, Step.TheVariants.Deed, Step.TheVariants.Park, Step.TheVariants.Look}
 use Rattle.pas_steps.proofs.Apart.{in_apart, holds_same, rights_same, only_both}
-use Rattle.pas_steps.proofs.Frames.{right_own}
+use Rattle.pas_steps.proofs.{Frames.right_own, Adding.adds_call, Bits.all_set}
 use Rattle.pas_steps.proofs.Past.{once_later, once_earlier, always_map, always_both, once_map}
 use Rattle.pas_steps.specs.Evidence.{OneHere, NoDeedHere, ReadsEligible, ReadsDeed, ReadsFree}
-use Rattle.pas_scan.specs.Usable.{DeedReadHere, OfHere, IsAllFree, WholeHere, ReadUsable, ParksNotHere, IsFresh, UnusableHere, MakesNoDeedHere, LeftAlone, UsedHere}
-use Rattle.std.proofs.lemmas.Bool.{cases_lt}
-use Rattle.pas_profile.specs.declared.profile.Profile.{Profile}
+use Rattle.pas_scan.specs.Usable.{DeedReadHere, OfHere, IsAllFree, WholeHere, ReadUsable, ParksNotHere, IsFresh, UnusableHere, MakesNoDeedHere, LeftAlone}
+use Rattle.pas_scan.specs.Usable.{UsedHere}
+use Rattle.std.proofs.{lemmas.Bool.cases_lt, Math.Bool.or-false}
 use Rattle.pas_scan.specs.Runs.{HasUnusable, IsFirstRun, HasNoRun, page_looks, FreeLookHere, UsedLookHere, LooksFree, ReadsUsable}
 use Rattle.pas_profile.specs.Directories.{number_of, deed_word_of}
-use Rattle.pas_profile.specs.declared.word.Word.TheVariants as Word
 use Rattle.pas_steps.specs.Desks.{Standing, AnyView, Adds, made}
-use Rattle.pas_steps.proofs.Adding.{adds_call}
 use Rattle.pas_bits.proofs.Words.{full_bit}
-use Rattle.pas_steps.proofs.Bits.{all_set}
-use Rattle.std.proofs.Math.Bool.{or-false}
 
 -- ==== Readings of one page, with steps that stood before, which left the page alone.
 
@@ -172,7 +167,7 @@ run_found f d from next n page length ys xs false some alone le so_far deed here
 run_found f d from next n page length ys xs true some alone le so_far deed here e = let within = so_far.within in record {
   from_there = omega (arith, within, e);
   of_region = omega (arith, within, e, le);
-  usable = λ p in_run above. let low = in_run.0 in let high = in_run.1 in pages_more d next page length ys xs alone so_far.usable here p (omega (arith, within, e, low)) above (omega (arith, within, e, high));
+  usable = λ p in_run above. pages_more d next page length ys xs alone so_far.usable here p (omega (arith, within, e, in_run.0)) above (omega (arith, within, e, in_run.1));
   lower = λ s ge lt. lower_more d from n page length ys xs so_far.lower s ge (omega (arith, within, e, lt));
   deeds = λ p ge lt. deeds_more next page ys xs so_far.deeds deed p ge (omega (arith, within, e, lt));
 }
@@ -256,7 +251,7 @@ reads_by d page a e free adds is bit h = record {
   steps = h.steps ++ two_looks d page a e;
   adds = adds_call adds h.adds (λ v l stood met. tt);
   kinds = all_looks d page a e h.steps h.kinds;
-  few = (let n = length-append h.steps (two_looks d page a e) in let four = h.few in omega (arith, n, four));
+  few = (let n = length-append h.steps (two_looks d page a e) in omega (arith, n, h.few));
   deed = once_later (DeedReadHere page) h.steps (two_looks d page a e) (inr (deed_read page a));
   outcome = offered_free d page a e free h.steps h.kinds is bit h.outcome;
 }

@@ -1,20 +1,13 @@
 -- Looks at words in order: they give no right, and no word is looked at twice.
-use Rattle.std.proofs.Common.{◌≡◌, ◌≢◌, ℕ, suc, length, ◌+◌, ◌*◌, ◌/◌, ◌<◌, ◌≤◌, Bool, false, List, [], ◌∷◌, ◌++◌, ◌⊎◌, inl, inr, refl, ap, sym, ◌∙◌, subst, arith}
+use Rattle.std.proofs.Common.{◌≡◌, ◌≢◌, ℕ, suc, length, ◌+◌, ◌*◌, ◌/◌, ◌<◌, ◌≤◌, Bool, false, List, [], ◌∷◌, ◌++◌, ◌⊎◌, inl, inr, refl, ap, sym, ◌∙◌, subst}
+use Rattle.std.proofs.Common.{arith}
 use Rattle.std.proofs.lemmas.Bool.{cases_lt}
-use Rattle.pas_profile.specs.declared.profile.Profile.{Profile}
-use Rattle.pas_profile.specs.declared.word.Word.{Word as TheWord}
-use Rattle.pas_profile.specs.declared.word.Word.TheVariants as Word
-use Rattle.pas_steps.specs.Views.{View, has_right, right_after}
-use Rattle.pas_steps.specs.Past.{Once, Always}
-use Rattle.pas_steps.specs.Frames.{IsScan, OnlyScans}
-use Rattle.pas_steps.specs.Desks.{made}
-use Rattle.pas_steps.specs.declared.step.Step.{Step}
-use Rattle.pas_steps.specs.declared.step.Made.{Made}
-use Rattle.pas_steps.specs.declared.step.Step.TheVariants.{Look}
-use Rattle.pas_steps.specs.Evidence.{ReadsDeed, DeedHere, IsSingle}
+use Rattle.pas_profile.specs.declared.{profile.Profile.Profile, word.Word.Word as TheWord, word.Word.Word}
+use Rattle.pas_steps.specs.{Views.View, Views.has_right, Views.right_after, Past.Once, Past.Always, Frames.IsScan, Frames.OnlyScans, Desks.made}
+use Rattle.pas_steps.specs.{Evidence.ReadsDeed, Evidence.DeedHere, Evidence.IsSingle}
+use Rattle.pas_steps.specs.declared.step.{Step.Step, Made.Made, Step.TheVariants.Look}
 use Rattle.pas_steps.proofs.Past.{always_map, always_both}
-use Rattle.pas_scan.specs.Rows.{looks_from}
-use Rattle.pas_scan.specs.Scan.{IsFirstBare}
+use Rattle.pas_scan.specs.{Rows.looks_from, Scan.IsFirstBare}
 
 -- ---- these looks give no right
 scan_right : (s : Step) (a p : ℕ) (had : Bool) → IsScan s → right_after s a p had ≡ had
@@ -51,7 +44,7 @@ below_append n ys xs = always_both (λ m before. place_of m.step < n) (λ m befo
 
 not_below : (n : ℕ) (s : Step) (steps : List Made) → Below n steps → n ≤ place_of s → Once (λ m before. m.step ≡ s) steps → ⊥
 not_below n s [] below le once = once
-not_below n s (m ∷ steps) below le (inl e) = let same : place_of m.step ≡ place_of s = ap place_of e in let lt = below.0 in absurd (omega (arith, lt, le, same))
+not_below n s (m ∷ steps) below le (inl e) = let same : place_of m.step ≡ place_of s = ap place_of e in absurd (omega (arith, below.0, le, same))
 not_below n s (m ∷ steps) below le (inr once) = not_below n s steps below.1 le once
 
 -- one step more

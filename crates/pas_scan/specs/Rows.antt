@@ -3,14 +3,10 @@
 use Rattle.std.specs.Prelude.{ℕ, ◌+◌, ◌-◌, ◌*◌, ◌/◌, ◌<◌, ◌≤◌, ◌≡◌, min, Bool, true, false, List, [], ◌∷◌, length, slice_index}
 use Rattle.pas_lanes.specs.Rows.{is_set}
 use Rattle.pas_profile.specs.Directories.{number_of}
-use Rattle.pas_profile.specs.declared.directory.Directory.{Directory}
-use Rattle.pas_profile.specs.declared.profile.Profile.{Profile}
-use Rattle.pas_profile.specs.declared.word.Word.{Word as TheWord}
-use Rattle.pas_profile.specs.declared.word.Word.TheVariants as Word
+use Rattle.pas_profile.specs.declared.{directory.Directory.Directory, profile.Profile.Profile, word.Word.Word as TheWord, word.Word.Word}
 use Rattle.pas_steps.specs.Desks.{Standing, AnyView, Adds, made}
 use Rattle.pas_steps.specs.Past.{Once}
-use Rattle.pas_steps.specs.declared.step.Made.{Made}
-use Rattle.pas_steps.specs.declared.step.Step.TheVariants.{Look}
+use Rattle.pas_steps.specs.declared.step.{Made.Made, Step.TheVariants.Look}
 
 -- ---- what a row shows
 abbrev pub shows_page : List ℕ → ℕ → ℕ → Bool

@@ -1,15 +1,9 @@
 -- What the search for a run of pages promises.
 use Rattle.std.specs.Prelude.{ℕ, ◌+◌, ◌-◌, ◌*◌, ◌^◌, ◌<◌, ◌≤◌, ◌≡◌, ◌≢◌, Bool, MatchBool, List, [], ◌∷◌, length, Option, MatchOption}
-use Rattle.pas_profile.specs.declared.directory.Directory.{Directory}
-use Rattle.pas_profile.specs.declared.directory.Kind.TheVariants as Kind
-use Rattle.pas_profile.specs.declared.profile.Profile.{Profile}
-use Rattle.pas_profile.specs.declared.word.Word.TheVariants as Word
-use Rattle.pas_steps.specs.Views.{all_ones}
-use Rattle.pas_steps.specs.Desks.{Standing, AnyView, Adds}
-use Rattle.pas_steps.specs.Past.{Once}
+use Rattle.pas_profile.specs.declared.{directory.Directory.Directory, directory.Kind.Kind, profile.Profile.Profile, word.Word.Word}
+use Rattle.pas_steps.specs.{Views.all_ones, Desks.Standing, Desks.AnyView, Desks.Adds, Past.Once}
 use Rattle.pas_steps.specs.Kinds.{Kinds, LookFree, LookDeed, LookEligible, Only}
-use Rattle.pas_steps.specs.declared.step.Made.{Made}
-use Rattle.pas_steps.specs.declared.step.Step.TheVariants.{Look}
+use Rattle.pas_steps.specs.declared.step.{Made.Made, Step.TheVariants.Look}
 use Rattle.pas_scan.specs.Usable.{DeedReadHere, ReadUsable, UnusableHere}
 
 -- the directory of the large pages of a heap

@@ -1,23 +1,14 @@
 -- What the searches promise.
 use Rattle.std.specs.Prelude.{ℕ, ◌+◌, ◌-◌, ◌*◌, ◌/◌, ◌%◌, ◌<◌, ◌≤◌, ◌≡◌, true, false, List, [], ◌∷◌, ◌++◌, length, MatchOption, Option}
 use Rattle.pas_bits.specs.Bits.{has_bit}
-use Rattle.pas_profile.specs.Directories.{number_of}
-use Rattle.pas_profile.specs.Profiles.{IsPage}
-use Rattle.pas_profile.specs.declared.directory.Directory.{Directory}
-use Rattle.pas_profile.specs.declared.profile.Profile.{Profile}
-use Rattle.pas_profile.specs.declared.event.NoRoom.{NoRoom}
-use Rattle.pas_profile.specs.declared.event.NoRoom.TheVariants.{NoSpace, Held}
-use Rattle.pas_steps.specs.Views.{View, has_right, KnowsDeed}
-use Rattle.pas_steps.specs.Agreement.{Agreed}
-use Rattle.pas_steps.specs.Desks.{Standing, AnyView, Adds}
-use Rattle.pas_steps.specs.Past.{Once, Always}
-use Rattle.pas_steps.specs.Frames.{OnlyScans}
+use Rattle.pas_profile.specs.{Directories.number_of, Profiles.IsPage}
+use Rattle.pas_profile.specs.declared.{directory.Directory.Directory, profile.Profile.Profile, event.NoRoom.NoRoom, event.NoRoom.TheVariants.NoSpace}
+use Rattle.pas_profile.specs.declared.{event.NoRoom.TheVariants.Held, word.Word.Word}
+use Rattle.pas_steps.specs.{Views.View, Views.has_right, Views.KnowsDeed, Agreement.Agreed, Desks.Standing, Desks.AnyView, Desks.Adds, Past.Once, Past.Always}
+use Rattle.pas_steps.specs.{Frames.OnlyScans}
 use Rattle.pas_steps.specs.Kinds.{Kinds, LookDeed, LookParked, Only}
-use Rattle.pas_steps.specs.declared.step.Made.{Made}
-use Rattle.pas_steps.specs.declared.step.Step.TheVariants.{Look}
-use Rattle.pas_profile.specs.declared.word.Word.TheVariants as Word
-use Rattle.pas_scan.specs.Marks.{is_marked}
-use Rattle.pas_scan.specs.Rows.{looks_from, eligible_looks, words_to}
+use Rattle.pas_steps.specs.declared.step.{Made.Made, Step.TheVariants.Look}
+use Rattle.pas_scan.specs.{Marks.is_marked, Rows.looks_from, Rows.eligible_looks, Rows.words_to}
 use Rattle.pas_steps.specs.Evidence.{ZeroHere, OneHere, DeedHere, NoDeedHere, ParkedHere, IsSingle}
 
 -- ---- the search of offered pages from page `next` on

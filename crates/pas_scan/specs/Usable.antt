@@ -4,10 +4,8 @@ use Rattle.std.specs.Prelude.{ℕ, ◌+◌, ◌*◌, ◌<◌, ◌≡◌, ◌≢�
 use Rattle.pas_bits.specs.Bits.{has_bit}
 use Rattle.pas_profile.specs.Directories.{deed_word_of}
 use Rattle.pas_profile.specs.declared.directory.Directory.{Directory}
-use Rattle.pas_steps.specs.Views.{holds, has_right}
-use Rattle.pas_steps.specs.Past.{Once, Always, Since}
-use Rattle.pas_steps.specs.declared.step.Made.{Made}
-use Rattle.pas_steps.specs.declared.step.Step.TheVariants.{Deed, Park}
+use Rattle.pas_steps.specs.{Views.holds, Views.has_right, Past.Once, Past.Always, Past.Since}
+use Rattle.pas_steps.specs.declared.step.{Made.Made, Step.TheVariants.Deed, Step.TheVariants.Park}
 use Rattle.pas_steps.specs.Evidence.{ReadsDeed, ReadsFree, ZeroHere, OneHere, NoDeedHere}
 
 -- its deed word was read

@@ -1,59 +1,42 @@
 -- What the scavenger does on one page whose empty bit was cleared.
-use Rattle.std.proofs.Common.{◌≡◌, ℕ, ◌*◌, ◌/◌, ◌%◌, ◌<◌, ◌==◌, nat_lt, Bool, true, false, ◌&&◌, ◌||◌, length, slice_index, slice_set, refl, ap, sym, ◌∙◌, arith, inl, inr, get_or-set_same, get_or-set_other, ◌+◌, not, if◌then◌else◌, List, [], ◌∷◌, ◌++◌, Option, None, Some, subst, bit_and, ◌≢◌, ◌≤◌, append_assoc, length-append}
+use Rattle.std.proofs.Common.{◌≡◌, ℕ, ◌*◌, ◌/◌, ◌%◌, ◌<◌, ◌==◌, nat_lt, Bool, true, false, ◌&&◌, ◌||◌, length, slice_index, slice_set, refl, ap, sym, ◌∙◌}
+use Rattle.std.proofs.Common.{arith, inl, inr, get_or-set_same, get_or-set_other, ◌+◌, not, if◌then◌else◌, List, [], ◌∷◌, ◌++◌, Option, None, Some, subst}
+use Rattle.std.proofs.Common.{bit_and, ◌≢◌, ◌≤◌, append_assoc, length-append, eq-eqb, ne_eqb, lt-ltb, le-ltb, ltb-true, eqb-true}
 use Rattle.std.proofs.Math.Bool.{or-false}
-use Rattle.std.proofs.lemmas.Bool.{cases_eq, cases_lt, eq-eqb, ne_eqb, lt-ltb, le-ltb, ltb-true, eqb-true, cases_Bool, and_from, and_right}
-use Rattle.pas_bits.specs.Bits.{has_bit}
-use Rattle.pas_bits.specs.Runs.{in_run}
-use Rattle.pas_bits.proofs.Runs.{to_run, run_of}
+use Rattle.std.proofs.lemmas.Bool.{cases_eq, cases_lt, cases_Bool, and_from, and_right}
+use Rattle.pas_bits.specs.{Bits.has_bit, Runs.in_run, Masks.is_set}
+use Rattle.pas_bits.proofs.{Runs.to_run, Runs.run_of, Words.none_past, Words.full_bit}
 use Rattle.pas_bits.specs.declared.mask.Mask4.{Mask4}
-use Rattle.pas_bits.specs.Masks.{is_set}
-use Rattle.pas_bits.proofs.Words.{none_past, full_bit}
-use Rattle.pas_steps.proofs.Sets.{same_truth, kept_kept}
-use Rattle.pas_rights.specs.Words.{full, ones}
-use Rattle.pas_rights.proofs.Looks.{full_set, looks_only}
-use Rattle.pas_profile.specs.declared.directory.Directory.{Directory}
+use Rattle.pas_steps.proofs.{Sets.same_truth, Sets.kept_kept, Adding.adds_none, Adding.adds_step, Adding.adds_under, Kept.any_from, Bits.all_below-from}
+use Rattle.pas_steps.proofs.{Past.once_later}
+use Rattle.pas_rights.specs.{Words.full, Words.ones, Takes.takes, Leaves.MayLeave, Leaves.Leaves, Puts.masked, Puts.PutsMask, PutsBack.MayPutAndReturn}
+use Rattle.pas_rights.specs.{PutsBack.given_back, Returns.Returned, Claims.Claims}
+use Rattle.pas_rights.proofs.{Looks.full_set, Looks.looks_only, Puts.puts_kinds, Puts.puts_few, PutsBack.may_return as may_settle, PutsBack.returned_call}
+use Rattle.pas_profile.specs.declared.{directory.Directory.Directory, profile.Profile.Profile, word.Word.Word, event.Event.Event, event.Outcome.Outcome}
 use Rattle.pas_steps.specs.Calls.{Kept, Gained, now, on_page, Does, Calls, Lost, ClearAfter}
-use Rattle.pas_steps.specs.Clear.{IsClear, HasNothing}
+use Rattle.pas_steps.specs.{Clear.IsClear, Clear.HasNothing, Agreement.Agreed, Allowed.IsEpochKnown, Allowed.MayUnback, Events.events_by, Evidence.ReadsFree}
+use Rattle.pas_steps.specs.{Past.Once}
 use Rattle.pas_steps.specs.Desks.{made, Standing, Makes, Adds, CanCall}
-use Rattle.pas_steps.specs.Kinds.{LookFree, Taking, Only, Kinds, LookDeed, LookBacked, LookStamp, Claiming, Hinting, Unbacking, Unhinting, apart, unstamping, within, Putting, returning}
-use Rattle.pas_steps.specs.Views.{View, Gets, Stays, held_after, holds, has_right, all_ones, examines, holds_on, holds_all, knows_backed, known_stamp, or_zero, known_epoch, KnowsDeed, known_deed, ReadBacked}
+use Rattle.pas_steps.specs.Kinds.{LookFree, Taking, Only, Kinds, LookDeed, LookBacked, LookStamp, Claiming, Hinting, Unbacking, Unhinting, apart, unstamping}
+use Rattle.pas_steps.specs.Kinds.{within, Putting, returning}
+use Rattle.pas_steps.specs.Views.{View, Gets, Stays, held_after, holds, has_right, all_ones, examines, holds_on, holds_all, knows_backed, known_stamp, or_zero}
+use Rattle.pas_steps.specs.Views.{known_epoch, KnowsDeed, known_deed, ReadBacked}
 use Rattle.pas_steps.specs.declared.step.Made.{Made}
 use Rattle.pas_steps.specs.declared.step.Step.TheVariants.{TakeRight, Unhint, Look, Hint}
 use Rattle.pas_steps.proofs.Apart.{holds_same, rights_same, unstamped_same, only_within, only_both, epoch_same, events_same, no_events}
 use Rattle.pas_steps.proofs.Calls.{opening, owes_over, unexamined_over, returns_are, does_then}
-use Rattle.pas_rights.specs.Takes.{takes}
 use Rattle.pas_rights.specs.declared.reading.Used.{Used}
 use Rattle.pas_rights.proofs.Orders.{same_page, until_only, until_few, leave_few, return_few, leave_returns, return_returns, ends}
 use Rattle.pas_rights.proofs.Takes.{takes_only, got_below, takes_hold as grains_held, takes_few as grains_few}
 use Rattle.pas_scavenger.specs.Puttings.{IsAt, none, BackSteps, MayPutBack, PutsBack}
-use Rattle.pas_scavenger.specs.Readings.{was_free, takes_until, TakesUntilUsed}
-use Rattle.pas_profile.specs.declared.profile.Profile.{Profile}
-use Rattle.pas_profile.specs.declared.word.Word.TheVariants as Word
-use Rattle.pas_steps.specs.Agreement.{Agreed}
-use Rattle.pas_steps.specs.Allowed.{IsEpochKnown, MayUnback}
-use Rattle.pas_steps.proofs.Adding.{adds_none, adds_step, adds_under}
-use Rattle.pas_steps.proofs.Kept.{any_from}
-use Rattle.pas_steps.proofs.Bits.{all_below-from}
+use Rattle.pas_scavenger.specs.{Readings.was_free, Readings.takes_until, Readings.TakesUntilUsed, Evidence.UsedByOthers, Evidence.UnbackedHere}
 use Rattle.pas_scavenger.specs.Judgements.{MayJudge, used_at, Judged, JudgesPage}
-use Rattle.pas_profile.specs.declared.event.Event.{Event}
-use Rattle.pas_profile.specs.declared.event.Outcome.{Outcome}
 use Rattle.pas_profile.specs.declared.event.Outcome.TheVariants.{Unbacked, Bare, Young, InUse, NotOffered}
 use Rattle.pas_rights.specs.Looks.{AreUsed, looks, looks_until, IsUsed, ReadsUntilUsed}
-use Rattle.pas_rights.proofs.Puts.{puts_kinds, puts_few}
-use Rattle.pas_rights.proofs.PutsBack.{may_return as may_settle, returned_call}
-use Rattle.pas_steps.specs.Events.{events_by}
-use Rattle.pas_scavenger.specs.Pages.{first_looks, AsksSteps, EndsWithout, EndsWith, ExamineSteps, unback_of, quiet, examining, MayTake, TakesPage, TakesSteps, MayExamine, ReadsDirectory, ExaminesPage}
-use Rattle.pas_rights.specs.Leaves.{MayLeave, Leaves}
-use Rattle.pas_rights.specs.Puts.{masked, PutsMask}
-use Rattle.pas_rights.specs.PutsBack.{MayPutAndReturn, given_back}
-use Rattle.pas_rights.specs.Returns.{Returned}
+use Rattle.pas_scavenger.specs.Pages.{first_looks, AsksSteps, EndsWithout, EndsWith, ExamineSteps, unback_of, quiet, examining, MayTake, TakesPage, TakesSteps}
+use Rattle.pas_scavenger.specs.Pages.{MayExamine, ReadsDirectory, ExaminesPage}
 use Rattle.pas_steps.proofs.Called.{call_as, call_then, call_knows, next_call, call_none, call_step}
 use Rattle.pas_profile.specs.Directories.{deed_word_of}
-use Rattle.pas_rights.specs.Claims.{Claims}
-use Rattle.pas_steps.specs.Evidence.{ReadsFree}
-use Rattle.pas_steps.specs.Past.{Once}
-use Rattle.pas_steps.proofs.Past.{once_later}
-use Rattle.pas_scavenger.specs.Evidence.{UsedByOthers, UnbackedHere}
 
 -- ==== The grains that were taken, as a mask.
 
@@ -65,7 +48,7 @@ all_grains g = elim (cases_lt g 256) [
 
 run_below : (word g : ℕ) → in_run 0 (word * 64) g ≡ nat_lt (g / 64) word
 run_below word g = same_truth (in_run 0 (word * 64) g) (nat_lt (g / 64) word)
-    (λ h. let at = run_of 0 (word * 64) g h in let high = at.1 in lt-ltb (g / 64) word (omega (arith, high)))
+    (λ h. let at = run_of 0 (word * 64) g h in lt-ltb (g / 64) word (omega (arith, at.1)))
     (λ h. let lt = ltb-true (g / 64) word h in to_run 0 (word * 64) g (omega arith) (omega (arith, lt)))
 
 -- a run of all grains of the words below this one, and the word
@@ -107,7 +90,7 @@ one_take s p u b r e = grind arith
 pub takes_hold : (page n g : ℕ) (v : View) → holds v g ≡ false → holds (takes page ones ones n ++ v) g ≡ ((page == g / 256) && nat_lt (g % 256 / 64) n)
 takes_hold page n g v none = grains_held page ones ones n g v ∙ ap (λ t. got_below page ones ones n g || t) none ∙ or-false (got_below page ones ones n g) ∙ below page n g
 
-pub until_holds : (page : ℕ) (used : Option Used) (g : ℕ) (v : View) → holds v g ≡ false → holds (takes_until page used ++ v) g ≡ ((page == g / 256) && was_free used (g % 256))
+until_holds : (page : ℕ) (used : Option Used) (g : ℕ) (v : View) → holds v g ≡ false → holds (takes_until page used ++ v) g ≡ ((page == g / 256) && was_free used (g % 256))
 until_holds page None g v none = takes_hold page 4 g v none
 until_holds page (Some used) g v none =
     let p = page == g / 256 in let w = used.word in let a = used.value in let r = nat_lt (g % 256 / 64) w in
@@ -123,10 +106,10 @@ ends_it a = elim (cases_Bool (a == all_ones)) [
   | inr e ↦ ap (λ t. not t || not (bit_and a all_ones == 0)) e
 ]
 
-pub ended_by : (page : ℕ) (t was : Bool) → t ≡ true → (if (page == page) && t then false else was) ≡ false
+ended_by : (page : ℕ) (t was : Bool) → t ≡ true → (if (page == page) && t then false else was) ≡ false
 ended_by page t was is = ap (λ u. if u && t then false else was) (same_page page) ∙ ap (λ u. if u then false else was) is
 
-pub takes_examined : (page : ℕ) (used : Option Used) (v : View) → examines (takes_until page used ++ v) page ≡ false
+takes_examined : (page : ℕ) (used : Option Used) (v : View) → examines (takes_until page used ++ v) page ≡ false
 takes_examined page None v = ended_by page _ (examines (takes page ones ones 3 ++ v) page) (ends_it all_ones)
 takes_examined page (Some used) v = ended_by page _ (examines (takes page ones ones used.word ++ v) page) (ends_it used.value)
 
@@ -145,20 +128,20 @@ at_over ks u o n steps v only at held rights = record {
 abbrev pub idle : Kinds
 idle = LookFree ∷ LookDeed ∷ LookBacked ∷ LookStamp ∷ Hinting ∷ Unbacking ∷ []
 
-pub at_idle : {page : ℕ} {grains : ℕ → Bool} {right : Bool} (steps : List Made) (v : View) → Only idle steps → IsAt page grains right v → IsAt page grains right (steps ++ v)
+at_idle : {page : ℕ} {grains : ℕ → Bool} {right : Bool} (steps : List Made) (v : View) → Only idle steps → IsAt page grains right v → IsAt page grains right (steps ++ v)
 at_idle steps v only at = at_over idle refl refl refl steps v only at (λ g. holds_same idle refl g steps v only ∙ at.held g) (λ q. rights_same idle refl q steps v only ∙ at.rights q)
 
 got_right : (got here : Bool) → now (if here then (if got then Gained else Kept) else Kept) false ≡ (got && here)
 got_right got here = grind arith
 
-pub at_claim : (page : ℕ) (d : Directory) (a : ℕ) (got : Bool) (v : View) → Does (on_page page (if got then Gained else Kept) Kept) v (made (TakeRight page d) a ∷ v) → IsAt page none false v → IsAt page none got (made (TakeRight page d) a ∷ v)
+at_claim : (page : ℕ) (d : Directory) (a : ℕ) (got : Bool) (v : View) → Does (on_page page (if got then Gained else Kept) Kept) v (made (TakeRight page d) a ∷ v) → IsAt page none false v → IsAt page none got (made (TakeRight page d) a ∷ v)
 at_claim page d a got v does at = at_over (Claiming ∷ []) refl refl refl (made (TakeRight page d) a ∷ []) v (refl, tt) at (λ g. does.held g ∙ at.held g)
     (λ q. does.right q ∙ ap (now (if page == q then (if got then Gained else Kept) else Kept)) (at.rights q) ∙ got_right got (page == q))
 
 abbrev pub got_on : ℕ → Option Used → ℕ → Bool
 got_on page used g = (page == g / 256) && was_free used (g % 256)
 
-pub at_takes : (page : ℕ) (used : Option Used) (v : View) → IsAt page none true v → IsAt page (got_on page used) true (takes_until page used ++ v)
+at_takes : (page : ℕ) (used : Option Used) (v : View) → IsAt page none true v → IsAt page (got_on page used) true (takes_until page used ++ v)
 at_takes page used v at = at_over (Taking ∷ []) refl refl refl (takes_until page used) v (takes_are page used) at (λ g. until_holds page used g v (at.held g))
     (λ q. rights_same (Taking ∷ []) refl q (takes_until page used) v (takes_are page used) ∙ at.rights q)
 
@@ -172,7 +155,7 @@ at_unhint page a v rests = record {
   examined = λ q ne. ap (λ t. if t && has_bit a (q % 64) then true else examines v q) (ne_eqb page q (λ e. ne (sym e))) ∙ (rests.clear.on q).examined;
 }
 
-pub is_clear : {page : ℕ} {grains : ℕ → Bool} {right : Bool} {v : View} → IsAt page grains right v → examines v page ≡ false → IsClear v
+is_clear : {page : ℕ} {grains : ℕ → Bool} {right : Bool} {v : View} → IsAt page grains right v → examines v page ≡ false → IsClear v
 is_clear {page} {v = v} at ended = record {
   on = λ q. record {
     stamped = at.stamped q;
@@ -185,7 +168,7 @@ pub rests : {page : ℕ} {v : View} → IsAt page none false v → examines v pa
 rests at ended = record { grains = at.held; rights = at.rights; clear = is_clear at ended }
 
 -- the same grains in other words
-pub at_as : {page : ℕ} {grains : ℕ → Bool} (grains' : ℕ → Bool) {right : Bool} {v : View} → IsAt page grains right v → ((g : ℕ) → grains g ≡ grains' g) → IsAt page grains' right v
+at_as : {page : ℕ} {grains : ℕ → Bool} (grains' : ℕ → Bool) {right : Bool} {v : View} → IsAt page grains right v → ((g : ℕ) → grains g ≡ grains' g) → IsAt page grains' right v
 at_as grains' at same = record { held = λ g. at.held g ∙ same g; rights = at.rights; stamped = at.stamped; owes = at.owes; examined = at.examined }
 
 -- ==== Whether a page may be unbacked, and what the judgement of a page leaves.
@@ -196,8 +179,7 @@ two_looks page b stamp = made (Look (Word.Stamp page)) stamp ∷ made (Look (Wor
 may_unback : (f : Profile) (page epoch b stamp : ℕ) (used : Option Used) (v : View) → used ≡ None → b ≢ 0 → stamp + f.age ≤ epoch → MayJudge page epoch used v → Agreed f v (two_looks page b stamp) → MayUnback f (two_looks page b stamp ++ v) page
 may_unback f page epoch b stamp used v whole some old met agreed =
     let held = met.held whole in
-    let small = agreed.1.0.small in
-    let one : (b == 1) ≡ true = eq-eqb b 1 (omega (arith, small, some)) in
+    let one : (b == 1) ≡ true = eq-eqb b 1 (omega (arith, agreed.1.0.small, some)) in
     let on : holds_on v page ≡ true = any_from 256 (λ i. holds v (page * 256 + i)) 0 (omega arith) (held (page * 256 + 0) (omega arith)) in
     let all : holds_all v page ≡ true = all_below-from 256 (λ i. holds v (page * 256 + i)) (λ k lt. held (page * 256 + k) (omega (arith, lt))) in
     let read : knows_backed (made (Look (Word.Backed page)) b ∷ v) page ≡ true
@@ -236,7 +218,7 @@ sized : (ks : Kinds) (n : ℕ) {steps : List Made} → Only ks steps → length 
 sized ks n only few = record { only = only; few = few }
 
 sized_both : {ks : Kinds} {m n : ℕ} {ys xs : List Made} → Sized ks m ys → Sized ks n xs → Sized ks (m + n) (ys ++ xs)
-sized_both {ks} {ys = ys} {xs = xs} a b = let all = length-append ys xs in let few = a.few in let more = b.few in record { only = only_both ks ys xs a.only b.only; few = omega (arith, all, few, more) }
+sized_both {ks} {ys = ys} {xs = xs} a b = let all = length-append ys xs in let few = a.few in record { only = only_both ks ys xs a.only b.only; few = omega (arith, all, few, b.few) }
 
 sized_as : {ks : Kinds} {m : ℕ} {steps : List Made} (ls : Kinds) → within ks ls ≡ true → Sized ks m steps → Sized ls m steps
 sized_as {ks} {steps = steps} ls w a = record { only = only_within ks ls steps w a.only; few = a.few }
@@ -248,12 +230,12 @@ first_sized : (page b : ℕ) (used : Option Used) → AreUsed used → Sized qui
 first_sized page b used are = sized_both {m = 4} {n = 1} (sized_as quiet refl (sized (LookFree ∷ []) 4 (until_only page used) (until_few page used are))) (sized quiet 1 (refl, tt) (omega arith))
 
 pub asks_sized : (page : ℕ) (d : Directory) (got : Bool) (steps : List Made) → AsksSteps page d got steps → Sized quiet 7 steps
-asks_sized page d got steps h = let first = first_sized page h.backed None tt in let few = first.few in sized_at h.steps_are (sized quiet 7 (refl, (refl, first.only)) (omega (arith, few)))
+asks_sized page d got steps h = let first = first_sized page h.backed None tt in sized_at h.steps_are (sized quiet 7 (refl, (refl, first.only)) (omega (arith, first.few)))
 
 without_sized : (page : ℕ) (outcome : Outcome) (steps : List Made) → EndsWithout page outcome steps → Sized quiet 8 steps
 without_sized page Bare steps h = sized_at h (sized quiet 8 (refl, tt) (omega arith))
-without_sized page (InUse w v) steps h = let first = first_sized page h.0 (Some (used_at w v)) h.2 in let few = first.few in sized_at h.3 (sized quiet 8 first.only (omega (arith, few)))
-without_sized page NotOffered steps h = let asked = asks_sized page h.0 false h.2 h.3 in let few = asked.few in sized_at h.4 (sized quiet 8 (refl, asked.only) (omega (arith, few)))
+without_sized page (InUse w v) steps h = let first = first_sized page h.0 (Some (used_at w v)) h.2 in sized_at h.3 (sized quiet 8 first.only (omega (arith, first.few)))
+without_sized page NotOffered steps h = let asked = asks_sized page h.0 false h.2 h.3 in sized_at h.4 (sized quiet 8 (refl, asked.only) (omega (arith, asked.few)))
 without_sized page other steps h = absurd h
 
 back_sized : (page : ℕ) (d : Directory) (grains : Mask4) (steps : List Made) → BackSteps page d grains steps → Sized quiet 23 steps
@@ -264,12 +246,12 @@ back_sized page d grains steps h = sized_at h.steps_are
 
 takes_few : (page : ℕ) (used : Option Used) → AreUsed used → length (takes_until page used) ≤ 4
 takes_few page None are = grains_few page ones ones 4
-takes_few page (Some used) are = let lt = are.within in let n = grains_few page ones ones used.word in omega (arith, lt, n)
+takes_few page (Some used) are = let n = grains_few page ones ones used.word in omega (arith, are.within, n)
 
 takes_sized : (page : ℕ) (used : Option Used) → AreUsed used → Sized quiet 4 (takes_until page used)
 takes_sized page used are = sized_as quiet refl (sized (Taking ∷ []) 4 (takes_are page used) (takes_few page used are))
 
-pub judged_sized : (age epoch page : ℕ) (used : Option Used) (outcome : Outcome) (steps : List Made) → Judged age epoch page used outcome steps → Sized idle 3 steps
+judged_sized : (age epoch page : ℕ) (used : Option Used) (outcome : Outcome) (steps : List Made) → Judged age epoch page used outcome steps → Sized idle 3 steps
 judged_sized age epoch page used (InUse w v) steps h = sized_at h.1 (sized idle 3 tt (omega arith))
 judged_sized age epoch page used Bare steps h = sized_at h.1 (sized idle 3 (refl, tt) (omega arith))
 judged_sized age epoch page used (Young s) steps h = sized_at h.4 (sized idle 3 (refl, (refl, tt)) (omega arith))
@@ -277,7 +259,7 @@ judged_sized age epoch page used Unbacked steps h = sized_at h.6 (sized idle 3 (
 judged_sized age epoch page used NotOffered steps h = absurd h
 
 pub examine_sized : (age epoch page : ℕ) (outcome : Outcome) (steps : List Made) → ExamineSteps age epoch page outcome steps → Sized examining 37 steps
-examine_sized age epoch page outcome steps (inl h) = let w = without_sized page outcome steps h in let few = w.few in sized_as examining refl (sized quiet 37 w.only (omega (arith, few)))
+examine_sized age epoch page outcome steps (inl h) = let w = without_sized page outcome steps h in sized_as examining refl (sized quiet 37 w.only (omega (arith, w.few)))
 examine_sized age epoch page outcome steps (inr h) = let t = h.takes in
     sized_at (h.steps_are ∙ ap (λ s. s ++ h.asked) t.steps_are)
     (sized_both {m = 30} {n = 7} (sized_both {m = 23} {n = 7} (sized_as examining refl (back_sized page h.directory t.grains t.back t.puts))
@@ -445,7 +427,7 @@ IsSeen page epoch v = MayExamine page epoch v × ReadBacked v page
 module _ {σ σ1 : Standing} (page epoch b : ℕ) (some : b ≢ 0) (first : Makes σ σ1 (Look (Word.Backed page)) b) where
   backed : Calls σ σ1 (MayExamine page epoch) (λ v w. IsSeen page epoch w) (made (Look (Word.Backed page)) b ∷ [])
   backed = call_step (λ v w. IsSeen page epoch w) (call_none {R = λ v w. MayExamine page epoch w} (λ v met. met)) first (λ v met is. tt)
-      (λ v met is agrees. let small = agrees.small in (still page epoch (made (Look (Word.Backed page)) b ∷ []) v (refl, tt) met, inl (same_page page, omega (arith, small, some))))
+      (λ v met is agrees. (still page epoch (made (Look (Word.Backed page)) b ∷ []) v (refl, tt) met, inl (same_page page, omega (arith, agrees.small, some))))
 
   pub used_page : {σ2 : Standing} (used : Used) → ReadsUntilUsed page σ1 σ2 (Some used) → ExaminesPage page epoch σ σ2 (InUse used.word used.value)
   used_page {σ2} used l =

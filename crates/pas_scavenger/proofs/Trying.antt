@@ -1,36 +1,24 @@
 -- Tries of pages, one after the other, and the whole pass.
-use Rattle.std.proofs.Common.{◌≡◌, ℕ, true, List, length, ap, arith, zero, suc, ◌+◌, ◌-◌, ◌*◌, ◌%◌, ◌<◌, ◌≤◌, ◌==◌, Bool, false, ◌&&◌, if◌then◌else◌, [], ◌∷◌, ◌++◌, Option, None, Some, refl, sym, ◌∙◌, subst, inl, inr, append_assoc, length-append}
-use Rattle.pas_profile.specs.declared.event.Event.{Event}
-use Rattle.pas_steps.specs.Calls.{Calls, nothing, Does}
+use Rattle.std.proofs.Common.{◌≡◌, ℕ, true, List, length, ap, arith, zero, suc, ◌+◌, ◌-◌, ◌*◌, ◌%◌, ◌<◌, ◌≤◌, ◌==◌, Bool, false, ◌&&◌, if◌then◌else◌, [], ◌∷◌}
+use Rattle.std.proofs.Common.{◌++◌, Option, None, Some, refl, sym, ◌∙◌, subst, inl, inr, append_assoc, length-append, reverse, map, append-nil}
+use Rattle.pas_profile.specs.declared.{event.Event.Event, event.Outcome.Outcome, event.Outcome.TheVariants.Unbacked, profile.Profile.Profile, word.Word.Word}
+use Rattle.pas_steps.specs.{Calls.Calls, Calls.nothing, Calls.Does, Views.View, Views.examines, Agreement.AgreesEmpty, Clear.HasNothing, Events.events_by}
+use Rattle.pas_steps.specs.{InTurn.InTurn, InTurn.numbers_below}
 use Rattle.pas_steps.specs.Desks.{Standing, CanCall, Makes, made}
 use Rattle.pas_steps.specs.Kinds.{Kinds, apart, Only, showing, LookEmpty, LookEpoch}
-use Rattle.pas_steps.specs.Views.{View, examines}
-use Rattle.pas_steps.specs.declared.step.Made.{Made}
+use Rattle.pas_steps.specs.declared.step.{Made.Made, Step.TheVariants.Look, Step.TheVariants.Unhint}
 use Rattle.pas_steps.proofs.Apart.{no_events, only_within, only_both, epoch_same}
-use Rattle.pas_steps.proofs.SpareRoom.{Spares, spare_falls}
-use Rattle.std.specs.Prelude.{reverse, map}
-use Rattle.std.proofs.lemmas.List.{reverse-append, length-reverse, append-nil}
-use Rattle.std.proofs.lemmas.Bool.{cases_eq}
-use Rattle.pas_bits.specs.Bits.{has_bit}
-use Rattle.pas_profile.specs.declared.event.Outcome.{Outcome}
-use Rattle.pas_profile.specs.declared.event.Outcome.TheVariants.{Unbacked}
+use Rattle.pas_steps.proofs.{SpareRoom.Spares, SpareRoom.spare_falls, Calls.does_idly, Calls.still_clear, Frames.events_append}
+use Rattle.std.proofs.lemmas.{List.reverse-append, List.length-reverse, Bool.cases_eq}
+use Rattle.pas_bits.specs.{Bits.has_bit, PageVectors.HasNoPage, PageVectors.IsLowestPage}
 use Rattle.pas_profile.specs.Profiles.{IsPage, vector_words}
-use Rattle.pas_profile.specs.declared.profile.Profile.{Profile}
-use Rattle.pas_steps.specs.Agreement.{AgreesEmpty}
-use Rattle.pas_bits.specs.PageVectors.{HasNoPage, IsLowestPage}
 use Rattle.pas_rights.proofs.Orders.{same_page}
-use Rattle.pas_steps.specs.Clear.{HasNothing}
-use Rattle.pas_steps.specs.Events.{events_by}
-use Rattle.pas_steps.specs.declared.step.Step.TheVariants.{Look, Unhint}
 use Rattle.pas_steps.proofs.Called.{call_none, call_step, call_then, next_call}
-use Rattle.pas_steps.proofs.Calls.{does_idly, still_clear}
-use Rattle.pas_steps.proofs.Frames.{events_append}
 use Rattle.pas_utility.specs.Outcomes.{pair}
 use Rattle.pas_scavenger.specs.Pages.{ExamineSteps, unback_of, examining, MayExamine, ExaminesPage}
-use Rattle.pas_scavenger.specs.Passes.{Tried, with_outcome, outcomes_in, pages_set, trying, unbacks_in, IsReady, Tries, TriesPage, WordRead, WordSteps, all_tried, passing, Passes}
+use Rattle.pas_scavenger.specs.Passes.{Tried, with_outcome, outcomes_in, pages_set, trying, unbacks_in, IsReady, Tries, TriesPage, WordRead, WordSteps}
+use Rattle.pas_scavenger.specs.Passes.{all_tried, passing, Passes}
 use Rattle.pas_scavenger.proofs.Examinations.{at_unhint, rests, call_by}
-use Rattle.pas_steps.specs.InTurn.{InTurn, numbers_below}
-use Rattle.pas_profile.specs.declared.word.Word.TheVariants as Word
 
 pub same_room : {σ σ' : Standing} {B : View → Type 0} {R : View → View → Type 0} {xs : List Made} (ks : Kinds) → apart ks showing ≡ true → (spare spare' : ℕ) → Calls σ σ' B R xs → (can : CanCall σ B) → Only ks xs → Spares σ spare → Spares σ' spare' → spare' ≡ spare
 same_room {σ} {B = B} {xs = xs} ks w spare spare' c can only old new =
@@ -142,7 +130,7 @@ module _ {σ σ1 : Standing} (page epoch a : ℕ) (makes : Makes σ σ1 (Unhint 
           events = λ v known. events_append σ.seat.actor x.steps unhint v
               ∙ ap (λ es. es ++ []) (subst (λ s. events_by s.actor (unhint ++ v) x.steps ≡ unback_of s.actor epoch page outcome) makes.seat_is (x.event (unhint ++ v) known));
         };
-        few = let n = length-append x.steps unhint in let few = x.few in omega (arith, n, few);
+        few = let n = length-append x.steps unhint in omega (arith, n, x.few);
       }
 
 -- ---- the pages of a word
@@ -185,7 +173,7 @@ module _ {σ σ1 : Standing} (epoch : ℕ) (makes : Makes σ σ1 (Look Word.Epoc
   abbrev look : List Made
   look = made (Look Word.Epoch) epoch ∷ []
 
-  pub read_epoch : Calls σ σ1 HasNothing (λ v w. IsReady epoch w) look
+  read_epoch : Calls σ σ1 HasNothing (λ v w. IsReady epoch w) look
   read_epoch = call_step (λ v w. IsReady epoch w) (call_none {R = λ v w. HasNothing w} (λ v met. met)) makes (λ v met is. tt)
       (λ v met is agrees. record { nothing = nothing_still (does_idly σ.seat.profile (LookEpoch ∷ []) refl look v (refl, tt) (agrees, tt)) met; epoch_is = refl })
 

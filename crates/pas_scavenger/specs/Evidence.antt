@@ -1,11 +1,8 @@
 -- What the steps for one page show. What they hold is told by themselves, since the actor held nothing before them.
 use Rattle.std.specs.Prelude.{ℕ, ◌+◌, ◌/◌, ◌%◌, ◌≤◌, ◌≡◌, true, false, List}
-use Rattle.pas_profile.specs.declared.word.Word.TheVariants as Word
-use Rattle.pas_steps.specs.Evidence.{ReadsFree}
-use Rattle.pas_steps.specs.Past.{Once}
-use Rattle.pas_steps.specs.Views.{holds}
-use Rattle.pas_steps.specs.declared.step.Made.{Made}
-use Rattle.pas_steps.specs.declared.step.Step.TheVariants.{Look, Unback}
+use Rattle.pas_profile.specs.declared.word.Word.{Word}
+use Rattle.pas_steps.specs.{Evidence.ReadsFree, Past.Once, Views.holds}
+use Rattle.pas_steps.specs.declared.step.{Made.Made, Step.TheVariants.Look, Step.TheVariants.Unback}
 
 -- this free word of the page was read so, and none of its grains was held then
 abbrev pub UsedByOthers : ℕ → ℕ → ℕ → Made → List Made → Type 0

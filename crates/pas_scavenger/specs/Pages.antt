@@ -1,27 +1,18 @@
 -- What comes of one page whose empty bit was cleared: the first outcome that applies, by what was read.
 use Rattle.std.specs.Prelude.{ℕ, ◌%◌, ◌≤◌, ◌≡◌, ◌≢◌, ◌⊎◌, Bool, true, false, List, [], ◌∷◌, ◌++◌, Option, None, Some, length}
 use Rattle.pas_bits.specs.declared.mask.Mask4.{Mask4}
-use Rattle.pas_bits.specs.Masks.{is_set}
-use Rattle.pas_bits.specs.Bits.{has_bit}
-use Rattle.pas_profile.specs.Directories.{deed_word_of}
-use Rattle.pas_profile.specs.declared.directory.Directory.{Directory}
-use Rattle.pas_profile.specs.declared.event.Event.{Event}
-use Rattle.pas_profile.specs.declared.event.Outcome.{Outcome}
+use Rattle.pas_bits.specs.{Masks.is_set, Bits.has_bit}
+use Rattle.pas_profile.specs.{Directories.deed_word_of, Profiles.IsDirectoryOf}
+use Rattle.pas_profile.specs.declared.{directory.Directory.Directory, event.Event.Event, event.Outcome.Outcome, word.Word.Word}
 use Rattle.pas_profile.specs.declared.event.Outcome.TheVariants.{Unbacked, Bare, Young, InUse, NotOffered}
-use Rattle.pas_profile.specs.declared.word.Word.TheVariants as Word
 use Rattle.pas_rights.specs.Looks.{looks_until, IsUsed, AreUsed}
-use Rattle.pas_steps.specs.Calls.{Calls}
-use Rattle.pas_profile.specs.Profiles.{IsDirectoryOf}
-use Rattle.pas_steps.specs.Clear.{HasNothing}
+use Rattle.pas_steps.specs.{Calls.Calls, Clear.HasNothing, Events.events_by, Views.View, Views.KnowsDeed, Views.known_epoch}
 use Rattle.pas_steps.specs.Desks.{Standing, AnyView, Adds, made}
-use Rattle.pas_steps.specs.Events.{events_by}
-use Rattle.pas_steps.specs.Kinds.{Kinds, LookFree, LookDeed, LookBacked, LookStamp, Taking, Putting, Claiming, Offering, Parking, Unparking, Hinting, Unbacking, Only}
-use Rattle.pas_steps.specs.Views.{View, KnowsDeed, known_epoch}
-use Rattle.pas_steps.specs.declared.step.Made.{Made}
-use Rattle.pas_steps.specs.declared.step.Step.TheVariants.{Look, TakeRight, Hint}
-use Rattle.pas_scavenger.specs.Readings.{was_free, takes_until}
-use Rattle.pas_scavenger.specs.Judgements.{used_at, Judged}
-use Rattle.pas_scavenger.specs.Puttings.{none, IsAt, BackSteps}
+use Rattle.pas_steps.specs.Kinds.{Kinds, LookFree, LookDeed, LookBacked, LookStamp, Taking, Putting, Claiming, Offering, Parking, Unparking, Hinting, Unbacking}
+use Rattle.pas_steps.specs.Kinds.{Only}
+use Rattle.pas_steps.specs.declared.step.{Made.Made, Step.TheVariants.Look, Step.TheVariants.TakeRight, Step.TheVariants.Hint}
+use Rattle.pas_scavenger.specs.{Readings.was_free, Readings.takes_until, Judgements.used_at, Judgements.Judged, Puttings.none, Puttings.IsAt}
+use Rattle.pas_scavenger.specs.{Puttings.BackSteps}
 use Rattle.pas_rights.specs.declared.reading.Used.{Used}
 
 -- ---- the steps

@@ -3,19 +3,11 @@ use Rattle.std.specs.Prelude.{ℕ, zero, suc, ◌+◌, ◌*◌, ◌%◌, ◌≤�
 use Rattle.std.specs.List.{flat_map}
 use Rattle.pas_bits.specs.Bits.{has_bit}
 use Rattle.pas_profile.specs.Profiles.{vector_words}
-use Rattle.pas_profile.specs.declared.profile.Profile.{Profile}
-use Rattle.pas_profile.specs.declared.event.Event.{Event}
-use Rattle.pas_profile.specs.declared.event.Outcome.{Outcome}
-use Rattle.pas_profile.specs.declared.word.Word.TheVariants as Word
-use Rattle.pas_steps.specs.Calls.{Calls}
-use Rattle.pas_steps.specs.Clear.{HasNothing}
-use Rattle.pas_steps.specs.Desks.{Standing, made}
-use Rattle.pas_steps.specs.Events.{events_by}
-use Rattle.pas_steps.specs.InTurn.{InTurn, numbers_below}
+use Rattle.pas_profile.specs.declared.{profile.Profile.Profile, event.Event.Event, event.Outcome.Outcome, word.Word.Word}
+use Rattle.pas_steps.specs.{Calls.Calls, Clear.HasNothing, Desks.Standing, Desks.made, Events.events_by, InTurn.InTurn, InTurn.numbers_below, Views.View}
+use Rattle.pas_steps.specs.{Views.known_epoch}
 use Rattle.pas_steps.specs.Kinds.{Kinds, LookEpoch, LookEmpty, Unhinting, Only}
-use Rattle.pas_steps.specs.Views.{View, known_epoch}
-use Rattle.pas_steps.specs.declared.step.Made.{Made}
-use Rattle.pas_steps.specs.declared.step.Step.TheVariants.{Look, Unhint}
+use Rattle.pas_steps.specs.declared.step.{Made.Made, Step.TheVariants.Look, Step.TheVariants.Unhint}
 use Rattle.pas_utility.specs.Outcomes.{pair}
 use Rattle.pas_scavenger.specs.Pages.{ExamineSteps, unback_of, examining}
 

@@ -2,12 +2,8 @@
 use Rattle.std.specs.Prelude.{ℕ, ◌≡◌, ◌≢◌, ◌==◌, ◌&&◌, Bool, true, false, List, ◌++◌}
 use Rattle.pas_bits.specs.declared.mask.Mask4.{Mask4}
 use Rattle.pas_profile.specs.declared.directory.Directory.{Directory}
-use Rattle.pas_rights.specs.Leaves.{LeaveSteps}
-use Rattle.pas_rights.specs.Puts.{masked, PutsBelow}
-use Rattle.pas_rights.specs.Returns.{ReturnSteps}
-use Rattle.pas_steps.specs.Calls.{Calls}
-use Rattle.pas_steps.specs.Clear.{OwesNothing, HasNothing}
-use Rattle.pas_steps.specs.Desks.{Standing}
+use Rattle.pas_rights.specs.{Leaves.LeaveSteps, Puts.masked, Puts.PutsBelow, Returns.ReturnSteps}
+use Rattle.pas_steps.specs.{Calls.Calls, Clear.OwesNothing, Clear.HasNothing, Desks.Standing}
 use Rattle.pas_steps.specs.Views.{View, holds, has_right, KnowsDeed, is_unstamped, examines}
 use Rattle.pas_steps.specs.declared.step.Made.{Made}
 

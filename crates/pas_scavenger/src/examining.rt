@@ -1,8 +1,7 @@
 //! One page whose empty bit was cleared.
 ghost use Rattle.std.specs.Prelude.{◌≡◌, ◌≤◌};
 ghost use Rattle.pas_profile.specs.Profiles.{IsPage, IsDirectoryOf};
-ghost use Rattle.pas_steps.specs.Desks.{CanCall};
-ghost use Rattle.pas_steps.specs.Views.{ReadBacked};
+ghost use Rattle.pas_steps.specs.{Desks.CanCall, Views.ReadBacked};
 ghost use Rattle.pas_scavenger.specs.Pages.{MayExamine, MayTake, ReadsDirectory, TakesPage, ExaminesPage};
 
 use crate::judging::judge;

@@ -2,8 +2,7 @@
 ghost use Rattle.std.specs.Prelude.{◌≡◌, ◌≤◌, ◌<◌, ◌+◌, ◌-◌, ◌*◌, length, reverse};
 ghost use Rattle.std.specs.List.{flat_map};
 ghost use Rattle.pas_profile.specs.Profiles.{IsPage, vector_words};
-ghost use Rattle.pas_steps.specs.Clear.{HasNothing};
-ghost use Rattle.pas_steps.specs.Desks.{CanCall};
+ghost use Rattle.pas_steps.specs.{Clear.HasNothing, Desks.CanCall};
 ghost use Rattle.pas_utility.specs.Outcomes.{pairs_in, places_of};
 ghost use Rattle.pas_scavenger.specs.Passes.{IsReady, TriesPage, ReadsWord, Passes, unbacks_in};
 

@@ -2,8 +2,7 @@
 ghost use Rattle.std.specs.Prelude.{◌≡◌, ℕ};
 ghost use Rattle.pas_bits.specs.Masks.{is_set};
 ghost use Rattle.pas_profile.specs.Profiles.{IsPage};
-ghost use Rattle.pas_rights.specs.Looks.{AreUsed};
-ghost use Rattle.pas_rights.specs.Takes.{HasRight};
+ghost use Rattle.pas_rights.specs.{Looks.AreUsed, Takes.HasRight};
 ghost use Rattle.pas_steps.specs.Desks.{CanCall};
 ghost use Rattle.pas_scavenger.specs.Readings.{was_free, TakesUntilUsed};
 

@@ -1,35 +1,22 @@
 -- A search whose actor alone made steps meanwhile: its promise is what the law of the lone search asks.
 use Rattle.std.proofs.Common.{◌≡◌, ◌≢◌, ℕ, Bool, false, List, ◌++◌, ◌⊎◌, inl, inr, refl, ap, sym, ◌∙◌, true≢false, Result, Ok, Err, MatchResult}
 use Rattle.std.proofs.lemmas.Bool.{cases_eq}
-use Rattle.pas_profile.specs.Directories.{deed_word_of}
-use Rattle.pas_profile.specs.Profiles.{IsValid, IsPage, IsDirectoryOf}
-use Rattle.pas_profile.specs.declared.directory.Directory.{Directory}
-use Rattle.pas_profile.specs.declared.event.NoRoom.{NoRoom}
-use Rattle.pas_profile.specs.declared.event.NoRoom.TheVariants.{NoSpace, Held}
-use Rattle.pas_profile.specs.declared.profile.Profile.{Profile}
-use Rattle.pas_profile.specs.declared.word.Word.TheVariants as Word
+use Rattle.pas_profile.specs.{Directories.deed_word_of, Profiles.IsValid, Profiles.IsPage, Profiles.IsDirectoryOf}
+use Rattle.pas_profile.specs.declared.{directory.Directory.Directory, event.NoRoom.NoRoom, event.NoRoom.TheVariants.NoSpace, event.NoRoom.TheVariants.Held}
+use Rattle.pas_profile.specs.declared.{profile.Profile.Profile, word.Word.Word}
 use Rattle.pas_profile.proofs.Codecs.{deed_word_of-positive}
-use Rattle.pas_steps.specs.Agreement.{Agreed}
-use Rattle.pas_steps.specs.Calls.{nothing, Does}
-use Rattle.pas_steps.specs.Desks.{triples}
-use Rattle.pas_steps.specs.Evidence.{Readings, IsAntitone}
+use Rattle.pas_steps.specs.{Agreement.Agreed, Calls.nothing, Calls.Does, Desks.triples, Evidence.Readings, Evidence.IsAntitone, Views.View, Views.has_right}
+use Rattle.pas_steps.specs.{Views.KnowsDeed}
 use Rattle.pas_steps.specs.Lists.{Whole, part, word_after, Legal}
-use Rattle.pas_steps.specs.Views.{View, has_right, KnowsDeed}
-use Rattle.pas_steps.specs.declared.step.Made.{Made}
-use Rattle.pas_steps.specs.declared.step.Step.TheVariants.{Deed}
-use Rattle.pas_steps.proofs.Parts.{part_of_own}
-use Rattle.pas_steps.proofs.Past.{once_map}
-use Rattle.pas_core.specs.Alone.{ShowsNone, ShowsAnswer, IsPlainAnswer}
-use Rattle.pas_core.specs.Fits.{HasNoFit}
-use Rattle.pas_core.specs.Rights.{AllRest}
+use Rattle.pas_steps.specs.declared.step.{Made.Made, Step.TheVariants.Deed}
+use Rattle.pas_steps.proofs.{Parts.part_of_own, Past.once_map}
+use Rattle.pas_core.specs.{Alone.ShowsNone, Alone.ShowsAnswer, Alone.IsPlainAnswer, Fits.HasNoFit, Rights.AllRest}
 use Rattle.pas_core.proofs.OneActor.{plain_answer, lends_none, legal_earlier, legal_before, entry_lacks, in_hands, is_with_own}
 use Rattle.pas_core.proofs.Nexts.{agreed_steps}
 use Rattle.pas_core.proofs.Rights.{own_eligible, spot_of, is_with, spotted}
-use Rattle.pas_search.specs.Alone.{page_found, FindsWhatThereIs}
-use Rattle.pas_search.specs.Kinds.{searching, AreSearch}
+use Rattle.pas_search.specs.{Alone.page_found, Alone.FindsWhatThereIs, Kinds.searching, Kinds.AreSearch, Serving.Rule, Serving.ShowsFit, Telling.IsInHands}
+use Rattle.pas_search.specs.{Telling.IsTrueReason, Telling.IsTold}
 use Rattle.pas_search.specs.Searches.{MaySearch, FromOffered, ByDeed, DeedMadeHere, IsServed, IsRefused}
-use Rattle.pas_search.specs.Serving.{Rule, ShowsFit}
-use Rattle.pas_search.specs.Telling.{IsInHands, IsTrueReason, IsTold}
 use Rattle.pas_search.specs.declared.serving.Served.{Served}
 use Rattle.pas_search.proofs.FindingAPage.{all_told, could_serve}
 
@@ -93,7 +80,7 @@ module _ (no_fit : Readings → Type 0) (f : Profile) (d : Directory) (k : ℕ) 
   held_by_none : AllRest f l → (page : ℕ) → IsRefused no_fit f d steps (Held page) → ⊥
   held_by_none rest page is = (plain_alone (any_of no_fit) f d k l steps valid of fewer legal searches may rest (Err (Held page)) is).not_held page refl
 
-  pub finds_what_there_is : {A : Type 0} (answer : Result A NoRoom) → IsFoundOrRefused no_fit f d steps answer → FindsWhatThereIs no_fit f d l answer
+  finds_what_there_is : {A : Type 0} (answer : Result A NoRoom) → IsFoundOrRefused no_fit f d steps answer → FindsWhatThereIs no_fit f d l answer
   finds_what_there_is (Ok a) found = record {
     none_fits = λ room bad. absurd cc;
     refused = λ none b is. could_before found none;

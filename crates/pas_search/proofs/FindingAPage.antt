@@ -1,53 +1,44 @@
 -- The answer of a search: an offered page serves, a page does whose deed was made, or the request is refused; and what it says of the states at entry and exit.
-use Rattle.std.proofs.Common.{◌≡◌, ℕ, ◌+◌, ◌*◌, ◌/◌, ◌%◌, ◌&&◌, ◌<◌, ◌≤◌, true, false, List, [], ◌∷◌, ◌++◌, refl, sym, ◌∙◌, subst, arith, ◌⊎◌, inl, inr, append_assoc, true≢false, ◌≢◌, ◌==◌, if◌then◌else◌, ap, Result, Ok, Err, MatchResult, Bool, length, length-append, suc, Some, None}
-use Rattle.std.proofs.lemmas.Bool.{cases_Bool, cases_lt, eq-eqb, ne_eqb}
-use Rattle.pas_profile.specs.declared.directory.Directory.{Directory}
-use Rattle.pas_profile.specs.declared.profile.Profile.{Profile}
-use Rattle.pas_profile.specs.declared.event.NoRoom.{NoRoom}
-use Rattle.pas_profile.specs.declared.event.NoRoom.TheVariants.{NoSpace, Held}
-use Rattle.pas_steps.specs.declared.step.Made.{Made}
+use Rattle.std.proofs.Common.{◌≡◌, ℕ, ◌+◌, ◌*◌, ◌/◌, ◌%◌, ◌&&◌, ◌<◌, ◌≤◌, true, false, List, [], ◌∷◌, ◌++◌, refl, sym, ◌∙◌, subst, arith, ◌⊎◌, inl, inr}
+use Rattle.std.proofs.Common.{append_assoc, true≢false, ◌≢◌, ◌==◌, if◌then◌else◌, ap, Result, Ok, Err, MatchResult, Bool, length, length-append, suc, Some}
+use Rattle.std.proofs.Common.{None, eq-eqb, ne_eqb}
+use Rattle.std.proofs.lemmas.Bool.{cases_Bool, cases_lt}
+use Rattle.pas_profile.specs.declared.{directory.Directory.Directory, profile.Profile.Profile, event.NoRoom.NoRoom, event.NoRoom.TheVariants.NoSpace}
+use Rattle.pas_profile.specs.declared.{event.NoRoom.TheVariants.Held, word.Word.Word}
+use Rattle.pas_steps.specs.declared.step.{Made.Made, Step.Step, Step.TheVariants.Deed}
 use Rattle.pas_steps.specs.Views.{has_right, KnowsDeed, View, deed_after, known_deed}
-use Rattle.pas_steps.specs.Past.{Once, Always, Since}
-use Rattle.pas_steps.specs.Frames.{OnlyScans}
-use Rattle.pas_steps.proofs.Kept.{scans_look, looks_read, deed_stays}
-use Rattle.pas_steps.proofs.Past.{once_later, once_earlier, once_map}
-use Rattle.pas_steps.specs.Evidence.{UnfitHere, ZeroHere, DeedHere, ParkedHere, ParkedLater, LeftHere, LacksAfter, MissingHere, HeldHere, Accounted, AllDeeds, ReadsDeed, KeptHere, Searched, NoDeedHere, GetsRight, GetsHere, IsAntitone}
+use Rattle.pas_steps.specs.{Past.Once, Past.Always, Past.Since, Frames.OnlyScans, Effects.target, Agreement.Agreed, Clear.IsClear, Events.events_of}
+use Rattle.pas_steps.specs.{Events.events_by, Unknown.HasRoom}
+use Rattle.pas_steps.proofs.{Kept.scans_look, Kept.looks_read, Kept.deed_stays, Past.once_later, Past.once_earlier, Past.once_map, Frames.right_own}
+use Rattle.pas_steps.proofs.{Frames.events_append, Frames.lacks_now, Parts.part_of_own, Unknown.all_known, Calls.still_clear, Evidence.deed_before}
+use Rattle.pas_steps.proofs.{Evidence.unknown, Evidence.deed_known}
+use Rattle.pas_steps.specs.Evidence.{UnfitHere, ZeroHere, DeedHere, ParkedHere, ParkedLater, LeftHere, LacksAfter, MissingHere, HeldHere, Accounted, AllDeeds}
+use Rattle.pas_steps.specs.Evidence.{ReadsDeed, KeptHere, Searched, NoDeedHere, GetsRight, GetsHere, IsAntitone}
 use Rattle.pas_scan.specs.Marks.{is_marked}
 use Rattle.pas_scan.specs.Scan.{IsMember, AllParked, IsVerdict, last_block, Judges}
 use Rattle.pas_search.specs.Serving.{Rule, ShowsFit}
-use Rattle.pas_search.specs.Searches.{search_steps, Searching, AllAccounted, IsRefusal, IsRefused, MaySearch, DeedMadeHere, IsHeld, IsServed, SearchRoom, BareRoom, FromOffered, ByDeed, SearchesOffered, ServesBare, SearchesBare, Searches}
-use Rattle.pas_search.proofs.PagesThatServe.{no_deeds, served_search, deeds_serves, AreVain, reads_vain, vain_lacks, vain_search, searched, vain_searching, ready, got_search, finds}
+use Rattle.pas_search.specs.Searches.{search_steps, Searching, AllAccounted, IsRefusal, IsRefused, MaySearch, DeedMadeHere, IsHeld, IsServed, SearchRoom}
+use Rattle.pas_search.specs.Searches.{BareRoom, FromOffered, ByDeed, SearchesOffered, ServesBare, SearchesBare, Searches}
+use Rattle.pas_search.proofs.PagesThatServe.{no_deeds, served_search, deeds_serves, AreVain, reads_vain, vain_lacks, vain_search, searched, vain_searching}
+use Rattle.pas_search.proofs.PagesThatServe.{ready, got_search, finds}
 use Rattle.pas_search.proofs.ForBackEnds.{events_quiet, room_kept}
-use Rattle.pas_steps.proofs.Frames.{right_own, events_append, lacks_now}
 use Rattle.pas_bits.specs.Bits.{has_bit}
-use Rattle.pas_profile.specs.Directories.{deed_word_of, deed_word_numbered, number_of}
-use Rattle.pas_profile.specs.Profiles.{IsValid, IsPage, IsDirectoryOf}
-use Rattle.pas_profile.specs.declared.word.Word.TheVariants as Word
+use Rattle.pas_profile.specs.{Directories.deed_word_of, Directories.deed_word_numbered, Directories.number_of, Profiles.IsValid, Profiles.IsPage}
+use Rattle.pas_profile.specs.{Profiles.IsDirectoryOf}
 use Rattle.pas_profile.proofs.Codecs.{deed_word_of-positive}
-use Rattle.pas_steps.specs.Effects.{target}
-use Rattle.pas_steps.specs.Agreement.{Agreed}
 use Rattle.pas_steps.specs.Lists.{Whole, part, word_after, Legal}
 use Rattle.pas_steps.specs.Desks.{triples, Seat, Standing, AnyView, made, Adds, CanCall}
-use Rattle.pas_steps.specs.declared.step.Step.{Step}
-use Rattle.pas_steps.proofs.Parts.{part_of_own}
-use Rattle.pas_core.proofs.Deeds.{known_is, numbered_ne}
-use Rattle.pas_core.proofs.Rights.{is_offered, is_parked, spotted}
+use Rattle.pas_core.proofs.{Deeds.known_is, Deeds.numbered_ne, Rights.is_offered, Rights.is_parked, Rights.spotted}
 use Rattle.pas_search.specs.Kinds.{searching, AreSearch, IsDeedOrBack, deeds_made}
 use Rattle.pas_core.specs.Fits.{IsOfferedFit, HasNoFit}
 use Rattle.pas_search.specs.Telling.{IsLowestOffered, IsLowestBare, IsInHands, IsTrueReason, IsTold}
 use Rattle.pas_search.specs.declared.serving.Served.{Served}
-use Rattle.pas_core.proofs.OneActor.{spot_same, zero_told, one_told, parked_told, entry_lacks, legal_before, offered_deed, offered_lacks, not_in_hands, LendsNone, unfit_entry, unfit_exit, fit_entry, deed_quiet, deed_exit, deed_none, lends_none}
-use Rattle.pas_steps.specs.Clear.{IsClear}
-use Rattle.pas_steps.specs.Events.{events_of, events_by}
-use Rattle.pas_steps.specs.Unknown.{HasRoom}
-use Rattle.pas_steps.proofs.Unknown.{all_known}
-use Rattle.pas_steps.specs.declared.step.Step.TheVariants.{Deed}
+use Rattle.pas_core.proofs.OneActor.{spot_same, zero_told, one_told, parked_told, entry_lacks, legal_before, offered_deed, offered_lacks, not_in_hands}
+use Rattle.pas_core.proofs.OneActor.{LendsNone, unfit_entry, unfit_exit, fit_entry, deed_quiet, deed_exit, deed_none, lends_none}
 use Rattle.pas_steps.proofs.Adding.{adds_call, can_call, legal_after, adds_under}
-use Rattle.pas_steps.proofs.Calls.{still_clear}
-use Rattle.pas_steps.proofs.Evidence.{deed_before, unknown, deed_known}
 
 -- the call had the right of a page that didn't fit
-pub unfit_lacks : {F : Type 0} (rule : Rule F) (p : ℕ) (xs : List Made) → Once (UnfitHere rule.no_fit p) xs → Always (LacksAfter p) xs → ⊥
+unfit_lacks : {F : Type 0} (rule : Rule F) (p : ℕ) (xs : List Made) → Once (UnfitHere rule.no_fit p) xs → Always (LacksAfter p) xs → ⊥
 unfit_lacks rule p [] h lacks = h
 unfit_lacks rule p (m ∷ more) (inl u) lacks = true≢false (sym u.kept ∙ lacks_now p more lacks.1)
 unfit_lacks rule p (m ∷ more) (inr h) lacks = unfit_lacks rule p more h lacks.1
@@ -89,7 +80,7 @@ module _ {F : Type 0} (rule : Rule F) (f : Profile) (d : Directory) (marks : Lis
         lower = all_accounted page (omega (arith, is.1)) h.2;
       }
 
-  pub refused : (answer : NoRoom) → IsVerdict f marks d ys answer → AllDeeds (f.pages + 1) xs → IsRefused rule.no_fit f d (ys ++ xs) answer
+  refused : (answer : NoRoom) → IsVerdict f marks d ys answer → AllDeeds (f.pages + 1) xs → IsRefused rule.no_fit f d (ys ++ xs) answer
   refused answer verdict all = let now : Searching rule.no_fit f d (f.pages + 1) marks (ys ++ xs) = vain_searching rule f d (f.pages + 1) marks ys xs vain s in record {
     still = now.still;
     quiet = now.quiet;
@@ -128,7 +119,7 @@ by_deed rule f k l d page [] fewer is legal searches h = absurd h
 by_deed rule f k l d page (m ∷ xs) fewer is legal searches (inr h) = by_deed rule f k l d page xs fewer is legal.1 searches.1 h
 by_deed rule f k l d page (m ∷ xs) fewer is legal searches (inl h) = record {
   this = record { of_region = is; no_deed = deed_none k l page xs (sym (legal.0.answer_is ∙ ap (λ s. word_after (triples k xs ++ l) (target s)) h.deed) ∙ h.made) };
-  none_offered = λ other fit. no_fit_there rule f k l d (f.pages + 1) xs fewer legal.1 searches.1 h.searched other (let high = fit.of_region.1 in omega (arith, high)) fit;
+  none_offered = λ other fit. no_fit_there rule f k l d (f.pages + 1) xs fewer legal.1 searches.1 h.searched other (omega (arith, fit.of_region.1)) fit;
   lowest = λ other bare. not_below page other (λ lt. deed_exit f k l other xs legal.1 (h.lower other bare.of_region.0 lt) (deed_quiet f k l other xs legal.1 h.quiet ∙ bare.no_deed));
 }
 
@@ -161,8 +152,8 @@ module _ {F : Type 0} (rule : Rule F) (f : Profile) (k : ℕ) (l : Whole) (d : D
   -- ---- a refusal
   entry_none : (room : NoRoom) → IsRefused rule.no_fit f d xs room → HasNoFit rule.no_fit f d l
   entry_none room is = record {
-    offered = λ page fit. no_fit_there rule f k l d (f.pages + 1) xs fewer legal searches is.searched page (let high = fit.of_region.1 in omega (arith, high)) fit;
-    bare = λ page bare. deed_exit f k l page xs legal (is.deeds page bare.of_region.0 (let high = bare.of_region.1 in omega (arith, high))) (deed_quiet f k l page xs legal is.quiet ∙ bare.no_deed);
+    offered = λ page fit. no_fit_there rule f k l d (f.pages + 1) xs fewer legal searches is.searched page (omega (arith, fit.of_region.1)) fit;
+    bare = λ page bare. deed_exit f k l page xs legal (is.deeds page bare.of_region.0 (omega (arith, bare.of_region.1))) (deed_quiet f k l page xs legal is.quiet ∙ bare.no_deed);
   }
 
   exit_none : (room : NoRoom) → IsRefused rule.no_fit f d xs room → HasNoFit rule.no_fit f d w
@@ -174,7 +165,7 @@ module _ {F : Type 0} (rule : Rule F) (f : Profile) (k : ℕ) (l : Whole) (d : D
           sym ((is.still.from (part k l) may agreed).right page) ∙ ap (λ v. has_right v page) (sym (part_of_own k xs l)) ∙ offered_lacks f k w (number_of d) page legal fit.offered in
           true≢false (sym fit.offered ∙ (spotted f w legal page).eligible (number_of d) ∙ ap (is_offered (number_of d)) (spot_same f k l page xs legal lacks z.0) ∙ zero_told f k l d page xs legal lacks z.0 z.1)
     ];
-    bare = λ page bare. deed_exit f k l page xs legal (is.deeds page bare.of_region.0 (let high = bare.of_region.1 in omega (arith, high))) bare.no_deed;
+    bare = λ page bare. deed_exit f k l page xs legal (is.deeds page bare.of_region.0 (omega (arith, bare.of_region.1))) bare.no_deed;
   }
 
   -- what the actor knows of the deed is the word at exit
@@ -216,7 +207,7 @@ module _ {F : Type 0} (rule : Rule F) (f : Profile) (k : ℕ) (l : Whole) (d : D
       }
 
   reason : (room : NoRoom) → IsRefused rule.no_fit f d xs room → IsTrueReason f d w room
-  reason NoSpace is = λ page hands. accounted_out NoSpace is page (is.answer (part k l) agreed page hands.of_region.0 (let high = hands.of_region.1 in omega (arith, high))) hands
+  reason NoSpace is = λ page hands. accounted_out NoSpace is page (is.answer (part k l) agreed page hands.of_region.0 (omega (arith, hands.of_region.1))) hands
   reason (Held p) is = (held_in_hands (Held p) is p is.answer, λ other lt hands. accounted_out (Held p) is other (is.answer.lower (part k l) agreed other hands.of_region.0 lt) hands)
 
   pub all_told : (answer : Result (Served F) NoRoom) → MatchResult answer (IsServed rule f d xs) (IsRefused rule.no_fit f d xs) → IsTold (λ (s : Served F). s.page) rule.no_fit f d l w answer
@@ -332,18 +323,17 @@ module _ {F : Type 0} {rule : Rule F} {σ σ1 : Standing} {d' : Directory} (d : 
 
   pub ends_refused : {σ2 σ3 : Standing} (room : NoRoom) → SearchesBare rule d σ1 σ2 None → Judges marks d σ2 σ3 room → Ends rule d σ σ3 (Err room)
   ends_refused room bare judged =
-      let pages = pages_kept in
       let verdict : IsVerdict f marks d judged.steps room = subst (λ x. IsVerdict x marks d judged.steps room) (profile_kept (bare_adds bare.adds)) judged.verdict in
       let xs : List Made = bare.steps ++ offered.steps in
       let s : Searching rule.no_fit f d (f.pages + 1) marks xs = vain_searching rule f d (f.pages + 1) marks bare.steps offered.steps (reads_vain bare.steps bare.outcome.0) offered.outcome in
-      let deeds : AllDeeds (f.pages + 1) xs = λ p low high. deed_before p bare.steps offered.steps (bare.outcome.1 p low (omega (arith, high, pages))) in
+      let deeds : AllDeeds (f.pages + 1) xs = λ p low high. deed_before p bare.steps offered.steps (bare.outcome.1 p low (omega (arith, high, pages_kept))) in
       record {
         steps = judged.steps ++ xs;
         adds = adds_call {D = AnyView} (bare_adds bare.adds) judged.adds (λ v l stood met. tt);
         few =
             let last : last_block f room ≤ f.pages / 64 = last_within f judged.steps room verdict in
             let short : length judged.steps ≤ 65 * (last_block f room + 1) = subst (λ x. length judged.steps ≤ 65 * (last_block x room + 1)) (profile_kept (bare_adds bare.adds)) judged.few in
-            omega (arith, last, short, offered.few, bare.few, pages, length-append judged.steps xs, length-append bare.steps offered.steps);
+            omega (arith, last, short, offered.few, bare.few, pages_kept, length-append judged.steps xs, length-append bare.steps offered.steps);
         searches = vain_search judged.steps xs (reads_vain judged.steps (looks_read judged.steps (scans_look judged.steps judged.scans))) s.searches;
         outcome = refused rule f d marks judged.steps xs judged.scans s room verdict deeds;
       }

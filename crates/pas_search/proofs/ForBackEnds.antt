@@ -2,17 +2,10 @@
 use Rattle.std.proofs.Common.{◌≡◌, ℕ, ◌+◌, ◌<◌, ◌≤◌, true, List, [], ◌∷◌, ◌++◌, length, length-append, refl, ap, ◌∙◌, arith, inl, inr}
 use Rattle.pas_rights.specs.Leaves.{LosesHere}
 use Rattle.pas_steps.specs.Evidence.{Readings, ShowsHere, KeptHere, GetsHere, UnfitHere}
-use Rattle.pas_steps.specs.Frames.{AreLooks}
-use Rattle.pas_steps.specs.Past.{Once, Since}
-use Rattle.pas_steps.specs.Views.{View, has_right, epoch_of}
+use Rattle.pas_steps.specs.{Frames.AreLooks, Past.Once, Past.Since, Views.View, Views.has_right, Views.epoch_of, Desks.Standing, Desks.Adds, Desks.CanCall}
+use Rattle.pas_steps.specs.{Events.with_event, Events.events_of, Events.events_by, Lists.Whole}
 use Rattle.pas_steps.specs.declared.step.Made.{Made}
-use Rattle.pas_steps.proofs.Kept.{looks_read, right_reads}
-use Rattle.pas_steps.proofs.Past.{once_later}
-use Rattle.pas_steps.proofs.Adding.{room_left}
-use Rattle.pas_steps.proofs.Frames.{events_split}
-use Rattle.pas_steps.specs.Desks.{Standing, Adds, CanCall}
-use Rattle.pas_steps.specs.Events.{with_event, events_of, events_by}
-use Rattle.pas_steps.specs.Lists.{Whole}
+use Rattle.pas_steps.proofs.{Kept.looks_read, Kept.right_reads, Past.once_later, Adding.room_left, Frames.events_split}
 use Rattle.pas_search.specs.Kinds.{AreQuiet}
 
 since_looks : (P : Made → List Made → Type 0) (p : ℕ) (ys xs : List Made) → AreLooks ys → has_right xs p ≡ true → Since P (KeptHere p) xs → Since P (KeptHere p) (ys ++ xs)

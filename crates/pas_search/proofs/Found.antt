@@ -1,15 +1,12 @@
 -- For callers of a search: what it found, and the page that is left at once.
-use Rattle.std.proofs.Common.{◌≡◌, ℕ, ◌/◌, ◌%◌, ◌==◌, Bool, true, false, ◌&&◌, if◌then◌else◌, Ok, refl, sym, ◌∙◌, subst, arith, inl, true≢false}
-use Rattle.std.proofs.lemmas.Bool.{eqb-true, and_parts, false_from_ne_true}
+use Rattle.std.proofs.Common.{◌≡◌, ℕ, ◌/◌, ◌%◌, ◌==◌, Bool, true, false, ◌&&◌, if◌then◌else◌, Ok, refl, sym, ◌∙◌, subst, arith, inl, true≢false, eqb-true}
+use Rattle.std.proofs.lemmas.Bool.{and_parts, false_from_ne_true}
 use Rattle.pas_profile.specs.declared.directory.Directory.{Directory}
 use Rattle.pas_steps.specs.Calls.{Calls, Fate, Kept, Gained, Lost, later, ClearAfter, Effect, on_page, Does}
-use Rattle.pas_steps.specs.Desks.{Standing}
-use Rattle.pas_steps.specs.Views.{View, holds}
-use Rattle.pas_steps.proofs.Calls.{does_as, does_then}
-use Rattle.pas_search.specs.Searches.{MaySearch, KeepsFound, Searches}
-use Rattle.pas_search.specs.Serving.{Rule}
+use Rattle.pas_steps.specs.{Desks.Standing, Views.View, Views.holds}
+use Rattle.pas_steps.proofs.{Calls.does_as, Calls.does_then, Sets.kept_kept}
+use Rattle.pas_search.specs.{Searches.MaySearch, Searches.KeepsFound, Searches.Searches, Serving.Rule}
 use Rattle.pas_search.specs.declared.serving.Served.{Served}
-use Rattle.pas_steps.proofs.Sets.{kept_kept}
 
 -- ---- what was found
 -- it is kept, and none of its grains was held

@@ -1,35 +1,25 @@
 -- For back ends: a page that was read with its right, and of which some grains were taken, is backed and kept; or it is left, since nothing fits.
-use Rattle.std.proofs.Common.{◌≡◌, ℕ, ◌+◌, ◌*◌, ◌/◌, ◌%◌, ◌<◌, ◌≤◌, ◌==◌, Bool, true, false, ◌&&◌, if◌then◌else◌, List, [], ◌∷◌, ◌++◌, length, None, Some, refl, ap, sym, ◌∙◌, subst, arith, inl, inr, append_assoc, length-append}
-use Rattle.std.proofs.lemmas.Bool.{eq-eqb, eqb-true, and_from, and_right, cond_both}
+use Rattle.std.proofs.Common.{◌≡◌, ℕ, ◌+◌, ◌*◌, ◌/◌, ◌%◌, ◌<◌, ◌≤◌, ◌==◌, Bool, true, false, ◌&&◌, if◌then◌else◌, List, [], ◌∷◌, ◌++◌, length, None, Some, refl}
+use Rattle.std.proofs.Common.{ap, sym, ◌∙◌, subst, arith, inl, inr, append_assoc, length-append, eq-eqb, eqb-true}
+use Rattle.std.proofs.lemmas.Bool.{and_from, and_right, cond_both}
 use Rattle.pas_profile.specs.Profiles.{IsPage}
-use Rattle.pas_profile.specs.declared.directory.Directory.{Directory}
-use Rattle.pas_profile.specs.declared.event.Event.{Event}
+use Rattle.pas_profile.specs.declared.{directory.Directory.Directory, event.Event.Event}
 use Rattle.pas_profile.proofs.Codecs.{deed_word_of-positive}
-use Rattle.pas_rights.specs.Leaves.{MayLeave, Leaves}
-use Rattle.pas_rights.specs.PutsBack.{taking_grains, GivesDuly}
-use Rattle.pas_rights.specs.Takes.{taken}
-use Rattle.pas_rights.proofs.Debts.{leave_lacks}
-use Rattle.pas_rights.proofs.Hints.{due_both, leave_due}
-use Rattle.pas_steps.specs.Agreement.{Agreed}
-use Rattle.pas_steps.specs.Allowed.{Allowed}
+use Rattle.pas_rights.specs.{Leaves.MayLeave, Leaves.Leaves, PutsBack.taking_grains, PutsBack.GivesDuly, Takes.taken}
+use Rattle.pas_rights.proofs.{Debts.leave_lacks, Hints.due_both, Hints.leave_due}
+use Rattle.pas_steps.specs.{Agreement.Agreed, Allowed.Allowed, Events.with_event, Events.events_by, Frames.IsOnPage, Frames.OnlyOn, Frames.KeepsRight}
+use Rattle.pas_steps.specs.{Past.Once, Past.Always, Past.Since}
 use Rattle.pas_steps.specs.Calls.{Calls, Leads, Kept, Gained, Lost, now, ClearAfter, Does}
 use Rattle.pas_steps.specs.Desks.{Standing, CanCall, made, Makes, CanMake}
-use Rattle.pas_steps.specs.Events.{with_event, events_by}
 use Rattle.pas_steps.specs.Evidence.{Readings, ShowsHere, KeptHere, GetsHere, UnfitHere}
-use Rattle.pas_steps.specs.Frames.{IsOnPage, OnlyOn, KeepsRight}
 use Rattle.pas_steps.specs.Kinds.{Backing, Only, kind_of, place_of, is_in, showing, returning}
-use Rattle.pas_steps.specs.Past.{Once, Always, Since}
 use Rattle.pas_steps.specs.Views.{View, holds, holds_on, has_right, known_free, knows_backed, KnowsDeed}
-use Rattle.pas_steps.specs.declared.step.Made.{Made}
-use Rattle.pas_steps.specs.declared.step.Step.TheVariants.{Back}
-use Rattle.pas_steps.proofs.Adding.{agreed_later}
+use Rattle.pas_steps.specs.declared.step.{Made.Made, Step.TheVariants.Back}
+use Rattle.pas_steps.proofs.{Adding.agreed_later, Kept.any_from, Kept.returns_on, Frames.rights_stay, Sets.kept_kept}
 use Rattle.pas_steps.proofs.Apart.{in_apart, only_within, only_both, holds_same, no_event, no_events}
-use Rattle.pas_steps.proofs.Kept.{any_from, returns_on}
 use Rattle.pas_steps.proofs.Called.{call_then, call_knows, call_step, next_call, next_step}
 use Rattle.pas_steps.proofs.Calls.{does_then, does_as, does_idly, returns_are, kept_first}
-use Rattle.pas_steps.proofs.Frames.{rights_stay}
 use Rattle.pas_steps.proofs.Past.{once_later, always_both, always_map, since_once}
-use Rattle.pas_steps.proofs.Sets.{kept_kept}
 use Rattle.pas_search.specs.Kinds.{serving, KeepsMarks, IsQuiet, AreQuiet}
 use Rattle.pas_search.specs.Serving.{Rule, MayServe, HoldsNone, GotBefore, right_of, Keeps, ReadsNoneHeld, ServesPage}
 use Rattle.pas_search.proofs.ForBackEnds.{unfit_left}
@@ -94,7 +84,7 @@ module _ {Found : Type 0} (rule : Rule Found) (page : ℕ) (d : Directory) (r : 
         };
         due = due_both left.steps p.steps (leave_due page d left.steps left.order) p.due;
         few = λ k v. subst (λ es. length es ≤ rule.events) (sym (no_events taking_grains refl k v (left.steps ++ p.steps) left_kinds)) (omega arith);
-        short = let all = length-append left.steps p.steps in let a = left.few in omega (arith, all, a, short);
+        short = let all = length-append left.steps p.steps in omega (arith, all, left.few, short);
         outcome = record {
           leaves = left_call.leads;
           left = record { before = p.steps; leave = left.steps; order = left.order; steps_are = refl };
@@ -114,11 +104,11 @@ module _ {Found : Type 0} (rule : Rule Found) (page : ℕ) (d : Directory) (r : 
   module _ (some : (b : ℕ) × (b < 256) × (kept b ≡ true)) where
     first_held : (v w : View) → Does (taken (on_page page kept)) v w → holds w (page * 256 + some.0) ≡ true
     first_held v w does =
-        let b = some.0 in let lt = some.1 in let at : page ≡ (page * 256 + b) / 256 = omega (arith, lt) in let bit : (page * 256 + b) % 256 ≡ b = omega (arith, lt) in
+        let b = some.0 in let at : page ≡ (page * 256 + b) / 256 = omega (arith, some.1) in let bit : (page * 256 + b) % 256 ≡ b = omega (arith, some.1) in
         does.held (page * 256 + b) ∙ ap (λ t. now (if t then Gained else Kept) (holds v (page * 256 + b))) (and_from (page == (page * 256 + b) / 256) (kept ((page * 256 + b) % 256)) (eq-eqb page ((page * 256 + b) / 256) at) (ap kept bit ∙ some.2))
 
     may_back : (v : View) → MayServe page d v → Does (taken (on_page page kept)) v (p.steps ++ v) × KnowsDeed page d (p.steps ++ v) → Allowed σ.seat.profile (p.steps ++ v) (Back page)
-    may_back v met after = let lt = some.1 in ((page * 256 + some.0, omega (arith, lt), first_held v (p.steps ++ v) after.0), λ z. deed_word_of-positive d (sym after.1 ∙ z))
+    may_back v met after = ((page * 256 + some.0, omega (arith, some.1), first_held v (p.steps ++ v) after.0), λ z. deed_word_of-positive d (sym after.1 ∙ z))
 
     pub can_back : CanCall σ (MayServe page d) → IsPage σ.seat.profile page → CanMake σ1 (Back page)
     can_back can of = next_step prepared can of may_back

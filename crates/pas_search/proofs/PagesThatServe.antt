@@ -1,47 +1,37 @@
 -- The steps of a search so far, and a page whose right the call got by its newest step: the back end leaves it, or keeps what its answer says.
-use Rattle.std.proofs.Common.{◌≡◌, ℕ, suc, ◌≤◌, ◌==◌, arith, Bool, true, false, if◌then◌else◌, List, [], ◌∷◌, ◌++◌, ◌⊎◌, inl, inr, None, Some, refl, ap, ◌∙◌, sym, append-nil, true≢false, subst, ◌%◌, ◌&&◌, ◌<◌, ◌≢◌, ◌+◌, ◌/◌, ◌||◌, ◌*◌, ◌-◌, length, length-append, Option, append_assoc}
-use Rattle.pas_profile.specs.declared.directory.Directory.{Directory}
-use Rattle.pas_profile.specs.declared.event.Event.{Event}
-use Rattle.pas_steps.specs.declared.step.Made.{Made}
-use Rattle.pas_steps.specs.declared.step.Step.{Step}
-use Rattle.pas_steps.specs.declared.step.Step.TheVariants.{Deed, Look, TakeRight}
+use Rattle.std.proofs.Common.{◌≡◌, ℕ, suc, ◌≤◌, ◌==◌, arith, Bool, true, false, if◌then◌else◌, List, [], ◌∷◌, ◌++◌, ◌⊎◌, inl, inr, None, Some, refl, ap, ◌∙◌}
+use Rattle.std.proofs.Common.{sym, append-nil, true≢false, subst, ◌%◌, ◌&&◌, ◌<◌, ◌≢◌, ◌+◌, ◌/◌, ◌||◌, ◌*◌, ◌-◌, length, length-append, Option, append_assoc}
+use Rattle.std.proofs.Common.{eq-eqb, eqb-true, ne_eqb}
+use Rattle.pas_profile.specs.declared.{directory.Directory.Directory, event.Event.Event, profile.Profile.Profile, word.Word.Word}
+use Rattle.pas_steps.specs.declared.step.{Made.Made, Step.Step, Step.TheVariants.Deed, Step.TheVariants.Look, Step.TheVariants.TakeRight}
 use Rattle.pas_steps.specs.Views.{View, has_right, Way, Stays, Puts, grain_move, held_after, holds, KnowsDeed, known_free, epoch_of}
-use Rattle.pas_steps.specs.Events.{events_by, event_of, events_of}
-use Rattle.pas_steps.specs.Evidence.{GetsHere, GetsRight, LacksAfter, ZeroHere, OneHere, UnfitHere, Searched, ReadsEligible, ReadsDeed, DeedHere, NoDeedHere, AllDeeds}
-use Rattle.pas_steps.specs.Past.{Once, Always}
+use Rattle.pas_steps.specs.{Events.events_by, Events.event_of, Events.events_of, Past.Once, Past.Always, Agreement.Agrees, Agreement.Agreed, Clear.IsClear}
+use Rattle.pas_steps.specs.{Lists.Whole}
+use Rattle.pas_steps.specs.Evidence.{GetsHere, GetsRight, LacksAfter, ZeroHere, OneHere, UnfitHere, Searched, ReadsEligible, ReadsDeed, DeedHere, NoDeedHere}
+use Rattle.pas_steps.specs.Evidence.{AllDeeds}
 use Rattle.pas_steps.specs.Frames.{IsOnPage, OnlyOn, IsRead, OnlyReads}
 use Rattle.pas_steps.specs.Kinds.{kind_of, is_in, Only, look_kind, place_of, unbacking, Deeding}
 use Rattle.pas_steps.specs.Desks.{made, Seat, Standing, AnyView, Adds, CanCall, Makes}
 use Rattle.pas_steps.proofs.Apart.{only_within, only_both, in_apart, same_over}
 use Rattle.pas_steps.proofs.Calls.{does_none, does_then, does_as, does_step, right_is, leads_then, does_after_nothing, kept_first, leads_as}
-use Rattle.pas_steps.proofs.Frames.{events_append, right_own, with_few}
+use Rattle.pas_steps.proofs.{Frames.events_append, Frames.right_own, Frames.with_few, Sets.got_lost}
 use Rattle.pas_steps.proofs.Past.{always_both, always_map, once_later, once_earlier}
-use Rattle.pas_search.specs.Kinds.{serving, searching, OnlyServes, IsReturnOf, ReturnsDuly, KeepsMarks, AreSearch, IsQuiet, AreQuiet, IsDeedOrBack, EventsAt, makes_deed, deeds_made}
-use Rattle.std.proofs.Math.Nat.{mul-le-mul_right, suc-mul}
-use Rattle.std.proofs.lemmas.Bool.{eq-eqb, eqb-true, ne_eqb, cases_Bool, cases_lt, cases_eq}
+use Rattle.pas_search.specs.Kinds.{serving, searching, OnlyServes, IsReturnOf, ReturnsDuly, KeepsMarks, AreSearch, IsQuiet, AreQuiet, IsDeedOrBack, EventsAt}
+use Rattle.pas_search.specs.Kinds.{makes_deed, deeds_made}
+use Rattle.std.proofs.{Math.Nat.mul-le-mul_right, Math.Nat.suc-mul, lemmas.Bool.cases_Bool, lemmas.Bool.cases_lt, lemmas.Bool.cases_eq}
 use Rattle.pas_bits.specs.Bits.{has_bit}
-use Rattle.pas_profile.specs.declared.profile.Profile.{Profile}
-use Rattle.pas_profile.specs.declared.word.Word.{Word}
-use Rattle.pas_steps.specs.Agreement.{Agrees, Agreed}
-use Rattle.pas_profile.specs.Directories.{number_of}
+use Rattle.pas_profile.specs.{Directories.number_of, Profiles.IsPage}
 use Rattle.pas_steps.specs.Calls.{Leads, Fate, Kept, Gained, Lost, now, nothing, ClearAfter, Does, grain_fate, way_fate, right_fate, opens, later}
 use Rattle.pas_search.specs.Serving.{righted, IsUntouched, Rule, MayServe, GotBefore, right_of, served, Keeps, ReadsNoneHeld, ServeSteps, ServesPage}
-use Rattle.pas_scan.specs.Marks.{is_marked}
-use Rattle.pas_scan.specs.Rows.{row_end, row_words, words_to}
-use Rattle.pas_search.specs.Searches.{offered_steps, OfferedHere, Searching, MaySearch, FromOffered, KeepsFound, FewEvents, Finds, GoesOn, SearchesOffered, BareRoom, SearchesBare}
-use Rattle.pas_rights.specs.Puts.{PutsHere}
-use Rattle.pas_rights.specs.PutsBack.{GivesDuly}
-use Rattle.pas_search.proofs.Returns.{duly_on, never_returned}
-use Rattle.pas_search.proofs.ForBackEnds.{events_quiet, room_after, room_kept}
-use Rattle.pas_profile.specs.Profiles.{IsPage}
-use Rattle.pas_steps.specs.Clear.{IsClear}
+use Rattle.pas_scan.specs.{Marks.is_marked, Rows.row_end, Rows.row_words, Rows.words_to, Scan.IsFirstOffered, Scan.FindsOffered, Scan.FindsBare}
+use Rattle.pas_search.specs.Searches.{offered_steps, OfferedHere, Searching, MaySearch, FromOffered, KeepsFound, FewEvents, Finds, GoesOn, SearchesOffered}
+use Rattle.pas_search.specs.Searches.{BareRoom, SearchesBare}
+use Rattle.pas_rights.specs.{Puts.PutsHere, PutsBack.GivesDuly}
+use Rattle.pas_search.proofs.{Returns.duly_on, Returns.never_returned, ForBackEnds.events_quiet, ForBackEnds.room_after, ForBackEnds.room_kept}
 use Rattle.pas_steps.proofs.Kept.{right_on, holds_on_page, knows_still, scans_look, looks_read}
 use Rattle.pas_steps.proofs.Adding.{adds_call, can_call, agreed_first, agreed_later, adds_step}
-use Rattle.pas_scan.specs.Scan.{IsFirstOffered, FindsOffered, FindsBare}
-use Rattle.pas_steps.specs.Lists.{Whole}
 use Rattle.pas_core.proofs.OneActor.{no_deed_event}
 use Rattle.pas_steps.proofs.Evidence.{zero_before, deed_known, deed_before, unknown}
-use Rattle.pas_steps.proofs.Sets.{got_lost}
 
 -- ---- kinds
 -- a search goes on with a page whose right it got
@@ -231,7 +221,7 @@ module _ (f : Profile) (d : Directory) (page : ℕ) (m : Made) (ws : List Made) 
   turns : Rights (λ q. if page == q then Gained else Kept) m
   turns = gets_rights page m.step m.answer gets
 
-  pub got_right : (v : View) → has_right (m ∷ v) page ≡ true
+  got_right : (v : View) → has_right (m ∷ v) page ≡ true
   got_right v = right_then (λ q. if page == q then Gained else Kept) m v page turns ∙ ap (λ t. now (if t then Gained else Kept) (has_right v page)) (eq-eqb page page refl)
 
   got_before : IsUntouched page ws → GotBefore page (m ∷ ws)
@@ -325,7 +315,7 @@ module _ {F : Type 0} (rule : Rule F) (f : Profile) (d : Directory) (page : ℕ)
       (inl quiet) s.quiet s.searches (λ v agreed. never_got page ws (s.lacked page unmarked))
 
   -- it was left
-  pub goes_on : (marks' : List ℕ) → ((p : ℕ) → is_marked marks' p ≡ ((page == p) || is_marked marks p)) → ServeSteps rule f page d zs None → ((v : View) → MaySearch d v → Agreed f v ws → has_right v page ≡ false) → ((p : ℕ) → page ≤ p → is_marked marks p ≡ false)
+  goes_on : (marks' : List ℕ) → ((p : ℕ) → is_marked marks' p ≡ ((page == p) || is_marked marks p)) → ServeSteps rule f page d zs None → ((v : View) → MaySearch d v → Agreed f v ws → has_right v page ≡ false) → ((p : ℕ) → page ≤ p → is_marked marks p ≡ false)
       → page ≤ f.pages → length (zs ++ (m ∷ ws)) ≤ offered_steps rule.steps (row_words f.pages) page → GoesOn rule f d (page + 1) marks' (zs ++ (m ∷ ws))
   goes_on marks' more serve lacked rest within few =
       let left = serve.outcome in let got = got_before f d page m ws gets (s.untouched page) in
@@ -398,7 +388,7 @@ module _ {F : Type 0} {rule : Rule F} {σ0 σ : Standing} {d : Directory} {next 
     at_page = zeros_searching rule f d next marks page find.steps earlier vain tries.goes.searching (λ p low high. zero_before d p find.steps earlier (tries.goes.searching.untouched p).right (first.lower p low high))
 
     rest_at : (p : ℕ) → page ≤ p → is_marked marks p ≡ false
-    rest_at p low = let from = first.from_next in tries.goes.rest p (omega (arith, from, low))
+    rest_at p low = tries.goes.rest p (omega (arith, first.from_next, low))
 
     pub further : next' ≡ page + 1
     further = find.outcome.0
@@ -438,7 +428,7 @@ module _ {F : Type 0} {rule : Rule F} {σ0 σ : Standing} {d : Directory} {next 
           searching = zeros_searching rule f d page marks (page + 1) (made (TakeRight page d) a ∷ []) looked (record { rights = claim_rights page d a false bit; quiet = λ k e. refl }, tt) at_page
               (λ p low high. let same : page ≡ p = omega (arith, low, high) in inl (subst (λ q. ReadsEligible d q (TakeRight page d) × (has_bit a (q % 64) ≡ false) × (has_right looked q ≡ false)) same (ReadsEligible.Claims, bit, (at_page.untouched page).right)));
           rest = λ p low. rest_at p (omega (arith, low));
-          within = let high = first.of_region.1 in omega (arith, high);
+          within = omega (arith, first.of_region.1);
           few = few_past rule.steps page f claimed (few_after [] (omega arith));
         }));
       }
@@ -536,7 +526,7 @@ module _ {σ0 σ : Standing} (d : Directory) {from : ℕ} (passes : PassesDeeds 
       ]
 
       pub deed_room : {spare' : ℕ} → ((v : View) (l : Whole) → σ1.stands v l → spare' + length (events_of σ1.seat.actor v) ≡ σ1.seat.room) → 1 ≤ spare'
-      deed_room law' = let most = wide in room_kept {C = IsClear} 1 reads_adds (clear_can can) (vain_quiet read (reads_vain read found_reads)) law law' (omega (arith, most))
+      deed_room law' = room_kept {C = IsClear} 1 reads_adds (clear_can can) (vain_quiet read (reads_vain read found_reads)) law law' (omega (arith, wide))
 
       -- and for those of the back end
       pub serve_room : {σ2 : Standing} {spare' : ℕ} {a : ℕ} → Adds σ0 σ2 IsClear (tried a) → ((v : View) (l : Whole) → σ2.stands v l → spare' + length (events_of σ2.seat.actor v) ≡ σ2.seat.room) → n ≤ spare'
@@ -552,7 +542,7 @@ module _ {σ0 σ : Standing} (d : Directory) {from : ℕ} (passes : PassesDeeds 
       lost_reads ne = (IsRead.Reads page d a ne, found_reads)
 
       few_tried : (ys : List Made) → length (ys ++ tried a) + 2 ≤ length ys + 2 * (page + 1)
-      few_tried ys = let from_there = find.outcome.from_there in omega (arith, passes.few, find.count, from_there, length-append ys (tried a), length-append find.steps xs)
+      few_tried ys = omega (arith, passes.few, find.count, find.outcome.from_there, length-append ys (tried a), length-append find.steps xs)
 
       lost_deeds : a ≢ 0 → AllDeeds (page + 1) (tried a)
       lost_deeds ne p low high = elim (cases_lt p page) [
@@ -561,7 +551,7 @@ module _ {σ0 σ : Standing} (d : Directory) {from : ℕ} (passes : PassesDeeds 
       ]
 
       pub lost_passes : a ≢ 0 → PassesDeeds (page + 1) σ0 σ2
-      lost_passes ne = record { steps = tried a; adds = deed_adds; reads = lost_reads ne; deeds = lost_deeds ne; within = let high = of_region.1 in omega (arith, high); few = let most = few_tried [] in omega (arith, most) }
+      lost_passes ne = record { steps = tried a; adds = deed_adds; reads = lost_reads ne; deeds = lost_deeds ne; within = omega (arith, of_region.1); few = let most = few_tried [] in omega (arith, most) }
 
       -- the deed was made
       module _ (made_it : a ≡ 0) where
@@ -583,7 +573,7 @@ module _ {σ0 σ : Standing} (d : Directory) {from : ℕ} (passes : PassesDeeds 
           served_bare {found} serve = record {
             steps = serve.steps ++ (tried a);
             adds = adds_call {D = MayServe page d} deed_adds serve.adds (λ v l stood met. (deed_got.from v met (deed_adds.agreed v l stood met)).may);
-            few = let most = few_tried serve.steps in let high = of_region.1 in omega (arith, most, high, serve.serves.short);
+            few = let most = few_tried serve.steps in omega (arith, most, of_region.1, serve.serves.short);
             outcome = record {
               page = of_region;
               before = read;

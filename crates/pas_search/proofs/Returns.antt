@@ -1,22 +1,16 @@
 -- Which pages a call gives up, takes back and hints: those that it got, and hints after the looks that they rest on. And what it puts: what it took.
 use Rattle.std.proofs.Common.{◌≡◌, ℕ, Bool, true, List, [], ◌∷◌, ◌++◌, inr, refl, sym, ◌∙◌, subst, true≢false}
-use Rattle.pas_rights.specs.Puts.{PutsHere}
-use Rattle.pas_rights.specs.PutsBack.{GivesDuly}
-use Rattle.pas_rights.proofs.Hints.{giving, due_later, due_none}
-use Rattle.pas_rights.proofs.PutsBack.{unparking}
-use Rattle.pas_steps.specs.Evidence.{GetsHere}
-use Rattle.pas_steps.specs.Frames.{IsOnPage, OnlyOn}
+use Rattle.pas_rights.specs.{Puts.PutsHere, PutsBack.GivesDuly}
+use Rattle.pas_rights.proofs.{Hints.giving, Hints.due_later, Hints.due_none, PutsBack.unparking}
+use Rattle.pas_steps.specs.{Evidence.GetsHere, Frames.IsOnPage, Frames.OnlyOn, Past.Once, Past.Always}
 use Rattle.pas_steps.specs.Kinds.{Kinds, Offering, Parking, Unparking, Hinting, kind_of, place_of, is_in, apart, Only}
-use Rattle.pas_steps.specs.Past.{Once, Always}
-use Rattle.pas_steps.specs.declared.step.Made.{Made}
-use Rattle.pas_steps.specs.declared.step.Step.{Step}
-use Rattle.pas_steps.specs.declared.step.Step.TheVariants.{Unpark}
+use Rattle.pas_steps.specs.declared.step.{Made.Made, Step.Step, Step.TheVariants.Unpark}
 use Rattle.pas_steps.proofs.Apart.{in_apart}
 use Rattle.pas_steps.proofs.Past.{always_both, always_map, always_pair, once_earlier, once_later}
 use Rattle.pas_search.specs.Kinds.{IsReturnOf, ReturnsGot, ReturnsDuly, KeepsMarks}
 
 -- ---- steps of two calls
-pub duly_later : (m : Made) (before xs : List Made) → ReturnsDuly m before → ReturnsDuly m (before ++ xs)
+duly_later : (m : Made) (before xs : List Made) → ReturnsDuly m before → ReturnsDuly m (before ++ xs)
 duly_later m before xs h = (λ page is. once_earlier (GetsHere page) (GetsHere page) before xs (λ n b gets. gets) (h.0 page is), due_later m before xs h.1)
 
 pub duly_both : (ys xs : List Made) → Always ReturnsDuly ys → Always ReturnsDuly xs → Always ReturnsDuly (ys ++ xs)
@@ -32,7 +26,7 @@ return_kind page s IsReturnOf.Parks = refl
 return_kind page s IsReturnOf.Unparks = refl
 return_kind page s IsReturnOf.Hints = refl
 
-pub no_return : (ks : Kinds) (page : ℕ) (s : Step) → apart ks turning_back ≡ true → is_in ks (kind_of s) ≡ true → IsReturnOf page s → ⊥
+no_return : (ks : Kinds) (page : ℕ) (s : Step) → apart ks turning_back ≡ true → is_in ks (kind_of s) ≡ true → IsReturnOf page s → ⊥
 no_return ks page s out is returns = true≢false (sym (return_kind page s returns) ∙ in_apart ks turning_back (place_of (kind_of s)) out is)
 
 -- steps of other kinds

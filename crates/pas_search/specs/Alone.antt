@@ -1,13 +1,9 @@
 -- A search whose actor alone made steps meanwhile, whatever its desk tells.
 use Rattle.std.specs.Prelude.{ℕ, ◌≡◌, Result, Ok, Err}
-use Rattle.pas_profile.specs.declared.directory.Directory.{Directory}
-use Rattle.pas_profile.specs.declared.event.NoRoom.{NoRoom}
-use Rattle.pas_profile.specs.declared.event.NoRoom.TheVariants.{NoSpace, Held}
-use Rattle.pas_profile.specs.declared.profile.Profile.{Profile}
-use Rattle.pas_steps.specs.Evidence.{Readings}
-use Rattle.pas_steps.specs.Lists.{Whole}
-use Rattle.pas_core.specs.Fits.{HasNoFit}
-use Rattle.pas_core.specs.Rights.{AllRest}
+use Rattle.pas_profile.specs.declared.{directory.Directory.Directory, event.NoRoom.NoRoom, event.NoRoom.TheVariants.NoSpace, event.NoRoom.TheVariants.Held}
+use Rattle.pas_profile.specs.declared.{profile.Profile.Profile}
+use Rattle.pas_steps.specs.{Evidence.Readings, Lists.Whole}
+use Rattle.pas_core.specs.{Fits.HasNoFit, Rights.AllRest}
 use Rattle.pas_search.specs.declared.serving.Served.{Served}
 
 -- the page that was found, or why none was

@@ -1,15 +1,11 @@
 -- Kinds of steps of a search, and which events they make.
 use Rattle.std.specs.Prelude.{◌⊎◌, ℕ, ◌≡◌, ◌==◌, suc, Bool, false, if◌then◌else◌, List, [], ◌∷◌, None}
 use Rattle.pas_profile.specs.declared.directory.Directory.{Directory}
-use Rattle.pas_rights.specs.Puts.{PutsHere}
-use Rattle.pas_rights.specs.PutsBack.{GivesDuly}
-use Rattle.pas_steps.specs.Past.{Once, Always}
-use Rattle.pas_steps.specs.Events.{event_of}
-use Rattle.pas_steps.specs.Evidence.{GetsHere}
-use Rattle.pas_steps.specs.Frames.{OnlyOn}
-use Rattle.pas_steps.specs.Kinds.{Kinds, LookEpoch, LookFree, LookLife, LookDeed, LookBacked, LookStamp, LookParked, LookEmpty, LookEligible, Deeding, Backing, Taking, Putting, Claiming, Offering, Parking, Unparking, Hinting, Only}
-use Rattle.pas_steps.specs.declared.step.Step.{Step}
-use Rattle.pas_steps.specs.declared.step.Made.{Made}
+use Rattle.pas_rights.specs.{Puts.PutsHere, PutsBack.GivesDuly}
+use Rattle.pas_steps.specs.{Past.Once, Past.Always, Events.event_of, Evidence.GetsHere, Frames.OnlyOn}
+use Rattle.pas_steps.specs.Kinds.{Kinds, LookEpoch, LookFree, LookLife, LookDeed, LookBacked, LookStamp, LookParked, LookEmpty, LookEligible, Deeding, Backing}
+use Rattle.pas_steps.specs.Kinds.{Taking, Putting, Claiming, Offering, Parking, Unparking, Hinting, Only}
+use Rattle.pas_steps.specs.declared.step.{Step.Step, Made.Made}
 use Rattle.pas_steps.specs.declared.step.Step.TheVariants.{Deed, Back, Offer, Park, Unpark, Hint}
 
 -- ---- kinds

@@ -1,25 +1,15 @@
 -- What a search asks and promises.
-use Rattle.std.specs.Prelude.{ℕ, ◌+◌, ◌-◌, ◌*◌, ◌/◌, ◌<◌, ◌≤◌, ◌≡◌, Bool, true, false, ◌⊎◌, List, ◌∷◌, ◌++◌, length, Result, MatchResult, Option, Some, MatchOption}
+use Rattle.std.specs.Prelude.{ℕ, ◌+◌, ◌-◌, ◌*◌, ◌/◌, ◌<◌, ◌≤◌, ◌≡◌, Bool, true, false, ◌⊎◌, List, ◌∷◌, ◌++◌, length, Result, MatchResult, Option, Some}
+use Rattle.std.specs.Prelude.{MatchOption}
 use Rattle.pas_profile.specs.Profiles.{IsPage}
-use Rattle.pas_profile.specs.declared.directory.Directory.{Directory}
-use Rattle.pas_profile.specs.declared.profile.Profile.{Profile}
-use Rattle.pas_profile.specs.declared.event.NoRoom.{NoRoom}
-use Rattle.pas_profile.specs.declared.event.NoRoom.TheVariants.{NoSpace, Held}
-use Rattle.pas_steps.specs.Views.{View, has_right, KnowsDeed}
-use Rattle.pas_steps.specs.Events.{events_by}
-use Rattle.pas_steps.specs.Lists.{Whole}
-use Rattle.pas_steps.specs.Agreement.{Agreed}
-use Rattle.pas_steps.specs.Calls.{Leads, nothing, Does}
-use Rattle.pas_steps.specs.Clear.{IsClear}
+use Rattle.pas_profile.specs.declared.{directory.Directory.Directory, profile.Profile.Profile, event.NoRoom.NoRoom, event.NoRoom.TheVariants.NoSpace}
+use Rattle.pas_profile.specs.declared.{event.NoRoom.TheVariants.Held}
+use Rattle.pas_steps.specs.{Views.View, Views.has_right, Views.KnowsDeed, Events.events_by, Lists.Whole, Agreement.Agreed, Calls.Leads, Calls.nothing}
+use Rattle.pas_steps.specs.{Calls.Does, Clear.IsClear, Frames.OnlyReads, Past.Once, Past.Always, Unknown.KnowsAllDeeds, Unknown.HasRoom}
 use Rattle.pas_steps.specs.Desks.{Standing, Adds, triples, made}
 use Rattle.pas_steps.specs.Evidence.{Readings, ZeroHere, OneHere, UnfitHere, Searched, AllDeeds, Accounted, HeldHere, LacksAfter}
-use Rattle.pas_steps.specs.Frames.{OnlyReads}
-use Rattle.pas_steps.specs.Past.{Once, Always}
-use Rattle.pas_steps.specs.Unknown.{KnowsAllDeeds, HasRoom}
-use Rattle.pas_steps.specs.declared.step.Made.{Made}
-use Rattle.pas_steps.specs.declared.step.Step.TheVariants.{Deed}
-use Rattle.pas_scan.specs.Marks.{is_marked}
-use Rattle.pas_scan.specs.Rows.{row_words}
+use Rattle.pas_steps.specs.declared.step.{Made.Made, Step.TheVariants.Deed}
+use Rattle.pas_scan.specs.{Marks.is_marked, Rows.row_words}
 use Rattle.pas_search.specs.Kinds.{AreSearch, KeepsMarks, AreQuiet, EventsAt, deeds_made}
 use Rattle.pas_search.specs.Serving.{Rule, IsUntouched, Keeps, ShowsFit, ServeSteps}
 use Rattle.pas_search.specs.Telling.{IsTold}

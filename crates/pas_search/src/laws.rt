@@ -1,17 +1,10 @@
 //! What a search finds where no other actor makes a step meanwhile, whatever its desk tells. Each law is the contract of an empty function.
 ghost use Rattle.std.specs.Prelude.{◌++◌, Result};
 ghost use Rattle.pas_profile.specs.Profiles.{IsDirectoryOf};
-ghost use Rattle.pas_profile.specs.declared.directory.Directory.{Directory};
-ghost use Rattle.pas_profile.specs.declared.event.NoRoom.{NoRoom};
-ghost use Rattle.pas_steps.specs.Agreement.{Agreed};
-ghost use Rattle.pas_steps.specs.Desks.{triples};
-ghost use Rattle.pas_steps.specs.Lists.{Whole, part, Legal};
-ghost use Rattle.pas_steps.specs.Views.{View};
-ghost use Rattle.pas_core.specs.Alone.{ShowsAnswer, IsPlainAnswer};
-ghost use Rattle.pas_core.specs.Rights.{AllRest};
-ghost use Rattle.pas_search.specs.Alone.{page_found};
-ghost use Rattle.pas_search.specs.Searches.{MaySearch, Searches};
-ghost use Rattle.pas_search.specs.Telling.{IsTold};
+ghost use Rattle.pas_profile.specs.declared.{directory.Directory.Directory, event.NoRoom.NoRoom};
+ghost use Rattle.pas_steps.specs.{Agreement.Agreed, Desks.triples, Lists.Whole, Lists.part, Lists.Legal, Views.View};
+ghost use Rattle.pas_core.specs.{Alone.ShowsAnswer, Alone.IsPlainAnswer, Rights.AllRest};
+ghost use Rattle.pas_search.specs.{Alone.page_found, Searches.MaySearch, Searches.Searches, Telling.IsTold};
 ghost use Rattle.pas_search.specs.declared.serving.Served.{Served as TheServed};
 
 use crate::serving::Serving;

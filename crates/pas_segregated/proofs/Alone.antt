@@ -1,17 +1,12 @@
 -- A refill whose actor alone made steps meanwhile.
 use Rattle.std.proofs.Common.{◌≡◌, Bool, List, [], ◌++◌, Result, Ok, Err, MatchResult}
 use Rattle.pas_profile.specs.Profiles.{IsValid, IsDirectoryOf}
-use Rattle.pas_profile.specs.declared.event.NoRoom.{NoRoom}
-use Rattle.pas_profile.specs.declared.profile.Profile.{Profile}
-use Rattle.pas_steps.specs.Desks.{Standing, triples}
-use Rattle.pas_steps.specs.Evidence.{IsAntitone}
-use Rattle.pas_steps.specs.Lists.{Whole, part, Legal}
+use Rattle.pas_profile.specs.declared.{event.NoRoom.NoRoom, profile.Profile.Profile}
+use Rattle.pas_steps.specs.{Desks.Standing, Desks.triples, Evidence.IsAntitone, Lists.Whole, Lists.part, Lists.Legal}
 use Rattle.pas_steps.specs.declared.step.Made.{Made}
-use Rattle.pas_search.specs.Alone.{FindsWhatThereIs}
-use Rattle.pas_search.specs.Searches.{MaySearch, IsRefused}
+use Rattle.pas_search.specs.{Alone.FindsWhatThereIs, Searches.MaySearch, Searches.IsRefused}
 use Rattle.pas_search.proofs.Alone.{IsFoundOrRefused, found_before}
-use Rattle.pas_segregated.specs.Refills.{Filling, GivesSlots, Refills}
-use Rattle.pas_segregated.specs.Takes.{in_starts}
+use Rattle.pas_segregated.specs.{Refills.Filling, Refills.GivesSlots, Refills.Refills, Takes.in_starts}
 use Rattle.pas_segregated.specs.declared.slots.Slots.{Slots}
 
 found_or_refused : (fill : Filling) (f : Profile) (searched after : List Made) (answer : Result Slots NoRoom) → MatchResult answer (GivesSlots fill f searched after) (λ room. IsRefused fill.no_fit f fill.directory searched room × (after ≡ [])) → IsFoundOrRefused fill.no_fit f fill.directory searched answer

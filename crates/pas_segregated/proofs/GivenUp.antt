@@ -1,29 +1,21 @@
 -- What takes and puts leave: the takes of the page, and grains that aren't held. And slots that are given up.
-use Rattle.std.proofs.Common.{◌≡◌, ℕ, zero, suc, ◌/◌, ◌%◌, ◌==◌, Bool, true, false, if◌then◌else◌, List, [], ◌∷◌, ◌++◌, refl, ap, sym, ◌∙◌, subst, arith, inl, append_assoc, length-append, ◌&&◌}
-use Rattle.std.proofs.lemmas.Bool.{eq-eqb, and_from, cond_both}
+use Rattle.std.proofs.Common.{◌≡◌, ℕ, zero, suc, ◌/◌, ◌%◌, ◌==◌, Bool, true, false, if◌then◌else◌, List, [], ◌∷◌, ◌++◌, refl, ap, sym, ◌∙◌, subst, arith, inl}
+use Rattle.std.proofs.Common.{append_assoc, length-append, ◌&&◌, eq-eqb}
+use Rattle.std.proofs.lemmas.Bool.{and_from, cond_both}
 use Rattle.pas_bits.specs.Bits.{has_bit}
 use Rattle.pas_profile.specs.declared.directory.Directory.{Directory}
 use Rattle.pas_bits.specs.declared.mask.Mask4.{Mask4}
-use Rattle.pas_rights.specs.Leaves.{MayLeave, Leaves}
-use Rattle.pas_rights.specs.Puts.{masked}
+use Rattle.pas_rights.specs.{Leaves.MayLeave, Leaves.Leaves, Puts.masked, Takes.word_take, Takes.takes}
 use Rattle.pas_rights.specs.PutsBack.{giving_back, MayPutAndReturn, given_back, PutsAndReturns}
-use Rattle.pas_rights.specs.Takes.{word_take, takes}
 use Rattle.pas_steps.specs.Calls.{Calls, Kept, Lost, later, ClearAfter, Does}
-use Rattle.pas_steps.specs.Desks.{made, Standing, CanCall}
-use Rattle.pas_steps.specs.Effects.{in_mask}
-use Rattle.pas_steps.specs.Evidence.{GetsRight}
-use Rattle.pas_steps.specs.Frames.{IsOnPage}
+use Rattle.pas_steps.specs.{Desks.made, Desks.Standing, Desks.CanCall, Effects.in_mask, Evidence.GetsRight, Frames.IsOnPage}
 use Rattle.pas_steps.specs.Kinds.{Kinds, Deeding, Taking, Giving, Ending, Claiming, kind_of, is_in, Only, returning}
 use Rattle.pas_steps.specs.Views.{View, Puts, Stays, grain_move, held_after, holds, KnowsDeed}
-use Rattle.pas_steps.specs.declared.step.Made.{Made}
-use Rattle.pas_steps.specs.declared.step.Step.{Step}
-use Rattle.pas_steps.specs.declared.step.Step.TheVariants.{Put, Look, Take}
+use Rattle.pas_steps.specs.declared.step.{Made.Made, Step.Step, Step.TheVariants.Put, Step.TheVariants.Look, Step.TheVariants.Take}
 use Rattle.pas_steps.proofs.Apart.{only_both, same_over, holds_over, only_within}
 use Rattle.pas_steps.proofs.Called.{call_as, call_then, next_call, call_knows}
 use Rattle.pas_steps.proofs.Calls.{does_then, does_as, returns_are, kept_first}
-use Rattle.pas_steps.proofs.Kept.{returns_on}
-use Rattle.pas_steps.proofs.Past.{always_both}
-use Rattle.pas_steps.proofs.Sets.{kept_kept}
+use Rattle.pas_steps.proofs.{Kept.returns_on, Past.always_both, Sets.kept_kept}
 use Rattle.pas_search.specs.Serving.{IsJustGot}
 use Rattle.pas_segregated.specs.Stops.{in_slots, AreGrains, MayStopAt, LeavesWhere, of_slots, StopsAt}
 use Rattle.pas_segregated.specs.Takes.{takes_after, takes_since}
@@ -104,7 +96,7 @@ module _ (d : Directory) (slots : Slots) (mask : Mask4) (are : AreGrains slots m
       order = record { mask = mask; grains = are; back = back.steps; puts = back.order; left = []; leaves = subst (λ t. LeavesWhere t slots.page d []) (sym none) refl; steps_are = refl };
       kinds = back.kinds;
       on = back.on;
-      few = let a = back.few in omega (arith, a);
+      few = omega (arith, back.few);
     }
 
     -- the page was left
@@ -123,5 +115,5 @@ module _ (d : Directory) (slots : Slots) (mask : Mask4) (are : AreGrains slots m
       order = record { mask = mask; grains = are; back = back.steps; puts = back.order; left = left.steps; leaves = subst (λ t. LeavesWhere t slots.page d left.steps) (sym has) left.order; steps_are = refl };
       kinds = only_both giving_back left.steps back.steps (only_within returning giving_back left.steps refl (returns_are slots.page left.steps left.returns)) back.kinds;
       on = always_both (λ m before. IsOnPage slots.page m.step) (λ m before. IsOnPage slots.page m.step) left.steps back.steps (λ m before h. h) (returns_on slots.page left.steps left.returns) back.on;
-      few = let all = length-append left.steps back.steps in let a = left.few in let b = back.few in omega (arith, all, a, b);
+      few = let all = length-append left.steps back.steps in omega (arith, all, left.few, back.few);
     }

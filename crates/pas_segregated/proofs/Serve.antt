@@ -1,31 +1,21 @@
 -- The two ends of a page that was to serve: its slots are kept, or it was left. And what a search found, as slots.
-use Rattle.std.proofs.Common.{◌≡◌, ℕ, ◌<◌, Bool, true, if◌then◌else◌, [], None, Some, refl, ap, sym, ◌∙◌, subst, arith, Ok, Err, true≢false}
-use Rattle.std.proofs.lemmas.Bool.{eq-eqb}
-use Rattle.pas_profile.specs.Classes.{IsClass, IsSlotStart}
-use Rattle.pas_profile.specs.Directories.{IsKind}
-use Rattle.pas_profile.specs.declared.directory.Directory.{Directory}
-use Rattle.pas_profile.specs.declared.directory.Kind.TheVariants as Kind
-use Rattle.pas_profile.specs.declared.event.NoRoom.{NoRoom}
+use Rattle.std.proofs.Common.{◌≡◌, ℕ, ◌<◌, Bool, true, if◌then◌else◌, [], None, Some, refl, ap, sym, ◌∙◌, subst, arith, Ok, Err, true≢false, eq-eqb}
+use Rattle.pas_profile.specs.{Classes.IsClass, Classes.IsSlotStart, Directories.IsKind}
+use Rattle.pas_profile.specs.declared.{directory.Directory.Directory, directory.Kind.Kind, event.NoRoom.NoRoom}
 use Rattle.pas_profile.proofs.ClassFacts.{class_grains_positive, slot_lt}
 use Rattle.pas_bits.specs.declared.mask.Mask4.{Mask4}
 use Rattle.pas_bits.specs.Masks.{is_set, IsEmpty, HasMember}
-use Rattle.pas_rights.specs.Leaves.{Leaves}
+use Rattle.pas_rights.specs.{Leaves.Leaves, Takes.taken}
 use Rattle.pas_steps.specs.Calls.{Kept, Gained, now, Does, Leads}
-use Rattle.pas_steps.specs.Desks.{Standing, Makes}
-use Rattle.pas_steps.specs.Views.{holds, has_right}
+use Rattle.pas_steps.specs.{Desks.Standing, Desks.Makes, Views.holds, Views.has_right}
 use Rattle.pas_steps.specs.declared.step.Step.TheVariants.{Back}
-use Rattle.pas_steps.proofs.Called.{call_as}
-use Rattle.pas_steps.proofs.Calls.{leads_as}
-use Rattle.pas_search.specs.Searches.{MaySearch, Searches}
-use Rattle.pas_search.specs.Serving.{ServesPage}
+use Rattle.pas_steps.proofs.{Called.call_as, Calls.leads_as}
+use Rattle.pas_search.specs.{Searches.MaySearch, Searches.Searches, Serving.ServesPage}
 use Rattle.pas_search.specs.declared.serving.Served.{Served}
 use Rattle.pas_search.proofs.Found.{found_call}
 use Rattle.pas_search.proofs.Pages.{Prepares, on_page, leaves_page, keeps_page}
-use Rattle.pas_rights.specs.Takes.{taken}
-use Rattle.pas_segregated.specs.Masks.{start_of}
-use Rattle.pas_segregated.specs.Refills.{exclusive_slots, GetsSlots, Refills}
-use Rattle.pas_segregated.specs.Stops.{class_directory}
-use Rattle.pas_segregated.specs.Takes.{in_starts, TakesSlots, exclusive}
+use Rattle.pas_segregated.specs.{Masks.start_of, Refills.exclusive_slots, Refills.GetsSlots, Refills.Refills, Stops.class_directory, Takes.in_starts}
+use Rattle.pas_segregated.specs.{Takes.TakesSlots, Takes.exclusive}
 use Rattle.pas_segregated.proofs.Starts.{start_at, start_below}
 
 -- ---- the slots
@@ -35,7 +25,7 @@ class_of class d known same = subst IsKind same known
 module _ (class page : ℕ) (d : Directory) (is : IsClass class) (starts : Mask4) {σ σ1 : Standing} (took : TakesSlots class page d σ σ1 starts) where
   -- a grain that is taken is of some slot
   pub has_slot : (b : ℕ) × (b < 256) × (in_starts class starts b ≡ true) → HasMember starts
-  has_slot some = let at = start_below class some.0 is in let low = at.0 in let lt = some.1 in (start_of class some.0, omega (arith, low, lt), some.2)
+  has_slot some = let at = start_below class some.0 is in (start_of class some.0, omega (arith, at.0, some.1), some.2)
 
   abbrev pub prepared : Prepares page d (is_set took.answers) (in_starts class starts) σ σ1
   prepared = record {
@@ -53,11 +43,11 @@ module _ (class page : ℕ) (d : Directory) (is : IsClass class) (starts : Mask4
   -- no slot is whole
   pub leaves_slots : {σ2 : Standing} → IsEmpty starts → Leaves page d σ1 σ2 → ServesPage (exclusive class) page d σ σ2 None
   leaves_slots empty left = leaves_page (exclusive class) page d (is_set took.answers) (in_starts class starts) prepared
-      (λ b lt. let at = start_below class b is in let low = at.0 in empty (start_of class b) (omega (arith, low, lt)))
+      (λ b lt. let at = start_below class b is in empty (start_of class b) (omega (arith, at.0, lt)))
       (λ s slot free. true≢false (sym ((took.are s).1 (slot, free)) ∙ empty s (slot_lt class s is slot)))
       (λ before got. took.none before got.none empty)
       (λ v met agreed free. let some = took.all_free v agreed free in true≢false (sym some.2 ∙ empty some.0 some.1))
-      (let few = took.few in omega (arith, few)) left
+      (omega (arith, took.few)) left
 
   -- some slot is
   module _ (some : HasMember starts) where
@@ -72,7 +62,7 @@ module _ (class page : ℕ) (d : Directory) (is : IsClass class) (starts : Mask4
         (λ none. none some.0 first_slot_is ((took.are some.0).0 some.2).1)
         (λ b lt kept. let at = start_below class b is in ((took.are (start_of class b)).0 kept).1 b lt at.0 at.1)
         (λ before got. record { usable = took.usable; usable_are = took.usable_are; answers = took.answers; takes = took.takes before got.newest; are = took.are; some = some })
-        (omega arith) (let few = took.few in omega (arith, few))
+        (omega arith) (omega (arith, took.few))
 
 -- ---- what a search found
 module _ (heap class : ℕ) {tells : Bool} {σ σ' : Standing} (served : Served Mask4) (searches : Searches (exclusive class) tells (class_directory heap class) σ σ' (Ok served)) where

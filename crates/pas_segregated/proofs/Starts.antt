@@ -1,25 +1,23 @@
 -- The slots of a class in a mask.
-use Rattle.std.proofs.Common.{◌≡◌, ℕ, ◌+◌, ◌-◌, ◌*◌, ◌/◌, ◌%◌, ◌<◌, ◌≤◌, ◌==◌, ◌↔◌, nat_le, IsTrue, Bool, true, false, ◌&&◌, List, length, slice_index, get_or, ap, sym, ◌∙◌, arith, inl, inr}
-use Rattle.std.proofs.lemmas.Bool.{agree_below, agree_below_at, and_parts, and_from, eqb-true, eq-eqb, leb-true, le-leb, lt-leb, cases_lt, and_right, false_from_ne_true}
-use Rattle.std.proofs.lemmas.Nat.{div-add-mod', same_from_place}
-use Rattle.std.proofs.Math.Nat.{mod-lt}
+use Rattle.std.proofs.Common.{◌≡◌, ℕ, ◌+◌, ◌-◌, ◌*◌, ◌/◌, ◌%◌, ◌<◌, ◌≤◌, ◌==◌, ◌↔◌, nat_le, IsTrue, Bool, true, false, ◌&&◌, List, length, slice_index, get_or}
+use Rattle.std.proofs.Common.{ap, sym, ◌∙◌, arith, inl, inr, eqb-true, eq-eqb, leb-true, le-leb, div-add-mod'}
+use Rattle.std.proofs.lemmas.Bool.{agree_below, agree_below_at, and_parts, and_from, lt-leb, cases_lt, and_right, false_from_ne_true}
+use Rattle.std.proofs.{lemmas.Nat.same_from_place, Math.Nat.mod-lt}
 use Rattle.pas_profile.specs.Classes.{IsClass, class_grains, usable_grains, IsSlotStart}
-use Rattle.pas_bits.specs.Bits.{has_bit}
-use Rattle.pas_profile.proofs.Sizes.{of_each_class, class_passes}
-use Rattle.pas_profile.proofs.ClassFacts.{class_grains_positive, usable_grains_le, slot_end}
+use Rattle.pas_bits.specs.{Bits.has_bit, Masks.is_set, Masks.AreSet, Masks.IsNear}
+use Rattle.pas_profile.proofs.{Sizes.of_each_class, Sizes.class_passes, ClassFacts.class_grains_positive, ClassFacts.usable_grains_le, ClassFacts.slot_end}
 use Rattle.pas_bits.specs.declared.mask.Mask4.{Mask4}
-use Rattle.pas_bits.specs.Masks.{is_set, AreSet, IsNear}
 use Rattle.pas_bits.proofs.Words.{none_past}
 use Rattle.pas_steps.proofs.Sets.{same_truth}
 use Rattle.pas_segregated.specs.Masks.{is_start, start_of, AreStarts}
 
 -- ---- the first grains of all slots
-pub start_is : (class g : ℕ) → is_start class g ≡ true → IsSlotStart class g
+start_is : (class g : ℕ) → is_start class g ≡ true → IsSlotStart class g
 start_is class g h =
     let parts = and_parts (g % class_grains class == 0) (nat_le (g + class_grains class) (usable_grains class)) h in
     record { aligned = eqb-true (g % class_grains class) 0 parts.0; within = leb-true (g + class_grains class) (usable_grains class) parts.1 }
 
-pub is_start-from : (class g : ℕ) → IsSlotStart class g → is_start class g ≡ true
+is_start-from : (class g : ℕ) → IsSlotStart class g → is_start class g ≡ true
 is_start-from class g s = and_from (g % class_grains class == 0) (nat_le (g + class_grains class) (usable_grains class)) (eq-eqb (g % class_grains class) 0 s.aligned) (le-leb (g + class_grains class) (usable_grains class) s.within)
 
 -- no slot begins past the page
@@ -71,5 +69,5 @@ covered_is class starts near is long all spread g = elim (cases_lt g 256) [
       (λ h. let found = (spread g lt).0 h in ap (is_set starts) (start_at class found.0 g (all found.0 found.3) found.1 found.2) ∙ found.3)
       (λ h. let at = start_below class g is in (spread g lt).1 (start_of class g, at.0, at.1, h))
   | inr ge ↦ none_past near g long ge ∙ sym (false_from_ne_true (is_set starts (start_of class g)) (λ h.
-      let ends = slot_end class (start_of class g) is (all (start_of class g) h) in let at = start_below class g is in let high = at.1 in omega (arith, ends, high, ge)))
+      let ends = slot_end class (start_of class g) is (all (start_of class g) h) in let at = start_below class g is in omega (arith, ends, at.1, ge)))
 ]

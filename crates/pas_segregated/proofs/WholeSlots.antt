@@ -1,6 +1,7 @@
 -- The slots that the takes of a page got whole, and the grains that are put back.
-use Rattle.std.proofs.Common.{◌≡◌, ◌≢◌, ℕ, ◌+◌, ◌*◌, ◌/◌, ◌%◌, ◌<◌, ◌==◌, ◌↔◌, IsTrue, Bool, true, false, not, ◌&&◌, if◌then◌else◌, List, [], ◌∷◌, ◌++◌, refl, ap, sym, ◌∙◌, subst, arith, inl, inr, append_assoc, length-append, true≢false}
-use Rattle.std.proofs.lemmas.Bool.{cases_Bool, eq-eqb, and_parts, and_from, and_right, lt-ltb}
+use Rattle.std.proofs.Common.{◌≡◌, ◌≢◌, ℕ, ◌+◌, ◌*◌, ◌/◌, ◌%◌, ◌<◌, ◌==◌, ◌↔◌, IsTrue, Bool, true, false, not, ◌&&◌, if◌then◌else◌, List, [], ◌∷◌, ◌++◌, refl}
+use Rattle.std.proofs.Common.{ap, sym, ◌∙◌, subst, arith, inl, inr, append_assoc, length-append, true≢false, eq-eqb, lt-ltb}
+use Rattle.std.proofs.lemmas.Bool.{cases_Bool, and_parts, and_from, and_right}
 use Rattle.pas_profile.specs.Classes.{IsClass, class_grains, usable_grains, is_usable, IsSlotStart}
 use Rattle.pas_bits.specs.Bits.{has_bit}
 use Rattle.pas_profile.specs.declared.directory.Directory.{Directory}
@@ -8,33 +9,21 @@ use Rattle.pas_profile.proofs.ClassFacts.{class_grains_positive, usable_grains_l
 use Rattle.pas_bits.specs.declared.mask.Mask4.{Mask4}
 use Rattle.pas_bits.specs.Masks.{is_set, AreSet, IsEmpty, HasMember}
 use Rattle.pas_bits.proofs.Words.{at_word, none_of_zero}
-use Rattle.pas_rights.specs.Puts.{masked, PutsBelow, PutsHere}
+use Rattle.pas_rights.specs.{Puts.masked, Puts.PutsBelow, Puts.PutsHere, Returns.ReturnSteps, Words.words}
 use Rattle.pas_rights.specs.PutsBack.{MayPutAndReturn, giving_back, PutsAndReturns, taking_grains}
-use Rattle.pas_rights.specs.Returns.{ReturnSteps}
 use Rattle.pas_rights.specs.Takes.{GetsGrains, taken, TakesMask, takes}
-use Rattle.pas_rights.specs.Words.{words}
-use Rattle.pas_rights.proofs.Hints.{due_none, back_due}
-use Rattle.pas_rights.proofs.Orders.{return_returns}
-use Rattle.pas_rights.proofs.Puts.{puts_kinds, some_put}
-use Rattle.pas_rights.proofs.PutsBack.{return_holds}
+use Rattle.pas_rights.proofs.{Hints.due_none, Hints.back_due, Orders.return_returns, Puts.puts_kinds, Puts.some_put, PutsBack.return_holds, Words.bit_of}
+use Rattle.pas_rights.proofs.{Words.bit_on, Words.since_kept}
 use Rattle.pas_rights.proofs.Takes.{takes_only, takes_on, takes_keep, takes_few, takes_right, takes_leave, takes_got, takes_held, takes_free, takes_read}
-use Rattle.pas_rights.proofs.Words.{bit_of, bit_on, since_kept}
-use Rattle.pas_steps.specs.Views.{View, holds, has_right}
-use Rattle.pas_steps.specs.Agreement.{Agreed}
+use Rattle.pas_steps.specs.{Views.View, Views.holds, Views.has_right, Agreement.Agreed, Past.Always, Past.Since, Frames.IsOnPage, Frames.GivesUp}
+use Rattle.pas_steps.specs.{Frames.KeepsRight, Desks.Seat, Desks.Standing, Desks.CanCall, Evidence.ShowsHere, Evidence.KeptHere}
 use Rattle.pas_steps.specs.Calls.{Calls, Kept, Gained, Lost, later, now}
-use Rattle.pas_steps.specs.Past.{Always, Since}
-use Rattle.pas_steps.specs.Frames.{IsOnPage, GivesUp, KeepsRight}
 use Rattle.pas_steps.specs.Kinds.{Putting, Taking, Only, returning}
-use Rattle.pas_steps.specs.Desks.{Seat, Standing, CanCall}
-use Rattle.pas_steps.specs.Evidence.{ShowsHere, KeptHere}
 use Rattle.pas_steps.specs.declared.step.Made.{Made}
-use Rattle.pas_steps.proofs.Adding.{agreed_first, agreed_later}
+use Rattle.pas_steps.proofs.{Adding.agreed_first, Adding.agreed_later, Called.call_as, Called.call_then, Called.next_call, Past.always_both, Past.once_earlier}
 use Rattle.pas_steps.proofs.Apart.{only_within, only_both, deeds_same, holds_same, rights_same}
 use Rattle.pas_steps.proofs.Calls.{SameGrain, does_then, does_as, returns_are}
-use Rattle.pas_steps.proofs.Called.{call_as, call_then, next_call}
-use Rattle.pas_steps.proofs.Past.{always_both, once_earlier}
-use Rattle.pas_search.specs.Kinds.{KeepsMarks}
-use Rattle.pas_search.specs.Serving.{MayServe, HoldsNone}
+use Rattle.pas_search.specs.{Kinds.KeepsMarks, Serving.MayServe, Serving.HoldsNone}
 use Rattle.pas_search.proofs.Returns.{keeps_marks, marks_after}
 use Rattle.pas_segregated.specs.Masks.{start_of}
 use Rattle.pas_segregated.specs.Takes.{AreUsable, AreFreeSlots, IsRest, in_starts, slots_on, takes_since, TakesSlots}
@@ -59,10 +48,10 @@ kept_fate false false r held none got is = inl (ap (λ x. later Kept (if x then 
 -- ---- slots and readings
 -- a slot's grains are usable
 slot_usable : (class s g : ℕ) → IsSlotStart class s → g < s + class_grains class → is_usable class g ≡ true
-slot_usable class s g slot lt = let within = slot.within in lt-ltb g (usable_grains class) (omega (arith, within, lt))
+slot_usable class s g slot lt = lt-ltb g (usable_grains class) (omega (arith, slot.within, lt))
 
 slot_in : (class s g : ℕ) → IsClass class → IsSlotStart class s → g < s + class_grains class → g < 256
-slot_in class s g is slot lt = let within = slot.within in let most = usable_grains_le class is in omega (arith, within, lt, most)
+slot_in class s g is slot lt = let most = usable_grains_le class is in omega (arith, slot.within, lt, most)
 
 -- ---- the whole call
 module _ (class page : ℕ) (d : Directory) (is : IsClass class) {σ σ1 : Standing} (usable starts got rest : Mask4) (usable_are : AreUsable class usable) (took : TakesMask page usable σ σ1 got) (whole : AreWhole class got starts) (rests : IsRest class got starts rest) where
@@ -141,7 +130,7 @@ module _ (class page : ℕ) (d : Directory) (is : IsClass class) {σ σ1 : Stand
         | inl held ↦
             let gets = first_call.leads.from can.view can.met (agreed_later σ.seat.profile can.view back.steps first at_view) in let gone = (back.calls.leads.from (first ++ can.view) (may_put_back can.view can.met gets) at_back).held g in
             same_after g back.steps (first ++ before) (first ++ can.view) (held ∙ sym (gets.does.held g ∙ ap (λ t. now (if t then Gained else Kept) (holds can.view g)) here))
-            ∙ gone ∙ ap (λ t. now (if t then Lost else Kept) (holds (first ++ can.view) g)) (rest_is_other g ∙ ap (λ t. t && not (slots_on page class starts g)) here ∙ ap not (and_right (page == g / 256) (in_starts class starts (g % 256)) (empty (start_of class (g % 256)) (let at = start_below class (g % 256) is in let low = at.0 in omega (arith, low)))))
+            ∙ gone ∙ ap (λ t. now (if t then Lost else Kept) (holds (first ++ can.view) g)) (rest_is_other g ∙ ap (λ t. t && not (slots_on page class starts g)) here ∙ ap not (and_right (page == g / 256) (in_starts class starts (g % 256)) (empty (start_of class (g % 256)) (let at = start_below class (g % 256) is in omega (arith, at.0)))))
       ]
     ]
 
@@ -196,7 +185,7 @@ module _ (class page : ℕ) (d : Directory) (is : IsClass class) {σ σ1 : Stand
       calls = all_call;
       kinds = only_both taking_grains back.steps first (only_within giving_back taking_grains back.steps refl back.kinds) (only_within (Taking ∷ []) taking_grains first refl (takes_only page (words usable) (words took.answers) 4));
       on = always_both (λ m before. IsOnPage page m.step) (λ m before. IsOnPage page m.step) back.steps first (λ m before h. h) back.on (takes_on page (words usable) (words took.answers) 4);
-      few = let all = length-append back.steps first in let a = back.few in let b = takes_few page (words usable) (words took.answers) 4 in omega (arith, all, a, b);
+      few = let all = length-append back.steps first in let b = takes_few page (words usable) (words took.answers) 4 in omega (arith, all, back.few, b);
       usable = usable;
       usable_are = usable_are;
       answers = took.answers;

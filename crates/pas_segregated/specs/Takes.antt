@@ -1,25 +1,15 @@
 -- The slots of a page that are taken.
 use Rattle.std.specs.Prelude.{ℕ, ◌/◌, ◌%◌, ◌<◌, ◌≤◌, ◌≡◌, ◌==◌, ◌↔◌, IsTrue, Bool, true, not, ◌&&◌, if◌then◌else◌, List, [], ◌∷◌, ◌++◌, length}
 use Rattle.pas_profile.specs.Classes.{is_usable, class_grains, IsSlotStart}
-use Rattle.pas_bits.specs.Bits.{has_bit}
-use Rattle.pas_profile.specs.declared.directory.Directory.{Directory}
-use Rattle.pas_profile.specs.declared.directory.Kind.TheVariants as Kind
+use Rattle.pas_bits.specs.{Bits.has_bit, Masks.is_set, Masks.IsEmpty, Masks.HasMember}
+use Rattle.pas_profile.specs.declared.directory.{Directory.Directory, Kind.Kind}
 use Rattle.pas_bits.specs.declared.mask.Mask4.{Mask4}
-use Rattle.pas_bits.specs.Masks.{is_set, IsEmpty, HasMember}
-use Rattle.pas_rights.specs.Looks.{AllFree}
-use Rattle.pas_rights.specs.PutsBack.{taking_grains, GivesDuly}
-use Rattle.pas_rights.specs.Takes.{GetsGrains, takes}
-use Rattle.pas_rights.specs.Words.{words}
-use Rattle.pas_steps.specs.Views.{View, known_free}
-use Rattle.pas_steps.specs.Agreement.{Agreed}
-use Rattle.pas_steps.specs.Calls.{Calls, Leads}
-use Rattle.pas_steps.specs.Past.{Always, Since}
-use Rattle.pas_steps.specs.Frames.{OnlyOn, KeepsRight}
-use Rattle.pas_steps.specs.Kinds.{Only}
-use Rattle.pas_steps.specs.Desks.{Standing, made}
-use Rattle.pas_steps.specs.declared.step.Made.{Made}
-use Rattle.pas_steps.specs.declared.step.Step.{Step}
-use Rattle.pas_steps.specs.declared.step.Step.TheVariants.{Look, Deed, Back, Take, Put, Give, End, EndSized, TakeRight, Offer, Park, Unpark, Stamp, Hint, Tick, Unback, Unhint}
+use Rattle.pas_rights.specs.{Looks.AllFree, PutsBack.taking_grains, PutsBack.GivesDuly, Takes.GetsGrains, Takes.takes, Words.words}
+use Rattle.pas_steps.specs.{Views.View, Views.known_free, Agreement.Agreed, Calls.Calls, Calls.Leads, Past.Always, Past.Since, Frames.OnlyOn, Frames.KeepsRight}
+use Rattle.pas_steps.specs.{Kinds.Only, Desks.Standing, Desks.made}
+use Rattle.pas_steps.specs.declared.step.{Made.Made, Step.Step}
+use Rattle.pas_steps.specs.declared.step.Step.TheVariants.{Look, Deed, Back, Take, Put, Give, End, EndSized, TakeRight, Offer, Park, Unpark, Stamp, Hint, Tick}
+use Rattle.pas_steps.specs.declared.step.Step.TheVariants.{Unback, Unhint}
 use Rattle.pas_steps.specs.Evidence.{Readings, ShowsHere, KeptHere, IsAntitone}
 use Rattle.pas_search.specs.Kinds.{KeepsMarks}
 use Rattle.pas_search.specs.Serving.{Rule, MayServe, HoldsNone, IsJustGot, GotBefore, ReadsNoneHeld}

@@ -2,13 +2,9 @@
 ghost use Rattle.std.specs.Prelude.{ℕ, ◌++◌, Result};
 ghost use Rattle.pas_profile.specs.Profiles.{IsDirectoryOf};
 ghost use Rattle.pas_profile.specs.declared.event.NoRoom.{NoRoom};
-ghost use Rattle.pas_steps.specs.Desks.{triples};
-ghost use Rattle.pas_steps.specs.Lists.{Whole, part, Legal};
-ghost use Rattle.pas_search.specs.Alone.{FindsWhatThereIs};
-ghost use Rattle.pas_search.specs.Searches.{MaySearch};
-ghost use Rattle.pas_segregated.specs.Refills.{exclusive_slots, Refills};
-ghost use Rattle.pas_segregated.specs.Stops.{class_directory};
-ghost use Rattle.pas_segregated.specs.Takes.{NoSlot};
+ghost use Rattle.pas_steps.specs.{Desks.triples, Lists.Whole, Lists.part, Lists.Legal};
+ghost use Rattle.pas_search.specs.{Alone.FindsWhatThereIs, Searches.MaySearch};
+ghost use Rattle.pas_segregated.specs.{Refills.exclusive_slots, Refills.Refills, Stops.class_directory, Takes.NoSlot};
 ghost use Rattle.pas_segregated.specs.declared.slots.Slots.{Slots as TheSlots};
 
 use pas_steps::Desk;

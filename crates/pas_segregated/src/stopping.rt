@@ -1,7 +1,6 @@
 //! Slots are given up.
 ghost use Rattle.std.specs.Prelude.{◌≡◌};
-ghost use Rattle.pas_profile.specs.Classes.{IsClass};
-ghost use Rattle.pas_profile.specs.Profiles.{IsPage, IsDirectoryOf};
+ghost use Rattle.pas_profile.specs.{Classes.IsClass, Profiles.IsPage, Profiles.IsDirectoryOf};
 ghost use Rattle.pas_steps.specs.Desks.{CanCall};
 ghost use Rattle.pas_segregated.specs.Masks.{AreStarts};
 ghost use Rattle.pas_segregated.specs.Stops.{directory_of, MayStop, MayStopAt, Stops, StopsAt};

@@ -1,11 +1,9 @@
 //! The free slots of a page are taken.
 ghost use Rattle.std.specs.Prelude.{◌≡◌};
-ghost use Rattle.pas_profile.specs.Classes.{IsClass};
-ghost use Rattle.pas_profile.specs.Profiles.{IsPage, IsDirectoryOf};
+ghost use Rattle.pas_profile.specs.{Classes.IsClass, Profiles.IsPage, Profiles.IsDirectoryOf};
 ghost use Rattle.pas_steps.specs.Desks.{CanCall};
 ghost use Rattle.pas_search.specs.Serving.{MayServe};
-ghost use Rattle.pas_segregated.specs.Masks.{AreStarts};
-ghost use Rattle.pas_segregated.specs.Takes.{IsRest, TakesSlots};
+ghost use Rattle.pas_segregated.specs.{Masks.AreStarts, Takes.IsRest, Takes.TakesSlots};
 
 use crate::slots::{covered, whole_slots};
 use pas_bits::Mask4;

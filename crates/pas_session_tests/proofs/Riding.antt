@@ -1,29 +1,18 @@
 -- An actor that goes on errands beside another one, and then in a storm.
 use Rattle.std.proofs.Common.{◌≡◌, ◌≢◌, ℕ, [], ◌++◌, refl, ap, sym, ◌∙◌, subst}
 use Rattle.pas_profile.specs.declared.profile.Profile.{Profile}
-use Rattle.pas_steps.specs.Clear.{HasNothing}
+use Rattle.pas_steps.specs.{Clear.HasNothing, Lists.Whole, Views.View}
 use Rattle.pas_steps.specs.Desks.{Seat, Standing, CanCall, triples}
-use Rattle.pas_steps.specs.Lists.{Whole}
-use Rattle.pas_steps.specs.Views.{View}
-use Rattle.pas_steps.proofs.Adding.{adds_call}
-use Rattle.pas_steps.proofs.Called.{next_call}
-use Rattle.pas_steps.proofs.Parts.{part_of_others}
-use Rattle.pas_cache.specs.Caches.{Cached, AtRest}
-use Rattle.pas_cache.specs.Calls.{StopsCache}
+use Rattle.pas_steps.proofs.{Adding.adds_call, Called.next_call, Parts.part_of_others}
+use Rattle.pas_cache.specs.{Caches.Cached, Caches.AtRest, Calls.StopsCache}
 use Rattle.pas_cache.proofs.FlushesAndFrees.{rests_empty}
-use Rattle.pas_plain.specs.Plain.{profile_of, actor_of, PassStands}
+use Rattle.pas_plain.specs.{Plain.profile_of, Plain.actor_of, Plain.PassStands, Storms.own_stands}
 use Rattle.pas_plain.specs.Seats.{region_of, pass_of, DeskStands, standing_of}
-use Rattle.pas_plain.specs.Storms.{MayStorm, own_stands}
-use Rattle.pas_plain.specs.declared.desk.PlainDesk.{PlainDesk}
-use Rattle.pas_plain.specs.declared.pass.PlainPass.{PlainPass}
-use Rattle.pas_plain.specs.declared.region.PlainRegion.{PlainRegion}
+use Rattle.pas_plain.specs.declared.{desk.PlainDesk.PlainDesk, pass.PlainPass.PlainPass}
 use Rattle.pas_plain.proofs.Desks.{pass_rests}
-use Rattle.pas_trials.specs.Borrowing.{Borrows}
-use Rattle.pas_trials.specs.Filling.{Steps}
-use Rattle.pas_session_tests.specs.Seated.{RestsBeside}
-use Rattle.pas_session_tests.specs.Seated.{Opens}
-use Rattle.pas_session_tests.proofs.Stormed.{nothing_yet}
-use Rattle.pas_session_tests.proofs.Stormed.{fresh, parted}
+use Rattle.pas_trials.specs.{Borrowing.Borrows, Filling.Steps}
+use Rattle.pas_session_tests.specs.Seated.{RestsBeside, Opens}
+use Rattle.pas_session_tests.proofs.Stormed.{nothing_yet, fresh}
 
 -- ---- before the storm
 pub rests_first : {d : PlainDesk} {p : PlainPass} {room : ℕ} {c : Cached} → Opens d p room → c.locals ≡ [] → c.log ≡ [] → RestsBeside d p c
@@ -58,9 +47,6 @@ rests_then {d} {d'} {p} {c} {c'} b goes =
     }
 
 -- ---- in the storm
-pub may_storm : {d : PlainDesk} {p : PlainPass} {c : Cached} {r : PlainRegion} {own : PlainPass} → r ≡ region_of d → own ≡ pass_of d → RestsBeside d p c → MayStorm r own p
-may_storm region pass b = record { view = b.view; whole = b.whole; stands = parted region pass b }
-
 -- after an errand the cache may be stopped
 pub may_stop_then : {σ σ' : Standing} {c c' : Cached} → CanCall σ (AtRest σ.seat.profile c) → Borrows c c' σ σ' → CanCall σ' (AtRest σ'.seat.profile c')
 may_stop_then {σ} {σ'} {c} {c'} can goes = next_call goes.rests can (λ v rest there. subst (λ (s : Seat). AtRest s.profile c' (goes.steps ++ v)) (sym goes.rests.adds.seat_is) there)

@@ -1,11 +1,7 @@
 -- The first request at a shared region.
 use Rattle.std.proofs.Common.{◌≡◌, ◌+◌, ◌-◌, ◌≤◌, [], length, reverse, refl, ap, sym, ◌∙◌, subst, arith}
 use Rattle.pas_profile.specs.declared.profile.Profile.{Profile}
-use Rattle.pas_steps.specs.Clear.{HasNothing}
-use Rattle.pas_steps.specs.Desks.{CanCall}
-use Rattle.pas_steps.specs.Events.{events_of}
-use Rattle.pas_steps.specs.Unknown.{unknown_below, unknown_pages}
-use Rattle.pas_steps.specs.Views.{View}
+use Rattle.pas_steps.specs.{Clear.HasNothing, Desks.CanCall, Events.events_of, Unknown.unknown_below, Unknown.unknown_pages, Views.View}
 use Rattle.pas_cache.specs.Caches.{Cached, AtRest}
 use Rattle.pas_region.specs.Noted.{events_noted, room_of_notes}
 use Rattle.pas_shared.specs.Passes.{view_of, seat_of, standing_of}

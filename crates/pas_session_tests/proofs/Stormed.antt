@@ -2,27 +2,21 @@
 use Rattle.std.proofs.Common.{◌≡◌, ℕ, ◌+◌, ◌-◌, ◌<◌, ◌≤◌, [], ◌++◌, length, refl, ap, sym, ◌∙◌, subst, inr, arith}
 use Rattle.pas_profile.specs.Profiles.{IsDirectoryOf}
 use Rattle.pas_profile.specs.declared.profile.Profile.{Profile}
-use Rattle.pas_steps.specs.Clear.{HasNothing}
+use Rattle.pas_steps.specs.{Clear.HasNothing, Lists.Whole, Unknown.unknown_pages, Views.View}
 use Rattle.pas_steps.specs.Desks.{Seat, Standing, CanCall, triples}
-use Rattle.pas_steps.specs.Lists.{Whole}
-use Rattle.pas_steps.specs.Unknown.{unknown_pages}
-use Rattle.pas_steps.specs.Views.{View}
 use Rattle.pas_steps.proofs.Parts.{part_of_others}
 use Rattle.pas_cache.specs.Caches.{Cached, AtRest}
 use Rattle.pas_plain.specs.Plain.{profile_of, actor_of, events_shown, room_of_pass, PassStands}
 use Rattle.pas_plain.specs.Seats.{region_of, pass_of, DeskStands, standing_of}
 use Rattle.pas_plain.specs.Storms.{StormStands, seat_for}
-use Rattle.pas_plain.specs.declared.desk.PlainDesk.{PlainDesk}
-use Rattle.pas_plain.specs.declared.pass.PlainPass.{PlainPass}
-use Rattle.pas_plain.specs.declared.region.PlainRegion.{PlainRegion}
+use Rattle.pas_plain.specs.declared.{desk.PlainDesk.PlainDesk, pass.PlainPass.PlainPass, region.PlainRegion.PlainRegion}
 use Rattle.pas_plain.proofs.Desks.{pass_rests}
 use Rattle.pas_search.specs.Searches.{SearchRoom}
 use Rattle.pas_storms.proofs.Going.{few_below}
 use Rattle.pas_segregated.specs.Stops.{class_directory}
 use Rattle.pas_session_tests.proofs.Besides.{may_search}
 use Rattle.pas_trials.specs.Borrowing.{Borrows, RestsWithRoom}
-use Rattle.pas_session_tests.specs.Seated.{RestsBeside}
-use Rattle.pas_session_tests.specs.Seated.{two_threads, Opens}
+use Rattle.pas_session_tests.specs.Seated.{RestsBeside, two_threads, Opens}
 
 -- an actor that made no step has nothing
 pub nothing_yet : HasNothing []
@@ -40,7 +34,7 @@ may_begin n spare opens rests room = may_begin_alone n spare opens.stood rests r
 
 -- where there is room for so many events more, there is for fewer
 pub fewer : {σ : Standing} {c : Cached} {n spare : ℕ} (m : ℕ) → m ≤ n → CanCall σ (λ v. AtRest σ.seat.profile c v × (n + unknown_pages σ.seat.profile v ≤ spare)) → CanCall σ (λ v. AtRest σ.seat.profile c v × (m + unknown_pages σ.seat.profile v ≤ spare))
-fewer m less can = let room = can.met.1 in record { view = can.view; whole = can.whole; stood = can.stood; met = (can.met.0, omega (arith, room, less)) }
+fewer m less can = record { view = can.view; whole = can.whole; stood = can.stood; met = (can.met.0, omega (arith, can.met.1, less)) }
 
 -- once it made them it rests beside the other one
 pub rests_beside : {d d' : PlainDesk} {p : PlainPass} {room : ℕ} {c c' : Cached} → Opens d p room → ((f : Profile) (v : View) → HasNothing v → AtRest f c v) → Borrows c c' (standing_of d) (standing_of d') → RestsBeside d' p c'
@@ -68,7 +62,7 @@ rests_beside {d} {d'} {p} {room} {c} {c'} opens rests borrows =
     }
 
 -- ---- region and pass of the desk
-pub parted : {d : PlainDesk} {p : PlainPass} {c : Cached} {r : PlainRegion} {own : PlainPass} → r ≡ region_of d → own ≡ pass_of d → (b : RestsBeside d p c) → StormStands r own p b.view b.whole
+parted : {d : PlainDesk} {p : PlainPass} {c : Cached} {r : PlainRegion} {own : PlainPass} → r ≡ region_of d → own ≡ pass_of d → (b : RestsBeside d p c) → StormStands r own p b.view b.whole
 parted {d} {p} {c} {r} {own} region pass b =
     subst (λ (x : PlainRegion). StormStands x own p b.view b.whole) (sym region) (subst (λ (x : PlainPass). StormStands (region_of d) x p b.view b.whole) (sym pass) b.stands)
 

@@ -1,14 +1,11 @@
 -- Regions that nobody used yet, and what their actors have before and between their calls.
 use Rattle.std.specs.Prelude.{ℕ, ◌≡◌, ◌≢◌, []}
 use Rattle.pas_profile.specs.declared.profile.Profile.{Profile}
-use Rattle.pas_steps.specs.Views.{View}
-use Rattle.pas_steps.specs.Lists.{Whole, part}
+use Rattle.pas_steps.specs.{Views.View, Lists.Whole, Lists.part}
 use Rattle.pas_cache.specs.Caches.{Cached, AtRest}
 use Rattle.pas_plain.specs.Plain.{profile_of, actor_of, room_of_pass, PassStands}
-use Rattle.pas_plain.specs.Seats.{region_of, pass_of, DeskStands}
-use Rattle.pas_plain.specs.Storms.{StormStands}
-use Rattle.pas_plain.specs.declared.desk.PlainDesk.{PlainDesk}
-use Rattle.pas_plain.specs.declared.pass.PlainPass.{PlainPass}
+use Rattle.pas_plain.specs.{Seats.region_of, Seats.pass_of, Seats.DeskStands, Storms.StormStands}
+use Rattle.pas_plain.specs.declared.{desk.PlainDesk.PlainDesk, pass.PlainPass.PlainPass}
 
 -- ---- profiles
 -- a region of so many pages, two threads and one heap

@@ -1,12 +1,8 @@
 //! An actor stops its cache or refills a class while another one frees or asks for blocks between its steps.
 ghost use Rattle.std.specs.Prelude.{◌≡◌, ◌<◌, [], IfOk};
-ghost use Rattle.pas_steps.specs.Lists.{Whole};
-ghost use Rattle.pas_steps.specs.States.{profile_of as the_profile_of};
-ghost use Rattle.pas_steps.specs.Views.{View};
+ghost use Rattle.pas_steps.specs.{Lists.Whole, States.profile_of as the_profile_of, Views.View};
 ghost use Rattle.pas_cache.specs.Caches.{cached};
-ghost use Rattle.pas_plain.specs.Plain.{profile_of};
-ghost use Rattle.pas_plain.specs.Seats.{region_of};
-ghost use Rattle.pas_plain.specs.Storms.{StormStands};
+ghost use Rattle.pas_plain.specs.{Plain.profile_of, Seats.region_of, Storms.StormStands};
 ghost use Rattle.pas_session_tests.specs.Seated.{Opens, RestsBeside, two_threads};
 
 use crate::seating::{plain_profile, seated};

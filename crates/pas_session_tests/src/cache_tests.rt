@@ -1,8 +1,7 @@
 //! A cache over a plain desk.
 ghost use Rattle.std.specs.Prelude.{ℕ, ◌≡◌, ◌+◌, ◌≤◌, ◌<◌, [], false};
 ghost use Rattle.pas_bits.specs.Bits.{has_bit};
-ghost use Rattle.pas_steps.specs.Desks.{CanCall};
-ghost use Rattle.pas_steps.specs.Unknown.{unknown_pages};
+ghost use Rattle.pas_steps.specs.{Desks.CanCall, Unknown.unknown_pages};
 ghost use Rattle.pas_cache.specs.Caches.{cached, AtRest};
 
 use crate::seating::{large_profile, plain_profile, seated};

@@ -1,12 +1,8 @@
 //! A block over two pages, whose name is logged twice.
 ghost use Rattle.std.specs.Prelude.{◌≡◌, ◌-◌, ◌≤◌, ◌∷◌, [], IfOk, length};
-ghost use Rattle.pas_steps.specs.Desks.{CanCall};
-ghost use Rattle.pas_steps.specs.Lists.{Whole};
-ghost use Rattle.pas_steps.specs.States.{profile_of as the_profile_of};
-ghost use Rattle.pas_steps.specs.Views.{View};
+ghost use Rattle.pas_steps.specs.{Desks.CanCall, Lists.Whole, States.profile_of as the_profile_of, Views.View, Clear.IsClear};
 ghost use Rattle.pas_plain.specs.Plain.{profile_of, events_shown, room_of_pass};
 ghost use Rattle.pas_plain.specs.Seats.{DeskStands, region_of, pass_of, standing_of};
-ghost use Rattle.pas_steps.specs.Clear.{IsClear};
 ghost use Rattle.pas_free_log.specs.Logs.{entries_in, entry_of};
 
 use arrayvec::ArrayVec;

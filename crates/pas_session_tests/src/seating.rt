@@ -1,8 +1,7 @@
 //! One or two actors at a plain region that nobody used yet.
 ghost use Rattle.std.specs.Prelude.{◌≡◌, ◌-◌, [], IfOk, length};
 ghost use Rattle.pas_profile.specs.Profiles.{IsValid};
-ghost use Rattle.pas_plain.specs.Plain.{profile_of, events_shown, room_of_pass};
-ghost use Rattle.pas_plain.specs.Seats.{DeskStands, region_of, pass_of};
+ghost use Rattle.pas_plain.specs.{Plain.profile_of, Plain.events_shown, Plain.room_of_pass, Seats.DeskStands, Seats.region_of, Seats.pass_of};
 ghost use Rattle.pas_session_tests.specs.Seated.{Opens, two_threads, stormy, large_region};
 
 use pas_plain::{PlainDesk, PlainPass, PlainRegion};

@@ -1,13 +1,8 @@
 //! A storm: an errand of actor 1 among the visits of actor 2, and what is found afterwards.
 ghost use Rattle.std.specs.Prelude.{◌≡◌, ◌≤◌, [], true, length, IfOk};
-ghost use Rattle.pas_steps.specs.Desks.{CanCall};
-ghost use Rattle.pas_steps.specs.Lists.{Whole};
-ghost use Rattle.pas_steps.specs.States.{profile_of as the_profile_of};
-ghost use Rattle.pas_steps.specs.Views.{View};
+ghost use Rattle.pas_steps.specs.{Desks.CanCall, Lists.Whole, States.profile_of as the_profile_of, Views.View};
 ghost use Rattle.pas_cache.specs.Caches.{AtRest};
-ghost use Rattle.pas_plain.specs.Plain.{profile_of, room_of_pass, events_shown};
-ghost use Rattle.pas_plain.specs.Seats.{region_of, pass_of};
-ghost use Rattle.pas_plain.specs.Storms.{StormStands};
+ghost use Rattle.pas_plain.specs.{Plain.profile_of, Plain.room_of_pass, Plain.events_shown, Seats.region_of, Seats.pass_of, Storms.StormStands};
 ghost use Rattle.pas_trials.specs.Filling.{Steps};
 ghost use Rattle.pas_storms.specs.Storms.{cache_of};
 ghost use Rattle.pas_session_tests.specs.Seated.{RestsBeside, stormy};

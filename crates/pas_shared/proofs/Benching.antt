@@ -1,25 +1,20 @@
 -- The rule of the shared words when a bench is laid out, looks and gives actors away; and for which lists a desk at a bench stands.
-use Rattle.std.proofs.Common.{suc, arith, List, [], ◌∷◌, ◌++◌, sym, subst, ◌≡◌, ◌≢◌, ◌⊎◌, inl, inr, ⊎_elim, ℕ, length, set, Bool, true, false, true≢false, eqb, eqb-true, eq-eqb, ne_eqb, refl, ap, ◌∙◌, if◌then◌else◌}
-use Rattle.std.proofs.lemmas.List.{set-get_or, append-nil, length-append}
+use Rattle.std.proofs.Common.{suc, arith, List, [], ◌∷◌, ◌++◌, sym, subst, ◌≡◌, ◌≢◌, ◌⊎◌, inl, inr, ⊎_elim, ℕ, length, set, Bool, true, false, true≢false, eqb}
+use Rattle.std.proofs.Common.{eqb-true, eq-eqb, ne_eqb, refl, ap, ◌∙◌, if◌then◌else◌, append-nil, length-append}
+use Rattle.std.proofs.lemmas.List.{set-get_or}
 use mathlib.Core.Option.{some}
 use lib.ListN.{get_elem?}
 use Rattle.atomic_table.specs.Table.{Me, keeps, Allows, Splits, Enters}
 use Rattle.atomic_table.proofs.Lists.{at_set}
 use Rattle.pas_profile.specs.declared.profile.Profile.{Profile}
-use Rattle.pas_steps.specs.Views.{View}
-use Rattle.pas_steps.specs.Lists.{Triple, Whole, part}
-use Rattle.pas_core.specs.Orders.{steps_by}
-use Rattle.pas_core.specs.WordLists.{AreWordsAfter}
-use Rattle.pas_steps.specs.Desks.{triple}
+use Rattle.pas_steps.specs.{Views.View, Lists.Triple, Lists.Whole, Lists.part, Desks.triple}
+use Rattle.pas_core.specs.{Orders.steps_by, WordLists.AreWordsAfter}
 use Rattle.pas_steps.specs.declared.step.Made.{Made}
 use Rattle.pas_steps.proofs.Parts.{part_of_own}
 use Rattle.pas_core.proofs.Choosing.{steps_by_nobody, no_steps_by_fewer, step_taken, part_of_chosen, as_many_steps, steps_by_both}
-use Rattle.pas_shared.specs.declared.bench.Member.{Member}
-use Rattle.pas_shared.specs.declared.rule.Entry.{Entry}
-use Rattle.pas_shared.specs.declared.rule.Row.{Row}
-use Rattle.pas_shared.specs.declared.rule.Roster.{Roster}
-use Rattle.pas_shared.specs.declared.rule.Roster.TheVariants.{Benched}
-use Rattle.pas_shared.specs.Ruled.{Names, AreNamed, Holds, steps_of, among, made_in, HasRow, rows_in, row_with, with_made, only, only_this, leaver_of, alone, isnt, row_of_only, left_of, picked_of, all_actors, IsEmptyBench, IsRowOf, AreRowsOf, SettlesAll}
+use Rattle.pas_shared.specs.declared.{bench.Member.Member, rule.Entry.Entry, rule.Row.Row, rule.Roster.Roster, rule.Roster.TheVariants.Benched}
+use Rattle.pas_shared.specs.Ruled.{Names, AreNamed, Holds, steps_of, among, made_in, HasRow, rows_in, row_with, with_made, only, only_this, leaver_of, alone}
+use Rattle.pas_shared.specs.Ruled.{isnt, row_of_only, left_of, picked_of, all_actors, IsEmptyBench, IsRowOf, AreRowsOf, SettlesAll}
 use Rattle.pas_shared.specs.Benches.{empty_row, SitsInRow, StandsOver}
 use Rattle.pas_shared.proofs.Ruling.{Apart, SawOf, RowsOf, nothing_seen, entries_for, entries_same, know_set, know_end, know_split, at_end}
 

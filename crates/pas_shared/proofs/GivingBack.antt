@@ -3,22 +3,16 @@ use Rattle.std.proofs.Common.{◌≡◌, ℕ, ◌<◌, List, [], ◌∷◌, refl
 use Rattle.atomic_table.specs.Table.{Me, Splits, Allows}
 use Rattle.pas_profile.specs.declared.profile.Profile.{Profile}
 use Rattle.pas_steps.specs.Views.{View}
-use Rattle.pas_shared.specs.declared.rule.Entry.{Entry}
-use Rattle.pas_shared.specs.declared.rule.Part.{Part}
-use Rattle.pas_shared.specs.declared.rule.Roster.{Roster}
+use Rattle.pas_shared.specs.declared.{rule.Entry.Entry, rule.Part.Part, rule.Roster.Roster, region.SharedRegion.SharedRegion}
 use Rattle.pas_shared.specs.declared.rule.Roster.TheVariants.{Unused, Listed, Settled, Benched}
-use Rattle.pas_shared.specs.declared.region.SharedRegion.{SharedRegion}
 use Rattle.pas_shared.specs.Ruled.{Holds, alone, joined, looks_in, parts_in, seen_in, all_but_last, last_alone, AreEarlier, SeesAll}
 use Rattle.pas_shared.proofs.Ruling.{splits_last, looks}
 
 -- there is a first word
 pub some_word : (region : SharedRegion) → 0 < region.table.shared.table_id.words
-some_word region = let many = region.keyed.1 in omega (arith, many)
+some_word region = omega (arith, region.keyed.1)
 
 -- ---- the seat of a ledger
-pub settled_is : (me : Me (Unit {0}) Roster) (es : List (List Entry)) (ps : List Part) → me ≡ (Settled es ps, []) → me ≡ (Settled (looks_in me.0) (parts_in me.0), [])
-settled_is me es ps is = subst (λ (m : Me (Unit {0}) Roster). m ≡ (Settled (looks_in m.0) (parts_in m.0), [])) (sym is) refl
-
 pub splits_last_as : (f : Profile) (id : ℕ) (me : Me (Unit {0}) Roster) (es : List (List Entry)) (p : Part) (ps : List Part) → me ≡ (Settled es (p ∷ ps), []) → Splits (Holds f) id me.0 (all_but_last me.0) (last_alone me.0)
 splits_last_as f id me es p ps is = subst (λ (m : Me (Unit {0}) Roster). Splits (Holds f) id m.0 (all_but_last m.0) (last_alone m.0)) (sym is) (splits_last f id es p ps)
 

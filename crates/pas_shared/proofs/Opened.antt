@@ -1,18 +1,11 @@
 -- The table and the passes at the opening.
-use Rattle.std.proofs.Common.{◌≡◌, ℕ, suc, zero, ◌+◌, All, List, [], ◌∷◌, ◌++◌, length, refl, sym, ap, subst, ◌∙◌, arith, append_assoc}
-use Rattle.std.specs.Prelude.{slice_index}
+use Rattle.std.proofs.Common.{◌≡◌, ℕ, suc, zero, ◌+◌, All, List, [], ◌∷◌, ◌++◌, length, refl, sym, ap, subst, ◌∙◌, arith, append_assoc, slice_index}
 use mathlib.Core.Option.{some-injective, some-ne-none}
-use Rattle.atomic_table.specs.Seated.{TableId}
-use Rattle.atomic_table.specs.Table.{Me, Splits}
-use Rattle.pas_profile.specs.Layouts.{index_of, words_of, opening}
-use Rattle.pas_profile.specs.Profiles.{IsWordOf}
-use Rattle.pas_profile.specs.declared.profile.Profile.{Profile}
-use Rattle.pas_profile.specs.Rooms.{EventRoom}
-use Rattle.pas_profile.specs.declared.word.Word.{Word}
+use Rattle.atomic_table.specs.{Seated.TableId, Table.Me, Table.Splits}
+use Rattle.pas_profile.specs.{Layouts.index_of, Layouts.words_of, Layouts.opening, Profiles.IsWordOf, Rooms.EventRoom}
+use Rattle.pas_profile.specs.declared.{profile.Profile.Profile, word.Word.Word}
 use Rattle.pas_steps.specs.Views.{View}
-use Rattle.pas_shared.specs.declared.rule.Roster.{Roster}
-use Rattle.pas_shared.specs.declared.rule.Roster.TheVariants.{Unused}
-use Rattle.pas_shared.specs.declared.pass.SharedPass.{SharedPass}
+use Rattle.pas_shared.specs.declared.{rule.Roster.Roster, rule.Roster.TheVariants.Unused, pass.SharedPass.SharedPass}
 use Rattle.pas_shared.specs.Ruled.{Names, all_but_first, first_alone, AreNamed, AllKnow, AreAfterOneList, Holds}
 use Rattle.pas_shared.specs.Passes.{IsOfTable, IsFresh, AreFresh}
 use Rattle.pas_shared.proofs.Ruling.{Apart, SawOf, RowsOf, splits}

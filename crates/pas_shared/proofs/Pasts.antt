@@ -2,12 +2,9 @@
 use Rattle.std.proofs.Common.{◌≡◌, ℕ, ◌==◌, if◌then◌else◌, Bool, true, false, List, [], ◌∷◌, ◌++◌, refl, sym, ap, ◌∙◌, subst}
 use Rattle.std.proofs.lemmas.List.{append_cancel_right}
 use Rattle.atomic_table.specs.Table.{Me}
-use Rattle.pas_steps.specs.Views.{View}
-use Rattle.pas_steps.specs.Lists.{Whole, part}
+use Rattle.pas_steps.specs.{Views.View, Lists.Whole, Lists.part}
 use Rattle.pas_steps.specs.declared.step.Made.{Made}
-use Rattle.pas_shared.specs.declared.rule.Entry.{Entry}
-use Rattle.pas_shared.specs.declared.rule.Roster.{Roster}
-use Rattle.pas_shared.specs.declared.rule.Roster.TheVariants.{Settled}
+use Rattle.pas_shared.specs.declared.rule.{Entry.Entry, Roster.Roster, Roster.TheVariants.Settled}
 use Rattle.pas_shared.specs.Ruled.{joined, looks_in, parts_in, seen_in, IsEarlier, AreEarlier}
 use Rattle.pas_shared.specs.Pasts.{HasOwn, StandsAfter}
 use Rattle.pas_shared.proofs.Ruling.{first_earlier}

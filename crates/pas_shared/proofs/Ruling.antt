@@ -1,54 +1,37 @@
 -- The rule of the shared words, step by step and at the close.
-use Rattle.std.proofs.Common.{◌==◌, eqb-true, true≢false, List, [], ◌∷◌, ◌++◌, sym, subst, ◌≡◌, ◌≢◌, ◌⊎◌, inl, inr, ⊎_elim, ℕ, suc, zero, ◌+◌, ◌<◌, ◌≤◌, length, set, Bool, true, false, eqb, eq-eqb, ne_eqb, refl, ap, ◌∙◌, arith, if◌then◌else◌, get_or}
-use Rattle.pas_profile.specs.Profiles.{IsValid}
-use Rattle.pas_profile.specs.declared.event.Event.{Event}
-use Rattle.pas_profile.specs.declared.profile.Profile.{Profile}
+use Rattle.std.proofs.Common.{◌==◌, eqb-true, true≢false, List, [], ◌∷◌, ◌++◌, sym, subst, ◌≡◌, ◌≢◌, ◌⊎◌, inl, inr, ⊎_elim, ℕ, suc, zero, ◌+◌, ◌<◌, ◌≤◌, length}
+use Rattle.std.proofs.Common.{set, Bool, true, false, eqb, eq-eqb, ne_eqb, refl, ap, ◌∙◌, arith, if◌then◌else◌, get_or, append-nil, slice_index, slice_set}
+use Rattle.pas_profile.specs.{Profiles.IsValid, Layouts.index_of, Layouts.words_of, Profiles.IsWordOf}
+use Rattle.pas_profile.specs.declared.{event.Event.Event, profile.Profile.Profile, word.Word.Word}
 use Rattle.pas_machine.specs.Machine.{Run}
-use Rattle.pas_steps.specs.Views.{known_deed, View, epoch_of}
+use Rattle.pas_steps.specs.{Views.known_deed, Views.View, Views.epoch_of, Effects.target, Effects.new_value, Desks.made, Desks.triple, Desks.triples}
+use Rattle.pas_steps.specs.{States.profile_of, States.word_in}
 use Rattle.pas_steps.specs.Lists.{Triple, Whole, Legal, part, visible, word_after}
 use Rattle.pas_core.proofs.MachineRuns.{runs, agrees, in_one_place, lists_borne}
-use Rattle.pas_core.proofs.Offers.{parked_is_owed, empty_is_minded}
+use Rattle.pas_core.proofs.{Offers.parked_is_owed, Offers.empty_is_minded, Deeds.known_is, Lives.life_is_known, Choosing.step_taken, Choosing.step_passed}
+use Rattle.pas_core.proofs.{Choosing.steps_by_one}
 use Rattle.pas_core.proofs.Rights.{right_in_one_place, free_without_deed, free_known, deeds_known, backed_known}
 use Rattle.pas_core.proofs.Stamps.{ends_stamped, unstamped_is_held, stamp_known, epoch_known}
-use Rattle.pas_core.proofs.Deeds.{known_is}
-use Rattle.pas_core.proofs.Lives.{life_is_known}
-use Rattle.pas_shared.specs.Kept.{IsGood, NoneIsEarly}
-use Rattle.std.proofs.lemmas.Bool.{cases_eq}
-use Rattle.std.proofs.lemmas.List.{set-get_or, append-nil}
-use Rattle.std.specs.Prelude.{slice_index, slice_set}
+use Rattle.pas_shared.specs.{Kept.IsGood, Kept.NoneIsEarly, Left.IsLeftBy}
+use Rattle.std.proofs.lemmas.{Bool.cases_eq, List.set-get_or, List.Elements.All-cons, List.Elements.All-weaker}
 use prog.Atomic.{either}
 use mathlib.Core.Option.{some, some-injective, some-ne-none}
 use lib.ListN.{get_elem?}
 use Rattle.atomic_table.specs.Seated.{TableId}
 use Rattle.atomic_table.specs.Table.{Me, Act, keeps, Valid, stepped, carried_after, Allows, Splits, Joins, Final, Seen, Enters}
 use Rattle.atomic_table.proofs.Lists.{at_set, set_again}
-use Rattle.pas_profile.specs.Layouts.{index_of, words_of}
 use Rattle.pas_profile.proofs.Places.{index_lt}
-use Rattle.pas_steps.specs.Effects.{target, new_value}
-use Rattle.pas_steps.specs.Desks.{made, triple, triples}
-use Rattle.pas_steps.specs.declared.step.Step.{Step}
-use Rattle.pas_steps.specs.declared.step.Made.{Made}
-use Rattle.pas_steps.proofs.Parts.{part_of_own, part_of_others}
-use Rattle.pas_steps.proofs.Targets.{target_of_region}
-use Rattle.pas_core.specs.Orders.{with_step}
-use Rattle.pas_core.specs.WordLists.{AreWordsAfter}
-use Rattle.pas_core.proofs.Choosing.{step_taken, step_passed, steps_by_one}
+use Rattle.pas_steps.specs.declared.{step.Step.Step, step.Made.Made, state.State.State}
+use Rattle.pas_steps.proofs.{Parts.part_of_own, Parts.part_of_others, Targets.target_of_region}
+use Rattle.pas_core.specs.{Orders.with_step, WordLists.AreWordsAfter}
 use Rattle.pas_core.proofs.Nexts.{legal_next, agrees_next, with_step_own, with_step_others, one_order_next, words_next}
-use Rattle.pas_shared.specs.declared.exchange.Change.{Change}
-use Rattle.pas_shared.specs.declared.rule.Entry.{Entry}
-use Rattle.pas_shared.specs.declared.rule.Part.{Part}
-use Rattle.pas_shared.specs.declared.rule.Roster.{Roster}
-use Rattle.pas_shared.specs.declared.rule.Row.{Row}
+use Rattle.pas_shared.specs.declared.{exchange.Change.Change, rule.Entry.Entry, rule.Part.Part, rule.Roster.Roster, rule.Row.Row, pass.SharedPass.SharedPass}
 use Rattle.pas_shared.specs.declared.rule.Roster.TheVariants.{Unused, Listed, Settled, Benched}
-use Rattle.pas_shared.specs.Ruled.{HasPart, Names, alone, first_alone, all_but_first, joined, AreNamed, AreAfterOneList, Holds, changed, IsAskedOf, IsAdded, Makes, IsAddedIfKept, parts_in, looks_in, first_look, steps_of, seen_in, SawNothing, IsEarlier, AreEarlier, AreApart, AllKnow, SeesAll, among, made_in, SitsIn, HasRow, entries_by, rows_of, rows_in, IsNoBench, IsRowOf, AreRowsOf, SitsFor, row_with, with_made}
+use Rattle.pas_shared.specs.Ruled.{HasPart, Names, alone, first_alone, all_but_first, joined, AreNamed, AreAfterOneList, Holds, changed, IsAskedOf, IsAdded}
+use Rattle.pas_shared.specs.Ruled.{Makes, IsAddedIfKept, parts_in, looks_in, first_look, steps_of, seen_in, SawNothing, IsEarlier, AreEarlier, AreApart}
+use Rattle.pas_shared.specs.Ruled.{AllKnow, SeesAll, among, made_in, SitsIn, HasRow, entries_by, rows_of, rows_in, IsNoBench, IsRowOf, AreRowsOf, SitsFor}
+use Rattle.pas_shared.specs.Ruled.{row_with, with_made}
 use Rattle.std.specs.List.{All}
-use Rattle.std.proofs.lemmas.List.Elements.{All-cons, All-weaker}
-use Rattle.pas_shared.specs.declared.pass.SharedPass.{SharedPass}
-use Rattle.pas_profile.specs.Profiles.{IsWordOf}
-use Rattle.pas_profile.specs.declared.word.Word.{Word}
-use Rattle.pas_steps.specs.States.{profile_of, word_in}
-use Rattle.pas_steps.specs.declared.state.State.{State}
-use Rattle.pas_shared.specs.Left.{IsLeftBy}
 use Rattle.pas_shared.specs.Passes.{view_of, seat_of, IsNamed, AreWordsOf}
 
 -- ==== Every legal list is good.
@@ -250,7 +233,7 @@ adds f slots id k v s i g u sits asked at same t h len there fits =
     )
 
 -- A load of the word is the step where that would leave the word as it is. Otherwise words, views and list stay.
-pub adds_if_kept : (f : Profile) (slots id k : ℕ) (v : View) (s : Step) (i : ℕ) (u : Roster) → SitsFor u k v → IsAskedOf f k v s → i ≡ index_of f.pages (target s)
+adds_if_kept : (f : Profile) (slots id k : ℕ) (v : View) (s : Step) (i : ℕ) (u : Roster) → SitsFor u k v → IsAskedOf f k v s → i ≡ index_of f.pages (target s)
     → Allows (Holds f) slots id (u, []) i (λ n. n) (IsAddedIfKept f u k v s)
 adds_if_kept f slots id k v s i u sits asked at t h len there fits = ⊎_elim kept changed (cases_eq (new_value (epoch_of v) s n) n)
   where
@@ -389,7 +372,7 @@ has_either [] qs k v h = inr h
 has_either (p ∷ ps) qs k v (inl h) = inl (inl h)
 has_either (p ∷ ps) qs k v (inr h) = ⊎_elim (λ t. inl (inr t)) inr (has_either ps qs k v h)
 
-pub row_either : (rs qs : List Row) (k : ℕ) (v : View) → HasRow (rs ++ qs) k v → HasRow rs k v ⊎ HasRow qs k v
+row_either : (rs qs : List Row) (k : ℕ) (v : View) → HasRow (rs ++ qs) k v → HasRow rs k v ⊎ HasRow qs k v
 row_either [] qs k v h = inr h
 row_either (r ∷ rs) qs k v (inl h) = inl (inl h)
 row_either (r ∷ rs) qs k v (inr h) = ⊎_elim (λ t. inl (inr t)) inr (row_either rs qs k v h)

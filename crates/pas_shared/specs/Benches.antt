@@ -1,23 +1,15 @@
 -- What benches show, their members, and what a region comes to that is closed with one.
 use Rattle.std.specs.Prelude.{◌≡◌, ℕ, true, List, [], ◌∷◌, ◌++◌}
 use Rattle.pas_profile.specs.Profiles.{IsWordOf}
-use Rattle.pas_profile.specs.declared.profile.Profile.{Profile}
-use Rattle.pas_profile.specs.declared.word.Word.{Word}
-use Rattle.pas_steps.specs.Views.{View}
+use Rattle.pas_profile.specs.declared.{profile.Profile.Profile, word.Word.Word}
+use Rattle.pas_steps.specs.{Views.View, Desks.Seat, Desks.Standing, States.profile_of as the_profile_of, States.word_in}
 use Rattle.pas_steps.specs.Lists.{Whole, Legal, part, word_after}
-use Rattle.pas_steps.specs.Desks.{Seat, Standing}
-use Rattle.pas_steps.specs.States.{profile_of as the_profile_of, word_in}
 use Rattle.pas_steps.specs.declared.state.State.{State}
 use Rattle.pas_core.specs.Orders.{steps_by}
 use Rattle.pas_region.specs.Noted.{AreNotesOf, room_of_notes}
 use Rattle.pas_shared.specs.Ruled.{among, made_in, rows_in, all_actors, steps_of, AreRowsOf}
-use Rattle.pas_shared.specs.declared.rule.Entry.{Entry}
-use Rattle.pas_shared.specs.declared.rule.Row.{Row}
-use Rattle.pas_shared.specs.declared.region.SharedRegion.{SharedRegion}
-use Rattle.pas_shared.specs.declared.pass.SharedPass.{SharedPass}
-use Rattle.pas_shared.specs.declared.bench.Bench.{Bench}
-use Rattle.pas_shared.specs.declared.bench.Member.{Member}
-use Rattle.pas_shared.specs.declared.bench_desk.BenchHome.{BenchHome}
+use Rattle.pas_shared.specs.declared.{rule.Entry.Entry, rule.Row.Row, region.SharedRegion.SharedRegion, pass.SharedPass.SharedPass, bench.Bench.Bench}
+use Rattle.pas_shared.specs.declared.{bench.Member.Member, bench_desk.BenchHome.BenchHome}
 
 -- ---- rows
 -- nobody sits in it, and no step was made before

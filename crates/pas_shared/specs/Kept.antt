@@ -1,20 +1,13 @@
 -- What holds between any two steps of any actors, and when a region is closed.
 use Rattle.std.specs.Prelude.{ℕ, ◌≡◌, ◌≢◌, ◌+◌, ◌/◌, ◌%◌, ◌≤◌, true, List, ◌∷◌, ◌++◌, Some}
 use Rattle.pas_bits.specs.Bits.{has_bit}
-use Rattle.pas_profile.specs.declared.event.Event.{Event}
-use Rattle.pas_profile.specs.declared.profile.Profile.{Profile}
-use Rattle.pas_profile.specs.declared.word.Word.TheVariants as Word
-use Rattle.pas_machine.specs.Machine.{Run}
-use Rattle.pas_machine.specs.Laws.{AreBorne}
-use Rattle.pas_machine.specs.State.{epoch_in}
-use Rattle.pas_steps.specs.Allowed.{HoldsOn}
-use Rattle.pas_steps.specs.Effects.{free_word_at, life_word_at}
+use Rattle.pas_profile.specs.declared.{event.Event.Event, profile.Profile.Profile, word.Word.Word}
+use Rattle.pas_machine.specs.{Machine.Run, Laws.AreBorne, State.epoch_in}
+use Rattle.pas_steps.specs.{Allowed.HoldsOn, Effects.free_word_at, Effects.life_word_at}
 use Rattle.pas_steps.specs.Views.{known_deed, known_free, knows_backed, known_life, known_stamp, epoch_of, is_unstamped}
 use Rattle.pas_steps.specs.Lists.{Whole, part, visible, word_after}
-use Rattle.pas_core.specs.Good.{IsInOnePlace, AgreesWithWords}
+use Rattle.pas_core.specs.{Good.IsInOnePlace, Good.AgreesWithWords, Hints.IsEmptyBacked, Hints.IsMinded, Stamps.EachEnd, Stamps.IsStampedOr}
 use Rattle.pas_core.specs.Rights.{IsRightInOnePlace, parked_bit, IsUsableFree, IsOwed}
-use Rattle.pas_core.specs.Hints.{IsEmptyBacked, IsMinded}
-use Rattle.pas_core.specs.Stamps.{EachEnd, IsStampedOr}
 
 -- what each actor knows is so, whatever the others did since
 pub record KnowsTruly (l : Whole) : Type 0 where

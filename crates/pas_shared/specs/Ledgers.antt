@@ -5,13 +5,8 @@ use Rattle.pas_steps.specs.Lists.{Whole}
 use Rattle.pas_steps.specs.declared.state.State.{State}
 use Rattle.pas_shared.specs.Ruled.{parts_in, looks_in, seen_in, IsEarlier}
 use Rattle.pas_shared.specs.Passes.{view_of, EndsWith}
-use Rattle.pas_shared.specs.declared.rule.Entry.{Entry}
-use Rattle.pas_shared.specs.declared.rule.Part.{Part}
-use Rattle.pas_shared.specs.declared.rule.Roster.TheVariants.{Listed}
-use Rattle.pas_shared.specs.declared.region.SharedRegion.{SharedRegion}
-use Rattle.pas_shared.specs.declared.pass.SharedPass.{SharedPass}
-use Rattle.pas_shared.specs.declared.ledger.Ledger.{Ledger}
-use Rattle.pas_shared.specs.declared.ledger.Rest.{Rest}
+use Rattle.pas_shared.specs.declared.{rule.Entry.Entry, rule.Part.Part, rule.Roster.TheVariants.Listed, region.SharedRegion.SharedRegion}
+use Rattle.pas_shared.specs.declared.{pass.SharedPass.SharedPass, ledger.Ledger.Ledger, ledger.Rest.Rest}
 
 -- the steps that stand in it, the newest first
 abbrev pub so_far : Ledger → Whole

@@ -2,10 +2,8 @@
 use Rattle.std.specs.Prelude.{◌≡◌, ℕ, List, slice_index}
 use mathlib.Core.Option.{some}
 use lib.ListN.{get_elem?}
-use Rattle.pas_profile.specs.Layouts.{index_of}
-use Rattle.pas_profile.specs.Profiles.{IsWordOf}
-use Rattle.pas_profile.specs.declared.profile.Profile.{Profile}
-use Rattle.pas_profile.specs.declared.word.Word.{Word}
+use Rattle.pas_profile.specs.{Layouts.index_of, Profiles.IsWordOf}
+use Rattle.pas_profile.specs.declared.{profile.Profile.Profile, word.Word.Word}
 use Rattle.pas_steps.specs.States.{profile_of, word_in}
 use Rattle.pas_steps.specs.declared.state.State.{State}
 use Rattle.pas_shared.specs.Ruled.{AreAfterOneList}

@@ -6,22 +6,12 @@ use lib.ListN.{get_elem?}
 use Rattle.atomic_table.specs.Table.{State, Me}
 use Rattle.pas_profile.specs.Profiles.{IsValid}
 use Rattle.pas_profile.specs.declared.profile.Profile.{Profile}
-use Rattle.pas_steps.specs.Views.{View, epoch_of}
-use Rattle.pas_steps.specs.Effects.{new_value}
-use Rattle.pas_steps.specs.Allowed.{Allowed, IsStepOf}
-use Rattle.pas_steps.specs.Agreement.{Agrees}
-use Rattle.pas_steps.specs.Lists.{Whole, Legal, part}
-use Rattle.pas_steps.specs.Desks.{made, triple}
-use Rattle.pas_steps.specs.declared.step.Made.{Made}
-use Rattle.pas_steps.specs.declared.step.Step.{Step}
-use Rattle.pas_core.specs.Orders.{IsOneOrder, steps_by}
-use Rattle.pas_core.specs.WordLists.{AreWordsAfter}
-use Rattle.pas_shared.specs.declared.exchange.Change.{Change}
-use Rattle.pas_shared.specs.declared.exchange.Change.TheVariants.{Raise, Set, Clear}
-use Rattle.pas_shared.specs.declared.rule.Entry.{Entry}
-use Rattle.pas_shared.specs.declared.rule.Part.{Part}
-use Rattle.pas_shared.specs.declared.rule.Roster.{Roster}
-use Rattle.pas_shared.specs.declared.rule.Row.{Row}
+use Rattle.pas_steps.specs.{Views.View, Views.epoch_of, Effects.new_value, Allowed.Allowed, Allowed.IsStepOf, Agreement.Agrees, Lists.Whole, Lists.Legal}
+use Rattle.pas_steps.specs.{Lists.part, Desks.made, Desks.triple}
+use Rattle.pas_steps.specs.declared.step.{Made.Made, Step.Step}
+use Rattle.pas_core.specs.{Orders.IsOneOrder, Orders.steps_by, WordLists.AreWordsAfter}
+use Rattle.pas_shared.specs.declared.{exchange.Change.Change, exchange.Change.TheVariants.Raise, exchange.Change.TheVariants.Set}
+use Rattle.pas_shared.specs.declared.{exchange.Change.TheVariants.Clear, rule.Entry.Entry, rule.Part.Part, rule.Roster.Roster, rule.Row.Row}
 use Rattle.pas_shared.specs.declared.rule.Roster.TheVariants.{Unused, Listed, Settled, Benched}
 
 -- ---- which actors a seat names

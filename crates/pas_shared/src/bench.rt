@@ -64,8 +64,7 @@ impl Member {
 impl Bench {
     ghost use Rattle.std.specs.Prelude.{◌∷◌, ◌++◌, true};
     ghost use Rattle.pas_shared.specs.Ruled.{alone, among, only_this, isnt, made_in, rows_of, rows_of_only};
-    ghost use Rattle.pas_shared.specs.Passes.{IsPassOf, seat_of, view_of};
-    ghost use Rattle.pas_shared.specs.Ledgers.{part_of};
+    ghost use Rattle.pas_shared.specs.{Passes.IsPassOf, Passes.seat_of, Passes.view_of, Ledgers.part_of};
     ghost use Rattle.pas_shared.specs.Benches.{rows_on, empty_row, IsBenchOf, IsMemberOf, HasLooked, IsFreshRow, first_row, SitsInRow, seat_of_member};
 
     /// A bench of the region on which nobody sits. One load.

@@ -1,12 +1,9 @@
 //! The words of a region whose actors have all risen.
 ghost use Rattle.std.specs.Prelude.{◌≡◌, ◌<◌, [], length, All};
 ghost use Rattle.std.specs.Slots.{slots_items, slots_len, IsFull};
-ghost use Rattle.pas_shared.specs.Ruled.{joined, seen_in, IsNoBench};
-ghost use Rattle.pas_shared.specs.Passes.{IsPassOf, IsNamed, EndsWith};
-ghost use Rattle.pas_shared.specs.Ledgers.{IsLedgerOf, so_far, EndsAfter};
-ghost use Rattle.pas_shared.specs.Pasts.{IsPastOf, told};
-ghost use Rattle.pas_shared.specs.Left.{IsLeftBy};
-ghost use Rattle.pas_shared.specs.Benches.{rows_on, IsBenchOf, EndsOnBench};
+ghost use Rattle.pas_shared.specs.{Ruled.joined, Ruled.seen_in, Ruled.IsNoBench, Passes.IsPassOf, Passes.IsNamed, Passes.EndsWith, Ledgers.IsLedgerOf};
+ghost use Rattle.pas_shared.specs.{Ledgers.so_far, Ledgers.EndsAfter, Pasts.IsPastOf, Pasts.told, Left.IsLeftBy, Benches.rows_on, Benches.IsBenchOf};
+ghost use Rattle.pas_shared.specs.{Benches.EndsOnBench};
 
 use crate::bench::Bench;
 use crate::ledger::Ledger;

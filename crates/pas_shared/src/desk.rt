@@ -45,9 +45,7 @@ impl<'a> SharedDesk<'a> {
 impl<'a> Desk for SharedDesk<'a> {
     ghost use Rattle.std.specs.Prelude.{◌+◌, ◌-◌, ◌^◌, false, length, min, reverse};
     ghost use Rattle.std.proofs.Common.{ap, sym, ◌∙◌};
-    ghost use Rattle.std.proofs.lemmas.Bool.{false≢true};
-    ghost use Rattle.std.proofs.lemmas.List.{length-reverse};
-    ghost use Rattle.std.proofs.Math.Nat.{sub-add_cancel};
+    ghost use Rattle.std.proofs.{lemmas.Bool.false≢true, lemmas.List.length-reverse, Math.Nat.sub-add_cancel};
     ghost use Rattle.pas_steps.specs.Events.{events_of};
     ghost use Rattle.pas_region.specs.Noted.{events_noted, room_of_notes, count_of_notes};
     ghost use Rattle.pas_shared.specs.Passes.{standing_of, seat_of};

@@ -2,9 +2,7 @@
 //! leave it look first: where it is otherwise, the load adds nothing, and then comes the exchange that is the step.
 ghost use Rattle.std.specs.Prelude.{◌≡◌, []};
 ghost use Rattle.pas_profile.specs.Layouts.{index_of, words_of};
-ghost use Rattle.pas_steps.specs.Effects.{target};
-ghost use Rattle.pas_steps.specs.Ranges.{IsRanged};
-ghost use Rattle.pas_steps.specs.Views.{epoch_of};
+ghost use Rattle.pas_steps.specs.{Effects.target, Ranges.IsRanged, Views.epoch_of};
 ghost use Rattle.pas_shared.specs.Ruled.{changed, IsAdded, IsAskedOf, Makes, SitsFor};
 
 use crate::rule::{AddsIfKept, AddsStep, Chosen, TableSeat, TableWords};

@@ -28,11 +28,9 @@ pub struct Rest {
 
 impl Ledger {
     ghost use Rattle.std.specs.Prelude.{List, ◌∷◌};
-    ghost use Rattle.pas_shared.specs.Ruled.{HasAllOf, IsEarlier, AreEarlier};
-    ghost use Rattle.pas_shared.specs.Passes.{IsPassOf};
+    ghost use Rattle.pas_shared.specs.{Ruled.HasAllOf, Ruled.IsEarlier, Ruled.AreEarlier, Passes.IsPassOf};
     ghost use Rattle.pas_shared.specs.Ledgers.{so_far, looks_of, actors_in, part_of, IsLedgerOf, IsSameLedger, IsRestOf};
-    ghost use Rattle.pas_shared.specs.declared.rule.Part.{Part};
-    ghost use Rattle.pas_shared.specs.declared.pass.SharedPass.{SharedPass as ThePass};
+    ghost use Rattle.pas_shared.specs.declared.{rule.Part.Part, pass.SharedPass.SharedPass as ThePass};
 
     /// A ledger of the region in which no step stands. One load.
     pub fn open(region: &SharedRegion) -> Ledger

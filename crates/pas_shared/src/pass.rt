@@ -34,10 +34,7 @@ pub struct SharedPass {
 }
 
 impl ActorSeat {
-    ghost use Rattle.pas_steps.specs.Ranges.{IsRanged};
-    ghost use Rattle.pas_steps.specs.Views.{epoch_of};
-    ghost use Rattle.pas_steps.specs.Desks.{made};
-    ghost use Rattle.pas_steps.specs.Agreement.{Agrees};
+    ghost use Rattle.pas_steps.specs.{Ranges.IsRanged, Views.epoch_of, Desks.made, Agreement.Agrees};
     ghost use Rattle.pas_shared.specs.Ruled.{IsAskedOf};
 
     /// Makes a step at the region, for an actor that knows this epoch.
@@ -64,10 +61,7 @@ impl ActorSeat {
 }
 
 impl SharedPass {
-    ghost use Rattle.pas_steps.specs.Allowed.{IsStepOf, Allowed};
-    ghost use Rattle.pas_steps.specs.Agreement.{Agrees};
-    ghost use Rattle.pas_steps.specs.Events.{wants};
-    ghost use Rattle.pas_steps.specs.Desks.{made};
+    ghost use Rattle.pas_steps.specs.{Allowed.IsStepOf, Allowed.Allowed, Agreement.Agrees, Events.wants, Desks.made};
     ghost use Rattle.pas_shared.specs.Passes.{IsPassOf, seat_of, view_of};
 
     /// The actor.

@@ -17,8 +17,7 @@ pub struct Past {
 }
 
 impl Past {
-    ghost use Rattle.pas_shared.specs.Ruled.{IsEarlier};
-    ghost use Rattle.pas_shared.specs.Pasts.{told, IsPastOf};
+    ghost use Rattle.pas_shared.specs.{Ruled.IsEarlier, Pasts.told, Pasts.IsPastOf};
 
     /// A past in which no step stands. One load.
     pub fn nothing(region: &SharedRegion) -> Past
@@ -50,9 +49,7 @@ impl Past {
 }
 
 impl ActorSeat {
-    ghost use Rattle.pas_shared.specs.Ruled.{view_in, IsEarlier};
-    ghost use Rattle.pas_shared.specs.Ledgers.{so_far, IsLedgerOf};
-    ghost use Rattle.pas_shared.specs.Pasts.{HasOwn};
+    ghost use Rattle.pas_shared.specs.{Ruled.view_in, Ruled.IsEarlier, Ledgers.so_far, Ledgers.IsLedgerOf, Pasts.HasOwn};
 
     /// Writes all steps so far into the ledger, and with them those of the actor. Five loads.
     fn look(&mut self, region: &SharedRegion, ledger: &mut Ledger)
@@ -75,9 +72,7 @@ impl ActorSeat {
 }
 
 impl SharedPass {
-    ghost use Rattle.pas_shared.specs.Ruled.{IsEarlier};
-    ghost use Rattle.pas_shared.specs.Passes.{IsPassOf, seat_of, view_of};
-    ghost use Rattle.pas_shared.specs.Pasts.{told, IsPastOf, HasOwn};
+    ghost use Rattle.pas_shared.specs.{Ruled.IsEarlier, Passes.IsPassOf, Passes.seat_of, Passes.view_of, Pasts.told, Pasts.IsPastOf, Pasts.HasOwn};
 
     /// A past that has all steps which the actor made so far. Six loads.
     pub fn past(&mut self, region: &SharedRegion) -> Past
@@ -107,9 +102,7 @@ impl SharedPass {
 }
 
 impl<'a> SharedDesk<'a> {
-    ghost use Rattle.pas_shared.specs.Ruled.{IsEarlier};
-    ghost use Rattle.pas_shared.specs.Passes.{seat_of, view_of};
-    ghost use Rattle.pas_shared.specs.Pasts.{told, IsPastOf, HasOwn};
+    ghost use Rattle.pas_shared.specs.{Ruled.IsEarlier, Passes.seat_of, Passes.view_of, Pasts.told, Pasts.IsPastOf, Pasts.HasOwn};
 
     /// As `SharedPass::past`.
     pub fn past(&mut self) -> Past

@@ -1,7 +1,6 @@
 //! The region that the actors share.
 ghost use Rattle.std.specs.Prelude.{◌≡◌, [], vec_len};
-ghost use Rattle.pas_profile.specs.Layouts.{words_of};
-ghost use Rattle.pas_profile.specs.Profiles.{IsValid};
+ghost use Rattle.pas_profile.specs.{Layouts.words_of, Profiles.IsValid};
 ghost use Rattle.pas_shared.specs.declared.rule.Roster.TheVariants.{Unused};
 
 use crate::rule::{OneList, Roster, TableSeat};

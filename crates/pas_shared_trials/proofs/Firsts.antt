@@ -2,25 +2,14 @@
 use Rattle.std.proofs.Common.{◌≡◌, ℕ, ◌+◌, ◌-◌, List, [], ◌∷◌, All, length, reverse, inr, refl, ap, sym, ◌∙◌, subst, arith}
 use Rattle.std.proofs.lemmas.List.Elements.{All-cons, All-nil}
 use Rattle.pas_profile.specs.Rooms.{size_of_room, EventRoom}
-use Rattle.pas_profile.specs.Profiles.{IsDirectoryOf}
 use Rattle.pas_profile.specs.declared.directory.Directory.{Directory}
-use Rattle.pas_profile.proofs.Sizes.{count_ge}
-use Rattle.pas_steps.specs.Events.{events_of}
-use Rattle.pas_steps.specs.Views.{View}
-use Rattle.pas_steps.specs.Clear.{HasNothing}
-use Rattle.pas_steps.specs.Desks.{CanCall}
+use Rattle.pas_steps.specs.{Events.events_of, Views.View, Clear.HasNothing, Desks.CanCall}
 use Rattle.pas_search.specs.Searches.{MaySearch, SearchRoom}
-use Rattle.pas_segregated.specs.Stops.{class_directory}
 use Rattle.pas_region.specs.Noted.{events_noted, room_of_notes}
 use Rattle.pas_shared.specs.Passes.{view_of, seat_of, standing_of, AreFresh}
-use Rattle.pas_shared.specs.declared.region.SharedRegion.{SharedRegion}
-use Rattle.pas_shared.specs.declared.pass.SharedPass.{SharedPass}
-use Rattle.pas_shared.specs.declared.desk.SharedDesk.{SharedDesk}
+use Rattle.pas_shared.specs.declared.{region.SharedRegion.SharedRegion, pass.SharedPass.SharedPass, desk.SharedDesk.SharedDesk}
 use Rattle.pas_shared_trials.specs.Races.{IsFreshPass}
 use Rattle.pas_shared.proofs.Pops.{first_is, others_are}
-
-pub of_profile : (pass : SharedPass) → IsDirectoryOf (seat_of pass).profile (class_directory 0 0)
-of_profile pass = record { heap = pass.valid.some_heap; kind = omega arith; class = (let f = (seat_of pass).profile in let many = count_ge f.pages f.classes pass.valid.classes in omega (arith, many)) }
 
 may_search : (d : Directory) (v : View) → v ≡ [] → MaySearch d v
 may_search d v is = subst (λ (w : View). MaySearch d w) (sym is) record { rights = λ p of. refl; clear = record { on = λ p. record { stamped = refl; owes = record { checks = λ w lt. refl; hint = refl }; examined = refl } } }

@@ -1,55 +1,31 @@
 -- A block that one actor hands another: what each of the two did, and how their steps stand in the one list.
-use Rattle.std.proofs.Common.{◌≡◌, ◌≢◌, ℕ, zero, suc, ◌-◌, ◌/◌, ◌<◌, max, Bool, true, false, if◌then◌else◌, List, [], ◌∷◌, ◌++◌, length, map, reverse, Option, Some, None, Ok, inr, ⊎_elim, refl, sym, ap, ◌∙◌, subst, arith}
-use Rattle.std.specs.Prelude.{nat_lt}
+use Rattle.std.proofs.Common.{◌≡◌, ◌≢◌, ℕ, zero, suc, ◌-◌, ◌/◌, ◌<◌, max, Bool, true, false, if◌then◌else◌, List, [], ◌∷◌, ◌++◌, length, map, reverse, Option}
+use Rattle.std.proofs.Common.{Some, None, Ok, inr, ⊎_elim, refl, sym, ap, ◌∙◌, subst, arith, nat_lt, eq-eqb, append-nil, append_assoc}
 use Rattle.std.specs.List.{AllByRecursion}
-use Rattle.std.proofs.lemmas.Bool.{cases_eq, eq-eqb}
-use Rattle.std.proofs.lemmas.List.{append-nil, append_assoc, append_cancel_right, reverse-reverse}
+use Rattle.std.proofs.lemmas.{Bool.cases_eq, List.append_cancel_right, List.reverse-reverse}
 use Rattle.pas_bits.proofs.Runs.{first_of_run}
-use Rattle.pas_profile.specs.Blocks.{address_of, grain_of, length_of}
-use Rattle.pas_profile.specs.Lives.{turn_of}
-use Rattle.pas_profile.specs.Profiles.{IsPage, IsValid}
-use Rattle.pas_profile.specs.Requests.{route_in}
-use Rattle.pas_profile.specs.Routes.{room_by, IsRouteOf}
-use Rattle.pas_profile.specs.declared.directory.Directory.{Directory}
-use Rattle.pas_profile.specs.declared.directory.Route.{Route}
-use Rattle.pas_profile.specs.declared.event.Event.{Event}
-use Rattle.pas_profile.specs.declared.event.Why.{Why}
-use Rattle.pas_profile.specs.declared.name.Block.{Block}
-use Rattle.pas_profile.specs.declared.name.Name.{Name}
-use Rattle.pas_profile.specs.declared.profile.Profile.{Profile}
+use Rattle.pas_profile.specs.{Blocks.address_of, Blocks.grain_of, Blocks.length_of, Lives.turn_of, Profiles.IsPage, Profiles.IsValid, Requests.route_in}
+use Rattle.pas_profile.specs.{Routes.room_by, Routes.IsRouteOf}
+use Rattle.pas_profile.specs.declared.{directory.Directory.Directory, directory.Route.Route, event.Event.Event, event.Why.Why, name.Block.Block, name.Name.Name}
+use Rattle.pas_profile.specs.declared.{profile.Profile.Profile}
 use Rattle.pas_profile.proofs.ClassFacts.{route_is, class_known, class_size_whole}
 use Rattle.pas_region.specs.Noted.{events_noted, room_of_notes}
-use Rattle.pas_machine.specs.Machine.{Run, IsLive, IsReason}
-use Rattle.pas_machine.specs.State.{live_in, ends_in}
-use Rattle.pas_steps.specs.Clear.{HasNothing}
+use Rattle.pas_machine.specs.{Machine.Run, Machine.IsLive, Machine.IsReason, State.live_in, State.ends_in}
+use Rattle.pas_steps.specs.{Clear.HasNothing, Views.View, Views.epoch_of}
 use Rattle.pas_steps.specs.Desks.{Seat, CanCall, triple, triples}
 use Rattle.pas_steps.specs.Events.{event_of, events_of, events_by, with_event}
 use Rattle.pas_steps.specs.Lists.{Triple, Whole, Legal, part, visible}
-use Rattle.pas_steps.specs.Views.{View, epoch_of}
-use Rattle.pas_steps.specs.declared.state.State.{State}
-use Rattle.pas_steps.specs.declared.step.Made.{Made}
+use Rattle.pas_steps.specs.declared.{state.State.State, step.Made.Made}
 use Rattle.pas_steps.proofs.Parts.{part_of_own, part_of_others}
 use Rattle.pas_core.proofs.MachineRuns.{runs}
-use Rattle.pas_free_log.specs.Conditions.{IsEntryOf}
+use Rattle.pas_free_log.specs.{Conditions.IsEntryOf, Logs.entry_of}
 use Rattle.pas_free_log.specs.Flushes.{Settled, Flushes, event_for, shown_for}
-use Rattle.pas_free_log.specs.Logs.{entry_of}
-use Rattle.pas_free_log.specs.declared.ending.Outcome.{Outcome}
-use Rattle.pas_free_log.specs.declared.ending.Outcome.TheVariants.{Ended, Refused}
-use Rattle.pas_free_log.specs.declared.log.Entry.{Entry}
-use Rattle.pas_free_log.specs.declared.noting.EndedRun.{EndedRun}
-use Rattle.pas_cache.specs.Caches.{Cached, AtRest}
-use Rattle.pas_cache.specs.Calls.{MayAllocate, Allocates}
-use Rattle.pas_cache.specs.Serves.{IsPreparing, wanted_for}
-use Rattle.pas_shared.specs.Ruled.{IsEarlier}
-use Rattle.pas_shared.specs.Passes.{view_of, seat_of, standing_of}
-use Rattle.pas_shared.specs.Pasts.{told, IsPastOf, HasOwn}
-use Rattle.pas_shared.specs.declared.desk.SharedDesk.{SharedDesk}
-use Rattle.pas_shared.specs.declared.past.Past.{Past}
-use Rattle.pas_shared.specs.declared.pass.SharedPass.{SharedPass}
-use Rattle.pas_shared.specs.declared.region.SharedRegion.{SharedRegion}
-use Rattle.pas_shared.specs.Ledgers.{EndsAfter}
-use Rattle.pas_shared.proofs.Pops.{first_is, others_are}
-use Rattle.pas_shared.proofs.Pasts.{part_both}
+use Rattle.pas_free_log.specs.declared.{ending.Outcome.Outcome, ending.Outcome.TheVariants.Ended, ending.Outcome.TheVariants.Refused, log.Entry.Entry}
+use Rattle.pas_free_log.specs.declared.{noting.EndedRun.EndedRun}
+use Rattle.pas_cache.specs.{Caches.Cached, Caches.AtRest, Calls.MayAllocate, Calls.Allocates, Serves.IsPreparing, Serves.wanted_for}
+use Rattle.pas_shared.specs.{Ruled.IsEarlier, Passes.view_of, Passes.seat_of, Passes.standing_of, Pasts.told, Pasts.IsPastOf, Pasts.HasOwn, Ledgers.EndsAfter}
+use Rattle.pas_shared.specs.declared.{desk.SharedDesk.SharedDesk, past.Past.Past, pass.SharedPass.SharedPass, region.SharedRegion.SharedRegion}
+use Rattle.pas_shared.proofs.{Pops.first_is, Pops.others_are, Pasts.part_both}
 use Rattle.pas_shared_trials.specs.Handing.{IsFirst, IsOfActor, IsGiftOf, HasFreed, IsHandedOver}
 use Rattle.pas_shared_trials.specs.declared.handing.Gift.{Gift}
 use Rattle.pas_shared_trials.proofs.Firsts.{no_events, nothing}
@@ -74,7 +50,7 @@ can_ask desk c none room rest =
     }
 
 some_grains : (classes size align : ℕ) (route : Route) → IsRouteOf classes size align route → 0 < room_by route (max size 1) / 16
-some_grains classes size align (Route.Class class) is = let enough = is.suits.room in let whole = class_size_whole class (class_known classes size align class is) in omega (arith, enough, whole)
+some_grains classes size align (Route.Class class) is = let whole = class_size_whole class (class_known classes size align class is) in omega (arith, is.suits.room, whole)
 some_grains classes size align Route.Bitfit is = omega arith
 some_grains classes size align Route.Large is = omega arith
 
@@ -168,7 +144,7 @@ lone k (t ∷ l) none = ⊎_elim
 -- ---- no one else made a step
 nobody : (f : Profile) (l : Whole) (j : ℕ) → Legal f l → f.threads < j → part j l ≡ []
 nobody f [] j legal beyond = refl
-nobody f (t ∷ l) j legal beyond = let low = legal.0.actor in other_part t l j (λ same. omega (arith, low, beyond, same)) ∙ nobody f l j legal.1 beyond
+nobody f (t ∷ l) j legal beyond = other_part t l j (λ same. omega (arith, legal.0.actor, beyond, same)) ∙ nobody f l j legal.1 beyond
 
 left_none : (v w : View) → v ++ w ≡ [] → v ≡ []
 left_none [] w none = refl
@@ -229,7 +205,7 @@ is_end f block d before epoch (Refused read) prepared run =
 
 -- ==== The session.
 
-pub handed_over : (f : Profile) (l first second : Whole) (v w : View) (block : Block) (name : Name) (d : Directory) (before : List Event) (epoch : ℕ) (outcome : Outcome)
+handed_over : (f : Profile) (l first second : Whole) (v w : View) (block : Block) (name : Name) (d : Directory) (before : List Event) (epoch : ℕ) (outcome : Outcome)
     → IsValid f → Legal f l → f.threads ≡ 2 → IsEarlier first second → IsEarlier second l → HasOwn 1 v first → HasOwn 2 [] second
     → part 0 l ≡ [] → part 1 l ≡ v → part 2 l ≡ w
     → block.name ≡ name → events_of 1 v ≡ Event.Give 1 block ∷ before → AllByRecursion (IsPreparing d) before → events_of 2 w ≡ event_for 2 epoch (entry_of name) outcome ∷ []

@@ -3,8 +3,7 @@ use Rattle.std.proofs.Common.{ℕ, List, ap, sym, ◌∙◌, subst}
 use Rattle.pas_steps.specs.Desks.{Seat, Standing, CanCall}
 use Rattle.pas_steps.specs.declared.step.Made.{Made}
 use Rattle.pas_steps.proofs.Called.{next_call}
-use Rattle.pas_cache.specs.Caches.{Cached, AtRest}
-use Rattle.pas_cache.specs.Calls.{Rests}
+use Rattle.pas_cache.specs.{Caches.Cached, Caches.AtRest, Calls.Rests}
 use Rattle.pas_shared_trials.specs.Storms.{IsWorking}
 
 pub works_on : {σ σ' : Standing} {c c' : Cached} {steps : List Made} (room : ℕ) → IsWorking σ c room → Rests c c' σ σ' steps → IsWorking σ' c' room

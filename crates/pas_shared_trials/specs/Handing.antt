@@ -1,24 +1,15 @@
 -- A block that one actor hands another with its past, and what comes of it.
 use Rattle.std.specs.Prelude.{◌≡◌, ℕ, List, [], ◌∷◌, Some}
 use Rattle.std.specs.List.{AllByRecursion}
-use Rattle.pas_profile.specs.declared.directory.Directory.{Directory}
-use Rattle.pas_profile.specs.declared.event.Event.{Event}
-use Rattle.pas_profile.specs.declared.name.Block.{Block}
+use Rattle.pas_profile.specs.declared.{directory.Directory.Directory, event.Event.Event, name.Block.Block}
 use Rattle.pas_steps.specs.Events.{events_of}
-use Rattle.pas_free_log.specs.Conditions.{IsEntryOf}
-use Rattle.pas_free_log.specs.Flushes.{event_for}
-use Rattle.pas_free_log.specs.Logs.{entry_of}
+use Rattle.pas_free_log.specs.{Conditions.IsEntryOf, Flushes.event_for, Logs.entry_of}
 use Rattle.pas_free_log.specs.declared.ending.Outcome.{Outcome}
 use Rattle.pas_cache.specs.Serves.{IsPreparing}
-use Rattle.pas_shared.specs.Ruled.{IsEarlier}
-use Rattle.pas_shared.specs.Passes.{IsPassOf, view_of, seat_of}
-use Rattle.pas_shared.specs.Pasts.{told, IsPastOf, HasOwn}
-use Rattle.pas_shared.specs.declared.past.Past.{Past}
-use Rattle.pas_shared.specs.declared.pass.SharedPass.{SharedPass}
-use Rattle.pas_shared.specs.declared.region.SharedRegion.{SharedRegion}
+use Rattle.pas_shared.specs.{Ruled.IsEarlier, Passes.IsPassOf, Passes.view_of, Passes.seat_of, Pasts.told, Pasts.IsPastOf, Pasts.HasOwn}
+use Rattle.pas_shared.specs.declared.{past.Past.Past, pass.SharedPass.SharedPass, region.SharedRegion.SharedRegion}
 use Rattle.pas_shared_trials.specs.Races.{IsFreshPass}
-use Rattle.pas_shared_trials.specs.declared.handing.Gift.{Gift}
-use Rattle.pas_shared_trials.specs.declared.handing.Handed.{Handed}
+use Rattle.pas_shared_trials.specs.declared.handing.{Gift.Gift, Handed.Handed}
 
 -- the pass of this actor, which made no step, with room for so many events
 pub record IsFirst (region : SharedRegion) (k events : ℕ) (pass : SharedPass) : Type 0 where

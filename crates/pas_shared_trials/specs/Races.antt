@@ -1,8 +1,7 @@
 -- What a worker has before and after a race.
 use Rattle.std.specs.Prelude.{◌≡◌, ℕ, [], IsSome, IfSome}
 use Rattle.pas_shared.specs.Passes.{IsPassOf, view_of, seat_of}
-use Rattle.pas_shared.specs.declared.region.SharedRegion.{SharedRegion}
-use Rattle.pas_shared.specs.declared.pass.SharedPass.{SharedPass}
+use Rattle.pas_shared.specs.declared.{region.SharedRegion.SharedRegion, pass.SharedPass.SharedPass}
 use Rattle.pas_shared_trials.specs.declared.racing.Worker.{Worker}
 
 -- the pass is one of the region, its actor made no step, and its room is for so many events

@@ -1,9 +1,7 @@
 -- What holds of a thread's desk and cache between the turns of a storm.
 use Rattle.std.specs.Prelude.{◌≡◌, ℕ, IsSome, IfSome}
 use Rattle.pas_profile.specs.declared.profile.Profile.{Profile}
-use Rattle.pas_steps.specs.Views.{View}
-use Rattle.pas_steps.specs.Clear.{HasNothing}
-use Rattle.pas_steps.specs.Desks.{Standing, CanCall}
+use Rattle.pas_steps.specs.{Views.View, Clear.HasNothing, Desks.Standing, Desks.CanCall}
 use Rattle.pas_cache.specs.Caches.{Cached, cached, AtRest}
 use Rattle.pas_shared.specs.Passes.{IsPassOf}
 use Rattle.pas_shared.specs.declared.region.SharedRegion.{SharedRegion}

@@ -2,8 +2,7 @@
 ghost use Rattle.std.specs.Prelude.{◌≡◌, ◌≤◌, All, IfOk};
 ghost use Rattle.pas_utility.specs.Pools.{threads_of};
 ghost use Rattle.pas_shared.specs.Passes.{IsPassOf};
-ghost use Rattle.pas_shared_trials.specs.Races.{IsFreshPass};
-ghost use Rattle.pas_shared_trials.specs.Storms.{IsReadyForStorm, HasPass};
+ghost use Rattle.pas_shared_trials.specs.{Races.IsFreshPass, Storms.IsReadyForStorm, Storms.HasPass};
 
 use crate::storming::Storm;
 use pas_cache::ThreadCache;

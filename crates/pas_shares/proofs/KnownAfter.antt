@@ -1,18 +1,11 @@
 -- The names that were asked for stand for something after the acts too.
 use Rattle.std.proofs.Common.{◌≡◌, ℕ, Option, Some, None, List, [], ◌∷◌, refl, sym, subst}
-use Rattle.pas_profile.specs.declared.profile.Profile.{Profile}
+use Rattle.pas_profile.specs.declared.{profile.Profile.Profile, name.Block.Block}
 use Rattle.pas_steps.specs.Lists.{part}
-use Rattle.pas_trace.specs.Acts.{Act, Operates, Guards}
-use Rattle.pas_answers.specs.Answers.{Progress}
-use Rattle.pas_answers.specs.Calls.{AreKnown}
-use Rattle.pas_answers.proofs.KnownNames.{known_after, known_named}
-use Rattle.pas_answers.proofs.Reached.{put_on}
-use Rattle.pas_profile.specs.declared.name.Block.{Block}
-use Rattle.pas_trace.specs.Asked.{request_in}
-use Rattle.pas_trace.specs.EveryPlan.{asked_with, asked_after}
-use Rattle.pas_trace.specs.declared.item.Request.{Request}
-use Rattle.pas_trace.specs.declared.plan.Op.{Op}
-use Rattle.pas_answers.specs.Guarding.{after_trying}
+use Rattle.pas_trace.specs.{Acts.Act, Acts.Operates, Acts.Guards, Asked.request_in, EveryPlan.asked_with, EveryPlan.asked_after}
+use Rattle.pas_answers.specs.{Answers.Progress, Calls.AreKnown, Guarding.after_trying}
+use Rattle.pas_answers.proofs.{KnownNames.known_after, KnownNames.known_named, Reached.put_on}
+use Rattle.pas_trace.specs.declared.{item.Request.Request, plan.Op.Op}
 use Rattle.pas_answers.specs.Reaching.{AnswersOp, AnswersTried, AnswersGuarded, Advances}
 use Rattle.pas_shares.specs.Shares.{asked_after_act, AreKnownAfter}
 

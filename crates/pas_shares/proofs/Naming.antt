@@ -1,8 +1,8 @@
 -- An answer by what a worker knows of names is one by what all know.
 use Rattle.std.proofs.Common.{◌≡◌, ◌≢◌, ℕ, ◌==◌, ◌||◌, Bool, true, false, if◌then◌else◌, inl, inr, List, ◌∷◌, Option, Some, None, refl, ap, sym, ◌∙◌, subst}
-use Rattle.std.proofs.lemmas.Bool.{ne_eqb, cases_eq}
-use Rattle.pas_profile.specs.declared.profile.Profile.{Profile}
-use Rattle.pas_profile.specs.declared.name.Block.{Block}
+use Rattle.std.proofs.Common.{ne_eqb}
+use Rattle.std.proofs.lemmas.Bool.{cases_eq}
+use Rattle.pas_profile.specs.declared.{profile.Profile.Profile, name.Block.Block}
 use Rattle.pas_steps.specs.Views.{View}
 use Rattle.pas_steps.specs.declared.step.Made.{Made}
 use Rattle.pas_trace.specs.EveryPlan.{is_asked, asked_after}
@@ -11,9 +11,8 @@ use Rattle.pas_trace.specs.declared.plan.What.TheVariants.{Alloc, Guarded, Free,
 use Rattle.pas_report.specs.declared.record.Said.{Said}
 use Rattle.pas_cache.specs.Caches.{Cached}
 use Rattle.pas_answers.specs.Answers.{Named, named, block_of, standing_for, having, Answer, answer_of, IsFreedBy, IsRemadeBy, IsAnswered}
-use Rattle.pas_answers.specs.Fit.{IsFitWhat}
+use Rattle.pas_answers.specs.{Fit.IsFitWhat, Calls.OnlyAsked}
 use Rattle.pas_shares.specs.Shares.{AreAmong, IsRequestOf}
-use Rattle.pas_answers.specs.Calls.{OnlyAsked}
 
 none_some : {b : Option Block} {A : Type 0} → None ≡ Some b → A
 none_some bad = absurd (cc)

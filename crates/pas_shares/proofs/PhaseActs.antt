@@ -1,16 +1,15 @@
 -- The acts of a phase are shared among its workers.
-use Rattle.std.proofs.Common.{◌≡◌, ℕ, zero, suc, ◌+◌, ◌-◌, ◌≤◌, ◌==◌, ◌||◌, not, Option, None, Some, Bool, true, false, if◌then◌else◌, inl, inr, List, [], ◌∷◌, ◌++◌, map, refl, ap, sym, ◌∙◌, arith}
-use Rattle.std.specs.Prelude.{MatchOption}
+use Rattle.std.proofs.Common.{◌≡◌, ℕ, zero, suc, ◌+◌, ◌-◌, ◌≤◌, ◌==◌, ◌||◌, not, Option, None, Some, Bool, true, false, if◌then◌else◌, inl, inr, List, [], ◌∷◌}
+use Rattle.std.proofs.Common.{◌++◌, map, refl, ap, sym, ◌∙◌, arith, MatchOption, eq-eqb, ne_eqb, le-leb}
 use Rattle.std.specs.List.{AllByRecursion, filter}
-use Rattle.std.proofs.lemmas.Bool.{eq-eqb, ne_eqb, le-leb, lt-leb, false≢true, cases_eq, or_left, or_right, or_parts}
+use Rattle.std.proofs.lemmas.Bool.{lt-leb, false≢true, cases_eq, or_left, or_right, or_parts}
 use Rattle.pas_profile.specs.declared.profile.Profile.{Profile}
 use Rattle.pas_profile.proofs.Lists.{all_both}
 use Rattle.pas_trace.specs.Asked.{work_of, of_task, keeper_of, keeper_in}
 use Rattle.pas_trace.specs.EveryPlan.{AreSound, IsActorBy, asked_after}
-use Rattle.pas_trace.specs.declared.plan.Chore.{Chore}
-use Rattle.pas_trace.specs.declared.plan.Work.{Work}
-use Rattle.pas_trace.specs.declared.plan.Op.{Op}
-use Rattle.pas_trace.specs.Acts.{Act, Settles, Ticks, MakesPass, ReadsEpoch, StopsIdle, is_active, numbers_from, idle_threads, acts_of_chore, acts_of_work, acts_of_op, acts_of_ops, own_acts, scavenger_acts, act_kept}
+use Rattle.pas_trace.specs.declared.plan.{Chore.Chore, Work.Work, Op.Op}
+use Rattle.pas_trace.specs.Acts.{Act, Settles, Ticks, MakesPass, ReadsEpoch, StopsIdle, is_active, numbers_from, idle_threads, acts_of_chore, acts_of_work}
+use Rattle.pas_trace.specs.Acts.{acts_of_op, acts_of_ops, own_acts, scavenger_acts, act_kept}
 use Rattle.pas_shares.specs.Shares.{Owners, actor_of_act, IsInHand, AreInHand, acts_by, thread_in, owner_in, AreKeptBehind, ActsAreShared}
 
 -- ---- who owns whom
@@ -76,16 +75,10 @@ all_any [] = tt
 all_any (x ∷ xs) = (tt, all_any xs)
 
 -- so are those of a chore, where those of the scavenger are, and the stops of the idle threads
-pub all_of_chore : (P : Act → Type 0) (Q : ℕ → Type 0) (idle : List ℕ) (chore : Chore) → ((epoch : ℕ) → P (Ticks epoch)) → P MakesPass → P ReadsEpoch → ((k n : ℕ) → Q k → P (StopsIdle k n)) → AllByRecursion Q idle → AllByRecursion P (acts_of_chore idle chore)
+all_of_chore : (P : Act → Type 0) (Q : ℕ → Type 0) (idle : List ℕ) (chore : Chore) → ((epoch : ℕ) → P (Ticks epoch)) → P MakesPass → P ReadsEpoch → ((k n : ℕ) → Q k → P (StopsIdle k n)) → AllByRecursion Q idle → AllByRecursion P (acts_of_chore idle chore)
 all_of_chore P Q idle (Chore.Tick epoch) ticks pass reads stops all = (ticks epoch, tt)
 all_of_chore P Q idle Chore.Pass ticks pass reads stops all = (pass, tt)
 all_of_chore P Q idle (Chore.Idle n) ticks pass reads stops all = (reads, all_of P Q (λ k. StopsIdle k n) idle (λ k is. stops k n is) all)
-
--- .. and those of operations, where those of each are
-module _ (f : Profile) (P : Act → Type 0) (idle : List ℕ) (each : (op : Op) → IsActorBy f (work_of op.what) op.actor → AllByRecursion P (acts_of_op idle op)) where
-  pub all_of_ops : (asked : List ℕ) (ops : List Op) → AreSound f asked ops → AllByRecursion P (acts_of_ops idle ops)
-  all_of_ops asked [] sound = tt
-  all_of_ops asked (op ∷ ops) sound = all_both P (acts_of_op idle op) (acts_of_ops idle ops) (each op sound.0) (all_of_ops (asked_after op.what asked) ops sound.2)
 
 -- .. by what is so of each operation besides
 module _ (f : Profile) (P : Act → Type 0) (Q : Op → Type 0) (idle : List ℕ) (each : (op : Op) → IsActorBy f (work_of op.what) op.actor → Q op → AllByRecursion P (acts_of_op idle op)) where

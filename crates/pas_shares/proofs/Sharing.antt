@@ -1,9 +1,7 @@
 -- What a piece does to the share of its own worker, and to those of the others.
-use Rattle.std.proofs.Common.{◌≡◌, ◌≢◌, ℕ, ◌==◌, Bool, if◌then◌else◌, inl, inr, List, [], ◌++◌, ap, sym, ◌∙◌, subst}
-use Rattle.std.proofs.lemmas.List.{append-nil}
-use Rattle.std.proofs.lemmas.Bool.{ne_eqb, cases_eq}
-use Rattle.pas_steps.specs.Lists.{Whole, part}
-use Rattle.pas_steps.specs.Desks.{triples}
+use Rattle.std.proofs.Common.{◌≡◌, ◌≢◌, ℕ, ◌==◌, Bool, if◌then◌else◌, inl, inr, List, [], ◌++◌, ap, sym, ◌∙◌, subst, append-nil, ne_eqb}
+use Rattle.std.proofs.lemmas.Bool.{cases_eq}
+use Rattle.pas_steps.specs.{Lists.Whole, Lists.part, Desks.triples}
 use Rattle.pas_steps.specs.declared.step.Made.{Made}
 use Rattle.pas_steps.proofs.Parts.{part_of_own, part_of_others}
 use Rattle.pas_report.specs.declared.record.Record.{Record}
@@ -15,7 +13,7 @@ use Rattle.pas_answers.proofs.OwnRecords.{records_both, none_by}
 use Rattle.pas_shares.specs.Shares.{Owners, AreAmong, IsShareOf}
 
 -- ---- parts
-pub same_part : (j k : ℕ) (steps : List Made) (l m : Whole) → part j l ≡ part j m → part j (triples k steps ++ l) ≡ part j (triples k steps ++ m)
+same_part : (j k : ℕ) (steps : List Made) (l m : Whole) → part j l ≡ part j m → part j (triples k steps ++ l) ≡ part j (triples k steps ++ m)
 same_part j k steps l m same = elim (cases_eq k j) [
   | inl is ↦ subst (λ (i : ℕ). part i (triples k steps ++ l) ≡ part i (triples k steps ++ m)) is (part_of_own k steps l ∙ ap (λ v. steps ++ v) (subst (λ (i : ℕ). part i l ≡ part i m) (sym is) same) ∙ sym (part_of_own k steps m))
   | inr other ↦ part_of_others j k steps l other ∙ same ∙ sym (part_of_others j k steps m other)

@@ -1,38 +1,29 @@
 -- What workers did, each for itself, is put into the order of the acts.
-use Rattle.std.proofs.Common.{◌≡◌, ◌≢◌, ℕ, ◌+◌, ◌==◌, ◌≤◌, Bool, true, false, Option, None, Some, if◌then◌else◌, inl, inr, List, [], ◌∷◌, ◌++◌, append_assoc, max, refl, ap, sym, ◌∙◌, subst}
-use Rattle.std.specs.Prelude.{IsSomeAnd}
-use Rattle.std.proofs.lemmas.List.{append-nil}
-use Rattle.std.proofs.lemmas.Bool.{eq-eqb, ne_eqb, cases_eq}
-use Rattle.pas_profile.specs.declared.profile.Profile.{Profile}
-use Rattle.pas_steps.specs.Events.{events_by}
-use Rattle.pas_steps.specs.Views.{View}
-use Rattle.pas_steps.specs.Lists.{part}
-use Rattle.pas_steps.specs.Desks.{made}
-use Rattle.pas_steps.specs.declared.step.Made.{Made}
-use Rattle.pas_steps.specs.declared.step.Step.TheVariants as Step
-use Rattle.pas_trace.specs.declared.plan.Op.{Op}
-use Rattle.pas_report.specs.declared.record.Record.{Record}
-use Rattle.pas_report.specs.declared.record.Said.{Said}
+use Rattle.std.proofs.Common.{◌≡◌, ◌≢◌, ℕ, ◌+◌, ◌==◌, ◌≤◌, Bool, true, false, Option, None, Some, if◌then◌else◌, inl, inr, List, [], ◌∷◌, ◌++◌, append_assoc}
+use Rattle.std.proofs.Common.{max, refl, ap, sym, ◌∙◌, subst, IsSomeAnd, append-nil, eq-eqb, ne_eqb}
+use Rattle.std.proofs.lemmas.Bool.{cases_eq}
+use Rattle.pas_profile.specs.declared.{profile.Profile.Profile, name.Block.Block}
+use Rattle.pas_steps.specs.{Events.events_by, Views.View, Lists.part, Desks.made}
+use Rattle.pas_steps.specs.declared.step.{Made.Made, Step.Step}
+use Rattle.pas_trace.specs.declared.{plan.Op.Op, item.Request.Request, plan.What.What, plan.What.TheVariants.Alloc, plan.What.TheVariants.Guarded}
+use Rattle.pas_trace.specs.declared.{plan.What.TheVariants.Remake}
+use Rattle.pas_report.specs.declared.record.{Record.Record, Said.Said}
 use Rattle.pas_cache.specs.Caches.{Cached}
 use Rattle.pas_passes.specs.Records.{records_of_pass}
 use Rattle.pas_trace.specs.Acts.{Act, Operates, Guards, Settles, Ticks, MakesPass, ReadsEpoch, StopsIdle, MarksPhase, Wakes, MarksClose, Ends, Lowers}
-use Rattle.pas_answers.specs.Answers.{Named, named, having, answer_of, standing_for, IsAnswered, IsStopped, Progress, with_records, with_steps, after_answer, after_settling, after_wake, after_reading, after_tick, after_pass, after_stop, stopped, epoch_look, begun, settled, IsIdleFor, records_of, said_by}
-use Rattle.pas_answers.specs.Fit.{AreFit, IsFitWhat}
-use Rattle.pas_answers.specs.Ways.{EachOf, AreSpoken}
+use Rattle.pas_answers.specs.Answers.{Named, named, having, answer_of, standing_for, IsAnswered, IsStopped, Progress, with_records, with_steps, after_answer}
+use Rattle.pas_answers.specs.Answers.{after_settling, after_wake, after_reading, after_tick, after_pass, after_stop, stopped, epoch_look, begun, settled}
+use Rattle.pas_answers.specs.Answers.{IsIdleFor, records_of, said_by}
+use Rattle.pas_answers.specs.{Fit.AreFit, Fit.IsFitWhat, Ways.EachOf, Ways.AreSpoken, Calls.OnlyAsked}
 use Rattle.pas_answers.proofs.OwnRecords.{events_of_piece, pass_of, piece_of, spoken_piece, spoken_both, swept_each, try_each}
-use Rattle.pas_profile.specs.declared.name.Block.{Block}
-use Rattle.pas_trace.specs.Asked.{request_in}
-use Rattle.pas_trace.specs.EveryPlan.{asked_with, is_asked}
-use Rattle.pas_trace.specs.declared.item.Request.{Request}
-use Rattle.pas_trace.specs.declared.plan.What.{What}
-use Rattle.pas_trace.specs.declared.plan.What.TheVariants.{Alloc, Guarded, Remake}
+use Rattle.pas_trace.specs.{Asked.request_in, EveryPlan.asked_with, EveryPlan.is_asked}
 use Rattle.pas_guard.specs.declared.book.Guard.{Guard}
 use Rattle.pas_answers.specs.Guarding.{Tried, IsTried, after_trying, after_giving, IsLowered, after_lowering}
 use Rattle.pas_answers.specs.Reaching.{AnswersTried, AnswersGuarded, Advances, Reaches}
 use Rattle.pas_shares.specs.Shares.{Owners, actor_of_act, IsInHand, AreInHand, acts_by, Asks, IsRequestOf, asked_after_act, IsShareOf, IsWoven}
-use Rattle.pas_answers.specs.Calls.{OnlyAsked}
 use Rattle.pas_shares.proofs.Naming.{retold, names_new}
-use Rattle.pas_shares.proofs.Sharing.{by_names, by_epochs, share_list, share_cache, share_book, share_records, beside_list, beside_cache, beside_book, beside_records, elsewhere, elsewhere_both}
+use Rattle.pas_shares.proofs.Sharing.{by_names, by_epochs, share_list, share_cache, share_book, share_records, beside_list, beside_cache, beside_book}
+use Rattle.pas_shares.proofs.Sharing.{beside_records, elsewhere, elsewhere_both}
 
 -- ---- one act
 -- An act that was answered from a share on is answered from all on. Its worker has its share of what came of it, and each other worker the one that it had.

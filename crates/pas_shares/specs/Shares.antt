@@ -1,20 +1,15 @@
 -- What each worker does in a phase, apart from the others, and how the shares of all workers make up the whole phase.
 use Rattle.std.specs.Prelude.{ℕ, ◌+◌, ◌-◌, nat_le, MatchOption, ◌≤◌, ◌≡◌, ◌==◌, true, false, if◌then◌else◌, List, [], ◌∷◌, ◌++◌, Option, Some, IsSomeAnd}
 use Rattle.std.specs.List.{AllByRecursion}
-use Rattle.pas_profile.specs.declared.profile.Profile.{Profile}
-use Rattle.pas_profile.specs.declared.name.Block.{Block}
+use Rattle.pas_profile.specs.declared.{profile.Profile.Profile, name.Block.Block}
 use Rattle.pas_steps.specs.Lists.{part}
-use Rattle.pas_trace.specs.Asked.{request_in, keeper_in}
-use Rattle.pas_trace.specs.EveryPlan.{AreSound}
-use Rattle.pas_trace.specs.declared.plan.What.{What}
-use Rattle.pas_trace.specs.declared.plan.Op.{Op}
+use Rattle.pas_trace.specs.{Asked.request_in, Asked.keeper_in, EveryPlan.AreSound}
+use Rattle.pas_trace.specs.declared.plan.{What.What, Op.Op}
 use Rattle.pas_report.specs.declared.record.Record.{Record}
-use Rattle.pas_trace.specs.Acts.{Act, Guards, StopsIdle, MarksPhase, MarksClose, operation_in, stepper_of, is_active, idle_threads, acts_of_ops, own_acts, scavenger_acts}
+use Rattle.pas_trace.specs.Acts.{Act, Guards, StopsIdle, MarksPhase, MarksClose, operation_in, stepper_of, is_active, idle_threads, acts_of_ops, own_acts}
+use Rattle.pas_trace.specs.Acts.{scavenger_acts}
 pub use Rattle.pas_trace.specs.Acts.{asked_after_act, asked_after_acts}
-use Rattle.pas_answers.specs.Answers.{Named, standing_for, Progress}
-use Rattle.pas_answers.specs.Calls.{AreKnown, OnlyAsked}
-use Rattle.pas_answers.specs.Reaching.{Reaches}
-use Rattle.pas_answers.specs.Fit.{AreFit}
+use Rattle.pas_answers.specs.{Answers.Named, Answers.standing_for, Answers.Progress, Calls.AreKnown, Calls.OnlyAsked, Reaching.Reaches, Fit.AreFit}
 use Rattle.pas_answers.specs.Ways.{OnThreads, AreSpoken, records_by, by_actors, arranged}
 
 -- ---- workers

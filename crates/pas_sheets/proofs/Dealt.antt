@@ -1,8 +1,8 @@
 -- Sheets that hold the parts of a round hold the round.
-use Rattle.std.proofs.Common.{◌≡◌, ℕ, suc, ◌+◌, ◌*◌, ◌-◌, min, ◌<◌, ◌≤◌, List, [], ◌∷◌, ◌++◌, All, refl, ap, sym, ◌∙◌, subst, arith, append_assoc, length, length-take, get_or, take, drop}
-use Rattle.std.proofs.lemmas.List.{take_all, take_min, take_rest, drop_at, take_at, drop_min, drop-drop}
-use Rattle.std.proofs.lemmas.List.Elements.{All-take, All-drop}
-use Rattle.std.proofs.Math.Seq.{take-add}
+use Rattle.std.proofs.Common.{◌≡◌, ℕ, suc, ◌+◌, ◌*◌, ◌-◌, min, ◌<◌, ◌≤◌, List, [], ◌∷◌, ◌++◌, All, refl, ap, sym, ◌∙◌, subst, arith, append_assoc, length}
+use Rattle.std.proofs.Common.{length-take, get_or, take, drop, take_all, drop_at, take_at, drop-drop}
+use Rattle.std.proofs.{lemmas.List.take_min, lemmas.List.take_rest, lemmas.List.drop_min, lemmas.List.Elements.All-take, lemmas.List.Elements.All-drop}
+use Rattle.std.proofs.{Math.Seq.take-add}
 use Rattle.pas_sheets.specs.declared.sheets.Sheet.{Sheet}
 use Rattle.pas_report.specs.declared.record.Record.{Record}
 use Rattle.pas_report.specs.Lines.{CanShow, line_of, lines_of}
@@ -12,7 +12,7 @@ use Rattle.pas_sheets.specs.Texts.{part_of, texts_of}
 abbrev pub AreFilled : List Sheet → List Record → Type 0
 AreFilled sheets round = (place : ℕ) (d : Sheet) → place < length sheets → (get_or sheets place d).text.items ≡ lines_of (part_of round place)
 
-pub lines_append : (rs more : List Record) → lines_of (rs ++ more) ≡ lines_of rs ++ lines_of more
+lines_append : (rs more : List Record) → lines_of (rs ++ more) ≡ lines_of rs ++ lines_of more
 lines_append [] more = refl
 lines_append (r ∷ rs) more = ap (λ (t : List ℕ). line_of r ++ t) (lines_append rs more) ∙ sym (append_assoc (line_of r) (lines_of rs) (lines_of more))
 
@@ -21,7 +21,7 @@ next_part round place =
     let e : suc place * 2048 ≡ 2048 + place * 2048 = omega arith in
     ap (λ n. take 2048 (drop n round)) e ∙ ap (λ (rs : List Record). take 2048 rs) (sym (drop-drop (place * 2048) 2048 round))
 
-pub texts_are : (sheets : List Sheet) (round : List Record) → AreFilled sheets round → texts_of sheets ≡ lines_of (take (length sheets * 2048) round)
+texts_are : (sheets : List Sheet) (round : List Record) → AreFilled sheets round → texts_of sheets ≡ lines_of (take (length sheets * 2048) round)
 texts_are [] round filled = refl
 texts_are (sheet ∷ sheets) round filled =
     let first : sheet.text.items ≡ lines_of (take 2048 round) = filled 0 sheet (omega arith) in

@@ -2,9 +2,8 @@
 ghost use Rattle.std.specs.Prelude.{◌≡◌, ◌<◌, ◌≤◌, ◌+◌, ◌++◌, ℕ, All, length, get_or};
 ghost use Rattle.pas_report.specs.Lines.{CanShow, line_of, lines_of};
 ghost use Rattle.pas_sheets.specs.Texts.{part_of, texts_of};
-ghost use Rattle.pas_sheets.specs.declared.sheets.Sheet.{Sheet as TheSheet};
+ghost use Rattle.pas_sheets.specs.declared.sheets.{Sheet.Sheet as TheSheet, TheConstants.SHEET_BYTES};
 ghost use Rattle.pas_report.specs.declared.text.TheConstants.{LINE_BYTES};
-ghost use Rattle.pas_sheets.specs.declared.sheets.TheConstants.{SHEET_BYTES};
 
 use crate::sheets::{Batch, ROUND_RECORDS, SHEET_RECORDS, SHEETS, Sheet};
 use pas_report::{Line, Record, push_record};

@@ -1,9 +1,7 @@
 -- Steps that can be made at any time, and what a worker has before it is measured.
 use Rattle.std.specs.Prelude.{◌≡◌, ◌≤◌, IfSome}
 use Rattle.pas_profile.specs.declared.profile.Profile.{Profile}
-use Rattle.pas_steps.specs.Views.{View}
-use Rattle.pas_steps.specs.Allowed.{Allowed, IsStepOf}
-use Rattle.pas_steps.specs.Events.{wants}
+use Rattle.pas_steps.specs.{Views.View, Allowed.Allowed, Allowed.IsStepOf, Events.wants}
 use Rattle.pas_steps.specs.declared.step.Step.{Step}
 use Rattle.pas_shared.specs.declared.region.SharedRegion.{SharedRegion}
 use Rattle.pas_shared_trials.specs.Races.{IsFreshPass}

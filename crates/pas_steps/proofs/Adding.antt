@@ -1,13 +1,8 @@
 -- How the steps of a call are put together.
 use Rattle.std.proofs.Common.{◌≡◌, ℕ, ◌+◌, ◌≤◌, List, [], ◌∷◌, ◌++◌, length, refl, ap, sym, ◌∙◌, subst, arith, append_assoc}
 use Rattle.pas_profile.specs.declared.profile.Profile.{Profile}
-use Rattle.pas_steps.specs.declared.step.Made.{Made}
-use Rattle.pas_steps.specs.declared.step.Step.{Step}
-use Rattle.pas_steps.specs.Views.{View}
-use Rattle.pas_steps.specs.Events.{events_of}
-use Rattle.pas_steps.specs.Allowed.{Allowed, IsStepOf}
-use Rattle.pas_steps.specs.Agreement.{Agrees, Agreed}
-use Rattle.pas_steps.specs.Lists.{Whole, Legal}
+use Rattle.pas_steps.specs.declared.step.{Made.Made, Step.Step}
+use Rattle.pas_steps.specs.{Views.View, Events.events_of, Allowed.Allowed, Allowed.IsStepOf, Agreement.Agrees, Agreement.Agreed, Lists.Whole, Lists.Legal}
 use Rattle.pas_steps.specs.Desks.{Standing, made, triple, triples, CanMake, Makes, CanCall, Adds}
 
 -- ---- steps of one actor, put onto a whole list

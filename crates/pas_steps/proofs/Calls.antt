@@ -1,29 +1,24 @@
 -- What a call does, of no step, of one, and of two calls; and of steps by their kinds and their page.
-use Rattle.std.proofs.Common.{◌≡◌, ◌≢◌, ℕ, ◌+◌, ◌*◌, ◌/◌, ◌%◌, ◌==◌, Bool, true, false, not, ◌&&◌, ◌||◌, ◌⊎◌, if◌then◌else◌, List, [], ◌∷◌, ◌++◌, inl, inr, refl, ap, sym, ◌∙◌, subst, arith, append_assoc, true≢false, bit_and}
-use Rattle.std.proofs.lemmas.Bool.{eq-eqb, eqb-true, ne_eqb, and_left, and_right, cond-false}
-use Rattle.pas_bits.specs.Bits.{has_bit}
-use Rattle.pas_profile.specs.Lives.{live_word}
-use Rattle.pas_profile.specs.declared.name.Name.{Name}
-use Rattle.pas_profile.specs.declared.profile.Profile.{Profile}
-use Rattle.pas_profile.specs.declared.word.Word.{Word}
-use Rattle.pas_bits.specs.Runs.{in_run, meets_page}
-use Rattle.pas_profile.specs.Blocks.{grain_of}
-use Rattle.pas_steps.specs.Agreement.{Agrees, Agreed}
-use Rattle.pas_steps.specs.Calls.{Leads, Fate, Kept, Gained, Lost, now, later, Effect, nothing, put, freed, on_page, and_then, ClearAfter, Bears, Does, grain_fate, way_fate, right_fate, opens, step_effect}
-use Rattle.pas_steps.specs.Clear.{OwesNothing, IsClearOn, IsClear}
-use Rattle.pas_steps.specs.Desks.{Seat, made, AnyView}
-use Rattle.pas_steps.specs.Effects.{in_mask}
-use Rattle.pas_steps.specs.Views.{View, Move, Stays, Puts, Ends, grain_move, held_after, holds, Way, ByDeed, way, had_after, right_after, has_right, known_deed, unstamped_after, is_unstamped, check_after, owes_check, all_ones, hint_after, owes_hint, examined_after, examines}
-use Rattle.pas_steps.specs.declared.step.Made.{Made}
-use Rattle.pas_steps.specs.declared.step.Step.{Step}
+use Rattle.std.proofs.Common.{◌≡◌, ◌≢◌, ℕ, ◌+◌, ◌*◌, ◌/◌, ◌%◌, ◌==◌, Bool, true, false, not, ◌&&◌, ◌||◌, ◌⊎◌, if◌then◌else◌, List, [], ◌∷◌, ◌++◌, inl, inr}
+use Rattle.std.proofs.Common.{refl, ap, sym, ◌∙◌, subst, arith, append_assoc, true≢false, bit_and, eq-eqb, eqb-true, ne_eqb}
+use Rattle.std.proofs.lemmas.Bool.{and_left, and_right, cond-false}
+use Rattle.pas_bits.specs.{Bits.has_bit, Runs.in_run, Runs.meets_page}
+use Rattle.pas_profile.specs.{Lives.live_word, Blocks.grain_of}
+use Rattle.pas_profile.specs.declared.{name.Name.Name, profile.Profile.Profile, word.Word.Word}
+use Rattle.pas_steps.specs.{Agreement.Agrees, Agreement.Agreed, Clear.OwesNothing, Clear.IsClearOn, Clear.IsClear, Desks.Seat, Desks.made, Desks.AnyView}
+use Rattle.pas_steps.specs.{Effects.in_mask}
+use Rattle.pas_steps.specs.Calls.{Leads, Fate, Kept, Gained, Lost, now, later, Effect, nothing, put, freed, on_page, and_then, ClearAfter, Bears, Does}
+use Rattle.pas_steps.specs.Calls.{grain_fate, way_fate, right_fate, opens, step_effect}
+use Rattle.pas_steps.specs.Views.{View, Move, Stays, Puts, Ends, grain_move, held_after, holds, Way, ByDeed, way, had_after, right_after, has_right, known_deed}
+use Rattle.pas_steps.specs.Views.{unstamped_after, is_unstamped, check_after, owes_check, all_ones, hint_after, owes_hint, examined_after, examines}
+use Rattle.pas_steps.specs.declared.step.{Made.Made, Step.Step}
 use Rattle.pas_steps.specs.declared.step.Step.TheVariants.{Look, Back, Take, Put, End, EndSized, Offer, Park, Unpark, Stamp, Hint, Tick, Unback, Unhint}
-use Rattle.pas_steps.proofs.Adding.{agreed_first, agreed_later}
+use Rattle.pas_steps.proofs.{Adding.agreed_first, Adding.agreed_later, Flags.ends_none, Flags.ap_if, Past.always_map}
 use Rattle.pas_steps.proofs.Apart.{in_apart, holds_over, grain_same, holds_same}
-use Rattle.pas_steps.proofs.Flags.{ends_none, ap_if}
 use Rattle.pas_steps.proofs.Kept.{look_check, look_hint, right_on, returns_on, backed_with}
-use Rattle.pas_steps.proofs.Past.{always_map}
 use Rattle.pas_steps.specs.Frames.{IsReturn, OnlyOn, OnlyReturns, unbacks, IsOnPage}
-use Rattle.pas_steps.specs.Kinds.{Kinds, kind_of, look_kind, place_of, is_in, apart, Only, Unhinting, moving, unbacking, changing, returning, Putting, Ending, Parking}
+use Rattle.pas_steps.specs.Kinds.{Kinds, kind_of, look_kind, place_of, is_in, apart, Only, Unhinting, moving, unbacking, changing, returning, Putting, Ending}
+use Rattle.pas_steps.specs.Kinds.{Parking}
 
 -- ---- two calls: the one place where their lists are put together
 pub leads_none : {f : Profile} {B : View → Type 0} {R : View → View → Type 0} → ((v : View) → B v → R v v) → Leads f B R []

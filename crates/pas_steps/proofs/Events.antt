@@ -1,17 +1,13 @@
 -- What an event says of the step that made it, and what holds of each event of steps.
-use Rattle.std.proofs.Common.{◌≡◌, ℕ, ◌/◌, ◌==◌, Bool, true, false, ◌&&◌, if◌then◌else◌, List, [], ◌∷◌, ◌++◌, Option, Some, None, refl, subst}
+use Rattle.std.proofs.Common.{◌≡◌, ℕ, ◌/◌, ◌==◌, Bool, true, false, ◌&&◌, if◌then◌else◌, List, [], ◌∷◌, ◌++◌, Option, Some, None, refl, subst, eqb-true}
 use Rattle.std.specs.List.{AllByRecursion}
-use Rattle.std.proofs.lemmas.Bool.{eqb-true}
 use Rattle.std.proofs.lemmas.Option.{none-some, same_Some, cond_some}
 use Rattle.pas_profile.specs.Lives.{is_live, turn_of}
 use Rattle.pas_profile.specs.declared.event.Event.{Event}
-use Rattle.pas_steps.specs.Effects.{succeeds}
+use Rattle.pas_steps.specs.{Effects.succeeds, Past.Always, Views.View, Views.epoch_of}
 use Rattle.pas_steps.specs.Events.{reason_of, sized_reason, event_of, with_event, events_by, actor_of}
 use Rattle.pas_steps.specs.Kinds.{StepKind, kind_of, Deeding, Backing, Giving, Ending, Unbacking}
-use Rattle.pas_steps.specs.Past.{Always}
-use Rattle.pas_steps.specs.Views.{View, epoch_of}
-use Rattle.pas_steps.specs.declared.step.Made.{Made}
-use Rattle.pas_steps.specs.declared.step.Step.{Step}
+use Rattle.pas_steps.specs.declared.step.{Made.Made, Step.Step}
 use Rattle.pas_steps.specs.declared.step.Step.TheVariants.{Deed, Back, Give, End, EndSized, Unback}
 
 -- ---- the step of an event

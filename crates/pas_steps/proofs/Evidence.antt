@@ -1,20 +1,12 @@
 -- What readings say of the view, and of later steps of the call.
-use Rattle.std.proofs.Common.{◌≡◌, ◌≢◌, ℕ, ◌==◌, false, if◌then◌else◌, List, [], ◌∷◌, ◌++◌, inl, inr, refl, ap, sym, ◌∙◌}
-use Rattle.std.proofs.lemmas.Bool.{eq-eqb}
+use Rattle.std.proofs.Common.{◌≡◌, ◌≢◌, ℕ, ◌==◌, false, if◌then◌else◌, List, [], ◌∷◌, ◌++◌, inl, inr, refl, ap, sym, ◌∙◌, eq-eqb}
 use Rattle.pas_profile.specs.Directories.{deed_word_of}
-use Rattle.pas_profile.specs.declared.directory.Directory.{Directory}
-use Rattle.pas_profile.specs.declared.profile.Profile.{Profile}
-use Rattle.pas_steps.specs.Agreement.{Agrees, Agreed}
-use Rattle.pas_steps.specs.Desks.{made}
+use Rattle.pas_profile.specs.declared.{directory.Directory.Directory, profile.Profile.Profile}
+use Rattle.pas_steps.specs.{Agreement.Agrees, Agreement.Agreed, Desks.made, Past.Once}
 use Rattle.pas_steps.specs.Evidence.{ReadsDeed, ZeroHere, DeedHere, NoDeedHere}
-use Rattle.pas_steps.specs.Past.{Once}
 use Rattle.pas_steps.specs.Views.{View, has_right, known_deed, KnowsDeed}
-use Rattle.pas_steps.specs.declared.step.Made.{Made}
-use Rattle.pas_steps.specs.declared.step.Step.{Step}
-use Rattle.pas_steps.specs.declared.step.Step.TheVariants.{Deed}
-use Rattle.pas_steps.proofs.Frames.{right_own}
-use Rattle.pas_steps.proofs.Kept.{deed_stays}
-use Rattle.pas_steps.proofs.Past.{once_earlier}
+use Rattle.pas_steps.specs.declared.step.{Made.Made, Step.Step, Step.TheVariants.Deed}
+use Rattle.pas_steps.proofs.{Frames.right_own, Kept.deed_stays, Past.once_earlier}
 
 -- a page that was read as having no deed isn't known to have one
 read_unknown : (f : Profile) (v : View) (p : ℕ) (s : Step) (a : ℕ) → ReadsDeed p s → Agrees f v s a → a ≡ 0 → known_deed v p ≢ 0 → ⊥

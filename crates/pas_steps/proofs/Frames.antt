@@ -1,16 +1,15 @@
 -- What steps leave as it was.
-use Rattle.std.proofs.Common.{◌≡◌, ℕ, ◌≤◌, Bool, true, false, ◌&&◌, List, [], ◌∷◌, ◌++◌, length, Option, Some, None, refl, ap, sym, ◌∙◌, subst, arith, append_assoc, ◌%◌, if◌then◌else◌, ◌==◌, true≢false, ◌+◌}
-use Rattle.std.proofs.lemmas.Bool.{eqb-true}
+use Rattle.std.proofs.Common.{◌≡◌, ℕ, ◌≤◌, Bool, true, false, ◌&&◌, List, [], ◌∷◌, ◌++◌, length, Option, Some, None, refl, ap, sym, ◌∙◌, subst, arith}
+use Rattle.std.proofs.Common.{append_assoc, ◌%◌, if◌then◌else◌, ◌==◌, true≢false, ◌+◌, eqb-true}
 use Rattle.pas_bits.specs.Bits.{has_bit}
 use Rattle.pas_profile.specs.declared.event.Event.{Event}
-use Rattle.pas_steps.specs.declared.step.Made.{Made}
-use Rattle.pas_steps.specs.declared.step.Step.{Step}
+use Rattle.pas_steps.specs.declared.step.{Made.Made, Step.Step}
 use Rattle.pas_steps.specs.declared.step.Step.TheVariants.{Deed, Back, Give, End, EndSized, TakeRight, Offer, Park, Unpark, Unback}
 use Rattle.pas_profile.specs.Directories.{number_of}
-use Rattle.pas_steps.specs.Views.{View, Way, way, Rests, ByDeed, FromOffer, FromParked, ToOffer, ToParked, had_after, right_after, has_right, epoch_of, given_after, given_count}
+use Rattle.pas_steps.specs.Views.{View, Way, way, Rests, ByDeed, FromOffer, FromParked, ToOffer, ToParked, had_after, right_after, has_right, epoch_of}
+use Rattle.pas_steps.specs.Views.{given_after, given_count}
 use Rattle.pas_steps.specs.Events.{event_of, with_event, events_of, events_by}
-use Rattle.pas_steps.specs.Past.{Always}
-use Rattle.pas_steps.specs.Frames.{GivesUp, KeepsRight}
+use Rattle.pas_steps.specs.{Past.Always, Frames.GivesUp, Frames.KeepsRight}
 
 -- ---- events
 pub with_append : (o : Option Event) (xs ys : List Event) → with_event o (xs ++ ys) ≡ with_event o xs ++ ys

@@ -1,23 +1,20 @@
 -- What the framed steps leave as it was: rights, grains, knowledge, debts and events, and which pages are known as backed.
-use Rattle.std.proofs.Common.{◌≡◌, ◌≢◌, ℕ, ◌+◌, ◌*◌, ◌/◌, ◌%◌, ◌==◌, Bool, true, false, not, ◌&&◌, ◌||◌, if◌then◌else◌, List, [], ◌∷◌, ◌++◌, refl, ap, sym, ◌∙◌, subst, arith, bit_and, ◌<◌, true≢false}
-use Rattle.std.proofs.lemmas.Bool.{ne_eqb, eqb-true, and_parts, and_right, cond-false, and_from}
+use Rattle.std.proofs.Common.{◌≡◌, ◌≢◌, ℕ, ◌+◌, ◌*◌, ◌/◌, ◌%◌, ◌==◌, Bool, true, false, not, ◌&&◌, ◌||◌, if◌then◌else◌, List, [], ◌∷◌, ◌++◌, refl, ap, sym, ◌∙◌}
+use Rattle.std.proofs.Common.{subst, arith, bit_and, ◌<◌, true≢false, ne_eqb, eqb-true}
+use Rattle.std.proofs.lemmas.Bool.{and_parts, and_right, cond-false, and_from}
 use Rattle.pas_bits.specs.Bits.{has_bit}
 use Rattle.pas_profile.specs.Directories.{deed_word_of, deed_word_numbered, number_of}
-use Rattle.pas_profile.specs.declared.directory.Directory.{Directory}
-use Rattle.pas_profile.specs.declared.profile.Profile.{Profile}
+use Rattle.pas_profile.specs.declared.{directory.Directory.Directory, profile.Profile.Profile, word.Word.Word}
 use Rattle.pas_profile.proofs.Codecs.{deed_word_of-positive}
-use Rattle.pas_profile.specs.declared.word.Word.{Word}
-use Rattle.pas_steps.specs.declared.step.Made.{Made}
-use Rattle.pas_steps.proofs.Flags.{ends_none, stays_set}
-use Rattle.pas_steps.specs.declared.step.Step.{Step}
+use Rattle.pas_steps.specs.declared.step.{Made.Made, Step.Step}
+use Rattle.pas_steps.proofs.{Flags.ends_none, Flags.stays_set, Past.always_map}
 use Rattle.pas_steps.specs.declared.step.Step.TheVariants.{Look, Deed, TakeRight, Offer, Back, Unback}
-use Rattle.pas_steps.specs.Effects.{in_mask}
-use Rattle.pas_steps.specs.Views.{View, Stays, Gets, Puts, grain_move, held_after, holds, Rests, ByDeed, FromOffer, FromParked, ToOffer, ToParked, way, had_after, has_right, deed_after, deed_after_look, known_deed, KnowsDeed, no_usable, check_after, all_ones, hint_after, examined_after, examines, any_below, holds_on, backed_after, backed_after_look, knows_backed}
-use Rattle.pas_steps.specs.Agreement.{Agrees, Agreed}
+use Rattle.pas_steps.specs.{Effects.in_mask, Agreement.Agrees, Agreement.Agreed, Past.Always}
+use Rattle.pas_steps.specs.Views.{View, Stays, Gets, Puts, grain_move, held_after, holds, Rests, ByDeed, FromOffer, FromParked, ToOffer, ToParked, way}
+use Rattle.pas_steps.specs.Views.{had_after, has_right, deed_after, deed_after_look, known_deed, KnowsDeed, no_usable, check_after, all_ones, hint_after}
+use Rattle.pas_steps.specs.Views.{examined_after, examines, any_below, holds_on, backed_after, backed_after_look, knows_backed}
 use Rattle.pas_steps.specs.Frames.{IsOnPage, IsReturn, IsRead, IsScan, OnlyOn, OnlyReturns, OnlyReads, OnlyScans, IsLook, AreLooks, unbacks}
-use Rattle.pas_steps.proofs.Past.{always_map}
 use Rattle.std.proofs.lemmas.Bool.Decides.{nat_tests, Decides-below_or}
-use Rattle.pas_steps.specs.Past.{Always}
 use Rattle.std.specs.Bool.{Decides}
 
 -- ==== Rights, grains, knowledge, debts and events.

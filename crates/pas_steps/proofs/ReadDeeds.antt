@@ -1,9 +1,7 @@
 -- The directory of a deed word that was read.
 use Rattle.std.proofs.Common.{◌≡◌, ℕ, Option, Some, ap, sym, ◌∙◌, subst}
-use Rattle.pas_profile.specs.Directories.{deed_word_of, directory_read}
-use Rattle.pas_profile.specs.Profiles.{IsValid, IsDirectoryOf}
-use Rattle.pas_profile.specs.declared.directory.Directory.{Directory}
-use Rattle.pas_profile.specs.declared.profile.Profile.{Profile}
+use Rattle.pas_profile.specs.{Directories.deed_word_of, Directories.directory_read, Profiles.IsValid, Profiles.IsDirectoryOf}
+use Rattle.pas_profile.specs.declared.{directory.Directory.Directory, profile.Profile.Profile}
 use Rattle.pas_profile.proofs.Codecs.{read-deed_word_of, directory_from_profile}
 
 pub directory_told : (f : Profile) (deed : ℕ) (r : Option Directory) → IsValid f → r ≡ directory_read deed → ((d : Directory) × (deed ≡ deed_word_of d) × IsDirectoryOf f d) → (d : Directory) × (r ≡ Some d) × (deed ≡ deed_word_of d) × IsDirectoryOf f d

@@ -1,8 +1,7 @@
 -- Effects on sets of grains and of pages, one after the other.
 use Rattle.std.proofs.Common.{◌≡◌, ℕ, Bool, true, false, ◌||◌, ◌==◌, if◌then◌else◌, inl, refl, ap, sym, subst, arith}
 use Rattle.pas_steps.specs.Calls.{Fate, Kept, Gained, Lost, later, nothing, put, freed, on_page, ClearAfter, Does, now, grain_fate}
-use Rattle.pas_steps.specs.Clear.{IsClearOn}
-use Rattle.pas_steps.specs.Views.{View, Gives, Stays}
+use Rattle.pas_steps.specs.{Clear.IsClearOn, Views.View, Views.Gives, Views.Stays}
 use Rattle.pas_steps.proofs.Calls.{does_then, does_as}
 use Rattle.std.proofs.Math.Bool.{or_self}
 

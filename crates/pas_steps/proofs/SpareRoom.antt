@@ -2,9 +2,7 @@
 use Rattle.std.proofs.Common.{◌≡◌, ℕ, ◌+◌, List, ◌++◌, length, ap, ◌∙◌, subst, arith, length-append}
 use Rattle.pas_profile.specs.declared.event.Event.{Event}
 use Rattle.pas_steps.specs.declared.step.Made.{Made}
-use Rattle.pas_steps.specs.Views.{View}
-use Rattle.pas_steps.specs.Events.{events_of, events_by}
-use Rattle.pas_steps.specs.Lists.{Whole}
+use Rattle.pas_steps.specs.{Views.View, Events.events_of, Events.events_by, Lists.Whole}
 use Rattle.pas_steps.specs.Desks.{Standing, triples, CanCall, Adds}
 use Rattle.pas_steps.proofs.Frames.{events_split}
 

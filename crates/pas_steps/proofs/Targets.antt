@@ -1,20 +1,13 @@
 -- The words of a region: that the numbers of a step fit them, that the word of a step is one of them, and what they are after one was written.
 use Rattle.std.proofs.Common.{ℕ, ◌+◌, ◌*◌, ◌/◌, ◌^◌, ◌<◌, ◌≤◌, arith, ◌%◌, ◌≡◌, Bool, true, false, if◌then◌else◌, List, length, ap, sym, ◌∙◌, subst}
+use Rattle.std.proofs.Common.{slice_index, slice_set, get_or-set_same, get_or-set_other}
 use Rattle.pas_profile.specs.Profiles.{IsValid, vector_words, IsWordOf, IsWordIn}
-use Rattle.pas_profile.specs.declared.profile.Profile.{Profile}
-use Rattle.pas_profile.specs.Blocks.{address_of}
-use Rattle.pas_steps.specs.Allowed.{IsStepOf, Allowed}
-use Rattle.pas_steps.specs.Ranges.{IsRanged}
+use Rattle.pas_profile.specs.declared.{profile.Profile.Profile, word.Word.Word}
+use Rattle.pas_profile.specs.{Blocks.address_of, Layouts.index_of, Layouts.words_of, Layouts.same_word}
+use Rattle.pas_steps.specs.{Allowed.IsStepOf, Allowed.Allowed, Ranges.IsRanged, Effects.target, Views.View}
 use Rattle.pas_steps.specs.declared.step.Step.{Step}
 use Rattle.pas_steps.specs.declared.step.Step.TheVariants.{Deed, Give, End, EndSized, TakeRight, Offer, Take, Put, Park, Unpark, Hint, Tick, Unhint}
-use Rattle.pas_profile.proofs.Codecs.{number_lt}
-use Rattle.pas_steps.specs.Effects.{target}
-use Rattle.pas_steps.specs.Views.{View}
-use Rattle.std.specs.Prelude.{slice_index, slice_set}
-use Rattle.std.proofs.lemmas.List.{get_or-set_same, get_or-set_other}
-use Rattle.pas_profile.specs.Layouts.{index_of, words_of, same_word}
-use Rattle.pas_profile.specs.declared.word.Word.{Word}
-use Rattle.pas_profile.proofs.Places.{same_word-true, index_lt, other_place}
+use Rattle.pas_profile.proofs.{Codecs.number_lt, Places.same_word-true, Places.index_lt, Places.other_place}
 
 -- ==== The numbers in a step of a region fit the words that they go into.
 

@@ -1,10 +1,10 @@
 -- Pages whose deeds aren't known grow fewer, and the room that is left for their deeds.
 use Rattle.std.proofs.Common.{◌≡◌, ◌≢◌, ℕ, zero, suc, ◌+◌, ◌≤◌, ◌==◌, Bool, true, false, if◌then◌else◌, List, ◌++◌, inl, inr, refl, ap, sym, ◌∙◌, arith}
-use Rattle.std.proofs.lemmas.Bool.{eqb-true, eqb-false, ne_eqb, cases_eq}
+use Rattle.std.proofs.Common.{eqb-true, ne_eqb}
+use Rattle.std.proofs.lemmas.Bool.{eqb-false, cases_eq}
 use Rattle.pas_profile.specs.Profiles.{IsPage}
 use Rattle.pas_profile.specs.declared.profile.Profile.{Profile}
-use Rattle.pas_steps.specs.Views.{View, known_deed}
-use Rattle.pas_steps.specs.Agreement.{Agreed}
+use Rattle.pas_steps.specs.{Views.View, Views.known_deed, Agreement.Agreed}
 use Rattle.pas_steps.specs.Unknown.{KnowsAllDeeds, unknown_here, unknown_below, unknown_pages, HasRoom}
 use Rattle.pas_steps.specs.declared.step.Made.{Made}
 use Rattle.pas_steps.proofs.Kept.{deed_stays}

@@ -3,14 +3,12 @@ use Rattle.std.specs.Prelude.{ℕ, ◌/◌, ◌≡◌, ◌==◌, Bool, true, fal
 use Rattle.pas_profile.specs.declared.profile.Profile.{Profile}
 use Rattle.pas_bits.specs.Runs.{meets_page}
 use Rattle.pas_profile.specs.Blocks.{grain_of}
-use Rattle.pas_steps.specs.Agreement.{Agreed}
-use Rattle.pas_steps.specs.Clear.{IsClearOn}
-use Rattle.pas_steps.specs.Desks.{Standing, Adds}
-use Rattle.pas_steps.specs.Views.{View, Move, Stays, Gets, Puts, Gives, Ends, grain_move, holds, Way, Rests, ByDeed, FromOffer, FromParked, ToOffer, ToParked, way, has_right, knows_backed}
-use Rattle.pas_steps.specs.declared.step.Step.{Step}
-use Rattle.pas_steps.specs.declared.step.Made.{Made}
-use Rattle.pas_steps.specs.declared.step.Step.TheVariants.{Look, Deed, Back, Take, Put, Give, End, EndSized, TakeRight, Offer, Park, Unpark, Stamp, Hint, Tick, Unback, Unhint}
-use Rattle.pas_steps.specs.Effects.{succeeds}
+use Rattle.pas_steps.specs.{Agreement.Agreed, Clear.IsClearOn, Desks.Standing, Desks.Adds, Effects.succeeds}
+use Rattle.pas_steps.specs.Views.{View, Move, Stays, Gets, Puts, Gives, Ends, grain_move, holds, Way, Rests, ByDeed, FromOffer, FromParked, ToOffer, ToParked}
+use Rattle.pas_steps.specs.Views.{way, has_right, knows_backed}
+use Rattle.pas_steps.specs.declared.step.{Step.Step, Made.Made}
+use Rattle.pas_steps.specs.declared.step.Step.TheVariants.{Look, Deed, Back, Take, Put, Give, End, EndSized, TakeRight, Offer, Park, Unpark, Stamp, Hint, Tick}
+use Rattle.pas_steps.specs.declared.step.Step.TheVariants.{Unback, Unhint}
 
 -- ---- calls
 -- from each view that meets Before, these steps lead to one to which it stands in the relation Change

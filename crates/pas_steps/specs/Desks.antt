@@ -1,12 +1,8 @@
 -- What the calls of a desk say.
 use Rattle.std.specs.Prelude.{ℕ, ◌≡◌, List, [], ◌∷◌, ◌++◌}
 use Rattle.pas_profile.specs.declared.profile.Profile.{Profile}
-use Rattle.pas_steps.specs.Views.{View}
-use Rattle.pas_steps.specs.Allowed.{Allowed, IsStepOf}
-use Rattle.pas_steps.specs.Lists.{Triple, Whole}
-use Rattle.pas_steps.specs.Agreement.{Agrees, Agreed}
-use Rattle.pas_steps.specs.declared.step.Step.{Step}
-use Rattle.pas_steps.specs.declared.step.Made.{Made}
+use Rattle.pas_steps.specs.{Views.View, Allowed.Allowed, Allowed.IsStepOf, Lists.Triple, Lists.Whole, Agreement.Agrees, Agreement.Agreed}
+use Rattle.pas_steps.specs.declared.step.{Step.Step, Made.Made}
 
 -- what no step of a desk changes: its actor, the region's profile, and how many events the actor's room holds in all
 pub record Seat : Type 0 where

@@ -3,13 +3,9 @@
 use Rattle.std.specs.Prelude.{ℕ, ◌+◌, ◌*◌, ◌/◌, ◌%◌, ◌<◌, ◌≤◌, ◌≡◌, ◌≢◌, ◌⊎◌, Bool, true, false, ◌||◌, List, ◌∷◌}
 use Rattle.pas_bits.specs.Bits.{has_bit}
 use Rattle.pas_profile.specs.Directories.{number_of}
-use Rattle.pas_profile.specs.declared.directory.Directory.{Directory}
-use Rattle.pas_profile.specs.declared.word.Word.TheVariants as Word
-use Rattle.pas_steps.specs.Views.{holds, has_right}
-use Rattle.pas_steps.specs.Past.{Once, Always, Since}
-use Rattle.pas_steps.specs.Frames.{GivesUp}
-use Rattle.pas_steps.specs.declared.step.Step.{Step}
-use Rattle.pas_steps.specs.declared.step.Made.{Made}
+use Rattle.pas_profile.specs.declared.{directory.Directory.Directory, word.Word.Word}
+use Rattle.pas_steps.specs.{Views.holds, Views.has_right, Past.Once, Past.Always, Past.Since, Frames.GivesUp}
+use Rattle.pas_steps.specs.declared.step.{Step.Step, Made.Made}
 use Rattle.pas_steps.specs.declared.step.Step.TheVariants.{Look, Deed, Take, TakeRight}
 
 -- ---- what a step reads: the answers of `take_right`, `deed` and `take` are readings too

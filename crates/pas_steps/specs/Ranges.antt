@@ -1,9 +1,9 @@
 -- The numbers in a step fit the words that they go into.
 use Rattle.std.specs.Prelude.{◌-◌, ◌/◌, ◌^◌, ◌<◌}
-use Rattle.pas_profile.specs.Directories.{IsDirectory}
-use Rattle.pas_profile.specs.Blocks.{length_of}
+use Rattle.pas_profile.specs.{Directories.IsDirectory, Blocks.length_of}
 use Rattle.pas_steps.specs.declared.step.Step.{Step}
-use Rattle.pas_steps.specs.declared.step.Step.TheVariants.{Look, Deed, Back, Take, Put, Give, End, EndSized, TakeRight, Offer, Park, Unpark, Stamp, Hint, Tick, Unback, Unhint}
+use Rattle.pas_steps.specs.declared.step.Step.TheVariants.{Look, Deed, Back, Take, Put, Give, End, EndSized, TakeRight, Offer, Park, Unpark, Stamp, Hint, Tick}
+use Rattle.pas_steps.specs.declared.step.Step.TheVariants.{Unback, Unhint}
 
 abbrev pub IsRanged : Step → Type 0
 IsRanged (Look word) = Unit {0}

@@ -2,10 +2,7 @@
 ghost use Rattle.std.specs.Prelude.{◌≡◌, ◌+◌, ◌-◌, ◌^◌, ◌<◌, ◌≤◌, Bool, ℕ, true, min, length, List, reverse};
 ghost use Rattle.pas_profile.specs.declared.event.Event.{Event};
 ghost use Rattle.pas_profile.specs.Profiles.{IsValid};
-ghost use Rattle.pas_steps.specs.Views.{View};
-ghost use Rattle.pas_steps.specs.Events.{events_of, wants};
-ghost use Rattle.pas_steps.specs.Lists.{Whole, Legal, part};
-ghost use Rattle.pas_steps.specs.Desks.{Standing, CanMake, Makes};
+ghost use Rattle.pas_steps.specs.{Views.View, Events.events_of, Events.wants, Lists.Whole, Lists.Legal, Lists.part, Desks.Standing, Desks.CanMake, Desks.Makes};
 
 use crate::step::Step;
 use pas_profile::{Block, Directory, Event, Name, Profile, Word};

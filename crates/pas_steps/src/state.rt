@@ -1,7 +1,6 @@
 //! The state of a region at rest: its profile and its words.
 ghost use Rattle.std.specs.Prelude.{◌≡◌, vec_len};
-ghost use Rattle.pas_profile.specs.Profiles.{IsValid};
-ghost use Rattle.pas_profile.specs.Layouts.{words_of};
+ghost use Rattle.pas_profile.specs.{Profiles.IsValid, Layouts.words_of};
 
 use pas_profile::{Layout, Profile, Word};
 
@@ -16,8 +15,7 @@ pub struct State {
 
 impl State {
     ghost use Rattle.std.specs.Prelude.{slice_index, if◌then◌else◌};
-    ghost use Rattle.pas_profile.specs.Profiles.{IsWordOf};
-    ghost use Rattle.pas_profile.specs.Layouts.{index_of, same_word};
+    ghost use Rattle.pas_profile.specs.{Profiles.IsWordOf, Layouts.index_of, Layouts.same_word};
     ghost use Rattle.pas_profile.specs.declared.word.Word.{Word as TheWord};
     ghost use Rattle.pas_steps.specs.States.{profile_of, word_in};
 

@@ -1,30 +1,18 @@
 -- Errands of an actor that is at rest with its cache.
-use Rattle.std.proofs.Common.{◌≡◌, ℕ, zero, suc, ◌≤◌, List, [], ◌∷◌, ◌++◌, ◌==◌, Bool, true, false, if◌then◌else◌, Option, None, Result, refl, ap, sym, ◌∙◌, subst, arith}
-use Rattle.pas_profile.specs.declared.event.NoRoom.{NoRoom}
-use Rattle.pas_profile.specs.declared.name.Block.{Block}
-use Rattle.pas_profile.specs.declared.profile.Profile.{Profile}
-use Rattle.pas_steps.specs.Calls.{Calls}
-use Rattle.pas_steps.specs.Clear.{HasNothing}
+use Rattle.std.proofs.Common.{◌≡◌, ℕ, zero, suc, ◌≤◌, List, [], ◌∷◌, ◌++◌, ◌==◌, Bool, true, false, if◌then◌else◌, Option, None, Result, refl, ap, sym, ◌∙◌}
+use Rattle.std.proofs.Common.{subst, arith}
+use Rattle.pas_profile.specs.declared.{event.NoRoom.NoRoom, name.Block.Block, profile.Profile.Profile}
+use Rattle.pas_steps.specs.{Calls.Calls, Clear.HasNothing, Kinds.Ticking, Unknown.unknown_here, Unknown.unknown_below, Views.View, Views.known_deed}
 use Rattle.pas_steps.specs.Desks.{Standing, Seat, CanCall, Makes, made}
-use Rattle.pas_steps.specs.Kinds.{Ticking}
-use Rattle.pas_steps.specs.Unknown.{unknown_here, unknown_below}
-use Rattle.pas_steps.specs.Views.{View, known_deed}
-use Rattle.pas_steps.specs.declared.step.Made.{Made}
-use Rattle.pas_steps.specs.declared.step.Step.TheVariants.{Tick}
-use Rattle.pas_steps.proofs.Adding.{adds_under}
-use Rattle.pas_steps.proofs.Called.{call_none, call_step, call_as, call_then, next_call}
-use Rattle.pas_steps.proofs.Calls.{does_idly}
-use Rattle.pas_steps.proofs.Unknown.{has_room}
+use Rattle.pas_steps.specs.declared.step.{Made.Made, Step.TheVariants.Tick}
+use Rattle.pas_steps.proofs.{Adding.adds_under, Calls.does_idly, Unknown.has_room}
+use Rattle.pas_steps.proofs.Called.{call_none, call_step, call_as, call_then}
 use Rattle.pas_scavenger.proofs.Trying.{nothing_still}
 use Rattle.pas_free_log.specs.Flushes.{Flushes}
-use Rattle.pas_free_log.specs.declared.log.Entry.{Entry}
-use Rattle.pas_free_log.specs.declared.noting.EndedRun.{EndedRun}
-use Rattle.pas_cache.specs.Caches.{Cached, AtRest}
+use Rattle.pas_free_log.specs.declared.{log.Entry.Entry, noting.EndedRun.EndedRun}
+use Rattle.pas_cache.specs.{Caches.Cached, Caches.AtRest, Serves.Wanted}
 use Rattle.pas_cache.specs.Calls.{MayAllocate, Allocates, MayAllocatePages, AllocatesPages, StopsCache}
-use Rattle.pas_cache.specs.Serves.{Wanted}
-use Rattle.pas_cache.proofs.Budget.{log_kept}
-use Rattle.pas_cache.proofs.FlushesAndFrees.{rests_empty}
-use Rattle.pas_cache.proofs.Resting.{rests_kept}
+use Rattle.pas_cache.proofs.{Budget.log_kept, FlushesAndFrees.rests_empty, Resting.rests_kept}
 use Rattle.pas_plain.specs.Storms.{Acts}
 use Rattle.pas_trials.specs.Borrowing.{Borrows}
 
@@ -76,16 +64,6 @@ log_flushed {σ} c h = let f : Profile = σ.seat.profile in record {
 }
 
 -- ---- a stop, and what an actor with an empty cache does then
-pub cache_stopped : {σ σ' : Standing} {c c' : Cached} → c.log ≡ [] → StopsCache c c' σ σ' → Borrows c c' σ σ'
-cache_stopped {σ} {σ'} {c} {c'} log h = record {
-  steps = h.stopped ++ h.flushed;
-  rests = call_as (λ v w. AtRest σ.seat.profile c' w) h.calls (λ v rest. rest) (λ v w rest done. done.0);
-  log = ap (λ (x : Cached). x.log) h.cache ∙ sym log;
-}
-
-pub nothing_after : {σ σ' : Standing} {c c' : Cached} → StopsCache c c' σ σ' → CanCall σ (AtRest σ.seat.profile c) → CanCall σ' HasNothing
-nothing_after h can = next_call h.calls can (λ v rest done. done.1)
-
 pub stopped_then : {σ σ1 σ2 : Standing} {c c' : Cached} {steps : List Made} → c.log ≡ [] → StopsCache c c' σ σ1 → Calls σ1 σ2 HasNothing (λ v w. HasNothing w) steps → Borrows c c' σ σ2
 stopped_then {σ} {σ1} {σ2} {c} {c'} {steps} log h quiet = let f : Profile = σ.seat.profile in record {
   steps = steps ++ (h.stopped ++ h.flushed);
@@ -106,14 +84,8 @@ module _ {σ σ1 : Standing} {c c1 : Cached} (locals : c.locals ≡ []) (log : c
   rests_then : (v : View) → AtRest σ.seat.profile c1 v → AtRest σ1.seat.profile c1 v
   rests_then v rest = subst (λ (s : Seat). AtRest s.profile c1 v) (sym goes.rests.adds.seat_is) rest
 
-  pub may_stop : CanCall σ HasNothing → CanCall σ1 (AtRest σ1.seat.profile c1)
-  may_stop can = next_call from_nothing can (λ v none rest. rests_then (goes.steps ++ v) rest)
-
   pub visited : {σ2 : Standing} {c2 : Cached} → StopsCache c1 c2 σ1 σ2 → Acts σ σ2
   visited stops = record {
     steps = (stops.stopped ++ stops.flushed) ++ goes.steps;
     calls = call_then (λ v w. HasNothing w) from_nothing stops.calls (λ v none rest. rests_then (goes.steps ++ v) rest) (λ v none rest done. done.1);
   }
-
-pub may_go : {σ : Standing} {c : Cached} → c.locals ≡ [] → c.log ≡ [] → CanCall σ HasNothing → CanCall σ (AtRest σ.seat.profile c)
-may_go {σ} {c} locals log can = record { view = can.view; whole = can.whole; stood = can.stood; met = rests_empty σ.seat.profile c can.view locals log can.met }

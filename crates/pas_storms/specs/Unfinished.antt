@@ -1,13 +1,9 @@
 -- What an actor does that leaves its call too early.
 use Rattle.std.specs.Prelude.{ℕ, ◌≡◌, true, List, ◌∷◌, ◌++◌}
-use Rattle.pas_profile.specs.declared.word.Word.TheVariants as Word
-use Rattle.pas_steps.specs.Clear.{OwesNothing}
-use Rattle.pas_steps.specs.Desks.{made}
-use Rattle.pas_steps.specs.Views.{View, owes_hint}
-use Rattle.pas_steps.specs.declared.step.Made.{Made}
-use Rattle.pas_steps.specs.declared.step.Step.TheVariants.{Look, Park}
-use Rattle.pas_rights.specs.Looks.{looks}
-use Rattle.pas_rights.specs.Words.{ones}
+use Rattle.pas_profile.specs.declared.word.Word.{Word}
+use Rattle.pas_steps.specs.{Clear.OwesNothing, Desks.made, Views.View, Views.owes_hint}
+use Rattle.pas_steps.specs.declared.step.{Made.Made, Step.TheVariants.Look, Step.TheVariants.Park}
+use Rattle.pas_rights.specs.{Looks.looks, Words.ones}
 
 -- the looks of a leave at a page without room, and the parking, but no look after it
 abbrev pub parks_only : ℕ → (ℕ → ℕ) → ℕ → ℕ → List Made

@@ -1,7 +1,6 @@
 //! The intruder: an actor that goes on errands before chosen steps of another one.
 ghost use Rattle.std.specs.Prelude.{◌≡◌, ◌≤◌, []};
-ghost use Rattle.pas_steps.specs.Clear.{HasNothing};
-ghost use Rattle.pas_steps.specs.Desks.{CanCall};
+ghost use Rattle.pas_steps.specs.{Clear.HasNothing, Desks.CanCall};
 ghost use Rattle.pas_plain.specs.Storms.{Acts};
 ghost use Rattle.pas_storms.specs.Storms.{cache_of};
 

@@ -2,12 +2,11 @@
 ghost use Rattle.std.specs.Prelude.{◌≡◌, ◌+◌, ◌*◌, ◌<◌, ◌↔◌, ℕ, IsTrue, MatchOption, Some};
 ghost use Rattle.std.specs.List.{list_any};
 ghost use Rattle.pas_bits.specs.Masks.{is_set};
-ghost use Rattle.pas_profile.specs.Directories.{IsKind, directory_read};
-ghost use Rattle.pas_profile.specs.Profiles.{IsPage, IsDirectoryOf};
+ghost use Rattle.pas_profile.specs.{Directories.IsKind, Directories.directory_read, Profiles.IsPage, Profiles.IsDirectoryOf};
 ghost use Rattle.pas_profile.specs.declared.word.Word.TheVariants as TheWord;
-ghost use Rattle.pas_steps.specs.States.{profile_of, word_in};
-ghost use Rattle.pas_steps.specs.Views.{usable_by_kind};
-ghost use Rattle.pas_storms.specs.Judging.{is_free, IsOffered, IsKept, IsMinded, covers, IsCounted, IsSound, IsFault, IsSoundPage, HasFault, IsFirstFault, AreSound};
+ghost use Rattle.pas_steps.specs.{States.profile_of, States.word_in, Views.usable_by_kind};
+ghost use Rattle.pas_storms.specs.Judging.{is_free, IsOffered, IsKept, IsMinded, covers, IsCounted, IsSound, IsFault, IsSoundPage, HasFault, IsFirstFault};
+ghost use Rattle.pas_storms.specs.Judging.{AreSound};
 
 use pas_bits::Mask4;
 use pas_bits::page_vector::has_page;

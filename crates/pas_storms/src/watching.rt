@@ -1,7 +1,6 @@
 //! A desk that remembers when its actor's events came.
 ghost use Rattle.std.specs.Prelude.{◌≡◌};
-ghost use Rattle.pas_steps.specs.Views.{View};
-ghost use Rattle.pas_steps.specs.Lists.{Whole};
+ghost use Rattle.pas_steps.specs.{Views.View, Lists.Whole};
 
 use arrayvec::ArrayVec;
 use pas_profile::{Event, Profile};

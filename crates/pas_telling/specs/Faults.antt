@@ -1,8 +1,7 @@
 -- The line of a trace fault.
 use Rattle.std.specs.Prelude.{ℕ, List, ◌++◌, codes}
 use Rattle.std.specs.Fmt.{decimal}
-use Rattle.pas_trace.specs.declared.fault.Reason.{Reason}
-use Rattle.pas_trace.specs.declared.fault.TraceFault.{TraceFault}
+use Rattle.pas_trace.specs.declared.fault.{Reason.Reason, TraceFault.TraceFault}
 
 abbrev pub reason_text : Reason → List ℕ
 reason_text Reason.BadHeader = codes "BadHeader"

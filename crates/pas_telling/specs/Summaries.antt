@@ -1,10 +1,8 @@
 -- The summary of a replay: how many lines of each sort its transcript has, and the totals.
 use Rattle.std.specs.Prelude.{ℕ, Bool, true, false, List, ◌++◌, codes, count_by}
 use Rattle.std.specs.Fmt.{decimal}
-use Rattle.pas_profile.specs.declared.event.Event.{Event}
-use Rattle.pas_profile.specs.declared.event.Why.{Why}
-use Rattle.pas_report.specs.declared.record.Record.{Record}
-use Rattle.pas_report.specs.declared.record.Said.{Said}
+use Rattle.pas_profile.specs.declared.event.{Event.Event, Why.Why}
+use Rattle.pas_report.specs.declared.record.{Record.Record, Said.Said}
 use Rattle.pas_telling.specs.declared.summary.Tally.{Tally}
 
 -- the sort of lines has the record

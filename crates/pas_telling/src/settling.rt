@@ -1,10 +1,7 @@
 //! The end of a replay on threads: the report is made, and what is spent is let go, while the lines of the records are written.
 ghost use Rattle.std.specs.Prelude.{◌≡◌, ◌≤◌, All, IfSome, OnOk, OnErr};
-ghost use Rattle.pas_io.specs.Told.{Rose, Writes, WritesFront};
-ghost use Rattle.pas_io.specs.Taken.{taken};
-ghost use Rattle.pas_report.specs.Lines.{CanShow, lines_of};
-ghost use Rattle.pas_report.specs.Counts.{AreDeedWords, report_by_words};
-ghost use Rattle.pas_report.specs.Rooms.{records_in};
+ghost use Rattle.pas_io.specs.{Told.Rose, Told.Writes, Told.WritesFront, Taken.taken};
+ghost use Rattle.pas_report.specs.{Lines.CanShow, Lines.lines_of, Counts.AreDeedWords, Counts.report_by_words, Rooms.records_in};
 ghost use Rattle.pas_telling.specs.Outcomes.{IsShown, shown_text};
 
 use pas_io::memory::MemorySink;

@@ -1,15 +1,12 @@
 -- How a replay on threads goes from phase to phase, and to its end: what stays so at another progress, the marks between phases, and the close.
-use Rattle.std.proofs.Common.{◌≡◌, ◌≢◌, ℕ, ◌+◌, inl, inr, List, [], ◌∷◌, ◌++◌, length, Option, refl, ap, sym, subst, arith, length-append, zero, suc, ◌∙◌, append_assoc, ◌<◌, ◌≤◌, get_or, map, drop, slice_index_or, drop_of_length-le}
-use Rattle.std.proofs.lemmas.List.{append-nil, append_cancel_left, drop_more}
+use Rattle.std.proofs.Common.{◌≡◌, ◌≢◌, ℕ, ◌+◌, inl, inr, List, [], ◌∷◌, ◌++◌, length, Option, refl, ap, sym, subst, arith, length-append, zero, suc, ◌∙◌}
+use Rattle.std.proofs.Common.{append_assoc, ◌<◌, ◌≤◌, get_or, map, drop, slice_index_or, drop_of_length-le, append-nil}
+use Rattle.std.proofs.lemmas.List.{append_cancel_left, drop_more}
 use Rattle.pas_profile.specs.declared.profile.Profile.{Profile}
-use Rattle.pas_steps.specs.Clear.{HasNothing}
-use Rattle.pas_steps.specs.Lists.{Whole, part}
-use Rattle.pas_steps.specs.Views.{View}
+use Rattle.pas_steps.specs.{Clear.HasNothing, Lists.Whole, Lists.part, Views.View}
 use Rattle.pas_trace.specs.Acts.{Ends, Lowers, numbers_from, Act, phase_acts, acts_of}
-use Rattle.pas_trace.specs.EveryPlan.{all_ops, own_records}
-use Rattle.pas_trace.specs.Plans.{ops_of}
-use Rattle.pas_trace.specs.declared.plan.Op.{Op}
-use Rattle.pas_trace.specs.declared.plan.Phase.{Phase}
+use Rattle.pas_trace.specs.{EveryPlan.all_ops, EveryPlan.own_records, Plans.ops_of}
+use Rattle.pas_trace.specs.declared.plan.{Op.Op, Phase.Phase}
 use Rattle.pas_report.specs.Rooms.{records_in, room_of, Records}
 use Rattle.pas_report.specs.declared.record.Record.{Record}
 use Rattle.pas_cache.specs.Caches.{Cached, cached}
@@ -18,37 +15,30 @@ use Rattle.pas_shared.specs.Ruled.{IsEarlier}
 use Rattle.pas_shared.specs.declared.region.SharedRegion.{SharedRegion}
 use Rattle.pas_answers.specs.Answers.{Books, Caches, Named, Progress, with_records}
 use Rattle.pas_answers.specs.Calls.{Tells, AreKnown, OnlyAsked, owed_events}
-use Rattle.pas_answers.specs.Reaching.{Reaches}
-use Rattle.pas_answers.specs.Replays.{at_start}
+use Rattle.pas_answers.specs.{Reaching.Reaches, Replays.at_start, Phases.AreInPhases}
 use Rattle.pas_answers.specs.Ways.{OnThreads, AreSpoken, by_actors, arranged, records_by}
-use Rattle.pas_answers.proofs.OwnRecords.{records_both as said_both, spoken_both}
-use Rattle.pas_answers.proofs.Reached.{reach_both}
+use Rattle.pas_answers.proofs.{OwnRecords.records_both as said_both, OwnRecords.spoken_both, Reached.reach_both}
 use Rattle.pas_plans.proofs.ActsLeft.{acts_left, close_left, first_phase, other_phase}
 use Rattle.pas_shares.proofs.Arranging.{are_arranged}
 use Rattle.pas_acts.specs.NameBooks.{NamesAt, requests_in, room_for, Requests}
 use Rattle.pas_acts.specs.Works.{Sits}
 use Rattle.pas_acts.specs.declared.names.NameBook.{NameBook}
 use Rattle.pas_acts.proofs.Alone.{rests_still}
-use Rattle.pas_threads.specs.Hands.{standing_of_pass}
+use Rattle.pas_threads.specs.{Hands.standing_of_pass, Settling.TeamStandsIn, Settling.IsSameTeam}
 use Rattle.pas_threads.specs.Pairs.{no_more, KeeperRests, said_by_keeper, owed_kept, keeper_at, owed_by_keepers, AreGuarded, IsLow, MayLower, LoweredAll}
-use Rattle.pas_threads.specs.Sessions.{planned, Session, evenly, WorkerHas, ScavengerRests, TeamAt, HasPlaces, HasRoom, AreMarked, AreWritten, AreResting, CloseDone, owed_by, PhaseAt, PhaseDone, HasReplayed, IsOfActors}
-use Rattle.pas_answers.specs.Phases.{AreInPhases}
-use Rattle.pas_threads.specs.Settling.{TeamStandsIn, IsSameTeam}
+use Rattle.pas_threads.specs.Sessions.{planned, Session, evenly, WorkerHas, ScavengerRests, TeamAt, HasPlaces, HasRoom, AreMarked, AreWritten, AreResting}
+use Rattle.pas_threads.specs.Sessions.{CloseDone, owed_by, PhaseAt, PhaseDone, HasReplayed, IsOfActors}
 use Rattle.pas_threads.specs.Turns.{StoppedAll, said_own, said_by_all, said_kept, said_by_keepers, HasSaid, IsGathered, IsKeptGathered}
-use Rattle.pas_threads.specs.declared.keeper.Keeper.{Keeper}
-use Rattle.pas_threads.specs.declared.phases.Team.{Team}
-use Rattle.pas_threads.specs.declared.scavenger.Scavenger.{Scavenger}
-use Rattle.pas_threads.specs.declared.workers.Worker.{Worker}
-use Rattle.pas_threads.proofs.Dealt.{some_worker}
+use Rattle.pas_threads.specs.declared.{keeper.Keeper.Keeper, phases.Team.Team, scavenger.Scavenger.Scavenger, workers.Worker.Worker}
+use Rattle.pas_threads.proofs.{Dealt.some_worker, TakingTurns.same_owed, TakingTurns.same_rests, TakingTurns.rests_clear}
 use Rattle.pas_threads.proofs.InPhases.{in_both, unmarked, phase_unmarked, close_unmarked, earlier_both, all_stand, stand_first, same_team}
 use Rattle.pas_threads.proofs.Keepers.{keeper_is, owed_still, waits_gathered, of_gathered, silent_gathered, low_gathered}
 use Rattle.pas_threads.proofs.KeptPhases.{alike_same, alike_pushed, alike_said, alike_both, guarded_alike, kept_still, said_then}
 use Rattle.pas_threads.proofs.PhaseSums.{owed_less, kept_less, own_all, all_paid, said_in_order, kept_in_order, kept_few, by_all}
-use Rattle.pas_threads.proofs.TakingTurns.{same_owed, same_rests, rests_clear}
 
 -- ---- another progress
 -- the scavenger rests at each progress of which it has the same part
-pub scavenger_rests : {region : SharedRegion} {f : Profile} {scavenger : Scavenger} {later : ℕ} {p q : Progress} → part 0 q.list ≡ part 0 p.list → ScavengerRests region f scavenger later p → ScavengerRests region f scavenger later q
+scavenger_rests : {region : SharedRegion} {f : Profile} {scavenger : Scavenger} {later : ℕ} {p q : Progress} → part 0 q.list ≡ part 0 p.list → ScavengerRests region f scavenger later p → ScavengerRests region f scavenger later q
 scavenger_rests {region} {f} {scavenger} {later} {p} {q} same at = record {
   has = at.has;
   at = record {
@@ -60,7 +50,7 @@ scavenger_rests {region} {f} {scavenger} {later} {p} {q} same at = record {
 }
 
 -- the book says what all names stand for, wherever they stand for the same
-pub names_at : {f : Profile} {ops : List Op} {book : NameBook} {p q : Progress} → q.names ≡ p.names → NamesAt f ops book p → NamesAt f ops book q
+names_at : {f : Profile} {ops : List Op} {book : NameBook} {p q : Progress} → q.names ≡ p.names → NamesAt f ops book p → NamesAt f ops book q
 names_at {f} {ops} {book} {p} {q} same at = record {
   asked = at.asked;
   sound = at.sound;
@@ -73,7 +63,7 @@ names_at {f} {ops} {book} {p} {q} same at = record {
 }
 
 -- ---- more records
-pub team_at_records : {region : SharedRegion} {s : Session} {phases : List (List Op)} {team : Team} {p : Progress} (more : List Record) → TeamAt region s phases team p → TeamAt region s phases team (with_records p more)
+team_at_records : {region : SharedRegion} {s : Session} {phases : List (List Op)} {team : Team} {p : Progress} (more : List Record) → TeamAt region s phases team p → TeamAt region s phases team (with_records p more)
 unfolding names_at
 team_at_records more at = record {
   many = at.many;
@@ -93,7 +83,7 @@ team_at_records more at = record {
 }
 
 -- a mark took the room for one
-pub room_after_mark : (s : Session) (phases : List (List Op)) (marks : ℕ) (workers : List Worker) (out out' : Records) (p : Progress) (mark : Record) → records_in out' ≡ records_in out ++ mark ∷ [] → room_of out' ≡ room_of out
+room_after_mark : (s : Session) (phases : List (List Op)) (marks : ℕ) (workers : List Worker) (out out' : Records) (p : Progress) (mark : Record) → records_in out' ≡ records_in out ++ mark ∷ [] → room_of out' ≡ room_of out
     → HasRoom s phases (marks + 1) workers out p → HasRoom s phases marks workers out' (with_records p (mark ∷ []))
 room_after_mark s phases marks workers out out' p mark pushed size room =
     let grown = ap (λ (rs : List Record). length rs) pushed in
@@ -104,7 +94,7 @@ room_after_mark s phases marks workers out out' p mark pushed size room =
     omega (arith, grown, one, same, kept, size, room)
 
 -- .. and no mark took none
-pub room_without_mark : (s : Session) (phases : List (List Op)) (marks : ℕ) (workers : List Worker) (out : Records) (p : Progress) → HasRoom s phases (marks + 1) workers out p → HasRoom s phases marks workers out p
+room_without_mark : (s : Session) (phases : List (List Op)) (marks : ℕ) (workers : List Worker) (out : Records) (p : Progress) → HasRoom s phases (marks + 1) workers out p → HasRoom s phases marks workers out p
 room_without_mark s phases marks workers out p room = omega (arith, room)
 
 -- ---- no records
@@ -112,10 +102,10 @@ none_by_actors : (k n : ℕ) → by_actors k n [] ≡ []
 none_by_actors k zero = refl
 none_by_actors k (suc n) = none_by_actors (k + 1) n
 
-pub are_none : {records written : List Record} (s : Session) → records ≡ [] → written ≡ [] → AreMarked s records written
+are_none : {records written : List Record} (s : Session) → records ≡ [] → written ≡ [] → AreMarked s records written
 are_none {records} {written} s is written_is more = ap (λ (rs : List Record). arranged OnThreads s.profile.threads (rs ++ more)) is ∙ ap (λ (ws : List Record). ws ++ arranged OnThreads s.profile.threads more) (sym written_is)
 
-pub none_written : {records written : List Record} (s : Session) → records ≡ [] → written ≡ [] → AreWritten s records written
+none_written : {records written : List Record} (s : Session) → records ≡ [] → written ≡ [] → AreWritten s records written
 none_written s is written_is = record {
   before = [];
   before_written = [];
@@ -145,18 +135,18 @@ marked_by {s} {records} {written} mark behind so more =
     ∙ ap (λ (ws : List Record). ws ++ mark ∷ after) (sym so.written_are)
     ∙ sym (append_assoc written (mark ∷ []) after)
 
-pub phase_marked : {s : Session} {records written : List Record} (n : ℕ) → AreWritten s records written → AreMarked s (records ++ Record.Phase n ∷ []) (written ++ Record.Phase n ∷ [])
+phase_marked : {s : Session} {records written : List Record} (n : ℕ) → AreWritten s records written → AreMarked s (records ++ Record.Phase n ∷ []) (written ++ Record.Phase n ∷ [])
 phase_marked {s} n so = marked_by (Record.Phase n) (λ said more spoken. (are_arranged s.profile.threads said spoken).0 n more) so
 
-pub close_marked : {s : Session} {records written : List Record} → AreWritten s records written → AreMarked s (records ++ Record.Close ∷ []) (written ++ Record.Close ∷ [])
+close_marked : {s : Session} {records written : List Record} → AreWritten s records written → AreMarked s (records ++ Record.Close ∷ []) (written ++ Record.Close ∷ [])
 close_marked {s} so = marked_by Record.Close (λ said more spoken. (are_arranged s.profile.threads said spoken).1 more) so
 
 -- where another text of the records was written
-pub as_marked : (s : Session) (records : List Record) {written written' : List Record} → written' ≡ written → AreMarked s records written → AreMarked s records written'
+as_marked : (s : Session) (records : List Record) {written written' : List Record} → written' ≡ written → AreMarked s records written → AreMarked s records written'
 as_marked s records same so = subst (λ (ws : List Record). AreMarked s records ws) (sym same) so
 
 -- ---- the end
-pub written_whole : {s : Session} {records written : List Record} → AreWritten s records written → written ≡ arranged OnThreads s.profile.threads records
+written_whole : {s : Session} {records written : List Record} → AreWritten s records written → written ≡ arranged OnThreads s.profile.threads records
 written_whole {s} so =
     let threads = s.profile.threads in
     so.written_are
@@ -186,8 +176,7 @@ module _ {region : SharedRegion} {s : Session} {team : Team} {p : Progress} (sto
   kept_between : (i : ℕ) (d : Worker) → i < length team.threads.items → KeeperRests region f (s.threads + suc i) [] (get_or stopped i d).keeper between
   kept_between i d lt =
       let keeper = s.threads + suc i in
-      let threads = at.many in
-      kept_still (did.turns.told i d lt).keeper (did.turns.leaves.parts keeper (λ j less same. omega (arith, less, same, threads))) (ap (λ (books : Books). books keeper) did.turns.leaves.books) (at.kept i d lt)
+      kept_still (did.turns.told i d lt).keeper (did.turns.leaves.parts keeper (λ j less same. omega (arith, less, same, at.many))) (ap (λ (books : Books). books keeper) did.turns.leaves.books) (at.kept i d lt)
 
   pub may_lower : MayLower region f s.threads s.keepers stopped between
   may_lower = record {
@@ -216,9 +205,8 @@ module _ {region : SharedRegion} {s : Session} {team : Team} {p : Progress} (sto
     said_by_one : (i : ℕ) (d : Worker) → i < length team.threads.items → records_in (get_or lowered i d).out ≡ records_by (suc i) all
     said_by_one i d lt =
         let within : i < length stopped = omega (arith, lt, many) in
-        let threads = at.many in
         ap (λ (o : Records). records_in o) (low.each i d within).but.out ∙ (did.turns.told i d lt).out.added ∙ ap (λ (rs : List Record). rs ++ records_by (suc i) did.turns.came.said) (at.workers i d lt).said
-        ∙ sym (of_both (suc i) ∙ ap (λ (rs : List Record). records_by (suc i) did.turns.came.said ++ rs) (low.silent (suc i) (apart (suc i) (omega (arith, lt, threads)))) ∙ append-nil (records_by (suc i) did.turns.came.said))
+        ∙ sym (of_both (suc i) ∙ ap (λ (rs : List Record). records_by (suc i) did.turns.came.said ++ rs) (low.silent (suc i) (apart (suc i) (omega (arith, lt, at.many)))) ∙ append-nil (records_by (suc i) did.turns.came.said))
 
     said_are : said_by_all lowered ≡ by_actors 1 s.threads all
     said_are =
@@ -230,9 +218,8 @@ module _ {region : SharedRegion} {s : Session} {team : Team} {p : Progress} (sto
     kept_by_one i d lt =
         let within : i < length stopped = omega (arith, lt, many) in
         let keeper = s.threads + suc i in
-        let threads = at.many in
         said_then keeper low.said (get_or stopped i d).keeper (get_or lowered i d).keeper (low.each i d within).told (kept_between i d lt).silent
-        ∙ sym (of_both keeper ∙ ap (λ (rs : List Record). rs ++ records_by keeper low.said) (did.turns.leaves.silent keeper (λ is. omega (arith, is)) (λ j less is. omega (arith, less, is, threads))))
+        ∙ sym (of_both keeper ∙ ap (λ (rs : List Record). rs ++ records_by keeper low.said) (did.turns.leaves.silent keeper (λ is. omega (arith, is)) (λ j less is. omega (arith, less, is, at.many))))
 
     -- where there are no keepers nothing was done
     nothing_done : s.keepers ≡ 0 → (reached ≡ between) × (low.said ≡ [])
@@ -244,15 +231,14 @@ module _ {region : SharedRegion} {s : Session} {team : Team} {p : Progress} (sto
     -- nobody past the keepers did anything
     past : (k : ℕ) → s.threads + s.keepers < k → AreGuarded s.keepers team.threads.items → (part k reached.list ≡ part k between.list) × (records_by k low.said ≡ [])
     past k far (inl keepers) =
-        let count = keepers.0 in
-        let other : (j : ℕ) → j < length stopped → s.threads + suc j ≢ k = λ j lt is. omega (arith, far, count, lt, is, many) in
+        let other : (j : ℕ) → j < length stopped → s.threads + suc j ≢ k = λ j lt is. omega (arith, far, keepers.0, lt, is, many) in
         (low.parts k other, low.silent k other)
     past k far (inr none) =
         let nothing = nothing_done none.0 in
         (ap (λ (q : Progress). part k q.list) nothing.0, ap (λ (rs : List Record). records_by k rs) nothing.1)
 
     stops_past : (k : ℕ) → s.threads < k → (i : ℕ) → i < length team.threads.items → suc i ≢ k
-    stops_past k far i lt is = let n = at.many in omega (arith, far, n, lt, is)
+    stops_past k far i lt is = omega (arith, far, at.many, lt, is)
 
     silent : (k : ℕ) → s.threads + s.keepers < k → records_by k all ≡ []
     silent k far =
@@ -264,9 +250,8 @@ module _ {region : SharedRegion} {s : Session} {team : Team} {p : Progress} (sto
     -- what they owed pays for what they said
     said_few : length (by_actors 1 s.threads all) + length (by_actors (s.threads + 1) s.threads all) ≤ owed_by f p s.threads + owed_by_keepers f s.threads team.threads.items p s.threads
     said_few =
-        let threads = at.many in
         let paid = all_paid f (planned s) s.threads [] all team.threads.items [] p reached s.threads (λ i lt.
-        let less : i < length team.threads.items = omega (arith, lt, threads) in
+        let less : i < length team.threads.items = omega (arith, lt, at.many) in
         let within : i < length stopped = omega (arith, less, many) in
         let d = some_worker team.threads.items i less in
         let keeper = s.threads + suc i in
@@ -276,9 +261,9 @@ module _ {region : SharedRegion} {s : Session} {team : Team} {p : Progress} (sto
         let owes = same_owed f between reached (suc i) (low.parts (suc i) (apart (suc i) (omega (arith, lt)))) (ap (λ (cs : Caches). cs (suc i)) low.caches) in
         let kept = (low.each i d within).paid in
         let by_keeper = ap (λ (rs : List Record). length rs)
-        (of_both keeper ∙ ap (λ (rs : List Record). rs ++ records_by keeper low.said) (did.turns.leaves.silent keeper (λ is. omega (arith, is)) (λ j before is. omega (arith, before, is, threads)))) in
+        (of_both keeper ∙ ap (λ (rs : List Record). rs ++ records_by keeper low.said) (did.turns.leaves.silent keeper (λ is. omega (arith, is)) (λ j before is. omega (arith, before, is, at.many)))) in
         let had = ap (λ (o : Option Keeper). owed_kept f keeper o between) ((did.turns.told i d less).keeper ∙ sym (keeper_is team.threads.items i d less))
-        ∙ owed_still f keeper (keeper_at team.threads.items i) p between (did.turns.leaves.parts keeper (λ j before is. omega (arith, before, is, threads))) in
+        ∙ owed_still f keeper (keeper_at team.threads.items i) p between (did.turns.leaves.parts keeper (λ j before is. omega (arith, before, is, at.many))) in
         omega (arith, due, out, size, owes, kept, by_keeper, had)) in
         let none = own_all (planned s) [] s.threads in
         omega (arith, paid, none)
@@ -286,9 +271,8 @@ module _ {region : SharedRegion} {s : Session} {team : Team} {p : Progress} (sto
     -- there is room for what they said
     pub room_at_close : {room : ℕ} → length written + (owed_by f p s.threads + owed_by_keepers f s.threads team.threads.items p s.threads + 0 + 0) ≤ room → length written + length (said_by_all lowered) ≤ room
     room_at_close {room} fits =
-        let few = said_few in
         let size = ap (λ (rs : List Record). length rs) said_are in
-        omega (arith, fits, few, size)
+        omega (arith, fits, said_few, size)
 
     module _ (gathered : List Worker) (g : (i : ℕ) (d : Worker) → i < length lowered → IsGathered (get_or lowered i d) (get_or gathered i d)) (same1 : length gathered ≡ length lowered) where
       guarded_then : AreGuarded s.keepers gathered
@@ -304,14 +288,13 @@ module _ {region : SharedRegion} {s : Session} {team : Team} {p : Progress} (sto
 
       pub room_for_keepers : {room : ℕ} (out : List Record) → out ≡ written ++ said_by_all lowered → length written + (owed_by f p s.threads + owed_by_keepers f s.threads team.threads.items p s.threads + 0 + 0) ≤ room → length out + length (said_by_keepers gathered) ≤ room
       room_for_keepers {room} out added fits =
-          let few = said_few in
           let own = ap (λ (rs : List Record). length rs) said_are in
           let all_kept = ap (λ (rs : List Record). length rs) kept_are in
           let most = kept_few s.threads gathered all guarded_then in
           let count = ap (λ (n : ℕ). length (by_actors (s.threads + 1) n all)) (same1 ∙ threads_is) in
           let long = ap (λ (rs : List Record). length rs) added in
           let sum = length-append written (said_by_all lowered) in
-          omega (arith, fits, few, own, all_kept, most, count, long, sum)
+          omega (arith, fits, said_few, own, all_kept, most, count, long, sum)
 
       written_so : {written' : List Record} → AreMarked s p.records written → written' ≡ (written ++ said_by_all lowered) ++ said_by_keepers gathered → AreWritten s reached.records written'
       written_so {written'} marked added = record {
@@ -333,9 +316,7 @@ module _ {region : SharedRegion} {s : Session} {team : Team} {p : Progress} (sto
 
         workers_rest : AreResting region f kept (λ k. own_records (planned s) k (all_ops [])) reached
         workers_rest i d lt =
-            let count = sized in
-            let threads = at.many in
-            let within : i < length team.threads.items = omega (arith, lt, count) in
+            let within : i < length team.threads.items = omega (arith, lt, sized) in
             let here : i < length stopped = omega (arith, within, many) in
             let was = at.workers i d within in
             let but = (low.each i d here).but in
@@ -344,15 +325,14 @@ module _ {region : SharedRegion} {s : Session} {team : Team} {p : Progress} (sto
             let requests = (did.turns.told i d within).requests in
             let due = (did.turns.stand i d within).here in
             let has : WorkerHas region f (suc i) (get_or stopped i d) (evenly (own_records (planned s) (suc i) [])) reached =
-            record { has = due.has; rests = rests_still (low.parts (suc i) (apart (suc i) (omega (arith, within, threads)))) (ap (λ (cs : Caches). cs (suc i)) low.caches) due.rests } in
+            record { has = due.has; rests = rests_still (low.parts (suc i) (apart (suc i) (omega (arith, within, at.many)))) (ap (λ (cs : Caches). cs (suc i)) low.caches) due.rests } in
             let spare = has.rests.spare in
             let owed = ap (λ (c : Cached). owed_events f c (part (suc i) reached.list)) has.rests.cache in
             let room : room_of (get_or kept i d).out ≡ room_of (get_or stopped i d).out = ap room_of h1.out ∙ g1.room ∙ ap room_of but.out in
-            let fits = was.requests in
             let same_requests : (get_or kept i d).requests ≡ (get_or team.threads.items i d).requests = h1.requests ∙ g1.requests ∙ but.requests ∙ requests in
             let noted = ap (λ (r : Requests). room_for r) same_requests in
             rests_clear has (h1.pass ∙ g1.pass ∙ but.pass) (h1.cache ∙ g1.cache ∙ but.cache) (ap (λ (o : Records). records_in o) h1.out ∙ g1.none) (omega arith) (omega (arith, spare, owed, room))
-            (ap (λ (r : Requests). requests_in r) same_requests ∙ was.asked) (omega (arith, fits, noted))
+            (ap (λ (r : Requests). requests_in r) same_requests ∙ was.asked) (omega (arith, was.requests, noted))
 
         -- what the keeper's last state was gathered from
         last : (i : ℕ) (d : Worker) → i < length kept → HasSaid (get_or lowered i d).keeper (get_or kept i d).keeper
@@ -360,8 +340,7 @@ module _ {region : SharedRegion} {s : Session} {team : Team} {p : Progress} (sto
 
         keepers_rest : (i : ℕ) (d : Worker) → i < length kept → KeeperRests region f (s.threads + suc i) [] (get_or kept i d).keeper reached
         keepers_rest i d lt =
-            let count = sized in
-            let one = low.each i d (omega (arith, lt, count, many)) in
+            let one = low.each i d (omega (arith, lt, sized, many)) in
             let said = last i d lt in
             let old = (get_or lowered i d).keeper in
             let new = (get_or kept i d).keeper in
@@ -369,14 +348,12 @@ module _ {region : SharedRegion} {s : Session} {team : Team} {p : Progress} (sto
 
         keepers_low : (i : ℕ) (d : Worker) → i < length kept → IsLow (get_or kept i d).keeper
         keepers_low i d lt =
-            let count = sized in
-            let here : i < length stopped = omega (arith, lt, count, many) in
+            let here : i < length stopped = omega (arith, lt, sized, many) in
             low_gathered (get_or lowered i d).keeper (get_or kept i d).keeper (last i d lt) (low.low i d here here)
 
         caches_empty : (i : ℕ) (d : Worker) → i < length kept → (cached (get_or kept i d).cache).locals ≡ []
         caches_empty i d lt =
-            let count = sized in
-            let within : i < length team.threads.items = omega (arith, lt, count) in
+            let within : i < length team.threads.items = omega (arith, lt, sized) in
             let cache = (h i d (omega (arith, lt, same2))).but.cache ∙ (g i d (omega (arith, lt, same1, same2))).cache ∙ (low.each i d (omega (arith, within, many))).but.cache in
             ap (λ (c : ThreadCache). (cached c).locals) cache ∙ did.empty i d within
 
@@ -469,7 +446,7 @@ module _ {region : SharedRegion} {s : Session} {all : List (List Op)} {n : ℕ} 
 
   -- there is room for a mark
   pub spare_for_mark : length (records_in out) < room_of out
-  spare_for_mark = let room = so.room in omega (arith, room)
+  spare_for_mark = omega (arith, so.room)
 
   pub first_begins : n ≡ 0 → BeforePhase region s all n ops rest team so_far out
   first_begins is = record {
@@ -524,7 +501,7 @@ pub record BeforeClose (region : SharedRegion) (s : Session) (all : List (List O
 
 module _ {region : SharedRegion} {s : Session} {all : List (List Op)} {n : ℕ} {team : Team} {so_far : Whole} {out : Records} (so : AfterPhases region s all n [] team so_far out) where
   pub spare_for_close : length (records_in out) < room_of out
-  spare_for_close = let room = so.room in omega (arith, room)
+  spare_for_close = omega (arith, so.room)
 
   pub close_begins : {out' : Records} → records_in out' ≡ records_in out ++ Record.Close ∷ [] → room_of out' ≡ room_of out → BeforeClose region s all team so_far out'
   close_begins {out'} pushed size = let after = with_records so.p (Record.Close ∷ []) in let all_led = subst (λ (acts : List Act). Leads s all acts so.p so_far) (close_left s.threads s.keepers n) so.leads in record {

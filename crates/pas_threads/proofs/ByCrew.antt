@@ -1,34 +1,27 @@
 -- The acts of the scavenger's worker, and the stops of the threads that are lent to it.
-use Rattle.std.proofs.Common.{◌≡◌, ◌≢◌, ℕ, ◌+◌, ◌<◌, ◌≤◌, Bool, true, false, List, [], ◌∷◌, ◌++◌, length, drop, set, get_or, refl, ap, sym, ◌∙◌, subst, arith, length-append, drop_of_length-le, zero, suc, if◌then◌else◌}
+use Rattle.std.proofs.Common.{◌≡◌, ◌≢◌, ℕ, ◌+◌, ◌<◌, ◌≤◌, Bool, true, false, List, [], ◌∷◌, ◌++◌, length, drop, set, get_or, refl, ap, sym, ◌∙◌, subst, arith}
+use Rattle.std.proofs.Common.{length-append, drop_of_length-le, zero, suc, if◌then◌else◌, eq-eqb, ne_eqb}
 use Rattle.std.proofs.lemmas.List.{drop_more}
 use Rattle.pas_profile.specs.declared.profile.Profile.{Profile}
 use Rattle.pas_report.specs.Rooms.{records_in, Records}
 use Rattle.pas_report.specs.declared.record.Record.{Record}
 use Rattle.pas_shared.specs.declared.region.SharedRegion.{SharedRegion}
 use Rattle.pas_trace.specs.Acts.{Act, StopsIdle, idle_stops, ReadsEpoch, acts_of_chore, acts_of_work, acts_of_op, scavenger_acts}
-use Rattle.pas_answers.specs.Answers.{Progress, Caches}
-use Rattle.pas_answers.specs.Ways.{EachOf, records_by}
+use Rattle.pas_answers.specs.{Answers.Progress, Answers.Caches, Ways.EachOf, Ways.records_by, Fit.costs_of, Fit.cost_of_act, Fit.unbacks_of_act}
 use Rattle.pas_answers.proofs.OwnRecords.{records_both, none_by, all_by}
-use Rattle.pas_steps.specs.Lists.{Whole, part}
+use Rattle.pas_steps.specs.{Lists.Whole, Lists.part, Clear.HasNothing, Desks.Standing, Views.View}
 use Rattle.pas_steps.proofs.Parts.{part_of_others}
 use Rattle.pas_acts.specs.Works.{Later, Sits}
 use Rattle.pas_acts.specs.AtDesks.{told_if, for_act, HasRoomAt, ScavengerActs}
-use Rattle.pas_acts.proofs.Alone.{rests_still}
+use Rattle.pas_acts.proofs.{Alone.rests_still, AtDesk.sits_for}
 use Rattle.pas_threads.specs.Turns.{AreDistinct, Came, Pushed, Told, TookNoPart}
 use Rattle.pas_threads.specs.Lent.{Shift, number_in, IsLent, AreLent, StopsLent, DidWithLent}
 use Rattle.pas_threads.specs.declared.workers.Worker.{Worker}
-use Rattle.pas_threads.proofs.TakingTurns.{by_scavenger, pushed_none, pushed_both, SoFar, at_first, goes_on, at_last, Stays, no_turn, takes_turn, no_part_both, came_none, came_both, told_none, told_both}
-use Rattle.std.proofs.lemmas.Bool.{eq-eqb, ne_eqb}
+use Rattle.pas_threads.proofs.TakingTurns.{by_scavenger, pushed_none, pushed_both, SoFar, at_first, goes_on, at_last, Stays, no_turn, takes_turn, no_part_both}
+use Rattle.pas_threads.proofs.TakingTurns.{came_none, came_both, told_none, told_both}
 use Rattle.pas_trace.specs.Asked.{work_of}
 use Rattle.pas_trace.specs.EveryPlan.{AreSound, IsActorBy, IsSoundWork, asked_after}
-use Rattle.pas_trace.specs.declared.plan.Op.{Op}
-use Rattle.pas_trace.specs.declared.plan.Chore.{Chore}
-use Rattle.pas_trace.specs.declared.plan.Work.{Work}
-use Rattle.pas_steps.specs.Clear.{HasNothing}
-use Rattle.pas_steps.specs.Desks.{Standing}
-use Rattle.pas_steps.specs.Views.{View}
-use Rattle.pas_answers.specs.Fit.{costs_of, cost_of_act, unbacks_of_act}
-use Rattle.pas_acts.proofs.AtDesk.{sits_for}
+use Rattle.pas_trace.specs.declared.plan.{Op.Op, Chore.Chore, Work.Work}
 use Rattle.pas_threads.specs.Hands.{and_left, ScavengerAt}
 use Rattle.pas_threads.specs.Crews.{Crew, crew, CrewAt, CrewDid}
 
@@ -43,7 +36,7 @@ told_one true k = omega arith
 told_one false k = omega arith
 
 -- ---- the next of the lent threads
-pub lent_stays : (region : SharedRegion) (s : Shift) → Stays (number_in s) (IsLent region s)
+lent_stays : (region : SharedRegion) (s : Shift) → Stays (number_in s) (IsLent region s)
 lent_stays region s i w q r parts caches names at = record { has = at.has; rests = rests_still parts caches at.rests }
 
 stops : {region : SharedRegion} {s : Shift} {acts : List Act} {old now : List Worker} {out out1 out2 : Records} {p : Progress} (n i : ℕ) (d w : Worker) → length old ≡ length s.idle → (so : DidWithLent region s acts old now out out1 i p) → i < length old → length now ≡ length old
@@ -109,9 +102,9 @@ module _ {region : SharedRegion} {s : Shift} {act : Act} {next : List Act} {σ �
   own_told = record { added = did.says.pushed ∙ ap (λ (rs : List Record). records_in out ++ rs) (sym (all_by 0 did.says.said did.says.each)); room = did.says.room }
 
   lent_told : (i : ℕ) (d : Worker) → i < length lent → Told (number_in s i) did.says.said (get_or lent i d) (get_or lent i d)
-  lent_told i d lt = let many = at.lent.many in told_none (none_by (number_in s i) 0 did.says.said did.says.each (s.distinct.threads i (omega (arith, lt, many))))
+  lent_told i d lt = told_none (none_by (number_in s i) 0 did.says.said did.says.each (s.distinct.threads i (omega (arith, lt, at.lent.many))))
 
-  pub leaves_alone : (k : ℕ) → 0 ≢ k → TookNoPart k did.says.said p did.reached
+  leaves_alone : (k : ℕ) → 0 ≢ k → TookNoPart k did.says.said p did.reached
   leaves_alone k some = record { part_is = ap (λ (l : Whole). part k l) did.moves.list_is ∙ part_of_others k 0 did.moves.steps p.list some; silent = none_by k 0 did.says.said did.says.each some }
 
   pub did_alone : {places' : ℕ} → places' ≡ places → CrewDid region s (act ∷ []) next (crew σ lent places out) (crew σ' lent places' out') p
@@ -128,10 +121,8 @@ pub did_idle : {region : SharedRegion} {s : Shift} {next : List Act} {σ σ' : S
 did_idle {region} {s} {next} {σ} {σ'} {places} {out} {out'} {old} {new} {p} n at read size stops =
     let costs = costs_stops s.profile n s.idle next in
     let many = at.lent.many in
-    let few = stops.few in
     let spare = read.stands.spare in
     let longer = ap (λ (rs : List Record). length rs) stops.told.added ∙ length-append (records_in out) (records_by 0 stops.turns.came.said) in
-    let room = stops.told.room in
     let own_part = stops.turns.leaves.parts 0 (λ i lt same. s.distinct.threads i (omega (arith, lt, many)) (sym same)) in
     record {
       came = came_both (came at read) stops.turns.came;
@@ -139,7 +130,7 @@ did_idle {region} {s} {next} {σ} {σ'} {places} {out} {out'} {old} {new} {p} n 
         stands = record {
           stands = record {
             sits = subst (λ (v : View). Sits s.profile 0 HasNothing σ' v (costs_of s.profile next + s.own.events)) (sym own_part) (sits_for read.stands.sits (omega (arith, costs)));
-            spare = omega (arith, longer, few, spare, costs, many, room);
+            spare = omega (arith, longer, stops.few, spare, costs, many, stops.told.room);
           };
           has_places = at.stands.has_places;
         };
@@ -168,7 +159,7 @@ sound_at f asked (op ∷ ops) (suc i) d sound lt = sound_at f (asked_after op.wh
 
 -- all but a chore is of a thread
 not_first : (f : Profile) (work : Work) (k : ℕ) → IsActorBy f work k → ((chore : Chore) → work ≡ Work.Chore chore → ⊥) → k ≡ 0 → ⊥
-not_first f (Work.Own task) k of not same = let some = of.0 in omega (arith, some, same)
+not_first f (Work.Own task) k of not same = omega (arith, of.0, same)
 not_first f (Work.Chore chore) k of not same = not chore refl
 
 -- by what it asks for: a chore is the scavenger's, and all else is a thread's
@@ -206,13 +197,12 @@ module _ {region : SharedRegion} {s : Shift} (ops : List Op) (i : ℕ) {h0 h : C
   pub crew_goes_on : {h' : Crew} → length h0.lent ≡ length s.idle → CrewDid region s (acts_of_chore s.idle chore) (scavenger_acts s.idle (drop (i + 1) ops)) h h' so.done.came.reached → CrewSoFar region s ops (i + 1) h0 h' p
   crew_goes_on {h'} many did =
       let one = so.done in
-      let many1 = one.stands.lent.many in
       goes_on (acts_of_chore s.idle chore) next so
       (record {
         came = came_both one.came did.came;
         stands = did.stands;
         told = pushed_both one.told did.told;
-        lent = λ j e less. told_both (one.lent j e less) (did.lent j e (omega (arith, less, many, many1)));
+        lent = λ j e less. told_both (one.lent j e less) (did.lent j e (omega (arith, less, many, one.stands.lent.many)));
         books = did.books ∙ one.books;
         others = λ k some other. no_part_both (one.others k some other) (did.others k some other);
       })

@@ -1,25 +1,21 @@
 -- Workers that are dealt into those of a mask and the others, and taken back; and the hands of a phase, before and after it.
-use Rattle.std.proofs.Common.{◌≡◌, ◌≢◌, ℕ, zero, suc, ◌+◌, ◌<◌, ◌≤◌, not, Bool, true, false, if◌then◌else◌, List, [], ◌∷◌, ◌++◌, map, length, get_or, reverse, refl, ap, sym, ◌∙◌, subst, arith, length-append, append_assoc, append-nil, All}
+use Rattle.std.proofs.Common.{◌≡◌, ◌≢◌, ℕ, zero, suc, ◌+◌, ◌<◌, ◌≤◌, not, Bool, true, false, if◌then◌else◌, List, [], ◌∷◌, ◌++◌, map, length, get_or, reverse}
+use Rattle.std.proofs.Common.{refl, ap, sym, ◌∙◌, subst, arith, length-append, append_assoc, append-nil, All}
 use Rattle.std.specs.List.{filter}
-use Rattle.std.proofs.lemmas.Bool.{not_from_true, not_from_false}
-use Rattle.std.proofs.lemmas.List.Elements.{All-same, All-map, All-push}
-use Rattle.std.proofs.lemmas.List.{reverse-append, nil_from_length, same_from_push}
+use Rattle.std.proofs.lemmas.{Bool.not_from_true, Bool.not_from_false, List.Elements.All-same, List.Elements.All-map, List.Elements.All-push}
+use Rattle.std.proofs.lemmas.{List.reverse-append, List.nil_from_length, List.same_from_push}
 use Rattle.pas_bits.specs.Masks.{is_set}
 use Rattle.pas_bits.specs.declared.mask.Mask4.{Mask4}
 use Rattle.pas_trace.specs.declared.plan.Op.{Op}
 use Rattle.pas_trace.specs.Acts.{is_active, numbers_from, idle_threads}
 use Rattle.pas_plans.proofs.ActsLeft.{threads_alike}
 use Rattle.pas_threads.specs.Dealing.{picked, count_of, is_in, is_out, AreDealt, AreSized}
-use Rattle.pas_threads.specs.Turns.{AreDistinct}
-use Rattle.pas_threads.specs.declared.workers.Worker.{Worker}
-use Rattle.pas_threads.specs.declared.hands.Hand.{Hand}
-use Rattle.pas_threads.specs.declared.hands.Hand.TheVariants.{Thread, Scavenger}
+use Rattle.pas_threads.specs.{Turns.AreDistinct, Pairs.MayDoPhase, Pairs.DidPhase, Scavengers.MayScavenge, Scavengers.DidScavenge, Acting.MayAct, Acting.DidAct}
+use Rattle.pas_threads.specs.{Acting.DidEach}
+use Rattle.pas_threads.specs.declared.{workers.Worker.Worker, hands.Hand.Hand, hands.Hand.TheVariants.Thread, hands.Hand.TheVariants.Scavenger}
+use Rattle.pas_threads.specs.declared.{scavenger.Scavenger.Scavenger as TheScavenger}
 use Rattle.pas_shared.specs.declared.region.SharedRegion.{SharedRegion}
-use Rattle.pas_threads.specs.Pairs.{MayDoPhase, DidPhase}
-use Rattle.pas_threads.specs.Scavengers.{MayScavenge, DidScavenge}
-use Rattle.pas_threads.specs.Acting.{MayAct, DidAct, DidEach}
 use Rattle.pas_acts.specs.declared.names.NameBook.{NameBook}
-use Rattle.pas_threads.specs.declared.scavenger.Scavenger.{Scavenger as TheScavenger}
 
 -- ---- what is picked
 module _ {A : Type 0} (chosen : ℕ → Bool) where
@@ -48,7 +44,7 @@ module _ {A : Type 0} (chosen : ℕ → Bool) where
       (picked_more (k + 1) xs y ∙ ap (λ (n : ℕ). picked chosen (k + 1) xs ++ (if chosen n then y ∷ [] else [])) (let is : k + 1 + length xs ≡ k + suc (length xs) = omega arith in is))
 
   at_if : (b : Bool) (x : A) (ys : List A) (r : ℕ) (d y : A) → (r < length ys) × (get_or ys r d ≡ y) → ((if b then suc r else r) < length (if b then x ∷ ys else ys)) × (get_or (if b then x ∷ ys else ys) (if b then suc r else r) d ≡ y)
-  at_if true x ys r d y at = (let lt = at.0 in omega (arith, lt), at.1)
+  at_if true x ys r d y at = (omega (arith, at.0), at.1)
   at_if false x ys r d y at = at
 
   -- what belongs to a number that is chosen stands behind all that is picked before it
@@ -107,7 +103,7 @@ AreRising k m (x ∷ xs) = (k ≤ x) × (x < m) × AreRising (x + 1) m xs
 
 rise_more : (k m : ℕ) (xs : List ℕ) → AreRising (k + 1) m xs → AreRising k m xs
 rise_more k m [] rise = tt
-rise_more k m (x ∷ xs) rise = (let low = rise.0 in omega (arith, low), rise.1, rise.2)
+rise_more k m (x ∷ xs) rise = (omega (arith, rise.0), rise.1, rise.2)
 
 rising_if : (t : Bool) (k m : ℕ) (xs : List ℕ) → k < m → AreRising (k + 1) m xs → AreRising k m (if t then k ∷ xs else xs)
 rising_if true k m xs lt rise = (omega arith, lt, rise)
@@ -122,7 +118,7 @@ rise_within k m [] i rise bad = absurd (omega (arith, bad))
 rise_within k m (x ∷ xs) zero rise lt = (rise.0, rise.1)
 rise_within k m (x ∷ xs) (suc i) rise lt =
     let rest = rise_within (x + 1) m xs i rise.2 (omega (arith, lt)) in
-    (let one = rise.0 in let low = rest.0 in omega (arith, one, low), rest.1)
+    (omega (arith, rise.0, rest.0), rest.1)
 
 rise_apart : (k m : ℕ) (xs : List ℕ) (i j : ℕ) → AreRising k m xs → i < length xs → j < length xs → i ≢ j → get_or xs i 0 ≢ get_or xs j 0
 rise_apart k m [] i j rise bad lt ne same = omega (arith, bad)
@@ -324,7 +320,7 @@ module _ {region : SharedRegion} {book : NameBook} {ops : List Op} where
   one_more w w' own hands did rest = record {
     after = w' ∷ rest.after;
     hands_are = ap (λ (hs : List Hand). Thread w' ∷ hs) rest.hands_are;
-    many = let many = rest.many in omega (arith, many);
+    many = omega (arith, rest.many);
     each = first_too w w' own rest.after did rest.each;
   }
 

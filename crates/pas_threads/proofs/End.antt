@@ -1,44 +1,30 @@
 -- The end of a replay: the passes of all actors, and what the closed region shows.
-use Rattle.std.proofs.Common.{◌≡◌, ℕ, zero, suc, ◌+◌, ◌-◌, ◌/◌, ◌<◌, ◌≤◌, List, [], ◌∷◌, ◌++◌, length, map, get_or, All, Bool, if◌then◌else◌, inl, inr, Option, Some, None, refl, ap, sym, ◌∙◌, subst, arith, length-append}
-use Rattle.std.proofs.lemmas.Bool.{cases_lt, ne_eqb}
-use Rattle.std.proofs.lemmas.List.{get_or-map, length-map}
-use Rattle.std.proofs.Math.ListN.{get_or-append}
-use Rattle.std.proofs.Math.Seq.{get_or-append-add}
-use Rattle.std.proofs.lemmas.List.Elements.{All-cons, All-map, All-append}
-use Rattle.std.proofs.lemmas.Option.{same_Some}
+use Rattle.std.proofs.Common.{◌≡◌, ℕ, zero, suc, ◌+◌, ◌-◌, ◌/◌, ◌<◌, ◌≤◌, List, [], ◌∷◌, ◌++◌, length, map, get_or, All, Bool, if◌then◌else◌, inl, inr, Option}
+use Rattle.std.proofs.Common.{Some, None, refl, ap, sym, ◌∙◌, subst, arith, length-append, ne_eqb}
+use Rattle.std.proofs.{lemmas.Bool.cases_lt, lemmas.List.get_or-map, lemmas.List.length-map, Math.ListN.get_or-append, Math.Seq.get_or-append-add}
+use Rattle.std.proofs.{lemmas.List.Elements.All-cons, lemmas.List.Elements.All-map, lemmas.List.Elements.All-append, lemmas.Option.same_Some}
 use Rattle.pas_profile.specs.Profiles.{IsValid}
 use Rattle.pas_profile.specs.declared.profile.Profile.{Profile}
-use Rattle.pas_steps.specs.Clear.{HasNothing}
-use Rattle.pas_steps.specs.Lists.{Whole, part, Legal}
+use Rattle.pas_steps.specs.{Clear.HasNothing, Lists.Whole, Lists.part, Lists.Legal}
 use Rattle.pas_steps.specs.declared.state.State.{State}
 use Rattle.pas_trace.specs.Plans.{ops_of, phases_of as the_phases}
-use Rattle.pas_trace.specs.declared.plan.Phase.{Phase}
-use Rattle.pas_trace.specs.declared.plan.Plan.{Plan}
+use Rattle.pas_trace.specs.declared.plan.{Phase.Phase, Plan.Plan}
 use Rattle.pas_report.specs.declared.record.Record.{Record}
 use Rattle.pas_guard.specs.Books.{is_outer}
 use Rattle.pas_guard.specs.declared.book.Guard.{Guard}
 use Rattle.pas_cache.specs.Caches.{cached}
-use Rattle.pas_shared.specs.Ledgers.{EndsAfter}
-use Rattle.pas_shared.specs.Passes.{seat_of, view_of, IsPassOf}
-use Rattle.pas_shared.specs.declared.pass.SharedPass.{SharedPass}
-use Rattle.pas_shared.specs.declared.region.SharedRegion.{SharedRegion}
-use Rattle.pas_answers.specs.Answers.{Progress}
-use Rattle.pas_answers.specs.Fit.{AreOfThreads}
+use Rattle.pas_shared.specs.{Ledgers.EndsAfter, Passes.seat_of, Passes.view_of, Passes.IsPassOf}
+use Rattle.pas_shared.specs.declared.{pass.SharedPass.SharedPass, region.SharedRegion.SharedRegion}
+use Rattle.pas_answers.specs.{Answers.Progress, Fit.AreOfThreads, Ways.OnThreads}
 use Rattle.pas_answers.specs.Replays.{phases_of, region_of, threads_of, acts_of_plan, Shows}
-use Rattle.pas_answers.specs.Ways.{OnThreads}
 use Rattle.pas_answers.proofs.Consequences.{replays}
 use Rattle.pas_trace.proofs.Keepers.{plan_actors}
 use Rattle.pas_plans.proofs.Nothing.{nothing, no_slots}
-use Rattle.pas_threads.specs.Hands.{HasPass}
+use Rattle.pas_threads.specs.{Hands.HasPass, Sessions.Session, Sessions.TeamAt, Sessions.HasReplayed}
 use Rattle.pas_threads.specs.Kits.{AreAllBack, slots_of, kept_pass, kept_passes}
 use Rattle.pas_threads.specs.Pairs.{no_more, HasKeeper, AreGuarded, IsLow, KeeperStands}
-use Rattle.pas_threads.specs.Sessions.{Session, TeamAt, HasReplayed}
-use Rattle.pas_threads.specs.declared.keeper.Keeper.{Keeper}
-use Rattle.pas_threads.specs.declared.phases.Team.{Team}
-use Rattle.pas_threads.specs.declared.workers.Worker.{Worker}
-use Rattle.pas_threads.proofs.Dealt.{some_worker}
-use Rattle.pas_threads.proofs.Keepers.{stands_for}
-use Rattle.pas_threads.proofs.Start.{session_of}
+use Rattle.pas_threads.specs.declared.{keeper.Keeper.Keeper, phases.Team.Team, workers.Worker.Worker}
+use Rattle.pas_threads.proofs.{Dealt.some_worker, Keepers.stands_for, Start.session_of}
 
 -- ---- handing back
 -- the worker has its pass
@@ -113,7 +99,7 @@ kept_back [] i d lt = absurd (omega (arith, lt))
 kept_back (w ∷ ws) i d lt = All-append IsBackAt (kept_pass w.keeper) (kept_passes ws) (one_back w.keeper) (kept_back ws) i d lt
 
 -- as many as keepers
-pub kept_count : {keepers : ℕ} (workers : List Worker) → AreGuarded keepers workers → length (kept_passes workers) ≡ keepers
+kept_count : {keepers : ℕ} (workers : List Worker) → AreGuarded keepers workers → length (kept_passes workers) ≡ keepers
 kept_count workers (inl all) = a_pass workers all.1 ∙ sym all.0
 kept_count workers (inr none) = ap (λ (ps : List (Option SharedPass)). length ps) (no_pass workers none.1) ∙ sym none.0
 
@@ -131,16 +117,14 @@ module _ {region : SharedRegion} {s : Session} {team : Team} {end : Progress} (s
       let to = length-map team.threads.items (λ (w : Worker). w.pass) in
       let both = length-append own_passes (kept_passes team.threads.items) in
       let kept = kept_count team.threads.items stands.guarded in
-      let many = stands.many in
-      omega (arith, to, both, kept, many)
+      omega (arith, to, both, kept, stands.many)
 
   module _ (passes : List SharedPass) (back : map (λ (pass : SharedPass). Some pass) passes ≡ slots_of team) where
     count : length passes ≡ s.threads + s.keepers + 1
     count =
         let same = ap (λ (slots : List (Option SharedPass)). length slots) back in
         let from = length-map passes (λ (pass : SharedPass). Some pass) in
-        let to = all_slots in
-        omega (arith, same, from, to)
+        omega (arith, same, from, all_slots)
 
     -- the pass at number k is that of actor k
     slot_is : (k : ℕ) (d : SharedPass) → k < length passes → get_or (slots_of team) k None ≡ Some (get_or passes k d)
@@ -156,18 +140,16 @@ module _ {region : SharedRegion} {s : Session} {team : Team} {end : Progress} (s
 
     -- (for a keeper, which has its pass at its place behind the threads)
     own_keeper : (j : ℕ) (d : SharedPass) → s.threads + suc j < length passes → j < s.keepers → AreGuarded s.keepers team.threads.items → IsOwn region end.list (s.threads + suc j) (get_or passes (s.threads + suc j) d)
-    own_keeper j d lt kept (inr none) = let bad = none.0 in absurd (omega (arith, bad, kept))
+    own_keeper j d lt kept (inr none) = absurd (omega (arith, none.0, kept))
     own_keeper j d lt kept (inl all) =
-        let many = stands.many in
-        let count_is = all.0 in
         let workers = team.threads.items in
-        let below : j < length workers = omega (arith, kept, count_is) in
+        let below : j < length workers = omega (arith, kept, all.0) in
         let w = some_worker workers j below in
         let has = all.1 j w below in
         let rests = stands.kept j w below in
         let stood : KeeperStands region s.profile (s.threads + suc j) has.0 no_more end = stands_for (get_or workers j w).keeper has.0 has.1 rests.of rests.waits in
         let size = length-map workers (λ (w : Worker). w.pass) in
-        let place : s.threads + suc j ≡ suc (length own_passes + j) = omega (arith, many, size) in
+        let place : s.threads + suc j ≡ suc (length own_passes + j) = omega (arith, stands.many, size) in
         let at : Some has.0.pass ≡ Some (get_or passes (s.threads + suc j) d) =
         sym (pass_at workers j w has.0 all.1 below has.1) ∙ sym (get_or-append-add own_passes (kept_passes workers) j None) ∙ ap (λ (k : ℕ). get_or (slots_of team) k None) (sym place) ∙ slot_is (s.threads + suc j) d lt in
         subst (IsOwn region end.list (s.threads + suc j)) (same_Some has.0.pass (get_or passes (s.threads + suc j) d) at) (record { of_region = stood.of; actor = stood.at.sits.actor; part_is = stood.at.sits.stood })
@@ -178,9 +160,8 @@ module _ {region : SharedRegion} {s : Session} {team : Team} {end : Progress} (s
         own_at region end.list 0 team.scavenger.pass stands.scavenger.has (get_or passes 0 d) (slot_is 0 d lt) sits.actor sits.stood
     own (suc i) d lt =
         let all = count in
-        let many = stands.many in
         elim (cases_lt i s.threads) [
-          | inl within ↦ own_thread i d lt (omega (arith, within, many))
+          | inl within ↦ own_thread i d lt (omega (arith, within, stands.many))
           | inr past ↦
               let place : s.threads + suc (i - s.threads) ≡ suc i = omega (arith, past) in
               subst (λ (k : ℕ). IsOwn region end.list k (get_or passes k d)) place (own_keeper (i - s.threads) d (omega (arith, place, lt)) (omega (arith, past, lt, all)) stands.guarded)
@@ -190,12 +171,11 @@ module _ {region : SharedRegion} {s : Session} {team : Team} {end : Progress} (s
     all_of_region k d lt = (own k d lt).of_region
 
     -- the list of the closed region has of each actor the same part as that of the pieces
-    pub same_parts : (whole : Whole) → s.profile.threads ≤ s.threads + s.keepers → Legal s.profile whole → All (λ pass. part (seat_of pass).actor whole ≡ view_of pass) passes → (k : ℕ) → part k whole ≡ part k end.list
+    same_parts : (whole : Whole) → s.profile.threads ≤ s.threads + s.keepers → Legal s.profile whole → All (λ pass. part (seat_of pass).actor whole ≡ view_of pass) passes → (k : ℕ) → part k whole ≡ part k end.list
     same_parts whole every legal parts k = elim (cases_lt (s.threads + s.keepers) k) [
       | inl past ↦ nobody_past s.profile whole k (omega (arith, past, every)) legal ∙ sym (stands.nobody k past)
       | inr within ↦
-          let all = count in
-          let below : k < length passes = omega (arith, within, all) in
+          let below : k < length passes = omega (arith, within, count) in
           let d = some_pass passes (omega (arith, below)) in
           let is = own k d below in
           ap (λ (n : ℕ). part n whole) (sym is.actor) ∙ parts k d below ∙ is.part_is
@@ -204,19 +184,17 @@ module _ {region : SharedRegion} {s : Session} {team : Team} {end : Progress} (s
   -- at the end all actors have nothing, where no cache has a local allocator and no guard is up
   thread_bare : ((i : ℕ) (d : Worker) → i < length team.threads.items → (cached (get_or team.threads.items i d).cache).locals ≡ []) → (i : ℕ) → i < s.threads → HasNothing (part (suc i) end.list)
   thread_bare empty i lt =
-      let many = stands.many in
-      let below : i < length team.threads.items = omega (arith, lt, many) in
+      let below : i < length team.threads.items = omega (arith, lt, stands.many) in
       let d = some_worker team.threads.items i below in
       let rest = (stands.workers i d below).here.rests.sits.rest in
       let none = no_slots (cached (get_or team.threads.items i d).cache).locals (empty i d below) in
       record { grains = λ g. rest.locals.grains g ∙ (none g).0; rights = λ page. rest.locals.rights page ∙ (none page).1; clear = rest.locals.clear }
 
   keeper_bare : ((i : ℕ) (d : Worker) → i < length team.threads.items → IsLow (get_or team.threads.items i d).keeper) → (j : ℕ) → j < s.keepers → AreGuarded s.keepers team.threads.items → HasNothing (part (s.threads + suc j) end.list)
-  keeper_bare low j lt (inr none) = let bad = none.0 in absurd (omega (arith, bad, lt))
+  keeper_bare low j lt (inr none) = absurd (omega (arith, none.0, lt))
   keeper_bare low j lt (inl all) =
-      let count = all.0 in
       let workers = team.threads.items in
-      let below : j < length workers = omega (arith, lt, count) in
+      let below : j < length workers = omega (arith, lt, all.0) in
       let w = some_worker workers j below in
       let has = all.1 j w below in
       let rests = stands.kept j w below in
@@ -225,7 +203,7 @@ module _ {region : SharedRegion} {s : Session} {team : Team} {end : Progress} (s
       let none = subst (λ (o : Option Keeper). IsLow o) has.1 (low j w below) in
       record { grains = λ g. fits.held g ∙ ap (λ (gs : List Guard). is_outer gs (g / 256)) none; rights = fits.rights; clear = fits.clear }
 
-  pub bare_at : ((i : ℕ) (d : Worker) → i < length team.threads.items → (cached (get_or team.threads.items i d).cache).locals ≡ []) → ((i : ℕ) (d : Worker) → i < length team.threads.items → IsLow (get_or team.threads.items i d).keeper) → (k : ℕ) → HasNothing (part k end.list)
+  bare_at : ((i : ℕ) (d : Worker) → i < length team.threads.items → (cached (get_or team.threads.items i d).cache).locals ≡ []) → ((i : ℕ) (d : Worker) → i < length team.threads.items → IsLow (get_or team.threads.items i d).keeper) → (k : ℕ) → HasNothing (part k end.list)
   bare_at empty low zero = stands.scavenger.at.stands.sits.rest
   bare_at empty low (suc i) = elim (cases_lt i s.threads) [
     | inl within ↦ thread_bare empty i within

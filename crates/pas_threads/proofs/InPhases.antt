@@ -1,38 +1,26 @@
 -- The phases of a replay: acts without a mark, acts after one another, and what a settled ledger has of a team.
-use Rattle.std.proofs.Common.{◌≡◌, ℕ, zero, suc, ◌+◌, ◌-◌, ◌<◌, ◌≤◌, ◌==◌, Bool, true, false, if◌then◌else◌, inl, inr, List, [], ◌∷◌, ◌++◌, length, map, get_or, Option, Some, None, refl, ap, sym, ◌∙◌, subst, arith, append_assoc}
+use Rattle.std.proofs.Common.{◌≡◌, ℕ, zero, suc, ◌+◌, ◌-◌, ◌<◌, ◌≤◌, ◌==◌, Bool, true, false, if◌then◌else◌, inl, inr, List, [], ◌∷◌, ◌++◌, length, map, get_or}
+use Rattle.std.proofs.Common.{Option, Some, None, refl, ap, sym, ◌∙◌, subst, arith, append_assoc, vec_capacity}
 use Rattle.std.specs.List.{AllByRecursion}
-use Rattle.std.specs.Prelude.{vec_capacity}
 use Rattle.std.proofs.lemmas.Bool.{cases_lt}
 use Rattle.pas_profile.specs.declared.profile.Profile.{Profile}
 use Rattle.pas_profile.proofs.Lists.{all_both}
-use Rattle.pas_steps.specs.Lists.{Whole, part}
-use Rattle.pas_steps.specs.Views.{View}
+use Rattle.pas_steps.specs.{Lists.Whole, Lists.part, Views.View}
 use Rattle.pas_steps.specs.declared.step.Made.{Made}
-use Rattle.pas_trace.specs.Acts.{Act, MarksPhase, MarksClose, Wakes, StopsIdle, Ends, Lowers, active_threads, idle_threads, numbers_from, own_acts, act_kept, acts_of_work, acts_of_ops, phase_acts}
-use Rattle.pas_trace.specs.Asked.{work_of, keeper_of}
-use Rattle.pas_trace.specs.EveryPhase.{FreeTheirOwn}
-use Rattle.pas_trace.specs.EveryPlan.{all_ops, own_records}
-use Rattle.pas_trace.specs.declared.plan.Chore.{Chore}
-use Rattle.pas_trace.specs.declared.plan.Op.{Op}
-use Rattle.pas_trace.specs.declared.plan.Work.{Work}
-use Rattle.pas_shared.specs.Ruled.{IsEarlier}
-use Rattle.pas_shared.specs.Passes.{seat_of, view_of}
-use Rattle.pas_shared.specs.declared.region.SharedRegion.{SharedRegion}
-use Rattle.pas_shared.specs.declared.pass.SharedPass.{SharedPass}
-use Rattle.pas_acts.specs.NameBooks.{NamesAt}
+use Rattle.pas_trace.specs.Acts.{Act, MarksPhase, MarksClose, Wakes, StopsIdle, Ends, Lowers, active_threads, idle_threads, numbers_from, own_acts, act_kept}
+use Rattle.pas_trace.specs.Acts.{acts_of_work, acts_of_ops, phase_acts}
+use Rattle.pas_trace.specs.{Asked.work_of, Asked.keeper_of, EveryPhase.FreeTheirOwn, EveryPlan.all_ops, EveryPlan.own_records}
+use Rattle.pas_trace.specs.declared.plan.{Chore.Chore, Op.Op, Work.Work}
+use Rattle.pas_shared.specs.{Ruled.IsEarlier, Passes.seat_of, Passes.view_of}
+use Rattle.pas_shared.specs.declared.{region.SharedRegion.SharedRegion, pass.SharedPass.SharedPass}
+use Rattle.pas_acts.specs.{NameBooks.NamesAt, Pairs.KeeperWaits}
 use Rattle.pas_acts.specs.declared.names.NameBook.{NameBook}
-use Rattle.pas_answers.specs.Answers.{Progress}
-use Rattle.pas_answers.specs.Reaching.{Reaches}
+use Rattle.pas_answers.specs.{Answers.Progress, Reaching.Reaches, Phases.StandFirst, Phases.AtMark, Phases.AreInPhases}
 use Rattle.pas_answers.proofs.Reached.{reach_both}
-use Rattle.pas_acts.specs.Pairs.{KeeperWaits}
 use Rattle.pas_threads.specs.Pairs.{no_more, kept_by_worker, AreGuarded, KeeperRests}
-use Rattle.pas_answers.specs.Phases.{StandFirst, AtMark, AreInPhases}
 use Rattle.pas_threads.specs.Sessions.{Session, planned, TeamAt, AreResting, ScavengerRests, IsOfActors}
 use Rattle.pas_threads.specs.Settling.{StandsIn, TeamStandsIn, IsSameTeam}
-use Rattle.pas_threads.specs.declared.keeper.Keeper.{Keeper}
-use Rattle.pas_threads.specs.declared.phases.Team.{Team}
-use Rattle.pas_threads.specs.declared.scavenger.Scavenger.{Scavenger}
-use Rattle.pas_threads.specs.declared.workers.Worker.{Worker}
+use Rattle.pas_threads.specs.declared.{keeper.Keeper.Keeper, phases.Team.Team, scavenger.Scavenger.Scavenger, workers.Worker.Worker}
 use Rattle.pas_threads.proofs.Dealt.{some_worker}
 
 -- ---- acts without a mark
@@ -91,7 +79,7 @@ none_more true m v is = absurd (let n = ap (λ (w : View). length w) is in omega
 none_more false m v is = is
 
 -- who has no part in a list has none in its first steps
-pub none_first : (k : ℕ) (since l : Whole) → part k (since ++ l) ≡ [] → part k l ≡ []
+none_first : (k : ℕ) (since l : Whole) → part k (since ++ l) ≡ [] → part k l ≡ []
 none_first k [] l is = is
 none_first k (t ∷ since) l is = none_first k since l (none_more (t.actor == k) t.made (part k (since ++ l)) is)
 
@@ -99,18 +87,16 @@ none_first k (t ∷ since) l is = none_first k since l (none_more (t.actor == k)
 module _ {region : SharedRegion} {s : Session} {phases : List (List Op)} {team : Team} {p : Progress} (at : TeamAt region s phases team p) (l : Whole) (stands : TeamStandsIn l team) where
   stand_thread : (i : ℕ) → i < s.threads → part (suc i) l ≡ part (suc i) p.list
   stand_thread i lt =
-      let many = at.many in
-      let below : i < length team.threads.items = omega (arith, lt, many) in
+      let below : i < length team.threads.items = omega (arith, lt, at.many) in
       let d = some_worker team.threads.items i below in
       let here = (at.workers i d below).here in
       ap (λ (n : ℕ). part n l) (sym here.rests.sits.actor) ∙ stands.threads i d here.has.pass below here.has.present ∙ here.rests.sits.stood
 
   stand_keeper : (j : ℕ) → j < s.keepers → AreGuarded s.keepers team.threads.items → part (s.threads + suc j) l ≡ part (s.threads + suc j) p.list
-  stand_keeper j lt (inr none) = let bad = none.0 in absurd (omega (arith, bad, lt))
+  stand_keeper j lt (inr none) = absurd (omega (arith, none.0, lt))
   stand_keeper j lt (inl all) =
-      let count = all.0 in
       let workers = team.threads.items in
-      let below : j < length workers = omega (arith, lt, count) in
+      let below : j < length workers = omega (arith, lt, all.0) in
       let w = some_worker workers j below in
       let has = all.1 j w below in
       let rests = at.kept j w below in
@@ -133,8 +119,6 @@ module _ {region : SharedRegion} {s : Session} {phases : List (List Op)} {team :
 pub same_team : {region : SharedRegion} {s : Session} {phases : List (List Op)} {old new : Team} {p : Progress} → IsSameTeam old new → TeamAt region s phases old p → TeamAt region s phases new p
 same_team {region} {s} {phases} {old} {new} {p} same at =
     let ws = sym same.threads in
-    let size = same.places in
-    let hand_size = same.hand_places in
     let both = subst (λ (b : NameBook). (names : NamesAt s.profile (all_ops phases) b p) × FreeTheirOwn names.asked phases) (sym same.book) (at.names, at.frees) in
     record {
       many = ap (λ (us : List Worker). length us) same.threads ∙ at.many;
@@ -151,8 +135,8 @@ same_team {region} {s} {phases} {old} {new} {p} same at =
       names = both.0;
       frees = both.1;
       places = record {
-        workers = let had = at.places.workers in omega (arith, had, size);
-        hands = let had = at.places.hands in omega (arith, had, hand_size);
+        workers = omega (arith, at.places.workers, same.places);
+        hands = omega (arith, at.places.hands, same.hand_places);
         lent = subst (λ (v : Scavenger). s.threads ≤ vec_capacity v.lent) (sym same.scavenger) at.places.lent;
         free = same.hands ∙ at.places.free;
       };

@@ -1,36 +1,31 @@
 -- The keepers of workers: how they stand on while others act, what is gathered of them, and their last sweeps.
-use Rattle.std.proofs.Common.{◌≡◌, ◌≢◌, ℕ, suc, ◌+◌, ◌-◌, ◌<◌, ◌≤◌, ◌==◌, Bool, true, false, if◌then◌else◌, inl, inr, List, [], ◌∷◌, ◌++◌, length, set, get_or, map, Option, Some, None, refl, ap, sym, ◌∙◌, subst, arith, append_assoc}
-use Rattle.std.proofs.lemmas.Bool.{eq-eqb, ne_eqb}
-use Rattle.std.proofs.lemmas.List.{append-nil, get_or-map, get_or_default, get_or-set_other}
+use Rattle.std.proofs.Common.{◌≡◌, ◌≢◌, ℕ, suc, ◌+◌, ◌-◌, ◌<◌, ◌≤◌, ◌==◌, Bool, true, false, if◌then◌else◌, inl, inr, List, [], ◌∷◌, ◌++◌, length, set, get_or}
+use Rattle.std.proofs.Common.{map, Option, Some, None, refl, ap, sym, ◌∙◌, subst, arith, append_assoc, eq-eqb, ne_eqb, append-nil, get_or-set_other}
+use Rattle.std.proofs.lemmas.List.{get_or-map, get_or_default}
 use Rattle.pas_profile.specs.declared.profile.Profile.{Profile}
-use Rattle.pas_steps.specs.Lists.{Whole, part}
-use Rattle.pas_steps.specs.Views.{View}
+use Rattle.pas_steps.specs.{Lists.Whole, Lists.part, Views.View}
 use Rattle.pas_steps.proofs.Parts.{part_of_others}
 use Rattle.pas_report.specs.Rooms.{records_in, room_of}
 use Rattle.pas_report.specs.declared.record.Record.{Record}
 use Rattle.pas_guard.specs.Books.{guards_in}
 use Rattle.pas_guard.specs.declared.book.GuardBook.{GuardBook}
 use Rattle.pas_shared.specs.Passes.{IsPassOf}
-use Rattle.pas_shared.specs.declared.region.SharedRegion.{SharedRegion}
-use Rattle.pas_shared.specs.declared.pass.SharedPass.{SharedPass}
+use Rattle.pas_shared.specs.declared.{region.SharedRegion.SharedRegion, pass.SharedPass.SharedPass}
 use Rattle.pas_trace.specs.Asked.{keeper_in}
 use Rattle.pas_trace.specs.Acts.{Act, Settles, Lowers, act_kept, numbers_from, own_acts}
 use Rattle.pas_trace.specs.declared.plan.Op.{Op}
-use Rattle.pas_answers.specs.Answers.{Progress}
-use Rattle.pas_answers.specs.Keeping.{owed_by_keeper}
-use Rattle.pas_answers.specs.Ways.{is_of, records_by}
+use Rattle.pas_answers.specs.{Answers.Progress, Keeping.owed_by_keeper, Ways.is_of, Ways.records_by}
 use Rattle.pas_answers.proofs.OwnRecords.{records_both, all_by, none_by, spoken_piece, spoken_both}
 use Rattle.pas_answers.proofs.Reached.{reach_both}
 use Rattle.pas_acts.specs.Keepers.{LaterKept, Keeping, NoKeeper, OneKeeper, KeeperAt, KeeperLowers, keeper_has}
-use Rattle.pas_acts.specs.Pairs.{for_guard, for_guards, IsTriedBy, AreTriedBy, IsUnguarded, AreUnguarded, KeeperWaits, EachOfTwo, KeptPushed, KeptStill, owed_of}
+use Rattle.pas_acts.specs.Pairs.{for_guard, for_guards, IsTriedBy, AreTriedBy, IsUnguarded, AreUnguarded, KeeperWaits, EachOfTwo, KeptPushed, KeptStill}
+use Rattle.pas_acts.specs.Pairs.{owed_of}
 use Rattle.pas_acts.proofs.Keeping.{keeper_still}
-use Rattle.pas_plans.proofs.ActsLeft.{number_next, number_last}
-use Rattle.pas_plans.proofs.ActsOfPlan.{all_front, all_back}
-use Rattle.pas_threads.specs.Hands.{standing_of_pass}
-use Rattle.pas_threads.specs.Pairs.{kept_by_worker, IsKeeperOf, IsSilent, no_more, owed_kept, keeper_at, AreGuarded, IsLow, IsButKeeper, KeptSo, Lowered, LoweredAll, MayLower, KeeperStands, KeeperLowered}
-use Rattle.pas_threads.specs.Turns.{HasSaid}
-use Rattle.pas_threads.specs.declared.keeper.Keeper.{Keeper}
-use Rattle.pas_threads.specs.declared.workers.Worker.{Worker}
+use Rattle.pas_plans.proofs.{ActsLeft.number_next, ActsLeft.number_last, ActsOfPlan.all_front, ActsOfPlan.all_back}
+use Rattle.pas_threads.specs.{Hands.standing_of_pass, Turns.HasSaid}
+use Rattle.pas_threads.specs.Pairs.{kept_by_worker, IsKeeperOf, IsSilent, no_more, owed_kept, keeper_at, AreGuarded, IsLow, IsButKeeper, KeptSo, Lowered}
+use Rattle.pas_threads.specs.Pairs.{LoweredAll, MayLower, KeeperStands, KeeperLowered}
+use Rattle.pas_threads.specs.declared.{keeper.Keeper.Keeper, workers.Worker.Worker}
 use Rattle.pas_threads.proofs.TakingTurns.{SoFar, at_first, goes_on, at_last, set_each}
 
 -- ---- the acts of a thread
@@ -98,7 +93,7 @@ pub kept_none : (k : ℕ) (said : List Record) (kept : Keeping) → records_by k
 kept_none k said NoKeeper none = none
 kept_none k said (OneKeeper has) none = (sym (append-nil (records_in has.out)) ∙ ap (λ (rs : List Record). records_in has.out ++ rs) (sym none), refl, refl)
 
-pub kept_both : (k : ℕ) (xs ys : List Record) (a b c : Keeping) → KeptPushed k xs a b → KeptPushed k ys b c → KeptPushed k (xs ++ ys) a c
+kept_both : (k : ℕ) (xs ys : List Record) (a b c : Keeping) → KeptPushed k xs a b → KeptPushed k ys b c → KeptPushed k (xs ++ ys) a c
 kept_both k xs ys NoKeeper NoKeeper NoKeeper one two = records_both k xs ys ∙ ap (λ (rs : List Record). rs ++ records_by k ys) one ∙ two
 kept_both k xs ys NoKeeper NoKeeper (OneKeeper c) one two = absurd two
 kept_both k xs ys NoKeeper (OneKeeper b) c one two = absurd one
@@ -286,7 +281,6 @@ module _ {region : SharedRegion} {f : Profile} {threads keepers : ℕ} {old now 
       let had = x.each i e lt in
       let same : get_or now i e ≡ get_or old i e = x.left i e (omega arith) lt in
       let changed : IsButKeeper (get_or now i e) w = subst (λ (v : Worker). IsButKeeper v w) (get_or_default now i d e here) but in
-      let few = y.few in
       let size = ap (λ (rs : List Record). length rs) said_own in
       let owed = ap (λ (o : Option Keeper). owed_kept f k o p) (ap (λ (v : Worker). v.keeper) (sym same) ∙ was e) in
       let pushed : KeptPushed k y.said (kept_by_worker (Some keeper)) (kept_by_worker (Some after)) = (y.pushed ∙ ap (λ (rs : List Record). records_in keeper.out ++ rs) (sym (all_by k y.said y.each)), y.room, y.size) in
@@ -296,7 +290,7 @@ module _ {region : SharedRegion} {f : Profile} {threads keepers : ℕ} {old now 
         waits = subst (λ (o : Option Keeper). KeeperWaits f k [] (kept_by_worker o) no_more y.reached) (sym lowered) (tt, y.stands);
         told = kept_both k x.said y.said (kept_by_worker (get_or old i e).keeper) (kept_by_worker (get_or now i e).keeper) (kept_by_worker w.keeper) had.told
             (subst (λ (o : Option Keeper). KeptPushed k y.said (kept_by_worker o) (kept_by_worker w.keeper)) (sym (was e)) (subst (λ (o : Option Keeper). KeptPushed k y.said (kept_by_worker (Some keeper)) (kept_by_worker o)) (sym lowered) pushed));
-        paid = omega (arith, few, size, owed);
+        paid = omega (arith, y.few, size, owed);
       }
 
   other_one : (j : ℕ) (e : Worker) → j < length old → j ≢ i → KeptSo region f threads (suc j) (x.said ++ y.said) (get_or old j e) (get_or now j e) p y.reached
@@ -339,8 +333,8 @@ module _ {region : SharedRegion} {f : Profile} {threads keepers : ℕ} {old now 
       })
 
 most_keepers : {keepers : ℕ} (old : List Worker) → AreGuarded keepers old → keepers ≤ length old
-most_keepers old (inl all) = let is = all.0 in omega (arith, is)
-most_keepers old (inr none) = let is = none.0 in omega (arith, is)
+most_keepers old (inl all) = omega (arith, all.0)
+most_keepers old (inr none) = omega (arith, none.0)
 
 pub lower_ends : {region : SharedRegion} {f : Profile} {threads keepers : ℕ} {old now : List Worker} {p : Progress} (i : ℕ) → MayLower region f threads keepers old p → length old ≤ i → i ≤ length old → LoweredSoFar region f threads keepers i old now p → LoweredAll region f threads keepers old now p
 lower_ends {region} {f} {threads} {keepers} {old} {now} {p} i may le ge so =

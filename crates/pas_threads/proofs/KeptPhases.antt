@@ -6,19 +6,16 @@ use Rattle.pas_report.specs.declared.record.Record.{Record}
 use Rattle.pas_shared.specs.declared.region.SharedRegion.{SharedRegion}
 use Rattle.pas_trace.specs.Acts.{Act, own_acts}
 use Rattle.pas_trace.specs.declared.plan.Op.{Op}
-use Rattle.pas_answers.specs.Answers.{Progress}
-use Rattle.pas_answers.specs.Ways.{records_by}
+use Rattle.pas_answers.specs.{Answers.Progress, Ways.records_by}
 use Rattle.pas_shares.specs.Shares.{owner_in}
 use Rattle.pas_shares.proofs.PhaseActs.{own_thread, kept_thread, owner_of}
 use Rattle.pas_acts.specs.Keepers.{Keeping, NoKeeper, OneKeeper, LaterKept}
 use Rattle.pas_acts.specs.Pairs.{for_guards, KeeperWaits, KeptPushed, KeptStill}
 use Rattle.pas_threads.specs.Pairs.{kept_by_worker, IsSilent, no_more, KeeperRests, said_by_keeper, owed_kept, AreGuarded}
-use Rattle.pas_threads.specs.Performing.{Round, ThreadDone}
-use Rattle.pas_threads.specs.Taken.{IsEmptied}
-use Rattle.pas_threads.specs.Turns.{HasSaid, IsGathered, IsKeptGathered}
-use Rattle.pas_threads.specs.declared.keeper.Keeper.{Keeper}
-use Rattle.pas_threads.specs.declared.workers.Worker.{Worker}
-use Rattle.pas_threads.proofs.Keepers.{own_acts_both, waits_front, WillWait, will_wait, will_wait_then, waits_next, waits_still, waits_gathered, of_gathered, silent_gathered, owed_gathered}
+use Rattle.pas_threads.specs.{Performing.Round, Performing.ThreadDone, Taken.IsEmptied, Turns.HasSaid, Turns.IsGathered, Turns.IsKeptGathered}
+use Rattle.pas_threads.specs.declared.{keeper.Keeper.Keeper, workers.Worker.Worker}
+use Rattle.pas_threads.proofs.Keepers.{own_acts_both, waits_front, WillWait, will_wait, will_wait_then, waits_next, waits_still, waits_gathered, of_gathered}
+use Rattle.pas_threads.proofs.Keepers.{silent_gathered, owed_gathered}
 
 -- ---- whose hands a keeper is in
 pub kept_hands : (threads : ℕ) (ops : List Op) (i : ℕ) → suc i ≤ threads → owner_in threads ops (threads + suc i) ≡ owner_in threads ops (suc i)

@@ -1,21 +1,15 @@
 -- How the keepers of a plan are made: what they may say, their passes and books, and who has them.
-use Rattle.std.proofs.Common.{◌≡◌, ◌≢◌, ℕ, zero, suc, ◌+◌, ◌*◌, ◌<◌, ◌≤◌, ◌==◌, min, Bool, true, false, if◌then◌else◌, List, [], ◌∷◌, ◌++◌, length, set, get_or, slice_index, slice_index_or, All, inl, inr, Option, Some, None, refl, ap, sym, ◌∙◌, subst, arith}
+use Rattle.std.proofs.Common.{◌≡◌, ◌≢◌, ℕ, zero, suc, ◌+◌, ◌*◌, ◌<◌, ◌≤◌, ◌==◌, min, Bool, true, false, if◌then◌else◌, List, [], ◌∷◌, ◌++◌, length, set, get_or}
+use Rattle.std.proofs.Common.{slice_index, slice_index_or, All, inl, inr, Option, Some, None, refl, ap, sym, ◌∙◌, subst, arith, ◌-◌, ◌^◌, eq-eqb, ne_eqb}
+use Rattle.std.proofs.Common.{get_or-set_same, get_or-set_other}
 use Rattle.std.specs.List.{AllByRecursion}
-use Rattle.std.specs.Prelude.{◌-◌, ◌^◌}
-use Rattle.std.proofs.Math.Nat.{le-min, mul-le-mul}
-use Rattle.std.proofs.lemmas.Bool.{cases_lt, cases_eq, eq-eqb, ne_eqb}
-use Rattle.std.proofs.lemmas.List.{get_or_append_left, get_or_push, get_or_at, get_or-set_same, get_or-set_other}
+use Rattle.std.proofs.{Math.Nat.le-min, Math.Nat.mul-le-mul, lemmas.Bool.cases_lt, lemmas.Bool.cases_eq, lemmas.List.get_or_append_left}
+use Rattle.std.proofs.{lemmas.List.get_or_push, lemmas.List.get_or_at}
 use Rattle.pas_profile.specs.declared.profile.Profile.{Profile}
-use Rattle.pas_trace.specs.Asked.{work_of, keeper_in}
+use Rattle.pas_trace.specs.{Asked.work_of, Asked.keeper_in, Plans.IsPlanOf, Plans.bounds_of, Reasons.cost_of_size, Reasons.actors_by}
 use Rattle.pas_trace.specs.EveryPlan.{kept_of_work, kept_records, records_of_what, records_of_ops, operations_of}
-use Rattle.pas_trace.specs.Plans.{IsPlanOf, bounds_of}
-use Rattle.pas_trace.specs.Reasons.{cost_of_size, actors_by}
-use Rattle.pas_trace.specs.declared.plan.Op.{Op}
-use Rattle.pas_trace.specs.declared.plan.Plan.{Plan}
-use Rattle.pas_trace.specs.declared.plan.What.{What}
-use Rattle.pas_trace.proofs.Costs.{small_cost, large_cost}
-use Rattle.pas_trace.proofs.EveryPlan.{every_plan, threads_among}
-use Rattle.pas_trace.proofs.Keepers.{keepers_few}
+use Rattle.pas_trace.specs.declared.plan.{Op.Op, Plan.Plan, What.What}
+use Rattle.pas_trace.proofs.{Costs.small_cost, Costs.large_cost, EveryPlan.every_plan, EveryPlan.threads_among, Keepers.keepers_few}
 use Rattle.pas_report.specs.Rooms.{records_in, room_of, Records}
 use Rattle.pas_guard.specs.Books.{guards_in, size_of_book}
 use Rattle.pas_guard.specs.declared.book.GuardBook.{GuardBook}
@@ -27,8 +21,7 @@ use Rattle.pas_plans.proofs.KeeperActs.{is_guarded}
 use Rattle.pas_acts.specs.NameBooks.{requests_in, room_for, Requests}
 use Rattle.pas_threads.specs.Kits.{IsEquipped, AreEquipped, IsKeeperFor, IsKeeperWith, AreKeepers, IsAlone, HasRoomForKeeper, HaveKeepers, with_keeper}
 use Rattle.pas_threads.specs.Pairs.{AreGuarded, IsButKeeper}
-use Rattle.pas_threads.specs.declared.keeper.Keeper.{Keeper}
-use Rattle.pas_threads.specs.declared.workers.Worker.{Worker}
+use Rattle.pas_threads.specs.declared.{keeper.Keeper.Keeper, workers.Worker.Worker}
 
 -- ---- what they may say
 two_least : (size : ℕ) → 2 ≤ cost_of_size size
@@ -68,13 +61,12 @@ keeper_room {text} {plan} i room read lt few is =
     let bound = sound.kept (suc i) (is_guarded plan (omega (arith, lt))) (omega arith) (omega (arith, lt, most)) in
     let paid = guards_paid (suc i) (operations_of plan) in
     let said = guards_said plan.profile (suc i) (operations_of plan) in
-    let total = sound.total in
     let some : 1 ≤ actors_by plan.guard plan.profile.threads = omega (arith, lt, most, among) in
     let same : plan.profile.pages ≤ plan.profile.pages = omega arith in
     let pages : 1 * plan.profile.pages ≤ actors_by plan.guard plan.profile.threads * plan.profile.pages = mul-le-mul some same in
     let needs = slice_index (bounds_of plan.bounds) (threads_of plan + suc i) + 2 * guarded_of (suc i) (operations_of plan) in
     let twice : needs ≤ slice_index (bounds_of plan.bounds) (threads_of plan + suc i) * 2 = omega (arith, bound, paid) in
-    let counted : needs ≤ 2 ^ 32 - 1 = omega (arith, bound, said, total, pages, few) in
+    let counted : needs ≤ 2 ^ 32 - 1 = omega (arith, bound, said, sound.total, pages, few) in
     subst (λ (n : ℕ). needs ≤ n) (sym is) (le-min twice counted)
 
 -- with one keeper's room more
@@ -172,17 +164,16 @@ equipped_with bounds k passes {old} {new} {keepers} are have = equipped_still bo
 -- all workers of a guarded plan have a keeper, and none of another one
 guarded_so : (plan : Plan) {old new : List Worker} {keepers : List Keeper} → AreGiven old new keepers → length keepers ≡ keepers_of plan → length old ≡ threads_of plan → All IsAlone old → AreGuarded (keepers_of plan) new
 guarded_so plan {old} {new} {keepers} are count threads alone =
-    let many = are.many in
     elim (cases_eq plan.guard 0) [
       | inl is ↦
           let zero_of : keepers_of plan ≡ 0 = ap (λ (t : Bool). if t then 0 else threads_of plan) (eq-eqb plan.guard 0 is) in
-          inr (zero_of, λ i d lt. ap (λ (w : Worker). w.keeper) (are.others i d (omega (arith, count, zero_of))) ∙ alone i d (omega (arith, lt, many)))
+          inr (zero_of, λ i d lt. ap (λ (w : Worker). w.keeper) (are.others i d (omega (arith, count, zero_of))) ∙ alone i d (omega (arith, lt, are.many)))
       | inr other ↦
           let all : keepers_of plan ≡ threads_of plan = ap (λ (t : Bool). if t then 0 else threads_of plan) (ne_eqb plan.guard 0 other) in
           inl (
-            omega (arith, all, threads, many),
+            omega (arith, all, threads, are.many),
             λ i d lt.
-                let within : i < length keepers = omega (arith, lt, many, threads, all, count) in
+                let within : i < length keepers = omega (arith, lt, are.many, threads, all, count) in
                 let e = some_keeper keepers i within in
                 (get_or keepers i e, ap (λ (w : Worker). w.keeper) (are.given i d e within)),
           )

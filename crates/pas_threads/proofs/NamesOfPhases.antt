@@ -1,41 +1,32 @@
 -- What the book says of the names after a phase, and how it takes the requests of all workers over, one after the other.
-use Rattle.std.proofs.Common.{◌≡◌, ℕ, ◌+◌, ◌<◌, ◌==◌, ◌||◌, ◌⊎◌, inl, inr, Bool, true, false, if◌then◌else◌, List, [], ◌∷◌, set, length, get_or, Option, Some, None, refl, ap, sym, ◌∙◌, subst, arith, ◌≤◌, ◌++◌}
-use Rattle.std.specs.Prelude.{IsSomeAnd}
+use Rattle.std.proofs.Common.{◌≡◌, ℕ, ◌+◌, ◌<◌, ◌==◌, ◌||◌, ◌⊎◌, inl, inr, Bool, true, false, if◌then◌else◌, List, [], ◌∷◌, set, length, get_or, Option, Some}
+use Rattle.std.proofs.Common.{None, refl, ap, sym, ◌∙◌, subst, arith, ◌≤◌, ◌++◌, IsSomeAnd, eq-eqb}
 use Rattle.std.proofs.lemmas.List.{get_or_default}
-use Rattle.std.proofs.lemmas.Bool.{cases_eq, false≢true, eq-eqb, or_right, or_cases}
-use Rattle.pas_profile.specs.declared.name.Block.{Block}
+use Rattle.std.proofs.lemmas.Bool.{cases_eq, false≢true, or_right, or_cases}
+use Rattle.pas_profile.specs.declared.{name.Block.Block, profile.Profile.Profile}
 use Rattle.pas_trace.specs.EveryPlan.{is_asked, asked_with, asked_after, asked_by, AreSound, IsActorOf}
-use Rattle.pas_answers.specs.Answers.{Named, standing_for, Progress}
-use Rattle.pas_answers.specs.Names.{block_named, names_held}
+use Rattle.pas_answers.specs.{Answers.Named, Answers.standing_for, Answers.Progress, Names.block_named, Names.names_held, Fit.IsBelow, Fit.AreBelow}
+use Rattle.pas_answers.specs.{Fit.KeepsAbove}
 use Rattle.pas_acts.specs.NameBooks.{requests_in, room_for, names_of, came_to, known_in, Requests, name_asked, names_asked, AreWithin, NamesAt}
 use Rattle.pas_acts.specs.declared.names.NameBook.{NameBook}
 use Rattle.pas_threads.specs.declared.workers.Worker.{Worker}
 use Rattle.pas_threads.specs.Taken.{HasRequest, IsEmptied, HasTaken, HandsOver}
-use Rattle.pas_threads.proofs.TakingTurns.{set_each}
-use Rattle.pas_profile.specs.declared.profile.Profile.{Profile}
+use Rattle.pas_threads.proofs.{TakingTurns.set_each, Dealt.some_worker}
 use Rattle.pas_steps.specs.Desks.{Standing}
 use Rattle.pas_trace.specs.Asked.{work_of, of_task, request_of, request_in, keeper_of}
-use Rattle.pas_trace.specs.declared.plan.What.{What}
-use Rattle.pas_trace.specs.declared.plan.What.TheVariants.{Alloc, Guarded, Remake}
-use Rattle.pas_trace.specs.declared.item.Request.{Request}
-use Rattle.pas_trace.specs.declared.plan.Chore.{Chore}
-use Rattle.pas_trace.specs.declared.plan.Work.{Work}
-use Rattle.pas_trace.specs.declared.plan.Op.{Op}
-use Rattle.pas_trace.specs.Acts.{Act, act_kept, operation_in, asked_after_operation, is_active, idle_threads, idle_stops, acts_of_chore, acts_of_work, acts_of_op, acts_of_ops, own_acts}
+use Rattle.pas_trace.specs.declared.{plan.What.What, plan.What.TheVariants.Alloc, plan.What.TheVariants.Guarded, plan.What.TheVariants.Remake}
+use Rattle.pas_trace.specs.declared.{item.Request.Request, plan.Chore.Chore, plan.Work.Work, plan.Op.Op}
+use Rattle.pas_trace.specs.Acts.{Act, act_kept, operation_in, asked_after_operation, is_active, idle_threads, idle_stops, acts_of_chore, acts_of_work}
+use Rattle.pas_trace.specs.Acts.{acts_of_op, acts_of_ops, own_acts}
 use Rattle.pas_answers.specs.Calls.{block_behind, MayStand, AreKnown, OnlyAsked}
-use Rattle.pas_answers.specs.Fit.{IsBelow, AreBelow, KeepsAbove}
 use Rattle.pas_answers.specs.declared.names.Names.{Names}
 use Rattle.pas_trace.proofs.OperationsOfItems.{kept_with}
 use Rattle.pas_plans.proofs.ActsOfPlan.{all_back, back_below}
 use Rattle.pas_shares.specs.Shares.{owner_in, IsWoven, AreAmong, IsRequestOf, NoneAsks, asked_after_act, asked_after_acts}
-use Rattle.pas_acts.specs.Works.{Later}
-use Rattle.pas_acts.specs.Keepers.{Keeping, LaterKept}
-use Rattle.pas_acts.specs.Pairs.{PairWorks}
+use Rattle.pas_acts.specs.{Works.Later, Keepers.Keeping, Keepers.LaterKept, Pairs.PairWorks}
 use Rattle.pas_threads.specs.Hands.{kept_by}
 use Rattle.pas_shares.proofs.KnownAfter.{are_known}
-use Rattle.pas_acts.proofs.Noting.{asks, asks_more}
-use Rattle.pas_acts.proofs.NamesBefore.{sound_front, sound_back}
-use Rattle.pas_threads.proofs.Dealt.{some_worker}
+use Rattle.pas_acts.proofs.{Noting.asks, Noting.asks_more, NamesBefore.sound_front, NamesBefore.sound_back}
 
 -- ---- all workers, one after the other
 -- a request of these has the name, and what it came to is the same whatever else is said; or none has it
@@ -44,7 +35,7 @@ either_if : (t : Bool) (b : Option Block) (s : Bool) (o : Option (Option Block))
 either_if true b s o rest = inl (refl, λ x y. refl)
 either_if false b s o rest = rest
 
-pub has_or_not : (rs : List Named) (n : ℕ) → ((is_asked (names_of rs) n ≡ true) × ((x y : Option Block) → came_to (standing_for rs n) x ≡ came_to (standing_for rs n) y)) ⊎ ((is_asked (names_of rs) n ≡ false) × (standing_for rs n ≡ None))
+has_or_not : (rs : List Named) (n : ℕ) → ((is_asked (names_of rs) n ≡ true) × ((x y : Option Block) → came_to (standing_for rs n) x ≡ came_to (standing_for rs n) y)) ⊎ ((is_asked (names_of rs) n ≡ false) × (standing_for rs n ≡ None))
 has_or_not [] n = inr (refl, refl)
 has_or_not (r ∷ rs) n = either_if (r.name == n) r.block (is_asked (names_of rs) n) (standing_for rs n) (has_or_not rs n)
 
@@ -65,7 +56,7 @@ taken_more before now after workers i n w lt is takes so = elim (has_or_not (req
   | inr none ↦
       let same : block_named after.names n ≡ block_named now.names n = takes ∙ ap (λ (o : Option (Option Block)). came_to o (block_named now.names n)) none.1 in
       elim so [
-        | inl one ↦ inl (one.0, let low = one.1 in omega (arith, low), λ d. ((one.2 d).0, same ∙ (one.2 d).1))
+        | inl one ↦ inl (one.0, omega (arith, one.1), λ d. ((one.2 d).0, same ∙ (one.2 d).1))
         | inr all ↦ inr (
           λ j d low has. elim (cases_eq j i) [
             | inl here ↦ false≢true (sym none.0 ∙ subst (λ (x : Worker). HasRequest x n) (sym (is d)) (subst (λ (m : ℕ). HasRequest (get_or workers m d) n) here has))

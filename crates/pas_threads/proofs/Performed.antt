@@ -1,8 +1,8 @@
 -- What each hand did for the threads in its hands, and that all hands together did the operations of a phase.
-use Rattle.std.proofs.Common.{◌≡◌, ◌≢◌, ℕ, zero, suc, ◌+◌, ◌-◌, ◌<◌, ◌≤◌, ◌==◌, Bool, true, false, if◌then◌else◌, inl, inr, All, List, [], ◌∷◌, ◌++◌, length, get_or, Option, refl, ap, sym, ◌∙◌, subst, arith}
-use Rattle.std.specs.Prelude.{vec_capacity}
-use Rattle.std.proofs.lemmas.List.{append-nil, get_or_default}
-use Rattle.std.proofs.lemmas.Bool.{true≢false, or_parts, cases_Bool, cases_lt, le-leb, ne_eqb, not-true, not_from_false}
+use Rattle.std.proofs.Common.{◌≡◌, ◌≢◌, ℕ, zero, suc, ◌+◌, ◌-◌, ◌<◌, ◌≤◌, ◌==◌, Bool, true, false, if◌then◌else◌, inl, inr, All, List, [], ◌∷◌, ◌++◌, length}
+use Rattle.std.proofs.Common.{get_or, Option, refl, ap, sym, ◌∙◌, subst, arith, vec_capacity, append-nil, true≢false, le-leb, ne_eqb}
+use Rattle.std.proofs.lemmas.List.{get_or_default}
+use Rattle.std.proofs.lemmas.Bool.{or_parts, cases_Bool, cases_lt, not-true, not_from_false}
 use Rattle.pas_bits.specs.Masks.{is_set}
 use Rattle.pas_bits.specs.declared.mask.Mask4.{Mask4}
 use Rattle.pas_profile.specs.declared.profile.Profile.{Profile}
@@ -12,36 +12,26 @@ use Rattle.pas_report.specs.declared.record.Record.{Record}
 use Rattle.pas_utility.specs.Outcomes.{places_of, Outcomes}
 use Rattle.pas_shared.specs.declared.region.SharedRegion.{SharedRegion}
 use Rattle.pas_trace.specs.Acts.{Act, is_active, numbers_from, acts_of_op, acts_of_ops, own_acts, scavenger_acts}
-use Rattle.pas_answers.specs.Answers.{Progress}
-use Rattle.pas_answers.specs.Reaching.{Reaches}
+use Rattle.pas_answers.specs.{Answers.Progress, Reaching.Reaches, Answers.Books, Calls.owed_events}
 use Rattle.pas_shares.specs.Shares.{owner_in, thread_in, actor_of_act, acts_by, AreInHand}
 use Rattle.pas_acts.specs.NameBooks.{requests_in, room_for, names_of, names_asked, Requests}
-use Rattle.pas_acts.specs.Works.{Later}
+use Rattle.pas_acts.specs.{Works.Later, Pairs.KeeperWaits, Pairs.KeptPushed}
 use Rattle.pas_threads.specs.Dealing.{picked, count_of, is_in, is_out}
 use Rattle.pas_threads.specs.Hands.{standing_of_pass, ScavengerAt, WorkerAt, Did}
-use Rattle.pas_threads.specs.Sessions.{WorkerHas}
-use Rattle.pas_threads.specs.Turns.{Came, Told, TookNoPart}
+use Rattle.pas_threads.specs.{Sessions.WorkerHas, Turns.Came, Turns.Told, Turns.TookNoPart, Crews.Crew, Crews.CrewDid, Scavengers.crew_of}
+use Rattle.pas_threads.specs.{Scavengers.ScavengerStands, Scavengers.DidScavenge}
 use Rattle.pas_threads.specs.Lent.{Shift, number_in, IsLent, AreLent}
-use Rattle.pas_threads.specs.Crews.{Crew, CrewDid}
-use Rattle.pas_threads.specs.Scavengers.{crew_of, ScavengerStands, DidScavenge}
 use Rattle.pas_threads.specs.Performing.{Round, idle_in, IsReady, PaysFor, ThreadDone, ScavengerDone, Piece}
 use Rattle.pas_acts.specs.declared.names.NameBook.{NameBook}
-use Rattle.pas_threads.specs.declared.workers.Worker.{Worker}
-use Rattle.pas_threads.specs.declared.scavenger.Scavenger.{Scavenger}
-use Rattle.pas_threads.specs.declared.phases.Team.{Team}
+use Rattle.pas_threads.specs.declared.{workers.Worker.Worker, scavenger.Scavenger.Scavenger, phases.Team.Team, keeper.Keeper.Keeper}
 use Rattle.pas_acts.proofs.AtDesk.{sits_for}
 use Rattle.pas_shares.proofs.PhaseActs.{none_own, acts_are_shared}
 use Rattle.pas_cache.specs.Caches.{Cached}
 use Rattle.pas_steps.specs.Lists.{part}
-use Rattle.pas_answers.specs.Answers.{Books}
-use Rattle.pas_answers.specs.Calls.{owed_events}
-use Rattle.pas_acts.specs.Pairs.{KeeperWaits, KeptPushed}
 use Rattle.pas_threads.specs.Pairs.{kept_by_worker, IsKeeperOf, owed_kept, PairStands, PairDid, MayDoPhase, DidPhase}
-use Rattle.pas_threads.specs.declared.keeper.Keeper.{Keeper}
 use Rattle.pas_threads.proofs.Keepers.{two_counted, owed_same, owed_still, kept_none, still_same, waits_still}
-use Rattle.pas_threads.proofs.NamesOfPhases.{hands_over, hands_nothing}
+use Rattle.pas_threads.proofs.{NamesOfPhases.hands_over, NamesOfPhases.hands_nothing, TakingTurns.came_none, TakingTurns.pushed_none}
 use Rattle.pas_threads.proofs.Dealt.{picked_many, picked_at, picked_pairs, number_at, numbers_many, idle_picked, idle_distinct, idle_within, some_worker}
-use Rattle.pas_threads.proofs.TakingTurns.{came_none, pushed_none}
 
 -- a thread none of whose acts is left has its pass, and rests with it
 has_left : {region : SharedRegion} {book : NameBook} {f : Profile} {k : ℕ} {worker : Worker} {later : Later} {p : Progress} → WorkerAt region book f k [] worker later p → WorkerHas region f k worker later p
@@ -60,8 +50,7 @@ pair_paid r k old new at some did =
     let own_then = ap (λ (c : Cached). owed_events f c (part k w.reached.list)) w.stands.thread.cache in
     let kept_before = owed_same f keeper old.keeper r.start in
     let kept_then = owed_same f keeper new.keeper w.reached in
-    let paid = w.paid in
-    inl (omega (arith, both, own_before, own_then, kept_before, kept_then, paid))
+    inl (omega (arith, both, own_before, own_then, kept_before, kept_then, w.paid))
 
 active_done : {region : SharedRegion} {r : Round} (k : ℕ) (old new : Worker) → PairStands region r.book r.profile r.threads k (own_acts k r.ops) old (r.later k) (r.more k) r.start → 1 ≤ r.threads → DidPhase region r.book r.ops old new
     → (own : Came r.profile (own_acts k r.ops) r.start) × ThreadDone region r k old new own.said own.reached
@@ -212,7 +201,7 @@ module _ {region : SharedRegion} {r : Round} {team : Team} (ready : IsReady regi
 
   -- a worker is of one of the threads
   within_threads : (i : ℕ) → i < length team.threads.items → suc i ≤ r.threads
-  within_threads i lt = let many = ready.many in omega (arith, many, lt)
+  within_threads i lt = omega (arith, ready.many, lt)
 
   some_thread : (i : ℕ) → i < length team.threads.items → 1 ≤ r.threads
   some_thread i lt = let le = within_threads i lt in omega (arith, le)
@@ -229,7 +218,7 @@ module _ {region : SharedRegion} {r : Round} {team : Team} (ready : IsReady regi
   own_may j d lt = picked_pairs (λ (v w : Worker). MayDoPhase region r.book r.ops w) (is_in awake) d 1 team.threads.items team.threads.items refl
       (λ i e less on. record { profile = r.profile; threads = r.threads; thread = suc i; later = r.later (suc i); more = r.more (suc i); progress = r.start; some = some_thread i less; stands = ready.workers i e less }) j d lt
 
-  pub lent_many : length outside ≡ length (idle_in r)
+  lent_many : length outside ≡ length (idle_in r)
   lent_many = picked_many (is_out awake) 1 team.threads.items ∙ ap (λ (n : ℕ). count_of (is_out awake) 1 n) (ready.many ∙ sym (numbers_many 1 r.threads))
       ∙ sym (picked_many (is_out awake) 1 (numbers_from 1 r.threads)) ∙ ap (λ (ks : List ℕ). length ks) (sym idle_are)
 
@@ -315,7 +304,7 @@ module _ {region : SharedRegion} {r : Round} {team : Team} (ready : IsReady regi
             own = came_as (shared.1 (suc i) (omega arith) (within_threads i lt) on) done.0;
             threads = λ j e lt' whose.
                 let mine = (owned_by r.threads r.ops (suc j) (is_active r.ops (suc j)) refl (omega arith) (within_threads j lt')).1 (suc i) whose (omega arith) in
-                let at : i ≡ j = (let k = mine.0 in omega (arith, k)) in
+                let at : i ≡ j = (omega (arith, mine.0)) in
                 subst (λ (k : ℕ). ThreadDone region r (suc k) (get_or team.threads.items k e) (get_or new k e) done.0.said done.0.reached) at
                 (subst (λ (w : Worker). ThreadDone region r (suc i) w (get_or new i e) done.0.said done.0.reached) (get_or_default team.threads.items i d e lt)
                 (subst (λ (w : Worker). ThreadDone region r (suc i) (get_or team.threads.items i d) w done.0.said done.0.reached) (get_or_default new i d e (omega (arith, size, lt))) done.1));
@@ -379,6 +368,6 @@ module _ {region : SharedRegion} {r : Round} {team : Team} (ready : IsReady regi
         | inr off ↦ idle_piece off
       ]
       piece (suc i) = elim (cases_Bool (is_active r.ops (suc i))) [
-        | inl on ↦ thread_piece i (let within = ready.within (suc i) on in let many = ready.many in omega (arith, within, many)) on
+        | inl on ↦ thread_piece i (let within = ready.within (suc i) on in omega (arith, within, ready.many)) on
         | inr off ↦ nobody_piece i off (nobody_acts i off)
       ]

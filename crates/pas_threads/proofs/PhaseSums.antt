@@ -1,23 +1,21 @@
 -- What the acts of a phase cost, what its actors owe, and what they said, summed over all of them.
-use Rattle.std.proofs.Common.{◌≡◌, ◌≢◌, ℕ, zero, suc, ◌+◌, ◌<◌, ◌≤◌, ◌==◌, Bool, true, false, if◌then◌else◌, inl, inr, List, [], ◌∷◌, ◌++◌, length, get_or, Option, Some, None, refl, ap, sym, ◌∙◌, arith, append_assoc, length-append}
-use Rattle.std.proofs.lemmas.Bool.{eq-eqb, ne_eqb, cases_eq}
+use Rattle.std.proofs.Common.{◌≡◌, ◌≢◌, ℕ, zero, suc, ◌+◌, ◌<◌, ◌≤◌, ◌==◌, Bool, true, false, if◌then◌else◌, inl, inr, List, [], ◌∷◌, ◌++◌, length, get_or}
+use Rattle.std.proofs.Common.{Option, Some, None, refl, ap, sym, ◌∙◌, arith, append_assoc, length-append, eq-eqb, ne_eqb}
+use Rattle.std.proofs.lemmas.Bool.{cases_eq}
 use Rattle.pas_profile.specs.declared.profile.Profile.{Profile}
 use Rattle.pas_trace.specs.Asked.{work_of, keeper_in}
 use Rattle.pas_trace.specs.EveryPlan.{records_of_work, records_of_what, records_of_ops, own_records}
-use Rattle.pas_trace.specs.declared.plan.Work.{Work}
-use Rattle.pas_trace.specs.declared.plan.Op.{Op}
+use Rattle.pas_trace.specs.declared.plan.{Work.Work, Op.Op}
 use Rattle.pas_report.specs.declared.record.Record.{Record}
 use Rattle.pas_trace.specs.Acts.{Act, MakesPass, Settles, act_kept, acts_of_op, own_acts, scavenger_acts}
-use Rattle.pas_answers.specs.Answers.{Progress}
+use Rattle.pas_answers.specs.{Answers.Progress, Ways.records_by, Ways.by_actors}
 use Rattle.pas_answers.specs.Fit.{cost_of_work, cost_of_what, cost_of_act, costs_of, own_cost_of_act, own_costs_of}
-use Rattle.pas_answers.specs.Ways.{records_by, by_actors}
 use Rattle.pas_answers.proofs.SingleActs.{sum_both}
 use Rattle.pas_plans.proofs.ActsOfPlan.{work_costs}
 use Rattle.pas_threads.specs.Pairs.{said_by_keeper, owed_kept, keeper_at, owed_by_keepers, AreGuarded}
 use Rattle.pas_threads.specs.Sessions.{owed_by}
 use Rattle.pas_threads.specs.Turns.{owed_at, said_by, said_kept, said_by_keepers}
-use Rattle.pas_threads.specs.declared.keeper.Keeper.{Keeper}
-use Rattle.pas_threads.specs.declared.workers.Worker.{Worker}
+use Rattle.pas_threads.specs.declared.{keeper.Keeper.Keeper, workers.Worker.Worker}
 
 -- ---- a thread
 cost_le : (f : Profile) (work : Work) → cost_of_work work ≤ records_of_work f work

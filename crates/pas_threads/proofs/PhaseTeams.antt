@@ -1,17 +1,14 @@
 -- A phase of the team: what its acts cost; its hands are ready once its threads read the epoch and its names are noted; then what all its workers did and said is put together.
-use Rattle.std.proofs.Common.{◌≡◌, ◌≢◌, ℕ, zero, suc, ◌+◌, ◌-◌, ◌<◌, ◌≤◌, ◌==◌, Bool, true, false, if◌then◌else◌, inl, inr, List, [], ◌∷◌, ◌++◌, length, get_or, Option, None, refl, ap, sym, ◌∙◌, subst, arith, All, map, append_assoc, length-append}
-use Rattle.std.specs.Prelude.{MatchOption}
+use Rattle.std.proofs.Common.{◌≡◌, ◌≢◌, ℕ, zero, suc, ◌+◌, ◌-◌, ◌<◌, ◌≤◌, ◌==◌, Bool, true, false, if◌then◌else◌, inl, inr, List, [], ◌∷◌, ◌++◌, length, get_or}
+use Rattle.std.proofs.Common.{Option, None, refl, ap, sym, ◌∙◌, subst, arith, All, map, append_assoc, length-append, MatchOption, append-nil}
 use Rattle.std.specs.Vec.{with_items}
 use Rattle.std.proofs.lemmas.Bool.{false≢true, false_from_ne_true, cases_lt, or_cases, or_left, or_right}
-use Rattle.std.proofs.lemmas.List.{with_items_is, append-nil, append_cancel_left}
+use Rattle.std.proofs.lemmas.List.{with_items_is, append_cancel_left}
 use Rattle.pas_profile.specs.declared.profile.Profile.{Profile}
 use Rattle.pas_bits.specs.Masks.{is_set}
 use Rattle.pas_bits.specs.declared.mask.Mask4.{Mask4}
-use Rattle.pas_steps.specs.Clear.{HasNothing}
-use Rattle.pas_steps.specs.Lists.{part}
-use Rattle.pas_steps.specs.Views.{View}
-use Rattle.pas_trace.specs.Asked.{keeper_in}
-use Rattle.pas_trace.specs.EveryPhase.{FreesItsOwn, FreeTheirOwn}
+use Rattle.pas_steps.specs.{Clear.HasNothing, Lists.part, Views.View}
+use Rattle.pas_trace.specs.{Asked.keeper_in, EveryPhase.FreesItsOwn, EveryPhase.FreeTheirOwn}
 use Rattle.pas_trace.specs.EveryPlan.{records_of_ops, own_records, all_ops, is_asked}
 use Rattle.pas_trace.specs.declared.plan.Op.{Op}
 use Rattle.pas_trace.proofs.OperationsOfItems.{own_both, records_both}
@@ -21,44 +18,32 @@ use Rattle.pas_trace.specs.Acts.{Act, own_acts, scavenger_acts, idle_threads, ac
 use Rattle.pas_cache.specs.Caches.{Cached, cached}
 use Rattle.pas_shared.specs.declared.region.SharedRegion.{SharedRegion}
 use Rattle.pas_utility.specs.Outcomes.{places_of}
-use Rattle.pas_answers.specs.Answers.{Books, Progress, Named}
-use Rattle.pas_answers.specs.Calls.{owed_events, OnlyAsked}
-use Rattle.pas_answers.specs.Fit.{costs_of, own_costs_of, AreFit}
-use Rattle.pas_answers.specs.Names.{names_held}
-use Rattle.pas_answers.specs.Reaching.{Reaches}
-use Rattle.pas_answers.specs.Ways.{records_by, by_actors}
-use Rattle.pas_answers.proofs.OwnRecords.{records_both as said_both}
-use Rattle.pas_answers.proofs.Reached.{reach_both}
+use Rattle.pas_answers.specs.{Answers.Books, Answers.Progress, Answers.Named, Calls.owed_events, Calls.OnlyAsked, Fit.costs_of, Fit.own_costs_of, Fit.AreFit}
+use Rattle.pas_answers.specs.{Names.names_held, Reaching.Reaches, Ways.records_by, Ways.by_actors}
+use Rattle.pas_answers.proofs.{OwnRecords.records_both as said_both, Reached.reach_both}
 use Rattle.pas_plans.specs.Awake.{awake_in}
 use Rattle.pas_plans.proofs.ActsOfPlan.{all_front, all_back, idle_few, ops_fit}
 use Rattle.pas_plans.proofs.ActsLeft.{threads_alike}
 use Rattle.pas_shares.specs.Shares.{Owners, acts_by, owner_in, thread_in, AreKeptBehind, IsShareOf, IsWoven}
 use Rattle.pas_shares.proofs.PhaseActs.{acts_are_shared, zero_own, own_thread, kept_thread, owner_of}
 use Rattle.pas_shares.proofs.Weaving.{weave}
-use Rattle.pas_acts.specs.Keepers.{LaterKept}
+use Rattle.pas_acts.specs.{Keepers.LaterKept, Pairs.for_guards, Works.Later, Works.Sits}
 use Rattle.pas_acts.specs.NameBooks.{NamesAt, ArePlaced, names_asked, requests_in, room_for, names_of, known_in, Requests, AreWithin}
-use Rattle.pas_acts.specs.Pairs.{for_guards}
-use Rattle.pas_acts.specs.Works.{Later, Sits}
 use Rattle.pas_acts.specs.declared.names.NameBook.{NameBook}
-use Rattle.pas_acts.proofs.Alone.{rests_still}
-use Rattle.pas_acts.proofs.AtDesk.{sits_for}
-use Rattle.pas_acts.proofs.NamesBefore.{names_before, sound_front, below_front}
+use Rattle.pas_acts.proofs.{Alone.rests_still, AtDesk.sits_for, NamesBefore.names_before, NamesBefore.sound_front, NamesBefore.below_front}
 use Rattle.pas_threads.specs.Hands.{standing_of_pass, WorkerAt}
 use Rattle.pas_threads.specs.Pairs.{no_more, KeeperRests, said_by_keeper, owed_kept, keeper_at, owed_by_keepers, AreGuarded}
 use Rattle.pas_threads.specs.Performing.{Round, round, idle_in, ScavengerHas, IsReady, ThreadDone, ScavengerDone, IsDone}
-use Rattle.pas_threads.specs.Sessions.{Session, planned, owed_by, WorkerRests, AreResting, ScavengerRests, HasPlaces, TeamAt, WorkerHas, AreMarked, AreWritten, HasRoom, PhaseAt, PhaseDone}
+use Rattle.pas_threads.specs.Sessions.{Session, planned, owed_by, WorkerRests, AreResting, ScavengerRests, HasPlaces, TeamAt, WorkerHas, AreMarked, AreWritten}
+use Rattle.pas_threads.specs.Sessions.{HasRoom, PhaseAt, PhaseDone}
 use Rattle.pas_threads.specs.Taken.{HandsOver, IsEmptied, HasTaken, IsWithin}
 use Rattle.pas_threads.specs.Turns.{owed_at, said_by, said_own, said_by_all, said_kept, said_by_keepers, WokeAll, Came, TookNoPart, IsGathered, IsKeptGathered}
-use Rattle.pas_threads.specs.declared.keeper.Keeper.{Keeper}
-use Rattle.pas_threads.specs.declared.phases.Team.{Team}
-use Rattle.pas_threads.specs.declared.scavenger.Scavenger.{Scavenger}
-use Rattle.pas_threads.specs.declared.workers.Worker.{Worker}
-use Rattle.pas_threads.proofs.Dealt.{number_at, some_worker}
-use Rattle.pas_threads.proofs.Keepers.{keeper_is, owed_still}
-use Rattle.pas_threads.proofs.KeptPhases.{kept_hands, AreAlike, alike_same, alike_pushed, alike_both, guarded_alike, kept_waits, kept_still, kept_said, kept_rests, kept_alike, kept_owes, kept_nobody}
-use Rattle.pas_threads.proofs.NamesOfPhases.{names_then, names_within}
+use Rattle.pas_threads.specs.declared.{keeper.Keeper.Keeper, phases.Team.Team, scavenger.Scavenger.Scavenger, workers.Worker.Worker}
+use Rattle.pas_threads.proofs.{Dealt.number_at, Dealt.some_worker, Keepers.keeper_is, Keepers.owed_still, NamesOfPhases.names_then, NamesOfPhases.names_within}
+use Rattle.pas_threads.proofs.{TakingTurns.same_owed, TakingTurns.woke_rest, TakingTurns.rests_clear}
+use Rattle.pas_threads.proofs.KeptPhases.{kept_hands, AreAlike, alike_same, alike_pushed, alike_both, guarded_alike, kept_waits, kept_still, kept_said}
+use Rattle.pas_threads.proofs.KeptPhases.{kept_rests, kept_alike, kept_owes, kept_nobody}
 use Rattle.pas_threads.proofs.PhaseSums.{own_costs, scavenger_costs, own_all, all_paid, owed_less, kept_less, said_in_order, kept_in_order, kept_few, by_all}
-use Rattle.pas_threads.proofs.TakingTurns.{same_owed, woke_rest, rests_clear}
 
 -- ---- rooms
 -- what the worker at this place has room for
@@ -111,17 +96,15 @@ module _ {region : SharedRegion} {f : Profile} {k : ℕ} {worker : Worker} {q : 
   worker_ready {book} {p} book1 later at some frees same placed are events records =
       let few = own_costs g k ops in
       let both = own_both g k ops left in
-      let is = owed_is in
       let spare = rests.here.rests.spare in
-      let requests = rests.requests in
       let none = ap (λ (rs : List Record). length rs) rests.said in
       record {
         has = rests.here.has;
         stands = record {
           sits = sits_for rests.here.rests.sits (omega (arith, few, both, events));
           cache = rests.here.rests.cache;
-          spare = omega (arith, few, both, is, spare, none, records);
-          names = names_before k ops left book1 worker.requests at some frees same placed rests.asked (omega (arith, few, both, requests)) are;
+          spare = omega (arith, few, both, owed_is, spare, none, records);
+          names = names_before k ops left book1 worker.requests at some frees same placed rests.asked (omega (arith, few, both, rests.requests)) are;
         };
       }
 
@@ -278,14 +261,9 @@ module _ {region : SharedRegion} {r : Round} {k : ℕ} {acts : List Act} {old ne
   has_paid : length (records_by k said) + owed_at r.profile k reached ≤ owed_at r.profile k r.start + own_records (planned_in r) k r.ops
   has_paid =
       let told = ap (λ (rs : List Record). length rs) has_said in
-      let before = owed_before in
-      let owed = owed_then in
-      let used = has_then.rests.spare in
-      let room = done.told.room in
-      let had = rests.here.rests.spare in
       let cost = own_costs (planned_in r) k r.ops in
       let both = own_both (planned_in r) k r.ops left in
-      omega (arith, told, before, owed, used, room, had, cost, both, spare)
+      omega (arith, told, owed_before, owed_then, has_then.rests.spare, done.told.room, rests.here.rests.spare, cost, both, spare)
 
   -- .. and of its keeper, whichever of the two took part
   module _ (kept_parts : part (r.threads + k) own.reached.list ≡ part (r.threads + k) reached.list) (kept_records : records_by (r.threads + k) own.reached.records ≡ records_by (r.threads + k) reached.records) where
@@ -302,9 +280,7 @@ module _ {region : SharedRegion} {r : Round} {k : ℕ} {acts : List Act} {old ne
           | inl both ↦ omega (arith, mine, its, owes, owed, cost, both)
           | inr idle ↦
               let none = ap (λ (rs : List Record). length rs) idle.0 in
-              let same = idle.1 in
-              let thread = has_paid in
-              omega (arith, its, owed, none, same, thread)
+              omega (arith, its, owed, none, idle.1, has_paid)
         ]
 
   -- once what it said is gathered and its requests were taken over, it rests
@@ -338,18 +314,13 @@ module _ {region : SharedRegion} (r : Round) {acts : List Act} (old new : Scaven
   scavenger_paid : length (records_by 0 said) ≤ own_records (planned_in r) 0 r.ops
   scavenger_paid =
       let told = ap (λ (rs : List Record). length rs) scavenger_said in
-      let used = done.1.stands.spare in
-      let room = done.2.room in
-      let had = rests.at.stands.spare in
       let idle = idle_few r.threads r.ops in
       let cost = scavenger_costs r.profile r.threads (idle_in r) r.ops idle in
       let both = own_both (planned_in r) 0 r.ops left in
-      omega (arith, told, used, room, had, cost, both, spare)
+      omega (arith, told, done.1.stands.spare, done.2.room, rests.at.stands.spare, cost, both, spare)
 
   scavenger_after : (after : Scavenger) → after.pass ≡ new.pass → after.outcomes ≡ new.outcomes → after.lent.items ≡ [] → records_in after.out ≡ [] → room_of after.out ≡ room_of new.out → ScavengerRests region r.profile after (own_records (planned_in r) 0 left) reached
   scavenger_after after pass outcomes none empty size =
-      let room = done.2.room in
-      let had = rests.at.stands.spare in
       let both = own_both (planned_in r) 0 r.ops left in
       let nothing = ap (λ (rs : List Record). length rs) empty in
       record {
@@ -357,7 +328,7 @@ module _ {region : SharedRegion} (r : Round) {acts : List Act} (old new : Scaven
         at = record {
           stands = record {
             sits = subst (λ (v : View). Sits r.profile 0 HasNothing (standing_of_pass done.0.pass) v (costs_of r.profile [] + own_records (planned_in r) 0 left)) parts (sits_for done.1.stands.sits (omega (arith, events)));
-            spare = omega (arith, room, had, both, nothing, size);
+            spare = omega (arith, done.2.room, rests.at.stands.spare, both, nothing, size);
           };
           has_places = ap places_of outcomes ∙ done.1.has_places;
         };
@@ -413,7 +384,7 @@ module _ {region : SharedRegion} {s : Session} {awake : Mask4} {team team1 team2
 
     -- so is its keeper
     with_it : owner_in s.threads ops keeper ≡ w
-    with_it = let count = counted_first in kept_hands s.threads ops i (omega (arith, count, lt))
+    with_it = kept_hands s.threads ops i (omega (arith, counted_first, lt))
 
     room_set : (later_beside s ops left team1 start (suc i)).records ≡ room_of (get_or team1.threads.items i d).out - (owed_at f (suc i) start + own_costs_of (suc i) (own_acts (suc i) ops))
     room_set = ap (λ (n : ℕ). n - (owed_at f (suc i) start + own_costs_of (suc i) (own_acts (suc i) ops))) (room_is team1.threads.items i d lt)
@@ -495,7 +466,7 @@ module _ {region : SharedRegion} {s : Session} {awake : Mask4} {team team1 team2
 
   -- nobody past the threads and the keepers has an operation, nor a part in the phase
   nobody_kept : (i : ℕ) (d : Worker) → i < length team1.threads.items → s.threads + s.keepers < s.threads + suc i → AreGuarded s.keepers team1.threads.items → TookNoPart (s.threads + suc i) said start reached
-  nobody_kept i d lt far (inl all) = let many = all.0 in absurd (omega (arith, many, far, lt))
+  nobody_kept i d lt far (inl all) = absurd (omega (arith, all.0, far, lt))
   nobody_kept i d lt far (inr none) = keeper_away i d lt (none.1 i d lt)
 
   nobody : (k : ℕ) → s.threads + s.keepers < k → TookNoPart k said start reached
@@ -506,10 +477,9 @@ module _ {region : SharedRegion} {s : Session} {awake : Mask4} {team team1 team2
         nobody_after round_is team1.scavenger team2.scavenger left said reached own_rests (done.pieces 0).own scavenged (share.parts 0 own) (share.records 0 own) woven.records_are refl refl k (omega (arith, far))
         (share.parts k (its_hands k past)) (share.records k (its_hands k past))
     | inr within ↦
-        let count = counted_first in
         let i = k - s.threads - 1 in
         let back : s.threads + suc i ≡ k = omega (arith, far) in
-        let lt : i < length team1.threads.items = omega (arith, count, back, within) in
+        let lt : i < length team1.threads.items = omega (arith, counted_first, back, within) in
         subst (λ (j : ℕ). TookNoPart j said start reached) back (nobody_kept i (some_worker team1.threads.items i lt) lt (omega (arith, far, back)) begun.guarded)
   ]
 
@@ -528,8 +498,7 @@ module _ {region : SharedRegion} {s : Session} {awake : Mask4} {team team1 team2
   began_with i lt =
       let many = at.many in
       let less : i < length team.threads.items = omega (arith, lt, many) in
-      let count = counted in
-      let here : i < length team1.threads.items = omega (arith, lt, count) in
+      let here : i < length team1.threads.items = omega (arith, lt, counted) in
       let d = some_worker team.threads.items i less in
       let keeper = s.threads + suc i in
       let due = (begun.woke.turns.stand i d less).paid in (
@@ -541,20 +510,17 @@ module _ {region : SharedRegion} {s : Session} {awake : Mask4} {team team1 team2
   paid : length (records_by 0 said) + length (by_actors 1 s.threads said) + length (by_actors (s.threads + 1) s.threads said) + (owed_by f reached s.threads + owed_by_keepers f s.threads team2.threads.items reached s.threads)
       ≤ owed_by f p s.threads + owed_by_keepers f s.threads team.threads.items p s.threads + records_of_ops (planned s) ops
   paid =
-      let count = counted in
-      let size = done.many in
       let threads = all_paid f (planned s) s.threads ops said team1.threads.items team2.threads.items start reached s.threads (λ i lt.
-      let less : i < length team1.threads.items = omega (arith, lt, count) in
+      let less : i < length team1.threads.items = omega (arith, lt, counted) in
       let d = some_worker team1.threads.items i less in
       let before = ap (λ (o : Option Keeper). owed_kept f (s.threads + suc i) o start) (keeper_is team1.threads.items i d less) in
-      let after = ap (λ (o : Option Keeper). owed_kept f (s.threads + suc i) o reached) (keeper_is team2.threads.items i d (omega (arith, less, size))) in
+      let after = ap (λ (o : Option Keeper). owed_kept f (s.threads + suc i) o reached) (keeper_is team2.threads.items i d (omega (arith, less, done.many))) in
       let one = thread_paid i d less in
       omega (arith, before, after, one)) in
       let own = own_all (planned s) ops s.threads in
       let owed = owed_less f p start s.threads (λ i lt. (began_with i lt).0) in
       let kept = kept_less f s.threads team.threads.items team1.threads.items p start s.threads (λ i lt. let same = (began_with i lt).1 in omega (arith, same)) in
-      let few = told_few in
-      omega (arith, threads, own, owed, kept, few)
+      omega (arith, threads, own, owed, kept, told_few)
 
   -- ---- the workers, once what they said for their threads is gathered, and then what they said for their keepers
   module _ (gathered : List Worker) (g : (i : ℕ) (d : Worker) → i < length team2.threads.items → IsGathered (get_or team2.threads.items i d) (get_or gathered i d)) (size : length gathered ≡ length team2.threads.items) where
@@ -563,14 +529,12 @@ module _ {region : SharedRegion} {s : Session} {awake : Mask4} {team team1 team2
 
     guarded_then : AreGuarded s.keepers gathered
     guarded_then = guarded_alike team1.threads.items gathered sized (λ i d lt.
-        let many = done.many in
         alike_both (get_or team1.threads.items i d).keeper (get_or team2.threads.items i d).keeper (get_or gathered i d).keeper (alike_pushed (s.threads + suc i) (done.pieces (owner_in s.threads ops (suc i))).own.said (get_or team1.threads.items i d).keeper (get_or team2.threads.items i d).keeper (thread_done i d lt).kept_told)
-        (alike_same (get_or team2.threads.items i d).keeper (get_or gathered i d).keeper (g i d (omega (arith, lt, many))).keeper)) begun.guarded
+        (alike_same (get_or team2.threads.items i d).keeper (get_or gathered i d).keeper (g i d (omega (arith, lt, done.many))).keeper)) begun.guarded
 
     kept_all : said_by_keepers gathered ≡ by_actors (s.threads + 1) s.keepers said
     kept_all = kept_in_order s.threads gathered said guarded_then (λ i d lt.
-        let within = sized in
-        ap said_by_keeper (g i d (omega (arith, lt, size))).keeper ∙ keeper_said i d (omega (arith, lt, within)))
+        ap said_by_keeper (g i d (omega (arith, lt, size))).keeper ∙ keeper_said i d (omega (arith, lt, sized)))
 
     kept_most : length (said_by_keepers gathered) ≤ length (by_actors (s.threads + 1) s.threads said)
     kept_most =
@@ -585,8 +549,7 @@ module _ {region : SharedRegion} {s : Session} {awake : Mask4} {team team1 team2
 
       hands : (i : ℕ) (d : Worker) → i < length kept → HandsOver f ops team1.book (suc i) (get_or kept i d) reached.names
       hands i d lt =
-          let within = sized_kept in
-          let here : i < length team1.threads.items = omega (arith, lt, within) in
+          let here : i < length team1.threads.items = omega (arith, lt, sized_kept) in
           handed ((h i d (omega (arith, lt, size2))).but.requests ∙ (g i d (omega (arith, lt, size, size2))).requests) ((thread_done i d here).hands_over (begun.rests i d here).asked reached.names (woven.shares (owner_in s.threads ops (suc i))).names)
 
       pub may_take : All (IsWithin (names_held team2.book.names)) kept
@@ -601,12 +564,10 @@ module _ {region : SharedRegion} {s : Session} {awake : Mask4} {team team1 team2
         -- each keeper owes what it did before it was gathered
         kept_owed : owed_by_keepers f s.threads team3.threads.items reached s.threads ≤ owed_by_keepers f s.threads team2.threads.items reached s.threads
         kept_owed = kept_less f s.threads team2.threads.items team3.threads.items reached reached s.threads (λ i lt.
-            let count = counted in
-            let within = sized_kept in
             let many = done.many in
-            let less : i < length team1.threads.items = omega (arith, lt, count) in
+            let less : i < length team1.threads.items = omega (arith, lt, counted) in
             let d = some_worker team1.threads.items i less in
-            let here : i < length kept = omega (arith, less, within) in
+            let here : i < length kept = omega (arith, less, sized_kept) in
             let after = ap (λ (o : Option Keeper). owed_kept f (s.threads + suc i) o reached) (keeper_is team3.threads.items i d (omega (arith, here, size3))) in
             let before = ap (λ (o : Option Keeper). owed_kept f (s.threads + suc i) o reached) (keeper_is team2.threads.items i d (omega (arith, less, many))) in
             let same = keeper_owes i d less (g i d (omega (arith, less, many))) (h i d (omega (arith, here, size2))) (emptied i d here) in
@@ -645,7 +606,7 @@ module _ {region : SharedRegion} {s : Session} {awake : Mask4} {team team1 team2
                   let less : i < length gathered = omega (arith, here, size2) in
                   keeper_rests i d (omega (arith, here, within)) (g i d (omega (arith, less, size))) (h i d less) (emptied i d here);
               scavenger = scavenger;
-              nobody = λ k far. (nobody k far).part_is ∙ begun.woke.turns.leaves.parts k (λ i lt same. let n = at.many in omega (arith, far, n, lt, same)) ∙ at.nobody k far;
+              nobody = λ k far. (nobody k far).part_is ∙ begun.woke.turns.leaves.parts k (λ i lt same. omega (arith, far, at.many, lt, same)) ∙ at.nobody k far;
               names = names.0;
               frees = subst (λ (ns : List ℕ). FreeTheirOwn ns rest) (sym names.1) at.frees.1;
               places = places;
@@ -656,9 +617,8 @@ module _ {region : SharedRegion} {s : Session} {awake : Mask4} {team team1 team2
     pub may_append : length (records_in out) + length (records_in team2.scavenger.out) ≤ room_of out
     may_append =
         let own = ap (λ (rs : List Record). length rs) told in
-        let most = paid in
         let both = records_both (planned s) ops left in
-        omega (arith, own, most, both, room)
+        omega (arith, own, paid, both, room)
 
     module _ (out1 : Records) (added : records_in out1 ≡ records_in out ++ records_in team2.scavenger.out) (same : room_of out1 ≡ room_of out) where
       counted_own : length (records_in out1) ≡ length (records_in out) + length (records_by 0 said)
@@ -670,42 +630,35 @@ module _ {region : SharedRegion} {s : Session} {awake : Mask4} {team team1 team2
 
       pub may_gather : length (records_in out1) + length (said_by_all team2.threads.items) ≤ room_of out1
       may_gather =
-          let own = counted_own in
           let all = ap (λ (rs : List Record). length rs) all_said in
-          let most = paid in
           let both = records_both (planned s) ops left in
-          omega (arith, own, all, most, both, room, same)
+          omega (arith, counted_own, all, paid, both, room, same)
 
       module _ (gathered : List Worker) (g : (i : ℕ) (d : Worker) → i < length team2.threads.items → IsGathered (get_or team2.threads.items i d) (get_or gathered i d)) (size : length gathered ≡ length team2.threads.items)
           (out2 : Records) (added2 : records_in out2 ≡ records_in out1 ++ said_by_all team2.threads.items) (same2 : room_of out2 ≡ room_of out1) where
         counted_all : length (records_in out2) ≡ length (records_in out) + length (records_by 0 said) + length (by_actors 1 s.threads said)
         counted_all =
-            let own = counted_own in
             let now = ap (λ (rs : List Record). length rs) added2 in
             let sum = length-append (records_in out1) (said_by_all team2.threads.items) in
             let all = ap (λ (rs : List Record). length rs) all_said in
-            omega (arith, own, now, sum, all)
+            omega (arith, counted_own, now, sum, all)
 
         pub may_gather_kept : length (records_in out2) + length (said_by_keepers gathered) ≤ room_of out2
         may_gather_kept =
-            let own = counted_all in
             let few = kept_most gathered g size in
-            let most = paid in
             let both = records_both (planned s) ops left in
-            omega (arith, own, few, most, both, room, same, same2)
+            omega (arith, counted_all, few, paid, both, room, same, same2)
 
         module _ (kept : List Worker) (h : (i : ℕ) (d : Worker) → i < length gathered → IsKeptGathered (get_or gathered i d) (get_or kept i d)) (size2 : length kept ≡ length gathered)
             (out3 : Records) (added3 : records_in out3 ≡ records_in out2 ++ said_by_keepers gathered) (same3 : room_of out3 ≡ room_of out2) where
           room_left : (team3 : Team) → ((i : ℕ) (d : Worker) → i < length kept → IsEmptied (get_or kept i d) (get_or team3.threads.items i d)) → length team3.threads.items ≡ length kept → HasRoom s rest marks team3.threads.items out3 reached
           room_left team3 emptied size3 =
-              let own = counted_all in
               let now = ap (λ (rs : List Record). length rs) added3 in
               let sum = length-append (records_in out2) (said_by_keepers gathered) in
               let few = kept_most gathered g size in
               let owed = kept_owed gathered g size kept h size2 team3 emptied size3 in
-              let most = paid in
               let both = records_both (planned s) ops left in
-              omega (arith, own, now, sum, few, owed, most, both, room, same, same2, same3)
+              omega (arith, counted_all, now, sum, few, owed, paid, both, room, same, same2, same3)
 
           written : AreMarked s p.records (records_in out) → AreWritten s reached.records (records_in out3)
           written marked = record {

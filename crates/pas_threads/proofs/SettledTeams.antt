@@ -1,22 +1,13 @@
 -- A ledger takes in a pass, is settled, and gives the pass back; and the place where the pass was.
-use Rattle.std.proofs.Common.{◌≡◌, ◌≢◌, ℕ, zero, suc, ◌+◌, ◌<◌, ◌≤◌, inl, inr, List, [], ◌∷◌, length, get_or, set, Option, Some, None, refl, ap, sym, ◌∙◌, subst, arith, length-set, get_or-set_same, get_or-set_other}
-use Rattle.std.proofs.lemmas.Bool.{cases_lt, cases_eq}
-use Rattle.std.proofs.lemmas.List.{set-get_or, get_or_default}
-use Rattle.std.proofs.lemmas.Option.{same_Some}
+use Rattle.std.proofs.Common.{◌≡◌, ◌≢◌, ℕ, zero, suc, ◌+◌, ◌<◌, ◌≤◌, inl, inr, List, [], ◌∷◌, length, get_or, set, Option, Some, None, refl, ap, sym, ◌∙◌}
+use Rattle.std.proofs.Common.{subst, arith, length-set, get_or-set_same, get_or-set_other}
+use Rattle.std.proofs.lemmas.{Bool.cases_lt, Bool.cases_eq, List.set-get_or, List.get_or_default, Option.same_Some}
 use Rattle.pas_steps.specs.Lists.{Whole, part}
-use Rattle.pas_shared.specs.Ruled.{HasPart, IsEarlier}
-use Rattle.pas_shared.specs.Passes.{view_of, IsPassOf}
+use Rattle.pas_shared.specs.{Ruled.HasPart, Ruled.IsEarlier, Passes.view_of, Passes.IsPassOf}
 use Rattle.pas_shared.specs.Ledgers.{so_far, actors_in, part_of, IsSameLedger, IsRestOf}
-use Rattle.pas_shared.specs.declared.ledger.Ledger.{Ledger}
-use Rattle.pas_shared.specs.declared.ledger.Rest.{Rest}
-use Rattle.pas_shared.specs.declared.pass.SharedPass.{SharedPass}
-use Rattle.pas_shared.specs.declared.region.SharedRegion.{SharedRegion}
-use Rattle.pas_shared.specs.declared.rule.Part.{Part}
-use Rattle.pas_threads.specs.Hands.{HasPass}
-use Rattle.pas_threads.specs.Kits.{with_keeper}
-use Rattle.pas_threads.specs.Settling.{Settled, StandsIn}
-use Rattle.pas_threads.specs.declared.keeper.Keeper.{Keeper}
-use Rattle.pas_threads.specs.declared.workers.Worker.{Worker}
+use Rattle.pas_shared.specs.declared.{ledger.Ledger.Ledger, ledger.Rest.Rest, pass.SharedPass.SharedPass, region.SharedRegion.SharedRegion, rule.Part.Part}
+use Rattle.pas_threads.specs.{Hands.HasPass, Kits.with_keeper, Settling.Settled, Settling.StandsIn}
+use Rattle.pas_threads.specs.declared.{keeper.Keeper.Keeper, workers.Worker.Worker}
 
 -- the actor that was taken in is the last one, once the ledger was settled with it
 pub gives : (region : SharedRegion) (pass : SharedPass) (rest : Rest) (old taken settled : Ledger) → IsPassOf region pass → IsRestOf pass rest → actors_in taken ≡ part_of pass ∷ actors_in old → Settled taken settled

@@ -5,21 +5,17 @@ use Rattle.pas_profile.specs.declared.profile.Profile.{Profile}
 use Rattle.pas_steps.specs.Desks.{Standing}
 use Rattle.pas_trace.specs.declared.plan.Op.{Op}
 use Rattle.pas_shared.specs.Passes.{seat_of, IsPassOf}
-use Rattle.pas_shared.specs.declared.region.SharedRegion.{SharedRegion}
-use Rattle.pas_shared.specs.declared.pass.SharedPass.{SharedPass}
+use Rattle.pas_shared.specs.declared.{region.SharedRegion.SharedRegion, pass.SharedPass.SharedPass}
 use Rattle.pas_trace.specs.Acts.{Act, own_acts}
 use Rattle.pas_answers.specs.Answers.{Progress}
 use Rattle.pas_report.specs.Rooms.{Records}
 use Rattle.pas_guard.specs.declared.book.GuardBook.{GuardBook}
 use Rattle.pas_acts.specs.Keepers.{Keeping, OneKeeper, LaterKept, keeper_has}
-use Rattle.pas_acts.specs.Pairs.{KeeperWaits, PairAt, PairWorks}
-use Rattle.pas_acts.specs.Works.{Later, Keeps, ThreadAt}
+use Rattle.pas_acts.specs.{Pairs.KeeperWaits, Pairs.PairAt, Pairs.PairWorks, Works.Later, Works.Keeps, Works.ThreadAt}
 use Rattle.pas_acts.specs.declared.names.NameBook.{NameBook}
 use Rattle.pas_threads.specs.Hands.{standing_of_pass, kept_by, HasPass, Did}
 use Rattle.pas_threads.specs.Pairs.{kept_by_worker, kept_seated, SitsAs, PairStands}
-use Rattle.pas_threads.specs.declared.keeper.Keeper.{Keeper}
-use Rattle.pas_threads.specs.declared.keeper.Seated.{Seated}
-use Rattle.pas_threads.specs.declared.workers.Worker.{Worker}
+use Rattle.pas_threads.specs.declared.{keeper.Keeper.Keeper, keeper.Seated.Seated, workers.Worker.Worker}
 
 -- its pass is the one that it sits with
 pub seated : {region : SharedRegion} {slot : Option SharedPass} (At : Standing → Type 0) (pass : SharedPass) → slot ≡ Some pass → (has : HasPass region slot) → At (standing_of_pass has.pass) → At (standing_of_pass pass)

@@ -1,25 +1,17 @@
 -- How a kit is made, and where its team stands when a replay starts.
-use Rattle.std.proofs.Common.{◌≡◌, ◌≢◌, ℕ, zero, suc, ◌+◌, ◌-◌, ◌*◌, ◌<◌, ◌≤◌, ◌==◌, List, [], ◌∷◌, ◌++◌, length, map, get_or, slice_index, slice_index_or, All, Bool, true, false, if◌then◌else◌, inl, inr, Option, Some, None, refl, ap, sym, ◌∙◌, subst, arith}
+use Rattle.std.proofs.Common.{◌≡◌, ◌≢◌, ℕ, zero, suc, ◌+◌, ◌-◌, ◌*◌, ◌<◌, ◌≤◌, ◌==◌, List, [], ◌∷◌, ◌++◌, length, map, get_or, slice_index, slice_index_or, All}
+use Rattle.std.proofs.Common.{Bool, true, false, if◌then◌else◌, inl, inr, Option, Some, None, refl, ap, sym, ◌∙◌, subst, arith, MatchOption, eq-eqb, ne_eqb}
+use Rattle.std.proofs.Common.{length-set}
 use Rattle.std.specs.List.{remove}
-use Rattle.std.specs.Prelude.{MatchOption}
-use Rattle.std.proofs.Math.ListN.{set}
-use Rattle.std.proofs.Math.Nat.{suc-mul}
-use Rattle.std.proofs.lemmas.Bool.{cases_eq, eq-eqb, ne_eqb}
-use Rattle.std.proofs.lemmas.List.{get_or-map, length-map, length-set}
-use Rattle.std.proofs.lemmas.List.Elements.{All-set}
+use Rattle.std.proofs.{Math.ListN.set, Math.Nat.suc-mul, lemmas.Bool.cases_eq, lemmas.List.get_or-map, lemmas.List.length-map, lemmas.List.Elements.All-set}
 use Rattle.pas_profile.specs.Rooms.{shown, size_of_room, EventRoom}
 use Rattle.pas_profile.specs.declared.profile.Profile.{Profile}
 use Rattle.pas_trace.specs.Acts.{Act, Settles, act_kept, own_acts}
 use Rattle.pas_trace.specs.Asked.{work_of, keeper_in}
 use Rattle.pas_trace.specs.EveryPlan.{AreKept, all_ops, own_records, kept_of_work, kept_records}
 use Rattle.pas_trace.specs.Plans.{IsPlanOf, bounds_of, ops_of, phases_of as the_phases}
-use Rattle.pas_trace.specs.declared.plan.Op.{Op}
-use Rattle.pas_trace.specs.declared.plan.Phase.{Phase}
-use Rattle.pas_trace.specs.declared.plan.Plan.{Plan}
-use Rattle.pas_trace.specs.declared.plan.What.{What}
-use Rattle.pas_trace.proofs.EveryPhase.{every_phase}
-use Rattle.pas_trace.proofs.EveryPlan.{every_plan}
-use Rattle.pas_trace.proofs.OperationCounts.{few_operations}
+use Rattle.pas_trace.specs.declared.plan.{Op.Op, Phase.Phase, Plan.Plan, What.What}
+use Rattle.pas_trace.proofs.{EveryPhase.every_phase, EveryPlan.every_plan, OperationCounts.few_operations, Keepers.plan_actors}
 use Rattle.pas_report.specs.Rooms.{records_in, room_of, Records}
 use Rattle.pas_report.specs.declared.record.Record.{Record}
 use Rattle.pas_guard.specs.Books.{FitsBook, guards_in}
@@ -27,35 +19,22 @@ use Rattle.pas_guard.specs.declared.book.Guard.{Guard}
 use Rattle.pas_cache.specs.Caches.{Cached, cached}
 use Rattle.pas_cache.proofs.FlushesAndFrees.{rests_empty}
 use Rattle.pas_shared.specs.Passes.{AreFresh, seat_of, view_of, IsPassOf}
-use Rattle.pas_shared.specs.declared.pass.SharedPass.{SharedPass}
-use Rattle.pas_shared.specs.declared.region.SharedRegion.{SharedRegion}
-use Rattle.pas_answers.specs.Calls.{owed_events}
-use Rattle.pas_answers.specs.Names.{names_held}
+use Rattle.pas_shared.specs.declared.{pass.SharedPass.SharedPass, region.SharedRegion.SharedRegion}
+use Rattle.pas_answers.specs.{Calls.owed_events, Names.names_held}
 use Rattle.pas_answers.specs.Replays.{at_start, phases_of, region_of, threads_of, keepers_of}
-use Rattle.pas_plans.specs.Keepers.{one_guarded, guarded_of}
-use Rattle.pas_plans.specs.Parts.{AreRooms}
-use Rattle.pas_trace.proofs.Keepers.{plan_actors}
-use Rattle.pas_plans.proofs.KeeperActs.{is_guarded}
-use Rattle.pas_plans.proofs.NameLimits.{below_all}
-use Rattle.pas_plans.proofs.Nothing.{nothing, nothing_owed}
-use Rattle.pas_plans.proofs.PlanFacts.{plan_threads, plan_above, wider_sound}
+use Rattle.pas_plans.specs.{Keepers.one_guarded, Keepers.guarded_of, Parts.AreRooms}
+use Rattle.pas_plans.proofs.{KeeperActs.is_guarded, NameLimits.below_all, Nothing.nothing, Nothing.nothing_owed, PlanFacts.plan_threads, PlanFacts.plan_above}
+use Rattle.pas_plans.proofs.{PlanFacts.wider_sound}
 use Rattle.pas_shares.specs.Shares.{AreKeptBehind}
 use Rattle.pas_shares.proofs.PhaseActs.{active_within}
-use Rattle.pas_acts.specs.Keepers.{LaterKept, KeeperAt, keeper_has}
-use Rattle.pas_acts.specs.Pairs.{for_guards, AreTriedBy, AreUnguarded}
+use Rattle.pas_acts.specs.{Keepers.LaterKept, Keepers.KeeperAt, Keepers.keeper_has, Pairs.for_guards, Pairs.AreTriedBy, Pairs.AreUnguarded}
 use Rattle.pas_acts.proofs.NamesBefore.{names_at_start}
 use Rattle.pas_threads.specs.Hands.{standing_of_pass}
 use Rattle.pas_threads.specs.Kits.{IsEquipped, AreEquipped, IsNew, AreNew, IsSupplied, IsKeeperFor, IsKitOf}
 use Rattle.pas_threads.specs.Pairs.{no_more, KeeperRests, owed_kept, keeper_at, owed_by_keepers, AreGuarded}
 use Rattle.pas_threads.specs.Sessions.{Session, WorkerRests, ScavengerRests, TeamAt, HasRoom, owed_by}
-use Rattle.pas_threads.specs.declared.keeper.Keeper.{Keeper}
-use Rattle.pas_threads.specs.declared.kit.SharedKit.{SharedKit}
-use Rattle.pas_threads.specs.declared.phases.Team.{Team}
-use Rattle.pas_threads.specs.declared.scavenger.Scavenger.{Scavenger}
-use Rattle.pas_threads.specs.declared.workers.Worker.{Worker}
-use Rattle.pas_threads.proofs.Dealt.{some_worker}
-use Rattle.pas_threads.proofs.Keepers.{keeper_is}
-use Rattle.pas_threads.proofs.TakingTurns.{set_each}
+use Rattle.pas_threads.specs.declared.{keeper.Keeper.Keeper, kit.SharedKit.SharedKit, phases.Team.Team, scavenger.Scavenger.Scavenger, workers.Worker.Worker}
+use Rattle.pas_threads.proofs.{Dealt.some_worker, Keepers.keeper_is, TakingTurns.set_each}
 
 -- ---- equipping
 pub equipped_more : (bounds : List ℕ) (k n : ℕ) (passes : List SharedPass) (workers : List Worker) (pass : SharedPass) (worker : Worker) → AreEquipped bounds k passes workers → n ≡ k + length workers
@@ -140,18 +119,12 @@ AreCounted later events guards = (later.events ≡ events) × (later.guards ≡ 
 
 none_more : (later : LaterKept) (events guards : ℕ) → AreCounted later events guards → AreCounted later (0 + events) (0 + guards)
 none_more later events guards counted =
-    let one = counted.0 in
-    let two = counted.1 in
-    let three = counted.2 in
-    (omega (arith, one), omega (arith, two), omega (arith, three))
+    (omega (arith, counted.0), omega (arith, counted.1), omega (arith, counted.2))
 
 guards_one : (t : Bool) (line actor : ℕ) (what : What) (acts : List Act) (events guards : ℕ) → AreCounted (for_guards acts no_more) events guards
     → AreCounted (for_guards (if t then act_kept (keeper_in what) (record { line = line; actor = actor; what = what }) ∷ (Settles actor ∷ acts) else acts) no_more) ((if t then kept_of_work (work_of what) else 0) + events) ((if t then one_guarded (keeper_in what) else 0) + guards)
 guards_one true line actor (What.Guarded keeper name heap size align) acts events guards counted =
-    let one = counted.0 in
-    let two = counted.1 in
-    let three = counted.2 in
-    (omega (arith, one), omega (arith, two), omega (arith, three))
+    (omega (arith, counted.0), omega (arith, counted.1), omega (arith, counted.2))
 guards_one true line actor what acts events guards counted = none_more (for_guards acts no_more) events guards counted
 guards_one false line actor what acts events guards counted = none_more (for_guards acts no_more) events guards counted
 
@@ -166,7 +139,7 @@ guarded_none plan some none = elim (cases_eq plan.guard 0) [
   | inr other ↦ let all : keepers_of plan ≡ threads_of plan = ap (λ (t : Bool). if t then 0 else threads_of plan) (ne_eqb plan.guard 0 other) in absurd (omega (arith, all, none, some))
 ]
 
-pub first_pass : (passes : List SharedPass) → 1 ≤ length passes → SharedPass
+first_pass : (passes : List SharedPass) → 1 ≤ length passes → SharedPass
 first_pass [] bad = absurd (omega (arith, bad))
 first_pass (pass ∷ passes) some = pass
 
@@ -178,7 +151,6 @@ starts_at region f k bound later pass worker of_profile within unused has =
     let owed : owed_events f (cached worker.cache) [] ≡ f.pages = ap (λ (c : Cached). owed_events f c []) has.cache ∙ nothing_owed f in
     let room = unused.room in
     let requests = has.requests in
-    let records = has.records in
     let none = ap (λ (rs : List Record). length rs) has.said in
     record {
       here = record {
@@ -193,7 +165,7 @@ starts_at region f k bound later pass worker of_profile within unused has =
             room = omega (arith, owed, room, within);
           };
           cache = sym has.cache;
-          spare = omega (arith, owed, records, within, none);
+          spare = omega (arith, owed, has.records, within, none);
         };
       };
       said = has.said;
@@ -217,14 +189,13 @@ scavenger_starts : (region : SharedRegion) (f : Profile) (bound later : ℕ) (pa
     → ScavengerRests region f scavenger later at_start
 scavenger_starts region f bound later pass scavenger of_profile within unused ready =
     let room = unused.room in
-    let records = ready.records in
     let none = ap (λ (rs : List Record). length rs) ready.said in
     record {
       has = record { pass = pass; present = ready.present; of = unused.of_region };
       at = record {
         stands = record {
           sits = record { actor = unused.actor; profile = unused.of_region.1 ∙ of_profile; beside = []; stood = unused.no_step; rest = nothing; room = omega (arith, room, within) };
-          spare = omega (arith, none, records, within);
+          spare = omega (arith, none, ready.records, within);
         };
         has_places = ready.places;
       };
@@ -270,8 +241,6 @@ keeper_starts region plan k pass o of_profile tried within unused has =
     let there = has.there in
     let counted = guards_own k ops in
     let events = counted.0 in
-    let guards = counted.1 in
-    let records = counted.2 in
     let owed = nothing_owed f in
     let room = unused.room in
     let spare = has.records in
@@ -283,8 +252,8 @@ keeper_starts region plan k pass o of_profile tried within unused has =
     let at : KeeperAt f actor (keeper_has (standing_of_pass pass) there.book there.out) (for_guards (own_acts k ops) no_more) at_start = record {
       sits = record { actor = unused.actor; profile = unused.of_region.1 ∙ of_profile; beside = []; stood = unused.no_step; rest = fits; room = omega (arith, room, within, events, owed) };
       book = sym has.empty;
-      spare = omega (arith, none, up, owed, records, spare, within);
-      places = omega (arith, up, guards, places);
+      spare = omega (arith, none, up, owed, counted.2, spare, within);
+      places = omega (arith, up, counted.1, places);
     } in
     subst (λ (x : Option Keeper). KeeperRests region f actor (own_acts k ops) x at_start) (sym has.present) record {
       of = subst (λ (x : SharedPass). IsPassOf region x) (sym has.pass_is) unused.of_region;
@@ -297,17 +266,15 @@ kept_start : {text : List ℕ} {plan : Plan} {kit : SharedKit} → IsPlanOf text
     → KeeperRests kit.region (region_of plan) (threads_of plan + suc i) (own_acts (suc i) (all_ops (phases_of plan))) (get_or kit.team.threads.items i d).keeper at_start
 kept_start {text} {plan} {kit} read made (inl all) many i d lt =
     let plans = every_plan read in
-    let count = all.0 in
-    let some = is_guarded plan (omega (arith, count, lt)) in
+    let some = is_guarded plan (omega (arith, all.0, lt)) in
     let had = made.team.keepers in
     let size = had.0 in
-    let threads = made.many in
-    let e = first_pass made.kept (omega (arith, size, count, lt)) in
-    let unused = new_at kit.region (bounds_of plan.bounds) (1 + length made.others) made.kept i e (omega (arith, size, count, lt)) (others_new kit.region (bounds_of plan.bounds) 1 made.others made.kept made.unused.1) in
-    let place : 1 + length made.others + i ≡ threads_of plan + suc i = omega (arith, threads) in
+    let e = first_pass made.kept (omega (arith, size, all.0, lt)) in
+    let unused = new_at kit.region (bounds_of plan.bounds) (1 + length made.others) made.kept i e (omega (arith, size, all.0, lt)) (others_new kit.region (bounds_of plan.bounds) 1 made.others made.kept made.unused.1) in
+    let place : 1 + length made.others + i ≡ threads_of plan + suc i = omega (arith, made.many) in
     let bound = plans.kept (suc i) some (omega arith) (omega (arith, lt, many)) in
     keeper_starts kit.region plan (suc i) (slice_index_or made.kept i e) (get_or kit.team.threads.items i d).keeper made.profile (tried_own plan.profile plan.guard (suc i) (all_ops (phases_of plan)) plans.keepers)
-    (omega (arith, bound)) (subst (λ (n : ℕ). IsNew kit.region n (slice_index (bounds_of plan.bounds) n) (slice_index_or made.kept i e)) place unused) (had.2 i e d (omega (arith, count, lt)))
+    (omega (arith, bound)) (subst (λ (n : ℕ). IsNew kit.region n (slice_index (bounds_of plan.bounds) n) (slice_index_or made.kept i e)) place unused) (had.2 i e d (omega (arith, all.0, lt)))
 kept_start {text} {plan} {kit} read made (inr none) many i d lt =
     let plans = every_plan read in
     let zero_of = guarded_none plan (omega (arith, lt, many)) none.0 in
@@ -325,12 +292,11 @@ start {text} {plan} {kit} read made =
     let scavenger = plans.scavenger in
     let count = few_operations read in
     let actors = plan_actors plan in
-    let most = plans.actors in
     let threads = plan_threads plan in
     record {
       many = many;
       fits = omega (arith, actors);
-      few_threads = omega (arith, most, threads);
+      few_threads = omega (arith, plans.actors, threads);
       few = omega (arith, count);
       within = λ k on. active_within plan.profile [] ops k plans.operations on;
       behind = behind_own plan.profile plan.guard ops plans.keepers;
@@ -384,14 +350,12 @@ kept_owed : {plan : Plan} {kit : SharedKit} → IsKitOf plan kit → AreGuarded 
     → owed_by_keepers (region_of plan) (threads_of plan) kit.team.threads.items at_start (threads_of plan) ≤ keepers_of plan * (region_of plan).pages
 kept_owed {plan} {kit} made (inl all) many =
     let workers = kit.team.threads.items in
-    let count = all.0 in
     let had = made.team.keepers in
-    let size = had.0 in
     let each = owed_first (region_of plan) (threads_of plan) workers (threads_of plan) (λ i lt.
     let less : i < length workers = omega (arith, lt, many) in
     let d = some_worker workers i less in
-    let e = first_pass made.kept (omega (arith, size, count, less)) in
-    let one = owed_one plan (suc i) (threads_of plan + suc i) (slice_index_or made.kept i e) (get_or workers i d).keeper (had.2 i e d (omega (arith, count, less))) in
+    let e = first_pass made.kept (omega (arith, had.0, all.0, less)) in
+    let one = owed_one plan (suc i) (threads_of plan + suc i) (slice_index_or made.kept i e) (get_or workers i d).keeper (had.2 i e d (omega (arith, all.0, less))) in
     let is = ap (λ (o : Option Keeper). owed_kept (region_of plan) (threads_of plan + suc i) o at_start) (keeper_is workers i d less) in
     omega (arith, one, is)) in
     let pages = ap (λ (n : ℕ). n * (region_of plan).pages) (all.0 ∙ many) in

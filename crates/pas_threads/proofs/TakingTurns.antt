@@ -1,18 +1,16 @@
 -- Workers in a row that take turns: threads read the epoch before a phase and are stopped at the close, one after the other; and what they said is gathered.
-use Rattle.std.proofs.Common.{◌≡◌, ◌≢◌, ℕ, ◌<◌, inl, inr, List, [], ◌∷◌, ◌++◌, length, set, get_or, refl, ap, sym, ◌∙◌, subst, arith, append_assoc, suc, ◌+◌, ◌-◌, ◌≤◌, true, false, map, length-append, drop, drop_of_length-le}
-use Rattle.std.proofs.lemmas.List.{append-nil, get_or-set_other, get_or_default, drop_more}
-use Rattle.std.proofs.lemmas.Grind.{get_or-set_at}
-use Rattle.std.proofs.lemmas.Bool.{cases_eq}
+use Rattle.std.proofs.Common.{◌≡◌, ◌≢◌, ℕ, ◌<◌, inl, inr, List, [], ◌∷◌, ◌++◌, length, set, get_or, refl, ap, sym, ◌∙◌, subst, arith, append_assoc, suc, ◌+◌}
+use Rattle.std.proofs.Common.{◌-◌, ◌≤◌, true, false, map, length-append, drop, drop_of_length-le, append-nil, get_or-set_other}
+use Rattle.std.proofs.lemmas.{List.get_or_default, List.drop_more, Grind.get_or-set_at, Bool.cases_eq}
 use Rattle.pas_profile.specs.declared.profile.Profile.{Profile}
-use Rattle.pas_steps.specs.Lists.{part}
+use Rattle.pas_steps.specs.{Lists.part, Views.View}
 use Rattle.pas_report.specs.Rooms.{records_in, Records, room_of}
 use Rattle.pas_report.specs.declared.record.Record.{Record}
 use Rattle.pas_trace.specs.Acts.{Act, Wakes, Ends, numbers_from}
-use Rattle.pas_answers.specs.Answers.{Progress}
-use Rattle.pas_answers.specs.Ways.{EachOf, records_by}
+use Rattle.pas_answers.specs.{Answers.Progress, Ways.EachOf, Ways.records_by, Calls.owed_events, Fit.own_cost_of_act}
 use Rattle.pas_answers.proofs.OwnRecords.{records_both, none_by, all_by, spoken_piece, spoken_both}
-use Rattle.pas_acts.specs.Works.{Later, Sits}
-use Rattle.pas_acts.proofs.AtDesk.{leaves_rest, sits_for}
+use Rattle.pas_acts.specs.{Works.Later, Works.Sits, NameBooks.requests_in, NameBooks.room_for}
+use Rattle.pas_acts.proofs.{AtDesk.leaves_rest, AtDesk.sits_for, Alone.rests_still}
 use Rattle.pas_shared.specs.declared.region.SharedRegion.{SharedRegion}
 use Rattle.pas_answers.proofs.Reached.{reach_both}
 use Rattle.pas_threads.specs.Turns.{AreDistinct, Came, Pushed, Told, TookNoPart, Turn, TookTurns, owed_at, IsDue, Woke, WokeAll, Stopped, StoppedAll, said_by}
@@ -20,14 +18,9 @@ use Rattle.pas_threads.specs.declared.workers.Worker.{Worker}
 use Rattle.std.specs.List.{filter}
 use Rattle.pas_bits.specs.Masks.{is_set}
 use Rattle.pas_bits.specs.declared.mask.Mask4.{Mask4}
-use Rattle.pas_steps.specs.Views.{View}
 use Rattle.pas_cache.specs.Caches.{Cached, cached, AtRest}
-use Rattle.pas_answers.specs.Calls.{owed_events}
-use Rattle.pas_answers.specs.Fit.{own_cost_of_act}
 use Rattle.pas_plans.specs.Awake.{awake_in}
 use Rattle.pas_plans.proofs.ActsLeft.{acts_there, next_chosen, next_passed, none_left, number_next, number_last}
-use Rattle.pas_acts.specs.NameBooks.{requests_in, room_for}
-use Rattle.pas_acts.proofs.Alone.{rests_still}
 use Rattle.pas_threads.specs.Hands.{standing_of_pass}
 use Rattle.pas_threads.specs.Sessions.{evenly, WorkerHas, WorkerRests, AreResting}
 
@@ -79,7 +72,7 @@ goes_on {all} {left} {rest} head is so did = record {
   done = did;
 }
 
-pub passes_on : {all left rest : List Act} {Done : List Act → Type 0} → left ≡ rest → SoFar all left Done → SoFar all rest Done
+passes_on : {all left rest : List Act} {Done : List Act → Type 0} → left ≡ rest → SoFar all left Done → SoFar all rest Done
 passes_on is so = record { acts = so.acts; whole = ap (λ (acts : List Act). so.acts ++ acts) (sym is) ∙ so.whole; done = so.done }
 
 pub at_last : {all left : List Act} {Done : List Act → Type 0} → left ≡ [] → SoFar all left Done → Done all
@@ -236,13 +229,12 @@ woke_rest {old = old} {now} many at woke i d lt =
     let less : i < length old = omega (arith, lt, many) in
     let was = at i d less in
     let told = woke.turns.told i d less in
-    let room = was.requests in
     let size = ap room_for told.requests in
     record {
       here = (woke.turns.stand i d less).here;
       said = told.out.added ∙ ap (λ (rs : List Record). records_in (get_or old i d).out ++ records_by (suc i) rs) woke.silent ∙ append-nil (records_in (get_or old i d).out) ∙ was.said;
       asked = ap requests_in told.requests ∙ was.asked;
-      requests = omega (arith, room, size);
+      requests = omega (arith, was.requests, size);
     }
 
 -- ---- at the close
@@ -294,7 +286,7 @@ module _ (says : Worker → List Record) (Is : Worker → Worker → Type 0) whe
   gather_begins old before = record { said_are = refl; done = λ j d less within. absurd (omega (arith, less)); left = λ j d from. refl }
 
   -- what the worker at this place says comes first of what is left
-  pub next_said : (i : ℕ) (old now : List Worker) (before said : List Record) (d : Worker) → i < length old → AreGathered says Is i old now before said → said ++ (says (get_or now i d) ++ said_by says (drop (i + 1) old)) ≡ before ++ said_by says old
+  next_said : (i : ℕ) (old now : List Worker) (before said : List Record) (d : Worker) → i < length old → AreGathered says Is i old now before said → said ++ (says (get_or now i d) ++ said_by says (drop (i + 1) old)) ≡ before ++ said_by says old
   next_said i old now before said d lt so =
       ap (λ (w : Worker). said ++ (says w ++ said_by says (drop (i + 1) old))) (so.left i d (omega arith))
       ∙ ap (λ (ws : List Worker). said ++ said_by says ws) (sym (drop_more old i d lt)) ∙ so.said_are

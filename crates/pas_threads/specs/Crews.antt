@@ -5,8 +5,7 @@ use Rattle.pas_report.specs.Rooms.{Records}
 use Rattle.pas_shared.specs.declared.region.SharedRegion.{SharedRegion}
 use Rattle.pas_trace.specs.Acts.{Act}
 use Rattle.pas_answers.specs.Answers.{Progress}
-use Rattle.pas_threads.specs.Hands.{ScavengerAt}
-use Rattle.pas_threads.specs.Lent.{Shift, number_in, AreLent}
+use Rattle.pas_threads.specs.{Hands.ScavengerAt, Lent.Shift, Lent.number_in, Lent.AreLent}
 use Rattle.pas_threads.specs.Turns.{Came, Pushed, Told, TookNoPart}
 use Rattle.pas_threads.specs.declared.workers.Worker.{Worker}
 

@@ -2,9 +2,7 @@
 use Rattle.std.specs.Prelude.{ℕ, zero, suc, ◌+◌, ◌≡◌, Bool, not, if◌then◌else◌, List, [], ◌∷◌, map, length}
 use Rattle.pas_bits.specs.Masks.{is_set}
 use Rattle.pas_bits.specs.declared.mask.Mask4.{Mask4}
-use Rattle.pas_threads.specs.declared.workers.Worker.{Worker}
-use Rattle.pas_threads.specs.declared.hands.Hand.{Hand}
-use Rattle.pas_threads.specs.declared.hands.Hand.TheVariants.{Thread}
+use Rattle.pas_threads.specs.declared.{workers.Worker.Worker, hands.Hand.Hand, hands.Hand.TheVariants.Thread}
 
 -- of what belongs to the numbers from k on, that whose numbers are chosen, in order
 abbrev pub picked : {A : Type 0} → (ℕ → Bool) → ℕ → List A → List A

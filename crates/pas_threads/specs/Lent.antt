@@ -4,10 +4,8 @@ use Rattle.pas_profile.specs.declared.profile.Profile.{Profile}
 use Rattle.pas_report.specs.Rooms.{Records}
 use Rattle.pas_shared.specs.declared.region.SharedRegion.{SharedRegion}
 use Rattle.pas_trace.specs.Acts.{Act, StopsIdle}
-use Rattle.pas_answers.specs.Answers.{Progress}
-use Rattle.pas_answers.specs.Ways.{records_by}
-use Rattle.pas_acts.specs.Works.{Later}
-use Rattle.pas_acts.specs.AtDesks.{told_if}
+use Rattle.pas_answers.specs.{Answers.Progress, Ways.records_by}
+use Rattle.pas_acts.specs.{Works.Later, AtDesks.told_if}
 use Rattle.pas_threads.specs.Sessions.{WorkerHas}
 use Rattle.pas_threads.specs.Turns.{AreDistinct, Pushed, Turn, TookTurns}
 use Rattle.pas_threads.specs.declared.workers.Worker.{Worker}

@@ -10,19 +10,12 @@ use Rattle.pas_shared.specs.Passes.{IsPassOf, standing_of}
 use Rattle.pas_shared.specs.declared.region.SharedRegion.{SharedRegion}
 use Rattle.pas_trace.specs.Acts.{Act, Lowers, numbers_from, own_acts}
 use Rattle.pas_trace.specs.declared.plan.Op.{Op}
-use Rattle.pas_answers.specs.Answers.{Progress}
-use Rattle.pas_answers.specs.Keeping.{owed_by_keeper}
-use Rattle.pas_answers.specs.Reaching.{Reaches}
-use Rattle.pas_answers.specs.Ways.{AreSpoken, records_by}
+use Rattle.pas_answers.specs.{Answers.Progress, Keeping.owed_by_keeper, Reaching.Reaches, Ways.AreSpoken, Ways.records_by}
 use Rattle.pas_acts.specs.Keepers.{LaterKept, Keeping, NoKeeper, OneKeeper, KeeperAt, KeeperLowers, keeper_has}
-use Rattle.pas_acts.specs.Pairs.{KeeperWaits, KeptPushed, PairWorks}
-use Rattle.pas_acts.specs.Works.{Later}
+use Rattle.pas_acts.specs.{Pairs.KeeperWaits, Pairs.KeptPushed, Pairs.PairWorks, Works.Later}
 use Rattle.pas_acts.specs.declared.names.NameBook.{NameBook}
 use Rattle.pas_threads.specs.Hands.{standing_of_pass, kept_by, WorkerAt, Did}
-use Rattle.pas_threads.specs.declared.keeper.Keeper.{Keeper}
-use Rattle.pas_threads.specs.declared.keeper.Seated.{Seated}
-use Rattle.pas_threads.specs.declared.keeper.Beside.{Beside}
-use Rattle.pas_threads.specs.declared.workers.Worker.{Worker}
+use Rattle.pas_threads.specs.declared.{keeper.Keeper.Keeper, keeper.Seated.Seated, keeper.Beside.Beside, workers.Worker.Worker}
 
 -- ---- the keeper of a worker
 -- what it has in hand while it doesn't sit at the region

@@ -7,23 +7,16 @@ use Rattle.pas_report.specs.declared.record.Record.{Record}
 use Rattle.pas_utility.specs.Outcomes.{places_of}
 use Rattle.pas_shared.specs.declared.region.SharedRegion.{SharedRegion}
 use Rattle.pas_trace.specs.Acts.{is_active, acts_of_ops, idle_threads, own_acts, scavenger_acts}
-use Rattle.pas_answers.specs.Answers.{Named, Progress}
+use Rattle.pas_answers.specs.{Answers.Named, Answers.Progress, Fit.own_costs_of, Ways.records_by}
 use Rattle.pas_shares.specs.Shares.{AreAmong, AreKeptBehind, owner_in, acts_by}
 use Rattle.pas_acts.specs.NameBooks.{requests_in, room_for, names_of, names_asked}
-use Rattle.pas_threads.specs.Taken.{HandsOver}
-use Rattle.pas_acts.specs.Works.{Later}
-use Rattle.pas_acts.specs.Keepers.{LaterKept}
-use Rattle.pas_acts.specs.Pairs.{KeeperWaits, KeptPushed, KeptStill}
-use Rattle.pas_answers.specs.Fit.{own_costs_of}
-use Rattle.pas_answers.specs.Ways.{records_by}
-use Rattle.pas_threads.specs.Hands.{standing_of_pass, HasPass, ScavengerAt}
-use Rattle.pas_threads.specs.Sessions.{Session, WorkerHas, HasPlaces}
+use Rattle.pas_threads.specs.{Taken.HandsOver, Hands.standing_of_pass, Hands.HasPass, Hands.ScavengerAt, Sessions.Session, Sessions.WorkerHas}
+use Rattle.pas_threads.specs.{Sessions.HasPlaces}
+use Rattle.pas_acts.specs.{Works.Later, Keepers.LaterKept, Pairs.KeeperWaits, Pairs.KeptPushed, Pairs.KeptStill}
 use Rattle.pas_threads.specs.Pairs.{kept_by_worker, IsKeeperOf, PairStands, owed_kept}
 use Rattle.pas_threads.specs.Turns.{Came, Pushed, TookNoPart, owed_at}
 use Rattle.pas_acts.specs.declared.names.NameBook.{NameBook}
-use Rattle.pas_threads.specs.declared.workers.Worker.{Worker}
-use Rattle.pas_threads.specs.declared.scavenger.Scavenger.{Scavenger}
-use Rattle.pas_threads.specs.declared.phases.Team.{Team}
+use Rattle.pas_threads.specs.declared.{workers.Worker.Worker, scavenger.Scavenger.Scavenger, phases.Team.Team}
 
 -- What all hands of a phase go by: the profile of the region and the number of threads, the book of names, the operations, for how much more each actor has
 -- room in the end, and how far the replay came before them.

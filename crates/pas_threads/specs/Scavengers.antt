@@ -1,14 +1,12 @@
 -- What the scavenger's worker has in hand while it doesn't sit at the region, before and after its acts of a phase.
 use Rattle.std.specs.Prelude.{ℕ, ◌≡◌, List, [], vec_capacity}
 use Rattle.pas_steps.specs.Desks.{Standing}
-use Rattle.pas_trace.specs.EveryPlan.{AreSound}
+use Rattle.pas_trace.specs.{EveryPlan.AreSound, Acts.Act, Acts.scavenger_acts}
 use Rattle.pas_trace.specs.declared.plan.Op.{Op}
 use Rattle.pas_utility.specs.Outcomes.{places_of}
 use Rattle.pas_shared.specs.declared.region.SharedRegion.{SharedRegion}
-use Rattle.pas_trace.specs.Acts.{Act, scavenger_acts}
 use Rattle.pas_answers.specs.Answers.{Progress}
-use Rattle.pas_threads.specs.Hands.{standing_of_pass, HasPass, Did}
-use Rattle.pas_threads.specs.Lent.{Shift}
+use Rattle.pas_threads.specs.{Hands.standing_of_pass, Hands.HasPass, Hands.Did, Lent.Shift}
 use Rattle.pas_threads.specs.Crews.{Crew, crew, CrewAt, CrewDid}
 use Rattle.pas_threads.specs.declared.scavenger.Scavenger.{Scavenger}
 

@@ -2,8 +2,7 @@
 use Rattle.std.specs.Prelude.{ℕ, zero, suc, ◌+◌, ◌<◌, ◌≤◌, ◌≡◌, ◌^◌, true, List, [], ◌∷◌, ◌++◌, map, length, get_or, vec_capacity}
 use Rattle.pas_profile.specs.declared.profile.Profile.{Profile}
 use Rattle.pas_steps.specs.Lists.{Whole, part}
-use Rattle.pas_trace.specs.EveryPlan.{all_ops, own_records, records_of_ops}
-use Rattle.pas_trace.specs.EveryPhase.{FreeTheirOwn}
+use Rattle.pas_trace.specs.{EveryPlan.all_ops, EveryPlan.own_records, EveryPlan.records_of_ops, EveryPhase.FreeTheirOwn}
 use Rattle.pas_trace.specs.declared.plan.Op.{Op}
 use Rattle.pas_report.specs.Rooms.{records_in, room_of, Records}
 use Rattle.pas_report.specs.declared.record.Record.{Record}
@@ -12,21 +11,13 @@ use Rattle.pas_cache.specs.Caches.{cached}
 use Rattle.pas_shared.specs.Ruled.{IsEarlier}
 use Rattle.pas_shared.specs.declared.region.SharedRegion.{SharedRegion}
 use Rattle.pas_trace.specs.Acts.{Ends, Lowers, is_active, numbers_from, own_acts, acts_of, phase_acts}
-use Rattle.pas_answers.specs.Replays.{at_start}
-use Rattle.pas_answers.specs.Answers.{Progress}
-use Rattle.pas_answers.specs.Calls.{owed_events}
+use Rattle.pas_answers.specs.{Replays.at_start, Answers.Progress, Calls.owed_events, Reaching.Reaches, Phases.AreInPhases}
 use Rattle.pas_answers.specs.Ways.{OnThreads, arranged, by_actors, AreSpoken}
-use Rattle.pas_answers.specs.Reaching.{Reaches}
 use Rattle.pas_shares.specs.Shares.{AreKeptBehind}
-use Rattle.pas_acts.specs.Works.{Later}
-use Rattle.pas_acts.specs.Turns.{RestsAt}
+use Rattle.pas_acts.specs.{Works.Later, Turns.RestsAt, NameBooks.NamesAt, NameBooks.requests_in, NameBooks.room_for}
 use Rattle.pas_threads.specs.Hands.{standing_of_pass, HasPass, ScavengerAt}
 use Rattle.pas_threads.specs.Pairs.{KeeperRests, AreGuarded, owed_by_keepers, IsLow}
-use Rattle.pas_acts.specs.NameBooks.{NamesAt, requests_in, room_for}
-use Rattle.pas_answers.specs.Phases.{AreInPhases}
-use Rattle.pas_threads.specs.declared.workers.Worker.{Worker}
-use Rattle.pas_threads.specs.declared.scavenger.Scavenger.{Scavenger}
-use Rattle.pas_threads.specs.declared.phases.Team.{Team}
+use Rattle.pas_threads.specs.declared.{workers.Worker.Worker, scavenger.Scavenger.Scavenger, phases.Team.Team}
 
 -- what a replay on threads goes by: the profile of its region, how many threads make the operations, and how many keepers stand behind them
 pub record Session : Type 0 where

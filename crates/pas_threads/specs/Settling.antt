@@ -1,14 +1,9 @@
 -- What stands in a ledger once it was settled.
 use Rattle.std.specs.Prelude.{ℕ, ◌<◌, ◌≡◌, length, get_or, Some, vec_capacity}
 use Rattle.pas_steps.specs.Lists.{Whole, part}
-use Rattle.pas_shared.specs.Ruled.{IsEarlier, HasAllOf}
-use Rattle.pas_shared.specs.Passes.{seat_of, view_of}
-use Rattle.pas_shared.specs.Ledgers.{so_far, actors_in}
-use Rattle.pas_shared.specs.declared.ledger.Ledger.{Ledger}
-use Rattle.pas_shared.specs.declared.pass.SharedPass.{SharedPass}
-use Rattle.pas_threads.specs.declared.keeper.Keeper.{Keeper}
-use Rattle.pas_threads.specs.declared.phases.Team.{Team}
-use Rattle.pas_threads.specs.declared.workers.Worker.{Worker}
+use Rattle.pas_shared.specs.{Ruled.IsEarlier, Ruled.HasAllOf, Passes.seat_of, Passes.view_of, Ledgers.so_far, Ledgers.actors_in}
+use Rattle.pas_shared.specs.declared.{ledger.Ledger.Ledger, pass.SharedPass.SharedPass}
+use Rattle.pas_threads.specs.declared.{keeper.Keeper.Keeper, phases.Team.Team, workers.Worker.Worker}
 
 -- It is the ledger of the same region, with the same actors, and what stood in it are the first steps of those that stand there now. Those of its actors are all there.
 pub record Settled (old new : Ledger) : Type 0 where

@@ -8,18 +8,11 @@ use Rattle.pas_report.specs.declared.record.Record.{Record}
 use Rattle.pas_cache.specs.Caches.{cached}
 use Rattle.pas_shared.specs.declared.region.SharedRegion.{SharedRegion}
 use Rattle.pas_trace.specs.Acts.{Act, Wakes, Ends, numbers_from}
-use Rattle.pas_answers.specs.Answers.{Progress}
-use Rattle.pas_answers.specs.Calls.{owed_events}
-use Rattle.pas_answers.specs.Ways.{AreSpoken, records_by}
+use Rattle.pas_answers.specs.{Answers.Progress, Calls.owed_events, Ways.AreSpoken, Ways.records_by, Reaching.Reaches}
 use Rattle.pas_plans.specs.Awake.{awake_in}
-use Rattle.pas_answers.specs.Reaching.{Reaches}
-use Rattle.pas_acts.specs.AtDesks.{here, ThreadActs}
-use Rattle.pas_acts.specs.Works.{Later}
-use Rattle.pas_threads.specs.Hands.{Did}
-use Rattle.pas_threads.specs.Sessions.{evenly, WorkerHas}
-use Rattle.pas_threads.specs.Pairs.{said_by_keeper, IsButKeeper}
-use Rattle.pas_threads.specs.declared.keeper.Keeper.{Keeper}
-use Rattle.pas_threads.specs.declared.workers.Worker.{Worker}
+use Rattle.pas_acts.specs.{AtDesks.here, AtDesks.ThreadActs, Works.Later}
+use Rattle.pas_threads.specs.{Hands.Did, Sessions.evenly, Sessions.WorkerHas, Pairs.said_by_keeper, Pairs.IsButKeeper}
+use Rattle.pas_threads.specs.declared.{keeper.Keeper.Keeper, workers.Worker.Worker}
 
 -- ---- what acts come to
 -- how far these acts brought a replay from p, and what was said by them

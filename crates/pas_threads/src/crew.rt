@@ -1,12 +1,10 @@
 //! The scavenger's worker in a phase, with the idle threads that are lent to it.
 ghost use Rattle.std.specs.Prelude.{◌≡◌, ◌<◌, ◌^◌, ◌++◌, ℕ, List, [], length};
 ghost use Rattle.pas_utility.specs.Outcomes.{places_of};
-ghost use Rattle.pas_trace.specs.EveryPlan.{AreSound, IsSoundWork};
+ghost use Rattle.pas_trace.specs.{EveryPlan.AreSound, EveryPlan.IsSoundWork, Acts.Act, Acts.acts_of_chore, Acts.scavenger_acts};
 ghost use Rattle.pas_trace.specs.declared.plan.Work.TheVariants as TheWork;
-ghost use Rattle.pas_trace.specs.Acts.{Act, acts_of_chore, scavenger_acts};
 ghost use Rattle.pas_answers.specs.Answers.{Progress};
-ghost use Rattle.pas_threads.specs.Lent.{Shift};
-ghost use Rattle.pas_threads.specs.Crews.{crew, CrewAt, CrewDid};
+ghost use Rattle.pas_threads.specs.{Lent.Shift, Crews.crew, Crews.CrewAt, Crews.CrewDid};
 
 use crate::lending::stop_idle;
 use crate::workers::Worker;

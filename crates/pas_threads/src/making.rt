@@ -2,20 +2,17 @@
 ghost use Rattle.std.specs.Prelude.{◌≡◌, ◌≤◌, ◌<◌, ◌+◌, ◌⊎◌, ℕ, List, Option, IfOk, All, true, Some, None, [], ◌++◌, length, get_or, vec_capacity, false};
 ghost use Rattle.pas_profile.specs.Rooms.{shown};
 ghost use Rattle.pas_profile.specs.declared.profile.Profile.{Profile as TheProfile};
-ghost use Rattle.pas_trace.specs.Plans.{IsPlanOf};
-ghost use Rattle.pas_utility.specs.Outcomes.{places_of};
-ghost use Rattle.pas_utility.specs.Pools.{threads_of, has_seat, outcomes_of};
+ghost use Rattle.pas_trace.specs.{Plans.IsPlanOf, Acts.is_active};
+ghost use Rattle.pas_utility.specs.{Outcomes.places_of, Pools.threads_of, Pools.has_seat, Pools.outcomes_of};
 ghost use Rattle.pas_cache.specs.Caches.{cached};
 ghost use Rattle.pas_report.specs.Rooms.{records_in, room_of};
-ghost use Rattle.pas_trace.specs.Acts.{is_active};
-ghost use Rattle.pas_answers.specs.Names.{block_named, names_held};
-ghost use Rattle.pas_answers.specs.Replays.{empty_cache, threads_of as threads_in, keepers_of as keepers_in};
+ghost use Rattle.pas_answers.specs.{Names.block_named, Names.names_held, Replays.empty_cache, Replays.threads_of as threads_in};
+ghost use Rattle.pas_answers.specs.{Replays.keepers_of as keepers_in};
 ghost use Rattle.pas_plans.specs.Parts.{AreRooms};
 ghost use Rattle.pas_acts.specs.NameBooks.{requests_in, room_for};
 ghost use Rattle.pas_shared.specs.declared.pass.SharedPass.{SharedPass as ThePass};
 ghost use Rattle.pas_threads.specs.Kits.{AreEquipped, IsSupplied, IsTeamOf, AreKeepers, with_keeper, IsAlone, HasRoomForKeeper};
-ghost use Rattle.pas_threads.specs.declared.keeper.Keeper.{Keeper as TheKeeper};
-ghost use Rattle.pas_threads.specs.declared.workers.Worker.{Worker as TheWorker};
+ghost use Rattle.pas_threads.specs.declared.{keeper.Keeper.Keeper as TheKeeper, workers.Worker.Worker as TheWorker};
 
 use crate::ahead::Spare;
 use crate::keeper::Keeper;

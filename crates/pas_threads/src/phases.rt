@@ -1,14 +1,11 @@
 //! The phases of a replay on threads, one after the other, and the close.
 ghost use Rattle.std.specs.Prelude.{◌≡◌, ◌+◌, ◌<◌, ◌^◌, ℕ, [], List, map, length};
 ghost use Rattle.pas_bits.specs.Masks.{is_set};
-ghost use Rattle.pas_trace.specs.Plans.{ops_of};
+ghost use Rattle.pas_trace.specs.{Plans.ops_of, Acts.is_active};
 ghost use Rattle.pas_trace.specs.declared.plan.Op.{Op as TheOp};
 ghost use Rattle.pas_report.specs.Rooms.{records_in};
-ghost use Rattle.pas_answers.specs.Replays.{at_start};
-ghost use Rattle.pas_trace.specs.Acts.{is_active};
-ghost use Rattle.pas_answers.specs.Answers.{Progress};
-ghost use Rattle.pas_acts.specs.Works.{Later};
-ghost use Rattle.pas_acts.specs.Keepers.{LaterKept};
+ghost use Rattle.pas_answers.specs.{Replays.at_start, Answers.Progress};
+ghost use Rattle.pas_acts.specs.{Works.Later, Keepers.LaterKept};
 ghost use Rattle.pas_threads.specs.Performing.{round, IsReady, IsDone};
 ghost use Rattle.pas_shared.specs.Ledgers.{IsLedgerOf, so_far};
 ghost use Rattle.pas_threads.specs.Sessions.{Session, AreMarked, CloseDone, PhaseAt, PhaseDone, TeamAt, HasRoom, HasReplayed};

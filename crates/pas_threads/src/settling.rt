@@ -3,13 +3,10 @@ ghost use Rattle.std.specs.Prelude.{◌≡◌, ◌<◌, ◌≤◌, ℕ, List, So
 ghost use Rattle.pas_shared.specs.Ledgers.{IsLedgerOf, so_far};
 ghost use Rattle.pas_answers.specs.Answers.{Progress};
 ghost use Rattle.pas_trace.specs.declared.plan.Op.{Op as TheOp};
-ghost use Rattle.pas_threads.specs.Hands.{HasPass};
-ghost use Rattle.pas_threads.specs.Pairs.{IsKeeperOf};
-ghost use Rattle.pas_threads.specs.Sessions.{Session, TeamAt};
+ghost use Rattle.pas_threads.specs.{Hands.HasPass, Pairs.IsKeeperOf, Sessions.Session, Sessions.TeamAt};
 ghost use Rattle.pas_threads.specs.Settling.{Settled, StandsIn, TeamStandsIn, IsSameTeam};
 ghost use Rattle.pas_shared.specs.declared.pass.SharedPass.{SharedPass as ThePass};
-ghost use Rattle.pas_threads.specs.declared.keeper.Keeper.{Keeper as TheKeeper};
-ghost use Rattle.pas_threads.specs.declared.workers.Worker.{Worker as TheWorker};
+ghost use Rattle.pas_threads.specs.declared.{keeper.Keeper.Keeper as TheKeeper, workers.Worker.Worker as TheWorker};
 
 use crate::keeper::Keeper;
 use crate::phases::Team;

@@ -6,14 +6,11 @@ ghost use Rattle.pas_report.specs.Rooms.{records_in, room_of};
 ghost use Rattle.pas_answers.specs.Answers.{Progress};
 ghost use Rattle.pas_cache.specs.Caches.{cached};
 ghost use Rattle.pas_trace.specs.Acts.{Wakes, Ends};
-ghost use Rattle.pas_acts.specs.Works.{Later};
+ghost use Rattle.pas_acts.specs.{Works.Later, Keepers.LaterKept, Pairs.KeeperWaits};
 ghost use Rattle.pas_threads.specs.Sessions.{WorkerHas, AreResting};
-ghost use Rattle.pas_acts.specs.Keepers.{LaterKept};
-ghost use Rattle.pas_acts.specs.Pairs.{KeeperWaits};
 ghost use Rattle.pas_threads.specs.Pairs.{IsKeeperOf, kept_by_worker, no_more, IsButKeeper, KeeperStands, KeeperLowered, MayLower, LoweredAll};
 ghost use Rattle.pas_threads.specs.Turns.{Turn, WokeAll, StoppedAll, said_by_all, said_kept, said_by_keepers, IsGathered, IsKeptGathered};
-ghost use Rattle.pas_threads.specs.declared.keeper.Keeper.{Keeper as TheKeeper};
-ghost use Rattle.pas_threads.specs.declared.workers.Worker.{Worker as TheWorker};
+ghost use Rattle.pas_threads.specs.declared.{keeper.Keeper.Keeper as TheKeeper, workers.Worker.Worker as TheWorker};
 
 use crate::keeper::lower;
 use crate::workers::Worker;

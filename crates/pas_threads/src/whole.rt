@@ -2,8 +2,7 @@
 ghost use Rattle.std.specs.Prelude.{◌≡◌, ◌≤◌, ◌<◌, ◌+◌, ℕ, List, Some, All, [], map, length, get_or, vec_capacity, ◌++◌, ◌∷◌};
 ghost use Rattle.pas_trace.specs.Plans.{IsPlanOf};
 ghost use Rattle.pas_report.specs.Rooms.{records_in, room_of};
-ghost use Rattle.pas_answers.specs.Replays.{phases_of, Shows};
-ghost use Rattle.pas_answers.specs.Ways.{OnThreads};
+ghost use Rattle.pas_answers.specs.{Replays.phases_of, Replays.Shows, Ways.OnThreads};
 ghost use Rattle.pas_shared.specs.declared.pass.SharedPass.{SharedPass as ThePass};
 ghost use Rattle.pas_threads.specs.Kits.{IsKitOf, kept_pass, kept_passes, slots_of, AreAllBack};
 ghost use Rattle.pas_threads.specs.declared.workers.Worker.{Worker as TheWorker};

@@ -1,19 +1,13 @@
 //! The workers of the threads at a shared region.
 ghost use Rattle.std.specs.Prelude.{◌≡◌, ◌<◌, ◌^◌, ℕ, Bool, [], ◌∷◌, All, length, get_or};
-ghost use Rattle.pas_answers.specs.Answers.{Progress};
+ghost use Rattle.pas_answers.specs.{Answers.Progress, Names.names_held};
 ghost use Rattle.pas_report.specs.Rooms.{records_in, room_of};
 ghost use Rattle.pas_profile.specs.declared.profile.Profile.{Profile as TheProfile};
 ghost use Rattle.pas_cache.specs.Caches.{cached};
 ghost use Rattle.pas_trace.specs.Acts.{StopsIdle};
-ghost use Rattle.pas_acts.specs.Works.{Later};
-ghost use Rattle.pas_acts.specs.Turns.{RestsAt};
-ghost use Rattle.pas_acts.specs.AtDesks.{here, told_if, ThreadActs};
-ghost use Rattle.pas_threads.specs.Turns.{Pushed};
-ghost use Rattle.pas_threads.specs.Pairs.{MayDoPhase, DidPhase};
-ghost use Rattle.pas_threads.specs.Sessions.{WorkerHas};
-ghost use Rattle.pas_threads.specs.Lent.{StopsLent};
-ghost use Rattle.pas_answers.specs.Names.{names_held};
-ghost use Rattle.pas_threads.specs.Taken.{HasTaken, IsWithin, IsEmptied};
+ghost use Rattle.pas_acts.specs.{Works.Later, Turns.RestsAt, AtDesks.here, AtDesks.told_if, AtDesks.ThreadActs};
+ghost use Rattle.pas_threads.specs.{Turns.Pushed, Pairs.MayDoPhase, Pairs.DidPhase, Sessions.WorkerHas, Lent.StopsLent, Taken.HasTaken, Taken.IsWithin};
+ghost use Rattle.pas_threads.specs.{Taken.IsEmptied};
 
 use crate::keeper::{Beside, Keeper};
 use pas_acts::at_desk::{SCAVENGER, stop_if_idle};

@@ -5,11 +5,9 @@ use Rattle.pas_trace.specs.declared.plan.Plan.{Plan}
 use Rattle.pas_plans.proofs.PlanFacts.{plan_valid}
 use Rattle.pas_answers.specs.Ways.{InOrder}
 use Rattle.pas_check.specs.Accepted.{IsAccepted, IsVerdict}
-use Rattle.pas_check.specs.declared.verdict.Verdict.{Verdict}
-use Rattle.pas_check.specs.declared.verdict.Verdict.TheVariants.{Yes}
+use Rattle.pas_check.specs.declared.verdict.Verdict.{Verdict, TheVariants.Yes}
 use Rattle.pas_check.proofs.Verdicts.{one_verdict}
-use Rattle.pas_accepted.proofs.OnePlan.{same_plan}
-use Rattle.pas_accepted.proofs.Whole.{replay_accepted}
+use Rattle.pas_accepted.proofs.{OnePlan.same_plan, Whole.replay_accepted}
 use Rattle.pas_top.specs.Outputs.{IsReplayed}
 
 pub transcript_accepted : (bytes text : List ℕ) → IsReplayed InOrder bytes text → (plan : Plan) → IsPlanOf bytes plan → IsAccepted plan text

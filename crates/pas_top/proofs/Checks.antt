@@ -1,10 +1,9 @@
 -- From how a call for a check ended to what it says of its status.
 use Rattle.std.proofs.Common.{◌≡◌, ℕ, ◌≤◌, ◌<◌, ◌⊎◌, List, Option, Some, Err, refl, ap, sym, ◌∙◌, subst, inl, inr, length, arith}
 use Rattle.pas_trace.specs.Plans.{IsPlanOf, parsed}
-use Rattle.pas_trace.specs.declared.plan.Plan.{Plan}
-use Rattle.pas_trace.specs.declared.fault.TraceFault.{TraceFault}
+use Rattle.pas_trace.specs.declared.{plan.Plan.Plan, fault.TraceFault.TraceFault}
 use Rattle.pas_check.specs.Inputs.{trace_in, transcript_in}
-use Rattle.pas_check.specs.declared.verdict.Verdict.{Verdict}
+use Rattle.pas_check.specs.declared.verdict.Verdict.{Verdict, TheVariants.Yes, TheVariants.No}
 use Rattle.pas_check.proofs.Verdicts.{one_verdict}
 use Rattle.pas_accepted.proofs.OnePlan.{same_verdict}
 use Rattle.pas_io.specs.Told.{Rose, Tells}
@@ -12,10 +11,8 @@ use Rattle.pas_words.specs.Words.{IsChecking}
 use Rattle.pas_top.specs.Checked.{EndsCheck, TellsCheck}
 use Rattle.pas_top.specs.Judgements.{IsJudged, IsJudgement, judgement_status, judgement_text, verdict_status}
 use Rattle.pas_top.specs.Outputs.{most_bytes, ChecksTo, HasFailed, IsCheckStatus, IsCutOff, IsOutput, IsStatus, IsWriting, IsWritten}
-use Rattle.pas_top.specs.declared.judging.Judgement.{Judgement}
-use Rattle.pas_top.specs.declared.judging.Judgement.TheVariants.{Judged, Faulty}
+use Rattle.pas_top.specs.declared.judging.Judgement.{Judgement, TheVariants.Judged, TheVariants.Faulty}
 use Rattle.pas_top.proofs.Statuses.{answered, cut_off, not_four, sound, written}
-use Rattle.pas_check.specs.declared.verdict.Verdict.TheVariants.{Yes, No}
 
 -- ---- what an input comes to is one
 one_judged : (bytes : List ℕ) (v w : Verdict) → IsJudged bytes v → IsJudged bytes w → v ≡ w
@@ -47,7 +44,7 @@ judgement_check (Judged v) = verdict_check v
 judgement_check (Faulty fault) = inl (inr (inl refl))
 
 -- ---- what a judgement of the whole input, and one too long, come to
-pub judgement_comes : (bytes : List ℕ) (judgement : Judgement) → length bytes ≤ most_bytes → IsJudgement bytes judgement → ChecksTo bytes (judgement_status judgement) (judgement_text judgement)
+judgement_comes : (bytes : List ℕ) (judgement : Judgement) → length bytes ≤ most_bytes → IsJudgement bytes judgement → ChecksTo bytes (judgement_status judgement) (judgement_text judgement)
 judgement_comes bytes (Judged v) short is = inl (record { short = short; verdict = v; judged = is; status_is = refl; text_is = refl })
 judgement_comes bytes (Faulty fault) short is = inr (inl (refl, record { short = short; fault = fault; first = is; text_is = refl }))
 
@@ -64,24 +61,24 @@ tells_judgement rest held held' faults faults' result read judgement is whole te
 
 -- ---- an input that has a verdict, a faulty trace or too many bytes comes to that alone
 comes_long : (bytes : List ℕ) (status : ℕ) (text : List ℕ) → most_bytes < length bytes → ChecksTo bytes status text → status ≡ 6
-comes_long bytes status text long (inl has) = absurd (let short = has.short in omega (arith, long, short))
-comes_long bytes status text long (inr (inl (one, mis))) = absurd (let short = mis.short in omega (arith, long, short))
+comes_long bytes status text long (inl has) = absurd (omega (arith, long, has.short))
+comes_long bytes status text long (inr (inl (one, mis))) = absurd (omega (arith, long, mis.short))
 comes_long bytes status text long (inr (inr (six, is))) = six
 
 comes_faulty : (bytes : List ℕ) (status : ℕ) (text : List ℕ) → length bytes ≤ most_bytes → (fault : TraceFault) → parsed (trace_in bytes) ≡ Err fault → ChecksTo bytes status text → status ≡ 1
 comes_faulty bytes status text short fault first (inl has) = absurd (other_read (trace_in bytes) fault has.judged.plan first has.judged.read)
 comes_faulty bytes status text short fault first (inr (inl (one, mis))) = one
-comes_faulty bytes status text short fault first (inr (inr (six, is))) = absurd (let long = is.long in omega (arith, long, short))
+comes_faulty bytes status text short fault first (inr (inr (six, is))) = absurd (omega (arith, is.long, short))
 
 comes_judged : (bytes : List ℕ) (status : ℕ) (text : List ℕ) → length bytes ≤ most_bytes → (verdict : Verdict) → IsJudged bytes verdict → ChecksTo bytes status text → status ≡ verdict_status verdict
 comes_judged bytes status text short verdict judged (inl has) = has.status_is ∙ ap verdict_status (one_judged bytes has.verdict verdict has.judged judged)
 comes_judged bytes status text short verdict judged (inr (inl (one, mis))) = absurd (other_read (trace_in bytes) mis.fault judged.plan mis.first judged.read)
-comes_judged bytes status text short verdict judged (inr (inr (six, is))) = absurd (let long = is.long in omega (arith, long, short))
+comes_judged bytes status text short verdict judged (inr (inr (six, is))) = absurd (omega (arith, is.long, short))
 
 comes_verdict : (bytes : List ℕ) (status : ℕ) (text : List ℕ) → length bytes ≤ most_bytes → (plan : Plan) → IsPlanOf (trace_in bytes) plan → ChecksTo bytes status text → (v : Verdict) × (status ≡ verdict_status v)
 comes_verdict bytes status text short plan read (inl has) = (has.verdict, has.status_is)
 comes_verdict bytes status text short plan read (inr (inl (one, mis))) = absurd (other_read (trace_in bytes) mis.fault plan mis.first read)
-comes_verdict bytes status text short plan read (inr (inr (six, is))) = absurd (let long = is.long in omega (arith, long, short))
+comes_verdict bytes status text short plan read (inr (inr (six, is))) = absurd (omega (arith, is.long, short))
 
 zero_or_eight_of : (r : ℕ) (v : Verdict) → r ≡ verdict_status v → (r ≡ 0) ⊎ (r ≡ 8) ⊎ (r ≡ 5)
 zero_or_eight_of r Yes is = inl is
@@ -122,7 +119,7 @@ writing_other r (inr (inr (inr (inl e)))) other = not_other 6 r e (inl (inr (inr
 writing_other r (inr (inr (inr (inr e)))) other = not_other 8 r e (inr refl) other
 
 -- a status that was told isn't that of memory, nor that of a read that failed
-pub told_other : (rest held held' : Option (List ℕ)) (faults faults' result : ℕ) → TellsCheck rest held held' faults faults' result → (result ≡ 3) ⊎ (result ≡ 5) → ⊥
+told_other : (rest held held' : Option (List ℕ)) (faults faults' result : ℕ) → TellsCheck rest held held' faults faults' result → (result ≡ 3) ⊎ (result ≡ 5) → ⊥
 told_other rest held held' faults faults' result t other = elim (answered held held' faults faults' t.text t.status result t.tells) [
   | inl is ↦ not_other t.status result is t.status_is other
   | inr four ↦ four_alone result four other

@@ -2,34 +2,24 @@
 use Rattle.std.proofs.Common.{◌≡◌, ℕ, ◌≤◌, ◌<◌, List, ◌++◌, Option, Some, refl, ap, sym, ◌∙◌, subst, inl, inr, length, arith}
 use Rattle.pas_profile.specs.Profiles.{IsValid, IsWordOf}
 use Rattle.pas_profile.specs.declared.profile.Profile.{Profile}
-use Rattle.pas_steps.specs.Lists.{Legal, visible}
-use Rattle.pas_steps.specs.States.{profile_of}
+use Rattle.pas_steps.specs.{Lists.Legal, Lists.visible, States.profile_of}
 use Rattle.pas_steps.specs.declared.state.State.{State}
 use Rattle.pas_trace.specs.Plans.{IsPlanOf}
 use Rattle.pas_trace.specs.declared.plan.Plan.{Plan}
 use Rattle.pas_core.proofs.MachineRuns.{agrees}
-use Rattle.pas_report.specs.Counts.{report_by_words, totals_by_words}
-use Rattle.pas_report.specs.Lines.{lines_of}
-use Rattle.pas_report.specs.Marks.{marks_after}
-use Rattle.pas_report.specs.Reports.{report_text, total_line}
-use Rattle.pas_report.specs.Rests.{AreStamped, HasWords}
-use Rattle.pas_report.specs.Rooms.{records_in}
+use Rattle.pas_report.specs.{Counts.report_by_words, Counts.totals_by_words, Lines.lines_of, Marks.marks_after, Reports.report_text, Reports.total_line}
+use Rattle.pas_report.specs.{Rests.AreStamped, Rests.HasWords, Rooms.records_in}
 use Rattle.pas_report.specs.declared.record.Record.{Record}
-use Rattle.pas_report.proofs.Agreeing.{line_agrees}
-use Rattle.pas_report.proofs.ReportOfWords.{are_deed_words, nobody_holds, report_agrees}
-use Rattle.pas_answers.specs.Replays.{Shows}
-use Rattle.pas_answers.specs.Ways.{Way, InOrder}
+use Rattle.pas_report.proofs.{Agreeing.line_agrees, ReportOfWords.are_deed_words, ReportOfWords.nobody_holds, ReportOfWords.report_agrees}
+use Rattle.pas_answers.specs.{Replays.Shows, Ways.Way, Ways.InOrder}
 use Rattle.pas_plans.proofs.PlanFacts.{plan_valid}
 use Rattle.pas_answers.proofs.Consequences.{can_be_shown}
 use Rattle.pas_words.specs.declared.manner.Manner.{Manner}
-use Rattle.pas_top.specs.Manners.{way_of}
-use Rattle.pas_top.specs.OneText.{IsOfOne}
-use Rattle.pas_top.specs.Outcomes.{IsOutcome}
+use Rattle.pas_top.specs.{Manners.way_of, OneText.IsOfOne, Outcomes.IsOutcome}
 use Rattle.pas_telling.specs.Outcomes.{IsShown, IsWritable, outcome_status, outcome_text, shown_text}
 use Rattle.pas_top.specs.Outputs.{most_bytes, too_long_text, ComesTo, IsReplaying, IsReplayStatus, IsOutput, IsReplayed}
 use Rattle.pas_top.proofs.OneText.{alone_of, text_by}
-use Rattle.pas_telling.specs.declared.outcome.Outcome.{Outcome}
-use Rattle.pas_telling.specs.declared.outcome.Outcome.TheVariants.{Replayed, Faulty}
+use Rattle.pas_telling.specs.declared.outcome.Outcome.{Outcome, TheVariants.Replayed, TheVariants.Faulty}
 
 -- ---- the state after a replay is a region at rest
 module _ {bytes : List ℕ} {way : Way} {plan : Plan} {records : List Record} {state : State} (read : IsPlanOf bytes plan) (shows : Shows way plan records state) where
@@ -57,7 +47,7 @@ module _ {bytes : List ℕ} {way : Way} {plan : Plan} {records : List Record} {s
   totals_are = line_agrees state shows.whole has_words (agrees (profile_of state) shows.whole valid_state legal_state) ∙ ap (λ (f : Profile). total_line f (visible shows.whole)) shows.profile
 
   -- WHAT EITHER WAY SHOWS is what is written
-  pub shown_replayed : IsReplayed way bytes (shown_text records state)
+  shown_replayed : IsReplayed way bytes (shown_text records state)
   shown_replayed = record {
     plan = plan;
     read = read;
@@ -72,7 +62,7 @@ pub can_write : (way : Way) (bytes : List ℕ) (outcome : Outcome) → IsOutcome
 can_write way bytes (Replayed records state) replay = can_show replay.read replay.shown.shows
 can_write way bytes (Faulty fault) first = tt
 
-pub comes_to : (way : Way) (bytes : List ℕ) (outcome : Outcome) → length bytes ≤ most_bytes → IsOutcome way bytes outcome → ComesTo way bytes (outcome_status outcome) (outcome_text outcome)
+comes_to : (way : Way) (bytes : List ℕ) (outcome : Outcome) → length bytes ≤ most_bytes → IsOutcome way bytes outcome → ComesTo way bytes (outcome_status outcome) (outcome_text outcome)
 comes_to way bytes (Replayed records state) short replay =
     let text : List ℕ = shown_text (records_in records) state in
     let replayed : IsReplayed way bytes text = shown_replayed replay.read replay.shown.shows in

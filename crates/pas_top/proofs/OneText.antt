@@ -1,33 +1,24 @@
 -- What is written of a replay in the order of the text is the text of the bytes, and the summary of a generated trace that of its numbers.
-use Rattle.std.proofs.Common.{◌≡◌, ℕ, zero, suc, ◌%◌, ◌==◌, nat_eq, Bool, true, false, if◌then◌else◌, List, [], ◌∷◌, Option, Some, Result, Ok, Err, codes, get_or, inl, inr, refl, ap, sym, subst, ◌∙◌, arith}
+use Rattle.std.proofs.Common.{◌≡◌, ℕ, zero, suc, ◌%◌, ◌==◌, nat_eq, Bool, true, false, if◌then◌else◌, List, [], ◌∷◌, Option, Some, Result, Ok, Err, codes}
+use Rattle.std.proofs.Common.{get_or, inl, inr, refl, ap, sym, subst, ◌∙◌, arith}
 use Rattle.std.specs.List.{AllByRecursion}
-use Rattle.pas_profile.specs.declared.profile.Profile.{Profile}
-use Rattle.pas_profile.specs.declared.event.Event.{Event}
-use Rattle.pas_trace.specs.EveryPlan.{all_ops}
+use Rattle.pas_profile.specs.declared.{profile.Profile.Profile, event.Event.Event}
+use Rattle.pas_trace.specs.{EveryPlan.all_ops, Reasons.guard_in}
 use Rattle.pas_trace.specs.Plans.{IsPlanOf, Parsed, parsed, phases_in}
-use Rattle.pas_trace.specs.Reasons.{guard_in}
-use Rattle.pas_trace.specs.declared.item.Item.{Item}
-use Rattle.pas_trace.specs.declared.fault.TraceFault.{TraceFault}
-use Rattle.pas_trace.specs.declared.plan.Op.{Op}
-use Rattle.pas_trace.specs.declared.plan.Plan.{Plan}
-use Rattle.pas_generate.specs.Operations.{State, allocates}
-use Rattle.pas_generate.specs.Traces.{state_after, trace_text}
+use Rattle.pas_trace.specs.declared.{item.Item.Item, fault.TraceFault.TraceFault, plan.Op.Op, plan.Plan.Plan}
+use Rattle.pas_generate.specs.{Operations.State, Operations.allocates, Traces.state_after, Traces.trace_text}
 use Rattle.pas_generated.specs.Meant.{with_drawn, with_operation, items_after, meant}
 use Rattle.pas_report.specs.Reports.{total_line}
 use Rattle.pas_report.specs.declared.record.Record.{Record}
 use Rattle.pas_answers.specs.Replays.{region_of, threads_of, keepers_of, phases_of, acts_of_plan}
 use Rattle.pas_answers.specs.Ways.{Way, InOrder, OnThreads}
 use Rattle.pas_replay.specs.OneThread.{IsOfOneThread}
-use Rattle.pas_one_text.specs.State.{World, each}
-use Rattle.pas_one_text.specs.Order.{acts_on, opened, replayed}
+use Rattle.pas_one_text.specs.{State.World, State.each, Order.acts_on, Order.opened, Order.replayed}
 use Rattle.pas_same_text.specs.Told.{IsTold}
-use Rattle.pas_same_text.proofs.AllActs.{plan_told, replay_told}
-use Rattle.pas_same_text.proofs.TextOfBytes.{unguarded_told}
-use Rattle.pas_same_text.proofs.WiderText.{wider_bytes_told}
+use Rattle.pas_same_text.proofs.{AllActs.plan_told, AllActs.replay_told, TextOfBytes.unguarded_told, WiderText.wider_bytes_told}
 use Rattle.pas_telling.specs.Summaries.{summary_text}
-use Rattle.pas_top.specs.Generating.{IsSummarized}
+use Rattle.pas_top.specs.{Generating.IsSummarized, Manners.way_of}
 use Rattle.pas_top.specs.OneText.{IsTextOf, WritesTextOf, IsOfOne, IsTextBy, summary_of_world, summary_for, IsSummaryOf}
-use Rattle.pas_top.specs.Manners.{way_of}
 use Rattle.pas_top.specs.Outputs.{ComesTo, IsReplaying, IsChecking, IsGen, IsOutput, IsReplayed, IsWritten}
 use Rattle.pas_words.specs.declared.manner.Manner.{Manner}
 

@@ -1,13 +1,10 @@
 -- What was read of an input, and what it came to.
-use Rattle.std.proofs.Common.{◌≡◌, List, Result, Ok, sym, ◌∙◌, subst, ℕ}
-use Rattle.std.specs.Prelude.{IfOk}
+use Rattle.std.proofs.Common.{◌≡◌, List, Result, Ok, sym, ◌∙◌, subst, ℕ, IfOk}
 use Rattle.pas_trace.specs.Plans.{IsPlanOf, IsReading}
-use Rattle.pas_trace.specs.declared.plan.Plan.{Plan}
-use Rattle.pas_trace.specs.declared.fault.ReadFault.{ReadFault}
+use Rattle.pas_trace.specs.declared.{plan.Plan.Plan, fault.ReadFault.ReadFault}
 use Rattle.pas_words.specs.declared.manner.Manner.{Manner}
 use Rattle.pas_telling.specs.declared.outcome.Outcome.{Outcome}
-use Rattle.pas_top.specs.Manners.{way_of}
-use Rattle.pas_top.specs.Outcomes.{IsOutcome}
+use Rattle.pas_top.specs.{Manners.way_of, Outcomes.IsOutcome}
 
 -- a plan that was read is that of the bytes
 pub read_plan : (bytes text : List ℕ) (read : Result Plan ReadFault) (plan : Plan) → text ≡ bytes → read ≡ Ok plan → IsReading text read → IsPlanOf bytes plan

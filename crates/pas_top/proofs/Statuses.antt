@@ -1,9 +1,7 @@
 -- How a call ends: what it wrote, and what status 4 says of a text that was cut off.
 use Rattle.std.proofs.Common.{◌≡◌, ◌≤◌, ℕ, ◌⊎◌, List, [], Option, Some, ◌∙◌, sym, subst, inl, inr, arith}
-use Rattle.pas_io.specs.Told.{Tells}
-use Rattle.pas_io.specs.Inputs.{IsReadOut}
-use Rattle.pas_io.specs.declared.whole.Input.{Input}
-use Rattle.pas_io.specs.declared.whole.Input.TheVariants.{Whole}
+use Rattle.pas_io.specs.{Told.Tells, Inputs.IsReadOut}
+use Rattle.pas_io.specs.declared.whole.Input.{Input, TheVariants.Whole}
 use Rattle.pas_top.specs.Outputs.{IsOutput, IsWriting, IsWritten, IsCutOff}
 
 -- ---- a call that read its input whole

@@ -7,9 +7,7 @@ use Rattle.pas_report.specs.Counts.{totals_by_words}
 use Rattle.pas_report.specs.declared.record.Record.{Record}
 use Rattle.pas_io.specs.Told.{Rose}
 use Rattle.pas_telling.specs.Summaries.{summary_text}
-use Rattle.pas_top.specs.Generating.{IsSummarized}
-use Rattle.pas_top.specs.Generated.{Generates}
-use Rattle.pas_top.specs.Outcomes.{IsShowing}
+use Rattle.pas_top.specs.{Generating.IsSummarized, Generated.Generates, Outcomes.IsShowing}
 use Rattle.pas_answers.specs.Ways.{InOrder}
 use Rattle.pas_top.specs.Outputs.{GenComesTo, IsGen, IsWriting, IsWritten, IsCutOff}
 use Rattle.pas_top.proofs.Headline.{totals_are}

@@ -6,8 +6,7 @@ use Rattle.pas_trace.specs.declared.plan.Plan.{Plan}
 use Rattle.pas_generate.specs.Traces.{trace_text}
 use Rattle.pas_report.specs.Reports.{total_line}
 use Rattle.pas_report.specs.declared.record.Record.{Record}
-use Rattle.pas_answers.specs.Replays.{IsReplay}
-use Rattle.pas_answers.specs.Ways.{InOrder}
+use Rattle.pas_answers.specs.{Replays.IsReplay, Ways.InOrder}
 use Rattle.pas_telling.specs.Summaries.{summary_text}
 
 -- The text is the summary of a replay of the generated trace: the numbers of lines by the replay's records, and the totals of the machine that

@@ -3,13 +3,10 @@ use Rattle.std.specs.Prelude.{ℕ, ◌≡◌, List, ◌++◌, Err, codes}
 use Rattle.std.specs.Fmt.{decimal}
 use Rattle.pas_trace.specs.Plans.{IsPlanOf, parsed}
 use Rattle.pas_trace.specs.declared.plan.Plan.{Plan}
-use Rattle.pas_check.specs.Accepted.{IsVerdict}
-use Rattle.pas_check.specs.Inputs.{trace_in, transcript_in}
-use Rattle.pas_check.specs.declared.verdict.Verdict.{Verdict}
-use Rattle.pas_check.specs.declared.verdict.Verdict.TheVariants.{Yes, No}
+use Rattle.pas_check.specs.{Accepted.IsVerdict, Inputs.trace_in, Inputs.transcript_in}
+use Rattle.pas_check.specs.declared.verdict.Verdict.{Verdict, TheVariants.Yes, TheVariants.No}
 use Rattle.pas_telling.specs.Faults.{fault_text}
-use Rattle.pas_top.specs.declared.judging.Judgement.{Judgement}
-use Rattle.pas_top.specs.declared.judging.Judgement.TheVariants.{Judged, Faulty}
+use Rattle.pas_top.specs.declared.judging.Judgement.{Judgement, TheVariants.Judged, TheVariants.Faulty}
 
 -- THE VERDICT on the whole input: its trace is read, and this is the verdict on the transcript behind it
 pub record IsJudged (bytes : List ℕ) (verdict : Verdict) : Type 0 where

@@ -2,15 +2,13 @@
 use Rattle.std.specs.Prelude.{ℕ, ◌≡◌, List, reverse, Option, None, Some, Result, Ok, Err}
 use Rattle.pas_profile.specs.declared.profile.Profile.{Profile}
 use Rattle.pas_trace.specs.Plans.{IsPlanOf, Parsed, parsed}
-use Rattle.pas_trace.specs.declared.fault.TraceFault.{TraceFault}
-use Rattle.pas_trace.specs.declared.plan.Plan.{Plan}
+use Rattle.pas_trace.specs.declared.{fault.TraceFault.TraceFault, plan.Plan.Plan}
 use Rattle.pas_generate.specs.Traces.{trace_text}
 use Rattle.pas_io.specs.Told.{Writes}
 use Rattle.pas_report.specs.Reports.{total_line}
 use Rattle.pas_answers.specs.Ways.{Way, InOrder, OnThreads}
 use Rattle.pas_replay.specs.OneThread.{IsOfOneThread}
-use Rattle.pas_one_text.specs.State.{World}
-use Rattle.pas_one_text.specs.Order.{order_text, region_of, replay_of}
+use Rattle.pas_one_text.specs.{State.World, Order.order_text, Order.region_of, Order.replay_of}
 use Rattle.pas_telling.specs.Summaries.{summary_text}
 
 -- THE TEXT IS THAT OF THE BYTES, as `pas_one_text` says it

@@ -2,23 +2,16 @@
 use Rattle.std.specs.Prelude.{ℕ, ◌<◌, ◌≤◌, ◌≡◌, ◌⊎◌, List, ◌++◌, Option, Some, Err, length, codes}
 use Rattle.pas_steps.specs.Lists.{Whole, visible}
 use Rattle.pas_trace.specs.Plans.{IsPlanOf, parsed}
-use Rattle.pas_trace.specs.declared.plan.Plan.{Plan}
-use Rattle.pas_trace.specs.declared.fault.TraceFault.{TraceFault}
-use Rattle.pas_report.specs.Lines.{lines_of}
-use Rattle.pas_report.specs.Marks.{marks_after}
-use Rattle.pas_report.specs.Reports.{report_text}
+use Rattle.pas_trace.specs.declared.{plan.Plan.Plan, fault.TraceFault.TraceFault}
+use Rattle.pas_report.specs.{Lines.lines_of, Marks.marks_after, Reports.report_text}
 use Rattle.pas_report.specs.declared.record.Record.{Record}
-use Rattle.pas_answers.specs.Replays.{IsReplay}
-use Rattle.pas_answers.specs.Ways.{Way}
+use Rattle.pas_answers.specs.{Replays.IsReplay, Ways.Way}
 use Rattle.pas_check.specs.Inputs.{trace_in}
 use Rattle.pas_check.specs.declared.verdict.Verdict.{Verdict}
-use Rattle.pas_io.specs.Inputs.{Takes}
-use Rattle.pas_io.specs.Told.{Rose, Writes, WritesFront}
+use Rattle.pas_io.specs.{Inputs.Takes, Told.Rose, Told.Writes, Told.WritesFront}
 use Rattle.pas_telling.specs.Faults.{fault_text}
-use Rattle.pas_top.specs.Generating.{IsSummarized}
-use Rattle.pas_top.specs.Judgements.{IsJudged, verdict_status, verdict_text}
-use Rattle.pas_top.specs.Manners.{way_of}
-use Rattle.pas_top.specs.OneText.{IsTextBy, IsSummaryOf}
+use Rattle.pas_top.specs.{Generating.IsSummarized, Judgements.IsJudged, Judgements.verdict_status, Judgements.verdict_text, Manners.way_of, OneText.IsTextBy}
+use Rattle.pas_top.specs.{OneText.IsSummaryOf}
 use Rattle.pas_words.specs.declared.manner.Manner.{Manner}
 pub use Rattle.pas_words.specs.Words.{texts_of, IsReplaying, IsChecking, ReadsInput, IsGen, IsAccepted}
 

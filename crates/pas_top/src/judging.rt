@@ -1,12 +1,9 @@
 //! The check of a transcript: from the input to the verdict that is written.
 ghost use Rattle.std.specs.Prelude.{◌≡◌, ◌≢◌, ◌+◌, ◌≤◌, ◌⊎◌, ℕ, List, [], Some, IfOk, length};
-ghost use Rattle.pas_io.specs.Inputs.{Takes};
-ghost use Rattle.pas_io.specs.Told.{Tells};
-ghost use Rattle.pas_io.specs.Reached.{StopsAtEnd};
+ghost use Rattle.pas_io.specs.{Inputs.Takes, Told.Tells, Reached.StopsAtEnd};
 ghost use Rattle.pas_io.specs.declared.reach.Reach.TheVariants as Reach;
-ghost use Rattle.pas_top.specs.Outputs.{most_bytes};
+ghost use Rattle.pas_top.specs.{Outputs.most_bytes, Checked.EndsCheck};
 ghost use Rattle.pas_top.specs.Judgements.{IsJudgement, judgement_status, judgement_text, verdict_text};
-ghost use Rattle.pas_top.specs.Checked.{EndsCheck};
 
 use crate::TOO_LONG;
 use pas_check::{Verdict, check, split};

@@ -1,18 +1,15 @@
 //! The call that the program makes.
 ghost use Rattle.std.specs.Prelude.{◌≡◌, ◌≢◌, ◌+◌, ◌<◌, ◌≤◌, ◌⊎◌, ℕ, List, [], Some, Ok, Err, length};
-ghost use Rattle.pas_io.specs.Inputs.{Takes};
-ghost use Rattle.pas_io.specs.Told.{Rose};
-ghost use Rattle.pas_io.specs.Reached.{StopsAtEnd};
+ghost use Rattle.pas_io.specs.{Inputs.Takes, Told.Rose, Reached.StopsAtEnd};
 ghost use Rattle.pas_io.specs.declared.reach.Reach.TheVariants as Reach;
 ghost use Rattle.pas_trace.specs.Plans.{IsPlanOf, parsed};
-ghost use Rattle.pas_trace.specs.declared.plan.Plan.{Plan};
-ghost use Rattle.pas_trace.specs.declared.fault.TraceFault.{TraceFault};
+ghost use Rattle.pas_trace.specs.declared.{plan.Plan.Plan, fault.TraceFault.TraceFault};
 ghost use Rattle.pas_check.specs.Inputs.{trace_in};
 ghost use Rattle.pas_check.specs.declared.verdict.Verdict.{Verdict};
 ghost use Rattle.pas_words.specs.declared.manner.Manner.{Manner};
-ghost use Rattle.pas_top.specs.Judgements.{IsJudged, verdict_status};
-ghost use Rattle.pas_top.specs.OneText.{WritesTextOf};
-ghost use Rattle.pas_top.specs.Outputs.{most_bytes, texts_of, IsReplaying, IsChecking, ReadsInput, IsGen, IsAccepted, IsStatus, IsWriting, IsWritten, HasFailed, IsCutOff};
+ghost use Rattle.pas_top.specs.{Judgements.IsJudged, Judgements.verdict_status, OneText.WritesTextOf};
+ghost use Rattle.pas_top.specs.Outputs.{most_bytes, texts_of, IsReplaying, IsChecking, ReadsInput, IsGen, IsAccepted, IsStatus, IsWriting, IsWritten};
+ghost use Rattle.pas_top.specs.Outputs.{HasFailed, IsCutOff};
 
 use crate::generating::generate;
 use crate::judging::check_input;

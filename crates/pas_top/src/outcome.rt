@@ -2,8 +2,7 @@
 ghost use Rattle.std.specs.Prelude.{◌≡◌, ◌≤◌, ◌+◌, ℕ, List, [], IfOk, length};
 ghost use Rattle.pas_trace.specs.Plans.{IsPlanOf};
 ghost use Rattle.pas_report.specs.Rooms.{records_in, room_of};
-ghost use Rattle.pas_answers.specs.Replays.{phases_of, Shows};
-ghost use Rattle.pas_answers.specs.Ways.{InOrder, OnThreads};
+ghost use Rattle.pas_answers.specs.{Replays.phases_of, Replays.Shows, Ways.InOrder, Ways.OnThreads};
 ghost use Rattle.pas_io.specs.Told.{Tells};
 ghost use Rattle.pas_telling.specs.Outcomes.{IsWritable, outcome_text, outcome_status};
 ghost use Rattle.pas_top.specs.Outcomes.{IsOutcome, ShowsBy};

@@ -1,18 +1,14 @@
 -- What an item that passed its checks may do to the reader.
-use Rattle.std.proofs.Common.{◌≡◌, ℕ, ◌+◌, ◌<◌, ◌≤◌, ◌==◌, ◌&&◌, true, false, if◌then◌else◌, refl, List, Option, None, Some, inl, inr, sym, ap, ◌∙◌, subst, arith}
-use Rattle.std.proofs.lemmas.Bool.{ltb-true, eq-eqb, ne_eqb, cases_eq}
+use Rattle.std.proofs.Common.{◌≡◌, ℕ, ◌+◌, ◌<◌, ◌≤◌, ◌==◌, ◌&&◌, true, false, if◌then◌else◌, refl, List, Option, None, Some, inl, inr, sym, ap, ◌∙◌, subst}
+use Rattle.std.proofs.Common.{arith, ltb-true, eq-eqb, ne_eqb}
+use Rattle.std.proofs.lemmas.Bool.{cases_eq}
 use Rattle.pas_trace.specs.Wishes.{name_made, heap_made, asks_pages, is_name, IsFit}
 use Rattle.pas_trace.specs.Reasons.{reason_of, guard_after, is_guard_number, cost_of, cost_of_wish, is_operation, actor_of}
 use Rattle.pas_trace.specs.Plans.{what_wished}
-use Rattle.pas_trace.specs.Told.{owner_in, heap_told, keeper_told, Tells, IsReady, CanSample, IsCounted, IsSampled, samples_next, larges_after, kept_after, IsOperated}
-use Rattle.pas_trace.specs.declared.item.Item.{Item}
-use Rattle.pas_trace.specs.declared.item.Item.TheVariants.{Shares, Guards, Operates}
-use Rattle.pas_trace.specs.declared.item.Wish.{Wish}
-use Rattle.pas_trace.specs.declared.names.Owner.{Owner}
-use Rattle.pas_trace.specs.declared.names.Names.{Names}
-use Rattle.pas_trace.specs.declared.plan.What.{What}
-use Rattle.pas_trace.specs.declared.reader.Reader.{Reader}
-use Rattle.pas_trace.specs.declared.samples.Samples.{Samples}
+use Rattle.pas_trace.specs.Told.{owner_in, heap_told, keeper_told, Tells, IsReady, CanSample, IsCounted, IsSampled, samples_next, larges_after, kept_after}
+use Rattle.pas_trace.specs.Told.{IsOperated}
+use Rattle.pas_trace.specs.declared.{item.Item.Item, item.Item.TheVariants.Shares, item.Item.TheVariants.Guards, item.Item.TheVariants.Operates, item.Wish.Wish}
+use Rattle.pas_trace.specs.declared.{names.Owner.Owner, names.Names.Names, plan.What.What, reader.Reader.Reader, samples.Samples.Samples}
 use Rattle.pas_trace.proofs.PassedChecks.{passes, own_passed, guard_passed, all_fit, actor_within, counts_within}
 use Rattle.pas_trace.proofs.Telling.{ready, can-sample}
 

@@ -1,18 +1,15 @@
 -- The checks by what the reader keeps are those of the items before.
-use Rattle.std.proofs.Common.{◌≡◌, ◌≢◌, ℕ, ◌+◌, ◌*◌, ◌<◌, ◌≤◌, ◌==◌, nat_lt, nat_le, Bool, true, false, not, ◌&&◌, ◌||◌, List, [], ◌∷◌, ◌++◌, Option, None, Some, Result, Ok, Err, refl, sym, ap, ◌∙◌, subst, arith}
-use Rattle.std.proofs.Math.Bool.{and-false}
-use Rattle.std.proofs.lemmas.Bool.{ne_eqb, le-leb, lt-leb}
+use Rattle.std.proofs.Common.{◌≡◌, ◌≢◌, ℕ, ◌+◌, ◌*◌, ◌<◌, ◌≤◌, ◌==◌, nat_lt, nat_le, Bool, true, false, not, ◌&&◌, ◌||◌, List, [], ◌∷◌, ◌++◌, Option, None}
+use Rattle.std.proofs.Common.{Some, Result, Ok, Err, refl, sym, ap, ◌∙◌, subst, arith}
 use Rattle.pas_profile.specs.declared.profile.Profile.{Profile}
 use Rattle.pas_trace.specs.Wishes.{heap_in, sizing_in, name_made, name_freed, holds_of, asking}
-use Rattle.pas_trace.specs.Reasons.{first_failed, is_thread, is_alignment, guard_after, guard_in, guard_checks, is_guard_number, actors_by, cost_of, cost_of_request, cost_of_wish, record_bound, few_enough, may_free, checks_of, reason_of, operations_in, is_named, is_named_now, thread_of, checked, kept, line_says, started}
+use Rattle.pas_trace.specs.Reasons.{first_failed, is_thread, is_alignment, guard_after, guard_in, guard_checks, actors_by, cost_of, cost_of_request}
+use Rattle.pas_trace.specs.Reasons.{cost_of_wish, record_bound, few_enough, may_free, checks_of, reason_of, operations_in, is_named, is_named_now, thread_of}
+use Rattle.pas_trace.specs.Reasons.{checked, kept, line_says, started}
 use Rattle.pas_trace.specs.Items.{item_of_line}
 use Rattle.pas_trace.specs.Told.{owner_in, few_told, sizing_told, told_checks, reason_told, has_owner, has_owner_now, may_free_told, IsChecked, Tells}
-use Rattle.pas_trace.specs.declared.fault.Reason.{Reason}
-use Rattle.pas_trace.specs.declared.item.Request.{Request}
-use Rattle.pas_trace.specs.declared.item.Item.{Item}
-use Rattle.pas_trace.specs.declared.item.Item.TheVariants.{Guards, Operates, Scavenges}
-use Rattle.pas_trace.specs.declared.item.Wish.{Wish}
-use Rattle.pas_trace.specs.declared.reader.Reader.{Reader}
+use Rattle.pas_trace.specs.declared.{fault.Reason.Reason, item.Request.Request, item.Item.Item, item.Item.TheVariants.Guards, item.Item.TheVariants.Operates}
+use Rattle.pas_trace.specs.declared.{item.Item.TheVariants.Scavenges, item.Wish.Wish, reader.Reader.Reader}
 
 -- ---- the tables tell what the checks ask
 -- the bound with an operation; its cost goes by the `guard` line before it, and it is none itself
@@ -58,7 +55,7 @@ own-same r items t w h =
     ∙ ap (λ b. list (holds_of (λ n. not (is_named items n)) (name_made w)) (holds_of (is_named items) (name_freed w)) b few) free
     ∙ ap (λ cs. list (holds_of (λ n. not (is_named items n)) (name_made w)) (holds_of (is_named items) (name_freed w)) (holds_of (may_free items t) (name_freed w)) cs) (few-same r items (Operates t w) refl h)
 
-pub checks-same : (r : Reader) (items : List Item) (i : Item) → Tells r items → told_checks r i ≡ checks_of r.header.profile items i
+checks-same : (r : Reader) (items : List Item) (i : Item) → Tells r items → told_checks r i ≡ checks_of r.header.profile items i
 checks-same r items (Operates t w) h = own-same r items t w h
 checks-same r items (Scavenges c) h = few-same r items (Scavenges c) refl h
 checks-same r items (Guards n) h =
@@ -106,25 +103,3 @@ request-checked r t q result thread heap sized fresh few =
     subst (λ failed. IsChecked failed cost result) (sym same) few
 
 -- ---- the checks of a `guard` line, one after the other
-module _ (f : Profile) (begun : Bool) (guard : ℕ) (n : Option ℕ) where
-  pub guard-late : begun ≡ true → first_failed (guard_checks f begun guard n) ≡ Some Reason.BadWord
-  guard-late is = ap (λ b. first_failed (guard_checks f b guard n)) is
-
-  pub guard-twice : guard ≢ 0 → first_failed (guard_checks f begun guard n) ≡ Some Reason.BadWord
-  guard-twice some =
-      let word = ap (λ b. not begun && b) (ne_eqb guard 0 some) ∙ and-false (not begun) in
-      ap (λ b. first_failed ((b, Reason.BadWord) ∷ (is_guard_number n, Reason.BadNumber) ∷ (nat_le f.threads 8, Reason.BadThread) ∷ [])) word
-
-  placed : begun ≡ false → guard ≡ 0 → first_failed (guard_checks f begun guard n) ≡ first_failed ((is_guard_number n, Reason.BadNumber) ∷ (nat_le f.threads 8, Reason.BadThread) ∷ [])
-  placed first none = ap (λ b. first_failed (guard_checks f b guard n)) first ∙ ap (λ g. first_failed (guard_checks f false g n)) none
-
-  pub guard-number : begun ≡ false → guard ≡ 0 → is_guard_number n ≡ false → first_failed (guard_checks f begun guard n) ≡ Some Reason.BadNumber
-  guard-number first none number = placed first none ∙ ap (λ b. first_failed ((b, Reason.BadNumber) ∷ (nat_le f.threads 8, Reason.BadThread) ∷ [])) number
-
-  pub guard-thread : begun ≡ false → guard ≡ 0 → is_guard_number n ≡ true → 8 < f.threads → first_failed (guard_checks f begun guard n) ≡ Some Reason.BadThread
-  guard-thread first none number many =
-      placed first none ∙ ap (λ b. first_failed ((b, Reason.BadNumber) ∷ (nat_le f.threads 8, Reason.BadThread) ∷ [])) number ∙ ap (λ b. first_failed ((b, Reason.BadThread) ∷ [])) (lt-leb f.threads 8 many)
-
-  pub guard-fine : begun ≡ false → guard ≡ 0 → is_guard_number n ≡ true → f.threads ≤ 8 → first_failed (guard_checks f begun guard n) ≡ None
-  guard-fine first none number few =
-      placed first none ∙ ap (λ b. first_failed ((b, Reason.BadNumber) ∷ (nat_le f.threads 8, Reason.BadThread) ∷ [])) number ∙ ap (λ b. first_failed ((b, Reason.BadThread) ∷ [])) (le-leb f.threads 8 few)

@@ -1,6 +1,6 @@
 -- The cost of an allocation on either side of 2,048 bytes.
-use Rattle.std.proofs.Common.{◌≡◌, ◌≢◌, ◌∙◌, ℕ, ◌+◌, ◌<◌, ◌≤◌, ◌==◌, Bool, true, false, if◌then◌else◌, refl, ap, sym, arith, inl, inr}
-use Rattle.std.proofs.lemmas.Bool.{cases_lt, le-leb, lt-leb, ne_eqb}
+use Rattle.std.proofs.Common.{◌≡◌, ◌≢◌, ◌∙◌, ℕ, ◌+◌, ◌<◌, ◌≤◌, ◌==◌, Bool, true, false, if◌then◌else◌, refl, ap, sym, arith, inl, inr, le-leb, ne_eqb}
+use Rattle.std.proofs.lemmas.Bool.{cases_lt, lt-leb}
 use Rattle.pas_trace.specs.Reasons.{cost_of_size, cost_of_request, pages_for}
 
 pub small_cost : (size : ℕ) → size ≤ 2048 → 2 ≡ cost_of_size size

@@ -1,6 +1,7 @@
 -- A text that is cut behind the end of a line: its lines are those of the front and those of the rest.
-use Rattle.std.proofs.Common.{◌≡◌, ◌≢◌, ℕ, ◌+◌, ◌-◌, ◌<◌, ◌≤◌, ◌==◌, Bool, true, false, if◌then◌else◌, List, [], ◌∷◌, ◌++◌, take, drop, length, get_or, refl, sym, ap, ◌∙◌, arith}
-use Rattle.std.proofs.lemmas.List.{take_more, drop_more, take-append-drop, append-nil, take_rest, length-drop, get_or-drop}
+use Rattle.std.proofs.Common.{◌≡◌, ◌≢◌, ℕ, ◌+◌, ◌-◌, ◌<◌, ◌≤◌, ◌==◌, Bool, true, false, if◌then◌else◌, List, [], ◌∷◌, ◌++◌, take, drop, length, get_or, refl}
+use Rattle.std.proofs.Common.{sym, ap, ◌∙◌, arith, take-append-drop, append-nil, length-drop, get_or-drop}
+use Rattle.std.proofs.lemmas.List.{take_more, drop_more, take_rest}
 use Rattle.pas_trace.specs.Texts.{put_first, pieces, without_empty_end, lines_of}
 use Rattle.pas_trace.proofs.Splits.{pieces-at, pieces-some, end-cons}
 
@@ -27,7 +28,7 @@ lines-append : (xs ys : List ℕ) → lines_of (xs ++ 10 ∷ ys) ≡ lines_of (x
 lines-append xs ys = lines-ended xs ys ∙ ap (λ ls. ls ++ lines_of ys) (sym (lines-ended xs [] ∙ append-nil (pieces 10 xs)))
 
 -- .. behind the line feed at a place
-pub lines-cut : (bs : List ℕ) (n : ℕ) → n < length bs → get_or bs n 0 ≡ 10 → lines_of bs ≡ lines_of (take (n + 1) bs) ++ lines_of (drop (n + 1) bs)
+lines-cut : (bs : List ℕ) (n : ℕ) → n < length bs → get_or bs n 0 ≡ 10 → lines_of bs ≡ lines_of (take (n + 1) bs) ++ lines_of (drop (n + 1) bs)
 lines-cut bs n lt found =
     let after : List ℕ = drop (n + 1) bs in
     let whole : bs ≡ take n bs ++ 10 ∷ after = sym (take-append-drop n bs) ∙ ap (λ (t : List ℕ). take n bs ++ t) (drop_more bs n 0 lt ∙ ap (λ (b : ℕ). b ∷ after) found) in

@@ -1,16 +1,14 @@
 -- Values of digits, digit by digit.
-use Rattle.std.proofs.Common.{◌≡◌, ℕ, ◌+◌, ◌-◌, ◌*◌, ◌^◌, ◌<◌, ◌≤◌, nat_lt, nat_le, Bool, true, false, ◌&&◌, if◌then◌else◌, List, [], ◌∷◌, ◌++◌, Option, None, Some, refl, arith}
-use Rattle.std.proofs.Math.Nat.{pow-le-pow_right}
-use Rattle.std.proofs.lemmas.Grind.{pow_more}
-use Rattle.std.proofs.lemmas.Bool.Decides.{nat_tests}
-use Rattle.std.proofs.lemmas.Bool.{le-leb, le-ltb, and_from, and_parts}
+use Rattle.std.proofs.Common.{◌≡◌, ℕ, ◌+◌, ◌-◌, ◌*◌, ◌^◌, ◌<◌, ◌≤◌, nat_lt, nat_le, Bool, true, false, ◌&&◌, if◌then◌else◌, List, [], ◌∷◌, ◌++◌, Option, None}
+use Rattle.std.proofs.Common.{Some, refl, arith, le-leb, le-ltb}
+use Rattle.std.proofs.{Math.Nat.pow-le-pow_right, lemmas.Grind.pow_more, lemmas.Bool.Decides.nat_tests, lemmas.Bool.and_from, lemmas.Bool.and_parts}
 use Rattle.pas_trace.specs.Numbers.{is_digit, all_digits, value_from, is_hex, hex_value, all_hex, hex_from}
 
 -- the value of digits that follow a value, if they are digits and it is below 2^64
 abbrev pub value_after : ℕ → List ℕ → Option ℕ
 value_after v bs = if all_digits bs && nat_lt (value_from v bs) 18446744073709551616 then Some (value_from v bs) else None
 
-pub value-grows : (v : ℕ) (bs : List ℕ) → v ≤ value_from v bs
+value-grows : (v : ℕ) (bs : List ℕ) → v ≤ value_from v bs
 value-grows v [] = omega arith
 value-grows v (b ∷ bs) = omega (arith, value-grows (10 * v + (b - 48)) bs)
 
@@ -51,7 +49,7 @@ hex-step v b bs e = rw e refl
 pub hex-stop : (v b : ℕ) (bs : List ℕ) → is_hex b ≡ false → hex_after v (b ∷ bs) ≡ None
 hex-stop v b bs e = rw e refl
 
-pub hex-small : (b : ℕ) → is_hex b ≡ true → hex_value b ≤ 15
+hex-small : (b : ℕ) → is_hex b ≡ true → hex_value b ≤ 15
 hex-small b e = grind (arith, nat_tests)
 
 -- what the code reads of a digit

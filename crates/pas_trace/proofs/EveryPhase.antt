@@ -1,25 +1,16 @@
 -- In each phase of every plan, the names that a thread frees were asked for by itself or before the phase.
-use Rattle.std.proofs.Common.{◌≡◌, ℕ, ◌==◌, ◌||◌, Bool, true, false, not, if◌then◌else◌, Option, List, [], ◌∷◌, ◌++◌, map, Some, None, refl, ap, sym, ◌∙◌, subst, append_assoc}
-use Rattle.std.specs.Prelude.{MatchOption}
-use Rattle.std.proofs.lemmas.Bool.{eqb-true, eq-eqb, false≢true}
-use Rattle.std.proofs.lemmas.List.{append-nil}
+use Rattle.std.proofs.Common.{◌≡◌, ℕ, ◌==◌, ◌||◌, Bool, true, false, not, if◌then◌else◌, Option, List, [], ◌∷◌, ◌++◌, map, Some, None, refl, ap, sym, ◌∙◌}
+use Rattle.std.proofs.Common.{subst, append_assoc, MatchOption, eqb-true, eq-eqb, append-nil}
+use Rattle.std.proofs.lemmas.Bool.{false≢true}
 use Rattle.pas_profile.specs.declared.profile.Profile.{Profile}
-use Rattle.pas_trace.specs.Wishes.{name_made, name_freed, is_name}
+use Rattle.pas_trace.specs.{Wishes.name_made, Wishes.name_freed, Wishes.is_name, Asked.freed_in, EveryPhase.FreesItsOwn, EveryPhase.FreeTheirOwn}
 use Rattle.pas_trace.specs.Reasons.{is_phase, is_named, is_named_now, may_free, thread_of, heap_of, reason_of}
 use Rattle.pas_trace.specs.Plans.{IsPlanOf, keeper_for, phases_of, ops_of, what_wished, what_of_chore, add_last, phases_in}
-use Rattle.pas_trace.specs.Asked.{freed_in}
 use Rattle.pas_trace.specs.EveryPlan.{all_ops, is_asked, asked_after, asked_by}
-use Rattle.pas_trace.specs.EveryPhase.{FreesItsOwn, FreeTheirOwn}
-use Rattle.pas_trace.specs.declared.item.Item.{Item}
+use Rattle.pas_trace.specs.declared.{item.Item.Item, item.Wish.Wish, item.Wish.TheVariants.Asks, plan.Chore.Chore, plan.Op.Op, plan.Plan.Plan}
 use Rattle.pas_trace.specs.declared.item.Item.TheVariants.{Blank, Shares, Guards, NextPhase, Operates, Scavenges}
-use Rattle.pas_trace.specs.declared.item.Wish.{Wish}
-use Rattle.pas_trace.specs.declared.item.Wish.TheVariants.{Asks}
-use Rattle.pas_trace.specs.declared.plan.Chore.{Chore}
-use Rattle.pas_trace.specs.declared.plan.Op.{Op}
-use Rattle.pas_trace.specs.declared.plan.Plan.{Plan}
 use Rattle.pas_trace.proofs.OperationsOfItems.{new_ops, asked_both, AreNames, asks_for, asks_none, item_names}
-use Rattle.pas_trace.proofs.ParsedItems.{AreChecked, parts_of}
-use Rattle.pas_trace.proofs.PassedChecks.{own_passed, held_both}
+use Rattle.pas_trace.proofs.{ParsedItems.AreChecked, ParsedItems.parts_of, PassedChecks.own_passed, PassedChecks.held_both}
 
 -- ---- the names that thread k may free: those that were asked for before the phase, and its own after operations of the phase
 abbrev own_after : ℕ → List ℕ → Op → List ℕ

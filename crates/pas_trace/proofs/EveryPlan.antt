@@ -1,24 +1,17 @@
 -- The plan of every text is sound.
-use Rattle.std.specs.Prelude.{MatchOption}
-use Rattle.std.proofs.Common.{◌≡◌, ◌≢◌, ◌≤◌, ◌==◌, Bool, true, false, if◌then◌else◌, Option, Some, None, ℕ, zero, suc, ◌+◌, ◌*◌, ◌<◌, List, [], ◌∷◌, ◌++◌, length, slice_index, inl, inr, refl, ap, sym, ◌∙◌, subst, arith, length-append}
-use Rattle.std.proofs.lemmas.Bool.{cases_lt, ne_eqb}
-use Rattle.std.proofs.lemmas.List.{length-map, get_or_append_left}
-use Rattle.std.proofs.Math.Seq.{get_or-append_seam}
+use Rattle.std.proofs.Common.{MatchOption, ◌≡◌, ◌≢◌, ◌≤◌, ◌==◌, Bool, true, false, if◌then◌else◌, Option, Some, None, ℕ, zero, suc, ◌+◌, ◌*◌, ◌<◌, List, []}
+use Rattle.std.proofs.Common.{◌∷◌, ◌++◌, length, slice_index, inl, inr, refl, ap, sym, ◌∙◌, subst, arith, length-append, ne_eqb}
+use Rattle.std.proofs.{lemmas.Bool.cases_lt, lemmas.List.length-map, lemmas.List.get_or_append_left, Math.Seq.get_or-append_seam}
 use Rattle.pas_profile.specs.Profiles.{IsValid}
 use Rattle.pas_profile.specs.declared.profile.Profile.{Profile}
 use Rattle.pas_trace.specs.Plans.{IsPlanOf, phases_of, ops_of, phases_in, shared_in, own_costs, bound_of, bounds_upto, bounds_of}
 use Rattle.pas_trace.specs.EveryPlan.{all_ops, operations_of, AreBelow, AreSound, AreKept, own_records, kept_records, records_of_ops, IsSound}
-use Rattle.pas_trace.specs.Asked.{keeper_in}
-use Rattle.pas_trace.specs.Reasons.{guard_in, actors_by, reason_of}
-use Rattle.pas_trace.specs.declared.item.Item.{Item}
-use Rattle.pas_trace.specs.declared.item.Item.TheVariants.{Guards}
-use Rattle.pas_trace.specs.declared.plan.Op.{Op}
-use Rattle.pas_trace.specs.declared.plan.Plan.{Plan}
-use Rattle.pas_trace.proofs.LineCounts.{lines_few}
-use Rattle.pas_trace.proofs.OperationsOfItems.{ops_in, following, all_below, all_records, all_own, all_scavenger, exact_records, exact_own, all_kept, all_keepers, phases_within}
-use Rattle.pas_trace.proofs.ParsedItems.{AreChecked, parts_of}
-use Rattle.pas_trace.proofs.PassedChecks.{guard_passed}
-use Rattle.pas_trace.proofs.Telling.{bound-thread, bound-keeper}
+use Rattle.pas_trace.specs.{Asked.keeper_in, Reasons.guard_in, Reasons.actors_by, Reasons.reason_of}
+use Rattle.pas_trace.specs.declared.{item.Item.Item, item.Item.TheVariants.Guards, plan.Op.Op, plan.Plan.Plan}
+use Rattle.pas_trace.proofs.{LineCounts.lines_few, ParsedItems.AreChecked, ParsedItems.parts_of, PassedChecks.guard_passed, Telling.bound-thread}
+use Rattle.pas_trace.proofs.{Telling.bound-keeper}
+use Rattle.pas_trace.proofs.OperationsOfItems.{ops_in, following, all_below, all_records, all_own, all_scavenger, exact_records, exact_own, all_kept}
+use Rattle.pas_trace.proofs.OperationsOfItems.{all_keepers, phases_within}
 
 bounds_count : (f : Profile) (items : List Item) (n : ℕ) → length (bounds_upto f items n) ≡ n
 bounds_count f items zero = refl
@@ -62,7 +55,7 @@ few_actors f (Guards None) earlier passed threads few = few
 few_actors f (Guards (Some n)) earlier passed threads few = guarded_few (n == 0) f.threads threads (guard_passed f earlier (Some n) passed).few
 few_actors f i earlier passed threads few = few
 
-pub actors_few : (f : Profile) (items : List Item) → AreChecked f items → f.threads ≤ 16 → actors_by (guard_in items) f.threads ≤ 16
+actors_few : (f : Profile) (items : List Item) → AreChecked f items → f.threads ≤ 16 → actors_by (guard_in items) f.threads ≤ 16
 actors_few f [] checked threads = threads
 actors_few f (i ∷ earlier) checked threads = few_actors f i earlier checked.0.passes threads (actors_few f earlier checked.1 threads)
 
@@ -136,15 +129,13 @@ every_plan {text} {plan} is =
           let records = ap (λ h. records_of_ops h (operations_of plan)) is.profile ∙ ap (records_of_ops g) ops in
           let le = all_records f (shared_in is.items) is.items in
           let deeds : actors_by plan.guard plan.profile.threads * plan.profile.pages ≡ actors * f.pages = ap (λ n. n * plan.profile.pages) known ∙ ap (λ n. actors * n) pages in
-          let total = is.total in
-          omega (arith, records, le, deeds, total);
+          omega (arith, records, le, deeds, is.total);
       exact_total = λ none.
           let unguarded = sym is.guard ∙ none in
           let records = ap (λ h. records_of_ops h (operations_of plan)) is.profile ∙ ap (records_of_ops g) ops ∙ exact_records f (shared_in is.items) is.items all.checked unguarded in
           let alone : actors * f.pages ≡ f.threads * f.pages = ap (λ guard. actors_by guard f.threads * f.pages) unguarded in
           let deeds : plan.profile.threads * plan.profile.pages ≡ f.threads * f.pages = ap (λ n. n * plan.profile.pages) threads ∙ ap (λ n. f.threads * n) pages in
-          let total = is.total in
-          omega (arith, records, alone, deeds, total);
+          omega (arith, records, alone, deeds, is.total);
     }
 
 -- the first of several operations are below the limit of all

@@ -1,18 +1,14 @@
 -- Lines at the front of a text: their digits, their words, and where they end.
-use Rattle.std.proofs.Common.{◌≡◌, ◌≢◌, ℕ, ◌+◌, ◌-◌, ◌*◌, ◌^◌, ◌<◌, ◌≤◌, ◌==◌, nat_lt, nat_le, Bool, true, false, if◌then◌else◌, List, [], ◌∷◌, ◌++◌, take, drop, length, get_or, None, Some, Ok, refl, sym, ap, ◌∙◌, arith, append_assoc, length-append}
-use Rattle.std.proofs.Math.Nat.{pow-le-pow_right}
-use Rattle.std.proofs.lemmas.Grind.{pow_more}
-use Rattle.std.proofs.lemmas.List.{take_rest, take_more, drop_more, take-append-drop, length-take-le, get_or-take}
-use Rattle.std.proofs.lemmas.Bool.{le-leb, lt-ltb, leb-true, and_from, and_parts, ne_eqb}
-use Rattle.pas_trace.specs.Texts.{pieces, without_empty, lines_of}
+use Rattle.std.proofs.Common.{◌≡◌, ◌≢◌, ℕ, ◌+◌, ◌-◌, ◌*◌, ◌^◌, ◌<◌, ◌≤◌, ◌==◌, nat_lt, nat_le, Bool, true, false, if◌then◌else◌, List, [], ◌∷◌, ◌++◌, take}
+use Rattle.std.proofs.Common.{drop, length, get_or, None, Some, Ok, refl, sym, ap, ◌∙◌, arith, append_assoc, length-append, take-append-drop, length-take-le}
+use Rattle.std.proofs.Common.{get_or-take, le-leb, lt-ltb, leb-true, ne_eqb}
+use Rattle.std.proofs.{Math.Nat.pow-le-pow_right, lemmas.Grind.pow_more, lemmas.List.take_rest, lemmas.List.take_more, lemmas.List.drop_more}
+use Rattle.std.proofs.{lemmas.Bool.and_from, lemmas.Bool.and_parts}
+use Rattle.pas_trace.specs.{Texts.pieces, Texts.without_empty, Texts.lines_of, FirstLines.BeginsWith, FirstLines.FirstSays}
 use Rattle.pas_trace.specs.Numbers.{is_digit, all_digits, value_from, is_decimal, number_of}
 use Rattle.pas_trace.specs.Items.{below, from_one, trace_name, item2, item5, item_of_words}
-use Rattle.pas_trace.specs.FirstLines.{BeginsWith, FirstSays}
-use Rattle.pas_trace.specs.declared.item.Item.{Item}
-use Rattle.pas_trace.specs.declared.item.Item.TheVariants.{Operates}
-use Rattle.pas_trace.specs.declared.item.Wish.TheVariants.{Asks, Frees}
-use Rattle.pas_trace.proofs.Digits.{digit-is, digits-add, value-add}
-use Rattle.pas_trace.proofs.Splits.{keeps}
+use Rattle.pas_trace.specs.declared.item.{Item.Item, Item.TheVariants.Operates, Wish.TheVariants.Asks, Wish.TheVariants.Frees}
+use Rattle.pas_trace.proofs.{Digits.digit-is, Digits.digits-add, Digits.value-add, Splits.keeps}
 use Rattle.pas_trace.proofs.WordLines.{IsLine, Lacks, lacks-both, digits-lack, pieces-until, pieces-only, lines-until}
 
 -- the first so many bytes are digits of this value
@@ -52,7 +48,7 @@ decimal-from (b ∷ c ∷ bs) digits some head =
     let other : b ≢ 48 = head (omega arith) in
     and_from (nat_le 49 b) (all_digits (b ∷ c ∷ bs)) (le-leb 49 b (omega (arith, lo, other))) digits
 
-pub number-found : (text : List ℕ) (count value end : ℕ) → all_digits (take count text) ≡ true → value ≡ value_from 0 (take count text) → value < 1000000000000000000
+number-found : (text : List ℕ) (count value end : ℕ) → all_digits (take count text) ≡ true → value ≡ value_from 0 (take count text) → value < 1000000000000000000
     → 0 < count → count < length text → get_or text count 0 ≡ end → (1 < count → get_or text 0 0 ≢ 48) → BeginsWith text value end (take (length text - (count + 1)) (drop (count + 1) text))
 number-found text count value end digits is small some within ended head =
     let w = take count text in

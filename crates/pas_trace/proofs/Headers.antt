@@ -1,12 +1,10 @@
 -- A header has ten words, and its numbers are within the limits.
 use Rattle.std.proofs.Common.{◌≡◌, ℕ, ◌<◌, ◌≤◌, ◌&&◌, nat_le, Bool, true, false, if◌then◌else◌, List, [], ◌∷◌, length, Option, None, Some, refl, subst, arith}
-use Rattle.std.specs.Prelude.{codes}
-use Rattle.std.proofs.lemmas.Bool.{leb-true, le-leb, and_parts}
+use Rattle.std.proofs.Common.{codes, leb-true, le-leb}
+use Rattle.std.proofs.lemmas.Bool.{and_parts}
 use Rattle.pas_profile.specs.Profiles.{IsValid, AreClassesFor}
 use Rattle.pas_trace.specs.declared.header.Header.{Header}
-use Rattle.pas_trace.specs.Texts.{words_of}
-use Rattle.pas_trace.specs.Numbers.{number_of}
-use Rattle.pas_trace.specs.Items.{same_bytes}
+use Rattle.pas_trace.specs.{Texts.words_of, Numbers.number_of, Items.same_bytes}
 use Rattle.pas_trace.specs.Reasons.{within, most_pages, classes_of, header_with, header_for, header_of_words, header_of}
 use Rattle.pas_trace.proofs.PassedChecks.{if_some}
 

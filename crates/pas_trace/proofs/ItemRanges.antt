@@ -1,16 +1,12 @@
 -- The numbers of an item are within the ranges of their places.
 use Rattle.std.proofs.Common.{◌≡◌, ℕ, ◌-◌, ◌^◌, ◌<◌, ◌==◌, nat_lt, Bool, true, false, if◌then◌else◌, List, [], ◌∷◌, Option, Some, None, Result, refl, arith}
-use Rattle.std.specs.Prelude.{IfOk, MatchOption, codes}
-use Rattle.std.proofs.lemmas.Bool.{ltb-true}
-use Rattle.pas_trace.specs.Texts.{words_of}
-use Rattle.pas_trace.specs.Numbers.{number_of, address_of_word}
-use Rattle.pas_trace.specs.Asked.{epoch_of}
-use Rattle.pas_trace.specs.Items.{same_bytes, below, trace_name, epoch_word, turn_word, since, has_since, item1, item2, item3, item4, item5, item_of_two, item_of_six, item_by_count, item_of_words, item_of_line}
-use Rattle.pas_trace.specs.declared.fault.Reason.{Reason}
-use Rattle.pas_trace.specs.declared.item.Item.{Item}
-use Rattle.pas_trace.specs.declared.item.Item.TheVariants.{Shares, Operates, Scavenges}
+use Rattle.std.proofs.Common.{IfOk, MatchOption, codes, ltb-true}
+use Rattle.pas_trace.specs.{Texts.words_of, Numbers.number_of, Numbers.address_of_word, Asked.epoch_of}
+use Rattle.pas_trace.specs.Items.{same_bytes, below, trace_name, epoch_word, turn_word, since, has_since, item1, item2, item3, item4, item5, item_of_two}
+use Rattle.pas_trace.specs.Items.{item_of_six, item_by_count, item_of_words, item_of_line}
+use Rattle.pas_trace.specs.declared.{fault.Reason.Reason, item.Item.Item, item.Item.TheVariants.Shares, item.Item.TheVariants.Operates}
+use Rattle.pas_trace.specs.declared.{item.Item.TheVariants.Scavenges, plan.Chore.Chore}
 use Rattle.pas_trace.specs.declared.item.Wish.TheVariants.{Asks, Frees, FreesSized, FreesRaw, FreesRawSized, Remakes, Flushes, Stops}
-use Rattle.pas_trace.specs.declared.plan.Chore.{Chore}
 
 -- a turn has a next one, and epochs are below 2^40
 abbrev pub IsInRange : Item → Type 0

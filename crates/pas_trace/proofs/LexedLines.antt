@@ -1,21 +1,14 @@
 -- Lines that say something by themselves, and what is read of them.
-use Rattle.std.proofs.Common.{◌≡◌, ℕ, ◌+◌, ◌==◌, Bool, true, false, if◌then◌else◌, List, [], ◌∷◌, ◌++◌, OnOk, map, length, Result, Ok, Err, codes, refl, sym, ap, subst, ◌∙◌, arith, append_assoc, length-append}
+use Rattle.std.proofs.Common.{◌≡◌, ℕ, ◌+◌, ◌==◌, Bool, true, false, if◌then◌else◌, List, [], ◌∷◌, ◌++◌, OnOk, map, length, Result, Ok, Err, codes, refl, sym}
+use Rattle.std.proofs.Common.{ap, subst, ◌∙◌, arith, append_assoc, length-append}
 use Rattle.std.proofs.lemmas.List.{map-append}
-use Rattle.pas_trace.specs.declared.header.Header.{Header}
-use Rattle.pas_trace.specs.Texts.{lines_of, words_of}
+use Rattle.pas_trace.specs.declared.{header.Header.Header, fault.Reason.Reason, fault.TraceFault.TraceFault, fault.ReadFault.ReadFault}
+use Rattle.pas_trace.specs.declared.{fault.ReadFault.TheVariants.Trace, fault.ReadFault.TheVariants.NoMemory, item.Item.Item, item.Item.TheVariants.Shares}
+use Rattle.pas_trace.specs.declared.{reader.Reader.Reader}
+use Rattle.pas_trace.specs.{Texts.lines_of, Texts.words_of, FirstLines.FirstSays, Reasons.line_says, Plans.items_from, Plans.after_item, Plans.line_of_newest}
+use Rattle.pas_trace.specs.{Lexed.Say, Lexed.AreLexed}
 use Rattle.pas_trace.specs.Items.{same_bytes, since, has_since, item1, item_by_count, item_of_words, item_of_line, plain}
-use Rattle.pas_trace.specs.FirstLines.{FirstSays}
-use Rattle.pas_trace.specs.Reasons.{line_says}
-use Rattle.pas_trace.specs.Plans.{items_from, after_item, line_of_newest}
 use Rattle.pas_trace.specs.Told.{Tells, IsTaken, AreTaken, IsRead}
-use Rattle.pas_trace.specs.Lexed.{Say, AreLexed}
-use Rattle.pas_trace.specs.declared.fault.Reason.{Reason}
-use Rattle.pas_trace.specs.declared.fault.TraceFault.{TraceFault}
-use Rattle.pas_trace.specs.declared.fault.ReadFault.{ReadFault}
-use Rattle.pas_trace.specs.declared.fault.ReadFault.TheVariants.{Trace, NoMemory}
-use Rattle.pas_trace.specs.declared.item.Item.{Item}
-use Rattle.pas_trace.specs.declared.item.Item.TheVariants.{Shares}
-use Rattle.pas_trace.specs.declared.reader.Reader.{Reader}
 use Rattle.pas_trace.proofs.Reading.{SoFar, at-first, left-is, after-taken, taken-fault, at-end}
 
 -- ---- what a line says after an operation it says anywhere

@@ -1,16 +1,11 @@
 -- How many operations a plan has.
 use Rattle.std.proofs.Common.{◌≡◌, ℕ, ◌+◌, ◌<◌, ◌≤◌, Bool, true, false, if◌then◌else◌, List, [], ◌∷◌, length, refl, ap, ◌∙◌, arith, length-append}
 use Rattle.pas_profile.specs.declared.profile.Profile.{Profile}
-use Rattle.pas_trace.specs.Reasons.{is_operation, operations_in}
-use Rattle.pas_trace.specs.Plans.{IsPlanOf}
-use Rattle.pas_trace.specs.EveryPlan.{all_ops, operations_of}
-use Rattle.pas_trace.specs.declared.item.Item.{Item}
+use Rattle.pas_trace.specs.{Reasons.is_operation, Reasons.operations_in, Plans.IsPlanOf, EveryPlan.all_ops, EveryPlan.operations_of}
+use Rattle.pas_trace.specs.declared.{item.Item.Item, plan.Op.Op, plan.Plan.Plan}
 use Rattle.pas_trace.specs.declared.item.Item.TheVariants.{Blank, Shares, Guards, NextPhase}
-use Rattle.pas_trace.specs.declared.plan.Op.{Op}
-use Rattle.pas_trace.specs.declared.plan.Plan.{Plan}
-use Rattle.pas_trace.proofs.OperationsOfItems.{ops_in, new_ops, ops_next}
-use Rattle.pas_trace.proofs.ParsedItems.{AreChecked, parts_of}
-use Rattle.pas_trace.proofs.PassedChecks.{counts_within}
+use Rattle.pas_trace.proofs.{OperationsOfItems.ops_in, OperationsOfItems.new_ops, OperationsOfItems.ops_next, ParsedItems.AreChecked, ParsedItems.parts_of}
+use Rattle.pas_trace.proofs.{PassedChecks.counts_within}
 
 -- ---- the phases have an operation for each item that is one
 item_count : (f : Profile) (i : Item) (earlier : List Item) → length (new_ops f i earlier) ≡ (if is_operation i then 1 else 0)

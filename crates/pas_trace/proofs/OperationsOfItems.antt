@@ -1,28 +1,23 @@
 -- The operations of items follow one another soundly, and may make as many records as the items.
-use Rattle.std.proofs.Common.{◌≡◌, ℕ, ◌≢◌, ◌+◌, ◌*◌, ◌%◌, ◌<◌, ◌≤◌, ◌==◌, nat_le, ◌||◌, ◌&&◌, not, Bool, true, false, if◌then◌else◌, List, [], ◌∷◌, ◌++◌, length, Option, Some, None, refl, ap, sym, ◌∙◌, subst, arith, append_assoc, length-append}
-use Rattle.std.specs.Prelude.{MatchOption}
-use Rattle.std.proofs.Math.Bool.{and-false}
-use Rattle.std.proofs.lemmas.Bool.{eq-eqb, ne_eqb, leb-true, leb-false, ltb-true, and_parts}
-use Rattle.std.proofs.lemmas.List.{append-nil}
+use Rattle.std.proofs.Common.{◌≡◌, ℕ, ◌≢◌, ◌+◌, ◌*◌, ◌%◌, ◌<◌, ◌≤◌, ◌==◌, nat_le, ◌||◌, ◌&&◌, not, Bool, true, false, if◌then◌else◌, List, [], ◌∷◌, ◌++◌}
+use Rattle.std.proofs.Common.{length, Option, Some, None, refl, ap, sym, ◌∙◌, subst, arith, append_assoc, length-append, MatchOption, eq-eqb, ne_eqb, leb-true}
+use Rattle.std.proofs.Common.{leb-false, ltb-true, append-nil}
+use Rattle.std.proofs.{Math.Bool.and-false, lemmas.Bool.and_parts}
 use Rattle.pas_profile.specs.Profiles.{IsValid, IsAdmitted}
 use Rattle.pas_profile.specs.declared.profile.Profile.{Profile}
-use Rattle.pas_trace.specs.Reasons.{guard_in, is_sampled, large_requests, is_guarded, cost_of_size, cost_of_request, makes, is_named, heap_of_item, heap_of, actor_of, cost_of, costs_of, cost_of_wish, records_of_chore, reason_of}
-use Rattle.pas_trace.specs.Plans.{operation, operation_of, keeper_for, request_kept, kept_costs, what_wished, what_of_chore, add_last, phases_in, phases_after, line_of_newest, own_costs}
+use Rattle.pas_trace.specs.Reasons.{guard_in, is_sampled, large_requests, is_guarded, cost_of_size, cost_of_request, makes, is_named, heap_of_item, heap_of}
+use Rattle.pas_trace.specs.Reasons.{actor_of, cost_of, costs_of, cost_of_wish, records_of_chore, reason_of}
+use Rattle.pas_trace.specs.Plans.{operation, operation_of, keeper_for, request_kept, kept_costs, what_wished, what_of_chore, add_last, phases_in, phases_after}
+use Rattle.pas_trace.specs.Plans.{line_of_newest, own_costs}
 use Rattle.pas_trace.specs.Asked.{request_in, keeper_in}
 use Rattle.pas_trace.specs.Wishes.{name_made, heap_made, is_large, is_name}
-use Rattle.pas_trace.specs.EveryPlan.{all_ops, IsThread, is_asked, asked_with, asked_after, asked_by, AreBelow, AreSound, AreKept, records_of_what, records_of_ops, own_records, kept_records}
-use Rattle.pas_trace.specs.declared.item.Request.{Request}
-use Rattle.pas_trace.specs.declared.item.Item.{Item}
+use Rattle.pas_trace.specs.EveryPlan.{all_ops, IsThread, is_asked, asked_with, asked_after, asked_by, AreBelow, AreSound, AreKept, records_of_what}
+use Rattle.pas_trace.specs.EveryPlan.{records_of_ops, own_records, kept_records}
+use Rattle.pas_trace.specs.declared.{item.Request.Request, item.Item.Item, item.Wish.Wish, plan.Chore.Chore, plan.Op.Op}
 use Rattle.pas_trace.specs.declared.item.Item.TheVariants.{Blank, Shares, Guards, NextPhase, Operates, Scavenges}
-use Rattle.pas_trace.specs.declared.item.Wish.{Wish}
 use Rattle.pas_trace.specs.declared.item.Wish.TheVariants.{Asks, Frees, FreesSized, FreesRaw, FreesRawSized, Remakes, Flushes, Stops}
-use Rattle.pas_trace.specs.declared.plan.Chore.{Chore}
-use Rattle.pas_trace.specs.declared.plan.Op.{Op}
-use Rattle.pas_trace.proofs.ItemRanges.{IsInRange}
-use Rattle.pas_trace.proofs.ParsedItems.{AreChecked}
+use Rattle.pas_trace.proofs.{ItemRanges.IsInRange, ParsedItems.AreChecked, Rooms.room_named, Costs.unguarded_cost, Costs.guarded_cost, Costs.least_cost}
 use Rattle.pas_trace.proofs.PassedChecks.{own_passed, guard_passed, aligns, is_not}
-use Rattle.pas_trace.proofs.Rooms.{room_named}
-use Rattle.pas_trace.proofs.Costs.{unguarded_cost, guarded_cost, least_cost}
 
 -- ---- the operations of items in one list: those before, and that of the newest item, where it is one
 abbrev pub ops_in : Profile → List Item → List Op
@@ -86,7 +81,7 @@ item_heaps f (Operates t w) earlier passed homes n known =
     name_heap (is_name (name_made w) n) f (Operates t w) earlier n refl (λ is. made_heap f t w earlier n is passed homes) homes known
 item_heaps f i earlier passed homes n known = homes n known
 
-pub all_heaps : (f : Profile) (items : List Item) → AreChecked f items → HaveHeaps f items
+all_heaps : (f : Profile) (items : List Item) → AreChecked f items → HaveHeaps f items
 all_heaps f [] checked = λ n known. absurd (cc)
 all_heaps f (i ∷ earlier) checked = item_heaps f i earlier checked.0.passes (all_heaps f earlier checked.1)
 
@@ -314,7 +309,7 @@ exact_own f shared k (i ∷ earlier) checked none =
     omega (arith, both, more, own_exactly f shared k i earlier before, exact_own f shared k earlier checked.1 before)
 
 -- ---- what keepers may make for them, and who they are
-pub kept_both : (k : ℕ) (xs ys : List Op) → kept_records k (xs ++ ys) ≡ kept_records k xs + kept_records k ys
+kept_both : (k : ℕ) (xs ys : List Op) → kept_records k (xs ++ ys) ≡ kept_records k xs + kept_records k ys
 kept_both k [] ys = omega arith
 kept_both k (x ∷ xs) ys = omega (arith, kept_both k xs ys)
 

@@ -1,18 +1,12 @@
 -- The items of a text have passed their checks, and there are no more of them than lines after the first.
-use Rattle.std.proofs.Common.{◌≡◌, ℕ, ◌+◌, ◌≤◌, List, [], ◌∷◌, length, Option, Some, None, Result, Ok, Err, refl, ap, sym, ◌∙◌, subst, arith}
-use Rattle.std.specs.Prelude.{IfOk}
+use Rattle.std.proofs.Common.{◌≡◌, ℕ, ◌+◌, ◌≤◌, List, [], ◌∷◌, length, Option, Some, None, Result, Ok, Err, refl, ap, sym, ◌∙◌, subst, arith, IfOk}
 use Rattle.pas_profile.specs.Profiles.{IsValid}
 use Rattle.pas_profile.specs.declared.profile.Profile.{Profile}
-use Rattle.pas_trace.specs.declared.header.Header.{Header}
-use Rattle.pas_trace.specs.Texts.{lines_of}
-use Rattle.pas_trace.specs.Items.{item_of_line}
+use Rattle.pas_trace.specs.declared.{header.Header.Header, fault.Reason.Reason, fault.TraceFault.TraceFault, item.Item.Item}
+use Rattle.pas_trace.specs.{Texts.lines_of, Items.item_of_line}
 use Rattle.pas_trace.specs.Reasons.{started, reason_of, kept, checked, line_says, header_of}
 use Rattle.pas_trace.specs.Plans.{after_item, items_from, Parsed, with_items, with_header, parsed, parsed_lines}
-use Rattle.pas_trace.specs.declared.fault.Reason.{Reason}
-use Rattle.pas_trace.specs.declared.fault.TraceFault.{TraceFault}
-use Rattle.pas_trace.specs.declared.item.Item.{Item}
-use Rattle.pas_trace.proofs.Headers.{header_valid}
-use Rattle.pas_trace.proofs.ItemRanges.{IsInRange, line_range}
+use Rattle.pas_trace.proofs.{Headers.header_valid, ItemRanges.IsInRange, ItemRanges.line_range}
 
 pub record IsPassed (f : Profile) (earlier : List Item) (i : Item) : Type 0 where
   pub passes : reason_of f earlier i ≡ None

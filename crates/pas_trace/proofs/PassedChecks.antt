@@ -1,17 +1,15 @@
 -- What an item keeps that passed its checks.
-use Rattle.std.proofs.Common.{◌≡◌, ℕ, ◌*◌, ◌%◌, ◌^◌, ◌<◌, ◌≤◌, ◌==◌, nat_le, nat_lt, Bool, true, false, not, ◌&&◌, if◌then◌else◌, List, [], ◌∷◌, Option, None, Some, refl, arith}
-use Rattle.std.specs.Prelude.{MatchOption}
-use Rattle.std.proofs.lemmas.Bool.{ltb-true, leb-true, eqb-true, and_parts}
-use Rattle.pas_profile.specs.Classes.{IsAlignment}
-use Rattle.pas_profile.specs.Profiles.{IsValid}
+use Rattle.std.proofs.Common.{◌≡◌, ℕ, ◌*◌, ◌%◌, ◌^◌, ◌<◌, ◌≤◌, ◌==◌, nat_le, nat_lt, Bool, true, false, not, ◌&&◌, if◌then◌else◌, List, [], ◌∷◌, Option, None}
+use Rattle.std.proofs.Common.{Some, refl, arith, MatchOption, ltb-true, leb-true, eqb-true}
+use Rattle.std.proofs.lemmas.Bool.{and_parts}
+use Rattle.pas_profile.specs.{Classes.IsAlignment, Profiles.IsValid}
 use Rattle.pas_profile.specs.declared.profile.Profile.{Profile}
 use Rattle.pas_trace.specs.Wishes.{Sizing, heap_in, sizing_in, name_made, name_freed, holds_of, IsFit, IsFitSizing}
-use Rattle.pas_trace.specs.Reasons.{first_failed, is_thread, is_alignment, record_bound, few_enough, may_free, is_guard_number, guard_in, checks_of, reason_of, operations_in, started, is_operation, is_named, actor_of}
+use Rattle.pas_trace.specs.Reasons.{first_failed, is_thread, is_alignment, record_bound, few_enough, may_free, is_guard_number, guard_in, checks_of, reason_of}
+use Rattle.pas_trace.specs.Reasons.{operations_in, started, is_operation, is_named, actor_of}
 use Rattle.pas_trace.specs.EveryPlan.{IsThread}
-use Rattle.pas_trace.specs.declared.fault.Reason.{Reason}
-use Rattle.pas_trace.specs.declared.item.Item.{Item}
-use Rattle.pas_trace.specs.declared.item.Item.TheVariants.{Guards, Operates, Scavenges}
-use Rattle.pas_trace.specs.declared.item.Wish.{Wish}
+use Rattle.pas_trace.specs.declared.{fault.Reason.Reason, item.Item.Item, item.Item.TheVariants.Guards, item.Item.TheVariants.Operates}
+use Rattle.pas_trace.specs.declared.{item.Item.TheVariants.Scavenges, item.Wish.Wish}
 
 abbrev pub AreHeld : List (Bool × Reason) → Type 0
 AreHeld [] = Unit {0}
@@ -29,7 +27,7 @@ pub passes : (f : Profile) (items : List Item) (i : Item) → reason_of f items 
 passes f items i e = all_hold (checks_of f items i) e
 
 -- ---- what the checks say
-pub thread_within : (f : Profile) (t : ℕ) → is_thread f t ≡ true → IsThread f t
+thread_within : (f : Profile) (t : ℕ) → is_thread f t ≡ true → IsThread f t
 thread_within f t e = let p = and_parts (nat_le 1 t) (nat_le t f.threads) e in (leb-true _ _ p.0, leb-true _ _ p.1)
 
 pub aligns : (a : ℕ) → is_alignment a ≡ true → IsAlignment a
@@ -108,13 +106,12 @@ held_both (Some x) test other P all a b = all x a b
 
 -- the numbers of an operation have a place in a plan
 small_heap : (f : Profile) → IsValid f → (h : ℕ) → nat_lt h f.heaps ≡ true → h < 2 ^ 8
-small_heap f valid h held = let most = valid.heaps in let lt = ltb-true h f.heaps held in omega (arith, most, lt)
+small_heap f valid h held = let lt = ltb-true h f.heaps held in omega (arith, valid.heaps, lt)
 
 fit_sizing : (f : Profile) → IsValid f → (s : Sizing) → nat_le s.size (4096 * f.pages) ≡ true → is_alignment s.align ≡ true → IsFitSizing f s
 fit_sizing f valid s size align =
-    let most = valid.pages in
     let le = leb-true s.size (4096 * f.pages) size in
-    record { small = omega (arith, most, le); within = omega (arith, le); aligned = aligns s.align align }
+    record { small = omega (arith, valid.pages, le); within = omega (arith, le); aligned = aligns s.align align }
 
 pub all_fit : (f : Profile) (items : List Item) (t : ℕ) (w : Wish) → IsValid f → OwnPassed f items t w → IsFit f w
 all_fit f items t w valid p = (

@@ -1,15 +1,10 @@
 -- The lines that are read, and those that are left.
 use Rattle.std.proofs.Common.{◌≡◌, ℕ, ◌+◌, List, [], ◌∷◌, Some, Result, Ok, Err, MatchResult, refl, sym, ap, subst, ◌∙◌}
-use Rattle.pas_trace.specs.declared.header.Header.{Header}
-use Rattle.pas_trace.specs.Texts.{lines_of}
-use Rattle.pas_trace.specs.Reasons.{line_says, header_of}
+use Rattle.pas_trace.specs.declared.{header.Header.Header, fault.ReadFault.ReadFault, fault.ReadFault.TheVariants.Trace, fault.ReadFault.TheVariants.NoMemory}
+use Rattle.pas_trace.specs.declared.{item.Item.Item, plan.Plan.Plan, reader.Reader.Reader}
+use Rattle.pas_trace.specs.{Texts.lines_of, Reasons.line_says, Reasons.header_of}
 use Rattle.pas_trace.specs.Plans.{parsed, parsed_lines, with_header, with_items, items_from, after_item, IsPlanOf, IsReading}
 use Rattle.pas_trace.specs.Told.{Tells, IsTaken, AreTaken, IsRead, IsBegun, IsPlanned}
-use Rattle.pas_trace.specs.declared.fault.ReadFault.{ReadFault}
-use Rattle.pas_trace.specs.declared.fault.ReadFault.TheVariants.{Trace, NoMemory}
-use Rattle.pas_trace.specs.declared.item.Item.{Item}
-use Rattle.pas_trace.specs.declared.plan.Plan.{Plan}
-use Rattle.pas_trace.specs.declared.reader.Reader.{Reader}
 
 -- the answer of the lines that are left is the answer of all
 pub record SoFar (old : Reader) (start : List Item) (lines : List (List ℕ)) (now : Reader) (left : List (List ℕ)) : Type 0 where
@@ -48,11 +43,11 @@ abbrev pub left-is : (old now : Reader) (start : List Item) (lines left other : 
 left-is old now start lines left other e far = record { items = far.items; tells = far.tells; header = far.header; same = far.same ∙ ap (items_from old.header (now.line + 1) far.items) e }
 
 -- ---- from the text
-pub parsed-items : (text line rest : List ℕ) (f : Header) → lines_of text ≡ line ∷ lines_of rest → header_of line ≡ Some f → parsed text ≡ with_items f (items_from f 2 [] (lines_of rest))
+parsed-items : (text line rest : List ℕ) (f : Header) → lines_of text ≡ line ∷ lines_of rest → header_of line ≡ Some f → parsed text ≡ with_items f (items_from f 2 [] (lines_of rest))
 parsed-items text line rest f e h = ap parsed_lines e ∙ ap (λ header. with_header header (lines_of rest)) h
 
 -- ---- and to the plan
-pub planned : (text line rest : List ℕ) (f : Header) (all : List Item) (plan : Plan) → lines_of text ≡ line ∷ lines_of rest → header_of line ≡ Some f
+planned : (text line rest : List ℕ) (f : Header) (all : List Item) (plan : Plan) → lines_of text ≡ line ∷ lines_of rest → header_of line ≡ Some f
     → items_from f 2 [] (lines_of rest) ≡ Ok all → IsPlanned f all plan → IsPlanOf text plan
 planned text line rest f all plan e h i p = record {
   items = all;

@@ -1,11 +1,8 @@
 -- The room that a free names: of whole grains, of one at least, and no larger than the region.
 use Rattle.std.proofs.Common.{◌≡◌, ℕ, ◌*◌, ◌%◌, ◌≤◌, max, Some, arith}
-use Rattle.pas_profile.specs.Profiles.{IsValid}
-use Rattle.pas_profile.specs.Requests.{room_in}
-use Rattle.pas_profile.specs.Routes.{route_of, room_by, IsRouteOf}
-use Rattle.pas_profile.specs.declared.directory.Route.{Route}
-use Rattle.pas_profile.specs.declared.directory.Route.TheVariants.{Class, Bitfit, Large}
-use Rattle.pas_profile.specs.declared.profile.Profile.{Profile}
+use Rattle.pas_profile.specs.{Profiles.IsValid, Requests.room_in, Routes.route_of, Routes.room_by, Routes.IsRouteOf}
+use Rattle.pas_profile.specs.declared.{directory.Route.Route, directory.Route.TheVariants.Class, directory.Route.TheVariants.Bitfit}
+use Rattle.pas_profile.specs.declared.{directory.Route.TheVariants.Large, profile.Profile.Profile}
 use Rattle.pas_profile.proofs.ClassFacts.{route_is, class_known, class_size-grains, class_grains_positive, class_grains_le}
 use Rattle.pas_trace.specs.EveryPlan.{IsRoomNamed}
 
@@ -19,7 +16,7 @@ room_within pages classes size align (Class class) is some within =
     let least = class_grains_positive class known in
     let most = class_grains_le class known in
     (omega (arith, grains), omega (arith, grains, least), omega (arith, grains, most, some))
-room_within pages classes size align Bitfit is some within = let small = is.0 in (omega arith, omega arith, omega (arith, small, some))
+room_within pages classes size align Bitfit is some within = (omega arith, omega arith, omega (arith, is.0, some))
 room_within pages classes size align Large is some within = (omega arith, omega arith, omega (arith, within, some))
 
 pub room_named : (f : Profile) (size align : ℕ) → IsValid f → size ≤ f.pages * 4096 → IsRoomNamed f (Some (room_in f size align))

@@ -1,20 +1,15 @@
 -- Which requests are guarded, by what the reader keeps.
-use Rattle.std.proofs.Common.{◌≡◌, ℕ, ◌+◌, ◌<◌, ◌≤◌, ◌==◌, Bool, true, false, not, ◌&&◌, Some, None, if◌then◌else◌, List, [], ◌∷◌, length, get_or, set, refl, sym, ap, ◌∙◌, arith, inl, inr}
-use Rattle.std.proofs.Math.ListN.{length-set}
-use Rattle.std.proofs.lemmas.Bool.{eq-eqb, ne_eqb, cases_eq, le-leb, lt-leb}
+use Rattle.std.proofs.Common.{◌≡◌, ℕ, ◌+◌, ◌<◌, ◌≤◌, ◌==◌, Bool, true, false, not, ◌&&◌, Some, None, if◌then◌else◌, List, [], ◌∷◌, length, get_or, set, refl}
+use Rattle.std.proofs.Common.{sym, ap, ◌∙◌, arith, inl, inr, eq-eqb, ne_eqb, le-leb}
+use Rattle.std.proofs.{Math.ListN.length-set, lemmas.Bool.cases_eq}
 use Rattle.pas_profile.specs.declared.profile.Profile.{Profile}
-use Rattle.pas_trace.specs.Wishes.{is_large, asks_pages}
-use Rattle.pas_trace.specs.Reasons.{actor_of, is_operation, operations_in, guard_after, guard_in, is_large_request, large_requests, is_sampled, is_guarded, cost_of, costs_of, cost_of_size, cost_of_request, cost_of_wish}
-use Rattle.pas_trace.specs.Plans.{kept_costs, keeper_for}
+use Rattle.pas_trace.specs.{Wishes.is_large, Wishes.asks_pages, Plans.kept_costs, Plans.keeper_for}
+use Rattle.pas_trace.specs.Reasons.{actor_of, is_operation, operations_in, guard_after, guard_in, is_large_request, large_requests, is_sampled, is_guarded}
+use Rattle.pas_trace.specs.Reasons.{cost_of, costs_of, cost_of_size, cost_of_request, cost_of_wish}
 use Rattle.pas_trace.specs.Told.{Tells, TellsSamples, IsSampled, samples_next, larges_after, kept_after, keeper_told}
-use Rattle.pas_trace.specs.declared.item.Item.{Item}
-use Rattle.pas_trace.specs.declared.item.Item.TheVariants.{Operates}
-use Rattle.pas_trace.specs.declared.item.Wish.{Wish}
-use Rattle.pas_trace.specs.declared.item.Wish.TheVariants.{Asks, Remakes}
-use Rattle.pas_trace.specs.declared.reader.Reader.{Reader}
-use Rattle.pas_trace.specs.declared.samples.Samples.{Samples}
-use Rattle.pas_trace.proofs.Costs.{least_cost}
-use Rattle.pas_trace.proofs.Gathering.{get_or-written}
+use Rattle.pas_trace.specs.declared.{item.Item.Item, item.Item.TheVariants.Operates, item.Wish.Wish, item.Wish.TheVariants.Asks, item.Wish.TheVariants.Remakes}
+use Rattle.pas_trace.specs.declared.{reader.Reader.Reader, samples.Samples.Samples}
+use Rattle.pas_trace.proofs.{Costs.least_cost, Gathering.get_or-written}
 
 -- ---- a count that is raised in one place
 raised : (here : Bool) (xs : List ℕ) (t k more n : ℕ) → t < length xs → (t == k) ≡ here → get_or xs k 0 ≡ n → get_or (set xs t (get_or xs t 0 + more)) k 0 ≡ (if here then n + more else n)
@@ -41,7 +36,7 @@ width_where false xs t x = refl
 -- ---- whether a request is guarded
 module _ (f : Profile) (s : Samples) (items : List Item) (told : TellsSamples f s items) where
   -- the reader tells it by its counts
-  pub guarded_same : (t : ℕ) (w : Wish) → t < 17 → (asks_pages w && samples_next s t) ≡ is_guarded items (Operates t w)
+  guarded_same : (t : ℕ) (w : Wish) → t < 17 → (asks_pages w && samples_next s t) ≡ is_guarded items (Operates t w)
   guarded_same t w lt = ap (λ n. asks_pages w && is_sampled s.guard (n + 1)) (told.larges t lt) ∙ ap (λ g. asks_pages w && is_sampled g (large_requests t items + 1)) told.guard
 
   pub sampled : (new : Samples) (t : ℕ) (w : Wish) → t < 17 → IsSampled s new t (asks_pages w) (cost_of_wish 0 w) → TellsSamples f new (Operates t w ∷ items)
@@ -80,19 +75,6 @@ sampled_small s t size within =
         guard = refl;
         larges = sym (ap (λ large. larges_after s t large) small);
         kept = sym (ap (λ large. kept_after s t (large && samples_next s t) (cost_of_size size)) small);
-      },
-    )
-
-pub sampled_large : (s new : Samples) (t size : ℕ) (next : Bool) → 2048 < size → samples_next s t ≡ next → new.guard ≡ s.guard → new.larges ≡ larges_after s t true → new.kept ≡ kept_after s t next (cost_of_size size)
-    → (next ≡ (is_large size && samples_next s t)) × IsSampled s new t (is_large size) (cost_of_size size)
-sampled_large s new t size next beyond is guard larges kept =
-    let large : is_large size ≡ true = ap not (lt-leb size 2048 beyond) in
-    let same : (is_large size && samples_next s t) ≡ next = ap (λ l. l && samples_next s t) large ∙ is in (
-      sym same,
-      record {
-        guard = guard;
-        larges = larges ∙ sym (ap (λ l. larges_after s t l) large);
-        kept = kept ∙ sym (ap (λ on. kept_after s t on (cost_of_size size)) same);
       },
     )
 

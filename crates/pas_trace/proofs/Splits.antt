@@ -1,8 +1,7 @@
 -- Pieces, lines and words against places in the bytes.
-use Rattle.std.proofs.Common.{◌≡◌, ◌≢◌, ℕ, zero, suc, ◌+◌, ◌<◌, ◌≤◌, ◌==◌, Bool, true, false, if◌then◌else◌, List, [], ◌∷◌, take, drop, length, get_or, ◌-◌, refl, sym, ap, subst, ◌∙◌, arith, add-one, add-zero}
-use Rattle.std.proofs.Math.Seq.{drop-length}
-use Rattle.std.proofs.lemmas.List.{take_rest, length-drop, get_or-drop}
-use Rattle.std.proofs.lemmas.Bool.{eq-eqb, ne_eqb}
+use Rattle.std.proofs.Common.{◌≡◌, ◌≢◌, ℕ, zero, suc, ◌+◌, ◌<◌, ◌≤◌, ◌==◌, Bool, true, false, if◌then◌else◌, List, [], ◌∷◌, take, drop, length, get_or, ◌-◌}
+use Rattle.std.proofs.Common.{refl, sym, ap, subst, ◌∙◌, arith, add-one, add-zero, length-drop, get_or-drop, eq-eqb, ne_eqb}
+use Rattle.std.proofs.{Math.Seq.drop-length, lemmas.List.take_rest}
 use Rattle.pas_trace.specs.Texts.{put_first, pieces, without_empty_end, lines_of, without_empty, words_of}
 
 -- no byte among the first n is the separator
@@ -16,7 +15,7 @@ pub pieces-off : (s b : ℕ) (bs : List ℕ) → b ≢ s → pieces s (b ∷ bs)
 pieces-off s b bs e = let t : (b == s) ≡ false = ne_eqb b s e in rw t refl
 
 -- the first piece ends at the first separator
-pub pieces-found : (s : ℕ) (bs : List ℕ) (n : ℕ) → NoneBefore s bs n → n < length bs → get_or bs n 0 ≡ s → pieces s bs ≡ take n bs ∷ pieces s (drop (suc n) bs)
+pieces-found : (s : ℕ) (bs : List ℕ) (n : ℕ) → NoneBefore s bs n → n < length bs → get_or bs n 0 ≡ s → pieces s bs ≡ take n bs ∷ pieces s (drop (suc n) bs)
 pieces-found s [] n none lt found = absurd (omega arith)
 pieces-found s (b ∷ bs) zero none lt found = pieces-at s b bs found
 pieces-found s (b ∷ bs) (suc n) none lt found =
@@ -24,7 +23,7 @@ pieces-found s (b ∷ bs) (suc n) none lt found =
     ∙ ap (put_first b) (pieces-found s bs n (λ k h. none (suc k) (omega (arith, h))) (omega (arith, lt)) found)
 
 -- .. and where there is none it is all
-pub pieces-whole : (s : ℕ) (bs : List ℕ) → NoneBefore s bs (length bs) → pieces s bs ≡ bs ∷ []
+pieces-whole : (s : ℕ) (bs : List ℕ) → NoneBefore s bs (length bs) → pieces s bs ≡ bs ∷ []
 pieces-whole s [] none = refl
 pieces-whole s (b ∷ bs) none =
     pieces-off s b bs (none zero (omega arith))
@@ -54,13 +53,13 @@ end-after p s bs =
     let some = pieces-some s bs in
     ap (λ ps. without_empty_end (p ∷ ps)) some.2 ∙ end-cons p some.0 some.1 ∙ sym (ap (λ ps. p ∷ without_empty_end ps) some.2)
 
-pub lines-found : (bs : List ℕ) (n : ℕ) → NoneBefore 10 bs n → n < length bs → get_or bs n 0 ≡ 10 → lines_of bs ≡ take n bs ∷ lines_of (drop (n + 1) bs)
+lines-found : (bs : List ℕ) (n : ℕ) → NoneBefore 10 bs n → n < length bs → get_or bs n 0 ≡ 10 → lines_of bs ≡ take n bs ∷ lines_of (drop (n + 1) bs)
 lines-found bs n none lt found =
     ap without_empty_end (pieces-found 10 bs n none lt found)
     ∙ end-after (take n bs) 10 (drop (suc n) bs)
     ∙ ap (λ m. take n bs ∷ lines_of (drop m bs)) (sym (add-one n))
 
-pub lines-last : (bs : List ℕ) → 0 < length bs → NoneBefore 10 bs (length bs) → lines_of bs ≡ bs ∷ []
+lines-last : (bs : List ℕ) → 0 < length bs → NoneBefore 10 bs (length bs) → lines_of bs ≡ bs ∷ []
 lines-last [] some none = absurd (omega arith)
 lines-last (b ∷ bs) some none = ap without_empty_end (pieces-whole 10 (b ∷ bs) none)
 
@@ -84,7 +83,7 @@ cut-found bs n none le ended ne =
     )
 
 -- ---- words
-pub words-skip : (bs : List ℕ) (n : ℕ) → ((k : ℕ) → k < n → get_or bs k 0 ≡ 32) → n ≤ length bs → words_of bs ≡ words_of (drop n bs)
+words-skip : (bs : List ℕ) (n : ℕ) → ((k : ℕ) → k < n → get_or bs k 0 ≡ 32) → n ≤ length bs → words_of bs ≡ words_of (drop n bs)
 words-skip bs zero spaces le = refl
 words-skip [] (suc n) spaces le = absurd (omega arith)
 words-skip (b ∷ bs) (suc n) spaces le =
@@ -100,13 +99,13 @@ take-some bs zero some lt = absurd (omega arith)
 take-some [] (suc n) some lt = absurd (omega arith)
 take-some (b ∷ bs) (suc n) some lt = omega arith
 
-pub words-found : (bs : List ℕ) (n : ℕ) → NoneBefore 32 bs n → 0 < n → n < length bs → get_or bs n 0 ≡ 32 → words_of bs ≡ take n bs ∷ words_of (drop (n + 1) bs)
+words-found : (bs : List ℕ) (n : ℕ) → NoneBefore 32 bs n → 0 < n → n < length bs → get_or bs n 0 ≡ 32 → words_of bs ≡ take n bs ∷ words_of (drop (n + 1) bs)
 words-found bs n none some lt found =
     ap without_empty (pieces-found 32 bs n none lt found)
     ∙ keeps (take n bs) (pieces 32 (drop (suc n) bs)) (take-some bs n some lt)
     ∙ ap (λ m. take n bs ∷ words_of (drop m bs)) (sym (add-one n))
 
-pub words-last : (bs : List ℕ) → 0 < length bs → NoneBefore 32 bs (length bs) → words_of bs ≡ bs ∷ []
+words-last : (bs : List ℕ) → 0 < length bs → NoneBefore 32 bs (length bs) → words_of bs ≡ bs ∷ []
 words-last bs some none = ap without_empty (pieces-whole 32 bs none) ∙ keeps bs [] some
 
 -- .. as the code cuts them

@@ -1,29 +1,21 @@
 -- What the reader keeps after each item.
-use Rattle.std.proofs.Common.{◌≡◌, ◌≢◌, ℕ, ◌+◌, ◌<◌, ◌≤◌, ◌==◌, Bool, true, false, not, ◌&&◌, ◌||◌, ◌*◌, ◌-◌, nat_le, if◌then◌else◌, List, [], ◌∷◌, ◌++◌, length, get_or, set, Option, None, Some, refl, sym, ap, subst, ◌∙◌, arith, inl, inr, add-one}
-use Rattle.std.proofs.Math.ListN.{length-set}
-use Rattle.std.proofs.lemmas.Bool.{eq-eqb, ne_eqb, cases_eq, leb-true, le-leb, lt-leb, and_parts}
-use Rattle.std.proofs.lemmas.Nat.{mul-le}
+use Rattle.std.proofs.Common.{◌≡◌, ◌≢◌, ℕ, ◌+◌, ◌<◌, ◌≤◌, ◌==◌, Bool, true, false, not, ◌&&◌, ◌||◌, ◌*◌, ◌-◌, nat_le, if◌then◌else◌, List, [], ◌∷◌, ◌++◌}
+use Rattle.std.proofs.Common.{length, get_or, set, Option, None, Some, refl, sym, ap, subst, ◌∙◌, arith, inl, inr, add-one, eq-eqb, ne_eqb, leb-true, le-leb}
+use Rattle.std.proofs.{Math.ListN.length-set, lemmas.Bool.cases_eq, lemmas.Bool.lt-leb, lemmas.Bool.and_parts, lemmas.Nat.mul-le}
 use Rattle.pas_profile.specs.Profiles.{IsValid}
 use Rattle.pas_profile.specs.declared.profile.Profile.{Profile}
-use Rattle.pas_trace.specs.declared.header.Header.{Header}
+use Rattle.pas_trace.specs.declared.{header.Header.Header, item.Item.Item, item.Item.TheVariants.Guards, item.Item.TheVariants.Operates}
+use Rattle.pas_trace.specs.declared.{item.Item.TheVariants.Scavenges, item.Wish.Wish, item.Wish.TheVariants.Remakes, names.Owner.Owner, names.Names.Names}
+use Rattle.pas_trace.specs.declared.{plan.Chore.Chore, plan.Op.Op, plan.What.What, plan.What.TheVariants.Remake, reader.Reader.Reader, samples.Samples.Samples}
 use Rattle.pas_trace.specs.Wishes.{heap_in, name_made, name_freed, heap_by, heap_made, is_name}
-use Rattle.pas_trace.specs.Reasons.{is_guard_number, guard_after, guard_in, large_requests, actors_by, cost_of, costs_of, cost_of_wish, records_of_chore, record_bound, reason_of, operations_in, is_operation, is_phase, actor_of, makes, is_named, is_named_now, thread_of, heap_of_item, heap_of, started}
-use Rattle.pas_trace.specs.Plans.{shared_by, shared_in, phases_after, phases_in, line_of_newest, own_costs, kept_costs, keeper_for, bound_of, bounds_upto, all_bounds, operation, what_wished, what_of_chore, add_last}
-use Rattle.pas_trace.specs.Told.{owner_in, heap_told, keeper_told, Tells, TellsSamples, NameTold, IsReady, CanSample, IsCounted, IsOperated, IsGuarding, IsAdded}
-use Rattle.pas_trace.specs.declared.item.Item.{Item}
-use Rattle.pas_trace.specs.declared.item.Item.TheVariants.{Guards, Operates, Scavenges}
-use Rattle.pas_trace.specs.declared.item.Wish.{Wish}
-use Rattle.pas_trace.specs.declared.item.Wish.TheVariants.{Remakes}
-use Rattle.pas_trace.specs.declared.names.Owner.{Owner}
-use Rattle.pas_trace.specs.declared.names.Names.{Names}
-use Rattle.pas_trace.specs.declared.plan.Chore.{Chore}
-use Rattle.pas_trace.specs.declared.plan.Op.{Op}
-use Rattle.pas_trace.specs.declared.plan.What.{What}
-use Rattle.pas_trace.specs.declared.plan.What.TheVariants.{Remake}
-use Rattle.pas_trace.specs.declared.reader.Reader.{Reader}
-use Rattle.pas_trace.specs.declared.samples.Samples.{Samples}
-use Rattle.pas_trace.proofs.Checking.{bound-after}
-use Rattle.pas_trace.proofs.Gathering.{get_or-written}
+use Rattle.pas_trace.specs.Reasons.{is_guard_number, guard_after, guard_in, large_requests, actors_by, cost_of, costs_of, cost_of_wish, records_of_chore}
+use Rattle.pas_trace.specs.Reasons.{record_bound, reason_of, operations_in, is_operation, is_phase, actor_of, makes, is_named, is_named_now, thread_of}
+use Rattle.pas_trace.specs.Reasons.{heap_of_item, heap_of, started}
+use Rattle.pas_trace.specs.Plans.{shared_by, shared_in, phases_after, phases_in, line_of_newest, own_costs, kept_costs, keeper_for, bound_of, bounds_upto}
+use Rattle.pas_trace.specs.Plans.{all_bounds, operation, what_wished, what_of_chore, add_last}
+use Rattle.pas_trace.specs.Told.{owner_in, heap_told, keeper_told, Tells, TellsSamples, NameTold, IsReady, CanSample, IsCounted, IsOperated, IsGuarding}
+use Rattle.pas_trace.specs.Told.{IsAdded}
+use Rattle.pas_trace.proofs.{Checking.bound-after, Gathering.get_or-written}
 use Rattle.pas_trace.proofs.PassedChecks.{FineCounts, own_passed, guard_passed, actor_within, counts_within}
 use Rattle.pas_trace.proofs.Sampling.{sampled, unsampled, keeper_same, few_larges, few_kept}
 
@@ -33,7 +25,7 @@ if-le true x y z p q = p
 if-le false x y z p q = q
 
 -- an actor's own costs are among all
-pub own_costs-le : (f : Profile) (k : ℕ) (items : List Item) → own_costs f k items ≤ costs_of f items
+own_costs-le : (f : Profile) (k : ℕ) (items : List Item) → own_costs f k items ≤ costs_of f items
 own_costs-le f k [] = omega arith
 own_costs-le f k (i ∷ items) =
     let h = own_costs-le f k items in
@@ -84,7 +76,7 @@ ready r items i actor cost same t fine le e =
     }
 
 -- ---- names
-pub kept-name : (i : Item) (items : List Item) (o : Owner) (p n : ℕ) → is_phase i ≡ false → makes i n ≡ false → NameTold o p items n → NameTold o p (i ∷ items) n
+kept-name : (i : Item) (items : List Item) (o : Owner) (p n : ℕ) → is_phase i ≡ false → makes i n ≡ false → NameTold o p items n → NameTold o p (i ∷ items) n
 kept-name i items o p n phase none h = record {
   named = ap (λ b. b || is_named items n) none ∙ h.named;
   thread = ap (λ b. if b then actor_of i else thread_of items n) none ∙ h.thread;
@@ -146,7 +138,7 @@ cost-added f i items costs actor cost k lt is_actor is_cost told = elim (cases_e
       ∙ told ∙ sym (ap (λ b. if b then own_costs f k items + cost_of f (guard_in items) i else own_costs f k items) own)
 ]
 
-pub operated : (old new : Reader) (names : Names) (samples : Samples) (items : List Item) (i : Item) (actor : ℕ) (what : What) (cost : ℕ) → Tells old items
+operated : (old new : Reader) (names : Names) (samples : Samples) (items : List Item) (i : Item) (actor : ℕ) (what : What) (cost : ℕ) → Tells old items
     → IsOperation old.header.profile (heap_of items) (keeper_for old.header.profile items i) old.samples.guard i actor what cost
     → IsReady old.counts actor cost → ((n : ℕ) → NameTold (owner_in names n) old.phase (i ∷ items) n) → TellsSamples old.header.profile samples (i ∷ items)
     → IsCounted (record old { line = old.line + 1; names = names; samples = samples }) new actor what cost → Tells new (i ∷ items)
@@ -199,7 +191,7 @@ small_thread old items t w told e =
     let threads : old.header.profile.threads ≤ 16 = header.threads in
     omega (arith, most, threads)
 
-pub added : (old new : Reader) (names : Names) (samples : Samples) (i : Item) (actor : ℕ) (what : What) (cost : ℕ)
+added : (old new : Reader) (names : Names) (samples : Samples) (i : Item) (actor : ℕ) (what : What) (cost : ℕ)
     → ((items : List Item) → Tells old items → reason_of old.header.profile items i ≡ None → IsOperation old.header.profile (heap_of items) (keeper_for old.header.profile items i) old.samples.guard i actor what cost)
     → NamesAfter old names i → SamplesAfter old samples i
     → IsCounted (record old { line = old.line + 1; names = names; samples = samples }) new actor what cost → IsAdded old new i
@@ -253,7 +245,7 @@ no_cost f guard (Operates t w) none = absurd (cc)
 no_cost f guard (Scavenges c) none = absurd (cc)
 no_cost f guard i none = refl
 
-pub none-costs : (f : Profile) (items : List Item) → started items ≡ false → costs_of f items ≡ 0
+none-costs : (f : Profile) (items : List Item) → started items ≡ false → costs_of f items ≡ 0
 none-costs f [] none = refl
 none-costs f (i ∷ items) none =
     let both = or_none (is_operation i) (is_phase i) (started items) none in

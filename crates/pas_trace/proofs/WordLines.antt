@@ -1,6 +1,6 @@
 -- Lines and words that are known whole, without the byte that parts them.
-use Rattle.std.proofs.Common.{◌≡◌, ◌≢◌, ℕ, ◌<◌, ◌≤◌, nat_le, true, List, [], ◌∷◌, ◌++◌, refl, ap, ◌∙◌, arith}
-use Rattle.std.proofs.lemmas.Bool.{leb-true, and_parts}
+use Rattle.std.proofs.Common.{◌≡◌, ◌≢◌, ℕ, ◌<◌, ◌≤◌, nat_le, true, List, [], ◌∷◌, ◌++◌, refl, ap, ◌∙◌, arith, leb-true}
+use Rattle.std.proofs.lemmas.Bool.{and_parts}
 use Rattle.pas_trace.specs.Texts.{put_first, pieces, without_empty_end, lines_of, words_of}
 use Rattle.pas_trace.specs.Numbers.{is_digit, all_digits}
 use Rattle.pas_trace.proofs.Splits.{pieces-at, pieces-off, end-after}

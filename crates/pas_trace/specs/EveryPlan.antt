@@ -1,17 +1,12 @@
 -- What the plan of every text keeps.
-use Rattle.std.specs.Prelude.{ℕ, ◌+◌, ◌-◌, ◌*◌, ◌%◌, ◌^◌, ◌<◌, ◌≤◌, ◌≡◌, ◌≢◌, ◌==◌, ◌||◌, Bool, true, false, if◌then◌else◌, List, [], ◌∷◌, ◌++◌, map, length, slice_index, Option, None, Some, MatchOption}
+use Rattle.std.specs.Prelude.{ℕ, ◌+◌, ◌-◌, ◌*◌, ◌%◌, ◌^◌, ◌<◌, ◌≤◌, ◌≡◌, ◌≢◌, ◌==◌, ◌||◌, Bool, true, false, if◌then◌else◌, List, [], ◌∷◌, ◌++◌, map, length}
+use Rattle.std.specs.Prelude.{slice_index, Option, None, Some, MatchOption}
 use Rattle.pas_profile.specs.Profiles.{IsValid, IsAdmitted}
 use Rattle.pas_profile.specs.declared.profile.Profile.{Profile}
 use Rattle.pas_trace.specs.Asked.{work_of, request_in, keeper_in, epoch_of, cost_of_task}
-use Rattle.pas_trace.specs.Reasons.{cost_of_size, actors_by}
+use Rattle.pas_trace.specs.{Reasons.cost_of_size, Reasons.actors_by, Plans.ops_of, Plans.phases_of, Plans.bounds_of}
 pub use Rattle.pas_trace.specs.Reasons.{records_of_chore}
-use Rattle.pas_trace.specs.Plans.{ops_of, phases_of, bounds_of}
-use Rattle.pas_trace.specs.declared.plan.What.{What}
-use Rattle.pas_trace.specs.declared.item.Request.{Request}
-use Rattle.pas_trace.specs.declared.plan.Task.{Task}
-use Rattle.pas_trace.specs.declared.plan.Work.{Work}
-use Rattle.pas_trace.specs.declared.plan.Op.{Op}
-use Rattle.pas_trace.specs.declared.plan.Plan.{Plan}
+use Rattle.pas_trace.specs.declared.{plan.What.What, item.Request.Request, plan.Task.Task, plan.Work.Work, plan.Op.Op, plan.Plan.Plan}
 
 -- the operations of all phases, in the order of the text
 abbrev pub all_ops : List (List Op) → List Op

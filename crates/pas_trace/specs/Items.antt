@@ -1,12 +1,10 @@
 -- What a line says: the lines of a trace, word by word.
-use Rattle.std.specs.Prelude.{ℕ, ◌-◌, ◌^◌, ◌==◌, nat_lt, nat_le, Bool, true, false, ◌&&◌, ◌||◌, if◌then◌else◌, List, [], ◌∷◌, Option, None, Some, codes, Result, Ok, Err}
-use Rattle.pas_trace.specs.Texts.{words_of}
-use Rattle.pas_trace.specs.Numbers.{number_of, address_of_word}
-use Rattle.pas_trace.specs.declared.item.Item.{Item}
+use Rattle.std.specs.Prelude.{ℕ, ◌-◌, ◌^◌, ◌==◌, nat_lt, nat_le, Bool, true, false, ◌&&◌, ◌||◌, if◌then◌else◌, List, [], ◌∷◌, Option, None, Some, codes, Result}
+use Rattle.std.specs.Prelude.{Ok, Err}
+use Rattle.pas_trace.specs.{Texts.words_of, Numbers.number_of, Numbers.address_of_word}
+use Rattle.pas_trace.specs.declared.{item.Item.Item, plan.Chore.Chore, fault.Reason.Reason}
 use Rattle.pas_trace.specs.declared.item.Item.TheVariants.{Blank, Shares, Guards, NextPhase, Operates, Scavenges}
 use Rattle.pas_trace.specs.declared.item.Wish.TheVariants.{Asks, Frees, FreesSized, FreesRaw, FreesRawSized, Remakes, Flushes, Stops}
-use Rattle.pas_trace.specs.declared.plan.Chore.{Chore}
-use Rattle.pas_trace.specs.declared.fault.Reason.{Reason}
 
 -- two words are the same bytes
 abbrev pub same_bytes : List ℕ → List ℕ → Bool

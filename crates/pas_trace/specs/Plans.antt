@@ -1,27 +1,16 @@
 -- The plan of a text, or its first fault.
-use Rattle.std.specs.Prelude.{ℕ, zero, suc, ◌+◌, ◌-◌, ◌^◌, ◌<◌, ◌≡◌, ◌==◌, ◌&&◌, nat_le, true, if◌then◌else◌, bit_or, List, [], ◌∷◌, ◌++◌, map, Option, None, Some, Result, Ok, Err}
+use Rattle.std.specs.Prelude.{ℕ, zero, suc, ◌+◌, ◌-◌, ◌^◌, ◌<◌, ◌≡◌, ◌==◌, ◌&&◌, nat_le, true, if◌then◌else◌, bit_or, List, [], ◌∷◌, ◌++◌, map, Option, None}
+use Rattle.std.specs.Prelude.{Some, Result, Ok, Err}
 use Rattle.pas_profile.specs.Requests.{room_in}
-use Rattle.pas_profile.specs.declared.profile.Profile.{Profile}
-use Rattle.pas_profile.specs.declared.name.Name.{Name}
-use Rattle.pas_trace.specs.declared.header.Header.{Header}
+use Rattle.pas_profile.specs.declared.{profile.Profile.Profile, name.Name.Name}
+use Rattle.pas_trace.specs.declared.{header.Header.Header, item.Item.Item, item.Wish.Wish, plan.Chore.Chore, fault.Reason.Reason, fault.TraceFault.TraceFault}
+use Rattle.pas_trace.specs.declared.{fault.ReadFault.ReadFault, fault.ReadFault.TheVariants.Trace, fault.ReadFault.TheVariants.NoMemory, plan.What.What}
+use Rattle.pas_trace.specs.declared.{plan.Op.Op, plan.Phase.Phase, plan.Phases.Phases, plan.Bounds.Bounds, plan.Plan.Plan}
 use Rattle.pas_trace.specs.Texts.{lines_of}
-use Rattle.pas_trace.specs.declared.item.Item.{Item}
 use Rattle.pas_trace.specs.declared.item.Item.TheVariants.{Blank, Shares, Guards, NextPhase, Operates, Scavenges}
-use Rattle.pas_trace.specs.declared.item.Wish.{Wish}
 use Rattle.pas_trace.specs.declared.item.Wish.TheVariants.{Asks, Frees, FreesSized, FreesRaw, FreesRawSized, Remakes, Flushes, Stops}
-use Rattle.pas_trace.specs.declared.plan.Chore.{Chore}
 use Rattle.pas_trace.specs.Reasons.{header_of, line_says, is_named, heap_of, actor_of, guard_in, is_guarded, actors_by, cost_of, record_bound}
-use Rattle.pas_trace.specs.declared.fault.Reason.{Reason}
-use Rattle.pas_trace.specs.declared.fault.TraceFault.{TraceFault}
-use Rattle.pas_trace.specs.declared.fault.ReadFault.{ReadFault}
-use Rattle.pas_trace.specs.declared.fault.ReadFault.TheVariants.{Trace, NoMemory}
-use Rattle.pas_trace.specs.declared.plan.What.{What}
 use Rattle.pas_trace.specs.declared.plan.What.TheVariants.{Alloc, Guarded, Free, FreeSized, Raw, RawSized, Remake, Flush, Stop, Tick, Pass, Idle}
-use Rattle.pas_trace.specs.declared.plan.Op.{Op}
-use Rattle.pas_trace.specs.declared.plan.Phase.{Phase}
-use Rattle.pas_trace.specs.declared.plan.Phases.{Phases}
-use Rattle.pas_trace.specs.declared.plan.Bounds.{Bounds}
-use Rattle.pas_trace.specs.declared.plan.Plan.{Plan}
 
 -- ---- the text, line by line: the items in order, or the fault of the lowest faulty line. `earlier` has the items before, the newest first
 abbrev pub fault_at : ℕ → Reason → TraceFault

@@ -1,17 +1,12 @@
 -- The faults of a text: on each line the first reason that applies, each check asking about the lines before.
-use Rattle.std.specs.Prelude.{ℕ, ◌+◌, ◌*◌, ◌/◌, ◌%◌, ◌==◌, nat_lt, nat_le, Bool, true, false, not, ◌&&◌, ◌||◌, if◌then◌else◌, List, [], ◌∷◌, Option, None, Some, codes, Result, Ok, Err}
+use Rattle.std.specs.Prelude.{ℕ, ◌+◌, ◌*◌, ◌/◌, ◌%◌, ◌==◌, nat_lt, nat_le, Bool, true, false, not, ◌&&◌, ◌||◌, if◌then◌else◌, List, [], ◌∷◌, Option, None, Some}
+use Rattle.std.specs.Prelude.{codes, Result, Ok, Err}
 use Rattle.pas_profile.specs.declared.profile.Profile.{Profile}
-use Rattle.pas_trace.specs.Texts.{words_of}
-use Rattle.pas_trace.specs.Numbers.{number_of}
-use Rattle.pas_trace.specs.declared.header.Header.{Header}
-use Rattle.pas_trace.specs.declared.item.Item.{Item}
+use Rattle.pas_trace.specs.{Texts.words_of, Numbers.number_of, Items.same_bytes, Items.item_of_line}
+use Rattle.pas_trace.specs.declared.{header.Header.Header, item.Item.Item, item.Wish.Wish, plan.Chore.Chore, fault.Reason.Reason}
 use Rattle.pas_trace.specs.declared.item.Item.TheVariants.{Blank, Shares, Guards, NextPhase, Operates, Scavenges}
-use Rattle.pas_trace.specs.declared.item.Wish.{Wish}
 use Rattle.pas_trace.specs.declared.item.Wish.TheVariants.{Asks, Frees, FreesSized, FreesRaw, FreesRawSized, Remakes, Flushes, Stops}
-use Rattle.pas_trace.specs.declared.plan.Chore.{Chore}
 use Rattle.pas_trace.specs.Wishes.{heap_in, sizing_in, name_made, name_freed, heap_made, asks_pages, holds_of, is_name}
-use Rattle.pas_trace.specs.Items.{same_bytes, item_of_line}
-use Rattle.pas_trace.specs.declared.fault.Reason.{Reason}
 
 -- ---- the header: `pas V pages P threads T heaps H age A`, each number within its limits
 -- the most pages of a region, by the version of its text

@@ -2,8 +2,7 @@
 use Rattle.std.specs.Prelude.{ℕ, not, nat_le, ◌*◌, ◌<◌, ◌≤◌, ◌^◌, ◌==◌, Bool, true, false, Option, None, Some, MatchOption}
 use Rattle.pas_profile.specs.Classes.{IsAlignment}
 use Rattle.pas_profile.specs.declared.profile.Profile.{Profile}
-use Rattle.pas_trace.specs.declared.item.Request.{Request}
-use Rattle.pas_trace.specs.declared.item.Wish.{Wish}
+use Rattle.pas_trace.specs.declared.item.{Request.Request, Wish.Wish}
 use Rattle.pas_trace.specs.declared.item.Wish.TheVariants.{Asks, Frees, FreesSized, FreesRaw, FreesRawSized, Remakes, Flushes, Stops}
 
 -- ---- the tables

@@ -1,7 +1,6 @@
 //! The operations of a trace, phase by phase, as they are read.
 ghost use Rattle.std.specs.Prelude.{◌≡◌, ◌++◌, ◌∷◌, [], Some, OnOk, IfOk, map};
-ghost use Rattle.pas_trace.specs.Told.{gathered_phases};
-ghost use Rattle.pas_trace.specs.Plans.{ops_of, add_last};
+ghost use Rattle.pas_trace.specs.{Told.gathered_phases, Plans.ops_of, Plans.add_last};
 
 use crate::plan::{Op, Phase, Phases};
 use std::alloc::{AllocError, Global};

@@ -1,7 +1,6 @@
 //! Lines that are taken apart before those in front of them are read.
 ghost use Rattle.std.specs.Prelude.{IfSome};
-ghost use Rattle.pas_trace.specs.FirstLines.{FirstSays};
-ghost use Rattle.pas_trace.specs.Lexed.{AreLexed};
+ghost use Rattle.pas_trace.specs.{FirstLines.FirstSays, Lexed.AreLexed};
 
 use crate::fronts::front_item;
 use crate::item::Item;

@@ -1,9 +1,6 @@
 //! Reading a trace on two threads: one takes the lines of a piece apart while the other reads the piece before.
 ghost use Rattle.std.specs.Prelude.{◌≡◌, ◌≤◌, ◌<◌, ◌+◌, ◌++◌, ◌^◌, ℕ, List, Ok, OnOk, length};
-ghost use Rattle.pas_trace.specs.Lexed.{AreLexed};
-ghost use Rattle.pas_trace.specs.Plans.{IsReading};
-ghost use Rattle.pas_trace.specs.Texts.{lines_of};
-ghost use Rattle.pas_trace.specs.Told.{Tells, IsRead};
+ghost use Rattle.pas_trace.specs.{Lexed.AreLexed, Plans.IsReading, Texts.lines_of, Told.Tells, Told.IsRead};
 ghost use Rattle.pas_trace.specs.declared.item.Item.{Item};
 
 use crate::fault::ReadFault;

@@ -1,8 +1,6 @@
 //! Which requests are guarded.
 ghost use Rattle.std.specs.Prelude.{◌≡◌, ◌<◌, ◌≤◌, ◌^◌, ◌&&◌, ℕ, length, slice_index};
-ghost use Rattle.pas_trace.specs.Reasons.{cost_of_size, is_sampled};
-ghost use Rattle.pas_trace.specs.Wishes.{is_large};
-ghost use Rattle.pas_trace.specs.Told.{CanSample, IsSampled, samples_next};
+ghost use Rattle.pas_trace.specs.{Reasons.cost_of_size, Reasons.is_sampled, Wishes.is_large, Told.CanSample, Told.IsSampled, Told.samples_next};
 
 use crate::requests::cost_of_allocation;
 use pas_profile::limits::MOST_BITFIT;

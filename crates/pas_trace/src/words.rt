@@ -1,7 +1,6 @@
 //! The words of a line, one after another.
 ghost use Rattle.std.specs.Prelude.{◌≡◌, ◌≢◌, ◌∷◌, [], ◌<◌, ◌≤◌, ℕ, length, slice_index, MatchOption};
-ghost use Rattle.pas_trace.specs.Texts.{words_of};
-ghost use Rattle.pas_trace.specs.Items.{same_bytes};
+ghost use Rattle.pas_trace.specs.{Texts.words_of, Items.same_bytes};
 
 use crate::pieces::piece_length;
 

@@ -1,41 +1,23 @@
 -- Two requests, a free and a stop, over any desk.
-use Rattle.std.proofs.Common.{◌≡◌, ℕ, ◌+◌, ◌^◌, ◌<◌, ◌≤◌, nat_le, Bool, true, false, List, [], ◌∷◌, ◌++◌, length, None, Ok, Err, Result, refl, ap, sym, ◌∙◌, subst, arith, length-append}
-use Rattle.std.proofs.lemmas.Bool.{leb-true}
-use Rattle.std.specs.Prelude.{MatchResult}
+use Rattle.std.proofs.Common.{◌≡◌, ℕ, ◌+◌, ◌^◌, ◌<◌, ◌≤◌, nat_le, Bool, true, false, List, [], ◌∷◌, ◌++◌, length, None, Ok, Err, Result, refl, ap, sym, ◌∙◌}
+use Rattle.std.proofs.Common.{subst, arith, length-append, leb-true, MatchResult}
 use Rattle.pas_profile.specs.Profiles.{IsValid, IsAdmitted}
-use Rattle.pas_profile.specs.declared.profile.Profile.{Profile}
-use Rattle.pas_profile.specs.declared.event.NoRoom.{NoRoom}
-use Rattle.pas_profile.specs.declared.event.FreeFault.{FreeFault}
-use Rattle.pas_cache.specs.Serves.{Wanted}
-use Rattle.pas_profile.specs.declared.name.Name.{Name}
-use Rattle.pas_profile.specs.declared.name.Block.{Block}
-use Rattle.pas_steps.specs.Views.{View}
-use Rattle.pas_steps.specs.Events.{events_of, events_by}
-use Rattle.pas_profile.specs.declared.event.Event.{Event}
-use Rattle.pas_steps.specs.Lists.{Whole}
+use Rattle.pas_profile.specs.declared.{profile.Profile.Profile, event.NoRoom.NoRoom, event.FreeFault.FreeFault, name.Name.Name, name.Block.Block}
+use Rattle.pas_profile.specs.declared.{event.Event.Event}
+use Rattle.pas_cache.specs.{Serves.Wanted, Caches.Cached, Caches.AtRest, Changes.EmptiesFull, Kinds.releasing}
+use Rattle.pas_steps.specs.{Views.View, Events.events_of, Events.events_by, Lists.Whole, Unknown.unknown_pages, Kinds.Only}
 use Rattle.pas_steps.specs.Desks.{Standing, Seat, CanCall, triples}
 use Rattle.pas_steps.specs.declared.step.Made.{Made}
-use Rattle.pas_steps.proofs.Adding.{can_call}
-use Rattle.pas_steps.proofs.Frames.{events_split, events_append}
-use Rattle.pas_steps.proofs.Unknown.{unknown_stays}
-use Rattle.pas_steps.specs.Unknown.{unknown_pages}
-use Rattle.pas_cache.specs.Caches.{Cached, AtRest}
-use Rattle.pas_free_log.specs.declared.log.Entry.{Entry}
-use Rattle.pas_free_log.specs.declared.noting.EndedRun.{EndedRun}
+use Rattle.pas_steps.proofs.{Adding.can_call, Frames.events_split, Frames.events_append, Unknown.unknown_stays}
+use Rattle.pas_free_log.specs.declared.{log.Entry.Entry, noting.EndedRun.EndedRun}
 use Rattle.pas_free_log.specs.Logs.{entry_of}
-use Rattle.pas_cache.specs.Changes.{EmptiesFull}
 use Rattle.pas_cache.specs.Calls.{Allocates, TakesEntry, RefusesName, Frees, StopsCache}
-use Rattle.pas_cache.proofs.Budget.{HasBudget, log_kept, emptied_events}
-use Rattle.pas_steps.specs.Kinds.{Only}
-use Rattle.pas_cache.specs.Kinds.{releasing}
-use Rattle.pas_cache.proofs.Stops.{spare_kept}
+use Rattle.pas_cache.proofs.{Budget.HasBudget, Budget.log_kept, Budget.emptied_events, Stops.spare_kept}
 
 -- the request is one that every profile admits
 pub admitted : (f : Profile) (size : ℕ) → size ≤ 2048 → IsValid f → IsAdmitted f size 16 0
 admitted f size small valid =
-    let pages = valid.some_page in
-    let heaps = valid.some_heap in
-    record { within = omega (arith, pages, small); aligned = (omega arith, omega arith, refl); of_profile = omega (arith, heaps) }
+    record { within = omega (arith, valid.some_page, small); aligned = (omega arith, omega arith, refl); of_profile = omega (arith, valid.some_heap) }
 
 pub budget_call : {σ : Standing} {c : Cached} {n spare : ℕ} → CanCall σ (λ v. AtRest σ.seat.profile c v × (n + unknown_pages σ.seat.profile v ≤ spare)) → CanCall σ (HasBudget σ.seat.profile c n spare)
 budget_call can = record { view = can.view; whole = can.whole; stood = can.stood; met = record { rest = can.met.0; room = can.met.1 } }
@@ -102,8 +84,7 @@ pub stop_room : {σ σ' : Standing} {c c' : Cached} {name : Name} {answer : Resu
 stop_room {spare = spare} {spare' = spare'} none h can law law' =
     let same : spare' ≡ spare = spare_kept h.calls.adds (rest_call can) (subst (Only releasing) (sym (freed_one (empty_few none) h).no_steps) tt) law law' in
     let few = one_logged none h in
-    let room = can.met.room in
-    omega (arith, same, few, room)
+    omega (arith, same, few, can.met.room)
 
 -- a free into a log that isn't full leaves the room that there was
 pub freed_budget : {σ σ' : Standing} {c c' : Cached} {name : Name} {answer : Result (Unit {0}) FreeFault} {n spare spare' : ℕ} → length c.log < 64 → (h : Frees (entry_of name) c c' σ σ' answer) → CanCall σ (HasBudget σ.seat.profile c n spare)
@@ -154,6 +135,3 @@ stopped_budget {σ} {σ'} {c} {c'} {n} {spare} {spare'} one h can law law' =
 pub stopped_call : {σ σ' : Standing} {c c' : Cached} → StopsCache c c' σ σ' → CanCall σ (AtRest σ.seat.profile c) → CanCall σ' (AtRest σ'.seat.profile c')
 stopped_call {σ} {σ'} {c} {c'} h can = can_call {C = AtRest σ.seat.profile c} {D = AtRest σ'.seat.profile c'} h.calls.adds can
     (λ v l stood met. subst (λ (s : Seat). AtRest s.profile c' ((h.stopped ++ h.flushed) ++ v)) (sym h.calls.adds.seat_is) (h.calls.leads.from v met (h.calls.adds.agreed v l stood met)).0)
-
-pub not_full : (c : Cached) (P : Type 0) → c.log ≡ [] → length c.log ≡ 64 → P
-not_full c P none full = let n : length c.log ≡ 0 = ap length none in absurd (omega (arith, n, full))

@@ -1,16 +1,9 @@
 -- Requests one after another, and how far they have come.
 use Rattle.std.proofs.Common.{◌≡◌, ℕ, ◌+◌, ◌≤◌, [], ◌++◌, length, Bool, None, Result, refl, sym, ◌∙◌, subst, arith}
-use Rattle.pas_profile.specs.declared.name.Block.{Block}
-use Rattle.pas_profile.specs.declared.event.NoRoom.{NoRoom}
-use Rattle.pas_steps.specs.Desks.{Standing, Seat, CanCall}
-use Rattle.pas_steps.specs.Events.{events_of}
-use Rattle.pas_steps.specs.Lists.{Whole}
-use Rattle.pas_steps.specs.Unknown.{unknown_pages}
-use Rattle.pas_steps.specs.Views.{View}
+use Rattle.pas_profile.specs.declared.{name.Block.Block, event.NoRoom.NoRoom}
+use Rattle.pas_steps.specs.{Desks.Standing, Desks.Seat, Desks.CanCall, Events.events_of, Lists.Whole, Unknown.unknown_pages, Views.View}
 use Rattle.pas_steps.proofs.Called.{call_none, call_then}
-use Rattle.pas_cache.specs.Caches.{Cached, AtRest}
-use Rattle.pas_cache.specs.Calls.{Allocates}
-use Rattle.pas_cache.specs.Serves.{Wanted}
+use Rattle.pas_cache.specs.{Caches.Cached, Caches.AtRest, Calls.Allocates, Serves.Wanted}
 use Rattle.pas_cache.proofs.Budget.{HasBudget, budget_left, log_kept}
 use Rattle.pas_trials.specs.Borrowing.{Borrows}
 

@@ -1,8 +1,7 @@
 -- What a view meets after a deed, and after a look at a deed word.
 use Rattle.std.proofs.Common.{◌≡◌, ℕ, ◌&&◌, ◌==◌, if◌then◌else◌, ◌∷◌, ap, sym, ◌∙◌, subst}
 use Rattle.pas_profile.specs.Directories.{deed_word_of}
-use Rattle.pas_profile.specs.declared.directory.Directory.{Directory}
-use Rattle.pas_profile.specs.declared.word.Word.TheVariants as Word
+use Rattle.pas_profile.specs.declared.{directory.Directory.Directory, word.Word.Word}
 use Rattle.pas_steps.specs.Desks.{made}
 use Rattle.pas_steps.specs.Views.{View, Rests, ByDeed, had_after, has_right, known_deed, KnowsDeed}
 use Rattle.pas_steps.specs.declared.step.Step.TheVariants.{Look, Deed}

@@ -1,18 +1,11 @@
 -- Ends of one name by rooms, one after the other, over any desk.
 use Rattle.std.proofs.Common.{◌≡◌, ℕ, ◌+◌, ◌%◌, ◌≤◌, List, [], ◌∷◌, ◌++◌, length, refl, arith}
 use Rattle.pas_profile.specs.Profiles.{IsValid}
-use Rattle.pas_profile.specs.declared.name.Name.{Name}
-use Rattle.pas_profile.specs.declared.profile.Profile.{Profile}
-use Rattle.pas_profile.specs.declared.word.Word.TheVariants as Word
-use Rattle.pas_steps.specs.Allowed.{IsStepOf, IsEpochKnown}
+use Rattle.pas_profile.specs.declared.{name.Name.Name, profile.Profile.Profile, word.Word.Word}
+use Rattle.pas_steps.specs.{Allowed.IsStepOf, Allowed.IsEpochKnown, Events.event_of, Events.events_by, Views.View, Views.known_epoch, Views.epoch_of}
 use Rattle.pas_steps.specs.Desks.{Standing, made, Makes, CanMake, CanCall, AnyView, Adds}
-use Rattle.pas_steps.specs.Events.{event_of, events_by}
-use Rattle.pas_steps.specs.Views.{View, known_epoch, epoch_of}
-use Rattle.pas_steps.specs.declared.step.Made.{Made}
-use Rattle.pas_steps.specs.declared.step.Step.TheVariants.{Look, EndSized}
-use Rattle.pas_steps.proofs.Adding.{adds_none, adds_step, can_step}
-use Rattle.pas_steps.proofs.Frames.{with_few}
-use Rattle.pas_steps.proofs.SpareRoom.{Spares, spare_falls}
+use Rattle.pas_steps.specs.declared.step.{Made.Made, Step.TheVariants.Look, Step.TheVariants.EndSized}
+use Rattle.pas_steps.proofs.{Adding.adds_none, Adding.adds_step, Adding.can_step, Frames.with_few, SpareRoom.Spares, SpareRoom.spare_falls}
 
 abbrev pub name : Name
 name = record { address = record { 0 = 4096 }; turn = 0 }
@@ -36,7 +29,7 @@ ends {room = room} {a = a} r makes = record {
 }
 
 pub of_region : (f : Profile) (room : ℕ) → IsValid f → 16 ≤ room → room ≤ 4096 → room % 16 ≡ 0 → IsStepOf f (EndSized name room)
-of_region f room valid low high whole = let pages = valid.some_page in (((omega arith, omega (arith, pages)), refl, omega arith, omega (arith, low), omega (arith, high, pages)), whole)
+of_region f room valid low high whole = (((omega arith, omega (arith, valid.some_page)), refl, omega arith, omega (arith, low), omega (arith, high, valid.some_page)), whole)
 
 pub may_end : {σ σ1 : Standing} {n room : ℕ} → ReadsOn σ σ1 n → CanCall σ AnyView → IsStepOf σ.seat.profile (EndSized name room) → CanMake σ1 (EndSized name room)
 may_end r call of = can_step r.adds call of (λ v l stood met. r.knows v)

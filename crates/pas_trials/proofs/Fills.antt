@@ -1,8 +1,7 @@
 -- What a refill gave, and its stop.
 use Rattle.std.proofs.Common.{◌≡◌, ℕ, ◌++◌, List, ap, sym, ◌∙◌, subst}
 use Rattle.pas_profile.specs.declared.profile.Profile.{Profile}
-use Rattle.pas_steps.specs.Views.{View}
-use Rattle.pas_steps.specs.Agreement.{Agreed}
+use Rattle.pas_steps.specs.{Views.View, Agreement.Agreed}
 use Rattle.pas_steps.specs.declared.step.Made.{Made}
 use Rattle.pas_search.specs.Searches.{MaySearch}
 use Rattle.pas_segregated.specs.Refills.{exclusive_slots, GivesSlots}

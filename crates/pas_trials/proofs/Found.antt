@@ -1,11 +1,7 @@
 -- What the searches found, said of the seat in which all of them began.
 use Rattle.std.proofs.Common.{◌≡◌, ℕ, ◌≤◌, Option, None, Some, MatchOption, List, subst}
-use Rattle.pas_profile.specs.declared.directory.Directory.{Directory}
-use Rattle.pas_profile.specs.declared.event.NoRoom.{NoRoom}
-use Rattle.pas_profile.specs.declared.profile.Profile.{Profile}
-use Rattle.pas_steps.specs.Desks.{Standing}
-use Rattle.pas_steps.specs.Past.{Once}
-use Rattle.pas_steps.specs.Evidence.{DeedHere}
+use Rattle.pas_profile.specs.declared.{directory.Directory.Directory, event.NoRoom.NoRoom, profile.Profile.Profile}
+use Rattle.pas_steps.specs.{Desks.Standing, Past.Once, Evidence.DeedHere}
 use Rattle.pas_scan.specs.Scan.{NoneOffered, IsFirstOffered, FindsOffered, IsFirstBare, FindsBare, IsVerdict, Judges}
 
 pub offered_found : {σ σ' : Standing} {d' : Directory} {n n' : ℕ} (o : Option ℕ) (f : Profile) (d : Directory) → σ.seat.profile ≡ f → d' ≡ d → n ≡ 1 → (h : FindsOffered d' n σ σ' n' o)

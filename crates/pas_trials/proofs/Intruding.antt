@@ -1,26 +1,11 @@
 -- What an actor that has nothing did.
-use Rattle.std.proofs.Common.{◌≡◌, ℕ, ◌≤◌, [], ◌++◌, Bool, Result, sym, subst, inr, arith}
-use Rattle.pas_profile.specs.declared.name.Block.{Block}
-use Rattle.pas_profile.specs.declared.event.NoRoom.{NoRoom}
-use Rattle.pas_steps.specs.Calls.{Calls}
-use Rattle.pas_steps.specs.Clear.{HasNothing}
-use Rattle.pas_steps.specs.Desks.{Standing, Seat, CanCall}
-use Rattle.pas_steps.specs.Views.{View}
+use Rattle.std.proofs.Common.{◌≡◌, ◌≤◌, [], ◌++◌, Bool, Result, sym, subst}
+use Rattle.pas_profile.specs.declared.{name.Block.Block, event.NoRoom.NoRoom}
+use Rattle.pas_steps.specs.{Calls.Calls, Clear.HasNothing, Desks.Standing, Desks.Seat, Desks.CanCall, Views.View}
 use Rattle.pas_steps.proofs.Called.{call_as, call_then, next_call}
-use Rattle.pas_cache.specs.Caches.{Cached, AtRest}
-use Rattle.pas_cache.specs.Calls.{MayAllocate, Allocates, StopsCache}
-use Rattle.pas_cache.specs.Serves.{Wanted}
+use Rattle.pas_cache.specs.{Caches.Cached, Caches.AtRest, Calls.Allocates, Calls.StopsCache, Serves.Wanted}
 use Rattle.pas_cache.proofs.FlushesAndFrees.{rests_empty}
 use Rattle.pas_plain.specs.Storms.{Acts}
-
--- with an empty cache and this much room it may ask for a block
-pub may_borrow : {σ : Standing} {c : Cached} {spare : ℕ} → c.locals ≡ [] → c.log ≡ [] → 70 ≤ spare → CanCall σ HasNothing → CanCall σ (MayAllocate σ.seat.profile c spare)
-may_borrow {σ} {c} {spare} locals log room can = record {
-  view = can.view;
-  whole = can.whole;
-  stood = can.stood;
-  met = record { rest = rests_empty σ.seat.profile c can.view locals log can.met; room = (omega (arith, room), inr (omega (arith, room))) };
-}
 
 module _ {σ σ1 : Standing} {c c1 : Cached} {wanted : Wanted} {tells : Bool} {answer : Result Block NoRoom} (locals : c.locals ≡ []) (log : c.log ≡ []) (borrows : Allocates wanted tells c c1 σ σ1 answer) where
   from_nothing : Calls σ σ1 HasNothing (λ v w. AtRest σ.seat.profile c1 w) borrows.steps

@@ -1,20 +1,12 @@
 -- Requests for whole pages one after another, and frees of pages.
 use Rattle.std.proofs.Common.{◌≡◌, ℕ, ◌+◌, ◌≤◌, ◌++◌, [], length, Bool, Option, Ok, Err, Result, refl, sym, subst, arith}
-use Rattle.pas_profile.specs.declared.event.FreeFault.{FreeFault}
-use Rattle.pas_profile.specs.declared.event.NoRoom.{NoRoom}
-use Rattle.pas_profile.specs.declared.name.Block.{Block}
-use Rattle.pas_profile.specs.declared.name.Name.{Name}
-use Rattle.pas_profile.specs.declared.profile.Profile.{Profile}
+use Rattle.pas_profile.specs.declared.{event.FreeFault.FreeFault, event.NoRoom.NoRoom, name.Block.Block, name.Name.Name, profile.Profile.Profile}
 use Rattle.pas_steps.specs.Desks.{Standing, Seat, CanCall, triples}
-use Rattle.pas_steps.specs.Events.{events_by}
-use Rattle.pas_steps.specs.Views.{View}
-use Rattle.pas_steps.proofs.SpareRoom.{Spares, spare_falls}
-use Rattle.pas_steps.proofs.Unknown.{unknown_stays}
-use Rattle.pas_cache.specs.Caches.{Cached}
+use Rattle.pas_steps.specs.{Events.events_by, Views.View}
+use Rattle.pas_steps.proofs.{SpareRoom.Spares, SpareRoom.spare_falls, Unknown.unknown_stays}
+use Rattle.pas_cache.specs.{Caches.Cached, Serves.Wanted, Serves.wanted_for, Serves.pages_of}
 use Rattle.pas_cache.specs.Calls.{MayAllocatePages, AllocatesPages, most_events, Frees, FlushesLog}
-use Rattle.pas_cache.specs.Serves.{Wanted, wanted_for, pages_of}
-use Rattle.pas_cache.proofs.Budget.{HasBudget, log_kept}
-use Rattle.pas_cache.proofs.Routes.{is_large, pages_asked}
+use Rattle.pas_cache.proofs.{Budget.HasBudget, Budget.log_kept, Routes.is_large, Routes.pages_asked}
 use Rattle.pas_free_log.specs.Logs.{entry_of}
 use Rattle.pas_trials.proofs.Borrowed.{one_logged, freed_one}
 use Rattle.pas_trials.specs.Borrowing.{RestsWithRoom}

@@ -1,11 +1,8 @@
 -- What requests of a cache leave behind.
 use Rattle.std.specs.Prelude.{ℕ, List, ◌≡◌, ◌+◌, ◌≤◌}
 use Rattle.pas_profile.specs.declared.profile.Profile.{Profile}
-use Rattle.pas_cache.specs.Caches.{Cached, AtRest}
-use Rattle.pas_cache.specs.Calls.{Rests}
-use Rattle.pas_steps.specs.Desks.{Standing}
-use Rattle.pas_steps.specs.Unknown.{unknown_pages}
-use Rattle.pas_steps.specs.Views.{View}
+use Rattle.pas_cache.specs.{Caches.Cached, Caches.AtRest, Calls.Rests}
+use Rattle.pas_steps.specs.{Desks.Standing, Unknown.unknown_pages, Views.View}
 use Rattle.pas_steps.specs.declared.step.Made.{Made}
 
 -- some steps were made, after which the actor is at rest with the other cache, whose log is the same

@@ -1,7 +1,6 @@
 -- What refills leave behind.
 use Rattle.std.specs.Prelude.{List}
-use Rattle.pas_steps.specs.Views.{View}
-use Rattle.pas_steps.specs.Desks.{Standing, Adds}
+use Rattle.pas_steps.specs.{Views.View, Desks.Standing, Desks.Adds}
 use Rattle.pas_steps.specs.declared.step.Made.{Made}
 
 -- a call made some steps

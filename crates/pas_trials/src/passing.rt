@@ -1,8 +1,7 @@
 //! An actor ages a page that may be empty, and makes a pass.
 ghost use Rattle.std.specs.Prelude.{◌≡◌, ◌^◌, ◌<◌, ◌≤◌};
 ghost use Rattle.pas_profile.specs.Profiles.{IsPage};
-ghost use Rattle.pas_steps.specs.Clear.{HasNothing};
-ghost use Rattle.pas_steps.specs.Desks.{CanCall};
+ghost use Rattle.pas_steps.specs.{Clear.HasNothing, Desks.CanCall};
 ghost use Rattle.pas_utility.specs.Outcomes.{places_of};
 ghost use Rattle.pas_trials.specs.Filling.{Steps};
 

@@ -1,9 +1,8 @@
 //! A thread takes a block from its cache, and ends it by its room.
 ghost use Rattle.std.specs.Prelude.{◌≡◌, ◌+◌, ◌≤◌, false};
 ghost use Rattle.pas_bits.specs.Bits.{has_bit};
-ghost use Rattle.pas_steps.specs.Desks.{AnyView, CanCall};
+ghost use Rattle.pas_steps.specs.{Desks.AnyView, Desks.CanCall, Unknown.unknown_pages};
 ghost use Rattle.pas_cache.specs.Caches.{cached, AtRest};
-ghost use Rattle.pas_steps.specs.Unknown.{unknown_pages};
 
 use pas_cache::ThreadCache;
 use pas_profile::{Address, Block, Name, NoRoom, Word};

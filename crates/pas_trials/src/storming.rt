@@ -1,8 +1,6 @@
 //! Foreign actors that free or borrow a block between the steps of another one.
 ghost use Rattle.std.specs.Prelude.{◌≡◌, ◌≤◌, ◌+◌, ◌*◌, [], true};
-ghost use Rattle.pas_steps.specs.Clear.{HasNothing};
-ghost use Rattle.pas_steps.specs.Desks.{CanCall};
-ghost use Rattle.pas_steps.specs.Unknown.{unknown_pages};
+ghost use Rattle.pas_steps.specs.{Clear.HasNothing, Desks.CanCall, Unknown.unknown_pages};
 ghost use Rattle.pas_free_log.specs.Conditions.{IsNameOf};
 ghost use Rattle.pas_cache.specs.Caches.{cached, AtRest};
 ghost use Rattle.pas_trials.specs.Borrowing.{Borrows};

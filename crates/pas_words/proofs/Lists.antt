@@ -1,9 +1,6 @@
 -- Lists of words that are accepted.
-use Rattle.std.proofs.Common.{◌≡◌, ℕ, ◌≤◌, ◌<◌, Bool, false, List, [], ◌∷◌, IsTrue, Bor, get_or, length, ap, ◌∙◌, sym, inl, inr, arith, nat_eq, refl}
-use Rattle.std.specs.Prelude.{codes}
-use Rattle.std.proofs.lemmas.Bool.{false≢true}
-use Rattle.std.proofs.lemmas.Slice.Eq.{slice_eq-Decides}
-use Rattle.std.proofs.lemmas.Bool.Decides.{Decides-eqb}
+use Rattle.std.proofs.Common.{◌≡◌, ℕ, ◌≤◌, ◌<◌, Bool, false, List, [], ◌∷◌, IsTrue, Bor, get_or, length, ap, ◌∙◌, sym, inl, inr, arith, nat_eq, refl, codes}
+use Rattle.std.proofs.lemmas.{Bool.false≢true, Slice.Eq.slice_eq-Decides, Bool.Decides.Decides-eqb}
 use Rattle.std.specs.Cmp.Lexicographic.{pointwise}
 use Rattle.pas_trace.specs.Numbers.{number_of}
 use Rattle.pas_words.specs.Words.{texts_of, word_of, IsReplaying, IsChecking, IsGen, IsNumbers, IsAccepted}

@@ -1,10 +1,8 @@
 -- What the words of a call come to.
 use Rattle.std.specs.Prelude.{ℕ, List}
 use Rattle.pas_words.specs.Words.{IsReplaying, IsChecking, IsGen, IsAccepted}
-use Rattle.pas_words.specs.declared.words.Call.{Call}
-use Rattle.pas_words.specs.declared.words.Call.TheVariants.{Replay, Check, Gen}
-use Rattle.pas_words.specs.declared.words.Misread.{Misread}
-use Rattle.pas_words.specs.declared.words.Misread.TheVariants.{Usage, Memory}
+use Rattle.pas_words.specs.declared.words.{Call.Call, Call.TheVariants.Replay, Call.TheVariants.Check, Call.TheVariants.Gen, Misread.Misread}
+use Rattle.pas_words.specs.declared.words.{Misread.TheVariants.Usage, Misread.TheVariants.Memory}
 
 -- the words ask for the call
 abbrev pub IsCall : List (List ℕ) → Call → Type 0

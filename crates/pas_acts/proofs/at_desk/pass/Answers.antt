@@ -12,12 +12,10 @@ pass-requires-clause-room g c = pass_room c.requires.stands.1 (g.D.Desk.spare_of
 pub pass-requires-clause-records : goal.pass-requires-clause-records
 pass-requires-clause-records g c =
     let at = c.requires.stands.3 in
-    let spare = at.spare in
     let pages = ap (λ (h : Profile). h.pages) at.sits.profile in
-    omega (arith, spare, pages)
+    omega (arith, at.spare, pages)
 
 pub returns-clause-passes : goal.returns-clause-passes
 returns-clause-passes g c = λ f later p at.
-    let few = c.pass.ensures.few in
     let pages = ap (λ (h : Profile). h.pages) at.sits.profile in
-    has_passed at c.pass.ensures.passes (omega (arith, few, pages)) c.pass.ensures.room
+    has_passed at c.pass.ensures.passes (omega (arith, c.pass.ensures.few, pages)) c.pass.ensures.room

@@ -1,17 +1,13 @@
 use Rattle.std.proofs.Common.{◌∷◌, ◌++◌, ◌≢◌, Option, Some, refl, ap, sym, ◌∙◌, subst}
-use Rattle.pas_profile.specs.declared.profile.Profile.{Profile}
-use Rattle.pas_profile.specs.declared.name.Block.{Block}
-use Rattle.pas_trace.specs.Acts.{Settles}
-use Rattle.pas_trace.specs.Asked.{request_of}
+use Rattle.pas_profile.specs.declared.{profile.Profile.Profile, name.Block.Block}
+use Rattle.pas_trace.specs.{Acts.Settles, Asked.request_of}
 use Rattle.pas_answers.specs.Calls.{MayStand, named_with}
 use Rattle.pas_answers.proofs.Kept.{own_what, freed_task, named_task}
-use Rattle.pas_acts.specs.NameBooks.{known_in, requests_in}
-use Rattle.pas_acts.specs.Pairs.{TriesTask, for_guards}
-use Rattle.pas_acts.proofs.Alone.{stands_at}
+use Rattle.pas_acts.specs.{NameBooks.known_in, NameBooks.requests_in, Pairs.TriesTask, Pairs.for_guards}
+use Rattle.pas_acts.proofs.{Alone.stands_at, own.operate.Goals.in-Some, own.operate.Goals.in-None}
 use Rattle.pas_acts.proofs.Pairing.{may_try_task, may_next, pair_given, pair_left}
 use Rattle.pas_acts.proofs.Working.{no_chore, may_operate, op_rests, its_fit, its_own, room_now, operated}
 use Rattle.pas_acts.proofs.own.operate.Goals as goal
-use Rattle.pas_acts.proofs.own.operate.Goals.{in-Some, in-None}
 
 pub tried-requires : goal.tried-requires
 tried-requires g c =

@@ -1,6 +1,5 @@
 use Rattle.std.proofs.Common.{◌∙◌, sym, refl, arith}
-use Rattle.pas_trace.specs.declared.plan.Op.{Op}
-use Rattle.pas_trace.specs.declared.plan.What.TheVariants.{Alloc}
+use Rattle.pas_trace.specs.declared.plan.{Op.Op, What.TheVariants.Alloc}
 use Rattle.pas_acts.proofs.Working.{begins, stands_before, goes_on, skips, ends}
 use Rattle.pas_acts.proofs.own.work.Goals as goal
 use Rattle.pas_acts.proofs.own.work.Goals.{then-op-actor, else-op-actor}
@@ -13,10 +12,7 @@ loop-op-init g c = record { far = λ f keeper later more p at. begins c.args.ops
 
 pub overflow_add-number : goal.overflow_add-number
 overflow_add-number g c =
-    let low = c.loop-op.invariant.number in
-    let lt = c.loop-op-test.true in
-    let few = c.requires.few in
-    (omega (arith, low, lt, few))
+    (omega (arith, c.loop-op.invariant.number, c.loop-op-test.true, c.requires.few))
 
 pub operate_by_kind-requires : goal.operate_by_kind-requires
 operate_by_kind-requires g c =
@@ -27,21 +23,19 @@ operate_by_kind-requires g c =
 pub loop-op-preserved : goal.loop-op-preserved
 loop-op-preserved g c = elim c.if-op-actor.branch [
   | then-op-actor w ↦
-      let low = c.loop-op.invariant.number in
       rw (w.desk-is, w.cache-is, w.keeper-is, w.requests-is, w.out-is, w.number-is) (record {
         far = λ f keeper later more p at.
             let so = c.loop-op.invariant.far f keeper later more p at in
             goes_on c.args.ops.now past c.loop-op-test.true (w.if-op-actor.true ∙ c.actor-actor.ensures) so
             (w.operate_by_kind.ensures.works f keeper _ later more so.2.reached (stands_before c.args.ops.now past c.loop-op-test.true (w.if-op-actor.true ∙ c.actor-actor.ensures) so));
-        number = omega (arith, low);
+        number = omega (arith, c.loop-op.invariant.number);
         home = w.operate_by_kind.ensures.home ∙ c.loop-op.invariant.home;
         keeps_home = w.operate_by_kind.ensures.keeps_home ∙ c.loop-op.invariant.keeps_home;
       })
   | else-op-actor w ↦
-      let low = c.loop-op.invariant.number in
       rw (w.desk-is, w.cache-is, w.keeper-is, w.requests-is, w.out-is, w.number-is) (record {
         far = λ f keeper later more p at. skips c.args.ops.now past c.loop-op-test.true (λ e. w.if-op-actor.false (e ∙ sym c.actor-actor.ensures)) (c.loop-op.invariant.far f keeper later more p at);
-        number = omega (arith, low);
+        number = omega (arith, c.loop-op.invariant.number);
         home = c.loop-op.invariant.home;
         keeps_home = c.loop-op.invariant.keeps_home;
       })

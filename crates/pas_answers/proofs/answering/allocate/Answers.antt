@@ -1,8 +1,7 @@
 use Rattle.std.proofs.Common.{None, Some, Ok, Err, ap, sym, subst, ◌≡◌}
 use Rattle.pas_trace.specs.declared.plan.What.TheVariants as TheWhat
 use Rattle.pas_cache.specs.Caches.{cached}
-use Rattle.pas_answers.specs.Calls.{PerformsMeant}
-use Rattle.pas_answers.specs.Indexes.{IsNamedFor, request_made}
+use Rattle.pas_answers.specs.{Calls.PerformsMeant, Indexes.IsNamedFor, Indexes.request_made}
 use Rattle.pas_answers.proofs.Kept.{none_stands}
 use Rattle.pas_answers.proofs.Requests.{can_request, serves, performs_request, given_stands}
 use Rattle.pas_answers.proofs.answering.allocate.Goals as goal

@@ -1,7 +1,6 @@
 use Rattle.std.proofs.Common.{◌≡◌, ◌∙◌, arith, length, drop}
 use Rattle.pas_cache.specs.Caches.{cached}
-use Rattle.pas_answers.specs.Calls.{what_of}
-use Rattle.pas_answers.specs.Indexes.{IsNamedFor, request_made}
+use Rattle.pas_answers.specs.{Calls.what_of, Indexes.IsNamedFor, Indexes.request_made}
 use Rattle.pas_answers.proofs.Records.{can_rest, shown_longer, records_fit, said_fits, answers_silent, answers_said}
 use Rattle.pas_answers.proofs.answering.answer_meant.Goals as goal
 

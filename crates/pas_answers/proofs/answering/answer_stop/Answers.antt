@@ -1,13 +1,12 @@
 use Rattle.std.proofs.Common.{◌∙◌, Option, ℕ, None, arith, refl}
-use Rattle.pas_trace.specs.declared.plan.Task.TheVariants as Task
-use Rattle.pas_trace.specs.declared.plan.What.TheVariants.{Stop}
+use Rattle.pas_trace.specs.declared.plan.{Task.Task, What.TheVariants.Stop}
 use Rattle.pas_cache.specs.Caches.{cached}
 use Rattle.pas_answers.proofs.Frees.{performs_stop}
 use Rattle.pas_answers.proofs.Records.{can_rest, shown_longer, records_fit, answers_silent}
 use Rattle.pas_answers.proofs.answering.answer_stop.Goals as goal
 
 pub stop-requires-clause-room : goal.stop-requires-clause-room
-stop-requires-clause-room g c = let room = c.requires.can.met.may.room in omega (arith, room)
+stop-requires-clause-room g c = omega (arith, c.requires.can.met.may.room)
 
 pub stop-requires-clause-can : goal.stop-requires-clause-can
 stop-requires-clause-can g c = can_rest (cached c.args.cache.now) Stop (g.D.Desk.spare_of c.args.desk.now) c.args.out.now c.requires.can

@@ -1,8 +1,7 @@
 use Rattle.std.proofs.Common.{refl, sym, subst, ◌≡◌}
-use Rattle.pas_trace.specs.declared.plan.Task.TheVariants as Task
+use Rattle.pas_trace.specs.declared.plan.Task.{Task}
 use Rattle.pas_cache.specs.Caches.{cached}
-use Rattle.pas_answers.specs.Calls.{what_of, PerformsMeant}
-use Rattle.pas_answers.specs.Indexes.{IsNamedFor, request_made}
+use Rattle.pas_answers.specs.{Calls.what_of, Calls.PerformsMeant, Indexes.IsNamedFor, Indexes.request_made}
 use Rattle.pas_answers.proofs.Frees.{can_log, fits_task, not_asked, performs_free, performs_skip, performs_raw, performs_flush, performs_stop}
 use Rattle.pas_answers.proofs.Requests.{can_unguarded, guarded_performs}
 use Rattle.pas_answers.proofs.Reallocations.{can_resize, admitted_there, performs_move, performs_no_move}

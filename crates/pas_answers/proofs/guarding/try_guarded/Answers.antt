@@ -1,5 +1,4 @@
-use Rattle.std.proofs.Common.{◌∙◌, ◌++◌, List, ap, arith, length, length-append, drop}
-use Rattle.std.specs.Prelude.{map}
+use Rattle.std.proofs.Common.{◌∙◌, ◌++◌, List, ap, arith, length, length-append, drop, map}
 use Rattle.std.proofs.lemmas.List.{length-map}
 use Rattle.pas_report.specs.Rooms.{records_in}
 use Rattle.pas_report.specs.declared.record.Record.{Record}
@@ -10,9 +9,7 @@ use Rattle.pas_answers.proofs.guarding.try_guarded.Goals as goal
 pub raise-block-requires-clause-book : goal.raise-block-requires-clause-book
 raise-block-requires-clause-book g c =
     let fewer = fewer_up c.sweep.ensures.sweeps in
-    let place = c.requires.can.met.place in
-    let size = c.sweep.ensures.size in
-    omega (arith, fewer, place, size)
+    omega (arith, fewer, c.requires.can.met.place, c.sweep.ensures.size)
 
 pub raise-block-requires-clause-can : goal.raise-block-requires-clause-can
 raise-block-requires-clause-can g c =
@@ -28,8 +25,7 @@ pub push_events-requires-clause-room : goal.push_events-requires-clause-room
 push_events-requires-clause-room g c =
     let fits = told_fits (asking c.args.name c.args.heap c.args.size c.args.align) c.args.book.now c.sweep.new.self c.raise-block.new.self c.args.out.now c.sweep.new.lowered c.raise-block.result _ (omega arith) c.requires.large c.sweep.ensures.sweeps c.raise-block.ensures.raises
     (g.D.Desk.spare_of c.args.desk.now) c.shown-before.result.now c.shown.result.now (λ v l stood. c.shown-before.ensures ∙ g.met.D.Desk.shows c.sweep.new.desk v l stood) (λ v l stood. c.shown.ensures ∙ g.met.D.Desk.shows c.raise-block.new.desk v l stood) c.requires.can in
-    let room = c.sweep.ensures.room in
-    omega (arith, fits, room)
+    omega (arith, fits, c.sweep.ensures.room)
 
 pub push-requires : goal.push-requires
 push-requires g c =
@@ -38,9 +34,7 @@ push-requires g c =
     let events = drop (length c.shown-before.result.now) c.shown.result.now in
     let added = ap (λ (rs : List Record). length rs) c.push_events.ensures.added ∙ length-append (records_in c.sweep.new.lowered) (map Record.Event events) in
     let same = length-map events Record.Event in
-    let room = c.push_events.ensures.room in
-    let before = c.sweep.ensures.room in
-    omega (arith, fits, added, same, room, before)
+    omega (arith, fits, added, same, c.push_events.ensures.room, c.sweep.ensures.room)
 
 pub returns-in-Some-clause-tries : goal.returns-in-Some-clause-tries
 returns-in-Some-clause-tries g c =

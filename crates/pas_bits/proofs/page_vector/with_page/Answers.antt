@@ -1,5 +1,4 @@
-use Rattle.std.proofs.Common.{◌%◌, ap, ◌∙◌}
-use Rattle.std.proofs.Common.{bit_or}
+use Rattle.std.proofs.Common.{◌%◌, ap, ◌∙◌, bit_or}
 use Rattle.pas_bits.specs.Bits.{has_bit}
 use Rattle.pas_bits.proofs.PageVectors.{page_added}
 use Rattle.pas_bits.proofs.page_vector.with_page.Goals as goal

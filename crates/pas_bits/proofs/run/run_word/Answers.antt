@@ -9,7 +9,7 @@ overflow_sub-result c =
     let le = cut_le c.args.first (c.args.first + c.args.grains) (64 * c.args.word) (omega arith) in
     let order : c.min-low.result ≤ c.min-high.result = omega (arith, low, high, le) in
     let p = ones_le c.min-low.result c.min-high.result order in
-    let a = c.ones.ensures in let b = c.ones-2.ensures in omega (arith, p, a, b)
+    omega (arith, p, c.ones.ensures, c.ones-2.ensures)
 
 pub returns : goal.returns
 returns c b h = mask_is c.args.first c.args.grains (64 * c.args.word) c.ones-2.result c.ones.result b (c.ones.result - c.ones-2.result) refl

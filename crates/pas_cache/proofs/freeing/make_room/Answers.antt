@@ -3,7 +3,7 @@ use Rattle.pas_cache.proofs.FlushesAndFrees.{empties_where, empties_nothing}
 use Rattle.pas_cache.proofs.freeing.make_room.Goals as goal
 
 pub returns-then-len-ge-MOST_LOGGED-clause-empties : goal.returns-then-len-ge-MOST_LOGGED-clause-empties
-returns-then-len-ge-MOST_LOGGED-clause-empties g c = empties_where _ _ _ _ (let n = c.len.ensures in let full = c.if-len-ge-MOST_LOGGED.true in omega (arith, n, full)) c.flush.ensures.empty c.flush.ensures.flushes
+returns-then-len-ge-MOST_LOGGED-clause-empties g c = empties_where _ _ _ _ (omega (arith, c.len.ensures, c.if-len-ge-MOST_LOGGED.true)) c.flush.ensures.empty c.flush.ensures.flushes
 
 pub returns-else-len-ge-MOST_LOGGED-clause-empties : goal.returns-else-len-ge-MOST_LOGGED-clause-empties
-returns-else-len-ge-MOST_LOGGED-clause-empties g c = empties_nothing _ _ (let n = c.len.ensures in let few = c.if-len-ge-MOST_LOGGED.false in omega (arith, n, few))
+returns-else-len-ge-MOST_LOGGED-clause-empties g c = empties_nothing _ _ (omega (arith, c.len.ensures, c.if-len-ge-MOST_LOGGED.false))

@@ -1,9 +1,6 @@
 use Rattle.std.proofs.Common.{◌≤◌, ap, length, sym, subst, ◌∙◌}
-use Rattle.pas_cache.specs.Serves.{filling_in}
-use Rattle.pas_cache.proofs.Locals.{refill_same}
-use Rattle.pas_cache.specs.Locals.{HasOneEach}
-use Rattle.pas_cache.specs.Parts.{BringsCached, StandsLast}
-use Rattle.pas_cache.proofs.Obtained.{obtain_rests, obtains_cached}
+use Rattle.pas_cache.specs.{Serves.filling_in, Locals.HasOneEach, Parts.BringsCached, Parts.StandsLast}
+use Rattle.pas_cache.proofs.{Locals.refill_same, Obtained.obtain_rests, Obtained.obtains_cached}
 use Rattle.pas_cache.proofs.obtaining.obtain.Goals as goal
 
 pub bring_cached-requires : goal.bring_cached-requires

@@ -14,7 +14,7 @@ loop-last-preserved g c =
     let i = c.loop-last.invariant in let h = c.stop_at.ensures.stops in
     record {
       stopped = h.slots ∷ i.stopped;
-      whole = i.whole ∙ (ap (λ xs. xs ++ i.stopped) (popped (let n = c.len.ensures.value in let some = c.in-Some.ensures.0 in let last = c.in-Some.ensures.1 in omega (arith, n, some, last)) h) ∙ append_assoc c.stop_at.new.locals.items (h.slots ∷ []) i.stopped);
+      whole = i.whole ∙ (ap (λ xs. xs ++ i.stopped) (popped (omega (arith, c.len.ensures.value, c.in-Some.ensures.0, c.in-Some.ensures.1)) h) ∙ append_assoc c.stop_at.new.locals.items (h.slots ∷ []) i.stopped);
       releases = stops_more _ _ _ i.stopped i.releases h;
       spare = c.stop_at.ensures.spare ∙ i.spare;
       home = c.stop_at.ensures.home ∙ i.home;
@@ -23,7 +23,6 @@ loop-last-preserved g c =
 pub returns : goal.returns
 returns g c =
     let i = c.loop-last.invariant in
-    let n = c.len.ensures.value in
     let none : 1 ≤ c.len.result → ⊥ = c.in_default.ensures in
-    let empty = nil_from_length c.loop-last.locals.items (omega (arith, n, none)) in
+    let empty = nil_from_length c.loop-last.locals.items (omega (arith, c.len.ensures.value, none)) in
     record { stops = all_stopped _ _ i.stopped empty i.whole i.releases; empty = empty; spare = i.spare; home = i.home }

@@ -1,7 +1,6 @@
 use Rattle.std.proofs.Common.{◌≡◌, ◌++◌, List, length}
 use Rattle.pas_segregated.specs.declared.slots.Slots.{Slots}
-use Rattle.pas_cache.specs.Changes.{StopsEach}
-use Rattle.pas_cache.specs.Parts.{Releases}
+use Rattle.pas_cache.specs.{Changes.StopsEach, Parts.Releases}
 use Rattle.pas_cache.proofs.stopping.stop_all.Given as goal
 
 -- those from the last one on are stopped

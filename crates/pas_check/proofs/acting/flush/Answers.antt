@@ -2,8 +2,7 @@ use Rattle.std.proofs.Common.{Bool, []}
 use Rattle.pas_profile.specs.declared.profile.Profile.{Profile}
 use Rattle.pas_trace.specs.Acts.{Act}
 use Rattle.pas_check.specs.Tasks.{ActTaken, Flushes, LogEmptied}
-use Rattle.pas_check.proofs.Actings.{flushed}
-use Rattle.pas_check.proofs.Takings.{if_ok}
+use Rattle.pas_check.proofs.{Actings.flushed, Takings.if_ok}
 use Rattle.pas_check.proofs.acting.flush.Goals as goal
 
 pub returns-clause-taken : goal.returns-clause-taken

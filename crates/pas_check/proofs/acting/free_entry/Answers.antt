@@ -2,8 +2,7 @@ use Rattle.std.proofs.Common.{Bool}
 use Rattle.pas_profile.specs.declared.profile.Profile.{Profile}
 use Rattle.pas_trace.specs.Acts.{Act}
 use Rattle.pas_check.specs.Tasks.{ActTaken, EntryLogged, FreesEntry}
-use Rattle.pas_check.proofs.Actings.{freed_logged, freed_outside, freed_unaligned}
-use Rattle.pas_check.proofs.Takings.{if_ok}
+use Rattle.pas_check.proofs.{Actings.freed_logged, Actings.freed_outside, Actings.freed_unaligned, Takings.if_ok}
 use Rattle.pas_check.proofs.acting.free_entry.Goals as goal
 
 pub returns-then-not-has_page-clause-taken : goal.returns-then-not-has_page-clause-taken

@@ -1,10 +1,8 @@
 use Rattle.std.proofs.Common.{Bool}
 use Rattle.pas_profile.specs.declared.profile.Profile.{Profile}
 use Rattle.pas_trace.specs.Acts.{Act}
-use Rattle.pas_check.specs.Begins.{entry_of}
-use Rattle.pas_check.specs.Tasks.{ActTaken, FreesEntry, FreesNamed}
-use Rattle.pas_check.proofs.Actings.{given_freed, refused_freed, unasked_freed}
-use Rattle.pas_check.proofs.Takings.{if_ok}
+use Rattle.pas_check.specs.{Begins.entry_of, Tasks.ActTaken, Tasks.FreesEntry, Tasks.FreesNamed}
+use Rattle.pas_check.proofs.{Actings.given_freed, Actings.refused_freed, Actings.unasked_freed, Takings.if_ok}
 use Rattle.pas_check.proofs.acting.free_named.Goals as goal
 
 pub returns-in-None-clause-taken : goal.returns-in-None-clause-taken

@@ -1,10 +1,7 @@
-use Rattle.std.proofs.Common.{Bool, [], ◌∷◌, length, sym}
-use Rattle.std.proofs.lemmas.Bool.{leb-false}
+use Rattle.std.proofs.Common.{Bool, [], ◌∷◌, length, sym, leb-false}
 use Rattle.pas_profile.specs.declared.profile.Profile.{Profile}
-use Rattle.pas_check.specs.Tables.{logged}
-use Rattle.pas_check.specs.Tasks.{EntryLogged, LogEmptied}
-use Rattle.pas_check.proofs.Actings.{logged_added, logged_full}
-use Rattle.pas_check.proofs.Takings.{if_ok}
+use Rattle.pas_check.specs.{Tables.logged, Tasks.EntryLogged, Tasks.LogEmptied}
+use Rattle.pas_check.proofs.{Actings.logged_added, Actings.logged_full, Takings.if_ok}
 use Rattle.pas_check.proofs.acting.log_entry.Goals as goal
 
 pub returns-then-is_full-clause-taken : goal.returns-then-is_full-clause-taken

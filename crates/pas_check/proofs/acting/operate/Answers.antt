@@ -1,23 +1,16 @@
-use Rattle.std.proofs.Common.{◌≡◌, ◌∙◌, ◌<◌, ◌^◌, ℕ, Bool, None, ap, refl, subst, sym, arith}
-use Rattle.std.specs.Prelude.{MatchOption}
+use Rattle.std.proofs.Common.{◌≡◌, ◌∙◌, ◌<◌, ◌^◌, ℕ, Bool, None, ap, refl, subst, sym, arith, MatchOption}
 use Rattle.pas_profile.specs.declared.profile.Profile.{Profile}
 use Rattle.pas_trace.specs.Acts.{Act, Guards, Operates, act_kept}
 use Rattle.pas_trace.specs.Asked.{keeper_in, request_in}
-use Rattle.pas_trace.specs.declared.item.Request.{Request}
-use Rattle.pas_trace.specs.declared.plan.What.{What}
-use Rattle.pas_trace.specs.declared.plan.What.TheVariants.{Guarded}
-use Rattle.pas_check.specs.Begins.{guarding}
-use Rattle.pas_check.specs.Calls.{IsWanted, asked_for}
-use Rattle.pas_check.specs.Tasks.{ActTaken, AsksKeeper}
-use Rattle.pas_check.proofs.Actings.{of_profile}
-use Rattle.pas_check.proofs.Takings.{if_ok}
+use Rattle.pas_trace.specs.declared.{item.Request.Request, plan.What.What, plan.What.TheVariants.Guarded}
+use Rattle.pas_check.specs.{Begins.guarding, Calls.IsWanted, Calls.asked_for, Tasks.ActTaken, Tasks.AsksKeeper}
+use Rattle.pas_check.proofs.{Actings.of_profile, Takings.if_ok}
 use Rattle.pas_check.proofs.acting.operate.Goals as goal
 
 pub try_request-requires-clause-apart : goal.try_request-requires-clause-apart
 try_request-requires-clause-apart c =
     let kept = subst (λ (w : What). MatchOption (keeper_in w) (Unit {0}) (λ keeper. (c.args.op.actor < keeper) × (keeper < 2 ^ 8))) c.in-Guarded.is c.requires.kept in
-    let less = kept.0 in
-    λ same. absurd (omega (arith, less, same))
+    λ same. absurd (omega (arith, kept.0, same))
 
 pub returns-in-Guarded-clause-taken : goal.returns-in-Guarded-clause-taken
 returns-in-Guarded-clause-taken c =

@@ -1,15 +1,10 @@
 use Rattle.std.proofs.Common.{◌≡◌, ◌⊎◌, ◌∙◌, ℕ, Bool, None, inl, inr, ap, subst}
 use Rattle.pas_profile.specs.declared.profile.Profile.{Profile}
 use Rattle.pas_trace.specs.Acts.{Act, Operates}
-use Rattle.pas_trace.specs.declared.item.Request.{Request}
-use Rattle.pas_trace.specs.declared.plan.What.{What}
-use Rattle.pas_trace.specs.declared.plan.What.TheVariants.{Tick, Pass, Idle}
-use Rattle.pas_check.specs.Begins.{begun_what, entry_of, unsized}
-use Rattle.pas_check.specs.Calls.{IsWanted, asked_for}
-use Rattle.pas_check.specs.States.{Stand}
+use Rattle.pas_trace.specs.declared.{item.Request.Request, plan.What.What, plan.What.TheVariants.Tick, plan.What.TheVariants.Pass, plan.What.TheVariants.Idle}
+use Rattle.pas_check.specs.{Begins.begun_what, Begins.entry_of, Begins.unsized, Calls.IsWanted, Calls.asked_for, States.Stand}
 use Rattle.pas_check.specs.Tasks.{ActTaken, Asks, FreesEntry, FreesNamed, Remakes}
-use Rattle.pas_check.proofs.Actings.{nothing_begun, of_profile}
-use Rattle.pas_check.proofs.Takings.{if_ok}
+use Rattle.pas_check.proofs.{Actings.nothing_begun, Actings.of_profile, Takings.if_ok}
 use Rattle.pas_check.proofs.acting.operate_plain.Goals as goal
 
 -- an operation of the scavenger

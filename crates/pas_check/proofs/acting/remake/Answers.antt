@@ -2,8 +2,7 @@ use Rattle.std.proofs.Common.{Bool}
 use Rattle.pas_profile.specs.declared.profile.Profile.{Profile}
 use Rattle.pas_trace.specs.Acts.{Act}
 use Rattle.pas_check.specs.Tasks.{ActTaken, Remakes, Resizes}
-use Rattle.pas_check.proofs.Actings.{given_remade, refused_remade, unasked_remade}
-use Rattle.pas_check.proofs.Takings.{if_ok}
+use Rattle.pas_check.proofs.{Actings.given_remade, Actings.refused_remade, Actings.unasked_remade, Takings.if_ok}
 use Rattle.pas_check.proofs.acting.remake.Goals as goal
 
 pub returns-in-None-clause-taken : goal.returns-in-None-clause-taken

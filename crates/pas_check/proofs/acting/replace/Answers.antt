@@ -2,11 +2,8 @@ use Rattle.std.proofs.Common.{Bool, None, Some, refl, arith}
 use Rattle.pas_profile.specs.declared.profile.Profile.{Profile}
 use Rattle.pas_trace.specs.Acts.{Act}
 use Rattle.pas_trace.specs.declared.item.Request.{Request}
-use Rattle.pas_check.specs.Calls.{IsWanted}
-use Rattle.pas_check.specs.Begins.{unsized}
-use Rattle.pas_check.specs.Tasks.{ActTaken, Asks, EntryLogged}
-use Rattle.pas_check.proofs.Actings.{request_amiss, request_done, request_logged}
-use Rattle.pas_check.proofs.Takings.{if_ok}
+use Rattle.pas_check.specs.{Calls.IsWanted, Begins.unsized, Tasks.ActTaken, Tasks.Asks, Tasks.EntryLogged}
+use Rattle.pas_check.proofs.{Actings.request_amiss, Actings.request_done, Actings.request_logged, Takings.if_ok}
 use Rattle.pas_check.proofs.acting.replace.Goals as goal
 
 pub returns-in-Ok-Some-None-clause-taken : goal.returns-in-Ok-Some-None-clause-taken

@@ -2,11 +2,8 @@ use Rattle.std.proofs.Common.{Bool, Some, subst, ◌∙◌}
 use Rattle.pas_profile.specs.declared.profile.Profile.{Profile}
 use Rattle.pas_trace.specs.Acts.{Act}
 use Rattle.pas_trace.specs.declared.item.Request.{Request}
-use Rattle.pas_check.specs.Begins.{request_for}
-use Rattle.pas_check.specs.Calls.{IsWanted, asked_for}
-use Rattle.pas_check.specs.Tasks.{ActTaken, Asks, Resizes}
-use Rattle.pas_check.proofs.Actings.{of_profile, resized_asks, resized_kept}
-use Rattle.pas_check.proofs.Takings.{if_ok}
+use Rattle.pas_check.specs.{Begins.request_for, Calls.IsWanted, Calls.asked_for, Tasks.ActTaken, Tasks.Asks, Tasks.Resizes}
+use Rattle.pas_check.proofs.{Actings.of_profile, Actings.resized_asks, Actings.resized_kept, Takings.if_ok}
 use Rattle.pas_check.proofs.acting.resize.Goals as goal
 
 pub returns-then-suits-clause-taken : goal.returns-then-suits-clause-taken

@@ -22,11 +22,8 @@ flush-requires-clause-within c = c.loop-index.invariant.within
 
 pub flush-requires-clause-held : goal.flush-requires-clause-held
 flush-requires-clause-held c =
-    let test = c.loop-index-test.true in
     let count = ap (λ (f : Profile). f.threads) c.profile-threads.ensures in
-    let held = c.requires.sized.logs in
-    let same = c.loop-index.invariant.sized.logs in
-    omega (arith, test, count, held, same)
+    omega (arith, c.loop-index-test.true, count, c.requires.sized.logs, c.loop-index.invariant.sized.logs)
 
 pub returns-in-Ok-false-clause-taken : goal.returns-in-Ok-false-clause-taken
 returns-in-Ok-false-clause-taken c = λ more.
@@ -57,7 +54,6 @@ loop-index-preserved c =
 
 pub returns-clause-taken : goal.returns-clause-taken
 returns-clause-taken c = λ more.
-    let test = c.loop-index-test.false in
     let count = ap (λ (f : Profile). f.threads) c.profile-threads.ensures in
     taken_as c.args.text.now c.args.judge.now c.loop-index.judge c.args.cursor.now c.loop-index.cursor true _ _ _ more refl
-    (no_number Ends c.loop-index.index (threads_in c.args.judge.now) more (omega (arith, test, count))) (c.loop-index.invariant.far more)
+    (no_number Ends c.loop-index.index (threads_in c.args.judge.now) more (omega (arith, c.loop-index-test.false, count))) (c.loop-index.invariant.far more)

@@ -46,7 +46,7 @@ loop-index-preserved c =
     record {
       sized = sized_on c.loop-index.invariant.sized c.in-Ok-true.ensures.sized;
       within = within;
-      after = (let after = c.loop-index.invariant.after in omega (arith, after));
+      after = (omega (arith, c.loop-index.invariant.after));
       far = λ more. then_taken c.args.text.now c.args.judge.now c.loop-index.judge c.lower.new.judge c.args.cursor.now c.loop-index.cursor c.lower.new.cursor _ _ (Lowers (i + 1) ∷ [])
           (map Lowers (numbers_from (i + 1 + 1) (n - (i + 1))) ++ more) true (next_number Lowers i n more (omega (arith, test, count))) (c.loop-index.invariant.far more)
           (act_taken c.args.text.now c.loop-index.judge c.lower.new.judge c.loop-index.cursor c.lower.new.cursor (Lowers (i + 1)) true

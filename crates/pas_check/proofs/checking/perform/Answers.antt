@@ -1,16 +1,10 @@
 use Rattle.std.proofs.Common.{Bool, ℕ, not, ap, sym, ◌∙◌}
 use Rattle.pas_bits.specs.Masks.{is_set}
 use Rattle.pas_profile.specs.declared.profile.Profile.{Profile}
-use Rattle.pas_trace.specs.Acts.{act_kept, acts_of_op, threads_where}
-use Rattle.pas_trace.specs.Asked.{keeper_in}
-use Rattle.pas_trace.specs.declared.plan.Chore.{Chore}
-use Rattle.pas_trace.specs.declared.plan.Work.{Work}
-use Rattle.pas_check.specs.Checks.{ActsTaken, threads_in}
-use Rattle.pas_check.specs.Leading.{StaysWithin}
-use Rattle.pas_check.specs.Tasks.{ActTaken, PassTaken}
-use Rattle.pas_check.proofs.Chains.{act_taken, pass_taken}
-use Rattle.pas_check.proofs.Phases.{chore_taken, operation_taken}
-use Rattle.pas_check.proofs.Takings.{if_both, if_ok}
+use Rattle.pas_trace.specs.{Acts.act_kept, Acts.acts_of_op, Acts.threads_where, Asked.keeper_in}
+use Rattle.pas_trace.specs.declared.plan.{Chore.Chore, Work.Work}
+use Rattle.pas_check.specs.{Checks.ActsTaken, Checks.threads_in, Leading.StaysWithin, Tasks.ActTaken, Tasks.PassTaken}
+use Rattle.pas_check.proofs.{Chains.act_taken, Chains.pass_taken, Phases.chore_taken, Phases.operation_taken, Takings.if_both, Takings.if_ok}
 use Rattle.pas_check.proofs.checking.perform.Goals as goal
 
 pub returns-in-Own-clause-taken : goal.returns-in-Own-clause-taken

@@ -5,8 +5,7 @@ use Rattle.pas_profile.specs.declared.profile.Profile.{Profile}
 use Rattle.pas_machine.specs.Machines.{profile_of}
 use Rattle.pas_trace.specs.Acts.{acts_of_op, acts_of_ops, threads_where}
 use Rattle.pas_trace.specs.declared.plan.Op.{Op}
-use Rattle.pas_check.specs.Checks.{ActsTaken, threads_in}
-use Rattle.pas_check.specs.Tables.{names_held}
+use Rattle.pas_check.specs.{Checks.ActsTaken, Checks.threads_in, Tables.names_held}
 use Rattle.pas_check.proofs.Chains.{sized_as_before, sized_on, taken_as, then_taken}
 use Rattle.pas_check.proofs.Phases.{acts_at, one_planned_as, ops_there, past}
 use Rattle.pas_check.proofs.checking.perform_all.Goals as goal

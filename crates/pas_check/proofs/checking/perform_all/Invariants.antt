@@ -4,8 +4,7 @@ use Rattle.pas_bits.specs.Masks.{is_set}
 use Rattle.pas_machine.specs.Machines.{profile_of}
 use Rattle.pas_trace.specs.Acts.{Act, acts_of_ops, threads_where}
 use Rattle.pas_check.specs.Checks.{ArePlanned, IsSizedAs, TakenTo, threads_in}
-use Rattle.pas_check.specs.Leading.{IsWithin}
-use Rattle.pas_check.specs.Tables.{names_held}
+use Rattle.pas_check.specs.{Leading.IsWithin, Tables.names_held}
 use Rattle.pas_check.proofs.checking.perform_all.Given as goal
 
 abbrev pub invariant-loop-op : goal.invariant-loop-op

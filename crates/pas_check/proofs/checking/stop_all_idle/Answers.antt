@@ -25,35 +25,27 @@ stop_unless_awake-requires-clause-within c = c.loop-index.invariant.within
 
 pub stop_unless_awake-requires-clause-held : goal.stop_unless_awake-requires-clause-held
 stop_unless_awake-requires-clause-held c =
-    let test = c.loop-index-test.true in
     let count = ap (λ (f : Profile). f.threads) c.profile-threads.ensures in
-    let held = c.requires.sized.logs in
-    let same = c.loop-index.invariant.sized.logs in
-    omega (arith, test, count, held, same)
+    omega (arith, c.loop-index-test.true, count, c.requires.sized.logs, c.loop-index.invariant.sized.logs)
 
 pub stop_unless_awake-requires-clause-known : goal.stop_unless_awake-requires-clause-known
 stop_unless_awake-requires-clause-known c =
-    let test = c.loop-index-test.true in
     let count = ap (λ (f : Profile). f.threads) c.profile-threads.ensures in
-    let held = c.requires.sized.awake in
-    let same = c.loop-index.invariant.sized.awake in
-    omega (arith, test, count, held, same)
+    omega (arith, c.loop-index-test.true, count, c.requires.sized.awake, c.loop-index.invariant.sized.awake)
 
 pub returns-in-Ok-false-clause-taken : goal.returns-in-Ok-false-clause-taken
 returns-in-Ok-false-clause-taken c = λ more.
-    let test = c.loop-index-test.true in
     let count = ap (λ (f : Profile). f.threads) c.profile-threads.ensures in
     let i = c.loop-index.index in
     let n = threads_in c.args.judge.now in
     let p = λ (k : ℕ). not (is_set c.args.awake k) in
     then_taken c.args.text.now c.args.judge.now c.loop-index.judge c.stop_unless_awake.new.judge c.args.cursor.now c.loop-index.cursor c.stop_unless_awake.new.cursor _ _
     (idle_stops c.args.epochs (filter p ((i + 1) ∷ []))) (acts_past (λ k. StopsIdle k c.args.epochs) p i n more) false
-    (next_there (λ k. StopsIdle k c.args.epochs) p i n more (omega (arith, test, count))) (c.loop-index.invariant.far more)
+    (next_there (λ k. StopsIdle k c.args.epochs) p i n more (omega (arith, c.loop-index-test.true, count))) (c.loop-index.invariant.far more)
     (rw c.in-Ok-false.field-0-test at c.in-Ok-false.ensures.taken)
 
 pub loop-index-preserved : goal.loop-index-preserved
 loop-index-preserved c =
-    let test = c.loop-index-test.true in
     let count = ap (λ (f : Profile). f.threads) c.profile-threads.ensures in
     let i = c.loop-index.index in
     let n = threads_in c.args.judge.now in
@@ -64,15 +56,14 @@ loop-index-preserved c =
       within = within;
       far = λ more. then_taken c.args.text.now c.args.judge.now c.loop-index.judge c.stop_unless_awake.new.judge c.args.cursor.now c.loop-index.cursor c.stop_unless_awake.new.cursor _ _
           (idle_stops c.args.epochs (filter p ((i + 1) ∷ []))) (acts_past (λ k. StopsIdle k c.args.epochs) p i n more) true
-          (next_there (λ k. StopsIdle k c.args.epochs) p i n more (omega (arith, test, count))) (c.loop-index.invariant.far more)
+          (next_there (λ k. StopsIdle k c.args.epochs) p i n more (omega (arith, c.loop-index-test.true, count))) (c.loop-index.invariant.far more)
           (rw c.in-Ok-true.field-0-test at c.in-Ok-true.ensures.taken);
     }
 
 pub returns-clause-taken : goal.returns-clause-taken
 returns-clause-taken c = λ more.
-    let test = c.loop-index-test.false in
     let count = ap (λ (f : Profile). f.threads) c.profile-threads.ensures in
     let n = threads_in c.args.judge.now in
     let p = λ (k : ℕ). not (is_set c.args.awake k) in
     taken_as c.args.text.now c.args.judge.now c.loop-index.judge c.args.cursor.now c.loop-index.cursor true _ _ (acts_there (λ k. StopsIdle k c.args.epochs) p c.loop-index.index n more) more refl
-    (none_left (λ k. StopsIdle k c.args.epochs) p c.loop-index.index n more (omega (arith, test, count))) (c.loop-index.invariant.far more)
+    (none_left (λ k. StopsIdle k c.args.epochs) p c.loop-index.index n more (omega (arith, c.loop-index-test.false, count))) (c.loop-index.invariant.far more)

@@ -2,8 +2,7 @@
 use Rattle.std.proofs.Common.{◌++◌, ◌∷◌, List, not, true}
 use Rattle.pas_bits.specs.Masks.{is_set}
 use Rattle.pas_trace.specs.Acts.{Act, ReadsEpoch, StopsIdle, idle_stops, threads_where}
-use Rattle.pas_check.specs.Checks.{IsSizedAs, TakenTo, threads_in}
-use Rattle.pas_check.specs.Leading.{IsWithin}
+use Rattle.pas_check.specs.{Checks.IsSizedAs, Checks.TakenTo, Checks.threads_in, Leading.IsWithin}
 use Rattle.pas_trace.proofs.ThreadsInOrder.{acts_there}
 use Rattle.pas_check.proofs.checking.stop_all_idle.Given as goal
 

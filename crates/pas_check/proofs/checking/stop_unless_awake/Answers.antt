@@ -3,10 +3,8 @@ use Rattle.std.specs.List.{filter}
 use Rattle.pas_bits.specs.Masks.{is_set}
 use Rattle.pas_profile.specs.declared.profile.Profile.{Profile}
 use Rattle.pas_trace.specs.Acts.{StopsIdle, idle_stops}
-use Rattle.pas_check.specs.Checks.{ActsTaken}
-use Rattle.pas_check.specs.Tasks.{ActTaken}
-use Rattle.pas_check.proofs.Chains.{act_taken, chosen_alone, none_taken}
-use Rattle.pas_check.proofs.Takings.{if_ok}
+use Rattle.pas_check.specs.{Checks.ActsTaken, Tasks.ActTaken}
+use Rattle.pas_check.proofs.{Chains.act_taken, Chains.chosen_alone, Chains.none_taken, Takings.if_ok}
 use Rattle.pas_check.proofs.checking.stop_unless_awake.Goals as goal
 
 pub returns-then-get-clause-taken : goal.returns-then-get-clause-taken

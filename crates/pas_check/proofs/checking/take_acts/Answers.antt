@@ -1,10 +1,8 @@
 use Rattle.std.proofs.Common.{Bool, [], map, ap}
 use Rattle.pas_profile.specs.declared.profile.Profile.{Profile}
-use Rattle.pas_trace.specs.Acts.{acts_of, close_acts}
-use Rattle.pas_trace.specs.Plans.{ops_of}
+use Rattle.pas_trace.specs.{Acts.acts_of, Acts.close_acts, Plans.ops_of}
 use Rattle.pas_check.specs.Checks.{ActsTaken, TakenTo, threads_in}
-use Rattle.pas_check.proofs.Phases.{close_on}
-use Rattle.pas_check.proofs.Takings.{if_ok}
+use Rattle.pas_check.proofs.{Phases.close_on, Takings.if_ok}
 use Rattle.pas_check.proofs.checking.take_acts.Goals as goal
 
 pub returns-in-Ok-true-clause-taken : goal.returns-in-Ok-true-clause-taken

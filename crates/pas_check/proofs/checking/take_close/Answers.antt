@@ -2,8 +2,7 @@ use Rattle.std.proofs.Common.{◌≡◌, ◌+◌, ◌++◌, ℕ, Bool, List, tru
 use Rattle.pas_profile.specs.declared.profile.Profile.{Profile}
 use Rattle.pas_trace.specs.Acts.{Act, Ends, Lowers, MarksClose, close_acts, numbers_from}
 use Rattle.pas_check.specs.Checks.{ActsTaken, TakenTo, threads_in}
-use Rattle.pas_check.proofs.Chains.{act_taken, taken_as, taken_on}
-use Rattle.pas_check.proofs.Takings.{if_ok}
+use Rattle.pas_check.proofs.{Chains.act_taken, Chains.taken_as, Chains.taken_on, Takings.if_ok}
 use Rattle.pas_check.proofs.checking.take_close.Goals as goal
 
 pub returns-then-not-mark_close-clause-taken : goal.returns-then-not-mark_close-clause-taken

@@ -2,12 +2,9 @@ use Rattle.std.proofs.Common.{◌≡◌, ◌+◌, ◌++◌, ◌∷◌, [], List,
 use Rattle.pas_profile.specs.Profiles.{IsValid}
 use Rattle.pas_profile.specs.declared.profile.Profile.{Profile}
 use Rattle.pas_machine.specs.Machines.{profile_of}
-use Rattle.pas_trace.specs.Acts.{MarksPhase, acts_from, phase_acts}
-use Rattle.pas_trace.specs.Plans.{ops_of}
-use Rattle.pas_trace.specs.declared.plan.Op.{Op}
-use Rattle.pas_trace.specs.declared.plan.Phase.{Phase}
-use Rattle.pas_check.specs.Checks.{ArePlanned, threads_in}
-use Rattle.pas_check.specs.Tables.{names_held}
+use Rattle.pas_trace.specs.{Acts.MarksPhase, Acts.acts_from, Acts.phase_acts, Plans.ops_of}
+use Rattle.pas_trace.specs.declared.plan.{Op.Op, Phase.Phase}
+use Rattle.pas_check.specs.{Checks.ArePlanned, Checks.threads_in, Tables.names_held}
 use Rattle.pas_check.proofs.Chains.{act_taken, sized_as_before, sized_on, taken_as, then_taken}
 use Rattle.pas_check.proofs.Phases.{phase_at, phase_done, phases_there, planned_as}
 use Rattle.pas_check.proofs.checking.take_later.Goals as goal
@@ -61,7 +58,7 @@ loop-phase-preserved c =
     record {
       sized = sized_on c.loop-phase.invariant.sized c.in-Ok-true.ensures.sized;
       within = within;
-      count = (let count = c.loop-phase.invariant.count in omega (arith, count));
+      count = (omega (arith, c.loop-phase.invariant.count));
       planned = (phases_there (profile_of old.machine) (names_held old.names) c.args.phases.now i d c.loop-phase-test.true c.loop-phase.invariant.planned).1;
       far = λ keepers. phase_done c.args.text.now old c.loop-phase.judge c.take_phase.new.judge c.args.cursor.now c.loop-phase.cursor c.mark_phase.new.cursor c.take_phase.new.cursor number
           c.as_slice.result.now (ops_of (get_or c.args.phases.now i d)) _ _ (acts_from n keepers (number + 1) (map ops_of (drop (i + 1) c.args.phases.now))) true

@@ -1,12 +1,9 @@
 -- the phases so far were taken
 use Rattle.std.proofs.Common.{◌≡◌, ℕ, ◌+◌, drop, map, true}
 use Rattle.pas_machine.specs.Machines.{profile_of}
-use Rattle.pas_trace.specs.Acts.{acts_from}
-use Rattle.pas_trace.specs.EveryPlan.{all_ops}
-use Rattle.pas_trace.specs.Plans.{ops_of}
+use Rattle.pas_trace.specs.{Acts.acts_from, EveryPlan.all_ops, Plans.ops_of}
 use Rattle.pas_check.specs.Checks.{ArePlanned, IsSizedAs, TakenTo, threads_in}
-use Rattle.pas_check.specs.Leading.{IsWithin}
-use Rattle.pas_check.specs.Tables.{names_held}
+use Rattle.pas_check.specs.{Leading.IsWithin, Tables.names_held}
 use Rattle.pas_check.proofs.checking.take_later.Given as goal
 
 abbrev pub invariant-loop-phase : goal.invariant-loop-phase

@@ -3,8 +3,7 @@ use Rattle.pas_bits.specs.Masks.{is_set}
 use Rattle.pas_profile.specs.declared.profile.Profile.{Profile}
 use Rattle.pas_trace.specs.Acts.{acts_of_ops, phase_acts, threads_where}
 use Rattle.pas_check.specs.Checks.{ActsTaken, threads_in}
-use Rattle.pas_check.proofs.Phases.{phase_taken}
-use Rattle.pas_check.proofs.Takings.{if_ok}
+use Rattle.pas_check.proofs.{Phases.phase_taken, Takings.if_ok}
 use Rattle.pas_check.proofs.checking.take_phase.Goals as goal
 
 pub returns-clause-taken : goal.returns-clause-taken

@@ -1,13 +1,9 @@
 use Rattle.std.proofs.Common.{◌≡◌, ℕ, ◌-◌, ◌<◌, Bool, List, drop, take, get_or, length, map, ap, subst, sym, ◌∙◌, arith}
 use Rattle.pas_profile.specs.declared.profile.Profile.{Profile}
 use Rattle.pas_machine.specs.Machines.{profile_of}
-use Rattle.pas_trace.specs.Acts.{acts_from, acts_of, close_acts}
-use Rattle.pas_trace.specs.EveryPlan.{all_ops}
-use Rattle.pas_trace.specs.Plans.{ops_of}
-use Rattle.pas_trace.specs.declared.plan.Op.{Op}
-use Rattle.pas_trace.specs.declared.plan.Phase.{Phase}
-use Rattle.pas_check.specs.Checks.{ArePlanned, TakenTo, threads_in}
-use Rattle.pas_check.specs.Tables.{names_held}
+use Rattle.pas_trace.specs.{Acts.acts_from, Acts.acts_of, Acts.close_acts, EveryPlan.all_ops, Plans.ops_of}
+use Rattle.pas_trace.specs.declared.plan.{Op.Op, Phase.Phase}
+use Rattle.pas_check.specs.{Checks.ArePlanned, Checks.TakenTo, Checks.threads_in, Tables.names_held}
 use Rattle.pas_check.proofs.Phases.{first_amiss, first_on, phases_there, planned_as, rest_is}
 use Rattle.pas_check.proofs.Takings.{if_ok}
 use Rattle.pas_check.proofs.checking.take_phases.Goals as goal

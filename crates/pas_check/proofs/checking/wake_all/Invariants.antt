@@ -2,8 +2,7 @@
 use Rattle.std.proofs.Common.{◌++◌, ℕ, List, true, map}
 use Rattle.pas_bits.specs.Masks.{is_set}
 use Rattle.pas_trace.specs.Acts.{Act, Wakes, threads_where}
-use Rattle.pas_check.specs.Checks.{IsSizedAs, TakenTo, threads_in}
-use Rattle.pas_check.specs.Leading.{IsWithin}
+use Rattle.pas_check.specs.{Checks.IsSizedAs, Checks.TakenTo, Checks.threads_in, Leading.IsWithin}
 use Rattle.pas_check.specs.declared.cutting.Cursor.{Cursor}
 use Rattle.pas_trace.proofs.ThreadsInOrder.{acts_there}
 use Rattle.pas_check.proofs.checking.wake_all.Given as goal

@@ -1,7 +1,6 @@
 use Rattle.std.proofs.Common.{◌≡◌, true, drop}
 use Rattle.pas_machine.specs.Machines.{profile_of}
-use Rattle.pas_check.specs.Calls.{EntriesTaken}
-use Rattle.pas_check.specs.Leading.{IsWithin}
+use Rattle.pas_check.specs.{Calls.EntriesTaken, Leading.IsWithin}
 use Rattle.pas_check.proofs.emptying.take_entries.Given as goal
 
 abbrev pub invariant-loop-entry : goal.invariant-loop-entry

@@ -1,10 +1,10 @@
-use Rattle.std.proofs.Common.{◌≡◌, Bool, sym, subst, ◌∙◌, arith}
-use Rattle.std.specs.Prelude.{IfOk, IfSome}
+use Rattle.std.proofs.Common.{◌≡◌, Bool, sym, subst, ◌∙◌, arith, IfOk, IfSome}
 use Rattle.pas_report.specs.Lines.{line_of}
 use Rattle.pas_check.specs.Calls.{IsExamined}
 use Rattle.pas_check.proofs.Examinings.{found_only, outcome_unread, outcome_other, outcome_amiss, outcome_came, outcome_failed, record_is}
 use Rattle.pas_check.proofs.examining.take_outcome.Goals as goal
-use Rattle.pas_check.proofs.examining.take_outcome.Goals.{then-examined-last-via-then-examined-last, then-examined-last-via-else-examined-last+then-not-has_page}
+use Rattle.pas_check.proofs.examining.take_outcome.Goals.{then-examined-last-via-then-examined-last}
+use Rattle.pas_check.proofs.examining.take_outcome.Goals.{then-examined-last-via-else-examined-last+then-not-has_page}
 
 pub returns-in_default-clause-taken : goal.returns-in_default-clause-taken
 returns-in_default-clause-taken c = outcome_unread c.args.machine.now c.args.line.now c.args.last c.args.epoch (λ r fits has. sym c.in_default.is ∙ c.read_record.ensures.only r fits has)
@@ -19,7 +19,7 @@ returns-then-examined-last-clause-taken c =
     outcome_amiss c.args.machine.now c.args.line.now c.args.last c.args.epoch c.in-Some-outcome_of.examined
     (λ page o fits has. sym c.in-Some-outcome_of.is ∙ found_only c.args.machine.now c.args.line.now c.args.last c.args.epoch c.in-Some.item _ _ c.in-Some.is c.read_record.ensures.only c.outcome_of.ensures page o fits has)
     (λ rises region. elim c.then-examined-last.branch [
-      | then-examined-last-via-then-examined-last w ↦ (let low = w.if-examined-last in absurd (omega (arith, low, rises)))
+      | then-examined-last-via-then-examined-last w ↦ (absurd (omega (arith, w.if-examined-last, rises)))
       | then-examined-last-via-else-examined-last+then-not-has_page w ↦ w.if-not-has_page.ensures region
     ])
 
@@ -29,7 +29,7 @@ returns-in-Ok-true-clause-taken c =
     let is = record_is c.args.epoch c.in-Some.item x (sym c.outcome_of.ensures ∙ c.in-Some-outcome_of.is) in
     let read = subst (λ o. IfSome o (λ r. c.args.line.now ≡ line_of r)) c.in-Some.is c.read_record.ensures.some in
     let came = subst (λ r. IfOk r (λ came. IsExamined c.args.machine.now c.examine.new.machine c.args.epoch x came)) c.in-Ok-true.is c.examine.ensures.came in
-    outcome_came c.args.machine.now c.args.line.now c.args.last c.args.epoch c.examine.new.machine x (subst (λ r. c.args.line.now ≡ line_of r) is read) (let high = c.if-examined-last.false in omega (arith, high)) c.if-not-has_page.ensures
+    outcome_came c.args.machine.now c.args.line.now c.args.last c.args.epoch c.examine.new.machine x (subst (λ r. c.args.line.now ≡ line_of r) is read) (omega (arith, c.if-examined-last.false)) c.if-not-has_page.ensures
     (subst (λ (t : Bool). IsExamined c.args.machine.now c.examine.new.machine c.args.epoch x t) c.in-Ok-true.field-0-test came)
 
 pub returns-in-Ok-false-clause-taken : goal.returns-in-Ok-false-clause-taken

@@ -1,7 +1,6 @@
 use Rattle.std.proofs.Common.{◌≡◌, ◌-◌, length}
 use Rattle.pas_machine.specs.Machines.{profile_of}
-use Rattle.pas_check.specs.Calls.{OutcomesGo}
-use Rattle.pas_check.specs.Leading.{IsWithin}
+use Rattle.pas_check.specs.{Calls.OutcomesGo, Leading.IsWithin}
 use Rattle.pas_check.proofs.examining.take_outcomes.Given as goal
 
 abbrev pub invariant-lines : goal.invariant-lines

@@ -1,6 +1,5 @@
 use Rattle.std.proofs.Common.{refl}
-use Rattle.pas_check.specs.States.{Heads}
-use Rattle.pas_check.specs.Takes.{head_line}
+use Rattle.pas_check.specs.{States.Heads, Takes.head_line}
 use Rattle.pas_check.proofs.Leads.{just_led}
 use Rattle.pas_check.proofs.following.take_head.Goals as goal
 

@@ -2,8 +2,7 @@ use Rattle.std.proofs.Common.{Bool, true}
 use Rattle.pas_profile.specs.declared.profile.Profile.{Profile}
 use Rattle.pas_trace.specs.Acts.{Lowers}
 use Rattle.pas_check.specs.Tasks.{ActTaken, GuardsSwept}
-use Rattle.pas_check.proofs.Guardings.{lowered}
-use Rattle.pas_check.proofs.Takings.{if_ok}
+use Rattle.pas_check.proofs.{Guardings.lowered, Takings.if_ok}
 use Rattle.pas_check.proofs.guarding.lower.Goals as goal
 
 pub returns-clause-taken : goal.returns-clause-taken

@@ -1,6 +1,5 @@
 use Rattle.std.proofs.Common.{◌≡◌, ◌∷◌, [], List, ap, subst, ◌++◌, ◌∙◌}
-use Rattle.pas_report.specs.declared.record.Record.{Record}
-use Rattle.pas_report.specs.declared.record.Said.{Said}
+use Rattle.pas_report.specs.declared.record.{Record.Record, Said.Said}
 use Rattle.pas_check.specs.Leading.{IsLed}
 use Rattle.pas_check.specs.States.{Due, Writes, Stand, with_due}
 use Rattle.pas_check.specs.declared.guard.Guard.{Guard}

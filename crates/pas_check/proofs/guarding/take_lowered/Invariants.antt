@@ -1,7 +1,6 @@
 -- the guards so far went down or stay up
 use Rattle.std.proofs.Common.{drop}
-use Rattle.pas_check.specs.Calls.{AreLeft, SweepGoes}
-use Rattle.pas_check.specs.Leading.{IsWithin}
+use Rattle.pas_check.specs.{Calls.AreLeft, Calls.SweepGoes, Leading.IsWithin}
 use Rattle.pas_check.proofs.guarding.take_lowered.Given as goal
 
 abbrev pub invariant-loop-guard : goal.invariant-loop-guard

@@ -1,7 +1,6 @@
 use Rattle.std.proofs.Common.{◌≡◌, ◌-◌, length}
 use Rattle.pas_machine.specs.Machines.{profile_of}
-use Rattle.pas_check.specs.Calls.{TrialGoes}
-use Rattle.pas_check.specs.Leading.{IsWithin}
+use Rattle.pas_check.specs.{Calls.TrialGoes, Leading.IsWithin}
 use Rattle.pas_check.proofs.guarding.take_trial.Given as goal
 
 abbrev pub invariant-lines : goal.invariant-lines

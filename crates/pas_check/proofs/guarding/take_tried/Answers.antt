@@ -1,7 +1,6 @@
 use Rattle.std.proofs.Common.{Bool, sym, subst, arith}
 use Rattle.pas_profile.specs.Profiles.{IsValid}
-use Rattle.pas_check.proofs.Guardings.{tried_gives, tried_passes, tried_stops}
-use Rattle.pas_check.proofs.Takings.{if_ok}
+use Rattle.pas_check.proofs.{Guardings.tried_gives, Guardings.tried_passes, Guardings.tried_stops, Takings.if_ok}
 use Rattle.pas_check.proofs.guarding.take_tried.Goals as goal
 
 pub raise-requires-clause-within : goal.raise-requires-clause-within
@@ -10,8 +9,7 @@ raise-requires-clause-within c = rw c.in-Ok-Gives.field-0-is at c.in-Ok-Gives.en
 pub raise-requires-clause-heap : goal.raise-requires-clause-heap
 raise-requires-clause-heap c =
     let same = rw c.in-Ok-Gives.field-0-is at c.in-Ok-Gives.ensures.heap in
-    let small = c.requires.heap in
-    omega (arith, same, small)
+    omega (arith, same, c.requires.heap)
 
 pub serve-requires-clause-within : goal.serve-requires-clause-within
 serve-requires-clause-within c = rw c.in-Ok-Passes.field-0-is at c.in-Ok-Passes.ensures.stays

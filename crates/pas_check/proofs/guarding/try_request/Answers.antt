@@ -1,7 +1,6 @@
 use Rattle.std.proofs.Common.{Bool, subst, sym, arith}
 use Rattle.pas_profile.specs.Profiles.{IsValid}
-use Rattle.pas_check.proofs.Guardings.{tried, tried_amiss}
-use Rattle.pas_check.proofs.Takings.{if_ok}
+use Rattle.pas_check.proofs.{Guardings.tried, Guardings.tried_amiss, Takings.if_ok}
 use Rattle.pas_check.proofs.guarding.try_request.Goals as goal
 
 pub take_tried-requires-clause-within : goal.take_tried-requires-clause-within
@@ -11,7 +10,7 @@ pub take_tried-requires-clause-valid : goal.take_tried-requires-clause-valid
 take_tried-requires-clause-valid c = subst IsValid (sym c.in-Ok-true.ensures.sized.profile) c.requires.valid
 
 pub take_tried-requires-clause-named : goal.take_tried-requires-clause-named
-take_tried-requires-clause-named c = let same = c.in-Ok-true.ensures.sized.names in let low = c.requires.named in omega (arith, same, low)
+take_tried-requires-clause-named c = omega (arith, c.in-Ok-true.ensures.sized.names, c.requires.named)
 
 pub returns-in-Ok-true-clause-taken : goal.returns-in-Ok-true-clause-taken
 returns-in-Ok-true-clause-taken c =

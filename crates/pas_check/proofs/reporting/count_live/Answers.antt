@@ -4,12 +4,11 @@ use Rattle.pas_check.proofs.reporting.count_live.Goals as goal
 
 pub loop-before-preserved : goal.loop-before-preserved
 loop-before-preserved c =
-    let so_few = c.loop-before.invariant.few in
     record {
       living = λ es stands.
           let one = c.live_there.ensures es stands in
           let so_far = c.loop-before.invariant.living es stands in
           let more = live_more es c.loop-before.before in
           omega (arith, one, so_far, more);
-      few = omega (arith, so_few);
+      few = omega (arith, c.loop-before.invariant.few);
     }

@@ -1,9 +1,7 @@
 -- the grains so far
 use Rattle.std.proofs.Common.{◌≡◌, ◌+◌, ◌*◌, ◌^◌, ◌≤◌, List}
 use Rattle.pas_profile.specs.declared.event.Event.{Event}
-use Rattle.pas_machine.specs.Machines.{StandsFor}
-use Rattle.pas_machine.specs.State.{gives_in}
-use Rattle.pas_machine.specs.Totals.{sum_below}
+use Rattle.pas_machine.specs.{Machines.StandsFor, State.gives_in, Totals.sum_below}
 use Rattle.pas_check.proofs.reporting.given_on.Given as goal
 
 abbrev pub invariant-loop-grain : goal.invariant-loop-grain

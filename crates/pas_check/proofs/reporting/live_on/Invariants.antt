@@ -2,9 +2,7 @@
 use Rattle.std.proofs.Common.{◌≡◌, ◌+◌, ◌*◌, ◌≤◌, List}
 use Rattle.pas_bits.specs.Bits.{count_below}
 use Rattle.pas_profile.specs.declared.event.Event.{Event}
-use Rattle.pas_machine.specs.Machines.{StandsFor}
-use Rattle.pas_machine.specs.State.{live_in}
-use Rattle.pas_machine.specs.Totals.{has_block}
+use Rattle.pas_machine.specs.{Machines.StandsFor, State.live_in, Totals.has_block}
 use Rattle.pas_check.proofs.reporting.live_on.Given as goal
 
 abbrev pub invariant-loop-grain : goal.invariant-loop-grain

@@ -1,7 +1,6 @@
 use Rattle.std.proofs.Common.{◌++◌, [], ◌∷◌, false, refl}
 use Rattle.pas_machine.specs.Machines.{profile_of}
-use Rattle.pas_check.specs.Begins.{pages_due}
-use Rattle.pas_check.specs.States.{Totals, with_due}
+use Rattle.pas_check.specs.{Begins.pages_due, States.Totals, States.with_due}
 use Rattle.pas_check.proofs.Reportings.{led_on}
 use Rattle.pas_check.proofs.reporting.take_report.Goals as goal
 

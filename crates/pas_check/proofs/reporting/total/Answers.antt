@@ -29,5 +29,4 @@ returns-clause-few c =
     let live = c.count_live-live.ensures known.events known.stands in
     let given = c.count_given-given.ensures.given known.events known.stands in
     let both = given_is (profile_of c.args.machine.now) known.events known.stands.run in
-    let few = c.count_given-given.ensures.few in
-    omega (arith, live, given, both, few)
+    omega (arith, live, given, both, c.count_given-given.ensures.few)

@@ -1,8 +1,7 @@
 use Rattle.std.proofs.Common.{ℕ, ◌^◌, ◌<◌, List, Option, refl, sym, subst, ◌∙◌, arith}
 use Rattle.pas_profile.specs.Profiles.{IsValid}
 use Rattle.pas_profile.specs.declared.name.Block.{Block}
-use Rattle.pas_check.specs.Calls.{EndingTaken, IsRead, RequestTaken}
-use Rattle.pas_check.specs.Leading.{IsWithin}
+use Rattle.pas_check.specs.{Calls.EndingTaken, Calls.IsRead, Calls.RequestTaken, Leading.IsWithin}
 use Rattle.pas_check.proofs.Requests.{request_begins, request_ends, request_goes_on, request_lacks}
 use Rattle.pas_check.proofs.Takings.{if_any, if_ok}
 use Rattle.pas_check.proofs.requesting.take_request.Goals as goal
@@ -27,7 +26,7 @@ returns-in-Ok-false-clause-taken c =
     let stood = c.take_preparing.new.machine in
     let new = c.take_ending.new.machine in
     let low : c.lines.cursor.lines < 2 ^ 32 = (let a = c.lines.invariant.within.lines in let b = c.lines.invariant.within.bytes in
-    let short = c.requires.short in omega (arith, a, b, short)) in
+    omega (arith, a, b, c.requires.short)) in
     let is : IsRead c.in-Some.line.now c.read_record-found.result = record { some = c.read_record-found.ensures.some; only = c.read_record-found.ensures.only } in
     if_ok c.take_ending.result (λ (block : Option (Option Block)). (line : List ℕ) → IsRead line c.read_record-found.result → EndingTaken stood new c.args.actor c.args.wanted.now line block)
     (λ (block : Option (Option Block)). RequestTaken c.args.machine.now new c.args.text.now c.args.cursor.now c.next_line.new.cursor c.args.actor c.args.wanted.now block)
@@ -42,7 +41,7 @@ returns-in-Ok-false-clause-within c = if_any c.take_ending.result (IsWithin c.ar
 pub lines-preserved : goal.lines-preserved
 lines-preserved c =
     let low : c.lines.cursor.lines < 2 ^ 32 = (let a = c.lines.invariant.within.lines in let b = c.lines.invariant.within.bytes in
-    let short = c.requires.short in omega (arith, a, b, short)) in
+    omega (arith, a, b, c.requires.short)) in
     record {
       profile = c.in-Ok-true.ensures.profile ∙ c.lines.invariant.profile;
       within = c.in-Some.ensures.within;

@@ -1,7 +1,6 @@
 use Rattle.std.proofs.Common.{◌≡◌, ◌-◌, length}
 use Rattle.pas_machine.specs.Machines.{profile_of}
-use Rattle.pas_check.specs.Calls.{RequestGoes}
-use Rattle.pas_check.specs.Leading.{IsWithin}
+use Rattle.pas_check.specs.{Calls.RequestGoes, Leading.IsWithin}
 use Rattle.pas_check.proofs.requesting.take_request.Given as goal
 
 abbrev pub invariant-lines : goal.invariant-lines

@@ -1,5 +1,4 @@
-use Rattle.std.proofs.Common.{◌≡◌, sym, subst, ◌∙◌, arith}
-use Rattle.std.specs.Prelude.{IfSome}
+use Rattle.std.proofs.Common.{◌≡◌, sym, subst, ◌∙◌, arith, IfSome}
 use Rattle.std.proofs.lemmas.Option.{same_Some}
 use Rattle.pas_report.specs.Lines.{line_of}
 use Rattle.pas_check.proofs.Servings.{refusal_unread, refusal_seen}

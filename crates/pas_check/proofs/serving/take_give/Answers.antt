@@ -1,10 +1,8 @@
-use Rattle.std.proofs.Common.{◌≡◌, ℕ, List, sym, subst, ◌∙◌}
-use Rattle.std.specs.Prelude.{IfSome}
+use Rattle.std.proofs.Common.{◌≡◌, ℕ, List, sym, subst, ◌∙◌, IfSome}
 use Rattle.std.proofs.lemmas.Option.{same_Some}
 use Rattle.pas_report.specs.Lines.{line_of_event}
 use Rattle.pas_check.specs.Calls.{GiveTaken, IsGiven, IsRead}
-use Rattle.pas_check.proofs.Servings.{give_unread, give_taken}
-use Rattle.pas_check.proofs.Takings.{if_ok}
+use Rattle.pas_check.proofs.{Servings.give_unread, Servings.give_taken, Takings.if_ok}
 use Rattle.pas_check.proofs.serving.take_give.Goals as goal
 
 pub returns-in_default-clause-taken : goal.returns-in_default-clause-taken

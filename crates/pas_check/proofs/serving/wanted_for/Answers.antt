@@ -1,9 +1,8 @@
 use Rattle.std.proofs.Common.{sym, subst, ◌∙◌}
 use Rattle.pas_profile.specs.Directories.{IsKind}
 use Rattle.pas_heap.specs.Heaps.{is_marked}
-use Rattle.pas_check.proofs.Servings.{class_kind}
+use Rattle.pas_check.proofs.{Servings.class_kind, serving.wanted_for.Goals.in-Class, serving.wanted_for.Goals.in-Bitfit, serving.wanted_for.Goals.in-Large}
 use Rattle.pas_check.proofs.serving.wanted_for.Goals as goal
-use Rattle.pas_check.proofs.serving.wanted_for.Goals.{in-Class, in-Bitfit, in-Large}
 
 pub returns-clause-kind : goal.returns-clause-kind
 returns-clause-kind c = elim c.match-route.branch [

@@ -1,5 +1,4 @@
-use Rattle.std.proofs.Common.{◌≡◌, sym, subst, ◌∙◌}
-use Rattle.std.specs.Prelude.{IfSome}
+use Rattle.std.proofs.Common.{◌≡◌, sym, subst, ◌∙◌, IfSome}
 use Rattle.std.proofs.lemmas.Option.{none-some}
 use Rattle.pas_report.specs.Lines.{line_of}
 use Rattle.pas_report.specs.declared.record.Record.{Record}

@@ -7,14 +7,12 @@ use Rattle.pas_check.proofs.taking.reason_beside.Goals.{else-entry-gt0-via-then-
 pub returns-then-entry-block : goal.returns-then-entry-block
 returns-then-entry-block c = λ f es run b is same.
     let turn = ap (λ (x : Block). x.name.turn) same in
-    let low = c.if-entry-block.true in
-    (tt, ended_before f es run c.args.entry b is (omega (arith, turn, low)))
+    (tt, ended_before f es run c.args.entry b is (omega (arith, turn, c.if-entry-block.true)))
 
 pub returns-then-entry-block-2 : goal.returns-then-entry-block-2
 returns-then-entry-block-2 c = λ f es run b is same.
     let turn = ap (λ (x : Block). x.name.turn) same in
-    let high = c.if-entry-block-2.true in
-    (tt, not_yet f es run c.args.entry b is (omega (arith, turn, high)))
+    (tt, not_yet f es run c.args.entry b is (omega (arith, turn, c.if-entry-block-2.true)))
 
 pub returns-then-entry-block-3 : goal.returns-then-entry-block-3
 returns-then-entry-block-3 c = λ f es run b is same.
@@ -32,5 +30,5 @@ returns c = λ f es run b is same.
     let high = c.if-entry-block-2.false in
     elim c.else-entry-gt0.branch [
       | else-entry-gt0-via-then-entry-gt0+else-entry-block-3 w ↦ may_end f es run c.args.entry b is (omega (arith, turn, low, high)) (λ some. ap (λ (x : Block). x.room) same ∙ sym w.if-entry-block-3.false)
-      | else-entry-gt0-via-else-entry-gt0 w ↦ may_end f es run c.args.entry b is (omega (arith, turn, low, high)) (λ some. let none = w.if-entry-gt0.false in absurd (omega (arith, some, none)))
+      | else-entry-gt0-via-else-entry-gt0 w ↦ may_end f es run c.args.entry b is (omega (arith, turn, low, high)) (λ some. absurd (omega (arith, some, w.if-entry-gt0.false)))
     ]

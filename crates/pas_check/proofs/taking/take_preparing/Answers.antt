@@ -1,5 +1,4 @@
-use Rattle.std.proofs.Common.{◌≡◌, ℕ, List, sym, subst, ◌∙◌, arith}
-use Rattle.std.specs.Prelude.{IfSome}
+use Rattle.std.proofs.Common.{◌≡◌, ℕ, List, sym, subst, ◌∙◌, arith, IfSome}
 use Rattle.std.proofs.lemmas.Option.{same_Some}
 use Rattle.pas_report.specs.Lines.{line_of_event}
 use Rattle.pas_check.specs.Calls.{IsRead, IsStepped, PreparingTaken}

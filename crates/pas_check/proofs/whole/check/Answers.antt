@@ -3,11 +3,8 @@ use Rattle.pas_profile.specs.declared.profile.Profile.{Profile}
 use Rattle.pas_machine.specs.Machines.{profile_of}
 use Rattle.pas_trace.specs.Acts.{keepers_of}
 use Rattle.pas_trace.specs.declared.plan.Phase.{Phase}
-use Rattle.pas_trace.proofs.EveryPlan.{every_plan}
-use Rattle.pas_trace.proofs.Keepers.{keepers_few}
-use Rattle.pas_check.specs.Begins.{report_due}
-use Rattle.pas_check.specs.Checks.{IsSoFar}
-use Rattle.pas_check.specs.States.{at_first}
+use Rattle.pas_trace.proofs.{EveryPlan.every_plan, Keepers.keepers_few}
+use Rattle.pas_check.specs.{Begins.report_due, Checks.IsSoFar, States.at_first}
 use Rattle.pas_check.proofs.Wholes.{acts_amiss, acts_on, ended_well, goes_on, known, opening_within, plan_few, planned_there, report_amiss, reported}
 use Rattle.pas_check.proofs.whole.check.Goals as goal
 use Rattle.pas_check.proofs.whole.check.Goals.{In-Ok-true}
@@ -45,8 +42,7 @@ pub take_report-requires-clause-known : goal.take_report-requires-clause-known
 take_report-requires-clause-known c =
     let d = (goal.at.take_report-requires-clause-known c).In-Ok-true in
     let within = rw c.in-Ok-true.field-0-test at c.in-Ok-true.ensures.within in
-    let short = c.requires.short in
-    let low : c.take_acts.new.cursor.lines ≤ 2 ^ 24 = (let a = within.lines in let b = within.bytes in omega (arith, a, b, short)) in
+    let low : c.take_acts.new.cursor.lines ≤ 2 ^ 24 = (omega (arith, within.lines, within.bytes, c.requires.short)) in
     known c.args.plan.now c.args.transcript.now c.take_acts.new.judge c.take_acts.new.cursor (so_far d) low
 
 pub returns-then-not-take_report : goal.returns-then-not-take_report
@@ -76,8 +72,6 @@ returns c =
 pub take_acts-requires-clause-kept : goal.take_acts-requires-clause-kept
 take_acts-requires-clause-kept c =
     let valid = (every_plan c.requires.plan.2).valid in
-    let most = valid.threads in
     let few : keepers_of c.args.plan.now ≤ c.args.plan.now.profile.threads = keepers_few c.args.plan.now in
     let count = ap (λ (f : Profile). f.threads) c.in-Ok.ensures.profile in
-    let is = c.keeper_count-keepers.ensures in
-    omega (arith, most, few, count, is)
+    omega (arith, valid.threads, few, count, c.keeper_count-keepers.ensures)

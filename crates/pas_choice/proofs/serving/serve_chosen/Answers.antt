@@ -1,7 +1,6 @@
 use Rattle.std.proofs.Common.{false}
 use Rattle.pas_bits.specs.Masks.{is_set}
-use Rattle.pas_search.proofs.ForBackEnds.{room_kept}
-use Rattle.pas_search.proofs.Pages.{quiet_by, can_leave, can_back}
+use Rattle.pas_search.proofs.{ForBackEnds.room_kept, Pages.quiet_by, Pages.can_leave, Pages.can_back}
 use Rattle.pas_choice.specs.Choices.{choosing}
 use Rattle.pas_choice.proofs.Parts.{looked_at, leaves_unfit, can_take, taken_from, keeps_chosen}
 use Rattle.pas_choice.proofs.serving.serve_chosen.Goals as goal

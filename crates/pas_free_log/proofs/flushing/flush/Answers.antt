@@ -1,23 +1,12 @@
-use Rattle.std.proofs.Common.{◌≡◌, [], ◌∷◌, ◌++◌, get_or, refl, sym, ◌∙◌, subst, arith, append_assoc}
-use Rattle.std.specs.Prelude.{option_to_list}
-use Rattle.std.proofs.lemmas.List.{take_all}
+use Rattle.std.proofs.Common.{◌≡◌, [], ◌∷◌, ◌++◌, get_or, refl, sym, ◌∙◌, subst, arith, append_assoc, option_to_list, take_all}
 use Rattle.pas_free_log.specs.declared.log.Entry.{Entry}
-use Rattle.pas_profile.specs.declared.word.Word.TheVariants as Word
+use Rattle.pas_profile.specs.declared.word.Word.{Word}
 use Rattle.pas_steps.specs.declared.step.Step.TheVariants.{Look}
-use Rattle.pas_steps.specs.Views.{View, epoch_of}
-use Rattle.pas_steps.specs.Events.{events_by}
-use Rattle.pas_steps.specs.Calls.{nothing, Does, Calls}
-use Rattle.pas_steps.specs.Kinds.{LookEpoch}
-use Rattle.pas_steps.specs.Desks.{made}
-use Rattle.pas_steps.proofs.Apart.{only_both}
+use Rattle.pas_steps.specs.{Views.View, Views.epoch_of, Events.events_by, Calls.nothing, Calls.Does, Calls.Calls, Kinds.LookEpoch, Desks.made, Clear.IsClear}
+use Rattle.pas_steps.proofs.{Apart.only_both, Calls.does_none, Calls.does_then, SpareRoom.spare_falls}
 use Rattle.pas_steps.proofs.Called.{call_none, call_idly, call_then, next_call}
-use Rattle.pas_steps.proofs.Calls.{does_none, does_then}
-use Rattle.pas_free_log.specs.Logs.{entries_in, entry_of}
-use Rattle.pas_steps.specs.Clear.{IsClear}
-use Rattle.pas_free_log.specs.Frames.{ending}
-use Rattle.pas_free_log.specs.Flushes.{Settled, event_for}
+use Rattle.pas_free_log.specs.{Logs.entries_in, Logs.entry_of, Frames.ending, Flushes.Settled, Flushes.event_for}
 use Rattle.pas_free_log.proofs.AllEntries.{events_more, stamps_more, entries_more, noted_more, noted_none, ranges_more, may_end, flushed}
-use Rattle.pas_steps.proofs.SpareRoom.{spare_falls}
 use Rattle.pas_free_log.proofs.flushing.flush.Goals as goal
 
 pub loop-entry-init : goal.loop-entry-init

@@ -1,19 +1,10 @@
-use Rattle.std.proofs.Common.{◌≡◌, ℕ, ◌+◌, List, [], ◌∷◌, ◌++◌, take}
-use Rattle.std.specs.Prelude.{map, reverse}
+use Rattle.std.proofs.Common.{◌≡◌, ℕ, ◌+◌, List, [], ◌∷◌, ◌++◌, take, map, reverse}
 use Rattle.std.specs.List.{flat_map}
-use Rattle.pas_profile.specs.declared.word.Word.TheVariants as Word
-use Rattle.pas_steps.specs.declared.step.Made.{Made}
-use Rattle.pas_steps.specs.declared.step.Step.TheVariants.{Look}
-use Rattle.pas_steps.specs.Views.{View, epoch_of}
-use Rattle.pas_steps.specs.Events.{events_by}
-use Rattle.pas_steps.specs.Calls.{nothing, Does, Calls}
-use Rattle.pas_steps.specs.Kinds.{Only}
-use Rattle.pas_steps.specs.Desks.{made}
-use Rattle.pas_steps.specs.Clear.{IsClear}
-use Rattle.pas_free_log.specs.Stamps.{stamps_by}
-use Rattle.pas_free_log.specs.Frames.{ending}
+use Rattle.pas_profile.specs.declared.word.Word.{Word}
+use Rattle.pas_steps.specs.declared.step.{Made.Made, Step.TheVariants.Look}
+use Rattle.pas_steps.specs.{Views.View, Views.epoch_of, Events.events_by, Calls.nothing, Calls.Does, Calls.Calls, Kinds.Only, Desks.made, Clear.IsClear}
+use Rattle.pas_free_log.specs.{Stamps.stamps_by, Frames.ending, Noted.AreRanges}
 use Rattle.pas_free_log.specs.Flushes.{Settled, shown_for, stamps_for, noted_after, EntriesSteps}
-use Rattle.pas_free_log.specs.Noted.{AreRanges}
 use Rattle.pas_free_log.proofs.flushing.flush.Given as goal
 
 -- the entries so far were settled

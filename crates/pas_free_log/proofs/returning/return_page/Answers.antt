@@ -1,8 +1,7 @@
 use Rattle.std.proofs.Common.{sym, ◌∙◌, subst}
 use Rattle.pas_profile.specs.Profiles.{IsDirectoryOf}
-use Rattle.pas_steps.proofs.Called.{next_call}
+use Rattle.pas_steps.proofs.{Called.next_call, ReadDeeds.directory_is}
 use Rattle.pas_free_log.proofs.OneEntry.{page_directory, run_grains, stamped_so, put_so, page_returned}
-use Rattle.pas_steps.proofs.ReadDeeds.{directory_is}
 use Rattle.pas_free_log.proofs.returning.return_page.Goals as goal
 
 pub unreachable-requires : goal.unreachable-requires

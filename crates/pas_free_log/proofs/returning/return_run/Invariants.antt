@@ -1,9 +1,7 @@
 use Rattle.std.proofs.Common.{◌≡◌, ◌-◌, ◌+◌, ◌≤◌, List}
 use Rattle.pas_steps.specs.declared.step.Made.{Made}
 use Rattle.pas_steps.specs.Calls.{Does, Calls}
-use Rattle.pas_free_log.specs.Stamps.{page_count}
-use Rattle.pas_free_log.specs.Frames.{run_freed, PutsBack}
-use Rattle.pas_free_log.specs.Returns.{MayReturn, PagesSteps}
+use Rattle.pas_free_log.specs.{Stamps.page_count, Frames.run_freed, Frames.PutsBack, Returns.MayReturn, Returns.PagesSteps}
 use Rattle.pas_free_log.proofs.OneEntry.{IsBorder}
 use Rattle.pas_free_log.proofs.returning.return_run.Given as goal
 

@@ -1,7 +1,8 @@
 use Rattle.std.proofs.Common.{◌≡◌, ◌+◌, ◌-◌, refl, ◌∙◌, arith}
 use Rattle.pas_scan.specs.Runs.{large_directory}
 use Rattle.pas_large.proofs.Finds.{may_find}
-use Rattle.pas_guard.proofs.Seeks.{sought_none, can_release_looked, seek_ends, seek_more, seek_jump, can_claim, can_release_lost, seek_lost, seek_claimed, seek_found, can_slide, seek_slide, anything_goes}
+use Rattle.pas_guard.proofs.Seeks.{sought_none, can_release_looked, seek_ends, seek_more, seek_jump, can_claim, can_release_lost, seek_lost, seek_claimed}
+use Rattle.pas_guard.proofs.Seeks.{seek_found, can_slide, seek_slide, anything_goes}
 use Rattle.pas_guard.proofs.seeking.seek_run.Goals as goal
 
 pub loop-next-init : goal.loop-next-init

@@ -1,5 +1,4 @@
-use Rattle.std.proofs.Common.{List, length, refl, ap, ◌∙◌, arith}
-use Rattle.std.specs.Prelude.{slice_index_or}
+use Rattle.std.proofs.Common.{List, length, refl, ap, ◌∙◌, arith, slice_index_or}
 use Rattle.pas_guard.specs.declared.book.Guard.{Guard}
 use Rattle.pas_guard_tests.proofs.BetweenCalls.{looked_none, looked_both, can_look, no_guard, its_pages}
 use Rattle.pas_guard_tests.proofs.keeping.are_bare.Goals as goal

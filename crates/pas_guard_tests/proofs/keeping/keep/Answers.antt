@@ -20,7 +20,7 @@ try_guarded-requires-clause-admitted g c =
     admits_page (g.D.Desk.standing c.loop-round.desk).seat.profile (subst (λ (s : Seat). 1 ≤ s.profile.pages) (sym same) c.requires.pages) (subst (λ (s : Seat). 1 ≤ s.profile.heaps) (sym same) c.requires.heaps)
 
 pub try_guarded-requires-clause-can : goal.try_guarded-requires-clause-can
-try_guarded-requires-clause-can g c = let lt = c.loop-round-test.true in can_try (c.args.rounds - c.loop-round.round) (c.args.rounds - (c.loop-round.round + 1)) (omega (arith, lt)) c.loop-round.invariant.can
+try_guarded-requires-clause-can g c = can_try (c.args.rounds - c.loop-round.round) (c.args.rounds - (c.loop-round.round + 1)) (omega (arith, c.loop-round-test.true)) c.loop-round.invariant.can
 
 pub are_bare-here-requires : goal.are_bare-here-requires
 are_bare-here-requires g c = let lt = c.loop-round-test.true in

@@ -1,5 +1,4 @@
-use Rattle.std.proofs.Common.{rules, ◌-◌, length, drop, arith, length-drop}
-use Rattle.std.proofs.lemmas.List.{take_all}
+use Rattle.std.proofs.Common.{rules, ◌-◌, length, drop, arith, length-drop, take_all}
 use Rattle.pas_io.proofs.Telling.{writes_on, front_of}
 use Rattle.pas_io.proofs.whole.write_all.Goals as goal
 

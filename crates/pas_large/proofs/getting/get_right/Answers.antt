@@ -1,5 +1,4 @@
-use Rattle.std.proofs.Common.{sym, ◌∙◌}
-use Rattle.std.proofs.Common.{false, ◌==◌, subst}
+use Rattle.std.proofs.Common.{sym, ◌∙◌, false, ◌==◌, subst}
 use Rattle.pas_large.specs.Pages.{GetsPage}
 use Rattle.pas_large.proofs.Pages.{claim_gets, deed_gets, look_gets}
 use Rattle.pas_large.proofs.getting.get_right.Goals as goal

@@ -1,9 +1,8 @@
 use Rattle.std.proofs.Common.{◌+◌, ◌-◌, ◌≤◌, length, subst, sym, refl, ◌∙◌, arith}
 use Rattle.pas_search.proofs.ForBackEnds.{room_after}
 use Rattle.pas_large.specs.Gives.{BacksRun}
-use Rattle.pas_large.proofs.Claims.{pages_call}
+use Rattle.pas_large.proofs.{Claims.pages_call, InOrder.backs_few}
 use Rattle.pas_large.proofs.Gives.{backed_none, can_back_next, backed_more, back_events}
-use Rattle.pas_large.proofs.InOrder.{backs_few}
 use Rattle.pas_large.proofs.giving.back_run.Goals as goal
 
 pub loop-page-init : goal.loop-page-init

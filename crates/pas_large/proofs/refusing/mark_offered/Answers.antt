@@ -1,11 +1,8 @@
 use Rattle.std.proofs.Common.{◌≡◌, ◌∷◌, ap, ◌∙◌, subst, arith}
 use Rattle.pas_profile.specs.Directories.{number_of}
-use Rattle.pas_profile.specs.declared.word.Word.TheVariants as Word
-use Rattle.pas_profile.specs.declared.profile.Profile.{Profile}
-use Rattle.pas_steps.specs.declared.step.Made.{Made}
-use Rattle.pas_steps.specs.declared.step.Step.TheVariants.{Look}
-use Rattle.pas_steps.specs.Frames.{IsScan}
-use Rattle.pas_steps.specs.Desks.{Makes, made}
+use Rattle.pas_profile.specs.declared.{word.Word.Word, profile.Profile.Profile}
+use Rattle.pas_steps.specs.declared.step.{Made.Made, Step.TheVariants.Look}
+use Rattle.pas_steps.specs.{Frames.IsScan, Desks.Makes, Desks.made}
 use Rattle.pas_steps.proofs.Adding.{adds_step}
 use Rattle.pas_large.proofs.Refusals.{marked_more}
 use Rattle.pas_large.proofs.refusing.mark_offered.Goals as goal
@@ -21,7 +18,7 @@ loop-block-preserved g c =
       steps = step ∷ i.steps;
       adds = adds_step i.adds makes (λ v l stood met. tt);
       scans = (IsScan.LooksEligible (number_of d) block, i.scans);
-      few = (let few = i.few in omega (arith, few));
+      few = (omega (arith, i.few));
       marked = marked_more d block a c.loop-block.looked.unfit i.steps (omega (arith, few, pages, test)) i.scans i.marked;
       directory = i.directory;
       home = c.look-value.ensures.home ∙ i.home;

@@ -1,6 +1,5 @@
 -- the records of the outcomes so far were added
-use Rattle.std.proofs.Common.{◌≡◌, ◌++◌, take}
-use Rattle.std.specs.Prelude.{map}
+use Rattle.std.proofs.Common.{◌≡◌, ◌++◌, take, map}
 use Rattle.pas_report.specs.Rooms.{records_in, room_of}
 use Rattle.pas_passes.specs.Records.{record_of}
 use Rattle.pas_passes.proofs.passing.push_outcomes.Given as goal

@@ -1,6 +1,5 @@
 -- The passes so far, and those of the rooms that are left, are all passes.
-use Rattle.std.proofs.Common.{◌≡◌, ◌≤◌, ◌+◌, ◌++◌, length, vec_len}
-use Rattle.std.specs.Prelude.{vec_capacity}
+use Rattle.std.proofs.Common.{◌≡◌, ◌≤◌, ◌+◌, ◌++◌, length, vec_len, vec_capacity}
 use Rattle.pas_plain.specs.Plain.{passes_from}
 use Rattle.pas_plain.proofs.pass.passes_for.Given as goal
 

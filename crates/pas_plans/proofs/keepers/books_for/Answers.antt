@@ -1,8 +1,7 @@
 use Rattle.std.proofs.Common.{refl, sym, ◌∙◌, arith}
 use Rattle.pas_trace.specs.EveryPlan.{operations_of}
-use Rattle.pas_trace.proofs.EveryPlan.{every_plan}
+use Rattle.pas_trace.proofs.{EveryPlan.every_plan, Keepers.keepers_few}
 use Rattle.pas_plans.specs.Keepers.{guarded_of}
-use Rattle.pas_trace.proofs.Keepers.{keepers_few}
 use Rattle.pas_plans.proofs.Counting.{no_books, same_books, books_in}
 use Rattle.pas_plans.proofs.keepers.books_for.Goals as goal
 
@@ -13,8 +12,7 @@ pub books_of-requires : goal.books_of-requires
 books_of-requires c =
     let few = keepers_few c.args.plan.now in
     let most = (every_plan c.requires.1).valid.threads in
-    let same = c.keepers_of-keepers.ensures in
-    omega (arith, few, most, same)
+    omega (arith, few, most, c.keepers_of-keepers.ensures)
 
 pub returns : goal.returns
 returns c = books_in c.books_of.result c.keepers_of-keepers.ensures c.guarded_by_thread.ensures c.books_of.ensures

@@ -10,10 +10,9 @@ pub loop-below-preserved : goal.loop-below-preserved
 loop-below-preserved c =
     let i = c.loop-below.invariant in
     let reserved = i.reserved in
-    let same = c.push_reserved.ensures.capacity in
     record {
       made = next_book c.push_reserved.new.self.items c.in_ok-book.book c.push_reserved.ensures.items c.in_ok-book.ensures.empty c.in_ok-book.ensures.size i.made;
-      reserved = omega (arith, reserved, same);
+      reserved = omega (arith, reserved, c.push_reserved.ensures.capacity);
     }
 
 pub returns : goal.returns

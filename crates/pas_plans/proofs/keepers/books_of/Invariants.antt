@@ -1,6 +1,5 @@
 -- the keepers so far have their books
-use Rattle.std.proofs.Common.{◌≤◌, slice_index_or}
-use Rattle.std.specs.Prelude.{vec_capacity}
+use Rattle.std.proofs.Common.{◌≤◌, slice_index_or, vec_capacity}
 use Rattle.pas_plans.specs.Keepers.{AreBooksFor}
 use Rattle.pas_plans.proofs.keepers.books_of.Given as goal
 

@@ -1,8 +1,6 @@
-use Rattle.std.proofs.Common.{◌<◌, ◌==◌, ℕ, Bool, if◌then◌else◌, List, get_or, refl, ap, arith, drop_of_length-le}
-use Rattle.std.proofs.lemmas.Bool.{eq-eqb}
+use Rattle.std.proofs.Common.{◌<◌, ◌==◌, ℕ, Bool, if◌then◌else◌, List, get_or, refl, ap, arith, drop_of_length-le, eq-eqb}
 use Rattle.pas_trace.specs.Asked.{keeper_in}
-use Rattle.pas_trace.specs.declared.plan.Op.{Op}
-use Rattle.pas_trace.specs.declared.plan.What.TheVariants.{Alloc}
+use Rattle.pas_trace.specs.declared.plan.{Op.Op, What.TheVariants.Alloc}
 use Rattle.pas_plans.specs.Keepers.{one_guarded, guarded_of}
 use Rattle.pas_plans.proofs.Counting.{all_at, guarded_next, count_more}
 use Rattle.pas_plans.proofs.keepers.count_guarded.Goals as goal
@@ -20,8 +18,7 @@ add-requires-clause-few c =
     let next = guarded_next op.actor c.args.ops.now c.loop-op.op-index past c.loop-op-test.true in
     let one = ap (λ (t : Bool). if t then one_guarded (keeper_in op.what) else 0) (eq-eqb op.actor op.actor refl) in
     let few = c.requires.few op.actor in
-    let more = c.guarded_in.ensures in
-    omega (arith, now, next, one, few, more)
+    omega (arith, now, next, one, few, c.guarded_in.ensures)
 
 pub loop-op-preserved : goal.loop-op-preserved
 loop-op-preserved c = record {

@@ -1,10 +1,8 @@
 use Rattle.std.proofs.Common.{◌≡◌, ℕ, ◌<◌, List, replicate, get_or, map, subst, sym, ap, ◌∙◌, arith, drop_of_length-le}
 use Rattle.std.specs.List.{AllByRecursion}
 use Rattle.std.proofs.lemmas.List.{get_or-replicate, length-replicate, get_or_past}
-use Rattle.pas_trace.specs.EveryPlan.{all_ops}
-use Rattle.pas_trace.specs.Plans.{ops_of}
-use Rattle.pas_trace.specs.declared.plan.Op.{Op}
-use Rattle.pas_trace.specs.declared.plan.Phase.{Phase}
+use Rattle.pas_trace.specs.{EveryPlan.all_ops, Plans.ops_of}
+use Rattle.pas_trace.specs.declared.plan.{Op.Op, Phase.Phase}
 use Rattle.pas_trace.proofs.EveryPlan.{every_plan}
 use Rattle.pas_answers.specs.Replays.{phases_of}
 use Rattle.pas_plans.specs.Keepers.{guarded_of}
@@ -31,12 +29,11 @@ count_guarded-requires-clause-actors c =
 pub count_guarded-requires-clause-few : goal.count_guarded-requires-clause-few
 count_guarded-requires-clause-few c = λ k.
     let sound = every_plan c.requires.1 in
-    let total = sound.total in
     let now = c.loop-phase.invariant.counts k in
     let next = phases_next k c.as_slice-phase-items.result.now c.loop-phase.phase-index c.phase-item.result c.loop-phase-test.true c.phase-item.is in
     let few = guarded_few c.args.plan.now.profile k (all_ops (phases_of c.args.plan.now)) in
     let same = ap (λ (ops : List Op). guarded_of k ops) c.as_slice.ensures in
-    omega (arith, total, now, next, few, same)
+    omega (arith, sound.total, now, next, few, same)
 
 pub loop-phase-preserved : goal.loop-phase-preserved
 loop-phase-preserved c = record {

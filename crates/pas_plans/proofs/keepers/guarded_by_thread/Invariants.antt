@@ -1,7 +1,6 @@
 -- the guarded requests of the phases so far are counted
 use Rattle.std.proofs.Common.{◌≡◌, ◌+◌, ℕ, drop, map, slice_index_or}
-use Rattle.pas_trace.specs.EveryPlan.{all_ops, operations_of}
-use Rattle.pas_trace.specs.Plans.{ops_of}
+use Rattle.pas_trace.specs.{EveryPlan.all_ops, EveryPlan.operations_of, Plans.ops_of}
 use Rattle.pas_plans.specs.Keepers.{guarded_of}
 use Rattle.pas_plans.proofs.keepers.guarded_by_thread.Given as goal
 

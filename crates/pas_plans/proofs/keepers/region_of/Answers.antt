@@ -1,9 +1,7 @@
 use Rattle.std.proofs.Common.{◌≡◌, ◌+◌, ℕ, ap, sym, ◌∙◌, subst, arith}
 use Rattle.pas_profile.specs.Profiles.{IsValid}
-use Rattle.pas_trace.specs.Acts.{keepers_of}
-use Rattle.pas_trace.specs.Reasons.{actors_by}
-use Rattle.pas_trace.proofs.EveryPlan.{every_plan}
-use Rattle.pas_trace.proofs.Keepers.{plan_actors}
+use Rattle.pas_trace.specs.{Acts.keepers_of, Reasons.actors_by}
+use Rattle.pas_trace.proofs.{EveryPlan.every_plan, Keepers.plan_actors}
 use Rattle.pas_plans.proofs.PlanFacts.{plan_valid}
 use Rattle.pas_plans.proofs.keepers.region_of.Goals as goal
 
@@ -12,8 +10,7 @@ overflow_add-result c =
     let plan = c.args.plan.now in
     let few = (every_plan c.requires.1).actors in
     let behind : plan.profile.threads + keepers_of plan ≡ actors_by plan.guard plan.profile.threads = plan_actors plan in
-    let same = c.keepers_of.ensures in
-    omega (arith, few, behind, same)
+    omega (arith, few, behind, c.keepers_of.ensures)
 
 pub returns-clause-valid : goal.returns-clause-valid
 returns-clause-valid c =

@@ -1,6 +1,5 @@
 -- the threads so far have empty caches, and the seats of the others are left
-use Rattle.std.proofs.Common.{◌≡◌, ◌≤◌, ◌<◌, ℕ}
-use Rattle.std.specs.Prelude.{vec_capacity}
+use Rattle.std.proofs.Common.{◌≡◌, ◌≤◌, ◌<◌, ℕ, vec_capacity}
 use Rattle.pas_utility.specs.Pools.{threads_of, has_seat, outcomes_of}
 use Rattle.pas_plans.specs.Parts.{AreUnused}
 use Rattle.pas_plans.proofs.parts.caches_for.Given as goal

@@ -1,6 +1,5 @@
 -- the actors so far have their rooms, and those of the others are left
-use Rattle.std.proofs.Common.{◌≡◌, ◌≤◌, ◌+◌, ℕ}
-use Rattle.std.specs.Prelude.{vec_capacity}
+use Rattle.std.proofs.Common.{◌≡◌, ◌≤◌, ◌+◌, ℕ, vec_capacity}
 use Rattle.pas_utility.specs.Pools.{threads_of, room_of, has_seat, outcomes_of}
 use Rattle.pas_plans.specs.Parts.{AreRooms}
 use Rattle.pas_plans.proofs.parts.rooms_of.Given as goal

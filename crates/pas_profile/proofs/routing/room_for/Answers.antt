@@ -1,6 +1,5 @@
 use Rattle.std.proofs.Common.{◌∙◌, sym, arith}
-use Rattle.pas_profile.proofs.ClassFacts.{class_suits, class_known}
-use Rattle.pas_profile.proofs.Requests.{room_routed}
+use Rattle.pas_profile.proofs.{ClassFacts.class_suits, ClassFacts.class_known, Requests.room_routed}
 use Rattle.pas_profile.proofs.routing.room_for.Goals as goal
 
 pub class_size-requires : goal.class_size-requires

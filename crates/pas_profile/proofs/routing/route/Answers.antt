@@ -1,5 +1,5 @@
-use Rattle.std.proofs.Common.{◌%◌, max, sym, ◌∙◌, arith, leb, eqb}
-use Rattle.std.proofs.lemmas.Bool.{le-leb, eq-eqb, ne_eqb, and_from, and_right}
+use Rattle.std.proofs.Common.{◌%◌, max, sym, ◌∙◌, arith, leb, eqb, le-leb, eq-eqb, ne_eqb}
+use Rattle.std.proofs.lemmas.Bool.{and_from, and_right}
 use Rattle.pas_profile.specs.Classes.{class_size}
 use Rattle.pas_profile.proofs.Sizes.{count_le, begins_at, found_at, passed_at, none_above, after_all, route_found, bitfit_for, large_for}
 use Rattle.pas_profile.proofs.routing.route.Goals as goal
@@ -37,7 +37,7 @@ pub returns-then-size-le-MOST_BITFIT : goal.returns-then-size-le-MOST_BITFIT
 returns-then-size-le-MOST_BITFIT c = bitfit_for c.args.classes c.args.size c.args.align c.if-size-le-MOST_BITFIT.true
     (elim c.if-grains-lt65.branch [
       | then-grains-lt65+else-loop-class-test w ↦ after_all c.args.classes c.args.size c.args.align w.loop-class.class w.loop-class-test.false w.loop-class.invariant.rest
-      | else-grains-lt65 w ↦ none_above c.args.classes c.args.size c.args.align (let past = w.if-grains-lt65.false in omega (arith, past, c.div_ceil-grains.ensures))
+      | else-grains-lt65 w ↦ none_above c.args.classes c.args.size c.args.align (omega (arith, w.if-grains-lt65.false, c.div_ceil-grains.ensures))
     ])
 
 pub returns-else-size-le-MOST_BITFIT : goal.returns-else-size-le-MOST_BITFIT

@@ -1,8 +1,6 @@
 -- The free words below the number are filled.
-use Rattle.std.proofs.Common.{◌≡◌, ℕ, ◌+◌, ◌-◌, ◌*◌, ◌^◌, if◌then◌else◌, vec_len, slice_index}
-use Rattle.std.specs.Prelude.{nat_lt}
-use Rattle.pas_profile.specs.Profiles.{IsWordIn}
-use Rattle.pas_profile.specs.Layouts.{index_of, words_of}
+use Rattle.std.proofs.Common.{◌≡◌, ℕ, ◌+◌, ◌-◌, ◌*◌, ◌^◌, if◌then◌else◌, vec_len, slice_index, nat_lt}
+use Rattle.pas_profile.specs.{Profiles.IsWordIn, Layouts.index_of, Layouts.words_of}
 use Rattle.pas_profile.specs.declared.word.Word.{Word}
 use Rattle.pas_region.proofs.opening.opening_words.Given as goal
 

@@ -1,6 +1,5 @@
 use Rattle.std.proofs.Common.{All}
-use Rattle.pas_free_log.specs.Conditions.{IsEntryOf}
-use Rattle.pas_free_log.specs.Logs.{entries_in}
+use Rattle.pas_free_log.specs.{Conditions.IsEntryOf, Logs.entries_in}
 use Rattle.pas_region_tests.proofs.free_log.full_log.Given as goal
 
 -- each entry so far may be ended

@@ -1,15 +1,10 @@
 -- Each step of the test is allowed by the steps before it, whose answers are told.
-use Rattle.std.proofs.Common.{◌≡◌, ℕ, ◌-◌, ◌/◌, ◌%◌, ◌^◌, true, [], ◌∷◌, refl, ap, sym, subst, arith, leb, ltb}
-use Rattle.std.proofs.lemmas.Bool.{and_parts, leb-true, ltb-true}
-use Rattle.pas_profile.specs.declared.directory.Directory.{Directory}
-use Rattle.pas_profile.specs.declared.directory.Kind.TheVariants.{Class}
-use Rattle.pas_profile.specs.declared.name.Block.{Block}
-use Rattle.pas_profile.specs.declared.name.Name.{Name}
-use Rattle.pas_profile.specs.declared.profile.Profile.{Profile}
-use Rattle.pas_profile.specs.declared.word.Word.TheVariants as Word
+use Rattle.std.proofs.Common.{◌≡◌, ℕ, ◌-◌, ◌/◌, ◌%◌, ◌^◌, true, [], ◌∷◌, refl, ap, sym, subst, arith, leb, ltb, leb-true, ltb-true}
+use Rattle.std.proofs.lemmas.Bool.{and_parts}
+use Rattle.pas_profile.specs.declared.{directory.Directory.Directory, directory.Kind.TheVariants.Class, name.Block.Block, name.Name.Name}
+use Rattle.pas_profile.specs.declared.{profile.Profile.Profile, word.Word.Word}
 use Rattle.pas_bits.specs.Runs.{in_run}
-use Rattle.pas_steps.specs.Allowed.{Allowed, KnowsBearing}
-use Rattle.pas_steps.specs.Desks.{made, Makes}
+use Rattle.pas_steps.specs.{Allowed.Allowed, Allowed.KnowsBearing, Desks.made, Desks.Makes}
 use Rattle.pas_steps.specs.Views.{View, any_below, holds, has_right, known_deed, knows_backed, known_life}
 use Rattle.pas_steps.specs.declared.step.Step.{Step}
 use Rattle.pas_steps.specs.declared.step.Step.TheVariants.{Look, Deed, Back, Take, Give, End}

@@ -3,8 +3,7 @@ use Rattle.pas_profile.specs.declared.profile.Profile.{Profile}
 use Rattle.pas_steps.specs.Clear.{HasNothing}
 use Rattle.pas_plain.specs.Plain.{profile_of, RegionStands, actor_of, PassStands}
 use Rattle.pas_plain.specs.Storms.{StormStands}
-use Rattle.pas_plain.specs.declared.pass.PlainPass.{PlainPass}
-use Rattle.pas_plain.specs.declared.region.PlainRegion.{PlainRegion}
+use Rattle.pas_plain.specs.declared.{pass.PlainPass.PlainPass, region.PlainRegion.PlainRegion}
 use Rattle.pas_region_tests.proofs.storms.stormed.Goals as goal
 
 -- what holds of all holds of the last, and of those before it

@@ -1,9 +1,8 @@
-use Rattle.std.proofs.Common.{◌≡◌, ℕ, List, length, ap, sym, ◌∙◌, arith, slice_index}
-use Rattle.std.proofs.lemmas.Bool.{eqb-true, eq-eqb}
+use Rattle.std.proofs.Common.{◌≡◌, ℕ, List, length, ap, sym, ◌∙◌, arith, slice_index, eqb-true, eq-eqb}
 use Rattle.pas_plans.proofs.PlanFacts.{plan_bounds}
-use Rattle.pas_replay.proofs.PlansOfOne.{bound_shows, one_shows}
+use Rattle.pas_replay.proofs.{PlansOfOne.bound_shows, PlansOfOne.one_shows, alone.is_of_one_thread.Goals.then-plan-eq1}
+use Rattle.pas_replay.proofs.{alone.is_of_one_thread.Goals.else-plan-eq1}
 use Rattle.pas_replay.proofs.alone.is_of_one_thread.Goals as goal
-use Rattle.pas_replay.proofs.alone.is_of_one_thread.Goals.{then-plan-eq1, else-plan-eq1}
 
 pub bounds-as_slice : goal.bounds-as_slice
 bounds-as_slice c =
@@ -19,9 +18,8 @@ returns-then-plan-eq0 c =
     let alone : (plan.profile.threads ≡ 1) × (plan.guard ≡ 0) = elim c.if-plan-eq1.branch [
       | then-plan-eq1 w ↦ (w.if-plan-eq1.true, eqb-true plan.guard 0 (sym w.value-is ∙ c.if-plan-eq0.true))
       | else-plan-eq1 w ↦
-          let several = w.if-plan-eq1.false in
           let one = eqb-true plan.profile.threads 1 (sym w.value-is ∙ c.if-plan-eq0.true) in
-          absurd (omega (arith, several, one))
+          absurd (omega (arith, w.if-plan-eq1.false, one))
     ] in (
       λ is. bound_shows c.requires.1 alone.0 alone.1 (sym first ∙ eqb-true (slice_index bounds 0) 0 is),
       λ one. eq-eqb (slice_index bounds 0) 0 (first ∙ one_shows c.requires.1 one),

@@ -1,16 +1,12 @@
-use Rattle.std.proofs.Common.{All, ap, sym, subst, arith, length, List}
-use Rattle.std.specs.Prelude.{map}
-use Rattle.std.proofs.lemmas.List.{length-map}
-use Rattle.std.proofs.lemmas.List.Elements.{All-nil}
+use Rattle.std.proofs.Common.{All, ap, sym, subst, arith, length, List, map}
+use Rattle.std.proofs.lemmas.List.{length-map, Elements.All-nil}
 use Rattle.pas_plain.specs.Plain.{profile_of, PassStands}
 use Rattle.pas_plain.specs.declared.pass.PlainPass.{PlainPass}
-use Rattle.pas_trace.specs.Acts.{acts_of}
-use Rattle.pas_trace.specs.Plans.{ops_of}
+use Rattle.pas_trace.specs.{Acts.acts_of, Plans.ops_of}
 use Rattle.pas_trace.specs.declared.plan.Phase.{Phase}
 use Rattle.pas_plans.proofs.PlanFacts.{plan_phases, plan_valid, plan_operate, plan_fit}
 use Rattle.pas_trace.proofs.Keepers.{keepers_few}
-use Rattle.pas_answers.specs.Names.{names_held}
-use Rattle.pas_answers.specs.Replays.{threads_of, keepers_of}
+use Rattle.pas_answers.specs.{Names.names_held, Replays.threads_of, Replays.keepers_of}
 use Rattle.pas_replay.specs.Kits.{replay_of}
 use Rattle.pas_replay.proofs.StartAndEnd.{start, shows}
 use Rattle.pas_replay.proofs.kit.in_order.Goals as goal
@@ -25,10 +21,8 @@ replay-region-requires-clause-phases g c =
 
 pub replay-region-requires-clause-books : goal.replay-region-requires-clause-books
 replay-region-requires-clause-books g c =
-    let books = c.requires.kit.books.many in
-    let caches = c.requires.kit.unused.many in
     let few = keepers_few c.args.plan.now in
-    omega (arith, books, caches, few)
+    omega (arith, c.requires.kit.books.many, c.requires.kit.unused.many, few)
 
 pub replay-region-requires-clause-so_far : goal.replay-region-requires-clause-so_far
 replay-region-requires-clause-so_far g c =

@@ -1,6 +1,5 @@
 -- an index for each heap so far
-use Rattle.std.proofs.Common.{◌≡◌, ◌≤◌}
-use Rattle.std.specs.Prelude.{vec_capacity}
+use Rattle.std.proofs.Common.{◌≡◌, ◌≤◌, vec_capacity}
 use Rattle.pas_large.specs.Doors.{no_ranges}
 use Rattle.pas_replay.proofs.kit.indexes_for.Given as goal
 

@@ -1,6 +1,5 @@
 -- the passes that were placed and those that are left are all
-use Rattle.std.proofs.Common.{◌≤◌, ◌+◌, length}
-use Rattle.std.specs.Prelude.{vec_capacity}
+use Rattle.std.proofs.Common.{◌≤◌, ◌+◌, length, vec_capacity}
 use Rattle.pas_replay.proofs.Opening.{ArePlaced}
 use Rattle.pas_replay.proofs.kit.places_for.Given as goal
 

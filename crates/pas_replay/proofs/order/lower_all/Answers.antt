@@ -1,15 +1,12 @@
 use Rattle.std.proofs.Common.{◌≡◌, ◌∙◌, ◌+◌, ◌-◌, set, ap, arith}
-use Rattle.pas_replay.proofs.ActsInOrder.{next_keeper, no_keeper}
-use Rattle.pas_replay.proofs.Threads.{lowered_next}
+use Rattle.pas_replay.proofs.{ActsInOrder.next_keeper, ActsInOrder.no_keeper, Threads.lowered_next}
 use Rattle.pas_replay.proofs.order.lower_all.Goals as goal
 
 pub lower-requires-clause-thread : goal.lower-requires-clause-thread
 lower-requires-clause-thread c =
-    let test = c.loop-index-test.true in
     let so0 = c.requires.so_far in
-    let kept = so0.3.1.1.kept in
     let now = (c.loop-index.invariant.far so0.0 so0.1 so0.2 so0.3).1.1.kept in
-    omega (arith, test, kept, now)
+    omega (arith, c.loop-index-test.true, so0.3.1.1.kept, now)
 
 pub lower-requires-clause-so_far : goal.lower-requires-clause-so_far
 lower-requires-clause-so_far c =
@@ -39,14 +36,10 @@ loop-index-preserved c =
 
 pub returns-clause-so_far : goal.returns-clause-so_far
 returns-clause-so_far c table r more so =
-    let test = c.loop-index-test.false in
-    let kept = so.1.1.kept in
-    no_keeper c.loop-index.index more (omega (arith, test, kept)) (c.loop-index.invariant.far table r more so)
+    no_keeper c.loop-index.index more (omega (arith, c.loop-index-test.false, so.1.1.kept)) (c.loop-index.invariant.far table r more so)
 
 pub returns-clause-lowered : goal.returns-clause-lowered
 returns-clause-lowered c i d less =
-    let test = c.loop-index-test.false in
     let so0 = c.requires.so_far in
-    let was = so0.3.1.1.kept in
     let now = (c.loop-index.invariant.far so0.0 so0.1 so0.2 so0.3).1.1.kept in
-    c.loop-index.invariant.lowered i d (omega (arith, less, test, was, now))
+    c.loop-index.invariant.lowered i d (omega (arith, less, c.loop-index-test.false, so0.3.1.1.kept, now))

@@ -1,6 +1,5 @@
 -- the keepers so far lowered their guards
-use Rattle.std.proofs.Common.{◌≡◌, ◌+◌, ◌-◌, ◌<◌, ◌++◌, ℕ, List, [], get_or}
-use Rattle.std.specs.Prelude.{map}
+use Rattle.std.proofs.Common.{◌≡◌, ◌+◌, ◌-◌, ◌<◌, ◌++◌, ℕ, List, [], get_or, map}
 use Rattle.pas_guard.specs.Books.{guards_in}
 use Rattle.pas_guard.specs.declared.book.GuardBook.{GuardBook}
 use Rattle.pas_trace.specs.Acts.{Act, Lowers, numbers_from}

@@ -1,5 +1,4 @@
-use Rattle.std.proofs.Common.{◌≡◌, ◌+◌, ◌++◌, ◌∙◌, ℕ, List, [], ◌∷◌, length, refl, sym, ap, arith, drop, append-nil}
-use Rattle.std.specs.Prelude.{map}
+use Rattle.std.proofs.Common.{◌≡◌, ◌+◌, ◌++◌, ◌∙◌, ℕ, List, [], ◌∷◌, length, refl, sym, ap, arith, drop, append-nil, map}
 use Rattle.pas_trace.specs.Plans.{ops_of}
 use Rattle.pas_trace.specs.declared.plan.Op.{Op}
 use Rattle.pas_report.specs.Rooms.{records_in}
@@ -7,10 +6,9 @@ use Rattle.pas_report.specs.declared.record.Record.{Record}
 use Rattle.pas_trace.specs.Acts.{Act, Wakes, Ends, Lowers, acts_of, acts_of_ops, numbers_from}
 use Rattle.pas_replay.specs.Sessions.{Replay, SoFar, SoFarAt, hand_of, session}
 use Rattle.pas_plans.specs.Awake.{awake_in, idle_in}
-use Rattle.pas_replay.proofs.Turning.{may_sit}
+use Rattle.pas_replay.proofs.{Turning.may_sit, order.replay.Given.Over}
 use Rattle.pas_plans.proofs.ActsLeft.{acts_left, next_phase, first_phase, other_phase, last_phase}
 use Rattle.pas_replay.proofs.ActsInOrder.{as_acts, as_hand, as_first, after_mark, wakes_first}
-use Rattle.pas_replay.proofs.order.replay.Given.{Over}
 use Rattle.pas_replay.proofs.order.replay.Goals as goal
 use Rattle.pas_replay.proofs.order.replay.Goals.{then-number-gt-UNMARKED, else-number-gt-UNMARKED, After-active-awake, After-push-2}
 
@@ -54,7 +52,7 @@ module _ (g : Over) (c : After-active-awake g) (r : Replay) (is : r.acts ≡ act
             let number : c.loop-phase.number + 1 ≡ i + 1 = omega (arith, count) in
             let pushed = w.push.ensures.added ∙ ap (λ (n : ℕ). records_in c.loop-phase.out ++ Record.Phase n ∷ []) number in
             rw (w.out-is) (after_mark w.push.new.self (Record.Phase (i + 1)) (as_acts (other_phase r.threads r.keepers i ops rest (omega (arith, count, more))) far) (λ p. refl) refl (λ limit asked fit. fit) (λ indexes p q is. (refl, tt)) pushed w.push.ensures.size)
-        | else-number-gt-UNMARKED w ↦ let less = w.if-number-gt-UNMARKED.false in rw (w.out-is) (as_acts (first_phase r.threads r.keepers i ops rest (omega (arith, count, less))) far)
+        | else-number-gt-UNMARKED w ↦ rw (w.out-is) (as_acts (first_phase r.threads r.keepers i ops rest (omega (arith, count, w.if-number-gt-UNMARKED.false))) far)
       ])
 
 pub wake_all-requires-clause-so_far : goal.wake_all-requires-clause-so_far
@@ -110,12 +108,7 @@ pub lower_all-requires-clause-books : goal.lower_all-requires-clause-books
 lower_all-requires-clause-books g c =
     let so0 = c.requires.so_far in
     let stopped = c.stop_all.ensures.so_far c.loop-phase.names so0.0 _ (closes g (goal.at.lower_all-requires-clause-books g c).After-push-2 so0.0 so0.1 so0.2) in
-    let kept = so0.2.1.kept in
-    let many = so0.2.1.many in
-    let have = stopped.1.1.kept in
-    let threads = stopped.1.1.many in
-    let within = c.requires.books in
-    omega (arith, kept, many, have, threads, within)
+    omega (arith, so0.2.1.kept, so0.2.1.many, stopped.1.1.kept, stopped.1.1.many, c.requires.books)
 
 pub lower_all-requires-clause-so_far : goal.lower_all-requires-clause-so_far
 lower_all-requires-clause-so_far g c =

@@ -1,8 +1,6 @@
 -- the phases so far are done
-use Rattle.std.proofs.Common.{◌≡◌, drop, length}
-use Rattle.std.specs.Prelude.{map}
-use Rattle.pas_trace.specs.Plans.{ops_of}
-use Rattle.pas_trace.specs.Acts.{acts_of}
+use Rattle.std.proofs.Common.{◌≡◌, drop, length, map}
+use Rattle.pas_trace.specs.{Plans.ops_of, Acts.acts_of}
 use Rattle.pas_replay.specs.Sessions.{Replay, SoFar, SoFarAt, hand_of, session}
 use Rattle.pas_plans.proofs.ActsLeft.{acts_left}
 use Rattle.pas_replay.proofs.order.replay.Given as goal

@@ -1,13 +1,11 @@
-use Rattle.std.proofs.Common.{◌≡◌, ◌∙◌, ◌+◌, ◌-◌, ℕ, List, length, set, ap, arith}
-use Rattle.std.proofs.lemmas.List.{length-set}
+use Rattle.std.proofs.Common.{◌≡◌, ◌∙◌, ◌+◌, ◌-◌, ℕ, List, length, set, ap, arith, length-set}
 use Rattle.pas_cache.specs.declared.cache.ThreadCache.{ThreadCache}
 use Rattle.pas_trace.specs.Acts.{Ends}
-use Rattle.pas_replay.proofs.ActsInOrder.{next_number, no_number}
-use Rattle.pas_replay.proofs.Threads.{empty_next}
+use Rattle.pas_replay.proofs.{ActsInOrder.next_number, ActsInOrder.no_number, Threads.empty_next}
 use Rattle.pas_replay.proofs.order.stop_all.Goals as goal
 
 pub end-requires-clause-thread : goal.end-requires-clause-thread
-end-requires-clause-thread c = let test = c.loop-index-test.true in let same = c.loop-index.invariant.threads in omega (arith, test, same)
+end-requires-clause-thread c = omega (arith, c.loop-index-test.true, c.loop-index.invariant.threads)
 
 pub end-requires-clause-so_far : goal.end-requires-clause-so_far
 end-requires-clause-so_far c =
@@ -24,13 +22,11 @@ loop-index-preserved c =
     let now = c.loop-index.actors.caches.items in
     let ended = c.end.ensures.cache in
     record {
-      far = λ table r more so. let many = so.1.1.many in c.end.ensures.so_far table r _ (next_number Ends i r.threads more (omega (arith, test, many)) (c.loop-index.invariant.far table r more so));
+      far = λ table r more so. c.end.ensures.so_far table r _ (next_number Ends i r.threads more (omega (arith, test, so.1.1.many)) (c.loop-index.invariant.far table r more so));
       threads = ap (λ (cs : List ThreadCache). length cs) ended.1 ∙ length-set now (i + 1 - 1) ended.0 ∙ same;
       empty = empty_next now c.end.new.actors.caches.items i ended.0 (ended.1 ∙ ap (λ (j : ℕ). set now j ended.0) (let at : i + 1 - 1 ≡ i = omega arith in at)) (omega (arith, test, same)) c.loop-index.invariant.empty ended.2;
     }
 
 pub returns-clause-so_far : goal.returns-clause-so_far
 returns-clause-so_far c table r more so =
-    let test = c.loop-index-test.false in
-    let many = so.1.1.many in
-    no_number Ends c.loop-index.index r.threads more (omega (arith, test, many)) (c.loop-index.invariant.far table r more so)
+    no_number Ends c.loop-index.index r.threads more (omega (arith, c.loop-index-test.false, so.1.1.many)) (c.loop-index.invariant.far table r more so)

@@ -5,10 +5,9 @@ use Rattle.pas_trace.specs.Acts.{Act, ReadsEpoch, StopsIdle, numbers_from, idle_
 use Rattle.pas_answers.specs.declared.names.Names.{Names}
 use Rattle.pas_replay.specs.Sessions.{Replay, SoFarAt, session}
 use Rattle.pas_plans.specs.Awake.{idle_in}
-use Rattle.pas_replay.proofs.ActsInOrder.{as_read}
+use Rattle.pas_replay.proofs.{ActsInOrder.as_read, order.stop_idle.Goals.then-not-get, order.stop_idle.Goals.else-not-get}
 use Rattle.pas_plans.proofs.ActsLeft.{next_chosen, next_passed, none_left}
 use Rattle.pas_replay.proofs.order.stop_idle.Goals as goal
-use Rattle.pas_replay.proofs.order.stop_idle.Goals.{then-not-get, else-not-get}
 
 pub read_epoch-epoch-requires : goal.read_epoch-epoch-requires
 read_epoch-epoch-requires c = let so0 = c.requires.so_far in record { so_far = (so0.0, c.args.out.now, (so0.1.0, _, so0.1.2)) }
@@ -23,10 +22,7 @@ loop-index-init c = record {
 
 pub stop_if_idle-requires-clause-thread : goal.stop_if_idle-requires-clause-thread
 stop_if_idle-requires-clause-thread c =
-    let test = c.loop-index-test.true in
-    let len = c.len-threads.ensures in
-    let same = c.loop-index.invariant.threads in
-    omega (arith, test, len, same)
+    omega (arith, c.loop-index-test.true, c.len-threads.ensures, c.loop-index.invariant.threads)
 
 pub stop_if_idle-requires-clause-so_far : goal.stop_if_idle-requires-clause-so_far
 stop_if_idle-requires-clause-so_far c =

@@ -1,18 +1,16 @@
-use Rattle.std.proofs.Common.{◌≡◌, ◌∙◌, ◌+◌, ◌++◌, true, false, List, sym, arith}
-use Rattle.std.specs.Prelude.{map}
+use Rattle.std.proofs.Common.{◌≡◌, ◌∙◌, ◌+◌, ◌++◌, true, false, List, sym, arith, map}
 use Rattle.pas_bits.specs.Masks.{is_set}
 use Rattle.pas_report.specs.Rooms.{Records}
 use Rattle.pas_trace.specs.Acts.{Act, Wakes}
 use Rattle.pas_plans.specs.Awake.{awake_in}
 use Rattle.pas_replay.specs.Sessions.{Replay, SoFarAt, session}
 use Rattle.pas_answers.specs.declared.names.Names.{Names}
-use Rattle.pas_replay.proofs.ActsInOrder.{as_acts}
+use Rattle.pas_replay.proofs.{ActsInOrder.as_acts, order.wake_all.Goals.then-get, order.wake_all.Goals.else-get}
 use Rattle.pas_plans.proofs.ActsLeft.{next_chosen, next_passed, none_left}
 use Rattle.pas_replay.proofs.order.wake_all.Goals as goal
-use Rattle.pas_replay.proofs.order.wake_all.Goals.{then-get, else-get}
 
 pub wake-requires-clause-thread : goal.wake-requires-clause-thread
-wake-requires-clause-thread c = let test = c.loop-index-test.true in let same = c.loop-index.invariant.threads in omega (arith, test, same)
+wake-requires-clause-thread c = omega (arith, c.loop-index-test.true, c.loop-index.invariant.threads)
 
 pub wake-requires-clause-so_far : goal.wake-requires-clause-so_far
 wake-requires-clause-so_far c =

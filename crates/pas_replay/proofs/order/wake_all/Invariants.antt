@@ -1,6 +1,5 @@
 -- the threads so far read the epoch where they are active
-use Rattle.std.proofs.Common.{◌≡◌, ◌+◌, ◌-◌, ◌++◌, List, length}
-use Rattle.std.specs.Prelude.{map}
+use Rattle.std.proofs.Common.{◌≡◌, ◌+◌, ◌-◌, ◌++◌, List, length, map}
 use Rattle.std.specs.List.{filter}
 use Rattle.pas_bits.specs.Masks.{is_set}
 use Rattle.pas_report.specs.Rooms.{Records}

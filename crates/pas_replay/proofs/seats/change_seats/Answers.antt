@@ -1,6 +1,5 @@
 use Rattle.std.proofs.Common.{None, Some, ap, sym, ◌∙◌, subst, set}
-use Rattle.std.proofs.lemmas.List.{get_or_default}
-use Rattle.std.proofs.lemmas.Option.{same_Some}
+use Rattle.std.proofs.lemmas.{List.get_or_default, Option.same_Some}
 use Rattle.pas_plain.specs.Plain.{actor_of}
 use Rattle.pas_plain.specs.declared.pass.PlainPass.{PlainPass}
 use Rattle.pas_replay.specs.Sessions.{TakesSeat}

@@ -1,11 +1,7 @@
 use Rattle.std.proofs.Common.{◌∙◌, ◌++◌, ◌∷◌, ℕ, Option, Some, ap, sym, subst}
-use Rattle.pas_trace.specs.Acts.{Settles}
-use Rattle.pas_trace.specs.Asked.{request_of, request_in}
-use Rattle.pas_trace.specs.declared.item.Request.{Request}
-use Rattle.pas_trace.specs.declared.plan.What.{What}
-use Rattle.pas_answers.specs.Calls.{Tells, what_of, named_with}
-use Rattle.pas_answers.specs.Fit.{IsFitWhat}
-use Rattle.pas_answers.specs.Names.{names_held}
+use Rattle.pas_trace.specs.{Acts.Settles, Asked.request_of, Asked.request_in}
+use Rattle.pas_trace.specs.declared.{item.Request.Request, plan.What.What}
+use Rattle.pas_answers.specs.{Calls.Tells, Calls.what_of, Calls.named_with, Fit.IsFitWhat, Names.names_held}
 use Rattle.pas_replay.specs.Sessions.{HasNamed}
 use Rattle.pas_replay.proofs.ActsInOrder.{as_acts}
 use Rattle.pas_replay.proofs.seats.guard.Goals as goal

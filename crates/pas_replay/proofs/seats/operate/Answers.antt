@@ -1,18 +1,13 @@
-use Rattle.std.proofs.Common.{◌-◌, ◌++◌, ◌∙◌, subst, arith}
-use Rattle.std.proofs.lemmas.List.{length-set}
+use Rattle.std.proofs.Common.{◌-◌, ◌++◌, ◌∙◌, subst, arith, length-set}
 use Rattle.pas_trace.specs.declared.plan.What.{What}
 use Rattle.pas_profile.specs.declared.profile.Profile.{Profile}
-use Rattle.pas_answers.specs.Calls.{Tells, MayStand}
-use Rattle.pas_answers.specs.Fit.{IsFitWhat}
-use Rattle.pas_answers.specs.Names.{block_named, names_held}
+use Rattle.pas_answers.specs.{Calls.Tells, Calls.MayStand, Fit.IsFitWhat, Names.block_named, Names.names_held}
 use Rattle.pas_answers.proofs.Kept.{freed_task, named_task}
-use Rattle.pas_replay.proofs.Turning.{may_take}
-use Rattle.pas_replay.proofs.ByActors.{may_operate, operate_turn}
-use Rattle.pas_replay.proofs.Doors.{written_back}
+use Rattle.pas_replay.proofs.{Turning.may_take, ByActors.may_operate, ByActors.operate_turn, Doors.written_back}
 use Rattle.pas_replay.proofs.seats.operate.Goals as goal
 
 pub take_seat-requires : goal.take_seat-requires
-take_seat-requires g c = let so = c.requires.so_far.3.2 in may_take c.args.desk.now c.args.actors.now c.args.actor (let thread = c.requires.thread in omega (arith, thread)) so.0 so.1.1
+take_seat-requires g c = let so = c.requires.so_far.3.2 in may_take c.args.desk.now c.args.actors.now c.args.actor (omega (arith, c.requires.thread)) so.0 so.1.1
 
 pub operate_by-came-requires : goal.operate_by-came-requires
 operate_by-came-requires g c =

@@ -1,8 +1,6 @@
 use Rattle.std.proofs.Common.{None, Some, ap, sym, ◌∙◌}
-use Rattle.std.proofs.lemmas.List.{get_or_default}
-use Rattle.std.proofs.lemmas.Option.{same_Some}
-use Rattle.pas_plain.specs.Plain.{actor_of}
-use Rattle.pas_plain.specs.Seats.{region_of}
+use Rattle.std.proofs.lemmas.{List.get_or_default, Option.same_Some}
+use Rattle.pas_plain.specs.{Plain.actor_of, Seats.region_of}
 use Rattle.pas_plain.specs.declared.region.PlainRegion.{PlainRegion}
 use Rattle.pas_utility.specs.Outcomes.{places_of}
 use Rattle.pas_replay.specs.Sessions.{Slots, Hand}

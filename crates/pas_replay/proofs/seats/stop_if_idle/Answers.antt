@@ -1,12 +1,10 @@
-use Rattle.std.proofs.Common.{◌∙◌, refl, sym, arith}
-use Rattle.std.proofs.lemmas.List.{append-nil}
+use Rattle.std.proofs.Common.{◌∙◌, refl, sym, arith, append-nil}
 use Rattle.pas_report.specs.Rooms.{records_in}
-use Rattle.pas_replay.proofs.Turning.{may_take}
-use Rattle.pas_replay.proofs.ByActors.{rests_now, act_turn}
+use Rattle.pas_replay.proofs.{Turning.may_take, ByActors.rests_now, ByActors.act_turn}
 use Rattle.pas_replay.proofs.seats.stop_if_idle.Goals as goal
 
 pub take_seat-requires : goal.take_seat-requires
-take_seat-requires c = let so = c.requires.so_far.1.2 in may_take c.args.desk.now c.args.actors.now c.args.actor (let thread = c.requires.thread in omega (arith, thread)) so.0 so.2
+take_seat-requires c = let so = c.requires.so_far.1.2 in may_take c.args.desk.now c.args.actors.now c.args.actor (omega (arith, c.requires.thread)) so.0 so.2
 
 pub stop_if_idle-requires : goal.stop_if_idle-requires
 stop_if_idle-requires c =
@@ -19,8 +17,7 @@ push-requires c =
     let so0 = c.requires.so_far.1 in
     let so = so0.2 in
     let did = c.if-stop_if_idle.ensures.stops so0.0.profile c.args.actor _ so.1 (rests_now c.args.actor 1 c.index_mut-cache.result.now c.requires.some c.requires.thread refl refl c.take_seat.ensures c.index_mut-cache.ensures.value so.2) so.3 in
-    let spare = did.stands.spare in
-    omega (arith, spare)
+    omega (arith, did.stands.spare)
 
 pub returns-then-stop_if_idle-clause-so_far : goal.returns-then-stop_if_idle-clause-so_far
 returns-then-stop_if_idle-clause-so_far c table r more (taken, p, at, read) =

@@ -9,10 +9,7 @@ take_seat-requires c =
     let so = so0.4.2 in
     let at = so.1.1 in
     let place = its_place c.args.request.keeper c.args.actor so0.1 at in
-    let keeper = place.0 in
-    let within = place.2 in
-    let many = at.many in
-    may_take c.args.desk.now c.args.actors.now c.args.request.keeper (omega (arith, keeper, within, many)) so.0 at
+    may_take c.args.desk.now c.args.actors.now c.args.request.keeper (omega (arith, place.0, place.2, at.many)) so.0 at
 
 pub try_guarded-requires-clause-stands : goal.try_guarded-requires-clause-stands
 try_guarded-requires-clause-stands c =

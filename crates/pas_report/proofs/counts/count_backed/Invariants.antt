@@ -1,5 +1,5 @@
 use Rattle.std.proofs.Common.{◌≡◌, ◌≤◌, ◌==◌}
-use Rattle.pas_profile.specs.declared.word.Word.TheVariants as Word
+use Rattle.pas_profile.specs.declared.word.Word.{Word}
 use Rattle.pas_machine.specs.Totals.{page_at}
 use Rattle.pas_bits.specs.Bits.{count_below}
 use Rattle.pas_steps.specs.States.{word_in}

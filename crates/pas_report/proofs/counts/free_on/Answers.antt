@@ -1,5 +1,5 @@
 use Rattle.std.proofs.Common.{◌∙◌, arith}
-use Rattle.pas_profile.specs.declared.word.Word.TheVariants as Word
+use Rattle.pas_profile.specs.declared.word.Word.{Word}
 use Rattle.pas_steps.specs.States.{word_in}
 use Rattle.pas_report.proofs.Counting.{few_in_four, four_counted}
 use Rattle.pas_report.proofs.counts.free_on.Goals as goal

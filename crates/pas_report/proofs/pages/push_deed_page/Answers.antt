@@ -1,7 +1,5 @@
 use Rattle.std.proofs.Common.{◌≡◌, ◌++◌, ap, ◌∙◌}
-use Rattle.pas_report.specs.Counts.{marked_in}
-use Rattle.pas_report.specs.Marks.{marks_of}
-use Rattle.pas_report.specs.Reports.{page_text}
+use Rattle.pas_report.specs.{Counts.marked_in, Marks.marks_of, Reports.page_text}
 use Rattle.pas_report.proofs.MarkBits.{marks_are}
 use Rattle.pas_report.proofs.pages.push_deed_page.Goals as goal
 

@@ -1,5 +1,5 @@
 use Rattle.std.proofs.Common.{ℕ, ◌<◌, ◌≤◌}
-use Rattle.pas_profile.specs.declared.word.Word.TheVariants as Word
+use Rattle.pas_profile.specs.declared.word.Word.{Word}
 use Rattle.pas_steps.specs.States.{profile_of, word_in}
 use Rattle.pas_report.specs.Counts.{IsDeedWord}
 use Rattle.pas_report.proofs.reports.has_deed_words.Given as goal

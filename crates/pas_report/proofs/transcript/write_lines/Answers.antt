@@ -1,11 +1,8 @@
 use Rattle.std.proofs.Common.{rules, ◌≡◌, ℕ, ◌+◌, List, ◌++◌, [], ap, sym, ◌∙◌, subst, append_assoc, append-nil, drop, get_or, arith}
-use Rattle.std.proofs.lemmas.List.{at_drop_more, drop_all}
-use Rattle.std.proofs.lemmas.Result.{on_err_weaker}
+use Rattle.std.proofs.lemmas.{List.at_drop_more, List.drop_all, Result.on_err_weaker}
 use Rattle.pas_io.specs.Told.{WritesFront}
-use Rattle.pas_report.specs.Lines.{line_of, lines_of}
-use Rattle.pas_report.specs.Pieces.{IsPutOut}
-use Rattle.pas_profile.specs.declared.event.Event.TheVariants as Event
-use Rattle.pas_profile.specs.declared.directory.Kind.TheVariants as Kind
+use Rattle.pas_report.specs.{Lines.line_of, Lines.lines_of, Pieces.IsPutOut}
+use Rattle.pas_profile.specs.declared.{event.Event.Event, directory.Kind.Kind}
 use Rattle.pas_report.specs.declared.record.Record.{Record}
 use Rattle.pas_report.proofs.Pieces.{front_out, front_longer, put_more}
 use Rattle.pas_report.proofs.transcript.write_lines.Goals as goal

@@ -1,6 +1,5 @@
 use Rattle.std.proofs.Common.{◌≡◌, ◌++◌, ℕ, List, drop}
-use Rattle.pas_report.specs.Lines.{lines_of}
-use Rattle.pas_report.specs.Pieces.{IsPutOut}
+use Rattle.pas_report.specs.{Lines.lines_of, Pieces.IsPutOut}
 use Rattle.pas_report.proofs.transcript.write_lines.Given as goal
 
 -- the lines of the records before this one were put out

@@ -2,10 +2,8 @@ use Rattle.std.proofs.Common.{false, sym, subst}
 use Rattle.std.proofs.lemmas.Bool.{MatchBool-at_false}
 use Rattle.pas_profile.proofs.Codecs.{directory_from_profile}
 use Rattle.pas_steps.proofs.Adding.{adds_under, can_call}
-use Rattle.pas_rights.specs.Leaves.{EndsLeave}
-use Rattle.pas_rights.specs.Looks.{HasUsable, HasNoUsable}
-use Rattle.pas_rights.proofs.Ends.{may_still, leaves_by}
-use Rattle.pas_rights.proofs.Looks.{none_used}
+use Rattle.pas_rights.specs.{Leaves.EndsLeave, Looks.HasUsable, Looks.HasNoUsable}
+use Rattle.pas_rights.proofs.{Ends.may_still, Ends.leaves_by, Looks.none_used}
 use Rattle.pas_rights.proofs.leaving.leave.Goals as goal
 
 pub offer-requires-clause-can : goal.offer-requires-clause-can

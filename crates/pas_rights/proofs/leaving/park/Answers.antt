@@ -2,9 +2,7 @@ use Rattle.std.proofs.Common.{[], ◌∷◌, ◌++◌, refl, sym, subst}
 use Rattle.pas_steps.specs.declared.step.Step.TheVariants.{Park}
 use Rattle.pas_steps.specs.Desks.{made}
 use Rattle.pas_steps.proofs.Adding.{adds_none, adds_step, adds_call, can_call}
-use Rattle.pas_rights.specs.Leaves.{ReoffersWhere}
-use Rattle.pas_rights.specs.Looks.{looks}
-use Rattle.pas_rights.specs.Words.{words}
+use Rattle.pas_rights.specs.{Leaves.ReoffersWhere, Looks.looks, Words.words}
 use Rattle.pas_rights.proofs.Ends.{knows_parked}
 use Rattle.pas_rights.proofs.leaving.park.Goals as goal
 

@@ -1,9 +1,7 @@
 use Rattle.std.proofs.Common.{[], ◌∷◌, refl, inl, inr}
 use Rattle.pas_steps.specs.Desks.{made}
 use Rattle.pas_steps.specs.declared.step.Step.TheVariants.{Put}
-use Rattle.pas_steps.proofs.Adding.{adds_none, adds_step}
-use Rattle.pas_steps.proofs.Called.{call_none}
-use Rattle.pas_steps.proofs.Calls.{leads_put, leads_as}
+use Rattle.pas_steps.proofs.{Adding.adds_none, Adding.adds_step, Called.call_none, Calls.leads_put, Calls.leads_as}
 use Rattle.pas_rights.proofs.Puts.{word_none}
 use Rattle.pas_rights.proofs.putting.put_word.Goals as goal
 

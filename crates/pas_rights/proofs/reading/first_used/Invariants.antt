@@ -1,7 +1,6 @@
 use Rattle.std.proofs.Common.{◌≡◌}
 use Rattle.pas_steps.specs.Desks.{AnyView, Adds}
-use Rattle.pas_rights.specs.Looks.{looks}
-use Rattle.pas_rights.specs.Words.{ones}
+use Rattle.pas_rights.specs.{Looks.looks, Words.ones}
 use Rattle.pas_rights.proofs.reading.first_used.Given as goal
 
 -- the words so far are all ones

@@ -1,5 +1,4 @@
-use Rattle.std.proofs.Common.{if◌then◌else◌, [], ◌∷◌, sym, subst}
-use Rattle.std.proofs.lemmas.Bool.{eq-eqb, ne_eqb}
+use Rattle.std.proofs.Common.{if◌then◌else◌, [], ◌∷◌, sym, subst, eq-eqb, ne_eqb}
 use Rattle.pas_steps.specs.Desks.{Adds, made}
 use Rattle.pas_steps.specs.declared.step.Step.TheVariants.{Take}
 use Rattle.pas_steps.proofs.Adding.{adds_none, adds_step}

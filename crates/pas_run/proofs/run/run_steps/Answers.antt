@@ -1,11 +1,9 @@
-use Rattle.std.proofs.Common.{ℕ, get_or, replicate, None, refl, sym, subst}
-use Rattle.std.proofs.lemmas.List.{take_all, get_or-replicate}
+use Rattle.std.proofs.Common.{ℕ, get_or, replicate, None, refl, sym, subst, take_all}
+use Rattle.std.proofs.lemmas.List.{get_or-replicate}
 use Rattle.pas_profile.specs.Profiles.{IsWordOf}
-use Rattle.pas_profile.specs.declared.word.Word.TheVariants as Word
-use Rattle.pas_steps.specs.Effects.{target}
-use Rattle.pas_steps.specs.States.{profile_of}
-use Rattle.pas_steps.specs.declared.step.Step.{Step}
-use Rattle.pas_steps.specs.declared.step.Step.TheVariants.{Look}
+use Rattle.pas_profile.specs.declared.word.Word.{Word}
+use Rattle.pas_steps.specs.{Effects.target, States.profile_of}
+use Rattle.pas_steps.specs.declared.step.Step.{Step, TheVariants.Look}
 use Rattle.pas_run.proofs.Running.{step_at, at_actor, at_ranged, at_word, so_far_first, so_far_next, so_far_last}
 use Rattle.pas_run.proofs.run.run_steps.Goals as goal
 

@@ -1,6 +1,5 @@
 -- Acts one after the other.
-use Rattle.pas_same_text.proofs.AllActs.{acts_carried, start_carried}
-use Rattle.pas_same_text.proofs.OneAct.{act_same}
+use Rattle.pas_same_text.proofs.{AllActs.acts_carried, AllActs.start_carried, OneAct.act_same}
 use Rattle.pas_same_text.proofs.laws.acts_stay_the_same.Goals as goal
 
 pub returns-clause-start : goal.returns-clause-start

@@ -1,7 +1,6 @@
 -- States of the text beside words and views.
-use Rattle.pas_same_text.proofs.FreeGrains.{free_same}
-use Rattle.pas_same_text.proofs.KeptPages.{keeper, kept_by}
-use Rattle.pas_same_text.proofs.RestingPages.{is_opened, offered_bit, bit_offered}
+use Rattle.pas_same_text.proofs.{FreeGrains.free_same, KeptPages.keeper, KeptPages.kept_by, RestingPages.is_opened, RestingPages.offered_bit}
+use Rattle.pas_same_text.proofs.{RestingPages.bit_offered}
 use Rattle.pas_same_text.proofs.laws.states_are_told.Goals as goal
 
 pub returns-clause-free : goal.returns-clause-free

@@ -1,9 +1,7 @@
 use Rattle.std.proofs.Common.{◌≡◌, ◌+◌, ◌-◌, ◌∷◌, ap, ◌∙◌, arith}
-use Rattle.pas_profile.specs.declared.word.Word.TheVariants as Word
-use Rattle.pas_steps.specs.declared.step.Made.{Made}
-use Rattle.pas_steps.specs.declared.step.Step.TheVariants.{Look}
-use Rattle.pas_steps.specs.Frames.{IsScan}
-use Rattle.pas_steps.specs.Desks.{made}
+use Rattle.pas_profile.specs.declared.word.Word.{Word}
+use Rattle.pas_steps.specs.declared.step.{Made.Made, Step.TheVariants.Look}
+use Rattle.pas_steps.specs.{Frames.IsScan, Desks.made}
 use Rattle.pas_steps.proofs.Adding.{adds_step}
 use Rattle.pas_scan.proofs.Reading.{looks_more, looks_count, looks_scan, looks_single, deed_more, first_none}
 use Rattle.pas_scan.proofs.bare.first_without_deed.Goals as goal

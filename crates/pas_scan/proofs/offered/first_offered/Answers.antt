@@ -35,8 +35,7 @@ returns-in-Some-clause-found g c =
     let order = row_after (number_of d) (next / 64) block r.steps i.steps r.answers i.answers i.at r.order i.order in
     let adds = adds_call {D = AnyView} i.adds r.adds (λ v l stood met. tt) in
     let here = shown_within c.read_row-row.result block end page r.rest lowest.from_block lowest.shown in
-    let low = lowest.from_block in
-    let row : page / 512 ≡ block / 8 = omega (arith, low, here, ends) in
+    let row : page / 512 ≡ block / 8 = omega (arith, lowest.from_block, here, ends) in
     record {
       steps = r.steps ++ i.steps;
       adds = adds;

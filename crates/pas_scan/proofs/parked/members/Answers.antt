@@ -1,13 +1,11 @@
 use Rattle.std.proofs.Common.{◌≡◌, ◌+◌, ◌*◌, ◌/◌, ◌≤◌, ◌==◌, ◌&&◌, ◌||◌, min, ◌∷◌, refl, ap, sym, ◌∙◌, arith}
 use Rattle.pas_bits.specs.PageVectors.{is_in_word}
-use Rattle.pas_profile.specs.declared.word.Word.TheVariants as Word
-use Rattle.pas_steps.specs.declared.step.Made.{Made}
-use Rattle.pas_steps.specs.declared.step.Step.TheVariants.{Look}
+use Rattle.pas_profile.specs.declared.word.Word.{Word}
+use Rattle.pas_steps.specs.declared.step.{Made.Made, Step.TheVariants.Look}
 use Rattle.pas_steps.specs.Desks.{made}
 use Rattle.pas_steps.proofs.Adding.{adds_step}
-use Rattle.pas_scan.proofs.Reading.{single_more, below_more}
+use Rattle.pas_scan.proofs.{Reading.single_more, Reading.below_more, parked.members.Goals.then-is_open, parked.members.Goals.else-is_open}
 use Rattle.pas_scan.proofs.Judging.{members_more, IsSpan, span_block, span_first, span_some, span_end, span_page}
-use Rattle.pas_scan.proofs.parked.members.Goals.{then-is_open, else-is_open}
 use Rattle.pas_scan.proofs.parked.members.Goals as goal
 
 pub loop-page-preserved : goal.loop-page-preserved
@@ -42,7 +40,7 @@ returns-clause-members g c =
       adds = i.adds;
       deeds = i.deeds;
       single = i.single;
-      few = (let count = i.count in let low = c.max-first.ensures in let high = span.end_is in omega (arith, count, exact, low, high));
+      few = (omega (arith, i.count, exact, c.max-first.ensures, span.end_is));
       members = λ v p at is. i.members.all v p at (span_first c.args.block f.pages first end p span at is.of_region.0) (let lt = span_end c.args.block f.pages first end p span at is.of_region.1 in omega (arith, lt, past)) is.of_directory is.unmarked;
-      only = λ v p at bit. let old = i.members.only v p at bit in let lt = old.1 in record { of_region = span_page f c.args.block first end p span old.0 (omega (arith, lt, exact)); of_directory = old.2; unmarked = old.3 };
+      only = λ v p at bit. let old = i.members.only v p at bit in record { of_region = span_page f c.args.block first end p span old.0 (omega (arith, old.1, exact)); of_directory = old.2; unmarked = old.3 };
     }

@@ -1,9 +1,6 @@
 use Rattle.std.proofs.Common.{◌≡◌, ◌≤◌, ◌*◌, List, length}
 use Rattle.pas_steps.specs.declared.step.Made.{Made}
-use Rattle.pas_steps.specs.Desks.{AnyView, Adds}
-use Rattle.pas_steps.specs.Frames.{OnlyScans}
-use Rattle.pas_steps.specs.Evidence.{IsSingle}
-use Rattle.pas_steps.specs.Kinds.{Only}
+use Rattle.pas_steps.specs.{Desks.AnyView, Desks.Adds, Frames.OnlyScans, Evidence.IsSingle, Kinds.Only}
 use Rattle.pas_scan.specs.Scan.{AllParked, judging}
 use Rattle.pas_scan.proofs.Reading.{Below}
 use Rattle.pas_scan.proofs.parked.verdict.Given as goal

@@ -1,7 +1,6 @@
 use Rattle.std.proofs.Common.{◌≡◌, ◌+◌, ◌-◌, [], ◌++◌, refl, ap, sym, ◌∙◌, subst, arith, length-append}
 use Rattle.pas_profile.specs.declared.profile.Profile.{Profile}
-use Rattle.pas_steps.proofs.Adding.{adds_none, adds_call}
-use Rattle.pas_steps.proofs.Apart.{only_both}
+use Rattle.pas_steps.proofs.{Adding.adds_none, Adding.adds_call, Apart.only_both}
 use Rattle.pas_scan.specs.Runs.{large_directory, page_looks}
 use Rattle.pas_scan.proofs.LeftPages.{left_alone_by, RunSoFar, run_none, run_more, run_found, run_ended}
 use Rattle.pas_scan.proofs.runs.next_run.Goals as goal
@@ -26,9 +25,9 @@ returns-then-length-pages-clause-found g c =
       steps = h.steps ++ i.steps;
       adds = adds_call i.adds h.adds (λ v l stood met. tt);
       kinds = only_both page_looks h.steps i.steps h.kinds i.kinds;
-      few = (let n = length-append h.steps i.steps in let here = h.few in let before = i.few in let long = i.so_far.within in let is = sym c.longer-length.ensures ∙ c.if-length-pages.true in omega (arith, n, here, before, long, is));
-      outcome = run_found f d c.args.from c.args.next c.args.pages page c.loop-page.length h.steps i.steps c.is_usable-usable.result (let le = c.requires.read in let lt = c.requires.short in omega (arith, le, lt)) (left_alone_by page_looks refl refl page i.steps i.kinds)
-          (let lt = c.loop-page-test.true in omega (arith, lt, pages)) i.so_far h.deed h.outcome (sym c.longer-length.ensures ∙ c.if-length-pages.true);
+      few = (let n = length-append h.steps i.steps in let is = sym c.longer-length.ensures ∙ c.if-length-pages.true in omega (arith, n, h.few, i.few, i.so_far.within, is));
+      outcome = run_found f d c.args.from c.args.next c.args.pages page c.loop-page.length h.steps i.steps c.is_usable-usable.result (omega (arith, c.requires.read, c.requires.short)) (left_alone_by page_looks refl refl page i.steps i.kinds)
+          (omega (arith, c.loop-page-test.true, pages)) i.so_far h.deed h.outcome (sym c.longer-length.ensures ∙ c.if-length-pages.true);
     }
 
 pub loop-page-preserved : goal.loop-page-preserved
@@ -38,10 +37,10 @@ loop-page-preserved g c =
       steps = h.steps ++ i.steps;
       adds = adds_call i.adds h.adds (λ v l stood met. tt);
       kinds = only_both page_looks h.steps i.steps h.kinds i.kinds;
-      few = (let n = length-append h.steps i.steps in let here = h.few in let before = i.few in omega (arith, n, here, before));
-      most = (let n = length-append h.steps i.steps in let here = h.few in let before = i.few in let lt = c.loop-page-test.true in let pages : c.profile.result.now.pages ≡ (g.D.Desk.standing c.args.desk.now).seat.profile.pages = ap (λ (x : Profile). x.pages) c.profile.ensures in omega (arith, n, here, before, lt, pages));
+      few = (let n = length-append h.steps i.steps in omega (arith, n, h.few, i.few));
+      most = (let n = length-append h.steps i.steps in let pages : c.profile.result.now.pages ≡ (g.D.Desk.standing c.args.desk.now).seat.profile.pages = ap (λ (x : Profile). x.pages) c.profile.ensures in omega (arith, n, h.few, i.few, c.loop-page-test.true, pages));
       so_far = subst (λ n. RunSoFar d c.args.from c.args.next c.args.pages (page + 1) n (h.steps ++ i.steps)) (sym c.longer-length.ensures)
-          (run_more d c.args.from c.args.next c.args.pages page c.loop-page.length h.steps i.steps c.is_usable-usable.result (left_alone_by page_looks refl refl page i.steps i.kinds) (let low = c.loop-page.auto.page in let le = c.requires.read in omega (arith, low, le)) i.so_far h.deed h.outcome
+          (run_more d c.args.from c.args.next c.args.pages page c.loop-page.length h.steps i.steps c.is_usable-usable.result (left_alone_by page_looks refl refl page i.steps i.kinds) (omega (arith, c.loop-page.auto.page, c.requires.read)) i.so_far h.deed h.outcome
           (λ e. c.if-length-pages.false (c.longer-length.ensures ∙ e)));
       home = c.is_usable-usable.ensures.home ∙ i.home;
     }
@@ -56,5 +55,5 @@ returns-clause-found g c =
       adds = i.adds;
       kinds = i.kinds;
       few = i.most;
-      outcome = run_ended f d c.args.from c.args.next c.args.pages c.loop-page.page c.loop-page.length i.steps (let ge = c.loop-page-test.false in omega (arith, ge, pages)) i.so_far;
+      outcome = run_ended f d c.args.from c.args.next c.args.pages c.loop-page.page c.loop-page.length i.steps (omega (arith, c.loop-page-test.false, pages)) i.so_far;
     }

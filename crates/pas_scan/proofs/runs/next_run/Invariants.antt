@@ -1,7 +1,6 @@
 use Rattle.std.proofs.Common.{◌≡◌, ◌+◌, ◌-◌, ◌*◌, ◌≤◌, List, length}
 use Rattle.pas_steps.specs.declared.step.Made.{Made}
-use Rattle.pas_steps.specs.Desks.{AnyView, Adds}
-use Rattle.pas_steps.specs.Kinds.{Only}
+use Rattle.pas_steps.specs.{Desks.AnyView, Desks.Adds, Kinds.Only}
 use Rattle.pas_scan.specs.Runs.{large_directory, page_looks}
 use Rattle.pas_scan.proofs.LeftPages.{RunSoFar}
 use Rattle.pas_scan.proofs.runs.next_run.Given as goal

@@ -1,5 +1,5 @@
 use Rattle.std.proofs.Common.{◌∷◌, refl, inl, ◌∙◌, arith}
-use Rattle.pas_profile.specs.declared.word.Word.TheVariants as Word
+use Rattle.pas_profile.specs.declared.word.Word.{Word}
 use Rattle.pas_steps.specs.declared.step.Step.TheVariants.{Look}
 use Rattle.pas_steps.specs.Desks.{made}
 use Rattle.pas_steps.proofs.Adding.{can_step, adds_step}

@@ -1,8 +1,6 @@
 use Rattle.std.proofs.Common.{◌≡◌, ℕ, ◌<◌, List, length}
 use Rattle.pas_steps.specs.declared.step.Made.{Made}
-use Rattle.pas_steps.specs.Desks.{AnyView, Adds}
-use Rattle.pas_steps.specs.Past.{Once}
-use Rattle.pas_steps.specs.Kinds.{Only}
+use Rattle.pas_steps.specs.{Desks.AnyView, Desks.Adds, Past.Once, Kinds.Only}
 use Rattle.pas_scan.specs.Runs.{page_looks, FreeLookHere}
 use Rattle.pas_scan.proofs.usable.are_free.Given as goal
 

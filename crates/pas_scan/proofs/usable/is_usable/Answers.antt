@@ -1,10 +1,9 @@
 use Rattle.std.proofs.Common.{[], ◌∷◌, refl, ◌∙◌, subst, MatchBool, ◌/◌, sym, inr, arith}
-use Rattle.pas_profile.specs.declared.word.Word.TheVariants as Word
+use Rattle.pas_profile.specs.declared.word.Word.{Word}
 use Rattle.pas_steps.specs.declared.step.Step.TheVariants.{Look}
-use Rattle.pas_steps.specs.Desks.{Makes}
+use Rattle.pas_steps.specs.{Desks.Makes, Past.Once}
 use Rattle.pas_steps.proofs.Adding.{adds_none, adds_step}
 use Rattle.pas_scan.proofs.LeftPages.{deed_look, eligible_look, deed_read, two_looks, bare, other_deed, not_offered, reads_by}
-use Rattle.pas_steps.specs.Past.{Once}
 use Rattle.pas_scan.specs.Usable.{ReadUsable, UnusableHere}
 use Rattle.pas_scan.proofs.usable.is_usable.Goals as goal
 

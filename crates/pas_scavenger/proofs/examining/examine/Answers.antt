@@ -1,7 +1,8 @@
 use Rattle.std.proofs.Common.{refl, subst, arith}
 use Rattle.pas_rights.specs.Claims.{Claims}
 use Rattle.pas_scavenger.specs.Pages.{quiet}
-use Rattle.pas_scavenger.proofs.Examinations.{bare_page, used_page, can_read, can_claim, asking, asked, asks, page_not_offered, can_take, page_taken, asks_sized}
+use Rattle.pas_scavenger.proofs.Examinations.{bare_page, used_page, can_read, can_claim, asking, asked, asks, page_not_offered, can_take, page_taken}
+use Rattle.pas_scavenger.proofs.Examinations.{asks_sized}
 use Rattle.pas_scavenger.proofs.Trying.{same_room}
 use Rattle.pas_scavenger.proofs.examining.examine.Goals as goal
 
@@ -34,7 +35,7 @@ take_page-requires-clause-room g c =
     let cl = c.claim.ensures.claims in let got = c.claim.result in let some = c.if-look-eq0.false in let first = c.look.ensures.makes in
     let same = same_room quiet refl (D.spare_of c.args.desk.now) (D.spare_of c.claim.new.desk) (asked page e b some first l d r got cl) c.requires.can
     (asks_sized page d got (asking page e b some first l d r got cl) (asks page e b some first l d r got cl)).only (λ v l stood. g.met.D.Desk.spares c.args.desk.now v l stood) (λ v l stood. g.met.D.Desk.spares c.claim.new.desk v l stood) in
-    let room = c.requires.room in omega (arith, same, room)
+    omega (arith, same, c.requires.room)
 
 pub returns-clause-examines : goal.returns-clause-examines
 returns-clause-examines g c = let D = g.D.Desk in let d = c.read_directory-directory.result in

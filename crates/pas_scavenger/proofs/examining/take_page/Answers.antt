@@ -12,7 +12,7 @@ judge-outcome-requires-clause-room g c =
     let D = g.D.Desk in let t = c.take_grains-used.ensures.takes in let page = c.args.page in
     let same = same_room (Taking ∷ []) refl (D.spare_of c.args.desk.now) (D.spare_of c.take_grains-used.new.desk) (took page c.args.directory c.args.epoch c.take_grains-used.result c.grains_of-grains.result c.grains_of-grains.ensures t) c.requires.can (takes_are page c.take_grains-used.result)
     (λ v l stood. g.met.D.Desk.spares c.args.desk.now v l stood) (λ v l stood. g.met.D.Desk.spares c.take_grains-used.new.desk v l stood) in
-    let room = c.requires.room in omega (arith, same, room)
+    omega (arith, same, c.requires.room)
 
 pub put_back-requires-clause-can : goal.put_back-requires-clause-can
 put_back-requires-clause-can g c = can_put c.args.page c.args.directory c.args.epoch c.take_grains-used.result c.grains_of-grains.result c.grains_of-grains.ensures c.take_grains-used.ensures.takes c.judge-outcome.ensures.judges c.requires.can

@@ -39,9 +39,9 @@ loop-block-preserved g c =
       read = r.steps ++ i.read;
       order = (r.steps, i.read, subst (λ s. WordSteps s.profile.age epoch word r.steps) same r.order, i.order, refl);
       tries = tries_then i.tries r.tries;
-      few = let n = length-append r.steps i.read in let m = length-append r.tried (all_tried i.words) in let one = r.few in let few = i.few in omega (arith, n, m, one, few);
-      room = let pages = ap (λ s. s.profile.pages) same in let room = c.read_word.ensures.room in omega (arith, pages, room);
-      left = let few = c.read_word.ensures.few in omega (arith, few);
+      few = let n = length-append r.steps i.read in let m = length-append r.tried (all_tried i.words) in omega (arith, n, m, r.few, i.few);
+      room = let pages = ap (λ s. s.profile.pages) same in omega (arith, pages, c.read_word.ensures.room);
+      left = omega (arith, c.read_word.ensures.few);
       places = c.read_word.ensures.places ∙ i.places;
       home = c.read_word.ensures.home ∙ i.home;
     }

@@ -1,5 +1,4 @@
-use Rattle.std.proofs.Common.{◌≡◌, ◌+◌, ◌-◌, ◌*◌, ◌≤◌, List, [], length}
-use Rattle.std.specs.Prelude.{map}
+use Rattle.std.proofs.Common.{◌≡◌, ◌+◌, ◌-◌, ◌*◌, ◌≤◌, List, [], length, map}
 use Rattle.pas_steps.specs.InTurn.{InTurn, numbers_below}
 use Rattle.pas_steps.specs.declared.step.Made.{Made}
 use Rattle.pas_utility.specs.Outcomes.{pairs_in, places_of}

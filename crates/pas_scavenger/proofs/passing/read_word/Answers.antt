@@ -1,6 +1,6 @@
 use Rattle.std.proofs.Common.{◌*◌, ◌-◌, ◌≡◌, [], ◌∷◌, ◌++◌, refl, ap, sym, ◌∙◌, subst, arith, append_assoc, length-append}
 use Rattle.pas_profile.specs.Profiles.{IsPage}
-use Rattle.pas_profile.specs.declared.word.Word.TheVariants as Word
+use Rattle.pas_profile.specs.declared.word.Word.{Word}
 use Rattle.pas_steps.specs.Desks.{made}
 use Rattle.pas_steps.specs.declared.step.Step.TheVariants.{Look}
 use Rattle.pas_steps.proofs.Called.{next_call}
@@ -42,13 +42,13 @@ pub try_page-requires-clause-room : goal.try_page-requires-clause-room
 try_page-requires-clause-room g c =
     let i = c.pages.invariant in let can = c.requires.can in let f = (g.D.Desk.standing c.args.desk.now).seat.profile in
     let page = hinted_page f c.args.block c.look-hinted.result c.pages.next c.in-Some.page (c.look-hinted.ensures.makes.agrees can.view can.whole can.stood tt) c.in-Some.ensures in
-    let low = page.0 in let high = page.1 in let above = c.in-Some.ensures.above in let room = i.room in omega (arith, low, high, above, room)
+    omega (arith, page.0, page.1, c.in-Some.ensures.above, i.room)
 
 pub try_page-requires-clause-place : goal.try_page-requires-clause-place
 try_page-requires-clause-place g c =
     let i = c.pages.invariant in let can = c.requires.can in let f = (g.D.Desk.standing c.args.desk.now).seat.profile in
     let page = hinted_page f c.args.block c.look-hinted.result c.pages.next c.in-Some.page (c.look-hinted.ensures.makes.agrees can.view can.whole can.stood tt) c.in-Some.ensures in
-    let low = page.0 in let high = page.1 in let above = c.in-Some.ensures.above in let left = i.left in let places = i.places ∙ c.requires.places in omega (arith, low, high, above, left, places)
+    let places = i.places ∙ c.requires.places in omega (arith, page.0, page.1, c.in-Some.ensures.above, i.left, places)
 
 pub pages-preserved : goal.pages-preserved
 pages-preserved g c =
@@ -63,13 +63,13 @@ pages-preserved g c =
       steps = t.steps ++ i.steps;
       each = (t.steps, i.steps, subst (λ s. TrySteps s.profile.age epoch page t.outcome t.steps) i.tries.calls.adds.seat_is t.order, i.each, refl);
       tries = subst (λ xs. Tries epoch (one ∷ i.tried) (D.standing c.args.desk.now) (D.standing c.try_page.new.desk) (pairs_in c.args.out.now) (pairs_in c.try_page.new.out) xs) (sym (append_assoc t.steps i.steps look)) (tries_then i.tries t.tries);
-      few = let n = length-append t.steps i.steps in let one = t.few in let few = i.few in omega (arith, n, one, few);
+      few = let n = length-append t.steps i.steps in omega (arith, n, t.few, i.few);
       from = omega (arith, here);
       to = omega (arith, here);
       room =
           let spare = spare_page (D.spare_of c.pages.desk) (D.spare_of c.try_page.new.desk) t (next_call i.tries.calls c.requires.can (λ v met is. is)) (λ v l stood. g.met.D.Desk.spares c.pages.desk v l stood) (λ v l stood. g.met.D.Desk.spares c.try_page.new.desk v l stood) in
-          let room = i.room in omega (arith, room, spare, low, above);
-      left = let left = i.left in let more = one_pair page t.outcome (pairs_in c.pages.out) (pairs_in c.try_page.new.out) t.tries.pairs in omega (arith, left, more, low, above);
+          omega (arith, i.room, spare, low, above);
+      left = let more = one_pair page t.outcome (pairs_in c.pages.out) (pairs_in c.try_page.new.out) t.tries.pairs in omega (arith, i.left, more, low, above);
       places = c.try_page.ensures.places ∙ i.places;
       home = c.try_page.ensures.home ∙ i.home;
     }
@@ -83,5 +83,5 @@ returns-clause-reads g c =
       steps = i.steps ++ look;
       order = record { pages_are = i.pages_are ∙ sym (last_page block c.look-hinted.result c.pages.next i.from i.to c.in_default.ensures); after = i.steps; tries = i.each; steps_are = refl };
       tries = i.tries;
-      few = let n = length-append i.steps look in let few = i.few in omega (arith, n, few);
+      few = let n = length-append i.steps look in omega (arith, n, i.few);
     }

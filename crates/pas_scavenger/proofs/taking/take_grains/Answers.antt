@@ -1,9 +1,7 @@
 use Rattle.std.proofs.Common.{◌≡◌, refl, sym, subst, ◌∙◌, add-one, arith}
-use Rattle.pas_rights.specs.Takes.{HasRight, takes}
-use Rattle.pas_rights.specs.Words.{ones}
+use Rattle.pas_rights.specs.{Takes.HasRight, Takes.takes, Words.ones}
 use Rattle.pas_rights.proofs.Takes.{takes_right}
-use Rattle.pas_steps.specs.Desks.{Adds, Makes}
-use Rattle.pas_steps.specs.Views.{all_ones}
+use Rattle.pas_steps.specs.{Desks.Adds, Desks.Makes, Views.all_ones}
 use Rattle.pas_steps.specs.declared.step.Step.TheVariants.{Take}
 use Rattle.pas_steps.proofs.Adding.{adds_none, adds_step, can_step}
 use Rattle.pas_scavenger.proofs.taking.take_grains.Goals as goal

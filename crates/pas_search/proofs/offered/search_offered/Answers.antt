@@ -4,7 +4,8 @@ use Rattle.pas_scan.specs.Marks.{is_marked}
 use Rattle.pas_steps.proofs.Adding.{adds_none}
 use Rattle.pas_search.specs.Searches.{MaySearch, SearchesOffered}
 use Rattle.pas_search.proofs.ForBackEnds.{room_kept}
-use Rattle.pas_search.proofs.PagesThatServe.{all_offered, claim_can, none_offered, further, claim_adds, claim_quiet, lost_tries, serve_can, found_there, left_tries}
+use Rattle.pas_search.proofs.PagesThatServe.{all_offered, claim_can, none_offered, further, claim_adds, claim_quiet, lost_tries, serve_can, found_there}
+use Rattle.pas_search.proofs.PagesThatServe.{left_tries}
 use Rattle.pas_search.proofs.offered.search_offered.Goals as goal
 
 pub loop-looked-init : goal.loop-looked-init
@@ -33,7 +34,7 @@ serve-requires-clause-room g c =
     (claim_quiet i.tries i.directory c.in-Some.ensures.found h.calls.adds) (g.met.D.Desk.spares c.args.desk.now) (g.met.D.Desk.spares c.claim.new.desk) c.requires.room
 
 pub mark_unfit-requires : goal.mark_unfit-requires
-mark_unfit-requires g c = let most = (g.met.D.Desk.valid c.loop-looked.desk).pages in let high = c.in-Some.ensures.found.outcome.1.of_region.1 in omega (arith, most, high)
+mark_unfit-requires g c = let most = (g.met.D.Desk.valid c.loop-looked.desk).pages in omega (arith, most, c.in-Some.ensures.found.outcome.1.of_region.1)
 
 pub returns-in-Some-serve-clause-found : goal.returns-in-Some-serve-clause-found
 returns-in-Some-serve-clause-found g c =

@@ -6,7 +6,7 @@ use Rattle.pas_session_tests.proofs.beside_tests.park_beside_a_free.Goals as goa
 pub borrow_many-requires : goal.borrow_many-requires
 borrow_many-requires c = record {
   can = may_begin 16 _ c.in_ok-desk.ensures.opens c.new-cache.ensures.rest
-      (let room = c.in_ok-desk.ensures.room in let pages = ap (λ (f : Profile). f.pages) (c.in_ok-desk.ensures.profile ∙ c.plain_profile.ensures) in omega (arith, room, pages));
+      (let pages = ap (λ (f : Profile). f.pages) (c.in_ok-desk.ensures.profile ∙ c.plain_profile.ensures) in omega (arith, c.in_ok-desk.ensures.room, pages));
 }
 
 pub stop_in_a_storm-calm-requires-clause-rest : goal.stop_in_a_storm-calm-requires-clause-rest

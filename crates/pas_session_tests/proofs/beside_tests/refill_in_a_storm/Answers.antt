@@ -1,6 +1,5 @@
 use Rattle.std.proofs.Common.{[], ◌++◌, ap, ◌∙◌, arith}
-use Rattle.pas_plain.specs.Plain.{profile_of}
-use Rattle.pas_plain.specs.Storms.{storm_of}
+use Rattle.pas_plain.specs.{Plain.profile_of, Storms.storm_of}
 use Rattle.pas_segregated.specs.Stops.{class_directory}
 use Rattle.pas_steps.specs.Desks.{Seat}
 use Rattle.pas_session_tests.proofs.Besides.{may_search}

@@ -9,6 +9,5 @@ serves_each_class-requires-clause-exclusive g c = ap (λ (f : Profile). has_bit 
 
 pub serves_each_class-requires-clause-can : goal.serves_each_class-requires-clause-can
 serves_each_class-requires-clause-can g c =
-    let room = c.in_ok-desk.ensures.room in
     let pages = ap (λ (f : Profile). f.pages) (c.in_ok-desk.ensures.profile ∙ c.large_profile.ensures) in
-    may_begin 200 _ c.in_ok-desk.ensures.opens c.new-cache.ensures.rest (omega (arith, room, pages))
+    may_begin 200 _ c.in_ok-desk.ensures.opens c.new-cache.ensures.rest (omega (arith, c.in_ok-desk.ensures.room, pages))

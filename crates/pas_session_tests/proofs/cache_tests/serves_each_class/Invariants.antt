@@ -1,8 +1,7 @@
 -- No name is logged, and there is room for the blocks of the classes that are left.
 use Rattle.std.proofs.Common.{◌≡◌, ◌+◌, ◌-◌, ◌*◌, ◌≤◌, [], false}
 use Rattle.pas_bits.specs.Bits.{has_bit}
-use Rattle.pas_steps.specs.Desks.{CanCall}
-use Rattle.pas_steps.specs.Unknown.{unknown_pages}
+use Rattle.pas_steps.specs.{Desks.CanCall, Unknown.unknown_pages}
 use Rattle.pas_cache.specs.Caches.{cached, AtRest}
 use Rattle.pas_session_tests.proofs.cache_tests.serves_each_class.Given as goal
 

@@ -5,7 +5,6 @@ use Rattle.pas_session_tests.proofs.paging_tests.reuse.Goals as goal
 
 pub reuse_pages-requires-clause-can : goal.reuse_pages-requires-clause-can
 reuse_pages-requires-clause-can g c =
-    let room = c.in_ok-desk.ensures.room in
     let none = ap length c.in_ok-desk.ensures.fresh.pass.shown in
     let pages = ap (λ (f : Profile). f.pages) c.in_ok-desk.ensures.profile in
-    may_begin_alone 2005 _ c.in_ok-desk.ensures.fresh c.new-cache.ensures.rest (omega (arith, room, none, pages))
+    may_begin_alone 2005 _ c.in_ok-desk.ensures.fresh c.new-cache.ensures.rest (omega (arith, c.in_ok-desk.ensures.room, none, pages))

@@ -1,8 +1,7 @@
 use Rattle.std.proofs.Common.{ℕ, [], ◌++◌, refl, Bool, Result}
 use Rattle.pas_bitfit.specs.Allocates.{bitfit_directory}
 use Rattle.pas_powers.specs.Allocates.{Allocates}
-use Rattle.pas_profile.specs.declared.event.NoRoom.{NoRoom}
-use Rattle.pas_profile.specs.declared.name.Block.{Block}
+use Rattle.pas_profile.specs.declared.{event.NoRoom.NoRoom, name.Block.Block}
 use Rattle.pas_search.specs.Searches.{MaySearch}
 use Rattle.pas_steps.specs.Desks.{Standing}
 use Rattle.pas_trials.specs.Filling.{Steps}

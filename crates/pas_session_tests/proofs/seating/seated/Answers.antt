@@ -1,10 +1,8 @@
-use Rattle.std.proofs.Common.{◌≡◌, ℕ, ◌≤◌, List, [], ◌∷◌, ◌++◌, length, refl, ap, sym, ◌∙◌, subst, arith}
-use Rattle.std.proofs.lemmas.List.{length-append}
+use Rattle.std.proofs.Common.{◌≡◌, ℕ, ◌≤◌, List, [], ◌∷◌, ◌++◌, length, refl, ap, sym, ◌∙◌, subst, arith, length-append}
 use Rattle.pas_profile.specs.Rooms.{shown, EventRoom}
 use Rattle.pas_profile.specs.declared.profile.Profile.{Profile}
 use Rattle.pas_plain.specs.Plain.{profile_of, actor_of, room_of_pass, PassStands, pass_for, passes_from}
-use Rattle.pas_plain.specs.declared.pass.PlainPass.{PlainPass}
-use Rattle.pas_plain.specs.declared.region.PlainRegion.{PlainRegion}
+use Rattle.pas_plain.specs.declared.{pass.PlainPass.PlainPass, region.PlainRegion.PlainRegion}
 use Rattle.pas_session_tests.proofs.seating.seated.Goals as goal
 
 -- the last two of three

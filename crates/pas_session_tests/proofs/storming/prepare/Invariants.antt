@@ -1,6 +1,5 @@
-use Rattle.std.specs.Prelude.{◌≡◌}
-use Rattle.pas_plain.specs.Plain.{profile_of, room_of_pass}
-use Rattle.pas_plain.specs.Seats.{region_of, pass_of}
+use Rattle.std.proofs.Common.{◌≡◌}
+use Rattle.pas_plain.specs.{Plain.profile_of, Plain.room_of_pass, Seats.region_of, Seats.pass_of}
 use Rattle.pas_session_tests.specs.Seated.{RestsBeside}
 use Rattle.pas_storms.specs.Storms.{cache_of}
 use Rattle.pas_session_tests.proofs.storming.prepare.Given as goal

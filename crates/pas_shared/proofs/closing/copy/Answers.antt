@@ -1,5 +1,4 @@
-use Rattle.std.proofs.Common.{◌≢◌, ◌<◌, length, sym, ◌∙◌, arith, below_more, get_or-set_other, get_or-set_same, length-set}
-use Rattle.std.proofs.lemmas.List.{ext_get_or}
+use Rattle.std.proofs.Common.{◌≢◌, ◌<◌, length, sym, ◌∙◌, arith, below_more, get_or-set_other, get_or-set_same, length-set, ext_get_or}
 use Rattle.std.specs.Slots.{slots_items, slots_counts}
 use Rattle.pas_shared.proofs.Ruling.{read_at}
 use Rattle.pas_shared.proofs.closing.copy.Goals as goal

@@ -1,5 +1,4 @@
-use Rattle.std.proofs.Common.{List, ℕ, ap, ◌∙◌}
-use Rattle.std.specs.Prelude.{slice_index}
+use Rattle.std.proofs.Common.{List, ℕ, ap, ◌∙◌, slice_index}
 use Rattle.pas_profile.specs.Layouts.{index_of}
 use Rattle.pas_shared.proofs.Ruling.{left_by}
 use Rattle.pas_shared.proofs.closing.words_left.Goals as goal

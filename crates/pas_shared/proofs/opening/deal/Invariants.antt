@@ -1,6 +1,5 @@
-use Rattle.std.proofs.Common.{◌≡◌, ◌≤◌, ◌+◌, ◌++◌, List, [], length, vec_len}
+use Rattle.std.proofs.Common.{◌≡◌, ◌≤◌, ◌+◌, ◌++◌, List, [], length, vec_len, vec_capacity}
 use Rattle.std.specs.List.{All}
-use Rattle.std.specs.Prelude.{vec_capacity}
 use Rattle.pas_profile.specs.Rooms.{shown, EventRoom}
 use Rattle.pas_shared.specs.declared.rule.Roster.TheVariants.{Unused}
 use Rattle.pas_shared.specs.Passes.{AreFresh}

@@ -1,12 +1,9 @@
 use Rattle.std.proofs.Common.{◌≡◌, ℕ, List, [], ◌∷◌, ◌++◌, length, ap, ◌∙◌, subst, arith}
-use Rattle.pas_free_log.specs.Flushes.{Flushes}
-use Rattle.pas_free_log.specs.Logs.{entry_of}
+use Rattle.pas_free_log.specs.{Flushes.Flushes, Logs.entry_of}
 use Rattle.pas_free_log.specs.declared.log.Entry.{Entry}
 use Rattle.pas_steps.specs.Views.{View}
-use Rattle.pas_shared.specs.Passes.{view_of, seat_of, standing_of}
-use Rattle.pas_shared.specs.Pasts.{told, HasOwn}
-use Rattle.pas_shared.specs.declared.pass.SharedPass.{SharedPass}
-use Rattle.pas_shared.specs.declared.region.SharedRegion.{SharedRegion}
+use Rattle.pas_shared.specs.{Passes.view_of, Passes.seat_of, Passes.standing_of, Pasts.told, Pasts.HasOwn}
+use Rattle.pas_shared.specs.declared.{pass.SharedPass.SharedPass, region.SharedRegion.SharedRegion}
 use Rattle.pas_shared_trials.proofs.HandedOver.{freed}
 use Rattle.pas_shared_trials.proofs.handing.free.Goals as goal
 

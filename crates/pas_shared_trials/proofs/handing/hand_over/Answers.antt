@@ -1,7 +1,5 @@
-use Rattle.std.proofs.Common.{List, Option, subst}
-use Rattle.std.specs.Prelude.{IfSome}
-use Rattle.pas_shared.specs.Ledgers.{EndsAfter}
-use Rattle.pas_shared.specs.Pasts.{told}
+use Rattle.std.proofs.Common.{List, Option, subst, IfSome}
+use Rattle.pas_shared.specs.{Ledgers.EndsAfter, Pasts.told}
 use Rattle.pas_shared.specs.declared.pass.SharedPass.{SharedPass}
 use Rattle.pas_shared_trials.specs.Handing.{IsGiftOf}
 use Rattle.pas_shared_trials.specs.declared.handing.Gift.{Gift}

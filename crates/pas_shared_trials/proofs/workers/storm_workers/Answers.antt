@@ -1,6 +1,5 @@
 use Rattle.std.proofs.Common.{refl, ◌∙◌}
-use Rattle.pas_shared_trials.specs.Races.{IsFreshPass}
-use Rattle.pas_shared_trials.specs.Storms.{IsReadyForStorm}
+use Rattle.pas_shared_trials.specs.{Races.IsFreshPass, Storms.IsReadyForStorm}
 use Rattle.pas_shared.proofs.Pops.{all_more, first_is, others_are}
 use Rattle.pas_shared_trials.proofs.workers.storm_workers.Goals as goal
 

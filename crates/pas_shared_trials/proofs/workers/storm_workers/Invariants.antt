@@ -1,8 +1,7 @@
 use Rattle.std.proofs.Common.{◌≡◌}
 use Rattle.std.specs.List.{All}
 use Rattle.pas_utility.specs.Pools.{threads_of}
-use Rattle.pas_shared_trials.specs.Races.{IsFreshPass}
-use Rattle.pas_shared_trials.specs.Storms.{IsReadyForStorm}
+use Rattle.pas_shared_trials.specs.{Races.IsFreshPass, Storms.IsReadyForStorm}
 use Rattle.pas_shared_trials.proofs.workers.storm_workers.Given as goal
 
 abbrev pub invariant-loop-pass : goal.invariant-loop-pass

@@ -1,5 +1,4 @@
-use Rattle.std.proofs.Common.{◌≡◌, Option, Some, [], refl, sym, subst, ◌∙◌}
-use Rattle.std.specs.Prelude.{IfSome}
+use Rattle.std.proofs.Common.{◌≡◌, Option, Some, [], refl, sym, subst, ◌∙◌, IfSome}
 use Rattle.pas_steps.specs.Views.{View}
 use Rattle.pas_cache.specs.Caches.{cached, AtRest}
 use Rattle.pas_shared.specs.Passes.{view_of, seat_of}

@@ -1,6 +1,5 @@
-use Rattle.pas_shares.proofs.KnownAfter.{are_known}
+use Rattle.pas_shares.proofs.{KnownAfter.are_known, Weaving.weave}
 use Rattle.pas_answers.proofs.Reached.{reach_both}
-use Rattle.pas_shares.proofs.Weaving.{weave}
 use Rattle.pas_shares.proofs.laws.weaving.Goals as goal
 
 pub returns-clause-woven : goal.returns-clause-woven

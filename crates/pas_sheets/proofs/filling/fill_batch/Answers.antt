@@ -1,5 +1,4 @@
-use Rattle.std.proofs.Common.{rules, ◌≡◌, ◌∙◌, ap, length, drop, arith, vec_len}
-use Rattle.std.proofs.lemmas.List.{take_at}
+use Rattle.std.proofs.Common.{rules, ◌≡◌, ◌∙◌, ap, length, drop, arith, vec_len, take_at}
 use Rattle.pas_sheets.specs.Texts.{texts_of}
 use Rattle.pas_sheets.proofs.Dealt.{round_is}
 use Rattle.pas_sheets.proofs.filling.fill_batch.Goals as goal

@@ -1,6 +1,5 @@
-use Rattle.std.specs.Prelude.{All, ◌≤◌, length}
-use Rattle.pas_free_log.specs.Conditions.{IsEntryOf}
-use Rattle.pas_free_log.specs.Logs.{entries_in}
+use Rattle.std.proofs.Common.{All, ◌≤◌, length}
+use Rattle.pas_free_log.specs.{Conditions.IsEntryOf, Logs.entries_in}
 use Rattle.pas_storms.proofs.errands.logged.Given as goal
 
 -- each entry so far may be ended

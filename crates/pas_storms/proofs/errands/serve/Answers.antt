@@ -1,13 +1,11 @@
-use Rattle.std.proofs.Common.{◌+◌, ◌-◌, arith}
-use Rattle.std.specs.Prelude.{◌/◌}
+use Rattle.std.proofs.Common.{◌+◌, ◌-◌, arith, ◌/◌}
 use Rattle.pas_cache.proofs.Routes.{is_small, is_large}
 use Rattle.pas_storms.proofs.Going.{room_for_slot, room_for_pages, slot_asked, pages_asked}
 use Rattle.pas_storms.proofs.errands.serve.Goals as goal
 
 pub alloc_large-requires-clause-can : goal.alloc_large-requires-clause-can
 alloc_large-requires-clause-can g c =
-    let within = c.requires.admitted.within in
-    room_for_pages ((c.args.size + 4096 - 1) / 4096) c.requires.room c.requires.pages (omega (arith, within)) c.requires.can
+    room_for_pages ((c.args.size + 4096 - 1) / 4096) c.requires.room c.requires.pages (omega (arith, c.requires.admitted.within)) c.requires.can
 
 pub alloc-requires-clause-route : goal.alloc-requires-clause-route
 alloc-requires-clause-route g c = is_small _ c.args.size c.args.align c.if-size-gt-MOST_BITFIT.false

@@ -1,4 +1,4 @@
-use Rattle.std.specs.Prelude.{ℕ, ◌≡◌, ◌<◌, ◌+◌, ◌*◌, not}
+use Rattle.std.proofs.Common.{ℕ, ◌≡◌, ◌<◌, ◌+◌, ◌*◌, not}
 use Rattle.std.specs.List.{list_any}
 use Rattle.pas_storms.specs.Judging.{is_free, covers}
 use Rattle.pas_storms.proofs.judging.is_counted.Given as goal

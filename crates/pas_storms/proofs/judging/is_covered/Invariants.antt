@@ -1,4 +1,4 @@
-use Rattle.std.specs.Prelude.{◌≡◌, false, take}
+use Rattle.std.proofs.Common.{◌≡◌, false, take}
 use Rattle.std.specs.List.{list_any}
 use Rattle.pas_storms.specs.Judging.{covers}
 use Rattle.pas_storms.proofs.judging.is_covered.Given as goal

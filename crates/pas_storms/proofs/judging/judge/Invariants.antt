@@ -1,4 +1,4 @@
-use Rattle.std.specs.Prelude.{ℕ, ◌≤◌}
+use Rattle.std.proofs.Common.{ℕ, ◌≤◌}
 use Rattle.pas_storms.specs.Judging.{IsSoundPage}
 use Rattle.pas_storms.proofs.judging.judge.Given as goal
 

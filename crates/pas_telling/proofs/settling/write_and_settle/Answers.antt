@@ -3,9 +3,7 @@ use Rattle.std.proofs.lemmas.Result.{on_err_weaker, on_ok_weaker}
 use Rattle.pas_io.specs.Told.{Writes, WritesFront}
 use Rattle.pas_io.specs.declared.Failed.{Failed}
 use Rattle.pas_io.proofs.Telling.{writes_more}
-use Rattle.pas_report.specs.Counts.{report_by_words}
-use Rattle.pas_report.specs.Lines.{lines_of}
-use Rattle.pas_report.specs.Rooms.{records_in}
+use Rattle.pas_report.specs.{Counts.report_by_words, Lines.lines_of, Rooms.records_in}
 use Rattle.pas_report.proofs.Pieces.{front_longer}
 use Rattle.pas_telling.specs.Outcomes.{shown_text}
 use Rattle.pas_telling.proofs.Fronts.{front_after}

@@ -1,7 +1,5 @@
-use Rattle.std.proofs.Common.{◌≡◌, ◌∙◌, List, ℕ, Option, OnOk, OnErr, subst}
-use Rattle.std.specs.Prelude.{IfSome}
-use Rattle.pas_io.specs.Taken.{taken}
-use Rattle.pas_io.specs.Told.{Writes, WritesFront}
+use Rattle.std.proofs.Common.{◌≡◌, ◌∙◌, List, ℕ, Option, OnOk, OnErr, subst, IfSome}
+use Rattle.pas_io.specs.{Taken.taken, Told.Writes, Told.WritesFront}
 use Rattle.pas_io.specs.declared.memory.MemorySink.{MemorySink}
 use Rattle.pas_report.specs.Counts.{report_by_words}
 use Rattle.pas_telling.proofs.settling.write_report.Goals as goal

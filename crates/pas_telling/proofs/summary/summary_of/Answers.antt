@@ -1,5 +1,4 @@
-use Rattle.std.proofs.Common.{◌++◌, ◌∙◌, List, ℕ, ap}
-use Rattle.std.specs.Prelude.{codes}
+use Rattle.std.proofs.Common.{◌++◌, ◌∙◌, List, ℕ, ap, codes}
 use Rattle.pas_telling.proofs.Adding.{one_more, counted}
 use Rattle.pas_telling.proofs.summary.summary_of.Goals as goal
 

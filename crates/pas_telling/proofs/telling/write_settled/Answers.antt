@@ -1,9 +1,7 @@
 use Rattle.std.proofs.Common.{rules, ◌≡◌, ◌++◌, ap, sym, subst}
 use Rattle.std.proofs.lemmas.Result.{on_err_weaker}
 use Rattle.pas_io.specs.Told.{WritesFront}
-use Rattle.pas_report.specs.Counts.{report_by_words}
-use Rattle.pas_report.specs.Lines.{lines_of}
-use Rattle.pas_report.specs.Rooms.{records_in}
+use Rattle.pas_report.specs.{Counts.report_by_words, Lines.lines_of, Rooms.records_in}
 use Rattle.pas_report.proofs.Pieces.{front_longer}
 use Rattle.pas_telling.specs.Outcomes.{shown_text}
 use Rattle.pas_telling.proofs.Fronts.{front_after}

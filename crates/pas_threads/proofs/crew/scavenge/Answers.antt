@@ -1,6 +1,5 @@
 use Rattle.std.proofs.Common.{◌∙◌, refl, arith}
-use Rattle.pas_trace.specs.declared.plan.Op.{Op}
-use Rattle.pas_trace.specs.declared.plan.What.TheVariants.{Alloc}
+use Rattle.pas_trace.specs.declared.plan.{Op.Op, What.TheVariants.Alloc}
 use Rattle.pas_threads.proofs.ByCrew.{chore_sound, next_acts, skip_acts, crew_begins, crew_before, crew_goes_on, crew_skips, crew_ends}
 use Rattle.pas_threads.proofs.crew.scavenge.Goals as goal
 use Rattle.pas_threads.proofs.crew.scavenge.Goals.{in-Chore, in_default}
@@ -13,10 +12,7 @@ loop-op-init g c = record { far = λ s asked p sound at. crew_begins c.args.ops.
 
 pub overflow_add-number : goal.overflow_add-number
 overflow_add-number g c =
-    let low = c.loop-op.invariant.number in
-    let lt = c.loop-op-test.true in
-    let few = c.requires.few in
-    (omega (arith, low, lt, few))
+    (omega (arith, c.loop-op.invariant.number, c.loop-op-test.true, c.requires.few))
 
 pub scavenge_one-requires : goal.scavenge_one-requires
 scavenge_one-requires g c =
@@ -33,7 +29,6 @@ loop-op-preserved g c =
     let ops = c.args.ops.now in
     let i = c.loop-op.op-index in
     let lt = c.loop-op-test.true in
-    let low = c.loop-op.invariant.number in
     elim c.match-work.branch [
       | in-Chore w ↦
           rw (w.desk-is, w.lent-is, w.outcomes-is, w.out-is, w.number-is) (record {
@@ -41,7 +36,7 @@ loop-op-preserved g c =
                 let so = c.loop-op.invariant.far s asked p sound at in
                 let next = next_acts s.profile asked ops i past sound lt c.work.result c.work.ensures s.idle w.in-Chore.chore w.in-Chore.is in
                 crew_goes_on ops i w.in-Chore.chore next so at.lent.many (w.scavenge_one.ensures.did s _ so.done.came.reached (crew_before ops i w.in-Chore.chore next so));
-            number = omega (arith, low);
+            number = omega (arith, c.loop-op.invariant.number);
             home = w.scavenge_one.ensures.home ∙ c.loop-op.invariant.home;
             many = w.scavenge_one.ensures.many ∙ c.loop-op.invariant.many;
           })
@@ -50,7 +45,7 @@ loop-op-preserved g c =
             far = λ s asked p sound at.
                 let skips = skip_acts s.profile asked ops i past sound lt c.work.result c.work.ensures s.idle w.in_default.not-Chore in
                 crew_skips ops i skips (c.loop-op.invariant.far s asked p sound at);
-            number = omega (arith, low);
+            number = omega (arith, c.loop-op.invariant.number);
             home = c.loop-op.invariant.home;
             many = c.loop-op.invariant.many;
           })

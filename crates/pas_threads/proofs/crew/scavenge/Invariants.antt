@@ -1,11 +1,9 @@
 -- the scavenger's operations so far are done
 use Rattle.std.proofs.Common.{◌≡◌, ◌≤◌, ℕ, List, length}
-use Rattle.pas_trace.specs.EveryPlan.{AreSound}
+use Rattle.pas_trace.specs.{EveryPlan.AreSound, Acts.scavenger_acts}
 use Rattle.pas_utility.specs.Outcomes.{places_of}
-use Rattle.pas_trace.specs.Acts.{scavenger_acts}
 use Rattle.pas_answers.specs.Answers.{Progress}
-use Rattle.pas_threads.specs.Lent.{Shift}
-use Rattle.pas_threads.specs.Crews.{crew, CrewAt}
+use Rattle.pas_threads.specs.{Lent.Shift, Crews.crew, Crews.CrewAt}
 use Rattle.pas_threads.proofs.ByCrew.{CrewSoFar}
 use Rattle.pas_threads.proofs.crew.scavenge.Given as goal
 

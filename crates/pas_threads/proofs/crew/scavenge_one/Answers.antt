@@ -1,9 +1,7 @@
 use Rattle.std.proofs.Common.{◌∙◌, [], refl, ap, sym, subst, arith}
 use Rattle.pas_profile.specs.declared.profile.Profile.{Profile}
-use Rattle.pas_trace.specs.EveryPlan.{IsSoundWork}
-use Rattle.pas_trace.specs.declared.plan.Chore.{Chore}
-use Rattle.pas_trace.specs.declared.plan.Work.{Work}
-use Rattle.pas_trace.specs.Acts.{acts_of_chore}
+use Rattle.pas_trace.specs.{EveryPlan.IsSoundWork, Acts.acts_of_chore}
+use Rattle.pas_trace.specs.declared.plan.{Chore.Chore, Work.Work}
 use Rattle.pas_threads.proofs.ByCrew.{costs_stops, room_for_act, still_lent, as_acts, to_acts, did_alone, did_idle}
 use Rattle.pas_threads.proofs.crew.scavenge_one.Goals as goal
 
@@ -42,10 +40,8 @@ pub stop_idle-requires-clause-room : goal.stop_idle-requires-clause-room
 stop_idle-requires-clause-room g c =
     let m = c.requires.may in
     let at = as_acts m.1 (ap (λ (w : Chore). acts_of_chore m.0.idle w) c.in-Idle.is) m.4 in
-    let spare = at.stands.stands.spare in
-    let many = at.lent.many in
     let costs = costs_stops m.0.profile c.in-Idle.epochs m.0.idle m.1 in
-    omega (arith, spare, many, costs)
+    omega (arith, at.stands.stands.spare, at.lent.many, costs)
 
 pub returns-in-Tick-clause-did : goal.returns-in-Tick-clause-did
 returns-in-Tick-clause-did g c = λ s next p was.

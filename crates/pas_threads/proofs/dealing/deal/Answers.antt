@@ -1,10 +1,7 @@
 use Rattle.std.proofs.Common.{◌≡◌, ◌∙◌, ◌+◌, ◌++◌, [], ◌∷◌, ap, sym, refl, arith, map, reverse, List, length, length-append, drop_of_length-le}
-use Rattle.std.proofs.lemmas.Bool.{not_from_true, not_from_false}
-use Rattle.std.proofs.lemmas.List.{map_push, reverse-reverse}
+use Rattle.std.proofs.lemmas.{Bool.not_from_true, Bool.not_from_false, List.map_push, List.reverse-reverse}
 use Rattle.pas_threads.specs.Dealing.{picked, is_in, is_out}
-use Rattle.pas_threads.specs.declared.workers.Worker.{Worker}
-use Rattle.pas_threads.specs.declared.hands.Hand.{Hand}
-use Rattle.pas_threads.specs.declared.hands.Hand.TheVariants.{Thread}
+use Rattle.pas_threads.specs.declared.{workers.Worker.Worker, hands.Hand.Hand, hands.Hand.TheVariants.Thread}
 use Rattle.pas_threads.proofs.Dealt.{pile_grows, pile_stays, pile_whole, last_left}
 use Rattle.pas_threads.proofs.dealing.deal.Goals as goal
 
@@ -12,12 +9,11 @@ pub loop-worker-init : goal.loop-worker-init
 loop-worker-init c =
     let none = ap (λ (hs : List Hand). length hs) c.requires.hands.0 in
     let nobody = ap (λ (ws : List Worker). length ws) c.requires.lent.0 in
-    let len = c.reverse.ensures.len in
     let all = ap (λ (ws : List Worker). reverse ws) c.reverse.ensures.items ∙ reverse-reverse c.args.threads.now.items in
     record {
       inside = ([], c.requires.hands.0, ap (λ (ws : List Worker). picked (is_in c.args.awake) 1 ws) all);
       outside = ap (λ (ws : List Worker). ws ++ picked (is_out c.args.awake) 1 (reverse c.reverse.new.self.items)) c.requires.lent.0 ∙ ap (λ (ws : List Worker). picked (is_out c.args.awake) 1 ws) all;
-      count = omega (arith, len);
+      count = omega (arith, c.reverse.ensures.len);
       in_hands = omega (arith, none);
       in_lent = omega (arith, nobody);
       threads = c.reverse.ensures.capacity;
@@ -29,7 +25,6 @@ pub loop-worker-preserved-then-get : goal.loop-worker-preserved-then-get
 loop-worker-preserved-then-get c =
     let i = c.loop-worker.invariant in
     let count = i.count in
-    let len = c.in-Some.ensures.len in
     let in_hands = i.in_hands in
     let in_lent = i.in_lent in
     let one = ap (λ (hs : List Hand). length hs) c.push_reserved.ensures.items ∙ length-append c.loop-worker.hands.items _ in
@@ -43,7 +38,7 @@ loop-worker-preserved-then-get c =
         pile_grows (is_in c.args.awake) (c.loop-worker.actor + 1) i.inside.0 (reverse c.loop-worker.threads.items) i.inside.2 w (reverse c.pop.new.self.items) on last,
       );
       outside = pile_stays (is_out c.args.awake) (c.loop-worker.actor + 1) c.loop-worker.lent.items (reverse c.loop-worker.threads.items) i.outside w (reverse c.pop.new.self.items) (not_from_true _ on) last;
-      count = omega (arith, count, len);
+      count = omega (arith, count, c.in-Some.ensures.len);
       in_hands = omega (arith, in_hands, one);
       in_lent = omega (arith, in_lent);
       threads = c.pop.ensures.capacity ∙ i.threads;
@@ -55,7 +50,6 @@ pub loop-worker-preserved : goal.loop-worker-preserved
 loop-worker-preserved c =
     let i = c.loop-worker.invariant in
     let count = i.count in
-    let len = c.in-Some.ensures.len in
     let in_hands = i.in_hands in
     let in_lent = i.in_lent in
     let one = ap (λ (ws : List Worker). length ws) c.push_reserved-else-get.ensures.items ∙ length-append c.loop-worker.lent.items _ in
@@ -66,7 +60,7 @@ loop-worker-preserved c =
       inside = (i.inside.0, i.inside.1, pile_stays (is_in c.args.awake) (c.loop-worker.actor + 1) i.inside.0 (reverse c.loop-worker.threads.items) i.inside.2 w (reverse c.pop.new.self.items) off last);
       outside = ap (λ (ws : List Worker). ws ++ picked (is_out c.args.awake) (c.loop-worker.actor + 1 + 1) (reverse c.pop.new.self.items)) c.push_reserved-else-get.ensures.items
           ∙ pile_grows (is_out c.args.awake) (c.loop-worker.actor + 1) c.loop-worker.lent.items (reverse c.loop-worker.threads.items) i.outside w (reverse c.pop.new.self.items) (not_from_false _ off) last;
-      count = omega (arith, count, len);
+      count = omega (arith, count, c.in-Some.ensures.len);
       in_hands = omega (arith, in_hands);
       in_lent = omega (arith, in_lent, one);
       threads = c.pop.ensures.capacity ∙ i.threads;
@@ -77,7 +71,6 @@ loop-worker-preserved c =
 pub returns-clause-dealt : goal.returns-clause-dealt
 returns-clause-dealt c =
     let i = c.loop-worker.invariant in
-    let len = c.in_default.ensures.cases in
-    let none : c.loop-worker.threads.items ≡ [] = drop_of_length-le c.loop-worker.threads.items {i = 0} (omega (arith, len)) in
+    let none : c.loop-worker.threads.items ≡ [] = drop_of_length-le c.loop-worker.threads.items {i = 0} (omega (arith, c.in_default.ensures.cases)) in
     let left = ap (λ (ws : List Worker). reverse ws) none in
     (i.inside.1 ∙ ap (λ (ws : List Worker). map Thread ws) (pile_whole (is_in c.args.awake) (c.loop-worker.actor + 1) i.inside.0 (reverse c.loop-worker.threads.items) i.inside.2 left), pile_whole (is_out c.args.awake) (c.loop-worker.actor + 1) c.loop-worker.lent.items (reverse c.loop-worker.threads.items) i.outside left)

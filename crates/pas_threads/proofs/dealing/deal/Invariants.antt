@@ -1,9 +1,7 @@
 -- the workers so far are dealt, and there are places for the others
-use Rattle.std.proofs.Common.{◌≡◌, ◌+◌, ◌++◌, ◌≤◌, List, map, length, reverse}
-use Rattle.std.specs.Prelude.{vec_capacity}
+use Rattle.std.proofs.Common.{◌≡◌, ◌+◌, ◌++◌, ◌≤◌, List, map, length, reverse, vec_capacity}
 use Rattle.pas_threads.specs.Dealing.{picked, is_in, is_out}
-use Rattle.pas_threads.specs.declared.workers.Worker.{Worker}
-use Rattle.pas_threads.specs.declared.hands.Hand.TheVariants.{Thread}
+use Rattle.pas_threads.specs.declared.{workers.Worker.Worker, hands.Hand.TheVariants.Thread}
 use Rattle.pas_threads.proofs.dealing.deal.Given as goal
 
 abbrev pub invariant-loop-worker : goal.invariant-loop-worker

@@ -13,12 +13,11 @@ module _ (c : After-get) where
 
   so : SoTaken c.args.awake (suc left) c.args.hands.now.items c.args.lent.now.items c.loop-below.threads.items c.loop-below.hands.items c.loop-below.lent.items
   so =
-      let lt = c.loop-below-test.true in
       subst (λ (n : ℕ). SoTaken c.args.awake n c.args.hands.now.items c.args.lent.now.items c.loop-below.threads.items c.loop-below.hands.items c.loop-below.lent.items)
-      (let one : c.args.count - c.loop-below.below ≡ suc left = omega (arith, lt) in one) c.loop-below.invariant.so
+      (let one : c.args.count - c.loop-below.below ≡ suc left = omega (arith, c.loop-below-test.true) in one) c.loop-below.invariant.so
 
   its_bit : is_set c.args.awake (1 + length c.loop-below.threads.items) ≡ c.get.result
-  its_bit = let many = c.loop-below.invariant.many in ap (λ (n : ℕ). is_set c.args.awake n) (let at : 1 + length c.loop-below.threads.items ≡ c.loop-below.below + 1 = omega (arith, many) in at) ∙ sym c.get.ensures
+  its_bit = ap (λ (n : ℕ). is_set c.args.awake n) (let at : 1 + length c.loop-below.threads.items ≡ c.loop-below.below + 1 = omega (arith, c.loop-below.invariant.many) in at) ∙ sym c.get.ensures
 
 pub loop-below-init : goal.loop-below-init
 loop-below-init c = record {
@@ -54,7 +53,7 @@ loop-below-preserved c =
     }
 
 pub returns-clause-dealt : goal.returns-clause-dealt
-returns-clause-dealt c = let past = c.loop-below-test.false in (all_taken c.loop-below.invariant.so (omega (arith, past))).0
+returns-clause-dealt c = (all_taken c.loop-below.invariant.so (omega (arith, c.loop-below-test.false))).0
 
 pub returns-clause-none : goal.returns-clause-none
-returns-clause-none c = let past = c.loop-below-test.false in let all = all_taken c.loop-below.invariant.so (omega (arith, past)) in (all.1, all.2)
+returns-clause-none c = let all = all_taken c.loop-below.invariant.so (omega (arith, c.loop-below-test.false)) in (all.1, all.2)

@@ -1,6 +1,5 @@
 -- the workers of the threads so far are back
-use Rattle.std.proofs.Common.{◌≡◌, ◌-◌, length}
-use Rattle.std.specs.Prelude.{vec_capacity}
+use Rattle.std.proofs.Common.{◌≡◌, ◌-◌, length, vec_capacity}
 use Rattle.pas_threads.proofs.Dealt.{SoTaken}
 use Rattle.pas_threads.proofs.dealing.take_back.Given as goal
 

@@ -1,9 +1,6 @@
 use Rattle.std.proofs.Common.{rules, ◌∙◌, ◌++◌, ◌∷◌, [], List, length, ap, sym, subst}
-use Rattle.pas_threads.specs.Acting.{DidEach}
-use Rattle.pas_threads.specs.Scavengers.{DidScavenge}
-use Rattle.pas_threads.specs.declared.scavenger.Scavenger.{Scavenger as TheScavenger}
-use Rattle.pas_threads.specs.declared.hands.Hand.{Hand}
-use Rattle.pas_threads.specs.declared.hands.Hand.TheVariants.{Scavenger}
+use Rattle.pas_threads.specs.{Acting.DidEach, Scavengers.DidScavenge}
+use Rattle.pas_threads.specs.declared.{scavenger.Scavenger.Scavenger as TheScavenger, hands.Hand.Hand, hands.Hand.TheVariants.Scavenger}
 use Rattle.std.proofs.lemmas.List.{same_from_push}
 use Rattle.pas_threads.proofs.Dealt.{threads_may, all_may, threads_did, all_did, each_from, same_scavenger}
 use Rattle.pas_threads.proofs.hands.act_with.Goals as goal

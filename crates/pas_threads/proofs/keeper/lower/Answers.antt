@@ -1,7 +1,6 @@
 use Rattle.std.proofs.Common.{◌∙◌, sym, subst}
 use Rattle.pas_shared.specs.Passes.{IsPassOf}
-use Rattle.pas_shared.specs.declared.pass.SharedPass.{SharedPass}
-use Rattle.pas_shared.specs.declared.region.SharedRegion.{SharedRegion}
+use Rattle.pas_shared.specs.declared.{pass.SharedPass.SharedPass, region.SharedRegion.SharedRegion}
 use Rattle.pas_acts.specs.Keepers.{KeeperAt, KeeperLowers, keeper_has}
 use Rattle.pas_threads.specs.Hands.{standing_of_pass}
 use Rattle.pas_threads.proofs.keeper.lower.Goals as goal

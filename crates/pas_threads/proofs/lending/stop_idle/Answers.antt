@@ -21,11 +21,7 @@ stop_lent-requires-clause-room c =
     let r = c.requires.lent in
     let so = c.loop-index.invariant.far r.0 r.1 r.2 r.3 in
     let longer = ap (λ (rs : List Record). length rs) so.done.told.added ∙ length-append (records_in c.args.out.now) (records_by 0 so.done.turns.came.said) in
-    let few = so.done.few in
-    let same = so.done.told.room in
-    let room = c.requires.room in
-    let test = c.loop-index-test.true in
-    omega (arith, longer, few, same, room, test)
+    omega (arith, longer, so.done.few, so.done.told.room, c.requires.room, c.loop-index-test.true)
 
 pub loop-index-preserved : goal.loop-index-preserved
 loop-index-preserved c = record {

@@ -1,9 +1,8 @@
-use Rattle.std.proofs.Common.{◌≡◌, ◌<◌, ◌++◌, ◌∷◌, [], ℕ, List, Some, length, get_or, length-append, length-set, ap, sym, ◌∙◌, arith}
-use Rattle.std.proofs.lemmas.List.{get_or_default, get_or-set_other}
+use Rattle.std.proofs.Common.{◌≡◌, ◌<◌, ◌++◌, ◌∷◌, [], ℕ, List, Some, length, get_or, length-append, length-set, ap, sym, ◌∙◌, arith, get_or-set_other}
+use Rattle.std.proofs.lemmas.List.{get_or_default}
 use Rattle.pas_shared.proofs.Opened.{one_done}
 use Rattle.pas_threads.specs.Kits.{with_keeper}
-use Rattle.pas_threads.specs.declared.keeper.Keeper.{Keeper}
-use Rattle.pas_threads.specs.declared.workers.Worker.{Worker}
+use Rattle.pas_threads.specs.declared.{keeper.Keeper.Keeper, workers.Worker.Worker}
 use Rattle.pas_threads.proofs.MakingKeepers.{first_given}
 use Rattle.pas_threads.proofs.making.give_keepers.Goals as goal
 
@@ -22,9 +21,8 @@ loop-keeper-preserved c =
     let all = ap (λ (ks : List Keeper). length ks) i.given_so.1 in
     let both = length-append given c.loop-keeper.keeper-iterator.rest.items in
     let longer = length-append given (keeper ∷ []) in
-    let few = c.requires.few in
     let many = i.many in
-    let here : place < length now = omega (arith, count, rest, all, both, few, many) in
+    let here : place < length now = omega (arith, count, rest, all, both, c.requires.few, many) in
     record {
       given_so = (given ++ keeper ∷ [], one_done given _ keeper _ _ step i.given_so.1, omega (arith, longer, count));
       many = length-set now place w ∙ many;

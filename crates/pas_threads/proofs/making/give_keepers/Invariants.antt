@@ -1,8 +1,7 @@
 -- the workers before this place have their keepers, in order, and the others are as they were
 use Rattle.std.proofs.Common.{◌≡◌, ◌<◌, ◌≤◌, ◌++◌, ℕ, List, Some, length, get_or}
 use Rattle.pas_threads.specs.Kits.{with_keeper}
-use Rattle.pas_threads.specs.declared.keeper.Keeper.{Keeper}
-use Rattle.pas_threads.specs.declared.workers.Worker.{Worker}
+use Rattle.pas_threads.specs.declared.{keeper.Keeper.Keeper, workers.Worker.Worker}
 use Rattle.pas_threads.proofs.making.give_keepers.Given as goal
 
 abbrev pub invariant-loop-keeper : goal.invariant-loop-keeper

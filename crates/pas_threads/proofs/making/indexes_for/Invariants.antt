@@ -1,6 +1,5 @@
 -- an index for each heap so far
-use Rattle.std.proofs.Common.{◌≡◌, ◌≤◌, length}
-use Rattle.std.specs.Prelude.{vec_capacity}
+use Rattle.std.proofs.Common.{◌≡◌, ◌≤◌, length, vec_capacity}
 use Rattle.pas_threads.proofs.making.indexes_for.Given as goal
 
 abbrev pub invariant-loop-heap : goal.invariant-loop-heap

@@ -3,23 +3,19 @@ use Rattle.pas_shared.specs.declared.pass.SharedPass.{SharedPass}
 use Rattle.pas_shared.proofs.Opened.{one_done}
 use Rattle.pas_threads.specs.Kits.{AreKeepers, IsKeeperWith}
 use Rattle.pas_threads.specs.declared.keeper.Keeper.{Keeper}
-use Rattle.pas_threads.proofs.MakingKeepers.{keepers_more}
-use Rattle.pas_threads.proofs.Start.{first_taken}
+use Rattle.pas_threads.proofs.{MakingKeepers.keepers_more, Start.first_taken}
 use Rattle.pas_threads.proofs.making.keepers_for.Goals as goal
 
 pub loop-pass-init : goal.loop-pass-init
 loop-pass-init c =
     let same = c.into_iter-pass-iterator.ensures.into_iter_gives.0 in
     let count = ap (λ (ps : List SharedPass). length ps) same in
-    let books = c.requires.books in
     let none = ap (λ (ks : List Keeper). length ks) c.in-Ok.ensures.items in
-    let capacity = c.in-Ok.ensures.capacity in
-    let len = c.len.ensures in
     record {
       some = ([], [], same, refl, subst (λ (ks : List Keeper). AreKeepers c.args.room.now 0 [] [] ks) (sym c.in-Ok.ensures.items) tt);
-      books_left = omega (arith, count, books);
+      books_left = omega (arith, count, c.requires.books);
       many = omega (arith, none, count);
-      reserved = omega (arith, capacity, len);
+      reserved = omega (arith, c.in-Ok.ensures.capacity, c.len.ensures);
     }
 
 pub loop-pass-preserved : goal.loop-pass-preserved
@@ -29,12 +25,9 @@ loop-pass-preserved c =
     let step = c.in-Some.ensures.steps.0 in
     let rest = ap (λ (ps : List SharedPass). length ps) step in
     let left = i.books_left in
-    let removed = c.remove-book.ensures.len in
     let many = i.many in
     let len = c.len-in-loop-pass.ensures in
-    let pushed = c.push_reserved.ensures.len in
     let reserved = i.reserved in
-    let same = c.push_reserved.ensures.capacity in
     let size = c.in_ok-out.ensures.size in
     let pass = c.in-Some.pass in
     let book = c.remove-book.result in
@@ -52,7 +45,7 @@ loop-pass-preserved c =
         subst (λ (ks : List Keeper). AreKeepers room 0 passes books ks) (sym c.push_reserved.ensures.items)
             (keepers_more room 0 c.len-in-loop-pass.result i.some.0 i.some.1 c.loop-pass.keepers.items pass book keeper i.some.4 (omega (arith, len)) with_these),
       );
-      books_left = omega (arith, left, rest, removed);
-      many = omega (arith, rest, pushed, many);
-      reserved = omega (arith, reserved, same);
+      books_left = omega (arith, left, rest, c.remove-book.ensures.len);
+      many = omega (arith, rest, c.push_reserved.ensures.len, many);
+      reserved = omega (arith, reserved, c.push_reserved.ensures.capacity);
     }

@@ -1,6 +1,5 @@
 -- the keepers so far have the first passes and books, and there is a book for each of the others
-use Rattle.std.proofs.Common.{◌≡◌, ◌≤◌, ◌+◌, ◌++◌, List, length}
-use Rattle.std.specs.Prelude.{vec_capacity}
+use Rattle.std.proofs.Common.{◌≡◌, ◌≤◌, ◌+◌, ◌++◌, List, length, vec_capacity}
 use Rattle.pas_guard.specs.declared.book.GuardBook.{GuardBook}
 use Rattle.pas_shared.specs.declared.pass.SharedPass.{SharedPass}
 use Rattle.pas_threads.specs.Kits.{AreKeepers}

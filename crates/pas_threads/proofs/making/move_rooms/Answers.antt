@@ -1,5 +1,4 @@
-use Rattle.std.proofs.Common.{◌≡◌, ◌<◌, [], length, arith}
-use Rattle.std.proofs.lemmas.List.{length-set}
+use Rattle.std.proofs.Common.{◌≡◌, ◌<◌, [], length, arith, length-set}
 use Rattle.std.proofs.lemmas.List.Elements.{All-set}
 use Rattle.pas_profile.specs.Rooms.{shown, EventRoom}
 use Rattle.pas_threads.proofs.Start.{one_moved}
@@ -11,9 +10,7 @@ loop-other-preserved c =
     let rooms = c.loop-other.rooms.items in
     let actor = c.loop-other.actor in
     let within = i.within in
-    let len = c.len.ensures in
-    let not_all = c.if-actor-len.false in
-    let lt : actor < length rooms = omega (arith, within, len, not_all) in
+    let lt : actor < length rooms = omega (arith, within, c.len.ensures, c.if-actor-len.false) in
     let same = length-set rooms actor c.move_into.new.self in
     record {
       empty = All-set (λ (room : EventRoom). shown room ≡ []) rooms actor c.move_into.new.self c.move_into.ensures.empty i.empty;

@@ -1,6 +1,5 @@
 -- there is room for what each keeper so far may say
-use Rattle.std.proofs.Common.{◌≡◌, ◌≤◌, ◌<◌, ◌+◌, ℕ, length}
-use Rattle.std.specs.Prelude.{vec_capacity}
+use Rattle.std.proofs.Common.{◌≡◌, ◌≤◌, ◌<◌, ◌+◌, ℕ, length, vec_capacity}
 use Rattle.pas_threads.specs.Kits.{HasRoomForKeeper}
 use Rattle.pas_threads.proofs.making.records_of_keepers.Given as goal
 

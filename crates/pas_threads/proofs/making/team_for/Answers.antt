@@ -1,7 +1,6 @@
-use Rattle.std.proofs.Common.{◌≡◌, ◌≤◌, ◌<◌, ◌+◌, ◌++◌, ℕ, List, take, drop, length, slice_index, ap, sym, ◌∙◌, subst, arith}
-use Rattle.std.specs.Prelude.{vec_capacity}
-use Rattle.std.proofs.lemmas.List.{length-drop, length-take-le, take-append-drop, with_items_is}
-use Rattle.std.proofs.lemmas.Option.{same_Some}
+use Rattle.std.proofs.Common.{◌≡◌, ◌≤◌, ◌<◌, ◌+◌, ◌++◌, ℕ, List, take, drop, length, slice_index, ap, sym, ◌∙◌, subst, arith, vec_capacity, length-drop}
+use Rattle.std.proofs.Common.{length-take-le, take-append-drop}
+use Rattle.std.proofs.lemmas.{List.with_items_is, Option.same_Some}
 use Rattle.pas_trace.specs.Plans.{bounds_of}
 use Rattle.pas_trace.proofs.Keepers.{keepers_few}
 use Rattle.pas_shared.specs.declared.pass.SharedPass.{SharedPass}
@@ -77,8 +76,7 @@ returns c =
     let len = c.len.ensures in
     let have : HaveKeepers plan kept now = have_keepers plan kept c.in_ok-books.books.items c.as_slice.result.now given c.in_ok-keepers.ensures books size (equipped_many bounds 1 own threads.items equipped ∙ many) c.in_ok-threads.ensures.alone
     (λ i lt. subst (λ (rs : List ℕ). HasRoomForKeeper plan rs i) (sym c.as_slice.ensures.value) (c.in_ok-room.ensures.room i (omega (arith, lt, len, count)))) in
-    let room = c.in_ok-threads.ensures.places in
-    let capacity : threads_of plan ≤ vec_capacity threads = omega (arith, many, room) in
+    let capacity : threads_of plan ≤ vec_capacity threads = omega (arith, many, c.in_ok-threads.ensures.places) in
     let hands = c.in-Ok-with_capacity.ensures.capacity in (
       own,
       kept,

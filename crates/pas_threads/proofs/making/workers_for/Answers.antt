@@ -8,8 +8,7 @@ use Rattle.pas_shared.proofs.Opened.{one_done}
 use Rattle.pas_answers.specs.Replays.{empty_cache}
 use Rattle.pas_threads.specs.Kits.{IsEquipped, AreEquipped, IsAlone}
 use Rattle.pas_threads.specs.declared.workers.Worker.{Worker}
-use Rattle.pas_threads.proofs.MakingKeepers.{alone_more, all_alone}
-use Rattle.pas_threads.proofs.Start.{equipped_more}
+use Rattle.pas_threads.proofs.{MakingKeepers.alone_more, MakingKeepers.all_alone, Start.equipped_more}
 use Rattle.pas_threads.proofs.making.workers_for.Goals as goal
 
 pub loop-pass-preserved : goal.loop-pass-preserved
@@ -22,9 +21,7 @@ loop-pass-preserved c =
     let caches = i.caches in
     let many = i.many in
     let len = c.len-thread.ensures in
-    let pushed = c.push_reserved.ensures.len in
     let reserved = i.reserved in
-    let same = c.push_reserved.ensures.capacity in
     let unused = All-pop (λ (cache : ThreadCache). cached cache ≡ empty_cache) _ _ _ c.pop.ensures.items i.unused in
     let requests = c.in_ok-requests.ensures.room in
     let worker : Worker = record { pass = Some c.in-Some.pass; cache = c.in-Some-pop.cache; requests = c.in_ok-requests.requests; out = c.in_ok-out.out; keeper = None } in
@@ -47,8 +44,8 @@ loop-pass-preserved c =
       alone = subst (λ (ws : List Worker). AllByRecursion IsAlone ws) (sym c.push_reserved.ensures.items) (alone_more c.loop-pass.workers.items worker refl i.alone);
       unused = unused.0;
       caches = omega (arith, rest, popped, caches);
-      many = omega (arith, rest, pushed, many);
-      reserved = omega (arith, reserved, same);
+      many = omega (arith, rest, c.push_reserved.ensures.len, many);
+      reserved = omega (arith, reserved, c.push_reserved.ensures.capacity);
     }
 
 pub returns-clause-alone : goal.returns-clause-alone

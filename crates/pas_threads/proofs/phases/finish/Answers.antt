@@ -10,12 +10,10 @@ use Rattle.pas_answers.specs.Answers.{Progress}
 use Rattle.pas_threads.specs.Pairs.{MayLower, LoweredAll}
 use Rattle.pas_threads.specs.Sessions.{planned, Session, AreResting, TeamAt}
 use Rattle.pas_threads.specs.Turns.{StoppedAll, said_own, said_by_all, said_kept, said_by_keepers, IsGathered, IsKeptGathered}
-use Rattle.pas_threads.specs.declared.workers.Worker.{Worker}
-use Rattle.pas_threads.specs.declared.phases.Team.{Team}
+use Rattle.pas_threads.specs.declared.{workers.Worker.Worker, phases.Team.Team}
 use Rattle.pas_threads.proofs.BetweenPhases.{may_lower, room_at_close, room_for_keepers, has_closed}
-use Rattle.pas_threads.proofs.PhaseTeams.{gathered_from}
+use Rattle.pas_threads.proofs.{PhaseTeams.gathered_from, phases.finish.Goals.After-deref_mut-2}
 use Rattle.pas_threads.proofs.phases.finish.Goals as goal
-use Rattle.pas_threads.proofs.phases.finish.Goals.{After-deref_mut-2}
 
 -- the threads rest, where they are lent to be stopped
 rest : {region : SharedRegion} {s : Session} {team : Team} {p : Progress} (ws : List Worker) → ws ≡ team.threads.items → TeamAt region s [] team p → AreResting region s.profile ws (λ k. own_records (planned s) k (all_ops [])) p

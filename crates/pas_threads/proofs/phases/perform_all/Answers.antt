@@ -3,8 +3,7 @@ use Rattle.std.proofs.lemmas.List.{length-map}
 use Rattle.pas_trace.specs.Acts.{is_active}
 use Rattle.pas_threads.specs.Dealing.{picked, count_of, is_in, is_out}
 use Rattle.pas_threads.specs.Performing.{round}
-use Rattle.pas_threads.specs.declared.hands.Hand.{Hand}
-use Rattle.pas_threads.specs.declared.scavenger.Scavenger.{Scavenger}
+use Rattle.pas_threads.specs.declared.{hands.Hand.Hand, scavenger.Scavenger.Scavenger}
 use Rattle.pas_threads.proofs.Dealt.{picked_many, count_most, threads_same}
 use Rattle.pas_threads.proofs.Performed.{shift_of, own_may, may_scavenge, piece, lent_same, lent_places}
 use Rattle.pas_threads.proofs.phases.perform_all.Goals as goal
@@ -30,11 +29,8 @@ act_with-scavenger-requires-clause-place g c =
     let ready = c.requires.ready.4 in
     let inside = picked_many (is_in c.args.awake) 1 c.args.team.threads.items in
     let most = count_most (is_in c.args.awake) 1 (length c.args.team.threads.items) in
-    let many = ready.many in
-    let hands = ready.places.hands in
-    let same = c.deal.ensures.places.1 in
     let long = ap (λ (hs : List Hand). length hs) c.deal.ensures.dealt.0 ∙ length-map (picked (is_in c.args.awake) 1 c.args.team.threads.items) _ in
-    omega (arith, most, inside, many, hands, same, long)
+    omega (arith, most, inside, ready.many, ready.places.hands, c.deal.ensures.places.1, long)
 
 pub take_back-requires-clause-sized : goal.take_back-requires-clause-sized
 take_back-requires-clause-sized g c =
@@ -42,7 +38,7 @@ take_back-requires-clause-sized g c =
     let dealt = c.deal.ensures.dealt in
     let ws = c.args.team.threads.items in
     let each = c.act_with-scavenger.ensures.threads (picked (is_in c.args.awake) 1 ws) dealt.0 in
-    let count : c.len-count.result ≡ length ws = (let ok = c.args.team.threads.ok.0 in let is = c.len-count.ensures in omega (arith, ok, is)) in
+    let count : c.len-count.result ≡ length ws = (omega (arith, c.args.team.threads.ok.0, c.len-count.ensures)) in
     let lent = lent_same ready c.args.awake c.requires.awake _ c.act_with-scavenger.result (may_scavenge ready c.args.awake c.requires.awake _ refl refl refl dealt.1) dealt.1
     (λ on. c.act_with-scavenger.ensures.did (c.get-busy.ensures ∙ c.requires.awake 0 ∙ on)) (λ off. c.act_with-scavenger.ensures.stayed (c.get-busy.ensures ∙ c.requires.awake 0 ∙ off)) in (
       each.after,
@@ -61,7 +57,7 @@ returns g c = record {
       let did = λ (on : is_active c.args.ops.now 0 ≡ true). c.act_with-scavenger.ensures.did (c.get-busy.ensures ∙ c.requires.awake 0 ∙ on) in
       let stayed = λ (off : is_active c.args.ops.now 0 ≡ false). c.act_with-scavenger.ensures.stayed (c.get-busy.ensures ∙ c.requires.awake 0 ∙ off) in
       let back = c.take_back.ensures.dealt in
-      let size : length c.take_back.new.threads.items ≡ length c.args.team.threads.items = (let ok = c.args.team.threads.ok.0 in let is = c.len-count.ensures in let many = c.take_back.ensures.many in omega (arith, ok, is, many)) in
+      let size : length c.take_back.new.threads.items ≡ length c.args.team.threads.items = (omega (arith, c.args.team.threads.ok.0, c.len-count.ensures, c.take_back.ensures.many)) in
       let pieces = piece ready c.args.awake c.requires.awake scavenger c.act_with-scavenger.result stands dealt.1 did stayed each.after c.take_back.new.threads.items each.each (threads_same each.after _ (sym each.hands_are ∙ back.0)) back.1 size in
       let places = lent_places ready c.args.awake c.requires.awake scavenger c.act_with-scavenger.result stands dealt.1 did stayed in
       record {
@@ -70,9 +66,9 @@ returns g c = record {
         none = c.take_back.ensures.none.1;
         book = refl;
         places = record {
-          workers = let had = ready.places.workers in let one = c.deal.ensures.places.0 in let two = c.take_back.ensures.places.0 in omega (arith, had, one, two);
-          hands = let had = ready.places.hands in let one = c.deal.ensures.places.1 in let two = c.take_back.ensures.places.1 in let mid = c.act_with-scavenger.ensures.place in omega (arith, had, one, two, mid);
-          lent = let had = ready.places.lent in let one = c.deal.ensures.places.2 in let two = c.take_back.ensures.places.2 in omega (arith, had, one, two, places);
+          workers = omega (arith, ready.places.workers, c.deal.ensures.places.0, c.take_back.ensures.places.0);
+          hands = omega (arith, ready.places.hands, c.deal.ensures.places.1, c.take_back.ensures.places.1, c.act_with-scavenger.ensures.place);
+          lent = omega (arith, ready.places.lent, c.deal.ensures.places.2, c.take_back.ensures.places.2, places);
           free = c.take_back.ensures.none.0;
         };
       };

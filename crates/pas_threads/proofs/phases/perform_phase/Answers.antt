@@ -4,8 +4,7 @@ use Rattle.std.proofs.lemmas.List.{with_items_is}
 use Rattle.pas_trace.specs.EveryPlan.{all_ops, own_records}
 use Rattle.pas_report.specs.Rooms.{records_in, room_of}
 use Rattle.pas_answers.specs.Names.{names_held}
-use Rattle.pas_threads.specs.Sessions.{planned, AreResting}
-use Rattle.pas_threads.specs.Taken.{IsWithin}
+use Rattle.pas_threads.specs.{Sessions.planned, Sessions.AreResting, Taken.IsWithin}
 use Rattle.pas_threads.specs.Turns.{said_own, said_by_all, said_kept, said_by_keepers, IsGathered, IsKeptGathered}
 use Rattle.pas_threads.specs.declared.workers.Worker.{Worker}
 use Rattle.pas_acts.proofs.NamesBefore.{sound_front, below_front}

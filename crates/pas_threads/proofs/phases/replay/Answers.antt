@@ -1,5 +1,4 @@
-use Rattle.std.proofs.Common.{◌≡◌, ◌+◌, ◌++◌, ◌∙◌, ℕ, List, [], ◌∷◌, length, drop, refl, sym, ap, arith}
-use Rattle.std.specs.Prelude.{map}
+use Rattle.std.proofs.Common.{◌≡◌, ◌+◌, ◌++◌, ◌∙◌, ℕ, List, [], ◌∷◌, length, drop, refl, sym, ap, arith, map}
 use Rattle.std.proofs.lemmas.List.{length-map}
 use Rattle.pas_trace.specs.Plans.{ops_of}
 use Rattle.pas_trace.specs.declared.plan.Op.{Op}
@@ -8,7 +7,8 @@ use Rattle.pas_report.specs.declared.record.Record.{Record}
 use Rattle.pas_answers.specs.Replays.{at_start}
 use Rattle.pas_shared.specs.Ledgers.{so_far}
 use Rattle.pas_threads.specs.Sessions.{Session, TeamAt, HasRoom}
-use Rattle.pas_threads.proofs.BetweenPhases.{AfterPhases, BeforePhase, BeforeClose, no_phase, as_next, as_last, spare_for_mark, first_begins, other_begins, phase_ends, spare_for_close, close_begins, close_ends}
+use Rattle.pas_threads.proofs.BetweenPhases.{AfterPhases, BeforePhase, BeforeClose, no_phase, as_next, as_last, spare_for_mark, first_begins, other_begins}
+use Rattle.pas_threads.proofs.BetweenPhases.{phase_ends, spare_for_close, close_begins, close_ends}
 use Rattle.pas_threads.proofs.phases.replay.Goals as goal
 use Rattle.pas_threads.proofs.phases.replay.Given.{Over}
 use Rattle.pas_threads.proofs.phases.replay.Goals.{then-number-gt-UNMARKED, else-number-gt-UNMARKED, After-as_slice, After-push-2}
@@ -36,14 +36,12 @@ module _ (g : Over) (c : After-as_slice g) (s : Session) (at : TeamAt c.args.reg
 
   begun : BeforePhase c.args.region.now s (map ops_of c.args.phases.now) c.loop-phase.phase-index c.as_slice.result.now rest c.loop-phase.team (so_far c.loop-phase.ledger) c.if-number-gt-UNMARKED.out
   begun =
-      let count = c.loop-phase.invariant.count in
       elim c.if-number-gt-UNMARKED.branch [
         | then-number-gt-UNMARKED w ↦
-            let more = w.if-number-gt-UNMARKED.true in
-            let number : c.loop-phase.number + 1 ≡ c.loop-phase.phase-index + 1 = omega (arith, count) in
+            let number : c.loop-phase.number + 1 ≡ c.loop-phase.phase-index + 1 = omega (arith, c.loop-phase.invariant.count) in
             let pushed = w.push.ensures.added ∙ ap (λ (n : ℕ). records_in c.loop-phase.out ++ Record.Phase n ∷ []) number in
-            rw (w.out-is) (other_begins next (omega (arith, count, more)) pushed w.push.ensures.size)
-        | else-number-gt-UNMARKED w ↦ let less = w.if-number-gt-UNMARKED.false in rw (w.out-is) (first_begins next (omega (arith, count, less)))
+            rw (w.out-is) (other_begins next (omega (arith, c.loop-phase.invariant.count, w.if-number-gt-UNMARKED.true)) pushed w.push.ensures.size)
+        | else-number-gt-UNMARKED w ↦ rw (w.out-is) (first_begins next (omega (arith, c.loop-phase.invariant.count, w.if-number-gt-UNMARKED.false)))
       ]
 
 pub perform_phase-team-requires-clause-may : goal.perform_phase-team-requires-clause-may

@@ -1,6 +1,5 @@
 -- the phases so far are done
-use Rattle.std.proofs.Common.{◌≡◌, ◌+◌, drop, length}
-use Rattle.std.specs.Prelude.{map}
+use Rattle.std.proofs.Common.{◌≡◌, ◌+◌, drop, length, map}
 use Rattle.pas_trace.specs.Plans.{ops_of}
 use Rattle.pas_answers.specs.Replays.{at_start}
 use Rattle.pas_shared.specs.Ledgers.{so_far, IsLedgerOf}

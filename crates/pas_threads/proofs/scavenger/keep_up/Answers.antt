@@ -5,9 +5,7 @@ use Rattle.pas_utility.specs.Outcomes.{places_of}
 use Rattle.pas_shared.specs.Passes.{IsPassOf}
 use Rattle.pas_shared.specs.declared.region.SharedRegion.{SharedRegion}
 use Rattle.pas_trace.specs.Acts.{scavenger_acts}
-use Rattle.pas_threads.specs.Hands.{standing_of_pass}
-use Rattle.pas_threads.specs.Crews.{crew, CrewAt, CrewDid}
-use Rattle.pas_threads.specs.Scavengers.{crew_of}
+use Rattle.pas_threads.specs.{Hands.standing_of_pass, Crews.crew, Crews.CrewAt, Crews.CrewDid, Scavengers.crew_of}
 use Rattle.pas_threads.specs.declared.workers.Worker.{Worker}
 use Rattle.pas_threads.proofs.Sitting.{seated, rose}
 use Rattle.pas_threads.proofs.scavenger.keep_up.Goals as goal

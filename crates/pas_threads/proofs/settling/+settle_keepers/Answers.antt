@@ -1,14 +1,9 @@
 use Rattle.std.proofs.Common.{◌≡◌, ◌<◌, ◌≤◌, ◌+◌, ℕ, length, get_or, Option, Some, sym, ap, ◌∙◌, subst, arith, length-set, get_or-set_other}
-use Rattle.std.proofs.lemmas.List.{get_or_default}
-use Rattle.std.proofs.lemmas.Option.{same_Some}
-use Rattle.pas_shared.specs.Passes.{IsPassOf}
-use Rattle.pas_shared.specs.Ledgers.{so_far, actors_in}
+use Rattle.std.proofs.lemmas.{List.get_or_default, Option.same_Some}
+use Rattle.pas_shared.specs.{Passes.IsPassOf, Ledgers.so_far, Ledgers.actors_in}
 use Rattle.pas_shared.specs.declared.pass.SharedPass.{SharedPass}
-use Rattle.pas_threads.specs.Kits.{with_keeper}
-use Rattle.pas_threads.specs.Pairs.{IsKeeperOf}
-use Rattle.pas_threads.specs.Settling.{Settled, StandsIn}
-use Rattle.pas_threads.specs.declared.keeper.Keeper.{Keeper}
-use Rattle.pas_threads.specs.declared.workers.Worker.{Worker}
+use Rattle.pas_threads.specs.{Kits.with_keeper, Pairs.IsKeeperOf, Settling.Settled, Settling.StandsIn}
+use Rattle.pas_threads.specs.declared.{keeper.Keeper.Keeper, workers.Worker.Worker}
 use Rattle.pas_threads.proofs.SettledTeams.{gives, settled_with, stands_still, keeper_back, here_or_later}
 use Rattle.pas_threads.proofs.settling.+settle_keepers.Goals as goal
 
@@ -40,10 +35,9 @@ returns-in-Some-clause-settled t c =
 pub returns-in-Some-clause-stand : goal.returns-in-Some-clause-stand
 returns-in-Some-clause-stand t c = λ i d keeper le less is.
     let e = c.index-workers-at.result in
-    let lt = c.if-at-workers.false in
     let ws = c.args.workers.now in
     let at = c.args.at in
-    let there : at < length ws = omega (arith, lt) in
+    let there : at < length ws = omega (arith, c.if-at-workers.false) in
     let mid = with_keeper (get_or ws at e) c.take.new.self in
     let of = subst (λ (o : Option Keeper). IsKeeperOf c.args.region.now o) (sym c.take.ensures.value ∙ c.in-Some.is) (c.requires.keepers at e there) in
     let back = c.give_back-pass.ensures.back c.in-Some.keeper.pass (actors_in c.args.ledger.now) of c.take_in-rest.ensures.rest (c.settle_keepers.ensures.settled.actors ∙ c.take_in-rest.ensures.taken) in

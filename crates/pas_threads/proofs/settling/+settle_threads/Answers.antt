@@ -1,23 +1,18 @@
 use Rattle.std.proofs.Common.{◌≡◌, ◌<◌, ◌≤◌, ◌+◌, ℕ, length, get_or, Option, Some, refl, sym, ap, ◌∙◌, subst, arith, length-set, get_or-set_other}
-use Rattle.std.proofs.lemmas.List.{get_or_default}
-use Rattle.std.proofs.lemmas.Option.{same_Some}
-use Rattle.pas_shared.specs.Passes.{IsPassOf}
-use Rattle.pas_shared.specs.Ledgers.{so_far, actors_in}
+use Rattle.std.proofs.lemmas.{List.get_or_default, Option.same_Some}
+use Rattle.pas_shared.specs.{Passes.IsPassOf, Ledgers.so_far, Ledgers.actors_in}
 use Rattle.pas_shared.specs.declared.pass.SharedPass.{SharedPass}
-use Rattle.pas_threads.specs.Pairs.{IsKeeperOf}
-use Rattle.pas_threads.specs.Settling.{Settled, StandsIn}
-use Rattle.pas_threads.specs.declared.keeper.Keeper.{Keeper}
-use Rattle.pas_threads.specs.declared.workers.Worker.{Worker}
+use Rattle.pas_threads.specs.{Pairs.IsKeeperOf, Settling.Settled, Settling.StandsIn}
+use Rattle.pas_threads.specs.declared.{keeper.Keeper.Keeper, workers.Worker.Worker}
 use Rattle.pas_threads.proofs.SettledTeams.{gives, settled_with, stands_still, with_pass, pass_back, kept_at, passes_at, here_or_later}
 use Rattle.pas_threads.proofs.settling.+settle_threads.Goals as goal
 
 pub settle_threads-requires : goal.settle_threads-requires
 settle_threads-requires t c =
     let e = c.index-workers-at.result in
-    let lt = c.if-at-workers.false in
     let ws = c.args.workers.now in
     let at = c.args.at in
-    let there : at < length ws = omega (arith, lt) in
+    let there : at < length ws = omega (arith, c.if-at-workers.false) in
     let mid = with_pass (get_or ws at e) c.take.new.self in
     let size = length-set ws at mid in
     let measure = c.decreases in (
@@ -34,8 +29,7 @@ settle_threads-requires t c =
 pub give_back-pass-requires-clause-last : goal.give_back-pass-requires-clause-last
 give_back-pass-requires-clause-last t c =
     let e = c.index-workers-at.result in
-    let lt = c.if-at-workers.false in
-    let has = c.requires.threads c.args.at e (omega arith) (omega (arith, lt)) in
+    let has = c.requires.threads c.args.at e (omega arith) (omega (arith, c.if-at-workers.false)) in
     let of = subst (λ (p : SharedPass). IsPassOf c.args.region.now p) (same_Some has.pass c.in-Some.pass (sym has.present ∙ sym c.take.ensures.value ∙ c.in-Some.is)) has.of in
     gives c.args.region.now c.in-Some.pass c.take_in-rest.result c.args.ledger.now c.take_in-rest.new.self c.settle_threads.new.ledger of c.take_in-rest.ensures.rest c.take_in-rest.ensures.taken c.settle_threads.ensures.settled
 
@@ -52,8 +46,7 @@ returns-clause-same t c =
 pub returns-clause-settled : goal.returns-clause-settled
 returns-clause-settled t c =
     let e = c.index-workers-at.result in
-    let lt = c.if-at-workers.false in
-    let has = c.requires.threads c.args.at e (omega arith) (omega (arith, lt)) in
+    let has = c.requires.threads c.args.at e (omega arith) (omega (arith, c.if-at-workers.false)) in
     let of = subst (λ (p : SharedPass). IsPassOf c.args.region.now p) (same_Some has.pass c.in-Some.pass (sym has.present ∙ sym c.take.ensures.value ∙ c.in-Some.is)) has.of in
     let back = c.give_back-pass.ensures.back c.in-Some.pass (actors_in c.args.ledger.now) of c.take_in-rest.ensures.rest (c.settle_threads.ensures.settled.actors ∙ c.take_in-rest.ensures.taken) in
     (settled_with c.in-Some.pass c.args.ledger.now c.take_in-rest.new.self c.settle_threads.new.ledger c.give_back-pass.new.self c.take_in-rest.ensures.same c.take_in-rest.ensures.taken c.settle_threads.ensures.settled c.give_back-pass.ensures.same back.1).0
@@ -61,10 +54,9 @@ returns-clause-settled t c =
 pub returns-clause-stand : goal.returns-clause-stand
 returns-clause-stand t c = λ i d pass le less is.
     let e = c.index-workers-at.result in
-    let lt = c.if-at-workers.false in
     let ws = c.args.workers.now in
     let at = c.args.at in
-    let there : at < length ws = omega (arith, lt) in
+    let there : at < length ws = omega (arith, c.if-at-workers.false) in
     let mid = with_pass (get_or ws at e) c.take.new.self in
     let has = c.requires.threads at e (omega arith) there in
     let of = subst (λ (p : SharedPass). IsPassOf c.args.region.now p) (same_Some has.pass c.in-Some.pass (sym has.present ∙ sym c.take.ensures.value ∙ c.in-Some.is)) has.of in
@@ -78,10 +70,9 @@ returns-clause-stand t c = λ i d pass le less is.
 pub returns-clause-keepers : goal.returns-clause-keepers
 returns-clause-keepers t c = λ i d keeper less is.
     let e = c.index-workers-at.result in
-    let lt = c.if-at-workers.false in
     let ws = c.args.workers.now in
     let at = c.args.at in
-    let there : at < length ws = omega (arith, lt) in
+    let there : at < length ws = omega (arith, c.if-at-workers.false) in
     let mid = with_pass (get_or ws at e) c.take.new.self in
     stands_still c.settle_threads.new.ledger c.give_back-pass.new.self keeper.pass c.give_back-pass.ensures.same
     (c.settle_threads.ensures.keepers i d keeper (let size = length-set ws at mid in omega (arith, size, less)) (kept_at ws at i mid e d there refl less ∙ is))

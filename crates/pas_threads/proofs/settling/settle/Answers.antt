@@ -1,15 +1,9 @@
 use Rattle.std.proofs.Common.{◌≡◌, ◌<◌, ◌≤◌, ℕ, List, length, get_or, Option, Some, refl, sym, ap, ◌∙◌, subst, arith}
-use Rattle.std.proofs.lemmas.List.{with_items_is}
-use Rattle.std.proofs.lemmas.Option.{same_Some}
-use Rattle.pas_shared.specs.Passes.{IsPassOf}
-use Rattle.pas_shared.specs.Ledgers.{so_far, actors_in}
+use Rattle.std.proofs.lemmas.{List.with_items_is, Option.same_Some}
+use Rattle.pas_shared.specs.{Passes.IsPassOf, Ledgers.so_far, Ledgers.actors_in}
 use Rattle.pas_shared.specs.declared.pass.SharedPass.{SharedPass}
-use Rattle.pas_threads.specs.Hands.{HasPass}
-use Rattle.pas_threads.specs.Pairs.{IsKeeperOf}
-use Rattle.pas_threads.specs.Settling.{Settled, StandsIn}
-use Rattle.pas_threads.specs.declared.keeper.Keeper.{Keeper}
-use Rattle.pas_threads.specs.declared.scavenger.Scavenger.{Scavenger}
-use Rattle.pas_threads.specs.declared.workers.Worker.{Worker}
+use Rattle.pas_threads.specs.{Hands.HasPass, Pairs.IsKeeperOf, Settling.Settled, Settling.StandsIn}
+use Rattle.pas_threads.specs.declared.{keeper.Keeper.Keeper, scavenger.Scavenger.Scavenger, workers.Worker.Worker}
 use Rattle.pas_threads.proofs.SettledTeams.{gives, settled_with, stands_still}
 use Rattle.pas_threads.proofs.settling.settle.Goals as goal
 

@@ -24,4 +24,4 @@ pub returns-clause-added : goal.returns-clause-added
 returns-clause-added c = gather_ends said_kept IsKeptGathered c.loop-place-test.false c.loop-place.invariant.far
 
 pub returns-clause-gathered : goal.returns-clause-gathered
-returns-clause-gathered c = λ i d lt. let le = c.loop-place-test.false in c.loop-place.invariant.far.done i d (omega (arith, lt, le)) lt
+returns-clause-gathered c = λ i d lt. c.loop-place.invariant.far.done i d (omega (arith, lt, c.loop-place-test.false)) lt

@@ -1,8 +1,6 @@
-use Rattle.std.proofs.Common.{◌+◌, ◌≤◌, ◌++◌, ◌∙◌, length, Option, Some, refl, ap, sym, subst}
-use Rattle.std.proofs.lemmas.List.{append-nil}
+use Rattle.std.proofs.Common.{◌+◌, ◌≤◌, ◌++◌, ◌∙◌, length, Option, Some, refl, ap, sym, subst, append-nil}
 use Rattle.pas_report.specs.Rooms.{records_in, room_of}
-use Rattle.pas_threads.specs.Pairs.{said_by_keeper}
-use Rattle.pas_threads.specs.Turns.{HasSaid}
+use Rattle.pas_threads.specs.{Pairs.said_by_keeper, Turns.HasSaid}
 use Rattle.pas_threads.specs.declared.keeper.Keeper.{Keeper}
 use Rattle.pas_threads.proofs.turns.gather_kept_one.Goals as goal
 

@@ -4,8 +4,7 @@ use Rattle.pas_shared.specs.declared.region.SharedRegion.{SharedRegion}
 use Rattle.pas_answers.specs.Answers.{Progress}
 use Rattle.pas_acts.specs.Keepers.{LaterKept}
 use Rattle.pas_threads.specs.Pairs.{no_more, IsButKeeper, MayLower, KeeperStands, KeeperLowered}
-use Rattle.pas_threads.specs.declared.keeper.Keeper.{Keeper}
-use Rattle.pas_threads.specs.declared.workers.Worker.{Worker}
+use Rattle.pas_threads.specs.declared.{keeper.Keeper.Keeper, workers.Worker.Worker}
 use Rattle.pas_threads.proofs.Keepers.{LoweredSoFar, lower_begins, lower_passes, lower_goes_on, lower_ends, stands_for}
 use Rattle.pas_threads.proofs.turns.lower_all.Goals as goal
 

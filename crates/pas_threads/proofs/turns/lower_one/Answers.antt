@@ -1,7 +1,6 @@
 use Rattle.std.proofs.Common.{◌≡◌, ◌∙◌, Option, Some, None, refl, ap, sym, subst}
 use Rattle.std.proofs.lemmas.Option.{same_Some}
-use Rattle.pas_threads.specs.Pairs.{no_more, KeeperStands, KeeperLowered}
-use Rattle.pas_threads.specs.Kits.{with_keeper}
+use Rattle.pas_threads.specs.{Pairs.no_more, Pairs.KeeperStands, Pairs.KeeperLowered, Kits.with_keeper}
 use Rattle.pas_threads.specs.declared.keeper.Keeper.{Keeper}
 use Rattle.pas_threads.proofs.Keepers.{stands_for}
 use Rattle.pas_threads.proofs.turns.lower_one.Goals as goal

@@ -3,8 +3,7 @@ use Rattle.pas_cache.specs.Caches.{cached}
 use Rattle.pas_shared.specs.Passes.{IsPassOf}
 use Rattle.pas_shared.specs.declared.region.SharedRegion.{SharedRegion}
 use Rattle.pas_trace.specs.Acts.{Ends}
-use Rattle.pas_acts.specs.AtDesks.{here, ThreadActs}
-use Rattle.pas_acts.specs.Turns.{RestsAt}
+use Rattle.pas_acts.specs.{AtDesks.here, AtDesks.ThreadActs, Turns.RestsAt}
 use Rattle.pas_threads.proofs.Sitting.{seated, rose}
 use Rattle.pas_threads.proofs.turns.stop.Goals as goal
 

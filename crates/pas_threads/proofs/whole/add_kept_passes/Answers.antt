@@ -1,5 +1,6 @@
-use Rattle.std.proofs.Common.{◌≡◌, ◌<◌, ◌≤◌, ◌+◌, ◌++◌, ◌∷◌, [], ℕ, List, Option, map, drop, length, get_or, length-set, ap, sym, ◌∙◌, arith}
-use Rattle.std.proofs.lemmas.List.{drop_all, get_or_default, get_or-set_other, length-append}
+use Rattle.std.proofs.Common.{◌≡◌, ◌<◌, ◌≤◌, ◌+◌, ◌++◌, ◌∷◌, [], ℕ, List, Option, map, drop, length, get_or, length-set, ap, sym, ◌∙◌, arith, get_or-set_other}
+use Rattle.std.proofs.Common.{length-append}
+use Rattle.std.proofs.lemmas.List.{drop_all, get_or_default}
 use Rattle.pas_shared.specs.declared.pass.SharedPass.{SharedPass}
 use Rattle.pas_threads.specs.Kits.{kept_pass, kept_passes}
 use Rattle.pas_threads.specs.declared.workers.Worker.{Worker}
@@ -18,9 +19,7 @@ add_kept_pass-requires c =
     let next = ap (λ (ss : List (Option SharedPass)). length ss) (kept_next workers place own lt (get_or_default workers place e own lt)) in
     let both = length-append (kept_pass own.keeper) (kept_passes (drop (place + 1) workers)) in
     let left = ap (λ (v : Worker). length (kept_pass v.keeper)) (i.left place e (omega arith)) in
-    let same = i.places in
-    let room = c.requires.places in
-    record { places = omega (arith, count, next, both, left, same, room) }
+    record { places = omega (arith, count, next, both, left, i.places, c.requires.places) }
 
 pub loop-place-preserved : goal.loop-place-preserved
 loop-place-preserved c =

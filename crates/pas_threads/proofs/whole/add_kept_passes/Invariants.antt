@@ -1,6 +1,5 @@
 -- the passes of the keepers so far were added, and the workers from this place on are as they were
-use Rattle.std.proofs.Common.{◌≡◌, ◌≤◌, ◌++◌, ℕ, Some, map, drop, length, get_or}
-use Rattle.std.specs.Prelude.{vec_capacity}
+use Rattle.std.proofs.Common.{◌≡◌, ◌≤◌, ◌++◌, ℕ, Some, map, drop, length, get_or, vec_capacity}
 use Rattle.pas_threads.specs.Kits.{kept_passes}
 use Rattle.pas_threads.specs.declared.workers.Worker.{Worker}
 use Rattle.pas_threads.proofs.whole.add_kept_passes.Given as goal

@@ -1,5 +1,6 @@
-use Rattle.std.proofs.Common.{◌≡◌, ◌<◌, ◌≤◌, ◌+◌, ◌++◌, ◌∷◌, [], ℕ, List, Option, map, drop, length, get_or, length-set, ap, sym, ◌∙◌, arith}
-use Rattle.std.proofs.lemmas.List.{drop_all, get_or_default, get_or-set_other, length-drop, length-map}
+use Rattle.std.proofs.Common.{◌≡◌, ◌<◌, ◌≤◌, ◌+◌, ◌++◌, ◌∷◌, [], ℕ, List, Option, map, drop, length, get_or, length-set, ap, sym, ◌∙◌, arith, get_or-set_other}
+use Rattle.std.proofs.Common.{length-drop}
+use Rattle.std.proofs.lemmas.List.{drop_all, get_or_default, length-map}
 use Rattle.pas_shared.specs.declared.pass.SharedPass.{SharedPass}
 use Rattle.pas_threads.specs.declared.workers.Worker.{Worker}
 use Rattle.pas_threads.proofs.PassesOut.{own_slots, as_many, out_more, out_all, own_next}
@@ -22,10 +23,7 @@ add_pass-requires-clause-place c =
     let left = length-map (drop place workers) (λ (w : Worker). w.pass) in
     let all = length-map workers (λ (w : Worker). w.pass) in
     let rest = length-drop place workers in
-    let lt = c.loop-place-test.true in
-    let same = i.places in
-    let room = c.requires.places in
-    omega (arith, count, left, all, rest, lt, same, room)
+    omega (arith, count, left, all, rest, c.loop-place-test.true, i.places, c.requires.places)
 
 pub loop-place-preserved : goal.loop-place-preserved
 loop-place-preserved c =

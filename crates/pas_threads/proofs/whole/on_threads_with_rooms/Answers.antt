@@ -26,8 +26,7 @@ passes_of-passes-requires-clause-places g c =
     let start = handed c.args.out.now c.as_slice.result.now c.requires.plan.2 c.requires.kit c.as_slice.ensures c.requires.empty c.requires.room in
     let many = all_slots (c.replay-team.ensures.replayed (session_of c.args.plan.now) start.0 start.1).stands in
     let actors = plan_actors c.args.plan.now in
-    let place = c.requires.kit.place in
-    omega (arith, many, actors, place)
+    omega (arith, many, actors, c.requires.kit.place)
 
 pub passes_of-passes-requires-clause-back : goal.passes_of-passes-requires-clause-back
 passes_of-passes-requires-clause-back g c =

@@ -3,10 +3,9 @@ use Rattle.std.proofs.lemmas.List.{with_items_is}
 use Rattle.pas_shared.specs.declared.pass.SharedPass.{SharedPass}
 use Rattle.pas_threads.specs.Kits.{kept_passes}
 use Rattle.pas_threads.specs.declared.workers.Worker.{Worker}
-use Rattle.pas_threads.proofs.End.{IsBack, first_back, others_back}
+use Rattle.pas_threads.proofs.{End.IsBack, End.first_back, End.others_back, whole.passes_of.Goals.After-deref_mut-2}
 use Rattle.pas_threads.proofs.PassesOut.{slots_for, own_slots, kept_same, places_left, all_out}
 use Rattle.pas_threads.proofs.whole.passes_of.Goals as goal
-use Rattle.pas_threads.proofs.whole.passes_of.Goals.{After-deref_mut-2}
 
 pub add_pass-requires-clause-back : goal.add_pass-requires-clause-back
 add_pass-requires-clause-back c = let back = first_back c.args.team.now c.requires.back in (back.0, c.take.ensures.value ∙ back.1)
@@ -32,10 +31,7 @@ add_kept_passes-requires c =
     let d = (goal.at.add_kept_passes-requires c).After-deref_mut-2 in
     let left = places_left c.args.team.now c.args.passes.items c.add_pass.new.passes.items c.add_own_passes.new.passes.items c.requires.none (first d) (own d) in
     let same = ap (λ (ss : List (Option SharedPass)). length ss) (kept d) in
-    let once = c.add_pass.ensures.places in
-    let twice = c.add_own_passes.ensures.places in
-    let room = c.requires.places in
-    record { places = omega (arith, left, same, once, twice, room) }
+    record { places = omega (arith, left, same, c.add_pass.ensures.places, c.add_own_passes.ensures.places, c.requires.places) }
 
 pub returns : goal.returns
 returns c =

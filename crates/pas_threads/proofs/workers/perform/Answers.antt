@@ -2,10 +2,8 @@ use Rattle.std.proofs.Common.{◌∙◌, ◌+◌, [], Option, Some, ap, sym, sub
 use Rattle.pas_shared.specs.Passes.{IsPassOf}
 use Rattle.pas_shared.specs.declared.region.SharedRegion.{SharedRegion}
 use Rattle.pas_trace.specs.Acts.{own_acts}
-use Rattle.pas_acts.specs.Keepers.{Keeping}
-use Rattle.pas_acts.specs.Pairs.{PairWorks}
-use Rattle.pas_threads.specs.Hands.{kept_by}
-use Rattle.pas_threads.specs.Pairs.{kept_by_worker, home_kept, IsKeeperOf}
+use Rattle.pas_acts.specs.{Keepers.Keeping, Pairs.PairWorks}
+use Rattle.pas_threads.specs.{Hands.kept_by, Pairs.kept_by_worker, Pairs.home_kept, Pairs.IsKeeperOf}
 use Rattle.pas_threads.specs.declared.keeper.Keeper.{Keeper}
 use Rattle.pas_threads.proofs.Sitting.{rose, sat_as, pair_sits, own_seat, worked}
 use Rattle.pas_threads.proofs.workers.perform.Goals as goal

@@ -1,5 +1,5 @@
-use Rattle.std.proofs.Common.{◌≡◌, ℕ, length, get_or, inr, refl, sym, ◌∙◌, subst, arith}
-use Rattle.std.proofs.lemmas.List.{length-set, get_or-set_other, get_or_default}
+use Rattle.std.proofs.Common.{◌≡◌, ℕ, length, get_or, inr, refl, sym, ◌∙◌, subst, arith, length-set, get_or-set_other}
+use Rattle.std.proofs.lemmas.List.{get_or_default}
 use Rattle.pas_answers.specs.Names.{names_held, block_named}
 use Rattle.pas_acts.specs.NameBooks.{requests_in, names_of, known_in, AreWithin}
 use Rattle.pas_threads.specs.declared.workers.Worker.{Worker}
@@ -46,12 +46,9 @@ loop-index-preserved c =
 
 pub returns-clause-taken : goal.returns-clause-taken
 returns-clause-taken c = λ n.
-    let ge = c.loop-index-test.false in
-    let le = c.loop-index.auto.index-end in
-    let all : c.loop-index.index ≡ length c.args.workers.now = omega (arith, ge, le) in
+    let all : c.loop-index.index ≡ length c.args.workers.now = omega (arith, c.loop-index-test.false, c.loop-index.auto.index-end) in
     subst (λ (m : ℕ). TakenUpTo c.args.book.now c.loop-index.book c.args.workers.now m n) all (c.loop-index.invariant.taken n)
 
 pub returns-clause-emptied : goal.returns-clause-emptied
 returns-clause-emptied c = λ i d lt.
-    let ge = c.loop-index-test.false in
-    c.loop-index.invariant.emptied i d (omega (arith, lt, ge))
+    c.loop-index.invariant.emptied i d (omega (arith, lt, c.loop-index-test.false))

@@ -1,13 +1,10 @@
 use Rattle.std.proofs.Common.{◌∙◌, List, ap, subst, inr, refl}
-use Rattle.pas_report.specs.Counts.{totals_by_words}
-use Rattle.pas_report.specs.Rooms.{records_in}
+use Rattle.pas_report.specs.{Counts.totals_by_words, Rooms.records_in}
 use Rattle.pas_report.specs.declared.record.Record.{Record}
 use Rattle.pas_answers.specs.Ways.{InOrder}
-use Rattle.pas_top.specs.Outcomes.{IsOutcome}
+use Rattle.pas_top.specs.{Outcomes.IsOutcome, Generating.IsSummarized}
 use Rattle.pas_telling.specs.Summaries.{summary_text}
-use Rattle.pas_top.specs.Generating.{IsSummarized}
-use Rattle.pas_top.proofs.OneText.{summary_told}
-use Rattle.pas_top.proofs.Summing.{summarized}
+use Rattle.pas_top.proofs.{OneText.summary_told, Summing.summarized}
 use Rattle.pas_top.proofs.generating.generate.Goals as goal
 
 pub returns-in-Ok-Replayed-clause-told : goal.returns-in-Ok-Replayed-clause-told

@@ -1,7 +1,6 @@
 use Rattle.std.proofs.Common.{ℕ, List, subst, inr}
 use Rattle.pas_io.specs.Inputs.{IsInput}
-use Rattle.pas_top.specs.Judgements.{IsJudgement}
-use Rattle.pas_top.specs.Outputs.{most_bytes}
+use Rattle.pas_top.specs.{Judgements.IsJudgement, Outputs.most_bytes}
 use Rattle.pas_top.proofs.Checks.{tells_judgement}
 use Rattle.pas_top.proofs.judging.check_input.Goals as goal
 

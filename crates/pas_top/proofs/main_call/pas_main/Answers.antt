@@ -2,18 +2,16 @@ use Rattle.std.proofs.Common.{rules, refl, ap, subst, inl, arith}
 use Rattle.pas_io.specs.Inputs.{IsInput}
 use Rattle.pas_telling.specs.Outcomes.{outcome_status, outcome_text}
 use Rattle.pas_words.specs.Calls.{IsCall, IsMisread}
-use Rattle.pas_top.specs.Manners.{way_of}
+use Rattle.pas_top.specs.{Manners.way_of, Outcomes.IsOutcome}
 use Rattle.pas_top.proofs.Summing.{gen_written, gen_cut_off, gen_sound, gen_summed}
 use Rattle.pas_top.specs.Outputs.{IsReplaying, IsChecking, IsAccepted, most_bytes, texts_of, usage_text, too_long_text}
 use Rattle.pas_top.proofs.Statuses.{cut_off, not_four, nothing_left, sound, written}
-use Rattle.pas_top.proofs.Checks.{ended_status, ended_written, ended_failed, ended_cut_off, ended_sound, ended_long, ended_mistraced, ended_judged, ended_checked}
+use Rattle.pas_top.proofs.Checks.{ended_status, ended_written, ended_failed, ended_cut_off, ended_sound, ended_long, ended_mistraced, ended_judged}
+use Rattle.pas_top.proofs.Checks.{ended_checked}
 use Rattle.pas_top.proofs.Headline.{can_write, outcome_output, too_long_output, status_not_four}
-use Rattle.pas_top.proofs.OneText.{written_told}
-use Rattle.pas_top.proofs.Reading.{outcome_as}
-use Rattle.pas_top.specs.Outcomes.{IsOutcome}
+use Rattle.pas_top.proofs.{OneText.written_told, Reading.outcome_as, main_call.pas_main.Goals.in-InOrder, main_call.pas_main.Goals.in-OnThreads}
 use Rattle.pas_top.proofs.main_call.pas_main.Given as given
 use Rattle.pas_top.proofs.main_call.pas_main.Goals as goal
-use Rattle.pas_top.proofs.main_call.pas_main.Goals.{in-InOrder, in-OnThreads}
 
 pub returns-in-Ok-Gen-clause-written : goal.returns-in-Ok-Gen-clause-written
 returns-in-Ok-Gen-clause-written g c = gen_written (texts_of c.args.words.now) _ _ _ _ _ _ _ _ _ c.generate.result

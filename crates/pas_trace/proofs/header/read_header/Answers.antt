@@ -1,6 +1,5 @@
 use Rattle.std.proofs.Common.{◌∷◌, sym, ap, ◌∙◌}
-use Rattle.pas_trace.specs.Texts.{words_of}
-use Rattle.pas_trace.specs.Reasons.{header_of_words}
+use Rattle.pas_trace.specs.{Texts.words_of, Reasons.header_of_words}
 use Rattle.pas_trace.proofs.Headers.{short4, short6, short8}
 use Rattle.pas_trace.proofs.header.read_header.Goals as goal
 

@@ -1,9 +1,6 @@
-use Rattle.std.proofs.Common.{◌≡◌, ◌++◌, [], ℕ, List, subst, sym, ap, ◌∙◌, arith}
+use Rattle.std.proofs.Common.{◌≡◌, ◌++◌, [], ℕ, List, subst, sym, ap, ◌∙◌, arith, append-nil}
 use Rattle.std.proofs.lemmas.Result.{err_from_is_err_and}
-use Rattle.std.proofs.lemmas.List.{append-nil}
-use Rattle.pas_trace.specs.Lexed.{AreLexed}
-use Rattle.pas_trace.specs.Texts.{lines_of}
-use Rattle.pas_trace.specs.Told.{AreTaken}
+use Rattle.pas_trace.specs.{Lexed.AreLexed, Texts.lines_of, Told.AreTaken}
 use Rattle.pas_trace.specs.declared.item.Item.{Item}
 use Rattle.pas_trace.proofs.Reading.{at-first, left-is}
 use Rattle.pas_trace.proofs.LexedLines.{lexed-none, lexed-now, after-lines, lines-fault, all-read, at-ok, none-of}

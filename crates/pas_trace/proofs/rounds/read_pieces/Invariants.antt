@@ -1,7 +1,5 @@
 use Rattle.std.proofs.Common.{◌≤◌, ◌+◌, ◌++◌, ℕ, List, length}
-use Rattle.pas_trace.specs.Lexed.{AreLexed}
-use Rattle.pas_trace.specs.Texts.{lines_of}
-use Rattle.pas_trace.specs.Told.{Tells}
+use Rattle.pas_trace.specs.{Lexed.AreLexed, Texts.lines_of, Told.Tells}
 use Rattle.pas_trace.specs.declared.item.Item.{Item}
 use Rattle.pas_trace.proofs.Reading.{SoFar}
 use Rattle.pas_trace.proofs.rounds.read_pieces.Given as goal

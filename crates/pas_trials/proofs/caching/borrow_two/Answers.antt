@@ -1,8 +1,8 @@
 use Rattle.std.proofs.Common.{◌+◌, ◌∙◌, ap, arith}
 use Rattle.pas_cache.specs.Caches.{Cached}
-use Rattle.pas_cache.proofs.Budget.{may_allocate, budget_left}
-use Rattle.pas_cache.proofs.Routes.{is_small}
-use Rattle.pas_trials.proofs.Borrowed.{admitted, budget_call, rest_call, budget_as, call_budget, log_after, small_turn, empty_few, one_logged, freed_call, freed_budget, stop_room, stopped_call, stopped_budget}
+use Rattle.pas_cache.proofs.{Budget.may_allocate, Budget.budget_left, Routes.is_small}
+use Rattle.pas_trials.proofs.Borrowed.{admitted, budget_call, rest_call, budget_as, call_budget, log_after, small_turn, empty_few, one_logged, freed_call}
+use Rattle.pas_trials.proofs.Borrowed.{freed_budget, stop_room, stopped_call, stopped_budget}
 use Rattle.pas_trials.proofs.caching.borrow_two.Goals as goal
 
 pub alloc-first-requires-clause-admitted : goal.alloc-first-requires-clause-admitted

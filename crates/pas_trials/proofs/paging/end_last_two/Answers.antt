@@ -21,8 +21,7 @@ flush-requires-clause-room g c =
     let first = freed_budget (empty_few c.requires.none_logged) c.free.ensures.frees (budget_call c.requires.can) (λ v l s. g.met.D.Desk.spares c.args.desk.now v l s) (λ v l s. g.met.D.Desk.spares c.free.new.desk v l s) in
     let second = freed_budget (omega (arith, one)) c.free-2.ensures.frees first (λ v l s. g.met.D.Desk.spares c.free.new.desk v l s) (λ v l s. g.met.D.Desk.spares c.free-2.new.desk v l s) in
     let two = two_logged c.requires.none_logged c.free.ensures.frees c.free-2.ensures.frees in
-    let room = second.met.room in
-    omega (arith, two, room)
+    omega (arith, two, second.met.room)
 
 pub flush-requires-clause-can : goal.flush-requires-clause-can
 flush-requires-clause-can g c = freed_call c.free-2.ensures.frees (freed_call c.free.ensures.frees (rest_call (budget_call c.requires.can)))

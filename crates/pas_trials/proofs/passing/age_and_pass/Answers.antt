@@ -13,7 +13,7 @@ pass-requires-clause-room g c =
     let D = g.D.Desk in let a = aged c.args.page c.hint.result c.args.epoch c.tick.result c.hint.ensures.makes c.tick.ensures.makes in
     let same = same_room (Hinting ∷ Ticking ∷ []) refl (D.spare_of c.args.desk.now) (D.spare_of c.tick.new.self) a c.requires.can (refl, (refl, tt))
     (λ v l stood. g.met.D.Desk.spares c.args.desk.now v l stood) (λ v l stood. g.met.D.Desk.spares c.tick.new.self v l stood) in
-    let pages = ap (λ s. s.profile.pages) a.adds.seat_is in let room = c.requires.room in omega (arith, same, pages, room)
+    let pages = ap (λ s. s.profile.pages) a.adds.seat_is in omega (arith, same, pages, c.requires.room)
 
 pub pass-requires-clause-places : goal.pass-requires-clause-places
 pass-requires-clause-places g c = let a = aged c.args.page c.hint.result c.args.epoch c.tick.result c.hint.ensures.makes c.tick.ensures.makes in c.requires.places ∙ sym (ap (λ s. s.profile.pages) a.adds.seat_is)

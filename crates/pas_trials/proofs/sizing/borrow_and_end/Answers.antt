@@ -1,7 +1,6 @@
 use Rattle.std.proofs.Common.{arith}
 use Rattle.pas_trials.proofs.Borrowed.{admitted, budget_call}
-use Rattle.pas_cache.proofs.Budget.{may_allocate, budget_left}
-use Rattle.pas_cache.proofs.Routes.{is_small}
+use Rattle.pas_cache.proofs.{Budget.may_allocate, Budget.budget_left, Routes.is_small}
 use Rattle.pas_trials.proofs.sizing.borrow_and_end.Goals as goal
 
 pub alloc-block-requires-clause-route : goal.alloc-block-requires-clause-route
@@ -21,4 +20,4 @@ end_by_rooms-requires-clause-can g c =
 pub end_by_rooms-requires-clause-room : goal.end_by_rooms-requires-clause-room
 end_by_rooms-requires-clause-room g c =
     let left = budget_left 3 c.alloc-block.ensures.allocates (budget_call c.requires.can) (λ v l s. g.met.D.Desk.spares c.args.desk.now v l s) (λ v l s. g.met.D.Desk.spares c.alloc-block.new.desk v l s) in
-    let wide = left.met.room in omega (arith, wide)
+    omega (arith, left.met.room)

@@ -1,7 +1,6 @@
 use Rattle.std.proofs.Common.{◌≡◌, ℕ, Bool, Some, ◌∷◌, [], ap, sym, ◌∙◌, ◌==◌, true, if◌then◌else◌}
 use Rattle.pas_profile.specs.Directories.{deed_word_of}
-use Rattle.pas_profile.specs.declared.directory.Directory.{Directory}
-use Rattle.pas_profile.specs.declared.word.Word.TheVariants as Word
+use Rattle.pas_profile.specs.declared.{directory.Directory.Directory, word.Word.Word}
 use Rattle.pas_steps.specs.Calls.{Calls, now, Gained, Kept}
 use Rattle.pas_steps.specs.Desks.{Standing, made, Makes, AnyView}
 use Rattle.pas_steps.specs.Views.{has_right, KnowsDeed, View}

@@ -1,6 +1,5 @@
 -- the rooms so far have their sizes, and no event
-use Rattle.std.proofs.Common.{◌≡◌, ◌<◌, ◌≤◌, ℕ, length, Some, None}
-use Rattle.std.specs.Prelude.{vec_capacity, slice_index, slice_index_or}
+use Rattle.std.proofs.Common.{◌≡◌, ◌<◌, ◌≤◌, ℕ, length, Some, None, vec_capacity, slice_index, slice_index_or}
 use Rattle.pas_utility.specs.Parts.{size_left, AreEmpty}
 use Rattle.pas_utility.proofs.utility.rooms_for.Given as goal
 

@@ -1,6 +1,5 @@
 -- a seat for each thread up to this one
-use Rattle.std.proofs.Common.{◌≡◌, ◌+◌, ◌≤◌, ℕ, length, true, None}
-use Rattle.std.specs.Prelude.{vec_capacity, slice_index_or}
+use Rattle.std.proofs.Common.{◌≡◌, ◌+◌, ◌≤◌, ℕ, length, true, None, vec_capacity, slice_index_or}
 use Rattle.pas_utility.specs.Parts.{is_left, AreNamed}
 use Rattle.pas_utility.proofs.utility.seats_for.Given as goal
 

@@ -1,4 +1,4 @@
-use Rattle.std.specs.Prelude.{codes}
+use Rattle.std.proofs.Common.{codes}
 use Rattle.pas_words.proofs.Lists.{isnt_text, check_words, manner_words, not_one_of, gen_words, not_gen}
 use Rattle.pas_words.proofs.words.accepted.Goals as goal
 

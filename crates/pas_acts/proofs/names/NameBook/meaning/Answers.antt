@@ -7,14 +7,12 @@ use Rattle.pas_acts.proofs.names.NameBook.meaning.Goals as goal
 
 pub returns-in-Some : goal.returns-in-Some
 returns-in-Some c =
-    let place = c.place.ensures in
-    let own = at_place c.args.self.now 0 (requests_in c.args.requests.now) c.args.name c.place.result c.requires (omega (arith, place)) in
+    let own = at_place c.args.self.now 0 (requests_in c.args.requests.now) c.args.name c.place.result c.requires (omega (arith, c.place.ensures)) in
     let made = ap (λ rs. request_at (map named_of rs) c.place.result c.args.name) (sym c.as_slice.ensures) in
     sym (ap (λ (o : Option (Option Block)). came_to o (block_named c.args.self.now.names c.args.name)) (own ∙ made ∙ sym c.at.ensures ∙ c.in-Some.is))
 
 pub returns-in-None : goal.returns-in-None
 returns-in-None c =
-    let place = c.place.ensures in
-    let own = at_place c.args.self.now 0 (requests_in c.args.requests.now) c.args.name c.place.result c.requires (omega (arith, place)) in
+    let own = at_place c.args.self.now 0 (requests_in c.args.requests.now) c.args.name c.place.result c.requires (omega (arith, c.place.ensures)) in
     let made = ap (λ rs. request_at (map named_of rs) c.place.result c.args.name) (sym c.as_slice.ensures) in
     c.get.ensures ∙ sym (ap (λ (o : Option (Option Block)). came_to o (block_named c.args.self.now.names c.args.name)) (own ∙ made ∙ sym c.at.ensures ∙ c.in-None.is))

@@ -1,11 +1,9 @@
-use Rattle.std.proofs.Common.{ℕ, ◌<◌, get_or, length, refl, ap, sym, ◌∙◌, subst, arith, List}
-use Rattle.pas_trace.specs.declared.plan.Op.{Op}
-use Rattle.pas_trace.specs.declared.plan.What.TheVariants.{Alloc}
+use Rattle.std.proofs.Common.{ℕ, ◌<◌, get_or, length, refl, ap, sym, ◌∙◌, subst, arith, List, take_all}
+use Rattle.pas_trace.specs.declared.plan.{Op.Op, What.TheVariants.Alloc}
 use Rattle.pas_answers.specs.Names.{names_held}
 use Rattle.pas_answers.specs.declared.names.Names.{Names}
 use Rattle.pas_acts.specs.NameBooks.{names_asked, ArePlaced}
 use Rattle.pas_trace.specs.Acts.{own_acts}
-use Rattle.std.proofs.lemmas.List.{take_all}
 use Rattle.pas_acts.proofs.Noting.{asks_same, asks_below, below_at, placed_next, counted, count_small}
 use Rattle.pas_acts.proofs.names.NameBook.note.Goals as goal
 use Rattle.pas_acts.proofs.names.NameBook.note.Goals.{in-Some, in-None}
@@ -20,9 +18,7 @@ pub add-place-requires : goal.add-place-requires
 add-place-requires c =
     let count = c.loop-op.invariant.counts (get_or c.args.ops.now c.loop-op.op-index past).actor in
     let small = count_small (get_or c.args.ops.now c.loop-op.op-index past).actor c.args.ops.now c.loop-op.op-index c.loop-op-test.true in
-    let lt = c.loop-op-test.true in
-    let few = c.requires.few in
-    omega (arith, count, small, lt, few)
+    omega (arith, count, small, c.loop-op-test.true, c.requires.few)
 
 pub set_place-requires : goal.set_place-requires
 set_place-requires c =

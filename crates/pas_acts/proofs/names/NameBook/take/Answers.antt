@@ -12,5 +12,4 @@ set_name-requires c =
     let limit = names_held c.args.self.now.names in
     let within = subst (λ rs. AreWithin limit (names_of (map named_of rs))) (sym c.as_slice-made.ensures) c.requires.within in
     let below = within_at limit made (length made - 1 - c.loop-done.done) (record { name = 0; meaning = Nothing }) within (omega (arith, lt)) in
-    let room = c.loop-done.invariant.room in
-    omega (arith, below, room)
+    omega (arith, below, c.loop-done.invariant.room)

@@ -1,8 +1,6 @@
 use Rattle.std.proofs.Common.{◌≡◌, refl, ap, subst}
 use Rattle.pas_profile.specs.declared.profile.Profile.{Profile}
-use Rattle.pas_cache.specs.Caches.{Cached}
-use Rattle.pas_cache.specs.Contents.{CacheOf}
-use Rattle.pas_cache.specs.Names.{IsInRegion, IsFaultOf}
+use Rattle.pas_cache.specs.{Caches.Cached, Contents.CacheOf, Names.IsInRegion, Names.IsFaultOf}
 use Rattle.pas_cache.proofs.FlushesAndFrees.{full_room, flush_call, frees, refuses, rests_open}
 use Rattle.pas_cache.proofs.cache.ThreadCache.free_entry.Goals as goal
 

@@ -1,19 +1,13 @@
 use Rattle.std.proofs.Common.{◌∙◌, refl, sym, subst, ◌≡◌, ◌≤◌, ◌%◌, ap, None}
 use Rattle.pas_profile.specs.Profiles.{IsValid}
-use Rattle.pas_profile.specs.declared.directory.Directory.{Directory}
-use Rattle.pas_profile.specs.declared.directory.Route.{Route}
-use Rattle.pas_profile.specs.declared.profile.Profile.{Profile}
+use Rattle.pas_profile.specs.declared.{directory.Directory.Directory, directory.Route.Route, profile.Profile.Profile}
 use Rattle.pas_profile.proofs.ClassFacts.{bitfit_suits}
 use Rattle.pas_steps.specs.Desks.{CanCall}
 use Rattle.pas_bitfit.specs.Allocates.{Allocates}
-use Rattle.pas_cache.specs.Caches.{cached}
-use Rattle.pas_cache.specs.Calls.{MayAllocatePages}
-use Rattle.pas_cache.specs.Parts.{ServesFrom}
-use Rattle.pas_cache.specs.Serves.{wanted_for, IsFilling, filling_in}
+use Rattle.pas_cache.specs.{Caches.cached, Calls.MayAllocatePages, Parts.ServesFrom, Serves.wanted_for, Serves.IsFilling, Serves.filling_in}
 use Rattle.pas_cache.proofs.Routes.{large_size, goes, may_go, pages_asked, bitfit_call, bitfit_room, bitfit_allocates}
-use Rattle.pas_cache.proofs.Obtained.{obtain_rests}
+use Rattle.pas_cache.proofs.{Obtained.obtain_rests, FlushesAndFrees.may_allocate_open}
 use Rattle.pas_cache.proofs.Served.{routed, roomed, filling_for, home_is, allocates, serve_call, formed, rests_after}
-use Rattle.pas_cache.proofs.FlushesAndFrees.{may_allocate_open}
 use Rattle.pas_cache.proofs.cache.ThreadCache.serve.Goals as goal
 
 pub route-requires-clause-valid : goal.route-requires-clause-valid

@@ -1,6 +1,5 @@
-use Rattle.std.proofs.Common.{[], get_or, sym, ◌∙◌, subst, take, refl}
-use Rattle.std.proofs.lemmas.List.Elements.{All-nil, All-same}
-use Rattle.std.proofs.lemmas.List.{take_all, take_more}
+use Rattle.std.proofs.Common.{[], get_or, sym, ◌∙◌, subst, take, refl, take_all}
+use Rattle.std.proofs.lemmas.List.{Elements.All-nil, Elements.All-same, take_more}
 use Rattle.pas_free_log.specs.Noted.{AreRanges, IsRange}
 use Rattle.pas_free_log.specs.declared.noting.EndedRun.{EndedRun}
 use Rattle.pas_cache.specs.Calls.{SettlesEach}

@@ -1,8 +1,6 @@
-use Rattle.std.proofs.Common.{◌++◌, ◌∷◌, List, [], length, length-append, refl, ap, ◌∙◌, arith}
-use Rattle.std.specs.Prelude.{slice_index_or}
+use Rattle.std.proofs.Common.{◌++◌, ◌∷◌, List, [], length, length-append, refl, ap, ◌∙◌, arith, slice_index_or}
 use Rattle.pas_report.specs.Rooms.{records_in}
-use Rattle.pas_guard.specs.Books.{guards_in}
-use Rattle.pas_guard.specs.Sweeps.{lowered_record}
+use Rattle.pas_guard.specs.{Books.guards_in, Sweeps.lowered_record}
 use Rattle.pas_guard.specs.declared.book.Guard.{Guard}
 use Rattle.pas_guard.proofs.Sweeps.{swept_none, swept_all, no_guard, its_page, may_look, can_lower_it, it_stays, it_goes, one_less}
 use Rattle.pas_guard.proofs.book.GuardBook.sweep.Goals as goal

@@ -1,7 +1,6 @@
 use Rattle.std.proofs.Common.{◌∙◌, ◌≡◌, ◌++◌, ◌+◌, take, drop, get_or, sym, subst}
 use Rattle.pas_large_index.specs.declared.span.Span.{Span}
-use Rattle.pas_large_index.specs.Spans.{AreApart, has_page, left_of}
-use Rattle.pas_large_index.specs.Sets.{HasFewer}
+use Rattle.pas_large_index.specs.{Spans.AreApart, Spans.has_page, Spans.left_of, Sets.HasFewer}
 use Rattle.pas_large_index.proofs.Spans.{cut_apart, cut_has, from_to, cut_is}
 use Rattle.pas_large_index.proofs.index.LargeIndex.cut.Goals as goal
 

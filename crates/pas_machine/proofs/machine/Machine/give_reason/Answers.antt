@@ -14,7 +14,7 @@ returns-then-lacks_deed-clause-verdict c k es shows =
     let some = rw (c.grain-first.ensures, c.grains.ensures, c.deref.ensures.value) at c.if-lacks_deed.ensures in
     record {
       applies = some_page shows block is (λ (p : Page). IsOfHeap block.heap p.directory → ⊥) some;
-      others = give_before f es k block 4 (λ _. inside_never f block is) (λ _ h. let lt = c.if-block-self.false in omega (arith, h, lt)) (λ lt. absurd (omega (arith, lt))) (λ lt. absurd (omega (arith, lt)))
+      others = give_before f es k block 4 (λ _. inside_never f block is) (λ _ h. omega (arith, h, c.if-block-self.false)) (λ lt. absurd (omega (arith, lt))) (λ lt. absurd (omega (arith, lt)))
           (λ lt. absurd (omega (arith, lt))) (λ lt. absurd (omega (arith, lt)));
     }
 
@@ -27,7 +27,7 @@ returns-then-lacks_backing-clause-verdict c k es shows =
     let some = rw (c.grain-first.ensures, c.grains.ensures, c.deref-2.ensures.value) at c.if-lacks_backing.ensures in
     record {
       applies = some_page shows block is (λ (p : Page). p.backed ≡ false) some;
-      others = give_before f es k block 6 (λ _. inside_never f block is) (λ _ h. let lt = c.if-block-self.false in omega (arith, h, lt))
+      others = give_before f es k block 6 (λ _. inside_never f block is) (λ _ h. omega (arith, h, c.if-block-self.false))
           (λ _ h. h.2 (each_page shows block is (λ (p : Page). IsOfHeap block.heap p.directory) deeds h.0 h.1)) (λ lt. absurd (omega (arith, lt))) (λ lt. absurd (omega (arith, lt))) (λ lt. absurd (omega (arith, lt)));
     }
 
@@ -41,7 +41,7 @@ returns-then-is_some_covered-clause-verdict c k es shows =
     let some = rw (c.grain-first.ensures, c.grains.ensures, c.deref-3.ensures.value) at c.if-is_some_covered.ensures in
     record {
       applies = some_lives shows block is some;
-      others = give_before f es k block 7 (λ _. inside_never f block is) (λ _ h. let lt = c.if-block-self.false in omega (arith, h, lt))
+      others = give_before f es k block 7 (λ _. inside_never f block is) (λ _ h. omega (arith, h, c.if-block-self.false))
           (λ _ h. h.2 (each_page shows block is (λ (p : Page). IsOfHeap block.heap p.directory) deeds h.0 h.1))
           (λ _ h. false≢true (sym h.2 ∙ each_page shows block is (λ (p : Page). p.backed ≡ true) backed h.0 h.1)) (λ lt. absurd (omega (arith, lt))) (λ lt. absurd (omega (arith, lt)));
     }
@@ -57,7 +57,7 @@ returns-then-index-block-clause-verdict c k es shows =
     let p = place_at f _ _ _ es shows block is c.args.self.now.places.len c.args.self.now.places.ok.0 c.args.self.now.places_sized c.index.result.now (rw c.grain-first.ensures at c.index.ensures) in
     record {
       applies = λ same. c.if-index-block.true (gives_are es (address_of block.name) is.whole.aligned c.index.result.now p ∙ sym same);
-      others = give_before f es k block 9 (λ _. inside_never f block is) (λ _ h. let lt = c.if-block-self.false in omega (arith, h, lt))
+      others = give_before f es k block 9 (λ _. inside_never f block is) (λ _ h. omega (arith, h, c.if-block-self.false))
           (λ _ h. h.2 (each_page shows block is (λ (p : Page). IsOfHeap block.heap p.directory) deeds h.0 h.1))
           (λ _ h. false≢true (sym h.2 ∙ each_page shows block is (λ (p : Page). p.backed ≡ true) backed h.0 h.1)) (λ _ h. none_lives shows block is clear h.0 h.1 h.2) (λ lt. absurd (omega (arith, lt)));
     }
@@ -71,7 +71,7 @@ returns-clause-verdict c k es shows reason =
     let backed = rw (c.grain-first.ensures, c.grains.ensures, c.deref-2.ensures.value) at c.if-lacks_backing.ensures in
     let clear = rw (c.grain-first.ensures, c.grains.ensures, c.deref-3.ensures.value) at c.if-is_some_covered.ensures in
     let p = place_at f _ _ _ es shows block is c.args.self.now.places.len c.args.self.now.places.ok.0 c.args.self.now.places_sized c.index.result.now (rw c.grain-first.ensures at c.index.ensures) in
-    give_before f es k block 12 (λ _. inside_never f block is) (λ _ h. let lt = c.if-block-self.false in omega (arith, h, lt))
+    give_before f es k block 12 (λ _. inside_never f block is) (λ _ h. omega (arith, h, c.if-block-self.false))
     (λ _ h. h.2 (each_page shows block is (λ (p : Page). IsOfHeap block.heap p.directory) deeds h.0 h.1))
     (λ _ h. false≢true (sym h.2 ∙ each_page shows block is (λ (p : Page). p.backed ≡ true) backed h.0 h.1)) (λ _ h. none_lives shows block is clear h.0 h.1 h.2)
     (λ _ h. h (sym c.if-index-block.false ∙ gives_are es (address_of block.name) is.whole.aligned c.index.result.now p)) reason (number_below reason)

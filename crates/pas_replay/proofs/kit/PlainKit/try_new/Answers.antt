@@ -1,13 +1,10 @@
-use Rattle.std.proofs.Common.{◌+◌, List, [], Some, length, slice_index, ap, sym, ◌∙◌, subst, arith}
-use Rattle.std.specs.Prelude.{All}
-use Rattle.std.proofs.lemmas.List.{length-map}
-use Rattle.std.proofs.lemmas.Option.{same_Some}
+use Rattle.std.proofs.Common.{◌+◌, List, [], Some, length, slice_index, ap, sym, ◌∙◌, subst, arith, All}
+use Rattle.std.proofs.lemmas.{List.length-map, Option.same_Some}
 use Rattle.pas_profile.specs.declared.profile.Profile.{Profile}
 use Rattle.pas_plain.specs.Plain.{PassStands}
 use Rattle.pas_plain.specs.declared.pass.PlainPass.{PlainPass}
 use Rattle.pas_utility.specs.Pools.{room_of}
-use Rattle.pas_answers.specs.Fit.{AllBelow}
-use Rattle.pas_answers.specs.Replays.{phases_of}
+use Rattle.pas_answers.specs.{Fit.AllBelow, Replays.phases_of}
 use Rattle.pas_replay.proofs.Opening.{passes_count, fresh_actor}
 use Rattle.pas_plans.proofs.PlanFacts.{plan_bounds, plan_below, plan_threads}
 use Rattle.pas_replay.proofs.kit.PlainKit.try_new.Goals as goal
@@ -23,18 +20,15 @@ rooms_of-requires-clause-left c = λ k le. (slice_index c.as_slice.result.now k,
 
 pub caches_for-requires-clause-few : goal.caches_for-requires-clause-few
 caches_for-requires-clause-few c =
-    let valid = c.region_of-profile.ensures.valid.threads in
     let same = ap (λ (f : Profile). f.threads) c.region_of-profile.ensures.region in
     let among = plan_threads c.args.plan.now in
-    omega (arith, valid, same, among)
+    omega (arith, c.region_of-profile.ensures.valid.threads, same, among)
 
 pub caches_for-requires-clause-threads : goal.caches_for-requires-clause-threads
 caches_for-requires-clause-threads c =
     let same = ap (λ (f : Profile). f.threads) c.region_of-profile.ensures.region in
     let among = plan_threads c.args.plan.now in
-    let made = c.in_ok-utility.ensures.threads in
-    let left = c.rooms_of.ensures.threads in
-    omega (arith, same, among, made, left)
+    omega (arith, same, among, c.in_ok-utility.ensures.threads, c.rooms_of.ensures.threads)
 
 pub caches_for-requires-clause-left : goal.caches_for-requires-clause-left
 caches_for-requires-clause-left c = λ k low high.
@@ -49,14 +43,13 @@ returns c =
     let region = c.region_of-profile.ensures.region in
     let threads = ap (λ (f : Profile). f.threads) region in
     let rooms = c.in_ok-rooms.ensures.rooms in
-    let many = rooms.many in
     let long = ap (λ (ps : List PlainPass). length ps) c.in_ok-region.ensures.passes ∙ passes_count 0 c.in_ok-rooms.rooms.items in
     let placed = ap (λ ps. length ps) c.in_ok-places.ensures.places ∙ length-map c.in_ok-region.passes.items (λ p. Some p) in
     let stand = subst (λ (f : Profile). All (λ (pass : PlainPass). PassStands f pass []) c.in_ok-region.passes.items) region c.in_ok-region.ensures.stand in
     record {
       profile = c.in_ok-region.ensures.profile ∙ region;
       opening = c.in_ok-region.ensures.opening;
-      actors = omega (arith, many, long, placed, threads);
+      actors = omega (arith, rooms.many, long, placed, threads);
       fresh = λ k less. fresh_actor plan (room_of c.in_ok-utility.utility) (profile.threads + 1) c.in_ok-rooms.rooms.items c.in_ok-region.passes.items c.in_ok-places.places.items rooms
           (λ j lt. c.in_ok-utility.ensures.rooms j (omega (arith, lt)) ∙ ap (λ bs. Some (slice_index bs j)) c.as_slice.ensures)
           c.in_ok-region.ensures.passes stand c.in_ok-places.ensures.places k (omega (arith, less, threads));

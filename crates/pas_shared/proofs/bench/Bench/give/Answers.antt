@@ -1,6 +1,5 @@
 use Rattle.std.proofs.Common.{refl}
-use Rattle.pas_shared.proofs.Benching.{gives_as}
-use Rattle.pas_shared.proofs.GivingBack.{some_word}
+use Rattle.pas_shared.proofs.{Benching.gives_as, GivingBack.some_word}
 use Rattle.pas_shared.proofs.bench.Bench.give.Goals as goal
 
 pub split_seat-requires : goal.split_seat-requires

@@ -1,5 +1,4 @@
-use Rattle.pas_shared.proofs.Benching.{settles_as}
-use Rattle.pas_shared.proofs.GivingBack.{some_word}
+use Rattle.pas_shared.proofs.{Benching.settles_as, GivingBack.some_word}
 use Rattle.pas_shared.proofs.bench.Bench.look.Goals as goal
 
 pub load-requires : goal.load-requires

@@ -1,5 +1,4 @@
-use Rattle.pas_shared.proofs.Benching.{lays_out}
-use Rattle.pas_shared.proofs.GivingBack.{some_word}
+use Rattle.pas_shared.proofs.{Benching.lays_out, GivingBack.some_word}
 use Rattle.pas_shared.proofs.bench.Bench.open.Goals as goal
 
 pub load_new_seat-requires : goal.load_new_seat-requires

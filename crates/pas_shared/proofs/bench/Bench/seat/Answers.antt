@@ -1,6 +1,5 @@
 use Rattle.std.proofs.Common.{ap}
-use Rattle.pas_shared.proofs.Ruling.{joins}
-use Rattle.pas_shared.proofs.GivingBack.{some_word}
+use Rattle.pas_shared.proofs.{Ruling.joins, GivingBack.some_word}
 use Rattle.pas_shared.proofs.bench.Bench.seat.Goals as goal
 
 pub join_seat-requires : goal.join_seat-requires

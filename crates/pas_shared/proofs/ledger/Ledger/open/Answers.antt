@@ -1,5 +1,4 @@
-use Rattle.pas_shared.proofs.Ruling.{arrives}
-use Rattle.pas_shared.proofs.GivingBack.{some_word}
+use Rattle.pas_shared.proofs.{Ruling.arrives, GivingBack.some_word}
 use Rattle.pas_shared.proofs.ledger.Ledger.open.Goals as goal
 
 pub load_new_seat-requires : goal.load_new_seat-requires

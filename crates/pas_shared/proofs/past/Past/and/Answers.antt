@@ -1,7 +1,5 @@
 use Rattle.std.proofs.Common.{ap}
-use Rattle.pas_shared.proofs.Ruling.{joins}
-use Rattle.pas_shared.proofs.GivingBack.{some_word}
-use Rattle.pas_shared.proofs.Pasts.{both_earlier}
+use Rattle.pas_shared.proofs.{Ruling.joins, GivingBack.some_word, Pasts.both_earlier}
 use Rattle.pas_shared.proofs.past.Past.and.Goals as goal
 
 pub join_seat-requires : goal.join_seat-requires

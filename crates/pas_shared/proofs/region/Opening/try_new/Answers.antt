@@ -1,7 +1,5 @@
-use Rattle.std.proofs.Common.{◌∙◌, ◌∷◌, [], List, ℕ, sym, ap, subst}
-use Rattle.std.specs.Prelude.{slice_index}
-use Rattle.pas_profile.specs.Layouts.{index_of, words_of}
-use Rattle.pas_profile.specs.Profiles.{IsWordIn}
+use Rattle.std.proofs.Common.{◌∙◌, ◌∷◌, [], List, ℕ, sym, ap, subst, slice_index}
+use Rattle.pas_profile.specs.{Layouts.index_of, Layouts.words_of, Profiles.IsWordIn}
 use Rattle.pas_shared.specs.declared.rule.Roster.TheVariants.{Unused}
 use Rattle.pas_shared.specs.Ruled.{AreAfterOneList}
 use Rattle.pas_shared.proofs.Opened.{begins}

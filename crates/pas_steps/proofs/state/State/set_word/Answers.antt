@@ -1,5 +1,4 @@
-use Rattle.std.proofs.Common.{ap, ◌∙◌, ◌≡◌, ℕ, length, refl, arith}
-use Rattle.std.specs.Prelude.{slice_index, slice_set}
+use Rattle.std.proofs.Common.{ap, ◌∙◌, ◌≡◌, ℕ, length, refl, arith, slice_index, slice_set}
 use Rattle.pas_profile.specs.Layouts.{index_of, words_of, same_word}
 use Rattle.pas_steps.proofs.Targets.{place_written}
 use Rattle.pas_steps.proofs.state.State.set_word.Goals as goal

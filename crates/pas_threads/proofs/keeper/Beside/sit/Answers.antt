@@ -1,7 +1,6 @@
 use Rattle.std.proofs.Common.{◌≡◌, ◌∙◌, Option, Some, refl, ap, sym, subst}
 use Rattle.pas_threads.specs.Pairs.{home_kept, IsKeeperOf, SitsAs}
-use Rattle.pas_threads.specs.declared.keeper.Keeper.{Keeper}
-use Rattle.pas_threads.specs.declared.keeper.Seated.{Seated}
+use Rattle.pas_threads.specs.declared.keeper.{Keeper.Keeper, Seated.Seated}
 use Rattle.pas_threads.proofs.keeper.Beside.sit.Goals as goal
 
 sits : (o : Option Keeper) (keeper : Keeper) (seated : Seated) → o ≡ Some keeper → seated.desk.pass ≡ keeper.pass → seated.book ≡ keeper.book → seated.out ≡ keeper.out → SitsAs o (Some seated)

@@ -21,10 +21,9 @@ rooms_of-requires-clause-left c = λ k le. (slice_index c.as_slice-bounds.result
 pub try_new_at-requires-clause-actors : goal.try_new_at-requires-clause-actors
 try_new_at-requires-clause-actors c =
     let many = (c.move_rooms.ensures _ _ c.in_ok-rooms.ensures.rooms).many in
-    let long = c.move_rooms.new.rooms.ok.0 in
     let threads = ap (λ (f : Profile). f.threads) c.requires.profile in
     let same = ap (λ (f : Profile). f.threads) c.region_of-profile.ensures.region in
-    omega (arith, many, long, threads, same)
+    omega (arith, many, c.move_rooms.new.rooms.ok.0, threads, same)
 
 pub try_new_at-requires-clause-empty : goal.try_new_at-requires-clause-empty
 try_new_at-requires-clause-empty c = (c.move_rooms.ensures _ _ c.in_ok-rooms.ensures.rooms).empty
@@ -33,19 +32,15 @@ pub remove-first-requires : goal.remove-first-requires
 remove-first-requires c =
     let many = (c.move_rooms.ensures _ _ c.in_ok-rooms.ensures.rooms).many in
     let same = fresh_many _ _ _ _ _ c.in_ok-region.ensures.passes in
-    let long = c.in_ok-region.others.ok.0 in
-    omega (arith, many, same, long)
+    omega (arith, many, same, c.in_ok-region.others.ok.0)
 
 pub team_for-requires-clause-passes : goal.team_for-requires-clause-passes
 team_for-requires-clause-passes c =
     let many = (c.move_rooms.ensures _ _ c.in_ok-rooms.ensures.rooms).many in
     let same = fresh_many _ _ _ _ _ c.in_ok-region.ensures.passes in
-    let long = c.in_ok-region.others.ok.0 in
-    let left = c.remove-first.ensures.len in
-    let rest = c.remove-first.new.self.ok.0 in
     let region = ap (λ (f : Profile). f.threads) c.region_of-profile.ensures.region in
     let actors = plan_actors c.args.plan.now in
-    omega (arith, many, same, long, left, rest, region, actors)
+    omega (arith, many, same, c.in_ok-region.others.ok.0, c.remove-first.ensures.len, c.remove-first.new.self.ok.0, region, actors)
 
 pub returns : goal.returns
 returns c =

@@ -1,5 +1,4 @@
-use Rattle.std.proofs.Common.{◌≡◌, ◌==◌, ℕ, nat_lt, not, true, sym, ap, subst, ◌∙◌, arith}
-use Rattle.std.proofs.lemmas.Bool.{lt-ltb, eq-eqb}
+use Rattle.std.proofs.Common.{◌≡◌, ◌==◌, ℕ, nat_lt, not, true, sym, ap, subst, ◌∙◌, arith, lt-ltb, eq-eqb}
 use Rattle.pas_trace.specs.Reasons.{first_failed, is_thread}
 use Rattle.pas_trace.specs.Told.{IsChecked, few_told, owner_in, has_owner}
 use Rattle.pas_trace.proofs.Checking.{request-checked}

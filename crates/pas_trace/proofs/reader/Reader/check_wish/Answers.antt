@@ -1,6 +1,5 @@
 use Rattle.std.proofs.Common.{sym, subst}
-use Rattle.pas_trace.specs.Reasons.{cost_of_wish}
-use Rattle.pas_trace.specs.Told.{IsChecked, reason_told}
+use Rattle.pas_trace.specs.{Reasons.cost_of_wish, Told.IsChecked, Told.reason_told}
 use Rattle.pas_trace.specs.declared.item.Wish.{Wish}
 use Rattle.pas_trace.proofs.reader.Reader.check_wish.Goals as goal
 

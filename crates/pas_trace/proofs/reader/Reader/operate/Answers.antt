@@ -1,10 +1,7 @@
 use Rattle.std.proofs.Common.{◌+◌, Some, None, if◌then◌else◌, refl, sym, ap, ◌∙◌, subst}
 use Rattle.std.proofs.lemmas.Result.{on_ok_weaker}
-use Rattle.pas_trace.specs.Plans.{name_at, request_kept}
-use Rattle.pas_trace.specs.Told.{IsOperated}
-use Rattle.pas_trace.specs.declared.item.Wish.{Wish}
-use Rattle.pas_trace.specs.declared.names.Owner.{Owner}
-use Rattle.pas_trace.specs.declared.plan.What.{What}
+use Rattle.pas_trace.specs.{Plans.name_at, Plans.request_kept, Told.IsOperated}
+use Rattle.pas_trace.specs.declared.{item.Wish.Wish, names.Owner.Owner, plan.What.What}
 use Rattle.pas_trace.proofs.Adding.{named, renamed, unnamed}
 use Rattle.pas_trace.proofs.reader.Reader.operate.Goals as goal
 
