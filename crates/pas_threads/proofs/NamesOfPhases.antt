@@ -69,7 +69,7 @@ taken_more before now after workers i n w lt is takes so = elim (has_or_not (req
 
 -- the worker with these requests
 abbrev pub with_requests : Worker → Requests → Worker
-with_requests w rs = record { pass = w.pass; cache = w.cache; requests = rs; out = w.out; keeper = w.keeper }
+with_requests w rs = record { pass = w.pass; cache = w.cache; requests = rs; out = w.out; keeper = w.keeper; member = w.member; bench = w.bench }
 
 pub emptied_more : (old now : List Worker) (i : ℕ) (e : Worker) (rs : Requests) → i < length now → get_or now i e ≡ get_or old i e → i < length old → requests_in rs ≡ [] → room_for rs ≡ room_for (get_or now i e).requests
     → ((j : ℕ) (d : Worker) → j < i → IsEmptied (get_or old j d) (get_or now j d)) → (j : ℕ) (d : Worker) → j < i + 1 → IsEmptied (get_or old j d) (get_or (set now i (with_requests (get_or now i e) rs)) j d)

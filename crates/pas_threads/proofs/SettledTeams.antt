@@ -38,7 +38,7 @@ set_twice (u ∷ ws) zero v w = refl
 set_twice (u ∷ ws) (suc i) v w = ap (λ (vs : List Worker). u ∷ vs) (set_twice ws i v w)
 
 abbrev pub with_pass : Worker → Option SharedPass → Worker
-with_pass w pass = record { pass = pass; cache = w.cache; requests = w.requests; out = w.out; keeper = w.keeper }
+with_pass w pass = record { pass = pass; cache = w.cache; requests = w.requests; out = w.out; keeper = w.keeper; member = w.member; bench = w.bench }
 
 -- with what was taken out of the worker at this place the workers are as they were
 pub keeper_back : (ws now : List Worker) (at : ℕ) (e d : Worker) (gone keeper : Option Keeper) → at < length ws → now ≡ set ws at (with_keeper (get_or ws at e) gone) → keeper ≡ (get_or ws at e).keeper → set now at (with_keeper (get_or now at d) keeper) ≡ ws

@@ -87,7 +87,7 @@ AreKeepers bounds i passes books keepers = ⊥
 
 -- the worker with this keeper
 abbrev pub with_keeper : Worker → Option Keeper → Worker
-with_keeper w keeper = record { pass = w.pass; cache = w.cache; requests = w.requests; out = w.out; keeper = keeper }
+with_keeper w keeper = record { pass = w.pass; cache = w.cache; requests = w.requests; out = w.out; keeper = keeper; member = w.member; bench = w.bench }
 
 -- a worker without one
 abbrev pub IsAlone : Worker → Type 0

@@ -1,5 +1,6 @@
 pub mod Taken
 pub mod Hands
+pub mod Left
 pub mod Lent
 pub mod Crews
 pub mod Scavengers

@@ -14,6 +14,7 @@ use Rattle.pas_answers.specs.{Answers.Progress, Keeping.owed_by_keeper, Reaching
 use Rattle.pas_acts.specs.Keepers.{LaterKept, Keeping, NoKeeper, OneKeeper, KeeperAt, KeeperLowers, keeper_has}
 use Rattle.pas_acts.specs.{Pairs.KeeperWaits, Pairs.KeptPushed, Pairs.PairWorks, Works.Later}
 use Rattle.pas_acts.specs.declared.names.NameBook.{NameBook}
+use Rattle.pas_threads.specs.Left.{pair_in, HasLeft}
 use Rattle.pas_threads.specs.Hands.{standing_of_pass, kept_by, WorkerAt, Did}
 use Rattle.pas_threads.specs.declared.{keeper.Keeper.Keeper, keeper.Seated.Seated, keeper.Beside.Beside, workers.Worker.Worker}
 
@@ -71,10 +72,11 @@ pub record PairStands (region : SharedRegion) (book : NameBook) (f : Profile) (t
   pub of : IsKeeperOf region worker.keeper
   pub waits : KeeperWaits f (threads + k) acts (kept_by_worker worker.keeper) more p
 
--- what a worker did with its thread and its keeper, which have their passes again
+-- what a worker did with its thread and its keeper, which have their passes again, and the bench that it left
 pub record PairDid (region : SharedRegion) (book : NameBook) (f : Profile) (threads k : ℕ) (acts : List Act) (old new : Worker) (later : Later) (more : LaterKept) (p : Progress) : Type 0 where
   pub did : Did region old.pass new.pass (λ σ σ'. PairWorks f k (threads + k) acts [] σ σ' (kept_by book old) (kept_by book new) (kept_by_worker old.keeper) (kept_by_worker new.keeper) later more p)
   pub of : IsKeeperOf region new.keeper
+  pub left : HasLeft region new.bench (pair_in threads k old.keeper) p.list did.does.reached.list
 
 -- the worker's acts of its operations in a phase were done, wherever the replay stood
 pub record DidPhase (region : SharedRegion) (book : NameBook) (ops : List Op) (old new : Worker) : Type 0 where

@@ -1,5 +1,5 @@
 -- The operations of one phase, by all hands at once.
-use Rattle.std.specs.Prelude.{ℕ, suc, ◌+◌, ◌<◌, ◌≤◌, ◌≡◌, ◌⊎◌, true, List, [], ◌++◌, length, get_or}
+use Rattle.std.specs.Prelude.{ℕ, suc, ◌+◌, ◌<◌, ◌≤◌, ◌≡◌, ◌⊎◌, true, false, List, [], ◌++◌, length, get_or}
 use Rattle.pas_profile.specs.declared.profile.Profile.{Profile}
 use Rattle.pas_trace.specs.EveryPlan.{AreSound}
 use Rattle.pas_trace.specs.declared.plan.Op.{Op}
@@ -10,6 +10,7 @@ use Rattle.pas_trace.specs.Acts.{is_active, acts_of_ops, idle_threads, own_acts,
 use Rattle.pas_answers.specs.{Answers.Named, Answers.Progress, Fit.own_costs_of, Ways.records_by}
 use Rattle.pas_shares.specs.Shares.{AreAmong, AreKeptBehind, owner_in, acts_by}
 use Rattle.pas_acts.specs.NameBooks.{requests_in, room_for, names_of, names_asked}
+use Rattle.pas_threads.specs.Left.{pair_in, crew_in, HasLeft}
 use Rattle.pas_threads.specs.{Taken.HandsOver, Hands.standing_of_pass, Hands.HasPass, Hands.ScavengerAt, Sessions.Session, Sessions.WorkerHas}
 use Rattle.pas_threads.specs.{Sessions.HasPlaces}
 use Rattle.pas_acts.specs.{Works.Later, Keepers.LaterKept, Pairs.KeeperWaits, Pairs.KeptPushed, Pairs.KeptStill}
@@ -84,11 +85,14 @@ ScavengerDone region r old new said q =
     (has : HasPass region new.pass) × ScavengerAt r.profile [] (standing_of_pass has.pass) (places_of new.outcomes) new.out (r.later 0) q × Pushed 0 said old.out new.out
     × ((k : ℕ) → r.threads < k → TookNoPart k said r.start q)
 
--- what worker w did, for all actors in its hands
+-- what worker w did, for all actors in its hands, and the bench that it left; one without an operation did nothing
 pub record Piece (region : SharedRegion) (r : Round) (old new : List Worker) (before after : Scavenger) (w : ℕ) : Type 0 where
   pub own : Came r.profile (acts_by (owner_in r.threads r.ops) w (acts_of_ops (idle_in r) r.ops)) r.start
   pub threads : (i : ℕ) (d : Worker) → i < length old → owner_in r.threads r.ops (suc i) ≡ w → ThreadDone region r (suc i) (get_or old i d) (get_or new i d) own.said own.reached
   pub scavenger : w ≡ 0 → ScavengerDone region r before after own.said own.reached
+  pub left : (i : ℕ) (d : Worker) → w ≡ suc i → i < length old → is_active r.ops w ≡ true → HasLeft region (get_or new i d).bench (pair_in r.threads w (get_or old i d).keeper) r.start.list own.reached.list
+  pub crew_left : w ≡ 0 → is_active r.ops w ≡ true → HasLeft region after.bench (crew_in (idle_in r)) r.start.list own.reached.list
+  pub still : is_active r.ops w ≡ false → own.reached.list ≡ r.start.list
 
 -- all hands did their operations, each for itself
 pub record IsDone (region : SharedRegion) (r : Round) (old new : Team) : Type 0 where

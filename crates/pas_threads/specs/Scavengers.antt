@@ -7,6 +7,7 @@ use Rattle.pas_utility.specs.Outcomes.{places_of}
 use Rattle.pas_shared.specs.declared.region.SharedRegion.{SharedRegion}
 use Rattle.pas_answers.specs.Answers.{Progress}
 use Rattle.pas_threads.specs.{Hands.standing_of_pass, Hands.HasPass, Hands.Did, Lent.Shift}
+use Rattle.pas_threads.specs.Left.{crew_in, HasLeft}
 use Rattle.pas_threads.specs.Crews.{Crew, crew, CrewAt, CrewDid}
 use Rattle.pas_threads.specs.declared.scavenger.Scavenger.{Scavenger}
 
@@ -27,8 +28,12 @@ pub record MayScavenge (region : SharedRegion) (ops : List Op) (scavenger : Scav
   pub sound : AreSound shift.profile asked ops
   pub stands : ScavengerStands region shift (scavenger_acts shift.idle ops) scavenger progress
 
+-- what it did with its pass and the lent threads, which have their passes again, and the bench that it left
+pub record ScavengerDid (region : SharedRegion) (s : Shift) (acts : List Act) (old new : Scavenger) (p : Progress) : Type 0 where
+  pub did : Did region old.pass new.pass (λ σ σ'. CrewDid region s acts [] (crew_of σ old) (crew_of σ' new) p)
+  pub left : HasLeft region new.bench (crew_in s.idle) p.list did.does.came.reached.list
+
 -- they were done, wherever the replay stood, and it has its pass again
 pub record DidScavenge (region : SharedRegion) (ops : List Op) (old new : Scavenger) : Type 0 where
-  pub did : (s : Shift) (asked : List ℕ) (p : Progress) → AreSound s.profile asked ops → ScavengerStands region s (scavenger_acts s.idle ops) old p
-      → Did region old.pass new.pass (λ σ σ'. CrewDid region s (scavenger_acts s.idle ops) [] (crew_of σ old) (crew_of σ' new) p)
+  pub did : (s : Shift) (asked : List ℕ) (p : Progress) → AreSound s.profile asked ops → ScavengerStands region s (scavenger_acts s.idle ops) old p → ScavengerDid region s (scavenger_acts s.idle ops) old new p
   pub places : vec_capacity new.lent ≡ vec_capacity old.lent

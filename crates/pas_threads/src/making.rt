@@ -212,6 +212,8 @@ fn workers_for(
             requests,
             out,
             keeper: None,
+            member: None,
+            bench: None,
         });
     }
     Ok(workers)
@@ -237,6 +239,7 @@ fn scavenger_with(
         outcomes,
         out,
         lent,
+        bench: None,
     })
 }
 

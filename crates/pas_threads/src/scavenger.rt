@@ -6,7 +6,7 @@ use crate::crew::scavenge;
 use crate::workers::Worker;
 use pas_acts::gate::Gate;
 use pas_report::Records;
-use pas_shared::{SharedPass, SharedRegion};
+use pas_shared::{Bench, SharedPass, SharedRegion};
 use pas_trace::Op;
 use pas_utility::Outcomes;
 
@@ -18,6 +18,8 @@ pub(crate) struct Scavenger {
     pub(crate) outcomes: Outcomes,
     pub(crate) out: Records,
     pub(crate) lent: Vec<Worker>,
+    /// After its operations of a phase: the bench at which they were made, and on which nobody sits any more.
+    pub(crate) bench: Option<Bench>,
 }
 
 /// The scavenger sits down, does its operations of a phase, and rises.

@@ -3,7 +3,7 @@ use Rattle.pas_steps.specs.Desks.{Seat}
 use Rattle.pas_report.specs.Rooms.{records_in}
 use Rattle.pas_report.specs.declared.record.{Record.Record, Said.Said}
 use Rattle.pas_threads.proofs.TakingTurns.{pushed_none}
-use Rattle.pas_threads.proofs.workers.stop_and_tell.Goals as goal
+use Rattle.pas_threads.proofs.lending.stop_and_tell.Goals as goal
 
 pub stop_if_idle-requires : goal.stop_if_idle-requires
 stop_if_idle-requires g c = record { stands = c.requires.rests }

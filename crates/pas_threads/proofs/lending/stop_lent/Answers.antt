@@ -5,7 +5,7 @@ use Rattle.pas_shared.specs.declared.region.SharedRegion.{SharedRegion}
 use Rattle.pas_trace.specs.Acts.{StopsIdle}
 use Rattle.pas_acts.specs.{AtDesks.here, AtDesks.told_if, AtDesks.ThreadActs, Turns.RestsAt}
 use Rattle.pas_threads.proofs.Sitting.{seated, rose}
-use Rattle.pas_threads.proofs.workers.stop_lent.Goals as goal
+use Rattle.pas_threads.proofs.lending.stop_lent.Goals as goal
 
 pub stop_and_tell-requires-clause-rests : goal.stop_and_tell-requires-clause-rests
 stop_and_tell-requires-clause-rests c =
