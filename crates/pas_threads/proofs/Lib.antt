@@ -1,5 +1,4 @@
 mod Benched
-mod Beside
 mod Sitting
 mod ByCrew
 mod Dealt
