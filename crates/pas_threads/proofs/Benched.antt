@@ -1,7 +1,8 @@
 -- Actors on a bench: they sit down with their passes, stand still while another one acts, and leave.
 use Rattle.std.proofs.Common.{◌≡◌, ◌≢◌, ◌==◌, ℕ, Bool, true, false, if◌then◌else◌, inl, inr, List, [], ◌∷◌, ◌++◌, length, refl, ap, sym, ◌∙◌, subst, append-nil, eq-eqb, ne_eqb}
 use Rattle.std.proofs.Common.{true≢false, ◌+◌, ◌≤◌}
-use Rattle.pas_steps.specs.{Desks.Seat, Desks.Standing, Desks.triple, Desks.triples, Events.events_of, Lists.Whole, Lists.part, Views.View}
+use Rattle.pas_steps.specs.{Agreement.Agreed, Calls.Calls, Calls.Leads, Desks.Seat, Desks.Standing, Desks.triple, Desks.triples, Events.events_of, Lists.Whole, Lists.part, Views.View}
+use Rattle.pas_steps.specs.declared.step.Made.{Made}
 use Rattle.pas_steps.proofs.Parts.{part_of_own}
 use Rattle.pas_profile.specs.declared.profile.Profile.{Profile}
 use Rattle.pas_region.specs.Noted.{AreNotesOf, room_of_notes}
@@ -62,7 +63,7 @@ has_seat pass rs =
     let v = view_of pass in
     inl (ap (λ (b : Bool). if b then true else false) (eq-eqb k k refl), ap (λ (l : Whole). part k (l ++ [])) (entries_are k v) ∙ (part_of_own k v [] ∙ append-nil v))
 
-member_seat : {pass : SharedPass} {member : Member} → IsMemberOf pass member → seat_of_member member ≡ seat_of pass
+pub member_seat : {pass : SharedPass} {member : Member} → IsMemberOf pass member → seat_of_member member ≡ seat_of pass
 member_seat m = λ i. record { actor = m.actor i; profile = m.profile i; room = room_of_notes (m.notes i) }
 
 -- .. and in one row with the others, once the bench looked
@@ -95,6 +96,18 @@ sits_as {k = k} {l = l} {need} seat to s = record {
   stood = to s.stood;
   rest = s.rest;
   room = subst (λ (t : Seat). length (events_of k (part k l)) + need ≤ t.room) (sym seat) s.room;
+}
+
+-- .. and what was done there is so of it
+pub calls_as : {σ σ' τ τ' : Standing} {Before : View → Type 0} {Change : View → View → Type 0} {steps : List Made} → τ.seat ≡ σ.seat → τ'.seat ≡ σ'.seat → ((v : View) (l : Whole) → τ.stands v l → σ.stands v l)
+    → ((v : View) (l : Whole) → σ'.stands v l → τ'.stands v l) → Calls σ σ' Before Change steps → Calls τ τ' Before Change steps
+calls_as {σ} {σ'} {τ} {τ'} {Before} {Change} {steps} one two from to calls = record {
+  adds = record {
+    seat_is = two ∙ (calls.adds.seat_is ∙ sym one);
+    added = λ v l stood met. subst (λ (s : Seat). τ'.stands (steps ++ v) (triples s.actor steps ++ l)) (sym one) (to (steps ++ v) (triples σ.seat.actor steps ++ l) (calls.adds.added v l (from v l stood) met));
+    agreed = λ v l stood met. subst (λ (s : Seat). Agreed s.profile v steps) (sym one) (calls.adds.agreed v l (from v l stood) met);
+  };
+  leads = subst (λ (s : Seat). Leads s.profile Before Change steps) (sym one) calls.leads;
 }
 
 -- ---- the last look

@@ -1,4 +1,6 @@
 mod Benched
+mod Beside
+mod Pairs
 mod Sitting
 mod ByCrew
 mod Dealt
