@@ -8,6 +8,7 @@ pub mod Indexes
 pub mod Refusals
 pub mod Rests
 pub mod Replays
+pub mod Stages
 pub mod Fit
 pub mod Names
 pub mod Calls

@@ -14,7 +14,7 @@ use Rattle.pas_cache.specs.Caches.{Cached}
 use Rattle.pas_guard.specs.Keepers.{Call, MakesCalls}
 use Rattle.pas_guard.specs.declared.book.Guard.{Guard}
 pub use Rattle.pas_trace.specs.Acts.{region_of, threads_of, keepers_of, acts_of_plan}
-use Rattle.pas_answers.specs.{Answers.Caches, Answers.Books, Answers.Progress, Reaching.Reaches, Phases.AreInPhases, Indexes.GoByIndexes}
+use Rattle.pas_answers.specs.{Answers.Caches, Answers.Books, Answers.Progress, Reaching.Reaches, Phases.AreInPhases, Indexes.GoByIndexes, Stages.Stage, Stages.stages_of, Stages.GoByStages}
 use Rattle.pas_answers.specs.{Refusals.AreRefusalsTrue, Rests.RestBetween, Ways.Way, Ways.IsOneOrder, Ways.arranged}
 
 -- the phases of a plan, as lists of operations
@@ -41,9 +41,13 @@ at_start = record { names = []; caches = empty_caches; books = empty_books; epoc
 abbrev pub KeepersMakeCalls : Profile → ℕ → Whole → Type 0
 KeepersMakeCalls f threads whole = (keeper : ℕ) → threads < keeper → (calls : List Call) × (guards : List Guard) × MakesCalls f keeper calls guards (part keeper whole)
 
+-- the stages of a plan
+abbrev pub stages_of_plan : Plan → List Stage
+stages_of_plan plan = stages_of (threads_of plan) (keepers_of plan) (phases_of plan)
+
 -- A REPLAY of a plan, for both ways: a list of steps and the records of it. The acts of the plan are answered one after the other, each by its actor's own
 -- steps and cache. `reached` is how far they come, with the list of these steps and their records. The list of the replay has of each actor the same
--- part as that one, phase by phase, and its records are those, in the order of this way. The list is legal, and at its end all actors have nothing and owe nothing; its
+-- part as that one, stage by stage, and in each stage the steps of each worker's actors in the same order; and its records are those, in the order of this way. The list is legal, and at its end all actors have nothing and owe nothing; its
 -- keepers make nothing but calls of `raise` and `sweep`, so that the outer pages of their guards stay bare (`laws::guards_stay_bare`). Its
 -- visible events are a run of the allocator's machine, whose pages have the deeds that the threads know. The stamp of each page is the greatest epoch of
 -- an end there, and the marks of the pages are true. In the order of the text a request was refused only where nothing could serve it, for the true
@@ -54,6 +58,7 @@ pub record IsReplay (way : Way) (plan : Plan) (whole : Whole) (records : List Re
   pub answers : Reaches (region_of plan) (acts_of_plan plan) at_start reached
   pub one_order : IsOneOrder way reached.list whole
   pub phases : AreInPhases (region_of plan) (acts_of_plan plan) at_start reached answers whole
+  pub stages : GoByStages (region_of plan) (stages_of_plan plan) at_start reached [] whole
   pub records_are : records ≡ arranged way (region_of plan).threads reached.records
   pub legal : Legal (region_of plan) whole
   pub nothing : (k : ℕ) → HasNothing (part k whole)

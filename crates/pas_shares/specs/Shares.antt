@@ -9,15 +9,12 @@ use Rattle.pas_report.specs.declared.record.Record.{Record}
 use Rattle.pas_trace.specs.Acts.{Act, Guards, StopsIdle, MarksPhase, MarksClose, operation_in, stepper_of, is_active, idle_threads, acts_of_ops, own_acts}
 use Rattle.pas_trace.specs.Acts.{scavenger_acts}
 pub use Rattle.pas_trace.specs.Acts.{asked_after_act, asked_after_acts}
+pub use Rattle.pas_answers.specs.Stages.{Owners, thread_in, owner_in, in_hands}
+use Rattle.pas_core.specs.Orders.{steps_by}
 use Rattle.pas_answers.specs.{Answers.Named, Answers.standing_for, Answers.Progress, Calls.AreKnown, Calls.OnlyAsked, Reaching.Reaches, Fit.AreFit}
 use Rattle.pas_answers.specs.Ways.{OnThreads, AreSpoken, records_by, by_actors, arranged}
 
 -- ---- workers
--- Each actor is in the hands of one worker throughout a phase: a thread that has an operation in it is its own worker, and the scavenger has
--- itself and each thread that is idle; a keeper is in the hands of its thread's worker. `owner` says whose hands these are.
-abbrev pub Owners : Type 0
-Owners = ℕ → ℕ
-
 -- the actor whose worker makes the act: the scavenger's stops idle threads, each other act is its stepper's. A mark is of nobody, and stands between
 -- two phases.
 abbrev pub actor_of_act : Act → ℕ
@@ -58,9 +55,10 @@ NoneAsks n [] = Unit {0}
 NoneAsks n (act ∷ acts) = (Asks n act → ⊥) × NoneAsks n acts
 
 -- ---- shares
--- A worker's own progress is its share of how far the replay has come: of each actor in its hands it has the same part, cache, guards and records, and what
--- it knows of names is so. The epoch that was read for an idle operation is in the scavenger's hands.
+-- A worker's own progress is its share of how far the replay has come: of each actor in its hands it has the same part, cache, guards and records, and of all of them
+-- together the same steps in the same order; and what it knows of names is so. The epoch that was read for an idle operation is in the scavenger's hands.
 pub record IsShareOf (owner : Owners) (w : ℕ) (own p : Progress) : Type 0 where
+  pub steps : steps_by (in_hands owner w) own.list ≡ steps_by (in_hands owner w) p.list
   pub parts : (k : ℕ) → owner k ≡ w → part k own.list ≡ part k p.list
   pub caches : (k : ℕ) → owner k ≡ w → own.caches k ≡ p.caches k
   pub books : (k : ℕ) → owner k ≡ w → own.books k ≡ p.books k
@@ -97,14 +95,6 @@ abbrev pub AreKnownAfter : Type 0
 AreKnownAfter = (f : Profile) (acts : List Act) (asked : List ℕ) (p p' : Progress) → Reaches f acts p p' → AreKnown asked p.names → AreKnown (asked_after_acts acts asked) p'.names
 
 -- ---- the acts of a phase
--- the thread of an actor, of which there are so many: a thread's own, and of a keeper the one whose guards it keeps
-abbrev pub thread_in : ℕ → ℕ → ℕ
-thread_in threads k = if nat_le k threads then k else k - threads
-
--- whose hands an actor is in, in a phase of these operations
-abbrev pub owner_in : ℕ → List Op → Owners
-owner_in threads ops k = if is_active ops (thread_in threads k) then thread_in threads k else 0
-
 -- the keeper of a guarded request of these operations has its thread's place behind so many threads
 abbrev pub AreKeptBehind : ℕ → List Op → Type 0
 AreKeptBehind threads = AllByRecursion (λ op. MatchOption (keeper_in op.what) (Unit {0}) (λ keeper. keeper ≡ threads + op.actor))
