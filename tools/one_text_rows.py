@@ -24,18 +24,18 @@ from pathlib import Path
 sys.dont_write_bytecode = True
 HERE = Path(__file__).resolve().parent
 sys.path.insert(0, str(HERE))
+import fold_imports
 from random_trace import CLASSES, Trace
 
 TRANSCRIPTS = {".trace": ".transcript", ".in": ".out"}
 
-HEADER = """use Rattle.std.specs.Prelude.{◌≡◌, %scodes}
-use Rattle.std.proofs.Common.{refl}
+HEADER = """use Rattle.std.proofs.Common.{◌≡◌, %scodes, refl}
 %suse Rattle.pas_one_text.proofs.Seen.{%s}
 """
-KINDS = "use Rattle.pas_profile.specs.declared.directory.Kind.TheVariants as Kind\n"
+KINDS = "use Rattle.pas_profile.specs.declared.directory.Kind.{Kind}\n"
 GRAINS = "use Rattle.pas_report.specs.Reports.{grains_that}\n"
 COUNTS = "use Rattle.pas_one_text.specs.Pages.{each_of}\nuse Rattle.pas_one_text.specs.Passes.{free_bits}\n"
-REASONS = "use Rattle.pas_trace.specs.declared.fault.Reason.TheVariants as Reason\n"
+REASONS = "use Rattle.pas_trace.specs.declared.fault.Reason.{Reason}\n"
 
 
 class Fault(Exception):
@@ -147,7 +147,8 @@ def file_text(comment: str, rows: list[str]) -> str:
     wanted = {KINDS: "Kind." in body, GRAINS: "seen" in used, REASONS: "faulty" in used, COUNTS: "shown" in used}
     uses = "".join(line for line, is_wanted in wanted.items() if is_wanted)
     plain = "true, false, [], ◌∷◌, " if "shown" in used else ""
-    return f"-- {comment}\n" + HEADER % (plain, uses, ", ".join(used)) + "\n" + body
+    folder = fold_imports.Folder(fold_imports.Kit(None), fold_imports.WIDTH, fold_imports.MOST_BY_PATH)
+    return folder.rewritten(f"-- {comment}\n" + HEADER % (plain, uses, ", ".join(used)) + "\n" + body, is_code=False, is_proof=True)
 
 
 def worked(word: str, prefix: str, files: list[Path]) -> str:
