@@ -6,36 +6,32 @@ file for proofs/.
     tools/one_text_rows.py seen PREFIX FILE..             rows of these traces, whose transcripts lie beside them:
                                                           NAME.trace and NAME.transcript, or NAME.in and NAME.out
     tools/one_text_rows.py counted PREFIX FILE..          the same in fewer steps of the kernel, for long traces
-    tools/one_text_rows.py random PAS FIRST COUNT         rows of random traces with so many seeds from the first on, by
-                                                          the built program PAS
-    tools/one_text_rows.py trace SEED                     the random trace of this seed, as a text
-
-tools/random_trace.py makes the random traces: the same seed gives the same trace everywhere.
+    tools/one_text_rows.py trace SEED                     the random trace of this seed, as a text, of which
+                                                          tests/random_orders.xz has the transcript
 """
 
 from __future__ import annotations
 
 import argparse
 import re
-import subprocess
 import sys
 from pathlib import Path
 
 sys.dont_write_bytecode = True
 HERE = Path(__file__).resolve().parent
 sys.path.insert(0, str(HERE))
+import fold_imports
 from random_trace import CLASSES, Trace
 
 TRANSCRIPTS = {".trace": ".transcript", ".in": ".out"}
 
-HEADER = """use Rattle.std.specs.Prelude.{◌≡◌, %scodes}
-use Rattle.std.proofs.Common.{refl}
+HEADER = """use Rattle.std.proofs.Common.{◌≡◌, %scodes, refl}
 %suse Rattle.pas_one_text.proofs.Seen.{%s}
 """
-KINDS = "use Rattle.pas_profile.specs.declared.directory.Kind.TheVariants as Kind\n"
+KINDS = "use Rattle.pas_profile.specs.declared.directory.Kind.{Kind}\n"
 GRAINS = "use Rattle.pas_report.specs.Reports.{grains_that}\n"
 COUNTS = "use Rattle.pas_one_text.specs.Pages.{each_of}\nuse Rattle.pas_one_text.specs.Passes.{free_bits}\n"
-REASONS = "use Rattle.pas_trace.specs.declared.fault.Reason.TheVariants as Reason\n"
+REASONS = "use Rattle.pas_trace.specs.declared.fault.Reason.{Reason}\n"
 
 
 class Fault(Exception):
@@ -147,7 +143,8 @@ def file_text(comment: str, rows: list[str]) -> str:
     wanted = {KINDS: "Kind." in body, GRAINS: "seen" in used, REASONS: "faulty" in used, COUNTS: "shown" in used}
     uses = "".join(line for line, is_wanted in wanted.items() if is_wanted)
     plain = "true, false, [], ◌∷◌, " if "shown" in used else ""
-    return f"-- {comment}\n" + HEADER % (plain, uses, ", ".join(used)) + "\n" + body
+    folder = fold_imports.Folder(fold_imports.Kit(None), fold_imports.WIDTH, fold_imports.MOST_BY_PATH)
+    return folder.rewritten(f"-- {comment}\n" + HEADER % (plain, uses, ", ".join(used)) + "\n" + body, is_code=False, is_proof=True)
 
 
 def worked(word: str, prefix: str, files: list[Path]) -> str:
@@ -164,21 +161,6 @@ def worked(word: str, prefix: str, files: list[Path]) -> str:
     return file_text("The replays of worked traces, by computing.", rows)
 
 
-def transcript_by(program: Path, trace: str) -> str:
-    done = subprocess.run([program, "order"], input=trace.encode(), stdout=subprocess.PIPE)
-    if done.returncode:
-        raise Fault(f"{program} order ended with status {done.returncode}")
-    return done.stdout.decode()
-
-
-def random_rows(program: Path, first: int, count: int) -> str:
-    rows = []
-    for seed in range(first, first + count):
-        trace = Trace(seed).text()
-        rows.append(row_text(f"trace_{seed}", "counted", trace, transcript_by(program, trace)))
-    return file_text(f"The replays of the random traces {first} to {first + count - 1}, by computing.", rows)
-
-
 def main() -> None:
     parser = argparse.ArgumentParser(description=__doc__, formatter_class=argparse.RawDescriptionHelpFormatter)
     ways = parser.add_subparsers(dest="way", required=True)
@@ -186,18 +168,12 @@ def main() -> None:
         of_files = ways.add_parser(way, help=why)
         of_files.add_argument("prefix", help="with what the names of the rows begin")
         of_files.add_argument("files", type=Path, nargs="+", help="traces, with their transcripts beside them")
-    by_seeds = ways.add_parser("random", help="rows of random traces")
-    by_seeds.add_argument("program", type=Path, help="the built program")
-    by_seeds.add_argument("first", type=int, help="the first seed")
-    by_seeds.add_argument("count", type=int, help="how many")
     of_seed = ways.add_parser("trace", help="a random trace")
     of_seed.add_argument("seed", type=int)
     words = parser.parse_args()
     try:
         if words.way == "trace":
             text = Trace(words.seed).text()
-        elif words.way == "random":
-            text = random_rows(words.program, words.first, words.count)
         else:
             text = worked(words.way, words.prefix, words.files)
     except OSError as fault:

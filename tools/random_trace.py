@@ -1,5 +1,5 @@
-"""Random traces, on which the definition of the text of `pas order` is evaluated (tools/one_text_rows.py): the same
-seed gives the same trace everywhere."""
+"""Random traces, of which tests/random_orders.xz has what `pas order` writes: the same seed gives the same trace
+everywhere."""
 
 from __future__ import annotations
 

@@ -3,3 +3,4 @@ mod Rows
 mod Examples
 mod Faults
 mod Guarded
+mod Queue

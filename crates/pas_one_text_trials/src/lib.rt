@@ -1,2 +1,0 @@
-//! Random traces of the text of a replay, as theorems.
-#![tactic(auto)]
