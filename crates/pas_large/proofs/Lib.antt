@@ -8,7 +8,7 @@ pub mod Finds
 mod Named
 pub mod Allocates
 pub mod Outcomes
-mod Told
+pub mod Told
 mod ToldReasons
 mod ToldByDoor
 pub mod Alone

@@ -1,6 +1,6 @@
 -- On a desk that tells the whole state: what the looks of a search tell of it, and that no page of a usable run is lost or broken.
 use Rattle.std.proofs.Common.{◌≡◌, ◌≢◌, ℕ, ◌+◌, ◌*◌, ◌/◌, ◌%◌, ◌<◌, ◌==◌, Bool, true, false, ◌||◌, ◌&&◌, if◌then◌else◌, List, [], ◌∷◌, ◌++◌, inl, inr, refl, ap}
-use Rattle.std.proofs.Common.{sym, ◌∙◌, subst, arith, true≢false, eqb-true, eq-eqb}
+use Rattle.std.proofs.Common.{◌⊎◌, sym, ◌∙◌, subst, arith, true≢false, eqb-true, eq-eqb}
 use Rattle.std.proofs.{lemmas.Bool.false≢true, Math.Bool.or-false}
 use Rattle.pas_bits.specs.Bits.{has_bit}
 use Rattle.pas_profile.specs.{Directories.deed_word_of, Directories.number_of, Directories.IsKind, Layouts.same_word}
@@ -22,7 +22,7 @@ use Rattle.pas_core.proofs.Rights.{no_deed, free_without_deed}
 use Rattle.pas_scan.specs.Usable.{OfHere, WholeHere, ReadUsable, UnusableHere, ParksNotHere, IsFresh, MakesNoDeedHere}
 use Rattle.pas_scan.specs.Runs.{IsInRun, HasUnusable}
 use Rattle.pas_scan.proofs.LeftPages.{holds_none_by}
-use Rattle.pas_large.specs.Evidence.{LostRightHere, LostDeedHere, NotAll, FailsHere}
+use Rattle.pas_large.specs.Evidence.{LostRightHere, LostDeedHere, LostHere, BrokenHere, NotAll, FailsHere}
 use Rattle.pas_large.specs.Telling.{IsWholePage, IsUsablePage, IsUsableRun}
 
 -- ---- looks change no word
@@ -94,7 +94,7 @@ module _ (f : Profile) (k : ℕ) (l : Whole) (d : Directory) (p : ℕ) (steps : 
   }
 
 -- all grains of a usable page are free
-usable_free : (f : Profile) (d : Directory) (l : Whole) (p : ℕ) → Legal f l → IsUsablePage d l p → (b : ℕ) → b < 256 → free_of_page l p b ≡ true
+pub usable_free : (f : Profile) (d : Directory) (l : Whole) (p : ℕ) → Legal f l → IsUsablePage d l p → (b : ℕ) → b < 256 → free_of_page l p b ≡ true
 usable_free f d l p legal (inl none) b lt =
     let page : (p * 256 + b) / 256 ≡ p = omega (arith, lt) in
     let bit : b % 64 ≡ (p * 256 + b) % 64 = omega arith in
@@ -167,7 +167,7 @@ clean_since f k l d p (m ∷ more) legal (inl one) =
     clean_after k (way m.step m.answer p) (spot_of w p) (not_to_parked m.step m.answer p (reads_no_park d p m.step one.0)) (offered_clean k (number_of d) (spot_of w p) bit)
 clean_since f k l d p (m ∷ more) legal (inr h) = clean_after k (way m.step m.answer p) (spot_of (triples k more ++ l) p) (not_to_parked m.step m.answer p h.0) (clean_since f k l d p more legal.1 h.1)
 
-clean_fresh : (f : Profile) (k : ℕ) (l : Whole) (d : Directory) (p : ℕ) (xs : List Made) → Legal f (triples k xs ++ l) → is_clean k (spot_of l p) ≡ true → IsFresh d p xs → is_clean k (spot_of (triples k xs ++ l) p) ≡ true
+pub clean_fresh : (f : Profile) (k : ℕ) (l : Whole) (d : Directory) (p : ℕ) (xs : List Made) → Legal f (triples k xs ++ l) → is_clean k (spot_of l p) ≡ true → IsFresh d p xs → is_clean k (spot_of (triples k xs ++ l) p) ≡ true
 clean_fresh f k l d p xs legal first (inl never) = clean_own k l p xs never first
 clean_fresh f k l d p xs legal first (inr since) = clean_since f k l d p xs legal since
 
@@ -211,7 +211,7 @@ none_kept : (f : Profile) (k : ℕ) (l : Whole) (p : ℕ) (xs : List Made) → L
 none_kept f k l p [] legal made none = none
 none_kept f k l p (m ∷ more) legal made none = still_none (triples k more ++ l) (epoch_of (part k (triples k more ++ l))) m.step m.answer p legal.0.answer_is made.0 (none_kept f k l p more legal.1 made.1 none)
 
-none_read : (f : Profile) (k : ℕ) (l : Whole) (p : ℕ) (xs : List Made) → Legal f (triples k xs ++ l) → Once (NoDeedHere p) xs → word_after l (Word.Deed p) ≡ 0
+pub none_read : (f : Profile) (k : ℕ) (l : Whole) (p : ℕ) (xs : List Made) → Legal f (triples k xs ++ l) → Once (NoDeedHere p) xs → word_after l (Word.Deed p) ≡ 0
 none_read f k l p [] legal h = absurd h
 none_read f k l p (m ∷ more) legal (inl h) = deed_none k l p more (sym (deed_told (triples k more ++ l) p m.step m.answer h.0 legal.0.answer_is) ∙ h.1)
 none_read f k l p (m ∷ more) legal (inr h) = none_read f k l p more legal.1 h
@@ -225,16 +225,16 @@ lost_deed f k l d p m before legal lost =
 pub fewer_not_all : (r fewer : ℕ → Bool) → ((b : ℕ) → b < 256 → fewer b ≡ true → r b ≡ true) → NotAll r → NotAll fewer
 fewer_not_all r fewer less not all = not (λ b lt. less b lt (all b lt))
 
+-- a usable page is neither lost nor broken
+pub lost_never : (f : Profile) (k : ℕ) (l : Whole) (d : Directory) (p : ℕ) (m : Made) (before : List Made) → IsKind d.kind → Legal f (triples k (m ∷ before) ++ l) → LendsNone (m ∷ before)
+    → has_right (part k l) p ≡ false → IsUsablePage d l p → LostHere d p m before ⊎ BrokenHere p m before → ⊥
+lost_never f k l d p m before is legal lends none usable (inl (inl right)) = lost_right f k l d p m before is legal none usable right
+lost_never f k l d p m before is legal lends none usable (inl (inr deed)) = lost_deed f k l d p m before legal deed
+lost_never f k l d p m before is legal lends none usable (inr broken) =
+    unfit_entry NotAll f k l p (m ∷ before) fewer_not_all legal lends (inl broken) (usable_free f d l p (legal_before f k before l legal.1) usable)
+
 -- no run of usable pages fails
 pub fails_told : (f : Profile) (k : ℕ) (l : Whole) (d : Directory) (n first : ℕ) (xs : List Made) → IsKind d.kind → Legal f (triples k xs ++ l) → LendsNone xs → IsUsableRun d n l first → ((p : ℕ) → IsInRun first n p → has_right (part k l) p ≡ false) → Once (FailsHere d n first) xs → ⊥
 fails_told f k l d n first [] is legal lends usable lacks h = h
 fails_told f k l d n first (m ∷ more) is legal lends usable lacks (inr h) = fails_told f k l d n first more is legal.1 lends.1 usable lacks h
-fails_told f k l d n first (m ∷ more) is legal lends usable lacks (inl h) =
-    let page : ℕ = h.1.0 in
-    elim h.1.2 [
-      | inl lost ↦ elim lost [
-        | inl right ↦ lost_right f k l d page m more is legal (lacks page h.1.1) (usable page h.1.1) right
-        | inr deed ↦ lost_deed f k l d page m more legal deed
-      ]
-      | inr broken ↦ unfit_entry NotAll f k l page (m ∷ more) fewer_not_all legal lends (inl broken) (usable_free f d l page (legal_before f k more l legal.1) (usable page h.1.1))
-    ]
+fails_told f k l d n first (m ∷ more) is legal lends usable lacks (inl h) = lost_never f k l d h.1.0 m more is legal lends (lacks h.1.0 h.1.1) (usable h.1.0 h.1.1) h.1.2

@@ -11,8 +11,9 @@ use Rattle.pas_core.proofs.{Deeds.known_is, OneActor.LendsNone, OneActor.lends_n
 use Rattle.pas_scan.specs.Runs.{IsInRun}
 use Rattle.pas_search.specs.Kinds.{ReturnsDuly}
 use Rattle.pas_large.specs.{Evidence.HasFailed, Finds.MayFind, Finds.FoundRun, Finds.finding, Telling.IsUsablePage, Telling.IsLowestRun}
+use Rattle.pas_large.proofs.Told.{lost_never}
 use Rattle.pas_large.proofs.Outcomes.{MadeOf}
-use Rattle.pas_same_text.proofs.PagesRead.{usable_was, lost_never, bad_never}
+use Rattle.pas_same_text.proofs.PagesRead.{usable_was, bad_never}
 
 -- each deed that was made is of the directory and of a page of the run
 abbrev pub DeedsInRun : Directory → ℕ → ℕ → List Made → Type 0
@@ -38,7 +39,7 @@ module _ (f : Profile) (k : ℕ) (l : Whole) (d : Directory) (n : ℕ) (of : IsD
       let first : Legal f l = legal_before f k xs l legal.1 in
       let page : ℕ = h.1.0 in
       let usable : IsUsablePage d l page = usable_was f k l d page xs of.kind legal.1 lends.1 due.1 (h.0 page h.1.1) in
-      lost_never f k l d page of.kind first (lacks_usable first page usable) usable m xs legal lends h.1.2
+      lost_never f k l d page m xs of.kind legal lends (lacks_usable first page usable) usable h.1.2
 
   module _ (xs : List Made) (legal : Legal f (triples k xs ++ l)) (kinds : Only finding xs) (due : Always ReturnsDuly xs) (first : ℕ) (found : FoundRun f d n xs first) where
     lends : LendsNone xs
