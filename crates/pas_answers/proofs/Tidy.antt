@@ -106,7 +106,7 @@ record PagesDone (g n k : ℕ) (v : View) : Type 0 where
   kept : KeptPart v
   pending : IsPending g n k v
 
-first_page : (g k : ℕ) → first_on g (g / 256 + k) / 256 ≡ g / 256 + k
+pub first_page : (g k : ℕ) → first_on g (g / 256 + k) / 256 ≡ g / 256 + k
 first_page g k = omega arith
 
 others_stay : (x was : Bool) → (if x then false else was) ≡ true → (x ≡ false) × (was ≡ true)

@@ -3,6 +3,8 @@ use Rattle.std.proofs.Common.{◌≡◌, ℕ, ◌+◌, ◌*◌, ◌/◌, ◌%◌
 use Rattle.std.proofs.Common.{sym, ◌∙◌, subst, arith, append_assoc, append-nil, length-append, true≢false, ◌-◌, ◌^◌, map, reverse, max}
 use Rattle.std.specs.List.{AllByRecursion}
 use Rattle.std.proofs.{lemmas.List.length-map, lemmas.List.length-reverse, lemmas.Option.same_Some, Math.Nat.zero-mod}
+use Rattle.pas_large.proofs.Outcomes.{of_directory}
+use Rattle.pas_guard.proofs.Raises.{fits_find}
 use Rattle.pas_bits.specs.Runs.{in_run}
 use Rattle.pas_bitfit.proofs.Aligned.{stands_aligned}
 use Rattle.pas_profile.specs.{Blocks.address_of, Blocks.grain_of, Blocks.length_of, Classes.IsAlignment, Routes.room_by}
@@ -82,12 +84,6 @@ lowers_all {σ} {book = book} {book' = book'} s room size =
     }
 
 -- ---- what a raise made
-may_find : (f : Profile) (d : Directory) (guards : List Guard) (v : View) → FitsBook f guards v → MayFind d v
-may_find f d guards v fits = record { lacks = λ p of. fits.rights p; clear = fits.clear }
-
-made_of : (d : Directory) (n : ℕ) (P : ℕ → Type 0) (steps : List Made) → DeedsOf d n P steps → MadeOf d steps
-made_of d n P steps deeds = always_map _ (λ m before. (p : ℕ) (e : Directory) → m.step ≡ Deed p e → m.answer ≡ 0 → e ≡ d) steps (λ m before h p e same z. (h p e same z).0) deeds
-
 deed_sought : (d : Directory) (k : ℕ) (s : Step) (a : ℕ) (e : Event) → is_in seeking (kind_of s) ≡ true → ((p : ℕ) (x : Directory) → s ≡ Deed p x → a ≡ 0 → x ≡ d) → ComesOf k s a e → IsDeedOf d e
 deed_sought d k s a (Event.Deed j p x) is made comes = subst (λ y. IsDeedOf d (Event.Deed j p y)) (sym (made p x comes.step.0 comes.step.1)) (IsDeedOf.Deeds j p)
 deed_sought d k s a e is made comes = absurd (true≢false (sym is ∙ ap (is_in seeking) comes.kind))
@@ -137,8 +133,8 @@ module _ (f : Profile) (heap n : ℕ) (guards guards' : List Guard) (steps : Lis
 
   none_ends : Raised None → (k : ℕ) (v : View) → FitsBook f guards v → Agreed f v steps → AllByRecursion (IsDeedOf d) (events_by k v steps)
   none_ends is k v fits agreed =
-      let deeds = is.outcome.found.deeds v (may_find f d guards v fits) (subst (Agreed f v) (none_is is) agreed) in
-      subst (λ (xs : List Made). AllByRecursion (IsDeedOf d) (events_by k v xs)) (sym (none_is is)) (deeds_sought d is.searched is.kinds (made_of d (n + 2) _ is.searched deeds) k v)
+      let deeds = is.outcome.found.deeds v (fits_find f d guards v fits) (subst (Agreed f v) (none_is is) agreed) in
+      subst (λ (xs : List Made). AllByRecursion (IsDeedOf d) (events_by k v xs)) (sym (none_is is)) (deeds_sought d is.searched is.kinds (of_directory d (n + 2) _ is.searched deeds) k v)
 
   -- ---- where it gave a block
   module _ (block : Block) (is : Raised (Some block)) where
@@ -182,7 +178,7 @@ module _ (f : Profile) (heap n : ℕ) (guards guards' : List Guard) (steps : Lis
     deeds_known : (v : View) → FitsBook f guards v → Agreed f v steps → (g : ℕ) → in_run (grain_of block.name) (length_of block) g ≡ true → KnowsDeed (g / 256) d (steps ++ v)
     deeds_known v fits agreed g inside =
         let all = subst (Agreed f v) is.steps_are agreed in
-        let span = up.found.got.from v (may_find f d guards v fits) (agreed_later f v is.after is.searched all) in
+        let span = up.found.got.from v (fits_find f d guards v fits) (agreed_later f v is.after is.searched all) in
         let page : in_span (up.first + 1) (up.first + 1 + n) (g / 256) ≡ true = sym (run_is d (up.first + 1) n up.word g) ∙ ap (λ (b : Block). in_run (grain_of b.name) (length_of b) g) (sym up.block_is) ∙ inside in
         let at = in_parts (up.first + 1) (up.first + 1 + n) (g / 256) page in
         let before = span.got.deeds (g / 256) (span_in up.first (up.first + (n + 2)) (g / 256) (omega (arith, at.0)) (omega (arith, at.1))) in
@@ -201,7 +197,7 @@ module _ (f : Profile) (heap n : ℕ) (guards guards' : List Guard) (steps : Lis
           events = events_are k v;
           prepared = all_both (IsPreparing d) (events_by k (is.searched ++ v) up.backs) (events_by k v is.searched) (backs_only d up.backs (raised_backs up) k (is.searched ++ v))
               (all_map (IsDeedOf d) (IsPreparing d) (events_by k v is.searched) (deed_prepares d)
-              (deeds_sought d is.searched is.kinds (made_of d (n + 2) _ is.searched (up.found.deeds v (may_find f d guards v fits) (agreed_later f v is.after is.searched (subst (Agreed f v) is.steps_are agreed)))) k v));
+              (deeds_sought d is.searched is.kinds (of_directory d (n + 2) _ is.searched (up.found.deeds v (fits_find f d guards v fits) (agreed_later f v is.after is.searched (subst (Agreed f v) is.steps_are agreed)))) k v));
         }
 
     stands_so : (align : ℕ) → IsAlignment align → address_of block.name % align ≡ 0

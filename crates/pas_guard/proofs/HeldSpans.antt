@@ -39,9 +39,6 @@ span_both d a b c low high span lacked second knows = record {
   lacked = λ p is. let at = in_parts a c p is in elim (cases_lt p b) [ inl below ↦ span.lacked p (span_in a b p at.0 below) | inr above ↦ lacked p above at.1 ];
 }
 
-pub out_fewer : (a b c p : ℕ) → b ≤ c → in_span a c p ≡ false → in_span a b p ≡ false
-out_fewer a b c p le out = grind (arith, nat_tests)
-
 pub out_later : (a b c p : ℕ) → a ≤ b → in_span a c p ≡ false → in_span b c p ≡ false
 out_later a b c p le out = grind (arith, nat_tests)
 

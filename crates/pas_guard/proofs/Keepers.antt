@@ -2,6 +2,7 @@
 use Rattle.std.proofs.Common.{◌≡◌, ℕ, zero, suc, ◌+◌, ◌/◌, ◌<◌, ◌==◌, Bool, true, false, ◌||◌, if◌then◌else◌, ◌⊎◌, List, [], ◌∷◌, ◌++◌, length, inl, inr, refl}
 use Rattle.std.proofs.Common.{ap, sym, ◌∙◌, subst, arith, append_assoc, append-nil, true≢false, Option, Some, None, Contains, slice_index_or, eqb-true, eq-eqb}
 use Rattle.std.proofs.lemmas.{Bool.cases_Bool, Bool.Decides.nat_tests, List.Elements.Contains-append_right, List.Elements.Contains-push_cases}
+use Rattle.std.proofs.lemmas.Bool.{or_right}
 use Rattle.pas_profile.specs.{Profiles.IsValid, Blocks.address_of}
 use Rattle.pas_profile.specs.declared.{directory.Directory.Directory, name.Block.Block, profile.Profile.Profile}
 use Rattle.pas_report.specs.declared.record.Record.{Record}
@@ -127,22 +128,18 @@ first_or_later g gs x has = at_cases g gs x has.0 has.1 has.2
 pub none_in : (x : Guard) → Contains [] x → ⊥
 none_in x has = omega (arith, has.1)
 
-either_true : (a b : Bool) → b ≡ true → (a || b) ≡ true
-either_true true b h = refl
-either_true false b h = h
-
 pub low_outer : (g : Guard) → is_outer_of g g.low ≡ true
 low_outer g = ap (λ t. t || (g.high == g.low)) (eq-eqb g.low g.low refl)
 
 high_outer : (g : Guard) → is_outer_of g g.high ≡ true
-high_outer g = either_true (g.low == g.high) (g.high == g.high) (eq-eqb g.high g.high refl)
+high_outer g = or_right (g.low == g.high) (g.high == g.high) (eq-eqb g.high g.high refl)
 
 -- an outer page of one of them is one of the book
 pub outer_in : (gs : List Guard) (x : Guard) (p : ℕ) → Contains gs x → is_outer_of x p ≡ true → is_outer gs p ≡ true
 outer_in [] x p has is = absurd (none_in x has)
 outer_in (g ∷ gs) x p has is = elim (first_or_later g gs x has) [
   | inl same ↦ ap (λ y. is_outer_of y p || is_outer gs p) same ∙ ap (λ t. t || is_outer gs p) is
-  | inr later ↦ either_true (is_outer_of g p) (is_outer gs p) (outer_in gs x p later is)
+  | inr later ↦ or_right (is_outer_of g p) (is_outer gs p) (outer_in gs x p later is)
 ]
 
 -- those that stay up in a sweep were up before

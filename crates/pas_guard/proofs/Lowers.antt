@@ -1,6 +1,7 @@
 -- A guard is lowered.
 use Rattle.std.proofs.Common.{◌≡◌, ℕ, ◌/◌, ◌==◌, Bool, true, false, ◌||◌, if◌then◌else◌, ◌++◌, inl, refl, ap, sym, ◌∙◌, arith, length-append, eqb-true, eq-eqb}
 use Rattle.std.proofs.Common.{ne_eqb}
+use Rattle.std.proofs.lemmas.Bool.{or_right}
 use Rattle.pas_profile.specs.declared.{directory.Directory.Directory, profile.Profile.Profile}
 use Rattle.pas_rights.specs.{Puts.masked, Words.full}
 use Rattle.pas_scan.specs.Runs.{large_directory}
@@ -13,10 +14,6 @@ use Rattle.pas_steps.proofs.Called.{call_then, next_call, call_as, call_knows}
 use Rattle.pas_guard.specs.{Books.is_outer_of, Lowers.MayLower, Lowers.lowered, Lowers.Lowers}
 use Rattle.pas_guard.specs.declared.book.Guard.{Guard}
 
-either : (a b : Bool) → b ≡ true → (a || b) ≡ true
-either true b h = refl
-either false b h = h
-
 of_page : (page g : ℕ) → masked page full g ≡ true → page ≡ g / 256
 of_page page g is = eqb-true page (g / 256) (sym (on_full page g) ∙ is)
 
@@ -28,7 +25,7 @@ module _ (f : Profile) (guard : Guard) where
   is_low p e = ap (λ t. t || (guard.high == p)) (eq-eqb guard.low p e)
 
   is_high : (p : ℕ) → guard.high ≡ p → is_outer_of guard p ≡ true
-  is_high p e = either (guard.low == p) (guard.high == p) (eq-eqb guard.high p e)
+  is_high p e = or_right (guard.low == p) (guard.high == p) (eq-eqb guard.high p e)
 
   low_met : (v : View) → MayLower f guard v → MayPutAndReturn guard.low d full v
   low_met v met = record { deed = met.knows.low; puts = record { held = λ g here. met.held g (is_low (g / 256) (of_page guard.low g here)); stamped = (met.clear.on guard.low).stamped } }

@@ -3,6 +3,7 @@ use Rattle.std.proofs.Common.{ℕ, ◌+◌, ◌*◌, ◌/◌, ◌%◌, ◌<◌, 
 use Rattle.std.proofs.Common.{inr, ◌⊎◌, arith, Option, ◌≡◌, ◌≢◌, Some, None, ap, sym, subst, append_assoc, true≢false, length, length-append, eqb-true, eq-eqb}
 use Rattle.std.proofs.Common.{append-nil}
 use Rattle.std.proofs.lemmas.Bool.{cases_lt, cases_eq, cases_Bool}
+use Rattle.pas_large.proofs.Claims.{narrower}
 use Rattle.pas_bits.specs.Bits.{has_bit}
 use Rattle.pas_profile.specs.declared.{directory.Directory.Directory, profile.Profile.Profile, word.Word.Word}
 use Rattle.pas_rights.specs.{Puts.masked, PutsBack.giving_back, PutsBack.MayPutAndLeave, PutsBack.PutsAndLeaves, Words.full}
@@ -34,7 +35,7 @@ use Rattle.pas_large.proofs.Claims.{deeds_below, deeds_from}
 use Rattle.pas_large.proofs.Finds.{DeedOf, bad_later, alone_looks, knew, deeds_map, may_find}
 use Rattle.pas_large.proofs.Pages.{shows_both, below_both, below_wider, rise_both}
 use Rattle.pas_guard.proofs.Spans.{no_span, span_kept, span_beside, span_joined, claim_keeps}
-use Rattle.pas_guard.proofs.HeldSpans.{span_of_none, span_then, span_lost, span_both, out_fewer, out_later, but_first, span_slid}
+use Rattle.pas_guard.proofs.HeldSpans.{span_of_none, span_then, span_lost, span_both, out_later, but_first, span_slid}
 use Rattle.pas_guard.proofs.Returns.{rise_later, below_later, release_duly, first_duly}
 use Rattle.pas_guard.specs.Evidence.{BackedReadHere, HoldsRunWhole, OuterBackedHere, IsBad, OuterFailsHere, HasFailedOnce}
 use Rattle.pas_guard.specs.Guarded.{LeavesGuard}
@@ -511,7 +512,7 @@ module _ {σ σ1 : Standing} (d : Directory) (k from free next : ℕ) (so : Soug
                 new (λ p knows. knows_still f d p zs (xs ++ v) after knows));
           };
           shows = claim_shows claim;
-          lacks = λ p out. right_own p zs xs (so.lacks p (out_fewer from free next p last out)) ∙ ap (λ s. has_right s p) (sym (append-nil zs)) ∙ holds_it.lacks [] (λ q. refl) p (out_later from free next p first out);
+          lacks = λ p out. right_own p zs xs (so.lacks p (narrower from free next p last out)) ∙ ap (λ s. has_right s p) (sym (append-nil zs)) ∙ holds_it.lacks [] (λ q. refl) p (out_later from free next p first out);
           kinds = claim_kinds claim;
           rise = claim_rise claim;
           below = claim_below claim next last claim.made;

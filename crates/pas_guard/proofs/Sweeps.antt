@@ -2,6 +2,7 @@
 use Rattle.std.proofs.Common.{◌≡◌, ℕ, ◌+◌, ◌*◌, ◌/◌, ◌<◌, ◌≤◌, ◌==◌, Bool, true, false, ◌||◌, if◌then◌else◌, ◌⊎◌, List, [], ◌∷◌, ◌++◌, length, inl, inr, refl}
 use Rattle.std.proofs.Common.{ap, sym, ◌∙◌, subst, arith, append_assoc, append-nil, length-append, true≢false, remove, slice_index_or, eqb-true, eq-eqb, ne_eqb}
 use Rattle.std.proofs.lemmas.Bool.{cases_Bool}
+use Rattle.std.proofs.lemmas.Bool.{or_from, or_parts, or_right}
 use Rattle.pas_profile.specs.{Profiles.IsPage, Blocks.address_of}
 use Rattle.pas_profile.specs.declared.profile.Profile.{Profile}
 use Rattle.pas_report.specs.declared.record.Record.{Record}
@@ -19,7 +20,7 @@ use Rattle.pas_guard.specs.Books.{is_outer_of, is_outer, AreApart, Each, IsGuard
 use Rattle.pas_guard.specs.Lowers.{MayLower, lowered, Lowers}
 use Rattle.pas_guard.specs.Sweeps.{is_over, life_look, LooksOver, lowered_record, SweptOne, Swept, sweeping, Sweeps}
 use Rattle.pas_guard.specs.declared.book.Guard.{Guard}
-use Rattle.pas_guard.proofs.Raises.{each_map}
+use Rattle.pas_guard.proofs.Raises.{each_map, other_guard}
 
 abbrev pub no_guard : Guard
 no_guard = record { low = 0; high = 0; block = record { name = record { address = record { 0 = 0 }; turn = 0 }; room = 0; heap = 0 } }
@@ -39,10 +40,6 @@ or_swap true true c = refl
 or_swap true false c = refl
 or_swap false b c = refl
 
-or_none : (a b : Bool) → (a || b) ≡ false → (a ≡ false) × (b ≡ false)
-or_none true b h = absurd (true≢false h)
-or_none false b h = (refl, h)
-
 outer_split : (ks rs : List Guard) (g : Guard) (p : ℕ) → is_outer (ks ++ g ∷ rs) p ≡ (is_outer_of g p || is_outer (ks ++ rs) p)
 outer_split [] rs g p = refl
 outer_split (k ∷ ks) rs g p = ap (λ t. is_outer_of k p || t) (outer_split ks rs g p) ∙ or_swap (is_outer_of k p) (is_outer_of g p) (is_outer (ks ++ rs) p)
@@ -51,28 +48,16 @@ each_split : (P : Guard → Type 0) (ks rs : List Guard) (g : Guard) → Each P 
 each_split P [] rs g h = h
 each_split P (k ∷ ks) rs g h = let rest = each_split P ks rs g h.1 in (rest.0, (h.0, rest.1))
 
-neither : (a b : Bool) → a ≡ false → b ≡ false → (a || b) ≡ false
-neither a b x y = ap (λ t. t || b) x ∙ y
-
-swapped : (a b : ℕ) → (a == b) ≡ false → (b == a) ≡ false
-swapped a b h = ne_eqb b a (λ e. true≢false (sym (eq-eqb a b (sym e)) ∙ h))
-
--- of two guards that are apart each has pages of its own
-turned : (a b : Guard) → is_outer_of a b.low ≡ false → is_outer_of a b.high ≡ false → (is_outer_of b a.low ≡ false) × (is_outer_of b a.high ≡ false)
-turned a b low high =
-    let x = or_none (a.low == b.low) (a.high == b.low) low in let y = or_none (a.low == b.high) (a.high == b.high) high in
-    (neither (b.low == a.low) (b.high == a.low) (swapped a.low b.low x.0) (swapped a.low b.high y.0), neither (b.low == a.high) (b.high == a.high) (swapped a.high b.low x.1) (swapped a.high b.high y.1))
-
 apart_split : (ks rs : List Guard) (g : Guard) → AreApart (ks ++ g ∷ rs) → AreApart (ks ++ rs) × (is_outer (ks ++ rs) g.low ≡ false) × (is_outer (ks ++ rs) g.high ≡ false)
 apart_split [] rs g h = (h.2, h.0, h.1)
 apart_split (k ∷ ks) rs g h =
     let rest = apart_split ks rs g h.2 in
-    let low = or_none (is_outer_of g k.low) (is_outer (ks ++ rs) k.low) (sym (outer_split ks rs g k.low) ∙ h.0) in
-    let high = or_none (is_outer_of g k.high) (is_outer (ks ++ rs) k.high) (sym (outer_split ks rs g k.high) ∙ h.1) in
-    let other = turned g k low.0 high.0 in (
+    let low = or_parts (is_outer_of g k.low) (is_outer (ks ++ rs) k.low) (sym (outer_split ks rs g k.low) ∙ h.0) in
+    let high = or_parts (is_outer_of g k.high) (is_outer (ks ++ rs) k.high) (sym (outer_split ks rs g k.high) ∙ h.1) in
+    let other = other_guard g k low.0 high.0 in (
       (low.1, high.1, rest.0),
-      neither (is_outer_of k g.low) (is_outer (ks ++ rs) g.low) other.0 rest.1,
-      neither (is_outer_of k g.high) (is_outer (ks ++ rs) g.high) other.1 rest.2,
+      or_from (is_outer_of k g.low) (is_outer (ks ++ rs) g.low) other.0 rest.1,
+      or_from (is_outer_of k g.high) (is_outer (ks ++ rs) g.high) other.1 rest.2,
     )
 
 -- its pages are those of no other
@@ -328,10 +313,6 @@ module _ {σ σ1 : Standing} (all : Bool) (guards up : List Guard) (place : ℕ)
       omega (arith, a, b, m, n)
 
 -- ---- guards that stay up
-or_right : (a b : Bool) → b ≡ true → (a || b) ≡ true
-or_right true b h = refl
-or_right false b h = h
-
 mine_not : (mine other : Bool) → other ≡ true → (mine ≡ true → other ≡ false) → mine ≡ false
 mine_not true other is not = absurd (true≢false (sym is ∙ not refl))
 mine_not false other is not = refl
@@ -339,7 +320,7 @@ mine_not false other is not = refl
 -- steps of a sweep are on pages of guards that go down
 one_steady : (t : Bool) (k : ℕ) (guard : Guard) (first : List Made) (kept after : List Guard) (said more : List Record) (g : ℕ) → SweptOne t k guard first kept after said more → is_outer_of guard (g / 256) ≡ false → StaysPut g first
 one_steady true k guard first kept after said more g h out =
-    let parts = or_none (guard.low == g / 256) (guard.high == g / 256) out in let low = h.0 in
+    let parts = or_parts (guard.low == g / 256) (guard.high == g / 256) out in let low = h.0 in
     subst (StaysPut g) (sym low.steps_are) (steady_both g low.high low.low
     (steady_on guard.high g low.high low.on_high (λ e. true≢false (sym (eq-eqb guard.high (g / 256) (sym e)) ∙ parts.1)))
     (steady_on guard.low g low.low low.on_low (λ e. true≢false (sym (eq-eqb guard.low (g / 256) (sym e)) ∙ parts.0))))
@@ -352,7 +333,7 @@ piece_steady guard word first rest steps g is one more = subst (StaysPut g) (sym
 none_steady : (all : Bool) (k : ℕ) (guards kept : List Guard) (said : List Record) (steps : List Made) (g : ℕ) → Swept all k guards kept said steps → is_outer guards (g / 256) ≡ false → StaysPut g steps
 none_steady all k [] kept said steps g h out = subst (StaysPut g) (sym h.2) tt
 none_steady all k (guard ∷ guards) kept said steps g h out =
-    let parts = or_none (is_outer_of guard (g / 256)) (is_outer guards (g / 256)) out in
+    let parts = or_parts (is_outer_of guard (g / 256)) (is_outer guards (g / 256)) out in
     piece_steady guard h.0 h.1 h.2 steps g h.7 (one_steady (all || is_over guard h.0) k guard h.1 kept h.3 said h.4 g h.5 parts.0) (none_steady all k guards h.3 h.4 h.2 g h.6 parts.1)
 
 -- those that stay up are of those that were

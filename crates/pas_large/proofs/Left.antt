@@ -183,7 +183,7 @@ hint_later m before xs empty page same = let e = empty page same in record {
   free = λ word lt. since_earlier (ReadsAllFree page word) (TakesNone page) (ReadsAllFree page word) (TakesNone page) before xs (λ n b r. r) (λ n b r. r) (e.free word lt);
 }
 
-hints_both : (ys xs : List Made) → Always HintsEmpty ys → Always HintsEmpty xs → Always HintsEmpty (ys ++ xs)
+pub hints_both : (ys xs : List Made) → Always HintsEmpty ys → Always HintsEmpty xs → Always HintsEmpty (ys ++ xs)
 hints_both ys xs = always_both HintsEmpty HintsEmpty ys xs (λ m before is. hint_later m before xs is)
 
 hints_none : (steps : List Made) → Only (Putting ∷ []) steps → Always HintsEmpty steps

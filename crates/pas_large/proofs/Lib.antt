@@ -1,4 +1,4 @@
-mod Left
+pub mod Left
 pub mod Pages
 pub mod Claims
 mod Refusals
@@ -12,4 +12,4 @@ pub mod Told
 mod ToldReasons
 mod ToldByDoor
 pub mod Alone
-mod Lifted
+pub mod Lifted

@@ -70,6 +70,9 @@ grain_bit l p word b small lt =
     ∙ ap (λ w. has_bit (word_after l (Word.Free ((p * 256 + (64 * word + b)) / 256) w)) b) (sym at)
     ∙ ap (has_bit (word_after l (free_word_at (p * 256 + (64 * word + b))))) (sym bit)
 
+pub of_page : (l : Whole) (page b : ℕ) → free_of_page l page b ≡ has_bit (word_after l (free_word_at (page * 256 + b))) ((page * 256 + b) % 64)
+of_page l page b = let bit : b % 64 ≡ (page * 256 + b) % 64 = omega arith in ap (λ n. has_bit (word_after l (free_word_at (page * 256 + b))) n) bit
+
 module _ (f : Profile) (k : ℕ) (l : Whole) (d : Directory) (p : ℕ) (steps : List Made) (legal : Legal f (triples k steps ++ l)) (only : Only looking steps) where
   of_told : Once (OfHere d p) steps → word_after l (Word.Deed p) ≡ deed_word_of d
   of_told = once_of (OfHere d p) f k l (word_after l (Word.Deed p) ≡ deed_word_of d) steps legal only (λ m before t ok looks x. sym (deed_told l p m.step m.answer x.0 t.is) ∙ x.1)

@@ -28,14 +28,11 @@ use Rattle.pas_scan.proofs.LeftPages.{holds_own}
 use Rattle.pas_search.specs.Kinds.{IsReturnOf, ReturnsDuly}
 use Rattle.pas_large.specs.Evidence.{NotAll, MissedHere, GotOf, LeftOrBroken}
 use Rattle.pas_large.specs.{Finds.MayFind, Pages.claiming_old, Telling.IsWholePage, Telling.IsUsablePage, Telling.IsToldLarge}
-use Rattle.pas_large.proofs.Told.{deed_told, free_told, grain_bit, clean_own, usable_clean, nowhere_else, lost_right, fewer_not_all}
+use Rattle.pas_large.proofs.Told.{of_page, deed_told, free_told, grain_bit, clean_own, usable_clean, nowhere_else, lost_right, fewer_not_all}
 
 -- ---- grains, where the actor gives and ends no block: one is free now or held by the call exactly where it was free at entry
 abbrev bit_of : Whole → ℕ → Bool
 bit_of l g = has_bit (word_after l (free_word_at g)) (g % 64)
-
-of_page : (l : Whole) (page b : ℕ) → free_of_page l page b ≡ bit_of l (page * 256 + b)
-of_page l page b = let bit : b % 64 ≡ (page * 256 + b) % 64 = omega arith in ap (λ n. has_bit (word_after l (free_word_at (page * 256 + b))) n) bit
 
 takes_same : (k : ℕ) (t : Bool) (o : Place) (bit held : Bool) → Fits k (if t then Gets else Stays) o → bit ≡ is_free o → (free_moved (if t then Gets else Stays) bit || held_after (if t then Gets else Stays) held) ≡ (bit || held)
 takes_same k true o bit held fits free = sym (or_left bit held (free ∙ ap is_free fits))

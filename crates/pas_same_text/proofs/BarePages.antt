@@ -33,11 +33,6 @@ bare_on f k page [] l legal backs zero = zero
 bare_on f k page (m ∷ xs) l legal backs zero =
     stays_bare (epoch_of (part k (triples k xs ++ l))) m.step page (word_after (triples k xs ++ l) (Word.Backed page)) backs.0 (bare_on f k page xs l legal.1 backs.1 zero)
 
--- steps of kinds among which a back isn't
-pub none_backs : (ks : Kinds) (page : ℕ) (xs : List Made) → is_in ks Backing ≡ false → Only ks xs → BacksNot page xs
-none_backs ks page [] other only = tt
-none_backs ks page (m ∷ xs) other only = (λ e. true≢false (sym only.0 ∙ (ap (λ s. is_in ks (kind_of s)) e ∙ other)), none_backs ks page xs other only.1)
-
 -- nobody backs a page all of whose grains another holds
 pub held_unbacked : (f : Profile) (k j page : ℕ) (xs : List Made) (l : Whole) → IsValid f → Legal f (triples k xs ++ l) → (k == j) ≡ false → ((g : ℕ) → g / 256 ≡ page → holds (part j l) g ≡ true) → BacksNot page xs
 held_unbacked f k j page [] l valid legal other held = tt

@@ -2,6 +2,8 @@
 use Rattle.std.proofs.Common.{◌≡◌, ℕ, zero, suc, ◌+◌, ◌*◌, ◌/◌, ◌%◌, ◌^◌, ◌<◌, ◌≤◌, ◌==◌, nat_lt, Bool, true, false, not, ◌&&◌, if◌then◌else◌, List, [], ◌∷◌}
 use Rattle.std.proofs.Common.{◌++◌, Option, None, Some, inl, inr, refl, ap, sym, ◌∙◌, subst, arith, eq-eqb, true≢false}
 use Rattle.std.proofs.Math.Bool.{and-false}
+use Rattle.pas_answers.proofs.Tidy.{first_page}
+use Rattle.pas_large.proofs.Left.{hints_both}
 use Rattle.pas_bits.specs.Runs.{meets_page}
 use Rattle.pas_bits.proofs.Runs.{to_meet}
 use Rattle.pas_profile.specs.{Blocks.address_of, Blocks.grain_of, Blocks.length_of, Directories.directory_read, Directories.deed_word_of, Lives.live_word}
@@ -29,7 +31,7 @@ use Rattle.pas_free_log.proofs.OneEntry.{first_look, trying, AreIdle, idle_look,
 use Rattle.pas_one_text.specs.Frees.{is_other_room}
 use Rattle.pas_same_text.specs.Entries.{IsEntryReason}
 use Rattle.pas_same_text.proofs.{Flushes.visible_steps, ReturnHints.return_hints}
-use Rattle.pas_same_text.proofs.GivingBack.{IsMarked, marked_parts, none_marked, returns_marked, hints_none, hints_both}
+use Rattle.pas_same_text.proofs.GivingBack.{IsMarked, marked_parts, none_marked, returns_marked, hints_none}
 
 -- ---- the pages of a block that ended
 page_kinds : (g n : ℕ) (steps : List Made) → PageSteps g n steps → Only putting_back steps
@@ -64,9 +66,6 @@ page_marks g n q steps h marked =
       | inl first ↦ returns_marked (g / 256) q h.after (return_returns (g / 256) h.directory h.after h.returns) first
       | inr later ↦ absurd (none_marked (Putting ∷ Stamping ∷ LookDeed ∷ []) refl q rest others later)
     ]
-
-first_page : (g k : ℕ) → first_on g (g / 256 + k) / 256 ≡ g / 256 + k
-first_page g k = omega arith
 
 run_marks : (k g n q : ℕ) (steps : List Made) → PagesSteps k g n steps → IsMarked q steps → (g / 256 ≤ q) × (q < g / 256 + k)
 run_marks zero g n q steps h marked = absurd (subst (IsMarked q) h marked)

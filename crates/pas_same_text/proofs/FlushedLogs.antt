@@ -4,6 +4,7 @@ use Rattle.std.proofs.Common.{take, Option, None, Some, inl, inr, refl, ap, sym,
 use Rattle.std.proofs.Common.{eq-eqb}
 use Rattle.std.proofs.lemmas.{Bool.or_left, Bool.or_right, Bool.Decides.nat_tests, Grind.reverse_onto, Option.same_Some, Option.none-some}
 use Rattle.std.specs.List.{flat_map}
+use Rattle.pas_large.proofs.Left.{hints_both}
 use Rattle.pas_bits.specs.Runs.{meets_page}
 use Rattle.pas_profile.specs.{Blocks.address_of, Blocks.grain_of, Blocks.length_of, Profiles.IsValid, Profiles.IsPage}
 use Rattle.pas_profile.specs.declared.{directory.Directory.Directory, event.Event.Event, name.Name.Name, profile.Profile.Profile, word.Word.Word}
@@ -34,7 +35,7 @@ use Rattle.pas_same_text.proofs.EntryEvents.{reject_text, end_text, reject_shown
 use Rattle.pas_same_text.proofs.EntrySteps.{IsEndOfBlock, found_block, block_marked, name_same, entry_kinds, entry_events, entry_hints, after_marked}
 use Rattle.pas_same_text.proofs.EntrySteps.{read_directory, reason_is}
 use Rattle.pas_same_text.proofs.GivenBack.{Returns, returns_nothing, returns_then, returns_like, has_both, page_there}
-use Rattle.pas_same_text.proofs.GivingBack.{IsMarked, marked_parts, none_marked, hints_none, hints_both}
+use Rattle.pas_same_text.proofs.GivingBack.{IsMarked, marked_parts, none_marked, hints_none}
 use Rattle.pas_same_text.proofs.Tests.{has_filtered}
 
 -- ---- what is noted

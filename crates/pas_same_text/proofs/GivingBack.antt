@@ -154,12 +154,6 @@ offer_marks q (m ∷ xs) (inl h) = inl (ap (is_mark q) h.1 ∙ eqb_itself q)
 offer_marks q (m ∷ xs) (inr h) = inr (offer_marks q xs h)
 
 -- ---- a hint rests on looks that read the page as backed and empty
-hints_later : (m : Made) (before xs : List Made) → HintsEmpty m before → HintsEmpty m (before ++ xs)
-hints_later m before xs h page is = (due_later m before xs (h, λ p word mask g same here. absurd (not_put p word mask (sym is ∙ same)))).0 page is
-  where
-    not_put : (p word mask : ℕ) → Hint page ≡ Put p word mask → ⊥
-    not_put p word mask e = cc
-
 pub hint_step : (m : Made) (before : List Made) → is_in (Hinting ∷ []) (kind_of m.step) ≡ false → HintsEmpty m before
 hint_step m before other page same = absurd (true≢false (ap (λ s. is_in (Hinting ∷ []) (kind_of s)) (sym same) ∙ other))
 
@@ -167,10 +161,6 @@ hint_step m before other page same = absurd (true≢false (ap (λ s. is_in (Hint
 pub hints_none : (ks : Kinds) (xs : List Made) → apart ks (Hinting ∷ []) ≡ true → Only ks xs → Always HintsEmpty xs
 hints_none ks [] out only = tt
 hints_none ks (m ∷ xs) out only = (hint_step m xs (in_apart ks (Hinting ∷ []) (place_of (kind_of m.step)) out only.0), hints_none ks xs out only.1)
-
-pub hints_both : (ys xs : List Made) → Always HintsEmpty ys → Always HintsEmpty xs → Always HintsEmpty (ys ++ xs)
-hints_both [] xs first rest = rest
-hints_both (y ∷ ys) xs first rest = (hints_later y ys xs first.0, hints_both ys xs first.1 rest)
 
 pub hints_of : (xs : List Made) → Always GivesDuly xs → Always HintsEmpty xs
 hints_of [] due = tt

@@ -24,14 +24,11 @@ use Rattle.pas_scan.specs.Usable.{OfHere, WholeHere, ReadUsable, ParksNotHere, I
 use Rattle.pas_search.specs.Kinds.{IsReturnOf, ReturnsDuly}
 use Rattle.pas_large.specs.Evidence.{NotAll, LostRightHere, LostDeedHere, LostHere, BrokenHere, BadHere}
 use Rattle.pas_large.specs.Telling.{IsWholePage, IsUsablePage}
-use Rattle.pas_large.proofs.{Outcomes.MadeOf, Told.eligible_told, Told.free_told, Told.grain_bit, Told.usable_free, Told.clean_fresh, Told.usable_clean, Told.nowhere_else, Told.none_read, Told.lost_never}
+use Rattle.pas_large.proofs.{Outcomes.MadeOf, Told.eligible_told, Told.free_told, Told.grain_bit, Told.of_page, Told.usable_free, Told.clean_fresh, Told.usable_clean, Told.nowhere_else, Told.none_read, Told.lost_never}
 use Rattle.pas_same_text.specs.Words.{free_bit}
 use Rattle.pas_same_text.proofs.{GivingBack.offer_one, SearchMarks.stays_used, SearchMarks.stays_free}
 
 -- ---- what readings tell of words
-of_page : (l : Whole) (page b : ℕ) → free_of_page l page b ≡ free_bit l (page * 256 + b)
-of_page l page b = let bit : b % 64 ≡ (page * 256 + b) % 64 = omega arith in ap (λ (n : ℕ). has_bit (word_after l (free_word_at (page * 256 + b))) n) bit
-
 -- a bit of a free word as it was read
 bit_read : (l : Whole) (p word b : ℕ) (s : Step) (a : ℕ) → word < 4 → b < 64 → ReadsFree p word s → a ≡ word_after l (target s) → has_bit a b ≡ free_bit l (p * 256 + (64 * word + b))
 bit_read l p word b s a small lt reads is = ap (λ (n : ℕ). has_bit n b) (free_told l p word s a reads is) ∙ (grain_bit l p word b small lt ∙ of_page l p (64 * word + b))

@@ -3,6 +3,7 @@ use Rattle.std.proofs.Common.{◌≡◌, ◌≢◌, ℕ, zero, suc, ◌/◌, ◌
 use Rattle.std.proofs.Common.{None, Some, inl, inr, refl, ap, sym, ◌∙◌, subst, arith, true≢false, ne_eqb, w64}
 use Rattle.std.proofs.lemmas.Bool.{false≢true, cases_eq}
 use Rattle.std.specs.Int.{bit_not}
+use Rattle.pas_large.proofs.Told.{looks_same}
 use Rattle.pas_bits.specs.Bits.{has_bit}
 use Rattle.pas_profile.specs.{Directories.number_of, Directories.deed_word_of, Layouts.same_word, Profiles.IsDirectoryOf}
 use Rattle.pas_profile.specs.declared.{directory.Directory.Directory, profile.Profile.Profile, word.Word.Word}
@@ -21,14 +22,6 @@ use Rattle.pas_scavenger.specs.{Pages.first_looks, Pages.AsksSteps, Readings.tak
 use Rattle.pas_same_text.proofs.PassedPages.{first_only}
 
 -- ---- looks change no word
-look_one : (e : ℕ) (s : Step) (x : Word) (old : ℕ) → is_in looking (kind_of s) ≡ true → (if same_word (target s) x then new_value e s old else old) ≡ old
-look_one e (Look y) x old is = looked (same_word y x) old
-look_one e s x old is = absurd (false≢true is)
-
-pub looked_word : (k : ℕ) (xs : List Made) (l : Whole) (x : Word) → Only looking xs → word_after (triples k xs ++ l) x ≡ word_after l x
-looked_word k [] l x only = refl
-looked_word k (m ∷ xs) l x only = look_one (epoch_of (part k (triples k xs ++ l))) m.step x (word_after (triples k xs ++ l) x) only.0 ∙ looked_word k xs l x only.1
-
 -- ---- a word that steps of some kinds leave as it was
 kept_over : (x : Word) (ks ls : Kinds) → ((e : ℕ) (s : Step) (old : ℕ) → is_in ls (kind_of s) ≡ false → (if same_word (target s) x then new_value e s old else old) ≡ old) → apart ks ls ≡ true
     → (k : ℕ) (xs : List Made) (l : Whole) → Only ks xs → word_after (triples k xs ++ l) x ≡ word_after l x
@@ -64,7 +57,7 @@ pub looks_told : (f : Profile) (k : ℕ) (l : Whole) (page : ℕ) (answers : ℕ
 looks_told f k l page answers zero word xs lt only legal = absurd (omega (arith, lt))
 looks_told f k l page answers (suc n) word xs lt only legal = elim (cases_eq word n) [
   | inl e ↦
-      let now : answers n ≡ word_after l (Word.Free page n) = legal.0.answer_is ∙ looked_word k (looks page answers n ++ xs) l (Word.Free page n) (only_both looking (looks page answers n) xs (looks_looking page answers n) only) in
+      let now : answers n ≡ word_after l (Word.Free page n) = legal.0.answer_is ∙ looks_same k (looks page answers n ++ xs) l (Word.Free page n) (only_both looking (looks page answers n) xs (looks_looking page answers n) only) in
       ap (λ (u : ℕ). word_after l (Word.Free page u)) e ∙ (sym now ∙ ap answers (sym e))
   | inr ne ↦ looks_told f k l page answers n word xs (omega (arith, lt, ne)) only legal.1
 ]
@@ -94,9 +87,9 @@ asks_told f k l page d got steps h legal =
     record {
       backed = λ none. h.some (begun.0.answer_is ∙ none);
       full = λ word small. looks_told f k l page ones 4 word (back ∷ []) small (refl, tt) whole.1.1;
-      deed = sym (whole.1.0.answer_is ∙ looked_word k first l (Word.Deed page) (first_only page h.backed None));
+      deed = sym (whole.1.0.answer_is ∙ looks_same k first l (Word.Deed page) (first_only page h.backed None));
       of_profile = whole.0.of_region.1;
-      offered = sym (h.got_is ∙ ap (λ (n : ℕ). has_bit n (page % 64)) (whole.0.answer_is ∙ looked_word k look l (Word.Eligible (number_of d) (page / 64)) (refl, first_only page h.backed None)));
+      offered = sym (h.got_is ∙ ap (λ (n : ℕ). has_bit n (page % 64)) (whole.0.answer_is ∙ looks_same k look l (Word.Eligible (number_of d) (page / 64)) (refl, first_only page h.backed None)));
     }
 
 -- ---- THE TAKES: where each free word was all ones, each take reads it so

@@ -2,6 +2,8 @@
 use Rattle.std.proofs.Common.{◌≡◌, ◌≢◌, ℕ, ◌+◌, ◌/◌, ◌%◌, ◌<◌, ◌≤◌, Bool, true, false, if◌then◌else◌, List, [], ◌∷◌, ◌++◌, Option, None, Some, inl, inr, refl}
 use Rattle.std.proofs.Common.{ap, sym, ◌∙◌, subst, arith, true≢false, eq-eqb}
 use Rattle.std.proofs.lemmas.Bool.{false≢true, false_from_ne_true}
+use Rattle.pas_large.proofs.Told.{looks_same}
+use Rattle.pas_large.proofs.Left.{hints_both}
 use Rattle.pas_bits.specs.Bits.{has_bit}
 use Rattle.pas_bits.specs.declared.mask.Mask4.{Mask4}
 use Rattle.pas_bits.proofs.PageVectors.{page_bit-clear}
@@ -26,9 +28,9 @@ use Rattle.pas_scavenger.proofs.Examinations.{takes_are, taken_on}
 use Rattle.pas_answers.specs.Answers.{Progress}
 use Rattle.pas_one_text.specs.{State.World, Passes.outcome_of}
 use Rattle.pas_same_text.specs.{Same.IsSame, Acts.IsBetween, Acts.AreEndsStamped}
-use Rattle.pas_same_text.proofs.GivingBack.{HintsPage, OffersPage, WasRead, backed_stays, hinted_by, hint_read, hints_both, hints_none, hints_of, once_parts}
+use Rattle.pas_same_text.proofs.GivingBack.{HintsPage, OffersPage, WasRead, backed_stays, hinted_by, hint_read, hints_none, hints_of, once_parts}
 use Rattle.pas_same_text.proofs.PassOutcomes.{WasOffered, stays_hinted, bare_outcome, used_outcome, kept_outcome, young_outcome, old_outcome, empty_backed}
-use Rattle.pas_same_text.proofs.PassReadings.{looked_word, frees_stay, stamps_stay, looks_told, IsAsked, asking, asks_only, asks_told, none_used}
+use Rattle.pas_same_text.proofs.PassReadings.{frees_stay, stamps_stay, looks_told, IsAsked, asking, asks_only, asks_told, none_used}
 use Rattle.pas_same_text.proofs.{PassedPages.AreWordsKept, PassedPages.IsSpared, PassedPages.first_only, ReturnHints.return_hints}
 
 -- ---- steps of some kinds hint no page, or offer none
@@ -103,7 +105,7 @@ module _ (f : Profile) (p : Progress) (w : World) (valid : IsValid f) (between :
         let whole : Legal f (triples 0 (first_looks page h.0 used) ++ before) = subst (λ (ms : List Made). Legal f (triples 0 ms ++ before)) h.3 legal in
         let begun : Legal f (triples 0 (back ∷ []) ++ before) = legal_earlier f 0 (looks_until page used) (back ∷ []) before whole in
         let all : Only looking (first_looks page h.0 used) = first_only page h.0 used in
-        let read : value ≡ word_after l (Word.Free page word) = whole.0.answer_is ∙ (looked_word 0 (looks page ones word ++ (back ∷ [])) before (Word.Free page word) all.1 ∙ kept.free word) in
+        let read : value ≡ word_after l (Word.Free page word) = whole.0.answer_is ∙ (looks_same 0 (looks page ones word ++ (back ∷ [])) before (Word.Free page word) all.1 ∙ kept.free word) in
         let only : Only looking steps = subst (Only looking) (sym h.3) all in
         record {
           is = used_outcome f p w valid between same stamped page word h.2.within (λ none. h.1 (begun.0.answer_is ∙ (kept.backed ∙ none)))

@@ -2,6 +2,7 @@
 use Rattle.std.proofs.Common.{◌≡◌, ℕ, zero, suc, ◌<◌, true, false, Bool, List, [], ◌∷◌, ◌++◌, Option, None, Some, inl, inr, refl, ap, sym, subst, arith}
 use Rattle.std.proofs.Common.{true≢false}
 use Rattle.std.proofs.lemmas.Bool.{cases_eq}
+use Rattle.pas_large.proofs.Left.{hints_both}
 use Rattle.pas_bits.proofs.Words.{full_bit}
 use Rattle.pas_profile.specs.declared.{directory.Directory.Directory, word.Word.Word}
 use Rattle.pas_steps.specs.{Desks.made, Past.Always, Past.Since}
@@ -11,7 +12,7 @@ use Rattle.pas_rights.specs.Looks.{looks, looks_until, is_free, HintSteps, Hints
 use Rattle.pas_rights.specs.{Returns.ReofferSteps, Returns.ReturnSteps, Words.ones}
 use Rattle.pas_rights.specs.declared.reading.Used.{Used}
 use Rattle.pas_rights.proofs.Orders.{until_only}
-use Rattle.pas_same_text.proofs.GivingBack.{hint_step, hints_none, hints_both}
+use Rattle.pas_same_text.proofs.GivingBack.{hint_step, hints_none}
 
 read_earlier : (P Q : Made → Type 0) (ys xs : List Made) → Since (λ m before. P m) (λ m before. Q m) ys → Since (λ m before. P m) (λ m before. Q m) (ys ++ xs)
 read_earlier P Q [] xs h = absurd h

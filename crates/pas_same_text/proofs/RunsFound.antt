@@ -12,7 +12,7 @@ use Rattle.pas_scan.specs.Runs.{IsInRun}
 use Rattle.pas_search.specs.Kinds.{ReturnsDuly}
 use Rattle.pas_large.specs.{Evidence.HasFailed, Finds.MayFind, Finds.FoundRun, Finds.finding, Telling.IsUsablePage, Telling.IsLowestRun}
 use Rattle.pas_large.proofs.Told.{lost_never}
-use Rattle.pas_large.proofs.Outcomes.{MadeOf}
+use Rattle.pas_large.proofs.Outcomes.{MadeOf, of_directory}
 use Rattle.pas_same_text.proofs.PagesRead.{usable_was, bad_never}
 
 -- each deed that was made is of the directory and of a page of the run
@@ -46,7 +46,7 @@ module _ (f : Profile) (k : ℕ) (l : Whole) (d : Directory) (n : ℕ) (of : IsD
     lends = lends_none finding refl xs kinds
 
     made_of : MadeOf d xs
-    made_of = always_map _ (λ m before. (p : ℕ) (e : Directory) → m.step ≡ Deed p e → m.answer ≡ 0 → e ≡ d) xs (λ m before h p e same zero. (h p e same zero).0) found.deeds
+    made_of = of_directory d n _ xs found.deeds
 
     -- THE RUN is the lowest one that was usable
     pub lowest_alone : IsLowestRun f d n l first

@@ -2,6 +2,7 @@
 use Rattle.std.proofs.Common.{◌≡◌, ℕ, ◌+◌, ◌*◌, ◌/◌, ◌%◌, ◌<◌, ◌≤◌, ◌==◌, Bool, true, false, not, ◌&&◌, if◌then◌else◌, List, [], ◌∷◌, ◌++◌, map, ◌⊎◌, inl, inr}
 use Rattle.std.proofs.Common.{refl, ap, sym, ◌∙◌, subst, arith, All, eq-eqb, eqb-true}
 use Rattle.std.proofs.lemmas.{Bool.false≢true, Bool.or_left, Bool.or_right, Bool.Decides.nat_tests, List.Elements.All-head, List.Elements.All-tail}
+use Rattle.pas_large.proofs.Left.{hints_both}
 use Rattle.pas_bits.specs.Masks.{is_set, HasMember}
 use Rattle.pas_profile.specs.{Classes.class_grains, Classes.usable_grains, Classes.IsSlotStart, Directories.deed_word_of, Profiles.IsValid, Profiles.IsPage}
 use Rattle.pas_profile.specs.{Profiles.IsDirectoryOf, Requests.kind_of_class}
@@ -31,7 +32,7 @@ use Rattle.pas_same_text.proofs.FlushActs.{flush_to, flush_records, events_recor
 use Rattle.pas_same_text.proofs.FreeGrains.{cached_held, held_by, never_both, held_still}
 use Rattle.pas_same_text.proofs.GivenPages.{IsGivenBack, open_from, covered_not_held, free_left, given_pages}
 use Rattle.pas_same_text.proofs.GivenUp.{IsGivenUp, AllOfRegion, unique_of, all_up}
-use Rattle.pas_same_text.proofs.GivingBack.{IsMarked, marked_parts, hint_marks, offer_marks, offered_of_region, hints_both, epoch_stays_by}
+use Rattle.pas_same_text.proofs.GivingBack.{IsMarked, marked_parts, hint_marks, offer_marks, offered_of_region, epoch_stays_by}
 use Rattle.pas_same_text.proofs.RestingPages.{is_open, deed_now, word_known, word_now}
 use Rattle.pas_same_text.proofs.StopSteps.{IsMarkedBy, IsMarkedIn, AllClasses, ReadsRoom, room_earlier, all_marked, all_hints}
 

@@ -2,6 +2,8 @@
 use Rattle.std.proofs.Common.{◌≡◌, ℕ, zero, suc, ◌/◌, ◌%◌, ◌<◌, Bool, true, false, List, [], ◌∷◌, ◌++◌, ◌⊎◌, inl, inr, refl, ap, sym, ◌∙◌, subst, arith}
 use Rattle.std.proofs.Common.{MatchBool, true≢false}
 use Rattle.std.proofs.lemmas.Bool.{cases_eq}
+use Rattle.pas_same_text.proofs.SweptGuards.{back_hints}
+use Rattle.pas_large.proofs.Left.{hints_both}
 use Rattle.pas_bits.specs.{Bits.has_bit, Masks.HasMember}
 use Rattle.pas_bits.specs.declared.mask.Mask4.{Mask4}
 use Rattle.pas_profile.specs.Classes.{IsClass}
@@ -19,7 +21,7 @@ use Rattle.pas_segregated.specs.Stops.{home_of, StopStepsAt, LeavesWhere, AreGra
 use Rattle.pas_segregated.specs.declared.slots.Slots.{Slots}
 use Rattle.pas_segregated.proofs.Starts.{start_below}
 use Rattle.pas_cache.specs.Changes.{StopsAll}
-use Rattle.pas_same_text.proofs.GivingBack.{IsMarked, marked_parts, none_marked, returns_marked, hints_none, hints_both, hints_of}
+use Rattle.pas_same_text.proofs.GivingBack.{IsMarked, marked_parts, none_marked, returns_marked, hints_none, hints_of}
 use Rattle.pas_same_text.proofs.ReturnHints.{return_hints}
 
 -- ---- a grain that blocks of the directory may cover was read as free
@@ -147,12 +149,8 @@ left_hints : (s : Slots) (right : Bool) (steps : List Made) → LeavesWhere righ
 left_hints s true steps h = hints_of steps (leave_due s.page (home_of s) steps h)
 left_hints s false steps h = subst (Always HintsEmpty) (sym h) tt
 
-back_hints : (s : Slots) (mask : Mask4) (steps : List Made) → BackSteps s.page (home_of s) mask steps → Always HintsEmpty steps
-back_hints s mask steps (inl h) = subst (Always HintsEmpty) (sym h.1) tt
-back_hints s mask steps (inr h) = subst (Always HintsEmpty) (sym h.5) (hints_both h.2 h.1 (return_hints s.page (home_of s) h.2 h.4) (hints_none (Putting ∷ []) h.1 refl (puts_kinds s.page mask 4 h.1 h.3)))
-
 pub one_hints : (s : Slots) (steps : List Made) → StopStepsAt (home_of s) s steps → Always HintsEmpty steps
-one_hints s steps h = subst (Always HintsEmpty) (sym h.steps_are) (hints_both h.left h.back (left_hints s s.right h.left h.leaves) (back_hints s h.mask h.back h.puts))
+one_hints s steps h = subst (Always HintsEmpty) (sym h.steps_are) (hints_both h.left h.back (left_hints s s.right h.left h.leaves) (back_hints s.page (home_of s) h.mask h.back h.puts))
 
 -- ==== ALL OF THEM
 abbrev pub AllClasses : List Slots → Type 0
