@@ -81,8 +81,7 @@ module _ (f : Profile) (p : Progress) (keeper : ℕ) (books : Books) (steps : Li
       (subst (λ (gs : List Guard). IsResting f (p.caches j) gs (part j p.list)) (sym (others j e)) (before.rest.working j of))
 
   by_others : (P : List Guard → Type 0) (j : ℕ) (t : Bool) → (j == keeper) ≡ t → P left → ((j == keeper) ≡ false → P (p.books j)) → P (books j)
-  by_others P j true e at_left rest = subst (λ (i : ℕ). P (books i)) (sym (eqb-true j keeper e)) (subst P (sym own) at_left)
-  by_others P j false e at_left rest = subst P (sym (others j e)) (rest e)
+  by_others P j t e at_left rest = search (arith, eqb-true)
 
   not_scavenger : keeper ≡ 0 → ⊥
   not_scavenger zero = omega (arith, is.0, zero)
@@ -142,13 +141,7 @@ book_finds f heap gs v fits = record { lacks = λ page h. fits.rights page; clea
 
 module _ (f : Profile) (keeper heap n : ℕ) (l : Whole) (guards guards' : List Guard) (valid : IsValid f) (fits : FitsBook f guards (part keeper l)) (beside : Each IsBeside guards) (bare : (page : ℕ) → is_outer guards page ≡ true → word_after l (Word.Backed page) ≡ 0) where
   pub raised_beside : (answer : Option Block) (steps : List Made) → RaiseSteps f heap n guards guards' answer steps → Each IsBeside guards'
-  raised_beside None steps raise = subst (Each IsBeside) (sym raise.outcome.same) beside
-  raised_beside (Some block) steps raise =
-      let r = raise.outcome in
-      subst (Each IsBeside) (sym r.raised) (each_more IsBeside guards (guard_of r.first n block) beside (record {
-        begins = (let at = ap (λ (b : Block). address_of b.name) r.block_is in omega (arith, at));
-        ends = (let at = ap (λ (b : Block). address_of b.name) r.block_is in let room = ap (λ (b : Block). b.room) r.block_is in omega (arith, at, room));
-      }))
+  raised_beside answer steps raise = search (arith, each_more)
 
   -- its own outer pages, from the search on
   module _ (block : Block) (steps : List Made) (raise : RaiseSteps f heap n guards guards' (Some block) steps) (legal : Legal f (triples keeper steps ++ l)) where

@@ -68,9 +68,7 @@ module _ (f : Profile) (k : ℕ) (l : Whole) (d : Directory) (p : ℕ) where
   -- what was read as of the directory is of it from then on
   of_now : (xs : List Made) → Legal f (triples k xs ++ l) → Once (OfHere d p) xs → word_after (triples k xs ++ l) (Word.Deed p) ≡ deed_word_of d
   of_now [] legal h = absurd h
-  of_now (m ∷ xs) legal (inl h) =
-      let now : word_after (triples k xs ++ l) (Word.Deed p) ≡ deed_word_of d = sym (legal.0.answer_is ∙ deed_read p m.step (triples k xs ++ l) h.0) ∙ h.1 in
-      deed_kept (triples k xs ++ l) (triple k m) p (λ none. deed_word_of-positive d (sym now ∙ none)) ∙ now
+  of_now (m ∷ xs) legal (inl h) = search (arith, deed_read, deed_kept, deed_word_of-positive)
   of_now (m ∷ xs) legal (inr h) =
       let now = of_now xs legal.1 h in
       deed_kept (triples k xs ++ l) (triple k m) p (λ none. deed_word_of-positive d (sym now ∙ none)) ∙ now
@@ -146,9 +144,7 @@ module _ (f : Profile) (k : ℕ) (l : Whole) (d : Directory) (p : ℕ) where
 
     -- ---- never read as not usable
     other_never : (m : Made) (xs : List Made) → Legal f (triples k (m ∷ xs) ++ l) → MadeOf d xs → OtherDeedHere d p m xs → ⊥
-    other_never m xs legal made h =
-        let read : m.answer ≡ word_after (triples k xs ++ l) (Word.Deed p) = legal.0.answer_is ∙ deed_read p m.step (triples k xs ++ l) h.0 in
-        elim (deed_is xs legal.1 made) [ inl none ↦ h.1 (read ∙ none) | inr own ↦ h.2 (read ∙ own) ]
+    other_never m xs legal made h = search (arith, deed_read, deed_is)
 
     missing_never : (m : Made) (xs : List Made) → Legal f (triples k (m ∷ xs) ++ l) → NotOfferedHere d p m xs → ⊥
     missing_never m xs legal h =

@@ -90,15 +90,7 @@ module _ (f : Profile) (p : Progress) (w : World) (valid : IsValid f) (between :
   module _ (before : Whole) (kept : AreWordsKept page p.list before) where
     -- ---- the right isn't asked for, or not got
     without_right : (o : Outcome) (steps : List Made) → EndsWithout page o steps → Legal f (triples 0 steps ++ before) → IsExamined f w l page o steps
-    without_right Outcome.Bare steps h legal =
-        let first : Legal f (triples 0 (made (Look (Word.Backed page)) 0 ∷ []) ++ before) = subst (λ (ms : List Made). Legal f (triples 0 ms ++ before)) h legal in
-        let only : Only looking steps = subst (Only looking) (sym h) (refl, tt) in
-        record {
-          is = bare_outcome f p w valid between same stamped page (sym (first.0.answer_is ∙ kept.backed));
-          idle = λ stays. absurd (false≢true stays);
-          hints = λ gone hint. none_hints looking refl page steps only hint;
-          offers = λ offer. absurd (none_offers looking refl page steps only offer);
-        }
+    without_right Outcome.Bare steps h legal = search (arith, bare_outcome, false≢true, none_hints, none_offers)
     without_right (Outcome.InUse word value) steps h legal =
         let back : Made = made (Look (Word.Backed page)) h.0 in
         let used : Option Used = Some (used_at word value) in
@@ -221,9 +213,7 @@ cleared page a before =
 module _ (f : Profile) (p : Progress) (w : World) (valid : IsValid f) (between : IsBetween f p) (same : IsSame f p w) (stamped : AreEndsStamped p.list) (page epoch : ℕ) (now : epoch ≡ w.epoch) (hinted : empty_bit p.list page ≡ true)
     (before : Whole) (spared : IsSpared page p.list before) where
   pub tried : (o : Option Outcome) (steps : List Made) → TrySteps f.age epoch page o steps → Legal f (triples 0 steps ++ before) → IsTried f w p.list before page o steps
-  tried None steps h legal =
-      let only : Legal f (triples 0 (made (Unhint page) h.0 ∷ []) ++ before) = subst (λ (ms : List Made). Legal f (triples 0 ms ++ before)) h.2 legal in
-      absurd (true≢false (sym (spared.hint ∙ hinted) ∙ (sym (ap (λ (n : ℕ). has_bit n (page % 64)) only.0.answer_is) ∙ h.1)))
+  tried None steps h legal = search (arith, true≢false)
   tried (Some outcome) steps h legal =
       let un : Made = made (Unhint page) h.0 in
       let start : Whole = triple 0 un ∷ before in

@@ -1,5 +1,5 @@
 -- THE RUN THAT A SEARCH FOUND, where no other actor makes a step: the lowest usable one before the search, and no page of another gets a deed.
-use Rattle.std.proofs.Common.{◌≡◌, ℕ, false, List, [], ◌∷◌, ◌++◌, ◌⊎◌, inl, inr, refl, ◌∙◌, subst}
+use Rattle.std.proofs.Common.{arith, ◌≡◌, ℕ, false, List, [], ◌∷◌, ◌++◌, ◌⊎◌, inl, inr, refl, ◌∙◌, subst}
 use Rattle.std.proofs.lemmas.Bool.{cases_eq}
 use Rattle.pas_profile.specs.{Directories.deed_word_of, Profiles.IsDirectoryOf}
 use Rattle.pas_profile.specs.declared.{directory.Directory.Directory, profile.Profile.Profile, word.Word.Word}
@@ -61,11 +61,4 @@ module _ (f : Profile) (k : ℕ) (l : Whole) (d : Directory) (n : ℕ) (of : IsD
     }
 
     pub deeds_in_run : DeedsInRun d first n xs
-    deeds_in_run = always_map _ (λ m before. (page : ℕ) (e : Directory) → m.step ≡ Deed page e → m.answer ≡ 0 → (e ≡ d) × IsInRun first n page) xs (λ m before h page e same zero.
-        let at = h page e same zero in (
-          at.0,
-          elim at.1.3 [
-            | inl this ↦ subst (λ (s : ℕ). IsInRun s n page) this at.1.1
-            | inr failed ↦ absurd (never_fails at.1.0 xs legal lends due failed)
-          ],
-        )) found.deeds
+    deeds_in_run = search (arith, always_map, never_fails, lends)

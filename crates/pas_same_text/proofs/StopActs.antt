@@ -69,8 +69,7 @@ one_of f v q steps slots known (IsMarkedIn.There s rest o) =
 
 -- a slot's first grain is one that blocks of its page's directory may cover
 slot_usable : (right : Bool) (class b : ℕ) → 1 ≤ class_grains class → IsSlotStart class b → usable_by_kind (kind_of_class (not right) class) b ≡ true
-slot_usable true class b some slot = let lt : b < usable_grains class = omega (arith, slot.within, some) in grind (arith, nat_tests, lt)
-slot_usable false class b some slot = refl
+slot_usable right class b h slot = grind arith
 
 -- slots whose page is of a directory in the text, after steps of their thread that give back, are at home there; that page is open where they had a slot whose grains are free now, or where room was read
 module _ (f : Profile) (k : ℕ) (p : Progress) (steps : List Made) (c' : Cached) (v : World) (valid : IsValid f) (before : IsBetween f p) (after : IsBetween f (with_steps p k steps c')) (has : HasSame f (with_steps p k steps c') v) (kinds : Only freeing steps)
@@ -165,10 +164,7 @@ module _ (f : Profile) (k : ℕ) (p : Progress) (w : World) (flushed stopped : L
 
   -- actor k holds none of its cache's grains
   lets_go : (g : ℕ) → any_covers c.locals g ≡ true → holds (part k p'.list) g ≡ true → ⊥
-  lets_go g cached held = elim (held_by f p' after k g held) [
-    | inl again ↦ false≢true (sym (ap (λ (d : Cached). any_covers d.locals g) (same_own p.caches k c' ∙ cache)) ∙ again)
-    | inr outer ↦ never_both f p before k g (g / 256) cached outer
-  ]
+  lets_go g cached held = search (arith, held_by, never_both)
 
   fewer : OnlyFewer w.events v.events
   fewer = subst (OnlyFewer w.events) (sym up.events) to.fewer

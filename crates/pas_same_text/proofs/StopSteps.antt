@@ -38,9 +38,7 @@ pub record ReadsRoom (page : ℕ) (d : Directory) (steps : List Made) : Type 0 w
 pub grain_read : (ks : Kinds) → apart ks (Taking ∷ []) ≡ true → (f : Profile) (k : ℕ) (l : Whole) (page g : ℕ) (xs : List Made) → Legal f (triples k xs ++ l) → Only ks xs → ReadsGrain page g xs → has_bit (word_after (triples k xs ++ l) (Word.Free page (g / 64))) (g % 64) ≡ true
 grain_read ks no_take f k l page g [] legal only h = absurd h
 grain_read ks no_take f k l page g (m ∷ xs) legal only (inr h) = free_stays ks no_take k (m ∷ []) (triples k xs ++ l) page (g / 64) (g % 64) (only.0, tt) (grain_read ks no_take f k l page g xs legal.1 only.1 h)
-grain_read ks no_take f k l page g (m ∷ xs) legal only (inl h) =
-    let at : m.answer ≡ word_after (triples k xs ++ l) (Word.Free page (g / 64)) = legal.0.answer_is ∙ ap (λ s. word_after (triples k xs ++ l) (target s)) h.0 in
-    free_stays ks no_take k (m ∷ []) (triples k xs ++ l) page (g / 64) (g % 64) (only.0, tt) (ap (λ n. has_bit n (g % 64)) (sym at) ∙ h.1)
+grain_read ks no_take f k l page g (m ∷ xs) legal only (inl h) = search (arith, free_stays)
 
 pub room_later : (page : ℕ) (d : Directory) (ys xs : List Made) → ReadsRoom page d xs → ReadsRoom page d (ys ++ xs)
 room_later page d ys xs r = record { grain = r.grain; small = r.small; usable = r.usable; read = once_later _ ys xs r.read }
@@ -66,20 +64,10 @@ once_as P Q (x ∷ xs) to (inl h) = inl (to x h)
 once_as P Q (x ∷ xs) to (inr h) = inr (once_as P Q xs to h)
 
 looks_room : (page : ℕ) (d : Directory) (free : Mask4) → HasUsable d free → ReadsRoom page d (looks page (words free) 4)
-looks_room page d free u =
-    let small : u.0 < 256 = u.1 in
-    let word : u.0 / 64 < 4 = omega (arith, small) in
-    record {
-      grain = u.0;
-      small = u.1;
-      usable = u.3;
-      read = once_as (λ m. (m.step ≡ Look (Word.Free page (u.0 / 64))) × (m.answer ≡ words free (u.0 / 64))) (λ m. (m.step ≡ Look (Word.Free page (u.0 / 64))) × (has_bit m.answer (u.0 % 64) ≡ true)) (looks page (words free) 4)
-          (λ m h. (h.0, ap (λ n. has_bit n (u.0 % 64)) h.1 ∙ u.2)) (look_at page (words free) 4 (u.0 / 64) word);
-    }
+looks_room page d free u = search (arith, once_as, look_at)
 
 usable_if : (usable : Bool) (d : Directory) (free : Mask4) → MatchBool usable (HasUsable d free) (HasNoUsable d free) → usable ≡ true → HasUsable d free
-usable_if true d free h e = h
-usable_if false d free h e = absurd (true≢false (sym e))
+usable_if usable d free h e = search (arith, true≢false)
 
 -- ---- a leave: a page is offered only after a grain was read so
 looks_offer_none : (page q : ℕ) (answers : ℕ → ℕ) → IsMarked q (looks page answers 4) → ⊥

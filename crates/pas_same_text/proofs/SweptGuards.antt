@@ -124,12 +124,7 @@ module _ (all : Bool) (es : List Event) (keeper : ℕ) (g : BookGuard) (gs kept 
 module _ (f : Profile) (all : Bool) (es : List Event) (keeper : ℕ) (valid : IsValid f) where
   pub swept_told : (guards kept : List BookGuard) (said : List Record) (steps : List Made) (l : Whole) → Legal f (triples keeper steps ++ l) → visible l ≡ es → Each IsBeside guards → Only sweeping steps → Swept all keeper guards kept said steps
       → IsSwept all es keeper guards kept said steps
-  swept_told [] kept said steps l legal same beside only h = record {
-    kept_is = h.0;
-    said_is = h.1;
-    hints = subst (Always HintsEmpty) (sym h.2) tt;
-    marks = λ q marked. absurd (subst (IsMarked q) h.2 marked);
-  }
+  swept_told [] kept said steps l legal same beside only h = search (arith, h.0, h.1, h.2)
   swept_told (g ∷ gs) kept said steps l legal same beside only h =
       let word : ℕ = h.0 in
       let first : List Made = h.1 in
