@@ -25,8 +25,7 @@ pub taken_few : (f : Profile) (k : ℕ) (c c' : Cached) (entry : Entry) (steps :
 taken_few f k c c' entry steps v takes agreed =
     let events = full_events (nat_le 64 (length c.log)) k c.log takes.logs.kept c.noted c'.noted steps v takes.logs.emptied in
     let log = ap (λ (es : List Entry). length es) takes.logs.log_is ∙ length-append takes.logs.kept (entry ∷ []) in
-    let unknown = unknown_stays f steps v agreed in
-    omega (arith, events, log, unknown)
+    omega (arith, events, log, unknown_stays f steps v agreed)
 
 refused_few : (f : Profile) (k : ℕ) (c c' : Cached) (name : Name) (steps : List Made) (fault : FreeFault) (v : View) → RefusesName f c c' name steps fault
     → length (events_by k v steps) + 1 + owed_events f c' (steps ++ v) ≤ 1 + owed_events f c v
@@ -159,10 +158,9 @@ performs_flush {σ} {σ'} task meant c c' is flushes = subst (λ t. PerformsMean
   found = None;
   calls = flushes.calls;
   few = λ v rest agreed.
-      let events = emptied_events σ.seat.actor c.log c.noted c'.noted flushes.steps v flushes.empties in
       let none = ap (λ (d : Cached). length d.log) flushes.cache in
       let unknown = unknown_stays σ.seat.profile flushes.steps v agreed in
-      omega (arith, events, none, unknown);
+      omega (arith, emptied_events σ.seat.actor c.log c.noted c'.noted flushes.steps v flushes.empties, none, unknown);
   answered = λ v l stood rest names means known. (record { empties = flushes.empties; cache = flushes.cache }, refl, refl);
   others = λ none. refl;
 }
@@ -176,8 +174,7 @@ performs_stop {σ} {σ'} task meant c c' is stops = subst (λ t. PerformsMeant (
       let events = emptied_events σ.seat.actor c.log c.noted c'.noted stops.flushed v stops.empties in
       let all = ap (λ (es : List Event). length es) (events_append σ.seat.actor stops.stopped stops.flushed v ∙ ap (λ (es : List Event). es ++ events_by σ.seat.actor v stops.flushed) (stops.silent σ.seat.actor (stops.flushed ++ v))) in
       let none = ap (λ (d : Cached). length d.log) stops.cache in
-      let unknown = unknown_stays σ.seat.profile (stops.stopped ++ stops.flushed) v agreed in
-      omega (arith, events, all, none, unknown);
+      omega (arith, events, all, none, unknown_stays σ.seat.profile (stops.stopped ++ stops.flushed) v agreed);
   answered = λ v l stood rest names means known. (
     record {
       flushed = stops.flushed;

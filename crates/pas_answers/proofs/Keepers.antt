@@ -77,6 +77,5 @@ missed_few (Some first) n = omega arith
 pub whole_short : {σ σ' : Standing} {tells : Bool} {found : Option ℕ} {c c' : Cached} {answer : Result Block NoRoom} (keeper : ℕ) (r : Request) (v : View) (guards : List Guard) (t : Tried) → IsTried σ.seat.profile keeper r v guards t
     → (call : AllocatesPages (wanted_by σ.seat.profile r) found tells c c' σ σ' answer) → length t.steps + length call.steps ≤ guarded_steps σ.seat.profile r guards
 whole_short {σ} {found = found} keeper r v guards t is call =
-    let tried = try_short σ.seat.profile keeper r v guards t is in
     let missed = missed_few found (pages_of (wanted_by σ.seat.profile r)) in
-    omega (arith, tried, missed, call.short)
+    omega (arith, try_short σ.seat.profile keeper r v guards t is, missed, call.short)

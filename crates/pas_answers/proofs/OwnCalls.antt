@@ -218,9 +218,8 @@ pub is_keeper : (f : Profile) (keeper : ℕ) (later newer older : Whole) (give :
 is_keeper f keeper later newer older give [] guards valid legal own is =
     let none = ap (λ (v : View). length v) is.1 in
     let here : length (part keeper (give ∷ older)) ≡ length (give.made ∷ part keeper older) = ap (λ (b : Bool). length (if b then give.made ∷ part keeper older else part keeper older)) (eq-eqb give.actor keeper own) in
-    let a = longer keeper newer (give ∷ older) in
     let b = longer keeper later (newer ++ (give ∷ older)) in
-    absurd (omega (arith, none, here, a, b))
+    absurd (omega (arith, none, here, longer keeper newer (give ∷ older), b))
 is_keeper f keeper later newer older give (call ∷ calls) guards valid legal own is = record {
   calls = calls;
   guards = is.0;

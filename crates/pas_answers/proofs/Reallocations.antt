@@ -107,12 +107,11 @@ module _ (σ σ' : Standing) (c c' : Cached) (name n heap size align : ℕ) (old
           calls = m.calls;
           few = λ v rest agreed.
               let all = subst (Agreed f v) is.steps_are agreed in
-              let placed = is.few k v rest (agreed_later f v is.freed is.placed all) in
               let freed = taken_few f k is.between c' (entry_of old.name) is.freed (is.placed ++ v) is.logs (agreed_first f v is.freed is.placed all) in
               let events = ap (λ (ms : List Made). length (events_by k v ms)) is.steps_are ∙ ap length (events_append k is.freed is.placed v) ∙ length-append (events_by k (is.placed ++ v) is.freed) (events_by k v is.placed) in
               let there = ap (λ (ms : List Made). owed_events f c' (ms ++ v)) is.steps_are ∙ ap (λ (u : View). owed_events f c' u) (append_assoc is.freed is.placed v) in
               let log = ap (λ (es : List Entry). length es) is.same_log in
-              omega (arith, placed, freed, events, there, log);
+              omega (arith, is.few k v rest (agreed_later f v is.freed is.placed all), freed, events, there, log);
           answered = λ v l stood rest names means known.
               let agreed = subst (Agreed f v) is.steps_are (m.calls.adds.agreed v l stood rest) in
               let placed : Answer = answer_of is.placed None is.found (the_name name (Some block) ∷ names) is.between in
@@ -142,9 +141,8 @@ module _ (σ σ' : Standing) (c c' : Cached) (name n heap size align : ℕ) (old
           found = is.found;
           calls = m.calls;
           few = λ v rest agreed.
-              let few = is.few k v rest agreed in
               let log = ap (λ (es : List Entry). length es) is.same_log in
-              omega (arith, few, log);
+              omega (arith, is.few k v rest agreed, log);
           answered = λ v l stood rest names means known.
               let placed : Answer = answer_of m.steps (Some message) is.found (the_name name None ∷ names) c' in
               by_meant names v placed means known (inr record {

@@ -64,8 +64,7 @@ small_few : (f : Profile) (w : Wanted) (Meets : View → Type 0) (steps : List M
 small_few f w Meets steps cost (Ok block) two few of = λ k v met agreed. let paid = (few k v met agreed).paid in omega (arith, paid, two)
 small_few f w Meets steps cost (Err room) two few silent = λ k v met agreed.
     let none = ap (λ (es : List Event). length es) (silent k v) in
-    let unknown = unknown_stays f steps v agreed in
-    omega (arith, none, unknown)
+    omega (arith, none, unknown_stays f steps v agreed)
 
 serves_small : {σ σ' : Standing} {answer : Result Block NoRoom} {tells : Bool} (c c' : Cached) (heap size align : ℕ) → size ≤ 2048 → Allocates (wanted_for σ.seat.profile heap size align) tells c c' σ σ' answer
     → Serves (cost_of_size size) (wanted_for σ.seat.profile heap size align) None c c' σ σ' answer
@@ -97,9 +96,8 @@ serves_pages {σ} {σ'} {answer} {found} c c' heap size align large call =
     let f = σ.seat.profile in
     let w = wanted_for f heap size align in
     let route = is_large f.classes size align large in
-    let cost = large_cost size large in
     let pages = pages_asked f size align route in
-    let same : cost_of_size size ≡ pages_of w + 1 = omega (arith, cost, pages) in
+    let same : cost_of_size size ≡ pages_of w + 1 = omega (arith, large_cost size large, pages) in
     record {
       steps = call.steps;
       calls = call.calls;
@@ -166,7 +164,6 @@ sixteenth a align is at =
 -- a block that was given may be freed or reallocated
 pub block_stands : (f : Profile) (c : Cached) (heap size align : ℕ) (steps : List Made) (block : Block) (v : View) → IsAdmitted f size align heap → AtRest f c v → Agreed f v steps → IsBlockFor f (wanted_for f heap size align) (AtRest f c) steps block → MayStand f (Some block)
 block_stands f c heap size align steps block v admitted rest agreed of =
-    let small = of.turn.from v rest agreed in
     let some = some_grains f.classes size align (route_in f size align) (route_is f.classes size align) in
     let room = ap (λ n. n / 16) of.room in
     let page = of.of_region (grain_of block.name) (first_of_run (grain_of block.name) (length_of block) (omega (arith, some, room))) in
@@ -174,7 +171,7 @@ block_stands f c heap size align steps block v admitted rest agreed of =
     λ b is. subst (IsBlockOf f) (same_Some _ _ is) record {
       region = record { page = subst (IsPage f) same page; aligned = sixteenth (address_of block.name) align admitted.aligned of.aligned };
       heap = omega (arith, of.of_heap, admitted.of_profile);
-      turn = omega (arith, small);
+      turn = omega (arith, of.turn.from v rest agreed);
     }
 
 pub given_stands : {σ σ' : Standing} {found : Option ℕ} (c c' : Cached) (name heap size align spare : ℕ) (block : Block) → IsAdmitted σ.seat.profile size align heap

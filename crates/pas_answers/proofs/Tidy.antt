@@ -120,9 +120,8 @@ next_pending g n k v w was at = record {
   only = λ p un.
       let left = others_stay (g / 256 + k == p) (is_unstamped v p) (sym (at.stamps p) ∙ un) in
       let here = was.only p left.1 in
-      let ne = eqb-false (g / 256 + k) p left.0 in
       let le = here.1 in
-      (here.0, omega (arith, le, ne));
+      (here.0, omega (arith, le, eqb-false (g / 256 + k) p left.0));
   rest = λ p meets le.
       let old : g / 256 + k ≤ p = omega (arith, le) in
       at.stamps p ∙ other_stays (g / 256 + k == p) (is_unstamped v p) (ne_eqb (g / 256 + k) p (λ e. absurd (omega (arith, le, e)))) (was.rest p meets old);
@@ -149,8 +148,7 @@ run_tidy g n steps v some was h =
       kept = at.kept;
       stamped = λ p. false_from_ne_true (is_unstamped (steps ++ v) p) (λ un.
           let on = at.pending.only p un in
-          let within = (met_by g n p on.0).1 in
-          absurd (omega (arith, count, on.1, within)));
+          absurd (omega (arith, count, on.1, (met_by g n p on.0).1)));
     }
 
 -- ---- an entry of the log

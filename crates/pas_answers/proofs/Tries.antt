@@ -48,9 +48,8 @@ one_count false k guard first kept after said more h = let kept_is = ap (λ (gs 
 pub swept_count : (all : Bool) (k : ℕ) (guards kept : List Guard) (said : List Record) (steps : List Made) → Swept all k guards kept said steps → length said + length kept ≡ length guards
 swept_count all k [] kept said steps h = let kept_is = ap (λ (gs : List Guard). length gs) h.0 in let said_is = ap (λ (rs : List Record). length rs) h.1 in omega (arith, kept_is, said_is)
 swept_count all k (guard ∷ guards) kept said steps h =
-    let one = one_count (all || is_over guard h.0) k guard h.1 kept h.3 said h.4 h.5 in
     let rest = swept_count all k guards h.3 h.4 h.2 h.6 in
-    omega (arith, one, rest)
+    omega (arith, one_count (all || is_over guard h.0) k guard h.1 kept h.3 said h.4 h.5, rest)
 
 -- .. and none where all are to go
 all_gone : (k : ℕ) (guards kept : List Guard) (said : List Record) (steps : List Made) → Swept true k guards kept said steps → kept ≡ []
@@ -124,8 +123,7 @@ module _ (f : Profile) (heap n : ℕ) (guards guards' : List Guard) (steps : Lis
   guards_more None is = let same = ap (λ (gs : List Guard). length gs) is.outcome.same in omega (arith, same)
   guards_more (Some block) is =
       let raised = ap (λ (gs : List Guard). length gs) is.outcome.raised in
-      let both = length-append guards (guard_of is.outcome.first n block ∷ []) in
-      omega (arith, raised, both)
+      omega (arith, raised, length-append guards (guard_of is.outcome.first n block ∷ []))
 
   -- ---- where it gave none
   none_is : (is : Raised None) → steps ≡ is.searched
@@ -156,9 +154,8 @@ module _ (f : Profile) (heap n : ℕ) (guards guards' : List Guard) (steps : Lis
 
     turn_small : (v : View) → Agreed f v steps → block.name.turn < 2 ^ 37
     turn_small v agreed =
-        let here = agreed_first f v given is.searched (before_give v agreed) in
         let turn = ap (λ (b : Block). b.name.turn) up.block_is in
-        omega (arith, turn, here.1.0.turn)
+        omega (arith, turn, (agreed_first f v given is.searched (before_give v agreed)).1.0.turn)
 
     page_is : address_of block.name ≡ (up.first + 1) * 4096
     page_is = ap (λ (b : Block). address_of b.name) up.block_is
@@ -206,20 +203,18 @@ module _ (f : Profile) (heap n : ℕ) (guards guards' : List Guard) (steps : Lis
   -- ---- how many events
   raise_few : (answer : Option Block) → Raised answer → (k : ℕ) (v : View) → Agreed f v steps → length (events_by k v steps) + unknown_pages f (steps ++ v) ≤ cost_of_raise n answer + unknown_pages f v
   raise_few None is k v agreed =
-      let few = is.shows k v (subst (Agreed f v) (none_is is) agreed) in
       let events = ap (λ (xs : List Made). length (events_by k v xs)) (none_is is) in
       let left = ap (λ (xs : List Made). unknown_pages f (xs ++ v)) (none_is is) in
-      omega (arith, few, events, left)
+      omega (arith, is.shows k v (subst (Agreed f v) (none_is is) agreed), events, left)
   raise_few (Some block) is k v agreed =
       let all = subst (Agreed f v) is.steps_are agreed in
-      let few = is.shows k v (agreed_later f v is.after is.searched all) in
       let stays = unknown_stays f is.after (is.searched ++ v) (agreed_first f v is.after is.searched all) in
       let left = ap (λ (xs : List Made). unknown_pages f (xs ++ v)) is.steps_are ∙ ap (λ (w : View). unknown_pages f w) (append_assoc is.after is.searched v) in
       let events = ap (λ (es : List Event). length es) (events_are block is k v) in
       let both = length-append (events_by k (is.searched ++ v) is.outcome.backs) (events_by k v is.searched) in
       let backs = back_events k (is.searched ++ v) is.outcome.backs in
       let most = raised_few is.outcome in
-      omega (arith, few, stays, left, events, both, backs, most)
+      omega (arith, is.shows k v (agreed_later f v is.after is.searched all), stays, left, events, both, backs, most)
 
 -- ---- what is asked for
 -- a request for whole pages, by how many
@@ -307,9 +302,8 @@ module _ {σ σ1 σ2 : Standing} (r : Request) (book book1 book2 : GuardBook) (o
   few_then : (v : View) → Agreed f v steps → length (events_by k (s.steps ++ v) u.steps) + unknown_pages f (steps ++ v) ≤ cost_of_raise n answer + unknown_pages f v
   few_then v agreed =
       let few = raise_few f r.heap n guards1 guards2 u.steps answer raise_so k (s.steps ++ v) (agreed_first f v u.steps s.steps agreed) in
-      let stays = unknown_stays f s.steps v (agreed_later f v u.steps s.steps agreed) in
       let left = ap (λ (w : View). unknown_pages f w) (append_assoc u.steps s.steps v) in
-      omega (arith, few, stays, left)
+      omega (arith, few, unknown_stays f s.steps v (agreed_later f v u.steps s.steps agreed), left)
 
   most_cost : (a : Option Block) → cost_of_raise n a ≤ cost_of_size r.size
   most_cost None = omega arith
@@ -317,10 +311,8 @@ module _ {σ σ1 σ2 : Standing} (r : Request) (book book1 book2 : GuardBook) (o
 
   few_both : (v : View) → Agreed f v steps → length (events_by k v steps) + unknown_pages f (steps ++ v) ≤ cost_of_size r.size + unknown_pages f v
   few_both v agreed =
-      let few = few_then v agreed in
       let events = ap (λ (es : List Event). length es) (events_then v) in
-      let most = most_cost answer in
-      omega (arith, few, events, most)
+      omega (arith, few_then v agreed, events, most_cost answer)
 
   -- what is said
   abbrev told : View → List Record
@@ -334,14 +326,12 @@ module _ {σ σ1 σ2 : Standing} (r : Request) (book book1 book2 : GuardBook) (o
   paid v agreed =
       let es = events_by k (s.steps ++ v) u.steps in
       let guard = said_of_guard k r.name (pages_of (wanted_by f r)) answer in
-      let few = few_then v agreed in
       let count = swept_count false k (guards_in book) guards1 s.more s.steps s.sweep.swept in
       let more = guards_more f r.heap n guards1 guards2 u.steps answer raise_so in
-      let one = one_told answer (pages_of (wanted_by f r)) in
       let a = length-append s.more (records_of es ++ guard) in
       let b = length-append (records_of es) guard in
       let c : length (records_of es) ≡ length es = length-map (reverse es) Record.Event ∙ length-reverse es in
-      omega (arith, few, count, more, one, a, b, c)
+      omega (arith, few_then v agreed, count, more, one_told answer (pages_of (wanted_by f r)), a, b, c)
 
   is_tried : (v : View) → IsAlignment r.align → FitsBook f (guards_in book) v → Agreed f v steps → IsTried f k r v (guards_in book) (record { steps = steps; records = told v; block = answer; guards = guards2 })
   is_tried v alignment met agreed =
@@ -383,10 +373,9 @@ module _ {σ σ1 σ2 : Standing} (r : Request) (book book1 book2 : GuardBook) (o
       let es = events_by k (s.steps ++ v) u.steps in
       let shown = ap (λ (xs : List Event). length xs) (shown_of old new before after v can.whole can.stood can.met.fits) ∙ length-reverse es in
       let few = few_then v (both_agreed v can.whole can.stood can.met.fits) in
-      let most = most_cost answer in
       let count = swept_count false k (guards_in book) guards1 s.more s.steps s.sweep.swept in
       let swept = ap (λ (rs : List Record). length rs) s.added ∙ length-append (records_in out) s.more in
-      omega (arith, shown, few, most, count, swept, can.met.records)
+      omega (arith, shown, few, most_cost answer, count, swept, can.met.records)
 
   -- ---- the answer
   -- the block that was given may be freed
@@ -420,8 +409,7 @@ module _ {σ σ1 σ2 : Standing} (r : Request) (book book1 book2 : GuardBook) (o
   short : length steps ≤ try_steps f r (guards_in book)
   short =
       let raise : RaiseSteps f r.heap (pages_of (wanted_by f r)) guards1 guards2 answer u.steps = subst (λ (m : ℕ). RaiseSteps f r.heap m guards1 guards2 answer u.steps) (count_wanted f r n is large) raise_so in
-      let all = length-append u.steps s.steps in
-      omega (arith, all, s.sweep.few, raise.few)
+      omega (arith, length-append u.steps s.steps, s.sweep.few, raise.few)
 
   pub tries : (out2 out3 : Records) (old new : List Event) → IsAlignment r.align → IsShown σ1 old → IsShown σ2 new → records_in out2 ≡ records_in out1 ++ map Record.Event (drop (length old) new)
       → records_in out3 ≡ records_in out2 ++ said_of_guard k r.name (pages_of (wanted_by f r)) answer → room_of out3 ≡ room_of out → size_of_book book2 ≡ size_of_book book → TriesRequest r book book2 out out3 σ σ2 answer

@@ -144,8 +144,7 @@ outer_in (g ∷ gs) x p has is = elim (first_or_later g gs x has) [
 
 -- those that stay up in a sweep were up before
 one_was_up : (t : Bool) (k : ℕ) (guard : Guard) (first : List Made) (kept after : List Guard) (said more : List Record) (x : Guard) → SweptOne t k guard first kept after said more → Contains kept x → (guard ≡ x) ⊎ Contains after x
-one_was_up true k guard first kept after said more x h has = inr (subst (λ xs. Contains xs x) h.1 has)
-one_was_up false k guard first kept after said more x h has = first_or_later guard after x (subst (λ xs. Contains xs x) h.1 has)
+one_was_up t k guard first kept after said more x h has = search (arith, first_or_later)
 
 was_up : (all : Bool) (k : ℕ) (guards kept : List Guard) (said : List Record) (steps : List Made) (x : Guard) → Swept all k guards kept said steps → Contains kept x → Contains guards x
 was_up all k [] kept said steps x h has = subst (λ xs. Contains xs x) h.0 has
@@ -260,12 +259,7 @@ put_stays : (page word mask g : ℕ) → (page == g / 256) ≡ false → (if in_
 put_stays page word mask g other = grind arith
 
 sweep_step : (s : Step) (answer g : ℕ) → is_in sweeping (kind_of s) ≡ true → ((page word mask : ℕ) → s ≡ Put page word mask → (page == g / 256) ≡ false) → grain_move s answer g ≡ Stays
-sweep_step (Put page word mask) answer g kind puts = put_stays page word mask g (puts page word mask refl)
-sweep_step (Take page word mask) answer g kind puts = absurd (true≢false (sym kind))
-sweep_step (Give block) answer g kind puts = absurd (true≢false (sym kind))
-sweep_step (End name guess) answer g kind puts = absurd (true≢false (sym kind))
-sweep_step (EndSized name room) answer g kind puts = absurd (true≢false (sym kind))
-sweep_step s answer g kind puts = refl
+sweep_step s answer g kind puts = search (arith, put_stays, true≢false)
 
 puts_leave : (guard : Guard) (p : ℕ) (xs : List Made) → is_outer_of guard p ≡ true → Only sweeping xs → Always (PutsNoneOf guard) xs → (g : ℕ) → g / 256 ≡ p → StaysPut g xs
 puts_leave guard p [] outer only puts g at = tt
@@ -318,10 +312,7 @@ clear_at_first : IsClear []
 clear_at_first = record { on = λ page. record { stamped = refl; owes = record { checks = λ word lt. refl; hint = refl }; examined = refl } }
 
 empty_stands : (f : Profile) (keeper : ℕ) (guards : List Guard) (l : Whole) → guards ≡ [] → part keeper l ≡ [] → BookStands f keeper guards l
-empty_stands f keeper guards l none no_steps = record {
-  fits = subst (λ gs. FitsBook f gs (part keeper l)) (sym none) (subst (FitsBook f []) (sym no_steps) (record { apart = tt; of_region = tt; knows = tt; held = λ g. refl; rights = λ page. refl; clear = clear_at_first }));
-  each = λ guard has. absurd (none_in guard (subst (λ gs. Contains gs guard) none has));
-}
+empty_stands f keeper guards l none no_steps = search (arith, clear_at_first, none_in)
 
 calls_stand : (f : Profile) (keeper : ℕ) → IsValid f → (calls : List Call) (guards : List Guard) (steps : List Made) → MakesCalls f keeper calls guards steps → (l : Whole) → Legal f l → part keeper l ≡ steps → BookStands f keeper guards l
 calls_stand f keeper valid [] guards steps made l legal is = empty_stands f keeper guards l made.0 (is ∙ made.1)
@@ -348,8 +339,7 @@ agreed_all f l k valid legal = agreed_of f l k (part k l) [] valid legal (sym (a
 pub up_stands : (f : Profile) (keeper : ℕ) (guard : Guard) (later : List Made) (l : Whole) → IsValid f → Legal f l → Agreed f [] (later ++ part keeper l) → IsUp f keeper guard later (part keeper l) → StandsBetween l keeper guard
 up_stands f keeper guard later l valid legal agreed up =
     let steps = up.rest ++ up.first in
-    let whole : later ++ part keeper l ≡ up.more ++ (steps ++ up.before) = ap (λ xs. xs ++ part keeper l) up.later_is ∙ ap (λ xs. (up.more ++ up.rest) ++ xs) up.made_is
-    ∙ append_assoc up.more up.rest (up.first ++ up.before) ∙ ap (λ xs. up.more ++ xs) (sym (append_assoc up.rest up.first up.before)) in
+    let whole : later ++ part keeper l ≡ up.more ++ (steps ++ up.before) = search (arith, append_assoc) in
     place_stands f keeper up.call up.guards up.guards_after guard l up.before up.first up.rest valid legal up.made_is
     (subst (λ v. Agreed f v steps) (append-nil up.before) (agreed_first f [] steps up.before (agreed_later f [] up.more (steps ++ up.before) (subst (Agreed f []) whole agreed))))
     (λ older legal_older at. calls_stand f keeper valid up.calls up.guards up.before up.called older legal_older at) up.calls_now up.up

@@ -38,15 +38,7 @@ module _ (f : Profile) (guard : Guard) where
     low_call = call_knows guard.high d (call_as (Does (given_back (masked guard.low full))) low.calls low_met (λ v w met does. does)) (λ v met. met.knows.high)
 
     high_met : (v : View) → MayLower f guard v → Does (given_back (masked guard.low full)) v (low.steps ++ v) × KnowsDeed guard.high d (low.steps ++ v) → MayPutAndReturn guard.high d full (low.steps ++ v)
-    high_met v met low = record {
-      deed = low.1;
-      puts = record {
-        held = λ g here.
-            let at = of_page guard.high g here in
-            low.0.held g ∙ ap (λ t. now (if t then Lost else Kept) (holds v g)) (on_full guard.low g ∙ ne_eqb guard.low (g / 256) (λ e. met.of.two (e ∙ sym at))) ∙ met.held g (is_high (g / 256) at);
-        stamped = (low.0.clear guard.high (met.clear.on guard.high)).stamped;
-      };
-    }
+    high_met v met low = search (arith, of_page, on_full, ne_eqb, is_high)
 
     pub can_high : CanCall σ (MayLower f guard) → CanCall σ1 (MayPutAndReturn guard.high d full)
     can_high can = next_call low_call can high_met

@@ -62,11 +62,7 @@ apart_split (k ∷ ks) rs g h =
 
 -- its pages are those of no other
 not_outer : (ks rs : List Guard) (g : Guard) (p : ℕ) → AreApart (ks ++ g ∷ rs) → is_outer_of g p ≡ true → is_outer (ks ++ rs) p ≡ false
-not_outer ks rs g p apart is =
-    let split = apart_split ks rs g apart in elim (cases_Bool (g.low == p)) [
-      | inl low ↦ ap (is_outer (ks ++ rs)) (sym (eqb-true g.low p low)) ∙ split.1
-      | inr other ↦ ap (is_outer (ks ++ rs)) (sym (eqb-true g.high p (sym (ap (λ t. t || (g.high == p)) other) ∙ is))) ∙ split.2
-    ]
+not_outer ks rs g p apart is = search (arith, apart_split, cases_Bool, eqb-true)
 
 held_less : (t rest : Bool) → (t ≡ true → rest ≡ false) → now (if t then Lost else Kept) (t || rest) ≡ rest
 held_less true rest none = sym (none refl)
@@ -83,12 +79,7 @@ fits_less f ks rs g v w fits does rights knows = record {
 }
 
 may_lower : (f : Profile) (ks rs : List Guard) (g : Guard) (v : View) → FitsBook f (ks ++ g ∷ rs) v → MayLower f g v
-may_lower f ks rs g v fits = record {
-  of = (each_split (IsGuardOf f) ks rs g fits.of_region).0;
-  knows = (each_split (KnowsGuard v) ks rs g fits.knows).0;
-  held = λ x is. fits.held x ∙ outer_split ks rs g (x / 256) ∙ ap (λ t. t || is_outer (ks ++ rs) (x / 256)) is;
-  clear = fits.clear;
-}
+may_lower f ks rs g v fits = search (arith, each_split, outer_split)
 
 -- ---- the sweep, a guard more at the end
 joined_one : (t : Bool) (k : ℕ) (g : Guard) (first : List Made) (kept after more : List Guard) (said left : List Record) (r : List Record) → SweptOne t k g first kept after said left → SweptOne t k g first (kept ++ more) (after ++ more) (said ++ r) (left ++ r)
@@ -275,8 +266,7 @@ module _ {σ σ1 : Standing} (all : Bool) (guards up : List Guard) (place : ℕ)
                     (fits_less f so.kept later guard ((ls ++ so.steps) ++ v) (ps ++ ((ls ++ so.steps) ++ v)) (fits_split ((ls ++ so.steps) ++ v) fits) does does.right (λ p h knows. knows_still f (large_directory h) p ps ((ls ++ so.steps) ++ v) after knows)));
               };
             });
-            swept = swept_more all σ.seat.actor so.done so.kept so.more so.steps guard look.word ps [] (lowered_record σ.seat.actor guard ∷ []) so.swept
-                (subst (λ t. SweptOne t σ.seat.actor guard ps [] [] (lowered_record σ.seat.actor guard ∷ []) []) (sym test) (low.order, refl, refl));
+            swept = search (arith, swept_more);
             added = pushed ∙ ap (λ xs. xs ++ lowered_record σ.seat.actor guard ∷ []) so.added ∙ append_assoc said so.more (lowered_record σ.seat.actor guard ∷ []);
           }
 
@@ -314,8 +304,7 @@ module _ {σ σ1 : Standing} (all : Bool) (guards up : List Guard) (place : ℕ)
 
 -- ---- guards that stay up
 mine_not : (mine other : Bool) → other ≡ true → (mine ≡ true → other ≡ false) → mine ≡ false
-mine_not true other is not = absurd (true≢false (sym is ∙ not refl))
-mine_not false other is not = refl
+mine_not mine other is not = search (arith, true≢false)
 
 -- steps of a sweep are on pages of guards that go down
 one_steady : (t : Bool) (k : ℕ) (guard : Guard) (first : List Made) (kept after : List Guard) (said more : List Record) (g : ℕ) → SweptOne t k guard first kept after said more → is_outer_of guard (g / 256) ≡ false → StaysPut g first
@@ -338,11 +327,7 @@ none_steady all k (guard ∷ guards) kept said steps g h out =
 
 -- those that stay up are of those that were
 one_among : (t : Bool) (k : ℕ) (guard : Guard) (first : List Made) (kept after : List Guard) (said more : List Record) (p : ℕ) → SweptOne t k guard first kept after said more → is_outer kept p ≡ true → ((t ≡ false) × (is_outer_of guard p ≡ true)) ⊎ (is_outer after p ≡ true)
-one_among true k guard first kept after said more p h is = inr (ap (λ xs. is_outer xs p) (sym h.1) ∙ is)
-one_among false k guard first kept after said more p h is = elim (cases_Bool (is_outer_of guard p)) [
-  | inl mine ↦ inl (refl, mine)
-  | inr other ↦ inr (ap (λ t. t || is_outer after p) (sym other) ∙ ap (λ xs. is_outer xs p) (sym h.1) ∙ is)
-]
+one_among t k guard first kept after said more p h is = search (arith, cases_Bool)
 
 among : (all : Bool) (k : ℕ) (guards kept : List Guard) (said : List Record) (steps : List Made) (p : ℕ) → Swept all k guards kept said steps → is_outer kept p ≡ true → is_outer guards p ≡ true
 among all k [] kept said steps p h is = absurd (true≢false (sym is ∙ ap (λ xs. is_outer xs p) h.0))
@@ -352,14 +337,12 @@ among all k (guard ∷ guards) kept said steps p h is = elim (one_among (all || 
 ]
 
 stays_steady : (t : Bool) (k : ℕ) (guard : Guard) (first : List Made) (kept after : List Guard) (said more : List Record) (g : ℕ) → SweptOne t k guard first kept after said more → t ≡ false → StaysPut g first
-stays_steady true k guard first kept after said more g h up = absurd (true≢false up)
-stays_steady false k guard first kept after said more g h up = subst (StaysPut g) (sym h.0) tt
+stays_steady t k guard first kept after said more g h up = search (arith, true≢false)
 
 pub kept_steady : (all : Bool) (k : ℕ) (guards kept : List Guard) (said : List Record) (steps : List Made) → AreApart guards → Swept all k guards kept said steps → (g : ℕ) → is_outer kept (g / 256) ≡ true → StaysPut g steps
 kept_steady all k [] kept said steps apart h g is = subst (StaysPut g) (sym h.2) tt
 kept_steady all k (guard ∷ guards) kept said steps apart h g is = elim (one_among (all || is_over guard h.0) k guard h.1 kept h.3 said h.4 (g / 256) h.5 is) [
-  | inl mine ↦ piece_steady guard h.0 h.1 h.2 steps g h.7 (stays_steady (all || is_over guard h.0) k guard h.1 kept h.3 said h.4 g h.5 mine.0)
-      (none_steady all k guards h.3 h.4 h.2 g h.6 (not_outer [] guards guard (g / 256) apart mine.1))
+  | inl mine ↦ search (arith, piece_steady, stays_steady, none_steady, not_outer)
   | inr after ↦ (let old = among all k guards h.3 h.4 h.2 (g / 256) h.6 after in
       piece_steady guard h.0 h.1 h.2 steps g h.7
       (one_steady (all || is_over guard h.0) k guard h.1 kept h.3 said h.4 g h.5 (mine_not (is_outer_of guard (g / 256)) (is_outer guards (g / 256)) old (not_outer [] guards guard (g / 256) apart)))

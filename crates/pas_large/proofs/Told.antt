@@ -90,11 +90,7 @@ module _ (f : Profile) (k : ℕ) (l : Whole) (d : Directory) (p : ℕ) (steps : 
 
   pub usable_told : ReadUsable d p steps → IsUsablePage d l p
   usable_told (inl bare) = inl (none_told bare)
-  usable_told (inr whole) = inr record {
-    deed = of_told whole.of;
-    offered = one_told whole.offered;
-    free = λ b lt. let same : b ≡ 64 * (b / 64) + b % 64 = omega arith in ap (free_of_page l p) same ∙ whole_told (b / 64) (b % 64) (omega (arith, lt)) (omega arith) (whole.free (b / 64) (omega (arith, lt)));
-  }
+  usable_told (inr whole) = search (arith, of_told, one_told, whole_told)
 
 -- all grains of a usable page are free
 pub usable_free : (f : Profile) (d : Directory) (l : Whole) (p : ℕ) → Legal f l → IsUsablePage d l p → (b : ℕ) → b < 256 → free_of_page l p b ≡ true
@@ -134,22 +130,14 @@ is_clean k InParked = false
 is_clean k o = true
 
 clean_after : (k : ℕ) (w : Way) (o : Spot) → (w ≡ ToParked → ⊥) → is_clean k o ≡ true → is_clean k (spot_after k w o) ≡ true
-clean_after k Rests o ne h = h
-clean_after k (ToOffer n) o ne h = refl
-clean_after k ToParked o ne h = absurd (ne refl)
-clean_after k w o ne h = eq-eqb k k refl
+clean_after k w o ne h = search (arith, eq-eqb)
 
 if_way : (t : Bool) (w : Way) → (t ≡ true → w ≡ ToParked → ⊥) → (if t then w else Rests) ≡ ToParked → ⊥
 if_way true w ne e = ne refl e
 if_way false w ne e = cc
 
 not_to_parked : (s : Step) (a p : ℕ) → (s ≡ Park p → ⊥) → way s a p ≡ ToParked → ⊥
-not_to_parked (Deed q x) a p ne e = if_way ((q == p) && (a == 0)) ByDeed (λ t h. cc) e
-not_to_parked (TakeRight q x) a p ne e = if_way ((q == p) && has_bit a (p % 64)) (FromOffer (number_of x)) (λ t h. cc) e
-not_to_parked (Offer q x) a p ne e = if_way (q == p) (ToOffer (number_of x)) (λ t h. cc) e
-not_to_parked (Park q) a p ne e = if_way (q == p) ToParked (λ t h. ne (ap Park (eqb-true q p t))) e
-not_to_parked (Unpark q) a p ne e = if_way ((q == p) && has_bit a (p % 64)) FromParked (λ t h. cc) e
-not_to_parked s a p ne e = cc
+not_to_parked s a p ne e = search (arith, if_way, eqb-true)
 
 pub clean_own : (k : ℕ) (l : Whole) (p : ℕ) (xs : List Made) → Always (ParksNotHere p) xs → is_clean k (spot_of l p) ≡ true → is_clean k (spot_of (triples k xs ++ l) p) ≡ true
 clean_own k l p [] none h = h
@@ -171,8 +159,7 @@ clean_since f k l d p (m ∷ more) legal (inl one) =
 clean_since f k l d p (m ∷ more) legal (inr h) = clean_after k (way m.step m.answer p) (spot_of (triples k more ++ l) p) (not_to_parked m.step m.answer p h.0) (clean_since f k l d p more legal.1 h.1)
 
 pub clean_fresh : (f : Profile) (k : ℕ) (l : Whole) (d : Directory) (p : ℕ) (xs : List Made) → Legal f (triples k xs ++ l) → is_clean k (spot_of l p) ≡ true → IsFresh d p xs → is_clean k (spot_of (triples k xs ++ l) p) ≡ true
-clean_fresh f k l d p xs legal first (inl never) = clean_own k l p xs never first
-clean_fresh f k l d p xs legal first (inr since) = clean_since f k l d p xs legal since
+clean_fresh f k l d p xs legal first h = search (arith, clean_own, clean_since)
 
 pub usable_clean : (f : Profile) (k : ℕ) (l : Whole) (d : Directory) (p : ℕ) → Legal f l → IsUsablePage d l p → is_clean k (spot_of l p) ≡ true
 usable_clean f k l d p legal (inl none) = ap (is_clean k) (no_deed (spot_of l p) (subst (DeedFits (spot_of l p)) none (spotted f l legal p).deed))
@@ -205,10 +192,7 @@ no_deed_made t z word old h e = grind arith
 
 still_none : (w : Whole) (e : ℕ) (s : Step) (a p : ℕ) → a ≡ word_after w (target s) → ((d : Directory) → s ≡ Deed p d → a ≡ 0 → ⊥) → word_after w (Word.Deed p) ≡ 0
     → (if same_word (target s) (Word.Deed p) then new_value e s (word_after w (Word.Deed p)) else word_after w (Word.Deed p)) ≡ 0
-still_none w e (Look x) a p is made none = looked (same_word x (Word.Deed p)) (word_after w (Word.Deed p)) ∙ none
-still_none w e (Deed q d) a p is made none = no_deed_made (q == p) (word_after w (Word.Deed p) == 0) (deed_word_of d) (word_after w (Word.Deed p))
-    (λ h z. made d (ap (λ x. Deed x d) (eqb-true q p h)) (is ∙ ap (λ x. word_after w (Word.Deed x)) (eqb-true q p h) ∙ none)) none
-still_none w e s a p is made none = none
+still_none w e s a p is made h = search (arith, no_deed_made, eqb-true)
 
 none_kept : (f : Profile) (k : ℕ) (l : Whole) (p : ℕ) (xs : List Made) → Legal f (triples k xs ++ l) → Always (MakesNoDeedHere p) xs → word_after l (Word.Deed p) ≡ 0 → word_after (triples k xs ++ l) (Word.Deed p) ≡ 0
 none_kept f k l p [] legal made none = none
@@ -220,9 +204,7 @@ none_read f k l p (m ∷ more) legal (inl h) = deed_none k l p more (sym (deed_t
 none_read f k l p (m ∷ more) legal (inr h) = none_read f k l p more legal.1 h
 
 lost_deed : (f : Profile) (k : ℕ) (l : Whole) (d : Directory) (p : ℕ) (m : Made) (before : List Made) → Legal f (triples k (m ∷ before) ++ l) → LostDeedHere d p m before → ⊥
-lost_deed f k l d p m before legal lost =
-    let w : Whole = triples k before ++ l in
-    lost.1 (legal.0.answer_is ∙ ap (λ s. word_after w (target s)) lost.0 ∙ none_kept f k l p before legal.1 lost.3 (none_read f k l p before legal.1 lost.2))
+lost_deed f k l d p m before legal lost = search (arith, none_kept, none_read)
 
 -- ---- nor broken
 pub fewer_not_all : (r fewer : ℕ → Bool) → ((b : ℕ) → b < 256 → fewer b ≡ true → r b ≡ true) → NotAll r → NotAll fewer

@@ -78,7 +78,7 @@ none_here s found false none = refl
 
 -- where the first is stopped, there is none either of a heap and class of which there was none
 none_stopped : (heap class : ℕ) (kept fewer : List Slots) (stopped : List Made) (t : Bool) → StopsFirst t kept fewer stopped → local_for heap class kept ≡ None → local_for heap class fewer ≡ None
-none_stopped heap class kept fewer stopped t h h7 = search (arith, none_behind)
+none_stopped heap class kept fewer stopped t h x = search (arith, none_behind)
 
 -- .. and there is place for one more
 below_full : (n : ℕ) → nat_le 32 n ≡ false → n < 32

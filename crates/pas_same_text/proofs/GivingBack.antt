@@ -70,7 +70,7 @@ pub marked_left : (ks : Kinds) → apart ks (Hinting ∷ Offering ∷ []) ≡ tr
 marked_left ks w q ys xs only h = elim (marked_parts q ys xs h) [ inl marked ↦ marked | inr later ↦ absurd (none_marked ks w q xs only later) ]
 
 return_mark : (p q : ℕ) (s : Step) → IsReturn p s → is_mark q s ≡ true → p ≡ q
-return_mark p q s h h4 = search (arith, false≢true, eqb-true)
+return_mark p q s h x = search (arith, false≢true, eqb-true)
 
 pub returns_marked : (p q : ℕ) (xs : List Made) → OnlyReturns p xs → IsMarked q xs → p ≡ q
 returns_marked p q [] only h = absurd h

@@ -21,7 +21,7 @@ any_less p heap class (x ∷ xs) h = less_next p x (others heap class xs) (not (
 -- .. are all but the one that is found
 other_next : (p : Local → Bool) (heap class : ℕ) (x l : Local) (xs : List Local) (t : Bool) → is_for heap class x ≡ t → others x.heap x.class xs ≡ xs → (if t then Some x else find (is_for heap class) xs) ≡ Some l → p l ≡ false
     → (find (is_for heap class) xs ≡ Some l → list_any p xs ≡ true → list_any p (others heap class xs) ≡ true) → (p x || list_any p xs) ≡ true → list_any p (if not t then x ∷ others heap class xs else others heap class xs) ≡ true
-other_next p heap class x l xs t e rest found h more h12 = search (arith, eqb-true)
+other_next p heap class x l xs t e rest found h more y = search (arith, eqb-true)
 
 any_other : (p : Local → Bool) (heap class : ℕ) (l : Local) (ls : List Local) → AreUnique ls → find (is_for heap class) ls ≡ Some l → p l ≡ false → list_any p ls ≡ true → list_any p (others heap class ls) ≡ true
 any_other p heap class l [] unique found none h = absurd (false≢true h)

@@ -191,7 +191,7 @@ takes_split page masks answers (suc n) word lt some = elim (cases_eq n word) [
 
 -- takes of lower words get no grain of this one
 lower_take : (page n mask a g : ℕ) (rest : List Made) → n < g / 64 % 4 → holds rest g ≡ false → (t : Bool) → holds ((if t then [] else made (Take page n mask) a ∷ []) ++ rest) g ≡ false
-lower_take page n mask a g rest lt h h8 = search (arith, ne_eqb)
+lower_take page n mask a g rest lt h x = search (arith, ne_eqb)
 
 takes_below : (page : ℕ) (masks answers : ℕ → ℕ) (n g : ℕ) → n ≤ g / 64 % 4 → holds (takes page masks answers n) g ≡ false
 takes_below page masks answers zero g le = refl
