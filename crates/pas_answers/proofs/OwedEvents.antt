@@ -12,7 +12,4 @@ pub full_events : (full : Bool) (k : ℕ) (log kept : List Entry) (noted noted' 
 full_events true k log kept noted noted' steps v empties =
     let none = ap (λ (es : List Entry). length es) empties.1 in
     omega (arith, emptied_events k log noted noted' steps v empties.0, none)
-full_events false k log kept noted noted' steps v same =
-    let events = ap (λ (ms : List Made). length (events_by k v ms)) same.0 in
-    let all = ap (λ (es : List Entry). length es) same.1 in
-    omega (arith, events, all)
+full_events false k log kept noted noted' steps v same = search (arith, same.0, same.1)

@@ -23,14 +23,10 @@ use Rattle.pas_answers.proofs.Requests.{may_request, named_for, is_given, block_
 -- ---- what is asked
 -- the flush of a full log makes an event for each logged name at most
 flush_few : (t : Bool) (n : ℕ) → nat_le 64 n ≡ t → (if t then 64 else 0) ≤ n
-flush_few true n is = let le = leb-true 64 n is in omega (arith, le)
-flush_few false n is = omega arith
+flush_few t n is = search (arith, leb-true)
 
 pub can_move : {σ : Standing} (c : Cached) (name n heap size align spare there : ℕ) → CanCall σ (MayPerform σ.seat.profile c (Remake name n heap size align) spare) → CanCall σ (MayMove σ.seat.profile (wanted_for σ.seat.profile there size align) c spare)
-can_move {σ} c name n heap size align spare there can =
-    let flush : flush_of_full c.log ≤ length c.log = flush_few (nat_le 64 (length c.log)) (length c.log) refl in
-    let room = can.met.room in
-    record { view = can.view; whole = can.whole; stood = can.stood; met = may_request σ.seat.profile c there size align (spare - flush_of_full c.log) can.view can.met.rest (omega (arith, room, flush)) }
+can_move {σ} c name n heap size align spare there can = search (arith, flush_few)
 
 -- whatever the old name and its heap are
 pub can_resize : {σ : Standing} {task : Task} {name n heap size align : ℕ} (c : Cached) (spare : ℕ) → task ≡ Task.Remake name n heap size align → CanCall σ (MayPerform σ.seat.profile c (what_of task) spare) → (m h : ℕ) → CanCall σ (MayPerform σ.seat.profile c (Remake name m h size align) spare)
@@ -41,9 +37,7 @@ can_resize {σ} {task} {name} {n} {heap} {size} {align} c spare is can m h =
 
 -- the request is admitted in each heap of the region
 pub admitted_there : {task : Task} {name n heap size align : ℕ} (f : Profile) (limit : ℕ) (asked : List ℕ) (block : Block) → task ≡ Task.Remake name n heap size align → IsFitWhat f limit asked (what_of task) → IsBlockOf f block → IsAdmitted f size align block.heap
-admitted_there {task} {name} {n} {heap} {size} {align} f limit asked block is fit of =
-    let admitted = (fits_task f limit asked (Task.Remake name n heap size align) is fit).1.0 in
-    record { within = admitted.within; aligned = admitted.aligned; of_profile = of.heap }
+admitted_there {task} {name} {n} {heap} {size} {align} f limit asked block is fit of = search (arith, fits_task)
 
 -- ---- what it comes to
 module _ (σ σ' : Standing) (c c' : Cached) (name n heap size align : ℕ) (old : Block) (Answers : ℕ → ℕ → Option ℕ → Type 0) (Same : Type 0) where

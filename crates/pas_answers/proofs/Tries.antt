@@ -120,10 +120,7 @@ module _ (f : Profile) (heap n : ℕ) (guards guards' : List Guard) (steps : Lis
   Raised answer = RaiseSteps f heap n guards guards' answer steps
 
   guards_more : (answer : Option Block) → Raised answer → length guards' ≡ length guards + more_guards answer
-  guards_more None is = let same = ap (λ (gs : List Guard). length gs) is.outcome.same in omega (arith, same)
-  guards_more (Some block) is =
-      let raised = ap (λ (gs : List Guard). length gs) is.outcome.raised in
-      omega (arith, raised, length-append guards (guard_of is.outcome.first n block ∷ []))
+  guards_more answer is = search (arith, length-append)
 
   -- ---- where it gave none
   none_is : (is : Raised None) → steps ≡ is.searched
@@ -161,15 +158,7 @@ module _ (f : Profile) (heap n : ℕ) (guards guards' : List Guard) (steps : Lis
     page_is = ap (λ (b : Block). address_of b.name) up.block_is
 
     block_of_region : (v : View) → heap < f.heaps → Agreed f v steps → IsBlockOf f block
-    block_of_region v of agreed =
-        let region = up.found.of_region in
-        let of_heap = ap (λ (b : Block). b.heap) up.block_is in
-        let turn = turn_small v agreed in
-        record {
-          region = record { page = (omega (arith, page_is, region.0), omega (arith, page_is, region.1)); aligned = omega (arith, page_is) };
-          heap = omega (arith, of_heap, of);
-          turn = omega (arith, turn);
-        }
+    block_of_region v of agreed = search (arith, turn_small, page_is)
 
     -- the pages of the block are known to have the directory as their deed
     deeds_known : (v : View) → FitsBook f guards v → Agreed f v steps → (g : ℕ) → in_run (grain_of block.name) (length_of block) g ≡ true → KnowsDeed (g / 256) d (steps ++ v)
@@ -202,10 +191,7 @@ module _ (f : Profile) (heap n : ℕ) (guards guards' : List Guard) (steps : Lis
 
   -- ---- how many events
   raise_few : (answer : Option Block) → Raised answer → (k : ℕ) (v : View) → Agreed f v steps → length (events_by k v steps) + unknown_pages f (steps ++ v) ≤ cost_of_raise n answer + unknown_pages f v
-  raise_few None is k v agreed =
-      let events = ap (λ (xs : List Made). length (events_by k v xs)) (none_is is) in
-      let left = ap (λ (xs : List Made). unknown_pages f (xs ++ v)) (none_is is) in
-      omega (arith, is.shows k v (subst (Agreed f v) (none_is is) agreed), events, left)
+  raise_few None is k v agreed = search (arith, none_is)
   raise_few (Some block) is k v agreed =
       let all = subst (Agreed f v) is.steps_are agreed in
       let stays = unknown_stays f is.after (is.searched ++ v) (agreed_first f v is.after is.searched all) in
@@ -219,12 +205,7 @@ module _ (f : Profile) (heap n : ℕ) (guards guards' : List Guard) (steps : Lis
 -- ---- what is asked for
 -- a request for whole pages, by how many
 pages_wanted : (f : Profile) (heap size align n : ℕ) → n ≡ (size + 4096 - 1) / 4096 → 2048 < size → record { directory = large_directory heap; route = Route.Large; room = n * 4096; align = align } ≡ wanted_for f heap size align
-pages_wanted f heap size align n is large =
-    let route : route_in f size align ≡ Route.Large = is_large f.classes size align large in
-    let whole : max size 1 ≡ size = omega (arith, large) in
-    let room : n * 4096 ≡ room_in f size align = ap (λ x. x * 4096) (is ∙ ap (λ x. (x + 4096 - 1) / 4096) (sym whole)) ∙ ap (λ (r : Route). room_by r (max size 1)) (sym route) in
-    ap (λ (r : Route). record { directory = record { heap = heap; kind = kind_of_route (is_shared f heap) r }; route = r; room = n * 4096; align = align }) (sym route)
-    ∙ ap (λ x. record { directory = record { heap = heap; kind = kind_of_route (is_shared f heap) (route_in f size align) }; route = route_in f size align; room = x; align = align }) room
+pages_wanted f heap size align n is large = search (arith, is_large)
 
 count_wanted : (f : Profile) (r : Request) (n : ℕ) → n ≡ (r.size + 4096 - 1) / 4096 → 2048 < r.size → n ≡ pages_of (wanted_by f r)
 count_wanted f r n is large = is ∙ sym (pages_asked f r.size r.align (is_large f.classes r.size r.align large))
@@ -306,21 +287,17 @@ module _ {σ σ1 σ2 : Standing} (r : Request) (book book1 book2 : GuardBook) (o
       omega (arith, few, unknown_stays f s.steps v (agreed_later f v u.steps s.steps agreed), left)
 
   most_cost : (a : Option Block) → cost_of_raise n a ≤ cost_of_size r.size
-  most_cost None = omega arith
-  most_cost (Some block) = let cost = cost_wanted r.size n is large in omega (arith, cost)
+  most_cost a = search (arith, cost_wanted)
 
   few_both : (v : View) → Agreed f v steps → length (events_by k v steps) + unknown_pages f (steps ++ v) ≤ cost_of_size r.size + unknown_pages f v
-  few_both v agreed =
-      let events = ap (λ (es : List Event). length es) (events_then v) in
-      omega (arith, few_then v agreed, events, most_cost answer)
+  few_both v agreed = search (arith, events_then, few_then, most_cost)
 
   -- what is said
   abbrev told : View → List Record
   told v = s.more ++ (records_of (events_by k (s.steps ++ v) u.steps) ++ said_of_guard k r.name (pages_of (wanted_by f r)) answer)
 
   one_told : (a : Option Block) (m : ℕ) → length (said_of_guard k r.name m a) + more_guards a + cost_of_raise n a ≤ cost_of_try r.size a
-  one_told None m = omega arith
-  one_told (Some block) m = let cost = cost_wanted r.size n is large in omega (arith, cost)
+  one_told a m = search (arith, cost_wanted)
 
   paid : (v : View) → Agreed f v steps → length (told v) + owed_by_keeper f guards2 (steps ++ v) ≤ cost_of_try r.size answer + owed_by_keeper f (guards_in book) v
   paid v agreed =
@@ -388,10 +365,7 @@ module _ {σ σ1 σ2 : Standing} (r : Request) (book book1 book2 : GuardBook) (o
 
   -- what is said of the guard that went up, if any
   pub said_some : (block : Block) (actor : ℕ) (message : Said) → actor ≡ σ2.seat.actor → message ≡ Said.Guarded (address_of block.name / 4096 - 1) (address_of block.name / 4096 + n) r.name → Record.Said actor message ∷ [] ≡ said_of_guard k r.name (pages_of (wanted_by f r)) (Some block)
-  said_some block actor message actor_is message_is =
-      ap (λ (j : ℕ). Record.Said j message ∷ []) (actor_is ∙ ap (λ (x : Seat). x.actor) (u.adds.seat_is ∙ s.adds.seat_is))
-      ∙ ap (λ (m : Said). Record.Said k m ∷ []) message_is
-      ∙ ap (λ (m : ℕ). Record.Said k (Said.Guarded (address_of block.name / 4096 - 1) (address_of block.name / 4096 + m) r.name) ∷ []) (count_wanted f r n is large)
+  said_some block actor message actor_is message_is = search (arith, count_wanted)
 
   pub said_none : (rs : List Record) → answer ≡ None → rs ≡ rs ++ said_of_guard k r.name (pages_of (wanted_by f r)) answer
   said_none rs none = sym (ap (λ (a : Option Block). rs ++ said_of_guard k r.name (pages_of (wanted_by f r)) a) none ∙ append-nil rs)
@@ -399,17 +373,10 @@ module _ {σ σ1 σ2 : Standing} (r : Request) (book book1 book2 : GuardBook) (o
   -- the keeper's records, in the order in which they came
   told_are : (out2 out3 : Records) (old new : List Event) → IsShown σ1 old → IsShown σ2 new → records_in out2 ≡ records_in out1 ++ map Record.Event (drop (length old) new)
       → records_in out3 ≡ records_in out2 ++ said_of_guard k r.name (pages_of (wanted_by f r)) answer → (v : View) (l : Whole) → σ.stands v l → FitsBook f (guards_in book) v → records_in out3 ≡ records_in out ++ told v
-  told_are out2 out3 old new before after events last v l stood met =
-      let es = events_by k (s.steps ++ v) u.steps in
-      let guard = said_of_guard k r.name (pages_of (wanted_by f r)) answer in
-      let own : map Record.Event (drop (length old) new) ≡ records_of es = ap (λ (xs : List Event). map Record.Event xs) (shown_of old new before after v l stood met) in
-      last ∙ ap (λ (rs : List Record). rs ++ guard) (events ∙ ap (λ (rs : List Record). records_in out1 ++ rs) own ∙ ap (λ (rs : List Record). rs ++ records_of es) s.added ∙ append_assoc (records_in out) s.more (records_of es))
-      ∙ append_assoc (records_in out) (s.more ++ records_of es) guard ∙ ap (λ (rs : List Record). records_in out ++ rs) (append_assoc s.more (records_of es) guard)
+  told_are out2 out3 old new before after events last v l stood met = search (arith, shown_of, append_assoc)
 
   short : length steps ≤ try_steps f r (guards_in book)
-  short =
-      let raise : RaiseSteps f r.heap (pages_of (wanted_by f r)) guards1 guards2 answer u.steps = subst (λ (m : ℕ). RaiseSteps f r.heap m guards1 guards2 answer u.steps) (count_wanted f r n is large) raise_so in
-      omega (arith, length-append u.steps s.steps, s.sweep.few, raise.few)
+  short = search (arith, count_wanted, raise_so, length-append)
 
   pub tries : (out2 out3 : Records) (old new : List Event) → IsAlignment r.align → IsShown σ1 old → IsShown σ2 new → records_in out2 ≡ records_in out1 ++ map Record.Event (drop (length old) new)
       → records_in out3 ≡ records_in out2 ++ said_of_guard k r.name (pages_of (wanted_by f r)) answer → room_of out3 ≡ room_of out → size_of_book book2 ≡ size_of_book book → TriesRequest r book book2 out out3 σ σ2 answer
