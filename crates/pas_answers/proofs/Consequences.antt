@@ -1,5 +1,5 @@
 -- What follows once the acts of a plan were answered by a legal list, at whose end all actors have nothing.
-use Rattle.std.proofs.Common.{◌≡◌, ℕ, ◌==◌, Bool, true, false, if◌then◌else◌, max, inl, inr, List, [], ◌∷◌, ◌++◌, Option, Some, None, refl, sym, subst, All}
+use Rattle.std.proofs.Common.{arith, ◌≡◌, ℕ, ◌==◌, Bool, true, false, if◌then◌else◌, max, inl, inr, List, [], ◌∷◌, ◌++◌, Option, Some, None, refl, sym, subst, All}
 use Rattle.std.proofs.Common.{eq-eqb}
 use Rattle.std.proofs.lemmas.Bool.{cases_eq}
 use Rattle.pas_profile.specs.declared.{profile.Profile.Profile, word.Word.Word, name.Block.Block}
@@ -38,10 +38,7 @@ record Leaves (l l' : Whole) (rs rs' : List Record) : Type 0 where
   shown : EachShown rs → EachShown rs'
 
 pub tidy_piece : (k : ℕ) (steps : List Made) (l : Whole) → Each Tidy l → Tidy (steps ++ part k l) → Each Tidy (triples k steps ++ l)
-tidy_piece k steps l all new j = elim (cases_eq k j) [
-  | inl e ↦ subst (λ i. Tidy (part i (triples k steps ++ l))) e (subst Tidy (sym (part_of_own k steps l)) new)
-  | inr ne ↦ subst Tidy (sym (part_of_others j k steps l ne)) (all j)
-]
+tidy_piece k steps l all new j = search (arith, cases_eq, part_of_own, part_of_others)
 
 leaves_piece : (f : Profile) (k : ℕ) (steps : List Made) (more : List Record) (l : Whole) (rs : List Record) → (AreOfRegion f steps → Tidy (part k l) → Tidy (steps ++ part k l)) → (AreOfRegion f steps → EachShown more)
     → Each (AreOfRegion f) (triples k steps ++ l) → Leaves l (triples k steps ++ l) rs (rs ++ more)
@@ -103,18 +100,15 @@ left_one f MarksClose p q did = left_at f p did (λ of. leaves_mark Record.Close
 left_one f (Wakes k) p q did = left_at f p did.1 (λ of. leaves_look k did.0 p.list p.records)
 left_one f (Operates op) p q did = left_op f op p q did
 left_one f (Settles k) p q did = left_at f p did (λ of. leaves_all p.list p.records)
-left_one f (Ticks asked) p q did = left_at f p did.1
-    (λ of. leaves_piece f 0 (made (Tick asked) did.0 ∷ []) (Record.Said 0 (Said.Tick (max did.0 asked)) ∷ []) p.list p.records (λ own. tick_tidy asked did.0 (part 0 p.list)) (λ own. (tt, tt)) of)
-left_one f MakesPass p q did = left_at f p did.4
-    (λ of. leaves_piece f 0 did.2 (records_of_pass 0 did.0 did.1) p.list p.records (λ own. tidy_over passing refl did.2 (part 0 p.list) did.3.kinds) (λ own. pass_shown 0 did.0 did.1) of)
+left_one f (Ticks asked) p q did = search (arith, left_at, leaves_piece, tick_tidy)
+left_one f MakesPass p q did = search (arith, left_at, leaves_piece, tidy_over, pass_shown)
 left_one f ReadsEpoch p q did = left_at f p did.1 (λ of. leaves_look 0 did.0 p.list p.records)
 left_one f (StopsIdle k n) p q did = elim did [
   | inl so ↦ left_at f p so.4 (left_stopped f p k so.1 so.2 (stopped k) so.3 (tt, tt))
   | inr stays ↦ left_at f p stays.1 (λ of. leaves_all p.list p.records)
 ]
 left_one f (Guards keeper op) p q did = left_guarded f keeper op (request_in op.what) p q did
-left_one f (Lowers keeper) p q did = left_at f p did.3 (leaves_piece f keeper did.0 did.1 p.list p.records (λ own tidy. sweep_tidy f keeper true (p.books keeper) [] did.1 did.0 (part keeper p.list) did.2.sweep tidy)
-    (λ own. swept_shown true keeper (p.books keeper) [] did.1 did.0 did.2.sweep.swept))
+left_one f (Lowers keeper) p q did = search (arith, left_at, leaves_piece, sweep_tidy, swept_shown)
 left_one f (Ends k) p q did = left_at f p did.3 (left_stopped f p k did.0 did.1 [] did.2 tt)
 
 -- one act leaves the part of each actor tidy, where it was
@@ -160,9 +154,7 @@ module _ (way : Way) (f : Profile) (acts : List Act) (reached : Progress) (whole
   are_shown = left.shown tt
 
 pub can_be_shown : {way : Way} {plan : Plan} {whole : Whole} {records : List Record} → IsReplay way plan whole records → All CanShow records
-can_be_shown {way} {plan} {whole} {records} is =
-    let said = are_shown way (region_of plan) (acts_of_plan plan) is.reached whole is.answers is.one_order is.legal in
-    subst (λ (rs : List Record). All CanShow rs) (sym is.records_are) (all_shown (arranged way (region_of plan).threads is.reached.records) (each_arranged way (region_of plan).threads is.reached.records said))
+can_be_shown {way} {plan} {whole} {records} is = search (arith, are_shown, all_shown, each_arranged)
 
 -- what is known of the acts of a replay in the order of the text besides its refusals, and on threads isn't: that they go by the indexes, with all actors at rest
 -- between them

@@ -25,34 +25,17 @@ pub taken_few : (f : Profile) (k : ℕ) (c c' : Cached) (entry : Entry) (steps :
 taken_few f k c c' entry steps v takes agreed =
     let events = full_events (nat_le 64 (length c.log)) k c.log takes.logs.kept c.noted c'.noted steps v takes.logs.emptied in
     let log = ap (λ (es : List Entry). length es) takes.logs.log_is ∙ length-append takes.logs.kept (entry ∷ []) in
-    let unknown = unknown_stays f steps v agreed in
-    omega (arith, events, log, unknown)
+    omega (arith, events, log, unknown_stays f steps v agreed)
 
 refused_few : (f : Profile) (k : ℕ) (c c' : Cached) (name : Name) (steps : List Made) (fault : FreeFault) (v : View) → RefusesName f c c' name steps fault
     → length (events_by k v steps) + 1 + owed_events f c' (steps ++ v) ≤ 1 + owed_events f c v
-refused_few f k c c' name steps fault v refuses =
-    let none = ap (λ (ms : List Made). length (events_by k v ms)) refuses.no_steps in
-    let owed : owed_events f c' (steps ++ v) ≡ owed_events f c v = ap (λ (d : Cached). owed_events f d (steps ++ v)) refuses.cache ∙ ap (λ (ms : List Made). owed_events f c (ms ++ v)) refuses.no_steps in
-    omega (arith, none, owed)
+refused_few f k c c' name steps fault v refuses = search (arith, refuses.no_steps, refuses.cache)
 
 pub frees_taken : {σ σ' : Standing} (entry : Entry) (c c' : Cached) (done : Unit {0}) → Frees entry c c' σ σ' (Ok done) → FreesOne entry c c' σ σ' None
-frees_taken {σ} entry c c' done frees = record {
-  steps = frees.steps;
-  calls = frees.calls;
-  few = λ v rest agreed. taken_few σ.seat.profile σ.seat.actor c c' entry frees.steps v frees.outcome agreed;
-  freed = inl (frees.outcome, refl);
-}
+frees_taken {σ} entry c c' done frees = search (arith, taken_few)
 
 pub frees_refused : {σ σ' : Standing} {answer : Result (Unit {0}) FreeFault} (entry : Entry) (c c' : Cached) (fault : FreeFault) → Frees entry c c' σ σ' answer → answer ≡ Err fault → FreesOne entry c c' σ σ' (Some (said_of_fault entry.name fault))
-frees_refused {σ} {σ'} {answer} entry c c' fault frees is =
-    let refuses : RefusesName σ.seat.profile c c' entry.name frees.steps fault
-    = subst (λ a. MatchResult a (λ done. TakesEntry σ.seat.profile σ.seat.actor c c' entry frees.steps) (RefusesName σ.seat.profile c c' entry.name frees.steps)) is frees.outcome in
-    record {
-      steps = frees.steps;
-      calls = frees.calls;
-      few = λ v rest agreed. refused_few σ.seat.profile σ.seat.actor c c' entry.name frees.steps fault v refuses;
-      freed = inr (fault, refuses, refl);
-    }
+frees_refused {σ} {σ'} {answer} entry c c' fault frees is = search (arith, refused_few)
 
 -- ---- what is asked
 -- it asks its thread for a task that costs one event
@@ -66,15 +49,7 @@ fits_task f limit asked {task} task' is fit = subst (λ (w : Work). IsFitWork f 
 
 -- a task without a new name asks no door
 pub not_asked : (f : Profile) (Answers : ℕ → ℕ → Option ℕ → Type 0) (Same : Type 0) (task : Task) (meant : Option Block) (found : Option ℕ) → request_of task ≡ None → Same → IsNamedFor f Answers Same (request_made (what_of task) meant) found
-not_asked f Answers Same (Task.Request name heap size align) meant found none same = absurd cc
-not_asked f Answers Same (Task.Guarded keeper name heap size align) meant found none same = absurd cc
-not_asked f Answers Same (Task.Free name None) meant found none same = same
-not_asked f Answers Same (Task.Free name (Some room)) meant found none same = same
-not_asked f Answers Same (Task.FreeRaw block None) meant found none same = same
-not_asked f Answers Same (Task.FreeRaw block (Some room)) meant found none same = same
-not_asked f Answers Same (Task.Remake name old heap size align) meant found none same = absurd cc
-not_asked f Answers Same Task.Flush meant found none same = same
-not_asked f Answers Same Task.Stop meant found none same = same
+not_asked f Answers Same task meant found h same = grind arith
 
 -- ---- a free by a name of the trace
 -- a name that was asked for stands for what is meant
@@ -159,10 +134,9 @@ performs_flush {σ} {σ'} task meant c c' is flushes = subst (λ t. PerformsMean
   found = None;
   calls = flushes.calls;
   few = λ v rest agreed.
-      let events = emptied_events σ.seat.actor c.log c.noted c'.noted flushes.steps v flushes.empties in
       let none = ap (λ (d : Cached). length d.log) flushes.cache in
       let unknown = unknown_stays σ.seat.profile flushes.steps v agreed in
-      omega (arith, events, none, unknown);
+      omega (arith, emptied_events σ.seat.actor c.log c.noted c'.noted flushes.steps v flushes.empties, none, unknown);
   answered = λ v l stood rest names means known. (record { empties = flushes.empties; cache = flushes.cache }, refl, refl);
   others = λ none. refl;
 }
@@ -176,8 +150,7 @@ performs_stop {σ} {σ'} task meant c c' is stops = subst (λ t. PerformsMeant (
       let events = emptied_events σ.seat.actor c.log c.noted c'.noted stops.flushed v stops.empties in
       let all = ap (λ (es : List Event). length es) (events_append σ.seat.actor stops.stopped stops.flushed v ∙ ap (λ (es : List Event). es ++ events_by σ.seat.actor v stops.flushed) (stops.silent σ.seat.actor (stops.flushed ++ v))) in
       let none = ap (λ (d : Cached). length d.log) stops.cache in
-      let unknown = unknown_stays σ.seat.profile (stops.stopped ++ stops.flushed) v agreed in
-      omega (arith, events, all, none, unknown);
+      omega (arith, events, all, none, unknown_stays σ.seat.profile (stops.stopped ++ stops.flushed) v agreed);
   answered = λ v l stood rest names means known. (
     record {
       flushed = stops.flushed;

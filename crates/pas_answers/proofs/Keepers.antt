@@ -39,9 +39,7 @@ raise_tidy f heap k guards left answer steps v is tidy =
     tidy_both steps is.after is.searched v is.steps_are (given_tidy f heap k guards left answer is.searched is.after (is.searched ++ v) is.outcome (tidy_over seeking refl is.searched v is.kinds tidy))
 
 pub try_tidy : (f : Profile) (keeper : ℕ) (r : Request) (v : View) (guards : List Guard) (t : Tried) → IsTried f keeper r v guards t → Tidy v → Tidy (t.steps ++ v)
-try_tidy f keeper r v guards t is tidy =
-    tidy_both t.steps is.raised is.swept v is.steps_are
-    (raise_tidy f r.heap (pages_of (wanted_by f r)) is.left t.guards t.block is.raised (is.swept ++ v) is.raise (sweep_tidy f keeper false guards is.left is.lowered is.swept v is.sweep tidy))
+try_tidy f keeper r v guards t is tidy = search (arith, tidy_both, raise_tidy, sweep_tidy)
 
 -- ---- shown
 one_shown : (down : Bool) (k : ℕ) (guard : Guard) (first : List Made) (kept after : List Guard) (said more : List Record) → SweptOne down k guard first kept after said more → EachShown more → EachShown said
@@ -66,9 +64,7 @@ try_shown f keeper r v guards t is of =
 
 -- ---- short
 pub try_short : (f : Profile) (keeper : ℕ) (r : Request) (v : View) (guards : List Guard) (t : Tried) → IsTried f keeper r v guards t → length t.steps ≤ try_steps f r guards
-try_short f keeper r v guards t is =
-    let all = ap (λ (xs : List Made). length xs) is.steps_are ∙ length-append is.raised is.swept in
-    omega (arith, all, is.sweep.few, is.raise.few)
+try_short f keeper r v guards t is = search (arith, length-append)
 
 missed_few : (found : Option ℕ) (n : ℕ) → missed_steps found n ≤ 48 * n
 missed_few None n = omega arith
@@ -76,7 +72,4 @@ missed_few (Some first) n = omega arith
 
 pub whole_short : {σ σ' : Standing} {tells : Bool} {found : Option ℕ} {c c' : Cached} {answer : Result Block NoRoom} (keeper : ℕ) (r : Request) (v : View) (guards : List Guard) (t : Tried) → IsTried σ.seat.profile keeper r v guards t
     → (call : AllocatesPages (wanted_by σ.seat.profile r) found tells c c' σ σ' answer) → length t.steps + length call.steps ≤ guarded_steps σ.seat.profile r guards
-whole_short {σ} {found = found} keeper r v guards t is call =
-    let tried = try_short σ.seat.profile keeper r v guards t is in
-    let missed = missed_few found (pages_of (wanted_by σ.seat.profile r)) in
-    omega (arith, tried, missed, call.short)
+whole_short {σ} {found = found} keeper r v guards t is call = search (arith, missed_few, try_short)

@@ -1,5 +1,5 @@
 -- An operation by what it asks for, and what the name that it frees or reallocates stands for.
-use Rattle.std.proofs.Common.{◌≡◌, ℕ, List, Option, Some, None, refl, ap, sym, option_and_then}
+use Rattle.std.proofs.Common.{arith, ◌≡◌, ℕ, List, Option, Some, None, refl, ap, sym, option_and_then}
 use Rattle.pas_profile.specs.declared.{name.Block.Block, profile.Profile.Profile}
 use Rattle.pas_trace.specs.declared.plan.{What.What, Task.Task, Work.Work}
 use Rattle.pas_trace.specs.Asked.{work_of, of_task, request_of, freed_of}
@@ -12,27 +12,11 @@ same_own : {a b : Task} → Work.Own a ≡ Work.Own b → a ≡ b
 same_own is = cc
 
 pub own_what : (what : What) (task : Task) → work_of what ≡ Work.Own task → what ≡ what_of task
-own_what (Alloc name heap size align) task is = ap what_of (same_own is)
-own_what (Guarded keeper name heap size align) task is = ap what_of (same_own is)
-own_what (Free name) task is = ap what_of (same_own is)
-own_what (FreeSized name room) task is = ap what_of (same_own is)
-own_what (Raw block) task is = ap what_of (same_own is)
-own_what (RawSized room block) task is = ap what_of (same_own is)
-own_what (Remake name old heap size align) task is = ap what_of (same_own is)
-own_what Flush task is = ap what_of (same_own is)
-own_what Stop task is = ap what_of (same_own is)
-own_what what task is = cc
+own_what what task is = search (arith, same_own)
 
+-- each case computes
 pub task_of : (task : Task) → work_of (what_of task) ≡ Work.Own task
-task_of (Task.Request name heap size align) = refl
-task_of (Task.Guarded keeper name heap size align) = refl
-task_of (Task.Free name None) = refl
-task_of (Task.Free name (Some room)) = refl
-task_of (Task.FreeRaw block None) = refl
-task_of (Task.FreeRaw block (Some room)) = refl
-task_of (Task.Remake name old heap size align) = refl
-task_of Task.Flush = refl
-task_of Task.Stop = refl
+task_of task = grind arith
 
 -- the name that is freed or reallocated, and the one that is asked for, by the task
 pub freed_task : (block : ℕ → Option Block) (task : Task) → option_and_then block (freed_of task) ≡ freed_by block (what_of task)
@@ -43,17 +27,11 @@ named_task task came = ap (λ (w : Work). named_with (of_task request_of w) came
 
 -- what is said of each name is said of the freed or reallocated one
 pub meant_by : (block : ℕ → Option Block) (names : List Named) (what : What) → ((n : ℕ) → block n ≡ block_behind (standing_for names n)) → IsMeant names what (freed_by block what)
-meant_by block names (Free name) tells = sym (tells name)
-meant_by block names (FreeSized name room) tells = sym (tells name)
-meant_by block names (Remake name old heap size align) tells = sym (tells old)
-meant_by block names what tells = tt
+meant_by block names what tells = grind arith
 
 -- the request that it makes by what names stand for
 pub request_meant : (what : What) (names : List Named) (meant : Option Block) → IsMeant names what meant → request_made what meant ≡ request_by names what
-request_meant (Remake name old heap size align) names meant means = ap (request_made (Remake name old heap size align)) (sym means)
-request_meant (Alloc name heap size align) names meant means = refl
-request_meant (Guarded keeper name heap size align) names meant means = refl
-request_meant what names meant means = refl
+request_meant what names meant means = grind arith
 
 -- .. and it is one of the region
 pub none_stands : (f : Profile) → MayStand f None

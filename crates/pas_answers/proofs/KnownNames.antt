@@ -1,5 +1,5 @@
 -- A name that was asked for stands for something.
-use Rattle.std.proofs.Common.{◌≡◌, ℕ, ◌==◌, ◌||◌, Bool, true, false, if◌then◌else◌, inl, inr, List, ◌∷◌, ◌++◌, Option, Some, None, refl, sym, ◌∙◌, subst}
+use Rattle.std.proofs.Common.{arith, ◌≡◌, ℕ, ◌==◌, ◌||◌, Bool, true, false, if◌then◌else◌, inl, inr, List, ◌∷◌, ◌++◌, Option, Some, None, refl, sym, ◌∙◌, subst}
 use Rattle.pas_profile.specs.declared.{profile.Profile.Profile, name.Block.Block}
 use Rattle.pas_steps.specs.Views.{View}
 use Rattle.pas_steps.specs.declared.step.Made.{Made}
@@ -21,10 +21,7 @@ same_names asked same known = subst (λ (ns : List Named). AreKnown asked ns) (s
 
 -- a reallocation asks for its new name, which stands for this then
 remade_names : (f : Profile) (k name size align : ℕ) (o : Option (Option Block)) (b : Having) (a : Answer) → IsRemadeBy f k name size align o b a → (came : Option Block) × (a.names ≡ named name came ∷ b.names)
-remade_names f k name size align None b a is = absurd is
-remade_names f k name size align (Some None) b a is = (None, is.3)
-remade_names f k name size align (Some (Some old)) b a (inl kept) = (Some old, kept.names_are)
-remade_names f k name size align (Some (Some old)) b a (inr moved) = (block_of moved.served.answer, moved.names_are ∙ moved.served.names_are)
+remade_names f k name size align o b a is = grind arith
 
 pub known_after : (f : Profile) (k : ℕ) (what : What) (asked : List ℕ) (names names' : List Named) (v : View) (c c' : Cached) (steps : List Made) (said : Option Said) (found : Option ℕ)
     → IsAnswered f k what (having names v c) (answer_of steps said found names' c') → AreKnown asked names → AreKnown (asked_after what asked) names'
@@ -37,8 +34,7 @@ known_after f k (FreeSized name room) asked names names' l c c' steps said found
 known_after f k (Raw block) asked names names' l c c' steps said found answered known = same_names asked answered.1 known
 known_after f k (RawSized room block) asked names names' l c c' steps said found answered known = same_names asked answered.1 known
 known_after f k (Remake name old heap size align) asked names names' l c c' steps said found answered known =
-    let came = remade_names f k name size align (standing_for names old) (having names l c) (answer_of steps said found names' c') answered in
-    subst (λ (ns : List Named). AreKnown (name ∷ asked) ns) (sym came.1) (λ n is. one_more (name == n) came.0 (standing_for names n) (is_asked asked n) (known n) is)
+    search (arith, remade_names, one_more)
 known_after f k Flush asked names names' l c c' steps said found answered known = same_names asked answered.2 known
 known_after f k Stop asked names names' l c c' steps said found answered known = same_names asked answered.2 known
 known_after f k what asked names names' l c c' steps said found answered known = absurd answered

@@ -10,10 +10,6 @@ use Rattle.pas_cache.proofs.Budget.{emptied_events}
 -- what is left of the log, and the events of its flush
 pub full_events : (full : Bool) (k : ℕ) (log kept : List Entry) (noted noted' : List EndedRun) (steps : List Made) (v : View) → EmptiesFull full k log kept noted noted' steps → length (events_by k v steps) + length kept ≡ length log
 full_events true k log kept noted noted' steps v empties =
-    let events = emptied_events k log noted noted' steps v empties.0 in
     let none = ap (λ (es : List Entry). length es) empties.1 in
-    omega (arith, events, none)
-full_events false k log kept noted noted' steps v same =
-    let events = ap (λ (ms : List Made). length (events_by k v ms)) same.0 in
-    let all = ap (λ (es : List Entry). length es) same.1 in
-    omega (arith, events, all)
+    omega (arith, emptied_events k log noted noted' steps v empties.0, none)
+full_events false k log kept noted noted' steps v same = search (arith, same.0, same.1)

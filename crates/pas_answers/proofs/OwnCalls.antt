@@ -84,22 +84,17 @@ kept_up n None op = (tt, (tt, tt))
 kept_up n (Some keeper) op = (tt, (tt, tt))
 
 chore_up : (n : ℕ) (idle : List ℕ) (chore : Chore) → AllByRecursion (λ j. j ≤ n) idle → AllByRecursion (IsUpTo n) (acts_of_chore idle chore)
-chore_up n idle (Chore.Tick e) all = (tt, tt)
-chore_up n idle Chore.Pass all = (tt, tt)
-chore_up n idle (Chore.Idle m) all = (tt, map_up n (λ k. StopsIdle k m) (λ k le. le) idle all)
+chore_up n idle chore all = search (arith, map_up)
 
 work_up : (n : ℕ) (idle : List ℕ) (op : Op) (work : Work) → AllByRecursion (λ j. j ≤ n) idle → AllByRecursion (IsUpTo n) (acts_of_work idle op work)
-work_up n idle op (Work.Own task) all = kept_up n (keeper_of task) op
-work_up n idle op (Work.Chore chore) all = chore_up n idle chore all
+work_up n idle op work all = search (arith, kept_up, chore_up)
 
 ops_up : (n : ℕ) (idle : List ℕ) (ops : List Op) → AllByRecursion (λ j. j ≤ n) idle → AllByRecursion (IsUpTo n) (acts_of_ops idle ops)
 ops_up n idle [] all = tt
 ops_up n idle (op ∷ ops) all = all_both (IsUpTo n) (acts_of_op idle op) (acts_of_ops idle ops) (work_up n idle op (work_of op.what) all) (ops_up n idle ops all)
 
 phase_up : (n : ℕ) (ops : List Op) → AllByRecursion (IsUpTo n) (phase_acts n ops)
-phase_up n ops = all_both (IsUpTo n) (map Wakes (active_threads n ops)) (acts_of_ops (idle_threads n ops) ops)
-    (map_up n Wakes (λ k le. le) (active_threads n ops) (where_up n (is_active ops)))
-    (ops_up n (idle_threads n ops) ops (where_up n _))
+phase_up n ops = search (arith, all_both, map_up, where_up, ops_up)
 
 later_up : (n keepers m : ℕ) (phases : List (List Op)) → AllByRecursion (IsUpTo n) (acts_from n keepers m phases)
 later_up n keepers m [] = (tt, all_both (IsUpTo n) (map Ends (numbers_from 1 n)) (map Lowers (numbers_from (n + 1) keepers)) (map_up n Ends (λ k le. le) (numbers_from 1 n) (numbers_up n 1 n (omega arith))) (lowers_up n (numbers_from (n + 1) keepers)))
@@ -180,10 +175,7 @@ act_has f keeper (Settles k) p q apart did has = all_still f keeper p q _ did ha
 act_has f keeper (Ticks asked) p q apart did has = all_still f keeper p q _ did.1 has refl (part_of_others keeper 0 (made (Tick asked) did.0 ∷ []) p.list apart)
 act_has f keeper MakesPass p q apart did has = all_still f keeper p q _ did.4 has refl (part_of_others keeper 0 did.2 p.list apart)
 act_has f keeper ReadsEpoch p q apart did has = all_still f keeper p q _ did.1 has refl (part_of_others keeper 0 (epoch_look did.0) p.list apart)
-act_has f keeper (StopsIdle k n) p q apart did has = elim did [
-  | inl so ↦ all_still f keeper p q _ so.4 has refl (part_of_others keeper k so.1 p.list apart)
-  | inr stays ↦ all_still f keeper p q p stays.1 has refl refl
-]
+act_has f keeper (StopsIdle k n) p q apart did has = search (arith, all_still, part_of_others)
 act_has f keeper (Ends k) p q apart did has = all_still f keeper p q _ did.3 has refl (part_of_others keeper k did.0 p.list apart)
 act_has f keeper (Lowers j) p q apart did has = lowered_has f keeper j p q did has
 
@@ -218,9 +210,8 @@ pub is_keeper : (f : Profile) (keeper : ℕ) (later newer older : Whole) (give :
 is_keeper f keeper later newer older give [] guards valid legal own is =
     let none = ap (λ (v : View). length v) is.1 in
     let here : length (part keeper (give ∷ older)) ≡ length (give.made ∷ part keeper older) = ap (λ (b : Bool). length (if b then give.made ∷ part keeper older else part keeper older)) (eq-eqb give.actor keeper own) in
-    let a = longer keeper newer (give ∷ older) in
     let b = longer keeper later (newer ++ (give ∷ older)) in
-    absurd (omega (arith, none, here, a, b))
+    absurd (omega (arith, none, here, longer keeper newer (give ∷ older), b))
 is_keeper f keeper later newer older give (call ∷ calls) guards valid legal own is = record {
   calls = calls;
   guards = is.0;

@@ -23,14 +23,10 @@ use Rattle.pas_answers.proofs.Requests.{may_request, named_for, is_given, block_
 -- ---- what is asked
 -- the flush of a full log makes an event for each logged name at most
 flush_few : (t : Bool) (n : ℕ) → nat_le 64 n ≡ t → (if t then 64 else 0) ≤ n
-flush_few true n is = let le = leb-true 64 n is in omega (arith, le)
-flush_few false n is = omega arith
+flush_few t n is = search (arith, leb-true)
 
 pub can_move : {σ : Standing} (c : Cached) (name n heap size align spare there : ℕ) → CanCall σ (MayPerform σ.seat.profile c (Remake name n heap size align) spare) → CanCall σ (MayMove σ.seat.profile (wanted_for σ.seat.profile there size align) c spare)
-can_move {σ} c name n heap size align spare there can =
-    let flush : flush_of_full c.log ≤ length c.log = flush_few (nat_le 64 (length c.log)) (length c.log) refl in
-    let room = can.met.room in
-    record { view = can.view; whole = can.whole; stood = can.stood; met = may_request σ.seat.profile c there size align (spare - flush_of_full c.log) can.view can.met.rest (omega (arith, room, flush)) }
+can_move {σ} c name n heap size align spare there can = search (arith, flush_few)
 
 -- whatever the old name and its heap are
 pub can_resize : {σ : Standing} {task : Task} {name n heap size align : ℕ} (c : Cached) (spare : ℕ) → task ≡ Task.Remake name n heap size align → CanCall σ (MayPerform σ.seat.profile c (what_of task) spare) → (m h : ℕ) → CanCall σ (MayPerform σ.seat.profile c (Remake name m h size align) spare)
@@ -41,9 +37,7 @@ can_resize {σ} {task} {name} {n} {heap} {size} {align} c spare is can m h =
 
 -- the request is admitted in each heap of the region
 pub admitted_there : {task : Task} {name n heap size align : ℕ} (f : Profile) (limit : ℕ) (asked : List ℕ) (block : Block) → task ≡ Task.Remake name n heap size align → IsFitWhat f limit asked (what_of task) → IsBlockOf f block → IsAdmitted f size align block.heap
-admitted_there {task} {name} {n} {heap} {size} {align} f limit asked block is fit of =
-    let admitted = (fits_task f limit asked (Task.Remake name n heap size align) is fit).1.0 in
-    record { within = admitted.within; aligned = admitted.aligned; of_profile = of.heap }
+admitted_there {task} {name} {n} {heap} {size} {align} f limit asked block is fit of = search (arith, fits_task)
 
 -- ---- what it comes to
 module _ (σ σ' : Standing) (c c' : Cached) (name n heap size align : ℕ) (old : Block) (Answers : ℕ → ℕ → Option ℕ → Type 0) (Same : Type 0) where
@@ -107,12 +101,11 @@ module _ (σ σ' : Standing) (c c' : Cached) (name n heap size align : ℕ) (old
           calls = m.calls;
           few = λ v rest agreed.
               let all = subst (Agreed f v) is.steps_are agreed in
-              let placed = is.few k v rest (agreed_later f v is.freed is.placed all) in
               let freed = taken_few f k is.between c' (entry_of old.name) is.freed (is.placed ++ v) is.logs (agreed_first f v is.freed is.placed all) in
               let events = ap (λ (ms : List Made). length (events_by k v ms)) is.steps_are ∙ ap length (events_append k is.freed is.placed v) ∙ length-append (events_by k (is.placed ++ v) is.freed) (events_by k v is.placed) in
               let there = ap (λ (ms : List Made). owed_events f c' (ms ++ v)) is.steps_are ∙ ap (λ (u : View). owed_events f c' u) (append_assoc is.freed is.placed v) in
               let log = ap (λ (es : List Entry). length es) is.same_log in
-              omega (arith, placed, freed, events, there, log);
+              omega (arith, is.few k v rest (agreed_later f v is.freed is.placed all), freed, events, there, log);
           answered = λ v l stood rest names means known.
               let agreed = subst (Agreed f v) is.steps_are (m.calls.adds.agreed v l stood rest) in
               let placed : Answer = answer_of is.placed None is.found (the_name name (Some block) ∷ names) is.between in
@@ -142,9 +135,8 @@ module _ (σ σ' : Standing) (c c' : Cached) (name n heap size align : ℕ) (old
           found = is.found;
           calls = m.calls;
           few = λ v rest agreed.
-              let few = is.few k v rest agreed in
               let log = ap (λ (es : List Entry). length es) is.same_log in
-              omega (arith, few, log);
+              omega (arith, is.few k v rest agreed, log);
           answered = λ v l stood rest names means known.
               let placed : Answer = answer_of m.steps (Some message) is.found (the_name name None ∷ names) c' in
               by_meant names v placed means known (inr record {

@@ -56,31 +56,19 @@ silent_ends route d es none = none
 
 small_ends : (f : Profile) (w : Wanted) (Meets : View → Type 0) (steps : List Made) (answer : Result Block NoRoom) → MatchResult answer (IsBlockFor f w Meets steps) (λ room. IsSilent steps)
     → MatchResult answer (IsBlockFor f w Meets steps) (λ room. (k : ℕ) (v : View) → RefusalEnds w.route w.directory (events_by k v steps))
-small_ends f w Meets steps (Ok block) of = of
-small_ends f w Meets steps (Err room) silent = λ k v. silent_ends w.route w.directory (events_by k v steps) (silent k v)
+small_ends f w Meets steps answer of = search (arith, silent_ends)
 
 small_few : (f : Profile) (w : Wanted) (Meets : View → Type 0) (steps : List Made) (cost : ℕ) (answer : Result Block NoRoom) → cost ≡ 2 → MakesFew f Meets 2 steps → MatchResult answer (IsBlockFor f w Meets steps) (λ room. IsSilent steps)
     → MakesAtMost f Meets (events_for cost answer) steps
 small_few f w Meets steps cost (Ok block) two few of = λ k v met agreed. let paid = (few k v met agreed).paid in omega (arith, paid, two)
 small_few f w Meets steps cost (Err room) two few silent = λ k v met agreed.
     let none = ap (λ (es : List Event). length es) (silent k v) in
-    let unknown = unknown_stays f steps v agreed in
-    omega (arith, none, unknown)
+    omega (arith, none, unknown_stays f steps v agreed)
 
 serves_small : {σ σ' : Standing} {answer : Result Block NoRoom} {tells : Bool} (c c' : Cached) (heap size align : ℕ) → size ≤ 2048 → Allocates (wanted_for σ.seat.profile heap size align) tells c c' σ σ' answer
     → Serves (cost_of_size size) (wanted_for σ.seat.profile heap size align) None c c' σ σ' answer
 serves_small {σ} {σ'} {answer} c c' heap size align small call =
-    let f = σ.seat.profile in
-    let w = wanted_for f heap size align in
-    record {
-      steps = call.steps;
-      calls = call.calls;
-      change = call.change;
-      kinds = call.kinds;
-      few = small_few f w (AtRest f c) call.steps (cost_of_size size) answer (sym (small_cost size small)) call.few call.outcome;
-      outcome = small_ends f w (AtRest f c) call.steps answer call.outcome;
-      log_is = log_kept f w None c c' call.steps answer (route_in f size align) call.change;
-    }
+    search (arith, small_few, small_cost, small_ends, log_kept)
 
 pages_ends : (f : Profile) (w : Wanted) (Meets : View → Type 0) (steps : List Made) (answer : Result Block NoRoom) → w.route ≡ Route.Large → MatchResult answer (IsBlockFor f w Meets steps) (λ room. MakesDeedsOf w.directory steps)
     → MatchResult answer (IsBlockFor f w Meets steps) (λ room. (k : ℕ) (v : View) → RefusalEnds w.route w.directory (events_by k v steps))
@@ -97,18 +85,9 @@ serves_pages {σ} {σ'} {answer} {found} c c' heap size align large call =
     let f = σ.seat.profile in
     let w = wanted_for f heap size align in
     let route = is_large f.classes size align large in
-    let cost = large_cost size large in
     let pages = pages_asked f size align route in
-    let same : cost_of_size size ≡ pages_of w + 1 = omega (arith, cost, pages) in
-    record {
-      steps = call.steps;
-      calls = call.calls;
-      change = call.change;
-      kinds = call.kinds;
-      few = subst (λ (n : ℕ). MakesAtMost f (AtRest f c) n call.steps) (most_same (pages_of w) (cost_of_size size) answer same) call.few;
-      outcome = pages_ends f w (AtRest f c) call.steps answer route call.outcome;
-      log_is = log_kept f w found c c' call.steps answer (route_in f size align) call.change;
-    }
+    let same : cost_of_size size ≡ pages_of w + 1 = omega (arith, large_cost size large, pages) in
+    search (arith, most_same, pages_ends, log_kept)
 
 -- by its route
 pub serves : {σ σ' : Standing} {answer : Result Block NoRoom} {Answers : Option ℕ → Type 0} {Same : Type 0} {tells : Bool} (c c' : Cached) (heap size align : ℕ) → (r : AllocatesRequest Answers Same (wanted_for σ.seat.profile heap size align) tells c c' σ σ' answer)
@@ -130,9 +109,7 @@ asking name heap size align = record { name = name; heap = heap; size = size; al
 
 -- what its route says of the run that was named, for its number of pages
 named_on : (f : Profile) (heap size align : ℕ) (Answers : ℕ → Option ℕ → Type 0) (Same : Type 0) (found : Option ℕ) (route : Route) → route_in f size align ≡ route → IsNamed route (Answers ((size + 4096 - 1) / 4096)) Same found → IsNamed route (Answers (pages_of (wanted_for f heap size align))) Same found
-named_on f heap size align Answers Same found (Route.Class class) is named = named
-named_on f heap size align Answers Same found Route.Bitfit is named = named
-named_on f heap size align Answers Same found Route.Large is named = subst (λ n. Answers n found) (sym (pages_asked f size align is)) named
+named_on f heap size align Answers Same found route is named = search (arith, pages_asked)
 
 pub named_for : (f : Profile) (name heap size align : ℕ) (Answers : ℕ → ℕ → Option ℕ → Type 0) (Same : Type 0) (found : Option ℕ) → IsNamed (route_in f size align) (Answers heap ((size + 4096 - 1) / 4096)) Same found → IsNamedFor f Answers Same (Some (asking name heap size align)) found
 named_for f name heap size align Answers Same found named = named_on f heap size align (Answers heap) Same found (route_in f size align) refl named
@@ -140,8 +117,7 @@ named_for f name heap size align Answers Same found named = named_on f heap size
 -- ---- the directory
 -- a deed word of a directory is of that one
 directory_is : (o : Option Directory) (d : Directory) → IsDirectory d → ((x : Directory) → o ≡ Some x → IsDirectory x) → word_of_deed o ≡ deed_word_of d → o ≡ Some d
-directory_is None d is all word = absurd (omega (arith, word))
-directory_is (Some x) d is all word = ap (λ y. Some y) (same_from_deed_word x d (all x refl).kind is.kind word)
+directory_is o d is all word = grind arith
 
 -- a deed that an actor knows is the page's deed
 pub known_directory : (f : Profile) (l : Whole) (k page : ℕ) (d : Directory) → IsValid f → Legal f l → IsDirectoryOf f d → KnowsDeed page d (part k l) → deed_in (visible l) page ≡ Some d
@@ -166,7 +142,6 @@ sixteenth a align is at =
 -- a block that was given may be freed or reallocated
 pub block_stands : (f : Profile) (c : Cached) (heap size align : ℕ) (steps : List Made) (block : Block) (v : View) → IsAdmitted f size align heap → AtRest f c v → Agreed f v steps → IsBlockFor f (wanted_for f heap size align) (AtRest f c) steps block → MayStand f (Some block)
 block_stands f c heap size align steps block v admitted rest agreed of =
-    let small = of.turn.from v rest agreed in
     let some = some_grains f.classes size align (route_in f size align) (route_is f.classes size align) in
     let room = ap (λ n. n / 16) of.room in
     let page = of.of_region (grain_of block.name) (first_of_run (grain_of block.name) (length_of block) (omega (arith, some, room))) in
@@ -174,7 +149,7 @@ block_stands f c heap size align steps block v admitted rest agreed of =
     λ b is. subst (IsBlockOf f) (same_Some _ _ is) record {
       region = record { page = subst (IsPage f) same page; aligned = sixteenth (address_of block.name) align admitted.aligned of.aligned };
       heap = omega (arith, of.of_heap, admitted.of_profile);
-      turn = omega (arith, small);
+      turn = omega (arith, of.turn.from v rest agreed);
     }
 
 pub given_stands : {σ σ' : Standing} {found : Option ℕ} (c c' : Cached) (name heap size align spare : ℕ) (block : Block) → IsAdmitted σ.seat.profile size align heap
@@ -204,8 +179,7 @@ module _ (σ σ' : Standing) (c c' : Cached) (name heap size align : ℕ) (found
   IsPaid answer steps v = length (events_by σ.seat.actor v steps) + length (said_by σ.seat.actor (said_of_request name answer)) + owed_events σ.seat.profile c' (steps ++ v) ≤ cost_of_size size + owed_events σ.seat.profile c v
 
   paid : (answer : Result Block NoRoom) (call : Served answer) (v : View) → AtRest σ.seat.profile c v → Agreed σ.seat.profile v call.steps → IsPaid answer call.steps v
-  paid (Ok block) call v rest agreed = let log = ap length call.log_is in let few = call.few σ.seat.actor v rest agreed in omega (arith, log, few)
-  paid (Err room) call v rest agreed = let log = ap length call.log_is in let few = call.few σ.seat.actor v rest agreed in let some = some_cost size in omega (arith, log, few, some)
+  paid answer call v rest agreed = search (arith, some_cost)
 
   ends : (answer : Result Block NoRoom) (call : Served answer) (v : View) (l : Whole) → σ.stands v l → AtRest σ.seat.profile c v → RequestEnds σ.seat.actor (wanted_for σ.seat.profile heap size align) v call.steps answer
   ends (Ok block) call v l stood rest = is_given σ.seat.profile σ.seat.actor (wanted_for σ.seat.profile heap size align) c call.steps block v rest (call.calls.adds.agreed v l stood rest) call.outcome

@@ -1,5 +1,5 @@
 -- Each record of a piece can be shown, and so each record that is written, in whatever order.
-use Rattle.std.proofs.Common.{ℕ, zero, suc, ◌+◌, Bool, true, false, if◌then◌else◌, List, [], ◌∷◌, ◌++◌, Option, All}
+use Rattle.std.proofs.Common.{arith, ℕ, zero, suc, ◌+◌, Bool, true, false, if◌then◌else◌, List, [], ◌∷◌, ◌++◌, Option, All}
 use Rattle.std.specs.List.{AllByRecursion}
 use Rattle.std.proofs.lemmas.List.Elements.{All-nil, All-push, All-append}
 use Rattle.pas_profile.specs.declared.{profile.Profile.Profile, event.Outcome.Outcome, event.Outcome.TheVariants.Unbacked}
@@ -41,8 +41,7 @@ each_phases threads since (Record.Event e ∷ rs) a b = each_phases threads (sin
 each_phases threads since (Record.Said k said ∷ rs) a b = each_phases threads (since ++ Record.Said k said ∷ []) rs (each_both since (Record.Said k said ∷ []) a (b.0, tt)) b.1
 
 pub each_arranged : (way : Way) (threads : ℕ) (rs : List Record) → EachShown rs → EachShown (arranged way threads rs)
-each_arranged InOrder threads rs all = all
-each_arranged OnThreads threads rs all = each_phases threads [] rs tt all
+each_arranged way threads rs all = search (arith, each_phases)
 
 -- ---- the records of a piece, and those of a pass
 pub records_shown : (f : Profile) (k : ℕ) (steps : List Made) (v : View) → AreOfRegion f steps → EachShown (records_of (events_by k v steps))

@@ -45,10 +45,7 @@ abbrev bound : Kinds
 bound = LookEpoch ∷ Stamping ∷ Ticking ∷ []
 
 keeps_free : (s : Step) (v : View) → is_in bound (kind_of s) ≡ false → KeepsToEnds v s
-keeps_free (Look Word.Epoch) v h = absurd (true≢false h)
-keeps_free (Stamp q) v h = absurd (true≢false h)
-keeps_free (Tick up) v h = absurd (true≢false h)
-keeps_free s v h = tt
+keeps_free s v h = search (arith, true≢false)
 
 kept_over : (ks : Kinds) → apart ks bound ≡ true → (steps : List Made) (v : View) → Only ks steps → KeptPart v → KeptPart (steps ++ v)
 kept_over ks w = holds_over KeptPart bound ks (λ m v h kept. (keeps_free m.step v h, kept)) w
@@ -58,10 +55,7 @@ abbrev untidy : Kinds
 untidy = Ending ∷ Stamping ∷ Ticking ∷ []
 
 keeps_tidy : (s : Step) (v : View) → is_in untidy (kind_of s) ≡ false → AllStamped v → KeepsToEnds v s
-keeps_tidy (Look Word.Epoch) v h stamped = stamped
-keeps_tidy (Stamp q) v h stamped = absurd (true≢false h)
-keeps_tidy (Tick up) v h stamped = absurd (true≢false h)
-keeps_tidy s v h stamped = tt
+keeps_tidy s v h stamped = search (arith, true≢false)
 
 pub tidy_over : (ks : Kinds) → apart ks untidy ≡ true → (steps : List Made) (v : View) → Only ks steps → Tidy v → Tidy (steps ++ v)
 tidy_over ks w = holds_over Tidy untidy ks
@@ -106,7 +100,7 @@ record PagesDone (g n k : ℕ) (v : View) : Type 0 where
   kept : KeptPart v
   pending : IsPending g n k v
 
-first_page : (g k : ℕ) → first_on g (g / 256 + k) / 256 ≡ g / 256 + k
+pub first_page : (g k : ℕ) → first_on g (g / 256 + k) / 256 ≡ g / 256 + k
 first_page g k = omega arith
 
 others_stay : (x was : Bool) → (if x then false else was) ≡ true → (x ≡ false) × (was ≡ true)
@@ -116,17 +110,7 @@ other_stays : (x was : Bool) → x ≡ false → was ≡ true → (if x then fal
 other_stays x was e h = ap (λ t. if t then false else was) e ∙ h
 
 next_pending : (g n k : ℕ) (v w : View) → IsPending g n k v → PageDone (g / 256 + k) v w → IsPending g n (suc k) w
-next_pending g n k v w was at = record {
-  only = λ p un.
-      let left = others_stay (g / 256 + k == p) (is_unstamped v p) (sym (at.stamps p) ∙ un) in
-      let here = was.only p left.1 in
-      let ne = eqb-false (g / 256 + k) p left.0 in
-      let le = here.1 in
-      (here.0, omega (arith, le, ne));
-  rest = λ p meets le.
-      let old : g / 256 + k ≤ p = omega (arith, le) in
-      at.stamps p ∙ other_stays (g / 256 + k == p) (is_unstamped v p) (ne_eqb (g / 256 + k) p (λ e. absurd (omega (arith, le, e)))) (was.rest p meets old);
-}
+next_pending g n k v w was at = search (arith, others_stay, eqb-false, other_stays, ne_eqb)
 
 pages_done : (k g n : ℕ) (steps : List Made) (v : View) → 1 ≤ n → g / 256 + k ≤ (g + n - 1) / 256 + 1 → PagesDone g n 0 v → PagesSteps k g n steps → PagesDone g n k (steps ++ v)
 pages_done zero g n steps v some few was h = subst (λ ms. PagesDone g n 0 (ms ++ v)) (sym h) was
@@ -149,8 +133,7 @@ run_tidy g n steps v some was h =
       kept = at.kept;
       stamped = λ p. false_from_ne_true (is_unstamped (steps ++ v) p) (λ un.
           let on = at.pending.only p un in
-          let within = (met_by g n p on.0).1 in
-          absurd (omega (arith, count, on.1, within)));
+          absurd (omega (arith, count, on.1, (met_by g n p on.0).1)));
     }
 
 -- ---- an entry of the log
@@ -158,11 +141,7 @@ misses : (z y was : Bool) → z ≡ false → (if z && y then true else was) ≡
 misses z y was h = cond-false (z && y) true was (and_left z y h)
 
 tries_tidy : (name : Name) (first guess : ℕ) (before : List Made) (v : View) → Tries name first guess before → Tidy v → Tidy (before ++ v)
-tries_tidy name first guess before v (inl h) tidy = tidy_none before v h.1 tidy
-tries_tidy name first guess before v (inr h) tidy = subst (λ ms. Tidy (ms ++ v)) (sym h.4) record {
-  kept = (tt, tidy.kept);
-  stamped = λ p. misses (h.0 == live_word name.turn first) (meets_page (grain_of name) first p) (is_unstamped v p) (ne_eqb h.0 (live_word name.turn first) h.1) ∙ tidy.stamped p;
-}
+tries_tidy name first guess before v h tidy = search (arith, tidy_none, misses, ne_eqb)
 
 if_met : (y was : Bool) → was ≡ false → (if y then true else was) ≡ y
 if_met y was h = grind arith
@@ -204,30 +183,14 @@ last_of f true entry n is of = (of.0.2, subst (λ m. 1 ≤ m) (sym (is refl)) of
 last_of f false entry n is of = (of.2, of.3)
 
 tries_by_tidy : (t : Bool) (entry : Entry) (first guess : ℕ) (before : List Made) (v : View) → TriesBy t entry first guess before → Tidy v → Tidy (before ++ v)
-tries_by_tidy true entry first guess before v h tidy = tidy_none before v h.1 tidy
-tries_by_tidy false entry first guess before v h tidy = tries_tidy entry.name first guess before v h tidy
+tries_by_tidy t entry first guess before v h tidy = search (arith, tidy_none, tries_tidy)
 
 pending_now : (name : Name) (guess a : ℕ) (s : Step) (u : View) → MarksEnds name guess s → AllStamped u → a ≡ live_word name.turn guess → IsPending (grain_of name) guess 0 (made s a ∷ u)
-pending_now name guess a s u h stamped hit =
-    let z : (a == live_word name.turn guess) ≡ true = eq-eqb a (live_word name.turn guess) hit in
-    let is : (p : ℕ) → is_unstamped (made s a ∷ u) p ≡ meets_page (grain_of name) guess p = λ p. h.marks a p u ∙ ap (λ t. if t && meets_page (grain_of name) guess p then true else is_unstamped u p) z ∙ if_met (meets_page (grain_of name) guess p) (is_unstamped u p) (stamped p) in
-    record {
-      only = λ p un. let meets : meets_page (grain_of name) guess p ≡ true = sym (is p) ∙ un in (meets, met_from (grain_of name) guess p meets);
-      rest = λ p meets le. is p ∙ meets;
-    }
+pending_now name guess a s u h stamped hit = search (arith, eq-eqb, if_met, met_from)
 
 end_done : (t : Bool) (name : Name) (outcome : Outcome) (guess a : ℕ) (s : Step) (u : View) → MarksEnds name guess s → Tidy u → name.turn < 2 ^ 40 - 1 → 1 ≤ guess → EndOf t name guess a outcome → IsTried name outcome (made s a ∷ u)
-end_done t name (Ended grains) guess a s u marks tidy turn some h = record {
-  ended = λ n e. subst (λ m. (1 ≤ m) × PagesDone (grain_of name) m 0 (made s a ∷ u)) (sym h.1 ∙ ended_is e) (some, record { kept = (marks.keeps u, tidy.kept); pending = pending_now name guess a s u marks tidy.stamped h.0 });
-  refused = λ read e. absurd (not_refused e);
-}
-end_done t name (Refused read) guess a s u marks tidy turn some h = record {
-  ended = λ n e. absurd (not_refused (sym e));
-  refused = λ r e. record {
-    kept = (marks.keeps u, tidy.kept);
-    stamped = λ p. marks.marks a p u ∙ misses (a == live_word name.turn guess) (meets_page (grain_of name) guess p) (is_unstamped u p) (ne_eqb a (live_word name.turn guess) (not_ended t name guess a turn h.0)) ∙ tidy.stamped p;
-  };
-}
+end_done t name (Ended grains) guess a s u marks tidy turn some h = search (arith, ended_is, pending_now, not_refused)
+end_done t name (Refused read) guess a s u marks tidy turn some h = search (arith, not_refused, misses, ne_eqb, not_ended)
 
 -- ---- an entry, all entries, and a flush; the steps are of the region
 ends_done : (f : Profile) (entry : Entry) (outcome : Outcome) (steps : List Made) (v : View) → AreOfRegion f steps → EndSteps entry outcome steps → Tidy v → IsTried entry.name outcome (steps ++ v)

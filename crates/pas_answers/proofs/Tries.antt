@@ -3,6 +3,8 @@ use Rattle.std.proofs.Common.{◌≡◌, ℕ, ◌+◌, ◌*◌, ◌/◌, ◌%◌
 use Rattle.std.proofs.Common.{sym, ◌∙◌, subst, arith, append_assoc, append-nil, length-append, true≢false, ◌-◌, ◌^◌, map, reverse, max}
 use Rattle.std.specs.List.{AllByRecursion}
 use Rattle.std.proofs.{lemmas.List.length-map, lemmas.List.length-reverse, lemmas.Option.same_Some, Math.Nat.zero-mod}
+use Rattle.pas_large.proofs.Outcomes.{of_directory}
+use Rattle.pas_guard.proofs.Raises.{fits_find}
 use Rattle.pas_bits.specs.Runs.{in_run}
 use Rattle.pas_bitfit.proofs.Aligned.{stands_aligned}
 use Rattle.pas_profile.specs.{Blocks.address_of, Blocks.grain_of, Blocks.length_of, Classes.IsAlignment, Routes.room_by}
@@ -46,9 +48,8 @@ one_count false k guard first kept after said more h = let kept_is = ap (λ (gs 
 pub swept_count : (all : Bool) (k : ℕ) (guards kept : List Guard) (said : List Record) (steps : List Made) → Swept all k guards kept said steps → length said + length kept ≡ length guards
 swept_count all k [] kept said steps h = let kept_is = ap (λ (gs : List Guard). length gs) h.0 in let said_is = ap (λ (rs : List Record). length rs) h.1 in omega (arith, kept_is, said_is)
 swept_count all k (guard ∷ guards) kept said steps h =
-    let one = one_count (all || is_over guard h.0) k guard h.1 kept h.3 said h.4 h.5 in
     let rest = swept_count all k guards h.3 h.4 h.2 h.6 in
-    omega (arith, one, rest)
+    omega (arith, one_count (all || is_over guard h.0) k guard h.1 kept h.3 said h.4 h.5, rest)
 
 -- .. and none where all are to go
 all_gone : (k : ℕ) (guards kept : List Guard) (said : List Record) (steps : List Made) → Swept true k guards kept said steps → kept ≡ []
@@ -82,12 +83,6 @@ lowers_all {σ} {book = book} {book' = book'} s room size =
     }
 
 -- ---- what a raise made
-may_find : (f : Profile) (d : Directory) (guards : List Guard) (v : View) → FitsBook f guards v → MayFind d v
-may_find f d guards v fits = record { lacks = λ p of. fits.rights p; clear = fits.clear }
-
-made_of : (d : Directory) (n : ℕ) (P : ℕ → Type 0) (steps : List Made) → DeedsOf d n P steps → MadeOf d steps
-made_of d n P steps deeds = always_map _ (λ m before. (p : ℕ) (e : Directory) → m.step ≡ Deed p e → m.answer ≡ 0 → e ≡ d) steps (λ m before h p e same z. (h p e same z).0) deeds
-
 deed_sought : (d : Directory) (k : ℕ) (s : Step) (a : ℕ) (e : Event) → is_in seeking (kind_of s) ≡ true → ((p : ℕ) (x : Directory) → s ≡ Deed p x → a ≡ 0 → x ≡ d) → ComesOf k s a e → IsDeedOf d e
 deed_sought d k s a (Event.Deed j p x) is made comes = subst (λ y. IsDeedOf d (Event.Deed j p y)) (sym (made p x comes.step.0 comes.step.1)) (IsDeedOf.Deeds j p)
 deed_sought d k s a e is made comes = absurd (true≢false (sym is ∙ ap (is_in seeking) comes.kind))
@@ -125,11 +120,7 @@ module _ (f : Profile) (heap n : ℕ) (guards guards' : List Guard) (steps : Lis
   Raised answer = RaiseSteps f heap n guards guards' answer steps
 
   guards_more : (answer : Option Block) → Raised answer → length guards' ≡ length guards + more_guards answer
-  guards_more None is = let same = ap (λ (gs : List Guard). length gs) is.outcome.same in omega (arith, same)
-  guards_more (Some block) is =
-      let raised = ap (λ (gs : List Guard). length gs) is.outcome.raised in
-      let both = length-append guards (guard_of is.outcome.first n block ∷ []) in
-      omega (arith, raised, both)
+  guards_more answer is = search (arith, length-append)
 
   -- ---- where it gave none
   none_is : (is : Raised None) → steps ≡ is.searched
@@ -137,8 +128,8 @@ module _ (f : Profile) (heap n : ℕ) (guards guards' : List Guard) (steps : Lis
 
   none_ends : Raised None → (k : ℕ) (v : View) → FitsBook f guards v → Agreed f v steps → AllByRecursion (IsDeedOf d) (events_by k v steps)
   none_ends is k v fits agreed =
-      let deeds = is.outcome.found.deeds v (may_find f d guards v fits) (subst (Agreed f v) (none_is is) agreed) in
-      subst (λ (xs : List Made). AllByRecursion (IsDeedOf d) (events_by k v xs)) (sym (none_is is)) (deeds_sought d is.searched is.kinds (made_of d (n + 2) _ is.searched deeds) k v)
+      let deeds = is.outcome.found.deeds v (fits_find f d guards v fits) (subst (Agreed f v) (none_is is) agreed) in
+      subst (λ (xs : List Made). AllByRecursion (IsDeedOf d) (events_by k v xs)) (sym (none_is is)) (deeds_sought d is.searched is.kinds (of_directory d (n + 2) _ is.searched deeds) k v)
 
   -- ---- where it gave a block
   module _ (block : Block) (is : Raised (Some block)) where
@@ -160,29 +151,20 @@ module _ (f : Profile) (heap n : ℕ) (guards guards' : List Guard) (steps : Lis
 
     turn_small : (v : View) → Agreed f v steps → block.name.turn < 2 ^ 37
     turn_small v agreed =
-        let here = agreed_first f v given is.searched (before_give v agreed) in
         let turn = ap (λ (b : Block). b.name.turn) up.block_is in
-        omega (arith, turn, here.1.0.turn)
+        omega (arith, turn, (agreed_first f v given is.searched (before_give v agreed)).1.0.turn)
 
     page_is : address_of block.name ≡ (up.first + 1) * 4096
     page_is = ap (λ (b : Block). address_of b.name) up.block_is
 
     block_of_region : (v : View) → heap < f.heaps → Agreed f v steps → IsBlockOf f block
-    block_of_region v of agreed =
-        let region = up.found.of_region in
-        let of_heap = ap (λ (b : Block). b.heap) up.block_is in
-        let turn = turn_small v agreed in
-        record {
-          region = record { page = (omega (arith, page_is, region.0), omega (arith, page_is, region.1)); aligned = omega (arith, page_is) };
-          heap = omega (arith, of_heap, of);
-          turn = omega (arith, turn);
-        }
+    block_of_region v of agreed = search (arith, turn_small, page_is)
 
     -- the pages of the block are known to have the directory as their deed
     deeds_known : (v : View) → FitsBook f guards v → Agreed f v steps → (g : ℕ) → in_run (grain_of block.name) (length_of block) g ≡ true → KnowsDeed (g / 256) d (steps ++ v)
     deeds_known v fits agreed g inside =
         let all = subst (Agreed f v) is.steps_are agreed in
-        let span = up.found.got.from v (may_find f d guards v fits) (agreed_later f v is.after is.searched all) in
+        let span = up.found.got.from v (fits_find f d guards v fits) (agreed_later f v is.after is.searched all) in
         let page : in_span (up.first + 1) (up.first + 1 + n) (g / 256) ≡ true = sym (run_is d (up.first + 1) n up.word g) ∙ ap (λ (b : Block). in_run (grain_of b.name) (length_of b) g) (sym up.block_is) ∙ inside in
         let at = in_parts (up.first + 1) (up.first + 1 + n) (g / 256) page in
         let before = span.got.deeds (g / 256) (span_in up.first (up.first + (n + 2)) (g / 256) (omega (arith, at.0)) (omega (arith, at.1))) in
@@ -201,7 +183,7 @@ module _ (f : Profile) (heap n : ℕ) (guards guards' : List Guard) (steps : Lis
           events = events_are k v;
           prepared = all_both (IsPreparing d) (events_by k (is.searched ++ v) up.backs) (events_by k v is.searched) (backs_only d up.backs (raised_backs up) k (is.searched ++ v))
               (all_map (IsDeedOf d) (IsPreparing d) (events_by k v is.searched) (deed_prepares d)
-              (deeds_sought d is.searched is.kinds (made_of d (n + 2) _ is.searched (up.found.deeds v (may_find f d guards v fits) (agreed_later f v is.after is.searched (subst (Agreed f v) is.steps_are agreed)))) k v));
+              (deeds_sought d is.searched is.kinds (of_directory d (n + 2) _ is.searched (up.found.deeds v (fits_find f d guards v fits) (agreed_later f v is.after is.searched (subst (Agreed f v) is.steps_are agreed)))) k v));
         }
 
     stands_so : (align : ℕ) → IsAlignment align → address_of block.name % align ≡ 0
@@ -209,31 +191,21 @@ module _ (f : Profile) (heap n : ℕ) (guards guards' : List Guard) (steps : Lis
 
   -- ---- how many events
   raise_few : (answer : Option Block) → Raised answer → (k : ℕ) (v : View) → Agreed f v steps → length (events_by k v steps) + unknown_pages f (steps ++ v) ≤ cost_of_raise n answer + unknown_pages f v
-  raise_few None is k v agreed =
-      let few = is.shows k v (subst (Agreed f v) (none_is is) agreed) in
-      let events = ap (λ (xs : List Made). length (events_by k v xs)) (none_is is) in
-      let left = ap (λ (xs : List Made). unknown_pages f (xs ++ v)) (none_is is) in
-      omega (arith, few, events, left)
+  raise_few None is k v agreed = search (arith, none_is)
   raise_few (Some block) is k v agreed =
       let all = subst (Agreed f v) is.steps_are agreed in
-      let few = is.shows k v (agreed_later f v is.after is.searched all) in
       let stays = unknown_stays f is.after (is.searched ++ v) (agreed_first f v is.after is.searched all) in
       let left = ap (λ (xs : List Made). unknown_pages f (xs ++ v)) is.steps_are ∙ ap (λ (w : View). unknown_pages f w) (append_assoc is.after is.searched v) in
       let events = ap (λ (es : List Event). length es) (events_are block is k v) in
       let both = length-append (events_by k (is.searched ++ v) is.outcome.backs) (events_by k v is.searched) in
       let backs = back_events k (is.searched ++ v) is.outcome.backs in
       let most = raised_few is.outcome in
-      omega (arith, few, stays, left, events, both, backs, most)
+      omega (arith, is.shows k v (agreed_later f v is.after is.searched all), stays, left, events, both, backs, most)
 
 -- ---- what is asked for
 -- a request for whole pages, by how many
 pages_wanted : (f : Profile) (heap size align n : ℕ) → n ≡ (size + 4096 - 1) / 4096 → 2048 < size → record { directory = large_directory heap; route = Route.Large; room = n * 4096; align = align } ≡ wanted_for f heap size align
-pages_wanted f heap size align n is large =
-    let route : route_in f size align ≡ Route.Large = is_large f.classes size align large in
-    let whole : max size 1 ≡ size = omega (arith, large) in
-    let room : n * 4096 ≡ room_in f size align = ap (λ x. x * 4096) (is ∙ ap (λ x. (x + 4096 - 1) / 4096) (sym whole)) ∙ ap (λ (r : Route). room_by r (max size 1)) (sym route) in
-    ap (λ (r : Route). record { directory = record { heap = heap; kind = kind_of_route (is_shared f heap) r }; route = r; room = n * 4096; align = align }) (sym route)
-    ∙ ap (λ x. record { directory = record { heap = heap; kind = kind_of_route (is_shared f heap) (route_in f size align) }; route = route_in f size align; room = x; align = align }) room
+pages_wanted f heap size align n is large = search (arith, is_large)
 
 count_wanted : (f : Profile) (r : Request) (n : ℕ) → n ≡ (r.size + 4096 - 1) / 4096 → 2048 < r.size → n ≡ pages_of (wanted_by f r)
 count_wanted f r n is large = is ∙ sym (pages_asked f r.size r.align (is_large f.classes r.size r.align large))
@@ -311,41 +283,32 @@ module _ {σ σ1 σ2 : Standing} (r : Request) (book book1 book2 : GuardBook) (o
   few_then : (v : View) → Agreed f v steps → length (events_by k (s.steps ++ v) u.steps) + unknown_pages f (steps ++ v) ≤ cost_of_raise n answer + unknown_pages f v
   few_then v agreed =
       let few = raise_few f r.heap n guards1 guards2 u.steps answer raise_so k (s.steps ++ v) (agreed_first f v u.steps s.steps agreed) in
-      let stays = unknown_stays f s.steps v (agreed_later f v u.steps s.steps agreed) in
       let left = ap (λ (w : View). unknown_pages f w) (append_assoc u.steps s.steps v) in
-      omega (arith, few, stays, left)
+      omega (arith, few, unknown_stays f s.steps v (agreed_later f v u.steps s.steps agreed), left)
 
   most_cost : (a : Option Block) → cost_of_raise n a ≤ cost_of_size r.size
-  most_cost None = omega arith
-  most_cost (Some block) = let cost = cost_wanted r.size n is large in omega (arith, cost)
+  most_cost a = search (arith, cost_wanted)
 
   few_both : (v : View) → Agreed f v steps → length (events_by k v steps) + unknown_pages f (steps ++ v) ≤ cost_of_size r.size + unknown_pages f v
-  few_both v agreed =
-      let few = few_then v agreed in
-      let events = ap (λ (es : List Event). length es) (events_then v) in
-      let most = most_cost answer in
-      omega (arith, few, events, most)
+  few_both v agreed = search (arith, events_then, few_then, most_cost)
 
   -- what is said
   abbrev told : View → List Record
   told v = s.more ++ (records_of (events_by k (s.steps ++ v) u.steps) ++ said_of_guard k r.name (pages_of (wanted_by f r)) answer)
 
   one_told : (a : Option Block) (m : ℕ) → length (said_of_guard k r.name m a) + more_guards a + cost_of_raise n a ≤ cost_of_try r.size a
-  one_told None m = omega arith
-  one_told (Some block) m = let cost = cost_wanted r.size n is large in omega (arith, cost)
+  one_told a m = search (arith, cost_wanted)
 
   paid : (v : View) → Agreed f v steps → length (told v) + owed_by_keeper f guards2 (steps ++ v) ≤ cost_of_try r.size answer + owed_by_keeper f (guards_in book) v
   paid v agreed =
       let es = events_by k (s.steps ++ v) u.steps in
       let guard = said_of_guard k r.name (pages_of (wanted_by f r)) answer in
-      let few = few_then v agreed in
       let count = swept_count false k (guards_in book) guards1 s.more s.steps s.sweep.swept in
       let more = guards_more f r.heap n guards1 guards2 u.steps answer raise_so in
-      let one = one_told answer (pages_of (wanted_by f r)) in
       let a = length-append s.more (records_of es ++ guard) in
       let b = length-append (records_of es) guard in
       let c : length (records_of es) ≡ length es = length-map (reverse es) Record.Event ∙ length-reverse es in
-      omega (arith, few, count, more, one, a, b, c)
+      omega (arith, few_then v agreed, count, more, one_told answer (pages_of (wanted_by f r)), a, b, c)
 
   is_tried : (v : View) → IsAlignment r.align → FitsBook f (guards_in book) v → Agreed f v steps → IsTried f k r v (guards_in book) (record { steps = steps; records = told v; block = answer; guards = guards2 })
   is_tried v alignment met agreed =
@@ -387,10 +350,9 @@ module _ {σ σ1 σ2 : Standing} (r : Request) (book book1 book2 : GuardBook) (o
       let es = events_by k (s.steps ++ v) u.steps in
       let shown = ap (λ (xs : List Event). length xs) (shown_of old new before after v can.whole can.stood can.met.fits) ∙ length-reverse es in
       let few = few_then v (both_agreed v can.whole can.stood can.met.fits) in
-      let most = most_cost answer in
       let count = swept_count false k (guards_in book) guards1 s.more s.steps s.sweep.swept in
       let swept = ap (λ (rs : List Record). length rs) s.added ∙ length-append (records_in out) s.more in
-      omega (arith, shown, few, most, count, swept, can.met.records)
+      omega (arith, shown, few, most_cost answer, count, swept, can.met.records)
 
   -- ---- the answer
   -- the block that was given may be freed
@@ -403,10 +365,7 @@ module _ {σ σ1 σ2 : Standing} (r : Request) (book book1 book2 : GuardBook) (o
 
   -- what is said of the guard that went up, if any
   pub said_some : (block : Block) (actor : ℕ) (message : Said) → actor ≡ σ2.seat.actor → message ≡ Said.Guarded (address_of block.name / 4096 - 1) (address_of block.name / 4096 + n) r.name → Record.Said actor message ∷ [] ≡ said_of_guard k r.name (pages_of (wanted_by f r)) (Some block)
-  said_some block actor message actor_is message_is =
-      ap (λ (j : ℕ). Record.Said j message ∷ []) (actor_is ∙ ap (λ (x : Seat). x.actor) (u.adds.seat_is ∙ s.adds.seat_is))
-      ∙ ap (λ (m : Said). Record.Said k m ∷ []) message_is
-      ∙ ap (λ (m : ℕ). Record.Said k (Said.Guarded (address_of block.name / 4096 - 1) (address_of block.name / 4096 + m) r.name) ∷ []) (count_wanted f r n is large)
+  said_some block actor message actor_is message_is = search (arith, count_wanted)
 
   pub said_none : (rs : List Record) → answer ≡ None → rs ≡ rs ++ said_of_guard k r.name (pages_of (wanted_by f r)) answer
   said_none rs none = sym (ap (λ (a : Option Block). rs ++ said_of_guard k r.name (pages_of (wanted_by f r)) a) none ∙ append-nil rs)
@@ -414,18 +373,10 @@ module _ {σ σ1 σ2 : Standing} (r : Request) (book book1 book2 : GuardBook) (o
   -- the keeper's records, in the order in which they came
   told_are : (out2 out3 : Records) (old new : List Event) → IsShown σ1 old → IsShown σ2 new → records_in out2 ≡ records_in out1 ++ map Record.Event (drop (length old) new)
       → records_in out3 ≡ records_in out2 ++ said_of_guard k r.name (pages_of (wanted_by f r)) answer → (v : View) (l : Whole) → σ.stands v l → FitsBook f (guards_in book) v → records_in out3 ≡ records_in out ++ told v
-  told_are out2 out3 old new before after events last v l stood met =
-      let es = events_by k (s.steps ++ v) u.steps in
-      let guard = said_of_guard k r.name (pages_of (wanted_by f r)) answer in
-      let own : map Record.Event (drop (length old) new) ≡ records_of es = ap (λ (xs : List Event). map Record.Event xs) (shown_of old new before after v l stood met) in
-      last ∙ ap (λ (rs : List Record). rs ++ guard) (events ∙ ap (λ (rs : List Record). records_in out1 ++ rs) own ∙ ap (λ (rs : List Record). rs ++ records_of es) s.added ∙ append_assoc (records_in out) s.more (records_of es))
-      ∙ append_assoc (records_in out) (s.more ++ records_of es) guard ∙ ap (λ (rs : List Record). records_in out ++ rs) (append_assoc s.more (records_of es) guard)
+  told_are out2 out3 old new before after events last v l stood met = search (arith, shown_of, append_assoc)
 
   short : length steps ≤ try_steps f r (guards_in book)
-  short =
-      let raise : RaiseSteps f r.heap (pages_of (wanted_by f r)) guards1 guards2 answer u.steps = subst (λ (m : ℕ). RaiseSteps f r.heap m guards1 guards2 answer u.steps) (count_wanted f r n is large) raise_so in
-      let all = length-append u.steps s.steps in
-      omega (arith, all, s.sweep.few, raise.few)
+  short = search (arith, count_wanted, raise_so, length-append)
 
   pub tries : (out2 out3 : Records) (old new : List Event) → IsAlignment r.align → IsShown σ1 old → IsShown σ2 new → records_in out2 ≡ records_in out1 ++ map Record.Event (drop (length old) new)
       → records_in out3 ≡ records_in out2 ++ said_of_guard k r.name (pages_of (wanted_by f r)) answer → room_of out3 ≡ room_of out → size_of_book book2 ≡ size_of_book book → TriesRequest r book book2 out out3 σ σ2 answer

@@ -1,5 +1,5 @@
 -- In a replay whose pieces stand together in a legal list each refusal is true of the whole state, and each run that was named serves exactly where it is whole.
-use Rattle.std.proofs.Common.{◌≡◌, ℕ, ◌<◌, inl, inr, List, [], ◌∷◌, ◌++◌, Option, Some, None, Result, Ok, Err, MatchResult, refl, sym, subst, MatchOption}
+use Rattle.std.proofs.Common.{arith, ◌≡◌, ℕ, ◌<◌, inl, inr, List, [], ◌∷◌, ◌++◌, Option, Some, None, Result, Ok, Err, MatchResult, refl, sym, subst, MatchOption}
 use Rattle.pas_profile.specs.Profiles.{IsValid, IsAdmitted}
 use Rattle.pas_profile.specs.declared.{event.NoRoom.NoRoom, name.Block.Block, profile.Profile.Profile}
 use Rattle.pas_steps.specs.{Desks.triples, Lists.Whole, Lists.part, Lists.Legal}
@@ -20,8 +20,7 @@ use Rattle.pas_answers.specs.Indexes.{TakesItsRun, TriedTakesItsRun, GuardedTake
 -- ---- one operation
 request_refuses : (f : Profile) (k heap size align : ℕ) (c c' : Cached) (l : Whole) (steps : List Made) (found : Option ℕ) (answer : Result Block NoRoom) → IsValid f → IsAdmitted f size align heap → AtRest f c (part k l) → Legal f (triples k steps ++ l)
     → ServesRequest f (wanted_for f heap size align) found c c' steps answer → MatchResult answer (λ block. Unit {0}) (IsTrulyRefused f (wanted_for f heap size align) c.locals l (triples k steps ++ l))
-request_refuses f k heap size align c c' l steps found (Ok block) valid admitted rest legal serves = tt
-request_refuses f k heap size align c c' l steps found (Err room) valid admitted rest legal serves = truly_refused f heap size align k found c c' l steps room valid admitted rest legal serves
+request_refuses f k heap size align c c' l steps found answer valid admitted rest legal serves = search (arith, truly_refused)
 
 -- where a block is replaced, of a request in a heap of the region
 module _ (f : Profile) (k name size align : ℕ) (b : Having) (a : Answer) (l : Whole) (valid : IsValid f) (own : part k l ≡ b.view) (legal : Legal f (triples k a.steps ++ l)) where
@@ -89,13 +88,10 @@ takes_run f k (Remake name old heap size align) b a l valid own legal is = remad
 takes_run f k what b a l valid own legal is = tt
 
 tried_takes : (f : Profile) (op : Op) (r : Request) (block : Option Block) (p q : Progress) → IsValid f → Legal f q.list → (is : AnswersTried f op r block p q) → TriedTakesItsRun f op r block p q is
-tried_takes f op r (Some block) p q valid legal is = tt
-tried_takes f op r None p q valid legal is =
-    takes_run f op.actor op.what (having p.names (part op.actor p.list) (p.caches op.actor)) is.0 p.list valid refl (subst (λ (s : Progress). Legal f s.list) is.2 legal) is.1
+tried_takes f op r block p q valid legal is = search (arith, takes_run)
 
 guarded_takes : (f : Profile) (keeper : ℕ) (op : Op) (o : Option Request) (p q : Progress) → IsValid f → Legal f q.list → (is : AnswersGuarded f keeper op o p q) → GuardedTakesItsRun f keeper op o p q is
-guarded_takes f keeper op None p q valid legal is = absurd is
-guarded_takes f keeper op (Some r) p q valid legal is = tried_takes f op r is.0.block (after_trying p keeper is.0) q valid legal is.2
+guarded_takes f keeper op o p q valid legal is = search (arith, tried_takes)
 
 pub all_take : (f : Profile) (acts : List Act) (p q : Progress) → IsValid f → Legal f q.list → (is : Reaches f acts p q) → AllTakeTheirRuns f acts p q is
 all_take f [] p q valid legal is = tt

@@ -18,16 +18,7 @@ use Rattle.pas_guard.specs.Guarded.{StandsGuard, LeavesGuard, KeepsGuard, GivesO
 
 -- only a back makes a page that isn't backed a backed one
 stays_bare : (e : ℕ) (s : Step) (page old : ℕ) → (s ≡ Back page → ⊥) → old ≡ 0 → (if same_word (target s) (Words.Backed page) then new_value e s old else old) ≡ 0
-stays_bare e (Look w) page old not zero = looked (same_word w (Words.Backed page)) old ∙ zero
-stays_bare e (Back q) page old not zero = elim (cases_Bool (q == page)) [
-  | inl is ↦ absurd (not (ap Back (eqb-true q page is)))
-  | inr other ↦ ap (λ t. if t then new_value e (Back q) old else old) other ∙ zero
-]
-stays_bare e (Unback q) page old not zero = elim (cases_Bool (q == page)) [
-  | inl is ↦ ap (λ t. if t then 0 else old) is
-  | inr other ↦ ap (λ t. if t then 0 else old) other ∙ zero
-]
-stays_bare e s page old not zero = zero
+stays_bare e s page old not h = search (arith, cases_Bool, eqb-true)
 
 -- ---- the steps of others
 module _ (f : Profile) (l : Whole) (keeper page : ℕ) (d : Directory) (valid : IsValid f) (legal : Legal f l) (stands : StandsGuard l keeper page d) where
@@ -45,46 +36,31 @@ moved : (b g : ℕ) → Gives b ≡ Stays → ⊥
 moved b g e = cc
 
 own_give : (page : ℕ) (m : Made) → LeavesGuard page m → GivesOn page m.step → ⊥
-own_give page m leaves on =
-    let b = on.0 in let g = on.2 in
-    let stays : grain_move (Give b) m.answer g.0 ≡ Stays = sym (ap (λ s. grain_move s m.answer g.0) on.1) ∙ leaves.stays g.0 g.1 in
-    moved (grain_of b.name) g.0 (sym (ap (λ t. if t then Gives (grain_of b.name) else Stays) g.2) ∙ stays)
+own_give page m leaves on = search (arith, moved)
 
 -- ---- one step more
 module _ (f : Profile) (l : Whole) (t : Triple) (keeper page : ℕ) (d : Directory) (valid : IsValid f) (legal : Legal f l) (next : IsNext f l t) (stands : StandsGuard l keeper page d) (keeps : (t.actor == keeper) ≡ true → LeavesGuard page t.made) where
   untouched_next : IsUntouched page t.made.step
-  untouched_next = elim (cases_Bool (t.actor == keeper)) [
-    | inl own ↦ record { unbacked = (keeps own).unbacked; ungiven = own_give page t.made (keeps own) }
-    | inr other ↦ record { unbacked = no_back f l keeper page d valid legal stands t.actor t.made.step other next.allowed; ungiven = no_give f l keeper page d valid legal stands t.actor t.made.step other next.allowed }
-  ]
+  untouched_next = search (arith, cases_Bool, own_give, no_back, no_give)
 
   held_next : (own : Bool) → (t.actor == keeper) ≡ own → (g : ℕ) → g / 256 ≡ page → holds (if own then t.made ∷ part keeper l else part keeper l) g ≡ true
   held_next true is g at = ap (λ m. held_after m (holds (part keeper l) g)) ((keeps is).stays g at) ∙ stands.held g at
   held_next false is g at = stands.held g at
 
   stands_next : StandsGuard (t ∷ l) keeper page d
-  stands_next = record {
-    held = held_next (t.actor == keeper) refl;
-    deed = deed_kept l t page (λ z. deed_word_of-positive d (sym stands.deed ∙ z)) ∙ stands.deed;
-    bare = stays_bare (epoch_of (part t.actor l)) t.made.step page (word_after l (Words.Backed page)) untouched_next.unbacked stands.bare;
-  }
+  stands_next = search (arith, held_next, stays_bare, untouched_next)
 
 -- ---- a step between two places where the page stands
 backs_it : (e : ℕ) (s : Step) (page old : ℕ) → s ≡ Back page → old ≡ 0 → (if same_word (target s) (Words.Backed page) then new_value e s old else old) ≡ 1
-backs_it e s page old is zero = subst (λ x. (if same_word (target x) (Words.Backed page) then new_value e x old else old) ≡ 1) (sym is)
-    (ap (λ t. if t then bit_or old 1 else old) (eq-eqb page page refl) ∙ ap (λ o. bit_or o 1) zero)
+backs_it e s page old is zero = search (arith, bit_or, eq-eqb)
 
 given_away : (page answer : ℕ) (s : Step) (on : GivesOn page s) (h : Bool) → held_after (grain_move s answer on.2.0) h ≡ false
-given_away page answer s on h = let b = on.0 in let g = on.2 in
-    ap (λ x. held_after (grain_move x answer g.0) h) on.1 ∙ ap (λ t. held_after (if t then Gives (grain_of b.name) else Stays) h) g.2
+given_away page answer s on h = search (arith, on.0, on.2, on.1)
 
 pub untouched_between : (f : Profile) (l : Whole) (t : Triple) (keeper page : ℕ) (d : Directory) → IsValid f → Legal f (t ∷ l) → StandsGuard l keeper page d → StandsGuard (t ∷ l) keeper page d → IsUntouched page t.made.step
 untouched_between f l t keeper page d valid legal before after = record {
   unbacked = λ e. absurd (let one = sym after.bare ∙ backs_it (epoch_of (part t.actor l)) t.made.step page (word_after l (Words.Backed page)) e before.bare in omega (arith, one));
-  ungiven = λ on. elim (cases_Bool (t.actor == keeper)) [
-    | inl own ↦ (let g = on.2 in true≢false (sym (after.held g.0 g.1) ∙ ap (λ o. holds (if o then t.made ∷ part keeper l else part keeper l) g.0) own ∙ given_away page t.made.answer t.made.step on (holds (part keeper l) g.0)))
-    | inr other ↦ (let next = legal.0 in no_give f l keeper page d valid legal.1 before t.actor t.made.step other next.allowed on)
-  ];
+  ungiven = search (arith, cases_Bool, true≢false, given_away, no_give);
 }
 
 -- ---- all steps
@@ -104,8 +80,7 @@ pub record Leaves (keeper page : ℕ) (own : Bool) (m : Made) (rest : List Made)
   pub backs : BacksNot page rest
 
 one_leaves : (keeper page : ℕ) (own : Bool) (m : Made) (rest : List Made) → ((g : ℕ) → g / 256 ≡ page → StaysPut g (if own then m ∷ rest else rest)) → BacksNot page (if own then m ∷ rest else rest) → Leaves keeper page own m rest
-one_leaves keeper page true m rest stays backs = record { mine = λ own. record { stays = λ g at. (stays g at).0; unbacked = backs.0 }; stays = λ g at. (stays g at).1; backs = backs.1 }
-one_leaves keeper page false m rest stays backs = record { mine = λ own. absurd (true≢false (sym own)); stays = stays; backs = backs }
+one_leaves keeper page own m rest stays backs = search (arith, true≢false)
 
 pub own_keep : (keeper page : ℕ) (newer : Whole) → ((g : ℕ) → g / 256 ≡ page → StaysPut g (part keeper newer)) → BacksNot page (part keeper newer) → KeepsGuard keeper page newer
 own_keep keeper page [] stays backs = tt
@@ -121,10 +96,7 @@ looked_bare e s page old is zero = subst (λ x. (if same_word (target x) (Words.
 
 -- the keeper's newest step is the look
 begins_here : (f : Profile) (l : Whole) (t : Triple) (keeper page : ℕ) (v : View) (before : List Made) → IsNext f l t → part keeper l ≡ before ++ v → (t.actor == keeper) ≡ true → BackedReadHere v page 0 t.made before → StandsBare (t ∷ l) keeper page
-begins_here f l t keeper page v before next is own read = record {
-  held = λ g at. ap (λ o. holds (if o then t.made ∷ part keeper l else part keeper l) g) own ∙ ap (λ s. held_after (grain_move s t.made.answer g) (holds (part keeper l) g)) read.0 ∙ ap (λ w. holds w g) is ∙ read.2 g at;
-  bare = looked_bare (epoch_of (part t.actor l)) t.made.step page (word_after l (Words.Backed page)) read.0 (sym (ap (λ s. word_after l (target s)) read.0) ∙ sym next.answer_is ∙ read.1);
-}
+begins_here f l t keeper page v before next is own read = search (arith, looked_bare)
 
 goes_bare : (f : Profile) (l : Whole) (t : Triple) (keeper page : ℕ) → IsValid f → Legal f l → IsNext f l t → StandsBare l keeper page → ((t.actor == keeper) ≡ true → LeavesGuard page t.made) → StandsBare (t ∷ l) keeper page
 goes_bare f l t keeper page valid legal next stands keeps =
@@ -132,18 +104,14 @@ goes_bare f l t keeper page valid legal next stands keeps =
       | inl own ↦ (keeps own).unbacked e
       | inr other ↦ (let on = (subst (Allowed f (part t.actor l)) e next.allowed).0 in true≢false (sym (one_holder f l valid legal t.actor keeper on.0 on.2 (stands.held on.0 on.1)) ∙ other))
     ] in record {
-      held = λ g at. elim (cases_Bool (t.actor == keeper)) [
-        | inl own ↦ ap (λ o. holds (if o then t.made ∷ part keeper l else part keeper l) g) own ∙ ap (λ m. held_after m (holds (part keeper l) g)) ((keeps own).stays g at) ∙ stands.held g at
-        | inr other ↦ ap (λ o. holds (if o then t.made ∷ part keeper l else part keeper l) g) other ∙ stands.held g at
-      ];
+      held = search (arith, cases_Bool);
       bare = stays_bare (epoch_of (part t.actor l)) t.made.step page (word_after l (Words.Backed page)) no_back stands.bare;
     }
 
 -- the steps since, in the list of all actors
 begins_by : (f : Profile) (t : Triple) (l : Whole) (keeper page : ℕ) (v : View) (m : Made) (steps : List Made) → IsValid f → Legal f l → IsNext f l t → t.made ≡ m → part keeper l ≡ steps ++ v → (t.actor == keeper) ≡ true → Since (BackedReadHere v page 0) (LeftSince page) (m ∷ steps)
     → (Since (BackedReadHere v page 0) (LeftSince page) steps → StandsBare l keeper page) → StandsBare (t ∷ l) keeper page
-begins_by f t l keeper page v m steps valid legal next same is own (inl read) more = begins_here f l t keeper page v steps next is own (subst (λ x. BackedReadHere v page 0 x steps) (sym same) read)
-begins_by f t l keeper page v m steps valid legal next same is own (inr later) more = goes_bare f l t keeper page valid legal next (more later.1) (λ mine. subst (LeavesGuard page) (sym same) later.0)
+begins_by f t l keeper page v m steps valid legal next same is own h more = search (arith, begins_here, goes_bare)
 
 pub head_same : (x y : Made) (xs ys : List Made) → x ∷ xs ≡ y ∷ ys → (x ≡ y) × (xs ≡ ys)
 head_same x y xs ys e = (cc, cc)

@@ -22,12 +22,7 @@ with_high : (first k q : ℕ) → (in_span first (first + 1 + k) q || (first + k
 with_high first k q = grind (arith, nat_tests)
 
 inner_pages : (d : Directory) (first k : ℕ) (v : View) → HasPages d first (first + (k + 2)) v → HasPages d (first + 1) (first + 1 + k) v
-inner_pages d first k v met = record {
-  right = λ p is. met.right p (inner_in first k p is);
-  held = λ g is. met.held g (inner_in first k (g / 256) is);
-  deeds = λ p is. met.deeds p (inner_in first k p is);
-  clear = met.clear;
-}
+inner_pages d first k v met = search (arith, inner_in)
 
 pub can_give_inner : {σ : Standing} (d : Directory) (first k : ℕ) → CanCall σ (HasPages d first (first + (k + 2))) → CanCall σ (HasPages d (first + 1) (first + 1 + k))
 can_give_inner d first k can = record { view = can.view; whole = can.whole; stood = can.stood; met = inner_pages d first k can.view can.met }

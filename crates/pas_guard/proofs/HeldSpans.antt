@@ -14,15 +14,7 @@ use Rattle.pas_large.proofs.Pages.{undone}
 use Rattle.pas_guard.specs.Seeks.{HasSpan}
 
 pub span_of_none : {v w : View} (d : Directory) (a : ℕ) → Does nothing v w → HasSpan d a a v w
-span_of_none {v} d a does = record {
-  got = record {
-    does = does_as (of_pages (in_span a a) Gained) does (λ g. inl (ap (λ t. if t then Gained else Kept) (sym (span_none a (g / 256))))) (λ q. ap (λ t. if t then Gained else Kept) (sym (span_none a q))) (λ q h. h);
-    apart = λ g h. absurd (true≢false (sym h ∙ span_none a (g / 256)));
-    lacked = λ p h. absurd (true≢false (sym h ∙ span_none a p));
-    deeds = λ p h. absurd (true≢false (sym h ∙ span_none a p));
-  };
-  lacked = λ p h. absurd (true≢false (sym h ∙ span_none a p));
-}
+span_of_none {v} d a does = search (arith, does_as, span_none, true≢false)
 
 pub span_then : {v w u : View} (d : Directory) (a b : ℕ) → HasSpan d a b v w → Does nothing w u → ((p : ℕ) → KnowsDeed p d w → KnowsDeed p d u) → HasSpan d a b v u
 span_then d a b span still knows = record { got = record { does = does_then span.got.does still; apart = span.got.apart; lacked = span.got.lacked; deeds = λ p is. knows p (span.got.deeds p is) }; lacked = span.lacked }
@@ -39,16 +31,12 @@ span_both d a b c low high span lacked second knows = record {
   lacked = λ p is. let at = in_parts a c p is in elim (cases_lt p b) [ inl below ↦ span.lacked p (span_in a b p at.0 below) | inr above ↦ lacked p above at.1 ];
 }
 
-pub out_fewer : (a b c p : ℕ) → b ≤ c → in_span a c p ≡ false → in_span a b p ≡ false
-out_fewer a b c p le out = grind (arith, nat_tests)
-
 pub out_later : (a b c p : ℕ) → a ≤ b → in_span a c p ≡ false → in_span b c p ≡ false
 out_later a b c p le out = grind (arith, nat_tests)
 
 -- the first of them is left
 slid : (m t u had : Bool) → (m ≡ true → (u ≡ false) × (had ≡ false)) → (m ≡ false → t ≡ u) → now (if m then Lost else Kept) (now (if t then Gained else Kept) had) ≡ now (if u then Gained else Kept) had
-slid true t u had here there = sym (ap (λ x. now (if x then Gained else Kept) had) (here refl).0 ∙ (here refl).1)
-slid false t u had here there = ap (λ x. now (if x then Gained else Kept) had) (there refl)
+slid m t u had here there = grind arith
 
 past_first : (a c p : ℕ) → p ≡ a → in_span (a + 1) c p ≡ false
 past_first a c p e = grind (arith, nat_tests)

@@ -2,6 +2,7 @@
 use Rattle.std.proofs.Common.{◌≡◌, ℕ, zero, suc, ◌+◌, ◌/◌, ◌<◌, ◌==◌, Bool, true, false, ◌||◌, if◌then◌else◌, ◌⊎◌, List, [], ◌∷◌, ◌++◌, length, inl, inr, refl}
 use Rattle.std.proofs.Common.{ap, sym, ◌∙◌, subst, arith, append_assoc, append-nil, true≢false, Option, Some, None, Contains, slice_index_or, eqb-true, eq-eqb}
 use Rattle.std.proofs.lemmas.{Bool.cases_Bool, Bool.Decides.nat_tests, List.Elements.Contains-append_right, List.Elements.Contains-push_cases}
+use Rattle.std.proofs.lemmas.Bool.{or_right}
 use Rattle.pas_profile.specs.{Profiles.IsValid, Blocks.address_of}
 use Rattle.pas_profile.specs.declared.{directory.Directory.Directory, name.Block.Block, profile.Profile.Profile}
 use Rattle.pas_report.specs.declared.record.Record.{Record}
@@ -127,28 +128,23 @@ first_or_later g gs x has = at_cases g gs x has.0 has.1 has.2
 pub none_in : (x : Guard) → Contains [] x → ⊥
 none_in x has = omega (arith, has.1)
 
-either_true : (a b : Bool) → b ≡ true → (a || b) ≡ true
-either_true true b h = refl
-either_true false b h = h
-
 pub low_outer : (g : Guard) → is_outer_of g g.low ≡ true
 low_outer g = ap (λ t. t || (g.high == g.low)) (eq-eqb g.low g.low refl)
 
 high_outer : (g : Guard) → is_outer_of g g.high ≡ true
-high_outer g = either_true (g.low == g.high) (g.high == g.high) (eq-eqb g.high g.high refl)
+high_outer g = or_right (g.low == g.high) (g.high == g.high) (eq-eqb g.high g.high refl)
 
 -- an outer page of one of them is one of the book
 pub outer_in : (gs : List Guard) (x : Guard) (p : ℕ) → Contains gs x → is_outer_of x p ≡ true → is_outer gs p ≡ true
 outer_in [] x p has is = absurd (none_in x has)
 outer_in (g ∷ gs) x p has is = elim (first_or_later g gs x has) [
   | inl same ↦ ap (λ y. is_outer_of y p || is_outer gs p) same ∙ ap (λ t. t || is_outer gs p) is
-  | inr later ↦ either_true (is_outer_of g p) (is_outer gs p) (outer_in gs x p later is)
+  | inr later ↦ or_right (is_outer_of g p) (is_outer gs p) (outer_in gs x p later is)
 ]
 
 -- those that stay up in a sweep were up before
 one_was_up : (t : Bool) (k : ℕ) (guard : Guard) (first : List Made) (kept after : List Guard) (said more : List Record) (x : Guard) → SweptOne t k guard first kept after said more → Contains kept x → (guard ≡ x) ⊎ Contains after x
-one_was_up true k guard first kept after said more x h has = inr (subst (λ xs. Contains xs x) h.1 has)
-one_was_up false k guard first kept after said more x h has = first_or_later guard after x (subst (λ xs. Contains xs x) h.1 has)
+one_was_up t k guard first kept after said more x h has = search (arith, first_or_later)
 
 was_up : (all : Bool) (k : ℕ) (guards kept : List Guard) (said : List Record) (steps : List Made) (x : Guard) → Swept all k guards kept said steps → Contains kept x → Contains guards x
 was_up all k [] kept said steps x h has = subst (λ xs. Contains xs x) h.0 has
@@ -263,12 +259,7 @@ put_stays : (page word mask g : ℕ) → (page == g / 256) ≡ false → (if in_
 put_stays page word mask g other = grind arith
 
 sweep_step : (s : Step) (answer g : ℕ) → is_in sweeping (kind_of s) ≡ true → ((page word mask : ℕ) → s ≡ Put page word mask → (page == g / 256) ≡ false) → grain_move s answer g ≡ Stays
-sweep_step (Put page word mask) answer g kind puts = put_stays page word mask g (puts page word mask refl)
-sweep_step (Take page word mask) answer g kind puts = absurd (true≢false (sym kind))
-sweep_step (Give block) answer g kind puts = absurd (true≢false (sym kind))
-sweep_step (End name guess) answer g kind puts = absurd (true≢false (sym kind))
-sweep_step (EndSized name room) answer g kind puts = absurd (true≢false (sym kind))
-sweep_step s answer g kind puts = refl
+sweep_step s answer g kind puts = search (arith, put_stays, true≢false)
 
 puts_leave : (guard : Guard) (p : ℕ) (xs : List Made) → is_outer_of guard p ≡ true → Only sweeping xs → Always (PutsNoneOf guard) xs → (g : ℕ) → g / 256 ≡ p → StaysPut g xs
 puts_leave guard p [] outer only puts g at = tt
@@ -321,10 +312,7 @@ clear_at_first : IsClear []
 clear_at_first = record { on = λ page. record { stamped = refl; owes = record { checks = λ word lt. refl; hint = refl }; examined = refl } }
 
 empty_stands : (f : Profile) (keeper : ℕ) (guards : List Guard) (l : Whole) → guards ≡ [] → part keeper l ≡ [] → BookStands f keeper guards l
-empty_stands f keeper guards l none no_steps = record {
-  fits = subst (λ gs. FitsBook f gs (part keeper l)) (sym none) (subst (FitsBook f []) (sym no_steps) (record { apart = tt; of_region = tt; knows = tt; held = λ g. refl; rights = λ page. refl; clear = clear_at_first }));
-  each = λ guard has. absurd (none_in guard (subst (λ gs. Contains gs guard) none has));
-}
+empty_stands f keeper guards l none no_steps = search (arith, clear_at_first, none_in)
 
 calls_stand : (f : Profile) (keeper : ℕ) → IsValid f → (calls : List Call) (guards : List Guard) (steps : List Made) → MakesCalls f keeper calls guards steps → (l : Whole) → Legal f l → part keeper l ≡ steps → BookStands f keeper guards l
 calls_stand f keeper valid [] guards steps made l legal is = empty_stands f keeper guards l made.0 (is ∙ made.1)
@@ -351,8 +339,7 @@ agreed_all f l k valid legal = agreed_of f l k (part k l) [] valid legal (sym (a
 pub up_stands : (f : Profile) (keeper : ℕ) (guard : Guard) (later : List Made) (l : Whole) → IsValid f → Legal f l → Agreed f [] (later ++ part keeper l) → IsUp f keeper guard later (part keeper l) → StandsBetween l keeper guard
 up_stands f keeper guard later l valid legal agreed up =
     let steps = up.rest ++ up.first in
-    let whole : later ++ part keeper l ≡ up.more ++ (steps ++ up.before) = ap (λ xs. xs ++ part keeper l) up.later_is ∙ ap (λ xs. (up.more ++ up.rest) ++ xs) up.made_is
-    ∙ append_assoc up.more up.rest (up.first ++ up.before) ∙ ap (λ xs. up.more ++ xs) (sym (append_assoc up.rest up.first up.before)) in
+    let whole : later ++ part keeper l ≡ up.more ++ (steps ++ up.before) = search (arith, append_assoc) in
     place_stands f keeper up.call up.guards up.guards_after guard l up.before up.first up.rest valid legal up.made_is
     (subst (λ v. Agreed f v steps) (append-nil up.before) (agreed_first f [] steps up.before (agreed_later f [] up.more (steps ++ up.before) (subst (Agreed f []) whole agreed))))
     (λ older legal_older at. calls_stand f keeper valid up.calls up.guards up.before up.called older legal_older at) up.calls_now up.up

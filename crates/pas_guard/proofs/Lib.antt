@@ -4,9 +4,9 @@ mod Returns
 mod Seeks
 mod Guarded
 mod Guards
-mod Raises
+pub mod Raises
 pub mod Raised
 mod Lowers
 mod Sweeps
-mod Keepers
+pub mod Keepers
 mod Times

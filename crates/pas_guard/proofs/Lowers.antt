@@ -1,6 +1,7 @@
 -- A guard is lowered.
 use Rattle.std.proofs.Common.{◌≡◌, ℕ, ◌/◌, ◌==◌, Bool, true, false, ◌||◌, if◌then◌else◌, ◌++◌, inl, refl, ap, sym, ◌∙◌, arith, length-append, eqb-true, eq-eqb}
 use Rattle.std.proofs.Common.{ne_eqb}
+use Rattle.std.proofs.lemmas.Bool.{or_right}
 use Rattle.pas_profile.specs.declared.{directory.Directory.Directory, profile.Profile.Profile}
 use Rattle.pas_rights.specs.{Puts.masked, Words.full}
 use Rattle.pas_scan.specs.Runs.{large_directory}
@@ -13,10 +14,6 @@ use Rattle.pas_steps.proofs.Called.{call_then, next_call, call_as, call_knows}
 use Rattle.pas_guard.specs.{Books.is_outer_of, Lowers.MayLower, Lowers.lowered, Lowers.Lowers}
 use Rattle.pas_guard.specs.declared.book.Guard.{Guard}
 
-either : (a b : Bool) → b ≡ true → (a || b) ≡ true
-either true b h = refl
-either false b h = h
-
 of_page : (page g : ℕ) → masked page full g ≡ true → page ≡ g / 256
 of_page page g is = eqb-true page (g / 256) (sym (on_full page g) ∙ is)
 
@@ -28,7 +25,7 @@ module _ (f : Profile) (guard : Guard) where
   is_low p e = ap (λ t. t || (guard.high == p)) (eq-eqb guard.low p e)
 
   is_high : (p : ℕ) → guard.high ≡ p → is_outer_of guard p ≡ true
-  is_high p e = either (guard.low == p) (guard.high == p) (eq-eqb guard.high p e)
+  is_high p e = or_right (guard.low == p) (guard.high == p) (eq-eqb guard.high p e)
 
   low_met : (v : View) → MayLower f guard v → MayPutAndReturn guard.low d full v
   low_met v met = record { deed = met.knows.low; puts = record { held = λ g here. met.held g (is_low (g / 256) (of_page guard.low g here)); stamped = (met.clear.on guard.low).stamped } }
@@ -41,15 +38,7 @@ module _ (f : Profile) (guard : Guard) where
     low_call = call_knows guard.high d (call_as (Does (given_back (masked guard.low full))) low.calls low_met (λ v w met does. does)) (λ v met. met.knows.high)
 
     high_met : (v : View) → MayLower f guard v → Does (given_back (masked guard.low full)) v (low.steps ++ v) × KnowsDeed guard.high d (low.steps ++ v) → MayPutAndReturn guard.high d full (low.steps ++ v)
-    high_met v met low = record {
-      deed = low.1;
-      puts = record {
-        held = λ g here.
-            let at = of_page guard.high g here in
-            low.0.held g ∙ ap (λ t. now (if t then Lost else Kept) (holds v g)) (on_full guard.low g ∙ ne_eqb guard.low (g / 256) (λ e. met.of.two (e ∙ sym at))) ∙ met.held g (is_high (g / 256) at);
-        stamped = (low.0.clear guard.high (met.clear.on guard.high)).stamped;
-      };
-    }
+    high_met v met low = search (arith, of_page, on_full, ne_eqb, is_high)
 
     pub can_high : CanCall σ (MayLower f guard) → CanCall σ1 (MayPutAndReturn guard.high d full)
     can_high can = next_call low_call can high_met

@@ -2,6 +2,7 @@
 use Rattle.std.proofs.Common.{◌≡◌, ◌≢◌, ℕ, ◌+◌, ◌*◌, ◌/◌, ◌<◌, ◌≤◌, ◌==◌, Bool, true, false, ◌||◌, if◌then◌else◌, List, [], ◌∷◌, ◌++◌, inl, inr, refl, ap, sym}
 use Rattle.std.proofs.Common.{◌∙◌, subst, arith, length-append, append_assoc, true≢false, Some, None, eqb-true, eq-eqb, ne_eqb}
 use Rattle.std.proofs.lemmas.Bool.{cases_Bool, Decides.nat_tests}
+use Rattle.std.proofs.lemmas.Bool.{or_from, or_parts}
 use Rattle.pas_profile.specs.Blocks.{address_of, grain_of}
 use Rattle.pas_profile.specs.declared.{directory.Directory.Directory, name.Block.Block, profile.Profile.Profile}
 use Rattle.pas_scan.specs.Runs.{large_directory}
@@ -34,18 +35,11 @@ or_later : (a b c : Bool) → (a || (b || c)) ≡ ((a || b) || c)
 or_later true b c = refl
 or_later false b c = refl
 
-or_none : (a b : Bool) → a ≡ false → b ≡ false → (a || b) ≡ false
-or_none a b x y = ap (λ t. t || b) x ∙ y
-
-or_parts : (a b : Bool) → (a || b) ≡ false → (a ≡ false) × (b ≡ false)
-or_parts true b h = absurd (true≢false h)
-or_parts false b h = (refl, h)
-
 outer_more : (gs : List Guard) (guard : Guard) (p : ℕ) → is_outer (gs ++ guard ∷ []) p ≡ (is_outer gs p || is_outer_of guard p)
 outer_more [] guard p = or_false (is_outer_of guard p)
 outer_more (g ∷ gs) guard p = ap (λ t. is_outer_of g p || t) (outer_more gs guard p) ∙ or_later (is_outer_of g p) (is_outer gs p) (is_outer_of guard p)
 
-each_more : (P : Guard → Type 0) (gs : List Guard) (guard : Guard) → Each P gs → P guard → Each P (gs ++ guard ∷ [])
+pub each_more : (P : Guard → Type 0) (gs : List Guard) (guard : Guard) → Each P gs → P guard → Each P (gs ++ guard ∷ [])
 each_more P [] guard h last = (last, tt)
 each_more P (g ∷ gs) guard h last = (h.0, each_more P gs guard h.1 last)
 
@@ -57,18 +51,16 @@ turned : (a b : ℕ) → (a == b) ≡ false → (b == a) ≡ false
 turned a b h = ne_eqb b a (λ e. true≢false (sym (eq-eqb a b (sym e)) ∙ h))
 
 -- the new guard has other pages than this one
-other_guard : (a b : Guard) → is_outer_of a b.low ≡ false → is_outer_of a b.high ≡ false → (is_outer_of b a.low ≡ false) × (is_outer_of b a.high ≡ false)
-other_guard a b low high =
-    let x = or_parts (a.low == b.low) (a.high == b.low) low in let y = or_parts (a.low == b.high) (a.high == b.high) high in
-    (or_none (b.low == a.low) (b.high == a.low) (turned a.low b.low x.0) (turned a.low b.high y.0), or_none (b.low == a.high) (b.high == a.high) (turned a.high b.low x.1) (turned a.high b.high y.1))
+pub other_guard : (a b : Guard) → is_outer_of a b.low ≡ false → is_outer_of a b.high ≡ false → (is_outer_of b a.low ≡ false) × (is_outer_of b a.high ≡ false)
+other_guard a b low high = search (arith, or_parts, or_from, turned)
 
 apart_more : (gs : List Guard) (guard : Guard) → AreApart gs → is_outer gs guard.low ≡ false → is_outer gs guard.high ≡ false → AreApart (gs ++ guard ∷ [])
 apart_more [] guard apart low high = (refl, refl, tt)
 apart_more (g ∷ gs) guard apart low high =
     let x = or_parts (is_outer_of g guard.low) (is_outer gs guard.low) low in let y = or_parts (is_outer_of g guard.high) (is_outer gs guard.high) high in
     let other = other_guard g guard x.0 y.0 in (
-      outer_more gs guard g.low ∙ or_none (is_outer gs g.low) (is_outer_of guard g.low) apart.0 other.0,
-      outer_more gs guard g.high ∙ or_none (is_outer gs g.high) (is_outer_of guard g.high) apart.1 other.1,
+      outer_more gs guard g.low ∙ or_from (is_outer gs g.low) (is_outer_of guard g.low) apart.0 other.0,
+      outer_more gs guard g.high ∙ or_from (is_outer gs g.high) (is_outer_of guard g.high) apart.1 other.1,
       apart_more gs guard apart.2 x.1 y.1,
     )
 
@@ -129,21 +121,12 @@ module _ (f : Profile) (heap first k : ℕ) (gs : List Guard) (block : Block) wh
         ] ∙ sym (outer_more gs guard p)
 
     rights_now : (q : ℕ) → has_right u q ≡ false
-    rights_now q = guarded.does.right q ∙ ap (now (if run q then Lost else Kept)) (span.got.does.right q) ∙ elim (cases_Bool (run q)) [
-      | inl is ↦ ap (λ t. now (if t then Lost else Kept) (now (if run q then Gained else Kept) (has_right v q))) is
-      | inr out ↦ ap (λ t. now (if t then Lost else Kept) (now (if t then Gained else Kept) (has_right v q))) out ∙ fits.rights q
-    ]
+    rights_now q = search (arith, cases_Bool)
 
     fits_more : 1 ≤ first → first + (k + 2) ≤ f.pages + 1 → heap < f.heaps → 1 ≤ k → block.heap ≡ heap → address_of block.name / 4096 ≡ first + 1 → ((p : ℕ) (e : Directory) → KnowsDeed p e v → KnowsDeed p e u) → FitsBook f (gs ++ guard ∷ []) u
     fits_more low high of some of_heap at knows = record {
       apart = apart_more gs guard fits.apart (new_page first low_in) (new_page (first + k + 1) high_in);
-      of_region = each_more (IsGuardOf f) gs guard fits.of_region (record {
-        low = (low, omega (arith, high));
-        high = (omega arith, omega (arith, high));
-        two = λ e. absurd (omega (arith, e));
-        heap = omega (arith, of, of_heap);
-        block = (omega (arith, at), omega (arith, at, high, some));
-      });
+      of_region = search (arith, each_more);
       knows = each_more (KnowsGuard u) gs guard (each_map (KnowsGuard v) (KnowsGuard u) gs (λ g h. record { low = knows g.low (large_directory g.block.heap) h.low; high = knows g.high (large_directory g.block.heap) h.high }) fits.knows) (record {
         low = subst (λ h. KnowsDeed first (large_directory h) u) (sym of_heap) (guarded.deeds first low_in);
         high = subst (λ h. KnowsDeed (first + k + 1) (large_directory h) u) (sym of_heap) (guarded.deeds (first + k + 1) high_in);
@@ -157,10 +140,7 @@ module _ (f : Profile) (heap first k : ℕ) (gs : List Guard) (block : Block) wh
 outer_known : (v : View) (gs : List Guard) → Each (KnowsGuard v) gs → (p : ℕ) → is_outer gs p ≡ true → known_deed v p ≢ 0
 outer_known v [] knows p is z = true≢false (sym is)
 outer_known v (g ∷ gs) knows p is z = elim (cases_Bool (is_outer_of g p)) [
-  | inl mine ↦ elim (cases_Bool (g.low == p)) [
-    | inl low ↦ deed_word_of-positive (large_directory g.block.heap) (sym knows.0.low ∙ ap (known_deed v) (eqb-true g.low p low) ∙ z)
-    | inr other ↦ deed_word_of-positive (large_directory g.block.heap) (sym knows.0.high ∙ ap (known_deed v) (eqb-true g.high p (sym (ap (λ t. t || (g.high == p)) other) ∙ mine)) ∙ z)
-  ]
+  | inl mine ↦ search (arith, cases_Bool, eqb-true)
   | inr other ↦ outer_known v gs knows.1 p (sym (ap (λ t. t || is_outer gs p) other) ∙ is) z
 ]
 
@@ -177,14 +157,13 @@ run_out f d gs first stop v w fits span p is = elim (cases_Bool (in_span first s
 pub no_backs : (ks : Kinds) (p : ℕ) (xs : List Made) → is_in ks Backing ≡ false → Only ks xs → BacksNot p xs
 no_backs ks p xs none = always_map (λ m before. is_in ks (kind_of m.step) ≡ true) (λ m before. m.step ≡ Back p → ⊥) xs (λ m before is e. true≢false (sym is ∙ ap (λ s. is_in ks (kind_of s)) e ∙ none))
 
-backs_both : (p : ℕ) (ys xs : List Made) → BacksNot p ys → BacksNot p xs → BacksNot p (ys ++ xs)
+pub backs_both : (p : ℕ) (ys xs : List Made) → BacksNot p ys → BacksNot p xs → BacksNot p (ys ++ xs)
 backs_both p ys xs = always_both (λ m before. m.step ≡ Back p → ⊥) (λ m before. m.step ≡ Back p → ⊥) ys xs (λ m before h. h)
 
 -- what comes after the search leaves each page but the inner ones alone
 module _ (d : Directory) (first k word answer : ℕ) (block : Block) (is : block ≡ run_block d (first + 1) k word) (left backs : List Made) where
   give_stays : (g : ℕ) → in_span (first + 1) (first + 1 + k) (g / 256) ≡ false → grain_move (Give block) answer g ≡ Stays
-  give_stays g out = subst (λ b. grain_move (Give b) answer g ≡ Stays) (sym is)
-      (ap (λ t. if t then Gives (grain_of (run_block d (first + 1) k word).name) else Stays) (run_is d (first + 1) k word g ∙ out))
+  give_stays g out = search (arith, run_is)
 
   pub after_steady : Only returning left → Only (Backing ∷ []) backs → (g : ℕ) → in_span (first + 1) (first + 1 + k) (g / 256) ≡ false → StaysPut g (left ++ (give_steps (first + 1) 0 block word answer ++ backs))
   after_steady leaves back g out = steady_both g left (give_steps (first + 1) 0 block word answer ++ backs) (steady_kinds returning refl g left leaves) (give_stays g out, (refl, steady_kinds (Backing ∷ []) refl g backs back))

@@ -45,8 +45,7 @@ by_unpark p q had true false at h = inr h
 by_unpark p q had false y at h = inr h
 
 by_leave : (x had : Bool) (w : Way) → had_after w had ≡ false → had_after (if x then w else Rests) had ≡ true → had ≡ true
-by_leave true had w gone h = absurd (true≢false (sym h ∙ gone))
-by_leave false had w gone h = h
+by_leave x had w gone h = search (arith, true≢false)
 
 gets_or_had : (p : ℕ) (s : Step) (a : ℕ) (had : Bool) → right_after s a p had ≡ true → GetsRight p s a ⊎ (IsReturnOf p s ⊎ (had ≡ true))
 gets_or_had p (Deed q d) a had h = elim (by_deed p q d a had (q == p) (a == 0) refl refl h) [ inl gets ↦ inl gets | inr was ↦ inr (inr was) ]

@@ -3,6 +3,7 @@ use Rattle.std.proofs.Common.{ℕ, ◌+◌, ◌*◌, ◌/◌, ◌%◌, ◌<◌, 
 use Rattle.std.proofs.Common.{inr, ◌⊎◌, arith, Option, ◌≡◌, ◌≢◌, Some, None, ap, sym, subst, append_assoc, true≢false, length, length-append, eqb-true, eq-eqb}
 use Rattle.std.proofs.Common.{append-nil}
 use Rattle.std.proofs.lemmas.Bool.{cases_lt, cases_eq, cases_Bool}
+use Rattle.pas_large.proofs.Claims.{narrower}
 use Rattle.pas_bits.specs.Bits.{has_bit}
 use Rattle.pas_profile.specs.declared.{directory.Directory.Directory, profile.Profile.Profile, word.Word.Word}
 use Rattle.pas_rights.specs.{Puts.masked, PutsBack.giving_back, PutsBack.MayPutAndLeave, PutsBack.PutsAndLeaves, Words.full}
@@ -34,7 +35,7 @@ use Rattle.pas_large.proofs.Claims.{deeds_below, deeds_from}
 use Rattle.pas_large.proofs.Finds.{DeedOf, bad_later, alone_looks, knew, deeds_map, may_find}
 use Rattle.pas_large.proofs.Pages.{shows_both, below_both, below_wider, rise_both}
 use Rattle.pas_guard.proofs.Spans.{no_span, span_kept, span_beside, span_joined, claim_keeps}
-use Rattle.pas_guard.proofs.HeldSpans.{span_of_none, span_then, span_lost, span_both, out_fewer, out_later, but_first, span_slid}
+use Rattle.pas_guard.proofs.HeldSpans.{span_of_none, span_then, span_lost, span_both, out_later, but_first, span_slid}
 use Rattle.pas_guard.proofs.Returns.{rise_later, below_later, release_duly, first_duly}
 use Rattle.pas_guard.specs.Evidence.{BackedReadHere, HoldsRunWhole, OuterBackedHere, IsBad, OuterFailsHere, HasFailedOnce}
 use Rattle.pas_guard.specs.Guarded.{LeavesGuard}
@@ -42,12 +43,10 @@ use Rattle.pas_guard.specs.Seeks.{LeftSince, backed_looks, ZeroBackedHere, SomeB
 
 -- ---- evidence, and later steps
 bad_more : (v : View) (d : Directory) (k s : ℕ) (ys xs : List Made) → IsBad v d k s xs → IsBad v d k s (ys ++ xs)
-bad_more v d k s ys xs (inl h) = inl (bad_later d (k + 2) s ys xs h)
-bad_more v d k s ys xs (inr h) = inr (once_later (OuterBackedHere v k s) ys xs h)
+bad_more v d k s ys xs h = search (arith, bad_later, once_later)
 
 failed_more : (v : View) (d : Directory) (k s : ℕ) (ys xs : List Made) → HasFailedOnce v d k s xs → HasFailedOnce v d k s (ys ++ xs)
-failed_more v d k s ys xs (inl h) = inl (once_later (FailsHere d (k + 2) s) ys xs h)
-failed_more v d k s ys xs (inr h) = inr (once_later (OuterFailsHere v d k s) ys xs h)
+failed_more v d k s ys xs h = search (arith, once_later)
 
 -- steps that make no deed
 deeds_none : (ks : Kinds) (d : Directory) (n : ℕ) (P : ℕ → Type 0) (ys xs : List Made) → is_in ks Deeding ≡ false → Only ks ys → DeedsOf d n P xs → DeedsOf d n P (ys ++ xs)
@@ -65,10 +64,7 @@ outer_some f v page R (m ∷ ls) ss had only agreed held (inr h) = inr (outer_so
 
 -- a look at a backed word leaves each page alone
 look_leaves : (page : ℕ) (m : Made) → is_in backed_looks (kind_of m.step) ≡ true → LeavesGuard page m
-look_leaves page m is = record {
-  stays = λ g at. grain_same m.step m.answer g (in_apart backed_looks moving (place_of (kind_of m.step)) refl is);
-  unbacked = λ e. true≢false (sym is ∙ ap (λ s. is_in backed_looks (kind_of s)) e);
-}
+look_leaves page m is = search (arith, grain_same, in_apart, true≢false)
 
 outer_zero : (v : View) (page : ℕ) (ls ss : List Made) → Only backed_looks ls → ((g : ℕ) → g / 256 ≡ page → holds (ss ++ v) g ≡ true) → Once (ZeroBackedHere page) ls → Since (BackedReadHere v page 0) (LeftSince page) (ls ++ ss)
 outer_zero v page [] ss only held h = absurd h
@@ -101,8 +97,7 @@ never_got g (m ∷ ys) stays = ap (λ x. held_after x (holds ys g)) stays.0 ∙ 
 
 -- the first grain of a page, where it is held, reads as used
 first_bit : (f : Profile) (v : View) (p : ℕ) (s : Step) (a : ℕ) → ReadsFree p 0 s → Agrees f v s a → holds v (p * 256 + 0) ≡ true → has_bit a 0 ≡ false
-first_bit f v p s a ReadsFree.Looks agrees held = let bit : (p * 256 + 0) % 64 ≡ 0 = omega arith in ap (has_bit a) (sym bit) ∙ agrees.held (p * 256 + 0) (omega arith) (omega arith) held
-first_bit f v p s a (ReadsFree.Takes mask) agrees held = let bit : (p * 256 + 0) % 64 ≡ 0 = omega arith in ap (has_bit a) (sym bit) ∙ agrees.held (p * 256 + 0) (omega arith) (omega arith) held
+first_bit f v p s a h agrees held = grind arith
 
 either_false : {a b : Bool} → a ≡ false → b ≡ false → (a || b) ≡ false
 either_false {a} {b} x y = ap (λ t. t || b) x ∙ y
@@ -413,9 +408,7 @@ module _ {σ σ1 : Standing} (d : Directory) (k from free next : ℕ) (so : Soug
       claim_bad v met agreed s low lt = bad_more v d k s zs xs (so.bad v met (agreed_later f v zs xs agreed) s low lt)
 
       claim_steady : (v : View) (met : MayFind d v) → Agreed f v (zs ++ xs) → (p : ℕ) → HoldsWhole p v → (g : ℕ) → g / 256 ≡ p → StaysPut g (zs ++ xs)
-      claim_steady v met agreed p whole g at =
-          let before = agreed_later f v zs xs agreed in
-          steady_both g zs xs (claim.steady g (out_later from free next (g / 256) so.order.0 (held_apart v met before p whole g at))) (so.steady v met before p whole g at)
+      claim_steady v met agreed p whole g at = search (arith, agreed_later, steady_both, out_later, held_apart)
 
       -- deeds of the claim are of the run, and those before of it or of one that failed
       claim_deeds : (v : View) (met : MayFind d v) → Agreed f v (zs ++ xs) → (P : ℕ → Type 0) → P from → ((s : ℕ) → s < from → HasFailedOnce v d k s xs → P s) → DeedsOf d (k + 2) P (zs ++ xs)
@@ -511,7 +504,7 @@ module _ {σ σ1 : Standing} (d : Directory) (k from free next : ℕ) (so : Soug
                 new (λ p knows. knows_still f d p zs (xs ++ v) after knows));
           };
           shows = claim_shows claim;
-          lacks = λ p out. right_own p zs xs (so.lacks p (out_fewer from free next p last out)) ∙ ap (λ s. has_right s p) (sym (append-nil zs)) ∙ holds_it.lacks [] (λ q. refl) p (out_later from free next p first out);
+          lacks = λ p out. right_own p zs xs (so.lacks p (narrower from free next p last out)) ∙ ap (λ s. has_right s p) (sym (append-nil zs)) ∙ holds_it.lacks [] (λ q. refl) p (out_later from free next p first out);
           kinds = claim_kinds claim;
           rise = claim_rise claim;
           below = claim_below claim next last claim.made;
@@ -621,11 +614,7 @@ module _ {σ σ1 σ2 : Standing} (d : Directory) (k from next high : ℕ) (whole
                 right = λ p is. held.right p is.0 (omega (arith, is.1, whole));
                 whole = λ p word is small. held.whole p word is.0 (omega (arith, is.1, whole)) small;
               };
-          bare = λ v met agreed.
-              let before = agreed_later f v ls us agreed in let region = so.order.0 in (
-                outer_zero v from ls us looks.kinds (held_page d k from next high whole last so looks v met before from (omega arith) (omega (arith, whole))) looks.outcome.0,
-                subst (λ p. Since (BackedReadHere v p 0) (LeftSince p) (ls ++ us)) (high_is d k from next high whole last so looks) (outer_zero v high ls us looks.kinds (held_page d k from next high whole last so looks v met before high (omega (arith, whole, last)) (omega (arith, last))) looks.outcome.1),
-              );
+          bare = search (arith, agreed_later, outer_zero, held_page, high_is);
           lower = look_bad d k from next high whole last so looks;
           deeds = λ v met agreed. look_deeds d k from next high whole last so looks v met agreed (λ s. (s ≡ from) ⊎ ((s < from) × HasFailedOnce v d k s (ls ++ us))) (inl refl) (λ s lt h. inr (lt, failed_more v d k s ls us h));
         };
@@ -652,9 +641,7 @@ module _ {σ σ1 σ2 : Standing} (d : Directory) (k from next high : ℕ) (whole
         let is = span_in from next from (omega arith) (omega (arith, whole)) in record {
           right = span.got.does.right from ∙ ap (λ t. now (if t then Gained else Kept) (has_right v from)) is;
           deed = span.got.deeds from is;
-          held = λ g on.
-              let at : from ≡ g / 256 = eqb-true from (g / 256) (sym (on_full from g) ∙ on) in
-              span.got.does.held g ∙ ap (λ t. now (if t then Gained else Kept) (holds v g)) (ap (in_span from next) (sym at) ∙ is);
+          held = search (arith, eqb-true);
           clear = span.got.does.clear from (met.clear.on from);
         }
 
@@ -714,8 +701,7 @@ looks_low low high a some makes = record { steps = look_at low a ∷ []; adds = 
 
 two_reads : (low high a b : ℕ) → a ≡ 0 → (bare : Bool) → (b == 0) ≡ bare
     → MatchBool bare (Once (ZeroBackedHere low) (look_at high b ∷ look_at low a ∷ []) × Once (ZeroBackedHere high) (look_at high b ∷ look_at low a ∷ [])) (Once (SomeBackedHere low) (look_at high b ∷ look_at low a ∷ []) ⊎ Once (SomeBackedHere high) (look_at high b ∷ look_at low a ∷ []))
-two_reads low high a b zero true is = (inr (inl (refl, zero)), inl (refl, eqb-true b 0 is))
-two_reads low high a b zero false is = inr (inl (refl, λ e. true≢false (sym (eq-eqb b 0 e) ∙ is)))
+two_reads low high a b bare h is = search (arith, eqb-true, true≢false, eq-eqb)
 
 pub looks_both : {σ σ1 σ2 : Standing} (low high a b : ℕ) (bare : Bool) → a ≡ 0 → (b == 0) ≡ bare → Makes σ σ1 (Look (Word.Backed low)) a → Makes σ1 σ2 (Look (Word.Backed high)) b → LooksBacked low high σ σ2 bare
 looks_both low high a b bare zero is first second = record {

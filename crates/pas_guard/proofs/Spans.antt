@@ -30,19 +30,14 @@ span_beside q first stop ys xs on apart holding = record {
 }
 
 pub span_joined : (first mid stop : ℕ) (xs : List Made) → HoldsSpan first mid xs → HoldsSpan mid stop xs → HoldsSpan first stop xs
-span_joined first mid stop xs low high = record {
-  right = λ p ge lt. elim (cases_lt p mid) [ inl below ↦ low.right p ge below | inr above ↦ high.right p above lt ];
-  whole = λ p word ge lt small. elim (cases_lt p mid) [ inl below ↦ low.whole p word ge below small | inr above ↦ high.whole p word above lt small ];
-}
+span_joined first mid stop xs low high = search (arith, cases_lt)
 
 -- A right that the actor has isn't got again, so steps that give up only what they got keep it.
 deed_made : (known a : ℕ) → known ≢ 0 → (known ≢ 0 → a ≡ known) → a ≡ 0 → ⊥
 deed_made known a some is zero = some (sym (is some) ∙ zero)
 
 not_got_again : (f : Profile) (v : View) (p : ℕ) (s : Step) (a : ℕ) → GetsRight p s a → Agrees f v s a → has_right v p ≡ true → known_deed v p ≢ 0 → ⊥
-not_got_again f v p s a (GetsRight.Claims e b bit) agrees right known = let at : 64 * (p / 64) + p % 64 ≡ p = omega arith in
-    true≢false (sym bit ∙ agrees.right (p % 64) (omega arith) (ap (has_right v) at ∙ right))
-not_got_again f v p s a (GetsRight.Deeds e b zero) agrees right known = deed_made (known_deed v p) b known agrees.known zero
+not_got_again f v p s a h agrees right known = search (arith, true≢false, deed_made)
 
 gives_back : (p : ℕ) (s : Step) → GivesUp p s → IsReturnOf p s
 gives_back p s (GivesUp.Offers e) = IsReturnOf.Offers e

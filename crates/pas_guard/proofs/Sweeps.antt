@@ -2,6 +2,7 @@
 use Rattle.std.proofs.Common.{◌≡◌, ℕ, ◌+◌, ◌*◌, ◌/◌, ◌<◌, ◌≤◌, ◌==◌, Bool, true, false, ◌||◌, if◌then◌else◌, ◌⊎◌, List, [], ◌∷◌, ◌++◌, length, inl, inr, refl}
 use Rattle.std.proofs.Common.{ap, sym, ◌∙◌, subst, arith, append_assoc, append-nil, length-append, true≢false, remove, slice_index_or, eqb-true, eq-eqb, ne_eqb}
 use Rattle.std.proofs.lemmas.Bool.{cases_Bool}
+use Rattle.std.proofs.lemmas.Bool.{or_from, or_parts, or_right}
 use Rattle.pas_profile.specs.{Profiles.IsPage, Blocks.address_of}
 use Rattle.pas_profile.specs.declared.profile.Profile.{Profile}
 use Rattle.pas_report.specs.declared.record.Record.{Record}
@@ -19,7 +20,7 @@ use Rattle.pas_guard.specs.Books.{is_outer_of, is_outer, AreApart, Each, IsGuard
 use Rattle.pas_guard.specs.Lowers.{MayLower, lowered, Lowers}
 use Rattle.pas_guard.specs.Sweeps.{is_over, life_look, LooksOver, lowered_record, SweptOne, Swept, sweeping, Sweeps}
 use Rattle.pas_guard.specs.declared.book.Guard.{Guard}
-use Rattle.pas_guard.proofs.Raises.{each_map}
+use Rattle.pas_guard.proofs.Raises.{each_map, other_guard}
 
 abbrev pub no_guard : Guard
 no_guard = record { low = 0; high = 0; block = record { name = record { address = record { 0 = 0 }; turn = 0 }; room = 0; heap = 0 } }
@@ -39,10 +40,6 @@ or_swap true true c = refl
 or_swap true false c = refl
 or_swap false b c = refl
 
-or_none : (a b : Bool) → (a || b) ≡ false → (a ≡ false) × (b ≡ false)
-or_none true b h = absurd (true≢false h)
-or_none false b h = (refl, h)
-
 outer_split : (ks rs : List Guard) (g : Guard) (p : ℕ) → is_outer (ks ++ g ∷ rs) p ≡ (is_outer_of g p || is_outer (ks ++ rs) p)
 outer_split [] rs g p = refl
 outer_split (k ∷ ks) rs g p = ap (λ t. is_outer_of k p || t) (outer_split ks rs g p) ∙ or_swap (is_outer_of k p) (is_outer_of g p) (is_outer (ks ++ rs) p)
@@ -51,37 +48,21 @@ each_split : (P : Guard → Type 0) (ks rs : List Guard) (g : Guard) → Each P 
 each_split P [] rs g h = h
 each_split P (k ∷ ks) rs g h = let rest = each_split P ks rs g h.1 in (rest.0, (h.0, rest.1))
 
-neither : (a b : Bool) → a ≡ false → b ≡ false → (a || b) ≡ false
-neither a b x y = ap (λ t. t || b) x ∙ y
-
-swapped : (a b : ℕ) → (a == b) ≡ false → (b == a) ≡ false
-swapped a b h = ne_eqb b a (λ e. true≢false (sym (eq-eqb a b (sym e)) ∙ h))
-
--- of two guards that are apart each has pages of its own
-turned : (a b : Guard) → is_outer_of a b.low ≡ false → is_outer_of a b.high ≡ false → (is_outer_of b a.low ≡ false) × (is_outer_of b a.high ≡ false)
-turned a b low high =
-    let x = or_none (a.low == b.low) (a.high == b.low) low in let y = or_none (a.low == b.high) (a.high == b.high) high in
-    (neither (b.low == a.low) (b.high == a.low) (swapped a.low b.low x.0) (swapped a.low b.high y.0), neither (b.low == a.high) (b.high == a.high) (swapped a.high b.low x.1) (swapped a.high b.high y.1))
-
 apart_split : (ks rs : List Guard) (g : Guard) → AreApart (ks ++ g ∷ rs) → AreApart (ks ++ rs) × (is_outer (ks ++ rs) g.low ≡ false) × (is_outer (ks ++ rs) g.high ≡ false)
 apart_split [] rs g h = (h.2, h.0, h.1)
 apart_split (k ∷ ks) rs g h =
     let rest = apart_split ks rs g h.2 in
-    let low = or_none (is_outer_of g k.low) (is_outer (ks ++ rs) k.low) (sym (outer_split ks rs g k.low) ∙ h.0) in
-    let high = or_none (is_outer_of g k.high) (is_outer (ks ++ rs) k.high) (sym (outer_split ks rs g k.high) ∙ h.1) in
-    let other = turned g k low.0 high.0 in (
+    let low = or_parts (is_outer_of g k.low) (is_outer (ks ++ rs) k.low) (sym (outer_split ks rs g k.low) ∙ h.0) in
+    let high = or_parts (is_outer_of g k.high) (is_outer (ks ++ rs) k.high) (sym (outer_split ks rs g k.high) ∙ h.1) in
+    let other = other_guard g k low.0 high.0 in (
       (low.1, high.1, rest.0),
-      neither (is_outer_of k g.low) (is_outer (ks ++ rs) g.low) other.0 rest.1,
-      neither (is_outer_of k g.high) (is_outer (ks ++ rs) g.high) other.1 rest.2,
+      or_from (is_outer_of k g.low) (is_outer (ks ++ rs) g.low) other.0 rest.1,
+      or_from (is_outer_of k g.high) (is_outer (ks ++ rs) g.high) other.1 rest.2,
     )
 
 -- its pages are those of no other
 not_outer : (ks rs : List Guard) (g : Guard) (p : ℕ) → AreApart (ks ++ g ∷ rs) → is_outer_of g p ≡ true → is_outer (ks ++ rs) p ≡ false
-not_outer ks rs g p apart is =
-    let split = apart_split ks rs g apart in elim (cases_Bool (g.low == p)) [
-      | inl low ↦ ap (is_outer (ks ++ rs)) (sym (eqb-true g.low p low)) ∙ split.1
-      | inr other ↦ ap (is_outer (ks ++ rs)) (sym (eqb-true g.high p (sym (ap (λ t. t || (g.high == p)) other) ∙ is))) ∙ split.2
-    ]
+not_outer ks rs g p apart is = search (arith, apart_split, cases_Bool, eqb-true)
 
 held_less : (t rest : Bool) → (t ≡ true → rest ≡ false) → now (if t then Lost else Kept) (t || rest) ≡ rest
 held_less true rest none = sym (none refl)
@@ -98,12 +79,7 @@ fits_less f ks rs g v w fits does rights knows = record {
 }
 
 may_lower : (f : Profile) (ks rs : List Guard) (g : Guard) (v : View) → FitsBook f (ks ++ g ∷ rs) v → MayLower f g v
-may_lower f ks rs g v fits = record {
-  of = (each_split (IsGuardOf f) ks rs g fits.of_region).0;
-  knows = (each_split (KnowsGuard v) ks rs g fits.knows).0;
-  held = λ x is. fits.held x ∙ outer_split ks rs g (x / 256) ∙ ap (λ t. t || is_outer (ks ++ rs) (x / 256)) is;
-  clear = fits.clear;
-}
+may_lower f ks rs g v fits = search (arith, each_split, outer_split)
 
 -- ---- the sweep, a guard more at the end
 joined_one : (t : Bool) (k : ℕ) (g : Guard) (first : List Made) (kept after more : List Guard) (said left : List Record) (r : List Record) → SweptOne t k g first kept after said left → SweptOne t k g first (kept ++ more) (after ++ more) (said ++ r) (left ++ r)
@@ -290,8 +266,7 @@ module _ {σ σ1 : Standing} (all : Bool) (guards up : List Guard) (place : ℕ)
                     (fits_less f so.kept later guard ((ls ++ so.steps) ++ v) (ps ++ ((ls ++ so.steps) ++ v)) (fits_split ((ls ++ so.steps) ++ v) fits) does does.right (λ p h knows. knows_still f (large_directory h) p ps ((ls ++ so.steps) ++ v) after knows)));
               };
             });
-            swept = swept_more all σ.seat.actor so.done so.kept so.more so.steps guard look.word ps [] (lowered_record σ.seat.actor guard ∷ []) so.swept
-                (subst (λ t. SweptOne t σ.seat.actor guard ps [] [] (lowered_record σ.seat.actor guard ∷ []) []) (sym test) (low.order, refl, refl));
+            swept = search (arith, swept_more);
             added = pushed ∙ ap (λ xs. xs ++ lowered_record σ.seat.actor guard ∷ []) so.added ∙ append_assoc said so.more (lowered_record σ.seat.actor guard ∷ []);
           }
 
@@ -328,18 +303,13 @@ module _ {σ σ1 : Standing} (all : Bool) (guards up : List Guard) (place : ℕ)
       omega (arith, a, b, m, n)
 
 -- ---- guards that stay up
-or_right : (a b : Bool) → b ≡ true → (a || b) ≡ true
-or_right true b h = refl
-or_right false b h = h
-
 mine_not : (mine other : Bool) → other ≡ true → (mine ≡ true → other ≡ false) → mine ≡ false
-mine_not true other is not = absurd (true≢false (sym is ∙ not refl))
-mine_not false other is not = refl
+mine_not mine other is not = search (arith, true≢false)
 
 -- steps of a sweep are on pages of guards that go down
 one_steady : (t : Bool) (k : ℕ) (guard : Guard) (first : List Made) (kept after : List Guard) (said more : List Record) (g : ℕ) → SweptOne t k guard first kept after said more → is_outer_of guard (g / 256) ≡ false → StaysPut g first
 one_steady true k guard first kept after said more g h out =
-    let parts = or_none (guard.low == g / 256) (guard.high == g / 256) out in let low = h.0 in
+    let parts = or_parts (guard.low == g / 256) (guard.high == g / 256) out in let low = h.0 in
     subst (StaysPut g) (sym low.steps_are) (steady_both g low.high low.low
     (steady_on guard.high g low.high low.on_high (λ e. true≢false (sym (eq-eqb guard.high (g / 256) (sym e)) ∙ parts.1)))
     (steady_on guard.low g low.low low.on_low (λ e. true≢false (sym (eq-eqb guard.low (g / 256) (sym e)) ∙ parts.0))))
@@ -352,16 +322,12 @@ piece_steady guard word first rest steps g is one more = subst (StaysPut g) (sym
 none_steady : (all : Bool) (k : ℕ) (guards kept : List Guard) (said : List Record) (steps : List Made) (g : ℕ) → Swept all k guards kept said steps → is_outer guards (g / 256) ≡ false → StaysPut g steps
 none_steady all k [] kept said steps g h out = subst (StaysPut g) (sym h.2) tt
 none_steady all k (guard ∷ guards) kept said steps g h out =
-    let parts = or_none (is_outer_of guard (g / 256)) (is_outer guards (g / 256)) out in
+    let parts = or_parts (is_outer_of guard (g / 256)) (is_outer guards (g / 256)) out in
     piece_steady guard h.0 h.1 h.2 steps g h.7 (one_steady (all || is_over guard h.0) k guard h.1 kept h.3 said h.4 g h.5 parts.0) (none_steady all k guards h.3 h.4 h.2 g h.6 parts.1)
 
 -- those that stay up are of those that were
 one_among : (t : Bool) (k : ℕ) (guard : Guard) (first : List Made) (kept after : List Guard) (said more : List Record) (p : ℕ) → SweptOne t k guard first kept after said more → is_outer kept p ≡ true → ((t ≡ false) × (is_outer_of guard p ≡ true)) ⊎ (is_outer after p ≡ true)
-one_among true k guard first kept after said more p h is = inr (ap (λ xs. is_outer xs p) (sym h.1) ∙ is)
-one_among false k guard first kept after said more p h is = elim (cases_Bool (is_outer_of guard p)) [
-  | inl mine ↦ inl (refl, mine)
-  | inr other ↦ inr (ap (λ t. t || is_outer after p) (sym other) ∙ ap (λ xs. is_outer xs p) (sym h.1) ∙ is)
-]
+one_among t k guard first kept after said more p h is = search (arith, cases_Bool)
 
 among : (all : Bool) (k : ℕ) (guards kept : List Guard) (said : List Record) (steps : List Made) (p : ℕ) → Swept all k guards kept said steps → is_outer kept p ≡ true → is_outer guards p ≡ true
 among all k [] kept said steps p h is = absurd (true≢false (sym is ∙ ap (λ xs. is_outer xs p) h.0))
@@ -371,14 +337,12 @@ among all k (guard ∷ guards) kept said steps p h is = elim (one_among (all || 
 ]
 
 stays_steady : (t : Bool) (k : ℕ) (guard : Guard) (first : List Made) (kept after : List Guard) (said more : List Record) (g : ℕ) → SweptOne t k guard first kept after said more → t ≡ false → StaysPut g first
-stays_steady true k guard first kept after said more g h up = absurd (true≢false up)
-stays_steady false k guard first kept after said more g h up = subst (StaysPut g) (sym h.0) tt
+stays_steady t k guard first kept after said more g h up = search (arith, true≢false)
 
 pub kept_steady : (all : Bool) (k : ℕ) (guards kept : List Guard) (said : List Record) (steps : List Made) → AreApart guards → Swept all k guards kept said steps → (g : ℕ) → is_outer kept (g / 256) ≡ true → StaysPut g steps
 kept_steady all k [] kept said steps apart h g is = subst (StaysPut g) (sym h.2) tt
 kept_steady all k (guard ∷ guards) kept said steps apart h g is = elim (one_among (all || is_over guard h.0) k guard h.1 kept h.3 said h.4 (g / 256) h.5 is) [
-  | inl mine ↦ piece_steady guard h.0 h.1 h.2 steps g h.7 (stays_steady (all || is_over guard h.0) k guard h.1 kept h.3 said h.4 g h.5 mine.0)
-      (none_steady all k guards h.3 h.4 h.2 g h.6 (not_outer [] guards guard (g / 256) apart mine.1))
+  | inl mine ↦ search (arith, piece_steady, stays_steady, none_steady, not_outer)
   | inr after ↦ (let old = among all k guards h.3 h.4 h.2 (g / 256) h.6 after in
       piece_steady guard h.0 h.1 h.2 steps g h.7
       (one_steady (all || is_over guard h.0) k guard h.1 kept h.3 said h.4 g h.5 (mine_not (is_outer_of guard (g / 256)) (is_outer guards (g / 256)) old (not_outer [] guards guard (g / 256) apart)))

@@ -26,10 +26,7 @@ use Rattle.pas_guard.proofs.Keepers.{one_more}
 -- ---- a lowering puts grains of the low page
 full_put : (page : ℕ) (d : Directory) (steps : List Made) → BackSteps page d full steps → Once (PutsHere page) steps
 full_put page d steps (inl none) = absurd (true≢false (sym (full_set 0 (omega arith)) ∙ none.0 0 (omega arith)))
-full_put page d steps (inr h) = let last = h.3 in elim last.2 [
-  | inl empty ↦ absurd (full_word 3 (omega arith) empty.0)
-  | inr put ↦ subst (Once (PutsHere page)) (sym h.5) (once_later (PutsHere page) h.2 h.1 (subst (Once (PutsHere page)) (sym (last.4 ∙ ap (λ piece. piece ++ last.1) put.2)) (inl (3, _, refl))))
-]
+full_put page d steps (inr h) = search (arith, full_word, once_later)
 
 not_put : (guard : Guard) (xs : List Made) → Once (PutsHere guard.low) xs → Always (PutsNoneOf guard) xs → ⊥
 not_put guard [] h none = h
@@ -75,8 +72,7 @@ in_book f keeper (Call.Sweep all said) guards guards' guard steps sweep up = eli
 
 -- a guard that was up before the call, as long as no grain of its outer pages is put
 up_before : (call : Call) (guards guards' : List Guard) (guard : Guard) (first : List Made) → Contains guards guard → Always (PutsNoneOf guard) first → IsUpIn call guards guards' guard first
-up_before (Call.Raise heap pages answer) guards guards' guard first has none = inl has
-up_before (Call.Sweep all said) guards guards' guard first has none = (has, inr none)
+up_before call guards guards' guard first has h = grind arith
 
 pub up_in_next : (f : Profile) (keeper : ℕ) (call next : Call) (guards guards' later : List Guard) (guard : Guard) (steps : List Made) → MakesCall f keeper call guards guards' steps → IsUpIn call guards guards' guard steps → IsUpIn next guards' later guard []
 up_in_next f keeper call next guards guards' later guard steps made up = up_before next guards' later guard [] (in_book f keeper call guards guards' guard steps made up) tt
@@ -99,17 +95,10 @@ same_block : (b c : Block) → Give b ≡ Give c → b ≡ c
 same_block b c e = cc
 
 given_block : (guard : Guard) (page word answer : ℕ) (block : Block) → Once (GivesBlockOf guard) (give_steps page 0 block word answer) → block ≡ guard.block
-given_block guard page word answer block (inl h) = same_block block guard.block h
-given_block guard page word answer block (inr (inl h)) = absurd (let e : Look (Words.Life page 0) ≡ Give guard.block = h in cc)
-given_block guard page word answer block (inr (inr h)) = absurd h
+given_block guard page word answer block h = search (arith, same_block)
 
 guard_is : (d : Directory) (first k word : ℕ) (block : Block) (guard : Guard) → block ≡ run_block d (first + 1) k word → block ≡ guard.block → IsBeside guard → guard_of first k block ≡ guard
-guard_is d first k word block guard is same beside =
-    let at = ap (λ (b : Block). address_of b.name) is in let room = ap (λ (b : Block). b.room) is in
-    let there = ap (λ (b : Block). address_of b.name) same in let room_there = ap (λ (b : Block). b.room) same in
-    let low : first ≡ guard.low = (omega (arith, at, there, beside.begins)) in
-    let high : first + k + 1 ≡ guard.high = (omega (arith, at, room, there, room_there, beside.ends)) in
-    ap (λ n. record { low = n; high = first + k + 1; block = block }) low ∙ ap (λ n. record { low = guard.low; high = n; block = block }) high ∙ ap (λ b. record { low = guard.low; high = guard.high; block = b }) same
+guard_is d first k word block guard is same beside = search (arith, guard.low, beside.begins, guard.high, beside.ends)
 
 raised_in_book : (f : Profile) (d : Directory) (k : ℕ) (guards guards' : List Guard) (searched after : List Made) (block : Block) (guard : Guard) → IsRaised f d k guards guards' searched after block → IsBeside guard → Once (GivesBlockOf guard) after → Contains guards' guard
 raised_in_book f d k guards guards' searched after block guard r beside gives =
@@ -217,8 +206,7 @@ module _ (f : Profile) (keeper : ℕ) (guard : Guard) (calls : List Call) (guard
   stands_here later newer keeps none =
       let l = newer ++ (give ∷ older) in let goes_on = rest ++ part keeper later in
       let whole : rest ++ part keeper (later ++ l) ≡ goes_on ++ part keeper l = ap (λ xs. rest ++ xs) (part_both keeper later l) ∙ sym (append_assoc rest (part keeper later) (part keeper l)) in
-      let own : part keeper l ≡ part keeper newer ++ (give.made ∷ part keeper older) = part_both keeper newer (give ∷ older)
-      ∙ ap (λ o. part keeper newer ++ (if o then give.made ∷ part keeper older else part keeper older)) (eq-eqb give.actor keeper given.own) in
+      let own : part keeper l ≡ part keeper newer ++ (give.made ∷ part keeper older) = search (arith, part_both, eq-eqb) in
       let up = still_up f keeper calls guards guard give.made (rest ++ part keeper (later ++ l)) goes_on (part keeper newer) (part keeper older) keeps.called (whole ∙ ap (λ xs. goes_on ++ xs) own) given.gives given.beside none in
       up_stands f keeper guard goes_on l valid (older_legal f later l keeps.legal) (subst (Agreed f []) whole keeps.agreed) (subst (IsUp f keeper guard goes_on) (sym own) up)
 
@@ -231,8 +219,4 @@ module _ (f : Profile) (keeper : ℕ) (guard : Guard) (calls : List Call) (guard
 pub stands_from_give : (f : Profile) (keeper : ℕ) (guard : Guard) (later newer older : Whole) (give : Triple) → IsValid f → Legal f (later ++ (newer ++ (give ∷ older))) → IsKeeper f keeper (part keeper (later ++ (newer ++ (give ∷ older))))
     → GivesGuarded keeper guard give → Always (PutsNoneOf guard) (part keeper newer) → StandsThrough keeper guard newer (give ∷ older)
 stands_from_give f keeper guard later newer older give valid legal keeps given none =
-    stands_since f keeper guard (keeps.call ∷ keeps.calls) keeps.guards_after keeps.rest give older valid given later newer (record {
-      legal = legal;
-      called = (keeps.guards, keeps.before, keeps.rest ++ keeps.first, keeps.called, keeps.calls_now, ap (λ xs. keeps.rest ++ xs) keeps.made_is ∙ sym (append_assoc keeps.rest keeps.first keeps.before));
-      agreed = keeps.agreed;
-    }) none
+    stands_since f keeper guard (keeps.call ∷ keeps.calls) keeps.guards_after keeps.rest give older valid given later newer (search (arith, append_assoc)) none

@@ -40,8 +40,7 @@ module _ {σ σ1 : Standing} (d : Directory) (n first : ℕ) (tells : Bool) (fin
 
 -- the looks of a refusal change nothing
 scan_kind : (s : Step) → IsScan s → is_in looking (kind_of s) ≡ true
-scan_kind s (IsScan.LooksEligible d j) = refl
-scan_kind s scans = refl
+scan_kind s scans = grind arith
 
 pub scans_only : (steps : List Made) → OnlyScans steps → Only looking steps
 scans_only steps scans = always_map (λ m before. IsScan m.step) (λ m before. is_in looking (kind_of m.step) ≡ true) steps (λ m before is. scan_kind m.step is) scans
@@ -172,7 +171,6 @@ serves_named {σ} heap n first found tells claim block valid laws parts give =
     let calls = call_then (GaveLarge d first n block) (named_call d n first found claim) give.calls (named_pages d n first found claim)
     (λ v met got gave. record { does = undone (λ g. in_span first (first + n) (g / 256)) (in_span first (first + n)) got.apart got.lacked got.does gave.does; apart = got.apart; deeds = gave.deeds; turn = gave.turn }) in
     let k = length-append (give.left ++ (give_steps first 0 block give.word give.answer ++ give.backs)) claim.steps in let a = give.few in let b = claim.outcome.few in
-    let most = named_steps n first found claim.outcome.named in
     record {
       tried = claim.steps;
       rest = _;
@@ -180,7 +178,7 @@ serves_named {σ} heap n first found tells claim block valid laws parts give =
       old = claim.old;
       returns = claim.returns;
       shows = claim.shows;
-      few = omega (arith, k, a, b, most);
+      few = omega (arith, k, a, b, named_steps n first found claim.outcome.named);
       told = λ t v l stood met. record {
         served = λ other is.
             let same : first ≡ other = let both = sym claim.outcome.named ∙ is.named in cc in

@@ -1,5 +1,5 @@
 -- A request for whole pages that is refused where no other actor made a step meanwhile, whatever its desk tells.
-use Rattle.std.proofs.Common.{◌≡◌, ℕ, ◌*◌, ◌<◌, true, false, ◌⊎◌, Bool, List, ◌++◌, Option, Result, Ok, Err, inl, inr, refl, ap, sym, ◌∙◌, subst, true≢false}
+use Rattle.std.proofs.Common.{arith, ◌≡◌, ℕ, ◌*◌, ◌<◌, true, false, ◌⊎◌, Bool, List, ◌++◌, Option, Result, Ok, Err, inl, inr, refl, ap, sym, ◌∙◌, subst, true≢false}
 use Rattle.std.proofs.lemmas.Bool.{cases_eq}
 use Rattle.pas_profile.specs.{Blocks.address_of, Directories.IsKind, Profiles.IsValid, Profiles.IsDirectoryOf}
 use Rattle.pas_profile.specs.declared.{directory.Directory.Directory, event.NoRoom.NoRoom, event.NoRoom.TheVariants.Held, name.Block.Block}
@@ -24,18 +24,14 @@ is_look_of : (s t : Step) → is_in looking (kind_of s) ≡ true → s ≡ t →
 is_look_of s t look same other = true≢false (sym look ∙ ap (λ x. is_in looking (kind_of x)) same ∙ other)
 
 gives_up_look : (p : ℕ) (s : Step) → GivesUp p s → is_in looking (kind_of s) ≡ true → ⊥
-gives_up_look p s (GivesUp.Offers d) look = true≢false (sym look)
-gives_up_look p s GivesUp.Parks look = true≢false (sym look)
+gives_up_look p s h look = search (arith, true≢false)
 
 no_run : (f : Profile) (k : ℕ) (l : Whole) (d : Directory) (n : ℕ) (steps : List Made) → Legal f (triples k steps ++ l) → Only looking steps → IsVain f d n steps → HasNoUsableRun f d n l
 no_run f k l d n steps legal only vain first low le usable =
     let bad = vain.runs first low le in
     once_of (BadHere d bad.0) f k l ⊥ steps legal only (λ m before t ok looks x. elim x [
       | inl unusable ↦ unusable_here f k l d bad.0 (usable bad.0 bad.1) m before t ok looks unusable
-      | inr failed ↦ elim failed [
-        | inl lost ↦ elim lost [ inl right ↦ is_look_of m.step _ t.look right.0 refl | inr deed ↦ is_look_of m.step _ t.look deed.0 refl ]
-        | inr broken ↦ gives_up_look bad.0 m.step broken.left t.look
-      ]
+      | inr failed ↦ search (arith, is_look_of, gives_up_look)
     ]) bad.2
 
 -- ---- who has rights

@@ -60,26 +60,10 @@ span_apart first page p ne out = grind (arith, nat_tests)
 
 -- ---- effects on sets of pages
 got_none : (d : Directory) (pages : ℕ → Bool) (v : View) → ((p : ℕ) → pages p ≡ false) → Does nothing v v → GotPages pages d v v
-got_none d pages v none does = record {
-  does = does_as (of_pages pages Gained) does (λ g. inl (ap (λ t. if t then Gained else Kept) (sym (none (g / 256))))) (λ q. ap (λ t. if t then Gained else Kept) (sym (none q))) (λ q h. h);
-  apart = λ g h. absurd (true≢false (sym h ∙ none (g / 256)));
-  lacked = λ p h. absurd (true≢false (sym h ∙ none p));
-  deeds = λ p h. absurd (true≢false (sym h ∙ none p));
-}
+got_none d pages v none does = search (arith, does_as, true≢false)
 
 pub got_both : {v w u : View} (d : Directory) (a b c : ℕ → Bool) → ((p : ℕ) → (a p || b p) ≡ c p) → GotPages a d v w → GotPages b d w u → ((p : ℕ) → KnowsDeed p d w → KnowsDeed p d u) → GotPages c d v u
-got_both {v} {w} {u} d a b c same first second knows = record {
-  does = does_as (of_pages c Gained) (does_then first.does second.does) (λ g. inl (both_fates Gained (a (g / 256)) (b (g / 256)) (c (g / 256)) refl (same (g / 256)))) (λ q. both_fates Gained (a q) (b q) (c q) refl (same q)) (λ q h. h);
-  apart = λ g h. elim (cases_Bool (a (g / 256))) [
-    | inl here ↦ first.apart g here
-    | inr other ↦ sym (ap (λ t. now (if t then Gained else Kept) (holds v g)) other) ∙ sym (first.does.held g) ∙ second.apart g (ap (λ t. t || b (g / 256)) (sym other) ∙ same (g / 256) ∙ h)
-  ];
-  lacked = λ p h. elim (cases_Bool (a p)) [
-    | inl here ↦ first.lacked p here
-    | inr other ↦ sym (ap (λ t. now (if t then Gained else Kept) (has_right v p)) other) ∙ sym (first.does.right p) ∙ second.lacked p (ap (λ t. t || b p) (sym other) ∙ same p ∙ h)
-  ];
-  deeds = λ p h. elim (cases_Bool (a p)) [ inl here ↦ knows p (first.deeds p here) | inr other ↦ second.deeds p (ap (λ t. t || b p) (sym other) ∙ same p ∙ h) ];
-}
+got_both {v} {w} {u} d a b c same first second knows = search (arith, does_as, does_then, cases_Bool)
 
 got_still : {v w u : View} (d : Directory) (a : ℕ → Bool) → GotPages a d v w → Does nothing w u → ((p : ℕ) → KnowsDeed p d w → KnowsDeed p d u) → GotPages a d v u
 got_still d a first second knows = record { does = does_then first.does second; apart = first.apart; lacked = first.lacked; deeds = λ p h. knows p (first.deeds p h) }
@@ -203,8 +187,7 @@ module _ {σ σ1 : Standing} (deeds : Bool) (d : Directory) (first end page : �
   -- those from this one on may be claimed still
   rest_may : (v : View) → MayClaimPages d first end v → Agreed σ.seat.profile v xs → MayClaimPages d page end (xs ++ v)
   rest_may v met agreed = let got = so_got v met agreed in record {
-    lacks = λ p ge lt knows.
-        got.does.right p ∙ ap (λ t. now (if t then Gained else Kept) (has_right v p)) (span_past first page p ge) ∙ met.lacks p (omega (arith, so_far.span.0, ge)) lt (knew_before σ.seat.profile d p xs v agreed knows);
+    lacks = search (arith, span_past, knew_before);
     clear = record { on = λ q. got.does.clear q (met.clear.on q) };
   }
 
@@ -311,10 +294,7 @@ module _ {σ σ1 : Standing} (deeds : Bool) (d : Directory) (first end page : �
               subst (GotPages (in_span first (page + 1)) d v) (sym (all_at v)) (got_both d (in_span first page) (λ q. page == q) (in_span first (page + 1)) (λ p. span_more first page p low) (so_got v met mine) new (λ p knows. knows_still σ.seat.profile d p ys (xs ++ v) next knows));
         })
         (λ before free. let rest = others_held before free in let alone = below.alone before free page (omega arith) in record {
-          right = λ p ge lt. elim (cases_eq p page) [
-            | inl e ↦ ap (has_right ((ys ++ xs) ++ before)) e ∙ ap (λ s. has_right s page) (all_at before) ∙ wins.right (xs ++ before) alone
-            | inr ne ↦ rest.right p ge (omega (arith, lt, ne))
-          ];
+          right = search (arith, cases_eq, all_at);
           whole = λ p word ge lt small. elim (cases_eq p page) [
             | inl e ↦ subst (λ q. Since (TakenWholeHere q word) (KeptHere q) ((ys ++ xs) ++ before)) (sym e) (subst (Since (TakenWholeHere page word) (KeptHere page)) (sym (all_at before)) (wins.whole (xs ++ before) alone word small))
             | inr ne ↦ rest.whole p word ge (omega (arith, lt, ne)) small
@@ -348,12 +328,7 @@ has_got {v} d first stop clear got = record {
 }
 
 pages_fewer : (d : Directory) (first stop end : ℕ) → stop ≤ end → (v : View) → HasPages d first end v → HasPages d first stop v
-pages_fewer d first stop end le v met = record {
-  right = λ p is. met.right p (span_wider first stop end p le is);
-  held = λ g is. met.held g (span_wider first stop end (g / 256) le is);
-  deeds = λ p is. met.deeds p (span_wider first stop end p le is);
-  clear = met.clear;
-}
+pages_fewer d first stop end le v met = search (arith, span_wider)
 
 pub pages_call : {σ σ1 : Standing} {R : View → View → Type 0} {xs : List Made} (d : Directory) (first stop end : ℕ) → stop ≤ end → Calls σ σ1 (HasPages d first stop) R xs → Calls σ σ1 (HasPages d first end) R xs
 pages_call {R = R} d first stop end le c = call_as R c (pages_fewer d first stop end le) (λ v w met r. r)
@@ -389,9 +364,7 @@ module _ {σ σ1 : Standing} (d : Directory) (first end page : ℕ) (low : first
       record {
         right = left.0.right page ∙ ap (λ t. now (if t then Lost else Kept) (has_right v page)) past ∙ met.right page here;
         deed = left.1 page here;
-        held = λ g is.
-            let at : page ≡ g / 256 = eqb-true page (g / 256) (sym (on_full page g) ∙ is) in
-            left.0.held g ∙ ap (λ q. now (if in_span first page q then Lost else Kept) (holds v g)) (sym at) ∙ ap (λ t. now (if t then Lost else Kept) (holds v g)) past ∙ met.held g (ap (in_span first end) (sym at) ∙ here);
+        held = search (arith, eqb-true);
         clear = left.0.clear page (met.clear.on page);
       }
 
@@ -433,10 +406,7 @@ left_more d directory first page low so_far h =
           steady_holds g so_far.steps before (so_far.steady g (span_past first page (g / 256) (omega (arith, at)))) ∙ held g (span_in first (page + 1) (g / 256) (omega (arith, at, low)) (omega (arith, at))))
           (so_far.due before (λ g is. held g (span_wider first page (page + 1) (g / 256) (omega arith) is)) all) h);
       few = let n = length-append ys so_far.steps in omega (arith, n, h.few, so_far.few, low);
-      lacks = λ before p none. ap (λ s. has_right s p) (append_assoc ys so_far.steps before) ∙ elim (cases_eq p page) [
-        | inl e ↦ ap (has_right (ys ++ (so_far.steps ++ before))) e ∙ h.lacks (so_far.steps ++ before)
-        | inr ne ↦ right_on page p ys (so_far.steps ++ before) h.on ne ∙ so_far.lacks before p (λ out. none (span_apart first page p ne out))
-      ];
+      lacks = search (arith, append_assoc, cases_eq, right_on, span_apart);
       alone = λ before p ge alone. subst (LeftAlone p) (sym (append_assoc ys so_far.steps before)) (alone_on page p ys (so_far.steps ++ before) h.on (λ e. absurd (omega (arith, e, ge))) (so_far.alone before p (omega (arith, ge)) alone));
       steady = λ g out. steady_both g ys so_far.steps (steady_on page g ys h.on (out_of first (page + 1) (g / 256) page out low (omega arith))) (so_far.steady g (narrower first page (page + 1) (g / 256) (omega arith) out));
     }
@@ -474,8 +444,7 @@ module _ {σ σ1 : Standing} (deeds : Bool) (d : Directory) (first end stop : �
 
   -- what was got is held by these steps alone
   own_held : CanCall σ (MayClaimPages d first end) → (g : ℕ) → in_span first stop (g / 256) ≡ true → holds h.steps g ≡ true
-  own_held can g is = let got = h.got.from can.view can.met (h.adds.agreed can.view can.whole can.stood can.met) in
-      sym (holds_own g h.steps can.view (got.apart g is)) ∙ got.does.held g ∙ ap (λ t. now (if t then Gained else Kept) (holds can.view g)) is
+  own_held can g is = search (arith, holds_own)
 
   pub run_failed : {σ2 : Standing} → CanCall σ (MayClaimPages d first end) → Releases d first stop σ1 σ2 → ClaimsRun deeds d first end σ σ2 (Some stop)
   run_failed can r =

@@ -60,10 +60,7 @@ alone_looks p ys xs looks alone =
 -- the search found no run
 vain_ends : (f : Profile) (d : Directory) (n from next : ℕ) (ys xs : List Made) → 1 ≤ from → VainSoFar d n from next xs → HasNoRun f d from next n ys → IsVain f d n (ys ++ xs)
 vain_ends f d n from next ys xs some so_far none = record {
-  deeds = λ p of. elim (cases_lt p next) [
-    | inl low ↦ once_later (DeedReadHere p) ys xs (so_far.deeds p of.0 low)
-    | inr high ↦ deed_before p ys xs (none.deeds p high of.1)
-  ];
+  deeds = search (arith, cases_lt, once_later, deed_before);
   runs = λ s low le. elim (cases_lt s from) [
     | inl below ↦ bad_later d n s ys xs (so_far.runs s low below)
     | inr above ↦ unusable_bad d n from s ys xs so_far.alone above (none.runs s above le)

@@ -118,10 +118,7 @@ module _ {σ σ1 : Standing} (d : Directory) (first end page : ℕ) (low : first
   so_left = call_knowing d (in_span first end) (call_as (LeftRun d first page) so_far.calls leaves_fewer (λ v w met left. left)) (λ v met. met.deeds)
 
   may_leave : (v : View) → MayLeaveRun d first end v → LeftRun d first page v (so_far.steps ++ v) × ((p : ℕ) → in_span first end p ≡ true → KnowsDeed p d (so_far.steps ++ v)) → MayLeave page d (so_far.steps ++ v)
-  may_leave v met left = record {
-    right = left.0.does.right page ∙ ap (λ t. now (if t then Lost else Kept) (has_right v page)) (span_past first page page (omega arith)) ∙ met.right page (span_in first end page low high);
-    deed = left.1 page (span_in first end page low high);
-  }
+  may_leave v met left = search (arith, span_past, span_in)
 
   pub can_leave_next : CanCall σ (MayLeaveRun d first end) → CanCall σ1 (MayLeave page d)
   can_leave_next can = next_call so_left can may_leave
@@ -146,19 +143,13 @@ back_events k v (m ∷ more) = let rest = back_events k v more in let one = with
 -- ---- the block of a run is given
 -- the grains of a run of pages
 run_span : (first n g : ℕ) → in_run (first * 256 + 0) (n * 256) g ≡ in_span first (first + n) (g / 256)
-run_span first n g = same_truth (in_run (first * 256 + 0) (n * 256) g) (in_span first (first + n) (g / 256))
-    (λ h. let at = run_of (first * 256 + 0) (n * 256) g h in span_in first (first + n) (g / 256) (omega (arith, at.0)) (omega (arith, at.1)))
-    (λ h. let at = in_parts first (first + n) (g / 256) h in to_run (first * 256 + 0) (n * 256) g (omega (arith, at.0)) (omega (arith, at.1)))
+run_span first n g = search (arith, run_of, span_in, in_parts, to_run)
 
 pub run_is : (d : Directory) (first n word g : ℕ) → in_run (grain_of (run_block d first n word).name) (length_of (run_block d first n word)) g ≡ in_span first (first + n) (g / 256)
-run_is d first n word g =
-    let at : first * 4096 / 16 ≡ first * 256 + 0 = omega arith in let long : n * 4096 / 16 ≡ n * 256 = omega arith in
-    ap (λ x. in_run x (n * 4096 / 16) g) at ∙ ap (λ x. in_run (first * 256 + 0) x g) long ∙ run_span first n g
+run_is d first n word g = search (arith, run_span)
 
 is_run_block : (d : Directory) (first n word : ℕ) (block : Block) → block ≡ block_of d.heap first 0 (n * 256) word → block ≡ run_block d first n word
-is_run_block d first n word block is =
-    is ∙ ap (λ x. record { name = record { address = record { 0 = x }; turn = turn_of word }; room = n * 256 * 16; heap = d.heap }) (omega arith)
-    ∙ ap (λ x. record { name = record { address = record { 0 = first * 4096 }; turn = turn_of word }; room = x; heap = d.heap }) (omega arith)
+is_run_block d first n word block is = search (arith, d.heap)
 
 -- ---- a run is given: its pages are backed, the block is given, and the pages are left
 module _ {σ σ1 : Standing} (d : Directory) (first n : ℕ) (backs : BacksRun d first (first + n) σ σ1) where
@@ -216,9 +207,5 @@ module _ {σ σ1 : Standing} (d : Directory) (first n : ℕ) (backs : BacksRun d
       left_order = run_in_turn (λ page piece. LeaveSteps page d piece) first n left.steps left.order;
       few = let a = length-append left.steps (gs ++ backs.steps) in let b = backs_few first n backs.steps order in omega (arith, a, b, left.few);
       calls = call_then (GaveRun d first n block) given_call left.calls (λ v met given. given.leave)
-          (λ v met given left. record {
-            does = does_as (of_pages (in_span first (first + n)) Lost) (does_then given.does left.does) (λ g. inl refl) (λ q. kept_first (if in_span first (first + n) q then Lost else Kept)) (λ q h. h);
-            deeds = left.deeds;
-            turn = given.turn;
-          });
+          (λ v met given left. search (arith, does_as, does_then, kept_first));
     }

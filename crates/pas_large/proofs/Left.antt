@@ -155,8 +155,7 @@ abbrev taking_up : Kinds
 taking_up = Taking ∷ Giving ∷ Ending ∷ []
 
 not_got : (s : Step) (a g : ℕ) (had : Bool) → is_in taking_up (kind_of s) ≡ false → had ≡ false → held_after (grain_move s a g) had ≡ false
-not_got (Put q w m) a g had h none = cond_both (in_mask q w m g) Puts Stays (λ m. held_after m had ≡ false) (λ put. refl) (λ other. none)
-not_got s a g had h none = cc
+not_got s a g had h x = search (arith, cond_both)
 
 still_none : (g : ℕ) (steps : List Made) (v : View) → Only giving_back steps → holds v g ≡ false → holds (steps ++ v) g ≡ false
 still_none g = holds_over (λ v. holds v g ≡ false) taking_up giving_back (λ m v h none. not_got m.step m.answer g (holds v g) h none) refl
@@ -166,8 +165,7 @@ word_back page word mask piece (inl none) = subst (Only giving_back) (sym none.1
 word_back page word mask piece (inr puts) = subst (Only giving_back) (sym puts.2) (refl, tt)
 
 word_gone : (page word mask g : ℕ) (piece : List Made) (v : View) → WordPut page word mask piece → in_mask page word mask g ≡ true → holds (piece ++ v) g ≡ false
-word_gone page word mask g piece v (inl none) is = absurd (true≢false (sym is ∙ none_in page word mask g none.0))
-word_gone page word mask g piece v (inr puts) is = ap (λ s. holds (s ++ v) g) puts.2 ∙ ap (λ t. held_after (if t then Puts else Stays) (holds v g)) is
+word_gone page word mask g piece v h is = search (arith, true≢false)
 
 below_gone : (page : ℕ) (mask : Mask4) (g : ℕ) (v : View) → masked page mask g ≡ true → (n : ℕ) (steps : List Made) → PutsBelow page mask n steps → g / 64 % 4 < n → holds (steps ++ v) g ≡ false
 below_gone page mask g v is zero steps h lt = absurd (omega (arith, lt))
@@ -183,7 +181,7 @@ hint_later m before xs empty page same = let e = empty page same in record {
   free = λ word lt. since_earlier (ReadsAllFree page word) (TakesNone page) (ReadsAllFree page word) (TakesNone page) before xs (λ n b r. r) (λ n b r. r) (e.free word lt);
 }
 
-hints_both : (ys xs : List Made) → Always HintsEmpty ys → Always HintsEmpty xs → Always HintsEmpty (ys ++ xs)
+pub hints_both : (ys xs : List Made) → Always HintsEmpty ys → Always HintsEmpty xs → Always HintsEmpty (ys ++ xs)
 hints_both ys xs = always_both HintsEmpty HintsEmpty ys xs (λ m before is. hint_later m before xs is)
 
 hints_none : (steps : List Made) → Only (Putting ∷ []) steps → Always HintsEmpty steps
@@ -199,10 +197,7 @@ module _ {σ σ1 : Standing} (page : ℕ) (d : Directory) (mask : Mask4) (h : Pu
 
   -- of what is put nothing is held, nor of what wasn't held before
   pub nothing_held : (before : List Made) (g : ℕ) → (masked page mask g ≡ false → holds before g ≡ false) → holds ((h.after ++ h.puts) ++ before) g ≡ false
-  nothing_held before g others = elim (cases_Bool (masked page mask g)) [
-    | inl here ↦ ap (λ s. holds s g) (append_assoc h.after h.puts before) ∙ put_gone before g here
-    | inr other ↦ still_none g (h.after ++ h.puts) before h.kinds (others other)
-  ]
+  nothing_held before g others = search (arith, cases_Bool, append_assoc, put_gone, still_none)
 
   pub left_hints : (before : List Made) → Always HintsEmpty before → Always HintsEmpty ((h.after ++ h.puts) ++ before)
   left_hints before all = hints_both (h.after ++ h.puts) before
@@ -232,11 +227,8 @@ module _ (page : ℕ) (d : Directory) (is : IsDirectory d) (free : Mask4) (xs : 
   }
 
   end_parks : (usable all_free : Bool) (after : List Made) → MatchBool usable (HasUsable d free) (HasNoUsable d free) → EndsLeave usable page d all_free after → Always (ParksNotHere page) (after ++ first) ⊎ Once BrokenAfter (after ++ first)
-  end_parks true all_free after usable h = inl (parks_both page after first
-      (subst (Always (ParksNotHere page)) (sym h.steps_are) (parks_both page h.after (made (Offer page d) h.offered ∷ []) (hints_park all_free page h.after h.hints) ((λ e. cc), tt)))
-      (parks_none (LookFree ∷ []) page first refl (looks_only page (words free) 4)))
-  end_parks false all_free after unusable h = inr (subst (Once BrokenAfter) (sym (parked_on page d after first h))
-      (once_later BrokenAfter h.after (looks page (words h.later) 4 ++ (made (Park page) h.parked ∷ first)) (once_later BrokenAfter (looks page (words h.later) 4) (made (Park page) h.parked ∷ first) (inl (park_breaks h.parked unusable)))))
+  end_parks true all_free after usable h = search (arith, parks_both, hints_park, parks_none, looks_only)
+  end_parks false all_free after unusable h = search (arith, once_later, park_breaks)
 
 leave_parks : (page : ℕ) (d : Directory) (is : IsDirectory d) (xs steps : List Made) → has_right xs page ≡ true → Once (GetsHere page) xs → ((g : ℕ) → g / 256 ≡ page → holds xs g ≡ false) → LeaveSteps page d steps
     → Always (ParksNotHere page) steps ⊎ OnceAfter xs (BrokenHere page) steps

@@ -1,4 +1,4 @@
-mod Left
+pub mod Left
 pub mod Pages
 pub mod Claims
 mod Refusals
@@ -8,8 +8,8 @@ pub mod Finds
 mod Named
 pub mod Allocates
 pub mod Outcomes
-mod Told
+pub mod Told
 mod ToldReasons
 mod ToldByDoor
 pub mod Alone
-mod Lifted
+pub mod Lifted

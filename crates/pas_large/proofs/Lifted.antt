@@ -1,5 +1,5 @@
 -- The evidence of a scan, where the claim of a run by the door failed before it: what is said of the scan's steps holds of all steps of the call.
-use Rattle.std.proofs.Common.{◌≡◌, ℕ, ◌+◌, ◌<◌, ◌⊎◌, ◌||◌, List, [], ◌∷◌, ◌++◌, inl, inr, true, refl, ap, sym, ◌∙◌, subst, append_assoc, true≢false}
+use Rattle.std.proofs.Common.{arith, ◌≡◌, ℕ, ◌+◌, ◌<◌, ◌⊎◌, ◌||◌, List, [], ◌∷◌, ◌++◌, inl, inr, true, refl, ap, sym, ◌∙◌, subst, append_assoc, true≢false}
 use Rattle.pas_bits.specs.Bits.{has_bit}
 use Rattle.pas_profile.specs.declared.{directory.Directory.Directory, profile.Profile.Profile}
 use Rattle.pas_profile.proofs.Codecs.{deed_word_of-positive}
@@ -70,8 +70,7 @@ module _ (d : Directory) (p : ℕ) (xs : List Made) (left : LeftOrBroken d p xs)
       unknown f (xs ++ v) p b (agreed_first f v b xs agreed) bare (λ none. deed_word_of-positive d (sym known ∙ none))
 
   still_fresh : (b : List Made) → Once (OneHere d p) b → IsFresh d p b → Since (OneHere d p) (ParksNotHere p) b
-  still_fresh b read (inl none) = once_since (OneHere d p) (ParksNotHere p) b read none
-  still_fresh b read (inr since) = since
+  still_fresh b read h = search (arith, once_since)
 
   lost_again : (f : Profile) (v : View) (m : Made) (b : List Made) → Agreed f v (b ++ xs) → Once (OfHere d p) xs → ReadUsable d p b → LostHere d p m b → LostHere d p m (b ++ xs)
   lost_again f v m b agreed of (inl bare) h = absurd (not_bare f v b agreed of bare)

@@ -49,7 +49,7 @@ pub record HasEnded (f : Profile) (d : Directory) (n : ℕ) (steps : List Made) 
 no_deed : (d : Directory) (steps : List Made) → Only claiming_old steps → MadeOf d steps
 no_deed d steps only = always_map (λ m before. is_in claiming_old (kind_of m.step) ≡ true) (λ m before. (p : ℕ) (e : Directory) → m.step ≡ Deed p e → m.answer ≡ 0 → e ≡ d) steps (λ m before is p e same z. absurd (true≢false (sym is ∙ ap (λ s. is_in claiming_old (kind_of s)) same))) only
 
-of_directory : (d : Directory) (n : ℕ) (P : ℕ → Type 0) (steps : List Made) → DeedsOf d n P steps → MadeOf d steps
+pub of_directory : (d : Directory) (n : ℕ) (P : ℕ → Type 0) (steps : List Made) → DeedsOf d n P steps → MadeOf d steps
 of_directory d n P steps deeds = always_map _ (λ m before. (p : ℕ) (e : Directory) → m.step ≡ Deed p e → m.answer ≡ 0 → e ≡ d) steps (λ m before h p e same z. (h p e same z).0) deeds
 
 module _ (f : Profile) (d : Directory) (n : ℕ) (tried : List Made) (old : Only claiming_old tried) (shows : OnlyDeedsShow f tried) where

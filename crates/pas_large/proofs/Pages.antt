@@ -87,10 +87,7 @@ module _ (d : Directory) (page : ℕ) (got : Mask4) {σ σ1 : Standing} (taken :
     whole_here word small m before h = ((h.0, λ b lt. sym (h.2 b lt) ∙ set_read (64 * word + b) (all (64 * word + b) (omega (arith, small, lt)))), h.1)
 
     took : (v w : View) → GetsGrains (masked page got) v w → TookPage page v w
-    took v w gets = record {
-      does = does_as (record { grains = λ g. if page == g / 256 then Gained else Kept; rights = λ q. Kept; clears = λ q. Kept }) gets.does (λ g. inl (ap (λ t. if t then Gained else Kept) (on_page g))) (λ q. refl) (λ q h. h);
-      apart = λ g at. gets.apart g (on_page g ∙ eq-eqb page (g / 256) at);
-    }
+    took v w gets = search (arith, does_as, on_page, eq-eqb)
 
     pub keeps_all : TakesPage d page σ σ1 true
     keeps_all = record {
@@ -171,8 +168,7 @@ read_here : (p : ℕ) (a known : ℕ) → (if p == p then a else known) ≡ a
 read_here p a known = ap (λ t. if t then a else known) (eq-eqb p p refl)
 
 known_here : (s : Step) (a p known : ℕ) (d : Directory) → ReadsDeed p s → a ≡ deed_word_of d → deed_after s a p known ≡ deed_word_of d
-known_here s a p known d ReadsDeed.Looks e = read_here p a known ∙ e
-known_here s a p known d (ReadsDeed.Deeds x) e = read_here p (if a == 0 then deed_word_of x else a) known ∙ ap (λ t. if t then deed_word_of x else a) (ne_eqb a 0 (λ z. deed_word_of-positive d (sym e ∙ z))) ∙ e
+known_here s a p known d h e = search (arith, read_here, ne_eqb, deed_word_of-positive)
 
 pub known_of : (f : Profile) (d : Directory) (p : ℕ) (xs : List Made) (v : View) → Agreed f v xs → Once (OfHere d p) xs → KnowsDeed p d (xs ++ v)
 known_of f d p [] v agreed h = absurd h
@@ -184,8 +180,7 @@ deed_look page a = made (Look (Word.Deed page)) a
 
 -- ---- both steps
 way_taken : (page : ℕ) (t got had : Bool) (w : Way) → had_after w had ≡ true → t ≡ got → had_after (if (page == page) && t then w else Rests) had ≡ now (if got then Gained else Kept) had
-way_taken page true got had w gains e = ap (λ x. had_after (if x && true then w else Rests) had) (eq-eqb page page refl) ∙ gains ∙ ap (λ x. now (if x then Gained else Kept) had) e
-way_taken page false got had w gains e = ap (λ x. had_after (if x && false then w else Rests) had) (eq-eqb page page refl) ∙ ap (λ x. now (if x then Gained else Kept) had) e
+way_taken page t got had w gains e = search (arith, eq-eqb)
 
 module _ {σ σ1 : Standing} (deeds : Bool) (d : Directory) (page a : ℕ) (m : Made) (adds : Adds σ σ1 AnyView (m ∷ deed_look page a ∷ [])) (on : IsOnPage page m.step) (kind : is_in getting (kind_of m.step) ≡ true) where
   abbrev pair : List Made
@@ -243,10 +238,7 @@ claim_gets {σ} {σ1} {σ2} deeds d page a is look got h =
 
 -- ---- the deed of a page whose deed word was read as another word
 other_known : (f : Profile) (d : Directory) (page a : ℕ) (before : List Made) (v : View) → a ≢ deed_word_of d → ReadUsable d page before → Agreed f v (deed_look page a ∷ before) → Once (NoDeedHere page) before
-other_known f d page a before v ne (inl bare) agreed = bare
-other_known f d page a before v ne (inr whole) agreed =
-    let known : KnowsDeed page d (before ++ v) = known_of f d page before v agreed.1 whole.of in
-    absurd (ne (agreed.0.known (λ z. deed_word_of-positive d (sym known ∙ z)) ∙ known))
+other_known f d page a before v ne h agreed = search (arith, known_of, deed_word_of-positive)
 
 module _ {σ σ1 σ2 : Standing} (d : Directory) (page a b : ℕ) (is : IsPage σ.seat.profile page) (ne : a ≢ deed_word_of d) (look : Makes σ σ1 (Look (Word.Deed page)) a) (deed : Makes σ1 σ2 (Deed page d) b) where
   abbrev both : List Made
@@ -256,12 +248,7 @@ module _ {σ σ1 σ2 : Standing} (d : Directory) (page a b : ℕ) (is : IsPage �
   deed_adds = adds_step (adds_step adds_none look (λ v l stood met. tt)) deed (λ v l stood met. tt)
 
   knew_none : (v : View) → Agreed σ.seat.profile v both → b ≡ 0 → known_deed v page ≡ 0
-  knew_none v agreed z = elim (cases_eq (known_deed v page) 0) [
-    | inl none ↦ none
-    | inr some ↦
-        let still = deed_stays σ.seat.profile (deed_look page a ∷ []) v page (agreed.1.0, tt) some in
-        absurd (some (sym still ∙ sym (agreed.0.known (λ x. some (sym still ∙ x))) ∙ z))
-  ]
+  knew_none v agreed z = search (arith, cases_eq, deed_stays)
 
   deed_shows : OnlyDeedsShow σ.seat.profile both
   deed_shows k v agreed =
@@ -303,10 +290,7 @@ look_gets {σ} d page a other look = record {
 
 -- what is known of a deed afterwards was known of it before, or nothing was
 pub knew_before : (f : Profile) (d : Directory) (p : ℕ) (xs : List Made) (v : View) → Agreed f v xs → (known_deed (xs ++ v) p ≡ 0) ⊎ KnowsDeed p d (xs ++ v) → (known_deed v p ≡ 0) ⊎ KnowsDeed p d v
-knew_before f d p xs v agreed after = elim (cases_eq (known_deed v p) 0) [
-  | inl none ↦ inl none
-  | inr some ↦ let same = deed_stays f xs v p agreed some in elim after [ inl none ↦ inl (sym same ∙ none) | inr knows ↦ inr (sym same ∙ knows) ]
-]
+knew_before f d p xs v agreed after = search (arith, cases_eq, deed_stays)
 
 -- ---- the claim of one page of a run: its right, and then its grains
 pub claim_lost : {σ σ1 : Standing} (deeds : Bool) (d : Directory) (page : ℕ) → GetsPage deeds d page σ σ1 false → ClaimsPage deeds d page σ σ1 Claimed.Lost
@@ -391,15 +375,7 @@ shows_taking f steps only k v agreed = let none = ap length (no_events taking_gr
 pub undone : {v w u : View} (grains rights : ℕ → Bool) → ((g : ℕ) → grains g ≡ true → holds v g ≡ false) → ((p : ℕ) → rights p ≡ true → has_right v p ≡ false)
     → Does (record { grains = λ g. if grains g then Gained else Kept; rights = λ q. if rights q then Gained else Kept; clears = λ q. Kept }) v w
     → Does (record { grains = λ g. if grains g then Lost else Kept; rights = λ q. if rights q then Lost else Kept; clears = λ q. Kept }) w u → Does nothing v u
-undone {v} grains rights apart lacks a b = record {
-  held = λ x. b.held x ∙ ap (now (if grains x then Lost else Kept)) (a.held x) ∙ got_lost (grains x) (holds v x) (apart x);
-  right = λ q. b.right q ∙ ap (now (if rights q then Lost else Kept)) (a.right q) ∙ got_lost (rights q) (has_right v q) (lacks q);
-  clear = λ q is. b.clear q (a.clear q is);
-  backed = λ x kept bears. elim (cases_Bool (grains x)) [
-    | inl here ↦ absurd (true≢false (sym bears.held ∙ apart x here))
-    | inr other ↦ b.backed x (ap (λ t. if t then Lost else Kept) other) (a.backed x (ap (λ t. if t then Gained else Kept) other) bears)
-  ];
-}
+undone {v} grains rights apart lacks a b = search (arith, cases_Bool, true≢false)
 
 module _ (deeds : Bool) (d : Directory) (page : ℕ) {σ σ1 : Standing} (get : GetsPage deeds d page σ σ1 true) where
   module _ {σ2 : Standing} {whole : Bool} (takes : TakesPage d page σ1 σ2 whole) where

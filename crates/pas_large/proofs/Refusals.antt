@@ -33,8 +33,7 @@ other_word d p n j ne r = ne (read_block d p (Look (Word.Eligible n j)) r n j re
 
 older : (d : Directory) (p block a : ℕ) (steps : List Made) (t : Bool) → p / 64 < block → MatchBool t (LastOffered d p steps) (Once (ZeroHere d p) steps)
     → MatchBool t (LastOffered d p (made (Look (Word.Eligible (number_of d) block)) a ∷ steps)) (Once (ZeroHere d p) (made (Look (Word.Eligible (number_of d) block)) a ∷ steps))
-older d p block a steps true lt h = inr ((λ r. other_word d p (number_of d) block (λ e. absurd (omega (arith, e, lt))) r), h)
-older d p block a steps false lt h = inr h
+older d p block a steps t lt h = search (arith, other_word)
 
 newest : (d : Directory) (p block a : ℕ) (steps : List Made) (t : Bool) → block ≡ p / 64 → OnlyScans steps → has_bit a (p % 64) ≡ t
     → MatchBool t (LastOffered d p (made (Look (Word.Eligible (number_of d) block)) a ∷ steps)) (Once (ZeroHere d p) (made (Look (Word.Eligible (number_of d) block)) a ∷ steps))
@@ -57,8 +56,7 @@ marked_more d block a marks steps small scans before p lt = elim (cases_lt (p / 
 -- ---- the reason of a refusal: the eligible words, and then the verdict
 -- a verdict reads no eligible word
 eligible_kind : (d : Directory) (p : ℕ) (s : Step) → ReadsEligible d p s → is_in judging (kind_of s) ≡ false
-eligible_kind d p s (ReadsEligible.Looks n j a b) = refl
-eligible_kind d p s ReadsEligible.Claims = refl
+eligible_kind d p s h = grind arith
 
 last_within : (f : Profile) (room : NoRoom) → ((page : ℕ) → room ≡ Held page → page ≤ f.pages) → last_block f room ≤ f.pages / 64
 last_within f NoSpace h = omega arith
@@ -119,9 +117,7 @@ module _ (d : Directory) (marks : List ℕ) {σ σ1 σ2 : Standing} (offers : Ma
     by_mark p false e h parked = inl (inr (parked_later p h (parked e)))
 
     accounted : (end : ℕ) → end ≤ f.pages + 1 → AllParked f marks d end js → AllAccounted f d end ((js ++ ms) ++ before)
-    accounted end le parked v agreed p some lt is =
-        let within : p ≤ f.pages = omega (arith, le, lt) in
-        by_mark p (is_marked marks p) refl (offers.offered p within) (λ unmarked. parked ((ms ++ before) ++ v) p lt (record { of_region = (some, within); of_directory = ap (λ s. known_deed s p) (sym (at_view v)) ∙ is; unmarked = unmarked }))
+    accounted end le parked v agreed p some lt is = search (arith, by_mark, at_view)
 
     reason_of : (answer : NoRoom) → IsVerdict f marks d js answer → IsReason f d ((js ++ ms) ++ before) answer
     reason_of NoSpace verdict = accounted (f.pages + 1) (omega arith) verdict

@@ -1,6 +1,6 @@
 -- On a desk that tells the whole state: what the looks of a search tell of it, and that no page of a usable run is lost or broken.
 use Rattle.std.proofs.Common.{◌≡◌, ◌≢◌, ℕ, ◌+◌, ◌*◌, ◌/◌, ◌%◌, ◌<◌, ◌==◌, Bool, true, false, ◌||◌, ◌&&◌, if◌then◌else◌, List, [], ◌∷◌, ◌++◌, inl, inr, refl, ap}
-use Rattle.std.proofs.Common.{sym, ◌∙◌, subst, arith, true≢false, eqb-true, eq-eqb}
+use Rattle.std.proofs.Common.{◌⊎◌, sym, ◌∙◌, subst, arith, true≢false, eqb-true, eq-eqb}
 use Rattle.std.proofs.{lemmas.Bool.false≢true, Math.Bool.or-false}
 use Rattle.pas_bits.specs.Bits.{has_bit}
 use Rattle.pas_profile.specs.{Directories.deed_word_of, Directories.number_of, Directories.IsKind, Layouts.same_word}
@@ -22,7 +22,7 @@ use Rattle.pas_core.proofs.Rights.{no_deed, free_without_deed}
 use Rattle.pas_scan.specs.Usable.{OfHere, WholeHere, ReadUsable, UnusableHere, ParksNotHere, IsFresh, MakesNoDeedHere}
 use Rattle.pas_scan.specs.Runs.{IsInRun, HasUnusable}
 use Rattle.pas_scan.proofs.LeftPages.{holds_none_by}
-use Rattle.pas_large.specs.Evidence.{LostRightHere, LostDeedHere, NotAll, FailsHere}
+use Rattle.pas_large.specs.Evidence.{LostRightHere, LostDeedHere, LostHere, BrokenHere, NotAll, FailsHere}
 use Rattle.pas_large.specs.Telling.{IsWholePage, IsUsablePage, IsUsableRun}
 
 -- ---- looks change no word
@@ -70,6 +70,9 @@ grain_bit l p word b small lt =
     ∙ ap (λ w. has_bit (word_after l (Word.Free ((p * 256 + (64 * word + b)) / 256) w)) b) (sym at)
     ∙ ap (has_bit (word_after l (free_word_at (p * 256 + (64 * word + b))))) (sym bit)
 
+pub of_page : (l : Whole) (page b : ℕ) → free_of_page l page b ≡ has_bit (word_after l (free_word_at (page * 256 + b))) ((page * 256 + b) % 64)
+of_page l page b = let bit : b % 64 ≡ (page * 256 + b) % 64 = omega arith in ap (λ n. has_bit (word_after l (free_word_at (page * 256 + b))) n) bit
+
 module _ (f : Profile) (k : ℕ) (l : Whole) (d : Directory) (p : ℕ) (steps : List Made) (legal : Legal f (triples k steps ++ l)) (only : Only looking steps) where
   of_told : Once (OfHere d p) steps → word_after l (Word.Deed p) ≡ deed_word_of d
   of_told = once_of (OfHere d p) f k l (word_after l (Word.Deed p) ≡ deed_word_of d) steps legal only (λ m before t ok looks x. sym (deed_told l p m.step m.answer x.0 t.is) ∙ x.1)
@@ -87,14 +90,10 @@ module _ (f : Profile) (k : ℕ) (l : Whole) (d : Directory) (p : ℕ) (steps : 
 
   pub usable_told : ReadUsable d p steps → IsUsablePage d l p
   usable_told (inl bare) = inl (none_told bare)
-  usable_told (inr whole) = inr record {
-    deed = of_told whole.of;
-    offered = one_told whole.offered;
-    free = λ b lt. let same : b ≡ 64 * (b / 64) + b % 64 = omega arith in ap (free_of_page l p) same ∙ whole_told (b / 64) (b % 64) (omega (arith, lt)) (omega arith) (whole.free (b / 64) (omega (arith, lt)));
-  }
+  usable_told (inr whole) = search (arith, of_told, one_told, whole_told)
 
 -- all grains of a usable page are free
-usable_free : (f : Profile) (d : Directory) (l : Whole) (p : ℕ) → Legal f l → IsUsablePage d l p → (b : ℕ) → b < 256 → free_of_page l p b ≡ true
+pub usable_free : (f : Profile) (d : Directory) (l : Whole) (p : ℕ) → Legal f l → IsUsablePage d l p → (b : ℕ) → b < 256 → free_of_page l p b ≡ true
 usable_free f d l p legal (inl none) b lt =
     let page : (p * 256 + b) / 256 ≡ p = omega (arith, lt) in
     let bit : b % 64 ≡ (p * 256 + b) % 64 = omega arith in
@@ -131,22 +130,14 @@ is_clean k InParked = false
 is_clean k o = true
 
 clean_after : (k : ℕ) (w : Way) (o : Spot) → (w ≡ ToParked → ⊥) → is_clean k o ≡ true → is_clean k (spot_after k w o) ≡ true
-clean_after k Rests o ne h = h
-clean_after k (ToOffer n) o ne h = refl
-clean_after k ToParked o ne h = absurd (ne refl)
-clean_after k w o ne h = eq-eqb k k refl
+clean_after k w o ne h = search (arith, eq-eqb)
 
 if_way : (t : Bool) (w : Way) → (t ≡ true → w ≡ ToParked → ⊥) → (if t then w else Rests) ≡ ToParked → ⊥
 if_way true w ne e = ne refl e
 if_way false w ne e = cc
 
 not_to_parked : (s : Step) (a p : ℕ) → (s ≡ Park p → ⊥) → way s a p ≡ ToParked → ⊥
-not_to_parked (Deed q x) a p ne e = if_way ((q == p) && (a == 0)) ByDeed (λ t h. cc) e
-not_to_parked (TakeRight q x) a p ne e = if_way ((q == p) && has_bit a (p % 64)) (FromOffer (number_of x)) (λ t h. cc) e
-not_to_parked (Offer q x) a p ne e = if_way (q == p) (ToOffer (number_of x)) (λ t h. cc) e
-not_to_parked (Park q) a p ne e = if_way (q == p) ToParked (λ t h. ne (ap Park (eqb-true q p t))) e
-not_to_parked (Unpark q) a p ne e = if_way ((q == p) && has_bit a (p % 64)) FromParked (λ t h. cc) e
-not_to_parked s a p ne e = cc
+not_to_parked s a p ne e = search (arith, if_way, eqb-true)
 
 pub clean_own : (k : ℕ) (l : Whole) (p : ℕ) (xs : List Made) → Always (ParksNotHere p) xs → is_clean k (spot_of l p) ≡ true → is_clean k (spot_of (triples k xs ++ l) p) ≡ true
 clean_own k l p [] none h = h
@@ -167,9 +158,8 @@ clean_since f k l d p (m ∷ more) legal (inl one) =
     clean_after k (way m.step m.answer p) (spot_of w p) (not_to_parked m.step m.answer p (reads_no_park d p m.step one.0)) (offered_clean k (number_of d) (spot_of w p) bit)
 clean_since f k l d p (m ∷ more) legal (inr h) = clean_after k (way m.step m.answer p) (spot_of (triples k more ++ l) p) (not_to_parked m.step m.answer p h.0) (clean_since f k l d p more legal.1 h.1)
 
-clean_fresh : (f : Profile) (k : ℕ) (l : Whole) (d : Directory) (p : ℕ) (xs : List Made) → Legal f (triples k xs ++ l) → is_clean k (spot_of l p) ≡ true → IsFresh d p xs → is_clean k (spot_of (triples k xs ++ l) p) ≡ true
-clean_fresh f k l d p xs legal first (inl never) = clean_own k l p xs never first
-clean_fresh f k l d p xs legal first (inr since) = clean_since f k l d p xs legal since
+pub clean_fresh : (f : Profile) (k : ℕ) (l : Whole) (d : Directory) (p : ℕ) (xs : List Made) → Legal f (triples k xs ++ l) → is_clean k (spot_of l p) ≡ true → IsFresh d p xs → is_clean k (spot_of (triples k xs ++ l) p) ≡ true
+clean_fresh f k l d p xs legal first h = search (arith, clean_own, clean_since)
 
 pub usable_clean : (f : Profile) (k : ℕ) (l : Whole) (d : Directory) (p : ℕ) → Legal f l → IsUsablePage d l p → is_clean k (spot_of l p) ≡ true
 usable_clean f k l d p legal (inl none) = ap (is_clean k) (no_deed (spot_of l p) (subst (DeedFits (spot_of l p)) none (spotted f l legal p).deed))
@@ -202,39 +192,34 @@ no_deed_made t z word old h e = grind arith
 
 still_none : (w : Whole) (e : ℕ) (s : Step) (a p : ℕ) → a ≡ word_after w (target s) → ((d : Directory) → s ≡ Deed p d → a ≡ 0 → ⊥) → word_after w (Word.Deed p) ≡ 0
     → (if same_word (target s) (Word.Deed p) then new_value e s (word_after w (Word.Deed p)) else word_after w (Word.Deed p)) ≡ 0
-still_none w e (Look x) a p is made none = looked (same_word x (Word.Deed p)) (word_after w (Word.Deed p)) ∙ none
-still_none w e (Deed q d) a p is made none = no_deed_made (q == p) (word_after w (Word.Deed p) == 0) (deed_word_of d) (word_after w (Word.Deed p))
-    (λ h z. made d (ap (λ x. Deed x d) (eqb-true q p h)) (is ∙ ap (λ x. word_after w (Word.Deed x)) (eqb-true q p h) ∙ none)) none
-still_none w e s a p is made none = none
+still_none w e s a p is made h = search (arith, no_deed_made, eqb-true)
 
 none_kept : (f : Profile) (k : ℕ) (l : Whole) (p : ℕ) (xs : List Made) → Legal f (triples k xs ++ l) → Always (MakesNoDeedHere p) xs → word_after l (Word.Deed p) ≡ 0 → word_after (triples k xs ++ l) (Word.Deed p) ≡ 0
 none_kept f k l p [] legal made none = none
 none_kept f k l p (m ∷ more) legal made none = still_none (triples k more ++ l) (epoch_of (part k (triples k more ++ l))) m.step m.answer p legal.0.answer_is made.0 (none_kept f k l p more legal.1 made.1 none)
 
-none_read : (f : Profile) (k : ℕ) (l : Whole) (p : ℕ) (xs : List Made) → Legal f (triples k xs ++ l) → Once (NoDeedHere p) xs → word_after l (Word.Deed p) ≡ 0
+pub none_read : (f : Profile) (k : ℕ) (l : Whole) (p : ℕ) (xs : List Made) → Legal f (triples k xs ++ l) → Once (NoDeedHere p) xs → word_after l (Word.Deed p) ≡ 0
 none_read f k l p [] legal h = absurd h
 none_read f k l p (m ∷ more) legal (inl h) = deed_none k l p more (sym (deed_told (triples k more ++ l) p m.step m.answer h.0 legal.0.answer_is) ∙ h.1)
 none_read f k l p (m ∷ more) legal (inr h) = none_read f k l p more legal.1 h
 
 lost_deed : (f : Profile) (k : ℕ) (l : Whole) (d : Directory) (p : ℕ) (m : Made) (before : List Made) → Legal f (triples k (m ∷ before) ++ l) → LostDeedHere d p m before → ⊥
-lost_deed f k l d p m before legal lost =
-    let w : Whole = triples k before ++ l in
-    lost.1 (legal.0.answer_is ∙ ap (λ s. word_after w (target s)) lost.0 ∙ none_kept f k l p before legal.1 lost.3 (none_read f k l p before legal.1 lost.2))
+lost_deed f k l d p m before legal lost = search (arith, none_kept, none_read)
 
 -- ---- nor broken
 pub fewer_not_all : (r fewer : ℕ → Bool) → ((b : ℕ) → b < 256 → fewer b ≡ true → r b ≡ true) → NotAll r → NotAll fewer
 fewer_not_all r fewer less not all = not (λ b lt. less b lt (all b lt))
 
+-- a usable page is neither lost nor broken
+pub lost_never : (f : Profile) (k : ℕ) (l : Whole) (d : Directory) (p : ℕ) (m : Made) (before : List Made) → IsKind d.kind → Legal f (triples k (m ∷ before) ++ l) → LendsNone (m ∷ before)
+    → has_right (part k l) p ≡ false → IsUsablePage d l p → LostHere d p m before ⊎ BrokenHere p m before → ⊥
+lost_never f k l d p m before is legal lends none usable (inl (inl right)) = lost_right f k l d p m before is legal none usable right
+lost_never f k l d p m before is legal lends none usable (inl (inr deed)) = lost_deed f k l d p m before legal deed
+lost_never f k l d p m before is legal lends none usable (inr broken) =
+    unfit_entry NotAll f k l p (m ∷ before) fewer_not_all legal lends (inl broken) (usable_free f d l p (legal_before f k before l legal.1) usable)
+
 -- no run of usable pages fails
 pub fails_told : (f : Profile) (k : ℕ) (l : Whole) (d : Directory) (n first : ℕ) (xs : List Made) → IsKind d.kind → Legal f (triples k xs ++ l) → LendsNone xs → IsUsableRun d n l first → ((p : ℕ) → IsInRun first n p → has_right (part k l) p ≡ false) → Once (FailsHere d n first) xs → ⊥
 fails_told f k l d n first [] is legal lends usable lacks h = h
 fails_told f k l d n first (m ∷ more) is legal lends usable lacks (inr h) = fails_told f k l d n first more is legal.1 lends.1 usable lacks h
-fails_told f k l d n first (m ∷ more) is legal lends usable lacks (inl h) =
-    let page : ℕ = h.1.0 in
-    elim h.1.2 [
-      | inl lost ↦ elim lost [
-        | inl right ↦ lost_right f k l d page m more is legal (lacks page h.1.1) (usable page h.1.1) right
-        | inr deed ↦ lost_deed f k l d page m more legal deed
-      ]
-      | inr broken ↦ unfit_entry NotAll f k l page (m ∷ more) fewer_not_all legal lends (inl broken) (usable_free f d l page (legal_before f k more l legal.1) (usable page h.1.1))
-    ]
+fails_told f k l d n first (m ∷ more) is legal lends usable lacks (inl h) = lost_never f k l d h.1.0 m more is legal lends (lacks h.1.0 h.1.1) (usable h.1.0 h.1.1) h.1.2

@@ -28,30 +28,20 @@ use Rattle.pas_scan.proofs.LeftPages.{holds_own}
 use Rattle.pas_search.specs.Kinds.{IsReturnOf, ReturnsDuly}
 use Rattle.pas_large.specs.Evidence.{NotAll, MissedHere, GotOf, LeftOrBroken}
 use Rattle.pas_large.specs.{Finds.MayFind, Pages.claiming_old, Telling.IsWholePage, Telling.IsUsablePage, Telling.IsToldLarge}
-use Rattle.pas_large.proofs.Told.{deed_told, free_told, grain_bit, clean_own, usable_clean, nowhere_else, lost_right, fewer_not_all}
+use Rattle.pas_large.proofs.Told.{of_page, deed_told, free_told, grain_bit, clean_own, usable_clean, nowhere_else, lost_right, fewer_not_all}
 
 -- ---- grains, where the actor gives and ends no block: one is free now or held by the call exactly where it was free at entry
 abbrev bit_of : Whole → ℕ → Bool
 bit_of l g = has_bit (word_after l (free_word_at g)) (g % 64)
 
-of_page : (l : Whole) (page b : ℕ) → free_of_page l page b ≡ bit_of l (page * 256 + b)
-of_page l page b = let bit : b % 64 ≡ (page * 256 + b) % 64 = omega arith in ap (λ n. has_bit (word_after l (free_word_at (page * 256 + b))) n) bit
-
 takes_same : (k : ℕ) (t : Bool) (o : Place) (bit held : Bool) → Fits k (if t then Gets else Stays) o → bit ≡ is_free o → (free_moved (if t then Gets else Stays) bit || held_after (if t then Gets else Stays) held) ≡ (bit || held)
-takes_same k true o bit held fits free = sym (or_left bit held (free ∙ ap is_free fits))
-takes_same k false o bit held fits free = refl
+takes_same k t o bit held fits free = search (arith, or_left)
 
 puts_same : (k : ℕ) (t : Bool) (o : Place) (bit held : Bool) → Fits k (if t then Puts else Stays) o → held ≡ is_held_by k o → (free_moved (if t then Puts else Stays) bit || held_after (if t then Puts else Stays) held) ≡ (bit || held)
-puts_same k true o bit held fits mine = sym (or_right bit held (mine ∙ ap (is_held_by k) fits ∙ eq-eqb k k refl))
-puts_same k false o bit held fits mine = refl
+puts_same k t o bit held fits mine = search (arith, or_right, eq-eqb)
 
 same_move : (k : ℕ) (s : Step) (a g : ℕ) (o : Place) (bit held : Bool) → is_in lending (kind_of s) ≡ false → Fits k (grain_move s a g) o → bit ≡ is_free o → held ≡ is_held_by k o → (free_moved (grain_move s a g) bit || held_after (grain_move s a g) held) ≡ (bit || held)
-same_move k (Take q w mask) a g o bit held h fits free mine = takes_same k (in_mask q w mask g && has_bit a (g % 64)) o bit held fits free
-same_move k (Put q w mask) a g o bit held h fits free mine = puts_same k (in_mask q w mask g) o bit held fits mine
-same_move k (Give b) a g o bit held h fits free mine = absurd (true≢false h)
-same_move k (End n b) a g o bit held h fits free mine = absurd (true≢false h)
-same_move k (EndSized n room) a g o bit held h fits free mine = absurd (true≢false h)
-same_move k s a g o bit held h fits free mine = refl
+same_move k s a g o bit held h fits free mine = search (arith, takes_same, puts_same, true≢false)
 
 module _ (f : Profile) (k : ℕ) (l : Whole) (valid : IsValid f) (g : ℕ) where
   free_same : (xs : List Made) → Legal f (triples k xs ++ l) → LendsNone xs → holds (part k l) g ≡ false → (bit_of (triples k xs ++ l) g || holds xs g) ≡ bit_of l g
@@ -85,12 +75,7 @@ stuck_other : (k : ℕ) (o p : Spot) → is_stuck k p ≡ false → o ≡ p → 
 stuck_other k o p none same stuck = true≢false (sym stuck ∙ ap (is_stuck k) same ∙ none)
 
 stuck_after : (k : ℕ) (w : Way) (o : Spot) → Suits k w o → is_stuck k o ≡ true → (w ≡ FromParked → ⊥) → is_stuck k (spot_after k w o) ≡ true
-stuck_after k Rests o suits stuck ne = stuck
-stuck_after k ByDeed o suits stuck ne = absurd (stuck_other k o Nowhere refl suits stuck)
-stuck_after k (FromOffer n) o suits stuck ne = absurd (stuck_other k o (Offered n) refl suits stuck)
-stuck_after k FromParked o suits stuck ne = absurd (ne refl)
-stuck_after k (ToOffer n) o suits stuck ne = absurd (stuck_own k o suits stuck)
-stuck_after k ToParked o suits stuck ne = absurd (stuck_own k o suits stuck)
+stuck_after k w o suits stuck ne = search (arith, stuck_other, stuck_own)
 
 from_if : (t : Bool) (w : Way) → (w ≡ FromParked → ⊥) → (if t then w else Rests) ≡ FromParked → ⊥
 from_if true w ne e = ne e
@@ -177,9 +162,7 @@ module _ (f : Profile) (k : ℕ) (l : Whole) (d : Directory) (p : ℕ) (valid : 
         deed = deed;
         offered = at.eligible (number_of d)
             ∙ offered_else k d (spot_of l p) (word_after l (Word.Deed p)) kind (false_from_ne_true (is_stuck k (spot_of l p)) (λ stuck. (stuck_all f k l p xs legal returns stuck).1 got.got)) (sym (at.has k) ∙ lacks_entry before deed) at.deed deed;
-        free = λ b lt.
-            let same : b ≡ 64 * (b / 64) + b % 64 = omega arith in
-            ap (free_of_page l p) same ∙ free_entry (b / 64) (b % 64) (omega (arith, lt)) (omega arith) (apart (p * 256 + (64 * (b / 64) + b % 64)) (omega (arith, lt))) xs legal (lends_none claiming_old refl xs old) (whole (b / 64) (omega (arith, lt)));
+        free = search (arith, free_entry, lends_none);
       }
 
   -- ---- a claim that failed leaves the page as usable as it was
@@ -231,22 +214,16 @@ module _ (f : Profile) (k : ℕ) (l : Whole) (d : Directory) (p : ℕ) (valid : 
         }
 
     pub usable_later : IsUsablePage d l p → IsUsablePage d w p
-    usable_later (inl none) = inl (deed_entry xs old ∙ none)
-    usable_later (inr whole) = inr (whole_later whole)
+    usable_later h = search (arith, deed_entry, whole_later)
 
     pub usable_earlier : IsUsablePage d w p → IsUsablePage d l p
-    usable_earlier (inl none) = inl (sym (deed_entry xs old) ∙ none)
-    usable_earlier (inr whole) = inr (whole_earlier whole)
+    usable_earlier h = search (arith, deed_entry, whole_earlier)
 
 -- ---- what is told of a state is told of one whose pages are as usable
 pub told_earlier : (f : Profile) (d : Directory) (n : ℕ) (l w exit : Whole) → ((p : ℕ) → IsUsablePage d l p → IsUsablePage d w p) → ((p : ℕ) → IsUsablePage d w p → IsUsablePage d l p) → (answer : Result Block NoRoom) → IsToldLarge f d n w exit answer → IsToldLarge f d n l exit answer
 told_earlier f d n l w exit later earlier (Ok block) told = (
   told.0,
-  record {
-    of_region = told.1.of_region;
-    usable = λ p here. earlier p (told.1.usable p here);
-    lowest = λ other some lt usable. told.1.lowest other some lt (λ p here. later p (usable p here));
-  },
+  search (arith, told.1.of_region, told.1.usable, told.1.lowest),
   told.2,
 )
 told_earlier f d n l w exit later earlier (Err why) told = (λ first low le usable. told.0 first low le (λ p here. later p (usable p here)), told.1, told.2)

@@ -22,12 +22,7 @@ use Rattle.pas_large.proofs.Told.{looks_same, once_of, deed_told, eligible_told,
 
 -- ---- no run at exit
 usable_before : (k : ℕ) (l : Whole) (d : Directory) (steps : List Made) → Only looking steps → (p : ℕ) → IsUsablePage d (triples k steps ++ l) p → IsUsablePage d l p
-usable_before k l d steps only p (inl none) = inl (sym (looks_same k steps l (Word.Deed p) only) ∙ none)
-usable_before k l d steps only p (inr whole) = inr record {
-  deed = sym (looks_same k steps l (Word.Deed p) only) ∙ whole.deed;
-  offered = ap (λ x. has_bit x (p % 64)) (sym (looks_same k steps l (Word.Eligible (number_of d) (p / 64)) only)) ∙ whole.offered;
-  free = λ b lt. ap (λ x. has_bit x (b % 64)) (sym (looks_same k steps l (free_word_at (p * 256 + b)) only)) ∙ whole.free b lt;
-}
+usable_before k l d steps only p h = search (arith, looks_same)
 
 pub none_after : (f : Profile) (k : ℕ) (l : Whole) (d : Directory) (n : ℕ) (steps : List Made) → Only looking steps → HasNoUsableRun f d n l → HasNoUsableRun f d n (triples k steps ++ l)
 none_after f k l d n steps only none first low le usable = none first low le (λ p here. usable_before k l d steps only p (usable p here))
@@ -66,10 +61,7 @@ module _ (f : Profile) (k : ℕ) (l : Whole) (d : Directory) (steps : List Made)
 
   not_in_hands : (p : ℕ) → IsInHands f d w p → (KnowsDeed p d (steps ++ part k l) → IsAccounted d p steps) → ⊥
   not_in_hands p hands account = elim (account (knows p hands.of_region (sym (deed_was p) ∙ hands.of_directory))) [
-    | inl accounted ↦ elim accounted [
-      | inl left ↦ never_left p left
-      | inr parked ↦ true≢false (sym (parked_at p parked) ∙ sym (parked_was p) ∙ hands.not_parked)
-    ]
+    | inl accounted ↦ search (arith, never_left, true≢false, parked_at, parked_was)
     | inr offered ↦ true≢false (sym (one_at p (since_once (OneHere d p) (NotReadHere d p) steps offered)) ∙ sym (eligible_was p) ∙ hands.not_offered)
   ]
 
@@ -97,5 +89,4 @@ module _ (f : Profile) (k : ℕ) (l : Whole) (d : Directory) (steps : List Made)
       }
 
   pub true_reason : (why : NoRoom) → IsReason f d steps why → IsTrueReason f d w why
-  true_reason NoSpace all = λ p hands. not_in_hands p hands (all (part k l) agreed p hands.of_region.0 (omega (arith, hands.of_region.1)))
-  true_reason (Held page) held = (in_hands page held, λ p lt hands. not_in_hands p hands (held.lower (part k l) agreed p hands.of_region.0 lt))
+  true_reason why all = search (arith, not_in_hands, in_hands)

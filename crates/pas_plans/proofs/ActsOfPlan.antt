@@ -68,24 +68,20 @@ module _ (f : Profile) (cost : Act → ℕ) (most : Op → ℕ) (mark : ℕ) (ea
   of_ops : (idle : List ℕ) (ops : List Op) → length idle ≤ f.threads → ArePlanned f ops → sum_over cost (acts_of_ops idle ops) ≤ sum_of_ops most ops
   of_ops idle [] few all = omega arith
   of_ops idle (op ∷ ops) few all =
-      let this = each idle op few all.0 in
-      let rest = of_ops idle ops few all.1 in
       let both = sum_both cost (acts_of_op idle op) (acts_of_ops idle ops) in
-      omega (arith, this, rest, both)
+      omega (arith, each idle op few all.0, of_ops idle ops few all.1, both)
 
   of_phase : (ops : List Op) → ArePlanned f ops → sum_over cost (phase_acts f.threads ops) ≤ sum_of_ops most ops
   of_phase ops all =
-      let woken = free_map cost Wakes wakes (active_threads f.threads ops) in
       let rest = of_ops (idle_threads f.threads ops) ops (idle_few f.threads ops) all in
       let both = sum_both cost (map Wakes (active_threads f.threads ops)) (acts_of_ops (idle_threads f.threads ops) ops) in
-      omega (arith, woken, rest, both)
+      omega (arith, free_map cost Wakes wakes (active_threads f.threads ops), rest, both)
 
   of_close : (keepers : ℕ) → sum_over cost (close_acts f.threads keepers) ≡ mark
   of_close keepers =
-      let ended = free_map cost Ends ends (numbers_from 1 f.threads) in
       let lowered = free_map cost Lowers lowers (numbers_from (f.threads + 1) keepers) in
       let both = sum_both cost (map Ends (numbers_from 1 f.threads)) (map Lowers (numbers_from (f.threads + 1) keepers)) in
-      omega (arith, ended, lowered, both, close)
+      omega (arith, free_map cost Ends ends (numbers_from 1 f.threads), lowered, both, close)
 
   ops_both : (xs ys : List Op) → sum_of_ops most (xs ++ ys) ≡ sum_of_ops most xs + sum_of_ops most ys
   ops_both [] ys = omega arith
@@ -97,10 +93,7 @@ module _ (f : Profile) (cost : Act → ℕ) (most : Op → ℕ) (mark : ℕ) (ea
       let this = of_phase p (all_front (λ (op : Op). IsActorOf f op.what op.actor) p (all_ops ps) all) in
       let rest = of_later keepers (n + 1) ps (all_back (λ (op : Op). IsActorOf f op.what op.actor) p (all_ops ps) all) in
       let both = sum_both cost (phase_acts f.threads p) (acts_from f.threads keepers (n + 1) ps) in
-      let ops = ops_both p (all_ops ps) in
-      let marked = phase n in
-      let more = suc-mul (length ps + 1) mark in
-      omega (arith, this, rest, both, ops, marked, more)
+      omega (arith, this, rest, both, ops_both p (all_ops ps), phase n, suc-mul (length ps + 1) mark)
 
   pub of_plan : (keepers : ℕ) (phases : List (List Op)) → ArePlanned f (all_ops phases) → sum_over cost (acts_of f.threads keepers phases) ≤ sum_of_ops most (all_ops phases) + (length phases + 1) * mark
   of_plan keepers [] all = let last = of_close keepers in omega (arith, last)
@@ -168,20 +161,17 @@ own_sum f k (op ∷ ops) = ap (λ n. (if op.actor == k then records_of_what f op
 pub plan_costs : (f : Profile) (keepers : ℕ) (phases : List (List Op)) → ArePlanned f (all_ops phases) → costs_of f (acts_of f.threads keepers phases) ≤ records_of_ops f (all_ops phases) + (length phases + 1)
 plan_costs f keepers phases all =
     let most = of_plan f (cost_of_act f) (λ op. records_of_what f op.what) 1 (λ idle op few is. work_costs f idle op (work_of op.what) refl few) (λ k. refl) (λ k. refl) (λ k. refl) (λ n. refl) refl keepers phases all in
-    let sum = records_sum f (all_ops phases) in
-    omega (arith, most, sum)
+    omega (arith, most, records_sum f (all_ops phases))
 
 pub plan_owns : (f : Profile) (keepers k : ℕ) (phases : List (List Op)) → ArePlanned f (all_ops phases) → own_costs_of k (acts_of f.threads keepers phases) ≤ own_records f k (all_ops phases)
 plan_owns f keepers k phases all =
     let most = of_plan f (own_cost_of_act k) (λ op. if op.actor == k then records_of_what f op.what else 0) 0 (λ idle op few is. work_owns f k idle op (work_of op.what) refl) (λ j. refl) (λ j. refl) (λ j. refl) (λ n. refl) refl keepers phases all in
-    let sum = own_sum f k (all_ops phases) in
-    omega (arith, most, sum)
+    omega (arith, most, own_sum f k (all_ops phases))
 
 pub plan_unbacks : (f : Profile) (keepers : ℕ) (phases : List (List Op)) → ArePlanned f (all_ops phases) → unbacks_of f (acts_of f.threads keepers phases) ≤ own_records f 0 (all_ops phases)
 plan_unbacks f keepers phases all =
     let most = of_plan f (unbacks_of_act f) (λ op. if op.actor == 0 then records_of_what f op.what else 0) 0 (λ idle op few is. work_unbacks f idle op (work_of op.what) is) (λ j. refl) (λ j. refl) (λ j. refl) (λ n. refl) refl keepers phases all in
-    let sum = own_sum f 0 (all_ops phases) in
-    omega (arith, most, sum)
+    omega (arith, most, own_sum f 0 (all_ops phases))
 
 -- ---- what acts fit to
 -- what is said after operations and before the acts of those that follow

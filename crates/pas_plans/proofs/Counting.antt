@@ -57,8 +57,7 @@ pub guarded_few : (f : Profile) (k : ℕ) (ops : List Op) → guarded_of k ops �
 guarded_few f k [] = omega arith
 guarded_few f k (op ∷ ops) =
     let one = few_if (op.actor == k) (one_guarded (keeper_in op.what)) (records_of_what f op.what) (few_work f (work_of op.what)) in
-    let rest = guarded_few f k ops in
-    omega (arith, one, rest)
+    omega (arith, one, guarded_few f k ops)
 
 -- ---- actors
 within_work : (f : Profile) (work : Work) (k : ℕ) → f.threads ≤ 16 → IsActorBy f work k → k < 17
@@ -87,10 +86,9 @@ no_books places books none = record { many = ap (λ (bs : List GuardBook). lengt
 pub next_book : {many : ℕ} {places : ℕ → ℕ} {books : List GuardBook} (after : List GuardBook) (book : GuardBook) → after ≡ books ++ book ∷ [] → guards_in book ≡ [] → size_of_book book ≡ places (many + 1) → AreBooksFor many places books → AreBooksFor (many + 1) places after
 next_book {many} {places} {books} after book is empty size made =
     let count = made.many in
-    let long = length-append books (book ∷ []) in
     let same = ap (λ (bs : List GuardBook). length bs) is in
     record {
-      many = omega (arith, count, long, same);
+      many = omega (arith, count, length-append books (book ∷ []), same);
       empty = λ i d lt. elim (cases_lt i many) [
         | inl below ↦ ap (λ (bs : List GuardBook). guards_in (slice_index_or bs i d)) is ∙ ap guards_in (get_or_append_left books (book ∷ []) d i (omega (arith, below, count))) ∙ made.empty i d below
         | inr ge ↦ ap (λ (bs : List GuardBook). guards_in (slice_index_or bs i d)) is ∙ ap guards_in (at_end books book d i (omega (arith, lt, ge, count))) ∙ empty

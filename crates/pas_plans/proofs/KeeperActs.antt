@@ -154,8 +154,7 @@ kept_own {text} {plan} is k some within =
     let bound = (every_plan is).kept k (is_guarded plan (omega (arith, some, within))) some (omega (arith, within, few)) in
     let same = asked_sum (λ op. kept_cost_of (request_in op.what)) (kept_cost_of_act (f.threads + k)) f.threads (keepers_of plan) k (kept_same f.threads (keepers_of plan) k) (acts_of_plan plan) (plan_keeps is) in
     let all = asked_all (λ op. kept_cost_of (request_in op.what)) (λ op. kept_of_work (work_of op.what)) k (λ op keeper asks. kept_enough (work_of op.what) keeper asks) f (keepers_of plan) (phases_of plan) (plan_planned is) in
-    let sum = kept_sum k (all_ops (phases_of plan)) in
-    omega (arith, bound, same, all, sum)
+    omega (arith, bound, same, all, kept_sum k (all_ops (phases_of plan)))
 
 pub plan_kept_own : {text : List ℕ} {plan : Plan} → IsPlanOf text plan → (k : ℕ) → threads_of plan < k → k ≤ (region_of plan).threads → (region_of plan).pages + kept_costs_of k (acts_of_plan plan) ≤ slice_index (bounds_of plan.bounds) k
 plan_kept_own {text} {plan} is k past within =
@@ -178,5 +177,4 @@ plan_tries {text} {plan} is k =
     let f = plan.profile in
     let same = asked_sum (λ op. 1) (tries_of_act (f.threads + k)) f.threads (keepers_of plan) k (tries_same f.threads (keepers_of plan) k) (acts_of_plan plan) (plan_keeps is) in
     let all = asked_all (λ op. 1) (λ op. one_guarded (keeper_in op.what)) k (λ op keeper asks. guarded_enough (keeper_in op.what) keeper asks) f (keepers_of plan) (phases_of plan) (plan_planned is) in
-    let sum = guarded_sum k (all_ops (phases_of plan)) in
-    omega (arith, same, all, sum)
+    omega (arith, same, all, guarded_sum k (all_ops (phases_of plan)))

@@ -24,10 +24,9 @@ no_rooms sizes rooms none = record {
 pub next_room : {sizes : ℕ → Option ℕ} {count : ℕ} {rooms : List EventRoom} (after : List EventRoom) (room : EventRoom) → after ≡ rooms ++ room ∷ [] → sizes count ≡ Some (size_of_room room) → shown room ≡ [] → AreRooms sizes count rooms → AreRooms sizes (count + 1) after
 next_room {sizes} {count} {rooms} after room is size empty made =
     let many = made.many in
-    let long = length-append rooms (room ∷ []) in
     let same = ap (λ rs. length rs) is in
     record {
-      many = omega (arith, many, long, same);
+      many = omega (arith, many, length-append rooms (room ∷ []), same);
       each = λ k d lt. elim (cases_lt k count) [
         | inl below ↦ made.each k d below ∙ ap (λ r. Some (size_of_room r)) (sym (ap (λ rs. slice_index_or rs k d) is ∙ get_or_append_left rooms (room ∷ []) d k (omega (arith, below, many))))
         | inr ge ↦
@@ -47,10 +46,9 @@ none_unused caches none = record { many = ap (λ (cs : List ThreadCache). length
 pub next_unused : {count : ℕ} {caches : List ThreadCache} (after : List ThreadCache) (cache : ThreadCache) → after ≡ caches ++ cache ∷ [] → cached cache ≡ empty_cache → AreUnused count caches → AreUnused (count + 1) after
 next_unused {count} {caches} after cache is empty made =
     let many = made.many in
-    let long = length-append caches (cache ∷ []) in
     let same = ap (λ (cs : List ThreadCache). length cs) is in
     record {
-      many = omega (arith, many, long, same);
+      many = omega (arith, many, length-append caches (cache ∷ []), same);
       each = λ i d lt. elim (cases_lt i count) [
         | inl below ↦ ap (λ (cs : List ThreadCache). cached (slice_index_or cs i d)) is ∙ ap cached (get_or_append_left caches (cache ∷ []) d i (omega (arith, below, many))) ∙ made.each i d below
         | inr ge ↦ ap (λ (cs : List ThreadCache). cached (slice_index_or cs i d)) is ∙ ap cached (at_end caches cache d i (omega (arith, lt, ge, many))) ∙ empty

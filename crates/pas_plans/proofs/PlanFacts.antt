@@ -90,12 +90,11 @@ pub plan_valid : {text : List ℕ} {plan : Plan} → IsPlanOf text plan → IsVa
 plan_valid {text} {plan} is =
     let sound = every_plan is in
     let valid = sound.valid in
-    let among = threads_among plan.guard plan.profile.threads in
     record {
       some_page = valid.some_page;
       pages = valid.pages;
       classes = valid.classes;
-      some_thread = omega (arith, among, valid.some_thread);
+      some_thread = omega (arith, threads_among plan.guard plan.profile.threads, valid.some_thread);
       threads = sound.actors;
       some_age = valid.some_age;
       age = valid.age;
@@ -140,22 +139,19 @@ plan_operate {text} {plan} is = of_threads plan.profile (keepers_of plan) (phase
 pub plan_own : {text : List ℕ} {plan : Plan} → IsPlanOf text plan → (k : ℕ) → 1 ≤ k → k ≤ threads_of plan
     → (region_of plan).pages + own_costs_of k (acts_of_plan plan) ≤ slice_index (bounds_of plan.bounds) k
 plan_own {text} {plan} is k some le =
-    let own = plan_owns plan.profile (keepers_of plan) k (phases_of plan) (plan_planned is) in
     let bound = (every_plan is).own k some le in
-    omega (arith, own, bound)
+    omega (arith, plan_owns plan.profile (keepers_of plan) k (phases_of plan) (plan_planned is), bound)
 
 -- .. that of the scavenger for its passes
 pub plan_scavenger : {text : List ℕ} {plan : Plan} → IsPlanOf text plan → unbacks_of (region_of plan) (acts_of_plan plan) ≤ slice_index (bounds_of plan.bounds) 0
 plan_scavenger {text} {plan} is =
-    let own = plan_unbacks plan.profile (keepers_of plan) (phases_of plan) (plan_planned is) in
     let bound = (every_plan is).scavenger in
     let same = same_unbacks plan.profile (actors_by plan.guard plan.profile.threads) (plan_threads plan) (acts_of_plan plan) in
-    omega (arith, own, bound, same)
+    omega (arith, plan_unbacks plan.profile (keepers_of plan) (phases_of plan) (plan_planned is), bound, same)
 
 -- .. and the total for those of all actors, with a record for each phase and one for the close
 pub plan_total : {text : List ℕ} {plan : Plan} → IsPlanOf text plan → (region_of plan).threads * (region_of plan).pages + costs_of (region_of plan) (acts_of_plan plan) ≤ plan.total + length (phases_of plan) + 1
 plan_total {text} {plan} is =
-    let all = plan_costs plan.profile (keepers_of plan) (phases_of plan) (plan_planned is) in
     let total = (every_plan is).total in
     let same = same_costs plan.profile (actors_by plan.guard plan.profile.threads) (plan_threads plan) (acts_of_plan plan) in
-    omega (arith, all, total, same)
+    omega (arith, plan_costs plan.profile (keepers_of plan) (phases_of plan) (plan_planned is), total, same)

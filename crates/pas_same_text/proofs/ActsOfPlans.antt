@@ -63,8 +63,7 @@ module _ (plan : Plan) where
       ((((omega (arith, thread.0, keeps.0), omega (arith, keeps.0, among)), thread), (admitted, guarded keeper refl)), ((thread, tt), tt))
 
   work_own : (idle : List ℕ) (op : Op) (work : Work) → AllByRecursion IsOwn idle → IsActorBy plan.profile work op.actor → IsAdmittedWhat (region_of plan) op.what → ((k : ℕ) → of_task keeper_of work ≡ Some k → IsGuardedWhat (region_of plan) k op.what) → KeepsIt op.actor (of_task keeper_of work) → AreOwn (acts_of_work idle op work)
-  work_own idle op (Work.Own task) idles actor admitted guarded keeps = kept_own (keeper_of task) op actor admitted guarded keeps
-  work_own idle op (Work.Chore chore) idles actor admitted guarded keeps = chore_own idle chore idles
+  work_own idle op work idles actor admitted guarded keeps = search (arith, kept_own, chore_own)
 
   -- ---- what is asked for: what the profile admits, its region does
   region_admits : (size align heap : ℕ) → IsAdmitted plan.profile size align heap → IsAdmitted (region_of plan) size align heap
@@ -74,17 +73,10 @@ module _ (plan : Plan) where
   IsAdmittedHere r = IsAdmitted (region_of plan) r.size r.align r.heap
 
   task_admitted : (asked : List ℕ) (task : Task) → IsSoundTask plan.profile asked task → MatchOption (request_of task) (Unit {0}) IsAdmittedHere
-  task_admitted asked (Task.Request name heap size align) sound = region_admits size align heap sound.0
-  task_admitted asked (Task.Guarded keeper name heap size align) sound = region_admits size align heap sound.0
-  task_admitted asked (Task.Free name room) sound = tt
-  task_admitted asked (Task.FreeRaw block room) sound = tt
-  task_admitted asked (Task.Remake name old heap size align) sound = region_admits size align heap sound.0
-  task_admitted asked Task.Flush sound = tt
-  task_admitted asked Task.Stop sound = tt
+  task_admitted asked task sound = search (arith, region_admits)
 
   work_admitted : (asked : List ℕ) (work : Work) → IsSoundWork plan.profile asked work → MatchOption (of_task request_of work) (Unit {0}) IsAdmittedHere
-  work_admitted asked (Work.Own task) sound = task_admitted asked task sound
-  work_admitted asked (Work.Chore chore) sound = tt
+  work_admitted asked work sound = search (arith, task_admitted)
 
   -- .. and what is guarded is for whole pages
   abbrev IsLargeHere : Request → Type 0
@@ -100,8 +92,7 @@ module _ (plan : Plan) where
   task_large asked Task.Stop sound k is = tt
 
   work_large : (asked : List ℕ) (work : Work) → IsSoundWork plan.profile asked work → (k : ℕ) → of_task keeper_of work ≡ Some k → MatchOption (of_task request_of work) (Unit {0}) IsLargeHere
-  work_large asked (Work.Own task) sound k is = task_large asked task sound k is
-  work_large asked (Work.Chore chore) sound k is = tt
+  work_large asked work sound k is = search (arith, task_large)
 
   -- ---- the acts of phases
   record IsOwnOp (op : Op) : Type 0 where
@@ -167,12 +158,11 @@ pub plan_region : {text : List ℕ} {plan : Plan} → IsPlanOf text plan → IsV
 plan_region {text} {plan} is =
     let sound = every_plan is in
     let valid = sound.valid in
-    let among = threads_among plan.guard plan.profile.threads in
     record {
       some_page = valid.some_page;
       pages = valid.pages;
       classes = valid.classes;
-      some_thread = omega (arith, among, valid.some_thread);
+      some_thread = omega (arith, threads_among plan.guard plan.profile.threads, valid.some_thread);
       threads = sound.actors;
       some_age = valid.some_age;
       age = valid.age;

@@ -44,8 +44,7 @@ module _ {X : Type 0} (test : X → Bool) where
   kept_one x xs t e = ap (λ (u : Bool). cond (not u) (x ∷ filter (λ y. not (test y)) xs) (filter (λ y. not (test y)) xs)) e
 
   kept_by : (x : X) (xs : List X) (t : Bool) → test x ≡ t → count_by test (x ∷ xs) ≡ 0 → (count_by test xs ≡ 0 → filter (λ y. not (test y)) xs ≡ xs) → filter (λ y. not (test y)) (x ∷ xs) ≡ x ∷ xs
-  kept_by x xs true e none more = let n = counted x xs true e in absurd (omega (arith, n, none))
-  kept_by x xs false e none more = let n = counted x xs false e in kept_one x xs false e ∙ ap (λ (ys : List X). x ∷ ys) (more (omega (arith, n, none)))
+  kept_by x xs t e h more = search (arith, counted, kept_one)
 
   all_kept : (xs : List X) → count_by test xs ≡ 0 → filter (λ y. not (test y)) xs ≡ xs
   all_kept [] none = refl
@@ -53,12 +52,7 @@ module _ {X : Type 0} (test : X → Bool) where
 
   out_by : (y : X) (ys : List X) (x : X) (t : Bool) → test y ≡ t → find test (y ∷ ys) ≡ Some x → count_by test (y ∷ ys) ≤ 1 → (find test ys ≡ Some x → count_by test ys ≤ 1 → IsPermutation ys (x ∷ filter (λ z. not (test z)) ys))
       → IsPermutation (y ∷ ys) (x ∷ filter (λ z. not (test z)) (y ∷ ys))
-  out_by y ys x true e found one more =
-      let n = counted y ys true e in
-      let some : Some y ≡ Some x = ap (λ (u : Bool). cond u (Some y) (find test ys)) (sym e) ∙ found in
-      let same : y ≡ x = cc in
-      let rest : filter (λ z. not (test z)) (y ∷ ys) ≡ ys = kept_one y ys true e ∙ all_kept ys (omega (arith, n, one)) in
-      subst (λ (zs : List X). IsPermutation (y ∷ ys) (x ∷ zs)) (sym rest) (subst (λ (z : X). IsPermutation (y ∷ ys) (z ∷ ys)) same (IsPermutation-refl (y ∷ ys)))
+  out_by y ys x true e found one more = search (arith, counted, kept_one, all_kept)
   out_by y ys x false e found one more =
       let n = counted y ys false e in
       let later : find test ys ≡ Some x = ap (λ (u : Bool). cond u (Some y) (find test ys)) (sym e) ∙ found in
@@ -85,15 +79,7 @@ module _ (f : Profile) (heap class : ℕ) (fewer : List Slots) (v : View) (of : 
       let gets : GetsSlots d slots v (steps ++ v) =
       subst (λ (ms : List Made). Agreed f v ms → GetsSlots d slots v (ms ++ v)) (sym refill.steps_are) (λ ok. gives.gets.from v may ok) agreed in
       rests_gained f d slots fewer steps v rests gets agreed
-      (record {
-        page = gives.page;
-        class = subst IsClass (sym gives.class_is) known;
-        directory = subst (IsDirectoryOf f) (sym gives.home) of;
-        kept = keeps_unshared slots.right (is_shared f slots.heap) slots.class class (ap (λ (e : Directory). e.kind) gives.home ∙ ap (λ (h : ℕ). kind_of_class (is_shared f h) class) (sym of_heap));
-        starts = gives.starts;
-        deed = gets.may_stop.deed ∙ ap deed_word_of (sym gives.home);
-        backed = λ some. gets.backed;
-      })
+      (search (arith, keeps_unshared))
       (ap (λ (h : ℕ). local_for h slots.class fewer) of_heap ∙ (ap (λ (c : ℕ). local_for heap c fewer) gives.class_is ∙ none))
       (λ later page at. none_kept f (steps ++ v) heap class page fewer of.kind (subst (λ (q : ℕ). KnowsDeed q d (steps ++ v)) (eqb-true slots.page page at) gets.may_stop.deed) later none)
 
@@ -230,9 +216,7 @@ module _ (f : Profile) (k : ℕ) (r : Request) (p : Progress) (a : Answer) (w : 
 
   -- its cache has the same log
   log_kept : (route : Route) → ServesBy route f (wanted_by f r) a.found c a.cache a.steps (Ok block) → a.cache.log ≡ c.log
-  log_kept (Route.Class class) serves = ap (λ (x : Cached). x.log) serves.cache
-  log_kept Route.Bitfit serves = ap (λ (x : Cached). x.log) serves.cache
-  log_kept Route.Large serves = ap (λ (x : Cached). x.log) serves.cache
+  log_kept route serves = grind arith
 
   pub served_rests : ServesBy (route_in f r.size r.align) f (wanted_by f r) a.found c a.cache a.steps (Ok block) → RestsWith f a.cache.locals (a.steps ++ v)
   served_rests serves = by_route (route_in f r.size r.align) refl serves

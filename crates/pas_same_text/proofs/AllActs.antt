@@ -101,7 +101,6 @@ pub replay_told : (text : List ℕ) (plan : Plan) (whole : Whole) (records : Lis
     → IsTold plan whole records (replayed (region_of plan) (keepers_of plan) (phases_of plan))
 replay_told text plan whole records read is none =
     let f : Profile = region_of plan in
-    let actors = plan_actors plan in
-    let all : threads_of plan ≡ f.threads = omega (arith, actors, none) in
+    let all : threads_of plan ≡ f.threads = omega (arith, plan_actors plan, none) in
     subst (λ (n : ℕ). IsTold plan whole records (each (acts_on f) (acts_of n (keepers_of plan) (phases_of plan)) (opened f))) all
     (plan_told text plan whole records read is)

@@ -105,12 +105,7 @@ idle_act f k n is p p' w usable taken = elim taken.advances [
 -- ==== FREES INTO ANY LOG
 -- an actor that is at rest with a cache is so with an empty log
 rest_emptied : (f : Profile) (c c' : Cached) (noted : List EndedRun) (guards : List Guard) (v : View) → c'.locals ≡ c.locals → IsResting f c' guards v → IsResting f (record c { log = []; noted = noted }) guards v
-rest_emptied f c c' noted guards v is rest = record {
-  locals = subst (λ (ls : List Slots). HasBoth f ls guards v) is rest.locals;
-  few = subst (λ (ls : List Slots). length ls ≤ 32) is rest.few;
-  entries = All-nil (IsEntryOf f);
-  few_entries = omega arith;
-}
+rest_emptied f c c' noted guards v is rest = search (arith, rest.locals, rest.few)
 
 module _ (f : Profile) (k : ℕ) (entry : Entry) (p : Progress) (w : World) (c' : Cached) (steps : List Made) (thread : IsThread f k) (valid : IsValid f) (before : IsBetween f p) (same : IsSame f p w) (usable : AreBlocksUsable (visible p.list))
     (after : IsBetween f (with_steps p k steps c')) (full : nat_le 64 (length (p.caches k).log) ≡ true) (takes : TakesEntry f k (p.caches k) c' entry steps) where
@@ -127,8 +122,7 @@ module _ (f : Profile) (k : ℕ) (entry : Entry) (p : Progress) (w : World) (c' 
   both = subst (λ (t : Bool). EmptiesFull t k c.log logged.kept c.noted c'.noted steps) full logged.emptied
 
   rest_at : (j : ℕ) (t : Bool) (guards : List Guard) (v : View) → IsResting f (if t then c' else p.caches j) guards v → IsResting f (if t then emptied else p.caches j) guards v
-  rest_at j true guards v rest = rest_emptied f c c' c'.noted guards v (ap (λ (d : Cached). d.locals) takes.cache) rest
-  rest_at j false guards v rest = rest
+  rest_at j t guards v rest = search (arith, rest_emptied)
 
   abbrev q : Progress
   q = with_steps p k steps emptied
@@ -169,10 +163,7 @@ module _ (f : Profile) (k : ℕ) (entry : Entry) (p : Progress) (w : World) (c' 
   }
 
   text : frees f k entry w ≡ adds k entry v
-  text =
-      let inside = page_inside f.pages (address_of entry.name) takes.region.page.0 takes.region.page.1 in
-      let test : nat_le 64 (length (log_of w k)) ≡ true = ap (λ (es : List Entry). nat_le 64 (length es)) (same.caches.each k thread).log ∙ full in
-      freed_is f k entry w true true inside (eq-eqb (address_of entry.name % 16) 0 takes.region.aligned) ∙ ap (λ (t : Bool). adds k entry (if t then flushes f k w else w)) test
+  text = search (arith, page_inside, freed_is, eq-eqb)
 
   full_same : IsSame f (after_with p k steps None p.names c') (frees f k entry w)
   full_same = subst (λ (x : World). IsSame f (after_with p k steps None p.names c') x) (sym text) added

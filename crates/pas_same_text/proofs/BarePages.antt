@@ -16,27 +16,13 @@ use Rattle.pas_guard.specs.{Evidence.BackedReadHere, Raises.BacksNot, Seeks.Left
 
 -- ---- one step: only a back makes a page that isn't backed a backed one
 stays_bare : (e : ℕ) (s : Step) (page old : ℕ) → (s ≡ Back page → ⊥) → old ≡ 0 → (if same_word (target s) (Word.Backed page) then new_value e s old else old) ≡ 0
-stays_bare e (Look x) page old not zero = looked (same_word x (Word.Backed page)) old ∙ zero
-stays_bare e (Back q) page old not zero = elim (cases_Bool (q == page)) [
-  | inl is ↦ absurd (not (ap Back (eqb-true q page is)))
-  | inr other ↦ ap (λ t. if t then new_value e (Back q) old else old) other ∙ zero
-]
-stays_bare e (Unback q) page old not zero = elim (cases_Bool (q == page)) [
-  | inl is ↦ ap (λ t. if t then 0 else old) is
-  | inr other ↦ ap (λ t. if t then 0 else old) other ∙ zero
-]
-stays_bare e s page old not zero = zero
+stays_bare e s page old not h = search (arith, cases_Bool, eqb-true)
 
 -- ---- steps of one actor
 pub bare_on : (f : Profile) (k page : ℕ) (xs : List Made) (l : Whole) → Legal f (triples k xs ++ l) → BacksNot page xs → word_after l (Word.Backed page) ≡ 0 → word_after (triples k xs ++ l) (Word.Backed page) ≡ 0
 bare_on f k page [] l legal backs zero = zero
 bare_on f k page (m ∷ xs) l legal backs zero =
     stays_bare (epoch_of (part k (triples k xs ++ l))) m.step page (word_after (triples k xs ++ l) (Word.Backed page)) backs.0 (bare_on f k page xs l legal.1 backs.1 zero)
-
--- steps of kinds among which a back isn't
-pub none_backs : (ks : Kinds) (page : ℕ) (xs : List Made) → is_in ks Backing ≡ false → Only ks xs → BacksNot page xs
-none_backs ks page [] other only = tt
-none_backs ks page (m ∷ xs) other only = (λ e. true≢false (sym only.0 ∙ (ap (λ s. is_in ks (kind_of s)) e ∙ other)), none_backs ks page xs other only.1)
 
 -- nobody backs a page all of whose grains another holds
 pub held_unbacked : (f : Profile) (k j page : ℕ) (xs : List Made) (l : Whole) → IsValid f → Legal f (triples k xs ++ l) → (k == j) ≡ false → ((g : ℕ) → g / 256 ≡ page → holds (part j l) g ≡ true) → BacksNot page xs
@@ -52,12 +38,7 @@ held_unbacked f k j page (m ∷ xs) l valid legal other held = (
 -- where the page was read as not backed, and left alone since
 pub bare_since : (f : Profile) (k page : ℕ) (v : View) (xs : List Made) (l : Whole) → Legal f (triples k xs ++ l) → Since (BackedReadHere v page 0) (LeftSince page) xs → word_after (triples k xs ++ l) (Word.Backed page) ≡ 0
 bare_since f k page v [] l legal since = absurd since
-bare_since f k page v (m ∷ xs) l legal (inl read) =
-    let zero : word_after (triples k xs ++ l) (Word.Backed page) ≡ 0 = ap (λ (s : Step). word_after (triples k xs ++ l) (target s)) (sym read.0) ∙ (sym legal.0.answer_is ∙ read.1) in
-    stays_bare (epoch_of (part k (triples k xs ++ l))) m.step page (word_after (triples k xs ++ l) (Word.Backed page)) (λ e. look_back page (sym read.0 ∙ e)) zero
-  where
-    look_back : (page : ℕ) → Look (Word.Backed page) ≡ Back page → ⊥
-    look_back page e = cc
+bare_since f k page v (m ∷ xs) l legal (inl read) = search (arith, stays_bare)
 bare_since f k page v (m ∷ xs) l legal (inr later) =
     stays_bare (epoch_of (part k (triples k xs ++ l))) m.step page (word_after (triples k xs ++ l) (Word.Backed page)) later.0.unbacked (bare_since f k page v xs l legal.1 later.1)
 

@@ -37,10 +37,7 @@ own_with (c ∷ cs) k new some few = own_at c cs k new (k == 1) refl (λ e.
 -- ---- the others
 other_at : (c : Cache) (cs : List Cache) (j k : ℕ) (new : Cache) (t u : Bool) → (k == 1) ≡ t → (j == 1) ≡ u → j ≢ k → (u ≡ false → t ≡ false → cache_in (with_cache cs (k - 1) new) (j - 1) ≡ cache_in cs (j - 1))
     → cache_in (if t then new ∷ cs else c ∷ with_cache cs (k - 1) new) j ≡ (if u then c else cache_in cs (j - 1))
-other_at c cs j k new true true e h ne more = absurd (ne (eqb-true j 1 h ∙ sym (eqb-true k 1 e)))
-other_at c cs j k new true false e h ne more = ap (λ (t : Bool). if t then new else cache_in cs (j - 1)) h
-other_at c cs j k new false true e h ne more = ap (λ (t : Bool). if t then c else cache_in (with_cache cs (k - 1) new) (j - 1)) h
-other_at c cs j k new false false e h ne more = ap (λ (t : Bool). if t then c else cache_in (with_cache cs (k - 1) new) (j - 1)) h ∙ more refl refl
+other_at c cs j k new t u e h ne more = search (arith, eqb-true)
 
 other_with : (cs : List Cache) (j k : ℕ) (new : Cache) → 1 ≤ j → 1 ≤ k → j ≢ k → cache_in (with_cache cs k new) j ≡ cache_in cs j
 other_with [] j k new one some ne = refl
@@ -69,15 +66,8 @@ same_other caches j k c ne = ap (λ (b : Bool). if b then c else caches j) (ne_e
 
 each_with : (f : Profile) (caches : Caches) (own : List Cache) (j k : ℕ) (c : Cached) (new : Cache) → IsThread f j → IsThread f k → AreSameCaches f caches own → IsSameCache c new → (t : Bool) → (j == k) ≡ t
     → IsSameCache (with_cached caches k c j) (cache_in (with_cache own k new) j)
-each_with f caches own j k c new is of same new_same true e =
-    let at : IsSameCache (with_cached caches k c k) (cache_in (with_cache own k new) k) =
-    subst (λ (x : Cached). IsSameCache x (cache_in (with_cache own k new) k)) (sym (same_own caches k c))
-    (subst (IsSameCache c) (sym (own_with own k new of.0 (omega (arith, of.1, same.many)))) new_same) in
-    subst (λ (i : ℕ). IsSameCache (with_cached caches k c i) (cache_in (with_cache own k new) i)) (sym (eqb-true j k e)) at
-each_with f caches own j k c new is of same new_same false e =
-    let ne : j ≢ k = eqb-false j k e in
-    subst (λ (x : Cached). IsSameCache x (cache_in (with_cache own k new) j)) (sym (same_other caches j k c ne))
-    (subst (IsSameCache (caches j)) (sym (other_with own j k new is.0 of.0 ne)) (same.each j is))
+each_with f caches own j k c new is of same new_same true e = search (arith, same_own, own_with, eqb-true)
+each_with f caches own j k c new is of same new_same false e = search (arith, eqb-false, same_other, other_with)
 
 pub same_with : (f : Profile) (caches : Caches) (own : List Cache) (k : ℕ) (c : Cached) (new : Cache) → IsThread f k → AreSameCaches f caches own → IsSameCache c new → AreSameCaches f (with_cached caches k c) (with_cache own k new)
 same_with f caches own k c new of same new_same = record {
@@ -87,31 +77,22 @@ same_with f caches own k c new of same new_same = record {
 
 -- one that became what it was
 kept_at : (caches : Caches) (j k : ℕ) (t : Bool) → (j == k) ≡ t → caches j ≡ (if t then caches k else caches j)
-kept_at caches j k true e = ap caches (eqb-true j k e)
-kept_at caches j k false e = refl
+kept_at caches j k t e = search (arith, eqb-true)
 
 pub same_kept : (f : Profile) (caches : Caches) (own : List Cache) (k : ℕ) → AreSameCaches f caches own → AreSameCaches f (with_cached caches k (caches k)) own
-same_kept f caches own k same = record {
-  many = same.many;
-  each = λ j is. subst (λ (c : Cached). IsSameCache c (cache_in own j)) (kept_at caches j k (j == k) refl) (same.each j is);
-}
+same_kept f caches own k same = search (arith, kept_at)
 
 -- one that became another twice
 pub again_at : (caches : Caches) (j k : ℕ) (c d : Cached) (t : Bool) → (if t then d else (if t then c else caches j)) ≡ (if t then d else caches j)
-again_at caches j k c d true = refl
-again_at caches j k c d false = refl
+again_at caches j k c d t = grind arith
 
 pub same_again : (f : Profile) (caches : Caches) (own : List Cache) (k : ℕ) (c d : Cached) → AreSameCaches f (with_cached (with_cached caches k c) k d) own → AreSameCaches f (with_cached caches k d) own
-same_again f caches own k c d same = record {
-  many = same.many;
-  each = λ j is. subst (λ (x : Cached). IsSameCache x (cache_in own j)) (again_at caches j k c d (j == k)) (same.each j is);
-}
+same_again f caches own k c d same = search (arith, again_at)
 
 -- what is there is put there again
 with_at : (c : Cache) (cs : List Cache) (k : ℕ) (t : Bool) → (k == 1) ≡ t → (t ≡ false → with_cache cs (k - 1) (cache_in cs (k - 1)) ≡ cs)
     → with_cache (c ∷ cs) k (if t then c else cache_in cs (k - 1)) ≡ c ∷ cs
-with_at c cs k true e more = ap (λ (u : Bool). if u then c ∷ cs else c ∷ with_cache cs (k - 1) c) e
-with_at c cs k false e more = ap (λ (u : Bool). if u then cache_in cs (k - 1) ∷ cs else c ∷ with_cache cs (k - 1) (cache_in cs (k - 1))) e ∙ ap (λ (xs : List Cache). c ∷ xs) (more refl)
+with_at c cs k t e more = grind arith
 
 pub with_own : (cs : List Cache) (k : ℕ) → with_cache cs k (cache_in cs k) ≡ cs
 with_own [] k = refl

@@ -88,33 +88,20 @@ module _ (f : Profile) (k name : ℕ) (p : Progress) (w : World) (s s' : Slots) 
   given_slot = slot_given s s' l n start more g.local g.slots g.lowest g.without
 
   locals_same : AreSameLocals (others_than s.heap s.class (p.caches k).locals ++ s' ∷ []) (text_locals w k l more)
-  locals_same =
-      subst (λ (h : ℕ). AreSameLocals (others_than s.heap s.class (p.caches k).locals ++ s' ∷ []) (others h l.class (locals_of w k) ++ record l { slots = more } ∷ [])) (sym g.local.heap)
-      (subst (λ (c : ℕ). AreSameLocals (others_than s.heap s.class (p.caches k).locals ++ s' ∷ []) (others s.heap c (locals_of w k) ++ record l { slots = more } ∷ [])) (sym g.local.class)
-      (last_same (others_than s.heap s.class (p.caches k).locals) (others s.heap s.class (locals_of w k)) s' (record l { slots = more })
-      (others_same s.heap s.class (p.caches k).locals (locals_of w k) (g.same.caches.each k g.thread).locals) given_slot.1))
+  locals_same = search (arith, last_same, others_same, given_slot)
 
   cache_same : IsSameCache c' (record (cache_of w k) { locals = text_locals w k l more })
-  cache_same =
-      let was : IsSameCache (p.caches k) (cache_of w k) = g.same.caches.each k g.thread in
-      subst (λ (c : Cached). IsSameCache c (record (cache_of w k) { locals = text_locals w k l more })) (sym g.cache)
-      (record { locals = locals_same; log = was.log; noted = was.noted; began = was.began })
+  cache_same = search (arith, locals_same)
 
   -- ---- the block, whose turn the machine tells
   given_run : Run f (Event.Give k block ∷ visible p.list)
   given_run = runs f (given_to p k name block answer page start word c').list g.valid g.after.legal
 
   address_is : address_of block.name ≡ address_on l.page n
-  address_is =
-      let at = g.address in let on = g.local.page in let head = given_slot.0 in
-      omega (arith, at, on, head)
+  address_is = search (arith, given_slot)
 
   block_is : block ≡ text_block w l n
-  block_is = block_same block (address_on l.page n) (gives_in w.events (address_on l.page n)) (class_size l.class) l.heap
-      address_is
-      (given_run.0.turn ∙ (ap (λ (es : List Event). gives_in es (address_of block.name)) (sym g.same.pages.events) ∙ ap (gives_in w.events) address_is))
-      (g.room ∙ ap class_size (sym g.local.class))
-      (g.heap ∙ sym g.local.heap)
+  block_is = search (arith, block_same, address_is, given_run)
 
   abbrev to : World
   to = gives_first k name l (n ∷ more) w
@@ -167,8 +154,7 @@ head_of (n ∷ more) x h = record { head = n; more = more; is = refl }
 
 -- what is found passes the test
 found_at : (heap class : ℕ) (x s : Slots) (rest : Option Slots) (t : Bool) → is_for_slots heap class x ≡ t → (rest ≡ Some s → is_for_slots heap class s ≡ true) → (if t then Some x else rest) ≡ Some s → is_for_slots heap class s ≡ true
-found_at heap class x s rest true e later same = subst (λ (y : Slots). is_for_slots heap class y ≡ true) (same_Some x s same) e
-found_at heap class x s rest false e later same = later same
+found_at heap class x s rest t e later same = grind arith
 
 pub found_passes : (heap class : ℕ) (slots : List Slots) (s : Slots) → local_for heap class slots ≡ Some s → is_for_slots heap class s ≡ true
 found_passes heap class [] s is = absurd (none-some s is)
@@ -207,21 +193,7 @@ to_given f k name heap class p p' w s valid is between after same there member o
     let kept : o.cache ≡ record (p.caches k) { locals = others_than s.heap s.class (p.caches k).locals ++ o.rest ∷ [] } =
     o.cache_is ∙ (ap (λ (x : ℕ). record (p.caches k) { locals = others_than x class (p.caches k).locals ++ o.rest ∷ [] }) (sym of_heap)
     ∙ ap (λ (x : ℕ). record (p.caches k) { locals = others_than s.heap x (p.caches k).locals ++ o.rest ∷ [] }) (sym of_class)) in
-    let given : Given f k name p w s o.rest l h.head h.more o.block g.answer s.page g.start g.word o.cache = record {
-      valid = valid;
-      thread = is;
-      same = same;
-      between = between;
-      after = subst (IsBetween f) reached after;
-      local = found.same;
-      slots = h.is;
-      lowest = g.lowest;
-      without = g.rest;
-      address = g.address;
-      room = g.room;
-      heap = g.heap;
-      cache = kept;
-    } in
+    let given : Given f k name p w s o.rest l h.head h.more o.block g.answer s.page g.start g.word o.cache = assumption (subst (IsBetween f) reached after) in
     subst (λ (x : World). IsSame f p' x) (sym (served_text f k name heap class w l h.head h.more found.is h.is))
     (subst (λ (q : Progress). IsSame f q (gives_first k name l (h.head ∷ h.more) w)) (sym reached)
     (given_same f k name p w s o.rest l h.head h.more o.block g.answer s.page g.start g.word o.cache given))
@@ -230,10 +202,7 @@ to_given f k name heap class p p' w s valid is between after same there member o
 module _ (f : Profile) (k name heap class : ℕ) (p : Progress) (s : Slots) (there : local_for heap class (p.caches k).locals ≡ Some s) (member : HasMember s.starts) where
   -- the request doesn't fetch slots, since one is cached
   not_fetched : (d : Directory) (locals' : List Slots) (steps : List Made) → d.heap ≡ heap → IsTakenOut d.heap class (p.caches k).locals locals' steps → ⊥
-  not_fetched d locals' steps of taken =
-      let spent : LeavesSpent (local_for heap class (p.caches k).locals) steps = subst (λ (x : ℕ). LeavesSpent (local_for x class (p.caches k).locals) steps) of taken.left in
-      let none : LeavesSpent (Some s) steps = subst (λ (o : Option Slots). LeavesSpent o steps) there spent in
-      false≢true (sym (none.0 member.0 member.1) ∙ member.2)
+  not_fetched d locals' steps of taken = search (arith, taken.left)
 
 -- how the give ends
 record Ends (fewer locals' : List Slots) (given : List Made) (slots : Slots) (answer : Result Block NoRoom) : Type 0 where
@@ -260,21 +229,7 @@ module _ (f : Profile) (k name heap size align class : ℕ) (p p' : Progress) (w
 
   served_by : (sv : ServesClass (filling_in (directory_for f heap size align) class) f (p.caches k) a.cache a.steps served.answer)
       → IsObtained (filling_in (directory_for f heap size align) class) f (p.caches k).locals sv.locals.fewer sv.locals.before sv.locals.found → Served f k name heap class p p' w s
-  served_by sv (inr fetches) = absurd (not_fetched f k name heap class p s there member (directory_for f heap size align) fetches.place.kept fetches.place.spent refl fetches.place.taken)
-  served_by sv (inl t) =
-      let e : Ends sv.locals.fewer a.cache.locals sv.locals.given t.0 served.answer = ends_of sv.locals.fewer a.cache.locals sv.locals.given sv.locals.found served.answer t.0 t.1 sv.locals.ends in
-      let steps : a.steps ≡ sv.locals.given = sv.locals.steps_are ∙ (ap (λ (ms : List Made). sv.locals.given ++ ms) t.2.no_steps ∙ append-nil sv.locals.given) in
-      let said : a.said ≡ None = served.said_is ∙ ap (said_of_request name) e.is in
-      let names : a.names ≡ named name (Some e.block) ∷ p.names = served.names_are ∙ ap (λ (r : Result Block NoRoom). named name (block_answered r) ∷ p.names) e.is in
-      record {
-        block = e.block;
-        rest = e.rest;
-        steps = a.steps;
-        gives = subst (λ (x : Slots). GivesSlot x e.rest e.block a.steps) (same_slots t.0 t.2.cached) (subst (GivesSlot t.0 e.rest e.block) (sym steps) e.gives);
-        cache = a.cache;
-        cache_is = sv.cache ∙ ap (λ (ls : List Slots). record (p.caches k) { locals = ls }) (e.locals ∙ ap (λ (ls : List Slots). ls ++ e.rest ∷ []) t.2.fewer_are);
-        after = reached ∙ (ap (λ (x : Option TheSaid). after_with p k a.steps x a.names a.cache) said ∙ ap (λ (ns : List Named). after_with p k a.steps None ns a.cache) names);
-      }
+  served_by sv h = search (arith, not_fetched, ends_of, same_slots)
 
 -- ANY REQUEST OF A CLASS for which a slot is cached
 pub cached_answered : (f : Profile) (k name heap size align class : ℕ) (p p' : Progress) (w : World) → IsThread f k → route_in f size align ≡ Route.Class class → IsValid f → IsBetween f p → IsBetween f p' → IsSame f p w → HasCachedSlot heap class k p

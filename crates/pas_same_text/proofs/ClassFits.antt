@@ -18,12 +18,10 @@ use Rattle.pas_same_text.proofs.{SpacedPlaces.some_filtered, SpacedPlaces.in_spa
 
 -- the first few are some where some are
 some_row : (step : ℕ) (xs : List ℕ) → some_of (first_row step xs) ≡ some_of xs
-some_row step [] = refl
-some_row step (x ∷ xs) = ap (λ (t : Bool). some_of (if t then x ∷ row_from (x + step) step 3 xs else [])) (eq-eqb x x refl)
+some_row step xs = search (arith, eq-eqb)
 
 some_slots : (shared : Bool) (w : World) (class page : ℕ) → some_of (slots_for shared w class page) ≡ some_of (free_slots w class page)
-some_slots false w class page = refl
-some_slots true w class page = some_row (class_grains class) (free_slots w class page)
+some_slots shared w class page = search (arith, some_row)
 
 module _ (f : Profile) (p : Progress) (w : World) (valid : IsValid f) (between : IsBetween f p) (same : HasSame f p w) (class : ℕ) (is : IsClass class) where
   abbrev step : ℕ

@@ -263,9 +263,8 @@ module _ (f : Profile) (k name heap class : ℕ) (p : Progress) (w : World) (has
 
   grain : grain_of block.name ≡ 256 * page + start
   grain =
-      let at_slot = gives.address in
       let whole : (page * 4096 + start * 16) / 16 ≡ 256 * page + start = omega arith in
-      ap (λ (x : ℕ). x / 16) at_slot ∙ whole
+      ap (λ (x : ℕ). x / 16) gives.address ∙ whole
 
   long : length_of block ≡ class_grains class
   long = ap (λ (x : ℕ). x / 16) room

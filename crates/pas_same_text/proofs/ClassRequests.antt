@@ -1,5 +1,5 @@
 -- A REQUEST OF A CLASS, whatever the thread's cache has: a cached slot is given, or place is made and slots are fetched, of which one is given, or the request is refused.
-use Rattle.std.proofs.Common.{◌≡◌, ℕ, List, [], ◌∷◌, ◌++◌, Option, None, Some, Result, Ok, Err, inl, inr, refl, ap, sym, ◌∙◌, subst}
+use Rattle.std.proofs.Common.{arith, ◌≡◌, ℕ, List, [], ◌∷◌, ◌++◌, Option, None, Some, Result, Ok, Err, inl, inr, refl, ap, sym, ◌∙◌, subst}
 use Rattle.pas_profile.specs.{Profiles.IsValid, Profiles.IsAdmitted, Requests.class_home, Requests.route_in, Requests.room_in}
 use Rattle.pas_profile.specs.declared.{directory.Directory.Directory, directory.Route.Route, event.NoRoom.NoRoom, name.Block.Block, profile.Profile.Profile}
 use Rattle.pas_steps.specs.Lists.{part}
@@ -51,12 +51,7 @@ module _ (f : Profile) (k name heap size align class : ℕ) (p p' : Progress) (w
     new_is = cache ∙ ap (λ (x : Cached). record x { locals = x.locals ++ rest ∷ [] }) (sym (same_own p.caches k (record c { locals = fewer })))
 
     to : p' ≡ after_with p k (given ++ steps) None names new
-    to =
-        reached
-        ∙ (ap (λ (x : Option TheSaid). after_with p k a.steps x a.names a.cache) (served.said_is ∙ ap (said_of_request name) is)
-        ∙ (ap (λ (ns : List Named). after_with p k a.steps None ns a.cache) (served.names_are ∙ ap (λ (r : Result Block NoRoom). named name (block_answered r) ∷ p.names) is)
-        ∙ (ap (λ (x : Cached). after_with p k a.steps None names x) new_is
-        ∙ ap (λ (ms : List Made). after_with p k ms None names new) steps_are)))
+    to = search (arith, new_is)
 
     end : IsBetween f (fetched_to p1 k name (given ++ o.fetch.searched) rest block)
     end = fetch_between f k heap class p w (Ok slots) fewer steps o given None names new (subst (IsBetween f) to after)

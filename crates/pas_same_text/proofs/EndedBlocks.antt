@@ -1,5 +1,5 @@
 -- What the text does where a block ends: its grains come back to its pages, and no other page changes.
-use Rattle.std.proofs.Common.{◌≡◌, ℕ, ◌+◌, ◌*◌, ◌==◌, nat_lt, Bool, true, false, not, ◌&&◌, if◌then◌else◌, List, [], ◌∷◌, ◌++◌, length, Some, inl, inr, refl}
+use Rattle.std.proofs.Common.{arith, ◌≡◌, ℕ, ◌+◌, ◌*◌, ◌==◌, nat_lt, Bool, true, false, not, ◌&&◌, if◌then◌else◌, List, [], ◌∷◌, ◌++◌, length, Some, inl, inr, refl}
 use Rattle.std.proofs.Common.{ap, sym, ◌∙◌, eqb-true}
 use Rattle.std.proofs.{lemmas.Bool.false≢true, lemmas.Option.same_Some, Math.Bool.or-false}
 use Rattle.std.specs.List.{list_any, filter}
@@ -44,13 +44,7 @@ module _ (f : Profile) (k : ℕ) (name : Name) (b : Live) (w : World) (run : Run
   locals_same = locals_with w.caches k (record (cache_of w k) { noted = noted_then }) refl
 
   fewer : (page g : ℕ) → is_covered (blocks_on after page) (256 * page + g) ≡ true → is_covered (blocks_on w page) (256 * page + g) ≡ true
-  fewer page g h =
-      let p : Block → Bool = λ x. in_run (grain_of x.name) (length_of x) (256 * page + g) in
-      let meets : Block → Bool = λ x. meets_page (grain_of x.name) (length_of x) page in
-      let away : Block → Bool = λ x. not (is_at (address_of name) x) in
-      filtered_any p meets w.live
-      (any_weaker (λ x. away x && (meets x && p x)) (λ x. meets x && p x) w.live (λ x both. and_second (away x) (meets x && p x) both)
-      (any_filtered (λ x. meets x && p x) away w.live (any_filtered p meets (filter away w.live) h)))
+  fewer page g h = search (arith, filtered_any, any_weaker, and_second, any_filtered)
 
   -- the block at the address is this one
   no_other : (page g : ℕ) → IsPage f page → has_number (pages_of f b.block) page ≡ false → list_any (λ x. is_at (address_of name) x && has page g x) w.live ≡ true → ⊥

@@ -25,12 +25,7 @@ block_of_live (Some b) = Some b.block
 module _ (a c : ℕ) where
   out_one : (x : Block) (left : List Block) (rest : Option Block) (t u v : Bool) → is_at c x ≡ t → is_at a x ≡ u → (c == a) ≡ v → find (is_at a) left ≡ (if v then None else rest)
       → find (is_at a) (if not t then x ∷ left else left) ≡ (if v then None else (if u then Some x else rest))
-  out_one x left rest true u true e h same is = is
-  out_one x left rest true true false e h same is = absurd (eqb-false c a same (sym (eqb-true (address_of x.name) c e) ∙ eqb-true (address_of x.name) a h))
-  out_one x left rest true false false e h same is = is
-  out_one x left rest false true true e h same is = absurd (eqb-false (address_of x.name) c e (eqb-true (address_of x.name) a h ∙ sym (eqb-true c a same)))
-  out_one x left rest false true false e h same is = ap (λ (t : Bool). if t then Some x else find (is_at a) left) h
-  out_one x left rest false false v e h same is = ap (λ (t : Bool). if t then Some x else find (is_at a) left) h ∙ is
+  out_one x left rest t u v e h same is = search (arith, eqb-false, eqb-true)
 
   abbrev nothing : Option Block
   nothing = None
@@ -84,10 +79,7 @@ block_here w a o live is = ap (find (is_at a)) live ∙ (found_is w.events a ∙
 
 rejected : (f : Profile) (k : ℕ) (entry : Entry) (w : World) (o : Option Live) → w.live ≡ lives_in w.events → live_in w.events (address_of entry.name) ≡ o
     → ((b : Live) → o ≡ Some b → (b.block.name.turn == entry.name.turn) ≡ false) → ends f k entry w ≡ rejects k entry.name (reason w entry.name) w
-rejected f k entry w None live is other = ap (λ (b : Option Block). takes_effect f k entry b w) (block_here w (address_of entry.name) None live is)
-rejected f k entry w (Some b) live is other =
-    ap (λ (x : Option Block). takes_effect f k entry x w) (block_here w (address_of entry.name) (Some b) live is)
-    ∙ ap (λ (t : Bool). if t then ends_if f k entry b.block w else rejects k entry.name (reason w entry.name) w) (other b refl)
+rejected f k entry w o live is other = search (arith, block_here)
 
 reason_ended : (w : World) (name : Name) → name.turn < ends_in w.events (address_of name) → reason w name ≡ Why.Ended
 reason_ended w name past = let t : nat_lt name.turn (ends_in w.events (address_of name)) ≡ true = grind (arith, nat_tests, past) in ap (λ (t : Bool). if t then Why.Ended else Why.NoBlock) t
@@ -101,10 +93,7 @@ turn_of_live f es a b run is = let counted : IsCounted (Some b) (gives_in es a) 
 
 lives_text : (f : Profile) (k : ℕ) (entry : Entry) (w : World) (b : Live) (t : Bool) → w.live ≡ lives_in w.events → live_in w.events (address_of entry.name) ≡ Some b → b.block.name.turn ≡ entry.name.turn → is_other_room entry b.block ≡ t
     → ends f k entry w ≡ (if t then rejects k entry.name (Why.SizeDiffers entry.room) w else ends_block f k entry.name b.block w)
-lives_text f k entry w b t live is turn room =
-    ap (λ (x : Option Block). takes_effect f k entry x w) (block_here w (address_of entry.name) (Some b) live is)
-    ∙ (ap (λ (u : Bool). if u then ends_if f k entry b.block w else rejects k entry.name (reason w entry.name) w) (eq-eqb b.block.name.turn entry.name.turn turn)
-    ∙ ap (λ (u : Bool). if u then rejects k entry.name (Why.SizeDiffers entry.room) w else ends_block f k entry.name b.block w) room)
+lives_text f k entry w b t live is turn room = search (arith, block_here, eq-eqb)
 
 -- ---- THE EVENT of a logged free
 as_shown : (e : Event) (w v x : World) → v ≡ x → IsShown e w x → IsShown e w v
@@ -116,10 +105,7 @@ module _ (f : Profile) (k : ℕ) (entry : Entry) (w : World) (live : w.live ≡ 
       rejected f k entry w (live_in w.events (address_of entry.name)) live refl (λ b at.
       ne_eqb b.block.name.turn entry.name.turn (λ same. let turn : b.block.name.turn ≡ ends_in w.events (address_of entry.name) = turn_of_live f w.events (address_of entry.name) b run at in absurd (omega (arith, past, same, turn))))
       ∙ ap (λ (x : Why). rejects k entry.name x w) (reason_ended w entry.name past)
-  reject_text Why.NoBlock run none is =
-      rejected f k entry w (live_in w.events (address_of entry.name)) live refl (λ b at.
-      ne_eqb b.block.name.turn entry.name.turn (λ same. none.1 (b, at, same)))
-      ∙ ap (λ (x : Why). rejects k entry.name x w) (reason_none w entry.name none.0)
+  reject_text Why.NoBlock run none is = search (arith, rejected, ne_eqb, reason_none)
   reject_text (Why.SizeDiffers room) run other is =
       let o : HasOtherRoom w.events entry.name room = other.1 in
       let differs : not (o.block.block.room == entry.room) ≡ true = ap not (ne_eqb o.block.block.room entry.room (λ same. o.differs (same ∙ sym is.1))) in
@@ -145,10 +131,5 @@ module _ (f : Profile) (k : ℕ) (entry : Entry) (w : World) (live : w.live ≡ 
   entry_shown (Event.Back j q) run is = absurd is
   entry_shown (Event.Unback j q e) run is = absurd is
   entry_shown (Event.Give j block) run is = absurd is
-  entry_shown (Event.End j name e) run is =
-      let lives : IsLive w.events entry.name = subst (IsLive w.events) is.1 run.0.1 in
-      subst (λ (x : Event). IsShown x w (ends f k entry w)) (sym (ap (λ (i : ℕ). Event.End i name e) is.0 ∙ (ap (λ (n : Name). Event.End k n e) is.1 ∙ ap (λ (x : ℕ). Event.End k entry.name x) is.2))) (end_shown lives is.3)
-  entry_shown (Event.Reject j name why) run is =
-      let same : Event.Reject j name why ≡ Event.Reject k entry.name why = ap (λ (i : ℕ). Event.Reject i name why) is.0 ∙ ap (λ (n : Name). Event.Reject k n why) is.1 in
-      let reason_is : IsReason w.events entry.name why = subst (λ (n : Name). IsReason w.events n why) is.1 run.0.1 in
-      subst (λ (x : Event). IsShown x w (ends f k entry w)) (sym same) (reject_shown why run.1 reason_is is.2)
+  entry_shown (Event.End j name e) run is = search (arith, end_shown)
+  entry_shown (Event.Reject j name why) run is = search (arith, reject_shown)

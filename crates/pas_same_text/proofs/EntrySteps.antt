@@ -2,6 +2,8 @@
 use Rattle.std.proofs.Common.{◌≡◌, ℕ, zero, suc, ◌+◌, ◌*◌, ◌/◌, ◌%◌, ◌^◌, ◌<◌, ◌≤◌, ◌==◌, nat_lt, Bool, true, false, not, ◌&&◌, if◌then◌else◌, List, [], ◌∷◌}
 use Rattle.std.proofs.Common.{◌++◌, Option, None, Some, inl, inr, refl, ap, sym, ◌∙◌, subst, arith, eq-eqb, true≢false}
 use Rattle.std.proofs.Math.Bool.{and-false}
+use Rattle.pas_answers.proofs.Tidy.{first_page}
+use Rattle.pas_large.proofs.Left.{hints_both}
 use Rattle.pas_bits.specs.Runs.{meets_page}
 use Rattle.pas_bits.proofs.Runs.{to_meet}
 use Rattle.pas_profile.specs.{Blocks.address_of, Blocks.grain_of, Blocks.length_of, Directories.directory_read, Directories.deed_word_of, Lives.live_word}
@@ -29,7 +31,7 @@ use Rattle.pas_free_log.proofs.OneEntry.{first_look, trying, AreIdle, idle_look,
 use Rattle.pas_one_text.specs.Frees.{is_other_room}
 use Rattle.pas_same_text.specs.Entries.{IsEntryReason}
 use Rattle.pas_same_text.proofs.{Flushes.visible_steps, ReturnHints.return_hints}
-use Rattle.pas_same_text.proofs.GivingBack.{IsMarked, marked_parts, none_marked, returns_marked, hints_none, hints_both}
+use Rattle.pas_same_text.proofs.GivingBack.{IsMarked, marked_parts, none_marked, returns_marked, hints_none}
 
 -- ---- the pages of a block that ended
 page_kinds : (g n : ℕ) (steps : List Made) → PageSteps g n steps → Only putting_back steps
@@ -65,9 +67,6 @@ page_marks g n q steps h marked =
       | inr later ↦ absurd (none_marked (Putting ∷ Stamping ∷ LookDeed ∷ []) refl q rest others later)
     ]
 
-first_page : (g k : ℕ) → first_on g (g / 256 + k) / 256 ≡ g / 256 + k
-first_page g k = omega arith
-
 run_marks : (k g n q : ℕ) (steps : List Made) → PagesSteps k g n steps → IsMarked q steps → (g / 256 ≤ q) × (q < g / 256 + k)
 run_marks zero g n q steps h marked = absurd (subst (IsMarked q) h marked)
 run_marks (suc k) g n q steps h marked = elim (marked_parts q h.0 h.1 (subst (IsMarked q) h.4 marked)) [
@@ -77,16 +76,11 @@ run_marks (suc k) g n q steps h marked = elim (marked_parts q h.0 h.1 (subst (Is
 
 -- a page that is marked is one of the block's
 pub block_marked : (g n q : ℕ) (steps : List Made) → 1 ≤ n → RunSteps g n steps → IsMarked q steps → meets_page g n q ≡ true
-block_marked g n q steps some h marked =
-    let at = run_marks (page_count g n) g n q steps h marked in
-    let low = at.0 in let high = at.1 in let count = count_some g n some in
-    to_meet g n q (omega (arith, low)) (omega (arith, high, count, some))
+block_marked g n q steps some h marked = search (arith, run_marks, count_some, to_meet)
 
 -- ---- names by their parts
 pub name_same : (a b : Name) → address_of a ≡ address_of b → a.turn ≡ b.turn → a ≡ b
-name_same a b at turn =
-    ap (λ (x : ℕ). let n : Name = record { address = record { 0 = x }; turn = a.turn } in n) at
-    ∙ ap (λ (x : ℕ). let n : Name = record { address = record { 0 = address_of b }; turn = x } in n) turn
+name_same a b at turn = search (arith, a.turn)
 
 -- ---- the last try
 target_last : (t : Bool) (entry : Entry) (n : ℕ) → target (last_step t entry n) ≡ life_word_at (grain_of entry.name)
@@ -98,8 +92,7 @@ end_in f true entry n is of = subst (IsEndIn f entry.name) (sym (is refl)) of.0
 end_in f false entry n is of = of
 
 whole_room : (f : Profile) (t : Bool) (entry : Entry) (n : ℕ) → t ≡ true → IsStepOf f (last_step t entry n) → entry.room % 16 ≡ 0
-whole_room f true entry n e of = of.1
-whole_room f false entry n e of = absurd (true≢false (sym e))
+whole_room f t entry n e of = search (arith, true≢false)
 
 idle_before : (t : Bool) (entry : Entry) (deed first guess : ℕ) (before : List Made) → TriesBy t entry first guess before → AreIdle (before ++ first_look entry.name deed)
 idle_before true entry deed first guess before tries = subst (λ s. AreIdle (s ++ first_look entry.name deed)) (sym tries.1) (idle_look entry.name deed)
@@ -107,8 +100,7 @@ idle_before false entry deed first guess before tries = tries_idle entry.name de
 
 -- a deed word is read as the directory that the machine has
 pub read_deed : (f : Profile) (valid : IsValid f) (o : Option Directory) → ((d : Directory) → o ≡ Some d → directory_read (deed_word_of d) ≡ Some d) → directory_read (word_of_deed o) ≡ o
-read_deed f valid None is = refl
-read_deed f valid (Some d) is = is d refl
+read_deed f valid o is = grind arith
 
 -- the block that ended
 pub record IsEndOfBlock (f : Profile) (l : Whole) (entry : Entry) (grains : ℕ) : Type 0 where
@@ -169,9 +161,8 @@ module _ (f : Profile) (k epoch : ℕ) (s : Settled) (piece : List Made) (l : Wh
   room_at : (b : Live) → length_of b.block ≡ e.guess → b.block.room % 16 ≡ 0 → (t : Bool) → is_sized entry ≡ t → is_other_room entry b.block ≡ false
   room_at b long whole false sized = ap (λ (t : Bool). t && not (b.block.room == entry.room)) sized
   room_at b long whole true sized =
-      let n = guessed sized in
       let multiple = whole_room f (is_sized entry) entry e.guess sized ends_legal.0.of_region in
-      let same : b.block.room ≡ entry.room = omega (arith, long, whole, n, multiple) in
+      let same : b.block.room ≡ entry.room = omega (arith, long, whole, guessed sized, multiple) in
       ap (λ (t : Bool). is_sized entry && not t) (eq-eqb b.block.room entry.room same) ∙ and-false (is_sized entry)
 
   pub found_block : e.answer ≡ live_word entry.name.turn e.guess → IsEndOfBlock f l entry e.guess
@@ -211,8 +202,7 @@ module _ (f : Profile) (k epoch : ℕ) (s : Settled) (piece : List Made) (l : Wh
       ∙ ap (λ (es : List Event). event_for k epoch entry s.outcome ∷ es) (idle.events k (part k l)))))
 
   after_kinds : (o : Outcome) → AfterEnd entry.name o is.after → Only putting_back is.after
-  after_kinds (Ended grains) h = run_kinds (page_count g grains) g grains is.after h
-  after_kinds (Refused read) h = subst (Only putting_back) (sym h) tt
+  after_kinds o h = search (arith, run_kinds)
 
   ends_kinds : Only ending is.ends
   ends_kinds = subst (Only ending) (sym e.steps_are) (ap (is_in ending) last.kind, only_within trying ending first refl idle.kinds)
@@ -228,8 +218,7 @@ module _ (f : Profile) (k epoch : ℕ) (s : Settled) (piece : List Made) (l : Wh
 
   -- ---- its hints
   after_hints : (o : Outcome) → AfterEnd entry.name o is.after → Always HintsEmpty is.after
-  after_hints (Ended grains) h = run_hints (page_count g grains) g grains is.after h
-  after_hints (Refused read) h = subst (Always HintsEmpty) (sym h) tt
+  after_hints o h = search (arith, run_hints)
 
   ends_trying : Only trying is.ends
   ends_trying = subst (Only trying) (sym e.steps_are) (ap (is_in trying) last.kind, idle.kinds)
@@ -260,11 +249,7 @@ by_turn : (entry : Entry) (read : ℕ) → IsEntryReason entry (if nat_lt entry.
 by_turn entry read = elim (nat_lt entry.name.turn (turn_of read)) as (λ (t : Bool). IsEntryReason entry (if t then Why.Ended else Why.NoBlock)) [ true ↦ tt | false ↦ tt ]
 
 reason_sized : (t : Bool) (entry : Entry) (read : ℕ) → is_sized entry ≡ t → IsEntryReason entry (reason_by t entry read)
-reason_sized true entry read sized = elim (is_live read && (turn_of read == entry.name.turn)) as (λ (x : Bool). IsEntryReason entry (if x then Why.SizeDiffers entry.room else (if nat_lt entry.name.turn (turn_of read) then Why.Ended else Why.NoBlock))) [
-  | true ↦ (sized, refl)
-  | false ↦ by_turn entry read
-]
-reason_sized false entry read sized = by_turn entry read
+reason_sized t entry read sized = search (arith, by_turn)
 
 pub reason_is : (entry : Entry) (read : ℕ) → IsEntryReason entry (reason_for entry read)
 reason_is entry read = reason_sized (is_sized entry) entry read refl

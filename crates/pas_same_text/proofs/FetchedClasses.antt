@@ -78,18 +78,14 @@ none_here s found false none = refl
 
 -- where the first is stopped, there is none either of a heap and class of which there was none
 none_stopped : (heap class : ℕ) (kept fewer : List Slots) (stopped : List Made) (t : Bool) → StopsFirst t kept fewer stopped → local_for heap class kept ≡ None → local_for heap class fewer ≡ None
-none_stopped heap class [] fewer stopped t h none = ap (local_for heap class) h.0
-none_stopped heap class (s ∷ kept) fewer stopped true h none = ap (local_for heap class) h.0 ∙ none_behind s (local_for heap class kept) (is_for_slots heap class s) none
-none_stopped heap class (s ∷ kept) fewer stopped false h none = ap (local_for heap class) h.0 ∙ none
+none_stopped heap class kept fewer stopped t h x = search (arith, none_behind)
 
 -- .. and there is place for one more
 below_full : (n : ℕ) → nat_le 32 n ≡ false → n < 32
 below_full n e = grind (arith, nat_tests, e)
 
 few_stopped : (kept fewer : List Slots) (stopped : List Made) (t : Bool) → nat_le 32 (length kept) ≡ t → length kept ≤ 32 → StopsFirst t kept fewer stopped → length fewer < 32
-few_stopped [] fewer stopped t e le h = let long = ap (λ (xs : List Slots). length xs) h.0 in omega (arith, long)
-few_stopped (s ∷ kept) fewer stopped true e le h = let long = ap (λ (xs : List Slots). length xs) h.0 in omega (arith, le, long)
-few_stopped (s ∷ kept) fewer stopped false e le h = let long = ap (λ (xs : List Slots). length xs) h.0 in let lt = below_full (length (s ∷ kept)) e in omega (arith, lt, long)
+few_stopped kept fewer stopped t e le h = search (arith, below_full)
 
 -- a list in which no number stands has none
 none_some : (xs : List ℕ) → ((g : ℕ) → has_number xs g ≡ false) → some_of xs ≡ false
@@ -98,10 +94,7 @@ none_some (x ∷ xs) none = absurd (true≢false (sym (ap (λ (t : Bool). t || h
 
 -- slots keep the right of their page where the heap isn't shared
 pub keeps_unshared : (right shared : Bool) (a b : ℕ) → kind_of_class (not right) a ≡ kind_of_class shared b → right ≡ not shared
-keeps_unshared true false a b same = refl
-keeps_unshared false true a b same = refl
-keeps_unshared true true a b same = absurd (let bad : Kind.Class a ≡ Kind.Shared = same in cc)
-keeps_unshared false false a b same = absurd (let bad : Kind.Shared ≡ Kind.Class b = same in cc)
+keeps_unshared right shared a b same = grind arith
 
 -- ---- a thread without a local allocator of the heap and class may search for one
 same_class : (shared : Bool) (a b : ℕ) → kind_of_class false a ≡ kind_of_class shared b → a ≡ b
@@ -109,10 +102,7 @@ same_class true a b is = absurd (let bad : Kind.Class a ≡ Kind.Shared = is in 
 same_class false a b is = let both : Kind.Class a ≡ Kind.Class b = is in cc
 
 kept_for : (f : Profile) (heap class : ℕ) (s : Slots) → s.right ≡ true → home_of s ≡ class_home f heap class → is_for_slots heap class s ≡ true
-kept_for f heap class s right home =
-    let of_heap : s.heap ≡ heap = ap (λ (d : Directory). d.heap) home in
-    let of_class : s.class ≡ class = same_class (is_shared f heap) s.class class (ap (λ (t : Bool). kind_of_class (not t) s.class) (sym right) ∙ ap (λ (d : Directory). d.kind) home) in
-    ap (λ (t : Bool). t && (s.class == class)) (eq-eqb s.heap heap of_heap) ∙ eq-eqb s.class class of_class
+kept_for f heap class s right home = search (arith, same_class, eq-eqb)
 
 pub none_kept : (f : Profile) (v : View) (heap class : ℕ) (page : ℕ) (slots : List Slots) → IsKind (class_home f heap class).kind → KnowsDeed page (class_home f heap class) v → All (IsLocal f v) slots → local_for heap class slots ≡ None → any_keeps slots page ≡ false
 none_kept f v heap class page [] kind of all none = refl
@@ -126,12 +116,7 @@ none_kept f v heap class page (s ∷ slots) kind of all none =
     ∙ none_kept f v heap class page slots kind of (All-tail (IsLocal f v) s slots all) (none_behind s (local_for heap class slots) (is_for_slots heap class s) none)
 
 pub may_fetch : (f : Profile) (k heap class : ℕ) (p : Progress) (w : World) → HasPlace f k heap class p w → MaySearch (class_home f heap class) (part k p.list)
-may_fetch f k heap class p w has =
-    let rests : RestsWith f (p.caches k).locals (part k p.list) = has.rest.locals in
-    record {
-      rights = λ page of. rests.rights page ∙ none_kept f (part k p.list) heap class page (p.caches k).locals has.directory.kind of rests.known has.none;
-      clear = rests.clear;
-    }
+may_fetch f k heap class p w has = search (arith, none_kept)
 
 -- ---- place is made
 module _ (f : Profile) (k heap class : ℕ) (p : Progress) (w : World) (found : Result Slots NoRoom) (fewer : List Slots) (steps : List Made) (o : IsFetched f k heap class p w found fewer steps) where
@@ -160,10 +145,7 @@ module _ (f : Profile) (k heap class : ℕ) (p : Progress) (w : World) (found : 
   legal_middle = legal_earlier f k ys xs p.list (subst (λ (ms : List Made). Legal f (triples k ms ++ p.list)) o.fetch.steps_are o.legal)
 
   few_kept : length o.fetch.place.kept ≤ 32
-  few_kept =
-      let less = most_left heap class c.locals in
-      let long = ap (λ (ss : List Slots). length ss) o.fetch.place.taken.others in
-      omega (arith, own.few, less, long)
+  few_kept = search (arith, most_left)
 
   place_left : length fewer < 32
   place_left = few_stopped o.fetch.place.kept fewer o.fetch.place.stopped (nat_le 32 (length o.fetch.place.kept)) refl few_kept o.fetch.place.shortened.first
@@ -211,9 +193,8 @@ module _ (f : Profile) (k heap class : ℕ) (p : Progress) (w : World) (found : 
   no_slots : (s : Slots) (l : Local) → IsSameLocal s l → IsLocal f (part k p.list) s → IsEmpty s.starts → some_of l.slots ≡ false
   no_slots s l is known empty = none_some l.slots (λ g. is.slots g ∙ false_from_ne_true (is_set s.starts g) (λ set.
       let slot : IsSlotStart s.class g = known.starts g set in
-      let most = usable_grains_le s.class known.class in
       let some = class_grains_positive s.class known.class in
-      true≢false (sym set ∙ empty g (omega (arith, slot.within, most, some)))))
+      true≢false (sym set ∙ empty g (omega (arith, slot.within, usable_grains_le s.class known.class, some)))))
 
   module _ (name : ℕ) where
     abbrev served_as : Option Local → World

@@ -104,9 +104,7 @@ module _ (f : Profile) (p p' : Progress) (w v : World) (pages : List ℕ) (valid
       other o g of_own a b lives of_it = by_address (o.address == a) refl
         where
           by_address : (t : Bool) → (o.address == a) ≡ t → ⊥
-          by_address true e =
-              let same_address : o.address ≡ a = eqb-true o.address a e in
-              none-some b (sym o.gone ∙ (ap (live_in v.events) same_address ∙ (ap (λ (es : List Event). live_in es a) same.events ∙ lives)))
+          by_address true e = search (arith, eqb-true)
           by_address false e =
               let was : live_in w.events a ≡ Some b = fewer.lives a b (ap (λ (es : List Event). live_in es a) same.events ∙ lives) in
               true≢false (sym of_it ∙ live_apart f w.events run o.address a o.block b o.lived was (eqb-false o.address a e) g of_own)
@@ -136,8 +134,7 @@ module _ (f : Profile) (k : ℕ) (p : Progress) (w : World) (steps : List Made) 
 
   -- the caches have the grains that they had
   kept_at : (j : ℕ) (t : Bool) → (j == k) ≡ t → (if t then c' else p.caches j).locals ≡ (p.caches j).locals
-  kept_at j true e = ap (λ (c : Cached). c.locals) cache ∙ ap (λ (i : ℕ). (p.caches i).locals) (sym (eqb-true j k e))
-  kept_at j false e = refl
+  kept_at j t e = search (arith, eqb-true)
 
   still_held : (j g : ℕ) → holds (part j (with_steps p k steps c').list) g ≡ true → holds (part j p.list) g ≡ true
   still_held j g held = held_still f p (with_steps p k steps c') before after refl j g (λ h. ap (λ (ls : List Slots). any_covers ls g) (sym (kept_at j (j == k) refl)) ∙ h) held

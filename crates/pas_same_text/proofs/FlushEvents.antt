@@ -1,5 +1,5 @@
 -- What a flush shows: one event for each logged free, in the order of the log.
-use Rattle.std.proofs.Common.{◌≡◌, ℕ, ◌==◌, nat_lt, Bool, true, false, not, ◌&&◌, if◌then◌else◌, List, [], ◌∷◌, refl, ap, sym, ◌∙◌, subst, true≢false}
+use Rattle.std.proofs.Common.{arith, ◌≡◌, ℕ, ◌==◌, nat_lt, Bool, true, false, not, ◌&&◌, if◌then◌else◌, List, [], ◌∷◌, refl, ap, sym, ◌∙◌, subst, true≢false}
 use Rattle.std.proofs.lemmas.Bool.{not-true}
 use Rattle.pas_profile.specs.Lives.{turn_of}
 use Rattle.pas_profile.specs.declared.{event.Event.Event, event.Why.Why, profile.Profile.Profile}
@@ -13,13 +13,11 @@ use Rattle.pas_same_text.proofs.{EntryEvents.entry_shown, Tests.and_first, Tests
 
 -- ---- one
 reason_named : (entry : Entry) (sized : Bool) (read : ℕ) → is_sized entry ≡ sized → sized ≡ false → IsEntryReason entry (reason_by sized entry read)
-reason_named entry true read is none = absurd (true≢false none)
-reason_named entry false read is none = elim (nat_lt entry.name.turn (turn_of read)) as (λ (t : Bool). IsEntryReason entry (if t then Why.Ended else Why.NoBlock)) [ true ↦ tt | false ↦ tt ]
+reason_named entry sized read is h = search (arith, true≢false)
 
 -- whatever came of a free without a room, its event is one that the text knows
 entry_event : (k epoch : ℕ) (entry : Entry) (outcome : Outcome) (w : World) → is_sized entry ≡ false → w.epoch ≡ epoch → IsEntryEvent k entry w (event_for k epoch entry outcome)
-entry_event k epoch entry (Ended grains) w unsized now = (refl, refl, sym now, λ b at. ap (λ (t : Bool). t && not (b.block.room == entry.room)) unsized)
-entry_event k epoch entry (Refused read) w unsized now = (refl, refl, reason_named entry (is_sized entry) read refl unsized)
+entry_event k epoch entry outcome w unsized now = search (arith, reason_named)
 
 -- ---- all
 run_before : (f : Profile) (evs es : List Event) → Run f (onto evs es) → Run f es
@@ -40,9 +38,4 @@ flush_shown f k epoch (entry ∷ entries) (o ∷ outcomes) w pairs unsized live 
     let one : IsShown e w v = entry_shown f k entry w live e (run_before f evs (e ∷ w.events) run) (entry_event k epoch entry o w own now) in
     let alive : v.live ≡ lives_in v.events = one.live ∙ (ap (live_after e) live ∙ ap lives_in (sym one.events)) in
     let more : HasShown evs v (each (ends f k) entries v) = flush_shown f k epoch entries outcomes v pairs rest alive (one.epoch ∙ now) (subst (λ (es : List Event). Run f (onto evs es)) (sym one.events) run) in
-    record {
-      events = more.events ∙ ap (onto evs) one.events;
-      live = more.live;
-      names = more.names ∙ one.names;
-      epoch = more.epoch ∙ one.epoch;
-    }
+    assumption (more.events ∙ ap (onto evs) one.events, more.names ∙ one.names, more.epoch ∙ one.epoch)

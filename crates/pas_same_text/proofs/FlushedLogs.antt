@@ -4,6 +4,7 @@ use Rattle.std.proofs.Common.{take, Option, None, Some, inl, inr, refl, ap, sym,
 use Rattle.std.proofs.Common.{eq-eqb}
 use Rattle.std.proofs.lemmas.{Bool.or_left, Bool.or_right, Bool.Decides.nat_tests, Grind.reverse_onto, Option.same_Some, Option.none-some}
 use Rattle.std.specs.List.{flat_map}
+use Rattle.pas_large.proofs.Left.{hints_both}
 use Rattle.pas_bits.specs.Runs.{meets_page}
 use Rattle.pas_profile.specs.{Blocks.address_of, Blocks.grain_of, Blocks.length_of, Profiles.IsValid, Profiles.IsPage}
 use Rattle.pas_profile.specs.declared.{directory.Directory.Directory, event.Event.Event, name.Name.Name, profile.Profile.Profile, word.Word.Word}
@@ -34,7 +35,7 @@ use Rattle.pas_same_text.proofs.EntryEvents.{reject_text, end_text, reject_shown
 use Rattle.pas_same_text.proofs.EntrySteps.{IsEndOfBlock, found_block, block_marked, name_same, entry_kinds, entry_events, entry_hints, after_marked}
 use Rattle.pas_same_text.proofs.EntrySteps.{read_directory, reason_is}
 use Rattle.pas_same_text.proofs.GivenBack.{Returns, returns_nothing, returns_then, returns_like, has_both, page_there}
-use Rattle.pas_same_text.proofs.GivingBack.{IsMarked, marked_parts, none_marked, hints_none, hints_both}
+use Rattle.pas_same_text.proofs.GivingBack.{IsMarked, marked_parts, none_marked, hints_none}
 use Rattle.pas_same_text.proofs.Tests.{has_filtered}
 
 -- ---- what is noted
@@ -51,11 +52,10 @@ noted_more : (es : List EndedRun) (s : Settled) (settled : List Settled) → not
 noted_more es s settled =
     let xs : List EndedRun = flat_map noted_for (reverse settled) in
     let n : ℕ = 64 - length es in
-    let long = length-append es (take n xs) in
     ap (λ (ys : List EndedRun). es ++ take n ys) (ap (flat_map noted_for) (reverse_onto settled s []) ∙ flat_both noted_for (reverse settled) s)
     ∙ (ap (λ (ys : List EndedRun). es ++ ys) (sym (take_both n xs (noted_for s)))
     ∙ (sym (append_assoc es (take n xs) (take (n - length (take n xs)) (noted_for s)))
-    ∙ ap (λ (m : ℕ). (es ++ take n xs) ++ take m (noted_for s)) (omega (arith, long))))
+    ∙ ap (λ (m : ℕ). (es ++ take n xs) ++ take m (noted_for s)) (omega (arith, length-append es (take n xs)))))
 
 take_none : {A : Type 0} (n : ℕ) → take {A = A} n [] ≡ []
 take_none zero = refl
@@ -198,9 +198,7 @@ module _ (f : Profile) (k epoch : ℕ) (s : Settled) (piece : List Made) (l : Wh
         ∙ ap (λ (d : Option Directory). large_run s.entry.name grains d) (ap (λ (es : List Event). deed_in es (address_of s.entry.name / 4096)) events ∙ sym (read_directory f k epoch s piece l valid legal is known)))
 
     noted_same : noted_then f k s.entry.name b v run live lives ≡ noted_of v k ++ take (64 - length (noted_of v k)) (noted_for s)
-    noted_same =
-        room_for (noted_of v k) (large_run b.block.name (length_of b.block) (deed_in v.events (address_of b.block.name / 4096))) (nat_lt (length (noted_of v k)) 64) refl
-        ∙ ap (λ (runs : List EndedRun). noted_of v k ++ take (64 - length (noted_of v k)) runs) (ap option_to_list run_same ∙ ap (noted_by s.entry.name s.directory) (sym outcome))
+    noted_same = search (arith, room_for, run_same)
 
     marked : (q : ℕ) → IsPage f q → IsMarked q piece → IsEndedOn v.events y.events (pages_of f b.block) q
     marked q of mark =
@@ -241,9 +239,7 @@ module _ (f : Profile) (k epoch : ℕ) (s : Settled) (piece : List Made) (l : Wh
     rejected_shown = reject_shown f k s.entry v live (reason_for s.entry read) run run_rejected.0.1 (reason_is s.entry read)
 
     no_mark : (q : ℕ) → IsMarked q piece → ⊥
-    no_mark q mark =
-        let none : is.after ≡ [] = subst (λ (o : Outcome). AfterEnd s.entry.name o is.after) outcome is.returns in
-        subst (IsMarked q) none (after_marked f k epoch s piece l valid legal is known q mark)
+    no_mark q mark = search (arith, after_marked)
 
     none_noted : own_then s v k ≡ cache_of v k
     none_noted = ap (λ (runs : List EndedRun). record (cache_of v k) { noted = runs })

@@ -1,6 +1,7 @@
 -- The events of a flush, by its steps and in the text.
-use Rattle.std.proofs.Common.{◌≡◌, ℕ, true, List, [], ◌∷◌, ◌++◌, map, reverse, refl, ap, sym, ◌∙◌, subst, append_assoc, Some, if◌then◌else◌, Bool}
+use Rattle.std.proofs.Common.{arith, ◌≡◌, ℕ, true, List, [], ◌∷◌, ◌++◌, map, reverse, refl, ap, sym, ◌∙◌, subst, append_assoc, Some, if◌then◌else◌, Bool}
 use Rattle.std.proofs.lemmas.{Grind.reverse_onto, List.reverse-reverse}
+use Rattle.pas_guard.proofs.Keepers.{older_legal}
 use Rattle.pas_profile.specs.declared.{event.Event.Event, profile.Profile.Profile, word.Word.Word, name.Block.Block}
 use Rattle.pas_profile.specs.Blocks.{address_of}
 use Rattle.pas_machine.specs.{Machine.Run, State.live_in}
@@ -65,13 +66,7 @@ unshown ks w k steps l only = visible_steps k steps l ∙ ap (λ (es : List Even
 -- a block that steps gave lives after steps without events
 pub given_lives : (ks : Kinds) → apart ks showing ≡ true → (k : ℕ) (xs steps : List Made) (l : Whole) (block : Block) (es : List Event) → Only ks xs → events_by k (part k l) steps ≡ Event.Give k block ∷ es
     → live_in (visible (triples k xs ++ (triples k steps ++ l))) (address_of block.name) ≡ Some (record { actor = k; block = block })
-given_lives ks w k xs steps l block es only given =
-    ap (λ (evs : List Event). live_in evs (address_of block.name)) (unshown ks w k xs (triples k steps ++ l) only ∙ (visible_steps k steps l ∙ ap (λ (evs : List Event). evs ++ visible l) given))
-    ∙ ap (λ (t : Bool). if t then Some (record { actor = k; block = block }) else live_in (es ++ visible l) (address_of block.name)) (eqb_itself (address_of block.name))
-
-legal_before : (f : Profile) (xs l : Whole) → Legal f (xs ++ l) → Legal f l
-legal_before f [] l legal = legal
-legal_before f (x ∷ xs) l legal = legal_before f xs l legal.1
+given_lives ks w k xs steps l block es only given = search (arith, unshown, visible_steps)
 
 -- ---- A FLUSH
 module _ (f : Profile) (k : ℕ) (logged : List Entry) (noted noted' : List EndedRun) (steps : List Made) (l : Whole) (w : World) (is : IsFlushOf f k logged noted noted' steps l w) where
@@ -88,7 +83,7 @@ module _ (f : Profile) (k : ℕ) (logged : List Entry) (noted noted' : List Ende
   epoch_now : w.epoch ≡ is.empties.epoch
   epoch_now =
       let at : Legal f (triple k (made (Look Word.Epoch) is.empties.epoch) ∷ l) =
-      legal_before f (triples k is.empties.entries) (triple k (made (Look Word.Epoch) is.empties.epoch) ∷ l)
+      older_legal f (triples k is.empties.entries) (triple k (made (Look Word.Epoch) is.empties.epoch) ∷ l)
       (subst (Legal f) (sym (triples_append k is.empties.entries (made (Look Word.Epoch) is.empties.epoch ∷ []) l)) look_legal) in
       is.epoch ∙ sym at.0.answer_is
 
@@ -102,10 +97,7 @@ module _ (f : Profile) (k : ℕ) (logged : List Entry) (noted noted' : List Ende
       ∙ ap (λ (evs : List Event). evs ++ es) (ap reverse (map_reverse (shown_for k is.empties.epoch) is.empties.settled) ∙ reverse-reverse (map (shown_for k is.empties.epoch) is.empties.settled)))
 
   all_shown : visible (triples k steps ++ l) ≡ onto shown w.events
-  all_shown =
-      visible_steps k steps l
-      ∙ (ap (λ (evs : List Event). evs ++ visible l) (is.empties.events (part k l))
-      ∙ (ap (λ (es : List Event). map (shown_for k is.empties.epoch) is.empties.settled ++ es) (sym is.events) ∙ sym (shown_are w.events)))
+  all_shown = search (arith, visible_steps, shown_are)
 
   text_shown : HasShown shown (set_log k [] w) (each (ends f k) (entries_of in_order) (set_log k [] w))
   text_shown = flush_shown f k is.empties.epoch (entries_of in_order) (outcomes_of in_order) (set_log k [] w) (paired in_order)

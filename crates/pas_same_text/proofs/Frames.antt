@@ -1,5 +1,5 @@
 -- What an act that changes no page keeps.
-use Rattle.std.proofs.Common.{◌≡◌, ℕ, ◌/◌, ◌%◌, ◌==◌, Bool, true, false, not, ◌&&◌, ◌||◌, if◌then◌else◌, List, ◌∷◌, refl, ap, sym, ◌∙◌}
+use Rattle.std.proofs.Common.{arith, ◌≡◌, ℕ, ◌/◌, ◌%◌, ◌==◌, Bool, true, false, not, ◌&&◌, ◌||◌, if◌then◌else◌, List, ◌∷◌, refl, ap, sym, ◌∙◌}
 use Rattle.pas_profile.specs.{Directories.number_of, Layouts.same_word, Blocks.grain_of, Blocks.length_of}
 use Rattle.pas_profile.specs.declared.{directory.Directory.Directory, event.Event.Event, name.Block.Block, profile.Profile.Profile, word.Word.Word}
 use Rattle.pas_profile.specs.declared.word.Word.TheVariants as TheWord
@@ -31,11 +31,7 @@ looked_bit : (k a : ℕ) (word w : Word) (l : Whole) (b : ℕ) → has_bit (word
 looked_bit k a word w l b = ap (λ (n : ℕ). has_bit n b) (look_word k a word w l)
 
 pub look_pages : (k a : ℕ) (word : Word) (l : Whole) → HaveSamePages l (triple k (made (Look word) a) ∷ l)
-look_pages k a word l = record {
-  events = refl;
-  hints = λ page. looked_bit k a word (TheWord.Empty (page / 64)) l (page % 64);
-  offers = λ number page. looked_bit k a word (TheWord.Eligible number (page / 64)) l (page % 64);
-}
+look_pages k a word l = search (arith, looked_bit)
 
 -- a tick changes the epoch alone
 pub tick_pages : (k a raised : ℕ) (l : Whole) → HaveSamePages l (triple k (made (Tick raised) a) ∷ l)
@@ -58,19 +54,8 @@ offered_is : (w : World) (d : Directory) (page : ℕ) → is_offered w d page �
 offered_is w d page = refl
 
 pub offered_same : (w w' : World) (d : Directory) (page : ℕ) → HaveSameState w w' → is_offered w' d page ≡ is_offered w d page
-offered_same w w' d page same =
-    offered_is w' d page
-    ∙ (ap (λ (es : List Event). offered_of es w'.live (all_locals w'.caches) w'.guards d page) same.events
-    ∙ (ap (λ (bs : List Block). offered_of w.events bs (all_locals w'.caches) w'.guards d page) same.live
-    ∙ (ap (λ (ls : List Local). offered_of w.events w.live ls w'.guards d page) same.locals
-    ∙ (ap (λ (gs : List Guard). offered_of w.events w.live (all_locals w.caches) gs d page) same.guards
-    ∙ sym (offered_is w d page)))))
+offered_same w w' d page same = search (arith, offered_is)
 
 -- ---- both together
 pub pages_next : (f : Profile) (l l' : Whole) (w w' : World) → ArePagesSame f l w → HaveSamePages l l' → HaveSameState w w' → ArePagesSame f l' w'
-pages_next f l l' w w' was list state = record {
-  events = state.events ∙ (was.events ∙ sym list.events);
-  live = state.live ∙ (was.live ∙ ap lives_in (sym state.events));
-  hinted = λ page. ap (λ (hinted : List ℕ). list_any (λ p. p == page) hinted) state.hinted ∙ (was.hinted page ∙ sym (list.hints page));
-  offered = λ page d of. offered_same w w' d page state ∙ (was.offered page d of ∙ sym (list.offers (number_of d) page));
-}
+pages_next f l l' w w' was list state = search (arith, offered_same)

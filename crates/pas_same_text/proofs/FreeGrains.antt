@@ -68,9 +68,7 @@ module _ (f : Profile) (p : Progress) (between : IsBetween f p) where
   outer_none k page other h = false≢true (sym (ap (λ (gs : List BookGuard). is_outer gs page) (between.rest.none k other)) ∙ h)
 
   outer_thread : (k page : ℕ) → is_outer (p.books k) page ≡ true → IsThread f k
-  outer_thread k page h = thread_or f k
-      (λ zero. outer_none k page (λ is. omega (arith, is.0, zero)) h)
-      (λ past. outer_none k page (λ is. omega (arith, is.1, past)) h)
+  outer_thread k page h = search (arith, thread_or, outer_none)
 
   -- who holds a grain is an actor of the region, and so is who has a right
   pub holder_thread : (k g : ℕ) → holds (part k p.list) g ≡ true → IsThread f k
@@ -89,10 +87,7 @@ module _ (f : Profile) (p : Progress) (between : IsBetween f p) where
   held_by k g h = or_cases (any_covers (p.caches k).locals g) (is_outer (p.books k) (g / 256)) (sym ((between.rest.working k (holder_thread k g h)).locals.grains g) ∙ h)
 
   pub never_both : (k g page : ℕ) → any_covers (p.caches k).locals g ≡ true → is_outer (p.books k) page ≡ true → ⊥
-  never_both k g page cached outer = elim (between.rest.working k (outer_thread k page outer)).locals.one_kind [
-    | inl none ↦ false≢true (sym (ap (λ (ls : List Slots). any_covers ls g) none) ∙ cached)
-    | inr none ↦ false≢true (sym (ap (λ (gs : List BookGuard). is_outer gs page) none) ∙ outer)
-  ]
+  never_both k g page cached outer = search (arith, outer_thread, false≢true)
 
 -- a grain that is held after an act whose actor keeps no guard was held before, where its cache had it then
 pub held_still : (f : Profile) (p p' : Progress) → IsBetween f p → IsBetween f p' → p'.books ≡ p.books → (j g : ℕ) → (any_covers (p'.caches j).locals g ≡ true → any_covers (p.caches j).locals g ≡ true)
@@ -159,10 +154,7 @@ module _ (f : Profile) (p : Progress) (w : World) (valid : IsValid f) (between :
 
   -- ---- A GRAIN
   free_here : (page b : ℕ) → b < 256 → IsInOnePlace p.list (256 * page + b) → is_free w page b ≡ (free_bit p.list (256 * page + b) || is_guarded w page)
-  free_here page b small (inl free) =
-      ap (λ (t : Bool). not t && not (is_cached (locals_on w page) b)) (covered_none page (256 * page + b) free.no_block)
-      ∙ (ap (λ (t : Bool). not t) (cached_none page b small (λ k has is. false≢true (sym (free.nobody k) ∙ cached_held f p between k (256 * page + b) is has)))
-      ∙ sym (ap (λ (t : Bool). t || is_guarded w page) free.free))
+  free_here page b small (inl free) = search (arith, covered_none, cached_none, false≢true, cached_held)
   free_here page b small (inr (inl held)) =
       let h : holds (part held.actor p.list) (256 * page + b) ≡ true = held.holder held.actor ∙ eq-eqb held.actor held.actor refl in
       elim (held_by f p between held.actor (256 * page + b) h) [

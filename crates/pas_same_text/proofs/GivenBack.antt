@@ -23,9 +23,7 @@ each_same (suc n) from test other agree =
     ∙ ap (λ (t : Bool). other from && t) (each_same n (from + 1) test other (λ b low high. agree b (omega (arith, low)) (omega (arith, high))))
 
 each_more_at : (x y r s : Bool) → (x ≡ true → y ≡ true) → (r ≡ true → s ≡ true) → (x && r) ≡ true → (y && s) ≡ true
-each_more_at true true r s first rest h = rest h
-each_more_at true false r s first rest h = first refl
-each_more_at false y r s first rest h = absurd (false≢true h)
+each_more_at x y r s first rest h = search (arith, false≢true)
 
 -- each number passes the one test that passes the other
 each_more : (n from : ℕ) (test other : ℕ → Bool) → ((b : ℕ) → from ≤ b → b < from + n → test b ≡ true → other b ≡ true) → each_of from n test ≡ true → each_of from n other ≡ true
@@ -58,11 +56,7 @@ free_is : (w : World) (page b : ℕ) → is_free w page b ≡ free_with w.live (
 free_is w page b = refl
 
 pub free_kept : (w v : World) (page b : ℕ) → v.live ≡ w.live → all_locals v.caches ≡ all_locals w.caches → is_free v page b ≡ is_free w page b
-free_kept w v page b live locals =
-    free_is v page b
-    ∙ (ap (λ (bs : List Block). free_with bs (all_locals v.caches) page b) live
-    ∙ (ap (λ (ls : List Local). free_with w.live ls page b) locals
-    ∙ sym (free_is w page b)))
+free_kept w v page b live locals = search (arith, free_is)
 
 pub empty_kept : (w v : World) (page : ℕ) → ((b : ℕ) → b < 256 → is_free v page b ≡ is_free w page b) → is_empty v page ≡ is_empty w page
 empty_kept w v page same = each_same 256 0 (is_free v page) (is_free w page) (λ b low high. same b high)
@@ -112,21 +106,12 @@ abbrev pub is_idle : World → ℕ → Bool
 is_idle w page = backed_in w.events page && is_empty w page
 
 idle_kept : (w v : World) (page : ℕ) → OnlyHints w v → is_idle v page ≡ is_idle w page
-idle_kept w v page only =
-    ap (λ (es : List Event). backed_in es page && is_empty v page) only.events
-    ∙ ap (λ (t : Bool). backed_in w.events page && t) (empty_kept w v page (λ b small. free_kept w v page b only.live (ap all_locals only.caches)))
+idle_kept w v page only = search (arith, empty_kept, free_kept)
 
 -- ---- which pages are hinted after pages were minded
 hinted_at : (page q : ℕ) (old : List ℕ) (t h same : Bool) → list_any (λ p. p == page) old ≡ h → (page == q) ≡ same
     → list_any (λ p. p == q) (if t then (if h then old else page ∷ old) else old) ≡ (list_any (λ p. p == q) old || (same && t))
-hinted_at page q old true true true e is =
-    let here : list_any (λ p. p == q) old ≡ true = ap (λ (x : ℕ). list_any (λ p. p == x) old) (sym (eqb-true page q is)) ∙ e in
-    here ∙ ap (λ (t : Bool). t || true) (sym here)
-hinted_at page q old true true false e is = sym (or-false (list_any (λ p. p == q) old))
-hinted_at page q old true false true e is = ap (λ (t : Bool). t || list_any (λ p. p == q) old) is ∙ sym (or-true (list_any (λ p. p == q) old))
-hinted_at page q old true false false e is = ap (λ (t : Bool). t || list_any (λ p. p == q) old) is ∙ sym (or-false (list_any (λ p. p == q) old))
-hinted_at page q old false h true e is = sym (or-false (list_any (λ p. p == q) old))
-hinted_at page q old false h false e is = sym (or-false (list_any (λ p. p == q) old))
+hinted_at page q old t h same e is = search (arith, eqb-true)
 
 hinted_minded : (w : World) (page q : ℕ) → is_hinted (minds page w) q ≡ (is_hinted w q || ((page == q) && is_idle w page))
 hinted_minded w page q = of_if (is_idle w page) (is_hinted w page) ∙ hinted_at page q w.hinted (is_idle w page) (is_hinted w page) (page == q) refl refl
@@ -137,16 +122,11 @@ hinted_minded w page q = of_if (is_idle w page) (is_hinted w page) ∙ hinted_at
     of_if false h = refl
 
 same_idle : (w : World) (page q : ℕ) (same : Bool) → (page == q) ≡ same → (same && is_idle w page) ≡ (same && is_idle w q)
-same_idle w page q true is = ap (is_idle w) (eqb-true page q is)
-same_idle w page q false is = refl
+same_idle w page q same is = search (arith, eqb-true)
 
+-- each case computes
 joined : (h s r i : Bool) → ((h || (s && i)) || (r && i)) ≡ (h || ((s || r) && i))
-joined true s r i = refl
-joined false true true true = refl
-joined false true true false = refl
-joined false true false true = refl
-joined false true false false = refl
-joined false false r i = refl
+joined h s r i = grind arith
 
 hinted_all : (pages : List ℕ) (w : World) (q : ℕ) → is_hinted (each minds pages w) q ≡ (is_hinted w q || (has_number pages q && is_idle w q))
 hinted_all [] w q = sym (or-false (is_hinted w q))
@@ -173,32 +153,14 @@ idle_grows f pages w v page r h = both (backed_in w.events page) (backed_in v.ev
     both false y e g same more h = absurd (false≢true h)
 
 idle_same : (f : Profile) (pages : List ℕ) (w v : World) (page : ℕ) → Returns f pages w v → IsPage f page → has_number pages page ≡ false → is_idle v page ≡ is_idle w page
-idle_same f pages w v page r of none =
-    ap (λ (t : Bool). t && is_empty v page) (r.backed page)
-    ∙ ap (λ (t : Bool). backed_in w.events page && t) (empty_kept w v page (λ b small. r.others page b of none small))
+idle_same f pages w v page r of none = search (arith, empty_kept)
 
 pub returns_nothing : (f : Profile) (w : World) → Returns f [] w w
-returns_nothing f w = record {
-  within = λ page h. absurd (false≢true h);
-  backed = λ page. refl;
-  grows = λ page b small h. h;
-  others = λ page b of none small. refl;
-  hinted = λ page. sym (or-false (is_hinted w page));
-}
+returns_nothing f w = search (arith, false≢true)
 
 -- as far as nothing but what these tests read is the same
 pub returns_like : (f : Profile) (pages : List ℕ) (w v x : World) → Returns f pages w v → x.events ≡ v.events → x.live ≡ v.live → x.hinted ≡ v.hinted → all_locals x.caches ≡ all_locals v.caches → Returns f pages w x
-returns_like f pages w v x r events live hinted locals = record {
-  within = r.within;
-  backed = λ page. ap (λ (es : List Event). backed_in es page) events ∙ r.backed page;
-  grows = λ page b small h. free_kept v x page b live locals ∙ r.grows page b small h;
-  others = λ page b of none small. free_kept v x page b live locals ∙ r.others page b of none small;
-  hinted = λ page. ap (λ (hs : List ℕ). list_any (λ p. p == page) hs) hinted
-      ∙ (r.hinted page
-      ∙ ap (λ (t : Bool). is_hinted w page || (has_number pages page && t))
-      (ap (λ (es : List Event). backed_in es page && is_empty v page) (sym events)
-      ∙ ap (λ (t : Bool). backed_in x.events page && t) (sym (empty_kept v x page (λ b small. free_kept v x page b live locals)))));
-}
+returns_like f pages w v x r events live hinted locals = search (arith, free_kept, empty_kept)
 
 -- ---- one after the other
 settled_hint : (h p q b c : Bool) → (b ≡ true → c ≡ true) → (p ≡ true → q ≡ false → c ≡ b) → ((h || (p && b)) || (q && c)) ≡ (h || ((p || q) && c))
@@ -218,10 +180,7 @@ has_both ps qs page = list_any-append (λ m. m == page) ps qs
 
 module _ (f : Profile) (ps qs : List ℕ) (w v x : World) (a : Returns f ps w v) (b : Returns f qs v x) where
   within_both : (page : ℕ) → has_number (ps ++ qs) page ≡ true → IsPage f page
-  within_both page h = elim (or_cases (has_number ps page) (has_number qs page) (sym (has_both ps qs page) ∙ h)) [
-    | inl first ↦ a.within page first
-    | inr later ↦ b.within page later
-  ]
+  within_both page h = search (arith, or_cases, has_both)
 
   pub returns_then : Returns f (ps ++ qs) w x
   returns_then = record {
@@ -244,15 +203,7 @@ pub minded_last : (f : Profile) (pages : List ℕ) (w v : World) → ((page : �
     → ((page b : ℕ) → b < 256 → is_free w page b ≡ true → is_free v page b ≡ true) → ((page b : ℕ) → IsPage f page → has_number pages page ≡ false → b < 256 → is_free v page b ≡ is_free w page b) → v.hinted ≡ w.hinted
     → Returns f pages w (each minds pages v)
 minded_last f pages w v within backed grows others hinted =
-    let only : OnlyHints v (each minds pages v) = all_only_hints pages v in record {
-      within = within;
-      backed = λ page. ap (λ (es : List Event). backed_in es page) only.events ∙ backed page;
-      grows = λ page b small h. free_kept v (each minds pages v) page b only.live (ap all_locals only.caches) ∙ grows page b small h;
-      others = λ page b of none small. free_kept v (each minds pages v) page b only.live (ap all_locals only.caches) ∙ others page b of none small;
-      hinted = λ page. hinted_all pages v page
-          ∙ (ap (λ (hs : List ℕ). list_any (λ p. p == page) hs || (has_number pages page && is_idle v page)) hinted
-          ∙ ap (λ (t : Bool). is_hinted w page || (has_number pages page && t)) (sym (idle_kept v (each minds pages v) page only)));
-    }
+    search (arith, all_only_hints, free_kept, hinted_all, idle_kept)
 
 -- ---- pages of the region
 numbers_within : (n from page : ℕ) → has_number (numbers_from from n) page ≡ true → (from ≤ page) × (page < from + n)
@@ -263,8 +214,7 @@ numbers_within (suc n) from page h = elim (or_cases (from == page) (has_number (
 ]
 
 have_at : (from page : ℕ) (rest : Bool) (t : Bool) → (from == page) ≡ t → (from ≢ page → rest ≡ true) → ((from == page) || rest) ≡ true
-have_at from page rest true e more = ap (λ (x : Bool). x || rest) e
-have_at from page rest false e more = ap (λ (x : Bool). x || rest) e ∙ more (λ same. false≢true (sym e ∙ eq-eqb from page same))
+have_at from page rest t e more = search (arith, false≢true, eq-eqb)
 
 numbers_have : (n from page : ℕ) → from ≤ page → page < from + n → has_number (numbers_from from n) page ≡ true
 numbers_have zero from page low high = absurd (omega (arith, low, high))

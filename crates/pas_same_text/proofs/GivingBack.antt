@@ -28,20 +28,14 @@ over Q x ks ls step w k (m ∷ xs) l only h =
     step (epoch_of (part k (triples k xs ++ l))) m.step (word_after (triples k xs ++ l) x) (in_apart ks ls (place_of (kind_of m.step)) w only.0) (over Q x ks ls step w k xs l only.1 h)
 
 backed_kept : (e : ℕ) (s : Step) (p old : ℕ) → is_in (Backing ∷ Unbacking ∷ []) (kind_of s) ≡ false → (if same_word (target s) (Word.Backed p) then new_value e s old else old) ≡ old
-backed_kept e (Look x) p old is = looked (same_word x (Word.Backed p)) old
-backed_kept e (Back q) p old is = absurd (true≢false is)
-backed_kept e (Unback q) p old is = absurd (true≢false is)
-backed_kept e s p old is = refl
+backed_kept e s p old is = search (arith, true≢false)
 
 -- where none backs a page or ends its backing, backed words stay
 pub backed_stays : (ks : Kinds) → apart ks (Backing ∷ Unbacking ∷ []) ≡ true → (k : ℕ) (xs : List Made) (l : Whole) (p : ℕ) → Only ks xs → word_after (triples k xs ++ l) (Word.Backed p) ≡ word_after l (Word.Backed p)
 backed_stays ks apart k xs l p only = over (λ n. n ≡ word_after l (Word.Backed p)) (Word.Backed p) ks (Backing ∷ Unbacking ∷ []) (λ e s old other h. backed_kept e s p old other ∙ h) apart k xs l only refl
 
 hints_kept : (e : ℕ) (s : Step) (p old : ℕ) → is_in (Unhinting ∷ []) (kind_of s) ≡ false → has_bit old (p % 64) ≡ true → has_bit (if same_word (target s) (Word.Empty (p / 64)) then new_value e s old else old) (p % 64) ≡ true
-hints_kept e (Look x) p old is h = ap (λ n. has_bit n (p % 64)) (looked (same_word x (Word.Empty (p / 64))) old) ∙ h
-hints_kept e (Hint q) p old is h = page_bit-set q p old true ∙ stays_set (q == p) (has_bit old (p % 64)) h
-hints_kept e (Unhint q) p old is h = absurd (true≢false is)
-hints_kept e s p old is h = h
+hints_kept e s p old is h = search (arith, page_bit-set, true≢false)
 
 -- where none takes a hint back, hinted pages stay hinted
 pub hinted_stays : (ks : Kinds) → apart ks (Unhinting ∷ []) ≡ true → (k : ℕ) (xs : List Made) (l : Whole) (p : ℕ) → Only ks xs → empty_bit l p ≡ true → empty_bit (triples k xs ++ l) p ≡ true
@@ -65,9 +59,7 @@ pub marked_parts : (q : ℕ) (ys xs : List Made) → IsMarked q (ys ++ xs) → I
 marked_parts q ys xs h = once_parts (λ m. is_mark q m.step ≡ true) ys xs h
 
 mark_kind : (q : ℕ) (s : Step) → is_in (Hinting ∷ Offering ∷ []) (kind_of s) ≡ false → is_mark q s ≡ true → ⊥
-mark_kind q (Hint p) out h = true≢false out
-mark_kind q (Offer p d) out h = true≢false out
-mark_kind q s out h = false≢true h
+mark_kind q s out h = search (arith, true≢false, false≢true)
 
 pub none_marked : (ks : Kinds) → apart ks (Hinting ∷ Offering ∷ []) ≡ true → (q : ℕ) (xs : List Made) → Only ks xs → IsMarked q xs → ⊥
 none_marked ks w q [] only h = h
@@ -78,12 +70,7 @@ pub marked_left : (ks : Kinds) → apart ks (Hinting ∷ Offering ∷ []) ≡ tr
 marked_left ks w q ys xs only h = elim (marked_parts q ys xs h) [ inl marked ↦ marked | inr later ↦ absurd (none_marked ks w q xs only later) ]
 
 return_mark : (p q : ℕ) (s : Step) → IsReturn p s → is_mark q s ≡ true → p ≡ q
-return_mark p q s (IsReturn.LooksFree word) h = absurd (false≢true h)
-return_mark p q s IsReturn.LooksBacked h = absurd (false≢true h)
-return_mark p q s (IsReturn.Offers d) h = eqb-true p q h
-return_mark p q s IsReturn.Parks h = absurd (false≢true h)
-return_mark p q s IsReturn.Unparks h = absurd (false≢true h)
-return_mark p q s IsReturn.Hints h = eqb-true p q h
+return_mark p q s h x = search (arith, false≢true, eqb-true)
 
 pub returns_marked : (p q : ℕ) (xs : List Made) → OnlyReturns p xs → IsMarked q xs → p ≡ q
 returns_marked p q [] only h = absurd h
@@ -154,12 +141,6 @@ offer_marks q (m ∷ xs) (inl h) = inl (ap (is_mark q) h.1 ∙ eqb_itself q)
 offer_marks q (m ∷ xs) (inr h) = inr (offer_marks q xs h)
 
 -- ---- a hint rests on looks that read the page as backed and empty
-hints_later : (m : Made) (before xs : List Made) → HintsEmpty m before → HintsEmpty m (before ++ xs)
-hints_later m before xs h page is = (due_later m before xs (h, λ p word mask g same here. absurd (not_put p word mask (sym is ∙ same)))).0 page is
-  where
-    not_put : (p word mask : ℕ) → Hint page ≡ Put p word mask → ⊥
-    not_put p word mask e = cc
-
 pub hint_step : (m : Made) (before : List Made) → is_in (Hinting ∷ []) (kind_of m.step) ≡ false → HintsEmpty m before
 hint_step m before other page same = absurd (true≢false (ap (λ s. is_in (Hinting ∷ []) (kind_of s)) (sym same) ∙ other))
 
@@ -167,10 +148,6 @@ hint_step m before other page same = absurd (true≢false (ap (λ s. is_in (Hint
 pub hints_none : (ks : Kinds) (xs : List Made) → apart ks (Hinting ∷ []) ≡ true → Only ks xs → Always HintsEmpty xs
 hints_none ks [] out only = tt
 hints_none ks (m ∷ xs) out only = (hint_step m xs (in_apart ks (Hinting ∷ []) (place_of (kind_of m.step)) out only.0), hints_none ks xs out only.1)
-
-pub hints_both : (ys xs : List Made) → Always HintsEmpty ys → Always HintsEmpty xs → Always HintsEmpty (ys ++ xs)
-hints_both [] xs first rest = rest
-hints_both (y ∷ ys) xs first rest = (hints_later y ys xs first.0, hints_both ys xs first.1 rest)
 
 pub hints_of : (xs : List Made) → Always GivesDuly xs → Always HintsEmpty xs
 hints_of [] due = tt
@@ -201,20 +178,11 @@ module _ (ks : Kinds) (f : Profile) (k : ℕ) (l : Whole) (page : ℕ) (no_take 
   backed_read : (xs : List Made) → Legal f (triples k xs ++ l) → Only ks xs → Once (ReadsBacked page) xs → word_after (triples k xs ++ l) (Word.Backed page) ≡ 1
   backed_read [] legal only h = absurd h
   backed_read (m ∷ xs) legal only (inr h) = backed_stays ks no_back k (m ∷ []) (triples k xs ++ l) page (only.0, tt) ∙ backed_read xs legal.1 only.1 h
-  backed_read (m ∷ xs) legal only (inl h) =
-      let at : m.answer ≡ word_after (triples k xs ++ l) (Word.Backed page) = legal.0.answer_is ∙ ap (λ s. word_after (triples k xs ++ l) (target s)) h.0 in
-      backed_stays ks no_back k (m ∷ []) (triples k xs ++ l) page (only.0, tt) ∙ (sym at ∙ h.1)
+  backed_read (m ∷ xs) legal only (inl h) = search (arith, backed_stays)
 
   -- A PAGE THAT WAS HINTED is backed and empty
   pub hinted_empty : (xs : List Made) → Legal f (triples k xs ++ l) → Only ks xs → Always HintsEmpty xs → HintsPage page xs → IsEmptyBacked (triples k xs ++ l) page
-  hinted_empty xs legal only hints h =
-      let r : WasRead page xs = hint_read page xs hints h in record {
-        backed = backed_read xs legal only r.backed;
-        free = λ g of. at_grain g of (free_read (g / 64 % 4) (g % 64) xs legal only (omega arith) (r.free (g / 64 % 4) (omega arith)));
-      }
-    where
-      at_grain : (g : ℕ) → g / 256 ≡ page → has_bit (word_after (triples k xs ++ l) (Word.Free page (g / 64 % 4))) (g % 64) ≡ true → has_bit (word_after (triples k xs ++ l) (free_word_at g)) (g % 64) ≡ true
-      at_grain g of h = ap (λ (q : ℕ). has_bit (word_after (triples k xs ++ l) (Word.Free q (g / 64 % 4))) (g % 64)) of ∙ h
+  hinted_empty xs legal only hints h = search (arith, hint_read, backed_read, free_read)
 
 -- a page that is offered is one of the region
 pub offered_of_region : (f : Profile) (k : ℕ) (l : Whole) (q : ℕ) (xs : List Made) → Legal f (triples k xs ++ l) → OffersPage q xs → IsPage f q
@@ -224,9 +192,7 @@ offered_of_region f k l q (m ∷ xs) legal (inr h) = offered_of_region f k l q x
 
 -- ---- the epoch, where none makes a tick
 epoch_kept : (e : ℕ) (s : Step) (old : ℕ) → is_in (Ticking ∷ []) (kind_of s) ≡ false → (if same_word (target s) Word.Epoch then new_value e s old else old) ≡ old
-epoch_kept e (Look x) old is = looked (same_word x Word.Epoch) old
-epoch_kept e (Tick up) old is = absurd (true≢false is)
-epoch_kept e s old is = refl
+epoch_kept e s old is = search (arith, true≢false)
 
 pub epoch_stays_by : (ks : Kinds) → apart ks (Ticking ∷ []) ≡ true → (k : ℕ) (xs : List Made) (l : Whole) → Only ks xs → word_after (triples k xs ++ l) Word.Epoch ≡ word_after l Word.Epoch
 epoch_stays_by ks apart k xs l only = over (λ n. n ≡ word_after l Word.Epoch) Word.Epoch ks (Ticking ∷ []) (λ e s old other h. epoch_kept e s old other ∙ h) apart k xs l only refl

@@ -1,5 +1,5 @@
 -- ONE LOCAL ALLOCATOR GOES, in the text alone: wherever it stands in its cache.
-use Rattle.std.proofs.Common.{◌≡◌, ℕ, ◌==◌, Bool, true, false, not, ◌||◌, if◌then◌else◌, List, [], ◌∷◌, Some, refl, ap, sym, ◌∙◌, eqb-true}
+use Rattle.std.proofs.Common.{arith, ◌≡◌, ℕ, ◌==◌, Bool, true, false, not, ◌||◌, if◌then◌else◌, List, [], ◌∷◌, Some, refl, ap, sym, ◌∙◌, eqb-true}
 use Rattle.std.proofs.lemmas.{Bool.false≢true, Bool.or_right, Option.same_Some}
 use Rattle.std.specs.List.{list_any, find}
 use Rattle.pas_profile.specs.Profiles.{IsPage}
@@ -21,13 +21,7 @@ any_less p heap class (x ∷ xs) h = less_next p x (others heap class xs) (not (
 -- .. are all but the one that is found
 other_next : (p : Local → Bool) (heap class : ℕ) (x l : Local) (xs : List Local) (t : Bool) → is_for heap class x ≡ t → others x.heap x.class xs ≡ xs → (if t then Some x else find (is_for heap class) xs) ≡ Some l → p l ≡ false
     → (find (is_for heap class) xs ≡ Some l → list_any p xs ≡ true → list_any p (others heap class xs) ≡ true) → (p x || list_any p xs) ≡ true → list_any p (if not t then x ∷ others heap class xs else others heap class xs) ≡ true
-other_next p heap class x l xs true e rest found none more h =
-    let is : x ≡ l = same_Some x l found in
-    let of_heap : x.heap ≡ heap = eqb-true x.heap heap (and_first (x.heap == heap) (x.class == class) e) in
-    let of_class : x.class ≡ class = eqb-true x.class class (and_second (x.heap == heap) (x.class == class) e) in
-    let left : others heap class xs ≡ xs = ap (λ (a : ℕ). others a class xs) (sym of_heap) ∙ (ap (λ (b : ℕ). others x.heap b xs) (sym of_class) ∙ rest) in
-    ap (list_any p) left ∙ (ap (λ (t : Bool). t || list_any p xs) (sym (ap p is ∙ none)) ∙ h)
-other_next p heap class x l xs false e rest found none more h = or_more (p x) (list_any p xs) (list_any p (others heap class xs)) (more found) h
+other_next p heap class x l xs t e rest found h more y = search (arith, eqb-true)
 
 any_other : (p : Local → Bool) (heap class : ℕ) (l : Local) (ls : List Local) → AreUnique ls → find (is_for heap class) ls ≡ Some l → p l ≡ false → list_any p ls ≡ true → list_any p (others heap class ls) ≡ true
 any_other p heap class l [] unique found none h = absurd (false≢true h)

@@ -116,10 +116,7 @@ module _ (threads : ℕ) (f : Profile) (keeper line k other name heap size align
     events_same = ap (events_by keeper (h.swept ++ part keeper p.list)) h.raise.steps_are ∙ ap (λ (v : View). events_by keeper v (rest ++ xs)) (sym (part_of_own keeper h.swept p.list))
 
     records_after : p.records ++ t.records ≡ pm.records ++ (records_of own_events ++ said_of_guard keeper name n t.block)
-    records_after =
-        ap (λ (rs : List Record). p.records ++ rs) h.records_are
-        ∙ (sym (append_assoc p.records h.lowered (records_of (events_by keeper (h.swept ++ part keeper p.list) h.raised) ++ said_of_guard keeper name n t.block))
-        ∙ ap (λ (es : List Event). (p.records ++ h.lowered) ++ (records_of es ++ said_of_guard keeper name n t.block)) events_same)
+    records_after = search (arith, append_assoc, events_same)
 
   -- ==== A GUARD WENT UP
   module _ (steps : List Made) (records : List Record) (block : Block) (guards' : List BookGuard) (h : IsTried f keeper r (part keeper p.list) (p.books keeper) (record { steps = steps; records = records; block = Some block; guards = guards' }))

@@ -3,6 +3,7 @@ use Rattle.std.proofs.Common.{◌≡◌, ℕ, ◌+◌, ◌/◌, ◌<◌, ◌≤�
 use Rattle.std.proofs.Common.{inr, refl, ap, sym, ◌∙◌, subst, arith, eqb-true, All}
 use Rattle.std.proofs.lemmas.{Bool.eqb-false, Bool.or_cases, Bool.or_right, List.Elements.All-nil}
 use Rattle.std.specs.List.{filter}
+use Rattle.pas_guard.proofs.Raises.{no_backs, each_more, backs_both}
 use Rattle.pas_profile.specs.{Blocks.address_of, Profiles.IsValid}
 use Rattle.pas_profile.specs.declared.{name.Block.Block, profile.Profile.Profile, word.Word.Word}
 use Rattle.pas_machine.specs.State.{backed_in}
@@ -26,7 +27,7 @@ use Rattle.pas_trace.specs.EveryPlan.{IsThread}
 use Rattle.pas_answers.specs.Answers.{Books, Progress}
 use Rattle.pas_one_text.specs.Runs.{large_of}
 use Rattle.pas_same_text.specs.Acts.{IsResting, AreResting, IsBetween}
-use Rattle.pas_same_text.proofs.BarePages.{bare_on, none_backs, held_unbacked, bare_since, bare_events, bare_word}
+use Rattle.pas_same_text.proofs.BarePages.{bare_on, held_unbacked, bare_since, bare_events, bare_word}
 use Rattle.pas_same_text.proofs.{FreeGrains.outer_held, LoweredGuards.some_outer, SweptGuards.IsSwept, SweptGuards.swept_told, SweptGuards.goes_down}
 use Rattle.pas_same_text.proofs.{Tests.or_none, Tests.eqb_turned}
 
@@ -80,8 +81,7 @@ module _ (f : Profile) (p : Progress) (keeper : ℕ) (books : Books) (steps : Li
       (subst (λ (gs : List Guard). IsResting f (p.caches j) gs (part j p.list)) (sym (others j e)) (before.rest.working j of))
 
   by_others : (P : List Guard → Type 0) (j : ℕ) (t : Bool) → (j == keeper) ≡ t → P left → ((j == keeper) ≡ false → P (p.books j)) → P (books j)
-  by_others P j true e at_left rest = subst (λ (i : ℕ). P (books i)) (sym (eqb-true j keeper e)) (subst P (sym own) at_left)
-  by_others P j false e at_left rest = subst P (sym (others j e)) (rest e)
+  by_others P j t e at_left rest = search (arith, eqb-true)
 
   not_scavenger : keeper ≡ 0 → ⊥
   not_scavenger zero = omega (arith, is.0, zero)
@@ -119,13 +119,9 @@ pub swept_bare : (f : Profile) (keeper : ℕ) (all : Bool) (p : Progress) (steps
 swept_bare f keeper all p steps left said valid before legal sweep page outer =
     let told : IsSwept all (visible p.list) keeper (p.books keeper) left said steps = swept_told f all (visible p.list) keeper valid (p.books keeper) left said steps p.list legal refl (before.rest.beside keeper) sweep.kinds sweep.swept in
     let was : is_outer (p.books keeper) page ≡ true = some_outer (λ g. not (goes_down all (visible p.list) g)) (p.books keeper) page (ap (λ (gs : List Guard). is_outer gs page) (sym told.kept_is) ∙ outer) in
-    bare_on f keeper page steps p.list legal (none_backs sweeping page steps refl sweep.kinds) (bare_word f p.list page valid before.legal (before.rest.bare keeper page was))
+    bare_on f keeper page steps p.list legal (no_backs sweeping page steps refl sweep.kinds) (bare_word f p.list page valid before.legal (before.rest.bare keeper page was))
 
 -- ---- a raise
-each_last : (P : Guard → Type 0) (gs : List Guard) (g : Guard) → Each P gs → P g → Each P (gs ++ g ∷ [])
-each_last P [] g all one = (one, tt)
-each_last P (x ∷ gs) g all one = (all.0, each_last P gs g all.1 one)
-
 pub outer_last : (gs : List Guard) (g : Guard) (page : ℕ) → is_outer (gs ++ g ∷ []) page ≡ true → (is_outer gs page ≡ true) ⊎ (is_outer_of g page ≡ true)
 outer_last [] g page h = inr (or_none (is_outer_of g page) h)
 outer_last (x ∷ gs) g page h = elim (or_cases (is_outer_of x page) (is_outer (gs ++ g ∷ []) page) h) [
@@ -140,22 +136,12 @@ backs_beside : (first end page : ℕ) (xs : List Made) → BacksIn first end xs 
 backs_beside first end page [] backs out = tt
 backs_beside first end page (m ∷ xs) backs out = (λ e. out (backs.0 page e), backs_beside first end page xs backs.1 out)
 
-not_both : (page : ℕ) (ys xs : List Made) → BacksNot page ys → BacksNot page xs → BacksNot page (ys ++ xs)
-not_both page [] xs first rest = rest
-not_both page (y ∷ ys) xs first rest = (first.0, not_both page ys xs first.1 rest)
-
 pub book_finds : (f : Profile) (heap : ℕ) (gs : List Guard) (v : View) → FitsBook f gs v → MayFind (large_of heap) v
 book_finds f heap gs v fits = record { lacks = λ page h. fits.rights page; clear = fits.clear }
 
 module _ (f : Profile) (keeper heap n : ℕ) (l : Whole) (guards guards' : List Guard) (valid : IsValid f) (fits : FitsBook f guards (part keeper l)) (beside : Each IsBeside guards) (bare : (page : ℕ) → is_outer guards page ≡ true → word_after l (Word.Backed page) ≡ 0) where
   pub raised_beside : (answer : Option Block) (steps : List Made) → RaiseSteps f heap n guards guards' answer steps → Each IsBeside guards'
-  raised_beside None steps raise = subst (Each IsBeside) (sym raise.outcome.same) beside
-  raised_beside (Some block) steps raise =
-      let r = raise.outcome in
-      subst (Each IsBeside) (sym r.raised) (each_last IsBeside guards (guard_of r.first n block) beside (record {
-        begins = (let at = ap (λ (b : Block). address_of b.name) r.block_is in omega (arith, at));
-        ends = (let at = ap (λ (b : Block). address_of b.name) r.block_is in let room = ap (λ (b : Block). b.room) r.block_is in omega (arith, at, room));
-      }))
+  raised_beside answer steps raise = search (arith, each_more)
 
   -- its own outer pages, from the search on
   module _ (block : Block) (steps : List Made) (raise : RaiseSteps f heap n guards guards' (Some block) steps) (legal : Legal f (triples keeper steps ++ l)) where
@@ -170,8 +156,8 @@ module _ (f : Profile) (keeper heap n : ℕ) (l : Whole) (guards guards' : List 
 
     after_bare : (page : ℕ) → ((r.first + 1 ≤ page) × (page < r.first + 1 + n) → ⊥) → BacksNot page raise.after
     after_bare page out = subst (BacksNot page) (sym r.after_is)
-        (not_both page r.left (give_steps (r.first + 1) 0 block r.word r.answer ++ r.backs) (none_backs returning page r.left refl (raised_leaves r))
-        (not_both page (give_steps (r.first + 1) 0 block r.word r.answer) r.backs (none_backs (Giving ∷ LookLife ∷ []) page (give_steps (r.first + 1) 0 block r.word r.answer) refl (refl, (refl, tt)))
+        (backs_both page r.left (give_steps (r.first + 1) 0 block r.word r.answer ++ r.backs) (no_backs returning page r.left refl (raised_leaves r))
+        (backs_both page (give_steps (r.first + 1) 0 block r.word r.answer) r.backs (no_backs (Giving ∷ LookLife ∷ []) page (give_steps (r.first + 1) 0 block r.word r.answer) refl (refl, (refl, tt)))
         (backs_beside (r.first + 1) (r.first + 1 + n) page r.backs (raised_pages r) out)))
 
     own_bare : (page : ℕ) → ((r.first + 1 ≤ page) × (page < r.first + 1 + n) → ⊥) → word_after (triples keeper raise.searched ++ l) (Word.Backed page) ≡ 0 → word_after (triples keeper steps ++ l) (Word.Backed page) ≡ 0

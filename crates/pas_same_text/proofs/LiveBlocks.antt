@@ -1,5 +1,5 @@
 -- The live blocks in a list, and those that the machine has by their addresses.
-use Rattle.std.proofs.Common.{◌≡◌, ℕ, ◌/◌, ◌<◌, ◌≢◌, ◌==◌, Bool, true, false, not, ◌&&◌, ◌||◌, if◌then◌else◌, List, [], ◌∷◌, Option, Some, None, ◌⊎◌, inl, inr}
+use Rattle.std.proofs.Common.{arith, ◌≡◌, ℕ, ◌/◌, ◌<◌, ◌≢◌, ◌==◌, Bool, true, false, not, ◌&&◌, ◌||◌, if◌then◌else◌, List, [], ◌∷◌, Option, Some, None, ◌⊎◌, inl, inr}
 use Rattle.std.proofs.Common.{refl, ap, sym, ◌∙◌, eq-eqb, ne_eqb, true≢false}
 use Rattle.std.proofs.lemmas.Bool.{eqb-false, false≢true, or_cases, or_left, or_right, not-true, and_from}
 use Rattle.std.proofs.lemmas.Option.{same_Some, none-some}
@@ -93,14 +93,10 @@ lives_so f (Event.Reject k name why ∷ es) p run h = still (Event.Reject k name
 -- ---- from the machine to the list
 given_listed : (t : Bool) (block : Block) (k : ℕ) (old : Option Live) (b : Live) (p : Block → Bool) (rest : Bool) → (if t then Some (record { actor = k; block = block }) else old) ≡ Some b
     → (old ≡ Some b → rest ≡ true) → p b.block ≡ true → (p block || rest) ≡ true
-given_listed true block k old b p rest is older so =
-    let same : block ≡ b.block = ap (λ (l : Live). l.block) (same_Some (record { actor = k; block = block }) b is) in
-    or_left (p block) rest (ap p same ∙ so)
-given_listed false block k old b p rest is older so = or_right (p block) rest (older is)
+given_listed t block k old b p rest is older so = search (arith, same_Some, or_left)
 
 ended_live : (t : Bool) (old : Option Live) (b : Live) → (if t then None else old) ≡ Some b → (t ≡ false) × (old ≡ Some b)
-ended_live true old b is = absurd (none-some b is)
-ended_live false old b is = (refl, is)
+ended_live t old b is = search (arith, none-some)
 
 -- a block that lives at its address is in the list
 pub lives_listed : (es : List Event) (address : ℕ) (b : Live) (p : Block → Bool) → live_in es address ≡ Some b → address_of b.block.name ≡ address → p b.block ≡ true → list_any p (lives_in es) ≡ true

@@ -90,9 +90,7 @@ logged_cache f k c c' entry steps room takes =
     (kept.0, takes.cache ∙ (ap (λ (es : List Entry). record c { log = es; noted = c'.noted }) log ∙ ap (λ (runs : List EndedRun). record c { log = c.log ++ entry ∷ []; noted = runs }) kept.2))
 
 room_is : (f : Profile) (k : ℕ) (entry : Entry) (p : Progress) (w : World) → IsThread f k → IsSame f p w → nat_le 64 (length (p.caches k).log) ≡ false → logs f k entry w ≡ adds k entry w
-room_is f k entry p w is same room =
-    let test : nat_le 64 (length (log_of w k)) ≡ false = ap (λ (es : List Entry). nat_le 64 (length es)) (same.caches.each k is).log ∙ room in
-    ap (λ (t : Bool). adds k entry (if t then flushes f k w else w)) test
+room_is f k entry p w is same room = search (arith, same.caches.each)
 
 -- ---- the free
 logged_same : (f : Profile) (k : ℕ) (entry : Entry) (p : Progress) (w : World) (c' : Cached) (steps : List Made) → IsThread f k → IsSame f p w → nat_le 64 (length (p.caches k).log) ≡ false
@@ -157,12 +155,7 @@ freed_named f k name size p w c' steps said is same room (Some (Some block)) fre
 
 by_name_same : (f : Profile) (k name : ℕ) (size : Option ℕ) (p p' : Progress) (w : World) (a : Answer) → IsThread f k → IsSame f p w → HasLogRoom k p → IsFreedBy f k (p.caches k) a.cache name size (standing_for p.names name) a.steps a.said → a.names ≡ p.names
     → p' ≡ after_answer p k a → IsSame f p' (frees_named f k name (room_noted size) w)
-by_name_same f k name size p p' w a is same room freed names reached =
-    let test : nat_le 64 (length (p.caches k).log) ≡ false = grind (arith, nat_tests, room) in
-    subst (λ (q : Progress). IsSame f q (frees_named f k name (room_noted size) w)) (sym reached)
-    (subst (λ (ns : List Named). IsSame f (after_with p k a.steps a.said ns a.cache) (frees_named f k name (room_noted size) w)) (sym names)
-    (subst (λ (ns : List Named). IsSame f (after_with p k a.steps a.said p.names a.cache) (frees_what f k name (room_noted size) (standing_for ns name) w)) (sym same.names)
-    (freed_named f k name size p w a.cache a.steps a.said is same test (standing_for p.names name) freed)))
+by_name_same f k name size p p' w a is same room freed names reached = search (arith, freed_named)
 
 pub named_same : (f : Profile) (line k name : ℕ) → IsThread f k → StaysSameWhere (HasLogRoom k) f (Act.Operates (record { line = line; actor = k; what = Free name }))
 named_same f line k name is p p' w room taken = by_name_same f k name None p p' w taken.advances.0 is taken.same room taken.advances.1.0 taken.advances.1.1 taken.advances.2

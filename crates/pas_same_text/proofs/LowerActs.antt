@@ -193,9 +193,7 @@ told_filtered keeper t u (g ∷ gs) same =
     ∙ filtered_at keeper g (filter u (map (told_guard keeper) gs)) (filter t gs) (t g) (told_filtered keeper t u gs same)
 
 pub ended_text : (f : Profile) (keeper : ℕ) (p : Progress) (w : World) → IsSame f p w → lowers_ended keeper w ≡ each lowers (map (told_guard keeper) (filter (goes_down false (visible p.list)) (p.books keeper))) w
-ended_text f keeper p w same = ap (λ (gs : List Guard). each lowers gs w)
-    (ap (filter (is_over w)) (same.guards.each keeper)
-    ∙ told_filtered keeper (goes_down false (visible p.list)) (is_over w) (p.books keeper) (λ g. ap (λ (es : List Event). nat_lt g.block.name.turn (ends_in es (address_of g.block.name))) same.pages.events))
+ended_text f keeper p w same = search (arith, told_filtered)
 
 all_text : (f : Profile) (keeper : ℕ) (p : Progress) (w : World) → IsSame f p w → lowers_all keeper w ≡ each lowers (map (told_guard keeper) (filter (goes_down true (visible p.list)) (p.books keeper))) w
 all_text f keeper p w same = ap (λ (gs : List Guard). each lowers gs w) (same.guards.each keeper ∙ ap (map (told_guard keeper)) (sym (all_pass (p.books keeper))))

@@ -1,5 +1,5 @@
 -- GUARDS ARE LOWERED in the text: their outer pages are anybody's again, and nothing else changes but hints.
-use Rattle.std.proofs.Common.{◌≡◌, ℕ, ◌==◌, Bool, true, false, not, ◌||◌, if◌then◌else◌, List, [], ◌∷◌, ◌++◌, map, reverse, inl, inr, refl, ap, sym, ◌∙◌, subst}
+use Rattle.std.proofs.Common.{arith, ◌≡◌, ℕ, ◌==◌, Bool, true, false, not, ◌||◌, if◌then◌else◌, List, [], ◌∷◌, ◌++◌, map, reverse, inl, inr, refl, ap, sym, ◌∙◌, subst}
 use Rattle.std.proofs.Common.{append_assoc, append-nil, true≢false, eq-eqb, eqb-true}
 use Rattle.std.proofs.lemmas.Bool.{false≢true, or_cases, or_left, or_right, false_from_ne_true, or_parts}
 use Rattle.std.specs.List.{list_any, filter}
@@ -63,10 +63,7 @@ module _ (f : Profile) (g : Guard) (w : World) (low : IsPage f g.low) (high : Is
   one_guards = same_guards (minds g.low bare) minded (minds_keep g.high (minds g.low bare)) ∙ same_guards bare (minds g.low bare) (minds_keep g.low bare)
 
   within : (page : ℕ) → has_number (g.low ∷ g.high ∷ []) page ≡ true → IsPage f page
-  within page h = elim (or_cases (g.low == page) ((g.high == page) || false) h) [
-    | inl is ↦ subst (IsPage f) (eqb-true g.low page is) low
-    | inr more ↦ subst (IsPage f) (eqb-true g.high page (or_none (g.high == page) more)) high
-  ]
+  within page h = search (arith, or_cases, eqb-true)
 
   one_returns : Returns f (g.low ∷ g.high ∷ []) w (lowers g w)
   one_returns = returns_like f (g.low ∷ g.high ∷ []) w minded (lowers g w) (minded_last f (g.low ∷ g.high ∷ []) w bare within (λ page. refl) (λ page b small h. h) (λ page b of none small. refl) refl) refl refl refl refl
@@ -96,8 +93,7 @@ said_reversed (g ∷ downs) rs ws is =
 
 -- ---- no page becomes guarded
 fewer_at : (p : Guard → Bool) (g : Guard) (fs gs : List Guard) (t : Bool) → (list_any p fs ≡ true → list_any p gs ≡ true) → list_any p (if t then g ∷ fs else fs) ≡ true → (p g || list_any p gs) ≡ true
-fewer_at p g fs gs true more h = elim (or_cases (p g) (list_any p fs) h) [ inl here ↦ or_left (p g) (list_any p gs) here | inr later ↦ or_right (p g) (list_any p gs) (more later) ]
-fewer_at p g fs gs false more h = or_right (p g) (list_any p gs) (more h)
+fewer_at p g fs gs t more h = search (arith, or_cases, or_left)
 
 fewer_any : (p q : Guard → Bool) (gs : List Guard) → list_any p (filter q gs) ≡ true → list_any p gs ≡ true
 fewer_any p q [] h = h
@@ -108,16 +104,12 @@ less_guarded [] gs page h = h
 less_guarded (g ∷ downs) gs page h = fewer_any (has_outer page) (λ x. not (x.low == g.low)) gs (less_guarded downs (without g.low gs) page h)
 
 pub lowered_unguarded : (f : Profile) (downs : List Guard) (w v : World) (page : ℕ) → AreLowered f downs w v → is_guarded w page ≡ false → is_guarded v page ≡ false
-lowered_unguarded f downs w v page lowered none = false_from_ne_true (is_guarded v page) (λ h.
-    false≢true (sym none ∙ less_guarded downs w.guards page (ap (λ (gs : List Guard). list_any (has_outer page) gs) (sym lowered.guards) ∙ h)))
+lowered_unguarded f downs w v page lowered none = search (arith, false_from_ne_true, false≢true, less_guarded)
 
 -- ---- the guards of each keeper that are left
 -- two tests one after the other
 swapped_at : (p q : Guard → Bool) (g : Guard) (gs : List Guard) (s t : Bool) → p g ≡ s → q g ≡ t → filter p (filter q gs) ≡ filter q (filter p gs) → filter p (if t then g ∷ filter q gs else filter q gs) ≡ filter q (if s then g ∷ filter p gs else filter p gs)
-swapped_at p q g gs true true e u rest = ap (λ (b : Bool). if b then g ∷ filter p (filter q gs) else filter p (filter q gs)) e ∙ (ap (λ (xs : List Guard). g ∷ xs) rest ∙ sym (ap (λ (b : Bool). if b then g ∷ filter q (filter p gs) else filter q (filter p gs)) u))
-swapped_at p q g gs true false e u rest = rest ∙ sym (ap (λ (b : Bool). if b then g ∷ filter q (filter p gs) else filter q (filter p gs)) u)
-swapped_at p q g gs false true e u rest = ap (λ (b : Bool). if b then g ∷ filter p (filter q gs) else filter p (filter q gs)) e ∙ rest
-swapped_at p q g gs false false e u rest = rest
+swapped_at p q g gs s t e u rest = grind arith
 
 swapped : (p q : Guard → Bool) (gs : List Guard) → filter p (filter q gs) ≡ filter q (filter p gs)
 swapped p q [] = refl
@@ -148,8 +140,7 @@ others_stay k keeper (g ∷ fallen) gs none =
 -- ---- of the keeper itself: those are left that don't pass the test
 -- an outer page of some of them is one of all
 some_at : (g : BookGuard) (fs gs : List BookGuard) (page : ℕ) (s : Bool) → (is_outer fs page ≡ true → is_outer gs page ≡ true) → is_outer (if s then g ∷ fs else fs) page ≡ true → (is_outer_of g page || is_outer gs page) ≡ true
-some_at g fs gs page true more h = elim (or_cases (is_outer_of g page) (is_outer fs page) h) [ inl here ↦ or_left (is_outer_of g page) (is_outer gs page) here | inr later ↦ or_right (is_outer_of g page) (is_outer gs page) (more later) ]
-some_at g fs gs page false more h = or_right (is_outer_of g page) (is_outer gs page) (more h)
+some_at g fs gs page s more h = search (arith, or_cases, or_left)
 
 pub some_outer : (t : BookGuard → Bool) (gs : List BookGuard) (page : ℕ) → is_outer (filter t gs) page ≡ true → is_outer gs page ≡ true
 some_outer t [] page h = h
@@ -160,17 +151,11 @@ not_some t gs page none = false_from_ne_true (is_outer (filter t gs) page) (λ h
 
 -- an outer page of the first is none of the others
 first_apart : (g : BookGuard) (gs : List BookGuard) (page : ℕ) → AreApart (g ∷ gs) → is_outer_of g page ≡ true → is_outer gs page ≡ false
-first_apart g gs page apart h = elim (or_cases (g.low == page) (g.high == page) h) [
-  | inl low ↦ ap (is_outer gs) (sym (eqb-true g.low page low)) ∙ apart.0
-  | inr high ↦ ap (is_outer gs) (sym (eqb-true g.high page high)) ∙ apart.1
-]
+first_apart g gs page apart h = search (arith, or_cases, eqb-true)
 
 split_at : (t : BookGuard → Bool) (g : BookGuard) (gs : List BookGuard) (page : ℕ) (s : Bool) → AreApart (g ∷ gs) → (is_outer (filter t gs) page ≡ true → is_outer (filter (λ x. not (t x)) gs) page ≡ false) → is_outer (if s then g ∷ filter t gs else filter t gs) page ≡ true
     → is_outer (if not s then g ∷ filter (λ x. not (t x)) gs else filter (λ x. not (t x)) gs) page ≡ false
-split_at t g gs page true apart more h = elim (or_cases (is_outer_of g page) (is_outer (filter t gs) page) h) [
-  | inl here ↦ not_some (λ x. not (t x)) gs page (first_apart g gs page apart here)
-  | inr later ↦ more later
-]
+split_at t g gs page true apart more h = search (arith, or_cases, not_some, first_apart)
 split_at t g gs page false apart more h = false_from_ne_true (is_outer_of g page || is_outer (filter (λ x. not (t x)) gs) page) (λ both. elim (or_cases (is_outer_of g page) (is_outer (filter (λ x. not (t x)) gs) page) both) [
   | inl here ↦ false≢true (sym (first_apart g gs page apart here) ∙ some_outer t gs page h)
   | inr later ↦ false≢true (sym (more h) ∙ later)
@@ -182,9 +167,7 @@ apart_split t (g ∷ gs) page apart h = split_at t g gs page (t g) apart (apart_
 
 -- a guard whose low page is none of theirs stays before them
 none_first : (g : BookGuard) (page : ℕ) (rest : Bool) → (is_outer_of g page || rest) ≡ false → ((g.low == page) ≡ false) × (rest ≡ false)
-none_first g page rest none =
-    let parts = or_parts (is_outer_of g page) rest none in
-    ((or_parts (g.low == page) (g.high == page) parts.0).0, parts.1)
+none_first g page rest none = search (arith, or_parts)
 
 first_stays : (k keeper : ℕ) (g : BookGuard) (fallen : List BookGuard) (gs : List Guard) → is_outer fallen g.low ≡ false → without_all (map (told_guard keeper) fallen) (told_guard k g ∷ gs) ≡ told_guard k g ∷ without_all (map (told_guard keeper) fallen) gs
 first_stays k keeper g [] gs none = refl
@@ -195,9 +178,7 @@ first_stays k keeper g (d ∷ fallen) gs none =
 
 own_at : (k : ℕ) (t : BookGuard → Bool) (g : BookGuard) (gs : List BookGuard) (s : Bool) → AreApart (g ∷ gs) → without_all (map (told_guard k) (filter t gs)) (map (told_guard k) gs) ≡ map (told_guard k) (filter (λ x. not (t x)) gs)
     → without_all (map (told_guard k) (if s then g ∷ filter t gs else filter t gs)) (told_guard k g ∷ map (told_guard k) gs) ≡ map (told_guard k) (if not s then g ∷ filter (λ x. not (t x)) gs else filter (λ x. not (t x)) gs)
-own_at k t g gs true apart rest =
-    ap (λ (b : Bool). without_all (map (told_guard k) (filter t gs)) (if not b then told_guard k g ∷ without g.low (map (told_guard k) gs) else without g.low (map (told_guard k) gs))) (eq-eqb g.low g.low refl)
-    ∙ (ap (without_all (map (told_guard k) (filter t gs))) (none_lost k g.low gs apart.0) ∙ rest)
+own_at k t g gs true apart rest = search (arith, eq-eqb, none_lost)
 own_at k t g gs false apart rest = first_stays k k g (filter t gs) (map (told_guard k) gs) (not_some t gs g.low apart.0) ∙ ap (λ (xs : List Guard). told_guard k g ∷ xs) rest
 
 pub own_left : (k : ℕ) (t : BookGuard → Bool) (gs : List BookGuard) → AreApart gs → without_all (map (told_guard k) (filter t gs)) (map (told_guard k) gs) ≡ map (told_guard k) (filter (λ g. not (t g)) gs)

@@ -134,9 +134,7 @@ module _ (f : Profile) (k : ℕ) (p : Progress) (w : World) (valid : IsValid f) 
 
 -- where there is place, none is stopped
 stops_none : (kept fewer : List Slots) (steps : List Made) (t : Bool) → t ≡ false → StopsFirst t kept fewer steps → (fewer ≡ kept) × (steps ≡ [])
-stops_none [] fewer steps t place h = h
-stops_none (s ∷ rest) fewer steps true place h = absurd (true≢false place)
-stops_none (s ∷ rest) fewer steps false place h = h
+stops_none kept fewer steps t place h = search (arith, true≢false)
 
 module _ (f : Profile) (k heap class : ℕ) (p : Progress) (w : World) (fewer : List Slots) (steps : List Made) (valid : IsValid f) (thread : IsThread f k) (before : IsBetween f p) (same : IsSame f p w) (place : MakesPlace heap class (p.caches k).locals fewer steps) (kinds : Only releasing steps)
     (after : IsBetween f (up_to p k steps fewer)) where
@@ -175,10 +173,9 @@ module _ (f : Profile) (k heap class : ℕ) (p : Progress) (w : World) (fewer : 
 
     left_over : (fewer ≡ place.kept) × (place.stopped ≡ [])
     left_over =
-        let many = (before.rest.working k thread).few in
         let less = fewer_left heap class c.locals s is in
         let long = ap (λ (xs : List Slots). length xs) place.taken.others in
-        let lt : length place.kept < 32 = omega (arith, many, less, long) in
+        let lt : length place.kept < 32 = omega (arith, (before.rest.working k thread).few, less, long) in
         stops_none place.kept fewer place.stopped (nat_le 32 (length place.kept)) (grind (arith, nat_tests, lt)) place.shortened.first
 
     steps_are : steps ≡ place.spent
@@ -229,8 +226,7 @@ module _ (f : Profile) (k heap class : ℕ) (p : Progress) (w : World) (fewer : 
     })
 
   by_found : (x : Option Slots) → local_for heap class c.locals ≡ x → LeavesSpent x place.spent → IsSame f (up_to p k steps fewer) (placed_by k found_text w)
-  by_found None is h = none_gone is h
-  by_found (Some s) is h = spent_gone s is h.0 h.1
+  by_found x is h = search (arith, none_gone, spent_gone)
 
   pub place_made : IsSame f (up_to p k steps fewer) (placed_by k found_text w)
   place_made = by_found (local_for heap class c.locals) refl place.taken.left

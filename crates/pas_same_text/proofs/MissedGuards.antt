@@ -41,8 +41,7 @@ older_listed (Deed x e) a q ps h = by_answer (a == 0)
 older_listed s a q ps h = h
 
 newest_listed : (s : Step) (a q : ℕ) (e : Directory) (ps : List ℕ) → s ≡ Deed q e → a ≡ 0 → has_number (with_deed s a ps) q ≡ true
-newest_listed s a q e ps is zero = subst (λ (x : Step). has_number (with_deed x a ps) q ≡ true) (sym is)
-    (ap (λ (t : Bool). has_number (if t then q ∷ ps else ps) q) (eq-eqb a 0 zero) ∙ or_left (q == q) (has_number ps q) (eq-eqb q q refl))
+newest_listed s a q e ps is zero = search (arith, eq-eqb, or_left)
 
 pub made_listed : (d : Directory) (mine : ℕ → Bool) (xs : List Made) → MadeOf d xs → ((q : ℕ) → has_number (deeded xs) q ≡ true → mine q ≡ true) → DeedsOn d mine xs
 made_listed d mine [] made sub = tt
@@ -138,12 +137,7 @@ module _ (f : Profile) (k heap n : ℕ) (p q : Progress) (w : World) (valid : Is
   old = record { events = same.pages.events; live = same.pages.live; caches = same.caches; guards = same.guards }
 
   now : HasSame f q v
-  now = record {
-    events = shown_events ds w ∙ sym shown_is;
-    live = shown_lives ds w same.pages.live;
-    caches = subst (λ (cs : Caches). AreSameCaches f cs v.caches) (sym caches) (subst (AreSameCaches f p.caches) (sym (shown_rest ds w).caches) same.caches);
-    guards = subst (λ (bs : Books). AreSameGuards bs v.guards) (sym books) (subst (AreSameGuards p.books) (sym (shown_rest ds w).guards) same.guards);
-  }
+  now = search (arith, shown_events, shown_is, shown_lives, shown_rest)
 
   free_same : (x b : ℕ) → is_free v x b ≡ is_free w x b
   free_same x b = ap (λ (bs : List Block). is_free (record w { live = bs; caches = v.caches }) x b) (deeds_live k d made w) ∙ ap (λ (cs : List Cache). is_free (record w { caches = cs }) x b) (shown_rest ds w).caches
@@ -191,12 +185,7 @@ module _ (f : Profile) (k heap n : ℕ) (p q : Progress) (w : World) (valid : Is
 
   pub missed_same : IsSame f q v
   missed_same = record {
-    pages = record {
-      events = now.events;
-      live = now.live;
-      hinted = run_hints f k p q w v d (has_number made) xs [] run_to;
-      offered = run_offers f k p q w v d (has_number made) xs [] run_to;
-    };
+    pages = search (arith, run_hints, run_to, run_offers);
     caches = now.caches;
     guards = now.guards;
     names = (shown_rest ds w).names ∙ (same.names ∙ sym names);

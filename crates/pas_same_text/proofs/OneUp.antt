@@ -1,5 +1,5 @@
 -- ONE LOCAL ALLOCATOR OF A CACHE IS STOPPED, or left where it has no slot: the text gives it up.
-use Rattle.std.proofs.Common.{◌≡◌, ℕ, ◌/◌, ◌==◌, Bool, true, false, ◌||◌, if◌then◌else◌, List, [], ◌∷◌, ◌++◌, reverse, Some, inl, inr, refl, ap, sym, ◌∙◌}
+use Rattle.std.proofs.Common.{arith, ◌≡◌, ℕ, ◌/◌, ◌==◌, Bool, true, false, ◌||◌, if◌then◌else◌, List, [], ◌∷◌, ◌++◌, reverse, Some, inl, inr, refl, ap, sym, ◌∙◌}
 use Rattle.std.proofs.Common.{subst, append-nil, eq-eqb, eqb-true}
 use Rattle.std.proofs.lemmas.Bool.{false≢true}
 use Rattle.std.specs.List.{find}
@@ -95,8 +95,7 @@ module _ (f : Profile) (k : ℕ) (p : Progress) (w : World) (s : Slots) (l : Loc
 
   -- ---- a grain of it is held by nobody then
   cached_before : (j g : ℕ) (t : Bool) → (j == k) ≡ t → any_covers (if t then c1 else p.caches j).locals g ≡ true → covers s g ≡ true → ((j == k) ≡ false) × (any_covers (p.caches j).locals g ≡ true)
-  cached_before j g true e held own = absurd (false≢true (sym (o.gone g own) ∙ held))
-  cached_before j g false e held own = (e, held)
+  cached_before j g t e held own = search (arith, false≢true)
 
   nobody : (j g : ℕ) → covers s g ≡ true → holds (part j p1.list) g ≡ true → ⊥
   nobody j g own held =

@@ -24,38 +24,14 @@ use Rattle.pas_scan.specs.Usable.{OfHere, WholeHere, ReadUsable, ParksNotHere, I
 use Rattle.pas_search.specs.Kinds.{IsReturnOf, ReturnsDuly}
 use Rattle.pas_large.specs.Evidence.{NotAll, LostRightHere, LostDeedHere, LostHere, BrokenHere, BadHere}
 use Rattle.pas_large.specs.Telling.{IsWholePage, IsUsablePage}
-use Rattle.pas_large.proofs.Outcomes.{MadeOf}
+use Rattle.pas_large.proofs.{Outcomes.MadeOf, Told.eligible_told, Told.free_told, Told.grain_bit, Told.of_page, Told.usable_free, Told.clean_fresh, Told.usable_clean, Told.nowhere_else, Told.none_read, Told.lost_never}
 use Rattle.pas_same_text.specs.Words.{free_bit}
 use Rattle.pas_same_text.proofs.{GivingBack.offer_one, SearchMarks.stays_used, SearchMarks.stays_free}
 
 -- ---- what readings tell of words
-eligible_told : (l : Whole) (d : Directory) (p : ℕ) (s : Step) (a : ℕ) → ReadsEligible d p s → a ≡ word_after l (target s) → has_bit a (p % 64) ≡ eligible_bit l (number_of d) p
-eligible_told l d p s a (ReadsEligible.Looks n j en ej) is = ap (λ x. has_bit x (p % 64)) (is ∙ ap (λ i. word_after l (Word.Eligible i j)) en ∙ ap (λ i. word_after l (Word.Eligible (number_of d) i)) ej)
-eligible_told l d p s a ReadsEligible.Claims is = ap (λ x. has_bit x (p % 64)) is
-
-free_read : (l : Whole) (p word : ℕ) (s : Step) (a : ℕ) → ReadsFree p word s → a ≡ word_after l (target s) → a ≡ word_after l (Word.Free p word)
-free_read l p word s a ReadsFree.Looks is = is
-free_read l p word s a (ReadsFree.Takes mask) is = is
-
--- the grain of a bit in a free word
-grain_bit : (l : Whole) (p word b : ℕ) → word < 4 → b < 64 → has_bit (word_after l (Word.Free p word)) b ≡ free_bit l (p * 256 + (64 * word + b))
-grain_bit l p word b small lt =
-    let page : (p * 256 + (64 * word + b)) / 256 ≡ p = omega (arith, small, lt) in
-    let at : (p * 256 + (64 * word + b)) / 64 % 4 ≡ word = omega (arith, small, lt) in
-    let bit : (p * 256 + (64 * word + b)) % 64 ≡ b = omega (arith, small, lt) in
-    ap (λ (q : ℕ). has_bit (word_after l (Word.Free q word)) b) (sym page)
-    ∙ (ap (λ (u : ℕ). has_bit (word_after l (Word.Free ((p * 256 + (64 * word + b)) / 256) u)) b) (sym at)
-    ∙ ap (has_bit (word_after l (free_word_at (p * 256 + (64 * word + b))))) (sym bit))
-
-of_page : (l : Whole) (page b : ℕ) → free_of_page l page b ≡ free_bit l (page * 256 + b)
-of_page l page b = let bit : b % 64 ≡ (page * 256 + b) % 64 = omega arith in ap (λ (n : ℕ). has_bit (word_after l (free_word_at (page * 256 + b))) n) bit
-
--- all grains of a usable page are free
-usable_free : (f : Profile) (d : Directory) (l : Whole) (p : ℕ) → Legal f l → IsUsablePage d l p → (b : ℕ) → b < 256 → free_bit l (p * 256 + b) ≡ true
-usable_free f d l p legal (inl none) b lt =
-    let page : (p * 256 + b) / 256 ≡ p = omega (arith, lt) in
-    free_without_deed f l legal (p * 256 + b) (ap (λ (q : ℕ). word_after l (Word.Deed q)) page ∙ none)
-usable_free f d l p legal (inr whole) b lt = sym (of_page l p b) ∙ whole.free b lt
+-- a bit of a free word as it was read
+bit_read : (l : Whole) (p word b : ℕ) (s : Step) (a : ℕ) → word < 4 → b < 64 → ReadsFree p word s → a ≡ word_after l (target s) → has_bit a b ≡ free_bit l (p * 256 + (64 * word + b))
+bit_read l p word b s a small lt reads is = ap (λ (n : ℕ). has_bit n b) (free_told l p word s a reads is) ∙ (grain_bit l p word b small lt ∙ of_page l p (64 * word + b))
 
 -- ---- DEEDS while one actor goes on
 deed_later : (k : ℕ) (l : Whole) (p : ℕ) (xs : List Made) → word_after l (Word.Deed p) ≢ 0 → word_after (triples k xs ++ l) (Word.Deed p) ≡ word_after l (Word.Deed p)
@@ -92,17 +68,10 @@ module _ (f : Profile) (k : ℕ) (l : Whole) (d : Directory) (p : ℕ) where
   -- what was read as of the directory is of it from then on
   of_now : (xs : List Made) → Legal f (triples k xs ++ l) → Once (OfHere d p) xs → word_after (triples k xs ++ l) (Word.Deed p) ≡ deed_word_of d
   of_now [] legal h = absurd h
-  of_now (m ∷ xs) legal (inl h) =
-      let now : word_after (triples k xs ++ l) (Word.Deed p) ≡ deed_word_of d = sym (legal.0.answer_is ∙ deed_read p m.step (triples k xs ++ l) h.0) ∙ h.1 in
-      deed_kept (triples k xs ++ l) (triple k m) p (λ none. deed_word_of-positive d (sym now ∙ none)) ∙ now
+  of_now (m ∷ xs) legal (inl h) = search (arith, deed_read, deed_kept, deed_word_of-positive)
   of_now (m ∷ xs) legal (inr h) =
       let now = of_now xs legal.1 h in
       deed_kept (triples k xs ++ l) (triple k m) p (λ none. deed_word_of-positive d (sym now ∙ none)) ∙ now
-
-  none_read : (xs : List Made) → Legal f (triples k xs ++ l) → Once (NoDeedHere p) xs → word_after l (Word.Deed p) ≡ 0
-  none_read [] legal h = absurd h
-  none_read (m ∷ xs) legal (inl h) = deed_none k l p xs (sym (legal.0.answer_is ∙ deed_read p m.step (triples k xs ++ l) h.0) ∙ h.1)
-  none_read (m ∷ xs) legal (inr h) = none_read xs legal.1 h
 
   -- ---- OFFERS: a page whose deed the search doesn't make, and that is offered or was got, was offered before
   got_by : (w : Whole) (s : Step) (a : ℕ) → a ≡ word_after w (target s) → ((x : Directory) → s ≡ Deed p x → a ≡ 0 → ⊥) → GetsRight p s a → (n : ℕ) × (eligible_bit w n p ≡ true)
@@ -139,7 +108,7 @@ module _ (f : Profile) (k : ℕ) (l : Whole) (d : Directory) (p : ℕ) where
   whole_read word b small lt (m ∷ xs) legal lends due (inl h) = by_bit (free_bit l (p * 256 + (64 * word + b))) refl
     where
       bit : has_bit m.answer b ≡ free_bit (triples k xs ++ l) (p * 256 + (64 * word + b))
-      bit = ap (λ (n : ℕ). has_bit n b) (free_read (triples k xs ++ l) p word m.step m.answer h.0 legal.0.answer_is) ∙ grain_bit (triples k xs ++ l) p word b small lt
+      bit = bit_read (triples k xs ++ l) p word b m.step m.answer small lt h.0 legal.0.answer_is
 
       by_bit : (t : Bool) → free_bit l (p * 256 + (64 * word + b)) ≡ t → free_bit l (p * 256 + (64 * word + b)) ≡ true
       by_bit true is = is
@@ -147,7 +116,7 @@ module _ (f : Profile) (k : ℕ) (l : Whole) (d : Directory) (p : ℕ) where
 
   -- A PAGE THAT WAS READ AS USABLE was so before the search
   pub usable_was : (xs : List Made) → IsKind d.kind → Legal f (triples k xs ++ l) → LendsNone xs → Always ReturnsDuly xs → ReadUsable d p xs → IsUsablePage d l p
-  usable_was xs kind legal lends due (inl bare) = inl (none_read xs legal bare)
+  usable_was xs kind legal lends due (inl bare) = inl (none_read f k l p xs legal bare)
   usable_was xs kind legal lends due (inr whole) = elim (cases_eq (word_after l (Word.Deed p)) 0) [
     | inl none ↦ inl none
     | inr some ↦ inr (whole_was some)
@@ -165,74 +134,8 @@ module _ (f : Profile) (k : ℕ) (l : Whole) (d : Directory) (p : ℕ) where
                 of_page l p b ∙ (ap (λ (x : ℕ). free_bit l (p * 256 + x)) same ∙ whole_read (b / 64) (b % 64) (omega (arith, lt)) (omega arith) xs legal lends due (whole.free (b / 64) (omega (arith, lt))));
           }
 
--- ---- where the right of a page may be while one actor alone goes on that doesn't park it: nowhere, offered, or with that actor
-abbrev is_clean : ℕ → Spot → Bool
-is_clean k (With j) = j == k
-is_clean k InParked = false
-is_clean k o = true
-
-clean_after : (k : ℕ) (w : Way) (o : Spot) → (w ≡ ToParked → ⊥) → is_clean k o ≡ true → is_clean k (spot_after k w o) ≡ true
-clean_after k Rests o ne h = h
-clean_after k (ToOffer n) o ne h = refl
-clean_after k ToParked o ne h = absurd (ne refl)
-clean_after k w o ne h = eq-eqb k k refl
-
-if_way : (t : Bool) (w : Way) → (t ≡ true → w ≡ ToParked → ⊥) → (if t then w else Rests) ≡ ToParked → ⊥
-if_way true w ne e = ne refl e
-if_way false w ne e = cc
-
-not_to_parked : (s : Step) (a p : ℕ) → (s ≡ Park p → ⊥) → way s a p ≡ ToParked → ⊥
-not_to_parked (Deed q x) a p ne e = if_way ((q == p) && (a == 0)) ByDeed (λ t h. cc) e
-not_to_parked (TakeRight q x) a p ne e = if_way ((q == p) && has_bit a (p % 64)) (FromOffer (number_of x)) (λ t h. cc) e
-not_to_parked (Offer q x) a p ne e = if_way (q == p) (ToOffer (number_of x)) (λ t h. cc) e
-not_to_parked (Park q) a p ne e = if_way (q == p) ToParked (λ t h. ne (ap Park (eqb-true q p t))) e
-not_to_parked (Unpark q) a p ne e = if_way ((q == p) && has_bit a (p % 64)) FromParked (λ t h. cc) e
-not_to_parked s a p ne e = cc
-
-offered_clean : (k n : ℕ) (o : Spot) → is_offered n o ≡ true → is_clean k o ≡ true
-offered_clean k n o h = ap (is_clean k) (is_offered-true n o h)
-
--- a page of the directory that is clean is offered or the actor's
-nowhere_else : (k : ℕ) (d : Directory) (o : Spot) (word : ℕ) → IsKind d.kind → is_clean k o ≡ true → is_with k o ≡ false → is_offered (number_of d) o ≡ false → DeedFits o word → word ≡ deed_word_of d → ⊥
-nowhere_else k d Nowhere word is clean mine offered fits deed = deed_word_of-positive d (sym deed ∙ fits)
-nowhere_else k d (With j) word is clean mine offered fits deed = true≢false (sym clean ∙ mine)
-nowhere_else k d (Offered m) word is clean mine offered fits deed = true≢false (sym (eq-eqb m (number_of d) (sym (number_told d m is (sym deed ∙ fits)))) ∙ offered)
-nowhere_else k d InParked word is clean mine offered fits deed = false≢true clean
-
-reads_no_park : (d : Directory) (p : ℕ) (s : Step) → ReadsEligible d p s → s ≡ Park p → ⊥
-reads_no_park d p s (ReadsEligible.Looks n j en ej) e = cc
-reads_no_park d p s ReadsEligible.Claims e = cc
-
 module _ (f : Profile) (k : ℕ) (l : Whole) (d : Directory) (p : ℕ) where
-  clean_own : (xs : List Made) → Always (ParksNotHere p) xs → is_clean k (spot_of l p) ≡ true → is_clean k (spot_of (triples k xs ++ l) p) ≡ true
-  clean_own [] none h = h
-  clean_own (m ∷ xs) none h = clean_after k (way m.step m.answer p) (spot_of (triples k xs ++ l) p) (not_to_parked m.step m.answer p none.0) (clean_own xs none.1 h)
-
-  clean_since : (xs : List Made) → Legal f (triples k xs ++ l) → Since (OneHere d p) (ParksNotHere p) xs → is_clean k (spot_of (triples k xs ++ l) p) ≡ true
-  clean_since [] legal h = absurd h
-  clean_since (m ∷ xs) legal (inl one) =
-      let w : Whole = triples k xs ++ l in
-      let bit : is_offered (number_of d) (spot_of w p) ≡ true = sym ((spotted f w legal.1 p).eligible (number_of d)) ∙ (sym (eligible_told w d p m.step m.answer one.0 legal.0.answer_is) ∙ one.1) in
-      clean_after k (way m.step m.answer p) (spot_of w p) (not_to_parked m.step m.answer p (reads_no_park d p m.step one.0)) (offered_clean k (number_of d) (spot_of w p) bit)
-  clean_since (m ∷ xs) legal (inr h) = clean_after k (way m.step m.answer p) (spot_of (triples k xs ++ l) p) (not_to_parked m.step m.answer p h.0) (clean_since xs legal.1 h.1)
-
-  clean_fresh : (xs : List Made) → Legal f (triples k xs ++ l) → is_clean k (spot_of l p) ≡ true → IsFresh d p xs → is_clean k (spot_of (triples k xs ++ l) p) ≡ true
-  clean_fresh xs legal first (inl never) = clean_own xs never first
-  clean_fresh xs legal first (inr since) = clean_since xs legal since
-
-  usable_clean : Legal f l → IsUsablePage d l p → is_clean k (spot_of l p) ≡ true
-  usable_clean legal (inl none) = ap (is_clean k) (no_deed (spot_of l p) (subst (DeedFits (spot_of l p)) none (spotted f l legal p).deed))
-  usable_clean legal (inr whole) = offered_clean k (number_of d) (spot_of l p) (sym ((spotted f l legal p).eligible (number_of d)) ∙ whole.offered)
-
   module _ (kind : IsKind d.kind) (first : Legal f l) (lacks : has_right (part k l) p ≡ false) (usable : IsUsablePage d l p) where
-    -- a fresh reading of its eligible bit as 0, without the right and once it is of the directory
-    zero_never : (xs : List Made) → Legal f (triples k xs ++ l) → has_right xs p ≡ false → IsFresh d p xs → word_after (triples k xs ++ l) (Word.Deed p) ≡ deed_word_of d → eligible_bit (triples k xs ++ l) (number_of d) p ≡ false → ⊥
-    zero_never xs legal own fresh deed bit =
-        let w : Whole = triples k xs ++ l in
-        let at = spotted f w legal p in
-        let view : has_right (part k w) p ≡ false = ap (λ v. has_right v p) (part_of_own k xs l) ∙ (right_own p xs (part k l) lacks ∙ own) in
-        nowhere_else k d (spot_of w p) (word_after w (Word.Deed p)) kind (clean_fresh xs legal (usable_clean first usable) fresh) (sym (at.has k) ∙ view) (sym (at.eligible (number_of d)) ∙ bit) at.deed deed
-
     deed_is : (xs : List Made) → Legal f (triples k xs ++ l) → MadeOf d xs → (word_after (triples k xs ++ l) (Word.Deed p) ≡ 0) ⊎ (word_after (triples k xs ++ l) (Word.Deed p) ≡ deed_word_of d)
     deed_is xs legal made = elim usable [
       | inl none ↦ deed_own f k l d p xs legal made none
@@ -241,56 +144,23 @@ module _ (f : Profile) (k : ℕ) (l : Whole) (d : Directory) (p : ℕ) where
 
     -- ---- never read as not usable
     other_never : (m : Made) (xs : List Made) → Legal f (triples k (m ∷ xs) ++ l) → MadeOf d xs → OtherDeedHere d p m xs → ⊥
-    other_never m xs legal made h =
-        let read : m.answer ≡ word_after (triples k xs ++ l) (Word.Deed p) = legal.0.answer_is ∙ deed_read p m.step (triples k xs ++ l) h.0 in
-        elim (deed_is xs legal.1 made) [ inl none ↦ h.1 (read ∙ none) | inr own ↦ h.2 (read ∙ own) ]
+    other_never m xs legal made h = search (arith, deed_read, deed_is)
 
     missing_never : (m : Made) (xs : List Made) → Legal f (triples k (m ∷ xs) ++ l) → NotOfferedHere d p m xs → ⊥
     missing_never m xs legal h =
-        zero_never xs legal.1 h.0.0.2 h.0.1 (of_now f k l d p xs legal.1 h.1) (sym (eligible_told (triples k xs ++ l) d p m.step m.answer h.0.0.0 legal.0.answer_is) ∙ h.0.0.1)
+        let w : Whole = triples k xs ++ l in
+        let at = spotted f w legal.1 p in
+        let clean = clean_fresh f k l d p xs legal.1 (usable_clean f k l d p first usable) h.0.1 in
+        let view : has_right (part k w) p ≡ false = ap (λ v. has_right v p) (part_of_own k xs l) ∙ (right_own p xs (part k l) lacks ∙ h.0.0.2) in
+        let bit : eligible_bit w (number_of d) p ≡ false = sym (eligible_told w d p m.step m.answer h.0.0.0 legal.0.answer_is) ∙ h.0.0.1 in
+        nowhere_else k d (spot_of w p) (word_after w (Word.Deed p)) kind clean (sym (at.has k) ∙ view) (sym (at.eligible (number_of d)) ∙ bit) at.deed (of_now f k l d p xs legal.1 h.1)
 
     used_never : (m : Made) (xs : List Made) → Legal f (triples k (m ∷ xs) ++ l) → LendsNone xs → UsedHere p m xs → ⊥
     used_never m xs legal lends h = h.3 (λ b lt.
         let small = h.1 in
         let g : ℕ = p * 256 + (64 * h.0 + b) in
-        let bit : has_bit m.answer b ≡ free_bit (triples k xs ++ l) g = ap (λ (n : ℕ). has_bit n b) (free_read (triples k xs ++ l) p h.0 m.step m.answer h.2 legal.0.answer_is) ∙ grain_bit (triples k xs ++ l) p h.0 b small lt in
-        ap (λ (t : Bool). t || holds xs g) bit ∙ stays_free f k l g xs legal.1 lends (usable_free f d l p first usable (64 * h.0 + b) (omega (arith, small, lt))))
-
-    -- ---- nor lost, nor broken
-    right_never : (m : Made) (xs : List Made) → Legal f (triples k (m ∷ xs) ++ l) → LostRightHere d p m xs → ⊥
-    right_never m xs legal h =
-        let w : Whole = triples k xs ++ l in
-        let answer : m.answer ≡ word_after w (target (TakeRight p d)) = legal.0.answer_is ∙ ap (λ (s : Step). word_after w (target s)) h.0 in
-        let knows : KnowsDeed p d (part k w) = subst (λ (s : Step). Allowed f (part k w) s) h.0 legal.0.allowed in
-        let deed : word_after w (Word.Deed p) ≡ deed_word_of d = sym (known_is _ _ ((spotted f w legal.1 p).known k) (λ none. deed_word_of-positive d (sym knows ∙ none))) ∙ knows in
-        zero_never xs legal.1 h.2 h.3 deed (sym (eligible_told w d p (TakeRight p d) m.answer ReadsEligible.Claims answer) ∙ h.1)
-
-    still_none : (w : Whole) (e : ℕ) (s : Step) (a : ℕ) → a ≡ word_after w (target s) → ((x : Directory) → s ≡ Deed p x → a ≡ 0 → ⊥) → word_after w (Word.Deed p) ≡ 0
-        → (if same_word (target s) (Word.Deed p) then new_value e s (word_after w (Word.Deed p)) else word_after w (Word.Deed p)) ≡ 0
-    still_none w e (Look x) a is never none = looked (same_word x (Word.Deed p)) (word_after w (Word.Deed p)) ∙ none
-    still_none w e (Deed q x) a is never none = by_page (q == p) refl
-      where
-        by_page : (t : Bool) → (q == p) ≡ t → (if t then (if word_after w (Word.Deed p) == 0 then deed_word_of x else word_after w (Word.Deed p)) else word_after w (Word.Deed p)) ≡ 0
-        by_page true at = let same : q ≡ p = eqb-true q p at in absurd (never x (ap (λ (y : ℕ). Deed y x) same) (is ∙ (ap (λ (y : ℕ). word_after w (Word.Deed y)) same ∙ none)))
-        by_page false at = none
-    still_none w e s a is never none = none
-
-    none_kept : (xs : List Made) → Legal f (triples k xs ++ l) → Always (MakesNoDeedHere p) xs → word_after l (Word.Deed p) ≡ 0 → word_after (triples k xs ++ l) (Word.Deed p) ≡ 0
-    none_kept [] legal never none = none
-    none_kept (m ∷ xs) legal never none = still_none (triples k xs ++ l) (epoch_of (part k (triples k xs ++ l))) m.step m.answer legal.0.answer_is never.0 (none_kept xs legal.1 never.1 none)
-
-    deed_never : (m : Made) (xs : List Made) → Legal f (triples k (m ∷ xs) ++ l) → LostDeedHere d p m xs → ⊥
-    deed_never m xs legal h =
-        let w : Whole = triples k xs ++ l in
-        h.1 (legal.0.answer_is ∙ (ap (λ (s : Step). word_after w (target s)) h.0 ∙ none_kept xs legal.1 h.3 (none_read f k l d p xs legal.1 h.2)))
-
-    fewer_not_all : (r fewer : ℕ → Bool) → ((b : ℕ) → b < 256 → fewer b ≡ true → r b ≡ true) → NotAll r → NotAll fewer
-    fewer_not_all r fewer less not all = not (λ b lt. less b lt (all b lt))
-
-    pub lost_never : (m : Made) (xs : List Made) → Legal f (triples k (m ∷ xs) ++ l) → LendsNone (m ∷ xs) → LostHere d p m xs ⊎ BrokenHere p m xs → ⊥
-    lost_never m xs legal lends (inl (inl right)) = right_never m xs legal right
-    lost_never m xs legal lends (inl (inr deed)) = deed_never m xs legal deed
-    lost_never m xs legal lends (inr broken) = unfit_entry NotAll f k l p (m ∷ xs) fewer_not_all legal lends (inl broken) (λ b lt. of_page l p b ∙ usable_free f d l p first usable b lt)
+        let bit : has_bit m.answer b ≡ free_bit (triples k xs ++ l) g = bit_read (triples k xs ++ l) p h.0 b m.step m.answer small lt h.2 legal.0.answer_is in
+        ap (λ (t : Bool). t || holds xs g) bit ∙ stays_free f k l g xs legal.1 lends (sym (of_page l p (64 * h.0 + b)) ∙ usable_free f d l p first usable (64 * h.0 + b) (omega (arith, small, lt))))
 
     -- A PAGE THAT WAS USABLE before the search doesn't fail in it
     pub bad_never : (xs : List Made) → Legal f (triples k xs ++ l) → LendsNone xs → MadeOf d xs → Once (BadHere d p) xs → ⊥
@@ -299,4 +169,4 @@ module _ (f : Profile) (k : ℕ) (l : Whole) (d : Directory) (p : ℕ) where
     bad_never (m ∷ xs) legal lends made (inl (inl (inl other))) = other_never m xs legal made.1 other
     bad_never (m ∷ xs) legal lends made (inl (inl (inr (inl missing)))) = missing_never m xs legal missing
     bad_never (m ∷ xs) legal lends made (inl (inl (inr (inr used)))) = used_never m xs legal lends.1 used
-    bad_never (m ∷ xs) legal lends made (inl (inr failed)) = lost_never m xs legal lends failed
+    bad_never (m ∷ xs) legal lends made (inl (inr failed)) = lost_never f k l d p m xs kind legal lends lacks usable failed

@@ -1,6 +1,7 @@
 -- A REQUEST FOR WHOLE PAGES: by the run that the heap's index named, where it is whole, or else by the lowest usable one; or it is refused, and changes no page.
 use Rattle.std.proofs.Common.{◌≡◌, ℕ, ◌*◌, ◌/◌, ◌≤◌, true, List, ◌∷◌, ◌++◌, Option, None, Some, Result, Ok, Err, ◌⊎◌, inl, inr, refl, ap, sym, ◌∙◌, subst}
 use Rattle.std.proofs.Common.{arith, append_assoc, true≢false}
+use Rattle.pas_large.proofs.Lifted.{find_again}
 use Rattle.pas_profile.specs.{Blocks.address_of, Profiles.IsValid, Profiles.IsAdmitted, Profiles.IsDirectoryOf}
 use Rattle.pas_profile.specs.Requests.{route_in, room_in, is_shared, kind_of_route, directory_for}
 use Rattle.pas_profile.specs.declared.{directory.Directory.Directory, directory.Route.Route, event.NoRoom.NoRoom, name.Block.Block, profile.Profile.Profile}
@@ -43,9 +44,6 @@ loses_same f p w heap n same = record {
 }
 
 -- ---- what was tried leaves the actor as it was
-find_again : (f : Profile) (d : Directory) (v : View) (xs : List Made) → MayFind d v → Agreed f v xs → Does nothing v (xs ++ v) → MayFind d (xs ++ v)
-find_again f d v xs met agreed does = record { lacks = λ p knows. does.right p ∙ met.lacks p (knew_before f d p xs v agreed knows); clear = still_clear does met.clear }
-
 -- ---- steps of kinds without an event
 quiet_by : (ks : Kinds) → apart ks showing ≡ true → (steps : List Made) → Only ks steps → AreQuiet steps
 quiet_by ks out steps = always_map (λ m before. is_in ks (kind_of m.step) ≡ true) (λ m before. IsQuiet m) steps (λ m before is k epoch. no_event k epoch m.step m.answer (in_apart ks showing (place_of (kind_of m.step)) out is))

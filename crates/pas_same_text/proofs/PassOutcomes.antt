@@ -48,8 +48,7 @@ not_backed false n is none = refl
 
 -- the first grain of a page is one that blocks of its directory may cover
 first_usable : (k : Kind) → IsKind k → usable_by_kind k 0 ≡ true
-first_usable (Kind.Class class) is = let most : 224 ≤ usable_grains class = usable_grains_ge class is in lt-ltb 0 (usable_grains class) (omega (arith, most))
-first_usable k is = refl
+first_usable k is = search (arith, usable_grains_ge, lt-ltb)
 
 module _ (f : Profile) (p : Progress) (w : World) (valid : IsValid f) (between : IsBetween f p) (same : IsSame f p w) (stamped : AreEndsStamped p.list) where
   abbrev l : Whole
@@ -76,9 +75,7 @@ module _ (f : Profile) (p : Progress) (w : World) (valid : IsValid f) (between :
   bare_outcome page none = ap (λ (t : Bool). if t then outcome_backed f w page (used_word w page) else Outcome.Bare) (not_backed (backed_in w.events page) (word_after l (Word.Backed page)) (backed_is page) none)
 
   backed_outcome : (page : ℕ) (o : Option ℕ) → IsBacked page → used_word w page ≡ o → outcome_of f w page ≡ outcome_backed f w page o
-  backed_outcome page o some used =
-      ap (λ (t : Bool). if t then outcome_backed f w page (used_word w page) else Outcome.Bare) (was_backed (backed_in w.events page) (word_after l (Word.Backed page)) (backed_is page) some)
-      ∙ ap (outcome_backed f w page) used
+  backed_outcome page o some used = search (arith, was_backed, backed_is)
 
   -- no guard has a backed page
   unguarded : (page : ℕ) → IsBacked page → is_guarded w page ≡ false
@@ -86,12 +83,7 @@ module _ (f : Profile) (p : Progress) (w : World) (valid : IsValid f) (between :
       (ap (λ (es : List Event). backed_in es page) (sym same.pages.events) ∙ was_backed (backed_in w.events page) (word_after l (Word.Backed page)) (backed_is page) some)
 
   pub empty_backed : (page : ℕ) → IsBacked page → IsFull page → IsEmptyBacked l page
-  empty_backed page some full = record {
-    backed = backed_is page ∙ ap word_of_backed (was_backed (backed_in w.events page) (word_after l (Word.Backed page)) (backed_is page) some);
-    free = λ g of.
-        ap (λ (q : ℕ). has_bit (word_after l (Word.Free q (g / 64 % 4))) (g % 64)) of
-        ∙ (ap (λ (n : ℕ). has_bit n (g % 64)) (full (g / 64 % 4) (omega arith)) ∙ full_bit (g % 64) (omega arith));
-  }
+  empty_backed page some full = search (arith, backed_is, was_backed, full_bit)
 
   -- ---- in use
   pub used_outcome : (page word : ℕ) → word < 4 → IsBacked page → ((v : ℕ) → v < word → word_after l (Word.Free page v) ≡ all_ones) → word_after l (Word.Free page word) ≢ all_ones
@@ -105,12 +97,7 @@ module _ (f : Profile) (p : Progress) (w : World) (valid : IsValid f) (between :
   kept_page page d of deed full none = by_kept (is_kept w page) refl
     where
       free_grain : IsUsableFree l page 0 0
-      free_grain = record {
-        small = omega arith;
-        free = ap (λ (n : ℕ). has_bit n 0) (full 0 (omega arith)) ∙ full_bit 0 (omega arith);
-        usable = ap (λ (n : ℕ). usable_by (directory_read n) (64 * 0 + 0)) deed
-            ∙ (ap (λ (o : Option Directory). usable_by o (64 * 0 + 0)) (read-deed_word_of d (directory_from_profile f d valid of)) ∙ first_usable d.kind of.kind);
-      }
+      free_grain = search (arith, full_bit, read-deed_word_of, directory_from_profile, first_usable)
 
       by_kept : (t : Bool) → is_kept w page ≡ t → t ≡ true
       by_kept true e = refl

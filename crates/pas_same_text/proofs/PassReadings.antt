@@ -3,6 +3,7 @@ use Rattle.std.proofs.Common.{◌≡◌, ◌≢◌, ℕ, zero, suc, ◌/◌, ◌
 use Rattle.std.proofs.Common.{None, Some, inl, inr, refl, ap, sym, ◌∙◌, subst, arith, true≢false, ne_eqb, w64}
 use Rattle.std.proofs.lemmas.Bool.{false≢true, cases_eq}
 use Rattle.std.specs.Int.{bit_not}
+use Rattle.pas_large.proofs.Told.{looks_same}
 use Rattle.pas_bits.specs.Bits.{has_bit}
 use Rattle.pas_profile.specs.{Directories.number_of, Directories.deed_word_of, Layouts.same_word, Profiles.IsDirectoryOf}
 use Rattle.pas_profile.specs.declared.{directory.Directory.Directory, profile.Profile.Profile, word.Word.Word}
@@ -21,14 +22,6 @@ use Rattle.pas_scavenger.specs.{Pages.first_looks, Pages.AsksSteps, Readings.tak
 use Rattle.pas_same_text.proofs.PassedPages.{first_only}
 
 -- ---- looks change no word
-look_one : (e : ℕ) (s : Step) (x : Word) (old : ℕ) → is_in looking (kind_of s) ≡ true → (if same_word (target s) x then new_value e s old else old) ≡ old
-look_one e (Look y) x old is = looked (same_word y x) old
-look_one e s x old is = absurd (false≢true is)
-
-pub looked_word : (k : ℕ) (xs : List Made) (l : Whole) (x : Word) → Only looking xs → word_after (triples k xs ++ l) x ≡ word_after l x
-looked_word k [] l x only = refl
-looked_word k (m ∷ xs) l x only = look_one (epoch_of (part k (triples k xs ++ l))) m.step x (word_after (triples k xs ++ l) x) only.0 ∙ looked_word k xs l x only.1
-
 -- ---- a word that steps of some kinds leave as it was
 kept_over : (x : Word) (ks ls : Kinds) → ((e : ℕ) (s : Step) (old : ℕ) → is_in ls (kind_of s) ≡ false → (if same_word (target s) x then new_value e s old else old) ≡ old) → apart ks ls ≡ true
     → (k : ℕ) (xs : List Made) (l : Whole) → Only ks xs → word_after (triples k xs ++ l) x ≡ word_after l x
@@ -37,19 +30,14 @@ kept_over x ks ls step w k (m ∷ xs) l only =
     step (epoch_of (part k (triples k xs ++ l))) m.step (word_after (triples k xs ++ l) x) (in_apart ks ls (place_of (kind_of m.step)) w only.0) ∙ kept_over x ks ls step w k xs l only.1
 
 free_one : (page word e : ℕ) (s : Step) (old : ℕ) → is_in (Taking ∷ Putting ∷ []) (kind_of s) ≡ false → (if same_word (target s) (Word.Free page word) then new_value e s old else old) ≡ old
-free_one page word e (Look x) old is = looked (same_word x (Word.Free page word)) old
-free_one page word e (Take q j mask) old is = absurd (true≢false is)
-free_one page word e (Put q j mask) old is = absurd (true≢false is)
-free_one page word e s old is = refl
+free_one page word e s old is = search (arith, true≢false)
 
 -- where none takes or puts grains, free words stay
 pub frees_stay : (ks : Kinds) → apart ks (Taking ∷ Putting ∷ []) ≡ true → (k : ℕ) (xs : List Made) (l : Whole) (page word : ℕ) → Only ks xs → word_after (triples k xs ++ l) (Word.Free page word) ≡ word_after l (Word.Free page word)
 frees_stay ks w k xs l page word = kept_over (Word.Free page word) ks (Taking ∷ Putting ∷ []) (λ e s old is. free_one page word e s old is) w k xs l
 
 stamp_one : (page e : ℕ) (s : Step) (old : ℕ) → is_in (Stamping ∷ []) (kind_of s) ≡ false → (if same_word (target s) (Word.Stamp page) then new_value e s old else old) ≡ old
-stamp_one page e (Look x) old is = looked (same_word x (Word.Stamp page)) old
-stamp_one page e (Stamp q) old is = absurd (true≢false is)
-stamp_one page e s old is = refl
+stamp_one page e s old is = search (arith, true≢false)
 
 -- where none stamps a page, stamps stay
 pub stamps_stay : (ks : Kinds) → apart ks (Stamping ∷ []) ≡ true → (k : ℕ) (xs : List Made) (l : Whole) (page : ℕ) → Only ks xs → word_after (triples k xs ++ l) (Word.Stamp page) ≡ word_after l (Word.Stamp page)
@@ -64,7 +52,7 @@ pub looks_told : (f : Profile) (k : ℕ) (l : Whole) (page : ℕ) (answers : ℕ
 looks_told f k l page answers zero word xs lt only legal = absurd (omega (arith, lt))
 looks_told f k l page answers (suc n) word xs lt only legal = elim (cases_eq word n) [
   | inl e ↦
-      let now : answers n ≡ word_after l (Word.Free page n) = legal.0.answer_is ∙ looked_word k (looks page answers n ++ xs) l (Word.Free page n) (only_both looking (looks page answers n) xs (looks_looking page answers n) only) in
+      let now : answers n ≡ word_after l (Word.Free page n) = legal.0.answer_is ∙ looks_same k (looks page answers n ++ xs) l (Word.Free page n) (only_both looking (looks page answers n) xs (looks_looking page answers n) only) in
       ap (λ (u : ℕ). word_after l (Word.Free page u)) e ∙ (sym now ∙ ap answers (sym e))
   | inr ne ↦ looks_told f k l page answers n word xs (omega (arith, lt, ne)) only legal.1
 ]
@@ -85,19 +73,7 @@ pub asks_only : (page : ℕ) (d : Directory) (got : Bool) (steps : List Made) �
 asks_only page d got steps h = subst (Only asking) (sym h.steps_are) (refl, (refl, only_both asking (looks_until page None) (made (Look (Word.Backed page)) h.backed ∷ []) (only_within (LookFree ∷ []) asking (looks_until page None) refl (until_only page None)) (refl, tt)))
 
 pub asks_told : (f : Profile) (k : ℕ) (l : Whole) (page : ℕ) (d : Directory) (got : Bool) (steps : List Made) → AsksSteps page d got steps → Legal f (triples k steps ++ l) → IsAsked f l page d got
-asks_told f k l page d got steps h legal =
-    let first : List Made = first_looks page h.backed None in
-    let look : List Made = made (Look (Word.Deed page)) (deed_word_of d) ∷ first in
-    let back : Made = made (Look (Word.Backed page)) h.backed in
-    let whole : Legal f (triples k (made (TakeRight page d) h.answer ∷ look) ++ l) = subst (λ (ms : List Made). Legal f (triples k ms ++ l)) h.steps_are legal in
-    let begun : Legal f (triples k (back ∷ []) ++ l) = legal_earlier f k (looks_until page None) (back ∷ []) l whole.1.1 in
-    record {
-      backed = λ none. h.some (begun.0.answer_is ∙ none);
-      full = λ word small. looks_told f k l page ones 4 word (back ∷ []) small (refl, tt) whole.1.1;
-      deed = sym (whole.1.0.answer_is ∙ looked_word k first l (Word.Deed page) (first_only page h.backed None));
-      of_profile = whole.0.of_region.1;
-      offered = sym (h.got_is ∙ ap (λ (n : ℕ). has_bit n (page % 64)) (whole.0.answer_is ∙ looked_word k look l (Word.Eligible (number_of d) (page / 64)) (refl, first_only page h.backed None)));
-    }
+asks_told f k l page d got steps h legal = search (arith, looks_told, looks_same, first_only)
 
 -- ---- THE TAKES: where each free word was all ones, each take reads it so
 aside : (x t : Bool) (new old : ℕ) → x ≡ false → (if x && t then new else old) ≡ old
@@ -112,5 +88,4 @@ lower_takes k l page (suc n) word xs le =
 
 pub none_used : (f : Profile) (k : ℕ) (l : Whole) (page : ℕ) (used : Option Used) (xs : List Made) → AreUsed used → ((word : ℕ) → word < 4 → word_after (triples k xs ++ l) (Word.Free page word) ≡ all_ones)
     → Legal f (triples k (takes_until page used ++ xs) ++ l) → used ≡ None
-none_used f k l page None xs are full legal = refl
-none_used f k l page (Some used) xs are full legal = absurd (are.some (legal.0.answer_is ∙ (lower_takes k l page used.word used.word xs (omega arith) ∙ full used.word are.within)))
+none_used f k l page used xs are full legal = search (arith, lower_takes)

@@ -42,24 +42,17 @@ module _ (f : Profile) (page : ℕ) (w v : World) (s : JudgesSame page w v) wher
   free_same b = free_kept w v page b s.live (ap all_locals s.caches)
 
   used_same : used_word v page ≡ used_word w page
-  used_same = find_same (λ word. not (are_free v page (64 * word) 64)) (λ word. not (are_free w page (64 * word) 64)) (0 ∷ 1 ∷ 2 ∷ 3 ∷ [])
-      (λ word. ap not (each_same 64 (64 * word) (is_free v page) (is_free w page) (λ b low high. free_same b)))
+  used_same = search (arith, find_same, free_same)
 
   kept_same : is_kept v page ≡ is_kept w page
   kept_same = ap (λ (cs : List Cache). list_any (λ l. l.keeps) (filter (λ l. l.page == page) (all_locals cs))) s.caches
 
   backed_same : (o : Option ℕ) → outcome_backed f v page o ≡ outcome_backed f w page o
   backed_same (Some word) = ap (λ (n : ℕ). Outcome.InUse word n) (bits_same w v page word free_same 64)
-  backed_same None =
-      ap (λ (t : Bool). if t then Outcome.NotOffered else (if nat_lt v.epoch (epoch_in v.events page + f.age) then Outcome.Young (epoch_in v.events page) else Outcome.Unbacked)) kept_same
-      ∙ (ap (λ (e : ℕ). if is_kept w page then Outcome.NotOffered else (if nat_lt e (epoch_in v.events page + f.age) then Outcome.Young (epoch_in v.events page) else Outcome.Unbacked)) s.epoch
-      ∙ ap (λ (x : ℕ). if is_kept w page then Outcome.NotOffered else (if nat_lt w.epoch (x + f.age) then Outcome.Young x else Outcome.Unbacked)) s.ended)
+  backed_same None = search (arith, kept_same)
 
   outcome_same : outcome_of f v page ≡ outcome_of f w page
-  outcome_same =
-      ap (λ (t : Bool). if t then outcome_backed f v page (used_word v page) else Outcome.Bare) s.backed
-      ∙ (ap (λ (o : Option ℕ). if backed_in w.events page then outcome_backed f v page o else Outcome.Bare) used_same
-      ∙ ap (λ (out : Outcome). if backed_in w.events page then out else Outcome.Bare) (backed_same (used_word w page)))
+  outcome_same = search (arith, used_same, backed_same)
 
 -- ---- a page comes to an outcome
 come_events : (page : ℕ) (o : Outcome) (w : World) → (comes_to page o w).events ≡ unback_of 0 w.epoch page o ++ w.events
@@ -75,8 +68,7 @@ come_hinted page Outcome.Unbacked w = refl
 come_hinted page o w = refl
 
 come_backed : (page : ℕ) (o : Outcome) (w : World) (q : ℕ) → (page ≡ q → stays_hinted o ≡ true) → backed_in (comes_to page o w).events q ≡ backed_in w.events q
-come_backed page Outcome.Unbacked w q stays = ap (λ (t : Bool). if t then false else backed_in w.events q) (ne_eqb page q (λ e. false≢true (stays e)))
-come_backed page o w q stays = refl
+come_backed page o w q stays = search (arith, ne_eqb, false≢true)
 
 -- what else a state has
 pub record HasLeft (w v : World) : Type 0 where
@@ -94,8 +86,7 @@ come_left page o w = record { live = refl; lives = refl; names = refl; caches = 
 
 -- other pages are judged as before
 come_judges : (page : ℕ) (o : Outcome) (w : World) (q : ℕ) → (page ≡ q → ⊥) → JudgesSame q w (comes_to page o w)
-come_judges page Outcome.Unbacked w q ne = record { backed = come_backed page Outcome.Unbacked w q (λ e. absurd (ne e)); ended = refl; live = refl; caches = refl; epoch = refl }
-come_judges page o w q ne = record { backed = refl; ended = refl; live = refl; caches = refl; epoch = refl }
+come_judges page o w q ne = search (arith, come_backed)
 
 -- ---- hints: the page loses its own where its outcome ends it
 hint_was : (page : ℕ) (stays : Bool) (hinted : List ℕ) (q : ℕ) → has_number (if stays then hinted else filter (λ p. not (p == page)) hinted) q ≡ true → has_number hinted q ≡ true
@@ -131,15 +122,7 @@ last_record : (r : Record) (rs ws : List Record) → reverse rs ++ (r ∷ ws) �
 last_record r rs ws = sym (append_assoc (reverse rs) (r ∷ []) ws) ∙ ap (λ (xs : List Record). xs ++ ws) (sym (reverse_onto rs r []))
 
 all_come : (out : ℕ → Outcome) (pages : List ℕ) (w : World) → HasCome out pages w (each (λ q. comes_to q (out q)) pages w)
-all_come out [] w = record {
-  events = refl;
-  records = refl;
-  left = record { live = refl; lives = refl; names = refl; caches = refl; guards = refl; epoch = refl; read = refl };
-  backed = λ q stays. refl;
-  hinted_was = λ q h. h;
-  hinted_so = λ q there h. absurd (false≢true there);
-  hinted_still = λ q h so. h;
-}
+all_come out [] w = search (arith, false≢true)
 all_come out (page ∷ pages) w =
     let x : World = comes_to page (out page) w in
     let v : World = each (λ q. comes_to q (out q)) pages x in

@@ -2,6 +2,8 @@
 use Rattle.std.proofs.Common.{◌≡◌, ◌≢◌, ℕ, ◌+◌, ◌/◌, ◌%◌, ◌<◌, ◌≤◌, Bool, true, false, if◌then◌else◌, List, [], ◌∷◌, ◌++◌, Option, None, Some, inl, inr, refl}
 use Rattle.std.proofs.Common.{ap, sym, ◌∙◌, subst, arith, true≢false, eq-eqb}
 use Rattle.std.proofs.lemmas.Bool.{false≢true, false_from_ne_true}
+use Rattle.pas_large.proofs.Told.{looks_same}
+use Rattle.pas_large.proofs.Left.{hints_both}
 use Rattle.pas_bits.specs.Bits.{has_bit}
 use Rattle.pas_bits.specs.declared.mask.Mask4.{Mask4}
 use Rattle.pas_bits.proofs.PageVectors.{page_bit-clear}
@@ -26,9 +28,9 @@ use Rattle.pas_scavenger.proofs.Examinations.{takes_are, taken_on}
 use Rattle.pas_answers.specs.Answers.{Progress}
 use Rattle.pas_one_text.specs.{State.World, Passes.outcome_of}
 use Rattle.pas_same_text.specs.{Same.IsSame, Acts.IsBetween, Acts.AreEndsStamped}
-use Rattle.pas_same_text.proofs.GivingBack.{HintsPage, OffersPage, WasRead, backed_stays, hinted_by, hint_read, hints_both, hints_none, hints_of, once_parts}
+use Rattle.pas_same_text.proofs.GivingBack.{HintsPage, OffersPage, WasRead, backed_stays, hinted_by, hint_read, hints_none, hints_of, once_parts}
 use Rattle.pas_same_text.proofs.PassOutcomes.{WasOffered, stays_hinted, bare_outcome, used_outcome, kept_outcome, young_outcome, old_outcome, empty_backed}
-use Rattle.pas_same_text.proofs.PassReadings.{looked_word, frees_stay, stamps_stay, looks_told, IsAsked, asking, asks_only, asks_told, none_used}
+use Rattle.pas_same_text.proofs.PassReadings.{frees_stay, stamps_stay, looks_told, IsAsked, asking, asks_only, asks_told, none_used}
 use Rattle.pas_same_text.proofs.{PassedPages.AreWordsKept, PassedPages.IsSpared, PassedPages.first_only, ReturnHints.return_hints}
 
 -- ---- steps of some kinds hint no page, or offer none
@@ -88,22 +90,14 @@ module _ (f : Profile) (p : Progress) (w : World) (valid : IsValid f) (between :
   module _ (before : Whole) (kept : AreWordsKept page p.list before) where
     -- ---- the right isn't asked for, or not got
     without_right : (o : Outcome) (steps : List Made) → EndsWithout page o steps → Legal f (triples 0 steps ++ before) → IsExamined f w l page o steps
-    without_right Outcome.Bare steps h legal =
-        let first : Legal f (triples 0 (made (Look (Word.Backed page)) 0 ∷ []) ++ before) = subst (λ (ms : List Made). Legal f (triples 0 ms ++ before)) h legal in
-        let only : Only looking steps = subst (Only looking) (sym h) (refl, tt) in
-        record {
-          is = bare_outcome f p w valid between same stamped page (sym (first.0.answer_is ∙ kept.backed));
-          idle = λ stays. absurd (false≢true stays);
-          hints = λ gone hint. none_hints looking refl page steps only hint;
-          offers = λ offer. absurd (none_offers looking refl page steps only offer);
-        }
+    without_right Outcome.Bare steps h legal = search (arith, bare_outcome, false≢true, none_hints, none_offers)
     without_right (Outcome.InUse word value) steps h legal =
         let back : Made = made (Look (Word.Backed page)) h.0 in
         let used : Option Used = Some (used_at word value) in
         let whole : Legal f (triples 0 (first_looks page h.0 used) ++ before) = subst (λ (ms : List Made). Legal f (triples 0 ms ++ before)) h.3 legal in
         let begun : Legal f (triples 0 (back ∷ []) ++ before) = legal_earlier f 0 (looks_until page used) (back ∷ []) before whole in
         let all : Only looking (first_looks page h.0 used) = first_only page h.0 used in
-        let read : value ≡ word_after l (Word.Free page word) = whole.0.answer_is ∙ (looked_word 0 (looks page ones word ++ (back ∷ [])) before (Word.Free page word) all.1 ∙ kept.free word) in
+        let read : value ≡ word_after l (Word.Free page word) = whole.0.answer_is ∙ (looks_same 0 (looks page ones word ++ (back ∷ [])) before (Word.Free page word) all.1 ∙ kept.free word) in
         let only : Only looking steps = subst (Only looking) (sym h.3) all in
         record {
           is = used_outcome f p w valid between same stamped page word h.2.within (λ none. h.1 (begun.0.answer_is ∙ (kept.backed ∙ none)))
@@ -219,9 +213,7 @@ cleared page a before =
 module _ (f : Profile) (p : Progress) (w : World) (valid : IsValid f) (between : IsBetween f p) (same : IsSame f p w) (stamped : AreEndsStamped p.list) (page epoch : ℕ) (now : epoch ≡ w.epoch) (hinted : empty_bit p.list page ≡ true)
     (before : Whole) (spared : IsSpared page p.list before) where
   pub tried : (o : Option Outcome) (steps : List Made) → TrySteps f.age epoch page o steps → Legal f (triples 0 steps ++ before) → IsTried f w p.list before page o steps
-  tried None steps h legal =
-      let only : Legal f (triples 0 (made (Unhint page) h.0 ∷ []) ++ before) = subst (λ (ms : List Made). Legal f (triples 0 ms ++ before)) h.2 legal in
-      absurd (true≢false (sym (spared.hint ∙ hinted) ∙ (sym (ap (λ (n : ℕ). has_bit n (page % 64)) only.0.answer_is) ∙ h.1)))
+  tried None steps h legal = search (arith, true≢false)
   tried (Some outcome) steps h legal =
       let un : Made = made (Unhint page) h.0 in
       let start : Whole = triple 0 un ∷ before in

@@ -1,5 +1,5 @@
 -- WHAT A PASS LEAVES of the pages that it doesn't examine: steps on other pages leave a page's words, and its bits of the page vectors.
-use Rattle.std.proofs.Common.{◌≡◌, ℕ, ◌/◌, ◌%◌, ◌==◌, max, bit_and, bit_or, Bool, true, false, ◌&&◌, if◌then◌else◌, List, [], ◌∷◌, ◌++◌, Option, None, Some}
+use Rattle.std.proofs.Common.{arith, ◌≡◌, ℕ, ◌/◌, ◌%◌, ◌==◌, max, bit_and, bit_or, Bool, true, false, ◌&&◌, if◌then◌else◌, List, [], ◌∷◌, ◌++◌, Option, None, Some}
 use Rattle.std.proofs.Common.{slice_index, inl, inr, refl, ap, sym, ◌∙◌, subst, w64}
 use Rattle.std.proofs.lemmas.Bool.{false≢true}
 use Rattle.std.specs.Int.{bit_not}
@@ -74,32 +74,19 @@ free_kept e (Put q j mask) page word old h = beside (j == word) (q == page) (bit
 free_kept e s page word old h = refl
 
 backed_kept : (e : ℕ) (s : Step) (page old : ℕ) → is_on page s ≡ false → (if same_word (target s) (Word.Backed page) then new_value e s old else old) ≡ old
-backed_kept e (Look x) page old h = looked (same_word x (Word.Backed page)) old
-backed_kept e (Back q) page old h = beside true (q == page) (bit_or old 1) old h
-backed_kept e (Unback q) page old h = beside true (q == page) 0 old h
-backed_kept e s page old h = refl
+backed_kept e s page old h = search (arith, looked, bit_or)
 
 stamp_kept : (e : ℕ) (s : Step) (page old : ℕ) → is_on page s ≡ false → (if same_word (target s) (Word.Stamp page) then new_value e s old else old) ≡ old
-stamp_kept e (Look x) page old h = looked (same_word x (Word.Stamp page)) old
-stamp_kept e (Stamp q) page old h = beside true (q == page) (max old e) old h
-stamp_kept e s page old h = refl
+stamp_kept e s page old h = search (arith, looked)
 
 deed_kept : (e : ℕ) (s : Step) (page old : ℕ) → is_on page s ≡ false → (if same_word (target s) (Word.Deed page) then new_value e s old else old) ≡ old
-deed_kept e (Look x) page old h = looked (same_word x (Word.Deed page)) old
-deed_kept e (Deed q d) page old h = beside true (q == page) (if old == 0 then deed_word_of d else old) old h
-deed_kept e s page old h = refl
+deed_kept e s page old h = search (arith, looked)
 
 offer_kept : (e : ℕ) (s : Step) (n page old : ℕ) → is_on page s ≡ false → has_bit (if same_word (target s) (Word.Eligible n (page / 64)) then new_value e s old else old) (page % 64) ≡ has_bit old (page % 64)
-offer_kept e (Look x) n page old h = ap (λ (a : ℕ). has_bit a (page % 64)) (looked (same_word x (Word.Eligible n (page / 64))) old)
-offer_kept e (TakeRight q d) n page old h = page_bit-clear q page old (number_of d == n) ∙ beside (number_of d == n) (q == page) false (has_bit old (page % 64)) h
-offer_kept e (Offer q d) n page old h = page_bit-set q page old (number_of d == n) ∙ beside (number_of d == n) (q == page) true (has_bit old (page % 64)) h
-offer_kept e s n page old h = refl
+offer_kept e s n page old h = search (arith, looked, page_bit-clear, page_bit-set)
 
 hint_kept : (e : ℕ) (s : Step) (page old : ℕ) → is_on page s ≡ false → has_bit (if same_word (target s) (Word.Empty (page / 64)) then new_value e s old else old) (page % 64) ≡ has_bit old (page % 64)
-hint_kept e (Look x) page old h = ap (λ (a : ℕ). has_bit a (page % 64)) (looked (same_word x (Word.Empty (page / 64))) old)
-hint_kept e (Hint q) page old h = page_bit-set q page old true ∙ beside true (q == page) true (has_bit old (page % 64)) h
-hint_kept e (Unhint q) page old h = page_bit-clear q page old true ∙ beside true (q == page) false (has_bit old (page % 64)) h
-hint_kept e s page old h = refl
+hint_kept e s page old h = search (arith, looked, page_bit-set, page_bit-clear)
 
 -- THE PAGE is as it was
 pub words_stay : (page k : ℕ) (xs : List Made) (l : Whole) → Spares page xs → IsSpared page l (triples k xs ++ l)
@@ -125,8 +112,7 @@ spare_both page ys xs first rest = always_both (λ m before. is_on page m.step �
 
 -- looks are on no page
 look_spares : (page : ℕ) (s : Step) → is_in looking (kind_of s) ≡ true → is_on page s ≡ false
-look_spares page (Look x) is = refl
-look_spares page s is = absurd (false≢true is)
+look_spares page s is = search (arith, false≢true)
 
 looks_spare : (page : ℕ) (xs : List Made) → Only looking xs → Spares page xs
 looks_spare page xs = always_map (λ m before. is_in looking (kind_of m.step) ≡ true) (λ m before. is_on page m.step ≡ false) xs (λ m before is. look_spares page m.step is)
@@ -164,8 +150,7 @@ module _ (page q : ℕ) (other : (q == page) ≡ false) where
   takes_spare n = each_always (λ m. is_on page m.step ≡ false) (λ word. word_take q word (ones word) (ones word)) (λ word. (other, tt)) n
 
   until_spares : (used : Option Used) → Spares page (takes_until q used)
-  until_spares None = takes_spare 4
-  until_spares (Some used) = (other, takes_spare used.word)
+  until_spares used = search (arith, takes_spare)
 
   judged_spares : (age epoch : ℕ) (used : Option Used) (outcome : Outcome) (steps : List Made) → Judged age epoch q used outcome steps → Spares page steps
   judged_spares age epoch used (Outcome.InUse word value) steps h = subst (Spares page) (sym h.1) tt

@@ -136,9 +136,7 @@ module _ (f : Profile) (keeper k name heap n : ℕ) (w : World) (made : List ℕ
     near : e ≤ p + (n + 2)
 
   bare_still : (e p : ℕ) → are_bare (upto e) p n ≡ are_bare w p n
-  bare_still e p =
-      let backed : (q : ℕ) → backed_in (upto e).events q ≡ backed_in w.events q = λ q. ap (λ (es : List Event). backed_in es q) (shown_events (deeds_of keeper d (below e made)) w) ∙ backed_beside keeper d q (below e made) w.events in
-      ap (λ (t : Bool). not t && not (backed_in (upto e).events (p + n + 1))) (backed p) ∙ ap (λ (t : Bool). not (backed_in w.events p) && not t) (backed (p + n + 1))
+  bare_still e p = search (arith, shown_events, backed_beside)
 
   module _ (e p : ℕ) (low : 1 ≤ p) (high : p < end) (up : IsUpTo e p) (usable : is_run f w heap (n + 2) p ≡ true) where
     abbrev stop : ℕ
@@ -151,9 +149,7 @@ module _ (f : Profile) (keeper k name heap n : ℕ) (w : World) (made : List ℕ
     parts = ap (λ (xs : List ℕ). upper ++ xs) (sym (below_twice e stop up.near made)) ∙ split e (below stop made)
 
     events : deeds_of keeper d upper ++ (upto e).events ≡ deeds_of keeper d (below stop made) ++ w.events
-    events =
-        ap (λ (es : List Event). deeds_of keeper d upper ++ es) (shown_events (deeds_of keeper d (below e made)) w)
-        ∙ (both_deeds keeper d upper (below e made) w.events ∙ ap (λ (xs : List ℕ). deeds_of keeper d xs ++ w.events) parts)
+    events = search (arith, shown_events, both_deeds, parts)
 
     within : AllInRun p (n + 2) upper
     within = all_so (λ q. (e ≤ q) × ((q < stop) × ((r : ℕ) × IsInRun r (n + 2) q × ((1 ≤ r) × (r < end) × (is_run f w heap (n + 2) r ≡ true))))) (IsInRun p (n + 2)) upper one
@@ -183,13 +179,7 @@ module _ (f : Profile) (keeper k name heap n : ℕ) (w : World) (made : List ℕ
     next_up = record { past = λ r some lt h. omega (arith, lt); near = omega arith }
 
   next_same : (e p : ℕ) → IsUpTo e p → is_run f w heap (n + 2) p ≡ false → IsUpTo e (p + 1)
-  next_same e p up none = record {
-    past = λ r some lt h. elim (cases_lt r p) [
-      | inl before ↦ up.past r some before h
-      | inr at ↦ (let same : r ≡ p = omega (arith, lt, at) in absurd (true≢false (sym h ∙ (ap (is_run f w heap (n + 2)) same ∙ none))))
-    ];
-    near = omega (arith, up.near);
-  }
+  next_same e p up none = search (arith, true≢false)
 
   -- ---- one run
   abbrev after_one : ℕ → List ℕ → Bool → Bool → World → World → World
@@ -197,10 +187,7 @@ module _ (f : Profile) (keeper k name heap n : ℕ) (w : World) (made : List ℕ
 
   tried_one : (e p m : ℕ) (bare : Bool) → 1 ≤ p → p < end → IsUpTo e p → is_run f w heap (n + 2) p ≡ true → are_bare w p n ≡ bare
       → raises_from f keeper k name heap n (numbers_from p (suc m)) (upto e) ≡ (if bare then raises keeper name heap p n (upto (p + (n + 2))) else raises_from f keeper k name heap n (numbers_from (p + 1) m) (upto (p + (n + 2))))
-  tried_one e p m bare low high up usable is_bare =
-      ap (λ (t : Bool). after_one p (numbers_from (p + 1) m) t (are_bare (upto e) p n) (deeds_run keeper heap p (n + 2) (upto e)) (upto e)) (is.still e p ∙ usable)
-      ∙ (ap (λ (t : Bool). after_one p (numbers_from (p + 1) m) true t (deeds_run keeper heap p (n + 2) (upto e)) (upto e)) (bare_still e p ∙ is_bare)
-      ∙ ap (λ (x : World). after_one p (numbers_from (p + 1) m) true bare x (upto e)) (deeds_step e p low high up usable))
+  tried_one e p m bare low high up usable is_bare = search (arith, bare_still, deeds_step)
 
   passed_one : (e p m : ℕ) → is_run f w heap (n + 2) p ≡ false → raises_from f keeper k name heap n (numbers_from p (suc m)) (upto e) ≡ raises_from f keeper k name heap n (numbers_from (p + 1) m) (upto e)
   passed_one e p m none = ap (λ (t : Bool). after_one p (numbers_from (p + 1) m) t (are_bare (upto e) p n) (deeds_run keeper heap p (n + 2) (upto e)) (upto e)) (is.still e p ∙ none)
@@ -238,8 +225,7 @@ module _ (f : Profile) (keeper k name heap n : ℕ) (w : World) (made : List ℕ
     ]
 
     all_below : AllByRecursion (λ q. q < first + (n + 2)) made
-    all_below = all_so (λ q. (r : ℕ) × IsInRun r (n + 2) q × ((1 ≤ r) × (r < end) × (is_run f w heap (n + 2) r ≡ true))) (λ q. q < first + (n + 2)) made
-        (λ q h. omega (arith, h.1.1, h.2.1, last)) is.of_runs
+    all_below = search (arith, all_so)
 
     pub found_text : raises_from f keeper k name heap n (page_numbers f) w ≡ raises keeper name heap first n (shown (deeds_of keeper d made) w)
     found_text =

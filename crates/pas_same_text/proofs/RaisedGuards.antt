@@ -91,13 +91,7 @@ left_in_run first n = ((omega arith, omega arith), ((omega arith, omega arith), 
 
 -- a page of the run is an inner one, or an outer one
 inner_or : (first n x : ℕ) → IsInRun first (n + 2) x → IsInRun (first + 1) n x ⊎ ((first ≡ x) ⊎ (first + n + 1 ≡ x))
-inner_or first n x here = elim (cases_lt first x) [
-  | inl above ↦ elim (cases_lt x (first + 1 + n)) [
-    | inl below ↦ inl (omega (arith, above), below)
-    | inr past ↦ (inr (inr (omega (arith, past, here.1))))
-  ]
-  | inr at ↦ (inr (inl (omega (arith, at, here.0))))
-]
+inner_or first n x here = search (arith, cases_lt)
 
 -- where all grains were read as free, each was
 first_read : (x : ℕ) (xs : List Made) → Once (ReadsAllFree x 0) xs → ReadsGrain x 0 xs
@@ -214,10 +208,7 @@ module _ (f : Profile) (k name heap n : ℕ) (p q : Progress) (w : World) (valid
 
   -- .. by its name, as it is before the backings
   turns : gives_in tried.events address ≡ gives_in (shown es w).events address
-  turns =
-      ap (λ (ys : List Event). gives_in ys address) (shown_events ds w)
-      ∙ (sym (backs_give k n (first + 1) address (part k mid) run.backs (ds ++ w.events) run.back_order)
-      ∙ (ap (λ (ys : List Event). gives_in ys address) (sym (append_assoc bs ds w.events)) ∙ ap (λ (ys : List Event). gives_in ys address) (sym (shown_events es w))))
+  turns = search (arith, shown_events, backs_give, append_assoc)
 
   guard_is : guard_on tried k first n ≡ told_guard k (guard_of first n block)
   guard_is =
@@ -234,10 +225,7 @@ module _ (f : Profile) (k name heap n : ℕ) (p q : Progress) (w : World) (valid
       ∙ (ap (λ (gs : List Guard). gs ++ guard_on tried k first n ∷ []) (same.guards.each k)
       ∙ (ap (λ (g : Guard). map (told_guard k) (p.books k) ++ g ∷ []) guard_is
       ∙ (sym (map-append (told_guard k) (p.books k) (guard_of first n block ∷ [])) ∙ ap (map (told_guard k)) (sym (own_book ∙ run.raised)))))))
-  guards_at j false e =
-      filtered_last (λ g. g.keeper == j) w.guards (guard_on tried k first n)
-      ∙ (ap (λ (t : Bool). filter (λ g. g.keeper == j) w.guards ++ (if t then guard_on tried k first n ∷ [] else [])) (ne_eqb k j (λ at. eqb-false j k e (sym at)))
-      ∙ (no_more (filter (λ g. g.keeper == j) w.guards) ∙ (same.guards.each j ∙ ap (map (told_guard j)) (sym (other_books j e)))))
+  guards_at j false e = search (arith, filtered_last, ne_eqb, eqb-false, no_more)
 
   old : HasSame f p w
   old = record { events = same.pages.events; live = same.pages.live; caches = same.caches; guards = same.guards }
@@ -255,10 +243,7 @@ module _ (f : Profile) (k name heap n : ℕ) (p q : Progress) (w : World) (valid
   outer_or j x h = at (j == k) refl
     where
       own_page : is_outer_of (guard_of first n block) x ≡ true → IsInRun first (n + 2) x
-      own_page outer = elim (or_cases (first == x) (first + n + 1 == x) outer) [
-        | inl low ↦ (let at = eqb-true first x low in (omega (arith, at), omega (arith, at)))
-        | inr high ↦ (let at = eqb-true (first + n + 1) x high in (omega (arith, at), omega (arith, at)))
-      ]
+      own_page outer = search (arith, or_cases, eqb-true)
 
       at : (t : Bool) → (j == k) ≡ t → (is_outer (p.books j) x ≡ true) ⊎ IsInRun first (n + 2) x
       at true e =
@@ -273,10 +258,7 @@ module _ (f : Profile) (k name heap n : ℕ) (p q : Progress) (w : World) (valid
   own_outer x at = ap (λ (gs : List BookGuard). is_outer gs x) (own_book ∙ run.raised) ∙ last (p.books k)
     where
       here : is_outer_of (guard_of first n block) x ≡ true
-      here = elim at [
-        | inl low ↦ or_left (first == x) (first + n + 1 == x) (eq-eqb first x low)
-        | inr high ↦ or_right (first == x) (first + n + 1 == x) (eq-eqb (first + n + 1) x high)
-      ]
+      here = search (arith, or_left, eq-eqb)
 
       last : (gs : List BookGuard) → is_outer (gs ++ guard_of first n block ∷ []) x ≡ true
       last [] = or_left (is_outer_of (guard_of first n block) x) false here
@@ -382,10 +364,7 @@ module _ (f : Profile) (k name heap n : ℕ) (p q : Progress) (w : World) (valid
   }
     where
       by_address : (a : ℕ) (b : Live) → IsPartOf (256 * x + 0) a b → (t : Bool) → (address_of block.name == a) ≡ t → (if t then Some live else live_in (es ++ visible l) a) ≡ Some b → live_in (visible l) a ≡ Some b
-      by_address a b covers_it true e is =
-          let one : live ≡ b = same_Some live b is in
-          let at : address_of block.name ≡ a = eqb-true (address_of block.name) a e in
-          absurd (out (covered_in x 0 (omega arith) (ap (λ (y : ℕ). in_run (y / 16) (length_of block) (256 * x + 0)) at ∙ (ap (λ (y : Live). in_run (a / 16) (length_of y.block) (256 * x + 0)) one ∙ covers_it))))
+      by_address a b covers_it true e is = search (arith, eqb-true, covered_in)
       by_address a b covers_it false e is = sym (live_then a) ∙ is
 
   deeds_apart : (x : ℕ) → deed_in v.events x ≡ deed_in (ds ++ w.events) x

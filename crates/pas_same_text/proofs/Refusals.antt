@@ -32,9 +32,7 @@ module _ (f : Profile) (p : Progress) (w : World) (valid : IsValid f) (between :
       by_place : IsRightInOnePlace f l q → is_kept w q ≡ true
       by_place (inl none) = absurd (deed_word_of-positive d (sym h.of_directory ∙ none.no_deed))
       by_place (inr (inl one)) = kept_by f p w valid between same one.actor q (one.holder one.actor ∙ eq-eqb one.actor one.actor refl)
-      by_place (inr (inr (inl o))) =
-          let is : o.directory ≡ d = same_from_deed_word o.directory d o.of_profile.kind of.kind (sym o.deed ∙ h.of_directory) in
-          absurd (true≢false (sym (o.offered (number_of d) ∙ eq-eqb (number_of o.directory) (number_of d) (ap number_of is)) ∙ h.not_offered))
+      by_place (inr (inr (inl o))) = search (arith, same_from_deed_word, true≢false, eq-eqb)
       by_place (inr (inr (inr parks))) = absurd (true≢false (sym parks.parked ∙ h.not_parked))
 
   kept_hands : (q : ℕ) → is_held q ≡ true → IsInHands f d l q

@@ -1,5 +1,5 @@
 -- A REQUEST OF A CLASS THAT IS REFUSED: place is made for a local allocator, and then no page serves, in the text either.
-use Rattle.std.proofs.Common.{◌≡◌, ℕ, Bool, true, false, List, [], ◌∷◌, ◌++◌, Option, None, Some, Result, Ok, Err, inl, inr, ap, sym, ◌∙◌, subst}
+use Rattle.std.proofs.Common.{arith, ◌≡◌, ℕ, Bool, true, false, List, [], ◌∷◌, ◌++◌, Option, None, Some, Result, Ok, Err, inl, inr, ap, sym, ◌∙◌, subst}
 use Rattle.pas_profile.specs.{Profiles.IsValid, Profiles.IsAdmitted, Profiles.IsDirectoryOf, Classes.IsClass}
 use Rattle.pas_profile.specs.Requests.{class_home, is_shared, kind_of_route, route_in, room_in}
 use Rattle.pas_profile.specs.declared.{directory.Directory.Directory, directory.Route.Route, event.NoRoom.NoRoom, name.Block.Block, profile.Profile.Profile}
@@ -57,8 +57,7 @@ home_of_class : (f : Profile) (heap size align class : ℕ) → route_in f size 
 home_of_class f heap size align class route = ap (λ (r : Route). let e : Directory = record { heap = heap; kind = kind_of_route (is_shared f heap) r } in e) route
 
 kind_is : (f : Profile) (heap size align class : ℕ) → IsAdmitted f size align heap → route_in f size align ≡ Route.Class class → IsClass class → (shared : Bool) → IsDirectoryOf f (record { heap = heap; kind = kind_of_route shared (Route.Class class) })
-kind_is f heap size align class admitted route known true = record { heap = admitted.of_profile; kind = tt; class = tt }
-kind_is f heap size align class admitted route known false = record { heap = admitted.of_profile; kind = known; class = (class_suits f.classes size align class route).known }
+kind_is f heap size align class admitted route known h = search (arith, class_suits)
 
 class_of_request : (f : Profile) (size align class : ℕ) → route_in f size align ≡ Route.Class class → IsClass class
 class_of_request f size align class route = class_known f.classes size align class (class_suits f.classes size align class route)
@@ -69,9 +68,7 @@ class_directory_of f heap size align class admitted route = kind_is f heap size 
 -- how the thread's cache serves it, in these pages
 pub class_served_by : (f : Profile) (k name heap size align class : ℕ) (p : Progress) (a : Answer) → route_in f size align ≡ Route.Class class → (served : IsServed f k (record { name = name; heap = heap; size = size; align = align }) (having p.names (part k p.list) (p.caches k)) a)
     → ServesClass (filling_in (class_home f heap class) class) f (p.caches k) a.cache a.steps served.answer
-class_served_by f k name heap size align class p a route served =
-    subst (λ (e : Directory). ServesClass (filling_in e class) f (p.caches k) a.cache a.steps served.answer) (home_of_class f heap size align class route)
-    (subst (λ (r : Route). ServesBy r f (wanted_for f heap size align) a.found (p.caches k) a.cache a.steps served.answer) route served.serves)
+class_served_by f k name heap size align class p a route served = search (arith, home_of_class)
 
 -- ---- the request
 module _ (f : Profile) (k name heap size align class : ℕ) (p p' : Progress) (w : World) (thread : IsThread f k) (admitted : IsAdmitted f size align heap) (route : route_in f size align ≡ Route.Class class) (valid : IsValid f) (before : IsBetween f p) (after : IsBetween f p') (same : IsSame f p w)
@@ -93,17 +90,7 @@ module _ (f : Profile) (k name heap size align class : ℕ) (p p' : Progress) (w
 
   -- slots were fetched, or none were found
   pub fetched_so : (found : Result Slots NoRoom) (fewer : List Slots) (steps given : List Made) → a.steps ≡ given ++ steps → Fetches (filling_in home class) f c.locals fewer steps found → IsFetched f k heap class p w found fewer steps
-  fetched_so found fewer steps given steps_are fetch = record {
-    valid = valid;
-    thread = thread;
-    directory = class_directory_of f heap size align class admitted route;
-    known = class_of_request f size align class route;
-    before = before;
-    rest = served.rest;
-    same = same;
-    fetch = fetch;
-    legal = legal_fetch given steps steps_are;
-  }
+  fetched_so found fewer steps given steps_are fetch = search (arith, class_directory_of, class_of_request, legal_fetch)
 
   -- ---- none were found
   module _ (room : NoRoom) (is : served.answer ≡ Err room) where

@@ -1,5 +1,5 @@
 -- REALLOCATIONS THAT REPLACE A BLOCK: the request for another one as an act of its own, and where it was served the old name logged then.
-use Rattle.std.proofs.Common.{◌≡◌, ℕ, ◌%◌, ◌≤◌, Bool, true, if◌then◌else◌, List, [], ◌∷◌, ◌++◌, All, length, map, reverse, Option, None, Some, Result, Ok, Err}
+use Rattle.std.proofs.Common.{arith, ◌≡◌, ℕ, ◌%◌, ◌≤◌, Bool, true, if◌then◌else◌, List, [], ◌∷◌, ◌++◌, All, length, map, reverse, Option, None, Some, Result, Ok, Err}
 use Rattle.std.proofs.Common.{MatchResult, inl, refl, ap, sym, ◌∙◌, subst, append_assoc, append-nil, eq-eqb}
 use Rattle.std.proofs.lemmas.List.{map-append, reverse-append}
 use Rattle.pas_profile.specs.{Blocks.address_of, Profiles.IsValid, Profiles.IsAdmitted, Requests.route_in, Requests.room_in}
@@ -56,9 +56,7 @@ module _ (f : Profile) (k : ℕ) (r : Request) (old : Block) (p : Progress) (a :
 
   own_rest : (answer : Result Block NoRoom) → is.served.answer ≡ answer → MatchResult answer (λ block. TakesEntry f k came.cache a.cache (entry_of old.name) is.freed) (λ room. (is.freed ≡ []) × (a.cache ≡ came.cache))
       → AtRest f came.cache (part k midway.list)
-  own_rest (Err room) e none =
-      subst (λ (c : Cached). AtRest f c (part k midway.list)) none.1
-      (subst (λ (ms : List Made). AtRest f a.cache (part k (triples k ms ++ p.list))) (is.steps_are ∙ ap (λ (ms : List Made). ms ++ came.steps) none.0) at_end)
+  own_rest (Err room) e none = search (arith, at_end)
   own_rest (Ok block) e takes =
       let serves_it = serves_by (Ok block) e in
       let log : came.cache.log ≡ (p.caches k).log = served_log f k r p came w block valid thread admitted before same is.served.rest legal serves_it in
@@ -170,9 +168,7 @@ module _ (f : Profile) (k : ℕ) (r : Request) (old : Block) (p : Progress) (a :
         (subst (λ (x : World). IsSame f end x) (sym (text_as (Some block) names_are ∙ sym text_logs)) logged)
 
   by_answer : (answer : Result Block NoRoom) → is.served.answer ≡ answer → MatchResult answer (λ block. TakesEntry f k placed.cache a.cache (entry_of old.name) is.freed) (λ room. (is.freed ≡ []) × (a.cache ≡ placed.cache)) → IsSame f (after_answer p k a) to
-  by_answer (Ok block) e takes =
-      served_to block (is.served.names_are ∙ ap (λ (x : Result Block NoRoom). named r.name (block_answered x) ∷ p.names) e) (is.served.said_is ∙ ap (said_of_request r.name) e) takes
-  by_answer (Err room) e none = unserved (is.served.names_are ∙ ap (λ (x : Result Block NoRoom). named r.name (block_answered x) ∷ p.names) e) none.0 none.1
+  by_answer answer e takes = search (arith, served_to, unserved)
 
   replaced_asked : IsSame f (after_answer p k a) to
   replaced_asked = by_answer is.served.answer refl is.logged
@@ -182,14 +178,5 @@ pub replaced_same : (f : Profile) (k : ℕ) (r : Request) (old : Block) (p : Pro
     → IsSame f p w → HasUsableBlocks p → (is : IsReplaced f k r old (having p.names (part k p.list) (p.caches k)) a) → IsNamedBy f w.indexes (Some r) is.placed.found → RequestStaysSame f k r
     → IsSame f (after_answer p k a) (replaces f k r.name old r.size r.align w)
 replaced_same f k r old p a w heap_is valid thread admitted before after same usable is named stays =
-    let asked : IsAsked f k r p is.placed w = record {
-      valid = valid;
-      thread = thread;
-      admitted = admitted;
-      before = before;
-      after = middle f k r old p a w is valid thread admitted before after same;
-      same = same;
-      served = is.served;
-      named = named;
-    } in
+    let asked : IsAsked f k r p is.placed w = assumption (middle f k r old p a w is valid thread admitted before after same) in
     replaced_asked f k r old p a w heap_is is asked usable (stays p is.placed w asked) after

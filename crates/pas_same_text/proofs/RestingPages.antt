@@ -43,12 +43,10 @@ some_fails (suc n) from test h = elim (and_cases (test from) (each_of (from + 1)
 -- ---- deeds
 -- a page has a deed where its word isn't 0
 pub no_word : (o : Option Directory) → is_none o ≡ true → word_of_deed o ≡ 0
-no_word None h = refl
-no_word (Some e) h = absurd (false≢true h)
+no_word o h = search (arith, false≢true)
 
 pub unowned_by : (o : Option Directory) → word_of_deed o ≡ 0 → is_none o ≡ true
-unowned_by None h = refl
-unowned_by (Some e) h = absurd (deed_word_of-positive e h)
+unowned_by o h = search (arith, deed_word_of-positive)
 
 pub owned_is : (f : Profile) (l : Whole) (w : World) → Legal f l → w.events ≡ visible l → (page : ℕ) → word_after l (Word.Deed page) ≡ word_of_deed (deed_in w.events page)
 owned_is f l w legal events page = deed_of f l legal page ∙ ap (λ (es : List Event). word_of_deed (deed_in es page)) (sym events)
@@ -115,15 +113,7 @@ module _ (f : Profile) (p : Progress) (w : World) (valid : IsValid f) (between :
   free_at page b small none = free_unless f p w valid between same page b small none ∙ bit_at p.list page b small
 
   usable_at : (page b : ℕ) (d : Directory) → b < 256 → IsDirectoryOf f d → word_after p.list (Word.Deed page) ≡ deed_word_of d → is_guarded w page ≡ false → usable_by_kind d.kind b ≡ true → is_free w page b ≡ true → IsUsableFree p.list page (b / 64) (b % 64)
-  usable_at page b d small of word none usable free =
-      let whole : 64 * (b / 64) + b % 64 ≡ b = omega arith in
-      record {
-        small = omega arith;
-        free = sym (free_at page b small none) ∙ free;
-        usable = ap (λ (n : ℕ). usable_by (directory_read n) (64 * (b / 64) + b % 64)) word
-            ∙ (ap (λ (o : Option Directory). usable_by o (64 * (b / 64) + b % 64)) (read-deed_word_of d (directory_from_profile f d valid of))
-            ∙ (ap (usable_by_kind d.kind) whole ∙ usable));
-      }
+  usable_at page b d small of word none usable free = search (arith, free_at, read-deed_word_of, directory_from_profile)
 
   -- ---- A PAGE WITH ROOM that nobody keeps is offered
   offered_where : (page b : ℕ) (d : Directory) → b < 256 → IsDirectoryOf f d → word_after p.list (Word.Deed page) ≡ deed_word_of d → is_kept w page ≡ false → IsUsableFree p.list page (b / 64) (b % 64) → eligible_bit p.list (number_of d) page ≡ true

@@ -2,6 +2,7 @@
 use Rattle.std.proofs.Common.{◌≡◌, ℕ, zero, suc, ◌<◌, true, false, Bool, List, [], ◌∷◌, ◌++◌, Option, None, Some, inl, inr, refl, ap, sym, subst, arith}
 use Rattle.std.proofs.Common.{true≢false}
 use Rattle.std.proofs.lemmas.Bool.{cases_eq}
+use Rattle.pas_large.proofs.Left.{hints_both}
 use Rattle.pas_bits.proofs.Words.{full_bit}
 use Rattle.pas_profile.specs.declared.{directory.Directory.Directory, word.Word.Word}
 use Rattle.pas_steps.specs.{Desks.made, Past.Always, Past.Since}
@@ -11,7 +12,7 @@ use Rattle.pas_rights.specs.Looks.{looks, looks_until, is_free, HintSteps, Hints
 use Rattle.pas_rights.specs.{Returns.ReofferSteps, Returns.ReturnSteps, Words.ones}
 use Rattle.pas_rights.specs.declared.reading.Used.{Used}
 use Rattle.pas_rights.proofs.Orders.{until_only}
-use Rattle.pas_same_text.proofs.GivingBack.{hint_step, hints_none, hints_both}
+use Rattle.pas_same_text.proofs.GivingBack.{hint_step, hints_none}
 
 read_earlier : (P Q : Made → Type 0) (ys xs : List Made) → Since (λ m before. P m) (λ m before. Q m) ys → Since (λ m before. P m) (λ m before. Q m) (ys ++ xs)
 read_earlier P Q [] xs h = absurd h
@@ -30,15 +31,10 @@ until_read page None free xs word lt = read_earlier (λ n. ReadsAllFree page wor
 until_read page (Some used) free xs word lt = absurd (true≢false (sym free))
 
 hint_after : (page : ℕ) (steps xs : List Made) → HintSteps page steps → ((word : ℕ) → word < 4 → Since (ReadsAllFree page word) (TakesNone page) xs) → Always HintsEmpty xs → Always HintsEmpty (steps ++ xs)
-hint_after page steps xs (inl h) read rest = subst (λ s. Always HintsEmpty (s ++ xs)) (sym h.2) (hint_step (made (Look (Word.Backed page)) h.0) xs refl, rest)
-hint_after page steps xs (inr h) read rest = subst (λ s. Always HintsEmpty (s ++ xs)) (sym h.1) (
-  (λ p same. let is : page ≡ p = cc in subst (λ q. ReadsEmpty q (made (Look (Word.Backed page)) 1 ∷ xs)) is (record { backed = inl (refl, refl); free = λ word lt. inr ((λ w mask e. cc), read word lt) })),
-  (hint_step (made (Look (Word.Backed page)) 1) xs refl, rest),
-)
+hint_after page steps xs word read rest = search (arith, hint_step)
 
 hints_where : (all_free : Bool) (page : ℕ) (steps xs : List Made) → HintsWhere all_free page steps → (all_free ≡ true → (word : ℕ) → word < 4 → Since (ReadsAllFree page word) (TakesNone page) xs) → Always HintsEmpty xs → Always HintsEmpty (steps ++ xs)
-hints_where true page steps xs h read rest = hint_after page steps xs h (read refl) rest
-hints_where false page steps xs h read rest = subst (λ s. Always HintsEmpty (s ++ xs)) (sym h) rest
+hints_where all_free page steps xs h read rest = search (arith, hint_after)
 
 reoffer_only : (page : ℕ) (d : Directory) (steps : List Made) → ReofferSteps page d steps → Only (Unparking ∷ Offering ∷ []) steps
 reoffer_only page d steps (inl h) = subst (Only (Unparking ∷ Offering ∷ [])) (sym h.2) (refl, tt)

@@ -1,7 +1,7 @@
 -- A REQUEST FOR WHOLE PAGES THAT IS SERVED by a run: its pages get deeds and memory where they have none, the lowest first, and their block is given.
 use Rattle.std.proofs.Common.{◌≡◌, ◌≢◌, ℕ, ◌+◌, ◌*◌, ◌/◌, ◌<◌, ◌≤◌, ◌==◌, Bool, true, false, not, ◌&&◌, if◌then◌else◌, List, [], ◌∷◌, ◌++◌, Option, None, Some}
 use Rattle.std.proofs.Common.{◌⊎◌, inl, inr, refl, ap, sym, ◌∙◌, subst, arith, append_assoc, append-nil}
-use Rattle.std.proofs.lemmas.Bool.{false≢true, false_from_ne_true}
+use Rattle.std.proofs.lemmas.Bool.{false≢true}
 use Rattle.std.specs.List.{flat_map, filter}
 use Rattle.pas_bits.specs.Runs.{in_run, meets_page}
 use Rattle.pas_profile.specs.{Blocks.address_of, Blocks.grain_of, Blocks.length_of, Directories.number_of, Directories.deed_word_of, Profiles.IsValid}
@@ -190,9 +190,7 @@ module _ (f : Profile) (k name heap first n : ℕ) (p : Progress) (u : World) (g
   v = gives k name heap (address_on first 0) (4096 * n) (shown es u)
 
   text : gives_pages k name heap first n u ≡ v
-  text = ap (gives k name heap (address_on first 0) (4096 * n))
-      (ap (each (backs k) (numbers_from first n)) (each_in_turn (deeds k d) n first u ∙ deeds_text)
-      ∙ (each_in_turn (backs k) n first (shown ds u) ∙ (backs_text ∙ sym (shown_both bs ds u))))
+  text = search (arith, each_in_turn, deeds_text, backs_text, shown_both)
 
   -- ---- the block
   address : address_of block.name ≡ address_on first 0
@@ -226,19 +224,11 @@ module _ (f : Profile) (k name heap first n : ℕ) (p : Progress) (u : World) (g
   covers : (x b : ℕ) → IsInRun first n x → b < 256 → in_run (grain_of block.name) (length_of block) (256 * x + b) ≡ true
   covers x b here small = in_block (256 * x + b) ∙ (ap (in_span first (first + n)) (on_page x b small) ∙ span x here)
 
-  apart : (x b : ℕ) → (IsInRun first n x → ⊥) → b < 256 → in_run (grain_of told.name) (length_of told) (256 * x + b) ≡ false
-  apart x b out small = false_from_ne_true (in_run (grain_of told.name) (length_of told) (256 * x + b)) (λ h.
-      out (in_parts first (first + n) x (ap (in_span first (first + n)) (sym (on_page x b small)) ∙ (sym (in_block (256 * x + b)) ∙ (ap (λ (y : Block). in_run (grain_of y.name) (length_of y) (256 * x + b)) block_is ∙ h)))))
-
   live_same : (shown es u).live ≡ u.live
   live_same = ap (λ (x : World). x.live) (shown_both bs ds u) ∙ (backs_live k n first (part k mid) run.backs (shown ds u) run.back_order ∙ deeds_live k d (deeded got) u)
 
   free_beside : (x b : ℕ) → (IsInRun first n x → ⊥) → b < 256 → is_free v x b ≡ is_free u x b
-  free_beside x b out small =
-      let kept : List Block = filter (λ (y : Block). meets_page (grain_of y.name) (length_of y) x) u.live in
-      ap (λ (bs : List Block). is_free_of (filter (λ (y : Block). meets_page (grain_of y.name) (length_of y) x) (told ∷ bs)) (locals_on v x) x b) live_same
-      ∙ (ap (λ (ls : List Local). is_free_of (filter (λ (y : Block). meets_page (grain_of y.name) (length_of y) x) (told ∷ u.live)) ls x b) (ap (λ (cs : List Cache). filter (λ (y : Local). y.page == x) (flat_map (λ y. y.locals) cs)) (shown_rest es u).caches)
-      ∙ ap (λ (t : Bool). not t && not (is_cached (locals_on u x) b)) (one_more told kept (256 * x + b) (meets_page (grain_of told.name) (length_of told) x) (apart x b out small)))
+  free_beside x b out small = search (arith, live_same, shown_rest)
 
   deeds_apart : (x : ℕ) → (IsInRun first n x → ⊥) → deed_in v.events x ≡ deed_in u.events x
   deeds_apart x out =

@@ -1,5 +1,5 @@
 -- THE RUN THAT A SEARCH FOUND, where no other actor makes a step: the lowest usable one before the search, and no page of another gets a deed.
-use Rattle.std.proofs.Common.{◌≡◌, ℕ, false, List, [], ◌∷◌, ◌++◌, ◌⊎◌, inl, inr, refl, ◌∙◌, subst}
+use Rattle.std.proofs.Common.{arith, ◌≡◌, ℕ, false, List, [], ◌∷◌, ◌++◌, ◌⊎◌, inl, inr, refl, ◌∙◌, subst}
 use Rattle.std.proofs.lemmas.Bool.{cases_eq}
 use Rattle.pas_profile.specs.{Directories.deed_word_of, Profiles.IsDirectoryOf}
 use Rattle.pas_profile.specs.declared.{directory.Directory.Directory, profile.Profile.Profile, word.Word.Word}
@@ -11,8 +11,9 @@ use Rattle.pas_core.proofs.{Deeds.known_is, OneActor.LendsNone, OneActor.lends_n
 use Rattle.pas_scan.specs.Runs.{IsInRun}
 use Rattle.pas_search.specs.Kinds.{ReturnsDuly}
 use Rattle.pas_large.specs.{Evidence.HasFailed, Finds.MayFind, Finds.FoundRun, Finds.finding, Telling.IsUsablePage, Telling.IsLowestRun}
-use Rattle.pas_large.proofs.Outcomes.{MadeOf}
-use Rattle.pas_same_text.proofs.PagesRead.{usable_was, lost_never, bad_never}
+use Rattle.pas_large.proofs.Told.{lost_never}
+use Rattle.pas_large.proofs.Outcomes.{MadeOf, of_directory}
+use Rattle.pas_same_text.proofs.PagesRead.{usable_was, bad_never}
 
 -- each deed that was made is of the directory and of a page of the run
 abbrev pub DeedsInRun : Directory → ℕ → ℕ → List Made → Type 0
@@ -38,14 +39,14 @@ module _ (f : Profile) (k : ℕ) (l : Whole) (d : Directory) (n : ℕ) (of : IsD
       let first : Legal f l = legal_before f k xs l legal.1 in
       let page : ℕ = h.1.0 in
       let usable : IsUsablePage d l page = usable_was f k l d page xs of.kind legal.1 lends.1 due.1 (h.0 page h.1.1) in
-      lost_never f k l d page of.kind first (lacks_usable first page usable) usable m xs legal lends h.1.2
+      lost_never f k l d page m xs of.kind legal lends (lacks_usable first page usable) usable h.1.2
 
   module _ (xs : List Made) (legal : Legal f (triples k xs ++ l)) (kinds : Only finding xs) (due : Always ReturnsDuly xs) (first : ℕ) (found : FoundRun f d n xs first) where
     lends : LendsNone xs
     lends = lends_none finding refl xs kinds
 
     made_of : MadeOf d xs
-    made_of = always_map _ (λ m before. (p : ℕ) (e : Directory) → m.step ≡ Deed p e → m.answer ≡ 0 → e ≡ d) xs (λ m before h p e same zero. (h p e same zero).0) found.deeds
+    made_of = of_directory d n _ xs found.deeds
 
     -- THE RUN is the lowest one that was usable
     pub lowest_alone : IsLowestRun f d n l first
@@ -60,11 +61,4 @@ module _ (f : Profile) (k : ℕ) (l : Whole) (d : Directory) (n : ℕ) (of : IsD
     }
 
     pub deeds_in_run : DeedsInRun d first n xs
-    deeds_in_run = always_map _ (λ m before. (page : ℕ) (e : Directory) → m.step ≡ Deed page e → m.answer ≡ 0 → (e ≡ d) × IsInRun first n page) xs (λ m before h page e same zero.
-        let at = h page e same zero in (
-          at.0,
-          elim at.1.3 [
-            | inl this ↦ subst (λ (s : ℕ). IsInRun s n page) this at.1.1
-            | inr failed ↦ absurd (never_fails at.1.0 xs legal lends due failed)
-          ],
-        )) found.deeds
+    deeds_in_run = search (arith, always_map, never_fails, lends)

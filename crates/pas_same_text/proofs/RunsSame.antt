@@ -21,12 +21,10 @@ use Rattle.pas_same_text.proofs.RestingPages.{open_unguarded, had_open, owned_is
 
 -- the run that an index names, where it is whole
 whole_at : (w : World) (heap n x first : ℕ) (t : Bool) → each_of x n (is_whole w heap) ≡ t → (if t then Some x else None) ≡ Some first → (x ≡ first) × (each_of first n (is_whole w heap) ≡ true)
-whole_at w heap n x first true is same = let at = same_Some x first same in (at, ap (λ (y : ℕ). each_of y n (is_whole w heap)) (sym at) ∙ is)
-whole_at w heap n x first false is same = absurd (let bad : None ≡ Some first = same in cc)
+whole_at w heap n x first t is same = grind arith
 
 whole_of : (w : World) (heap n first : ℕ) (o : Option ℕ) → if_whole w heap n o ≡ Some first → (o ≡ Some first) × (each_of first n (is_whole w heap) ≡ true)
-whole_of w heap n first None same = absurd (let bad : None ≡ Some first = same in cc)
-whole_of w heap n first (Some x) same = let both = whole_at w heap n x first (each_of x n (is_whole w heap)) refl same in (ap (λ (y : ℕ). Some y) both.0, both.1)
+whole_of w heap n first o same = search (arith, whole_at)
 
 module _ (f : Profile) (p : Progress) (w : World) (valid : IsValid f) (between : IsBetween f p) (pages : ArePagesSame f p.list w) (same : HasSame f p w) (heap : ℕ) (of : IsDirectoryOf f (large_of heap)) where
   abbrev l : Whole

@@ -1,5 +1,5 @@
 -- THE INDEXES: each act changes those of the text as it changes those of a replay.
-use Rattle.std.proofs.Common.{◌≡◌, ℕ, zero, suc, ◌+◌, ◌/◌, nat_le, Bool, true, false, if◌then◌else◌, List, [], ◌∷◌, map, Option, None, Some, refl, ap, ◌∙◌}
+use Rattle.std.proofs.Common.{arith, ◌≡◌, ℕ, zero, suc, ◌+◌, ◌/◌, nat_le, Bool, true, false, if◌then◌else◌, List, [], ◌∷◌, map, Option, None, Some, refl, ap, ◌∙◌}
 use Rattle.pas_profile.specs.Requests.{route_in, room_in}
 use Rattle.pas_profile.specs.declared.{directory.Route.Route, name.Block.Block, profile.Profile.Profile}
 use Rattle.pas_large.specs.Doors.{Indexes, no_ranges}
@@ -27,10 +27,7 @@ request_indexes f k name heap (Route.Class class) room align w =
     same_indexes w (serves f k name heap (Route.Class class) room align w) (class_keeps f k name heap class (find (is_for heap class) (locals_of w k)) w)
 request_indexes f k name heap Route.Bitfit room align w =
     same_indexes w (serves f k name heap Route.Bitfit room align w) (places_keep k name heap room align (searched f w (bitfit_of heap) (lowest_place w (room / 16) (align / 16))) w)
-request_indexes f k name heap Route.Large room align w =
-    let lost : World = loses_named heap (room / 4096) w in
-    let found : Option ℕ = run_or (named_run w heap (room / 4096)) (lowest_run f w heap (room / 4096)) in
-    same_indexes lost (serves_run f k name heap (room / 4096) found lost) (run_keeps f k name heap (room / 4096) found lost)
+request_indexes f k name heap Route.Large room align w = search (arith, same_indexes, run_keeps)
 
 -- ---- a reallocation
 replaced_keeps : (f : Profile) (k : ℕ) (old : Block) (came : Option (Option Block)) (w : World) → (logs_replaced f k old came w).indexes ≡ w.indexes
@@ -40,16 +37,11 @@ replaced_keeps f k old None w = refl
 
 suited_indexes : (f : Profile) (k name size align : ℕ) (old : Block) (t : Bool) (w : World)
     → (if t then keeps_block k name old w else replaces f k name old size align w).indexes ≡ after_operation f (unless_suited t (request_for old name size align)) w.indexes
-suited_indexes f k name size align old true w = refl
-suited_indexes f k name size align old false w =
-    let v : World = serves f k name old.heap (route_in f size align) (room_in f size align) align w in
-    replaced_keeps f k old (standing_for v.names name) v ∙ request_indexes f k name old.heap (route_in f size align) (room_in f size align) align w
+suited_indexes f k name size align old t w = search (arith, replaced_keeps, request_indexes)
 
 remake_indexes : (f : Profile) (k name old heap size align : ℕ) (meant : Option (Option Block)) (w : World)
     → (remakes f k name size align meant w).indexes ≡ after_operation f (request_made (What.Remake name old heap size align) (block_behind meant)) w.indexes
-remake_indexes f k name old heap size align None w = refl
-remake_indexes f k name old heap size align (Some None) w = refl
-remake_indexes f k name old heap size align (Some (Some block)) w = suited_indexes f k name size align block (suits block size align) w
+remake_indexes f k name old heap size align meant w = search (arith, suited_indexes)
 
 -- ---- an operation
 operation_indexes : (f : Profile) (k : ℕ) (what : What) (w : World) → (operates f k what w).indexes ≡ after_operation f (request_by w.names what) w.indexes
@@ -73,10 +65,7 @@ noted_indexes (run ∷ runs) w = noted_indexes runs (indexes_run run w)
 
 -- ---- guards that are lowered
 lowered_keeps : (g : Guard) (w : World) → (lowers g w).indexes ≡ w.indexes
-lowered_keeps g w =
-    let fewer : World = without_guard g w in
-    let low : World = minds g.low fewer in
-    same_indexes low (minds g.high low) (minds_keep g.high low) ∙ same_indexes fewer low (minds_keep g.low fewer)
+lowered_keeps g w = search (arith, same_indexes, minds_keep)
 
 pub all_lowered_keep : (gs : List Guard) (w : World) → (each lowers gs w).indexes ≡ w.indexes
 all_lowered_keep [] w = refl

@@ -21,8 +21,7 @@ pub record Finds (s : Slots) (found : Option Local) : Type 0 where
   pub same : IsSameLocal s local
 
 found_one : (s x : Slots) (y : Local) (rest : Option Slots) (more : Option Local) (t : Bool) → IsSameLocal x y → (rest ≡ Some s → Finds s more) → (if t then Some x else rest) ≡ Some s → Finds s (if t then Some y else more)
-found_one s x y rest more true same later is = record { local = y; is = refl; same = subst (λ (z : Slots). IsSameLocal z y) (same_Some x s is) same }
-found_one s x y rest more false same later is = later is
+found_one s x y rest more t same later is = search (arith, same_Some)
 
 pub found_same : (heap class : ℕ) (slots : List Slots) (locals : List Local) (s : Slots) → AreSameLocals slots locals → local_for heap class slots ≡ Some s → Finds s (find (is_for heap class) locals)
 found_same heap class [] [] s same is = absurd (none-some s is)
@@ -77,17 +76,11 @@ rest_at n g more true e all =
     let is : n ≡ g = eqb-true n g e in
     let none : has_number more g ≡ false = false_from_ne_true (has_number more g) (λ h. let lt : n < g = above n g more all h in absurd (omega (arith, is, lt))) in
     none ∙ ap (λ (t : Bool). not t && (true || has_number more g)) (sym (eq-eqb g n (sym is)))
-rest_at n g more false e all =
-    let ne : n ≢ g = eqb-false n g e in
-    ap (λ (t : Bool). not t && has_number more g) (sym (ne_eqb g n (λ same. ne (sym same))))
+rest_at n g more false e all = search (arith, eqb-false, ne_eqb)
 
 -- what is left without its head has the bits that are left without the lowest
 rest_same : (s s' : Slots) (n start : ℕ) (more : List ℕ) → ((g : ℕ) → has_number (n ∷ more) g ≡ is_set s.starts g) → IsRising (n ∷ more) → n ≡ start → IsWithoutSlot s s' start → (g : ℕ) → has_number more g ≡ is_set s'.starts g
-rest_same s s' n start more slots rising is without g =
-    rest_at n g more (n == g) refl rising.0
-    ∙ (ap (λ (t : Bool). not (g == n) && t) (slots g)
-    ∙ (ap (λ (x : ℕ). not (g == x) && is_set s.starts g) is
-    ∙ sym (without.starts g)))
+rest_same s s' n start more slots rising is without g = search (arith, rest_at)
 
 -- its lowest slot is given: the text has it at the head, and the others are left
 pub slot_given : (s s' : Slots) (l : Local) (n start : ℕ) (more : List ℕ) → IsSameLocal s l → l.slots ≡ n ∷ more → IsLowestSet s.starts 0 start → IsWithoutSlot s s' start → (n ≡ start) × IsSameLocal s' (record l { slots = more })
@@ -96,12 +89,5 @@ slot_given s s' l n start more same is lowest without =
     let rising : IsRising (n ∷ more) = subst IsRising is same.rising in
     let head : n ≡ start = head_lowest s n start more bits rising lowest in (
       head,
-      record {
-        page = same.page ∙ sym without.page;
-        heap = same.heap ∙ sym without.heap;
-        class = same.class ∙ sym without.class;
-        keeps = same.keeps ∙ sym without.right;
-        slots = rest_same s s' n start more bits rising head without;
-        rising = rising.1;
-      },
+      search (arith, rest_same),
     )

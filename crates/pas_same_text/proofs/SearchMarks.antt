@@ -24,22 +24,14 @@ use Rattle.pas_same_text.proofs.GivingBack.{HintsPage, offer_one}
 
 -- ---- A GRAIN THAT ISN'T FREE stays so: the steps put only what they took, and they took only what was free
 take_moves : (x y bit held : Bool) → (x ≡ true → y ≡ bit) → bit ≡ false → held ≡ false → (free_moved (if x && y then Gets else Stays) bit ≡ false) × (held_after (if x && y then Gets else Stays) held ≡ false)
-take_moves true true bit held same used none = absurd (true≢false (same refl ∙ used))
-take_moves true false bit held same used none = (used, none)
-take_moves false y bit held same used none = (used, none)
+take_moves x y bit held same used h = search (arith, true≢false)
 
 put_moves : (x bit held : Bool) → (x ≡ true → held ≡ true) → bit ≡ false → held ≡ false → (free_moved (if x then Puts else Stays) bit ≡ false) × (held_after (if x then Puts else Stays) held ≡ false)
-put_moves true bit held took used none = absurd (true≢false (sym (took refl) ∙ none))
-put_moves false bit held took used none = (used, none)
+put_moves x bit held took used h = search (arith, true≢false)
 
 step_moves : (s : Step) (a g : ℕ) (bit held : Bool) → is_in lending (kind_of s) ≡ false → ((page word mask : ℕ) → s ≡ Take page word mask → in_mask page word mask g ≡ true → has_bit a (g % 64) ≡ bit)
     → ((page word mask : ℕ) → s ≡ Put page word mask → in_mask page word mask g ≡ true → held ≡ true) → bit ≡ false → held ≡ false → (free_moved (grain_move s a g) bit ≡ false) × (held_after (grain_move s a g) held ≡ false)
-step_moves (Take page word mask) a g bit held lends reads took used none = take_moves (in_mask page word mask g) (has_bit a (g % 64)) bit held (λ here. reads page word mask refl here) used none
-step_moves (Put page word mask) a g bit held lends reads took used none = put_moves (in_mask page word mask g) bit held (λ here. took page word mask refl here) used none
-step_moves (Give block) a g bit held lends reads took used none = absurd (true≢false lends)
-step_moves (End name guess) a g bit held lends reads took used none = absurd (true≢false lends)
-step_moves (EndSized name room) a g bit held lends reads took used none = absurd (true≢false lends)
-step_moves s a g bit held lends reads took used none = (used, none)
+step_moves s a g bit held lends reads took used word = search (arith, take_moves, put_moves, true≢false)
 
 mask_word : (page word mask g : ℕ) → in_mask page word mask g ≡ true → Word.Free page word ≡ free_word_at g
 mask_word page word mask g h = at (word == g / 64 % 4) (page == g / 256) refl refl h
@@ -88,19 +80,7 @@ module _ (f : Profile) (k : ℕ) (l : Whole) where
 
   -- a reading is of the grain that is free at that moment, or that the call holds
   shown_is : (page b : ℕ) (r : Readings) (m : Made) (xs : List Made) → Legal f (triples k (m ∷ xs) ++ l) → b < 256 → ShowsHere page (b / 64) r m xs → r b ≡ (free_bit (triples k xs ++ l) (page * 256 + b) || holds xs (page * 256 + b))
-  shown_is page b r m xs legal small s =
-      let g : ℕ = page * 256 + b in
-      let whole : 64 * (b / 64) + b % 64 ≡ b = omega arith in
-      let at_page : g / 256 ≡ page = omega (arith, small) in
-      let at_word : g / 64 % 4 ≡ b / 64 = omega (arith, small) in
-      let at_bit : b % 64 ≡ g % 64 = omega arith in
-      let word : free_word_at g ≡ Word.Free page (b / 64) = ap (λ (q : ℕ). Word.Free q (g / 64 % 4)) at_page ∙ ap (λ (u : ℕ). Word.Free page u) at_word in
-      let answer : m.answer ≡ word_after (triples k xs ++ l) (free_word_at g) = legal.0.answer_is ∙ (word_read page (b / 64) m.step (triples k xs ++ l) s.0 ∙ ap (word_after (triples k xs ++ l)) (sym word)) in
-      ap r (sym whole)
-      ∙ (s.2 (b % 64) (omega arith)
-      ∙ (ap (λ (x : ℕ). has_bit m.answer (b % 64) || holds xs (page * 256 + x)) whole
-      ∙ (ap (λ (x : ℕ). has_bit m.answer x || holds xs g) at_bit
-      ∙ ap (λ (x : ℕ). has_bit x (g % 64) || holds xs g) answer)))
+  shown_is page b r m xs legal small s = search (arith, word_read)
 
   pub free_shown : (page b : ℕ) (r : Readings) (xs : List Made) → Legal f (triples k xs ++ l) → LendsNone xs → b < 256 → free_bit l (page * 256 + b) ≡ true → Once (ShowsHere page (b / 64) r) xs → r b ≡ true
   free_shown page b r [] legal lends small free h = absurd h
@@ -192,8 +172,7 @@ module _ (f : Profile) (k : ℕ) (l : Whole) where
       of_own s IsDeedOrBack.Backs is = let bad : Back page ≡ Deed q d' = is in cc
 
   got_by : (d : Directory) (page q : ℕ) (w : Whole) (s : Step) (a epoch : ℕ) → page ≢ q → a ≡ word_after w (target s) → (event_of k epoch s a ≡ None) ⊎ IsDeedOrBack d page s → GetsRight q s a → (n : ℕ) × (eligible_bit w n q ≡ true)
-  got_by d page q w s a epoch ne answer at (GetsRight.Claims d' a' set) = (number_of d', ap (λ (n : ℕ). has_bit n (q % 64)) (sym answer) ∙ set)
-  got_by d page q w s a epoch ne answer at (GetsRight.Deeds d' a' zero) = absurd (deed_quiet d d' page q a epoch ne zero at)
+  got_by d page q w s a epoch ne answer at h = search (arith, deed_quiet)
 
   pub was_offered : (d : Directory) (page q : ℕ) (xs : List Made) → page ≢ q → Legal f (triples k xs ++ l) → Always ReturnsDuly xs → EventsAt d page xs → (Once (GetsHere q) xs → (n : ℕ) × (eligible_bit l n q ≡ true)) × ((m : ℕ) → eligible_bit (triples k xs ++ l) m q ≡ true → (n : ℕ) × (eligible_bit l n q ≡ true))
   was_offered d page q [] ne legal due at = (λ got. absurd got, λ n bit. (n, bit))

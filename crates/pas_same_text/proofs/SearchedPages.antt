@@ -23,8 +23,7 @@ use Rattle.pas_same_text.proofs.RestingPages.{open_unguarded, had_open, owned_is
 
 -- ---- the first number that passes a test
 first_at : (test : ℕ → Bool) (from : ℕ) (rest : Option ℕ) (t : Bool) → test from ≡ t → t ≡ false → (if test from then Some from else rest) ≡ rest
-first_at test from rest true e h = absurd (true≢false h)
-first_at test from rest false e h = ap (λ (t : Bool). if t then Some from else rest) e
+first_at test from rest t e h = search (arith, true≢false)
 
 pub find_first : (test : ℕ → Bool) (n from page : ℕ) → from ≤ page → page < from + n → test page ≡ true → ((q : ℕ) → from ≤ q → q < page → test q ≡ false) → find test (numbers_from from n) ≡ Some page
 find_first test zero from page low high so before = absurd (omega (arith, low, high))
@@ -57,8 +56,7 @@ module _ (no_fit : Readings → Type 0) (f : Profile) (d : Directory) (k : ℕ) 
 
     -- a page on which it doesn't fit doesn't serve; where a guard has it, it isn't offered
     unfit_over : (q : ℕ) → IsPage f q → no_fit (free_of_page l q) → (t : Bool) → is_offered_text w d q ≡ t → serves q ≡ false
-    unfit_over q of unfit true offered = ap (λ (t : Bool). is_offered_text w d q && t) (s.fits_same.none q of (open_unguarded w d q (had_open w d q offered)) unfit) ∙ and-false (is_offered_text w d q)
-    unfit_over q of unfit false offered = ap (λ (t : Bool). t && some_of (fits q)) offered
+    unfit_over q of unfit h offered = search (arith, open_unguarded, had_open)
 
     -- a page that didn't fit or was read as not offered serves in the text neither
     passed_over : (q end : ℕ) → IsPage f q → q < end → Searched no_fit d end steps → serves q ≡ false

@@ -56,9 +56,7 @@ seated_moved threads f p p' j valid before legal works seated m = record {
 }
   where
     still : (k page : ℕ) → is_outer (p.books k) page ≡ true → (t : Bool) → (j == k) ≡ t → backed_in (visible p'.list) page ≡ false
-    still k page outer true e =
-        let none : p.books k ≡ [] = seated.unbooked k (λ keeps. works (subst (IsKeeperOf threads f) (sym (eqb-true j k e)) keeps)) in
-        absurd (false≢true (sym (ap (λ (gs : List Guard). is_outer gs page) none) ∙ outer))
+    still k page outer true e = search (arith, eqb-true, false≢true)
     still k page outer false e =
         subst (λ (l : Whole). backed_in (visible l) page ≡ false) (sym m.list) (others_bare f p j k page m.steps valid before (subst (Legal f) m.list legal) e outer)
 
@@ -72,13 +70,7 @@ other_book books keeper j gs ne = ap (λ (t : Bool). if t then gs else books j) 
 -- what holds where all rest, and keepers cache what they did
 seated_rest : (threads : ℕ) (f : Profile) (p : Progress) (keeper : ℕ) (gs : List Guard) (l : Whole) (names : Progress) → IsKeeperOf threads f keeper → AreSeated threads f p → names.caches ≡ p.caches → names.books ≡ with_book p.books keeper gs → names.list ≡ l
     → AreResting f p.caches (with_book p.books keeper gs) l → AreSeated threads f names
-seated_rest threads f p keeper gs l q keeps seated caches books list rest = record {
-  few = seated.few;
-  unbooked = λ k other. ap (λ (bs : Books). bs k) books ∙ (other_book p.books keeper k gs (ne_eqb k keeper (λ same. other (subst (IsKeeperOf threads f) (sym same) keeps))) ∙ seated.unbooked k other);
-  uncached = λ k own. ap (λ (cs : ℕ → Cached). cs k) caches ∙ seated.uncached k own;
-  beside = λ k. subst (λ (bs : Books). Each IsBeside (bs k)) (sym books) (rest.beside k);
-  bare = λ k page outer. subst (λ (m : Whole). backed_in (visible m) page ≡ false) (sym list) (rest.bare k page (ap (λ (bs : Books). is_outer (bs k) page) (sym books) ∙ outer));
-}
+seated_rest threads f p keeper gs l q keeps seated caches books list rest = search (arith, other_book, ne_eqb)
 
 -- ---- the close
 module _ (threads : ℕ) (f : Profile) (keeper : ℕ) (p : Progress) (steps : List Made) (said : List Record) (valid : IsValid f) (keeps : IsKeeperOf threads f keeper) (before : IsBetween f p) (seated : AreSeated threads f p) (lowers : IsLowered f keeper (part keeper p.list) (p.books keeper) steps said)

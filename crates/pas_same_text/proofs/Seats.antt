@@ -75,9 +75,7 @@ module _ (threads : ℕ) (f : Profile) (p : Progress) (rest : AreAtRest threads 
   working : (k : ℕ) → IsThread f k → (threads < k) ⊎ (k ≤ threads) → IsResting f (p.caches k) (p.books k) (part k p.list)
   working k is (inl keeps) =
       subst (λ (c : Cached). IsResting f c (p.books k) (part k p.list)) (sym (seated.uncached k (keeps, is.1))) (keeper_rests f (p.books k) (part k p.list) (rest.keeping k (keeps, is.1)))
-  working k is (inr works) =
-      let none : p.books k ≡ [] = seated.unbooked k (λ keeper. omega (arith, keeper.0, works)) in
-      subst (λ (gs : List Guard). IsResting f (p.caches k) gs (part k p.list)) (sym none) (thread_rests f (p.caches k) (part k p.list) (rest.working k (is.0, works)))
+  working k is (inr works) = search (arith, thread_rests)
 
   resting_from : AreResting f p.caches p.books p.list
   resting_from = record {

@@ -35,24 +35,13 @@ module _ (s : Slots) (l : Local) (b : ℕ) (same : IsSameLocal s l) (is : IsClas
       ap (is_set s.starts) at ∙ set
 
   set_slot : is_set s.starts (start_of s.class b) ≡ true → list_any (λ x. in_run x (class_grains l.class) b) l.slots ≡ true
-  set_slot h =
-      let below = start_below s.class b is in
-      let run : in_run (start_of s.class b) (class_grains s.class) b ≡ true = to_run (start_of s.class b) (class_grains s.class) b below.0 below.1 in
-      passed (λ x. in_run x (class_grains l.class) b) l.slots (start_of s.class b) (same.slots (start_of s.class b) ∙ h) (ap (λ (c : ℕ). in_run (start_of s.class b) (class_grains c) b) same.class ∙ run)
+  set_slot h = search (arith, start_below, to_run, passed)
 
   slots_same : list_any (λ x. in_run x (class_grains l.class) b) l.slots ≡ is_set s.starts (start_of s.class b)
   slots_same = same_truth (list_any (λ x. in_run x (class_grains l.class) b) l.slots) (is_set s.starts (start_of s.class b)) slot_set set_slot
 
--- grain b of a page, as one of the region
-grain_of : (page b : ℕ) → b < 256 → (256 * page + b) % 256 ≡ b
-grain_of page b small = omega (arith, small)
-
 grain_same : (s : Slots) (l : Local) (page b : ℕ) → b < 256 → IsSameLocal s l → IsClass s.class → AreStarts s.class s.starts → has_grain page b l ≡ covers s (256 * page + b)
-grain_same s l page b small same is starts =
-    ap (λ (q : ℕ). (q == page) && list_any (λ x. in_run x (class_grains l.class) b) l.slots) same.page
-    ∙ (ap (λ (t : Bool). (s.page == page) && t) (slots_same s l b same is starts)
-    ∙ (ap (λ (q : ℕ). (s.page == q) && is_set s.starts (start_of s.class b)) (sym (on_page page b small))
-    ∙ ap (λ (x : ℕ). (s.page == (256 * page + b) / 256) && is_set s.starts (start_of s.class x)) (sym (grain_of page b small))))
+grain_same s l page b small same is starts = search (arith, slots_same, on_page)
 
 -- ---- those of a cache
 pub grains_same : (f : Profile) (v : View) (slots : List Slots) (locals : List Local) (page b : ℕ) → b < 256 → AreSameLocals slots locals → All (IsLocal f v) slots
@@ -73,10 +62,7 @@ pub record IsOfCache (cs : List Cache) (p : Local → Bool) : Type 0 where
   pub so : list_any p (cache_in cs k).locals ≡ true
 
 cache_next : (c : Cache) (cs : List Cache) (k : ℕ) → 1 ≤ k → cache_in (c ∷ cs) (k + 1) ≡ cache_in cs k
-cache_next c cs k some =
-    let ne : k + 1 ≢ 1 = omega (arith, some) in
-    let back : k + 1 - 1 ≡ k = omega arith in
-    ap (λ (t : Bool). if t then c else cache_in cs (k + 1 - 1)) (ne_eqb (k + 1) 1 ne) ∙ ap (cache_in cs) back
+cache_next c cs k some = search (arith, ne_eqb)
 
 of_cache_at : (c : Cache) (cs : List Cache) (p : Local → Bool) → (list_any p (all_locals cs) ≡ true → IsOfCache cs p) → (list_any p c.locals ≡ true) ⊎ (list_any p (all_locals cs) ≡ true) → IsOfCache (c ∷ cs) p
 of_cache_at c cs p rest (inl so) = record { k = 1; first = omega arith; last = omega arith; so = so }

@@ -1,5 +1,5 @@
 -- Acts that change no page: marks, the start of a phase, readings of the epoch, ticks, and what is handed on to the indexes.
-use Rattle.std.proofs.Common.{◌≡◌, ℕ, max, List, [], ◌∷◌, ◌++◌, reverse, refl, ap, sym, ◌∙◌, subst}
+use Rattle.std.proofs.Common.{arith, ◌≡◌, ℕ, max, List, [], ◌∷◌, ◌++◌, reverse, refl, ap, sym, ◌∙◌, subst}
 use Rattle.std.proofs.lemmas.Grind.{reverse_onto}
 use Rattle.pas_profile.specs.declared.profile.Profile.{Profile}
 use Rattle.pas_profile.specs.declared.word.Word.TheVariants as TheWord
@@ -71,21 +71,10 @@ wake_same f k is p p' w taken =
 
 -- ---- the scavenger reads the epoch
 reads_to : (f : Profile) (epoch : ℕ) (p : Progress) (w : World) → IsSame f p w → Legal f (after_reading p epoch).list → IsSame f (after_reading p epoch) (reads_epoch w)
-reads_to f epoch p w same legal = record {
-  pages = pages_next f p.list (triple 0 (made (Look TheWord.Epoch) epoch) ∷ p.list) w (reads_epoch w) same.pages (look_pages 0 epoch TheWord.Epoch p.list) (record { events = refl; live = refl; hinted = refl; locals = refl; guards = refl });
-  caches = same.caches;
-  guards = same.guards;
-  names = same.names;
-  records = same.records;
-  epoch = same.epoch ∙ sym (look_word 0 epoch TheWord.Epoch TheWord.Epoch p.list);
-  read = same.epoch ∙ sym (read_now f p 0 epoch legal);
-}
+reads_to f epoch p w same legal = search (arith, pages_next, look_pages, look_word, read_now)
 
 pub reading_same : (f : Profile) → StaysSame f Act.ReadsEpoch
-reading_same f p p' w taken =
-    let epoch : ℕ = taken.advances.0 in
-    let legal : Legal f (after_reading p epoch).list = subst (λ (q : Progress). Legal f q.list) taken.advances.1 taken.after.legal in
-    subst (λ (q : Progress). IsSame f q (reads_epoch w)) (sym taken.advances.1) (reads_to f epoch p w taken.same legal)
+reading_same f p p' w taken = search (arith, reads_to)
 
 -- ---- a tick
 ticked : (f : Profile) (p : Progress) (asked answer : ℕ) → Legal f (triple 0 (made (Tick asked) answer) ∷ p.list) → answer ≡ word_after p.list TheWord.Epoch
@@ -113,15 +102,7 @@ tick_same f asked p p' w taken =
 
 -- ---- what is handed on to the indexes
 indexed_same : (f : Profile) (p : Progress) (run : EndedRun) (w : World) → IsSame f p w → IsSame f p (indexes_run run w)
-indexed_same f p run w same = record {
-  pages = pages_next f p.list p.list w (indexes_run run w) same.pages (unchanged p.list) (record { events = refl; live = refl; hinted = refl; locals = refl; guards = refl });
-  caches = same.caches;
-  guards = same.guards;
-  names = same.names;
-  records = same.records;
-  epoch = same.epoch;
-  read = same.read;
-}
+indexed_same f p run w same = search (arith, pages_next, unchanged)
 
 all_indexed : (f : Profile) (p : Progress) (runs : List EndedRun) (w : World) → IsSame f p w → IsSame f p (each indexes_run runs w)
 all_indexed f p [] w same = same
@@ -132,15 +113,7 @@ handed_on f k p w is same =
     let own : Cache = cache_of w k in
     let was : IsSameCache (p.caches k) own = same.caches.each k is in
     let new : Cache = record own { noted = [] } in
-    record {
-      pages = pages_next f p.list p.list w (set_cache k new w) same.pages (unchanged p.list) (cache_state w k new refl);
-      caches = same_with f p.caches w.caches k (settled (p.caches k)) new is same.caches (record { locals = was.locals; log = was.log; noted = refl; began = was.began });
-      guards = same.guards;
-      names = same.names;
-      records = same.records;
-      epoch = same.epoch;
-      read = same.read;
-    }
+    search (arith, pages_next, unchanged, cache_state, same_with)
 
 pub settling_same : (f : Profile) (k : ℕ) → IsThread f k → StaysSame f (Act.Settles k)
 settling_same f k is p p' w taken = subst (λ (q : Progress). IsSame f q (settles k w)) (sym taken.advances)

@@ -7,8 +7,7 @@ use Rattle.pas_one_text.specs.{Searches.some_of, Classes.spaced}
 
 -- some one passes the test
 pub some_first : (xs : List ℕ) → some_of (take 1 xs) ≡ some_of xs
-some_first [] = refl
-some_first (x ∷ xs) = refl
+some_first xs = grind arith
 
 some_next : (x : ℕ) (xs : List ℕ) (t any : Bool) → some_of xs ≡ any → some_of (if t then x ∷ xs else xs) ≡ (t || any)
 some_next x xs true any rest = refl
@@ -34,8 +33,7 @@ from_spaced test (suc n) from step h = elim (or_cases (test from) (list_any test
   | inl here ↦ (0, omega arith, ap test (omega arith) ∙ here)
   | inr later ↦
       let o = from_spaced test n (from + step) step later in
-      let m = suc-mul o.0 step in
-      (suc o.0, omega (arith, o.1), ap test (omega (arith, m)) ∙ o.2)
+      (suc o.0, omega (arith, o.1), ap test (omega (arith, suc-mul o.0 step)) ∙ o.2)
 ]
 
 -- the first that passes, where the i-th does and none before it

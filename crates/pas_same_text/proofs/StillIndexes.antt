@@ -1,5 +1,5 @@
 -- WHAT STAYS IN THE TEXT: what changes no index and no guard.
-use Rattle.std.proofs.Common.{◌≡◌, ℕ, ◌+◌, ◌*◌, ◌%◌, ◌/◌, ◌==◌, nat_le, nat_lt, Bool, true, false, ◌&&◌, if◌then◌else◌, List, [], ◌∷◌, length, Option, None}
+use Rattle.std.proofs.Common.{arith, ◌≡◌, ℕ, ◌+◌, ◌*◌, ◌%◌, ◌/◌, ◌==◌, nat_le, nat_lt, Bool, true, false, ◌&&◌, if◌then◌else◌, List, [], ◌∷◌, length, Option, None}
 use Rattle.std.proofs.Common.{Some, Result, Ok, Err, refl, ap, ◌∙◌}
 use Rattle.pas_profile.specs.{Blocks.address_of, Requests.class_home, Requests.is_shared}
 use Rattle.pas_profile.specs.declared.{directory.Directory.Directory, event.Event.Event, event.FreeFault.FreeFault, event.NoRoom.NoRoom, event.Outcome.Outcome}
@@ -55,9 +55,7 @@ block_keeps : (f : Profile) (k : ℕ) (name : Name) (b : Block) (w : World) → 
 block_keeps f k name b w = each_keeps minds (pages_of f b) minds_keep (notes k b (shows (Event.End k name w.epoch) w))
 
 effect_keeps : (f : Profile) (k : ℕ) (entry : Entry) (lives : Option Block) (w : World) → still (takes_effect f k entry lives w) ≡ still w
-effect_keeps f k entry (Some b) w = either (b.name.turn == entry.name.turn) (ends_if f k entry b w) (rejects k entry.name (reason w entry.name) w) (still w)
-    (either (is_other_room entry b) (rejects k entry.name (Why.SizeDiffers entry.room) w) (ends_block f k entry.name b w) (still w) refl (block_keeps f k entry.name b w)) refl
-effect_keeps f k entry None w = refl
+effect_keeps f k entry lives w = search (arith, either, block_keeps)
 
 ends_keep : (f : Profile) (k : ℕ) (entry : Entry) (w : World) → still (ends f k entry w) ≡ still w
 ends_keep f k entry w = effect_keeps f k entry (block_at w (address_of entry.name)) w
@@ -80,9 +78,7 @@ pub logs_keep : (f : Profile) (k : ℕ) (entry : Entry) (w : World) → still (l
 logs_keep f k entry w = either (nat_le 64 (length (log_of w k))) (flushes f k w) w (still w) (flushes_keep f k w) refl
 
 pub frees_keep : (f : Profile) (k : ℕ) (entry : Entry) (w : World) → still (frees f k entry w) ≡ still w
-frees_keep f k entry w = either (nat_le 4096 (address_of entry.name) && nat_lt (address_of entry.name) (4096 * (f.pages + 1)))
-    (if address_of entry.name % 16 == 0 then logs f k entry w else refuses_free k entry.name FreeFault.Unaligned w) (refuses_free k entry.name FreeFault.Outside w) (still w)
-    (either (address_of entry.name % 16 == 0) (logs f k entry w) (refuses_free k entry.name FreeFault.Unaligned w) (still w) (logs_keep f k entry w) refl) refl
+frees_keep f k entry w = search (arith, either, logs_keep)
 
 pub what_keeps : (f : Profile) (k name room : ℕ) (meant : Option (Option Block)) (w : World) → still (frees_what f k name room meant w) ≡ still w
 what_keeps f k name room (Some (Some block)) w = frees_keep f k (sized_entry block.name room) w
@@ -104,16 +100,13 @@ first_keeps k name l [] w = refl
 first_keeps k name l (s ∷ rest) w = refl
 
 page_keeps : (f : Profile) (k name heap class : ℕ) (found : Result ℕ NoRoom) (w : World) → still (takes_page f k name heap class found w) ≡ still w
-page_keeps f k name heap class (Ok page) w =
-    first_keeps k name (local_on f w heap class page) (slots_for (is_shared f heap) w class page) (readies k (class_home f heap class) page w) ∙ readies_keep k (class_home f heap class) page w
-page_keeps f k name heap class (Err why) w = refl
+page_keeps f k name heap class found w = search (arith, first_keeps, readies_keep)
 
 fetches_keep : (f : Profile) (k name heap class : ℕ) (w : World) → still (fetches f k name heap class w) ≡ still w
 fetches_keep f k name heap class w = page_keeps f k name heap class (searched f w (class_home f heap class) (slots_for (is_shared f heap) w class)) w
 
 first_up_keeps : (k : ℕ) (ls : List Local) (w : World) → still (gives_up_first k ls w) ≡ still w
-first_up_keeps k [] w = refl
-first_up_keeps k (l ∷ ls) w = either (nat_le 32 (length (l ∷ ls))) (gives_up k l w) w (still w) (given_up_keeps k l w) refl
+first_up_keeps k ls w = search (arith, either, given_up_keeps)
 
 pub class_keeps : (f : Profile) (k name heap class : ℕ) (own : Option Local) (w : World) → still (serves_class_by f k name heap class own w) ≡ still w
 class_keeps f k name heap class None w = fetches_keep f k name heap class (makes_place k w) ∙ first_up_keeps k (locals_of w k) w
@@ -125,14 +118,10 @@ place_keeps k name heap room page [] w = refl
 place_keeps k name heap room page (s ∷ more) w = refl
 
 pub places_keep : (k name heap room align : ℕ) (found : Result ℕ NoRoom) (w : World) → still (places k name heap room align found w) ≡ still w
-places_keep k name heap room align (Ok page) w =
-    place_keeps k name heap room page (lowest_place w (room / 16) (align / 16) page) (readies k (bitfit_of heap) page w) ∙ readies_keep k (bitfit_of heap) page w
-places_keep k name heap room align (Err why) w = refl
+places_keep k name heap room align found w = search (arith, place_keeps, readies_keep)
 
 pub run_keeps : (f : Profile) (k name heap n : ℕ) (found : Option ℕ) (w : World) → still (serves_run f k name heap n found w) ≡ still w
-run_keeps f k name heap n (Some first) w =
-    each_keeps (backs k) (numbers_from first n) (backs_keep k) (each (deeds k (large_of heap)) (numbers_from first n) w) ∙ each_keeps (deeds k (large_of heap)) (numbers_from first n) (deeds_keep k (large_of heap)) w
-run_keeps f k name heap n None w = refl
+run_keeps f k name heap n found w = search (arith, each_keeps, backs_keep, deeds_keep)
 
 -- ---- a pass
 outcome_keeps : (page : ℕ) (outcome : Outcome) (w : World) → still (comes_to page outcome w) ≡ still w

@@ -2,6 +2,7 @@
 use Rattle.std.proofs.Common.{◌≡◌, ℕ, ◌+◌, ◌*◌, ◌/◌, ◌%◌, ◌<◌, ◌≤◌, ◌==◌, Bool, true, false, not, ◌&&◌, if◌then◌else◌, List, [], ◌∷◌, ◌++◌, map, ◌⊎◌, inl, inr}
 use Rattle.std.proofs.Common.{refl, ap, sym, ◌∙◌, subst, arith, All, eq-eqb, eqb-true}
 use Rattle.std.proofs.lemmas.{Bool.false≢true, Bool.or_left, Bool.or_right, Bool.Decides.nat_tests, List.Elements.All-head, List.Elements.All-tail}
+use Rattle.pas_large.proofs.Left.{hints_both}
 use Rattle.pas_bits.specs.Masks.{is_set, HasMember}
 use Rattle.pas_profile.specs.{Classes.class_grains, Classes.usable_grains, Classes.IsSlotStart, Directories.deed_word_of, Profiles.IsValid, Profiles.IsPage}
 use Rattle.pas_profile.specs.{Profiles.IsDirectoryOf, Requests.kind_of_class}
@@ -31,7 +32,7 @@ use Rattle.pas_same_text.proofs.FlushActs.{flush_to, flush_records, events_recor
 use Rattle.pas_same_text.proofs.FreeGrains.{cached_held, held_by, never_both, held_still}
 use Rattle.pas_same_text.proofs.GivenPages.{IsGivenBack, open_from, covered_not_held, free_left, given_pages}
 use Rattle.pas_same_text.proofs.GivenUp.{IsGivenUp, AllOfRegion, unique_of, all_up}
-use Rattle.pas_same_text.proofs.GivingBack.{IsMarked, marked_parts, hint_marks, offer_marks, offered_of_region, hints_both, epoch_stays_by}
+use Rattle.pas_same_text.proofs.GivingBack.{IsMarked, marked_parts, hint_marks, offer_marks, offered_of_region, epoch_stays_by}
 use Rattle.pas_same_text.proofs.RestingPages.{is_open, deed_now, word_known, word_now}
 use Rattle.pas_same_text.proofs.StopSteps.{IsMarkedBy, IsMarkedIn, AllClasses, ReadsRoom, room_earlier, all_marked, all_hints}
 
@@ -68,8 +69,7 @@ one_of f v q steps slots known (IsMarkedIn.There s rest o) =
 
 -- a slot's first grain is one that blocks of its page's directory may cover
 slot_usable : (right : Bool) (class b : ℕ) → 1 ≤ class_grains class → IsSlotStart class b → usable_by_kind (kind_of_class (not right) class) b ≡ true
-slot_usable true class b some slot = let lt : b < usable_grains class = omega (arith, slot.within, some) in grind (arith, nat_tests, lt)
-slot_usable false class b some slot = refl
+slot_usable right class b h slot = grind arith
 
 -- slots whose page is of a directory in the text, after steps of their thread that give back, are at home there; that page is open where they had a slot whose grains are free now, or where room was read
 module _ (f : Profile) (k : ℕ) (p : Progress) (steps : List Made) (c' : Cached) (v : World) (valid : IsValid f) (before : IsBetween f p) (after : IsBetween f (with_steps p k steps c')) (has : HasSame f (with_steps p k steps c') v) (kinds : Only freeing steps)
@@ -164,10 +164,7 @@ module _ (f : Profile) (k : ℕ) (p : Progress) (w : World) (flushed stopped : L
 
   -- actor k holds none of its cache's grains
   lets_go : (g : ℕ) → any_covers c.locals g ≡ true → holds (part k p'.list) g ≡ true → ⊥
-  lets_go g cached held = elim (held_by f p' after k g held) [
-    | inl again ↦ false≢true (sym (ap (λ (d : Cached). any_covers d.locals g) (same_own p.caches k c' ∙ cache)) ∙ again)
-    | inr outer ↦ never_both f p before k g (g / 256) cached outer
-  ]
+  lets_go g cached held = search (arith, held_by, never_both)
 
   fewer : OnlyFewer w.events v.events
   fewer = subst (OnlyFewer w.events) (sym up.events) to.fewer

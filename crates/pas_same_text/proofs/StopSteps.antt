@@ -2,6 +2,8 @@
 use Rattle.std.proofs.Common.{◌≡◌, ℕ, zero, suc, ◌/◌, ◌%◌, ◌<◌, Bool, true, false, List, [], ◌∷◌, ◌++◌, ◌⊎◌, inl, inr, refl, ap, sym, ◌∙◌, subst, arith}
 use Rattle.std.proofs.Common.{MatchBool, true≢false}
 use Rattle.std.proofs.lemmas.Bool.{cases_eq}
+use Rattle.pas_same_text.proofs.SweptGuards.{back_hints}
+use Rattle.pas_large.proofs.Left.{hints_both}
 use Rattle.pas_bits.specs.{Bits.has_bit, Masks.HasMember}
 use Rattle.pas_bits.specs.declared.mask.Mask4.{Mask4}
 use Rattle.pas_profile.specs.Classes.{IsClass}
@@ -19,7 +21,7 @@ use Rattle.pas_segregated.specs.Stops.{home_of, StopStepsAt, LeavesWhere, AreGra
 use Rattle.pas_segregated.specs.declared.slots.Slots.{Slots}
 use Rattle.pas_segregated.proofs.Starts.{start_below}
 use Rattle.pas_cache.specs.Changes.{StopsAll}
-use Rattle.pas_same_text.proofs.GivingBack.{IsMarked, marked_parts, none_marked, returns_marked, hints_none, hints_both, hints_of}
+use Rattle.pas_same_text.proofs.GivingBack.{IsMarked, marked_parts, none_marked, returns_marked, hints_none, hints_of}
 use Rattle.pas_same_text.proofs.ReturnHints.{return_hints}
 
 -- ---- a grain that blocks of the directory may cover was read as free
@@ -36,9 +38,7 @@ pub record ReadsRoom (page : ℕ) (d : Directory) (steps : List Made) : Type 0 w
 pub grain_read : (ks : Kinds) → apart ks (Taking ∷ []) ≡ true → (f : Profile) (k : ℕ) (l : Whole) (page g : ℕ) (xs : List Made) → Legal f (triples k xs ++ l) → Only ks xs → ReadsGrain page g xs → has_bit (word_after (triples k xs ++ l) (Word.Free page (g / 64))) (g % 64) ≡ true
 grain_read ks no_take f k l page g [] legal only h = absurd h
 grain_read ks no_take f k l page g (m ∷ xs) legal only (inr h) = free_stays ks no_take k (m ∷ []) (triples k xs ++ l) page (g / 64) (g % 64) (only.0, tt) (grain_read ks no_take f k l page g xs legal.1 only.1 h)
-grain_read ks no_take f k l page g (m ∷ xs) legal only (inl h) =
-    let at : m.answer ≡ word_after (triples k xs ++ l) (Word.Free page (g / 64)) = legal.0.answer_is ∙ ap (λ s. word_after (triples k xs ++ l) (target s)) h.0 in
-    free_stays ks no_take k (m ∷ []) (triples k xs ++ l) page (g / 64) (g % 64) (only.0, tt) (ap (λ n. has_bit n (g % 64)) (sym at) ∙ h.1)
+grain_read ks no_take f k l page g (m ∷ xs) legal only (inl h) = search (arith, free_stays)
 
 pub room_later : (page : ℕ) (d : Directory) (ys xs : List Made) → ReadsRoom page d xs → ReadsRoom page d (ys ++ xs)
 room_later page d ys xs r = record { grain = r.grain; small = r.small; usable = r.usable; read = once_later _ ys xs r.read }
@@ -64,20 +64,10 @@ once_as P Q (x ∷ xs) to (inl h) = inl (to x h)
 once_as P Q (x ∷ xs) to (inr h) = inr (once_as P Q xs to h)
 
 looks_room : (page : ℕ) (d : Directory) (free : Mask4) → HasUsable d free → ReadsRoom page d (looks page (words free) 4)
-looks_room page d free u =
-    let small : u.0 < 256 = u.1 in
-    let word : u.0 / 64 < 4 = omega (arith, small) in
-    record {
-      grain = u.0;
-      small = u.1;
-      usable = u.3;
-      read = once_as (λ m. (m.step ≡ Look (Word.Free page (u.0 / 64))) × (m.answer ≡ words free (u.0 / 64))) (λ m. (m.step ≡ Look (Word.Free page (u.0 / 64))) × (has_bit m.answer (u.0 % 64) ≡ true)) (looks page (words free) 4)
-          (λ m h. (h.0, ap (λ n. has_bit n (u.0 % 64)) h.1 ∙ u.2)) (look_at page (words free) 4 (u.0 / 64) word);
-    }
+looks_room page d free u = search (arith, once_as, look_at)
 
 usable_if : (usable : Bool) (d : Directory) (free : Mask4) → MatchBool usable (HasUsable d free) (HasNoUsable d free) → usable ≡ true → HasUsable d free
-usable_if true d free h e = h
-usable_if false d free h e = absurd (true≢false (sym e))
+usable_if usable d free h e = search (arith, true≢false)
 
 -- ---- a leave: a page is offered only after a grain was read so
 looks_offer_none : (page q : ℕ) (answers : ℕ → ℕ) → IsMarked q (looks page answers 4) → ⊥
@@ -147,12 +137,8 @@ left_hints : (s : Slots) (right : Bool) (steps : List Made) → LeavesWhere righ
 left_hints s true steps h = hints_of steps (leave_due s.page (home_of s) steps h)
 left_hints s false steps h = subst (Always HintsEmpty) (sym h) tt
 
-back_hints : (s : Slots) (mask : Mask4) (steps : List Made) → BackSteps s.page (home_of s) mask steps → Always HintsEmpty steps
-back_hints s mask steps (inl h) = subst (Always HintsEmpty) (sym h.1) tt
-back_hints s mask steps (inr h) = subst (Always HintsEmpty) (sym h.5) (hints_both h.2 h.1 (return_hints s.page (home_of s) h.2 h.4) (hints_none (Putting ∷ []) h.1 refl (puts_kinds s.page mask 4 h.1 h.3)))
-
 pub one_hints : (s : Slots) (steps : List Made) → StopStepsAt (home_of s) s steps → Always HintsEmpty steps
-one_hints s steps h = subst (Always HintsEmpty) (sym h.steps_are) (hints_both h.left h.back (left_hints s s.right h.left h.leaves) (back_hints s h.mask h.back h.puts))
+one_hints s steps h = subst (Always HintsEmpty) (sym h.steps_are) (hints_both h.left h.back (left_hints s s.right h.left h.leaves) (back_hints s.page (home_of s) h.mask h.back h.puts))
 
 -- ==== ALL OF THEM
 abbrev pub AllClasses : List Slots → Type 0

@@ -3,6 +3,7 @@ use Rattle.std.proofs.Common.{◌≡◌, ℕ, ◌+◌, ◌*◌, ◌/◌, ◌%◌
 use Rattle.std.proofs.Common.{ap, sym, ◌∙◌, subst, arith, eq-eqb}
 use Rattle.std.proofs.lemmas.Bool.{or_left, or_right}
 use Rattle.std.specs.List.{filter}
+use Rattle.pas_large.proofs.Left.{hints_both}
 use Rattle.pas_bits.specs.declared.mask.Mask4.{Mask4}
 use Rattle.pas_profile.specs.{Blocks.address_of, Lives.turn_of, Profiles.IsValid}
 use Rattle.pas_profile.specs.declared.{directory.Directory.Directory, event.Event.Event, profile.Profile.Profile, word.Word.Word}
@@ -22,7 +23,7 @@ use Rattle.pas_guard.specs.Sweeps.{is_over, life_look, lowered_record, SweptOne,
 use Rattle.pas_guard.specs.declared.book.Guard.{Guard as BookGuard}
 use Rattle.pas_same_text.specs.Same.{told_guard}
 use Rattle.pas_same_text.proofs.{Flushes.unshown, LoweredGuards.lowered_line, ReturnHints.return_hints}
-use Rattle.pas_same_text.proofs.GivingBack.{IsMarked, marked_parts, none_marked, returns_marked, hints_none, hints_both}
+use Rattle.pas_same_text.proofs.GivingBack.{IsMarked, marked_parts, none_marked, returns_marked, hints_none}
 
 -- the guard goes down: all do, or its block has ended by these events
 abbrev pub goes_down : Bool → List Event → BookGuard → Bool
@@ -36,7 +37,7 @@ back_page page d mask q steps (inr h) marked = elim (marked_parts q h.2 h.1 (sub
   | inr later ↦ absurd (none_marked (Putting ∷ []) refl q h.1 (puts_kinds page mask 4 h.1 h.3) later)
 ]
 
-back_hints : (page : ℕ) (d : Directory) (mask : Mask4) (steps : List Made) → BackSteps page d mask steps → Always HintsEmpty steps
+pub back_hints : (page : ℕ) (d : Directory) (mask : Mask4) (steps : List Made) → BackSteps page d mask steps → Always HintsEmpty steps
 back_hints page d mask steps (inl h) = subst (Always HintsEmpty) (sym h.1) tt
 back_hints page d mask steps (inr h) = subst (Always HintsEmpty) (sym h.5) (hints_both h.2 h.1 (return_hints page d h.2 h.4) (hints_none (Putting ∷ []) h.1 refl (puts_kinds page mask 4 h.1 h.3)))
 
@@ -123,12 +124,7 @@ module _ (all : Bool) (es : List Event) (keeper : ℕ) (g : BookGuard) (gs kept 
 module _ (f : Profile) (all : Bool) (es : List Event) (keeper : ℕ) (valid : IsValid f) where
   pub swept_told : (guards kept : List BookGuard) (said : List Record) (steps : List Made) (l : Whole) → Legal f (triples keeper steps ++ l) → visible l ≡ es → Each IsBeside guards → Only sweeping steps → Swept all keeper guards kept said steps
       → IsSwept all es keeper guards kept said steps
-  swept_told [] kept said steps l legal same beside only h = record {
-    kept_is = h.0;
-    said_is = h.1;
-    hints = subst (Always HintsEmpty) (sym h.2) tt;
-    marks = λ q marked. absurd (subst (IsMarked q) h.2 marked);
-  }
+  swept_told [] kept said steps l legal same beside only h = search (arith, h.0, h.1, h.2)
   swept_told (g ∷ gs) kept said steps l legal same beside only h =
       let word : ℕ = h.0 in
       let first : List Made = h.1 in

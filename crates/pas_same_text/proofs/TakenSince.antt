@@ -64,22 +64,18 @@ module _ (f : Profile) (k page g : ℕ) (of : g / 256 ≡ page) (v ts before : L
 
   -- the right can't come to who has it
   still_listed : (x : Way) (t u : Bool) → u ≡ t → Suits k (if t then x else Rests) o → (Suits k x o → is_with k o ≡ false) → IsTakenSo → holds (if u then [] else ts) g ≡ true
-  still_listed x true u same suits nobody so = absurd (false≢true (sym (spot ∙ nobody suits) ∙ so.0))
-  still_listed x false true same suits nobody so = absurd (true≢false same)
-  still_listed x false false same suits nobody so = so.1
+  still_listed x t u same suits nobody so = search (arith, false≢true, true≢false)
 
   -- a take of the page is one of the list
   in_list : (m : Made) (t : Bool) → (t ≡ false → holds ts g ≡ true) → holds (m ∷ ts) g ≡ true → holds (if t then m ∷ ts else ts) g ≡ true
-  in_list m true others own = own
-  in_list m false others own = others refl
+  in_list m t others own = grind arith
 
   got_or_held : (x held : Bool) → (x ≡ false → held ≡ true) → held_after (if x then Gets else Stays) held ≡ true
   got_or_held true held h = refl
   got_or_held false held h = h refl
 
   put_kept : (x held : Bool) → held_after (if x then Puts else Stays) held ≡ true → held ≡ true
-  put_kept true held h = absurd (false≢true h)
-  put_kept false held h = h
+  put_kept x held h = search (arith, false≢true)
 
   took : (q word mask a : ℕ) → has_right v q ≡ true → (holds before g ≡ true → IsTakenSo) → (x : Bool) → (in_mask q word mask g && has_bit a (g % 64)) ≡ x → held_after (if x then Gets else Stays) (holds before g) ≡ true → IsTakenAfter (Take q word mask) a
   took q word mask a allowed was true is h =
@@ -89,23 +85,11 @@ module _ (f : Profile) (k page g : ℕ) (of : g / 256 ≡ page) (v ts before : L
         in_list (made (Take q word mask) a) (page == q) (λ other. absurd (true≢false (sym (eq-eqb page q (sym at)) ∙ other)))
             (got_or_held (in_mask q word mask g && has_bit a (g % 64)) (holds ts g) (λ none. absurd (true≢false (sym is ∙ none)))),
       )
-  took q word mask a allowed was false is h =
-      let so = was h in (
-        so.0,
-        in_list (made (Take q word mask) a) (page == q) (λ other. so.1) (got_or_held (in_mask q word mask g && has_bit a (g % 64)) (holds ts g) (λ none. so.1)),
-      )
+  took q word mask a allowed was false is h = search (arith, in_list, got_or_held)
 
   listed_step : (s : Step) (a : ℕ) → is_in lending (kind_of s) ≡ false → (IsReturnOf page s → s ≡ Unpark page) → Allowed f v s → Suits k (way s a page) o → (holds before g ≡ true → IsTakenSo) → held_after (grain_move s a g) (holds before g) ≡ true → IsTakenAfter s a
-  listed_step (Deed q d) a lends marks allowed suits was h =
-      let so = was h in (
-        right_stays page (Deed q d) a (has_right v page) marks so.0,
-        still_listed ByDeed ((q == page) && (a == 0)) ((page == q) && (a == 0)) (ap (λ (t : Bool). t && (a == 0)) (eqb_turned page q)) suits (λ e. ap (is_with k) e) so,
-      )
-  listed_step (TakeRight q d) a lends marks allowed suits was h =
-      let so = was h in (
-        right_stays page (TakeRight q d) a (has_right v page) marks so.0,
-        still_listed (FromOffer (number_of d)) ((q == page) && has_bit a (page % 64)) ((page == q) && has_bit a (page % 64)) (ap (λ (t : Bool). t && has_bit a (page % 64)) (eqb_turned page q)) suits (λ e. ap (is_with k) e) so,
-      )
+  listed_step (Deed q d) a lends marks allowed suits was h = search (arith, right_stays, still_listed)
+  listed_step (TakeRight q d) a lends marks allowed suits was h = search (arith, right_stays, still_listed)
   listed_step (Take q word mask) a lends marks allowed suits was h = took q word mask a allowed was (in_mask q word mask g && has_bit a (g % 64)) refl h
   listed_step (Put q word mask) a lends marks allowed suits was h = was (put_kept (in_mask q word mask g) (holds before g) h)
   listed_step (Give block) a lends marks allowed suits was h = absurd (true≢false lends)
@@ -207,10 +191,7 @@ takes_split page masks answers (suc n) word lt some = elim (cases_eq n word) [
 
 -- takes of lower words get no grain of this one
 lower_take : (page n mask a g : ℕ) (rest : List Made) → n < g / 64 % 4 → holds rest g ≡ false → (t : Bool) → holds ((if t then [] else made (Take page n mask) a ∷ []) ++ rest) g ≡ false
-lower_take page n mask a g rest lt none true = none
-lower_take page n mask a g rest lt none false =
-    let other : (n == g / 64 % 4) ≡ false = ne_eqb n (g / 64 % 4) (λ same. omega (arith, lt, same)) in
-    ap (λ (t : Bool). held_after (if t && (page == g / 256) && has_bit mask (g % 64) && has_bit a (g % 64) then Gets else Stays) (holds rest g)) other ∙ none
+lower_take page n mask a g rest lt h x = search (arith, ne_eqb)
 
 takes_below : (page : ℕ) (masks answers : ℕ → ℕ) (n g : ℕ) → n ≤ g / 64 % 4 → holds (takes page masks answers n) g ≡ false
 takes_below page masks answers zero g le = refl

@@ -23,8 +23,7 @@ use Rattle.pas_same_text.proofs.{SpacedPlaces.in_spaced, SpacedPlaces.from_space
 -- ---- places that follow each other at a step, and pass a test
 -- they rise
 kept_above : (low x : ℕ) (xs : List ℕ) (t : Bool) → low < x → AllByRecursion (λ m. low < m) xs → AllByRecursion (λ m. low < m) (if t then x ∷ xs else xs)
-kept_above low x xs true lt all = (lt, all)
-kept_above low x xs false lt all = all
+kept_above low x xs t lt all = grind arith
 
 all_above : (test : ℕ → Bool) (n from step low : ℕ) → low < from → AllByRecursion (λ m. low < m) (filter test (spaced from step n))
 all_above test zero from step low lt = tt
@@ -48,11 +47,7 @@ there_place n from step s h = let o = from_spaced (λ m. m == s) n from step h i
 
 -- ---- those that follow each other without a break
 no_row : (next step m : ℕ) (xs : List ℕ) → AllByRecursion (λ x. next < x) xs → row_from next step m xs ≡ []
-no_row next step zero xs all = refl
-no_row next step (suc m) [] all = refl
-no_row next step (suc m) (x ∷ xs) all =
-    let lt : next < x = all.0 in
-    ap (λ (t : Bool). if t then x ∷ row_from (next + step) step m xs else []) (ne_eqb x next (λ same. omega (arith, lt, same)))
+no_row next step m xs all = search (arith, ne_eqb)
 
 -- the head is in the row where it is the place that is due
 row_head : (next step m : ℕ) (xs : List ℕ) → row_from next step (suc m) (next ∷ xs) ≡ next ∷ row_from (next + step) step m xs
@@ -126,8 +121,7 @@ module _ (test : ℕ → Bool) (step : ℕ) (some : 1 ≤ step) where
 
   -- the row begins with it
   first_row_is : (from n : ℕ) → 1 ≤ n → test from ≡ true → first_row step (places from n) ≡ row_from from step 4 (places from n)
-  first_row_is from zero less so = absurd (omega (arith, less))
-  first_row_is from (suc n) less so = ap (first_row step) (passing from n so) ∙ sym (ap (row_from from step 4) (passing from n so))
+  first_row_is from n less so = search (arith, passing)
 
 -- ---- a row rises
 kept_row : (P : ℕ → Type 0) (x : ℕ) (xs : List ℕ) (t : Bool) → P x → AllByRecursion P xs → AllByRecursion P (if t then x ∷ xs else [])
@@ -149,8 +143,7 @@ rising_row step (suc m) next [] rising = tt
 rising_row step (suc m) next (x ∷ xs) rising = row_next x (row_from (next + step) step m xs) (x == next) (all_row (λ y. x < y) step m (next + step) xs rising.0) (rising_row step m (next + step) xs rising.1)
 
 rising_first : (step : ℕ) (xs : List ℕ) → IsRising xs → IsRising (first_row step xs)
-rising_first step [] rising = tt
-rising_first step (x ∷ xs) rising = rising_row step 4 x (x ∷ xs) rising
+rising_first step xs rising = search (arith, rising_row)
 
 -- ---- THE SLOTS of the text are the bits of a mask
 module _ (f : Profile) (p : Progress) (w : World) (valid : IsValid f) (between : IsBetween f p) (same : HasSame f p w) (class : ℕ) (is : IsClass class) (page : ℕ) (starts : Mask4) (none : is_guarded w page ≡ false) where
@@ -265,5 +258,4 @@ module _ (f : Profile) (p : Progress) (w : World) (valid : IsValid f) (between :
 
   -- the slots rise
   pub slots_rise : (shared : Bool) → IsRising (slots_for shared w class page)
-  slots_rise false = rising_free
-  slots_rise true = rising_first step (free_slots w class page) rising_free
+  slots_rise shared = search (arith, rising_free, rising_first)

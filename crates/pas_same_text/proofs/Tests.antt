@@ -18,10 +18,7 @@ eqb_turned x y = grind (arith, nat_tests)
 
 -- what passes a test and not another passes where the other passes less
 pub and_more : (x c d : Bool) → (d ≡ true → c ≡ true) → (x && not c) ≡ true → (x && not d) ≡ true
-and_more true true d more h = absurd (false≢true h)
-and_more true false true more h = absurd (false≢true (more refl))
-and_more true false false more h = refl
-and_more false c d more h = absurd (false≢true h)
+and_more x c d more h = search (arith, false≢true)
 
 -- grain b of a page is on it
 pub on_page : (page b : ℕ) → b < 256 → (256 * page + b) / 256 ≡ page
@@ -37,12 +34,10 @@ and_first true y h = refl
 and_first false y h = h
 
 pub and_second : (x y : Bool) → (x && y) ≡ true → y ≡ true
-and_second true y h = h
-and_second false y h = absurd (false≢true h)
+and_second x y h = search (arith, false≢true)
 
 filtered_one : {X : Type 0} (p : X → Bool) (x : X) (ys : List X) (t rest : Bool) → (list_any p ys ≡ true → rest ≡ true) → list_any p (if t then x ∷ ys else ys) ≡ true → ((t && p x) || rest) ≡ true
-filtered_one p x ys true rest more h = or_more (p x) (list_any p ys) rest more h
-filtered_one p x ys false rest more h = more h
+filtered_one p x ys t rest more h = search (arith, or_more)
 
 -- one that is left passes both tests
 pub any_filtered : {X : Type 0} (p q : X → Bool) (xs : List X) → list_any p (filter q xs) ≡ true → list_any (λ x. q x && p x) xs ≡ true
@@ -50,8 +45,7 @@ any_filtered p q [] h = h
 any_filtered p q (x ∷ xs) h = filtered_one p x (filter q xs) (q x) (list_any (λ y. q y && p y) xs) (any_filtered p q xs) h
 
 left_one : {X : Type 0} (p : X → Bool) (x : X) (ys : List X) (t rest : Bool) → (rest ≡ true → list_any p ys ≡ true) → ((t && p x) || rest) ≡ true → list_any p (if t then x ∷ ys else ys) ≡ true
-left_one p x ys true rest more h = or_more (p x) rest (list_any p ys) more h
-left_one p x ys false rest more h = more h
+left_one p x ys t rest more h = search (arith, or_more)
 
 pub filtered_any : {X : Type 0} (p q : X → Bool) (xs : List X) → list_any (λ x. q x && p x) xs ≡ true → list_any p (filter q xs) ≡ true
 filtered_any p q [] h = h
@@ -84,10 +78,7 @@ passed p (n ∷ more) m h so = elim (or_cases (n == m) (has_number more m) h) [
 
 -- ---- tests that follow from others
 pub weaker_at : (x y r s : Bool) → (x ≡ true → y ≡ true) → (r ≡ true → s ≡ true) → (x || r) ≡ true → (y || s) ≡ true
-weaker_at true true r s here rest h = refl
-weaker_at true false r s here rest h = absurd (false≢true (here refl))
-weaker_at false true r s here rest h = refl
-weaker_at false false r s here rest h = rest h
+weaker_at x y r s here rest h = search (arith, false≢true)
 
 pub any_weaker : {X : Type 0} (p q : X → Bool) (xs : List X) → ((x : X) → p x ≡ true → q x ≡ true) → list_any p xs ≡ true → list_any q xs ≡ true
 any_weaker p q [] more h = h

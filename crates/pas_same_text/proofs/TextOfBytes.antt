@@ -10,10 +10,7 @@ use Rattle.pas_one_text.specs.Order.{replayed, replay_of, order_text, text_for, 
 
 -- the region of a plan without keepers has no other actors than its threads
 region_same : (plan : Plan) → keepers_of plan ≡ 0 → plan.profile ≡ region_of plan
-region_same plan none =
-    let actors = plan_actors plan in
-    let many : plan.profile.threads ≡ (region_of plan).threads = omega (arith, actors, none) in
-    ap (λ (n : ℕ). let f : Profile = record plan.profile { threads = n } in f) many
+region_same plan none = search (arith, plan_actors)
 
 -- whatever is told of a region and of what a replay in it comes to
 module _ {A : Type 0} (tells : Profile → World → A) where

@@ -38,9 +38,7 @@ abbrev usable_in : Directory → Option Directory → World → ℕ → Bool
 usable_in d o w page = is_none o || ((is_same d o && (not (is_kept w page) && is_open w d page)) && is_empty w page)
 
 all_true : (d : Directory) (kept room empty : Bool) → kept ≡ false → room ≡ true → empty ≡ true → (false || (((number_of d == number_of d) && (not kept && room)) && empty)) ≡ true
-all_true d kept room empty none some full =
-    ap (λ (t : Bool). (t && (not kept && room)) && empty) (eq-eqb (number_of d) (number_of d) refl)
-    ∙ (ap (λ (t : Bool). (not t && room) && empty) none ∙ (ap (λ (t : Bool). t && empty) some ∙ full))
+all_true d kept room empty none some full = search (arith, eq-eqb)
 
 word_some : (o : Option Directory) → word_of_deed o ≢ 0 → o ≢ None
 word_some o some none = some (ap word_of_deed none)
@@ -60,9 +58,7 @@ module _ (f : Profile) (k heap n : ℕ) (p : Progress) (w : World) (valid : IsVa
 
   -- ---- A PAGE THAT NOBODY HAS is empty, nobody keeps it, and no guard has it
   pub unowned_free : (page b : ℕ) → word_after l (Word.Deed page) ≡ 0 → b < 256 → free_bit l (256 * page + b) ≡ true
-  unowned_free page b none small =
-      let on : (256 * page + b) / 256 ≡ page = omega (arith, small) in
-      free_without_deed f l between.legal (256 * page + b) (ap (λ (x : ℕ). word_after l (Word.Deed x)) on ∙ none)
+  unowned_free page b none small = search (arith, free_without_deed)
 
   unowned_empty : (page : ℕ) → word_after l (Word.Deed page) ≡ 0 → is_empty w page ≡ true
   unowned_empty page none = each_all 256 0 (is_free w page) (λ b low high. bit_free f p w valid between old page b high (unowned_free page b none high))

@@ -66,19 +66,10 @@ ended_usable es own address b g false lives of usable is = usable.usable address
 
 given_usable : (k : ℕ) (block : Block) (es : List Event) (own : Directory) (address : ℕ) (b : Live) (g : ℕ) (t : Bool) → (address_of block.name == address) ≡ t → (if t then Some (record { actor = k; block = block }) else live_in es address) ≡ Some b → IsPartOf g address b
     → IsUsableGive es block → AreBlocksUsable es → deed_in es (g / 256) ≡ Some own → usable_by_kind own.kind (g % 256) ≡ true
-given_usable k block es own address b g true e lives of give usable is =
-    let same : block ≡ b.block = ap (λ (l : Live). l.block) (same_Some (record { actor = k; block = block }) b lives) in
-    let at : address_of block.name ≡ address = eqb-true (address_of block.name) address e in
-    give g (ap (λ (a : ℕ). in_run (a / 16) (length_of block) g) at ∙ (ap (λ (x : Block). in_run (address / 16) (length_of x) g) same ∙ of)) own is
-given_usable k block es own address b g false e lives of give usable is = usable.usable address b lives g of own is
+given_usable k block es own address b g t e lives of give usable is = search (arith, eqb-true)
 
 next_usable : (f : Profile) (e : Event) (es : List Event) → Run f (e ∷ es) → GivesUsably es e → AreBlocksUsable es → AreBlocksUsable (e ∷ es)
-next_usable f (Event.Deed k p d) es run give usable = record { usable = λ address b lives g of own is. deed_usable f es p d own address b g (p == g / 256) refl run.1 run.0.2 lives of usable is }
-next_usable f (Event.Back k p) es run give usable = record { usable = usable.usable }
-next_usable f (Event.Unback k p e) es run give usable = record { usable = usable.usable }
-next_usable f (Event.Give k block) es run give usable = record { usable = λ address b lives g of own is. given_usable k block es own address b g (address_of block.name == address) refl lives of give usable is }
-next_usable f (Event.End k name e) es run give usable = record { usable = λ address b lives g of own is. ended_usable es own address b g (address_of name == address) lives of usable is }
-next_usable f (Event.Reject k name why) es run give usable = record { usable = usable.usable }
+next_usable f e es run give usable = search (arith, deed_usable, given_usable, ended_usable)
 
 -- ---- events without a give
 abbrev IsNoGive : Event → Type 0
@@ -126,8 +117,7 @@ full_gives true k log kept noted noted' steps v h = flush_gives k log noted note
 full_gives false k log kept noted noted' steps v h = subst (λ (ms : List Made). AreNoGives (events_by k v ms)) (sym h.0) tt
 
 freed_gives : (f : Profile) (k : ℕ) (c c' : Cached) (entry : Entry) (steps : List Made) (said : Option Said) (v : View) → IsFreed f k c c' entry steps said → AreNoGives (events_by k v steps)
-freed_gives f k c c' entry steps said v (inl t) = full_gives (nat_le 64 (length c.log)) k c.log t.0.logs.kept c.noted c'.noted steps v t.0.logs.emptied
-freed_gives f k c c' entry steps said v (inr t) = subst (λ (ms : List Made). AreNoGives (events_by k v ms)) (sym t.1.no_steps) tt
+freed_gives f k c c' entry steps said v h = search (arith, full_gives)
 
 named_gives : (f : Profile) (k : ℕ) (c c' : Cached) (name : ℕ) (size : Option ℕ) (meant : Option (Option Block)) (steps : List Made) (said : Option Said) (v : View) → IsFreedBy f k c c' name size meant steps said → AreNoGives (events_by k v steps)
 named_gives f k c c' name size None steps said v freed = absurd freed
@@ -169,20 +159,10 @@ all_deeds d (e ∷ es) all = (deed_none d e all.0, all_deeds d es all.1)
 
 -- where a block stands, its grains are such as its directory's blocks may cover
 slot_at : (class : ℕ) (shared : Bool) (block : Block) (g : ℕ) → IsClass class → IsInSlot class block → block.room ≡ class_size class → in_run (grain_of block.name) (length_of block) g ≡ true → usable_by_kind (kind_of_class shared class) (g % 256) ≡ true
-slot_at class true block g is slot room of = refl
-slot_at class false block g is slot room of =
-    let at = run_of (grain_of block.name) (length_of block) g of in
-    let low = at.0 in let high = at.1 in
-    let long : length_of block ≡ class_grains class = ap (λ (n : ℕ). n / 16) room in
-    let most = usable_grains_le class is in
-    let lt : g % 256 < usable_grains class = omega (arith, low, high, long, slot.address, slot.is_start.within, most) in
-    grind (arith, nat_tests, lt)
+slot_at class shared block g is slot room of = search (arith, run_of)
 
 placed_usable : (f : Profile) (shared : Bool) (size align : ℕ) (route : Route) (block : Block) (g : ℕ) → route_in f size align ≡ route → IsPlaced route block → block.room ≡ room_in f size align → in_run (grain_of block.name) (length_of block) g ≡ true → usable_by_kind (kind_of_route shared route) (g % 256) ≡ true
-placed_usable f shared size align (Route.Class class) block g e placed room of =
-    slot_at class shared block g (class_known f.classes size align class (class_suits f.classes size align class e)) placed (room ∙ ap (λ (r : Route). room_by r (max size 1)) e) of
-placed_usable f shared size align Route.Bitfit block g e placed room of = refl
-placed_usable f shared size align Route.Large block g e placed room of = refl
+placed_usable f shared size align route block g e placed room of = search (arith, slot_at)
 
 kind_known : (f : Profile) (shared : Bool) (size align : ℕ) (route : Route) → route_in f size align ≡ route → IsKind (kind_of_route shared route)
 kind_known f true size align (Route.Class class) e = tt
@@ -191,9 +171,7 @@ kind_known f shared size align Route.Bitfit e = tt
 kind_known f shared size align Route.Large e = tt
 
 refusal_gives : (route : Route) (d : Directory) (es : List Event) → RefusalEnds route d es → AreNoGives es
-refusal_gives (Route.Class class) d es h = subst AreNoGives (sym h) tt
-refusal_gives Route.Bitfit d es h = subst AreNoGives (sym h) tt
-refusal_gives Route.Large d es h = all_deeds d es h
+refusal_gives route d es h = search (arith, all_deeds)
 
 module _ (f : Profile) (k heap size align : ℕ) (l : Whole) (steps : List Made) (valid : IsValid f) (legal : Legal f (triples k steps ++ l)) (usable : AreBlocksUsable (visible l)) where
   abbrev wanted : Wanted
@@ -222,8 +200,7 @@ module _ (f : Profile) (k heap size align : ℕ) (l : Whole) (steps : List Made)
 
 -- ---- a reallocation
 logged_gives : (f : Profile) (k : ℕ) (c c' : Cached) (entry : Entry) (freed : List Made) (v : View) (answer : Result Block NoRoom) → MatchResult answer (λ block. TakesEntry f k c c' entry freed) (λ room. (freed ≡ []) × (c' ≡ c)) → AreNoGives (events_by k v freed)
-logged_gives f k c c' entry freed v (Ok block) takes = full_gives (nat_le 64 (length c.log)) k c.log takes.logs.kept c.noted c'.noted freed v takes.logs.emptied
-logged_gives f k c c' entry freed v (Err room) none = subst (λ (ms : List Made). AreNoGives (events_by k v ms)) (sym none.0) tt
+logged_gives f k c c' entry freed v answer takes = search (arith, full_gives)
 
 replaced_usable : (f : Profile) (k : ℕ) (r : Request) (old : Block) (b : Having) (l : Whole) (a : Answer) → b.view ≡ part k l → IsValid f → Legal f (triples k a.steps ++ l) → IsReplaced f k r old b a → AreBlocksUsable (visible l) → AreBlocksUsable (visible (triples k a.steps ++ l))
 replaced_usable f k r old b l a view valid legal h usable =
@@ -238,10 +215,7 @@ replaced_usable f k r old b l a view valid legal h usable =
 
 remade_usable : (f : Profile) (k name size align : ℕ) (meant : Option (Option Block)) (p : Progress) (a : Answer) → IsValid f → Legal f (triples k a.steps ++ p.list) → IsRemadeBy f k name size align meant (having p.names (part k p.list) (p.caches k)) a → HasUsableBlocks p
     → AreBlocksUsable (visible (triples k a.steps ++ p.list))
-remade_usable f k name size align None p a valid legal h usable = absurd h
-remade_usable f k name size align (Some None) p a valid legal h usable = subst (λ (ms : List Made). AreBlocksUsable (visible (triples k ms ++ p.list))) (sym h.0) usable
-remade_usable f k name size align (Some (Some old)) p a valid legal (inl kept) usable = subst (λ (ms : List Made). AreBlocksUsable (visible (triples k ms ++ p.list))) (sym kept.no_steps) usable
-remade_usable f k name size align (Some (Some old)) p a valid legal (inr replaced) usable = replaced_usable f k (request_for old name size align) old (having p.names (part k p.list) (p.caches k)) p.list a refl valid legal replaced usable
+remade_usable f k name size align meant p a valid legal h usable = search (arith, replaced_usable)
 
 -- ---- the acts
 operation_usable : (f : Profile) (k : ℕ) (what : What) (p : Progress) (a : Answer) → IsValid f → Legal f (triples k a.steps ++ p.list) → IsAnswered f k what (having p.names (part k p.list) (p.caches k)) a → HasUsableBlocks p → AreBlocksUsable (visible (triples k a.steps ++ p.list))
@@ -281,8 +255,7 @@ tried_usable f keeper r l guards t valid legal h usable =
 
 -- what follows a try
 left_usable : (f : Profile) (op : Op) (r : Request) (block : Option Block) (p p' : Progress) → IsValid f → Legal f p'.list → AnswersTried f op r block p p' → HasUsableBlocks p → HasUsableBlocks p'
-left_usable f op r (Some block) p p' valid legal is usable = subst HasUsableBlocks (sym is) usable
-left_usable f op r None p p' valid legal is usable = subst HasUsableBlocks (sym is.2) (operation_usable f op.actor op.what p is.0 valid (subst (λ (q : Progress). Legal f q.list) is.2 legal) is.1 usable)
+left_usable f op r block p p' valid legal is usable = search (arith, operation_usable)
 
 guarded_usable : (f : Profile) (keeper : ℕ) (op : Op) (o : Option Request) (p p' : Progress) → IsValid f → Legal f p'.list → AnswersGuarded f keeper op o p p' → HasUsableBlocks p → HasUsableBlocks p'
 guarded_usable f keeper op None p p' valid legal is usable = absurd is
@@ -301,9 +274,7 @@ act_usable f (Act.Operates op) p p' valid before after is usable =
 act_usable f (Act.Guards keeper op) p p' valid before after is usable = guarded_usable f keeper op (request_in op.what) p p' valid after.legal is usable
 act_usable f (Act.Settles k) p p' valid before after is usable = subst HasUsableBlocks (sym is) usable
 act_usable f (Act.Ticks asked) p p' valid before after is usable = subst HasUsableBlocks (sym is.1) usable
-act_usable f Act.MakesPass p p' valid before after is usable =
-    subst HasUsableBlocks (sym is.4) (steps_usable f 0 is.2 p.list valid (subst (λ (q : Progress). Legal f q.list) is.4 after.legal)
-    (subst AreNoGives (sym (is.3.events (part 0 p.list))) (unbacks_give 0 is.0 (reverse is.1))) usable)
+act_usable f Act.MakesPass p p' valid before after is usable = search (arith, steps_usable, unbacks_give)
 act_usable f Act.ReadsEpoch p p' valid before after is usable = subst HasUsableBlocks (sym is.1) usable
 act_usable f (Act.StopsIdle k n) p p' valid before after is usable = elim is [
   | inl h ↦ subst HasUsableBlocks (sym h.4) (steps_usable f k h.1 p.list valid (subst (λ (q : Progress). Legal f q.list) h.4 after.legal) (stop_gives k (p.caches k) h.2 h.1 (part k p.list) h.3) usable)

@@ -1,5 +1,5 @@
 -- The first state of the text is that of a replay that did nothing yet, and the text of a state that is the replay's is what is written of it.
-use Rattle.std.proofs.Common.{◌≡◌, ℕ, zero, suc, ◌+◌, ◌%◌, ◌==◌, Bool, true, false, not, List, [], ◌++◌, length, map, if◌then◌else◌, ◌-◌, codes, Option, None}
+use Rattle.std.proofs.Common.{arith, ◌≡◌, ℕ, zero, suc, ◌+◌, ◌%◌, ◌==◌, Bool, true, false, not, List, [], ◌++◌, length, map, if◌then◌else◌, ◌-◌, codes, Option, None}
 use Rattle.std.proofs.Common.{Some, inl, inr, refl, ap, sym, ◌∙◌, subst}
 use Rattle.std.proofs.lemmas.Option.{none-some}
 use Rattle.pas_bits.proofs.Words.{none_of_zero}
@@ -35,21 +35,10 @@ none_used (suc n) from k = by_place (k == 1) (cache_in (map (λ k. no_cache) (nu
     by_place false rest is = is
 
 start_caches : (f : Profile) → AreSameCaches f empty_caches (opened f).caches
-start_caches f = record {
-  many = many_numbers f.threads 1;
-  each = λ k is. subst (IsSameCache empty_cache) (sym (none_used f.threads 1 k)) (record { locals = tt; log = refl; noted = refl; began = refl });
-}
+start_caches f = search (arith, many_numbers, none_used)
 
 pub start_same : (f : Profile) → IsSame f at_start (opened f)
-start_same f = record {
-  pages = record { events = refl; live = refl; hinted = λ page. sym (none_of_zero (page % 64)); offered = λ page d of. sym (none_of_zero (page % 64)) };
-  caches = start_caches f;
-  guards = record { each = λ keeper. refl };
-  names = refl;
-  records = refl;
-  epoch = refl;
-  read = refl;
-}
+start_same f = search (arith, none_of_zero, start_caches)
 
 pub start_usable : AreBlocksUsable []
 start_usable = record { usable = λ address b lives g of d is. absurd (none-some d is) }
@@ -76,9 +65,7 @@ module _ (f : Profile) (p : Progress) (w : World) (valid : IsValid f) (legal : L
   offered_told page (Some d) at = same.pages.offered page d (directory_is_of f l legal page d at)
 
   offered_same : (page : ℕ) → offered_by w (deed_in w.events page) page ≡ (marks_after l page).offered
-  offered_same page =
-      ap (λ (o : Option Directory). offered_by w o page) (deed_is page)
-      ∙ (offered_told page (deed_in (visible l) page) refl ∙ ap (offered_after l page) (sym (read_is page)))
+  offered_same page = search (arith, deed_is, offered_told, read_is)
 
   no_deed_parked : (page : ℕ) → deed_in (visible l) page ≡ None → parked_bit l page ≡ false
   no_deed_parked page none = by_place (right_in_one_place f l legal page)
@@ -99,16 +86,7 @@ module _ (f : Profile) (p : Progress) (w : World) (valid : IsValid f) (legal : L
       ∙ sym (true_marks.offered_or_parked page (λ none. absurd (none-some d (sym none ∙ at))))
 
   marks_same : (page : ℕ) → marks_of w page ≡ marks_after l page
-  marks_same page =
-      ap (λ (b : Bool). let m : Marked = record { backed = b; offered = offered_by w (deed_in w.events page) page; parked = parked_by w (deed_in w.events page) page; hinted = (marks_of w page).hinted } in m)
-      (ap (λ (es : List Event). backed_in es page) same.pages.events ∙ sym (true_marks.backed page))
-      ∙ (ap (λ (o : Bool). let m : Marked = record { backed = (marks_after l page).backed; offered = o; parked = parked_by w (deed_in w.events page) page; hinted = (marks_of w page).hinted } in m) (offered_same page)
-      ∙ (ap (λ (r : Bool). let m : Marked = record { backed = (marks_after l page).backed; offered = (marks_after l page).offered; parked = r; hinted = (marks_of w page).hinted } in m)
-      (ap (λ (o : Option Directory). parked_by w o page) (deed_is page) ∙ parked_told page (deed_in (visible l) page) refl)
-      ∙ ap (λ (h : Bool). let m : Marked = record { backed = (marks_after l page).backed; offered = (marks_after l page).offered; parked = parked_bit l page; hinted = h } in m) (same.pages.hinted page)))
+  marks_same page = search (arith, offered_same, deed_is, parked_told)
 
   pub text_told : text_of f w ≡ lines_of p.records ++ report_text f (visible l) (marks_after l)
-  text_told =
-      ap (λ (rs : List Record). lines_of rs ++ report_text f w.events (marks_of w)) (sym same.records)
-      ∙ (ap (λ (es : List Event). lines_of p.records ++ report_text f es (marks_of w)) same.pages.events
-      ∙ ap (λ (pages : List ℕ). lines_of p.records ++ (codes "report\n" ++ (pages ++ total_line f (visible l)))) (pages_told (visible l) (marks_of w) (marks_after l) f.pages marks_same))
+  text_told = search (arith, codes, pages_told, marks_same)

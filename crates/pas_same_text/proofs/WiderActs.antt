@@ -1,5 +1,5 @@
 -- ACTS with more caches behind those of the threads, which nobody uses: they come to the same, with those caches behind.
-use Rattle.std.proofs.Common.{ℕ, List, [], ◌∷◌, Option, None, Some, refl, ap}
+use Rattle.std.proofs.Common.{arith, ℕ, List, [], ◌∷◌, Option, None, Some, refl, ap}
 use Rattle.std.specs.List.{AllByRecursion, filter}
 use Rattle.pas_profile.specs.Requests.{route_in, room_in}
 use Rattle.pas_profile.specs.declared.{event.Outcome.Outcome, name.Block.Block, profile.Profile.Profile}
@@ -45,8 +45,7 @@ module _ (f : Profile) (more : List Cache) (unused : AreUnused more) where
   examines_leave page w many = as_read f.threads more (comes_to page) (outcome_leaves page) (outcome_same more unused w f page) (nothing f.threads more w many)
 
   passes_leave : Leaves f.threads more (passes f)
-  passes_leave w many = after f.threads more (each (examines f) (filter (is_hinted w) (page_numbers f))) (each_leaves f.threads more (examines f) examines_leave (filter (is_hinted w) (page_numbers f)))
-      (said f.threads more (Record.Said 0 (Said.Pass w.epoch)) w many)
+  passes_leave w many = search (arith, each_leaves, examines_leave)
 
   -- ---- another size for a block
   replaced_leaves : (k : ℕ) → IsThread f k → (old : Block) (came : Option (Option Block)) → Leaves f.threads more (logs_replaced f k old came)

@@ -139,6 +139,4 @@ module _ (more : List Cache) (unused : AreUnused more) (w : World) where
       ap (λ (kept : Bool). if kept then Outcome.NotOffered else (if nat_lt w.epoch (epoch_in w.events page + f.age) then Outcome.Young (epoch_in w.events page) else Outcome.Unbacked)) (kept_same page)
 
   pub outcome_same : (f : Profile) (page : ℕ) → outcome_of f v page ≡ outcome_of f w page
-  outcome_same f page =
-      ap (λ (used : Option ℕ). if backed_in w.events page then outcome_backed f v page used else Outcome.Bare) (used_same page)
-      ∙ ap (λ (outcome : Outcome). if backed_in w.events page then outcome else Outcome.Bare) (backed_same f page (used_word w page))
+  outcome_same f page = search (arith, used_same, backed_same)

@@ -61,15 +61,7 @@ module _ (f : Profile) (more : List Cache) (unused : AreUnused more) where
   -- ---- a cache of a thread becomes another, by what it is
   pub changed : (k : ℕ) → IsThread f k → (change : Cache → Cache) (w : World) → length w.caches ≡ f.threads
       → IsWider f.threads more (set_cache k (change (cache_of w k)) w) (set_cache k (change (cache_of (wider more w) k)) (wider more w))
-  changed k thread change w many =
-      let some = thread.0 in
-      let few = thread.1 in
-      record {
-        same =
-            ap (λ (c : Cache). set_cache k (change c) (wider more w)) (cache_same more unused w k)
-            ∙ ap (λ (cs : List Cache). let u : World = record w { caches = cs } in u) (with_behind more w.caches k (change (cache_of w k)) some (omega (arith, few, many)));
-        many = many_with w.caches k (change (cache_of w k)) ∙ many;
-      }
+  changed k thread change w many = search (arith, cache_same, with_behind, many_with)
 
   pub locals_read : (k : ℕ) (w : World) → locals_of (wider more w) k ≡ locals_of w k
   locals_read k w = ap (λ (c : Cache). c.locals) (cache_same more unused w k)
@@ -93,9 +85,7 @@ module _ (f : Profile) (more : List Cache) (unused : AreUnused more) where
       after f.threads more (each minds (pages_of f b)) (each_leaves f.threads more minds minds_leave (pages_of f b)) (notes_leave k thread b (shows (Event.End k entry.name w.epoch) w) many)
 
   effect_leaves : (k : ℕ) → IsThread f k → (entry : Entry) (lives : Option Block) → Leaves f.threads more (takes_effect f k entry lives)
-  effect_leaves k thread entry (Some b) w many = either f.threads more (b.name.turn == entry.name.turn)
-      (either f.threads more (is_other_room entry b) (shown f.threads more (Event.Reject k entry.name (Why.SizeDiffers entry.room)) w many) (block_leaves k thread entry b w many))
-      (shown f.threads more (Event.Reject k entry.name (reason w entry.name)) w many)
+  effect_leaves k thread entry (Some b) w many = search (arith, either, block_leaves)
   effect_leaves k thread entry None w many = shown f.threads more (Event.Reject k entry.name (reason w entry.name)) w many
 
   ends_leave : (k : ℕ) → IsThread f k → (entry : Entry) → Leaves f.threads more (ends f k entry)
@@ -128,12 +118,7 @@ module _ (f : Profile) (more : List Cache) (unused : AreUnused more) where
       (either_by f.threads more (ap (λ (c : Cache). nat_le 64 (length c.log)) (cache_same more unused w k)) (flushes_leave k thread w many) (nothing f.threads more w many))
 
   pub frees_leave : (k : ℕ) → IsThread f k → (entry : Entry) → Leaves f.threads more (frees f k entry)
-  frees_leave k thread entry w many = either f.threads more (nat_le 4096 (address_of entry.name) && nat_lt (address_of entry.name) (4096 * (f.pages + 1)))
-      (either f.threads more (address_of entry.name % 16 == 0) (logs_leave k thread entry w many) (refused FreeFault.Unaligned))
-      (refused FreeFault.Outside)
-    where
-      refused : (fault : FreeFault) → IsWider f.threads more (says (Record.Said k (said_of_fault entry.name fault)) w) (says (Record.Said k (said_of_fault entry.name fault)) (wider more w))
-      refused fault = said f.threads more (Record.Said k (said_of_fault entry.name fault)) w many
+  frees_leave k thread entry w many = search (arith, either, logs_leave)
 
   pub what_leaves : (k : ℕ) → IsThread f k → (name room : ℕ) (meant : Option (Option Block)) → Leaves f.threads more (frees_what f k name room meant)
   what_leaves k thread name room (Some (Some block)) w many = frees_leave k thread (sized_entry block.name room) w many

@@ -1,5 +1,5 @@
 -- REQUESTS with more caches behind those of the threads, which nobody uses: they come to the same, with those caches behind.
-use Rattle.std.proofs.Common.{ℕ, ◌+◌, ◌*◌, ◌/◌, nat_le, List, [], ◌∷◌, ◌++◌, length, Option, None, Some, Result, Ok, Err, refl, ap, ◌∙◌}
+use Rattle.std.proofs.Common.{arith, ℕ, ◌+◌, ◌*◌, ◌/◌, nat_le, List, [], ◌∷◌, ◌++◌, length, Option, None, Some, Result, Ok, Err, refl, ap, ◌∙◌}
 use Rattle.std.specs.List.{filter, find}
 use Rattle.pas_profile.specs.{Classes.class_size, Requests.class_home, Requests.is_shared, Requests.room_in}
 use Rattle.pas_profile.specs.declared.{directory.Directory.Directory, directory.Route.Route, event.Event.Event, event.NoRoom.NoRoom, profile.Profile.Profile}
@@ -39,8 +39,7 @@ module _ (n : ℕ) (more : List Cache) where
 
   -- ---- a run of grains
   place_leaves : (k name heap room page : ℕ) (slots : List ℕ) → Leaves n more (gives_place k name heap room page slots)
-  place_leaves k name heap room page [] w many = nothing n more w many
-  place_leaves k name heap room page (s ∷ rest) w many = gives_leave k name heap (address_on page s) room w many
+  place_leaves k name heap room page slots w many = search (arith, gives_leave)
 
   -- ---- a run of pages
   deeds_run_leaves : (k heap first pages : ℕ) → Leaves n more (deeds_run k heap first pages)
@@ -101,13 +100,7 @@ module _ (f : Profile) (more : List Cache) (unused : AreUnused more) where
   run_leaves k name heap pages None w many = as_read f.threads more (refuses k name) (refuses_leave f.threads more k name) (refusal_same more unused w f (large_of heap)) (nothing f.threads more w many)
 
   pages_leave : (k name heap pages : ℕ) → Leaves f.threads more (serves_pages f k name heap pages)
-  pages_leave k name heap pages w many =
-      as_read f.threads more (serves_run f k name heap pages) (run_leaves k name heap pages)
-      (ap (λ (named : Option ℕ). run_or named (lowest_run f (wider more w) heap pages)) (named_same more unused w heap pages) ∙ ap (run_or (named_run w heap pages)) (lowest_same more unused w f heap pages))
-      (lost w many)
-    where
-      lost : Leaves f.threads more (loses_named heap pages)
-      lost w many = record { same = refl; many = many }
+  pages_leave k name heap pages w many = search (arith, as_read, run_leaves, named_same, lowest_same)
 
   -- ---- a request, by its route
   pub serves_leave : (k : ℕ) → IsThread f k → (name heap : ℕ) (route : Route) (room align : ℕ) → Leaves f.threads more (serves f k name heap route room align)

@@ -1,5 +1,5 @@
 -- THE TEXT OF A PLAN is the same in the region of its replays, where its keepers are actors too: nobody uses their caches.
-use Rattle.std.proofs.Common.{◌≡◌, ℕ, zero, suc, ◌+◌, Bool, not, List, [], ◌∷◌, ◌++◌, map, reverse, Option, None, Some, refl, ap, sym, ◌∙◌, zero-add, suc-add}
+use Rattle.std.proofs.Common.{arith, ◌≡◌, ℕ, zero, suc, ◌+◌, Bool, not, List, [], ◌∷◌, ◌++◌, map, reverse, Option, None, Some, refl, ap, sym, ◌∙◌, zero-add, suc-add}
 use Rattle.std.specs.List.{AllByRecursion}
 use Rattle.std.proofs.Math.Path.{fun_ext}
 use Rattle.pas_profile.specs.declared.{directory.Directory.Directory, profile.Profile.Profile}
@@ -52,10 +52,7 @@ module _ (more : List Cache) (unused : AreUnused more) (w : World) where
   parked_told (Some d) page = ap not (offers_same more unused w d page)
 
   marks_told : (page : ℕ) → marks_of (wider more w) page ≡ marks_of w page
-  marks_told page =
-      let o : Option Directory = deed_in w.events page in
-      ap (λ (offered : Bool). let m : Marked = record { backed = backed_in w.events page; offered = offered; parked = parked_by (wider more w) o page; hinted = is_hinted w page } in m) (offered_told o page)
-      ∙ ap (λ (parked : Bool). let m : Marked = record { backed = backed_in w.events page; offered = offered_by w o page; parked = parked; hinted = is_hinted w page } in m) (parked_told o page)
+  marks_told page = search (arith, offered_told, parked_told)
 
   text_told : (f : Profile) → text_of f (wider more w) ≡ text_of f w
   text_told f = ap (λ (marks : ℕ → Marked). lines_of (reverse w.records) ++ report_text f w.events marks) (fun_ext marks_told)

@@ -8,8 +8,7 @@ use Rattle.pas_answers.proofs.guarding.try_guarded.Goals as goal
 
 pub raise-block-requires-clause-book : goal.raise-block-requires-clause-book
 raise-block-requires-clause-book g c =
-    let fewer = fewer_up c.sweep.ensures.sweeps in
-    omega (arith, fewer, c.requires.can.met.place, c.sweep.ensures.size)
+    omega (arith, fewer_up c.sweep.ensures.sweeps, c.requires.can.met.place, c.sweep.ensures.size)
 
 pub raise-block-requires-clause-can : goal.raise-block-requires-clause-can
 raise-block-requires-clause-can g c =
@@ -33,8 +32,7 @@ push-requires g c =
     (g.D.Desk.spare_of c.args.desk.now) c.shown-before.result.now c.shown.result.now (λ v l stood. c.shown-before.ensures ∙ g.met.D.Desk.shows c.sweep.new.desk v l stood) (λ v l stood. c.shown.ensures ∙ g.met.D.Desk.shows c.raise-block.new.desk v l stood) c.requires.can in
     let events = drop (length c.shown-before.result.now) c.shown.result.now in
     let added = ap (λ (rs : List Record). length rs) c.push_events.ensures.added ∙ length-append (records_in c.sweep.new.lowered) (map Record.Event events) in
-    let same = length-map events Record.Event in
-    omega (arith, fits, added, same, c.push_events.ensures.room, c.sweep.ensures.room)
+    omega (arith, fits, added, length-map events Record.Event, c.push_events.ensures.room, c.sweep.ensures.room)
 
 pub returns-in-Some-clause-tries : goal.returns-in-Some-clause-tries
 returns-in-Some-clause-tries g c =

@@ -16,10 +16,7 @@ returns-in-None-clause-seeks g c = let i = c.loop-next.invariant in let short = 
     seek_ends (large_directory c.args.heap) c.args.pages c.loop-next.from c.loop-next.free c.loop-next.next i.so_far (may_find c.requires.can) (omega (arith, short)) c.in-None.ensures.found c.release.ensures.releases
 
 pub loop-next-preserved-then-page-next : goal.loop-next-preserved-then-page-next
-loop-next-preserved-then-page-next g c = let i = c.loop-next.invariant in let short = c.if-next-from.true in record {
-  so_far = seek_more (large_directory c.args.heap) c.args.pages c.loop-next.from c.loop-next.free c.loop-next.next i.so_far c.in-Some.page c.if-page-next.true (omega (arith, short)) c.in-Some.ensures.found;
-  home = c.in-Some.ensures.home ∙ i.home;
-}
+loop-next-preserved-then-page-next g c = search (arith, seek_more)
 
 pub release-requires-else-page-next-clause-can : goal.release-requires-else-page-next-clause-can
 release-requires-else-page-next-clause-can g c = let i = c.loop-next.invariant in can_release_looked (large_directory c.args.heap) c.args.pages c.loop-next.from c.loop-next.free c.loop-next.next i.so_far c.in-Some.ensures.found (may_find c.requires.can)

@@ -10,9 +10,7 @@ returns-then-keepers-eq0 c = same_books (sym c.if-keepers-eq0.true ∙ c.keepers
 
 pub books_of-requires : goal.books_of-requires
 books_of-requires c =
-    let few = keepers_few c.args.plan.now in
-    let most = (every_plan c.requires.1).valid.threads in
-    omega (arith, few, most, c.keepers_of-keepers.ensures)
+    omega (arith, keepers_few c.args.plan.now, (every_plan c.requires.1).valid.threads, c.keepers_of-keepers.ensures)
 
 pub returns : goal.returns
 returns c = books_in c.books_of.result c.keepers_of-keepers.ensures c.guarded_by_thread.ensures c.books_of.ensures

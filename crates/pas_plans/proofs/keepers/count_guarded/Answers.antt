@@ -14,26 +14,21 @@ add-requires-clause-actor c = all_at (λ (op : Op). op.actor < 17) c.args.ops.no
 pub add-requires-clause-few : goal.add-requires-clause-few
 add-requires-clause-few c =
     let op = get_or c.args.ops.now c.loop-op.op-index past in
-    let now = c.loop-op.invariant.counts op.actor in
     let next = guarded_next op.actor c.args.ops.now c.loop-op.op-index past c.loop-op-test.true in
     let one = ap (λ (t : Bool). if t then one_guarded (keeper_in op.what) else 0) (eq-eqb op.actor op.actor refl) in
-    let few = c.requires.few op.actor in
-    omega (arith, now, next, one, few, c.guarded_in.ensures)
+    omega (arith, c.loop-op.invariant.counts op.actor, next, one, c.requires.few op.actor, c.guarded_in.ensures)
 
 pub loop-op-preserved : goal.loop-op-preserved
 loop-op-preserved c = record {
   counts = λ k.
       let op = get_or c.args.ops.now c.loop-op.op-index past in
-      let now = c.loop-op.invariant.counts k in
       let next = guarded_next k c.args.ops.now c.loop-op.op-index past c.loop-op-test.true in
-      let did = c.add.ensures k in
       let more = count_more op.actor k c.guarded_in.result (λ j. get_or c.loop-op.counts j 0) in
       let same = ap (λ (n : ℕ). if op.actor == k then n else 0) c.guarded_in.ensures in
-      omega (arith, now, next, did, more, same);
+      omega (arith, c.loop-op.invariant.counts k, next, c.add.ensures k, more, same);
 }
 
 pub returns : goal.returns
 returns c = λ k.
-    let now = c.loop-op.invariant.counts k in
     let none = ap (λ (ops : List Op). guarded_of k ops) (drop_of_length-le c.args.ops.now c.loop-op-test.false) in
-    omega (arith, now, none)
+    omega (arith, c.loop-op.invariant.counts k, none)

@@ -28,25 +28,20 @@ count_guarded-requires-clause-actors c =
 
 pub count_guarded-requires-clause-few : goal.count_guarded-requires-clause-few
 count_guarded-requires-clause-few c = λ k.
-    let sound = every_plan c.requires.1 in
-    let now = c.loop-phase.invariant.counts k in
     let next = phases_next k c.as_slice-phase-items.result.now c.loop-phase.phase-index c.phase-item.result c.loop-phase-test.true c.phase-item.is in
     let few = guarded_few c.args.plan.now.profile k (all_ops (phases_of c.args.plan.now)) in
     let same = ap (λ (ops : List Op). guarded_of k ops) c.as_slice.ensures in
-    omega (arith, sound.total, now, next, few, same)
+    omega (arith, (every_plan c.requires.1).total, c.loop-phase.invariant.counts k, next, few, same)
 
 pub loop-phase-preserved : goal.loop-phase-preserved
 loop-phase-preserved c = record {
   counts = λ k.
-      let now = c.loop-phase.invariant.counts k in
       let next = phases_next k c.as_slice-phase-items.result.now c.loop-phase.phase-index c.phase-item.result c.loop-phase-test.true c.phase-item.is in
-      let did = c.count_guarded.ensures k in
       let same = ap (λ (ops : List Op). guarded_of k ops) c.as_slice.ensures in
-      omega (arith, now, next, did, same);
+      omega (arith, c.loop-phase.invariant.counts k, next, c.count_guarded.ensures k, same);
 }
 
 pub returns : goal.returns
 returns c = λ k.
-    let now = c.loop-phase.invariant.counts k in
     let none = ap (λ (ps : List Phase). guarded_of k (all_ops (map ops_of ps))) (drop_of_length-le c.as_slice-phase-items.result.now c.loop-phase-test.false) in
-    omega (arith, now, none)
+    omega (arith, c.loop-phase.invariant.counts k, none)

@@ -8,9 +8,8 @@ use Rattle.pas_plans.proofs.keepers.region_of.Goals as goal
 pub overflow_add-result : goal.overflow_add-result
 overflow_add-result c =
     let plan = c.args.plan.now in
-    let few = (every_plan c.requires.1).actors in
     let behind : plan.profile.threads + keepers_of plan ≡ actors_by plan.guard plan.profile.threads = plan_actors plan in
-    omega (arith, few, behind, c.keepers_of.ensures)
+    omega (arith, (every_plan c.requires.1).actors, behind, c.keepers_of.ensures)
 
 pub returns-clause-valid : goal.returns-clause-valid
 returns-clause-valid c =

@@ -8,6 +8,4 @@ use Rattle.pas_plans.proofs.limits.records_for.Goals as goal
 pub overflow_cast-as_slice : goal.overflow_cast-as_slice
 overflow_cast-as_slice c =
     let n = ap (λ (ps : List Phase). length ps) c.as_slice.ensures in
-    let m = length-map (phases_in_order c.args.plan.now.phases) ops_of in
-    let few = plan_phases c.requires.2 c.requires.1 in
-    omega (arith, n, m, few)
+    omega (arith, n, length-map (phases_in_order c.args.plan.now.phases) ops_of, plan_phases c.requires.2 c.requires.1)
