@@ -157,7 +157,7 @@ module _ (f : Profile) (valid : IsValid f) (p : Progress) (s : Stand) (ts : List
       }
 
   idle_is : (k n : ℕ) → p.epoch ≡ word_after p.list Word.Epoch → IsIdleFor p k n → nat_le (s.idle_since k + n) s.epoch ≡ true
-  idle_is k n reads idle = le-leb (s.idle_since k + n) s.epoch (let since = tells.awake k in omega (arith, idle, since, tells.epoch, reads))
+  idle_is k n reads idle = le-leb (s.idle_since k + n) s.epoch (omega (arith, idle, tells.awake k, tells.epoch, reads))
 
   idle_isnt : (k n : ℕ) → p.epoch ≡ word_after p.list Word.Epoch → (IsIdleFor p k n → ⊥) → nat_le (s.idle_since k + n) s.epoch ≡ false
   idle_isnt k n reads busy = false_from_ne_true (nat_le (s.idle_since k + n) s.epoch) (λ t.

@@ -41,7 +41,7 @@ deed_at : (f : Profile) (l : Whole) (page : ℕ) (d : Directory) → Legal f l �
 deed_at f l page d legal read = some_deed (deed_in (visible l) page) d (read ∙ deed_of f l legal page)
 
 used_small : (f : Profile) (l : Whole) (page word value : ℕ) → IsValid f → Legal f l → value ≢ all_ones → value ≡ word_after l (Word.Free page word) → value < 2 ^ 64 - 1
-used_small f l page word value valid legal some read = let fits = words_fit f l valid legal (Word.Free page word) in omega (arith, fits, some, read)
+used_small f l page word value valid legal some read = omega (arith, words_fit f l valid legal (Word.Free page word), some, read)
 
 -- ---- in a pass
 -- where this is the last page that had an outcome, and these are the steps so far

@@ -22,7 +22,7 @@ use Rattle.pas_check.specs.Calls.{Differs}
 use Rattle.pas_accepted.proofs.{FlushKinds.ends_only, FlushKinds.entry_only, FlushKinds.turn_only, LogEntries.known_as}
 
 -- ---- what lives after steps of a flush lived before them
-ended_if : (t : Bool) (old : Option Live) (b : Live) → (if t then None else old) ≡ Some b → old ≡ Some b
+pub ended_if : (t : Bool) (old : Option Live) (b : Live) → (if t then None else old) ≡ Some b → old ≡ Some b
 ended_if true old b is = absurd (none-some b is)
 ended_if false old b is = is
 

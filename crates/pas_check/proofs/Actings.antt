@@ -105,7 +105,7 @@ ticked f text old from to within e n greater few is led = act_of_line f text old
         epoch = same;
         guards = stands.guards;
         small = few;
-        kept = record { few = stands.kept.few; kinds = stands.kept.kinds; ends = λ page. (let low = stands.kept.ends page in omega (arith, low)) };
+        kept = record { few = stands.kept.few; kinds = stands.kept.kinds; ends = λ page. (omega (arith, stands.kept.ends page)) };
       },
     )) is led
 

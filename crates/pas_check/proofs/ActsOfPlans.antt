@@ -23,7 +23,7 @@ kind_routed shared classes size align Bitfit is = tt
 kind_routed shared classes size align Large is = tt
 
 room_small : (route : Route) (size : ℕ) → size ≤ 2 ^ 26 → room_by route size < 2 ^ 32
-room_small (Class class) size few = let small = class_size_le class in omega (arith, small)
+room_small (Class class) size few = omega (arith, class_size_le class)
 room_small Bitfit size few = omega (arith, few)
 room_small Large size few = omega (arith, few)
 

@@ -2,7 +2,7 @@
 use Rattle.std.proofs.Common.{◌≡◌, ℕ, zero, suc, ◌+◌, ◌/◌, ◌%◌, ◌^◌, ◌<◌, ◌==◌, Bool, true, false, if◌then◌else◌, List, [], ◌∷◌, ◌++◌, map, codes, refl, ap}
 use Rattle.std.proofs.Common.{sym, ◌∙◌, arith, append_assoc, inl, inr, length, take, drop, eq-eqb, ne_eqb, take-append-drop, drop-drop}
 use Rattle.std.specs.Fmt.{decimal, digits, digits_onto, digit_glyph}
-use Rattle.std.proofs.lemmas.Bool.{false≢true, cases_eq, Decides.nat_tests}
+use Rattle.std.proofs.lemmas.Bool.{false_from_ne_true, false≢true, cases_eq, Decides.nat_tests}
 use Rattle.std.specs.List.{concat}
 use Rattle.memchr.specs.Find.{Nowhere, Passes, is_byte}
 use Rattle.pas_profile.specs.{Classes.class_size, Blocks.address_of}
@@ -149,15 +149,11 @@ abbrev pub IsFront : List ℕ → Type 0
 IsFront xs = (rest : List ℕ) → is_line (xs ++ rest) ≡ is_line rest
 
 -- the bytes before the first newline
-not_newline : (t : Bool) → (t ≡ true → ⊥) → t ≡ false
-not_newline true never = absurd (never refl)
-not_newline false never = refl
-
 pub front_before : (text : List ℕ) (n : ℕ) → Nowhere (Passes (is_byte 10) text) 0 n → IsFront (take n text)
 front_before text zero none rest = refl
 front_before [] (suc n) none rest = refl
 front_before (b ∷ bs) (suc n) none rest =
-    let t : (b == 10) ≡ false = not_newline (b == 10) (none 0 (omega arith) (omega arith)) in
+    let t : (b == 10) ≡ false = false_from_ne_true (b == 10) (none 0 (omega arith) (omega arith)) in
     ap (λ (x : Bool). if x then is_nothing (take n bs ++ rest) else is_line (take n bs ++ rest)) t ∙ front_before bs n (λ k low high. none (suc k) (omega arith) (omega (arith, high))) rest
 
 pub front_ends : (xs : List ℕ) (b : ℕ) → IsFront xs → b ≡ 10 → is_line (xs ++ b ∷ []) ≡ true

@@ -42,7 +42,7 @@ kinds_more (Event.Reject k name why) es epoch by kinds page d is = kinds page d 
 
 pub kept_more : (t s : Stand) (at to : Cursor) (e : Event) → t.events ≡ e ∷ s.events → t.epoch ≡ s.epoch → to.lines ≡ at.lines + 1 → EndsBy s.epoch e → IsKept s at → IsKept t to
 kept_more t s at to e events epoch count by kept = record {
-  few = (let long : length t.events ≡ suc (length s.events) = ap length events in omega (arith, long, kept.few, count));
+  few = (omega (arith, ap length events, kept.few, count));
   kinds = subst AreKinds (sym events) (kinds_more e s.events s.epoch by kept.kinds);
   ends = λ page.
       let here : epoch_in t.events page ≡ epoch_in (e ∷ s.events) page = ap (λ es. epoch_in es page) events in
@@ -53,9 +53,9 @@ kept_more t s at to e events epoch count by kept = record {
 -- without an event
 pub kept_same : (t s : Stand) (at to : Cursor) → t.events ≡ s.events → t.epoch ≡ s.epoch → at.lines ≤ to.lines → IsKept s at → IsKept t to
 kept_same t s at to events epoch count kept = record {
-  few = (let long : length t.events ≡ length s.events = ap length events in omega (arith, long, kept.few, count));
+  few = (omega (arith, ap length events, kept.few, count));
   kinds = subst AreKinds (sym events) kept.kinds;
-  ends = λ page. let here : epoch_in t.events page ≡ epoch_in s.events page = ap (λ es. epoch_in es page) events in let low = kept.ends page in omega (arith, here, low, epoch);
+  ends = λ page. let here : epoch_in t.events page ≡ epoch_in s.events page = ap (λ es. epoch_in es page) events in omega (arith, here, kept.ends page, epoch);
 }
 
 -- ---- such a state is small
@@ -66,14 +66,14 @@ one_more false old long low = omega (arith, low)
 pub gives_few : (es : List Event) (a : ℕ) → gives_in es a ≤ length es
 gives_few [] a = omega arith
 gives_few (Event.Give k block ∷ es) a = one_more (address_of block.name == a) (gives_in es a) (length es) (gives_few es a)
-gives_few (other ∷ es) a = let few = gives_few es a in omega (arith, few)
+gives_few (other ∷ es) a = omega (arith, gives_few es a)
 
 pub small_of : (f : Profile) (machine : Machine) (s : Stand) (at : Cursor) → profile_of machine ≡ f → IsValid f → StandsFor machine s.events → IsKept s at
     → at.lines < 2 ^ 32 → s.epoch < 2 ^ 64 → IsSmall f s
 small_of f machine s at same valid stands kept lines epoch = record {
   valid = valid;
   run = subst (λ g. Run g s.events) same stands.run;
-  gives = λ a. (let few = gives_few s.events a in omega (arith, few, kept.few, lines));
-  ends = λ page. (let low = kept.ends page in omega (arith, low, epoch));
+  gives = λ a. (omega (arith, gives_few s.events a, kept.few, lines));
+  ends = λ page. (omega (arith, kept.ends page, epoch));
   epoch = epoch;
 }

@@ -87,7 +87,7 @@ module _ (f : Profile) (text : List ℕ) (s : Stand) (old : Cursor) where
       record {
         taken = 1;
         count = count;
-        length_is = (let e : length (lines_from text old) ≡ suc (length rest) = ap length has in omega (arith, e));
+        length_is = (omega (arith, ap length has));
         go = λ n.
             let e : 1 + n ≡ suc n = omega arith in
             let here : take (1 + n) (lines_from text old) ≡ line ∷ take n rest = (λ i. take (e i) (has i)) in (
@@ -111,7 +111,7 @@ module _ (f : Profile) (text : List ℕ) (s : Stand) (old : Cursor) where
       number = omega arith;
       go = (s, refl);
       stops = inl (
-        (let e : length (lines_from text old) ≡ suc (length rest) = ap length has in omega (arith, e)),
+        (omega (arith, ap length has)),
         λ g. let h = subst (MayGo f s) (λ i. take 1 (has i)) g in never h.1.0 h.1.1,
       );
     };
@@ -126,7 +126,7 @@ module _ (f : Profile) (text : List ℕ) (s : Stand) (old : Cursor) where
       before = 0;
       number = omega arith;
       go = (s, refl);
-      stops = inr ((let e : length (lines_from text old) ≡ 0 = ap length none in omega (arith, e)), λ g. let h = subst (IsWhole f s) none g in undone (subst (IsDone f) h.1 h.2));
+      stops = inr ((omega (arith, ap length none)), λ g. let h = subst (IsWhole f s) none g in undone (subst (IsDone f) h.1 h.2));
     };
   }
 

@@ -7,7 +7,7 @@ use Rattle.pas_check.specs.declared.entry.Entry.{Entry}
 
 module _ (entries : List Entry) (counts : List ℕ) (sized : length entries ≡ 64 * length counts) (few : (j : ℕ) → get_or counts j 0 ≤ 64) where
   left_there : (k : ℕ) → k < length counts → 64 ≤ length (drop (64 * k) entries)
-  left_there k held = let e = length-drop (64 * k) entries in omega (arith, e, sized, held)
+  left_there k held = omega (arith, length-drop (64 * k) entries, sized, held)
 
   pub length_is : (k : ℕ) → k < length counts → length (log_of entries counts k) ≡ get_or counts k 0
   length_is k held = let some = left_there k held in let most = few k in length-take-le (get_or counts k 0) (drop (64 * k) entries) (omega (arith, some, most))

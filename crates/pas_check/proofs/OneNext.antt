@@ -22,7 +22,7 @@ pub same_record : (line : List ℕ) (r q : Record) → Fits r → Fits q → lin
 same_record line r q fits fits' a b = one_line r q fits fits' (sym a ∙ b)
 
 small_page : (f : Profile) (page : ℕ) → IsValid f → IsPage f page → page < 2 ^ 32
-small_page f page valid is = let last : page ≤ f.pages = is.1 in let most : f.pages ≤ 16384 = valid.pages in omega (arith, last, most)
+small_page f page valid is = omega (arith, is.1, valid.pages)
 
 -- a page with a deed is one of the region
 pub deed_page : (f : Profile) (es : List Event) → Run f es → (page : ℕ) (d : Directory) → deed_in es page ≡ Some d → IsPage f page

@@ -84,7 +84,7 @@ module _ (old : Machine) (text : List ℕ) (from : Cursor) (epoch : ℕ) where
     module _ (line : List ℕ) (rest : List (List ℕ)) (valid : IsValid (profile_of old)) (same : profile_of mid ≡ profile_of old) (low : at.lines < 2 ^ 32)
         (has : lines_from text at ≡ line ∷ rest) where
       small : (s : Stand) (ex : IsExamining old s from 0 epoch) → IsSmall (profile_of old) (t s ex)
-      small s ex = small_of (profile_of old) mid (t s ex) at same valid (before s ex).3 (before s ex).4 low (let e = t_epoch s ex in omega (arith, e, ex.small))
+      small s ex = small_of (profile_of old) mid (t s ex) at same valid (before s ex).3 (before s ex).4 low (omega (arith, t_epoch s ex, ex.small))
 
       -- another line
       module _ (new : Machine) (none : OutcomeTaken mid new last epoch line None) where

@@ -49,7 +49,7 @@ module _ (f : Profile) (s : Stand) (lines : List (List ℕ)) where
     | inl lt ↦ absurd (no_later n m a b lt)
     | inr ge ↦ elim (cases_lt b.before a.before) [
       | inl lt ↦ absurd (no_later m n b a lt)
-      | inr le ↦ let x : n ≡ a.before + 1 = a.number in let y : m ≡ b.before + 1 = b.number in omega (arith, ge, le, x, y)
+      | inr le ↦ omega (arith, ge, le, a.number, b.number)
     ]
   ]
 

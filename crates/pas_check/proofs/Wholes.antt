@@ -16,7 +16,7 @@ use Rattle.pas_check.proofs.Leads.{fails_line, leads_alike, leads_fails, leads_n
 
 -- ---- a plan's operations
 pub plan_few : (text : List ℕ) (plan : Plan) → IsPlanOf text plan → length text ≤ 16777216 → length (phases_of plan.phases) < 2 ^ 31
-plan_few text plan is short = let few = (every_plan is).phases in omega (arith, few, short)
+plan_few text plan is short = omega (arith, (every_plan is).phases, short)
 
 plan_planned : (text : List ℕ) (plan : Plan) → IsPlanOf text plan → ArePlanned plan.profile plan.names_limit (all_ops (map ops_of (phases_of plan.phases)))
 plan_planned text plan is =

@@ -25,8 +25,8 @@ pub record Counted (pages threads n : ℕ) (items : List Item) : Type 0 where
 
 pub request-cost : (size : ℕ) → size ≤ 8192 → cost_of_size size ≤ 3
 request-cost size within = elim (cases_lt 2048 size) [
-  | inl beyond ↦ let cost = large_cost size beyond in omega (arith, cost, within)
-  | inr few ↦ let cost = small_cost size few in omega (arith, cost)
+  | inl beyond ↦ omega (arith, large_cost size beyond, within)
+  | inr few ↦ omega (arith, small_cost size few)
 ]
 
 few : (ops threads pages n : ℕ) (items : List Item) (i : Item) → IsJob ops threads pages → n < ops → ((guard : ℕ) → guard_after i guard ≡ guard) → Counted pages threads n items → cost_of (region pages threads) 0 i ≤ 4097

@@ -1,7 +1,7 @@
 -- The allocations that no line has freed, against the items so far.
 use Rattle.std.proofs.Common.{◌≡◌, ◌≢◌, ℕ, ◌+◌, ◌-◌, ◌<◌, ◌≤◌, ◌==◌, nat_eq, Bool, true, false, not, ◌||◌, if◌then◌else◌, List, [], ◌∷◌, ◌++◌, length, set}
 use Rattle.std.proofs.Common.{get_or, All, swap_remove, inl, inr, refl, sym, ap, ◌∙◌, arith, eq-eqb, ne_eqb}
-use Rattle.std.proofs.lemmas.Bool.{cases_eq}
+use Rattle.std.proofs.lemmas.Bool.{cases_eq, false_from_ne_true}
 use Rattle.std.proofs.lemmas.List.Elements.{All-push, All-take, All-set, All-get_or, All-weaker}
 use Rattle.pas_trace.specs.Wishes.{name_made, is_name}
 use Rattle.pas_trace.specs.Reasons.{makes, is_phase, is_named, is_named_now, thread_of, actor_of}
@@ -65,10 +65,6 @@ or-true : (b : Bool) → (b || true) ≡ true
 or-true true = refl
 or-true false = refl
 
-never-true : (b : Bool) → (b ≡ true → ⊥) → b ≡ false
-never-true true h = absurd (h refl)
-never-true false h = refl
-
 own-thread : (threads phase next : ℕ) (items : List Item) (name thread at : ℕ) → IsListed threads phase next items name thread at → IsFreer threads items name thread
 own-thread threads phase next items name thread at h = record {
   some_thread = h.some_thread;
@@ -80,7 +76,7 @@ other-thread : (threads phase next : ℕ) (items : List Item) (name thread at t 
 other-thread threads phase next items name thread at t h past lo hi = record {
   some_thread = lo;
   thread_within = hi;
-  late = ap (λ (b : Bool). (t == thread_of items name) || not b) (never-true (is_named_now items name) (λ e. past (h.now e))) ∙ or-true (t == thread_of items name);
+  late = ap (λ (b : Bool). (t == thread_of items name) || not b) (false_from_ne_true (is_named_now items name) (λ e. past (h.now e))) ∙ or-true (t == thread_of items name);
 }
 
 pub freer : (threads phase next : ℕ) (items : List Item) (name thread at t : ℕ) → IsListed threads phase next items name thread at → 1 ≤ t → t ≤ threads

@@ -13,7 +13,7 @@ use Rattle.pas_trace.proofs.{Telling.bound-keeper}
 use Rattle.pas_trace.proofs.OperationsOfItems.{ops_in, following, all_below, all_records, all_own, all_scavenger, exact_records, exact_own, all_kept}
 use Rattle.pas_trace.proofs.OperationsOfItems.{all_keepers, phases_within}
 
-bounds_count : (f : Profile) (items : List Item) (n : ℕ) → length (bounds_upto f items n) ≡ n
+pub bounds_count : (f : Profile) (items : List Item) (n : ℕ) → length (bounds_upto f items n) ≡ n
 bounds_count f items zero = refl
 bounds_count f items (suc n) = omega (arith, bounds_count f items n, length-append (bounds_upto f items n) (bound_of f items n ∷ []))
 

@@ -119,7 +119,7 @@ line-says version b text words rest item big l says =
     record {
       line = line;
       cut = ap lines_of whole.text_is ∙ lines-until line rest whole.whole;
-      shorter = let long : length (b ∷ 32 ∷ text) ≡ length (line ++ 10 ∷ rest) = ap length whole.text_is in omega (arith, long, length-append line (10 ∷ rest));
+      shorter = omega (arith, ap length whole.text_is, length-append line (10 ∷ rest));
       says = λ started. rw other (ap (item_of_words version started) whole.words_are ∙ says started);
     }
 

@@ -46,7 +46,7 @@ range5 make (Some a) None c d e all = tt
 range5 make (Some a) (Some b) c d e all = first_of_three (make a b) c d e (all a b)
 
 kept_lt : (t : Bool) (limit n m : ℕ) → nat_lt m limit ≡ t → (if t then Some m else None) ≡ Some n → n < limit
-kept_lt true limit n m is e = let same : m ≡ n = cc in let lt = ltb-true m limit is in omega (arith, same, lt)
+kept_lt true limit n m is e = let same : m ≡ n = cc in omega (arith, same, ltb-true m limit is)
 kept_lt false limit n m is e = absurd (cc)
 
 below_lt : (limit n : ℕ) (o : Option ℕ) → below limit o ≡ Some n → n < limit

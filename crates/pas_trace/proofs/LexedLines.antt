@@ -61,7 +61,7 @@ lexed-more version text left after items item h f =
       cut = h.cut ∙ ap (λ ls. h.lines ++ ls) f.cut ∙ sym (append_assoc h.lines (f.line ∷ []) (lines_of after));
       say = λ started. map-append (item_of_line version started) h.lines (f.line ∷ []) ∙ ap (λ rs. rs ++ item_of_line version started f.line ∷ []) (h.say started)
           ∙ ap (λ (r : Result Item Reason). map Ok items ++ r ∷ []) (f.says started) ∙ sym (map-append Ok items (item ∷ []));
-      few = let long = length-append items (item ∷ []) in omega (arith, long, h.few, f.shorter);
+      few = omega (arith, length-append items (item ∷ []), h.few, f.shorter);
     }
 
 -- ---- what lines say is taken, one after another

@@ -203,7 +203,7 @@ wish_records : (f : Profile) (shared : ℕ) (heaps : ℕ → ℕ) (earlier : Lis
     → records_of_what (sharing f shared) (what_wished f heaps (keeper_for f earlier (Operates t w)) w) ≤ cost_of_wish (guard_in earlier) w
 wish_records f shared heaps earlier t (Asks n h s a) =
     large_records (guard_in earlier) s (is_guarded earlier (Operates t (Asks n h s a))) n h a t (sharing f shared) (λ is. (guard_there earlier t n h s a is).0) (λ is. (guard_there earlier t n h s a is).1)
-wish_records f shared heaps earlier t (Remakes n o s a) = let least = least_cost (guard_in earlier) s in omega (arith, least)
+wish_records f shared heaps earlier t (Remakes n o s a) = omega (arith, least_cost (guard_in earlier) s)
 wish_records f shared heaps earlier t w = omega arith
 
 chore_records : (f : Profile) (shared : ℕ) (c : Chore) → records_of_what (sharing f shared) (what_of_chore c) ≡ records_of_chore f c

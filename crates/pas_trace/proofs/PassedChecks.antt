@@ -106,7 +106,7 @@ held_both (Some x) test other P all a b = all x a b
 
 -- the numbers of an operation have a place in a plan
 small_heap : (f : Profile) → IsValid f → (h : ℕ) → nat_lt h f.heaps ≡ true → h < 2 ^ 8
-small_heap f valid h held = let lt = ltb-true h f.heaps held in omega (arith, valid.heaps, lt)
+small_heap f valid h held = omega (arith, valid.heaps, ltb-true h f.heaps held)
 
 fit_sizing : (f : Profile) → IsValid f → (s : Sizing) → nat_le s.size (4096 * f.pages) ≡ true → is_alignment s.align ≡ true → IsFitSizing f s
 fit_sizing f valid s size align =

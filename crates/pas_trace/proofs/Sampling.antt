@@ -97,7 +97,7 @@ few_larges t (i ∷ items) = one_more (is_large_request i) (actor_of i == t) (is
 
 cheaper : (guard : ℕ) (w : Wish) → cost_of_wish 0 w ≤ cost_of_wish guard w
 cheaper guard (Asks n h s a) = least_cost guard s
-cheaper guard (Remakes n o s a) = let least : cost_of_request 0 s ≤ cost_of_request guard s = least_cost guard s in omega (arith, least)
+cheaper guard (Remakes n o s a) = omega (arith, least_cost guard s)
 cheaper guard w = omega arith
 
 cheaper_item : (f : Profile) (guard : ℕ) (i : Item) → cost_of f 0 i ≤ cost_of f guard i

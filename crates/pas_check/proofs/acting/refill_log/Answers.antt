@@ -20,4 +20,4 @@ returns-in-Ok-false-clause-taken c = λ f.
     c.args.k log [] c.args.judge.now.epoch false) c.log.ensures (rw c.in-Ok-false.field-0-test at c.in-Ok-false.ensures.taken)) c.args.judge.now
 
 pub add-requires-clause-room : goal.add-requires-clause-room
-add-requires-clause-room c = let e = ap length c.clear.ensures.cleared in omega (arith, e)
+add-requires-clause-room c = omega (arith, ap length c.clear.ensures.cleared)
