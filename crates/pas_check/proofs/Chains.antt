@@ -61,12 +61,7 @@ then_taken text old mid new from at to all there acts rest taken is far done =
 
 -- as much room as before
 pub sized_on : {old mid new : Judge} → IsSizedAs old mid → IsSizedAs mid new → IsSizedAs old new
-sized_on {old} {mid} {new} one two = record {
-  profile = two.profile ∙ one.profile;
-  logs = two.logs ∙ one.logs;
-  awake = two.awake ∙ one.awake;
-  names = two.names ∙ one.names;
-}
+sized_on {old} {mid} {new} one two = search arith
 
 pub none_taken : (text : List ℕ) (judge : Judge) (at : Cursor) → ActsTaken text judge at judge at [] true
 none_taken text judge at = λ more. nothing_taken text judge at more
@@ -76,8 +71,4 @@ pub chosen_alone : (chosen : ℕ → Bool) (k : ℕ) (on : Bool) → chosen k �
 chosen_alone chosen k on is = ap (λ (b : Bool). if b then k ∷ [] else []) is
 
 pub sized_as_before : {old new : Judge} → IsSizedAs old new → IsSized old → IsSized new
-sized_as_before {old} {new} same sized =
-    let logs = same.logs in
-    let awake = same.awake in
-    let threads = ap (λ (f : Profile). f.threads) same.profile in
-    record { logs = omega (arith, logs, sized.logs, threads); awake = omega (arith, awake, sized.awake, threads) }
+sized_as_before {old} {new} same sized = search arith

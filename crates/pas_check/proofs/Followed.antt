@@ -149,12 +149,7 @@ record IsWell (f : Profile) (es : List Event) (b : Stand) : Type 0 where
 settles : (f : Profile) (es : List Event) (b other : Stand) (ds : List Due) → b.due ≡ ds → FitsNext f ds → past_outcomes ds ≡ ds → b.events ≡ es → b.epoch < 2 ^ 64
     → (ds ≡ [] → IsWell f es other) → IsWell f es (settled_with ds b other)
 settles f es b other [] is fits no_pass events epoch rest = rest refl
-settles f es b other (d ∷ ds) is fits no_pass events epoch rest = record {
-  fits = subst (FitsNext f) (sym is) fits;
-  no_pass = subst (λ (due : List Due). past_outcomes due ≡ due) (sym is) no_pass;
-  events = events;
-  epoch = epoch;
-}
+settles f es b other (d ∷ ds) is fits no_pass events epoch rest = search arith
 
 well_from : (f : Profile) (es : List Event) (acts : List Act) → AllFit f acts → (u : Stand) → u.due ≡ [] → u.events ≡ es → u.epoch < 2 ^ 64 → HaveHeaps u.names
     → IsWell f es (begun_from f u (map Does acts ++ Reports ∷ []))
@@ -167,7 +162,4 @@ well_from f es (act ∷ acts) fit u due events epoch heaps =
     (begun.events ∙ events) begun.epoch (λ none. well_from f es acts fit.1 b none (begun.events ∙ events) begun.epoch begun.heaps)
 
 pub is_followed : (f : Profile) (acts : List Act) → AllFit f acts → (s : Stand) → s.epoch < 2 ^ 64 → HaveHeaps s.names → s.left ≡ map Does acts ++ Reports ∷ [] → IsFollowed f s
-is_followed f acts fit s epoch heaps left =
-    let well : (es : List Event) → IsWell f es (begun_from f (record s { events = es; due = [] }) s.left)
-    = λ es. subst (λ (ts : List Task). IsWell f es (begun_from f (record s { events = es; due = [] }) ts)) (sym left) (well_from f es acts fit (record s { events = es; due = [] }) refl refl epoch heaps) in
-    record { fits = λ es. (well es).fits; no_pass = λ es. (well es).no_pass; events = λ es. (well es).events; epoch = λ es. (well es).epoch }
+is_followed f acts fit s epoch heaps left = search (arith, well_from)

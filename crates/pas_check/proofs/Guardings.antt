@@ -168,24 +168,11 @@ module _ (f : Profile) (text : List ℕ) (old : Judge) (from : Cursor) (k keeper
 module _ (f : Profile) (text : List ℕ) (old : Judge) (from : Cursor) (w : Wanted) (low : w.name < 2 ^ 32) (room : w.room < 2 ^ 32) (heap : w.directory.heap < 2 ^ 8)
     (kind : IsKind w.directory.kind) (r : Request) (wants : IsWanted f r w) where
   fits_by : (k : ℕ) → k < 2 ^ 8 → FitsRequest f k r
-  fits_by k few = record {
-    actor = few;
-    name = (omega (arith, wants.name, low));
-    heap = (let e : r.heap ≡ w.directory.heap = ap (λ (d : Directory). d.heap) wants.directory in omega (arith, e, heap));
-    kind = subst (λ (d : Directory). IsKind d.kind) (sym wants.directory) kind;
-    room = (omega (arith, wants.room, room));
-  }
+  fits_by k few = search arith
 
   module _ (k : ℕ) (few : k < 2 ^ 8) (s : Stand) (stands : Stands f old s from) where
     asked : s.due ≡ Serves k r None ∷ [] → IsAsked old.machine s from k w r None []
-    asked due = record {
-      wants = subst (λ g. IsWanted g r w) (sym stands.profile) wants;
-      stands = stands.events;
-      kept = stands.kept;
-      fits = subst (λ g. FitsRequest g k r) (sym stands.profile) (fits_by k few);
-      epoch = (omega (arith, stands.epoch, stands.small));
-      due = due;
-    }
+    asked due = search (arith, fits_by)
 
     pub served_amiss : (machine : Machine) (new : Judge) (to : Cursor) → RequestTaken old.machine machine text from to k w None → s.due ≡ Serves k r None ∷ [] → IsCarried f text s from new to false
     served_amiss machine new to taken due = subst (λ g. Fails g text s from to.lines) stands.profile (taken s r None [] (asked due))
@@ -199,17 +186,7 @@ module _ (f : Profile) (text : List ℕ) (old : Judge) (from : Cursor) (w : Want
         let t : Stand = with_due (with_name v r.name found) [] in (
           t,
           subst (λ (u : Stand). Leads f text s from u to) (after_plain v k r found) (subst (λ g. Leads g text s from (after_request v k r None found []) to) stands.profile end.1),
-          record {
-            profile = profile ∙ stands.profile;
-            events = end.2;
-            names = λ n. (λ i. if wants.name i == n then Some found else stands.names n i) ∙ sym (sets n);
-            logs = stands.logs;
-            awake = stands.awake;
-            epoch = stands.epoch;
-            guards = stands.guards;
-            small = stands.small;
-            kept = kept_same t v to to refl refl (omega arith) end.3;
-          },
+          search (arith, kept_same),
           refl,
           refl,
         )
@@ -217,14 +194,7 @@ module _ (f : Profile) (text : List ℕ) (old : Judge) (from : Cursor) (w : Want
     -- ---- the keeper's lines
     module _ (keeper : ℕ) (behind : keeper < 2 ^ 8) (apart : keeper ≢ k) (due : s.due ≡ Tries keeper k r false ∷ []) where
       trying_there : IsTrying old.machine s from keeper k w r []
-      trying_there = record {
-        wants = subst (λ g. IsWanted g r w) (sym stands.profile) wants;
-        stands = stands.events;
-        kept = stands.kept;
-        fits = subst (λ g. FitsTry g keeper k r) (sym stands.profile) (record { own = fits_by k few; kept = fits_by keeper behind; apart = apart });
-        epoch = (omega (arith, stands.epoch, stands.small));
-        due = due;
-      }
+      trying_there = search (arith, fits_by)
 
       -- the same judge, at the events that they have made
       stands_then : (machine : Machine) (to : Cursor) → profile_of machine ≡ profile_of old.machine → (t : Stand) (es : List Event) → t ≡ record s { events = es; due = t.due } → StandsFor machine es
@@ -292,17 +262,7 @@ module _ (f : Profile) (text : List ℕ) (old : Judge) (from : Cursor) (keeper n
       let count : from.lines ≤ to.lines = (omega (arith, line.count)) in (
         t,
         subst (λ (u : Stand). Leads f text u from t to) (sym same) line,
-        record {
-          profile = stands.profile;
-          events = stands.events;
-          names = λ n. (λ i. if name == n then Some (Some block) else stands.names n i) ∙ sym (sets n);
-          logs = stands.logs;
-          awake = stands.awake;
-          epoch = stands.epoch;
-          guards = ap (λ (gs : List Guard). gs ++ guard_of keeper block ∷ []) stands.guards ∙ sym added;
-          small = stands.small;
-          kept = kept_same t s from to refl refl count stands.kept;
-        },
+        search (arith, kept_same),
         refl,
         sym (ap (λ (u : Stand). u.left) same),
       )

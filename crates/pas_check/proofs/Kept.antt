@@ -41,22 +41,11 @@ kinds_more (Event.End k name read) es epoch by kinds page d is = kinds page d is
 kinds_more (Event.Reject k name why) es epoch by kinds page d is = kinds page d is
 
 pub kept_more : (t s : Stand) (at to : Cursor) (e : Event) → t.events ≡ e ∷ s.events → t.epoch ≡ s.epoch → to.lines ≡ at.lines + 1 → EndsBy s.epoch e → IsKept s at → IsKept t to
-kept_more t s at to e events epoch count by kept = record {
-  few = (omega (arith, ap length events, kept.few, count));
-  kinds = subst AreKinds (sym events) (kinds_more e s.events s.epoch by kept.kinds);
-  ends = λ page.
-      let here : epoch_in t.events page ≡ epoch_in (e ∷ s.events) page = ap (λ es. epoch_in es page) events in
-      let low = epoch_more e s.events page s.epoch by (kept.ends page) in
-      omega (arith, here, low, epoch);
-}
+kept_more t s at to e events epoch count by kept = search (arith, kinds_more, epoch_more)
 
 -- without an event
 pub kept_same : (t s : Stand) (at to : Cursor) → t.events ≡ s.events → t.epoch ≡ s.epoch → at.lines ≤ to.lines → IsKept s at → IsKept t to
-kept_same t s at to events epoch count kept = record {
-  few = (omega (arith, ap length events, kept.few, count));
-  kinds = subst AreKinds (sym events) kept.kinds;
-  ends = λ page. let here : epoch_in t.events page ≡ epoch_in s.events page = ap (λ es. epoch_in es page) events in omega (arith, here, kept.ends page, epoch);
-}
+kept_same t s at to events epoch count kept = search arith
 
 -- ---- such a state is small
 one_more : (t : Bool) (old long : ℕ) → old ≤ long → (if t then old + 1 else old) ≤ suc long
@@ -70,10 +59,4 @@ gives_few (other ∷ es) a = omega (arith, gives_few es a)
 
 pub small_of : (f : Profile) (machine : Machine) (s : Stand) (at : Cursor) → profile_of machine ≡ f → IsValid f → StandsFor machine s.events → IsKept s at
     → at.lines < 2 ^ 32 → s.epoch < 2 ^ 64 → IsSmall f s
-small_of f machine s at same valid stands kept lines epoch = record {
-  valid = valid;
-  run = subst (λ g. Run g s.events) same stands.run;
-  gives = λ a. (omega (arith, gives_few s.events a, kept.few, lines));
-  ends = λ page. (omega (arith, kept.ends page, epoch));
-  epoch = epoch;
-}
+small_of f machine s at same valid stands kept lines epoch = search (arith, gives_few)

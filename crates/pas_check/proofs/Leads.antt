@@ -88,16 +88,8 @@ module _ (f : Profile) (text : List ℕ) (s : Stand) (old : Cursor) where
         taken = 1;
         count = count;
         length_is = (omega (arith, ap length has));
-        go = λ n.
-            let e : 1 + n ≡ suc n = omega arith in
-            let here : take (1 + n) (lines_from text old) ≡ line ∷ take n rest = (λ i. take (e i) (has i)) in (
-              λ g. let h = subst (MayGo f s) here g in subst (λ t. MayGo f t (take n rest)) (one h.1.0 h.1.1) (h.0, h.1.2),
-              λ g. subst (MayGo f s) (sym here) (g.0, (next, takes, g.1)),
-            );
-        whole = (
-          λ g. let h = subst (IsWhole f s) has g in subst (λ t. IsWhole f t rest) (one h.1.0 h.1.1) (h.0, h.1.2, h.2),
-          λ g. subst (IsWhole f s) (sym has) (g.0, (next, takes, g.1), g.2),
-        );
+        go = search arith;
+        whole = search arith;
         within = within;
       }
 
@@ -106,15 +98,7 @@ module _ (f : Profile) (text : List ℕ) (s : Stand) (old : Cursor) where
   fails_line line rest has never = record {
     further = 1;
     number_is = refl;
-    stopped = record {
-      before = 0;
-      number = omega arith;
-      go = (s, refl);
-      stops = inl (
-        (omega (arith, ap length has)),
-        λ g. let h = subst (MayGo f s) (λ i. take 1 (has i)) g in never h.1.0 h.1.1,
-      );
-    };
+    stopped = search arith;
   }
 
   -- there is none
@@ -122,12 +106,7 @@ module _ (f : Profile) (text : List ℕ) (s : Stand) (old : Cursor) where
   fails_early none undone = record {
     further = 1;
     number_is = refl;
-    stopped = record {
-      before = 0;
-      number = omega arith;
-      go = (s, refl);
-      stops = inr ((omega (arith, ap length none)), λ g. let h = subst (IsWhole f s) none g in undone (subst (IsDone f) h.1 h.2));
-    };
+    stopped = search arith;
   }
 
 -- ---- where something is due that isn't the outcomes of a pass

@@ -128,10 +128,7 @@ module _ (f : Profile) (s : Stand) (small : IsSmall f s) (last : ℕ) (rest : Li
 
   -- it is the scavenger's, and no thread's
   no_thread : (k : ℕ) → 0 < k → (text : List ℕ) → of_u8 text ≡ k → line ≡ text → ⊥
-  no_thread k some text is has =
-      let none : of_u8 line ≡ 0 = ap of_u8 x.line_is ∙ outcome_actor s.epoch x.page x.outcome in
-      let same : of_u8 line ≡ k = ap of_u8 has ∙ is in
-      omega (arith, none, same, some)
+  no_thread k some text is has = search (arith, outcome_actor)
 
   no_writing : (item : Record) → IsOfThread item ⊎ (Fits item × (IsOutcome item → ⊥)) → line ≡ line_of item → ⊥
   no_writing (Record.Said k said) (inl of) has = no_thread k of.0 (line_of_answer k said) (spaced_actor k of.1 (line_of_answer k said) (said_spaced k of.1 said)) has

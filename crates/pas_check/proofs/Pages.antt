@@ -88,26 +88,10 @@ module _ (shown : Shown) (line : List ℕ) where
 -- ---- the line of a page
 module _ (s : Stand) (shown : Shown) (tells : TellsPage s.events shown) where
   may_show : (m : Marked) → AreAllowedMarks s shown.page shown.directory m → MayShow shown m
-  may_show m allowed = record {
-    backed = allowed.backed ∙ sym tells.backed;
-    parked = allowed.offered_or_parked;
-    offered = λ room. (let has = subst (λ (t : Bool). MatchBool t (HasRoom s.events shown.page shown.directory.kind) (HasNoRoom s.events shown.page shown.directory.kind)) room tells.room in allowed.offered has.0 has.1 has.2 has.3);
-    hinted = λ empty.
-        let both = subst (λ (t : Bool). MatchBool t ((backed_in s.events shown.page ≡ true) × IsBare s.events shown.page) (backed_in s.events shown.page ≡ true → IsBare s.events shown.page → ⊥))
-        empty tells.empty in
-        allowed.hinted both.0 (λ g on.
-        let low : g % 256 < 256 = omega arith in
-        let here : grain_on shown.page (g % 256) ≡ g = omega (arith, on) in
-        subst (λ (x : ℕ). is_covered s.events x ≡ false) here (both.1 (g % 256) low));
-  }
+  may_show m allowed = search arith
 
   are_allowed : (m : Marked) → MayShow shown m → AreAllowedMarks s shown.page shown.directory m
-  are_allowed m may = record {
-    backed = may.backed ∙ tells.backed;
-    offered_or_parked = may.parked;
-    offered = λ b low usable free. may.offered (roomy shown.room tells.room b low usable free);
-    hinted = λ backed none. may.hinted (emptied shown.empty tells.empty backed (λ b low. none (grain_on shown.page b) (omega (arith, low))));
-  }
+  are_allowed m may = search arith
     where
       roomy : (t : Bool) → MatchBool t (HasRoom s.events shown.page shown.directory.kind) (HasNoRoom s.events shown.page shown.directory.kind) → (b : ℕ) → b < 256
           → usable_by_kind shown.directory.kind b ≡ true → is_covered s.events (grain_on shown.page b) ≡ false → t ≡ true

@@ -31,13 +31,7 @@ outcome_kept u t page NotOffered at to events epoch count kept = kept_same u t a
 
 -- another state of the same events is small
 small_as : (f : Profile) (s t : Stand) → t.events ≡ s.events → t.epoch < 2 ^ 64 → IsSmall f s → IsSmall f t
-small_as f s t events epoch small = record {
-  valid = small.valid;
-  run = subst (Run f) (sym events) small.run;
-  gives = λ a. subst (λ es. gives_in es a < 2 ^ 64) (sym events) (small.gives a);
-  ends = λ page. subst (λ es. epoch_in es page < 2 ^ 64) (sym events) (small.ends page);
-  epoch = epoch;
-}
+small_as f s t events epoch small = search arith
 
 module _ (old : Machine) (text : List ℕ) (from : Cursor) (epoch : ℕ) where
   pub outcomes_begin : IsWithin text from → OutcomesGo old old text from from 0 epoch

@@ -83,17 +83,11 @@ give_is k block fits =
     ∙ ap (λ h. Event.Give k record { name = block.name; room = block.room; heap = h }) (u8_back block.heap 10 [] fits.heap refl)
 
 freed_is : (k : ℕ) (name : Name) (epoch : ℕ) → FitsName name → epoch < 2 ^ 64 → freed_at k (codes " freed" ++ (name_text name ++ (codes " epoch " ++ (decimal epoch ++ codes "\n")))) ≡ Event.End k name epoch
-freed_is k name epoch fits small =
-    let rest : List ℕ = codes "epoch " ++ (decimal epoch ++ codes "\n") in
-    let past : past_name (name_text name ++ 32 ∷ rest) ≡ 32 ∷ rest = past_is name 32 rest fits refl in
-    (λ i. Event.End k (name_is name 32 rest fits refl i) (number_at (drop 7 (past i)))) ∙ ap (Event.End k name) (number_back epoch 10 [] small refl)
+freed_is k name epoch fits small = search (arith, past_is, name_is, number_back)
 
 size_differs_is : (k : ℕ) (name : Name) (room : ℕ) → FitsName name → room < 2 ^ 32
     → size_differs_at k (codes " size-differs" ++ (name_text name ++ (codes " asked " ++ (decimal room ++ codes "\n")))) ≡ Event.Reject k name (Why.SizeDiffers room)
-size_differs_is k name room fits small =
-    let rest : List ℕ = codes "asked " ++ (decimal room ++ codes "\n") in
-    let past : past_name (name_text name ++ 32 ∷ rest) ≡ 32 ∷ rest = past_is name 32 rest fits refl in
-    (λ i. Event.Reject k (name_is name 32 rest fits refl i) (Why.SizeDiffers (of_u32 (drop 7 (past i))))) ∙ ap (λ r. Event.Reject k name (Why.SizeDiffers r)) (u32_back room 10 [] small refl)
+size_differs_is k name room fits small = search (arith, past_is, name_is, u32_back)
 
 -- ---- answers
 held_is : (page name : ℕ) → page < 2 ^ 32 → name < 2 ^ 32 → held_at (codes " held " ++ (decimal page ++ (codes " name " ++ (decimal name ++ codes "\n")))) ≡ Said.Held page name
@@ -118,21 +112,11 @@ in_use_is page word value fits few small =
     ∙ ap (Said.InUse page word) (hex16_back value (codes "\n") small)
 
 kept_is : (block : Name) (name : ℕ) → FitsName block → name < 2 ^ 32 → kept_at (codes " kept" ++ (name_text block ++ (codes " name " ++ (decimal name ++ codes "\n")))) ≡ Said.Kept block name
-kept_is block name fits small =
-    let rest : List ℕ = codes "name " ++ (decimal name ++ codes "\n") in
-    let past : past_name (name_text block ++ 32 ∷ rest) ≡ 32 ∷ rest = past_is block 32 rest fits refl in
-    (λ i. Said.Kept (name_is block 32 rest fits refl i) (of_u32 (drop 6 (past i)))) ∙ ap (Said.Kept block) (u32_back name 10 [] small refl)
+kept_is block name fits small = search (arith, past_is, name_is, u32_back)
 
 guarded_is : (low high name : ℕ) → low < 2 ^ 32 → high < 2 ^ 32 → name < 2 ^ 32
     → guarded_at (codes " guarded " ++ (decimal low ++ (codes " " ++ (decimal high ++ (codes " name " ++ (decimal name ++ codes "\n")))))) ≡ Said.Guarded low high name
-guarded_is low high name fits few small =
-    let last : List ℕ = codes "name " ++ (decimal name ++ codes "\n") in
-    let rest : List ℕ = decimal high ++ 32 ∷ last in
-    let past : past_digits (decimal low ++ 32 ∷ rest) ≡ 32 ∷ rest = past_number low 32 rest (omega (arith, fits)) refl in
-    let of_high : past_digits (decimal high ++ 32 ∷ last) ≡ 32 ∷ last = past_number high 32 last (omega (arith, few)) refl in
-    (λ i. Said.Guarded (u32_back low 32 rest fits refl i) (of_u32 (drop 1 (past i))) (of_u32 (drop 6 (past_digits (drop 1 (past i))))))
-    ∙ (λ i. Said.Guarded low (u32_back high 32 last few refl i) (of_u32 (drop 6 (of_high i))))
-    ∙ ap (Said.Guarded low high) (u32_back name 10 [] small refl)
+guarded_is low high name fits few small = search (arith, past_number, u32_back)
 
 lowered_is : (low high : ℕ) → low < 2 ^ 32 → high < 2 ^ 32 → lowered_at (codes " lowered " ++ (decimal low ++ (codes " " ++ (decimal high ++ codes "\n")))) ≡ Said.Lowered low high
 lowered_is low high fits small =

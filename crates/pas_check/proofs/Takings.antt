@@ -81,26 +81,13 @@ event_only item found e is same = is ∙ ap event_in (same_Some item (Record.Eve
 
 -- ---- deeds and backs
 fits_preparing : (f : Profile) (es : List Event) (k : ℕ) (d : Directory) (e : Event) → IsValid f → k < 2 ^ 8 → d.heap < 2 ^ 8 → IsKind d.kind → IsPreparing k d e → Admits f es e → FitsEvent e
-fits_preparing f es k d e valid few heap kind (inl is) admitted =
-    let here : IsPage f is.0 × (d.heap < f.heaps) × (deed_in es is.0 ≡ None) = subst (Admits f es) is.1 admitted in
-    let last : is.0 ≤ f.pages = here.0.1 in
-    let most : f.pages ≤ 16384 = valid.pages in
-    subst FitsEvent (sym is.1) (few, omega (arith, last, most), heap, kind)
-fits_preparing f es k d e valid few heap kind (inr is) admitted =
-    let here : IsPage f is.0 × (deed_in es is.0 ≢ None) × (backed_in es is.0 ≡ false) = subst (Admits f es) is.1 admitted in
-    let last : is.0 ≤ f.pages = here.0.1 in
-    let most : f.pages ≤ 16384 = valid.pages in
-    subst FitsEvent (sym is.1) (few, omega (arith, last, most))
+fits_preparing f es k d e valid few heap kind (inl is) admitted = search arith
+fits_preparing f es k d e valid few heap kind (inr is) admitted = search arith
 
 module _ (k : ℕ) (d : Directory) (few : k < 2 ^ 8) (heap : d.heap < 2 ^ 8) (kind : IsKind d.kind) (line : List ℕ) (old : Machine) (valid : IsValid (profile_of old)) where
   preparing_refused : (new : Machine) → new ≡ old
       → ((e : Event) → FitsEvent e → IsPreparing k d e → line ≡ line_of_event e → (es : List Event) → StandsFor old es → Admits (profile_of old) es e → ⊥) → PreparingTaken old new k d line false
-  preparing_refused new kept none = (
-    kept,
-    λ s r next stands same takes.
-        let prepares : IsPreparing k d takes.event = subst (λ x. IsPreparing k x takes.event) same takes.prepares in
-        none takes.event (fits_preparing (profile_of old) s.events k d takes.event valid few heap kind prepares takes.admitted) prepares takes.line_is s.events stands takes.admitted,
-  )
+  preparing_refused new kept none = search (arith, fits_preparing)
 
   pub preparing_stepped : (new : Machine) (e : Event) → line ≡ line_of_event e → ((g : Event) → FitsEvent g → line ≡ line_of_event g → e ≡ g) → IsPreparing k d e
       → (taken : Bool) → IsStepped old new e taken → PreparingTaken old new k d line taken

@@ -77,12 +77,7 @@ module _ (text : List ℕ) (plan : Plan) (transcript : List ℕ) (old new : Judg
 -- ---- after the acts
 module _ (plan : Plan) (transcript : List ℕ) (judge : Judge) (at : Cursor) (so : IsSoFar plan.profile transcript (at_first plan) judge at []) where
   pub known : at.lines ≤ 2 ^ 24 → IsKnown judge.machine
-  known low = record {
-    events = so.stand.events;
-    stands = so.stands.events;
-    few = (omega (arith, so.stands.kept.few, low));
-    kinds = so.stands.kept.kinds;
-  }
+  known low = search arith
 
   abbrev pub reported : Stand
   reported = after_task plan.profile so.stand Reports []

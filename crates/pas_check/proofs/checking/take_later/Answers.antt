@@ -68,7 +68,4 @@ loop-phase-preserved c =
     }
 
 pub returns-clause-taken : goal.returns-clause-taken
-returns-clause-taken c keepers =
-    let n = threads_in c.args.judge.now in
-    taken_as c.args.text.now c.args.judge.now c.loop-phase.judge c.args.cursor.now c.loop-phase.cursor true _ _ _ _ refl
-    (ap (λ (ps : List Phase). acts_from n keepers (c.loop-phase.number + 1) (map ops_of ps)) (drop_of_length-le c.args.phases.now c.loop-phase-test.false)) (c.loop-phase.invariant.far keepers)
+returns-clause-taken c keepers = search (arith, taken_as, drop_of_length-le)

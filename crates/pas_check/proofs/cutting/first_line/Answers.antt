@@ -14,9 +14,4 @@ returns-in-Some-clause-some c =
     (omega (arith, high), cut_first (n + 1) w ends)
 
 pub returns-in-None-clause-some : goal.returns-in-None-clause-some
-returns-in-None-clause-some c =
-    let w = c.args.text.now in
-    let le : length w ≤ length w = omega arith in
-    let front : IsFront w = subst IsFront (take_all (length w) w le) (front_before w (length w) c.in-None.ensures) in
-    let some : 0 < length w = omega arith in
-    (le, all_front w some front ∙ (λ i. sym (take_all (length w) w le) i ∷ lines_in (sym (drop_all (length w) w le) i)))
+returns-in-None-clause-some c = search (arith, take_all, front_before, all_front, drop_all)

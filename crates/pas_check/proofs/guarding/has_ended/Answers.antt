@@ -8,10 +8,7 @@ use Rattle.pas_check.proofs.Guardings.{no_ends}
 use Rattle.pas_check.proofs.guarding.has_ended.Goals as goal
 
 pub returns-then-not-is_place : goal.returns-then-not-is_place
-returns-then-not-is_place c = λ es stands.
-    let a = address_of c.args.name in
-    let none = no_ends (profile_of c.args.machine.now) es stands.run a c.if-not-is_place.ensures in
-    sym (le-ltb c.args.name.turn (ends_in es a) (omega (arith, none)))
+returns-then-not-is_place c = search (arith, no_ends, le-ltb, c.if-not-is_place.ensures)
 
 pub returns-in-Some : goal.returns-in-Some
 returns-in-Some c = λ es stands.

@@ -6,11 +6,7 @@ use Rattle.pas_check.proofs.Digits.{hex_bound, hex_room, hex_most, hex_more, hex
 use Rattle.pas_check.proofs.numbers.hex.Goals as goal
 
 pub returns-then-place-text-clause-value : goal.returns-then-place-text-clause-value
-returns-then-place-text-clause-value c =
-    let v = c.loop-place.value in
-    let k = c.args.digits - c.loop-place.place in
-    let none : drop c.loop-place.place c.args.text.now ≡ [] = drop_all c.loop-place.place c.args.text.now c.if-place-text.true in
-    sym (hex_stops k v) ∙ ap (hex_after k v) (sym none) ∙ c.loop-place.invariant.0
+returns-then-place-text-clause-value c = search (arith, drop_all, hex_stops)
 
 pub returns-then-place-text-clause-small : goal.returns-then-place-text-clause-small
 returns-then-place-text-clause-small c = hex_most c.loop-place.value c.loop-place.place c.args.digits c.loop-place.invariant.1 (omega arith)

@@ -44,9 +44,4 @@ loop-page-preserved c = record {
 }
 
 pub returns-clause-led : goal.returns-clause-led
-returns-clause-led c = λ s more stands due.
-    let f = profile_of c.args.machine.now in
-    let test = c.loop-page-test.false in
-    let count = ap (λ (g : Profile). g.pages) c.profile-pages.ensures in
-    subst (λ (ds : List Due). Leads f c.args.text.now s c.args.cursor.now (with_due s ds) c.loop-page.cursor)
-    (pages_last s.events c.loop-page.page (f.pages + 1 - c.loop-page.page) more (omega (arith, test, count))) (c.loop-page.invariant.led s more stands due)
+returns-clause-led c = search (arith, pages_last, c.profile-pages.ensures)
