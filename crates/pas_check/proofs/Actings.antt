@@ -4,7 +4,7 @@ use Rattle.std.proofs.Common.{Some, length, get_or, set, inl, inr, refl, ap, sym
 use Rattle.std.proofs.Common.{eqb-true, le-leb, leb-true, ne_eqb}
 use Rattle.std.proofs.lemmas.Bool.{and_from, and_parts, cases_eq, false_from_ne_true, lt-leb}
 use Rattle.pas_profile.specs.{Directories.IsKind, Profiles.IsPage, Blocks.address_of}
-use Rattle.pas_profile.specs.declared.{directory.Directory.Directory, event.Event.Event, name.Block.Block, name.Name.Name, profile.Profile.Profile}
+use Rattle.pas_profile.specs.declared.{event.Event.Event, name.Block.Block, name.Name.Name, profile.Profile.Profile}
 use Rattle.pas_machine.specs.Machines.{profile_of, StandsFor}
 use Rattle.pas_machine.specs.declared.machine.Machine.{Machine}
 use Rattle.pas_report.specs.declared.record.{Record.Record, Said.Said}
@@ -16,7 +16,6 @@ use Rattle.pas_check.specs.{Bounds.FitsRequest, Bounds.HaveHeaps, Bounds.IsKept,
 use Rattle.pas_check.specs.{Tables.logs_held, Tables.meant}
 use Rattle.pas_check.specs.Calls.{EntriesTaken, IsAsked, IsExamining, IsFollowed, IsWanted, OutcomesTaken, RequestTaken, after_request}
 use Rattle.pas_check.specs.Leading.{Fails, IsLed, IsWithin, Leads}
-use Rattle.pas_trace.specs.Named.{standing_for}
 use Rattle.pas_check.specs.States.{Due, Writes, Serves, Examines, Task, Does, Stand, with_at, with_due, with_name}
 use Rattle.pas_check.specs.Tasks.{ActTaken, Asks, EntryLogged, FreesEntry, FreesNamed, IsNext, IsSuited, LogEmptied, PassTaken, Remakes, Resizes, SaysNamed}
 use Rattle.pas_check.specs.Tasks.{Stands, being_logged, emptying}
@@ -116,8 +115,7 @@ woken f text old new at within k held machine names logs epoch guards awake = ac
     idle : (s : Stand) → Stands f old s at → (j : ℕ) → j < length new.awake.items → with_at s.idle_since k s.epoch j ≡ get_or new.awake.items j 0
     idle s stands j has = elim (cases_eq j k) [
       | inl is ↦ here s j stands.epoch is
-      | inr other ↦
-          search (arith, ne_eqb, length-set, get_or-set_other)
+      | inr other ↦ search (arith, ne_eqb, length-set, get_or-set_other)
     ]
 
 -- ---- a log is emptied
@@ -320,6 +318,7 @@ module _ (f : Profile) (text : List ℕ) (old : Judge) (from to : Cursor) (k : �
   asking_is : (s : Stand) (ts : List Task) → Stands f old s from → after_task f s (Does act) ts ≡ asking s ts
   asking_is s ts stands = ap (λ (u : Stand). record u { left = ts }) (asks s stands)
 
+  -- the request has the fields of w, whose bounds are given
   request_fits : FitsRequest f k r
   request_fits = search arith
 

@@ -1,14 +1,13 @@
 -- The numbers of a plan's acts fit their places.
-use Rattle.std.proofs.Common.{◌≡◌, ◌≢◌, Option, None, Some, ℕ, zero, suc, ◌+◌, ◌*◌, ◌^◌, ◌<◌, ◌≤◌, Bool, true, false, cond, List, [], ◌∷◌, ◌++◌, map, max}
-use Rattle.std.proofs.Common.{length, refl, sym, subst, arith, MatchOption}
+use Rattle.std.proofs.Common.{◌≡◌, ◌≢◌, Option, None, Some, ℕ, zero, suc, ◌+◌, ◌*◌, ◌^◌, ◌<◌, ◌≤◌, Bool, true, false, cond, List, [], ◌∷◌, ◌++◌, map, length}
+use Rattle.std.proofs.Common.{refl, subst, arith, MatchOption}
 use Rattle.std.specs.List.{AllByRecursion, filter}
-use Rattle.pas_profile.specs.{Directories.IsKind, Profiles.IsAdmitted, Profiles.IsValid, Requests.is_shared, Requests.kind_of_route, Requests.route_in}
-use Rattle.pas_profile.specs.{Routes.IsRouteOf, Routes.room_by}
+use Rattle.pas_profile.specs.{Directories.IsKind, Profiles.IsAdmitted, Profiles.IsValid, Requests.kind_of_route, Routes.IsRouteOf, Routes.room_by}
 use Rattle.pas_profile.specs.declared.{directory.Route.Route, directory.Route.TheVariants.Class, directory.Route.TheVariants.Bitfit}
 use Rattle.pas_profile.specs.declared.{directory.Route.TheVariants.Large, profile.Profile.Profile}
 use Rattle.pas_profile.proofs.{ClassFacts.class_known, ClassFacts.route_is, Sizes.class_size_le}
-use Rattle.pas_trace.specs.Acts.{Act, StopsIdle, Wakes, Ends, Lowers, act_kept, is_active, numbers_from, acts_from, acts_of, acts_of_chore, acts_of_op}
-use Rattle.pas_trace.specs.Acts.{acts_of_ops, acts_of_work, active_threads, close_acts, idle_threads, phase_acts, threads_where}
+use Rattle.pas_trace.specs.Acts.{Act, StopsIdle, Ends, Lowers, act_kept, numbers_from, acts_from, acts_of, acts_of_chore, acts_of_op, acts_of_ops, acts_of_work}
+use Rattle.pas_trace.specs.Acts.{close_acts, phase_acts, threads_where}
 use Rattle.pas_trace.specs.Asked.{epoch_of, keeper_in, keeper_of, of_task, request_of, work_of}
 use Rattle.pas_trace.specs.EveryPlan.{AreBelow, AreKept, AreSound, IsActorBy, IsSoundWork, IsSoundTask, all_ops, asked_after}
 use Rattle.pas_trace.specs.declared.plan.{Chore.Chore, Op.Op, Task.Task, Work.Work}

@@ -59,7 +59,7 @@ pub then_taken : (text : List ℕ) (old mid new : Judge) (from at to : Cursor) (
 then_taken text old mid new from at to all there acts rest taken is far done =
     taken_on text old mid new from at to all (acts ++ rest) rest taken (taken_as text old mid from at true all all there (acts ++ rest) refl is far) (done rest)
 
--- as much room as before
+-- as much room as before: each table has as many as the one in between
 pub sized_on : {old mid new : Judge} → IsSizedAs old mid → IsSizedAs mid new → IsSizedAs old new
 sized_on {old} {mid} {new} one two = search arith
 
@@ -70,5 +70,6 @@ none_taken text judge at = λ more. nothing_taken text judge at more
 pub chosen_alone : (chosen : ℕ → Bool) (k : ℕ) (on : Bool) → chosen k ≡ on → filter chosen (k ∷ []) ≡ (if on then k ∷ [] else [])
 chosen_alone chosen k on is = ap (λ (b : Bool). if b then k ∷ [] else []) is
 
+-- the counts are the same, and so the bounds
 pub sized_as_before : {old new : Judge} → IsSizedAs old new → IsSized old → IsSized new
 sized_as_before {old} {new} same sized = search arith

@@ -89,7 +89,15 @@ module _ (old : Machine) (line : List ℕ) (last epoch : ℕ) where
   outcome_came new x has rises region examined = λ s more stands same.
       let came = examined s stands same in (
         after_outcome s x.page x.outcome,
-        search arith,
+        record {
+          page = x.page;
+          rises = rises;
+          of_region = region;
+          outcome = x.outcome;
+          may = came.0;
+          line_is = subst (λ e. line ≡ line_of (record_of e x.page x.outcome)) (sym same) has;
+          next_is = refl;
+        },
         came.1,
       )
 

@@ -146,6 +146,7 @@ record IsWell (f : Profile) (es : List Event) (b : Stand) : Type 0 where
   events : b.events ≡ es
   epoch : b.epoch < 2 ^ 64
 
+-- with something due it is the state itself that is well, by what is given of it
 settles : (f : Profile) (es : List Event) (b other : Stand) (ds : List Due) → b.due ≡ ds → FitsNext f ds → past_outcomes ds ≡ ds → b.events ≡ es → b.epoch < 2 ^ 64
     → (ds ≡ [] → IsWell f es other) → IsWell f es (settled_with ds b other)
 settles f es b other [] is fits no_pass events epoch rest = rest refl

@@ -3,14 +3,14 @@ use Rattle.std.proofs.Common.{◌≡◌, ◌≢◌, ℕ, ◌+◌, ◌^◌, ◌<�
 use Rattle.std.proofs.Common.{refl, ap, sym, subst, ◌∙◌, append_assoc, append-nil, arith, eqb-true}
 use Rattle.std.specs.{List.filter, Global.Vec}
 use Rattle.pas_profile.specs.{Blocks.address_of, Directories.IsKind}
-use Rattle.pas_profile.specs.declared.{directory.Directory.Directory, event.Event.Event, name.Block.Block, profile.Profile.Profile}
+use Rattle.pas_profile.specs.declared.{event.Event.Event, name.Block.Block, profile.Profile.Profile}
 use Rattle.pas_machine.specs.{Machine.IsPlace, Machine.Run, Machines.profile_of, Machines.StandsFor, State.ends_in}
 use Rattle.pas_machine.specs.declared.machine.Machine.{Machine}
 use Rattle.pas_report.specs.declared.record.{Record.Record, Said.Said}
 use Rattle.pas_trace.specs.{Acts.Act, Acts.Lowers, Named.standing_for}
 use Rattle.pas_trace.specs.declared.item.Request.{Request}
 use Rattle.pas_check.specs.Begins.{after_task, goes_down, guard_of, has_sides, lowered_due, lowered_record, page_above, page_below, raising}
-use Rattle.pas_check.specs.{Bounds.FitsRequest, Bounds.FitsTry, Bounds.IsKept, Tables.meant}
+use Rattle.pas_check.specs.{Bounds.FitsRequest, Bounds.IsKept, Tables.meant}
 use Rattle.pas_check.specs.Calls.{AreLeft, IsAsked, IsTrying, IsWanted, OneSwept, RequestTaken, SweepGoes, TrialTaken, after_request, staying}
 use Rattle.pas_check.specs.Leading.{Fails, IsLed, IsWithin, Leads, lines_from}
 use Rattle.pas_check.specs.States.{Due, Writes, Serves, Tries, Never, Task, Does, Stand, with_due, with_name}
@@ -167,6 +167,7 @@ module _ (f : Profile) (text : List ℕ) (old : Judge) (from : Cursor) (k keeper
 -- ---- its thread is served
 module _ (f : Profile) (text : List ℕ) (old : Judge) (from : Cursor) (w : Wanted) (low : w.name < 2 ^ 32) (room : w.room < 2 ^ 32) (heap : w.directory.heap < 2 ^ 8)
     (kind : IsKind w.directory.kind) (r : Request) (wants : IsWanted f r w) where
+  -- the request has the fields of w, whose bounds are given
   fits_by : (k : ℕ) → k < 2 ^ 8 → FitsRequest f k r
   fits_by k few = search arith
 

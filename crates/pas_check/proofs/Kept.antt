@@ -1,10 +1,9 @@
 -- What every line keeps: few events, and ends at small epochs.
-use Rattle.std.proofs.Common.{◌≡◌, ℕ, suc, ◌+◌, ◌^◌, ◌<◌, ◌≤◌, ◌==◌, max, Bool, true, false, if◌then◌else◌, List, [], ◌∷◌, length, Option, Some, ap, sym, subst}
-use Rattle.std.proofs.Common.{arith}
+use Rattle.std.proofs.Common.{◌≡◌, ℕ, suc, ◌+◌, ◌^◌, ◌<◌, ◌≤◌, ◌==◌, max, Bool, true, false, if◌then◌else◌, List, [], ◌∷◌, length, Option, Some, subst, arith}
 use Rattle.std.proofs.lemmas.Option.{same_Some}
 use Rattle.pas_profile.specs.{Directories.IsKind, Profiles.IsValid, Blocks.address_of}
 use Rattle.pas_profile.specs.declared.{directory.Directory.Directory, event.Event.Event, profile.Profile.Profile}
-use Rattle.pas_machine.specs.{Machine.Run, Machines.profile_of, Machines.StandsFor}
+use Rattle.pas_machine.specs.Machines.{profile_of, StandsFor}
 use Rattle.pas_machine.specs.State.{deed_in, epoch_in, gives_in, live_in, touches}
 use Rattle.pas_machine.specs.declared.machine.Machine.{Machine}
 use Rattle.pas_check.specs.{Bounds.IsKept, Bounds.IsSmall, States.Stand}
@@ -43,7 +42,7 @@ kinds_more (Event.Reject k name why) es epoch by kinds page d is = kinds page d 
 pub kept_more : (t s : Stand) (at to : Cursor) (e : Event) → t.events ≡ e ∷ s.events → t.epoch ≡ s.epoch → to.lines ≡ at.lines + 1 → EndsBy s.epoch e → IsKept s at → IsKept t to
 kept_more t s at to e events epoch count by kept = search (arith, kinds_more, epoch_more)
 
--- without an event
+-- without an event: all that is kept is said of the events, the epoch and the lines
 pub kept_same : (t s : Stand) (at to : Cursor) → t.events ≡ s.events → t.epoch ≡ s.epoch → at.lines ≤ to.lines → IsKept s at → IsKept t to
 kept_same t s at to events epoch count kept = search arith
 

@@ -3,7 +3,7 @@ use Rattle.std.proofs.Common.{◌≡◌, ℕ, ◌+◌, ◌^◌, ◌<◌, List, [
 use Rattle.pas_profile.specs.Profiles.{IsValid}
 use Rattle.pas_profile.specs.declared.{event.Event.Event, event.Outcome.Outcome, profile.Profile.Profile}
 use Rattle.pas_profile.specs.declared.event.Outcome.TheVariants.{Unbacked, Bare, Young, InUse, NotOffered}
-use Rattle.pas_machine.specs.{Machine.Run, Machines.profile_of, State.epoch_in, State.gives_in}
+use Rattle.pas_machine.specs.Machines.{profile_of}
 use Rattle.pas_machine.specs.declared.machine.Machine.{Machine}
 use Rattle.pas_check.specs.{Begins.past_outcomes, Begins.ready, Bounds.FitsNext, Bounds.IsKept, Bounds.IsSmall, Leading.IsWithin, Leading.lines_from}
 use Rattle.pas_check.specs.Calls.{IsExamining, OutcomeTaken, OutcomesGo, OutcomesTaken, after_pass}
@@ -29,7 +29,7 @@ outcome_kept u t page (Young stamp) at to events epoch count kept = kept_same u 
 outcome_kept u t page (InUse word value) at to events epoch count kept = kept_same u t at to events epoch (omega (arith, count)) kept
 outcome_kept u t page NotOffered at to events epoch count kept = kept_same u t at to events epoch (omega (arith, count)) kept
 
--- another state of the same events is small
+-- another state of the same events is small: but for the epoch, its bounds are of the events
 small_as : (f : Profile) (s t : Stand) → t.events ≡ s.events → t.epoch < 2 ^ 64 → IsSmall f s → IsSmall f t
 small_as f s t events epoch small = search arith
 

@@ -3,8 +3,8 @@ use Rattle.std.proofs.Common.{◌≡◌, ◌≢◌, ℕ, ◌^◌, ◌<◌, ◌�
 use Rattle.std.proofs.Common.{Err, IfOk, IfSome}
 use Rattle.std.proofs.lemmas.Option.{none-some, same_Some}
 use Rattle.pas_profile.specs.declared.{profile.Profile.Profile, directory.Directory.Directory, event.Event.Event, event.Why.Why}
-use Rattle.pas_profile.specs.{Directories.IsKind, Profiles.IsPage, Profiles.IsValid, Blocks.address_of}
-use Rattle.pas_machine.specs.{Machine.Admits, Machine.IsPlace, Machines.profile_of, Machines.StandsFor, State.deed_in, State.backed_in, Reasons.IsFirst}
+use Rattle.pas_profile.specs.{Directories.IsKind, Profiles.IsValid, Blocks.address_of}
+use Rattle.pas_machine.specs.{Machine.Admits, Machine.IsPlace, Machines.profile_of, Machines.StandsFor, Reasons.IsFirst}
 use Rattle.pas_machine.specs.declared.{fault.Illegal.Illegal, machine.Machine.Machine}
 use Rattle.pas_machine.proofs.Verdicts.{never_of}
 use Rattle.pas_report.specs.Lines.{line_of, line_of_event}
@@ -80,6 +80,7 @@ pub event_only : (item : Record) (found : Option Event) (e : Event) → found �
 event_only item found e is same = is ∙ ap event_in (same_Some item (Record.Event e) same)
 
 -- ---- deeds and backs
+-- what is admitted is of a page of the region, so its number fits
 fits_preparing : (f : Profile) (es : List Event) (k : ℕ) (d : Directory) (e : Event) → IsValid f → k < 2 ^ 8 → d.heap < 2 ^ 8 → IsKind d.kind → IsPreparing k d e → Admits f es e → FitsEvent e
 fits_preparing f es k d e valid few heap kind (inl is) admitted = search arith
 fits_preparing f es k d e valid few heap kind (inr is) admitted = search arith

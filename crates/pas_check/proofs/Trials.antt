@@ -74,7 +74,13 @@ module _ (old : Machine) (text : List ℕ) (from : Cursor) (keeper : ℕ) (w : W
           let e : Event = takes.event in
           let fits : FitsEvent e = prepares_fits f u (small s k r more asked) keeper r asked.fits.kept e takes.prepares takes.admitted in
           let next : Stand = trying s (e ∷ b.0) keeper k r now more in
-          let goes : TakesKeeping f u keeper k r backed more line next = search arith in (
+          let goes : TakesKeeping f u keeper k r backed more line next = record {
+            event = e;
+            prepares = takes.prepares;
+            admitted = takes.admitted;
+            line_is = takes.line_is;
+            next_is = ap (λ back. trying s (e ∷ b.0) keeper k r back more) (is e fits takes.line_is);
+          } in (
             e ∷ b.0,
             leads_to s k r more asked within next (inl goes),
             subst (λ (es : List Event). StandsFor new es) (ap (λ (v : Stand). v.events) takes.next_is) got.2,
@@ -97,7 +103,13 @@ module _ (old : Machine) (text : List ℕ) (from : Cursor) (keeper : ℕ) (w : W
           let is : block ≡ takes.block = same_block b.0 block takes.block (ap (λ (v : Stand). v.events) takes.next_is) in
           let v : Stand = with_name (record s { events = give ∷ b.0 }) r.name (Some block) in
           let next : Stand = raising (has_sides f block) (with_due v u.due) keeper r.name block more in
-          let goes : TakesGuarded f u keeper r more line next = search arith in (
+          let goes : TakesGuarded f u keeper r more line next = record {
+            block = takes.block;
+            is_for = takes.is_for;
+            admitted = takes.admitted;
+            line_is = takes.line_is;
+            next_is = ap (λ (c : Block). raising (has_sides f c) (with_name (with_one u (Event.Give keeper c)) r.name (Some c)) keeper r.name c more) is;
+          } in (
             give ∷ b.0,
             subst (λ (x : Stand). Leads f text s from x to) (raise_due (has_sides f block) v u.due keeper r.name block more) (leads_to s k r more asked within next (inr (inl goes))),
             got.1,

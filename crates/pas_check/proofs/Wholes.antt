@@ -76,6 +76,7 @@ module _ (text : List ℕ) (plan : Plan) (transcript : List ℕ) (old new : Judg
 
 -- ---- after the acts
 module _ (plan : Plan) (transcript : List ℕ) (judge : Judge) (at : Cursor) (so : IsSoFar plan.profile transcript (at_first plan) judge at []) where
+  -- there are no more events than lines
   pub known : at.lines ≤ 2 ^ 24 → IsKnown judge.machine
   known low = search arith
 

@@ -66,10 +66,7 @@ few-actors true threads few = omega (arith, few)
 few-actors false threads few = omega (arith, few)
 
 all-few : (f : Profile) (items : List Item) → f.threads < 2 ^ 62 → length (all_bounds f items) < 2 ^ 63
-all-few f items few =
-    let count = bounds_count f items (actors_by (guard_in items) f.threads + 1) in
-    let small : actors_by (guard_in items) f.threads + 1 < 2 ^ 63 = few-actors (guard_in items == 0) f.threads few in
-    omega (arith, count, small)
+all-few f items few = search (arith, bounds_count, few-actors)
 
 -- ---- a number above all names
 abbrev above : Option ℕ → ℕ
@@ -83,10 +80,7 @@ limit_in (i ∷ items) = limit_in items
 
 below_more : (made : Option ℕ) (named : Bool) (n limit : ℕ) → is_name made n || named ≡ true → (named ≡ true → n < limit) → n < limit + above made
 below_more None named n limit is before = omega (arith, before is)
-below_more (Some m) named n limit is before = elim (cases_eq m n) [
-  | inl same ↦ omega (arith, same)
-  | inr other ↦ let lt = before (sym (ap (λ (t : Bool). t || named) (ne_eqb m n other)) ∙ is) in omega (arith, lt)
-]
+below_more (Some m) named n limit is before = search (arith, cases_eq, ne_eqb)
 
 named_below : (items : List Item) (n : ℕ) → is_named items n ≡ true → n < limit_in items
 named_below [] n is = absurd (false≢true is)

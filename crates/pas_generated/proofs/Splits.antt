@@ -28,20 +28,11 @@ pub word-by : (w : List ℕ) → nat_lt 0 (length w) ≡ true → lacks 10 w ≡
 word-by w some end space = record { some = ltb-true 0 (length w) some; no_end = lacks-by 10 w end; no_space = lacks-by 32 w space }
 
 pub decimal-word : (n : ℕ) → n < 2 ^ 64 → IsWord (decimal n)
-decimal-word n small = let h = are-digits n small in record {
-  some = h.some;
-  no_end = digits-lack 10 (decimal n) (omega arith) h.digits;
-  no_space = digits-lack 32 (decimal n) (omega arith) h.digits;
-}
+decimal-word n small = let h = are-digits n small in search (arith, digits-lack)
 
 -- ---- a line of these words, the end of the line, and the rest
 pub last-word : (w rest : List ℕ) → IsWord w → IsLine (w ++ 10 ∷ rest) (w ∷ []) rest
-last-word w rest h = record {
-  line = w;
-  text_is = refl;
-  whole = h.no_end;
-  words_are = ap without_empty (pieces-only 32 w h.no_space) ∙ keeps w [] h.some;
-}
+last-word w rest h = search (arith, pieces-only, keeps)
 
 pub word-before : (w after : List ℕ) (words : List (List ℕ)) (rest : List ℕ) → IsWord w → IsLine after words rest → IsLine (w ++ 32 ∷ after) (w ∷ words) rest
 word-before w after words rest h l = record {
@@ -53,9 +44,4 @@ word-before w after words rest h l = record {
 
 -- more text after the line
 pub line-then : (text : List ℕ) (words : List (List ℕ)) (rest more : List ℕ) → IsLine text words rest → IsLine (text ++ more) words (rest ++ more)
-line-then text words rest more l = record {
-  line = l.line;
-  text_is = ap (λ (t : List ℕ). t ++ more) l.text_is ∙ append_assoc l.line (10 ∷ rest) more;
-  whole = l.whole;
-  words_are = l.words_are;
-}
+line-then text words rest more l = search (arith, append_assoc)

@@ -61,8 +61,6 @@ module _ (f : Profile) (l : Whole) (valid : IsValid f) (legal : Legal f l) where
       let g : (256 * page + b) / 256 ≡ page = omega arith in
       let quarter : (256 * page + b) / 64 % 4 ≡ b / 64 = omega arith in
       let low : (256 * page + b) % 64 ≡ b % 64 = omega arith in
-      let first = of.0 in
-      let last = of.1 in
       (λ t. has_bit (word_after l (Word.Free (sym g t) (sym quarter t))) (sym low t)) ∙ free.grain (256 * page + b) (omega arith, omega arith) ∙ ap not none
 
   usable_free : AreFreeOrCovered f l → (page b : ℕ) → IsPage f page → (d : Directory) → deed_in (visible l) page ≡ Some d → b < 256 → usable_by_kind d.kind b ≡ true

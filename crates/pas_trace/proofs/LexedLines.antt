@@ -137,10 +137,8 @@ items-fault f n told (x ∷ xs) ys fault e = after-fault n (line_says f told x) 
 
 pub after-lines : (old now new : Reader) (start : List Item) (lines xs ys : List (List ℕ)) (far : SoFar old start lines now (xs ++ ys)) → AreTaken now far.items xs new (Ok tt) → SoFar old start lines new ys
 after-lines old now new start lines xs ys far t =
-    let told = far.tells in
-    let line : now.line ≡ line_of_newest far.items = told.line in
-    let after = t.2 in
-    let line' : new.line ≡ line_of_newest t.0 = after.line in
+    let line : now.line ≡ line_of_newest far.items = far.tells.line in
+    let line' : new.line ≡ line_of_newest t.0 = t.2.line in
     let taken : items_from old.header (line_of_newest far.items + 1) far.items xs ≡ Ok t.0 =
     ap (λ n. items_from old.header (n + 1) far.items xs) (sym line) ∙ ap (λ (f : Header). items_from f (now.line + 1) far.items xs) (sym far.header) ∙ t.1 in
     record {

@@ -1,6 +1,4 @@
-use Rattle.std.proofs.Common.{arith, List, [], true, false, subst}
-use Rattle.pas_check.specs.Calls.{EntriesTaken}
-use Rattle.pas_check.specs.declared.entry.Entry.{Entry}
+use Rattle.std.proofs.Common.{arith, []}
 use Rattle.pas_check.proofs.Actings.{log_amiss, log_emptied}
 use Rattle.pas_check.proofs.acting.empty_log.Goals as goal
 

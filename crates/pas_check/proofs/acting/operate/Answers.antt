@@ -1,7 +1,6 @@
 use Rattle.std.proofs.Common.{◌≡◌, ◌∙◌, ◌<◌, ◌^◌, ℕ, Bool, None, ap, refl, subst, sym, arith, MatchOption}
 use Rattle.pas_profile.specs.declared.profile.Profile.{Profile}
-use Rattle.pas_trace.specs.Acts.{Act, Guards, Operates, act_kept}
-use Rattle.pas_trace.specs.Asked.{keeper_in, request_in}
+use Rattle.pas_trace.specs.{Acts.Act, Acts.Guards, Acts.act_kept, Asked.keeper_in, Asked.request_in}
 use Rattle.pas_trace.specs.declared.{item.Request.Request, plan.What.What, plan.What.TheVariants.Guarded}
 use Rattle.pas_check.specs.{Begins.guarding, Calls.IsWanted, Calls.asked_for, Tasks.ActTaken, Tasks.AsksKeeper}
 use Rattle.pas_check.proofs.{Actings.of_profile, Takings.if_ok}

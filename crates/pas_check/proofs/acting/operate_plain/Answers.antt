@@ -2,8 +2,7 @@ use Rattle.std.proofs.Common.{arith, ◌≡◌, ◌⊎◌, ◌∙◌, ℕ, Bool,
 use Rattle.pas_profile.specs.declared.profile.Profile.{Profile}
 use Rattle.pas_trace.specs.Acts.{Act, Operates}
 use Rattle.pas_trace.specs.declared.{item.Request.Request, plan.What.What, plan.What.TheVariants.Tick, plan.What.TheVariants.Pass, plan.What.TheVariants.Idle}
-use Rattle.pas_check.specs.{Begins.begun_what, Begins.entry_of, Begins.unsized, Calls.IsWanted, Calls.asked_for, States.Stand}
-use Rattle.pas_check.specs.Tasks.{ActTaken, Asks, FreesEntry, FreesNamed, Remakes}
+use Rattle.pas_check.specs.{Begins.begun_what, Calls.IsWanted, Calls.asked_for, States.Stand, Tasks.ActTaken, Tasks.Asks}
 use Rattle.pas_check.proofs.{Actings.nothing_begun, Actings.of_profile, Takings.if_ok}
 use Rattle.pas_check.proofs.acting.operate_plain.Goals as goal
 

@@ -1,6 +1,4 @@
-use Rattle.std.proofs.Common.{List, [], ◌∷◌, ◌++◌, length, true, false, ap, subst, ◌∙◌, arith}
-use Rattle.pas_check.specs.Calls.{EntriesTaken}
-use Rattle.pas_check.specs.declared.entry.Entry.{Entry}
+use Rattle.std.proofs.Common.{[], ◌∷◌, ◌++◌, length, ap, ◌∙◌, arith}
 use Rattle.pas_check.proofs.Actings.{log_amiss, log_emptied}
 use Rattle.pas_check.proofs.acting.refill_log.Goals as goal
 

@@ -3,8 +3,6 @@ use Rattle.pas_report.specs.Lines.{line_of}
 use Rattle.pas_check.specs.Calls.{IsExamined}
 use Rattle.pas_check.proofs.Examinings.{found_only, outcome_unread, outcome_other, outcome_amiss, outcome_came, outcome_failed, record_is}
 use Rattle.pas_check.proofs.examining.take_outcome.Goals as goal
-use Rattle.pas_check.proofs.examining.take_outcome.Goals.{then-examined-last-via-then-examined-last}
-use Rattle.pas_check.proofs.examining.take_outcome.Goals.{then-examined-last-via-else-examined-last+then-not-has_page}
 
 pub returns-in_default-clause-taken : goal.returns-in_default-clause-taken
 returns-in_default-clause-taken c = outcome_unread c.args.machine.now c.args.line.now c.args.last c.args.epoch (λ r fits has. sym c.in_default.is ∙ c.read_record.ensures.only r fits has)

@@ -1,7 +1,7 @@
 use Rattle.std.proofs.Common.{◌≡◌, ◌*◌, ◌/◌, nat_lt, ap, sym, ◌∙◌, arith, le-ltb}
 use Rattle.pas_profile.specs.Blocks.{address_of}
 use Rattle.pas_profile.specs.declared.name.Block.{Block}
-use Rattle.pas_machine.specs.{Machines.profile_of, State.ends_in, State.gives_in, State.live_in}
+use Rattle.pas_machine.specs.{Machines.profile_of, State.gives_in, State.live_in}
 use Rattle.pas_check.specs.Begins.{unsized}
 use Rattle.pas_check.proofs.Entries.{block_there, counts, gone, nothing_there}
 use Rattle.pas_check.proofs.Guardings.{no_ends}

@@ -1,6 +1,5 @@
-use Rattle.std.proofs.Common.{◌+◌, ◌^◌, drop, get_or, sym, ap, ◌∙◌, arith}
+use Rattle.std.proofs.Common.{◌+◌, ◌^◌, ◌∙◌, arith}
 use Rattle.std.proofs.lemmas.List.{drop_more}
-use Rattle.pas_check.specs.Readings.{digits_after, small}
 use Rattle.pas_check.proofs.Digits.{too_large}
 use Rattle.pas_check.proofs.numbers.number.Goals as goal
 

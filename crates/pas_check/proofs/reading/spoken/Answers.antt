@@ -1,5 +1,4 @@
-use Rattle.std.proofs.Common.{arith, ◌∙◌, ap}
-use Rattle.pas_check.specs.Readings.{byte_at, word_at}
+use Rattle.std.proofs.Common.{arith, ◌∙◌}
 use Rattle.pas_check.proofs.reading.spoken.Goals as goal
 
 pub returns : goal.returns

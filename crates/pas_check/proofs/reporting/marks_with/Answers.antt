@@ -1,7 +1,6 @@
-use Rattle.std.proofs.Common.{◌≡◌, not, ap, ◌∙◌, arith}
-use Rattle.pas_report.specs.Marks.{Marked, bits_of, marks_of}
+use Rattle.std.proofs.Common.{◌≡◌, ◌∙◌, arith}
 use Rattle.pas_report.proofs.MarkBits.{marks_are}
 use Rattle.pas_check.proofs.reporting.marks_with.Goals as goal
 
 pub returns : goal.returns
-returns c = search (arith, marks_are, c.bit-3.ensures.bit)
+returns c = search (arith, marks_are)

@@ -1,5 +1,4 @@
 use Rattle.std.proofs.Common.{arith}
-use Rattle.pas_machine.specs.Machines.{profile_of}
 use Rattle.pas_check.proofs.Reportings.{given_is}
 use Rattle.pas_check.proofs.reporting.total.Goals as goal
 
@@ -7,7 +6,7 @@ pub overflow_sub-result : goal.overflow_sub-result
 overflow_sub-result c = search (arith, given_is, c.count_live-live.ensures, c.count_given-given.ensures.given)
 
 pub returns-clause-tells : goal.returns-clause-tells
-returns-clause-tells c = search (arith, given_is, c.count_pages-deeds.ensures.backed)
+returns-clause-tells c = search (arith, given_is)
 
 pub returns-clause-few : goal.returns-clause-few
 returns-clause-few c = search (arith, given_is, c.count_given-given.ensures.few)

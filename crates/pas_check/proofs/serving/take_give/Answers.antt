@@ -1,7 +1,5 @@
-use Rattle.std.proofs.Common.{arith, ◌≡◌, ℕ, List, sym, subst, ◌∙◌, IfSome}
+use Rattle.std.proofs.Common.{arith, ◌≡◌, sym, ◌∙◌}
 use Rattle.std.proofs.lemmas.Option.{same_Some}
-use Rattle.pas_report.specs.Lines.{line_of_event}
-use Rattle.pas_check.specs.Calls.{GiveTaken, IsGiven, IsRead}
 use Rattle.pas_check.proofs.{Servings.give_unread, Servings.give_taken, Takings.if_ok}
 use Rattle.pas_check.proofs.serving.take_give.Goals as goal
 

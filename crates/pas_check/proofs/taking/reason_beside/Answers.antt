@@ -1,8 +1,7 @@
-use Rattle.std.proofs.Common.{ap, refl, sym, ◌∙◌, arith}
+use Rattle.std.proofs.Common.{ap, ◌∙◌, arith}
 use Rattle.pas_profile.specs.declared.name.Block.{Block}
 use Rattle.pas_check.proofs.Entries.{ended_before, may_end, not_yet, other_room}
 use Rattle.pas_check.proofs.taking.reason_beside.Goals as goal
-use Rattle.pas_check.proofs.taking.reason_beside.Goals.{else-entry-gt0-via-then-entry-gt0+else-entry-block-3, else-entry-gt0-via-else-entry-gt0}
 
 pub returns-then-entry-block : goal.returns-then-entry-block
 returns-then-entry-block c = λ f es run b is same.

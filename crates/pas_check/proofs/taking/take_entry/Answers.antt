@@ -1,5 +1,4 @@
 use Rattle.std.proofs.Common.{arith}
-use Rattle.pas_check.specs.Calls.{IsStepped, EntryTaken}
 use Rattle.pas_check.proofs.Takings.{entry_amiss, entry_outside, entry_stepped, if_ok}
 use Rattle.pas_check.proofs.taking.take_entry.Goals as goal
 

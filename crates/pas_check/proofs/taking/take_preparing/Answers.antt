@@ -1,7 +1,5 @@
-use Rattle.std.proofs.Common.{◌≡◌, ℕ, List, sym, subst, ◌∙◌, arith, IfSome}
+use Rattle.std.proofs.Common.{◌≡◌, sym, ◌∙◌, arith}
 use Rattle.std.proofs.lemmas.Option.{same_Some}
-use Rattle.pas_report.specs.Lines.{line_of_event}
-use Rattle.pas_check.specs.Calls.{IsRead, IsStepped, PreparingTaken}
 use Rattle.pas_check.proofs.Takings.{preparing_none, preparing_other, preparing_stepped, if_ok}
 use Rattle.pas_check.proofs.taking.take_preparing.Goals as goal
 

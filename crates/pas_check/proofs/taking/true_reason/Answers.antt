@@ -1,6 +1,4 @@
-use Rattle.std.proofs.Common.{◌≡◌, ◌*◌, ◌/◌, ap, sym, ◌∙◌, arith}
-use Rattle.pas_machine.specs.{Machines.profile_of, State.gives_in, State.live_in}
-use Rattle.pas_profile.specs.Blocks.{address_of}
+use Rattle.std.proofs.Common.{◌≡◌, ◌*◌, ◌/◌, ◌∙◌, arith}
 use Rattle.pas_check.proofs.Entries.{block_there, nothing_there}
 use Rattle.pas_check.proofs.taking.true_reason.Goals as goal
 
