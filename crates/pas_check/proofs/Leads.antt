@@ -82,23 +82,30 @@ leads_nowhere f text s at within = leads_idly f text s s at within (same_as_itse
 module _ (f : Profile) (text : List ℕ) (s : Stand) (old : Cursor) where
   pub leads_line : (next : Stand) (new : Cursor) (line : List ℕ) → lines_from text old ≡ line ∷ lines_from text new → new.lines ≡ old.lines + 1 → IsWithin text new
       → Takes f s line next → ((other : Stand) → Takes f s line other → other ≡ next) → Leads f text s old next new
-  leads_line next new line has count within takes one =
-      let rest = lines_from text new in
-      record {
-        taken = 1;
-        count = count;
-        length_is = (omega (arith, ap length has));
-        go = search arith;
-        whole = search arith;
-        within = within;
-      }
+  leads_line next new line has count within takes one = record {
+    taken = 1;
+    count = count;
+    length_is = (omega (arith, ap length has));
+    -- the line leads to that state alone, so what goes on does so from there
+    go = search arith;
+    whole = search arith;
+    within = within;
+  }
 
   -- it can't be taken
   pub fails_line : (line : List ℕ) (rest : List (List ℕ)) → lines_from text old ≡ line ∷ rest → ((next : Stand) → Takes f s line next → ⊥) → Fails f text s old (old.lines + 1)
   fails_line line rest has never = record {
     further = 1;
     number_is = refl;
-    stopped = search arith;
+    stopped = record {
+      before = 0;
+      number = omega arith;
+      go = (s, refl);
+      stops = inl (
+        (omega (arith, ap length has)),
+        λ g. let h = subst (MayGo f s) (λ i. take 1 (has i)) g in never h.1.0 h.1.1,
+      );
+    };
   }
 
   -- there is none
@@ -106,7 +113,12 @@ module _ (f : Profile) (text : List ℕ) (s : Stand) (old : Cursor) where
   fails_early none undone = record {
     further = 1;
     number_is = refl;
-    stopped = search arith;
+    stopped = record {
+      before = 0;
+      number = omega arith;
+      go = (s, refl);
+      stops = inr ((omega (arith, ap length none)), λ g. let h = subst (IsWhole f s) none g in undone (subst (IsDone f) h.1 h.2));
+    };
   }
 
 -- ---- where something is due that isn't the outcomes of a pass

@@ -2,7 +2,7 @@
 use Rattle.std.proofs.Common.{◌≡◌, ◌⊎◌, ℕ, ◌+◌, ◌*◌, ◌/◌, ◌<◌, ◌≤◌, ◌==◌, nat_le, Bool, true, false, not, ◌||◌, if◌then◌else◌, List, [], ◌∷◌, length, None}
 use Rattle.std.proofs.Common.{Some, inl, inr, refl, ap, ◌∙◌, arith, le-leb, lt-ltb}
 use Rattle.std.proofs.{Math.Nat.mul-le-mul, lemmas.Bool.and_from, lemmas.Bool.cases_lt}
-use Rattle.pas_trace.specs.Reasons.{first_failed, is_thread, is_alignment, is_named, is_named_now, thread_of, operations_in, guard_after, guard_in, actors_by}
+use Rattle.pas_trace.specs.Reasons.{first_failed, is_thread, is_alignment, is_named, is_named_now, thread_of, operations_in, guard_after, guard_in}
 use Rattle.pas_trace.specs.Reasons.{cost_of_size, cost_of, costs_of, record_bound, few_enough, checks_of, reason_of}
 use Rattle.pas_trace.specs.declared.{fault.Reason.Reason, item.Item.Item, item.Item.TheVariants.Operates, item.Item.TheVariants.Scavenges}
 use Rattle.pas_trace.specs.declared.{item.Wish.TheVariants.Asks, item.Wish.TheVariants.Frees, plan.Chore.Chore}

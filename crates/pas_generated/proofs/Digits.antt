@@ -1,6 +1,6 @@
 -- The decimal of a number is read as the number.
 use Rattle.std.proofs.Common.{◌≡◌, ℕ, zero, suc, ◌+◌, ◌/◌, ◌%◌, ◌^◌, ◌<◌, ◌≤◌, nat_lt, nat_le, Bool, true, if◌then◌else◌, List, [], ◌∷◌, ◌++◌, length, get_or}
-use Rattle.std.proofs.Common.{None, Some, refl, ap, ◌∙◌, arith, length-append, le-leb, lt-ltb}
+use Rattle.std.proofs.Common.{None, Some, ap, ◌∙◌, arith, length-append, le-leb, lt-ltb}
 use Rattle.std.specs.Fmt.{decimal}
 use Rattle.std.proofs.lemmas.{Bool.and_from, Bool.and_parts, Fmt.decimal_by_steps, Fmt.decimal_digit, Fmt.first_decimal}
 use Rattle.pas_trace.specs.Numbers.{is_digit, all_digits, value_from, is_decimal, number_of}

@@ -1,10 +1,10 @@
 -- The allocations that no line has freed, against the items so far.
 use Rattle.std.proofs.Common.{◌≡◌, ◌≢◌, ℕ, ◌+◌, ◌-◌, ◌<◌, ◌≤◌, ◌==◌, nat_eq, Bool, true, false, not, ◌||◌, if◌then◌else◌, List, [], ◌∷◌, ◌++◌, length, set}
-use Rattle.std.proofs.Common.{get_or, All, swap_remove, inl, inr, refl, sym, ap, ◌∙◌, arith, eq-eqb, ne_eqb}
+use Rattle.std.proofs.Common.{get_or, All, swap_remove, inl, inr, refl, ◌∙◌, arith, eq-eqb, ne_eqb}
 use Rattle.std.proofs.lemmas.Bool.{cases_eq, false_from_ne_true}
 use Rattle.std.proofs.lemmas.List.Elements.{All-push, All-take, All-set, All-get_or, All-weaker}
 use Rattle.pas_trace.specs.Wishes.{name_made, is_name}
-use Rattle.pas_trace.specs.Reasons.{makes, is_phase, is_named, is_named_now, thread_of, actor_of}
+use Rattle.pas_trace.specs.Reasons.{makes, is_phase, is_named, is_named_now, thread_of}
 use Rattle.pas_trace.specs.declared.item.{Item.Item, Item.TheVariants.NextPhase, Item.TheVariants.Operates, Wish.Wish}
 
 -- The name was asked for before the next one, by the thread; and if in the present phase, then at this one.
@@ -26,7 +26,7 @@ listed-past threads phase next more items i name thread at le other same h = sea
 pub listed-next : (threads phase next : ℕ) (items : List Item) (name thread at : ℕ) → IsListed threads phase next items name thread at → IsListed threads (phase + 1) next (NextPhase ∷ items) name thread at
 listed-next threads phase next items name thread at h = search arith
 
--- the name that is asked for
+-- the name that is asked for: this item names it, and is of its thread
 pub listed-new : (threads phase next : ℕ) (items : List Item) (t : ℕ) (w : Wish) → is_name (name_made w) next ≡ true → 1 ≤ next → 1 ≤ t → t ≤ threads → IsListed threads phase (next + 1) (Operates t w ∷ items) next t phase
 listed-new threads phase next items t w same some lo hi = search arith
 

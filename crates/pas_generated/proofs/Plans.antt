@@ -1,15 +1,14 @@
 -- The plan of a text that is read, made of its items.
-use Rattle.std.proofs.Common.{◌≡◌, ℕ, zero, suc, ◌+◌, ◌*◌, ◌^◌, ◌<◌, ◌≤◌, ◌==◌, ◌||◌, Bool, true, false, if◌then◌else◌, inl, inr, List, [], ◌∷◌, ◌++◌, map}
-use Rattle.std.proofs.Common.{length, Option, None, Some, Ok, refl, ap, sym, ◌∙◌, subst, arith, length-append, Global, ne_eqb}
+use Rattle.std.proofs.Common.{◌≡◌, ℕ, ◌+◌, ◌*◌, ◌^◌, ◌<◌, ◌≤◌, ◌==◌, ◌||◌, Bool, true, false, if◌then◌else◌, List, [], ◌∷◌, ◌++◌, map, length, Option, None}
+use Rattle.std.proofs.Common.{Some, Ok, refl, ap, ◌∙◌, subst, arith, length-append, Global, ne_eqb}
 use Rattle.std.specs.Global.{Vec}
 use Rattle.std.proofs.lemmas.{Bool.cases_eq, Bool.false≢true, List.length-map}
 use denote.RawPtr.{null_ptr}
 use Rattle.pas_profile.specs.declared.profile.Profile.{Profile}
 use Rattle.pas_trace.specs.declared.{header.Header.Header, item.Item.Item, plan.Op.Op, plan.Phase.Phase, plan.Plan.Plan}
 use Rattle.pas_trace.specs.Wishes.{name_made, is_name}
-use Rattle.pas_trace.specs.Reasons.{is_named, heap_of, guard_in, actors_by, record_bound}
-use Rattle.pas_trace.specs.Plans.{parsed, shared_in, add_last, line_of_newest, keeper_for, phases_after, phases_in, bound_of, bounds_upto, all_bounds, ops_of}
-use Rattle.pas_trace.specs.Plans.{IsPlanOf}
+use Rattle.pas_trace.specs.Reasons.{is_named, heap_of, guard_in, record_bound}
+use Rattle.pas_trace.specs.Plans.{parsed, shared_in, add_last, line_of_newest, keeper_for, phases_after, phases_in, all_bounds, ops_of, IsPlanOf}
 use Rattle.pas_trace.specs.declared.item.Item.TheVariants.{Blank, Shares, Guards, NextPhase, Operates, Scavenges}
 use Rattle.pas_trace.proofs.{EveryPlan.bounds_count, OperationsOfItems.phases_within}
 

@@ -1,9 +1,8 @@
 -- Texts that are read line by line, with nothing between them.
 use Rattle.std.proofs.Common.{◌≡◌, ℕ, ◌+◌, List, [], ◌∷◌, ◌++◌, None, Some, Ok, refl, sym, ap, ◌∙◌, append_assoc, append-nil}
 use Rattle.pas_trace.specs.declared.{header.Header.Header, item.Item.Item}
-use Rattle.pas_trace.specs.Texts.{lines_of}
+use Rattle.pas_trace.specs.{Texts.lines_of, Plans.items_from, Plans.parsed}
 use Rattle.pas_trace.specs.Reasons.{started, header_of_words, reason_of, checked, kept, line_says}
-use Rattle.pas_trace.specs.Plans.{after_item, items_from, with_items, with_header, parsed_lines, parsed}
 use Rattle.pas_trace.proofs.WordLines.{Lacks, IsLine, lines-until}
 use Rattle.pas_generated.proofs.Says.{Says}
 

@@ -1,9 +1,9 @@
 -- What the lines of operations say.
-use Rattle.std.proofs.Common.{◌≡◌, ℕ, ◌^◌, ◌<◌, ◌≤◌, ◌==◌, nat_lt, nat_le, Bool, true, false, if◌then◌else◌, List, [], ◌∷◌, ◌++◌, get_or, codes, Some, None, Ok}
-use Rattle.std.proofs.Common.{refl, ap, ◌∙◌, arith, lit<, le-leb, lt-ltb, ne_eqb}
+use Rattle.std.proofs.Common.{◌≡◌, ℕ, ◌^◌, ◌<◌, ◌≤◌, ◌==◌, Bool, if◌then◌else◌, List, [], ◌∷◌, ◌++◌, get_or, codes, Some, Ok, refl, ap, ◌∙◌, arith, lit<}
+use Rattle.std.proofs.Common.{le-leb, lt-ltb, ne_eqb}
 use Rattle.std.specs.Fmt.{decimal}
 use Rattle.pas_trace.specs.Texts.{words_of}
-use Rattle.pas_trace.specs.Items.{below, from_one, trace_name, epoch_word, item1, item2, item5, item_of_words, item_of_line}
+use Rattle.pas_trace.specs.Items.{trace_name, epoch_word, item1, item2, item5, item_of_words, item_of_line}
 use Rattle.pas_trace.specs.declared.{item.Item.Item, item.Item.TheVariants.Operates, item.Item.TheVariants.Scavenges, item.Wish.TheVariants.Asks}
 use Rattle.pas_trace.specs.declared.{item.Wish.TheVariants.Frees, plan.Chore.Chore}
 use Rattle.pas_generate.specs.Lines.{free_line, tick_line}
@@ -13,7 +13,7 @@ use Rattle.pas_generated.proofs.Splits.{IsWord, decimal-word, word-by, last-word
 
 -- ---- numbers in their places
 name-fits : (n : ℕ) → 1 ≤ n → n ≤ 1000000 → trace_name (decimal n) ≡ Some n
-name-fits n lo hi = search (arith, lt-ltb, nat_le, le-leb, number-back)
+name-fits n lo hi = search (arith, lt-ltb, le-leb, number-back)
 
 epoch-fits : (n : ℕ) → n < 2 ^ 40 → epoch_word (decimal n) ≡ Some n
 epoch-fits n small = search (arith, lt-ltb, number-back)

@@ -32,7 +32,12 @@ decimal-word n small = let h = are-digits n small in search (arith, digits-lack)
 
 -- ---- a line of these words, the end of the line, and the rest
 pub last-word : (w rest : List ℕ) → IsWord w → IsLine (w ++ 10 ∷ rest) (w ∷ []) rest
-last-word w rest h = search (arith, pieces-only, keeps)
+last-word w rest h = record {
+  line = w;
+  text_is = refl;
+  whole = h.no_end;
+  words_are = ap without_empty (pieces-only 32 w h.no_space) ∙ keeps w [] h.some;
+}
 
 pub word-before : (w after : List ℕ) (words : List (List ℕ)) (rest : List ℕ) → IsWord w → IsLine after words rest → IsLine (w ++ 32 ∷ after) (w ∷ words) rest
 word-before w after words rest h l = record {
@@ -44,4 +49,9 @@ word-before w after words rest h l = record {
 
 -- more text after the line
 pub line-then : (text : List ℕ) (words : List (List ℕ)) (rest more : List ℕ) → IsLine text words rest → IsLine (text ++ more) words (rest ++ more)
-line-then text words rest more l = search (arith, append_assoc)
+line-then text words rest more l = record {
+  line = l.line;
+  text_is = ap (λ (t : List ℕ). t ++ more) l.text_is ∙ append_assoc l.line (10 ∷ rest) more;
+  whole = l.whole;
+  words_are = l.words_are;
+}

@@ -2,14 +2,14 @@
 use Rattle.std.proofs.Common.{◌≡◌, ◌⊎◌, ℕ, zero, suc, ◌+◌, ◌*◌, ◌/◌, ◌%◌, ◌^◌, ◌<◌, ◌≤◌, nat_eq, nat_lt, Bool, true, false, ◌||◌, List, ◌∷◌, length, codes, inl}
 use Rattle.std.proofs.Common.{inr, refl, ap, ◌∙◌, arith, eq-eqb, ne_eqb}
 use Rattle.std.proofs.Math.Nat.{mod-lt}
-use Rattle.pas_trace.specs.Reasons.{is_named, operations_in, guard_in, cost_of, costs_of, kept}
+use Rattle.pas_trace.specs.Reasons.{is_named, operations_in, kept}
 use Rattle.pas_trace.specs.declared.{item.Item.Item, item.Item.TheVariants.NextPhase, item.Item.TheVariants.Operates, item.Item.TheVariants.Scavenges}
 use Rattle.pas_trace.specs.declared.{item.Wish.TheVariants.Asks, item.Wish.TheVariants.Frees, plan.Chore.Chore}
 use Rattle.pas_generate.specs.{Draws.drawn, Draws.draw, Draws.moved_by, Requests.request_from, Lines.line_of, Lines.tick_line, Traces.IsJob}
 use Rattle.pas_generate.specs.Operations.{State, place, none, freed, freeing_thread, allocation, after_allocation, free_of, after_free, allocates, begun}
 use Rattle.pas_generate.specs.Operations.{thread_of, drawn_operation, after_drawn}
 use Rattle.pas_generate.proofs.Valid.{valid}
-use Rattle.pas_generated.specs.Meant.{region, heading, with_allocation, with_free, with_drawn}
+use Rattle.pas_generated.specs.Meant.{heading, with_allocation, with_free, with_drawn}
 use Rattle.pas_generated.proofs.Splits.{lacks-by}
 use Rattle.pas_generated.proofs.Says.{IsWritten, allocation-says, free-says, tick-says}
 use Rattle.pas_generated.proofs.Reading.{Reads, reads-both, reads-line, reads-said}
@@ -46,7 +46,6 @@ tick-step ops threads pages n s items job more h =
 pub pass-step : (ops threads pages n : ℕ) (s : State) (items : List Item) → IsJob ops threads pages → n < ops → (n + 1) % 1000 ≡ 0 → Follows pages threads n s items
     → Step pages threads n items (codes "pass\nphase\n") (record s { phase = s.phase + 1 }) (NextPhase ∷ Scavenges Chore.Pass ∷ items)
 pass-step ops threads pages n s items job more turn h =
-    let f = region pages threads in
     record {
       reads = reads-both (heading pages threads) items (Scavenges Chore.Pass ∷ items) (NextPhase ∷ Scavenges Chore.Pass ∷ items) (codes "pass\n") (codes "phase\n")
           (reads-line (heading pages threads) items (codes "pass") (Scavenges Chore.Pass) (lacks-by 10 (codes "pass") refl) (ap (kept (Scavenges Chore.Pass)) (pass-fine ops threads pages n items job more h.counted)))
@@ -63,7 +62,6 @@ aligned-small a (inr (inr e)) = omega arith
 allocation-step : (ops threads pages n t : ℕ) (s : State) (items : List Item) → IsJob ops threads pages → n < ops → 1 ≤ t → t ≤ threads → Follows pages threads n s items
     → Step pages threads n items (line_of (allocation t s)) (after_allocation t s) (with_allocation t s items)
 allocation-step ops threads pages n t s items job more lo hi h =
-    let f = region pages threads in
     let name = s.next_name in
     let heap = (request_from s.x).heap in
     let size = (request_from s.x).size in
@@ -80,7 +78,7 @@ allocation-step ops threads pages n t s items job more lo hi h =
         few_names = omega arith;
         fresh = λ other later. ap (λ (b : Bool). b || is_named items other) (ne_eqb name other (λ e. omega (arith, e, later))) ∙ h.fresh other (omega (arith, later));
         listed = each-more s.unfreed _ (λ a. IsListed threads s.phase (name + 1) (i ∷ items) a.name a.thread a.phase)
-            (each-weaker s.unfreed _ _ (λ a l. listed-past threads s.phase name (name + 1) items i a.name a.thread a.phase (omega arith) (ne_eqb name a.name (λ e. let before : a.name < name = l.before in omega (arith, e))) refl l) h.listed)
+            (each-weaker s.unfreed _ _ (λ a l. listed-past threads s.phase name (name + 1) items i a.name a.thread a.phase (omega arith) (ne_eqb name a.name (λ e. omega (arith, e, l.before))) refl l) h.listed)
             (listed-new threads s.phase name items t (Asks name heap size align) (eq-eqb name name refl) h.some_name lo hi);
         counted = search (arith, one-more, request-cost);
       };
@@ -94,7 +92,6 @@ drawn-below x n some = mod-lt (x / 2 ^ 33) some
 free-step : (ops threads pages n t : ℕ) (s : State) (items : List Item) → IsJob ops threads pages → n < ops → 1 ≤ t → t ≤ threads → 0 < length s.unfreed → Follows pages threads n s items
     → Step pages threads n items (line_of (free_of t s)) (after_free s) (with_free t s items)
 free-step ops threads pages n t s items job more lo hi some h =
-    let f = region pages threads in
     let within : place s < length s.unfreed = drawn-below (moved_by 1 s.x) (length s.unfreed) some in
     let name = (freed s).name in
     let l : IsListed threads s.phase s.next_name items name (freed s).thread (freed s).phase = h.listed (place s) none within in
