@@ -114,12 +114,9 @@ module _ (state : State) (l : Whole) (has : HasWords state l) (valid : IsValid (
   live_same page of = grains_same _ _ (λ b small. live_at page b of small)
 
   module _ (free : AreFreeOrCovered (profile_of state) l) (stamps : AreStamped (profile_of state) l) where
+    -- the word has the bit of the grain 256 * page + b
     free_at : (page b : ℕ) → IsPage (profile_of state) page → b < 256 → has_bit (word_in state (Word.Free page (b / 64))) (b % 64) ≡ not (is_covered (visible l) (256 * page + b))
-    free_at page b of small =
-        let g : (256 * page + b) / 256 ≡ page = omega arith in
-        let quarter : (256 * page + b) / 64 % 4 ≡ b / 64 = omega arith in
-        let low : (256 * page + b) % 64 ≡ b % 64 = omega arith in
-        ap (λ w. has_bit w (b % 64)) (has.words (Word.Free page (b / 64)) (of.0, of.1, omega arith)) ∙ (λ t. has_bit (word_after l (Word.Free (sym g t) (sym quarter t))) (sym low t)) ∙ free.grain (256 * page + b) (omega arith, omega arith)
+    free_at page b of small = search arith
 
     free_same : (page : ℕ) → IsPage (profile_of state) page → free_counted_on state page ≡ uncovered_on (visible l) page
     free_same page of = grains_same _ _ (λ b small. free_at page b of small)
