@@ -10,8 +10,8 @@ use Rattle.pas_machine.specs.declared.machine.Machine.{Machine}
 use Rattle.pas_report.specs.declared.record.{Record.Record, Said.Said}
 use Rattle.pas_trace.specs.Acts.{Act, MakesPass, MarksClose, MarksPhase, StopsIdle, Ticks, Wakes}
 use Rattle.pas_trace.specs.declared.item.Request.{Request}
-use Rattle.pas_check.specs.Begins.{after_task, begun_act, entries_due, entry_of, flushing, freeing_at, freeing_named, is_aligned, is_full, is_page, logging}
-use Rattle.pas_check.specs.Begins.{remaking, remaking_named, request_for, stopping, suits, tells, unsized}
+use Rattle.pas_check.specs.Begins.{after_task, begun_act, entries_due, entry_of, flushing, freeing_at, freeing_named, is_full, is_page, logging, remaking}
+use Rattle.pas_check.specs.Begins.{remaking_named, request_for, stopping, suits, tells, unsized}
 use Rattle.pas_check.specs.{Bounds.FitsRequest, Bounds.HaveHeaps, Bounds.IsKept, Meanings.heap_in, Meanings.meaning_at, Meanings.meaning_of, Tables.logged}
 use Rattle.pas_check.specs.{Tables.logs_held, Tables.meant}
 use Rattle.pas_check.specs.Calls.{EntriesTaken, IsAsked, IsExamining, IsFollowed, IsWanted, OutcomesTaken, RequestTaken, after_request}
@@ -128,9 +128,7 @@ module _ (f : Profile) (text : List ℕ) (old : Judge) (from to : Cursor) (k : �
 
   pub log_amiss : (machine : Machine) → EntriesTaken old.machine machine text from to k (logged old.logs k) [] old.epoch false → (new : Judge)
       → LogEmptied f text old from new to k log false
-  log_amiss machine entries new = λ s more ts stands.
-      subst (λ g. Fails g text (emptying s k log more ts) from to.lines) stands.profile
-      (entries (emptying s k log more ts) more stands.events stands.epoch (begun_kept s more ts stands) (begun_due s more ts stands))
+  log_amiss machine entries new = search (arith, begun_kept, begun_due)
 
   pub log_emptied : (machine : Machine) (logs : Logs) → profile_of machine ≡ profile_of old.machine → logged logs k ≡ log
       → ((j : ℕ) → j ≢ k → logged logs j ≡ logged old.logs j) → logs_held logs ≡ logs_held old.logs
@@ -250,9 +248,7 @@ not_idle f text old from k n within busy = nothing_begun f text old from (StopsI
 -- whether it is
 pub idle_long : (f : Profile) (j : Judge) (s : Stand) (at : Cursor) (k n since : ℕ) → Stands f j s at → k < length j.awake.items
     → since ≡ get_or j.awake.items k 0 → since + n ≤ j.epoch → nat_le (s.idle_since k + n) s.epoch ≡ true
-idle_long f j s at k n since stands held is long =
-    let same = stands.awake k held in
-    le-leb (s.idle_since k + n) s.epoch (omega (arith, same, stands.epoch, is, long))
+idle_long f j s at k n since stands held is long = search (arith, le-leb)
 
 pub idle_short : (f : Profile) (j : Judge) (s : Stand) (at : Cursor) (k n since : ℕ) → Stands f j s at → k < length j.awake.items
     → since ≡ get_or j.awake.items k 0 → j.epoch < since + n → nat_le (s.idle_since k + n) s.epoch ≡ false
@@ -376,9 +372,7 @@ is_outside : (f g : Profile) (page : ℕ) → g ≡ f → (IsPage g page → ⊥
 is_outside f g page same none = search (arith, false_from_ne_true, and_parts, leb-true)
 
 is_inside : (f g : Profile) (page : ℕ) → g ≡ f → IsPage g page → is_page f page ≡ true
-is_inside f g page same is =
-    let here = subst (λ h. IsPage h page) same is in
-    and_from (nat_le 1 page) (nat_le page f.pages) (le-leb 1 page here.0) (le-leb page f.pages here.1)
+is_inside f g page same is = search (arith, and_from, le-leb)
 
 module _ (f : Profile) (text : List ℕ) (old : Judge) (from : Cursor) (k : ℕ) (within : IsWithin text from) (act : Act) where
   -- it is said, and not logged
@@ -398,8 +392,7 @@ module _ (f : Profile) (text : List ℕ) (old : Judge) (from : Cursor) (k : ℕ)
       → ActTaken f text old from old to act is
   freed_outside none to is led =
       spoken f text old from k within act (Said.Outside entry.name)
-      (λ s stands. frees s stands ∙ ap (λ (x : Bool). freeing_at x (is_aligned entry.name) s k entry)
-      (is_outside f (profile_of old.machine) (address_of entry.name / 4096) stands.profile none)) to is led
+      (λ s stands. cc (frees s stands, is_outside f (profile_of old.machine) (address_of entry.name / 4096) stands.profile none)) to is led
 
   module _ (inside : IsPage (profile_of old.machine) (address_of entry.name / 4096)) where
     pub freed_unaligned : address_of entry.name % 16 ≢ 0 → (to : Cursor) (is : Bool)
@@ -412,9 +405,7 @@ module _ (f : Profile) (text : List ℕ) (old : Judge) (from : Cursor) (k : ℕ)
 
     module _ (even : address_of entry.name % 16 ≡ 0) where
       logs_it : (s : Stand) → Stands f old s from → begun_act f s act ≡ logging (is_full s k) s k entry []
-      logs_it s stands =
-          frees s stands ∙ (λ i. freeing_at (is_inside f (profile_of old.machine) (address_of entry.name / 4096) stands.profile inside i)
-          (eq-eqb (address_of entry.name % 16) 0 even i) s k entry)
+      logs_it s stands = search (arith, is_inside, eq-eqb)
 
       -- its entry is logged
       pub freed_logged : (new : Judge) (to : Cursor) (is : Bool) → EntryLogged f text old from new to k entry is → ActTaken f text old from new to act is

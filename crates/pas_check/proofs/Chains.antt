@@ -17,8 +17,7 @@ so_far_as {f} {text} {first} {judge} {at} {acts} {others} is so = subst (λ (al 
 module _ (text : List ℕ) (old new : Judge) (from to : Cursor) where
   pub taken_as : (taken : Bool) (acts others left rest : List Act) → acts ≡ others → left ≡ rest → TakenTo text old from new to acts left taken
       → TakenTo text old from new to others rest taken
-  taken_as taken acts others left rest is same done = subst (λ (al : List Act). TakenTo text old from new to al rest taken) is
-      (subst (λ (al : List Act). TakenTo text old from new to acts al taken) same done)
+  taken_as taken acts others left rest is same done = rw (same, is) at done
 
   -- one act
   pub act_taken : (act : Act) (taken : Bool) → ((f : Profile) → ActTaken f text old from new to act taken) → ActsTaken text old from new to (act ∷ []) taken

@@ -62,9 +62,7 @@ module _ (old : Machine) (line : List ℕ) (last epoch : ℕ) where
   IsOnly found = (page : ℕ) (o : Outcome) → Fits (record_of epoch page o) → line ≡ line_of (record_of epoch page o) → found ≡ Some record { page = page; outcome = o }
 
   pub found_only : (item : Record) (read : Option Record) (found : Option Examined) → read ≡ Some item → ((r : Record) → Fits r → line ≡ line_of r → read ≡ Some r) → found ≡ outcome_in epoch item → IsOnly found
-  found_only item read found is only outcome page o fits has =
-      let same : item ≡ record_of epoch page o = same_Some item (record_of epoch page o) (sym is ∙ only (record_of epoch page o) fits has) in
-      outcome ∙ ap (outcome_in epoch) same ∙ outcome_is epoch page o
+  found_only item read found is only outcome page o fits has = search (arith, same_Some, outcome_is)
 
   outcome_refused : (new : Machine) → new ≡ old
       → ((p : ℕ) (o : Outcome) → last < p → IsPage (profile_of old) p → Fits (record_of epoch p o) → line ≡ line_of (record_of epoch p o)

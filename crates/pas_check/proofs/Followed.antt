@@ -1,11 +1,10 @@
 -- What follows a pass fits its places, where the acts that are left do.
-use Rattle.std.proofs.Common.{◌≡◌, ◌≢◌, ℕ, ◌+◌, ◌/◌, ◌^◌, ◌<◌, ◌==◌, ◌||◌, if◌then◌else◌, nat_le, nat_lt, max, Bool, cond, true, false, List, [], ◌∷◌, ◌++◌}
-use Rattle.std.proofs.Common.{map, Option, None, Some, inl, inr, refl, ap, sym, subst, ◌∙◌, arith, MatchOption, eqb-true}
+use Rattle.std.proofs.Common.{◌≡◌, ◌≢◌, ℕ, ◌+◌, ◌/◌, ◌^◌, ◌<◌, ◌==◌, ◌||◌, if◌then◌else◌, nat_le, max, Bool, cond, true, false, List, [], ◌∷◌, ◌++◌, map}
+use Rattle.std.proofs.Common.{Option, None, Some, inl, inr, refl, ap, sym, subst, ◌∙◌, arith, MatchOption}
 use Rattle.std.specs.List.{filter}
 use Rattle.std.proofs.lemmas.{Bool.and_parts, Option.none-some, Option.same_Some}
 use Rattle.pas_profile.specs.Blocks.{address_of}
 use Rattle.pas_profile.specs.declared.{event.Event.Event, name.Block.Block, profile.Profile.Profile}
-use Rattle.pas_machine.specs.State.{ends_in}
 use Rattle.pas_trace.specs.declared.{item.Request.Request, plan.What.What}
 use Rattle.pas_report.specs.declared.record.{Record.Record, Said.Said}
 use Rattle.pas_trace.specs.{Asked.request_in, Named.Named, Named.standing_for}
@@ -47,9 +46,7 @@ entries_fit f k (entry ∷ log) more thread fits = (thread.1, inl thread.0)
 -- each guard that goes down is of the keeper that sweeps
 lowered_first : (f : Profile) (es : List Event) (keeper : ℕ) (all : Bool) (guard : Guard) (rest : List Guard) (more : List Due) → IsThread keeper → FitsNext f (map lowered_due rest ++ more)
     → (down : Bool) → goes_down es keeper all guard ≡ down → FitsNext f (map lowered_due (cond down (guard ∷ rest) rest) ++ more)
-lowered_first f es keeper all guard rest more thread fits true is =
-    let own = eqb-true guard.keeper keeper (and_parts (guard.keeper == keeper) (all || nat_lt guard.name.turn (ends_in es (address_of guard.name))) is).0 in
-    inl (subst (λ (k : ℕ). IsThread k) (sym own) thread)
+lowered_first f es keeper all guard rest more thread fits true is = search (arith, and_parts)
 lowered_first f es keeper all guard rest more thread fits false is = fits
 
 lowered_fit : (f : Profile) (es : List Event) (keeper : ℕ) (all : Bool) (guards : List Guard) (more : List Due) → IsThread keeper → FitsNext f more

@@ -55,9 +55,7 @@ module _ (machine : Machine) (text : List ℕ) (from : Cursor) (guards : List Gu
 
     module _ (down : Bool) (tells : (es : List Event) → StandsFor machine es → down ≡ goes_down es keeper all guard) where
       left_up : down ≡ false → (left more : List Guard) → more ≡ left ++ guard ∷ [] → AreLeft machine guards keeper all left (guard ∷ rest) → AreLeft machine guards keeper all more rest
-      left_up up left more added before es stands =
-          ap (λ gs. gs ++ staying es keeper all rest) added ∙ append_assoc left (guard ∷ []) (staying es keeper all rest)
-          ∙ ap (λ gs. left ++ gs) (sym (left_with es false (sym (tells es stands) ∙ up))) ∙ before es stands
+      left_up up left more added before es stands = search (arith, append_assoc, left_with)
 
       left_down : down ≡ true → (left : List Guard) → AreLeft machine guards keeper all left (guard ∷ rest) → AreLeft machine guards keeper all left rest
       left_down is left before es stands = ap (λ gs. left ++ gs) (sym (left_with es true (sym (tells es stands) ∙ is))) ∙ before es stands

@@ -146,12 +146,10 @@ module _ (f : Profile) (s : Stand) (d : Due) (more : List Due) (due : s.due ≡ 
 
   pub takes_due : (line : List ℕ) (next : Stand) → Takes f s line next → TakesDue f s (d ∷ more) line next
   takes_due line next (inl takes) = absurd (first_none f s d more no_pass line next (subst (λ ds. TakesFirst f s ds line next) due takes))
-  takes_due line next (inr takes) = subst (λ t. TakesDue f t (d ∷ more) line next) (ready_is f s d more due no_pass)
-      (subst (λ ds. TakesDue f (ready f s) ds line next) ready_due takes)
+  takes_due line next (inr takes) = search (arith, ready_is, ready_due)
 
   pub due_takes : (line : List ℕ) (next : Stand) → TakesDue f s (d ∷ more) line next → Takes f s line next
-  due_takes line next takes = inr (subst (λ ds. TakesDue f (ready f s) ds line next) (sym ready_due)
-      (subst (λ t. TakesDue f t (d ∷ more) line next) (sym (ready_is f s d more due no_pass)) takes))
+  due_takes line next takes = inr (search (arith, ready_due, ready_is))
 
   module _ (text : List ℕ) (old : Cursor) where
     pub due_taken : (next : Stand) (new : Cursor) (line : List ℕ) → lines_from text old ≡ line ∷ lines_from text new → new.lines ≡ old.lines + 1 → IsWithin text new

@@ -18,14 +18,10 @@ use Rattle.pas_check.proofs.OneNext.{gives_fits, one_next, one_outcome, outcome_
 
 -- ---- the lines of outcomes begin with a number
 behind_actor : (epoch page : ℕ) (o : Outcome) → byte_at 0 (past_digits (line_of (record_of epoch page o))) ≡ 32
-behind_actor epoch page Unbacked = ap (byte_at 0)
-    (past_number 0 32 (codes "unback page " ++ (decimal page ++ (codes " epoch " ++ (decimal epoch ++ codes "\n")))) (omega arith) refl)
+behind_actor epoch page Unbacked = search (arith, past_number)
 behind_actor epoch page Bare = ap (byte_at 0) (past_number 0 32 (codes "bare page " ++ (decimal page ++ codes "\n")) (omega arith) refl)
-behind_actor epoch page (Young stamp) = ap (byte_at 0)
-    (past_number 0 32 (codes "young page " ++ (decimal page ++ (codes " stamp " ++ (decimal stamp ++ codes "\n")))) (omega arith) refl)
-behind_actor epoch page (InUse word value) =
-    ap (byte_at 0) (past_number 0 32 (codes "in-use page " ++ (decimal page ++ (codes " word "
-    ++ (decimal word ++ (codes " value 0x" ++ (hex_digits 16 value ++ codes "\n")))))) (omega arith) refl)
+behind_actor epoch page (Young stamp) = search (arith, past_number)
+behind_actor epoch page (InUse word value) = search (arith, past_number)
 behind_actor epoch page NotOffered = ap (byte_at 0) (past_number 0 32 (codes "not-offered page " ++ (decimal page ++ codes "\n")) (omega arith) refl)
 
 -- ---- the actor in front of a line

@@ -41,9 +41,7 @@ covered_is f es run g true has =
     let here : covers (live_in es (16 * (has.address / 16))) (16 * (has.address / 16)) g ≡ true =
     (λ t. covers (live_in es (e t)) (e t) g) ∙ ap (λ (o : Option Live). covers o has.address g) has.lives ∙ has.has in
     sym (some_of (g + 1) (has.address / 16) (λ x. covers (live_in es (16 * x)) (16 * x) g) (omega (arith, first)) here)
-covered_is f es run g false none =
-    sym (none_of (g + 1) (λ x. covers (live_in es (16 * x)) (16 * x) g)
-    (λ x low. not_covering (live_in es (16 * x)) (16 * x) g (λ b is has. none (record { address = 16 * x; live = b; lives = is; has = has }))))
+covered_is f es run g false none = search (arith, none_of, not_covering)
 
 -- ---- marks
 marks_are_for : (shown : Shown) (m : Marked) → m.backed ≡ shown.backed → m.parked ≡ not m.offered → m ≡ marks_for shown m.offered m.hinted

@@ -1,4 +1,4 @@
-use Rattle.std.proofs.Common.{arith, ◌≡◌, ◌⊎◌, ◌∙◌, ℕ, Bool, None, inl, inr, ap, subst}
+use Rattle.std.proofs.Common.{arith, ◌≡◌, ◌⊎◌, ◌∙◌, ℕ, Bool, None, inl, inr, ap}
 use Rattle.pas_profile.specs.declared.profile.Profile.{Profile}
 use Rattle.pas_trace.specs.Acts.{Act, Operates}
 use Rattle.pas_trace.specs.declared.{item.Request.Request, plan.What.What, plan.What.TheVariants.Tick, plan.What.TheVariants.Pass, plan.What.TheVariants.Idle}
@@ -21,8 +21,7 @@ returns-in-Alloc-clause-taken c =
     (λ taken asked f. of_profile f c.args.text.now c.args.judge.now c.request.new.judge c.args.cursor.now c.request.new.cursor (Operates c.args.op) taken
     (λ same. asked f (Operates c.args.op) (asked_for c.in-Alloc.name c.in-Alloc.heap c.in-Alloc.size c.in-Alloc.align)
     (λ s stands. ap (λ (w : What). begun_what f s c.args.op.actor w) c.in-Alloc.is)
-    (subst (λ g. IsWanted g (asked_for c.in-Alloc.name c.in-Alloc.heap c.in-Alloc.size c.in-Alloc.align) c.wanted_for-wanted.result)
-    (c.profile.ensures ∙ same) c.wanted_for-wanted.ensures.wanted)))
+    (rw (c.profile.ensures, same) at c.wanted_for-wanted.ensures.wanted)))
     c.request.ensures.taken
 
 pub returns-in-Guarded-clause-taken : goal.returns-in-Guarded-clause-taken
@@ -34,8 +33,7 @@ returns-in-Guarded-clause-taken c =
     (λ taken asked f. of_profile f c.args.text.now c.args.judge.now c.request-in-Guarded.new.judge c.args.cursor.now c.request-in-Guarded.new.cursor (Operates c.args.op) taken
     (λ same. asked f (Operates c.args.op) (asked_for c.in-Guarded.name c.in-Guarded.heap c.in-Guarded.size c.in-Guarded.align)
     (λ s stands. ap (λ (w : What). begun_what f s c.args.op.actor w) c.in-Guarded.is)
-    (subst (λ g. IsWanted g (asked_for c.in-Guarded.name c.in-Guarded.heap c.in-Guarded.size c.in-Guarded.align) c.wanted_for-wanted-in-Guarded.result)
-    (c.profile-in-Guarded.ensures ∙ same) c.wanted_for-wanted-in-Guarded.ensures.wanted)))
+    (rw (c.profile-in-Guarded.ensures, same) at c.wanted_for-wanted-in-Guarded.ensures.wanted)))
     c.request-in-Guarded.ensures.taken
 
 pub returns-in-Free-clause-taken : goal.returns-in-Free-clause-taken
@@ -54,6 +52,4 @@ pub returns-in-Remake-clause-taken : goal.returns-in-Remake-clause-taken
 returns-in-Remake-clause-taken c = search (arith, if_ok, c.remake.ensures.taken)
 
 pub returns-in-Tick-clause-taken : goal.returns-in-Tick-clause-taken
-returns-in-Tick-clause-taken c = λ f.
-    nothing_begun f c.args.text.now c.args.judge.now c.args.cursor.now (Operates c.args.op) c.requires.within
-    (λ s stands. chore_begun f s c.args.op.actor c.args.op.what c.in-Tick.is)
+returns-in-Tick-clause-taken c = search (arith, nothing_begun, chore_begun)

@@ -8,9 +8,7 @@ pub returns-in_default-clause-taken : goal.returns-in_default-clause-taken
 returns-in_default-clause-taken c = outcome_unread c.args.machine.now c.args.line.now c.args.last c.args.epoch (λ r fits has. sym c.in_default.is ∙ c.read_record.ensures.only r fits has)
 
 pub returns-in_default-outcome_of-clause-taken : goal.returns-in_default-outcome_of-clause-taken
-returns-in_default-outcome_of-clause-taken c =
-    outcome_other c.args.machine.now c.args.line.now c.args.last c.args.epoch
-    (λ page o fits has. sym c.in_default-outcome_of.is ∙ found_only c.args.machine.now c.args.line.now c.args.last c.args.epoch c.in-Some.item _ _ c.in-Some.is c.read_record.ensures.only c.outcome_of.ensures page o fits has)
+returns-in_default-outcome_of-clause-taken c = search (arith, outcome_other, found_only, c.read_record.ensures.only, c.outcome_of.ensures)
 
 pub returns-then-examined-last-clause-taken : goal.returns-then-examined-last-clause-taken
 returns-then-examined-last-clause-taken c = search (arith, outcome_amiss, found_only, c.read_record.ensures.only, c.outcome_of.ensures)

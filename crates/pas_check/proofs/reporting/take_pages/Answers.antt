@@ -24,8 +24,7 @@ returns-then-not-take_next_page-clause-led c = λ s more stands due.
     let count = ap (λ (g : Profile). g.pages) c.profile-pages.ensures in
     let rest = pages_from s.events (k + 1) (f.pages + 1 - (k + 1)) ++ more in
     let u = with_due s (page_due k (deed_in s.events k) ++ rest) in
-    leads_fails (subst (λ (ds : List Due). Leads f c.args.text.now s c.args.cursor.now (with_due s ds) c.loop-page.cursor)
-    (pages_next s.events k (f.pages + 1 - k) (f.pages + 1 - (k + 1)) more (deed_in s.events k) (omega (arith, test, count)) refl) (c.loop-page.invariant.led s more stands due))
+    leads_fails (search (arith, pages_next))
     (c.if-not-take_next_page.ensures.led f u rest stands refl)
 
 pub loop-page-preserved : goal.loop-page-preserved
