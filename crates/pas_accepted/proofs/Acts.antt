@@ -5,7 +5,7 @@ use Rattle.std.proofs.lemmas.{Bool.false_from_ne_true, Option.none-some}
 use Rattle.pas_profile.specs.Profiles.{IsValid}
 use Rattle.pas_profile.specs.declared.{name.Block.Block, profile.Profile.Profile, word.Word.Word}
 use Rattle.pas_core.proofs.OneActor.{legal_before}
-use Rattle.pas_steps.specs.{Desks.made, Desks.triples, Events.events_by, Lists.Legal, Lists.part, Lists.word_after}
+use Rattle.pas_steps.specs.{Desks.triples, Events.events_by, Lists.Legal, Lists.part, Lists.word_after}
 use Rattle.pas_steps.specs.declared.step.{Made.Made, Step.TheVariants.Tick}
 use Rattle.pas_cache.specs.{Caches.Cached, Refusals.IsTrulyRefused}
 use Rattle.pas_report.specs.Lines.{line_of}
@@ -40,15 +40,7 @@ module _ (f : Profile) (valid : IsValid f) (p : Progress) (s : Stand) (ts : List
   -- ---- one look at the epoch
   look_tells : (k epoch : ℕ) (t : Stand) (caches : ℕ → Cached) (read : ℕ) → t.events ≡ s.events → t.names ≡ s.names → ((j : ℕ) → (caches j).log ≡ map logged_as (t.logs j)) → ((j : ℕ) → t.idle_since j ≡ (caches j).idle_since) → t.epoch ≡ s.epoch → t.guards ≡ s.guards
       → Tells record { names = p.names; caches = caches; books = p.books; epoch = read; list = triples k (epoch_look epoch) ++ p.list; records = p.records } t
-  look_tells k epoch t caches read events names logs awake same guards = record {
-    events = events ∙ tells.events;
-    names = names ∙ tells.names;
-    logs = logs;
-    awake = awake;
-    epoch = same ∙ tells.epoch;
-    books = booked_as p.books s.guards t.guards guards tells.books;
-    tidy = tidy_piece k (epoch_look epoch) p.list tells.tidy (look_tidy Word.Epoch epoch (part k p.list) refl (tells.tidy k));
-  }
+  look_tells k epoch t caches read events names logs awake same guards = search (arith, booked_as, tidy_piece, look_tidy)
 
   woken_comes : (k epoch : ℕ) → s.left ≡ Does (Wakes k) ∷ ts → epoch ≡ word_after p.list Word.Epoch → Comes f s [] (after_wake p k epoch) ts
   woken_comes k epoch left is =
@@ -72,30 +64,14 @@ module _ (f : Profile) (valid : IsValid f) (p : Progress) (s : Stand) (ts : List
   settled_comes k left = record {
     end = record s { left = ts };
     leads = on_task f s (Does (Settles k)) ts due left;
-    tells = record {
-      events = tells.events;
-      names = tells.names;
-      logs = λ j. table_same (λ (d : Cached). d.log) p.caches k (settled (p.caches k)) refl j ∙ tells.logs j;
-      awake = λ j. tells.awake j ∙ sym (table_same (λ (d : Cached). d.idle_since) p.caches k (settled (p.caches k)) refl j);
-      epoch = tells.epoch;
-      books = tells.books;
-      tidy = tells.tidy;
-    };
+    tells = search (arith, table_same);
     due = due;
     left = refl;
   }
 
   -- ---- marks and ticks
   same_tells : (t : Stand) (records : List Record) → t.events ≡ s.events → t.names ≡ s.names → t.logs ≡ s.logs → t.idle_since ≡ s.idle_since → t.epoch ≡ s.epoch → t.guards ≡ s.guards → Tells record { names = p.names; caches = p.caches; books = p.books; epoch = p.epoch; list = p.list; records = records } t
-  same_tells t records events names logs awake epoch guards = record {
-    events = events ∙ tells.events;
-    names = names ∙ tells.names;
-    logs = λ j. tells.logs j ∙ ap (λ table. map logged_as (table j)) (sym logs);
-    awake = λ j. ap (λ (table : ℕ → ℕ). table j) awake ∙ tells.awake j;
-    epoch = epoch ∙ tells.epoch;
-    books = booked_as p.books s.guards t.guards guards tells.books;
-    tidy = tells.tidy;
-  }
+  same_tells t records events names logs awake epoch guards = search (arith, booked_as)
 
   -- one line is written
   wrote : (act : Act) (item : Record) (t : Stand) → s.left ≡ Does act ∷ ts → LeadsOn f s [] (record t { due = Writes item ∷ [] }) → LeadsOn f s (lines_by (item ∷ [])) (record t { due = [] })
@@ -129,15 +105,7 @@ module _ (f : Profile) (valid : IsValid f) (p : Progress) (s : Stand) (ts : List
       record {
         end = end;
         leads = on_as f s end end _ _ (ap (λ n. lines_by (Record.Said 0 (Said.Tick n) ∷ [])) (sym same)) refl (wrote (Ticks asked) item t left (on_task f s (Does (Ticks asked)) ts due left));
-        tells = record {
-          events = tells.events;
-          names = tells.names;
-          logs = tells.logs;
-          awake = tells.awake;
-          epoch = ap (λ n. max n asked) tells.epoch;
-          books = tells.books;
-          tidy = tidy_piece 0 (made (Tick asked) answer ∷ []) p.list tells.tidy (tick_tidy asked answer (part 0 p.list) (tells.tidy 0));
-        };
+        tells = search (arith, tidy_piece, tick_tidy);
         due = refl;
         left = refl;
       }
@@ -157,13 +125,10 @@ module _ (f : Profile) (valid : IsValid f) (p : Progress) (s : Stand) (ts : List
       }
 
   idle_is : (k n : ℕ) → p.epoch ≡ word_after p.list Word.Epoch → IsIdleFor p k n → nat_le (s.idle_since k + n) s.epoch ≡ true
-  idle_is k n reads idle = le-leb (s.idle_since k + n) s.epoch (let since = tells.awake k in omega (arith, idle, since, tells.epoch, reads))
+  idle_is k n reads idle = le-leb (s.idle_since k + n) s.epoch (omega (arith, idle, tells.awake k, tells.epoch, reads))
 
   idle_isnt : (k n : ℕ) → p.epoch ≡ word_after p.list Word.Epoch → (IsIdleFor p k n → ⊥) → nat_le (s.idle_since k + n) s.epoch ≡ false
-  idle_isnt k n reads busy = false_from_ne_true (nat_le (s.idle_since k + n) s.epoch) (λ t.
-      let le = leb-true (s.idle_since k + n) s.epoch t in
-      let since = tells.awake k in
-      busy (omega (arith, le, since, tells.epoch, reads)))
+  idle_isnt k n reads busy = search (arith, false_from_ne_true, leb-true)
 
   idle_comes : (k n : ℕ) (steps : List Made) (c : Cached) → p.epoch ≡ word_after p.list Word.Epoch → IsIdleFor p k n → IsStopped k (p.caches k) c steps → Legal f (triples k steps ++ p.list) → s.left ≡ Does (StopsIdle k n) ∷ ts
       → Comes f s (records_of (events_by k (part k p.list) steps) ++ stopped k) (after_stop p k steps c (stopped k)) ts

@@ -1,6 +1,6 @@
 -- The steps of a flush end names, and stamp and put back what they ended: none is a tick.
-use Rattle.std.proofs.Common.{◌≡◌, ℕ, ◌/◌, Bool, true, false, List, [], ◌∷◌, ◌++◌, inl, inr, refl, sym, subst}
-use Rattle.pas_profile.specs.{Blocks.address_of, Blocks.grain_of, Directories.deed_word_of}
+use Rattle.std.proofs.Common.{arith, ◌≡◌, ℕ, ◌/◌, Bool, true, false, List, [], ◌∷◌, ◌++◌, inl, inr, refl, sym, subst}
+use Rattle.pas_profile.specs.{Blocks.grain_of, Directories.deed_word_of}
 use Rattle.pas_profile.specs.declared.{name.Name.Name, word.Word.Word}
 use Rattle.pas_steps.specs.{Desks.made, InTurn.InTurn}
 use Rattle.pas_steps.specs.Kinds.{Kinds, Only, Putting, is_in, kind_of, returning}
@@ -8,8 +8,8 @@ use Rattle.pas_steps.specs.declared.step.{Made.Made, Step.TheVariants.Look, Step
 use Rattle.pas_steps.proofs.{Apart.only_both, Apart.only_within, Calls.returns_are}
 use Rattle.pas_rights.proofs.{Orders.return_returns, Puts.puts_kinds}
 use Rattle.pas_free_log.specs.Endings.{EndSteps, Tries, TriesBy, last_step}
-use Rattle.pas_free_log.specs.{Flushes.AfterEnd, Flushes.EntrySteps, Flushes.Settled, Frames.freeing, Logs.is_sized, Returns.PageSteps, Returns.count_on}
-use Rattle.pas_free_log.specs.{Returns.first_on, Stamps.page_count, Stamps.pages_from}
+use Rattle.pas_free_log.specs.{Flushes.AfterEnd, Flushes.EntrySteps, Flushes.Settled, Frames.freeing, Returns.PageSteps, Returns.count_on, Returns.first_on}
+use Rattle.pas_free_log.specs.{Stamps.page_count, Stamps.pages_from}
 use Rattle.pas_free_log.specs.declared.{ending.Outcome.Outcome, ending.Outcome.TheVariants.Ended, ending.Outcome.TheVariants.Refused, log.Entry.Entry}
 use Rattle.pas_free_log.specs.declared.{noting.EndedRun.EndedRun}
 use Rattle.pas_cache.specs.{Caches.Cached, Changes.EmptiesLog, Kinds.releasing}
@@ -49,9 +49,7 @@ before_only true entry first guess before h = none_only freeing before h.1
 before_only false entry first guess before h = tries_only entry.name first guess before h
 
 pub ends_only : (entry : Entry) (outcome : Outcome) (steps : List Made) → EndSteps entry outcome steps → Only freeing steps
-ends_only entry outcome steps h =
-    let look : List Made = made (Look (Word.Deed (address_of entry.name / 4096))) h.deed ∷ [] in
-    subst (Only freeing) (sym h.steps_are) (last_kind (is_sized entry) entry h.guess, only_both freeing h.before look (before_only (is_sized entry) entry _ h.guess h.before h.tries) (refl, tt))
+ends_only entry outcome steps h = search (arith, last_kind, only_both, before_only)
 
 pub entry_only : (entry : Settled) (steps : List Made) → EntrySteps entry steps → Only freeing steps
 entry_only entry steps h = subst (Only freeing) (sym h.steps_are) (only_both freeing h.after h.ends (after_only entry.entry.name entry.outcome h.after h.returns) (ends_only entry.entry entry.outcome h.ends h.order))

@@ -1,7 +1,6 @@
 -- The entries of a log that is emptied answer what is due, one after the other.
-use Rattle.std.proofs.Common.{◌≡◌, ℕ, ◌==◌, Bool, true, false, if◌then◌else◌, List, [], ◌∷◌, ◌++◌, Option, Some, None, inr, refl, ap, sym, ◌∙◌, subst}
-use Rattle.std.proofs.Common.{append_assoc, map, reverse}
-use Rattle.std.proofs.lemmas.{List.map-append, List.reverse-append, Option.none-some}
+use Rattle.std.proofs.Common.{◌≡◌, ℕ, ◌==◌, if◌then◌else◌, List, [], ◌∷◌, ◌++◌, Some, inr, refl, ap, sym, ◌∙◌, subst, append_assoc, map, reverse}
+use Rattle.std.proofs.lemmas.List.{map-append, reverse-append}
 use Rattle.pas_profile.specs.{Blocks.address_of, Profiles.IsValid}
 use Rattle.pas_profile.specs.declared.{event.Event.Event, profile.Profile.Profile, word.Word.Word}
 use Rattle.pas_machine.specs.{Machine.Admits, Machine.Run, State.Live, State.live_in}
@@ -21,7 +20,8 @@ use Rattle.pas_check.specs.declared.entry.Entry.{Entry as Known}
 use Rattle.pas_check.proofs.Entries.{end_is, reject_is}
 use Rattle.pas_accepted.proofs.Going.{LeadsOn, on_as, on_both, on_line, on_same}
 use Rattle.pas_accepted.proofs.LogEntries.{known_again, known_as, logged_as, reason_may}
-use Rattle.pas_accepted.proofs.{Pieces.lines_by, Pieces.lines_more, Pieces.visible_piece, SizedEnds.AllHeed, SizedEnds.Heeds, SizedEnds.all_heed, Telling.Tells}
+use Rattle.pas_accepted.proofs.{Pieces.lines_by, Pieces.lines_more, Pieces.visible_piece, Telling.Tells}
+use Rattle.pas_accepted.proofs.SizedEnds.{AllHeed, Heeds, all_heed, ended_if}
 
 -- ---- the event of an entry
 event_is : (f : Profile) (s : Stand) (k : ℕ) (entry : Entry) (outcome : Outcome) → Heeds s.events entry outcome → Run f s.events → Admits f s.events (event_for k s.epoch entry outcome)
@@ -47,12 +47,8 @@ known_more : (x : Settled) (xs : List Settled) → known_in (x ∷ xs) ≡ known
 known_more x xs = reverse-append (known_as x.entry ∷ []) (map (λ (y : Settled). known_as y.entry) xs)
 
 -- what lives after their events lived before them
-lived_if : (t : Bool) (old : Option Live) (b : Live) → (if t then None else old) ≡ Some b → old ≡ Some b
-lived_if true old b is = absurd (none-some b is)
-lived_if false old b is = is
-
 lived_one : (k epoch : ℕ) (entry : Entry) (outcome : Outcome) (es : List Event) (address : ℕ) (b : Live) → live_in (event_for k epoch entry outcome ∷ es) address ≡ Some b → live_in es address ≡ Some b
-lived_one k epoch entry (Ended grains) es address b is = lived_if (address_of entry.name == address) (live_in es address) b is
+lived_one k epoch entry (Ended grains) es address b is = ended_if (address_of entry.name == address) (live_in es address) b is
 lived_one k epoch entry (Refused read) es address b is = is
 
 lived_all : (k epoch : ℕ) (settled : List Settled) (es : List Event) (address : ℕ) (b : Live) → live_in (map (shown_for k epoch) settled ++ es) address ≡ Some b → live_in es address ≡ Some b
@@ -96,8 +92,7 @@ module _ (f : Profile) (valid : IsValid f) (p : Progress) (s : Stand) (tells : T
   heed : AllHeed s.events h.settled
   heed =
       let look : List Made = made (Look Word.Epoch) h.epoch ∷ [] in
-      subst (λ es. AllHeed es h.settled) (sym tells.events)
-      (all_heed f valid k (triples k look ++ p.list) h.settled h.entries h.order
+      rw tells.events (all_heed f valid k (triples k look ++ p.list) h.settled h.entries h.order
       (subst (Legal f) (sym (triples_append k h.entries look p.list)) (subst (λ ms. Legal f (triples k ms ++ p.list)) h.steps_are legal)))
 
   epoch_is : h.epoch ≡ s.epoch

@@ -1,5 +1,5 @@
 -- A free: its entry is logged, after a full log was emptied; or it is said why it can't be any block's.
-use Rattle.std.proofs.Common.{◌≡◌, ℕ, ◌/◌, ◌%◌, nat_le, Bool, true, false, List, [], ◌∷◌, ◌++◌, length, Option, Some, None, inl, inr, refl, ap, sym, ◌∙◌}
+use Rattle.std.proofs.Common.{arith, ◌≡◌, ℕ, ◌/◌, ◌%◌, nat_le, Bool, true, false, List, [], ◌∷◌, ◌++◌, length, Option, Some, None, inl, inr, refl, ap, sym, ◌∙◌}
 use Rattle.std.proofs.Common.{append-nil, eq-eqb, le-leb, leb-true, ne_eqb}
 use Rattle.std.proofs.lemmas.{Bool.and_from, Bool.and_parts, Bool.false_from_ne_true, List.length-map, List.map-append}
 use Rattle.pas_profile.specs.{Blocks.address_of, Profiles.IsPage, Profiles.IsValid}
@@ -93,13 +93,8 @@ module _ (f : Profile) (valid : IsValid f) (p : Progress) (s : Stand) (ts : List
 
   fault_comes : (entry : Known) (fault : FreeFault) → RefusesName f (p.caches k) a.cache entry.name a.steps fault → a.said ≡ Some (said_of_fault entry.name fault) → LeadsOn f s [] (record (freeing f s k entry) { left = ts })
       → Comes f s (records_of (events_by k (part k p.list) a.steps) ++ said_by k a.said) (after_answer p k a) ts
-  fault_comes entry Outside h said begun =
-      let there = ap (λ x. record (freeing_at x (is_aligned entry.name) s k entry) { left = ts }) (page_isnt f (address_of entry.name / 4096) h.fault_is) in
-      said_comes (Said.Outside entry.name) h.no_steps h.cache said (on_as f s _ _ [] [] refl (sym there) begun)
-  fault_comes entry Unaligned h said begun =
-      let there = ap (λ x. record (freeing_at x (is_aligned entry.name) s k entry) { left = ts }) (page_is f (address_of entry.name / 4096) h.fault_is.0)
-      ∙ ap (λ x. record (freeing_at true x s k entry) { left = ts }) (ne_eqb (address_of entry.name % 16) 0 h.fault_is.1) in
-      said_comes (Said.Unaligned entry.name) h.no_steps h.cache said (on_as f s _ _ [] [] refl (sym there) begun)
+  fault_comes entry Outside h said begun = search (arith, page_isnt, said_comes, on_as)
+  fault_comes entry Unaligned h said begun = search (arith, page_is, ne_eqb, said_comes, on_as)
 
   pub free_comes : (entry : Known) → IsFreed f k (p.caches k) a.cache (logged_as entry) a.steps a.said → LeadsOn f s [] (record (freeing f s k entry) { left = ts })
       → Comes f s (records_of (events_by k (part k p.list) a.steps) ++ said_by k a.said) (after_answer p k a) ts

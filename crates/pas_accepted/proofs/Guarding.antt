@@ -1,6 +1,6 @@
 -- Guarded requests: the lines of the keeper, and where it gave nothing, those of the thread; and the close of a keeper.
-use Rattle.std.proofs.Common.{◌≡◌, ℕ, ◌+◌, ◌-◌, ◌*◌, ◌/◌, ◌%◌, ◌==◌, nat_le, Bool, if◌then◌else◌, true, false, ◌&&◌, ◌||◌, not, List, [], ◌∷◌, ◌++◌, length}
-use Rattle.std.proofs.Common.{Option, Some, None, inl, inr, refl, ap, sym, ◌∙◌, subst, arith, append-nil, map, MatchOption, MatchResult, eq-eqb, le-leb}
+use Rattle.std.proofs.Common.{◌≡◌, ℕ, ◌+◌, ◌-◌, ◌*◌, ◌/◌, ◌%◌, ◌==◌, Bool, if◌then◌else◌, true, false, ◌&&◌, ◌||◌, not, List, [], ◌∷◌, ◌++◌, length, Option}
+use Rattle.std.proofs.Common.{Some, None, inl, inr, refl, ap, sym, ◌∙◌, subst, arith, append-nil, map, MatchOption, MatchResult, eq-eqb, le-leb}
 use Rattle.std.specs.List.{AllByRecursion, filter}
 use Rattle.std.proofs.lemmas.Bool.{and_from}
 use Rattle.pas_bits.specs.Runs.{in_run}
@@ -157,8 +157,7 @@ module _ (f : Profile) (valid : IsValid f) (w : Stand) (keeper k : ℕ) (r : Req
         next_is = ap (λ t. raising t (with_name (with_one old give) r.name (Some block)) keeper r.name block []) (sym sides);
       })))) in
       on_as f start end (guarded w keeper r block (visible (triples keeper steps ++ l))) _ _
-      (lines_both (records_of (events_by keeper (part keeper l) steps)) (guard_said keeper r block ∷ [])
-      ∙ ap (λ (ls : List (List ℕ)). ls ++ line_of (guard_said keeper r block) ∷ []) (ap (λ es. lines_by (records_of es)) h.events ∙ lines_more give before))
+      (simp (lines_both, h.events, lines_more))
       (ap (guarded w keeper r block) shown)
       (on_both f start mid end (lines_by (records_of before) ++ line_of_event give ∷ []) (line_of (guard_said keeper r block) ∷ []) given (on_line f mid end (line_of (guard_said keeper r block)) (inr (refl, refl))))
 
@@ -186,14 +185,7 @@ module _ (f : Profile) (d : Directory) (keeper n : ℕ) (guards guards' : List G
   above_is = omega (arith, begins, room_is)
 
   sides_are : has_sides f block ≡ true
-  sides_are =
-      let low = h.found.of_region.0 in
-      let high = h.found.of_region.1 in
-      let below = below_is in
-      let above = above_is in
-      and_from (nat_le 1 (page_below block) && nat_le (page_below block) f.pages) (nat_le 1 (page_above block) && nat_le (page_above block) f.pages)
-      (and_from (nat_le 1 (page_below block)) (nat_le (page_below block) f.pages) (le-leb 1 (page_below block) (omega (arith, low, below))) (le-leb (page_below block) f.pages (omega (arith, high, below))))
-      (and_from (nat_le 1 (page_above block)) (nat_le (page_above block) f.pages) (le-leb 1 (page_above block) (omega (arith, low, above))) (le-leb (page_above block) f.pages (omega (arith, high, above))))
+  sides_are = search (arith, below_is, above_is, and_from, le-leb)
 
   block_aligned : address_of block.name % 16 ≡ 0
   block_aligned = omega (arith, begins)
@@ -202,10 +194,7 @@ module _ (f : Profile) (d : Directory) (keeper n : ℕ) (guards guards' : List G
   guard_is = λ i. record { keeper = keeper; low = below_is i; high = above_is i; name = block.name }
 
   said_is : (name : ℕ) → said_of_guard keeper name n (Some block) ≡ Record.Said keeper (Said.Guarded (page_below block) (page_above block) name) ∷ []
-  said_is name =
-      let one : address_of block.name / 4096 - 1 ≡ page_below block = omega (arith, begins, below_is) in
-      let two : address_of block.name / 4096 + n ≡ page_above block = omega (arith, begins, above_is) in
-      λ i. Record.Said keeper (Said.Guarded (one i) (two i) name) ∷ []
+  said_is name = search (arith, begins, below_is, above_is)
 
 -- ---- the epoch over what a keeper does
 epoch_both : (k : ℕ) (steps ys xs : List Made) (l : Whole) → steps ≡ ys ++ xs → word_after (triples k ys ++ (triples k xs ++ l)) Word.Epoch ≡ word_after (triples k xs ++ l) Word.Epoch → word_after (triples k xs ++ l) Word.Epoch ≡ word_after l Word.Epoch
@@ -302,9 +291,7 @@ module _ (f : Profile) (valid : IsValid f) (p : Progress) (s : Stand) (ts : List
 
   -- the lines of its records
   lines_are : (said : List Record) → said_of_guard keeper r.name n t.block ≡ said → lines_by t.records ≡ lines_by is.lowered ++ lines_by (records_of (events_by keeper (part keeper l1) is.raised) ++ said)
-  lines_are said same =
-      ap lines_by is.records_are ∙ lines_both is.lowered (records_of (events_by keeper view is.raised) ++ said_of_guard keeper r.name n t.block)
-      ∙ (λ i. lines_by is.lowered ++ lines_by (records_of (events_by keeper (sym part_is i) is.raised) ++ same i))
+  lines_are said same = search (arith, lines_both, part_is)
 
   -- ---- it gave the block
   pub given_comes : (block : Block) → t.block ≡ Some block → Comes f s t.records (after_giving (after_trying p keeper t) r.name block) ts
@@ -329,9 +316,7 @@ module _ (f : Profile) (valid : IsValid f) (p : Progress) (s : Stand) (ts : List
             (on_both f s (trying w keeper k r false w.events) late (lines_by is.lowered) raised_lines swept_leads
             (guarded_leads f valid w keeper k r l1 is.raised shown raised_legal block ends (sides_are f (large_directory r.heap) keeper n is.left t.guards is.raise.searched is.raise.after block h)));
         tells = tried_tells (named r.name (Some block) ∷ p.names) end _ refl (ap (λ ns. record { name = r.name; block = Some block } ∷ ns) tells.names) refl refl refl
-            (subst (λ (b : Books). AreBooked b (up ++ guard_of keeper block ∷ [])) same
-            (subst (λ (x : Known). AreBooked (with_book (with_book p.books keeper is.left) keeper (with_book p.books keeper is.left keeper ++ guard ∷ [])) (up ++ x ∷ []))
-            (sym (guard_is f (large_directory r.heap) keeper n is.left t.guards is.raise.searched is.raise.after block h)) up_now));
+            (search (arith, guard_is));
         due = refl;
         left = refl;
       }

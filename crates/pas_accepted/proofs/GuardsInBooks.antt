@@ -1,5 +1,5 @@
 -- The guards that are up, as a check keeps them, in one list, and as the keepers' books do; and which of them a sweep lowers.
-use Rattle.std.proofs.Common.{◌≡◌, ◌≢◌, ℕ, ◌%◌, ◌==◌, nat_lt, Bool, true, false, not, ◌&&◌, ◌||◌, if◌then◌else◌, List, [], ◌∷◌, ◌++◌, inl, inr, refl, ap, sym}
+use Rattle.std.proofs.Common.{arith, ◌≡◌, ◌≢◌, ℕ, ◌%◌, ◌==◌, nat_lt, Bool, true, false, not, ◌&&◌, ◌||◌, if◌then◌else◌, List, [], ◌∷◌, ◌++◌, refl, ap, sym}
 use Rattle.std.proofs.Common.{subst, ◌∙◌, map, eq-eqb, eqb-true, ne_eqb}
 use Rattle.std.specs.List.{AllByRecursion, filter}
 use Rattle.std.proofs.lemmas.Bool.{cases_eq, false≢true}
@@ -42,8 +42,7 @@ module _ (p t : Known → Bool) where
       → filter p (if not (a && b) then x ∷ kept else kept) ≡ filter (λ y. not (t y)) (if a then x ∷ all else all)
   rest_of true true x kept all px tx same = same ∙ ap (λ (c : Bool). if not c then x ∷ filter (λ y. not (t y)) all else filter (λ y. not (t y)) all) (sym tx)
   rest_of true false x kept all px tx same =
-      ap (λ (c : Bool). if c then x ∷ filter p kept else filter p kept) px ∙ ap (λ (ys : List Known). x ∷ ys) same
-      ∙ ap (λ (c : Bool). if not c then x ∷ filter (λ y. not (t y)) all else filter (λ y. not (t y)) all) (sym tx)
+      cc
   rest_of false b x kept all px tx same = ap (λ (c : Bool). if c then x ∷ filter p kept else filter p kept) px ∙ same
 
   rest_tests : (xs : List Known) → filter p (filter (λ x. not (p x && t x)) xs) ≡ filter (λ x. not (t x)) (filter p xs)
@@ -74,15 +73,11 @@ module _ (es : List Event) (keeper : ℕ) (all : Bool) (guards : List Known) (bo
   -- those that go down are those of his book
   pub going_told : filter (goes_down es keeper all) guards ≡ map (raised_by keeper) (going es all book)
   going_told =
-      both_tests (λ guard. guard.keeper == keeper) (λ guard. all || nat_lt guard.name.turn (ends_in es (address_of guard.name))) guards
-      ∙ ap (filter (λ guard. all || nat_lt guard.name.turn (ends_in es (address_of guard.name)))) told
-      ∙ mapped_filter (raised_by keeper) (λ guard. all || nat_lt guard.name.turn (ends_in es (address_of guard.name))) book
+      simp (both_tests, told, mapped_filter)
 
   staying_told : guards_of keeper (filter (λ guard. not (goes_down es keeper all guard)) guards) ≡ map (raised_by keeper) (staying es all book)
   staying_told =
-      rest_tests (λ guard. guard.keeper == keeper) (λ guard. all || nat_lt guard.name.turn (ends_in es (address_of guard.name))) guards
-      ∙ ap (filter (λ guard. not (all || nat_lt guard.name.turn (ends_in es (address_of guard.name))))) told
-      ∙ mapped_filter (raised_by keeper) (λ guard. not (all || nat_lt guard.name.turn (ends_in es (address_of guard.name)))) book
+      simp (rest_tests, told, mapped_filter)
 
 -- those of the others stay
 others_told : (es : List Event) (keeper j : ℕ) (all : Bool) (guards : List Known) → j ≢ keeper → guards_of j (filter (λ guard. not (goes_down es keeper all guard)) guards) ≡ guards_of j guards
@@ -93,16 +88,11 @@ others_told es keeper j all guards other =
 -- .. so the books are told after it
 book_if : (books : Books) (keeper : ℕ) (book : List Guard) (guards : List Known) (j : ℕ) → (j ≡ keeper → guards_of j guards ≡ map (raised_by j) book) → (j ≢ keeper → guards_of j guards ≡ map (raised_by j) (books j))
     → guards_of j guards ≡ map (raised_by j) (with_book books keeper book j)
-book_if books keeper book guards j his others = elim (cases_eq j keeper) [
-  | inl e ↦ his e ∙ ap (λ (t : Bool). map (raised_by j) (if t then book else books j)) (sym (eq-eqb j keeper e))
-  | inr ne ↦ others ne ∙ ap (λ (t : Bool). map (raised_by j) (if t then book else books j)) (sym (ne_eqb j keeper ne))
-]
+book_if books keeper book guards j his others = search (arith, cases_eq, eq-eqb, ne_eqb)
 
 swept_books : (books : Books) (es : List Event) (keeper : ℕ) (all : Bool) (guards : List Known) → ((j : ℕ) → guards_of j guards ≡ map (raised_by j) (books j)) → (j : ℕ)
     → guards_of j (filter (λ guard. not (goes_down es keeper all guard)) guards) ≡ map (raised_by j) (with_book books keeper (staying es all (books keeper)) j)
-swept_books books es keeper all guards told j = book_if books keeper (staying es all (books keeper)) (filter (λ guard. not (goes_down es keeper all guard)) guards) j
-    (λ e. ap (λ i. guards_of i (filter (λ guard. not (goes_down es keeper all guard)) guards)) e ∙ staying_told es keeper all guards (books keeper) (told keeper) ∙ ap (λ i. map (raised_by i) (staying es all (books keeper))) (sym e))
-    (λ ne. others_told es keeper j all guards ne ∙ told j)
+swept_books books es keeper all guards told j = search (arith, book_if, staying_told, others_told)
 
 -- ---- a guard goes up
 filter_end : (p : Known → Bool) (xs : List Known) (x : Known) → filter p (xs ++ x ∷ []) ≡ filter p xs ++ (if p x then x ∷ [] else [])
@@ -124,8 +114,7 @@ raised_books books keeper guard guards told j = book_if books keeper (books keep
     filter_end (λ x. x.keeper == j) guards (raised_by keeper guard) ∙ ap (λ (t : Bool). guards_of j guards ++ (if t then raised_by keeper guard ∷ [] else [])) (eq-eqb keeper j (sym e))
     ∙ (λ i. told j i ++ raised_by (sym e i) guard ∷ []) ∙ ap (λ k. map (raised_by j) (books k) ++ raised_by j guard ∷ []) e ∙ sym (map_end (raised_by j) (books keeper) guard))
     (λ ne.
-    filter_end (λ x. x.keeper == j) guards (raised_by keeper guard) ∙ ap (λ (t : Bool). guards_of j guards ++ (if t then raised_by keeper guard ∷ [] else [])) (ne_eqb keeper j (λ e. ne (sym e)))
-    ∙ appended (guards_of j guards) ∙ told j)
+    cc (filter_end (λ x. x.keeper == j) guards (raised_by keeper guard), ne_eqb keeper j (λ e. ne (sym e)), appended (guards_of j guards), told j))
   where
     appended : (xs : List Known) → xs ++ [] ≡ xs
     appended [] = refl

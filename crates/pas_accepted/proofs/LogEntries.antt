@@ -1,7 +1,7 @@
 -- The entries of a log, as a check keeps them and as a replay's cache does.
 use Rattle.std.proofs.Common.{◌≡◌, ℕ, ◌<◌, ◌==◌, nat_lt, Bool, true, false, not, ◌&&◌, if◌then◌else◌, List, [], ◌∷◌, refl, ap, arith, map}
 use Rattle.std.proofs.lemmas.Bool.{eqb-false}
-use Rattle.pas_profile.specs.Lives.{is_live, turn_of}
+use Rattle.pas_profile.specs.Lives.{turn_of}
 use Rattle.pas_profile.specs.declared.event.Why.{Why}
 use Rattle.pas_free_log.specs.Endings.{reason_by, reason_for}
 use Rattle.pas_free_log.specs.declared.log.Entry.{Entry}
@@ -30,9 +30,7 @@ sized_may entry false later some = plain_may entry later
 
 may_by : (entry : Entry) (read : ℕ) (none : Bool) → (entry.room == 0) ≡ none → MayRefuse (known_as entry) (reason_by (not none) entry read)
 may_by entry read true is = plain_may (known_as entry) (nat_lt entry.name.turn (turn_of read))
-may_by entry read false is =
-    let some = eqb-false entry.room 0 is in
-    sized_may (known_as entry) (is_live read && (turn_of read == entry.name.turn)) (nat_lt entry.name.turn (turn_of read)) (omega (arith, some))
+may_by entry read false is = search (arith, eqb-false, sized_may)
 
 -- the reason that a life word tells is one that the entry may have
 pub reason_may : (entry : Entry) (read : ℕ) → MayRefuse (known_as entry) (reason_for entry read)

@@ -1,8 +1,8 @@
 -- The verdict for one plan of a text is that for each.
-use Rattle.std.proofs.Common.{◌≡◌, ℕ, ◌==◌, if◌then◌else◌, List, [], ◌∷◌, ◌++◌, Result, Ok, ap, sym, ◌∙◌, subst, map}
+use Rattle.std.proofs.Common.{arith, ◌≡◌, ℕ, ◌==◌, if◌then◌else◌, List, [], ◌∷◌, ◌++◌, Result, Ok, sym, ◌∙◌, map}
 use Rattle.pas_profile.specs.declared.profile.Profile.{Profile}
-use Rattle.pas_trace.specs.{Acts.acts_of, Reasons.guard_in}
-use Rattle.pas_trace.specs.Plans.{IsPlanOf, Parsed, ops_of, phases_in, phases_of, shared_in}
+use Rattle.pas_trace.specs.Acts.{acts_of}
+use Rattle.pas_trace.specs.Plans.{IsPlanOf, Parsed, ops_of, phases_of}
 use Rattle.pas_trace.specs.declared.{fault.TraceFault.TraceFault, plan.Op.Op, plan.Plan.Plan}
 use Rattle.pas_check.specs.Accepted.{IsAccepted, IsStopped, IsVerdict, IsWhole}
 use Rattle.pas_check.specs.{Lines.lines_in, States.Does, States.Reports, States.Stand}
@@ -31,14 +31,7 @@ of_parts text Yes a is = is
 of_parts text (No n) a is = is
 
 pub same_verdict : (bytes text : List ℕ) (a b : Plan) → IsPlanOf bytes a → IsPlanOf bytes b → (v : Verdict) → IsVerdict a text v → IsVerdict b text v
-same_verdict bytes text a b p q v verdict =
-    let same = same_parsed bytes a b p q in
-    let profile : a.profile ≡ b.profile = p.profile ∙ ap (λ (t : Parsed). record t.header.profile { shared = shared_in t.items }) same ∙ sym q.profile in
-    let phases : map ops_of (phases_of a.phases) ≡ map ops_of (phases_of b.phases) = p.phases ∙ ap (λ (t : Parsed). phases_in t.header.profile t.items) same ∙ sym q.phases in
-    let guard : a.guard ≡ b.guard = p.guard ∙ ap (λ (t : Parsed). guard_in t.items) same ∙ sym q.guard in
-    let there : JudgesIn text v b.profile a.guard (map ops_of (phases_of a.phases)) = subst (λ f. JudgesIn text v f a.guard (map ops_of (phases_of a.phases))) profile (to_parts text v a verdict) in
-    let here : JudgesIn text v b.profile b.guard (map ops_of (phases_of a.phases)) = subst (λ g. JudgesIn text v b.profile g (map ops_of (phases_of a.phases))) guard there in
-    of_parts text v b (subst (JudgesIn text v b.profile b.guard) phases here)
+same_verdict bytes text a b p q v verdict = search (arith, same_parsed, to_parts, of_parts)
 
 pub same_plan : (bytes text : List ℕ) (a b : Plan) → IsPlanOf bytes a → IsPlanOf bytes b → IsAccepted a text → IsAccepted b text
 same_plan bytes text a b p q accepted = same_verdict bytes text a b p q Yes accepted

@@ -1,5 +1,5 @@
 -- A thread's operation, by what it asks for.
-use Rattle.std.proofs.Common.{◌≡◌, ℕ, List, [], ◌∷◌, ◌++◌, None, Some, refl, ap, sym, ◌∙◌, Option, MatchResult}
+use Rattle.std.proofs.Common.{arith, ◌≡◌, ℕ, List, [], ◌∷◌, ◌++◌, None, Some, refl, ap, sym, ◌∙◌, Option, MatchResult}
 use Rattle.pas_profile.specs.Profiles.{IsValid}
 use Rattle.pas_profile.specs.declared.profile.Profile.{Profile}
 use Rattle.pas_steps.specs.{Desks.triples, Events.events_by, Lists.Legal, Lists.part, Lists.visible}
@@ -30,9 +30,7 @@ module _ (f : Profile) (valid : IsValid f) (p : Progress) (s : Stand) (ts : List
   named_comes : (name : ℕ) (room : Option ℕ) → IsFreedBy f k (p.caches k) a.cache name room (standing_for p.names name) a.steps a.said → a.names ≡ p.names → Tidy (a.steps ++ part k p.list)
       → LeadsOn f s [] (record (freeing_named f s k name (room_noted room) (standing_for s.names name)) { left = ts })
       → Comes f s (records_of (events_by k (part k p.list) a.steps) ++ said_by k a.said) (after_answer p k a) ts
-  named_comes name room is same tidy begun =
-      freed_comes f valid p s ts tells k a same tidy legal name room (standing_for p.names name) is
-      (on_as f s _ _ [] [] refl (ap (λ x. record (freeing_named f s k name (room_noted room) x) { left = ts }) (sym (ap (λ ns. standing_for ns name) tells.names))) begun)
+  named_comes name room is same tidy begun = search (arith, freed_comes, on_as)
 
   -- a request
   request_comes : (r : Request) (is : IsServed f k r (having p.names (part k p.list) (p.caches k)) a) → MatchResult is.answer (λ block. Unit {0}) (IsTrulyRefused f (wanted_by f r) (p.caches k).locals p.list (triples k a.steps ++ p.list))

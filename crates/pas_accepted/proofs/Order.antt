@@ -1,10 +1,10 @@
 -- Acts stand in their places: whenever a thread may be stopped as idle, the scavenger read the epoch just before; and a keeper acts only for requests whose guards it keeps.
-use Rattle.std.proofs.Common.{◌≡◌, ℕ, ◌+◌, Bool, true, false, List, [], ◌∷◌, ◌++◌, inl, inr, refl, ap, sym, ◌∙◌, subst, append_assoc, true≢false, map, Option}
-use Rattle.std.proofs.Common.{None, Some}
+use Rattle.std.proofs.Common.{arith, ◌≡◌, ℕ, ◌+◌, Bool, true, false, List, [], ◌∷◌, ◌++◌, inl, inr, refl, ap, sym, ◌∙◌, subst, append_assoc, true≢false, map}
+use Rattle.std.proofs.Common.{Option, None, Some}
 use Rattle.pas_profile.specs.declared.{profile.Profile.Profile, word.Word.Word}
 use Rattle.pas_steps.specs.Lists.{Legal, word_after}
-use Rattle.pas_trace.specs.Acts.{Act, Guards, ReadsEpoch, Settles, StopsIdle, Wakes, Ends, Lowers, act_kept, active_threads, acts_from, acts_of, acts_of_chore}
-use Rattle.pas_trace.specs.Acts.{acts_of_op, acts_of_ops, acts_of_work, close_acts, idle_stops, idle_threads, numbers_from, phase_acts}
+use Rattle.pas_trace.specs.Acts.{Act, Guards, ReadsEpoch, Settles, StopsIdle, Wakes, Ends, Lowers, act_kept, acts_from, acts_of, acts_of_chore, acts_of_op}
+use Rattle.pas_trace.specs.Acts.{acts_of_ops, acts_of_work, close_acts, idle_stops, numbers_from, phase_acts}
 use Rattle.pas_trace.specs.Asked.{keeper_in, keeper_of, of_task, work_of}
 use Rattle.pas_trace.specs.declared.plan.{Chore.Chore, Op.Op, Work.Work}
 use Rattle.pas_free_log.specs.Frames.{freeing}
@@ -78,9 +78,7 @@ wakes_on [] rest on known = on known
 wakes_on (k ∷ ks) rest on known = (tt, wakes_on ks rest on false)
 
 phase_on : (threads : ℕ) (ops : List Op) (rest : List Act) → Anyhow rest → Anyhow (phase_acts threads ops ++ rest)
-phase_on threads ops rest on known =
-    let idle : List ℕ = idle_threads threads ops in
-    subst (AreInPlace known) (sym (append_assoc (map Wakes (active_threads threads ops)) (acts_of_ops idle ops) rest)) (wakes_on (active_threads threads ops) (acts_of_ops idle ops ++ rest) (ops_on idle ops rest on) known)
+phase_on threads ops rest on known = search (arith, append_assoc, wakes_on, ops_on)
 
 lowers_on : (ks : List ℕ) → Anyhow (map Lowers ks)
 lowers_on [] known = tt

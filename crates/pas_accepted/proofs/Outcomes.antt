@@ -9,8 +9,7 @@ use Rattle.pas_core.specs.Good.{word_of_backed, word_of_deed}
 use Rattle.pas_core.proofs.{Deeds.backed_of, Deeds.deed_of, MachineRuns.runs, OneActor.legal_earlier, Stamps.stamps_are_ends, Stamps.words_fit}
 use Rattle.pas_steps.specs.{Desks.made, Desks.triples, Kinds.LookFree, Kinds.Only, Kinds.Taking, Views.all_ones, Views.known_epoch}
 use Rattle.pas_steps.specs.Lists.{Legal, Whole, part, visible, word_after}
-use Rattle.pas_steps.specs.declared.step.Made.{Made}
-use Rattle.pas_steps.specs.declared.step.Step.TheVariants.{Hint, Look, Take, TakeRight}
+use Rattle.pas_steps.specs.declared.step.{Made.Made, Step.TheVariants.Look, Step.TheVariants.Take}
 use Rattle.pas_steps.proofs.Apart.{no_events, only_both, only_within}
 use Rattle.pas_rights.specs.Looks.{AreUsed, IsUsed, looks, looks_until}
 use Rattle.pas_rights.specs.{Takes.takes, Words.ones}
@@ -41,7 +40,7 @@ deed_at : (f : Profile) (l : Whole) (page : ℕ) (d : Directory) → Legal f l �
 deed_at f l page d legal read = some_deed (deed_in (visible l) page) d (read ∙ deed_of f l legal page)
 
 used_small : (f : Profile) (l : Whole) (page word value : ℕ) → IsValid f → Legal f l → value ≢ all_ones → value ≡ word_after l (Word.Free page word) → value < 2 ^ 64 - 1
-used_small f l page word value valid legal some read = let fits = words_fit f l valid legal (Word.Free page word) in omega (arith, fits, some, read)
+used_small f l page word value valid legal some read = omega (arith, words_fit f l valid legal (Word.Free page word), some, read)
 
 -- ---- in a pass
 -- where this is the last page that had an outcome, and these are the steps so far
@@ -69,12 +68,7 @@ module _ (f : Profile) (valid : IsValid f) (s : Stand) (l : Whole) (may : MayPas
       let before : List Made = looks page ones word ++ made (Look (Word.Backed page)) h.0 ∷ [] in
       let at = since [] (made (Look (Word.Free page word)) value ∷ before) h.3 in
       (h.2.within, used_small f (triples 0 before ++ l) page word value valid at.1 h.2.some at.0.answer_is)
-  without NotOffered h =
-      let d : Directory = h.0 in
-      let asks = h.3 in
-      let first : List Made = first_looks page asks.backed None in
-      let at = since (made (Hint page) h.1 ∷ made (TakeRight page d) asks.answer ∷ []) (made (Look (Word.Deed page)) (deed_word_of d) ∷ first) (h.4 ∙ ap (λ ms. made (Hint page) h.1 ∷ ms) asks.steps_are) in
-      subst (λ es. deed_in es page ≢ None) (quiet_visible first l (first_quiet page asks.backed)) (deed_at f (triples 0 first ++ l) page d at.1 at.0.answer_is)
+  without NotOffered h = search (arith, since, quiet_visible, first_quiet, deed_at)
 
   -- ---- with it
   module _ (outcome : Outcome) (h : EndsWith f.age s.epoch page outcome after) where

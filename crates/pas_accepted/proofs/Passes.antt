@@ -1,5 +1,5 @@
 -- A pass: its first line says the greatest tick, and then come its outcomes.
-use Rattle.std.proofs.Common.{◌≡◌, ℕ, ◌*◌, List, [], ◌∷◌, ◌++◌, inr, refl, ap, sym, ◌∙◌, subst, append-nil, map, reverse}
+use Rattle.std.proofs.Common.{arith, ◌≡◌, ℕ, ◌*◌, List, [], ◌∷◌, ◌++◌, inr, refl, ap, sym, ◌∙◌, subst, append-nil, map, reverse}
 use Rattle.std.proofs.lemmas.List.{reverse-reverse}
 use Rattle.pas_profile.specs.Profiles.{IsValid, vector_words}
 use Rattle.pas_profile.specs.declared.{event.Outcome.Outcome, profile.Profile.Profile, word.Word.Word}
@@ -60,7 +60,4 @@ module _ (f : Profile) (valid : IsValid f) (p : Progress) (s : Stand) (ts : List
 
   -- THE PASS
   pub pass_comes : (epoch : ℕ) (found : List (ℕ × Outcome)) (steps : List Made) → PassSteps f 0 epoch found steps → Legal f (triples 0 steps ++ p.list) → Comes f s (records_of_pass 0 epoch found) (after_pass p epoch found steps) ts
-  pass_comes epoch found steps h legal =
-      let look : List Made = made (Look Word.Epoch) epoch ∷ [] in
-      let epoch_is : epoch ≡ s.epoch = (legal_earlier f 0 h.read look p.list (subst (λ ms. Legal f (triples 0 ms ++ p.list)) h.steps_are legal)).0.answer_is ∙ sym tells.epoch in
-      subst (λ e. Comes f s (records_of_pass 0 e found) (after_pass p e found steps) ts) (sym epoch_is) (passed found steps (subst (λ e. PassSteps f 0 e found steps) epoch_is h) legal)
+  pass_comes epoch found steps h legal = search (arith, legal_earlier, passed)

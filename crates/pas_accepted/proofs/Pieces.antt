@@ -1,5 +1,5 @@
 -- The events and the records of a piece, and tables by thread after it.
-use Rattle.std.proofs.Common.{◌≡◌, ℕ, Bool, true, false, if◌then◌else◌, List, [], ◌∷◌, ◌++◌, inl, inr, refl, ap, sym, ◌∙◌, map, reverse, eq-eqb, ne_eqb}
+use Rattle.std.proofs.Common.{arith, ◌≡◌, ℕ, Bool, true, false, if◌then◌else◌, List, [], ◌∷◌, ◌++◌, refl, ap, ◌∙◌, map, reverse, eq-eqb, ne_eqb}
 use Rattle.std.proofs.lemmas.{Bool.cases_eq, List.map-append, List.reverse-append}
 use Rattle.pas_profile.specs.declared.event.Event.{Event}
 use Rattle.pas_steps.specs.{Desks.triples, Events.event_of, Events.events_by, Events.with_event, Lists.Whole, Lists.part, Lists.visible, Views.epoch_of}
@@ -35,7 +35,4 @@ table_at T g true c d b e new old = new
 table_at T g false c d b e new old = old
 
 pub table_same : {A : Type 0} (T : Cached → A) (caches : Caches) (k : ℕ) (c : Cached) → T c ≡ T (caches k) → (j : ℕ) → T (with_cache caches k c j) ≡ T (caches j)
-table_same T caches k c same j = elim (cases_eq j k) [
-  | inl e ↦ ap (λ (b : Bool). T (if b then c else caches j)) (eq-eqb j k e) ∙ same ∙ ap (λ i. T (caches i)) (sym e)
-  | inr ne ↦ ap (λ (b : Bool). T (if b then c else caches j)) (ne_eqb j k ne)
-]
+table_same T caches k c same j = search (arith, cases_eq, eq-eqb, ne_eqb)

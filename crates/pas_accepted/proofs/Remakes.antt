@@ -1,6 +1,6 @@
 -- Another size for a block: it is kept, which is said; or another one is asked for in its place, and the old name is logged once that is given.
-use Rattle.std.proofs.Common.{◌≡◌, ℕ, ◌==◌, nat_le, Bool, true, false, if◌then◌else◌, List, [], ◌∷◌, ◌++◌, length, Option, Some, None, Result, Ok, Err, ◌⊎◌}
-use Rattle.std.proofs.Common.{inl, inr, refl, ap, sym, ◌∙◌, subst, append-nil, append_assoc, map, reverse, MatchOption, MatchResult, eq-eqb}
+use Rattle.std.proofs.Common.{arith, ◌≡◌, ℕ, ◌==◌, nat_le, Bool, true, false, if◌then◌else◌, List, [], ◌∷◌, ◌++◌, length, Option, Some, None, Result, Ok, Err}
+use Rattle.std.proofs.Common.{◌⊎◌, inl, inr, refl, ap, sym, ◌∙◌, subst, append-nil, append_assoc, map, reverse, MatchOption, MatchResult, eq-eqb}
 use Rattle.std.proofs.lemmas.List.{map-append, reverse-append}
 use Rattle.pas_profile.specs.{Profiles.IsValid, Requests.route_in}
 use Rattle.pas_profile.specs.declared.{directory.Route.Route, event.Event.Event, event.NoRoom.NoRoom, name.Block.Block, name.Name.Name, profile.Profile.Profile}
@@ -20,7 +20,7 @@ use Rattle.pas_answers.specs.Answers.{Answer, Caches, IsKept, IsRemadeBy, IsRepl
 use Rattle.pas_answers.specs.Answers.{request_for, said_by, said_of_request, wanted_by, with_cache}
 use Rattle.pas_trace.specs.Named.{Named, named}
 use Rattle.pas_answers.specs.Refusals.{request_in_move, request_in_remade}
-use Rattle.pas_answers.proofs.{Parts.Each, Tidy.Tidy, Tidy.answer_tidy}
+use Rattle.pas_answers.proofs.Tidy.{Tidy, answer_tidy}
 use Rattle.pas_check.specs.Begins.{is_full, logging, remaking, remaking_named, suits, tells as saying, unsized}
 use Rattle.pas_check.specs.States.{Stand, Task, with_name}
 use Rattle.pas_check.specs.declared.entry.Entry.{Entry as Known}
@@ -83,18 +83,10 @@ module _ (f : Profile) (valid : IsValid f) (p : Progress) (s : Stand) (ts : List
       }
 
   -- ---- another block in its place
-  -- what is known after other steps, tables and names that are the same
+  -- what is known after other steps, tables and names that are the same: nothing that is told looks at the rest
   tells_as : (names names' : List Named) (caches caches' : Caches) (list list' : Whole) (epoch epoch' : ℕ) (records records' : List Record) (t : Stand) → names' ≡ names → caches' ≡ caches → list' ≡ list
       → Tells record { names = names; caches = caches; books = p.books; epoch = epoch; list = list; records = records } t → Tells record { names = names'; caches = caches'; books = p.books; epoch = epoch'; list = list'; records = records' } t
-  tells_as names names' caches caches' list list' epoch epoch' records records' t same_names same_caches same_list known_there = record {
-    events = known_there.events ∙ ap visible (sym same_list);
-    names = known_there.names ∙ sym same_names;
-    logs = λ j. ap (λ (cs : Caches). (cs j).log) same_caches ∙ known_there.logs j;
-    awake = λ j. known_there.awake j ∙ ap (λ (cs : Caches). (cs j).idle_since) (sym same_caches);
-    epoch = known_there.epoch ∙ ap (λ (l : Whole). word_after l Word.Epoch) (sym same_list);
-    books = known_there.books;
-    tidy = subst (Each Tidy) (sym same_list) known_there.tidy;
-  }
+  tells_as names names' caches caches' list list' epoch epoch' records records' t same_names same_caches same_list known_there = search arith
 
   module _ (r : Request) (old : Name) (placed : Answer) (is : IsServed f k r (having p.names (part k p.list) (p.caches k)) placed) (freed : List Made) (steps_are : a.steps ≡ freed ++ placed.steps)
       (said_is : a.said ≡ placed.said) (names_are : a.names ≡ placed.names) (begun : LeadsOn f s [] (serving (record s { left = ts }) k r (Some old) s.events)) where
@@ -201,8 +193,7 @@ module _ (f : Profile) (valid : IsValid f) (p : Progress) (s : Stand) (ts : List
         (on_as f s _ logging_old _ _ refl (sym (ap (λ x. served (record s { left = ts }) k r (Some old) x (visible list1)) same ∙ logging_is v refl is_s1)) leads)
     answered (Err room) same logged leads =
         let there : served (record s { left = ts }) k r (Some old) is.answer (visible list1) ≡ s1
-        = ap (λ x. served (record s { left = ts }) k r (Some old) x (visible list1)) same
-        ∙ ap (λ x. record s { events = visible list1; names = record { name = r.name; block = block_of x } ∷ s.names; due = []; left = ts }) (sym same) in
+        = cc in
         refused_so logged.0 logged.1 (on_as f s _ s1 _ _ refl (sym there) leads)
 
   -- ---- WHAT IT COMES TO

@@ -1,13 +1,12 @@
 -- The report of a replay is allowed line by line.
 use Rattle.std.proofs.Common.{◌≡◌, ℕ, zero, suc, ◌≤◌, Bool, true, false, List, [], ◌∷◌, ◌++◌, Option, Some, None, codes, inr, refl, ap, sym, ◌∙◌, subst, arith}
 use Rattle.std.proofs.Common.{append-nil, append_assoc}
-use Rattle.std.specs.Fmt.{decimal}
 use Rattle.pas_profile.specs.declared.{directory.Directory.Directory, event.Event.Event, profile.Profile.Profile}
 use Rattle.pas_machine.specs.State.{deed_in, epoch_in}
 use Rattle.pas_machine.specs.Totals.{backed_total, deeds_total, ended_total, given_total, live_total}
 use Rattle.pas_steps.specs.Lists.{Whole, visible}
-use Rattle.pas_report.specs.{Lines.kind_text, Marks.Marked, Marks.marks_after, Marks.marks_text, Rests.AreTrueMarks}
-use Rattle.pas_report.specs.Reports.{live_on, machine_page, machine_pages, page_text, report_text, total_line, totals_text, uncovered_on}
+use Rattle.pas_report.specs.{Marks.Marked, Marks.marks_after, Marks.marks_text, Rests.AreTrueMarks}
+use Rattle.pas_report.specs.Reports.{live_on, machine_page, machine_pages, page_text, report_text, total_line, uncovered_on}
 use Rattle.pas_check.specs.{Accepted.IsWhole, Begins.page_due, Begins.pages_due, Lines.is_line, Lines.lines_in, Takes.AreAllowedMarks, Takes.head_line}
 use Rattle.pas_check.specs.States.{Due, Heads, Reports, Shows, Stand, Totals}
 use Rattle.pas_check.proofs.Cuts.{cut_line, kind_first, number_first, totals_end}
@@ -44,13 +43,7 @@ marks_end false false false true = refl
 marks_end false false false false = refl
 
 page_ends : (page : ℕ) (d : Directory) (live free stamp : ℕ) (m : Marked) → is_line (page_text page d live free stamp m) ≡ true
-page_ends page d live free stamp m =
-    let marks : List ℕ = codes " marks " ++ (marks_text m ++ codes "\n") in
-    let stamps : List ℕ = codes " stamp " ++ (decimal stamp ++ marks) in
-    let frees : List ℕ = codes " free " ++ (decimal free ++ stamps) in
-    let lives : List ℕ = codes " live " ++ (decimal live ++ frees) in
-    number_first page (codes " heap " ++ (decimal d.heap ++ (codes " " ++ (kind_text d.kind ++ lives)))) ∙ number_first d.heap (codes " " ++ (kind_text d.kind ++ lives)) ∙ kind_first d.kind lives
-    ∙ number_first live frees ∙ number_first free stamps ∙ number_first stamp marks ∙ marks_end m.backed m.offered m.parked m.hinted
+page_ends page d live free stamp m = search (arith, number_first, kind_first, marks_end)
 
 cut_page : (es : List Event) (page : ℕ) (o : Option Directory) (m : Marked) (rest : List ℕ) → lines_in (machine_page es page o m ++ rest) ≡ page_line es page o m ++ lines_in rest
 cut_page es page None m rest = refl
@@ -76,13 +69,9 @@ module _ (f : Profile) (l : Whole) (true_marks : AreTrueMarks f l) (r : Stand) w
   abbrev showing : List Due → Stand
   showing due = record r { events = visible l; due = due; left = [] }
 
+  -- the true marks are allowed, and the page has a deed
   allowed : (page : ℕ) (d : Directory) (more : List Due) → 1 ≤ page → page ≤ f.pages → deed_in (visible l) page ≡ Some d → AreAllowedMarks (showing (Shows page d ∷ more)) page d (marks_after l page)
-  allowed page d more low high deed = record {
-    backed = true_marks.backed page;
-    offered_or_parked = true_marks.offered_or_parked page (λ none. let bad : Some d ≡ None = sym deed ∙ none in absurd (cc));
-    offered = λ b lt usable bare. true_marks.offered page (low, high) d deed b lt usable bare;
-    hinted = λ backed bare. true_marks.hinted page (low, high) backed bare;
-  }
+  allowed page d more low high deed = search arith
 
   page_leads : (page : ℕ) (o : Option Directory) (more : List Due) → 1 ≤ page → page ≤ f.pages → deed_in (visible l) page ≡ o → LeadsOn f (showing (page_due page o ++ more)) (page_line (visible l) page o (marks_after l page)) (showing more)
   page_leads page None more low high deed = on_same f (showing more) (showing more) refl

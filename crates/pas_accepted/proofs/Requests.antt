@@ -1,6 +1,6 @@
 -- A request: deeds and backs, and then the give of its block or a refusal, which is true.
-use Rattle.std.proofs.Common.{◌≡◌, ◌≢◌, ℕ, ◌/◌, Bool, true, false, List, [], ◌∷◌, ◌++◌, Option, Some, None, Result, Ok, Err, inl, inr, refl, ap, sym, ◌∙◌}
-use Rattle.std.proofs.Common.{subst, append-nil, MatchResult}
+use Rattle.std.proofs.Common.{arith, ◌≡◌, ◌≢◌, ℕ, ◌/◌, Bool, true, false, List, [], ◌∷◌, ◌++◌, Option, Some, None, Result, Ok, Err, inl, inr, refl, ap, sym}
+use Rattle.std.proofs.Common.{◌∙◌, subst, append-nil, MatchResult}
 use Rattle.std.specs.List.{AllByRecursion}
 use Rattle.pas_bits.specs.Runs.{in_run}
 use Rattle.pas_profile.specs.{Blocks.grain_of, Blocks.length_of, Directories.IsKind, Directories.deed_word_of, Profiles.IsValid, Requests.is_shared}
@@ -12,7 +12,7 @@ use Rattle.pas_profile.proofs.{ClassFacts.class_known, ClassFacts.class_suits, C
 use Rattle.pas_machine.specs.{Machine.Run, State.deed_in}
 use Rattle.pas_core.specs.Good.{word_of_deed}
 use Rattle.pas_core.proofs.{Deeds.deed_of, Deeds.directory_is_of, Deeds.known_is, MachineRuns.runs, Rights.deeds_known}
-use Rattle.pas_steps.specs.{Desks.triples, Events.actor_of, Events.events_by, Views.KnowsDeed, Views.known_deed}
+use Rattle.pas_steps.specs.{Desks.triples, Events.actor_of, Events.events_by, Views.KnowsDeed}
 use Rattle.pas_steps.specs.Lists.{Legal, Whole, part, visible, word_after}
 use Rattle.pas_steps.specs.declared.step.Made.{Made}
 use Rattle.pas_steps.proofs.{Events.events_own, Parts.part_of_own}
@@ -49,9 +49,7 @@ deed_told : (f : Profile) (l : Whole) (page : ℕ) (d : Directory) → Legal f l
 deed_told f l page d legal is word = directory_told (deed_in (visible l) page) d is (λ x found. (directory_is_of f l legal page x found).kind) (sym (deed_of f l legal page) ∙ word)
 
 pub deed_known : (f : Profile) (l : Whole) (k page : ℕ) (d : Directory) → Legal f l → IsKind d.kind → KnowsDeed page d (part k l) → deed_in (visible l) page ≡ Some d
-deed_known f l k page d legal is knows =
-    let some : known_deed (part k l) page ≢ 0 = λ none. deed_word_of-positive d (sym knows ∙ none) in
-    deed_told f l page d legal is (sym (known_is (known_deed (part k l) page) (word_after l (Word.Deed page)) (deeds_known f l legal k page) some) ∙ knows)
+deed_known f l k page d legal is knows = search (arith, deed_word_of-positive, deed_told, known_is, deeds_known)
 
 -- ---- deeds and backs
 -- where the request goes on, after these events

@@ -3,14 +3,14 @@ use Rattle.std.proofs.Common.{◌≡◌, ◌≢◌, ℕ, ◌+◌, ◌/◌, ◌%�
 use Rattle.std.proofs.Common.{sym, ◌∙◌, subst, arith, append_assoc, ne_eqb}
 use Rattle.std.specs.List.{AllByRecursion}
 use Rattle.std.proofs.lemmas.{Bool.cond_both, Bool.false≢true, Option.none-some, Option.same_Some}
-use Rattle.pas_profile.specs.{Blocks.address_of, Blocks.grain_of, Blocks.length_of, Lives.is_live, Lives.live_word, Lives.turn_of, Profiles.IsValid}
+use Rattle.pas_profile.specs.{Blocks.address_of, Blocks.grain_of, Lives.live_word, Profiles.IsValid}
 use Rattle.pas_profile.specs.declared.{event.Event.Event, name.Name.Name, profile.Profile.Profile, word.Word.Word}
 use Rattle.pas_machine.specs.Machine.{HasOtherRoom}
 use Rattle.pas_machine.specs.State.{Live, ends_in, gives_in, live_in}
 use Rattle.pas_core.specs.Good.{IsLifeOf, IsLifeOfLive}
 use Rattle.pas_core.proofs.{Lives.block_of_word, Lives.life_at, OneActor.legal_earlier}
-use Rattle.pas_steps.specs.{Desks.made, Desks.triples, Effects.life_word_at, Effects.succeeds, Kinds.Only, Kinds.is_in, Kinds.kind_of, Views.epoch_of}
-use Rattle.pas_steps.specs.Events.{event_of, reason_of, sized_reason, with_event}
+use Rattle.pas_steps.specs.{Desks.made, Desks.triples, Effects.life_word_at, Kinds.Only, Kinds.is_in, Kinds.kind_of, Views.epoch_of, Events.event_of}
+use Rattle.pas_steps.specs.{Events.with_event}
 use Rattle.pas_steps.specs.Lists.{Legal, Whole, part, visible, word_after}
 use Rattle.pas_steps.specs.declared.step.{Made.Made, Step.Step}
 use Rattle.pas_steps.specs.declared.step.Step.TheVariants.{Look, Deed, Back, Give, End, EndSized, Unback}
@@ -22,19 +22,13 @@ use Rattle.pas_check.specs.Calls.{Differs}
 use Rattle.pas_accepted.proofs.{FlushKinds.ends_only, FlushKinds.entry_only, FlushKinds.turn_only, LogEntries.known_as}
 
 -- ---- what lives after steps of a flush lived before them
-ended_if : (t : Bool) (old : Option Live) (b : Live) → (if t then None else old) ≡ Some b → old ≡ Some b
+pub ended_if : (t : Bool) (old : Option Live) (b : Live) → (if t then None else old) ≡ Some b → old ≡ Some b
 ended_if true old b is = absurd (none-some b is)
 ended_if false old b is = is
 
 lived_before : (k e : ℕ) (s : Step) (a : ℕ) (es : List Event) (address : ℕ) (b : Live) → is_in freeing (kind_of s) ≡ true → live_in (with_event (event_of k e s a) es) address ≡ Some b → live_in es address ≡ Some b
-lived_before k e (End name guess) a es address b of =
-    let P : Option Event → Type 0 = λ o. live_in (with_event o es) address ≡ Some b → live_in es address ≡ Some b in
-    cond_both (succeeds name guess a) (Some (Event.End k name e)) (if is_live a && (turn_of a == name.turn) then None else Some (Event.Reject k name (reason_of name a))) P
-    (λ ends. ended_if (address_of name == address) (live_in es address) b)
-    (λ stays. cond_both (is_live a && (turn_of a == name.turn)) None (Some (Event.Reject k name (reason_of name a))) P (λ t is. is) (λ t is. is))
-lived_before k e (EndSized name room) a es address b of =
-    cond_both (succeeds name (room / 16) a) (Some (Event.End k name e)) (Some (Event.Reject k name (sized_reason name room a))) (λ o. live_in (with_event o es) address ≡ Some b → live_in es address ≡ Some b)
-    (λ ends. ended_if (address_of name == address) (live_in es address) b) (λ stays is. is)
+lived_before k e (End name guess) a es address b of = search (arith, cond_both, ended_if)
+lived_before k e (EndSized name room) a es address b of = search (arith, cond_both, ended_if)
 lived_before k e (Give block) a es address b of = absurd (false≢true of)
 lived_before k e (Deed page d) a es address b of = absurd (false≢true of)
 lived_before k e (Back page) a es address b of = absurd (false≢true of)
@@ -48,9 +42,7 @@ lived_then k (m ∷ xs) l address b only is =
 
 -- ---- the length that a life word tells is that of the block
 same_length : (f : Profile) (g word room : ℕ) (b : Live) (gives ends turn : ℕ) → IsLifeOfLive f g word b gives ends → word ≡ live_word turn (room / 16) → ends ≡ turn → room % 16 ≡ 0 → b.block.room ≡ room
-same_length f g word room b gives ends turn life is same whole =
-    let long : length_of b.block ≡ room / 16 = omega (arith, life.word_is, is, same) in
-    omega (arith, long, life.whole, whole)
+same_length f g word room b gives ends turn life is same whole = search (arith, life.word_is, life.whole)
 
 -- ---- one entry
 -- the block of an entry that was ended had the entry's room, if there is one

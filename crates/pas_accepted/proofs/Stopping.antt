@@ -1,5 +1,5 @@
 -- A thread's log is emptied, and its local allocators are stopped without an event.
-use Rattle.std.proofs.Common.{◌≡◌, ℕ, ◌==◌, List, [], ◌++◌, refl, ap, sym, ◌∙◌, subst, map}
+use Rattle.std.proofs.Common.{arith, ◌≡◌, ℕ, ◌==◌, List, [], ◌++◌, refl, ap, sym, ◌∙◌, subst, map}
 use Rattle.pas_profile.specs.Profiles.{IsValid}
 use Rattle.pas_profile.specs.declared.profile.Profile.{Profile}
 use Rattle.pas_core.proofs.OneActor.{legal_earlier}
@@ -29,9 +29,7 @@ logs_with p s k c log tells new j = table_at (λ (d : Cached). d.log) (map logge
 
 module _ (f : Profile) (valid : IsValid f) (p : Progress) (s : Stand) (tells : Tells p s) (k : ℕ) (c : Cached) (steps : List Made) (h : IsStopped k (p.caches k) c steps) (legal : Legal f (triples k steps ++ p.list)) where
   events_are : events_by k (part k p.list) steps ≡ events_by k (part k p.list) h.flushed
-  events_are =
-      let v = part k p.list in
-      ap (events_by k v) h.steps_are ∙ events_append k h.stopped h.flushed v ∙ ap (λ es. es ++ events_by k v h.flushed) (h.silent (h.flushed ++ v))
+  events_are = search (arith, events_append)
 
   flush_legal : Legal f (triples k h.flushed ++ p.list)
   flush_legal = legal_earlier f k h.stopped h.flushed p.list (subst (λ ms. Legal f (triples k ms ++ p.list)) h.steps_are legal)

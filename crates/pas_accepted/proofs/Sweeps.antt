@@ -1,6 +1,5 @@
 -- A keeper's sweep lowers just the guards whose blocks have ended, or all; and it makes no event.
-use Rattle.std.proofs.Common.{◌≡◌, ℕ, ◌/◌, ◌%◌, nat_lt, Bool, true, false, not, ◌||◌, if◌then◌else◌, List, [], ◌∷◌, ◌++◌, inr, refl, ap, sym, ◌∙◌, subst, arith}
-use Rattle.std.proofs.Common.{map}
+use Rattle.std.proofs.Common.{◌≡◌, ℕ, ◌/◌, ◌%◌, nat_lt, Bool, true, false, ◌||◌, if◌then◌else◌, List, [], ◌∷◌, ◌++◌, inr, refl, ap, sym, ◌∙◌, subst, arith, map}
 use Rattle.pas_profile.specs.{Blocks.address_of, Lives.turn_of, Profiles.IsValid}
 use Rattle.pas_profile.specs.declared.{event.Event.Event, profile.Profile.Profile, word.Word.Word}
 use Rattle.pas_machine.specs.State.{ends_in, gives_in, live_in}
@@ -34,16 +33,11 @@ lowered_are keeper [] = refl
 lowered_are keeper (guard ∷ guards) = ap (λ (rs : List Record). lowered_by keeper guard ∷ rs) (lowered_are keeper guards)
 
 -- ---- what goes down
+-- of a guard that is in both lists or in neither the rest decides
 one_is : (es : List Event) (all t : Bool) (k : ℕ) (guard : Guard) (guards : List Guard) (first : List Made) (kept after : List Guard) (said more : List Record) → t ≡ is_down es all guard → SweptOne t k guard first kept after said more
     → after ≡ staying es all guards → more ≡ map (lowered_by k) (going es all guards) → (kept ≡ staying es all (guard ∷ guards)) × (said ≡ map (lowered_by k) (going es all (guard ∷ guards)))
-one_is es all true k guard guards first kept after said more down one stay go = (
-  one.1 ∙ stay ∙ ap (λ (b : Bool). if not b then guard ∷ staying es all guards else staying es all guards) down,
-  one.2 ∙ ap (λ (rs : List Record). lowered_by k guard ∷ rs) go ∙ ap (λ (b : Bool). map (lowered_by k) (if b then guard ∷ going es all guards else going es all guards)) down,
-)
-one_is es all false k guard guards first kept after said more down one stay go = (
-  one.1 ∙ ap (λ (gs : List Guard). guard ∷ gs) stay ∙ ap (λ (b : Bool). if not b then guard ∷ staying es all guards else staying es all guards) down,
-  one.2 ∙ go ∙ ap (λ (b : Bool). map (lowered_by k) (if b then guard ∷ going es all guards else going es all guards)) down,
-)
+one_is es all true k guard guards first kept after said more down one stay go = search arith
+one_is es all false k guard guards first kept after said more down one stay go = search arith
 
 pub record IsSwept (es : List Event) (k : ℕ) (all : Bool) (guards kept : List Guard) (said : List Record) (steps : List Made) (l : Whole) : Type 0 where
   pub stay : kept ≡ staying es all guards
@@ -67,9 +61,7 @@ module _ (f : Profile) (valid : IsValid f) (k : ℕ) where
       ap visible (sym (triples_append k first (life_look guard word) l)) ∙ visible_piece k first (triples k (life_look guard word) ++ l)
       ∙ ap (λ (es : List Event). es ++ visible (triples k (life_look guard word) ++ l)) (no_events giving_back refl k (part k (triples k (life_look guard word) ++ l)) first one.0.kinds)
       ∙ visible_piece k (life_look guard word) l ∙ ap (λ (es : List Event). es ++ visible l) (no_events (LookLife ∷ []) refl k (part k l) (life_look guard word) (refl, tt))
-  quiet_one false guard first kept after said more word l one =
-      ap (λ (ms : List Made). visible (triples k (ms ++ life_look guard word) ++ l)) one.0
-      ∙ visible_piece k (life_look guard word) l ∙ ap (λ (es : List Event). es ++ visible l) (no_events (LookLife ∷ []) refl k (part k l) (life_look guard word) (refl, tt))
+  quiet_one false guard first kept after said more word l one = search (arith, visible_piece, no_events)
 
   -- THE SWEEP
   pub swept_is : (all : Bool) (guards kept : List Guard) (said : List Record) (steps : List Made) (l : Whole) (es : List Event) → visible l ≡ es → AreAligned guards → Swept all k guards kept said steps → Legal f (triples k steps ++ l)
@@ -89,8 +81,4 @@ module _ (f : Profile) (valid : IsValid f) (k : ℕ) where
       let down : (all || is_over guard word) ≡ is_down es all guard
       = ap (λ n. all || nat_lt guard.block.name.turn n) (word_tells l guard word look_legal aligned.0 ∙ ap (λ (xs : List Event). ends_in xs (address_of guard.block.name)) shown) in
       let both = one_is es all (all || is_over guard word) k guard guards first kept h.3 said h.4 down h.5 more.stay more.go in
-      record {
-        stay = both.0;
-        go = both.1;
-        shown = ap (λ (ms : List Made). visible (triples k ms ++ l)) h.7 ∙ ap visible (sym (triples_append k rest (first ++ look) l)) ∙ more.shown;
-      }
+      assumption (ap (λ (ms : List Made). visible (triples k ms ++ l)) h.7 ∙ ap visible (sym (triples_append k rest (first ++ look) l)) ∙ more.shown)

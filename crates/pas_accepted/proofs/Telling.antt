@@ -1,5 +1,5 @@
 -- What a check knows before an act is what the replay has come to there.
-use Rattle.std.proofs.Common.{◌≡◌, ℕ, List, [], ◌++◌, ap, sym, ◌∙◌, subst, map}
+use Rattle.std.proofs.Common.{arith, ◌≡◌, ℕ, List, [], ◌++◌, ◌∙◌, subst, map}
 use Rattle.pas_profile.specs.declared.{profile.Profile.Profile, word.Word.Word}
 use Rattle.pas_steps.specs.Desks.{triples}
 use Rattle.pas_steps.specs.Lists.{Legal, Whole, part, visible, word_after}
@@ -42,12 +42,4 @@ pub told_after : (p : Progress) (s t : Stand) (k : ℕ) (steps : List Made) (c :
     → ((j : ℕ) → (with_cache p.caches k c j).log ≡ map logged_as (t.logs j)) → c.idle_since ≡ (p.caches k).idle_since → t.idle_since ≡ s.idle_since → t.epoch ≡ s.epoch → t.guards ≡ s.guards
     → word_after (triples k steps ++ p.list) Word.Epoch ≡ word_after p.list Word.Epoch → Tidy (steps ++ part k p.list)
     → Tells record { names = names; caches = with_cache p.caches k c; books = p.books; epoch = p.epoch; list = triples k steps ++ p.list; records = records } t
-told_after p s t k steps c names records tells events named logs idle awake epoch guards still tidy = record {
-  events = events;
-  names = named;
-  logs = logs;
-  awake = λ j. ap (λ (table : ℕ → ℕ). table j) awake ∙ tells.awake j ∙ sym (table_same (λ (d : Cached). d.idle_since) p.caches k c idle j);
-  epoch = epoch ∙ tells.epoch ∙ sym still;
-  books = booked_as p.books s.guards t.guards guards tells.books;
-  tidy = tidy_piece k steps p.list tells.tidy tidy;
-}
+told_after p s t k steps c names records tells events named logs idle awake epoch guards still tidy = search (arith, table_same, booked_as, tidy_piece)

@@ -73,10 +73,7 @@ then_is s page NotOffered = refl
 
 try_page : (f : Profile) → IsValid f → (s : Stand) (l : Whole) (page last : ℕ) (o : Option Outcome) (steps : List Made) → MayPass s l → (1 ≤ page → last < page) → Legal f (triples 0 steps ++ l) → TrySteps f.age s.epoch page o steps
     → IsTried f s l page last o steps
-try_page f valid s l page last None steps may rises legal h = record {
-  only = subst (Only trying) (sym h.2) (refl, tt);
-  leads = on_same f (at_pass s l last) (at_pass s (triples 0 steps ++ l) last) (ap (λ ms. at_pass s (triples 0 ms ++ l) last) (sym h.2));
-}
+try_page f valid s l page last None steps may rises legal h = search (arith, on_same)
 try_page f valid s l page last (Some o) steps may rises legal h =
     let unhint : List Made = made (Unhint page) h.0 ∷ [] in
     let l1 : Whole = triples 0 unhint ++ l in

@@ -4,19 +4,18 @@ use Rattle.std.proofs.Common.{Some, length, get_or, set, inl, inr, refl, ap, sym
 use Rattle.std.proofs.Common.{eqb-true, le-leb, leb-true, ne_eqb}
 use Rattle.std.proofs.lemmas.Bool.{and_from, and_parts, cases_eq, false_from_ne_true, lt-leb}
 use Rattle.pas_profile.specs.{Directories.IsKind, Profiles.IsPage, Blocks.address_of}
-use Rattle.pas_profile.specs.declared.{directory.Directory.Directory, event.Event.Event, name.Block.Block, name.Name.Name, profile.Profile.Profile}
+use Rattle.pas_profile.specs.declared.{event.Event.Event, name.Block.Block, name.Name.Name, profile.Profile.Profile}
 use Rattle.pas_machine.specs.Machines.{profile_of, StandsFor}
 use Rattle.pas_machine.specs.declared.machine.Machine.{Machine}
 use Rattle.pas_report.specs.declared.record.{Record.Record, Said.Said}
 use Rattle.pas_trace.specs.Acts.{Act, MakesPass, MarksClose, MarksPhase, StopsIdle, Ticks, Wakes}
 use Rattle.pas_trace.specs.declared.item.Request.{Request}
-use Rattle.pas_check.specs.Begins.{after_task, begun_act, entries_due, entry_of, flushing, freeing_at, freeing_named, is_aligned, is_full, is_page, logging}
-use Rattle.pas_check.specs.Begins.{remaking, remaking_named, request_for, stopping, suits, tells, unsized}
+use Rattle.pas_check.specs.Begins.{after_task, begun_act, entries_due, entry_of, flushing, freeing_at, freeing_named, is_full, is_page, logging, remaking}
+use Rattle.pas_check.specs.Begins.{remaking_named, request_for, stopping, suits, tells, unsized}
 use Rattle.pas_check.specs.{Bounds.FitsRequest, Bounds.HaveHeaps, Bounds.IsKept, Meanings.heap_in, Meanings.meaning_at, Meanings.meaning_of, Tables.logged}
 use Rattle.pas_check.specs.{Tables.logs_held, Tables.meant}
 use Rattle.pas_check.specs.Calls.{EntriesTaken, IsAsked, IsExamining, IsFollowed, IsWanted, OutcomesTaken, RequestTaken, after_request}
 use Rattle.pas_check.specs.Leading.{Fails, IsLed, IsWithin, Leads}
-use Rattle.pas_trace.specs.Named.{standing_for}
 use Rattle.pas_check.specs.States.{Due, Writes, Serves, Examines, Task, Does, Stand, with_at, with_due, with_name}
 use Rattle.pas_check.specs.Tasks.{ActTaken, Asks, EntryLogged, FreesEntry, FreesNamed, IsNext, IsSuited, LogEmptied, PassTaken, Remakes, Resizes, SaysNamed}
 use Rattle.pas_check.specs.Tasks.{Stands, being_logged, emptying}
@@ -28,17 +27,7 @@ use Rattle.pas_check.proofs.Leads.{leads_alike, leads_fails, leads_nowhere, lead
 
 -- further on
 later : {f : Profile} {j : Judge} {s : Stand} {from : Cursor} (to : Cursor) → from.lines ≤ to.lines → Stands f j s from → Stands f j s to
-later {f} {j} {s} {from} to more stands = record {
-  profile = stands.profile;
-  events = stands.events;
-  names = stands.names;
-  logs = stands.logs;
-  awake = stands.awake;
-  epoch = stands.epoch;
-  guards = stands.guards;
-  small = stands.small;
-  kept = kept_same s s from to refl refl more stands.kept;
-}
+later {f} {j} {s} {from} to more stands = search (arith, kept_same)
 
 -- ---- an act is begun without a line
 module _ (f : Profile) (text : List ℕ) (old : Judge) (from : Cursor) (act : Act) (within : IsWithin text from) where
@@ -65,17 +54,7 @@ module _ (f : Profile) (text : List ℕ) (old : Judge) (from : Cursor) (act : Ac
 module _ (f : Profile) (text : List ℕ) (judge : Judge) (from to : Cursor) (within : IsWithin text from) (is : Bool) where
   same_judge : (s t : Stand) → t.events ≡ s.events → t.names ≡ s.names → ((k : ℕ) → t.logs k ≡ s.logs k) → ((k : ℕ) → t.idle_since k ≡ s.idle_since k)
       → t.epoch ≡ s.epoch → t.guards ≡ s.guards → Stands f judge s from → Stands f judge t from
-  same_judge s t events names logs idle epoch guards stands = record {
-    profile = stands.profile;
-    events = subst (λ es. StandsFor judge.machine es) (sym events) stands.events;
-    names = λ n. ap (λ ns. standing_for ns n) names ∙ stands.names n;
-    logs = λ k held. logs k ∙ stands.logs k held;
-    awake = λ k held. idle k ∙ stands.awake k held;
-    epoch = epoch ∙ stands.epoch;
-    guards = guards ∙ stands.guards;
-    small = stands.small;
-    kept = kept_same t s from from events epoch (omega arith) stands.kept;
-  }
+  same_judge s t events names logs idle epoch guards stands = search (arith, kept_same)
 
   pub phase_marked : (n : ℕ) → ((s : Stand) (more : List Due) → s.due ≡ Writes (Record.Phase n) ∷ more → IsLed f text s from (with_due s more) to is)
       → ActTaken f text judge from judge to (MarksPhase n) is
@@ -105,7 +84,7 @@ ticked f text old from to within e n greater few is led = act_of_line f text old
         epoch = same;
         guards = stands.guards;
         small = few;
-        kept = record { few = stands.kept.few; kinds = stands.kept.kinds; ends = λ page. (let low = stands.kept.ends page in omega (arith, low)) };
+        kept = record { few = stands.kept.few; kinds = stands.kept.kinds; ends = λ page. (omega (arith, stands.kept.ends page)) };
       },
     )) is led
 
@@ -131,19 +110,12 @@ woken f text old new at within k held machine names logs epoch guards awake = ac
     ))
   where
     here : (s : Stand) (j : ℕ) → s.epoch ≡ old.epoch → j ≡ k → with_at s.idle_since k s.epoch j ≡ get_or new.awake.items j 0
-    here s j same is =
-        let t : (j == k) ≡ true = eq-eqb j k is in
-        ap (λ (x : Bool). if x then s.epoch else s.idle_since j) t ∙ same ∙ sym (get_or-set_same old.awake.items k old.epoch 0 held)
-        ∙ (λ i. get_or (sym awake i) (sym is i) 0)
+    here s j same is = search (arith, eq-eqb, get_or-set_same)
 
     idle : (s : Stand) → Stands f old s at → (j : ℕ) → j < length new.awake.items → with_at s.idle_since k s.epoch j ≡ get_or new.awake.items j 0
     idle s stands j has = elim (cases_eq j k) [
       | inl is ↦ here s j stands.epoch is
-      | inr other ↦
-          let t : (j == k) ≡ false = ne_eqb j k other in
-          let long : length new.awake.items ≡ length old.awake.items = ap length awake ∙ length-set old.awake.items k old.epoch in
-          ap (λ (x : Bool). if x then s.epoch else s.idle_since j) t ∙ stands.awake j (omega (arith, has, long)) ∙ sym (get_or-set_other old.awake.items k j old.epoch 0 other)
-          ∙ ap (λ xs. get_or xs j 0) (sym awake)
+      | inr other ↦ search (arith, ne_eqb, length-set, get_or-set_other)
     ]
 
 -- ---- a log is emptied
@@ -156,9 +128,7 @@ module _ (f : Profile) (text : List ℕ) (old : Judge) (from to : Cursor) (k : �
 
   pub log_amiss : (machine : Machine) → EntriesTaken old.machine machine text from to k (logged old.logs k) [] old.epoch false → (new : Judge)
       → LogEmptied f text old from new to k log false
-  log_amiss machine entries new = λ s more ts stands.
-      subst (λ g. Fails g text (emptying s k log more ts) from to.lines) stands.profile
-      (entries (emptying s k log more ts) more stands.events stands.epoch (begun_kept s more ts stands) (begun_due s more ts stands))
+  log_amiss machine entries new = search (arith, begun_kept, begun_due)
 
   pub log_emptied : (machine : Machine) (logs : Logs) → profile_of machine ≡ profile_of old.machine → logged logs k ≡ log
       → ((j : ℕ) → j ≢ k → logged logs j ≡ logged old.logs j) → logs_held logs ≡ logs_held old.logs
@@ -171,41 +141,18 @@ module _ (f : Profile) (text : List ℕ) (old : Judge) (from to : Cursor) (k : �
       let is : t ≡ record b { events = t.events; due = more } = end.2 in (
         t,
         subst (λ g. Leads g text b from t to) stands.profile end.1,
-        record {
-          profile = profile ∙ stands.profile;
-          events = end.3;
-          names = λ n. ap (λ (u : Stand). standing_for u.names n) is ∙ stands.names n;
-          logs = λ j has. ap (λ (u : Stand). u.logs j) is ∙ log_at s stands j (subst (λ m. j < m) count has);
-          awake = λ j has. ap (λ (u : Stand). u.idle_since j) is ∙ stands.awake j has;
-          epoch = ap (λ (u : Stand). u.epoch) is ∙ stands.epoch;
-          guards = ap (λ (u : Stand). u.guards) is ∙ stands.guards;
-          small = stands.small;
-          kept = end.4;
-        },
+        search arith,
         ap (λ (u : Stand). u.due) is,
         ap (λ (u : Stand). u.left) is,
       )
     where
       log_at : (s : Stand) → Stands f old s from → (j : ℕ) → j < logs_held old.logs → with_at s.logs k log j ≡ logged logs j
-      log_at s stands j has = elim (cases_eq j k) [
-        | inl is ↦ (let t : (j == k) ≡ true = eq-eqb j k is in ap (λ (x : Bool). if x then log else s.logs j) t ∙ sym cleared ∙ ap (logged logs) (sym is))
-        | inr other ↦ (let t : (j == k) ≡ false = ne_eqb j k other in ap (λ (x : Bool). if x then log else s.logs j) t ∙ stands.logs j has ∙ sym (others j other))
-      ]
+      log_at s stands j has = search (arith, cases_eq, eq-eqb, ne_eqb)
 
 -- ---- acts that empty a log
 -- another list of what is due
 with_other_due : {f : Profile} {j : Judge} {s : Stand} {at : Cursor} (more : List Due) → Stands f j s at → Stands f j (with_due s more) at
-with_other_due {f} {j} {s} {at} more stands = record {
-  profile = stands.profile;
-  events = stands.events;
-  names = stands.names;
-  logs = stands.logs;
-  awake = stands.awake;
-  epoch = stands.epoch;
-  guards = stands.guards;
-  small = stands.small;
-  kept = kept_same (with_due s more) s at at refl refl (omega arith) stands.kept;
-}
+with_other_due {f} {j} {s} {at} more stands = search (arith, kept_same)
 
 module _ (f : Profile) (text : List ℕ) (old new : Judge) (from to : Cursor) (k : ℕ) (within : IsWithin text from) where
   -- a flush, a stop, a thread's end, and a free where the log is full
@@ -271,46 +218,18 @@ module _ (f : Profile) (text : List ℕ) (old : Judge) (from : Cursor) (k : ℕ)
       let t : Stand = record (logging false s k entry more) { left = ts } in (
         t,
         subst (λ (u : Stand). Leads f text u from t from) (logging_is false room s more ts stands) (leads_nowhere f text t from within),
-        record {
-          profile = stands.profile;
-          events = stands.events;
-          names = stands.names;
-          logs = λ j has. log_at s stands j (subst (λ m. j < m) count has);
-          awake = stands.awake;
-          epoch = stands.epoch;
-          guards = stands.guards;
-          small = stands.small;
-          kept = kept_same t s from from refl refl (omega arith) stands.kept;
-        },
+        search (arith, kept_same),
         refl,
         refl,
       )
     where
       log_at : (s : Stand) → Stands f old s from → (j : ℕ) → j < logs_held old.logs → with_at s.logs k (s.logs k ++ entry ∷ []) j ≡ logged logs j
-      log_at s stands j has = elim (cases_eq j k) [
-        | inl is ↦
-            let t : (j == k) ≡ true = eq-eqb j k is in
-            ap (λ (x : Bool). if x then s.logs k ++ entry ∷ [] else s.logs j) t ∙ ap (λ (log : List Entry). log ++ entry ∷ []) (stands.logs k held)
-            ∙ sym added ∙ ap (logged logs) (sym is)
-        | inr other ↦
-            let t : (j == k) ≡ false = ne_eqb j k other in
-            ap (λ (x : Bool). if x then s.logs k ++ entry ∷ [] else s.logs j) t ∙ stands.logs j has ∙ sym (others j other)
-      ]
+      log_at s stands j has = search (arith, cases_eq, eq-eqb, ne_eqb)
 
 -- ---- an act that begins nothing
 -- the same tables stand for another list of what is due and left
 other_plan : {f : Profile} {j : Judge} {s : Stand} {at : Cursor} (due : List Due) (left : List Task) → Stands f j s at → Stands f j (record s { due = due; left = left }) at
-other_plan {f} {j} {s} {at} due left stands = record {
-  profile = stands.profile;
-  events = stands.events;
-  names = stands.names;
-  logs = stands.logs;
-  awake = stands.awake;
-  epoch = stands.epoch;
-  guards = stands.guards;
-  small = stands.small;
-  kept = kept_same (record s { due = due; left = left }) s at at refl refl (omega arith) stands.kept;
-}
+other_plan {f} {j} {s} {at} due left stands = search (arith, kept_same)
 
 module _ (f : Profile) (text : List ℕ) (old : Judge) (from : Cursor) (act : Act) (within : IsWithin text from) where
   pub nothing_begun : ((s : Stand) → Stands f old s from → begun_act f s act ≡ s) → ActTaken f text old from old from act true
@@ -329,16 +248,11 @@ not_idle f text old from k n within busy = nothing_begun f text old from (StopsI
 -- whether it is
 pub idle_long : (f : Profile) (j : Judge) (s : Stand) (at : Cursor) (k n since : ℕ) → Stands f j s at → k < length j.awake.items
     → since ≡ get_or j.awake.items k 0 → since + n ≤ j.epoch → nat_le (s.idle_since k + n) s.epoch ≡ true
-idle_long f j s at k n since stands held is long =
-    let same = stands.awake k held in
-    le-leb (s.idle_since k + n) s.epoch (omega (arith, same, stands.epoch, is, long))
+idle_long f j s at k n since stands held is long = search (arith, le-leb)
 
 pub idle_short : (f : Profile) (j : Judge) (s : Stand) (at : Cursor) (k n since : ℕ) → Stands f j s at → k < length j.awake.items
     → since ≡ get_or j.awake.items k 0 → j.epoch < since + n → nat_le (s.idle_since k + n) s.epoch ≡ false
-idle_short f j s at k n since stands held is short =
-    let same = stands.awake k held in
-    let low : s.epoch < s.idle_since k + n = omega (arith, same, stands.epoch, is, short) in
-    lt-leb (s.idle_since k + n) s.epoch low
+idle_short f j s at k n since stands held is short = search (arith, lt-leb)
 
 -- ---- a pass
 module _ (f : Profile) (text : List ℕ) (old : Judge) (from : Cursor) (within : IsWithin text from) where
@@ -362,30 +276,13 @@ module _ (f : Profile) (text : List ℕ) (old : Judge) (from : Cursor) (within :
       let first = led b (Examines 0 ∷ []) (pass_due s ts next) in
       let count : from.lines ≤ mid.lines = (omega (arith, first.count)) in
       let follows : IsFollowed f u = record { fits = followed.fits; no_pass = followed.no_pass; events = followed.events; epoch = followed.epoch } in
-      let there : IsExamining old.machine u mid 0 old.epoch = record {
-        stands = stands.events;
-        kept = kept_same u s from mid refl refl count stands.kept;
-        epoch = stands.epoch;
-        small = stands.small;
-        due = refl;
-        followed = subst (λ g. IsFollowed g u) (sym stands.profile) follows;
-      } in
+      let there : IsExamining old.machine u mid 0 old.epoch = search (arith, kept_same) in
       let end = outcomes u there in
       let t = end.0 in
       let is : t ≡ record u { events = t.events; due = [] } = end.2 in (
         t,
         leads_on (begins f text old from MakesPass within s ts next) (leads_on first (subst (λ g. Leads g text u mid t to) stands.profile end.1)),
-        record {
-          profile = profile ∙ stands.profile;
-          events = end.3;
-          names = λ n. ap (λ (v : Stand). standing_for v.names n) is ∙ stands.names n;
-          logs = λ j has. ap (λ (v : Stand). v.logs j) is ∙ stands.logs j has;
-          awake = λ j has. ap (λ (v : Stand). v.idle_since j) is ∙ stands.awake j has;
-          epoch = ap (λ (v : Stand). v.epoch) is ∙ stands.epoch;
-          guards = ap (λ (v : Stand). v.guards) is ∙ stands.guards;
-          small = stands.small;
-          kept = end.4;
-        },
+        search arith,
         ap (λ (v : Stand). v.due) is,
         ap (λ (v : Stand). v.left) is,
       )
@@ -417,24 +314,12 @@ module _ (f : Profile) (text : List ℕ) (old : Judge) (from to : Cursor) (k : �
   asking_is : (s : Stand) (ts : List Task) → Stands f old s from → after_task f s (Does act) ts ≡ asking s ts
   asking_is s ts stands = ap (λ (u : Stand). record u { left = ts }) (asks s stands)
 
+  -- the request has the fields of w, whose bounds are given
   request_fits : FitsRequest f k r
-  request_fits = record {
-    actor = few;
-    name = (omega (arith, wants.name, low));
-    heap = (let e : r.heap ≡ w.directory.heap = ap (λ (d : Directory). d.heap) wants.directory in omega (arith, e, heap));
-    kind = subst (λ (d : Directory). IsKind d.kind) (sym wants.directory) kind;
-    room = (omega (arith, wants.room, room));
-  }
+  request_fits = search arith
 
   asked_there : (s : Stand) (ts : List Task) → Stands f old s from → IsAsked old.machine (asking s ts) from k w r replaced []
-  asked_there s ts stands = record {
-    wants = subst (λ g. IsWanted g r w) (sym stands.profile) wants;
-    stands = stands.events;
-    kept = kept_same (asking s ts) s from from refl refl (omega arith) stands.kept;
-    fits = subst (λ g. FitsRequest g k r) (sym stands.profile) request_fits;
-    epoch = (omega (arith, stands.epoch, stands.small));
-    due = refl;
-  }
+  asked_there s ts stands = search (arith, kept_same, request_fits)
 
   pub request_amiss : (machine : Machine) (new : Judge) → RequestTaken old.machine machine text from to k w None → ActTaken f text old from new to act false
   request_amiss machine new taken = λ s ts next.
@@ -457,17 +342,7 @@ module _ (f : Profile) (text : List ℕ) (old : Judge) (from to : Cursor) (k : �
           leads_on (begins f text old from act within s ts next)
               (subst (λ (u : Stand). Leads f text u from (after_request (record (asking s ts) { events = es }) k r replaced found []) to) (sym (asking_is s ts stands))
               (subst (λ g. Leads g text (asking s ts) from (after_request (record (asking s ts) { events = es }) k r replaced found []) to) stands.profile end.1)),
-          record {
-            profile = profile ∙ stands.profile;
-            events = end.2;
-            names = λ n. (λ i. if wants.name i == n then Some found else stands.names n i) ∙ sym (sets n);
-            logs = stands.logs;
-            awake = stands.awake;
-            epoch = stands.epoch;
-            guards = stands.guards;
-            small = stands.small;
-            kept = kept_same (named_there s ts es) (record (asking s ts) { events = es }) to to refl refl (omega arith) end.3;
-          },
+          search (arith, kept_same),
         )
 
     -- nothing is replaced
@@ -494,15 +369,10 @@ module _ (f : Profile) (text : List ℕ) (old : Judge) (from to : Cursor) (k : �
 
 -- ---- a free
 is_outside : (f g : Profile) (page : ℕ) → g ≡ f → (IsPage g page → ⊥) → is_page f page ≡ false
-is_outside f g page same none = false_from_ne_true (is_page f page)
-    (λ is.
-    let both = and_parts (nat_le 1 page) (nat_le page f.pages) is in
-    none (subst (λ h. IsPage h page) (sym same) (leb-true 1 page both.0, leb-true page f.pages both.1)))
+is_outside f g page same none = search (arith, false_from_ne_true, and_parts, leb-true)
 
 is_inside : (f g : Profile) (page : ℕ) → g ≡ f → IsPage g page → is_page f page ≡ true
-is_inside f g page same is =
-    let here = subst (λ h. IsPage h page) same is in
-    and_from (nat_le 1 page) (nat_le page f.pages) (le-leb 1 page here.0) (le-leb page f.pages here.1)
+is_inside f g page same is = search (arith, and_from, le-leb)
 
 module _ (f : Profile) (text : List ℕ) (old : Judge) (from : Cursor) (k : ℕ) (within : IsWithin text from) (act : Act) where
   -- it is said, and not logged
@@ -522,8 +392,7 @@ module _ (f : Profile) (text : List ℕ) (old : Judge) (from : Cursor) (k : ℕ)
       → ActTaken f text old from old to act is
   freed_outside none to is led =
       spoken f text old from k within act (Said.Outside entry.name)
-      (λ s stands. frees s stands ∙ ap (λ (x : Bool). freeing_at x (is_aligned entry.name) s k entry)
-      (is_outside f (profile_of old.machine) (address_of entry.name / 4096) stands.profile none)) to is led
+      (λ s stands. cc (frees s stands, is_outside f (profile_of old.machine) (address_of entry.name / 4096) stands.profile none)) to is led
 
   module _ (inside : IsPage (profile_of old.machine) (address_of entry.name / 4096)) where
     pub freed_unaligned : address_of entry.name % 16 ≢ 0 → (to : Cursor) (is : Bool)
@@ -536,9 +405,7 @@ module _ (f : Profile) (text : List ℕ) (old : Judge) (from : Cursor) (k : ℕ)
 
     module _ (even : address_of entry.name % 16 ≡ 0) where
       logs_it : (s : Stand) → Stands f old s from → begun_act f s act ≡ logging (is_full s k) s k entry []
-      logs_it s stands =
-          frees s stands ∙ (λ i. freeing_at (is_inside f (profile_of old.machine) (address_of entry.name / 4096) stands.profile inside i)
-          (eq-eqb (address_of entry.name % 16) 0 even i) s k entry)
+      logs_it s stands = search (arith, is_inside, eq-eqb)
 
       -- its entry is logged
       pub freed_logged : (new : Judge) (to : Cursor) (is : Bool) → EntryLogged f text old from new to k entry is → ActTaken f text old from new to act is
@@ -596,10 +463,7 @@ suits_it block size align is =
     and_from (nat_le (max size 1) block.room) (address_of block.name % align == 0) (le-leb (max size 1) block.room is.0) (eq-eqb (address_of block.name % align) 0 is.1)
 
 suits_not : (block : Block) (size align : ℕ) → (IsSuited block size align → ⊥) → suits block size align ≡ false
-suits_not block size align never = false_from_ne_true (suits block size align)
-    (λ is.
-    let both = and_parts (nat_le (max size 1) block.room) (address_of block.name % align == 0) is in
-    never (leb-true (max size 1) block.room both.0, eqb-true (address_of block.name % align) 0 both.1))
+suits_not block size align never = search (arith, false_from_ne_true, and_parts, leb-true, eqb-true)
 
 module _ (f : Profile) (text : List ℕ) (old : Judge) (from : Cursor) (k name size align : ℕ) (within : IsWithin text from) (act : Act) where
   -- the block is kept, or another one is asked for in its place

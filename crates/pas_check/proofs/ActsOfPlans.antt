@@ -1,14 +1,13 @@
 -- The numbers of a plan's acts fit their places.
-use Rattle.std.proofs.Common.{◌≡◌, ◌≢◌, Option, None, Some, ℕ, zero, suc, ◌+◌, ◌*◌, ◌^◌, ◌<◌, ◌≤◌, Bool, true, false, cond, List, [], ◌∷◌, ◌++◌, map, max}
-use Rattle.std.proofs.Common.{length, refl, sym, subst, arith, MatchOption}
+use Rattle.std.proofs.Common.{◌≡◌, ◌≢◌, Option, None, Some, ℕ, zero, suc, ◌+◌, ◌*◌, ◌^◌, ◌<◌, ◌≤◌, Bool, true, false, cond, List, [], ◌∷◌, ◌++◌, map, length}
+use Rattle.std.proofs.Common.{refl, subst, arith, MatchOption}
 use Rattle.std.specs.List.{AllByRecursion, filter}
-use Rattle.pas_profile.specs.{Directories.IsKind, Profiles.IsAdmitted, Profiles.IsValid, Requests.is_shared, Requests.kind_of_route, Requests.route_in}
-use Rattle.pas_profile.specs.{Routes.IsRouteOf, Routes.room_by}
+use Rattle.pas_profile.specs.{Directories.IsKind, Profiles.IsAdmitted, Profiles.IsValid, Requests.kind_of_route, Routes.IsRouteOf, Routes.room_by}
 use Rattle.pas_profile.specs.declared.{directory.Route.Route, directory.Route.TheVariants.Class, directory.Route.TheVariants.Bitfit}
 use Rattle.pas_profile.specs.declared.{directory.Route.TheVariants.Large, profile.Profile.Profile}
 use Rattle.pas_profile.proofs.{ClassFacts.class_known, ClassFacts.route_is, Sizes.class_size_le}
-use Rattle.pas_trace.specs.Acts.{Act, StopsIdle, Wakes, Ends, Lowers, act_kept, is_active, numbers_from, acts_from, acts_of, acts_of_chore, acts_of_op}
-use Rattle.pas_trace.specs.Acts.{acts_of_ops, acts_of_work, active_threads, close_acts, idle_threads, phase_acts, threads_where}
+use Rattle.pas_trace.specs.Acts.{Act, StopsIdle, Ends, Lowers, act_kept, numbers_from, acts_from, acts_of, acts_of_chore, acts_of_op, acts_of_ops, acts_of_work}
+use Rattle.pas_trace.specs.Acts.{close_acts, phase_acts, threads_where}
 use Rattle.pas_trace.specs.Asked.{epoch_of, keeper_in, keeper_of, of_task, request_of, work_of}
 use Rattle.pas_trace.specs.EveryPlan.{AreBelow, AreKept, AreSound, IsActorBy, IsSoundWork, IsSoundTask, all_ops, asked_after}
 use Rattle.pas_trace.specs.declared.plan.{Chore.Chore, Op.Op, Task.Task, Work.Work}
@@ -23,24 +22,15 @@ kind_routed shared classes size align Bitfit is = tt
 kind_routed shared classes size align Large is = tt
 
 room_small : (route : Route) (size : ℕ) → size ≤ 2 ^ 26 → room_by route size < 2 ^ 32
-room_small (Class class) size few = let small = class_size_le class in omega (arith, small)
+room_small (Class class) size few = omega (arith, class_size_le class)
 room_small Bitfit size few = omega (arith, few)
 room_small Large size few = omega (arith, few)
 
 request_fits : (f : Profile) (k name heap size align : ℕ) → IsValid f → size ≤ f.pages * 4096 → k < 2 ^ 8 → name < 2 ^ 32 → heap < 32 → FitsRequest f k (asked_for name heap size align)
-request_fits f k name heap size align valid within few low one = record {
-  actor = few;
-  name = low;
-  heap = omega (arith, one);
-  kind = kind_routed (is_shared f heap) f.classes size align (route_in f size align) (route_is f.classes size align);
-  room = (room_small (route_in f size align) (max size 1) (omega (arith, within, valid.pages)));
-}
+request_fits f k name heap size align valid within few low one = search (arith, kind_routed, route_is, room_small)
 
 heaps_fit : (f : Profile) (k name heap size align : ℕ) → IsValid f → IsAdmitted f size align heap → k < 2 ^ 8 → name < 2 ^ 32 → FitsHeaps f k (asked_for name heap size align)
-heaps_fit f k name heap size align valid may few low = (
-  (omega (arith, may.of_profile, valid.heaps)),
-  λ other one. request_fits f k name other size align valid may.within few low one,
-)
+heaps_fit f k name heap size align valid may few low = search (arith, request_fits)
 
 -- ---- lists of acts
 all_both : (f : Profile) (xs ys : List Act) → AllFit f xs → AllFit f ys → AllFit f (xs ++ ys)
@@ -116,19 +106,7 @@ module _ (f : Profile) (limit : ℕ) (valid : IsValid f) (few : limit ≤ 2 ^ 32
       (thread, fits, (omega (arith, kept.0), kept.1), λ same. absurd (omega (arith, kept.0, same)))
 
   work_fits : (idle : List ℕ) (op : Op) (work : Work) → AreThreads idle → work_of op.what ≡ work → IsPlanned f limit op → AllFit f (acts_of_work idle op work)
-  work_fits idle op (Work.Own task) all is planned =
-      let actor : IsActorBy f (Work.Own task) op.actor = subst (λ (w : Work). IsActorBy f w op.actor) is planned.actor in
-      let some : 1 ≤ op.actor = actor.0 in
-      let last : op.actor ≤ f.threads = actor.1 in
-      let small : op.actor < 2 ^ 8 = omega (arith, last, valid.threads) in
-      let below : MatchOption (request_of task) (Unit {0}) (λ r. r.name < limit) =
-      subst (λ (w : Work). MatchOption (of_task request_of w) (Unit {0}) (λ r. r.name < limit)) is planned.named in
-      let sound : IsSoundTask f planned.sound.0 task = subst (IsSoundWork f planned.sound.0) is planned.sound.1 in
-      let fits : FitsWhat f op.actor op.what = subst (λ (w : Work). MatchOption (of_task request_of w) (Unit {0}) (FitsHeaps f op.actor)) (sym is)
-      (task_fits op.actor planned.sound.0 task small below sound) in
-      let kept : MatchOption (keeper_of task) (Unit {0}) (λ keeper. (op.actor < keeper) × (keeper < 2 ^ 8)) =
-      subst (λ (w : Work). MatchOption (of_task keeper_of w) (Unit {0}) (λ keeper. (op.actor < keeper) × (keeper < 2 ^ 8))) is planned.kept in
-      (kept_fits op (keeper_of task) (some, small) fits kept, (tt, tt))
+  work_fits idle op (Work.Own task) all is planned = search (arith, task_fits, kept_fits)
   work_fits idle op (Work.Chore chore) all is planned = chore_fits idle chore all (subst (IsSoundWork f planned.sound.0) is planned.sound.1)
 
   ops_fit : (idle : List ℕ) → AreThreads idle → (ops : List Op) → ArePlanned f limit ops → AllFit f (acts_of_ops idle ops)
@@ -137,10 +115,7 @@ module _ (f : Profile) (limit : ℕ) (valid : IsValid f) (few : limit ≤ 2 ^ 32
       all_both f (acts_of_op idle op) (acts_of_ops idle ops) (work_fits idle op (work_of op.what) all refl planned.0) (ops_fit idle all ops planned.1)
 
   phase_fits : (ops : List Op) → ArePlanned f limit ops → AllFit f (phase_acts f.threads ops)
-  phase_fits ops planned =
-      all_both f (map Wakes (active_threads f.threads ops)) (acts_of_ops (idle_threads f.threads ops) ops)
-      (all_made f Wakes (λ k is. tt) (active_threads f.threads ops) (threads_are (is_active ops)))
-      (ops_fit (idle_threads f.threads ops) (threads_are _) ops planned)
+  phase_fits ops planned = search (arith, all_both, all_made, threads_are, ops_fit)
 
   close_fits : AllFit f (close_acts f.threads keepers)
   close_fits =

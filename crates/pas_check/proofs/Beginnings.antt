@@ -1,5 +1,6 @@
 -- A task is begun without a line: what may come then is what might before.
-use Rattle.std.proofs.Common.{◌≡◌, ℕ, ◌+◌, ◌/◌, nat_le, Bool, true, false, List, [], ◌∷◌, ◌++◌, map, Option, None, Some, inl, inr, refl, ap, sym, subst, ◌∙◌}
+use Rattle.std.proofs.Common.{arith, ◌≡◌, ℕ, ◌+◌, ◌/◌, nat_le, Bool, true, false, List, [], ◌∷◌, ◌++◌, map, Option, None, Some, inl, inr, refl, ap, sym, subst}
+use Rattle.std.proofs.Common.{◌∙◌}
 use Rattle.std.specs.List.{filter}
 use Rattle.pas_profile.specs.Blocks.{address_of}
 use Rattle.pas_profile.specs.declared.{name.Block.Block, profile.Profile.Profile}
@@ -103,9 +104,7 @@ module _ (f : Profile) (s : Stand) (t : Task) (ts : List Task) (due : s.due ≡ 
   no_pass_then = begins_no_pass f s t no_pass_before
 
   same_ready : ready f s ≡ ready f (after_task f s t ts)
-  same_ready =
-      ap (λ ds. ready_with f s (past_outcomes ds)) due ∙ (λ i. begun_from f (with_due s (sym due i)) (left i))
-      ∙ settles f (after_task f s t ts) (after_task f s t ts).due refl no_pass_then
+  same_ready = search (arith, settles, no_pass_then)
 
   -- THE BEGINNING of a task
   pub begun_alike : AreAlike f s (after_task f s t ts)

@@ -17,8 +17,7 @@ so_far_as {f} {text} {first} {judge} {at} {acts} {others} is so = subst (λ (al 
 module _ (text : List ℕ) (old new : Judge) (from to : Cursor) where
   pub taken_as : (taken : Bool) (acts others left rest : List Act) → acts ≡ others → left ≡ rest → TakenTo text old from new to acts left taken
       → TakenTo text old from new to others rest taken
-  taken_as taken acts others left rest is same done = subst (λ (al : List Act). TakenTo text old from new to al rest taken) is
-      (subst (λ (al : List Act). TakenTo text old from new to acts al taken) same done)
+  taken_as taken acts others left rest is same done = rw (same, is) at done
 
   -- one act
   pub act_taken : (act : Act) (taken : Bool) → ((f : Profile) → ActTaken f text old from new to act taken) → ActsTaken text old from new to (act ∷ []) taken
@@ -59,14 +58,9 @@ pub then_taken : (text : List ℕ) (old mid new : Judge) (from at to : Cursor) (
 then_taken text old mid new from at to all there acts rest taken is far done =
     taken_on text old mid new from at to all (acts ++ rest) rest taken (taken_as text old mid from at true all all there (acts ++ rest) refl is far) (done rest)
 
--- as much room as before
+-- as much room as before: each table has as many as the one in between
 pub sized_on : {old mid new : Judge} → IsSizedAs old mid → IsSizedAs mid new → IsSizedAs old new
-sized_on {old} {mid} {new} one two = record {
-  profile = two.profile ∙ one.profile;
-  logs = two.logs ∙ one.logs;
-  awake = two.awake ∙ one.awake;
-  names = two.names ∙ one.names;
-}
+sized_on {old} {mid} {new} one two = search arith
 
 pub none_taken : (text : List ℕ) (judge : Judge) (at : Cursor) → ActsTaken text judge at judge at [] true
 none_taken text judge at = λ more. nothing_taken text judge at more
@@ -75,9 +69,6 @@ none_taken text judge at = λ more. nothing_taken text judge at more
 pub chosen_alone : (chosen : ℕ → Bool) (k : ℕ) (on : Bool) → chosen k ≡ on → filter chosen (k ∷ []) ≡ (if on then k ∷ [] else [])
 chosen_alone chosen k on is = ap (λ (b : Bool). if b then k ∷ [] else []) is
 
+-- the counts are the same, and so the bounds
 pub sized_as_before : {old new : Judge} → IsSizedAs old new → IsSized old → IsSized new
-sized_as_before {old} {new} same sized =
-    let logs = same.logs in
-    let awake = same.awake in
-    let threads = ap (λ (f : Profile). f.threads) same.profile in
-    record { logs = omega (arith, logs, sized.logs, threads); awake = omega (arith, awake, sized.awake, threads) }
+sized_as_before {old} {new} same sized = search arith

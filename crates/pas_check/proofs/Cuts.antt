@@ -2,7 +2,7 @@
 use Rattle.std.proofs.Common.{◌≡◌, ℕ, zero, suc, ◌+◌, ◌/◌, ◌%◌, ◌^◌, ◌<◌, ◌==◌, Bool, true, false, if◌then◌else◌, List, [], ◌∷◌, ◌++◌, map, codes, refl, ap}
 use Rattle.std.proofs.Common.{sym, ◌∙◌, arith, append_assoc, inl, inr, length, take, drop, eq-eqb, ne_eqb, take-append-drop, drop-drop}
 use Rattle.std.specs.Fmt.{decimal, digits, digits_onto, digit_glyph}
-use Rattle.std.proofs.lemmas.Bool.{false≢true, cases_eq, Decides.nat_tests}
+use Rattle.std.proofs.lemmas.Bool.{false_from_ne_true, false≢true, cases_eq, Decides.nat_tests}
 use Rattle.std.specs.List.{concat}
 use Rattle.memchr.specs.Find.{Nowhere, Passes, is_byte}
 use Rattle.pas_profile.specs.{Classes.class_size, Blocks.address_of}
@@ -22,9 +22,7 @@ pub cut_line : (line rest : List ℕ) → is_line line ≡ true → lines_in (li
 cut_line [] rest h = absurd (false≢true h)
 cut_line (b ∷ bs) rest h = elim (cases_eq b 10) [
   | inl e ↦
-      let t : (b == 10) ≡ true = eq-eqb b 10 e in
-      let last : is_nothing bs ≡ true = sym (ap (λ (x : Bool). if x then is_nothing bs else is_line bs) t) ∙ h in
-      ap (λ c. lines_in (c ∷ (bs ++ rest))) e ∙ cut_at b bs rest last ∙ ap (λ c. (c ∷ bs) ∷ lines_in rest) (sym e)
+      search (arith, eq-eqb, cut_at)
   | inr ne ↦
       let t : (b == 10) ≡ false = ne_eqb b 10 ne in
       let more : is_line bs ≡ true = sym (ap (λ (x : Bool). if x then is_nothing bs else is_line bs) t) ∙ h in
@@ -69,13 +67,10 @@ kind_first Kind.Large rest = refl
 -- ---- the line of a record
 event_line : (e : Event) → is_line (line_of_event e) ≡ true
 event_line (Event.Deed k page d) =
-    number_first k (codes " deed page " ++ (decimal page ++ (codes " heap " ++ (decimal d.heap ++ (codes " " ++ (kind_text d.kind ++ codes "\n"))))))
-    ∙ number_first page (codes " heap " ++ (decimal d.heap ++ (codes " " ++ (kind_text d.kind ++ codes "\n"))))
-    ∙ number_first d.heap (codes " " ++ (kind_text d.kind ++ codes "\n")) ∙ kind_first d.kind (codes "\n")
+    simp (number_first, kind_first)
 event_line (Event.Back k page) = number_first k (codes " back page " ++ (decimal page ++ codes "\n")) ∙ number_first page (codes "\n")
 event_line (Event.Unback k page epoch) =
-    number_first k (codes " unback page " ++ (decimal page ++ (codes " epoch " ++ (decimal epoch ++ codes "\n"))))
-    ∙ number_first page (codes " epoch " ++ (decimal epoch ++ codes "\n")) ∙ number_first epoch (codes "\n")
+    simp number_first
 event_line (Event.Give k block) =
     number_first k (codes " give" ++ (name_text block.name ++ (codes " room " ++ (decimal block.room ++ (codes " heap " ++ (decimal block.heap ++ codes "\n"))))))
     ∙ name_first block.name (codes " room " ++ (decimal block.room ++ (codes " heap " ++ (decimal block.heap ++ codes "\n"))))
@@ -95,8 +90,7 @@ numbered k words n passes = number_first k (words ++ (decimal n ++ codes "\n")) 
 said_line : (k : ℕ) (said : Said) → is_line (line_of_answer k said) ≡ true
 said_line k (Said.NoSpace name) = numbered k (codes " no-space name ") name refl
 said_line k (Said.Held page name) =
-    number_first k (codes " held " ++ (decimal page ++ (codes " name " ++ (decimal name ++ codes "\n"))))
-    ∙ number_first page (codes " name " ++ (decimal name ++ codes "\n")) ∙ number_first name (codes "\n")
+    simp number_first
 said_line k (Said.Outside block) = number_first k (codes " outside" ++ (name_text block ++ codes "\n")) ∙ name_first block (codes "\n")
 said_line k (Said.Unaligned block) = number_first k (codes " unaligned" ++ (name_text block ++ codes "\n")) ∙ name_first block (codes "\n")
 said_line k (Said.Skipped name) = numbered k (codes " skipped name ") name refl
@@ -104,24 +98,18 @@ said_line k (Said.Tick epoch) = numbered k (codes " tick ") epoch refl
 said_line k (Said.Pass epoch) = numbered k (codes " pass ") epoch refl
 said_line k (Said.Bare page) = numbered k (codes " bare page ") page refl
 said_line k (Said.Young page stamp) =
-    number_first k (codes " young page " ++ (decimal page ++ (codes " stamp " ++ (decimal stamp ++ codes "\n"))))
-    ∙ number_first page (codes " stamp " ++ (decimal stamp ++ codes "\n")) ∙ number_first stamp (codes "\n")
+    simp number_first
 said_line k (Said.InUse page word value) =
-    number_first k (codes " in-use page " ++ (decimal page ++ (codes " word " ++ (decimal word ++ (codes " value 0x" ++ (hex_digits 16 value ++ codes "\n"))))))
-    ∙ number_first page (codes " word " ++ (decimal word ++ (codes " value 0x" ++ (hex_digits 16 value ++ codes "\n"))))
-    ∙ number_first word (codes " value 0x" ++ (hex_digits 16 value ++ codes "\n")) ∙ hex_first 16 value (codes "\n")
+    simp (number_first, hex_first)
 said_line k (Said.NotOffered page) = numbered k (codes " not-offered page ") page refl
 said_line k (Said.Stopped thread) = numbered k (codes " stopped ") thread refl
 said_line k (Said.Guarded low high name) =
-    number_first k (codes " guarded " ++ (decimal low ++ (codes " " ++ (decimal high ++ (codes " name " ++ (decimal name ++ codes "\n"))))))
-    ∙ number_first low (codes " " ++ (decimal high ++ (codes " name " ++ (decimal name ++ codes "\n"))))
-    ∙ number_first high (codes " name " ++ (decimal name ++ codes "\n")) ∙ number_first name (codes "\n")
+    simp number_first
 said_line k (Said.Kept block name) =
     number_first k (codes " kept" ++ (name_text block ++ (codes " name " ++ (decimal name ++ codes "\n"))))
     ∙ name_first block (codes " name " ++ (decimal name ++ codes "\n")) ∙ number_first name (codes "\n")
 said_line k (Said.Lowered low high) =
-    number_first k (codes " lowered " ++ (decimal low ++ (codes " " ++ (decimal high ++ codes "\n"))))
-    ∙ number_first low (codes " " ++ (decimal high ++ codes "\n")) ∙ number_first high (codes "\n")
+    simp number_first
 
 pub record_line : (r : Record) → is_line (line_of r) ≡ true
 record_line (Record.Event e) = event_line e
@@ -149,15 +137,11 @@ abbrev pub IsFront : List ℕ → Type 0
 IsFront xs = (rest : List ℕ) → is_line (xs ++ rest) ≡ is_line rest
 
 -- the bytes before the first newline
-not_newline : (t : Bool) → (t ≡ true → ⊥) → t ≡ false
-not_newline true never = absurd (never refl)
-not_newline false never = refl
-
 pub front_before : (text : List ℕ) (n : ℕ) → Nowhere (Passes (is_byte 10) text) 0 n → IsFront (take n text)
 front_before text zero none rest = refl
 front_before [] (suc n) none rest = refl
 front_before (b ∷ bs) (suc n) none rest =
-    let t : (b == 10) ≡ false = not_newline (b == 10) (none 0 (omega arith) (omega arith)) in
+    let t : (b == 10) ≡ false = false_from_ne_true (b == 10) (none 0 (omega arith) (omega arith)) in
     ap (λ (x : Bool). if x then is_nothing (take n bs ++ rest) else is_line (take n bs ++ rest)) t ∙ front_before bs n (λ k low high. none (suc k) (omega arith) (omega (arith, high))) rest
 
 pub front_ends : (xs : List ℕ) (b : ℕ) → IsFront xs → b ≡ 10 → is_line (xs ++ b ∷ []) ≡ true

@@ -56,12 +56,7 @@ hex_one d h = grind (arith, nat_tests)
 
 -- the last digits of n, after a value v: one digit, and then those below p
 joined : (v q a r p n rest all : ℕ) → q ≡ 16 * a + r → n ≡ p * q + rest → n ≡ 16 * (p * a) + all → (16 * v + r) * p + rest ≡ 16 * (v * p) + all
-joined v q a r p n rest all parts low high =
-    let one : p * q ≡ p * (16 * a) + p * r = ap (λ x. p * x) parts ∙ mul-add p (16 * a) r in
-    let two : p * (16 * a) ≡ 16 * (p * a) = mul_left_comm p 16 a in
-    let three : (16 * v + r) * p ≡ p * (16 * v) + p * r = mul_comm (16 * v + r) p ∙ mul-add p (16 * v) r in
-    let four : p * (16 * v) ≡ 16 * (v * p) = mul_left_comm p 16 v ∙ ap (λ x. 16 * x) (mul_comm p v) in
-    omega (arith, low, high, one, two, three, four)
+joined v q a r p n rest all parts low high = search (arith, mul-add, mul_left_comm, mul_comm)
 
 digits_join : (v n p : ℕ) → (16 * v + n / p % 16) * p + n % p ≡ 16 * (v * p) + n % (p * 16)
 digits_join v n p =
@@ -95,10 +90,7 @@ digits_grow v [] = omega arith
 digits_grow v (b ∷ bs) = grown (is_digit b) v (10 * v + (b - 48)) (digits_after (10 * v + (b - 48)) bs) (omega arith) (digits_grow (10 * v + (b - 48)) bs)
 
 pub too_large : (v b : ℕ) (bs : List ℕ) → 48 ≤ b → b ≤ 57 → 2 ^ 64 ≤ 10 * v + (b - 48) → small (2 ^ 64) (digits_after v (b ∷ bs)) ≡ 0
-too_large v b bs lo hi large =
-    let e = digit_more v b bs lo hi in
-    let grows = digits_grow (10 * v + (b - 48)) bs in
-    no_small (2 ^ 64) (digits_after v (b ∷ bs)) (omega (arith, e, grows, large))
+too_large v b bs lo hi large = search (arith, digit_more, digits_grow, no_small)
 
 -- ---- loops over hexadecimal digits
 pub hex_bound : (v d i : ℕ) → v < 16 ^ i → d < 16 → 16 * v + d < 16 ^ (i + 1)

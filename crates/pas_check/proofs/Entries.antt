@@ -65,10 +65,10 @@ module _ (f : Profile) (es : List Event) (run : Run f es) (entry : Entry) where
   gone none = subst (λ (o : Option Live). IsCounted o (gives_in es (address_of entry.name)) (ends_in es (address_of entry.name))) none (all_counted f es run (address_of entry.name))
 
   pub gone_ended : live_in es (address_of entry.name) ≡ None → entry.name.turn < gives_in es (address_of entry.name) → IsReason es entry.name Ended
-  gone_ended none turn = let same = gone none in omega (arith, same, turn)
+  gone_ended none turn = omega (arith, gone none, turn)
 
   pub never_there : live_in es (address_of entry.name) ≡ None → gives_in es (address_of entry.name) ≤ entry.name.turn → IsReason es entry.name NoBlock
-  never_there none turn = (let same = gone none in omega (arith, same, turn), λ live. none-some live.0 (sym none ∙ live.1))
+  never_there none turn = (omega (arith, gone none, turn), λ live. none-some live.0 (sym none ∙ live.1))
 
   module _ (b : Live) (is : live_in es (address_of entry.name) ≡ Some b) where
     pub counts : b.block.name.turn ≡ ends_in es (address_of entry.name)

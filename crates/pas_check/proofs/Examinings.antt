@@ -1,5 +1,5 @@
 -- Outcomes of a pass, taken or not.
-use Rattle.std.proofs.Common.{◌≡◌, ℕ, ◌<◌, ◌==◌, Bool, true, false, if◌then◌else◌, List, Option, Some, None, refl, ap, sym, subst, ◌∙◌, eqb-true, eq-eqb}
+use Rattle.std.proofs.Common.{arith, ◌≡◌, ℕ, ◌<◌, ◌==◌, Bool, true, false, if◌then◌else◌, List, Option, Some, None, refl, ap, sym, subst, ◌∙◌, eqb-true, eq-eqb}
 use Rattle.std.proofs.lemmas.Option.{none-some, same_Some}
 use Rattle.pas_profile.specs.Profiles.{IsPage}
 use Rattle.pas_profile.specs.declared.event.{Event.Event, Outcome.Outcome}
@@ -21,13 +21,7 @@ record_in epoch x = record_of epoch x.page x.outcome
 event_is : (epoch : ℕ) (e : Event) (x : Examined) → outcome_in_event epoch e ≡ Some x → Record.Event e ≡ record_in epoch x
 event_is epoch (Event.Deed k page d) x h = absurd (none-some x h)
 event_is epoch (Event.Back k page) x h = absurd (none-some x h)
-event_is epoch (Event.Unback k page read) x h =
-    let here : Examined = record { page = page; outcome = Unbacked } in
-    let first = if_some (k == 0) (if read == epoch then Some here else None) x h in
-    let second = if_some (read == epoch) (Some here) x first.1 in
-    let by_scavenger : k ≡ 0 = eqb-true k 0 first.0 in
-    let in_epoch : read ≡ epoch = eqb-true read epoch second.0 in
-    (λ i. Record.Event (Event.Unback (by_scavenger i) page (in_epoch i))) ∙ ap (record_in epoch) (same_Some here x second.1)
+event_is epoch (Event.Unback k page read) x h = search (arith, if_some, eqb-true, same_Some)
 event_is epoch (Event.Give k block) x h = absurd (none-some x h)
 event_is epoch (Event.End k name read) x h = absurd (none-some x h)
 event_is epoch (Event.Reject k name why) x h = absurd (none-some x h)
@@ -51,10 +45,7 @@ said_is epoch (Said.Lowered low high) x h = absurd (none-some x h)
 
 pub record_is : (epoch : ℕ) (r : Record) (x : Examined) → outcome_in epoch r ≡ Some x → r ≡ record_of epoch x.page x.outcome
 record_is epoch (Record.Event e) x h = event_is epoch e x h
-record_is epoch (Record.Said k said) x h =
-    let both = if_some (k == 0) (outcome_in_said said) x h in
-    let by_scavenger : k ≡ 0 = eqb-true k 0 both.0 in
-    ap (λ j. Record.Said j said) by_scavenger ∙ said_is epoch said x both.1
+record_is epoch (Record.Said k said) x h = search (arith, if_some, eqb-true, said_is)
 record_is epoch (Record.Phase n) x h = absurd (none-some x h)
 record_is epoch Record.Close x h = absurd (none-some x h)
 
@@ -71,21 +62,12 @@ module _ (old : Machine) (line : List ℕ) (last epoch : ℕ) where
   IsOnly found = (page : ℕ) (o : Outcome) → Fits (record_of epoch page o) → line ≡ line_of (record_of epoch page o) → found ≡ Some record { page = page; outcome = o }
 
   pub found_only : (item : Record) (read : Option Record) (found : Option Examined) → read ≡ Some item → ((r : Record) → Fits r → line ≡ line_of r → read ≡ Some r) → found ≡ outcome_in epoch item → IsOnly found
-  found_only item read found is only outcome page o fits has =
-      let same : item ≡ record_of epoch page o = same_Some item (record_of epoch page o) (sym is ∙ only (record_of epoch page o) fits has) in
-      outcome ∙ ap (outcome_in epoch) same ∙ outcome_is epoch page o
+  found_only item read found is only outcome page o fits has = search (arith, same_Some, outcome_is)
 
   outcome_refused : (new : Machine) → new ≡ old
       → ((p : ℕ) (o : Outcome) → last < p → IsPage (profile_of old) p → Fits (record_of epoch p o) → line ≡ line_of (record_of epoch p o)
       → (s : Stand) → StandsFor old s.events → s.epoch ≡ epoch → MayCome (profile_of old) s p o → ⊥) → OutcomeTaken old new last epoch line None
-  outcome_refused new kept none = (
-    kept,
-    λ s more next small stands same takes.
-        let p = takes.page in
-        let o = takes.outcome in
-        none p o takes.rises takes.of_region (subst (λ e. Fits (record_of e p o)) same (outcome_fits (profile_of old) s small p o takes.of_region takes.may))
-        (subst (λ e. line ≡ line_of (record_of e p o)) same takes.line_is) s stands same takes.may,
-  )
+  outcome_refused new kept none = search (arith, outcome_fits)
 
   -- no record has the line
   pub outcome_unread : ((r : Record) → Fits r → line ≡ line_of r → None ≡ Some r) → OutcomeTaken old old last epoch line None
@@ -97,10 +79,7 @@ module _ (old : Machine) (line : List ℕ) (last epoch : ℕ) where
 
   -- the outcome is of another page than one that may come
   pub outcome_amiss : (x : Examined) → IsOnly (Some x) → (last < x.page → IsPage (profile_of old) x.page → ⊥) → OutcomeTaken old old last epoch line None
-  outcome_amiss x only amiss = outcome_refused old refl
-      (λ p o rises region fits has s stands same may.
-      let here : p ≡ x.page = ap (λ (y : Examined). y.page) (sym (same_Some x (record { page = p; outcome = o }) (only p o fits has))) in
-      amiss (subst (λ q. last < q) here rises) (subst (IsPage (profile_of old)) here region))
+  outcome_amiss x only amiss = search (arith, outcome_refused, same_Some)
 
   -- what came of its page was tried
   pub outcome_came : (new : Machine) (x : Examined) → line ≡ line_of (record_of epoch x.page x.outcome) → last < x.page → IsPage (profile_of old) x.page

@@ -1,11 +1,10 @@
 -- What follows a pass fits its places, where the acts that are left do.
-use Rattle.std.proofs.Common.{◌≡◌, ◌≢◌, ℕ, ◌+◌, ◌/◌, ◌^◌, ◌<◌, ◌==◌, ◌||◌, if◌then◌else◌, nat_le, nat_lt, max, Bool, cond, true, false, List, [], ◌∷◌, ◌++◌}
-use Rattle.std.proofs.Common.{map, Option, None, Some, inl, inr, refl, ap, sym, subst, ◌∙◌, arith, MatchOption, eqb-true}
+use Rattle.std.proofs.Common.{◌≡◌, ◌≢◌, ℕ, ◌+◌, ◌/◌, ◌^◌, ◌<◌, ◌==◌, ◌||◌, if◌then◌else◌, nat_le, max, Bool, cond, true, false, List, [], ◌∷◌, ◌++◌, map}
+use Rattle.std.proofs.Common.{Option, None, Some, inl, inr, refl, ap, sym, subst, ◌∙◌, arith, MatchOption}
 use Rattle.std.specs.List.{filter}
 use Rattle.std.proofs.lemmas.{Bool.and_parts, Option.none-some, Option.same_Some}
 use Rattle.pas_profile.specs.Blocks.{address_of}
 use Rattle.pas_profile.specs.declared.{event.Event.Event, name.Block.Block, profile.Profile.Profile}
-use Rattle.pas_machine.specs.State.{ends_in}
 use Rattle.pas_trace.specs.declared.{item.Request.Request, plan.What.What}
 use Rattle.pas_report.specs.declared.record.{Record.Record, Said.Said}
 use Rattle.pas_trace.specs.{Asked.request_in, Named.Named, Named.standing_for}
@@ -47,9 +46,7 @@ entries_fit f k (entry ∷ log) more thread fits = (thread.1, inl thread.0)
 -- each guard that goes down is of the keeper that sweeps
 lowered_first : (f : Profile) (es : List Event) (keeper : ℕ) (all : Bool) (guard : Guard) (rest : List Guard) (more : List Due) → IsThread keeper → FitsNext f (map lowered_due rest ++ more)
     → (down : Bool) → goes_down es keeper all guard ≡ down → FitsNext f (map lowered_due (cond down (guard ∷ rest) rest) ++ more)
-lowered_first f es keeper all guard rest more thread fits true is =
-    let own = eqb-true guard.keeper keeper (and_parts (guard.keeper == keeper) (all || nat_lt guard.name.turn (ends_in es (address_of guard.name))) is).0 in
-    inl (subst (λ (k : ℕ). IsThread k) (sym own) thread)
+lowered_first f es keeper all guard rest more thread fits true is = search (arith, and_parts)
 lowered_first f es keeper all guard rest more thread fits false is = fits
 
 lowered_fit : (f : Profile) (es : List Event) (keeper : ℕ) (all : Bool) (guards : List Guard) (more : List Due) → IsThread keeper → FitsNext f more
@@ -146,15 +143,11 @@ record IsWell (f : Profile) (es : List Event) (b : Stand) : Type 0 where
   events : b.events ≡ es
   epoch : b.epoch < 2 ^ 64
 
+-- with something due it is the state itself that is well, by what is given of it
 settles : (f : Profile) (es : List Event) (b other : Stand) (ds : List Due) → b.due ≡ ds → FitsNext f ds → past_outcomes ds ≡ ds → b.events ≡ es → b.epoch < 2 ^ 64
     → (ds ≡ [] → IsWell f es other) → IsWell f es (settled_with ds b other)
 settles f es b other [] is fits no_pass events epoch rest = rest refl
-settles f es b other (d ∷ ds) is fits no_pass events epoch rest = record {
-  fits = subst (FitsNext f) (sym is) fits;
-  no_pass = subst (λ (due : List Due). past_outcomes due ≡ due) (sym is) no_pass;
-  events = events;
-  epoch = epoch;
-}
+settles f es b other (d ∷ ds) is fits no_pass events epoch rest = search arith
 
 well_from : (f : Profile) (es : List Event) (acts : List Act) → AllFit f acts → (u : Stand) → u.due ≡ [] → u.events ≡ es → u.epoch < 2 ^ 64 → HaveHeaps u.names
     → IsWell f es (begun_from f u (map Does acts ++ Reports ∷ []))
@@ -167,7 +160,4 @@ well_from f es (act ∷ acts) fit u due events epoch heaps =
     (begun.events ∙ events) begun.epoch (λ none. well_from f es acts fit.1 b none (begun.events ∙ events) begun.epoch begun.heaps)
 
 pub is_followed : (f : Profile) (acts : List Act) → AllFit f acts → (s : Stand) → s.epoch < 2 ^ 64 → HaveHeaps s.names → s.left ≡ map Does acts ++ Reports ∷ [] → IsFollowed f s
-is_followed f acts fit s epoch heaps left =
-    let well : (es : List Event) → IsWell f es (begun_from f (record s { events = es; due = [] }) s.left)
-    = λ es. subst (λ (ts : List Task). IsWell f es (begun_from f (record s { events = es; due = [] }) ts)) (sym left) (well_from f es acts fit (record s { events = es; due = [] }) refl refl epoch heaps) in
-    record { fits = λ es. (well es).fits; no_pass = λ es. (well es).no_pass; events = λ es. (well es).events; epoch = λ es. (well es).epoch }
+is_followed f acts fit s epoch heaps left = search (arith, well_from)

@@ -67,7 +67,7 @@ refused f first s seen line rest far never = record {
   number = refl;
   go = subst (MayGo f first) (sym (take-append_seam seen (line ∷ rest))) (seen_go f first s seen far);
   stops = inl (
-    (let long : length (seen ++ line ∷ rest) ≡ length seen + suc (length rest) = length-append seen (line ∷ rest) in omega (arith, long)),
+    (omega (arith, length-append seen (line ∷ rest))),
     λ go. let at = (far.go (line ∷ [])).0 (subst (MayGo f first) (take_one seen line rest) go) in never at.1.0 at.1.1,
   );
 }

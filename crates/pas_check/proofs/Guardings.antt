@@ -3,14 +3,14 @@ use Rattle.std.proofs.Common.{◌≡◌, ◌≢◌, ℕ, ◌+◌, ◌^◌, ◌<�
 use Rattle.std.proofs.Common.{refl, ap, sym, subst, ◌∙◌, append_assoc, append-nil, arith, eqb-true}
 use Rattle.std.specs.{List.filter, Global.Vec}
 use Rattle.pas_profile.specs.{Blocks.address_of, Directories.IsKind}
-use Rattle.pas_profile.specs.declared.{directory.Directory.Directory, event.Event.Event, name.Block.Block, profile.Profile.Profile}
+use Rattle.pas_profile.specs.declared.{event.Event.Event, name.Block.Block, profile.Profile.Profile}
 use Rattle.pas_machine.specs.{Machine.IsPlace, Machine.Run, Machines.profile_of, Machines.StandsFor, State.ends_in}
 use Rattle.pas_machine.specs.declared.machine.Machine.{Machine}
 use Rattle.pas_report.specs.declared.record.{Record.Record, Said.Said}
 use Rattle.pas_trace.specs.{Acts.Act, Acts.Lowers, Named.standing_for}
 use Rattle.pas_trace.specs.declared.item.Request.{Request}
 use Rattle.pas_check.specs.Begins.{after_task, goes_down, guard_of, has_sides, lowered_due, lowered_record, page_above, page_below, raising}
-use Rattle.pas_check.specs.{Bounds.FitsRequest, Bounds.FitsTry, Bounds.IsKept, Tables.meant}
+use Rattle.pas_check.specs.{Bounds.FitsRequest, Bounds.IsKept, Tables.meant}
 use Rattle.pas_check.specs.Calls.{AreLeft, IsAsked, IsTrying, IsWanted, OneSwept, RequestTaken, SweepGoes, TrialTaken, after_request, staying}
 use Rattle.pas_check.specs.Leading.{Fails, IsLed, IsWithin, Leads, lines_from}
 use Rattle.pas_check.specs.States.{Due, Writes, Serves, Tries, Never, Task, Does, Stand, with_due, with_name}
@@ -55,9 +55,7 @@ module _ (machine : Machine) (text : List ℕ) (from : Cursor) (guards : List Gu
 
     module _ (down : Bool) (tells : (es : List Event) → StandsFor machine es → down ≡ goes_down es keeper all guard) where
       left_up : down ≡ false → (left more : List Guard) → more ≡ left ++ guard ∷ [] → AreLeft machine guards keeper all left (guard ∷ rest) → AreLeft machine guards keeper all more rest
-      left_up up left more added before es stands =
-          ap (λ gs. gs ++ staying es keeper all rest) added ∙ append_assoc left (guard ∷ []) (staying es keeper all rest)
-          ∙ ap (λ gs. left ++ gs) (sym (left_with es false (sym (tells es stands) ∙ up))) ∙ before es stands
+      left_up up left more added before es stands = search (arith, append_assoc, left_with)
 
       left_down : down ≡ true → (left : List Guard) → AreLeft machine guards keeper all left (guard ∷ rest) → AreLeft machine guards keeper all left rest
       left_down is left before es stands = ap (λ gs. left ++ gs) (sym (left_with es true (sym (tells es stands) ∙ is))) ∙ before es stands
@@ -167,25 +165,13 @@ module _ (f : Profile) (text : List ℕ) (old : Judge) (from : Cursor) (k keeper
 -- ---- its thread is served
 module _ (f : Profile) (text : List ℕ) (old : Judge) (from : Cursor) (w : Wanted) (low : w.name < 2 ^ 32) (room : w.room < 2 ^ 32) (heap : w.directory.heap < 2 ^ 8)
     (kind : IsKind w.directory.kind) (r : Request) (wants : IsWanted f r w) where
+  -- the request has the fields of w, whose bounds are given
   fits_by : (k : ℕ) → k < 2 ^ 8 → FitsRequest f k r
-  fits_by k few = record {
-    actor = few;
-    name = (omega (arith, wants.name, low));
-    heap = (let e : r.heap ≡ w.directory.heap = ap (λ (d : Directory). d.heap) wants.directory in omega (arith, e, heap));
-    kind = subst (λ (d : Directory). IsKind d.kind) (sym wants.directory) kind;
-    room = (omega (arith, wants.room, room));
-  }
+  fits_by k few = search arith
 
   module _ (k : ℕ) (few : k < 2 ^ 8) (s : Stand) (stands : Stands f old s from) where
     asked : s.due ≡ Serves k r None ∷ [] → IsAsked old.machine s from k w r None []
-    asked due = record {
-      wants = subst (λ g. IsWanted g r w) (sym stands.profile) wants;
-      stands = stands.events;
-      kept = stands.kept;
-      fits = subst (λ g. FitsRequest g k r) (sym stands.profile) (fits_by k few);
-      epoch = (omega (arith, stands.epoch, stands.small));
-      due = due;
-    }
+    asked due = search (arith, fits_by)
 
     pub served_amiss : (machine : Machine) (new : Judge) (to : Cursor) → RequestTaken old.machine machine text from to k w None → s.due ≡ Serves k r None ∷ [] → IsCarried f text s from new to false
     served_amiss machine new to taken due = subst (λ g. Fails g text s from to.lines) stands.profile (taken s r None [] (asked due))
@@ -199,17 +185,7 @@ module _ (f : Profile) (text : List ℕ) (old : Judge) (from : Cursor) (w : Want
         let t : Stand = with_due (with_name v r.name found) [] in (
           t,
           subst (λ (u : Stand). Leads f text s from u to) (after_plain v k r found) (subst (λ g. Leads g text s from (after_request v k r None found []) to) stands.profile end.1),
-          record {
-            profile = profile ∙ stands.profile;
-            events = end.2;
-            names = λ n. (λ i. if wants.name i == n then Some found else stands.names n i) ∙ sym (sets n);
-            logs = stands.logs;
-            awake = stands.awake;
-            epoch = stands.epoch;
-            guards = stands.guards;
-            small = stands.small;
-            kept = kept_same t v to to refl refl (omega arith) end.3;
-          },
+          search (arith, kept_same),
           refl,
           refl,
         )
@@ -217,14 +193,7 @@ module _ (f : Profile) (text : List ℕ) (old : Judge) (from : Cursor) (w : Want
     -- ---- the keeper's lines
     module _ (keeper : ℕ) (behind : keeper < 2 ^ 8) (apart : keeper ≢ k) (due : s.due ≡ Tries keeper k r false ∷ []) where
       trying_there : IsTrying old.machine s from keeper k w r []
-      trying_there = record {
-        wants = subst (λ g. IsWanted g r w) (sym stands.profile) wants;
-        stands = stands.events;
-        kept = stands.kept;
-        fits = subst (λ g. FitsTry g keeper k r) (sym stands.profile) (record { own = fits_by k few; kept = fits_by keeper behind; apart = apart });
-        epoch = (omega (arith, stands.epoch, stands.small));
-        due = due;
-      }
+      trying_there = search (arith, fits_by)
 
       -- the same judge, at the events that they have made
       stands_then : (machine : Machine) (to : Cursor) → profile_of machine ≡ profile_of old.machine → (t : Stand) (es : List Event) → t ≡ record s { events = es; due = t.due } → StandsFor machine es
@@ -292,17 +261,7 @@ module _ (f : Profile) (text : List ℕ) (old : Judge) (from : Cursor) (keeper n
       let count : from.lines ≤ to.lines = (omega (arith, line.count)) in (
         t,
         subst (λ (u : Stand). Leads f text u from t to) (sym same) line,
-        record {
-          profile = stands.profile;
-          events = stands.events;
-          names = λ n. (λ i. if name == n then Some (Some block) else stands.names n i) ∙ sym (sets n);
-          logs = stands.logs;
-          awake = stands.awake;
-          epoch = stands.epoch;
-          guards = ap (λ (gs : List Guard). gs ++ guard_of keeper block ∷ []) stands.guards ∙ sym added;
-          small = stands.small;
-          kept = kept_same t s from to refl refl count stands.kept;
-        },
+        search (arith, kept_same),
         refl,
         sym (ap (λ (u : Stand). u.left) same),
       )

@@ -1,10 +1,9 @@
 -- What every line keeps: few events, and ends at small epochs.
-use Rattle.std.proofs.Common.{◌≡◌, ℕ, suc, ◌+◌, ◌^◌, ◌<◌, ◌≤◌, ◌==◌, max, Bool, true, false, if◌then◌else◌, List, [], ◌∷◌, length, Option, Some, ap, sym, subst}
-use Rattle.std.proofs.Common.{arith}
+use Rattle.std.proofs.Common.{◌≡◌, ℕ, suc, ◌+◌, ◌^◌, ◌<◌, ◌≤◌, ◌==◌, max, Bool, true, false, if◌then◌else◌, List, [], ◌∷◌, length, Option, Some, subst, arith}
 use Rattle.std.proofs.lemmas.Option.{same_Some}
 use Rattle.pas_profile.specs.{Directories.IsKind, Profiles.IsValid, Blocks.address_of}
 use Rattle.pas_profile.specs.declared.{directory.Directory.Directory, event.Event.Event, profile.Profile.Profile}
-use Rattle.pas_machine.specs.{Machine.Run, Machines.profile_of, Machines.StandsFor}
+use Rattle.pas_machine.specs.Machines.{profile_of, StandsFor}
 use Rattle.pas_machine.specs.State.{deed_in, epoch_in, gives_in, live_in, touches}
 use Rattle.pas_machine.specs.declared.machine.Machine.{Machine}
 use Rattle.pas_check.specs.{Bounds.IsKept, Bounds.IsSmall, States.Stand}
@@ -41,22 +40,11 @@ kinds_more (Event.End k name read) es epoch by kinds page d is = kinds page d is
 kinds_more (Event.Reject k name why) es epoch by kinds page d is = kinds page d is
 
 pub kept_more : (t s : Stand) (at to : Cursor) (e : Event) → t.events ≡ e ∷ s.events → t.epoch ≡ s.epoch → to.lines ≡ at.lines + 1 → EndsBy s.epoch e → IsKept s at → IsKept t to
-kept_more t s at to e events epoch count by kept = record {
-  few = (let long : length t.events ≡ suc (length s.events) = ap length events in omega (arith, long, kept.few, count));
-  kinds = subst AreKinds (sym events) (kinds_more e s.events s.epoch by kept.kinds);
-  ends = λ page.
-      let here : epoch_in t.events page ≡ epoch_in (e ∷ s.events) page = ap (λ es. epoch_in es page) events in
-      let low = epoch_more e s.events page s.epoch by (kept.ends page) in
-      omega (arith, here, low, epoch);
-}
+kept_more t s at to e events epoch count by kept = search (arith, kinds_more, epoch_more)
 
--- without an event
+-- without an event: all that is kept is said of the events, the epoch and the lines
 pub kept_same : (t s : Stand) (at to : Cursor) → t.events ≡ s.events → t.epoch ≡ s.epoch → at.lines ≤ to.lines → IsKept s at → IsKept t to
-kept_same t s at to events epoch count kept = record {
-  few = (let long : length t.events ≡ length s.events = ap length events in omega (arith, long, kept.few, count));
-  kinds = subst AreKinds (sym events) kept.kinds;
-  ends = λ page. let here : epoch_in t.events page ≡ epoch_in s.events page = ap (λ es. epoch_in es page) events in let low = kept.ends page in omega (arith, here, low, epoch);
-}
+kept_same t s at to events epoch count kept = search arith
 
 -- ---- such a state is small
 one_more : (t : Bool) (old long : ℕ) → old ≤ long → (if t then old + 1 else old) ≤ suc long
@@ -66,14 +54,8 @@ one_more false old long low = omega (arith, low)
 pub gives_few : (es : List Event) (a : ℕ) → gives_in es a ≤ length es
 gives_few [] a = omega arith
 gives_few (Event.Give k block ∷ es) a = one_more (address_of block.name == a) (gives_in es a) (length es) (gives_few es a)
-gives_few (other ∷ es) a = let few = gives_few es a in omega (arith, few)
+gives_few (other ∷ es) a = omega (arith, gives_few es a)
 
 pub small_of : (f : Profile) (machine : Machine) (s : Stand) (at : Cursor) → profile_of machine ≡ f → IsValid f → StandsFor machine s.events → IsKept s at
     → at.lines < 2 ^ 32 → s.epoch < 2 ^ 64 → IsSmall f s
-small_of f machine s at same valid stands kept lines epoch = record {
-  valid = valid;
-  run = subst (λ g. Run g s.events) same stands.run;
-  gives = λ a. (let few = gives_few s.events a in omega (arith, few, kept.few, lines));
-  ends = λ page. (let low = kept.ends page in omega (arith, low, epoch));
-  epoch = epoch;
-}
+small_of f machine s at same valid stands kept lines epoch = search (arith, gives_few)

@@ -82,24 +82,15 @@ leads_nowhere f text s at within = leads_idly f text s s at within (same_as_itse
 module _ (f : Profile) (text : List ℕ) (s : Stand) (old : Cursor) where
   pub leads_line : (next : Stand) (new : Cursor) (line : List ℕ) → lines_from text old ≡ line ∷ lines_from text new → new.lines ≡ old.lines + 1 → IsWithin text new
       → Takes f s line next → ((other : Stand) → Takes f s line other → other ≡ next) → Leads f text s old next new
-  leads_line next new line has count within takes one =
-      let rest = lines_from text new in
-      record {
-        taken = 1;
-        count = count;
-        length_is = (let e : length (lines_from text old) ≡ suc (length rest) = ap length has in omega (arith, e));
-        go = λ n.
-            let e : 1 + n ≡ suc n = omega arith in
-            let here : take (1 + n) (lines_from text old) ≡ line ∷ take n rest = (λ i. take (e i) (has i)) in (
-              λ g. let h = subst (MayGo f s) here g in subst (λ t. MayGo f t (take n rest)) (one h.1.0 h.1.1) (h.0, h.1.2),
-              λ g. subst (MayGo f s) (sym here) (g.0, (next, takes, g.1)),
-            );
-        whole = (
-          λ g. let h = subst (IsWhole f s) has g in subst (λ t. IsWhole f t rest) (one h.1.0 h.1.1) (h.0, h.1.2, h.2),
-          λ g. subst (IsWhole f s) (sym has) (g.0, (next, takes, g.1), g.2),
-        );
-        within = within;
-      }
+  leads_line next new line has count within takes one = record {
+    taken = 1;
+    count = count;
+    length_is = (omega (arith, ap length has));
+    -- the line leads to that state alone, so what goes on does so from there
+    go = search arith;
+    whole = search arith;
+    within = within;
+  }
 
   -- it can't be taken
   pub fails_line : (line : List ℕ) (rest : List (List ℕ)) → lines_from text old ≡ line ∷ rest → ((next : Stand) → Takes f s line next → ⊥) → Fails f text s old (old.lines + 1)
@@ -111,7 +102,7 @@ module _ (f : Profile) (text : List ℕ) (s : Stand) (old : Cursor) where
       number = omega arith;
       go = (s, refl);
       stops = inl (
-        (let e : length (lines_from text old) ≡ suc (length rest) = ap length has in omega (arith, e)),
+        (omega (arith, ap length has)),
         λ g. let h = subst (MayGo f s) (λ i. take 1 (has i)) g in never h.1.0 h.1.1,
       );
     };
@@ -126,7 +117,7 @@ module _ (f : Profile) (text : List ℕ) (s : Stand) (old : Cursor) where
       before = 0;
       number = omega arith;
       go = (s, refl);
-      stops = inr ((let e : length (lines_from text old) ≡ 0 = ap length none in omega (arith, e)), λ g. let h = subst (IsWhole f s) none g in undone (subst (IsDone f) h.1 h.2));
+      stops = inr ((omega (arith, ap length none)), λ g. let h = subst (IsWhole f s) none g in undone (subst (IsDone f) h.1 h.2));
     };
   }
 
@@ -155,12 +146,10 @@ module _ (f : Profile) (s : Stand) (d : Due) (more : List Due) (due : s.due ≡ 
 
   pub takes_due : (line : List ℕ) (next : Stand) → Takes f s line next → TakesDue f s (d ∷ more) line next
   takes_due line next (inl takes) = absurd (first_none f s d more no_pass line next (subst (λ ds. TakesFirst f s ds line next) due takes))
-  takes_due line next (inr takes) = subst (λ t. TakesDue f t (d ∷ more) line next) (ready_is f s d more due no_pass)
-      (subst (λ ds. TakesDue f (ready f s) ds line next) ready_due takes)
+  takes_due line next (inr takes) = search (arith, ready_is, ready_due)
 
   pub due_takes : (line : List ℕ) (next : Stand) → TakesDue f s (d ∷ more) line next → Takes f s line next
-  due_takes line next takes = inr (subst (λ ds. TakesDue f (ready f s) ds line next) (sym ready_due)
-      (subst (λ t. TakesDue f t (d ∷ more) line next) (sym (ready_is f s d more due no_pass)) takes))
+  due_takes line next takes = inr (search (arith, ready_due, ready_is))
 
   module _ (text : List ℕ) (old : Cursor) where
     pub due_taken : (next : Stand) (new : Cursor) (line : List ℕ) → lines_from text old ≡ line ∷ lines_from text new → new.lines ≡ old.lines + 1 → IsWithin text new

@@ -7,18 +7,14 @@ use Rattle.pas_check.specs.declared.entry.Entry.{Entry}
 
 module _ (entries : List Entry) (counts : List ℕ) (sized : length entries ≡ 64 * length counts) (few : (j : ℕ) → get_or counts j 0 ≤ 64) where
   left_there : (k : ℕ) → k < length counts → 64 ≤ length (drop (64 * k) entries)
-  left_there k held = let e = length-drop (64 * k) entries in omega (arith, e, sized, held)
+  left_there k held = omega (arith, length-drop (64 * k) entries, sized, held)
 
   pub length_is : (k : ℕ) → k < length counts → length (log_of entries counts k) ≡ get_or counts k 0
   length_is k held = let some = left_there k held in let most = few k in length-take-le (get_or counts k 0) (drop (64 * k) entries) (omega (arith, some, most))
 
   module _ (k c : ℕ) (entry : Entry) (held : k < length counts) (is : c ≡ get_or counts k 0) (room : c < 64) where
     pub log_added : log_of (set entries (64 * k + c) entry) (set counts k (c + 1)) k ≡ log_of entries counts k ++ entry ∷ []
-    log_added =
-        let some = left_there k held in
-        let here : c < length (drop (64 * k) entries) = omega (arith, some, room) in
-        (λ i. take (get_or-set_same counts k (c + 1) 0 held i) (drop-set-add (64 * k) entries c entry i)) ∙ take_more_set (drop (64 * k) entries) c entry here
-        ∙ ap (λ n. take n (drop (64 * k) entries) ++ entry ∷ []) is
+    log_added = search (arith, left_there, get_or-set_same, drop-set-add, take_more_set)
 
     log_other : (j : ℕ) → j ≢ k → take (get_or counts j 0) (drop (64 * j) (set entries (64 * k + c) entry)) ≡ take (get_or counts j 0) (drop (64 * j) entries)
     log_other j other = elim (cases_lt j k) [

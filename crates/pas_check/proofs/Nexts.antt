@@ -18,14 +18,10 @@ use Rattle.pas_check.proofs.OneNext.{gives_fits, one_next, one_outcome, outcome_
 
 -- ---- the lines of outcomes begin with a number
 behind_actor : (epoch page : ℕ) (o : Outcome) → byte_at 0 (past_digits (line_of (record_of epoch page o))) ≡ 32
-behind_actor epoch page Unbacked = ap (byte_at 0)
-    (past_number 0 32 (codes "unback page " ++ (decimal page ++ (codes " epoch " ++ (decimal epoch ++ codes "\n")))) (omega arith) refl)
+behind_actor epoch page Unbacked = search (arith, past_number)
 behind_actor epoch page Bare = ap (byte_at 0) (past_number 0 32 (codes "bare page " ++ (decimal page ++ codes "\n")) (omega arith) refl)
-behind_actor epoch page (Young stamp) = ap (byte_at 0)
-    (past_number 0 32 (codes "young page " ++ (decimal page ++ (codes " stamp " ++ (decimal stamp ++ codes "\n")))) (omega arith) refl)
-behind_actor epoch page (InUse word value) =
-    ap (byte_at 0) (past_number 0 32 (codes "in-use page " ++ (decimal page ++ (codes " word "
-    ++ (decimal word ++ (codes " value 0x" ++ (hex_digits 16 value ++ codes "\n")))))) (omega arith) refl)
+behind_actor epoch page (Young stamp) = search (arith, past_number)
+behind_actor epoch page (InUse word value) = search (arith, past_number)
 behind_actor epoch page NotOffered = ap (byte_at 0) (past_number 0 32 (codes "not-offered page " ++ (decimal page ++ codes "\n")) (omega arith) refl)
 
 -- ---- the actor in front of a line
@@ -128,10 +124,7 @@ module _ (f : Profile) (s : Stand) (small : IsSmall f s) (last : ℕ) (rest : Li
 
   -- it is the scavenger's, and no thread's
   no_thread : (k : ℕ) → 0 < k → (text : List ℕ) → of_u8 text ≡ k → line ≡ text → ⊥
-  no_thread k some text is has =
-      let none : of_u8 line ≡ 0 = ap of_u8 x.line_is ∙ outcome_actor s.epoch x.page x.outcome in
-      let same : of_u8 line ≡ k = ap of_u8 has ∙ is in
-      omega (arith, none, same, some)
+  no_thread k some text is has = search (arith, outcome_actor)
 
   no_writing : (item : Record) → IsOfThread item ⊎ (Fits item × (IsOutcome item → ⊥)) → line ≡ line_of item → ⊥
   no_writing (Record.Said k said) (inl of) has = no_thread k of.0 (line_of_answer k said) (spaced_actor k of.1 (line_of_answer k said) (said_spaced k of.1 said)) has

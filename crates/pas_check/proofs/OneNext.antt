@@ -7,7 +7,7 @@ use Rattle.pas_bits.proofs.Runs.{first_of_run}
 use Rattle.pas_profile.specs.declared.{directory.Directory.Directory, event.Event.Event, event.Outcome.Outcome, name.Block.Block, name.Name.Name}
 use Rattle.pas_profile.specs.declared.{profile.Profile.Profile}
 use Rattle.pas_profile.specs.declared.event.Outcome.TheVariants.{Unbacked, Bare, Young, InUse, NotOffered}
-use Rattle.pas_machine.specs.{Machine.Run, Machine.Admits, State.deed_in, State.backed_in}
+use Rattle.pas_machine.specs.{Machine.Run, Machine.Admits, State.deed_in}
 use Rattle.pas_report.specs.Lines.{line_of}
 use Rattle.pas_report.specs.declared.record.{Record.Record, Said.Said}
 use Rattle.pas_check.specs.{Begins.has_sides, Begins.raising, Begins.replacing, Ranges.FitsEvent, Ranges.FitsSaid, Ranges.Fits}
@@ -22,7 +22,7 @@ pub same_record : (line : List ℕ) (r q : Record) → Fits r → Fits q → lin
 same_record line r q fits fits' a b = one_line r q fits fits' (sym a ∙ b)
 
 small_page : (f : Profile) (page : ℕ) → IsValid f → IsPage f page → page < 2 ^ 32
-small_page f page valid is = let last : page ≤ f.pages = is.1 in let most : f.pages ≤ 16384 = valid.pages in omega (arith, last, most)
+small_page f page valid is = omega (arith, is.1, valid.pages)
 
 -- a page with a deed is one of the region
 pub deed_page : (f : Profile) (es : List Event) → Run f es → (page : ℕ) (d : Directory) → deed_in es page ≡ Some d → IsPage f page
@@ -41,12 +41,8 @@ deed_page f (Event.Reject k name why ∷ es) run page d h = deed_page f es run.1
 -- ---- the lines of a request
 module _ (f : Profile) (s : Stand) (small : IsSmall f s) (k : ℕ) (r : Request) (fits : FitsRequest f k r) where
   pub prepares_fits : (e : Event) → IsPreparing k (directory_of f r) e → Admits f s.events e → FitsEvent e
-  prepares_fits e (inl is) admitted =
-      let here : IsPage f is.0 × ((directory_of f r).heap < f.heaps) × (deed_in s.events is.0 ≡ None) = subst (Admits f s.events) is.1 admitted in
-      subst FitsEvent (sym is.1) (fits.actor, small_page f is.0 small.valid here.0, fits.heap, fits.kind)
-  prepares_fits e (inr is) admitted =
-      let here : IsPage f is.0 × (deed_in s.events is.0 ≢ None) × (backed_in s.events is.0 ≡ false) = subst (Admits f s.events) is.1 admitted in
-      subst FitsEvent (sym is.1) (fits.actor, small_page f is.0 small.valid here.0)
+  prepares_fits e (inl is) admitted = search (arith, small_page)
+  prepares_fits e (inr is) admitted = search (arith, small_page)
 
   pub gives_fits : (block : Block) → IsFor f s r block → Admits f s.events (Event.Give k block) → FitsEvent (Event.Give k block)
   gives_fits block is may =

@@ -4,13 +4,12 @@ use Rattle.std.proofs.Common.{Option, None, Some, refl, ap, sym, subst, ◌∙�
 use Rattle.std.proofs.lemmas.{Bool.and_parts, Option.none-some}
 use Rattle.pas_profile.specs.Blocks.{address_of, length_of}
 use Rattle.pas_profile.specs.declared.{directory.Directory.Directory, event.Event.Event, name.Block.Block, profile.Profile.Profile}
-use Rattle.pas_machine.specs.{Machine.Run, Places.IsCovered, State.Live, State.backed_in, State.live_in}
-use Rattle.pas_steps.specs.Views.{usable_by_kind}
+use Rattle.pas_machine.specs.{Machine.Run, Places.IsCovered, State.Live, State.live_in}
 use Rattle.pas_report.specs.Marks.{Marked}
 use Rattle.pas_report.specs.Reports.{covers, is_covered, machine_page, page_text}
 use Rattle.pas_report.proofs.ReportOfWords.{none_of, not_covering, some_of}
 use Rattle.pas_check.specs.Leading.{Fails, IsLed, IsWithin, lines_from}
-use Rattle.pas_check.specs.Shown.{HasNoRoom, HasRoom, IsBare, IsHinted, IsPageLine, IsWith, MayShow, TellsPage, grain_on, line_with, marks_for}
+use Rattle.pas_check.specs.Shown.{IsHinted, IsPageLine, IsWith, MayShow, TellsPage, line_with, marks_for}
 use Rattle.pas_check.specs.States.{Due, Shows, Stand, with_due}
 use Rattle.pas_check.specs.Takes.{AreAllowedMarks}
 use Rattle.pas_check.specs.declared.{cutting.Cursor.Cursor, reporting.Shown.Shown}
@@ -42,9 +41,7 @@ covered_is f es run g true has =
     let here : covers (live_in es (16 * (has.address / 16))) (16 * (has.address / 16)) g ≡ true =
     (λ t. covers (live_in es (e t)) (e t) g) ∙ ap (λ (o : Option Live). covers o has.address g) has.lives ∙ has.has in
     sym (some_of (g + 1) (has.address / 16) (λ x. covers (live_in es (16 * x)) (16 * x) g) (omega (arith, first)) here)
-covered_is f es run g false none =
-    sym (none_of (g + 1) (λ x. covers (live_in es (16 * x)) (16 * x) g)
-    (λ x low. not_covering (live_in es (16 * x)) (16 * x) g (λ b is has. none (record { address = 16 * x; live = b; lives = is; has = has }))))
+covered_is f es run g false none = search (arith, none_of, not_covering)
 
 -- ---- marks
 marks_are_for : (shown : Shown) (m : Marked) → m.backed ≡ shown.backed → m.parked ≡ not m.offered → m ≡ marks_for shown m.offered m.hinted
@@ -87,37 +84,12 @@ module _ (shown : Shown) (line : List ℕ) where
 
 -- ---- the line of a page
 module _ (s : Stand) (shown : Shown) (tells : TellsPage s.events shown) where
+  -- the bits that are shown tell just what the marks ask for
   may_show : (m : Marked) → AreAllowedMarks s shown.page shown.directory m → MayShow shown m
-  may_show m allowed = record {
-    backed = allowed.backed ∙ sym tells.backed;
-    parked = allowed.offered_or_parked;
-    offered = λ room. (let has = subst (λ (t : Bool). MatchBool t (HasRoom s.events shown.page shown.directory.kind) (HasNoRoom s.events shown.page shown.directory.kind)) room tells.room in allowed.offered has.0 has.1 has.2 has.3);
-    hinted = λ empty.
-        let both = subst (λ (t : Bool). MatchBool t ((backed_in s.events shown.page ≡ true) × IsBare s.events shown.page) (backed_in s.events shown.page ≡ true → IsBare s.events shown.page → ⊥))
-        empty tells.empty in
-        allowed.hinted both.0 (λ g on.
-        let low : g % 256 < 256 = omega arith in
-        let here : grain_on shown.page (g % 256) ≡ g = omega (arith, on) in
-        subst (λ (x : ℕ). is_covered s.events x ≡ false) here (both.1 (g % 256) low));
-  }
+  may_show m allowed = search arith
 
   are_allowed : (m : Marked) → MayShow shown m → AreAllowedMarks s shown.page shown.directory m
-  are_allowed m may = record {
-    backed = may.backed ∙ tells.backed;
-    offered_or_parked = may.parked;
-    offered = λ b low usable free. may.offered (roomy shown.room tells.room b low usable free);
-    hinted = λ backed none. may.hinted (emptied shown.empty tells.empty backed (λ b low. none (grain_on shown.page b) (omega (arith, low))));
-  }
-    where
-      roomy : (t : Bool) → MatchBool t (HasRoom s.events shown.page shown.directory.kind) (HasNoRoom s.events shown.page shown.directory.kind) → (b : ℕ) → b < 256
-          → usable_by_kind shown.directory.kind b ≡ true → is_covered s.events (grain_on shown.page b) ≡ false → t ≡ true
-      roomy true has b low usable free = refl
-      roomy false has b low usable free = clash (is_covered s.events (grain_on shown.page b)) (has b low usable) free
-
-      emptied : (t : Bool) → MatchBool t ((backed_in s.events shown.page ≡ true) × IsBare s.events shown.page) (backed_in s.events shown.page ≡ true → IsBare s.events shown.page → ⊥)
-          → backed_in s.events shown.page ≡ true → IsBare s.events shown.page → t ≡ true
-      emptied true has backed bare = refl
-      emptied false has backed bare = absurd (has backed bare)
+  are_allowed m may = search arith
 
   line_is : (m : Marked) → line_with shown m ≡ machine_page s.events shown.page (Some shown.directory) m
   line_is m = λ t. page_text shown.page shown.directory (tells.live t) (tells.free t) (tells.stamp t) m

@@ -3,7 +3,7 @@ use Rattle.std.proofs.Common.{◌≡◌, ℕ, ◌+◌, ◌^◌, ◌<◌, List, [
 use Rattle.pas_profile.specs.Profiles.{IsValid}
 use Rattle.pas_profile.specs.declared.{event.Event.Event, event.Outcome.Outcome, profile.Profile.Profile}
 use Rattle.pas_profile.specs.declared.event.Outcome.TheVariants.{Unbacked, Bare, Young, InUse, NotOffered}
-use Rattle.pas_machine.specs.{Machine.Run, Machines.profile_of, State.epoch_in, State.gives_in}
+use Rattle.pas_machine.specs.Machines.{profile_of}
 use Rattle.pas_machine.specs.declared.machine.Machine.{Machine}
 use Rattle.pas_check.specs.{Begins.past_outcomes, Begins.ready, Bounds.FitsNext, Bounds.IsKept, Bounds.IsSmall, Leading.IsWithin, Leading.lines_from}
 use Rattle.pas_check.specs.Calls.{IsExamining, OutcomeTaken, OutcomesGo, OutcomesTaken, after_pass}
@@ -29,15 +29,9 @@ outcome_kept u t page (Young stamp) at to events epoch count kept = kept_same u 
 outcome_kept u t page (InUse word value) at to events epoch count kept = kept_same u t at to events epoch (omega (arith, count)) kept
 outcome_kept u t page NotOffered at to events epoch count kept = kept_same u t at to events epoch (omega (arith, count)) kept
 
--- another state of the same events is small
+-- another state of the same events is small: but for the epoch, its bounds are of the events
 small_as : (f : Profile) (s t : Stand) → t.events ≡ s.events → t.epoch < 2 ^ 64 → IsSmall f s → IsSmall f t
-small_as f s t events epoch small = record {
-  valid = small.valid;
-  run = subst (Run f) (sym events) small.run;
-  gives = λ a. subst (λ es. gives_in es a < 2 ^ 64) (sym events) (small.gives a);
-  ends = λ page. subst (λ es. epoch_in es page < 2 ^ 64) (sym events) (small.ends page);
-  epoch = epoch;
-}
+small_as f s t events epoch small = search arith
 
 module _ (old : Machine) (text : List ℕ) (from : Cursor) (epoch : ℕ) where
   pub outcomes_begin : IsWithin text from → OutcomesGo old old text from from 0 epoch
@@ -84,7 +78,7 @@ module _ (old : Machine) (text : List ℕ) (from : Cursor) (epoch : ℕ) where
     module _ (line : List ℕ) (rest : List (List ℕ)) (valid : IsValid (profile_of old)) (same : profile_of mid ≡ profile_of old) (low : at.lines < 2 ^ 32)
         (has : lines_from text at ≡ line ∷ rest) where
       small : (s : Stand) (ex : IsExamining old s from 0 epoch) → IsSmall (profile_of old) (t s ex)
-      small s ex = small_of (profile_of old) mid (t s ex) at same valid (before s ex).3 (before s ex).4 low (let e = t_epoch s ex in omega (arith, e, ex.small))
+      small s ex = small_of (profile_of old) mid (t s ex) at same valid (before s ex).3 (before s ex).4 low (omega (arith, t_epoch s ex, ex.small))
 
       -- another line
       module _ (new : Machine) (none : OutcomeTaken mid new last epoch line None) where

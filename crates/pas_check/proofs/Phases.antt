@@ -124,8 +124,7 @@ rest_is phases = let long = length-drop 1 phases in take_length (length phases -
 -- the first phase, which has no mark, and those after it
 module _ (keepers : ℕ) (text : List ℕ) (old : Judge) (from : Cursor) (phases : List Phase) (d : Phase) (ops : List Op) (some : 0 < length phases) (is : ops ≡ ops_of (get_or phases 0 d)) where
   acts_first : acts_of (threads_in old) keepers (map ops_of phases) ≡ phase_acts (threads_in old) ops ++ acts_from (threads_in old) keepers 2 (map ops_of (drop 1 phases))
-  acts_first = first_phase (threads_in old) keepers phases d some
-      ∙ ap (λ (os : List Op). phase_acts (threads_in old) os ++ acts_from (threads_in old) keepers 2 (map ops_of (drop 1 phases))) (sym is)
+  acts_first = cc (first_phase (threads_in old) keepers phases d some)
 
   pub first_amiss : (new : Judge) (to : Cursor) → ActsTaken text old from new to (phase_acts (threads_in old) ops) false
       → TakenTo text old from new to (acts_of (threads_in old) keepers (map ops_of phases)) (close_acts (threads_in old) keepers) false

@@ -10,9 +10,8 @@ use Rattle.pas_profile.specs.declared.{directory.Kind.Kind, directory.Directory.
 use Rattle.pas_report.specs.declared.record.{Said.Said, Record.Record}
 use Rattle.pas_report.specs.Lines.{hex_digits, kind_text, name_text, line_of, line_of_event, line_of_answer, CanShow}
 use Rattle.pas_check.specs.Ranges.{FitsName, FitsBlock, FitsEvent, FitsSaid, Fits}
-use Rattle.pas_check.specs.Readings.{number_at, past_digits, hex_after, byte_at, of_u8, of_u32, name_at, past_name, kind_at, directory_at, deed_at, back_at}
-use Rattle.pas_check.specs.Readings.{unback_at, give_at, freed_at, held_at, in_use_at, young_at, size_differs_at, kept_at, guarded_at, lowered_at, word_at}
-use Rattle.pas_check.specs.Readings.{record_at}
+use Rattle.pas_check.specs.Readings.{past_digits, hex_after, byte_at, of_u8, of_u32, name_at, past_name, kind_at, directory_at, deed_at, back_at, unback_at}
+use Rattle.pas_check.specs.Readings.{give_at, freed_at, held_at, in_use_at, young_at, size_differs_at, kept_at, guarded_at, lowered_at, word_at, record_at}
 use Rattle.pas_check.proofs.Digits.{number_back, past_number, u8_back, u32_back, hex8_back, hex16_back}
 
 -- ---- names
@@ -52,24 +51,18 @@ kind_is Kind.Shared h = refl
 kind_is Kind.Large h = refl
 
 directory_is : (d : Directory) → d.heap < 2 ^ 8 → IsKind d.kind → directory_at (codes " heap " ++ (decimal d.heap ++ (codes " " ++ (kind_text d.kind ++ codes "\n")))) ≡ d
-directory_is d heap kind =
-    let rest : List ℕ = kind_text d.kind ++ codes "\n" in
-    (λ i. record { heap = u8_back d.heap 32 rest heap refl i; kind = kind_at (past_number d.heap 32 rest (omega (arith, heap)) refl i) }) ∙ ap (λ kd. record { heap = d.heap; kind = kd }) (kind_is d.kind kind)
+directory_is d heap kind = search (arith, u8_back, past_number, kind_is)
 
 -- ---- events
 deed_is : (k page : ℕ) (d : Directory) → FitsEvent (Event.Deed k page d)
     → deed_at k (codes " deed page " ++ (decimal page ++ (codes " heap " ++ (decimal d.heap ++ (codes " " ++ (kind_text d.kind ++ codes "\n")))))) ≡ Event.Deed k page d
-deed_is k page d fits =
-    let rest : List ℕ = codes "heap " ++ (decimal d.heap ++ (codes " " ++ (kind_text d.kind ++ codes "\n"))) in
-    (λ i. Event.Deed k (u32_back page 32 rest fits.1 refl i) (directory_at (past_number page 32 rest (omega (arith, fits.1)) refl i))) ∙ ap (Event.Deed k page) (directory_is d fits.2 fits.3)
+deed_is k page d fits = search (arith, u32_back, past_number, directory_is)
 
 back_is : (k page : ℕ) → page < 2 ^ 32 → back_at k (codes " back page " ++ (decimal page ++ codes "\n")) ≡ Event.Back k page
 back_is k page fits = ap (Event.Back k) (u32_back page 10 [] fits refl)
 
 unback_is : (k page epoch : ℕ) → page < 2 ^ 32 → epoch < 2 ^ 64 → unback_at k (codes " unback page " ++ (decimal page ++ (codes " epoch " ++ (decimal epoch ++ codes "\n")))) ≡ Event.Unback k page epoch
-unback_is k page epoch fits small =
-    let rest : List ℕ = codes "epoch " ++ (decimal epoch ++ codes "\n") in
-    (λ i. Event.Unback k (u32_back page 32 rest fits refl i) (number_at (drop 7 (past_number page 32 rest (omega (arith, fits)) refl i)))) ∙ ap (Event.Unback k page) (number_back epoch 10 [] small refl)
+unback_is k page epoch fits small = search (arith, u32_back, past_number, number_back)
 
 give_is : (k : ℕ) (block : Block) → FitsBlock block
     → give_at k (codes " give" ++ (name_text block.name ++ (codes " room " ++ (decimal block.room ++ (codes " heap " ++ (decimal block.heap ++ codes "\n")))))) ≡ Event.Give k block
@@ -83,28 +76,18 @@ give_is k block fits =
     ∙ ap (λ h. Event.Give k record { name = block.name; room = block.room; heap = h }) (u8_back block.heap 10 [] fits.heap refl)
 
 freed_is : (k : ℕ) (name : Name) (epoch : ℕ) → FitsName name → epoch < 2 ^ 64 → freed_at k (codes " freed" ++ (name_text name ++ (codes " epoch " ++ (decimal epoch ++ codes "\n")))) ≡ Event.End k name epoch
-freed_is k name epoch fits small =
-    let rest : List ℕ = codes "epoch " ++ (decimal epoch ++ codes "\n") in
-    let past : past_name (name_text name ++ 32 ∷ rest) ≡ 32 ∷ rest = past_is name 32 rest fits refl in
-    (λ i. Event.End k (name_is name 32 rest fits refl i) (number_at (drop 7 (past i)))) ∙ ap (Event.End k name) (number_back epoch 10 [] small refl)
+freed_is k name epoch fits small = search (arith, past_is, name_is, number_back)
 
 size_differs_is : (k : ℕ) (name : Name) (room : ℕ) → FitsName name → room < 2 ^ 32
     → size_differs_at k (codes " size-differs" ++ (name_text name ++ (codes " asked " ++ (decimal room ++ codes "\n")))) ≡ Event.Reject k name (Why.SizeDiffers room)
-size_differs_is k name room fits small =
-    let rest : List ℕ = codes "asked " ++ (decimal room ++ codes "\n") in
-    let past : past_name (name_text name ++ 32 ∷ rest) ≡ 32 ∷ rest = past_is name 32 rest fits refl in
-    (λ i. Event.Reject k (name_is name 32 rest fits refl i) (Why.SizeDiffers (of_u32 (drop 7 (past i))))) ∙ ap (λ r. Event.Reject k name (Why.SizeDiffers r)) (u32_back room 10 [] small refl)
+size_differs_is k name room fits small = search (arith, past_is, name_is, u32_back)
 
 -- ---- answers
 held_is : (page name : ℕ) → page < 2 ^ 32 → name < 2 ^ 32 → held_at (codes " held " ++ (decimal page ++ (codes " name " ++ (decimal name ++ codes "\n")))) ≡ Said.Held page name
-held_is page name fits small =
-    let rest : List ℕ = codes "name " ++ (decimal name ++ codes "\n") in
-    (λ i. Said.Held (u32_back page 32 rest fits refl i) (of_u32 (drop 6 (past_number page 32 rest (omega (arith, fits)) refl i)))) ∙ ap (Said.Held page) (u32_back name 10 [] small refl)
+held_is page name fits small = search (arith, u32_back, past_number)
 
 young_is : (page stamp : ℕ) → page < 2 ^ 32 → stamp < 2 ^ 64 → young_at (codes " young page " ++ (decimal page ++ (codes " stamp " ++ (decimal stamp ++ codes "\n")))) ≡ Said.Young page stamp
-young_is page stamp fits small =
-    let rest : List ℕ = codes "stamp " ++ (decimal stamp ++ codes "\n") in
-    (λ i. Said.Young (u32_back page 32 rest fits refl i) (number_at (drop 7 (past_number page 32 rest (omega (arith, fits)) refl i)))) ∙ ap (Said.Young page) (number_back stamp 10 [] small refl)
+young_is page stamp fits small = search (arith, u32_back, past_number, number_back)
 
 in_use_is : (page word value : ℕ) → page < 2 ^ 32 → word < 2 ^ 8 → value < 2 ^ 64
     → in_use_at (codes " in-use page " ++ (decimal page ++ (codes " word " ++ (decimal word ++ (codes " value 0x" ++ (hex_digits 16 value ++ codes "\n")))))) ≡ Said.InUse page word value
@@ -118,26 +101,14 @@ in_use_is page word value fits few small =
     ∙ ap (Said.InUse page word) (hex16_back value (codes "\n") small)
 
 kept_is : (block : Name) (name : ℕ) → FitsName block → name < 2 ^ 32 → kept_at (codes " kept" ++ (name_text block ++ (codes " name " ++ (decimal name ++ codes "\n")))) ≡ Said.Kept block name
-kept_is block name fits small =
-    let rest : List ℕ = codes "name " ++ (decimal name ++ codes "\n") in
-    let past : past_name (name_text block ++ 32 ∷ rest) ≡ 32 ∷ rest = past_is block 32 rest fits refl in
-    (λ i. Said.Kept (name_is block 32 rest fits refl i) (of_u32 (drop 6 (past i)))) ∙ ap (Said.Kept block) (u32_back name 10 [] small refl)
+kept_is block name fits small = search (arith, past_is, name_is, u32_back)
 
 guarded_is : (low high name : ℕ) → low < 2 ^ 32 → high < 2 ^ 32 → name < 2 ^ 32
     → guarded_at (codes " guarded " ++ (decimal low ++ (codes " " ++ (decimal high ++ (codes " name " ++ (decimal name ++ codes "\n")))))) ≡ Said.Guarded low high name
-guarded_is low high name fits few small =
-    let last : List ℕ = codes "name " ++ (decimal name ++ codes "\n") in
-    let rest : List ℕ = decimal high ++ 32 ∷ last in
-    let past : past_digits (decimal low ++ 32 ∷ rest) ≡ 32 ∷ rest = past_number low 32 rest (omega (arith, fits)) refl in
-    let of_high : past_digits (decimal high ++ 32 ∷ last) ≡ 32 ∷ last = past_number high 32 last (omega (arith, few)) refl in
-    (λ i. Said.Guarded (u32_back low 32 rest fits refl i) (of_u32 (drop 1 (past i))) (of_u32 (drop 6 (past_digits (drop 1 (past i))))))
-    ∙ (λ i. Said.Guarded low (u32_back high 32 last few refl i) (of_u32 (drop 6 (of_high i))))
-    ∙ ap (Said.Guarded low high) (u32_back name 10 [] small refl)
+guarded_is low high name fits few small = search (arith, past_number, u32_back)
 
 lowered_is : (low high : ℕ) → low < 2 ^ 32 → high < 2 ^ 32 → lowered_at (codes " lowered " ++ (decimal low ++ (codes " " ++ (decimal high ++ codes "\n")))) ≡ Said.Lowered low high
-lowered_is low high fits small =
-    let rest : List ℕ = decimal high ++ codes "\n" in
-    (λ i. Said.Lowered (u32_back low 32 rest fits refl i) (of_u32 (drop 1 (past_number low 32 rest (omega (arith, fits)) refl i)))) ∙ ap (Said.Lowered low) (u32_back high 10 [] small refl)
+lowered_is low high fits small = search (arith, u32_back, past_number)
 
 -- ---- a line whose actor is k, and the letter of its word
 -- the first byte of a decimal is a digit

@@ -22,9 +22,7 @@ led_on f text s t u old mid new false first second = leads_fails first second
 -- ---- a page with a deed has a line, and one without has none
 pub no_page_led : (f : Profile) (text : List ℕ) (s : Stand) (more : List Due) (page : ℕ) (at : Cursor) → IsWithin text at → None ≡ deed_in s.events page
     → s.due ≡ page_due page (deed_in s.events page) ++ more → Leads f text s at (with_due s more) at
-no_page_led f text s more page at within none due =
-    let is : s.due ≡ more = due ∙ ap (λ (o : Option Directory). page_due page o ++ more) (sym none) in
-    subst (λ (ds : List Due). Leads f text s at (with_due s ds) at) is (leads_nowhere f text s at within)
+no_page_led f text s more page at within none due = search (arith, leads_nowhere)
 
 pub page_is_due : (s : Stand) (more : List Due) (page : ℕ) (d : Directory) → Some d ≡ deed_in s.events page → s.due ≡ page_due page (deed_in s.events page) ++ more → s.due ≡ Shows page d ∷ more
 page_is_due s more page d some due = due ∙ ap (λ (o : Option Directory). page_due page o ++ more) (sym some)
@@ -57,9 +55,7 @@ pages_are es (suc n) =
 pub pages_next : (es : List Event) (k n m : ℕ) (more : List Due) (deed : Option Directory) → n ≡ m + 1 → deed_in es k ≡ deed
     → pages_from es k n ++ more ≡ page_due k deed ++ (pages_from es (k + 1) m ++ more)
 pages_next es k zero m more deed is at = absurd (omega (arith, is))
-pages_next es k (suc n) m more deed is at =
-    let e : n ≡ m = omega (arith, is) in
-    (λ t. (page_due k (at t) ++ pages_from es (k + 1) (e t)) ++ more) ∙ append_assoc (page_due k deed) (pages_from es (k + 1) m) more
+pages_next es k (suc n) m more deed is at = search (arith, append_assoc)
 
 pub pages_last : (es : List Event) (k n : ℕ) (more : List Due) → n ≡ 0 → pages_from es k n ++ more ≡ more
 pages_last es k zero more is = refl

@@ -41,12 +41,7 @@ grain_there g n page some low high = elim (cases_lt g (256 * page)) [
 ]
 
 lies_where : (es : List Event) (block : Block) (d : Directory) → IsEach (grain_of block.name / 256) ((grain_of block.name + (length_of block - 1)) / 256 + 1) (λ page. deed_in es page ≡ Some d) → LiesOn es block d
-lies_where es block d each x within =
-    let g = grain_of block.name in
-    let n = length_of block in
-    let low : g ≤ x = leb-true g x (and_parts (nat_le g x) (nat_lt x (g + n)) within).0 in
-    let high : x < g + n = ltb-true x (g + n) (and_parts (nat_le g x) (nat_lt x (g + n)) within).1 in
-    each (x / 256) (omega (arith, low)) (omega (arith, low, high))
+lies_where es block d each x within = search (arith, leb-true, and_parts, ltb-true)
 
 lies_each : (es : List Event) (block : Block) (d : Directory) → 0 < length_of block → LiesOn es block d
     → IsEach (grain_of block.name / 256) ((grain_of block.name + (length_of block - 1)) / 256 + 1) (λ page. deed_in es page ≡ Some d)

@@ -3,8 +3,8 @@ use Rattle.std.proofs.Common.{◌≡◌, ◌≢◌, ℕ, ◌^◌, ◌<◌, ◌�
 use Rattle.std.proofs.Common.{Err, IfOk, IfSome}
 use Rattle.std.proofs.lemmas.Option.{none-some, same_Some}
 use Rattle.pas_profile.specs.declared.{profile.Profile.Profile, directory.Directory.Directory, event.Event.Event, event.Why.Why}
-use Rattle.pas_profile.specs.{Directories.IsKind, Profiles.IsPage, Profiles.IsValid, Blocks.address_of}
-use Rattle.pas_machine.specs.{Machine.Admits, Machine.IsPlace, Machines.profile_of, Machines.StandsFor, State.deed_in, State.backed_in, Reasons.IsFirst}
+use Rattle.pas_profile.specs.{Directories.IsKind, Profiles.IsValid, Blocks.address_of}
+use Rattle.pas_machine.specs.{Machine.Admits, Machine.IsPlace, Machines.profile_of, Machines.StandsFor, Reasons.IsFirst}
 use Rattle.pas_machine.specs.declared.{fault.Illegal.Illegal, machine.Machine.Machine}
 use Rattle.pas_machine.proofs.Verdicts.{never_of}
 use Rattle.pas_report.specs.Lines.{line_of, line_of_event}
@@ -80,27 +80,15 @@ pub event_only : (item : Record) (found : Option Event) (e : Event) → found �
 event_only item found e is same = is ∙ ap event_in (same_Some item (Record.Event e) same)
 
 -- ---- deeds and backs
+-- what is admitted is of a page of the region, so its number fits
 fits_preparing : (f : Profile) (es : List Event) (k : ℕ) (d : Directory) (e : Event) → IsValid f → k < 2 ^ 8 → d.heap < 2 ^ 8 → IsKind d.kind → IsPreparing k d e → Admits f es e → FitsEvent e
-fits_preparing f es k d e valid few heap kind (inl is) admitted =
-    let here : IsPage f is.0 × (d.heap < f.heaps) × (deed_in es is.0 ≡ None) = subst (Admits f es) is.1 admitted in
-    let last : is.0 ≤ f.pages = here.0.1 in
-    let most : f.pages ≤ 16384 = valid.pages in
-    subst FitsEvent (sym is.1) (few, omega (arith, last, most), heap, kind)
-fits_preparing f es k d e valid few heap kind (inr is) admitted =
-    let here : IsPage f is.0 × (deed_in es is.0 ≢ None) × (backed_in es is.0 ≡ false) = subst (Admits f es) is.1 admitted in
-    let last : is.0 ≤ f.pages = here.0.1 in
-    let most : f.pages ≤ 16384 = valid.pages in
-    subst FitsEvent (sym is.1) (few, omega (arith, last, most))
+fits_preparing f es k d e valid few heap kind (inl is) admitted = search arith
+fits_preparing f es k d e valid few heap kind (inr is) admitted = search arith
 
 module _ (k : ℕ) (d : Directory) (few : k < 2 ^ 8) (heap : d.heap < 2 ^ 8) (kind : IsKind d.kind) (line : List ℕ) (old : Machine) (valid : IsValid (profile_of old)) where
   preparing_refused : (new : Machine) → new ≡ old
       → ((e : Event) → FitsEvent e → IsPreparing k d e → line ≡ line_of_event e → (es : List Event) → StandsFor old es → Admits (profile_of old) es e → ⊥) → PreparingTaken old new k d line false
-  preparing_refused new kept none = (
-    kept,
-    λ s r next stands same takes.
-        let prepares : IsPreparing k d takes.event = subst (λ x. IsPreparing k x takes.event) same takes.prepares in
-        none takes.event (fits_preparing (profile_of old) s.events k d takes.event valid few heap kind prepares takes.admitted) prepares takes.line_is s.events stands takes.admitted,
-  )
+  preparing_refused new kept none = search (arith, fits_preparing)
 
   pub preparing_stepped : (new : Machine) (e : Event) → line ≡ line_of_event e → ((g : Event) → FitsEvent g → line ≡ line_of_event g → e ≡ g) → IsPreparing k d e
       → (taken : Bool) → IsStepped old new e taken → PreparingTaken old new k d line taken

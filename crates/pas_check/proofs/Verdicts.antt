@@ -1,5 +1,5 @@
 -- A transcript has one verdict.
-use Rattle.std.proofs.Common.{◌≡◌, ℕ, zero, suc, ◌+◌, ◌<◌, ◌≤◌, List, [], ◌∷◌, length, take, inl, inr, refl, ap, subst, arith}
+use Rattle.std.proofs.Common.{◌≡◌, ℕ, zero, suc, ◌+◌, ◌<◌, ◌≤◌, List, [], ◌∷◌, take, inl, inr, refl, ap, subst, arith}
 use Rattle.std.proofs.lemmas.Bool.{cases_lt}
 use Rattle.pas_profile.specs.declared.profile.Profile.{Profile}
 use Rattle.pas_trace.specs.declared.plan.Plan.{Plan}
@@ -30,18 +30,12 @@ module _ (f : Profile) (s : Stand) (lines : List (List ℕ)) where
   whole_goes n whole = goes_front n f s lines (whole.0, whole.1)
 
   no_whole : (n : ℕ) → IsStopped f s lines n → IsWhole f s lines → ⊥
-  no_whole n stopped whole = elim (stopped.stops) [
-    | inl past ↦ past.1 (whole_goes (stopped.before + 1) whole)
-    | inr short ↦ short.1 whole
-  ]
+  no_whole n stopped whole = search (arith, whole_goes)
 
   no_later : (n m : ℕ) (a : IsStopped f s lines n) (b : IsStopped f s lines m) → a.before < b.before → ⊥
   no_later n m a b lt = elim (a.stops) [
     | inl past ↦ past.1 (shorter (a.before + 1) b.before (omega (arith, lt)) b.go)
-    | inr short ↦ elim (b.stops) [
-      | inl past ↦ let e : a.before ≡ length lines = short.0 in let h : b.before < length lines = past.0 in absurd (omega (arith, lt, e, h))
-      | inr other ↦ let e : a.before ≡ length lines = short.0 in let h : b.before ≡ length lines = other.0 in absurd (omega (arith, lt, e, h))
-    ]
+    | inr short ↦ search arith
   ]
 
   one_stop : (n m : ℕ) → IsStopped f s lines n → IsStopped f s lines m → n ≡ m
@@ -49,7 +43,7 @@ module _ (f : Profile) (s : Stand) (lines : List (List ℕ)) where
     | inl lt ↦ absurd (no_later n m a b lt)
     | inr ge ↦ elim (cases_lt b.before a.before) [
       | inl lt ↦ absurd (no_later m n b a lt)
-      | inr le ↦ let x : n ≡ a.before + 1 = a.number in let y : m ≡ b.before + 1 = b.number in omega (arith, ge, le, x, y)
+      | inr le ↦ omega (arith, ge, le, a.number, b.number)
     ]
   ]
 

@@ -6,7 +6,7 @@ use Rattle.pas_machine.specs.Machines.{profile_of}
 use Rattle.pas_trace.specs.{Acts.acts_of, Acts.keepers_of, EveryPlan.all_ops, Plans.IsPlanOf, Plans.ops_of, Plans.phases_of}
 use Rattle.pas_trace.specs.declared.plan.{Phase.Phase, Plan.Plan}
 use Rattle.pas_trace.proofs.{EveryPlan.every_plan, Keepers.keepers_few}
-use Rattle.pas_check.specs.{Accepted.IsStopped, Accepted.IsVerdict, Accepted.IsWhole, Begins.after_task, Shown.IsKnown, Tables.names_held, Takes.Takes}
+use Rattle.pas_check.specs.{Accepted.IsVerdict, Accepted.IsWhole, Begins.after_task, Shown.IsKnown, Tables.names_held, Takes.Takes}
 use Rattle.pas_check.specs.Checks.{ArePlanned, IsOpened, IsSoFar, TakenTo, opening, threads_in}
 use Rattle.pas_check.specs.Leading.{Fails, IsLed, IsWithin, Leads, lines_from}
 use Rattle.pas_check.specs.States.{Reports, Stand, at_first, with_due}
@@ -16,7 +16,7 @@ use Rattle.pas_check.proofs.Leads.{fails_line, leads_alike, leads_fails, leads_n
 
 -- ---- a plan's operations
 pub plan_few : (text : List ℕ) (plan : Plan) → IsPlanOf text plan → length text ≤ 16777216 → length (phases_of plan.phases) < 2 ^ 31
-plan_few text plan is short = let few = (every_plan is).phases in omega (arith, few, short)
+plan_few text plan is short = omega (arith, (every_plan is).phases, short)
 
 plan_planned : (text : List ℕ) (plan : Plan) → IsPlanOf text plan → ArePlanned plan.profile plan.names_limit (all_ops (map ops_of (phases_of plan.phases)))
 plan_planned text plan is =
@@ -25,9 +25,7 @@ plan_planned text plan is =
 pub planned_there : (text : List ℕ) (plan : Plan) (judge : Judge) (phases : List Phase) → IsPlanOf text plan → IsOpened plan judge → phases ≡ phases_of plan.phases
     → ArePlanned (profile_of judge.machine) (names_held judge.names) (all_ops (map ops_of phases))
 planned_there text plan judge phases is opened same =
-    subst (λ (f : Profile). ArePlanned f (names_held judge.names) (all_ops (map ops_of phases))) (sym opened.profile)
-    (subst (λ (n : ℕ). ArePlanned plan.profile n (all_ops (map ops_of phases))) (sym opened.names)
-    (subst (λ (ps : List Phase). ArePlanned plan.profile plan.names_limit (all_ops (map ops_of ps))) (sym same) (plan_planned text plan is)))
+    rw (opened.profile, opened.names, same) (plan_planned text plan is)
 
 pub opening_within : (transcript : List ℕ) → IsWithin transcript opening
 opening_within transcript = record { bytes = omega arith; lines = omega arith }
@@ -50,9 +48,7 @@ module _ (text : List ℕ) (plan : Plan) (transcript : List ℕ) (judge : Judge)
 
 -- ---- the first line that isn't allowed
 no_verdict : (plan : Plan) (transcript : List ℕ) (n : ℕ) → Fails plan.profile transcript (at_first plan) opening n → IsVerdict plan transcript (No n)
-no_verdict plan transcript n fails =
-    let e : fails.further ≡ n = (omega (arith, fails.number_is)) in
-    subst (λ (m : ℕ). IsStopped plan.profile (at_first plan) (lines_from transcript opening) m) e fails.stopped
+no_verdict plan transcript n fails = search (arith, fails.number_is, fails.stopped)
 
 -- ---- the acts
 module _ (text : List ℕ) (plan : Plan) (transcript : List ℕ) (old new : Judge) (to : Cursor) (is : IsPlanOf text plan) (short : length text ≤ 16777216) (opened : IsOpened plan old)
@@ -64,9 +60,7 @@ module _ (text : List ℕ) (plan : Plan) (transcript : List ℕ) (old new : Judg
   module _ (from : Cursor) (phases : List Phase) (keepers : ℕ) (start : from ≡ opening) (same : phases ≡ phases_of plan.phases) (kept : keepers ≡ keepers_of plan) where
     there : (taken : Bool) → TakenTo transcript old from new to (acts_of (threads_in old) keepers (map ops_of phases)) [] taken
         → TakenTo transcript old opening new to (acts_of (threads_in old) (keepers_of plan) (map ops_of (phases_of plan.phases))) [] taken
-    there taken done = subst (λ (n : ℕ). TakenTo transcript old opening new to (acts_of (threads_in old) n (map ops_of (phases_of plan.phases))) [] taken) kept
-        (subst (λ (ps : List Phase). TakenTo transcript old opening new to (acts_of (threads_in old) keepers (map ops_of ps)) [] taken) same
-        (subst (λ (at : Cursor). TakenTo transcript old at new to (acts_of (threads_in old) keepers (map ops_of phases)) [] taken) start done))
+    there taken done = rw (start, same, kept) at done
 
     pub acts_amiss : TakenTo transcript old from new to (acts_of (threads_in old) keepers (map ops_of phases)) [] false → IsVerdict plan transcript (No to.lines)
     acts_amiss done = no_verdict plan transcript to.lines (there false done plan.profile (at_first plan) (so_far_as (sym same_threads) (so_far text plan transcript old is short opened within)))
@@ -76,13 +70,9 @@ module _ (text : List ℕ) (plan : Plan) (transcript : List ℕ) (old new : Judg
 
 -- ---- after the acts
 module _ (plan : Plan) (transcript : List ℕ) (judge : Judge) (at : Cursor) (so : IsSoFar plan.profile transcript (at_first plan) judge at []) where
+  -- there are no more events than lines
   pub known : at.lines ≤ 2 ^ 24 → IsKnown judge.machine
-  known low = record {
-    events = so.stand.events;
-    stands = so.stands.events;
-    few = (omega (arith, so.stands.kept.few, low));
-    kinds = so.stands.kept.kinds;
-  }
+  known low = search arith
 
   abbrev pub reported : Stand
   reported = after_task plan.profile so.stand Reports []

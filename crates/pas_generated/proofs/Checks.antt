@@ -2,7 +2,7 @@
 use Rattle.std.proofs.Common.{◌≡◌, ◌⊎◌, ℕ, ◌+◌, ◌*◌, ◌/◌, ◌<◌, ◌≤◌, ◌==◌, nat_le, Bool, true, false, not, ◌||◌, if◌then◌else◌, List, [], ◌∷◌, length, None}
 use Rattle.std.proofs.Common.{Some, inl, inr, refl, ap, ◌∙◌, arith, le-leb, lt-ltb}
 use Rattle.std.proofs.{Math.Nat.mul-le-mul, lemmas.Bool.and_from, lemmas.Bool.cases_lt}
-use Rattle.pas_trace.specs.Reasons.{first_failed, is_thread, is_alignment, is_named, is_named_now, thread_of, operations_in, guard_after, guard_in, actors_by}
+use Rattle.pas_trace.specs.Reasons.{first_failed, is_thread, is_alignment, is_named, is_named_now, thread_of, operations_in, guard_after, guard_in}
 use Rattle.pas_trace.specs.Reasons.{cost_of_size, cost_of, costs_of, record_bound, few_enough, checks_of, reason_of}
 use Rattle.pas_trace.specs.declared.{fault.Reason.Reason, item.Item.Item, item.Item.TheVariants.Operates, item.Item.TheVariants.Scavenges}
 use Rattle.pas_trace.specs.declared.{item.Wish.TheVariants.Asks, item.Wish.TheVariants.Frees, plan.Chore.Chore}
@@ -25,22 +25,13 @@ pub record Counted (pages threads n : ℕ) (items : List Item) : Type 0 where
 
 pub request-cost : (size : ℕ) → size ≤ 8192 → cost_of_size size ≤ 3
 request-cost size within = elim (cases_lt 2048 size) [
-  | inl beyond ↦ let cost = large_cost size beyond in omega (arith, cost, within)
-  | inr few ↦ let cost = small_cost size few in omega (arith, cost)
+  | inl beyond ↦ omega (arith, large_cost size beyond, within)
+  | inr few ↦ omega (arith, small_cost size few)
 ]
 
 few : (ops threads pages n : ℕ) (items : List Item) (i : Item) → IsJob ops threads pages → n < ops → ((guard : ℕ) → guard_after i guard ≡ guard) → Counted pages threads n items → cost_of (region pages threads) 0 i ≤ 4097
     → AreHeld (few_enough (operations_in items) (record_bound (region pages threads) (i ∷ items)))
-few ops threads pages n items i job more same counted small =
-    let operations : operations_in items ≡ n = counted.operations in
-    let costs : costs_of (region pages threads) items ≤ 3 * n + 4096 * (n / 1000) = counted.costs in
-    let most : ops ≤ 200000 = job.most in
-    let deeds : threads * pages ≤ 16 * 4096 = mul-le-mul job.threads_most job.pages_most in
-    let f = region pages threads in
-    let cost : cost_of f (guard_in items) i ≡ cost_of f 0 i = ap (λ guard. cost_of f guard i) counted.unguarded in
-    let none : guard_in (i ∷ items) ≡ 0 = same (guard_in items) ∙ counted.unguarded in
-    let actors : actors_by (guard_in (i ∷ items)) threads * pages ≡ threads * pages = ap (λ guard. actors_by guard threads * pages) none in
-    (lt-ltb (operations_in items) 1000000 (omega arith), (le-leb (record_bound (region pages threads) (i ∷ items)) 2000000 (omega arith), tt))
+few ops threads pages n items i job more same counted small = search (arith, mul-le-mul, lt-ltb, le-leb)
 
 -- ---- ticks and passes
 pub tick-fine : (ops threads pages n : ℕ) (items : List Item) (epoch : ℕ) → IsJob ops threads pages → n < ops → Counted pages threads n items → reason_of (region pages threads) items (Scavenges (Chore.Tick epoch)) ≡ None
@@ -49,7 +40,7 @@ tick-fine ops threads pages n items epoch job more counted =
 
 pub pass-fine : (ops threads pages n : ℕ) (items : List Item) → IsJob ops threads pages → n < ops → Counted pages threads n items → reason_of (region pages threads) items (Scavenges Chore.Pass) ≡ None
 pass-fine ops threads pages n items job more counted =
-    none-failed (checks_of (region pages threads) items (Scavenges Chore.Pass)) (few ops threads pages n items (Scavenges Chore.Pass) job more (λ guard. refl) counted (let most : pages ≤ 4096 = job.pages_most in omega arith))
+    none-failed (checks_of (region pages threads) items (Scavenges Chore.Pass)) (few ops threads pages n items (Scavenges Chore.Pass) job more (λ guard. refl) counted (omega (arith, job.pages_most)))
 
 -- ---- allocations
 thread-fine : (pages threads t : ℕ) → 1 ≤ t → t ≤ threads → is_thread (region pages threads) t ≡ true
@@ -73,27 +64,13 @@ pub allocation-fine : (ops threads pages n : ℕ) (items : List Item) (t name he
     → reason_of (region pages threads) items (Operates t (Asks name heap size align)) ≡ None
 allocation-fine ops threads pages n items t name heap size align job more counted r =
     let cost : cost_of_size size ≤ 3 = request-cost size r.small in
-    let within : size ≤ 4096 * pages = let most : size ≤ 8192 = r.small in let some : 2 ≤ pages = job.two_pages in omega arith in
+    let within : size ≤ 4096 * pages = omega (arith, r.small, job.two_pages) in
     none-failed (checks_of (region pages threads) items (Operates t (Asks name heap size align))) (
       thread-fine pages threads t r.some_thread r.thread_within,
-      (
-        lt-ltb heap 6 r.known_heap,
-        (
-          le-leb size (4096 * pages) within,
-          (
-            align-fine align r.aligned,
-            (
-              ap not r.fresh,
-              (refl, (refl, few ops threads pages n items (Operates t (Asks name heap size align)) job more (λ guard. refl) counted (omega (arith, cost)))),
-            ),
-          ),
-        ),
-      ),
+      search (arith, lt-ltb, le-leb, align-fine, few),
     )
 
 -- ---- frees
 pub free-fine : (ops threads pages n : ℕ) (items : List Item) (t name : ℕ) → IsJob ops threads pages → n < ops → Counted pages threads n items → 1 ≤ t → t ≤ threads → is_named items name ≡ true
     → ((t == thread_of items name) || not (is_named_now items name)) ≡ true → reason_of (region pages threads) items (Operates t (Frees name)) ≡ None
-free-fine ops threads pages n items t name job more counted lo hi named early =
-    none-failed (checks_of (region pages threads) items (Operates t (Frees name)))
-    (thread-fine pages threads t lo hi, (refl, (refl, (refl, (refl, (named, (early, few ops threads pages n items (Operates t (Frees name)) job more (λ guard. refl) counted (omega arith))))))))
+free-fine ops threads pages n items t name job more counted lo hi named early = search (arith, none-failed, thread-fine, few)

@@ -1,6 +1,6 @@
 -- The decimal of a number is read as the number.
 use Rattle.std.proofs.Common.{◌≡◌, ℕ, zero, suc, ◌+◌, ◌/◌, ◌%◌, ◌^◌, ◌<◌, ◌≤◌, nat_lt, nat_le, Bool, true, if◌then◌else◌, List, [], ◌∷◌, ◌++◌, length, get_or}
-use Rattle.std.proofs.Common.{None, Some, refl, ap, ◌∙◌, arith, length-append, le-leb, lt-ltb}
+use Rattle.std.proofs.Common.{None, Some, ap, ◌∙◌, arith, length-append, le-leb, lt-ltb}
 use Rattle.std.specs.Fmt.{decimal}
 use Rattle.std.proofs.lemmas.{Bool.and_from, Bool.and_parts, Fmt.decimal_by_steps, Fmt.decimal_digit, Fmt.first_decimal}
 use Rattle.pas_trace.specs.Numbers.{is_digit, all_digits, value_from, is_decimal, number_of}
@@ -16,18 +16,10 @@ pub record AreDigits (n : ℕ) (bytes : List ℕ) : Type 0 where
   pub value_is : value_from 0 bytes ≡ n
 
 one-digit : (n : ℕ) → n < 10 → AreDigits n ((48 + n) ∷ [])
-one-digit n small = record {
-  some = omega arith;
-  digits = and_from (is_digit (48 + n)) true (digit-is n small) refl;
-  value_is = omega arith;
-}
+one-digit n small = search (arith, and_from, digit-is)
 
 more-digits : (n : ℕ) (ds : List ℕ) → 10 ≤ n → AreDigits (n / 10) ds → AreDigits n (ds ++ ((48 + n % 10) ∷ []))
-more-digits n ds large h = record {
-  some = let some : 0 < length ds = h.some in omega (arith, length-append ds ((48 + n % 10) ∷ []));
-  digits = digits-add ds (48 + n % 10) h.digits (digit-is (n % 10) (omega arith));
-  value_is = let value_is : value_from 0 ds ≡ n / 10 = h.value_is in value-add 0 ds (48 + n % 10) ∙ omega (arith, value_is);
-}
+more-digits n ds large h = search (arith, length-append, digits-add, digit-is, value-add)
 
 pub are-digits : (n : ℕ) → n < 2 ^ 64 → AreDigits n (decimal n)
 are-digits = decimal_by_steps AreDigits one-digit more-digits

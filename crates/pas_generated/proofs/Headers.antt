@@ -1,5 +1,5 @@
 -- What the first line says.
-use Rattle.std.proofs.Common.{◌≡◌, ℕ, ◌^◌, ◌<◌, ◌≤◌, nat_le, Bool, if◌then◌else◌, List, [], ◌∷◌, codes, Some, None, refl, ap, ◌∙◌, arith, le-leb}
+use Rattle.std.proofs.Common.{◌≡◌, ℕ, ◌^◌, ◌<◌, ◌≤◌, if◌then◌else◌, List, [], ◌∷◌, codes, Some, refl, ◌∙◌, arith, le-leb}
 use Rattle.std.specs.Fmt.{decimal}
 use Rattle.std.proofs.lemmas.Bool.{and_from}
 use Rattle.pas_trace.specs.{Numbers.number_of, Reasons.within, Reasons.header_with, Reasons.header_of_words}
@@ -22,9 +22,7 @@ header-line pages threads pw tw =
     (last-word (codes "2") (codes "shared 5\n") (word-by (codes "2") refl refl refl))))))))))
 
 in-range : (least most n : ℕ) → n < 2 ^ 64 → least ≤ n → n ≤ most → within least most (number_of (decimal n)) ≡ Some n
-in-range least most n small lo hi =
-    let tested = and_from (nat_le least n) (nat_le n most) (le-leb least n lo) (le-leb n most hi) in
-    ap (within least most) (number-back n small) ∙ ap (λ (t : Bool). if t then Some n else None) tested
+in-range least most n small lo hi = search (arith, and_from, le-leb, number-back)
 
 pub header-says : (pages threads : ℕ) → 1 ≤ pages → pages ≤ 4096 → 1 ≤ threads → threads ≤ 16 → header_of_words (header_words pages threads) ≡ Some (heading pages threads)
 header-says pages threads pages_lo pages_hi threads_lo threads_hi =

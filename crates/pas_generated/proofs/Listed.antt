@@ -1,10 +1,10 @@
 -- The allocations that no line has freed, against the items so far.
 use Rattle.std.proofs.Common.{◌≡◌, ◌≢◌, ℕ, ◌+◌, ◌-◌, ◌<◌, ◌≤◌, ◌==◌, nat_eq, Bool, true, false, not, ◌||◌, if◌then◌else◌, List, [], ◌∷◌, ◌++◌, length, set}
-use Rattle.std.proofs.Common.{get_or, All, swap_remove, inl, inr, refl, sym, ap, ◌∙◌, arith, eq-eqb, ne_eqb}
-use Rattle.std.proofs.lemmas.Bool.{cases_eq}
+use Rattle.std.proofs.Common.{get_or, All, swap_remove, inl, inr, refl, ◌∙◌, arith, eq-eqb, ne_eqb}
+use Rattle.std.proofs.lemmas.Bool.{cases_eq, false_from_ne_true}
 use Rattle.std.proofs.lemmas.List.Elements.{All-push, All-take, All-set, All-get_or, All-weaker}
 use Rattle.pas_trace.specs.Wishes.{name_made, is_name}
-use Rattle.pas_trace.specs.Reasons.{makes, is_phase, is_named, is_named_now, thread_of, actor_of}
+use Rattle.pas_trace.specs.Reasons.{makes, is_phase, is_named, is_named_now, thread_of}
 use Rattle.pas_trace.specs.declared.item.{Item.Item, Item.TheVariants.NextPhase, Item.TheVariants.Operates, Wish.Wish}
 
 -- The name was asked for before the next one, by the thread; and if in the present phase, then at this one.
@@ -20,39 +20,15 @@ pub record IsListed (threads phase next : ℕ) (items : List Item) (name thread 
 -- an item that doesn't make the name and begins no phase changes nothing
 pub listed-past : (threads phase next more : ℕ) (items : List Item) (i : Item) (name thread at : ℕ) → next ≤ more → makes i name ≡ false → is_phase i ≡ false → IsListed threads phase next items name thread at
     → IsListed threads phase more (i ∷ items) name thread at
-listed-past threads phase next more items i name thread at le other same h = record {
-  some_name = h.some_name;
-  before = let before : name < next = h.before in omega arith;
-  named = ap (λ (t : Bool). t || is_named items name) other ∙ h.named;
-  thread_is = ap (λ (t : Bool). if t then actor_of i else thread_of items name) other ∙ h.thread_is;
-  some_thread = h.some_thread;
-  thread_within = h.thread_within;
-  now = λ e. h.now (sym (ap (λ (p : Bool). if p then false else (makes i name || is_named_now items name)) same ∙ ap (λ (t : Bool). t || is_named_now items name) other) ∙ e);
-}
+listed-past threads phase next more items i name thread at le other same h = search arith
 
 -- in a new phase there is no name yet
 pub listed-next : (threads phase next : ℕ) (items : List Item) (name thread at : ℕ) → IsListed threads phase next items name thread at → IsListed threads (phase + 1) next (NextPhase ∷ items) name thread at
-listed-next threads phase next items name thread at h = record {
-  some_name = h.some_name;
-  before = h.before;
-  named = h.named;
-  thread_is = h.thread_is;
-  some_thread = h.some_thread;
-  thread_within = h.thread_within;
-  now = λ e. absurd (cc);
-}
+listed-next threads phase next items name thread at h = search arith
 
--- the name that is asked for
+-- the name that is asked for: this item names it, and is of its thread
 pub listed-new : (threads phase next : ℕ) (items : List Item) (t : ℕ) (w : Wish) → is_name (name_made w) next ≡ true → 1 ≤ next → 1 ≤ t → t ≤ threads → IsListed threads phase (next + 1) (Operates t w ∷ items) next t phase
-listed-new threads phase next items t w same some lo hi = record {
-  some_name = some;
-  before = omega arith;
-  named = ap (λ (b : Bool). b || is_named items next) same;
-  thread_is = ap (λ (b : Bool). if b then t else thread_of items next) same;
-  some_thread = lo;
-  thread_within = hi;
-  now = λ e. refl;
-}
+listed-new threads phase next items t w same some lo hi = search arith
 
 -- ---- the thread that frees it
 -- the thread is of the region, and no free comes too early
@@ -65,23 +41,11 @@ or-true : (b : Bool) → (b || true) ≡ true
 or-true true = refl
 or-true false = refl
 
-never-true : (b : Bool) → (b ≡ true → ⊥) → b ≡ false
-never-true true h = absurd (h refl)
-never-true false h = refl
-
 own-thread : (threads phase next : ℕ) (items : List Item) (name thread at : ℕ) → IsListed threads phase next items name thread at → IsFreer threads items name thread
-own-thread threads phase next items name thread at h = record {
-  some_thread = h.some_thread;
-  thread_within = h.thread_within;
-  late = ap (λ (b : Bool). b || not (is_named_now items name)) (eq-eqb thread (thread_of items name) (sym h.thread_is));
-}
+own-thread threads phase next items name thread at h = search (arith, eq-eqb)
 
 other-thread : (threads phase next : ℕ) (items : List Item) (name thread at t : ℕ) → IsListed threads phase next items name thread at → at ≢ phase → 1 ≤ t → t ≤ threads → IsFreer threads items name t
-other-thread threads phase next items name thread at t h past lo hi = record {
-  some_thread = lo;
-  thread_within = hi;
-  late = ap (λ (b : Bool). (t == thread_of items name) || not b) (never-true (is_named_now items name) (λ e. past (h.now e))) ∙ or-true (t == thread_of items name);
-}
+other-thread threads phase next items name thread at t h past lo hi = search (arith, false_from_ne_true, or-true)
 
 pub freer : (threads phase next : ℕ) (items : List Item) (name thread at t : ℕ) → IsListed threads phase next items name thread at → 1 ≤ t → t ≤ threads
     → IsFreer threads items name (if nat_eq at phase then thread else t)

@@ -1,16 +1,16 @@
 -- The plan of a text that is read, made of its items.
-use Rattle.std.proofs.Common.{◌≡◌, ℕ, zero, suc, ◌+◌, ◌*◌, ◌^◌, ◌<◌, ◌≤◌, ◌==◌, ◌||◌, Bool, true, false, if◌then◌else◌, inl, inr, List, [], ◌∷◌, ◌++◌, map}
-use Rattle.std.proofs.Common.{length, Option, None, Some, Ok, refl, ap, sym, ◌∙◌, subst, arith, length-append, Global, ne_eqb}
+use Rattle.std.proofs.Common.{◌≡◌, ℕ, ◌+◌, ◌*◌, ◌^◌, ◌<◌, ◌≤◌, ◌==◌, ◌||◌, Bool, true, false, if◌then◌else◌, List, [], ◌∷◌, ◌++◌, map, length, Option, None}
+use Rattle.std.proofs.Common.{Some, Ok, refl, ap, ◌∙◌, subst, arith, length-append, Global, ne_eqb}
 use Rattle.std.specs.Global.{Vec}
 use Rattle.std.proofs.lemmas.{Bool.cases_eq, Bool.false≢true, List.length-map}
 use denote.RawPtr.{null_ptr}
 use Rattle.pas_profile.specs.declared.profile.Profile.{Profile}
 use Rattle.pas_trace.specs.declared.{header.Header.Header, item.Item.Item, plan.Op.Op, plan.Phase.Phase, plan.Plan.Plan}
 use Rattle.pas_trace.specs.Wishes.{name_made, is_name}
-use Rattle.pas_trace.specs.Reasons.{is_named, heap_of, guard_in, actors_by, record_bound}
-use Rattle.pas_trace.specs.Plans.{parsed, shared_in, add_last, line_of_newest, keeper_for, phases_after, phases_in, bound_of, bounds_upto, all_bounds, ops_of}
-use Rattle.pas_trace.specs.Plans.{IsPlanOf}
+use Rattle.pas_trace.specs.Reasons.{is_named, heap_of, guard_in, record_bound}
+use Rattle.pas_trace.specs.Plans.{parsed, shared_in, add_last, line_of_newest, keeper_for, phases_after, phases_in, all_bounds, ops_of, IsPlanOf}
 use Rattle.pas_trace.specs.declared.item.Item.TheVariants.{Blank, Shares, Guards, NextPhase, Operates, Scavenges}
+use Rattle.pas_trace.proofs.{EveryPlan.bounds_count, OperationsOfItems.phases_within}
 
 -- ---- vectors
 holding : {X : Type 0} (heap : Global) (xs : List X) → length xs < 2 ^ 63 → Vec X
@@ -49,24 +49,6 @@ most-in f (i ∷ items) =
     let e : length items + 1 ≡ length (i ∷ items) = omega arith in
     subst (λ n. AtMost n (phases_in f (i ∷ items))) e (most-after f (heap_of items) (keeper_for f items i) (length items) (line_of_newest (i ∷ items)) i (phases_in f items) (most-in f items))
 
--- .. and there are few
-add-few : (op : Op) (ps : List (List Op)) → length (add_last (Some op) ps) ≤ length ps + 1
-add-few op [] = omega arith
-add-few op (p ∷ []) = omega arith
-add-few op (p ∷ q ∷ ps) = omega (arith, add-few op (q ∷ ps))
-
-few-after : (f : Profile) (heaps : ℕ → ℕ) (keeper : Option ℕ) (line : ℕ) (i : Item) (ps : List (List Op)) → length (phases_after f heaps keeper i line ps) ≤ length ps + 1
-few-after f heaps keeper line Blank ps = omega arith
-few-after f heaps keeper line (Shares a) ps = omega arith
-few-after f heaps keeper line (Guards g) ps = omega arith
-few-after f heaps keeper line NextPhase ps = omega (arith, length-append ps ([] ∷ []))
-few-after f heaps keeper line (Operates t w) ps = add-few _ ps
-few-after f heaps keeper line (Scavenges c) ps = add-few _ ps
-
-few-in : (f : Profile) (items : List Item) → length (phases_in f items) ≤ length items + 1
-few-in f [] = omega arith
-few-in f (i ∷ items) = omega (arith, few-after f (heap_of items) (keeper_for f items i) (line_of_newest (i ∷ items)) i (phases_in f items), few-in f items)
-
 -- the phases with these operations
 held : Global → (n : ℕ) → n < 2 ^ 63 → (ps : List (List Op)) → AtMost n ps → List Phase
 held heap n small [] h = []
@@ -78,19 +60,12 @@ held-back heap n small [] h = refl
 held-back heap n small (p ∷ ps) h = ap (λ qs. p ∷ qs) (held-back heap n small ps h.1)
 
 -- ---- bounds
-bounds-count : (f : Profile) (items : List Item) (n : ℕ) → length (bounds_upto f items n) ≡ n
-bounds-count f items zero = refl
-bounds-count f items (suc n) = omega (arith, bounds-count f items n, length-append (bounds_upto f items n) (bound_of f items n ∷ []))
-
 few-actors : (none : Bool) (threads : ℕ) → threads < 2 ^ 62 → (if none then threads else 2 * threads) + 1 < 2 ^ 63
 few-actors true threads few = omega (arith, few)
 few-actors false threads few = omega (arith, few)
 
 all-few : (f : Profile) (items : List Item) → f.threads < 2 ^ 62 → length (all_bounds f items) < 2 ^ 63
-all-few f items few =
-    let count = bounds-count f items (actors_by (guard_in items) f.threads + 1) in
-    let small : actors_by (guard_in items) f.threads + 1 < 2 ^ 63 = few-actors (guard_in items == 0) f.threads few in
-    omega (arith, count, small)
+all-few f items few = search (arith, bounds_count, few-actors)
 
 -- ---- a number above all names
 abbrev above : Option ℕ → ℕ
@@ -103,11 +78,8 @@ limit_in (Operates t w ∷ items) = limit_in items + above (name_made w)
 limit_in (i ∷ items) = limit_in items
 
 below_more : (made : Option ℕ) (named : Bool) (n limit : ℕ) → is_name made n || named ≡ true → (named ≡ true → n < limit) → n < limit + above made
-below_more None named n limit is before = let lt = before is in omega (arith, lt)
-below_more (Some m) named n limit is before = elim (cases_eq m n) [
-  | inl same ↦ omega (arith, same)
-  | inr other ↦ let lt = before (sym (ap (λ (t : Bool). t || named) (ne_eqb m n other)) ∙ is) in omega (arith, lt)
-]
+below_more None named n limit is before = omega (arith, before is)
+below_more (Some m) named n limit is before = search (arith, cases_eq, ne_eqb)
 
 named_below : (items : List Item) (n : ℕ) → is_named items n ≡ true → n < limit_in items
 named_below [] n is = absurd (false≢true is)
@@ -124,7 +96,7 @@ plan-of heap header items few threads =
       profile = record f { shared = shared_in items };
       phases = record {
         phases = holding heap (held heap (length items) small (phases_in f items) (most-in f items))
-            (omega (arith, length-map (held heap (length items) small (phases_in f items) (most-in f items)) ops_of, ap (λ ps. length ps) (held-back heap (length items) small (phases_in f items) (most-in f items)), few-in f items));
+            (omega (arith, length-map (held heap (length items) small (phases_in f items) (most-in f items)) ops_of, ap (λ ps. length ps) (held-back heap (length items) small (phases_in f items) (most-in f items)), phases_within f items));
       };
       guard = guard_in items;
       bounds = record { bounds = holding heap (all_bounds f items) (all-few f items threads) };

@@ -1,9 +1,8 @@
 -- Texts that are read line by line, with nothing between them.
 use Rattle.std.proofs.Common.{◌≡◌, ℕ, ◌+◌, List, [], ◌∷◌, ◌++◌, None, Some, Ok, refl, sym, ap, ◌∙◌, append_assoc, append-nil}
 use Rattle.pas_trace.specs.declared.{header.Header.Header, item.Item.Item}
-use Rattle.pas_trace.specs.Texts.{lines_of}
+use Rattle.pas_trace.specs.{Texts.lines_of, Plans.items_from, Plans.parsed}
 use Rattle.pas_trace.specs.Reasons.{started, header_of_words, reason_of, checked, kept, line_says}
-use Rattle.pas_trace.specs.Plans.{after_item, items_from, with_items, with_header, parsed_lines, parsed}
 use Rattle.pas_trace.proofs.WordLines.{Lacks, IsLine, lines-until}
 use Rattle.pas_generated.proofs.Says.{Says}
 
@@ -23,9 +22,7 @@ reads-both f earlier middle after text more one two number rest =
 pub reads-line : (f : Header) (earlier : List Item) (line : List ℕ) (i : Item) → Lacks 10 line → line_says f earlier line ≡ Ok i → Reads f earlier (line ++ 10 ∷ []) (i ∷ earlier)
 reads-line f earlier line i whole says number rest = (
   number + 1,
-  ap (λ (t : List ℕ). items_from f number earlier (lines_of t)) (append_assoc line (10 ∷ []) rest)
-      ∙ ap (items_from f number earlier) (lines-until line rest whole)
-      ∙ ap (λ r. after_item number r (λ i. items_from f (number + 1) (i ∷ earlier) (lines_of rest))) says,
+  simp (append_assoc, lines-until, says),
 )
 
 pub reads-said : (f : Header) (earlier : List Item) (text : List ℕ) (i : Item) → Says f.version text i → reason_of f.profile earlier i ≡ None → Reads f earlier text (i ∷ earlier)
@@ -40,8 +37,4 @@ pub parsed-by : (f : Header) (text : List ℕ) (words : List (List ℕ)) (rest :
 parsed-by f text words rest items l header reads =
     let all = reads 2 [] in
     let read : items_from f 2 [] (lines_of rest) ≡ Ok items = ap (λ (t : List ℕ). items_from f 2 [] (lines_of t)) (sym (append-nil rest)) ∙ all.1 in
-    ap (λ (t : List ℕ). parsed_lines (lines_of t)) l.text_is
-    ∙ ap parsed_lines (lines-until l.line rest l.whole)
-    ∙ ap (λ ws. with_header (header_of_words ws) (lines_of rest)) l.words_are
-    ∙ ap (λ o. with_header o (lines_of rest)) header
-    ∙ ap (with_items f) read
+    cc (lines-until l.line rest l.whole)

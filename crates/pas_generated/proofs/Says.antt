@@ -1,9 +1,9 @@
 -- What the lines of operations say.
-use Rattle.std.proofs.Common.{◌≡◌, ℕ, ◌^◌, ◌<◌, ◌≤◌, ◌==◌, nat_lt, nat_le, Bool, true, false, if◌then◌else◌, List, [], ◌∷◌, ◌++◌, get_or, codes, Some, None, Ok}
-use Rattle.std.proofs.Common.{refl, ap, ◌∙◌, arith, lit<, le-leb, lt-ltb, ne_eqb}
+use Rattle.std.proofs.Common.{◌≡◌, ℕ, ◌^◌, ◌<◌, ◌≤◌, ◌==◌, Bool, if◌then◌else◌, List, [], ◌∷◌, ◌++◌, get_or, codes, Some, Ok, refl, ap, ◌∙◌, arith, lit<}
+use Rattle.std.proofs.Common.{le-leb, lt-ltb, ne_eqb}
 use Rattle.std.specs.Fmt.{decimal}
 use Rattle.pas_trace.specs.Texts.{words_of}
-use Rattle.pas_trace.specs.Items.{below, from_one, trace_name, epoch_word, item1, item2, item5, item_of_words, item_of_line}
+use Rattle.pas_trace.specs.Items.{trace_name, epoch_word, item1, item2, item5, item_of_words, item_of_line}
 use Rattle.pas_trace.specs.declared.{item.Item.Item, item.Item.TheVariants.Operates, item.Item.TheVariants.Scavenges, item.Wish.TheVariants.Asks}
 use Rattle.pas_trace.specs.declared.{item.Wish.TheVariants.Frees, plan.Chore.Chore}
 use Rattle.pas_generate.specs.Lines.{free_line, tick_line}
@@ -13,15 +13,10 @@ use Rattle.pas_generated.proofs.Splits.{IsWord, decimal-word, word-by, last-word
 
 -- ---- numbers in their places
 name-fits : (n : ℕ) → 1 ≤ n → n ≤ 1000000 → trace_name (decimal n) ≡ Some n
-name-fits n lo hi =
-    let most : nat_lt n 1000001 ≡ true = lt-ltb n 1000001 (omega arith) in
-    let least : nat_le 1 n ≡ true = le-leb 1 n lo in
-    ap (λ o. from_one (below 1000001 o)) (number-back n (omega arith)) ∙ ap (λ (t : Bool). from_one (if t then Some n else None)) most ∙ ap (λ (t : Bool). if t then Some n else None) least
+name-fits n lo hi = search (arith, lt-ltb, le-leb, number-back)
 
 epoch-fits : (n : ℕ) → n < 2 ^ 40 → epoch_word (decimal n) ≡ Some n
-epoch-fits n small =
-    let most : nat_lt n (2 ^ 40) ≡ true = lt-ltb n (2 ^ 40) small in
-    ap (below (2 ^ 40)) (number-back n (omega arith)) ∙ ap (λ (t : Bool). if t then Some n else None) most
+epoch-fits n small = search (arith, lt-ltb, number-back)
 
 -- ---- a line of a text of this version and what it says, whatever stands before it
 pub record Says (version : ℕ) (text : List ℕ) (item : Item) : Type 0 where
@@ -33,10 +28,7 @@ pub record Says (version : ℕ) (text : List ℕ) (item : Item) : Type 0 where
 -- a line is no comment if its text begins with a letter
 by-words : (started : Bool) (b : ℕ) (bs line : List ℕ) → b ∷ bs ≡ line ++ 10 ∷ [] → 35 < b → item_of_line 1 started line ≡ item_of_words 1 started (words_of line)
 by-words started b bs [] is big = absurd (let e : b ≡ 10 = ap (λ xs. get_or xs 0 0) is in omega (arith, e, big))
-by-words started b bs (c ∷ cs) is big =
-    let e : b ≡ c = ap (λ xs. get_or xs 0 0) is in
-    let other : (c == 35) ≡ false = ne_eqb c 35 (λ same. omega (arith, same, e, big)) in
-    rw other refl
+by-words started b bs (c ∷ cs) is big = search (arith, ne_eqb)
 
 line-says : (b : ℕ) (bs : List ℕ) (words : List (List ℕ)) (item : Item) → 35 < b → IsLine (b ∷ bs) words [] → ((started : Bool) → item_of_words 1 started words ≡ Ok item) → Says 1 (b ∷ bs) item
 line-says b bs words item big l says = record {
@@ -62,7 +54,7 @@ pub allocation-says : (t n h s a : ℕ) → IsWritten t n h s a
     → Says 1 (97 ∷ 32 ∷ (decimal t ++ 32 ∷ (decimal n ++ 32 ∷ (decimal h ++ 32 ∷ (decimal s ++ 32 ∷ (decimal a ++ 10 ∷ [])))))) (Operates t (Asks n h s a))
 allocation-says t n h s a w =
     let tw = decimal-word t w.thread_fits in
-    let nw = decimal-word n (let fits : n ≤ 1000000 = w.name_fits in omega arith) in
+    let nw = decimal-word n (omega (arith, w.name_fits)) in
     let hw = decimal-word h w.heap_fits in
     let sw = decimal-word s w.size_fits in
     let aw = decimal-word a w.align_fits in

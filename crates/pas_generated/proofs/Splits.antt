@@ -28,11 +28,7 @@ pub word-by : (w : List ℕ) → nat_lt 0 (length w) ≡ true → lacks 10 w ≡
 word-by w some end space = record { some = ltb-true 0 (length w) some; no_end = lacks-by 10 w end; no_space = lacks-by 32 w space }
 
 pub decimal-word : (n : ℕ) → n < 2 ^ 64 → IsWord (decimal n)
-decimal-word n small = let h = are-digits n small in record {
-  some = h.some;
-  no_end = digits-lack 10 (decimal n) (omega arith) h.digits;
-  no_space = digits-lack 32 (decimal n) (omega arith) h.digits;
-}
+decimal-word n small = let h = are-digits n small in search (arith, digits-lack)
 
 -- ---- a line of these words, the end of the line, and the rest
 pub last-word : (w rest : List ℕ) → IsWord w → IsLine (w ++ 10 ∷ rest) (w ∷ []) rest

@@ -2,14 +2,14 @@
 use Rattle.std.proofs.Common.{◌≡◌, ◌⊎◌, ℕ, zero, suc, ◌+◌, ◌*◌, ◌/◌, ◌%◌, ◌^◌, ◌<◌, ◌≤◌, nat_eq, nat_lt, Bool, true, false, ◌||◌, List, ◌∷◌, length, codes, inl}
 use Rattle.std.proofs.Common.{inr, refl, ap, ◌∙◌, arith, eq-eqb, ne_eqb}
 use Rattle.std.proofs.Math.Nat.{mod-lt}
-use Rattle.pas_trace.specs.Reasons.{is_named, operations_in, guard_in, cost_of, costs_of, kept}
+use Rattle.pas_trace.specs.Reasons.{is_named, operations_in, kept}
 use Rattle.pas_trace.specs.declared.{item.Item.Item, item.Item.TheVariants.NextPhase, item.Item.TheVariants.Operates, item.Item.TheVariants.Scavenges}
 use Rattle.pas_trace.specs.declared.{item.Wish.TheVariants.Asks, item.Wish.TheVariants.Frees, plan.Chore.Chore}
 use Rattle.pas_generate.specs.{Draws.drawn, Draws.draw, Draws.moved_by, Requests.request_from, Lines.line_of, Lines.tick_line, Traces.IsJob}
 use Rattle.pas_generate.specs.Operations.{State, place, none, freed, freeing_thread, allocation, after_allocation, free_of, after_free, allocates, begun}
 use Rattle.pas_generate.specs.Operations.{thread_of, drawn_operation, after_drawn}
 use Rattle.pas_generate.proofs.Valid.{valid}
-use Rattle.pas_generated.specs.Meant.{region, heading, with_allocation, with_free, with_drawn}
+use Rattle.pas_generated.specs.Meant.{heading, with_allocation, with_free, with_drawn}
 use Rattle.pas_generated.proofs.Splits.{lacks-by}
 use Rattle.pas_generated.proofs.Says.{IsWritten, allocation-says, free-says, tick-says}
 use Rattle.pas_generated.proofs.Reading.{Reads, reads-both, reads-line, reads-said}
@@ -38,45 +38,19 @@ pub tick-step : (ops threads pages n : ℕ) (s : State) (items : List Item) → 
     → Step pages threads n items (tick_line ((n + 1) / 1000 + 1)) s (Scavenges (Chore.Tick ((n + 1) / 1000 + 1)) ∷ items)
 tick-step ops threads pages n s items job more h =
     let e = (n + 1) / 1000 + 1 in
-    let most : ops ≤ 200000 = job.most in
     record {
       reads = reads-said (heading pages threads) items (tick_line e) (Scavenges (Chore.Tick e)) (tick-says e (omega arith)) (tick-fine ops threads pages n items e job more h.counted);
-      follows = record {
-        some_name = h.some_name;
-        few_names = let few : s.next_name ≤ n + 1 = h.few_names in omega arith;
-        fresh = h.fresh;
-        listed = each-weaker s.unfreed _ _ (λ a l. listed-past threads s.phase s.next_name s.next_name items (Scavenges (Chore.Tick e)) a.name a.thread a.phase (omega arith) refl refl l) h.listed;
-        counted = record {
-          operations = one-more pages threads n items h.counted.operations;
-          unguarded = h.counted.unguarded;
-          costs = let costs : costs_of (region pages threads) items ≤ 3 * n + 4096 * (n / 1000) = h.counted.costs in omega arith;
-          lines = let lines : length items ≤ 2 * n + 1 = h.counted.lines in omega arith;
-        };
-      };
+      follows = search (arith, each-weaker, listed-past, one-more);
     }
 
 pub pass-step : (ops threads pages n : ℕ) (s : State) (items : List Item) → IsJob ops threads pages → n < ops → (n + 1) % 1000 ≡ 0 → Follows pages threads n s items
     → Step pages threads n items (codes "pass\nphase\n") (record s { phase = s.phase + 1 }) (NextPhase ∷ Scavenges Chore.Pass ∷ items)
 pass-step ops threads pages n s items job more turn h =
-    let f = region pages threads in
-    let most : pages ≤ 4096 = job.pages_most in
     record {
       reads = reads-both (heading pages threads) items (Scavenges Chore.Pass ∷ items) (NextPhase ∷ Scavenges Chore.Pass ∷ items) (codes "pass\n") (codes "phase\n")
           (reads-line (heading pages threads) items (codes "pass") (Scavenges Chore.Pass) (lacks-by 10 (codes "pass") refl) (ap (kept (Scavenges Chore.Pass)) (pass-fine ops threads pages n items job more h.counted)))
           (reads-line (heading pages threads) (Scavenges Chore.Pass ∷ items) (codes "phase") NextPhase (lacks-by 10 (codes "phase") refl) refl);
-      follows = record {
-        some_name = h.some_name;
-        few_names = let few : s.next_name ≤ n + 1 = h.few_names in omega arith;
-        fresh = h.fresh;
-        listed = each-weaker s.unfreed _ _
-            (λ a l. listed-next threads s.phase s.next_name (Scavenges Chore.Pass ∷ items) a.name a.thread a.phase (listed-past threads s.phase s.next_name s.next_name items (Scavenges Chore.Pass) a.name a.thread a.phase (omega arith) refl refl l)) h.listed;
-        counted = record {
-          operations = one-more pages threads n items h.counted.operations;
-          unguarded = h.counted.unguarded;
-          costs = let costs : costs_of f items ≤ 3 * n + 4096 * (n / 1000) = h.counted.costs in omega arith;
-          lines = let lines : length items ≤ 2 * n + 1 = h.counted.lines in omega arith;
-        };
-      };
+      follows = search (arith, each-weaker, listed-next, listed-past, one-more);
     }
 
 -- ---- allocations
@@ -88,34 +62,15 @@ aligned-small a (inr (inr e)) = omega arith
 allocation-step : (ops threads pages n t : ℕ) (s : State) (items : List Item) → IsJob ops threads pages → n < ops → 1 ≤ t → t ≤ threads → Follows pages threads n s items
     → Step pages threads n items (line_of (allocation t s)) (after_allocation t s) (with_allocation t s items)
 allocation-step ops threads pages n t s items job more lo hi h =
-    let f = region pages threads in
     let name = s.next_name in
     let heap = (request_from s.x).heap in
     let size = (request_from s.x).size in
     let align = (request_from s.x).align in
     let v = valid s.x in
     let small : size ≤ 8192 = v.size in
-    let known : heap < 6 = v.heap in
-    let few : name ≤ n + 1 = h.few_names in
-    let most : ops ≤ 200000 = job.most in
-    let some_threads : threads ≤ 16 = job.threads_most in
     let i : Item = Operates t (Asks name heap size align) in
-    let written : IsWritten t name heap size align = record {
-      thread_fits = omega arith;
-      some_name = h.some_name;
-      name_fits = omega arith;
-      heap_fits = omega arith;
-      size_fits = omega arith;
-      align_fits = aligned-small align v.align;
-    } in
-    let requested : IsRequested threads t name heap size align items = record {
-      some_thread = lo;
-      thread_within = hi;
-      known_heap = v.heap;
-      small = v.size;
-      aligned = v.align;
-      fresh = h.fresh name (omega arith);
-    } in
+    let written : IsWritten t name heap size align = search (arith, aligned-small) in
+    let requested : IsRequested threads t name heap size align items = assumption (h.fresh name (omega arith)) in
     record {
       reads = reads-said (heading pages threads) items (line_of (allocation t s)) i (allocation-says t name heap size align written) (allocation-fine ops threads pages n items t name heap size align job more h.counted requested);
       follows = record {
@@ -123,14 +78,9 @@ allocation-step ops threads pages n t s items job more lo hi h =
         few_names = omega arith;
         fresh = λ other later. ap (λ (b : Bool). b || is_named items other) (ne_eqb name other (λ e. omega (arith, e, later))) ∙ h.fresh other (omega (arith, later));
         listed = each-more s.unfreed _ (λ a. IsListed threads s.phase (name + 1) (i ∷ items) a.name a.thread a.phase)
-            (each-weaker s.unfreed _ _ (λ a l. listed-past threads s.phase name (name + 1) items i a.name a.thread a.phase (omega arith) (ne_eqb name a.name (λ e. let before : a.name < name = l.before in omega (arith, e))) refl l) h.listed)
+            (each-weaker s.unfreed _ _ (λ a l. listed-past threads s.phase name (name + 1) items i a.name a.thread a.phase (omega arith) (ne_eqb name a.name (λ e. omega (arith, e, l.before))) refl l) h.listed)
             (listed-new threads s.phase name items t (Asks name heap size align) (eq-eqb name name refl) h.some_name lo hi);
-        counted = record {
-          operations = one-more pages threads n items h.counted.operations;
-          unguarded = h.counted.unguarded;
-          costs = let costs : costs_of f items ≤ 3 * n + 4096 * (n / 1000) = h.counted.costs in let same : cost_of f (guard_in items) i ≡ cost_of f 0 i = ap (λ guard. cost_of f guard i) h.counted.unguarded in let cost : cost_of f 0 i ≤ 3 = request-cost size small in omega (arith, costs, same, cost);
-          lines = let lines : length items ≤ 2 * n + 1 = h.counted.lines in omega arith;
-        };
+        counted = search (arith, one-more, request-cost);
       };
     }
 
@@ -142,16 +92,10 @@ drawn-below x n some = mod-lt (x / 2 ^ 33) some
 free-step : (ops threads pages n t : ℕ) (s : State) (items : List Item) → IsJob ops threads pages → n < ops → 1 ≤ t → t ≤ threads → 0 < length s.unfreed → Follows pages threads n s items
     → Step pages threads n items (line_of (free_of t s)) (after_free s) (with_free t s items)
 free-step ops threads pages n t s items job more lo hi some h =
-    let f = region pages threads in
     let within : place s < length s.unfreed = drawn-below (moved_by 1 s.x) (length s.unfreed) some in
     let name = (freed s).name in
     let l : IsListed threads s.phase s.next_name items name (freed s).thread (freed s).phase = h.listed (place s) none within in
     let b : IsFreer threads items name (freeing_thread t s) = freer threads s.phase s.next_name items name (freed s).thread (freed s).phase t l lo hi in
-    let by : freeing_thread t s ≤ threads = b.thread_within in
-    let some_threads : threads ≤ 16 = job.threads_most in
-    let before : name < s.next_name = l.before in
-    let few : s.next_name ≤ n + 1 = h.few_names in
-    let most : ops ≤ 200000 = job.most in
     let i : Item = Operates (freeing_thread t s) (Frees name) in
     record {
       reads = reads-said (heading pages threads) items (line_of (free_of t s)) i (free-says (freeing_thread t s) name (omega arith) l.some_name (omega arith))
@@ -162,12 +106,7 @@ free-step ops threads pages n t s items job more lo hi some h =
         fresh = h.fresh;
         listed = each-left s.unfreed (λ a. IsListed threads s.phase s.next_name (i ∷ items) a.name a.thread a.phase) (place s) (freed s) within
             (each-weaker s.unfreed _ _ (λ a l. listed-past threads s.phase s.next_name s.next_name items i a.name a.thread a.phase (omega arith) refl refl l) h.listed);
-        counted = record {
-          operations = one-more pages threads n items h.counted.operations;
-          unguarded = h.counted.unguarded;
-          costs = let costs : costs_of f items ≤ 3 * n + 4096 * (n / 1000) = h.counted.costs in omega arith;
-          lines = let lines : length items ≤ 2 * n + 1 = h.counted.lines in omega arith;
-        };
+        counted = search (arith, one-more);
       };
     }
 
@@ -184,11 +123,9 @@ by-choice : (ops threads pages n : ℕ) (s : State) (items : List Item) (choice 
     → Step pages threads n items (line_of (drawn_operation threads s)) (after_drawn threads s) (with_drawn threads s items)
 unfolding drawn_operation after_drawn with_drawn
 by-choice ops threads pages n s items true e job more h =
-    let some : 1 ≤ threads = job.thread in
     let below : draw 2 s.x threads < threads = drawn-below (moved_by 2 s.x) threads (omega arith) in
     rw e (allocation-step ops threads pages n (thread_of threads s) (begun s) items job more (omega arith) (omega arith) (drawn-follows pages threads n s items h))
 by-choice ops threads pages n s items false e job more h =
-    let some : 1 ≤ threads = job.thread in
     let below : draw 2 s.x threads < threads = drawn-below (moved_by 2 s.x) threads (omega arith) in
     let left : 0 < length s.unfreed = some-left (nat_lt (draw 1 s.x 8) 4) (length s.unfreed) e in
     rw e (free-step ops threads pages n (thread_of threads s) (begun s) items job more (omega arith) (omega arith) left (drawn-follows pages threads n s items h))

@@ -25,9 +25,7 @@ with-pass threads number s items e = rw e refl
 with-draws : (threads number : ℕ) (s : State) (items : List Item) → number % 1000 ≢ 999 → number % 1000 ≢ 0 → with_operation threads number s items ≡ with_drawn threads s items
 unfolding with_operation
 with-draws threads number s items tick pass =
-    let t = ne_eqb (number % 1000) 999 tick in
-    let p = ne_eqb (number % 1000) 0 pass in
-    rw (t, p) refl
+    rw (ne_eqb (number % 1000) 999 tick, ne_eqb (number % 1000) 0 pass) refl
 
 same-step : (pages threads n : ℕ) (items : List Item) (text other : List ℕ) (now next : State) (after later : List Item) → text ≡ other → now ≡ next → after ≡ later → Step pages threads n items other next later
     → Step pages threads n items text now after
@@ -92,7 +90,6 @@ lines-few seed ops threads pages job = (all-read ops pages threads seed ops job 
 pub text-read : (seed ops threads pages : ℕ) → IsJob ops threads pages → parsed (trace_text seed ops threads pages) ≡ Ok (meant seed ops threads pages)
 text-read seed ops threads pages job =
     let f = heading pages threads in
-    let pages_lo : 2 ≤ pages = job.two_pages in
     let pages_hi : pages ≤ 4096 = job.pages_most in
     let threads_lo : 1 ≤ threads = job.thread in
     let threads_hi : threads ≤ 16 = job.threads_most in
@@ -109,6 +106,4 @@ text-faultless seed ops threads pages job fault bad = let same : Ok (meant seed 
 pub text-planned : (heap : Global) (seed ops threads pages : ℕ) → IsJob ops threads pages → (plan : Plan) × IsPlanOf (trace_text seed ops threads pages) plan
 text-planned heap seed ops threads pages job =
     let few : length (items_after threads seed ops) ≤ 2 * ops + 1 = lines-few seed ops threads pages job in
-    let most : ops ≤ 200000 = job.most in
-    let some_threads : threads ≤ 16 = job.threads_most in
     has-plan heap (trace_text seed ops threads pages) (heading pages threads) (items_after threads seed ops) (text-read seed ops threads pages job) (omega arith) (omega arith)

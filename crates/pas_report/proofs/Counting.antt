@@ -32,7 +32,7 @@ grains_same p q same = count_same 256 p q same
 
 -- ---- the four free words of a page as a row
 pub few_in_four : (n a b c d : ℕ) → n ≡ set_count (a ∷ b ∷ c ∷ d ∷ []) → n ≤ 256
-few_in_four n a b c d is = let most = set_most (a ∷ b ∷ c ∷ d ∷ []) in omega (arith, is, most)
+few_in_four n a b c d is = omega (arith, is, set_most (a ∷ b ∷ c ∷ d ∷ []))
 
 four_words : (v : ℕ → ℕ) (a b c d : ℕ) → a ≡ v 0 → b ≡ v 1 → c ≡ v 2 → d ≡ v 3 → (word : ℕ) → word < 4 → slice_index (a ∷ b ∷ c ∷ d ∷ []) word ≡ v word
 four_words v a b c d first second third fourth zero few = first

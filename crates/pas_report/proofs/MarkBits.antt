@@ -1,5 +1,5 @@
 -- The marks of a page as bits of a number.
-use Rattle.std.proofs.Common.{◌≡◌, ℕ, Bool, true, false, if◌then◌else◌, refl, ap, ◌∙◌, bit_or, arith}
+use Rattle.std.proofs.Common.{◌≡◌, ℕ, Bool, if◌then◌else◌, ap, ◌∙◌, bit_or, arith}
 use Rattle.bitflags.specs.Sets.{without}
 use Rattle.pas_report.specs.Marks.{Marked, bits_of, marks_of}
 

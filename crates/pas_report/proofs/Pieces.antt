@@ -21,11 +21,7 @@ put_all before now after waiting waiting' text none out wrote = record {
 
 -- a line more waits
 pub put_more : (before now : Option (List ℕ)) (waiting waiting' text line : List ℕ) → waiting' ≡ waiting ++ line → IsPutOut before now waiting text → IsPutOut before now waiting' (text ++ line)
-put_more before now waiting waiting' text line is out = record {
-  written = out.written;
-  text_is = ap (λ (t : List ℕ). t ++ line) out.text_is ∙ append_assoc out.written waiting line ∙ ap (λ (t : List ℕ). out.written ++ t) (sym is);
-  writes = out.writes;
-}
+put_more before now waiting waiting' text line is out = search (arith, append_assoc)
 
 -- a failed write
 pub front_out : (before now after : Option (List ℕ)) (waiting text : List ℕ) → IsPutOut before now waiting text → WritesFront now after waiting → WritesFront before after text
@@ -62,9 +58,7 @@ so_far_front : (state : State) (n : ℕ) → n ≤ pages_of state → report_by_
 so_far_front state n within =
     let all : pages_of state ≡ n + (pages_of state - n) = omega arith in
     let pages : pages_by_words state (pages_of state) ≡ pages_by_words state n ++ pages_between state n (pages_of state - n) = ap (pages_by_words state) all ∙ split_pages state n (pages_of state - n) in
-    ap (λ (t : List ℕ). codes "report\n" ++ (t ++ totals_by_words state)) pages
-    ∙ ap (λ (t : List ℕ). codes "report\n" ++ t) (append_assoc (pages_by_words state n) (pages_between state n (pages_of state - n)) (totals_by_words state))
-    ∙ sym (append_assoc (codes "report\n") (pages_by_words state n) (pages_between state n (pages_of state - n) ++ totals_by_words state))
+    search (arith, append_assoc)
 
 pub report_front : (state : State) (n : ℕ) (before after : Option (List ℕ)) → n ≤ pages_of state → WritesFront before after (so_far state n) → WritesFront before after (report_by_words state)
 report_front state n before after within wrote = front_longer before after (so_far state n) (pages_between state n (pages_of state - n) ++ totals_by_words state) (report_by_words state) (so_far_front state n within) wrote

@@ -86,14 +86,12 @@ module _ (state : State) (l : Whole) (has : HasWords state l) (valid : IsValid (
   offered_same : (page : ℕ) → IsPage (profile_of state) page → (o : Option Directory) → ((d : Directory) → o ≡ Some d → IsDirectoryOf (profile_of state) d) → offered_by state page o ≡ offered_after l page o
   offered_same page of None own = refl
   offered_same page of (Some d) own =
-      let last = of.1 in
       let at = own d refl in
       ap (λ w. has_bit w (page % 64)) (has.words (Word.Eligible (number_of d) (page / 64)) (number_lt d (profile_of state).heaps at.heap at.kind, omega arith))
 
   -- EACH PAGE HAS THE MARKS that the list left
   pub marks_are : (page : ℕ) → IsPage (profile_of state) page → marked_in state page ≡ marks_after l page
   marks_are page of =
-      let last = of.1 in
       let machine = deed_in (visible l) page in
       let offered : offered_by state page (directory_read (word_in state (Word.Deed page))) ≡ offered_after l page (directory_read (word_after l (Word.Deed page))) =
       ap (offered_by state page) (deed_read page of) ∙ offered_same page of machine (directory_is_of (profile_of state) l legal page) ∙ ap (offered_after l page) (sym (deed_read_after (profile_of state) l valid legal page)) in
@@ -116,14 +114,9 @@ module _ (state : State) (l : Whole) (has : HasWords state l) (valid : IsValid (
   live_same page of = grains_same _ _ (λ b small. live_at page b of small)
 
   module _ (free : AreFreeOrCovered (profile_of state) l) (stamps : AreStamped (profile_of state) l) where
+    -- the word has the bit of the grain 256 * page + b
     free_at : (page b : ℕ) → IsPage (profile_of state) page → b < 256 → has_bit (word_in state (Word.Free page (b / 64))) (b % 64) ≡ not (is_covered (visible l) (256 * page + b))
-    free_at page b of small =
-        let g : (256 * page + b) / 256 ≡ page = omega arith in
-        let quarter : (256 * page + b) / 64 % 4 ≡ b / 64 = omega arith in
-        let low : (256 * page + b) % 64 ≡ b % 64 = omega arith in
-        let first = of.0 in
-        let last = of.1 in
-        ap (λ w. has_bit w (b % 64)) (has.words (Word.Free page (b / 64)) (of.0, of.1, omega arith)) ∙ (λ t. has_bit (word_after l (Word.Free (sym g t) (sym quarter t))) (sym low t)) ∙ free.grain (256 * page + b) (omega arith, omega arith)
+    free_at page b of small = search arith
 
     free_same : (page : ℕ) → IsPage (profile_of state) page → free_counted_on state page ≡ uncovered_on (visible l) page
     free_same page of = grains_same _ _ (λ b small. free_at page b of small)

@@ -15,10 +15,7 @@ one_more place n front line digit is added = ap (λ (t : List ℕ). t ++ hex_dig
 
 pub hex_more : (place n : ℕ) (front line : List ℕ) → 0 < place → line ≡ front ++ (hex_digit (n / 2 ^ (4 * (place - 1)) % 16) ∷ []) → line ++ hex_digits (place - 1) n ≡ front ++ hex_digits place n
 hex_more zero n front line some added = absurd (omega arith)
-hex_more (suc place) n front line some added =
-    let e : suc place - 1 ≡ place = omega arith in
-    let power : 2 ^ (4 * (suc place - 1)) ≡ 16 ^ place = ap (λ k. 2 ^ (4 * k)) e ∙ sixteens place in
-    ap (λ k. line ++ hex_digits k n) e ∙ one_more place n front line (n / 2 ^ (4 * (suc place - 1)) % 16) (ap (λ p. n / p % 16) power) added
+hex_more (suc place) n front line some added = search (arith, sixteens, one_more)
 
 -- ---- what several pieces in a row make: a piece and a rest, words and a number and a rest, and a line from none
 pub then_piece : (old now new x y : List ℕ) → now ≡ old ++ x → new ≡ now ++ y → new ≡ old ++ (x ++ y)

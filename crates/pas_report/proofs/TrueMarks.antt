@@ -1,15 +1,14 @@
 -- What the marks of a page say at rest: where the right of a page with a deed is, which pages have room, and which are empty.
-use Rattle.std.proofs.Common.{◌≡◌, ◌≢◌, ℕ, ◌+◌, ◌*◌, ◌/◌, ◌%◌, ◌<◌, Bool, true, false, not, Option, None, Some, refl, ap, sym, ◌∙◌, subst, inl, inr, arith}
-use Rattle.std.proofs.Common.{eq-eqb}
+use Rattle.std.proofs.Common.{◌≡◌, ◌≢◌, ℕ, ◌+◌, ◌*◌, ◌/◌, ◌%◌, ◌<◌, Bool, true, false, not, Option, None, Some, refl, ap, sym, ◌∙◌, inl, inr, arith, eq-eqb}
 use Rattle.std.proofs.lemmas.Bool.{false≢true}
 use Rattle.pas_bits.specs.Bits.{has_bit}
 use Rattle.pas_profile.specs.{Directories.number_of, Directories.deed_word_of, Profiles.IsValid, Profiles.IsPage, Profiles.IsDirectoryOf}
 use Rattle.pas_profile.specs.declared.{profile.Profile.Profile, directory.Directory.Directory, word.Word.Word}
 use Rattle.pas_profile.proofs.Codecs.{deed_word_of-positive, same_from_deed_word}
 use Rattle.pas_machine.specs.State.{deed_in, backed_in}
-use Rattle.pas_steps.specs.{Clear.HasNothing, Views.usable_by, Views.usable_by_kind}
+use Rattle.pas_steps.specs.{Clear.HasNothing, Views.usable_by_kind}
 use Rattle.pas_steps.specs.Lists.{Whole, part, word_after, visible, Legal}
-use Rattle.pas_core.specs.Good.{word_of_deed, word_of_backed}
+use Rattle.pas_core.specs.Good.{word_of_deed}
 use Rattle.pas_core.specs.Rights.{eligible_bit, IsRightInOnePlace, IsRightOffered, IsUsableFree, AllClear}
 use Rattle.pas_core.proofs.{Deeds.deed_of, Deeds.backed_of, Deeds.directory_is_of, Offers.offered_at_rest, Offers.hinted_at_rest, Rights.right_in_one_place}
 use Rattle.pas_report.specs.{Marks.offered_after, Marks.marks_after, Reports.is_covered, Rests.AreFreeOrCovered, Rests.AreTrueMarks, Rests.NobodyHasRights}
@@ -35,9 +34,7 @@ module _ (f : Profile) (l : Whole) (valid : IsValid f) (legal : Legal f l) where
 
   -- a page whose right is offered is marked so
   marked_offered : (page : ℕ) (d : Directory) → deed_in (visible l) page ≡ Some d → IsRightOffered f l page → (marks_after l page).offered ≡ true
-  marked_offered page d is offers =
-      let own = eq-eqb (number_of offers.directory) (number_of d) (ap number_of (same_directory page d offers.directory is offers.of_profile offers.deed)) in
-      offered_is page d is ∙ offers.offered (number_of d) ∙ own
+  marked_offered page d is offers = search (arith, eq-eqb, same_directory, offered_is)
 
   -- ---- the place of the right
   place_shown : (page : ℕ) (d : Directory) → deed_in (visible l) page ≡ Some d → NobodyHasRights l → IsRightInOnePlace f l page → (marks_after l page).parked ≡ not ((marks_after l page).offered)
@@ -55,25 +52,13 @@ module _ (f : Profile) (l : Whole) (valid : IsValid f) (legal : Legal f l) where
   rights_shown rests page some = with_deed page (deed_in (visible l) page) refl some rests
 
   -- ---- pages with room
-  -- a grain that no live block covers is free, when nobody holds one
+  -- a grain that no live block covers is free, when nobody holds one: its bit is that of the grain 256 * page + b
   free_bit : AreFreeOrCovered f l → (page b : ℕ) → IsPage f page → b < 256 → is_covered (visible l) (256 * page + b) ≡ false → has_bit (word_after l (Word.Free page (b / 64))) (b % 64) ≡ true
-  free_bit free page b of small none =
-      let g : (256 * page + b) / 256 ≡ page = omega arith in
-      let quarter : (256 * page + b) / 64 % 4 ≡ b / 64 = omega arith in
-      let low : (256 * page + b) % 64 ≡ b % 64 = omega arith in
-      let first = of.0 in
-      let last = of.1 in
-      (λ t. has_bit (word_after l (Word.Free (sym g t) (sym quarter t))) (sym low t)) ∙ free.grain (256 * page + b) (omega arith, omega arith) ∙ ap not none
+  free_bit free page b of small none = search arith
 
   usable_free : AreFreeOrCovered f l → (page b : ℕ) → IsPage f page → (d : Directory) → deed_in (visible l) page ≡ Some d → b < 256 → usable_by_kind d.kind b ≡ true
       → is_covered (visible l) (256 * page + b) ≡ false → IsUsableFree l page (b / 64) (b % 64)
-  usable_free free page b of d is small usable none =
-      let whole : 64 * (b / 64) + b % 64 ≡ b = omega arith in
-      record {
-        small = omega arith;
-        free = free_bit free page b of small none;
-        usable = ap (λ o. usable_by o (64 * (b / 64) + b % 64)) (deed_read_after f l valid legal page ∙ is) ∙ ap (usable_by_kind d.kind) whole ∙ usable;
-      }
+  usable_free free page b of d is small usable none = search (arith, free_bit, deed_read_after)
 
   -- EACH PAGE WITH ROOM is marked as offered
   pub room_shown : AreFreeOrCovered f l → AllClear f l → NobodyHasRights l → (page : ℕ) → IsPage f page → (d : Directory) → deed_in (visible l) page ≡ Some d
@@ -83,10 +68,7 @@ module _ (f : Profile) (l : Whole) (valid : IsValid f) (legal : Legal f l) where
 
   -- EACH EMPTY PAGE that is backed is marked as hinted
   pub empty_shown : AreFreeOrCovered f l → AllClear f l → (page : ℕ) → IsPage f page → backed_in (visible l) page ≡ true → ((g : ℕ) → g / 256 ≡ page → is_covered (visible l) g ≡ false) → (marks_after l page).hinted ≡ true
-  empty_shown free clear page of backed none = hinted_at_rest f l valid legal clear page record {
-    backed = backed_of f l legal page ∙ ap word_of_backed backed;
-    free = λ g on. free.grain g (subst (IsPage f) (sym on) of) ∙ ap not (none g on);
-  }
+  empty_shown free clear page of backed none = search (arith, hinted_at_rest, backed_of)
 
   -- THE MARKS ARE TRUE once no actor has anything
   pub true_marks : ((k : ℕ) → HasNothing (part k l)) → AreTrueMarks f l

@@ -1,24 +1,20 @@
 -- What an item that passed its checks may do to the reader.
-use Rattle.std.proofs.Common.{◌≡◌, ℕ, ◌+◌, ◌<◌, ◌≤◌, ◌==◌, ◌&&◌, true, false, if◌then◌else◌, refl, List, Option, None, Some, inl, inr, sym, ap, ◌∙◌, subst}
-use Rattle.std.proofs.Common.{arith, ltb-true, eq-eqb, ne_eqb}
+use Rattle.std.proofs.Common.{◌≡◌, ℕ, ◌+◌, ◌<◌, ◌≤◌, ◌==◌, ◌&&◌, true, false, if◌then◌else◌, List, Option, None, Some, sym, ap, ◌∙◌, subst, arith, ltb-true}
+use Rattle.std.proofs.Common.{eq-eqb, ne_eqb}
 use Rattle.std.proofs.lemmas.Bool.{cases_eq}
 use Rattle.pas_trace.specs.Wishes.{name_made, heap_made, asks_pages, is_name, IsFit}
 use Rattle.pas_trace.specs.Reasons.{reason_of, guard_after, is_guard_number, cost_of, cost_of_wish, is_operation, actor_of}
 use Rattle.pas_trace.specs.Plans.{what_wished}
-use Rattle.pas_trace.specs.Told.{owner_in, heap_told, keeper_told, Tells, IsReady, CanSample, IsCounted, IsSampled, samples_next, larges_after, kept_after}
-use Rattle.pas_trace.specs.Told.{IsOperated}
+use Rattle.pas_trace.specs.Told.{owner_in, heap_told, keeper_told, Tells, IsReady, CanSample, IsCounted, IsSampled, samples_next, IsOperated}
 use Rattle.pas_trace.specs.declared.{item.Item.Item, item.Item.TheVariants.Shares, item.Item.TheVariants.Guards, item.Item.TheVariants.Operates, item.Wish.Wish}
-use Rattle.pas_trace.specs.declared.{names.Owner.Owner, names.Names.Names, plan.What.What, reader.Reader.Reader, samples.Samples.Samples}
+use Rattle.pas_trace.specs.declared.{names.Names.Names, plan.What.What, reader.Reader.Reader, samples.Samples.Samples}
 use Rattle.pas_trace.proofs.PassedChecks.{passes, own_passed, guard_passed, all_fit, actor_within, counts_within}
 use Rattle.pas_trace.proofs.Telling.{ready, can-sample}
 
 module _ (r : Reader) (items : List Item) (i : Item) (tells : Tells r items) (passed : reason_of r.header.profile items i ≡ None) where
   pub small_actor : (actor : ℕ) → actor_of i ≡ actor → actor ≤ 16
   small_actor actor is =
-      let most = actor_within r.header.profile items i passed in
-      let header = tells.header in
-      let threads : r.header.profile.threads ≤ 16 = header.threads in
-      omega (arith, most, threads, is)
+      omega (arith, actor_within r.header.profile items i passed, tells.header.threads, is)
 
   pub ready_for : (actor cost : ℕ) → cost ≡ cost_of r.header.profile r.samples.guard i → is_operation i ≡ true → actor_of i ≡ actor → ((guard : ℕ) → guard_after i guard ≡ guard) → IsReady r.counts actor cost
   ready_for actor cost is_cost operates is same = ready r items i actor cost same tells (counts_within r.header.profile items i operates passed) (small_actor actor is) is_cost
@@ -33,18 +29,11 @@ module _ (r : Reader) (items : List Item) (i : Item) (tells : Tells r items) (pa
   fit_for t w is = all_fit r.header.profile items t w tells.header (own_passed r.header.profile items t w (subst (λ (j : Item). reason_of r.header.profile items j ≡ None) is passed))
 
   pub small_heap : (h : ℕ) → i ≡ Shares h → h < 32
-  small_heap h is =
-      let header = tells.header in
-      let heaps : r.header.profile.heaps ≤ 32 = header.heaps in
-      let held : h < r.header.profile.heaps = ltb-true _ _ (passes r.header.profile items (Shares h) (subst (λ (j : Item). reason_of r.header.profile items j ≡ None) is passed)).0 in
-      omega (arith, held, heaps)
+  small_heap h is = search (arith, ltb-true, passes)
 
 -- ---- an operation was counted, by a reader that had given its name
 eqb_sym : (m n : ℕ) → (m == n) ≡ (n == m)
-eqb_sym m n = elim (cases_eq m n) [
-  | inl same ↦ eq-eqb m n same ∙ sym (eq-eqb n m (sym same))
-  | inr other ↦ ne_eqb m n other ∙ sym (ne_eqb n m (λ e. other (sym e)))
-]
+eqb_sym m n = search (arith, cases_eq, eq-eqb, ne_eqb)
 
 pub named : (old mid new : Reader) (names : Names) (samples : Samples) (t name heap : ℕ) (w : Wish) (what : What) (cost : ℕ) → Some name ≡ name_made w → heap ≡ heap_made (heap_told old) w
     → what ≡ what_wished old.header.profile (heap_told old) (keeper_told old t w) w → mid ≡ record old { names = names; samples = samples } → IsSampled old.samples samples t (asks_pages w) (cost_of_wish 0 w)
@@ -53,20 +42,13 @@ named old mid new names samples t name heap w what cost made home is same sample
   names = names;
   samples = samples;
   sampled = sampled;
-  given = λ n.
-      let owner : Owner = record { thread = t; heap = heap; phase = old.phase } in
-      given n ∙ ap (λ b. if b then owner else owner_in old.names n) (eqb_sym n name) ∙ ap (λ o. if is_name o n then owner else owner_in old.names n) made
-      ∙ ap (λ h. if is_name (name_made w) n then record { thread = t; heap = h; phase = old.phase } else owner_in old.names n) home;
+  given = search (arith, eqb_sym);
   counted = subst (λ r. IsCounted r new t (what_wished old.header.profile (heap_told old) (keeper_told old t w) w) cost) same (subst (λ x. IsCounted mid new t x cost) is counted);
 }
 
 -- a wish that is no request leaves what is known of requests
 idle_sample : (s : Samples) (t : ℕ) (w : Wish) → asks_pages w ≡ false → IsSampled s s t (asks_pages w) (cost_of_wish 0 w)
-idle_sample s t w none = record {
-  guard = refl;
-  larges = sym (ap (λ large. larges_after s t large) none);
-  kept = sym (ap (λ large. kept_after s t (large && samples_next s t) (cost_of_wish 0 w)) none);
-}
+idle_sample s t w none = search arith
 
 no_keeper : (old : Reader) (t : ℕ) (w : Wish) → asks_pages w ≡ false → keeper_told old t w ≡ None
 no_keeper old t w none = ap (λ large. if large && samples_next old.samples t then Some (old.header.profile.threads + t) else None) none
@@ -84,6 +66,5 @@ unnamed old mid new t w what cost none small is same counted = record {
   samples = old.samples;
   sampled = idle_sample old.samples t w small;
   given = λ n. ap (λ o. if is_name o n then record { thread = t; heap = heap_made (heap_told old) w; phase = old.phase } else owner_in old.names n) none;
-  counted = subst (λ r. IsCounted r new t (what_wished old.header.profile (heap_told old) (keeper_told old t w) w) cost) same
-      (subst (λ x. IsCounted mid new t x cost) (is ∙ ap (λ keeper. what_wished old.header.profile (heap_told old) keeper w) (sym (no_keeper old t w small))) counted);
+  counted = search (arith, no_keeper);
 }

@@ -1,43 +1,31 @@
 -- The checks by what the reader keeps are those of the items before.
 use Rattle.std.proofs.Common.{◌≡◌, ◌≢◌, ℕ, ◌+◌, ◌*◌, ◌<◌, ◌≤◌, ◌==◌, nat_lt, nat_le, Bool, true, false, not, ◌&&◌, ◌||◌, List, [], ◌∷◌, ◌++◌, Option, None}
-use Rattle.std.proofs.Common.{Some, Result, Ok, Err, refl, sym, ap, ◌∙◌, subst, arith}
-use Rattle.pas_profile.specs.declared.profile.Profile.{Profile}
+use Rattle.std.proofs.Common.{Some, Result, Ok, Err, refl, sym, ap, ◌∙◌, arith}
 use Rattle.pas_trace.specs.Wishes.{heap_in, sizing_in, name_made, name_freed, holds_of, asking}
-use Rattle.pas_trace.specs.Reasons.{first_failed, is_thread, is_alignment, guard_after, guard_in, guard_checks, actors_by, cost_of, cost_of_request}
-use Rattle.pas_trace.specs.Reasons.{cost_of_wish, record_bound, few_enough, may_free, checks_of, reason_of, operations_in, is_named, is_named_now, thread_of}
-use Rattle.pas_trace.specs.Reasons.{checked, kept, line_says, started}
+use Rattle.pas_trace.specs.Reasons.{first_failed, is_thread, is_alignment, guard_after, guard_in, cost_of, cost_of_request, cost_of_wish, record_bound}
+use Rattle.pas_trace.specs.Reasons.{few_enough, may_free, checks_of, reason_of, operations_in, is_named, line_says, started}
 use Rattle.pas_trace.specs.Items.{item_of_line}
-use Rattle.pas_trace.specs.Told.{owner_in, few_told, sizing_told, told_checks, reason_told, has_owner, has_owner_now, may_free_told, IsChecked, Tells}
+use Rattle.pas_trace.specs.Told.{few_told, sizing_told, told_checks, reason_told, has_owner, may_free_told, IsChecked, Tells}
 use Rattle.pas_trace.specs.declared.{fault.Reason.Reason, item.Request.Request, item.Item.Item, item.Item.TheVariants.Guards, item.Item.TheVariants.Operates}
 use Rattle.pas_trace.specs.declared.{item.Item.TheVariants.Scavenges, item.Wish.Wish, reader.Reader.Reader}
 
 -- ---- the tables tell what the checks ask
 -- the bound with an operation; its cost goes by the `guard` line before it, and it is none itself
 pub bound-after : (r : Reader) (items : List Item) (i : Item) → guard_after i (guard_in items) ≡ guard_in items → Tells r items → r.counts.bound + cost_of r.header.profile r.samples.guard i ≡ record_bound r.header.profile (i ∷ items)
-bound-after r items i none t =
-    let f = r.header.profile in
-    let b : r.counts.bound ≡ record_bound f items = t.bound in
-    let g : r.samples.guard ≡ guard_in items = t.samples.guard in
-    let cost : cost_of f r.samples.guard i ≡ cost_of f (guard_in items) i = ap (λ guard. cost_of f guard i) g in
-    let deeds : actors_by (guard_in (i ∷ items)) f.threads * f.pages ≡ actors_by (guard_in items) f.threads * f.pages = ap (λ guard. actors_by guard f.threads * f.pages) none in
-    omega (arith, b, cost, deeds)
+bound-after r items i none t = search arith
 
 few-same : (r : Reader) (items : List Item) (i : Item) → guard_after i (guard_in items) ≡ guard_in items → Tells r items
     → few_told r (cost_of r.header.profile r.samples.guard i) ≡ few_enough (operations_in items) (record_bound r.header.profile (i ∷ items))
-few-same r items i none t =
-    let o : r.counts.operations ≡ operations_in items = t.operations in
-    ap (λ n. few_enough n (r.counts.bound + cost_of r.header.profile r.samples.guard i)) o ∙ ap (few_enough (operations_in items)) (bound-after r items i none t)
+few-same r items i none t = search (arith, bound-after)
 
 -- two tests that say the same of each value
 holds-same : {A : Type 0} (o : Option A) (test other : A → Bool) → ((x : A) → test x ≡ other x) → holds_of test o ≡ holds_of other o
 holds-same None test other same = refl
 holds-same (Some x) test other same = same x
 
+-- each table that it reads has what the items tell of the name
 free-same : (r : Reader) (items : List Item) (t n : ℕ) → Tells r items → may_free_told r t n ≡ may_free items t n
-free-same r items t n h =
-    let now : is_named_now items n ≡ has_owner_now r n = (h.names n).now in
-    let thread : thread_of items n ≡ (owner_in r.names n).thread = (h.names n).thread in
-    ap (λ k. (t == k) || not (has_owner_now r n)) (sym thread) ∙ ap (λ b. (t == thread_of items n) || not b) (sym now)
+free-same r items t n h = search arith
 
 own-same : (r : Reader) (items : List Item) (t : ℕ) (w : Wish) → Tells r items → told_checks r (Operates t w) ≡ checks_of r.header.profile items (Operates t w)
 own-same r items t w h =
@@ -50,39 +38,24 @@ own-same r items t w h =
     let known = holds-same (name_freed w) (has_owner r) (is_named items) named in
     let free = holds-same (name_freed w) (may_free_told r t) (may_free items t) (λ n. free-same r items t n h) in
     let few = few_told r (cost_of_wish r.samples.guard w) in
-    ap (λ b. list b (holds_of (has_owner r) (name_freed w)) (holds_of (may_free_told r t) (name_freed w)) few) fresh
-    ∙ ap (λ b. list (holds_of (λ n. not (is_named items n)) (name_made w)) b (holds_of (may_free_told r t) (name_freed w)) few) known
-    ∙ ap (λ b. list (holds_of (λ n. not (is_named items n)) (name_made w)) (holds_of (is_named items) (name_freed w)) b few) free
-    ∙ ap (λ cs. list (holds_of (λ n. not (is_named items n)) (name_made w)) (holds_of (is_named items) (name_freed w)) (holds_of (may_free items t) (name_freed w)) cs) (few-same r items (Operates t w) refl h)
+    cc (few-same r items (Operates t w) refl h)
 
 checks-same : (r : Reader) (items : List Item) (i : Item) → Tells r items → told_checks r i ≡ checks_of r.header.profile items i
 checks-same r items (Operates t w) h = own-same r items t w h
 checks-same r items (Scavenges c) h = few-same r items (Scavenges c) refl h
-checks-same r items (Guards n) h =
-    let f = r.header.profile in
-    ap (λ begun. guard_checks f begun r.samples.guard n) h.started ∙ ap (λ guard. guard_checks f (started items) guard n) h.samples.guard
+checks-same r items (Guards n) h = search (arith, h.started, h.samples.guard)
 checks-same r items i h = refl
 
 -- ---- what a line says
 pub says-item : (r : Reader) (items : List Item) (line : List ℕ) (i : Item) → Tells r items → Ok i ≡ item_of_line r.header.version r.started line → first_failed (told_checks r i) ≡ None
     → (line_says r.header items line ≡ Ok i) × (reason_of r.header.profile items i ≡ None)
-says-item r items line i h e none =
-    let s : r.started ≡ started items = h.started in
-    let reason : reason_of r.header.profile items i ≡ None = ap first_failed (sym (checks-same r items i h)) ∙ none in
-    (ap (λ b. checked r.header.profile items (item_of_line r.header.version b line)) (sym s) ∙ ap (checked r.header.profile items) (sym e) ∙ ap (kept i) reason, reason)
+says-item r items line i h e none = search (arith, checks-same)
 
 pub says-reason : (r : Reader) (items : List Item) (line : List ℕ) (i : Item) (why : Reason) → Tells r items → Ok i ≡ item_of_line r.header.version r.started line → first_failed (told_checks r i) ≡ Some why
     → line_says r.header items line ≡ Err why
-says-reason r items line i why h e some =
-    let s : r.started ≡ started items = h.started in
-    let reason : reason_of r.header.profile items i ≡ Some why = ap first_failed (sym (checks-same r items i h)) ∙ some in
-    ap (λ b. checked r.header.profile items (item_of_line r.header.version b line)) (sym s) ∙ ap (checked r.header.profile items) (sym e) ∙ ap (kept i) reason
+says-reason r items line i why h e some = search (arith, checks-same)
 
 -- ---- a request that passes its own checks stands by those of every operation
-next : (c : Bool) (r : Reason) (cs : List (Bool × Reason)) (failed : Option Reason) → c ≡ true → first_failed cs ≡ failed → first_failed ((c, r) ∷ cs) ≡ failed
-next true r cs failed e h = h
-next false r cs failed e h = absurd (cc)
-
 passed-then : (cs ds : List (Bool × Reason)) → first_failed cs ≡ None → first_failed (cs ++ ds) ≡ first_failed ds
 passed-then [] ds e = refl
 passed-then ((true, r) ∷ cs) ds e = passed-then cs ds e
@@ -91,15 +64,6 @@ passed-then ((false, r) ∷ cs) ds e = absurd (cc)
 pub request-checked : (r : Reader) (t : ℕ) (q : Request) (result : Result ℕ Reason)
     → is_thread r.header.profile t ≡ true → nat_lt q.heap r.header.profile.heaps ≡ true → first_failed (sizing_told r q.size q.align) ≡ None → not (has_owner r q.name) ≡ true
     → IsChecked (first_failed (few_told r (cost_of_request r.samples.guard q.size))) (cost_of_request r.samples.guard q.size) result → IsChecked (reason_told r t (asking q)) (cost_of_request r.samples.guard q.size) result
-request-checked r t q result thread heap sized fresh few =
-    let f = r.header.profile in
-    let cost = cost_of_request r.samples.guard q.size in
-    let sizing = sizing_told r q.size q.align in
-    let left : List (Bool × Reason) = (not (has_owner r q.name), Reason.NameTaken) ∷ few_told r cost in
-    let failed : Option Reason = first_failed (few_told r cost) in
-    let same : reason_told r t (asking q) ≡ failed =
-    next (is_thread f t) Reason.BadThread ((nat_lt q.heap f.heaps, Reason.BadHeap) ∷ (sizing ++ left)) failed thread (next (nat_lt q.heap f.heaps) Reason.BadHeap (sizing ++ left) failed heap
-    (passed-then sizing left sized ∙ next (not (has_owner r q.name)) Reason.NameTaken (few_told r cost) failed fresh refl)) in
-    subst (λ failed. IsChecked failed cost result) (sym same) few
+request-checked r t q result thread heap sized fresh few = search (arith, passed-then)
 
 -- ---- the checks of a `guard` line, one after the other

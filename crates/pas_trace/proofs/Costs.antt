@@ -10,10 +10,7 @@ pub large_cost : (size : ℕ) → 2048 < size → 1 + pages_for size ≡ cost_of
 large_cost size beyond = sym (ap (λ t. if t then 2 else 1 + pages_for size) (lt-leb size 2048 beyond))
 
 pub some_cost : (size : ℕ) → 1 ≤ cost_of_size size
-some_cost size = elim (cases_lt 2048 size) [
-  | inl beyond ↦ omega (arith, large_cost size beyond)
-  | inr within ↦ omega (arith, small_cost size within)
-]
+some_cost size = search (arith, cases_lt, large_cost, small_cost)
 
 -- ---- in a trace whose `guard` line has this number
 pub small_request : (guard size : ℕ) → size ≤ 2048 → 2 ≡ cost_of_request guard size
@@ -28,9 +25,7 @@ unguarded_cost guard size none = ap (λ g. cost_of_request g size) (sym none)
 
 pub guarded_cost : (guard size : ℕ) → 2048 < size → guard ≢ 0 → cost_of_size size + 2 ≡ cost_of_request guard size
 guarded_cost guard size beyond some =
-    let large = large_cost size beyond in
-    let request : 3 + pages_for size ≡ cost_of_request guard size = large_request guard size false beyond (ne_eqb guard 0 some) in
-    omega (arith, large, request)
+    omega (arith, large_cost size beyond, large_request guard size false beyond (ne_eqb guard 0 some))
 
 two_least : (none : Bool) (n : ℕ) → 1 + n ≤ (if none then 1 + n else 3 + n)
 two_least true n = omega arith
@@ -40,9 +35,7 @@ two_least false n = omega arith
 pub least_cost : (guard size : ℕ) → cost_of_size size ≤ cost_of_request guard size
 least_cost guard size = elim (cases_lt 2048 size) [
   | inl beyond ↦
-      let large = large_cost size beyond in
-      let request = large_request guard size (guard == 0) beyond refl in
       let least = two_least (guard == 0) (pages_for size) in
-      omega (arith, large, request, least)
+      omega (arith, large_cost size beyond, large_request guard size (guard == 0) beyond refl, least)
   | inr within ↦ omega (arith, small_cost size within, small_request guard size within)
 ]

@@ -38,9 +38,4 @@ lines-cut bs n lt found =
 -- .. that is the first from a place on
 pub lines-from : (bs : List ℕ) (p n : ℕ) → n ≤ length (take (length bs - p) (drop p bs)) → (n < length (take (length bs - p) (drop p bs)) → get_or (take (length bs - p) (drop p bs)) n 0 ≡ 10)
     → p ≤ length bs → p + n ≢ length bs → lines_of bs ≡ lines_of (take (p + n + 1) bs) ++ lines_of (drop (p + n + 1) bs)
-lines-from bs p n within ended le ne =
-    let rest : take (length bs - p) (drop p bs) ≡ drop p bs = take_rest bs p in
-    let long : length (take (length bs - p) (drop p bs)) ≡ length bs - p = ap length rest ∙ length-drop p bs in
-    let lt : n < length (take (length bs - p) (drop p bs)) = omega (arith, within, long, le, ne) in
-    let found : get_or bs (p + n) 0 ≡ 10 = sym (get_or-drop p bs n 0) ∙ sym (ap (λ (t : List ℕ). get_or t n 0) rest) ∙ ended lt in
-    lines-cut bs (p + n) (omega (arith, lt, long)) found
+lines-from bs p n within ended le ne = search (arith, take_rest, length-drop, get_or-drop, lines-cut)

@@ -23,9 +23,7 @@ pub value-step : (v b : ℕ) (bs : List ℕ) → 48 ≤ b → b ≤ 57 → value
 value-step v b bs lo hi = let e : is_digit b ≡ true = digit-is b lo hi in rw e refl
 
 pub value-large : (v b : ℕ) (bs : List ℕ) → 18446744073709551616 ≤ 10 * v + (b - 48) → value_after v (b ∷ bs) ≡ None
-value-large v b bs ge =
-    if-false (all_digits (b ∷ bs)) (nat_lt (value_from v (b ∷ bs)) 18446744073709551616) (Some (value_from v (b ∷ bs)))
-    (le-ltb (value_from v (b ∷ bs)) 18446744073709551616 (omega (arith, ge, value-grows (10 * v + (b - 48)) bs)))
+value-large v b bs ge = search (arith, if-false, le-ltb, value-grows)
 
 pub value-end : (v : ℕ) → v < 18446744073709551616 → value_after v [] ≡ Some v
 value-end v lt = grind arith
@@ -65,9 +63,7 @@ some-tested true x y e = (refl, cc)
 some-tested false x y e = cc
 
 pub hex-digit : (b d : ℕ) → Some d ≡ (if is_hex b then Some (hex_value b) else None) → (is_hex b ≡ true) × (d ≡ hex_value b) × (d ≤ 15)
-hex-digit b d e =
-    let t = some-tested (is_hex b) (hex_value b) d e in
-    (t.0, t.1, omega (arith, t.1, hex-small b t.0))
+hex-digit b d e = search (arith, some-tested, hex-small)
 
 -- the value stays small
 pub hex-room : (v i : ℕ) → v < 16 ^ i → i ≤ 7 → v < 268435456

@@ -1,10 +1,10 @@
 -- In each phase of every plan, the names that a thread frees were asked for by itself or before the phase.
-use Rattle.std.proofs.Common.{◌≡◌, ℕ, ◌==◌, ◌||◌, Bool, true, false, not, if◌then◌else◌, Option, List, [], ◌∷◌, ◌++◌, map, Some, None, refl, ap, sym, ◌∙◌}
-use Rattle.std.proofs.Common.{subst, append_assoc, MatchOption, eqb-true, eq-eqb, append-nil}
+use Rattle.std.proofs.Common.{arith, ◌≡◌, ℕ, ◌==◌, ◌||◌, Bool, true, false, not, if◌then◌else◌, Option, List, [], ◌∷◌, ◌++◌, map, Some, None, refl, ap, sym}
+use Rattle.std.proofs.Common.{◌∙◌, subst, append_assoc, MatchOption, eqb-true, eq-eqb, append-nil}
 use Rattle.std.proofs.lemmas.Bool.{false≢true}
 use Rattle.pas_profile.specs.declared.profile.Profile.{Profile}
 use Rattle.pas_trace.specs.{Wishes.name_made, Wishes.name_freed, Wishes.is_name, Asked.freed_in, EveryPhase.FreesItsOwn, EveryPhase.FreeTheirOwn}
-use Rattle.pas_trace.specs.Reasons.{is_phase, is_named, is_named_now, may_free, thread_of, heap_of, reason_of}
+use Rattle.pas_trace.specs.Reasons.{is_phase, is_named, is_named_now, thread_of, heap_of, reason_of}
 use Rattle.pas_trace.specs.Plans.{IsPlanOf, keeper_for, phases_of, ops_of, what_wished, what_of_chore, add_last, phases_in}
 use Rattle.pas_trace.specs.EveryPlan.{all_ops, is_asked, asked_after, asked_by}
 use Rattle.pas_trace.specs.declared.{item.Item.Item, item.Wish.Wish, item.Wish.TheVariants.Asks, plan.Chore.Chore, plan.Op.Op, plan.Plan.Plan}
@@ -75,10 +75,7 @@ chore_frees (Chore.Tick e) = refl
 chore_frees c = refl
 
 item_frees : (f : Profile) (i : Item) (earlier : List Item) (own : ℕ → List ℕ) → reason_of f earlier i ≡ None → HaveOwn own earlier → (k : ℕ) → FreesItsOwn k (own k) (new_ops f i earlier)
-item_frees f (Operates t w) earlier own passed have k =
-    let held = own_passed f earlier t w passed in
-    let freed : MatchOption (name_freed w) (Unit {0}) (λ n. is_asked (own t) n ≡ true) = held_both (name_freed w) (is_named earlier) (may_free earlier t) _ (λ n known free. have t n (known, free)) held.known held.free in
-    (λ who. subst (λ o. MatchOption o (Unit {0}) (λ n. is_asked (own k) n ≡ true)) (sym (wish_frees f (heap_of earlier) (keeper_for f earlier (Operates t w)) w)) (subst (λ j. MatchOption (name_freed w) (Unit {0}) (λ n. is_asked (own j) n ≡ true)) who freed), tt)
+item_frees f (Operates t w) earlier own passed have k = search (arith, own_passed, held_both, wish_frees)
 item_frees f (Scavenges c) earlier own passed have k = (λ who. subst (λ o. MatchOption o (Unit {0}) (λ n. is_asked (own k) n ≡ true)) (sym (chore_frees c)) tt, tt)
 item_frees f i earlier own passed have k = tt
 

@@ -2,10 +2,9 @@
 use Rattle.std.proofs.Common.{MatchOption, ◌≡◌, ◌≢◌, ◌≤◌, ◌==◌, Bool, true, false, if◌then◌else◌, Option, Some, None, ℕ, zero, suc, ◌+◌, ◌*◌, ◌<◌, List, []}
 use Rattle.std.proofs.Common.{◌∷◌, ◌++◌, length, slice_index, inl, inr, refl, ap, sym, ◌∙◌, subst, arith, length-append, ne_eqb}
 use Rattle.std.proofs.{lemmas.Bool.cases_lt, lemmas.List.length-map, lemmas.List.get_or_append_left, Math.Seq.get_or-append_seam}
-use Rattle.pas_profile.specs.Profiles.{IsValid}
 use Rattle.pas_profile.specs.declared.profile.Profile.{Profile}
 use Rattle.pas_trace.specs.Plans.{IsPlanOf, phases_of, ops_of, phases_in, shared_in, own_costs, bound_of, bounds_upto, bounds_of}
-use Rattle.pas_trace.specs.EveryPlan.{all_ops, operations_of, AreBelow, AreSound, AreKept, own_records, kept_records, records_of_ops, IsSound}
+use Rattle.pas_trace.specs.EveryPlan.{all_ops, operations_of, AreBelow, AreSound, AreKept, own_records, IsSound}
 use Rattle.pas_trace.specs.{Asked.keeper_in, Reasons.guard_in, Reasons.actors_by, Reasons.reason_of}
 use Rattle.pas_trace.specs.declared.{item.Item.Item, item.Item.TheVariants.Guards, plan.Op.Op, plan.Plan.Plan}
 use Rattle.pas_trace.proofs.{LineCounts.lines_few, ParsedItems.AreChecked, ParsedItems.parts_of, PassedChecks.guard_passed, Telling.bound-thread}
@@ -13,7 +12,7 @@ use Rattle.pas_trace.proofs.{Telling.bound-keeper}
 use Rattle.pas_trace.proofs.OperationsOfItems.{ops_in, following, all_below, all_records, all_own, all_scavenger, exact_records, exact_own, all_kept}
 use Rattle.pas_trace.proofs.OperationsOfItems.{all_keepers, phases_within}
 
-bounds_count : (f : Profile) (items : List Item) (n : ℕ) → length (bounds_upto f items n) ≡ n
+pub bounds_count : (f : Profile) (items : List Item) (n : ℕ) → length (bounds_upto f items n) ≡ n
 bounds_count f items zero = refl
 bounds_count f items (suc n) = omega (arith, bounds_count f items n, length-append (bounds_upto f items n) (bound_of f items n ∷ []))
 
@@ -74,68 +73,34 @@ every_plan {text} {plan} is =
     let actors = actors_by (guard_in is.items) f.threads in
     let ops : operations_of plan ≡ ops_in f is.items = ap all_ops is.phases in
     let follow = following f (shared_in is.items) is.items all.valid all.checked in
-    let lines = lines_few text in
     let few = all.few in
     let phases = phases_within f is.items in
     let many : length (phases_of plan.phases) ≡ length (phases_in f is.items) = sym (length-map (phases_of plan.phases) ops_of) ∙ ap (λ ps. length ps) is.phases in
     let bound : (k : ℕ) → k < actors + 1 → slice_index (bounds_of plan.bounds) k ≡ bound_of f is.items k = λ k lt. ap (λ bs. slice_index bs k) is.bounds ∙ bound_at f is.items k (actors + 1) lt in
-    let own : (k : ℕ) → own_records plan.profile k (operations_of plan) ≤ own_costs f k is.items = λ k.
-    let same = ap (λ h. own_records h k (operations_of plan)) is.profile ∙ ap (own_records g k) ops in
-    let le = all_own f (shared_in is.items) k is.items in
-    omega (arith, same, le) in
+    let own : (k : ℕ) → own_records plan.profile k (operations_of plan) ≤ own_costs f k is.items = search (arith, all_own) in
     let threads : plan.profile.threads ≡ f.threads = ap (λ h. h.threads) is.profile in
     let pages : plan.profile.pages ≡ f.pages = ap (λ h. h.pages) is.profile in
     let known : actors_by plan.guard plan.profile.threads ≡ actors = ap (λ n. actors_by n plan.profile.threads) is.guard ∙ ap (actors_by (guard_in is.items)) threads in
-    let most = actors_few f is.items all.checked all.valid.threads in
     let among = threads_among (guard_in is.items) f.threads in
     let valid = all.valid in
     record {
-      valid = subst IsValid (sym is.profile) (record {
-        some_page = valid.some_page;
-        pages = valid.pages;
-        classes = valid.classes;
-        some_thread = valid.some_thread;
-        threads = valid.threads;
-        some_age = valid.some_age;
-        age = valid.age;
-        some_heap = valid.some_heap;
-        heaps = valid.heaps;
-      });
+      valid = search arith;
       operations = subst (λ h. AreSound h [] (operations_of plan)) (sym is.profile) (subst (λ os. AreSound g [] os) (sym ops) follow.sound);
       names = subst (AreBelow plan.names_limit) (sym ops) (all_below plan.names_limit [] (ops_in f is.items) (λ n asked. is.names n (sym (follow.names n) ∙ asked)));
-      phases = omega (arith, many, phases, few, lines);
-      actors = omega (arith, known, most);
+      phases = omega (arith, many, phases, few, lines_few text);
+      actors = omega (arith, known, actors_few f is.items all.checked all.valid.threads);
       keepers = keepers_of plan.profile f plan.guard (guard_in is.items) (operations_of plan) (ops_in f is.items) threads is.guard ops (all_keepers f is.items all.checked);
       count = ap (λ bs. length bs) is.bounds ∙ bounds_count f is.items (actors + 1) ∙ ap (λ n. n + 1) (sym known);
       scavenger = bound 0 (omega arith) ∙ sym (ap (λ h. own_records h 0 (operations_of plan)) is.profile ∙ ap (own_records g 0) ops ∙ all_scavenger f (shared_in is.items) is.items all.checked);
-      own = λ k some le.
-          let here = bound k (omega (arith, le, threads, among)) in
-          let thread = bound-thread f is.items k some (omega (arith, le, threads)) in
-          let few = own k in
-          omega (arith, here, thread, few, pages);
+      own = search (arith, bound-thread);
       exact_own = λ none k some le.
-          let here = bound k (omega (arith, le, threads, among)) in
           let thread = bound-thread f is.items k some (omega (arith, le, threads)) in
           let same = ap (λ h. own_records h k (operations_of plan)) is.profile ∙ ap (own_records g k) ops ∙ exact_own f (shared_in is.items) k is.items all.checked (sym is.guard ∙ none) in
-          omega (arith, here, thread, same, pages);
-      kept = λ k guarded some le.
-          let within = keepers_among (guard_in is.items) f.threads k (λ none. guarded (is.guard ∙ none)) (omega (arith, le, threads)) in
-          let here = bound (f.threads + k) (omega (arith, within)) in
-          let keeper = bound-keeper f is.items k some in
-          let same = ap (kept_records k) ops ∙ all_kept f k is.items in
-          let place : slice_index (bounds_of plan.bounds) (plan.profile.threads + k) ≡ slice_index (bounds_of plan.bounds) (f.threads + k) = ap (λ n. slice_index (bounds_of plan.bounds) (n + k)) threads in
-          omega (arith, place, here, keeper, same, pages);
+          omega (arith, bound k (omega (arith, le, threads, among)), thread, same, pages);
+      kept = search (arith, keepers_among, bound-keeper, all_kept);
       total =
-          let records = ap (λ h. records_of_ops h (operations_of plan)) is.profile ∙ ap (records_of_ops g) ops in
-          let le = all_records f (shared_in is.items) is.items in
-          let deeds : actors_by plan.guard plan.profile.threads * plan.profile.pages ≡ actors * f.pages = ap (λ n. n * plan.profile.pages) known ∙ ap (λ n. actors * n) pages in
-          omega (arith, records, le, deeds, is.total);
-      exact_total = λ none.
-          let unguarded = sym is.guard ∙ none in
-          let records = ap (λ h. records_of_ops h (operations_of plan)) is.profile ∙ ap (records_of_ops g) ops ∙ exact_records f (shared_in is.items) is.items all.checked unguarded in
-          let alone : actors * f.pages ≡ f.threads * f.pages = ap (λ guard. actors_by guard f.threads * f.pages) unguarded in
-          let deeds : plan.profile.threads * plan.profile.pages ≡ f.threads * f.pages = ap (λ n. n * plan.profile.pages) threads ∙ ap (λ n. f.threads * n) pages in
-          omega (arith, records, alone, deeds, is.total);
+          search (arith, all_records);
+      exact_total = search (arith, exact_records);
     }
 
 -- the first of several operations are below the limit of all

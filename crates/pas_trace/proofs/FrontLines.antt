@@ -1,12 +1,12 @@
 -- Lines at the front of a text: their digits, their words, and where they end.
-use Rattle.std.proofs.Common.{◌≡◌, ◌≢◌, ℕ, ◌+◌, ◌-◌, ◌*◌, ◌^◌, ◌<◌, ◌≤◌, ◌==◌, nat_lt, nat_le, Bool, true, false, if◌then◌else◌, List, [], ◌∷◌, ◌++◌, take}
-use Rattle.std.proofs.Common.{drop, length, get_or, None, Some, Ok, refl, sym, ap, ◌∙◌, arith, append_assoc, length-append, take-append-drop, length-take-le}
-use Rattle.std.proofs.Common.{get_or-take, le-leb, lt-ltb, leb-true, ne_eqb}
+use Rattle.std.proofs.Common.{◌≡◌, ◌≢◌, ℕ, ◌+◌, ◌-◌, ◌*◌, ◌^◌, ◌<◌, ◌≤◌, ◌==◌, nat_lt, Bool, true, false, if◌then◌else◌, List, [], ◌∷◌, ◌++◌, take, drop}
+use Rattle.std.proofs.Common.{length, get_or, None, Some, Ok, refl, sym, ap, ◌∙◌, arith, append_assoc, length-append, take-append-drop, length-take-le}
+use Rattle.std.proofs.Common.{get_or-take, le-leb, lt-ltb, ne_eqb}
 use Rattle.std.proofs.{Math.Nat.pow-le-pow_right, lemmas.Grind.pow_more, lemmas.List.take_rest, lemmas.List.take_more, lemmas.List.drop_more}
 use Rattle.std.proofs.{lemmas.Bool.and_from, lemmas.Bool.and_parts}
 use Rattle.pas_trace.specs.{Texts.pieces, Texts.without_empty, Texts.lines_of, FirstLines.BeginsWith, FirstLines.FirstSays}
 use Rattle.pas_trace.specs.Numbers.{is_digit, all_digits, value_from, is_decimal, number_of}
-use Rattle.pas_trace.specs.Items.{below, from_one, trace_name, item2, item5, item_of_words}
+use Rattle.pas_trace.specs.Items.{trace_name, item2, item5, item_of_words}
 use Rattle.pas_trace.specs.declared.item.{Item.Item, Item.TheVariants.Operates, Wish.TheVariants.Asks, Wish.TheVariants.Frees}
 use Rattle.pas_trace.proofs.{Digits.digit-is, Digits.digits-add, Digits.value-add, Splits.keeps}
 use Rattle.pas_trace.proofs.WordLines.{IsLine, Lacks, lacks-both, digits-lack, pieces-until, pieces-only, lines-until}
@@ -42,11 +42,7 @@ digits-small count value small few =
 decimal-from : (w : List ℕ) → all_digits w ≡ true → 0 < length w → (1 < length w → get_or w 0 0 ≢ 48) → is_decimal w ≡ true
 decimal-from [] digits some head = absurd (omega arith)
 decimal-from (b ∷ []) digits some head = (and_parts (is_digit b) true digits).0
-decimal-from (b ∷ c ∷ bs) digits some head =
-    let first = and_parts (nat_le 48 b) (nat_le b 57) (and_parts (is_digit b) (all_digits (c ∷ bs)) digits).0 in
-    let lo : 48 ≤ b = leb-true 48 b first.0 in
-    let other : b ≢ 48 = head (omega arith) in
-    and_from (nat_le 49 b) (all_digits (b ∷ c ∷ bs)) (le-leb 49 b (omega (arith, lo, other))) digits
+decimal-from (b ∷ c ∷ bs) digits some head = search (arith, and_parts, and_from, le-leb)
 
 number-found : (text : List ℕ) (count value end : ℕ) → all_digits (take count text) ≡ true → value ≡ value_from 0 (take count text) → value < 1000000000000000000
     → 0 < count → count < length text → get_or text count 0 ≡ end → (1 < count → get_or text 0 0 ≢ 48) → BeginsWith text value end (take (length text - (count + 1)) (drop (count + 1) text))
@@ -119,15 +115,12 @@ line-says version b text words rest item big l says =
     record {
       line = line;
       cut = ap lines_of whole.text_is ∙ lines-until line rest whole.whole;
-      shorter = let long : length (b ∷ 32 ∷ text) ≡ length (line ++ 10 ∷ rest) = ap length whole.text_is in omega (arith, long, length-append line (10 ∷ rest));
+      shorter = omega (arith, ap length whole.text_is, length-append line (10 ∷ rest));
       says = λ started. rw other (ap (item_of_words version started) whole.words_are ∙ says started);
     }
 
 name-fits : (w : List ℕ) (n : ℕ) → number_of w ≡ Some n → 1 ≤ n → n ≤ 1000000 → trace_name w ≡ Some n
-name-fits w n e lo hi =
-    let most : nat_lt n 1000001 ≡ true = lt-ltb n 1000001 (omega arith) in
-    let least : nat_le 1 n ≡ true = le-leb 1 n lo in
-    ap (λ o. from_one (below 1000001 o)) e ∙ ap (λ (t : Bool). from_one (if t then Some n else None)) most ∙ ap (λ (t : Bool). if t then Some n else None) least
+name-fits w n e lo hi = search (arith, lt-ltb, le-leb)
 
 pub allocation-first : (version : ℕ) (text t1 t2 t3 t4 rest : List ℕ) (t n h s a : ℕ) → BeginsWith text t 32 t1 → BeginsWith t1 n 32 t2 → BeginsWith t2 h 32 t3 → BeginsWith t3 s 32 t4 → BeginsWith t4 a 10 rest → 1 ≤ n → n ≤ 1000000
     → FirstSays version (97 ∷ 32 ∷ text) (Operates t (Asks n h s a)) rest

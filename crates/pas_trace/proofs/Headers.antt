@@ -1,6 +1,6 @@
 -- A header has ten words, and its numbers are within the limits.
 use Rattle.std.proofs.Common.{◌≡◌, ℕ, ◌<◌, ◌≤◌, ◌&&◌, nat_le, Bool, true, false, if◌then◌else◌, List, [], ◌∷◌, length, Option, None, Some, refl, subst, arith}
-use Rattle.std.proofs.Common.{codes, leb-true, le-leb}
+use Rattle.std.proofs.Common.{codes, le-leb}
 use Rattle.std.proofs.lemmas.Bool.{and_parts}
 use Rattle.pas_profile.specs.Profiles.{IsValid, AreClassesFor}
 use Rattle.pas_trace.specs.declared.header.Header.{Header}
@@ -26,13 +26,7 @@ short8 a b c d e f g h (x ∷ y ∷ ws) lt = absurd (omega arith)
 -- ---- the limits
 in_range : (least most n : ℕ) (o : Option ℕ) → within least most o ≡ Some n → (least ≤ n) × (n ≤ most)
 in_range least most n None e = absurd (cc)
-in_range least most n (Some m) e =
-    let p = if_some (nat_le least m && nat_le m most) (Some m) n e in
-    let q = and_parts (nat_le least m) (nat_le m most) p.0 in
-    let same : m ≡ n = let is = p.1 in cc in
-    let low = leb-true least m q.0 in
-    let high = leb-true m most q.1 in
-    (omega (arith, same, low), omega (arith, same, high))
+in_range least most n (Some m) e = search (arith, if_some, and_parts)
 
 -- a number that is there is within these limits
 abbrev Within : ℕ → ℕ → Option ℕ → Type 0

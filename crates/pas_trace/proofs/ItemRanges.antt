@@ -2,11 +2,10 @@
 use Rattle.std.proofs.Common.{◌≡◌, ℕ, ◌-◌, ◌^◌, ◌<◌, ◌==◌, nat_lt, Bool, true, false, if◌then◌else◌, List, [], ◌∷◌, Option, Some, None, Result, refl, arith}
 use Rattle.std.proofs.Common.{IfOk, MatchOption, codes, ltb-true}
 use Rattle.pas_trace.specs.{Texts.words_of, Numbers.number_of, Numbers.address_of_word, Asked.epoch_of}
-use Rattle.pas_trace.specs.Items.{same_bytes, below, trace_name, epoch_word, turn_word, since, has_since, item1, item2, item3, item4, item5, item_of_two}
-use Rattle.pas_trace.specs.Items.{item_of_six, item_by_count, item_of_words, item_of_line}
-use Rattle.pas_trace.specs.declared.{fault.Reason.Reason, item.Item.Item, item.Item.TheVariants.Shares, item.Item.TheVariants.Operates}
-use Rattle.pas_trace.specs.declared.{item.Item.TheVariants.Scavenges, plan.Chore.Chore}
-use Rattle.pas_trace.specs.declared.item.Wish.TheVariants.{Asks, Frees, FreesSized, FreesRaw, FreesRawSized, Remakes, Flushes, Stops}
+use Rattle.pas_trace.specs.Items.{same_bytes, below, trace_name, turn_word, since, has_since, item1, item2, item3, item4, item5, item_of_two, item_of_six}
+use Rattle.pas_trace.specs.Items.{item_by_count, item_of_words, item_of_line}
+use Rattle.pas_trace.specs.declared.{fault.Reason.Reason, item.Item.Item, item.Item.TheVariants.Operates, item.Item.TheVariants.Scavenges}
+use Rattle.pas_trace.specs.declared.item.Wish.TheVariants.{Frees, FreesSized, FreesRaw, FreesRawSized}
 
 -- a turn has a next one, and epochs are below 2^40
 abbrev pub IsInRange : Item → Type 0
@@ -46,7 +45,7 @@ range5 make (Some a) None c d e all = tt
 range5 make (Some a) (Some b) c d e all = first_of_three (make a b) c d e (all a b)
 
 kept_lt : (t : Bool) (limit n m : ℕ) → nat_lt m limit ≡ t → (if t then Some m else None) ≡ Some n → n < limit
-kept_lt true limit n m is e = let same : m ≡ n = cc in let lt = ltb-true m limit is in omega (arith, same, lt)
+kept_lt true limit n m is e = let same : m ≡ n = cc in omega (arith, same, ltb-true m limit is)
 kept_lt false limit n m is e = absurd (cc)
 
 below_lt : (limit n : ℕ) (o : Option ℕ) → below limit o ≡ Some n → n < limit
@@ -54,19 +53,10 @@ below_lt limit n None e = absurd (cc)
 below_lt limit n (Some m) e = kept_lt (nat_lt m limit) limit n m refl e
 
 two_range : (started : Bool) (w a : List ℕ) → IfOk (item_of_two started w a) IsInRange
-two_range started w a =
-    if_range (same_bytes w (codes "shared")) _ _ (if_range started _ _ tt (range1 Shares (number_of a) (λ x is. tt)))
-    (if_range (same_bytes w (codes "flush")) _ _ (range1 (λ t. Operates t Flushes) (number_of a) (λ x is. tt))
-    (if_range (same_bytes w (codes "stop")) _ _ (range1 (λ t. Operates t Stops) (number_of a) (λ x is. tt))
-    (if_range (same_bytes w (codes "tick")) _ _ (range1 (λ e. Scavenges (Chore.Tick e)) (epoch_word a) (λ x is. below_lt (2 ^ 40) x (number_of a) is))
-    (if_range (same_bytes w (codes "idle")) _ _ (range1 (λ n. Scavenges (Chore.Idle n)) (epoch_word a) (λ x is. below_lt (2 ^ 40) x (number_of a) is))
-    (if_range (same_bytes w (codes "guard")) _ _ tt tt)))))
+two_range started w a = search (arith, if_range, range1, below_lt)
 
 six_range : (w a b c d e : List ℕ) → IfOk (item_of_six w a b c d e) IsInRange
-six_range w a b c d e =
-    if_range (same_bytes w (codes "a")) _ _ (range5 (λ t n h s a. Operates t (Asks n h s a)) (number_of a) (trace_name b) (number_of c) (number_of d) (number_of e) (λ v w x y z is. tt))
-    (if_range (same_bytes w (codes "rs")) _ _ (range5 (λ t b n s a. Operates t (FreesRawSized b n s a)) (number_of a) (address_of_word b) (turn_word c) (number_of d) (number_of e) (λ v w x y z is. below_lt (2 ^ 40 - 1) x (number_of c) is))
-    (if_range (same_bytes w (codes "m")) _ _ (range5 (λ t n o s a. Operates t (Remakes n o s a)) (number_of a) (trace_name b) (trace_name c) (number_of d) (number_of e) (λ v w x y z is. tt)) tt))
+six_range w a b c d e = search (arith, if_range, range5, below_lt)
 
 count_range : (started : Bool) (w : List ℕ) (more : List (List ℕ)) → IfOk (item_by_count started w more) IsInRange
 count_range started w [] = if_range (same_bytes w (codes "pass")) _ _ tt (if_range (same_bytes w (codes "phase")) _ _ tt tt)

@@ -61,7 +61,7 @@ lexed-more version text left after items item h f =
       cut = h.cut ∙ ap (λ ls. h.lines ++ ls) f.cut ∙ sym (append_assoc h.lines (f.line ∷ []) (lines_of after));
       say = λ started. map-append (item_of_line version started) h.lines (f.line ∷ []) ∙ ap (λ rs. rs ++ item_of_line version started f.line ∷ []) (h.say started)
           ∙ ap (λ (r : Result Item Reason). map Ok items ++ r ∷ []) (f.says started) ∙ sym (map-append Ok items (item ∷ []));
-      few = let long = length-append items (item ∷ []) in omega (arith, long, h.few, f.shorter);
+      few = omega (arith, length-append items (item ∷ []), h.few, f.shorter);
     }
 
 -- ---- what lines say is taken, one after another
@@ -137,10 +137,8 @@ items-fault f n told (x ∷ xs) ys fault e = after-fault n (line_says f told x) 
 
 pub after-lines : (old now new : Reader) (start : List Item) (lines xs ys : List (List ℕ)) (far : SoFar old start lines now (xs ++ ys)) → AreTaken now far.items xs new (Ok tt) → SoFar old start lines new ys
 after-lines old now new start lines xs ys far t =
-    let told = far.tells in
-    let line : now.line ≡ line_of_newest far.items = told.line in
-    let after = t.2 in
-    let line' : new.line ≡ line_of_newest t.0 = after.line in
+    let line : now.line ≡ line_of_newest far.items = far.tells.line in
+    let line' : new.line ≡ line_of_newest t.0 = t.2.line in
     let taken : items_from old.header (line_of_newest far.items + 1) far.items xs ≡ Ok t.0 =
     ap (λ n. items_from old.header (n + 1) far.items xs) (sym line) ∙ ap (λ (f : Header). items_from f (now.line + 1) far.items xs) (sym far.header) ∙ t.1 in
     record {

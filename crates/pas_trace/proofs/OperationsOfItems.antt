@@ -109,8 +109,7 @@ item_sound f shared (Operates t (FreesSized n s a)) earlier asked passed range n
 item_sound f shared (Operates t (FreesRaw a n)) earlier asked passed range names valid homes = ((own_passed f earlier t (FreesRaw a n) passed).thread, (range, tt), tt)
 item_sound f shared (Operates t (FreesRawSized b n s a)) earlier asked passed range names valid homes =
     let held = own_passed f earlier t (FreesRawSized b n s a) passed in
-    let size = leb-true s (4096 * f.pages) held.size in
-    (held.thread, (range, room_named f s a valid (omega (arith, size))), tt)
+    (held.thread, (range, room_named f s a valid (omega (arith, leb-true s (4096 * f.pages) held.size))), tt)
 item_sound f shared (Operates t (Remakes n o s a)) earlier asked passed range names valid homes =
     let held = own_passed f earlier t (Remakes n o s a) passed in
     let size = leb-true s (4096 * f.pages) held.size in
@@ -147,8 +146,7 @@ following f shared (i ∷ earlier) valid checked =
     let before = following f shared earlier valid checked.1 in
     let asked = asked_by [] (ops_in f earlier) in
     record {
-      sound = subst (AreSound (sharing f shared) []) (sym (ops_next f i earlier))
-          (sound_both (sharing f shared) [] (ops_in f earlier) (new_ops f i earlier) before.sound (item_sound f shared i earlier asked checked.0.passes checked.0.range before.names valid (all_heaps f earlier checked.1)));
+      sound = search (arith, ops_next, sound_both, item_sound, all_heaps);
       names = subst (λ now. AreNames now (i ∷ earlier)) (sym (ap (asked_by []) (ops_next f i earlier) ∙ asked_both [] (ops_in f earlier) (new_ops f i earlier))) (item_names f i earlier asked before.names);
     }
 
@@ -195,15 +193,13 @@ not_none guard number false is sampled = λ zero. absurd (let same = eq-eqb guar
 
 -- a guarded item is a request for whole pages after a `guard` line
 guard_there : (earlier : List Item) (t n h s a : ℕ) → is_guarded earlier (Operates t (Asks n h s a)) ≡ true → (2048 < s) × (guard_in earlier ≢ 0)
-guard_there earlier t n h s a guarded =
-    let both = and_parts (is_large s) (is_sampled (guard_in earlier) (large_requests t earlier + 1)) guarded in
-    (large_size s both.0, not_none (guard_in earlier) (large_requests t earlier + 1) (guard_in earlier == 0) refl both.1)
+guard_there earlier t n h s a guarded = search (arith, and_parts, large_size, not_none)
 
 wish_records : (f : Profile) (shared : ℕ) (heaps : ℕ → ℕ) (earlier : List Item) (t : ℕ) (w : Wish)
     → records_of_what (sharing f shared) (what_wished f heaps (keeper_for f earlier (Operates t w)) w) ≤ cost_of_wish (guard_in earlier) w
 wish_records f shared heaps earlier t (Asks n h s a) =
     large_records (guard_in earlier) s (is_guarded earlier (Operates t (Asks n h s a))) n h a t (sharing f shared) (λ is. (guard_there earlier t n h s a is).0) (λ is. (guard_there earlier t n h s a is).1)
-wish_records f shared heaps earlier t (Remakes n o s a) = let least = least_cost (guard_in earlier) s in omega (arith, least)
+wish_records f shared heaps earlier t (Remakes n o s a) = omega (arith, least_cost (guard_in earlier) s)
 wish_records f shared heaps earlier t w = omega arith
 
 chore_records : (f : Profile) (shared : ℕ) (c : Chore) → records_of_what (sharing f shared) (what_of_chore c) ≡ records_of_chore f c
@@ -228,10 +224,7 @@ item_own f shared k i earlier = omega arith
 
 -- .. those of the scavenger are exact
 item_scavenger : (f : Profile) (shared : ℕ) (i : Item) (earlier : List Item) → reason_of f earlier i ≡ None → own_records (sharing f shared) 0 (new_ops f i earlier) ≡ (if actor_of i == 0 then cost_of f (guard_in earlier) i else 0)
-item_scavenger f shared (Operates t w) earlier passed =
-    let some = (own_passed f earlier t w passed).thread.0 in
-    let other : (t == 0) ≡ false = ne_eqb t 0 (λ none. absurd (omega (arith, some, none))) in
-    rw other refl
+item_scavenger f shared (Operates t w) earlier passed = search (arith, own_passed, ne_eqb)
 item_scavenger f shared (Scavenges c) earlier passed = omega (arith, chore_records f shared c)
 item_scavenger f shared i earlier passed = refl
 

@@ -3,8 +3,8 @@ use Rattle.std.proofs.Common.{◌≡◌, ℕ, ◌+◌, ◌≤◌, List, [], ◌�
 use Rattle.pas_profile.specs.Profiles.{IsValid}
 use Rattle.pas_profile.specs.declared.profile.Profile.{Profile}
 use Rattle.pas_trace.specs.declared.{header.Header.Header, fault.Reason.Reason, fault.TraceFault.TraceFault, item.Item.Item}
-use Rattle.pas_trace.specs.{Texts.lines_of, Items.item_of_line}
-use Rattle.pas_trace.specs.Reasons.{started, reason_of, kept, checked, line_says, header_of}
+use Rattle.pas_trace.specs.Texts.{lines_of}
+use Rattle.pas_trace.specs.Reasons.{reason_of, kept, checked, line_says, header_of}
 use Rattle.pas_trace.specs.Plans.{after_item, items_from, Parsed, with_items, with_header, parsed, parsed_lines}
 use Rattle.pas_trace.proofs.{Headers.header_valid, ItemRanges.IsInRange, ItemRanges.line_range}
 
@@ -36,10 +36,7 @@ next_read : (h : Header) (number : ℕ) (earlier items : List Item) (line : List
     → ((i : Item) → AreChecked h.profile (i ∷ earlier) → items_from h (number + 1) (i ∷ earlier) lines ≡ Ok items → AreRead h.profile items (length (i ∷ earlier) + length lines)) → AreChecked h.profile earlier
     → AreRead h.profile items (length earlier + length (line ∷ lines))
 next_read h number earlier items line lines (Err r) is e more before = absurd (cc)
-next_read h number earlier items line lines (Ok i) is e more before =
-    let rest = more i (passed h.profile earlier (item_of_line h.version (started earlier) line) i (line_range h.version (started earlier) line) is, before) e in
-    let few = rest.few in
-    record { checked = rest.checked; few = omega (arith, few) }
+next_read h number earlier items line lines (Ok i) is e more before = search (arith, passed, line_range)
 
 all_read : (h : Header) (number : ℕ) (earlier items : List Item) (lines : List (List ℕ)) → AreChecked h.profile earlier → items_from h number earlier lines ≡ Ok items → AreRead h.profile items (length earlier + length lines)
 all_read h number earlier items [] before e = record { checked = subst (AreChecked h.profile) (ok_is e) before; few = let n = ap (λ is. length is) (ok_is e) in omega (arith, n) }

@@ -1,6 +1,6 @@
 -- What an item keeps that passed its checks.
 use Rattle.std.proofs.Common.{◌≡◌, ℕ, ◌*◌, ◌%◌, ◌^◌, ◌<◌, ◌≤◌, ◌==◌, nat_le, nat_lt, Bool, true, false, not, ◌&&◌, if◌then◌else◌, List, [], ◌∷◌, Option, None}
-use Rattle.std.proofs.Common.{Some, refl, arith, MatchOption, ltb-true, leb-true, eqb-true}
+use Rattle.std.proofs.Common.{Some, refl, arith, MatchOption, ltb-true, leb-true}
 use Rattle.std.proofs.lemmas.Bool.{and_parts}
 use Rattle.pas_profile.specs.{Classes.IsAlignment, Profiles.IsValid}
 use Rattle.pas_profile.specs.declared.profile.Profile.{Profile}
@@ -31,10 +31,7 @@ thread_within : (f : Profile) (t : ℕ) → is_thread f t ≡ true → IsThread 
 thread_within f t e = let p = and_parts (nat_le 1 t) (nat_le t f.threads) e in (leb-true _ _ p.0, leb-true _ _ p.1)
 
 pub aligns : (a : ℕ) → is_alignment a ≡ true → IsAlignment a
-aligns a e =
-    let p = and_parts (nat_le 16 a && nat_le a 4096) (4096 % a == 0) e in
-    let q = and_parts (nat_le 16 a) (nat_le a 4096) p.0 in
-    (leb-true 16 a q.0, leb-true a 4096 q.1, eqb-true (4096 % a) 0 p.1)
+aligns a e = search (arith, and_parts)
 
 pub is_not : (t : Bool) → not t ≡ true → t ≡ false
 is_not true e = absurd (cc)
@@ -65,16 +62,7 @@ pub record OwnPassed (f : Profile) (items : List Item) (t : ℕ) (w : Wish) : Ty
 pub own_passed : (f : Profile) (items : List Item) (t : ℕ) (w : Wish) → reason_of f items (Operates t w) ≡ None → OwnPassed f items t w
 own_passed f items t w e =
     let held = passes f items (Operates t w) e in
-    record {
-      thread = thread_within f t held.0;
-      heap = held.1.0;
-      size = held.1.1.0;
-      align = held.1.1.1.0;
-      fresh = held.1.1.1.1.0;
-      known = held.1.1.1.1.1.0;
-      free = held.1.1.1.1.1.1.0;
-      counts = counts_fit f items (Operates t w) held.1.1.1.1.1.1.1;
-    }
+    assumption (thread_within f t held.0, counts_fit f items (Operates t w) held.1.1.1.1.1.1.1)
 
 -- those of a `guard` line
 pub record GuardPassed (f : Profile) (items : List Item) (n : Option ℕ) : Type 0 where
@@ -84,10 +72,7 @@ pub record GuardPassed (f : Profile) (items : List Item) (n : Option ℕ) : Type
   pub few : f.threads ≤ 8
 
 pub guard_passed : (f : Profile) (items : List Item) (n : Option ℕ) → reason_of f items (Guards n) ≡ None → GuardPassed f items n
-guard_passed f items n e =
-    let held = passes f items (Guards n) e in
-    let place = and_parts (not (started items)) (guard_in items == 0) held.0 in
-    record { first = is_not (started items) place.0; single = eqb-true (guard_in items) 0 place.1; number = held.1.0; few = leb-true _ _ held.1.1.0 }
+guard_passed f items n e = search (arith, passes, and_parts)
 
 -- ---- what any item gives
 pub actor_within : (f : Profile) (items : List Item) (i : Item) → reason_of f items i ≡ None → actor_of i ≤ f.threads
@@ -106,7 +91,7 @@ held_both (Some x) test other P all a b = all x a b
 
 -- the numbers of an operation have a place in a plan
 small_heap : (f : Profile) → IsValid f → (h : ℕ) → nat_lt h f.heaps ≡ true → h < 2 ^ 8
-small_heap f valid h held = let lt = ltb-true h f.heaps held in omega (arith, valid.heaps, lt)
+small_heap f valid h held = omega (arith, valid.heaps, ltb-true h f.heaps held)
 
 fit_sizing : (f : Profile) → IsValid f → (s : Sizing) → nat_le s.size (4096 * f.pages) ≡ true → is_alignment s.align ≡ true → IsFitSizing f s
 fit_sizing f valid s size align =
@@ -114,7 +99,4 @@ fit_sizing f valid s size align =
     record { small = omega (arith, valid.pages, le); within = omega (arith, le); aligned = aligns s.align align }
 
 pub all_fit : (f : Profile) (items : List Item) (t : ℕ) (w : Wish) → IsValid f → OwnPassed f items t w → IsFit f w
-all_fit f items t w valid p = (
-  held_both (heap_in w) (λ h. nat_lt h f.heaps) (λ h. nat_lt h f.heaps) _ (λ h held again. small_heap f valid h held) p.heap p.heap,
-  held_both (sizing_in w) (λ s. nat_le s.size (4096 * f.pages)) (λ s. is_alignment s.align) _ (fit_sizing f valid) p.size p.align,
-)
+all_fit f items t w valid p = search (arith, held_both, small_heap, fit_sizing)

@@ -1,5 +1,5 @@
 -- The lines that are read, and those that are left.
-use Rattle.std.proofs.Common.{◌≡◌, ℕ, ◌+◌, List, [], ◌∷◌, Some, Result, Ok, Err, MatchResult, refl, sym, ap, subst, ◌∙◌}
+use Rattle.std.proofs.Common.{arith, ◌≡◌, ℕ, ◌+◌, List, [], ◌∷◌, Some, Result, Ok, Err, MatchResult, refl, sym, ap, subst, ◌∙◌}
 use Rattle.pas_trace.specs.declared.{header.Header.Header, fault.ReadFault.ReadFault, fault.ReadFault.TheVariants.Trace, fault.ReadFault.TheVariants.NoMemory}
 use Rattle.pas_trace.specs.declared.{item.Item.Item, plan.Plan.Plan, reader.Reader.Reader}
 use Rattle.pas_trace.specs.{Texts.lines_of, Reasons.line_says, Reasons.header_of}
@@ -28,11 +28,9 @@ after-taken old now new start lines line left far t =
           ∙ ap (λ n. items_from old.header (n + 1) (i ∷ far.items) left) (sym t.4);
     }
 
+-- the line with the fault is the first of those that are left
 pub taken-fault : (old now new : Reader) (start : List Item) (lines : List (List ℕ)) (line : List ℕ) (left : List (List ℕ)) (fault : ReadFault) (far : SoFar old start lines now (line ∷ left)) → IsTaken now far.items line new (Err fault) → AreTaken old start lines new (Err fault)
-taken-fault old now new start lines line left (Trace fault) far t =
-    let says : line_says old.header far.items line ≡ Err t.0 = ap (λ (f : Header). line_says f far.items line) (sym far.header) ∙ t.1 in
-    far.same ∙ ap (λ says. after_item (now.line + 1) says (λ i. items_from old.header (now.line + 1 + 1) (i ∷ far.items) left)) says
-    ∙ ap Err (sym t.2)
+taken-fault old now new start lines line left (Trace fault) far t = search arith
 taken-fault old now new start lines line left NoMemory far t = tt
 
 pub at-end : (old now : Reader) (start : List Item) (lines left : List (List ℕ)) → SoFar old start lines now left → left ≡ [] → AreTaken old start lines now (Ok tt)

@@ -1,6 +1,6 @@
 -- The room that a free names: of whole grains, of one at least, and no larger than the region.
 use Rattle.std.proofs.Common.{◌≡◌, ℕ, ◌*◌, ◌%◌, ◌≤◌, max, Some, arith}
-use Rattle.pas_profile.specs.{Profiles.IsValid, Requests.room_in, Routes.route_of, Routes.room_by, Routes.IsRouteOf}
+use Rattle.pas_profile.specs.{Profiles.IsValid, Requests.room_in, Routes.room_by, Routes.IsRouteOf}
 use Rattle.pas_profile.specs.declared.{directory.Route.Route, directory.Route.TheVariants.Class, directory.Route.TheVariants.Bitfit}
 use Rattle.pas_profile.specs.declared.{directory.Route.TheVariants.Large, profile.Profile.Profile}
 use Rattle.pas_profile.proofs.ClassFacts.{route_is, class_known, class_size-grains, class_grains_positive, class_grains_le}
@@ -11,15 +11,9 @@ IsRoomWithin pages room = (room % 16 ≡ 0) × (16 ≤ room) × (room ≤ 4096 *
 
 room_within : (pages classes size align : ℕ) (route : Route) → IsRouteOf classes size align route → 1 ≤ pages → size ≤ pages * 4096 → IsRoomWithin pages (room_by route (max size 1))
 room_within pages classes size align (Class class) is some within =
-    let known = class_known classes size align class is in
-    let grains = class_size-grains class known in
-    let least = class_grains_positive class known in
-    let most = class_grains_le class known in
-    (omega (arith, grains), omega (arith, grains, least), omega (arith, grains, most, some))
+    search (arith, class_known, class_size-grains, class_grains_le, class_grains_positive)
 room_within pages classes size align Bitfit is some within = (omega arith, omega arith, omega (arith, is.0, some))
 room_within pages classes size align Large is some within = (omega arith, omega arith, omega (arith, within, some))
 
 pub room_named : (f : Profile) (size align : ℕ) → IsValid f → size ≤ f.pages * 4096 → IsRoomNamed f (Some (room_in f size align))
-room_named f size align valid within =
-    let some = valid.some_page in
-    room_within f.pages f.classes size align (route_of f.classes size align) (route_is f.classes size align) some within
+room_named f size align valid within = search (arith, room_within, route_is)

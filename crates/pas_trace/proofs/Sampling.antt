@@ -1,28 +1,19 @@
 -- Which requests are guarded, by what the reader keeps.
-use Rattle.std.proofs.Common.{◌≡◌, ℕ, ◌+◌, ◌<◌, ◌≤◌, ◌==◌, Bool, true, false, not, ◌&&◌, Some, None, if◌then◌else◌, List, [], ◌∷◌, length, get_or, set, refl}
-use Rattle.std.proofs.Common.{sym, ap, ◌∙◌, arith, inl, inr, eq-eqb, ne_eqb, le-leb}
+use Rattle.std.proofs.Common.{◌≡◌, ℕ, ◌+◌, ◌<◌, ◌≤◌, ◌==◌, Bool, true, false, ◌&&◌, Some, None, if◌then◌else◌, List, [], ◌∷◌, length, get_or, set, refl, ap}
+use Rattle.std.proofs.Common.{◌∙◌, arith, eq-eqb, ne_eqb, le-leb}
 use Rattle.std.proofs.{Math.ListN.length-set, lemmas.Bool.cases_eq}
 use Rattle.pas_profile.specs.declared.profile.Profile.{Profile}
 use Rattle.pas_trace.specs.{Wishes.is_large, Wishes.asks_pages, Plans.kept_costs, Plans.keeper_for}
 use Rattle.pas_trace.specs.Reasons.{actor_of, is_operation, operations_in, guard_after, guard_in, is_large_request, large_requests, is_sampled, is_guarded}
-use Rattle.pas_trace.specs.Reasons.{cost_of, costs_of, cost_of_size, cost_of_request, cost_of_wish}
-use Rattle.pas_trace.specs.Told.{Tells, TellsSamples, IsSampled, samples_next, larges_after, kept_after, keeper_told}
+use Rattle.pas_trace.specs.Reasons.{cost_of, costs_of, cost_of_size, cost_of_wish}
+use Rattle.pas_trace.specs.Told.{Tells, TellsSamples, IsSampled, samples_next, keeper_told}
 use Rattle.pas_trace.specs.declared.{item.Item.Item, item.Item.TheVariants.Operates, item.Wish.Wish, item.Wish.TheVariants.Asks, item.Wish.TheVariants.Remakes}
 use Rattle.pas_trace.specs.declared.{reader.Reader.Reader, samples.Samples.Samples}
 use Rattle.pas_trace.proofs.{Costs.least_cost, Gathering.get_or-written}
 
 -- ---- a count that is raised in one place
 raised : (here : Bool) (xs : List ℕ) (t k more n : ℕ) → t < length xs → (t == k) ≡ here → get_or xs k 0 ≡ n → get_or (set xs t (get_or xs t 0 + more)) k 0 ≡ (if here then n + more else n)
-raised here xs t k more n lt is told = elim (cases_eq k t) [
-  | inl same ↦
-      let yes : here ≡ true = sym is ∙ eq-eqb t k (sym same) in
-      get_or-written xs t k (get_or xs t 0 + more) 0 lt ∙ ap (λ b. if b then get_or xs t 0 + more else get_or xs k 0) (eq-eqb k t same)
-      ∙ ap (λ m. get_or xs m 0 + more) (sym same) ∙ ap (λ m. m + more) told ∙ sym (ap (λ b. if b then n + more else n) yes)
-  | inr other ↦
-      let no : here ≡ false = sym is ∙ ne_eqb t k (λ e. other (sym e)) in
-      get_or-written xs t k (get_or xs t 0 + more) 0 lt ∙ ap (λ b. if b then get_or xs t 0 + more else get_or xs k 0) (ne_eqb k t other)
-      ∙ told ∙ sym (ap (λ b. if b then n + more else n) no)
-]
+raised here xs t k more n lt is told = search (arith, cases_eq, eq-eqb, get_or-written, ne_eqb)
 
 raised_where : (on : Bool) (xs : List ℕ) (t k more n : ℕ) → t < length xs → get_or xs k 0 ≡ n
     → get_or (if on then set xs t (get_or xs t 0 + more) else xs) k 0 ≡ (if on && (t == k) then n + more else n)
@@ -40,43 +31,18 @@ module _ (f : Profile) (s : Samples) (items : List Item) (told : TellsSamples f 
   guarded_same t w lt = ap (λ n. asks_pages w && is_sampled s.guard (n + 1)) (told.larges t lt) ∙ ap (λ g. asks_pages w && is_sampled g (large_requests t items + 1)) told.guard
 
   pub sampled : (new : Samples) (t : ℕ) (w : Wish) → t < 17 → IsSampled s new t (asks_pages w) (cost_of_wish 0 w) → TellsSamples f new (Operates t w ∷ items)
-  sampled new t w lt h =
-      let wide : length s.larges ≡ 17 = told.width in
-      let kept_wide : length s.kept ≡ 17 = told.kept_width in
-      record {
-        guard = h.guard ∙ told.guard;
-        width = ap (λ xs. length xs) h.larges ∙ width_where (asks_pages w) s.larges t (get_or s.larges t 0 + 1) ∙ wide;
-        larges = λ k small. ap (λ xs. get_or xs k 0) h.larges ∙ raised_where (asks_pages w) s.larges t k 1 (large_requests k items) (omega (arith, lt, wide)) (told.larges k small);
-        kept_width = ap (λ xs. length xs) h.kept ∙ width_where (asks_pages w && samples_next s t) s.kept t (get_or s.kept t 0 + cost_of_wish 0 w) ∙ kept_wide;
-        kept = λ k small. ap (λ xs. get_or xs k 0) h.kept ∙ raised_where (asks_pages w && samples_next s t) s.kept t k (cost_of_wish 0 w) (kept_costs f k items) (omega (arith, lt, kept_wide)) (told.kept k small)
-            ∙ ap (λ on. if on && (t == k) then kept_costs f k items + cost_of_wish 0 w else kept_costs f k items) (guarded_same t w lt);
-      }
+  sampled new t w lt h = search (arith, width_where, raised_where, guarded_same)
 
 pub keeper_same : (r : Reader) (items : List Item) (t : ℕ) (w : Wish) → Tells r items → t < 17 → keeper_told r t w ≡ keeper_for r.header.profile items (Operates t w)
 keeper_same r items t w told lt = ap (λ on. if on then Some (r.header.profile.threads + t) else None) (guarded_same r.header.profile r.samples items told.samples t w lt)
 
 -- what is no operation of a thread is no request
 pub unsampled : (f : Profile) (s : Samples) (i : Item) (items : List Item) → is_large_request i ≡ false → ((guard : ℕ) → guard_after i guard ≡ guard) → TellsSamples f s items → TellsSamples f s (i ∷ items)
-unsampled f s i items none same told = record {
-  guard = told.guard ∙ sym (same (guard_in items));
-  width = told.width;
-  larges = λ k small. told.larges k small ∙ sym (ap (λ b. if b && (actor_of i == k) then large_requests k items + 1 else large_requests k items) none);
-  kept_width = told.kept_width;
-  kept = λ k small. told.kept k small
-      ∙ sym (ap (λ b. if (b && is_sampled (guard_in items) (large_requests (actor_of i) items + 1)) && (actor_of i == k) then kept_costs f k items + cost_of f 0 i else kept_costs f k items) none);
-}
+unsampled f s i items none same told = search arith
 
 -- ---- one request is counted
 pub sampled_small : (s : Samples) (t size : ℕ) → size ≤ 2048 → (false ≡ (is_large size && samples_next s t)) × IsSampled s s t (is_large size) (cost_of_size size)
-sampled_small s t size within =
-    let small : is_large size ≡ false = ap not (le-leb size 2048 within) in (
-      sym (ap (λ large. large && samples_next s t) small),
-      record {
-        guard = refl;
-        larges = sym (ap (λ large. larges_after s t large) small);
-        kept = sym (ap (λ large. kept_after s t (large && samples_next s t) (cost_of_size size)) small);
-      },
-    )
+sampled_small s t size within = search (arith, le-leb)
 
 -- ---- the counts are small
 large_is : (i : Item) → is_large_request i ≡ true → is_operation i ≡ true
@@ -97,7 +63,7 @@ few_larges t (i ∷ items) = one_more (is_large_request i) (actor_of i == t) (is
 
 cheaper : (guard : ℕ) (w : Wish) → cost_of_wish 0 w ≤ cost_of_wish guard w
 cheaper guard (Asks n h s a) = least_cost guard s
-cheaper guard (Remakes n o s a) = let least : cost_of_request 0 s ≤ cost_of_request guard s = least_cost guard s in omega (arith, least)
+cheaper guard (Remakes n o s a) = omega (arith, least_cost guard s)
 cheaper guard w = omega arith
 
 cheaper_item : (f : Profile) (guard : ℕ) (i : Item) → cost_of f 0 i ≤ cost_of f guard i

@@ -54,10 +54,7 @@ end-after p s bs =
     ap (λ ps. without_empty_end (p ∷ ps)) some.2 ∙ end-cons p some.0 some.1 ∙ sym (ap (λ ps. p ∷ without_empty_end ps) some.2)
 
 lines-found : (bs : List ℕ) (n : ℕ) → NoneBefore 10 bs n → n < length bs → get_or bs n 0 ≡ 10 → lines_of bs ≡ take n bs ∷ lines_of (drop (n + 1) bs)
-lines-found bs n none lt found =
-    ap without_empty_end (pieces-found 10 bs n none lt found)
-    ∙ end-after (take n bs) 10 (drop (suc n) bs)
-    ∙ ap (λ m. take n bs ∷ lines_of (drop m bs)) (sym (add-one n))
+lines-found bs n none lt found = search (arith, pieces-found, end-after, add-one)
 
 lines-last : (bs : List ℕ) → 0 < length bs → NoneBefore 10 bs (length bs) → lines_of bs ≡ bs ∷ []
 lines-last [] some none = absurd (omega arith)
@@ -68,19 +65,11 @@ abbrev pub IsCut : List ℕ → List ℕ → List ℕ → Type 0
 IsCut text line rest = (lines_of text ≡ line ∷ lines_of rest) × (length rest < length text)
 
 pub cut-last : (bs : List ℕ) (n : ℕ) → 0 < length bs → NoneBefore 10 bs n → n ≡ length bs → IsCut bs bs (take (length bs - n) (drop n bs))
-cut-last bs n some none e =
-    let none' : NoneBefore 10 bs (length bs) = subst (λ m. NoneBefore 10 bs m) e none in
-    let empty : take (length bs - n) (drop n bs) ≡ [] = take_rest bs n ∙ ap (λ m. drop m bs) e ∙ drop-length bs in
-    (lines-last bs some none' ∙ sym (ap (λ rest. bs ∷ lines_of rest) empty), subst (λ (rest : List ℕ). length rest < length bs) (sym empty) some)
+cut-last bs n some none e = search (arith, take_rest, drop-length, lines-last)
 
 pub cut-found : (bs : List ℕ) (n : ℕ) → NoneBefore 10 bs n → n ≤ length bs → (n < length bs → get_or bs n 0 ≡ 10) → n ≢ length bs
     → IsCut bs (take n bs) (take (length bs - (n + 1)) (drop (n + 1) bs))
-cut-found bs n none le ended ne =
-    let lt : n < length bs = omega (arith, ne) in
-    let r = take_rest bs (n + 1) in (
-      lines-found bs n none lt (ended lt) ∙ sym (ap (λ rest. take n bs ∷ lines_of rest) r),
-      subst (λ (rest : List ℕ). length rest < length bs) (sym r) (omega (arith, length-drop (n + 1) bs, lt)),
-    )
+cut-found bs n none le ended ne = search (arith, take_rest, lines-found, length-drop)
 
 -- ---- words
 words-skip : (bs : List ℕ) (n : ℕ) → ((k : ℕ) → k < n → get_or bs k 0 ≡ 32) → n ≤ length bs → words_of bs ≡ words_of (drop n bs)
@@ -100,10 +89,7 @@ take-some [] (suc n) some lt = absurd (omega arith)
 take-some (b ∷ bs) (suc n) some lt = omega arith
 
 words-found : (bs : List ℕ) (n : ℕ) → NoneBefore 32 bs n → 0 < n → n < length bs → get_or bs n 0 ≡ 32 → words_of bs ≡ take n bs ∷ words_of (drop (n + 1) bs)
-words-found bs n none some lt found =
-    ap without_empty (pieces-found 32 bs n none lt found)
-    ∙ keeps (take n bs) (pieces 32 (drop (suc n) bs)) (take-some bs n some lt)
-    ∙ ap (λ m. take n bs ∷ words_of (drop m bs)) (sym (add-one n))
+words-found bs n none some lt found = search (arith, pieces-found, take-some, add-one)
 
 words-last : (bs : List ℕ) → 0 < length bs → NoneBefore 32 bs (length bs) → words_of bs ≡ bs ∷ []
 words-last bs some none = ap without_empty (pieces-whole 32 bs none) ∙ keeps bs [] some
@@ -128,9 +114,7 @@ from_word bs n spaces le ended ne =
     subst (λ w. FromWord bs w) (sym r) (record { words = words-skip bs n spaces le; some = some; head = head })
 
 pub word-last : (bs w : List ℕ) (n : ℕ) → FromWord bs w → NoneBefore 32 w n → n ≡ length w → words_of bs ≡ w ∷ words_of (take (length w - n) (drop n w))
-word-last bs w n from none e =
-    let empty : take (length w - n) (drop n w) ≡ [] = take_rest w n ∙ ap (λ m. drop m w) e ∙ drop-length w in
-    from.words ∙ words-last w from.some (subst (λ m. NoneBefore 32 w m) e none) ∙ sym (ap (λ rest. w ∷ words_of rest) empty)
+word-last bs w n from none e = search (arith, take_rest, drop-length, words-last)
 
 some-before : (w : List ℕ) (n : ℕ) → get_or w 0 0 ≢ 32 → get_or w n 0 ≡ 32 → 0 < n
 some-before w zero head e = absurd (head e)
@@ -138,8 +122,4 @@ some-before w (suc n) head e = omega arith
 
 pub word-found : (bs w : List ℕ) (n : ℕ) → FromWord bs w → NoneBefore 32 w n → n ≤ length w → (n < length w → get_or w n 0 ≡ 32) → n ≢ length w
     → words_of bs ≡ take n w ∷ words_of (take (length w - (n + 1)) (drop (n + 1) w))
-word-found bs w n from none le ended ne =
-    let lt : n < length w = omega (arith, ne) in
-    let r = take_rest w (n + 1) in
-    let some : 0 < n = some-before w n from.head (ended lt) in
-    from.words ∙ words-found w n none some lt (ended lt) ∙ sym (ap (λ rest. take n w ∷ words_of rest) r)
+word-found bs w n from none le ended ne = search (arith, take_rest, some-before, words-found)

@@ -1,6 +1,6 @@
 -- What the reader keeps after each item.
-use Rattle.std.proofs.Common.{◌≡◌, ◌≢◌, ℕ, ◌+◌, ◌<◌, ◌≤◌, ◌==◌, Bool, true, false, not, ◌&&◌, ◌||◌, ◌*◌, ◌-◌, nat_le, if◌then◌else◌, List, [], ◌∷◌, ◌++◌}
-use Rattle.std.proofs.Common.{length, get_or, set, Option, None, Some, refl, sym, ap, subst, ◌∙◌, arith, inl, inr, add-one, eq-eqb, ne_eqb, leb-true, le-leb}
+use Rattle.std.proofs.Common.{◌≡◌, ◌≢◌, ℕ, ◌+◌, ◌<◌, ◌≤◌, ◌==◌, Bool, true, false, ◌&&◌, ◌||◌, ◌*◌, ◌-◌, nat_le, if◌then◌else◌, List, [], ◌∷◌, ◌++◌, length}
+use Rattle.std.proofs.Common.{get_or, set, Option, None, Some, refl, sym, ap, subst, ◌∙◌, arith, add-one, eq-eqb, ne_eqb, leb-true, le-leb}
 use Rattle.std.proofs.{Math.ListN.length-set, lemmas.Bool.cases_eq, lemmas.Bool.lt-leb, lemmas.Bool.and_parts, lemmas.Nat.mul-le}
 use Rattle.pas_profile.specs.Profiles.{IsValid}
 use Rattle.pas_profile.specs.declared.profile.Profile.{Profile}
@@ -8,11 +8,10 @@ use Rattle.pas_trace.specs.declared.{header.Header.Header, item.Item.Item, item.
 use Rattle.pas_trace.specs.declared.{item.Item.TheVariants.Scavenges, item.Wish.Wish, item.Wish.TheVariants.Remakes, names.Owner.Owner, names.Names.Names}
 use Rattle.pas_trace.specs.declared.{plan.Chore.Chore, plan.Op.Op, plan.What.What, plan.What.TheVariants.Remake, reader.Reader.Reader, samples.Samples.Samples}
 use Rattle.pas_trace.specs.Wishes.{heap_in, name_made, name_freed, heap_by, heap_made, is_name}
-use Rattle.pas_trace.specs.Reasons.{is_guard_number, guard_after, guard_in, large_requests, actors_by, cost_of, costs_of, cost_of_wish, records_of_chore}
-use Rattle.pas_trace.specs.Reasons.{record_bound, reason_of, operations_in, is_operation, is_phase, actor_of, makes, is_named, is_named_now, thread_of}
-use Rattle.pas_trace.specs.Reasons.{heap_of_item, heap_of, started}
-use Rattle.pas_trace.specs.Plans.{shared_by, shared_in, phases_after, phases_in, line_of_newest, own_costs, kept_costs, keeper_for, bound_of, bounds_upto}
-use Rattle.pas_trace.specs.Plans.{all_bounds, operation, what_wished, what_of_chore, add_last}
+use Rattle.pas_trace.specs.Reasons.{is_guard_number, guard_after, guard_in, actors_by, cost_of, costs_of, cost_of_wish, records_of_chore, record_bound}
+use Rattle.pas_trace.specs.Reasons.{reason_of, is_operation, is_phase, actor_of, makes, heap_of, started}
+use Rattle.pas_trace.specs.Plans.{shared_by, phases_after, phases_in, own_costs, kept_costs, keeper_for, bound_of, bounds_upto, all_bounds, operation}
+use Rattle.pas_trace.specs.Plans.{what_wished, what_of_chore, add_last}
 use Rattle.pas_trace.specs.Told.{owner_in, heap_told, keeper_told, Tells, TellsSamples, NameTold, IsReady, CanSample, IsCounted, IsOperated, IsGuarding}
 use Rattle.pas_trace.specs.Told.{IsAdded}
 use Rattle.pas_trace.proofs.{Checking.bound-after, Gathering.get_or-written}
@@ -34,56 +33,23 @@ own_costs-le f k (i ∷ items) =
 
 pub cost-within : (r : Reader) (items : List Item) (k : ℕ) → Tells r items → k < 17 → get_or r.counts.costs k 0 ≤ r.counts.bound
 cost-within r items k t lt =
-    let own : get_or r.counts.costs k 0 ≡ own_costs r.header.profile k items = t.costs k lt in
-    let all : r.counts.bound ≡ record_bound r.header.profile items = t.bound in
-    omega (arith, own, all, own_costs-le r.header.profile k items)
+    omega (arith, t.costs k lt, t.bound, own_costs-le r.header.profile k items)
 
 pub kept-within : (r : Reader) (items : List Item) (k : ℕ) → Tells r items → k < 17 → get_or r.samples.kept k 0 ≤ r.counts.bound
 kept-within r items k t lt =
-    let own : get_or r.samples.kept k 0 ≡ kept_costs r.header.profile k items = t.samples.kept k lt in
-    let all : r.counts.bound ≡ record_bound r.header.profile items = t.bound in
-    let few = few_kept r.header.profile k items in
-    omega (arith, own, all, few)
+    omega (arith, t.samples.kept k lt, t.bound, few_kept r.header.profile k items)
 
 -- a request of the thread may be counted
 pub can-sample : (r : Reader) (items : List Item) (i : Item) (actor : ℕ) → Tells r items → FineCounts r.header.profile items i → actor ≤ 16 → CanSample r.samples actor
-can-sample r items i actor t fine le =
-    let wide : length r.samples.larges ≡ 17 = t.samples.width in
-    let kept_wide : length r.samples.kept ≡ 17 = t.samples.kept_width in
-    let larges : get_or r.samples.larges actor 0 ≡ large_requests actor items = t.samples.larges actor (omega (arith, le)) in
-    let few : operations_in items < 1000000 = fine.few in
-    let most = few_larges actor items in
-    let kept = kept-within r items actor t (omega (arith, le)) in
-    let small : r.counts.bound ≤ 2000000 = t.small in
-    record {
-      place = omega (arith, le, wide);
-      kept_place = omega (arith, le, kept_wide);
-      larges = omega (arith, larges, few, most);
-      kept = omega (arith, kept, small);
-    }
+can-sample r items i actor t fine le = search (arith, kept-within, few_larges)
 
 pub ready : (r : Reader) (items : List Item) (i : Item) (actor cost : ℕ) → ((guard : ℕ) → guard_after i guard ≡ guard) → Tells r items → FineCounts r.header.profile items i → actor ≤ 16 → cost ≡ cost_of r.header.profile r.samples.guard i → IsReady r.counts actor cost
-ready r items i actor cost same t fine le e =
-    let few : operations_in items < 1000000 = fine.few in
-    let small : record_bound r.header.profile (i ∷ items) ≤ 2000000 = fine.small in
-    let all = bound-after r items i (same (guard_in items)) t in
-    let ops : r.counts.operations ≡ operations_in items = t.operations in
-    record {
-      is_actor = omega (arith, le);
-      few = omega (arith, ops, few);
-      small = omega (arith, all, small, e);
-      within = cost-within r items actor t (omega (arith, le));
-    }
+ready r items i actor cost same t fine le e = search (arith, bound-after, cost-within)
 
 -- ---- names
+-- an item that neither makes the name nor begins a phase leaves all that is told of it
 kept-name : (i : Item) (items : List Item) (o : Owner) (p n : ℕ) → is_phase i ≡ false → makes i n ≡ false → NameTold o p items n → NameTold o p (i ∷ items) n
-kept-name i items o p n phase none h = record {
-  named = ap (λ b. b || is_named items n) none ∙ h.named;
-  thread = ap (λ b. if b then actor_of i else thread_of items n) none ∙ h.thread;
-  heap = ap (λ b. if b then heap_of_item (heap_of items) i else heap_of items n) none ∙ h.heap;
-  now = ap (λ b. if b then false else (makes i n || is_named_now items n)) phase ∙ ap (λ b. b || is_named_now items n) none ∙ h.now;
-  before = h.before;
-}
+kept-name i items o p n phase none h = search arith
 
 -- the heap of a name that is made, by heaps that are the same
 heap-by-same : (heaps others : ℕ → ℕ) (heap freed : Option ℕ) → ((n : ℕ) → heaps n ≡ others n) → heap_by heaps heap freed ≡ heap_by others heap freed
@@ -96,16 +62,7 @@ what-same f heaps others keeper (Remakes n o s a) same = ap (λ heap. Remake n o
 what-same f heaps others keeper w same = refl
 
 taken-here : (t heap p : ℕ) (w : Wish) (items : List Item) (n : ℕ) → heap_made (heap_of items) w ≡ heap → 1 ≤ t → is_name (name_made w) n ≡ true → NameTold (record { thread = t; heap = heap; phase = p }) p (Operates t w ∷ items) n
-taken-here t heap p w items n home least e =
-    let some : (t == 0) ≡ false = ne_eqb t 0 (λ z. absurd (omega (arith, z, least))) in
-    let same : (p == p) ≡ true = eq-eqb p p refl in
-    record {
-      named = ap (λ b. b || is_named items n) e ∙ sym (ap not some);
-      thread = ap (λ b. if b then t else thread_of items n) e;
-      heap = ap (λ b. if b then heap_made (heap_of items) w else heap_of items n) e ∙ home;
-      now = ap (λ b. b || is_named_now items n) e ∙ sym (ap (λ b. not b && (p == p)) some ∙ same);
-      before = omega arith;
-    }
+taken-here t heap p w items n home least e = search (arith, ne_eqb, eq-eqb)
 
 taken-by : (here : Bool) (t heap p : ℕ) (w : Wish) (items : List Item) (o o' : Owner) (n : ℕ) → heap_made (heap_of items) w ≡ heap → is_name (name_made w) n ≡ here → 1 ≤ t → o' ≡ (if here then record { thread = t; heap = heap; phase = p } else o) → NameTold o p items n
     → NameTold o' p (Operates t w ∷ items) n
@@ -124,49 +81,14 @@ pub record IsOperation (f : Profile) (heaps : ℕ → ℕ) (keeper : Option ℕ)
 
 cost-added : (f : Profile) (i : Item) (items : List Item) (costs : List ℕ) (actor cost k : ℕ) → actor < length costs → actor_of i ≡ actor → cost_of f (guard_in items) i ≡ cost
     → get_or costs k 0 ≡ own_costs f k items → get_or (set costs actor (get_or costs actor 0 + cost)) k 0 ≡ own_costs f k (i ∷ items)
-cost-added f i items costs actor cost k lt is_actor is_cost told = elim (cases_eq k actor) [
-  | inl same ↦
-      let here : (k == actor) ≡ true = eq-eqb k actor same in
-      let own : (actor_of i == k) ≡ true = eq-eqb (actor_of i) k (is_actor ∙ sym same) in
-      get_or-written costs actor k (get_or costs actor 0 + cost) 0 lt ∙ ap (λ b. if b then get_or costs actor 0 + cost else get_or costs k 0) here
-      ∙ ap (λ m. get_or costs m 0 + cost) (sym same) ∙ ap (λ m. m + cost) told ∙ ap (λ m. own_costs f k items + m) (sym is_cost)
-      ∙ sym (ap (λ b. if b then own_costs f k items + cost_of f (guard_in items) i else own_costs f k items) own)
-  | inr other ↦
-      let there : (k == actor) ≡ false = ne_eqb k actor other in
-      let own : (actor_of i == k) ≡ false = ne_eqb (actor_of i) k (λ e. other (sym e ∙ is_actor)) in
-      get_or-written costs actor k (get_or costs actor 0 + cost) 0 lt ∙ ap (λ b. if b then get_or costs actor 0 + cost else get_or costs k 0) there
-      ∙ told ∙ sym (ap (λ b. if b then own_costs f k items + cost_of f (guard_in items) i else own_costs f k items) own)
-]
+cost-added f i items costs actor cost k lt is_actor is_cost told = search (arith, cases_eq, eq-eqb, get_or-written, ne_eqb)
 
 operated : (old new : Reader) (names : Names) (samples : Samples) (items : List Item) (i : Item) (actor : ℕ) (what : What) (cost : ℕ) → Tells old items
     → IsOperation old.header.profile (heap_of items) (keeper_for old.header.profile items i) old.samples.guard i actor what cost
     → IsReady old.counts actor cost → ((n : ℕ) → NameTold (owner_in names n) old.phase (i ∷ items) n) → TellsSamples old.header.profile samples (i ∷ items)
     → IsCounted (record old { line = old.line + 1; names = names; samples = samples }) new actor what cost → Tells new (i ∷ items)
 operated old new names samples items i actor what cost t op can told sampling h =
-    let size : length old.counts.costs ≡ 17 = t.width in
-    let actor-lt : actor < length old.counts.costs = omega (arith, size, can.is_actor) in
-    let bound : new.counts.bound ≡ old.counts.bound + cost = h.bound in
-    let small : old.counts.bound + cost ≤ 2000000 = can.small in
-    let phase : new.phase ≡ old.phase = h.phase in
-    let line : new.line ≡ old.line + 1 = h.line in
-    let le : old.phase ≤ old.line = t.phase in
-    let cost_now : cost_of old.header.profile (guard_in items) i ≡ cost = ap (λ g. cost_of old.header.profile g i) (sym t.samples.guard) ∙ op.costs in
-    record {
-      header = subst (λ (g : Header). IsValid g.profile) (sym h.header) t.header;
-      shared = h.shared ∙ t.shared ∙ sym (op.marks (shared_in items));
-      started = h.started ∙ sym (ap (λ b. b || is_phase i || started items) op.operates);
-      line = line ∙ ap (λ n. n + 1) t.line;
-      phase = omega (arith, phase, line, le);
-      names = λ n. subst (λ (o : Owner). NameTold o new.phase (i ∷ items) n) (sym (h.names n)) (subst (λ (p : ℕ). NameTold (owner_in names n) p (i ∷ items) n) (sym phase) (told n));
-      operations = h.operations ∙ ap (λ n. n + 1) t.operations ∙ sym (ap (λ b. if b then operations_in items + 1 else operations_in items) op.operates);
-      bound = bound ∙ ap (λ n. old.counts.bound + n) (sym op.costs) ∙ bound-after old items i (op.same_guard (guard_in items)) t ∙ ap (λ (g : Header). record_bound g.profile (i ∷ items)) (sym h.header);
-      small = omega (arith, bound, small);
-      width = ap length h.costs ∙ length-set old.counts.costs actor (get_or old.counts.costs actor 0 + cost) ∙ size;
-      costs = λ k lt. ap (λ xs. get_or xs k 0) h.costs ∙ cost-added old.header.profile i items old.counts.costs actor cost k actor-lt op.thread cost_now (t.costs k lt) ∙ ap (λ (g : Header). own_costs g.profile k (i ∷ items)) (sym h.header);
-      samples = subst (λ (s : Samples). TellsSamples new.header.profile s (i ∷ items)) (sym h.samples) (subst (λ (g : Header). TellsSamples g.profile samples (i ∷ items)) (sym h.header) sampling);
-      phases = h.phases ∙ ap (λ ps. add_last (Some (operation (old.line + 1) actor what)) ps) t.phases ∙ ap (λ n. add_last (Some (operation (n + 1) actor what)) (phases_in old.header.profile items)) t.line
-          ∙ sym (op.phases (line_of_newest (i ∷ items)) (phases_in old.header.profile items)) ∙ ap (λ (g : Header). phases_in g.profile (i ∷ items)) (sym h.header);
-    }
+    search (arith, bound-after, length-set, cost-added)
 
 -- what the names hold after an item
 abbrev pub NamesAfter : Reader → Names → Item → Type 0
@@ -186,10 +108,7 @@ SamplesAfter old samples i = (items : List Item) → Tells old items → reason_
 
 small_thread : (old : Reader) (items : List Item) (t : ℕ) (w : Wish) → Tells old items → reason_of old.header.profile items (Operates t w) ≡ None → t < 17
 small_thread old items t w told e =
-    let most = actor_within old.header.profile items (Operates t w) e in
-    let header = told.header in
-    let threads : old.header.profile.threads ≤ 16 = header.threads in
-    omega (arith, most, threads)
+    omega (arith, actor_within old.header.profile items (Operates t w) e, told.header.threads)
 
 added : (old new : Reader) (names : Names) (samples : Samples) (i : Item) (actor : ℕ) (what : What) (cost : ℕ)
     → ((items : List Item) → Tells old items → reason_of old.header.profile items i ≡ None → IsOperation old.header.profile (heap_of items) (keeper_for old.header.profile items i) old.samples.guard i actor what cost)
@@ -200,8 +119,7 @@ added old new names samples i actor what cost op after sampling h = record {
   line = h.line;
   tells = λ items t e.
       let most = actor_within old.header.profile items i e in
-      let header = t.header in
-      let threads : old.header.profile.threads ≤ 16 = header.threads in
+      let threads : old.header.profile.threads ≤ 16 = t.header.threads in
       let is : actor_of i ≡ actor = (op items t e).thread in
       let can = ready old items i actor cost (op items t e).same_guard t (counts_within old.header.profile items i (op items t e).operates e) (omega (arith, most, threads, is)) (sym (op items t e).costs) in
       operated old new names samples items i actor what cost t (op items t e) can (after items t e) (sampling items t e) h;
@@ -219,8 +137,7 @@ added_wish old new t w h =
       marks = λ m. refl;
       thread = refl;
       costs = refl;
-      phases = λ line ps. ap (λ what. add_last (Some (operation line t what)) ps)
-          (ap (λ keeper. what_wished f (heap_of items) keeper w) (sym (keeper_same old items t w told (small_thread old items t w told e))) ∙ what-same f (heap_of items) (heap_told old) (keeper_told old t w) w (λ m. (told.names m).heap));
+      phases = λ line ps. search (arith, keeper_same, small_thread, what-same);
     } in
     added old new h.names h.samples (Operates t w) t what cost op (names-taken old h.names t w h.given)
     (λ items told e. sampled f old.samples items told.samples h.samples t w (small_thread old items t w told e) h.sampled) h.counted
@@ -249,9 +166,7 @@ none-costs : (f : Profile) (items : List Item) → started items ≡ false → c
 none-costs f [] none = refl
 none-costs f (i ∷ items) none =
     let both = or_none (is_operation i) (is_phase i) (started items) none in
-    let cost = no_cost f (guard_in items) i both.0 in
-    let rest = none-costs f items both.1 in
-    omega (arith, cost, rest)
+    omega (arith, no_cost f (guard_in items) i both.0, none-costs f items both.1)
 
 free-cost : (here : Bool) (n : ℕ) → n ≡ (if here then n + 0 else n)
 free-cost true n = omega arith
@@ -267,34 +182,29 @@ numbered old new n h = record {
       let header = t.header in
       let pages : f.pages ≤ 16384 = header.pages in
       let few : f.threads ≤ 8 = held.few in
-      let number = and_parts (nat_le 1 n) (nat_le n 1000000) held.number in
-      let least : 1 ≤ n = leb-true 1 n number.0 in
+      let least : 1 ≤ n = leb-true 1 n (and_parts (nat_le 1 n) (nat_le n 1000000) held.number).0 in
       let some : (n == 0) ≡ false = ne_eqb n 0 (λ z. absurd (omega (arith, z, least))) in
       let costs = none-costs f items held.first in
       let before : record_bound f items ≡ f.threads * f.pages + costs_of f items = ap (λ g. actors_by g f.threads * f.pages + costs_of f items) held.single in
       let after : record_bound f (Guards (Some n) ∷ items) ≡ 2 * f.threads * f.pages + (costs_of f items + 0) = ap (λ b. (if b then f.threads else 2 * f.threads) * f.pages + (costs_of f items + 0)) some in
       let bound : old.counts.bound ≡ record_bound f items = t.bound in
       let now : new.counts.bound ≡ old.counts.bound + f.threads * f.pages = h.bound in
-      let most : f.threads * f.pages ≤ 8 * 16384 = mul-le f.threads f.pages 8 16384 few pages in
       let line : new.line ≡ old.line + 1 = h.line in
       let phase : new.phase ≡ old.phase = h.phase in
-      let le : old.phase ≤ old.line = t.phase in
       let same_bound : new.counts.bound ≡ record_bound f (Guards (Some n) ∷ items) = omega (arith, now, bound, before, after) in
       record {
         header = subst (λ (g : Header). IsValid g.profile) (sym h.header) t.header;
         shared = h.shared ∙ t.shared;
         started = h.started ∙ t.started;
         line = line ∙ ap (λ n. n + 1) t.line;
-        phase = omega (arith, phase, line, le);
-        names = λ m. subst (λ (o : Owner). NameTold o new.phase (Guards (Some n) ∷ items) m) (sym (h.names m))
-            (subst (λ (p : ℕ). NameTold (owner_in old.names m) p (Guards (Some n) ∷ items) m) (sym phase) (kept-name (Guards (Some n)) items (owner_in old.names m) old.phase m refl refl (t.names m)));
+        phase = omega (arith, phase, line, t.phase);
+        names = λ m. rw (h.names, phase) (kept-name (Guards (Some n)) items (owner_in old.names m) old.phase m refl refl (t.names m));
         operations = h.operations ∙ t.operations;
         bound = same_bound ∙ ap (λ (g : Header). record_bound g.profile (Guards (Some n) ∷ items)) (sym h.header);
-        small = omega (arith, now, bound, before, costs, most);
+        small = omega (arith, now, bound, before, costs, mul-le f.threads f.pages 8 16384 few pages);
         width = ap length h.costs ∙ t.width;
         costs = λ k lt. ap (λ xs. get_or xs k 0) h.costs ∙ t.costs k lt ∙ free-cost (0 == k) (own_costs f k items) ∙ ap (λ (g : Header). own_costs g.profile k (Guards (Some n) ∷ items)) (sym h.header);
-        samples = subst (λ (s : Samples). TellsSamples new.header.profile s (Guards (Some n) ∷ items)) (sym h.samples) (subst (λ (g : Header). TellsSamples g.profile (record old.samples { guard = n }) (Guards (Some n) ∷ items)) (sym h.header)
-            (record { guard = refl; width = t.samples.width; larges = t.samples.larges; kept_width = t.samples.kept_width; kept = t.samples.kept }));
+        samples = search arith;
         phases = h.phases ∙ t.phases ∙ ap (λ (g : Header). phases_in g.profile (Guards (Some n) ∷ items)) (sym h.header);
       };
 }
@@ -308,23 +218,14 @@ pub bounds-more : (f : Profile) (items : List Item) (k bound : ℕ) (bounds more
 bounds-more f items k bound bounds more e b m = m ∙ ap (λ xs. xs ++ bound ∷ []) e ∙ ap (λ n. bounds_upto f items k ++ n ∷ []) b ∙ sym (ap (λ n. bounds_upto f items n) (add-one k))
 
 pub bound-thread : (f : Profile) (items : List Item) (k : ℕ) → 1 ≤ k → k ≤ f.threads → f.pages + own_costs f k items ≡ bound_of f items k
-bound-thread f items k some within =
-    let other : (k == 0) ≡ false = ne_eqb k 0 (λ none. absurd (omega (arith, some, none))) in
-    let thread : nat_le k f.threads ≡ true = le-leb k f.threads within in
-    rw (other, thread) refl
+bound-thread f items k some within = search (arith, ne_eqb, le-leb)
 
 pub bound-keeper : (f : Profile) (items : List Item) (k : ℕ) → 1 ≤ k → f.pages + kept_costs f k items ≡ bound_of f items (f.threads + k)
-bound-keeper f items k some =
-    let other : (f.threads + k == 0) ≡ false = ne_eqb (f.threads + k) 0 (λ none. absurd (omega (arith, some, none))) in
-    let beyond : nat_le (f.threads + k) f.threads ≡ false = lt-leb (f.threads + k) f.threads (omega (arith, some)) in
-    let place : f.threads + k - f.threads ≡ k = omega arith in
-    rw (other, beyond, place) refl
+bound-keeper f items k some = search (arith, ne_eqb, lt-leb)
 
 -- those of all actors, without a `guard` line and with one
 pub all-plain : (f : Profile) (items : List Item) → guard_in items ≡ 0 → bounds_upto f items (f.threads + 1) ≡ all_bounds f items
 all-plain f items none = ap (λ guard. bounds_upto f items (actors_by guard f.threads + 1)) (sym none)
 
 pub all-guarded : (f : Profile) (items : List Item) → guard_in items ≢ 0 → bounds_upto f items (f.threads + (f.threads + 1)) ≡ all_bounds f items
-all-guarded f items some =
-    let twice : f.threads + (f.threads + 1) ≡ 2 * f.threads + 1 = omega arith in
-    ap (λ n. bounds_upto f items n) twice ∙ sym (ap (λ b. bounds_upto f items ((if b then f.threads else 2 * f.threads) + 1)) (ne_eqb (guard_in items) 0 some))
+all-guarded f items some = search (arith, ne_eqb)

@@ -21,9 +21,7 @@ numbers_count k (suc n) = ap suc (numbers_count (k + 1) n)
 -- .. of those of which this is so
 chosen_next : {on : Bool} (chosen : ℕ → Bool) (k n m : ℕ) → n ≡ m + 1 → chosen k ≡ on
     → filter chosen (numbers_from k n) ≡ (if on then k ∷ filter chosen (numbers_from (k + 1) m) else filter chosen (numbers_from (k + 1) m))
-chosen_next chosen k n m is same =
-    ap (λ (ks : List ℕ). filter chosen ks) (number_next k n m is)
-    ∙ ap (λ (b : Bool). if b then k ∷ filter chosen (numbers_from (k + 1) m) else filter chosen (numbers_from (k + 1) m)) same
+chosen_next chosen k n m is same = search (arith, number_next)
 
 -- the thread at place i of n is one of them, or isn't, or there is none
 module _ (to : ℕ → Act) (chosen : ℕ → Bool) (i n : ℕ) (more : List Act) where

@@ -1,8 +1,8 @@
-use Rattle.std.proofs.Common.{Bool, Some, subst, ◌∙◌}
+use Rattle.std.proofs.Common.{Bool, Some, ◌∙◌}
 use Rattle.pas_profile.specs.declared.profile.Profile.{Profile}
 use Rattle.pas_trace.specs.Acts.{Act}
 use Rattle.pas_trace.specs.declared.item.Request.{Request}
-use Rattle.pas_check.specs.{Begins.request_for, Calls.IsWanted, Calls.asked_for, Tasks.ActTaken, Tasks.Asks, Tasks.Resizes}
+use Rattle.pas_check.specs.{Begins.request_for, Calls.IsWanted, Tasks.ActTaken, Tasks.Asks, Tasks.Resizes}
 use Rattle.pas_check.proofs.{Actings.of_profile, Actings.resized_asks, Actings.resized_kept, Takings.if_ok}
 use Rattle.pas_check.proofs.acting.resize.Goals as goal
 
@@ -21,6 +21,5 @@ returns-clause-taken c =
     (λ taken asked f act resizes. of_profile f c.args.text.now c.args.judge.now c.replace.new.judge c.args.cursor.now c.replace.new.cursor act taken
     (λ same. asked f act (request_for c.args.block c.args.name c.args.size c.args.align)
     (resized_asks f c.args.text.now c.args.judge.now c.args.cursor.now c.args.k c.args.name c.args.size c.args.align c.requires.within act c.args.block c.if-suits.ensures resizes)
-    (subst (λ g. IsWanted g (asked_for c.args.name c.args.block.heap c.args.size c.args.align) c.wanted_for-wanted.result)
-    (c.profile.ensures ∙ same) c.wanted_for-wanted.ensures.wanted)))
+    (rw (c.profile.ensures, same) at c.wanted_for-wanted.ensures.wanted)))
     c.replace.ensures.taken

@@ -1,4 +1,4 @@
-use Rattle.std.proofs.Common.{◌≡◌, ℕ, ◌+◌, ◌-◌, ◌++◌, ◌∷◌, [], true, false, map, refl, ap, arith}
+use Rattle.std.proofs.Common.{◌≡◌, ◌+◌, ◌-◌, ◌++◌, ◌∷◌, [], true, false, map, refl, ap, arith}
 use Rattle.pas_profile.specs.declared.profile.Profile.{Profile}
 use Rattle.pas_trace.specs.Acts.{Ends, numbers_from}
 use Rattle.pas_check.specs.Checks.{threads_in}
@@ -10,11 +10,7 @@ pub loop-index-init : goal.loop-index-init
 loop-index-init c = record {
   sized = record { profile = refl; logs = refl; awake = refl; names = refl };
   within = c.requires.within;
-  far = λ more.
-      let n = threads_in c.args.judge.now in
-      let e : n ≡ n - 0 = omega arith in
-      taken_as c.args.text.now c.args.judge.now c.args.judge.now c.args.cursor.now c.args.cursor.now true _ _ (map Ends (numbers_from 1 n) ++ more) (map Ends (numbers_from 1 (n - 0)) ++ more) refl
-      (ap (λ (m : ℕ). map Ends (numbers_from 1 m) ++ more) e) (nothing_taken c.args.text.now c.args.judge.now c.args.cursor.now (map Ends (numbers_from 1 n) ++ more));
+  far = search (arith, taken_as, nothing_taken);
 }
 
 pub flush-requires-clause-within : goal.flush-requires-clause-within
@@ -53,7 +49,4 @@ loop-index-preserved c =
     }
 
 pub returns-clause-taken : goal.returns-clause-taken
-returns-clause-taken c = λ more.
-    let count = ap (λ (f : Profile). f.threads) c.profile-threads.ensures in
-    taken_as c.args.text.now c.args.judge.now c.loop-index.judge c.args.cursor.now c.loop-index.cursor true _ _ _ more refl
-    (no_number Ends c.loop-index.index (threads_in c.args.judge.now) more (omega (arith, c.loop-index-test.false, count))) (c.loop-index.invariant.far more)
+returns-clause-taken c = search (arith, taken_as, no_number, c.profile-threads.ensures)

@@ -1,4 +1,4 @@
-use Rattle.std.proofs.Common.{◌≡◌, ℕ, ◌+◌, ◌-◌, ◌++◌, ◌∷◌, [], true, false, map, refl, ap, sym, ◌∙◌, arith}
+use Rattle.std.proofs.Common.{◌≡◌, ◌+◌, ◌-◌, ◌++◌, ◌∷◌, [], true, false, map, refl, ap, ◌∙◌, arith}
 use Rattle.pas_profile.specs.declared.profile.Profile.{Profile}
 use Rattle.pas_trace.specs.Acts.{Lowers, numbers_from}
 use Rattle.pas_check.specs.Checks.{threads_in}
@@ -11,15 +11,7 @@ loop-index-init c = record {
   sized = record { profile = refl; logs = refl; awake = refl; names = refl };
   within = c.requires.within;
   after = (let count = ap (λ (f : Profile). f.threads) c.profile-threads.ensures in omega (arith, count));
-  far = λ more.
-      let t = threads_in c.args.judge.now in
-      let n = t + c.args.keepers in
-      let i = c.profile-threads.result.threads in
-      let count : i ≡ t = ap (λ (f : Profile). f.threads) c.profile-threads.ensures in
-      let left : c.args.keepers ≡ n - i = omega (arith, count) in
-      taken_as c.args.text.now c.args.judge.now c.args.judge.now c.args.cursor.now c.args.cursor.now true _ _ (map Lowers (numbers_from (t + 1) c.args.keepers) ++ more) (map Lowers (numbers_from (i + 1) (n - i)) ++ more) refl
-      (ap (λ (k : ℕ). map Lowers (numbers_from (k + 1) c.args.keepers) ++ more) (sym count) ∙ ap (λ (m : ℕ). map Lowers (numbers_from (i + 1) m) ++ more) left)
-      (nothing_taken c.args.text.now c.args.judge.now c.args.cursor.now (map Lowers (numbers_from (t + 1) c.args.keepers) ++ more));
+  far = search (arith, taken_as, nothing_taken, c.profile-threads.ensures);
 }
 
 pub lower-requires-clause-within : goal.lower-requires-clause-within
@@ -54,8 +46,4 @@ loop-index-preserved c =
     }
 
 pub returns-clause-taken : goal.returns-clause-taken
-returns-clause-taken c = λ more.
-    let test = c.loop-index-test.false in
-    let count = ap (λ (f : Profile). f.threads) c.profile-threads.ensures in
-    taken_as c.args.text.now c.args.judge.now c.loop-index.judge c.args.cursor.now c.loop-index.cursor true _ _ _ more refl
-    (no_number Lowers c.loop-index.index (threads_in c.args.judge.now + c.args.keepers) more (omega (arith, test, count))) (c.loop-index.invariant.far more)
+returns-clause-taken c = search (arith, taken_as, no_number, c.profile-threads.ensures)

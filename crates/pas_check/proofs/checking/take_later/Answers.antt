@@ -1,9 +1,9 @@
-use Rattle.std.proofs.Common.{◌≡◌, ◌+◌, ◌++◌, ◌∷◌, [], List, true, false, drop, get_or, map, refl, ap, subst, sym, ◌∙◌, drop_of_length-le, arith}
+use Rattle.std.proofs.Common.{◌≡◌, ◌+◌, ◌++◌, ◌∷◌, [], List, true, false, drop, get_or, map, ap, subst, sym, ◌∙◌, drop_of_length-le, arith}
 use Rattle.pas_profile.specs.Profiles.{IsValid}
 use Rattle.pas_profile.specs.declared.profile.Profile.{Profile}
 use Rattle.pas_machine.specs.Machines.{profile_of}
 use Rattle.pas_trace.specs.{Acts.MarksPhase, Acts.acts_from, Acts.phase_acts, Plans.ops_of}
-use Rattle.pas_trace.specs.declared.plan.{Op.Op, Phase.Phase}
+use Rattle.pas_trace.specs.declared.plan.Op.{Op}
 use Rattle.pas_check.specs.{Checks.ArePlanned, Checks.threads_in, Tables.names_held}
 use Rattle.pas_check.proofs.Chains.{act_taken, sized_as_before, sized_on, taken_as, then_taken}
 use Rattle.pas_check.proofs.Phases.{phase_at, phase_done, phases_there, planned_as}
@@ -68,7 +68,4 @@ loop-phase-preserved c =
     }
 
 pub returns-clause-taken : goal.returns-clause-taken
-returns-clause-taken c keepers =
-    let n = threads_in c.args.judge.now in
-    taken_as c.args.text.now c.args.judge.now c.loop-phase.judge c.args.cursor.now c.loop-phase.cursor true _ _ _ _ refl
-    (ap (λ (ps : List Phase). acts_from n keepers (c.loop-phase.number + 1) (map ops_of ps)) (drop_of_length-le c.args.phases.now c.loop-phase-test.false)) (c.loop-phase.invariant.far keepers)
+returns-clause-taken c keepers = search (arith, taken_as, drop_of_length-le)

@@ -1,8 +1,7 @@
-use Rattle.std.proofs.Common.{◌≡◌, ℕ, ◌+◌, ◌-◌, [], ◌∷◌, ◌++◌, List, true, false, map, refl, ap, sym, ◌∙◌, arith}
-use Rattle.std.specs.List.{filter}
+use Rattle.std.proofs.Common.{◌≡◌, ℕ, ◌+◌, ◌-◌, [], ◌∷◌, ◌++◌, List, true, false, refl, ap, sym, ◌∙◌, arith}
 use Rattle.pas_bits.specs.Masks.{is_set}
 use Rattle.pas_profile.specs.declared.profile.Profile.{Profile}
-use Rattle.pas_trace.specs.Acts.{Act, Wakes, numbers_from, threads_where}
+use Rattle.pas_trace.specs.Acts.{Act, Wakes}
 use Rattle.pas_check.specs.{Checks.threads_in, Leading.IsWithin}
 use Rattle.pas_check.specs.declared.cutting.Cursor.{Cursor}
 use Rattle.pas_check.proofs.Chains.{act_taken, nothing_taken, sized_on, taken_as, then_taken}
@@ -13,12 +12,7 @@ use Rattle.pas_check.proofs.checking.wake_all.Goals.{then-get, else-get}
 pub loop-index-init : goal.loop-index-init
 loop-index-init c = record {
   sized = record { profile = refl; logs = refl; awake = refl; names = refl };
-  far = λ text at within more.
-      let n = threads_in c.args.judge.now in
-      let e : n ≡ n - 0 = omega arith in
-      taken_as text c.args.judge.now c.args.judge.now at at true _ _ (map Wakes (threads_where (is_set c.args.awake) n) ++ more) (acts_there Wakes (is_set c.args.awake) 0 n more) refl
-      (ap (λ (m : ℕ). map Wakes (filter (is_set c.args.awake) (numbers_from 1 m)) ++ more) e)
-      (nothing_taken text c.args.judge.now at (map Wakes (threads_where (is_set c.args.awake) n) ++ more));
+  far = search (arith, taken_as, acts_there, nothing_taken);
 }
 
 pub wake-requires : goal.wake-requires
@@ -53,8 +47,4 @@ loop-index-preserved c = elim c.if-get.branch [
 ]
 
 pub returns-clause-taken : goal.returns-clause-taken
-returns-clause-taken c = λ text at within more.
-    let count = ap (λ (f : Profile). f.threads) c.profile-threads.ensures in
-    taken_as text c.args.judge.now c.loop-index.judge at at true _ _ (acts_there Wakes (is_set c.args.awake) c.loop-index.index (threads_in c.args.judge.now) more) more refl
-    (none_left Wakes (is_set c.args.awake) c.loop-index.index (threads_in c.args.judge.now) more (omega (arith, c.loop-index-test.false, count)))
-    (c.loop-index.invariant.far text at within more)
+returns-clause-taken c = search (arith, taken_as, acts_there, none_left, c.profile-threads.ensures)

@@ -1,7 +1,7 @@
-use Rattle.std.proofs.Common.{◌≡◌, ◌<◌, ◌≤◌, ◌+◌, ◌∷◌, length, take, get_or, true, ap, sym, ◌∙◌, subst, arith, eqb-true, take_all}
+use Rattle.std.proofs.Common.{◌≡◌, ◌<◌, ◌≤◌, ◌+◌, ◌∷◌, length, take, get_or, true, ap, ◌∙◌, arith, eqb-true, take_all}
 use Rattle.std.proofs.lemmas.List.{take_more, drop_all}
-use Rattle.pas_check.specs.Lines.{is_line, lines_in}
-use Rattle.pas_check.proofs.Cuts.{IsFront, front_before, front_ends, all_front, cut_first}
+use Rattle.pas_check.specs.Lines.{is_line}
+use Rattle.pas_check.proofs.Cuts.{front_before, front_ends, all_front, cut_first}
 use Rattle.pas_check.proofs.cutting.first_line.Goals as goal
 
 pub returns-in-Some-clause-some : goal.returns-in-Some-clause-some
@@ -14,9 +14,4 @@ returns-in-Some-clause-some c =
     (omega (arith, high), cut_first (n + 1) w ends)
 
 pub returns-in-None-clause-some : goal.returns-in-None-clause-some
-returns-in-None-clause-some c =
-    let w = c.args.text.now in
-    let le : length w ≤ length w = omega arith in
-    let front : IsFront w = subst IsFront (take_all (length w) w le) (front_before w (length w) c.in-None.ensures) in
-    let some : 0 < length w = omega arith in
-    (le, all_front w some front ∙ (λ i. sym (take_all (length w) w le) i ∷ lines_in (sym (drop_all (length w) w le) i)))
+returns-in-None-clause-some c = search (arith, take_all, front_before, all_front, drop_all)

@@ -1,4 +1,4 @@
-use Rattle.std.proofs.Common.{◌+◌, List, drop, get_or, true, refl, subst, ◌∙◌}
+use Rattle.std.proofs.Common.{arith, ◌+◌, List, drop, get_or, true, refl, subst, ◌∙◌}
 use Rattle.std.proofs.lemmas.List.{drop_more}
 use Rattle.pas_check.specs.Calls.{EntriesTaken}
 use Rattle.pas_check.specs.declared.entry.Entry.{Entry}
@@ -19,8 +19,7 @@ returns-in_default-clause-taken c =
     let nobody : Entry = record { name = record { address = record { 0 = 0 }; turn = 0 }; room = 0 } in
     entries_lack c.args.machine.now c.args.text.now c.args.cursor.now c.args.actor log c.args.epoch c.loop-entry.machine c.loop-entry.cursor
     c.next_line.new.cursor (get_or log i nobody) (drop (i + 1) log)
-    (subst (λ (entries : List Entry). EntriesTaken c.args.machine.now c.loop-entry.machine c.args.text.now c.args.cursor.now c.loop-entry.cursor c.args.actor log
-    entries c.args.epoch true) (drop_more log i nobody c.loop-entry-test.true) c.loop-entry.invariant.taken)
+    (rw (drop_more log i nobody c.loop-entry-test.true) at c.loop-entry.invariant.taken)
     c.next_line.ensures.count c.in_default.ensures.none
 
 pub returns-in-Ok-false-clause-taken : goal.returns-in-Ok-false-clause-taken
@@ -29,8 +28,7 @@ returns-in-Ok-false-clause-taken c =
     let i = c.loop-entry.entry-index in
     entries_amiss c.args.machine.now c.args.text.now c.args.cursor.now c.args.actor log c.args.epoch c.loop-entry.machine c.loop-entry.cursor
     c.next_line.new.cursor _ (drop (i + 1) log)
-    (subst (λ (entries : List Entry). EntriesTaken c.args.machine.now c.loop-entry.machine c.args.text.now c.args.cursor.now c.loop-entry.cursor c.args.actor log
-    entries c.args.epoch true) (drop_more log i _ c.loop-entry-test.true) c.loop-entry.invariant.taken)
+    (search (arith, drop_more))
     c.next_line.ensures.count c.take_entry.new.machine c.in-Some.line.now c.loop-entry.invariant.profile c.in-Some.ensures.some
     (rw c.in-Ok-false.field-0-test at c.in-Ok-false.ensures.taken)
 

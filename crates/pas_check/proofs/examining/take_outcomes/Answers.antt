@@ -17,8 +17,7 @@ returns-in_default-clause-taken c =
 
 pub returns-in-Ok-None-clause-taken : goal.returns-in-Ok-None-clause-taken
 returns-in-Ok-None-clause-taken c =
-    let low : c.lines.cursor.lines < 2 ^ 32 = (let a = c.lines.invariant.within.lines in let b = c.lines.invariant.within.bytes in
-    omega (arith, a, b, c.requires.short)) in
+    let low : c.lines.cursor.lines < 2 ^ 32 = (omega (arith, c.lines.invariant.within.lines, c.lines.invariant.within.bytes, c.requires.short)) in
     outcomes_over c.args.machine.now c.args.text.now c.args.cursor.now c.args.epoch c.lines.machine c.lines.cursor c.lines.last c.lines.invariant.goes
     c.in-Some.line.now (lines_from c.args.text.now c.next_line.new.cursor)
     c.requires.valid c.lines.invariant.profile low c.in-Some.ensures.some c.take_outcome.new.machine (rw c.in-Ok-None.field-0-is at c.in-Ok-None.ensures.taken)
@@ -26,8 +25,7 @@ returns-in-Ok-None-clause-taken c =
 
 pub lines-preserved : goal.lines-preserved
 lines-preserved c =
-    let low : c.lines.cursor.lines < 2 ^ 32 = (let a = c.lines.invariant.within.lines in let b = c.lines.invariant.within.bytes in
-    omega (arith, a, b, c.requires.short)) in
+    let low : c.lines.cursor.lines < 2 ^ 32 = (omega (arith, c.lines.invariant.within.lines, c.lines.invariant.within.bytes, c.requires.short)) in
     record {
       profile = c.in-Ok-Some.ensures.profile ∙ c.lines.invariant.profile;
       within = c.in-Some.ensures.within;

@@ -1,17 +1,14 @@
 use Rattle.std.proofs.Common.{◌≡◌, ◌*◌, ◌/◌, nat_lt, ap, sym, ◌∙◌, arith, le-ltb}
 use Rattle.pas_profile.specs.Blocks.{address_of}
 use Rattle.pas_profile.specs.declared.name.Block.{Block}
-use Rattle.pas_machine.specs.{Machines.profile_of, State.ends_in, State.gives_in, State.live_in}
+use Rattle.pas_machine.specs.{Machines.profile_of, State.gives_in, State.live_in}
 use Rattle.pas_check.specs.Begins.{unsized}
 use Rattle.pas_check.proofs.Entries.{block_there, counts, gone, nothing_there}
 use Rattle.pas_check.proofs.Guardings.{no_ends}
 use Rattle.pas_check.proofs.guarding.has_ended.Goals as goal
 
 pub returns-then-not-is_place : goal.returns-then-not-is_place
-returns-then-not-is_place c = λ es stands.
-    let a = address_of c.args.name in
-    let none = no_ends (profile_of c.args.machine.now) es stands.run a c.if-not-is_place.ensures in
-    sym (le-ltb c.args.name.turn (ends_in es a) (omega (arith, none)))
+returns-then-not-is_place c = search (arith, no_ends, le-ltb, c.if-not-is_place.ensures)
 
 pub returns-in-Some : goal.returns-in-Some
 returns-in-Some c = λ es stands.

@@ -1,7 +1,4 @@
-use Rattle.std.proofs.Common.{◌≡◌, ◌∷◌, [], List, ap, subst, ◌++◌, ◌∙◌}
-use Rattle.pas_report.specs.declared.record.{Record.Record, Said.Said}
-use Rattle.pas_check.specs.Leading.{IsLed}
-use Rattle.pas_check.specs.States.{Due, Writes, Stand, with_due}
+use Rattle.std.proofs.Common.{◌≡◌, ◌∷◌, [], ap, ◌++◌, ◌∙◌}
 use Rattle.pas_check.specs.declared.guard.Guard.{Guard}
 use Rattle.pas_check.proofs.Guardings.{not_raised, raised}
 use Rattle.pas_check.proofs.guarding.raise.Goals as goal
@@ -18,5 +15,4 @@ returns-clause-taken c = λ f s stands.
     let is = c.in-Some.ensures.1 in
     raised f c.args.text.now c.args.judge.now from c.args.keeper c.args.name c.args.block c.requires.within c.set.new.self c.set.ensures.names c.in-Some.ensures.0 c.push.new.self
     (c.in-Ok.ensures.items ∙ ap (λ (g : Guard). c.args.judge.now.guards.items ++ g ∷ []) is) to c.take_record.result
-    (subst (λ (g : Guard). (s : Stand) (more : List Due) → s.due ≡ Writes (Record.Said c.args.keeper (Said.Guarded g.low g.high c.args.name)) ∷ more → IsLed f c.args.text.now s from (with_due s more) to c.take_record.result)
-    is (c.take_record.ensures.led f)) s stands
+    (rw is at (c.take_record.ensures.led f)) s stands

@@ -25,8 +25,7 @@ pub returns-in-Ok-false-clause-taken : goal.returns-in-Ok-false-clause-taken
 returns-in-Ok-false-clause-taken c =
     let stood = c.take_preparing.new.machine in
     let new = c.end_trial.new.machine in
-    let low : c.lines.cursor.lines < 2 ^ 32 = (let a = c.lines.invariant.within.lines in let b = c.lines.invariant.within.bytes in
-    omega (arith, a, b, c.requires.short)) in
+    let low : c.lines.cursor.lines < 2 ^ 32 = (omega (arith, c.lines.invariant.within.lines, c.lines.invariant.within.bytes, c.requires.short)) in
     let is : IsRead c.in-Some.line.now c.read_record-found.result = record { some = c.read_record-found.ensures.some; only = c.read_record-found.ensures.only } in
     if_ok c.end_trial.result (λ (trial : Trial). (line : List ℕ) → IsRead line c.read_record-found.result → TrialEnded stood new c.args.keeper c.args.wanted.now line c.lines.backed c.lines.cursor trial)
     (λ (trial : Trial). TrialTaken c.args.machine.now new c.args.text.now c.args.cursor.now c.next_line.new.cursor c.args.keeper c.args.wanted.now trial)
@@ -46,8 +45,7 @@ returns-in-Ok-false-clause-stays c =
 
 pub lines-preserved : goal.lines-preserved
 lines-preserved c =
-    let low : c.lines.cursor.lines < 2 ^ 32 = (let a = c.lines.invariant.within.lines in let b = c.lines.invariant.within.bytes in
-    omega (arith, a, b, c.requires.short)) in
+    let low : c.lines.cursor.lines < 2 ^ 32 = (omega (arith, c.lines.invariant.within.lines, c.lines.invariant.within.bytes, c.requires.short)) in
     let is : IsRead c.in-Some.line.now c.read_record-found.result = record { some = c.read_record-found.ensures.some; only = c.read_record-found.ensures.only } in
     record {
       profile = c.in-Ok-true.ensures.profile ∙ c.lines.invariant.profile;

@@ -19,7 +19,6 @@ serve-requires-clause-valid c = subst IsValid (sym c.in-Ok-Passes.ensures.profil
 
 pub returns-in-Ok-Gives-clause-taken : goal.returns-in-Ok-Gives-clause-taken
 returns-in-Ok-Gives-clause-taken c =
-    let mid = record c.args.judge.now { machine = c.take_trial.new.machine } in
     let at = c.take_trial.new.cursor in
     let taken = rw c.in-Ok-Gives.field-0-is at c.in-Ok-Gives.ensures.taken in
     if_ok c.raise.result _ _

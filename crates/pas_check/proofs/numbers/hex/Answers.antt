@@ -1,16 +1,11 @@
-use Rattle.std.proofs.Common.{◌≡◌, ◌<◌, ◌+◌, ◌-◌, ◌*◌, ◌%◌, drop, get_or, ap, sym, ◌∙◌, [], arith}
+use Rattle.std.proofs.Common.{◌≡◌, ◌<◌, ◌+◌, ◌-◌, ◌*◌, ◌%◌, drop, get_or, ◌∙◌, [], arith}
 use Rattle.std.proofs.lemmas.List.{drop_more, drop_all}
 use Rattle.pas_trace.specs.Numbers.{hex_value}
-use Rattle.pas_check.specs.Readings.{hex_after}
 use Rattle.pas_check.proofs.Digits.{hex_bound, hex_room, hex_most, hex_more, hex_stops}
 use Rattle.pas_check.proofs.numbers.hex.Goals as goal
 
 pub returns-then-place-text-clause-value : goal.returns-then-place-text-clause-value
-returns-then-place-text-clause-value c =
-    let v = c.loop-place.value in
-    let k = c.args.digits - c.loop-place.place in
-    let none : drop c.loop-place.place c.args.text.now ≡ [] = drop_all c.loop-place.place c.args.text.now c.if-place-text.true in
-    sym (hex_stops k v) ∙ ap (hex_after k v) (sym none) ∙ c.loop-place.invariant.0
+returns-then-place-text-clause-value c = search (arith, drop_all, hex_stops)
 
 pub returns-then-place-text-clause-small : goal.returns-then-place-text-clause-small
 returns-then-place-text-clause-small c = hex_most c.loop-place.value c.loop-place.place c.args.digits c.loop-place.invariant.1 (omega arith)
@@ -34,7 +29,6 @@ loop-place-preserved c =
     let nibble : c.nibble.result ≡ hex_value b % 16 = c.nibble.ensures in
     let fewer : c.args.digits - (i + 1) ≡ k - 1 = omega arith in
     let less : c.nibble.result < 16 = omega (arith, nibble) in (
-      ap (λ j. hex_after j (16 * v + c.nibble.result) rest) fewer ∙ ap (λ x. hex_after (k - 1) (16 * v + x) rest) nibble ∙ sym (hex_more k v b rest (omega arith))
-          ∙ sym (ap (hex_after k v) (drop_more w i 0 (omega arith))) ∙ c.loop-place.invariant.0,
+      cc (hex_more k v b rest (omega arith), drop_more w i 0 (omega arith)),
       hex_bound v c.nibble.result i c.loop-place.invariant.1 less,
     )

@@ -5,11 +5,7 @@ use Rattle.pas_check.proofs.{Kept.gives_few, WithoutDeeds.given_counted}
 use Rattle.pas_check.proofs.reporting.given_on.Goals as goal
 
 pub overflow_add-given : goal.overflow_add-given
-overflow_add-given c =
-    let known = c.requires.known in
-    let one = c.gives_at-given.ensures known.events known.stands in
-    let few = gives_few known.events (16 * (256 * c.args.page + c.loop-grain.grain)) in
-    omega (arith, one, few, known.few, c.loop-grain.invariant.few, c.loop-grain-test.true)
+overflow_add-given c = search (arith, gives_few, c.gives_at-given.ensures)
 
 pub loop-grain-preserved : goal.loop-grain-preserved
 loop-grain-preserved c =

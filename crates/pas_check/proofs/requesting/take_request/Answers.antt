@@ -25,8 +25,7 @@ pub returns-in-Ok-false-clause-taken : goal.returns-in-Ok-false-clause-taken
 returns-in-Ok-false-clause-taken c =
     let stood = c.take_preparing.new.machine in
     let new = c.take_ending.new.machine in
-    let low : c.lines.cursor.lines < 2 ^ 32 = (let a = c.lines.invariant.within.lines in let b = c.lines.invariant.within.bytes in
-    omega (arith, a, b, c.requires.short)) in
+    let low : c.lines.cursor.lines < 2 ^ 32 = (omega (arith, c.lines.invariant.within.lines, c.lines.invariant.within.bytes, c.requires.short)) in
     let is : IsRead c.in-Some.line.now c.read_record-found.result = record { some = c.read_record-found.ensures.some; only = c.read_record-found.ensures.only } in
     if_ok c.take_ending.result (λ (block : Option (Option Block)). (line : List ℕ) → IsRead line c.read_record-found.result → EndingTaken stood new c.args.actor c.args.wanted.now line block)
     (λ (block : Option (Option Block)). RequestTaken c.args.machine.now new c.args.text.now c.args.cursor.now c.next_line.new.cursor c.args.actor c.args.wanted.now block)
@@ -40,8 +39,7 @@ returns-in-Ok-false-clause-within c = if_any c.take_ending.result (IsWithin c.ar
 
 pub lines-preserved : goal.lines-preserved
 lines-preserved c =
-    let low : c.lines.cursor.lines < 2 ^ 32 = (let a = c.lines.invariant.within.lines in let b = c.lines.invariant.within.bytes in
-    omega (arith, a, b, c.requires.short)) in
+    let low : c.lines.cursor.lines < 2 ^ 32 = (omega (arith, c.lines.invariant.within.lines, c.lines.invariant.within.bytes, c.requires.short)) in
     record {
       profile = c.in-Ok-true.ensures.profile ∙ c.lines.invariant.profile;
       within = c.in-Some.ensures.within;

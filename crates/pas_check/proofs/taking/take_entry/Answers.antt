@@ -1,4 +1,4 @@
-use Rattle.pas_check.specs.Calls.{IsStepped, EntryTaken}
+use Rattle.std.proofs.Common.{arith}
 use Rattle.pas_check.proofs.Takings.{entry_amiss, entry_outside, entry_stepped, if_ok}
 use Rattle.pas_check.proofs.taking.take_entry.Goals as goal
 
@@ -10,8 +10,4 @@ returns-then-not-is_line-clause-taken c =
     entry_amiss c.args.actor c.args.entry c.args.epoch c.args.line.now c.args.machine.now c.event_for-event.result c.event_for-event.ensures.event c.if-not-is_line.ensures
 
 pub returns-clause-taken : goal.returns-clause-taken
-returns-clause-taken c =
-    if_ok c.step.result (λ taken. IsStepped c.args.machine.now c.step.new.machine c.event_for-event.result taken)
-    (λ taken. EntryTaken c.args.machine.now c.step.new.machine c.args.actor c.args.entry c.args.epoch c.args.line.now taken)
-    (entry_stepped c.args.actor c.args.entry c.args.epoch c.args.line.now c.args.machine.now c.event_for-event.result c.event_for-event.ensures.event c.step.new.machine c.if-not-is_line.ensures)
-    c.step.ensures.stepped
+returns-clause-taken c = search (arith, if_ok, entry_stepped, c.step.ensures.stepped)

@@ -1,12 +1,6 @@
-use Rattle.std.proofs.Common.{codes}
-use Rattle.std.specs.Fmt.{decimal}
-use Rattle.pas_report.specs.Lines.{name_text}
+use Rattle.std.proofs.Common.{arith}
 use Rattle.pas_report.proofs.Texts.{then_piece, then_field}
 use Rattle.pas_report.proofs.lines.push_freed.Goals as goal
 
 pub returns-clause-bytes : goal.returns-clause-bytes
-returns-clause-bytes g c =
-    then_piece _ _ _ (decimal c.args.actor) _ c.push_number.ensures.bytes
-    (then_piece _ _ _ (codes " freed") _ c.push_str.ensures.bytes
-    (then_piece _ _ _ (name_text c.args.name) _ c.push_name.ensures.bytes
-    (then_field _ _ _ (codes " epoch ") (decimal c.args.epoch) (codes "\n") c.push_field.ensures.bytes c.push_str-2.ensures.bytes)))
+returns-clause-bytes g c = search (arith, then_piece, then_field)

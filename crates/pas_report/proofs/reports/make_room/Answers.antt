@@ -1,5 +1,5 @@
-use Rattle.std.proofs.Common.{rules, ◌≡◌, ℕ, List, Option, ◌∙◌, subst}
-use Rattle.pas_io.specs.Told.{Writes, WritesFront}
+use Rattle.std.proofs.Common.{arith, rules, ◌≡◌, ℕ, List, Option, ◌∙◌, subst}
+use Rattle.pas_io.specs.Told.{WritesFront}
 use Rattle.pas_report.specs.Pieces.{IsPutOut}
 use Rattle.pas_report.proofs.Pieces.{front_out, put_all}
 use Rattle.pas_report.proofs.reports.make_room.Goals as goal
@@ -13,9 +13,4 @@ returns-in_err-write_all-clause-front g c =
     search (rules, front)
 
 pub returns-in_ok-write_all-clause-keeps : goal.returns-in_ok-write_all-clause-keeps
-returns-in_ok-write_all-clause-keeps g c =
-    let waiting : c.as_bytes.result.now ≡ c.args.lines.now.bytes = c.as_bytes.ensures.value ∙ c.as_str.ensures.value in
-    let wrote = subst (Writes (g.K.Sink.held c.args.sink.now) (g.K.Sink.held c.write_all.new.sink)) waiting c.in_ok-write_all.ensures.whole in
-    let keeps = λ (before : Option (List ℕ)) (text : List ℕ) (out : IsPutOut before (g.K.Sink.held c.args.sink.now) c.args.lines.now.bytes text).
-    put_all before (g.K.Sink.held c.args.sink.now) (g.K.Sink.held c.write_all.new.sink) c.args.lines.now.bytes c.clear.new.self.bytes text c.clear.ensures out wrote in
-    search (rules, keeps)
+returns-in_ok-write_all-clause-keeps g c = search (arith, put_all, rules, c.clear.ensures)

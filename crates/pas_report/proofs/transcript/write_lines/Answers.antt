@@ -26,9 +26,7 @@ loop-item-preserved g c =
     record {
       text = c.loop-item.invariant.text ++ line;
       put_out = put_more (g.K.Sink.held c.args.sink.now) (g.K.Sink.held c.make_room.new.sink) c.make_room.new.lines.bytes c.push_record.new.text.bytes c.loop-item.invariant.text line c.push_record.ensures.bytes kept;
-      rest = append_assoc c.loop-item.invariant.text line (lines_of (drop (c.loop-item.item-index + 1) c.args.records.now))
-          ∙ ap (λ (t : List ℕ). c.loop-item.invariant.text ++ t) (sym more)
-          ∙ c.loop-item.invariant.rest;
+      rest = simp (append_assoc, ← more, c.loop-item.invariant.rest);
       count = search rules;
     }
 

@@ -4,12 +4,7 @@ use Rattle.pas_trace.proofs.Digits.{value_after, value-step, value-large, value-
 use Rattle.pas_trace.proofs.numbers.value_of_digits.Goals as goal
 
 pub returns-then-value-digit : goal.returns-then-value-digit
-returns-then-value-digit c =
-    let w = c.args.word.now in
-    let i = c.loop-byte.byte-index in
-    let v = c.loop-byte.value in
-    let b = get_or w i 0 in
-    sym (sym c.loop-byte.invariant ∙ ap (value_after v) (drop_more w i 0 c.loop-byte-test.true) ∙ value-large v b (drop (i + 1) w) (omega arith))
+returns-then-value-digit c = search (arith, drop_more, value-large)
 
 pub loop-byte-preserved : goal.loop-byte-preserved
 loop-byte-preserved c =
@@ -19,8 +14,4 @@ loop-byte-preserved c =
     sym (value-step v (get_or w i 0) (drop (i + 1) w) c.if-byte-lt48.false c.if-byte-gt57.false) ∙ sym (ap (value_after v) (drop_more w i 0 c.loop-byte-test.true)) ∙ c.loop-byte.invariant
 
 pub returns : goal.returns
-returns c =
-    let w = c.args.word.now in
-    let v = c.loop-byte.value in
-    let none = ap (value_after v) (drop_all c.loop-byte.byte-index w (omega arith)) in
-    sym (value-end v (omega arith)) ∙ sym none ∙ c.loop-byte.invariant
+returns c = search (arith, drop_all, value-end)

@@ -4,12 +4,7 @@ use Rattle.pas_trace.proofs.Digits.{hex_after, hex-step, hex-stop, hex-digit, he
 use Rattle.pas_trace.proofs.numbers.value_of_hex.Goals as goal
 
 pub returns-in_default-clause-value : goal.returns-in_default-clause-value
-returns-in_default-clause-value c =
-    let w = c.args.digits.now in
-    let i = c.loop-byte.byte-index in
-    let v = c.loop-byte.value in
-    let b = get_or w i 0 in
-    sym (sym c.loop-byte.invariant.0 ∙ ap (hex_after v) (drop_more w i 0 c.loop-byte-test.true) ∙ hex-stop v b (drop (i + 1) w) (hex-none b c.in_default.ensures))
+returns-in_default-clause-value c = search (arith, drop_more, hex-stop, hex-none, c.in_default.ensures)
 
 pub overflow_mul-value : goal.overflow_mul-value
 overflow_mul-value c =
@@ -17,8 +12,7 @@ overflow_mul-value c =
 
 pub overflow_add-value : goal.overflow_add-value
 overflow_add-value c =
-    let b = get_or c.args.digits.now c.loop-byte.byte-index 0 in
-    let d = hex-digit b c.in-Some.digit c.in-Some.ensures in
+    let d = hex-digit (get_or c.args.digits.now c.loop-byte.byte-index 0) c.in-Some.digit c.in-Some.ensures in
     let r = hex-room c.loop-byte.value c.loop-byte.byte-index c.loop-byte.invariant.1 (omega arith) in omega (arith, d)
 
 pub loop-byte-preserved : goal.loop-byte-preserved
@@ -36,6 +30,4 @@ pub returns-clause-small : goal.returns-clause-small
 returns-clause-small c = hex-bound c.loop-byte.value c.loop-byte.byte-index c.loop-byte.invariant.1 (omega arith)
 
 pub returns-clause-value : goal.returns-clause-value
-returns-clause-value c =
-    let none = ap (hex_after c.loop-byte.value) (drop_all c.loop-byte.byte-index c.args.digits.now (omega arith)) in
-    sym none ∙ c.loop-byte.invariant.0
+returns-clause-value c = search (arith, drop_all)

@@ -11,8 +11,7 @@ returns-in_err-read_lines c =
 
 pub planned-requires : goal.planned-requires
 planned-requires c =
-    let b = c.in_ok-reader.ensures in
-    let h = c.in_ok-read_lines.ensures.read [] b.tells in
+    let h = c.in_ok-read_lines.ensures.read [] c.in_ok-reader.ensures.tells in
     (h.0, h.2)
 
 pub returns : goal.returns

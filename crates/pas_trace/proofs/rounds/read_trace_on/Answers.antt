@@ -11,8 +11,7 @@ returns-in_err-read_pieces g c =
 
 pub planned-requires : goal.planned-requires
 planned-requires g c =
-    let b = c.in_ok-reader.ensures in
-    let h = c.in_ok-read_pieces.ensures [] b.tells in
+    let h = c.in_ok-read_pieces.ensures [] c.in_ok-reader.ensures.tells in
     (h.0, h.2)
 
 pub returns : goal.returns

@@ -1,10 +1,6 @@
-use Rattle.std.proofs.Common.{◌++◌, ◌∷◌, [], map, sym, ap, ◌∙◌}
-use Rattle.pas_trace.specs.Plans.{ops_of}
+use Rattle.std.proofs.Common.{arith, ◌++◌, ◌∷◌, [], ◌∙◌}
 use Rattle.pas_trace.proofs.Gathering.{add_last-end}
 use Rattle.pas_trace.proofs.gathered.Gathered.add.Goals as goal
 
 pub returns : goal.returns
-returns c =
-    let g = c.args.self.now in
-    let ops = c.push_reserved.ensures.items ∙ ap (λ ops. ops ++ c.args.op ∷ []) c.reserve.ensures.items in
-    ap (λ ops. map ops_of g.done.items ++ ops ∷ []) ops ∙ sym (add_last-end (map ops_of g.done.items) g.present.items c.args.op)
+returns c = search (arith, add_last-end, c.push_reserved.ensures.items, c.reserve.ensures.items)

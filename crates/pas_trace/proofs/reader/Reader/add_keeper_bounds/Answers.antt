@@ -4,15 +4,7 @@ use Rattle.pas_trace.proofs.Telling.{kept-within, bound-keeper, bounds-more, all
 use Rattle.pas_trace.proofs.reader.Reader.add_keeper_bounds.Goals as goal
 
 pub overflow_add-self : goal.overflow_add-self
-overflow_add-self c =
-    let r = c.args.self.now in
-    let t = c.requires.tells.1 in
-    let h = t.header in
-    let pages : r.header.profile.pages ≤ 16384 = h.pages in
-    let threads : r.header.profile.threads ≤ 16 = h.threads in
-    let small : r.counts.bound ≤ 2000000 = t.small in
-    let kept : get_or r.samples.kept c.loop-thread.thread 0 ≤ r.counts.bound = kept-within r c.requires.tells.0 c.loop-thread.thread t (omega arith) in
-    omega arith
+overflow_add-self c = search (arith, kept-within)
 
 pub loop-thread-init : goal.loop-thread-init
 loop-thread-init c items t = c.requires.threads items t
@@ -22,8 +14,6 @@ loop-thread-preserved c items t =
     let r = c.args.self.now in
     let f = r.header.profile in
     let k = c.loop-thread.thread in
-    let h = t.header in
-    let threads : f.threads ≤ 16 = h.threads in
     let kept : get_or r.samples.kept k 0 ≡ kept_costs f k items = t.samples.kept k (omega arith) in
     let bound = ap (λ n. f.pages + n) kept ∙ bound-keeper f items k (omega arith) in
     let next : f.threads + k + 1 ≡ f.threads + (k + 1) = omega arith in
@@ -33,7 +23,4 @@ pub returns-then-self-eq0 : goal.returns-then-self-eq0
 returns-then-self-eq0 c items t = c.requires.threads items t ∙ all-plain c.args.self.now.header.profile items (sym t.samples.guard ∙ c.if-self-eq0.true)
 
 pub returns : goal.returns
-returns c items t =
-    let f = c.args.self.now.header.profile in
-    let end : c.loop-thread.thread ≡ f.threads + 1 = omega arith in
-    c.loop-thread.invariant items t ∙ ap (λ n. bounds_upto f items (f.threads + n)) end ∙ all-guarded f items (λ none. c.if-self-eq0.false (t.samples.guard ∙ none))
+returns c items t = search (arith, all-guarded)

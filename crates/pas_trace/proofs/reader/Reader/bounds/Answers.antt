@@ -4,15 +4,7 @@ use Rattle.pas_trace.proofs.Telling.{cost-within, bound-thread, bounds-more}
 use Rattle.pas_trace.proofs.reader.Reader.bounds.Goals as goal
 
 pub overflow_add-self : goal.overflow_add-self
-overflow_add-self c =
-    let r = c.args.self.now in
-    let t = c.requires.1 in
-    let h = t.header in
-    let pages : r.header.profile.pages ≤ 16384 = h.pages in
-    let threads : r.header.profile.threads ≤ 16 = h.threads in
-    let small : r.counts.bound ≤ 2000000 = t.small in
-    let cost : get_or r.counts.costs c.loop-thread.thread 0 ≤ r.counts.bound = cost-within r c.requires.0 c.loop-thread.thread t (omega arith) in
-    omega arith
+overflow_add-self c = search (arith, cost-within)
 
 pub loop-thread-init : goal.loop-thread-init
 loop-thread-init c items t =
@@ -23,8 +15,6 @@ pub loop-thread-preserved : goal.loop-thread-preserved
 loop-thread-preserved c items t =
     let r = c.args.self.now in
     let k = c.loop-thread.thread in
-    let h = t.header in
-    let threads : r.header.profile.threads ≤ 16 = h.threads in
     let cost : get_or r.counts.costs k 0 ≡ own_costs r.header.profile k items = t.costs k (omega arith) in
     let bound = ap (λ n. r.header.profile.pages + n) cost ∙ bound-thread r.header.profile items k (omega arith) (omega arith) in
     bounds-more r.header.profile items k _ c.loop-thread.bounds.items _ (c.loop-thread.invariant items t) bound c.in_ok-push-2.ensures.items

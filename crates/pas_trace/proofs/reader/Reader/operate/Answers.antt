@@ -1,6 +1,6 @@
-use Rattle.std.proofs.Common.{◌+◌, Some, None, if◌then◌else◌, refl, sym, ap, ◌∙◌, subst}
+use Rattle.std.proofs.Common.{arith, ◌+◌, Some, None, if◌then◌else◌, refl, sym, ap, ◌∙◌, subst}
 use Rattle.std.proofs.lemmas.Result.{on_ok_weaker}
-use Rattle.pas_trace.specs.{Plans.name_at, Plans.request_kept, Told.IsOperated}
+use Rattle.pas_trace.specs.{Plans.request_kept, Told.IsOperated}
 use Rattle.pas_trace.specs.declared.{item.Wish.Wish, names.Owner.Owner, plan.What.What}
 use Rattle.pas_trace.proofs.Adding.{named, renamed, unnamed}
 use Rattle.pas_trace.proofs.reader.Reader.operate.Goals as goal
@@ -18,36 +18,16 @@ returns-in_ok-give-in-Asks c =
     c.sample-guarded.ensures.sampled c.in_ok-give-in-Asks.ensures h)) c.count.ensures
 
 pub returns-in-Frees : goal.returns-in-Frees
-returns-in-Frees c =
-    let old = c.args.self.now in
-    let new = c.count-in-Frees.new.self in
-    let a = c.in-Frees in
-    on_ok_weaker c.count-in-Frees.result (λ h. subst (λ (w : Wish). IsOperated old new c.args.thread w c.args.cost) (sym a.is)
-    (unnamed old old new c.args.thread (Wish.Frees a.name) (What.Free a.name) c.args.cost refl refl refl refl h)) c.count-in-Frees.ensures
+returns-in-Frees c = search (arith, on_ok_weaker, unnamed, c.count-in-Frees.ensures)
 
 pub returns-in-FreesSized : goal.returns-in-FreesSized
-returns-in-FreesSized c =
-    let old = c.args.self.now in
-    let new = c.count-in-FreesSized.new.self in
-    let a = c.in-FreesSized in
-    on_ok_weaker c.count-in-FreesSized.result (λ h. subst (λ (w : Wish). IsOperated old new c.args.thread w c.args.cost) (sym a.is)
-    (unnamed old old new c.args.thread (Wish.FreesSized a.name a.size a.align) (What.FreeSized a.name c.room_for-room.result) c.args.cost refl refl (ap (What.FreeSized a.name) c.room_for-room.ensures) refl h)) c.count-in-FreesSized.ensures
+returns-in-FreesSized c = search (arith, on_ok_weaker, unnamed, c.room_for-room.ensures, c.count-in-FreesSized.ensures)
 
 pub returns-in-FreesRaw : goal.returns-in-FreesRaw
-returns-in-FreesRaw c =
-    let old = c.args.self.now in
-    let new = c.count-in-FreesRaw.new.self in
-    let a = c.in-FreesRaw in
-    on_ok_weaker c.count-in-FreesRaw.result (λ h. subst (λ (w : Wish). IsOperated old new c.args.thread w c.args.cost) (sym a.is)
-    (unnamed old old new c.args.thread (Wish.FreesRaw a.address a.turn) (What.Raw (name_at a.address a.turn)) c.args.cost refl refl refl refl h)) c.count-in-FreesRaw.ensures
+returns-in-FreesRaw c = search (arith, on_ok_weaker, unnamed, c.count-in-FreesRaw.ensures)
 
 pub returns-in-FreesRawSized : goal.returns-in-FreesRawSized
-returns-in-FreesRawSized c =
-    let old = c.args.self.now in
-    let new = c.count-in-FreesRawSized.new.self in
-    let a = c.in-FreesRawSized in
-    on_ok_weaker c.count-in-FreesRawSized.result (λ h. subst (λ (w : Wish). IsOperated old new c.args.thread w c.args.cost) (sym a.is)
-    (unnamed old old new c.args.thread (Wish.FreesRawSized a.address a.turn a.size a.align) (What.RawSized c.room_for-room-in-FreesRawSized.result (name_at a.address a.turn)) c.args.cost refl refl (ap (λ room. What.RawSized room (name_at a.address a.turn)) c.room_for-room-in-FreesRawSized.ensures) refl h)) c.count-in-FreesRawSized.ensures
+returns-in-FreesRawSized c = search (arith, on_ok_weaker, unnamed, c.room_for-room-in-FreesRawSized.ensures, c.count-in-FreesRawSized.ensures)
 
 pub returns-in_ok-give-in-Remakes : goal.returns-in_ok-give-in-Remakes
 returns-in_ok-give-in-Remakes c =
@@ -60,15 +40,7 @@ returns-in_ok-give-in-Remakes c =
     (What.Remake a.name a.old c.owner-heap.result.heap a.size a.align) c.args.cost refl home refl (ap (λ heap. What.Remake a.name a.old heap a.size a.align) home) refl c.in_ok-give-in-Remakes.ensures h)) c.count-in-Remakes.ensures
 
 pub returns-in-Flushes : goal.returns-in-Flushes
-returns-in-Flushes c =
-    let old = c.args.self.now in
-    let new = c.count-in-Flushes.new.self in
-    on_ok_weaker c.count-in-Flushes.result (λ h. subst (λ (w : Wish). IsOperated old new c.args.thread w c.args.cost) (sym c.in-Flushes.is)
-    (unnamed old old new c.args.thread Wish.Flushes What.Flush c.args.cost refl refl refl refl h)) c.count-in-Flushes.ensures
+returns-in-Flushes c = search (arith, on_ok_weaker, unnamed, c.count-in-Flushes.ensures)
 
 pub returns-in-Stops : goal.returns-in-Stops
-returns-in-Stops c =
-    let old = c.args.self.now in
-    let new = c.count-in-Stops.new.self in
-    on_ok_weaker c.count-in-Stops.result (λ h. subst (λ (w : Wish). IsOperated old new c.args.thread w c.args.cost) (sym c.in-Stops.is)
-    (unnamed old old new c.args.thread Wish.Stops What.Stop c.args.cost refl refl refl refl h)) c.count-in-Stops.ensures
+returns-in-Stops c = search (arith, on_ok_weaker, unnamed, c.count-in-Stops.ensures)
