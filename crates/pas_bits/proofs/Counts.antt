@@ -1,14 +1,13 @@
 -- Counts of the numbers below a bound that pass a test, and of the bits of a number.
-use Rattle.std.proofs.Common.{◌≡◌, ℕ, zero, suc, ◌+◌, ◌*◌, ◌/◌, ◌%◌, ◌^◌, ◌<◌, ◌==◌, Bool, true, false, if◌then◌else◌, ap, sym, ◌∙◌, refl, arith, add-one}
-use Rattle.std.proofs.Common.{add-zero, add-suc, pow_pos}
+use Rattle.std.proofs.Common.{◌≡◌, ℕ, zero, suc, ◌+◌, ◌*◌, ◌/◌, ◌%◌, ◌^◌, ◌<◌, ◌==◌, Bool, if◌then◌else◌, ap, sym, ◌∙◌, refl, arith, add-one, add-zero, add-suc}
+use Rattle.std.proofs.Common.{pow_pos}
 use Rattle.std.proofs.{Math.Nat.pow-suc, Math.Nat.div-lt_iff_lt-mul, Math.Nat.mod-lt, lemmas.Nat.ones_cat, lemmas.Nat.shr_split, lemmas.Nat.Bits.bit_at_cat_low}
 use Rattle.std.specs.Int.{bit_at, RustNames.count_ones}
 use Rattle.pas_bits.specs.Bits.{has_bit, count_below}
 
 -- ---- one more
 pub count_suc : (i : ℕ) (p : ℕ → Bool) (b : Bool) → p i ≡ b → count_below (suc i) p ≡ count_below i p + (if b then 1 else 0)
-count_suc i p true e = ap (λ t. if t then suc (count_below i p) else count_below i p) e ∙ omega arith
-count_suc i p false e = ap (λ t. if t then suc (count_below i p) else count_below i p) e ∙ omega arith
+count_suc i p b e = grind arith
 
 pub count_more : (i : ℕ) (p : ℕ → Bool) → count_below (i + 1) p ≡ count_below i p + (if p i then 1 else 0)
 count_more i p = ap (λ n. count_below n p) (add-one i) ∙ count_suc i p (p i) refl

@@ -1,7 +1,7 @@
 -- Set bits of a mask, word by word: the lowest ones, those of runs, how many there are, and places of runs among them.
 use Rattle.std.proofs.Common.{◌≡◌, ◌≢◌, ℕ, ◌+◌, ◌-◌, ◌/◌, ◌%◌, ◌^◌, ◌<◌, ◌≤◌, ◌==◌, true, false, inl, inr, ap, sym, ◌∙◌, arith, ◌*◌, ◌⊎◌, ◌&&◌, ◌↔◌, IsTrue}
-use Rattle.std.proofs.Common.{not, min, Bool, length, slice_index, lit<, bit_and, subst, refl, Option, None, Some, MatchBool, MatchOption, w64, shr-shr}
-use Rattle.std.proofs.Common.{pow_pos, div-add-mod', count_ones}
+use Rattle.std.proofs.Common.{not, min, Bool, length, slice_index, lit<, bit_and, subst, refl, Option, MatchBool, MatchOption, w64, shr-shr, pow_pos}
+use Rattle.std.proofs.Common.{div-add-mod', count_ones}
 use Rattle.std.specs.{Int.bit_at, Int.trailing_zeros, Option.is_some}
 use Rattle.std.proofs.lemmas.Bool.{cases_lt, and_parts, not-false, not-true}
 use Rattle.std.proofs.lemmas.Nat.{shr_le, and_le_l, same_from_place, mod-mul-add}
@@ -61,16 +61,10 @@ min_is a b = elim (cases_lt b a) [ inl lt ↦ inr (grind (arith, nat_tests, lt),
 
 -- where a run's end is in a word that begins at the number `base`
 cut : (at base b : ℕ) → b < 64 → (b < min (at - base) 64 → base + b < at) × (min (at - base) 64 ≤ b → at ≤ base + b)
-cut at base b h = elim (min_is (at - base) 64) [
-  | inl e ↦ (λ lt. omega (arith, e.0, lt), λ le. omega (arith, e.0, le))
-  | inr e ↦ (λ lt. omega (arith, e.1, h), λ le. absurd (omega (arith, e.0, le, h)))
-]
+cut at base b h = search (arith, min_is)
 
 pub cut_le : (at to base : ℕ) → at ≤ to → min (at - base) 64 ≤ min (to - base) 64
-cut_le at to base h = elim (min_is (at - base) 64) [
-  | inl e ↦ elim (min_is (to - base) 64) [ inl f ↦ omega (arith, e.0, f.0, h) | inr f ↦ omega (arith, e.0, f.0, e.1) ]
-  | inr e ↦ elim (min_is (to - base) 64) [ inl f ↦ absurd (omega (arith, e.1, f.1, h)) | inr f ↦ omega (arith, e.0, f.0) ]
-]
+cut_le at to base h = search (arith, min_is)
 
 mask_between : (low high : ℕ) → low ≤ high → 2 ^ high - 1 - (2 ^ low - 1) ≡ 2 ^ high - 2 ^ low
 mask_between low high h = let p = pow_pos low in omega (arith, p)
@@ -123,10 +117,7 @@ apart_whole a b long h x set = h x (set_within b x long set) set
 -- ---- a mask has a run where its other bits and the run share none
 pub has_run_where : (r : Bool) (mask others run : Mask4) (first grains : ℕ) → first + grains ≤ 256 → ((g : ℕ) → g < 256 → is_set others g ≡ not (is_set mask g)) → ((g : ℕ) → is_set run g ≡ in_run first grains g)
     → (IsTrue r ↔ AreApart others run) → IsTrue r ↔ AreSet mask first grains
-has_run_where r mask others run first grains within other is answer = (
-  λ holds x a b. not-false (is_set mask x) (sym (other x (omega (arith, b, within))) ∙ answer.0 holds x (is x ∙ to_run first grains x a b)),
-  λ set. answer.1 (λ x h. let at = run_of first grains x (sym (is x) ∙ h) in other x (omega (arith, at.1, within)) ∙ ap not (set x at.0 at.1)),
-)
+has_run_where r mask others run first grains within other is answer = search (arith, not-false, to_run, run_of)
 
 -- ==== How many bits of a mask are set.
 
@@ -142,7 +133,6 @@ ones_in mask = count_ones (slice_index mask.0 0) + count_ones (slice_index mask.
 counted : (mask : Mask4) (n k : ℕ) → k ≡ 64 → n ≡ k + k + k + k → WordsFit mask → ones_in mask ≡ count_below n (is_set mask)
 counted mask n k width parts fits =
     let a = count_word mask 0 k 0 width (omega arith) fits in
-    let b = count_word mask 1 k k width (omega (arith, width)) fits in
     let c = count_word mask 2 k (k + k) width (omega (arith, width)) fits in
     let d = count_word mask 3 k (k + k + k) width (omega (arith, width)) fits in
     let first = count_same k (is_set mask) (λ x. is_set mask (0 + x)) (λ x h. let e : x ≡ 0 + x = omega arith in ap (is_set mask) e) in
@@ -150,7 +140,7 @@ counted mask n k width parts fits =
     let three = count_add (k + k) k (is_set mask) in
     let four = count_add (k + k + k) k (is_set mask) in
     let all = ap (λ m. count_below m (is_set mask)) parts in
-    omega (arith, a, b, c, d, first, two, three, four, all)
+    omega (arith, a, count_word mask 1 k k width (omega (arith, width)) fits, c, d, first, two, three, four, all)
 
 set_counted : (mask : Mask4) (n k : ℕ) → k ≡ 64 → n ≡ 256 → WordsFit mask → ones_in mask ≡ set_count mask
 unfolding set_count
@@ -165,10 +155,7 @@ set_ones mask = set_counted mask 256 64 refl refl
 -- ---- the lowest set bit
 -- a word that is left as 0 has no set bit from there on
 pub none_left : (mask : Mask4) (from word low : ℕ) → low ≡ from - 64 * word → slice_index mask.0 word / 2 ^ low ≡ 0 → AreClear mask from (64 * word) → AreClear mask from (64 * (word + 1))
-none_left mask from word low is nothing before x a b = elim (cases_lt x (64 * word)) [
-  | inl lt ↦ before x a lt
-  | inr ge ↦ by_word mask word x (omega (arith, ge, b)) ∙ none_from (slice_index mask.0 word) low (x % 64) nothing (omega (arith, is, a, ge, b))
-]
+none_left mask from word low is nothing before x a b = search (arith, cases_lt, by_word, none_from)
 
 -- where a word isn't left as 0, its lowest bit there is the mask's
 pub lowest_is : (mask : Mask4) (from word low g : ℕ) → g ≡ 64 * word + low + trailing_zeros w64 (slice_index mask.0 word / 2 ^ low) → low ≡ from - 64 * word → from / 64 ≤ word → word < 4 → slice_index mask.0 word < 2 ^ 64
@@ -181,18 +168,12 @@ lowest_is mask from word low g at is began small fits some before =
       above = omega (arith, is, at);
       within = omega (arith, inside, small, at);
       set = ap (is_set mask) g_is ∙ at_word mask word (low + trailing_zeros w64 (slice_index mask.0 word / 2 ^ low)) inside ∙ found.set;
-      lowest = λ x a b. elim (cases_lt x (64 * word)) [
-        | inl lt ↦ before x a lt
-        | inr ge ↦ by_word mask word x (omega (arith, ge, b, at, inside)) ∙ found.lowest (x % 64) (omega (arith, is, a, ge, b, at, inside)) (omega (arith, ge, b, at, inside, is, a))
-      ];
+      lowest = search (arith, cases_lt, by_word);
     }
 
 -- there is none exactly in an empty mask
 pub is_empty_by : (mask : Mask4) (o : Option ℕ) → MatchOption o (AreClear mask 0 256) (λ g. IsLowestSet mask 0 g) → (t : Bool) → is_some o ≡ not t → MatchBool t (IsEmpty mask) (HasMember mask)
-is_empty_by mask None clear true e = λ g lt. clear g (omega arith) lt
-is_empty_by mask None clear false e = cc
-is_empty_by mask (Some g) low true e = cc
-is_empty_by mask (Some g) low false e = (g, low.within, low.set)
+is_empty_by mask o clear t e = grind arith
 
 -- ---- the lowest clear bit, by the other bits of the mask
 abbrev pub AreOthers : Mask4 → Mask4 → Type 0
@@ -205,12 +186,7 @@ clear_where : (mask others : Mask4) (x : ℕ) → AreOthers mask others → x < 
 clear_where mask others x other h one = not-true (is_set mask x) (sym (other x h) ∙ one)
 
 pub lowest_clear : (mask others : Mask4) → AreOthers mask others → (r : Option ℕ) → MatchOption r (AreClear others 0 256) (λ g. IsLowestSet others 0 g) → MatchOption r (AllSetBelow mask 256) (λ g. IsLowestClear mask g)
-lowest_clear mask others other None bare = λ x h. set_where mask others x other h (bare x (omega arith) h)
-lowest_clear mask others other (Some g) low = record {
-  within = low.within;
-  clear = clear_where mask others g other low.within low.set;
-  lowest = λ x h. set_where mask others x other (omega (arith, h, low.within)) (low.lowest x (omega arith) h);
-}
+lowest_clear mask others other r bare = grind (arith, set_where, clear_where)
 
 -- ---- places
 multiple : (k g : ℕ) → g % k ≡ 0 → g ≡ g / k * k + 0
@@ -218,12 +194,7 @@ multiple k g e = omega (arith, e, div-add-mod' g k)
 
 -- the next multiple is k away
 next_multiple : (k a b : ℕ) → a % k ≡ 0 → b % k ≡ 0 → a < b → a + k ≤ b
-next_multiple k a b ea eb lt = elim (cases_lt b (a + k)) [
-  | inl near ↦
-      let s = same_from_place (b / k) 0 (a / k) (b - a) k (omega (arith, lt, near)) (omega (arith, lt, near)) (omega (arith, multiple k a ea, multiple k b eb, lt)) in
-      absurd (omega (arith, s.1, lt))
-  | inr far ↦ far
-]
+next_multiple k a b ea eb lt = search (arith, cases_lt, same_from_place, multiple)
 
 -- the least multiple from a number on
 pub rounded : (set align up : ℕ) → 1 ≤ align → up ≡ set / align + min 1 (set % align) → (set ≤ up * align) × (up * align < set + align) × (up * align % align ≡ 0)
@@ -243,33 +214,19 @@ own mask n align end h some place = place.set h (omega arith) (omega (arith, som
 
 -- none where no bit is set from `start` on
 none_to : (mask : Mask4) (n align end start stop : ℕ) → 1 ≤ n → NoPlaceBelow mask n align end start → AreClear mask start stop → NoPlaceBelow mask n align end stop
-none_to mask n align end start stop some before bare h lt place = elim (cases_lt h start) [
-  | inl below ↦ before h below place
-  | inr ge ↦ let one = own mask n align end h some place in let none = bare h ge lt in absurd (cc)
-]
+none_to mask n align end start stop some before bare h lt place = search (arith, cases_lt, own)
 
 -- none between the lowest set bit and the next multiple
 pub none_to_place : (mask : Mask4) (n align end start set place : ℕ) → 1 ≤ n → place % align ≡ 0 → place < set + align → NoPlaceBelow mask n align end start → IsLowestSet mask start set → NoPlaceBelow mask n align end place
-none_to_place mask n align end start set place some whole near before low h lt other = elim (cases_lt h set) [
-  | inl below ↦ none_to mask n align end start set some before low.lowest h below other
-  | inr ge ↦ let next = next_multiple align h place other.aligned whole lt in absurd (omega (arith, next, near, ge))
-]
+none_to_place mask n align end start set place some whole near before low h lt other = search (arith, cases_lt, none_to, next_multiple)
 
 -- none at all where the lowest possible one ends too late
 pub none_within : (mask : Mask4) (n align end place : ℕ) → end < place + n → NoPlaceBelow mask n align end place → HasNoPlace mask n align end
-none_within mask n align end place late before h other = elim (cases_lt h place) [
-  | inl below ↦ before h below other
-  | inr ge ↦ absurd (omega (arith, other.within, late, ge))
-]
+none_within mask n align end place late before h other = search (arith, cases_lt)
 
 -- none up to the clear bit that ends a run that is too short
 pub none_past : (mask : Mask4) (n align end place stop : ℕ) → end ≤ 256 → place + n ≤ end → stop < place + n → NoPlaceBelow mask n align end place → IsRunEnd mask place stop → NoPlaceBelow mask n align end (stop + 1)
-none_past mask n align end place stop small within short before run h lt other = elim (cases_lt h place) [
-  | inl below ↦ before h below other
-  | inr ge ↦
-      let clear = run.clear (omega (arith, small, within, short)) in
-      let one = other.set stop (omega (arith, lt)) (omega (arith, ge, short)) in absurd (cc)
-]
+none_past mask n align end place stop small within short before run h lt other = search (arith, cases_lt)
 
 pub place_found : (mask : Mask4) (n align end place stop : ℕ) → place % align ≡ 0 → place + n ≤ end → place + n ≤ stop → NoPlaceBelow mask n align end place → IsRunEnd mask place stop → IsLowestPlace mask n align end place
 place_found mask n align end place stop whole within long before run = record {

@@ -31,10 +31,7 @@ abbrev shifted_twice : ℕ → ℕ → ℕ
 shifted_twice m k = m * 2 ^ 1 % 2 ^ 64 * 2 ^ k % 2 ^ 64
 
 twice_below : (m k i : ℕ) → i < 64 → i ≤ k → has_bit (shifted_twice m k) i ≡ false
-twice_below m k i h le = elim (cases_lt i k) [
-  | inl lt ↦ shifted_below (m * 2 ^ 1 % 2 ^ 64) k i h lt
-  | inr ge ↦ shifted_above (m * 2 ^ 1 % 2 ^ 64) k i h ge ∙ shifted_below m 1 (i - k) (omega (arith, h)) (omega (arith, le))
-]
+twice_below m k i h le = search (arith, cases_lt, shifted_below, shifted_above)
 
 twice_above : (m k i : ℕ) → i < 64 → k < i → has_bit (shifted_twice m k) i ≡ has_bit m (i - k - 1)
 twice_above m k i h gt = shifted_above (m * 2 ^ 1 % 2 ^ 64) k i h (omega (arith, gt)) ∙ shifted_above m 1 (i - k) (omega (arith, h)) (omega (arith, gt))
@@ -56,12 +53,7 @@ window_bit low high from b fits few h = bit_of_or (low / 2 ^ from) (shifted_twic
 
 -- ---- two neighbouring words of a mask
 two_words : (mask : Mask4) (i j : ℕ) → j < 128 → bit_of_two (slice_index mask.0 i) (slice_index mask.0 (i + 1)) j ≡ is_set mask (64 * i + j)
-two_words mask i j h = elim (cases_lt j 64) [
-  | inl lt ↦ ap (λ t. if t then has_bit (slice_index mask.0 i) j else has_bit (slice_index mask.0 (i + 1)) (j - 64)) (lt-ltb j 64 lt) ∙ sym (at_word mask i j lt)
-  | inr ge ↦
-      ap (λ t. if t then has_bit (slice_index mask.0 i) j else has_bit (slice_index mask.0 (i + 1)) (j - 64)) (le-ltb j 64 ge)
-      ∙ sym (at_word mask (i + 1) (j - 64) (omega (arith, h, ge))) ∙ ap (is_set mask) (omega (arith, ge))
-]
+two_words mask i j h = search (arith, cases_lt, lt-ltb, at_word, le-ltb)
 
 abbrev pub Window : ℕ → ℕ → ℕ → ℕ → Type 0
 Window r low high from = (b : ℕ) → b < 64 → has_bit r b ≡ bit_of_two low high (b + from)
@@ -99,9 +91,7 @@ moved_word mask r i by w some few x h = from_above (nat_le by (64 * (i + 1) + x)
 
 lowest_word : (mask : Mask4) (r by : ℕ) → Window r 0 (slice_index mask.0 0) (64 - by) → 1 ≤ by → by ≤ 64 → (x : ℕ) → x < 64 → has_bit r x ≡ (nat_le by x && is_set mask (x - by))
 lowest_word mask r by w some few x h = elim (cases_lt x by) [
-  | inl lt ↦ w x h
-      ∙ ap (λ t. if t then has_bit 0 (x + (64 - by)) else has_bit (slice_index mask.0 0) (x + (64 - by) - 64)) (lt-ltb (x + (64 - by)) 64 (omega (arith, lt, few))) ∙ none_of_zero (x + (64 - by))
-      ∙ sym (and_left (nat_le by x) (is_set mask (x - by)) (lt-leb by x lt))
+  | inl lt ↦ search (arith, lt-ltb, none_of_zero, and_left, lt-leb)
   | inr ge ↦ from_above (nat_le by x) (is_set mask (x - by)) (has_bit r x) (le-leb by x ge)
       (w x h
       ∙ ap (λ t. if t then has_bit 0 (x + (64 - by)) else has_bit (slice_index mask.0 0) (x + (64 - by) - 64)) (le-ltb (x + (64 - by)) 64 (omega (arith, ge, few)))
@@ -133,16 +123,9 @@ BeginRuns mask n begins = (g : ℕ) → IsTrue (is_set begins g) ↔ AreSet mask
 
 pub runs_longer : (mask begins moved longer : Mask4) (n by : ℕ) → by ≤ n → BeginRuns mask n begins → ((g : ℕ) → is_set moved g ≡ is_set begins (g + by)) → ((g : ℕ) → is_set longer g ≡ (is_set begins g && is_set moved g)) → BeginRuns mask (n + by) longer
 runs_longer mask begins moved longer n by few runs down joined g = (
-  λ h x a b.
-      let parts = and_parts (is_set begins g) (is_set moved g) (sym (joined g) ∙ h) in
-      elim (cases_lt x (g + n)) [
-        | inl lt ↦ (runs g).0 parts.0 x a lt
-        | inr ge ↦ (runs (g + by)).0 (sym (down g) ∙ parts.1) x (omega (arith, ge, few)) (omega (arith, b))
-      ],
+  search (arith, and_parts, cases_lt),
   λ all.
-      joined g
-      ∙ ap (λ t. t && is_set moved g) ((runs g).1 (λ x a b. all x a (omega (arith, b))))
-      ∙ (down g ∙ (runs (g + by)).1 (λ x a b. all x (omega (arith, a)) (omega (arith, b)))),
+      cc (joined g, (runs g).1 (λ x a b. all x a (omega (arith, b))), down g, (runs (g + by)).1 (λ x a b. all x (omega (arith, a)) (omega (arith, b)))),
 )
 
 -- ---- bits that are spread
@@ -153,11 +136,7 @@ pub near_longer : (mask near moved longer : Mask4) (n by : ℕ) → by ≤ n →
 near_longer mask near moved longer n by few all up joined g within = (
   λ h. elim (cases_Bool (is_set near g)) [
     | inl here ↦ let found = (all g within).0 here in (found.0, found.1, omega (arith, found.2), found.3)
-    | inr none ↦
-        let parts = and_parts (nat_le by g) (is_set near (g - by)) (sym (up g within) ∙ (ap (λ t. t || is_set moved g) (sym none) ∙ sym (joined g) ∙ h)) in
-        let low : by ≤ g = grind (arith, nat_tests, parts.0) in
-        let found = (all (g - by) (omega (arith, within))).0 parts.1 in let a = found.1 in let b = found.2 in
-        (found.0, omega (arith, a), omega (arith, b, low), found.3)
+    | inr none ↦ search (arith, and_parts, nat_tests)
   ],
   λ found. let a = found.1 in let b = found.2 in elim (cases_lt g (found.0 + n)) [
     | inl lt ↦ joined g ∙ or_left (is_set near g) (is_set moved g) ((all g within).1 (found.0, found.1, lt, found.3))

@@ -29,8 +29,7 @@ block_bit : (q p : ℕ) → (q / 64 == p / 64) ≡ true → is_in_word (page_mas
 block_bit q p h = page_mask_bit q (p % 64) ∙ same_bit q p (eqb-true (q / 64) (p / 64) h)
 
 pub page_added : (word page p : ℕ) → p / 64 ≡ page / 64 → is_in_word (bit_or word (page_mask page)) p ≡ ((page == p) || is_in_word word p)
-page_added word page p same = bit_of_or word (page_mask page) (p % 64) ∙ or_comm (has_bit word (p % 64)) (is_in_word (page_mask page) p)
-    ∙ ap (λ t. t || has_bit word (p % 64)) (page_mask_bit page (p % 64) ∙ same_bit page p (sym same))
+page_added word page p same = search (arith, bit_of_or, or_comm, page_mask_bit, same_bit)
 
 -- ---- after a page's bit was cleared, or set
 clear_cases : (f y : Bool) → (f && not y) ≡ (if y then false else f)
@@ -48,9 +47,7 @@ clear_page q p old true false h = ap (λ y. if y then false else has_bit old (p 
 clear_page q p old false t h = refl
 
 set_page : (q p old : ℕ) (x t : Bool) → (q / 64 == p / 64) ≡ t → has_bit (if x && t then bit_or old (page_mask q) else old) (p % 64) ≡ (if x && (q == p) then true else has_bit old (p % 64))
-set_page q p old true true h = bit_of_or old (page_mask q) (p % 64) ∙ ap (λ y. has_bit old (p % 64) || y) (block_bit q p h) ∙ set_cases (has_bit old (p % 64)) (q == p)
-set_page q p old true false h = ap (λ y. if y then true else has_bit old (p % 64)) (sym (other_block q p h))
-set_page q p old false t h = refl
+set_page q p old x t h = grind (arith, bit_of_or, block_bit, set_cases, other_block)
 
 -- the page's bit after the bit of page q was cleared, or set, where x says that the vector is the same
 pub page_bit-clear : (q p old : ℕ) (x : Bool) → has_bit (if x && (q / 64 == p / 64) then bit_and old (bit_not w64 (page_mask q)) else old) (p % 64) ≡ (if x && (q == p) then false else has_bit old (p % 64))

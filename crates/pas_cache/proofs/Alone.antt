@@ -1,5 +1,5 @@
 -- A request whose actor alone made steps meanwhile, whatever its desk tells: a refusal is true, and the run that a door named is taken where it is whole.
-use Rattle.std.proofs.Common.{◌≡◌, ℕ, List, ◌++◌, Option, Result, Ok, Err, refl, ap, sym, ◌∙◌, subst, true≢false, inl, inr}
+use Rattle.std.proofs.Common.{arith, ◌≡◌, ℕ, List, ◌++◌, Option, Result, Ok, Err, refl, ap, sym, ◌∙◌, subst, true≢false, inl, inr}
 use Rattle.pas_profile.specs.{Profiles.IsValid, Profiles.IsAdmitted, Profiles.IsDirectoryOf, Directories.IsKind}
 use Rattle.pas_profile.specs.Requests.{is_shared, kind_of_route, route_in, room_in, class_home}
 use Rattle.pas_profile.specs.declared.{directory.Directory.Directory, directory.Route.Route, name.Block.Block, event.NoRoom.NoRoom}
@@ -130,14 +130,10 @@ module _ (f : Profile) (heap size align k : ℕ) (found : Option ℕ) (c c' : Ca
   by_route Route.Large route serves = pages_refused route serves
 
   of_profile : (r : Route) → route_in f size align ≡ r → IsDirectoryOf f wanted.directory
-  of_profile (Route.Class class) route = subst (λ (w : Wanted). IsDirectoryOf f w.directory) (wanted_is f heap class size align route) (filling_for f size align heap class admitted route).directory
-  of_profile Route.Bitfit route = subst (λ (w : Wanted). IsDirectoryOf f w.directory) (bitfit_wanted f heap size align route) (record { heap = admitted.of_profile; kind = tt; class = tt })
-  of_profile Route.Large route = subst (IsDirectoryOf f) (large_home f heap size align route) (record { heap = admitted.of_profile; kind = tt; class = tt })
+  of_profile r route = grind (arith, wanted_is, filling_for, bitfit_wanted, large_home)
 
   true_reason : (r : Route) → IsTrulyRefusedBy r f wanted c.locals l exit room → IsTrueReason f wanted.directory exit room
-  true_reason (Route.Class class) told = told.reason
-  true_reason Route.Bitfit told = told.reason
-  true_reason Route.Large told = told.2
+  true_reason r told = grind arith
 
   pub truly_refused : ServesRequest f (wanted_for f heap size align) found c c' steps (Err room) → IsTrulyRefused f (wanted_for f heap size align) c.locals l (triples k steps ++ l) room
   truly_refused serves = (by_route (route_in f size align) refl serves).0

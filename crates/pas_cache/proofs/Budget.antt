@@ -1,9 +1,8 @@
 -- For callers: the room of one request after another.
-use Rattle.std.proofs.Common.{refl, ◌≡◌, ℕ, ◌+◌, ◌≤◌, ◌++◌, length, ap, sym, ◌∙◌, subst, arith, Option, Result, Bool, List, map}
+use Rattle.std.proofs.Common.{refl, ◌≡◌, ℕ, ◌+◌, ◌≤◌, ◌++◌, length, sym, subst, arith, Option, Result, Bool, List}
 use Rattle.std.proofs.lemmas.List.{length-map, length-reverse}
-use Rattle.pas_profile.specs.declared.{profile.Profile.Profile, event.Event.Event, directory.Route.Route, event.NoRoom.NoRoom, name.Block.Block}
+use Rattle.pas_profile.specs.declared.{profile.Profile.Profile, directory.Route.Route, event.NoRoom.NoRoom, name.Block.Block}
 use Rattle.pas_cache.specs.{Serves.Wanted, Serves.ServesBy, Changes.EmptiesLog, Caches.Cached, Caches.AtRest, Calls.MayAllocate, Calls.Allocates}
-use Rattle.pas_free_log.specs.Flushes.{shown_for}
 use Rattle.pas_free_log.specs.declared.{log.Entry.Entry, noting.EndedRun.EndedRun}
 use Rattle.pas_steps.specs.{Views.View, Events.events_by, Unknown.unknown_pages}
 use Rattle.pas_steps.specs.Desks.{Standing, Seat, CanCall, triples}
@@ -37,13 +36,9 @@ budget_left {σ} {c = c} {c' = c'} {spare = spare} {spare' = spare'} n h can law
 
 -- no request changes the log
 pub log_kept : (f : Profile) (wanted : Wanted) (found : Option ℕ) (c c' : Cached) (steps : List Made) (answer : Result Block NoRoom) (route : Route) → ServesBy route f wanted found c c' steps answer → c'.log ≡ c.log
-log_kept f wanted found c c' steps answer (Route.Class class) h = ap (λ x. x.log) h.cache
-log_kept f wanted found c c' steps answer route h = ap (λ x. x.log) h.cache
+log_kept f wanted found c c' steps answer route h = grind arith
 
 -- ---- a log is emptied
 -- each entry makes one event
 pub emptied_events : (k : ℕ) (logged : List Entry) (noted noted' : List EndedRun) (steps : List Made) (v : View) → EmptiesLog k logged noted noted' steps → length (events_by k v steps) ≡ length logged
-emptied_events k logged noted noted' steps v empties =
-    ap (λ (es : List Event). length es) (empties.events v) ∙ length-map empties.settled (shown_for k empties.epoch)
-    ∙ sym (length-map empties.settled (λ s. s.entry)) ∙ sym (length-reverse (map (λ s. s.entry) empties.settled))
-    ∙ ap (λ (es : List Entry). length es) empties.entries_are
+emptied_events k logged noted noted' steps v empties = search (arith, length-map, length-reverse)

@@ -1,11 +1,11 @@
 -- An epoch is read, a log is flushed, names are logged, a cache is stopped, and runs are handed on.
-use Rattle.std.proofs.Common.{◌≡◌, ℕ, [], sym, subst, arith, ◌+◌, ◌-◌, ◌*◌, ◌%◌, ◌^◌, ◌<◌, ◌≤◌, nat_le, Bool, true, false, List, ◌∷◌, ◌++◌, length, refl, ap}
-use Rattle.std.proofs.Common.{◌∙◌, length-append, All, Ok, Err, le-leb, leb-false}
+use Rattle.std.proofs.Common.{◌≡◌, ℕ, [], sym, subst, arith, ◌+◌, ◌-◌, ◌*◌, ◌%◌, ◌^◌, ◌<◌, ◌≤◌, nat_le, Bool, List, ◌∷◌, ◌++◌, length, refl, ap, ◌∙◌}
+use Rattle.std.proofs.Common.{length-append, All, Ok, Err, le-leb, leb-false}
 use Rattle.std.proofs.lemmas.{List.Elements.All-nil, List.Elements.All-push, List.Elements.All-same, Bool.lt-leb}
 use Rattle.pas_steps.specs.Desks.{Standing, CanCall, Seat, Makes, made}
-use Rattle.pas_cache.specs.{Caches.AtRest, Caches.Cached, Contents.CacheOf, Parts.Releases, Kinds.releasing}
+use Rattle.pas_cache.specs.{Caches.AtRest, Caches.Cached, Contents.CacheOf, Parts.Releases, Kinds.releasing, Locals.HasOneEach, Locals.IsFormed}
+use Rattle.pas_cache.specs.{Locals.RestsWith}
 use Rattle.pas_cache.specs.Calls.{MayAllocate, Begins, Frees, FlushesLog, StopsCache, SettlesEach}
-use Rattle.pas_cache.specs.Locals.{HasOneEach, IsFormed, IsLocal, RestsWith}
 use Rattle.pas_segregated.specs.declared.slots.Slots.{Slots}
 use Rattle.pas_profile.specs.declared.{profile.Profile.Profile, event.FreeFault.FreeFault, event.Range.Range, word.Word.Word}
 use Rattle.pas_steps.specs.{Views.View, Clear.IsClear, Clear.HasNothing, Kinds.looking}
@@ -37,22 +37,12 @@ none_formed locals none = subst (λ (xs : List Slots). All IsFormed xs) (sym non
 -- ==== Begin, flush, stop and free.
 
 -- ---- an empty cache
+-- With no local allocator each fact is one of an actor that has nothing.
 no_locals : (f : Profile) (v : View) → HasNothing v → RestsWith f [] v
-no_locals f v none = record {
-  grains = none.grains;
-  rights = none.rights;
-  clear = none.clear;
-  known = All-nil (IsLocal f v);
-  apart = record { one_each = λ heap class. omega arith; grains = λ g. omega arith; rights = λ page. omega arith };
-}
+no_locals f v none = search arith
 
 pub rests_empty : (f : Profile) (c : Cached) (v : View) → c.locals ≡ [] → c.log ≡ [] → HasNothing v → AtRest f c v
-rests_empty f c v locals log none = record {
-  locals = subst (λ xs. RestsWith f xs v) (sym locals) (no_locals f v none);
-  few = subst (λ xs. length xs ≤ 32) (sym locals) (omega arith);
-  entries = All-same (IsEntryOf f) c.log [] log (All-nil (IsEntryOf f));
-  few_entries = subst (λ xs. length xs ≤ 64) (sym log) (omega arith);
-}
+rests_empty f c v locals log none = search (arith, no_locals)
 
 -- ---- at rest after steps that did nothing, with the same local allocators
 rests_idle : (f : Profile) (c c' : Cached) (steps : List Made) → c'.locals ≡ c.locals → Leads f IsClear (Does nothing) steps → ((v : View) → AtRest f c v → All (IsEntryOf f) c'.log × (length c'.log ≤ 64)) → Leads f (AtRest f c) (λ v w. AtRest f c' w) steps
@@ -123,12 +113,7 @@ stops_cache {σ} {σ1} {σ2} c c1 c' flush stops mid is =
 
 -- ---- names
 pub empties_where : {σ σ' : Standing} (log log' : List Entry) (noted noted' : List EndedRun) → 64 ≤ length log → log' ≡ [] → Flushes log noted noted' σ σ' → EmptiesWhere (nat_le 64 (length log)) log log' noted noted' σ σ'
-empties_where {σ} {σ'} log log' noted noted' full none flush = record {
-  steps = flush.steps;
-  calls = flush.calls;
-  empties = subst (λ t. EmptiesFull t σ.seat.actor log log' noted noted' flush.steps) (sym (le-leb 64 (length log) full)) (empties log noted noted' flush, none);
-  ranges = flush.ranges;
-}
+empties_where {σ} {σ'} log log' noted noted' full none flush = search (arith, empties, le-leb)
 
 pub empties_nothing : {σ : Standing} (log : List Entry) (noted : List EndedRun) → length log < 64 → EmptiesWhere (nat_le 64 (length log)) log log noted noted σ σ
 empties_nothing {σ} log noted few = record { steps = []; calls = call_none (λ v clear. does_none v); empties = subst (λ t. EmptiesFull t σ.seat.actor log log noted noted []) (sym (lt-leb 64 (length log) few)) (refl, refl, refl); ranges = λ are. are }
@@ -138,8 +123,7 @@ logs_into log kept log' noted noted' entry emptied is = record { steps = emptied
 
 -- the names of a log after one more
 kept_names : (f : Profile) (full : Bool) (k : ℕ) (log kept : List Entry) (noted noted' : List EndedRun) (steps : List Made) → full ≡ nat_le 64 (length log) → EmptiesFull full k log kept noted noted' steps → All (IsEntryOf f) log → All (IsEntryOf f) kept × (length kept < 64)
-kept_names f true k log kept noted noted' steps full h names = (All-same (IsEntryOf f) kept [] h.1 (All-nil (IsEntryOf f)), subst (λ xs. length xs < 64) (sym h.1) (omega arith))
-kept_names f false k log kept noted noted' steps full h names = (All-same (IsEntryOf f) kept log h.1 names, subst (λ xs. length xs < 64) (sym h.1) (leb-false 64 (length log) (sym full)))
+kept_names f full k log kept noted noted' steps e h names = grind (arith, leb-false)
 
 logged_names : (f : Profile) (k : ℕ) (log log' : List Entry) (noted noted' : List EndedRun) (entry : Entry) (steps : List Made) → LogsEntry k log log' noted noted' entry steps → IsEntryOf f entry → All (IsEntryOf f) log → All (IsEntryOf f) log' × (length log' ≤ 64)
 logged_names f k log log' noted noted' entry steps logs is names =
@@ -159,18 +143,12 @@ frees {σ} c c' entry turn size region logs is = record {
 }
 
 pub refuses : {σ : Standing} (c c' : Cached) (entry : Entry) (fault : FreeFault) → IsFaultOf σ.seat.profile entry.name fault → c' ≡ c → Frees entry c c' σ σ (Err fault)
-refuses {σ} c c' entry fault is same = record {
-  steps = [];
-  calls = call_none (λ v h. subst (λ x. AtRest σ.seat.profile x v) (sym same) h);
-  outcome = record { fault_is = is; cache = same; no_steps = refl };
-}
+refuses {σ} c c' entry fault is same = search (arith, call_none)
 
 -- room for the events of a full log
+-- At least 64 and at most 64 is 64.
 pub full_room : (n spare : ℕ) → n ≤ 64 → (n ≡ 64 → 64 ≤ spare) → 64 ≤ n → n ≤ spare
-full_room n spare most room full =
-    let n64 : n ≡ 64 = omega (arith, most, full) in
-    let some : 64 ≤ spare = room n64 in
-    omega (arith, n64, some)
+full_room n spare most room full = search arith
 
 pub flush_call : {σ : Standing} {c : Cached} → CanCall σ (AtRest σ.seat.profile c) → CanCall σ (MayFlush σ.seat.profile c.log)
 flush_call can = record { view = can.view; whole = can.whole; stood = can.stood; met = record { clear = can.met.locals.clear; each = can.met.entries } }

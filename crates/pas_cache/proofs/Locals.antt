@@ -2,10 +2,10 @@
 use Rattle.std.proofs.Common.{◌≡◌, ℕ, zero, suc, ◌+◌, ◌-◌, ◌<◌, ◌≤◌, Bool, true, false, not, ◌||◌, cond, List, [], ◌∷◌, ◌++◌, length, get_or, set, length-set}
 use Rattle.std.proofs.Common.{length-append, ◌⊎◌, Some, None, inl, inr, refl, ap, sym, ◌∙◌, subst, arith, true≢false}
 use Rattle.std.specs.List.{list_any, find, filter, count_by, remove, refill}
-use Rattle.std.proofs.lemmas.{List.get_or-append_right, List.set-append_right, Bool.cases_Bool, List.Sums.sum_by-cons}
+use Rattle.std.proofs.lemmas.{List.get_or-append_right, List.set-append_right, Bool.cases_Bool, List.Sums.sum_by-cons, List.Sorted.IsPermutation-cons}
+use Rattle.std.proofs.lemmas.{List.Sorted.IsPermutation-trans, List.Sorted.IsPermutation-middle}
 use Rattle.arrayvec.proofs.ArrayVecLemmas.{items-with_items}
 use Rattle.std.specs.List.Sorted.{IsPermutation}
-use Rattle.std.proofs.lemmas.List.Sorted.{IsPermutation-refl, IsPermutation-cons, IsPermutation-trans, IsPermutation-middle}
 
 abbrev one_if : Bool → ℕ
 one_if t = cond t 1 0
@@ -35,26 +35,10 @@ module _ {X : Type 0} (test : X → Bool) where
   counted_not x xs isnt = let n = counted x xs in let none = ap one_if isnt in omega (arith, n, none)
 
   none_passes : (x : X) (xs : List X) → test x ≡ false → NonePasses xs → NonePasses (x ∷ xs)
-  none_passes x xs isnt h = record {
-    found = ap (λ t. cond t (Some x) (find test xs)) isnt ∙ h.found;
-    any = ap (λ t. t || list_any test xs) isnt ∙ h.any;
-    count = counted_not x xs isnt ∙ h.count;
-    others = ap (λ t. cond (not t) (x ∷ filter (λ y. not (test y)) xs) (filter (λ y. not (test y)) xs)) isnt ∙ ap (λ ys. x ∷ ys) h.others;
-  }
+  none_passes x xs isnt h = search (arith, counted_not)
 
   first_passes : (x : X) (xs : List X) → test x ≡ true → (count_by test xs ≡ 0 → NonePasses xs) → Passes (x ∷ xs) x
-  first_passes x xs is none =
-      let n = counted_is x xs is in
-      record {
-        found = ap (λ t. cond t (Some x) (find test xs)) is;
-        any = ap (λ t. t || list_any test xs) is;
-        count = omega (arith, n);
-        passes = is;
-        without = λ one.
-            let rest : filter (λ y. not (test y)) (x ∷ xs) ≡ xs
-            = ap (λ t. cond (not t) (x ∷ filter (λ y. not (test y)) xs) (filter (λ y. not (test y)) xs)) is ∙ (none (omega (arith, n, one))).others in
-            subst (λ ys. IsPermutation (x ∷ xs) (x ∷ ys)) (sym rest) (IsPermutation-refl (x ∷ xs));
-      }
+  first_passes x xs is none = search (arith, counted_is)
 
   later_passes : (x : X) (xs : List X) (y : X) → test x ≡ false → Passes xs y → Passes (x ∷ xs) y
   later_passes x xs y isnt h =
@@ -139,10 +123,7 @@ module _ {X : Type 0} where
   refill_same xs ys same = items-with_items (record { items = xs }) ys same
 
   pub last_is : {xs ys : List X} {n : ℕ} (fewer : List X) (x d : X) → ys ≡ xs → xs ≡ fewer ++ x ∷ [] → n ≡ length xs → get_or ys (n - 1) d ≡ x
-  last_is {xs} {ys} {n} fewer x d same last long =
-      let m = ap length last ∙ length-append fewer (x ∷ []) in
-      let first : n - 1 - length fewer ≡ 0 = omega (arith, m, long) in
-      ap (λ zs. get_or zs (n - 1) d) (same ∙ last) ∙ (get_or-append_right fewer (x ∷ []) (length fewer) (n - 1) d refl (omega (arith, m, long)) ∙ ap (λ k. get_or (x ∷ []) k d) first)
+  last_is {xs} {ys} {n} fewer x d same last long = search (arith, length-append, get_or-append_right)
 
   pub last_set : {xs ys : List X} {n : ℕ} (fewer : List X) (x y : X) → ys ≡ xs → xs ≡ fewer ++ x ∷ [] → n ≡ length xs → refill (length xs) xs (set ys (n - 1) y) ≡ fewer ++ y ∷ []
   last_set {xs} {ys} {n} fewer x y same last long =

@@ -7,11 +7,10 @@ use Rattle.std.specs.{Result.result_ok, List.Sorted.IsPermutation}
 use Rattle.std.proofs.lemmas.Bool.{and_parts, and_from, or_parts, or_from, false_from_ne_true, cases_eq, cases_Bool}
 use Rattle.std.proofs.{lemmas.List.Elements.All-head, lemmas.List.Elements.All-tail, Math.Bool.not-not, lemmas.Option.cond_some, lemmas.Option.none-some}
 use Rattle.std.proofs.{lemmas.List.Sorted.length_permutation}
-use Rattle.pas_profile.specs.{Classes.IsClass, Directories.IsKind, Directories.deed_word_of, Directories.number_of, Requests.is_shared, Requests.kind_of_class}
-use Rattle.pas_profile.specs.{Profiles.IsDirectoryOf, Profiles.IsPage}
+use Rattle.pas_profile.specs.{Classes.IsClass, Directories.IsKind, Directories.number_of, Requests.kind_of_class, Profiles.IsPage}
 use Rattle.pas_profile.specs.declared.{directory.Directory.Directory, event.NoRoom.NoRoom, profile.Profile.Profile, event.Event.Event, directory.Kind.Kind}
-use Rattle.pas_steps.specs.{Agreement.Agreed, Agreement.Agrees, Calls.Leads, Views.View, Views.known_deed, Views.KnowsDeed, Events.event_of, Events.events_by}
-use Rattle.pas_steps.specs.{Past.Once, Evidence.Readings, Evidence.IsAntitone, Unknown.unknown_pages, Unknown.HasRoom, Kinds.Only, Kinds.returning, Lists.Whole}
+use Rattle.pas_steps.specs.{Agreement.Agreed, Calls.Leads, Views.View, Views.known_deed, Views.KnowsDeed, Events.event_of, Events.events_by, Past.Once}
+use Rattle.pas_steps.specs.{Evidence.Readings, Evidence.IsAntitone, Unknown.unknown_pages, Unknown.HasRoom, Kinds.Only, Kinds.returning, Lists.Whole}
 use Rattle.pas_steps.specs.Desks.{Standing, CanCall, triples, Seat}
 use Rattle.pas_steps.specs.declared.step.{Made.Made, Step.Step, Step.TheVariants.Deed}
 use Rattle.pas_search.specs.Searches.{MaySearch, SearchRoom, IsRefused, DeedMadeHere, FromOffered, ByDeed, FewEvents}
@@ -42,20 +41,14 @@ use Rattle.pas_cache.proofs.Stops.{releases_as, releases_none, releases_then, re
 
 -- ---- homes
 unshared : (shared : Bool) (a b : ℕ) → Kind.Class a ≡ kind_of_class shared b → a ≡ b
-unshared false a b h = cc
-unshared true a b h = absurd (let none = h in cc)
+unshared shared a b h = grind arith
 
 kept_by : (right shared : Bool) (a b : ℕ) → kind_of_class (not right) a ≡ kind_of_class shared b → right ≡ not shared
-kept_by true false a b h = refl
-kept_by false true a b h = refl
-kept_by true true a b h = absurd (let none = h in cc)
-kept_by false false a b h = absurd (let none = h in cc)
+kept_by right shared a b h = grind arith
 
 -- slots that keep their page's right and are at home in the directory are those for its heap and the class
 is_one : (f : Profile) (fill : Filling) → IsFilling f fill → (slots : Slots) → slots.right ≡ true → home_of slots ≡ fill.directory → is_for fill.directory.heap fill.class slots ≡ true
-is_one f fill is slots right home =
-    and_from (slots.heap == fill.directory.heap) (slots.class == fill.class) (eq-eqb slots.heap fill.directory.heap (ap (λ d. d.heap) home))
-    (eq-eqb slots.class fill.class (unshared (is_shared f fill.directory.heap) slots.class fill.class (ap (λ t. kind_of_class (not t) slots.class) (sym right) ∙ (ap (λ d. d.kind) home ∙ is.home))))
+is_one f fill is slots right home = search (arith, and_from, eq-eqb, unshared)
 
 -- ---- an actor whose local allocators are all of other directories has no right of a page of this one
 no_right_in : (f : Profile) (v : View) (d : Directory) (test : Slots → Bool) → IsKind d.kind → ((slots : Slots) → slots.right ≡ true → home_of slots ≡ d → test slots ≡ true) → (locals : List Slots) → All (IsLocal f v) locals → list_any test locals ≡ false
@@ -92,17 +85,11 @@ refill_of : {σ σ' : Standing} (fill : Filling) (tells : Bool) (answer : Result
 refill_of fill tells answer h = record { searched = h.searched; searches = h.searches; few = h.few; after = h.after; outcome = h.outcome; steps_are = refl }
 
 found_by : (fill : Filling) (f : Profile) (steps : List Made) (answer : Result Slots NoRoom) → IsRefill fill f steps answer → MatchResult answer (IsFoundFor fill) (λ room. Unit {0})
-found_by fill f steps (Ok slots) refill = record { home = refill.outcome.home; class_is = refill.outcome.class_is; some = refill.outcome.some }
-found_by fill f steps (Err room) refill = tt
+found_by fill f steps answer refill = grind arith
 
 -- the one that is cached for the heap and the class is at home in its directory
 cached_home : (f : Profile) (v : View) (fill : Filling) → IsFilling f fill → (slots : Slots) → IsLocal f v slots → is_for fill.directory.heap fill.class slots ≡ true → home_of slots ≡ fill.directory
-cached_home f v fill is slots at for =
-    let pair = and_parts (slots.heap == fill.directory.heap) (slots.class == fill.class) for in
-    let heap : slots.heap ≡ fill.directory.heap = eqb-true slots.heap fill.directory.heap pair.0 in
-    let kind : kind_of_class (not slots.right) slots.class ≡ fill.directory.kind = ap (λ t. kind_of_class (not t) slots.class) at.kept ∙ (ap (λ t. kind_of_class t slots.class) (not-not (is_shared f slots.heap))
-    ∙ (ap (λ h. kind_of_class (is_shared f h) slots.class) heap ∙ (ap (kind_of_class (is_shared f fill.directory.heap)) (eqb-true slots.class fill.class pair.1) ∙ sym is.home))) in
-    same_parts (home_of slots) fill.directory heap kind
+cached_home f v fill is slots at for = search (arith, and_parts, eqb-true, not-not, same_parts)
 
 -- ---- what it does to what the actor holds and has
 refill_leads : {fill : Filling} {f : Profile} {steps : List Made} {slots : Slots} → IsRefill fill f steps (Ok slots) → Leads f (MaySearch fill.directory) (GetsSlots fill.directory slots) steps
@@ -124,15 +111,7 @@ rests_refilled f fill locals is none steps v h agreed (Ok slots) refill =
     let heap : slots.heap ≡ d.heap = ap (λ x. x.heap) s.home in
     let gains : GetsSlots d slots v (steps ++ v) = (refill_leads refill).from v (may_search f v fill locals is none h) agreed in
     rests_gained f d slots locals steps v h gains agreed
-    (record {
-      page = s.page;
-      class = subst IsClass (sym s.class_is) is.class;
-      directory = subst (IsDirectoryOf f) (sym s.home) is.directory;
-      kept = kept_by slots.right (is_shared f slots.heap) slots.class fill.class (ap (λ x. x.kind) s.home ∙ (is.home ∙ ap (λ n. kind_of_class (is_shared f n) fill.class) (sym heap)));
-      starts = s.starts;
-      deed = gains.may_stop.deed ∙ ap deed_word_of (sym s.home);
-      backed = λ some. gains.backed;
-    })
+    (search (arith, kept_by))
     (ap (λ n. local_for n slots.class locals) heap ∙ (ap (λ n. local_for d.heap n locals) s.class_is ∙ none))
     (λ later page at. no_right_in f (steps ++ v) d (is_for d.heap fill.class) is.directory.kind (is_one f fill is) locals later (none_found (is_for d.heap fill.class) locals none).any page
     (subst (λ p. KnowsDeed p d (steps ++ v)) (eqb-true slots.page page at) gains.may_stop.deed))
@@ -143,11 +122,7 @@ rests_refilled f fill locals is none steps v h agreed (Err room) refill = rests_
 -- ---- a deed that was made wasn't known before
 made_unknown : (no_fit : Readings → Type 0) (f : Profile) (d : Directory) (page : ℕ) (steps : List Made) (v : View) → Agreed f v steps → Once (DeedMadeHere no_fit f d page) steps → known_deed v page ≢ 0 → ⊥
 made_unknown no_fit f d page [] v agreed h some = h
-made_unknown no_fit f d page (m ∷ more) v agreed (inl h) some =
-    let still : known_deed (more ++ v) page ≡ known_deed v page = deed_stays f more v page agreed.1 some in
-    let agrees : Agrees f (more ++ v) (Deed page d) m.answer = subst (λ s. Agrees f (more ++ v) s m.answer) h.deed agreed.0 in
-    let same : m.answer ≡ known_deed (more ++ v) page = agrees.known (λ z. some (sym still ∙ z)) in
-    some (sym still ∙ (sym same ∙ h.made))
+made_unknown no_fit f d page (m ∷ more) v agreed (inl h) some = search (arith, deed_stays)
 made_unknown no_fit f d page (m ∷ more) v agreed (inr h) some = made_unknown no_fit f d page more v agreed.1 h some
 
 zero_from : (n : ℕ) → (n ≢ 0 → ⊥) → n ≡ 0
@@ -161,23 +136,11 @@ refill_events h k v = ap (events_by k v) h.steps_are ∙ events_same returning r
 -- where a page was chosen so, and its deed is known in the end
 pub chosen_few : (no_fit : Readings → Type 0) (f : Profile) (d : Directory) (page : ℕ) (searched steps : List Made) → IsPage f page → FromOffered no_fit d page searched ⊎ ByDeed no_fit f d page searched → FewEvents f d 1 searched → (k : ℕ) (v : View) → Agreed f v searched → Agreed f v steps
     → KnowsDeed page d (steps ++ v) → (n : ℕ) → length (events_by k v steps) ≤ length (events_by k v searched) + n → IsFew f (1 + n) k steps v
-chosen_few no_fit f d page searched steps is choice few k v agreed all deed n more = elim choice [
-  | inl offered ↦
-      let events = (few k v agreed).0 in
-      let fewer = unknown_stays f steps v all in
-      record { paid = omega (arith, events, offered.no_deed, fewer, more); most = omega (arith, events, offered.no_deed, more) }
-  | inr made ↦
-      let events = (few k v agreed).0 in
-      let was : known_deed v page ≡ 0 = zero_from (known_deed v page) (made_unknown no_fit f d page searched v agreed made.made_here) in
-      let fewer = unknown_less f page steps v all is was (λ z. deed_word_of-positive d (sym deed ∙ z)) in
-      record { paid = omega (arith, events, made.one_deed, fewer, more); most = omega (arith, events, made.one_deed, more) }
-]
+chosen_few no_fit f d page searched steps is choice few k v agreed all deed n more =
+    search (arith, unknown_stays, zero_from, made_unknown, unknown_less, deed_word_of-positive)
 
 pub silent_few : (f : Profile) (k : ℕ) (steps : List Made) (v : View) → AreQuiet steps → Agreed f v steps → IsFew f 1 k steps v
-silent_few f k steps v quiet agreed =
-    let none : length (events_by k v steps) ≡ 0 = ap length (events_quiet k v steps quiet) in
-    let fewer = unknown_stays f steps v agreed in
-    record { paid = omega (arith, none, fewer); most = omega (arith, none) }
+silent_few f k steps v quiet agreed = search (arith, events_quiet, unknown_stays)
 
 found_few : (fill : Filling) (f : Profile) (steps : List Made) (found : Result Slots NoRoom) → IsRefill fill f steps found → (k : ℕ) (v : View) → MaySearch fill.directory v → Agreed f v steps → IsFew f 1 k steps v
 found_few fill f steps (Ok slots) h k v may agreed =
@@ -229,9 +192,7 @@ module _ {heap class : ℕ} {locals : List Slots} {place : ℕ} (d : Slots) (one
   brings locals' some is = record { slots = get_or locals place d; cached = placed.0; some = some; last = is ∙ ap (λ xs. xs ++ get_or locals place d ∷ []) (sym placed.1) }
 
   pub none_cached : IsEmpty (get_or locals place d).starts → HasNoneCached heap class locals
-  none_cached empty other found some =
-      let same : get_or locals place d ≡ other = let both = placed.0 in cc in
-      true≢false (sym some.2 ∙ subst (λ (s : Slots). is_set s.starts some.0 ≡ false) same (empty some.0 some.1))
+  none_cached empty other found some = search (arith, placed, true≢false)
 
 none_empty : (slots : Slots) → (HasMember slots.starts → ⊥) → IsEmpty slots.starts
 none_empty slots none g lt = elim (cases_Bool (is_set slots.starts g)) [ inl set ↦ absurd (none (g, lt, set)) | inr clear ↦ clear ]
@@ -239,18 +200,13 @@ none_empty slots none g lt = elim (cases_Bool (is_set slots.starts g)) [ inl set
 -- ---- one without a slot is left
 no_set : (slots : Slots) (g : ℕ) → IsClass slots.class → IsEmpty slots.starts → g < 256 → is_set slots.starts (start_of slots.class g) ≡ true → ⊥
 no_set slots g is empty lt set =
-    let below = (start_below slots.class g is).0 in
-    true≢false (sym set ∙ empty (start_of slots.class g) (omega (arith, below, lt)))
+    true≢false (sym set ∙ empty (start_of slots.class g) (omega (arith, (start_below slots.class g is).0, lt)))
 
 nothing_back : (slots : Slots) (steps : List Made) → IsClass slots.class → IsEmpty slots.starts → (h : StopStepsAt (home_of slots) slots steps) → BackSteps slots.page (home_of slots) h.mask h.back → h.back ≡ []
-nothing_back slots steps is empty h (inl none) = none.1
-nothing_back slots steps is empty h (inr some) = absurd (no_set slots some.0.0 is empty some.0.1 (sym (h.grains some.0.0 some.0.1) ∙ some.0.2))
+nothing_back slots steps is empty h e = grind (arith, no_set)
 
 spent_leaves : (slots : Slots) (steps : List Made) → IsClass slots.class → IsEmpty slots.starts → StopStepsAt (home_of slots) slots steps → LeavesWhere slots.right slots.page (home_of slots) steps
-spent_leaves slots steps is empty h =
-    let none : h.back ≡ [] = nothing_back slots steps is empty h h.puts in
-    let left : steps ≡ h.left = h.steps_are ∙ (ap (λ xs. h.left ++ xs) none ∙ append-nil h.left) in
-    subst (LeavesWhere slots.right slots.page (home_of slots)) (sym left) h.leaves
+spent_leaves slots steps is empty h = search (arith, nothing_back, append-nil)
 
 pub leaves_spent : {σ σ1 : Standing} (heap class : ℕ) {locals others : List Slots} {place : ℕ} → IsPlaceOf heap class locals place → HasNoneCached heap class locals → CanCall σ (RestsWith σ.seat.profile locals) → StopsPlace place locals others σ σ1
     → Releases (IsTakenOut heap class locals others) locals others σ σ1
@@ -263,25 +219,20 @@ leaves_spent heap class {locals} {others} {place} at none can h =
     releases_as h.stops (λ steps one. record { left = subst (λ o. LeavesSpent o steps) (sym found) (empty, spent_leaves slots steps small empty one.order); others = h.fewer ∙ sym p.1; few = one.few })
 
 pub leaves_none : {σ : Standing} (heap class : ℕ) {locals : List Slots} → list_any (is_for heap class) locals ≡ false → Releases (IsTakenOut heap class locals locals) locals locals σ σ
-leaves_none heap class {locals} none =
-    let n = none_any (is_for heap class) locals none in
-    releases_none (IsTakenOut heap class locals locals) locals (record { left = subst (λ o. LeavesSpent o []) (sym n.found) refl; others = sym n.others; few = omega arith })
+leaves_none heap class {locals} none = search (arith, none_any, releases_none)
 
 pub none_at_all : (heap class : ℕ) (locals : List Slots) → None ≡ local_for heap class locals → HasNoneCached heap class locals
 none_at_all heap class locals none other at some = cc
 
 -- ---- and the list is shortened
 none_after : (t : Bool) (x : Slots) (rest : Option Slots) → cond t (Some x) rest ≡ None → rest ≡ None
-none_after false x rest none = none
-none_after true x rest none = cc
+none_after t x rest none = grind arith
 
 none_first : (heap class : ℕ) (first : Slots) (rest : List Slots) → local_for heap class (first ∷ rest) ≡ None → local_for heap class rest ≡ None
 none_first heap class first rest none = none_after (is_for heap class first) first (local_for heap class rest) none
 
 none_stopped : (heap class : ℕ) (full : Bool) (locals kept : List Slots) (steps : List Made) → StopsFirst full locals kept steps → local_for heap class locals ≡ None → local_for heap class kept ≡ None
-none_stopped heap class full [] kept steps h none = ap (local_for heap class) h.0
-none_stopped heap class true (first ∷ rest) kept steps h none = ap (local_for heap class) h.0 ∙ none_first heap class first rest none
-none_stopped heap class false (first ∷ rest) kept steps h none = ap (local_for heap class) h.0 ∙ none
+none_stopped heap class full locals kept steps h none = grind (arith, none_first)
 
 pub none_shortened : {heap class : ℕ} {locals others fewer : List Slots} {spent stopped : List Made} → IsTakenOut heap class locals others spent → IsShortened others fewer stopped → local_for heap class fewer ≡ None
 none_shortened {heap} {class} {locals} {others} {fewer} {spent} {stopped} taken short = none_stopped heap class _ others fewer stopped short.first (none_in heap class locals others taken.others)
@@ -316,7 +267,6 @@ obtains_cached {σ} fill tells locals locals' is can fits cached =
     let others : List Slots = others_than heap class locals in
     let passes = found_passes (is_for heap class) locals slots cached.cached in
     let moved : IsPermutation locals (slots ∷ others) = passes.without (can.met.apart.one_each heap class) in
-    let n = length_permutation locals (slots ∷ others) moved in
     let pair = and_parts (slots.heap == heap) (slots.class == class) passes.passes in
     record {
       fewer = others;
@@ -330,7 +280,7 @@ obtains_cached {σ} fill tells locals locals' is can fits cached =
           class_is = eqb-true slots.class class pair.1;
           some = cached.some;
         };
-        place = omega (arith, n, fits);
+        place = omega (arith, length_permutation locals (slots ∷ others) moved, fits);
         few = λ k v h agreed. record { paid = omega arith; most = omega arith };
         told = λ t v l stood h. tt;
       };
@@ -340,8 +290,7 @@ obtains_cached {σ} fill tells locals locals' is can fits cached =
 refill_told : (fill : Filling) (f : Profile) (locals : List Slots) (entry middle exit : Whole) (answer : Result Slots NoRoom) → HasNoneCached fill.directory.heap fill.class locals
     → (HasNoFit fill.no_fit f fill.directory middle → HasNoFit fill.no_fit f fill.directory entry)
     → IsTold (λ (s : Slots). s.page) fill.no_fit f fill.directory middle exit answer → IsToldOf fill f locals entry exit answer
-refill_told fill f locals entry middle exit (Ok slots) none back told = tt
-refill_told fill f locals entry middle exit (Err room) none back told = record { cached = none; entry_fit = back told.0; exit_fit = told.1; reason = told.2 }
+refill_told fill f locals entry middle exit answer none back told = grind arith
 
 pub obtains_refilled : {σ σ1 σ2 : Standing} (fill : Filling) (tells : Bool) (locals fewer : List Slots) (answer : Result Slots NoRoom) → IsFilling σ.seat.profile fill → HasNoneCached fill.directory.heap fill.class locals
     → Releases (MakesPlace fill.directory.heap fill.class locals fewer) locals fewer σ σ1 → local_for fill.directory.heap fill.class fewer ≡ None → length fewer < 32 → Refills fill tells σ1 σ2 answer → Obtains fill tells locals fewer σ σ2 answer
@@ -355,10 +304,7 @@ obtains_refilled {σ} {σ1} {σ2} fill tells locals fewer answer is cached one n
     let refill : IsRefill fill f ys answer = subst (λ (s : Seat). IsRefill fill s.profile ys answer) e (refill_of fill tells answer two) in
     record {
       steps = ys ++ xs;
-      calls = rests_then locals fewer one (cons_option (result_ok answer) fewer) ys (record {
-        adds = adds_under two.adds (λ v l stood met. may_search σ1.seat.profile v fill fewer there none met);
-        leads = record { from = λ v met agreed. rests_refilled σ1.seat.profile fill fewer there none ys v met agreed answer (refill_of fill tells answer two) };
-      });
+      calls = search (arith, rests_then, adds_under, may_search, rests_refilled, refill_of);
       how = inr (record { before = xs; place = one.change; gives_back = one.kinds; rests = one.calls.leads; searched = ys; refill = refill; steps_are = refl });
       found_for = found_by fill f ys answer refill;
       place = place;

@@ -2,16 +2,14 @@
 use Rattle.std.proofs.Common.{◌≡◌, ℕ, ◌+◌, ◌*◌, ◌/◌, ◌%◌, ◌^◌, ◌<◌, ◌≤◌, ◌==◌, true, refl, ap, sym, ◌∙◌, arith, Bool, false, ◌||◌, if◌then◌else◌, List, ◌∷◌}
 use Rattle.std.proofs.Common.{◌++◌, get_or, None, subst, true≢false, ◌&&◌, not, [], inl, eq-eqb, eqb-true, All}
 use Rattle.std.proofs.lemmas.Bool.{and_from, and_parts, or_right, false_from_ne_true, cond-false}
-use Rattle.pas_profile.specs.{Classes.IsClass, Classes.class_grains, Classes.IsSlotStart, Blocks.grain_of, Blocks.length_of, Directories.deed_word_of}
-use Rattle.pas_profile.specs.{Profiles.IsPage, Profiles.IsDirectoryOf, Requests.is_shared}
+use Rattle.pas_profile.specs.{Classes.IsClass, Classes.class_grains, Classes.IsSlotStart, Blocks.grain_of, Blocks.length_of}
 use Rattle.pas_bits.specs.{Runs.in_run, Masks.is_set, Masks.IsLowestSet, Masks.HasMember}
 use Rattle.pas_profile.specs.declared.{name.Block.Block, profile.Profile.Profile, directory.Directory.Directory, word.Word.Word}
 use Rattle.pas_profile.proofs.{ClassFacts.class_size_whole, ClassFacts.class_grains_positive, ClassFacts.slot_end, Codecs.deed_word_of-positive}
 use Rattle.pas_bits.proofs.Runs.{run_of, to_run}
 use Rattle.pas_rights.specs.Gives.{MayGive, give_steps, GivesRun}
 use Rattle.pas_rights.proofs.Gives.{may_give_on}
-use Rattle.pas_steps.specs.{Desks.Standing, Desks.CanCall, Desks.made, Agreement.Agreed}
-use Rattle.pas_steps.specs.Views.{View, holds, knows_backed, known_deed}
+use Rattle.pas_steps.specs.{Desks.Standing, Desks.CanCall, Desks.made, Agreement.Agreed, Views.View, Views.holds, Views.knows_backed}
 use Rattle.pas_steps.proofs.{Called.call_as, Kept.deed_stays, Calls.does_then, Calls.does_as, Calls.does_step, Sets.given_fate}
 use Rattle.pas_segregated.specs.Stops.{home_of, of_slots, MayStopAt, home_by}
 use Rattle.pas_segregated.specs.declared.slots.Slots.{Slots}
@@ -43,19 +41,11 @@ pub record InSlot (slots : Slots) (start g : ℕ) : Type 0 where
   pub high : g % 256 < start + class_grains slots.class
 
 in_slot : (slots : Slots) (start g : ℕ) → IsClass slots.class → IsSlotStart slots.class start → in_run (first_grain slots start) (class_grains slots.class) g ≡ true → InSlot slots start g
-in_slot slots start g is slot inside =
-    let r = run_of (first_grain slots start) (class_grains slots.class) g inside in
-    let low = r.0 in
-    let high = r.1 in
-    let ends = slot_end slots.class start is slot in
-    record { page = omega (arith, low, high, ends); low = omega (arith, low, high, ends); high = omega (arith, low, high, ends) }
+in_slot slots start g is slot inside = search (arith, run_of, slot_end)
 
 -- they are among those of all slots
 slot_covers : (slots : Slots) (start g : ℕ) → IsSlotStart slots.class start → is_set slots.starts start ≡ true → InSlot slots start g → covers slots g ≡ true
-slot_covers slots start g slot set at =
-    and_from (slots.page == g / 256) (is_set slots.starts ((g % 256) / class_grains slots.class * class_grains slots.class))
-    (eq-eqb slots.page (g / 256) (sym at.page))
-    (ap (is_set slots.starts) (start_at slots.class start (g % 256) slot at.low at.high) ∙ set)
+slot_covers slots start g slot set at = search (arith, and_from, eq-eqb, start_at)
 
 -- ---- the give
 module _ (slots : Slots) (start : ℕ) (lowest : IsLowestSet slots.starts 0 start) where
@@ -66,10 +56,7 @@ module _ (slots : Slots) (start : ℕ) (lowest : IsLowestSet slots.starts 0 star
   region_within f v may = let ends = (slot_within f v may).1 in omega (arith, may.local.page.1, ends)
 
   may_give : (f : Profile) (v : View) → MayGiveSlot f slots v → MayGive f slots.heap slots.page start (class_grains slots.class) v
-  may_give f v may =
-      let slot = may.local.starts start lowest.set in
-      may_give_on (home_of slots) slots.page start (class_grains slots.class) may.local.directory (slot_within f v may).1 (λ g inside. may.held g (slot_covers slots start g slot lowest.set (in_slot slots start g may.local.class slot inside)))
-      may.local.deed (may.local.backed (start, lowest.within, lowest.set)) may.stamped
+  may_give f v may = search (arith, may_give_on, slot_within, slot_covers, in_slot)
 
   pub can_give : {σ : Standing} → CanCall σ (MayGiveSlot σ.seat.profile slots) → CanCall σ (MayGive σ.seat.profile slots.heap slots.page start (class_grains slots.class))
   can_give {σ} can = record { view = can.view; whole = can.whole; stood = can.stood; met = may_give σ.seat.profile can.view can.met }
@@ -97,12 +84,7 @@ module _ (slots : Slots) (start : ℕ) (lowest : IsLowestSet slots.starts 0 star
 -- ---- one local allocator after a call
 -- slots of which one is left cover a grain of their page
 some_grain : (f : Profile) (v : View) (t : Slots) → IsLocal f v t → (some : HasMember t.starts) → covers t (first_grain t some.0) ≡ true
-some_grain f v t here some =
-    let start : ℕ = some.0 in
-    let lt : start < 256 = some.1 in
-    let slot : IsSlotStart t.class start = here.starts start some.2 in
-    let positive : 1 ≤ class_grains t.class = class_grains_positive t.class here.class in
-    slot_covers t start (first_grain t start) slot some.2 (record { page = omega (arith, lt); low = omega (arith, lt); high = omega (arith, lt, positive) })
+some_grain f v t here some = search (arith, class_grains_positive, slot_covers)
 
 -- one whose grains were all kept is as it was
 local_after : (f : Profile) (e : Effect) (steps : List Made) (v : View) (t : Slots) → Does e v (steps ++ v) → Agreed f v steps → ((g : ℕ) → covers t g ≡ true → (holds v g ≡ true) × (e.grains g ≡ Kept)) → IsLocal f v t → IsLocal f (steps ++ v) t
@@ -115,8 +97,7 @@ local_after f e steps v t does agreed stays at = record {
   deed = deed_stays f steps v t.page agreed (λ none. deed_word_of-positive (home_of t) (sym at.deed ∙ none)) ∙ at.deed;
   backed = λ some.
       let g : ℕ = first_grain t some.0 in
-      let lt : some.0 < 256 = some.1 in
-      let on : g / 256 ≡ t.page = omega (arith, lt) in
+      let on : g / 256 ≡ t.page = omega (arith, some.1) in
       let here = stays g (some_grain f v t at some) in
       subst (λ p. knows_backed (steps ++ v) p ≡ true) on (does.backed g here.1 (record { held = here.0; backed = subst (λ p. knows_backed v p ≡ true) (sym on) (at.backed some) })).backed;
 }
@@ -180,12 +161,7 @@ module _ (f : Profile) (slots : Slots) (rest : List Slots) (v : View) (h : Rests
   held_here g covered = h.grains g ∙ ap (λ t. t || any_covers rest g) covered
 
   pub may_stop : MayStopAt (home_of slots) slots v
-  may_stop = record {
-    clear = h.clear;
-    held = held_here;
-    deed = here.deed;
-    right = λ right. h.rights slots.page ∙ ap (λ t. t || any_keeps rest slots.page) (and_from slots.right (slots.page == slots.page) right (eq-eqb slots.page slots.page refl));
-  }
+  may_stop = search (arith, held_here, here, and_from, eq-eqb)
 
   pub may_give_slot : MayGiveSlot f slots v
   may_give_slot = record { held = held_here; local = here; stamped = (h.clear.on slots.page).stamped }
@@ -256,23 +232,17 @@ module _ (f : Profile) (locals : List Slots) (slots rest : Slots) (block : Block
   slot = local.starts start gives.lowest.set
 
   run_is : (g : ℕ) → in_run (grain_of block.name) (length_of block) g ≡ in_run (first_grain slots start) (class_grains slots.class) g
-  run_is g =
-      ap (λ a. in_run (a / 16) (block.room / 16) g) gives.address
-      ∙ (ap (λ n. in_run n (block.room / 16) g) (grain_is slots start) ∙ ap (λ r. in_run (first_grain slots start) (r / 16) g) gives.room)
+  run_is g = cc (grain_is slots start)
 
   abbrev start_here : ℕ → ℕ
   start_here g = start_of slots.class (g % 256)
 
   covers_rest : (g : ℕ) → covers rest g ≡ ((slots.page == g / 256) && (not (start_here g == start) && is_set slots.starts (start_here g)))
-  covers_rest g =
-      ap (λ p. (p == g / 256) && is_set rest.starts (start_of rest.class (g % 256))) gives.rest.page
-      ∙ (ap (λ c. (slots.page == g / 256) && is_set rest.starts (start_of c (g % 256))) gives.rest.class ∙ ap (λ t. (slots.page == g / 256) && t) (gives.rest.starts (start_here g)))
+  covers_rest g = cc (gives.rest.starts (start_here g))
 
   -- what the rest covers or keeps, all of the slots did
   covered : (g : ℕ) → covers rest g ≡ true → covers slots g ≡ true
-  covered g of_rest =
-      let parts = and_parts (slots.page == g / 256) (not (start_here g == start) && is_set slots.starts (start_here g)) (sym (covers_rest g) ∙ of_rest) in
-      and_from (slots.page == g / 256) (is_set slots.starts (start_here g)) parts.0 (and_parts (not (start_here g == start)) (is_set slots.starts (start_here g)) parts.1).1
+  covered g of_rest = search (arith, and_parts, covers_rest, and_from)
 
   kept : (page : ℕ) → keeps_right rest page ≡ keeps_right slots page
   kept page = ap (λ r. r && (rest.page == page)) gives.rest.right ∙ ap (λ q. slots.right && (q == page)) gives.rest.page
@@ -309,15 +279,7 @@ module _ (f : Profile) (locals : List Slots) (slots rest : Slots) (block : Block
   same_home = ap (λ h. home_by h rest.class rest.right) gives.rest.heap ∙ (ap (λ c. home_by slots.heap c rest.right) gives.rest.class ∙ ap (home_by slots.heap slots.class) gives.rest.right)
 
   rest_before : IsLocal f v rest
-  rest_before = record {
-    page = subst (IsPage f) (sym gives.rest.page) local.page;
-    class = subst IsClass (sym gives.rest.class) local.class;
-    directory = subst (IsDirectoryOf f) (sym same_home) local.directory;
-    kept = gives.rest.right ∙ (local.kept ∙ ap (λ h. not (is_shared f h)) (sym gives.rest.heap));
-    starts = λ g set. subst (λ c. IsSlotStart c g) (sym gives.rest.class) (local.starts g (and_parts (not (g == start)) (is_set slots.starts g) (sym (gives.rest.starts g) ∙ set)).1);
-    deed = ap (known_deed v) gives.rest.page ∙ (local.deed ∙ ap deed_word_of (sym same_home));
-    backed = λ left. ap (knows_backed v) gives.rest.page ∙ local.backed (start, gives.lowest.within, gives.lowest.set);
-  }
+  rest_before = search (arith, local, same_home, and_parts)
 
   pub rests_given : Agreed f v steps → RestsWith f (rest ∷ locals) (steps ++ v)
   rests_given agreed =

@@ -1,7 +1,7 @@
 -- By which route a request goes, and what requests for bit-fit pages and for whole pages do.
-use Rattle.std.proofs.Common.{◌≡◌, ℕ, ◌<◌, ◌≤◌, if◌then◌else◌, Option, None, Some, sym, subst, arith, max, ◌+◌, ◌-◌, ◌*◌, ◌/◌, ◌%◌, ◌==◌, Bool, true, false}
-use Rattle.std.proofs.Common.{List, [], ◌++◌, length, Ok, Err, Result, refl, ap, ◌∙◌, length-append, ◌||◌, ◌∷◌, ◌⊎◌, inl, inr, append_assoc, true≢false, le-leb}
-use Rattle.std.proofs.Common.{eqb-true, All, MatchResult, min}
+use Rattle.std.proofs.Common.{◌≡◌, ℕ, ◌<◌, ◌≤◌, if◌then◌else◌, Option, None, sym, subst, arith, max, ◌+◌, ◌-◌, ◌*◌, ◌/◌, ◌%◌, ◌==◌, Bool, true, false, List, []}
+use Rattle.std.proofs.Common.{◌++◌, length, Ok, Err, Result, refl, ap, ◌∙◌, length-append, ◌||◌, ◌∷◌, ◌⊎◌, inl, inr, append_assoc, true≢false, le-leb, eqb-true}
+use Rattle.std.proofs.Common.{All, MatchResult, min}
 use Rattle.std.proofs.{lemmas.Bool.cases_Bool, lemmas.Bool.and_parts, lemmas.Bool.false_from_ne_true, Math.Nat.le-max_right, Math.Nat.zero-mod}
 use Rattle.std.proofs.{lemmas.List.Elements.All-head, lemmas.List.Elements.All-tail}
 use Rattle.pas_profile.specs.{Classes.sizes_of, Classes.IsAlignment, Profiles.IsPage, Blocks.address_of, Blocks.grain_of, Blocks.length_of}
@@ -48,8 +48,7 @@ use Rattle.pas_segregated.specs.Stops.{home_of}
 
 -- of at most 2,048 bytes
 small_with : (o : Option ℕ) (n : ℕ) → n ≤ 2048 → IsSmallRoute (route_with o n)
-small_with None n le = subst (λ t. IsSmallRoute (if t then Route.Bitfit else Route.Large)) (sym (le-leb n 2048 le)) tt
-small_with (Some class) n le = tt
+small_with o n le = grind (arith, le-leb)
 
 pub is_small : (classes size align : ℕ) → size ≤ 2048 → IsSmallRoute (route_of classes size align)
 is_small classes size align le = small_with (first_class (sizes_of classes) 0 (max size 1) align) (max size 1) (omega (arith, le))
@@ -62,13 +61,10 @@ pub large_size : (classes size align : ℕ) → route_of classes size align ≡ 
 large_size classes size align e = (subst (IsRouteOf classes size align) e (route_is classes size align)).0
 
 -- ==== A request goes by its route.
+-- Both facts are at the way, which is the route.
 pub goes : {σ σ' : Standing} {Answers : Option ℕ → Type 0} {Same : Type 0} {wanted : Wanted} {tells : Bool} {c c' : Cached} {answer : Result Block NoRoom} (way : Route) (found : Option ℕ) → wanted.route ≡ way → IsNamed way Answers Same found
     → AllocatesBy way wanted found tells c c' σ σ' answer → AllocatesRequest Answers Same wanted tells c c' σ σ' answer
-goes {σ} {σ'} {Answers} {Same} {wanted} {tells} {c} {c'} {answer} way found route named it = record {
-  found = found;
-  named = subst (λ (r : Route). IsNamed r Answers Same found) (sym route) named;
-  allocates = subst (λ (r : Route). AllocatesBy r wanted found tells c c' σ σ' answer) (sym route) it;
-}
+goes {σ} {σ'} {Answers} {Same} {wanted} {tells} {c} {c'} {answer} way found route named it = search arith
 
 pub may_go : {σ : Standing} (c : Cached) (heap size align spare : ℕ) (way : Route) → route_in σ.seat.profile size align ≡ way → CanCall σ (MayRequest σ.seat.profile (wanted_for σ.seat.profile heap size align) c spare)
     → CanCall σ (MayRequestBy way σ.seat.profile c (room_in σ.seat.profile size align / 4096) spare)
@@ -76,35 +72,24 @@ may_go {σ} c heap size align spare way route can = subst (λ (r : Route). CanCa
 
 -- where it is small
 pub small_may : {f : Profile} {c : Cached} {spare : ℕ} {v : View} (n : ℕ) (route : Route) → IsSmallRoute route → MayAllocate f c spare v → MayRequestBy route f c n spare v
-small_may n (Route.Class class) small may = may
-small_may n Route.Bitfit small may = may
-small_may n Route.Large small may = absurd small
+small_may n route small may = grind arith
 
 pub small_did : {σ σ' : Standing} {tells : Bool} {c c' : Cached} {answer : Result Block NoRoom} (wanted : Wanted) (found : Option ℕ) (route : Route) → IsSmallRoute route → AllocatesBy route wanted found tells c c' σ σ' answer → Serves wanted tells c c' σ σ' answer
-small_did wanted found (Route.Class class) small it = it
-small_did wanted found Route.Bitfit small it = it
-small_did wanted found Route.Large small it = absurd small
+small_did wanted found route small it = grind arith
 
 -- no run was named where the door names none for whole pages
 pub none_named : (Answers : Option ℕ → Type 0) (Same : Type 0) {found : Option ℕ} (route : Route) → (route ≡ Route.Large → Answers found → found ≡ None) → IsNamed route Answers Same found → found ≡ None
-none_named Answers Same (Route.Class class) by named = named.0
-none_named Answers Same Route.Bitfit by named = named.0
-none_named Answers Same Route.Large by named = by refl named
+none_named Answers Same route by named = grind arith
 
 -- where it is for whole pages, so many
 pub pages_asked : (f : Profile) (size align : ℕ) → route_in f size align ≡ Route.Large → room_in f size align / 4096 ≡ (size + 4096 - 1) / 4096
-pages_asked f size align route =
-    let more = large_size f.classes size align route in
-    let whole : max size 1 ≡ size = omega (arith, more) in
-    let room = ap (λ (r : Route). room_by r (max size 1)) route in
-    omega (arith, whole, room)
+pages_asked f size align route = search (arith, large_size)
 
 -- ==== A bit-fit request: the actor is at rest with the cache as it was.
 
 -- ---- no local allocator has a right of a bit-fit page
 not_bitfit : (shared : Bool) (class : ℕ) → kind_of_class shared class ≡ Kind.Bitfit → ⊥
-not_bitfit true class same = cc
-not_bitfit false class same = cc
+not_bitfit shared class same = grind arith
 
 pub may_search_bitfit : (f : Profile) (v : View) (heap : ℕ) (locals : List Slots) → RestsWith f locals v → MaySearch (bitfit_directory heap) v
 may_search_bitfit f v heap locals rest = record { rights = λ p of. rest.rights p ∙ no_right_of f v (bitfit_directory heap) tt not_bitfit locals rest.known p of; clear = rest.clear }
@@ -153,10 +138,7 @@ module _ (f : Profile) (heap room align : ℕ) (locals : List Slots) (searched a
 
   -- the block's page
   on_page : (block : Block) → (both : IsAllocated f (bitfit_directory heap) room align searched after block) → (g : ℕ) → in_run (grain_of block.name) (length_of block) g ≡ true → g / 256 ≡ both.0.page
-  on_page block both g inside =
-      let is = both.0 in
-      let at = run_of (is.page * 256 + is.found) (room / 16) g (sym (covers (bitfit_directory heap).heap is.page is.found (room / 16) is.word block is.block_is g) ∙ inside) in
-      omega (arith, at.0, at.1, is.served.serves.chosen.this.within)
+  on_page block both g inside = search (arith, run_of, covers)
 
   bitfit_ends : {Meets : View → Type 0} → ((v : View) → Meets v → RestsWith f locals v) → (answer : Result Block NoRoom) → BitfitEnds f heap room align searched after answer
       → MatchResult answer (IsBlockFor f (record { directory = bitfit_directory heap; route = Route.Bitfit; room = room; align = align }) Meets bitfit_steps) (λ why. IsSilent bitfit_steps)
@@ -174,21 +156,18 @@ module _ (f : Profile) (heap room align : ℕ) (locals : List Slots) (searched a
 
 -- ---- how many steps there are at most
 bitfit_short : (f : Profile) (heap room align : ℕ) (searched after : List Made) (answer : Result Block NoRoom) → length searched ≤ search_steps 15 f.pages → BitfitEnds f heap room align searched after answer → length (after ++ searched) ≤ 59 + search_steps 15 f.pages
-bitfit_short f heap room align searched after (Ok block) few h = let n = length-append after searched in omega (arith, n, few, h.0.few)
-bitfit_short f heap room align searched after (Err why) few h = let n = length-append after searched in let none = ap length h.1 in omega (arith, n, few, none)
+bitfit_short f heap room align searched after answer few h = grind (arith, length-append)
 
 -- ---- what it says of the whole state
 bitfit_told : (f : Profile) (heap room align : ℕ) (locals : List Slots) (entry exit : Whole) (answer : Result Block NoRoom) → IsTold (λ (b : Block). address_of b.name / 4096) (NoneFits (run_for room align)) f (bitfit_directory heap) entry exit answer
     → IsToldBy f (record { directory = bitfit_directory heap; route = Route.Bitfit; room = room; align = align }) locals entry exit answer
-bitfit_told f heap room align locals entry exit (Ok block) told = tt
-bitfit_told f heap room align locals entry exit (Err why) told = record { cached = λ none. none; entry_fit = told.0; exit_fit = told.1; reason = told.2 }
+bitfit_told f heap room align locals entry exit answer told = grind arith
 
 -- ---- of a cache
 with_request : (f : Profile) (heap room align : ℕ) (searched after : List Made) (answer : Result Block NoRoom)
     → MatchResult answer (IsGiven (runs (run_for room align)) (run_at (run_for room align)) f (bitfit_directory heap) searched after) (λ why. IsRefused (NoneFits (run_for room align)) f (bitfit_directory heap) searched why × (after ≡ []))
     → MatchResult answer (IsOfRequest room align) (λ why. Unit {0}) → BitfitEnds f heap room align searched after answer
-with_request f heap room align searched after (Ok block) given fits = (given, fits)
-with_request f heap room align searched after (Err why) refused fits = refused
+with_request f heap room align searched after answer given fits = grind arith
 
 pub bitfit_call : {σ : Standing} {c : Cached} {spare : ℕ} (heap : ℕ) → CanCall σ (MayAllocate σ.seat.profile c spare) → CanCall σ (SearchRoom σ.seat.profile (bitfit_directory heap) 2 spare)
 bitfit_call {σ} {c} heap can = can_call adds_none can (λ v l stood met. record { may = may_search_bitfit σ.seat.profile v heap c.locals met.rest.locals; room = met.room })
@@ -220,18 +199,15 @@ bitfit_allocates {σ} {σ'} size align heap tells c answer route both =
 pub bitfit_room : (classes size align : ℕ) → route_of classes size align ≡ Route.Bitfit → (16 ≤ room_of classes size align) × (room_of classes size align ≤ 2048) × (room_of classes size align % 16 ≡ 0)
 bitfit_room classes size align route =
     let n : ℕ = max size 1 in
-    let some : 1 ≤ n = le-max_right size 1 in
-    let few = (bitfit_suits classes size align route).0 in
-    let small : n ≤ 2048 = omega (arith, few) in
+    let small : n ≤ 2048 = omega (arith, (bitfit_suits classes size align route).0) in
     let is : room_of classes size align ≡ (n + 16 - 1) / 16 * 16 = ap (λ (r : Route). room_by r n) route in
-    (omega (arith, is, some), omega (arith, is, small), omega (arith, is))
+    (omega (arith, is, le-max_right size 1), omega (arith, is, small), omega (arith, is))
 
 -- ==== A request for whole pages: the actor is at rest with the cache as it was.
 
 -- ---- no local allocator has a right of a large page, nor of a page whose deed isn't known
 not_large : (shared : Bool) (class : ℕ) → kind_of_class shared class ≡ Kind.Large → ⊥
-not_large true class same = cc
-not_large false class same = cc
+not_large shared class same = grind arith
 
 known_of_local : (f : Profile) (v : View) (p : ℕ) (locals : List Slots) → All (IsLocal f v) locals → any_keeps locals p ≡ true → known_deed v p ≡ 0 → ⊥
 known_of_local f v p [] all keeps none = true≢false (sym keeps)
@@ -311,11 +287,7 @@ module _ (f : Profile) (heap n : ℕ) (searched after : List Made) where
   silent is k v = events_same looking refl k v after searched (scans_only after is.scans)
 
   few_by : OnlyDeedsShow f searched → (k most : ℕ) (v : View) → Agreed f v (after ++ searched) → length (events_by k v (after ++ searched)) ≤ most + length (events_by k v searched) → length (events_by k v (after ++ searched)) + unknown_pages f ((after ++ searched) ++ v) ≤ most + unknown_pages f v
-  few_by shows k most v agreed all =
-      let here = shows k v (agreed_later f v after searched agreed) in
-      let stays = unknown_stays f after (searched ++ v) (agreed_first f v after searched agreed) in
-      let same : unknown_pages f ((after ++ searched) ++ v) ≡ unknown_pages f (after ++ (searched ++ v)) = ap (unknown_pages f) (append_assoc after searched v) in
-      omega (arith, all, here, stays, same)
+  few_by shows k most v agreed all = search (arith, agreed_later, unknown_stays, agreed_first, append_assoc)
 
   few : (answer : Result Block NoRoom) → Ends f heap n searched after answer → OnlyDeedsShow f searched → (k : ℕ) (v : View) → Agreed f v (after ++ searched) → length (events_by k v (after ++ searched)) + unknown_pages f ((after ++ searched) ++ v) ≤ most_events n answer + unknown_pages f v
   few (Ok block) is shows k v agreed = few_by shows k (n + 1) v agreed
@@ -348,12 +320,9 @@ module _ (f : Profile) (heap n : ℕ) (searched after : List Made) where
   ends align locals alignment only rests (Err why) is = λ k v. subst (AllByRecursion (IsDeedOf (large_directory heap))) (sym (silent is k v)) (deeds_only (large_directory heap) searched only is.made k v)
 
 -- ---- what is asked for
+-- From 1 on the size is its own maximum with 1.
 pages_wanted : (f : Profile) (heap size align n : ℕ) → n ≡ (size + 4096 - 1) / 4096 → 1 ≤ size → route_in f size align ≡ Route.Large → record { directory = large_directory heap; route = Route.Large; room = n * 4096; align = align } ≡ wanted_for f heap size align
-pages_wanted f heap size align n is some route =
-    let whole : max size 1 ≡ size = omega (arith, some) in
-    let room : n * 4096 ≡ room_in f size align = ap (λ x. x * 4096) (is ∙ ap (λ x. (x + 4096 - 1) / 4096) (sym whole)) ∙ ap (λ (r : Route). room_by r (max size 1)) (sym route) in
-    ap (λ (r : Route). record { directory = record { heap = heap; kind = kind_of_route (is_shared f heap) r }; route = r; room = n * 4096; align = align }) (sym route)
-    ∙ ap (λ x. record { directory = record { heap = heap; kind = kind_of_route (is_shared f heap) (route_in f size align) }; route = route_in f size align; room = x; align = align }) room
+pages_wanted f heap size align n is some route = search arith
 
 pub whole_pages : (size : ℕ) → size / 4096 + min 1 (size % 4096) ≡ (size + 4096 - 1) / 4096
 whole_pages size = omega arith

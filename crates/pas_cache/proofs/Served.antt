@@ -65,14 +65,10 @@ events_later : (ys xs : List Made) → Only releasing xs → (k : ℕ) (v : View
 events_later ys xs kinds k v = events_append k ys xs v ∙ (ap (λ es. events_by k (xs ++ v) ys ++ es) (no_events releasing refl k v xs kinds) ∙ append-nil (events_by k (xs ++ v) ys))
 
 prepared_before : {f : Profile} (fill : Filling) {locals fewer : List Slots} (steps : List Made) (slots : Slots) → IsObtained fill f locals fewer steps (Ok slots) → (k : ℕ) (v : View) → AllByRecursion (IsPreparing fill.directory) (events_by k v steps)
-prepared_before fill steps slots (inl h) k v = subst (λ xs. AllByRecursion (IsPreparing fill.directory) (events_by k v xs)) (sym h.2.no_steps) tt
-prepared_before fill steps slots (inr h) k v =
-    subst (λ xs. AllByRecursion (IsPreparing fill.directory) (events_by k v xs)) (sym h.steps_are)
-    (subst (AllByRecursion (IsPreparing fill.directory)) (sym (events_later h.searched h.before h.gives_back k v)) (subst (AllByRecursion (IsPreparing fill.directory)) (sym (refill_events h.refill k (h.before ++ v))) (prepared fill.directory slots.page h.refill.searched h.refill.outcome.events k (h.before ++ v))))
+prepared_before fill steps slots e k v = grind (arith, events_later, refill_events, prepared)
 
 silent_before : {fill : Filling} {f : Profile} {locals fewer : List Slots} (steps : List Made) (room : NoRoom) → IsObtained fill f locals fewer steps (Err room) → IsSilent steps
-silent_before steps room (inl h) = let both = h.1 in cc
-silent_before steps room (inr h) = subst IsSilent (sym h.steps_are) (λ k v. events_later h.searched h.before h.gives_back k v ∙ events_quiet k (h.before ++ v) h.searched (refusal h.refill).quiet)
+silent_before steps room e = grind (arith, events_later, events_quiet, refusal)
 
 -- ---- the give
 give_event : (slots rest : Slots) (block : Block) (steps : List Made) → GivesSlot slots rest block steps → (k : ℕ) (v : View) → events_by k v steps ≡ Event.Give k block ∷ []
@@ -126,8 +122,7 @@ serves_given {σ} {σ1} {σ2} fill tells locals fewer after slots rest block can
           from = λ v h agreed g inside.
               let page : g / 256 ≡ slots.page = given_page f fewer slots rest block ys two.gives (xs ++ v) (before v h agreed) g inside in
               let known : known_deed (xs ++ v) slots.page ≡ deed_word_of d = (here f slots fewer (xs ++ v) (before v h agreed)).deed ∙ ap deed_word_of for.home in
-              ap (λ w. known_deed w (g / 256)) (append_assoc ys xs v) ∙ (ap (known_deed (ys ++ (xs ++ v))) page
-              ∙ (deed_stays f ys (xs ++ v) slots.page (agreed_first f v ys xs agreed) (λ z. deed_word_of-positive d (sym known ∙ z)) ∙ known));
+              cc (append_assoc ys xs v, deed_stays f ys (xs ++ v) slots.page (agreed_first f v ys xs agreed) (λ z. deed_word_of-positive d (sym known ∙ z)));
         };
         events = λ k v. (events_by k v xs, events_append k ys xs v ∙ ap (λ es. es ++ events_by k v xs) (give_event slots rest block ys two.gives k (xs ++ v)), prepared_before fill xs slots one.how k v);
       };
@@ -150,23 +145,14 @@ serves_none {σ} fill tells locals fewer room one = record {
 
 -- ---- a cached slot is given in two steps
 given_two : (fewer locals' : List Slots) (given : List Made) (found : Result Slots NoRoom) (answer : Result Block NoRoom) (slots : Slots) → found ≡ Ok slots → IsAnswered fewer locals' given found answer → length given ≡ 2
-given_two fewer locals' given (Ok got) (Ok block) slots is h = ap length h.1.steps_are
-given_two fewer locals' given (Ok got) (Err room) slots is h = absurd h
-given_two fewer locals' given (Err why) answer slots is h = cc
+given_two fewer locals' given found answer slots is h = grind arith
 
 spent_empty : (spent : List Made) (local : Option Slots) (slots : Slots) → local ≡ Some slots → LeavesSpent local spent → HasMember slots.starts → ⊥
 spent_empty spent local slots is leaves some = true≢false (sym some.2 ∙ (subst (λ l. LeavesSpent l spent) is leaves).0 some.0 some.1)
 
 cached_two : {fill : Filling} {f : Profile} {locals locals' : List Slots} {steps : List Made} {answer : Result Block NoRoom} → (h : ServesLocals fill f locals locals' steps answer) → (slots : Slots) → local_for fill.directory.heap fill.class locals ≡ Some slots → HasMember slots.starts
     → length steps ≡ 2
-cached_two {fill = fill} {locals = locals} {locals' = locals'} {answer = answer} h slots is some = elim h.obtained [
-  | inl cached ↦
-      let two = given_two h.fewer locals' h.given h.found answer cached.0 cached.1 h.ends in
-      let none = ap length cached.2.no_steps in
-      let all = ap length h.steps_are ∙ length-append h.given h.before in
-      omega (arith, two, none, all)
-  | inr fetch ↦ absurd (spent_empty fetch.place.spent (local_for fill.directory.heap fill.class locals) slots is fetch.place.taken.left some)
-]
+cached_two {fill = fill} {locals = locals} {locals' = locals'} {answer = answer} h slots is some = search (arith, given_two, length-append, spent_empty)
 
 -- ---- how many steps there are at most
 refill_short : {fill : Filling} {f : Profile} {steps : List Made} {found : Result Slots NoRoom} → IsRefill fill f steps found → length steps ≤ 11 + search_steps fill.steps f.pages
@@ -174,45 +160,21 @@ refill_short {found = Ok slots} h = let n = ap length h.steps_are ∙ length-app
 refill_short {found = Err room} h = let n = ap length (refused_steps h) in omega (arith, n, h.few)
 
 given_few : (fewer locals' : List Slots) (given : List Made) (found : Result Slots NoRoom) (answer : Result Block NoRoom) → IsAnswered fewer locals' given found answer → length given ≤ 2
-given_few fewer locals' given (Ok got) (Ok block) h = let n = ap length h.1.steps_are in omega (arith, n)
-given_few fewer locals' given (Ok got) (Err room) h = absurd h
-given_few fewer locals' given (Err why) (Ok block) h = absurd h
-given_few fewer locals' given (Err why) (Err room) h = let n = ap length h.2 in omega (arith, n)
+given_few fewer locals' given found answer h = grind arith
 
 serves_short : {fill : Filling} {f : Profile} {locals locals' : List Slots} {steps : List Made} {answer : Result Block NoRoom} → ServesLocals fill f locals locals' steps answer → length steps ≤ 59 + search_steps fill.steps f.pages
-serves_short {locals' = locals'} {answer = answer} h =
-    let all = ap length h.steps_are ∙ length-append h.given h.before in
-    let two = given_few h.fewer locals' h.given h.found answer h.ends in
-    elim h.obtained [
-      | inl cached ↦ let none = ap length cached.2.no_steps in omega (arith, all, two, none)
-      | inr fetch ↦
-          let n = ap length fetch.steps_are ∙ length-append fetch.searched fetch.before in
-          let short = refill_short fetch.refill in
-          omega (arith, all, two, n, fetch.place.few, short)
-    ]
+serves_short {locals' = locals'} {answer = answer} h = search (arith, length-append, given_few, refill_short)
 
 -- ---- of a cache
 for_cache : (f : Profile) (c : Cached) (d : Directory) (class size align : ℕ) (steps : List Made) (answer : Result Block NoRoom) → 4096 % align ≡ 0 → route_in f size align ≡ Route.Class class → MatchResult answer (IsBlockFor f (class_wanted d class 1) (RestsWith f c.locals) steps) (λ room. IsSilent steps)
     → MatchResult answer (IsBlockFor f (class_wanted d class align) (AtRest f c) steps) (λ room. IsSilent steps)
-for_cache f c d class size align steps (Ok block) whole route h = record {
-  of_heap = h.of_heap;
-  room = h.room;
-  placed = h.placed;
-  aligned = ap (λ a. a % align) h.placed.address ∙ routed_slot_aligned f.classes size align class h.placed.start h.placed.page whole route h.placed.is_start;
-  of_region = h.of_region;
-  turn = leads_as h.turn (λ v rest. rest.locals) (λ v w rest is. is);
-  deeds = leads_as h.deeds (λ v rest. rest.locals) (λ v w rest is. is);
-  events = h.events;
-}
-for_cache f c d class size align steps (Err room) whole route h = h
+for_cache f c d class size align steps answer whole route h = grind (arith, routed_slot_aligned, leads_as)
 
 kind_known : (shared : Bool) (class : ℕ) → IsClass class → IsKind (kind_of_class shared class)
-kind_known true class is = tt
-kind_known false class is = is
+kind_known shared class is = grind arith
 
 kind_among : (shared : Bool) (classes class : ℕ) → class < classes → IsKindAmong classes (kind_of_class shared class)
-kind_among true classes class is = tt
-kind_among false classes class is = is
+kind_among shared classes class is = grind arith
 
 -- the route by the profile that a desk tells is that in its region
 pub routed : (f told : Profile) (size align : ℕ) (route way : Route) → told ≡ f → route ≡ route_in told size align → route ≡ way → route_in f size align ≡ way
@@ -239,8 +201,7 @@ pub home_is : (f : Profile) (table : HeapTable) (heap class : ℕ) (kind : TheKi
 home_is f table heap class kind is marks = ap (λ (k : TheKind). record { heap = heap; kind = k }) (is ∙ ap (λ n. kind_of_class (has_bit n heap) class) marks)
 
 true_refusal : (f : Profile) (d : Directory) (class align : ℕ) (locals : List Slots) (entry exit : Whole) (answer : Result Block NoRoom) → IsToldOf (filling_in d class) f locals entry exit answer → IsToldBy f (class_wanted d class align) locals entry exit answer
-true_refusal f d class align locals entry exit (Ok block) told = tt
-true_refusal f d class align locals entry exit (Err room) told = record { cached = λ h. told.cached h.0 h.1 h.2; entry_fit = told.entry_fit; exit_fit = told.exit_fit; reason = told.reason }
+true_refusal f d class align locals entry exit answer told = grind arith
 
 pub allocates : {σ σ' : Standing} (size align heap class : ℕ) (tells : Bool) (c c' : Cached) (answer : Result Block NoRoom) → IsAdmitted σ.seat.profile size align heap → route_in σ.seat.profile size align ≡ Route.Class class → c' ≡ record c { locals = c'.locals }
     → ServesFrom (filling_in (class_home σ.seat.profile heap class) class) tells c.locals c'.locals σ σ' answer → Allocates (wanted_for σ.seat.profile heap size align) tells c c' σ σ' answer

@@ -2,7 +2,7 @@
 use Rattle.std.proofs.Common.{length-append, ◌≡◌, ℕ, ◌+◌, ◌<◌, ◌≤◌, ◌==◌, true, false, List, [], ◌∷◌, ◌++◌, length, refl, ap, sym, ◌∙◌, subst, arith}
 use Rattle.std.proofs.Common.{true≢false, slice_index_or, remove, nat_le, le-leb, eqb-true}
 use Rattle.std.specs.List.Sorted.{IsPermutation}
-use Rattle.std.proofs.lemmas.{Bool.lt-leb, Bool.eqb-false, List.Sorted.IsPermutation-remove}
+use Rattle.std.proofs.lemmas.{Bool.eqb-false, List.Sorted.IsPermutation-remove}
 use Rattle.pas_steps.specs.{Views.View, Calls.Calls, Kinds.Only}
 use Rattle.pas_profile.specs.declared.event.Event.{Event}
 use Rattle.pas_steps.specs.Desks.{Standing, Seat, CanCall, Adds}
@@ -61,19 +61,13 @@ spare_kept {σ} {C = C} {xs} {spare} {spare'} adds can kinds law law' =
 
 -- ---- the first one of a full list
 first_stopped : (locals kept : List Slots) (oldest : Slots) (steps : List Made) → (length locals == 32) ≡ true → oldest ≡ slice_index_or locals 0 oldest → kept ≡ remove locals 0 → StopStepsAt (home_of oldest) oldest steps → StopsFirst (nat_le 32 (length locals)) locals kept steps
-first_stopped [] kept oldest steps full at is stops = absurd (true≢false (sym full))
-first_stopped (first ∷ rest) kept oldest steps full at is stops =
-    let n = eqb-true (length (first ∷ rest)) 32 full in
-    subst (λ t. StopsFirst t (first ∷ rest) kept steps) (sym (le-leb 32 (length (first ∷ rest)) (omega (arith, n)))) (is, subst (λ s. StopStepsAt (home_of s) s steps) at stops)
+first_stopped locals kept oldest steps full at is stops = grind (arith, true≢false, eqb-true, le-leb)
 
 pub shortens_full : {σ σ' : Standing} {locals kept : List Slots} → (length locals == 32) ≡ true → StopsPlace 0 locals kept σ σ' → Releases (IsShortened locals kept) locals kept σ σ'
 shortens_full {locals = locals} {kept = kept} full h = releases_as h.stops (λ steps one. record { first = first_stopped locals kept h.slots steps full h.at h.fewer one.order; few = one.few })
 
 pub shortens_none : (locals : List Slots) → (length locals == 32) ≡ false → length locals ≤ 32 → IsShortened locals locals []
-shortens_none [] other le = record { first = (refl, refl); few = omega arith }
-shortens_none (first ∷ rest) other le =
-    let ne = eqb-false (length (first ∷ rest)) 32 other in
-    record { first = subst (λ t. StopsFirst t (first ∷ rest) (first ∷ rest) []) (sym (lt-leb 32 (length (first ∷ rest)) (omega (arith, ne, le)))) (refl, refl); few = omega arith }
+shortens_none locals other le = grind (arith, eqb-false)
 
 -- ---- one call after another
 module _ {σ σ1 : Standing} {First : List Made → Type 0} (locals kept : List Slots) (one : Releases First locals kept σ σ1) where

@@ -7,10 +7,9 @@ use Rattle.pas_steps.specs.{Past.Once, Effects.life_word_at, Effects.target, Eff
 use Rattle.pas_steps.specs.Lists.{Triple, Whole, part, Legal, word_after, visible, IsNext}
 use Rattle.pas_steps.specs.declared.step.{Made.Made, Step.Step}
 use Rattle.std.proofs.lemmas.Bool.{cond_both, false≢true, and_parts, and_from, false_from_ne_true}
-use Rattle.pas_profile.specs.{Directories.deed_word_of, Directories.kind_number, Directories.number_of, Profiles.IsValid, Profiles.IsDirectoryOf}
-use Rattle.pas_profile.specs.{Blocks.address_of, Blocks.grain_of, Blocks.length_of}
+use Rattle.pas_profile.specs.{Directories.number_of, Profiles.IsValid, Blocks.address_of, Blocks.grain_of, Blocks.length_of}
 use Rattle.pas_profile.specs.Lives.{live_word, is_live, turn_of, grains_of}
-use Rattle.pas_profile.proofs.Codecs.{kind_number_lt, deed_word_of-positive, is_live-live_word, grains_of-live_word}
+use Rattle.pas_profile.proofs.Codecs.{deed_word_of-positive, is_live-live_word, grains_of-live_word}
 use Rattle.pas_bits.specs.{Runs.in_run, Runs.meets_page, Bits.has_bit}
 use Rattle.pas_machine.specs.State.{Live, live_in, deed_in, backed_in, gives_in, ends_in}
 use Rattle.pas_machine.specs.Machine.{Bears, Run}
@@ -53,19 +52,8 @@ record IsOfHeap (l : Whole) (page heap : ℕ) : Type 0 where
   a_deed : word_after l (Word.Deed page) ≢ 0
   heap_is : heap_recorded (word_after l (Word.Deed page)) ≡ heap
 
-recorded : (f : Profile) (d : Directory) → IsValid f → IsDirectoryOf f d → heap_recorded (deed_word_of d) ≡ d.heap
-recorded f d valid of =
-    let kind : kind_number d.kind < 23 = kind_number_lt d.kind of.kind in
-    let low = of.heap in let heaps = valid.heaps in
-    omega (arith, kind, low, heaps)
-
 borne_heap : (f : Profile) (l : Whole) → IsValid f → Legal f l → (heap page : ℕ) → Bears f (visible l) heap page → IsOfHeap l page heap
-borne_heap f l valid legal heap page bears =
-    let word : word_after l (Word.Deed page) ≡ deed_word_of bears.directory = deed_of f l legal page ∙ ap word_of_deed bears.deed in
-    record {
-      a_deed = λ z. deed_word_of-positive bears.directory (sym word ∙ z);
-      heap_is = ap heap_recorded word ∙ recorded f bears.directory valid (directory_is_of f l legal page bears.directory bears.deed) ∙ bears.of_heap;
-    }
+borne_heap f l valid legal heap page bears = search (arith, deed_of, deed_word_of-positive, directory_is_of)
 
 -- the pages of a live block of so many grains have deeds of its heap
 live_heap : (f : Profile) (l : Whole) → IsValid f → Legal f l → (address guess page : ℕ) (b : Live) → live_in (visible l) address ≡ Some b → length_of b.block ≡ guess → 0 < guess → meets_page (address / 16) guess page ≡ true → IsOfHeap l page b.block.heap
@@ -106,8 +94,7 @@ ended_has_deed f l valid legal k page =
     (λ t l legal h.
     let next : IsNext f l t = legal.0 in
     let at : HasEnded l t.made.step t.made.answer = has_ended f l valid legal.1 t.made.step t.made.answer next.of_region next.answer_is in
-    let of : IsOfHeap l page at.heap = at.pages page h in
-    of.a_deed)
+    (at.pages page h).a_deed)
     (λ t l legal ne. λ z. ne (sym (deed_kept l t page ne) ∙ z)) l legal
 
 -- both pages have deeds of one heap
@@ -117,14 +104,7 @@ record AreOfOne (l : Whole) (page other : ℕ) : Type 0 where
   heaps_are : heap_recorded (word_after l (Word.Deed page)) ≡ heap_recorded (word_after l (Word.Deed other))
 
 kept_one : (t : Triple) (l : Whole) (page other : ℕ) → AreOfOne l page other → AreOfOne (t ∷ l) page other
-kept_one t l page other h =
-    let p : word_after (t ∷ l) (Word.Deed page) ≡ word_after l (Word.Deed page) = deed_kept l t page h.a_deed in
-    let q : word_after (t ∷ l) (Word.Deed other) ≡ word_after l (Word.Deed other) = deed_kept l t other h.other_deed in
-    record {
-      a_deed = λ z. h.a_deed (sym p ∙ z);
-      other_deed = λ z. h.other_deed (sym q ∙ z);
-      heaps_are = ap heap_recorded p ∙ h.heaps_are ∙ ap heap_recorded (sym q);
-    }
+kept_one t l page other h = search (arith, deed_kept)
 
 -- two pages of one block that an actor once ended have deeds of one heap
 ended_has_heap : (f : Profile) (l : Whole) → IsValid f → Legal f l → (k page other : ℕ) → EndedOnBoth (part k l) page other → heap_recorded (word_after l (Word.Deed page)) ≡ heap_recorded (word_after l (Word.Deed other))
@@ -146,8 +126,7 @@ deed_more : (x : Bool) (d : Directory) (old : Option Directory) → old ≢ None
 deed_more x d old h = grind arith
 
 back_has : (x : Bool) (q p : ℕ) (es : List Event) (old : Bool) → (q == p) ≡ x → deed_in es q ≢ None → (old ≡ true → deed_in es p ≢ None) → (if x then true else old) ≡ true → deed_in es p ≢ None
-back_has true q p es old e here before h = subst (λ n. deed_in es n ≢ None) (eqb-true q p e) here
-back_has false q p es old e here before h = before h
+back_has x q p es old e here before h = grind (arith, eqb-true)
 
 backed_deed : (f : Profile) (es : List Event) → Run f es → (p : ℕ) → backed_in es p ≡ true → deed_in es p ≢ None
 backed_deed f [] run p h = absurd (false≢true h)
@@ -157,8 +136,7 @@ backed_deed f (Event.Unback k q e ∷ es) run p h = backed_deed f es run.1 p (wa
 backed_deed f (e ∷ es) run p h = backed_deed f es run.1 p h
 
 some_deed : (o : Option Directory) → o ≢ None → word_of_deed o ≢ 0
-some_deed None h = absurd (h refl)
-some_deed (Some d) h = deed_word_of-positive d
+some_deed o h = grind (arith, deed_word_of-positive)
 
 -- the deed word of a page whose backed word is 1
 backed_has_deed : (f : Profile) (l : Whole) → IsValid f → Legal f l → (p : ℕ) → word_after l (Word.Backed p) ≡ 1 → word_after l (Word.Deed p) ≢ 0
@@ -171,10 +149,7 @@ backed_word : (l : Whole) (a q p : ℕ) → a ≡ word_after l (Word.Backed q) �
 backed_word l a q p is e = is ∙ ap (λ n. word_after l (Word.Backed n)) (eqb-true q p e)
 
 backed_read : (l : Whole) (s : Step) (a p : ℕ) → a ≡ word_after l (target s) → reads_backed s p ≡ true → a ≡ word_after l (Word.Backed p)
-backed_read l (Look (Word.Backed q)) a p is h = backed_word l a q p is h
-backed_read l (Back q) a p is h = backed_word l a q p is h
-backed_read l (Unback q) a p is h = backed_word l a q p is h
-backed_read l s a p is h = absurd (false≢true h)
+backed_read l s a p is h = grind (arith, backed_word, false≢true)
 
 -- a page that an actor once read as backed has a deed
 read_backed : (f : Profile) (l : Whole) → IsValid f → Legal f l → (k p : ℕ) → ReadBacked (part k l) p → word_after l (Word.Deed p) ≢ 0
@@ -185,11 +160,7 @@ read_backed f l valid legal k p =
 
 -- ---- a block that was read as live
 life_read : (l : Whole) (s : Step) (a g : ℕ) → a ≡ word_after l (target s) → reads_life s g ≡ true → a ≡ word_after l (life_word_at g)
-life_read l (Look word) a g is h = look_is l (Look word) a g is h
-life_read l (Give block) a g is h = word_is l a (grain_of block.name) g is h
-life_read l (End name guess) a g is h = word_is l a (grain_of name) g is h
-life_read l (EndSized name room) a g is h = word_is l a (grain_of name) g is h
-life_read l s a g is h = absurd (false≢true h)
+life_read l s a g is h = grind (arith, look_is, word_is, false≢true)
 
 -- a block of so many grains was given at the grain, with this turn
 record WasThere (l : Whole) (g turn grains : ℕ) : Type 0 where
@@ -217,8 +188,7 @@ there f l g word turn grains gives ends (Some b) is gave life alive t n =
     }
 
 event_kept : (f : Profile) (o : Option Event) (es : List Event) (block : Block) → Run f (with_event o es) → WasGiven es block → WasGiven (with_event o es) block
-event_kept f None es block run given = given
-event_kept f (Some e) es block run given = one_more f e es block run.0 given
+event_kept f o es block run given = grind (arith, one_more)
 
 was_there : (f : Profile) (l : Whole) → IsValid f → Legal f l → (k g turn grains : ℕ) → ReadLive (part k l) g turn grains → WasThere l g turn grains
 was_there f l valid legal k g turn grains =
@@ -238,12 +208,7 @@ was_there f l valid legal k g turn grains =
 
 same_grains : (f : Profile) (g word : ℕ) (live : Option Live) (gives ends : ℕ) (block : Block) → IsLifeOf f g word live gives ends → ((b : Live) → live ≡ Some b → b.block.name.turn ≡ block.name.turn → b.block ≡ block)
     → is_live word ≡ true → turn_of word ≡ block.name.turn → grains_of word ≡ length_of block
-same_grains f g word None gives ends block life same alive t = let big : 2 ^ 63 ≤ word = leb-true (2 ^ 63) word alive in absurd (omega (arith, life.word_is, life.few, big))
-same_grains f g word (Some b) gives ends block life same alive t =
-    let w = life.word_is in let few = life.few in let short = life.short in
-    let e : ends ≡ block.name.turn = omega (arith, w, few, t) in
-    let n : grains_of word ≡ length_of b.block = omega (arith, w, few, short) in
-    n ∙ ap length_of (same b refl (life.turn ∙ e))
+same_grains f g word live gives ends block life same alive t = grind (arith, leb-true)
 
 -- a block that an actor once read as live, and that still lives, has the length that it had then
 read_again : (f : Profile) (l : Whole) → IsValid f → Legal f l → (k g grains : ℕ) → is_live (word_after l (life_word_at g)) ≡ true → ReadLive (part k l) g (turn_of (word_after l (life_word_at g))) grains → grains_of (word_after l (life_word_at g)) ≡ grains
@@ -265,9 +230,7 @@ deed_agrees f l valid legal k page a is = record {
   known = λ ne. is ∙ sym (known_is (known_deed (part k l) page) (word_after l (Word.Deed page)) (deeds_known f l legal k page) ne);
   backed = λ read z. read_backed f l valid legal k page read (sym is ∙ z);
   ended = λ end z. ended_has_deed f l valid legal k page end (sym is ∙ z);
-  heap = λ other end ne.
-      ap heap_recorded is ∙ ended_has_heap f l valid legal k page other end
-      ∙ ap heap_recorded (sym (known_is (known_deed (part k l) other) (word_after l (Word.Deed other)) (deeds_known f l legal k other) ne));
+  heap = search (arith, ended_has_heap, known_is, deeds_known);
 }
 
 word_at : (l : Whole) (page word a g : ℕ) → a ≡ word_after l (Word.Free page word) → g / 256 ≡ page → g / 64 % 4 ≡ word → a ≡ word_after l (free_word_at g)
@@ -287,11 +250,7 @@ backed_agrees f l valid legal k page a is = record { small = omega (arith, is, b
 -- ---- life words
 -- a live block has a length that fits the region
 length_fits : (f : Profile) (g word : ℕ) (live : Option Live) (gives ends : ℕ) → IsLifeOf f g word live gives ends → is_live word ≡ true → (1 ≤ grains_of word) × (grains_of word ≤ 256 * f.pages)
-length_fits f g word None gives ends life h = absurd (omega (arith, life.word_is, life.few, leb-true (2 ^ 63) word h))
-length_fits f g word (Some b) gives ends life h =
-    let n : ℕ = length_of b.block in
-    let is : grains_of word ≡ length_of b.block = ap grains_of life.word_is ∙ omega (arith, life.few, life.short) in
-    (omega (arith, is, life.some), omega (arith, is, life.first, life.last))
+length_fits f g word live gives ends life h = grind (arith, leb-true)
 
 word_length : (f : Profile) (l : Whole) → IsValid f → Legal f l → (g : ℕ) → is_live (word_after l (life_word_at g)) ≡ true → (1 ≤ grains_of (word_after l (life_word_at g))) × (grains_of (word_after l (life_word_at g)) ≤ 256 * f.pages)
 word_length f l valid legal g = length_fits f g (word_after l (life_word_at g)) (live_in (visible l) (16 * g)) (gives_in (visible l) (16 * g)) (ends_in (visible l) (16 * g)) (life_of f l valid legal g)
@@ -301,23 +260,18 @@ covered_is_free : (f : Profile) (l : Whole) → IsValid f → Legal f l → (k g
 covered_is_free f l valid legal k g x live inside = false_from_ne_true (holds (part k l) x) (λ h.
     let at : IsPlacedOnce l x = placed_once f l valid legal x in
     let covered : covers (word_after l (life_word_at g)) g x ≡ true = and_from (is_live (word_after l (life_word_at g))) (in_run g (grains_of (word_after l (life_word_at g))) x) live inside in
-    let not_covered : covers (word_after l (life_word_at g)) g x ≡ false = at.covered g ∙ ap (is_covered_by g) (held_place l k x at h) in
-    false≢true (sym not_covered ∙ covered))
+    false≢true (sym (at.covered g ∙ ap (is_covered_by g) (held_place l k x at h)) ∙ covered))
 
 -- no block lives at a grain that is held
 held_is_dead : (f : Profile) (l : Whole) → IsValid f → Legal f l → (k g : ℕ) → holds (part k l) g ≡ true → is_live (word_after l (life_word_at g)) ≡ false
-held_is_dead f l valid legal k g h = false_from_ne_true (is_live (word_after l (life_word_at g))) (λ live.
-    let own : in_run g (grains_of (word_after l (life_word_at g))) g ≡ true = first_of_run g (grains_of (word_after l (life_word_at g))) (word_length f l valid legal g live).0 in
-    false≢true (sym (covered_is_free f l valid legal k g g live own) ∙ h))
+held_is_dead f l valid legal k g h = search (arith, false_from_ne_true, first_of_run, word_length, false≢true, covered_is_free)
 
 -- a life word is that of a live block, or the turn alone
 live_codec : (f : Profile) (g word : ℕ) (live : Option Live) (gives ends : ℕ) → IsLifeOf f g word live gives ends → is_live word ≡ true → word ≡ live_word (turn_of word) (grains_of word)
-live_codec f g word None gives ends life h = absurd (omega (arith, life.word_is, life.few, leb-true (2 ^ 63) word h))
-live_codec f g word (Some b) gives ends life h = omega (arith, life.word_is, life.few, life.short)
+live_codec f g word live gives ends life h = grind (arith, leb-true)
 
 turn_codec : (f : Profile) (g word : ℕ) (live : Option Live) (gives ends : ℕ) → IsLifeOf f g word live gives ends → is_live word ≡ false → word ≡ turn_of word
-turn_codec f g word None gives ends life h = omega (arith, life.word_is, life.few)
-turn_codec f g word (Some b) gives ends life h = absurd (false≢true (sym h ∙ live_is_live f g word b gives ends life))
+turn_codec f g word live gives ends life h = grind (arith, false≢true, live_is_live)
 
 life_agrees : (f : Profile) (l : Whole) → IsValid f → Legal f l → (k g a : ℕ) → a ≡ word_after l (life_word_at g) → AgreesLife f (part k l) g a
 life_agrees f l valid legal k g a is = subst (AgreesLife f (part k l) g) (sym is) record {
@@ -347,19 +301,14 @@ end_agrees f l valid legal k name guess a of is = record {
   apart = end_apart f l valid legal k name guess a of is;
 }
 
+-- the grain of a page, by division with 256
 life_at : (l : Whole) (page grain : ℕ) → grain < 256 → word_after l (Word.Life page grain) ≡ word_after l (life_word_at (page * 256 + grain))
-life_at l page grain small =
-    let p : page ≡ (page * 256 + grain) / 256 = omega arith in
-    let g : grain ≡ (page * 256 + grain) % 256 = omega arith in
-    ap (λ x. word_after l (Word.Life x grain)) p ∙ ap (λ x. word_after l (Word.Life ((page * 256 + grain) / 256) x)) g
+life_at l page grain small = search arith
 
 -- ---- page vectors
--- bit b of word j of a page vector is that of the page
+-- bit b of word j of a page vector is that of the page, by division with 64
 bit_of_page : (words : ℕ → ℕ) (j b a : ℕ) → b < 64 → a ≡ words j → has_bit a b ≡ has_bit (words ((64 * j + b) / 64)) ((64 * j + b) % 64)
-bit_of_page words j b a small is =
-    let word : j ≡ (64 * j + b) / 64 = omega (arith, small) in
-    let bit : b ≡ (64 * j + b) % 64 = omega (arith, small) in
-    ap (λ n. has_bit n b) (is ∙ ap words word) ∙ ap (λ i. has_bit (words ((64 * j + b) / 64)) i) bit
+bit_of_page words j b a small is = search arith
 
 parked_at : (l : Whole) (j b a : ℕ) → b < 64 → a ≡ word_after l (Word.Parked j) → has_bit a b ≡ parked_bit l (64 * j + b)
 parked_at l j b a small is = bit_of_page (λ i. word_after l (Word.Parked i)) j b a small is

@@ -1,6 +1,6 @@
 -- Deed words and backed words: what of them stays, of which directories and pages they are, and that they are those of the machine.
-use Rattle.std.proofs.Common.{◌≡◌, ◌≢◌, ℕ, ◌==◌, Bool, true, false, if◌then◌else◌, [], ◌∷◌, refl, ap, sym, ◌∙◌, subst, arith, ◌⊎◌, inl, inr, not, ◌&&◌, List}
-use Rattle.std.proofs.Common.{Option, Some, None, bit_or, ◌/◌, eqb-true, ne_eqb}
+use Rattle.std.proofs.Common.{◌≡◌, ◌≢◌, ℕ, ◌==◌, Bool, true, false, if◌then◌else◌, [], ◌∷◌, refl, ap, sym, ◌∙◌, arith, ◌⊎◌, inl, inr, not, ◌&&◌, List, Option}
+use Rattle.std.proofs.Common.{Some, None, bit_or, ◌/◌, eqb-true, ne_eqb}
 use Rattle.std.proofs.lemmas.{Bool.cases_eq, Bool.cond_both, Option.same_Some, Bool.Decides.nat_tests}
 use Rattle.pas_profile.specs.Directories.{IsKind, number_of, deed_word_of, deed_word_numbered}
 use Rattle.pas_profile.specs.{Layouts.same_word, Profiles.IsPage, Profiles.IsDirectoryOf, Lives.live_word, Lives.is_live, Lives.turn_of}
@@ -30,28 +30,21 @@ abbrev pub IsKnown : ℕ → ℕ → Type 0
 IsKnown known word = (known ≡ 0) ⊎ (known ≡ word)
 
 pub known_is : (known word : ℕ) → IsKnown known word → known ≢ 0 → known ≡ word
-known_is known word (inl z) ne = absurd (ne z)
-known_is known word (inr e) ne = e
+known_is known word e ne = grind arith
 
 deed_stays : (x : Bool) (d : Directory) (old known : ℕ) → IsKnown known old → IsKnown known (if x then (if old == 0 then deed_word_of d else old) else old)
-deed_stays false d old known h = h
-deed_stays true d old known (inl h) = inl h
-deed_stays true d old known (inr h) = elim (cases_eq old 0) [ inl e ↦ inl (h ∙ e) | inr ne ↦ inr (h ∙ sym (ap (λ z. if z then deed_word_of d else old) (ne_eqb old 0 ne))) ]
+deed_stays x d old known h = grind (arith, cases_eq, ne_eqb)
 
 -- what is known of a deed word stays true
 pub word_stays : (e : ℕ) (s : Step) (p old known : ℕ) → IsKnown known old → IsKnown known (next_value e s (Word.Deed p) old)
-word_stays e (Look w) p old known h = subst (IsKnown known) (sym (looked (same_word w (Word.Deed p)) old)) h
-word_stays e (Deed q d) p old known h = deed_stays (q == p) d old known h
-word_stays e s p old known h = h
+word_stays e s p old known h = grind (arith, looked, deed_stays)
 
 pub deed_tells : (x : Bool) (d : Directory) (old a known : ℕ) → (x ≡ true → a ≡ old) → IsKnown known old
     → IsKnown (if x then (if a == 0 then deed_word_of d else a) else known) (if x then (if old == 0 then deed_word_of d else old) else old)
-deed_tells true d old a known is h = inr (ap (λ n. if n == 0 then deed_word_of d else n) (is refl))
-deed_tells false d old a known is h = h
+deed_tells x d old a known is h = grind arith
 
 pub look_tells : (x : Bool) (old a known : ℕ) → (x ≡ true → a ≡ old) → IsKnown known old → IsKnown (if x then a else known) (if x then old else old)
-look_tells true old a known is h = inr (is refl)
-look_tells false old a known is h = h
+look_tells x old a known is h = grind arith
 
 pub deed_at : (l : Whole) (a q p : ℕ) → a ≡ word_after l (Word.Deed q) → (q == p) ≡ true → a ≡ word_after l (Word.Deed p)
 deed_at l a q p is t = is ∙ ap (λ n. word_after l (Word.Deed n)) (eqb-true q p t)
@@ -66,14 +59,10 @@ deed_was_none l t p gone = elim (word_stays (epoch_of (part t.actor l)) t.made.s
 
 -- ---- each deed word is that of a directory of the profile
 deed_written : (f : Profile) (x z : Bool) (d : Directory) (old : ℕ) → IsDirectoryOf f d → IsDeedWord f old → IsDeedWord f (if x then (if z then deed_word_of d else old) else old)
-deed_written f true true d old of h = λ ne. (d, refl, of)
-deed_written f true false d old of h = h
-deed_written f false z d old of h = h
+deed_written f x z d old of h = grind arith
 
 deed_word_next : (f : Profile) (e : ℕ) (s : Step) (p old : ℕ) → IsStepOf f s → IsDeedWord f old → IsDeedWord f (next_value e s (Word.Deed p) old)
-deed_word_next f e (Look w) p old of h = subst (IsDeedWord f) (sym (looked (same_word w (Word.Deed p)) old)) h
-deed_word_next f e (Deed q d) p old of h = deed_written f (q == p) (old == 0) d old of.1 h
-deed_word_next f e s p old of h = h
+deed_word_next f e s p old of h = grind (arith, looked, deed_written)
 
 pub deed_words : (f : Profile) (l : Whole) → Legal f l → (p : ℕ) → IsDeedWord f (word_after l (Word.Deed p))
 deed_words f [] legal p = λ ne. absurd (ne refl)
@@ -83,13 +72,10 @@ deed_words f (t ∷ l) legal p =
 
 -- ---- only pages have deeds
 page_if : (f : Profile) (x : Bool) (q p new old : ℕ) → (q == p) ≡ x → IsPage f q → (old ≢ 0 → IsPage f p) → (if x then new else old) ≢ 0 → IsPage f p
-page_if f true q p new old e of h ne = subst (IsPage f) (eqb-true q p e) of
-page_if f false q p new old e of h ne = h ne
+page_if f x q p new old e of h ne = grind (arith, eqb-true)
 
 deed_page_next : (f : Profile) (e : ℕ) (s : Step) (p old : ℕ) → IsStepOf f s → (old ≢ 0 → IsPage f p) → next_value e s (Word.Deed p) old ≢ 0 → IsPage f p
-deed_page_next f e (Look w) p old of h ne = h (λ z. ne (looked (same_word w (Word.Deed p)) old ∙ z))
-deed_page_next f e (Deed q d) p old of h ne = page_if f (q == p) q p (if old == 0 then deed_word_of d else old) old refl of.0 h ne
-deed_page_next f e s p old of h ne = h ne
+deed_page_next f e s p old of h ne = grind (arith, looked, page_if)
 
 -- what has a deed is a page of the profile
 pub deed_has_page : (f : Profile) (l : Whole) → Legal f l → (p : ℕ) → word_after l (Word.Deed p) ≢ 0 → IsPage f p
@@ -113,16 +99,12 @@ pub event_if : (P : List Event → Type 0) (z : Bool) (e : Event) (es : List Eve
 event_if P z e es new old = cond_both z (Some e) None (λ o. P (with_event o es)) (λ made. new) (λ none. old)
 
 pub end_if : (P : List Event → Type 0) (z y : Bool) (end reject : Event) (es : List Event) → (z ≡ true → P (end ∷ es)) → P (reject ∷ es) → P es → P (with_event (if z then Some end else (if y then None else Some reject)) es)
-end_if P z y end reject es ended rejected old = cond_both z (Some end) (if y then None else Some reject) (λ o. P (with_event o es)) ended
-    (λ missed. cond_both y None (Some reject) (λ o. P (with_event o es)) (λ silent. old) (λ told. rejected))
+end_if P z y end reject es ended rejected old = search (arith, cond_both)
 
 -- ---- deeds
 deed_agrees : (x z : Bool) (k q : ℕ) (d : Directory) (p old a : ℕ) (es : List Event) → (q == p) ≡ x → (x ≡ true → a ≡ old) → (a == 0) ≡ z → old ≡ word_of_deed (deed_in es p)
     → (if x then (if old == 0 then deed_word_of d else old) else old) ≡ word_of_deed (deed_in (with_event (if z then Some (Event.Deed k q d) else None) es) p)
-deed_agrees true true k q d p old a es xe is ze h = ap (λ n. if n == 0 then deed_word_of d else n) (sym (is refl) ∙ eqb-true a 0 ze) ∙ ap (λ b. word_of_deed (if b then Some d else deed_in es p)) (sym xe)
-deed_agrees true false k q d p old a es xe is ze h = ap (λ n. if n == 0 then deed_word_of d else old) (sym (is refl)) ∙ ap (λ b. if b then deed_word_of d else old) ze ∙ h
-deed_agrees false true k q d p old a es xe is ze h = h ∙ ap (λ b. word_of_deed (if b then Some d else deed_in es p)) (sym xe)
-deed_agrees false false k q d p old a es xe is ze h = h
+deed_agrees x z k q d p old a es xe is ze h = grind (arith, eqb-true)
 
 deed_step : (l : Whole) (k e : ℕ) (s : Step) (a p : ℕ) → a ≡ word_after l (target s) → word_after l (Word.Deed p) ≡ word_of_deed (deed_in (visible l) p)
     → (if same_word (target s) (Word.Deed p) then new_value e s (word_after l (Word.Deed p)) else word_after l (Word.Deed p)) ≡ word_of_deed (deed_in (with_event (event_of k e s a) (visible l)) p)
@@ -143,12 +125,10 @@ abbrev AreOf : Profile → List Event → Type 0
 AreOf f es = (p : ℕ) (d : Directory) → deed_in es p ≡ Some d → IsDirectoryOf f d
 
 one_directory : (f : Profile) (x : Bool) (d : Directory) (old : Option Directory) (d' : Directory) → IsDirectoryOf f d → (old ≡ Some d' → IsDirectoryOf f d') → (if x then Some d else old) ≡ Some d' → IsDirectoryOf f d'
-one_directory f true d old d' of rest is = subst (IsDirectoryOf f) (same_Some d d' is) of
-one_directory f false d old d' of rest is = rest is
+one_directory f x d old d' of rest is = grind (arith, same_Some)
 
 directory_if : (f : Profile) (z : Bool) (k q : ℕ) (d : Directory) (es : List Event) → IsDirectoryOf f d → AreOf f es → AreOf f (with_event (if z then Some (Event.Deed k q d) else None) es)
-directory_if f true k q d es of rest p d' is = one_directory f (q == p) d (deed_in es p) d' of (rest p d') is
-directory_if f false k q d es of rest p d' is = rest p d' is
+directory_if f z k q d es of rest p d' is = grind (arith, one_directory)
 
 directory_step : (f : Profile) (k e : ℕ) (s : Step) (a : ℕ) (es : List Event) → IsStepOf f s → AreOf f es → AreOf f (with_event (event_of k e s a) es)
 directory_step f k e (Deed q d) a es of rest = directory_if f (a == 0) k q d es of.1 rest
@@ -163,18 +143,14 @@ directory_is_of f (t ∷ l) legal p d is = directory_step f t.actor (epoch_of (p
 
 -- ---- backed pages
 or_one : (b : Bool) (old : ℕ) → old ≡ word_of_backed b → bit_or old 1 ≡ 1
-or_one true old h = ap (λ n. bit_or n 1) h
-or_one false old h = ap (λ n. bit_or n 1) h
+or_one b old h = grind arith
 
 pub is_backed : (z : Bool) (b : Bool) (n : ℕ) → n ≡ word_of_backed b → (n == 0) ≡ z → b ≡ not z
 is_backed z b n h e = grind (arith, nat_tests)
 
 back_agrees : (x z : Bool) (k q p old a : ℕ) (es : List Event) → (q == p) ≡ x → (x ≡ true → a ≡ old) → (a == 0) ≡ z → old ≡ word_of_backed (backed_in es p)
     → (if x then bit_or old 1 else old) ≡ word_of_backed (backed_in (with_event (if z then Some (Event.Back k q) else None) es) p)
-back_agrees true true k q p old a es xe is ze h = or_one (backed_in es p) old h ∙ ap (λ b. word_of_backed (if b then true else backed_in es p)) (sym xe)
-back_agrees true false k q p old a es xe is ze h = or_one (backed_in es p) old h ∙ ap word_of_backed (sym (is_backed false (backed_in es p) old h (ap (λ n. n == 0) (sym (is refl)) ∙ ze)))
-back_agrees false true k q p old a es xe is ze h = h ∙ ap (λ b. word_of_backed (if b then true else backed_in es p)) (sym xe)
-back_agrees false false k q p old a es xe is ze h = h
+back_agrees x z k q p old a es xe is ze h = grind (arith, or_one, is_backed)
 
 unback_agrees : (x : Bool) (old : ℕ) (was : Bool) → old ≡ word_of_backed was → (if x then 0 else old) ≡ word_of_backed (if x then false else was)
 unback_agrees x old was h = grind arith

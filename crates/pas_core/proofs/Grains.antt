@@ -4,8 +4,7 @@ use Rattle.std.proofs.Common.{refl, ap, sym, ◌∙◌, arith, bit_and, bit_or, 
 use Rattle.std.specs.Int.{bit_not}
 use Rattle.std.proofs.lemmas.{Nat.Bits.bit_at_ones, Bool.and_parts, Bool.lt-leb, Bool.cond_both, Bool.Decides.nat_tests}
 use Rattle.pas_bits.specs.{Bits.has_bit, Runs.in_run}
-use Rattle.pas_profile.specs.{Layouts.same_word, Lives.live_word, Lives.is_live, Lives.grains_of, Profiles.IsValid, Blocks.address_of, Blocks.grain_of}
-use Rattle.pas_profile.specs.{Blocks.length_of}
+use Rattle.pas_profile.specs.{Layouts.same_word, Lives.live_word, Profiles.IsValid, Blocks.address_of, Blocks.grain_of, Blocks.length_of}
 use Rattle.pas_profile.specs.declared.{profile.Profile.Profile, name.Block.Block, word.Word.Word}
 use Rattle.pas_steps.specs.Effects.{free_word_at, life_word_at, in_mask, target, new_value}
 use Rattle.pas_steps.specs.Views.{Move, Stays, Gets, Puts, Gives, Ends, grain_move, held_after, holds, epoch_of}
@@ -25,9 +24,7 @@ life_same c b = grind (arith, nat_tests)
 
 -- the free word of a page that a grain stands in
 free_same : (l : Whole) (page word g : ℕ) → ((word == g / 64 % 4) && (page == g / 256)) ≡ true → word_after l (Word.Free page word) ≡ word_after l (free_word_at g)
-free_same l page word g h =
-    let parts = and_parts (word == g / 64 % 4) (page == g / 256) h in
-    ap (λ w. word_after l (Word.Free page w)) (eqb-true word (g / 64 % 4) parts.0) ∙ ap (λ p. word_after l (Word.Free p (g / 64 % 4))) (eqb-true page (g / 256) parts.1)
+free_same l page word g h = search (arith, and_parts, eqb-true)
 
 -- ---- the numbers of a step of a valid profile fit
 pub give_short : (f : Profile) (address room : ℕ) → IsValid f → address + room ≤ 4096 * (f.pages + 1) → room / 16 < 2 ^ 23
@@ -49,28 +46,19 @@ Fits j (Gives a) o = o ≡ Held j
 Fits j (Ends a) o = o ≡ Covered a
 
 is_free-true : (o : Place) → is_free o ≡ true → o ≡ IsFree
-is_free-true IsFree h = refl
-is_free-true s h = cc
+is_free-true s h = grind arith
 
 pub is_held_by-true : (k : ℕ) (o : Place) → is_held_by k o ≡ true → o ≡ Held k
-is_held_by-true k (Held j) h = ap Held (eqb-true j k h)
-is_held_by-true k s h = cc
+is_held_by-true k s h = grind (arith, eqb-true)
 
 is_covered_by-true : (b : ℕ) (o : Place) → is_covered_by b o ≡ true → o ≡ Covered b
-is_covered_by-true b (Covered a) h = ap Covered (eqb-true a b h)
-is_covered_by-true b s h = cc
+is_covered_by-true b s h = grind (arith, eqb-true)
 
 own_next : (m : Move) (o : Place) (j k : ℕ) (had : Bool) → had ≡ is_held_by k o → (j == k) ≡ true → held_after m had ≡ is_held_by k (place_after j m o)
-own_next Stays o j k had is e = is
-own_next Puts o j k had is e = refl
-own_next (Gives a) o j k had is e = refl
-own_next s o j k had is e = sym e
+own_next s o j k had is e = grind arith
 
 other_next : (m : Move) (o : Place) (j k : ℕ) (had : Bool) → had ≡ is_held_by k o → Fits j m o → (j == k) ≡ false → had ≡ is_held_by k (place_after j m o)
-other_next Stays o j k had is fits e = is
-other_next Puts o j k had is fits e = is ∙ ap (is_held_by k) fits ∙ e
-other_next (Gives a) o j k had is fits e = is ∙ ap (is_held_by k) fits ∙ e
-other_next s o j k had is fits e = is ∙ ap (is_held_by k) fits ∙ sym e
+other_next s o j k had is fits e = grind arith
 
 abbrev pub free_moved : Move → Bool → Bool
 free_moved Gets was = false
@@ -78,9 +66,7 @@ free_moved Puts was = true
 free_moved s was = was
 
 free_next : (j : ℕ) (m : Move) (o : Place) → Fits j m o → free_moved m (is_free o) ≡ is_free (place_after j m o)
-free_next j (Gives a) o h = ap is_free h
-free_next j (Ends a) o h = ap is_free h
-free_next j s o h = refl
+free_next j s o h = grind arith
 
 abbrev covered_moved : Move → ℕ → Bool → Bool
 covered_moved (Gives a) b was = if a == b then true else was
@@ -94,10 +80,7 @@ pub if_false : (t : Bool) → (if t then false else t) ≡ false
 if_false t = grind arith
 
 covered_next : (j : ℕ) (m : Move) (b : ℕ) (o : Place) → Fits j m o → covered_moved m b (is_covered_by b o) ≡ is_covered_by b (place_after j m o)
-covered_next j Stays b o h = refl
-covered_next j (Gives a) b o h = ap (λ x. if a == b then true else is_covered_by b x) h ∙ if_true (a == b)
-covered_next j (Ends a) b o h = ap (λ x. if a == b then false else is_covered_by b x) h ∙ if_false (a == b)
-covered_next j s b o h = ap (is_covered_by b) h
+covered_next j s b o h = grind (arith, if_true, if_false)
 
 -- ---- the free words
 take_cases : (x y : Bool) → (x && not y) ≡ free_moved (if y && x then Gets else Stays) x
@@ -108,13 +91,10 @@ put_cases x y = grind arith
 
 take_free : (t : Bool) (old a mask b : ℕ) → (t ≡ true → a ≡ old) → mask < 2 ^ 64 → b < 64
     → has_bit (if t then bit_and old (bit_not w64 mask) else old) b ≡ free_moved (if (t && has_bit mask b) && has_bit a b then Gets else Stays) (has_bit old b)
-take_free true old a mask b same hm hb = bit_cleared old mask b hm hb ∙ take_cases (has_bit old b) (has_bit mask b)
-    ∙ ap (λ n. free_moved (if has_bit mask b && has_bit n b then Gets else Stays) (has_bit old b)) (sym (same refl))
-take_free false old a mask b same hm hb = refl
+take_free t old a mask b same hm hb = grind (arith, bit_cleared, take_cases)
 
 put_free : (t : Bool) (old mask b : ℕ) → has_bit (if t then bit_or old mask else old) b ≡ free_moved (if t && has_bit mask b then Puts else Stays) (has_bit old b)
-put_free true old mask b = bit_of_or old mask b ∙ put_cases (has_bit old b) (has_bit mask b)
-put_free false old mask b = refl
+put_free t old mask b = grind (arith, bit_of_or, put_cases)
 
 rests_free : (t was : Bool) (m : Move) → free_moved m was ≡ was → was ≡ free_moved (if t then m else Stays) was
 rests_free t was m h = cond_both t m Stays (λ x. was ≡ free_moved x was) (λ here. sym h) (λ other. refl)
@@ -132,10 +112,7 @@ free_step f l e s a g of is = refl
 
 -- ---- the life words
 pub covers_live : (turn n b g : ℕ) → turn < 2 ^ 40 → n < 2 ^ 23 → covers (live_word turn n) b g ≡ in_run b n g
-covers_live turn n b g ht hn =
-    let length_is : (turn + n * 2 ^ 40 + 2 ^ 63) / 2 ^ 40 % 2 ^ 23 ≡ n = omega arith in
-    ap (λ t. t && (nat_le b g && nat_lt g (b + live_word turn n / 2 ^ 40 % 2 ^ 23))) (le-leb (2 ^ 63) (live_word turn n) (omega arith))
-    ∙ ap (λ m. nat_le b g && nat_lt g (b + m)) length_is
+covers_live turn n b g ht hn = search (arith, le-leb)
 
 covers_ended : (turn b g : ℕ) → turn < 2 ^ 40 → covers turn b g ≡ false
 covers_ended turn b g ht = ap (λ t. t && (nat_le b g && nat_lt g (b + turn / 2 ^ 40 % 2 ^ 23))) (lt-leb (2 ^ 63) turn (omega arith))
@@ -149,32 +126,18 @@ pub some_grain : (room : ℕ) → room % 16 ≡ 0 → 0 < room → 0 < room / 16
 some_grain room whole some = omega arith
 
 not_covering : (f : Profile) (l : Whole) (k : ℕ) (block : Block) (g : ℕ) → IsPlacedOnce l (grain_of block.name) → Allowed f (part k l) (Give block) → covers (word_after l (life_word_at (grain_of block.name))) (grain_of block.name) g ≡ false
-not_covering f l k block g at allowed =
-    let c : ℕ = grain_of block.name in
-    let here : at.place ≡ Held k = is_held_by-true k at.place (sym (at.held k) ∙ allowed.held (grain_of block.name) (first_of_run (grain_of block.name) (length_of block) (some_grain block.room allowed.whole allowed.some))) in
-    none_covers (is_live (word_after l (life_word_at (grain_of block.name)))) (grain_of block.name) g (grains_of (word_after l (life_word_at (grain_of block.name)))) (at.covered (grain_of block.name) ∙ ap (is_covered_by (grain_of block.name)) here)
+not_covering f l k block g at allowed = search (arith, is_held_by-true, first_of_run, some_grain, none_covers)
 
 rests_covered : (t was : Bool) (m : Move) (b : ℕ) → covered_moved m b was ≡ was → was ≡ covered_moved (if t then m else Stays) b was
 rests_covered t was m b h = cond_both t m Stays (λ x. was ≡ covered_moved x b was) (λ here. sym h) (λ other. refl)
 
 give_covers : (x y : Bool) (c b g turn n old : ℕ) → y ≡ (c == b) → (c == b) ≡ x → turn < 2 ^ 40 → n < 2 ^ 23 → (x ≡ true → covers old b g ≡ false) → (r : Bool) → in_run c n g ≡ r
     → covers (if y then live_word turn n else old) b g ≡ covered_moved (if r then Gives c else Stays) b (covers old b g)
-give_covers true y c b g turn n old ye e ht hn dead true run = ap (λ t. covers (if t then live_word turn n else old) b g) (ye ∙ e) ∙ covers_live turn n b g ht hn ∙ ap (λ x. in_run x n g) (sym (eqb-true c b e)) ∙ run ∙ ap (λ t. if t then true else covers old b g) (sym e)
-give_covers true y c b g turn n old ye e ht hn dead false run = ap (λ t. covers (if t then live_word turn n else old) b g) (ye ∙ e) ∙ covers_live turn n b g ht hn ∙ ap (λ x. in_run x n g) (sym (eqb-true c b e)) ∙ run ∙ sym (dead refl)
-give_covers false y c b g turn n old ye e ht hn dead true run = ap (λ t. covers (if t then live_word turn n else old) b g) (ye ∙ e) ∙ ap (λ t. if t then true else covers old b g) (sym e)
-give_covers false y c b g turn n old ye e ht hn dead false run = ap (λ t. covers (if t then live_word turn n else old) b g) (ye ∙ e)
+give_covers x y c b g turn n old ye e ht hn dead r run = grind (arith, covers_live, eqb-true)
 
 end_covers : (x : Bool) (c b g turn n old a : ℕ) → (c == b) ≡ x → turn < 2 ^ 40 - 1 → n < 2 ^ 23 → (x ≡ true → a ≡ old) → (z : Bool) → (a == live_word turn n) ≡ z → (r : Bool) → in_run c n g ≡ r
     → covers (if x then (if old == live_word turn n then turn + 1 else old) else old) b g ≡ covered_moved (if z && r then Ends c else Stays) b (covers old b g)
-end_covers true c b g turn n old a e ht hn same true is true run =
-    ap (λ t. covers (if t then (turn + 1) else old) b g) (ap (λ m. m == live_word turn n) (sym (same refl)) ∙ is) ∙ covers_ended (turn + 1) b g (omega arith) ∙ ap (λ t. if t then false else covers old b g) (sym e)
-end_covers true c b g turn n old a e ht hn same true is false run =
-    ap (λ t. covers (if t then (turn + 1) else old) b g) (ap (λ m. m == live_word turn n) (sym (same refl)) ∙ is) ∙ covers_ended (turn + 1) b g (omega arith)
-    ∙ sym (ap (λ m. covers m b g) (sym (same refl) ∙ eqb-true a (live_word turn n) is) ∙ covers_live turn n b g (omega arith) hn ∙ ap (λ x. in_run x n g) (sym (eqb-true c b e)) ∙ run)
-end_covers true c b g turn n old a e ht hn same false is r run = ap (λ t. covers (if t then (turn + 1) else old) b g) (ap (λ m. m == live_word turn n) (sym (same refl)) ∙ is)
-end_covers false c b g turn n old a e ht hn same true is true run = ap (λ t. if t then false else covers old b g) (sym e)
-end_covers false c b g turn n old a e ht hn same true is false run = refl
-end_covers false c b g turn n old a e ht hn same false is r run = refl
+end_covers x c b g turn n old a e ht hn same z is r run = grind (arith, covers_ended, eqb-true, covers_live)
 
 covered_step : (f : Profile) (l : Whole) (k e : ℕ) (s : Step) (a g b : ℕ) → IsValid f → ((g : ℕ) → IsPlacedOnce l g) → IsStepOf f s → Allowed f (part k l) s → a ≡ word_after l (target s)
     → covers (if same_word (target s) (life_word_at b) then new_value e s (word_after l (life_word_at b)) else word_after l (life_word_at b)) b g ≡ covered_moved (grain_move s a g) b (covers (word_after l (life_word_at b)) b g)
@@ -186,13 +149,9 @@ covered_step f l k e (Give block) a g b valid placed of allowed is =
     of.turn (give_short f (address_of block.name) block.room valid of.last)
     (λ e. ap (λ x. covers (word_after l (life_word_at x)) x g) (sym (eqb-true (grain_of block.name) b e)) ∙ not_covering f l k block g (placed (grain_of block.name)) allowed) (in_run (grain_of block.name) (length_of block) g) refl
 covered_step f l k e (End name guess) a g b valid placed of allowed is =
-    ap (λ t. covers (if t then (if word_after l (life_word_at b) == live_word name.turn guess then name.turn + 1 else word_after l (life_word_at b)) else word_after l (life_word_at b)) b g) (life_same (grain_of name) b)
-    ∙ end_covers (grain_of name == b) (grain_of name) b g name.turn guess (word_after l (life_word_at b)) a refl of.2 (guess_fits guess f.pages valid.pages of.4)
-    (λ e. is ∙ ap (λ x. word_after l (life_word_at x)) (eqb-true (grain_of name) b e)) (a == live_word name.turn guess) refl (in_run (grain_of name) guess g) refl
+    search (arith, life_same, end_covers, guess_fits, eqb-true)
 covered_step f l k e (EndSized name room) a g b valid placed of allowed is =
-    ap (λ t. covers (if t then (if word_after l (life_word_at b) == live_word name.turn (room / 16) then name.turn + 1 else word_after l (life_word_at b)) else word_after l (life_word_at b)) b g) (life_same (grain_of name) b)
-    ∙ end_covers (grain_of name == b) (grain_of name) b g name.turn (room / 16) (word_after l (life_word_at b)) a refl of.0.2 (guess_fits (room / 16) f.pages valid.pages of.0.4)
-    (λ e. is ∙ ap (λ x. word_after l (life_word_at x)) (eqb-true (grain_of name) b e)) (a == live_word name.turn (room / 16)) refl (in_run (grain_of name) (room / 16) g) refl
+    search (arith, life_same, end_covers, guess_fits, eqb-true)
 covered_step f l k e s a g b valid placed of allowed is = refl
 
 -- ---- a legal step's move fits
@@ -200,10 +159,7 @@ fits_if : (j : ℕ) (m : Move) (o : Place) (t : Bool) → (t ≡ true → Fits j
 fits_if j m o t h = cond_both t m Stays (λ x. Fits j x o) h (λ other. tt)
 
 pub step_fits : (f : Profile) (l : Whole) (k : ℕ) (s : Step) (a g : ℕ) (at : IsPlacedOnce l g) → IsValid f → IsStepOf f s → Allowed f (part k l) s → a ≡ word_after l (target s) → Fits k (grain_move s a g) at.place
-step_fits f l k (Take page word mask) a g at valid of allowed is = fits_if k Gets at.place (in_mask page word mask g && has_bit a (g % 64)) (λ h.
-    let parts = and_parts (in_mask page word mask g) (has_bit a (g % 64)) h in
-    let bits = and_parts ((word == g / 64 % 4) && (page == g / 256)) (has_bit mask (g % 64)) parts.0 in
-    is_free-true at.place (sym at.free ∙ ap (λ n. has_bit n (g % 64)) (sym (is ∙ free_same l page word g bits.0)) ∙ parts.1))
+step_fits f l k (Take page word mask) a g at valid of allowed is = search (arith, fits_if, and_parts, is_free-true, free_same)
 step_fits f l k (Put page word mask) a g at valid of allowed is = fits_if k Puts at.place (in_mask page word mask g) (λ h. is_held_by-true k at.place (sym (at.held k) ∙ allowed.held g h))
 step_fits f l k (Give block) a g at valid of allowed is = fits_if k (Gives (grain_of block.name)) at.place (in_run (grain_of block.name) (length_of block) g) (λ h. is_held_by-true k at.place (sym (at.held k) ∙ allowed.held g h))
 step_fits f l k (End name guess) a g at valid of allowed is = fits_if k (Ends (grain_of name)) at.place ((a == live_word name.turn guess) && in_run (grain_of name) guess g) (λ h.

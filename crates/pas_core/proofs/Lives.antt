@@ -4,17 +4,17 @@ use Rattle.std.proofs.Common.{None, refl, ap, sym, ◌∙◌, subst, arith, inl,
 use Rattle.std.proofs.lemmas.Bool.{false≢true, cases_eq, and_parts, cond_both, eqb-false}
 use Rattle.pas_profile.specs.{Layouts.same_word, Lives.live_word, Lives.is_live, Lives.turn_of, Profiles.IsValid, Blocks.address_of, Blocks.grain_of}
 use Rattle.pas_profile.specs.{Blocks.length_of}
-use Rattle.pas_profile.specs.declared.{profile.Profile.Profile, name.Block.Block, name.Name.Name, word.Word.Word, event.Event.Event, event.Why.Why}
+use Rattle.pas_profile.specs.declared.{profile.Profile.Profile, name.Block.Block, name.Name.Name, event.Event.Event, event.Why.Why}
 use Rattle.pas_bits.specs.Runs.{in_run}
 use Rattle.pas_machine.specs.State.{Live, live_in, gives_in, ends_in}
 use Rattle.pas_steps.specs.{Effects.life_word_at, Effects.target, Effects.new_value, Allowed.Allowed, Allowed.IsStepOf, Allowed.IsBlockOf}
-use Rattle.pas_steps.specs.Views.{View, Move, Stays, Gets, Gives, Ends, grain_move, held_after, holds, epoch_of, looks_at_life, life_after, known_life}
-use Rattle.pas_steps.specs.Views.{given_after, given_count}
+use Rattle.pas_steps.specs.Views.{View, Move, Stays, Gives, Ends, grain_move, held_after, holds, epoch_of, looks_at_life, life_after, known_life, given_after}
+use Rattle.pas_steps.specs.Views.{given_count}
 use Rattle.pas_steps.specs.Events.{event_of, end_event, with_event, reason_of, sized_reason, sized_event}
 use Rattle.pas_steps.specs.Lists.{Whole, word_after, part, visible, IsNext, Legal, Triple}
 use Rattle.pas_steps.specs.declared.step.Step.{Step}
 use Rattle.pas_steps.specs.declared.step.Step.TheVariants.{Look, Deed, Back, Give, End, EndSized}
-use Rattle.pas_core.specs.Good.{Place, IsFree, Held, Covered, is_held_by, is_covered_by, covers, IsPlacedOnce, IsLifeOf, IsLifeOfNone, IsLifeOfLive, IsBare}
+use Rattle.pas_core.specs.Good.{Place, Held, is_held_by, covers, IsPlacedOnce, IsLifeOf, IsLifeOfNone, IsLifeOfLive, IsBare}
 use Rattle.pas_core.proofs.Grains.{life_same, give_short, Fits, is_held_by-true, covers_live, some_grain, step_fits, placed_once}
 use Rattle.std.proofs.lemmas.{Option.same_Some, Option.none-some, Bool.Decides.nat_tests}
 use Rattle.pas_core.proofs.Deeds.{event_if, end_if, looked}
@@ -35,16 +35,11 @@ is_still Stays = true
 is_still s = false
 
 give_rests : (x r : Bool) (c g n old new : ℕ) → (c == g) ≡ x → 0 < n → in_run c n g ≡ r → is_still (if r then Gives c else Stays) ≡ true → (if x then new else old) ≡ old
-give_rests false r c g n old new xe some re still = refl
-give_rests true true c g n old new xe some re still = absurd (false≢true still)
-give_rests true false c g n old new xe some re still = absurd (false≢true (sym re ∙ ap (in_run c n) (sym (eqb-true c g xe)) ∙ first_of_run c n some))
+give_rests x r c g n old new xe some re still = grind (arith, false≢true, eqb-true, first_of_run)
 
 end_rests : (x z r : Bool) (c g n old t a : ℕ) → (c == g) ≡ x → (x ≡ true → a ≡ old) → 0 < n → (a == live_word t n) ≡ z → in_run c n g ≡ r → is_still (if z && r then Ends c else Stays) ≡ true
     → (if x then (if old == live_word t n then t + 1 else old) else old) ≡ old
-end_rests false z r c g n old t a xe is some ze re still = refl
-end_rests true true true c g n old t a xe is some ze re still = absurd (false≢true still)
-end_rests true true false c g n old t a xe is some ze re still = absurd (false≢true (sym re ∙ ap (in_run c n) (sym (eqb-true c g xe)) ∙ first_of_run c n some))
-end_rests true false r c g n old t a xe is some ze re still = ap (λ b. if b then t + 1 else old) (ap (λ m. m == live_word t n) (sym (is refl)) ∙ ze)
+end_rests x z r c g n old t a xe is some ze re still = grind (arith, false≢true, eqb-true, first_of_run)
 
 -- the word of a step on the grain's life word
 pub word_is : (l : Whole) (a c g : ℕ) → a ≡ word_after l (life_word_at c) → (c == g) ≡ true → a ≡ word_after l (life_word_at g)
@@ -66,27 +61,19 @@ life_rests f l k e s a g of allowed is still = refl
 
 -- ---- what is known of a life word
 pub look_is : (l : Whole) (s : Step) (a g : ℕ) → a ≡ word_after l (target s) → looks_at_life s g ≡ true → a ≡ word_after l (life_word_at g)
-look_is l (Look (Word.Life q b)) a g is h = let parts = and_parts (b == g % 256) (q == g / 256) h in
-    is ∙ ap (λ x. word_after l (Word.Life q x)) (eqb-true b (g % 256) parts.0) ∙ ap (λ x. word_after l (Word.Life x (g % 256))) (eqb-true q (g / 256) parts.1)
-look_is l s a g is h = absurd (false≢true h)
+look_is l s a g is h = grind (arith, and_parts, eqb-true, false≢true)
 
 -- of an own step
 own_life : (m : Move) (looks held : Bool) (a word word' : ℕ) (known : Option ℕ) (w : ℕ) → (is_still m ≡ true → word' ≡ word) → (looks ≡ true → a ≡ word) → ((w : ℕ) → known ≡ Some w → (held ≡ true) × (w ≡ word))
     → life_after m looks held a known ≡ Some w → (held_after m held ≡ true) × (w ≡ word')
-own_life Stays true true a word word' known w rests is old h = (refl, sym (same_Some a w h) ∙ is refl ∙ sym (rests refl))
-own_life Stays true false a word word' known w rests is old h = let o = old w h in (o.0, o.1 ∙ sym (rests refl))
-own_life Stays false held a word word' known w rests is old h = let o = old w h in (o.0, o.1 ∙ sym (rests refl))
-own_life s looks held a word word' known w rests is old h = cc
+own_life s looks held a word word' known w rests is old h = grind (arith, same_Some)
 
 -- of another's step: it moves no grain that this actor holds
 same_holder : (j k : ℕ) (o : Place) → o ≡ Held j → o ≡ Held k → (j == k) ≡ true
 same_holder j k o f h = ap (is_held_by k) (sym f) ∙ ap (is_held_by k) h ∙ eq-eqb k k refl
 
 no_move : (j k : ℕ) (m : Move) (o : Place) → Fits j m o → o ≡ Held k → (j == k) ≡ false → is_still m ≡ true
-no_move j k Stays o fits h ne = refl
-no_move j k Gets o fits h ne = let e : IsFree ≡ Held k = sym fits ∙ h in absurd cc
-no_move j k (Ends b) o fits h ne = let e : Covered b ≡ Held k = sym fits ∙ h in absurd cc
-no_move j k s o fits h ne = absurd (false≢true (sym ne ∙ same_holder j k o fits h))
+no_move j k s o fits h ne = grind (arith, false≢true, same_holder)
 
 -- what a view knows of a life word is the word, and the grain is held
 abbrev pub TellsLife : View → ℕ → ℕ → Type 0
@@ -109,13 +96,11 @@ life_is_known f l valid legal k g = each_part f (λ l k v. TellsLife v g (word_a
 -- ---- life words of the machine
 -- the block that a live word tells of
 pub block_of_word : (f : Profile) (g word : ℕ) (live : Option Live) (gives ends t n : ℕ) → IsLifeOf f g word live gives ends → t < 2 ^ 40 → word ≡ live_word t n → (b : Live) × (live ≡ Some b) × (b.block.name.turn ≡ t) × (ends ≡ t)
-block_of_word f g word None gives ends t n h small is = absurd (omega (arith, h.word_is, h.few, is))
-block_of_word f g word (Some b) gives ends t n h small is = let e : ends ≡ t = omega (arith, h.word_is, h.few, h.short, is, small) in (b, refl, h.turn ∙ e, e)
+block_of_word f g word live gives ends t n h small is = grind arith
 
 -- the turn of a life word is the number of blocks that ended there
 pub turn_is : (f : Profile) (g word : ℕ) (live : Option Live) (gives ends : ℕ) → IsLifeOf f g word live gives ends → turn_of word ≡ ends
-turn_is f g word None gives ends h = ap turn_of h.word_is ∙ omega (arith, h.few)
-turn_is f g word (Some b) gives ends h = ap turn_of h.word_is ∙ omega (arith, h.few)
+turn_is f g word live gives ends h = grind arith
 
 pub live_is_live : (f : Profile) (g word : ℕ) (b : Live) (gives ends : ℕ) → IsLifeOfLive f g word b gives ends → is_live word ≡ true
 live_is_live f g word b gives ends h = let big : 2 ^ 63 ≤ word = omega (arith, h.word_is) in le-leb (2 ^ 63) word big
@@ -137,30 +122,10 @@ record IsNewAt (f : Profile) (g : ℕ) (block : Block) (ends : ℕ) : Type 0 whe
 
 give_life : (x : Bool) (f : Profile) (g word k : ℕ) (block : Block) (live : Option Live) (gives ends : ℕ) → IsLifeOf f g word live gives ends → (x ≡ true → live ≡ None) → (x ≡ true → IsNewAt f g block ends)
     → IsLifeOf f g (if x then live_word block.name.turn (length_of block) else word) (if x then Some record { actor = k; block = block } else live) (if x then gives + 1 else gives) ends
-give_life true f g word k block live gives ends was none new =
-    let dead : IsLifeOf f g word None gives ends = subst (λ v. IsLifeOf f g word v gives ends) (none refl) was in
-    let n : IsNewAt f g block ends = new refl in
-    record {
-      word_is = ap (λ e. live_word e (length_of block)) n.turn;
-      gives_are = ap (λ x. x + 1) dead.gives_are;
-      few = dead.few;
-      turn = n.turn;
-      address = n.address;
-      whole = n.whole;
-      some = n.some;
-      short = n.short;
-      first = n.first;
-      last = n.last;
-      heap = n.heap;
-    }
-give_life false f g word k block live gives ends was none new = was
+give_life x f g word k block live gives ends was none new = grind arith
 
 ended : (f : Profile) (g word : ℕ) (live : Option Live) (gives ends t n : ℕ) → IsLifeOf f g word live gives ends → t < 2 ^ 40 - 1 → word ≡ live_word t n → IsLifeOfNone (t + 1) gives (ends + 1)
-ended f g word None gives ends t n h small is = absurd (omega (arith, h.word_is, h.few, is))
-ended f g word (Some b) gives ends t n h small is =
-    let w = h.word_is in let few = h.few in let short = h.short in
-    let e : ends ≡ t = omega (arith, w, few, short, is, small) in
-    record { word_is = ap (λ x. x + 1) (sym e); gives_are = h.gives_are; few = omega (arith, e, small) }
+ended f g word live gives ends t n h small is = grind arith
 
 -- the machine's life of a grain
 abbrev LifeIn : Profile → ℕ → ℕ → List Event → ℕ → Type 0
@@ -169,34 +134,11 @@ LifeIn f g word es address = IsLifeOf f g word (live_in es address) (gives_in es
 end_life : (x z y : Bool) (f : Profile) (g k ep a word guess : ℕ) (name : Name) (w : Why) (es : List Event) (address : ℕ) → (address_of name == address) ≡ x → (x ≡ true → a ≡ word) → (a == live_word name.turn guess) ≡ z → name.turn < 2 ^ 40 - 1
     → LifeIn f g word es address
     → LifeIn f g (if x then (if word == live_word name.turn guess then name.turn + 1 else word) else word) (with_event (if z then Some (Event.End k name ep) else (if y then None else Some (Event.Reject k name w))) es) address
-end_life true true y f g k ep a word guess name w es address xe is ze small h =
-    let is_word : word ≡ live_word name.turn guess = sym (is refl) ∙ eqb-true a (live_word name.turn guess) ze in
-    let one : IsLifeOf f g (name.turn + 1) None (gives_in es address) (ends_in es address + 1) = ended f g word (live_in es address) (gives_in es address) (ends_in es address) name.turn guess h small is_word in
-    let two : IsLifeOf f g (if word == live_word name.turn guess then name.turn + 1 else word) None (gives_in es address) (ends_in es address + 1) = subst (λ b. IsLifeOf f g (if b then name.turn + 1 else word) None (gives_in es address) (ends_in es address + 1)) (sym (eq-eqb word (live_word name.turn guess) is_word)) one in
-    subst (λ b. IsLifeOf f g (if word == live_word name.turn guess then name.turn + 1 else word) (if b then None else live_in es address) (gives_in es address) (if b then ends_in es address + 1 else ends_in es address)) (sym xe) two
-end_life true false y f g k ep a word guess name w es address xe is ze small h =
-    let other : (word == live_word name.turn guess) ≡ false = ap (λ m. m == live_word name.turn guess) (sym (is refl)) ∙ ze in
-    let one : LifeIn f g (if word == live_word name.turn guess then name.turn + 1 else word) es address = subst (λ b. LifeIn f g (if b then name.turn + 1 else word) es address) (sym other) h in
-    cond_both y None (Some (Event.Reject k name w)) (λ o. LifeIn f g (if word == live_word name.turn guess then name.turn + 1 else word) (with_event o es) address) (λ silent. one) (λ told. one)
-end_life false true y f g k ep a word guess name w es address xe is ze small h =
-    subst (λ b. IsLifeOf f g word (if b then None else live_in es address) (gives_in es address) (if b then ends_in es address + 1 else ends_in es address)) (sym xe) h
-end_life false false y f g k ep a word guess name w es address xe is ze small h = cond_both y None (Some (Event.Reject k name w)) (λ o. LifeIn f g word (with_event o es) address) (λ silent. h) (λ told. h)
+end_life x z y f g k ep a word guess name w es address xe is ze small h = grind (arith, eqb-true, ended, eq-eqb, cond_both)
 
 -- a block that may be given at the grain, from its step's conditions
 new_at : (f : Profile) (l : Whole) (k : ℕ) (block : Block) (g ends : ℕ) → IsValid f → IsBlockOf f block → Allowed f (part k l) (Give block) → block.name.turn ≡ ends → (grain_of block.name == g) ≡ true → IsNewAt f g block ends
-new_at f l k block g ends valid of allowed turn x =
-    let e : grain_of block.name ≡ g = eqb-true (grain_of block.name) g x in
-    let aligned = allowed.aligned in let whole = allowed.whole in let first = of.first in let last = of.last in
-    record {
-      turn = turn;
-      address = omega (arith, aligned, e);
-      whole = whole;
-      some = some_grain block.room allowed.whole allowed.some;
-      short = give_short f (address_of block.name) block.room valid of.last;
-      first = omega (arith, first, e);
-      last = omega (arith, last, e, aligned, whole);
-      heap = of.heap;
-    }
+new_at f l k block g ends valid of allowed turn x = search (arith, eqb-true, some_grain, give_short)
 
 life_step : (f : Profile) (l : Whole) (k e : ℕ) (s : Step) (a g : ℕ) → IsValid f → IsStepOf f s → Allowed f (part k l) s → a ≡ word_after l (target s)
     → (holds (part k l) g ≡ true → live_in (visible l) (16 * g) ≡ None) → TellsLife (part k l) g (word_after l (life_word_at g))
@@ -208,8 +150,7 @@ life_step f l k e (Back page) a g valid of allowed is dead tells h = event_if (�
 life_step f l k e (Give block) a g valid of allowed is dead tells h =
     let here : (address_of block.name == 16 * g) ≡ true → (grain_of block.name == g) ≡ true = λ x. sym (address_same (address_of block.name) g allowed.aligned) ∙ x in
     let held : (grain_of block.name == g) ≡ true → holds (part k l) g ≡ true = λ x. ap (holds (part k l)) (sym (eqb-true (grain_of block.name) g x)) ∙ allowed.held (grain_of block.name) (first_of_run (grain_of block.name) (length_of block) (some_grain block.room allowed.whole allowed.some)) in
-    let turn : (grain_of block.name == g) ≡ true → block.name.turn ≡ ends_in (visible l) (16 * g) = λ x.
-    allowed.turn_is ∙ ap turn_of (tells allowed.word (ap (known_life (part k l)) (sym (eqb-true (grain_of block.name) g x)) ∙ allowed.known)).1 ∙ turn_is f g (word_after l (life_word_at g)) (live_in (visible l) (16 * g)) (gives_in (visible l) (16 * g)) (ends_in (visible l) (16 * g)) h in
+    let turn : (grain_of block.name == g) ≡ true → block.name.turn ≡ ends_in (visible l) (16 * g) = search (arith, eqb-true, turn_is) in
     as_test (same_word (life_word_at (grain_of block.name)) (life_word_at g)) (address_of block.name == 16 * g) (λ w. LifeIn f g w (Event.Give k block ∷ visible l) (16 * g)) (live_word block.name.turn (length_of block)) (word_after l (life_word_at g))
     (life_same (grain_of block.name) g ∙ sym (address_same (address_of block.name) g allowed.aligned))
     (give_life (address_of block.name == 16 * g) f g (word_after l (life_word_at g)) k block (live_in (visible l) (16 * g)) (gives_in (visible l) (16 * g)) (ends_in (visible l) (16 * g)) h (λ x. dead (held (here x)))
@@ -232,13 +173,10 @@ live_covers f g word b gives ends x h run = ap (λ w. covers w g x) h.word_is �
 
 -- no live block has a grain that an actor holds
 pub no_block : (f : Profile) (l : Whole) (k a x : ℕ) (b : Live) (gives ends : ℕ) → IsPlacedOnce l x → holds (part k l) x ≡ true → IsLifeOfLive f a (word_after l (life_word_at a)) b gives ends → in_run a (length_of b.block) x ≡ true → ⊥
-no_block f l k a x b gives ends at holds life run =
-    let here : at.place ≡ Held k = is_held_by-true k at.place (sym (at.held k) ∙ holds) in
-    false≢true (sym (ap (is_covered_by a) here) ∙ sym (at.covered a) ∙ live_covers f a (word_after l (life_word_at a)) b gives ends x life run)
+no_block f l k a x b gives ends at holds life run = search (arith, is_held_by-true, false≢true, live_covers)
 
 pub dead_while_held : (f : Profile) (l : Whole) (k g : ℕ) (live : Option Live) (gives ends : ℕ) → IsPlacedOnce l g → holds (part k l) g ≡ true → IsLifeOf f g (word_after l (life_word_at g)) live gives ends → live ≡ None
-dead_while_held f l k g None gives ends at holds life = refl
-dead_while_held f l k g (Some b) gives ends at holds life = absurd (no_block f l k g g b gives ends at holds life (first_of_run g (length_of b.block) life.some))
+dead_while_held f l k g live gives ends at holds life = grind (arith, no_block, first_of_run)
 
 -- after every legal list each life word tells of the block that the machine has at its grain
 pub life_of : (f : Profile) (l : Whole) → IsValid f → Legal f l → (g : ℕ) → IsLifeOf f g (word_after l (life_word_at g)) (live_in (visible l) (16 * g)) (gives_in (visible l) (16 * g)) (ends_in (visible l) (16 * g))
@@ -258,12 +196,10 @@ other_address : (b address : ℕ) → b % 16 ≡ 0 → address % 16 ≢ 0 → (x
 other_address b address h e x k = grind (arith, nat_tests)
 
 bare_give : (x : Bool) (k : ℕ) (block : Block) (address : ℕ) (live : Option Live) (gives ends : ℕ) → x ≡ false → IsBare address live gives ends → IsBare address (if x then Some record { actor = k; block = block } else live) (if x then gives + 1 else gives) ends
-bare_give true k block address live gives ends e h = absurd (false≢true (sym e))
-bare_give false k block address live gives ends e h = h
+bare_give x k block address live gives ends e h = grind (arith, false≢true)
 
 bare_ended : (x : Bool) (address : ℕ) (live : Option Live) (gives ends : ℕ) → x ≡ false → IsBare address live gives ends → IsBare address (if x then None else live) gives (if x then ends + 1 else ends)
-bare_ended true address live gives ends e h = absurd (false≢true (sym e))
-bare_ended false address live gives ends e h = h
+bare_ended x address live gives ends e h = grind (arith, false≢true)
 
 bare_step : (f : Profile) (v : View) (k e : ℕ) (s : Step) (a : ℕ) (es : List Event) (address : ℕ) → IsStepOf f s → Allowed f v s → address % 16 ≢ 0 → BareIn es address → BareIn (with_event (event_of k e s a) es) address
 bare_step f v k e (Deed page directory) a es address of allowed un h = event_if (λ x. BareIn x address) (a == 0) (Event.Deed k page directory) es h h
@@ -290,8 +226,7 @@ live_is_aligned f l legal address b is = elim (cases_eq (address % 16) 0) [ inl 
 pub live_of : (f : Profile) (l : Whole) → IsValid f → Legal f l → (address : ℕ) (b : Live) → live_in (visible l) address ≡ Some b
     → IsLifeOfLive f (address / 16) (word_after l (life_word_at (address / 16))) b (gives_in (visible l) address) (ends_in (visible l) address)
 live_of f l valid legal address b is =
-    let aligned : address % 16 ≡ 0 = live_is_aligned f l legal address b is in
-    let e : 16 * (address / 16) ≡ address = omega (arith, aligned) in
+    let e : 16 * (address / 16) ≡ address = omega (arith, live_is_aligned f l legal address b is) in
     let one : IsLifeOf f (address / 16) (word_after l (life_word_at (address / 16))) (live_in (visible l) address) (gives_in (visible l) address) (ends_in (visible l) address)
     = subst (λ x. IsLifeOf f (address / 16) (word_after l (life_word_at (address / 16))) (live_in (visible l) x) (gives_in (visible l) x) (ends_in (visible l) x)) e (life_of f l valid legal (address / 16)) in
     subst (λ v. IsLifeOf f (address / 16) (word_after l (life_word_at (address / 16))) v (gives_in (visible l) address) (ends_in (visible l) address)) is one
@@ -308,21 +243,13 @@ life_at f l valid legal address aligned =
 -- ---- a block that was given stays so
 given_live : (x : Bool) (live : Option Live) (new : Live) (block : Block) → (x ≡ true → new.block.name.turn ≡ block.name.turn → ⊥) → ((b : Live) → live ≡ Some b → b.block.name.turn ≡ block.name.turn → b.block ≡ block)
     → (b : Live) → (if x then Some new else live) ≡ Some b → b.block.name.turn ≡ block.name.turn → b.block ≡ block
-given_live true live new block other old b is turn = absurd (other refl (ap (λ y. y.block.name.turn) (same_Some new b is) ∙ turn))
-given_live false live new block other old b is turn = old b is turn
+given_live x live new block other old b is turn = grind (arith, same_Some)
 
 ended_live : (x : Bool) (live : Option Live) (block : Block) → ((b : Live) → live ≡ Some b → b.block.name.turn ≡ block.name.turn → b.block ≡ block) → (b : Live) → (if x then None else live) ≡ Some b → b.block.name.turn ≡ block.name.turn → b.block ≡ block
-ended_live true live block old b is turn = cc
-ended_live false live block old b is turn = old b is turn
+ended_live x live block old b is turn = grind arith
 
 pub one_more : (f : Profile) (e : Event) (es : List Event) (block : Block) → Admits f es e → WasGiven es block → WasGiven (e ∷ es) block
-one_more f (Event.Give k new) es block admits given = record {
-  earlier = let more = cond_both (address_of new.name == address_of block.name) (gives_in es (address_of block.name) + 1) (gives_in es (address_of block.name)) (λ n. (gives_in es (address_of block.name)) ≤ n) (λ here. omega arith) (λ other. omega arith) in omega (arith, more, given.earlier);
-  same = given_live (address_of new.name == address_of block.name) (live_in es (address_of block.name)) (record { actor = k; block = new }) block
-      (λ x turn. let next : new.name.turn ≡ gives_in es (address_of block.name) = admits.turn ∙ ap (gives_in es) (eqb-true (address_of new.name) (address_of block.name) x) in absurd (omega (arith, next, turn, given.earlier))) given.same;
-}
-one_more f (Event.End k name e) es block admits given = record { earlier = given.earlier; same = ended_live (address_of name == address_of block.name) (live_in es (address_of block.name)) block given.same }
-one_more f s es block admits given = record { earlier = given.earlier; same = given.same }
+one_more f s es block admits given = grind (arith, cond_both, given_live, eqb-true, ended_live)
 
 -- a block that was given stays so, whatever comes after it
 pub given_kept : (f : Profile) (more es : List Event) (block : Block) → Run f (more ++ es) → WasGiven es block → WasGiven (more ++ es) block
@@ -331,15 +258,7 @@ given_kept f (e ∷ more) es block run given = one_more f e (more ++ es) block r
 
 -- the block of a give was given
 pub new_block : (f : Profile) (k : ℕ) (block : Block) (es : List Event) → Admits f es (Event.Give k block) → WasGiven (Event.Give k block ∷ es) block
-new_block f k block es admits =
-    let here : (address_of block.name == address_of block.name) ≡ true = eq-eqb (address_of block.name) (address_of block.name) refl in
-    record {
-      earlier = let one : gives_in (Event.Give k block ∷ es) (address_of block.name) ≡ gives_in es (address_of block.name) + 1 = ap (λ x. if x then gives_in es (address_of block.name) + 1 else gives_in es (address_of block.name)) here in
-          omega (arith, one, admits.turn);
-      same = λ b is turn.
-          let one : Some (record { actor = k; block = block }) ≡ Some b = sym (ap (λ x. if x then Some (record { actor = k; block = block }) else live_in es (address_of block.name)) here) ∙ is in
-          ap (λ y. y.block) (sym (same_Some (record { actor = k; block = block }) b one));
-    }
+new_block f k block es admits = search (arith, eq-eqb, same_Some)
 
 -- ---- no more gives than events
 -- how many blocks these events gave, at whatever address
@@ -359,8 +278,7 @@ gives_few (e ∷ es) address = gives_few es address
 
 -- each give is an event
 counted_few : (e : Event) (n m : ℕ) → n ≤ m → gives_counted e n ≤ m + 1
-counted_few (Event.Deed k p d) n m h = omega (arith, h)
-counted_few s n m h = omega (arith, h)
+counted_few s n m h = grind arith
 
 counts_few : (es : List Event) → count_gives es ≤ length es
 counts_few [] = omega arith
@@ -368,11 +286,7 @@ counts_few (e ∷ es) = let rest = counted_few e (count_gives es) (length es) (c
 
 -- a step adds as many gives as its event is
 count_step : (k e : ℕ) (s : Step) (a : ℕ) (es : List Event) → count_gives (with_event (event_of k e s a) es) ≡ given_after s (count_gives es)
-count_step k e (Deed page directory) a es = event_if (λ x. count_gives x ≡ count_gives es) (a == 0) (Event.Deed k page directory) es refl refl
-count_step k e (Back page) a es = event_if (λ x. count_gives x ≡ count_gives es) (a == 0) (Event.Back k page) es refl refl
-count_step k e (End name guess) a es = end_if (λ x. count_gives x ≡ count_gives es) (a == live_word name.turn guess) (is_live a && (turn_of a == name.turn)) (Event.End k name e) (Event.Reject k name (reason_of name a)) es (λ hit. refl) refl refl
-count_step k e (EndSized name room) a es = end_if (λ x. count_gives x ≡ count_gives es) (a == live_word name.turn (room / 16)) false (Event.End k name e) (Event.Reject k name (sized_reason name room a)) es (λ hit. refl) refl refl
-count_step k e s a es = refl
+count_step k e s a es = grind (arith, event_if, end_if)
 
 -- no address was given more often than there are events
 pub turns_few : (es : List Event) (address : ℕ) → gives_in es address ≤ length es
@@ -382,8 +296,7 @@ turns_few es address = let some = gives_few es address in let few = counts_few e
 
 -- ---- an actor gives at most 2 ^ 32 blocks
 few_next : (f : Profile) (v : View) (s : Step) → Allowed f v s → given_count v ≤ 2 ^ 32 → given_after s (given_count v) ≤ 2 ^ 32
-few_next f v (Give block) allowed h = omega (arith, allowed.few)
-few_next f v s allowed h = h
+few_next f v s allowed h = grind arith
 
 given_small : (f : Profile) (l : Whole) → Legal f l → (k : ℕ) → given_count (part k l) ≤ 2 ^ 32
 given_small f = each_part f (λ l k v. given_count v ≤ 2 ^ 32) (λ k. omega arith) (λ t l legal before. few_next f (part t.actor l) t.made.step legal.0.allowed before) (λ t l k legal other before. before)
@@ -391,18 +304,14 @@ given_small f = each_part f (λ l k v. given_count v ≤ 2 ^ 32) (λ k. omega ar
 -- ---- all gives are the sum of those of the actors
 -- a step adds this many gives
 more_given : (s : Step) (n : ℕ) → given_after s n ≡ n + given_after s 0
-more_given (Look word) n = omega arith
-more_given s n = omega arith
+more_given s n = grind arith
 
 sum_grows : (n : ℕ) (v w : ℕ → ℕ) → ((k : ℕ) → v k ≤ w k) → sum_below n v ≤ sum_below n w
 sum_grows zero v w h = omega arith
 sum_grows (suc n) v w h = omega (arith, sum_grows n v w h, h n)
 
 rises_last : (t : Bool) (n j c : ℕ) (v w : ℕ → ℕ) → (j == n) ≡ t → ((k : ℕ) → v k ≤ w k) → v j + c ≤ w j → j < suc n → (j < n → sum_below n v + c ≤ sum_below n w) → sum_below n v + v n + c ≤ sum_below n w + w n
-rises_last true n j c v w e grows here low rest =
-    let at : v n + c ≤ w n = subst (λ i. v i + c ≤ w i) (eqb-true j n e) here in
-    omega (arith, sum_grows n v w grows, at)
-rises_last false n j c v w e grows here low rest = let ne = eqb-false j n e in let before = rest (omega (arith, low, ne)) in omega (arith, before, grows n)
+rises_last t n j c v w e grows here low rest = grind (arith, eqb-true, sum_grows, eqb-false)
 
 -- more at one number makes the sum that much greater
 sum_rises : (n j c : ℕ) (v w : ℕ → ℕ) → ((k : ℕ) → v k ≤ w k) → v j + c ≤ w j → j < n → sum_below n v + c ≤ sum_below n w
@@ -417,25 +326,20 @@ sum_small (suc n) v h = omega (arith, sum_small n v h, h n)
 all_gives : (f : Profile) (l : Whole) → Legal f l → count_gives (visible l) ≤ sum_below (f.threads + 1) (λ k. given_count (part k l))
 all_gives f [] legal = omega arith
 all_gives f (t ∷ l) legal =
-    let next : IsNext f l t = legal.0 in
-    let actor : t.actor < f.threads + 1 = omega (arith, next.actor) in
+    let actor : t.actor < f.threads + 1 = omega (arith, legal.0.actor) in
     let is : count_gives (visible (t ∷ l)) ≡ given_after t.made.step (count_gives (visible l)) = count_step t.actor (epoch_of (part t.actor l)) t.made.step t.made.answer (visible l) in
-    let more : given_after t.made.step (count_gives (visible l)) ≡ count_gives (visible l) + given_after t.made.step 0 = more_given t.made.step (count_gives (visible l)) in
     let rises : sum_below (f.threads + 1) (λ k. given_count (part k l)) + given_after t.made.step 0 ≤ sum_below (f.threads + 1) (λ k. given_count (part k (t ∷ l)))
     = sum_rises (f.threads + 1) t.actor (given_after t.made.step 0) (λ k. given_count (part k l)) (λ k. given_count (part k (t ∷ l))) (λ k. cond_both (t.actor == k) (t.made ∷ part k l) (part k l) (λ v. given_count (part k l) ≤ given_count v) (λ own. omega (arith, more_given t.made.step (given_count (part k l)))) (λ other. omega arith))
     (subst (λ b. given_count (part t.actor l) + given_after t.made.step 0 ≤ given_count (if b then t.made ∷ part t.actor l else part t.actor l)) (sym (eq-eqb t.actor t.actor refl)) (omega (arith, more_given t.made.step (given_count (part t.actor l))))) actor in
-    omega (arith, all_gives f l legal.1, is, more, rises)
+    omega (arith, all_gives f l legal.1, is, more_given t.made.step (count_gives (visible l)), rises)
 
 -- ---- turns
 -- no address was given more often than all actors give
 gives_small : (f : Profile) (l : Whole) → IsValid f → Legal f l → (address : ℕ) → gives_in (visible l) address < 2 ^ 37
-gives_small f l valid legal address =
-    let all : sum_below (f.threads + 1) (λ k. given_count (part k l)) ≤ (f.threads + 1) * 2 ^ 32 = sum_small (f.threads + 1) (λ k. given_count (part k l)) (given_small f l legal) in
-    omega (arith, valid.threads, all, all_gives f l legal, gives_few (visible l) address)
+gives_small f l valid legal address = search (arith, sum_small, given_small, all_gives, gives_few)
 
 ends_below : (f : Profile) (g word : ℕ) (live : Option Live) (gives ends : ℕ) → IsLifeOf f g word live gives ends → ends ≤ gives
-ends_below f g word None gives ends h = omega (arith, h.gives_are)
-ends_below f g word (Some b) gives ends h = omega (arith, h.gives_are)
+ends_below f g word live gives ends h = grind arith
 
 -- the turn of each life word is small
 pub turn_small : (f : Profile) (l : Whole) → IsValid f → Legal f l → (g : ℕ) → turn_of (word_after l (life_word_at g)) < 2 ^ 37

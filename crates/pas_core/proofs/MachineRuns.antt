@@ -1,16 +1,16 @@
 -- The machine behind a legal list: its visible events are a run, the words are those of the machine, each grain is in one place in the machine's words,
 -- and in some list a page is unbacked.
 use Rattle.std.proofs.Common.{◌≡◌, ◌≢◌, ℕ, ◌+◌, ◌-◌, ◌*◌, ◌/◌, ◌%◌, ◌^◌, ◌<◌, ◌≤◌, ◌==◌, nat_lt, Bool, true, false, ◌&&◌, if◌then◌else◌, List, [], ◌∷◌, Option}
-use Rattle.std.proofs.Common.{Some, None, refl, ap, sym, ◌∙◌, subst, arith, inl, inr, max, eqb-true, eq-eqb, leb-true}
+use Rattle.std.proofs.Common.{Some, None, refl, ap, sym, ◌∙◌, arith, inl, inr, max, eqb-true, eq-eqb, leb-true}
 use Rattle.std.proofs.lemmas.Bool.{false≢true, eqb-false, and_parts, and_from, cond_both, false_from_ne_true, cases_eq}
 use Rattle.std.proofs.lemmas.{Bool.Decides.nat_tests, Nat.Bits.bit_at_ones}
-use Rattle.pas_profile.specs.{Directories.kind_number, Directories.deed_word_of, Profiles.IsValid, Profiles.IsPage, Profiles.IsDirectoryOf, Blocks.address_of}
-use Rattle.pas_profile.specs.{Blocks.grain_of, Blocks.length_of}
+use Rattle.pas_profile.specs.{Directories.deed_word_of, Profiles.IsValid, Profiles.IsPage, Profiles.IsDirectoryOf, Blocks.address_of, Blocks.grain_of}
+use Rattle.pas_profile.specs.{Blocks.length_of}
 use Rattle.pas_profile.specs.Lives.{live_word, is_live, turn_of, grains_of}
 use Rattle.pas_profile.specs.declared.{profile.Profile.Profile, directory.Directory.Directory, name.Block.Block, name.Name.Name, word.Word.Word}
 use Rattle.pas_profile.specs.declared.{event.Event.Event, event.Why.Why, directory.Kind.TheVariants.Large}
 use Rattle.pas_bits.specs.{Runs.in_run, Runs.meets_page, Bits.has_bit}
-use Rattle.pas_machine.specs.State.{Live, deed_in, backed_in, live_in, gives_in, ends_in, touches, epoch_in}
+use Rattle.pas_machine.specs.State.{Live, deed_in, backed_in, live_in, gives_in, ends_in, touches}
 use Rattle.pas_machine.specs.Machine.{IsPlace, Bears, IsClear, IsLive, MayGive, IsReason, Admits, Run}
 use Rattle.pas_steps.specs.Effects.{life_word_at, target, free_word_at, in_mask}
 use Rattle.pas_steps.specs.Views.{holds, epoch_of, known_deed, View, Gets, Stays, held_after, holds_on, holds_all, knows_backed, known_stamp, all_ones}
@@ -19,8 +19,8 @@ use Rattle.pas_steps.specs.Allowed.{Allowed, IsStepOf, IsBlockOf, KnowsBearing, 
 use Rattle.pas_steps.specs.Lists.{Whole, word_after, part, visible, Legal, IsNext}
 use Rattle.pas_steps.specs.declared.step.{Step.Step, Made.Made}
 use Rattle.pas_steps.specs.declared.step.Step.TheVariants.{Deed, Back, Give, End, EndSized, Unback, Look, Take, Tick}
-use Rattle.pas_core.specs.Good.{word_of_deed, word_of_backed, IsLifeOf, IsLifeOfNone, IsLifeOfLive, AgreesWithWords, Place, IsFree, Held, Covered, is_free}
-use Rattle.pas_core.specs.Good.{is_held_by, is_covered_by, covers, IsPlacedOnce, IsInOnePlace}
+use Rattle.pas_core.specs.Good.{word_of_deed, word_of_backed, IsLifeOf, IsLifeOfLive, AgreesWithWords, Place, IsFree, Held, Covered, is_free, is_held_by}
+use Rattle.pas_core.specs.Good.{is_covered_by, covers, IsPlacedOnce, IsInOnePlace}
 use Rattle.pas_core.proofs.{Grains.some_grain, Grains.placed_once, Grains.covers_live, Rights.deeds_known, Rights.backed_known, Stamps.stamp_known}
 use Rattle.pas_core.proofs.{Stamps.ends_before, Stamps.moved_held}
 use Rattle.pas_core.proofs.Deeds.{known_is, deed_of, backed_of, directory_is_of, is_backed}
@@ -40,17 +40,14 @@ agrees f l valid legal = record { deed = deed_of f l legal; backed = backed_of f
 
 -- ---- grains of a run
 page_of_run : (f : Profile) (address room x : ℕ) → 4096 ≤ address → address + room ≤ 4096 * (f.pages + 1) → address % 16 ≡ 0 → in_run (address / 16) (room / 16) x ≡ true → IsPage f (x / 256)
-page_of_run f address room x low high aligned run =
-    let both : (address / 16 ≤ x) × (x < address / 16 + room / 16) = run_of (address / 16) (room / 16) x run in
-    (omega (arith, both.0, low), omega (arith, both.1, high, aligned))
+page_of_run f address room x low high aligned run = search (arith, run_of)
 
 -- ---- deeds and backed pages that are known are the machine's
 pub one_backed : (b : Bool) → 1 ≡ word_of_backed b → b ≡ true
 one_backed b h = grind arith
 
 no_deed : (o : Option Directory) → 0 ≡ word_of_deed o → o ≡ None
-no_deed None h = refl
-no_deed (Some e) h = absurd (omega (arith, h))
+no_deed o h = grind arith
 
 some_deed : (o : Option Directory) → word_of_deed o ≢ 0 → o ≢ None
 some_deed o ne h = ne (ap word_of_deed h)
@@ -62,11 +59,7 @@ record HasDeed (f : Profile) (o : Option Directory) (heap : ℕ) : Type 0 where
   of_heap : directory.heap ≡ heap
 
 deed_from : (f : Profile) (o : Option Directory) (d : Directory) → ((d' : Directory) → o ≡ Some d' → IsDirectoryOf f d') → IsDirectoryOf f d → deed_word_of d ≡ word_of_deed o → HasDeed f o d.heap
-deed_from f None d of is_of h = absurd (omega (arith, h))
-deed_from f (Some d') d of is_of h =
-    let one : kind_number d'.kind < 23 = kind_number_lt d'.kind (of d' refl).kind in
-    let two : kind_number d.kind < 23 = kind_number_lt d.kind is_of.kind in
-    record { directory = d'; deed = refl; of_heap = omega (arith, h, one, two) }
+deed_from f o d of is_of h = grind (arith, kind_number_lt)
 
 bearing : (f : Profile) (l : Whole) → IsValid f → Legal f l → (k heap p : ℕ) → IsPage f p → KnowsBearing f (part k l) heap p → Bears f (visible l) heap p
 bearing f l valid legal k heap p page knows =
@@ -87,62 +80,36 @@ clear f l valid legal k g n held address b live x run = false_from_ne_true (in_r
     no_block f l k (address / 16) x b (gives_in (visible l) address) (ends_in (visible l) address) (placed_once f l valid legal x) (held x here) (live_of f l valid legal address b live) run)
 
 give_turn : (f : Profile) (g word : ℕ) (live : Option Live) (gives ends : ℕ) → IsLifeOf f g word live gives ends → live ≡ None → turn_of word ≡ gives
-give_turn f g word live gives ends h none =
-    let dead : IsLifeOfNone word gives ends = subst (λ v. IsLifeOf f g word v gives ends) none h in
-    turn_is f g word live gives ends h ∙ sym dead.gives_are
+give_turn f g word live gives ends h none = search (arith, turn_is)
 
 -- ---- events of steps
 reason : (x : Bool) (es : List Event) (name : Name) (turn : ℕ) → turn ≡ ends_in es (address_of name) → nat_lt name.turn turn ≡ x → (IsLive es name → ⊥) → IsReason es name (if x then Why.Ended else Why.NoBlock)
-reason true es name turn is e dead = let lt : name.turn < turn = grind (arith, nat_tests, e) in omega (arith, lt, is)
-reason false es name turn is e dead = let ge : turn ≤ name.turn = grind (arith, nat_tests, e) in (omega (arith, ge, is), dead)
+reason x es name turn is e dead = grind (arith, nat_tests)
 
 -- no block of the name lives where the word tells of none
 none_lives : (f : Profile) (g word a : ℕ) (name : Name) (es : List Event) → a ≡ word → IsLifeOf f g word (live_in es (address_of name)) (gives_in es (address_of name)) (ends_in es (address_of name)) → (is_live a && (turn_of a == name.turn)) ≡ false → IsLive es name → ⊥
-none_lives f g word a name es is life none live =
-    let here : IsLifeOfLive f g word live.0 (gives_in es (address_of name)) (ends_in es (address_of name)) = subst (λ v. IsLifeOf f g word v (gives_in es (address_of name)) (ends_in es (address_of name))) live.1 life in
-    let turn : turn_of a ≡ ends_in es (address_of name) = ap turn_of is ∙ turn_is f g word (live_in es (address_of name)) (gives_in es (address_of name)) (ends_in es (address_of name)) life in
-    false≢true (sym none ∙ and_from (is_live a) (turn_of a == name.turn)
-    (ap is_live is ∙ live_is_live f g word live.0 (gives_in es (address_of name)) (ends_in es (address_of name)) here)
-    (eq-eqb (turn_of a) name.turn (turn ∙ sym here.turn ∙ live.2)))
+none_lives f g word a name es is life none live = search (arith, turn_is, false≢true, and_from, live_is_live, eq-eqb)
 
 -- such an end is refused by its true reason
 refused : (f : Profile) (g word a : ℕ) (name : Name) (es : List Event) → a ≡ word → IsLifeOf f g word (live_in es (address_of name)) (gives_in es (address_of name)) (ends_in es (address_of name)) → (is_live a && (turn_of a == name.turn)) ≡ false → IsReason es name (reason_of name a)
-refused f g word a name es is life none =
-    let turn : turn_of a ≡ ends_in es (address_of name) = ap turn_of is ∙ turn_is f g word (live_in es (address_of name)) (gives_in es (address_of name)) (ends_in es (address_of name)) life in
-    reason (nat_lt name.turn (turn_of a)) es name (turn_of a) turn refl (none_lives f g word a name es is life none)
+refused f g word a name es is life none = search (arith, turn_is, reason, none_lives)
 
 end_admits : (f : Profile) (z y : Bool) (k ep g a word guess : ℕ) (name : Name) (es : List Event) → Run f es → IsPlace f (address_of name) → a ≡ word → name.turn < 2 ^ 40 - 1
     → IsLifeOf f g word (live_in es (address_of name)) (gives_in es (address_of name)) (ends_in es (address_of name)) → (a == live_word name.turn guess) ≡ z → (is_live a && (turn_of a == name.turn)) ≡ y
     → Run f (with_event (if z then Some (Event.End k name ep) else (if y then None else Some (Event.Reject k name (reason_of name a)))) es)
-end_admits f true y k ep g a word guess name es run of is small life ze ye =
-    let found = block_of_word f g word (live_in es (address_of name)) (gives_in es (address_of name)) (ends_in es (address_of name)) name.turn guess life (omega (arith, small)) (sym is ∙ eqb-true a (live_word name.turn guess) ze) in
-    ((of, (found.0, found.1, found.2)), run)
-end_admits f false true k ep g a word guess name es run of is small life ze ye = run
-end_admits f false false k ep g a word guess name es run of is small life ze ye = ((of, refused f g word a name es is life ye), run)
+end_admits f z y k ep g a word guess name es run of is small life ze ye = grind (arith, block_of_word, eqb-true, refused)
 
 -- a block of the name lives, and its room isn't the one that was named
 other_room : (f : Profile) (g word a room : ℕ) (name : Name) (es : List Event) (live : Option Live) → live_in es (address_of name) ≡ live → a ≡ word → IsLifeOf f g word live (gives_in es (address_of name)) (ends_in es (address_of name))
     → (a == live_word name.turn (room / 16)) ≡ false → is_live a ≡ true → turn_of a ≡ name.turn → IsReason es name (Why.SizeDiffers room)
-other_room f g word a room name es None at is life ne lives turn = let big : 2 ^ 63 ≤ word = grind (arith, nat_tests, lives, is) in absurd (omega (arith, life.word_is, life.few, big))
-other_room f g word a room name es (Some b) at is life ne lives turn =
-    let w = life.word_is in
-    let ends : turn_of a ≡ ends_in es (address_of name) = ap turn_of is ∙ turn_is f g word (Some b) (gives_in es (address_of name)) (ends_in es (address_of name)) life in (
-      omega (arith, ends, turn),
-      record {
-        block = b;
-        lives = at;
-        turn_is = life.turn ∙ sym ends ∙ turn;
-        differs = λ e. eqb-false a (live_word name.turn (room / 16)) ne (is ∙ w ∙ ap (λ t. live_word t (length_of b.block)) (sym ends ∙ turn) ∙ ap (λ r. live_word name.turn (r / 16)) e);
-      },
-    )
+other_room f g word a room name es live at is life ne lives turn = grind (arith, nat_tests, turn_is, eqb-false)
 
 sized_admits : (f : Profile) (z y : Bool) (k ep g a word room : ℕ) (name : Name) (es : List Event) → Run f es → IsPlace f (address_of name) → a ≡ word → name.turn < 2 ^ 40 - 1
     → IsLifeOf f g word (live_in es (address_of name)) (gives_in es (address_of name)) (ends_in es (address_of name)) → (a == live_word name.turn (room / 16)) ≡ z → (is_live a && (turn_of a == name.turn)) ≡ y
     → Run f (with_event (if z then Some (Event.End k name ep) else Some (Event.Reject k name (if y then Why.SizeDiffers room else reason_of name a))) es)
 sized_admits f true y k ep g a word room name es run of is small life ze ye = end_admits f true y k ep g a word (room / 16) name es run of is small life ze ye
 sized_admits f false true k ep g a word room name es run of is small life ze ye =
-    let parts = and_parts (is_live a) (turn_of a == name.turn) ye in
-    ((of, other_room f g word a room name es (live_in es (address_of name)) refl is life ze parts.0 (eqb-true (turn_of a) name.turn parts.1)), run)
+    search (arith, and_parts, other_room, eqb-true)
 sized_admits f false false k ep g a word room name es run of is small life ze ye = ((of, refused f g word a name es is life ye), run)
 
 give_admits : (f : Profile) (l : Whole) → IsValid f → Legal f l → (k : ℕ) (block : Block) → IsBlockOf f block → Allowed f (part k l) (Give block) → MayGive f (visible l) block
@@ -174,13 +141,12 @@ untouched_if f l valid legal k page address held (Some b) is = false_from_ne_tru
 -- a page that may be unbacked: its last end is old enough, since its stamp is
 unback_admits : (f : Profile) (l : Whole) → IsValid f → Legal f l → (k page : ℕ) → IsPage f page → MayUnback f (part k l) page → Admits f (visible l) (Event.Unback k page (epoch_of (part k l)))
 unback_admits f l valid legal k page of may =
-    let late : epoch_in (visible l) page ≤ word_after l (Word.Stamp page) = ends_before f l valid legal k page may.held may.stamped in
     let stamp : word_after l (Word.Stamp page) ≡ may.stamp = stamp_known f l valid legal k page may.stamp may.known in
     let old = may.old in (
       of,
       one_backed (backed_in (visible l) page) (sym (backed_known f l valid legal k page may.backed) ∙ backed_of f l legal page),
       (λ address. untouched_if f l valid legal k page address may.held (live_in (visible l) address) refl),
-      omega (arith, late, stamp, old),
+      omega (arith, ends_before f l valid legal k page may.held may.stamped, stamp, old),
     )
 
 admits : (f : Profile) (l : Whole) → IsValid f → Legal f l → (k : ℕ) (s : Step) (a : ℕ) → IsStepOf f s → Allowed f (part k l) s → a ≡ word_after l (target s) → Run f (visible l) → Run f (with_event (event_of k (epoch_of (part k l)) s a) (visible l))
@@ -210,9 +176,7 @@ runs f (t ∷ l) valid legal = admits f l valid legal.1 t.actor t.made.step t.ma
 
 -- a live block has the grain just where the grain's place says so
 part_is : (f : Profile) (l : Whole) (g : ℕ) → IsValid f → Legal f l → (at : IsPlacedOnce l g) (address : ℕ) (b : Live) → live_in (visible l) address ≡ Some b → in_run (address / 16) (length_of b.block) g ≡ is_covered_by (address / 16) at.place
-part_is f l g valid legal at address b is =
-    let life : IsLifeOfLive f (address / 16) (word_after l (life_word_at (address / 16))) b (gives_in (visible l) address) (ends_in (visible l) address) = live_of f l valid legal address b is in
-    sym (covers_live (ends_in (visible l) address) (length_of b.block) (address / 16) g life.few life.short) ∙ ap (λ w. covers w (address / 16) g) (sym life.word_is) ∙ at.covered (address / 16)
+part_is f l g valid legal at address b is = search (arith, live_of, covers_live)
 
 -- the block that a live word tells of
 record LivesAt (l : Whole) (a : ℕ) : Type 0 where
@@ -220,8 +184,7 @@ record LivesAt (l : Whole) (a : ℕ) : Type 0 where
   lives : live_in (visible l) (16 * a) ≡ Some block
 
 found_block : (f : Profile) (l : Whole) (a word : ℕ) (live : Option Live) (gives ends : ℕ) → live_in (visible l) (16 * a) ≡ live → IsLifeOf f a word live gives ends → is_live word ≡ true → LivesAt l a
-found_block f l a word None gives ends is life live = let big : 2 ^ 63 ≤ word = leb-true (2 ^ 63) word live in absurd (omega (arith, life.word_is, life.few, big))
-found_block f l a word (Some b) gives ends is life live = record { block = b; lives = is }
+found_block f l a word live gives ends is life e = grind (arith, leb-true)
 
 in_place : (f : Profile) (l : Whole) (g : ℕ) → Legal f l → (o : Place) → has_bit (word_after l (free_word_at g)) (g % 64) ≡ is_free o → ((k : ℕ) → holds (part k l) g ≡ is_held_by k o)
     → ((address : ℕ) (b : Live) → live_in (visible l) address ≡ Some b → in_run (address / 16) (length_of b.block) g ≡ is_covered_by (address / 16) o) → ((a : ℕ) → o ≡ Covered a → LivesAt l a) → IsInOnePlace l g
@@ -238,9 +201,7 @@ in_place f l g legal (Covered a) free held parts lives =
       not_free = free;
       nobody = held;
       one = λ other b is here.
-          let e : a ≡ other / 16 = eqb-true a (other / 16) (sym (parts other b is) ∙ here) in
-          let aligned : other % 16 ≡ 0 = live_is_aligned f l legal other b is in
-          omega (arith, e, aligned);
+          omega (arith, eqb-true a (other / 16) (sym (parts other b is) ∙ here), live_is_aligned f l legal other b is);
     }))
 
 -- after every legal list each grain is free, or held by one actor, or part of one live block
@@ -291,16 +252,7 @@ abbrev held_to : ℕ → ℕ → Bool → Bool
 held_to w g held = held_after (if gets w g then Gets else Stays) held
 
 all_taken : (g : ℕ) → g / 256 ≡ 1 → held_to 3 g (held_to 2 g (held_to 1 g (held_to 0 g false))) ≡ true
-all_taken g page = elim (cases_eq (g / 64 % 4) 0) [
-  | inl e ↦ moved_held (gets 3 g) (held_to 2 g (held_to 1 g (held_to 0 g false))) Gets (λ here. refl) (moved_held (gets 2 g) (held_to 1 g (held_to 0 g false)) Gets (λ here. refl) (moved_held (gets 1 g) (held_to 0 g false) Gets (λ here. refl) (ap (λ x. held_after (if x then Gets else Stays) false) (in_ones 0 g page e))))
-  | inr n0 ↦ elim (cases_eq (g / 64 % 4) 1) [
-    | inl e ↦ moved_held (gets 3 g) (held_to 2 g (held_to 1 g (held_to 0 g false))) Gets (λ here. refl) (moved_held (gets 2 g) (held_to 1 g (held_to 0 g false)) Gets (λ here. refl) (ap (λ x. held_after (if x then Gets else Stays) (held_to 0 g false)) (in_ones 1 g page e)))
-    | inr n1 ↦ elim (cases_eq (g / 64 % 4) 2) [
-      | inl e ↦ moved_held (gets 3 g) (held_to 2 g (held_to 1 g (held_to 0 g false))) Gets (λ here. refl) (ap (λ x. held_after (if x then Gets else Stays) (held_to 1 g (held_to 0 g false))) (in_ones 2 g page e))
-      | inr n2 ↦ ap (λ x. held_after (if x then Gets else Stays) (held_to 2 g (held_to 1 g (held_to 0 g false)))) (in_ones 3 g page (omega (arith, n0, n1, n2)))
-    ]
-  ]
-]
+all_taken g page = search (arith, cases_eq, moved_held, in_ones)
 
 holds_one : (v : View) → ((g : ℕ) → g / 256 ≡ 1 → holds v g ≡ true) → holds_on v 1 ≡ true
 holds_one v h = any_from 256 (λ b. holds v (1 * 256 + b)) 0 (omega arith) (h 256 refl)
@@ -309,15 +261,10 @@ holds_each : (v : View) → ((g : ℕ) → g / 256 ≡ 1 → holds v g ≡ true)
 holds_each v h = all_below-from 256 (λ b. holds v (1 * 256 + b)) (λ i lt. h (1 * 256 + i) (omega (arith, lt)))
 
 backed_is_known : (age : ℕ) → knows_backed (ticked age) 1 ≡ true
-backed_is_known age =
-    let one : knows_backed backed 1 ≡ true = holds_one backed all_taken in
-    let two : knows_backed looked 1 ≡ true = and_from (knows_backed backed 1) (holds_on looked 1) one (holds_one looked all_taken) in
-    and_from (knows_backed looked 1) (holds_on (ticked age) 1) two (holds_one (ticked age) all_taken)
+backed_is_known age = search (arith, holds_one, all_taken, and_from)
 
 stamp_is_known : (age : ℕ) → known_stamp (ticked age) 1 ≡ Some 0
-stamp_is_known age =
-    ap (λ t. if t then known_stamp looked 1 else None) (holds_each (ticked age) all_taken)
-    ∙ ap (λ t. if t then Some 0 else None) (holds_each looked all_taken)
+stamp_is_known age = cc (holds_each (ticked age) all_taken, holds_each looked all_taken)
 
 may_unback : (f : Profile) → MayUnback f (ticked f.age) 1
 may_unback f = record { held = all_taken; stamped = refl; backed = backed_is_known f.age; stamp = 0; known = stamp_is_known f.age; read = tt; old = omega arith }

@@ -1,6 +1,6 @@
 -- One step more.
-use Rattle.std.proofs.Common.{◌≡◌, ℕ, ◌≤◌, ◌∷◌, sym, subst, Bool, true, false, if◌then◌else◌, List, length-set, refl, ap, ◌∙◌, ◌≢◌, ◌==◌, ◌++◌, [], slice_index}
-use Rattle.std.proofs.Common.{slice_set, eq-eqb, eqb-true, ne_eqb}
+use Rattle.std.proofs.Common.{arith, ◌≡◌, ℕ, ◌≤◌, ◌∷◌, sym, subst, Bool, true, false, if◌then◌else◌, List, length-set, refl, ap, ◌≢◌, ◌==◌, ◌++◌, []}
+use Rattle.std.proofs.Common.{slice_index, slice_set, eq-eqb, eqb-true, ne_eqb}
 use Rattle.pas_profile.specs.{Profiles.IsValid, Profiles.IsWordOf, Layouts.index_of, Layouts.same_word}
 use Rattle.pas_profile.specs.declared.{profile.Profile.Profile, word.Word.Word}
 use Rattle.pas_steps.specs.{Effects.target, Effects.new_value, Views.View, Views.epoch_of, Allowed.Allowed, Allowed.IsStepOf, Agreement.Agrees}
@@ -36,28 +36,17 @@ agreed_steps f k l (m ∷ xs) valid legal = (agrees_next f (triples k xs ++ l) k
 
 value_next : (f : Profile) (words : List ℕ) (l : Whole) (w : Word) (e k : ℕ) (s : Step) (n : ℕ) → n ≡ slice_index words (index_of f.pages (target s)) → slice_index words (index_of f.pages w) ≡ word_after l w → e ≡ epoch_of (part k l) → (same : Bool) → same_word (target s) w ≡ same
     → (if same then new_value e s n else slice_index words (index_of f.pages w)) ≡ (if same then new_value (epoch_of (part k l)) s (word_after l w) else word_after l w)
-value_next f words l w e k s n is ends ep true same =
-    ap (λ (x : ℕ). new_value x s n) ep ∙ ap (new_value (epoch_of (part k l)) s) (is ∙ (ap (λ (x : Word). slice_index words (index_of f.pages x)) (same_word-true (target s) w same) ∙ ends))
-value_next f words l w e k s n is ends ep false same = ends
+value_next f words l w e k s n is ends ep same h = grind (arith, same_word-true)
 
 -- the place of the step's word has its new value, for an actor that knows this epoch
 pub words_next : (f : Profile) (words : List ℕ) (l : Whole) (e k : ℕ) (s : Step) (n : ℕ) → AreWordsAfter f words l → IsWordOf f (target s) → n ≡ slice_index words (index_of f.pages (target s)) → e ≡ epoch_of (part k l)
     → AreWordsAfter f (slice_set words (index_of f.pages (target s)) (new_value e s n)) (triple k (made s n) ∷ l)
-words_next f words l e k s n are of is ep = record {
-  sized = length-set words (index_of f.pages (target s)) (new_value e s n) ∙ are.sized;
-  values = λ w hw.
-      place_written f.pages f.heaps words (target s) w (new_value e s n) are.sized of hw (same_word (target s) w) refl
-      ∙ value_next f words l w e k s n is (are.values w hw) ep (same_word (target s) w) refl;
-}
+words_next f words l e k s n are of is ep = search (arith, length-set, place_written, value_next)
 
 -- ==== One more step of one actor extends its own list, and that of no other.
 
 pub extends_one_part : (f : Profile) (l : Whole) (k : ℕ) (m : Made) → Legal f l → IsNext f l (triple k m) → ExtendsOnePart f l k m
-extends_one_part f l k m legal next = record {
-  legal = (next, legal);
-  its_part = part_of_own k (m ∷ []) l;
-  others = λ j ne. part_of_others j k (m ∷ []) l (λ e. ne (sym e));
-}
+extends_one_part f l k m legal next = search (arith, part_of_own, part_of_others)
 
 -- the own list of the actor that made the step, and those of the others
 pub with_step_own : (k : ℕ) (m : Made) (own : ℕ → View) → with_step k m own k ≡ m ∷ own k
@@ -67,12 +56,8 @@ pub with_step_others : (j k : ℕ) (m : Made) (own : ℕ → View) → j ≢ k �
 with_step_others j k m own ne = ap (λ (b : Bool). if b then m ∷ own j else own j) (ne_eqb j k ne)
 
 order_next_at : (l : Whole) (own : ℕ → View) (k : ℕ) (m : Made) (j : ℕ) → IsOneOrder l own → (same : Bool) → (j == k) ≡ same → part j (triple k m ∷ l) ≡ with_step k m own j
-order_next_at l own k m j order true e =
-    let at_own : part k (triple k m ∷ l) ≡ with_step k m own k = part_of_own k (m ∷ []) l ∙ (ap (λ (v : View). m ∷ v) (order k) ∙ sym (with_step_own k m own)) in
-    subst (λ (i : ℕ). part i (triple k m ∷ l) ≡ with_step k m own i) (sym (eqb-true j k e)) at_own
-order_next_at l own k m j order false e =
-    let other : j ≢ k = λ same. false≢true (sym e ∙ eq-eqb j k same) in
-    part_of_others j k (m ∷ []) l (λ same. other (sym same)) ∙ (order j ∙ sym (with_step_others j k m own other))
+order_next_at l own k m j order true e = search (arith, part_of_own, with_step_own, eqb-true)
+order_next_at l own k m j order false e = search (arith, false≢true, eq-eqb, part_of_others, with_step_others)
 
 -- the list with the step is one order of the own lists with the step
 pub one_order_next : (l : Whole) (own : ℕ → View) (k : ℕ) (m : Made) → IsOneOrder l own → IsOneOrder (triple k m ∷ l) (with_step k m own)

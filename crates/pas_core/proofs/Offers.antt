@@ -6,12 +6,12 @@ use Rattle.std.proofs.lemmas.Bool.{false≢true, and_parts, cases_Bool, false_fr
 use Rattle.std.proofs.lemmas.Bool.{cases_lt, cases_eq}
 use Rattle.std.proofs.lemmas.Nat.{and_le_r}
 use Rattle.pas_bits.specs.Bits.{has_bit}
-use Rattle.pas_profile.specs.{Layouts.same_word, Profiles.IsValid, Directories.number_of, Directories.directory_read}
+use Rattle.pas_profile.specs.{Layouts.same_word, Profiles.IsValid, Directories.directory_read}
 use Rattle.pas_profile.specs.declared.{profile.Profile.Profile, word.Word.Word}
 use Rattle.pas_steps.specs.{Effects.free_word_at, Effects.target, Allowed.Allowed, Allowed.IsStepOf, Allowed.HoldsOn, Desks.made, Desks.triple, Desks.triples}
 use Rattle.pas_steps.specs.{Clear.IsClear}
-use Rattle.pas_steps.specs.Views.{all_ones, hint_after, owes_hint, examined_after, examines, epoch_of, way, ToParked, ToOffer, FromParked, FromOffer, ByDeed}
-use Rattle.pas_steps.specs.Views.{Rests, Way, has_right, known_deed, usable_by, no_usable, check_after, owes_check}
+use Rattle.pas_steps.specs.Views.{all_ones, hint_after, owes_hint, examined_after, examines, epoch_of, way, ToParked, Rests, Way, has_right, known_deed}
+use Rattle.pas_steps.specs.Views.{usable_by, no_usable, check_after, owes_check}
 use Rattle.pas_steps.specs.Lists.{Whole, part, word_after, IsNext, Legal}
 use Rattle.pas_steps.specs.declared.step.{Step.Step, Made.Made}
 use Rattle.pas_steps.specs.declared.step.Step.TheVariants.{Look, Back, Take, Put, Hint, Unback, Unhint, Deed, TakeRight, Offer, Park, Unpark}
@@ -22,17 +22,13 @@ use Rattle.pas_bits.proofs.{Words.bit_cleared, PageVectors.page_bit-clear, PageV
 use Rattle.pas_core.proofs.Deeds.{next_value, looked, known_is, word_stays}
 use Rattle.pas_core.proofs.{Grains.is_held_by-true, Grains.placed_once, Stamps.words_fit}
 use Rattle.pas_steps.proofs.{Flags.stays_set, Bits.none_set, Bits.all_set, Bits.all_below-at, Parts.part_of_others}
-use Rattle.pas_core.proofs.Rights.{Spot, InParked, is_with, is_parked, spot_after, spot_of, DeedFits, IsSpotted, spotted, parked_spot, right_in_one_place}
+use Rattle.pas_core.proofs.Rights.{Spot, InParked, is_with, is_parked, spot_after, spot_of, IsSpotted, spotted, parked_spot, right_in_one_place}
 
 -- ==== A backed page whose grains are all free isn't forgotten: its empty bit is set, or some actor owes its hint, or some actor examines it.
 
--- a bit of a free word is that of a grain
+-- a bit of a free word is that of a grain, by division
 grain_bit : (l : Whole) (p w b : ℕ) → w < 4 → b < 64 → has_bit (word_after l (Word.Free p w)) b ≡ has_bit (word_after l (free_word_at (p * 256 + w * 64 + b))) ((p * 256 + w * 64 + b) % 64)
-grain_bit l p w b hw hb =
-    let page : p ≡ (p * 256 + w * 64 + b) / 256 = omega (arith, hw, hb) in
-    let word : w ≡ (p * 256 + w * 64 + b) / 64 % 4 = omega (arith, hw, hb) in
-    let bit : b ≡ (p * 256 + w * 64 + b) % 64 = omega (arith, hw, hb) in
-    ap (λ x. has_bit (word_after l (Word.Free x w)) b) page ∙ ap (λ x. has_bit (word_after l (Word.Free ((p * 256 + w * 64 + b) / 256) x)) b) word ∙ ap (λ x. has_bit (word_after l (free_word_at (p * 256 + w * 64 + b))) x) bit
+grain_bit l p w b hw hb = search arith
 
 free_bits : (l : Whole) (p w b : ℕ) → w < 4 → b < 64 → IsEmptyBacked l p → has_bit (word_after l (Word.Free p w)) b ≡ true
 free_bits l p w b hw hb empty = grain_bit l p w b hw hb ∙ empty.free (p * 256 + w * 64 + b) (omega (arith, hw, hb))
@@ -47,20 +43,16 @@ puts (Put q w mask) p = q == p
 puts s p = false
 
 clear_was : (t : Bool) (old mask b : ℕ) → mask < 2 ^ 64 → b < 64 → has_bit (if t then bit_and old (bit_not w64 mask) else old) b ≡ true → has_bit old b ≡ true
-clear_was true old mask b hm hb h = (and_parts (has_bit old b) (not (has_bit mask b)) (sym (bit_cleared old mask b hm hb) ∙ h)).0
-clear_was false old mask b hm hb h = h
+clear_was t old mask b hm hb h = grind (arith, and_parts, bit_cleared)
 
 back_was : (x : Bool) (old : ℕ) → (x ≡ true → ⊥) → (if x then bit_or old 1 else old) ≡ 1 → old ≡ 1
-back_was true old never h = absurd (never refl)
-back_was false old never h = h
+back_was x old never h = grind arith
 
 unback_was : (x : Bool) (old : ℕ) → (if x then 0 else old) ≡ 1 → old ≡ 1
 unback_was x old h = grind arith
 
 put_misses : (q w p g : ℕ) → (q == p) ≡ false → g / 256 ≡ p → ((w == g / 64 % 4) && (q == g / 256)) ≡ false
-put_misses q w p g other e = false_from_ne_true ((w == g / 64 % 4) && (q == g / 256)) (λ h.
-    let here = and_parts (w == g / 64 % 4) (q == g / 256) h in
-    false≢true (sym other ∙ eq-eqb q p (eqb-true q (g / 256) here.1 ∙ e)))
+put_misses q w p g other e = search (arith, false_from_ne_true, and_parts, false≢true, eq-eqb, eqb-true)
 
 -- whoever backs a page holds a grain of it, so it isn't empty
 back_not_empty : (f : Profile) (l : Whole) → IsValid f → Legal f l → (j q p : ℕ) → HoldsOn (part j l) q → ((g : ℕ) → g / 256 ≡ p → has_bit (word_after l (free_word_at g)) (g % 64) ≡ true) → (q == p) ≡ true → ⊥
@@ -70,10 +62,7 @@ back_not_empty f l valid legal j q p on free h =
     false≢true (sym (at.free ∙ ap is_free here) ∙ free on.0 (on.1 ∙ eqb-true q p h))
 
 was_empty : (f : Profile) (l : Whole) → IsValid f → Legal f l → (j : ℕ) (s : Step) (a p : ℕ) → IsStepOf f s → Allowed f (part j l) s → puts s p ≡ false → IsEmptyBacked (triple j (made s a) ∷ l) p → IsEmptyBacked l p
-was_empty f l valid legal j (Look word) a p of allowed other h = record {
-  backed = sym (looked (same_word word (Word.Backed p)) (word_after l (Word.Backed p))) ∙ h.backed;
-  free = λ g e. ap (λ n. has_bit n (g % 64)) (sym (looked (same_word word (free_word_at g)) (word_after l (free_word_at g)))) ∙ h.free g e;
-}
+was_empty f l valid legal j (Look word) a p of allowed other h = search (arith, looked)
 was_empty f l valid legal j (Back q) a p of allowed other h = record { backed = back_was (q == p) (word_after l (Word.Backed p)) (back_not_empty f l valid legal j q p allowed.0 h.free) h.backed; free = h.free }
 was_empty f l valid legal j (Take q w mask) a p of allowed other h = record { backed = h.backed; free = λ g e. clear_was ((w == g / 64 % 4) && (q == g / 256)) (word_after l (free_word_at g)) mask (g % 64) of.2 (omega arith) (h.free g e) }
 was_empty f l valid legal j (Put q w mask) a p of allowed other h = record { backed = h.backed; free = λ g e. ap (λ t. has_bit (if t then bit_or (word_after l (free_word_at g)) mask else word_after l (free_word_at g)) (g % 64)) (sym (put_misses q w p g other e)) ∙ h.free g e }
@@ -83,14 +72,11 @@ was_empty f l valid legal j s a p of allowed other h = record { backed = h.backe
 -- ---- debts and examinations
 -- the debt and the examination stay where the step ends none, and the bit where it stays set
 keeps : (l : Whole) (j : ℕ) (s : Step) (a p : ℕ) → hint_after s a p true ≡ true → examined_after s a p true ≡ true → (empty_bit l p ≡ true → IsMinded (triple j (made s a) ∷ l) p) → IsMinded l p → IsMinded (triple j (made s a) ∷ l) p
-keeps l j s a p hint examined bit (inl set) = bit set
-keeps l j s a p hint examined bit (inr (inl owed)) = inr (inl (record { actor = owed.actor; owes = cond_both (j == owed.actor) (made s a ∷ part owed.actor l) (part owed.actor l) (λ v. owes_hint v p ≡ true) (λ own. ap (hint_after s a p) owed.owes ∙ hint) (λ other. owed.owes) }))
-keeps l j s a p hint examined bit (inr (inr at)) = inr (inr (record { actor = at.actor; examines_it = cond_both (j == at.actor) (made s a ∷ part at.actor l) (part at.actor l) (λ v. examines v p ≡ true) (λ own. ap (examined_after s a p) at.examines_it ∙ examined) (λ other. at.examines_it) }))
+keeps l j s a p hint examined bit e = grind (arith, cond_both)
 
 -- who puts grains of a page back owes its hint
 put_owes : (s : Step) (a p : ℕ) (was : Bool) → puts s p ≡ true → hint_after s a p was ≡ true
-put_owes (Put q w mask) a p was h = ap (λ t. if t then true else was) h
-put_owes s a p was h = absurd (false≢true h)
+put_owes s a p was h = grind (arith, false≢true)
 
 -- a look at a free word of the page, or at its backed word, ends nothing
 look_free_keeps : (f : Profile) (l : Whole) → IsValid f → Legal f l → (q w a p : ℕ) → w < 4 → a ≡ word_after l (Word.Free q w) → IsEmptyBacked l p → ((q == p) && not (a == all_ones)) ≡ false
@@ -100,11 +86,7 @@ look_free_keeps f l valid legal q w a p hw is empty = false_from_ne_true ((q == 
     false≢true (sym (ap not (eq-eqb a all_ones full)) ∙ parts.1))
 
 look_backed_keeps : (l : Whole) (q a p : ℕ) → a ≡ word_after l (Word.Backed q) → IsEmptyBacked l p → ((q == p) && (a == 0)) ≡ false
-look_backed_keeps l q a p is empty = false_from_ne_true ((q == p) && (a == 0)) (λ h.
-    let parts = and_parts (q == p) (a == 0) h in
-    let one : a ≡ 1 = is ∙ ap (λ x. word_after l (Word.Backed x)) (eqb-true q p parts.0) ∙ empty.backed in
-    let none : a ≡ 0 = eqb-true a 0 parts.1 in
-    omega (arith, one, none))
+look_backed_keeps l q a p is empty = search (arith, false_from_ne_true, and_parts, eqb-true)
 
 -- a take that leaves each grain of the page free got none, and read all ones
 take_mask_none : (l : Whole) (j e q w mask a p : ℕ) → w < 4 → mask < 2 ^ 64 → (q == p) ≡ true → ((b : ℕ) → b < 64 → has_bit (next_value e (Take q w mask) (Word.Free p w) (word_after l (Word.Free p w))) b ≡ true) → mask ≡ 0
@@ -197,57 +179,41 @@ look_keeps l q u a p w b k at is_free is = false_from_ne_true ((u == w) && (q ==
 
 -- ---- what was so before a step
 was_parked : (j : ℕ) (t : Bool) (m : Way) (o : Spot) → (spot_after j m o ≡ InParked → ⊥) → spot_after j (if t then m else Rests) o ≡ InParked → (t ≡ false) × (o ≡ InParked)
-was_parked j true m o never h = absurd (never h)
-was_parked j false m o never h = (refl, h)
+was_parked j t m o never h = grind arith
 
 -- a deed that there is stays
 same_deed : (l : Whole) (e : ℕ) (s : Step) (p : ℕ) → IsSpotted l p → spot_of l p ≡ InParked → next_value e s (Word.Deed p) (word_after l (Word.Deed p)) ≡ word_after l (Word.Deed p)
-same_deed l e s p at parked =
-    let ne : word_after l (Word.Deed p) ≢ 0 = subst (λ o. DeedFits o (word_after l (Word.Deed p))) parked at.deed in
-    sym (known_is (word_after l (Word.Deed p)) (next_value e s (Word.Deed p) (word_after l (Word.Deed p))) (word_stays e s p (word_after l (Word.Deed p)) (word_after l (Word.Deed p)) (inr refl)) ne)
+same_deed l e s p at parked = search (arith, known_is, word_stays)
 
 -- ---- steps
 -- grains that are put into the word of a parked page are owed by who put them, since it hasn't the right
 put_owed : (l : Whole) (j q u mask a p w b : ℕ) → IsSpotted l p → spot_of l p ≡ InParked → (has_bit (word_after l (Word.Free p w)) b ≡ true → IsOwed l p w) → (t : Bool) → ((u == w) && (q == p)) ≡ t
     → has_bit (if t then bit_or (word_after l (Word.Free p w)) mask else word_after l (Word.Free p w)) b ≡ true → IsOwed (triple j (made (Put q u mask) a) ∷ l) p w
-put_owed l j q u mask a p w b at parked before true e free = owes_now l j (Put q u mask) a p w
-    (ap (λ t. if t && not (has_right (part j l) p) then true else owes_check (part j l) p w) e ∙ ap (λ t. if not t then true else owes_check (part j l) p w) (at.has j ∙ ap (is_with j) parked))
-put_owed l j q u mask a p w b at parked before false e free = keeps_owed l j (Put q u mask) a p w (λ k. stays_set ((u == w) && (q == p) && not (has_right (part k l) p)) true refl) (before free)
+put_owed l j q u mask a p w b at parked before t e free = grind (arith, owes_now, is_with, keeps_owed, stays_set)
 
 park_owed : (l : Whole) (j q a p w : ℕ) (t : Bool) → (q == p) ≡ t → spot_after j (if t then ToParked else Rests) (spot_of l p) ≡ InParked → (spot_of l p ≡ InParked → IsOwed l p w) → IsOwed (triple j (made (Park q) a) ∷ l) p w
-park_owed l j q a p w true e parked before = owes_now l j (Park q) a p w (ap (λ t. if t then true else owes_check (part j l) p w) e)
-park_owed l j q a p w false e parked before = keeps_owed l j (Park q) a p w (λ k. stays_set (q == p) true refl) (before parked)
+park_owed l j q a p w t e parked before = grind (arith, owes_now, keeps_owed, stays_set)
 
 -- a page stays parked only where its parked bit isn't cleared
 unpark_other : (l : Whole) (q a p : ℕ) → IsSpotted l p → a ≡ word_after l (Word.Parked (q / 64)) → spot_of l p ≡ InParked → ((q == p) && has_bit a (p % 64)) ≡ false → (q == p) ≡ false
-unpark_other l q a p at is parked none = false_from_ne_true (q == p) (λ h.
-    let bit : has_bit a (p % 64) ≡ true = ap (λ n. has_bit n (p % 64)) (is ∙ ap (λ x. word_after l (Word.Parked (x / 64))) (eqb-true q p h)) ∙ at.parked ∙ ap is_parked parked in
-    false≢true (sym none ∙ and_from (q == p) (has_bit a (p % 64)) h bit))
+unpark_other l q a p at is parked none = search (arith, false_from_ne_true, eqb-true, is_parked, false≢true, and_from)
 
 owed_step : (f : Profile) (l : Whole) (j e : ℕ) (s : Step) (a p w b : ℕ) → b < 64 → IsSpotted l p → IsStepOf f s → a ≡ word_after l (target s)
     → (spot_of l p ≡ InParked → has_bit (word_after l (Word.Free p w)) b ≡ true → IsOwed l p w)
     → (spot_of l p ≡ InParked → has_bit (word_after l (Word.Free p w)) b ≡ true → IsUsableFree l p w b)
     → spot_after j (way s a p) (spot_of l p) ≡ InParked → has_bit (next_value e s (Word.Free p w) (word_after l (Word.Free p w))) b ≡ true → IsOwed (triple j (made s a) ∷ l) p w
 owed_step f l j e (Look (Word.Free q u)) a p w b small at of is before usable o free =
-    let was : has_bit (word_after l (Word.Free p w)) b ≡ true = ap (λ n. has_bit n b) (sym (looked (same_word (Word.Free q u) (Word.Free p w)) (word_after l (Word.Free p w)))) ∙ free in
-    keeps_owed l j (Look (Word.Free q u)) a p w
-    (λ k. cond-false ((u == w) && (q == p) && not (known_deed (part k l) p == 0) && no_usable (known_deed (part k l) p) w a) false true (look_keeps l q u a p w b k at (usable o was) is)) (before o was)
-owed_step f l j e (Deed q d) a p w b small at of is before usable o free =
-    let was = was_parked j ((q == p) && (a == 0)) ByDeed (spot_of l p) (λ h. absurd cc) o in
-    keeps_owed l j (Deed q d) a p w (λ k. refl) (before was.1 free)
+    search (arith, looked, keeps_owed, cond-false, look_keeps)
+owed_step f l j e (Deed q d) a p w b small at of is before usable o free = search (arith, was_parked, keeps_owed)
 owed_step f l j e (Take q u mask) a p w b small at of is before usable o free =
     keeps_owed l j (Take q u mask) a p w (λ k. refl) (before o (clear_was ((u == w) && (q == p)) (word_after l (Word.Free p w)) mask b of.2 small free))
 owed_step f l j e (Put q u mask) a p w b small at of is before usable o free = put_owed l j q u mask a p w b at o (before o) ((u == w) && (q == p)) refl free
-owed_step f l j e (TakeRight q d) a p w b small at of is before usable o free =
-    let was = was_parked j ((q == p) && has_bit a (p % 64)) (FromOffer (number_of d)) (spot_of l p) (λ h. absurd cc) o in
-    keeps_owed l j (TakeRight q d) a p w (λ k. refl) (before was.1 free)
+owed_step f l j e (TakeRight q d) a p w b small at of is before usable o free = search (arith, was_parked, keeps_owed)
 owed_step f l j e (Offer q d) a p w b small at of is before usable o free =
-    let was = was_parked j (q == p) (ToOffer (number_of d)) (spot_of l p) (λ h. absurd cc) o in
-    keeps_owed l j (Offer q d) a p w (λ k. cond-false (q == p) false true was.0) (before was.1 free)
+    search (arith, was_parked, keeps_owed, cond-false)
 owed_step f l j e (Park q) a p w b small at of is before usable o free = park_owed l j q a p w (q == p) refl o (λ parked. before parked free)
 owed_step f l j e (Unpark q) a p w b small at of is before usable o free =
-    let was = was_parked j ((q == p) && has_bit a (p % 64)) FromParked (spot_of l p) (λ h. absurd cc) o in
-    keeps_owed l j (Unpark q) a p w (λ k. cond-false (q == p) false true (unpark_other l q a p at is was.1 was.0)) (before was.1 free)
+    search (arith, was_parked, keeps_owed, cond-false, unpark_other)
 owed_step f l j e s a p w b small at of is before usable o free = keeps_owed l j s a p w (λ k. refl) (before o free)
 
 -- the induction
@@ -257,11 +223,7 @@ owed_at f (t ∷ l) legal p w b o free =
     let at : IsSpotted l p = spotted f l legal.1 p in
     let next : IsNext f l t = legal.0 in
     let e : ℕ = epoch_of (part t.actor l) in
-    let was : spot_of l p ≡ InParked → has_bit (word_after l (Word.Free p w)) b ≡ true → IsUsableFree l p w b = λ parked bit. record {
-      small = free.small;
-      free = bit;
-      usable = ap (λ n. usable_by (directory_read n) (64 * w + b)) (sym (same_deed l e t.made.step p at parked)) ∙ free.usable;
-    } in
+    let was : spot_of l p ≡ InParked → has_bit (word_after l (Word.Free p w)) b ≡ true → IsUsableFree l p w b = search (arith, same_deed) in
     owed_step f l t.actor e t.made.step t.made.answer p w b free.small at next.of_region next.answer_is (λ parked bit. owed_at f l legal.1 p w b parked (was parked bit)) was o free.free
 
 -- where a parked page has a free usable grain, some actor owes the check of its word

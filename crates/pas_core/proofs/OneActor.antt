@@ -2,24 +2,24 @@
 -- after them, and what its search finds.
 use Rattle.std.proofs.Common.{◌≡◌, ℕ, ◌/◌, true, false, if◌then◌else◌, List, [], ◌∷◌, ◌++◌, refl, ap, ◌∙◌, true≢false, ◌≢◌, ◌+◌, ◌*◌, ◌%◌, ◌<◌, ◌==◌, Bool}
 use Rattle.std.proofs.Common.{◌&&◌, ◌||◌, sym, arith, inl, inr, None, Some, subst, Result, Ok, Err, eq-eqb, eqb-true}
-use Rattle.pas_bits.specs.{Bits.has_bit, PageVectors.page_mask}
+use Rattle.pas_bits.specs.Bits.{has_bit}
 use Rattle.pas_profile.specs.{Directories.number_of, Directories.deed_word_of, Directories.deed_word_numbered, Layouts.same_word, Profiles.IsValid}
 use Rattle.pas_profile.specs.{Profiles.IsDirectoryOf}
 use Rattle.pas_profile.specs.declared.{word.Word.Word, profile.Profile.Profile, event.Event.Event, directory.Directory.Directory, event.NoRoom.NoRoom}
 use Rattle.pas_profile.specs.declared.{event.NoRoom.TheVariants.NoSpace}
-use Rattle.pas_steps.specs.Effects.{target, new_value, free_word_at, in_mask}
-use Rattle.pas_steps.specs.Views.{epoch_of, View, Move, Stays, Gets, Puts, Gives, Ends, grain_move, held_after, holds, Way, Rests, ByDeed, FromOffer}
-use Rattle.pas_steps.specs.Views.{FromParked, ToOffer, ToParked, way, had_after, has_right, deed_after, known_deed, KnowsDeed}
+use Rattle.pas_steps.specs.{Effects.target, Effects.new_value, Effects.free_word_at, Desks.triples, Desks.triple, Past.Once, Past.Always, Events.event_of}
+use Rattle.pas_steps.specs.{Allowed.Allowed, Agreement.Agrees}
+use Rattle.pas_steps.specs.Views.{epoch_of, View, Move, Stays, Gets, Puts, Gives, Ends, grain_move, held_after, holds, Way, Rests, ByDeed, FromOffer, ToOffer}
+use Rattle.pas_steps.specs.Views.{ToParked, way, had_after, has_right, deed_after, known_deed, KnowsDeed}
 use Rattle.pas_steps.specs.Lists.{Whole, part, word_after, Legal}
-use Rattle.pas_steps.specs.{Desks.triples, Desks.triple, Past.Once, Past.Always, Events.event_of, Allowed.Allowed, Agreement.Agrees}
 use Rattle.pas_steps.specs.Kinds.{Kinds, kind_of, place_of, is_in, apart, Only, Taking, Claiming, Deeding, lending}
 use Rattle.pas_steps.specs.declared.step.{Made.Made, Step.Step}
-use Rattle.pas_steps.specs.declared.step.Step.TheVariants.{Look, Deed, Take, Put, TakeRight, Offer, Give, End, EndSized, Park, Unpark}
+use Rattle.pas_steps.specs.declared.step.Step.TheVariants.{Look, Deed, TakeRight, Offer, Park, Unpark}
 use Rattle.pas_steps.proofs.{Apart.in_apart, Past.since_once, Past.always_map, Past.once_map, Parts.part_of_own, Parts.part_of_others, Parts.each_part}
 use Rattle.pas_steps.proofs.{Adding.triples_append, Frames.right_own, Frames.right_of_own, Frames.lacks_now, Kept.deed_stays}
 use Rattle.pas_core.proofs.Deeds.{looked, deed_kept, deed_was_none, known_is, numbered_ne}
-use Rattle.pas_core.proofs.Rights.{put_keeps, one_has_right, offered_has_deed, offered_spot, own_eligible, is_on_offer, Spot, Nowhere, With, Offered, InParked}
-use Rattle.pas_core.proofs.Rights.{is_with, is_offered, is_parked, spot_after, spot_of, Suits, DeedFits, IsSpotted, step_suits, spotted}
+use Rattle.pas_core.proofs.Rights.{put_keeps, one_has_right, offered_has_deed, offered_spot, own_eligible, is_on_offer, Spot, With, is_with, is_offered}
+use Rattle.pas_core.proofs.Rights.{is_parked, spot_after, spot_of, Suits, DeedFits, IsSpotted, step_suits, spotted}
 use Rattle.std.proofs.lemmas.Bool.{cases_Bool, cond_both, or_left, or_parts, or_from, cases_eq, false≢true, and_parts}
 use Rattle.pas_core.specs.Rights.{free_of_page, eligible_bit, parked_bit, AllRest}
 use Rattle.pas_core.specs.Good.{Place, Held, is_free, is_held_by, IsPlacedOnce}
@@ -41,29 +41,21 @@ over Q x ks ls step w k (m ∷ xs) l only h =
     step (epoch_of (part k (triples k xs ++ l))) m.step (word_after (triples k xs ++ l) x) (in_apart ks ls (place_of (kind_of m.step)) w only.0) (over Q x ks ls step w k xs l only.1 h)
 
 frees_kept : (e : ℕ) (s : Step) (p w old b : ℕ) → is_in (Taking ∷ []) (kind_of s) ≡ false → has_bit old b ≡ true → has_bit (if same_word (target s) (Word.Free p w) then new_value e s old else old) b ≡ true
-frees_kept e (Look x) p w old b is h = ap (λ n. has_bit n b) (looked (same_word x (Word.Free p w)) old) ∙ h
-frees_kept e (Put q j m) p w old b is h = put_keeps (same_word (Word.Free q j) (Word.Free p w)) old m b h
-frees_kept e (Take q j m) p w old b is h = absurd (true≢false is)
-frees_kept e s p w old b is h = h
+frees_kept e s p w old b is h = grind (arith, looked, put_keeps, true≢false)
 
 -- where none takes, free grains stay free
 pub free_stays : (ks : Kinds) → apart ks (Taking ∷ []) ≡ true → (k : ℕ) (xs : List Made) (l : Whole) (p w b : ℕ) → Only ks xs → has_bit (word_after l (Word.Free p w)) b ≡ true → has_bit (word_after (triples k xs ++ l) (Word.Free p w)) b ≡ true
 free_stays ks apart k xs l p w b = over (λ n. has_bit n b ≡ true) (Word.Free p w) ks (Taking ∷ []) (λ e s old other. frees_kept e s p w old b other) apart k xs l
 
 offers_kept : (e : ℕ) (s : Step) (n j old b : ℕ) → is_in (Claiming ∷ []) (kind_of s) ≡ false → has_bit old b ≡ true → has_bit (if same_word (target s) (Word.Eligible n j) then new_value e s old else old) b ≡ true
-offers_kept e (Look x) n j old b is h = ap (λ a. has_bit a b) (looked (same_word x (Word.Eligible n j)) old) ∙ h
-offers_kept e (Offer q d) n j old b is h = put_keeps (same_word (Word.Eligible (number_of d) (q / 64)) (Word.Eligible n j)) old (page_mask q) b h
-offers_kept e (TakeRight q d) n j old b is h = absurd (true≢false is)
-offers_kept e s n j old b is h = h
+offers_kept e s n j old b is h = grind (arith, looked, put_keeps, true≢false)
 
 -- where none claims, offered pages stay offered
 pub offered_stays : (ks : Kinds) → apart ks (Claiming ∷ []) ≡ true → (k : ℕ) (xs : List Made) (l : Whole) (n j b : ℕ) → Only ks xs → has_bit (word_after l (Word.Eligible n j)) b ≡ true → has_bit (word_after (triples k xs ++ l) (Word.Eligible n j)) b ≡ true
 offered_stays ks apart k xs l n j b = over (λ a. has_bit a b ≡ true) (Word.Eligible n j) ks (Claiming ∷ []) (λ e s old other. offers_kept e s n j old b other) apart k xs l
 
 deeds_kept : (e : ℕ) (s : Step) (p old : ℕ) → is_in (Deeding ∷ []) (kind_of s) ≡ false → (if same_word (target s) (Word.Deed p) then new_value e s old else old) ≡ old
-deeds_kept e (Look x) p old is = looked (same_word x (Word.Deed p)) old
-deeds_kept e (Deed q d) p old is = absurd (true≢false is)
-deeds_kept e s p old is = refl
+deeds_kept e s p old is = grind (arith, looked, true≢false)
 
 -- where none makes a deed, deed words stay
 pub deed_same : (ks : Kinds) → apart ks (Deeding ∷ []) ≡ true → (k : ℕ) (xs : List Made) (l : Whole) (p : ℕ) → Only ks xs → word_after (triples k xs ++ l) (Word.Deed p) ≡ word_after l (Word.Deed p)
@@ -80,12 +72,7 @@ IsPlain (Gives a) = ⊥
 IsPlain (Ends a) = ⊥
 
 plain_move : (s : Step) (a g : ℕ) → is_in lending (kind_of s) ≡ false → IsPlain (grain_move s a g)
-plain_move (Take p w mask) a g h = cond_both (in_mask p w mask g && has_bit a (g % 64)) Gets Stays IsPlain (λ here. tt) (λ other. tt)
-plain_move (Put p w mask) a g h = cond_both (in_mask p w mask g) Puts Stays IsPlain (λ here. tt) (λ other. tt)
-plain_move (Give b) a g h = absurd (true≢false h)
-plain_move (End n b) a g h = absurd (true≢false h)
-plain_move (EndSized n room) a g h = absurd (true≢false h)
-plain_move s a g h = tt
+plain_move s a g h = grind (arith, cond_both, true≢false)
 
 -- no block is given or ended
 abbrev pub LendsNone : List Made → Type 0
@@ -106,10 +93,7 @@ bit_moved f k l g m xs legal = free_step f (triples k xs ++ l) (epoch_of (part k
 
 -- ---- a grain that was free at entry is free, or the call holds it
 free_move : (m : Move) (bit held : Bool) → IsPlain m → (bit || held) ≡ true → (free_moved m bit || held_after m held) ≡ true
-free_move Stays bit held plain h = h
-free_move (Gives a) bit held plain h = absurd plain
-free_move (Ends a) bit held plain h = absurd plain
-free_move s bit held plain h = refl
+free_move s bit held plain h = grind arith
 
 free_or_held : (f : Profile) (k : ℕ) (l : Whole) (g : ℕ) (xs : List Made) → Legal f (triples k xs ++ l) → LendsNone xs → bit_of l g ≡ true → (bit_of (triples k xs ++ l) g || holds xs g) ≡ true
 free_or_held f k l g [] legal lends free = or_left (bit_of l g) false free
@@ -125,10 +109,7 @@ held_own : (k : ℕ) → is_held_by k (Held k) ≡ true
 held_own k = eq-eqb k k refl
 
 used_move : (k : ℕ) (m : Move) (o : Place) (bit held : Bool) → IsPlain m → Fits k m o → is_free o ≡ false → is_held_by k o ≡ false → bit ≡ false → held ≡ false → (free_moved m bit ≡ false) × (held_after m held ≡ false)
-used_move k Stays o bit held plain fits not_free not_held b h = (b, h)
-used_move k Gets o bit held plain fits not_free not_held b h = absurd (true≢false (sym (ap is_free fits) ∙ not_free))
-used_move k Puts o bit held plain fits not_free not_held b h = absurd (true≢false (sym (ap (is_held_by k) fits ∙ held_own k) ∙ not_held))
-used_move k s o bit held plain fits not_free not_held b h = absurd plain
+used_move k s o bit held plain fits not_free not_held b h = grind (arith, true≢false, held_own)
 
 used_next : (f : Profile) (k : ℕ) (l : Whole) (g : ℕ) (m : Made) (xs : List Made) → IsValid f → Legal f (triples k (m ∷ xs) ++ l) → is_in lending (kind_of m.step) ≡ false → Used k l g xs → Used k l g (m ∷ xs)
 used_next f k l g m xs valid legal search used =
@@ -145,21 +126,14 @@ used_all f k l g (m ∷ xs) valid legal lends used = used_next f k l g m xs vali
 
 -- ---- what a reading of a free word shows
 free_read : (page word : ℕ) (s : Step) (w : Whole) → ReadsFree page word s → word_after w (target s) ≡ word_after w (Word.Free page word)
-free_read page word s w ReadsFree.Looks = refl
-free_read page word s w (ReadsFree.Takes mask) = refl
+free_read page word s w e = grind arith
 
 word_of_page : (page b : ℕ) → b < 256 → free_word_at (page * 256 + b) ≡ Word.Free page (b / 64)
 word_of_page page b lt = let x : (page * 256 + b) / 256 ≡ page = omega (arith, lt) in let y : (page * 256 + b) / 64 % 4 ≡ b / 64 = omega (arith, lt) in
     ap (λ p. Word.Free p ((page * 256 + b) / 64 % 4)) x ∙ ap (λ w. Word.Free page w) y
 
 shown : (f : Profile) (k : ℕ) (l : Whole) (page b : ℕ) (r : Readings) (m : Made) (xs : List Made) → Legal f (triples k (m ∷ xs) ++ l) → b < 256 → ShowsHere page (b / 64) r m xs → r b ≡ (bit_of (triples k xs ++ l) (page * 256 + b) || holds xs (page * 256 + b))
-shown f k l page b r m xs legal lt s =
-    let w : Whole = triples k xs ++ l in
-    let whole : 64 * (b / 64) + b % 64 ≡ b = omega arith in
-    let bit : b % 64 ≡ (page * 256 + b) % 64 = omega arith in
-    let word : m.answer ≡ word_after w (free_word_at (page * 256 + b)) = legal.0.answer_is ∙ free_read page (b / 64) m.step w s.0 ∙ ap (word_after w) (sym (word_of_page page b lt)) in
-    ap r (sym whole) ∙ s.2 (b % 64) (omega arith) ∙ ap (λ n. has_bit m.answer (b % 64) || holds xs (page * 256 + n)) whole
-    ∙ ap (λ n. has_bit n (b % 64) || holds xs (page * 256 + b)) word ∙ ap (λ n. has_bit (word_after w (free_word_at (page * 256 + b))) n || holds xs (page * 256 + b)) bit
+shown f k l page b r m xs legal lt s = search (arith, free_read, word_of_page)
 
 of_page : (l : Whole) (page b : ℕ) → free_of_page l page b ≡ bit_of l (page * 256 + b)
 of_page l page b = let bit : b % 64 ≡ (page * 256 + b) % 64 = omega arith in ap (λ n. has_bit (word_after l (free_word_at (page * 256 + b))) n) bit
@@ -262,16 +236,12 @@ deed_quiet f k l p [] legal quiet = refl
 deed_quiet f k l p (m ∷ xs) legal quiet = deed_step (triples k xs ++ l) (epoch_of (part k (triples k xs ++ l))) m.step m.answer p legal.0.answer_is quiet.0 ∙ deed_quiet f k l p xs legal.1 quiet.1
 
 pub deed_read : (p : ℕ) (s : Step) (w : Whole) → ReadsDeed p s → word_after w (target s) ≡ word_after w (Word.Deed p)
-deed_read p s w ReadsDeed.Looks = refl
-deed_read p s w (ReadsDeed.Deeds d) = refl
+deed_read p s w e = grind arith
 
 -- one that was read as not 0 isn't 0 at exit
 pub deed_exit : (f : Profile) (k : ℕ) (l : Whole) (p : ℕ) (xs : List Made) → Legal f (triples k xs ++ l) → Once (DeedHere p) xs → word_after (triples k xs ++ l) (Word.Deed p) ≢ 0
 deed_exit f k l p [] legal h = absurd h
-deed_exit f k l p (m ∷ xs) legal (inl z) =
-    let w : Whole = triples k xs ++ l in
-    let some : word_after w (Word.Deed p) ≢ 0 = λ e. z.1 (legal.0.answer_is ∙ deed_read p m.step w z.0 ∙ e) in
-    λ e. some (sym (deed_kept w (triple k m) p some) ∙ e)
+deed_exit f k l p (m ∷ xs) legal (inl z) = search (arith, deed_read, deed_kept)
 deed_exit f k l p (m ∷ xs) legal (inr h) =
     let some = deed_exit f k l p xs legal.1 h in λ e. some (sym (deed_kept (triples k xs ++ l) (triple k m) p some) ∙ e)
 
@@ -284,10 +254,7 @@ deed_none k l p (m ∷ xs) h = deed_none k l p xs (deed_was_none (triples k xs +
 
 -- ---- a page whose right the call never had stays where it was
 stays_put : (k : ℕ) (w : Way) (o : Spot) → had_after w false ≡ false → Suits k w o → (o ≡ With k → ⊥) → spot_after k w o ≡ o
-stays_put k Rests o lacks suits not_with = refl
-stays_put k (ToOffer n) o lacks suits not_with = absurd (not_with suits)
-stays_put k ToParked o lacks suits not_with = absurd (not_with suits)
-stays_put k s o lacks suits not_with = absurd (true≢false lacks)
+stays_put k s o lacks suits not_with = grind (arith, true≢false)
 
 pub is_with_own : (k : ℕ) → is_with k (With k) ≡ true
 is_with_own k = eq-eqb k k refl
@@ -308,8 +275,7 @@ spot_same f k l p (m ∷ xs) legal none lacks =
 
 -- ---- readings of the page's bits
 eligible_read : (d : Directory) (p : ℕ) (s : Step) (w : Whole) → ReadsEligible d p s → word_after w (target s) ≡ word_after w (Word.Eligible (number_of d) (p / 64))
-eligible_read d p s w (ReadsEligible.Looks n j en ej) = ap (λ x. word_after w (Word.Eligible x j)) en ∙ ap (λ x. word_after w (Word.Eligible (number_of d) x)) ej
-eligible_read d p s w ReadsEligible.Claims = refl
+eligible_read d p s w e = grind arith
 
 pub zero_told : (f : Profile) (k : ℕ) (l : Whole) (d : Directory) (p : ℕ) (xs : List Made) → Legal f (triples k xs ++ l) → has_right (part k l) p ≡ false → Always (LacksAfter p) xs → Once (ZeroHere d p) xs → is_offered (number_of d) (spot_of l p) ≡ false
 zero_told f k l d p [] legal none lacks h = absurd h
@@ -333,10 +299,7 @@ pub parked_told : (f : Profile) (k : ℕ) (l : Whole) (p : ℕ) (set : Bool) (xs
 parked_told f k l p set [] legal none lacks h = absurd h
 parked_told f k l p set (m ∷ xs) legal none lacks (inr h) = parked_told f k l p set xs legal.1 none lacks.1 h
 parked_told f k l p set (m ∷ xs) legal none lacks (inl z) =
-    let w : Whole = triples k xs ++ l in
-    let at : IsSpotted w p = spotted f w legal.1 p in
-    ap is_parked (sym (spot_same f k l p xs legal.1 none lacks.1)) ∙ sym at.parked
-    ∙ ap (λ n. has_bit n (p % 64)) (sym (parked_read p m.step w z.0) ∙ sym legal.0.answer_is) ∙ z.1
+    cc (spot_same f k l p xs legal.1 none lacks.1, (spotted f (triples k xs ++ l) legal.1 p).parked, parked_read p m.step (triples k xs ++ l) z.0)
 
 -- ---- the deed word stays, once it is there
 deed_later : (k : ℕ) (l : Whole) (p : ℕ) (xs : List Made) → word_after l (Word.Deed p) ≢ 0 → word_after (triples k xs ++ l) (Word.Deed p) ≡ word_after l (Word.Deed p)
@@ -345,8 +308,7 @@ deed_later k l p (m ∷ xs) some = let e = deed_later k l p xs some in deed_kept
 
 -- ---- an actor that has a right knows the page's deed
 got_if : (t : Bool) (w : Way) → had_after (if t then w else Rests) false ≡ true → (t ≡ true) × (had_after w false ≡ true)
-got_if true w h = (refl, h)
-got_if false w h = absurd (false≢true h)
+got_if t w h = grind (arith, false≢true)
 
 deed_here : (t z : Bool) (d : Directory) (a known : ℕ) → t ≡ true → z ≡ true → (if t then (if z then deed_word_of d else a) else known) ≢ 0
 deed_here t z d a known ht hz e = deed_word_of-positive d (sym (ap (λ x. if x then (if z then deed_word_of d else a) else known) ht ∙ ap (λ x. if x then deed_word_of d else a) hz) ∙ e)
@@ -358,14 +320,11 @@ gains_known f v (TakeRight q d) a p allowed h =
     cond_both ((q / 64 == p / 64) && has_bit a (p % 64)) (deed_word_numbered (number_of d)) (known_deed v p) (λ x. x ≢ 0) (λ here. (numbered_ne (number_of d))) (λ other. (λ z. deed_word_of-positive d (sym allowed ∙ ap (known_deed v) (eqb-true q p parts.0) ∙ z)))
 gains_known f v (Offer q d) a p allowed h = absurd (false≢true (got_if (q == p) (ToOffer (number_of d)) h).1)
 gains_known f v (Park q) a p allowed h = absurd (false≢true (got_if (q == p) ToParked h).1)
-gains_known f v (Unpark q) a p allowed h =
-    let parts = and_parts (q == p) (has_bit a (p % 64)) (got_if ((q == p) && has_bit a (p % 64)) FromParked h).0 in
-    λ z. allowed (ap (known_deed v) (eqb-true q p parts.0) ∙ z)
+gains_known f v (Unpark q) a p allowed h = search (arith, and_parts, got_if, eqb-true)
 gains_known f v s a p allowed h = absurd (false≢true h)
 
 own_known : (f : Profile) (v : View) (m : Made) (p : ℕ) → Allowed f v m.step → Agrees f v m.step m.answer → (has_right v p ≡ true → known_deed v p ≢ 0) → (had : Bool) → has_right v p ≡ had → had_after (way m.step m.answer p) had ≡ true → known_deed (m ∷ v) p ≢ 0
-own_known f v m p allowed agrees known true e h = λ z. known e (sym (deed_stays f (m ∷ []) v p (agrees, tt) (known e)) ∙ z)
-own_known f v m p allowed agrees known false e h = gains_known f v m.step m.answer p allowed h
+own_known f v m p allowed agrees known had e h = grind (arith, deed_stays, gains_known)
 
 right_known : (f : Profile) (l : Whole) → IsValid f → Legal f l → (k p : ℕ) → has_right (part k l) p ≡ true → known_deed (part k l) p ≢ 0
 right_known f l valid legal k p = each_part f (λ l k v. has_right v p ≡ true → known_deed v p ≢ 0) (λ k h. absurd (false≢true h))
@@ -411,10 +370,7 @@ had_then f k l p j (m ∷ xs) legal ne (inl h) there =
 
 -- the page has a deed, and is neither offered nor parked, so some actor has its right
 pub in_hands : (o : Spot) (word : ℕ) → DeedFits o word → word ≢ 0 → is_on_offer o ≡ false → is_parked o ≡ false → (j : ℕ) × (o ≡ With j)
-in_hands Nowhere word fits some offer parked = absurd (some fits)
-in_hands (With j) word fits some offer parked = (j, refl)
-in_hands (Offered n) word fits some offer parked = absurd (true≢false offer)
-in_hands InParked word fits some offer parked = absurd (true≢false parked)
+in_hands o word fits some offer parked = grind (arith, true≢false)
 
 pub not_in_hands : (f : Profile) (k : ℕ) (l : Whole) (d : Directory) (p : ℕ) (xs : List Made) → IsDirectoryOf f d → Legal f (triples k xs ++ l) → has_right (xs ++ part k l) p ≡ false → Once (KeptHere p) xs
     → word_after (triples k xs ++ l) (Word.Deed p) ≡ deed_word_of d → eligible_bit (triples k xs ++ l) (number_of d) p ≡ false → parked_bit (triples k xs ++ l) p ≡ false → ⊥
@@ -422,8 +378,7 @@ not_in_hands f k l d p xs of legal lacks once deed not_offered not_parked =
     let w : Whole = triples k xs ++ l in
     let at : IsSpotted w p = spotted f w legal p in
     let some : word_after w (Word.Deed p) ≢ 0 = λ z. deed_word_of-positive d (sym deed ∙ z) in
-    let with : (j : ℕ) × (spot_of w p ≡ With j) = in_hands (spot_of w p) (word_after w (Word.Deed p)) at.deed some
-    (sym (own_eligible f w legal p d of deed) ∙ not_offered) (sym at.parked ∙ not_parked) in
+    let with : (j : ℕ) × (spot_of w p ≡ With j) = search (arith, in_hands, own_eligible) in
     let j : ℕ = with.0 in
     let has : has_right (part j w) p ≡ true = at.has j ∙ ap (is_with j) with.1 ∙ is_with_own j in
     elim (cases_eq k j) [
@@ -484,10 +439,7 @@ module _ (no_fit : Readings → Type 0) (f : Profile) (d : Directory) (k : ℕ) 
       let at = spotted f w legal page in
       let known : known_deed (part k w) page ≡ deed_word_of d = ap (λ v. known_deed v page) (part_of_own k xs l) ∙ shows.of_directory in
       let deed : word_after w (Word.Deed page) ≡ deed_word_of d = sym (known_is (known_deed (part k w) page) (word_after w (Word.Deed page)) (at.known k) (λ z. deed_word_of-positive d (sym known ∙ z))) ∙ known in
-      let not_offered : is_offered (number_of d) (spot_of l page) ≡ false = elim (none.searched page shows.of_region.0 (omega (arith, shows.of_region.1))) [
-        | inl u ↦ absurd (unfit_lacks no_fit page xs u shows.lacked)
-        | inr z ↦ zero_told f k l d page xs legal lacks z.0 z.1
-      ] in
+      let not_offered : is_offered (number_of d) (spot_of l page) ≡ false = search (arith, unfit_lacks, zero_told) in
       let not_parked : is_parked (spot_of l page) ≡ false = parked_told f k l page false xs legal lacks shows.lacked (once_map (HeldHere d page) (ParkedHere false page) xs (λ m before h. h.0) shows.held) in
       let with = in_hands (spot_of w page) (word_after w (Word.Deed page)) at.deed (λ z. deed_word_of-positive d (sym deed ∙ z))
       (sym (own_eligible f w legal page d of deed) ∙ at.eligible (number_of d) ∙ ap (is_offered (number_of d)) same ∙ not_offered) (ap is_parked same ∙ not_parked) in

@@ -13,7 +13,7 @@ use Rattle.pas_steps.specs.Views.{Way, Rests, ByDeed, FromOffer, FromParked, ToO
 use Rattle.pas_steps.specs.Views.{free_after, known_free, View, holds, holds_on, backed_after, knows_backed}
 use Rattle.pas_steps.specs.Lists.{Whole, part, word_after, IsNext, Legal, Triple}
 use Rattle.pas_steps.specs.declared.step.Step.{Step}
-use Rattle.pas_steps.specs.declared.step.Step.TheVariants.{Look, Deed, TakeRight, Offer, Park, Unpark, Take, Put, Hint, Unhint, Back, Unback}
+use Rattle.pas_steps.specs.declared.step.Step.TheVariants.{Look, Deed, TakeRight, Offer, Park, Unpark, Take, Hint, Unhint}
 use Rattle.pas_core.specs.Rights.{parked_bit, eligible_bit, empty_bit, IsRightInOnePlace}
 use Rattle.pas_bits.proofs.{Words.none_of_zero, Words.bit_cleared, Words.bit_of_or, PageVectors.page_bit-clear, PageVectors.page_bit-set}
 use Rattle.pas_core.proofs.Deeds.{next_value, looked, IsKnown, known_is, word_stays, deed_tells, look_tells, deed_at, numbered_ne, deed_words, deed_has_page}
@@ -86,40 +86,27 @@ pub record IsSpotted (l : Whole) (p : ℕ) : Type 0 where
 
 -- ---- the spots, from their tests
 is_with-true : (k : ℕ) (o : Spot) → is_with k o ≡ true → o ≡ With k
-is_with-true k (With j) h = ap With (eqb-true j k h)
-is_with-true k s h = absurd (false≢true h)
+is_with-true k s h = grind (arith, eqb-true, false≢true)
 
 pub is_offered-true : (n : ℕ) (o : Spot) → is_offered n o ≡ true → o ≡ Offered n
-is_offered-true n (Offered m) h = ap Offered (eqb-true m n h)
-is_offered-true n s h = absurd (false≢true h)
+is_offered-true n s h = grind (arith, eqb-true, false≢true)
 
 is_parked-true : (o : Spot) → is_parked o ≡ true → o ≡ InParked
-is_parked-true InParked h = refl
-is_parked-true s h = absurd (false≢true h)
+is_parked-true s h = grind (arith, false≢true)
 
 pub no_deed : (o : Spot) → DeedFits o 0 → o ≡ Nowhere
-no_deed Nowhere h = refl
-no_deed (Offered n) h = absurd (numbered_ne n (sym h))
-no_deed s h = absurd (h refl)
+no_deed s h = grind (arith, numbered_ne)
 
 -- where there is a right there is a deed
 somewhere : (o : Spot) (word : ℕ) → DeedFits o word → is_nowhere o ≡ false → word ≢ 0
-somewhere Nowhere word h e = absurd (false≢true (sym e))
-somewhere (Offered n) word h e = λ z. numbered_ne n (sym h ∙ z)
-somewhere s word h e = h
+somewhere s word h e = grind (arith, false≢true, numbered_ne)
 
 -- ---- the ways, whatever the step
 own_after : (m : Way) (o : Spot) (j k : ℕ) (had : Bool) → had ≡ is_with k o → (j == k) ≡ true → had_after m had ≡ is_with k (spot_after j m o)
-own_after Rests o j k had is e = is
-own_after (ToOffer n) o j k had is e = refl
-own_after ToParked o j k had is e = refl
-own_after s o j k had is e = sym e
+own_after s o j k had is e = grind arith
 
 other_after : (m : Way) (o : Spot) (j k : ℕ) (had : Bool) → had ≡ is_with k o → Suits j m o → (j == k) ≡ false → had ≡ is_with k (spot_after j m o)
-other_after Rests o j k had is fits e = is
-other_after (ToOffer n) o j k had is fits e = is ∙ ap (is_with k) fits ∙ e
-other_after ToParked o j k had is fits e = is ∙ ap (is_with k) fits ∙ e
-other_after s o j k had is fits e = is ∙ ap (is_with k) fits ∙ sym e
+other_after s o j k had is fits e = grind arith
 
 abbrev parked_moved : Way → Bool → Bool
 parked_moved FromParked was = false
@@ -127,10 +114,7 @@ parked_moved ToParked was = true
 parked_moved s was = was
 
 parked_next : (j : ℕ) (m : Way) (o : Spot) → Suits j m o → parked_moved m (is_parked o) ≡ is_parked (spot_after j m o)
-parked_next j Rests o h = refl
-parked_next j FromParked o h = refl
-parked_next j ToParked o h = refl
-parked_next j s o h = ap is_parked h
+parked_next j s o h = grind arith
 
 abbrev offered_moved : Way → ℕ → Bool → Bool
 offered_moved (FromOffer m) n was = if m == n then false else was
@@ -138,10 +122,7 @@ offered_moved (ToOffer m) n was = if m == n then true else was
 offered_moved s n was = was
 
 offered_next : (j : ℕ) (m : Way) (n : ℕ) (o : Spot) → Suits j m o → offered_moved m n (is_offered n o) ≡ is_offered n (spot_after j m o)
-offered_next j Rests n o h = refl
-offered_next j (FromOffer m) n o h = ap (λ o. if m == n then false else is_offered n o) h ∙ if_false (m == n)
-offered_next j (ToOffer m) n o h = ap (λ o. if m == n then true else is_offered n o) h ∙ if_true (m == n)
-offered_next j s n o h = ap (is_offered n) h
+offered_next j s n o h = grind (arith, if_false, if_true)
 
 -- ---- the parked words
 unpark_cases : (y g was : Bool) → (y ≡ true → g ≡ was) → (if y then false else was) ≡ parked_moved (if y && g then FromParked else Rests) was
@@ -181,8 +162,7 @@ eligible_step : (l : Whole) (e : ℕ) (s : Step) (a p n : ℕ) → a ≡ word_af
     → has_bit (next_value e s (Word.Eligible n (p / 64)) (word_after l (Word.Eligible n (p / 64)))) (p % 64) ≡ offered_moved (way s a p) n (eligible_bit l n p)
 eligible_step l e (Look word) a p n is = ap (λ n. has_bit n (p % 64)) (looked (same_word word (Word.Eligible n (p / 64))) (word_after l (Word.Eligible n (p / 64))))
 eligible_step l e (Deed q d) a p n is = offered_rests ((q == p) && (a == 0)) (eligible_bit l n p) n ByDeed (λ b. refl)
-eligible_step l e (TakeRight q d) a p n is = page_bit-clear q p (word_after l (Word.Eligible n (p / 64))) (number_of d == n)
-    ∙ take_right_cases (number_of d == n) (q == p) (has_bit a (p % 64)) (eligible_bit l n p) (number_of d) n refl (λ x y. eligible_at l a (number_of d) n q p is x y)
+eligible_step l e (TakeRight q d) a p n is = search (arith, page_bit-clear, take_right_cases, eligible_at)
 eligible_step l e (Offer q d) a p n is = page_bit-set q p (word_after l (Word.Eligible n (p / 64))) (number_of d == n) ∙ offer_cases (number_of d == n) (q == p) (eligible_bit l n p) (number_of d) n refl
 eligible_step l e (Park q) a p n is = offered_rests (q == p) (eligible_bit l n p) n ToParked (λ b. refl)
 eligible_step l e (Unpark q) a p n is = offered_rests ((q == p) && has_bit a (p % 64)) (eligible_bit l n p) n FromParked (λ b. refl)
@@ -199,18 +179,11 @@ with_here : (f : Profile) (l : Whole) (j q p : ℕ) → IsSpotted l p → has_ri
 with_here f l j q p at has h = is_with-true j (spot_of l p) (sym (at.has j) ∙ ap (has_right (part j l)) (sym (eqb-true q p h)) ∙ has)
 
 pub step_suits : (f : Profile) (l : Whole) (j : ℕ) (s : Step) (a p : ℕ) → IsSpotted l p → Allowed f (part j l) s → a ≡ word_after l (target s) → Suits j (way s a p) (spot_of l p)
-step_suits f l j (Deed q d) a p at allowed is = suits_if j ByDeed (spot_of l p) ((q == p) && (a == 0)) (λ h.
-    let parts = and_parts (q == p) (a == 0) h in
-    let none : word_after l (Word.Deed p) ≡ 0 = ap (λ x. word_after l (Word.Deed x)) (sym (eqb-true q p parts.0)) ∙ sym is ∙ eqb-true a 0 parts.1 in
-    no_deed (spot_of l p) (subst (DeedFits (spot_of l p)) none at.deed))
-step_suits f l j (TakeRight q d) a p at allowed is = suits_if j (FromOffer (number_of d)) (spot_of l p) ((q == p) && has_bit a (p % 64)) (λ h.
-    let parts = and_parts (q == p) (has_bit a (p % 64)) h in
-    offered_here l a (number_of d) (q / 64) p at is (ap (λ x. x / 64) (eqb-true q p parts.0)) parts.1)
+step_suits f l j (Deed q d) a p at allowed is = search (arith, suits_if, and_parts, eqb-true, no_deed)
+step_suits f l j (TakeRight q d) a p at allowed is = search (arith, suits_if, and_parts, offered_here, eqb-true)
 step_suits f l j (Offer q d) a p at allowed is = suits_if j (ToOffer (number_of d)) (spot_of l p) (q == p) (λ h. with_here f l j q p at allowed.0 h)
 step_suits f l j (Park q) a p at allowed is = suits_if j ToParked (spot_of l p) (q == p) (λ h. with_here f l j q p at allowed h)
-step_suits f l j (Unpark q) a p at allowed is = suits_if j FromParked (spot_of l p) ((q == p) && has_bit a (p % 64)) (λ h.
-    let parts = and_parts (q == p) (has_bit a (p % 64)) h in
-    is_parked-true (spot_of l p) (sym at.parked ∙ ap (λ x. has_bit (word_after l (Word.Parked (x / 64))) (p % 64)) (sym (eqb-true q p parts.0)) ∙ ap (λ n. has_bit n (p % 64)) (sym is) ∙ parts.1))
+step_suits f l j (Unpark q) a p at allowed is = search (arith, suits_if, and_parts, is_parked-true, eqb-true)
 step_suits f l j s a p at allowed is = tt
 
 suits_then : (j : ℕ) (m : Way) (o : Spot) (t : Bool) → t ≡ true → Suits j (if t then m else Rests) o → Suits j m o
@@ -222,43 +195,32 @@ deed_ne n m h t e = grind (arith, nat_tests)
 
 deed_fits : (y z : Bool) (d : Directory) (n j : ℕ) (o : Spot) → (y ≡ true → (n == 0) ≡ z) → DeedFits o n
     → DeedFits (spot_after j (if y && z then ByDeed else Rests) o) (if y then (if n == 0 then deed_word_of d else n) else n)
-deed_fits true true d n j o h fits = deed_ne n (deed_word_of d) (deed_word_of-positive d) (n == 0) refl
-deed_fits true false d n j o h fits = subst (λ t. DeedFits o (if t then deed_word_of d else n)) (sym (h refl)) fits
-deed_fits false z d n j o h fits = fits
+deed_fits y z d n j o h fits = grind (arith, deed_ne, deed_word_of-positive)
 
 moved_fits : (y : Bool) (m : Way) (n j : ℕ) (o : Spot) → (y ≡ true → DeedFits (spot_after j m o) n) → DeedFits o n → DeedFits (spot_after j (if y then m else Rests) o) n
 moved_fits y m n j o go fits = cond_both y m Rests (λ x. DeedFits (spot_after j x o) n) go (λ other. fits)
 
 -- the deed that an actor knows is that of the page
 known_here : (l : Whole) (j q p : ℕ) (d : Directory) → IsSpotted l p → known_deed (part j l) q ≡ deed_word_of d → (q == p) ≡ true → word_after l (Word.Deed p) ≡ deed_word_of d
-known_here l j q p d at knows h =
-    let known : known_deed (part j l) p ≡ deed_word_of d = ap (known_deed (part j l)) (sym (eqb-true q p h)) ∙ knows in
-    sym (known_is (known_deed (part j l) p) (word_after l (Word.Deed p)) (at.known j) (λ z. deed_word_of-positive d (sym known ∙ z))) ∙ known
+known_here l j q p d at knows h = search (arith, eqb-true, known_is, deed_word_of-positive)
 
 fits_step : (f : Profile) (l : Whole) (j e : ℕ) (s : Step) (a p : ℕ) → IsSpotted l p → IsStepOf f s → Allowed f (part j l) s → a ≡ word_after l (target s) → Suits j (way s a p) (spot_of l p)
     → DeedFits (spot_after j (way s a p) (spot_of l p)) (next_value e s (Word.Deed p) (word_after l (Word.Deed p)))
 fits_step f l j e (Look word) a p at of allowed is suits = subst (DeedFits (spot_of l p)) (sym (looked (same_word word (Word.Deed p)) (word_after l (Word.Deed p)))) at.deed
 fits_step f l j e (Deed q d) a p at of allowed is suits = deed_fits (q == p) (a == 0) d (word_after l (Word.Deed p)) j (spot_of l p) (λ h. ap (λ n. n == 0) (ap (λ x. word_after l (Word.Deed x)) (sym (eqb-true q p h)) ∙ sym is)) at.deed
-fits_step f l j e (TakeRight q d) a p at of allowed is suits = moved_fits ((q == p) && has_bit a (p % 64)) (FromOffer (number_of d)) (word_after l (Word.Deed p)) j (spot_of l p)
-    (λ h. somewhere (spot_of l p) (word_after l (Word.Deed p)) at.deed (ap is_nowhere (suits_then j (FromOffer (number_of d)) (spot_of l p) ((q == p) && has_bit a (p % 64)) h suits))) at.deed
-fits_step f l j e (Offer q d) a p at of allowed is suits = moved_fits (q == p) (ToOffer (number_of d)) (word_after l (Word.Deed p)) j (spot_of l p)
-    (λ h. known_here l j q p d at allowed.1 h ∙ sym (numbered d of.1.kind)) at.deed
-fits_step f l j e (Park q) a p at of allowed is suits = moved_fits (q == p) ToParked (word_after l (Word.Deed p)) j (spot_of l p)
-    (λ h. somewhere (spot_of l p) (word_after l (Word.Deed p)) at.deed (ap is_nowhere (suits_then j ToParked (spot_of l p) (q == p) h suits))) at.deed
-fits_step f l j e (Unpark q) a p at of allowed is suits = moved_fits ((q == p) && has_bit a (p % 64)) FromParked (word_after l (Word.Deed p)) j (spot_of l p)
-    (λ h. somewhere (spot_of l p) (word_after l (Word.Deed p)) at.deed (ap is_nowhere (suits_then j FromParked (spot_of l p) ((q == p) && has_bit a (p % 64)) h suits))) at.deed
+fits_step f l j e (TakeRight q d) a p at of allowed is suits = search (arith, moved_fits, somewhere, suits_then)
+fits_step f l j e (Offer q d) a p at of allowed is suits = search (arith, moved_fits, known_here, numbered)
+fits_step f l j e (Park q) a p at of allowed is suits = search (arith, moved_fits, somewhere, suits_then)
+fits_step f l j e (Unpark q) a p at of allowed is suits = search (arith, moved_fits, somewhere, suits_then)
 fits_step f l j e s a p at of allowed is suits = at.deed
 
 -- ---- what is known of deeds
 -- a set bit of an eligible word tells the deed
 eligible_tells : (y : Bool) (word known n : ℕ) → (y ≡ true → word ≡ deed_word_numbered n) → IsKnown known word → IsKnown (if y then deed_word_numbered n else known) word
-eligible_tells true word known n is h = inr (sym (is refl))
-eligible_tells false word known n is h = h
+eligible_tells y word known n is h = grind arith
 
 offered_deed : (l : Whole) (a n j p : ℕ) → IsSpotted l p → a ≡ word_after l (Word.Eligible n j) → ((j == p / 64) && has_bit a (p % 64)) ≡ true → word_after l (Word.Deed p) ≡ deed_word_numbered n
-offered_deed l a n j p at is h =
-    let parts = and_parts (j == p / 64) (has_bit a (p % 64)) h in
-    subst (λ o. DeedFits o (word_after l (Word.Deed p))) (offered_here l a n j p at is (eqb-true j (p / 64) parts.0) parts.1) at.deed
+offered_deed l a n j p at is h = search (arith, and_parts, offered_here, eqb-true)
 
 -- an actor's own step tells it the word
 deed_learns : (l : Whole) (e : ℕ) (s : Step) (a p known : ℕ) → IsSpotted l p → a ≡ word_after l (target s) → IsKnown known (word_after l (Word.Deed p))
@@ -359,19 +321,16 @@ is_on_offer (Offered n) = true
 is_on_offer s = false
 
 own_offer : (o : Spot) (d : Directory) → IsKind d.kind → DeedFits o (deed_word_of d) → is_offered (number_of d) o ≡ is_on_offer o
-own_offer (Offered n) d kind fits = eq-eqb n (number_of d) (sym (number_told d n kind fits))
-own_offer s d kind fits = refl
+own_offer s d kind fits = grind (arith, eq-eqb, number_told)
 
 pub own_eligible : (f : Profile) (l : Whole) → Legal f l → (p : ℕ) (d : Directory) → IsDirectoryOf f d → word_after l (Word.Deed p) ≡ deed_word_of d → eligible_bit l (number_of d) p ≡ is_on_offer (spot_of l p)
 own_eligible f l legal p d of deed =
-    let at : IsSpotted l p = spotted f l legal p in
-    at.eligible (number_of d) ∙ own_offer (spot_of l p) d of.kind (subst (DeedFits (spot_of l p)) deed at.deed)
+    cc ((spotted f l legal p).eligible (number_of d), own_offer (spot_of l p) d of.kind (subst (DeedFits (spot_of l p)) deed (spotted f l legal p).deed))
 
 -- a set bit of an eligible word tells the deed that an actor knows, if it knows one
 pub offered_is_known : (f : Profile) (l : Whole) → Legal f l → (k n p : ℕ) → eligible_bit l n p ≡ true → known_deed (part k l) p ≢ 0 → known_deed (part k l) p ≡ deed_word_numbered n
 offered_is_known f l legal k n p h ne =
-    let at : IsSpotted l p = spotted f l legal p in
-    known_is (known_deed (part k l) p) (word_after l (Word.Deed p)) (at.known k) ne ∙ offered_has_deed f l legal n p h
+    cc (known_is (known_deed (part k l) p) (word_after l (Word.Deed p)) ((spotted f l legal p).known k) ne, offered_has_deed f l legal n p h)
 
 -- ---- bits of page vectors are of pages
 pub offered_page : (f : Profile) (l : Whole) → Legal f l → (n p : ℕ) → eligible_bit l n p ≡ true → IsPage f p
@@ -381,8 +340,7 @@ pub parked_page : (f : Profile) (l : Whole) → Legal f l → (p : ℕ) → park
 parked_page f l legal p h = deed_has_page f l legal p (parked_has_deed f l legal p h)
 
 hint_if : (f : Profile) (x was : Bool) (q p : ℕ) → (q == p) ≡ x → IsPage f q → (was ≡ true → IsPage f p) → (if x then true else was) ≡ true → IsPage f p
-hint_if f true was q p e of h set = subst (IsPage f) (eqb-true q p e) of
-hint_if f false was q p e of h set = h set
+hint_if f x was q p e of h set = grind (arith, eqb-true)
 
 hint_next : (f : Profile) (e : ℕ) (s : Step) (p old : ℕ) → IsStepOf f s → (has_bit old (p % 64) ≡ true → IsPage f p) → has_bit (next_value e s (Word.Empty (p / 64)) old) (p % 64) ≡ true → IsPage f p
 hint_next f e (Look word) p old of h set = h (ap (λ n. has_bit n (p % 64)) (sym (looked (same_word word (Word.Empty (p / 64))) old)) ∙ set)
@@ -413,48 +371,34 @@ leaves (Park q) p = q == p
 leaves s p = false
 
 take_keeps : (x y : Bool) (old mask b : ℕ) → mask < 2 ^ 64 → b < 64 → (x && y && has_bit mask b) ≡ false → has_bit old b ≡ true → has_bit (if x && y then bit_and old (bit_not w64 mask) else old) b ≡ true
-take_keeps true true old mask b hm hb misses h = bit_cleared old mask b hm hb ∙ ap (λ t. has_bit old b && not t) misses ∙ ap (λ t. t && true) h
-take_keeps true false old mask b hm hb misses h = h
-take_keeps false y old mask b hm hb misses h = h
+take_keeps x y old mask b hm hb misses h = grind (arith, bit_cleared)
 
 pub put_keeps : (x : Bool) (old mask b : ℕ) → has_bit old b ≡ true → has_bit (if x then bit_or old mask else old) b ≡ true
-put_keeps true old mask b h = bit_of_or old mask b ∙ or_left (has_bit old b) (has_bit mask b) h
-put_keeps false old mask b h = h
+put_keeps x old mask b h = grind (arith, bit_of_or, or_left)
 
 -- a step that doesn't take a free grain leaves it free
 free_stays : (f : Profile) (e : ℕ) (s : Step) (g old : ℕ) → IsStepOf f s → takes s g ≡ false → has_bit old (g % 64) ≡ true → has_bit (next_value e s (free_word_at g) old) (g % 64) ≡ true
-free_stays f e (Look word) g old of misses h = ap (λ n. has_bit n (g % 64)) (looked (same_word word (free_word_at g)) old) ∙ h
-free_stays f e (Take q w mask) g old of misses h = take_keeps (w == g / 64 % 4) (q == g / 256) old mask (g % 64) of.2 (omega arith) misses h
-free_stays f e (Put q w mask) g old of misses h = put_keeps ((w == g / 64 % 4) && (q == g / 256)) old mask (g % 64) h
-free_stays f e s g old of misses h = h
+free_stays f e s g old of misses h = grind (arith, looked, take_keeps, put_keeps)
 
 takes_page : (q w mask g : ℕ) → in_mask q w mask g ≡ true → q ≡ g / 256
-takes_page q w mask g h =
-    let parts = and_parts ((w == g / 64 % 4) && (q == g / 256)) (has_bit mask (g % 64)) h in
-    eqb-true q (g / 256) (and_parts (w == g / 64 % 4) (q == g / 256) parts.0).1
+takes_page q w mask g h = search (arith, and_parts, eqb-true)
 
 -- only the actor that has the right takes
 takes_with : (f : Profile) (l : Whole) (j : ℕ) (s : Step) (g : ℕ) → IsSpotted l (g / 256) → Allowed f (part j l) s → takes s g ≡ true → spot_of l (g / 256) ≡ With j
-takes_with f l j (Take q w mask) g at allowed h = is_with-true j (spot_of l (g / 256)) (sym (at.has j) ∙ ap (has_right (part j l)) (sym (takes_page q w mask g h)) ∙ allowed)
-takes_with f l j s g at allowed h = absurd (false≢true h)
+takes_with f l j s g at allowed h = grind (arith, is_with-true, takes_page, false≢true)
 
 takes_not : (f : Profile) (l : Whole) (j : ℕ) (s : Step) (g : ℕ) → IsSpotted l (g / 256) → Allowed f (part j l) s → (spot_of l (g / 256) ≡ With j → ⊥) → takes s g ≡ false
 takes_not f l j s g at allowed never = false_from_ne_true (takes s g) (λ h. never (takes_with f l j s g at allowed h))
 
 was_nowhere : (j : ℕ) (m : Way) (o : Spot) → spot_after j m o ≡ Nowhere → o ≡ Nowhere
-was_nowhere j Rests o h = h
-was_nowhere j s o h = absurd cc
+was_nowhere j s o h = grind arith
 
 with_differs : (j k : ℕ) (o : Spot) → o ≡ With k → (j == k) ≡ false → o ≡ With j → ⊥
 with_differs j k o h ne g = let e : With j ≡ With k = sym g ∙ h in let same : j ≡ k = cc in eqb-false j k ne same
 
 -- what another actor's step leaves
 other_spot : (j k : ℕ) (m : Way) (o : Spot) → Suits j m o → (j == k) ≡ false → o ≡ With k → spot_after j m o ≡ With k
-other_spot j k Rests o suits ne h = h
-other_spot j k ByDeed o suits ne h = let e : Nowhere ≡ With k = sym suits ∙ h in absurd cc
-other_spot j k (FromOffer n) o suits ne h = let e : Offered n ≡ With k = sym suits ∙ h in absurd cc
-other_spot j k FromParked o suits ne h = let e : InParked ≡ With k = sym suits ∙ h in absurd cc
-other_spot j k s o suits ne h = absurd (with_differs j k o h ne suits)
+other_spot j k s o suits ne h = grind (arith, with_differs)
 
 -- the free bits that follow from the spot of the page's right
 pub record IsClear (l : Whole) (g : ℕ) : Type 0 where
@@ -481,12 +425,7 @@ leaves_or x known = grind arith
 
 -- a grain is known as free if the step tells so, or if it was, and the step neither takes it nor gives the right away
 free_after-is : (s : Step) (a g : ℕ) (right known : Bool) → free_after s a g right known ≡ (tells_free s a g right || (not (takes s g) && not (leaves s (g / 256)) && known))
-free_after-is (Look (Word.Free q w)) a g right known = tells_or ((w == g / 64 % 4) && (q == g / 256) && right && has_bit a (g % 64)) known
-free_after-is (Deed q d) a g right known = tells_or ((q == g / 256) && (a == 0)) known
-free_after-is (Take q w mask) a g right known = takes_or (in_mask q w mask g) known
-free_after-is (Offer q d) a g right known = leaves_or (q == g / 256) known
-free_after-is (Park q) a g right known = leaves_or (q == g / 256) known
-free_after-is s a g right known = refl
+free_after-is s a g right known = grind (arith, tells_or, takes_or, leaves_or)
 
 not_from : (x z y : Bool) → (not x && not z && y) ≡ true → (x ≡ false) × (z ≡ false) × (y ≡ true)
 not_from x z y h = grind arith
@@ -495,14 +434,8 @@ not_from x z y h = grind arith
 told_free : (f : Profile) (l : Whole) (j e : ℕ) (s : Step) (a g : ℕ) → IsSpotted l (g / 256) → IsClear l g → Allowed f (part j l) s → a ≡ word_after l (target s) → tells_free s a g (has_right (part j l) (g / 256)) ≡ true
     → Known j (spot_after j (way s a (g / 256)) (spot_of l (g / 256))) (has_bit (next_value e s (free_word_at g) (word_after l (free_word_at g))) (g % 64))
 told_free f l j e (Look (Word.Free q w)) a g at clear allowed is h =
-    let parts = and_parts ((w == g / 64 % 4) && (q == g / 256) && has_right (part j l) (g / 256)) (has_bit a (g % 64)) h in
-    let rest = and_parts ((w == g / 64 % 4) && (q == g / 256)) (has_right (part j l) (g / 256)) parts.0 in
-    let here = and_parts (w == g / 64 % 4) (q == g / 256) rest.0 in
-    let same : a ≡ word_after l (free_word_at g) = is ∙ ap (λ x. word_after l (Word.Free q x)) (eqb-true w (g / 64 % 4) here.0) ∙ ap (λ x. word_after l (Word.Free x (g / 64 % 4))) (eqb-true q (g / 256) here.1) in
-    (is_with-true j (spot_of l (g / 256)) (sym (at.has j) ∙ rest.1), ap (λ n. has_bit n (g % 64)) (looked ((w == g / 64 % 4) && (q == g / 256)) (word_after l (free_word_at g))) ∙ (ap (λ n. has_bit n (g % 64)) (sym same) ∙ parts.1))
-told_free f l j e (Deed q d) a g at clear allowed is h =
-    let suits : Suits j (way (Deed q d) a (g / 256)) (spot_of l (g / 256)) = step_suits f l j (Deed q d) a (g / 256) at allowed is in
-    (ap (λ t. spot_after j (if t then ByDeed else Rests) (spot_of l (g / 256))) h, clear.bare (subst (λ t. Suits j (if t then ByDeed else Rests) (spot_of l (g / 256))) h suits))
+    search (arith, and_parts, eqb-true, is_with-true, looked)
+told_free f l j e (Deed q d) a g at clear allowed is h = search (arith, step_suits)
 told_free f l j e (Unhint q) a g at clear allowed is h = absurd (false≢true h)
 told_free f l j e s a g at clear allowed is h = absurd (false≢true h)
 
@@ -511,12 +444,7 @@ moved_spot : (j : ℕ) (m : Way) (o : Spot) (x : Bool) → (x ≡ true → spot_
 moved_spot j m o x new old = cond_both x m Rests (λ w. spot_after j w o ≡ With j) new (λ other. old)
 
 own_spot : (j : ℕ) (s : Step) (a p : ℕ) (o : Spot) → leaves s p ≡ false → o ≡ With j → spot_after j (way s a p) o ≡ With j
-own_spot j (Deed q d) a p o stays h = moved_spot j ByDeed o ((q == p) && (a == 0)) (λ here. refl) h
-own_spot j (TakeRight q d) a p o stays h = moved_spot j (FromOffer (number_of d)) o ((q == p) && has_bit a (p % 64)) (λ here. refl) h
-own_spot j (Offer q d) a p o stays h = moved_spot j (ToOffer (number_of d)) o (q == p) (λ here. absurd (false≢true (sym stays ∙ here))) h
-own_spot j (Park q) a p o stays h = moved_spot j ToParked o (q == p) (λ here. absurd (false≢true (sym stays ∙ here))) h
-own_spot j (Unpark q) a p o stays h = moved_spot j FromParked o ((q == p) && has_bit a (p % 64)) (λ here. refl) h
-own_spot j s a p o stays h = h
+own_spot j s a p o stays h = grind (arith, moved_spot, false≢true)
 
 -- what follows for the actor that made the step
 own_free : (f : Profile) (l : Whole) (j e : ℕ) (s : Step) (a g : ℕ) → IsSpotted l (g / 256) → IsClear l g → IsStepOf f s → Allowed f (part j l) s → a ≡ word_after l (target s)
@@ -526,20 +454,14 @@ own_free f l j e s a g at clear of allowed is h =
     let cases = or_cases (tells_free s a g (has_right (part j l) (g / 256))) (not (takes s g) && not (leaves s (g / 256)) && known_free (part j l) g) (sym (free_after-is s a g (has_right (part j l) (g / 256)) (known_free (part j l) g)) ∙ h) in
     elim cases [
       | inl told ↦ told_free f l j e s a g at clear allowed is told
-      | inr kept ↦
-          let parts = not_from (takes s g) (leaves s (g / 256)) (known_free (part j l) g) kept in
-          let was : (spot_of l (g / 256) ≡ With j) × (free_bit l g ≡ true) = clear.free j parts.2 in
-          (own_spot j s a (g / 256) (spot_of l (g / 256)) parts.1 was.0, free_stays f e s g (word_after l (free_word_at g)) of parts.0 was.1)
+      | inr kept ↦ search (arith, not_from, own_spot, free_stays)
     ]
 
 -- and for another, whose right stays and whose grains nobody takes
 other_free : (f : Profile) (l : Whole) (j k e : ℕ) (s : Step) (a g : ℕ) → IsSpotted l (g / 256) → IsClear l g → IsStepOf f s → Allowed f (part j l) s → a ≡ word_after l (target s) → (j == k) ≡ false → known_free (part k l) g ≡ true
     → Known k (spot_after j (way s a (g / 256)) (spot_of l (g / 256))) (has_bit (next_value e s (free_word_at g) (word_after l (free_word_at g))) (g % 64))
 other_free f l j k e s a g at clear of allowed is ne h =
-    let was : (spot_of l (g / 256) ≡ With k) × (free_bit l g ≡ true) = clear.free k h in (
-      other_spot j k (way s a (g / 256)) (spot_of l (g / 256)) (step_suits f l j s a (g / 256) at allowed is) ne was.0,
-      free_stays f e s g (word_after l (free_word_at g)) of (takes_not f l j s g at allowed (with_differs j k (spot_of l (g / 256)) was.0 ne)) was.1,
-    )
+    search (arith, other_spot, step_suits, free_stays, takes_not, with_differs)
 
 nowhere_not_with : (j : ℕ) (o : Spot) → o ≡ Nowhere → o ≡ With j → ⊥
 nowhere_not_with j o h g = let e : Nowhere ≡ With j = sym h ∙ g in absurd cc
@@ -555,9 +477,7 @@ cleared f (t ∷ l) legal g =
     let j = t.actor in
     let e : ℕ = epoch_of (part t.actor l) in
     record {
-      bare = λ h.
-          let was : spot_of l (g / 256) ≡ Nowhere = was_nowhere j (way s a (g / 256)) (spot_of l (g / 256)) h in
-          free_stays f e s g (word_after l (free_word_at g)) next.of_region (takes_not f l j s g at next.allowed (nowhere_not_with j (spot_of l (g / 256)) was)) (clear.bare was);
+      bare = search (arith, was_nowhere, free_stays, takes_not, nowhere_not_with);
       free = λ k. cond_both (j == k) (t.made ∷ part k l) (part k l) (λ v. known_free v g ≡ true → Known k (spot_of (t ∷ l) (g / 256)) (free_bit (t ∷ l) g))
           (λ same h. let e' : j ≡ k = eqb-true j k same in
           subst (λ i. Known i (spot_of (t ∷ l) (g / 256)) (free_bit (t ∷ l) g)) e' (own_free f l j e s a g at clear next.of_region next.allowed next.answer_is (ap (λ i. free_after s a g (has_right (part i l) (g / 256)) (known_free (part i l) g)) e' ∙ h)))
@@ -571,9 +491,7 @@ free_known f l legal k g h = let clear : IsClear l g = cleared f l legal g in (c
 -- who knows a grain as free has the right of its page
 pub free_known_has_right : (f : Profile) (l : Whole) → Legal f l → (k g : ℕ) → known_free (part k l) g ≡ true → has_right (part k l) (g / 256) ≡ true
 free_known_has_right f l legal k g h =
-    let clear : IsClear l g = cleared f l legal g in
-    let at : IsSpotted l (g / 256) = spotted f l legal (g / 256) in
-    at.has k ∙ ap (is_with k) (clear.free k h).0 ∙ eq-eqb k k refl
+    cc ((spotted f l legal (g / 256)).has k, ((cleared f l legal g).free k h).0, eq-eqb k k refl)
 
 -- each grain of a page without a deed is free
 pub free_without_deed : (f : Profile) (l : Whole) → Legal f l → (g : ℕ) → word_after l (Word.Deed (g / 256)) ≡ 0 → free_bit l g ≡ true
@@ -593,10 +511,7 @@ or_one : (old : ℕ) → old ≤ 1 → bit_or old 1 ≡ 1
 or_one old h = elim (cases_eq old 0) [ inl e ↦ ap (λ n. bit_or n 1) e | inr ne ↦ let one : old ≡ 1 = omega arith in ap (λ n. bit_or n 1) one ]
 
 backed_next : (e : ℕ) (s : Step) (p old : ℕ) → old ≤ 1 → next_value e s (Word.Backed p) old ≤ 1
-backed_next e (Look w) p old h = omega (arith, looked (same_word w (Word.Backed p)) old)
-backed_next e (Back q) p old h = cond_both (q == p) (bit_or old 1) old (λ n. n ≤ 1) (λ here. omega (arith, or_one old h)) (λ other. h)
-backed_next e (Unback q) p old h = cond_both (q == p) 0 old (λ n. n ≤ 1) (λ here. omega arith) (λ other. h)
-backed_next e s p old h = h
+backed_next e s p old h = grind (arith, looked, cond_both, or_one)
 
 -- a backed word is 0 or 1
 pub backed_small : (f : Profile) (l : Whole) → Legal f l → (p : ℕ) → word_after l (Word.Backed p) ≤ 1
@@ -605,14 +520,10 @@ backed_small f (t ∷ l) legal p = backed_next (epoch_of (part t.actor l)) t.mad
 
 -- a page that is backed stays so, but where the step ends its backing
 backed_stays : (e : ℕ) (s : Step) (p old : ℕ) → unbacks s p ≡ false → old ≡ 1 → next_value e s (Word.Backed p) old ≡ 1
-backed_stays e (Look w) p old keep h = looked (same_word w (Word.Backed p)) old ∙ h
-backed_stays e (Back q) p old keep h = cond_both (q == p) (bit_or old 1) old (λ n. n ≡ 1) (λ here. ap (λ n. bit_or n 1) h) (λ other. h)
-backed_stays e (Unback q) p old keep h = ap (λ t. if t then 0 else old) keep ∙ h
-backed_stays e s p old keep h = h
+backed_stays e s p old keep h = grind (arith, looked, cond_both)
 
 back_tells : (x known : Bool) (old : ℕ) → old ≤ 1 → (known ≡ true → old ≡ 1) → (if x then true else known) ≡ true → (if x then bit_or old 1 else old) ≡ 1
-back_tells true known old small was told = or_one old small
-back_tells false known old small was told = was told
+back_tells x known old small was told = grind (arith, or_one)
 
 unback_tells : (x known : Bool) (old : ℕ) → (known ≡ true → old ≡ 1) → (if x then false else known) ≡ true → (if x then 0 else old) ≡ 1
 unback_tells x known old h e = grind arith
@@ -623,18 +534,14 @@ look_backed x known old a h e k = grind (arith, nat_tests)
 -- an actor's own step tells it that the page is backed only where it is
 backed_learns : (l : Whole) (e : ℕ) (s : Step) (a p : ℕ) (known : Bool) → a ≡ word_after l (target s) → word_after l (Word.Backed p) ≤ 1 → (known ≡ true → word_after l (Word.Backed p) ≡ 1) → backed_after s a p known ≡ true
     → next_value e s (Word.Backed p) (word_after l (Word.Backed p)) ≡ 1
-backed_learns l e (Look (Word.Backed q)) a p known is small was told = look_backed (q == p) known (word_after l (Word.Backed p)) a (λ t. is ∙ ap (λ n. word_after l (Word.Backed n)) (eqb-true q p t)) was told
-backed_learns l e (Back q) a p known is small was told = back_tells (q == p) known (word_after l (Word.Backed p)) small was told
-backed_learns l e (Unback q) a p known is small was told = unback_tells (q == p) known (word_after l (Word.Backed p)) was told
-backed_learns l e s a p known is small was told = was told
+backed_learns l e s a p known is small was told = grind (arith, look_backed, eqb-true, back_tells, unback_tells)
 
 -- only an actor that holds each grain of a page ends its backing
 allowed_at : (f : Profile) (v : View) (q p : ℕ) → MayUnback f v q → q ≡ p → (g : ℕ) → g / 256 ≡ p → holds v g ≡ true
 allowed_at f v q p may e g here = may.held g (here ∙ sym e)
 
 unbacks_held : (f : Profile) (v : View) (s : Step) (p : ℕ) → Allowed f v s → unbacks s p ≡ true → (g : ℕ) → g / 256 ≡ p → holds v g ≡ true
-unbacks_held f v (Unback q) p allowed h = allowed_at f v q p allowed (eqb-true q p h)
-unbacks_held f v s p allowed h = absurd (false≢true h)
+unbacks_held f v s p allowed h = grind (arith, allowed_at, eqb-true, false≢true)
 
 -- so no other does while this actor holds one
 other_unbacks : (f : Profile) (l : Whole) → IsValid f → Legal f l → (t : Triple) (k p : ℕ) → IsNext f l t → (t.actor == k) ≡ false → holds_on (part k l) p ≡ true → unbacks t.made.step p ≡ false

@@ -3,8 +3,8 @@ use Rattle.std.proofs.Common.{◌≡◌, ℕ, ◌+◌, ◌^◌, ◌<◌, ◌≤�
 use Rattle.std.proofs.Common.{◌&&◌, if◌then◌else◌, List, ap, subst, inl, inr, w64, eqb-true, eq-eqb}
 use Rattle.std.specs.Int.{bit_not}
 use Rattle.std.proofs.lemmas.Nat.{and_le_l, or_lt}
-use Rattle.pas_profile.specs.{Directories.deed_word_of, Layouts.opening, Layouts.same_word, Lives.live_word, Lives.is_live, Lives.turn_of, Profiles.IsValid}
-use Rattle.pas_profile.specs.{Profiles.IsDirectoryOf, Blocks.address_of, Blocks.length_of, Blocks.grain_of}
+use Rattle.pas_profile.specs.{Directories.deed_word_of, Layouts.opening, Layouts.same_word, Lives.live_word, Profiles.IsValid, Profiles.IsDirectoryOf}
+use Rattle.pas_profile.specs.{Blocks.address_of, Blocks.length_of, Blocks.grain_of}
 use Rattle.pas_profile.specs.declared.{profile.Profile.Profile, directory.Directory.Directory, word.Word.Word, name.Name.Name, name.Block.Block}
 use Rattle.pas_profile.specs.declared.{event.Event.Event}
 use Rattle.pas_bits.specs.{Runs.in_run, Runs.meets_page, PageVectors.page_mask, Bits.has_bit}
@@ -15,7 +15,7 @@ use Rattle.pas_steps.specs.Allowed.{IsStepOf, Allowed, HoldsOn, MayPutNow, MayGi
 use Rattle.pas_steps.specs.Lists.{Triple, Whole, part, word_after, IsNext, Legal, visible}
 use Rattle.pas_steps.specs.declared.step.Step.{Step}
 use Rattle.pas_steps.specs.declared.step.Step.TheVariants.{Look, Deed, Back, Take, Put, Give, End, EndSized, TakeRight, Offer, Park, Unpark, Stamp, Hint, Tick}
-use Rattle.pas_steps.specs.declared.step.Step.TheVariants.{Unhint, Unback}
+use Rattle.pas_steps.specs.declared.step.Step.TheVariants.{Unhint}
 use Rattle.pas_core.proofs.{Grains.give_short, Grains.one_holder, Lives.life_at}
 use Rattle.pas_bits.proofs.{PageVectors.page_mask_lt, Runs.IsMet, Runs.met}
 use Rattle.pas_core.proofs.Deeds.{next_value, looked, event_if, end_if}
@@ -24,8 +24,7 @@ use Rattle.pas_profile.proofs.Codecs.{kind_number_lt}
 use Rattle.pas_machine.specs.State.{Live, live_in, gives_in, ends_in, touches, epoch_in}
 use Rattle.pas_core.specs.Good.{IsLifeOf}
 use Rattle.pas_steps.proofs.{Targets.guess_fits, Bits.all_below-at, Flags.stays_set, Flags.was_set, Parts.each_part}
-use Rattle.pas_steps.specs.Events.{event_of, with_event, reason_of, sized_reason}
-use Rattle.pas_steps.specs.Desks.{made}
+use Rattle.pas_steps.specs.{Events.event_of, Events.with_event, Desks.made}
 use Rattle.pas_core.specs.Stamps.{IsSoAtEnd, EachEnd, IsStampedOr, KeepsToEnds, AllKeepToEnds}
 
 -- ==== The epoch only grows, every word fits 64 bits, and epochs and stamps are below 2 ^ 40.
@@ -33,17 +32,14 @@ use Rattle.pas_core.specs.Stamps.{IsSoAtEnd, EachEnd, IsStampedOr, KeepsToEnds, 
 -- ---- the epoch
 -- no step lowers the epoch
 epoch_next : (e : ℕ) (s : Step) (old : ℕ) → old ≤ next_value e s Word.Epoch old
-epoch_next e (Look word) old = omega (arith, looked (same_word word Word.Epoch) old)
-epoch_next e s old = omega arith
+epoch_next e s old = grind (arith, looked)
 
 epoch_grows : (l : Whole) (t : Triple) → word_after l Word.Epoch ≤ word_after (t ∷ l) Word.Epoch
 epoch_grows l t = epoch_next (epoch_of (part t.actor l)) t.made.step (word_after l Word.Epoch)
 
 -- an actor learns no epoch but that of the word, and its tick the one that it makes
 epoch_learns : (l : Whole) (e : ℕ) (s : Step) (a : ℕ) (known : Option ℕ) → a ≡ word_after l (target s) → or_zero known ≤ word_after l Word.Epoch → or_zero (epoch_after s a known) ≤ next_value e s Word.Epoch (word_after l Word.Epoch)
-epoch_learns l e (Look Word.Epoch) a known is h = omega (arith, is)
-epoch_learns l e (Tick raised) a known is h = omega (arith, is, h)
-epoch_learns l e s a known is h = h
+epoch_learns l e s a known is h = grind arith
 
 -- the epoch that a view knows is at most the epoch
 pub epoch_known : (f : Profile) (l : Whole) → Legal f l → (k : ℕ) → epoch_of (part k l) ≤ word_after l Word.Epoch
@@ -77,8 +73,7 @@ value_small f e (Unhint q) old valid of he h = omega (arith, and_le_l old (bit_n
 value_small f e s old valid of he h = omega arith
 
 opening_small : (word : Word) → opening word < 2 ^ 64
-opening_small Word.Epoch = omega arith
-opening_small s = omega arith
+opening_small s = grind arith
 
 -- every word fits 64 bits
 pub words_fit : (f : Profile) (l : Whole) → IsValid f → Legal f l → (word : Word) → word_after l word < 2 ^ 64
@@ -93,9 +88,7 @@ words_fit f (t ∷ l) valid legal word =
 
 -- ---- the epoch and the stamps are below 2 ^ 40
 epoch_below : (f : Profile) (e : ℕ) (s : Step) (old : ℕ) → IsStepOf f s → old < 2 ^ 40 → next_value e s Word.Epoch old < 2 ^ 40
-epoch_below f e (Look word) old of h = omega (arith, looked (same_word word Word.Epoch) old, h)
-epoch_below f e (Tick raised) old of h = omega (arith, of, h)
-epoch_below f e s old of h = h
+epoch_below f e s old of h = grind (arith, looked)
 
 -- the epoch is below 2 ^ 40
 pub epoch_small : (f : Profile) (l : Whole) → Legal f l → word_after l Word.Epoch < 2 ^ 40
@@ -103,9 +96,7 @@ epoch_small f [] legal = omega arith
 epoch_small f (t ∷ l) legal = let next : IsNext f l t = legal.0 in epoch_below f (epoch_of (part t.actor l)) t.made.step (word_after l Word.Epoch) next.of_region (epoch_small f l legal.1)
 
 stamp_below : (e : ℕ) (s : Step) (p old : ℕ) → e < 2 ^ 40 → old < 2 ^ 40 → next_value e s (Word.Stamp p) old < 2 ^ 40
-stamp_below e (Look word) p old he h = omega (arith, looked (same_word word (Word.Stamp p)) old, h)
-stamp_below e (Stamp q) p old he h = cond_both (q == p) (max old e) old (λ m. m < 2 ^ 40) (λ here. (omega (arith, he, h))) (λ other. h)
-stamp_below e s p old he h = h
+stamp_below e s p old he h = grind (arith, looked, cond_both)
 
 -- a stamp is an epoch that an actor read, so it is below 2 ^ 40 too
 pub stamp_small : (f : Profile) (l : Whole) → Legal f l → (p : ℕ) → word_after l (Word.Stamp p) < 2 ^ 40
@@ -127,12 +118,7 @@ pub record IsFound (f : Profile) (l : Whole) (name : Name) (guess : ℕ) : Type 
 
 found : (f : Profile) (l : Whole) (name : Name) (word guess gives ends : ℕ) (live : Option Live) → live_in (visible l) (address_of name) ≡ live → IsLifeOf f (grain_of name) word live gives ends
     → name.turn < 2 ^ 40 → guess < 2 ^ 23 → word ≡ live_word name.turn guess → IsFound f l name guess
-found f l name word guess gives ends None is life turn short h = absurd (omega (arith, life.word_is, life.few, h))
-found f l name word guess gives ends (Some b) is life turn short h =
-    let w = life.word_is in let few = life.few in let small = life.short in
-    let first = life.first in let last = life.last in
-    let n : length_of b.block ≡ guess = omega (arith, w, few, small, turn, short, h) in
-    record { block = b; address_is = life.address; lives = is; grains_are = n; first = first; last = omega (arith, n, last) }
+found f l name word guess gives ends live is life turn short h = grind arith
 
 pub end_finds : (f : Profile) (l : Whole) → IsValid f → Legal f l → (name : Name) (guess a : ℕ) → IsStepOf f (End name guess) → a ≡ word_after l (life_word_at (grain_of name)) → a ≡ live_word name.turn guess → IsFound f l name guess
 end_finds f l valid legal name guess a of is hit =
@@ -148,14 +134,11 @@ stamps (Stamp q) p = q == p
 stamps s p = false
 
 stamp_rests : (e : ℕ) (s : Step) (p old : ℕ) → stamps s p ≡ false → next_value e s (Word.Stamp p) old ≡ old
-stamp_rests e (Look word) p old other = looked (same_word word (Word.Stamp p)) old
-stamp_rests e (Stamp q) p old other = ap (λ t. if t then max old e else old) other
-stamp_rests e s p old other = refl
+stamp_rests e s p old other = grind (arith, looked)
 
 -- whoever stamps a page holds a grain of it
 stamps_held : (f : Profile) (v : View) (s : Step) (p : ℕ) → Allowed f v s → stamps s p ≡ true → HoldsOn v p
-stamps_held f v (Stamp q) p allowed h = subst (HoldsOn v) (eqb-true q p h) allowed.0
-stamps_held f v s p allowed h = absurd (false≢true h)
+stamps_held f v s p allowed h = grind (arith, eqb-true, false≢true)
 
 all_if : (t : Bool) (o : Option ℕ) (s : ℕ) → (if t then o else None) ≡ Some s → (t ≡ true) × (o ≡ Some s)
 all_if t o s h = grind arith
@@ -179,15 +162,11 @@ own_stamp x e word known s h k = grind arith
 -- an actor's own step tells it the stamp
 stamp_learns : (l : Whole) (e : ℕ) (t : Step) (a p : ℕ) (known : Option ℕ) (s : ℕ) → a ≡ word_after l (target t) → ((s : ℕ) → known ≡ Some s → word_after l (Word.Stamp p) ≡ s) → stamp_after t a p known ≡ Some s
     → next_value e t (Word.Stamp p) (word_after l (Word.Stamp p)) ≡ s
-stamp_learns l e (Look (Word.Stamp q)) a p known s is old h = looked (q == p) (word_after l (Word.Stamp p)) ∙ look_stamp (q == p) a (word_after l (Word.Stamp p)) known s (λ x. is ∙ ap (λ n. word_after l (Word.Stamp n)) (eqb-true q p x)) old h
-stamp_learns l e (Stamp q) a p known s is old h = own_stamp (q == p) e (word_after l (Word.Stamp p)) known s old h
-stamp_learns l e step a p known s is old h = old s h
+stamp_learns l e step a p known s is old h = grind (arith, looked, look_stamp, eqb-true, own_stamp)
 
 -- nobody else stamps a page each of whose grains this actor holds
 other_stamps : (f : Profile) (l : Whole) → IsValid f → Legal f l → (t : Triple) (k p : ℕ) → IsNext f l t → (t.actor == k) ≡ false → holds_all (part k l) p ≡ true → stamps t.made.step p ≡ false
-other_stamps f l valid legal t k p next other all = false_from_ne_true (stamps t.made.step p) (λ h.
-    let on : HoldsOn (part t.actor l) p = stamps_held f (part t.actor l) t.made.step p next.allowed h in
-    false≢true (sym other ∙ one_holder f l valid legal t.actor k on.0 on.2 (all_held (part k l) p on.0 all on.1)))
+other_stamps f l valid legal t k p next other all = search (arith, false_from_ne_true, stamps_held, false≢true, one_holder, all_held)
 
 -- a stamp that a view knows is the page's
 pub stamp_known : (f : Profile) (l : Whole) → IsValid f → Legal f l → (k p s : ℕ) → known_stamp (part k l) p ≡ Some s → word_after l (Word.Stamp p) ≡ s
@@ -201,10 +180,7 @@ pub moved_held : (t held : Bool) (m : Move) → (t ≡ true → held_after m hel
 moved_held t held m new h = cond_both t m Stays (λ x. held_after x held ≡ true) new (λ other. h)
 
 put_misses : (v : View) (q w mask p g : ℕ) → MayPutNow v q w mask → is_unstamped v p ≡ true → g / 256 ≡ p → in_mask q w mask g ≡ false
-put_misses v q w mask p g may unstamped e = false_from_ne_true (in_mask q w mask g) (λ h.
-    let parts = and_parts ((w == g / 64 % 4) && (q == g / 256)) (has_bit mask (g % 64)) h in
-    let here : q ≡ p = eqb-true q (g / 256) (and_parts (w == g / 64 % 4) (q == g / 256) parts.0).1 ∙ e in
-    false≢true (sym may.stamped ∙ ap (is_unstamped v) here ∙ unstamped))
+put_misses v q w mask p g may unstamped e = search (arith, false_from_ne_true, and_parts, eqb-true, false≢true)
 
 give_misses : (f : Profile) (v : View) (block : Block) (p g : ℕ) → MayGiveNow f v block → is_unstamped v p ≡ true → g / 256 ≡ p → in_run (grain_of block.name) (length_of block) g ≡ false
 give_misses f v block p g may unstamped e = false_from_ne_true (in_run (grain_of block.name) (length_of block) g) (λ h.
@@ -235,8 +211,7 @@ unstamped_is_held f l legal k p = each_part f (λ l k v. is_unstamped v p ≡ tr
 
 -- ---- the epoch of each end on a page
 so_map : (P Q : ℕ → ℕ → Type 0) (e : Event) (es : List Event) (p : ℕ) → ((k e : ℕ) → P k e → Q k e) → IsSoAtEnd P e es p → IsSoAtEnd Q e es p
-so_map P Q (Event.End k name e) es p f h = λ on. f k e (h on)
-so_map P Q e es p f h = tt
+so_map P Q e es p f h = grind arith
 
 ends_map : (P Q : ℕ → ℕ → Type 0) (es : List Event) (p : ℕ) → ((k e : ℕ) → P k e → Q k e) → EachEnd P es p → EachEnd Q es p
 ends_map P Q [] p f h = tt
@@ -254,65 +229,36 @@ end_touches f l valid legal name guess a p of is hit on =
 -- the ends so far and the one that the step may make
 ends_step : (f : Profile) (l : Whole) → IsValid f → Legal f l → (P : ℕ → ℕ → Type 0) (k e : ℕ) (s : Step) (a p : ℕ) → IsStepOf f s → a ≡ word_after l (target s) → (ends_on s a p ≡ true → P k e) → EachEnd P (visible l) p
     → EachEnd P (with_event (event_of k e s a) (visible l)) p
-ends_step f l valid legal P k e (Deed q d) a p of is new h = event_if (λ x. EachEnd P x p) (a == 0) (Event.Deed k q d) (visible l) (tt, h) h
-ends_step f l valid legal P k e (Back q) a p of is new h = event_if (λ x. EachEnd P x p) (a == 0) (Event.Back k q) (visible l) (tt, h) h
-ends_step f l valid legal P k e (Give block) a p of is new h = (tt, h)
-ends_step f l valid legal P k e (End name guess) a p of is new h = end_if (λ x. EachEnd P x p) (a == live_word name.turn guess) (is_live a && (turn_of a == name.turn)) (Event.End k name e) (Event.Reject k name (reason_of name a)) (visible l)
-    (λ hit. (λ on. new (end_touches f l valid legal name guess a p of is hit on), h)) (tt, h) h
-ends_step f l valid legal P k e (EndSized name room) a p of is new h = end_if (λ x. EachEnd P x p) (a == live_word name.turn (room / 16)) false (Event.End k name e) (Event.Reject k name (sized_reason name room a)) (visible l)
-    (λ hit. (λ on. new (end_touches f l valid legal name (room / 16) a p of.0 is hit on), h)) (tt, h) h
-ends_step f l valid legal P k e (Unback q) a p of is new h = (tt, h)
-ends_step f l valid legal P k e s a p of is new h = h
+ends_step f l valid legal P k e s a p of is new h = grind (arith, event_if, end_if, end_touches)
 
 -- no step lowers a stamp
 stamp_next : (e : ℕ) (s : Step) (p old : ℕ) → old ≤ next_value e s (Word.Stamp p) old
-stamp_next e (Look word) p old = omega (arith, looked (same_word word (Word.Stamp p)) old)
-stamp_next e (Stamp q) p old = cond_both (q == p) (max old e) old (λ n. old ≤ n) (λ here. omega arith) (λ other. omega arith)
-stamp_next e s p old = omega arith
+stamp_next e s p old = grind (arith, looked, cond_both)
 
 -- an actor forgets no epoch
 epoch_rises : (l : Whole) (s : Step) (a : ℕ) (known : Option ℕ) → a ≡ word_after l (target s) → or_zero known ≤ word_after l Word.Epoch → or_zero known ≤ or_zero (epoch_after s a known)
-epoch_rises l (Look Word.Epoch) a known is h = omega (arith, is, h)
-epoch_rises l (Tick raised) a known is h = omega (arith, is, h)
-epoch_rises l s a known is h = omega arith
+epoch_rises l s a known is h = grind arith
 
 -- what an own step leaves: the page is unstamped still, or is stamped now
 stamped_now : (x was : Bool) (e n old : ℕ) → was ≡ true → n ≤ e → ((if x then false else was) ≡ true) ⊎ (n ≤ (if x then max old e else old))
 stamped_now x was e n old h k = grind arith
 
 own_late : (e : ℕ) (s : Step) (a p : ℕ) (was : Bool) (n old : ℕ) → was ≡ true → n ≤ e → (unstamped_after s a p was ≡ true) ⊎ (n ≤ next_value e s (Word.Stamp p) old)
-own_late e (End name guess) a p was n old h le = inl (stays_set ((a == live_word name.turn guess) && meets_page (grain_of name) guess p) was h)
-own_late e (EndSized name room) a p was n old h le = inl (stays_set ((a == live_word name.turn (room / 16)) && meets_page (grain_of name) (room / 16) p) was h)
-own_late e (Stamp q) a p was n old h le = stamped_now (q == p) was e n old h le
-own_late e s a p was n old h le = inl h
+own_late e s a p was n old h le = grind (arith, stays_set, stamped_now)
 
 late_next : (f : Profile) (t : Triple) (l : Whole) → Legal f (t ∷ l) → (p k n : ℕ) → IsStampedOr l p k n → IsStampedOr (t ∷ l) p k n
 late_next f t l legal p k n (inl le) = let grows = stamp_next (epoch_of (part t.actor l)) t.made.step p (word_after l (Word.Stamp p)) in inl (omega (arith, le, grows))
-late_next f t l legal p k n (inr late) =
-    let next : IsNext f l t = legal.0 in
-    let known = epoch_known f l legal.1 k in
-    let le = late.1 in
-    cond_both (t.actor == k) (t.made ∷ part k l) (part k l) (λ v. (n ≤ word_after (t ∷ l) (Word.Stamp p)) ⊎ ((is_unstamped v p ≡ true) × (n ≤ epoch_of v)))
-    (λ own.
-    let rises = epoch_rises l t.made.step t.made.answer (known_epoch (part k l)) next.answer_is known in
-    let epoch : n ≤ epoch_of (part t.actor l) = subst (λ j. n ≤ epoch_of (part j l)) (sym (eqb-true t.actor k own)) le in
-    elim (own_late (epoch_of (part t.actor l)) t.made.step t.made.answer p (is_unstamped (part k l) p) n (word_after l (Word.Stamp p)) late.0 epoch) [ inl h ↦ inr (h, omega (arith, le, rises)) | inr h ↦ inl h ])
-    (λ other. inr late)
+late_next f t l legal p k n (inr late) = search (arith, epoch_known, cond_both, epoch_rises, eqb-true, own_late)
 
 -- an end that is made now
 new_unstamped : (s : Step) (a p : ℕ) (was : Bool) → ends_on s a p ≡ true → unstamped_after s a p was ≡ true
-new_unstamped (End name guess) a p was h = ap (λ t. if t then true else was) h
-new_unstamped (EndSized name room) a p was h = ap (λ t. if t then true else was) h
-new_unstamped s a p was h = absurd (false≢true h)
+new_unstamped s a p was h = grind (arith, false≢true)
 
 new_epoch : (s : Step) (a p : ℕ) (known : Option ℕ) → ends_on s a p ≡ true → or_zero known ≤ or_zero (epoch_after s a known)
-new_epoch (End name guess) a p known h = omega arith
-new_epoch (EndSized name room) a p known h = omega arith
-new_epoch s a p known h = absurd (false≢true h)
+new_epoch s a p known h = grind (arith, false≢true)
 
 now_late : (t : Triple) (l : Whole) (p : ℕ) → ends_on t.made.step t.made.answer p ≡ true → IsStampedOr (t ∷ l) p t.actor (epoch_of (part t.actor l))
-now_late t l p h = inr (subst (λ b. let v = if b then t.made ∷ part t.actor l else part t.actor l in (is_unstamped v p ≡ true) × (epoch_of (part t.actor l) ≤ epoch_of v)) (sym (eq-eqb t.actor t.actor refl))
-    (new_unstamped t.made.step t.made.answer p (is_unstamped (part t.actor l) p) h, new_epoch t.made.step t.made.answer p (known_epoch (part t.actor l)) h))
+now_late t l p h = search (arith, eq-eqb, new_unstamped, new_epoch)
 
 -- the epoch of each end on a page is at most the page's stamp, or the page is unstamped for its actor, which knows an epoch as great
 pub ends_stamped : (f : Profile) (l : Whole) → IsValid f → Legal f l → (p : ℕ) → EachEnd (IsStampedOr l p) (visible l) p
@@ -344,12 +290,10 @@ ends_before f l valid legal k p held stamped =
 
 -- ---- the machine's epoch of a page only grows
 more_epoch : (e : Event) (es : List Event) (p : ℕ) → epoch_in es p ≤ epoch_in (e ∷ es) p
-more_epoch (Event.End k name e) es p = cond_both (touches (live_in es (address_of name)) p) (max (epoch_in es p) e) (epoch_in es p) (λ n. (epoch_in es p) ≤ n) (λ on. omega arith) (λ off. omega arith)
-more_epoch s es p = omega arith
+more_epoch s es p = grind (arith, cond_both)
 
 with_more : (o : Option Event) (es : List Event) (p : ℕ) → epoch_in es p ≤ epoch_in (with_event o es) p
-with_more None es p = omega arith
-with_more (Some e) es p = more_epoch e es p
+with_more o es p = grind (arith, more_epoch)
 
 -- a block that an end ended touches each page that its run meets
 touched_by_end : (f : Profile) (l : Whole) → IsValid f → Legal f l → (name : Name) (guess a p : ℕ) → IsStepOf f (End name guess) → a ≡ word_after l (life_word_at (grain_of name)) → (a == live_word name.turn guess) ≡ true → meets_page (grain_of name) guess p ≡ true
@@ -360,40 +304,27 @@ touched_by_end f l valid legal name guess a p of is hit meets =
     ap (λ o. touches o p) at.lives ∙ ap (λ n. meets_page (address_of at.block.block.name / 16) n p) at.grains_are ∙ ap (λ g. meets_page g guess p) first ∙ meets
 
 end_reached : (z y : Bool) (k e : ℕ) (name : Name) (reject : Event) (es : List Event) (p : ℕ) → z ≡ true → touches (live_in es (address_of name)) p ≡ true → e ≤ epoch_in (with_event (if z then Some (Event.End k name e) else (if y then None else Some reject)) es) p
-end_reached true y k e name reject es p h on = cond_both (touches (live_in es (address_of name)) p) (max (epoch_in es p) e) (epoch_in es p) (λ n. e ≤ n) (λ here. omega arith) (λ other. absurd (false≢true (sym other ∙ on)))
-end_reached false y k e name reject es p h on = absurd (false≢true h)
+end_reached z y k e name reject es p h on = grind (arith, cond_both, false≢true)
 
 end_reaches : (f : Profile) (l : Whole) → IsValid f → Legal f l → (k e : ℕ) (s : Step) (a p : ℕ) → IsStepOf f s → a ≡ word_after l (target s) → ends_on s a p ≡ true → e ≤ epoch_in (with_event (event_of k e s a) (visible l)) p
-end_reaches f l valid legal k e (End name guess) a p of is h = let parts = and_parts (a == live_word name.turn guess) (meets_page (grain_of name) guess p) h in
-    end_reached (a == live_word name.turn guess) (is_live a && (turn_of a == name.turn)) k e name (Event.Reject k name (reason_of name a)) (visible l) p parts.0 (touched_by_end f l valid legal name guess a p of is parts.0 parts.1)
-end_reaches f l valid legal k e (EndSized name room) a p of is h = let parts = and_parts (a == live_word name.turn (room / 16)) (meets_page (grain_of name) (room / 16) p) h in
-    end_reached (a == live_word name.turn (room / 16)) false k e name (Event.Reject k name (sized_reason name room a)) (visible l) p parts.0 (touched_by_end f l valid legal name (room / 16) a p of.0 is parts.0 parts.1)
-end_reaches f l valid legal k e s a p of is h = absurd (false≢true h)
+end_reaches f l valid legal k e s a p of is h = grind (arith, and_parts, end_reached, touched_by_end, false≢true)
 
 -- ---- steps
 keeps_unstamped : (v : View) (s : Step) (p : ℕ) → KeepsToEnds v s → stamps s p ≡ true → is_unstamped v p ≡ true
-keeps_unstamped v (Stamp q) p keeps h = ap (is_unstamped v) (sym (eqb-true q p h)) ∙ keeps
-keeps_unstamped v s p keeps h = absurd (false≢true h)
+keeps_unstamped v s p keeps h = grind (arith, eqb-true, false≢true)
 
 stamp_value : (e : ℕ) (s : Step) (p old : ℕ) → next_value e s (Word.Stamp p) old ≤ max old e
-stamp_value e (Look word) p old = omega (arith, looked (same_word word (Word.Stamp p)) old)
-stamp_value e (Stamp q) p old = cond_both (q == p) (max old e) old (λ n. n ≤ max old e) (λ here. omega arith) (λ other. omega arith)
-stamp_value e s p old = omega arith
+stamp_value e s p old = grind (arith, looked, cond_both)
 
 -- while a page is unstamped no epoch is learned
 same_epoch : (v : View) (s : Step) (a p : ℕ) → KeepsToEnds v s → unstamped_after s a p (is_unstamped v p) ≡ true → epoch_of (made s a ∷ v) ≡ epoch_of v
-same_epoch v (Look Word.Epoch) a p keeps h = absurd (false≢true (sym (keeps p) ∙ h))
-same_epoch v (Tick raised) a p keeps h = absurd (false≢true (sym (keeps p) ∙ h))
-same_epoch v s a p keeps h = refl
+same_epoch v s a p keeps h = grind (arith, false≢true)
 
 ended_or : (x was : Bool) → (if x then true else was) ≡ true → (was ≡ true) ⊎ (x ≡ true)
 ended_or x was h = grind arith
 
 was_or_ends : (s : Step) (a p : ℕ) (was : Bool) → unstamped_after s a p was ≡ true → (was ≡ true) ⊎ (ends_on s a p ≡ true)
-was_or_ends (End name guess) a p was h = ended_or ((a == live_word name.turn guess) && meets_page (grain_of name) guess p) was h
-was_or_ends (EndSized name room) a p was h = ended_or ((a == live_word name.turn (room / 16)) && meets_page (grain_of name) (room / 16) p) was h
-was_or_ends (Stamp q) a p was h = inl (was_set (q == p) was h)
-was_or_ends s a p was h = inl h
+was_or_ends s a p was h = grind (arith, ended_or, was_set)
 
 -- ---- the induction
 -- the stamp is the epoch of some end, and so is what an actor knows while the page is unstamped for it
@@ -410,20 +341,10 @@ exact f (t ∷ l) valid legal keeps p =
     let a = t.made.answer in
     let e : ℕ = epoch_of (part t.actor l) in
     let more : epoch_in (visible l) p ≤ epoch_in (visible (t ∷ l)) p = with_more (event_of t.actor (epoch_of (part t.actor l)) t.made.step t.made.answer) (visible l) p in
-    let own : is_unstamped (t.made ∷ part t.actor l) p ≡ true → epoch_of (t.made ∷ part t.actor l) ≤ epoch_in (visible (t ∷ l)) p = λ h.
-    let same : epoch_of (t.made ∷ part t.actor l) ≡ epoch_of (part t.actor l) = same_epoch (part t.actor l) t.made.step t.made.answer p keeps.0 h in
-    elim (was_or_ends t.made.step t.made.answer p (is_unstamped (part t.actor l) p) h) [
-      | inl was ↦ let le = before.late t.actor was in omega (arith, same, le, more)
-      | inr ends ↦ let le = end_reaches f l valid legal.1 t.actor (epoch_of (part t.actor l)) t.made.step t.made.answer p next.of_region next.answer_is ends in omega (arith, same, le)
-    ] in
+    let own : is_unstamped (t.made ∷ part t.actor l) p ≡ true → epoch_of (t.made ∷ part t.actor l) ≤ epoch_in (visible (t ∷ l)) p =
+    search (arith, same_epoch, was_or_ends, end_reaches) in
     record {
-      stamp = elim (cases_Bool (stamps t.made.step p)) [
-        | inl h ↦
-            let le = before.late t.actor (keeps_unstamped (part t.actor l) t.made.step p keeps.0 h) in
-            let value = stamp_value (epoch_of (part t.actor l)) t.made.step p (word_after l (Word.Stamp p)) in
-            omega (arith, before.stamp, more, le, value)
-        | inr h ↦ let same = stamp_rests (epoch_of (part t.actor l)) t.made.step p (word_after l (Word.Stamp p)) h in omega (arith, before.stamp, more, same)
-      ];
+      stamp = search (arith, cases_Bool, keeps_unstamped, stamp_value, stamp_rests);
       late = λ k. cond_both (t.actor == k) (t.made ∷ part k l) (part k l) (λ v. is_unstamped v p ≡ true → epoch_of v ≤ epoch_in (visible (t ∷ l)) p)
           (λ here. subst (λ j. is_unstamped (t.made ∷ part j l) p ≡ true → epoch_of (t.made ∷ part j l) ≤ epoch_in (visible (t ∷ l)) p) (eqb-true t.actor k here) own) (λ other h. let le = before.late k h in omega (arith, le, more));
     }

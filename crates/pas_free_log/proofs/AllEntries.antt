@@ -1,12 +1,12 @@
 -- What a flush does for all entries of a log.
-use Rattle.std.proofs.Common.{◌≡◌, ℕ, Bool, true, false, ◌+◌, ◌*◌, ◌/◌, ◌≤◌, List, [], ◌∷◌, ◌++◌, length, inl, inr, ap, sym, ◌∙◌, arith, length-append, zero}
-use Rattle.std.proofs.Common.{suc, ◌-◌, ◌<◌, Some, refl, append_assoc, take, get_or, subst, map, reverse, append-nil}
+use Rattle.std.proofs.Common.{◌≡◌, ℕ, Bool, ◌+◌, ◌*◌, ◌/◌, ◌≤◌, List, [], ◌∷◌, ◌++◌, length, ap, sym, ◌∙◌, arith, length-append, zero, suc, ◌-◌, ◌<◌, Some}
+use Rattle.std.proofs.Common.{refl, append_assoc, take, get_or, subst, map, reverse, append-nil}
 use Rattle.std.specs.List.{flat_map}
 use Rattle.std.proofs.lemmas.List.{length-map, length-reverse, flat_map_more, reverse-append, take_more}
 use Rattle.pas_profile.specs.{Directories.deed_word_of, Directories.directory_read, Blocks.address_of, Blocks.grain_of}
 use Rattle.pas_profile.specs.declared.{name.Name.Name, word.Word.Word}
 use Rattle.pas_steps.specs.{Desks.made, Desks.Standing, Clear.IsClear, Calls.nothing, Calls.Does, Calls.Calls, Kinds.Only, Events.events_by}
-use Rattle.pas_steps.specs.{Allowed.IsEpochKnown}
+use Rattle.pas_steps.specs.{Allowed.IsEpochKnown, Views.View, Views.known_epoch, Views.epoch_of}
 use Rattle.pas_steps.specs.declared.step.{Made.Made, Step.TheVariants.Look, Step.TheVariants.Stamp}
 use Rattle.pas_steps.proofs.{Past.in_turn_length, Apart.only_within, Apart.only_both, Apart.epoch_same, Frames.events_append, Calls.still_clear}
 use Rattle.pas_rights.proofs.{Orders.return_few, Puts.puts_few}
@@ -17,7 +17,6 @@ use Rattle.pas_free_log.specs.declared.{log.Entry.Entry, ending.Outcome.Outcome,
 use Rattle.pas_free_log.specs.declared.{noting.EndedRun.EndedRun}
 use Rattle.pas_free_log.specs.Flushes.{Settled, stamps_by_outcome, stamps_for, AfterEnd, EntriesSteps, event_for, shown_for, noted_for, noted_after, Flushes}
 use Rattle.std.proofs.lemmas.List.Elements.{All-append, All-take}
-use Rattle.pas_steps.specs.Views.{View, known_epoch, epoch_of, or_zero}
 use Rattle.pas_free_log.proofs.OneEntry.{stamps_append}
 
 -- ==== How many steps a flush makes at most.
@@ -25,16 +24,13 @@ use Rattle.pas_free_log.proofs.OneEntry.{stamps_append}
 page_few : (g n : ℕ) (steps : List Made) → PageSteps g n steps → length steps ≤ 14
 page_few g n steps h =
     let first = made (Stamp (g / 256)) h.stamped ∷ made (Look (Word.Deed (g / 256))) (deed_word_of h.directory) ∷ [] in
-    let all = ap length h.steps_are ∙ length-append h.after (h.puts ++ first) in
     let most = length-append h.puts first in
     let puts = puts_few (g / 256) h.mask h.puts h.order in
     let after = return_few (g / 256) h.directory h.after h.returns in
-    omega (arith, all, most, puts, after)
+    omega (arith, ap length h.steps_are ∙ length-append h.after (h.puts ++ first), most, puts, after)
 
 by_few : (t : Bool) (entry : Entry) (first guess : ℕ) (before : List Made) → TriesBy t entry first guess before → length before ≤ 1
-by_few true entry first guess before none = let n = ap length none.1 in omega (arith, n)
-by_few false entry first guess before (inl none) = let n = ap length none.1 in omega (arith, n)
-by_few false entry first guess before (inr one) = let n = ap length one.4 in omega (arith, n)
+by_few t entry first guess before none = grind arith
 
 end_few : (entry : Entry) (outcome : Outcome) (steps : List Made) → EndSteps entry outcome steps → length steps ≤ 3
 end_few entry outcome steps h = let all = ap length h.steps_are in let n = length-append h.before (made (Look (Word.Deed (address_of entry.name / 4096))) h.deed ∷ []) in let few = by_few (is_sized entry) entry (guess_by (directory_read h.deed)) h.guess h.before h.tries in omega (arith, all, n, few)
@@ -51,13 +47,11 @@ entries_few : (epoch : ℕ) (settled : List Settled) (steps : List Made) → Ent
 entries_few epoch [] steps h = let none = ap length h in omega (arith, none)
 entries_few epoch (entry ∷ earlier) steps h =
     let e = h.2 in
-    let all = ap length h.4 ∙ length-append h.0 h.1 in
     let here = ap length e.steps_are ∙ length-append e.after e.ends in
     let ends = end_few entry.entry entry.outcome e.ends e.order in
     let after = after_few epoch entry.entry.name entry.outcome e.after e.returns in
-    let before = entries_few epoch earlier h.1 h.3 in
     let stamps : length (flat_map (stamps_for epoch) (entry ∷ earlier)) ≡ length (stamps_for epoch entry) + length (flat_map (stamps_for epoch) earlier) = length-append (stamps_for epoch entry) (flat_map (stamps_for epoch) earlier) in
-    omega (arith, all, here, ends, after, before, stamps)
+    omega (arith, ap length h.4 ∙ length-append h.0 h.1, here, ends, after, entries_few epoch earlier h.1 h.3, stamps)
 
 -- what came of each entry
 settled_count : (settled : List Settled) (logged : List Entry) → reverse (map (λ s. s.entry) settled) ≡ logged → length settled ≡ length logged
@@ -70,19 +64,13 @@ pub events_more : (k epoch : ℕ) (entry : Settled) (settled : List Settled) (ys
     → ((v : View) → epoch_of v ≡ epoch → events_by k v xs ≡ map (shown_for k epoch) settled) → ((v : View) → events_by k v ys ≡ event_for k (epoch_of v) entry.entry entry.outcome ∷ [])
     → (v : View) → epoch_of v ≡ epoch → events_by k v (ys ++ xs) ≡ map (shown_for k epoch) (entry ∷ settled)
 events_more k epoch entry settled ys xs kinds before one v is =
-    events_append k ys xs v
-    ∙ ap (λ es. es ++ events_by k v xs) (one (xs ++ v))
-    ∙ ap (λ e. event_for k e entry.entry entry.outcome ∷ events_by k v xs) (ap or_zero (epoch_same ending refl xs v kinds) ∙ is)
-    ∙ ap (λ es. shown_for k epoch entry ∷ es) (before v is)
+    cc (events_append k ys xs v, one (xs ++ v), epoch_same ending refl xs v kinds, before v is)
 
 pub stamps_more : (epoch : ℕ) (entry : Settled) (settled : List Settled) (ys xs : List Made) → Only ending xs
     → ((v : View) → epoch_of v ≡ epoch → stamps_by v xs ≡ flat_map (stamps_for epoch) settled) → ((v : View) → stamps_by v ys ≡ stamps_by_outcome (epoch_of v) entry.entry.name entry.outcome)
     → (v : View) → epoch_of v ≡ epoch → stamps_by v (ys ++ xs) ≡ flat_map (stamps_for epoch) (entry ∷ settled)
 stamps_more epoch entry settled ys xs kinds before one v is =
-    stamps_append v ys xs
-    ∙ ap (λ s. s ++ stamps_by v xs) (one (xs ++ v))
-    ∙ ap (λ e. stamps_by_outcome e entry.entry.name entry.outcome ++ stamps_by v xs) (ap or_zero (epoch_same ending refl xs v kinds) ∙ is)
-    ∙ ap (λ s. stamps_for epoch entry ++ s) (before v is)
+    cc (stamps_append v ys xs, one (xs ++ v), epoch_same ending refl xs v kinds, before v is)
 
 pub entries_more : (settled : List Settled) (entry : Settled) (logged : List Entry) (i : ℕ) (d : Entry) → i < length logged → entry.entry ≡ get_or logged i d → reverse (map (λ s. s.entry) settled) ≡ take i logged → reverse (map (λ s. s.entry) (entry ∷ settled)) ≡ take (i + 1) logged
 entries_more settled entry logged i d lt is before =
@@ -97,23 +85,18 @@ take_both (suc k) (x ∷ xs) ys = ap (λ n. x ∷ take k xs ++ take n ys) (omega
 
 noted_both : {A : Type 0} (n : ℕ) (es xs ys : List A) → (es ++ take (n - length es) xs) ++ take (n - length (es ++ take (n - length es) xs)) ys ≡ es ++ take (n - length es) (xs ++ ys)
 noted_both n es xs ys =
-    let long = length-append es (take (n - length es) xs) in
     append_assoc es (take (n - length es) xs) (take (n - length (es ++ take (n - length es) xs)) ys)
-    ∙ ap (λ k. es ++ (take (n - length es) xs ++ take k ys)) (omega (arith, long))
+    ∙ ap (λ k. es ++ (take (n - length es) xs ++ take k ys)) (omega (arith, length-append es (take (n - length es) xs)))
     ∙ ap (λ zs. es ++ zs) (take_both (n - length es) xs ys)
 
 pub noted_more : (settled : List Settled) (s : Settled) (es noted noted' runs : List EndedRun) → noted ≡ noted_after es settled → runs ≡ noted_for s → noted' ≡ noted ++ take (64 - length noted) runs
     → noted' ≡ noted_after es (s ∷ settled)
 noted_more settled s es noted noted' runs before one more =
     let so_far = flat_map noted_for (reverse settled) in
-    more ∙ ap (λ xs. noted ++ take (64 - length noted) xs) one
-    ∙ ap (λ xs. xs ++ take (64 - length xs) (noted_for s)) before
-    ∙ noted_both 64 es so_far (noted_for s)
-    ∙ ap (λ xs. es ++ take (64 - length es) xs) (flat_map_more noted_for [] (reverse settled) s ∙ ap (flat_map noted_for) (sym (reverse-append (s ∷ []) settled)))
+    cc (noted_both 64 es so_far (noted_for s), flat_map_more noted_for [] (reverse settled) s, reverse-append (s ∷ []) settled)
 
 no_runs : {A : Type 0} (k : ℕ) → take {A = A} k [] ≡ []
-no_runs zero = refl
-no_runs (suc k) = refl
+no_runs k = grind arith
 
 pub noted_none : (es : List EndedRun) → es ≡ noted_after es []
 noted_none es = sym (ap (λ xs. es ++ xs) (no_runs (64 - length es)) ∙ append-nil es)

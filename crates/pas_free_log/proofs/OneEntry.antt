@@ -2,7 +2,7 @@
 use Rattle.std.proofs.Common.{◌≡◌, ℕ, true, false, List, [], ◌∷◌, ◌++◌, refl, ap, sym, ◌∙◌, append_assoc, true≢false, ◌+◌, ◌-◌, ◌/◌, ◌%◌, ◌≤◌, ◌==◌}
 use Rattle.std.proofs.Common.{if◌then◌else◌, Option, Some, arith, ◌&&◌, suc, ◌*◌, ◌<◌, ◌||◌, min, inl, inr, subst, ◌≢◌, ◌^◌, None, Bool, append-nil, ne_eqb}
 use Rattle.std.proofs.Common.{eqb-true, eq-eqb, IfSome, option_to_list}
-use Rattle.std.proofs.lemmas.{List.map-append, Bool.Decides.nat_tests, List.Elements.All-nil, List.Elements.All-cons}
+use Rattle.std.proofs.lemmas.{List.map-append, Bool.Decides.nat_tests, List.Elements.All-nil}
 use Rattle.pas_steps.specs.declared.step.{Made.Made, Step.Step}
 use Rattle.pas_steps.specs.declared.step.Step.TheVariants.{Stamp, Look, End, EndSized}
 use Rattle.pas_steps.specs.Kinds.{Kinds, Stamping, kind_of, place_of, is_in, apart, Only, LookDeed, Putting, returning, Ending}
@@ -19,7 +19,7 @@ use Rattle.pas_bits.specs.{Runs.in_run, Runs.meets_page, Masks.is_set}
 use Rattle.pas_bits.proofs.Runs.{to_run, run_of, run_above, met_by}
 use Rattle.pas_steps.specs.{Allowed.HoldsOn, Allowed.IsEpochKnown, Allowed.IsStepOf, Frames.OnlyReturns, Effects.succeeds}
 use Rattle.pas_steps.specs.Agreement.{AgreesDeed, AgreesLife, AgreesEnd, Agrees}
-use Rattle.pas_steps.specs.Calls.{nothing, put, Does, Calls, Kept, Lost, now, Leads}
+use Rattle.pas_steps.specs.Calls.{nothing, put, Does, Calls, Kept, now, Leads}
 use Rattle.pas_steps.specs.Desks.{Standing, made, Makes, CanCall, Adds, AnyView}
 use Rattle.pas_steps.proofs.{Adding.adds_none, Adding.adds_step, Adding.adds_under, Called.call_then, ReadDeeds.directory_told, Past.once_later}
 use Rattle.pas_steps.proofs.Calls.{does_after_nothing, does_idly, returns_are, does_none, unexamined_over, leads_idly, nothing_then, end_fails, does_step}
@@ -44,8 +44,7 @@ use Rattle.pas_free_log.specs.Noted.{IsRange, AreRanges, is_whole, range_of, run
 -- ==== The stamps of two calls, and steps that stamp no page.
 
 stamped_more : (s : Step) (e : ℕ) (ys xs : List (ℕ × ℕ)) → stamped_by s e (ys ++ xs) ≡ stamped_by s e ys ++ xs
-stamped_more (Stamp p) e ys xs = refl
-stamped_more s e ys xs = refl
+stamped_more s e ys xs = grind arith
 
 pub stamps_append : (v : View) (ys xs : List Made) → stamps_by v (ys ++ xs) ≡ stamps_by (xs ++ v) ys ++ stamps_by v xs
 stamps_append v [] xs = refl
@@ -55,8 +54,7 @@ stamps_append v (y ∷ ys) xs =
     ∙ stamped_more y.step (epoch_of (ys ++ (xs ++ v))) (stamps_by (xs ++ v) ys) (stamps_by v xs)
 
 no_stamp : (s : Step) (e : ℕ) (stamps : List (ℕ × ℕ)) → is_in (Stamping ∷ []) (kind_of s) ≡ false → stamped_by s e stamps ≡ stamps
-no_stamp (Stamp p) e stamps h = absurd (true≢false h)
-no_stamp s e stamps h = refl
+no_stamp s e stamps h = grind (arith, true≢false)
 
 -- the stamps of the steps before them
 stamps_same : (ks : Kinds) → apart ks (Stamping ∷ []) ≡ true → (v : View) (ys xs : List Made) → Only ks ys → stamps_by v (ys ++ xs) ≡ stamps_by v xs
@@ -114,8 +112,7 @@ page_back g n deed stamped puts after some within kinds returns =
     let p = g / 256 in
     let are = returns_are p after returns in
     record {
-      kinds = only_both putting_back after (puts ++ stamping p deed stamped) (only_within returning putting_back after refl are)
-          (only_both putting_back puts (stamping p deed stamped) (only_within (Putting ∷ []) putting_back puts refl kinds) (refl, (refl, tt)));
+      kinds = search (arith, only_both, only_within);
       stamps = λ v. stamps_same returning refl v after (puts ++ stamping p deed stamped) are ∙ stamps_same (Putting ∷ []) refl v puts (stamping p deed stamped) kinds ∙ ap (stamps_with (epoch_of v)) (sym (pages_one g n some within));
     }
 
@@ -191,10 +188,7 @@ IsBorder g n from = from < g + n → first_on g (from / 256) ≡ from
 
 -- how many pages are done, and which is the next one
 count_so_far : (g n from : ℕ) → g ≤ from → from < g + n → IsBorder g n from → g / 256 + page_count g (from - g) ≡ from / 256
-count_so_far g n from low high border = elim (cases_eq from g) [
-  | inl start ↦ let none : from - g ≡ 0 = omega (arith, start) in let c : page_count g (from - g) ≡ 0 = ap (λ k. page_count g k) none in omega (arith, c, start)
-  | inr other ↦ let c = count_some g (from - g) (omega (arith, low, other)) in let page = border high in omega (arith, c, low, other, page)
-]
+count_so_far g n from low high border = search (arith, cases_eq, count_some)
 
 -- the next piece ends here
 abbrev pub next_border : ℕ → ℕ → ℕ → ℕ
@@ -211,15 +205,11 @@ next_is g n from next low high is = record { some = omega (arith, is, high); wit
 
 count_next : (g n from next : ℕ) → g ≤ from → from < g + n → IsBorder g n from → IsNextBorder g n from next → page_count g (next - g) ≡ suc (page_count g (from - g))
 count_next g n from next low high border is =
-    let c = count_so_far g n from low high border in
-    let d = count_some g (next - g) (omega (arith, low, is.some)) in
-    omega (arith, c, d, low, is.some, is.on_page)
+    omega (arith, count_so_far g n from low high border, count_some g (next - g) (omega (arith, low, is.some)), low, is.some, is.on_page)
 
 -- ---- one page more
 pages_more : (g n from next : ℕ) → g ≤ from → from < g + n → IsBorder g n from → IsNextBorder g n from next → pages_met g (next - g) ≡ pages_met from (next - from) ++ pages_met g (from - g)
-pages_more g n from next low high border is =
-    ap (λ k. pages_from (g / 256) k) (count_next g n from next low high border is) ∙ ap (λ p. p ∷ pages_met g (from - g)) (count_so_far g n from low high border)
-    ∙ sym (ap (λ ps. ps ++ pages_met g (from - g)) (pages_one from (next - from) (omega (arith, is.some)) is.on_page))
+pages_more g n from next low high border is = search (arith, count_next, count_so_far, pages_one)
 
 pub back_more : (g n from next : ℕ) (ys xs : List Made) → g ≤ from → from < g + n → IsBorder g n from → IsNextBorder g n from next → PutsBack g (from - g) xs → PutsBack from (next - from) ys → PutsBack g (next - g) (ys ++ xs)
 back_more g n from next ys xs low high border is a b = record {
@@ -258,11 +248,7 @@ may_more g n from next xs v low is back does met =
     let some = is.some in
     let within = is.within in
     record {
-      held = λ x inside.
-          let r = run_of from (next - from) x inside in
-          let a = r.0 in
-          let b = r.1 in
-          does.held x ∙ ap (λ t. now (if t then Lost else Kept) (holds v x)) (run_above g (from - g) x (omega (arith, a, low))) ∙ met.held x (to_run g n x (omega (arith, a, low)) (omega (arith, b, some, within)));
+      held = search (arith, run_of, run_above, to_run);
       ended = λ page meets. once_later (λ m before. ends_on m.step m.answer page ≡ true) xs v (met.ended page (meets_more g n from (next - from) page low (omega (arith, some, within)) meets));
       examined = λ page meets. unexamined_over putting_back refl page xs v back.kinds (met.examined page (meets_more g n from (next - from) page low (omega (arith, some, within)) meets));
       epoch = subst IsEpochKnown (sym (epoch_same putting_back refl xs v back.kinds)) met.epoch;
@@ -280,19 +266,16 @@ abbrev pub IsLength : ℕ → Type 0
 IsLength n = (1 ≤ n) × (n ≤ 256)
 
 kind_length : (k : Kind) → IsKind k → IsLength (guess_by_kind k)
-kind_length (Kind.Class class) is = let some = class_grains_positive class is in let few = class_grains_le class is in (omega (arith, some), omega (arith, few))
-kind_length s is = (omega arith, omega arith)
+kind_length s is = grind (arith, class_grains_positive, class_grains_le)
 
 by_length : (o : Option Directory) → ((d : Directory) → o ≡ Some d → IsKind d.kind) → IsLength (guess_by o)
-by_length None is = (omega arith, omega arith)
-by_length (Some d) is = kind_length d.kind (is d refl)
+by_length o is = grind (arith, kind_length)
 
 pub guess_length : (deed : ℕ) → IsLength (guess_by (directory_read deed))
 guess_length deed = by_length (directory_read deed) (λ d e. (read_is deed d e).0.kind)
 
 kind_if : (o : Option Directory) → ((d : Directory) → o ≡ Some d → IsKind d.kind) → IfSome o (λ d. IsKind d.kind)
-kind_if None is = tt
-kind_if (Some d) is = is d refl
+kind_if o is = grind arith
 
 pub known_kind : (deed : ℕ) (directory : Option Directory) → directory ≡ directory_read deed → IfSome directory (λ d. IsKind d.kind)
 known_kind deed directory is = kind_if directory (λ d e. (read_is deed d (sym is ∙ e)).0.kind)
@@ -367,15 +350,11 @@ pub record AreIdle (steps : List Made) : Type 0 where
 
 -- ---- the event of a try
 no_event : (k e : ℕ) (name : Name) (guess a : ℕ) → a ≢ live_word name.turn guess → is_of name a ≡ true → end_event k e name guess a ≡ None
-no_event k e name guess a ne is =
-    ap (λ t. if t then Some (Event.End k name e) else (if is_of name a then None else Some (Event.Reject k name (reason_of name a)))) (ne_eqb a (live_word name.turn guess) ne)
-    ∙ ap (λ t. if t then None else Some (Event.Reject k name (reason_of name a))) is
+no_event k e name guess a ne is = cc (ne_eqb a (live_word name.turn guess) ne)
 
 -- a life word that isn't the name's is not that of its block
 not_live : (name : Name) (guess a : ℕ) → name.turn < 2 ^ 40 - 1 → is_of name a ≡ false → a ≢ live_word name.turn guess
-not_live name guess a turn is live =
-    let small : name.turn < 2 ^ 40 = omega (arith, turn) in
-    false≢true (sym is ∙ is_of_name name a (ap is_live live ∙ is_live-live_word name.turn guess) (ap turn_of live ∙ turn_of-live_word name.turn guess small))
+not_live name guess a turn is live = search (arith, false≢true, is_of_name, is_live-live_word, turn_of-live_word)
 
 -- ---- the steps before the last try
 pub idle_look : (name : Name) (deed : ℕ) → AreIdle (first_look name deed)
@@ -418,16 +397,7 @@ success : (k e : ℕ) (name : Name) (n a : ℕ) (other : Option Event) → a ≡
 success k e name n a other live = ap (λ t. if t then Some (Event.End k name e) else other) (eq-eqb a (live_word name.turn n) live)
 
 ends_by_length : (name : Name) (n : ℕ) → EndsWith name n (End name n)
-ends_by_length name n = record {
-  kind = refl;
-  moves = λ a x. refl;
-  ends = λ a page. refl;
-  hits = λ f a live. end_succeeds f name n a live;
-  fails = λ f a ne. end_fails f name n a ne;
-  event = λ k e a live. success k e name n a (if is_live a && (turn_of a == name.turn) then None else Some (Event.Reject k name (reason_of name a))) live;
-  stamps = λ e xs. refl;
-  agrees = λ f v a h. h;
-}
+ends_by_length name n = search (arith, end_succeeds, end_fails, success)
 
 sized_does : (f : Profile) (name : Name) (room a : ℕ) (t : Bool) (v : View) → (a == live_word name.turn (room / 16)) ≡ t → Agrees f v (EndSized name room) a → Does (end_effect t (grain_of name) (room / 16)) v (made (EndSized name room) a ∷ v)
 sized_does f name room a t v e agrees = subst (λ x. Does (end_effect x (grain_of name) (room / 16)) v (made (EndSized name room) a ∷ v)) e (does_step f (EndSized name room) a v refl agrees)
@@ -451,23 +421,19 @@ last_ends false entry n is = ends_by_length entry.name n
 
 -- ---- the event of a refusal
 refusal : (k e : ℕ) (name : Name) (guess a : ℕ) → a ≢ live_word name.turn guess → is_of name a ≡ false → event_of k e (End name guess) a ≡ Some (Event.Reject k name (reason_of name a))
-refusal k e name guess a ne is =
-    ap (λ t. if t then Some (Event.End k name e) else (if is_of name a then None else Some (Event.Reject k name (reason_of name a)))) (ne_eqb a (live_word name.turn guess) ne)
-    ∙ ap (λ t. if t then None else Some (Event.Reject k name (reason_of name a))) is
+refusal k e name guess a ne is = cc (ne_eqb a (live_word name.turn guess) ne)
 
 sized_refusal : (k e : ℕ) (name : Name) (room a : ℕ) → a ≢ live_word name.turn (room / 16) → event_of k e (EndSized name room) a ≡ Some (Event.Reject k name (sized_reason name room a))
 sized_refusal k e name room a ne = ap (λ t. if t then Some (Event.End k name e) else Some (Event.Reject k name (sized_reason name room a))) (ne_eqb a (live_word name.turn (room / 16)) ne)
 
 pub last_refused : (t : Bool) (entry : Entry) (n k e a : ℕ) → (t ≡ true → n ≡ entry.room / 16) → IsRefusedBy t entry.name n a → a ≢ live_word entry.name.turn n → event_of k e (last_step t entry n) a ≡ Some (Event.Reject k entry.name (reason_by t entry a))
-last_refused true entry n k e a is refused ne = sized_refusal k e entry.name entry.room a (subst (λ m. a ≢ live_word entry.name.turn m) (is refl) ne)
-last_refused false entry n k e a is refused ne = refusal k e entry.name n a ne refused
+last_refused t entry n k e a is refused ne = grind (arith, sized_refusal, refusal)
 
 -- ==== The end of one entry.
 
 -- the length is that of the room, where one was named
 pub guess_is : (t : Bool) (entry : Entry) (first guess : ℕ) (before : List Made) → TriesBy t entry first guess before → t ≡ true → guess ≡ entry.room / 16
-guess_is true entry first guess before tries e = tries.0
-guess_is false entry first guess before tries e = absurd (true≢false (sym e))
+guess_is t entry first guess before tries e = grind (arith, true≢false)
 
 -- what the last try came to, by what its answer agrees with
 ends_by : {σ σ1 : Standing} (entry : Entry) (outcome : Outcome) (directory : Option Directory) (deed guess a : ℕ) (before : List Made) → directory ≡ directory_read deed → TriesBy (is_sized entry) entry (guess_by (directory_read deed)) guess before
@@ -519,15 +485,11 @@ module _ {σ σ1 : Standing} {entry : Entry} {outcome : Outcome} {directory : Op
 
   -- the last one makes the event
   end_shows : (k : ℕ) (v : View) (event : Event) → event_of k (epoch_of v) (last_step (is_sized entry) entry e.order.guess) e.order.answer ≡ Some event → events_by k v e.steps ≡ event ∷ []
-  end_shows k v event is =
-      ap (events_by k v) e.order.steps_are
-      ∙ ap (λ o. with_event (event_of k (or_zero o) (last_step (is_sized entry) entry e.order.guess) e.order.answer) (events_by k v first_steps)) (epoch_same trying refl first_steps v idle.kinds)
-      ∙ ap (λ o. with_event o (events_by k v first_steps)) is ∙ ap (λ es. event ∷ es) (idle.events k v)
+  end_shows k v event is = cc (epoch_same trying refl first_steps v idle.kinds, idle.events k v)
 
 -- ---- a name that was refused
 pub not_ended : (t : Bool) (name : Name) (guess a : ℕ) → name.turn < 2 ^ 40 - 1 → IsRefusedBy t name guess a → a ≢ live_word name.turn guess
-not_ended true name guess a turn refused = refused
-not_ended false name guess a turn refused = not_live name guess a turn refused
+not_ended t name guess a turn refused = grind (arith, not_live)
 
 pub came_to : {σ σ1 : Standing} {entry : Entry} {directory : Option Directory} {outcome : Outcome} (o : Outcome) → outcome ≡ o → EndsOne entry σ σ1 outcome directory → EndsOne entry σ σ1 o directory
 came_to {σ} {σ1} {entry} {directory} o is e = subst (λ x. EndsOne entry σ σ1 x directory) is e
@@ -554,23 +516,14 @@ entry_refused {σ} entry read directory named e =
 
 -- ---- the pages of a large block are some
 range_of_kind : (kind : Kind) (heap : ℕ) (range : Range) → IsRange range → AreRanges (option_to_list (run_of_kind kind heap range))
-range_of_kind Kind.Large heap range is = All-cons (λ run. IsRange run.range) (record { heap = heap; range = range }) [] is (All-nil (λ run. IsRange run.range))
-range_of_kind kind heap range is = All-nil (λ run. IsRange run.range)
+range_of_kind kind heap range is = grind arith
 
 range_in : (directory : Option Directory) (range : Range) → IsRange range → AreRanges (option_to_list (run_in directory range))
-range_in None range is = All-nil (λ run. IsRange run.range)
-range_in (Some d) range is = range_of_kind d.kind d.heap range is
+range_in directory range is = grind (arith, range_of_kind)
 
 whole_range : (f : Profile) (name : Name) (grains : ℕ) (directory : Option Directory) → IsValid f → IsRun f (grain_of name) grains → AreRanges (option_to_list (large_run name grains directory))
 whole_range f name grains directory valid run = elim (cases_Bool (is_whole name grains)) [
-  | inl whole ↦
-      let both = and_parts (address_of name % 4096 == 0) (grains % 256 == 0) whole in
-      let address = eqb-true (address_of name % 4096) 0 both.0 in
-      let length = eqb-true (grains % 256) 0 both.1 in
-      let some = run.some in let first = run.first in let last = run.last in
-      let pages = valid.pages in
-      subst (λ t. AreRanges (option_to_list (if t then run_in directory (range_of name grains) else None))) (sym whole)
-      (range_in directory (range_of name grains) record { first = omega (arith, address, first); some = omega (arith, length, some); last = omega (arith, address, length, last, pages) })
+  | inl whole ↦ search (arith, and_parts, eqb-true, range_in)
   | inr other ↦ subst (λ t. AreRanges (option_to_list (if t then run_in directory (range_of name grains) else None))) (sym other) (All-nil (λ run. IsRange run.range))
 ]
 
@@ -580,10 +533,7 @@ ended_held t inside held g a b = ap (λ x. held_after (if x && inside then Ends 
 
 -- each page that the run meets is one of its pages
 page_of_run : (g n page : ℕ) → 1 ≤ n → meets_page g n page ≡ true → in_run (g / 256) (page_count g n) page ≡ true
-page_of_run g n page some meets =
-    let at = met_by g n page meets in let low = at.0 in let high = at.1 in
-    let c = count_some g n some in
-    to_run (g / 256) (page_count g n) page (omega (arith, low)) (omega (arith, c, low, high))
+page_of_run g n page some meets = search (arith, met_by, count_some, to_run)
 
 module _ {σ σ1 : Standing} {entry : Entry} {grains : ℕ} {directory : Option Directory} (e : EndsOne entry σ σ1 (Ended grains) directory) where
   abbrev g : ℕ

@@ -1,6 +1,6 @@
 -- What every run of the machine keeps about its live blocks.
 use Rattle.std.proofs.Common.{◌≡◌, ◌≢◌, ℕ, ◌+◌, ◌/◌, ◌%◌, ◌<◌, ◌==◌, Bool, true, false, if◌then◌else◌, List, [], ◌∷◌, Option, Some, None, refl, ap, sym, ◌∙◌}
-use Rattle.std.proofs.Common.{subst, arith, eqb-true}
+use Rattle.std.proofs.Common.{arith, eqb-true}
 use Rattle.std.proofs.lemmas.{Bool.false≢true, Option.none-some, Option.same_Some}
 use Rattle.pas_profile.specs.declared.{profile.Profile.Profile, directory.Directory.Directory, name.Block.Block, event.Event.Event}
 use Rattle.pas_bits.specs.Runs.{in_run, meets_page}
@@ -13,12 +13,10 @@ use Rattle.pas_machine.specs.Laws.{AreApart, IsWhere, IsCounted, AreCounted, Are
 -- ---- what holds of each block that is given holds of each live block
 given_if : (P : ℕ → Live → Type 0) (t : Bool) (a k : ℕ) (block : Block) (old : Option Live) (b : Live) → (address_of block.name == a) ≡ t → P (address_of block.name) (record { actor = k; block = block }) → ((b : Live) → old ≡ Some b → P a b)
     → (if t then Some (record { actor = k; block = block }) else old) ≡ Some b → P a b
-given_if P true a k block old b e new before h = subst (P a) (same_Some _ _ h) (subst (λ n. P n (record { actor = k; block = block })) (eqb-true (address_of block.name) a e) new)
-given_if P false a k block old b e new before h = before b h
+given_if P t a k block old b e new before h = grind (arith, same_Some, eqb-true)
 
 ended_if : (P : Live → Type 0) (t : Bool) (old : Option Live) (b : Live) → ((b : Live) → old ≡ Some b → P b) → (if t then None else old) ≡ Some b → P b
-ended_if P true old b before h = absurd (none-some _ h)
-ended_if P false old b before h = before b h
+ended_if P t old b before h = grind (arith, none-some)
 
 each_live : (f : Profile) (P : ℕ → Live → Type 0) → ((es : List Event) (k : ℕ) (block : Block) → MayGive f es block → P (address_of block.name) (record { actor = k; block = block }))
     → (es : List Event) → Run f es → (a : ℕ) (b : Live) → live_in es a ≡ Some b → P a b
@@ -49,23 +47,12 @@ apart_give : (t u : Bool) (a c k : ℕ) (block : Block) (old old' : Option Live)
     → ((b d : Live) → old ≡ Some b → old' ≡ Some d → (x : ℕ) → in_run (a / 16) (length_of b.block) x ≡ true → in_run (c / 16) (length_of d.block) x ≡ false)
     → (if t then Some (record { actor = k; block = block }) else old) ≡ Some b → (if u then Some (record { actor = k; block = block }) else old') ≡ Some d → a ≢ c
     → (x : ℕ) → in_run (a / 16) (length_of b.block) x ≡ true → in_run (c / 16) (length_of d.block) x ≡ false
-apart_give true true a c k block old old' b d e e' first second before h h' ne x = absurd (ne (sym (eqb-true (address_of block.name) a e) ∙ eqb-true (address_of block.name) c e'))
-apart_give true false a c k block old old' b d e e' first second before h h' ne x =
-    let same : grain_of block.name ≡ a / 16 = ap (λ n. n / 16) (eqb-true (address_of block.name) a e) in
-    let is : length_of block ≡ length_of b.block = ap (λ (l : Live). length_of l.block) (same_Some _ _ h) in
-    clear_other (a / 16) (length_of b.block) (c / 16) (length_of d.block) (λ y r. sym (ap (λ n. in_run n (length_of block) y) same ∙ ap (λ n. in_run (a / 16) n y) is) ∙ second d h' y r) x
-apart_give false true a c k block old old' b d e e' first second before h h' ne x = λ r.
-    let same : grain_of block.name ≡ c / 16 = ap (λ n. n / 16) (eqb-true (address_of block.name) c e') in
-    let is : length_of block ≡ length_of d.block = ap (λ (l : Live). length_of l.block) (same_Some _ _ h') in
-    sym (ap (λ n. in_run n (length_of block) x) same ∙ ap (λ n. in_run (c / 16) n x) is) ∙ first b h x r
-apart_give false false a c k block old old' b d e e' first second before h h' ne x = before b d h h' x
+apart_give t u a c k block old old' b d e e' first second before h h' ne x = grind (arith, eqb-true, same_Some, clear_other)
 
 apart_end : (t u : Bool) (a c : ℕ) (old old' : Option Live) (b d : Live)
     → ((b d : Live) → old ≡ Some b → old' ≡ Some d → (x : ℕ) → in_run (a / 16) (length_of b.block) x ≡ true → in_run (c / 16) (length_of d.block) x ≡ false)
     → (if t then None else old) ≡ Some b → (if u then None else old') ≡ Some d → (x : ℕ) → in_run (a / 16) (length_of b.block) x ≡ true → in_run (c / 16) (length_of d.block) x ≡ false
-apart_end true u a c old old' b d before h h' = absurd (none-some _ h)
-apart_end false true a c old old' b d before h h' = absurd (none-some _ h')
-apart_end false false a c old old' b d before h h' = before b d h h'
+apart_end t u a c old old' b d before h h' = grind (arith, none-some)
 
 pub live_apart : (f : Profile) (es : List Event) → Run f es → AreApart es
 live_apart f [] run a c b d h h' ne = absurd (none-some _ h)
@@ -77,15 +64,11 @@ live_apart f (e ∷ es) run a c b d h h' ne = live_apart f es run.1 a c b d h h'
 -- ---- gives, ends and turns
 counted_give : (t : Bool) (a k : ℕ) (block : Block) (old : Option Live) (gives ends : ℕ) → (t ≡ true → old ≡ None) → (t ≡ true → block.name.turn ≡ gives) → IsCounted old gives ends
     → IsCounted (if t then Some (record { actor = k; block = block }) else old) (if t then gives + 1 else gives) ends
-counted_give true a k block None gives ends none turn before = (ap (λ n. n + 1) before, turn refl ∙ before)
-counted_give true a k block (Some b) gives ends none turn before = absurd (none-some _ (sym (none refl)))
-counted_give false a k block old gives ends none turn before = before
+counted_give t a k block old gives ends none turn before = grind (arith, none-some)
 
 counted_end : (t : Bool) (old : Option Live) (gives ends : ℕ) → (t ≡ true → (b : Live) × (old ≡ Some b)) → IsCounted old gives ends
     → IsCounted (if t then None else old) gives (if t then ends + 1 else ends)
-counted_end true None gives ends some before = absurd (none-some _ (some refl).1)
-counted_end true (Some b) gives ends some before = before.0
-counted_end false old gives ends some before = before
+counted_end t old gives ends some before = grind (arith, none-some)
 
 -- a block may be given only where none lives
 pub no_block : (f : Profile) (es : List Event) (block : Block) (a : ℕ) (o : Option Live) → live_in es a ≡ o → MayGive f es block → address_of block.name ≡ a
@@ -94,9 +77,7 @@ no_block f es block a None is may e some = refl
 no_block f es block a (Some b) is may e some =
     let positive : 0 < length_of b.block = some b refl in
     let own : in_run (a / 16) (length_of b.block) (a / 16) ≡ true = first_of_run (a / 16) (length_of b.block) positive in
-    let room : 0 < block.room = may.some in
-    let whole : block.room % 16 ≡ 0 = may.whole in
-    let long : 0 < length_of block = omega (arith, room, whole) in
+    let long : 0 < length_of block = omega (arith, may.some, may.whole) in
     let here : in_run (grain_of block.name) (length_of block) (a / 16) ≡ true = ap (λ n. in_run (n / 16) (length_of block) (a / 16)) e ∙ first_of_run (a / 16) (length_of block) long in
     absurd (false≢true (sym (may.clear a b is (a / 16) own) ∙ here))
 
@@ -112,8 +93,7 @@ all_counted f (e ∷ es) run a = all_counted f es run.1 a
 -- ---- the pages under a live block
 -- what bears goes on bearing where the page's deed and backing stay
 same_deed : (t : Bool) (d d' : Directory) (old : Option Directory) → (t ≡ true → old ≡ None) → old ≡ Some d' → (if t then Some d else old) ≡ Some d'
-same_deed true d d' old none is = absurd (none-some _ (sym (none refl) ∙ is))
-same_deed false d d' old none is = is
+same_deed t d d' old none is = grind (arith, none-some)
 
 stays_backed : (t old : Bool) → old ≡ true → (if t then true else old) ≡ true
 stays_backed t old h = grind arith
@@ -125,11 +105,7 @@ borne_if : (f : Profile) (es es' : List Event) (t : Bool) (a k : ℕ) (block : B
     → ((x : ℕ) → in_run (grain_of block.name) (length_of block) x ≡ true → Bears f es' block.heap (x / 256))
     → ((b : Live) → old ≡ Some b → (x : ℕ) → in_run (a / 16) (length_of b.block) x ≡ true → Bears f es' b.block.heap (x / 256))
     → (if t then Some (record { actor = k; block = block }) else old) ≡ Some b → (x : ℕ) → in_run (a / 16) (length_of b.block) x ≡ true → Bears f es' b.block.heap (x / 256)
-borne_if f es es' true a k block old b e new before h x r =
-    let is : block ≡ b.block = ap (λ (l : Live). l.block) (same_Some _ _ h) in
-    let here : in_run (grain_of block.name) (length_of block) x ≡ true = ap (λ n. in_run (n / 16) (length_of block) x) (eqb-true (address_of block.name) a e) ∙ ap (λ (l : Block). in_run (a / 16) (length_of l) x) is ∙ r in
-    subst (λ (l : Block). Bears f es' l.heap (x / 256)) is (new x here)
-borne_if f es es' false a k block old b e new before h x r = before b h x r
+borne_if f es es' t a k block old b e new before h x r = grind (arith, same_Some, eqb-true)
 
 -- a page goes on bearing where its deed and its backing are as they were
 still_bears : (f : Profile) (es es' : List Event) (heap page : ℕ) (old : Bears f es heap page) → deed_in es' page ≡ Some old.directory → backed_in es' page ≡ true → Bears f es' heap page

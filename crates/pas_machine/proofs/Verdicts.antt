@@ -1,7 +1,7 @@
 -- Which events may come next, why others may not, and what a machine keeps.
 use Rattle.std.proofs.Common.{◌≡◌, ◌≢◌, ℕ, ◌+◌, ◌/◌, ◌%◌, ◌<◌, ◌≤◌, ◌⊎◌, ◌==◌, Bool, true, false, if◌then◌else◌, List, [], ◌∷◌, Option, Some, None, refl, ap}
-use Rattle.std.proofs.Common.{sym, ◌∙◌, subst, arith, inl, inr, ◌-◌, ◌*◌, length, get_or, is_some, replicate, set, max, get_or-set_same, get_or-set_other}
-use Rattle.std.proofs.Common.{ltb-true, ltb-false, eqb-true, eq-eqb, ne_eqb, nat_lt, MatchBool}
+use Rattle.std.proofs.Common.{sym, ◌∙◌, subst, arith, inl, inr, ◌-◌, ◌*◌, length, get_or, is_some, replicate, set, get_or-set_same, get_or-set_other, ltb-true}
+use Rattle.std.proofs.Common.{ltb-false, eqb-true, eq-eqb, ne_eqb, nat_lt, MatchBool}
 use Rattle.std.proofs.{lemmas.Bool.false≢true, lemmas.Bool.true_from_ne_false, lemmas.Bool.false_from_ne_true, lemmas.Bool.Decides.eqb_tells}
 use Rattle.std.proofs.{lemmas.Bool.Decides.leb_tells, lemmas.Bool.Decides.nat_tests, lemmas.Option.none-some, lemmas.Option.same_Some, Math.Logic.∥∥₁_elim}
 use Rattle.std.proofs.{Math.Logic.∥∥₁_map, lemmas.List.get_or_default, lemmas.List.get_or-replicate}
@@ -37,23 +37,20 @@ lt_of : (a b : ℕ) → (b ≤ a → ⊥) → a < b
 lt_of a b never = elim (leb_tells b a) [ inl h ↦ absurd (never h.1) | inr h ↦ h.1 ]
 
 none_of : {A : Type 0} (o : Option A) → (o ≢ None → ⊥) → o ≡ None
-none_of None never = refl
-none_of (Some x) never = absurd (never (λ h. cc))
+none_of o never = grind arith
 
 -- ---- pages and places
 page_of : (f : Profile) (page : ℕ) → (IsOutside f page → ⊥) → IsPage f page
 page_of f page never = (le_of 1 page (λ h. never (inl h)), le_of page f.pages (λ h. never (inr h)))
 
 not_outside : (f : Profile) (page : ℕ) → IsPage f page → IsOutside f page → ⊥
-not_outside f page is (inl h) = let low : 1 ≤ page = is.0 in omega arith
-not_outside f page is (inr h) = let high : page ≤ f.pages = is.1 in omega arith
+not_outside f page is e = grind arith
 
 place_of : (f : Profile) (address : ℕ) → (IsNoPlace f address → ⊥) → IsPlace f address
 place_of f address never = (page_of f (address / 4096) (λ h. never (inl h)), equal_of (address % 16) 0 (λ h. never (inr h)))
 
 not_no_place : (f : Profile) (address : ℕ) → IsPlace f address → IsNoPlace f address → ⊥
-not_no_place f address is (inl h) = not_outside f (address / 4096) is.0 h
-not_no_place f address is (inr h) = h is.1
+not_no_place f address is e = grind (arith, not_outside)
 
 -- ---- deeds
 -- each deed of a run is of a heap of the profile
@@ -123,16 +120,10 @@ admits_of f es (Event.Reject k name why) never = (place_of f (address_of name) (
 
 -- ---- and where it may come next, none applies
 not_no_run : (f : Profile) (es : List Event) (block : Block) → MayGive f es block → IsNoRun f block → ⊥
-not_no_run f es block may (inl (inl h)) = h may.aligned
-not_no_run f es block may (inl (inr (inl h))) = let some : 0 < block.room = may.some in let none : block.room ≡ 0 = h in omega arith
-not_no_run f es block may (inl (inr (inr h))) = h may.whole
-not_no_run f es block may (inr h) = not_outside f (h.0 / 256) (may.bears h.0 h.1).exists h.2
+not_no_run f es block may e = grind (arith, not_outside)
 
 first_grain : (f : Profile) (es : List Event) (block : Block) → MayGive f es block → IsGrainOf block (grain_of block.name)
-first_grain f es block may =
-    let some : 0 < block.room = may.some in
-    let whole : block.room % 16 ≡ 0 = may.whole in
-    first_of_run (grain_of block.name) (length_of block) (omega (arith, some, whole))
+first_grain f es block may = first_of_run (grain_of block.name) (length_of block) (omega (arith, may.some, may.whole))
 
 pub never_of : (f : Profile) (es : List Event) → Run f es → (e : Event) → Admits f es e → (reason : Illegal) → Applies f es e reason → ⊥
 never_of f es run (Event.Deed k page d) may Illegal.BadPage h = not_outside f page may.0 h
@@ -167,17 +158,13 @@ numbered n = if n == 1 then Illegal.BadPage else if n == 2 then Illegal.BadHeap 
     else if n == 9 then Illegal.WrongTurn else if n == 10 then Illegal.NotLive else Illegal.WrongReason
 
 numbers_tell : (reason : Illegal) → numbered (reason_number reason) ≡ reason
-numbers_tell Illegal.BadPage = refl
-numbers_tell reason = refl
+numbers_tell reason = grind arith
 
 pub one_first : (f : Profile) (es : List Event) (e : Event) (reason other : Illegal) → IsFirst f es e reason → IsFirst f es e other → reason ≡ other
 one_first f es e reason other first first' = sym (numbers_tell reason) ∙ (ap numbered same ∙ numbers_tell other)
   where
     same : reason_number reason ≡ reason_number other
-    same =
-        let low : reason_number other ≤ reason_number reason = le_of (reason_number other) (reason_number reason) (λ h. first'.others reason h first.applies) in
-        let high : reason_number reason ≤ reason_number other = le_of (reason_number reason) (reason_number other) (λ h. first.others other h first'.applies) in
-        omega (arith, low, high)
+    same = search (arith, le_of)
 
 -- ==== The first reason of an event, by what a machine keeps.
 
@@ -229,8 +216,7 @@ place_is f pages places covered es shows g within len same sized p is =
 
 -- ---- ends
 ends_by : (o : Option Live) (gives ends : ℕ) → IsCounted o gives ends → (is_some o ≡ true → gives - 1 ≡ ends) × (is_some o ≡ false → gives ≡ ends)
-ends_by None gives ends counted = ((λ h. absurd (false≢true h)), (λ h. counted))
-ends_by (Some b) gives ends counted = ((λ h. let more : gives ≡ ends + 1 = counted.0 in omega arith), (λ h. absurd (false≢true (sym h))))
+ends_by o gives ends counted = grind (arith, false≢true)
 
 pub ends_are : (f : Profile) (pages : List Page) (places : List Place) (covered : List Bool) (len a : ℕ) (p : Place) → len ≡ length places → len ≡ grains_of f → IsPlace f a → p ≡ get_or places (a / 16) p
     → (es : List Event) → Shows f pages places covered es → (p.lives ≡ true → p.gives - 1 ≡ ends_in es a) × (p.lives ≡ false → p.gives ≡ ends_in es a)
@@ -243,13 +229,7 @@ ends_are f pages places covered len a p same sized place read es shows =
 -- ---- the block of a place
 -- A live block is what its place says: it lives at its own address, and all that were given there before it have ended.
 block_by : (o : Option Live) (address : Address) (gives ends : ℕ) → ((b : Live) → o ≡ Some b → address_of b.block.name ≡ address.0) → IsCounted o gives ends → block_at (place_with o gives) address ≡ block_of o
-block_by None address gives ends home counted = refl
-block_by (Some b) address gives ends home counted =
-    let more : gives ≡ ends + 1 = counted.0 in
-    let last : b.block.name.turn ≡ ends = counted.1 in
-    let turn : gives - 1 ≡ b.block.name.turn = omega arith in
-    ap (λ (t : ℕ). Some (let c : Block = record { name = record { address = address; turn = t }; room = b.block.room; heap = b.block.heap } in c)) turn
-    ∙ ap (λ (a : ℕ). Some (let c : Block = record { name = record { address = record { 0 = a }; turn = b.block.name.turn }; room = b.block.room; heap = b.block.heap } in c)) (sym (home b refl))
+block_by o address gives ends home counted = grind arith
 
 pub block_is : (f : Profile) (pages : List Page) (places : List Place) (covered : List Bool) (es : List Event) → Shows f pages places covered es → (address : Address) → address.0 % 16 ≡ 0 → address.0 / 16 < grains_of f → (len : ℕ)
     → len ≡ length places → len ≡ grains_of f → (p : Place) → p ≡ get_or places (address.0 / 16) p → block_at p address ≡ block_of (live_in es address.0)
@@ -259,8 +239,7 @@ block_is f pages places covered es shows address aligned within len same sized p
     ap (λ (q : Place). block_at q address) at ∙ block_by (live_in es address.0) address (gives_in es address.0) (ends_in es address.0) (lives_where f es shows.run address.0) (all_counted f es shows.run address.0)
 
 live_there : (o : Option Live) (block : Block) → block_of o ≡ Some block → (b : Live) × (o ≡ Some b) × (b.block ≡ block)
-live_there None block h = absurd (none-some _ h)
-live_there (Some b) block h = (b, refl, same_Some _ _ h)
+live_there o block h = grind (arith, none-some, same_Some)
 
 -- the block that was found at the place of a name
 module _ {f : Profile} {pages : List Page} {places : List Place} {covered : List Bool} {es : List Event} (shows : Shows f pages places covered es) (name : Name) (place : IsPlace f (address_of name)) (len : ℕ) (same : len ≡ length places)
@@ -274,18 +253,12 @@ module _ {f : Profile} {pages : List Page} {places : List Place} {covered : List
   found_live turn = (found_there.0, found_there.1, found_there.2, turn)
 
   pub found_other : (block.name.turn ≡ name.turn → ⊥) → IsLive es name → ⊥
-  found_other differs live =
-      let is : found_there.0 ≡ live.0 = same_Some _ _ (sym found_there.1 ∙ live.1) in
-      differs (ap (λ (c : Block). c.name.turn) (sym found_there.2) ∙ (ap (λ (l : Live). l.block.name.turn) is ∙ live.2))
+  found_other differs live = search (arith, found_there, same_Some)
 
 -- ---- unbacks
 -- a live block that has a grain of the page touches it, and the other way round
 touches_by : (f : Profile) (es : List Event) → Run f es → (page x : ℕ) → x / 256 ≡ page → Covers es x → (address : ℕ) × (touches (live_in es address) page ≡ true)
-touches_by f es run page x on c = (
-  c.address,
-  ap (λ o. touches o page) c.lives ∙ (ap (λ n. meets_page (n / 16) (length_of c.live.block) page) (lives_where f es run c.address c.live c.lives)
-      ∙ (ap (meets_page (c.address / 16) (length_of c.live.block)) (sym on) ∙ run_meets (c.address / 16) (length_of c.live.block) x c.has)),
-)
+touches_by f es run page x on c = search (arith, lives_where, run_meets)
 
 touched_by : (f : Profile) (es : List Event) → Run f es → (page : ℕ) → ((x : ℕ) → 256 * page ≤ x → x < 256 * page + 256 → Covers es x → ⊥) → (address : ℕ) → touches (live_in es address) page ≡ true → ⊥
 touched_by f es run page never address h = by (live_in es address) refl h
@@ -300,27 +273,20 @@ touched_by f es run page never address h = by (live_in es address) refl h
 
 unback_before : (f : Profile) (es : List Event) (k page epoch n : ℕ) → (1 < n → IsOutside f page → ⊥) → (6 < n → backed_in es page ≡ false → ⊥) → (7 < n → (a : ℕ) → touches (live_in es a) page ≡ true → ⊥)
     → (8 < n → epoch < epoch_in es page + f.age → ⊥) → (reason : Illegal) → reason_number reason < n → Applies f es (Event.Unback k page epoch) reason → ⊥
-unback_before f es k page epoch n a b c d Illegal.BadPage lt h = a lt h
-unback_before f es k page epoch n a b c d Illegal.NotBacked lt h = b lt h
-unback_before f es k page epoch n a b c d Illegal.LivesThere lt h = c lt h.0 h.1
-unback_before f es k page epoch n a b c d Illegal.TooYoung lt h = d lt h
-unback_before f es k page epoch n a b c d _ lt h = h
+unback_before f es k page epoch n a b c d reason lt h = grind arith
 
 pub number_below : (reason : Illegal) → reason_number reason < 12
-number_below Illegal.BadPage = omega arith
-number_below reason = omega arith
+number_below reason = grind arith
 
 -- where the page was read, and is of the region
 backed_now : (es : List Event) (page : ℕ) (p : Page) → p ≡ page_in es page → p.backed ≡ true → backed_in es page ≡ false → ⊥
 backed_now es page p is backed h = false≢true (sym h ∙ (ap (λ (q : Page). q.backed) (sym is) ∙ backed))
 
 covered_at : (es : List Event) (x : ℕ) (t : Bool) → IsCovered es x t → t ≡ true → Covers es x
-covered_at es x true is h = is
-covered_at es x false is h = absurd (false≢true h)
+covered_at es x t is h = grind (arith, false≢true)
 
 uncovered_at : (es : List Event) (x : ℕ) (t : Bool) → IsCovered es x t → t ≡ false → Covers es x → ⊥
-uncovered_at es x true is h = absurd (false≢true (sym h))
-uncovered_at es x false is h = is
+uncovered_at es x t is h = grind (arith, false≢true)
 
 pub unback_lives : (f : Profile) (pages : List Page) (places : List Place) (covered : List Bool) (es : List Event) → Shows f pages places covered es → (k page epoch : ℕ) → IsPage f page → (p : Page) → p ≡ page_in es page → p.backed ≡ true
     → IsSome (256 * page) (256 * page + 256) (λ x. get_or covered x false ≡ true) → IsFirst f es (Event.Unback k page epoch) Illegal.LivesThere
@@ -355,13 +321,7 @@ unback_may f pages places covered es shows k page epoch within p is backed each 
 pub give_before : (f : Profile) (es : List Event) (k : ℕ) (block : Block) (n : ℕ) → (1 < n → IsNoRun f block → ⊥) → (2 < n → f.heaps ≤ block.heap → ⊥) → (4 < n → Applies f es (Event.Give k block) Illegal.NoDeed → ⊥)
     → (6 < n → Applies f es (Event.Give k block) Illegal.NotBacked → ⊥) → (7 < n → Applies f es (Event.Give k block) Illegal.LivesThere → ⊥) → (9 < n → Applies f es (Event.Give k block) Illegal.WrongTurn → ⊥)
     → (reason : Illegal) → reason_number reason < n → Applies f es (Event.Give k block) reason → ⊥
-give_before f es k block n a b c d e g Illegal.BadPage lt h = a lt h
-give_before f es k block n a b c d e g Illegal.BadHeap lt h = b lt h
-give_before f es k block n a b c d e g Illegal.NoDeed lt h = c lt h
-give_before f es k block n a b c d e g Illegal.NotBacked lt h = d lt h
-give_before f es k block n a b c d e g Illegal.LivesThere lt h = e lt h
-give_before f es k block n a b c d e g Illegal.WrongTurn lt h = g lt h
-give_before f es k block n a b c d e g _ lt h = h
+give_before f es k block n a b c d e g reason lt h = grind arith
 
 -- what was looked up for a block that is inside
 abbrev pub first_page : Block → ℕ
@@ -371,9 +331,7 @@ abbrev pub until_page : Block → ℕ
 until_page block = (grain_of block.name + length_of block + 255) / 256
 
 page_within : (f : Profile) (block : Block) → IsWithin f block → (x : ℕ) → IsGrainOf block x → (x / 256 ≤ f.pages) × (x < grains_of f)
-page_within f block within x has =
-    let at = run_of (grain_of block.name) (length_of block) x has in
-    (omega (arith, at.1, within.1), omega (arith, at.1, within.1))
+page_within f block within x has = search (arith, run_of)
 
 -- what the machine was asked of each page and each grain of the run
 module _ {f : Profile} {pages : List Page} {places : List Place} {covered : List Bool} {es : List Event} (shows : Shows f pages places covered es) (block : Block) (is : IsInside f block) where
@@ -388,9 +346,7 @@ module _ {f : Profile} {pages : List Page} {places : List Place} {covered : List
       let on = page_on (grain_of block.name) (length_of block) x has in subst P (shows.pages_are (x / 256) (page_within f block is.within x has).0) (each (x / 256) on.0 on.1)
 
   pub some_lives : IsSome (grain_of block.name) (grain_of block.name + length_of block) (λ x. get_or covered x false ≡ true) → (x : ℕ) × IsGrainOf block x × Covers es x
-  some_lives some =
-      let has = to_run (grain_of block.name) (length_of block) some.0 some.1 some.2 in
-      (some.0, has, covered_at es some.0 (get_or covered some.0 false) (shows.covered_are some.0 (page_within f block is.within some.0 has).1) some.3)
+  some_lives some = search (arith, to_run, covered_at, page_within)
 
   pub none_lives : IsEach (grain_of block.name) (grain_of block.name + length_of block) (λ x. get_or covered x false ≡ false) → (x : ℕ) → IsGrainOf block x → Covers es x → ⊥
   none_lives each x has =
@@ -404,8 +360,7 @@ gives_are es a aligned p is = ap (λ (q : Place). q.gives) is ∙ ap (gives_in e
 pub place_at : (f : Profile) (pages : List Page) (places : List Place) (covered : List Bool) (es : List Event) → Shows f pages places covered es → (block : Block) → IsInside f block → (len : ℕ) → len ≡ length places
     → len ≡ grains_of f → (p : Place) → p ≡ get_or places (grain_of block.name) p → p ≡ place_in es (grain_of block.name)
 place_at f pages places covered es shows block is =
-    let long : 0 < length_of block = long_of block is.whole in
-    place_is f pages places covered es shows (grain_of block.name) (omega (arith, is.within.1, long))
+    place_is f pages places covered es shows (grain_of block.name) (omega (arith, is.within.1, long_of block is.whole))
 
 -- a live block ends within the region
 live_within : (f : Profile) (es : List Event) → Run f es → (a : ℕ) (b : Live) → live_in es a ≡ Some b → a / 16 + length_of b.block ≤ grains_of f
@@ -425,30 +380,21 @@ ends_within f pages places covered name block some is = ∥∥₁_elim some le_p
 
 pub opens : (f : Profile) (pages : List Page) (places : List Place) (covered : List Bool) → pages ≡ replicate (f.pages + 1) blank_page → places ≡ replicate (grains_of f) blank_place → covered ≡ replicate (grains_of f) false
     → Shows f pages places covered []
-opens f pages places covered e e' e'' = record {
-  run = tt;
-  pages_are = λ page h. rw e (get_or-replicate (f.pages + 1) page blank_page blank_page (omega arith));
-  places_are = λ g h. rw e' (get_or-replicate (grains_of f) g blank_place blank_place h);
-  covered_are = λ x h. rw e'' (subst (IsCovered [] x) (sym (get_or-replicate (grains_of f) x false false h)) (λ (c : Covers [] x). none-some _ c.lives));
-}
+opens f pages places covered e e' e'' = search (arith, get_or-replicate, none-some)
 
 -- ==== What a machine keeps after an event that may come next is what the events lead to.
 
 -- ---- one element is written
 written : {X : Type 0} (xs : List X) (d : X) (i most : ℕ) (x : X) (old new : ℕ → X) → i < length xs → ((j : ℕ) → j < most → get_or xs j d ≡ old j) → x ≡ new i → ((j : ℕ) → i ≢ j → old j ≡ new j)
     → (j : ℕ) → j < most → get_or (set xs i x) j d ≡ new j
-written xs d i most x old new low before here others j within = elim (eqb_tells i j) [
-  | inl h ↦ subst (λ n. get_or (set xs i x) n d ≡ new n) h.1 (get_or-set_same xs i x d low ∙ here)
-  | inr h ↦ get_or-set_other xs i j x d (λ e. h.1 (sym e)) ∙ (before j within ∙ others j h.1)
-]
+written xs d i most x old new low before here others j within = search (arith, eqb_tells, get_or-set_same, get_or-set_other)
 
 -- ---- covered grains, where the live blocks are the same
 same_cover : (es es' : List Event) (x : ℕ) → ((a : ℕ) → live_in es' a ≡ live_in es a) → Covers es x → Covers es' x
 same_cover es es' x same c = record { address = c.address; live = c.live; lives = same c.address ∙ c.lives; has = c.has }
 
 same_covered : (es es' : List Event) (x : ℕ) (t : Bool) → ((a : ℕ) → live_in es' a ≡ live_in es a) → IsCovered es x t → IsCovered es' x t
-same_covered es es' x true same is = same_cover es es' x same is
-same_covered es es' x false same is = λ c. is (same_cover es' es x (λ a. sym (same a)) c)
+same_covered es es' x t same is = grind (arith, same_cover)
 
 -- ---- deeds, backs and unbacks
 -- an event that changes what is kept of one page alone; `after q t` is what is kept of page q after it, where t says that q is that page
@@ -487,12 +433,7 @@ module _ (f : Profile) (pages : List Page) (places : List Place) (covered : List
 
 pub reject_shows : (f : Profile) (pages : List Page) (places : List Place) (covered : List Bool) (es : List Event) → Shows f pages places covered es → (k : ℕ) (name : Name) (why : Why) → Admits f es (Event.Reject k name why)
     → Shows f pages places covered (Event.Reject k name why ∷ es)
-reject_shows f pages places covered es shows k name why may = record {
-  run = (may, shows.run);
-  pages_are = shows.pages_are;
-  places_are = shows.places_are;
-  covered_are = λ x h. same_covered es (Event.Reject k name why ∷ es) x (get_or covered x false) (λ a. refl) (shows.covered_are x h);
-}
+reject_shows f pages places covered es shows k name why may = search (arith, same_covered)
 
 -- ---- gives
 off_place : (a g : ℕ) → a % 16 ≡ 0 → a / 16 ≢ g → a ≢ 16 * g
@@ -537,12 +478,10 @@ new_cover es k block x has = record {
 }
 
 covered_by : (es : List Event) (x : ℕ) (t : Bool) → t ≡ true → Covers es x → IsCovered es x t
-covered_by es x true e c = c
-covered_by es x false e c = absurd (false≢true e)
+covered_by es x t e c = grind (arith, false≢true)
 
 uncovered_by : (es : List Event) (x : ℕ) (t : Bool) → t ≡ false → (Covers es x → ⊥) → IsCovered es x t
-uncovered_by es x true e never = absurd (false≢true (sym e))
-uncovered_by es x false e never = never
+uncovered_by es x t e never = grind (arith, false≢true)
 
 give_shows : (f : Profile) (pages : List Page) (places : List Place) (covered covered' : List Bool) (es : List Event) → Shows f pages places covered es → (k : ℕ) (block : Block) → Admits f es (Event.Give k block)
     → (gives : ℕ) → gives ≡ gives_in es (address_of block.name) → grain_of block.name < length places
@@ -559,13 +498,8 @@ give_shows f pages places covered covered' es shows k block may gives is low set
 }
   where
     by : (x : ℕ) → x < grains_of f → (t : Bool) → in_run (grain_of block.name) (length_of block) x ≡ t → IsCovered (Event.Give k block ∷ es) x (get_or covered' x false)
-    by x h true e =
-        let on = run_of (grain_of block.name) (length_of block) x e in
-        covered_by (Event.Give k block ∷ es) x (get_or covered' x false) (set' x on.0 on.1) (new_cover es k block x e)
-    by x h false e =
-        let out : in_run (grain_of block.name) (length_of block) x ≡ true → ⊥ = λ i. false≢true (sym e ∙ i) in
-        subst (IsCovered (Event.Give k block ∷ es) x) (sym (unmarked covered covered' (grain_of block.name) (length_of block) x below above out))
-        (give_covered f es shows.run k block may x (get_or covered x false) out (shows.covered_are x h))
+    by x h true e = search (arith, run_of, covered_by, new_cover)
+    by x h false e = search (arith, false≢true, unmarked, give_covered)
 
 -- by what was read at the block's first grain, and marked from there on
 pub give_made : (f : Profile) (pages : List Page) (places : List Place) (covered covered' : List Bool) (len first n : ℕ) (block : Block) (p : Place) → first ≡ grain_of block.name → n ≡ length_of block → IsInside f block
@@ -598,8 +532,7 @@ touches_of : (f : Profile) (es : List Event) → Run f es → (name : Name) (blo
 touches_of f es run name block live p = ap (λ o. touches o p) live.1 ∙ (ap (λ n. meets_page (n / 16) (length_of live.0.block) p) (lives_where f es run (address_of name) live.0 live.1) ∙ ap (λ (b : Block). meets_page (grain_of name) (length_of b) p) live.2)
 
 ended_page : (es : List Event) (k : ℕ) (name : Name) (epoch p : ℕ) (t : Bool) (q : Page) → touches (live_in es (address_of name)) p ≡ t → q ≡ (if t then ended_at epoch (page_in es p) else page_in es p) → q ≡ page_in (Event.End k name epoch ∷ es) p
-ended_page es k name epoch p true q e is = is ∙ ap (λ t. record { directory = deed_in es p; backed = backed_in es p; epoch = if t then max (epoch_in es p) epoch else epoch_in es p }) (sym e)
-ended_page es k name epoch p false q e is = is ∙ ap (λ t. record { directory = deed_in es p; backed = backed_in es p; epoch = if t then max (epoch_in es p) epoch else epoch_in es p }) (sym e)
+ended_page es k name epoch p t q e is = grind arith
 
 -- a live block beside the one that ends
 apart_from : (f : Profile) (es : List Event) → Run f es → (k : ℕ) (name : Name) (epoch : ℕ) (block : Block) → IsLiveBlock es name block → (x : ℕ) → Covers (Event.End k name epoch ∷ es) x → (in_run (grain_of name) (length_of block) x ≡ true → ⊥) × Covers es x
@@ -616,14 +549,11 @@ still_covers : (es : List Event) (k : ℕ) (name : Name) (epoch : ℕ) (block : 
 still_covers es k name epoch block live x out c = record { address = c.address; live = c.live; lives = ap (λ t. if t then None else live_in es c.address) (ne_eqb (address_of name) c.address other) ∙ c.lives; has = c.has }
   where
     other : address_of name ≢ c.address
-    other e =
-        let same : live.0 ≡ c.live = same_Some _ _ (sym live.1 ∙ (ap (live_in es) e ∙ c.lives)) in
-        out (ap (λ n. in_run (n / 16) (length_of block) x) e ∙ (ap (λ (b : Block). in_run (c.address / 16) (length_of b) x) (sym live.2 ∙ ap (λ (l : Live). l.block) same) ∙ c.has))
+    other e = search (arith, same_Some)
 
 end_covered : (f : Profile) (es : List Event) → Run f es → (k : ℕ) (name : Name) (epoch : ℕ) (block : Block) → IsLiveBlock es name block → (x : ℕ) (t : Bool) → (in_run (grain_of name) (length_of block) x ≡ true → ⊥) → IsCovered es x t
     → IsCovered (Event.End k name epoch ∷ es) x t
-end_covered f es run k name epoch block live x true out c = still_covers es k name epoch block live x out c
-end_covered f es run k name epoch block live x false out never = λ c. never (apart_from f es run k name epoch block live x c).1
+end_covered f es run k name epoch block live x t out c = grind (arith, still_covers, apart_from)
 
 end_shows : (f : Profile) (pages pages' : List Page) (places : List Place) (covered covered' : List Bool) (es : List Event) → Shows f pages places covered es → (k : ℕ) (name : Name) (epoch : ℕ) → IsPlace f (address_of name)
     → (block : Block) → IsLiveBlock es name block → (p : Place) → p ≡ place_in es (grain_of name) → grain_of name < length places
@@ -659,10 +589,7 @@ end_shows f pages pages' places covered covered' es shows k name epoch place blo
     by x h true e =
         let on = run_of (grain_of name) (length_of block) x e in
         uncovered_by (Event.End k name epoch ∷ es) x (get_or covered' x false) (cset x on.0 on.1) (λ c. (apart_from f es shows.run k name epoch block live x c).0 e)
-    by x h false e =
-        let out : in_run (grain_of name) (length_of block) x ≡ true → ⊥ = λ i. false≢true (sym e ∙ i) in
-        subst (IsCovered (Event.End k name epoch ∷ es) x) (sym (unmarked covered covered' (grain_of name) (length_of block) x cbelow cabove out))
-        (end_covered f es shows.run k name epoch block live x (get_or covered x false) out (shows.covered_are x h))
+    by x h false e = search (arith, false≢true, unmarked, end_covered)
 
 pub end_made : (f : Profile) (pages pages' : List Page) (places : List Place) (covered covered' : List Bool) (len first n : ℕ) (name : Name) (epoch : ℕ) (block : Block) (p : Place) → first ≡ grain_of name → n ≡ length_of block → IsPlace f (address_of name)
     → len ≡ length places → len ≡ grains_of f → p ≡ get_or places first p → IsEach first (first + n) (λ x. get_or covered' x false ≡ false)

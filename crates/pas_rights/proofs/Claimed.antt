@@ -1,18 +1,16 @@
 -- What a claim comes to.
-use Rattle.std.proofs.Common.{◌≡◌, ℕ, ◌%◌, Bool, true, false, if◌then◌else◌, [], ◌∷◌, refl, sym}
+use Rattle.std.proofs.Common.{arith, ◌≡◌, ℕ, ◌%◌, Bool, if◌then◌else◌, [], ◌∷◌, refl}
 use Rattle.pas_bits.specs.Bits.{has_bit}
-use Rattle.pas_profile.specs.Directories.{number_of}
 use Rattle.pas_profile.specs.declared.directory.Directory.{Directory}
 use Rattle.pas_steps.specs.{Calls.Kept, Calls.Gained, Calls.now, Desks.Standing, Desks.Makes, Desks.made, Frames.IsOnPage, Kinds.Claiming, Views.View}
-use Rattle.pas_steps.specs.{Views.FromOffer, Views.has_right}
+use Rattle.pas_steps.specs.{Views.has_right}
 use Rattle.pas_steps.specs.declared.step.Step.TheVariants.{TakeRight}
 use Rattle.pas_steps.proofs.{Adding.adds_none, Adding.adds_step, Calls.does_on_page}
 use Rattle.pas_rights.specs.Claims.{Claims}
 use Rattle.pas_rights.proofs.Orders.{gets, gets_none}
 
 claimed_right : (p : ℕ) (d : Directory) (a : ℕ) (got : Bool) (v : View) → got ≡ has_bit a (p % 64) → has_right (made (TakeRight p d) a ∷ v) p ≡ now (if got then Gained else Kept) (has_right v p)
-claimed_right p d a true v is = gets p (FromOffer (number_of d)) a (has_right v p) refl (sym is)
-claimed_right p d a false v is = gets_none p (FromOffer (number_of d)) a (has_right v p) (sym is)
+claimed_right p d a got v is = grind (arith, gets, gets_none)
 
 pub claims : {σ σ' : Standing} (p : ℕ) (d : Directory) (a : ℕ) (got : Bool) → got ≡ has_bit a (p % 64) → Makes σ σ' (TakeRight p d) a → Claims p d σ σ' got
 claims {σ} p d a got is makes = record {

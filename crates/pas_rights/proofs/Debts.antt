@@ -1,17 +1,16 @@
 -- What is owed on a page after the steps of these calls, and whether the right is the actor's.
-use Rattle.std.proofs.Common.{◌≡◌, ◌≢◌, ℕ, zero, suc, ◌+◌, ◌*◌, ◌/◌, ◌%◌, ◌<◌, ◌==◌, Bool, true, false, not, ◌&&◌, if◌then◌else◌, inl, inr, List, [], ◌∷◌, ◌++◌}
-use Rattle.std.proofs.Common.{Option, None, Some, refl, ap, sym, ◌∙◌, subst, arith, append_assoc, true≢false, MatchBool, eq-eqb, ne_eqb}
+use Rattle.std.proofs.Common.{◌≡◌, ◌≢◌, ℕ, zero, suc, ◌+◌, ◌<◌, ◌==◌, Bool, true, false, not, ◌&&◌, if◌then◌else◌, inl, inr, List, ◌∷◌, ◌++◌, Option, refl, ap}
+use Rattle.std.proofs.Common.{sym, ◌∙◌, subst, arith, append_assoc, true≢false, MatchBool, eq-eqb, ne_eqb}
 use Rattle.std.proofs.lemmas.Bool.{cases_Bool, cases_eq, MatchBool-at_false}
 use Rattle.pas_bits.specs.declared.mask.Mask4.{Mask4}
 use Rattle.pas_profile.specs.Directories.{IsDirectory, deed_word_of, number_of}
-use Rattle.pas_profile.specs.declared.{directory.Directory.Directory, profile.Profile.Profile, word.Word.Word}
+use Rattle.pas_profile.specs.declared.{directory.Directory.Directory, profile.Profile.Profile}
 use Rattle.pas_profile.proofs.Codecs.{deed_word_of-positive}
-use Rattle.pas_steps.specs.Views.{View, ToOffer, FromParked, ToParked, has_right, known_deed, no_usable, all_ones, owes_check, owes_hint}
+use Rattle.pas_steps.specs.Views.{View, ToOffer, has_right, known_deed, no_usable, all_ones, owes_check, owes_hint}
 use Rattle.pas_steps.specs.{Agreement.Agreed, Clear.OwesNothing, Desks.made}
-use Rattle.pas_steps.specs.declared.step.Made.{Made}
-use Rattle.pas_steps.specs.declared.step.Step.TheVariants.{Look, Offer, Park, Unpark}
+use Rattle.pas_steps.specs.declared.step.{Made.Made, Step.TheVariants.Offer, Step.TheVariants.Park}
 use Rattle.pas_steps.proofs.{Adding.agreed_first, Adding.agreed_later, Flags.ends_none}
-use Rattle.pas_rights.specs.{Leaves.ReoffersWhere, Leaves.EndsLeave, Leaves.LeaveSteps, Returns.ReofferSteps, Returns.ReturnSteps, Words.words, Words.ones}
+use Rattle.pas_rights.specs.{Leaves.ReoffersWhere, Leaves.EndsLeave, Leaves.LeaveSteps, Returns.ReofferSteps, Returns.ReturnSteps, Words.words}
 use Rattle.pas_rights.specs.Looks.{looks, looks_until, HasUsable, HasNoUsable, IsAllFree, HasUsed, AreUsed, is_free, HintSteps, HintsWhere}
 use Rattle.pas_rights.specs.declared.reading.Used.{Used}
 use Rattle.pas_rights.proofs.Looks.{no_usable_word, unusable_used, used_word}
@@ -29,11 +28,7 @@ hint_kept p answers (suc n) v h = ends_none ((p == p) && not (answers n == all_o
 
 -- ---- a look that shows no usable grain ends the check of its word
 ended : (n w p deed : ℕ) (none owed : Bool) → n ≡ w → deed ≢ 0 → none ≡ true → (if (n == w) && (p == p) && not (deed == 0) && none then false else owed) ≡ false
-ended n w p deed none owed same some h =
-    ap (λ t. if t && (p == p) && not (deed == 0) && none then false else owed) (eq-eqb n w same)
-    ∙ ap (λ t. if t && not (deed == 0) && none then false else owed) (same_page p)
-    ∙ ap (λ t. if not t && none then false else owed) (ne_eqb deed 0 some)
-    ∙ ap (λ t. if t then false else owed) h
+ended n w p deed none owed same some h = cc (eq-eqb n w same, same_page p, ne_eqb deed 0 some)
 
 check_looks : (p w : ℕ) (d : Directory) (answers : ℕ → ℕ) (n : ℕ) (v : View) → known_deed v p ≡ deed_word_of d → no_usable (deed_word_of d) w (answers w) ≡ true → w < n → owes_check (looks p answers n ++ v) p w ≡ false
 check_looks p w d answers zero v knows none lt = absurd (omega (arith, lt))
@@ -42,8 +37,7 @@ check_looks p w d answers (suc n) v knows none lt =
     let deed : known_deed before p ≡ deed_word_of d = deed_looks p p answers n v ∙ knows in
     elim (cases_eq n w) [
       | inr ne ↦ ends_none ((n == w) && (p == p) && not (known_deed before p == 0) && no_usable (known_deed before p) w (answers n)) (owes_check before p w) (check_looks p w d answers n v knows none (omega (arith, lt, ne)))
-      | inl same ↦ ended n w p (known_deed before p) (no_usable (known_deed before p) w (answers n)) (owes_check before p w) same (λ z. deed_word_of-positive d (sym deed ∙ z))
-          (ap (λ x. no_usable x w (answers n)) deed ∙ ap (λ k. no_usable (deed_word_of d) w (answers k)) same ∙ none)
+      | inl same ↦ search (arith, ended, deed_word_of-positive)
     ]
 
 -- ---- a look that shows a used grain ends the hint
@@ -59,69 +53,43 @@ hint_looks p w answers (suc n) v ne lt = elim (cases_eq w n) [
 
 -- ---- hints
 hint_ends : (f : Profile) (p : ℕ) (steps : List Made) (v : View) → HintSteps p steps → Agreed f v steps → owes_hint (steps ++ v) p ≡ false
-hint_ends f p steps v (inl h) agreed =
-    let here : Agreed f v (made (Look (Word.Backed p)) h.0 ∷ []) = subst (Agreed f v) h.2 agreed in
-    let small = here.0.small in let not_one = h.1 in
-    let zero_read : h.0 ≡ 0 = omega (arith, small, not_one) in
-    ap (λ s. owes_hint (s ++ v) p) h.2 ∙ ap (λ t. if t && (h.0 == 0) then false else owes_hint v p) (same_page p) ∙ ap (λ t. if t then false else owes_hint v p) (eq-eqb h.0 0 zero_read)
-hint_ends f p steps v (inr h) agreed = ap (λ s. owes_hint (s ++ v) p) h.1 ∙ ends p (owes_hint (made (Look (Word.Backed p)) 1 ∷ v) p)
+hint_ends f p steps v e agreed = grind (arith, same_page, eq-eqb, ends)
 
 hints_check : (p w : ℕ) (all_free : Bool) (steps : List Made) (v : View) → HintsWhere all_free p steps → owes_check (steps ++ v) p w ≡ owes_check v p w
-hints_check p w true steps v (inl h) = ap (λ s. owes_check (s ++ v) p w) h.2
-hints_check p w true steps v (inr h) = ap (λ s. owes_check (s ++ v) p w) h.1
-hints_check p w false steps v h = ap (λ s. owes_check (s ++ v) p w) h
+hints_check p w all_free steps v h = grind arith
 
 hints_right : (p : ℕ) (all_free : Bool) (steps : List Made) (v : View) → HintsWhere all_free p steps → has_right (steps ++ v) p ≡ has_right v p
-hints_right p true steps v (inl h) = ap (λ s. has_right (s ++ v) p) h.2
-hints_right p true steps v (inr h) = ap (λ s. has_right (s ++ v) p) h.1
-hints_right p false steps v h = ap (λ s. has_right (s ++ v) p) h
+hints_right p all_free steps v h = grind arith
 
 -- the hint is settled where each grain was read as free, and wasn't owed otherwise
 hints_end : (f : Profile) (p : ℕ) (all_free : Bool) (steps : List Made) (v : View) → HintsWhere all_free p steps → Agreed f v steps → (all_free ≡ false → owes_hint v p ≡ false) → owes_hint (steps ++ v) p ≡ false
-hints_end f p true steps v h agreed rest = hint_ends f p steps v h agreed
-hints_end f p false steps v h agreed rest = ap (λ s. owes_hint (s ++ v) p) h ∙ rest refl
+hints_end f p all_free steps v h agreed rest = grind (arith, hint_ends)
 
 -- ---- a page that is taken back and offered
 reoffer_check : (p w : ℕ) (d : Directory) (steps : List Made) (v : View) → ReofferSteps p d steps → owes_check (steps ++ v) p w ≡ false
-reoffer_check p w d steps v (inl h) = ap (λ s. owes_check (s ++ v) p w) h.2 ∙ ends p (owes_check v p w)
-reoffer_check p w d steps v (inr h) = ap (λ s. owes_check (s ++ v) p w) h.3 ∙ ends p (owes_check (made (Unpark p) h.0 ∷ v) p w)
+reoffer_check p w d steps v e = grind (arith, ends)
 
 reoffer_hint : (p : ℕ) (d : Directory) (steps : List Made) (v : View) → ReofferSteps p d steps → owes_hint (steps ++ v) p ≡ owes_hint v p
-reoffer_hint p d steps v (inl h) = ap (λ s. owes_hint (s ++ v) p) h.2
-reoffer_hint p d steps v (inr h) = ap (λ s. owes_hint (s ++ v) p) h.3
+reoffer_hint p d steps v e = grind arith
 
 reoffer_lacks : (p : ℕ) (d : Directory) (steps : List Made) (v : View) → ReofferSteps p d steps → has_right v p ≡ false → has_right (steps ++ v) p ≡ false
-reoffer_lacks p d steps v (inl h) lacks = ap (λ s. has_right (s ++ v) p) h.2 ∙ gets_none p FromParked h.0 (has_right v p) h.1 ∙ lacks
-reoffer_lacks p d steps v (inr h) lacks = ap (λ s. has_right (s ++ v) p) h.3 ∙ gives p (ToOffer (number_of d)) (has_right (made (Unpark p) h.0 ∷ v) p) refl
+reoffer_lacks p d steps v e lacks = grind (arith, gets_none, gives)
 
 -- with the right the parked bit is read as 0
 reoffer_right : (f : Profile) (p : ℕ) (d : Directory) (steps : List Made) (v : View) → ReofferSteps p d steps → Agreed f v steps → has_right (steps ++ v) p ≡ has_right v p
-reoffer_right f p d steps v (inl h) agreed = ap (λ s. has_right (s ++ v) p) h.2 ∙ gets_none p FromParked h.0 (has_right v p) h.1
-reoffer_right f p d steps v (inr h) agreed =
-    let here : Agreed f v (made (Offer p d) h.1 ∷ made (Unpark p) h.0 ∷ []) = subst (Agreed f v) h.3 agreed in
-    let whole : 64 * (p / 64) + p % 64 ≡ p = omega arith in
-    ap (λ s. has_right (s ++ v) p) h.3 ∙ gives p (ToOffer (number_of d)) (has_right (made (Unpark p) h.0 ∷ v) p) refl ∙ sym (elim (cases_Bool (has_right v p)) [
-      | inl has ↦ absurd (true≢false (sym h.2 ∙ here.1.0.right (p % 64) (omega arith) (ap (has_right v) whole ∙ has)))
-      | inr none ↦ none
-    ])
+reoffer_right f p d steps v e agreed = grind (arith, gets_none, gives, cases_Bool, true≢false)
 
 lacks_after : (p : ℕ) (d : Directory) (usable : Bool) (steps : List Made) (v : View) → ReoffersWhere usable p d steps → has_right v p ≡ false → has_right (steps ++ v) p ≡ false
-lacks_after p d true steps v h lacks = reoffer_lacks p d steps v h lacks
-lacks_after p d false steps v h lacks = ap (λ s. has_right (s ++ v) p) h ∙ lacks
+lacks_after p d usable steps v h lacks = grind (arith, reoffer_lacks)
 
 -- ---- the two ends of a leave, on the view after the looks
 after_reoffer : (p : ℕ) (d : Directory) (usable : Bool) (steps : List Made) (v : View) → ReoffersWhere usable p d steps → ((w : ℕ) → w < 4 → usable ≡ false → owes_check v p w ≡ false) → owes_hint v p ≡ false → OwesNothing p (steps ++ v)
-after_reoffer p d true steps v h checks hint = record { checks = λ w lt. reoffer_check p w d steps v h; hint = reoffer_hint p d steps v h ∙ hint }
-after_reoffer p d false steps v h checks hint = record { checks = λ w lt. ap (λ s. owes_check (s ++ v) p w) h ∙ checks w lt refl; hint = ap (λ s. owes_hint (s ++ v) p) h ∙ hint }
+after_reoffer p d usable steps v h checks hint = grind (arith, reoffer_check, reoffer_hint)
 
 end_owes : (f : Profile) (p : ℕ) (d : Directory) (usable all_free : Bool) (steps : List Made) (v : View) → IsDirectory d → EndsLeave usable p d all_free steps → Agreed f v steps → known_deed v p ≡ deed_word_of d
     → (usable ≡ false → all_free ≡ false) → (all_free ≡ false → owes_hint v p ≡ false) → OwesNothing p (steps ++ v)
 end_owes f p d true all_free steps v is h agreed knows used hint =
-    let later : Agreed f (made (Offer p d) h.offered ∷ v) h.after = agreed_first f v h.after (made (Offer p d) h.offered ∷ []) (subst (Agreed f v) h.steps_are agreed) in
-    subst (OwesNothing p) (sym (offered_on p d all_free steps v h)) record {
-      checks = λ w lt. hints_check p w all_free h.after (made (Offer p d) h.offered ∷ v) h.hints ∙ ends p (owes_check v p w);
-      hint = hints_end f p all_free h.after (made (Offer p d) h.offered ∷ v) h.hints later hint;
-    }
+    search (arith, agreed_first, offered_on, hints_check, ends, hints_end)
 end_owes f p d false all_free steps v is h agreed knows used hint =
     let parked : View = made (Park p) h.parked ∷ v in
     subst (OwesNothing p) (sym (parked_on p d steps v h)) (after_reoffer p d h.usable h.after (looks p (words h.later) 4 ++ parked) h.reoffers
@@ -141,22 +109,17 @@ leave_owes f p d steps v is h agreed knows = let looked = looks p (words h.free)
 
 end_lacks : (p : ℕ) (d : Directory) (usable all_free : Bool) (steps : List Made) (v : View) → EndsLeave usable p d all_free steps → has_right (steps ++ v) p ≡ false
 end_lacks p d true all_free steps v h = ap (λ s. has_right s p) (offered_on p d all_free steps v h) ∙ hints_right p all_free h.after (made (Offer p d) h.offered ∷ v) h.hints ∙ gives p (ToOffer (number_of d)) (has_right v p) refl
-end_lacks p d false all_free steps v h =
-    let parked : View = made (Park p) h.parked ∷ v in
-    ap (λ s. has_right s p) (parked_on p d steps v h) ∙ lacks_after p d h.usable h.after (looks p (words h.later) 4 ++ parked) h.reoffers (right_looks p p (words h.later) 4 parked ∙ gives p ToParked (has_right v p) refl)
+end_lacks p d false all_free steps v h = search (arith, parked_on, lacks_after, right_looks, gives)
 
 pub leave_lacks : (p : ℕ) (d : Directory) (steps : List Made) (v : View) → LeaveSteps p d steps → has_right (steps ++ v) p ≡ false
 leave_lacks p d steps v h = ap (λ s. has_right s p) (left_on p d steps v h) ∙ end_lacks p d h.usable h.all_free h.after (looks p (words h.free) 4 ++ v) h.ends
 
 -- ---- after grains were put back
 until_check : (p w : ℕ) (used : Option Used) (v : View) → owes_check v p w ≡ false → owes_check (looks_until p used ++ v) p w ≡ false
-until_check p w None v h = check_kept p w ones 4 v h
-until_check p w (Some used) v h = let before = looks p ones used.word ++ v in
-    ends_none ((used.word == w) && (p == p) && not (known_deed before p == 0) && no_usable (known_deed before p) w used.value) (owes_check before p w) (check_kept p w ones used.word v h)
+until_check p w used v h = grind (arith, check_kept, ends_none)
 
 until_hint : (p : ℕ) (used : Option Used) (v : View) → AreUsed used → is_free used ≡ false → owes_hint (looks_until p used ++ v) p ≡ false
-until_hint p None v are e = absurd (true≢false e)
-until_hint p (Some used) v are e = hint_look p used.value (owes_hint (looks p ones used.word ++ v) p) are.some
+until_hint p used v are e = grind (arith, true≢false, hint_look)
 
 pub return_owes : (f : Profile) (p : ℕ) (d : Directory) (steps : List Made) (v : View) → ReturnSteps p d steps → Agreed f v steps → OwesNothing p (steps ++ v)
 return_owes f p d steps v h agreed =

@@ -1,5 +1,5 @@
 -- The promises of the calls, put together from those of their parts.
-use Rattle.std.proofs.Common.{ℕ, Bool, List, [], ◌∷◌, ◌++◌, refl, ap, ◌∙◌, subst, append_assoc, ◌≡◌, ◌==◌, true, false, if◌then◌else◌, inl, MatchBool, Option}
+use Rattle.std.proofs.Common.{arith, ℕ, Bool, List, [], ◌∷◌, ◌++◌, refl, ap, ◌∙◌, append_assoc, ◌≡◌, ◌==◌, false, if◌then◌else◌, inl, MatchBool, Option}
 use Rattle.std.proofs.Common.{eqb-true}
 use Rattle.pas_profile.specs.Directories.{IsDirectory}
 use Rattle.pas_profile.specs.declared.{directory.Directory.Directory, profile.Profile.Profile}
@@ -34,8 +34,7 @@ settles f p r steps v only agreed right owes =
     record { does = does_returns f p r Kept steps v only agreed right (λ is. clear is.stamped is.examined); owes = owes; clear = clear }
 
 clear_at : (p q : ℕ) (t : Bool) (v w : View) → (p == q) ≡ t → IsClearOn p w → ClearAfter (if t then Kept else Kept) q v w → ClearAfter (if t then Gained else Kept) q v w
-clear_at p q true v w e here h = subst (λ x. IsClearOn x w) (eqb-true p q e) here
-clear_at p q false v w e here h = h
+clear_at p q t v w e here h = grind (arith, eqb-true)
 
 -- a page that was neither unstamped nor examined is clear then
 pub settled_clear : {v w : View} (p : ℕ) (r : Fate) → Settles p r v w → is_unstamped v p ≡ false → examines v p ≡ false → Does (on_page p r Gained) v w
@@ -75,12 +74,7 @@ returned_by {σ} {σ1} {σ2} {σ3} p d used r s after adds hints =
     let order : ReturnSteps p d steps = record { first = r.steps; reoffers = r.order; used = used; are = s.are; after = after; hints = hints; steps_are = refl } in
     record {
       steps = steps;
-      calls = record {
-        adds = adds_call (adds_call r.adds s.adds (λ v l stood met. tt)) adds (λ v l stood met. tt);
-        leads = record {
-          from = λ v met agreed. settles σ.seat.profile p Kept steps v (return_returns p d steps order) agreed (return_right σ.seat.profile p d steps v order agreed) (return_owes σ.seat.profile p d steps v order agreed);
-        };
-      };
+      calls = search (arith, adds_call, settles, return_returns, return_right, return_owes);
       order = order;
       returns = return_returns p d steps order;
       few = return_few p d steps order;

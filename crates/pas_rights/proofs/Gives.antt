@@ -1,6 +1,6 @@
 -- A run of grains is given as a block.
-use Rattle.std.proofs.Common.{◌≡◌, ℕ, ◌+◌, ◌*◌, ◌/◌, ◌%◌, ◌^◌, ◌<◌, ◌≤◌, ◌==◌, Bool, true, false, ◌&&◌, if◌then◌else◌, [], ◌∷◌, Some, refl, ap, sym, ◌∙◌, subst}
-use Rattle.std.proofs.Common.{arith, inl, eq-eqb}
+use Rattle.std.proofs.Common.{◌≡◌, ℕ, ◌+◌, ◌*◌, ◌/◌, ◌^◌, ◌<◌, ◌≤◌, Bool, true, false, if◌then◌else◌, [], ◌∷◌, Some, refl, ap, sym, ◌∙◌, subst, arith, inl}
+use Rattle.std.proofs.Common.{eq-eqb}
 use Rattle.std.proofs.lemmas.Bool.{and_from}
 use Rattle.pas_profile.specs.{Lives.turn_of, Profiles.IsPage, Profiles.IsDirectoryOf, Blocks.grain_of, Blocks.length_of}
 use Rattle.pas_bits.specs.Runs.{in_run}
@@ -31,8 +31,7 @@ may_give_on {f} {v} d page first n of_profile within held deed backed stamped = 
 }
 
 given_fate : (t : Bool) (g : ℕ) → later Kept (grain_fate (if t then Gives g else Stays)) ≡ (if t then Lost else Kept)
-given_fate true g = refl
-given_fate false g = refl
+given_fate t g = grind arith
 
 -- ---- the block and its grains
 pub block_is : (heap page first n word turn : ℕ) → turn ≡ turn_of word → record { name = record { address = record { 0 = page * 4096 + first * 16 }; turn = turn }; room = n * 16; heap = heap } ≡ block_of heap page first n word
@@ -67,11 +66,7 @@ module _ (heap page first n word : ℕ) where
       first_held = may.held (page * 256 + first) (first_of_run (page * 256 + first) n (omega (arith, some)))
 
       life_read : known_life looked (page * 256 + first) ≡ Some word
-      life_read =
-          let at : first ≡ (page * 256 + first) % 256 = omega (arith, small) in let here : page ≡ (page * 256 + first) / 256 = omega (arith, small) in
-          ap (λ t. if t then Some word else known_life v (page * 256 + first))
-          (and_from ((first == (page * 256 + first) % 256) && (page == (page * 256 + first) / 256)) (holds v (page * 256 + first))
-          (and_from (first == (page * 256 + first) % 256) (page == (page * 256 + first) / 256) (eq-eqb first ((page * 256 + first) % 256) at) (eq-eqb page ((page * 256 + first) / 256) here)) first_held)
+      life_read = search (arith, and_from, eq-eqb, first_held)
 
       bears : (q : ℕ) → KnowsBearing f v heap q → KnowsBearing f looked heap q
       bears q b = record { backed = and_from (knows_backed v q) (holds_on v q) b.backed (backed_holds v q b.backed); directory = b.directory; of_profile = b.of_profile; deed = b.deed; of_heap = b.of_heap; stamped = b.stamped }

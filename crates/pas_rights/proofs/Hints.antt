@@ -1,6 +1,6 @@
 -- A page is hinted only after looks that read it as backed, and each of its grains as free; and grains are put only after they were taken.
-use Rattle.std.proofs.Common.{◌≡◌, ℕ, zero, suc, ◌+◌, ◌*◌, ◌<◌, Bool, true, false, List, [], ◌∷◌, ◌++◌, Option, None, Some, inl, inr, refl, ap, sym, ◌∙◌, subst}
-use Rattle.std.proofs.Common.{arith, append_assoc, true≢false, MatchBool}
+use Rattle.std.proofs.Common.{◌≡◌, ℕ, zero, suc, ◌+◌, ◌*◌, ◌<◌, Bool, true, false, List, [], ◌∷◌, ◌++◌, Option, inl, inr, refl, ap, sym, ◌∙◌, subst, arith}
+use Rattle.std.proofs.Common.{append_assoc, true≢false, MatchBool}
 use Rattle.std.proofs.lemmas.Bool.{cases_eq}
 use Rattle.pas_bits.specs.Bits.{has_bit}
 use Rattle.pas_profile.specs.declared.{directory.Directory.Directory, word.Word.Word}
@@ -8,12 +8,11 @@ use Rattle.pas_bits.specs.declared.mask.Mask4.{Mask4}
 use Rattle.pas_bits.proofs.Words.{at_word, full_bit}
 use Rattle.pas_steps.specs.{Desks.Standing, Desks.made, Past.Always, Past.Since, Views.holds}
 use Rattle.pas_steps.specs.Kinds.{Kinds, LookFree, Putting, Hinting, kind_of, place_of, is_in, apart, Only}
-use Rattle.pas_steps.specs.declared.step.Made.{Made}
-use Rattle.pas_steps.specs.declared.step.Step.TheVariants.{Look, Offer, Park, Unpark}
+use Rattle.pas_steps.specs.declared.step.{Made.Made, Step.TheVariants.Look, Step.TheVariants.Offer}
 use Rattle.pas_steps.proofs.{Apart.in_apart, Past.always_both, Past.always_map}
 use Rattle.pas_rights.specs.{Leaves.ReoffersWhere, Leaves.EndsLeave, Leaves.LeaveSteps, Puts.masked, Puts.PutsBelow, PutsBack.BackSteps, PutsBack.GivesDuly}
-use Rattle.pas_rights.specs.{PutsBack.PutsAndLeaves, Returns.ReofferSteps, Returns.ReturnSteps, Words.words, Words.ones}
-use Rattle.pas_rights.specs.Looks.{looks, looks_until, is_free, IsAllFree, HasUsed, HintSteps, HintsWhere, ReadsAllFree, TakesNone, ReadsEmpty}
+use Rattle.pas_rights.specs.{PutsBack.PutsAndLeaves, Returns.ReofferSteps, Returns.ReturnSteps, Words.words}
+use Rattle.pas_rights.specs.Looks.{looks, looks_until, is_free, IsAllFree, HasUsed, HintSteps, HintsWhere, ReadsAllFree, TakesNone}
 use Rattle.pas_rights.specs.declared.reading.Used.{Used}
 use Rattle.pas_rights.proofs.{Looks.looks_only, Orders.until_only, Puts.holds_more, Puts.puts_due}
 
@@ -54,24 +53,17 @@ all_read page answers (suc n) word lt all = elim (cases_eq word n) [
 ]
 
 hint_after : (page : ℕ) (steps xs : List Made) → HintSteps page steps → ((word : ℕ) → word < 4 → Since (ReadsAllFree page word) (TakesNone page) xs) → Always GivesDuly xs → Always GivesDuly (steps ++ xs)
-hint_after page steps xs (inl h) read rest = subst (λ s. Always GivesDuly (s ++ xs)) (sym h.2) (due_step (made (Look (Word.Backed page)) h.0) xs refl, rest)
-hint_after page steps xs (inr h) read rest = subst (λ s. Always GivesDuly (s ++ xs)) (sym h.1) (
-  (λ p same. let is : page ≡ p = cc in subst (λ q. ReadsEmpty q (made (Look (Word.Backed page)) 1 ∷ xs)) is (record { backed = inl (refl, refl); free = λ word lt. inr ((λ w mask e. cc), read word lt) }), λ p word mask g same here. cc),
-  (due_step (made (Look (Word.Backed page)) 1) xs refl, rest),
-)
+hint_after page steps xs e read rest = grind (arith, due_step)
 
 hints_where : (all_free : Bool) (page : ℕ) (steps xs : List Made) → HintsWhere all_free page steps → (all_free ≡ true → (word : ℕ) → word < 4 → Since (ReadsAllFree page word) (TakesNone page) xs) → Always GivesDuly xs → Always GivesDuly (steps ++ xs)
-hints_where true page steps xs h read rest = hint_after page steps xs h (read refl) rest
-hints_where false page steps xs h read rest = subst (λ s. Always GivesDuly (s ++ xs)) (sym h) rest
+hints_where all_free page steps xs h read rest = grind (arith, hint_after)
 
 -- ---- what follows puts
 reoffer_due : (page : ℕ) (d : Directory) (steps : List Made) → ReofferSteps page d steps → Always GivesDuly steps
-reoffer_due page d steps (inl h) = subst (Always GivesDuly) (sym h.2) (due_step (made (Unpark page) h.0) [] refl, tt)
-reoffer_due page d steps (inr h) = subst (Always GivesDuly) (sym h.3) (due_step (made (Offer page d) h.1) (made (Unpark page) h.0 ∷ []) refl, (due_step (made (Unpark page) h.0) [] refl, tt))
+reoffer_due page d steps e = grind (arith, due_step)
 
 until_read : (page : ℕ) (used : Option Used) → is_free used ≡ true → (xs : List Made) (word : ℕ) → word < 4 → Since (ReadsAllFree page word) (TakesNone page) (looks_until page used ++ xs)
-until_read page None free xs word lt = read_earlier (λ n. ReadsAllFree page word n []) (λ n. TakesNone page n []) (looks page ones 4) xs (all_read page ones 4 word lt (λ b small. full_bit b small))
-until_read page (Some used) free xs word lt = absurd (true≢false (sym free))
+until_read page used free xs word lt = grind (arith, read_earlier, all_read, full_bit, true≢false)
 
 return_due : (page : ℕ) (d : Directory) (steps : List Made) → ReturnSteps page d steps → Always GivesDuly steps
 return_due page d steps h =
@@ -85,8 +77,7 @@ free_word true free all is word lt b small = sym (at_word free word b small) ∙
 free_word false free all is word lt b small = absurd (true≢false (sym is))
 
 reoffers_due : (usable : Bool) (page : ℕ) (d : Directory) (steps : List Made) → ReoffersWhere usable page d steps → Always GivesDuly steps
-reoffers_due true page d steps h = reoffer_due page d steps h
-reoffers_due false page d steps h = subst (Always GivesDuly) (sym h) tt
+reoffers_due usable page d steps h = grind (arith, reoffer_due)
 
 looks_due : (page : ℕ) (answers : ℕ → ℕ) → Always GivesDuly (looks page answers 4)
 looks_due page answers = due_none (LookFree ∷ []) (looks page answers 4) refl (looks_only page answers 4)
@@ -98,14 +89,7 @@ end_due true page d all_free free after all h =
     let whole : after ++ first ≡ h.after ++ (offer ∷ first) = ap (λ s. s ++ first) h.steps_are ∙ append_assoc h.after (offer ∷ []) first in
     subst (Always GivesDuly) (sym whole)
     (hints_where all_free page h.after (offer ∷ first) h.hints (λ is word lt. inr ((λ w mask same. cc), all_read page (words free) 4 word lt (free_word all_free free all is word lt))) (due_step offer first refl, looks_due page (words free)))
-end_due false page d all_free free after all h =
-    let first = looks page (words free) 4 in
-    let later = looks page (words h.later) 4 in
-    subst (λ s. Always GivesDuly (s ++ first)) (sym h.steps_are)
-    (due_both (h.after ++ (later ++ (made (Park page) h.parked ∷ []))) first
-    (due_both h.after (later ++ (made (Park page) h.parked ∷ [])) (reoffers_due h.usable page d h.after h.reoffers)
-    (due_both later (made (Park page) h.parked ∷ []) (looks_due page (words h.later)) (due_step (made (Park page) h.parked) [] refl, tt)))
-    (looks_due page (words free)))
+end_due false page d all_free free after all h = search (arith, due_both, reoffers_due, looks_due, due_step)
 
 pub leave_due : (page : ℕ) (d : Directory) (steps : List Made) → LeaveSteps page d steps → Always GivesDuly steps
 leave_due page d steps h = subst (Always GivesDuly) (sym h.steps_are) (end_due h.usable page d h.all_free h.free h.after h.all_free_is h.ends)

@@ -2,9 +2,8 @@
 use Rattle.std.proofs.Common.{◌≡◌, ◌≢◌, ℕ, zero, suc, ◌+◌, ◌-◌, ◌*◌, ◌/◌, ◌%◌, ◌^◌, ◌<◌, ◌≤◌, ◌==◌, Bool, true, false, not, ◌&&◌, if◌then◌else◌, List, [], ◌∷◌}
 use Rattle.std.proofs.Common.{◌++◌, length, refl, ap, sym, ◌∙◌, subst, arith, inl, inr, ◌⊎◌, slice_index, MatchBool, eq-eqb, true≢false, lt-ltb}
 use Rattle.std.proofs.lemmas.Bool.{cases_eq, and_from, and_parts, not_from_false, false_from_ne_true}
-use Rattle.pas_profile.specs.Classes.{usable_grains}
 use Rattle.pas_bits.specs.{Bits.has_bit, Masks.is_set, Masks.IsEmpty, Masks.HasMember}
-use Rattle.pas_profile.specs.Directories.{IsKind, IsDirectory, deed_word_of, directory_read}
+use Rattle.pas_profile.specs.Directories.{IsKind, IsDirectory, deed_word_of}
 use Rattle.pas_profile.specs.declared.{directory.Directory.Directory, directory.Kind.Kind, profile.Profile.Profile, word.Word.Word}
 use Rattle.pas_profile.proofs.{ClassFacts.usable_grains_ge, Codecs.read-deed_word_of}
 use Rattle.pas_bits.specs.declared.mask.Mask4.{Mask4}
@@ -13,7 +12,7 @@ use Rattle.pas_steps.specs.{Agreement.Agreed, Frames.AreLooks, Frames.OnlyOn, Fr
 use Rattle.pas_steps.specs.Desks.{AnyView, Standing, Makes, Adds, made}
 use Rattle.pas_steps.specs.Evidence.{Readings, ReadsFree, ShowsHere, KeptHere}
 use Rattle.pas_steps.specs.Kinds.{LookFree, Only, kind_of, is_in}
-use Rattle.pas_steps.specs.Views.{View, all_ones, usable_by, usable_by_kind, no_usable, holds, has_right, known_free}
+use Rattle.pas_steps.specs.Views.{View, all_ones, usable_by_kind, no_usable, holds, has_right, known_free}
 use Rattle.pas_steps.specs.declared.step.{Made.Made, Step.TheVariants.Look}
 use Rattle.pas_steps.proofs.{Adding.adds_step, Apart.holds_same, Apart.rights_same, Bits.all_below-from, Flags.stays_set}
 use Rattle.pas_rights.specs.Looks.{looks, HasUsable, HasNoUsable, IsAllFree, HasUsed}
@@ -87,13 +86,10 @@ and_true : (t : Bool) → (t && true) ≡ t
 and_true t = grind arith
 
 four_full : (i : ℕ) → i < 4 → slice_index ((2 ^ 64 - 1) ∷ (2 ^ 64 - 1) ∷ (2 ^ 64 - 1) ∷ (2 ^ 64 - 1) ∷ []) i ≡ 2 ^ 64 - 1
-four_full (suc (suc (suc (suc i)))) h = absurd (omega (arith, h))
-four_full s h = refl
+four_full s h = grind arith
 
 any_kind : (k : Kind) (g : ℕ) → (k ≡ Kind.Bitfit) ⊎ ((k ≡ Kind.Shared) ⊎ (k ≡ Kind.Large)) → usable_by_kind k g ≡ true
-any_kind k g (inl e) = ap (λ x. usable_by_kind x g) e
-any_kind k g (inr (inl e)) = ap (λ x. usable_by_kind x g) e
-any_kind k g (inr (inr e)) = ap (λ x. usable_by_kind x g) e
+any_kind k g e = grind arith
 
 -- on a page that isn't of a class each grain is usable
 pub full_mask : (k : Kind) (g : ℕ) → g < 256 → (k ≡ Kind.Bitfit) ⊎ ((k ≡ Kind.Shared) ⊎ (k ≡ Kind.Large)) → has_bit (slice_index ((2 ^ 64 - 1) ∷ (2 ^ 64 - 1) ∷ (2 ^ 64 - 1) ∷ (2 ^ 64 - 1) ∷ []) (g / 64)) (g % 64) ≡ usable_by_kind k g
@@ -120,25 +116,21 @@ both_false : (x y : Bool) → (x ≡ true → y ≡ false) → (x && y) ≡ fals
 both_false x y h = grind arith
 
 pub no_usable_word : (d : Directory) (free : Mask4) → IsDirectory d → HasNoUsable d free → (w : ℕ) → w < 4 → no_usable (deed_word_of d) w (words free w) ≡ true
-no_usable_word d free is none w small = all_below-from 64 (λ b. not (has_bit (words free w) b && usable_by (directory_read (deed_word_of d)) (64 * w + b))) (λ b lt. not_from_false _
-    (ap (λ o. has_bit (words free w) b && usable_by o (64 * w + b)) (read-deed_word_of d is) ∙ both_false (has_bit (words free w) b) (usable_by_kind d.kind (64 * w + b)) (λ set. none (64 * w + b) (omega (arith, small, lt)) (at_word free w b lt ∙ set))))
+no_usable_word d free is none w small = search (arith, all_below-from, not_from_false, read-deed_word_of, both_false, at_word)
 
 -- the first grain of a page is usable
 first_usable : (k : Kind) → IsKind k → usable_by_kind k 0 ≡ true
-first_usable (Kind.Class class) is = let most : 224 ≤ usable_grains class = usable_grains_ge class is in lt-ltb 0 (usable_grains class) (omega (arith, most))
-first_usable s is = refl
+first_usable s is = grind (arith, usable_grains_ge, lt-ltb)
 
 -- so some grain isn't free where no usable one is
 pub none_used : (d : Directory) (free : Mask4) → IsDirectory d → HasNoUsable d free → HasUsed free
 none_used d free is none = (0, omega arith, false_from_ne_true (is_set free 0) (λ set. true≢false (sym (first_usable d.kind is.kind) ∙ none 0 (omega arith) set)))
 
 pub unusable_used : (d : Directory) (free : Mask4) (all_free : Bool) → IsDirectory d → HasNoUsable d free → MatchBool all_free (IsAllFree free) (HasUsed free) → all_free ≡ false
-unusable_used d free true is none all = let used = none_used d free is none in absurd (true≢false (sym (all used.0 used.1) ∙ used.2))
-unusable_used d free false is none all = refl
+unusable_used d free all_free is none all = grind (arith, none_used, true≢false)
 
 pub match_not : (P Q R S : Type 0) (b : Bool) → MatchBool b P Q → (P → S) → (Q → R) → MatchBool (not b) R S
-match_not P Q R S true h f g = f h
-match_not P Q R S false h f g = g h
+match_not P Q R S b h f g = grind arith
 
 -- a word that isn't all ones
 pub used_word : (free : Mask4) → HasUsed free → (w : ℕ) × (w < 4) × (words free w ≢ all_ones)

@@ -17,8 +17,7 @@ use Rattle.pas_rights.proofs.{Looks.looks_are, Looks.looks_few, Looks.looks_only
 
 -- ---- what looks at the free words keep
 pub until_only : (p : ℕ) (used : Option Used) → Only (LookFree ∷ []) (looks_until p used)
-until_only p None = looks_only p ones 4
-until_only p (Some used) = (refl, looks_only p ones used.word)
+until_only p used = grind (arith, looks_only)
 
 pub right_until : (p q : ℕ) (used : Option Used) (v : View) → has_right (looks_until p used ++ v) q ≡ has_right v q
 right_until p q used v = rights_same (LookFree ∷ []) refl q (looks_until p used) v (until_only p used)
@@ -114,44 +113,23 @@ leave_loses p d steps h = subst (Once (LosesHere p)) (sym h.steps_are) (end_lose
 
 -- ---- how many steps they are
 hints_few : (p : ℕ) (all_free : Bool) (steps : List Made) → HintsWhere all_free p steps → length steps ≤ 2
-hints_few p true steps (inl h) = let n : length steps ≡ 1 = ap length h.2 in omega (arith, n)
-hints_few p true steps (inr h) = let n : length steps ≡ 2 = ap length h.1 in omega (arith, n)
-hints_few p false steps h = let n : length steps ≡ 0 = ap length h in omega (arith, n)
+hints_few p all_free steps h = grind arith
 
 reoffer_few : (p : ℕ) (d : Directory) (steps : List Made) → ReofferSteps p d steps → length steps ≤ 2
-reoffer_few p d steps (inl h) = let n : length steps ≡ 1 = ap length h.2 in omega (arith, n)
-reoffer_few p d steps (inr h) = let n : length steps ≡ 2 = ap length h.3 in omega (arith, n)
+reoffer_few p d steps e = grind arith
 
 reoffers_few : (p : ℕ) (d : Directory) (usable : Bool) (steps : List Made) → ReoffersWhere usable p d steps → length steps ≤ 2
-reoffers_few p d true steps h = reoffer_few p d steps h
-reoffers_few p d false steps h = let n : length steps ≡ 0 = ap length h in omega (arith, n)
+reoffers_few p d usable steps h = grind (arith, reoffer_few)
 
 end_few : (p : ℕ) (d : Directory) (usable all_free : Bool) (steps : List Made) → EndsLeave usable p d all_free steps → length steps ≤ 7
-end_few p d true all_free steps h =
-    let n : length steps ≡ length h.after + 1 = ap length h.steps_are ∙ length-append h.after (made (Offer p d) h.offered ∷ []) in
-    let few = hints_few p all_free h.after h.hints in
-    omega (arith, n, few)
-end_few p d false all_free steps h =
-    let looked = made (Park p) h.parked ∷ [] in
-    let n : length steps ≡ length h.after + 5 = ap length h.steps_are ∙ length-append h.after (looks p (words h.later) 4 ++ looked) ∙ ap (λ k. length h.after + k) (length-append (looks p (words h.later) 4) looked) in
-    let few = reoffers_few p d h.usable h.after h.reoffers in
-    omega (arith, n, few)
+end_few p d usable all_free steps h = grind (arith, length-append, hints_few, reoffers_few)
 
 pub leave_few : (p : ℕ) (d : Directory) (steps : List Made) → LeaveSteps p d steps → length steps ≤ 11
 leave_few p d steps h =
-    let n : length steps ≡ length h.after + 4 = ap length h.steps_are ∙ length-append h.after (looks p (words h.free) 4) in
-    let few = end_few p d h.usable h.all_free h.after h.ends in
-    omega (arith, n, few)
+    omega (arith, ap length h.steps_are ∙ length-append h.after (looks p (words h.free) 4), end_few p d h.usable h.all_free h.after h.ends)
 
 pub until_few : (p : ℕ) (used : Option Used) → AreUsed used → length (looks_until p used) ≤ 4
-until_few p None are = omega arith
-until_few p (Some used) are = let n = looks_few p ones used.word in omega (arith, are.within, n)
+until_few p used are = grind (arith, looks_few)
 
 pub return_few : (p : ℕ) (d : Directory) (steps : List Made) → ReturnSteps p d steps → length steps ≤ 8
-return_few p d steps h =
-    let n : length steps ≡ length h.after + (length (looks_until p h.used) + length h.first)
-    = ap length h.steps_are ∙ length-append h.after (looks_until p h.used ++ h.first) ∙ ap (λ k. length h.after + k) (length-append (looks_until p h.used) h.first) in
-    let hints = hints_few p (is_free h.used) h.after h.hints in
-    let looked = until_few p h.used h.are in
-    let first = reoffer_few p d h.first h.reoffers in
-    omega (arith, n, hints, looked, first)
+return_few p d steps h = search (arith, length-append, hints_few, until_few, reoffer_few)

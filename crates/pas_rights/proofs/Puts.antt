@@ -1,14 +1,14 @@
 -- The grains of a mask of one page, put back word by word.
-use Rattle.std.proofs.Common.{◌≡◌, ◌≢◌, ℕ, zero, suc, ◌<◌, ◌+◌, ◌/◌, ◌%◌, ◌≤◌, ◌==◌, nat_lt, Bool, true, false, ◌&&◌, ◌||◌, if◌then◌else◌, List, [], ◌∷◌, ◌++◌}
-use Rattle.std.proofs.Common.{length, slice_index, inl, inr, refl, ap, sym, ◌∙◌, subst, arith, append_assoc, true≢false, eqb-true, ne_eqb, lt-ltb, le-ltb}
+use Rattle.std.proofs.Common.{◌≡◌, ◌≢◌, ℕ, zero, suc, ◌<◌, ◌+◌, ◌/◌, ◌%◌, ◌≤◌, ◌==◌, nat_lt, Bool, true, false, ◌&&◌, ◌||◌, List, [], ◌∷◌, ◌++◌, length}
+use Rattle.std.proofs.Common.{slice_index, inl, inr, refl, ap, sym, ◌∙◌, subst, arith, append_assoc, true≢false, eqb-true, ne_eqb, lt-ltb, le-ltb}
 use Rattle.std.proofs.lemmas.Bool.{cases_eq, and_parts, and_right, Decides.nat_tests}
 use Rattle.pas_bits.specs.{Bits.has_bit, Masks.is_set, Masks.HasMember}
 use Rattle.pas_bits.specs.declared.mask.Mask4.{Mask4}
 use Rattle.pas_bits.proofs.Words.{none_of_zero}
-use Rattle.pas_steps.specs.Calls.{Calls, Does, Kept, Lost, now, put}
-use Rattle.pas_steps.specs.{Effects.in_mask, Frames.IsOnPage, Frames.OnlyOn, InTurn.numbers_below, Desks.Standing, Past.Once, Past.Always}
+use Rattle.pas_steps.specs.{Calls.Calls, Calls.Does, Calls.put, Effects.in_mask, Frames.IsOnPage, Frames.OnlyOn, InTurn.numbers_below, Desks.Standing}
+use Rattle.pas_steps.specs.{Past.Once, Past.Always}
 use Rattle.pas_steps.specs.Kinds.{Putting, Only, is_in, kind_of}
-use Rattle.pas_steps.specs.Views.{View, Move, Stays, Gets, Puts, Ends, grain_move, held_after, holds}
+use Rattle.pas_steps.specs.Views.{View, Move, Puts, grain_move, held_after, holds}
 use Rattle.pas_steps.specs.declared.step.Made.{Made}
 use Rattle.pas_steps.proofs.{Apart.unstamped_same, Called.call_then, Called.call_as, Calls.does_none, Sets.put_both, Sets.put_as, Sets.put_nothing}
 use Rattle.pas_steps.proofs.Past.{in_turn_always, in_turn_length, once_earlier, once_later}
@@ -23,16 +23,14 @@ pub word_none : (page word mask : ℕ) (v : View) → mask ≡ 0 → Does (put (
 word_none page word mask v z = put_nothing (in_mask page word mask) page (does_none v) (λ g. none_in page word mask g z)
 
 word_kind : (page word mask : ℕ) (steps : List Made) → WordPut page word mask steps → Only (Putting ∷ []) steps
-word_kind page word mask steps (inl none) = subst (Only (Putting ∷ [])) (sym none.1) tt
-word_kind page word mask steps (inr some) = subst (Only (Putting ∷ [])) (sym some.2) (refl, tt)
+word_kind page word mask steps e = grind arith
 
 word_on : (page word mask : ℕ) (steps : List Made) → WordPut page word mask steps → OnlyOn page steps
 word_on page word mask steps (inl none) = subst (OnlyOn page) (sym none.1) tt
 word_on page word mask steps (inr some) = subst (OnlyOn page) (sym some.2) (IsOnPage.Puts word mask, tt)
 
 word_few : (page word mask : ℕ) (steps : List Made) → WordPut page word mask steps → length steps ≤ 1
-word_few page word mask steps (inl none) = let n : length steps ≡ 0 = ap length none.1 in omega (arith, n)
-word_few page word mask steps (inr some) = let n : length steps ≡ 1 = ap length some.2 in omega (arith, n)
+word_few page word mask steps e = grind arith
 
 -- ---- the words below n
 abbrev pub masked_below : ℕ → Mask4 → ℕ → ℕ → Bool
@@ -40,13 +38,11 @@ masked_below page mask n g = nat_lt (g / 64 % 4) n && masked page mask g
 
 -- a grain of word n is in its mask there, and one of another word isn't
 behind : (s t u v : Bool) → (s ≡ true → u ≡ v) → (s && t && u) ≡ (s && (t && v))
-behind true t u v same = ap (λ x. t && x) (same refl)
-behind false t u v same = refl
+behind s t u v same = grind arith
 
 pub in_word : (page : ℕ) (mask : Mask4) (n g : ℕ) → in_mask page n (slice_index mask.0 n) g ≡ ((n == g / 64 % 4) && masked page mask g)
 in_word page mask n g = behind (n == g / 64 % 4) (page == g / 256) (has_bit (slice_index mask.0 n) (g % 64)) (is_set mask (g % 256)) (λ e.
-    let at : n ≡ g / 64 % 4 = eqb-true n (g / 64 % 4) e in
-    let word : n ≡ g % 256 / 64 = omega (arith, at) in
+    let word : n ≡ g % 256 / 64 = omega (arith, eqb-true n (g / 64 % 4) e) in
     let bit : g % 64 ≡ g % 256 % 64 = omega arith in
     ap (λ w. has_bit (slice_index mask.0 w) (g % 64)) word ∙ ap (has_bit (slice_index mask.0 (g % 256 / 64))) bit)
 
@@ -54,13 +50,10 @@ pub next_word : (w n : ℕ) → nat_lt w (n + 1) ≡ (nat_lt w n || (n == w))
 next_word w n = grind (arith, nat_tests)
 
 or_same : (m t : Bool) → (m || (t && m)) ≡ m
-or_same true t = refl
-or_same false true = refl
-or_same false false = refl
+or_same m t = grind arith
 
 pub shared : (s t m : Bool) → ((s && m) || (t && m)) ≡ ((s || t) && m)
-shared true t m = or_same m t
-shared false t m = refl
+shared s t m = grind (arith, or_same)
 
 below_more : (page : ℕ) (mask : Mask4) (n g : ℕ) → (masked_below page mask n g || in_mask page n (slice_index mask.0 n) g) ≡ masked_below page mask (n + 1) g
 below_more page mask n g =
@@ -83,8 +76,7 @@ puts_few page mask = in_turn_length (λ word piece. WordPut page word (slice_ind
 
 -- a word of the mask that has any grains is put
 word_made : (page word mask : ℕ) (steps : List Made) → WordPut page word mask steps → mask ≢ 0 → Once (PutsHere page) steps
-word_made page word mask steps (inl none) some = absurd (some none.0)
-word_made page word mask steps (inr puts) some = subst (Once (PutsHere page)) (sym puts.2) (inl (word, mask, refl))
+word_made page word mask steps e some = grind arith
 
 made_below : (page : ℕ) (mask : Mask4) (n w : ℕ) (steps : List Made) → PutsBelow page mask n steps → w < n → slice_index mask.0 w ≢ 0 → Once (PutsHere page) steps
 made_below page mask zero w steps h lt some = absurd (omega (arith, lt))
@@ -101,10 +93,7 @@ some_put page mask steps h some =
 -- ---- what is put was held
 -- what steps hold they hold whatever stood before
 held_too : (move : Move) (a b : Bool) → (a ≡ true → b ≡ true) → held_after move a ≡ true → held_after move b ≡ true
-held_too Stays a b f h = f h
-held_too Gets a b f h = refl
-held_too (Ends x) a b f h = refl
-held_too move a b f h = h
+held_too move a b f h = grind arith
 
 pub holds_more : (g : ℕ) (ys xs : List Made) → holds ys g ≡ true → holds (ys ++ xs) g ≡ true
 holds_more g [] xs h = absurd (true≢false (sym h))
@@ -119,11 +108,7 @@ word_held page mask n xs h g here =
     let at = and_parts (n == g / 64 % 4) (masked page mask g) (sym (in_word page mask n g) ∙ here) in let e : n ≡ g / 64 % 4 = eqb-true n (g / 64 % 4) at.0 in h.0 g at.1 (omega (arith, e))
 
 word_taken : (page : ℕ) (mask : Mask4) (n : ℕ) (piece xs : List Made) → WordPut page n (slice_index mask.0 n) piece → StillHeld page mask n xs → StillHeld page mask (suc n) (piece ++ xs)
-word_taken page mask n piece xs (inl none) h = subst (λ s. StillHeld page mask (suc n) (s ++ xs)) (sym none.1) ((λ g is le. h.0 g is (omega (arith, le))), h.1)
-word_taken page mask n piece xs (inr puts) h = let w = slice_index mask.0 n in subst (λ s. StillHeld page mask (suc n) (s ++ xs)) (sym puts.2) (
-  (λ g is le. ap (λ t. held_after (if t then Puts else Stays) (holds xs g)) (in_word page mask n g ∙ ap (λ t. t && masked page mask g) (ne_eqb n (g / 64 % 4) (λ e. absurd (omega (arith, e, le))))) ∙ h.0 g is (omega (arith, le))),
-  (((λ p same. cc), (λ p u k g same here. let there : in_mask page n w g ≡ true = cc in word_held page mask n xs h g there)), h.1),
-)
+word_taken page mask n piece xs e h = grind (arith, in_word, ne_eqb, word_held)
 
 puts_below : (page : ℕ) (mask : Mask4) (xs : List Made) → ((g : ℕ) → masked page mask g ≡ true → holds xs g ≡ true) → Always GivesDuly xs → (n : ℕ) (steps : List Made) → PutsBelow page mask n steps → StillHeld page mask n (steps ++ xs)
 puts_below page mask xs held all zero steps h = subst (λ s. StillHeld page mask 0 (s ++ xs)) (sym h) ((λ g is le. held g is), all)
@@ -136,10 +121,7 @@ puts_due page mask steps xs order held all = (puts_below page mask xs held all 4
 -- ---- the calls
 pub may_put_word : (page : ℕ) (mask : Mask4) (n : ℕ) (steps : List Made) (v : View) → PutsBelow page mask n steps → MayPut page mask v → Does (put (masked_below page mask n) page) v (steps ++ v) → MayPutWord page n (slice_index mask.0 n) (steps ++ v)
 may_put_word page mask n steps v order met does = record {
-  held = λ g here.
-      let at = and_parts (n == g / 64 % 4) (masked page mask g) (sym (in_word page mask n g) ∙ here) in
-      let past : masked_below page mask n g ≡ false = let e : n ≡ g / 64 % 4 = eqb-true n (g / 64 % 4) at.0 in ap (λ t. t && masked page mask g) (le-ltb (g / 64 % 4) n (omega (arith, e))) in
-      does.held g ∙ ap (λ t. now (if t then Lost else Kept) (holds v g)) past ∙ met.held g at.1;
+  held = search (arith, and_parts, in_word, eqb-true, le-ltb);
   stamped = unstamped_same (Putting ∷ []) refl page steps v (puts_kinds page mask n steps order) ∙ met.stamped;
 }
 
@@ -148,8 +130,7 @@ puts_none page mask v = put_nothing (masked_below page mask 0) page (does_none v
 
 pub puts_more : {σ σ1 σ2 : Standing} (page : ℕ) (mask : Mask4) (n : ℕ) (steps : List Made) → PutsBelow page mask n steps → Calls σ σ1 (MayPut page mask) (Does (put (masked_below page mask n) page)) steps
     → (p : PutsWord page n (slice_index mask.0 n) σ1 σ2) → Calls σ σ2 (MayPut page mask) (Does (put (masked_below page mask (n + 1)) page)) (p.steps ++ steps)
-puts_more page mask n steps order calls p = call_then (Does (put (masked_below page mask (n + 1)) page)) calls p.calls (λ v met d. may_put_word page mask n steps v order met d)
-    (λ v met d e. put_both (masked_below page mask n) (in_mask page n (slice_index mask.0 n)) (masked_below page mask (n + 1)) page d e (below_more page mask n))
+puts_more page mask n steps order calls p = search (arith, call_then, may_put_word, put_both, below_more)
 
 pub puts_all : {σ σ1 : Standing} (page : ℕ) (mask : Mask4) (steps : List Made) → PutsBelow page mask 4 steps → Calls σ σ1 (MayPut page mask) (Does (put (masked_below page mask 4) page)) steps → PutsMask page mask σ σ1
 puts_all page mask steps order calls = record {

@@ -1,16 +1,16 @@
 -- Grains of a page are put back, and what follows that; and its right meanwhile.
-use Rattle.std.proofs.Common.{◌≡◌, ℕ, ◌+◌, ◌*◌, ◌/◌, ◌%◌, ◌==◌, Bool, true, false, if◌then◌else◌, List, [], ◌∷◌, ◌++◌, Option, None, Some, inl, inr, refl, ap}
-use Rattle.std.proofs.Common.{sym, ◌∙◌, subst, arith, append_assoc, length-append, true≢false, eqb-true}
+use Rattle.std.proofs.Common.{◌≡◌, ℕ, ◌+◌, ◌/◌, ◌%◌, ◌==◌, Bool, true, false, if◌then◌else◌, List, [], ◌∷◌, ◌++◌, Option, inl, inr, refl, ap, sym, ◌∙◌, subst}
+use Rattle.std.proofs.Common.{arith, append_assoc, length-append, true≢false, eqb-true}
 use Rattle.std.proofs.lemmas.Bool.{and_right}
 use Rattle.pas_profile.specs.declared.{directory.Directory.Directory, profile.Profile.Profile}
 use Rattle.pas_bits.specs.declared.mask.Mask4.{Mask4}
 use Rattle.pas_bits.specs.Masks.{is_set, IsEmpty, HasMember}
-use Rattle.pas_steps.specs.{Agreement.Agreed, Clear.IsClearOn, Desks.Standing, Desks.CanCall, Desks.made}
+use Rattle.pas_steps.specs.{Agreement.Agreed, Clear.IsClearOn, Desks.Standing, Desks.CanCall}
 use Rattle.pas_steps.specs.Calls.{Calls, Fate, Kept, Lost, later, put, ClearAfter, Does}
 use Rattle.pas_steps.specs.Frames.{IsOnPage, OnlyOn, GivesUp, KeepsRight}
 use Rattle.pas_steps.specs.Kinds.{Kinds, LookFree, LookBacked, Putting, Unparking, Hinting, Only, returning}
 use Rattle.pas_steps.specs.Views.{View, holds, has_right, KnowsDeed}
-use Rattle.pas_steps.specs.declared.step.{Made.Made, Step.TheVariants.Offer, Step.TheVariants.Unpark}
+use Rattle.pas_steps.specs.declared.step.Made.{Made}
 use Rattle.pas_steps.proofs.{Adding.agreed_first, Adding.agreed_later, Kept.returns_on, Past.always_both, Sets.kept_kept}
 use Rattle.pas_steps.proofs.Apart.{only_both, only_within, holds_same, rights_same, unstamped_same, examines_same}
 use Rattle.pas_steps.proofs.Called.{call_none, call_as, call_then, call_knows, next_call}
@@ -28,17 +28,11 @@ abbrev settling : Kinds
 settling = LookFree ∷ LookBacked ∷ Unparking ∷ Hinting ∷ []
 
 hints_settle : (page : ℕ) (all_free : Bool) (steps : List Made) → HintsWhere all_free page steps → Only settling steps
-hints_settle page true steps (inl h) = subst (Only settling) (sym h.2) (refl, tt)
-hints_settle page true steps (inr h) = subst (Only settling) (sym h.1) (refl, (refl, tt))
-hints_settle page false steps h = subst (Only settling) (sym h) tt
+hints_settle page all_free steps h = grind arith
 
 -- the parked bit of a page whose right the actor has is read as 0
 unparks_only : (f : Profile) (page : ℕ) (d : Directory) (steps : List Made) (v : View) → ReofferSteps page d steps → Agreed f v steps → has_right v page ≡ true → Only settling steps
-unparks_only f page d steps v (inl h) agreed right = subst (Only settling) (sym h.2) (refl, tt)
-unparks_only f page d steps v (inr h) agreed right =
-    let here : Agreed f v (made (Offer page d) h.1 ∷ made (Unpark page) h.0 ∷ []) = subst (Agreed f v) h.3 agreed in
-    let whole : 64 * (page / 64) + page % 64 ≡ page = omega arith in
-    absurd (true≢false (sym h.2 ∙ here.1.0.right (page % 64) (omega arith) (ap (has_right v) whole ∙ right)))
+unparks_only f page d steps v e agreed right = grind (arith, true≢false)
 
 return_keeps : (f : Profile) (page : ℕ) (d : Directory) (steps : List Made) (v : View) → ReturnSteps page d steps → Agreed f v steps → has_right v page ≡ true → KeepsRight page steps
 return_keeps f page d steps v h agreed right =
@@ -53,15 +47,10 @@ abbrev pub unparking : Kinds
 unparking = LookFree ∷ Unparking ∷ []
 
 unparks_alone : (f : Profile) (page : ℕ) (d : Directory) (steps : List Made) (v : View) → ReofferSteps page d steps → Agreed f v steps → has_right v page ≡ true → Only unparking steps
-unparks_alone f page d steps v (inl h) agreed right = subst (Only unparking) (sym h.2) (refl, tt)
-unparks_alone f page d steps v (inr h) agreed right =
-    let here : Agreed f v (made (Offer page d) h.1 ∷ made (Unpark page) h.0 ∷ []) = subst (Agreed f v) h.3 agreed in
-    let whole : 64 * (page / 64) + page % 64 ≡ page = omega arith in
-    absurd (true≢false (sym h.2 ∙ here.1.0.right (page % 64) (omega arith) (ap (has_right v) whole ∙ right)))
+unparks_alone f page d steps v e agreed right = grind (arith, true≢false)
 
 hints_not : (f : Profile) (page g : ℕ) (used : Option Used) (v : View) (after : List Made) → HintsWhere (is_free used) page after → Agreed f v (looks_until page used) → g / 256 ≡ page → holds v g ≡ true → Only unparking after
-hints_not f page g None v after h agreed at held = absurd (true≢false (sym (full_bit (g % 64) (omega arith)) ∙ looks_held page ones f 4 v agreed g at (omega arith) held))
-hints_not f page g (Some used) v after h agreed at held = subst (Only unparking) (sym h) tt
+hints_not f page g used v after h agreed at held = grind (arith, true≢false, full_bit, looks_held)
 
 pub return_holds : (f : Profile) (page : ℕ) (d : Directory) (steps : List Made) (v : View) → ReturnSteps page d steps → Agreed f v steps → has_right v page ≡ true → (g : ℕ) → g / 256 ≡ page → holds v g ≡ true → Only unparking steps
 return_holds f page d steps v h agreed right g at held =
@@ -74,8 +63,7 @@ return_holds f page d steps v h agreed right g at held =
 
 -- ---- the page is clear again where it was
 clear_again : (t : Bool) (q : ℕ) (v u : View) → (t ≡ true → IsClearOn q v → IsClearOn q u) → ClearAfter (later (if t then Lost else Kept) (if t then Kept else Kept)) q v u → IsClearOn q v → IsClearOn q u
-clear_again true q v u again h = again refl
-clear_again false q v u again h = h
+clear_again t q v u again h = grind arith
 
 -- a mask that has none
 none_masked : (page : ℕ) (mask : Mask4) (g : ℕ) → IsEmpty mask → masked page mask g ≡ false

@@ -24,17 +24,14 @@ use Rattle.pas_rights.proofs.Words.{each_always, each_few, each_agreed, keeps_by
 
 -- ---- the steps
 word_always : (P : Made → Type 0) (t : Bool) (m : Made) → P m → Always (λ m before. P m) (if t then [] else m ∷ [])
-word_always P true m p = tt
-word_always P false m p = (p, tt)
+word_always P t m p = grind arith
 
 word_few : (t : Bool) (m : Made) → length (if t then [] else m ∷ []) ≤ 1
-word_few true m = omega arith
-word_few false m = omega arith
+word_few t m = grind arith
 
 -- what a grain that is got does to whether it is held
 gets : (t had : Bool) → held_after (if t then Gets else Stays) had ≡ (t || had)
-gets true had = refl
-gets false had = refl
+gets t had = grind arith
 
 or_move : (a b h : Bool) → (a || (b || h)) ≡ ((b || a) || h)
 or_move a b h = grind arith
@@ -59,20 +56,17 @@ module _ (page word mask a : ℕ) where
   one t = if t then [] else made (Take page word mask) a ∷ []
 
   word_holds : (t : Bool) (g : ℕ) (v : View) → (mask == 0) ≡ t → holds (one t ++ v) g ≡ (got_word page word mask a g || holds v g)
-  word_holds true g v e = sym (ap (λ x. (x && has_bit a (g % 64)) || holds v g) (none_in page word mask g (eqb-true mask 0 e)))
-  word_holds false g v e = gets (got_word page word mask a g) (holds v g)
+  word_holds t g v e = grind (arith, none_in, eqb-true, gets)
 
   word_does : (f : Profile) (t : Bool) (v : View) → (mask == 0) ≡ t → Agreed f v (one t) → Does (taken (got_word page word mask a)) v (one t ++ v)
   word_does f true v e agreed = does_as (taken (got_word page word mask a)) (does_none v) (λ g. inl (ap (λ x. if x && has_bit a (g % 64) then Gained else Kept) (sym (none_in page word mask g (eqb-true mask 0 e))))) (λ q. refl) (λ q h. h)
   word_does f false v e agreed = does_as (taken (got_word page word mask a)) (does_step f (Take page word mask) a v refl agreed.0) (λ g. inl (ap_if grain_fate (got_word page word mask a g) Gets Stays)) (λ q. refl) (λ q h. h)
 
   word_agrees : (f : Profile) (t : Bool) (v : View) → (mask == 0) ≡ t → mask ≢ 0 → Agreed f v (one t) → AgreesFree v page word a
-  word_agrees f true v e some agreed = absurd (some (eqb-true mask 0 e))
-  word_agrees f false v e some agreed = agreed.0
+  word_agrees f t v e some agreed = grind (arith, eqb-true)
 
   word_known : (t : Bool) (g : ℕ) (v : View) → word ≢ g / 64 % 4 → known_free (one t ++ v) g ≡ known_free v g
-  word_known true g v ne = refl
-  word_known false g v ne = ap (λ s. if s && (page == g / 256) && has_bit mask (g % 64) then false else known_free v g) (ne_eqb word (g / 64 % 4) ne)
+  word_known t g v ne = grind (arith, ne_eqb)
 
   word_shows : (t : Bool) (r : Readings) (v : View) → (mask == 0) ≡ t → mask ≢ 0 → has_right v page ≡ true → ((b : ℕ) → b < 64 → r (64 * word + b) ≡ has_bit a b) → ((b : ℕ) → b < 64 → holds v (page * 256 + (64 * word + b)) ≡ false)
       → Since (ShowsHere page word r) (KeptHere page) (one t ++ v)
@@ -160,10 +154,7 @@ module _ (page : ℕ) (mask answers got : Mask4) (got_is : (g : ℕ) → is_set 
   some_of g set z = true≢false (sym set ∙ sym (bit_of mask (g / 64 % 4) g refl) ∙ ap (λ n. has_bit n (g % 64)) z ∙ none_of_zero (g % 64))
 
   got_all : (g : ℕ) → got_below page (words mask) (words answers) 4 g ≡ masked page got g
-  got_all g =
-      let m = has_bit (words mask (g / 64 % 4)) (g % 64) in let a = has_bit (words answers (g / 64 % 4)) (g % 64) in
-      ap (λ t. t && ((page == g / 256) && (m && a))) (lt-ltb (g / 64 % 4) 4 (omega arith))
-      ∙ ap (λ t. (page == g / 256) && t) (and_comm m a ∙ ap (λ x. x && m) (bit_of answers (g / 64 % 4) g refl) ∙ ap (λ x. is_set answers (g % 256) && x) (bit_of mask (g / 64 % 4) g refl) ∙ sym (got_is (g % 256)))
+  got_all g = search (arith, lt-ltb, and_comm, bit_of)
 
   -- a grain that wasn't got is held as before
   pub takes_leave : (g : ℕ) (v : View) → masked page got g ≡ false → holds (takes page (words mask) (words answers) 4 ++ v) g ≡ holds v g

@@ -33,8 +33,7 @@ abbrev giving_up : Kinds
 giving_up = Offering ∷ Parking ∷ []
 
 up_kind : (page : ℕ) (s : Step) → GivesUp page s → is_in giving_up (kind_of s) ≡ true
-up_kind page s (GivesUp.Offers d) = refl
-up_kind page s GivesUp.Parks = refl
+up_kind page s e = grind arith
 
 pub keeps_by : (page : ℕ) (ks : Kinds) (steps : List Made) → apart ks giving_up ≡ true → Only ks steps → KeepsRight page steps
 keeps_by page ks steps w = always_map (λ m before. is_in ks (kind_of m.step) ≡ true) (λ m before. GivesUp page m.step → ⊥) steps
@@ -55,11 +54,9 @@ words_read P page steps keeps before right (suc n) word lt here = subst (Since P
 ])
 
 -- ---- bits
+-- A grain's bit lies where division says.
 pub bit_of : (m : Mask4) (n g : ℕ) → n ≡ g / 64 % 4 → has_bit (slice_index m.0 n) (g % 64) ≡ is_set m (g % 256)
-bit_of m n g at =
-    let word : n ≡ g % 256 / 64 = omega (arith, at) in
-    let bit : g % 64 ≡ g % 256 % 64 = omega arith in
-    ap (λ w. has_bit (slice_index m.0 w) (g % 64)) word ∙ ap (has_bit (slice_index m.0 (g % 256 / 64))) bit
+bit_of m n g at = search arith
 
 -- a grain of a page, by its number there
 pub bit_on : (m : Mask4) (page b : ℕ) → b < 256 → has_bit (slice_index m.0 ((page * 256 + b) / 64 % 4)) ((page * 256 + b) % 64) ≡ is_set m b

@@ -11,9 +11,8 @@ use Rattle.pas_scan.specs.{Marks.is_marked, Scan.IsFirstOffered}
 use Rattle.pas_profile.specs.{Directories.IsKind, Directories.number_of, Directories.deed_word_numbered, Profiles.IsPage}
 use Rattle.pas_profile.specs.declared.{directory.Directory.Directory, profile.Profile.Profile, word.Word.Word}
 use Rattle.pas_profile.proofs.Codecs.{numbered}
-use Rattle.pas_steps.specs.Views.{View, has_right, known_deed, deed_after}
-use Rattle.pas_steps.specs.{Agreement.Agreed, Agreement.Agrees, Agreement.AgreesEligible, Past.Once, Frames.IsScan, Frames.OnlyScans, Desks.made}
-use Rattle.pas_steps.specs.{Evidence.ReadsEligible, Evidence.ZeroHere, Evidence.IsSingle}
+use Rattle.pas_steps.specs.{Views.View, Views.has_right, Views.known_deed, Agreement.Agreed, Agreement.Agrees, Agreement.AgreesEligible, Past.Once}
+use Rattle.pas_steps.specs.{Frames.IsScan, Frames.OnlyScans, Desks.made, Evidence.ReadsEligible, Evidence.ZeroHere, Evidence.IsSingle}
 use Rattle.pas_steps.specs.declared.step.{Made.Made, Step.TheVariants.Look}
 use Rattle.pas_steps.proofs.Past.{once_later, once_earlier}
 use Rattle.pas_scan.specs.Rows.{eligible_looks, WordReadHere, shows_page, IsLowestShown, ShowsNone}
@@ -26,12 +25,7 @@ use Rattle.pas_lanes.proofs.Rows.{none_past}
 -- the word of the page got the page's bit
 pub marked_more : (words : List ℕ) (page n p : ℕ) → page / 64 < length words → (p / 64 ≡ page / 64 → is_in_word n p ≡ ((page == p) || is_in_word (get_or words (page / 64) 0) p))
     → is_marked (set words (page / 64) n) p ≡ ((page == p) || is_marked words p)
-marked_more words page n p within added = elim (cases_eq (p / 64) (page / 64)) [
-  | inl same ↦ ap (λ i. is_in_word (get_or (set words (page / 64) n) i 0) p) same ∙ ap (λ m. is_in_word m p) (get_or-set_same words (page / 64) n 0 within)
-      ∙ added same ∙ ap (λ i. (page == p) || is_in_word (get_or words i 0) p) (sym same)
-  | inr ne ↦ ap (λ m. is_in_word m p) (get_or-set_other words (page / 64) (p / 64) n 0 ne)
-      ∙ ap (λ t. t || is_in_word (get_or words (p / 64) 0) p) (sym (ne_eqb page p (λ e. ne (ap (λ x. x / 64) (sym e)))))
-]
+marked_more words page n p within added = search (arith, cases_eq, get_or-set_same, get_or-set_other, ne_eqb)
 
 zeros : (i : ℕ) → ◌≡◌ {A = ℕ} (get_or (replicate 257 0) i 0) 0
 zeros i = elim (cases_lt i 257) [
@@ -72,12 +66,7 @@ zero_row word = elim (cases_lt word 8) [ inl lt ↦ get_or-replicate 8 word 0 0 
 
 pub words_more : (number block word a : ℕ) (row : List ℕ) (steps : List Made) → block ≤ word → word < block + length row → ((b : ℕ) → block ≤ b → b < word → Once (WordReadHere number b (slice_index row (b - block))) steps)
     → (b : ℕ) → block ≤ b → b < word + 1 → Once (WordReadHere number b (slice_index (slice_set row (word - block) a) (b - block))) (made (Look (Word.Eligible number word)) a ∷ steps)
-words_more number block word a row steps from room before b low high = elim (cases_lt b word) [
-  | inl lt ↦ let other : b - block ≢ word - block = λ e. absurd (omega (arith, e, lt, low)) in
-      inr (subst (λ n. Once (WordReadHere number b n) steps) (sym (get_or-set_other row (word - block) (b - block) a 0 other)) (before b low lt))
-  | inr ge ↦ let same : word ≡ b = omega (arith, ge, high) in let place : b - block ≡ word - block = omega (arith, same) in
-      inl (ap (λ w. Look (Word.Eligible number w)) same, sym (ap (slice_index (slice_set row (word - block) a)) place ∙ get_or-set_same row (word - block) a 0 (omega (arith, room, from))))
-]
+words_more number block word a row steps from room before b low high = search (arith, cases_lt, get_or-set_other, get_or-set_same)
 
 pub rest_more : (block word a : ℕ) (row : List ℕ) → block ≤ word → ((b : ℕ) → word ≤ b → slice_index row (b - block) ≡ 0) → (b : ℕ) → word + 1 ≤ b → slice_index (slice_set row (word - block) a) (b - block) ≡ 0
 rest_more block word a row from rest b low = get_or-set_other row (word - block) (b - block) a 0 (λ e. absurd (omega (arith, e, low, from))) ∙ rest b (omega (arith, low))
@@ -109,26 +98,18 @@ stays_so t deed known h = grind arith
 
 one_deed : (number page a from : ℕ) (answers : List ℕ) (v : View) → Once (WordReadHere number (page / 64) a) (eligible_looks number from answers) → has_bit a (page % 64) ≡ true → known_deed (eligible_looks number from answers ++ v) page ≡ deed_word_numbered number
 one_deed number page a from [] v h bit = absurd h
-one_deed number page a from (b ∷ more) v (inl h) bit =
-    let known : ℕ = known_deed (eligible_looks number from more ++ v) page in
-    ap (λ s. deed_after s b page known) h.0 ∙ ap (λ t. if t && has_bit b (page % 64) then deed_word_numbered number else known) (eq-eqb (page / 64) (page / 64) refl)
-    ∙ ap (λ t. if t then deed_word_numbered number else known) (ap (λ n. has_bit n (page % 64)) h.1 ∙ bit)
+one_deed number page a from (b ∷ more) v (inl h) bit = cc (eq-eqb (page / 64) (page / 64) refl)
 one_deed number page a from (b ∷ more) v (inr h) bit =
     stays_so ((from + length more == page / 64) && has_bit b (page % 64)) (deed_word_numbered number) (known_deed (eligible_looks number from more ++ v) page) (one_deed number page a from more v h bit)
 
 -- ---- the pages of a row
+-- A page's bit in its row lies where division says.
 shown_bit : (row : List ℕ) (block p : ℕ) → 64 * block ≤ p → shows_page row block p ≡ has_bit (slice_index row (p / 64 - block)) (p % 64)
-shown_bit row block p low =
-    let word : (p - 64 * block) / 64 ≡ p / 64 - block = omega (arith, low) in
-    let bit : (p - 64 * block) % 64 ≡ p % 64 = omega (arith, low) in
-    ap (λ w. has_bit (slice_index row w) ((p - 64 * block) % 64)) word ∙ ap (has_bit (slice_index row (p / 64 - block))) bit
+shown_bit row block p low = search arith
 
 -- a page that a row shows has its word in it
 pub shown_within : (row : List ℕ) (block end p : ℕ) → ((b : ℕ) → end ≤ b → slice_index row (b - block) ≡ 0) → 64 * block ≤ p → shows_page row block p ≡ true → p < 64 * end
-shown_within row block end p rest low shown = elim (cases_lt p (64 * end)) [
-  | inl lt ↦ lt
-  | inr ge ↦ absurd (true≢false (sym shown ∙ shown_bit row block p low ∙ ap (λ n. has_bit n (p % 64)) (rest (p / 64) (omega (arith, ge))) ∙ none_of_zero (p % 64)))
-]
+shown_within row block end p rest low shown = search (arith, cases_lt, true≢false, shown_bit, none_of_zero)
 
 pub row_zeros : (d : Directory) (next block end stop : ℕ) (row : List ℕ) (steps : List Made) → OnlyScans steps → ((p : ℕ) → next ≤ p → p < 64 * block → Once (ZeroHere d p) steps)
     → ((b : ℕ) → block ≤ b → b < end → Once (WordReadHere (number_of d) b (slice_index row (b - block))) steps) → ((p : ℕ) → next ≤ p → 64 * block ≤ p → p < stop → shows_page row block p ≡ false) → stop ≤ 64 * end
@@ -187,36 +168,23 @@ module _ (row : List ℕ) (block next below : ℕ) (long : length row ≡ 8) (fr
 
   lower_bit : (n : ℕ) → is_set lower n ≡ nat_lt (64 * block + n) next
   lower_bit n = elim (cases_lt n 64) [
-    | inl lt ↦ let word : n / 64 ≡ 0 = omega (arith, lt) in let bit : n % 64 ≡ n = omega (arith, lt) in
-        ap (λ w. has_bit (slice_index lower w) (n % 64)) word ∙ ap (λ m. has_bit m (n % 64)) (get_or-set_same (replicate 8 0) 0 below 0 (omega arith)) ∙ ap (has_bit below) bit ∙ bits n lt
-    | inr ge ↦
-        ap (λ m. has_bit m (n % 64)) (get_or-set_other (replicate 8 0) 0 (n / 64) below 0 (λ e. absurd (omega (arith, e, ge))) ∙ zero_row (n / 64)) ∙ none_of_zero (n % 64)
-        ∙ sym (le-ltb (64 * block + n) next (omega (arith, from, ge)))
+    | inl lt ↦ search (arith, get_or-set_same)
+    | inr ge ↦ search (arith, get_or-set_other, zero_row, none_of_zero, le-ltb)
   ]
 
   open_bit : (n : ℕ) → is_set open_row n ≡ (is_set row n && not (nat_lt (64 * block + n) next))
   open_bit n = elim (cases_lt n 64) [
-    | inl lt ↦ let word : n / 64 ≡ 0 = omega (arith, lt) in let bit : n % 64 ≡ n = omega (arith, lt) in
-        ap (λ w. has_bit (slice_index open_row w) (n % 64)) word ∙ ap (λ m. has_bit m (n % 64)) (get_or-set_same row 0 (bit_and (slice_index row 0) (2 ^ 64 - 1 - below)) 0 (omega (arith, long)))
-        ∙ bit_cleared (slice_index row 0) below (n % 64) fits (omega arith) ∙ ap (λ w. has_bit (slice_index row w) (n % 64) && not (has_bit below (n % 64))) (sym word)
-        ∙ ap (λ t. is_set row n && not t) (ap (has_bit below) bit ∙ bits n lt)
-    | inr ge ↦
-        ap (λ m. has_bit m (n % 64)) (get_or-set_other row 0 (n / 64) (bit_and (slice_index row 0) (2 ^ 64 - 1 - below)) 0 (λ e. absurd (omega (arith, e, ge))))
-        ∙ sym (ap (λ t. is_set row n && not t) (le-ltb (64 * block + n) next (omega (arith, from, ge))) ∙ and-true (is_set row n))
+    | inl lt ↦ search (arith, get_or-set_same, bit_cleared)
+    | inr ge ↦ search (arith, get_or-set_other, le-ltb, and-true)
   ]
 
   -- a row all of whose bits are of pages below the next one
   pub within_none : IsWithin row lower → ShowsNone row block next
-  within_none within p low here = elim (cases_Bool (shows_page row block p)) [
-    | inl shown ↦ let x : ℕ = p - 64 * block in
-        let below_next : 64 * block + (p - 64 * block) < next = ltb-true (64 * block + (p - 64 * block)) next (sym (lower_bit (p - 64 * block)) ∙ within (p - 64 * block) shown) in absurd (omega (arith, below_next, low, here))
-    | inr none ↦ none
-  ]
+  within_none within p low here = search (arith, cases_Bool, ltb-true, lower_bit)
 
   unshown : (p : ℕ) → next ≤ p → 64 * block ≤ p → is_set open_row (p - 64 * block) ≡ false → shows_page row block p ≡ false
   unshown p low here none =
-      let past : nat_lt (64 * block + (p - 64 * block)) next ≡ false = le-ltb (64 * block + (p - 64 * block)) next (omega (arith, low, here)) in
-      sym (and-true (shows_page row block p)) ∙ ap (λ t. shows_page row block p && not t) (sym past) ∙ sym (open_bit (p - 64 * block)) ∙ none
+      cc (and-true (shows_page row block p), le-ltb (64 * block + (p - 64 * block)) next (omega (arith, low, here)), open_bit (p - 64 * block))
 
   pub empty_none : IsEmpty open_row → ShowsNone row block next
   empty_none empty p low here = unshown p low here (empty (p - 64 * block))
@@ -228,10 +196,7 @@ module _ (row : List ℕ) (block next below : ℕ) (long : length row ≡ 8) (fr
       record {
         from_next = ltb-false (64 * block + n) next (not-true (nat_lt (64 * block + n) next) both.1);
         from_block = omega arith;
-        within = elim (cases_lt n 512) [
-          | inl lt ↦ omega (arith, lt)
-          | inr ge ↦ absurd (true≢false (sym both.0 ∙ none_past row n (omega (arith, long, ge))))
-        ];
+        within = search (arith, cases_lt, true≢false, none_past);
         shown = ap (is_set row) place ∙ both.0;
         lower = λ p low here high. unshown p low here (lowest.lowest (p - 64 * block) (omega (arith, here, high)));
       }

@@ -50,23 +50,9 @@ pub members_more : (f : Profile) (marks : List ℕ) (d : Directory) (block first
 members_more f marks d block first page members more a steps before at low bits =
     let open_here : Bool = (a == deed_word_of d) && not (is_marked marks page) in
     record {
-      all = λ v p e ge lt is unmarked. bits p e ∙ elim (cases_eq page p) [
-        | inl same ↦
-            let known : a ≡ deed_word_of d = sym (read_here page a (known_deed (steps ++ v) page)) ∙ subst (λ q. known_deed (made (Look (Word.Deed page)) a ∷ steps ++ v) q ≡ deed_word_of d) (sym same) is in
-            let unmarked' : is_marked marks page ≡ false = ap (is_marked marks) same ∙ unmarked in
-            ap (λ t. ((t && not (is_marked marks page)) && (page == p)) || has_bit members (p % 64)) (eq-eqb a (deed_word_of d) known)
-            ∙ ap (λ t. (not t && (page == p)) || has_bit members (p % 64)) unmarked'
-            ∙ ap (λ t. t || has_bit members (p % 64)) (eq-eqb page p same)
-        | inr ne ↦
-            let known : KnowsDeed p d (steps ++ v) = sym (ap (λ t. if t then a else known_deed (steps ++ v) p) (ne_eqb page p ne)) ∙ is in
-            or_right (open_here && (page == p)) (has_bit members (p % 64)) (before.all v p e ge (omega (arith, lt, ne)) known unmarked)
-      ];
+      all = search (arith, cases_eq, read_here, eq-eqb, ne_eqb, or_right);
       only = λ v p e bit. elim (or_cases (open_here && (page == p)) (has_bit members (p % 64)) (sym (bits p e) ∙ bit)) [
-        | inl both ↦
-            let here = and_parts open_here (page == p) both in
-            let same : page ≡ p = eqb-true page p here.1 in
-            let parts = and_parts (a == deed_word_of d) (not (is_marked marks page)) here.0 in
-            (omega (arith, low, same), omega (arith, same), subst (λ q. known_deed (made (Look (Word.Deed page)) a ∷ steps ++ v) q ≡ deed_word_of d) same (read_here page a (known_deed (steps ++ v) page) ∙ eqb-true a (deed_word_of d) parts.0), ap (is_marked marks) (sym same) ∙ not-true (is_marked marks page) parts.1)
+        | inl both ↦ search (arith, and_parts, eqb-true, read_here, not-true)
         | inr there ↦
             let old = before.only v p e there in let lt = old.1 in
             (old.0, omega (arith, lt), ap (λ t. if t then a else known_deed (steps ++ v) p) (ne_eqb page p (λ h. absurd (omega (arith, h, lt)))) ∙ old.2, old.3)
@@ -91,8 +77,7 @@ parked_more f marks d block end members a ms steps small scans deeds before all 
       inr (once_later (ParkedHere true p) ms steps (before v p low old))
   | inr high ↦
       let at : p / 64 ≡ block = omega (arith, lt, high, limit) in
-      let cut = member_cut f marks d block a p ms steps v is in
-      let bit = all (steps ++ v) p at cut in
+      let bit = all (steps ++ v) p at (member_cut f marks d block a p ms steps v is) in
       let some = is.of_region.0 in
       inl (ReadsParked.Looks block (sym at), not-false (has_bit a (p % 64)) (sym (ap (λ t. t && not (has_bit a (p % 64))) bit) ∙ sym (bit_cleared members a (p % 64) small (omega arith)) ∙ none p some at lt), scans_lack (ms ++ steps) p scans)
 ]
@@ -119,8 +104,7 @@ turn_below block a ms steps deeds below = (omega arith, below_more (65 * block +
 
 pub turn_single : (block a : ℕ) (ms steps : List Made) → InBlock block ms → Below (65 * block) steps → IsSingle ms → IsSingle steps → IsSingle (made (Look (Word.Parked block)) a ∷ (ms ++ steps))
 turn_single block a ms steps deeds below single before =
-    single_more (65 * block + 64) (made (Look (Word.Parked block)) a) (ms ++ steps) (turn_before block ms steps deeds below) (omega arith)
-    (single_append (65 * block) ms steps below (block_from block ms deeds) single before)
+    search (arith, single_more, turn_before, single_append, block_from)
 
 pub turn_kinds : (block a : ℕ) (ms steps : List Made) → InBlock block ms → Only judging steps → Only judging (made (Look (Word.Parked block)) a ∷ (ms ++ steps))
 turn_kinds block a ms steps deeds before =

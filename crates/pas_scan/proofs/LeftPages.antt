@@ -6,13 +6,12 @@ use Rattle.pas_profile.specs.declared.{directory.Directory.Directory, profile.Pr
 use Rattle.pas_steps.specs.Views.{held_after, grain_move, holds, has_right, all_ones}
 use Rattle.pas_steps.specs.Past.{Once, Since}
 use Rattle.pas_steps.specs.Kinds.{Kinds, kind_of, place_of, is_in, apart, moving, righting, Only}
-use Rattle.pas_steps.specs.declared.step.{Step.Step, Made.Made, Step.TheVariants.Deed, Step.TheVariants.Park, Step.TheVariants.Look}
+use Rattle.pas_steps.specs.declared.step.{Step.Step, Made.Made, Step.TheVariants.Deed, Step.TheVariants.Look}
 use Rattle.pas_steps.proofs.Apart.{in_apart, holds_same, rights_same, only_both}
 use Rattle.pas_steps.proofs.{Frames.right_own, Adding.adds_call, Bits.all_set}
 use Rattle.pas_steps.proofs.Past.{once_later, once_earlier, always_map, always_both, once_map}
 use Rattle.pas_steps.specs.Evidence.{OneHere, NoDeedHere, ReadsEligible, ReadsDeed, ReadsFree}
-use Rattle.pas_scan.specs.Usable.{DeedReadHere, OfHere, IsAllFree, WholeHere, ReadUsable, ParksNotHere, IsFresh, UnusableHere, MakesNoDeedHere, LeftAlone}
-use Rattle.pas_scan.specs.Usable.{UsedHere}
+use Rattle.pas_scan.specs.Usable.{DeedReadHere, OfHere, IsAllFree, WholeHere, ReadUsable, ParksNotHere, IsFresh, UnusableHere, LeftAlone, UsedHere}
 use Rattle.std.proofs.{lemmas.Bool.cases_lt, Math.Bool.or-false}
 use Rattle.pas_scan.specs.Runs.{HasUnusable, IsFirstRun, HasNoRun, page_looks, FreeLookHere, UsedLookHere, LooksFree, ReadsUsable}
 use Rattle.pas_profile.specs.Directories.{number_of, deed_word_of}
@@ -37,12 +36,7 @@ pub holds_none_by : (ks : Kinds) → apart ks moving ≡ true → (g : ℕ) (xs 
 holds_none_by ks none g xs only = sym (holds_own g xs [] refl) ∙ holds_same ks none g xs [] only
 
 pub left_alone_by : (ks : Kinds) → apart ks righting ≡ true → apart ks moving ≡ true → (p : ℕ) (xs : List Made) → Only ks xs → LeftAlone p xs
-left_alone_by ks rights grains p xs only = record {
-  right = lacks_by ks rights p xs only;
-  none = λ g at. holds_none_by ks grains g xs only;
-  parks = always_map (λ m before. is_in ks (kind_of m.step) ≡ true) (ParksNotHere p) xs (λ m before is. other_kind ks rights m.step (Park p) refl is) only;
-  deeds = always_map (λ m before. is_in ks (kind_of m.step) ≡ true) (MakesNoDeedHere p) xs (λ m before is d e z. other_kind ks rights m.step (Deed p d) refl is e) only;
-}
+left_alone_by ks rights grains p xs only = search (arith, lacks_by, holds_none_by, always_map, other_kind)
 
 -- ---- readings
 pub since_earlier : (P Q R S : Made → List Made → Type 0) (ys xs : List Made) → ((m : Made) (before : List Made) → P m before → R m (before ++ xs)) → ((m : Made) (before : List Made) → Q m before → S m (before ++ xs)) → Since P Q ys → Since R S (ys ++ xs)
@@ -87,12 +81,7 @@ unusable_before d p ys xs alone h = once_earlier (UnusableHere d p) (UnusableHer
 
 -- ---- later steps
 pub usable_later : (d : Directory) (p : ℕ) (ys xs : List Made) → ReadUsable d p xs → ReadUsable d p (ys ++ xs)
-usable_later d p ys xs (inl bare) = inl (once_later (NoDeedHere p) ys xs bare)
-usable_later d p ys xs (inr whole) = inr record {
-  of = once_later (OfHere d p) ys xs whole.of;
-  offered = once_later (OneHere d p) ys xs whole.offered;
-  free = λ w lt. once_later (WholeHere p w) ys xs (whole.free w lt);
-}
+usable_later d p ys xs e = grind (arith, once_later)
 
 pub deed_before : (p : ℕ) (ys xs : List Made) → Once (DeedReadHere p) ys → Once (DeedReadHere p) (ys ++ xs)
 deed_before p ys xs h = once_earlier (DeedReadHere p) (DeedReadHere p) ys xs (λ m before h. h) h
@@ -111,20 +100,12 @@ pub record RunSoFar (d : Directory) (from next n page length : ℕ) (steps : Lis
 unusable_later : (d : Directory) (n s : ℕ) (ys xs : List Made) → HasUnusable d n s xs → HasUnusable d n s (ys ++ xs)
 unusable_later d n s ys xs h = (h.0, h.1, once_later (UnusableHere d h.0) ys xs h.2)
 
+-- No page lies between the run's start and its length so far.
 pub run_none : (d : Directory) (from next n length : ℕ) → from ≤ next → next < from + n → length ≡ next - from → RunSoFar d from next n next length []
-run_none d from next n length le some long = record {
-  short = omega (arith, le, some, long);
-  within = omega (arith, le, long);
-  usable = λ p ge high lt. absurd (omega (arith, high, lt));
-  lower = λ s ge lt. absurd (omega (arith, ge, lt, le, long));
-  deeds = λ p ge lt. absurd (omega (arith, ge, lt));
-}
+run_none d from next n length le some long = search arith
 
 deeds_more : (from page : ℕ) (ys xs : List Made) → ((p : ℕ) → from ≤ p → p < page → Once (DeedReadHere p) xs) → Once (DeedReadHere page) ys → (p : ℕ) → from ≤ p → p < page + 1 → Once (DeedReadHere p) (ys ++ xs)
-deeds_more from page ys xs before here p ge lt = elim (cases_lt p page) [
-  | inl low ↦ once_later (DeedReadHere p) ys xs (before p ge low)
-  | inr high ↦ let same : page ≡ p = omega (arith, lt, high) in subst (λ q. Once (DeedReadHere q) (ys ++ xs)) same (deed_before page ys xs here)
-]
+deeds_more from page ys xs before here p ge lt = search (arith, cases_lt, once_later, deed_before)
 
 -- one usable page more
 pages_more : (d : Directory) (next page length : ℕ) (ys xs : List Made) → LeftAlone page xs → ((p : ℕ) → page ≤ p + length → next ≤ p → p < page → ReadUsable d p xs) → ReadUsable d page ys → (p : ℕ) → page + 1 ≤ p + (length + 1) → next ≤ p → p < page + 1 → ReadUsable d p (ys ++ xs)
@@ -172,12 +153,9 @@ run_found f d from next n page length ys xs true some alone le so_far deed here 
   deeds = λ p ge lt. deeds_more next page ys xs so_far.deeds deed p ge (omega (arith, within, e, lt));
 }
 
--- no run is
+-- no run is, since what was so up to the last page is so up to the end
 pub run_ended : (f : Profile) (d : Directory) (from next n page length : ℕ) (xs : List Made) → f.pages + 1 ≤ page → RunSoFar d from next n page length xs → HasNoRun f d from next n xs
-run_ended f d from next n page length xs end so_far = let short = so_far.short in record {
-  runs = λ s ge le. so_far.lower s ge (omega (arith, short, le, end));
-  deeds = λ p ge le. so_far.deeds p ge (omega (arith, le, end));
-}
+run_ended f d from next n page length xs end so_far = search arith
 
 -- ==== The looks at one page, and what they show.
 
@@ -240,10 +218,7 @@ offered_free d page a e true ys are is bit free =
 
 -- ---- the looks at free words, one more
 pub free_more : (page word a : ℕ) (ys : List Made) → a ≡ all_ones → ((w : ℕ) → w < word → Once (FreeLookHere page w) ys) → (w : ℕ) → w < word + 1 → Once (FreeLookHere page w) (made (Look (Word.Free page word)) a ∷ ys)
-free_more page word a ys e before w lt = elim (cases_lt w word) [
-  | inl low ↦ inr (before w low)
-  | inr high ↦ let same : w ≡ word = omega (arith, lt, high) in inl (ap (λ i. Look (Word.Free page i)) (sym same), e)
-]
+free_more page word a ys e before w lt = search (arith, cases_lt)
 
 -- ---- all looks at a page that is of the directory and offered
 pub reads_by : {σ σ1 σ2 : Standing} (d : Directory) (page a e : ℕ) (free : Bool) → Adds σ σ1 AnyView (two_looks d page a e) → a ≡ deed_word_of d → has_bit e (page % 64) ≡ true → LooksFree page σ1 σ2 free → ReadsUsable d page σ σ2 free

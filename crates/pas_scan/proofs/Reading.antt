@@ -11,8 +11,7 @@ use Rattle.pas_scan.specs.{Rows.looks_from, Scan.IsFirstBare}
 
 -- ---- these looks give no right
 scan_right : (s : Step) (a p : ℕ) (had : Bool) → IsScan s → right_after s a p had ≡ had
-scan_right s a p had (IsScan.LooksEligible d j) = refl
-scan_right s a p had step = refl
+scan_right s a p had step = grind arith
 
 pub right_scans : (steps : List Made) (v : View) (p : ℕ) → OnlyScans steps → has_right (steps ++ v) p ≡ has_right v p
 right_scans [] v p h = refl

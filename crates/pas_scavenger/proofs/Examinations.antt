@@ -12,15 +12,15 @@ use Rattle.pas_steps.proofs.{Past.once_later}
 use Rattle.pas_rights.specs.{Words.full, Words.ones, Takes.takes, Leaves.MayLeave, Leaves.Leaves, Puts.masked, Puts.PutsMask, PutsBack.MayPutAndReturn}
 use Rattle.pas_rights.specs.{PutsBack.given_back, Returns.Returned, Claims.Claims}
 use Rattle.pas_rights.proofs.{Looks.full_set, Looks.looks_only, Puts.puts_kinds, Puts.puts_few, PutsBack.may_return as may_settle, PutsBack.returned_call}
-use Rattle.pas_profile.specs.declared.{directory.Directory.Directory, profile.Profile.Profile, word.Word.Word, event.Event.Event, event.Outcome.Outcome}
+use Rattle.pas_profile.specs.declared.{directory.Directory.Directory, profile.Profile.Profile, word.Word.Word, event.Outcome.Outcome}
 use Rattle.pas_steps.specs.Calls.{Kept, Gained, now, on_page, Does, Calls, Lost, ClearAfter}
 use Rattle.pas_steps.specs.{Clear.IsClear, Clear.HasNothing, Agreement.Agreed, Allowed.IsEpochKnown, Allowed.MayUnback, Events.events_by, Evidence.ReadsFree}
 use Rattle.pas_steps.specs.{Past.Once}
 use Rattle.pas_steps.specs.Desks.{made, Standing, Makes, Adds, CanCall}
 use Rattle.pas_steps.specs.Kinds.{LookFree, Taking, Only, Kinds, LookDeed, LookBacked, LookStamp, Claiming, Hinting, Unbacking, Unhinting, apart, unstamping}
 use Rattle.pas_steps.specs.Kinds.{within, Putting, returning}
-use Rattle.pas_steps.specs.Views.{View, Gets, Stays, held_after, holds, has_right, all_ones, examines, holds_on, holds_all, knows_backed, known_stamp, or_zero}
-use Rattle.pas_steps.specs.Views.{known_epoch, KnowsDeed, known_deed, ReadBacked}
+use Rattle.pas_steps.specs.Views.{View, Gets, Stays, held_after, holds, has_right, all_ones, examines, holds_on, holds_all, knows_backed, or_zero, known_epoch}
+use Rattle.pas_steps.specs.Views.{KnowsDeed, known_deed, ReadBacked}
 use Rattle.pas_steps.specs.declared.step.Made.{Made}
 use Rattle.pas_steps.specs.declared.step.Step.TheVariants.{TakeRight, Unhint, Look, Hint}
 use Rattle.pas_steps.proofs.Apart.{holds_same, rights_same, unstamped_same, only_within, only_both, epoch_same, events_same, no_events}
@@ -57,22 +57,15 @@ pub grains_before : (run : Mask4) (word value : ℕ) → length run.0 ≡ 4 → 
 grains_before run word value four lt before g =
     let bit = has_bit value (g % 64) in
     elim (cases_eq word (g / 64)) [
-      | inl e ↦
-          let at : word < length run.0 = omega (arith, four, lt) in
-          ap (λ n. has_bit (slice_index (slice_set run.0 word value) n) (g % 64)) (sym e) ∙ ap (λ n. has_bit n (g % 64)) (rw get_or-set_same refl)
-          ∙ sym (ap (λ t. t || ((word == g / 64) && bit)) (le-ltb (g / 64) word (omega (arith, e))) ∙ ap (λ t. t && bit) (eq-eqb word (g / 64) e))
-      | inr ne ↦
-          let other : (g / 64 ≡ word → ⊥) = λ e. ne (sym e) in
-          ap (λ n. has_bit n (g % 64)) (rw get_or-set_other refl) ∙ before g ∙ run_below word g
-          ∙ sym (ap (λ t. nat_lt (g / 64) word || (t && bit)) (ne_eqb word (g / 64) ne) ∙ or-false (nat_lt (g / 64) word))
+      | inl e ↦ search (arith, get_or-set_same, le-ltb, eq-eqb)
+      | inr ne ↦ search (arith, get_or-set_other, run_below, ne_eqb, or-false)
     ]
 
 -- ==== Takes of the grains of a page, and what the actor holds and has on the way through one page.
 
 -- ---- the steps
 pub takes_are : (page : ℕ) (used : Option Used) → Only (Taking ∷ []) (takes_until page used)
-takes_are page None = takes_only page ones ones 4
-takes_are page (Some used) = (refl, takes_only page ones ones used.word)
+takes_are page used = grind (arith, takes_only)
 
 -- ---- what is held then
 both_order : (x p : Bool) → (x && (p && true)) ≡ (p && x)
@@ -80,9 +73,7 @@ both_order x p = grind arith
 
 -- all grains of the words below n are got
 below : (page n g : ℕ) → got_below page ones ones n g ≡ ((page == g / 256) && nat_lt (g % 256 / 64) n)
-below page n g =
-    let p = page == g / 256 in let word : g / 64 % 4 ≡ g % 256 / 64 = omega arith in
-    ap (λ b. nat_lt (g / 64 % 4) n && (p && (b && b))) (full_bit (g % 64) (omega arith)) ∙ both_order (nat_lt (g / 64 % 4) n) p ∙ ap (λ w. p && nat_lt w n) word
+below page n g = search (arith, full_bit, both_order)
 
 one_take : (s p u b r : Bool) → u ≡ true → held_after (if ((s && p) && u) && b then Gets else Stays) (p && r) ≡ (p && (r || (s && b)))
 one_take s p u b r e = grind arith
@@ -91,27 +82,17 @@ pub takes_hold : (page n g : ℕ) (v : View) → holds v g ≡ false → holds (
 takes_hold page n g v none = grains_held page ones ones n g v ∙ ap (λ t. got_below page ones ones n g || t) none ∙ or-false (got_below page ones ones n g) ∙ below page n g
 
 until_holds : (page : ℕ) (used : Option Used) (g : ℕ) (v : View) → holds v g ≡ false → holds (takes_until page used ++ v) g ≡ ((page == g / 256) && was_free used (g % 256))
-until_holds page None g v none = takes_hold page 4 g v none
-until_holds page (Some used) g v none =
-    let p = page == g / 256 in let w = used.word in let a = used.value in let r = nat_lt (g % 256 / 64) w in
-    let word : g / 64 % 4 ≡ g % 256 / 64 = omega arith in let bit : g % 64 ≡ g % 256 % 64 = omega arith in
-    ap (held_after (if (((w == g / 64 % 4) && p) && has_bit all_ones (g % 64)) && has_bit a (g % 64) then Gets else Stays)) (takes_hold page w g v none)
-    ∙ one_take (w == g / 64 % 4) p (has_bit all_ones (g % 64)) (has_bit a (g % 64)) r (full_bit (g % 64) (omega arith))
-    ∙ ap (λ n. p && (r || ((w == n) && has_bit a (g % 64)))) word ∙ ap (λ n. p && (r || ((w == g % 256 / 64) && has_bit a n))) bit
+until_holds page used g v none = grind (arith, takes_hold, one_take, full_bit)
 
 -- a take of all grains of a word ends the examination, whatever it read
 ends_it : (a : ℕ) → (not (a == all_ones) || not (bit_and a all_ones == 0)) ≡ true
-ends_it a = elim (cases_Bool (a == all_ones)) [
-  | inl e ↦ subst (λ x. (not (x == all_ones) || not (bit_and x all_ones == 0)) ≡ true) (sym (eqb-true a all_ones e)) refl
-  | inr e ↦ ap (λ t. not t || not (bit_and a all_ones == 0)) e
-]
+ends_it a = search (arith, cases_Bool, eqb-true)
 
 ended_by : (page : ℕ) (t was : Bool) → t ≡ true → (if (page == page) && t then false else was) ≡ false
 ended_by page t was is = ap (λ u. if u && t then false else was) (same_page page) ∙ ap (λ u. if u then false else was) is
 
 takes_examined : (page : ℕ) (used : Option Used) (v : View) → examines (takes_until page used ++ v) page ≡ false
-takes_examined page None v = ended_by page _ (examines (takes page ones ones 3 ++ v) page) (ends_it all_ones)
-takes_examined page (Some used) v = ended_by page _ (examines (takes page ones ones used.word ++ v) page) (ends_it used.value)
+takes_examined page used v = grind (arith, ended_by, ends_it)
 
 -- ---- from one state to the next
 at_over : {page : ℕ} {grains grains' : ℕ → Bool} {right right' : Bool} (ks : Kinds) → apart ks unstamping ≡ true → apart ks opening ≡ true → apart ks (Unhinting ∷ []) ≡ true → (steps : List Made) (v : View) → Only ks steps
@@ -189,9 +170,7 @@ may_unback f page epoch b stamp used v whole some old met agreed =
       stamped = met.stamped;
       backed = and_from (knows_backed (made (Look (Word.Backed page)) b ∷ v) page) (holds_on v page) read on;
       stamp = stamp;
-      known =
-          let known = known_stamp (made (Look (Word.Backed page)) b ∷ v) page in
-          ap (λ t. if t then (if page == page then Some stamp else known) else None) all ∙ ap (λ t. if t then Some stamp else known) (same_page page);
+      known = cc (same_page page);
       read = subst IsEpochKnown (sym met.epoch_is) tt;
       old = subst (λ o. stamp + f.age ≤ or_zero o) (sym met.epoch_is) old;
     }
@@ -245,18 +224,13 @@ back_sized page d grains steps h = sized_at h.steps_are
     (sized_as quiet refl (sized (Putting ∷ []) 4 (puts_kinds page grains 4 h.puts h.order) (puts_few page grains h.puts h.order)))))
 
 takes_few : (page : ℕ) (used : Option Used) → AreUsed used → length (takes_until page used) ≤ 4
-takes_few page None are = grains_few page ones ones 4
-takes_few page (Some used) are = let n = grains_few page ones ones used.word in omega (arith, are.within, n)
+takes_few page used are = grind (arith, grains_few)
 
 takes_sized : (page : ℕ) (used : Option Used) → AreUsed used → Sized quiet 4 (takes_until page used)
 takes_sized page used are = sized_as quiet refl (sized (Taking ∷ []) 4 (takes_are page used) (takes_few page used are))
 
 judged_sized : (age epoch page : ℕ) (used : Option Used) (outcome : Outcome) (steps : List Made) → Judged age epoch page used outcome steps → Sized idle 3 steps
-judged_sized age epoch page used (InUse w v) steps h = sized_at h.1 (sized idle 3 tt (omega arith))
-judged_sized age epoch page used Bare steps h = sized_at h.1 (sized idle 3 (refl, tt) (omega arith))
-judged_sized age epoch page used (Young s) steps h = sized_at h.4 (sized idle 3 (refl, (refl, tt)) (omega arith))
-judged_sized age epoch page used Unbacked steps h = sized_at h.6 (sized idle 3 (refl, (refl, (refl, tt))) (omega arith))
-judged_sized age epoch page used NotOffered steps h = absurd h
+judged_sized age epoch page used outcome steps h = grind (arith, sized_at, sized)
 
 pub examine_sized : (age epoch page : ℕ) (outcome : Outcome) (steps : List Made) → ExamineSteps age epoch page outcome steps → Sized examining 37 steps
 examine_sized age epoch page outcome steps (inl h) = let w = without_sized page outcome steps h in sized_as examining refl (sized quiet 37 w.only (omega (arith, w.few)))
@@ -273,19 +247,15 @@ judged_event k age epoch page used Bare steps rest v h only known = ap (λ s. ev
 judged_event k age epoch page used (Young s) steps rest v h only known = ap (λ s. events_by k v (s ++ rest)) h.4 ∙ no_events quiet refl k v (two_looks page h.0 s ++ rest) (refl, (refl, only))
 judged_event k age epoch page used Unbacked steps rest v h only known =
     let looked = two_looks page h.0 h.1 ++ rest in
-    ap (λ s. events_by k v (s ++ rest)) h.6 ∙ ap (λ o. Event.Unback k page (or_zero o) ∷ events_by k v looked) (epoch_same quiet refl looked v (refl, (refl, only)) ∙ known)
-    ∙ ap (λ es. Event.Unback k page epoch ∷ es) (no_events quiet refl k v looked (refl, (refl, only)))
+    cc (epoch_same quiet refl looked v (refl, (refl, only)), known, no_events quiet refl k v looked (refl, (refl, only)))
 judged_event k age epoch page used NotOffered steps rest v h only known = absurd h
 
 without_none : (k epoch page : ℕ) (outcome : Outcome) (steps : List Made) → EndsWithout page outcome steps → unback_of k epoch page outcome ≡ []
-without_none k epoch page Unbacked steps h = absurd h
-without_none k epoch page (Young s) steps h = absurd h
-without_none k epoch page other steps h = refl
+without_none k epoch page other steps h = grind arith
 
 -- the steps of an examination with the right, in order
 pub taken_on : (age epoch page : ℕ) (outcome : Outcome) (steps : List Made) (h : EndsWith age epoch page outcome steps) → steps ≡ h.takes.back ++ (h.takes.after ++ (takes_until page h.takes.used ++ h.asked))
-taken_on age epoch page outcome steps h = let t = h.takes in
-    h.steps_are ∙ ap (λ s. s ++ h.asked) t.steps_are ∙ append_assoc t.back (t.after ++ takes_until page t.used) h.asked ∙ ap (λ s. t.back ++ s) (append_assoc t.after (takes_until page t.used) h.asked)
+taken_on age epoch page outcome steps h = search (arith, append_assoc)
 
 pub examine_event : (k age epoch page : ℕ) (outcome : Outcome) (steps : List Made) (v : View) → ExamineSteps age epoch page outcome steps → known_epoch v ≡ Some epoch → events_by k v steps ≡ unback_of k epoch page outcome
 examine_event k age epoch page outcome steps v (inl h) known = no_events quiet refl k v steps (without_sized page outcome steps h).only ∙ sym (without_none k epoch page outcome steps h)
@@ -355,11 +325,7 @@ module _ {σ σ1 : Standing} (page : ℕ) (d : Directory) (epoch : ℕ) (used : 
   took = call_by t.adds (λ v met. met.at.rights page ∙ same_page page) (λ v met agreed. is_taken v met)
 
   may_judge : (v : View) → IsTaken page epoch grains v → MayJudge page epoch used v
-  may_judge v is = record {
-    held = λ whole g here. is.at.held g ∙ and_from (page == g / 256) (is_set grains (g % 256)) (eq-eqb page (g / 256) (sym here)) (got (g % 256) ∙ ap (λ u. was_free u (g % 256)) whole ∙ lt-ltb (g % 256 / 64) 4 (omega arith));
-    stamped = is.at.stamped page;
-    epoch_is = is.epoch_is;
-  }
+  may_judge v is = search (arith, and_from, eq-eqb, lt-ltb)
 
   pub can_judge : CanCall σ (MayTake page d epoch) → CanCall σ1 (MayJudge page epoch used)
   can_judge can = next_call took can (λ v met is. may_judge (takes_until page used ++ v) is)

@@ -1,7 +1,7 @@
 -- Tries of pages, one after the other, and the whole pass.
 use Rattle.std.proofs.Common.{◌≡◌, ℕ, true, List, length, ap, arith, zero, suc, ◌+◌, ◌-◌, ◌*◌, ◌%◌, ◌<◌, ◌≤◌, ◌==◌, Bool, false, ◌&&◌, if◌then◌else◌, [], ◌∷◌}
 use Rattle.std.proofs.Common.{◌++◌, Option, None, Some, refl, sym, ◌∙◌, subst, inl, inr, append_assoc, length-append, reverse, map, append-nil}
-use Rattle.pas_profile.specs.declared.{event.Event.Event, event.Outcome.Outcome, event.Outcome.TheVariants.Unbacked, profile.Profile.Profile, word.Word.Word}
+use Rattle.pas_profile.specs.declared.{event.Event.Event, event.Outcome.Outcome, profile.Profile.Profile, word.Word.Word}
 use Rattle.pas_steps.specs.{Calls.Calls, Calls.nothing, Calls.Does, Views.View, Views.examines, Agreement.AgreesEmpty, Clear.HasNothing, Events.events_by}
 use Rattle.pas_steps.specs.{InTurn.InTurn, InTurn.numbers_below}
 use Rattle.pas_steps.specs.Desks.{Standing, CanCall, Makes, made}
@@ -26,8 +26,7 @@ same_room {σ} {B = B} {xs = xs} ks w spare spare' c can only old new =
 
 -- ---- outcomes and events of some pages and of more
 with_append : (page : ℕ) (o : Option Outcome) (xs ys : List (ℕ × Outcome)) → with_outcome page o (xs ++ ys) ≡ with_outcome page o xs ++ ys
-with_append page None xs ys = refl
-with_append page (Some o) xs ys = refl
+with_append page o xs ys = grind arith
 
 pub outcomes_append : (xs ys : List Tried) → outcomes_in (xs ++ ys) ≡ outcomes_in xs ++ outcomes_in ys
 outcomes_append [] ys = refl
@@ -38,12 +37,10 @@ unbacks_append k epoch [] ys = refl
 unbacks_append k epoch (x ∷ xs) ys = ap (λ es. unback_of k epoch x.0 x.1 ++ es) (unbacks_append k epoch xs ys) ∙ sym (append_assoc (unback_of k epoch x.0 x.1) (unbacks_in k epoch xs) (unbacks_in k epoch ys))
 
 pub one_unback : (k epoch page : ℕ) (o : Outcome) → length (unback_of k epoch page o) ≤ 1
-one_unback k epoch page Unbacked = omega arith
-one_unback k epoch page other = omega arith
+one_unback k epoch page other = grind arith
 
 few_unbacks : (k epoch page : ℕ) (o : Option Outcome) → length (unbacks_in k epoch (with_outcome page o [])) ≤ 1
-few_unbacks k epoch page None = omega arith
-few_unbacks k epoch page (Some o) = let n = length-append (unback_of k epoch page o) [] in let one = one_unback k epoch page o in omega (arith, n, one)
+few_unbacks k epoch page o = grind (arith, length-append, one_unback)
 
 -- ---- a look that leaves the actor ready
 pub nothing_still : {v w : View} → Does nothing v w → HasNothing v → HasNothing w
@@ -67,8 +64,7 @@ tries_then {σ} {epoch = epoch} {earlier} {later} {before} {middle} {after} {xs}
   events = λ v known.
       let there : events_by k (xs ++ v) ys ≡ unbacks_in k epoch (outcomes_in later)
       = subst (λ s. events_by s.actor (xs ++ v) ys ≡ unbacks_in s.actor epoch (outcomes_in later)) a.calls.adds.seat_is (b.events (xs ++ v) (epoch_same trying refl xs v a.kinds ∙ known)) in
-      events_append k ys xs v ∙ ap (λ es. es ++ events_by k v xs) there ∙ ap (λ es. unbacks_in k epoch (outcomes_in later) ++ es) (a.events v known)
-      ∙ sym (unbacks_append k epoch (outcomes_in later) (outcomes_in earlier)) ∙ ap (unbacks_in k epoch) (sym (outcomes_append later earlier));
+      cc (events_append k ys xs v, a.events v known, unbacks_append k epoch (outcomes_in later) (outcomes_in earlier), outcomes_append later earlier);
 }
 
 pub spare_by : {σ σ' : Standing} {epoch : ℕ} {tried : List Tried} {before after : List (ℕ × Outcome)} {steps : List Made} (spare spare' : ℕ) → Tries epoch tried σ σ' before after steps → CanCall σ (IsReady epoch) → Spares σ spare → Spares σ' spare' → spare' + length (unbacks_in σ.seat.actor epoch (outcomes_in tried)) ≡ spare
@@ -78,14 +74,11 @@ pub spare_page : {σ σ' : Standing} {page epoch : ℕ} {before after : List (�
 spare_page {σ} {page = page} {epoch} spare spare' t can old new = let e = spare_by spare spare' t.tries can old new in let few = few_unbacks σ.seat.actor epoch page t.outcome in omega (arith, e, few)
 
 one_more : (page : ℕ) (o : Option Outcome) → length (with_outcome page o []) ≤ 1
-one_more page None = omega arith
-one_more page (Some o) = omega arith
+one_more page o = grind arith
 
 -- at most one pair more
 pub one_pair : (page : ℕ) (o : Option Outcome) (before after : List (ℕ × Outcome)) → reverse after ≡ with_outcome page o [] ++ reverse before → length after ≤ length before + 1
-one_pair page o before after pairs =
-    let n = sym (length-reverse after) ∙ ap (λ (xs : List (ℕ × Outcome)). length xs) pairs ∙ length-append (with_outcome page o []) (reverse before) in let old = length-reverse before in
-    let few = one_more page o in omega (arith, n, old, few)
+one_pair page o before after pairs = search (arith, length-reverse, length-append, one_more)
 
 -- ---- one page
 not_begun : (page a : ℕ) (was : Bool) → has_bit a (page % 64) ≡ false → was ≡ false → (if (page == page) && has_bit a (page % 64) then true else was) ≡ false
@@ -127,8 +120,7 @@ module _ {σ σ1 : Standing} (page epoch a : ℕ) (makes : Makes σ σ1 (Unhint 
           calls = call_then (λ v w. IsReady epoch w) unhinted c (λ v met may. may) (λ v met may r. r);
           pairs = ap reverse added ∙ reverse-append before (pair page outcome ∷ []);
           kinds = only_both trying x.steps unhint (only_within examining trying x.steps refl x.kinds) (refl, tt);
-          events = λ v known. events_append σ.seat.actor x.steps unhint v
-              ∙ ap (λ es. es ++ []) (subst (λ s. events_by s.actor (unhint ++ v) x.steps ≡ unback_of s.actor epoch page outcome) makes.seat_is (x.event (unhint ++ v) known));
+          events = search (arith, events_append);
         };
         few = let n = length-append x.steps unhint in omega (arith, n, x.few);
       }
@@ -198,8 +190,7 @@ module _ {σ σ1 : Standing} (epoch : ℕ) (makes : Makes σ σ1 (Look Word.Epoc
           found_are = found_are;
           steps_are = refl;
           kinds = only_both passing read look (only_within trying passing read refl tries.kinds) (refl, tt);
-          events = λ v. events_append k read look v ∙ append-nil (events_by k (look ++ v) read)
-              ∙ subst (λ s. events_by s.actor (look ++ v) read ≡ unbacks_in s.actor epoch (outcomes_in (all_tried words))) same (tries.events (look ++ v) refl) ∙ ap (unbacks_in k epoch) (sym found_are);
+          events = search (arith, events_append, append-nil);
           few = let n = length-append read look in let most = subst (λ s. length read ≤ vector_words s.profile.pages + 38 * length (all_tried words)) same few in omega (arith, n, most);
         };
         calls = call_then (λ v w. HasNothing w) read_epoch tries.calls (λ v met is. is) (λ v met is r. r.nothing);

@@ -1,5 +1,5 @@
 -- A search whose actor alone made steps meanwhile: its promise is what the law of the lone search asks.
-use Rattle.std.proofs.Common.{◌≡◌, ◌≢◌, ℕ, Bool, false, List, ◌++◌, ◌⊎◌, inl, inr, refl, ap, sym, ◌∙◌, true≢false, Result, Ok, Err, MatchResult}
+use Rattle.std.proofs.Common.{arith, ◌≡◌, ◌≢◌, ℕ, Bool, false, List, ◌++◌, ◌⊎◌, inl, inr, refl, ap, sym, ◌∙◌, true≢false, Result, Ok, Err, MatchResult}
 use Rattle.std.proofs.lemmas.Bool.{cases_eq}
 use Rattle.pas_profile.specs.{Directories.deed_word_of, Profiles.IsValid, Profiles.IsPage, Profiles.IsDirectoryOf}
 use Rattle.pas_profile.specs.declared.{directory.Directory.Directory, event.NoRoom.NoRoom, event.NoRoom.TheVariants.NoSpace, event.NoRoom.TheVariants.Held}
@@ -16,7 +16,7 @@ use Rattle.pas_core.proofs.Nexts.{agreed_steps}
 use Rattle.pas_core.proofs.Rights.{own_eligible, spot_of, is_with, spotted}
 use Rattle.pas_search.specs.{Alone.page_found, Alone.FindsWhatThereIs, Kinds.searching, Kinds.AreSearch, Serving.Rule, Serving.ShowsFit, Telling.IsInHands}
 use Rattle.pas_search.specs.{Telling.IsTrueReason, Telling.IsTold}
-use Rattle.pas_search.specs.Searches.{MaySearch, FromOffered, ByDeed, DeedMadeHere, IsServed, IsRefused}
+use Rattle.pas_search.specs.Searches.{MaySearch, FromOffered, ByDeed, IsServed, IsRefused}
 use Rattle.pas_search.specs.declared.serving.Served.{Served}
 use Rattle.pas_search.proofs.FindingAPage.{all_told, could_serve}
 
@@ -28,13 +28,7 @@ shows_none : {F : Type 0} (rule : Rule F) (f : Profile) (d : Directory) (steps :
 shows_none rule f d steps room is = record { searched = is.searched; deeds = is.deeds; quiet = is.quiet }
 
 pub shows_answer : {F : Type 0} (rule : Rule F) (f : Profile) (d : Directory) (v : View) (steps : List Made) → MaySearch d v → Agreed f v steps → (answer : Result (Served F) NoRoom) → IsOutcome rule f d steps answer → ShowsAnswer rule.no_fit f d v steps (page_found answer)
-shows_answer rule f d v steps may agreed (Ok served) is = elim is.choice [
-  | inl from ↦ inl (record { of_region = is.page; offered = from.offered; readings = is.shows.readings; fits = is.shows.fits; read = is.shows.read; none_held = is.shows.held.from v may agreed })
-  | inr deed ↦ inr (record { of_region = is.page; made = once_map (DeedMadeHere rule.no_fit f d served.page) (λ m before. (m.step ≡ Deed served.page d) × (m.answer ≡ 0)) steps (λ m before h. (h.deed, h.made)) deed.made_here })
-]
-shows_answer rule f d v steps may agreed (Err NoSpace) is = shows_none rule f d steps NoSpace is
-shows_answer rule f d v steps may agreed (Err (Held page)) is =
-    (shows_none rule f d steps (Held page) is, record { of_region = is.answer.page_of; of_directory = is.answer.of_directory v agreed; held = is.answer.held; lacked = is.answer.lacked })
+shows_answer rule f d v steps may agreed answer is = grind (arith, once_map, shows_none)
 
 -- ---- where no other actor made a step meanwhile
 module _ {F : Type 0} (rule : Rule F) (f : Profile) (d : Directory) (k : ℕ) (l : Whole) (steps : List Made) (valid : IsValid f) (of : IsDirectoryOf f d) (fewer : IsAntitone rule.no_fit) (legal : Legal f (triples k steps ++ l)) (searches : AreSearch steps) (may : MaySearch d (part k l)) where
@@ -123,8 +117,4 @@ still_lacks f k l d steps valid legal may still p deed = ap (λ v. has_right v p
 
 -- where no other actor has a right there, no page of the directory is in anybody's hands
 pub none_held_there : (f : Profile) (k : ℕ) (d : Directory) (w : Whole) (room : NoRoom) → IsDirectoryOf f d → Legal f w → OwnLacks k d w → ((j p : ℕ) → k ≢ j → has_right (part j w) p ≡ false) → IsTrueReason f d w room → room ≡ NoSpace
-none_held_there f k d w NoSpace of legal own others reason = refl
-none_held_there f k d w (Held page) of legal own others reason = absurd (none_in_hands f d w page of legal (λ j. elim (cases_eq k j) [
-  | inl same ↦ ap (λ i. has_right (part i w) page) (sym same) ∙ own page reason.0.of_directory
-  | inr other ↦ others j page other
-]) reason.0)
+none_held_there f k d w room of legal own others reason = grind (arith, none_in_hands, cases_eq)

@@ -1,7 +1,6 @@
 -- The answer of a search: an offered page serves, a page does whose deed was made, or the request is refused; and what it says of the states at entry and exit.
-use Rattle.std.proofs.Common.{◌≡◌, ℕ, ◌+◌, ◌*◌, ◌/◌, ◌%◌, ◌&&◌, ◌<◌, ◌≤◌, true, false, List, [], ◌∷◌, ◌++◌, refl, sym, ◌∙◌, subst, arith, ◌⊎◌, inl, inr}
-use Rattle.std.proofs.Common.{append_assoc, true≢false, ◌≢◌, ◌==◌, if◌then◌else◌, ap, Result, Ok, Err, MatchResult, Bool, length, length-append, suc, Some}
-use Rattle.std.proofs.Common.{None, eq-eqb, ne_eqb}
+use Rattle.std.proofs.Common.{◌≡◌, ℕ, ◌+◌, ◌*◌, ◌/◌, ◌<◌, ◌≤◌, true, false, List, [], ◌∷◌, ◌++◌, refl, sym, ◌∙◌, subst, arith, ◌⊎◌, inl, inr, append_assoc}
+use Rattle.std.proofs.Common.{true≢false, ◌≢◌, ap, Result, Ok, Err, MatchResult, Bool, length, length-append, suc, Some, None, eq-eqb, ne_eqb}
 use Rattle.std.proofs.lemmas.Bool.{cases_Bool, cases_lt}
 use Rattle.pas_profile.specs.declared.{directory.Directory.Directory, profile.Profile.Profile, event.NoRoom.NoRoom, event.NoRoom.TheVariants.NoSpace}
 use Rattle.pas_profile.specs.declared.{event.NoRoom.TheVariants.Held, word.Word.Word}
@@ -16,20 +15,17 @@ use Rattle.pas_steps.specs.Evidence.{UnfitHere, ZeroHere, DeedHere, ParkedHere, 
 use Rattle.pas_steps.specs.Evidence.{ReadsDeed, KeptHere, Searched, NoDeedHere, GetsRight, GetsHere, IsAntitone}
 use Rattle.pas_scan.specs.Marks.{is_marked}
 use Rattle.pas_scan.specs.Scan.{IsMember, AllParked, IsVerdict, last_block, Judges}
-use Rattle.pas_search.specs.Serving.{Rule, ShowsFit}
+use Rattle.pas_search.specs.{Serving.Rule, Serving.ShowsFit, Kinds.AreSearch, Kinds.IsDeedOrBack, Kinds.deeds_made}
 use Rattle.pas_search.specs.Searches.{search_steps, Searching, AllAccounted, IsRefusal, IsRefused, MaySearch, DeedMadeHere, IsHeld, IsServed, SearchRoom}
 use Rattle.pas_search.specs.Searches.{BareRoom, FromOffered, ByDeed, SearchesOffered, ServesBare, SearchesBare, Searches}
 use Rattle.pas_search.proofs.PagesThatServe.{no_deeds, served_search, deeds_serves, AreVain, reads_vain, vain_lacks, vain_search, searched, vain_searching}
 use Rattle.pas_search.proofs.PagesThatServe.{ready, got_search, finds}
 use Rattle.pas_search.proofs.ForBackEnds.{events_quiet, room_kept}
-use Rattle.pas_bits.specs.Bits.{has_bit}
-use Rattle.pas_profile.specs.{Directories.deed_word_of, Directories.deed_word_numbered, Directories.number_of, Profiles.IsValid, Profiles.IsPage}
-use Rattle.pas_profile.specs.{Profiles.IsDirectoryOf}
+use Rattle.pas_profile.specs.{Directories.deed_word_of, Directories.number_of, Profiles.IsValid, Profiles.IsPage, Profiles.IsDirectoryOf}
 use Rattle.pas_profile.proofs.Codecs.{deed_word_of-positive}
 use Rattle.pas_steps.specs.Lists.{Whole, part, word_after, Legal}
 use Rattle.pas_steps.specs.Desks.{triples, Seat, Standing, AnyView, made, Adds, CanCall}
 use Rattle.pas_core.proofs.{Deeds.known_is, Deeds.numbered_ne, Rights.is_offered, Rights.is_parked, Rights.spotted}
-use Rattle.pas_search.specs.Kinds.{searching, AreSearch, IsDeedOrBack, deeds_made}
 use Rattle.pas_core.specs.Fits.{IsOfferedFit, HasNoFit}
 use Rattle.pas_search.specs.Telling.{IsLowestOffered, IsLowestBare, IsInHands, IsTrueReason, IsTold}
 use Rattle.pas_search.specs.declared.serving.Served.{Served}
@@ -95,8 +91,7 @@ not_below n m h = elim (cases_lt m n) [ inl lt ↦ absurd (h lt) | inr ge ↦ ge
 
 -- ---- a deed word that was read as not 0 is known
 read_known : (p : ℕ) (s : Step) (a : ℕ) (known : ℕ) → ReadsDeed p s → a ≢ 0 → deed_after s a p known ≢ 0
-read_known p s a known ReadsDeed.Looks some = λ z. some (sym (ap (λ t. if t then a else known) (eq-eqb p p refl)) ∙ z)
-read_known p s a known (ReadsDeed.Deeds d) some = λ z. some (sym (ap (λ t. if t then (if a == 0 then deed_word_of d else a) else known) (eq-eqb p p refl) ∙ ap (λ t. if t then deed_word_of d else a) (ne_eqb a 0 some)) ∙ z)
+read_known p s a known e some = grind (arith, eq-eqb, ne_eqb)
 
 deed_read : (f : Profile) (v : View) (p : ℕ) (xs : List Made) → Agreed f v xs → Once (DeedHere p) xs → known_deed (xs ++ v) p ≢ 0
 deed_read f v p [] agreed h = absurd h
@@ -231,13 +226,7 @@ ends_offered {F} {rule} {σ} {σ1} d same {marks} {served} found = let offered :
 -- ---- by a deed
 -- a page that was got has a deed
 got_here : (p : ℕ) (s : Step) (a known : ℕ) → GetsRight p s a → deed_after s a p known ≢ 0
-got_here p s a known (GetsRight.Claims d b bit) none =
-    let word = deed_word_numbered (number_of d) in
-    let here = ap (λ t. if t && has_bit b (p % 64) then word else known) (eq-eqb (p / 64) (p / 64) refl) ∙ ap (λ t. if t then word else known) bit in
-    numbered_ne (number_of d) (sym here ∙ none)
-got_here p s a known (GetsRight.Deeds d b made_it) none =
-    let here = ap (λ t. if t then (if b == 0 then deed_word_of d else b) else known) (eq-eqb p p refl) ∙ ap (λ t. if t then deed_word_of d else b) (eq-eqb b 0 made_it) in
-    deed_word_of-positive d (sym here ∙ none)
+got_here p s a known e none = grind (arith, eq-eqb, numbered_ne, deed_word_of-positive)
 
 got_known : (f : Profile) (p : ℕ) (xs : List Made) (v : View) → Agreed f v xs → Once (GetsHere p) xs → known_deed (xs ++ v) p ≢ 0
 got_known f p [] v agreed got none = got
@@ -318,8 +307,7 @@ module _ {F : Type 0} {rule : Rule F} {σ σ1 : Standing} {d' : Directory} (d : 
 
   -- ---- a refusal
   last_within : (h : Profile) (ys : List Made) (room : NoRoom) → IsVerdict h marks d ys room → last_block h room ≤ h.pages / 64
-  last_within h ys NoSpace all = omega arith
-  last_within h ys (Held page) verdict = let high = (verdict.0 []).of_region.1 in omega (arith, high)
+  last_within h ys room all = grind arith
 
   pub ends_refused : {σ2 σ3 : Standing} (room : NoRoom) → SearchesBare rule d σ1 σ2 None → Judges marks d σ2 σ3 room → Ends rule d σ σ3 (Err room)
   ends_refused room bare judged =
@@ -355,17 +343,4 @@ module _ {F : Type 0} {rule : Rule F} {σ σ1 : Standing} {d' : Directory} (d : 
 -- ---- with what it says on a desk that tells the whole state
 pub searches_by : {F : Type 0} {rule : Rule F} {σ σ' : Standing} {answer : Result (Served F) NoRoom} (tells : Bool) (d : Directory) → IsValid σ.seat.profile → IsDirectoryOf σ.seat.profile d → IsAntitone rule.no_fit
     → ((v : View) (l : Whole) → tells ≡ true → σ'.stands v l → Legal σ'.seat.profile l) → ((v : View) (l : Whole) → tells ≡ true → σ.stands v l → part σ.seat.actor l ≡ v) → Ends rule d σ σ' answer → Searches rule tells d σ σ' answer
-searches_by {F} {rule} {σ} {σ'} {answer} tells d valid of fewer told parts ends = record {
-  steps = ends.steps;
-  adds = ends.adds;
-  searches = ends.searches;
-  few = ends.few;
-  outcome = ends.outcome;
-  told = λ yes_tells v l stood met.
-      let f : Profile = σ.seat.profile in
-      let same : part σ.seat.actor l ≡ v = parts v l yes_tells stood in
-      all_told rule f σ.seat.actor l d ends.steps valid of fewer
-      (legal_after ends.adds (λ x y s. told x y yes_tells s) v l stood met)
-      (lends_none searching refl ends.steps ends.searches.kinds) (subst (MaySearch d) (sym same) met) (subst (λ x. Agreed f x ends.steps) (sym same) (ends.adds.agreed v l stood met))
-      answer ends.outcome;
-}
+searches_by {F} {rule} {σ} {σ'} {answer} tells d valid of fewer told parts ends = search (arith, all_told, legal_after, lends_none)

@@ -16,8 +16,7 @@ since_looks P p (y ∷ ys) xs looks right h = inr (right_reads p ys xs (looks_re
 pub unfit_left : (no_fit : Readings → Type 0) (p : ℕ) (ys xs : List Made) → Once (LosesHere p) ys → has_right xs p ≡ true → Once (GetsHere p) xs → (r : Readings) → no_fit r → ((word : ℕ) → word < 4 → Since (ShowsHere p word r) (KeptHere p) xs) → Once (UnfitHere no_fit p) (ys ++ xs)
 unfit_left no_fit p [] xs left right got r none read = absurd left
 unfit_left no_fit p (y ∷ ys) xs (inl h) right got r none read =
-    let here = λ (word : ℕ) (lt : word < 4). since_looks (ShowsHere p word r) p ys xs h.1 right (read word lt) in
-    inl (record { left = h.0; kept = right_reads p ys xs (looks_read ys h.1) ∙ right; got = once_later (GetsHere p) ys xs got; readings = r; none = none; read = here })
+    search (arith, since_looks, right_reads, looks_read, once_later)
 unfit_left no_fit p (y ∷ ys) xs (inr h) right got r none read = inr (unfit_left no_fit p ys xs h right got r none read)
 
 -- ---- events
@@ -30,10 +29,7 @@ pub room_after : {σ σ' : Standing} {C : View → Type 0} {xs : List Made} {spa
     → ((v : View) (l : Whole) → σ.stands v l → spare + length (events_of σ.seat.actor v) ≡ σ.seat.room) → ((v : View) (l : Whole) → σ'.stands v l → spare' + length (events_of σ'.seat.actor v) ≡ σ'.seat.room)
     → n + some ≤ spare → n ≤ spare'
 room_after {σ} {xs = xs} {spare = spare} n some adds can few law law' fits =
-    let k : ℕ = σ.seat.actor in
-    let now : spare + length (events_of k can.view) ≡ σ.seat.room = law can.view can.whole can.stood in
-    let count : length (events_of k (xs ++ can.view)) ≡ length (events_by k can.view xs) + length (events_of k can.view) = ap length (events_split k xs can.view) ∙ length-append (events_by k can.view xs) (events_of k can.view) in
-    room_left n adds can law' (omega (arith, now, count, few k can.view, fits))
+    search (arith, events_split, length-append, room_left)
 
 pub room_kept : {σ σ' : Standing} {C : View → Type 0} {xs : List Made} {spare spare' : ℕ} (n : ℕ) → Adds σ σ' C xs → CanCall σ C → AreQuiet xs
     → ((v : View) (l : Whole) → σ.stands v l → spare + length (events_of σ.seat.actor v) ≡ σ.seat.room) → ((v : View) (l : Whole) → σ'.stands v l → spare' + length (events_of σ'.seat.actor v) ≡ σ'.seat.room)

@@ -33,8 +33,7 @@ abbrev pub with_right : (ℕ → Fate) → ℕ → Fate → Effect
 with_right grains page right = record { grains = grains; rights = λ q. if page == q then right else Kept; clears = λ q. Kept }
 
 lost_later : (t : Bool) → later (if t then Gained else Kept) (if t then Lost else Kept) ≡ (if t then Lost else Kept)
-lost_later true = refl
-lost_later false = refl
+lost_later t = grind arith
 
 pub left_after : {v w u : View} (grains : ℕ → Fate) (page : ℕ) → Does (with_right grains page Gained) v w → Does (on_page page Lost Kept) w u → Does (with_right grains page Lost) v u
 left_after {v} {w} {u} grains page a b = does_as (with_right grains page Lost) (does_then a b) (λ g. inl refl) (λ q. lost_later (page == q)) (λ q h. subst (λ t. ClearAfter t q v u) (kept_kept (page == q)) h)

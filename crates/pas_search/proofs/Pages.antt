@@ -13,7 +13,7 @@ use Rattle.pas_steps.specs.Calls.{Calls, Leads, Kept, Gained, Lost, now, ClearAf
 use Rattle.pas_steps.specs.Desks.{Standing, CanCall, made, Makes, CanMake}
 use Rattle.pas_steps.specs.Evidence.{Readings, ShowsHere, KeptHere, GetsHere, UnfitHere}
 use Rattle.pas_steps.specs.Kinds.{Backing, Only, kind_of, place_of, is_in, showing, returning}
-use Rattle.pas_steps.specs.Views.{View, holds, holds_on, has_right, known_free, knows_backed, KnowsDeed}
+use Rattle.pas_steps.specs.Views.{View, holds, has_right, known_free, KnowsDeed}
 use Rattle.pas_steps.specs.declared.step.{Made.Made, Step.TheVariants.Back}
 use Rattle.pas_steps.proofs.{Adding.agreed_later, Kept.any_from, Kept.returns_on, Frames.rights_stay, Sets.kept_kept}
 use Rattle.pas_steps.proofs.Apart.{in_apart, only_within, only_both, holds_same, no_event, no_events}
@@ -29,8 +29,7 @@ quiet_by steps = always_map (λ m before. is_in taking_grains (kind_of m.step) �
 
 -- the right of a page that the actor has is kept
 right_kept : (page q : ℕ) (t : Bool) (v w : View) → (page == q) ≡ t → has_right v page ≡ true → has_right w q ≡ has_right v q → has_right w q ≡ now (if t then Gained else Kept) (has_right v q)
-right_kept page q true v w e right same = same ∙ ap (has_right v) (sym (eqb-true page q e)) ∙ right
-right_kept page q false v w e right same = same
+right_kept page q t v w e right same = grind (arith, eqb-true)
 
 -- the grain, a number of the region, is of the page and one of these of it
 abbrev pub on_page : ℕ → (ℕ → Bool) → ℕ → Bool
@@ -89,10 +88,7 @@ module _ {Found : Type 0} (rule : Rule Found) (page : ℕ) (d : Directory) (r : 
           leaves = left_call.leads;
           left = record { before = p.steps; leave = left.steps; order = left.order; steps_are = refl };
           quiet = quiet_by (left.steps ++ p.steps) left_kinds;
-          untouched = λ before got. record {
-            right = ap (λ s. has_right s page) (append_assoc left.steps p.steps before) ∙ leave_lacks page d left.steps (p.steps ++ before) left.order;
-            none = λ g at. ap (λ s. holds s g) (append_assoc left.steps p.steps before) ∙ holds_same returning refl g left.steps (p.steps ++ before) (returns_are page left.steps left.returns) ∙ empty before got g at;
-          };
+          untouched = search (arith, append_assoc, leave_lacks, holds_same, returns_are);
           unfit = λ before got. subst (Once (UnfitHere rule.no_fit page)) (sym (append_assoc left.steps p.steps before))
               (unfit_left rule.no_fit page left.steps (p.steps ++ before) left.left (rights_stay p.steps before page p.keeps got.right) (once_later (GetsHere page) p.steps before got.got) r unfit (p.read before got));
           not_free = λ v met agreed free. not_free v met (agreed_later σ.seat.profile v left.steps p.steps agreed) free;
@@ -103,9 +99,7 @@ module _ {Found : Type 0} (rule : Rule Found) (page : ℕ) (d : Directory) (r : 
   -- ---- some grains are held
   module _ (some : (b : ℕ) × (b < 256) × (kept b ≡ true)) where
     first_held : (v w : View) → Does (taken (on_page page kept)) v w → holds w (page * 256 + some.0) ≡ true
-    first_held v w does =
-        let b = some.0 in let at : page ≡ (page * 256 + b) / 256 = omega (arith, some.1) in let bit : (page * 256 + b) % 256 ≡ b = omega (arith, some.1) in
-        does.held (page * 256 + b) ∙ ap (λ t. now (if t then Gained else Kept) (holds v (page * 256 + b))) (and_from (page == (page * 256 + b) / 256) (kept ((page * 256 + b) % 256)) (eq-eqb page ((page * 256 + b) / 256) at) (ap kept bit ∙ some.2))
+    first_held v w does = search (arith, and_from, eq-eqb)
 
     may_back : (v : View) → MayServe page d v → Does (taken (on_page page kept)) v (p.steps ++ v) × KnowsDeed page d (p.steps ++ v) → Allowed σ.seat.profile (p.steps ++ v) (Back page)
     may_back v met after = ((page * 256 + some.0, omega (arith, some.1), first_held v (p.steps ++ v) after.0), λ z. deed_word_of-positive d (sym after.1 ∙ z))
@@ -122,14 +116,8 @@ module _ {Found : Type 0} (rule : Rule Found) (page : ℕ) (d : Directory) (r : 
           let does = does_as (taken (on_page page (rule.kept found))) (does_then after.0 (does_idly σ.seat.profile (Backing ∷ []) refl (made (Back page) a ∷ []) (p.steps ++ v) (refl, tt) (agrees, tt)))
           (λ g. inl (ap (λ t. if (page == g / 256) && t then Gained else Kept) (same (g % 256) (omega arith)))) (λ q. refl) (λ q h. h) in
           record {
-            does = record {
-              held = does.held;
-              right = λ q. right_kept page q (page == q) v (all ++ v) refl met.right (does.right q) ∙ ap (λ t. now (if page == q then (if t then Gained else Lost) else Kept) (has_right v q)) (sym keeps_right);
-              clear = does.clear;
-              backed = does.backed;
-            };
-            backed = and_from (if page == page then true else knows_backed (p.steps ++ v) page) (holds_on (all ++ v) page)
-                (ap (λ t. if t then true else knows_backed (p.steps ++ v) page) (eq-eqb page page refl)) (any_from 256 (λ b. holds (p.steps ++ v) (page * 256 + b)) some.0 some.1 (first_held v (p.steps ++ v) after.0));
+            does = search (arith, right_kept);
+            backed = search (arith, and_from, eq-eqb, any_from, first_held);
           })
 
       pub once_read : (before : List Made) → GotBefore page before → (word : ℕ) → word < 4 → Once (ShowsHere page word r) ((made (Back page) a ∷ p.steps) ++ before)
@@ -146,17 +134,6 @@ module _ {Found : Type 0} (rule : Rule Found) (page : ℕ) (d : Directory) (r : 
           few = λ k v. let none : length (events_by k v p.steps) ≡ 0 = ap length (no_events taking_grains refl k v p.steps p.kinds) in
               cond_both (a == 0) (Some (Event.Back k page)) None (λ o. length (with_event o (events_by k v p.steps)) ≤ rule.events) (λ made. omega (arith, none, one)) (λ silent. omega (arith, none));
           short = omega (arith, short);
-          outcome = record {
-            keeps = back_call.leads;
-            marks = ((λ is. elim is [ ]), p.marks some);
-            shows = λ before got. record {
-              readings = r;
-              fits = fits;
-              took = λ b lt is. took b lt (same b lt ∙ is);
-              read = once_read before got;
-              held = record { from = λ v met agreed. p.held.from v met agreed.1 };
-            };
-            serves = serves;
-          };
+          outcome = search (arith, back_call, once_read);
         };
       }

@@ -7,8 +7,7 @@ use Rattle.pas_steps.specs.declared.step.{Made.Made, Step.Step, Step.TheVariants
 use Rattle.pas_steps.specs.Views.{View, has_right, Way, Stays, Puts, grain_move, held_after, holds, KnowsDeed, known_free, epoch_of}
 use Rattle.pas_steps.specs.{Events.events_by, Events.event_of, Events.events_of, Past.Once, Past.Always, Agreement.Agrees, Agreement.Agreed, Clear.IsClear}
 use Rattle.pas_steps.specs.{Lists.Whole}
-use Rattle.pas_steps.specs.Evidence.{GetsHere, GetsRight, LacksAfter, ZeroHere, OneHere, UnfitHere, Searched, ReadsEligible, ReadsDeed, DeedHere, NoDeedHere}
-use Rattle.pas_steps.specs.Evidence.{AllDeeds}
+use Rattle.pas_steps.specs.Evidence.{GetsHere, GetsRight, LacksAfter, ZeroHere, OneHere, UnfitHere, Searched, ReadsEligible, ReadsDeed, DeedHere, AllDeeds}
 use Rattle.pas_steps.specs.Frames.{IsOnPage, OnlyOn, IsRead, OnlyReads}
 use Rattle.pas_steps.specs.Kinds.{kind_of, is_in, Only, look_kind, place_of, unbacking, Deeding}
 use Rattle.pas_steps.specs.Desks.{made, Seat, Standing, AnyView, Adds, CanCall, Makes}
@@ -59,8 +58,7 @@ quiet_deed (Deed q d) a h = no_deed_event (a == 0) (Event.Deed 0 q d) (h 0 0)
 quiet_deed s a h = refl
 
 no_deed : (s : Step) (a : ℕ) → is_in (Deeding ∷ []) (kind_of s) ≡ false → makes_deed s a ≡ false
-no_deed (Deed q d) a h = absurd (true≢false h)
-no_deed s a h = refl
+no_deed s a h = grind (arith, true≢false)
 
 pub deeds_serves : (ys xs : List Made) → Only serving ys → deeds_made (ys ++ xs) ≡ deeds_made xs
 deeds_serves = same_over deeds_made (Deeding ∷ []) serving (λ m before h. ap (λ t. if t then suc (deeds_made before) else deeds_made before) (no_deed m.step m.answer h)) refl
@@ -89,8 +87,7 @@ does_rights f fates m v h agrees = does_as (righted fates) (does_step f m.step m
     (λ x. inl (ap grain_fate (h.grains x))) h.rights (λ q c. subst (λ t. ClearAfter (if t then Lost else Kept) q v (m ∷ v)) (h.opens q) c)
 
 look_searches : (word : Word) → is_in searching (look_kind word) ≡ true
-look_searches Word.Epoch = refl
-look_searches word = refl
+look_searches word = grind arith
 
 look_rights : (word : Word) (a : ℕ) → Rights (λ q. Kept) (made (Look word) a)
 look_rights word a = record { grains = λ x. refl; rights = λ q. refl; opens = λ q. refl; kind = look_searches word; returns = λ q h. elim h [ ] }
@@ -110,8 +107,7 @@ claim_rights p d a got e = record { grains = λ x. refl; rights = λ q. gets_way
 
 -- the right was got
 gets_rights : (p : ℕ) (s : Step) (a : ℕ) → GetsRight p s a → Rights (gained true p) (made s a)
-gets_rights p s a (GetsRight.Claims d b bit) = claim_rights p d a true bit
-gets_rights p s a (GetsRight.Deeds d b made_it) = deed_rights p d a true (eq-eqb a 0 made_it)
+gets_rights p s a e = grind (arith, claim_rights, deed_rights, eq-eqb)
 
 -- ---- steps that changed nothing
 pub record IsVain (m : Made) : Type 0 where
@@ -122,8 +118,7 @@ abbrev pub AreVain : List Made → Type 0
 AreVain = Always (λ m before. IsVain m)
 
 read_vain : (s : Step) (a : ℕ) → IsRead s a → IsVain (made s a)
-read_vain s a (IsRead.Looks word b) = record { rights = look_rights word a; quiet = λ k e. refl }
-read_vain s a (IsRead.Reads p d b ne) = record { rights = deed_rights p d a false (ne_eqb a 0 ne); quiet = λ k e. ap (λ t. if t then Some (Event.Deed k p d) else None) (ne_eqb a 0 ne) }
+read_vain s a e = grind (arith, look_rights, deed_rights, ne_eqb)
 
 pub reads_vain : (steps : List Made) → OnlyReads steps → AreVain steps
 reads_vain steps = always_map (λ m before. IsRead m.step m.answer) (λ m before. IsVain m) steps (λ m before is. read_vain m.step m.answer is)
@@ -173,10 +168,7 @@ offered_before d p (m ∷ more) xs vain none lacks (inr h) = inr (offered_before
 
 module _ {F : Type 0} (rule : Rule F) (f : Profile) (d : Directory) (next : ℕ) (marks : List ℕ) where
   pub searched : (steps : List Made) → Searching rule.no_fit f d next marks steps → Searched rule.no_fit d next steps
-  searched steps s p low high = elim (cases_Bool (is_marked marks p)) [
-    | inl m ↦ inl (s.marked p m)
-    | inr m ↦ inr (s.lacked p m, s.zeros p low high m)
-  ]
+  searched steps s p low high = search (arith, cases_Bool)
 
   -- steps that changed nothing, where the pages from `next` to below `end` were read as 0
   zeros_searching : (end : ℕ) (ys xs : List Made) → AreVain ys → Searching rule.no_fit f d next marks xs → ((p : ℕ) → next ≤ p → p < end → Once (ZeroHere d p) (ys ++ xs)) → Searching rule.no_fit f d end marks (ys ++ xs)
@@ -201,12 +193,7 @@ got_served : {F : Type 0} (rule : Rule F) (page : ℕ) (found : F) {v w u : View
 got_served rule page found a b = does_as (served rule page found) (does_then a b) (λ x. inl (kept_first ((served rule page found).grains x))) (λ q. got_first (page == q) (rule.keeps_right found)) (λ q h. h)
 
 got_left : (page : ℕ) {v w u : View} → has_right v page ≡ false → Does (right_of page Gained) v w → Does (right_of page Lost) w u → Does nothing v u
-got_left page {v} lacked a b = record {
-  held = λ x. b.held x ∙ a.held x;
-  right = λ q. b.right q ∙ ap (now (if page == q then Lost else Kept)) (a.right q) ∙ got_lost (page == q) (has_right v q) (λ e. subst (λ r. has_right v r ≡ false) (eqb-true page q e) lacked);
-  clear = λ q is. b.clear q (a.clear q is);
-  backed = λ x kept bears. b.backed x refl (a.backed x refl bears);
-}
+got_left page {v} lacked a b = search (arith, got_lost, eqb-true)
 
 lacks_on : (page p : ℕ) (ys xs : List Made) → OnlyOn page ys → p ≢ page → has_right xs p ≡ false → Always (LacksAfter p) xs → Always (LacksAfter p) (ys ++ xs)
 lacks_on page p [] xs h ne none all = all
@@ -520,10 +507,7 @@ module _ {σ0 σ : Standing} (d : Directory) {from : ℕ} (passes : PassesDeeds 
     -- there is room for the event of its deed
     module _ {n spare : ℕ} (can : CanCall σ0 (BareRoom region n spare)) (law : (v : View) (l : Whole) → σ0.stands v l → spare + length (events_of σ0.seat.actor v) ≡ σ0.seat.room) where
       wide : n + 1 ≤ spare
-      wide = elim can.met.room.1 [
-        | inl known ↦ absurd (unknown region can.view page read (reads_adds.agreed can.view can.whole can.stood can.met.clear) (once_earlier (NoDeedHere page) (NoDeedHere page) find.steps xs (λ m before z. z) find.outcome.none) (known page of_region))
-        | inr more ↦ more
-      ]
+      wide = search (arith, unknown, reads_adds, once_earlier, of_region)
 
       pub deed_room : {spare' : ℕ} → ((v : View) (l : Whole) → σ1.stands v l → spare' + length (events_of σ1.seat.actor v) ≡ σ1.seat.room) → 1 ≤ spare'
       deed_room law' = room_kept {C = IsClear} 1 reads_adds (clear_can can) (vain_quiet read (reads_vain read found_reads)) law law' (omega (arith, wide))

@@ -1,5 +1,5 @@
 -- Which pages a call gives up, takes back and hints: those that it got, and hints after the looks that they rest on. And what it puts: what it took.
-use Rattle.std.proofs.Common.{◌≡◌, ℕ, Bool, true, List, [], ◌∷◌, ◌++◌, inr, refl, sym, ◌∙◌, subst, true≢false}
+use Rattle.std.proofs.Common.{arith, ◌≡◌, ℕ, Bool, true, List, [], ◌∷◌, ◌++◌, inr, sym, ◌∙◌, subst, true≢false}
 use Rattle.pas_rights.specs.{Puts.PutsHere, PutsBack.GivesDuly}
 use Rattle.pas_rights.proofs.{Hints.giving, Hints.due_later, Hints.due_none, PutsBack.unparking}
 use Rattle.pas_steps.specs.{Evidence.GetsHere, Frames.IsOnPage, Frames.OnlyOn, Past.Once, Past.Always}
@@ -21,10 +21,7 @@ abbrev pub turning_back : Kinds
 turning_back = Offering ∷ Parking ∷ Unparking ∷ Hinting ∷ []
 
 return_kind : (page : ℕ) (s : Step) → IsReturnOf page s → is_in turning_back (kind_of s) ≡ true
-return_kind page s (IsReturnOf.Offers d) = refl
-return_kind page s IsReturnOf.Parks = refl
-return_kind page s IsReturnOf.Unparks = refl
-return_kind page s IsReturnOf.Hints = refl
+return_kind page s e = grind arith
 
 no_return : (ks : Kinds) (page : ℕ) (s : Step) → apart ks turning_back ≡ true → is_in ks (kind_of s) ≡ true → IsReturnOf page s → ⊥
 no_return ks page s out is returns = true≢false (sym (return_kind page s returns) ∙ in_apart ks turning_back (place_of (kind_of s)) out is)
@@ -39,10 +36,7 @@ keeps_marks ks page steps out = always_map (λ m before. is_in ks (kind_of m.ste
 
 -- ---- pages
 pub return_page : (p q : ℕ) (s : Step) → IsReturnOf q s → IsOnPage p s → q ≡ p
-return_page p q s (IsReturnOf.Offers e) (IsOnPage.Offers d) = refl
-return_page p q s IsReturnOf.Parks IsOnPage.Parks = refl
-return_page p q s IsReturnOf.Unparks IsOnPage.Unparks = refl
-return_page p q s IsReturnOf.Hints IsOnPage.Hints = refl
+return_page p q s e h = grind arith
 
 -- these steps return none but these pages
 abbrev pub ReturnsIn : (ℕ → Bool) → List Made → Type 0
@@ -65,10 +59,7 @@ never_returned p (m ∷ xs) never all = (λ is. absurd (never (inr (all.0.0 p is
 
 -- ---- after puts the page is taken back from the parked pages, and nothing else
 unparks : (page : ℕ) (s : Step) → is_in unparking (kind_of s) ≡ true → IsReturnOf page s → s ≡ Unpark page
-unparks page s is (IsReturnOf.Offers d) = absurd (true≢false (sym is))
-unparks page s is IsReturnOf.Parks = absurd (true≢false (sym is))
-unparks page s is IsReturnOf.Unparks = refl
-unparks page s is IsReturnOf.Hints = absurd (true≢false (sym is))
+unparks page s is e = grind (arith, true≢false)
 
 pub marks_after : (page : ℕ) (ys xs : List Made) → Only unparking ys → Once (PutsHere page) xs → Always (KeepsMarks page) xs → Always (KeepsMarks page) (ys ++ xs)
 marks_after page [] xs only put all = all

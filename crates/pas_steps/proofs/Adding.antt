@@ -32,17 +32,7 @@ adds_step {σ} {σ'} {σ''} {C} {xs} {step} {a} before makes allowed =
 
 pub adds_call : {σ σ' σ'' : Standing} {C D : View → Type 0} {xs ys : List Made}
     → Adds σ σ' C xs → Adds σ' σ'' D ys → ((v : View) (l : Whole) → σ.stands v l → C v → D (xs ++ v)) → Adds σ σ'' C (ys ++ xs)
-adds_call {σ} {σ'} {σ''} {C} {D} {xs} {ys} before call meets = record {
-  seat_is = call.seat_is ∙ before.seat_is;
-  added = λ v l stood met.
-      subst (λ w. σ''.stands w (triples σ.seat.actor (ys ++ xs) ++ l)) (sym (append_assoc ys xs v))
-      (subst (λ w. σ''.stands (ys ++ (xs ++ v)) w) (triples_append σ.seat.actor ys xs l)
-      (subst (λ s. σ''.stands (ys ++ (xs ++ v)) (triples s.actor ys ++ (triples σ.seat.actor xs ++ l))) before.seat_is
-      (call.added (xs ++ v) (triples σ.seat.actor xs ++ l) (before.added v l stood met) (meets v l stood met))));
-  agreed = λ v l stood met. agreed_append σ.seat.profile v ys xs
-      (subst (λ s. Agreed s.profile (xs ++ v) ys) before.seat_is (call.agreed (xs ++ v) (triples σ.seat.actor xs ++ l) (before.added v l stood met) (meets v l stood met)))
-      (before.agreed v l stood met);
-}
+adds_call {σ} {σ'} {σ''} {C} {D} {xs} {ys} before call meets = search (arith, append_assoc, triples_append, agreed_append)
 
 -- under a condition that says more
 pub adds_under : {σ σ' : Standing} {C D : View → Type 0} {xs : List Made} → Adds σ σ' C xs → ((v : View) (l : Whole) → σ.stands v l → D v → C v) → Adds σ σ' D xs

@@ -1,10 +1,9 @@
 -- What steps of some kinds leave as it was: for each thing of a view the kinds that may change it, and that all others leave it. A set of kinds
 -- that is apart from those leaves it, and that it is apart is found by computing.
-use Rattle.std.proofs.Common.{◌≡◌, ℕ, ◌==◌, Bool, true, false, not, List, [], ◌∷◌, ◌++◌, Option, None, inl, inr, refl, ap, sym, ◌∙◌, subst, true≢false}
+use Rattle.std.proofs.Common.{arith, ◌≡◌, ℕ, ◌==◌, Bool, true, false, not, List, [], ◌∷◌, ◌++◌, Option, None, inl, inr, refl, ap, sym, ◌∙◌, subst, true≢false}
 use Rattle.std.proofs.Common.{eqb-true}
 use Rattle.std.proofs.lemmas.Bool.{and_parts, not-true, or_cases, false_from_ne_true}
-use Rattle.pas_profile.specs.declared.word.Word.{Word}
-use Rattle.pas_steps.specs.declared.step.{Made.Made, Step.Step, Step.TheVariants.Look}
+use Rattle.pas_steps.specs.declared.step.{Made.Made, Step.Step}
 use Rattle.pas_steps.specs.Kinds.{Kinds, kind_of, place_of, has_place, is_in, within, apart, Only, moving, righting, deed_telling, epoch_telling, unstamping}
 use Rattle.pas_steps.specs.Kinds.{examining, showing}
 use Rattle.pas_steps.specs.Views.{View, Stays, grain_move, held_after, holds, right_after, has_right, deed_after, known_deed, epoch_after, known_epoch}
@@ -47,55 +46,48 @@ same_over T ls ks step w steps v only = holds_over (λ u. T u ≡ T v) ls ks (λ
 
 -- ---- grains
 pub grain_same : (s : Step) (a g : ℕ) → is_in moving (kind_of s) ≡ false → grain_move s a g ≡ Stays
-grain_same (Look w) a g h = refl
-grain_same s a g h = cc
+grain_same s a g h = grind arith
 
 pub holds_same : (ks : Kinds) → apart ks moving ≡ true → (g : ℕ) (steps : List Made) (v : View) → Only ks steps → holds (steps ++ v) g ≡ holds v g
 holds_same ks w g = same_over (λ v. holds v g) moving ks (λ m v h. ap (λ t. held_after t (holds v g)) (grain_same m.step m.answer g h)) w
 
 -- ---- rights
 right_same : (s : Step) (a p : ℕ) (had : Bool) → is_in righting (kind_of s) ≡ false → right_after s a p had ≡ had
-right_same (Look w) a p had h = refl
-right_same s a p had h = cc
+right_same s a p had h = grind arith
 
 pub rights_same : (ks : Kinds) → apart ks righting ≡ true → (p : ℕ) (steps : List Made) (v : View) → Only ks steps → has_right (steps ++ v) p ≡ has_right v p
 rights_same ks w p = same_over (λ v. has_right v p) righting ks (λ m v h. right_same m.step m.answer p (has_right v p) h) w
 
 -- ---- deeds
 deed_same : (s : Step) (a p known : ℕ) → is_in deed_telling (kind_of s) ≡ false → deed_after s a p known ≡ known
-deed_same (Look Word.Epoch) a p known h = refl
-deed_same s a p known h = cc
+deed_same s a p known h = grind arith
 
 pub deeds_same : (ks : Kinds) → apart ks deed_telling ≡ true → (p : ℕ) (steps : List Made) (v : View) → Only ks steps → known_deed (steps ++ v) p ≡ known_deed v p
 deeds_same ks w p = same_over (λ v. known_deed v p) deed_telling ks (λ m v h. deed_same m.step m.answer p (known_deed v p) h) w
 
 -- ---- the epoch
 epoch_step_same : (s : Step) (a : ℕ) (known : Option ℕ) → is_in epoch_telling (kind_of s) ≡ false → epoch_after s a known ≡ known
-epoch_step_same (Look Word.Epoch) a known h = cc
-epoch_step_same s a known h = cc
+epoch_step_same s a known h = grind arith
 
 pub epoch_same : (ks : Kinds) → apart ks epoch_telling ≡ true → (steps : List Made) (v : View) → Only ks steps → known_epoch (steps ++ v) ≡ known_epoch v
 epoch_same ks w = same_over known_epoch epoch_telling ks (λ m v h. epoch_step_same m.step m.answer (known_epoch v) h) w
 
 -- ---- what is owed
 pub unstamped_step_same : (s : Step) (a p : ℕ) (was : Bool) → is_in unstamping (kind_of s) ≡ false → unstamped_after s a p was ≡ was
-unstamped_step_same (Look w) a p was h = refl
-unstamped_step_same s a p was h = cc
+unstamped_step_same s a p was h = grind arith
 
 pub unstamped_same : (ks : Kinds) → apart ks unstamping ≡ true → (p : ℕ) (steps : List Made) (v : View) → Only ks steps → is_unstamped (steps ++ v) p ≡ is_unstamped v p
 unstamped_same ks w p = same_over (λ v. is_unstamped v p) unstamping ks (λ m v h. unstamped_step_same m.step m.answer p (is_unstamped v p) h) w
 
 examined_same : (s : Step) (a p : ℕ) (was : Bool) → is_in examining (kind_of s) ≡ false → examined_after s a p was ≡ was
-examined_same (Look Word.Epoch) a p was h = refl
-examined_same s a p was h = cc
+examined_same s a p was h = grind arith
 
 pub examines_same : (ks : Kinds) → apart ks examining ≡ true → (p : ℕ) (steps : List Made) (v : View) → Only ks steps → examines (steps ++ v) p ≡ examines v p
 examines_same ks e p = same_over (λ v. examines v p) examining ks (λ m v h. examined_same m.step m.answer p (examines v p) h) e
 
 -- ---- blocks given, and events
 pub no_event : (k e : ℕ) (s : Step) (a : ℕ) → is_in showing (kind_of s) ≡ false → event_of k e s a ≡ None
-no_event k e (Look w) a h = refl
-no_event k e s a h = cc
+no_event k e s a h = grind arith
 
 -- the events of the steps before them
 pub events_same : (ks : Kinds) → apart ks showing ≡ true → (k : ℕ) (v : View) (ys xs : List Made) → Only ks ys → events_by k v (ys ++ xs) ≡ events_by k v xs

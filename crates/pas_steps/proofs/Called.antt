@@ -1,5 +1,5 @@
 -- Calls put together: no step, one more step, one more call, and what may come next.
-use Rattle.std.proofs.Common.{◌≡◌, ℕ, true, List, [], ◌∷◌, ◌++◌, sym, subst, append_assoc}
+use Rattle.std.proofs.Common.{arith, ◌≡◌, ℕ, true, List, [], ◌∷◌, ◌++◌, append_assoc}
 use Rattle.pas_profile.specs.declared.directory.Directory.{Directory}
 use Rattle.pas_steps.specs.{Agreement.Agrees, Allowed.Allowed, Allowed.IsStepOf, Calls.Effect, Calls.Does, Calls.Calls, Views.View, Views.KnowsDeed}
 use Rattle.pas_steps.specs.Desks.{Standing, made, Makes, CanMake, CanCall}
@@ -14,10 +14,7 @@ call_none r = record { adds = adds_none; leads = leads_none r }
 
 pub call_step : {σ σ1 σ2 : Standing} {B : View → Type 0} {R : View → View → Type 0} {xs : List Made} {s : Step} {a : ℕ} (T : View → View → Type 0) → Calls σ σ1 B R xs → Makes σ1 σ2 s a
     → ((v : View) → B v → R v (xs ++ v) → Allowed σ.seat.profile (xs ++ v) s) → ((v : View) → B v → R v (xs ++ v) → Agrees σ.seat.profile (xs ++ v) s a → T v (made s a ∷ (xs ++ v))) → Calls σ σ2 B T (made s a ∷ xs)
-call_step {xs = xs} T c makes allowed more = record {
-  adds = adds_step c.adds makes (λ v l stood met. allowed v met (c.leads.from v met (c.adds.agreed v l stood met)));
-  leads = record { from = λ v met agreed. more v met (c.leads.from v met agreed.1) agreed.0 };
-}
+call_step {xs = xs} T c makes allowed more = search (arith, adds_step)
 
 pub call_then : {σ σ1 σ2 : Standing} {B C : View → Type 0} {R S : View → View → Type 0} {ys xs : List Made} (T : View → View → Type 0) → Calls σ σ1 B R xs → Calls σ1 σ2 C S ys
     → ((v : View) → B v → R v (xs ++ v) → C (xs ++ v)) → ((v : View) → B v → R v (xs ++ v) → S (xs ++ v) (ys ++ (xs ++ v)) → T v (ys ++ (xs ++ v))) → Calls σ σ2 B T (ys ++ xs)
@@ -25,11 +22,7 @@ call_then {σ} {ys = ys} {xs = xs} T c d meets both =
     let next = leads_at c.adds.seat_is d.leads in
     record {
       adds = adds_call c.adds d.adds (λ v l stood met. meets v met (c.leads.from v met (c.adds.agreed v l stood met)));
-      leads = record {
-        from = λ v met agreed.
-            let here = c.leads.from v met (agreed_later σ.seat.profile v ys xs agreed) in
-            subst (T v) (sym (append_assoc ys xs v)) (both v met here (next.from (xs ++ v) (meets v met here) (agreed_first σ.seat.profile v ys xs agreed)));
-      };
+      leads = search (arith, agreed_later, append_assoc, agreed_first);
     }
 
 -- under a condition that says more, with a change that says less

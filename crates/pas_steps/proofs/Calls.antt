@@ -1,6 +1,6 @@
 -- What a call does, of no step, of one, and of two calls; and of steps by their kinds and their page.
-use Rattle.std.proofs.Common.{◌≡◌, ◌≢◌, ℕ, ◌+◌, ◌*◌, ◌/◌, ◌%◌, ◌==◌, Bool, true, false, not, ◌&&◌, ◌||◌, ◌⊎◌, if◌then◌else◌, List, [], ◌∷◌, ◌++◌, inl, inr}
-use Rattle.std.proofs.Common.{refl, ap, sym, ◌∙◌, subst, arith, append_assoc, true≢false, bit_and, eq-eqb, eqb-true, ne_eqb}
+use Rattle.std.proofs.Common.{◌≡◌, ◌≢◌, ℕ, ◌+◌, ◌*◌, ◌/◌, ◌%◌, ◌==◌, Bool, true, false, ◌&&◌, ◌⊎◌, if◌then◌else◌, List, [], ◌∷◌, ◌++◌, inl, refl, ap, sym, ◌∙◌}
+use Rattle.std.proofs.Common.{subst, arith, append_assoc, true≢false, eq-eqb, eqb-true, ne_eqb}
 use Rattle.std.proofs.lemmas.Bool.{and_left, and_right, cond-false}
 use Rattle.pas_bits.specs.{Bits.has_bit, Runs.in_run, Runs.meets_page}
 use Rattle.pas_profile.specs.{Lives.live_word, Blocks.grain_of}
@@ -9,10 +9,10 @@ use Rattle.pas_steps.specs.{Agreement.Agrees, Agreement.Agreed, Clear.OwesNothin
 use Rattle.pas_steps.specs.{Effects.in_mask}
 use Rattle.pas_steps.specs.Calls.{Leads, Fate, Kept, Gained, Lost, now, later, Effect, nothing, put, freed, on_page, and_then, ClearAfter, Bears, Does}
 use Rattle.pas_steps.specs.Calls.{grain_fate, way_fate, right_fate, opens, step_effect}
-use Rattle.pas_steps.specs.Views.{View, Move, Stays, Puts, Ends, grain_move, held_after, holds, Way, ByDeed, way, had_after, right_after, has_right, known_deed}
-use Rattle.pas_steps.specs.Views.{unstamped_after, is_unstamped, check_after, owes_check, all_ones, hint_after, owes_hint, examined_after, examines}
+use Rattle.pas_steps.specs.Views.{View, Move, Stays, Puts, Ends, grain_move, held_after, holds, Way, way, had_after, right_after, has_right, known_deed}
+use Rattle.pas_steps.specs.Views.{unstamped_after, check_after, owes_check, hint_after, owes_hint, examined_after, examines}
 use Rattle.pas_steps.specs.declared.step.{Made.Made, Step.Step}
-use Rattle.pas_steps.specs.declared.step.Step.TheVariants.{Look, Back, Take, Put, End, EndSized, Offer, Park, Unpark, Stamp, Hint, Tick, Unback, Unhint}
+use Rattle.pas_steps.specs.declared.step.Step.TheVariants.{Look, Take, Put, End, Hint, Unhint}
 use Rattle.pas_steps.proofs.{Adding.agreed_first, Adding.agreed_later, Flags.ends_none, Flags.ap_if, Past.always_map}
 use Rattle.pas_steps.proofs.Apart.{in_apart, holds_over, grain_same, holds_same}
 use Rattle.pas_steps.proofs.Kept.{look_check, look_hint, right_on, returns_on, backed_with}
@@ -26,11 +26,7 @@ leads_none r = record { from = λ v met agreed. r v met }
 
 pub leads_then : {f : Profile} {B C : View → Type 0} {R S : View → View → Type 0} {ys xs : List Made} (T : View → View → Type 0)
     → Leads f B R xs → Leads f C S ys → ((v w : View) → B v → R v w → C w) → ((v w u : View) → R v w → S w u → T v u) → Leads f B T (ys ++ xs)
-leads_then {f} {ys = ys} {xs = xs} T first second meets both = record {
-  from = λ v met agreed.
-      let here = first.from v met (agreed_later f v ys xs agreed) in
-      subst (T v) (sym (append_assoc ys xs v)) (both v (xs ++ v) (ys ++ (xs ++ v)) here (second.from (xs ++ v) (meets v (xs ++ v) met here) (agreed_first f v ys xs agreed)));
-}
+leads_then {f} {ys = ys} {xs = xs} T first second meets both = search (arith, agreed_later, append_assoc, agreed_first)
 
 pub leads_as : {f : Profile} {B C : View → Type 0} {R S : View → View → Type 0} {xs : List Made} → Leads f B R xs → ((v : View) → C v → B v) → ((v w : View) → C v → R v w → S v w) → Leads f C S xs
 leads_as {xs = xs} leads under more = record { from = λ v met agreed. more v (xs ++ v) met (leads.from v (under v met) agreed) }
@@ -45,30 +41,19 @@ pub does_none : (v : View) → Does nothing v v
 does_none v = record { held = λ x. refl; right = λ page. refl; clear = λ page is. is; backed = λ x kept bears. bears }
 
 now_later : (a b : Fate) (had : Bool) → now (later a b) had ≡ now b (now a had)
-now_later a Kept had = refl
-now_later a s had = refl
+now_later a s had = grind arith
 
 kept_both : (a b : Fate) → later a b ≡ Kept → (a ≡ Kept) × (b ≡ Kept)
-kept_both a Kept h = (h, refl)
-kept_both a s h = cc
+kept_both a s h = grind arith
 
 clear_kept : (a : Fate) (page : ℕ) (v w u : View) → ClearAfter a page v w → (IsClearOn page w → IsClearOn page u) → ClearAfter a page v u
-clear_kept Kept page v w u first next = λ is. next (first is)
-clear_kept Gained page v w u first next = next first
-clear_kept Lost page v w u first next = tt
+clear_kept a page v w u first next = grind arith
 
 clear_later : (a b : Fate) (page : ℕ) (v w u : View) → ClearAfter a page v w → ClearAfter b page w u → ClearAfter (later a b) page v u
-clear_later a Kept page v w u first next = clear_kept a page v w u first next
-clear_later a Gained page v w u first next = next
-clear_later a Lost page v w u first next = tt
+clear_later a b page v w u first next = grind (arith, clear_kept)
 
 pub does_then : {d e : Effect} {v w u : View} → Does d v w → Does e w u → Does (and_then d e) v u
-does_then {d} {e} {v} {w} {u} a b = record {
-  held = λ x. b.held x ∙ ap (now (e.grains x)) (a.held x) ∙ sym (now_later (d.grains x) (e.grains x) (holds v x));
-  right = λ page. b.right page ∙ ap (now (e.rights page)) (a.right page) ∙ sym (now_later (d.rights page) (e.rights page) (has_right v page));
-  clear = λ page. clear_later (d.clears page) (e.clears page) page v w u (a.clear page) (b.clear page);
-  backed = λ x kept bears. let k = kept_both (d.grains x) (e.grains x) kept in b.backed x k.1 (a.backed x k.0 bears);
-}
+does_then {d} {e} {v} {w} {u} a b = search (arith, now_later, clear_later, kept_both)
 
 -- ---- one effect in the words of another, for an actor with this view
 -- the grain has the same fate, or wasn't held
@@ -76,25 +61,17 @@ abbrev pub SameGrain : Fate → Fate → Bool → Type 0
 SameGrain a b held = (a ≡ b) ⊎ ((held ≡ false) × (now a false ≡ now b false))
 
 same_held : (a b : Fate) (held : Bool) → SameGrain a b held → now a held ≡ now b held
-same_held a b held (inl e) = ap (λ t. now t held) e
-same_held a b held (inr h) = ap (now a) h.0 ∙ h.1 ∙ ap (now b) (sym h.0)
+same_held a b held e = grind arith
 
 was_kept : (a b : Fate) (held : Bool) → SameGrain a b held → b ≡ Kept → held ≡ true → a ≡ Kept
-was_kept a b held (inl e) kept h = e ∙ kept
-was_kept a b held (inr n) kept h = absurd (true≢false (sym h ∙ n.0))
+was_kept a b held e kept h = grind (arith, true≢false)
 
 pub does_as : {d : Effect} {v w : View} (e : Effect) → Does d v w → ((x : ℕ) → SameGrain (d.grains x) (e.grains x) (holds v x)) → ((page : ℕ) → d.rights page ≡ e.rights page)
     → ((page : ℕ) → ClearAfter (d.clears page) page v w → ClearAfter (e.clears page) page v w) → Does e v w
-does_as {d} {v} {w} e does grains rights clears = record {
-  held = λ x. does.held x ∙ same_held (d.grains x) (e.grains x) (holds v x) (grains x);
-  right = λ page. does.right page ∙ ap (λ t. now t (has_right v page)) (rights page);
-  clear = λ page. clears page (does.clear page);
-  backed = λ x kept bears. does.backed x (was_kept (d.grains x) (e.grains x) (holds v x) (grains x) kept bears.held) bears;
-}
+does_as {d} {v} {w} e does grains rights clears = search (arith, same_held, was_kept)
 
 pub kept_first : (b : Fate) → later Kept b ≡ b
-kept_first Kept = refl
-kept_first s = refl
+kept_first s = grind arith
 
 -- after a call that did nothing. That a call does nothing afterwards needs no lemma, since `and_then e nothing` computes to e
 pub does_after_nothing : {v w u : View} (e : Effect) → Does nothing v w → Does e w u → Does e v u
@@ -106,36 +83,22 @@ still_clear does clear = record { on = λ page. does.clear page (clear.on page) 
 
 -- ---- one step
 fate_is : (m : Move) (had : Bool) → held_after m had ≡ now (grain_fate m) had
-fate_is (Ends b) had = refl
-fate_is s had = refl
+fate_is s had = grind arith
 
 had_is : (w : Way) (had : Bool) → had_after w had ≡ now (way_fate w) had
-had_is ByDeed had = refl
-had_is w had = refl
+had_is w had = grind arith
 
 pub right_is : (s : Step) (a p : ℕ) (had : Bool) → right_after s a p had ≡ now (right_fate s a p) had
 right_is s a p had = had_is (way s a p) had
 
 unstamped_shut : (s : Step) (a p : ℕ) (was : Bool) → opens s a p ≡ false → was ≡ false → unstamped_after s a p was ≡ false
-unstamped_shut (End n g) a p was shut h = cond-false ((a == live_word n.turn g) && meets_page (grain_of n) g p) true was shut ∙ h
-unstamped_shut (EndSized n room) a p was shut h = cond-false ((a == live_word n.turn (room / 16)) && meets_page (grain_of n) (room / 16) p) true was shut ∙ h
-unstamped_shut (Stamp q) a p was shut h = ends_none (q == p) was h
-unstamped_shut s a p was shut h = h
+unstamped_shut s a p was shut h = grind (arith, cond-false, ends_none)
 
 check_shut : (s : Step) (a p w deed : ℕ) (right owed : Bool) → opens s a p ≡ false → owed ≡ false → check_after s a p w right deed owed ≡ false
-check_shut (Look word) a p w deed right owed shut h = look_check word a p w deed right owed h
-check_shut (Put q u m) a p w deed right owed shut h = cond-false ((u == w) && (q == p) && not right) true owed (ap (λ t. t && not right) (and_right (u == w) (q == p) shut)) ∙ h
-check_shut (Offer q d) a p w deed right owed shut h = ends_none (q == p) owed h
-check_shut (Park q) a p w deed right owed shut h = cond-false (q == p) true owed shut ∙ h
-check_shut (Unpark q) a p w deed right owed shut h = ends_none (q == p) owed h
-check_shut s a p w deed right owed shut h = h
+check_shut s a p w deed right owed shut h = grind (arith, look_check, cond-false, and_right, ends_none)
 
 hint_shut : (s : Step) (a p : ℕ) (owed : Bool) → opens s a p ≡ false → owed ≡ false → hint_after s a p owed ≡ false
-hint_shut (Look word) a p owed shut h = look_hint word a p owed h
-hint_shut (Take q u m) a p owed shut h = ends_none ((q == p) && (not (a == all_ones) || not (bit_and a m == 0))) owed h
-hint_shut (Put q u m) a p owed shut h = cond-false (q == p) true owed shut ∙ h
-hint_shut (Hint q) a p owed shut h = ends_none (q == p) owed h
-hint_shut s a p owed shut h = h
+hint_shut s a p owed shut h = grind (arith, look_hint, ends_none, cond-false)
 
 examined_shut : (s : Step) (a p : ℕ) (was : Bool) → opens s a p ≡ false → was ≡ false → examined_after s a p was ≡ false
 examined_shut (Look word) a p was shut h = look_hint word a p was h
@@ -146,36 +109,20 @@ examined_shut s a p was shut h = h
 
 -- only an unhint begins to examine a page
 unexamined : (s : Step) (a p : ℕ) (was : Bool) → is_in (Unhinting ∷ []) (kind_of s) ≡ false → was ≡ false → examined_after s a p was ≡ false
-unexamined (Look word) a p was other h = look_hint word a p was h
-unexamined (Take q u m) a p was other h = hint_shut (Take q u m) a p was refl h
-unexamined (Hint q) a p was other h = ends_none (q == p) was h
-unexamined (Unhint q) a p was other h = absurd (true≢false other)
-unexamined s a p was other h = h
+unexamined s a p was other h = grind (arith, look_hint, hint_shut, ends_none, true≢false)
 
 pub unexamined_over : (ks : Kinds) → apart ks (Unhinting ∷ []) ≡ true → (p : ℕ) (steps : List Made) (v : View) → Only ks steps → examines v p ≡ false → examines (steps ++ v) p ≡ false
 unexamined_over ks w p = holds_over (λ v. examines v p ≡ false) (Unhinting ∷ []) ks (λ m v other h. unexamined m.step m.answer p (examines v p) other h) w
 
 clear_shut : (s : Step) (a p : ℕ) (v : View) → opens s a p ≡ false → IsClearOn p v → IsClearOn p (made s a ∷ v)
-clear_shut s a p v shut is = record {
-  stamped = unstamped_shut s a p (is_unstamped v p) shut is.stamped;
-  owes = record {
-    checks = λ w lt. check_shut s a p w (known_deed v p) (has_right v p) (owes_check v p w) shut (is.owes.checks w lt);
-    hint = hint_shut s a p (owes_hint v p) shut is.owes.hint;
-  };
-  examined = examined_shut s a p (examines v p) shut is.examined;
-}
+clear_shut s a p v shut is = search (arith, unstamped_shut, check_shut, hint_shut, examined_shut)
 
 -- ---- steps that open no page
 abbrev pub opening : Kinds
 opening = Putting ∷ Ending ∷ Parking ∷ Unhinting ∷ []
 
 opens_none : (s : Step) (a p : ℕ) → is_in opening (kind_of s) ≡ false → opens s a p ≡ false
-opens_none (Put q u m) a p other = absurd (true≢false other)
-opens_none (End n g) a p other = absurd (true≢false other)
-opens_none (EndSized n room) a p other = absurd (true≢false other)
-opens_none (Park q) a p other = absurd (true≢false other)
-opens_none (Unhint q) a p other = absurd (true≢false other)
-opens_none s a p other = refl
+opens_none s a p other = grind (arith, true≢false)
 
 -- nothing becomes owed on a page
 pub owes_over : (ks : Kinds) → apart ks opening ≡ true → (p : ℕ) (steps : List Made) (v : View) → Only ks steps → OwesNothing p v → OwesNothing p (steps ++ v)
@@ -185,16 +132,13 @@ owes_over ks w p = holds_over (OwesNothing p) opening ks (λ m v other owes. rec
 }) w
 
 clear_step : (t : Bool) (p : ℕ) (v w : View) → (t ≡ false → IsClearOn p v → IsClearOn p w) → ClearAfter (if t then Lost else Kept) p v w
-clear_step true p v w shut = tt
-clear_step false p v w shut = shut refl
+clear_step t p v w shut = grind arith
 
 stays_by : (m : Move) → grain_fate m ≡ Kept → m ≡ Stays
-stays_by Stays h = refl
-stays_by s h = cc
+stays_by s h = grind arith
 
 no_unback : (s : Step) (page : ℕ) → is_in unbacking (kind_of s) ≡ false → unbacks s page ≡ false
-no_unback (Unback q) page h = absurd (true≢false h)
-no_unback s page h = refl
+no_unback s page h = grind (arith, true≢false)
 
 bears_step : (f : Profile) (s : Step) (a x : ℕ) (v : View) → Agrees f v s a → is_in unbacking (kind_of s) ≡ false → grain_move s a x ≡ Stays → Bears v x → Bears (made s a ∷ v) x
 bears_step f s a x v agrees keeps stays bears =
@@ -215,16 +159,10 @@ does_step f s a v keeps agrees = record {
 
 -- ---- steps of kinds that change nothing
 look_keeps : (word : Word) → is_in unbacking (look_kind word) ≡ false
-look_keeps Word.Epoch = refl
-look_keeps word = refl
+look_keeps word = grind arith
 
 does_idle : (f : Profile) (s : Step) (a : ℕ) (v : View) → is_in changing (kind_of s) ≡ false → Agrees f v s a → Does nothing v (made s a ∷ v)
-does_idle f (Look word) a v h agrees = does_step f (Look word) a v (look_keeps word) agrees
-does_idle f (Back p) a v h agrees = does_step f (Back p) a v refl agrees
-does_idle f (Stamp p) a v h agrees = does_step f (Stamp p) a v refl agrees
-does_idle f (Hint p) a v h agrees = does_step f (Hint p) a v refl agrees
-does_idle f (Tick raised) a v h agrees = does_step f (Tick raised) a v refl agrees
-does_idle f s a v h agrees = absurd (true≢false h)
+does_idle f s a v h agrees = grind (arith, does_step, look_keeps, true≢false)
 
 pub does_idly : (f : Profile) (ks : Kinds) → apart ks changing ≡ true → (steps : List Made) (v : View) → Only ks steps → Agreed f v steps → Does nothing v (steps ++ v)
 does_idly f ks w [] v only agreed = does_none v
@@ -240,18 +178,14 @@ bears_over f x ks w k (m ∷ more) v only agreed bears =
     bears_step f m.step m.answer x (more ++ v) agreed.0 (in_apart ks unbacking (place_of (kind_of m.step)) k only.0) (grain_same m.step m.answer x (in_apart ks moving (place_of (kind_of m.step)) w only.0)) (bears_over f x ks w k more v only.1 agreed.1 bears)
 
 right_at : (p q : ℕ) (t : Bool) (r : Fate) (v w : View) → (p == q) ≡ t → has_right w p ≡ now r (has_right v p) → (q ≢ p → has_right w q ≡ has_right v q) → has_right w q ≡ now (if t then r else Kept) (has_right v q)
-right_at p q true r v w e here there = let at : q ≡ p = sym (eqb-true p q e) in subst (λ x. has_right w x ≡ now r (has_right v x)) (sym at) here
-right_at p q false r v w e here there = there (λ at. true≢false (sym (eq-eqb p q (sym at)) ∙ e))
+right_at p q t r v w e here there = grind (arith, eqb-true, true≢false, eq-eqb)
 
 clear_at : (p q : ℕ) (t : Bool) (c : Fate) (v w : View) → (p == q) ≡ t → ClearAfter c p v w → (q ≢ p → IsClearOn q v → IsClearOn q w) → ClearAfter (if t then c else Kept) q v w
-clear_at p q true c v w e here there = let at : q ≡ p = sym (eqb-true p q e) in subst (λ x. ClearAfter c x v w) (sym at) here
-clear_at p q false c v w e here there = there (λ at. true≢false (sym (eq-eqb p q (sym at)) ∙ e))
+clear_at p q t c v w e here there = grind (arith, eqb-true, true≢false, eq-eqb)
 
 -- steps on one page open no other
 on_opens : (p q : ℕ) (s : Step) (a : ℕ) → IsOnPage p s → q ≢ p → opens s a q ≡ false
-on_opens p q s a (IsOnPage.Puts word mask) ne = ne_eqb p q (λ e. ne (sym e))
-on_opens p q s a IsOnPage.Parks ne = ne_eqb p q (λ e. ne (sym e))
-on_opens p q s a is ne = refl
+on_opens p q s a is ne = grind (arith, ne_eqb)
 
 clear_over : (p q : ℕ) (steps : List Made) (v : View) → OnlyOn p steps → q ≢ p → IsClearOn q v → IsClearOn q (steps ++ v)
 clear_over p q [] v on ne is = is
@@ -268,8 +202,7 @@ does_on_page f p r c ks w k steps v only on agreed right clear =
     }
 
 return_kind : (p : ℕ) (s : Step) → IsReturn p s → is_in returning (kind_of s) ≡ true
-return_kind p s (IsReturn.LooksFree w) = refl
-return_kind p s is = refl
+return_kind p s is = grind arith
 
 pub returns_are : (p : ℕ) (steps : List Made) → OnlyReturns p steps → Only returning steps
 returns_are p steps = always_map (λ m before. IsReturn p m.step) (λ m before. is_in returning (kind_of m.step) ≡ true) steps (λ m before is. return_kind p m.step is)
@@ -307,13 +240,10 @@ leads_put f page word mask a = record { from = λ v met agreed. does_as (put (in
 
 -- ---- an end whose grains were put back leaves all as it was, since none of them was held
 back_grain : (t held : Bool) (g : ℕ) → (t ≡ true → held ≡ false) → SameGrain (later (grain_fate (if t then Ends g else Stays)) (if t then Lost else Kept)) Kept held
-back_grain true held g none = inr (none refl, refl)
-back_grain false held g none = inl refl
+back_grain t held g none = grind arith
 
 back_clear : (t u : Bool) (page : ℕ) (v w : View) → (t ≡ true → u ≡ true) → ClearAfter (later (if t then Lost else Kept) (if u then Gained else Kept)) page v w → IsClearOn page v → IsClearOn page w
-back_clear t true page v w covers h is = h
-back_clear false false page v w covers h is = h is
-back_clear true false page v w covers h is = absurd (true≢false (sym (covers refl)))
+back_clear t u page v w covers h is = grind (arith, true≢false)
 
 pub ends_back : {v w u : View} (g n : ℕ) (pages : ℕ → Bool) → EndsBlock g n v w → Does (freed (in_run g n) pages) w u → ((page : ℕ) → meets_page g n page ≡ true → pages page ≡ true) → Does nothing v u
 ends_back {v} {w} {u} g n pages e b covers = does_as nothing (does_then e.does b) (λ x. back_grain (in_run g n x) (holds v x) g (e.apart x)) (λ page. refl) (λ page. back_clear (meets_page g n page) (pages page) page v u (covers page))

@@ -1,10 +1,10 @@
 -- What steps leave as it was.
-use Rattle.std.proofs.Common.{◌≡◌, ℕ, ◌≤◌, Bool, true, false, ◌&&◌, List, [], ◌∷◌, ◌++◌, length, Option, Some, None, refl, ap, sym, ◌∙◌, subst, arith}
-use Rattle.std.proofs.Common.{append_assoc, ◌%◌, if◌then◌else◌, ◌==◌, true≢false, ◌+◌, eqb-true}
+use Rattle.std.proofs.Common.{◌≡◌, ℕ, ◌≤◌, Bool, true, false, ◌&&◌, List, [], ◌∷◌, ◌++◌, length, Option, refl, ap, sym, ◌∙◌, subst, arith, append_assoc, ◌%◌}
+use Rattle.std.proofs.Common.{if◌then◌else◌, ◌==◌, true≢false, ◌+◌, eqb-true}
 use Rattle.pas_bits.specs.Bits.{has_bit}
 use Rattle.pas_profile.specs.declared.event.Event.{Event}
 use Rattle.pas_steps.specs.declared.step.{Made.Made, Step.Step}
-use Rattle.pas_steps.specs.declared.step.Step.TheVariants.{Deed, Back, Give, End, EndSized, TakeRight, Offer, Park, Unpark, Unback}
+use Rattle.pas_steps.specs.declared.step.Step.TheVariants.{Deed, TakeRight, Offer, Park, Unpark}
 use Rattle.pas_profile.specs.Directories.{number_of}
 use Rattle.pas_steps.specs.Views.{View, Way, way, Rests, ByDeed, FromOffer, FromParked, ToOffer, ToParked, had_after, right_after, has_right, epoch_of}
 use Rattle.pas_steps.specs.Views.{given_after, given_count}
@@ -13,8 +13,7 @@ use Rattle.pas_steps.specs.{Past.Always, Frames.GivesUp, Frames.KeepsRight}
 
 -- ---- events
 pub with_append : (o : Option Event) (xs ys : List Event) → with_event o (xs ++ ys) ≡ with_event o xs ++ ys
-with_append None xs ys = refl
-with_append (Some e) xs ys = refl
+with_append o xs ys = grind arith
 
 -- the events of two calls
 pub events_append : (k : ℕ) (ys xs : List Made) (v : View) → events_by k v (ys ++ xs) ≡ events_by k (xs ++ v) ys ++ events_by k v xs
@@ -29,21 +28,13 @@ events_split k [] v = refl
 events_split k (m ∷ xs) v = ap (with_event (event_of k (epoch_of (xs ++ v)) m.step m.answer)) (events_split k xs v) ∙ with_append (event_of k (epoch_of (xs ++ v)) m.step m.answer) (events_by k v xs) (events_of k v)
 
 with_le : (o : Option Event) (es : List Event) (n : ℕ) → n ≤ length es → n ≤ length (with_event o es)
-with_le None es n h = h
-with_le (Some e) es n h = omega (arith, h)
+with_le o es n h = grind arith
 
 pub with_few : (o : Option Event) (es : List Event) → length (with_event o es) ≤ length es + 1
-with_few None es = omega arith
-with_few (Some e) es = omega arith
+with_few o es = grind arith
 
 given_step : (k e : ℕ) (s : Step) (a n : ℕ) (es : List Event) → n ≤ length es → given_after s n ≤ length (with_event (event_of k e s a) es)
-given_step k e (Deed p d) a n es h = with_le (event_of k e (Deed p d) a) es n h
-given_step k e (Back p) a n es h = with_le (event_of k e (Back p) a) es n h
-given_step k e (Give b) a n es h = omega (arith, h)
-given_step k e (End name g) a n es h = with_le (event_of k e (End name g) a) es n h
-given_step k e (EndSized name room) a n es h = with_le (event_of k e (EndSized name room) a) es n h
-given_step k e (Unback p) a n es h = omega (arith, h)
-given_step k e s a n es h = h
+given_step k e s a n es h = grind (arith, with_le)
 
 -- each block that was given is an event
 pub given_le : (k : ℕ) (v : View) → given_count v ≤ length (events_of k v)
@@ -52,12 +43,10 @@ given_le k (m ∷ v) = given_step k (epoch_of v) m.step m.answer (given_count v)
 
 -- ---- a right stays until it is given up
 moves_to : (x had : Bool) (w : Way) → had_after w had ≡ true → had ≡ true → had_after (if x then w else Rests) had ≡ true
-moves_to true had w now h = now
-moves_to false had w now h = h
+moves_to x had w now h = grind arith
 
 gone : (q p : ℕ) (t had : Bool) (w : Way) → (q == p) ≡ t → (q ≡ p → ⊥) → had ≡ true → had_after (if t then w else Rests) had ≡ true
-gone q p true had w e ne h = absurd (ne (eqb-true q p e))
-gone q p false had w e ne h = h
+gone q p t had w e ne h = grind (arith, eqb-true)
 
 right_stays : (s : Step) (a p : ℕ) (had : Bool) → (GivesUp p s → ⊥) → had ≡ true → right_after s a p had ≡ true
 right_stays (Deed q d) a p had keeps h = moves_to ((q == p) && (a == 0)) had ByDeed refl h
@@ -78,10 +67,7 @@ right_own p (y ∷ ys) xs h = ap (had_after (way y.step y.answer p)) (right_own 
 
 -- one that they tell is one of the view
 more_right : (w : Way) (own had : Bool) → (own ≡ true → had ≡ true) → had_after w own ≡ true → had_after w had ≡ true
-more_right Rests own had more h = more h
-more_right (ToOffer n) own had more h = h
-more_right ToParked own had more h = h
-more_right s own had more h = refl
+more_right s own had more h = grind arith
 
 pub right_of_own : (p : ℕ) (xs : List Made) (v : View) → has_right xs p ≡ true → has_right (xs ++ v) p ≡ true
 right_of_own p [] v h = absurd (true≢false (sym h))

@@ -1,18 +1,16 @@
 -- What the framed steps leave as it was: rights, grains, knowledge, debts and events, and which pages are known as backed.
-use Rattle.std.proofs.Common.{◌≡◌, ◌≢◌, ℕ, ◌+◌, ◌*◌, ◌/◌, ◌%◌, ◌==◌, Bool, true, false, not, ◌&&◌, ◌||◌, if◌then◌else◌, List, [], ◌∷◌, ◌++◌, refl, ap, sym, ◌∙◌}
-use Rattle.std.proofs.Common.{subst, arith, bit_and, ◌<◌, true≢false, ne_eqb, eqb-true}
+use Rattle.std.proofs.Common.{◌≡◌, ◌≢◌, ℕ, ◌+◌, ◌*◌, ◌/◌, ◌%◌, ◌==◌, Bool, true, false, ◌&&◌, if◌then◌else◌, List, [], ◌∷◌, ◌++◌, refl, ap, sym, ◌∙◌, arith}
+use Rattle.std.proofs.Common.{◌<◌, true≢false, ne_eqb, eqb-true}
 use Rattle.std.proofs.lemmas.Bool.{and_parts, and_right, cond-false, and_from}
 use Rattle.pas_bits.specs.Bits.{has_bit}
-use Rattle.pas_profile.specs.Directories.{deed_word_of, deed_word_numbered, number_of}
 use Rattle.pas_profile.specs.declared.{directory.Directory.Directory, profile.Profile.Profile, word.Word.Word}
 use Rattle.pas_profile.proofs.Codecs.{deed_word_of-positive}
-use Rattle.pas_steps.specs.declared.step.{Made.Made, Step.Step}
+use Rattle.pas_steps.specs.declared.step.{Made.Made, Step.Step, Step.TheVariants.Look}
 use Rattle.pas_steps.proofs.{Flags.ends_none, Flags.stays_set, Past.always_map}
-use Rattle.pas_steps.specs.declared.step.Step.TheVariants.{Look, Deed, TakeRight, Offer, Back, Unback}
 use Rattle.pas_steps.specs.{Effects.in_mask, Agreement.Agrees, Agreement.Agreed, Past.Always}
-use Rattle.pas_steps.specs.Views.{View, Stays, Gets, Puts, grain_move, held_after, holds, Rests, ByDeed, FromOffer, FromParked, ToOffer, ToParked, way}
-use Rattle.pas_steps.specs.Views.{had_after, has_right, deed_after, deed_after_look, known_deed, KnowsDeed, no_usable, check_after, all_ones, hint_after}
-use Rattle.pas_steps.specs.Views.{examined_after, examines, any_below, holds_on, backed_after, backed_after_look, knows_backed}
+use Rattle.pas_steps.specs.Views.{View, Stays, grain_move, held_after, holds, Rests, way, had_after, has_right, deed_after, deed_after_look, known_deed}
+use Rattle.pas_steps.specs.Views.{KnowsDeed, check_after, hint_after, examined_after, examines, any_below, holds_on, backed_after, backed_after_look}
+use Rattle.pas_steps.specs.Views.{knows_backed}
 use Rattle.pas_steps.specs.Frames.{IsOnPage, IsReturn, IsRead, IsScan, OnlyOn, OnlyReturns, OnlyReads, OnlyScans, IsLook, AreLooks, unbacks}
 use Rattle.std.proofs.lemmas.Bool.Decides.{nat_tests, Decides-below_or}
 use Rattle.std.specs.Bool.{Decides}
@@ -28,12 +26,7 @@ unless t u x y h = ap (λ s. if s && u then x else y) h
 
 -- ---- steps on one page alone: nothing of another page changes, but for what is known of it
 on_way : (p q : ℕ) (s : Step) (a : ℕ) → IsOnPage p s → q ≢ p → way s a q ≡ Rests
-on_way p q s a (IsOnPage.Deeds d) ne = unless (p == q) (a == 0) ByDeed Rests (other p q ne)
-on_way p q s a (IsOnPage.Claims d) ne = unless (p == q) (has_bit a (q % 64)) (FromOffer (number_of d)) Rests (other p q ne)
-on_way p q s a (IsOnPage.Offers d) ne = cond-false (p == q) (ToOffer (number_of d)) Rests (other p q ne)
-on_way p q s a IsOnPage.Parks ne = cond-false (p == q) ToParked Rests (other p q ne)
-on_way p q s a IsOnPage.Unparks ne = unless (p == q) (has_bit a (q % 64)) FromParked Rests (other p q ne)
-on_way p q s a step ne = refl
+on_way p q s a step ne = grind (arith, unless, other, cond-false)
 
 pub right_on : (p q : ℕ) (steps : List Made) (v : View) → OnlyOn p steps → q ≢ p → has_right (steps ++ v) q ≡ has_right v q
 right_on p q [] v h ne = refl
@@ -43,9 +36,7 @@ outside : (w p mask g : ℕ) → (p == g / 256) ≡ false → in_mask p w mask g
 outside w p mask g h = ap (λ t. (w == g / 64 % 4) && t && has_bit mask (g % 64)) h ∙ ap (λ t. t && has_bit mask (g % 64)) (and_right (w == g / 64 % 4) false refl)
 
 pub on_grain : (p : ℕ) (s : Step) (a g : ℕ) → IsOnPage p s → g / 256 ≢ p → grain_move s a g ≡ Stays
-on_grain p s a g (IsOnPage.Takes word mask) ne = unless (in_mask p word mask g) (has_bit a (g % 64)) Gets Stays (outside word p mask g (other p (g / 256) ne))
-on_grain p s a g (IsOnPage.Puts word mask) ne = cond-false (in_mask p word mask g) Puts Stays (outside word p mask g (other p (g / 256) ne))
-on_grain p s a g step ne = refl
+on_grain p s a g step ne = grind (arith, unless, outside, other, cond-false)
 
 pub holds_on_page : (p g : ℕ) (steps : List Made) (v : View) → OnlyOn p steps → g / 256 ≢ p → holds (steps ++ v) g ≡ holds v g
 holds_on_page p g [] v h ne = refl
@@ -53,19 +44,13 @@ holds_on_page p g (m ∷ more) v h ne = ap (λ x. held_after x (holds (more ++ v
 
 -- looks end checks and hints, and add none
 pub look_check : (word : Word) (a q w deed : ℕ) (right owed : Bool) → owed ≡ false → check_after (Look word) a q w right deed owed ≡ false
-look_check (Word.Free x u) a q w deed right owed h = ends_none ((u == w) && (x == q) && not (deed == 0) && no_usable deed w a) owed h
-look_check s a q w deed right owed h = h
+look_check s a q w deed right owed h = grind (arith, ends_none)
 
 pub look_hint : (word : Word) (a q : ℕ) (owed : Bool) → owed ≡ false → hint_after (Look word) a q owed ≡ false
-look_hint (Word.Free x u) a q owed h = ends_none ((x == q) && not (a == all_ones)) owed h
-look_hint (Word.Backed x) a q owed h = ends_none ((x == q) && (a == 0)) owed h
-look_hint s a q owed h = h
+look_hint s a q owed h = grind (arith, ends_none)
 
 on_examined : (p : ℕ) (s : Step) (a q : ℕ) (was : Bool) → IsOnPage p s → was ≡ false → examined_after s a q was ≡ false
-on_examined p s a q was (IsOnPage.Looks word) h = look_hint word a q was h
-on_examined p s a q was (IsOnPage.Takes word mask) h = ends_none ((p == q) && (not (a == all_ones) || not (bit_and a mask == 0))) was h
-on_examined p s a q was IsOnPage.Hints h = ends_none (p == q) was h
-on_examined p s a q was is h = h
+on_examined p s a q was is h = grind (arith, look_hint, ends_none)
 
 -- no page becomes one that is examined
 pub examined_on : (p q : ℕ) (steps : List Made) (v : View) → OnlyOn p steps → examines v q ≡ false → examines (steps ++ v) q ≡ false
@@ -80,20 +65,10 @@ told_bit : {A : Type 0} (known word : A) (t : Bool) → (t ≡ true → word ≡
 told_bit known word t h = grind arith
 
 look_deed : (f : Profile) (v : View) (word : Word) (a p : ℕ) → Agrees f v (Look word) a → known_deed v p ≢ 0 → deed_after_look word a p (known_deed v p) ≡ known_deed v p
-look_deed f v (Word.Deed q) a p agrees ne = told_bit (known_deed v p) a (q == p) (λ h. let e : q ≡ p = eqb-true q p h in subst (λ x. known_deed v x ≢ 0 → a ≡ known_deed v x) e agrees.known ne)
-look_deed f v (Word.Eligible d j) a p agrees ne = told_bit (known_deed v p) (deed_word_numbered d) ((j == p / 64) && has_bit a (p % 64)) (λ h.
-    let parts = and_parts (j == p / 64) (has_bit a (p % 64)) h in
-    let at : j ≡ p / 64 = eqb-true j (p / 64) parts.0 in
-    let whole : 64 * j + p % 64 ≡ p = omega (arith, at) in
-    sym (subst (λ x. known_deed v x ≢ 0 → known_deed v x ≡ deed_word_numbered d) whole (agrees.known (p % 64) (omega arith) parts.1) ne))
-look_deed f v s a p agrees ne = refl
+look_deed f v s a p agrees ne = grind (arith, told_bit, eqb-true, and_parts)
 
 deed_same : (f : Profile) (v : View) (s : Step) (a p : ℕ) → Agrees f v s a → known_deed v p ≢ 0 → deed_after s a p (known_deed v p) ≡ known_deed v p
-deed_same f v (Look word) a p agrees ne = look_deed f v word a p agrees ne
-deed_same f v (TakeRight q d) a p agrees ne = look_deed f v (Word.Eligible (number_of d) (q / 64)) a p agrees ne
-deed_same f v (Offer q d) a p agrees ne = look_deed f v (Word.Eligible (number_of d) (q / 64)) a p agrees ne
-deed_same f v (Deed q d) a p agrees ne = told_here (known_deed v p) a (deed_word_of d) (q == p) (a == 0) refl (λ h. let e : q ≡ p = eqb-true q p h in subst (λ x. known_deed v x ≢ 0 → a ≡ known_deed v x) e agrees.known ne) ne
-deed_same f v s a p agrees ne = refl
+deed_same f v s a p agrees ne = grind (arith, look_deed, told_here, eqb-true)
 
 pub deed_stays : (f : Profile) (steps : List Made) (v : View) (p : ℕ) → Agreed f v steps → known_deed v p ≢ 0 → known_deed (steps ++ v) p ≡ known_deed v p
 deed_stays f [] v p agreed ne = refl
@@ -118,8 +93,7 @@ pub returns_on : (p : ℕ) (steps : List Made) → OnlyReturns p steps → OnlyO
 returns_on p steps = always_map (λ m before. IsReturn p m.step) (λ m before. IsOnPage p m.step) steps (λ m before. return_on p m.step)
 
 scan_look : (s : Step) → IsScan s → IsLook s
-scan_look s (IsScan.LooksEligible d j) = tt
-scan_look s is = tt
+scan_look s is = grind arith
 
 pub scans_look : (steps : List Made) → OnlyScans steps → AreLooks steps
 scans_look [] h = tt
@@ -135,8 +109,7 @@ looks_read [] h = tt
 looks_read (m ∷ more) h = (look_read m.step m.answer h.0, looks_read more h.1)
 
 read_way : (s : Step) (a q : ℕ) → IsRead s a → way s a q ≡ Rests
-read_way s a q (IsRead.Looks word b) = refl
-read_way s a q (IsRead.Reads p d b ne) = ap (λ t. if (p == q) && t then ByDeed else Rests) (ne_eqb a 0 ne) ∙ ap (λ t. if t then ByDeed else Rests) (and_right (p == q) false refl)
+read_way s a q e = grind (arith, ne_eqb, and_right)
 
 pub right_reads : (q : ℕ) (steps : List Made) (v : View) → OnlyReads steps → has_right (steps ++ v) q ≡ has_right v q
 right_reads q [] v h = refl
@@ -160,14 +133,10 @@ one_read : (a : ℕ) (t known : Bool) → (t ≡ true → a ≡ 1) → known ≡
 one_read a t known h e = grind (arith, nat_tests)
 
 look_backed : (f : Profile) (v : View) (w : Word) (a q : ℕ) → Agrees f v (Look w) a → knows_backed v q ≡ true → backed_after_look w a q (knows_backed v q) ≡ true
-look_backed f v (Word.Backed p) a q agrees h = one_read a (p == q) (knows_backed v q) (λ e. agrees.known (subst (λ x. knows_backed v x ≡ true) (sym (eqb-true p q e)) h)) h
-look_backed f v s a q agrees h = h
+look_backed f v s a q agrees h = grind (arith, one_read, eqb-true)
 
 still_backed : (f : Profile) (v : View) (s : Step) (a q : ℕ) → Agrees f v s a → unbacks s q ≡ false → knows_backed v q ≡ true → backed_after s a q (knows_backed v q) ≡ true
-still_backed f v (Look w) a q agrees keep h = look_backed f v w a q agrees h
-still_backed f v (Back p) a q agrees keep h = stays_set (p == q) (knows_backed v q) h
-still_backed f v (Unback p) a q agrees other h = ap (λ t. if t then false else knows_backed v q) other ∙ h
-still_backed f v s a q agrees keep h = h
+still_backed f v s a q agrees keep h = grind (arith, look_backed, stays_set)
 
 -- ---- all steps
 still_held : (x : ℕ) (steps : List Made) (v : View) → Always (λ m before. grain_move m.step m.answer x ≡ Stays) steps → holds v x ≡ true → holds (steps ++ v) x ≡ true

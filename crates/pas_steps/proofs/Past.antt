@@ -50,7 +50,4 @@ in_turn_always P R each (x ∷ xs) steps h =
 pub in_turn_length : {A : Type 0} (P : A → List Made → Type 0) (n : ℕ) → ((x : A) (piece : List Made) → P x piece → length piece ≤ n) → (xs : List A) (steps : List Made) → InTurn P xs steps → length steps ≤ n * length xs
 in_turn_length P n each [] steps h = let none : length steps ≡ 0 = ap length h in omega (arith, none)
 in_turn_length P n each (x ∷ xs) steps h =
-    let here : length h.0 ≤ n = each x h.0 h.2 in
-    let before : length h.1 ≤ n * length xs = in_turn_length P n each xs h.1 h.3 in
-    let all : length steps ≡ length h.0 + length h.1 = ap length h.4 ∙ length-append h.0 h.1 in
-    omega (arith, here, before, all)
+    omega (arith, each x h.0 h.2, in_turn_length P n each xs h.1 h.3, ap length h.4 ∙ length-append h.0 h.1)

@@ -21,15 +21,13 @@ kept_kept t = grind arith
 
 -- ---- more grains of one page, the same grains in other words
 pub put_both : {v w u : View} (a b c : ℕ → Bool) (page : ℕ) → Does (put a page) v w → Does (put b page) w u → ((x : ℕ) → (a x || b x) ≡ c x) → Does (put c page) v u
-put_both {v} {w} {u} a b c page d e grains = does_as (put c page) (does_then d e) (λ x. inl (both_fates Lost (a x) (b x) (c x) refl (grains x))) (λ q. refl)
-    (λ q h. subst (λ t. ClearAfter t q v u) (both_fates Lost (page == q) (page == q) (page == q) refl (or_self (page == q))) h)
+put_both {v} {w} {u} a b c page d e grains = search (arith, does_as, does_then, both_fates, or_self)
 
 pub put_as : {v w : View} (a b : ℕ → Bool) (page : ℕ) → Does (put a page) v w → ((x : ℕ) → a x ≡ b x) → Does (put b page) v w
 put_as a b page d same = does_as (put b page) d (λ x. inl (ap (λ t. if t then Lost else Kept) (same x))) (λ q. refl) (λ q h. h)
 
 may_open : (t : Bool) (q : ℕ) (v w : View) → (IsClearOn q v → IsClearOn q w) → ClearAfter (if t then Lost else Kept) q v w
-may_open true q v w h = tt
-may_open false q v w h = h
+may_open t q v w h = grind arith
 
 pub put_nothing : {v w : View} (a : ℕ → Bool) (page : ℕ) → Does nothing v w → ((x : ℕ) → a x ≡ false) → Does (put a page) v w
 put_nothing {v} {w} a page d none = does_as (put a page) d (λ x. inl (ap (λ t. if t then Lost else Kept) (sym (none x)))) (λ q. refl) (λ q h. may_open (page == q) q v w h)
@@ -39,8 +37,7 @@ pub put_freed : {v w u : View} (a pages : ℕ → Bool) (page : ℕ) → Does (p
 put_freed {v} {w} {u} a pages page d e its = does_as (freed a pages) (does_then d e) (λ x. inl refl) (λ q. kept_kept (page == q)) (λ q h. subst (λ t. ClearAfter t q v u) (open_first (page == q) (pages q) (its q)) h)
 
 pub freed_both : {v w u : View} (a p b q c r : ℕ → Bool) → Does (freed a p) v w → Does (freed b q) w u → ((x : ℕ) → (a x || b x) ≡ c x) → ((x : ℕ) → (p x || q x) ≡ r x) → Does (freed c r) v u
-freed_both {v} {w} {u} a p b q c r d e grains pages = does_as (freed c r) (does_then d e) (λ x. inl (both_fates Lost (a x) (b x) (c x) refl (grains x))) (λ page. refl)
-    (λ page h. subst (λ t. ClearAfter t page v u) (both_fates Gained (p page) (q page) (r page) refl (pages page)) h)
+freed_both {v} {w} {u} a p b q c r d e grains pages = search (arith, does_as, does_then, both_fates)
 
 pub freed_nothing : {v w : View} (a p : ℕ → Bool) → Does nothing v w → ((x : ℕ) → a x ≡ false) → ((x : ℕ) → p x ≡ false) → Does (freed a p) v w
 freed_nothing {v} {w} a p d none no_page = does_as (freed a p) d (λ x. inl (ap (λ t. if t then Lost else Kept) (sym (none x)))) (λ q. refl) (λ q h. subst (λ t. ClearAfter (if t then Gained else Kept) q v w) (sym (no_page q)) h)

@@ -1,6 +1,6 @@
 -- The words of a region: that the numbers of a step fit them, that the word of a step is one of them, and what they are after one was written.
-use Rattle.std.proofs.Common.{ℕ, ◌+◌, ◌*◌, ◌/◌, ◌^◌, ◌<◌, ◌≤◌, arith, ◌%◌, ◌≡◌, Bool, true, false, if◌then◌else◌, List, length, ap, sym, ◌∙◌, subst}
-use Rattle.std.proofs.Common.{slice_index, slice_set, get_or-set_same, get_or-set_other}
+use Rattle.std.proofs.Common.{ℕ, ◌+◌, ◌*◌, ◌/◌, ◌^◌, ◌<◌, ◌≤◌, arith, ◌%◌, ◌≡◌, Bool, true, false, if◌then◌else◌, List, length, sym, slice_index, slice_set}
+use Rattle.std.proofs.Common.{get_or-set_same, get_or-set_other}
 use Rattle.pas_profile.specs.Profiles.{IsValid, vector_words, IsWordOf, IsWordIn}
 use Rattle.pas_profile.specs.declared.{profile.Profile.Profile, word.Word.Word}
 use Rattle.pas_profile.specs.{Blocks.address_of, Layouts.index_of, Layouts.words_of, Layouts.same_word}
@@ -22,13 +22,7 @@ heap_fits heap heaps few low = omega arith
 
 -- the numbers of a step of a valid profile fit
 pub is_ranged : (f : Profile) (s : Step) → IsValid f → IsStepOf f s → IsRanged s
-is_ranged f (Deed page directory) valid of = record { heap = heap_fits directory.heap f.heaps valid.heaps of.1.heap; kind = of.1.kind }
-is_ranged f (Give block) valid of = (of.turn, grains_fit (address_of block.name) block.room f.pages valid.pages of.first of.last)
-is_ranged f (End name guess) valid of = (of.2, guess_fits guess f.pages valid.pages of.4)
-is_ranged f (EndSized name room) valid of = (of.0.2, guess_fits (room / 16) f.pages valid.pages of.0.4)
-is_ranged f (TakeRight page directory) valid of = record { heap = heap_fits directory.heap f.heaps valid.heaps of.1.heap; kind = of.1.kind }
-is_ranged f (Offer page directory) valid of = record { heap = heap_fits directory.heap f.heaps valid.heaps of.1.heap; kind = of.1.kind }
-is_ranged f s valid of = tt
+is_ranged f s valid of = grind (arith, heap_fits, grains_fit, guess_fits)
 
 -- ==== The word of a step of a region is one of the region.
 
@@ -64,8 +58,6 @@ target_of_region f v s of allowed = of
 -- a word's value after the write of another one's
 pub place_written : (pages heaps : ℕ) (words : List ℕ) (x w : Word) (n : ℕ) → length words ≡ words_of pages heaps → IsWordIn pages heaps x → IsWordIn pages heaps w
     → (same : Bool) → same_word x w ≡ same → slice_index (slice_set words (index_of pages x) n) (index_of pages w) ≡ (if same then n else slice_index words (index_of pages w))
-place_written pages heaps words x w n sized hx hw true e =
-    let room : index_of pages x < length words = subst (λ m. index_of pages x < m) (sym sized) (index_lt pages heaps x hx) in
-    ap (λ y. slice_index (slice_set words (index_of pages x) n) (index_of pages y)) (sym (same_word-true x w e)) ∙ get_or-set_same words (index_of pages x) n 0 room
+place_written pages heaps words x w n sized hx hw true e = search (arith, index_lt, same_word-true, get_or-set_same)
 place_written pages heaps words x w n sized hx hw false e =
     get_or-set_other words (index_of pages x) (index_of pages w) n 0 (λ same. other_place pages heaps x w hx hw e (sym same))

@@ -1,6 +1,5 @@
 -- Pages whose deeds aren't known grow fewer, and the room that is left for their deeds.
-use Rattle.std.proofs.Common.{◌≡◌, ◌≢◌, ℕ, zero, suc, ◌+◌, ◌≤◌, ◌==◌, Bool, true, false, if◌then◌else◌, List, ◌++◌, inl, inr, refl, ap, sym, ◌∙◌, arith}
-use Rattle.std.proofs.Common.{eqb-true, ne_eqb}
+use Rattle.std.proofs.Common.{◌≡◌, ◌≢◌, ℕ, zero, suc, ◌+◌, ◌≤◌, ◌==◌, Bool, if◌then◌else◌, List, ◌++◌, inl, inr, refl, ap, sym, ◌∙◌, arith, eqb-true, ne_eqb}
 use Rattle.std.proofs.lemmas.Bool.{eqb-false, cases_eq}
 use Rattle.pas_profile.specs.Profiles.{IsPage}
 use Rattle.pas_profile.specs.declared.profile.Profile.{Profile}
@@ -13,16 +12,13 @@ abbrev one_if : Bool → ℕ
 one_if t = if t then 1 else 0
 
 no_more : (a b : ℕ) (t u : Bool) → (a == 0) ≡ t → (b == 0) ≡ u → (b ≢ 0 → a ≢ 0) → unknown_here a ≤ unknown_here b
-no_more a b true true ea eb h = let x : unknown_here a ≡ 1 = ap one_if ea in let y : unknown_here b ≡ 1 = ap one_if eb in omega (arith, x, y)
-no_more a b true false ea eb h = absurd (h (eqb-false b 0 eb) (eqb-true a 0 ea))
-no_more a b false u ea eb h = let x : unknown_here a ≡ 0 = ap one_if ea in omega (arith, x)
+no_more a b t u ea eb h = grind (arith, eqb-false, eqb-true)
 
 unknown_kept : (f : Profile) (n : ℕ) (steps : List Made) (v : View) → Agreed f v steps → unknown_below n (steps ++ v) ≤ unknown_below n v
 unknown_kept f zero steps v agreed = omega arith
 unknown_kept f (suc n) steps v agreed =
     let here = no_more (known_deed (steps ++ v) (suc n)) (known_deed v (suc n)) _ _ refl refl (λ ne z. ne (sym (deed_stays f steps v (suc n) agreed ne) ∙ z)) in
-    let below = unknown_kept f n steps v agreed in
-    omega (arith, here, below)
+    omega (arith, here, unknown_kept f n steps v agreed)
 
 pub unknown_stays : (f : Profile) (steps : List Made) (v : View) → Agreed f v steps → unknown_pages f (steps ++ v) ≤ unknown_pages f v
 unknown_stays f steps v agreed = unknown_kept f f.pages steps v agreed
@@ -30,13 +26,7 @@ unknown_stays f steps v agreed = unknown_kept f f.pages steps v agreed
 unknown_fewer : (f : Profile) (n page : ℕ) (steps : List Made) (v : View) → Agreed f v steps → known_deed v page ≡ 0 → known_deed (steps ++ v) page ≢ 0 → 1 ≤ page → page ≤ n → unknown_below n (steps ++ v) + 1 ≤ unknown_below n v
 unknown_fewer f zero page steps v agreed was now low high = absurd (omega (arith, low, high))
 unknown_fewer f (suc n) page steps v agreed was now low high = elim (cases_eq page (suc n)) [
-  | inl e ↦
-      let before : known_deed v (suc n) ≡ 0 = ap (known_deed v) (sym e) ∙ was in
-      let x : unknown_here (known_deed v (suc n)) ≡ 1 = ap unknown_here before in
-      let other : (known_deed (steps ++ v) (suc n) == 0) ≡ false = ne_eqb (known_deed (steps ++ v) (suc n)) 0 (λ z. now (ap (known_deed (steps ++ v)) e ∙ z)) in
-      let y : unknown_here (known_deed (steps ++ v) (suc n)) ≡ 0 = ap one_if other in
-      let below = unknown_kept f n steps v agreed in
-      omega (arith, x, y, below)
+  | inl e ↦ search (arith, ne_eqb, unknown_kept)
   | inr ne ↦
       let here = no_more (known_deed (steps ++ v) (suc n)) (known_deed v (suc n)) _ _ refl refl (λ some z. some (sym (deed_stays f steps v (suc n) agreed some) ∙ z)) in
       let below = unknown_fewer f n page steps v agreed was now low (omega (arith, high, ne)) in
@@ -49,10 +39,8 @@ unknown_less f page steps v agreed is was now = unknown_fewer f f.pages page ste
 none_below : (f : Profile) (n : ℕ) (v : View) → KnowsAllDeeds f v → n ≤ f.pages → unknown_below n v ≡ 0
 none_below f zero v all le = refl
 none_below f (suc n) v all le =
-    let here : (known_deed v (suc n) == 0) ≡ false = ne_eqb (known_deed v (suc n)) 0 (all (suc n) (omega arith, le)) in
-    let x : unknown_here (known_deed v (suc n)) ≡ 0 = ap one_if here in
     let below = none_below f n v all (omega (arith, le)) in
-    omega (arith, x, below)
+    omega (arith, ap one_if (ne_eqb (known_deed v (suc n)) 0 (all (suc n) (omega arith, le))), below)
 
 pub none_unknown : (f : Profile) (v : View) → KnowsAllDeeds f v → unknown_pages f v ≡ 0
 none_unknown f v all = none_below f f.pages v all (omega arith)
@@ -60,10 +48,7 @@ none_unknown f v all = none_below f f.pages v all (omega arith)
 all_below : (n : ℕ) (v : View) (page : ℕ) → unknown_below n v ≡ 0 → 1 ≤ page → page ≤ n → known_deed v page ≢ 0
 all_below zero v page none low high = absurd (omega (arith, low, high))
 all_below (suc n) v page none low high = elim (cases_eq page (suc n)) [
-  | inl e ↦ λ z.
-      let here : known_deed v (suc n) ≡ 0 = ap (known_deed v) (sym e) ∙ z in
-      let x : unknown_here (known_deed v (suc n)) ≡ 1 = ap unknown_here here in
-      omega (arith, none, x)
+  | inl e ↦ search arith
   | inr ne ↦ all_below n v page (omega (arith, none)) low (omega (arith, high, ne))
 ]
 

@@ -1,6 +1,6 @@
-use Rattle.std.proofs.Common.{◌+◌, ◌*◌, ◌/◌, ◌≤◌, refl, sym, subst}
+use Rattle.std.proofs.Common.{arith, ◌+◌, ◌*◌, ◌/◌, ◌≤◌, sym, subst}
 use Rattle.pas_steps.specs.Desks.{CanCall}
-use Rattle.pas_rights.specs.Gives.{MayGive, GivesRun}
+use Rattle.pas_rights.specs.Gives.{MayGive}
 use Rattle.pas_cache.proofs.Resting.{slot_within, region_within, can_give, gives_lowest}
 use Rattle.pas_cache.proofs.giving.give_lowest.Goals as goal
 
@@ -23,6 +23,4 @@ give-block-requires-clause-can g c = let slots = c.args.slots.now in let σ = g.
     subst (λ n. CanCall σ (MayGive σ.seat.profile slots.heap slots.page c.in-Some.start (n / 16))) (sym c.class_size-grains.ensures) (can_give slots c.in-Some.start c.in-Some.ensures c.requires.can)
 
 pub returns-clause-gives : goal.returns-clause-gives
-returns-clause-gives g c = let slots = c.args.slots.now in let D = g.D.Desk in
-    gives_lowest slots c.in-Some.start c.in-Some.ensures _ c.give-block.result c.requires.can.met.local.class (record { page = refl; heap = refl; class = refl; right = refl; starts = c.clear.ensures })
-    (subst (λ n. GivesRun slots.heap slots.page c.in-Some.start (n / 16) c.give-block.result (D.standing c.args.desk.now) (D.standing c.give-block.new.desk)) c.class_size-grains.ensures c.give-block.ensures.gives)
+returns-clause-gives g c = search (arith, gives_lowest)

@@ -1,6 +1,6 @@
-use Rattle.std.proofs.Common.{◌≤◌, ◌∷◌, ◌∙◌, ap, append_assoc, append-nil, arith, refl, [], ◌++◌, sym}
+use Rattle.std.proofs.Common.{◌∷◌, ◌∙◌, ap, append_assoc, append-nil, arith, refl, [], ◌++◌, sym}
 use Rattle.std.proofs.lemmas.List.{nil_from_length}
-use Rattle.pas_cache.proofs.Stops.{rests_call, releases_none, popped, stops_more, all_stopped}
+use Rattle.pas_cache.proofs.Stops.{rests_call, releases_none, popped, stops_more}
 use Rattle.pas_cache.proofs.stopping.stop_all.Goals as goal
 
 pub loop-last-init : goal.loop-last-init
@@ -21,8 +21,4 @@ loop-last-preserved g c =
     }
 
 pub returns : goal.returns
-returns g c =
-    let i = c.loop-last.invariant in
-    let none : 1 ≤ c.len.result → ⊥ = c.in_default.ensures in
-    let empty = nil_from_length c.loop-last.locals.items (omega (arith, c.len.ensures.value, none)) in
-    record { stops = all_stopped _ _ i.stopped empty i.whole i.releases; empty = empty; spare = i.spare; home = i.home }
+returns g c = search (arith, nil_from_length)

@@ -1,9 +1,8 @@
-use Rattle.std.proofs.Common.{◌≡◌, [], ◌++◌, refl, ◌∙◌, subst, sym, add-one, arith}
+use Rattle.std.proofs.Common.{[], ◌++◌, refl, ◌∙◌, subst, sym, add-one, arith}
 use Rattle.pas_profile.specs.Profiles.{IsPage}
-use Rattle.pas_steps.specs.Calls.{Calls, Does, put}
 use Rattle.pas_steps.proofs.Called.{call_none, next_call}
-use Rattle.pas_rights.specs.Puts.{MayPut, PutsBelow}
-use Rattle.pas_rights.proofs.Puts.{masked_below, may_put_word, puts_none, puts_more, puts_all}
+use Rattle.pas_rights.specs.Puts.{PutsBelow}
+use Rattle.pas_rights.proofs.Puts.{may_put_word, puts_none, puts_more, puts_all}
 use Rattle.pas_rights.proofs.putting.put.Goals as goal
 
 pub loop-word-init : goal.loop-word-init
@@ -25,7 +24,4 @@ loop-word-preserved g c = let i = c.loop-word.invariant in let p = c.put_word.en
 }
 
 pub returns-clause-puts : goal.returns-clause-puts
-returns-clause-puts g c = let i = c.loop-word.invariant in
-    let all : c.loop-word.word ≡ 4 = omega (arith, c.loop-word-test.false, c.loop-word.auto.word-end) in let page = c.args.page in let mask = c.args.mask.now in
-    puts_all page mask i.steps (subst (λ n. PutsBelow page mask n i.steps) all i.order)
-    (subst (λ n. Calls (g.D.Desk.standing c.args.desk.now) (g.D.Desk.standing c.loop-word.desk) (MayPut page mask) (Does (put (masked_below page mask n) page)) i.steps) all i.calls)
+returns-clause-puts g c = search (arith, puts_all)

@@ -1,4 +1,4 @@
-use Rattle.std.proofs.Common.{◌≡◌, refl, sym, subst, ◌∙◌, add-one, arith}
+use Rattle.std.proofs.Common.{◌≡◌, refl, subst, ◌∙◌, add-one, arith}
 use Rattle.pas_steps.specs.Desks.{AnyView, Adds}
 use Rattle.pas_steps.proofs.Adding.{adds_none, adds_step, can_step}
 use Rattle.pas_rights.specs.{Looks.looks, Words.ones}
@@ -13,8 +13,7 @@ look-value-requires-clause-can g c = can_step c.loop-word.invariant.adds c.requi
 
 pub loop-word-preserved : goal.loop-word-preserved
 loop-word-preserved g c = let D = g.D.Desk in let i = c.loop-word.invariant in record {
-  adds = subst (λ n. Adds (D.standing c.args.desk.now) (D.standing c.look-value.new.self) AnyView (looks c.args.page ones n)) (sym (add-one c.loop-word.word))
-      (more_looks c.args.page ones c.loop-word.word c.look-value.result c.if-value.false i.adds c.look-value.ensures.makes);
+  adds = search (arith, add-one, more_looks);
   home = c.look-value.ensures.home ∙ i.home;
 }
 

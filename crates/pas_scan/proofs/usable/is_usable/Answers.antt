@@ -1,10 +1,9 @@
-use Rattle.std.proofs.Common.{[], ◌∷◌, refl, ◌∙◌, subst, MatchBool, ◌/◌, sym, inr, arith}
+use Rattle.std.proofs.Common.{[], ◌∷◌, refl, ◌∙◌, subst, ◌/◌, sym, inr, arith}
 use Rattle.pas_profile.specs.declared.word.Word.{Word}
 use Rattle.pas_steps.specs.declared.step.Step.TheVariants.{Look}
-use Rattle.pas_steps.specs.{Desks.Makes, Past.Once}
+use Rattle.pas_steps.specs.Desks.{Makes}
 use Rattle.pas_steps.proofs.Adding.{adds_none, adds_step}
-use Rattle.pas_scan.proofs.LeftPages.{deed_look, eligible_look, deed_read, two_looks, bare, other_deed, not_offered, reads_by}
-use Rattle.pas_scan.specs.Usable.{ReadUsable, UnusableHere}
+use Rattle.pas_scan.proofs.LeftPages.{deed_look, eligible_look, deed_read, bare, other_deed, not_offered, reads_by}
 use Rattle.pas_scan.proofs.usable.is_usable.Goals as goal
 
 pub returns-then-deed-eq0-clause-reads : goal.returns-then-deed-eq0-clause-reads
@@ -37,8 +36,7 @@ returns-else-has_page-clause-reads g c =
       kinds = (refl, (refl, tt));
       few = omega arith;
       deed = inr (deed_read page a);
-      outcome = subst (λ t. MatchBool t (ReadUsable d page (two_looks d page a e)) (Once (UnusableHere d page) (two_looks d page a e))) (sym c.if-has_page.false)
-          (not_offered d page a e (c.if-deed-deed_word.false ∙ c.deed_word.ensures) (sym c.has_page.ensures ∙ c.if-has_page.false));
+      outcome = search (arith, not_offered);
     }
 
 pub returns-then-has_page-clause-reads : goal.returns-then-has_page-clause-reads

@@ -1,4 +1,4 @@
-use Rattle.std.proofs.Common.{◌+◌, ◌<◌, ◌≤◌, ◌∷◌, refl, subst}
+use Rattle.std.proofs.Common.{arith, ◌+◌, ◌<◌, ◌≤◌, ◌∷◌, refl, subst}
 use Rattle.pas_steps.specs.Desks.{made}
 use Rattle.pas_steps.specs.declared.step.Step.TheVariants.{Unback}
 use Rattle.pas_steps.proofs.Adding.{adds_step, can_step}
@@ -27,7 +27,6 @@ returns-clause-judges g c =
     let age = age_is page c.args.epoch b stamp c.args.used c.look.ensures.makes c.look-stamp.ensures.makes c.profile.result.now c.profile.ensures in
     record {
       steps = made (Unback page) c.unback.result ∷ two_looks page b stamp;
-      adds = adds_step (looked page c.args.epoch b stamp c.args.used c.look.ensures.makes c.look-stamp.ensures.makes) c.unback.ensures.makes
-          (allowed page c.args.epoch b stamp c.args.used c.look.ensures.makes c.look-stamp.ensures.makes c.profile.result.now c.profile.ensures c.in_default.is c.if-look-eq0.false c.if-epoch-stamp.false);
+      adds = search (arith, adds_step, looked, allowed);
       judged = (b, stamp, c.unback.result, c.in_default.is, c.if-look-eq0.false, subst (λ a. stamp + a ≤ c.args.epoch) age c.if-epoch-stamp.false, refl);
     }

@@ -1,8 +1,7 @@
-use Rattle.std.proofs.Common.{◌≡◌, refl, sym, subst, ◌∙◌, add-one, arith}
+use Rattle.std.proofs.Common.{◌≡◌, refl, subst, ◌∙◌, add-one, arith}
 use Rattle.pas_rights.specs.{Takes.HasRight, Takes.takes, Words.ones}
 use Rattle.pas_rights.proofs.Takes.{takes_right}
-use Rattle.pas_steps.specs.{Desks.Adds, Desks.Makes, Views.all_ones}
-use Rattle.pas_steps.specs.declared.step.Step.TheVariants.{Take}
+use Rattle.pas_steps.specs.Desks.{Adds}
 use Rattle.pas_steps.proofs.Adding.{adds_none, adds_step, can_step}
 use Rattle.pas_scavenger.proofs.taking.take_grains.Goals as goal
 
@@ -15,16 +14,12 @@ take-value-requires-clause-can g c =
 
 pub loop-word-preserved : goal.loop-word-preserved
 loop-word-preserved g c = let D = g.D.Desk in let i = c.loop-word.invariant in let page = c.args.page in let word = c.loop-word.word in record {
-  adds = subst (λ n. Adds (D.standing c.args.desk.now) (D.standing c.take-value.new.self) (HasRight page) (takes page ones ones n)) (sym (add-one word))
-      (adds_step i.adds (subst (λ a. Makes (D.standing c.loop-word.desk) (D.standing c.take-value.new.self) (Take page word all_ones) a) c.if-value.false c.take-value.ensures.makes) (λ v l stood right. takes_right page ones ones word v right));
+  adds = search (arith, add-one, adds_step, takes_right);
   home = c.take-value.ensures.home ∙ i.home;
 }
 
 pub returns-then-value-clause-takes : goal.returns-then-value-clause-takes
-returns-then-value-clause-takes g c = record {
-  are = record { within = c.loop-word-test.true; some = c.if-value.true };
-  adds = adds_step c.loop-word.invariant.adds c.take-value.ensures.makes (λ v l stood right. takes_right c.args.page ones ones c.loop-word.word v right);
-}
+returns-then-value-clause-takes g c = search (arith, adds_step, takes_right)
 
 pub returns-clause-takes : goal.returns-clause-takes
 returns-clause-takes g c = let D = g.D.Desk in let all : c.loop-word.word ≡ 4 = omega (arith, c.loop-word.auto.word-end, c.loop-word-test.false) in record {

@@ -1,7 +1,6 @@
-use Rattle.std.proofs.Common.{◌/◌}
+use Rattle.std.proofs.Common.{arith, ◌/◌}
 use Rattle.pas_profile.specs.Requests.{route_in, room_in}
 use Rattle.pas_steps.proofs.Adding.{adds_none, can_call}
-use Rattle.pas_cache.specs.Serves.{wanted_for}
 use Rattle.pas_cache.proofs.Routes.{small_may, small_did}
 use Rattle.pas_cache.proofs.cache.ThreadCache.alloc.Goals as goal
 
@@ -11,7 +10,4 @@ serve-requires-clause-can g c =
     can_call adds_none c.requires.can (λ v l stood may. small_may (room_in f c.args.size c.args.align / 4096) (route_in f c.args.size c.args.align) c.requires.route may)
 
 pub returns-clause-allocates : goal.returns-clause-allocates
-returns-clause-allocates g c =
-    let f = (g.D.Desk.standing c.args.desk.now).seat.profile in
-    let served = c.serve.ensures.allocates in
-    small_did (wanted_for f c.args.heap c.args.size c.args.align) served.found (route_in f c.args.size c.args.align) c.requires.route served.allocates
+returns-clause-allocates g c = search (arith, small_did)

@@ -1,6 +1,6 @@
-use Rattle.std.proofs.Common.{◌≡◌, refl, ap, subst}
+use Rattle.std.proofs.Common.{arith, ◌≡◌, refl, ap, subst}
 use Rattle.pas_profile.specs.declared.profile.Profile.{Profile}
-use Rattle.pas_cache.specs.{Caches.Cached, Contents.CacheOf, Names.IsInRegion, Names.IsFaultOf}
+use Rattle.pas_cache.specs.{Contents.CacheOf, Names.IsFaultOf}
 use Rattle.pas_cache.proofs.FlushesAndFrees.{full_room, flush_call, frees, refuses, rests_open}
 use Rattle.pas_cache.proofs.cache.ThreadCache.free_entry.Goals as goal
 
@@ -16,9 +16,7 @@ pub invariant_of-self : goal.invariant_of-self
 invariant_of-self g c = record { one_each = c.self.invariant.one_each; formed = c.self.invariant.formed; ranges = c.log_entry.ensures.logs.ranges c.self.invariant.ranges }
 
 pub returns-clause-frees : goal.returns-clause-frees
-returns-clause-frees g c =
-    let old : Cached = record { locals = c.self.inside.locals.items; log = c.self.inside.log; noted = c.self.inside.noted.items; idle_since = c.self.inside.idle_since } in
-    rw (← c.self.view_is) (frees old _ c.args.entry c.requires.turn c.requires.size (subst (λ (f : Profile). IsInRegion f c.args.entry.name) c.profile.ensures c.in_default.ensures) c.log_entry.ensures.logs refl)
+returns-clause-frees g c = search (arith, frees)
 
 pub returns-in-Err-clause-frees : goal.returns-in-Err-clause-frees
 returns-in-Err-clause-frees g c = refuses _ _ c.args.entry c.in-Err.fault (subst (λ (f : Profile). IsFaultOf f c.args.entry.name c.in-Err.fault) c.profile.ensures c.in-Err.ensures) refl

@@ -1,10 +1,10 @@
-use Rattle.std.proofs.Common.{◌∙◌, refl, sym, subst, ◌≡◌, ◌≤◌, ◌%◌, ap, None}
+use Rattle.std.proofs.Common.{arith, ◌∙◌, refl, sym, subst, ◌≡◌, ◌≤◌, ◌%◌, ap, None}
 use Rattle.pas_profile.specs.Profiles.{IsValid}
 use Rattle.pas_profile.specs.declared.{directory.Directory.Directory, directory.Route.Route, profile.Profile.Profile}
 use Rattle.pas_profile.proofs.ClassFacts.{bitfit_suits}
 use Rattle.pas_steps.specs.Desks.{CanCall}
 use Rattle.pas_bitfit.specs.Allocates.{Allocates}
-use Rattle.pas_cache.specs.{Caches.cached, Calls.MayAllocatePages, Parts.ServesFrom, Serves.wanted_for, Serves.IsFilling, Serves.filling_in}
+use Rattle.pas_cache.specs.{Caches.cached, Calls.MayAllocatePages, Parts.ServesFrom, Serves.IsFilling, Serves.filling_in}
 use Rattle.pas_cache.proofs.Routes.{large_size, goes, may_go, pages_asked, bitfit_call, bitfit_room, bitfit_allocates}
 use Rattle.pas_cache.proofs.{Obtained.obtain_rests, FlushesAndFrees.may_allocate_open}
 use Rattle.pas_cache.proofs.Served.{routed, roomed, filling_for, home_is, allocates, serve_call, formed, rests_after}
@@ -80,8 +80,4 @@ returns-in-Bitfit-clause-allocates g c =
     (subst (λ n. Allocates c.args.heap n c.args.align g.D.Desk.tells (g.D.Desk.standing c.args.desk.now) (g.D.Desk.standing c.alloc.new.desk) c.alloc.result) (sym (roomed f c.args.size c.args.align _ route c.bitfit_room.ensures)) c.alloc.ensures.allocates))
 
 pub returns-in-Large-clause-allocates : goal.returns-in-Large-clause-allocates
-returns-in-Large-clause-allocates g c =
-    let f = (g.D.Desk.standing c.args.desk.now).seat.profile in
-    let route = routed f _ c.args.size c.args.align _ _ c.profile.ensures c.route.ensures c.in-Large.is in
-    let a = c.alloc_large.ensures.allocates in
-    goes {wanted = wanted_for f c.args.heap c.args.size c.args.align} Route.Large a.0 route a.1 (a.2 c.args.align c.requires.admitted.aligned route)
+returns-in-Large-clause-allocates g c = search (arith, routed, goes)

@@ -1,4 +1,4 @@
-use Rattle.std.proofs.Common.{[], get_or, sym, ◌∙◌, subst, take, refl, take_all}
+use Rattle.std.proofs.Common.{arith, [], get_or, sym, subst, take, refl, take_all}
 use Rattle.std.proofs.lemmas.List.{Elements.All-nil, Elements.All-same, take_more}
 use Rattle.pas_free_log.specs.Noted.{AreRanges, IsRange}
 use Rattle.pas_free_log.specs.declared.noting.EndedRun.{EndedRun}
@@ -22,13 +22,7 @@ loop-run-preserved g c =
     (settles_more g.O.Door.settles (take i runs) (get_or runs i blank) c.args.door.now c.loop-run.door c.settle.new.self c.loop-run.invariant c.settle.ensures.settles)
 
 pub returns-clause-settles : goal.returns-clause-settles
-returns-clause-settles g c =
-    let runs = c.as_slice-run-items.result.now in
-    rw (← c.self.view_is) (subst (λ xs. SettlesEach g.O.Door.settles xs c.args.door.now c.loop-run.door) (take_all c.loop-run.run-index runs c.loop-run-test.false ∙ c.as_slice-run-items.ensures.value) c.loop-run.invariant)
+returns-clause-settles g c = search (arith, take_all)
 
 pub invariant_of-self : goal.invariant_of-self
-invariant_of-self g c = record {
-  one_each = c.self.invariant.one_each;
-  formed = c.self.invariant.formed;
-  ranges = All-same (λ (run : EndedRun). IsRange run.range) _ [] c.clear.ensures (All-nil (λ (run : EndedRun). IsRange run.range));
-}
+invariant_of-self g c = assumption (All-same (λ (run : EndedRun). IsRange run.range) _ [] c.clear.ensures (All-nil (λ (run : EndedRun). IsRange run.range)))

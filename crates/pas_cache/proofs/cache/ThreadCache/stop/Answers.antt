@@ -1,4 +1,4 @@
-use Rattle.std.proofs.Common.{[], refl, ap, ◌∙◌}
+use Rattle.std.proofs.Common.{arith, [], refl, ap, ◌∙◌}
 use Rattle.pas_cache.specs.Caches.{Cached}
 use Rattle.pas_cache.proofs.FlushesAndFrees.{clear_call, flushes_log, flushed_call, stops_cache, rests_open, none_twice, none_formed}
 use Rattle.pas_cache.proofs.cache.ThreadCache.stop.Goals as goal
@@ -16,11 +16,7 @@ stop_all-requires g c =
     record { can = flushed_call old mid (flushes_log old mid c.flush.new.ended.items refl c.flush.ensures.flushes) (rests_open c.self.view_is c.requires.can) }
 
 pub invariant_of-self : goal.invariant_of-self
-invariant_of-self g c = record {
-  one_each = none_twice c.stop_all.new.locals.items c.stop_all.ensures.empty;
-  formed = none_formed c.stop_all.new.locals.items c.stop_all.ensures.empty;
-  ranges = c.flush.ensures.flushes.ranges c.self.invariant.ranges;
-}
+invariant_of-self g c = search (arith, none_twice, none_formed)
 
 pub returns-clause-stops : goal.returns-clause-stops
 returns-clause-stops g c =
