@@ -1,6 +1,6 @@
 -- What follows once the acts of a plan were answered by a legal list, at whose end all actors have nothing.
-use Rattle.std.proofs.Common.{arith, ◌≡◌, ℕ, ◌==◌, Bool, true, false, if◌then◌else◌, max, inl, inr, List, [], ◌∷◌, ◌++◌, Option, Some, None, refl, sym, subst, All}
-use Rattle.std.proofs.Common.{eq-eqb}
+use Rattle.std.proofs.Common.{arith, ◌≡◌, ℕ, ◌==◌, Bool, true, false, if◌then◌else◌, max, inl, inr, List, [], ◌∷◌, ◌++◌, Option, Some, None, refl, sym, subst}
+use Rattle.std.proofs.Common.{All, eq-eqb}
 use Rattle.std.proofs.lemmas.Bool.{cases_eq}
 use Rattle.pas_profile.specs.declared.{profile.Profile.Profile, word.Word.Word, name.Block.Block}
 use Rattle.pas_steps.specs.{Views.View, Events.events_by, Desks.made, Desks.triples, Clear.HasNothing, Lists.Whole, Lists.part, Lists.Legal}

@@ -3,8 +3,8 @@ use Rattle.std.proofs.Common.{◌≡◌, ℕ, ◌+◌, ◌*◌, ◌/◌, ◌%◌
 use Rattle.std.proofs.Common.{sym, ◌∙◌, subst, arith, append_assoc, append-nil, length-append, true≢false, ◌-◌, ◌^◌, map, reverse, max}
 use Rattle.std.specs.List.{AllByRecursion}
 use Rattle.std.proofs.{lemmas.List.length-map, lemmas.List.length-reverse, lemmas.Option.same_Some, Math.Nat.zero-mod}
-use Rattle.pas_large.proofs.Outcomes.{of_directory}
-use Rattle.pas_guard.proofs.Raises.{fits_find}
+use Rattle.pas_large.proofs.{Outcomes.of_directory, Claims.in_parts, Claims.span_in, Gives.run_is, Gives.back_events, Outcomes.MadeOf}
+use Rattle.pas_guard.proofs.{Raises.fits_find, Raised.raised_backs, Raised.raised_few, Raised.raised_leaves}
 use Rattle.pas_bits.specs.Runs.{in_run}
 use Rattle.pas_bitfit.proofs.Aligned.{stands_aligned}
 use Rattle.pas_profile.specs.{Blocks.address_of, Blocks.grain_of, Blocks.length_of, Classes.IsAlignment, Routes.room_by}
@@ -21,7 +21,6 @@ use Rattle.pas_steps.proofs.{Events.comes_of, Events.each_event, Frames.events_a
 use Rattle.pas_steps.proofs.{SpareRoom.spare_falls, Unknown.unknown_stays}
 use Rattle.pas_rights.specs.Gives.{give_steps}
 use Rattle.pas_large.specs.{Claims.in_span, Evidence.DeedsOf, Finds.MayFind}
-use Rattle.pas_large.proofs.{Claims.in_parts, Claims.span_in, Gives.run_is, Gives.back_events, Outcomes.MadeOf}
 use Rattle.pas_trace.specs.Reasons.{cost_of_size}
 use Rattle.pas_trace.specs.declared.item.Request.{Request}
 use Rattle.pas_trace.proofs.Costs.{large_cost}
@@ -33,7 +32,6 @@ use Rattle.pas_guard.specs.{Books.FitsBook, Books.guards_in, Books.size_of_book,
 use Rattle.pas_guard.specs.Raises.{RaiseRoom, RaiseSteps, Raises, IsRaised, guard_of}
 use Rattle.pas_guard.specs.Sweeps.{is_over, sweeping, SweptOne, Swept, SweepSteps, Sweeps}
 use Rattle.pas_guard.specs.declared.book.{Guard.Guard, GuardBook.GuardBook}
-use Rattle.pas_guard.proofs.Raised.{raised_backs, raised_few, raised_leaves}
 use Rattle.pas_answers.specs.{Answers.wanted_by, Answers.records_of, Answers.IsGiven, Calls.IsBlockOf, Calls.MayStand}
 use Rattle.pas_answers.specs.Guarding.{said_of_guard, TryEnds, try_steps, IsTried}
 use Rattle.pas_answers.specs.Keeping.{owed_by_keeper, MayTry, cost_of_try, TriesRequest, LowersAll}

@@ -1,8 +1,7 @@
 -- While a keeper's guard is up, its outer pages stand whole and bare.
 use Rattle.std.proofs.Common.{◌≡◌, ℕ, zero, suc, ◌+◌, ◌/◌, ◌<◌, ◌==◌, Bool, true, false, ◌||◌, if◌then◌else◌, ◌⊎◌, List, [], ◌∷◌, ◌++◌, length, inl, inr, refl}
 use Rattle.std.proofs.Common.{ap, sym, ◌∙◌, subst, arith, append_assoc, append-nil, true≢false, Option, Some, None, Contains, slice_index_or, eqb-true, eq-eqb}
-use Rattle.std.proofs.lemmas.{Bool.cases_Bool, Bool.Decides.nat_tests, List.Elements.Contains-append_right, List.Elements.Contains-push_cases}
-use Rattle.std.proofs.lemmas.Bool.{or_right}
+use Rattle.std.proofs.lemmas.{Bool.cases_Bool, Bool.Decides.nat_tests, List.Elements.Contains-append_right, List.Elements.Contains-push_cases, Bool.or_right}
 use Rattle.pas_profile.specs.{Profiles.IsValid, Blocks.address_of}
 use Rattle.pas_profile.specs.declared.{directory.Directory.Directory, name.Block.Block, profile.Profile.Profile}
 use Rattle.pas_report.specs.declared.record.Record.{Record}

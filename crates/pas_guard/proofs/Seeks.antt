@@ -3,7 +3,8 @@ use Rattle.std.proofs.Common.{ℕ, ◌+◌, ◌*◌, ◌/◌, ◌%◌, ◌<◌, 
 use Rattle.std.proofs.Common.{inr, ◌⊎◌, arith, Option, ◌≡◌, ◌≢◌, Some, None, ap, sym, subst, append_assoc, true≢false, length, length-append, eqb-true, eq-eqb}
 use Rattle.std.proofs.Common.{append-nil}
 use Rattle.std.proofs.lemmas.Bool.{cases_lt, cases_eq, cases_Bool}
-use Rattle.pas_large.proofs.Claims.{narrower}
+use Rattle.pas_large.proofs.Claims.{narrower, StaysHere, steady_on, steady_both, out_of, span_in, in_parts, span_past, has_got, room_after, alone_on}
+use Rattle.pas_large.proofs.Claims.{deeds_below, deeds_from}
 use Rattle.pas_bits.specs.Bits.{has_bit}
 use Rattle.pas_profile.specs.declared.{directory.Directory.Directory, profile.Profile.Profile, word.Word.Word}
 use Rattle.pas_rights.specs.{Puts.masked, PutsBack.giving_back, PutsBack.MayPutAndLeave, PutsBack.PutsAndLeaves, Words.full}
@@ -30,8 +31,6 @@ use Rattle.pas_large.specs.Claims.{StaysPut, in_span, MayClaimPages, HasRunRoom,
 use Rattle.pas_large.specs.Claims.{HoldsSpan}
 use Rattle.pas_large.specs.Evidence.{LostHere, BrokenHere, BadHere, AllUsable, FailsHere, HasFailed, DeedsOf, DeedsBelow, DeedsRise}
 use Rattle.pas_large.specs.{Finds.MayFind, Finds.FindRoom, Pages.OnceAfter, Pages.OnlyDeedsShow, Pages.claiming}
-use Rattle.pas_large.proofs.Claims.{StaysHere, steady_on, steady_both, out_of, narrower, span_in, in_parts, span_past, has_got, room_after, alone_on}
-use Rattle.pas_large.proofs.Claims.{deeds_below, deeds_from}
 use Rattle.pas_large.proofs.Finds.{DeedOf, bad_later, alone_looks, knew, deeds_map, may_find}
 use Rattle.pas_large.proofs.Pages.{shows_both, below_both, below_wider, rise_both}
 use Rattle.pas_guard.proofs.Spans.{no_span, span_kept, span_beside, span_joined, claim_keeps}

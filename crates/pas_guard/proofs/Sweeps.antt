@@ -1,8 +1,7 @@
 -- A sweep over the guards that are up, one guard more.
 use Rattle.std.proofs.Common.{◌≡◌, ℕ, ◌+◌, ◌*◌, ◌/◌, ◌<◌, ◌≤◌, ◌==◌, Bool, true, false, ◌||◌, if◌then◌else◌, ◌⊎◌, List, [], ◌∷◌, ◌++◌, length, inl, inr, refl}
 use Rattle.std.proofs.Common.{ap, sym, ◌∙◌, subst, arith, append_assoc, append-nil, length-append, true≢false, remove, slice_index_or, eqb-true, eq-eqb, ne_eqb}
-use Rattle.std.proofs.lemmas.Bool.{cases_Bool}
-use Rattle.std.proofs.lemmas.Bool.{or_from, or_parts, or_right}
+use Rattle.std.proofs.lemmas.Bool.{cases_Bool, or_from, or_parts, or_right}
 use Rattle.pas_profile.specs.{Profiles.IsPage, Blocks.address_of}
 use Rattle.pas_profile.specs.declared.profile.Profile.{Profile}
 use Rattle.pas_report.specs.declared.record.Record.{Record}

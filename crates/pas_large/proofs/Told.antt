@@ -211,8 +211,8 @@ pub fewer_not_all : (r fewer : ℕ → Bool) → ((b : ℕ) → b < 256 → fewe
 fewer_not_all r fewer less not all = not (λ b lt. less b lt (all b lt))
 
 -- a usable page is neither lost nor broken
-pub lost_never : (f : Profile) (k : ℕ) (l : Whole) (d : Directory) (p : ℕ) (m : Made) (before : List Made) → IsKind d.kind → Legal f (triples k (m ∷ before) ++ l) → LendsNone (m ∷ before)
-    → has_right (part k l) p ≡ false → IsUsablePage d l p → LostHere d p m before ⊎ BrokenHere p m before → ⊥
+pub lost_never : (f : Profile) (k : ℕ) (l : Whole) (d : Directory) (p : ℕ) (m : Made) (before : List Made) → IsKind d.kind → Legal f (triples k (m ∷ before) ++ l)
+    → LendsNone (m ∷ before) → has_right (part k l) p ≡ false → IsUsablePage d l p → LostHere d p m before ⊎ BrokenHere p m before → ⊥
 lost_never f k l d p m before is legal lends none usable (inl (inl right)) = lost_right f k l d p m before is legal none usable right
 lost_never f k l d p m before is legal lends none usable (inl (inr deed)) = lost_deed f k l d p m before legal deed
 lost_never f k l d p m before is legal lends none usable (inr broken) =
@@ -222,4 +222,5 @@ lost_never f k l d p m before is legal lends none usable (inr broken) =
 pub fails_told : (f : Profile) (k : ℕ) (l : Whole) (d : Directory) (n first : ℕ) (xs : List Made) → IsKind d.kind → Legal f (triples k xs ++ l) → LendsNone xs → IsUsableRun d n l first → ((p : ℕ) → IsInRun first n p → has_right (part k l) p ≡ false) → Once (FailsHere d n first) xs → ⊥
 fails_told f k l d n first [] is legal lends usable lacks h = h
 fails_told f k l d n first (m ∷ more) is legal lends usable lacks (inr h) = fails_told f k l d n first more is legal.1 lends.1 usable lacks h
-fails_told f k l d n first (m ∷ more) is legal lends usable lacks (inl h) = lost_never f k l d h.1.0 m more is legal lends (lacks h.1.0 h.1.1) (usable h.1.0 h.1.1) h.1.2
+fails_told f k l d n first (m ∷ more) is legal lends usable lacks (inl h) =
+    lost_never f k l d h.1.0 m more is legal lends (lacks h.1.0 h.1.1) (usable h.1.0 h.1.1) h.1.2

@@ -22,8 +22,7 @@ left_is threads keepers (suc n) phases some = refl
 
 -- the first phase, which has no mark, and another one
 pub first_phase : (threads keepers n : ℕ) (phase : List Op) (phases : List (List Op)) → n ≡ 0 → acts_left threads keepers n (phase ∷ phases) ≡ phase_acts threads phase ++ acts_left threads keepers (n + 1) phases
-first_phase threads keepers zero phase phases is = refl
-first_phase threads keepers (suc n) phase phases is = absurd (omega (arith, is))
+first_phase threads keepers n phase phases is = grind arith
 
 pub other_phase : (threads keepers n : ℕ) (phase : List Op) (phases : List (List Op)) → 1 ≤ n → acts_left threads keepers n (phase ∷ phases) ≡ MarksPhase (n + 1) ∷ (phase_acts threads phase ++ acts_left threads keepers (n + 1) phases)
 other_phase threads keepers n phase phases some = left_is threads keepers n (phase ∷ phases) some ∙ ap (λ (acts : List Act). MarksPhase (n + 1) ∷ (phase_acts threads phase ++ acts)) (sym (left_is threads keepers (n + 1) phases (omega arith)))

@@ -78,10 +78,7 @@ module _ (f : Profile) (cost : Act → ℕ) (most : Op → ℕ) (mark : ℕ) (ea
       omega (arith, free_map cost Wakes wakes (active_threads f.threads ops), rest, both)
 
   of_close : (keepers : ℕ) → sum_over cost (close_acts f.threads keepers) ≡ mark
-  of_close keepers =
-      let lowered = free_map cost Lowers lowers (numbers_from (f.threads + 1) keepers) in
-      let both = sum_both cost (map Ends (numbers_from 1 f.threads)) (map Lowers (numbers_from (f.threads + 1) keepers)) in
-      omega (arith, free_map cost Ends ends (numbers_from 1 f.threads), lowered, both, close)
+  of_close keepers = search (arith, free_map, sum_both)
 
   ops_both : (xs ys : List Op) → sum_of_ops most (xs ++ ys) ≡ sum_of_ops most xs + sum_of_ops most ys
   ops_both [] ys = omega arith
@@ -102,42 +99,32 @@ module _ (f : Profile) (cost : Act → ℕ) (most : Op → ℕ) (mark : ℕ) (ea
 -- ---- each operation
 -- records
 chore_costs : (f : Profile) (idle : List ℕ) (chore : Chore) → length idle ≤ f.threads → costs_of f (acts_of_chore idle chore) ≤ records_of_chore f chore
-chore_costs f idle (Chore.Tick e) few = omega arith
-chore_costs f idle Chore.Pass few = omega arith
-chore_costs f idle (Chore.Idle n) few = let stops = one_each (cost_of_act f) (λ k. StopsIdle k n) (λ k. refl) idle in omega (arith, stops, few)
+chore_costs f idle chore few = search (arith, one_each)
 
 -- a thread's operation costs the same whether it is guarded or not
 kept_cost : (f : Profile) (keeper : Option ℕ) (op : Op) → costs_of f (act_kept keeper op ∷ (Settles op.actor ∷ [])) ≡ cost_of_what op.what
-kept_cost f None op = omega arith
-kept_cost f (Some keeper) op = omega arith
+kept_cost f keeper op = grind arith
 
 pub work_costs : (f : Profile) (idle : List ℕ) (op : Op) (work : Work) → work_of op.what ≡ work → length idle ≤ f.threads → costs_of f (acts_of_work idle op work) ≤ records_of_work f work
-work_costs f idle op (Work.Own task) is few = let cost = ap cost_of_work is in let acts = kept_cost f (keeper_of task) op in omega (arith, cost, acts)
-work_costs f idle op (Work.Chore chore) is few = chore_costs f idle chore few
+work_costs f idle op work is few = search (arith, kept_cost, chore_costs)
 
 -- events of thread k
 own_cost : (t : Bool) (a b : ℕ) → a ≡ b → (if t then a else 0) + 0 ≤ (if t then b else 0)
-own_cost true a b same = omega (arith, same)
-own_cost false a b same = omega arith
+own_cost t a b same = grind arith
 
 chore_owns : (k : ℕ) (idle : List ℕ) (chore : Chore) → own_costs_of k (acts_of_chore idle chore) ≡ 0
-chore_owns k idle (Chore.Tick e) = refl
-chore_owns k idle Chore.Pass = refl
-chore_owns k idle (Chore.Idle n) = let stops = free_map (own_cost_of_act k) (λ j. StopsIdle j n) (λ j. refl) idle in omega (arith, stops)
+chore_owns k idle chore = search (arith, free_map)
 
 kept_owns : (k : ℕ) (keeper : Option ℕ) (op : Op) → own_costs_of k (act_kept keeper op ∷ (Settles op.actor ∷ [])) ≡ (if op.actor == k then cost_of_what op.what else 0) + 0
 kept_owns k None op = refl
 kept_owns k (Some keeper) op = refl
 
 work_owns : (f : Profile) (k : ℕ) (idle : List ℕ) (op : Op) (work : Work) → work_of op.what ≡ work → own_costs_of k (acts_of_work idle op work) ≤ (if op.actor == k then records_of_work f work else 0)
-work_owns f k idle op (Work.Own task) is =
-    subst (λ (n : ℕ). n ≤ (if op.actor == k then cost_of_task task else 0)) (sym (kept_owns k (keeper_of task) op)) (own_cost (op.actor == k) (cost_of_what op.what) (cost_of_task task) (ap cost_of_work is))
-work_owns f k idle op (Work.Chore chore) is = let none = chore_owns k idle chore in omega (arith, none)
+work_owns f k idle op work is = search (arith, kept_owns, own_cost, chore_owns)
 
 -- pages that the scavenger unbacks, which is actor 0
 its_own : (t : Bool) (n : ℕ) → t ≡ true → n ≤ (if t then 1 + n else 0)
-its_own true n is = omega arith
-its_own false n is = absurd (let bad : false ≡ true = is in cc)
+its_own t n is = grind arith
 
 kept_unbacks : (f : Profile) (keeper : Option ℕ) (op : Op) → unbacks_of f (act_kept keeper op ∷ (Settles op.actor ∷ [])) ≤ 0
 kept_unbacks f None op = omega arith
@@ -183,9 +170,7 @@ skip_stops f limit asked n [] more fit = fit
 skip_stops f limit asked n (k ∷ idle) more fit = skip_stops f limit asked n idle more fit
 
 fits_chore : (f : Profile) (limit : ℕ) (asked : List ℕ) (chore : Chore) (idle : List ℕ) (more : List Act) → IsSoundWork f asked (Work.Chore chore) → AreFit f limit asked more → AreFit f limit asked (acts_of_chore idle chore ++ more)
-fits_chore f limit asked (Chore.Tick e) idle more sound fit = (sound, fit)
-fits_chore f limit asked Chore.Pass idle more sound fit = fit
-fits_chore f limit asked (Chore.Idle n) idle more sound fit = skip_stops f limit asked n idle more fit
+fits_chore f limit asked chore idle more sound fit = search (arith, skip_stops)
 
 kept_fits : (f : Profile) (limit : ℕ) (asked : List ℕ) (keeper : Option ℕ) (op : Op) (more : List Act) → MatchOption keeper (Unit {0}) (λ k. IsThread f k × (op.actor < k)) → IsThread f op.actor → IsFitWhat f limit asked op.what
     → AreFit f limit (asked_after op.what asked) more → AreFit f limit asked (act_kept keeper op ∷ (Settles op.actor ∷ more))
@@ -194,9 +179,7 @@ kept_fits f limit asked (Some keeper) op more above of sound fit = (above.0, abo
 
 fits : (f : Profile) (limit : ℕ) (asked : List ℕ) (op : Op) (work : Work) (idle : List ℕ) (more : List Act) → KeepsAbove f op → work_of op.what ≡ work → MatchOption (of_task request_of work) (Unit {0}) (λ r. r.name < limit) → IsActorBy f work op.actor → IsSoundWork f asked work
     → AreFit f limit (asked_with (of_task request_of work) asked) more → AreFit f limit asked (acts_of_work idle op work ++ more)
-fits f limit asked op (Work.Own task) idle more above is below of sound fit =
-    kept_fits f limit asked (keeper_of task) op more (subst (λ (w : Work). MatchOption (of_task keeper_of w) (Unit {0}) (λ k. IsThread f k × (op.actor < k))) is above) of (subst (IsFitWork f limit asked) (sym is) (below, sound)) (subst (λ (w : Work). AreFit f limit (asked_with (of_task request_of w) asked) more) (sym is) fit)
-fits f limit asked op (Work.Chore chore) idle more above is below of sound fit = fits_chore f limit asked chore idle more sound fit
+fits f limit asked op work idle more above is below of sound fit = search (arith, kept_fits, fits_chore)
 
 pub ops_fit : (f : Profile) (limit : ℕ) (idle : List ℕ) (ops rest : List Op) (more : List Act) → AreBelow limit (ops ++ rest) → Continues f limit rest more → Continues f limit (ops ++ rest) (acts_of_ops idle ops ++ more)
 ops_fit f limit idle [] rest more below go asked sound above = go asked sound above
@@ -217,10 +200,7 @@ ends_fit f limit asked [] js = lowers_fit f limit asked js
 ends_fit f limit asked (k ∷ ks) js = ends_fit f limit asked ks js
 
 phase_fit : (f : Profile) (limit threads : ℕ) (ops rest : List Op) (more : List Act) → AreBelow limit (ops ++ rest) → Continues f limit rest more → Continues f limit (ops ++ rest) (phase_acts threads ops ++ more)
-phase_fit f limit threads ops rest more below go asked sound above =
-    let idle = idle_threads threads ops in
-    subst (AreFit f limit asked) (sym (append_assoc (map Wakes (active_threads threads ops)) (acts_of_ops idle ops) more))
-    (wakes_fit f limit asked (active_threads threads ops) (acts_of_ops idle ops ++ more) (ops_fit f limit idle ops rest more below go asked sound above))
+phase_fit f limit threads ops rest more below go asked sound above = search (arith, append_assoc, wakes_fit, ops_fit)
 
 pub back_below : (limit : ℕ) (xs ys : List Op) → AreBelow limit (xs ++ ys) → AreBelow limit ys
 back_below limit [] ys all = all

@@ -34,15 +34,7 @@ phases_next k phases i item lt is =
 
 -- so many more of one actor
 pub count_more : (a k more : ℕ) (counts : ℕ → ℕ) → (if a == k then counts a + more else counts k) ≡ counts k + (if a == k then more else 0)
-count_more a k more counts = elim (cases_eq a k) [
-  | inl same ↦
-      let on = eq-eqb a k same in
-      ap (λ (t : Bool). if t then counts a + more else counts k) on ∙ ap (λ (j : ℕ). counts j + more) same ∙ sym (ap (λ (t : Bool). counts k + (if t then more else 0)) on)
-  | inr other ↦
-      let off = ne_eqb a k other in
-      let none : counts k ≡ counts k + 0 = omega arith in
-      ap (λ (t : Bool). if t then counts a + more else counts k) off ∙ none ∙ sym (ap (λ (t : Bool). counts k + (if t then more else 0)) off)
-]
+count_more a k more counts = search (arith, eq-eqb, ne_eqb)
 
 -- ---- each costs its plan a record at least
 few_work : (f : Profile) (work : Work) → one_guarded (of_task keeper_of work) ≤ records_of_work f work
@@ -103,12 +95,7 @@ next_book {many} {places} {books} after book is empty size made =
 
 -- with other numbers that are the same
 pub same_books : {many many' : ℕ} {places places' : ℕ → ℕ} {books : List GuardBook} → many ≡ many' → ((k : ℕ) → places k ≡ places' k) → AreBooksFor many places books → AreBooksFor many' places' books
-same_books {many} {many'} {places} {places'} {books} same alike made = record {
-  many = made.many ∙ same;
-  empty = λ i d lt. made.empty i d (omega (arith, lt, same));
-  places = λ i d lt. made.places i d (omega (arith, lt, same)) ∙ alike (i + 1);
-}
+same_books {many} {many'} {places} {places'} {books} same alike made = search (arith, made.many, made.empty, made.places)
 
 pub books_in : {many many' : ℕ} {places places' : ℕ → ℕ} {E : Type 0} (made : Result (Vec GuardBook) E) → many ≡ many' → ((k : ℕ) → places k ≡ places' k) → IfOk made (λ books. AreBooksFor many places books.items) → IfOk made (λ books. AreBooksFor many' places' books.items)
-books_in (Ok books) same alike is = same_books same alike is
-books_in (Err error) same alike is = tt
+books_in made same alike is = search (arith, same_books)

@@ -61,8 +61,7 @@ are_both f guard [] planned kept = tt
 are_both f guard (op ∷ ops) planned kept = ((planned.0, kept.0), are_both f guard ops planned.1 kept.1)
 
 keeps_task : (f : Profile) (guard : ℕ) (op : Op) (keeper : Option ℕ) → op.actor ≤ f.threads → MatchOption keeper (Unit {0}) (λ k. (k ≡ f.threads + op.actor) × (guard ≢ 0)) → AreKeptFor f.threads (if guard == 0 then 0 else f.threads) (act_kept keeper op ∷ (Settles op.actor ∷ []))
-keeps_task f guard op None most kept = (tt, (tt, tt))
-keeps_task f guard op (Some keeper) most kept = let many = guarded_keepers guard f.threads kept.1 in ((kept.0, omega (arith, most, many)), (tt, tt))
+keeps_task f guard op keeper most kept = search (arith, guarded_keepers)
 
 keeps_chore : (threads keepers : ℕ) (idle : List ℕ) (chore : Chore) → AreKeptFor threads keepers (acts_of_chore idle chore)
 keeps_chore threads keepers idle (Chore.Tick e) = (tt, tt)
@@ -90,10 +89,7 @@ asked_of_act much k (Guards keeper op) = if op.actor == k then much op else 0
 asked_of_act much k act = 0
 
 its_keeper : (threads actor k keeper : ℕ) → keeper ≡ threads + actor → (keeper == threads + k) ≡ (actor == k)
-its_keeper threads actor k keeper is = elim (cases_eq actor k) [
-  | inl same ↦ eq-eqb keeper (threads + k) (is ∙ ap (λ n. threads + n) same) ∙ sym (eq-eqb actor k same)
-  | inr other ↦ ne_eqb keeper (threads + k) (λ e. other (omega (arith, e, is))) ∙ sym (ne_eqb actor k other)
-]
+its_keeper threads actor k keeper is = search (arith, cases_eq, eq-eqb, ne_eqb)
 
 module _ (much : Op → ℕ) (cost : Act → ℕ) (threads keepers k : ℕ) (same : (act : Act) → IsKeptFor threads keepers act → cost act ≡ asked_of_act much k act) where
   asked_sum : (acts : List Act) → AreKeptFor threads keepers acts → sum_over cost acts ≡ sum_over (asked_of_act much k) acts
@@ -101,17 +97,14 @@ module _ (much : Op → ℕ) (cost : Act → ℕ) (threads keepers k : ℕ) (sam
   asked_sum (act ∷ acts) kept = let one = same act kept.0 in let rest = asked_sum acts kept.1 in omega (arith, one, rest)
 
 kept_same : (threads keepers k : ℕ) (act : Act) → IsKeptFor threads keepers act → kept_cost_of_act (threads + k) act ≡ asked_of_act (λ op. kept_cost_of (request_in op.what)) k act
-kept_same threads keepers k (Guards keeper op) kept = ap (λ (b : Bool). if b then kept_cost_of (request_in op.what) else 0) (its_keeper threads op.actor k keeper kept.0)
-kept_same threads keepers k act kept = refl
+kept_same threads keepers k act kept = search (arith, its_keeper)
 
 tries_same : (threads keepers k : ℕ) (act : Act) → IsKeptFor threads keepers act → tries_of_act (threads + k) act ≡ asked_of_act (λ op. 1) k act
-tries_same threads keepers k (Guards keeper op) kept = ap (λ (b : Bool). if b then 1 else 0) (its_keeper threads op.actor k keeper kept.0)
-tries_same threads keepers k act kept = refl
+tries_same threads keepers k act kept = search (arith, its_keeper)
 
 -- no more than is counted for each operation of the thread
 if_less : (t : Bool) (a b : ℕ) → a ≤ b → (if t then a else 0) + (0 + 0) ≤ (if t then b else 0)
-if_less true a b less = omega (arith, less)
-if_less false a b less = omega arith
+if_less t a b less = grind arith
 
 none_asked : (much : Op → ℕ) (k : ℕ) (to : ℕ → Act) → ((j : ℕ) → asked_of_act much k (to j) ≡ 0) → (js : List ℕ) → sum_over (asked_of_act much k) (map to js) ≡ 0
 none_asked much k to none [] = refl
@@ -119,8 +112,7 @@ none_asked much k to none (j ∷ js) = let one = none j in let rest = none_asked
 
 module _ (much most : Op → ℕ) (k : ℕ) (enough : (op : Op) (keeper : ℕ) → keeper_in op.what ≡ Some keeper → much op ≤ most op) where
   asked_kept : (op : Op) (keeper : Option ℕ) → keeper_in op.what ≡ keeper → sum_over (asked_of_act much k) (act_kept keeper op ∷ (Settles op.actor ∷ [])) ≤ (if op.actor == k then most op else 0)
-  asked_kept op None is = omega arith
-  asked_kept op (Some keeper) is = if_less (op.actor == k) (much op) (most op) (enough op keeper is)
+  asked_kept op keeper is = search (arith, if_less)
 
   asked_chore : (idle : List ℕ) (chore : Chore) → sum_over (asked_of_act much k) (acts_of_chore idle chore) ≡ 0
   asked_chore idle (Chore.Tick e) = refl
@@ -128,13 +120,10 @@ module _ (much most : Op → ℕ) (k : ℕ) (enough : (op : Op) (keeper : ℕ) �
   asked_chore idle (Chore.Idle n) = let stops = none_asked much k (λ j. StopsIdle j n) (λ j. refl) idle in omega (arith, stops)
 
   asked_work : (idle : List ℕ) (op : Op) (work : Work) → work_of op.what ≡ work → sum_over (asked_of_act much k) (acts_of_work idle op work) ≤ (if op.actor == k then most op else 0)
-  asked_work idle op (Work.Own task) is = asked_kept op (keeper_of task) (ap (λ (w : Work). of_task keeper_of w) is)
-  asked_work idle op (Work.Chore chore) is = let none = asked_chore idle chore in omega (arith, none)
+  asked_work idle op work is = search (arith, asked_kept, asked_chore)
 
   asked_all : (f : Profile) (keepers : ℕ) (phases : List (List Op)) → ArePlanned f (all_ops phases) → sum_over (asked_of_act much k) (acts_of f.threads keepers phases) ≤ sum_of_ops (λ op. if op.actor == k then most op else 0) (all_ops phases)
-  asked_all f keepers phases planned =
-      let all = of_plan f (asked_of_act much k) (λ op. if op.actor == k then most op else 0) 0 (λ idle op few is. asked_work idle op (work_of op.what) refl) (λ j. refl) (λ j. refl) (λ j. refl) (λ n. refl) refl keepers phases planned in
-      omega (arith, all)
+  asked_all f keepers phases planned = search (arith, of_plan, asked_work)
 
 -- ---- events
 kept_enough : (work : Work) (keeper : ℕ) → of_task keeper_of work ≡ Some keeper → kept_cost_of (of_task request_of work) ≤ kept_of_work work

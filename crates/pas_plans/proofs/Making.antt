@@ -57,6 +57,4 @@ next_unused {count} {caches} after cache is empty made =
 
 -- a cache with these parts is empty
 pub is_empty : (c : Cached) → c.locals ≡ [] → c.log ≡ [] → c.noted ≡ [] → c.idle_since ≡ 0 → c ≡ empty_cache
-is_empty c locals log noted idle =
-    ap (λ ls. record { locals = ls; log = c.log; noted = c.noted; idle_since = c.idle_since }) locals ∙ ap (λ ns. record { locals = []; log = ns; noted = c.noted; idle_since = c.idle_since }) log
-    ∙ ap (λ rs. record { locals = []; log = []; noted = rs; idle_since = c.idle_since }) noted ∙ ap (λ n. record { locals = []; log = []; noted = []; idle_since = n }) idle
+is_empty c locals log noted idle = search (arith, c.log, c.noted, c.idle_since)

@@ -28,17 +28,10 @@ module _ (f : Profile) (threads : ℕ) (more : f.threads ≤ threads) where
   wider_admits size align heap admits = record { within = admits.within; aligned = admits.aligned; of_profile = admits.of_profile }
 
   wider_task : (asked : List ℕ) (task : Task) → IsSoundTask f asked task → IsSoundTask region asked task
-  wider_task asked (Task.Request name heap size align) sound = (wider_admits size align heap sound.0, sound.1)
-  wider_task asked (Task.Guarded keeper name heap size align) sound = (wider_admits size align heap sound.0, sound.1, sound.2)
-  wider_task asked (Task.Free name room) sound = sound
-  wider_task asked (Task.FreeRaw block room) sound = sound
-  wider_task asked (Task.Remake name old heap size align) sound = (wider_admits size align heap sound.0, sound.1, sound.2)
-  wider_task asked Task.Flush sound = tt
-  wider_task asked Task.Stop sound = tt
+  wider_task asked task sound = search (arith, wider_admits)
 
   wider_work : (asked : List ℕ) (work : Work) → IsSoundWork f asked work → IsSoundWork region asked work
-  wider_work asked (Work.Own task) sound = wider_task asked task sound
-  wider_work asked (Work.Chore chore) sound = sound
+  wider_work asked work sound = search (arith, wider_task)
 
   pub wider_sound : (asked : List ℕ) (ops : List Op) → AreSound f asked ops → AreSound region asked ops
   wider_sound asked [] sound = tt
@@ -46,9 +39,7 @@ module _ (f : Profile) (threads : ℕ) (more : f.threads ≤ threads) where
 
   -- what acts cost goes by its pages alone
   same_cost : (act : Act) → cost_of_act region act ≡ cost_of_act f act
-  same_cost (Operates op) = refl
-  same_cost MakesPass = refl
-  same_cost act = refl
+  same_cost act = grind arith
 
   same_costs : (acts : List Act) → costs_of region acts ≡ costs_of f acts
   same_costs [] = refl
@@ -65,10 +56,7 @@ module _ (f : Profile) (threads : ℕ) (more : f.threads ≤ threads) where
 -- the keepers of a guarded plan are actors of its region behind all threads
 above_one : (f : Profile) (guard : ℕ) (actor : ℕ) (o : Option ℕ) → 1 ≤ actor → actor ≤ f.threads → MatchOption o (Unit {0}) (λ keeper. (keeper ≡ f.threads + actor) × (guard ≢ 0))
     → MatchOption o (Unit {0}) (λ keeper. IsThread (record f { threads = actors_by guard f.threads }) keeper × (actor < keeper))
-above_one f guard actor None some most kept = tt
-above_one f guard actor (Some keeper) some most kept =
-    let within = keepers_among guard f.threads actor kept.1 most in
-    ((omega (arith, kept.0, some), omega (arith, kept.0, within)), omega (arith, kept.0, some, most))
+above_one f guard actor o h most kept = search (arith, keepers_among)
 
 of_thread : (f : Profile) (work : Work) (k : ℕ) (o : Option ℕ) → IsActorBy f work k → of_task keeper_of work ≡ o → (keeper : ℕ) → o ≡ Some keeper → IsThread f k
 of_thread f (Work.Own task) k o of is keeper some = of
@@ -76,10 +64,7 @@ of_thread f (Work.Chore chore) k o of is keeper some = absurd (cc)
 
 keeps_above : (f : Profile) (guard : ℕ) (op : Op) (o : Option ℕ) → keeper_in op.what ≡ o → IsActorOf f op.what op.actor → MatchOption o (Unit {0}) (λ keeper. (keeper ≡ f.threads + op.actor) × (guard ≢ 0))
     → MatchOption o (Unit {0}) (λ keeper. IsThread (record f { threads = actors_by guard f.threads }) keeper × (op.actor < keeper))
-keeps_above f guard op None is of kept = tt
-keeps_above f guard op (Some keeper) is of kept =
-    let thread = of_thread f (work_of op.what) op.actor (Some keeper) of is keeper refl in
-    above_one f guard op.actor (Some keeper) thread.0 thread.1 kept
+keeps_above f guard op o is of kept = search (arith, of_thread, above_one)
 
 all_above : (f : Profile) (guard : ℕ) (asked : List ℕ) (ops : List Op) → AreSound f asked ops → AreKept f guard ops → AllByRecursion (KeepsAbove (record f { threads = actors_by guard f.threads })) ops
 all_above f guard asked [] sound kept = tt

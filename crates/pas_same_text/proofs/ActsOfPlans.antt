@@ -157,15 +157,4 @@ plan_acts {text} {plan} is =
 pub plan_region : {text : List ℕ} {plan : Plan} → IsPlanOf text plan → IsValid (region_of plan)
 plan_region {text} {plan} is =
     let sound = every_plan is in
-    let valid = sound.valid in
-    record {
-      some_page = valid.some_page;
-      pages = valid.pages;
-      classes = valid.classes;
-      some_thread = omega (arith, threads_among plan.guard plan.profile.threads, valid.some_thread);
-      threads = sound.actors;
-      some_age = valid.some_age;
-      age = valid.age;
-      some_heap = valid.some_heap;
-      heaps = valid.heaps;
-    }
+    search (arith, plan.guard, plan.profile.threads)

@@ -37,9 +37,8 @@ module _ (f : Profile) (k : ℕ) (p p' : Progress) (w : World) (usable : HasUsab
       let to : p' ≡ with_records (with_steps p k a.steps a.cache) (rs ++ []) =
       reached ∙ (ap (λ (s : Option TheSaid). after_with p k a.steps s a.names a.cache) said ∙ ap (λ (ns : List Named). after_with p k a.steps None ns a.cache) names) in
       let there : IsBetween f (with_steps p k a.steps a.cache) = same_between f p k a.steps a.cache p.names (rs ++ []) (subst (IsBetween f) to after) in
-      subst (λ (q : Progress). IsSame f q (flushes f k w)) (sym to)
-      (subst (λ (xs : List Record). IsSame f (with_records (with_steps p k a.steps a.cache) xs) (flushes f k w)) (sym (append-nil rs))
-      (flush_same f k p w a.steps a.cache valid thread before same usable is.empties is.cache there))
+      rw (to, append-nil rs)
+      (flush_same f k p w a.steps a.cache valid thread before same usable is.empties is.cache there)
 
   -- ---- a stop, after which this is said
   stopped_all : (steps : List Made) (c' : Cached) → IsStopped k (p.caches k) c' steps → IsValid f → IsBetween f p → IsBetween f (with_steps p k steps c') → IsSame f p w
@@ -52,8 +51,7 @@ module _ (f : Profile) (k : ℕ) (p p' : Progress) (w : World) (usable : HasUsab
   stopped_plain steps c' is reached valid before after same =
       let rs : List Record = records_of (events_by k (part k p.list) steps) in
       let there : IsBetween f (with_steps p k steps c') = same_between f p k steps c' p.names (rs ++ []) (subst (IsBetween f) reached after) in
-      subst (λ (q : Progress). IsSame f q (stops f k w)) (sym reached)
-      (subst (λ (xs : List Record). IsSame f (with_records (with_steps p k steps c') xs) (stops f k w)) (sym (append-nil rs)) (stopped_all steps c' is valid before there same))
+      rw (reached, append-nil rs) (stopped_all steps c' is valid before there same)
 
   stopped_said : (steps : List Made) (c' : Cached) (r : Record) → IsStopped k (p.caches k) c' steps → p' ≡ after_stop p k steps c' (r ∷ []) → IsValid f → IsBetween f p → IsBetween f p' → IsSame f p w → IsSame f p' (says r (stops f k w))
   stopped_said steps c' r is reached valid before after same =
@@ -226,11 +224,7 @@ remade_as : (f : Profile) (k name : ℕ) (o : Option Block) (said : TheSaid) (p 
     → IsSame f p' (names_it name o (says (Record.Said k said) w))
 remade_as f k name o said p p' w a same reached steps cache is names =
     subst (λ (q : Progress). IsSame f q (names_it name o (says (Record.Said k said) w)))
-    (sym (reached
-    ∙ (ap (λ (ms : List Made). after_with p k ms a.said a.names a.cache) steps
-    ∙ (ap (λ (c : Cached). after_with p k [] a.said a.names c) cache
-    ∙ (ap (λ (s : Option TheSaid). after_with p k [] s a.names (p.caches k)) is
-    ∙ ap (λ (ns : List Named). after_with p k [] (Some said) ns (p.caches k)) names)))))
+    (cc)
     (named_same f k name o said p w same)
 
 -- of reallocations those that do nothing: the block suits as it is, or the old name stands for none

@@ -163,9 +163,7 @@ found_passes heap class (x ∷ slots) s is = found_at heap class x s (local_for 
 -- what the text does where it finds a local allocator with a slot
 served_text : (f : Profile) (k name heap class : ℕ) (w : World) (l : Local) (n : ℕ) (more : List ℕ) → find (is_for heap class) (locals_of w k) ≡ Some l → l.slots ≡ n ∷ more
     → serves_class f k name heap class w ≡ gives_first k name l (n ∷ more) w
-served_text f k name heap class w l n more is slots =
-    ap (λ (o : Option Local). serves_class_by f k name heap class o w) is
-    ∙ ap (λ (xs : List ℕ). if some_of xs then gives_first k name l xs w else fetches f k name heap class (gives_up k l w)) slots
+served_text f k name heap class w l n more is slots = cc
 
 -- the two steps and what they answer, where a cached slot is given
 pub record Served (f : Profile) (k name heap class : ℕ) (p p' : Progress) (w : World) (s : Slots) : Type 0 where
@@ -191,12 +189,10 @@ to_given f k name heap class p p' w s valid is between after same there member o
     let reached : p' ≡ given_to p k name o.block g.answer s.page g.start g.word o.cache =
     o.after ∙ ap (λ (ms : List Made). after_with p k ms None (named name (Some o.block) ∷ p.names) o.cache) steps_are in
     let kept : o.cache ≡ record (p.caches k) { locals = others_than s.heap s.class (p.caches k).locals ++ o.rest ∷ [] } =
-    o.cache_is ∙ (ap (λ (x : ℕ). record (p.caches k) { locals = others_than x class (p.caches k).locals ++ o.rest ∷ [] }) (sym of_heap)
-    ∙ ap (λ (x : ℕ). record (p.caches k) { locals = others_than s.heap x (p.caches k).locals ++ o.rest ∷ [] }) (sym of_class)) in
+    cc in
     let given : Given f k name p w s o.rest l h.head h.more o.block g.answer s.page g.start g.word o.cache = assumption (subst (IsBetween f) reached after) in
-    subst (λ (x : World). IsSame f p' x) (sym (served_text f k name heap class w l h.head h.more found.is h.is))
-    (subst (λ (q : Progress). IsSame f q (gives_first k name l (h.head ∷ h.more) w)) (sym reached)
-    (given_same f k name p w s o.rest l h.head h.more o.block g.answer s.page g.start g.word o.cache given))
+    rw (served_text f k name heap class w l h.head h.more found.is h.is, reached)
+    (given_same f k name p w s o.rest l h.head h.more o.block g.answer s.page g.start g.word o.cache given)
 
 -- ---- the act
 module _ (f : Profile) (k name heap class : ℕ) (p : Progress) (s : Slots) (there : local_for heap class (p.caches k).locals ≡ Some s) (member : HasMember s.starts) where

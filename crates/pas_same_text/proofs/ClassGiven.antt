@@ -380,8 +380,7 @@ module _ (f : Profile) (k name heap class : ℕ) (p : Progress) (w : World) (has
       let one : 1 ≤ class_grains slots.class = subst (λ (x : ℕ). 1 ≤ class_grains x) (sym of_class) some in
       let begins : start_of slots.class start ≡ start = start_at slots.class start start is_start (omega arith) (omega (arith, one)) in
       let inside : in_slots slots (256 * page + start) ≡ true =
-      ap (λ (t : Bool). t && is_set slots.starts (start_of slots.class ((256 * page + start) % 256))) (eq-eqb page ((256 * page + start) / 256) at_page)
-      ∙ (ap (λ (x : ℕ). is_set slots.starts (start_of slots.class x)) at_grain ∙ (ap (is_set slots.starts) begins ∙ gives.lowest.set)) in
+      cc (eq-eqb page ((256 * page + start) / 256) at_page) in
       sym (holds_search (256 * page + start)) ∙ (gains.does.held (256 * page + start) ∙ ap (λ (t : Bool). has_now (if t then Gained else Kept) (holds own (256 * page + start))) inside)
 
   taken : (xs : List Made) → Legal f (triples k xs ++ base) → Only returning xs → free_bit (triples k xs ++ base) (256 * page + start) ≡ true → ⊥

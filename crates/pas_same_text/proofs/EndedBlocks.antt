@@ -1,6 +1,6 @@
 -- What the text does where a block ends: its grains come back to its pages, and no other page changes.
-use Rattle.std.proofs.Common.{arith, ◌≡◌, ℕ, ◌+◌, ◌*◌, ◌==◌, nat_lt, Bool, true, false, not, ◌&&◌, if◌then◌else◌, List, [], ◌∷◌, ◌++◌, length, Some, inl, inr, refl}
-use Rattle.std.proofs.Common.{ap, sym, ◌∙◌, eqb-true}
+use Rattle.std.proofs.Common.{arith, ◌≡◌, ℕ, ◌+◌, ◌*◌, ◌==◌, nat_lt, Bool, true, false, not, ◌&&◌, if◌then◌else◌, List, [], ◌∷◌, ◌++◌, length, Some, inl, inr}
+use Rattle.std.proofs.Common.{refl, ap, sym, ◌∙◌, eqb-true}
 use Rattle.std.proofs.{lemmas.Bool.false≢true, lemmas.Option.same_Some, Math.Bool.or-false}
 use Rattle.std.specs.List.{list_any, filter}
 use Rattle.pas_bits.specs.Runs.{in_run, meets_page}
@@ -51,13 +51,7 @@ module _ (f : Profile) (k : ℕ) (name : Name) (b : Live) (w : World) (run : Run
   no_other page g of none h =
       let o : LivesSo w.events (λ x. is_at (address_of name) x && has page g x) = lives_so f w.events (λ x. is_at (address_of name) x && has page g x) run (ap (list_any (λ x. is_at (address_of name) x && has page g x)) (sym live) ∙ h) in
       let at : address_of o.live.block.name ≡ address_of name = eqb-true (address_of o.live.block.name) (address_of name) (and_first (is_at (address_of name) o.live.block) (has page g o.live.block) o.so) in
-      let there : live_in w.events (address_of name) ≡ Some o.live = ap (live_in w.events) (sym at ∙ o.at) ∙ o.lives in
-      let is : o.live ≡ b = same_Some o.live b (sym there ∙ lives) in
-      let meets : meets_page (grain_of b.block.name) (length_of b.block) page ≡ true =
-      ap (λ (x : Live). meets_page (grain_of x.block.name) (length_of x.block) page) (sym is)
-      ∙ and_first (meets_page (grain_of o.live.block.name) (length_of o.live.block) page) (in_run (grain_of o.live.block.name) (length_of o.live.block) (256 * page + g))
-      (and_second (is_at (address_of name) o.live.block) (has page g o.live.block) o.so) in
-      false≢true (sym none ∙ has_filtered (meets_page (grain_of b.block.name) (length_of b.block)) (page_numbers f) page meets (page_there f page of))
+      search (arith, and_first, and_second, has_filtered, page_there)
 
   elsewhere : (page g : ℕ) → IsPage f page → has_number (pages_of f b.block) page ≡ false → is_covered (blocks_on w page) (256 * page + g) ≡ true → is_covered (blocks_on after page) (256 * page + g) ≡ true
   elsewhere page g of none h =

@@ -109,8 +109,7 @@ module _ (f : Profile) (k : ℕ) (entry : Entry) (w : World) (live : w.live ≡ 
   reject_text (Why.SizeDiffers room) run other is =
       let o : HasOtherRoom w.events entry.name room = other.1 in
       let differs : not (o.block.block.room == entry.room) ≡ true = ap not (ne_eqb o.block.block.room entry.room (λ same. o.differs (same ∙ sym is.1))) in
-      lives_text f k entry w o.block true live o.lives o.turn_is (and_from (is_sized entry) (not (o.block.block.room == entry.room)) is.0 differs)
-      ∙ ap (λ (r : ℕ). rejects k entry.name (Why.SizeDiffers r) w) (sym is.1)
+      cc (lives_text f k entry w o.block true live o.lives o.turn_is (and_from (is_sized entry) (not (o.block.block.room == entry.room)) is.0 differs))
 
   pub end_text : (b : Live) → live_in w.events (address_of entry.name) ≡ Some b → b.block.name.turn ≡ entry.name.turn → is_other_room entry b.block ≡ false → ends f k entry w ≡ ends_block f k entry.name b.block w
   end_text b lives turn room = lives_text f k entry w b false live lives turn room

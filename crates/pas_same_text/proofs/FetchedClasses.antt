@@ -108,10 +108,7 @@ pub none_kept : (f : Profile) (v : View) (heap class : ℕ) (page : ℕ) (slots 
 none_kept f v heap class page [] kind of all none = refl
 none_kept f v heap class page (s ∷ slots) kind of all none =
     let own : IsLocal f v s = All-head (IsLocal f v) s slots all in
-    let lost : keeps_right s page ≡ false = false_from_ne_true (keeps_right s page) (λ keeps.
-    let at : s.page ≡ page = eqb-true s.page page (and_second s.right (s.page == page) keeps) in
-    let home : home_of s ≡ class_home f heap class = same_from_deed_word (home_of s) (class_home f heap class) own.directory.kind kind (sym own.deed ∙ (ap (known_deed v) at ∙ of)) in
-    true≢false (sym (kept_for f heap class s (and_first s.right (s.page == page) keeps) home) ∙ none_here s (local_for heap class slots) (is_for_slots heap class s) none)) in
+    let lost : keeps_right s page ≡ false = search (arith, eqb-true, true≢false, kept_for, none_here) in
     ap (λ (t : Bool). t || any_keeps slots page) lost
     ∙ none_kept f v heap class page slots kind of (All-tail (IsLocal f v) s slots all) (none_behind s (local_for heap class slots) (is_for_slots heap class s) none)
 
@@ -211,9 +208,7 @@ module _ (f : Profile) (k heap class : ℕ) (p : Progress) (w : World) (found : 
         let found : Finds s (find (is_for heap class) (locals_of w k)) = found_same heap class c.locals (locals_of w k) s both_same there in
         let l : Local = found.local in
         let known = known_found (IsLocal f (part k p.list)) heap class c.locals s own.locals.known there in
-        ap served_as found.is
-        ∙ (ap (λ (t : Bool). if t then gives_first k name l l.slots w else fetches f k name heap class (gives_up k l w)) (no_slots s l found.same known left.0)
-        ∙ ap fetched_as (sym found.is))
+        cc (no_slots s l found.same known left.0)
 
     pub text_fetched : serves_class f k name heap class w ≡ fetches f k name heap class w1
     text_fetched = by_found (local_for heap class c.locals) refl o.fetch.place.taken.left

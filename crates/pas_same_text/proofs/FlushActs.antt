@@ -89,8 +89,7 @@ module _ (f : Profile) (p p' : Progress) (w v : World) (pages : List ℕ) (valid
       let m : IsMet (o.address / 16) (length_of o.block.block) q = met (o.address / 16) (length_of o.block.block) q (live_long f w.events run o.address o.block o.lived) o.met in
       let g : ℕ = m.grain in
       let deed : deed_in (visible p.list) (g / 256) ≡ Some d =
-      ap (λ (es : List Event). deed_in es (g / 256)) (sym events)
-      ∙ (sym (fewer.deeds (g / 256)) ∙ (ap (λ (es : List Event). deed_in es (g / 256)) same.events ∙ (ap (deed_in (visible p'.list)) m.of_page ∙ deed_now f p' v valid after same q d of is))) in
+      cc (fewer.deeds (g / 256), deed_now f p' v valid after same q d of is) in
       let may : usable_by_kind d.kind (g % 256) ≡ true = usable.usable o.address o.block own g m.of_run d deed in
       let page : g / 256 ≡ q = m.of_page in
       let whole : 256 * q + g % 256 ≡ g = omega (arith, page) in

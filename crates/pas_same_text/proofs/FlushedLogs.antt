@@ -243,8 +243,7 @@ module _ (f : Profile) (k epoch : ℕ) (s : Settled) (piece : List Made) (l : Wh
 
     none_noted : own_then s v k ≡ cache_of v k
     none_noted = ap (λ (runs : List EndedRun). record (cache_of v k) { noted = runs })
-        (ap (λ (runs : List EndedRun). noted_of v k ++ take (64 - length (noted_of v k)) runs) (ap (noted_by s.entry.name s.directory) outcome)
-        ∙ (ap (λ (runs : List EndedRun). noted_of v k ++ runs) (take_none (64 - length (noted_of v k))) ∙ append-nil (noted_of v k)))
+        (cc (take_none (64 - length (noted_of v k)), append-nil (noted_of v k)))
 
     rejected_taken : IsTakenBy f k s piece v x (own_then s v k)
     rejected_taken = subst (λ (w : World). IsTakenBy f k s piece v w (own_then s v k)) (sym rejected_text) (record {
@@ -318,8 +317,7 @@ module _ (f : Profile) (k epoch : ℕ) (l : Whole) (w : World) (c : Cached) (cac
         ];
         kinds = only_both freeing piece steps (only_within ending freeing piece refl (entry_kinds f k epoch s piece before valid legal is was.known)) was.kinds;
         hints = hints_both piece steps (entry_hints f k epoch s piece before valid legal is was.known) was.hints;
-        known = ap epoch_of (ap (part k) (sym all) ∙ part_of_own k piece before)
-            ∙ (ap or_zero (epoch_same ending refl piece (part k before) (entry_kinds f k epoch s piece before valid legal is was.known)) ∙ was.known);
+        known = cc (part_of_own k piece before, epoch_same ending refl piece (part k before) (entry_kinds f k epoch s piece before valid legal is was.known));
       }
 
   abbrev look : Made
@@ -363,5 +361,4 @@ module _ (f : Profile) (k epoch : ℕ) (l : Whole) (w : World) (c : Cached) (cac
       let next : IsFlushedTo f k epoch l w c caches (s ∷ settled) (h.0 ++ rest) (ends f k s.entry v) = next_flushed s settled h.0 rest v (subst (Legal f) (sym (triples_append k h.0 rest l)) whole) h.2 was in
       let text : each (ends f k) (reverse (s.entry ∷ map (λ s. s.entry) settled)) (set_log k [] w) ≡ ends f k s.entry v =
       ap (λ (es : List Entry). each (ends f k) es (set_log k [] w)) (reverse_onto (map (λ s. s.entry) settled) s.entry []) ∙ each_last (ends f k) (reverse (map (λ s. s.entry) settled)) s.entry (set_log k [] w) in
-      subst (λ (ms : List Made). IsFlushedTo f k epoch l w c caches (s ∷ settled) ms (each (ends f k) (reverse (s.entry ∷ map (λ s. s.entry) settled)) (set_log k [] w))) (sym all)
-      (subst (λ (z : World). IsFlushedTo f k epoch l w c caches (s ∷ settled) (h.0 ++ rest) z) (sym text) next)
+      rw (all, text) next

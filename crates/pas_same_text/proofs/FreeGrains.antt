@@ -42,8 +42,7 @@ pub bit_read : (l : Whole) (page b : ℕ) → free_bit l (256 * page + b) ≡ fr
 bit_read l page b =
     let turned : 256 * page + b ≡ page * 256 + b = omega arith in
     let bit : (256 * page + b) % 64 ≡ b % 64 = omega arith in
-    ap (λ (g : ℕ). has_bit (word_after l (free_word_at g)) ((256 * page + b) % 64)) turned
-    ∙ ap (λ (x : ℕ). has_bit (word_after l (free_word_at (page * 256 + b))) x) bit
+    cc
 
 -- a free grain is held by nobody, and no live block has it
 pub free_unheld : (f : Profile) (l : Whole) → IsValid f → Legal f l → (g : ℕ) → free_bit l g ≡ true → (k : ℕ) → holds (part k l) g ≡ false
@@ -170,9 +169,7 @@ module _ (f : Profile) (p : Progress) (w : World) (valid : IsValid f) (between :
           let is : IsThread f held.actor = holder_thread f p between held.actor (256 * page + b) (held.holder held.actor ∙ eq-eqb held.actor held.actor refl) in
           let unguarded : is_guarded w page ≡ false = false_from_ne_true (is_guarded w page) (λ h.
           let o = guarded_held page b small h in never_both f p between held.actor (256 * page + b) page cached (ap (λ (j : ℕ). is_outer (p.books j) page) (alone o.0 o.2) ∙ o.1)) in
-          ap (λ (t : Bool). not (is_covered (blocks_on w page) (256 * page + b)) && not t) (cached_some held.actor page b small is cached)
-          ∙ (and-false (not (is_covered (blocks_on w page) (256 * page + b)))
-          ∙ sym (ap (λ (t : Bool). t || is_guarded w page) held.not_free ∙ unguarded))
+          cc (cached_some held.actor page b small is cached, and-false (not (is_covered (blocks_on w page) (256 * page + b))))
 
       in_book : is_outer (p.books held.actor) page ≡ true → is_free w page b ≡ (free_bit p.list (256 * page + b) || is_guarded w page)
       in_book outer =
@@ -182,8 +179,7 @@ module _ (f : Profile) (p : Progress) (w : World) (valid : IsValid f) (between :
           ∙ sym (ap (λ (t : Bool). t || is_guarded w page) held.not_free ∙ outer_guarded p.books w same.guards held.actor page outer))
   free_here page b small (inr (inr covered)) =
       let unguarded : is_guarded w page ≡ false = false_from_ne_true (is_guarded w page) (λ h. let o = guarded_held page b small h in false≢true (sym (covered.nobody o.0) ∙ o.2)) in
-      ap (λ (t : Bool). not t && not (is_cached (locals_on w page) b)) (covered_some page (256 * page + b) covered.address covered.block (on_page page b small) covered.lives covered.covered)
-      ∙ sym (ap (λ (t : Bool). t || is_guarded w page) covered.not_free ∙ unguarded)
+      cc (covered_some page (256 * page + b) covered.address covered.block (on_page page b small) covered.lives covered.covered)
 
   pub free_same : (page b : ℕ) → b < 256 → is_free w page b ≡ (free_bit p.list (256 * page + b) || is_guarded w page)
   free_same page b small = free_here page b small (in_one_place f p.list valid between.legal (256 * page + b))

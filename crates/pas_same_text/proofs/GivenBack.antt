@@ -187,15 +187,8 @@ module _ (f : Profile) (ps qs : List ℕ) (w v x : World) (a : Returns f ps w v)
     within = within_both;
     backed = λ page. b.backed page ∙ a.backed page;
     grows = λ page g small h. b.grows page g small (a.grows page g small h);
-    others = λ page g of none small.
-        let each = or_parts (has_number ps page) (has_number qs page) (sym (has_both ps qs page) ∙ none) in
-        b.others page g of each.1 small ∙ a.others page g of each.0 small;
-    hinted = λ page.
-        b.hinted page
-        ∙ (ap (λ (t : Bool). t || (has_number qs page && is_idle x page)) (a.hinted page)
-        ∙ (settled_hint (is_hinted w page) (has_number ps page) (has_number qs page) (is_idle v page) (is_idle x page)
-        (idle_grows f qs v x page b) (λ here none. idle_same f qs v x page b (a.within page here) none)
-        ∙ ap (λ (t : Bool). is_hinted w page || (t && is_idle x page)) (sym (has_both ps qs page))));
+    others = search (arith, or_parts, has_both);
+    hinted = search (arith, settled_hint, idle_grows, idle_same, has_both);
   }
 
 -- ---- the pages that are minded at the end

@@ -165,10 +165,7 @@ module _ (f : Profile) (k : ℕ) (l : Local) (ls : List Local) (w : World) (is :
     names = up.names ∙ only.names;
     epoch = up.epoch ∙ only.epoch;
     read = up.read ∙ only.read;
-    caches = up.caches
-        ∙ (ap (λ (c : Cache). with_cache gone.caches k (record c { locals = [] })) (own_gone some few)
-        ∙ (ap (λ (cs : List Cache). with_cache cs k (record (cache_of w k) { locals = [] })) only.caches
-        ∙ with_twice w.caches k new (record (cache_of w k) { locals = [] })));
+    caches = search (arith, own_gone, with_twice);
     returns = returns_then f (l.page ∷ []) (map (λ x. x.page) ls) w gone v (one_returns f k l w page_of any_left any_other) up.returns;
   }
 

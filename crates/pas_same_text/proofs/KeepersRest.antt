@@ -3,7 +3,7 @@ use Rattle.std.proofs.Common.{◌≡◌, ℕ, ◌+◌, ◌/◌, ◌<◌, ◌≤�
 use Rattle.std.proofs.Common.{inr, refl, ap, sym, ◌∙◌, subst, arith, eqb-true, All}
 use Rattle.std.proofs.lemmas.{Bool.eqb-false, Bool.or_cases, Bool.or_right, List.Elements.All-nil}
 use Rattle.std.specs.List.{filter}
-use Rattle.pas_guard.proofs.Raises.{no_backs, each_more, backs_both}
+use Rattle.pas_guard.proofs.{Raises.no_backs, Raises.each_more, Raises.backs_both, Raised.raised_pages, Raised.raised_leaves}
 use Rattle.pas_profile.specs.{Blocks.address_of, Profiles.IsValid}
 use Rattle.pas_profile.specs.declared.{name.Block.Block, profile.Profile.Profile, word.Word.Word}
 use Rattle.pas_machine.specs.State.{backed_in}
@@ -17,7 +17,6 @@ use Rattle.pas_segregated.specs.declared.slots.Slots.{Slots}
 use Rattle.pas_rights.specs.Gives.{give_steps}
 use Rattle.pas_large.specs.Finds.{MayFind}
 use Rattle.pas_large.proofs.InOrder.{BacksIn}
-use Rattle.pas_guard.proofs.Raised.{raised_pages, raised_leaves}
 use Rattle.pas_guard.specs.Books.{is_outer_of, is_outer, Each, FitsBook}
 use Rattle.pas_guard.specs.{Evidence.BackedReadHere, Keepers.IsBeside, Seeks.LeftSince, Sweeps.sweeping, Sweeps.SweepSteps}
 use Rattle.pas_guard.specs.Raises.{guard_of, BacksNot, IsRaised, RaiseSteps}

@@ -100,9 +100,7 @@ logged_same f k entry p w c' steps is same room takes =
     let inside = page_inside f.pages (address_of entry.name) takes.region.page.0 takes.region.page.1 in
     let text : frees f k entry w ≡ adds k entry w =
     freed_is f k entry w true true inside (eq-eqb (address_of entry.name % 16) 0 takes.region.aligned) ∙ room_is f k entry p w is same room in
-    subst (λ (x : World). IsSame f (after_with p k steps None p.names c') x) (sym text)
-    (subst (λ (ms : List Made). IsSame f (after_with p k ms None p.names c') (adds k entry w)) (sym to.0)
-    (subst (λ (c : Cached). IsSame f (after_with p k [] None p.names c) (adds k entry w)) (sym to.1) (added_same f k entry p w is same)))
+    rw (text, to.0, to.1) (added_same f k entry p w is same)
 
 refused_text : (f : Profile) (k : ℕ) (entry : Entry) (w : World) (c c' : Cached) (steps : List Made) (fault : FreeFault) → RefusesName f c c' entry.name steps fault → frees f k entry w ≡ refuses_free k entry.name fault w
 refused_text f k entry w c c' steps Outside refuses = freed_is f k entry w false (address_of entry.name % 16 == 0) (page_outside f.pages (address_of entry.name) refuses.fault_is) refl
@@ -113,9 +111,7 @@ pub refused_same : (f : Profile) (k : ℕ) (entry : Entry) (p : Progress) (w : W
     → RefusesName f (p.caches k) c' entry.name steps fault → IsSame f (after_with p k steps (Some (said_of_fault entry.name fault)) p.names c') (frees f k entry w)
 refused_same f k entry p w c' steps fault same refuses =
     let name : Name = entry.name in
-    subst (λ (x : World). IsSame f (after_with p k steps (Some (said_of_fault name fault)) p.names c') x) (sym (refused_text f k entry w (p.caches k) c' steps fault refuses))
-    (subst (λ (ms : List Made). IsSame f (after_with p k ms (Some (said_of_fault name fault)) p.names c') (refuses_free k name fault w)) (sym refuses.no_steps)
-    (subst (λ (c : Cached). IsSame f (after_with p k [] (Some (said_of_fault name fault)) p.names c) (refuses_free k name fault w)) (sym refuses.cache) (said_same f k (said_of_fault name fault) p w same)))
+    rw (refused_text f k entry w (p.caches k) c' steps fault refuses, refuses.no_steps, refuses.cache) (said_same f k (said_of_fault name fault) p w same)
 
 pub freed_same : (f : Profile) (k : ℕ) (entry : Entry) (p : Progress) (w : World) (c' : Cached) (steps : List Made) (said : Option TheSaid) → IsThread f k → IsSame f p w → nat_le 64 (length (p.caches k).log) ≡ false
     → IsFreed f k (p.caches k) c' entry steps said → IsSame f (after_with p k steps said p.names c') (frees f k entry w)
@@ -129,9 +125,8 @@ entry_same : (f : Profile) (k : ℕ) (entry : Entry) (p p' : Progress) (w : Worl
     → IsSame f p' (frees f k entry w)
 entry_same f k entry p p' w a is same room freed names reached =
     let test : nat_le 64 (length (p.caches k).log) ≡ false = grind (arith, nat_tests, room) in
-    subst (λ (q : Progress). IsSame f q (frees f k entry w)) (sym reached)
-    (subst (λ (ns : List Named). IsSame f (after_with p k a.steps a.said ns a.cache) (frees f k entry w)) (sym names)
-    (freed_same f k entry p w a.cache a.steps a.said is same test freed))
+    rw (reached, names)
+    (freed_same f k entry p w a.cache a.steps a.said is same test freed)
 
 pub raw_same : (f : Profile) (line k : ℕ) (block : Name) → IsThread f k → StaysSameWhere (HasLogRoom k) f (Act.Operates (record { line = line; actor = k; what = Raw block }))
 raw_same f line k block is p p' w room taken = entry_same f k (entry_of block) p p' w taken.advances.0 is taken.same room taken.advances.1.0 taken.advances.1.1 taken.advances.2
@@ -144,8 +139,7 @@ pub skipped_same : (f : Profile) (k name : ℕ) (p : Progress) (w : World) (c' :
     → IsSame f (after_with p k steps said p.names c') (says (Record.Said k (Said.Skipped name)) w)
 skipped_same f k name p w c' steps said same no_steps cache is =
     subst (λ (s : Option TheSaid). IsSame f (after_with p k steps s p.names c') (says (Record.Said k (Said.Skipped name)) w)) (sym is)
-    (subst (λ (ms : List Made). IsSame f (after_with p k ms (Some (Said.Skipped name)) p.names c') (says (Record.Said k (Said.Skipped name)) w)) (sym no_steps)
-    (subst (λ (c : Cached). IsSame f (after_with p k [] (Some (Said.Skipped name)) p.names c) (says (Record.Said k (Said.Skipped name)) w)) (sym cache) (said_same f k (Said.Skipped name) p w same)))
+    (rw (no_steps, cache) (said_same f k (Said.Skipped name) p w same))
 
 freed_named : (f : Profile) (k name : ℕ) (size : Option ℕ) (p : Progress) (w : World) (c' : Cached) (steps : List Made) (said : Option TheSaid) → IsThread f k → IsSame f p w → nat_le 64 (length (p.caches k).log) ≡ false
     → (meant : Option (Option Block)) → IsFreedBy f k (p.caches k) c' name size meant steps said → IsSame f (after_with p k steps said p.names c') (frees_what f k name (room_noted size) meant w)

@@ -204,6 +204,5 @@ lower_act f keeper is p p' w taken =
     let steps : List Made = taken.advances.0 in
     let said : List Record = taken.advances.1 in
     let reached : p' ≡ after_lowering p keeper steps said = taken.advances.3 in
-    subst (λ (x : World). IsSame f p' x) (sym (all_text f keeper p w taken.same))
-    (subst (λ (q : Progress). IsSame f q (each lowers (map (told_guard keeper) (filter (goes_down true (visible p.list)) (p.books keeper))) w)) (sym reached)
-    (sweep_same f keeper true p w steps [] said taken.valid is taken.before taken.same taken.advances.2.sweep (subst (IsBetween f) reached taken.after)))
+    rw (all_text f keeper p w taken.same, reached)
+    (sweep_same f keeper true p w steps [] said taken.valid is taken.before taken.same taken.advances.2.sweep (subst (IsBetween f) reached taken.after))

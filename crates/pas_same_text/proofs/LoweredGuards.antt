@@ -1,6 +1,6 @@
 -- GUARDS ARE LOWERED in the text: their outer pages are anybody's again, and nothing else changes but hints.
-use Rattle.std.proofs.Common.{arith, ◌≡◌, ℕ, ◌==◌, Bool, true, false, not, ◌||◌, if◌then◌else◌, List, [], ◌∷◌, ◌++◌, map, reverse, inl, inr, refl, ap, sym, ◌∙◌, subst}
-use Rattle.std.proofs.Common.{append_assoc, append-nil, true≢false, eq-eqb, eqb-true}
+use Rattle.std.proofs.Common.{arith, ◌≡◌, ℕ, ◌==◌, Bool, true, false, not, ◌||◌, if◌then◌else◌, List, [], ◌∷◌, ◌++◌, map, reverse, inl, inr, refl, ap, sym, ◌∙◌}
+use Rattle.std.proofs.Common.{subst, append_assoc, append-nil, true≢false, eq-eqb, eqb-true}
 use Rattle.std.proofs.lemmas.Bool.{false≢true, or_cases, or_left, or_right, false_from_ne_true, or_parts}
 use Rattle.std.specs.List.{list_any, filter}
 use Rattle.pas_profile.specs.Profiles.{IsPage}
@@ -194,9 +194,6 @@ left_of books keeper k fallen gs is = swapped_all (λ g. g.keeper == k) (map (to
 pub outer_number : (k : ℕ) (gs : List BookGuard) (page : ℕ) → is_outer gs page ≡ true → has_number (outer_pages (map (told_guard k) gs)) page ≡ true
 outer_number k [] page h = h
 outer_number k (g ∷ gs) page h = elim (or_cases (is_outer_of g page) (is_outer gs page) h) [
-  | inl here ↦ elim (or_cases (g.low == page) (g.high == page) here) [
-    | inl low ↦ or_left (g.low == page) ((g.high == page) || has_number (outer_pages (map (told_guard k) gs)) page) low
-    | inr high ↦ or_right (g.low == page) ((g.high == page) || has_number (outer_pages (map (told_guard k) gs)) page) (or_left (g.high == page) (has_number (outer_pages (map (told_guard k) gs)) page) high)
-  ]
+  | inl here ↦ search (arith, or_cases, or_left)
   | inr later ↦ or_right (g.low == page) ((g.high == page) || has_number (outer_pages (map (told_guard k) gs)) page) (or_right (g.high == page) (has_number (outer_pages (map (told_guard k) gs)) page) (outer_number k gs page later))
 ]

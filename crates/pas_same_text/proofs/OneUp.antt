@@ -1,6 +1,6 @@
 -- ONE LOCAL ALLOCATOR OF A CACHE IS STOPPED, or left where it has no slot: the text gives it up.
-use Rattle.std.proofs.Common.{arith, ◌≡◌, ℕ, ◌/◌, ◌==◌, Bool, true, false, ◌||◌, if◌then◌else◌, List, [], ◌∷◌, ◌++◌, reverse, Some, inl, inr, refl, ap, sym, ◌∙◌}
-use Rattle.std.proofs.Common.{subst, append-nil, eq-eqb, eqb-true}
+use Rattle.std.proofs.Common.{arith, ◌≡◌, ℕ, ◌/◌, ◌==◌, Bool, true, false, ◌||◌, if◌then◌else◌, List, [], ◌∷◌, ◌++◌, reverse, Some, inl, inr, refl, ap, sym}
+use Rattle.std.proofs.Common.{◌∙◌, subst, append-nil, eq-eqb, eqb-true}
 use Rattle.std.proofs.lemmas.Bool.{false≢true}
 use Rattle.std.specs.List.{find}
 use Rattle.pas_profile.specs.Profiles.{IsValid, IsPage, IsDirectoryOf}

@@ -24,7 +24,8 @@ use Rattle.pas_scan.specs.Usable.{OfHere, WholeHere, ReadUsable, ParksNotHere, I
 use Rattle.pas_search.specs.Kinds.{IsReturnOf, ReturnsDuly}
 use Rattle.pas_large.specs.Evidence.{NotAll, LostRightHere, LostDeedHere, LostHere, BrokenHere, BadHere}
 use Rattle.pas_large.specs.Telling.{IsWholePage, IsUsablePage}
-use Rattle.pas_large.proofs.{Outcomes.MadeOf, Told.eligible_told, Told.free_told, Told.grain_bit, Told.of_page, Told.usable_free, Told.clean_fresh, Told.usable_clean, Told.nowhere_else, Told.none_read, Told.lost_never}
+use Rattle.pas_large.proofs.Outcomes.{MadeOf}
+use Rattle.pas_large.proofs.Told.{eligible_told, free_told, grain_bit, of_page, usable_free, clean_fresh, usable_clean, nowhere_else, none_read, lost_never}
 use Rattle.pas_same_text.specs.Words.{free_bit}
 use Rattle.pas_same_text.proofs.{GivingBack.offer_one, SearchMarks.stays_used, SearchMarks.stays_free}
 
@@ -82,10 +83,7 @@ module _ (f : Profile) (k : ℕ) (l : Whole) (d : Directory) (p : ℕ) where
   offered_then [] legal due never = (λ got. absurd got, λ n bit. (n, bit))
   offered_then (m ∷ xs) legal due never =
       let before = offered_then xs legal.1 due.1 never.1 in (
-        λ got. elim got [
-          | inl here ↦ let o = got_by (triples k xs ++ l) m.step m.answer legal.0.answer_is never.0 here in before.1 o.0 o.1
-          | inr later ↦ before.0 later
-        ],
+        search (arith, got_by),
         λ n bit. elim (offer_one (epoch_of (part k (triples k xs ++ l))) m.step n p (word_after (triples k xs ++ l) (Word.Eligible n (p / 64))) bit) [
           | inl was ↦ before.1 n was
           | inr o ↦ before.0 (due.0.0 p (subst (IsReturnOf p) (sym o.1) (IsReturnOf.Offers o.0)))

@@ -1,7 +1,8 @@
 -- A REQUEST FOR WHOLE PAGES: by the run that the heap's index named, where it is whole, or else by the lowest usable one; or it is refused, and changes no page.
 use Rattle.std.proofs.Common.{◌≡◌, ℕ, ◌*◌, ◌/◌, ◌≤◌, true, List, ◌∷◌, ◌++◌, Option, None, Some, Result, Ok, Err, ◌⊎◌, inl, inr, refl, ap, sym, ◌∙◌, subst}
 use Rattle.std.proofs.Common.{arith, append_assoc, true≢false}
-use Rattle.pas_large.proofs.Lifted.{find_again}
+use Rattle.pas_large.proofs.{Lifted.find_again, Allocates.holds_whole, Allocates.scans_only, Alone.goes_by_door, Alone.refused_alone, Pages.rise_none}
+use Rattle.pas_large.proofs.{Pages.knew_before}
 use Rattle.pas_profile.specs.{Blocks.address_of, Profiles.IsValid, Profiles.IsAdmitted, Profiles.IsDirectoryOf}
 use Rattle.pas_profile.specs.Requests.{route_in, room_in, is_shared, kind_of_route, directory_for}
 use Rattle.pas_profile.specs.declared.{directory.Directory.Directory, directory.Route.Route, event.NoRoom.NoRoom, name.Block.Block, profile.Profile.Profile}
@@ -16,7 +17,6 @@ use Rattle.pas_search.proofs.Returns.{duly_both, duly_none}
 use Rattle.pas_large.specs.Allocates.{IsAllocatedLarge, IsAllocatedNamed, IsServedNamed, IsScanned}
 use Rattle.pas_large.specs.{Alone.GoesByDoor, Doors.Indexes, Doors.found_in, Finds.MayFind, Finds.finding, Pages.claiming_old, Telling.IsLowestRun}
 use Rattle.pas_large.specs.{Telling.IsNamedWhole}
-use Rattle.pas_large.proofs.{Allocates.holds_whole, Allocates.scans_only, Alone.goes_by_door, Alone.refused_alone, Pages.rise_none, Pages.knew_before}
 use Rattle.pas_cache.specs.{Contents.Cached, Serves.ServesPages, Serves.ServesBy, Serves.wanted_for, Calls.IsNamed}
 use Rattle.pas_cache.proofs.Routes.{large_size, pages_asked, may_find}
 use Rattle.pas_report.specs.declared.record.Said.{Said as TheSaid}
@@ -191,9 +191,8 @@ module _ (f : Profile) (k name heap size align : ℕ) (p p' : Progress) (w : Wor
       → IsSame f p' (serves f k name heap (route_in f size align) (room_in f size align) align w)
   served_same block is first got rest steps run chosen =
       let all : p' ≡ given_to p k name (rest ++ got) block = to (Ok block) is ∙ ap (λ (ms : List Made). given_to p k name ms block) steps in
-      subst (λ (x : World). IsSame f p' x) (sym (text_by (Some first) chosen))
-      (subst (λ (q : Progress). IsSame f q (gives_pages k name heap first n u)) (sym all)
-      (run_given f k name heap first n p u got rest block valid thread of some before served.rest same_u (subst (IsBetween f) all after) run))
+      rw (text_by (Some first) chosen, all)
+      (run_given f k name heap first n p u got rest block valid thread of some before served.rest same_u (subst (IsBetween f) all after) run)
 
   run_named : (first : ℕ) → IsNamedWhole f d n l a.found first → named_run w heap n ≡ Some first
   run_named first whole = whole_named f p w valid before same.pages old heap of n first (subst (λ (o : Option ℕ). IsNamedWhole f d n l o first) named_is whole)
@@ -253,15 +252,11 @@ module _ (f : Profile) (k name heap size align : ℕ) (p p' : Progress) (w : Wor
       legal_earlier f k by.after by.searched mid (subst (λ (ms : List Made). Legal f (triples k ms ++ mid)) by.rest_is (subst (Legal f) (sym (triples_append k pages.rest pages.tried l)) now.legal)) in
       let again : MayFind d (part k mid) = subst (MayFind d) (sym (part_of_own k pages.tried l)) (find_again f d (part k l) pages.tried may (agreed_steps f k l pages.tried valid legal_tried) (by.misses.still.from (part k l) may (agreed_steps f k l pages.tried valid legal_tried))) in
       let looked : Only looking pages.rest = subst (Only looking) (sym by.rest_is) (only_both looking by.after by.searched (scans_only by.after by.own.scans) (by.looked room refl k mid legal_searched again)) in
-      let searches : AreSearch steps = record {
-        kinds = only_both searching pages.rest pages.tried (only_within looking searching pages.rest refl looked) (only_within claiming_old searching pages.tried refl pages.old);
-        returns = duly_both pages.rest pages.tried (duly_none looking pages.rest refl refl looked) pages.returns;
-      } in
+      let searches : AreSearch steps = search (arith, only_both, only_within, duly_both, duly_none) in
       let quiet : AreQuiet steps = always_both (λ m before. IsQuiet m) (λ m before. IsQuiet m) pages.rest pages.tried (λ m before h. h) (quiet_by looking refl pages.rest looked) (quiet_by claiming_old refl pages.tried pages.old) in
       let none : run_or (named_run w heap n) (lowest_run f w heap n) ≡ None =
       ap (λ (o : Option ℕ). run_or o (lowest_run f w heap n)) (no_named room is (named_run w heap n) refl) ∙ none_lowest f p w valid before same.pages old heap of n told.before in
-      subst (λ (x : World). IsSame f p' x) (sym (text_by None none))
-      (subst (λ (q : Progress). IsSame f q (refuses k name (refusal f u d) u)) (sym (to (Err room) is)) (refused_same f k name p u d steps room valid thread of before now same_u searches quiet told.reason))
+      rw (text_by None none, to (Err room) is) (refused_same f k name p u d steps room valid thread of before now same_u searches quiet told.reason)
 
   -- ---- any
   answered : (answer : Result Block NoRoom) → served.answer ≡ answer → IsSame f p' (serves f k name heap (route_in f size align) (room_in f size align) align w)

@@ -115,10 +115,7 @@ module _ (f : Profile) (p : Progress) (w : World) (valid : IsValid f) (between :
       | inl e ↦ ap (λ (x : ℕ). empty_bit (triples 0 steps ++ l) x) e ∙ ((words_stay n 0 steps l (h.spared n (omega arith))).hint ∙ none)
       | inr ne ↦ h.bits q (omega (arith, lt, ne)) gone
     ];
-    idle = λ q lt is stays. elim (cases_eq q n) [
-      | inl e ↦ absurd (true≢false (sym is ∙ (ap (λ (x : ℕ). empty_bit l x) e ∙ none)))
-      | inr ne ↦ h.idle q (omega (arith, lt, ne)) is stays
-    ];
+    idle = search (arith, true≢false);
     offers = h.offers;
   }
 
@@ -130,8 +127,7 @@ module _ (f : Profile) (p : Progress) (w : World) (valid : IsValid f) (between :
       let x : IsTried f w l before n o piece = tried f p w valid between same stamped n epoch now is before (words_stay n 0 steps l (h.spared n (omega arith))) o piece tries (subst (Legal f) (sym onto) legal) in
       let beside : ((q : ℕ) → (n ≡ q → ⊥) → Spares q piece) = λ q ne. try_spares q n (ne_eqb n q ne) f.age epoch o piece tries in
       record {
-        found_are = ap (λ (out : Option Outcome). with_outcome n out found) x.outcome
-            ∙ (ap (λ (ps : List (ℕ × Outcome)). told n ∷ ps) h.found_are ∙ ap (λ (t : Bool). map told (if t then n ∷ falling hinted n else falling hinted n)) (sym is));
+        found_are = cc;
         spared = λ q le. spare_both q piece steps (beside q (λ e. absurd (omega (arith, e, le)))) (h.spared q (omega (arith, le)));
         bits = λ q lt gone. ap (λ (m : Whole). empty_bit m q) (sym onto) ∙ elim (cases_eq q n) [
           | inl e ↦ ap (λ (y : ℕ). empty_bit (triples 0 piece ++ before) y) e ∙ x.bit (ap (λ (y : ℕ). stays_hinted (outcome_of f w y)) (sym e) ∙ gone (ap (λ (y : ℕ). empty_bit l y) e ∙ is))
@@ -166,9 +162,7 @@ module _ (f : Profile) (p : Progress) (w : World) (valid : IsValid f) (between :
       let w' : Whole = triples 0 steps ++ l in
       let word : (64 * n + b) / 64 ≡ n = omega (arith, lt) in
       let place : (64 * n + b) % 64 ≡ b = omega (arith, lt) in
-      ap (λ (a : ℕ). has_bit a b) is
-      ∙ (ap (λ (x : ℕ). has_bit (word_after w' (Word.Empty x)) b) (sym word)
-      ∙ (ap (has_bit (word_after w' (Word.Empty ((64 * n + b) / 64)))) (sym place) ∙ (words_stay (64 * n + b) 0 steps l spares).hint))
+      cc ((words_stay (64 * n + b) 0 steps l spares).hint)
 
   -- ==== the pages of one word, below its n-th bit
   past_tries : (word value n : ℕ) (tries : List Tried) (steps base : List Made) (found : List (ℕ × Outcome)) → map (λ t. t.page) tries ≡ pages_set word value n → InTurn (TriedSteps f.age epoch) tries steps → Legal f (triples 0 (steps ++ base) ++ l)

@@ -123,12 +123,9 @@ module _ (f : Profile) (p : Progress) (w : World) (valid : IsValid f) (between :
       → outcome_of f w page ≡ Outcome.Young (word_after l (Word.Stamp page))
   young_outcome page d of some full of_profile offered young =
       let at : word_after l (Word.Stamp page) ≡ epoch_in w.events page = stamp_is page of in
-      empty_outcome page false some full (not_kept page d of_profile offered)
-      ∙ (ap (λ (t : Bool). if t then Outcome.Young (epoch_in w.events page) else Outcome.Unbacked) (lt-ltb w.epoch (epoch_in w.events page + f.age) (omega (arith, young, at)))
-      ∙ ap (λ (n : ℕ). Outcome.Young n) (sym at))
+      cc (empty_outcome page false some full (not_kept page d of_profile offered), lt-ltb w.epoch (epoch_in w.events page + f.age) (omega (arith, young, at)))
 
   pub old_outcome : (page : ℕ) (d : Directory) → IsPage f page → IsBacked page → IsFull page → IsDirectoryOf f d → eligible_bit l (number_of d) page ≡ true → word_after l (Word.Stamp page) + f.age ≤ w.epoch → outcome_of f w page ≡ Outcome.Unbacked
   old_outcome page d of some full of_profile offered old =
       let at : word_after l (Word.Stamp page) ≡ epoch_in w.events page = stamp_is page of in
-      empty_outcome page false some full (not_kept page d of_profile offered)
-      ∙ ap (λ (t : Bool). if t then Outcome.Young (epoch_in w.events page) else Outcome.Unbacked) (le-ltb w.epoch (epoch_in w.events page + f.age) (omega (arith, old, at)))
+      cc (empty_outcome page false some full (not_kept page d of_profile offered), le-ltb w.epoch (epoch_in w.events page + f.age) (omega (arith, old, at)))

@@ -130,14 +130,8 @@ all_come out (page ∷ pages) w =
     let a : HasLeft w x = come_left page (out page) w in
     let hints : x.hinted ≡ (if stays_hinted (out page) then w.hinted else filter (λ p. not (p == page)) w.hinted) = come_hinted page (out page) w in
     record {
-      events = r.events
-          ∙ (ap (λ (e : ℕ). unbacks_in 0 e (reverse (map (λ q. pair q (out q)) pages)) ++ x.events) a.epoch
-          ∙ (ap (λ (es : List Event). unbacks_in 0 w.epoch (reverse (map (λ q. pair q (out q)) pages)) ++ es) (come_events page (out page) w)
-          ∙ last_unback w.epoch page (out page) (map (λ q. pair q (out q)) pages) w.events));
-      records = r.records
-          ∙ (ap (λ (e : ℕ). reverse (map (λ q. record_of 0 e q (out q)) pages) ++ x.records) a.epoch
-          ∙ (ap (λ (rs : List Record). reverse (map (λ q. record_of 0 w.epoch q (out q)) pages) ++ rs) (come_records page (out page) w)
-          ∙ last_record (record_of 0 w.epoch page (out page)) (map (λ q. record_of 0 w.epoch q (out q)) pages) w.records));
+      events = cc (come_events page (out page) w, last_unback w.epoch page (out page) (map (λ q. pair q (out q)) pages) w.events);
+      records = search (arith, come_records, last_record);
       left = record {
         live = r.left.live ∙ a.live;
         lives = r.left.lives ∙ a.lives;
@@ -149,16 +143,8 @@ all_come out (page ∷ pages) w =
       };
       backed = λ q stays. r.backed q stays ∙ come_backed page (out page) w q (λ e. ap (λ (y : ℕ). stays_hinted (out y)) e ∙ stays);
       hinted_was = λ q h. hint_was page (stays_hinted (out page)) w.hinted q (sym (ap (λ (hs : List ℕ). has_number hs q) hints) ∙ r.hinted_was q h);
-      hinted_so = λ q there h. elim (or_cases (page == q) (has_number pages q) there) [
-        | inl same ↦
-            let e : page ≡ q = eqb-true page q same in
-            let now : has_number x.hinted page ≡ true = ap (has_number x.hinted) e ∙ r.hinted_was q h in
-            ap (λ (y : ℕ). stays_hinted (out y)) (sym e) ∙ hint_so page (stays_hinted (out page)) w.hinted (sym (ap (λ (hs : List ℕ). has_number hs page) hints) ∙ now)
-        | inr later ↦ r.hinted_so q later h
-      ];
-      hinted_still = λ q h so. r.hinted_still q
-          (ap (λ (hs : List ℕ). has_number hs q) hints ∙ hint_still page (stays_hinted (out page)) w.hinted q h (λ e. ap (λ (y : ℕ). stays_hinted (out y)) e ∙ so (or_left (page == q) (has_number pages q) (eq-eqb page q e))))
-          (λ later. so (or_right (page == q) (has_number pages q) later));
+      hinted_so = search (arith, or_cases, eqb-true, hint_so);
+      hinted_still = search (arith, hint_still, or_left, eq-eqb);
     }
 
 -- ==== each page has the outcome that it had before the first of them

@@ -2,8 +2,7 @@
 use Rattle.std.proofs.Common.{◌≡◌, ◌≢◌, ℕ, ◌+◌, ◌/◌, ◌%◌, ◌<◌, ◌≤◌, Bool, true, false, if◌then◌else◌, List, [], ◌∷◌, ◌++◌, Option, None, Some, inl, inr, refl}
 use Rattle.std.proofs.Common.{ap, sym, ◌∙◌, subst, arith, true≢false, eq-eqb}
 use Rattle.std.proofs.lemmas.Bool.{false≢true, false_from_ne_true}
-use Rattle.pas_large.proofs.Told.{looks_same}
-use Rattle.pas_large.proofs.Left.{hints_both}
+use Rattle.pas_large.proofs.{Told.looks_same, Left.hints_both}
 use Rattle.pas_bits.specs.Bits.{has_bit}
 use Rattle.pas_bits.specs.declared.mask.Mask4.{Mask4}
 use Rattle.pas_bits.proofs.PageVectors.{page_bit-clear}
@@ -114,12 +113,7 @@ module _ (f : Profile) (p : Progress) (w : World) (valid : IsValid f) (between :
         let some : word_after l (Word.Backed page) ≢ 0 = λ none. a.backed (kept.backed ∙ none) in
         let full : ((word : ℕ) → word < 4 → word_after l (Word.Free page word) ≡ all_ones) = λ word small. sym (kept.free word) ∙ a.full word small in
         let only : Only (Hinting ∷ asking) steps = subst (Only (Hinting ∷ asking)) (sym h.4) (refl, only_within asking (Hinting ∷ asking) h.2 refl (asks_only page d false h.2 h.3)) in
-        record {
-          is = kept_outcome f p w valid between same stamped page d some a.of_profile (sym kept.deed ∙ a.deed) full (sym (kept.offer (number_of d)) ∙ a.offered);
-          idle = λ stays. empty_backed f p w valid between same stamped page some full;
-          hints = λ gone. absurd (true≢false gone);
-          offers = λ offer. absurd (none_offers (Hinting ∷ asking) refl page steps only offer);
-        }
+        search (arith, kept_outcome, empty_backed, true≢false, none_offers)
     without_right o steps h legal = absurd h
 
     -- ---- with the right

@@ -1,6 +1,6 @@
 -- WHAT A PASS LEAVES of the pages that it doesn't examine: steps on other pages leave a page's words, and its bits of the page vectors.
-use Rattle.std.proofs.Common.{arith, ◌≡◌, ℕ, ◌/◌, ◌%◌, ◌==◌, max, bit_and, bit_or, Bool, true, false, ◌&&◌, if◌then◌else◌, List, [], ◌∷◌, ◌++◌, Option, None, Some}
-use Rattle.std.proofs.Common.{slice_index, inl, inr, refl, ap, sym, ◌∙◌, subst, w64}
+use Rattle.std.proofs.Common.{arith, ◌≡◌, ℕ, ◌/◌, ◌%◌, ◌==◌, max, bit_and, bit_or, Bool, true, false, ◌&&◌, if◌then◌else◌, List, [], ◌∷◌, ◌++◌, Option, None}
+use Rattle.std.proofs.Common.{Some, slice_index, inl, inr, refl, ap, sym, ◌∙◌, subst, w64}
 use Rattle.std.proofs.lemmas.Bool.{false≢true}
 use Rattle.std.specs.Int.{bit_not}
 use Rattle.pas_bits.specs.Bits.{has_bit}

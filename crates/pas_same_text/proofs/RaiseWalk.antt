@@ -217,8 +217,7 @@ module _ (f : Profile) (keeper k name heap n : ℕ) (w : World) (made : List ℕ
     walk zero p e low le past up = absurd (omega (arith, le, past))
     walk (suc m) p e low le past up = elim (cases_eq p first) [
       | inl same ↦
-          tried_one e p m true low (omega (arith, same, last)) up (ap (is_run f w heap (n + 2)) same ∙ usable) (ap (λ (x : ℕ). are_bare w x n) same ∙ bare)
-          ∙ ap (λ (x : ℕ). raises keeper name heap x n (upto (x + (n + 2)))) same
+          cc (tried_one e p m true low (omega (arith, same, last)) up (ap (is_run f w heap (n + 2)) same ∙ usable) (ap (λ (x : ℕ). are_bare w x n) same ∙ bare))
       | inr other ↦
           pass_by (raises keeper name heap first n (upto (first + (n + 2)))) e p m low (omega (arith, le, last)) up (lower p low (omega (arith, le, other)))
           (λ e' up'. walk m (p + 1) e' (omega arith) (omega (arith, le, other)) (omega (arith, past)) up')
@@ -230,8 +229,7 @@ module _ (f : Profile) (keeper k name heap n : ℕ) (w : World) (made : List ℕ
     pub found_text : raises_from f keeper k name heap n (page_numbers f) w ≡ raises keeper name heap first n (shown (deeds_of keeper d made) w)
     found_text =
         let low = region.0 in
-        ap (raises_from f keeper k name heap n (page_numbers f)) (sym begun)
-        ∙ (walk f.pages 1 0 (omega arith) low (omega (arith, region.1)) begin ∙ ap (raises keeper name heap first n) (whole (first + (n + 2)) all_below))
+        cc (begun, walk f.pages 1 0 (omega arith) low (omega (arith, region.1)) begin, whole (first + (n + 2)) all_below)
 
   -- ---- NO RUN SERVES
   module _ (last : end ≡ f.pages + 1) (none : (r : ℕ) → 1 ≤ r → r < end → is_run f w heap (n + 2) r ≡ true → are_bare w r n ≡ false) where

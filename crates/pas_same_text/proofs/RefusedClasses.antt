@@ -101,17 +101,12 @@ module _ (f : Profile) (k name heap size align class : ℕ) (p p' : Progress) (w
         let said : Option TheSaid = Some (said_of_room name room) in
         let names : List Named = named name None ∷ p.names in
         let to : p' ≡ after_with p k steps said names (p1.caches k) =
-        reached
-        ∙ (ap (λ (x : Option TheSaid). after_with p k a.steps x a.names a.cache) (served.said_is ∙ ap (said_of_request name) is)
-        ∙ (ap (λ (ns : List Named). after_with p k a.steps said ns a.cache) (served.names_are ∙ ap (λ (r : Result Block NoRoom). named name (block_answered r) ∷ p.names) is)
-        ∙ (ap (λ (x : Cached). after_with p k a.steps said names x) (cache ∙ sym (same_own p.caches k (record c { locals = fewer })))
-        ∙ ap (λ (ms : List Made). after_with p k ms said names (p1.caches k)) steps_are))) in
+        cc (same_own p.caches k (record c { locals = fewer })) in
         let end : IsBetween f (refused_to p1 k name o.fetch.searched room) = fetch_between f k heap class p w (Err room) fewer steps o [] said names (p1.caches k) (subst (IsBetween f) to after) in
         let ended : IsSame f (refused_to p1 k name o.fetch.searched room) (fetches f k name heap class w1) =
         fetch_refused f k name heap class p1 w1 room o.fetch.searched (place_fetched f k heap class p w (Err room) fewer steps o) o.fetch.refill end in
-        subst (IsSame f p') (sym (text_fetched f k heap class p w (Err room) fewer steps o name))
-        (subst (λ (x : Progress). IsSame f x (fetches f k name heap class w1)) (sym to)
-        (fetch_carried f k heap class p w (Err room) fewer steps o [] said names (p1.caches k) (fetches f k name heap class w1) ended))
+        rw (text_fetched f k heap class p w (Err room) fewer steps o name, to)
+        (fetch_carried f k heap class p w (Err room) fewer steps o [] said names (p1.caches k) (fetches f k name heap class w1) ended)
 
     obtained : (fewer : List Slots) (steps : List Made) → a.cache ≡ record c { locals = fewer } → a.steps ≡ steps → IsObtained (filling_in home class) f c.locals fewer steps (Err room) → IsSame f p' (serves_class f k name heap class w)
     obtained fewer steps cache steps_are (inl cached) = absurd (let bad : Err room ≡ Ok cached.0 = cached.1 in cc)

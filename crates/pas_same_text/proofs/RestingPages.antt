@@ -73,9 +73,7 @@ bit_at l page b small =
     let at_page : (256 * page + b) / 256 ≡ page = omega (arith, small) in
     let at_word : (256 * page + b) / 64 % 4 ≡ b / 64 = omega (arith, small) in
     let at_bit : (256 * page + b) % 64 ≡ b % 64 = omega (arith, small) in
-    ap (λ (q : ℕ). has_bit (word_after l (Word.Free q ((256 * page + b) / 64 % 4))) ((256 * page + b) % 64)) at_page
-    ∙ (ap (λ (u : ℕ). has_bit (word_after l (Word.Free page u)) ((256 * page + b) % 64)) at_word
-    ∙ ap (λ (x : ℕ). has_bit (word_after l (Word.Free page (b / 64))) x) at_bit)
+    cc
 
 -- the page has room for a block of the directory, and no guard has it
 abbrev pub is_open : World → Directory → ℕ → Bool

@@ -11,8 +11,7 @@ use Rattle.pas_core.proofs.{Deeds.known_is, OneActor.LendsNone, OneActor.lends_n
 use Rattle.pas_scan.specs.Runs.{IsInRun}
 use Rattle.pas_search.specs.Kinds.{ReturnsDuly}
 use Rattle.pas_large.specs.{Evidence.HasFailed, Finds.MayFind, Finds.FoundRun, Finds.finding, Telling.IsUsablePage, Telling.IsLowestRun}
-use Rattle.pas_large.proofs.Told.{lost_never}
-use Rattle.pas_large.proofs.Outcomes.{MadeOf, of_directory}
+use Rattle.pas_large.proofs.{Told.lost_never, Outcomes.MadeOf, Outcomes.of_directory}
 use Rattle.pas_same_text.proofs.PagesRead.{usable_was, bad_never}
 
 -- each deed that was made is of the directory and of a page of the run

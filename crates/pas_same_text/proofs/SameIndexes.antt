@@ -1,5 +1,6 @@
 -- THE INDEXES: each act changes those of the text as it changes those of a replay.
-use Rattle.std.proofs.Common.{arith, ◌≡◌, ℕ, zero, suc, ◌+◌, ◌/◌, nat_le, Bool, true, false, if◌then◌else◌, List, [], ◌∷◌, map, Option, None, Some, refl, ap, ◌∙◌}
+use Rattle.std.proofs.Common.{arith, ◌≡◌, ℕ, zero, suc, ◌+◌, ◌/◌, nat_le, Bool, true, false, if◌then◌else◌, List, [], ◌∷◌, map, Option, None, Some, refl, ap}
+use Rattle.std.proofs.Common.{◌∙◌}
 use Rattle.pas_profile.specs.Requests.{route_in, room_in}
 use Rattle.pas_profile.specs.declared.{directory.Route.Route, name.Block.Block, profile.Profile.Profile}
 use Rattle.pas_large.specs.Doors.{Indexes, no_ranges}

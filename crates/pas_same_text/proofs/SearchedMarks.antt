@@ -1,5 +1,5 @@
 -- THE MARKS of pages after a request that searched, from one state where all actors are at rest to another: of each page but the one that serves.
-use Rattle.std.proofs.Common.{◌≡◌, ◌≢◌, ℕ, ◌<◌, ◌==◌, true, false, List, [], ◌∷◌, ◌++◌, Some, ◌⊎◌, inl, inr, refl, ap, sym, ◌∙◌, subst}
+use Rattle.std.proofs.Common.{arith, ◌≡◌, ◌≢◌, ℕ, ◌<◌, ◌==◌, true, false, List, [], ◌∷◌, ◌++◌, Some, ◌⊎◌, inl, inr, refl, ap, sym, ◌∙◌, subst}
 use Rattle.std.proofs.lemmas.Bool.{cases_eq}
 use Rattle.std.specs.List.{list_any}
 use Rattle.pas_profile.specs.{Directories.number_of, Profiles.IsValid, Profiles.IsDirectoryOf}
@@ -97,13 +97,7 @@ module _ (f : Profile) (k : ℕ) (p p' : Progress) (w v : World) (d : Directory)
 
   -- the hint of the page that serves is a premise
   pub hints_kept : (HintsPage page steps → empty_bit l page ≡ true) → (q : ℕ) → is_hinted v q ≡ empty_bit p'.list q
-  hints_kept own q = same_truth (is_hinted v q) (empty_bit p'.list q) (to_hint q) (λ bit. elim (cases_eq page q) [
-    | inl same ↦ hints_are q ∙ (s.was.hinted q ∙ elim (hinted_by k steps l q (ap (λ (m : Whole). empty_bit m q) (sym s.list) ∙ bit)) [
-      | inl old ↦ old
-      | inr new ↦ ap (empty_bit l) (sym same) ∙ own (subst (λ (x : ℕ). HintsPage x steps) (sym same) new)
-    ])
-    | inr ne ↦ from_hint q ne bit
-  ])
+  hints_kept own q = same_truth (is_hinted v q) (empty_bit p'.list q) (to_hint q) (search (arith, cases_eq, hints_are, hinted_by, from_hint))
 
   from_offer : (q : ℕ) (e : Directory) → page ≢ q → IsDirectoryOf f e → eligible_bit p'.list (number_of e) q ≡ true → is_offered v e q ≡ true
   from_offer q e ne of bit =

@@ -102,8 +102,7 @@ module _ (no_fit : Readings → Type 0) (f : Profile) (d : Directory) (k : ℕ) 
       let none : find serves (page_numbers f) ≡ None = find_none serves f.pages 1 (λ q above below. passed_over steps t q (f.pages + 1) (above, omega (arith, below)) (omega (arith, below)) h.searched) in
       let found : find (is_unowned w) (page_numbers f) ≡ Some page = find_first (is_unowned w) f.pages 1 page low (omega (arith, high)) bare (λ q above below.
       owned_by steps t (deed_in w.events q) (λ zero_word. deed_exit f k l q steps t.legal (h.lower q above below) (deed_quiet f k l q steps t.legal h.quiet ∙ (owned_is f l w (first steps t) t.pages.events q ∙ zero_word)))) in
-      ap (λ (o : Option ℕ). page_or o (page_or (find (is_unowned w) (page_numbers f)) (Err (refusal f w d)))) none
-      ∙ ap (λ (o : Option ℕ). page_or o (Err (refusal f w d))) found
+      cc
 
   deed_at : (page : ℕ) → IsPage f page → (steps : List Made) → IsSearch no_fit f d k p steps w fits → Once (DeedMadeHere no_fit f d page) steps → searched f w d fits ≡ Ok page
   deed_at page of [] s h = absurd h

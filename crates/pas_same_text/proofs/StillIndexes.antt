@@ -1,6 +1,6 @@
 -- WHAT STAYS IN THE TEXT: what changes no index and no guard.
-use Rattle.std.proofs.Common.{arith, ◌≡◌, ℕ, ◌+◌, ◌*◌, ◌%◌, ◌/◌, ◌==◌, nat_le, nat_lt, Bool, true, false, ◌&&◌, if◌then◌else◌, List, [], ◌∷◌, length, Option, None}
-use Rattle.std.proofs.Common.{Some, Result, Ok, Err, refl, ap, ◌∙◌}
+use Rattle.std.proofs.Common.{arith, ◌≡◌, ℕ, ◌+◌, ◌*◌, ◌%◌, ◌/◌, ◌==◌, nat_le, nat_lt, Bool, true, false, ◌&&◌, if◌then◌else◌, List, [], ◌∷◌, length, Option}
+use Rattle.std.proofs.Common.{None, Some, Result, Ok, Err, refl, ap, ◌∙◌}
 use Rattle.pas_profile.specs.{Blocks.address_of, Requests.class_home, Requests.is_shared}
 use Rattle.pas_profile.specs.declared.{directory.Directory.Directory, event.Event.Event, event.FreeFault.FreeFault, event.NoRoom.NoRoom, event.Outcome.Outcome}
 use Rattle.pas_profile.specs.declared.{event.Why.Why, name.Block.Block, name.Name.Name, profile.Profile.Profile}

@@ -94,8 +94,7 @@ module _ (f : Profile) (k : ℕ) (p : Progress) (steps : List Made) (c' : Cached
       let at_page : (256 * q + b) / 256 ≡ q = omega (arith, small) in
       let at_grain : (256 * q + b) % 256 ≡ b = omega (arith, small) in
       let covered : covers s g ≡ true =
-      ap (λ (t : Bool). t && is_set s.starts (start_of s.class (g % 256))) (eq-eqb s.page (g / 256) (page ∙ sym at_page))
-      ∙ (ap (λ (x : ℕ). is_set s.starts (start_of s.class x)) at_grain ∙ (ap (is_set s.starts) first ∙ m.2)) in
+      cc (eq-eqb s.page (g / 256) (page ∙ sym at_page)) in
       open_from f ended v valid after has d q b small (ap (λ (x : Directory). usable_by_kind x.kind b) (home_is q d of is page) ∙ slot_usable s.right s.class b some slot) (free g covered)
 
   pub read_room : (q : ℕ) (d : Directory) → IsDirectoryOf f d → is_of v d q ≡ true → s.page ≡ q → ReadsRoom q (home_of s) steps → is_open v d q ≡ true

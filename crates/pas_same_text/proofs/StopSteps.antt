@@ -2,7 +2,7 @@
 use Rattle.std.proofs.Common.{◌≡◌, ℕ, zero, suc, ◌/◌, ◌%◌, ◌<◌, Bool, true, false, List, [], ◌∷◌, ◌++◌, ◌⊎◌, inl, inr, refl, ap, sym, ◌∙◌, subst, arith}
 use Rattle.std.proofs.Common.{MatchBool, true≢false}
 use Rattle.std.proofs.lemmas.Bool.{cases_eq}
-use Rattle.pas_same_text.proofs.SweptGuards.{back_hints}
+use Rattle.pas_same_text.proofs.{SweptGuards.back_hints, ReturnHints.return_hints}
 use Rattle.pas_large.proofs.Left.{hints_both}
 use Rattle.pas_bits.specs.{Bits.has_bit, Masks.HasMember}
 use Rattle.pas_bits.specs.declared.mask.Mask4.{Mask4}
@@ -22,7 +22,6 @@ use Rattle.pas_segregated.specs.declared.slots.Slots.{Slots}
 use Rattle.pas_segregated.proofs.Starts.{start_below}
 use Rattle.pas_cache.specs.Changes.{StopsAll}
 use Rattle.pas_same_text.proofs.GivingBack.{IsMarked, marked_parts, none_marked, returns_marked, hints_none, hints_of}
-use Rattle.pas_same_text.proofs.ReturnHints.{return_hints}
 
 -- ---- a grain that blocks of the directory may cover was read as free
 abbrev pub ReadsGrain : ℕ → ℕ → List Made → Type 0
@@ -87,10 +86,7 @@ end_room false all_free page q d free after none h marked =
           let r : ReadsRoom page d later = looks_room page d h.later (usable_if h.usable d h.later h.usable_is (reoffers_none h.usable page q d h.after h.reoffers first)) in
           let whole : ReadsRoom page d after = subst (ReadsRoom page d) (sym h.steps_are) (room_later page d h.after (later ++ park) (room_earlier page d later park r)) in
           room_earlier page d after (looks page (words free) 4) whole
-      | inr rest ↦ elim (marked_parts q later park rest) [
-        | inl look ↦ absurd (looks_offer_none page q (words h.later) look)
-        | inr parks ↦ absurd (none_marked (Parking ∷ []) refl q park (refl, tt) parks)
-      ]
+      | inr rest ↦ search (arith, marked_parts, looks_offer_none, none_marked)
     ]
 
 pub leave_room : (page q : ℕ) (d : Directory) (steps : List Made) → LeaveSteps page d steps → IsMarked q steps → ReadsRoom page d steps

@@ -25,8 +25,7 @@ module _ {A : Type 0} (tells : Profile → World → A) where
       let keepers : (if guard_in is.items == 0 then 0 else is.header.profile.threads) ≡ keepers_of plan =
       ap (λ (guard : ℕ). if guard == 0 then 0 else is.header.profile.threads) (sym is.guard) ∙ ap (λ (g : Profile). if plan.guard == 0 then 0 else g.threads) (sym is.profile)
       in
-      ap (by_parts f (if guard_in is.items == 0 then 0 else is.header.profile.threads)) (sym is.phases)
-      ∙ (ap (λ (n : ℕ). by_parts f n (phases_of plan)) keepers ∙ ap (λ (g : Profile). by_parts g (keepers_of plan) (phases_of plan)) (sym is.profile))
+      cc
 
   -- .. and where there are no keepers, in the region of the plan's replays
   pub unguarded_told : (bytes : List ℕ) (plan : Plan) (is : IsPlanOf bytes plan) → keepers_of plan ≡ 0

@@ -208,10 +208,9 @@ replaced_usable f k r old b l a view valid legal h usable =
     let first : Legal f (triples k h.placed.steps ++ l) = legal_earlier f k h.freed h.placed.steps l whole in
     let ends : RequestEnds k (wanted_by f r) (part k l) h.placed.steps h.served.answer = subst (λ (v : View). RequestEnds k (wanted_by f r) v h.placed.steps h.served.answer) view h.served.ends in
     let given : AreBlocksUsable (visible (triples k h.placed.steps ++ l)) = by_answer f k r.heap r.size r.align l h.placed.steps valid first usable h.served.answer ends in
-    subst (λ (ms : List Made). AreBlocksUsable (visible (triples k ms ++ l))) (sym h.steps_are)
-    (subst (λ (m : Whole). AreBlocksUsable (visible m)) (triples_append k h.freed h.placed.steps l)
+    rw (h.steps_are, ← (triples_append k h.freed h.placed.steps l))
     (steps_usable f k h.freed (triples k h.placed.steps ++ l) valid (subst (Legal f) (sym (triples_append k h.freed h.placed.steps l)) whole)
-    (logged_gives f k h.placed.cache a.cache (entry_of old.name) h.freed (part k (triples k h.placed.steps ++ l)) h.served.answer h.logged) given))
+    (logged_gives f k h.placed.cache a.cache (entry_of old.name) h.freed (part k (triples k h.placed.steps ++ l)) h.served.answer h.logged) given)
 
 remade_usable : (f : Profile) (k name size align : ℕ) (meant : Option (Option Block)) (p : Progress) (a : Answer) → IsValid f → Legal f (triples k a.steps ++ p.list) → IsRemadeBy f k name size align meant (having p.names (part k p.list) (p.caches k)) a → HasUsableBlocks p
     → AreBlocksUsable (visible (triples k a.steps ++ p.list))
@@ -249,9 +248,8 @@ tried_usable f keeper r l guards t valid legal h usable =
     let first : Legal f (triples keeper h.swept ++ l) = legal_earlier f keeper h.raised h.swept l whole in
     let swept : AreBlocksUsable (visible (triples keeper h.swept ++ l)) = sweep_usable f keeper false guards h.left h.lowered h.swept l valid first h.sweep usable in
     let ends : TryEnds f keeper r (part keeper (triples keeper h.swept ++ l)) h.raised t.block = subst (λ (v : View). TryEnds f keeper r v h.raised t.block) (sym (part_of_own keeper h.swept l)) h.ends in
-    subst (λ (ms : List Made). AreBlocksUsable (visible (triples keeper ms ++ l))) (sym h.steps_are)
-    (subst (λ (m : Whole). AreBlocksUsable (visible m)) (triples_append keeper h.raised h.swept l)
-    (raise_usable f keeper r t.block h.raised (triples keeper h.swept ++ l) valid (subst (Legal f) (sym (triples_append keeper h.raised h.swept l)) whole) ends swept))
+    rw (h.steps_are, ← (triples_append keeper h.raised h.swept l))
+    (raise_usable f keeper r t.block h.raised (triples keeper h.swept ++ l) valid (subst (Legal f) (sym (triples_append keeper h.raised h.swept l)) whole) ends swept)
 
 -- what follows a try
 left_usable : (f : Profile) (op : Op) (r : Request) (block : Option Block) (p p' : Progress) → IsValid f → Legal f p'.list → AnswersTried f op r block p p' → HasUsableBlocks p → HasUsableBlocks p'

@@ -45,8 +45,7 @@ module _ (f : Profile) (p : Progress) (w : World) (valid : IsValid f) (between :
   bit_is page word b none few small =
       let at_word : (64 * word + b) / 64 ≡ word = omega (arith, small) in
       let at_bit : (64 * word + b) % 64 ≡ b = omega (arith, small) in
-      free_at f p w valid between same page (64 * word + b) (omega (arith, few, small)) none
-      ∙ (ap (λ (u : ℕ). has_bit (free_word page u) ((64 * word + b) % 64)) at_word ∙ ap (has_bit (free_word page word)) at_bit)
+      cc (free_at f p w valid between same page (64 * word + b) (omega (arith, few, small)) none)
 
   -- all grains of a word are free where it is all ones
   full_free : (page word : ℕ) → is_guarded w page ≡ false → word < 4 → free_word page word ≡ all_ones → are_free w page (64 * word) 64 ≡ true

@@ -1,6 +1,6 @@
 -- The first state of the text is that of a replay that did nothing yet, and the text of a state that is the replay's is what is written of it.
-use Rattle.std.proofs.Common.{arith, ◌≡◌, ℕ, zero, suc, ◌+◌, ◌%◌, ◌==◌, Bool, true, false, not, List, [], ◌++◌, length, map, if◌then◌else◌, ◌-◌, codes, Option, None}
-use Rattle.std.proofs.Common.{Some, inl, inr, refl, ap, sym, ◌∙◌, subst}
+use Rattle.std.proofs.Common.{arith, ◌≡◌, ℕ, zero, suc, ◌+◌, ◌%◌, ◌==◌, Bool, true, false, not, List, [], ◌++◌, length, map, if◌then◌else◌, ◌-◌, codes, Option}
+use Rattle.std.proofs.Common.{None, Some, inl, inr, refl, ap, sym, ◌∙◌, subst}
 use Rattle.std.proofs.lemmas.Option.{none-some}
 use Rattle.pas_bits.proofs.Words.{none_of_zero}
 use Rattle.pas_profile.specs.{Directories.directory_read, Profiles.IsValid}

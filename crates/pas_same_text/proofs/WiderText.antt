@@ -1,5 +1,6 @@
 -- THE TEXT OF A PLAN is the same in the region of its replays, where its keepers are actors too: nobody uses their caches.
-use Rattle.std.proofs.Common.{arith, ◌≡◌, ℕ, zero, suc, ◌+◌, Bool, not, List, [], ◌∷◌, ◌++◌, map, reverse, Option, None, Some, refl, ap, sym, ◌∙◌, zero-add, suc-add}
+use Rattle.std.proofs.Common.{arith, ◌≡◌, ℕ, zero, suc, ◌+◌, Bool, not, List, [], ◌∷◌, ◌++◌, map, reverse, Option, None, Some, refl, ap, sym, ◌∙◌, zero-add}
+use Rattle.std.proofs.Common.{suc-add}
 use Rattle.std.specs.List.{AllByRecursion}
 use Rattle.std.proofs.Math.Path.{fun_ext}
 use Rattle.pas_profile.specs.declared.{directory.Directory.Directory, profile.Profile.Profile}
