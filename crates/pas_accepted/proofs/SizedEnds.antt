@@ -61,11 +61,7 @@ module _ (f : Profile) (valid : IsValid f) (k : ℕ) (l : Whole) (rest : List Ma
       let is : word ≡ live_word name.turn (room / 16) = sym legal.0.answer_is ∙ found in
       let address : ℕ = address_of name in
       let life : IsLifeOf f (grain_of name) word (live_in (visible there) address) (gives_in (visible there) address) (ends_in (visible there) address) = life_at f there valid legal.1 address of.0.1 in
-      let block = block_of_word f (grain_of name) word (live_in (visible there) address) (gives_in (visible there) address) (ends_in (visible there) address) name.turn (room / 16) life (omega (arith, small)) is in
-      let lives : IsLifeOfLive f (grain_of name) word block.0 (gives_in (visible there) address) (ends_in (visible there) address)
-      = subst (λ o. IsLifeOf f (grain_of name) word o (gives_in (visible there) address) (ends_in (visible there) address)) block.1 life in
-      let same : other.block ≡ block.0 = same_Some other.block block.0 (sym other.lives ∙ lived_then k rest l address block.0 only block.1) in
-      other.differs (ap (λ (b : Live). b.block.room) same ∙ same_length f (grain_of name) word room block.0 (gives_in (visible there) address) (ends_in (visible there) address) name.turn lives is block.3 of.1)
+      search (arith, block_of_word, same_Some, lived_then, same_length)
 
   -- .. where it was a step with the room
   last_heeds : (t : Bool) (entry : Entry) (first guess answer : ℕ) (before : List Made) (grains : ℕ) → is_sized entry ≡ t → TriesBy t entry first guess before → answer ≡ live_word entry.name.turn guess

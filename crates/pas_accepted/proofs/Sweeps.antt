@@ -1,5 +1,5 @@
 -- A keeper's sweep lowers just the guards whose blocks have ended, or all; and it makes no event.
-use Rattle.std.proofs.Common.{◌≡◌, ℕ, ◌/◌, ◌%◌, nat_lt, Bool, true, false, ◌||◌, if◌then◌else◌, List, [], ◌∷◌, ◌++◌, inr, refl, ap, sym, ◌∙◌, subst, arith, map}
+use Rattle.std.proofs.Common.{◌≡◌, ℕ, ◌/◌, ◌%◌, Bool, true, false, ◌||◌, if◌then◌else◌, List, [], ◌∷◌, ◌++◌, inr, refl, ap, sym, ◌∙◌, subst, arith, map}
 use Rattle.pas_profile.specs.{Blocks.address_of, Lives.turn_of, Profiles.IsValid}
 use Rattle.pas_profile.specs.declared.{event.Event.Event, profile.Profile.Profile, word.Word.Word}
 use Rattle.pas_machine.specs.State.{ends_in, gives_in, live_in}
@@ -78,7 +78,4 @@ module _ (f : Profile) (valid : IsValid f) (k : ℕ) where
       let l2 : Whole = triples k (first ++ look) ++ l in
       let quiet : visible l2 ≡ es = quiet_one (all || is_over guard word) guard first kept h.3 said h.4 word l h.5 ∙ shown in
       let more = swept_is all guards h.3 h.4 rest l2 es quiet aligned.1 h.6 (subst (Legal f) (sym (triples_append k rest (first ++ look) l)) all_legal) in
-      let down : (all || is_over guard word) ≡ is_down es all guard
-      = ap (λ n. all || nat_lt guard.block.name.turn n) (word_tells l guard word look_legal aligned.0 ∙ ap (λ (xs : List Event). ends_in xs (address_of guard.block.name)) shown) in
-      let both = one_is es all (all || is_over guard word) k guard guards first kept h.3 said h.4 down h.5 more.stay more.go in
-      assumption (ap (λ (ms : List Made). visible (triples k ms ++ l)) h.7 ∙ ap visible (sym (triples_append k rest (first ++ look) l)) ∙ more.shown)
+      search (arith, word_tells, one_is, triples_append)

@@ -88,6 +88,7 @@ module _ (s : Stand) (shown : Shown) (tells : TellsPage s.events shown) where
   may_show : (m : Marked) → AreAllowedMarks s shown.page shown.directory m → MayShow shown m
   may_show m allowed = search arith
 
+  -- .. and of what they do not show there is none
   are_allowed : (m : Marked) → MayShow shown m → AreAllowedMarks s shown.page shown.directory m
   are_allowed m may = search arith
 

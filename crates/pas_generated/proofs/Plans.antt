@@ -1,6 +1,6 @@
 -- The plan of a text that is read, made of its items.
-use Rattle.std.proofs.Common.{◌≡◌, ℕ, ◌+◌, ◌*◌, ◌^◌, ◌<◌, ◌≤◌, ◌==◌, ◌||◌, Bool, true, false, if◌then◌else◌, List, [], ◌∷◌, ◌++◌, map, length, Option, None}
-use Rattle.std.proofs.Common.{Some, Ok, refl, ap, ◌∙◌, subst, arith, length-append, Global, ne_eqb}
+use Rattle.std.proofs.Common.{◌≡◌, ℕ, ◌+◌, ◌*◌, ◌^◌, ◌<◌, ◌≤◌, ◌||◌, Bool, true, false, if◌then◌else◌, List, [], ◌∷◌, ◌++◌, map, length, Option, None, Some, Ok}
+use Rattle.std.proofs.Common.{refl, ap, subst, arith, length-append, Global, ne_eqb}
 use Rattle.std.specs.Global.{Vec}
 use Rattle.std.proofs.lemmas.{Bool.cases_eq, Bool.false≢true, List.length-map}
 use denote.RawPtr.{null_ptr}

@@ -1,6 +1,5 @@
 -- What the lines of operations say.
-use Rattle.std.proofs.Common.{◌≡◌, ℕ, ◌^◌, ◌<◌, ◌≤◌, ◌==◌, Bool, if◌then◌else◌, List, [], ◌∷◌, ◌++◌, get_or, codes, Some, Ok, refl, ap, ◌∙◌, arith, lit<}
-use Rattle.std.proofs.Common.{le-leb, lt-ltb, ne_eqb}
+use Rattle.std.proofs.Common.{◌≡◌, ℕ, ◌^◌, ◌<◌, ◌≤◌, Bool, List, [], ◌∷◌, ◌++◌, get_or, codes, Some, Ok, refl, ap, ◌∙◌, arith, lit<, le-leb, lt-ltb, ne_eqb}
 use Rattle.std.specs.Fmt.{decimal}
 use Rattle.pas_trace.specs.Texts.{words_of}
 use Rattle.pas_trace.specs.Items.{trace_name, epoch_word, item1, item2, item5, item_of_words, item_of_line}

@@ -1,6 +1,6 @@
 -- One operation more: its lines are read, and what is kept between two operations holds again.
-use Rattle.std.proofs.Common.{◌≡◌, ◌⊎◌, ℕ, zero, suc, ◌+◌, ◌*◌, ◌/◌, ◌%◌, ◌^◌, ◌<◌, ◌≤◌, nat_eq, nat_lt, Bool, true, false, ◌||◌, List, ◌∷◌, length, codes, inl}
-use Rattle.std.proofs.Common.{inr, refl, ap, ◌∙◌, arith, eq-eqb, ne_eqb}
+use Rattle.std.proofs.Common.{◌≡◌, ◌⊎◌, ℕ, zero, suc, ◌+◌, ◌/◌, ◌%◌, ◌^◌, ◌<◌, ◌≤◌, nat_eq, nat_lt, Bool, true, false, ◌||◌, List, ◌∷◌, length, codes, inl, inr}
+use Rattle.std.proofs.Common.{refl, ap, ◌∙◌, arith, eq-eqb, ne_eqb}
 use Rattle.std.proofs.Math.Nat.{mod-lt}
 use Rattle.pas_trace.specs.Reasons.{is_named, operations_in, kept}
 use Rattle.pas_trace.specs.declared.{item.Item.Item, item.Item.TheVariants.NextPhase, item.Item.TheVariants.Operates, item.Item.TheVariants.Scavenges}

@@ -1,6 +1,6 @@
 -- What the reader keeps after each item.
-use Rattle.std.proofs.Common.{◌≡◌, ◌≢◌, ℕ, ◌+◌, ◌<◌, ◌≤◌, ◌==◌, Bool, true, false, ◌&&◌, ◌||◌, ◌*◌, ◌-◌, nat_le, if◌then◌else◌, List, [], ◌∷◌, ◌++◌, length}
-use Rattle.std.proofs.Common.{get_or, set, Option, None, Some, refl, sym, ap, subst, ◌∙◌, arith, add-one, eq-eqb, ne_eqb, leb-true, le-leb}
+use Rattle.std.proofs.Common.{◌≡◌, ◌≢◌, ℕ, ◌+◌, ◌<◌, ◌≤◌, ◌==◌, Bool, true, false, ◌||◌, ◌*◌, ◌-◌, nat_le, if◌then◌else◌, List, [], ◌∷◌, ◌++◌, length, get_or}
+use Rattle.std.proofs.Common.{set, Option, None, Some, refl, sym, ap, subst, ◌∙◌, arith, add-one, eq-eqb, ne_eqb, leb-true, le-leb}
 use Rattle.std.proofs.{Math.ListN.length-set, lemmas.Bool.cases_eq, lemmas.Bool.lt-leb, lemmas.Bool.and_parts, lemmas.Nat.mul-le}
 use Rattle.pas_profile.specs.Profiles.{IsValid}
 use Rattle.pas_profile.specs.declared.profile.Profile.{Profile}

@@ -1,4 +1,4 @@
-use Rattle.std.proofs.Common.{arith, Bool, [], ◌∷◌, length, sym, leb-false}
+use Rattle.std.proofs.Common.{Bool, [], ◌∷◌, length, sym, leb-false}
 use Rattle.pas_profile.specs.declared.profile.Profile.{Profile}
 use Rattle.pas_check.specs.{Tables.logged, Tasks.EntryLogged, Tasks.LogEmptied}
 use Rattle.pas_check.proofs.{Actings.logged_added, Actings.logged_full, Takings.if_ok}
@@ -13,7 +13,9 @@ returns-then-is_full-clause-taken c =
     c.if-is_full.ensures c.refill_log.new.judge c.refill_log.new.cursor taken (emptied f)) c.refill_log.ensures.taken
 
 pub returns-clause-taken : goal.returns-clause-taken
-returns-clause-taken c = search (arith, logged_added, c.add.ensures.held)
+returns-clause-taken c = λ f.
+    logged_added f c.args.text.now c.args.judge.now c.args.cursor.now c.args.k c.args.entry c.requires.held c.requires.within
+    c.if-is_full.ensures c.add.new.self c.add.ensures.added c.add.ensures.others c.add.ensures.held
 
 pub add-requires-clause-room : goal.add-requires-clause-room
 add-requires-clause-room c = leb-false 64 (length (logged c.args.judge.now.logs c.args.k)) (sym c.if-is_full.ensures)

@@ -1,6 +1,7 @@
 use Rattle.std.proofs.Common.{◌≡◌, ◌∙◌, ◌<◌, ◌^◌, ℕ, Bool, None, ap, refl, subst, sym, arith, MatchOption}
 use Rattle.pas_profile.specs.declared.profile.Profile.{Profile}
-use Rattle.pas_trace.specs.{Acts.Act, Acts.Guards, Acts.act_kept, Asked.keeper_in, Asked.request_in}
+use Rattle.pas_trace.specs.Acts.{Act, Guards, Operates, act_kept}
+use Rattle.pas_trace.specs.Asked.{keeper_in, request_in}
 use Rattle.pas_trace.specs.declared.{item.Request.Request, plan.What.What, plan.What.TheVariants.Guarded}
 use Rattle.pas_check.specs.{Begins.guarding, Calls.IsWanted, Calls.asked_for, Tasks.ActTaken, Tasks.AsksKeeper}
 use Rattle.pas_check.proofs.{Actings.of_profile, Takings.if_ok}
@@ -33,4 +34,12 @@ plain_kept (Guarded keeper name heap size align) not_guarded = absurd (not_guard
 plain_kept what not_guarded = refl
 
 pub returns-in_default-clause-taken : goal.returns-in_default-clause-taken
-returns-in_default-clause-taken c = search (arith, plain_kept, if_ok, c.operate_plain.ensures.taken)
+returns-in_default-clause-taken c =
+    let op = c.args.op in
+    let new = c.operate_plain.new.judge in
+    let to = c.operate_plain.new.cursor in
+    let act : act_kept (keeper_in op.what) op ≡ Operates op = ap (λ o. act_kept o op) (plain_kept op.what c.in_default.not-Guarded) in
+    if_ok c.operate_plain.result
+    (λ (taken : Bool). (f : Profile) → ActTaken f c.args.text.now c.args.judge.now c.args.cursor.now new to (Operates op) taken)
+    (λ (taken : Bool). (f : Profile) → ActTaken f c.args.text.now c.args.judge.now c.args.cursor.now new to (act_kept (keeper_in op.what) op) taken)
+    (λ taken done f. subst (λ (x : Act). ActTaken f c.args.text.now c.args.judge.now c.args.cursor.now new to x taken) (sym act) (done f)) c.operate_plain.ensures.taken

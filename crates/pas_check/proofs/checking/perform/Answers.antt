@@ -1,4 +1,4 @@
-use Rattle.std.proofs.Common.{arith, Bool, ℕ, not, ap, sym, ◌∙◌}
+use Rattle.std.proofs.Common.{Bool, ℕ, not, ap, sym, ◌∙◌}
 use Rattle.pas_bits.specs.Masks.{is_set}
 use Rattle.pas_profile.specs.declared.profile.Profile.{Profile}
 use Rattle.pas_trace.specs.{Acts.act_kept, Acts.acts_of_op, Acts.threads_where, Asked.keeper_in}
@@ -35,4 +35,10 @@ returns-in-Chore-Pass-clause-taken c =
     (pass_taken c.args.text.now c.args.judge.now c.pass.new.judge c.args.cursor.now c.pass.new.cursor taken done)) c.pass.ensures.taken
 
 pub returns-in-Chore-Idle-clause-taken : goal.returns-in-Chore-Idle-clause-taken
-returns-in-Chore-Idle-clause-taken c = search (arith, if_ok, chore_taken, c.work.ensures, c.stop_all_idle.ensures.taken)
+returns-in-Chore-Idle-clause-taken c =
+    let idle = threads_where (λ k. not (is_set c.args.awake k)) (threads_in c.args.judge.now) in
+    let is = sym c.work.ensures ∙ c.in-Chore-Idle.is ∙ ap Work.Chore (c.in-Chore-Idle.field-0-is ∙ ap (λ (n : ℕ). Chore.Idle n) (sym c.in-Chore-Idle.epochs-is)) in
+    if_ok c.stop_all_idle.result _
+    (λ (taken : Bool). ActsTaken c.args.text.now c.args.judge.now c.args.cursor.now c.stop_all_idle.new.judge c.stop_all_idle.new.cursor (acts_of_op idle c.args.op) taken)
+    (λ taken done. chore_taken c.args.text.now c.args.judge.now c.stop_all_idle.new.judge c.args.cursor.now c.stop_all_idle.new.cursor idle c.args.op _ taken is done)
+    c.stop_all_idle.ensures.taken

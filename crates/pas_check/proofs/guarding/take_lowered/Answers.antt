@@ -1,4 +1,4 @@
-use Rattle.std.proofs.Common.{arith, ◌+◌, List, drop, subst, drop_of_length-le}
+use Rattle.std.proofs.Common.{◌+◌, List, drop, sym, subst, drop_of_length-le}
 use Rattle.std.proofs.lemmas.List.{drop_more}
 use Rattle.pas_check.specs.Calls.{AreLeft, SweepGoes}
 use Rattle.pas_check.specs.declared.guard.Guard.{Guard}
@@ -9,7 +9,8 @@ pub loop-guard-init : goal.loop-guard-init
 loop-guard-init c = record {
   within = c.requires.within;
   goes = sweep_begins c.args.machine.now c.args.text.now c.args.cursor.now c.args.guards.now c.args.keeper c.args.all c.requires.within;
-  left = search (arith, left_begins);
+  left = subst (λ (gs : List Guard). AreLeft c.args.machine.now c.args.guards.now c.args.keeper c.args.all gs c.args.guards.now) (sym c.new-left.ensures.items)
+      (left_begins c.args.machine.now c.args.text.now c.args.cursor.now c.args.guards.now c.args.keeper c.args.all);
 }
 
 pub returns-in-Ok-false-clause-taken : goal.returns-in-Ok-false-clause-taken

@@ -24,7 +24,8 @@ returns-then-not-take_next_page-clause-led c = λ s more stands due.
     let count = ap (λ (g : Profile). g.pages) c.profile-pages.ensures in
     let rest = pages_from s.events (k + 1) (f.pages + 1 - (k + 1)) ++ more in
     let u = with_due s (page_due k (deed_in s.events k) ++ rest) in
-    leads_fails (search (arith, pages_next))
+    leads_fails (subst (λ (ds : List Due). Leads f c.args.text.now s c.args.cursor.now (with_due s ds) c.loop-page.cursor)
+    (pages_next s.events k (f.pages + 1 - k) (f.pages + 1 - (k + 1)) more (deed_in s.events k) (omega (arith, test, count)) refl) (c.loop-page.invariant.led s more stands due))
     (c.if-not-take_next_page.ensures.led f u rest stands refl)
 
 pub loop-page-preserved : goal.loop-page-preserved
@@ -43,4 +44,9 @@ loop-page-preserved c = record {
 }
 
 pub returns-clause-led : goal.returns-clause-led
-returns-clause-led c = search (arith, pages_last, c.profile-pages.ensures)
+returns-clause-led c = λ s more stands due.
+    let f = profile_of c.args.machine.now in
+    let test = c.loop-page-test.false in
+    let count = ap (λ (g : Profile). g.pages) c.profile-pages.ensures in
+    subst (λ (ds : List Due). Leads f c.args.text.now s c.args.cursor.now (with_due s ds) c.loop-page.cursor)
+    (pages_last s.events c.loop-page.page (f.pages + 1 - c.loop-page.page) more (omega (arith, test, count))) (c.loop-page.invariant.led s more stands due)

@@ -1,13 +1,25 @@
-use Rattle.std.proofs.Common.{◌≡◌, ◌∙◌, arith}
+use Rattle.std.proofs.Common.{◌≡◌, ℕ, List, sym, subst, ◌∙◌, arith, IfSome}
 use Rattle.std.proofs.lemmas.Option.{same_Some}
+use Rattle.pas_report.specs.Lines.{line_of_event}
+use Rattle.pas_check.specs.Calls.{IsRead, IsStepped, PreparingTaken}
 use Rattle.pas_check.proofs.Takings.{preparing_none, preparing_other, preparing_stepped, if_ok}
 use Rattle.pas_check.proofs.taking.take_preparing.Goals as goal
 
 pub returns-in_default-clause-taken : goal.returns-in_default-clause-taken
-returns-in_default-clause-taken c = search (arith, preparing_none, c.event_read.ensures)
+returns-in_default-clause-taken c = λ line is.
+    preparing_none c.args.actor c.args.directory (omega arith) (omega arith) c.requires.kind line c.args.machine.now c.requires.valid
+    (λ g fits has. sym c.in_default.is ∙ (c.event_read.ensures line is).only g fits has)
 
 pub returns-then-not-prepares-clause-taken : goal.returns-then-not-prepares-clause-taken
-returns-then-not-prepares-clause-taken c = search (arith, preparing_other, same_Some, c.event_read.ensures, c.if-not-prepares.ensures)
+returns-then-not-prepares-clause-taken c = λ line is.
+    preparing_other c.args.actor c.args.directory (omega arith) (omega arith) c.requires.kind line c.args.machine.now c.requires.valid c.in-Some.event
+    (λ g fits has. same_Some c.in-Some.event g (sym c.in-Some.is ∙ (c.event_read.ensures line is).only g fits has)) c.if-not-prepares.ensures
 
 pub returns-clause-taken : goal.returns-clause-taken
-returns-clause-taken c = search (arith, if_ok, preparing_stepped, same_Some, c.step.ensures.stepped)
+returns-clause-taken c =
+    if_ok c.step.result (λ taken. IsStepped c.args.machine.now c.step.new.machine c.in-Some.event taken)
+    (λ taken. (line : List ℕ) → IsRead line c.args.found.now → PreparingTaken c.args.machine.now c.step.new.machine c.args.actor c.args.directory line taken)
+    (λ taken stepped line is.
+    preparing_stepped c.args.actor c.args.directory (omega arith) (omega arith) c.requires.kind line c.args.machine.now c.requires.valid c.step.new.machine c.in-Some.event
+    (subst (λ o. IfSome o (λ e. line ≡ line_of_event e)) c.in-Some.is (c.event_read.ensures line is).some)
+    (λ g fits same. same_Some c.in-Some.event g (sym c.in-Some.is ∙ (c.event_read.ensures line is).only g fits same)) c.if-not-prepares.ensures taken stepped) c.step.ensures.stepped

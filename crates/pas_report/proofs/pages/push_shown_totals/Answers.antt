@@ -1,4 +1,4 @@
-use Rattle.std.proofs.Common.{arith, ◌+◌}
+use Rattle.std.proofs.Common.{arith}
 use Rattle.pas_report.proofs.Texts.{then_field}
 use Rattle.pas_report.proofs.pages.push_shown_totals.Goals as goal
 

@@ -1,4 +1,4 @@
-use Rattle.std.proofs.Common.{arith, ◌+◌, ◌++◌, ◌∙◌}
+use Rattle.std.proofs.Common.{arith}
 use Rattle.pas_report.proofs.pages.push_totals.Goals as goal
 
 -- each count is what its call says it is

@@ -1,4 +1,4 @@
-use Rattle.std.proofs.Common.{arith, ◌++◌}
+use Rattle.std.proofs.Common.{arith}
 use Rattle.pas_report.proofs.Texts.{then_piece}
 use Rattle.pas_report.proofs.text.push_name.Goals as goal
 

@@ -16,8 +16,7 @@ loop-round-init g c =
     record {
       text = [];
       written = writes_none (g.K.Sink.held c.args.sink.now);
-      rest = ap (λ (rs : List Record). texts_of c.fill_batch.new.batch.sheets.items ++ lines_of rs) all
-          ∙ first_round c.args.records.now c.split_at.result.0.now c.split_at.result.1.now (texts_of c.fill_batch.new.batch.sheets.items) parts c.fill_batch.ensures;
+      rest = search (arith, first_round);
       size = search rules;
       shown = subst (λ (rs : List Record). All CanShow rs) (sym all) (shown_after c.args.records.now c.split_at.result.0.now c.split_at.result.1.now parts c.requires);
       count = omega arith;

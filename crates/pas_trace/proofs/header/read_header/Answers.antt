@@ -1,4 +1,4 @@
-use Rattle.std.proofs.Common.{arith, ◌∷◌, ◌∙◌}
+use Rattle.std.proofs.Common.{arith}
 use Rattle.pas_trace.proofs.Headers.{short4, short6, short8}
 use Rattle.pas_trace.proofs.header.read_header.Goals as goal
 

@@ -1,4 +1,4 @@
-use Rattle.std.proofs.Common.{◌<◌, arith}
+use Rattle.std.proofs.Common.{arith}
 use Rattle.pas_trace.proofs.Splits.{cut-last, cut-found}
 use Rattle.pas_trace.proofs.lines.next_line.Goals as goal
 

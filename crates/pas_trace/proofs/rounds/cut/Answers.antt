@@ -1,4 +1,4 @@
-use Rattle.std.proofs.Common.{◌++◌, ◌∙◌, arith}
+use Rattle.std.proofs.Common.{arith}
 use Rattle.pas_trace.proofs.Cutting.{lines-from}
 use Rattle.pas_trace.proofs.rounds.cut.Goals as goal
 

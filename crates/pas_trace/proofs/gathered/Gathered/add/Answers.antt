@@ -1,4 +1,4 @@
-use Rattle.std.proofs.Common.{arith, ◌++◌, ◌∷◌, [], ◌∙◌}
+use Rattle.std.proofs.Common.{arith, []}
 use Rattle.pas_trace.proofs.Gathering.{add_last-end}
 use Rattle.pas_trace.proofs.gathered.Gathered.add.Goals as goal
 

@@ -1,4 +1,4 @@
-use Rattle.std.proofs.Common.{◌+◌, ap, ◌∙◌, arith}
+use Rattle.std.proofs.Common.{ap, arith}
 use Rattle.std.proofs.lemmas.Result.{on_ok_weaker}
 use Rattle.pas_trace.specs.Reasons.{actor_of, guard_after, is_operation}
 use Rattle.pas_trace.proofs.Telling.{added_wish, added_chore, added_guard}
