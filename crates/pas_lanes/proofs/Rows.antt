@@ -50,20 +50,14 @@ lowest_bit n some fits =
 
 -- ---- rows without a set bit so far
 pub clear_more : (words : List ℕ) (start end : ℕ) → ((k : ℕ) → start ≤ k → k < end → slice_index words k ≡ 0) → IsClearBelow words (64 * start) → IsClearBelow words (64 * end)
-clear_more words start end bare clear x h = elim (cases_lt x (64 * start)) [
-  | inl lt ↦ clear x lt
-  | inr ge ↦ clear_word words x (bare (x / 64) (omega (arith, ge)) (omega (arith, h)))
-]
+clear_more words start end bare clear x h = search (arith, cases_lt, clear_word)
 
 pub lowest_set : (words : List ℕ) (word : ℕ) → WordsFit words → slice_index words word ≢ 0 → IsClearBelow words (64 * word) → IsLowestSet words (64 * word + trailing_zeros w64 (slice_index words word))
 lowest_set words word fits some clear =
     let low = lowest_bit (slice_index words word) some (fits word) in
     record {
       set = at_word words word (trailing_zeros w64 (slice_index words word)) low.within ∙ low.set;
-      lowest = λ x h. elim (cases_lt x (64 * word)) [
-        | inl lt ↦ clear x lt
-        | inr ge ↦ by_word words word x (omega (arith, ge, h, low.within)) ∙ low.lowest (x % 64) (omega (arith, ge, h, low.within))
-      ];
+      lowest = search (arith, cases_lt, by_word);
     }
 
 pub has_member : (words : List ℕ) (word : ℕ) → WordsFit words → slice_index words word ≢ 0 → HasMember words
@@ -73,14 +67,10 @@ has_member words word fits some =
 
 -- ---- the numbers of one row that are numbers of another
 implied : (s t : Bool) → (s && not t) ≡ false → s ≡ true → t ≡ true
-implied true true none is = is
-implied true false none is = absurd (cc)
-implied false t none is = absurd (cc)
+implied s t none is = grind arith
 
 only_first : (s t : Bool) → (s && not t) ≡ true → (s ≡ true) × (t ≡ false)
-only_first true true some = absurd (cc)
-only_first true false some = (some, ap not some)
-only_first false t some = absurd (cc)
+only_first s t some = grind arith
 
 outside_bit : (m n b : ℕ) → n < 2 ^ 64 → b < 64 → has_bit (bit_and m (2 ^ 64 - 1 - n)) b ≡ (has_bit m b && not (has_bit n b))
 outside_bit m n b fits h = bit_of_and m (2 ^ 64 - 1 - n) b ∙ ap (λ t. has_bit m b && t) (bit_of_not n b fits h)
@@ -103,9 +93,8 @@ within_one a b word fits none = within_more a b word (word + 1) fits (λ k le lt
 pub has_outside : (a b : List ℕ) (word : ℕ) → WordsFit a → WordsFit b → outside a b word ≢ 0 → HasMemberOutside a b
 has_outside a b word fits_a fits_b some =
     let small = and_le_l (slice_index a word) (2 ^ 64 - 1 - slice_index b word) in
-    let word_fits = fits_a word in
     let bit = trailing_zeros w64 (outside a b word) in
-    let low = lowest_bit (outside a b word) some (omega (arith, small, word_fits)) in
+    let low = lowest_bit (outside a b word) some (omega (arith, small, fits_a word)) in
     let parts = only_first (has_bit (slice_index a word) bit) (has_bit (slice_index b word) bit) (sym (outside_bit (slice_index a word) (slice_index b word) bit (fits_b word) low.within) ∙ low.set) in
     (64 * word + bit, at_word a word bit low.within ∙ parts.0, at_word b word bit low.within ∙ parts.1)
 
@@ -170,8 +159,7 @@ unfolding count_before set_count
 whole_before words = refl
 
 choice_most : (b : Bool) → (if b then 1 else 0) ≤ 1
-choice_most true = omega arith
-choice_most false = omega arith
+choice_most b = grind arith
 
 count_most : (n : ℕ) (p : ℕ → Bool) → count_below n p ≤ n
 count_most zero p = omega arith
@@ -189,11 +177,10 @@ set_most words = count_most (64 * length words) (is_set words)
 next_word : (words : List ℕ) (word k : ℕ) → k ≡ 64 → WordsFit words → count_below (k * (word + 1)) (is_set words) ≡ count_below (k * word) (is_set words) + count_ones (slice_index words word)
 next_word words word k width fits =
     let split : k * (word + 1) ≡ k * word + k = omega arith in
-    let two = count_add (k * word) k (is_set words) in
     let here : count_below k (λ b. is_set words (k * word + b)) ≡ count_below k (has_bit (slice_index words word)) =
     count_same k _ _ (λ b h. ap (λ n. is_set words (n * word + b)) width ∙ at_word words word b (omega (arith, width, h))) in
     let ones = ones_counted k (slice_index words word) (subst (λ n. slice_index words word < 2 ^ n) (sym width) (fits word)) in
-    ap (λ n. count_below n (is_set words)) split ∙ omega (arith, two, here, ones)
+    ap (λ n. count_below n (is_set words)) split ∙ omega (arith, count_add (k * word) k (is_set words), here, ones)
 
 pub word_more : (words : List ℕ) (word : ℕ) → WordsFit words → count_before words (word + 1) ≡ count_before words word + count_ones (slice_index words word)
 unfolding count_before
@@ -212,11 +199,10 @@ pub group_more : (words : List ℕ) (start n : ℕ) → start + n ≤ length wor
 group_more words start zero room fits = ap (count_before words) (add-zero start) ∙ omega arith
 group_more words start (suc n) room fits =
     let first = group_next words start n (omega (arith, room)) in
-    let rest = group_more words (start + 1) n (omega (arith, room)) fits in
     let word = word_more words start fits in
     let sums : sum_l (lane_counts (chunk start (suc n) words)) ≡ count_ones (slice_index words start) + sum_l (lane_counts (chunk (start + 1) n words)) = ap (λ xs. sum_l (lane_counts xs)) first in
     let at : start + suc n ≡ start + 1 + n = omega arith in
-    ap (count_before words) at ∙ omega (arith, rest, word, sums)
+    ap (count_before words) at ∙ omega (arith, group_more words (start + 1) n (omega (arith, room)) fits, word, sums)
 
 pub length_counts : (words : List ℕ) (start n : ℕ) → start + n ≤ length words → length (lane_counts (chunk start n words)) ≡ n
 length_counts words start n room =

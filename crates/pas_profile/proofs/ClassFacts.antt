@@ -7,7 +7,7 @@ use Rattle.std.specs.Int.{◌∣◌}
 use Rattle.std.proofs.lemmas.Bool.{and_parts, and_from, cases_Bool, cases_lt, lt-leb, false≢true}
 use Rattle.pas_profile.specs.Classes.{IsClass, class_size, sizes_of, class_grains, usable_grains, IsSlotStart}
 use Rattle.pas_profile.specs.Routes.{first_class, route_of, route_with, route_without_class, Suits, IsSmallest, NoneSuits, IsRouteOf}
-use Rattle.pas_profile.specs.declared.directory.Route.TheVariants.{Class, Bitfit, Large}
+use Rattle.pas_profile.specs.declared.directory.Route.TheVariants.{Class, Bitfit}
 use Rattle.pas_profile.proofs.Sizes.{suits, class_passes, class_from_size, sizes_le, size_at}
 
 -- Sizes are whole grains, of which a block has 1 to 64, and the slots cover 224 to 256 grains of a page.
@@ -33,20 +33,13 @@ usable_grains_ge class h = leb-true _ _ (class_passes (λ c. leb 224 (usable_gra
 -- A slot lies within its page, and the page's first grain begins one.
 
 pub slot_lt : (class grain : ℕ) → IsClass class → IsSlotStart class grain → grain < 256
-slot_lt class grain h s =
-    let w : grain + class_grains class ≤ usable_grains class = s.within in
-    omega (arith, w, class_grains_positive class h, usable_grains_le class h)
+slot_lt class grain h s = omega (arith, s.within, class_grains_positive class h, usable_grains_le class h)
 
 pub slot_end : (class grain : ℕ) → IsClass class → IsSlotStart class grain → grain + class_grains class ≤ 256
-slot_end class grain h s =
-    let w : grain + class_grains class ≤ usable_grains class = s.within in
-    omega (arith, w, usable_grains_le class h)
+slot_end class grain h s = omega (arith, s.within, usable_grains_le class h)
 
 pub first_slot : (class : ℕ) → IsClass class → IsSlotStart class 0
-first_slot class h = record {
-  aligned = eqb-true _ _ (class_passes (λ c. eqb (0 % class_grains c) 0) refl class h);
-  within = omega (arith, class_grains_le class h, usable_grains_ge class h);
-}
+first_slot class h = search (arith, class_passes, class_grains_le, usable_grains_ge)
 
 scaled : (k g : ℕ) → g % k ≡ 0 → g / k * (16 * k) ≡ g * 16
 scaled k g e = omega (arith, e, div-add-mod' g k)
@@ -73,8 +66,7 @@ found_later c cs n size align class e f =
     (suc f.0, omega (arith, f.1), omega (arith, f.2), f.3, λ k. elim k as (λ k. k < suc f.0 → suits (get_or (c ∷ cs) k 0) size align ≡ false) [ zero ↦ λ lt. e | suc k ↦ λ lt. f.4 k (omega (arith, lt)) ])
 
 missing_later : (c : ℕ) (cs : List ℕ) (size align : ℕ) → suits c size align ≡ false → Missing cs size align → Missing (c ∷ cs) size align
-missing_later c cs size align e f zero lt = e
-missing_later c cs size align e f (suc k) lt = f k (omega (arith, lt))
+missing_later c cs size align e f h lt = grind arith
 
 found : (cs : List ℕ) (n size align class : ℕ) → first_class cs n size align ≡ Some class → Found cs n size align class
 found [] n size align class e = absurd (cc)
@@ -94,9 +86,7 @@ missing (c ∷ cs) n size align e = elim (cases_Bool (suits c size align)) [
 ]
 
 suits_from : (size align class : ℕ) → suits (class_size class) (max size 1) align ≡ true → Suits size align class
-suits_from size align class e =
-    let b = and_parts (leb (max size 1) (class_size class)) (eqb (class_size class % align) 0) e in
-    record { room = leb-true _ _ b.0; aligned = eqb-true _ _ b.1 }
+suits_from size align class e = search (arith, and_parts)
 
 not_from : (size align class : ℕ) → suits (class_size class) (max size 1) align ≡ false → Suits size align class → ⊥
 not_from size align class e s =
@@ -124,10 +114,7 @@ none_from classes size align none k lt s = elim (cases_lt k (length (sizes_of cl
 ]
 
 without_class : (classes size align : ℕ) → NoneSuits classes size align → IsRouteOf classes size align (route_without_class (max size 1))
-without_class classes size align none = elim (cases_lt 2048 size) [
-  | inl large ↦ subst (λ b. IsRouteOf classes size align (if b then Bitfit else Large)) (sym (lt-leb (max size 1) 2048 (omega (arith, large)))) (large, none)
-  | inr small ↦ subst (λ b. IsRouteOf classes size align (if b then Bitfit else Large)) (sym (le-leb (max size 1) 2048 (omega (arith, small)))) (small, none)
-]
+without_class classes size align none = search (arith, cases_lt, lt-leb, le-leb)
 
 answered : (classes size align : ℕ) (o : Option ℕ) → first_class (sizes_of classes) 0 (max size 1) align ≡ o → IsRouteOf classes size align (route_with o (max size 1))
 answered classes size align None e = without_class classes size align (none_from classes size align (missing (sizes_of classes) 0 (max size 1) align e))

@@ -1,6 +1,6 @@
 -- The words of deeds and of lives say what they were made from, and nothing else.
 use Rattle.std.proofs.Common.{◌≡◌, ◌≢◌, ℕ, ◌-◌, ◌*◌, ◌/◌, ◌%◌, ◌^◌, ◌<◌, ◌≤◌, Bool, true, false, ltb, eqb, if◌then◌else◌, Option, None, Some, refl, ap, sym}
-use Rattle.std.proofs.Common.{◌∙◌, subst, arith, ltb-true, ltb-false, lt-ltb, le-ltb, eqb-true, le-leb}
+use Rattle.std.proofs.Common.{◌∙◌, arith, ltb-true, ltb-false, lt-ltb, le-ltb, eqb-true, le-leb}
 use Rattle.std.proofs.lemmas.Nat.{mul-add-lt}
 use Rattle.pas_profile.specs.Directories.{IsKind, kind_number, IsDirectory, number_of, deed_word_of, kind_of, with_kind, directory_read, deed_word_numbered}
 use Rattle.pas_profile.specs.Profiles.{IsValid, IsDirectoryOf}
@@ -11,27 +11,17 @@ use Rattle.pas_profile.specs.declared.directory.Kind.TheVariants.{Class, Bitfit,
 -- A kind's number is below 23, and names the kind.
 
 pub kind_number_lt : (k : Kind) → IsKind k → kind_number k < 23
-kind_number_lt (Class c) h = omega (arith, h)
-kind_number_lt Bitfit h = omega arith
-kind_number_lt Shared h = omega arith
-kind_number_lt Large h = omega arith
+kind_number_lt k h = grind arith
 
 kind_of-kind_number : (k : Kind) → IsKind k → kind_of (kind_number k) ≡ Some k
-kind_of-kind_number (Class c) h = ap (λ b. if b then Some (Class c) else (if eqb c 20 then Some Bitfit else (if eqb c 21 then Some Shared else (if eqb c 22 then Some Large else None)))) (lt-ltb c 20 h)
-kind_of-kind_number Bitfit h = refl
-kind_of-kind_number Shared h = refl
-kind_of-kind_number Large h = refl
+kind_of-kind_number k h = grind (arith, lt-ltb)
 
 abbrev Names : ℕ → Kind → Type 0
 Names n k = IsKind k × (kind_number k ≡ n)
 
 named : (small bitfit shared large : Bool) (n : ℕ) (k : Kind) → (small ≡ true → n < 20) → (bitfit ≡ true → n ≡ 20) → (shared ≡ true → n ≡ 21) → (large ≡ true → n ≡ 22) →
     (if small then Some (Class n) else (if bitfit then Some Bitfit else (if shared then Some Shared else (if large then Some Large else None)))) ≡ Some k → Names n k
-named true b c d n k p q r s e = let same : Class n ≡ k = cc in subst (Names n) same (p refl, refl)
-named false true c d n k p q r s e = let same : Bitfit ≡ k = cc in subst (Names n) same (tt, sym (q refl))
-named false false true d n k p q r s e = let same : Shared ≡ k = cc in subst (Names n) same (tt, sym (r refl))
-named false false false true n k p q r s e = let same : Large ≡ k = cc in subst (Names n) same (tt, sym (s refl))
-named false false false false n k p q r s e = absurd (cc)
+named small b c d n k p q r s e = grind arith
 
 kind_named : (n : ℕ) (k : Kind) → kind_of n ≡ Some k → Names n k
 kind_named n k e = named (ltb n 20) (eqb n 20) (eqb n 21) (eqb n 22) n k (ltb-true n 20) (eqb-true n 20) (eqb-true n 21) (eqb-true n 22) e
@@ -48,9 +38,7 @@ number_lt d heaps h k = mul-add-lt d.heap 23 (kind_number d.kind) heaps h (kind_
 -- a directory of a profile is one of some region
 pub directory_from_profile : (f : Profile) (d : Directory) → IsValid f → IsDirectoryOf f d → IsDirectory d
 directory_from_profile f d v h =
-    let most : f.heaps ≤ 32 = v.heaps in
-    let low : d.heap < f.heaps = h.heap in
-    record { heap = omega (arith, most, low); kind = h.kind }
+    record { heap = omega (arith, v.heaps, h.heap); kind = h.kind }
 
 -- a directory's number tells its deed word
 pub numbered : (d : Directory) → IsKind d.kind → deed_word_numbered (number_of d) ≡ deed_word_of d
@@ -72,12 +60,10 @@ pub read-deed_word_of : (d : Directory) → IsDirectory d → directory_read (de
 read-deed_word_of d h =
     let w = deed_word_of d in
     let n : kind_number d.kind < 23 = kind_number_lt d.kind h.kind in
-    let heap : d.heap < 32 = h.heap in
-    let low : ltb w 65536 ≡ false = le-ltb w 65536 (omega arith) in
-    let below : ltb w 73728 ≡ true = lt-ltb w 73728 (omega (arith, n, heap)) in
+    let below : ltb w 73728 ≡ true = lt-ltb w 73728 (omega (arith, n, h.heap)) in
     let q : (w - 65536) / 256 ≡ d.heap = omega (arith, n) in
     let r : w % 256 ≡ kind_number d.kind = omega (arith, n) in
-    ap (λ b. read_by b (ltb w 73728) ((w - 65536) / 256) (w % 256)) low
+    ap (λ b. read_by b (ltb w 73728) ((w - 65536) / 256) (w % 256)) (le-ltb w 65536 (omega arith))
     ∙ ap (λ b. read_by false b ((w - 65536) / 256) (w % 256)) below
     ∙ ap (λ i. read_by false true i (w % 256)) q
     ∙ ap (λ i. read_by false true d.heap i) r
@@ -87,33 +73,17 @@ abbrev Records : ℕ → Directory → Type 0
 Records w d = IsDirectory d × (w ≡ deed_word_of d)
 
 with_kind_is : (heap : ℕ) (o : Option Kind) (d : Directory) → with_kind heap o ≡ Some d → (k : Kind) × (o ≡ Some k) × (d.heap ≡ heap) × (d.kind ≡ k)
-with_kind_is heap None d e = absurd (cc)
-with_kind_is heap (Some k) d e =
-    let made : Directory = record { heap = heap; kind = k } in
-    let same : Some made ≡ Some d = e in
-    let whole : made ≡ d = cc in
-    (k, refl, ap (λ (x : Directory). x.heap) (sym whole), ap (λ (x : Directory). x.kind) (sym whole))
+with_kind_is heap o d e = grind arith
 
 recorded : (low below : Bool) (w : ℕ) (d : Directory) → (low ≡ false → 65536 ≤ w) → (below ≡ true → w < 73728) → read_by low below ((w - 65536) / 256) (w % 256) ≡ Some d → Records w d
-recorded true b w d p q e = absurd (cc)
-recorded false false w d p q e = absurd (cc)
-recorded false true w d p q e =
-    let s = with_kind_is ((w - 65536) / 256) (kind_of (w % 256)) d e in
-    let n = kind_named (w % 256) s.0 s.1 in
-    let kind : IsKind d.kind = subst IsKind (sym s.3) n.0 in
-    let number : kind_number d.kind ≡ w % 256 = ap kind_number s.3 ∙ n.1 in
-    let heap : d.heap ≡ (w - 65536) / 256 = s.2 in
-    let low : 65536 ≤ w = p refl in
-    let top : w < 73728 = q refl in
-    (record { heap = omega (arith, heap, low, top); kind = kind }, omega (arith, heap, number, low, top))
+recorded low b w d p q e = grind (arith, with_kind_is, kind_named)
 
 -- a word is read as a directory only where it is that directory's deed word
 pub read_is : (w : ℕ) (d : Directory) → directory_read w ≡ Some d → Records w d
 read_is w d e = recorded (ltb w 65536) (ltb w 73728) w d (ltb-false w 65536) (ltb-true w 73728) e
 
 not_read : (w : ℕ) (o : Option Directory) → directory_read w ≡ o → ((d : Directory) → IsDirectory d → w ≢ deed_word_of d) → o ≡ None
-not_read w None e h = refl
-not_read w (Some d) e h = let r = read_is w d e in absurd (h d r.0 r.1)
+not_read w o e h = grind (arith, read_is)
 
 -- a word that is no deed word is read as none
 pub read_none : (w : ℕ) → ((d : Directory) → IsDirectory d → w ≢ deed_word_of d) → directory_read w ≡ None
@@ -121,9 +91,7 @@ read_none w h = not_read w (directory_read w) refl h
 
 -- distinct directories have distinct deed words
 pub same_from_deed_word : (a b : Directory) → IsKind a.kind → IsKind b.kind → deed_word_of a ≡ deed_word_of b → a ≡ b
-same_from_deed_word a b ha hb e =
-    let x = kind_number_lt a.kind ha in let y = kind_number_lt b.kind hb in
-    same_parts a b (omega (arith, x, y, e)) (same_kind a.kind b.kind ha hb (omega (arith, x, y, e)))
+same_from_deed_word a b ha hb e = search (arith, kind_number_lt, same_parts, same_kind)
 
 -- A live block's word is read as its turn and its grains.
 

@@ -1,5 +1,5 @@
 -- Distinct words have distinct places, and every place is below the number of words.
-use Rattle.std.proofs.Common.{◌≡◌, ◌≢◌, ℕ, ◌*◌, ◌<◌, ◌==◌, true, false, ◌&&◌, if◌then◌else◌, refl, ap, sym, ◌∙◌, arith, eqb-true, eq-eqb}
+use Rattle.std.proofs.Common.{◌≡◌, ◌≢◌, ℕ, ◌*◌, ◌<◌, ◌==◌, true, false, if◌then◌else◌, refl, arith, eqb-true, eq-eqb}
 use Rattle.std.proofs.{Math.Nat.mul_comm, lemmas.Nat.mul-add-lt, lemmas.Nat.same_from_place, lemmas.Bool.and_parts, lemmas.Bool.and_from}
 use Rattle.pas_profile.specs.declared.word.Word.{Word}
 use Rattle.pas_profile.specs.Profiles.{IsWordIn, vector_words}
@@ -7,9 +7,7 @@ use Rattle.pas_profile.specs.Layouts.{index_of, words_of, same_word, word_kind, 
 
 -- two words with one kind and the same two numbers are the same
 both : (x y : Word) → word_kind x ≡ word_kind y → word_minor x ≡ word_minor y → word_major x ≡ word_major y → same_word x y ≡ true
-both x y k i j =
-    and_from (word_kind x == word_kind y && word_minor x == word_minor y) (word_major x == word_major y)
-    (and_from (word_kind x == word_kind y) (word_minor x == word_minor y) (eq-eqb _ _ k) (eq-eqb _ _ i)) (eq-eqb _ _ j)
+both x y k i j = search (arith, and_from, eq-eqb)
 
 -- the word of these three numbers
 abbrev word_from : ℕ → ℕ → ℕ → Word
@@ -18,17 +16,11 @@ word_from kind i j =
     if kind == 4 then Word.Backed j else (if kind == 5 then Word.Stamp j else (if kind == 6 then Word.Parked j else (if kind == 7 then Word.Empty j else Word.Eligible i j)))))))
 
 from_numbers : (w : Word) → word_from (word_kind w) (word_minor w) (word_major w) ≡ w
-from_numbers (Word.Eligible a b) = refl
-from_numbers s = refl
+from_numbers s = grind arith
 
 -- two words that are the same by their numbers are equal
 pub same_word-true : (x y : Word) → same_word x y ≡ true → x ≡ y
-same_word-true x y h =
-    let outer = and_parts (word_kind x == word_kind y && word_minor x == word_minor y) (word_major x == word_major y) h in
-    let inner = and_parts (word_kind x == word_kind y) (word_minor x == word_minor y) outer.0 in
-    sym (from_numbers x) ∙ ap (λ k. word_from k (word_minor x) (word_major x)) (eqb-true _ _ inner.0)
-    ∙ ap (λ i. word_from (word_kind y) i (word_major x)) (eqb-true _ _ inner.1)
-    ∙ ap (λ j. word_from (word_kind y) (word_minor y) j) (eqb-true _ _ outer.1) ∙ from_numbers y
+same_word-true x y h = search (arith, and_parts, from_numbers, eqb-true)
 
 -- every place is below the number of words
 pub index_lt : (pages heaps : ℕ) (w : Word) → IsWordIn pages heaps w → index_of pages w < words_of pages heaps

@@ -31,10 +31,7 @@ class_passes test all class is = passes_at test 20 class all is
 
 -- what has a size is a class
 pub class_from_size : (class : ℕ) → 1 ≤ class_size class → IsClass class
-class_from_size class some = elim (cases_lt class 20) [
-  | inl lt ↦ lt
-  | inr ge ↦ let none : class_size class ≡ 0 = get_or_past class_sizes class 0 ge in absurd (omega (arith, none, some))
-]
+class_from_size class some = search (arith, cases_lt, get_or_past)
 
 pub class_size_le : (class : ℕ) → class_size class ≤ 1024
 class_size_le class = elim (cases_lt class 20) [
@@ -44,10 +41,7 @@ class_size_le class = elim (cases_lt class 20) [
 
 -- ---- the classes of a region
 pub count_le : (classes : ℕ) → IsClassCount classes → classes ≤ 20
-count_le classes is = elim (or_cases (classes == 16) (classes == 20) is) [
-  | inl few ↦ omega (arith, eqb-true classes 16 few)
-  | inr all ↦ omega (arith, eqb-true classes 20 all)
-]
+count_le classes is = search (arith, or_cases, eqb-true)
 
 pub count_of : (pages classes : ℕ) → AreClassesFor pages classes → IsClassCount classes
 count_of pages classes is = elim (or_cases (classes == 20) ((classes == 16) && nat_le pages 4096) is) [
@@ -65,10 +59,7 @@ pub size_at : (classes class : ℕ) → class < classes → get_or (sizes_of cla
 size_at classes class lt = get_or-take classes class_sizes class 0 lt
 
 size_le : (classes class : ℕ) → get_or (sizes_of classes) class 0 ≤ class_size class
-size_le classes class = elim (cases_lt class classes) [
-  | inl lt ↦ omega (arith, size_at classes class lt)
-  | inr ge ↦ let none = get_or_past (sizes_of classes) class 0 (omega (arith, ge, sizes_le classes)) in omega (arith, none)
-]
+size_le classes class = search (arith, cases_lt, size_at, get_or_past, sizes_le)
 
 -- ==== The search of the class list, begun at a later class.
 
@@ -83,14 +74,8 @@ one_step cs i n size align h = ap (λ (l : List ℕ). first_class l n size align
 passed_over : (cs : List ℕ) (i size align : ℕ) → suits (get_or cs i 0) size align ≡ false →
     first_class (drop (i + 1) cs) (i + 1) size align ≡ first_class (drop i cs) i size align
 passed_over cs i size align e = elim (cases_lt i (length cs)) [
-  | inl h ↦
-      let turn : suc i ≡ i + 1 = omega arith in
-      let step : first_class (drop i cs) i size align ≡ first_class (drop (suc i) cs) (i + 1) size align
-      = one_step cs i i size align h ∙ ap (λ b. if b then Some i else first_class (drop (suc i) cs) (i + 1) size align) e in
-      ap (λ k. first_class (drop k cs) (i + 1) size align) (sym turn) ∙ sym step
-  | inr past ↦
-      ap (λ (l : List ℕ). first_class l (i + 1) size align) (drop_all (i + 1) cs (omega (arith, past)))
-      ∙ sym (ap (λ (l : List ℕ). first_class l i size align) (drop_all i cs past))
+  | inl h ↦ search (arith, one_step)
+  | inr past ↦ cc (drop_all (i + 1) cs (omega (arith, past)), drop_all i cs past)
 ]
 
 -- a class that suits is found

@@ -6,8 +6,7 @@ use Rattle.pas_profile.specs.declared.event.Event.{Event}
 use Rattle.pas_steps.specs.{Past.Always, Views.View, Views.epoch_of}
 use Rattle.pas_steps.specs.Events.{event_of, with_event, events_by, actor_of}
 use Rattle.pas_steps.specs.Kinds.{StepKind, kind_of, Deeding, Backing, Giving, Ending, Unbacking}
-use Rattle.pas_steps.specs.declared.step.{Made.Made, Step.Step}
-use Rattle.pas_steps.specs.declared.step.Step.TheVariants.{Deed, Back, Give, End, Unback}
+use Rattle.pas_steps.specs.declared.step.{Made.Made, Step.Step, Step.TheVariants.Deed, Step.TheVariants.Back}
 
 -- ---- the step of an event
 -- which kind of step makes such an event

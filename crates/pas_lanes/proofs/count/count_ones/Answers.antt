@@ -36,8 +36,7 @@ loop-word-init c = let whole = fold-sum 0 c.loop-start.lanes in omega (arith, wh
 pub overflow_add-ones-in-loop-word : goal.overflow_add-ones-in-loop-word
 overflow_add-ones-in-loop-word c =
     let more = word_more c.args.words.now c.loop-word.word (λ word. (c.type_inv.words word).fits) in
-    let most = before_most c.args.words.now (c.loop-word.word + 1) in
-    record { fits = omega (arith, more, most, c.loop-word.invariant) }
+    record { fits = omega (arith, more, before_most c.args.words.now (c.loop-word.word + 1), c.loop-word.invariant) }
 
 pub loop-word-preserved : goal.loop-word-preserved
 loop-word-preserved c =
