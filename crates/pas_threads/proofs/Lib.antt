@@ -1,3 +1,5 @@
+mod Benched
+mod Beside
 mod Sitting
 mod ByCrew
 mod Dealt

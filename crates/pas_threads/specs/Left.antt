@@ -1,9 +1,10 @@
--- What a worker leaves behind after a phase: a bench that saw in which order its actors made their steps.
+-- The actors of a worker on its bench in a phase, and what it leaves behind: a bench that saw in which order they made their steps.
 use Rattle.std.specs.Prelude.{ℕ, ◌+◌, ◌≡◌, Bool, true, List, [], ◌∷◌, ◌++◌, Option, None, Some}
-use Rattle.pas_steps.specs.Lists.{Whole, part}
+use Rattle.pas_steps.specs.{Desks.Standing, Lists.Whole, Lists.part}
 use Rattle.pas_core.specs.Orders.{steps_by}
-use Rattle.pas_shared.specs.{Benches.rows_on, Benches.IsBenchOf, Ruled.among, Ruled.steps_of}
-use Rattle.pas_shared.specs.declared.{bench.Bench.Bench, region.SharedRegion.SharedRegion, rule.Entry.Entry}
+use Rattle.pas_shared.specs.{Passes.view_of, Ruled.among, Ruled.steps_of}
+use Rattle.pas_shared.specs.Benches.{rows_on, row_on, made_by, seat_of_member, IsBenchOf, IsMemberOf, MaySitOn, StandsOver}
+use Rattle.pas_shared.specs.declared.{bench.Bench.Bench, bench.Member.Member, pass.SharedPass.SharedPass, region.SharedRegion.SharedRegion, rule.Entry.Entry}
 use Rattle.pas_threads.specs.declared.keeper.Keeper.{Keeper}
 
 -- ---- the actors of a worker
@@ -19,6 +20,18 @@ pair_in threads k keeper = among (k ∷ keeper_actors (threads + k) keeper)
 -- the scavenger, and the threads that are lent to it
 abbrev pub crew_in : List ℕ → ℕ → Bool
 crew_in idle = among (0 ∷ idle)
+
+-- ---- on the bench
+-- the actor of the pass sits there, with what it made
+pub record IsSeated (region : SharedRegion) (bench : Bench) (pass : SharedPass) (member : Member) : Type 0 where
+  pub may : MaySitOn region bench member
+  pub is : IsMemberOf pass member
+  pub view : made_by bench member ≡ view_of pass
+
+-- A member of the bench, whose desk another one has: it may sit down there, and stands for what it made, beside each list in which the row's actors have their steps in the
+-- row's order.
+abbrev pub standing_beside : SharedRegion → Bench → Member → Standing
+standing_beside region bench member = record { seat = seat_of_member member; stands = λ v l. MaySitOn region bench member × (made_by bench member ≡ v) × StandsOver (row_on bench) l }
 
 -- ---- in which order
 -- What these actors did, as it is told of and in the list `seen` of all steps up to some moment: they stand there in the same order, behind a list that has of each of them

@@ -1,6 +1,7 @@
 pub mod Taken
 pub mod Hands
 pub mod Left
+pub mod Seats
 pub mod Lent
 pub mod Crews
 pub mod Scavengers

@@ -6,15 +6,15 @@ use Rattle.pas_steps.specs.Lists.{part}
 use Rattle.pas_report.specs.Rooms.{records_in}
 use Rattle.pas_report.specs.declared.record.Record.{Record}
 use Rattle.pas_guard.specs.Books.{guards_in}
-use Rattle.pas_shared.specs.Passes.{IsPassOf, standing_of}
-use Rattle.pas_shared.specs.declared.region.SharedRegion.{SharedRegion}
+use Rattle.pas_shared.specs.Passes.{IsPassOf}
+use Rattle.pas_shared.specs.declared.{bench.Bench.Bench, region.SharedRegion.SharedRegion}
 use Rattle.pas_trace.specs.Acts.{Act, Lowers, numbers_from, own_acts}
 use Rattle.pas_trace.specs.declared.plan.Op.{Op}
 use Rattle.pas_answers.specs.{Answers.Progress, Keeping.owed_by_keeper, Reaching.Reaches, Ways.AreSpoken, Ways.records_by}
 use Rattle.pas_acts.specs.Keepers.{LaterKept, Keeping, NoKeeper, OneKeeper, KeeperAt, KeeperLowers, keeper_has}
 use Rattle.pas_acts.specs.{Pairs.KeeperWaits, Pairs.KeptPushed, Pairs.PairWorks, Works.Later}
 use Rattle.pas_acts.specs.declared.names.NameBook.{NameBook}
-use Rattle.pas_threads.specs.Left.{pair_in, HasLeft}
+use Rattle.pas_threads.specs.Left.{pair_in, standing_beside, HasLeft}
 use Rattle.pas_threads.specs.Hands.{standing_of_pass, kept_by, WorkerAt, Did}
 use Rattle.pas_threads.specs.declared.{keeper.Keeper.Keeper, keeper.Seated.Seated, keeper.Beside.Beside, workers.Worker.Worker}
 
@@ -24,32 +24,13 @@ abbrev pub kept_by_worker : Option Keeper → Keeping
 kept_by_worker None = NoKeeper
 kept_by_worker (Some keeper) = OneKeeper (keeper_has (standing_of_pass keeper.pass) keeper.book keeper.out)
 
--- .. while it sits there
-abbrev pub kept_seated : Option Seated → Keeping
-kept_seated None = NoKeeper
-kept_seated (Some seated) = OneKeeper (keeper_has (standing_of seated.desk) seated.book seated.out)
+-- .. while it sits on its thread's bench
+abbrev pub kept_seated : SharedRegion → Bench → Option Seated → Keeping
+kept_seated region bench None = NoKeeper
+kept_seated region bench (Some seated) = OneKeeper (keeper_has (standing_beside region bench seated.member) seated.book seated.out)
 
-abbrev pub kept_beside : Beside → Keeping
-kept_beside beside = kept_seated beside.keeper
-
--- the region at which it sits down, if there is one
-abbrev pub home_kept : SharedRegion → Option Keeper → Option SharedRegion
-home_kept region None = None
-home_kept region (Some keeper) = Some region
-
-abbrev pub home_seated : Option Seated → Option SharedRegion
-home_seated None = None
-home_seated (Some seated) = Some seated.desk.region.now
-
-abbrev pub home_beside : Beside → Option SharedRegion
-home_beside beside = home_seated beside.keeper
-
--- it has the same in hand while it sits there
-abbrev pub SitsAs : Option Keeper → Option Seated → Type 0
-SitsAs None None = Unit {0}
-SitsAs None (Some seated) = ⊥
-SitsAs (Some keeper) None = ⊥
-SitsAs (Some keeper) (Some seated) = (seated.desk.pass ≡ keeper.pass) × (seated.book ≡ keeper.book) × (seated.out ≡ keeper.out)
+abbrev pub kept_beside : SharedRegion → Bench → Beside → Keeping
+kept_beside region bench beside = kept_seated region bench beside.keeper
 
 -- its pass is one of the region
 abbrev pub IsKeeperOf : SharedRegion → Option Keeper → Type 0

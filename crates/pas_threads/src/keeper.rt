@@ -1,18 +1,17 @@
 //! The keeper of a thread at the shared region, in a guarded replay.
-ghost use Rattle.std.specs.Prelude.{◌≡◌, ℕ, Option, Some};
+ghost use Rattle.std.specs.Prelude.{◌≡◌, ◌++◌, ℕ, Option, Some};
 ghost use Rattle.pas_profile.specs.declared.profile.Profile.{Profile as TheProfile};
 ghost use Rattle.pas_answers.specs.Answers.{Progress};
 ghost use Rattle.pas_acts.specs.Keepers.{LaterKept};
-ghost use Rattle.pas_shared.specs.Passes.{IsPassOf};
-ghost use Rattle.pas_shared.specs.declared.region.SharedRegion.{SharedRegion as TheRegion};
-ghost use Rattle.pas_threads.specs.Pairs.{IsKeeperOf, SitsAs, home_kept, home_beside, KeeperStands, KeeperLowered};
-ghost use Rattle.pas_threads.specs.declared.keeper.Keeper.{Keeper as TheKeeper};
+ghost use Rattle.pas_shared.specs.{Ruled.rows_of, Benches.rows_on, Benches.first_row, Benches.IsBenchOf, Benches.IsFreshRow};
+ghost use Rattle.pas_threads.specs.Pairs.{IsKeeperOf, KeeperStands, KeeperLowered};
+ghost use Rattle.pas_threads.specs.Seats.{keeper_parts, rows_without_keeper, IsSameKeeper, KeeperMayLeave, HasRisen};
 
 use pas_acts::keepers::{Tries, lower_all, try_guarded};
 use pas_guard::GuardBook;
 use pas_profile::Block;
 use pas_report::Records;
-use pas_shared::{SharedDesk, SharedPass, SharedRegion};
+use pas_shared::{Bench, BenchDesk, Member, SharedPass, SharedRegion};
 
 /// A keeper while it doesn't sit at the region: its pass, its book, and its records. Its thread's worker makes its steps.
 #[derive(Drop)]
@@ -22,92 +21,101 @@ pub(crate) struct Keeper {
     pub(crate) out: Records,
 }
 
-/// A keeper at its desk.
+/// A keeper on its thread's bench.
 #[derive(Drop)]
-pub(crate) struct Seated<'a> {
-    pub(crate) desk: SharedDesk<'a>,
+pub(crate) struct Seated {
+    pub(crate) member: Member,
     pub(crate) book: GuardBook,
     pub(crate) out: Records,
 }
 
-impl Seated<'_> {
-    /// The keeper rises.
-    fn into_keeper(self) -> Keeper
-        ensures kept { SitsAs (Some result) (Some self.entry) }
-        ensures of { IsPassOf self.entry.desk.region.now result.pass }
-    {
-        let Seated { desk, book, out } = self;
-        Keeper {
-            pass: desk.into_pass(),
-            book,
-            out,
-        }
-    }
-}
-
-/// The keeper of a thread, at its desk while the thread works. A thread of a replay that isn't guarded has none.
+/// The keeper of a thread, on its bench while the thread works, which lends it its desk. A thread of a replay that isn't guarded has none.
 #[derive(Drop)]
-pub(crate) struct Beside<'a> {
-    pub(crate) keeper: Option<Seated<'a>>,
+pub(crate) struct Beside {
+    pub(crate) keeper: Option<Seated>,
 }
 
-impl<'a> Beside<'a> {
-    /// The keeper sits down, if there is one.
-    pub(crate) fn sit(region: &'a SharedRegion, keeper: Option<Keeper>) -> Beside<'a>
-        requires { IsKeeperOf region.now keeper }
-        ensures kept { SitsAs keeper result.keeper }
-        ensures home { home_beside result ≡ home_kept region.now keeper }
-    {
-        let Some(resting) = keeper else {
-            return Beside { keeper: None };
-        };
-        let Keeper { pass, book, out } = resting;
-        Beside {
-            keeper: Some(Seated {
-                desk: region.desk(pass),
-                book,
-                out,
-            }),
-        }
-    }
-
-    /// It rises, if there is one.
-    pub(crate) fn rise(self) -> Option<Keeper>
-        ensures kept { SitsAs result self.entry.keeper }
-        ensures of { (region : TheRegion) (keeper : Option TheKeeper) → home_beside self.entry ≡ home_kept region keeper → IsKeeperOf region result }
-    {
-        let Some(seated) = self.keeper else {
-            return None;
-        };
-        Some(seated.into_keeper())
-    }
+/// Seats the keeper on the bench, if there is one. One load then.
+pub(crate) fn seat_keeper(
+    region: &SharedRegion,
+    bench: &mut Bench,
+    keeper: Option<Keeper>,
+) -> Option<Seated>
+    requires of { IsBenchOf region.now bench.old }
+    requires keeper { IsKeeperOf region.now keeper }
+    ensures of { IsBenchOf region.now bench.new }
+    ensures rows { rows_on bench.new ≡ rows_of (keeper_parts keeper) ++ rows_on bench.old }
+    ensures seated { IsSameKeeper keeper result }
+{
+    let Some(resting) = keeper else {
+        return None;
+    };
+    let Keeper { pass, book, out } = resting;
+    Some(Seated {
+        member: bench.seat(region, pass),
+        book,
+        out,
+    })
 }
 
-impl Tries for Beside<'_> {
-    ghost use Rattle.std.specs.Prelude.{Option};
-    ghost use Rattle.pas_shared.specs.declared.region.SharedRegion.{SharedRegion as TheRegion};
-    ghost use Rattle.pas_threads.specs.Pairs.{kept_beside, home_beside};
+/// Lets the keeper leave the bench, if there is one: it has its pass again. One load then.
+pub(crate) fn let_keeper_leave(
+    region: &SharedRegion,
+    bench: &mut Bench,
+    seated: Option<Seated>,
+) -> Option<Keeper>
+    requires of { IsBenchOf region.now bench.old }
+    requires fresh { IsFreshRow (rows_on bench.old) }
+    requires sits { KeeperMayLeave region.now (first_row (rows_on bench.old)) seated }
+    ensures of { IsBenchOf region.now bench.new }
+    ensures left { rows_on bench.new ≡ rows_without_keeper seated (rows_on bench.old) }
+    ensures keeper { HasRisen region.now (first_row (rows_on bench.old)) seated result }
+{
+    let Some(there) = seated else {
+        return None;
+    };
+    let Seated { member, book, out } = there;
+    Some(Keeper {
+        pass: bench.leave(region, member),
+        book,
+        out,
+    })
+}
 
-    type Home = Option<SharedRegion>;
+impl<'a> Tries<BenchDesk<'a>> for Beside {
+    ghost use Rattle.pas_threads.specs.Pairs.{kept_beside};
+    ghost use Rattle.pas_threads.proofs.Beside.{beside_still};
 
-    ghost home = { home_beside };
+    type Home = ();
 
-    ghost has = { kept_beside };
+    ghost home = { λ beside. tt };
 
-    fn try_guarded(&mut self, name: u32, heap: u8, size: u32, align: u32) -> Option<Block> {
-        let Some(seated) = &mut self.keeper else {
+    ghost has = { λ desk beside. kept_beside desk.region.now desk.place.bench beside };
+
+    fn try_guarded(
+        &mut self,
+        desk: &mut BenchDesk<'a>,
+        name: u32,
+        heap: u8,
+        size: u32,
+        align: u32,
+    ) -> Option<Block> {
+        let Some(seated) = self.keeper.take() else {
             unreachable!();
         };
-        try_guarded(
-            &mut seated.desk,
-            &mut seated.book,
-            name,
-            heap,
-            size,
-            align,
-            &mut seated.out,
-        )
+        let Seated {
+            member,
+            mut book,
+            mut out,
+        } = seated;
+        let thread = desk.replace(member);
+        let block = try_guarded(desk, &mut book, name, heap, size, align, &mut out);
+        let member = desk.replace(thread);
+        self.keeper = Some(Seated { member, book, out });
+        block
     }
+
+    ghost still = { λ keeper old new l m home stood stands. beside_still keeper old new l m home stood stands };
 }
 
 /// The keeper sits down, lowers all its guards, and rises.

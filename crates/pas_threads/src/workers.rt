@@ -1,9 +1,11 @@
 //! The workers of the threads at a shared region.
-ghost use Rattle.std.specs.Prelude.{◌≡◌, ◌<◌, ◌^◌, ℕ, [], All, length, get_or};
+ghost use Rattle.std.specs.Prelude.{◌≡◌, ◌<◌, ◌^◌, ◌∷◌, ℕ, All, length, get_or};
 ghost use Rattle.pas_answers.specs.Names.{names_held};
-ghost use Rattle.pas_threads.specs.{Pairs.MayDoPhase, Pairs.DidPhase, Taken.HasTaken, Taken.IsWithin, Taken.IsEmptied};
+ghost use Rattle.pas_shared.specs.{Passes.IsPassOf, Benches.row_on, Benches.MaySitOn};
+ghost use Rattle.pas_threads.specs.Seats.{seated_actors, IsAnother, KeeperSits, PairSits, PairRose};
+ghost use Rattle.pas_threads.specs.{Pairs.IsKeeperOf, Pairs.MayDoPhase, Pairs.DidPhase, Taken.HasTaken, Taken.IsWithin, Taken.IsEmptied};
 
-use crate::keeper::{Beside, Keeper};
+use crate::keeper::{Beside, Keeper, Seated, let_keeper_leave, seat_keeper};
 use pas_acts::gate::Gate;
 use pas_acts::names::{NameBook, Requests};
 use pas_acts::own::work;
@@ -31,9 +33,53 @@ pub(crate) struct Worker {
     pub(crate) bench: Option<Bench>,
 }
 
-/// The thread sits down, and its keeper beside it, if it has one. It performs its operations of a phase, of which the keeper tries the guarded requests
-/// first, with the indexes that all threads share as its door, and both rise. It waits for the lock of an index where it makes a request for whole pages,
-/// or hands on what it noted, and nowhere else.
+/// Both actors of a worker on a bench of their own.
+#[derive(Drop)]
+pub(crate) struct Pair {
+    bench: Bench,
+    member: Member,
+    keeper: Option<Seated>,
+}
+
+/// The thread sits down on a bench, and its keeper beside it, if it has one, in one row. Four loads, and three without a keeper.
+fn sit_down(region: &SharedRegion, pass: SharedPass, keeper: Option<Keeper>) -> Pair
+    requires pass { IsPassOf region.now pass }
+    requires keeper { IsKeeperOf region.now keeper }
+    ensures sits { PairSits region.now pass keeper result.bench result.member result.keeper }
+{
+    let mut bench = Bench::open(region);
+    let keeper = seat_keeper(region, &mut bench, keeper);
+    let member = bench.seat(region, pass);
+    bench.look(region);
+    Pair {
+        bench,
+        member,
+        keeper,
+    }
+}
+
+/// Both rise, once the bench has looked; it is left. Three loads, and two without a keeper.
+fn rise(region: &SharedRegion, pair: Pair) -> (Bench, SharedPass, Option<Keeper>)
+    requires thread { MaySitOn region.now pair.bench pair.member }
+    requires keeper { KeeperSits region.now pair.bench pair.keeper }
+    requires apart { IsAnother pair.member.actor pair.keeper }
+    requires actors { (row_on pair.bench).actors ≡ pair.member.actor ∷ seated_actors pair.keeper }
+    ensures rose { PairRose region.now pair.bench pair.member pair.keeper result.0 result.1 result.2 }
+{
+    let Pair {
+        mut bench,
+        member,
+        keeper,
+    } = pair;
+    bench.look(region);
+    let keeper = let_keeper_leave(region, &mut bench, keeper);
+    let pass = bench.leave(region, member);
+    (bench, pass, keeper)
+}
+
+/// The thread sits down on a bench, and its keeper beside it, if it has one. It performs its operations of a phase, of which the keeper tries the guarded requests
+/// first, with the indexes that all threads share as its door, and both rise. So they make their steps at one seat, one after the other. It waits for the lock of an
+/// index where it makes a request for whole pages, or hands on what it noted, and nowhere else.
 pub(crate) fn perform<R: Wait, G: Gate, M: Remake>(
     rt: &R,
     region: &SharedRegion,
@@ -51,23 +97,39 @@ pub(crate) fn perform<R: Wait, G: Gate, M: Remake>(
     let Some(pass) = worker.pass.take() else {
         unreachable!();
     };
-    let mut desk = region.desk(pass);
+    let Pair {
+        bench,
+        member,
+        keeper,
+    } = sit_down(region, pass, worker.keeper.take());
+    let mut desk = region.bench_desk(bench, member);
     let mut door = SharedDoor::new(rt, indexes);
-    let mut keeper = Beside::sit(region, worker.keeper.take());
+    let mut beside = Beside { keeper };
     work(
         &mut desk,
         &mut door,
         book,
         &mut worker.cache,
         remaker,
-        &mut keeper,
+        &mut beside,
         &mut worker.requests,
         ops,
         gate,
         &mut worker.out,
     );
-    worker.keeper = keeper.rise();
-    worker.pass = Some(desk.into_pass());
+    let (bench, member) = desk.into_parts();
+    let Beside { keeper } = beside;
+    let (bench, pass, keeper) = rise(
+        region,
+        Pair {
+            bench,
+            member,
+            keeper,
+        },
+    );
+    worker.keeper = keeper;
+    worker.pass = Some(pass);
+    worker.bench = Some(bench);
 }
 
 /// The book takes the requests of all workers over, after a phase.
