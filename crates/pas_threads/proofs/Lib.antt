@@ -1,5 +1,6 @@
 mod Benched
 mod Beside
+mod Staging
 mod Sitting
 mod ByCrew
 mod Dealt
@@ -17,3 +18,7 @@ mod PhaseSums
 mod KeptPhases
 mod PassesOut
 mod End
+mod Hearing
+mod Closing
+mod Heard
+mod InHands

@@ -14,7 +14,7 @@ ghost use Rattle.pas_threads.specs.Settling.{SawMore};
 use crate::dealing::{deal, take_back};
 use crate::hands::{Hand, act_with};
 use crate::scavenger::Scavenger;
-use crate::settling::{hear, hear_all, settle};
+use crate::settling::{hear_all, hear_if, settle};
 use crate::turns::{gather, gather_kept, lower_all, stop_all, wake_all};
 use crate::workers::{Worker, take_all};
 use pas_acts::at_desk::SCAVENGER;
@@ -106,9 +106,8 @@ fn perform_and_hear<R: Threads + Wait + Sync, G: Gate + Sync, M: Remake + Sync>(
 {
     let mut team = perform_all(rt, region, indexes, team, awake, ops, gate, remaker);
     hear_all(region, ledger, &mut team.threads, awake);
-    if awake.get(SCAVENGER) {
-        hear(region, ledger, &mut team.scavenger.bench);
-    }
+    let busy = awake.get(SCAVENGER);
+    hear_if(region, ledger, &mut team.scavenger.bench, busy);
     team
 }
 
@@ -150,7 +149,7 @@ fn perform_phase<R: Threads + Wait + Sync, G: Gate + Sync, M: Remake + Sync>(
 /// The close: each thread is stopped, and then each keeper lowers its guards, and the ledger is settled after each of these; what they said is gathered.
 fn finish(region: &SharedRegion, ledger: &mut Ledger, team: Team, out: &mut Records) -> Team
     requires ledger { IsLedgerOf region.now ledger.old }
-    requires may { (s : Session) × (p : Progress) × TeamAt region.now s [] team p × AreMarked s p.records (records_in out.old) × HasRoom s [] 0 team.threads.items out.old p }
+    requires may { (s : Session) × (p : Progress) × TeamAt region.now s [] team p × AreMarked s p.records (records_in out.old) × HasRoom s [] 0 team.threads.items out.old p × StandSo s (so_far ledger.old) p.list }
     ensures ledger { IsLedgerOf region.now ledger.new }
     ensures done { (s : Session) (p : Progress) → TeamAt region.now s [] team p → AreMarked s p.records (records_in out.old) → HasRoom s [] 0 team.threads.items out.old p → StandSo s (so_far ledger.old) p.list
         → CloseDone region.now s result (records_in out.new) (so_far ledger.old) (so_far ledger.new) p }

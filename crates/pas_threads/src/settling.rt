@@ -98,6 +98,24 @@ pub(crate) fn hear(region: &SharedRegion, ledger: &mut Ledger, left: &mut Option
     ledger.hear(region, bench);
 }
 
+/// .. if there is one.
+pub(crate) fn hear_if(
+    region: &SharedRegion,
+    ledger: &mut Ledger,
+    left: &mut Option<Bench>,
+    busy: bool,
+)
+    requires of { IsLedgerOf region.now ledger.old }
+    requires bench { busy ≡ true → HasBench region.now left.old }
+    ensures of { IsLedgerOf region.now ledger.new }
+    ensures saw { SawMore ledger.old ledger.new }
+    ensures heard { busy ≡ true → HasHeard ledger.new left.old }
+{
+    if busy {
+        hear(region, ledger, left);
+    }
+}
+
 /// .. what the benches saw of the workers of the mask. One load for each.
 pub(crate) fn hear_all(
     region: &SharedRegion,

@@ -73,7 +73,7 @@ pub(crate) fn stop_all(
     threads: &mut [Worker],
 )
     requires of { IsLedgerOf region.now ledger.old }
-    requires rest { (s : Session) × (later : ℕ → ℕ) × (p : Progress) × AreResting region.now s.profile threads.old later p × ActorsStand region.now s scavenger.old.pass threads.old p.list }
+    requires rest { (s : Session) × (later : ℕ → ℕ) × (p : Progress) × AreResting region.now s.profile threads.old later p × ActorsStand region.now s scavenger.old.pass threads.old p.list × StandSo s (so_far ledger.old) p.list }
     ensures of { IsLedgerOf region.now ledger.new }
     ensures scavenger { scavenger.new ≡ scavenger.old }
     ensures stopped { (s : Session) (later : ℕ → ℕ) (p : Progress) → AreResting region.now s.profile threads.old later p → ActorsStand region.now s scavenger.old.pass threads.old p.list → StandSo s (so_far ledger.old) p.list
@@ -112,7 +112,7 @@ pub(crate) fn lower_all(
     threads: &mut [Worker],
 )
     requires of { IsLedgerOf region.now ledger.old }
-    requires may { (s : Session) × (p : Progress) × MayLower region.now s.profile s.threads s.keepers threads.old p × ActorsStand region.now s scavenger.old.pass threads.old p.list }
+    requires may { (s : Session) × (p : Progress) × MayLower region.now s.profile s.threads s.keepers threads.old p × ActorsStand region.now s scavenger.old.pass threads.old p.list × StandSo s (so_far ledger.old) p.list }
     ensures of { IsLedgerOf region.now ledger.new }
     ensures scavenger { scavenger.new ≡ scavenger.old }
     ensures lowered { (s : Session) (p : Progress) → MayLower region.now s.profile s.threads s.keepers threads.old p → ActorsStand region.now s scavenger.old.pass threads.old p.list → StandSo s (so_far ledger.old) p.list
