@@ -10,20 +10,12 @@ use Rattle.pas_trace.specs.Acts.{Act}
 use Rattle.pas_shared.specs.Ruled.{IsEarlier}
 use Rattle.pas_answers.specs.{Answers.Progress, Reaching.Reaches}
 use Rattle.pas_answers.specs.Stages.{Owners, itself, in_hands, AreSorted, Stage, stage, one_by_one, StageDone, GoByStages}
-use Rattle.pas_answers.proofs.Staged.{goes_on, both_by_stages}
+use Rattle.pas_answers.proofs.{Parts.part_both, Reached.goes_on, Staged.both_by_stages}
 use Rattle.pas_threads.specs.Left.{KeepsOrder}
 use Rattle.pas_threads.specs.Sessions.{Session, IsOfActors, StandSo, WentBy}
 use Rattle.pas_threads.proofs.InPhases.{earlier_both, none_first}
 
 -- ---- parts of lists one behind the other
-part_both : (k : ℕ) (l m : Whole) → part k (l ++ m) ≡ part k l ++ part k m
-part_both k [] m = refl
-part_both k (t ∷ l) m = at (part_both k l m) (t.actor == k) refl
-  where
-    at : part k (l ++ m) ≡ part k l ++ part k m → (b : Bool) → (t.actor == k) ≡ b → part k (t ∷ (l ++ m)) ≡ part k (t ∷ l) ++ part k m
-    at again true e = ap (λ (b : Bool). if b then t.made ∷ part k (l ++ m) else part k (l ++ m)) e ∙ (ap (λ (v : View). t.made ∷ v) again ∙ sym (ap (λ (b : Bool). (if b then t.made ∷ part k l else part k l) ++ part k m) e))
-    at again false e = ap (λ (b : Bool). if b then t.made ∷ part k (l ++ m) else part k (l ++ m)) e ∙ (again ∙ sym (ap (λ (b : Bool). (if b then t.made ∷ part k l else part k l) ++ part k m) e))
-
 -- fronts are the same where lists are, and what is behind them is as long
 cut_views : (a b c d : View) → a ++ b ≡ c ++ d → length b ≡ length d → a ≡ c
 cut_views [] b [] d e many = refl
