@@ -1,6 +1,7 @@
 mod Benched
 mod Beside
 mod Sitting
+mod CrewSits
 mod ByCrew
 mod Dealt
 mod TakingTurns
