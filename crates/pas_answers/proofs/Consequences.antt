@@ -19,9 +19,9 @@ use Rattle.pas_passes.specs.Records.{records_of_pass}
 use Rattle.pas_trace.specs.Acts.{Act, Operates, Guards, Settles, Ticks, MakesPass, ReadsEpoch, StopsIdle, MarksPhase, Wakes, MarksClose, Ends, Lowers}
 use Rattle.pas_answers.specs.Answers.{Progress, having, records_of, said_by, stopped, epoch_look, IsStopped, after_stop}
 use Rattle.pas_trace.specs.Asked.{request_in}
-use Rattle.pas_answers.specs.{Guarding.after_trying, Phases.AreInPhases, Indexes.GoByIndexes, Refusals.AreRefusalsTrue, Fit.AreOfThreads, Rests.RestBetween}
+use Rattle.pas_answers.specs.{Guarding.after_trying, Phases.AreInPhases, Stages.GoByStages, Indexes.GoByIndexes, Refusals.AreRefusalsTrue, Fit.AreOfThreads, Rests.RestBetween}
 use Rattle.pas_answers.specs.Reaching.{AnswersOp, AnswersTried, AnswersGuarded, Advances, Reaches}
-use Rattle.pas_answers.specs.Replays.{at_start, acts_of_plan, threads_of, keepers_of, phases_of, IsReplay, region_of}
+use Rattle.pas_answers.specs.Replays.{at_start, acts_of_plan, threads_of, keepers_of, phases_of, stages_of_plan, IsReplay, region_of}
 use Rattle.pas_answers.specs.Ways.{Way, InOrder, OnThreads, IsOneOrder, arranged}
 use Rattle.pas_answers.proofs.{Reached.was_so, Reached.tried_on, Reached.pieces_back, OwnCalls.calls_alone, Requests.known_directory}
 use Rattle.pas_answers.proofs.Keepers.{sweep_tidy, swept_shown, try_tidy, try_shown}
@@ -178,14 +178,16 @@ resting InOrder threads f acts p p' is go = go.1
 resting OnThreads threads f acts p p' is go = tt
 
 pub replays : (way : Way) (plan : Plan) (reached : Progress) (whole : Whole) (records : List Record) → IsValid (region_of plan) → (answers : Reaches (region_of plan) (acts_of_plan plan) at_start reached)
-    → IsOneOrder way reached.list whole → AreInPhases (region_of plan) (acts_of_plan plan) at_start reached answers whole → records ≡ arranged way (region_of plan).threads reached.records → Legal (region_of plan) whole → ((k : ℕ) → HasNothing (part k whole))
+    → IsOneOrder way reached.list whole → AreInPhases (region_of plan) (acts_of_plan plan) at_start reached answers whole → GoByStages (region_of plan) (stages_of_plan plan) at_start reached [] whole
+    → records ≡ arranged way (region_of plan).threads reached.records → Legal (region_of plan) whole → ((k : ℕ) → HasNothing (part k whole))
     → AreRefusalsTrue way (region_of plan) (acts_of_plan plan) at_start reached answers → GoInOrder way (threads_of plan) (region_of plan) (acts_of_plan plan) at_start reached answers
     → AreOfThreads (threads_of plan) (acts_of_plan plan) → IsReplay way plan whole records
-replays way plan reached whole records valid answers one_order phases records_are legal nothing refusals go of = record {
+replays way plan reached whole records valid answers one_order phases stages records_are legal nothing refusals go of = record {
   reached = reached;
   answers = answers;
   one_order = one_order;
   phases = phases;
+  stages = stages;
   records_are = records_are;
   legal = legal;
   nothing = nothing;

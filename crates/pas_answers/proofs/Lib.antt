@@ -7,6 +7,8 @@ mod Records
 pub mod OwnRecords
 pub mod KnownNames
 pub mod Reached
+pub mod Staged
+pub mod OneHand
 pub mod Parts
 mod Shown
 pub mod Tidy

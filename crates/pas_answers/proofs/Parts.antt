@@ -1,5 +1,5 @@
 -- Each actor's part of a list: its steps are of the region, and it is that of the pieces in the order of the acts.
-use Rattle.std.proofs.Common.{◌≡◌, ℕ, ◌==◌, Bool, true, false, if◌then◌else◌, List, [], ◌∷◌, ◌++◌, ap}
+use Rattle.std.proofs.Common.{◌≡◌, ℕ, ◌==◌, Bool, true, false, if◌then◌else◌, List, [], ◌∷◌, ◌++◌, ap, ◌∙◌, refl}
 use Rattle.pas_profile.specs.declared.profile.Profile.{Profile}
 use Rattle.pas_steps.specs.{Views.View, Allowed.IsStepOf, Lists.Whole, Lists.part, Lists.Legal, Desks.triples}
 use Rattle.pas_steps.specs.declared.step.Made.{Made}
@@ -9,6 +9,15 @@ use Rattle.pas_answers.specs.Ways.{Way, InOrder, OnThreads, IsOneOrder}
 pub same_parts : (way : Way) (told whole : Whole) → IsOneOrder way told whole → (k : ℕ) → part k whole ≡ part k told
 same_parts InOrder told whole same k = ap (λ (l : Whole). part k l) same
 same_parts OnThreads told whole same k = same k
+
+-- that of lists one behind the other
+pub part_both : (k : ℕ) (l m : Whole) → part k (l ++ m) ≡ part k l ++ part k m
+part_both k [] m = refl
+part_both k (t ∷ l) m = ap (λ (v : View). if t.actor == k then t.made ∷ v else v) (part_both k l m) ∙ behind (t.actor == k)
+  where
+    behind : (b : Bool) → (if b then t.made ∷ (part k l ++ part k m) else part k l ++ part k m) ≡ (if b then t.made ∷ part k l else part k l) ++ part k m
+    behind true = refl
+    behind false = refl
 
 -- it is so of each part
 abbrev pub Each : (View → Type 0) → Whole → Type 0

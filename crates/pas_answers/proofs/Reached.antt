@@ -87,6 +87,10 @@ Begins whole l = (since : Whole) × (whole ≡ since ++ l)
 begun_before : (whole : Whole) (k : ℕ) (steps : List Made) (l : Whole) → Begins whole (triples k steps ++ l) → Begins whole l
 begun_before whole k steps l begun = (begun.0 ++ triples k steps, begun.1 ∙ sym (append_assoc begun.0 (triples k steps) l))
 
+-- acts put their steps in front
+pub goes_on : (f : Profile) (acts : List Act) (p q : Progress) → Reaches f acts p q → (made : Whole) × (q.list ≡ made ++ p.list)
+goes_on f acts p q is = was_so f (Begins q.list) (begun_before q.list) acts p q is ([], refl)
+
 at_mark : (act : Act) (So : Type 0) → So → AtMark act So
 at_mark (MarksPhase n) So so = so
 at_mark MarksClose So so = so

@@ -30,7 +30,7 @@ use Rattle.pas_shared.specs.declared.rule.Roster.TheVariants.{Unused, Listed, Se
 use Rattle.pas_shared.specs.Ruled.{HasPart, Names, alone, first_alone, all_but_first, joined, AreNamed, AreAfterOneList, Holds, changed, IsAskedOf, IsAdded}
 use Rattle.pas_shared.specs.Ruled.{Makes, IsAddedIfKept, parts_in, looks_in, first_look, steps_of, seen_in, SawNothing, IsEarlier, AreEarlier, AreApart}
 use Rattle.pas_shared.specs.Ruled.{AllKnow, SeesAll, among, made_in, SitsIn, HasRow, entries_by, rows_of, rows_in, IsNoBench, IsRowOf, AreRowsOf, SitsFor}
-use Rattle.pas_shared.specs.Ruled.{row_with, with_made}
+use Rattle.pas_shared.specs.Ruled.{row_with, with_made, bases_in}
 use Rattle.std.specs.List.{All}
 use Rattle.pas_shared.specs.Passes.{view_of, seat_of, IsNamed, AreWordsOf}
 
@@ -447,23 +447,28 @@ apart_joined (Unused n) (Listed qs) one other never = other
 apart_joined (Unused n) (Unused m) one other never = other
 apart_joined (Unused n) (Settled es qs) one other never = other
 
-seen_joined : (u w : Roster) (l : Whole) → SawOf l u → SawOf l w → SawOf l (joined u w)
-seen_joined (Listed ps) (Listed qs) l one other = one
-seen_joined (Listed ps) (Unused n) l one other = one
-seen_joined (Listed ps) (Settled es qs) l one other = one
-seen_joined (Settled es ps) (Listed qs) l one other = one
-seen_joined (Settled es ps) (Unused n) l one other = one
-seen_joined (Settled es ps) (Settled ds qs) l one other = seen_both es ds l one other
-seen_joined (Listed ps) (Benched qs) l one other = one
-seen_joined (Settled es ps) (Benched qs) l one other = one
-seen_joined (Benched rs) (Listed ps) l one other = one
-seen_joined (Benched rs) (Benched qs) l one other = one
-seen_joined (Benched rs) (Unused n) l one other = one
-seen_joined (Benched rs) (Settled es ps) l one other = one
-seen_joined (Unused n) (Benched qs) l one other = other
-seen_joined (Unused n) (Listed qs) l one other = other
-seen_joined (Unused n) (Unused m) l one other = other
-seen_joined (Unused n) (Settled es qs) l one other = other
+-- the list goes on from each row's base
+bases_earlier : (rs : List Row) (l : Whole) → AreRowsOf rs l → AreEarlier (bases_in rs) l
+bases_earlier [] l rows = tt
+bases_earlier (r ∷ rs) l rows = ((rows.0.since, rows.0.goes_on), bases_earlier rs l rows.1)
+
+seen_joined : (u w : Roster) (l : Whole) → SawOf l u → SawOf l w → RowsOf l w → SawOf l (joined u w)
+seen_joined (Listed ps) (Listed qs) l one other rows = one
+seen_joined (Listed ps) (Unused n) l one other rows = one
+seen_joined (Listed ps) (Settled es qs) l one other rows = one
+seen_joined (Settled es ps) (Listed qs) l one other rows = one
+seen_joined (Settled es ps) (Unused n) l one other rows = one
+seen_joined (Settled es ps) (Settled ds qs) l one other rows = seen_both es ds l one other
+seen_joined (Listed ps) (Benched qs) l one other rows = one
+seen_joined (Settled es ps) (Benched qs) l one other rows = seen_both es (bases_in qs) l one (bases_earlier qs l rows)
+seen_joined (Benched rs) (Listed ps) l one other rows = one
+seen_joined (Benched rs) (Benched qs) l one other rows = one
+seen_joined (Benched rs) (Unused n) l one other rows = one
+seen_joined (Benched rs) (Settled es ps) l one other rows = one
+seen_joined (Unused n) (Benched qs) l one other rows = other
+seen_joined (Unused n) (Listed qs) l one other rows = other
+seen_joined (Unused n) (Unused m) l one other rows = other
+seen_joined (Unused n) (Settled es qs) l one other rows = other
 
 rows_both : (qs rs : List Row) (l : Whole) → AreRowsOf qs l → AreRowsOf rs l → AreRowsOf (qs ++ rs) l
 rows_both [] rs l one other = other
@@ -514,7 +519,7 @@ joins f id u other w s h here apart there = record {
   seat_number = seat_number;
   named = all_named;
   apart = know_set Apart (set s.views id (joined u w)) other (Listed []) (know_set Apart s.views id (joined u w) h.apart (apart_joined u w (h.apart id u here) (h.apart other w theirs) at_one)) tt;
-  seen = know_set (SawOf h.whole) (set s.views id (joined u w)) other (Listed []) (know_set (SawOf h.whole) s.views id (joined u w) h.seen (seen_joined u w h.whole (h.seen id u here) (h.seen other w theirs))) (nothing_seen h.whole);
+  seen = know_set (SawOf h.whole) (set s.views id (joined u w)) other (Listed []) (know_set (SawOf h.whole) s.views id (joined u w) h.seen (seen_joined u w h.whole (h.seen id u here) (h.seen other w theirs) (h.rows other w theirs))) (nothing_seen h.whole);
   rows = know_set (RowsOf h.whole) (set s.views id (joined u w)) other (Listed []) (know_set (RowsOf h.whole) s.views id (joined u w) h.rows (rows_joined u w h.whole (h.rows id u here) (h.rows other w theirs) own_part)) tt;
 }
   where

@@ -74,7 +74,13 @@ abbrev pub rows_of : List Part → List Row
 rows_of [] = []
 rows_of (p ∷ ps) = record { actors = p.actor ∷ []; made = entries_by p.actor p.made; base = [] } ∷ rows_of ps
 
--- The actors of both, where both are lists, or the first is a bench. Of those whom nobody joins one side is enough. What ledgers' seats saw stays
+-- the steps so far at the last look of each row's bench
+abbrev pub bases_in : List Row → List (List Entry)
+bases_in [] = []
+bases_in (r ∷ rs) = r.base ∷ bases_in rs
+
+-- The actors of both, where both are lists, or the first is a bench. Of those whom nobody joins one side is enough. What ledgers' seats saw stays, and a ledger's seat
+-- that a bench joins saw what the bench did
 abbrev pub joined : Roster → Roster → Roster
 joined (Listed ps) (Listed qs) = Listed (qs ++ ps)
 joined (Listed ps) (Unused n) = Listed ps
@@ -83,7 +89,7 @@ joined (Settled es ps) (Listed qs) = Settled es (qs ++ ps)
 joined (Settled es ps) (Unused n) = Settled es ps
 joined (Settled es ps) (Settled ds qs) = Settled (es ++ ds) (qs ++ ps)
 joined (Listed ps) (Benched qs) = Listed ps
-joined (Settled es ps) (Benched qs) = Settled es ps
+joined (Settled es ps) (Benched qs) = Settled (es ++ bases_in qs) ps
 joined (Benched rs) (Listed ps) = Benched (rows_of ps ++ rs)
 joined (Benched rs) (Benched qs) = Benched (qs ++ rs)
 joined (Benched rs) (Unused n) = Benched rs

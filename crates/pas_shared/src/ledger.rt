@@ -4,6 +4,7 @@ ghost use Rattle.std.specs.Prelude.{◌≡◌, []};
 ghost use Rattle.pas_shared.specs.Ruled.{looks_in, parts_in};
 ghost use Rattle.pas_shared.specs.declared.rule.Roster.TheVariants.{Settled};
 
+use crate::bench::Bench;
 use crate::pass::{ActorSeat, SharedPass};
 use crate::region::SharedRegion;
 use crate::rule::{Arrives, JoinsBoth, Looks, SplitsAll, SplitsLast, TableSeat};
@@ -27,8 +28,8 @@ pub struct Rest {
 }
 
 impl Ledger {
-    ghost use Rattle.std.specs.Prelude.{List, ◌∷◌};
-    ghost use Rattle.pas_shared.specs.{Ruled.HasAllOf, Ruled.IsEarlier, Ruled.AreEarlier, Passes.IsPassOf};
+    ghost use Rattle.std.specs.Prelude.{List, ◌∷◌, ◌++◌};
+    ghost use Rattle.pas_shared.specs.{Ruled.bases_in, Benches.rows_on, Benches.IsBenchOf, Ruled.HasAllOf, Ruled.IsEarlier, Ruled.AreEarlier, Passes.IsPassOf};
     ghost use Rattle.pas_shared.specs.Ledgers.{so_far, looks_of, actors_in, part_of, IsLedgerOf, IsSameLedger, IsRestOf};
     ghost use Rattle.pas_shared.specs.declared.{rule.Part.Part, pass.SharedPass.SharedPass as ThePass};
 
@@ -80,6 +81,22 @@ impl Ledger {
         ensures all { HasAllOf (actors_in self.old) (so_far self.new) }
     {
         region.table.shared.load::<Looks>(&mut self.seat, 0);
+    }
+
+    /// Takes over what a bench saw on which nobody sits: the steps so far at its last look are among those of the next look here. What its actors did since is lost, so
+    /// it is for a bench that looked after their last step. One load.
+    pub fn hear(&mut self, region: &SharedRegion, bench: Bench)
+        requires of { IsLedgerOf region.now self.old }
+        requires bench { IsBenchOf region.now bench }
+        ensures of { IsLedgerOf region.now self.new }
+        ensures actors { actors_in self.new ≡ actors_in self.old }
+        ensures heard { looks_of self.new ≡ looks_of self.old ++ bases_in (rows_on bench) }
+    {
+        let Bench { seat } = bench;
+        region
+            .table
+            .shared
+            .join_seat::<JoinsBoth>(&mut self.seat, seat);
     }
 
     /// Gives the actor that was taken in last its pass back, as it was. Two loads.

@@ -1,20 +1,21 @@
 -- Actors on a bench: they sit down with their passes, stand still while another one acts, and leave.
 use Rattle.std.proofs.Common.{◌≡◌, ◌≢◌, ◌==◌, ℕ, Bool, true, false, if◌then◌else◌, inl, inr, List, [], ◌∷◌, ◌++◌, length, refl, ap, sym, ◌∙◌, subst, append-nil, eq-eqb, ne_eqb}
 use Rattle.std.proofs.Common.{true≢false, ◌+◌, ◌≤◌}
-use Rattle.pas_steps.specs.{Desks.Seat, Desks.Standing, Desks.triple, Desks.triples, Events.events_of, Lists.Whole, Lists.part, Views.View}
+use Rattle.pas_steps.specs.{Agreement.Agreed, Calls.Calls, Calls.Leads, Desks.Seat, Desks.Standing, Desks.triple, Desks.triples, Events.events_of, Lists.Whole, Lists.part, Views.View}
+use Rattle.pas_steps.specs.declared.step.Made.{Made}
 use Rattle.pas_steps.proofs.Parts.{part_of_own}
 use Rattle.pas_profile.specs.declared.profile.Profile.{Profile}
 use Rattle.pas_region.specs.Noted.{AreNotesOf, room_of_notes}
 use Rattle.pas_region.specs.declared.notes.Notes.{Notes}
 use Rattle.pas_core.proofs.Choosing.{part_of_chosen}
 use Rattle.pas_shared.specs.Ruled.{among, made_in, SitsIn, HasRow, entries_by, rows_of, rows_of_only, isnt, only_this, all_actors, steps_of, IsRowOf, AreRowsOf}
-use Rattle.pas_shared.specs.Benches.{rows_on, first_row, row_on, made_by, seat_of_member, home_of, IsBenchOf, IsMemberOf, IsFreshRow, HasLooked, SitsInRow, MaySitOn, StandsOver}
+use Rattle.pas_shared.specs.Benches.{rows_on, first_row, row_on, made_by, seat_of_member, IsBenchOf, IsMemberOf, IsFreshRow, HasLooked, SitsInRow, MaySitOn, StandsOver}
 use Rattle.pas_shared.specs.{Ledgers.part_of, Passes.seat_of, Passes.view_of, Passes.IsPassOf}
-use Rattle.pas_shared.specs.declared.{bench.Bench.Bench, bench.Member.Member, bench_desk.BenchHome.BenchHome, pass.SharedPass.SharedPass, region.SharedRegion.SharedRegion}
+use Rattle.pas_shared.specs.declared.{bench.Bench.Bench, bench.Member.Member, pass.SharedPass.SharedPass, region.SharedRegion.SharedRegion}
 use Rattle.pas_shared.specs.declared.{rule.Entry.Entry, rule.Row.Row}
-use Rattle.pas_shared.proofs.{Benching.among_picked, Benching.row_since, Benching.row_tells, Pasts.part_both}
-use Rattle.pas_acts.specs.{Keepers.StandsStill, Works.Sits}
-use Rattle.pas_threads.specs.Left.{IsSeated, KeepsOrder, standing_beside}
+use Rattle.pas_shared.proofs.{Benching.among_picked, Benching.row_since, Pasts.part_both}
+use Rattle.pas_acts.specs.Works.{Sits}
+use Rattle.pas_threads.specs.Left.{IsSeated, KeepsOrder}
 
 -- ---- what rows say of a list
 -- of each of its actors the list has what the row says
@@ -62,7 +63,7 @@ has_seat pass rs =
     let v = view_of pass in
     inl (ap (λ (b : Bool). if b then true else false) (eq-eqb k k refl), ap (λ (l : Whole). part k (l ++ [])) (entries_are k v) ∙ (part_of_own k v [] ∙ append-nil v))
 
-member_seat : {pass : SharedPass} {member : Member} → IsMemberOf pass member → seat_of_member member ≡ seat_of pass
+pub member_seat : {pass : SharedPass} {member : Member} → IsMemberOf pass member → seat_of_member member ≡ seat_of pass
 member_seat m = λ i. record { actor = m.actor i; profile = m.profile i; room = room_of_notes (m.notes i) }
 
 -- .. and in one row with the others, once the bench looked
@@ -97,27 +98,16 @@ sits_as {k = k} {l = l} {need} seat to s = record {
   room = subst (λ (t : Seat). length (events_of k (part k l)) + need ≤ t.room) (sym seat) s.room;
 }
 
--- ---- it stands still
--- while another one of its bench acts, whose desk stands beside the list that comes of it
-pub stays_beside : (region now : SharedRegion) (b c : Bench) (member : Member) (l m : Whole) → home_of now (row_on c) ≡ home_of region (row_on b) → IsBenchOf now c → rows_on c ≡ row_on c ∷ [] → StandsOver (row_on c) m
-    → StandsStill (standing_beside region b member) (standing_beside now c member) l m
-stays_beside region now b c member l m home of one over = record {
-  seat_is = refl;
-  stands = λ stood same.
-      let k = member.actor in
-      let may = stood.0 in
-      let its : among (row_on c).actors k ≡ true = ap (λ (h : BenchHome). among h.row.actors k) home ∙ may.sits.among_them in
-      let told : made_in (row_on c) k ≡ part k m = sym (row_tells (row_on c) m k over its) in
-      (
-        record {
-          of = of;
-          profile = may.profile ∙ sym (ap (λ (h : BenchHome). h.region.profile) home);
-          one = one;
-          sits = record { among_them = its; noted = subst (λ (v : View). AreNotesOf k v member.notes) (sym (told ∙ (same ∙ sym stood.1))) may.sits.noted };
-        },
-        told,
-        over,
-      );
+-- .. and what was done there is so of it
+pub calls_as : {σ σ' τ τ' : Standing} {Before : View → Type 0} {Change : View → View → Type 0} {steps : List Made} → τ.seat ≡ σ.seat → τ'.seat ≡ σ'.seat → ((v : View) (l : Whole) → τ.stands v l → σ.stands v l)
+    → ((v : View) (l : Whole) → σ'.stands v l → τ'.stands v l) → Calls σ σ' Before Change steps → Calls τ τ' Before Change steps
+calls_as {σ} {σ'} {τ} {τ'} {Before} {Change} {steps} one two from to calls = record {
+  adds = record {
+    seat_is = two ∙ (calls.adds.seat_is ∙ sym one);
+    added = λ v l stood met. subst (λ (s : Seat). τ'.stands (steps ++ v) (triples s.actor steps ++ l)) (sym one) (to (steps ++ v) (triples σ.seat.actor steps ++ l) (calls.adds.added v l (from v l stood) met));
+    agreed = λ v l stood met. subst (λ (s : Seat). Agreed s.profile v steps) (sym one) (calls.adds.agreed v l (from v l stood) met);
+  };
+  leads = subst (λ (s : Seat). Leads s.profile Before Change steps) (sym one) calls.leads;
 }
 
 -- ---- the last look

@@ -1,5 +1,6 @@
 mod Benched
 mod Beside
+mod Pairs
 mod Sitting
 mod CrewSits
 mod ByCrew

@@ -2,6 +2,7 @@ pub mod Taken
 pub mod Hands
 pub mod Left
 pub mod Seats
+pub mod Still
 pub mod Lent
 pub mod Crews
 pub mod Scavengers

@@ -84,7 +84,7 @@ pub(crate) fn let_keeper_leave(
 
 impl<'a> Tries<BenchDesk<'a>> for Beside {
     ghost use Rattle.pas_threads.specs.Pairs.{kept_beside};
-    ghost use Rattle.pas_threads.proofs.Beside.{beside_still};
+    ghost use Rattle.pas_threads.specs.Still.{beside_still};
 
     type Home = ();
 

@@ -1,0 +1,185 @@
+-- Both actors of a worker sit down on one bench with their passes, work there, and rise.
+use Rattle.std.proofs.Common.{◌≡◌, ◌≢◌, ◌==◌, ℕ, ◌+◌, Bool, true, false, if◌then◌else◌, List, [], ◌∷◌, ◌++◌, Option, Some, None, refl, ap, sym, ◌∙◌, subst, eq-eqb, ne_eqb, eqb-true}
+use Rattle.std.proofs.Common.{true≢false, inr, append-nil}
+use Rattle.std.proofs.lemmas.Bool.{cases_eq}
+use Rattle.pas_profile.specs.declared.profile.Profile.{Profile}
+use Rattle.pas_steps.specs.{Desks.Standing, Lists.Whole, Lists.part}
+use Rattle.pas_report.specs.Rooms.{Records}
+use Rattle.pas_guard.specs.declared.book.GuardBook.{GuardBook}
+use Rattle.pas_trace.specs.Acts.{Act}
+use Rattle.pas_answers.specs.Answers.{Progress}
+use Rattle.pas_acts.specs.Keepers.{Keeping, OneKeeper, keeper_has, LaterKept, KeeperAt}
+use Rattle.pas_acts.specs.{Pairs.for_guards, Pairs.KeeperWaits, Pairs.PairAt, Pairs.PairWorks, Works.Later, Works.Keeps, Works.ThreadAt}
+use Rattle.pas_shared.specs.Ruled.{among, made_in, HasRow, rows_of, rows_of_only, only, isnt, only_this, all_actors, steps_of, AreRowsOf}
+use Rattle.pas_shared.specs.Benches.{rows_on, first_row, row_on, empty_row, made_by, standing_on, IsBenchOf, IsFreshRow, HasLooked, SitsInRow, MaySitOn, StandsOver}
+use Rattle.pas_shared.specs.{Ledgers.part_of, Passes.seat_of, Passes.view_of, Passes.IsPassOf}
+use Rattle.pas_shared.specs.declared.{bench.Bench.Bench, bench.Member.Member, pass.SharedPass.SharedPass, region.SharedRegion.SharedRegion, rule.Entry.Entry, rule.Row.Row}
+use Rattle.pas_shared.proofs.Benching.{stands_first}
+use Rattle.pas_threads.specs.{Hands.standing_of_pass, Left.IsSeated, Left.standing_beside}
+use Rattle.pas_threads.specs.Pairs.{IsKeeperOf, kept_by_worker, kept_seated}
+use Rattle.pas_threads.specs.Seats.{keeper_parts, rows_without_keeper, seated_actors, IsSameKeeper, SitsBeside, KeeperMayLeave, IsPassOfMember, HasRisen, PairSits, PairRose, IsAnother, KeeperSits}
+use Rattle.pas_threads.specs.declared.keeper.{Keeper.Keeper, Seated.Seated}
+use Rattle.pas_threads.proofs.Benched.{has_seat, member_seat, sat, sits_as, looked_made, looked_fresh, still_sits, left_fresh, left_made, left_sits}
+
+-- ---- both sit down
+seated_beside : (region : SharedRegion) (keeper : Option Keeper) (seated : Option Seated) (b now : Bench) (r : Row) (rs : List Row) → IsSameKeeper keeper seated → IsKeeperOf region keeper → rows_on b ≡ r ∷ (rows_of (keeper_parts keeper) ++ rs)
+    → IsBenchOf region now → HasLooked (rows_on b) (rows_on now) → SitsBeside region now keeper seated
+seated_beside region None None b now r rs same of rows bench looked = tt
+seated_beside region None (Some seated) b now r rs same of rows bench looked = same
+seated_beside region (Some keeper) None b now r rs same of rows bench looked = same
+seated_beside region (Some keeper) (Some seated) b now r rs same of rows bench looked =
+    (sat b now keeper.pass seated.member of same.0 bench looked (subst (λ (qs : List Row). HasRow qs keeper.pass.place.actor (view_of keeper.pass)) (sym rows) (inr (has_seat keeper.pass rs))), same.1, same.2)
+
+kept_actors : (keeper : Option Keeper) (seated : Option Seated) → IsSameKeeper keeper seated → all_actors (rows_of (keeper_parts keeper) ++ (empty_row ∷ [])) ≡ seated_actors seated
+kept_actors None None same = refl
+kept_actors None (Some seated) same = absurd same
+kept_actors (Some keeper) None same = absurd same
+kept_actors (Some keeper) (Some seated) same = ap (λ (a : ℕ). a ∷ []) (sym same.0.actor)
+
+pub pair_sat : {region : SharedRegion} (pass : SharedPass) (keeper : Option Keeper) (member : Member) (seated : Option Seated) (b now : Bench) → IsPassOf region pass → IsKeeperOf region keeper → IsSameKeeper keeper seated
+    → (rows_on b ≡ rows_of (part_of pass ∷ []) ++ (rows_of (keeper_parts keeper) ++ (empty_row ∷ []))) → IsSeated region now pass member → IsBenchOf region now → HasLooked (rows_on b) (rows_on now) → PairSits region pass keeper now member seated
+pair_sat {region} pass keeper member seated b now of kept same rows thread bench looked = record {
+  thread = thread;
+  beside = seated_beside region keeper seated b now (first_row (rows_of (part_of pass ∷ []))) (empty_row ∷ []) same kept rows bench looked;
+  fresh = ap (λ (rs : List Row). (first_row rs).made) looked.is;
+  actors = ap (λ (rs : List Row). (first_row rs).actors) looked.is ∙ (ap all_actors rows ∙ (ap (λ (ns : List ℕ). pass.place.actor ∷ ns) (kept_actors keeper seated same) ∙ ap (λ (a : ℕ). a ∷ seated_actors seated) (sym thread.is.actor)));
+}
+
+pub has_thread : (pass : SharedPass) (b : Bench) (rs : List Row) → rows_on b ≡ rows_of (part_of pass ∷ []) ++ rs → HasRow (rows_on b) pass.place.actor (view_of pass)
+has_thread pass b rs rows = subst (λ (qs : List Row). HasRow qs pass.place.actor (view_of pass)) (sym rows) (has_seat pass rs)
+
+-- ---- beside each list that tells of both what they made
+-- nobody made a step since they sit in one row
+base_part : (r : Row) (k : ℕ) → r.made ≡ [] → part k (steps_of r.base) ≡ made_in r k
+base_part r k none = sym (ap (λ es. part k (steps_of es ++ steps_of r.base)) none)
+
+of_either : (a j : ℕ) (seated : Option Seated) (P : ℕ → Type 0) → among (a ∷ seated_actors seated) j ≡ true → P a → ((s : Seated) → seated ≡ Some s → P s.member.actor) → P j
+of_either a j None P its one other = at (a == j) refl
+  where
+    at : (b : Bool) → (a == j) ≡ b → P j
+    at true e = subst P (eqb-true a j e) one
+    at false e = absurd (true≢false (sym its ∙ ap (λ (b : Bool). if b then true else false) e))
+of_either a j (Some s) P its one other = at (a == j) refl (s.member.actor == j) refl
+  where
+    at : (b : Bool) → (a == j) ≡ b → (c : Bool) → (s.member.actor == j) ≡ c → P j
+    at true e c d = subst P (eqb-true a j e) one
+    at false e true d = subst P (eqb-true s.member.actor j d) (other s refl)
+    at false e false d = absurd (true≢false (sym its ∙ (ap (λ (b : Bool). if b then true else among (s.member.actor ∷ []) j) e ∙ ap (λ (b : Bool). if b then true else false) d)))
+
+module _ {region : SharedRegion} {pass : SharedPass} {keeper : Option Keeper} {bench : Bench} {member : Member} {seated : Option Seated} (sits : PairSits region pass keeper bench member seated)
+    (f : Profile) (k j : ℕ) (acts : List Act) (has : Keeps) (later : Later) (more : LaterKept) (p : Progress) (thread : ThreadAt f k acts (standing_of_pass pass) has later p) (waits : KeeperWaits f j acts (kept_by_worker keeper) more p) where
+  own_part : part member.actor p.list ≡ part member.actor (steps_of (row_on bench).base)
+  own_part = ap (λ (a : ℕ). part a p.list) (sits.thread.is.actor ∙ thread.sits.actor) ∙ (sym thread.sits.stood ∙ (sym sits.thread.view ∙ sym (base_part (row_on bench) member.actor sits.fresh)))
+
+  kept_part : (o : Option Keeper) → SitsBeside region bench o seated → KeeperWaits f j acts (kept_by_worker o) more p → (s : Seated) → seated ≡ Some s → part s.member.actor p.list ≡ part s.member.actor (steps_of (row_on bench).base)
+  kept_part None beside wait s is = absurd (subst (λ (x : Option Seated). SitsBeside region bench None x) is beside)
+  kept_part (Some o) beside wait s is =
+      let there = subst (λ (x : Option Seated). SitsBeside region bench (Some o) x) is beside in
+      ap (λ (a : ℕ). part a p.list) (there.0.is.actor ∙ wait.1.sits.actor) ∙ (sym wait.1.sits.stood ∙ (sym there.0.view ∙ sym (base_part (row_on bench) s.member.actor sits.fresh)))
+
+  pub both_parts : (i : ℕ) → among (row_on bench).actors i ≡ true → part i p.list ≡ part i (steps_of (row_on bench).base)
+  both_parts i its = of_either member.actor i seated (λ n. part n p.list ≡ part n (steps_of (row_on bench).base)) (sym (ap (λ (ns : List ℕ). among ns i) sits.actors) ∙ its) own_part (kept_part keeper sits.beside waits)
+
+  pub stand_over : StandsOver (row_on bench) p.list
+  stand_over = stands_first (row_on bench) p.list sits.fresh both_parts
+
+  waits_beside : (o : Option Keeper) (s : Option Seated) → SitsBeside region bench o s → KeeperWaits f j acts (kept_by_worker o) more p → KeeperWaits f j acts (kept_seated region bench s) more p
+  waits_beside None None beside wait = wait
+  waits_beside None (Some s) beside wait = absurd beside
+  waits_beside (Some o) None beside wait = absurd beside
+  waits_beside (Some o) (Some s) beside wait = (
+    wait.0,
+    subst (λ (z : GuardBook × Records). KeeperAt f j (keeper_has (standing_beside region bench s.member) z.0 z.1) (for_guards acts more) p) (λ i. (sym beside.1 i, sym beside.2 i))
+    (record { sits = sits_as (member_seat beside.0.is) (λ stood. (beside.0.may, beside.0.view ∙ stood, stand_over)) wait.1.sits; book = wait.1.book; spare = wait.1.spare; places = wait.1.places }),
+  )
+
+  pub pair_at : k ≢ j → PairAt f k j acts (standing_on bench member) has (kept_seated region bench seated) later more p
+  pair_at apart = record {
+    thread = record {
+      sits = sits_as (member_seat sits.thread.is) (λ stood. (sits.thread.view ∙ stood, stand_over)) thread.sits;
+      cache = thread.cache;
+      spare = thread.spare;
+      names = thread.names;
+    };
+    apart = apart;
+    waits = waits_beside keeper seated sits.beside waits;
+  }
+
+-- ---- both rise
+keeper_may_leave : (region : SharedRegion) (b now : Bench) (seated : Option Seated) → KeeperSits region b seated → HasLooked (rows_on b) (rows_on now) → KeeperMayLeave region (first_row (rows_on now)) seated
+keeper_may_leave region b now None may looked = tt
+keeper_may_leave region b now (Some seated) may looked = (may.profile, still_sits b now seated.member may.one looked may.sits)
+
+fresh_without : (seated : Option Seated) {rs : List Row} → IsFreshRow rs → IsFreshRow (rows_without_keeper seated rs)
+fresh_without None fresh = fresh
+fresh_without (Some seated) fresh = left_fresh (isnt (only_this seated.member.actor)) fresh
+
+sits_without : (seated : Option Seated) {rs : List Row} (member : Member) → IsFreshRow rs → IsAnother member.actor seated → SitsInRow (first_row rs) member → SitsInRow (first_row (rows_without_keeper seated rs)) member
+sits_without None member fresh other sits = sits
+sits_without (Some seated) member fresh other sits = left_sits seated.member.actor member fresh (λ same. other (sym same)) sits
+
+made_without : (seated : Option Seated) {rs : List Row} (k : ℕ) → IsFreshRow rs → made_in (first_row (rows_without_keeper seated rs)) k ≡ made_in (first_row rs) k
+made_without None k fresh = refl
+made_without (Some seated) k fresh = left_made (isnt (only_this seated.member.actor)) k fresh
+
+-- what both have then is what the row said before the look
+risen_as : (region : SharedRegion) (r s : Row) (seated : Option Seated) (keeper : Option Keeper) → ((there : Seated) → seated ≡ Some there → made_in s there.member.actor ≡ made_in r there.member.actor) → HasRisen region s seated keeper → HasRisen region r seated keeper
+risen_as region r s None None same risen = tt
+risen_as region r s None (Some keeper) same risen = risen
+risen_as region r s (Some there) None same risen = risen
+risen_as region r s (Some there) (Some keeper) same risen = (record { of = risen.0.of; seat = risen.0.seat; view = risen.0.view ∙ same there refl }, risen.1, risen.2)
+
+-- nobody sits on the bench then
+goes : (k : ℕ) (ns : List ℕ) → only (isnt (only_this k)) (k ∷ ns) ≡ only (isnt (only_this k)) ns
+goes k ns = ap (λ (b : Bool). if (if b then false else true) then k ∷ only (isnt (only_this k)) ns else only (isnt (only_this k)) ns) (eq-eqb k k refl)
+
+stays : (k n : ℕ) (ns : List ℕ) → n ≢ k → only (isnt (only_this k)) (n ∷ ns) ≡ n ∷ only (isnt (only_this k)) ns
+stays k n ns other = ap (λ (b : Bool). if (if b then false else true) then n ∷ only (isnt (only_this k)) ns else only (isnt (only_this k)) ns) (ne_eqb n k other)
+
+abbrev row_with : List ℕ → List Entry → Row
+row_with ns base = record { actors = ns; made = []; base = base }
+
+nobody : (a : ℕ) (seated : Option Seated) (base : List Entry) → IsAnother a seated → rows_of_only (isnt (only_this a)) (rows_without_keeper seated (row_with (a ∷ seated_actors seated) base ∷ [])) ≡ row_with [] base ∷ []
+nobody a None base other = ap (λ (ns : List ℕ). row_with ns base ∷ []) (goes a [])
+nobody a (Some s) base other =
+    let k = s.member.actor in
+    ap (λ (ns : List ℕ). row_with (only (isnt (only_this a)) ns) base ∷ []) (stays k a (k ∷ []) (λ same. other (sym same)) ∙ ap (λ (ns : List ℕ). a ∷ ns) (goes k [])) ∙ ap (λ (ns : List ℕ). row_with ns base ∷ []) (goes a [])
+
+module _ (region : SharedRegion) (bench looked : Bench) (member : Member) (seated : Option Seated) (thread : MaySitOn region bench member) (kept : KeeperSits region bench seated) (apart : IsAnother member.actor seated)
+    (look : HasLooked (rows_on bench) (rows_on looked)) where
+  one_row : AreRowsOf (row_on bench ∷ []) (steps_of look.base)
+  one_row = subst (λ (rs : List Row). AreRowsOf rs (steps_of look.base)) thread.one look.rows
+
+  pub may_leave_first : KeeperMayLeave region (first_row (rows_on looked)) seated
+  may_leave_first = keeper_may_leave region bench looked seated kept look
+
+  pub fresh_then : {rs : List Row} → rs ≡ rows_without_keeper seated (rows_on looked) → IsFreshRow rs
+  fresh_then is = subst IsFreshRow (sym is) (fresh_without seated (looked_fresh look))
+
+  pub sits_then : {rs : List Row} → rs ≡ rows_without_keeper seated (rows_on looked) → SitsInRow (first_row rs) member
+  sits_then is = subst (λ (rs : List Row). SitsInRow (first_row rs) member) (sym is) (sits_without seated member (looked_fresh look) apart (still_sits bench looked member thread.one look thread.sits))
+
+  kept_made : (o : Option Seated) → KeeperSits region bench o → (there : Seated) → o ≡ Some there → made_in (first_row (rows_on looked)) there.member.actor ≡ made_in (row_on bench) there.member.actor
+  kept_made o sits there is =
+      let may : MaySitOn region bench there.member = subst (λ (x : Option Seated). KeeperSits region bench x) is sits in
+      (looked_made bench looked there.member.actor may.one look may.sits.among_them).1
+
+  pub pair_rose : (gone left : Bench) {keeper : Option Keeper} {pass : SharedPass} → (row_on bench).actors ≡ member.actor ∷ seated_actors seated → rows_on gone ≡ rows_without_keeper seated (rows_on looked)
+      → HasRisen region (first_row (rows_on looked)) seated keeper → IsPassOfMember region (first_row (rows_on gone)) member pass → IsBenchOf region left → rows_on left ≡ rows_of_only (isnt (only_this member.actor)) (rows_on gone)
+      → PairRose region bench member seated left pass keeper
+  pair_rose gone left actors gone_is risen own of left_is = record {
+    thread = record {
+      of = own.of;
+      seat = own.seat;
+      view = own.view ∙ (ap (λ (rs : List Row). made_in (first_row rs) member.actor) gone_is
+          ∙ (made_without seated member.actor (looked_fresh look) ∙ (looked_made bench looked member.actor thread.one look thread.sits.among_them).1));
+    };
+    beside = risen_as region (row_on bench) (first_row (rows_on looked)) seated _ (kept_made seated kept) risen;
+    of = of;
+    base = look.base;
+    rows = left_is ∙ (ap (rows_of_only (isnt (only_this member.actor))) (gone_is ∙ ap (rows_without_keeper seated) (look.is ∙ ap (λ (ns : List ℕ). row_with ns look.base ∷ []) all)) ∙ nobody member.actor seated look.base apart);
+    saw = one_row.0;
+  }
+    where
+      all : all_actors (rows_on bench) ≡ member.actor ∷ seated_actors seated
+      all = ap all_actors thread.one ∙ (append-nil (row_on bench).actors ∙ actors)
