@@ -19,13 +19,13 @@ use Rattle.pas_acts.proofs.{Alone.sits_still, AtDesk.sits_for}
 use Rattle.pas_threads.specs.Turns.{AreDistinct, Came, Pushed, Told, TookNoPart}
 use Rattle.pas_threads.specs.Lent.{Shift, number_in, standing_at, AreBeside, SitsLent, IsDeskAt, StopsLent, StoppedLent}
 use Rattle.pas_threads.specs.declared.workers.Worker.{Worker}
-use Rattle.pas_threads.proofs.TakingTurns.{by_scavenger, pushed_none, pushed_both, SoFar, at_first, goes_on, at_last, no_turn, no_part_both}
+use Rattle.pas_threads.proofs.TakingTurns.{by_scavenger, pushed_none, pushed_both, SoFar, at_first, goes_on, at_last, Stays, no_turn, no_part_both}
 use Rattle.pas_threads.proofs.TakingTurns.{came_none, came_both, told_none, told_both}
 use Rattle.pas_trace.specs.Asked.{work_of}
 use Rattle.pas_trace.specs.EveryPlan.{AreSound, IsActorBy, IsSoundWork, asked_after}
 use Rattle.pas_trace.specs.declared.plan.{Op.Op, Chore.Chore, Work.Work}
 use Rattle.pas_threads.specs.Hands.{and_left, ScavengerAt}
-use Rattle.pas_threads.specs.Crews.{Crew, crew, CrewSits, CrewActs}
+use Rattle.pas_threads.specs.Crews.{Crew, crew, CrewStands, CrewDoes, CrewSits, CrewActs}
 use Rattle.pas_threads.proofs.CrewSits.{lent_stays, acts_in_turn}
 
 -- ---- what is said of one thread's stop
@@ -85,16 +85,16 @@ stops_end {h} {s} {bench} {old} {now} {out} {out1} {p} n i size le ge so =
 pub room_for_act : {f : Profile} {act : Act} {next : List Act} {σ : Standing} {places : ℕ} {out : Records} {later : Later} {p : Progress} → unbacks_of_act f act ≤ cost_of_act f act → ScavengerAt f (act ∷ next) σ places out later p → HasRoomAt f σ out (for_act f act (and_left f next later)) p
 room_for_act less at = let spare = at.stands.spare in record { sits = sits_for at.stands.sits (omega (arith, less)); spare = omega (arith, spare) }
 
-module _ {h : BenchHome} {s : Shift} {act : Act} {next : List Act} {σ σ' : Standing} {places : ℕ} {out out' : Records} {lent : List Worker} {p : Progress}
-    (at : CrewSits h s (act ∷ next) (crew σ lent places out) p) (did : ScavengerActs s.profile act σ σ' out out' (and_left s.profile next s.own) p) where
+module _ {Lends : ℕ → Worker → Progress → Type 0} {s : Shift} {act : Act} {next : List Act} {σ σ' : Standing} {places : ℕ} {out out' : Records} {lent : List Worker} {p : Progress}
+    (stays : Stays (number_in s) Lends) (at : CrewStands Lends s (act ∷ next) (crew σ lent places out) p) (did : ScavengerActs s.profile act σ σ' out out' (and_left s.profile next s.own) p) where
   -- it leaves the lent threads where they are
-  pub still_lent : AreBeside (SitsLent h.region h.row.actors s) s lent did.reached
+  pub still_lent : AreBeside Lends s lent did.reached
   still_lent = record {
     many = at.lent.many;
     each = λ i d lt.
         let many = at.lent.many in
         let k = number_in s i in
-        lent_stays h.region h.row.actors s i (get_or lent i d) p did.reached (ap (λ (l : Whole). part k l) did.moves.list_is ∙ part_of_others k 0 did.moves.steps p.list (s.distinct.threads i (omega (arith, lt, many)))) (ap (λ (cs : Caches). cs k) did.caches) did.names
+        stays i (get_or lent i d) p did.reached (ap (λ (l : Whole). part k l) did.moves.list_is ∙ part_of_others k 0 did.moves.steps p.list (s.distinct.threads i (omega (arith, lt, many)))) (ap (λ (cs : Caches). cs k) did.caches) did.names
         (at.lent.each i d lt);
   }
 
@@ -110,7 +110,7 @@ module _ {h : BenchHome} {s : Shift} {act : Act} {next : List Act} {σ σ' : Sta
   leaves_alone : (k : ℕ) → 0 ≢ k → TookNoPart k did.says.said p did.reached
   leaves_alone k some = record { part_is = ap (λ (l : Whole). part k l) did.moves.list_is ∙ part_of_others k 0 did.moves.steps p.list some; silent = none_by k 0 did.says.said did.says.each some }
 
-  pub did_alone : {places' : ℕ} → places' ≡ places → CrewActs h s (act ∷ []) next (crew σ lent places out) (crew σ' lent places' out') p
+  pub did_alone : {places' : ℕ} → places' ≡ places → CrewDoes Lends s (act ∷ []) next (crew σ lent places out) (crew σ' lent places' out') p
   did_alone same = record { came = came; stands = record { stands = record { stands = did.stands; has_places = same ∙ at.stands.has_places }; lent = still_lent }; told = own_told; lent = lent_told; books = did.books; others = λ k some other. leaves_alone k some }
 
 -- ---- an idle operation
@@ -119,8 +119,8 @@ costs_stops f n [] next = omega arith
 costs_stops f n (k ∷ idle) next = let rest = costs_stops f n idle next in omega (arith, rest)
 
 -- the scavenger, whose desk the lent threads used, sits there as it did
-stood_still : {desk : BenchDesk} {σ : Standing} {l m : Whole} → (standing_at desk).seat ≡ σ.seat → StandsOver (row_on desk.place.bench) m → StandsStill σ (standing_at desk) l m
-stood_still {desk} {σ} {l} {m} seat over = record {
+stood_still : (desk : BenchDesk) {σ : Standing} {l m : Whole} → (standing_at desk).seat ≡ σ.seat → StandsOver (row_on desk.place.bench) m → StandsStill σ (standing_at desk) l m
+stood_still desk {σ} {l} {m} seat over = record {
   seat_is = seat;
   stands = λ at same. (sym (row_tells (row_on desk.place.bench) m desk.place.member.actor over desk.place.sits.among_them), over);
 }
@@ -130,35 +130,36 @@ pub did_idle : {h : BenchHome} {s : Shift} {next : List Act} {σ σ' : Standing}
     → CrewActs h s (ReadsEpoch ∷ idle_stops n s.idle) next (crew σ old places out) (crew (standing_at desk) new places out') p
 did_idle {h} {s} {next} {σ} {σ'} {places} {out} {out'} {old} {new} {p} n desk at read seat size stopped =
     let stops = stopped.did in
+    let stays = lent_stays h.region h.row.actors s in
     let costs = costs_stops s.profile n s.idle next in
     let many = at.lent.many in
     let spare = read.stands.spare in
     let longer = ap (λ (rs : List Record). length rs) stops.told.added ∙ length-append (records_in out) (records_by 0 stops.turns.came.said) in
     let own_part = stops.turns.leaves.parts 0 (λ i lt same. s.distinct.threads i (omega (arith, lt, many)) (sym same)) in
     record {
-      came = came_both (came at read) stops.turns.came;
+      came = came_both (came stays at read) stops.turns.came;
       stands = record {
         stands = record {
           stands = record {
-            sits = sits_still (λ v. costs_of s.profile next + s.own.events) (stood_still {desk = desk} seat stopped.over) own_part (sits_for read.stands.sits (omega (arith, costs)));
+            sits = sits_still (λ v. costs_of s.profile next + s.own.events) (stood_still desk seat stopped.over) own_part (sits_for read.stands.sits (omega (arith, costs)));
             spare = omega (arith, longer, stops.few, spare, costs, many, stops.told.room);
           };
           has_places = at.stands.has_places;
         };
         lent = record { many = size ∙ many; each = λ i d lt. stops.turns.stand i d (omega (arith, lt, size)) };
       };
-      told = pushed_both (own_told at read) stops.told;
-      lent = λ i d lt. told_both (lent_told at read i d lt) (stops.turns.told i d lt);
+      told = pushed_both (own_told stays at read) stops.told;
+      lent = λ i d lt. told_both (lent_told stays at read i d lt) (stops.turns.told i d lt);
       books = stops.turns.leaves.books ∙ read.books;
-      others = λ k some other. no_part_both (leaves_alone at read k some) (record { part_is = stops.turns.leaves.parts k (λ i lt. other i (omega (arith, lt, many))); silent = stops.turns.leaves.silent k some (λ i lt. other i (omega (arith, lt, many))) });
+      others = λ k some other. no_part_both (leaves_alone stays at read k some) (record { part_is = stops.turns.leaves.parts k (λ i lt. other i (omega (arith, lt, many))); silent = stops.turns.leaves.silent k some (λ i lt. other i (omega (arith, lt, many))) });
     }
 
 -- ---- the acts written otherwise
-pub as_acts : {h : BenchHome} {s : Shift} {acts acts' : List Act} {has : Crew} {p : Progress} (next : List Act) → acts ≡ acts' → CrewSits h s (acts ++ next) has p → CrewSits h s (acts' ++ next) has p
-as_acts {h} {s} {has = has} {p} next is at = subst (λ (xs : List Act). CrewSits h s (xs ++ next) has p) is at
+pub as_acts : {Lends : ℕ → Worker → Progress → Type 0} {s : Shift} {acts acts' : List Act} {has : Crew} {p : Progress} (next : List Act) → acts ≡ acts' → CrewStands Lends s (acts ++ next) has p → CrewStands Lends s (acts' ++ next) has p
+as_acts {Lends} {s} {has = has} {p} next is at = subst (λ (xs : List Act). CrewStands Lends s (xs ++ next) has p) is at
 
-pub to_acts : {h : BenchHome} {s : Shift} {acts acts' next : List Act} {has has' : Crew} {p : Progress} → acts ≡ acts' → CrewActs h s acts' next has has' p → CrewActs h s acts next has has' p
-to_acts {h} {s} {next = next} {has} {has'} {p} is did = subst (λ (xs : List Act). CrewActs h s xs next has has' p) (sym is) did
+pub to_acts : {Lends : ℕ → Worker → Progress → Type 0} {s : Shift} {acts acts' next : List Act} {has has' : Crew} {p : Progress} → acts ≡ acts' → CrewDoes Lends s acts' next has has' p → CrewDoes Lends s acts next has has' p
+to_acts {Lends} {s} {next = next} {has} {has'} {p} is did = subst (λ (xs : List Act). CrewDoes Lends s xs next has has' p) (sym is) did
 
 -- ---- which operation comes next
 -- it may follow the names of some list
@@ -193,19 +194,19 @@ module _ (f : Profile) (asked : List ℕ) (ops : List Op) (i : ℕ) (d : Op) (so
       (ne_eqb (get_or ops i d).actor 0 (not_first f work (get_or ops i d).actor of_actor not))
 
 -- so far, the scavenger's operations before this place were done
-abbrev pub CrewSoFar : BenchHome → Shift → List Op → ℕ → Crew → Crew → Progress → Type 0
-CrewSoFar h s ops i has0 has p = SoFar (scavenger_acts s.idle ops) (scavenger_acts s.idle (drop i ops)) (λ acts. CrewActs h s acts (scavenger_acts s.idle (drop i ops)) has0 has p)
+abbrev pub CrewSoFar : (ℕ → Worker → Progress → Type 0) → Shift → List Op → ℕ → Crew → Crew → Progress → Type 0
+CrewSoFar Lends s ops i has0 has p = SoFar (scavenger_acts s.idle ops) (scavenger_acts s.idle (drop i ops)) (λ acts. CrewDoes Lends s acts (scavenger_acts s.idle (drop i ops)) has0 has p)
 
-pub crew_begins : {h : BenchHome} {s : Shift} (ops : List Op) {has : Crew} {p : Progress} → CrewSits h s (scavenger_acts s.idle ops) has p → CrewSoFar h s ops 0 has has p
+pub crew_begins : {Lends : ℕ → Worker → Progress → Type 0} {s : Shift} (ops : List Op) {has : Crew} {p : Progress} → CrewStands Lends s (scavenger_acts s.idle ops) has p → CrewSoFar Lends s ops 0 has has p
 crew_begins {s = s} ops {has} {p} at = at_first (record { came = came_none s.profile p; stands = at; told = pushed_none refl; lent = λ i d lt. told_none refl; books = refl; others = λ k some other. record { part_is = refl; silent = refl } })
 
 -- the next one is this chore
-module _ {h : BenchHome} {s : Shift} (ops : List Op) (i : ℕ) {has0 has : Crew} {p : Progress} (chore : Chore)
-    (next : scavenger_acts s.idle (drop i ops) ≡ acts_of_chore s.idle chore ++ scavenger_acts s.idle (drop (i + 1) ops)) (so : CrewSoFar h s ops i has0 has p) where
-  pub crew_before : CrewSits h s (acts_of_chore s.idle chore ++ scavenger_acts s.idle (drop (i + 1) ops)) has so.done.came.reached
-  crew_before = subst (λ (acts : List Act). CrewSits h s acts has so.done.came.reached) next so.done.stands
+module _ {Lends : ℕ → Worker → Progress → Type 0} {s : Shift} (ops : List Op) (i : ℕ) {has0 has : Crew} {p : Progress} (chore : Chore)
+    (next : scavenger_acts s.idle (drop i ops) ≡ acts_of_chore s.idle chore ++ scavenger_acts s.idle (drop (i + 1) ops)) (so : CrewSoFar Lends s ops i has0 has p) where
+  pub crew_before : CrewStands Lends s (acts_of_chore s.idle chore ++ scavenger_acts s.idle (drop (i + 1) ops)) has so.done.came.reached
+  crew_before = subst (λ (acts : List Act). CrewStands Lends s acts has so.done.came.reached) next so.done.stands
 
-  pub crew_goes_on : {has' : Crew} → length has0.lent ≡ length s.idle → CrewActs h s (acts_of_chore s.idle chore) (scavenger_acts s.idle (drop (i + 1) ops)) has has' so.done.came.reached → CrewSoFar h s ops (i + 1) has0 has' p
+  pub crew_goes_on : {has' : Crew} → length has0.lent ≡ length s.idle → CrewDoes Lends s (acts_of_chore s.idle chore) (scavenger_acts s.idle (drop (i + 1) ops)) has has' so.done.came.reached → CrewSoFar Lends s ops (i + 1) has0 has' p
   crew_goes_on {has'} many did =
       let one = so.done in
       goes_on (acts_of_chore s.idle chore) next so
@@ -218,11 +219,11 @@ module _ {h : BenchHome} {s : Shift} (ops : List Op) (i : ℕ) {has0 has : Crew}
         others = λ k some other. no_part_both (one.others k some other) (did.others k some other);
       })
 
-pub crew_skips : {h : BenchHome} {s : Shift} (ops : List Op) (i : ℕ) {has0 has : Crew} {p : Progress} → scavenger_acts s.idle (drop i ops) ≡ scavenger_acts s.idle (drop (i + 1) ops) → CrewSoFar h s ops i has0 has p → CrewSoFar h s ops (i + 1) has0 has p
-crew_skips {h} {s} ops i {has0} {has} {p} same so =
-    subst (λ (left : List Act). SoFar (scavenger_acts s.idle ops) left (λ acts. CrewActs h s acts left has0 has p)) same so
+pub crew_skips : {Lends : ℕ → Worker → Progress → Type 0} {s : Shift} (ops : List Op) (i : ℕ) {has0 has : Crew} {p : Progress} → scavenger_acts s.idle (drop i ops) ≡ scavenger_acts s.idle (drop (i + 1) ops) → CrewSoFar Lends s ops i has0 has p → CrewSoFar Lends s ops (i + 1) has0 has p
+crew_skips {Lends} {s} ops i {has0} {has} {p} same so =
+    subst (λ (left : List Act). SoFar (scavenger_acts s.idle ops) left (λ acts. CrewDoes Lends s acts left has0 has p)) same so
 
-pub crew_ends : {h : BenchHome} {s : Shift} (ops : List Op) {i : ℕ} {has0 has : Crew} {p : Progress} → length ops ≤ i → CrewSoFar h s ops i has0 has p → CrewActs h s (scavenger_acts s.idle ops) [] has0 has p
-crew_ends {h} {s} ops {i} {has0} {has} {p} le so =
+pub crew_ends : {Lends : ℕ → Worker → Progress → Type 0} {s : Shift} (ops : List Op) {i : ℕ} {has0 has : Crew} {p : Progress} → length ops ≤ i → CrewSoFar Lends s ops i has0 has p → CrewDoes Lends s (scavenger_acts s.idle ops) [] has0 has p
+crew_ends {Lends} {s} ops {i} {has0} {has} {p} le so =
     let none : scavenger_acts s.idle (drop i ops) ≡ [] = ap (λ (xs : List Op). scavenger_acts s.idle xs) (drop_of_length-le ops le) in
-    subst (λ (left : List Act). CrewActs h s (scavenger_acts s.idle ops) left has0 has p) none (at_last none so)
+    subst (λ (left : List Act). CrewDoes Lends s (scavenger_acts s.idle ops) left has0 has p) none (at_last none so)

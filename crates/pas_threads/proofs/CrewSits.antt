@@ -202,8 +202,8 @@ seats_end {region} {s} {i} {old} {now} {rows} {p} le ge many lent so =
 
 -- ---- at the desk
 -- a worker of the bench may take the place there
-at_home : {h : BenchHome} {desk : BenchDesk} → home_at desk ≡ h → (k : ℕ) → among (row_on desk.place.bench).actors k ≡ among h.row.actors k
-at_home home k = ap (λ (g : BenchHome). among g.row.actors k) home
+at_home : {h : BenchHome} (desk : BenchDesk) → home_at desk ≡ h → (k : ℕ) → among (row_on desk.place.bench).actors k ≡ among h.row.actors k
+at_home desk home k = ap (λ (g : BenchHome). among g.row.actors k) home
 
 tells_of : {h : BenchHome} {desk : BenchDesk} {p : Progress} → IsDeskAt h desk p → (k : ℕ) → among (row_on desk.place.bench).actors k ≡ true → part k p.list ≡ made_in (row_on desk.place.bench) k
 tells_of {desk = desk} {p} at k its = row_tells (row_on desk.place.bench) p.list k at.over its
@@ -213,7 +213,7 @@ may_sit {h} {desk} {f} {k} {worker} {later} {p} at w =
     let member = w.member in
     let stood = w.rests.sits.stood in
     let actor = w.rests.sits.actor in
-    let its = at_home at.home member.actor ∙ stood.among_them in
+    let its = at_home desk at.home member.actor ∙ stood.among_them in
     record {
       of = desk.of;
       profile = stood.profile ∙ sym (ap (λ (g : BenchHome). g.region.profile) at.home);
@@ -225,7 +225,7 @@ may_sit {h} {desk} {f} {k} {worker} {later} {p} at w =
 rests_there : {h : BenchHome} {desk : BenchDesk} {f : Profile} {k : ℕ} {worker : Worker} {later : Later} {p : Progress} → IsDeskAt h desk p → (w : WorkerSits h.region h.row.actors f k worker later p)
     → RestsAt f k (standing_on desk.place.bench w.member) (cached worker.cache) worker.out later p
 rests_there {h} {desk} {f} {k} {worker} {later} {p} at w =
-    rests_as refl (λ stood. (sym (tells_of at w.member.actor (at_home at.home w.member.actor ∙ stood.among_them)) ∙ ap (λ (j : ℕ). part j p.list) w.rests.sits.actor, at.over)) w.rests
+    rests_as refl (λ stood. (sym (tells_of at w.member.actor (at_home desk at.home w.member.actor ∙ stood.among_them)) ∙ ap (λ (j : ℕ). part j p.list) w.rests.sits.actor, at.over)) w.rests
 
 -- what is so of the bench and the member is so of the desk
 pub at_desk : (At : Standing → Type 0) (desk : BenchDesk) {bench : Bench} {member : Member} → desk.place.bench ≡ bench → desk.place.member ≡ member → At (standing_on bench member) → At (standing_at desk)
@@ -243,13 +243,13 @@ pub home_moved : (desk now : BenchDesk) → now.region.now ≡ desk.region.now �
 home_moved desk now region bench = ap (λ (r : SharedRegion). home_of r (row_on now.place.bench)) region ∙ ap (λ (b : Bench). home_of desk.region.now (row_on b)) bench
 
 -- the one that made way for it may take its place again
-pub may_again : {h : BenchHome} {desk mid : BenchDesk} {p q : Progress} (risen : Member) → risen ≡ desk.place.member → IsDeskAt h desk p → home_at mid ≡ h → StandsOver (row_on mid.place.bench) q.list → part desk.place.member.actor q.list ≡ part desk.place.member.actor p.list
+pub may_again : {h : BenchHome} {desk : BenchDesk} {p : Progress} (mid : BenchDesk) (q : Progress) (risen : Member) → risen ≡ desk.place.member → IsDeskAt h desk p → home_at mid ≡ h → StandsOver (row_on mid.place.bench) q.list → part desk.place.member.actor q.list ≡ part desk.place.member.actor p.list
     → MaySitOn mid.region.now mid.place.bench risen
-may_again {h} {desk} {mid} {p} {q} risen is at home over same =
+may_again {h} {desk} {p} mid q risen is at home over same =
     let member = desk.place.member in
     let a = member.actor in
     let there = desk.place.sits.among_them in
-    let its : among (row_on mid.place.bench).actors a ≡ true = at_home home a ∙ (sym (at_home at.home a) ∙ there) in
+    let its : among (row_on mid.place.bench).actors a ≡ true = at_home mid home a ∙ (sym (at_home desk at.home a) ∙ there) in
     let made : made_in (row_on desk.place.bench) a ≡ made_in (row_on mid.place.bench) a = sym (tells_of at a there) ∙ (sym same ∙ row_tells (row_on mid.place.bench) q.list a over its) in
     subst (λ (m : Member). MaySitOn mid.region.now mid.place.bench m) (sym is) record {
       of = mid.of;
@@ -259,13 +259,13 @@ may_again {h} {desk} {mid} {p} {q} risen is at home over same =
     }
 
 -- a worker that sat at the desk sits on the bench beside it
-sits_beside : {h : BenchHome} {mid : BenchDesk} {f : Profile} {k : ℕ} {worker : Worker} {later : Later} {q : Progress} → home_at mid ≡ h → worker.member ≡ Some mid.place.member → RestsAt f k (standing_at mid) (cached worker.cache) worker.out later q → WorkerSits h.region h.row.actors f k worker later q
-sits_beside {h} {mid} {f} {k} {worker} {later} {q} home is at = record {
+sits_beside : {h : BenchHome} (mid : BenchDesk) {f : Profile} {k : ℕ} {worker : Worker} {later : Later} {q : Progress} → home_at mid ≡ h → worker.member ≡ Some mid.place.member → RestsAt f k (standing_at mid) (cached worker.cache) worker.out later q → WorkerSits h.region h.row.actors f k worker later q
+sits_beside {h} mid {f} {k} {worker} {later} {q} home is at = record {
   member = mid.place.member;
   present = is;
   rests = rests_as refl (λ stood. record {
     profile = mid.profiled ∙ ap (λ (g : BenchHome). g.region.profile) home;
-    among_them = sym (at_home home mid.place.member.actor) ∙ mid.place.sits.among_them;
+    among_them = sym (at_home mid home mid.place.member.actor) ∙ mid.place.sits.among_them;
     noted = subst (λ (v : View). AreNotesOf mid.place.member.actor v mid.place.member.notes) stood.0 mid.place.sits.noted;
   }) at;
 }
@@ -281,7 +281,7 @@ was_stopped {h} {f} {k} {n} {bench} {bench'} {old} {new} {out} {out'} {later} {p
       before = sat.place.member;
       after = mid.place.member;
       does = did.1;
-      sits = sits_beside home present did.1.stands;
+      sits = sits_beside mid home present did.1.stands;
       over = did.1.stands.sits.stood.1;
       requests = requests;
       keeper = keeper;
@@ -339,9 +339,9 @@ module _ {region : SharedRegion} {s : Shift} {old new : List Worker} {p : Progre
 
   -- so the scavenger may sit down at the desk
   pub first_sits : {pass : SharedPass} {member : Member} → IsPassOf region pass → IsMemberOf pass member → IsBenchOf region bench → pass.place.actor ≡ 0 → view_of pass ≡ part 0 p.list → MaySitOn region bench member
-  first_sits {pass} {member} of is at zero view =
-      let own : among (all_actors rows) member.actor ≡ true = subst (λ (j : ℕ). among (all_actors rows) j ≡ true) (sym (is.actor ∙ zero)) all.crew.own in
-      let made : view_of pass ≡ made_in (row_on bench) member.actor = view ∙ ap (λ (j : ℕ). part j p.list) (sym (is.actor ∙ zero)) ∙ sym (made_seen member.actor own) in
+  first_sits {pass} {member} of is at scavenger view =
+      let own : among (all_actors rows) member.actor ≡ true = subst (λ (j : ℕ). among (all_actors rows) j ≡ true) (sym (is.actor ∙ scavenger)) all.crew.own in
+      let made : view_of pass ≡ made_in (row_on bench) member.actor = view ∙ ap (λ (j : ℕ). part j p.list) (sym (is.actor ∙ scavenger)) ∙ sym (made_seen member.actor own) in
       record {
         of = at;
         profile = is.profile ∙ of.1;
@@ -354,22 +354,22 @@ module _ {region : SharedRegion} {s : Shift} {old new : List Worker} {p : Progre
 
 -- the scavenger sits there alone at first
 pub first_crew : {s : Shift} {rows rows0 : List Row} (pass : SharedPass) → rows ≡ rows_of (part_of pass ∷ []) ++ rows0 → rows0 ≡ empty_row ∷ [] → pass.place.actor ≡ 0 → AreOfCrew s 0 0 (all_actors rows)
-first_crew {s} {rows} {rows0} pass is none zero =
+first_crew {s} {rows} {rows0} pass is none scavenger =
     let actors : all_actors rows ≡ pass.place.actor ∷ [] = ap (λ (rs : List Row). all_actors rs) is ∙ ap (λ (rs : List Row). all_actors (rows_of (part_of pass ∷ []) ++ rs)) none in
     subst (λ (ks : List ℕ). AreOfCrew s 0 0 ks) (sym actors) record {
-      own = among_here pass.place.actor 0 [] zero;
+      own = among_here pass.place.actor 0 [] scavenger;
       lent = λ i from to. absurd (omega (arith, to));
-      only = λ k its. inl (⊎_elim (λ same. sym same ∙ zero) (λ (more : among [] k ≡ true). absurd (true≢false (sym more))) (among_cases pass.place.actor k [] its));
+      only = λ k its. inl (⊎_elim (λ same. sym same ∙ scavenger) (λ (more : among [] k ≡ true). absurd (true≢false (sym more))) (among_cases pass.place.actor k [] its));
     }
 
-pub first_tell : {rows rows0 : List Row} {l : Whole} (pass : SharedPass) → rows ≡ rows_of (part_of pass ∷ []) ++ rows0 → rows0 ≡ empty_row ∷ [] → pass.place.actor ≡ 0 → view_of pass ≡ part 0 l → TellAs rows l
-first_tell {rows} {rows0} {l} pass is none zero view =
-    tell_more pass rows0 rows l is (view ∙ ap (λ (k : ℕ). part k l) (sym zero)) (λ k its. absurd (true≢false (sym its ∙ ap (λ (rs : List Row). among (all_actors rs) k) none)))
+pub first_tell : {rows rows0 : List Row} (l : Whole) (pass : SharedPass) → rows ≡ rows_of (part_of pass ∷ []) ++ rows0 → rows0 ≡ empty_row ∷ [] → pass.place.actor ≡ 0 → view_of pass ≡ part 0 l → TellAs rows l
+first_tell {rows} {rows0} l pass is none scavenger view =
+    tell_more pass rows0 rows l is (view ∙ ap (λ (k : ℕ). part k l) (sym scavenger)) (λ k its. absurd (true≢false (sym its ∙ ap (λ (rs : List Row). among (all_actors rs) k) none)))
 
 -- .. with the lent threads beside it
 pub all_sat : {region : SharedRegion} {s : Shift} {old new : List Worker} {p : Progress} {rows : List Row} {pass : SharedPass} (desk : BenchDesk) → HasLooked rows (rows_on desk.place.bench) → AreSeated region s old new rows p → IsMemberOf pass desk.place.member → pass.place.actor ≡ 0
     → CrewSat region s pass desk old new p
-all_sat {region} {s} {old} {new} {p} {rows} {pass} desk looked all is zero =
+all_sat {region} {s} {old} {new} {p} {rows} {pass} desk looked all is scavenger =
     let bench = desk.place.bench in
     let member = desk.place.member in
     let row = row_on bench in
@@ -377,7 +377,7 @@ all_sat {region} {s} {old} {new} {p} {rows} {pass} desk looked all is zero =
     let seen : (k : ℕ) → among row.actors k ≡ true → part k p.list ≡ part k (steps_of row.base) =
     λ k its. sym (saw bench looked all k (sym (is_among bench looked all k) ∙ its)) ∙ ap (λ (r : Row). part k (steps_of r.base)) (sym first)
     in
-    let actor = is.actor ∙ zero in
+    let actor = is.actor ∙ scavenger in
     record {
       seat = member_seat is;
       stands = (
@@ -503,24 +503,24 @@ module _ {region : SharedRegion} {s : Shift} {lent : List Worker} {p : Progress}
   row = row_on desk.place.bench
 
   -- the last look saw a list that the row is one of
-  row_seen : {bench : Bench} (looked : HasLooked (rows_on desk.place.bench) (rows_on bench)) → IsRowOf row (steps_of looked.base)
-  row_seen looked = (subst (λ (rs : List Row). AreRowsOf rs (steps_of looked.base)) desk.place.one looked.rows).0
+  row_seen : (bench : Bench) (looked : HasLooked (rows_on desk.place.bench) (rows_on bench)) → IsRowOf row (steps_of looked.base)
+  row_seen bench looked = (subst (λ (rs : List Row). AreRowsOf rs (steps_of looked.base)) desk.place.one looked.rows).0
 
   -- all may leave then
-  pub all_may_leave : {bench : Bench} (looked : HasLooked (rows_on desk.place.bench) (rows_on bench)) → MayLeaveAll region s lent row.actors looked.base (rows_on bench) p
-  all_may_leave {bench} looked =
+  pub all_may_leave : (bench : Bench) (looked : HasLooked (rows_on desk.place.bench) (rows_on bench)) → MayLeaveAll region s lent row.actors looked.base (rows_on bench) p
+  all_may_leave bench looked =
       let same : all_actors (rows_on desk.place.bench) ≡ row.actors = ap (λ (rs : List Row). all_actors rs) desk.place.one ∙ append-nil row.actors in
       record {
         lent = may.lent;
         crew = may.crew;
         fresh = looked.is ∙ ap (λ (ks : List ℕ). record { actors = ks; made = []; base = looked.base } ∷ []) same;
-        tell = λ k its. row_part row (steps_of looked.base) k (row_seen looked) its ∙ sym (row_tells row p.list k may.over its);
+        tell = λ k its. row_part row (steps_of looked.base) k (row_seen bench looked) its ∙ sym (row_tells row p.list k may.over its);
       }
 
   -- and at last the scavenger
-  module _ {bench left : Bench} {now : List Worker} (looked : HasLooked (rows_on desk.place.bench) (rows_on bench)) (have : HaveLeave region s lent now looked.base (rows_on left) p) where
+  module _ (bench left : Bench) {now : List Worker} (looked : HasLooked (rows_on desk.place.bench) (rows_on bench)) (have : HaveLeave region s lent now looked.base (rows_on left) p) where
     own_made : made_in (first_row (rows_on left)) desk.place.member.actor ≡ made_in row desk.place.member.actor
-    own_made = ap (λ (rs : List Row). made_in (first_row rs) desk.place.member.actor) have.fresh ∙ row_part row (steps_of looked.base) desk.place.member.actor (row_seen looked) desk.place.sits.among_them
+    own_made = ap (λ (rs : List Row). made_in (first_row rs) desk.place.member.actor) have.fresh ∙ row_part row (steps_of looked.base) desk.place.member.actor (row_seen bench looked) desk.place.sits.among_them
 
     pub own_sits : SitsInRow (first_row (rows_on left)) desk.place.member
     own_sits = record {
@@ -543,7 +543,7 @@ module _ {region : SharedRegion} {s : Shift} {lent : List Worker} {p : Progress}
           of = of;
           base = looked.base;
           rows = rows ∙ (ap (λ (rs : List Row). rows_of_only test rs) have.fresh ∙ ap (λ (ks : List ℕ). record { actors = ks; made = []; base = looked.base } ∷ []) none);
-          saw = row_seen looked;
+          saw = row_seen bench looked;
         }
 
 -- ---- from pass to pass

@@ -24,7 +24,7 @@ replace-requires c =
     let sat = c.replace-risen.ensures in
     let did = c.stop_and_tell.ensures.stops r.1 r.2 r.3 r.4 (rests_at c.replace-risen.new.self (sym c.take.ensures.value ∙ c.in-Some.is) sat.bench sat.member r.5 r.6) r.8 in
     let home = c.stop_and_tell.ensures.home ∙ (home_moved c.args.desk.now c.replace-risen.new.self sat.region sat.bench ∙ r.5.home) in
-    may_again {mid = c.stop_and_tell.new.desk} {q = did.1.reached} c.replace-risen.result sat.risen r.5 home did.1.stands.sits.stood.1 ((leaves_rest did.1).parts c.args.desk.now.place.member.actor r.7)
+    may_again c.stop_and_tell.new.desk did.1.reached c.replace-risen.result sat.risen r.5 home did.1.stands.sits.stood.1 ((leaves_rest did.1).parts c.args.desk.now.place.member.actor r.7)
 
 pub returns-clause-stops : goal.returns-clause-stops
 returns-clause-stops c = λ h f k later p at w read.
