@@ -56,7 +56,7 @@ fn rise(
 ) -> (SharedPass, Bench)
     requires region { desk.region.now ≡ region.now }
     requires may { (s : Shift) × (p : Progress) × CrewMayRise region.now s desk lent.old p }
-    ensures rose { (s : Shift) (p : Progress) → CrewMayRise region.now s desk lent.old p → CrewRose region.now s desk result.0 result.1 lent.old lent.new p }
+    ensures rose { (s : Shift) (p : Progress) → CrewMayRise region.now s desk.entry lent.old p → CrewRose region.now s desk.entry result.0 result.1 lent.old lent.new p }
     ensures many { length lent.new ≡ length lent.old }
 {
     let (mut bench, member) = desk.into_parts();

@@ -10,13 +10,13 @@ use Rattle.pas_threads.specs.declared.workers.Worker.{Worker}
 use Rattle.pas_threads.proofs.Sitting.{seated}
 use Rattle.pas_threads.proofs.scavenger.keep_up.Goals as goal
 
-pub scavenge_seated-requires-clause-pass : goal.scavenge_seated-requires-clause-pass
-scavenge_seated-requires-clause-pass g c =
+pub scavenge_seated-pass-requires-clause-pass : goal.scavenge_seated-pass-requires-clause-pass
+scavenge_seated-pass-requires-clause-pass g c =
     let has = c.requires.may.stands.has in
     subst (λ (x : SharedPass). IsPassOf c.args.region.now x) (same_Some _ _ (sym has.present ∙ (sym c.take.ensures.value ∙ c.in-Some.is))) has.of
 
-pub scavenge_seated-requires-clause-may : goal.scavenge_seated-requires-clause-may
-scavenge_seated-requires-clause-may g c =
+pub scavenge_seated-pass-requires-clause-may : goal.scavenge_seated-pass-requires-clause-may
+scavenge_seated-pass-requires-clause-may g c =
     let may = c.requires.may in
     let s = may.shift in
     let old = c.args.scavenger.now in
@@ -40,19 +40,19 @@ returns g c = record {
         let is = sym c.take.ensures.value ∙ c.in-Some.is in
         let acts = scavenger_acts s.idle c.args.ops.now in
         let old = c.args.scavenger.now in
-        let after = c.scavenge_seated.result.0 in
-        let bench = c.scavenge_seated.result.1 in
-        let lent = c.scavenge_seated.new.lent in
-        let places = places_of c.scavenge_seated.new.outcomes in
-        let out = c.scavenge_seated.new.out in
+        let after = c.scavenge_seated-pass.result.0 in
+        let bench = c.scavenge_seated-pass.result.1 in
+        let lent = c.scavenge_seated-pass.new.lent in
+        let places = places_of c.scavenge_seated-pass.new.outcomes in
+        let out = c.scavenge_seated-pass.new.out in
         let at = subst (λ (ws : List Worker). CrewAt region s acts (crew (standing_of_pass pass) ws (places_of old.outcomes) old.out) p) (sym c.deref_mut.ensures.value)
         (seated (λ σ. CrewAt region s acts (crew_of σ old) p) pass is stands.has stands.at)
         in
         let first = subst (λ (ws : List Worker). CrewHasLeft region s acts after bench (crew (standing_of_pass pass) ws (places_of old.outcomes) old.out) (crew (standing_of_pass after) lent places out) p) c.deref_mut.ensures.value
-        (c.scavenge_seated.ensures.did s asked p sound at)
+        (c.scavenge_seated-pass.ensures.did s asked p sound at)
         in
         let left = subst (λ (ws : List Worker). CrewHasLeft region s acts after bench (crew_of (standing_of_pass pass) old) (crew (standing_of_pass after) ws places out) p)
-        (sym (with_items_is old.lent lent (c.scavenge_seated.ensures.many ∙ c.deref_mut.ensures.len))) first
+        (sym (with_items_is old.lent lent (c.scavenge_seated-pass.ensures.many ∙ c.deref_mut.ensures.len))) first
         in
         let has = stands.has in
         record {
