@@ -11,7 +11,7 @@ use Rattle.pas_shared.proofs.Benching.{row_tells}
 use Rattle.pas_trace.specs.Acts.{Act, StopsIdle, idle_stops, ReadsEpoch, acts_of_chore, acts_of_work, acts_of_op, scavenger_acts}
 use Rattle.pas_answers.specs.{Answers.Progress, Answers.Caches, Ways.EachOf, Ways.records_by, Fit.costs_of, Fit.cost_of_act, Fit.unbacks_of_act}
 use Rattle.pas_answers.proofs.OwnRecords.{records_both, none_by, all_by}
-use Rattle.pas_steps.specs.{Lists.Whole, Lists.part, Clear.HasNothing, Desks.Standing, Views.View}
+use Rattle.pas_steps.specs.{Lists.Whole, Lists.part, Desks.Standing}
 use Rattle.pas_steps.proofs.Parts.{part_of_others}
 use Rattle.pas_acts.specs.{Works.Later, Keepers.StandsStill}
 use Rattle.pas_acts.specs.AtDesks.{told_if, for_act, HasRoomAt, ScavengerActs}

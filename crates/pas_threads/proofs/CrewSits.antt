@@ -1,5 +1,5 @@
 -- The scavenger's worker with the lent threads on one bench: they sit down, take their places at its desk, and leave.
-use Rattle.std.proofs.Common.{◌≡◌, ◌≢◌, ◌==◌, ◌⊎◌, inl, inr, ⊎_elim, ℕ, ◌+◌, ◌<◌, ◌≤◌, Bool, true, false, if◌then◌else◌, List, [], ◌∷◌, ◌++◌, length, set, get_or, Option, Some, refl, ap, sym, ◌∙◌, subst, arith}
+use Rattle.std.proofs.Common.{◌≡◌, ◌≢◌, ◌==◌, ◌⊎◌, inl, inr, ⊎_elim, ℕ, ◌+◌, ◌<◌, ◌≤◌, Bool, true, false, if◌then◌else◌, List, [], ◌∷◌, ◌++◌, length, set, get_or, Some, refl, ap, sym, ◌∙◌, subst, arith}
 use Rattle.std.proofs.Common.{true≢false, eqb-true, eq-eqb, ne_eqb, zero, suc, append-nil, get_or-set_other}
 use Rattle.std.proofs.lemmas.{Bool.cases_eq, Option.same_Some, List.get_or_default}
 use Rattle.pas_profile.specs.declared.profile.Profile.{Profile}
@@ -7,11 +7,10 @@ use Rattle.pas_region.specs.Noted.{AreNotesOf}
 use Rattle.pas_region.specs.declared.notes.Notes.{Notes}
 use Rattle.pas_report.specs.Rooms.{Records, records_in, room_of}
 use Rattle.pas_steps.specs.{Desks.Standing, Lists.Whole, Lists.part, Views.View}
-use Rattle.pas_cache.specs.Caches.{Cached, cached, AtRest}
-use Rattle.pas_core.specs.Orders.{steps_by}
+use Rattle.pas_cache.specs.Caches.{Cached, cached}
 use Rattle.pas_core.proofs.Choosing.{steps_by_same}
 use Rattle.pas_shared.specs.Ruled.{among, made_in, all_actors, HasRow, only, only_this, isnt, rows_of, rows_of_only, steps_of, IsRowOf, AreRowsOf}
-use Rattle.pas_shared.specs.Benches.{empty_row, first_row, row_on, rows_on, made_by, home_of, seat_of_member, standing_on, HasLooked, IsBenchOf, IsFreshRow, IsMemberOf, SitsInRow, MaySitOn, StandsOver}
+use Rattle.pas_shared.specs.Benches.{empty_row, first_row, row_on, rows_on, home_of, seat_of_member, standing_on, HasLooked, IsBenchOf, IsFreshRow, IsMemberOf, SitsInRow, MaySitOn, StandsOver}
 use Rattle.pas_shared.specs.{Ledgers.part_of, Passes.seat_of, Passes.view_of, Passes.IsPassOf}
 use Rattle.pas_shared.specs.declared.{bench.Bench.Bench, bench.Member.Member, bench_desk.BenchDesk.BenchDesk, bench_desk.BenchHome.BenchHome, pass.SharedPass.SharedPass}
 use Rattle.pas_shared.specs.declared.{region.SharedRegion.SharedRegion, rule.Entry.Entry, rule.Row.Row}
@@ -20,9 +19,9 @@ use Rattle.pas_trace.specs.Acts.{Act, StopsIdle}
 use Rattle.pas_answers.specs.{Answers.Progress, Ways.EachOf, Ways.records_by}
 use Rattle.pas_answers.proofs.{OwnRecords.records_both, Reached.goes_on}
 use Rattle.pas_report.specs.declared.record.Record.{Record}
-use Rattle.pas_acts.specs.{Works.Later, Works.Sits, Turns.RestsAt, Keepers.StandsStill, AtDesks.here, AtDesks.told_if, AtDesks.ThreadActs}
+use Rattle.pas_acts.specs.{Works.Later, Turns.RestsAt, Keepers.StandsStill, AtDesks.here, AtDesks.told_if, AtDesks.ThreadActs}
 use Rattle.pas_acts.proofs.{Alone.rests_still, AtDesk.leaves_rest}
-use Rattle.pas_threads.specs.{Hands.standing_of_pass, Hands.HasPass, Left.crew_in, Left.KeepsOrder, Seats.IsPassOfMember, Sessions.WorkerHas}
+use Rattle.pas_threads.specs.{Hands.standing_of_pass, Left.crew_in, Left.KeepsOrder, Sessions.WorkerHas}
 use Rattle.pas_threads.specs.Turns.{AreDistinct, Came, Pushed, Told, TookTurns}
 use Rattle.pas_threads.specs.Lent.{Shift, number_in, AreBeside, IsLent, AreLent, SitsAmong, standing_among, standing_at, home_at, WorkerSits, SitsLent, AreOfCrew, TellAs, IsButPlace}
 use Rattle.pas_threads.specs.Lent.{HasSeat, AreSeated, IsDeskAt, StopsLent, MayLeave, HasLeave, MayLeaveAll, HaveLeave}

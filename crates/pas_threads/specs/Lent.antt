@@ -5,8 +5,8 @@ use Rattle.pas_steps.specs.{Desks.Standing, Lists.Whole, Lists.part, Views.View}
 use Rattle.pas_cache.specs.Caches.{cached}
 use Rattle.pas_report.specs.Rooms.{Records}
 use Rattle.pas_region.specs.Noted.{AreNotesOf}
-use Rattle.pas_shared.specs.{Ledgers.part_of, Passes.seat_of, Passes.view_of, Passes.IsPassOf}
-use Rattle.pas_shared.specs.Ruled.{among, all_actors, made_in, HasRow, rows_of, rows_of_only, isnt, only_this, steps_of}
+use Rattle.pas_shared.specs.{Ledgers.part_of}
+use Rattle.pas_shared.specs.Ruled.{among, all_actors, HasRow, rows_of, rows_of_only, isnt, only_this, steps_of}
 use Rattle.pas_shared.specs.Benches.{row_on, first_row, home_of, seat_of_member, standing_on, IsFreshRow, IsMemberOf, SitsInRow, StandsOver}
 use Rattle.pas_shared.specs.declared.{bench.Bench.Bench, bench.Member.Member, bench_desk.BenchDesk.BenchDesk, bench_desk.BenchHome.BenchHome, region.SharedRegion.SharedRegion}
 use Rattle.pas_shared.specs.declared.{rule.Entry.Entry, rule.Row.Row}

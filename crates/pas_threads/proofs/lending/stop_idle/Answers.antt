@@ -1,4 +1,4 @@
-use Rattle.std.proofs.Common.{◌≡◌, ◌∙◌, ℕ, List, length, refl, ap, sym, arith, length-append}
+use Rattle.std.proofs.Common.{◌∙◌, List, length, refl, ap, sym, arith, length-append}
 use Rattle.pas_report.specs.Rooms.{records_in}
 use Rattle.pas_report.specs.declared.record.Record.{Record}
 use Rattle.pas_shared.specs.declared.bench.Member.{Member}

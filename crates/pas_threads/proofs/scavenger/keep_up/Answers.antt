@@ -1,5 +1,4 @@
-use Rattle.std.proofs.Common.{◌∙◌, List, [], refl, sym, subst}
-use Rattle.std.specs.Vec.{with_items}
+use Rattle.std.proofs.Common.{◌∙◌, List, refl, sym, subst}
 use Rattle.std.proofs.lemmas.{List.with_items_is, Option.same_Some}
 use Rattle.pas_utility.specs.Outcomes.{places_of}
 use Rattle.pas_shared.specs.Passes.{IsPassOf}
