@@ -1,9 +1,8 @@
 -- Acts that were answered one after the other, stage by stage: how far each stage comes, and what each actor's part of the list is then.
 use Rattle.std.proofs.Common.{◌≡◌, ℕ, ◌+◌, true, List, [], ◌∷◌, ◌++◌, refl, sym, ◌∙◌, ap, subst, append_assoc, append-nil, map, eq-eqb}
 use Rattle.pas_profile.specs.declared.profile.Profile.{Profile}
-use Rattle.pas_steps.specs.Lists.{Whole, part}
+use Rattle.pas_steps.specs.{Lists.Whole, Lists.part, Desks.triples}
 use Rattle.pas_core.proofs.Choosing.{part_of_chosen, steps_by_one}
-use Rattle.pas_steps.specs.Desks.{triples}
 use Rattle.pas_trace.specs.Acts.{Act, Wakes, MarksPhase, active_threads, idle_threads, acts_of_ops, phase_acts, close_acts, acts_from, acts_of}
 use Rattle.pas_trace.specs.declared.plan.{Op.Op, Plan.Plan}
 use Rattle.pas_answers.specs.{Answers.Progress, Reaching.Reaches}

@@ -14,8 +14,8 @@ use Rattle.pas_cache.specs.Caches.{Cached}
 use Rattle.pas_guard.specs.Keepers.{Call, MakesCalls}
 use Rattle.pas_guard.specs.declared.book.Guard.{Guard}
 pub use Rattle.pas_trace.specs.Acts.{region_of, threads_of, keepers_of, acts_of_plan}
-use Rattle.pas_answers.specs.{Answers.Caches, Answers.Books, Answers.Progress, Reaching.Reaches, Phases.AreInPhases, Indexes.GoByIndexes, Stages.Stage, Stages.stages_of, Stages.GoByStages}
-use Rattle.pas_answers.specs.{Refusals.AreRefusalsTrue, Rests.RestBetween, Ways.Way, Ways.IsOneOrder, Ways.arranged}
+use Rattle.pas_answers.specs.{Answers.Caches, Answers.Books, Answers.Progress, Reaching.Reaches, Phases.AreInPhases, Indexes.GoByIndexes, Stages.Stage}
+use Rattle.pas_answers.specs.{Stages.stages_of, Stages.GoByStages, Refusals.AreRefusalsTrue, Rests.RestBetween, Ways.Way, Ways.IsOneOrder, Ways.arranged}
 
 -- the phases of a plan, as lists of operations
 abbrev pub phases_of : Plan → List (List Op)

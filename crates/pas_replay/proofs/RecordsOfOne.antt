@@ -86,6 +86,7 @@ replay_of_one {text} {plan} {whole} {records} is alone replay = record {
   answers = replay.answers;
   one_order = λ k. ap (λ (l : Whole). part k l) replay.one_order;
   phases = replay.phases;
+  stages = replay.stages;
   records_are = replay.records_are ∙ sym (arranged_same is alone replay.reached replay.answers);
   legal = replay.legal;
   nothing = replay.nothing;

@@ -21,7 +21,7 @@ use Rattle.pas_cache.proofs.FlushesAndFrees.{rests_empty}
 use Rattle.pas_answers.specs.{Calls.owed_events, Names.names_held, Ways.InOrder}
 use Rattle.pas_answers.specs.Fit.{AreFit, AreOfThreads, own_costs_of, kept_costs_of}
 use Rattle.pas_answers.specs.Replays.{at_start, phases_of, region_of, threads_of, keepers_of, acts_of_plan, empty_cache, Shows}
-use Rattle.pas_answers.proofs.{Consequences.replays, Reached.in_phases, TrueRefusals.all_refuse, TrueRefusals.all_take}
+use Rattle.pas_answers.proofs.{Consequences.replays, Reached.in_phases, Staged.plan_by_one_list, TrueRefusals.all_refuse, TrueRefusals.all_take}
 use Rattle.pas_large.specs.Doors.{Indexes}
 use Rattle.pas_answers.specs.declared.names.Names.{Names}
 use Rattle.pas_replay.specs.Kits.{IsFresh, IsKitOf, replay_of}
@@ -177,7 +177,7 @@ shows {plan} {region} actors table {out} {state} limit valid threads fit so empt
     let answers = all.0.0 in
     record {
       whole = p.list;
-      replay = replays InOrder plan p p.list (records_in out) valid answers refl (in_phases (region_of plan) (acts_of_plan plan) at_start p answers p.list ([], refl)) at.records_are legal (bare_at so empty lowered)
+      replay = replays InOrder plan p p.list (records_in out) valid answers refl (in_phases (region_of plan) (acts_of_plan plan) at_start p answers p.list ([], refl)) (plan_by_one_list plan p answers) at.records_are legal (bare_at so empty lowered)
           (all_refuse (region_of plan) limit [] (acts_of_plan plan) at_start p valid fit legal answers)
           ((all.0.1, all_take (region_of plan) (acts_of_plan plan) at_start p valid legal answers), all.1) threads;
       profile = profile ∙ at.profile_is;

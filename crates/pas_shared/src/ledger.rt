@@ -29,7 +29,8 @@ pub struct Rest {
 
 impl Ledger {
     ghost use Rattle.std.specs.Prelude.{List, ◌∷◌, ◌++◌};
-    ghost use Rattle.pas_shared.specs.{Ruled.bases_in, Benches.rows_on, Benches.IsBenchOf, Ruled.HasAllOf, Ruled.IsEarlier, Ruled.AreEarlier, Passes.IsPassOf};
+    ghost use Rattle.pas_shared.specs.Ruled.{bases_in, HasAllOf, IsEarlier, AreEarlier};
+    ghost use Rattle.pas_shared.specs.{Benches.rows_on, Benches.IsBenchOf, Passes.IsPassOf};
     ghost use Rattle.pas_shared.specs.Ledgers.{so_far, looks_of, actors_in, part_of, IsLedgerOf, IsSameLedger, IsRestOf};
     ghost use Rattle.pas_shared.specs.declared.{rule.Part.Part, pass.SharedPass.SharedPass as ThePass};
 

@@ -4,3 +4,4 @@ mod Sharing
 pub mod Weaving
 pub mod KnownAfter
 pub mod Arranging
+mod Alone

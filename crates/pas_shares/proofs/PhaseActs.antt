@@ -1,6 +1,6 @@
 -- The acts of a phase are shared among its workers.
 use Rattle.std.proofs.Common.{◌≡◌, ℕ, zero, suc, ◌+◌, ◌-◌, ◌≤◌, ◌==◌, ◌||◌, not, Option, None, Some, Bool, true, false, if◌then◌else◌, inl, inr, List, [], ◌∷◌}
-use Rattle.std.proofs.Common.{◌++◌, map, refl, ap, sym, ◌∙◌, arith, MatchOption, eq-eqb, ne_eqb, le-leb}
+use Rattle.std.proofs.Common.{◌++◌, map, refl, ap, sym, subst, ◌∙◌, arith, MatchOption, eq-eqb, ne_eqb, le-leb}
 use Rattle.std.specs.List.{AllByRecursion, filter}
 use Rattle.std.proofs.lemmas.Bool.{lt-leb, false≢true, cases_eq, or_left, or_right, or_parts}
 use Rattle.pas_profile.specs.declared.profile.Profile.{Profile}
@@ -87,7 +87,7 @@ module _ (f : Profile) (P : Act → Type 0) (Q : Op → Type 0) (idle : List ℕ
   all_of_kept asked (op ∷ ops) sound kept = all_both P (acts_of_op idle op) (acts_of_ops idle ops) (each op sound.0 kept.0) (all_of_kept (asked_after op.what asked) ops sound.2 kept.1)
 
 -- the maker of each of these acts is actor j
-abbrev AreOf : ℕ → List Act → Type 0
+abbrev pub AreOf : ℕ → List Act → Type 0
 AreOf j acts = AllByRecursion (λ act. actor_of_act act ≡ j) acts
 
 kept_is_of : (keeper : Option ℕ) (op : Op) → AreOf op.actor (act_kept keeper op ∷ (Settles op.actor ∷ []))
@@ -98,6 +98,10 @@ work_is_of : (f : Profile) (idle : List ℕ) (op : Op) (work : Work) → IsActor
 work_is_of f idle op (Work.Own task) of = kept_is_of (keeper_of task) op
 work_is_of f idle op (Work.Chore chore) of =
     all_of_chore (λ act. actor_of_act act ≡ op.actor) (λ k. Unit {0}) idle chore (λ epoch. sym of) (sym of) (sym of) (λ k n is. sym of) (all_any idle)
+
+pub are_of : (f : Profile) (j : ℕ) (idle : List ℕ) (asked : List ℕ) (ops : List Op) → AreSound f asked ops → AllByRecursion (λ (op : Op). op.actor ≡ j) ops → AreOf j (acts_of_ops idle ops)
+are_of f j idle asked ops sound own =
+    all_of_kept f (λ act. actor_of_act act ≡ j) (λ op. op.actor ≡ j) idle (λ op of is. subst (λ (i : ℕ). AreOf i (acts_of_op idle op)) is (work_is_of f idle op (work_of op.what) of)) asked ops sound own
 
 none_if : (t : Bool) → ◌≡◌ {A = List Act} [] (if t then [] else [])
 none_if true = refl

@@ -1,7 +1,9 @@
 -- What a piece does to the share of its own worker, and to those of the others.
-use Rattle.std.proofs.Common.{◌≡◌, ◌≢◌, ℕ, ◌==◌, Bool, if◌then◌else◌, inl, inr, List, [], ◌++◌, ap, sym, ◌∙◌, subst, append-nil, ne_eqb}
+use Rattle.std.proofs.Common.{◌≡◌, ◌≢◌, ℕ, ◌==◌, Bool, false, if◌then◌else◌, inl, inr, List, [], ◌∷◌, ◌++◌, refl, ap, sym, ◌∙◌, subst, append-nil, ne_eqb}
 use Rattle.std.proofs.lemmas.Bool.{cases_eq}
-use Rattle.pas_steps.specs.{Lists.Whole, Lists.part, Desks.triples}
+use Rattle.pas_steps.specs.{Lists.Whole, Lists.part, Desks.triple, Desks.triples}
+use Rattle.pas_core.specs.Orders.{steps_by}
+use Rattle.pas_core.proofs.Choosing.{step_passed, steps_by_both}
 use Rattle.pas_steps.specs.declared.step.Made.{Made}
 use Rattle.pas_steps.proofs.Parts.{part_of_own, part_of_others}
 use Rattle.pas_report.specs.declared.record.Record.{Record}
@@ -10,7 +12,7 @@ use Rattle.pas_answers.specs.Answers.{Named, Caches, with_cache, Books, with_boo
 use Rattle.pas_guard.specs.declared.book.Guard.{Guard}
 use Rattle.pas_answers.specs.Ways.{EachOf, records_by}
 use Rattle.pas_answers.proofs.OwnRecords.{records_both, none_by}
-use Rattle.pas_shares.specs.Shares.{Owners, AreAmong, IsShareOf}
+use Rattle.pas_shares.specs.Shares.{Owners, in_hands, AreAmong, IsShareOf}
 
 -- ---- parts
 same_part : (j k : ℕ) (steps : List Made) (l m : Whole) → part j l ≡ part j m → part j (triples k steps ++ l) ≡ part j (triples k steps ++ m)
@@ -19,29 +21,39 @@ same_part j k steps l m same = elim (cases_eq k j) [
   | inr other ↦ part_of_others j k steps l other ∙ same ∙ sym (part_of_others j k steps m other)
 ]
 
+-- ---- steps
+-- the same ones in front of both
+same_steps : (chosen : ℕ → Bool) (new l m : Whole) → steps_by chosen l ≡ steps_by chosen m → steps_by chosen (new ++ l) ≡ steps_by chosen (new ++ m)
+same_steps chosen new l m same = steps_by_both chosen new l ∙ (ap (λ (n : Whole). steps_by chosen new ++ n) same ∙ sym (steps_by_both chosen new m))
+
+-- those of somebody else
+steps_past : (chosen : ℕ → Bool) (k : ℕ) (steps : List Made) (l : Whole) → chosen k ≡ false → steps_by chosen (triples k steps ++ l) ≡ steps_by chosen l
+steps_past chosen k [] l other = refl
+steps_past chosen k (m ∷ steps) l other = step_passed chosen (triple k m) (triples k steps ++ l) other ∙ steps_past chosen k steps l other
+
 -- ---- one thing of the two is changed, and stays shared
 module _ {owner : Owners} {w : ℕ} {own p : Progress} (share : IsShareOf owner w own p) where
-  by_lists : (l m : Whole) → ((j : ℕ) → owner j ≡ w → part j l ≡ part j m) → IsShareOf owner w (record own { list = l }) (record p { list = m })
-  by_lists l m same = record { parts = same; caches = share.caches; books = share.books; records = share.records; epoch = share.epoch; names = share.names }
+  by_lists : (l m : Whole) → steps_by (in_hands owner w) l ≡ steps_by (in_hands owner w) m → ((j : ℕ) → owner j ≡ w → part j l ≡ part j m) → IsShareOf owner w (record own { list = l }) (record p { list = m })
+  by_lists l m order same = record { steps = order; parts = same; caches = share.caches; books = share.books; records = share.records; epoch = share.epoch; names = share.names }
 
   by_caches : (c d : Caches) → ((j : ℕ) → owner j ≡ w → c j ≡ d j) → IsShareOf owner w (record own { caches = c }) (record p { caches = d })
-  by_caches c d same = record { parts = share.parts; caches = same; books = share.books; records = share.records; epoch = share.epoch; names = share.names }
+  by_caches c d same = record { steps = share.steps; parts = share.parts; caches = same; books = share.books; records = share.records; epoch = share.epoch; names = share.names }
 
   by_books : (a b : Books) → ((j : ℕ) → owner j ≡ w → a j ≡ b j) → IsShareOf owner w (record own { books = a }) (record p { books = b })
-  by_books a b same = record { parts = share.parts; caches = share.caches; books = same; records = share.records; epoch = share.epoch; names = share.names }
+  by_books a b same = record { steps = share.steps; parts = share.parts; caches = share.caches; books = same; records = share.records; epoch = share.epoch; names = share.names }
 
   by_records : (rs ss : List Record) → ((j : ℕ) → owner j ≡ w → records_by j rs ≡ records_by j ss) → IsShareOf owner w (record own { records = rs }) (record p { records = ss })
-  by_records rs ss same = record { parts = share.parts; caches = share.caches; books = share.books; records = same; epoch = share.epoch; names = share.names }
+  by_records rs ss same = record { steps = share.steps; parts = share.parts; caches = share.caches; books = share.books; records = same; epoch = share.epoch; names = share.names }
 
   pub by_names : (few many : List Named) → AreAmong few many → IsShareOf owner w (record own { names = few }) (record p { names = many })
-  by_names few many among = record { parts = share.parts; caches = share.caches; books = share.books; records = share.records; epoch = share.epoch; names = among }
+  by_names few many among = record { steps = share.steps; parts = share.parts; caches = share.caches; books = share.books; records = share.records; epoch = share.epoch; names = among }
 
   pub by_epochs : (e f : ℕ) → (owner 0 ≡ w → e ≡ f) → IsShareOf owner w (record own { epoch = e }) (record p { epoch = f })
-  by_epochs e f same = record { parts = share.parts; caches = share.caches; books = share.books; records = share.records; epoch = same; names = share.names }
+  by_epochs e f same = record { steps = share.steps; parts = share.parts; caches = share.caches; books = share.books; records = share.records; epoch = same; names = share.names }
 
 -- ---- the same change at both
 pub share_list : {owner : Owners} {w : ℕ} {own p : Progress} (k : ℕ) (steps : List Made) → IsShareOf owner w own p → IsShareOf owner w (record own { list = triples k steps ++ own.list }) (record p { list = triples k steps ++ p.list })
-share_list {owner} {w} {own} {p} k steps share = by_lists share (triples k steps ++ own.list) (triples k steps ++ p.list) (λ j is. same_part j k steps own.list p.list (share.parts j is))
+share_list {owner} {w} {own} {p} k steps share = by_lists share (triples k steps ++ own.list) (triples k steps ++ p.list) (same_steps (in_hands owner w) (triples k steps) own.list p.list share.steps) (λ j is. same_part j k steps own.list p.list (share.parts j is))
 
 pub share_cache : {owner : Owners} {w : ℕ} {own p : Progress} (k : ℕ) (c c' : Cached) → c ≡ c' → IsShareOf owner w own p → IsShareOf owner w (record own { caches = with_cache own.caches k c }) (record p { caches = with_cache p.caches k c' })
 share_cache {owner} {w} {own} {p} k c c' same share =
@@ -60,7 +72,7 @@ apart : (owner : Owners) (k j x : ℕ) → owner k ≢ x → owner j ≡ x → k
 apart owner k j x other is same = other (ap owner same ∙ is)
 
 pub beside_list : {owner : Owners} {x : ℕ} {own p : Progress} (k : ℕ) (steps : List Made) → owner k ≢ x → IsShareOf owner x own p → IsShareOf owner x own (record p { list = triples k steps ++ p.list })
-beside_list {owner} {x} {own} {p} k steps other share = by_lists share own.list (triples k steps ++ p.list) (λ j is. share.parts j is ∙ sym (part_of_others j k steps p.list (apart owner k j x other is)))
+beside_list {owner} {x} {own} {p} k steps other share = by_lists share own.list (triples k steps ++ p.list) (share.steps ∙ sym (steps_past (in_hands owner x) k steps p.list (ne_eqb (owner k) x other))) (λ j is. share.parts j is ∙ sym (part_of_others j k steps p.list (apart owner k j x other is)))
 
 pub beside_cache : {owner : Owners} {x : ℕ} {own p : Progress} (k : ℕ) (c : Cached) → owner k ≢ x → IsShareOf owner x own p → IsShareOf owner x own (record p { caches = with_cache p.caches k c })
 beside_cache {owner} {x} {own} {p} k c other share =

@@ -1,5 +1,5 @@
 -- What each worker does in a phase, apart from the others, and how the shares of all workers make up the whole phase.
-use Rattle.std.specs.Prelude.{ℕ, ◌+◌, ◌-◌, nat_le, MatchOption, ◌≤◌, ◌≡◌, ◌==◌, true, false, if◌then◌else◌, List, [], ◌∷◌, ◌++◌, Option, Some, IsSomeAnd}
+use Rattle.std.specs.Prelude.{ℕ, ◌+◌, MatchOption, ◌≤◌, ◌≡◌, ◌==◌, true, false, if◌then◌else◌, List, [], ◌∷◌, ◌++◌, Option, Some, IsSomeAnd}
 use Rattle.std.specs.List.{AllByRecursion}
 use Rattle.pas_profile.specs.declared.{profile.Profile.Profile, name.Block.Block}
 use Rattle.pas_steps.specs.Lists.{part}

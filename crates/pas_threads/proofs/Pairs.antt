@@ -1,25 +1,30 @@
 -- Both actors of a worker sit down on one bench with their passes, work there, and rise.
 use Rattle.std.proofs.Common.{◌≡◌, ◌≢◌, ◌==◌, ℕ, ◌+◌, Bool, true, false, if◌then◌else◌, List, [], ◌∷◌, ◌++◌, Option, Some, None, refl, ap, sym, ◌∙◌, subst, eq-eqb, ne_eqb, eqb-true}
-use Rattle.std.proofs.Common.{true≢false, inr, append-nil}
-use Rattle.std.proofs.lemmas.Bool.{cases_eq}
+use Rattle.std.proofs.Common.{true≢false, inr, append-nil, ◌≤◌, arith}
+use Rattle.std.proofs.lemmas.Option.{same_Some}
 use Rattle.pas_profile.specs.declared.profile.Profile.{Profile}
 use Rattle.pas_steps.specs.{Desks.Standing, Lists.Whole, Lists.part}
 use Rattle.pas_report.specs.Rooms.{Records}
+use Rattle.pas_report.specs.declared.record.Record.{Record}
 use Rattle.pas_guard.specs.declared.book.GuardBook.{GuardBook}
-use Rattle.pas_trace.specs.Acts.{Act}
+use Rattle.pas_trace.specs.Acts.{Act, own_acts}
+use Rattle.pas_trace.specs.declared.plan.Op.{Op}
 use Rattle.pas_answers.specs.Answers.{Progress}
 use Rattle.pas_acts.specs.Keepers.{Keeping, OneKeeper, keeper_has, LaterKept, KeeperAt}
-use Rattle.pas_acts.specs.{Pairs.for_guards, Pairs.KeeperWaits, Pairs.PairAt, Pairs.PairWorks, Works.Later, Works.Keeps, Works.ThreadAt}
+use Rattle.pas_acts.specs.{Pairs.for_guards, Pairs.KeeperWaits, Pairs.KeptPushed, Pairs.PairAt, Pairs.PairWorks, Works.Later, Works.Keeps, Works.ThreadAt}
 use Rattle.pas_shared.specs.Ruled.{among, made_in, HasRow, rows_of, rows_of_only, only, isnt, only_this, all_actors, steps_of, AreRowsOf}
-use Rattle.pas_shared.specs.Benches.{rows_on, first_row, row_on, empty_row, made_by, standing_on, IsBenchOf, IsFreshRow, HasLooked, SitsInRow, MaySitOn, StandsOver}
+use Rattle.pas_shared.specs.Benches.{rows_on, first_row, row_on, empty_row, made_by, home_of, standing_on, IsBenchOf, IsFreshRow, HasLooked, SitsInRow, MaySitOn, StandsOver}
 use Rattle.pas_shared.specs.{Ledgers.part_of, Passes.seat_of, Passes.view_of, Passes.IsPassOf}
-use Rattle.pas_shared.specs.declared.{bench.Bench.Bench, bench.Member.Member, pass.SharedPass.SharedPass, region.SharedRegion.SharedRegion, rule.Entry.Entry, rule.Row.Row}
+use Rattle.pas_shared.specs.declared.{bench.Bench.Bench, bench.Member.Member, bench_desk.BenchDesk.BenchDesk, bench_desk.BenchHome.BenchHome, pass.SharedPass.SharedPass, region.SharedRegion.SharedRegion, rule.Entry.Entry, rule.Row.Row}
 use Rattle.pas_shared.proofs.Benching.{stands_first}
-use Rattle.pas_threads.specs.{Hands.standing_of_pass, Left.IsSeated, Left.standing_beside}
-use Rattle.pas_threads.specs.Pairs.{IsKeeperOf, kept_by_worker, kept_seated}
+use Rattle.pas_acts.specs.declared.names.NameBook.{NameBook}
+use Rattle.pas_threads.specs.Hands.{standing_of_pass, kept_by, Did}
+use Rattle.pas_threads.specs.Left.{keeper_actors, pair_in, IsSeated, standing_beside, KeepsOrder, HasLeft}
+use Rattle.pas_threads.specs.Pairs.{IsKeeperOf, kept_by_worker, kept_seated, PairStands, PairDid}
 use Rattle.pas_threads.specs.Seats.{keeper_parts, rows_without_keeper, seated_actors, IsSameKeeper, SitsBeside, KeeperMayLeave, IsPassOfMember, HasRisen, PairSits, PairRose, IsAnother, KeeperSits}
-use Rattle.pas_threads.specs.declared.keeper.{Keeper.Keeper, Seated.Seated}
-use Rattle.pas_threads.proofs.Benched.{has_seat, member_seat, sat, sits_as, looked_made, looked_fresh, still_sits, left_fresh, left_made, left_sits}
+use Rattle.pas_threads.specs.declared.{keeper.Keeper.Keeper, keeper.Seated.Seated, workers.Worker.Worker}
+use Rattle.pas_threads.proofs.Benched.{has_seat, member_seat, sat, sits_as, looked_made, looked_fresh, still_sits, left_fresh, left_made, left_sits, keeps_order}
+use Rattle.pas_answers.proofs.Reached.{goes_on}
 
 -- ---- both sit down
 seated_beside : (region : SharedRegion) (keeper : Option Keeper) (seated : Option Seated) (b now : Bench) (r : Row) (rs : List Row) → IsSameKeeper keeper seated → IsKeeperOf region keeper → rows_on b ≡ r ∷ (rows_of (keeper_parts keeper) ++ rs)
@@ -183,3 +188,144 @@ module _ (region : SharedRegion) (bench looked : Bench) (member : Member) (seate
     where
       all : all_actors (rows_on bench) ≡ member.actor ∷ seated_actors seated
       all = ap all_actors thread.one ∙ (append-nil (row_on bench).actors ∙ actors)
+
+-- ---- after their acts
+-- there is a keeper still, or there is none
+same_keeper : (f : Profile) (j : ℕ) (acts : List Act) (said : List Record) (more more' : LaterKept) (p q : Progress) (region now : SharedRegion) (b c : Bench) (s t : Option Seated) → KeptPushed j said (kept_seated region b s) (kept_seated now c t)
+    → KeeperWaits f j acts (kept_seated region b s) more p → KeeperWaits f j [] (kept_seated now c t) more' q → seated_actors t ≡ seated_actors s
+same_keeper f j acts said more more' p q region now b c None None pushed was is = refl
+same_keeper f j acts said more more' p q region now b c None (Some t) pushed was is = absurd pushed
+same_keeper f j acts said more more' p q region now b c (Some s) None pushed was is = absurd pushed
+same_keeper f j acts said more more' p q region now b c (Some s) (Some t) pushed was is = ap (λ (a : ℕ). a ∷ []) (is.1.sits.actor ∙ sym was.1.sits.actor)
+
+keeper_sits : (f : Profile) (j : ℕ) (more : LaterKept) (p : Progress) (region : SharedRegion) (b : Bench) (s : Option Seated) → KeeperWaits f j [] (kept_seated region b s) more p → KeeperSits region b s
+keeper_sits f j more p region b None waits = tt
+keeper_sits f j more p region b (Some s) waits = waits.1.sits.stood.0
+
+keeper_apart : (f : Profile) (j k : ℕ) (more : LaterKept) (p : Progress) (region : SharedRegion) (b : Bench) (a : ℕ) (s : Option Seated) → a ≡ k → k ≢ j → KeeperWaits f j [] (kept_seated region b s) more p → IsAnother a s
+keeper_apart f j k more p region b a None is apart waits = tt
+keeper_apart f j k more p region b a (Some s) is apart waits = λ same. apart (sym is ∙ (sym same ∙ waits.1.sits.actor))
+
+keeper_is : (f : Profile) (j : ℕ) (acts : List Act) (more : LaterKept) (p : Progress) (region : SharedRegion) (b : Bench) (o : Option Keeper) (s : Option Seated) → SitsBeside region b o s → KeeperWaits f j acts (kept_by_worker o) more p
+    → seated_actors s ≡ keeper_actors j o
+keeper_is f j acts more p region b None None sits waits = refl
+keeper_is f j acts more p region b None (Some s) sits waits = absurd sits
+keeper_is f j acts more p region b (Some o) None sits waits = absurd sits
+keeper_is f j acts more p region b (Some o) (Some s) sits waits = ap (λ (a : ℕ). a ∷ []) (sits.0.is.actor ∙ waits.1.sits.actor)
+
+pub keeper_of : (region : SharedRegion) (r : Row) (t : Option Seated) (keeper : Option Keeper) → HasRisen region r t keeper → IsKeeperOf region keeper
+keeper_of region r None None risen = tt
+keeper_of region r None (Some keeper) risen = absurd risen
+keeper_of region r (Some t) None risen = absurd risen
+keeper_of region r (Some t) (Some keeper) risen = risen.0.of
+
+-- ---- with their passes again
+thread_back : (c : Bench) {region : SharedRegion} {pass : SharedPass} {member : Member} {f : Profile} {k : ℕ} {has : Keeps} {later : Later} {q : Progress} → IsPassOfMember region (row_on c) member pass → ThreadAt f k [] (standing_on c member) has later q
+    → ThreadAt f k [] (standing_of_pass pass) has later q
+thread_back c own at = record { sits = sits_as own.seat (λ stood. own.view ∙ stood.0) at.sits; cache = at.cache; spare = at.spare; names = at.names }
+
+keeper_back : (c : Bench) {region now : SharedRegion} {f : Profile} {j : ℕ} {more : LaterKept} {q : Progress} (s : Seated) (keeper : Keeper) → IsPassOfMember region (row_on c) s.member keeper.pass
+    → KeeperAt f j (keeper_has (standing_beside now c s.member) s.book s.out) more q → KeeperAt f j (keeper_has (standing_of_pass keeper.pass) s.book s.out) more q
+keeper_back c s keeper risen at = record { sits = sits_as risen.seat (λ stood. risen.view ∙ stood.1) at.sits; book = at.book; spare = at.spare; places = at.places }
+
+module _ (region was now : SharedRegion) (b c : Bench) (pass : SharedPass) (member : Member) (f : Profile) (k j : ℕ) (acts : List Act) (σ τ : Standing) (has has' : Keeps) (later : Later) (more : LaterKept) (p : Progress)
+    (own : IsPassOfMember region (row_on c) member pass) where
+  pub works_back : (o : Option Keeper) (s t : Option Seated) (keeper : Option Keeper) → SitsBeside was b o s → HasRisen region (row_on c) t keeper
+      → (w : PairWorks f k j acts [] τ (standing_on c member) has has' (kept_seated was b s) (kept_seated now c t) later more p)
+      → (v : PairWorks f k j acts [] σ (standing_of_pass pass) has has' (kept_by_worker o) (kept_by_worker keeper) later more p) × (v.reached ≡ w.reached)
+  works_back None None None None sits risen w = (
+    record {
+      reached = w.reached; reaches = w.reaches; stands = record { thread = thread_back c own w.stands.thread; apart = w.stands.apart; waits = w.stands.waits };
+      said = w.said; records_are = w.records_are; pushed = w.pushed; room = w.room; kept_pushed = w.kept_pushed; still = w.still; each = w.each; book = w.book; noted = w.noted; room_noted = w.room_noted; paid = w.paid;
+    },
+    refl,
+  )
+  works_back (Some o) (Some s) (Some t) (Some keeper) sits risen w = subst (λ (z : GuardBook × Records × GuardBook × Records).
+      (v : PairWorks f k j acts [] σ (standing_of_pass pass) has has' (OneKeeper (keeper_has (standing_of_pass o.pass) z.0 z.1)) (OneKeeper (keeper_has (standing_of_pass keeper.pass) z.2 z.3)) later more p) × (v.reached ≡ w.reached))
+    (λ i. (sits.1 i, sits.2 i, sym risen.1 i, sym risen.2 i)) (
+      record {
+        reached = w.reached; reaches = w.reaches; stands = record { thread = thread_back c own w.stands.thread; apart = w.stands.apart; waits = (w.stands.waits.0, keeper_back c t keeper risen.0 w.stands.waits.1) };
+        said = w.said; records_are = w.records_are; pushed = w.pushed; room = w.room; kept_pushed = w.kept_pushed; still = w.still; each = w.each; book = w.book; noted = w.noted; room_noted = w.room_noted; paid = w.paid;
+      },
+      refl,
+    )
+  works_back None None (Some t) keeper sits risen w = absurd w.kept_pushed
+  works_back (Some o) (Some s) None keeper sits risen w = absurd w.kept_pushed
+  works_back None None None (Some keeper) sits risen w = absurd risen
+  works_back (Some o) (Some s) (Some t) None sits risen w = absurd risen
+  works_back None (Some s) t keeper sits risen w = absurd sits
+  works_back (Some o) None t keeper sits risen w = absurd sits
+
+-- ---- a worker's operations of a phase
+pub sat_at : {region : SharedRegion} {pass : SharedPass} {keeper : Option Keeper} {bench : Bench} {member : Member} {seated : Option Seated} (desk : BenchDesk) → desk.region.now ≡ region → desk.place.bench ≡ bench → desk.place.member ≡ member
+    → PairSits region pass keeper bench member seated → PairSits desk.region.now pass keeper desk.place.bench desk.place.member seated
+sat_at {pass = pass} {keeper} {seated = seated} desk region bench member sits =
+    subst (λ (z : SharedRegion × Bench × Member). PairSits z.0 pass keeper z.1 z.2 seated) (λ i. (sym region i, sym bench i, sym member i)) sits
+
+module _ (region : SharedRegion) (book : NameBook) (worker : Worker) (ops : List Op) (pass : SharedPass) (keeper : Option Keeper) (seated : Option Seated) (desk : BenchDesk) (is : worker.pass ≡ Some pass) (taken : keeper ≡ worker.keeper)
+    (sits : PairSits desk.region.now pass keeper desk.place.bench desk.place.member seated) (f : Profile) (threads k : ℕ) (later : Later) (more : LaterKept) (p : Progress) (some : 1 ≤ threads)
+    (at : PairStands region book f threads k (own_acts k ops) worker later more p) where
+  thread : ThreadAt f k (own_acts k ops) (standing_of_pass pass) (kept_by book worker) later p
+  thread = subst (λ (x : SharedPass). ThreadAt f k (own_acts k ops) (standing_of_pass x) (kept_by book worker) later p) (same_Some _ _ (sym at.thread.has.present ∙ is)) at.thread.stands
+
+  waits : KeeperWaits f (threads + k) (own_acts k ops) (kept_by_worker keeper) more p
+  waits = subst (λ (o : Option Keeper). KeeperWaits f (threads + k) (own_acts k ops) (kept_by_worker o) more p) (sym taken) at.waits
+
+  here : PairAt f k (threads + k) (own_acts k ops) (standing_on desk.place.bench desk.place.member) (kept_by book worker) (kept_seated desk.region.now desk.place.bench seated) later more p
+  here = pair_at sits f k (threads + k) (own_acts k ops) (kept_by book worker) later more p thread waits (λ one. omega (arith, one, some))
+
+  -- they may begin
+  pub begins : PairAt f desk.place.member.actor (threads + k) (own_acts desk.place.member.actor ops) (standing_on desk.place.bench desk.place.member) (kept_by book worker) (kept_seated desk.region.now desk.place.bench seated) later more p
+  begins = subst (λ (n : ℕ). PairAt f n (threads + k) (own_acts n ops) (standing_on desk.place.bench desk.place.member) (kept_by book worker) (kept_seated desk.region.now desk.place.bench seated) later more p) (sym here.thread.sits.actor) here
+
+  module _ (after : BenchDesk) (has : Keeps) (there : Option Seated) (works : PairWorks f desk.place.member.actor (threads + k) (own_acts desk.place.member.actor ops) [] (standing_on desk.place.bench desk.place.member) (standing_on after.place.bench after.place.member)
+      (kept_by book worker) has (kept_seated desk.region.now desk.place.bench seated) (kept_seated after.region.now after.place.bench there) later more p) (home : home_of after.region.now (row_on after.place.bench) ≡ home_of desk.region.now (row_on desk.place.bench)) where
+    mine : PairWorks f k (threads + k) (own_acts k ops) [] (standing_on desk.place.bench desk.place.member) (standing_on after.place.bench after.place.member) (kept_by book worker) has (kept_seated desk.region.now desk.place.bench seated)
+        (kept_seated after.region.now after.place.bench there) later more p
+    mine = subst (λ (n : ℕ). PairWorks f n (threads + k) (own_acts n ops) [] (standing_on desk.place.bench desk.place.member) (standing_on after.place.bench after.place.member) (kept_by book worker) has
+        (kept_seated desk.region.now desk.place.bench seated) (kept_seated after.region.now after.place.bench there) later more p) here.thread.sits.actor works
+
+    pub keeper_may : KeeperSits after.region.now after.place.bench there
+    keeper_may = keeper_sits f (threads + k) more mine.reached after.region.now after.place.bench there mine.stands.waits
+
+    pub keeper_other : IsAnother after.place.member.actor there
+    keeper_other = keeper_apart f (threads + k) k more mine.reached after.region.now after.place.bench after.place.member.actor there mine.stands.thread.sits.actor mine.stands.apart mine.stands.waits
+
+    same_there : seated_actors there ≡ seated_actors seated
+    same_there = same_keeper f (threads + k) (own_acts k ops) mine.said more more p mine.reached desk.region.now after.region.now desk.place.bench after.place.bench seated there mine.kept_pushed here.waits mine.stands.waits
+
+    pub actors_are : (row_on after.place.bench).actors ≡ after.place.member.actor ∷ seated_actors there
+    actors_are = ap (λ (h : BenchHome). h.row.actors) home
+        ∙ (sits.actors ∙ (λ i. (here.thread.sits.actor ∙ sym mine.stands.thread.sits.actor) i ∷ sym same_there i))
+
+    -- it did them, and its bench is left
+    module _ (left : Bench) (own : SharedPass) (risen : Option Keeper) (rose : PairRose region after.place.bench after.place.member there left own risen) where
+      back : (v : PairWorks f k (threads + k) (own_acts k ops) [] (standing_of_pass pass) (standing_of_pass own) (kept_by book worker) has (kept_by_worker keeper) (kept_by_worker risen) later more p) × (v.reached ≡ mine.reached)
+      back = works_back region desk.region.now after.region.now desk.place.bench after.place.bench own after.place.member f k (threads + k) (own_acts k ops) (standing_of_pass pass) (standing_on desk.place.bench desk.place.member) (kept_by book worker) has
+          later more p rose.thread keeper seated there risen sits.beside rose.beside mine
+
+      grown : (made : Whole) × (mine.reached.list ≡ made ++ p.list)
+      grown = goes_on f (own_acts k ops) p mine.reached mine.reaches
+
+      pair : (row_on after.place.bench).actors ≡ k ∷ keeper_actors (threads + k) worker.keeper
+      pair = actors_are ∙ (λ i. mine.stands.thread.sits.actor i ∷ (same_there ∙ (keeper_is f (threads + k) (own_acts k ops) more p desk.region.now desk.place.bench keeper seated sits.beside waits ∙ ap (keeper_actors (threads + k)) taken)) i)
+
+      parts : (n : ℕ) → among (row_on after.place.bench).actors n ≡ true → part n p.list ≡ part n (steps_of (row_on after.place.bench).base)
+      parts = subst (λ (h : BenchHome). (n : ℕ) → among h.row.actors n ≡ true → part n p.list ≡ part n (steps_of h.row.base)) (sym home)
+          (both_parts sits f k (threads + k) (own_acts k ops) (kept_by book worker) later more p thread waits)
+
+      order : KeepsOrder (pair_in threads k worker.keeper) p.list mine.reached.list (steps_of rose.base)
+      order = subst (λ (ns : List ℕ). KeepsOrder (among ns) p.list mine.reached.list (steps_of rose.base)) pair
+          (keeps_order (row_on after.place.bench) rose.base grown.0 p.list mine.reached.list rose.saw grown.1 mine.stands.thread.sits.stood.1 parts)
+
+      its : IsPassOf region pass
+      its = subst (λ (x : SharedPass). IsPassOf region x) (same_Some _ _ (sym at.thread.has.present ∙ is)) at.thread.has.of
+
+      pub pair_did : (did : Did region worker.pass (Some own) (λ σ σ'. PairWorks f k (threads + k) (own_acts k ops) [] σ σ' (kept_by book worker) has (kept_by_worker worker.keeper) (kept_by_worker risen) later more p))
+          × IsKeeperOf region risen × HasLeft region (Some left) (pair_in threads k worker.keeper) p.list did.does.reached.list
+      pair_did = subst (λ (o : Option Keeper). (did : Did region worker.pass (Some own) (λ σ σ'. PairWorks f k (threads + k) (own_acts k ops) [] σ σ' (kept_by book worker) has (kept_by_worker o) (kept_by_worker risen) later more p))
+          × IsKeeperOf region risen × HasLeft region (Some left) (pair_in threads k worker.keeper) p.list did.does.reached.list) taken (
+        record { before = record { pass = pass; present = is; of = its }; after = record { pass = own; present = refl; of = rose.thread.of }; does = back.0 },
+        keeper_of region (row_on after.place.bench) there risen rose.beside,
+        record { bench = left; present = refl; of = rose.of; base = rose.base; rows = rose.rows; order = subst (λ (q : Progress). KeepsOrder (pair_in threads k worker.keeper) p.list q.list (steps_of rose.base)) (sym back.1) order },
+      )

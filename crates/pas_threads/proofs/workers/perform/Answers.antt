@@ -1,38 +1,69 @@
-use Rattle.std.proofs.Common.{◌∙◌, ◌+◌, [], Option, Some, ap, sym, subst}
-use Rattle.pas_shared.specs.Passes.{IsPassOf}
-use Rattle.pas_shared.specs.declared.region.SharedRegion.{SharedRegion}
-use Rattle.pas_trace.specs.Acts.{own_acts}
-use Rattle.pas_acts.specs.{Keepers.Keeping, Pairs.PairWorks}
-use Rattle.pas_threads.specs.{Hands.kept_by, Pairs.kept_by_worker, Pairs.home_kept, Pairs.IsKeeperOf}
+use Rattle.std.proofs.Common.{◌≡◌, ◌∙◌, ◌∷◌, ◌+◌, None, ap, sym, subst}
+use Rattle.pas_cache.specs.Caches.{cached}
+use Rattle.pas_shared.specs.{Benches.row_on, Benches.MaySitOn, Passes.IsPassOf}
+use Rattle.pas_shared.specs.declared.{bench.Bench.Bench, bench.Member.Member, bench_desk.BenchHome.BenchHome, region.SharedRegion.SharedRegion}
+use Rattle.pas_acts.specs.{Works.keeps, NameBooks.table}
+use Rattle.pas_threads.specs.{Hands.kept_by, Pairs.IsKeeperOf}
+use Rattle.pas_threads.specs.Seats.{seated_actors, IsAnother, KeeperSits, PairRose}
 use Rattle.pas_threads.specs.declared.keeper.Keeper.{Keeper}
-use Rattle.pas_threads.proofs.Sitting.{rose, sat_as, pair_sits, own_seat, worked}
+use Rattle.pas_threads.proofs.Pairs.{sat_at, begins, keeper_may, keeper_other, actors_are, pair_did}
 use Rattle.pas_threads.proofs.workers.perform.Goals as goal
-
-pub sit-keeper-requires : goal.sit-keeper-requires
-sit-keeper-requires g c = subst (λ (o : Option Keeper). IsKeeperOf c.args.region.now o) (sym c.take-2.ensures.value) c.requires.may.stands.of
 
 pub work-requires-clause-stands : goal.work-requires-clause-stands
 work-requires-clause-stands g c =
-    let may = c.requires.may in
-    let is = sym c.take.ensures.value ∙ c.in-Some.is ∙ ap Some (sym c.desk-desk.ensures.pass) in
-    let sat = sat_as c.take-2.result c.sit-keeper.result.keeper c.sit-keeper.ensures.kept ∙ ap kept_by_worker c.take-2.ensures.value in
-    (may.profile, may.threads + may.thread, may.later, may.more, may.progress, own_seat c.args.ops.now c.desk-desk.result.pass (pair_sits c.desk-desk.result.pass _ is sat may.some may.stands))
+    let m = c.requires.may in
+    let desk = c.bench_desk-desk.result in
+    let sits = sat_at desk c.bench_desk-desk.ensures.region c.bench_desk-desk.ensures.bench c.bench_desk-desk.ensures.member c.sit_down-bench.ensures.sits in
+    (m.profile, m.threads + m.thread, m.later, m.more, m.progress,
+    begins c.args.region.now c.args.book.now c.args.worker.now c.args.ops.now c.in-Some.pass c.take-2.result c.sit_down-bench.result.keeper desk (sym c.take.ensures.value ∙ c.in-Some.is) c.take-2.ensures.value sits m.profile m.threads m.thread m.later m.more m.progress
+    m.some m.stands)
+
+pub rise-bench-requires-clause-keeper : goal.rise-bench-requires-clause-keeper
+rise-bench-requires-clause-keeper g c =
+    let m = c.requires.may in
+    let desk = c.bench_desk-desk.result in
+    let after = c.work.new.desk in
+    let there = c.work.new.keeper.keeper in
+    let sits = sat_at desk c.bench_desk-desk.ensures.region c.bench_desk-desk.ensures.bench c.bench_desk-desk.ensures.member c.sit_down-bench.ensures.sits in
+    let has = kept_by c.args.book.now (record { pass = None; cache = c.work.new.cache; requests = c.work.new.requests; out = c.work.new.out; keeper = None; member = None; bench = None }) in
+    let here = ap (λ (h : BenchHome). h.region) c.work.ensures.home ∙ c.bench_desk-desk.ensures.region in
+    subst (λ (z : SharedRegion × Bench). KeeperSits z.0 z.1 there) (λ i. (here i, sym c.into_parts-bench.ensures.bench i))
+    (keeper_may c.args.region.now c.args.book.now c.args.worker.now c.args.ops.now c.in-Some.pass c.take-2.result c.sit_down-bench.result.keeper desk (sym c.take.ensures.value ∙ c.in-Some.is) c.take-2.ensures.value sits m.profile m.threads m.thread m.later m.more m.progress m.some m.stands after has there (c.work.ensures.works m.profile (m.threads + m.thread) m.later m.more m.progress (begins c.args.region.now c.args.book.now c.args.worker.now c.args.ops.now c.in-Some.pass c.take-2.result c.sit_down-bench.result.keeper desk (sym c.take.ensures.value ∙ c.in-Some.is) c.take-2.ensures.value sits m.profile m.threads m.thread m.later m.more m.progress m.some m.stands)) c.work.ensures.home)
+
+pub rise-bench-requires-clause-apart : goal.rise-bench-requires-clause-apart
+rise-bench-requires-clause-apart g c =
+    let m = c.requires.may in
+    let desk = c.bench_desk-desk.result in
+    let after = c.work.new.desk in
+    let there = c.work.new.keeper.keeper in
+    let sits = sat_at desk c.bench_desk-desk.ensures.region c.bench_desk-desk.ensures.bench c.bench_desk-desk.ensures.member c.sit_down-bench.ensures.sits in
+    let has = kept_by c.args.book.now (record { pass = None; cache = c.work.new.cache; requests = c.work.new.requests; out = c.work.new.out; keeper = None; member = None; bench = None }) in
+    subst (λ (x : Member). IsAnother x.actor there) (sym c.into_parts-bench.ensures.member)
+    (keeper_other c.args.region.now c.args.book.now c.args.worker.now c.args.ops.now c.in-Some.pass c.take-2.result c.sit_down-bench.result.keeper desk (sym c.take.ensures.value ∙ c.in-Some.is) c.take-2.ensures.value sits m.profile m.threads m.thread m.later m.more m.progress m.some m.stands after has there (c.work.ensures.works m.profile (m.threads + m.thread) m.later m.more m.progress (begins c.args.region.now c.args.book.now c.args.worker.now c.args.ops.now c.in-Some.pass c.take-2.result c.sit_down-bench.result.keeper desk (sym c.take.ensures.value ∙ c.in-Some.is) c.take-2.ensures.value sits m.profile m.threads m.thread m.later m.more m.progress m.some m.stands)) c.work.ensures.home)
+
+pub rise-bench-requires-clause-actors : goal.rise-bench-requires-clause-actors
+rise-bench-requires-clause-actors g c =
+    let m = c.requires.may in
+    let desk = c.bench_desk-desk.result in
+    let after = c.work.new.desk in
+    let there = c.work.new.keeper.keeper in
+    let sits = sat_at desk c.bench_desk-desk.ensures.region c.bench_desk-desk.ensures.bench c.bench_desk-desk.ensures.member c.sit_down-bench.ensures.sits in
+    let has = kept_by c.args.book.now (record { pass = None; cache = c.work.new.cache; requests = c.work.new.requests; out = c.work.new.out; keeper = None; member = None; bench = None }) in
+    subst (λ (z : Bench × Member). (row_on z.0).actors ≡ z.1.actor ∷ seated_actors there) (λ i. (sym c.into_parts-bench.ensures.bench i, sym c.into_parts-bench.ensures.member i))
+    (actors_are c.args.region.now c.args.book.now c.args.worker.now c.args.ops.now c.in-Some.pass c.take-2.result c.sit_down-bench.result.keeper desk (sym c.take.ensures.value ∙ c.in-Some.is) c.take-2.ensures.value sits m.profile m.threads m.thread m.later m.more m.progress m.some m.stands after has there (c.work.ensures.works m.profile (m.threads + m.thread) m.later m.more m.progress (begins c.args.region.now c.args.book.now c.args.worker.now c.args.ops.now c.in-Some.pass c.take-2.result c.sit_down-bench.result.keeper desk (sym c.take.ensures.value ∙ c.in-Some.is) c.take-2.ensures.value sits m.profile m.threads m.thread m.later m.more m.progress m.some m.stands)) c.work.ensures.home)
 
 pub returns : goal.returns
 returns g c = record {
   did = record {
     did = λ f threads k later more p some at.
-        let pass = c.desk-desk.result.pass in
-        let ops = c.args.ops.now in
-        let has = kept_by c.args.book.now c.args.worker.now in
-        let is = sym c.take.ensures.value ∙ c.in-Some.is ∙ ap Some (sym c.desk-desk.ensures.pass) in
-        let sat = sat_as c.take-2.result c.sit-keeper.result.keeper c.sit-keeper.ensures.kept ∙ ap kept_by_worker c.take-2.ensures.value in
-        let here = pair_sits pass _ is sat some at in
-        record {
-          did = rose (λ σ σ'. PairWorks f k (threads + k) (own_acts k ops) [] σ σ' has _ (kept_by_worker c.args.worker.now.keeper) (kept_by_worker c.rise.result) later more p) pass c.work.new.desk.pass c.into_pass.result is at.thread.has c.into_pass.ensures.pass
-              (subst (λ (r : SharedRegion). IsPassOf r c.into_pass.result) (c.work.ensures.home ∙ c.desk-desk.ensures.region) c.into_pass.ensures.of)
-              (worked ops pass here.thread.sits.actor sat (sym (sat_as c.rise.result c.work.new.keeper.keeper c.rise.ensures.kept)) (c.work.ensures.works f (threads + k) later more p (own_seat ops pass here)));
-          of = c.rise.ensures.of c.args.region.now c.args.worker.now.keeper (c.work.ensures.keeps_home ∙ c.sit-keeper.ensures.home ∙ ap (home_kept c.args.region.now) c.take-2.ensures.value);
-        };
+        let desk = c.bench_desk-desk.result in
+        let after = c.work.new.desk in
+        let there = c.work.new.keeper.keeper in
+        let sits = sat_at desk c.bench_desk-desk.ensures.region c.bench_desk-desk.ensures.bench c.bench_desk-desk.ensures.member c.sit_down-bench.ensures.sits in
+        let has = kept_by c.args.book.now (record { pass = None; cache = c.work.new.cache; requests = c.work.new.requests; out = c.work.new.out; keeper = None; member = None; bench = None }) in
+        let works = c.work.ensures.works f (threads + k) later more p (begins c.args.region.now c.args.book.now c.args.worker.now c.args.ops.now c.in-Some.pass c.take-2.result c.sit_down-bench.result.keeper desk (sym c.take.ensures.value ∙ c.in-Some.is) c.take-2.ensures.value sits f threads k later more p some at) in
+        let rose = subst (λ (z : Bench × Member). PairRose c.args.region.now z.0 z.1 there c.rise-bench.result.0 c.rise-bench.result.1 c.rise-bench.result.2) (λ i. (c.into_parts-bench.ensures.bench i, c.into_parts-bench.ensures.member i)) c.rise-bench.ensures.rose in
+        let did = pair_did c.args.region.now c.args.book.now c.args.worker.now c.args.ops.now c.in-Some.pass c.take-2.result c.sit_down-bench.result.keeper desk (sym c.take.ensures.value ∙ c.in-Some.is) c.take-2.ensures.value sits f threads k later more p some at after has there works c.work.ensures.home c.rise-bench.result.0 c.rise-bench.result.1 c.rise-bench.result.2 rose in
+        record { did = did.0; of = did.1; left = did.2 };
   };
 }
