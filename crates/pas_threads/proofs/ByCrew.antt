@@ -19,8 +19,8 @@ use Rattle.pas_acts.proofs.{Alone.sits_still, AtDesk.sits_for}
 use Rattle.pas_threads.specs.Turns.{AreDistinct, Came, Pushed, Told, TookNoPart}
 use Rattle.pas_threads.specs.Lent.{Shift, number_in, standing_at, AreBeside, SitsLent, IsDeskAt, StopsLent, StoppedLent}
 use Rattle.pas_threads.specs.declared.workers.Worker.{Worker}
-use Rattle.pas_threads.proofs.TakingTurns.{by_scavenger, pushed_none, pushed_both, SoFar, at_first, goes_on, at_last, Stays, no_turn, no_part_both}
-use Rattle.pas_threads.proofs.TakingTurns.{came_none, came_both, told_none, told_both}
+use Rattle.pas_threads.proofs.TakingTurns.{by_scavenger, pushed_none, pushed_both, SoFar, at_first, goes_on, at_last, Stays, no_turn, no_part_both, came_none}
+use Rattle.pas_threads.proofs.TakingTurns.{came_both, told_none, told_both}
 use Rattle.pas_trace.specs.Asked.{work_of}
 use Rattle.pas_trace.specs.EveryPlan.{AreSound, IsActorBy, IsSoundWork, asked_after}
 use Rattle.pas_trace.specs.declared.plan.{Op.Op, Chore.Chore, Work.Work}

@@ -1,6 +1,6 @@
 -- The scavenger's worker with the lent threads on one bench: they sit down, take their places at its desk, and leave.
-use Rattle.std.proofs.Common.{◌≡◌, ◌≢◌, ◌==◌, ◌⊎◌, inl, inr, ⊎_elim, ℕ, ◌+◌, ◌<◌, ◌≤◌, Bool, true, false, if◌then◌else◌, List, [], ◌∷◌, ◌++◌, length, set, get_or, Some, refl, ap, sym, ◌∙◌, subst, arith}
-use Rattle.std.proofs.Common.{true≢false, eqb-true, eq-eqb, ne_eqb, zero, suc, append-nil, get_or-set_other}
+use Rattle.std.proofs.Common.{◌≡◌, ◌≢◌, ◌==◌, ◌⊎◌, inl, inr, ⊎_elim, ℕ, ◌+◌, ◌<◌, ◌≤◌, Bool, true, false, if◌then◌else◌, List, [], ◌∷◌, ◌++◌, length, set}
+use Rattle.std.proofs.Common.{get_or, Some, refl, ap, sym, ◌∙◌, subst, arith, true≢false, eqb-true, eq-eqb, ne_eqb, zero, suc, append-nil, get_or-set_other}
 use Rattle.std.proofs.lemmas.{Bool.cases_eq, Option.same_Some, List.get_or_default}
 use Rattle.pas_profile.specs.declared.profile.Profile.{Profile}
 use Rattle.pas_region.specs.Noted.{AreNotesOf}
@@ -10,10 +10,11 @@ use Rattle.pas_steps.specs.{Desks.Standing, Lists.Whole, Lists.part, Views.View}
 use Rattle.pas_cache.specs.Caches.{Cached, cached}
 use Rattle.pas_core.proofs.Choosing.{steps_by_same}
 use Rattle.pas_shared.specs.Ruled.{among, made_in, all_actors, HasRow, only, only_this, isnt, rows_of, rows_of_only, steps_of, IsRowOf, AreRowsOf}
-use Rattle.pas_shared.specs.Benches.{empty_row, first_row, row_on, rows_on, home_of, seat_of_member, standing_on, HasLooked, IsBenchOf, IsFreshRow, IsMemberOf, SitsInRow, MaySitOn, StandsOver}
+use Rattle.pas_shared.specs.Benches.{empty_row, first_row, row_on, rows_on, home_of, seat_of_member, standing_on, HasLooked, IsBenchOf, IsFreshRow, IsMemberOf}
+use Rattle.pas_shared.specs.Benches.{SitsInRow, MaySitOn, StandsOver}
 use Rattle.pas_shared.specs.{Ledgers.part_of, Passes.seat_of, Passes.view_of, Passes.IsPassOf}
-use Rattle.pas_shared.specs.declared.{bench.Bench.Bench, bench.Member.Member, bench_desk.BenchDesk.BenchDesk, bench_desk.BenchHome.BenchHome, pass.SharedPass.SharedPass}
-use Rattle.pas_shared.specs.declared.{region.SharedRegion.SharedRegion, rule.Entry.Entry, rule.Row.Row}
+use Rattle.pas_shared.specs.declared.{bench.Bench.Bench, bench.Member.Member, bench_desk.BenchDesk.BenchDesk, bench_desk.BenchHome.BenchHome}
+use Rattle.pas_shared.specs.declared.{pass.SharedPass.SharedPass, region.SharedRegion.SharedRegion, rule.Entry.Entry, rule.Row.Row}
 use Rattle.pas_shared.proofs.Benching.{among_only, among_picked, row_tells, stands_first}
 use Rattle.pas_trace.specs.Acts.{Act, StopsIdle}
 use Rattle.pas_answers.specs.{Answers.Progress, Ways.EachOf, Ways.records_by}
@@ -21,12 +22,11 @@ use Rattle.pas_answers.proofs.{OwnRecords.records_both, Reached.goes_on}
 use Rattle.pas_report.specs.declared.record.Record.{Record}
 use Rattle.pas_acts.specs.{Works.Later, Turns.RestsAt, Keepers.StandsStill, AtDesks.here, AtDesks.told_if, AtDesks.ThreadActs}
 use Rattle.pas_acts.proofs.{Alone.rests_still, AtDesk.leaves_rest}
-use Rattle.pas_threads.specs.{Hands.standing_of_pass, Left.crew_in, Left.KeepsOrder, Sessions.WorkerHas}
+use Rattle.pas_threads.specs.{Hands.standing_of_pass, Left.crew_in, Left.KeepsOrder, Sessions.WorkerHas, Scavengers.CrewHasLeft}
 use Rattle.pas_threads.specs.Turns.{AreDistinct, Came, Pushed, Told, TookTurns}
-use Rattle.pas_threads.specs.Lent.{Shift, number_in, AreBeside, IsLent, AreLent, SitsAmong, standing_among, standing_at, home_at, WorkerSits, SitsLent, AreOfCrew, TellAs, IsButPlace}
-use Rattle.pas_threads.specs.Lent.{HasSeat, AreSeated, IsDeskAt, StopsLent, MayLeave, HasLeave, MayLeaveAll, HaveLeave}
+use Rattle.pas_threads.specs.Lent.{Shift, number_in, AreBeside, IsLent, AreLent, SitsAmong, standing_among, standing_at, home_at, WorkerSits, SitsLent}
+use Rattle.pas_threads.specs.Lent.{AreOfCrew, TellAs, IsButPlace, HasSeat, AreSeated, IsDeskAt, StopsLent, MayLeave, HasLeave, MayLeaveAll, HaveLeave}
 use Rattle.pas_threads.specs.Crews.{crew, CrewAt, CrewSits, CrewActs, CrewSat, CrewMayRise, CrewRose}
-use Rattle.pas_threads.specs.Scavengers.{CrewHasLeft}
 use Rattle.pas_threads.specs.declared.workers.Worker.{Worker}
 use Rattle.pas_threads.proofs.Sitting.{seated}
 use Rattle.pas_threads.proofs.Benched.{row_part, rows_part, has_seat, member_seat, sits_as, keeps_order}
@@ -78,13 +78,13 @@ isnt_itself j k h same = true≢false (sym h ∙ ap (λ (b : Bool). if b then fa
 pub crew_among : {s : Shift} {actors : List ℕ} → AreOfCrew s 0 (length s.idle) actors → (k : ℕ) → among actors k ≡ crew_in s.idle k
 crew_among {s} {actors} crew k = both_true (among actors k) (crew_in s.idle k)
     (λ its. ⊎_elim
-        (λ own. among_here 0 k s.idle (sym own))
-        (λ (t : (i : ℕ) × (0 ≤ i) × (i < length s.idle) × (number_in s i ≡ k)). among_later 0 k s.idle (subst (λ (j : ℕ). among s.idle j ≡ true) t.3 (among_at s.idle t.0 t.2)))
-        (crew.only k its))
+    (λ own. among_here 0 k s.idle (sym own))
+    (λ (t : (i : ℕ) × (0 ≤ i) × (i < length s.idle) × (number_in s i ≡ k)). among_later 0 k s.idle (subst (λ (j : ℕ). among s.idle j ≡ true) t.3 (among_at s.idle t.0 t.2)))
+    (crew.only k its))
     (λ its. ⊎_elim
-        (λ own. subst (λ (j : ℕ). among actors j ≡ true) own crew.own)
-        (λ lent. let at = among_place s.idle k lent in subst (λ (j : ℕ). among actors j ≡ true) at.2 (crew.lent at.0 (omega arith) at.1))
-        (among_cases 0 k s.idle its))
+    (λ own. subst (λ (j : ℕ). among actors j ≡ true) own crew.own)
+    (λ lent. let at = among_place s.idle k lent in subst (λ (j : ℕ). among actors j ≡ true) at.2 (crew.lent at.0 (omega arith) at.1))
+    (among_cases 0 k s.idle its))
 
 -- ---- a worker on the bench
 -- it stands for what it noted, whatever others do

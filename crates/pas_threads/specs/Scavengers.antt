@@ -7,8 +7,7 @@ use Rattle.pas_utility.specs.Outcomes.{places_of}
 use Rattle.pas_shared.specs.Passes.{IsPassOf}
 use Rattle.pas_shared.specs.declared.{bench.Bench.Bench, pass.SharedPass.SharedPass, region.SharedRegion.SharedRegion}
 use Rattle.pas_answers.specs.Answers.{Progress}
-use Rattle.pas_threads.specs.{Hands.standing_of_pass, Hands.HasPass, Hands.Did, Lent.Shift}
-use Rattle.pas_threads.specs.Left.{crew_in, HasLeft}
+use Rattle.pas_threads.specs.{Hands.standing_of_pass, Hands.HasPass, Hands.Did, Lent.Shift, Left.crew_in, Left.HasLeft}
 use Rattle.pas_threads.specs.Crews.{Crew, crew, CrewAt, CrewDid}
 use Rattle.pas_threads.specs.declared.scavenger.Scavenger.{Scavenger}
 

@@ -6,12 +6,11 @@ ghost use Rattle.pas_cache.specs.Caches.{cached};
 ghost use Rattle.pas_trace.specs.Acts.{StopsIdle, idle_stops};
 ghost use Rattle.pas_answers.specs.Answers.{Progress};
 ghost use Rattle.pas_acts.specs.{Works.Later, Turns.RestsAt, AtDesks.here, AtDesks.told_if, AtDesks.ThreadActs};
-ghost use Rattle.pas_shared.specs.Ruled.{all_actors};
-ghost use Rattle.pas_shared.specs.Benches.{rows_on, IsBenchOf};
-ghost use Rattle.pas_shared.specs.declared.bench_desk.BenchHome.{BenchHome};
-ghost use Rattle.pas_shared.specs.declared.rule.Entry.{Entry};
-ghost use Rattle.pas_threads.specs.{Turns.Pushed, Hands.HasPass, Lent.Shift, Lent.AreBeside, Lent.AreLent, Lent.AreOfCrew, Lent.TellAs};
-ghost use Rattle.pas_threads.specs.Lent.{home_at, HasSeat, AreSeated, IsDeskAt, WorkerSits, SitsLent, StopsLent, StoppedLent, MayLeave, HasLeave, MayLeaveAll, HaveLeave};
+ghost use Rattle.pas_shared.specs.{Ruled.all_actors, Benches.rows_on, Benches.IsBenchOf};
+ghost use Rattle.pas_shared.specs.declared.{bench_desk.BenchHome.BenchHome, rule.Entry.Entry};
+ghost use Rattle.pas_threads.specs.{Turns.Pushed, Hands.HasPass};
+ghost use Rattle.pas_threads.specs.Lent.{Shift, AreBeside, AreLent, AreOfCrew, TellAs, home_at, HasSeat, AreSeated, IsDeskAt, WorkerSits, SitsLent, StopsLent};
+ghost use Rattle.pas_threads.specs.Lent.{StoppedLent, MayLeave, HasLeave, MayLeaveAll, HaveLeave};
 
 use crate::workers::Worker;
 use pas_acts::at_desk::{SCAVENGER, stop_if_idle};
@@ -87,14 +86,7 @@ fn stop_lent(
         unreachable!();
     };
     let risen = desk.replace(member);
-    stop_and_tell(
-        desk,
-        &mut worker.cache,
-        epochs,
-        epoch,
-        &mut worker.out,
-        out,
-    );
+    stop_and_tell(desk, &mut worker.cache, epochs, epoch, &mut worker.out, out);
     worker.member = Some(desk.replace(risen));
 }
 

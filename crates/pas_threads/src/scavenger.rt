@@ -5,8 +5,8 @@ ghost use Rattle.pas_utility.specs.Outcomes.{places_of};
 ghost use Rattle.pas_trace.specs.{EveryPlan.AreSound, Acts.scavenger_acts};
 ghost use Rattle.pas_answers.specs.Answers.{Progress};
 ghost use Rattle.pas_shared.specs.Passes.{view_of, IsPassOf};
-ghost use Rattle.pas_threads.specs.{Hands.standing_of_pass, Lent.Shift, Lent.AreLent, Crews.crew, Crews.CrewAt, Crews.CrewSat, Crews.CrewMayRise, Crews.CrewRose};
-ghost use Rattle.pas_threads.specs.Scavengers.{CrewHasLeft, MayScavenge, DidScavenge};
+ghost use Rattle.pas_threads.specs.{Hands.standing_of_pass, Lent.Shift, Lent.AreLent, Scavengers.CrewHasLeft, Scavengers.MayScavenge, Scavengers.DidScavenge};
+ghost use Rattle.pas_threads.specs.Crews.{crew, CrewAt, CrewSat, CrewMayRise, CrewRose};
 
 use crate::crew::scavenge;
 use crate::lending::{let_lent_leave, seat_lent};
@@ -30,11 +30,7 @@ pub(crate) struct Scavenger {
 }
 
 /// Seats the scavenger and the lent threads on one bench, and the scavenger at its desk. Three loads, and one for each of those threads.
-fn sit_down<'a>(
-    region: &'a SharedRegion,
-    pass: SharedPass,
-    lent: &mut [Worker],
-) -> BenchDesk<'a>
+fn sit_down<'a>(region: &'a SharedRegion, pass: SharedPass, lent: &mut [Worker]) -> BenchDesk<'a>
     requires pass { IsPassOf region.now pass }
     requires may { (s : Shift) × (p : Progress) × AreLent region.now s lent.old p × (pass.place.actor ≡ 0) × (view_of pass ≡ part 0 p.list) }
     ensures region { result.region.now ≡ region.now }
@@ -49,11 +45,7 @@ fn sit_down<'a>(
 }
 
 /// Lets all leave the bench, which is left with what it saw. Two loads, and one for each of the lent threads.
-fn rise(
-    region: &SharedRegion,
-    desk: BenchDesk<'_>,
-    lent: &mut [Worker],
-) -> (SharedPass, Bench)
+fn rise(region: &SharedRegion, desk: BenchDesk<'_>, lent: &mut [Worker]) -> (SharedPass, Bench)
     requires region { desk.region.now ≡ region.now }
     requires may { (s : Shift) × (p : Progress) × CrewMayRise region.now s desk lent.old p }
     ensures rose { (s : Shift) (p : Progress) → CrewMayRise region.now s desk.entry lent.old p → CrewRose region.now s desk.entry result.0 result.1 lent.old lent.new p }

@@ -70,4 +70,4 @@ returns-in-Idle-clause-did c = λ h s next p home was.
     let at = as_acts next is was in
     let read = c.read_epoch-epoch.ensures.reads s.profile c.args.out.now _ p (room_for_act (omega arith) at.stands) in
     to_acts is (did_idle c.in-Idle.epochs c.stop_idle.new.desk at read.0 (ap (λ (m : Member). seat_of_member m) c.stop_idle.ensures.member) c.stop_idle.ensures.many
-        (c.stop_idle.ensures.stops h s read.0.reached (record { home = c.read_epoch-epoch.ensures.home ∙ home; over = read.0.stands.sits.stood.1 }) (still_lent (lent_stays h.region h.row.actors s) at read.0) read.1))
+    (c.stop_idle.ensures.stops h s read.0.reached (record { home = c.read_epoch-epoch.ensures.home ∙ home; over = read.0.stands.sits.stood.1 }) (still_lent (lent_stays h.region h.row.actors s) at read.0) read.1))

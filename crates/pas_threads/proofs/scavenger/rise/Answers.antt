@@ -1,5 +1,6 @@
 use Rattle.std.proofs.Common.{◌≡◌, ◌∙◌, ap, sym, subst}
-use Rattle.pas_shared.specs.{Ruled.made_in, Ruled.only_this, Ruled.isnt, Ruled.rows_of_only, Passes.seat_of, Passes.view_of}
+use Rattle.pas_shared.specs.Ruled.{made_in, only_this, isnt, rows_of_only}
+use Rattle.pas_shared.specs.Passes.{seat_of, view_of}
 use Rattle.pas_shared.specs.Benches.{first_row, rows_on, seat_of_member, HasLooked, IsBenchOf, SitsInRow}
 use Rattle.pas_shared.specs.declared.{bench.Bench.Bench, bench.Member.Member, region.SharedRegion.SharedRegion}
 use Rattle.pas_threads.proofs.CrewSits.{all_may_leave, own_sits, fresh_row, all_rose}
