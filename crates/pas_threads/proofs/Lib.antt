@@ -2,6 +2,7 @@ mod Benched
 mod Beside
 mod Pairs
 mod Sitting
+mod CrewSits
 mod ByCrew
 mod Dealt
 mod TakingTurns
