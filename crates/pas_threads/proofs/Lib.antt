@@ -1,6 +1,7 @@
 mod Benched
 mod Beside
 mod Pairs
+mod Staging
 mod Sitting
 mod CrewSits
 mod ByCrew
@@ -19,3 +20,7 @@ mod PhaseSums
 mod KeptPhases
 mod PassesOut
 mod End
+mod Hearing
+mod Closing
+mod Heard
+mod InHands

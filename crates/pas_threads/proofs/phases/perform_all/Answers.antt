@@ -61,7 +61,9 @@ returns g c = record {
       let pieces = piece ready c.args.awake c.requires.awake scavenger c.act_with-scavenger.result stands dealt.1 did stayed each.after c.take_back.new.threads.items each.each (threads_same each.after _ (sym each.hands_are ∙ back.0)) back.1 size in
       let places = lent_places ready c.args.awake c.requires.awake scavenger c.act_with-scavenger.result stands dealt.1 did stayed in
       record {
-        pieces = λ w. record { own = (pieces w).own; threads = (pieces w).threads; scavenger = (pieces w).scavenger };
+        pieces = λ w.
+            let p = (pieces w).piece in
+            record { piece = record { own = p.own; threads = p.threads; scavenger = p.scavenger; still = p.still }; left = (pieces w).left; crew_left = (pieces w).crew_left };
         many = size;
         none = c.take_back.ensures.none.1;
         book = refl;
