@@ -3,6 +3,7 @@ mod Beside
 mod Pairs
 mod Staging
 mod Sitting
+mod CrewSits
 mod ByCrew
 mod Dealt
 mod TakingTurns
