@@ -52,7 +52,7 @@ returns g c = record {
   done = λ s later more p ready.
       let dealt = c.deal.ensures.dealt in
       let each = c.act_with-scavenger.ensures.threads (picked (is_in c.args.awake) 1 c.args.team.threads.items) dealt.0 in
-      let scavenger : Scavenger = record { pass = c.args.team.scavenger.pass; outcomes = c.args.team.scavenger.outcomes; out = c.args.team.scavenger.out; lent = c.deal.new.lent } in
+      let scavenger : Scavenger = record { pass = c.args.team.scavenger.pass; outcomes = c.args.team.scavenger.outcomes; out = c.args.team.scavenger.out; lent = c.deal.new.lent; bench = c.args.team.scavenger.bench } in
       let stands = may_scavenge ready c.args.awake c.requires.awake scavenger refl refl refl dealt.1 in
       let did = λ (on : is_active c.args.ops.now 0 ≡ true). c.act_with-scavenger.ensures.did (c.get-busy.ensures ∙ c.requires.awake 0 ∙ on) in
       let stayed = λ (off : is_active c.args.ops.now 0 ≡ false). c.act_with-scavenger.ensures.stayed (c.get-busy.ensures ∙ c.requires.awake 0 ∙ off) in

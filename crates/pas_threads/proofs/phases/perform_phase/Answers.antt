@@ -86,8 +86,8 @@ take_all-requires g c =
           (may_take c.args.ops.now m.1 at begun heard.done c.gather.new.threads own.1 own.2 c.gather_kept.new.threads its.1 its.2);
     }
 
-pub settle-requires-clause-stand-2 : goal.settle-requires-clause-stand-2
-settle-requires-clause-stand-2 g c =
+pub settle-requires-2-clause-stand : goal.settle-requires-2-clause-stand
+settle-requires-2-clause-stand g c =
     let m = c.requires.may in
     let at = m.4.team_at in
     let begun = begun_as c.args.ops.now m.1 at c.deref_mut.ensures.value c.deref_mut.ensures.len c.wake_all.ensures.woke c.wake_all.ensures.many c.deref_mut-2.ensures.value c.deref_mut-2.ensures.len c.settle.ensures.same c.settle.ensures.scavenger c.note.ensures.names c.note.ensures.placed in
