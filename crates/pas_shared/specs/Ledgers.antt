@@ -24,9 +24,10 @@ actors_in ledger = parts_in ledger.seat.me.0
 abbrev pub IsLedgerOf : SharedRegion → Ledger → Type 0
 IsLedgerOf region ledger = ledger.seat.table_id ≡ region.table.shared.table_id
 
--- it is of the same region, and the same steps stand in it
+-- it is of the same region, saw the same at its looks, and the same steps stand in it
 pub record IsSameLedger (old new : Ledger) : Type 0 where
   pub table : new.seat.table_id ≡ old.seat.table_id
+  pub looks : looks_of new ≡ looks_of old
   pub steps : so_far new ≡ so_far old
 
 -- the actor of a pass, with its own steps

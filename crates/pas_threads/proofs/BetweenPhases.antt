@@ -3,8 +3,8 @@ use Rattle.std.proofs.Common.{◌≡◌, ◌≢◌, ℕ, ◌+◌, inl, inr, List
 use Rattle.std.proofs.Common.{append_assoc, ◌<◌, ◌≤◌, get_or, map, drop, slice_index_or, drop_of_length-le, append-nil}
 use Rattle.std.proofs.lemmas.List.{append_cancel_left, drop_more}
 use Rattle.pas_profile.specs.declared.profile.Profile.{Profile}
-use Rattle.pas_steps.specs.{Clear.HasNothing, Lists.Whole, Lists.part, Views.View}
-use Rattle.pas_trace.specs.Acts.{Ends, Lowers, numbers_from, Act, phase_acts, acts_of}
+use Rattle.pas_steps.specs.{Lists.Whole, Lists.part, Views.View}
+use Rattle.pas_trace.specs.Acts.{Ends, Lowers, MarksPhase, MarksClose, numbers_from, Act, phase_acts, close_acts, acts_of}
 use Rattle.pas_trace.specs.{EveryPlan.all_ops, EveryPlan.own_records, Plans.ops_of}
 use Rattle.pas_trace.specs.declared.plan.{Op.Op, Phase.Phase}
 use Rattle.pas_report.specs.Rooms.{records_in, room_of, Records}
@@ -16,22 +16,22 @@ use Rattle.pas_shared.specs.declared.region.SharedRegion.{SharedRegion}
 use Rattle.pas_answers.specs.Answers.{Books, Caches, Named, Progress, with_records}
 use Rattle.pas_answers.specs.Calls.{Tells, AreKnown, OnlyAsked, owed_events}
 use Rattle.pas_answers.specs.{Reaching.Reaches, Replays.at_start, Phases.AreInPhases}
+use Rattle.pas_answers.specs.Stages.{itself, Stage, stage, one_by_one, phase_stages, stages_from, stages_of}
 use Rattle.pas_answers.specs.Ways.{OnThreads, AreSpoken, by_actors, arranged, records_by}
 use Rattle.pas_answers.proofs.{OwnRecords.records_both as said_both, OwnRecords.spoken_both, Reached.reach_both}
 use Rattle.pas_plans.proofs.ActsLeft.{acts_left, close_left, first_phase, other_phase}
 use Rattle.pas_shares.proofs.Arranging.{are_arranged}
 use Rattle.pas_acts.specs.NameBooks.{NamesAt, requests_in, room_for, Requests}
-use Rattle.pas_acts.specs.Works.{Sits}
 use Rattle.pas_acts.specs.declared.names.NameBook.{NameBook}
-use Rattle.pas_acts.proofs.Alone.{rests_still}
-use Rattle.pas_threads.specs.{Hands.standing_of_pass, Settling.TeamStandsIn, Settling.IsSameTeam}
+use Rattle.pas_acts.proofs.Alone.{rests_still, sits_still}
 use Rattle.pas_threads.specs.Pairs.{no_more, KeeperRests, said_by_keeper, owed_kept, keeper_at, owed_by_keepers, AreGuarded, IsLow, MayLower, LoweredAll}
 use Rattle.pas_threads.specs.Sessions.{planned, Session, evenly, WorkerHas, ScavengerRests, TeamAt, HasPlaces, HasRoom, AreMarked, AreWritten, AreResting}
-use Rattle.pas_threads.specs.Sessions.{CloseDone, owed_by, PhaseAt, PhaseDone, HasReplayed, IsOfActors}
+use Rattle.pas_threads.specs.Sessions.{CloseDone, owed_by, PhaseAt, PhaseDone, HasReplayed, IsOfActors, StandSo, WentBy}
 use Rattle.pas_threads.specs.Turns.{StoppedAll, said_own, said_by_all, said_kept, said_by_keepers, HasSaid, IsGathered, IsKeptGathered}
 use Rattle.pas_threads.specs.declared.{keeper.Keeper.Keeper, phases.Team.Team, scavenger.Scavenger.Scavenger, workers.Worker.Worker}
-use Rattle.pas_threads.proofs.{Dealt.some_worker, TakingTurns.same_owed, TakingTurns.same_rests, TakingTurns.rests_clear}
-use Rattle.pas_threads.proofs.InPhases.{in_both, unmarked, phase_unmarked, close_unmarked, earlier_both, all_stand, stand_first, same_team}
+use Rattle.pas_threads.proofs.{Dealt.some_worker, TakingTurns.pass_still, TakingTurns.same_owed, TakingTurns.same_rests, TakingTurns.rests_clear}
+use Rattle.pas_threads.proofs.InPhases.{in_both, unmarked, phase_unmarked, close_unmarked, earlier_both, stand_first}
+use Rattle.pas_threads.proofs.Staging.{went_both, went_mark}
 use Rattle.pas_threads.proofs.Keepers.{keeper_is, owed_still, waits_gathered, of_gathered, silent_gathered, low_gathered}
 use Rattle.pas_threads.proofs.KeptPhases.{alike_same, alike_pushed, alike_said, alike_both, guarded_alike, kept_still, said_then}
 use Rattle.pas_threads.proofs.PhaseSums.{owed_less, kept_less, own_all, all_paid, said_in_order, kept_in_order, kept_few, by_all}
@@ -42,7 +42,7 @@ scavenger_rests : {region : SharedRegion} {f : Profile} {scavenger : Scavenger} 
 scavenger_rests {region} {f} {scavenger} {later} {p} {q} same at = record {
   has = at.has;
   at = record {
-    stands = record { sits = subst (λ (v : View). Sits f 0 HasNothing (standing_of_pass at.has.pass) v (0 + later)) (sym same) at.at.stands.sits; spare = at.at.stands.spare };
+    stands = record { sits = sits_still (λ (v : View). 0 + later) (pass_still at.has.pass) same at.at.stands.sits; spare = at.at.stands.spare };
     has_places = at.at.has_places;
   };
   said = at.said;
@@ -325,7 +325,7 @@ module _ {region : SharedRegion} {s : Session} {team : Team} {p : Progress} (sto
             let requests = (did.turns.told i d within).requests in
             let due = (did.turns.stand i d within).here in
             let has : WorkerHas region f (suc i) (get_or stopped i d) (evenly (own_records (planned s) (suc i) [])) reached =
-            record { has = due.has; rests = rests_still (low.parts (suc i) (apart (suc i) (omega (arith, within, at.many)))) (ap (λ (cs : Caches). cs (suc i)) low.caches) due.rests } in
+            record { has = due.has; rests = rests_still (pass_still due.has.pass) (low.parts (suc i) (apart (suc i) (omega (arith, within, at.many)))) (ap (λ (cs : Caches). cs (suc i)) low.caches) due.rests } in
             let spare = has.rests.spare in
             let owed = ap (λ (c : Cached). owed_events f c (part (suc i) reached.list)) has.rests.cache in
             let room : room_of (get_or kept i d).out ≡ room_of (get_or stopped i d).out = ap room_of h1.out ∙ g1.room ∙ ap room_of but.out in
@@ -361,8 +361,9 @@ module _ {region : SharedRegion} {s : Session} {team : Team} {p : Progress} (sto
         guarded_last = guarded_alike gathered kept same2 (λ i d lt. alike_said (get_or gathered i d).keeper (get_or kept i d).keeper (h i d lt).keeper) guarded_then
 
         pub has_closed : (after : Team) → after.threads.items ≡ kept → after.scavenger ≡ team.scavenger → after.book ≡ team.book → HasPlaces s.threads after → {written' : List Record} → AreMarked s p.records written
-            → written' ≡ (written ++ said_by_all lowered) ++ said_by_keepers gathered → CloseDone region s after written' p
-        has_closed after threads scavenger book places {written'} marked added =
+            → written' ≡ (written ++ said_by_all lowered) ++ said_by_keepers gathered → {first last_seen : Whole} → WentBy s (one_by_one (map Ends (numbers_from 1 s.threads) ++ map Lowers (numbers_from (s.threads + 1) s.keepers))) p reached first last_seen
+            → CloseDone region s after written' first last_seen p
+        has_closed after threads scavenger book places {written'} marked added went =
             let has_all : AreClosed region s kept reached = record { workers = workers_rest; guarded = guarded_last; kept = keepers_rest; empty = caches_empty; low = keepers_low } in
             let then : AreClosed region s after.threads.items reached = subst (λ (ws : List Worker). AreClosed region s ws reached) (sym threads) has_all in
             record {
@@ -389,16 +390,43 @@ module _ {region : SharedRegion} {s : Session} {team : Team} {p : Progress} (sto
               written_so = written_so marked added;
               empty = then.empty;
               low = then.low;
+              went = went;
             }
 
--- What follows these acts from p on is a replay of all. A list of these actors that begins with these steps is in phases, if it is in what follows.
-pub record Leads (s : Session) (all : List (List Op)) (acts : List Act) (p : Progress) (so_far : Whole) : Type 0 where
+-- ---- which stages are left
+-- after so many phases
+abbrev pub stages_left : ℕ → ℕ → ℕ → List (List Op) → List Stage
+stages_left threads keepers zero phases = stages_of threads keepers phases
+stages_left threads keepers (suc n) phases = stages_from threads keepers (suc n + 1) phases
+
+close_stages : (threads keepers n : ℕ) → stages_left threads keepers n [] ≡ one_by_one (close_acts threads keepers)
+close_stages threads keepers zero = refl
+close_stages threads keepers (suc n) = refl
+
+left_stages : (threads keepers n : ℕ) (phases : List (List Op)) → 1 ≤ n → stages_left threads keepers n phases ≡ stages_from threads keepers (n + 1) phases
+left_stages threads keepers zero phases some = absurd (omega (arith, some))
+left_stages threads keepers (suc n) phases some = refl
+
+-- the first phase, which has no mark, and another one
+first_stages : (threads keepers n : ℕ) (phase : List Op) (phases : List (List Op)) → n ≡ 0 → stages_left threads keepers n (phase ∷ phases) ≡ phase_stages threads phase ++ stages_left threads keepers (n + 1) phases
+first_stages threads keepers zero phase phases is = refl
+first_stages threads keepers (suc n) phase phases is = absurd (omega (arith, is))
+
+other_stages : (threads keepers n : ℕ) (phase : List Op) (phases : List (List Op)) → 1 ≤ n
+    → stages_left threads keepers n (phase ∷ phases) ≡ stage (MarksPhase (n + 1) ∷ []) itself ∷ (phase_stages threads phase ++ stages_left threads keepers (n + 1) phases)
+other_stages threads keepers n phase phases some =
+    left_stages threads keepers n (phase ∷ phases) some
+    ∙ ap (λ (ss : List Stage). stage (MarksPhase (n + 1) ∷ []) itself ∷ (phase_stages threads phase ++ ss)) (sym (left_stages threads keepers (n + 1) phases (omega arith)))
+
+-- What follows these acts from p on, by these stages, is a replay of all. A list of these actors that begins with these steps is in phases, if it is in what follows.
+pub record Leads (s : Session) (all : List (List Op)) (acts : List Act) (stages : List Stage) (p : Progress) (so_far : Whole) : Type 0 where
   pub reaches : (q : Progress) → Reaches s.profile acts p q → Reaches s.profile (acts_of s.threads s.keepers all) at_start q
   pub in_phases : (whole : Whole) → IsEarlier so_far whole → IsOfActors s whole → (q : Progress) (is : Reaches s.profile acts p q) → AreInPhases s.profile acts p q is whole → AreInPhases s.profile (acts_of s.threads s.keepers all) at_start q (reaches q is) whole
+  pub by_stages : (q : Progress) (l : Whole) → WentBy s stages p q so_far l → WentBy s (stages_of s.threads s.keepers all) at_start q [] l
 
--- the list has of each of the actors the same part as the pieces so far
-abbrev pub StandSo : Session → Whole → Progress → Type 0
-StandSo s so_far p = (k : ℕ) → k ≤ s.threads + s.keepers → part k so_far ≡ part k p.list
+-- by these acts and stages, which are those told otherwise
+leads_as : {s : Session} {all : List (List Op)} {acts acts' : List Act} {stages stages' : List Stage} {p : Progress} {so_far : Whole} → acts ≡ acts' → stages ≡ stages' → Leads s all acts stages p so_far → Leads s all acts' stages' p so_far
+leads_as {s} {all} {acts} {acts'} {stages} {stages'} {p} {so_far} one two leads = subst (λ (ss : List Stage). Leads s all acts' ss p so_far) two (subst (λ (xs : List Act). Leads s all xs stages p so_far) one leads)
 
 -- After n phases of all: these are left. There is room for a mark before each of them, and for that of the close. Before the first phase there is no
 -- record. The steps so far stand in the ledger.
@@ -408,8 +436,8 @@ pub record AfterPhases (region : SharedRegion) (s : Session) (all : List (List O
   pub written : AreWritten s p.records (records_in out)
   pub room : HasRoom s left (length left + 1) team.threads.items out p
   pub none : n ≡ 0 → (p.records ≡ []) × (records_in out ≡ [])
-  pub leads : Leads s all (acts_left s.threads s.keepers n left) p so_far
-  pub stand : StandSo s so_far p
+  pub leads : Leads s all (acts_left s.threads s.keepers n left) (stages_left s.threads s.keepers n left) p so_far
+  pub stand : StandSo s so_far p.list
 
 pub no_phase : {region : SharedRegion} {s : Session} {all : List (List Op)} {team : Team} {so_far : Whole} {out : Records} {marks : ℕ} → so_far ≡ [] → records_in out ≡ [] → marks ≡ length all + 1 → TeamAt region s all team at_start → HasRoom s all marks team.threads.items out at_start
     → AfterPhases region s all 0 all team so_far out
@@ -419,7 +447,11 @@ no_phase {region} {s} {all} {team} {so_far} {out} {marks} nothing empty is at ro
   written = none_written s refl empty;
   room = subst (λ (m : ℕ). HasRoom s all m team.threads.items out at_start) is room;
   none = λ zero. (refl, empty);
-  leads = record { reaches = λ q reaches. reaches; in_phases = λ whole first of q is so. so };
+  leads = record {
+    reaches = λ q reaches. reaches;
+    in_phases = λ whole first of q is so. so;
+    by_stages = λ q l went. subst (λ (m : Whole). WentBy s (stages_of s.threads s.keepers all) at_start q m l) nothing went;
+  };
   stand = λ k le. ap (λ (l : Whole). part k l) nothing;
 }
 
@@ -438,7 +470,8 @@ as_last {region} {s} {all} {team} {so_far} {out} phases i le so = subst (λ (lef
 pub record BeforePhase (region : SharedRegion) (s : Session) (all : List (List Op)) (n : ℕ) (ops : List Op) (rest : List (List Op)) (team : Team) (so_far : Whole) (out : Records) : Type 0 where
   pub p : Progress
   pub at : PhaseAt region s ops rest (length rest + 1) team out p
-  pub leads : Leads s all (phase_acts s.threads ops ++ acts_left s.threads s.keepers (n + 1) rest) p so_far
+  pub leads : Leads s all (phase_acts s.threads ops ++ acts_left s.threads s.keepers (n + 1) rest) (phase_stages s.threads ops ++ stages_left s.threads s.keepers (n + 1) rest) p so_far
+  pub stand : StandSo s so_far p.list
 
 module _ {region : SharedRegion} {s : Session} {all : List (List Op)} {n : ℕ} {ops : List Op} {rest : List (List Op)} {team : Team} {so_far : Whole} {out : Records} (so : AfterPhases region s all n (ops ∷ rest) team so_far out) where
   one_more : (out' : Records) (q : Progress) → HasRoom s (ops ∷ rest) (length (ops ∷ rest) + 1) team.threads.items out' q → HasRoom s (ops ∷ rest) (length rest + 1 + 1) team.threads.items out' q
@@ -452,13 +485,14 @@ module _ {region : SharedRegion} {s : Session} {all : List (List Op)} {n : ℕ} 
   first_begins is = record {
     p = so.p;
     at = record { team_at = so.team_at; marked = are_none s (so.none is).0 (so.none is).1; room = room_without_mark s (ops ∷ rest) (length rest + 1) team.threads.items out so.p (one_more out so.p so.room) };
-    leads = subst (λ (acts : List Act). Leads s all acts so.p so_far) (first_phase s.threads s.keepers n ops rest is) so.leads;
+    leads = leads_as (first_phase s.threads s.keepers n ops rest is) (first_stages s.threads s.keepers n ops rest is) so.leads;
+    stand = so.stand;
   }
 
   pub other_begins : {out' : Records} → 1 ≤ n → records_in out' ≡ records_in out ++ Record.Phase (n + 1) ∷ [] → room_of out' ≡ room_of out → BeforePhase region s all n ops rest team so_far out'
   other_begins {out'} some pushed size =
       let after = with_records so.p (Record.Phase (n + 1) ∷ []) in
-      let all_led = subst (λ (acts : List Act). Leads s all acts so.p so_far) (other_phase s.threads s.keepers n ops rest some) so.leads in
+      let all_led = leads_as (other_phase s.threads s.keepers n ops rest some) (other_stages s.threads s.keepers n ops rest some) so.leads in
       record {
         p = with_records so.p (Record.Phase (n + 1) ∷ []);
         at = record {
@@ -469,25 +503,29 @@ module _ {region : SharedRegion} {s : Session} {all : List (List Op)} {n : ℕ} 
         leads = record {
           reaches = λ q reaches. all_led.reaches q (after, refl, reaches);
           in_phases = λ whole first of q is then. all_led.in_phases whole first of q (after, refl, is) (stand_first so.team_at so_far whole so.stand first of, then);
+          by_stages = λ q l went. all_led.by_stages q l
+              (went_both (stage (MarksPhase (n + 1) ∷ []) itself ∷ []) (phase_stages s.threads ops ++ stages_left s.threads s.keepers (n + 1) rest) (went_mark s (MarksPhase (n + 1) ∷ []) (after, refl, refl) refl so.team_at.nobody so.stand) went);
         };
+        stand = so.stand;
       }
 
-pub phase_ends : {region : SharedRegion} {s : Session} {all : List (List Op)} {n : ℕ} {ops : List Op} {rest : List (List Op)} {team team' team'' : Team} {so_far so_far' : Whole} {out out' : Records} (so : BeforePhase region s all n ops rest team so_far out)
-    → PhaseDone region s ops rest (length rest + 1) team' out out' so.p → IsSameTeam team' team'' → IsEarlier so_far so_far' → TeamStandsIn so_far' team' → AfterPhases region s all (n + 1) rest team'' so_far' out'
-phase_ends {region} {s} {all} {n} {ops} {rest} {team} {team'} {team''} {so_far} {so_far'} {out} {out'} so did same earlier stands = record {
+pub phase_ends : {region : SharedRegion} {s : Session} {all : List (List Op)} {n : ℕ} {ops : List Op} {rest : List (List Op)} {team team' : Team} {so_far so_far' : Whole} {out out' : Records} (so : BeforePhase region s all n ops rest team so_far out)
+    → PhaseDone region s ops rest (length rest + 1) team' out out' so_far so_far' so.p → AfterPhases region s all (n + 1) rest team' so_far' out'
+phase_ends {region} {s} {all} {n} {ops} {rest} {team} {team'} {so_far} {so_far'} {out} {out'} so did = record {
   p = did.reached;
-  team_at = same_team same did.team_at;
+  team_at = did.team_at;
   written = did.written;
-  room = subst (λ (ws : List Worker). HasRoom s rest (length rest + 1) ws out' did.reached) (sym same.threads) did.room;
+  room = did.room;
   none = λ zero. absurd (omega (arith, zero));
   leads = record {
     reaches = λ q reaches. so.leads.reaches q (reach_both s.profile (phase_acts s.threads ops) (acts_left s.threads s.keepers (n + 1) rest) so.p did.reached q did.reaches reaches);
     in_phases = λ whole first of q is then.
-        so.leads.in_phases whole (earlier_both earlier first) of q (reach_both s.profile (phase_acts s.threads ops) (acts_left s.threads s.keepers (n + 1) rest) so.p did.reached q did.reaches is)
+        so.leads.in_phases whole (earlier_both did.went.earlier first) of q (reach_both s.profile (phase_acts s.threads ops) (acts_left s.threads s.keepers (n + 1) rest) so.p did.reached q did.reaches is)
         (in_both s.profile (phase_acts s.threads ops) (acts_left s.threads s.keepers (n + 1) rest) so.p did.reached q did.reaches is whole
         (unmarked s.profile (phase_acts s.threads ops) so.p did.reached did.reaches whole (phase_unmarked s.threads ops)) then);
+    by_stages = λ q l went. so.leads.by_stages q l (went_both (phase_stages s.threads ops) (stages_left s.threads s.keepers (n + 1) rest) did.went went);
   };
-  stand = all_stand did.team_at so_far' stands;
+  stand = did.went.stand;
 }
 
 -- ---- the close
@@ -497,14 +535,15 @@ pub record BeforeClose (region : SharedRegion) (s : Session) (all : List (List O
   pub team_at : TeamAt region s [] team p
   pub marked : AreMarked s p.records (records_in out)
   pub room : HasRoom s [] 0 team.threads.items out p
-  pub leads : Leads s all (map Ends (numbers_from 1 s.threads) ++ map Lowers (numbers_from (s.threads + 1) s.keepers)) p so_far
+  pub leads : Leads s all (map Ends (numbers_from 1 s.threads) ++ map Lowers (numbers_from (s.threads + 1) s.keepers)) (one_by_one (map Ends (numbers_from 1 s.threads) ++ map Lowers (numbers_from (s.threads + 1) s.keepers))) p so_far
+  pub stand : StandSo s so_far p.list
 
 module _ {region : SharedRegion} {s : Session} {all : List (List Op)} {n : ℕ} {team : Team} {so_far : Whole} {out : Records} (so : AfterPhases region s all n [] team so_far out) where
   pub spare_for_close : length (records_in out) < room_of out
   spare_for_close = omega (arith, so.room)
 
   pub close_begins : {out' : Records} → records_in out' ≡ records_in out ++ Record.Close ∷ [] → room_of out' ≡ room_of out → BeforeClose region s all team so_far out'
-  close_begins {out'} pushed size = let after = with_records so.p (Record.Close ∷ []) in let all_led = subst (λ (acts : List Act). Leads s all acts so.p so_far) (close_left s.threads s.keepers n) so.leads in record {
+  close_begins {out'} pushed size = let after = with_records so.p (Record.Close ∷ []) in let all_led = leads_as (close_left s.threads s.keepers n) (close_stages s.threads s.keepers n) so.leads in record {
     p = with_records so.p (Record.Close ∷ []);
     team_at = team_at_records (Record.Close ∷ []) so.team_at;
     marked = as_marked s (so.p.records ++ Record.Close ∷ []) pushed (close_marked so.written);
@@ -512,14 +551,18 @@ module _ {region : SharedRegion} {s : Session} {all : List (List Op)} {n : ℕ} 
     leads = record {
       reaches = λ q reaches. all_led.reaches q (after, refl, reaches);
       in_phases = λ whole first of q is then. all_led.in_phases whole first of q (after, refl, is) (stand_first so.team_at so_far whole so.stand first of, then);
+      by_stages = λ q l went. all_led.by_stages q l
+          (went_both (one_by_one (MarksClose ∷ [])) (one_by_one (map Ends (numbers_from 1 s.threads) ++ map Lowers (numbers_from (s.threads + 1) s.keepers))) (went_mark s (MarksClose ∷ []) (after, refl, refl) refl so.team_at.nobody so.stand) went);
     };
+    stand = so.stand;
   }
 
-pub close_ends : {region : SharedRegion} {s : Session} {all : List (List Op)} {team team' : Team} {so_far : Whole} {out : Records} {written : List Record} (so : BeforeClose region s all team so_far out) → CloseDone region s team' written so.p → HasReplayed region s all so_far team' written
-close_ends {region} {s} {all} {team} {team'} {so_far} {out} {written} so did = record {
+pub close_ends : {region : SharedRegion} {s : Session} {all : List (List Op)} {team team' : Team} {so_far so_far' : Whole} {out : Records} {written : List Record} (so : BeforeClose region s all team so_far out) → CloseDone region s team' written so_far so_far' so.p → HasReplayed region s all so_far' team' written
+close_ends {region} {s} {all} {team} {team'} {so_far} {so_far'} {out} {written} so did = record {
   end = did.reached;
   answers = so.leads.reaches did.reached did.reaches;
-  in_phases = λ whole first of. so.leads.in_phases whole first of did.reached did.reaches
+  went = so.leads.by_stages did.reached so_far' did.went;
+  in_phases = λ whole first of. so.leads.in_phases whole (earlier_both did.went.earlier first) of did.reached did.reaches
       (unmarked s.profile (map Ends (numbers_from 1 s.threads) ++ map Lowers (numbers_from (s.threads + 1) s.keepers)) so.p did.reached did.reaches whole (close_unmarked s.threads s.keepers));
   stands = did.team_at;
   written_are = written_whole did.written_so;

@@ -1,29 +1,32 @@
--- The acts of the scavenger's worker, and the stops of the threads that are lent to it.
+-- The acts of the scavenger's worker at its bench, and the stops of the threads that are lent to it.
 use Rattle.std.proofs.Common.{◌≡◌, ◌≢◌, ℕ, ◌+◌, ◌<◌, ◌≤◌, Bool, true, false, List, [], ◌∷◌, ◌++◌, length, drop, set, get_or, refl, ap, sym, ◌∙◌, subst, arith}
 use Rattle.std.proofs.Common.{length-append, drop_of_length-le, zero, suc, if◌then◌else◌, eq-eqb, ne_eqb}
 use Rattle.std.proofs.lemmas.List.{drop_more}
 use Rattle.pas_profile.specs.declared.profile.Profile.{Profile}
 use Rattle.pas_report.specs.Rooms.{records_in, Records}
 use Rattle.pas_report.specs.declared.record.Record.{Record}
-use Rattle.pas_shared.specs.declared.region.SharedRegion.{SharedRegion}
+use Rattle.pas_shared.specs.Benches.{row_on, StandsOver}
+use Rattle.pas_shared.specs.declared.{bench.Bench.Bench, bench_desk.BenchDesk.BenchDesk, bench_desk.BenchHome.BenchHome}
+use Rattle.pas_shared.proofs.Benching.{row_tells}
 use Rattle.pas_trace.specs.Acts.{Act, StopsIdle, idle_stops, ReadsEpoch, acts_of_chore, acts_of_work, acts_of_op, scavenger_acts}
 use Rattle.pas_answers.specs.{Answers.Progress, Answers.Caches, Ways.EachOf, Ways.records_by, Fit.costs_of, Fit.cost_of_act, Fit.unbacks_of_act}
 use Rattle.pas_answers.proofs.OwnRecords.{records_both, none_by, all_by}
-use Rattle.pas_steps.specs.{Lists.Whole, Lists.part, Clear.HasNothing, Desks.Standing, Views.View}
+use Rattle.pas_steps.specs.{Lists.Whole, Lists.part, Desks.Standing}
 use Rattle.pas_steps.proofs.Parts.{part_of_others}
-use Rattle.pas_acts.specs.Works.{Later, Sits}
+use Rattle.pas_acts.specs.{Works.Later, Keepers.StandsStill}
 use Rattle.pas_acts.specs.AtDesks.{told_if, for_act, HasRoomAt, ScavengerActs}
-use Rattle.pas_acts.proofs.{Alone.rests_still, AtDesk.sits_for}
+use Rattle.pas_acts.proofs.{Alone.sits_still, AtDesk.sits_for}
 use Rattle.pas_threads.specs.Turns.{AreDistinct, Came, Pushed, Told, TookNoPart}
-use Rattle.pas_threads.specs.Lent.{Shift, number_in, IsLent, AreLent, StopsLent, DidWithLent}
+use Rattle.pas_threads.specs.Lent.{Shift, number_in, standing_at, AreBeside, SitsLent, IsDeskAt, StopsLent, StoppedLent}
 use Rattle.pas_threads.specs.declared.workers.Worker.{Worker}
-use Rattle.pas_threads.proofs.TakingTurns.{by_scavenger, pushed_none, pushed_both, SoFar, at_first, goes_on, at_last, Stays, no_turn, takes_turn, no_part_both}
-use Rattle.pas_threads.proofs.TakingTurns.{came_none, came_both, told_none, told_both}
+use Rattle.pas_threads.proofs.TakingTurns.{by_scavenger, pushed_none, pushed_both, SoFar, at_first, goes_on, at_last, Stays, no_turn, no_part_both, came_none}
+use Rattle.pas_threads.proofs.TakingTurns.{came_both, told_none, told_both}
 use Rattle.pas_trace.specs.Asked.{work_of}
 use Rattle.pas_trace.specs.EveryPlan.{AreSound, IsActorBy, IsSoundWork, asked_after}
 use Rattle.pas_trace.specs.declared.plan.{Op.Op, Chore.Chore, Work.Work}
 use Rattle.pas_threads.specs.Hands.{and_left, ScavengerAt}
-use Rattle.pas_threads.specs.Crews.{Crew, crew, CrewAt, CrewDid}
+use Rattle.pas_threads.specs.Crews.{Crew, crew, CrewStands, CrewDoes, CrewSits, CrewActs}
+use Rattle.pas_threads.proofs.CrewSits.{lent_stays, acts_in_turn}
 
 -- ---- what is said of one thread's stop
 -- that it was stopped says the scavenger
@@ -36,62 +39,62 @@ told_one true k = omega arith
 told_one false k = omega arith
 
 -- ---- the next of the lent threads
-lent_stays : (region : SharedRegion) (s : Shift) → Stays (number_in s) (IsLent region s)
-lent_stays region s i w q r parts caches names at = record { has = at.has; rests = rests_still parts caches at.rests }
-
-stops : {region : SharedRegion} {s : Shift} {acts : List Act} {old now : List Worker} {out out1 out2 : Records} {p : Progress} (n i : ℕ) (d w : Worker) → length old ≡ length s.idle → (so : DidWithLent region s acts old now out out1 i p) → i < length old → length now ≡ length old
-    → StopsLent region s.profile (number_in s i) n (get_or now i d) w out1 out2 (s.lends i) so.turns.came.reached → DidWithLent region s (acts ++ (StopsIdle (number_in s i) n ∷ [])) old (set now i w) out out2 (i + 1) p
-stops {region} {s} {acts} {old} {now} {out} {out1} {out2} {p} n i d w size so lt many t =
+stops : {h : BenchHome} {s : Shift} {acts : List Act} {bench bench' : Bench} {old now : List Worker} {out out1 out2 : Records} {p : Progress} (n i : ℕ) (d w : Worker) → length old ≡ length s.idle → (so : StoppedLent h s acts bench old now out out1 i p) → i < length old → length now ≡ length old
+    → StopsLent h s.profile (number_in s i) n bench bench' (get_or now i d) w out1 out2 (s.lends i) so.did.turns.came.reached → StoppedLent h s (acts ++ (StopsIdle (number_in s i) n ∷ [])) bench' old (set now i w) out out2 (i + 1) p
+stops {h} {s} {acts} {bench} {bench'} {old} {now} {out} {out1} {out2} {p} n i d w size so lt many t =
     let k = number_in s i in
-    let x = t.turn.did.does in
+    let x = t.does in
     let told = told_if t.stopped k in
     let theirs = told_own t.stopped k in
     let apart : AreDistinct (number_in s) (length old) = subst (λ (n : ℕ). AreDistinct (number_in s) n) (sym size) s.distinct in
     let by = by_scavenger k x.own told x.each (apart.threads i lt) in
-    let both = ap (λ (rs : List Record). length rs) (records_both 0 so.turns.came.said (x.own ++ told)) ∙ length-append (records_by 0 so.turns.came.said) (records_by 0 (x.own ++ told)) in
+    let both = ap (λ (rs : List Record). length rs) (records_both 0 so.did.turns.came.said (x.own ++ told)) ∙ length-append (records_by 0 so.did.turns.came.said) (records_by 0 (x.own ++ told)) in
     let long = ap (λ (rs : List Record). length rs) (by ∙ all_by 0 told theirs) in
-    let few = so.few in
+    let few = so.did.few in
     let one = told_one t.stopped k in
     record {
-      turns = takes_turn (lent_stays region s) apart theirs i d w lt many so.turns t.turn (record { has = t.turn.did.after; rests = x.stands });
-      told = pushed_both so.told (record { added = t.told.added ∙ ap (λ (rs : List Record). records_in out1 ++ rs) (sym by); room = t.told.room });
-      few = omega (arith, both, long, few, one);
+      did = record {
+        turns = acts_in_turn (lent_stays h.region h.row.actors s) apart theirs i d w lt many so.did.turns x t.requests t.keeper t.sits;
+        told = pushed_both so.did.told (record { added = t.told.added ∙ ap (λ (rs : List Record). records_in out1 ++ rs) (sym by); room = t.told.room });
+        few = omega (arith, both, long, few, one);
+      };
+      over = t.over;
     }
 
 -- ---- all of them
 -- the stops of the lent threads before this place were done
-abbrev pub StopsSoFar : SharedRegion → Shift → ℕ → List Worker → List Worker → Records → Records → ℕ → Progress → Type 0
-StopsSoFar region s n old now out out1 i p = SoFar (idle_stops n s.idle) (idle_stops n (drop i s.idle)) (λ acts. DidWithLent region s acts old now out out1 i p)
+abbrev pub StopsSoFar : BenchHome → Shift → ℕ → Bench → List Worker → List Worker → Records → Records → ℕ → Progress → Type 0
+StopsSoFar h s n bench old now out out1 i p = SoFar (idle_stops n s.idle) (idle_stops n (drop i s.idle)) (λ acts. StoppedLent h s acts bench old now out out1 i p)
 
-pub stops_begin : {region : SharedRegion} {s : Shift} {lent : List Worker} {out : Records} {p : Progress} (n : ℕ) → AreLent region s lent p → StopsSoFar region s n lent lent out out 0 p
-stops_begin n at = at_first (record { turns = no_turn at.each; told = pushed_none refl; few = omega arith })
+pub stops_begin : {h : BenchHome} {s : Shift} {desk : BenchDesk} {lent : List Worker} {out : Records} {p : Progress} (n : ℕ) → IsDeskAt h desk p → AreBeside (SitsLent h.region h.row.actors s) s lent p → StopsSoFar h s n desk.place.bench lent lent out out 0 p
+stops_begin n there at = at_first (record { did = record { turns = no_turn at.each; told = pushed_none refl; few = omega arith }; over = there.over })
 
-pub stops_go_on : {region : SharedRegion} {s : Shift} {old now : List Worker} {out out1 out2 : Records} {p : Progress} (n i : ℕ) (d w : Worker) → length old ≡ length s.idle → (so : StopsSoFar region s n old now out out1 i p) → i < length old → length now ≡ length old
-    → StopsLent region s.profile (number_in s i) n (get_or now i d) w out1 out2 (s.lends i) so.done.turns.came.reached → StopsSoFar region s n old (set now i w) out out2 (i + 1) p
+pub stops_go_on : {h : BenchHome} {s : Shift} {bench bench' : Bench} {old now : List Worker} {out out1 out2 : Records} {p : Progress} (n i : ℕ) (d w : Worker) → length old ≡ length s.idle → (so : StopsSoFar h s n bench old now out out1 i p) → i < length old → length now ≡ length old
+    → StopsLent h s.profile (number_in s i) n bench bench' (get_or now i d) w out1 out2 (s.lends i) so.done.did.turns.came.reached → StopsSoFar h s n bench' old (set now i w) out out2 (i + 1) p
 stops_go_on {s = s} n i d w size so lt many t =
     goes_on (StopsIdle (number_in s i) n ∷ []) (ap (λ (ks : List ℕ). idle_stops n ks) (drop_more s.idle i 0 (omega (arith, lt, size)))) so (stops n i d w size so.done lt many t)
 
-pub stops_end : {region : SharedRegion} {s : Shift} {old now : List Worker} {out out1 : Records} {p : Progress} (n i : ℕ) → length old ≡ length s.idle → length old ≤ i → i ≤ length old → StopsSoFar region s n old now out out1 i p
-    → DidWithLent region s (idle_stops n s.idle) old now out out1 (length old) p
-stops_end {region} {s} {old} {now} {out} {out1} {p} n i size le ge so =
+pub stops_end : {h : BenchHome} {s : Shift} {bench : Bench} {old now : List Worker} {out out1 : Records} {p : Progress} (n i : ℕ) → length old ≡ length s.idle → length old ≤ i → i ≤ length old → StopsSoFar h s n bench old now out out1 i p
+    → StoppedLent h s (idle_stops n s.idle) bench old now out out1 (length old) p
+stops_end {h} {s} {bench} {old} {now} {out} {out1} {p} n i size le ge so =
     let count : i ≡ length old = omega (arith, le, ge) in
-    subst (λ (m : ℕ). DidWithLent region s (idle_stops n s.idle) old now out out1 m p) count (at_last (ap (λ (ks : List ℕ). idle_stops n ks) (drop_of_length-le s.idle (omega (arith, le, size)))) so)
+    subst (λ (m : ℕ). StoppedLent h s (idle_stops n s.idle) bench old now out out1 m p) count (at_last (ap (λ (ks : List ℕ). idle_stops n ks) (drop_of_length-le s.idle (omega (arith, le, size)))) so)
 
 -- ---- the scavenger's own act
 -- there is room for it, beside the acts that are left
 pub room_for_act : {f : Profile} {act : Act} {next : List Act} {σ : Standing} {places : ℕ} {out : Records} {later : Later} {p : Progress} → unbacks_of_act f act ≤ cost_of_act f act → ScavengerAt f (act ∷ next) σ places out later p → HasRoomAt f σ out (for_act f act (and_left f next later)) p
 room_for_act less at = let spare = at.stands.spare in record { sits = sits_for at.stands.sits (omega (arith, less)); spare = omega (arith, spare) }
 
-module _ {region : SharedRegion} {s : Shift} {act : Act} {next : List Act} {σ σ' : Standing} {places : ℕ} {out out' : Records} {lent : List Worker} {p : Progress}
-    (at : CrewAt region s (act ∷ next) (crew σ lent places out) p) (did : ScavengerActs s.profile act σ σ' out out' (and_left s.profile next s.own) p) where
+module _ {Lends : ℕ → Worker → Progress → Type 0} {s : Shift} {act : Act} {next : List Act} {σ σ' : Standing} {places : ℕ} {out out' : Records} {lent : List Worker} {p : Progress}
+    (stays : Stays (number_in s) Lends) (at : CrewStands Lends s (act ∷ next) (crew σ lent places out) p) (did : ScavengerActs s.profile act σ σ' out out' (and_left s.profile next s.own) p) where
   -- it leaves the lent threads where they are
-  pub still_lent : AreLent region s lent did.reached
+  pub still_lent : AreBeside Lends s lent did.reached
   still_lent = record {
     many = at.lent.many;
     each = λ i d lt.
         let many = at.lent.many in
         let k = number_in s i in
-        lent_stays region s i (get_or lent i d) p did.reached (ap (λ (l : Whole). part k l) did.moves.list_is ∙ part_of_others k 0 did.moves.steps p.list (s.distinct.threads i (omega (arith, lt, many)))) (ap (λ (cs : Caches). cs k) did.caches) did.names
+        stays i (get_or lent i d) p did.reached (ap (λ (l : Whole). part k l) did.moves.list_is ∙ part_of_others k 0 did.moves.steps p.list (s.distinct.threads i (omega (arith, lt, many)))) (ap (λ (cs : Caches). cs k) did.caches) did.names
         (at.lent.each i d lt);
   }
 
@@ -107,7 +110,7 @@ module _ {region : SharedRegion} {s : Shift} {act : Act} {next : List Act} {σ �
   leaves_alone : (k : ℕ) → 0 ≢ k → TookNoPart k did.says.said p did.reached
   leaves_alone k some = record { part_is = ap (λ (l : Whole). part k l) did.moves.list_is ∙ part_of_others k 0 did.moves.steps p.list some; silent = none_by k 0 did.says.said did.says.each some }
 
-  pub did_alone : {places' : ℕ} → places' ≡ places → CrewDid region s (act ∷ []) next (crew σ lent places out) (crew σ' lent places' out') p
+  pub did_alone : {places' : ℕ} → places' ≡ places → CrewDoes Lends s (act ∷ []) next (crew σ lent places out) (crew σ' lent places' out') p
   did_alone same = record { came = came; stands = record { stands = record { stands = did.stands; has_places = same ∙ at.stands.has_places }; lent = still_lent }; told = own_told; lent = lent_told; books = did.books; others = λ k some other. leaves_alone k some }
 
 -- ---- an idle operation
@@ -115,39 +118,48 @@ pub costs_stops : (f : Profile) (n : ℕ) (idle : List ℕ) (next : List Act) �
 costs_stops f n [] next = omega arith
 costs_stops f n (k ∷ idle) next = let rest = costs_stops f n idle next in omega (arith, rest)
 
-pub did_idle : {region : SharedRegion} {s : Shift} {next : List Act} {σ σ' : Standing} {places : ℕ} {out out' : Records} {old new : List Worker} {p : Progress} (n : ℕ) (at : CrewAt region s (ReadsEpoch ∷ (idle_stops n s.idle ++ next)) (crew σ old places out) p)
-    (read : ScavengerActs s.profile ReadsEpoch σ σ' out out (and_left s.profile (idle_stops n s.idle ++ next) s.own) p) → length new ≡ length old → DidWithLent region s (idle_stops n s.idle) old new out out' (length old) read.reached
-    → CrewDid region s (ReadsEpoch ∷ idle_stops n s.idle) next (crew σ old places out) (crew σ' new places out') p
-did_idle {region} {s} {next} {σ} {σ'} {places} {out} {out'} {old} {new} {p} n at read size stops =
+-- the scavenger, whose desk the lent threads used, sits there as it did
+stood_still : (desk : BenchDesk) {σ : Standing} {l m : Whole} → (standing_at desk).seat ≡ σ.seat → StandsOver (row_on desk.place.bench) m → StandsStill σ (standing_at desk) l m
+stood_still desk {σ} {l} {m} seat over = record {
+  seat_is = seat;
+  stands = λ at same. (sym (row_tells (row_on desk.place.bench) m desk.place.member.actor over desk.place.sits.among_them), over);
+}
+
+pub did_idle : {h : BenchHome} {s : Shift} {next : List Act} {σ σ' : Standing} {places : ℕ} {out out' : Records} {old new : List Worker} {p : Progress} (n : ℕ) (desk : BenchDesk) (at : CrewSits h s (ReadsEpoch ∷ (idle_stops n s.idle ++ next)) (crew σ old places out) p)
+    (read : ScavengerActs s.profile ReadsEpoch σ σ' out out (and_left s.profile (idle_stops n s.idle ++ next) s.own) p) → (standing_at desk).seat ≡ σ'.seat → length new ≡ length old → StoppedLent h s (idle_stops n s.idle) desk.place.bench old new out out' (length old) read.reached
+    → CrewActs h s (ReadsEpoch ∷ idle_stops n s.idle) next (crew σ old places out) (crew (standing_at desk) new places out') p
+did_idle {h} {s} {next} {σ} {σ'} {places} {out} {out'} {old} {new} {p} n desk at read seat size stopped =
+    let stops = stopped.did in
+    let stays = lent_stays h.region h.row.actors s in
     let costs = costs_stops s.profile n s.idle next in
     let many = at.lent.many in
     let spare = read.stands.spare in
     let longer = ap (λ (rs : List Record). length rs) stops.told.added ∙ length-append (records_in out) (records_by 0 stops.turns.came.said) in
     let own_part = stops.turns.leaves.parts 0 (λ i lt same. s.distinct.threads i (omega (arith, lt, many)) (sym same)) in
     record {
-      came = came_both (came at read) stops.turns.came;
+      came = came_both (came stays at read) stops.turns.came;
       stands = record {
         stands = record {
           stands = record {
-            sits = subst (λ (v : View). Sits s.profile 0 HasNothing σ' v (costs_of s.profile next + s.own.events)) (sym own_part) (sits_for read.stands.sits (omega (arith, costs)));
+            sits = sits_still (λ v. costs_of s.profile next + s.own.events) (stood_still desk seat stopped.over) own_part (sits_for read.stands.sits (omega (arith, costs)));
             spare = omega (arith, longer, stops.few, spare, costs, many, stops.told.room);
           };
           has_places = at.stands.has_places;
         };
         lent = record { many = size ∙ many; each = λ i d lt. stops.turns.stand i d (omega (arith, lt, size)) };
       };
-      told = pushed_both (own_told at read) stops.told;
-      lent = λ i d lt. told_both (lent_told at read i d lt) (stops.turns.told i d lt);
+      told = pushed_both (own_told stays at read) stops.told;
+      lent = λ i d lt. told_both (lent_told stays at read i d lt) (stops.turns.told i d lt);
       books = stops.turns.leaves.books ∙ read.books;
-      others = λ k some other. no_part_both (leaves_alone at read k some) (record { part_is = stops.turns.leaves.parts k (λ i lt. other i (omega (arith, lt, many))); silent = stops.turns.leaves.silent k some (λ i lt. other i (omega (arith, lt, many))) });
+      others = λ k some other. no_part_both (leaves_alone stays at read k some) (record { part_is = stops.turns.leaves.parts k (λ i lt. other i (omega (arith, lt, many))); silent = stops.turns.leaves.silent k some (λ i lt. other i (omega (arith, lt, many))) });
     }
 
 -- ---- the acts written otherwise
-pub as_acts : {region : SharedRegion} {s : Shift} {acts acts' : List Act} {has : Crew} {p : Progress} (next : List Act) → acts ≡ acts' → CrewAt region s (acts ++ next) has p → CrewAt region s (acts' ++ next) has p
-as_acts {region} {s} {has = has} {p} next is at = subst (λ (xs : List Act). CrewAt region s (xs ++ next) has p) is at
+pub as_acts : {Lends : ℕ → Worker → Progress → Type 0} {s : Shift} {acts acts' : List Act} {has : Crew} {p : Progress} (next : List Act) → acts ≡ acts' → CrewStands Lends s (acts ++ next) has p → CrewStands Lends s (acts' ++ next) has p
+as_acts {Lends} {s} {has = has} {p} next is at = subst (λ (xs : List Act). CrewStands Lends s (xs ++ next) has p) is at
 
-pub to_acts : {region : SharedRegion} {s : Shift} {acts acts' next : List Act} {has has' : Crew} {p : Progress} → acts ≡ acts' → CrewDid region s acts' next has has' p → CrewDid region s acts next has has' p
-to_acts {region} {s} {next = next} {has} {has'} {p} is did = subst (λ (xs : List Act). CrewDid region s xs next has has' p) (sym is) did
+pub to_acts : {Lends : ℕ → Worker → Progress → Type 0} {s : Shift} {acts acts' next : List Act} {has has' : Crew} {p : Progress} → acts ≡ acts' → CrewDoes Lends s acts' next has has' p → CrewDoes Lends s acts next has has' p
+to_acts {Lends} {s} {next = next} {has} {has'} {p} is did = subst (λ (xs : List Act). CrewDoes Lends s xs next has has' p) (sym is) did
 
 -- ---- which operation comes next
 -- it may follow the names of some list
@@ -182,20 +194,20 @@ module _ (f : Profile) (asked : List ℕ) (ops : List Op) (i : ℕ) (d : Op) (so
       (ne_eqb (get_or ops i d).actor 0 (not_first f work (get_or ops i d).actor of_actor not))
 
 -- so far, the scavenger's operations before this place were done
-abbrev pub CrewSoFar : SharedRegion → Shift → List Op → ℕ → Crew → Crew → Progress → Type 0
-CrewSoFar region s ops i h0 h p = SoFar (scavenger_acts s.idle ops) (scavenger_acts s.idle (drop i ops)) (λ acts. CrewDid region s acts (scavenger_acts s.idle (drop i ops)) h0 h p)
+abbrev pub CrewSoFar : (ℕ → Worker → Progress → Type 0) → Shift → List Op → ℕ → Crew → Crew → Progress → Type 0
+CrewSoFar Lends s ops i has0 has p = SoFar (scavenger_acts s.idle ops) (scavenger_acts s.idle (drop i ops)) (λ acts. CrewDoes Lends s acts (scavenger_acts s.idle (drop i ops)) has0 has p)
 
-pub crew_begins : {region : SharedRegion} {s : Shift} (ops : List Op) {has : Crew} {p : Progress} → CrewAt region s (scavenger_acts s.idle ops) has p → CrewSoFar region s ops 0 has has p
+pub crew_begins : {Lends : ℕ → Worker → Progress → Type 0} {s : Shift} (ops : List Op) {has : Crew} {p : Progress} → CrewStands Lends s (scavenger_acts s.idle ops) has p → CrewSoFar Lends s ops 0 has has p
 crew_begins {s = s} ops {has} {p} at = at_first (record { came = came_none s.profile p; stands = at; told = pushed_none refl; lent = λ i d lt. told_none refl; books = refl; others = λ k some other. record { part_is = refl; silent = refl } })
 
 -- the next one is this chore
-module _ {region : SharedRegion} {s : Shift} (ops : List Op) (i : ℕ) {h0 h : Crew} {p : Progress} (chore : Chore)
-    (next : scavenger_acts s.idle (drop i ops) ≡ acts_of_chore s.idle chore ++ scavenger_acts s.idle (drop (i + 1) ops)) (so : CrewSoFar region s ops i h0 h p) where
-  pub crew_before : CrewAt region s (acts_of_chore s.idle chore ++ scavenger_acts s.idle (drop (i + 1) ops)) h so.done.came.reached
-  crew_before = subst (λ (acts : List Act). CrewAt region s acts h so.done.came.reached) next so.done.stands
+module _ {Lends : ℕ → Worker → Progress → Type 0} {s : Shift} (ops : List Op) (i : ℕ) {has0 has : Crew} {p : Progress} (chore : Chore)
+    (next : scavenger_acts s.idle (drop i ops) ≡ acts_of_chore s.idle chore ++ scavenger_acts s.idle (drop (i + 1) ops)) (so : CrewSoFar Lends s ops i has0 has p) where
+  pub crew_before : CrewStands Lends s (acts_of_chore s.idle chore ++ scavenger_acts s.idle (drop (i + 1) ops)) has so.done.came.reached
+  crew_before = subst (λ (acts : List Act). CrewStands Lends s acts has so.done.came.reached) next so.done.stands
 
-  pub crew_goes_on : {h' : Crew} → length h0.lent ≡ length s.idle → CrewDid region s (acts_of_chore s.idle chore) (scavenger_acts s.idle (drop (i + 1) ops)) h h' so.done.came.reached → CrewSoFar region s ops (i + 1) h0 h' p
-  crew_goes_on {h'} many did =
+  pub crew_goes_on : {has' : Crew} → length has0.lent ≡ length s.idle → CrewDoes Lends s (acts_of_chore s.idle chore) (scavenger_acts s.idle (drop (i + 1) ops)) has has' so.done.came.reached → CrewSoFar Lends s ops (i + 1) has0 has' p
+  crew_goes_on {has'} many did =
       let one = so.done in
       goes_on (acts_of_chore s.idle chore) next so
       (record {
@@ -207,11 +219,11 @@ module _ {region : SharedRegion} {s : Shift} (ops : List Op) (i : ℕ) {h0 h : C
         others = λ k some other. no_part_both (one.others k some other) (did.others k some other);
       })
 
-pub crew_skips : {region : SharedRegion} {s : Shift} (ops : List Op) (i : ℕ) {h0 h : Crew} {p : Progress} → scavenger_acts s.idle (drop i ops) ≡ scavenger_acts s.idle (drop (i + 1) ops) → CrewSoFar region s ops i h0 h p → CrewSoFar region s ops (i + 1) h0 h p
-crew_skips {region} {s} ops i {h0} {h} {p} same so =
-    subst (λ (left : List Act). SoFar (scavenger_acts s.idle ops) left (λ acts. CrewDid region s acts left h0 h p)) same so
+pub crew_skips : {Lends : ℕ → Worker → Progress → Type 0} {s : Shift} (ops : List Op) (i : ℕ) {has0 has : Crew} {p : Progress} → scavenger_acts s.idle (drop i ops) ≡ scavenger_acts s.idle (drop (i + 1) ops) → CrewSoFar Lends s ops i has0 has p → CrewSoFar Lends s ops (i + 1) has0 has p
+crew_skips {Lends} {s} ops i {has0} {has} {p} same so =
+    subst (λ (left : List Act). SoFar (scavenger_acts s.idle ops) left (λ acts. CrewDoes Lends s acts left has0 has p)) same so
 
-pub crew_ends : {region : SharedRegion} {s : Shift} (ops : List Op) {i : ℕ} {h0 h : Crew} {p : Progress} → length ops ≤ i → CrewSoFar region s ops i h0 h p → CrewDid region s (scavenger_acts s.idle ops) [] h0 h p
-crew_ends {region} {s} ops {i} {h0} {h} {p} le so =
+pub crew_ends : {Lends : ℕ → Worker → Progress → Type 0} {s : Shift} (ops : List Op) {i : ℕ} {has0 has : Crew} {p : Progress} → length ops ≤ i → CrewSoFar Lends s ops i has0 has p → CrewDoes Lends s (scavenger_acts s.idle ops) [] has0 has p
+crew_ends {Lends} {s} ops {i} {has0} {has} {p} le so =
     let none : scavenger_acts s.idle (drop i ops) ≡ [] = ap (λ (xs : List Op). scavenger_acts s.idle xs) (drop_of_length-le ops le) in
-    subst (λ (left : List Act). CrewDid region s (scavenger_acts s.idle ops) left h0 h p) none (at_last none so)
+    subst (λ (left : List Act). CrewDoes Lends s (scavenger_acts s.idle ops) left has0 has p) none (at_last none so)

@@ -16,15 +16,16 @@ use Rattle.pas_cache.specs.Caches.{cached}
 use Rattle.pas_shared.specs.{Ledgers.EndsAfter, Passes.seat_of, Passes.view_of, Passes.IsPassOf}
 use Rattle.pas_shared.specs.declared.{pass.SharedPass.SharedPass, region.SharedRegion.SharedRegion}
 use Rattle.pas_answers.specs.{Answers.Progress, Fit.AreOfThreads, Ways.OnThreads}
-use Rattle.pas_answers.specs.Replays.{phases_of, region_of, threads_of, acts_of_plan, Shows}
+use Rattle.pas_answers.specs.Replays.{phases_of, region_of, threads_of, acts_of_plan, at_start, Shows}
+use Rattle.pas_answers.specs.Stages.{stages_of, GoByStages}
 use Rattle.pas_answers.proofs.Consequences.{replays}
 use Rattle.pas_trace.proofs.Keepers.{plan_actors}
 use Rattle.pas_plans.proofs.Nothing.{nothing, no_slots}
-use Rattle.pas_threads.specs.{Hands.HasPass, Sessions.Session, Sessions.TeamAt, Sessions.HasReplayed}
+use Rattle.pas_threads.specs.{Hands.HasPass, Sessions.Session, Sessions.TeamAt, Sessions.IsOfActors, Sessions.HasReplayed}
 use Rattle.pas_threads.specs.Kits.{AreAllBack, slots_of, kept_pass, kept_passes}
 use Rattle.pas_threads.specs.Pairs.{no_more, HasKeeper, AreGuarded, IsLow, KeeperStands}
 use Rattle.pas_threads.specs.declared.{keeper.Keeper.Keeper, phases.Team.Team, workers.Worker.Worker}
-use Rattle.pas_threads.proofs.{Dealt.some_worker, Keepers.stands_for, Start.session_of}
+use Rattle.pas_threads.proofs.{Dealt.some_worker, Keepers.stands_for, Staging.nothing_since, Staging.of_first, Staging.stand_all, Start.session_of}
 
 -- ---- handing back
 -- the worker has its pass
@@ -222,9 +223,13 @@ shows {plan} {region} {so_far} {team} passes {written} {state} valid threads of_
     let after = closed.ends.after in
     let actors = plan_actors plan in
     let same = same_parts replayed.stands passes back after.whole (omega (arith, actors)) after.legal after.parts in
+    let s = session_of plan in
+    let of : IsOfActors s after.whole = λ k past. same k ∙ replayed.stands.nobody k past in
+    let all : after.whole ≡ so_far = nothing_since closed.begins (λ k. same k ∙ sym (stand_all s so_far replayed.end.list replayed.went.stand replayed.went.nobody (of_first s closed.begins of) k)) in
+    let staged = subst (λ (l : Whole). GoByStages s.profile (stages_of s.threads s.keepers (phases_of plan)) at_start replayed.end [] l) (sym all) (replayed.went.by_stages (subst (IsOfActors s) all of)) in
     record {
       whole = after.whole;
-      replay = replays OnThreads plan replayed.end after.whole written valid replayed.answers same (replayed.in_phases after.whole closed.begins (λ k past. same k ∙ replayed.stands.nobody k past)) replayed.written_are after.legal
+      replay = replays OnThreads plan replayed.end after.whole written valid replayed.answers same (replayed.in_phases after.whole closed.begins of) staged replayed.written_are after.legal
           (λ k. subst HasNothing (sym (same k)) (bare_at replayed.stands replayed.empty replayed.low k)) tt tt threads;
       profile = closed.ends.profile;
       words = after.words;

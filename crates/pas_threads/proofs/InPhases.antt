@@ -1,26 +1,25 @@
 -- The phases of a replay: acts without a mark, acts after one another, and what a settled ledger has of a team.
 use Rattle.std.proofs.Common.{◌≡◌, ℕ, zero, suc, ◌+◌, ◌-◌, ◌<◌, ◌≤◌, ◌==◌, Bool, true, false, if◌then◌else◌, inl, inr, List, [], ◌∷◌, ◌++◌, length, map, get_or}
-use Rattle.std.proofs.Common.{Option, Some, None, refl, ap, sym, ◌∙◌, subst, arith, append_assoc, vec_capacity}
+use Rattle.std.proofs.Common.{Option, Some, None, refl, ap, sym, ◌∙◌, subst, arith, append_assoc}
 use Rattle.std.specs.List.{AllByRecursion}
-use Rattle.std.proofs.lemmas.Bool.{cases_lt}
+use Rattle.std.proofs.lemmas.{Bool.cases_lt, Option.same_Some}
 use Rattle.pas_profile.specs.declared.profile.Profile.{Profile}
 use Rattle.pas_profile.proofs.Lists.{all_both}
 use Rattle.pas_steps.specs.{Lists.Whole, Lists.part, Views.View}
 use Rattle.pas_steps.specs.declared.step.Made.{Made}
 use Rattle.pas_trace.specs.Acts.{Act, MarksPhase, MarksClose, Wakes, StopsIdle, Ends, Lowers, active_threads, idle_threads, numbers_from, own_acts, act_kept}
 use Rattle.pas_trace.specs.Acts.{acts_of_work, acts_of_ops, phase_acts}
-use Rattle.pas_trace.specs.{Asked.work_of, Asked.keeper_of, EveryPhase.FreeTheirOwn, EveryPlan.all_ops, EveryPlan.own_records}
+use Rattle.pas_trace.specs.{Asked.work_of, Asked.keeper_of, EveryPlan.all_ops}
 use Rattle.pas_trace.specs.declared.plan.{Chore.Chore, Op.Op, Work.Work}
-use Rattle.pas_shared.specs.{Ruled.IsEarlier, Passes.seat_of, Passes.view_of}
+use Rattle.pas_shared.specs.{Ruled.IsEarlier, Passes.seat_of, Passes.view_of, Passes.IsPassOf}
 use Rattle.pas_shared.specs.declared.{region.SharedRegion.SharedRegion, pass.SharedPass.SharedPass}
-use Rattle.pas_acts.specs.{NameBooks.NamesAt, Pairs.KeeperWaits}
-use Rattle.pas_acts.specs.declared.names.NameBook.{NameBook}
+use Rattle.pas_acts.specs.Pairs.{KeeperWaits}
 use Rattle.pas_answers.specs.{Answers.Progress, Reaching.Reaches, Phases.StandFirst, Phases.AtMark, Phases.AreInPhases}
 use Rattle.pas_answers.proofs.Reached.{reach_both}
-use Rattle.pas_threads.specs.Pairs.{no_more, kept_by_worker, AreGuarded, KeeperRests}
-use Rattle.pas_threads.specs.Sessions.{Session, planned, TeamAt, AreResting, ScavengerRests, IsOfActors}
-use Rattle.pas_threads.specs.Settling.{StandsIn, TeamStandsIn, IsSameTeam}
-use Rattle.pas_threads.specs.declared.{keeper.Keeper.Keeper, phases.Team.Team, scavenger.Scavenger.Scavenger, workers.Worker.Worker}
+use Rattle.pas_threads.specs.{Hands.HasPass, Pairs.no_more, Pairs.kept_by_worker, Pairs.AreGuarded, Pairs.IsKeeperOf}
+use Rattle.pas_threads.specs.Sessions.{Session, TeamAt, IsOfActors, StandSo}
+use Rattle.pas_threads.specs.Settling.{StandsIn, PassStands, ActorsStand}
+use Rattle.pas_threads.specs.declared.{keeper.Keeper.Keeper, phases.Team.Team, workers.Worker.Worker}
 use Rattle.pas_threads.proofs.Dealt.{some_worker}
 
 -- ---- acts without a mark
@@ -79,71 +78,79 @@ none_more true m v is = absurd (let n = ap (λ (w : View). length w) is in omega
 none_more false m v is = is
 
 -- who has no part in a list has none in its first steps
-none_first : (k : ℕ) (since l : Whole) → part k (since ++ l) ≡ [] → part k l ≡ []
+pub none_first : (k : ℕ) (since l : Whole) → part k (since ++ l) ≡ [] → part k l ≡ []
 none_first k [] l is = is
 none_first k (t ∷ since) l is = none_first k since l (none_more (t.actor == k) t.made (part k (since ++ l)) is)
 
--- ---- a team whose steps all stand in the list
-module _ {region : SharedRegion} {s : Session} {phases : List (List Op)} {team : Team} {p : Progress} (at : TeamAt region s phases team p) (l : Whole) (stands : TeamStandsIn l team) where
-  stand_thread : (i : ℕ) → i < s.threads → part (suc i) l ≡ part (suc i) p.list
-  stand_thread i lt =
-      let below : i < length team.threads.items = omega (arith, lt, at.many) in
-      let d = some_worker team.threads.items i below in
-      let here = (at.workers i d below).here in
-      ap (λ (n : ℕ). part n l) (sym here.rests.sits.actor) ∙ stands.threads i d here.has.pass below here.has.present ∙ here.rests.sits.stood
+-- ---- all actors at rest
+-- where an actor has the same part it stands
+pub still_at : {region : SharedRegion} {k : ℕ} {l l' : Whole} {slot : Option SharedPass} → part k l' ≡ part k l → PassStands region k l slot → PassStands region k l' slot
+still_at same at = record { pass = at.pass; present = at.present; of = at.of; actor = at.actor; made = at.made ∙ sym same }
 
-  stand_keeper : (j : ℕ) → j < s.keepers → AreGuarded s.keepers team.threads.items → part (s.threads + suc j) l ≡ part (s.threads + suc j) p.list
-  stand_keeper j lt (inr none) = absurd (omega (arith, none.0, lt))
-  stand_keeper j lt (inl all) =
-      let workers = team.threads.items in
-      let below : j < length workers = omega (arith, lt, all.0) in
-      let w = some_worker workers j below in
-      let has = all.1 j w below in
-      let rests = at.kept j w below in
-      let sits = (subst (λ (x : Option Keeper). KeeperWaits s.profile (s.threads + suc j) (own_acts (suc j) (all_ops phases)) (kept_by_worker x) no_more p) has.1 rests.waits).1.sits in
-      ap (λ (n : ℕ). part n l) (sym sits.actor) ∙ stands.keepers j w has.0 below has.1 ∙ sits.stood
+-- with this pass
+pub stands_with : {region : SharedRegion} {k : ℕ} {l : Whole} {slot : Option SharedPass} (pass : SharedPass) → slot ≡ Some pass → PassStands region k l slot → IsPassOf region pass × ((seat_of pass).actor ≡ k) × (view_of pass ≡ part k l)
+stands_with {region} {k} {l} pass is at = subst (λ (x : SharedPass). IsPassOf region x × ((seat_of x).actor ≡ k) × (view_of x ≡ part k l)) (same_Some at.pass pass (sym at.present ∙ is)) (at.of, at.actor, at.made)
 
-  pub all_stand : (k : ℕ) → k ≤ s.threads + s.keepers → part k l ≡ part k p.list
-  all_stand zero le =
-      let has = at.scavenger.has in
-      let sits = at.scavenger.at.stands.sits in
-      ap (λ (n : ℕ). part n l) (sym sits.actor) ∙ stands.scavenger has.pass has.present ∙ sits.stood
-  all_stand (suc i) le = elim (cases_lt i s.threads) [
-    | inl within ↦ stand_thread i within
-    | inr past ↦
-        let place : s.threads + suc (i - s.threads) ≡ suc i = omega (arith, past) in
-        subst (λ (k : ℕ). part k l ≡ part k p.list) place (stand_keeper (i - s.threads) (omega (arith, past, le)) at.guarded)
-  ]
+-- a list that has the steps of an actor's pass has its part
+pub stands_so : {region : SharedRegion} {k : ℕ} {told : Whole} {slot : Option SharedPass} (l : Whole) (pass : SharedPass) → slot ≡ Some pass → PassStands region k told slot → StandsIn l pass → part k l ≡ part k told
+stands_so l pass is at stands = let its = stands_with pass is at in ap (λ (n : ℕ). part n l) (sym its.1) ∙ stands ∙ its.2
 
--- the same team stands as it stood
-pub same_team : {region : SharedRegion} {s : Session} {phases : List (List Op)} {old new : Team} {p : Progress} → IsSameTeam old new → TeamAt region s phases old p → TeamAt region s phases new p
-same_team {region} {s} {phases} {old} {new} {p} same at =
-    let ws = sym same.threads in
-    let both = subst (λ (b : NameBook). (names : NamesAt s.profile (all_ops phases) b p) × FreeTheirOwn names.asked phases) (sym same.book) (at.names, at.frees) in
-    record {
-      many = ap (λ (us : List Worker). length us) same.threads ∙ at.many;
-      fits = at.fits;
-      few_threads = at.few_threads;
-      few = at.few;
-      within = at.within;
-      behind = at.behind;
-      workers = subst (λ (us : List Worker). AreResting region s.profile us (λ k. own_records (planned s) k (all_ops phases)) p) ws at.workers;
-      guarded = subst (λ (us : List Worker). AreGuarded s.keepers us) ws at.guarded;
-      kept = subst (λ (us : List Worker). (i : ℕ) (d : Worker) → i < length us → KeeperRests region s.profile (s.threads + suc i) (own_acts (suc i) (all_ops phases)) (get_or us i d).keeper p) ws at.kept;
-      scavenger = subst (λ (v : Scavenger). ScavengerRests region s.profile v (own_records (planned s) 0 (all_ops phases)) p) (sym same.scavenger) at.scavenger;
-      nobody = at.nobody;
-      names = both.0;
-      frees = both.1;
-      places = record {
-        workers = omega (arith, at.places.workers, same.places);
-        hands = omega (arith, at.places.hands, same.hand_places);
-        lent = subst (λ (v : Scavenger). s.threads ≤ vec_capacity v.lent) (sym same.scavenger) at.places.lent;
-        free = same.hands ∙ at.places.free;
-      };
-    }
+module _ {region : SharedRegion} {s : Session} {slot : Option SharedPass} {workers : List Worker} {told : Whole} (at : ActorsStand region s slot workers told) where
+  -- all their passes are of the region
+  pub thread_back : (i : ℕ) (d : Worker) → i < length workers → HasPass region (get_or workers i d).pass
+  thread_back i d lt = let here = at.threads i d lt in record { pass = here.pass; present = here.present; of = here.of }
+
+  of_region : (o : Option Keeper) → ((keeper : Keeper) → o ≡ Some keeper → IsPassOf region keeper.pass) → IsKeeperOf region o
+  of_region None each = tt
+  of_region (Some keeper) each = each keeper refl
+
+  pub keeper_back : (i : ℕ) (d : Worker) → i < length workers → IsKeeperOf region (get_or workers i d).keeper
+  keeper_back i d lt = of_region (get_or workers i d).keeper (λ keeper is. (stands_with keeper.pass refl (at.keepers i d keeper lt is)).0)
+
+  -- a list that has the steps of all passes has the part of each actor
+  module _ (l : Whole) (scavenger : (pass : SharedPass) → slot ≡ Some pass → StandsIn l pass) (threads : (i : ℕ) (d : Worker) (pass : SharedPass) → i < length workers → (get_or workers i d).pass ≡ Some pass → StandsIn l pass)
+      (keepers : (i : ℕ) (d : Worker) (keeper : Keeper) → i < length workers → (get_or workers i d).keeper ≡ Some keeper → StandsIn l keeper.pass) where
+    stand_thread : (i : ℕ) → i < s.threads → part (suc i) l ≡ part (suc i) told
+    stand_thread i lt =
+        let below : i < length workers = omega (arith, lt, at.many) in
+        let d = some_worker workers i below in
+        let here = at.threads i d below in
+        stands_so l here.pass here.present here (threads i d here.pass below here.present)
+
+    stand_keeper : (j : ℕ) → j < s.keepers → AreGuarded s.keepers workers → part (s.threads + suc j) l ≡ part (s.threads + suc j) told
+    stand_keeper j lt (inr none) = absurd (omega (arith, none.0, lt))
+    stand_keeper j lt (inl all) =
+        let below : j < length workers = omega (arith, lt, all.0) in
+        let w = some_worker workers j below in
+        let has = all.1 j w below in
+        stands_so l has.0.pass refl (at.keepers j w has.0 below has.1) (keepers j w has.0 below has.1)
+
+    pub all_stand : StandSo s l told
+    all_stand zero le = stands_so l at.scavenger.pass at.scavenger.present at.scavenger (scavenger at.scavenger.pass at.scavenger.present)
+    all_stand (suc i) le = elim (cases_lt i s.threads) [
+      | inl within ↦ stand_thread i within
+      | inr past ↦
+          let place : s.threads + suc (i - s.threads) ≡ suc i = omega (arith, past) in
+          subst (λ (k : ℕ). part k l ≡ part k told) place (stand_keeper (i - s.threads) (omega (arith, past, le)) at.guarded)
+    ]
+
+-- a team at rest stands so
+pub team_stands : {region : SharedRegion} {s : Session} {phases : List (List Op)} {team : Team} {p : Progress} → TeamAt region s phases team p → ActorsStand region s team.scavenger.pass team.threads.items p.list
+team_stands {region} {s} {phases} {team} {p} at = record {
+  many = at.many;
+  guarded = at.guarded;
+  scavenger = let has = at.scavenger.has in let sits = at.scavenger.at.stands.sits in record { pass = has.pass; present = has.present; of = has.of; actor = sits.actor; made = sits.stood };
+  threads = λ i d lt. let here = (at.workers i d lt).here in record { pass = here.has.pass; present = here.has.present; of = here.has.of; actor = here.rests.sits.actor; made = here.rests.sits.stood };
+  keepers = λ i d keeper lt is.
+      let rests = at.kept i d lt in
+      let k = s.threads + suc i in
+      let sits = (subst (λ (x : Option Keeper). KeeperWaits s.profile k (own_acts (suc i) (all_ops phases)) (kept_by_worker x) no_more p) is rests.waits).1.sits in
+      record { pass = keeper.pass; present = refl; of = subst (λ (x : Option Keeper). IsKeeperOf region x) is rests.of; actor = sits.actor; made = sits.stood };
+  nobody = at.nobody;
+}
 
 -- they are the first steps of each list of these actors that begins with it
-pub stand_first : {region : SharedRegion} {s : Session} {phases : List (List Op)} {team : Team} {p : Progress} → TeamAt region s phases team p → (l whole : Whole) → ((k : ℕ) → k ≤ s.threads + s.keepers → part k l ≡ part k p.list)
+pub stand_first : {region : SharedRegion} {s : Session} {phases : List (List Op)} {team : Team} {p : Progress} → TeamAt region s phases team p → (l whole : Whole) → StandSo s l p.list
     → IsEarlier l whole → IsOfActors s whole → StandFirst p.list whole
 stand_first {region} {s} {phases} {team} {p} at l whole stands first of = record {
   since = first.0;

@@ -1,7 +1,7 @@
 -- The keepers of workers: how they stand on while others act, what is gathered of them, and their last sweeps.
 use Rattle.std.proofs.Common.{◌≡◌, ◌≢◌, ℕ, suc, ◌+◌, ◌-◌, ◌<◌, ◌≤◌, ◌==◌, Bool, true, false, if◌then◌else◌, inl, inr, List, [], ◌∷◌, ◌++◌, length, set, get_or}
 use Rattle.std.proofs.Common.{map, Option, Some, None, refl, ap, sym, ◌∙◌, subst, arith, append_assoc, eq-eqb, ne_eqb, append-nil, get_or-set_other}
-use Rattle.std.proofs.lemmas.List.{get_or-map, get_or_default}
+use Rattle.std.proofs.lemmas.{Bool.cases_eq, List.get_or-map, List.get_or_default}
 use Rattle.pas_profile.specs.declared.profile.Profile.{Profile}
 use Rattle.pas_steps.specs.{Lists.Whole, Lists.part, Views.View}
 use Rattle.pas_steps.proofs.Parts.{part_of_others}
@@ -17,16 +17,16 @@ use Rattle.pas_trace.specs.declared.plan.Op.{Op}
 use Rattle.pas_answers.specs.{Answers.Progress, Keeping.owed_by_keeper, Ways.is_of, Ways.records_by}
 use Rattle.pas_answers.proofs.OwnRecords.{records_both, all_by, none_by, spoken_piece, spoken_both}
 use Rattle.pas_answers.proofs.Reached.{reach_both}
-use Rattle.pas_acts.specs.Keepers.{LaterKept, Keeping, NoKeeper, OneKeeper, KeeperAt, KeeperLowers, keeper_has}
+use Rattle.pas_acts.specs.Keepers.{LaterKept, Keeping, NoKeeper, OneKeeper, KeeperAt, KeeperLowers, HasStill, keeper_has}
 use Rattle.pas_acts.specs.Pairs.{for_guard, for_guards, IsTriedBy, AreTriedBy, IsUnguarded, AreUnguarded, KeeperWaits, EachOfTwo, KeptPushed, KeptStill}
 use Rattle.pas_acts.specs.Pairs.{owed_of}
 use Rattle.pas_acts.proofs.Keeping.{keeper_still}
 use Rattle.pas_plans.proofs.{ActsLeft.number_next, ActsLeft.number_last, ActsOfPlan.all_front, ActsOfPlan.all_back}
 use Rattle.pas_threads.specs.{Hands.standing_of_pass, Turns.HasSaid}
 use Rattle.pas_threads.specs.Pairs.{kept_by_worker, IsKeeperOf, IsSilent, no_more, owed_kept, keeper_at, AreGuarded, IsLow, IsButKeeper, KeptSo, Lowered}
-use Rattle.pas_threads.specs.Pairs.{LoweredAll, MayLower, KeeperStands, KeeperLowered}
+use Rattle.pas_threads.specs.Pairs.{MayLower, KeeperStands, KeeperLowered}
 use Rattle.pas_threads.specs.declared.{keeper.Keeper.Keeper, workers.Worker.Worker}
-use Rattle.pas_threads.proofs.TakingTurns.{SoFar, at_first, goes_on, at_last, set_each}
+use Rattle.pas_threads.proofs.TakingTurns.{set_each, pass_still}
 
 -- ---- the acts of a thread
 own_if : (t : Bool) (op : Op) (xs ys : List Act) → (if t then act_kept (keeper_in op.what) op ∷ (Settles op.actor ∷ (xs ++ ys)) else xs ++ ys) ≡ (if t then act_kept (keeper_in op.what) op ∷ (Settles op.actor ∷ xs) else xs) ++ ys
@@ -68,9 +68,12 @@ waits_next f k ys NoKeeper later q will waits = will
 waits_next f k ys (OneKeeper has) later q will waits = (will, waits.1)
 
 -- it waits at each progress at which it has the same in hand
-pub waits_still : (f : Profile) (k : ℕ) (acts : List Act) (kept : Keeping) (later : LaterKept) (p q : Progress) → part k q.list ≡ part k p.list → q.books k ≡ p.books k → KeeperWaits f k acts kept later p → KeeperWaits f k acts kept later q
-waits_still f k acts NoKeeper later p q parts books waits = waits
-waits_still f k acts (OneKeeper has) later p q parts books waits = (waits.0, keeper_still parts books waits.1)
+pub waits_still : (f : Profile) (k : ℕ) (acts : List Act) (o : Option Keeper) (later : LaterKept) (p q : Progress) → part k q.list ≡ part k p.list → q.books k ≡ p.books k → KeeperWaits f k acts (kept_by_worker o) later p → KeeperWaits f k acts (kept_by_worker o) later q
+waits_still f k acts None later p q parts books waits = waits
+waits_still f k acts (Some keeper) later p q parts books waits =
+    let has = keeper_has (standing_of_pass keeper.pass) keeper.book keeper.out in
+    let still : HasStill has has p.list q.list = record { desk = pass_still keeper.pass; book = refl; out = refl } in
+    (waits.0, keeper_still still parts books waits.1)
 
 pub still_same : (k : ℕ) (kept : Keeping) (p q : Progress) → part k q.list ≡ part k p.list → KeptStill k kept p q
 still_same k NoKeeper p q parts = parts
@@ -168,14 +171,11 @@ low_gathered (Some old) (Some new) said low = ap guards_in said.1 ∙ low
 abbrev pub lowers_from : ℕ → ℕ → ℕ → List Act
 lowers_from threads keepers i = map Lowers (numbers_from (threads + 1 + i) (keepers - i))
 
-abbrev pub LoweredSoFar : SharedRegion → Profile → ℕ → ℕ → ℕ → List Worker → List Worker → Progress → Type 0
-LoweredSoFar region f threads keepers i old now p = SoFar (lowers_from threads keepers 0) (lowers_from threads keepers i) (λ acts. Lowered region f threads acts i old now p)
-
-nothing_changed : (w : Worker) → IsButKeeper w w
+pub nothing_changed : (w : Worker) → IsButKeeper w w
 nothing_changed w = record { pass = refl; cache = refl; requests = refl; out = refl }
 
-pub lower_begins : {region : SharedRegion} {f : Profile} {threads keepers : ℕ} {old : List Worker} {p : Progress} → MayLower region f threads keepers old p → LoweredSoFar region f threads keepers 0 old old p
-lower_begins {threads = threads} {old = old} {p} may = at_first (record {
+abbrev pub lower_begins : {region : SharedRegion} {f : Profile} {threads keepers : ℕ} {old : List Worker} {p : Progress} → MayLower region f threads keepers old p → Lowered region f threads [] 0 old old p
+lower_begins {threads = threads} {old = old} {p} may = record {
   reached = p;
   reaches = refl;
   said = [];
@@ -189,53 +189,47 @@ lower_begins {threads = threads} {old = old} {p} may = at_first (record {
   silent = λ k other. refl;
   caches = refl;
   names = refl;
-})
+}
 
 -- a worker without a keeper: there is no keeper at all
-none_left : (threads keepers i : ℕ) → keepers ≡ 0 → lowers_from threads keepers i ≡ []
+pub none_left : (threads keepers i : ℕ) → keepers ≡ 0 → lowers_from threads keepers i ≡ []
 none_left threads keepers i none = ap (λ (ks : List ℕ). map Lowers ks) (number_last (threads + 1 + i) (keepers - i) (omega (arith, none)))
 
-has_none : {keepers : ℕ} (old : List Worker) (i : ℕ) (d : Worker) → i < length old → AreGuarded keepers old → (get_or old i d).keeper ≡ None → keepers ≡ 0
+pub has_none : {keepers : ℕ} (old : List Worker) (i : ℕ) (d : Worker) → i < length old → AreGuarded keepers old → (get_or old i d).keeper ≡ None → keepers ≡ 0
 has_none old i d lt (inl all) is = let has = all.1 i d lt in absurd (let bad : None ≡ Some has.0 = sym is ∙ has.1 in cc)
 has_none old i d lt (inr none) is = none.0
 
-pub lower_passes : {region : SharedRegion} {f : Profile} {threads keepers : ℕ} {old now : List Worker} {p : Progress} (i : ℕ) (d w : Worker) → MayLower region f threads keepers old p → i < length old → length now ≡ length old → (get_or now i d).keeper ≡ None → w ≡ get_or now i d
-    → LoweredSoFar region f threads keepers i old now p → LoweredSoFar region f threads keepers (i + 1) old (set now i w) p
-lower_passes {region} {f} {threads} {keepers} {old} {now} {p} i d w may lt many none same so =
-    let x = so.done in
-    let here : i < length now = omega (arith, lt, many) in
-    let zero_of = has_none old i d lt may.guarded (ap (λ (y : Worker). y.keeper) (sym (x.left i d (omega arith) lt)) ∙ none) in
-    let is_now : (e : Worker) → w ≡ get_or now i e = λ e. same ∙ get_or_default now i d e here in
-    record {
-      acts = so.acts;
-      whole = ap (λ (acts : List Act). so.acts ++ acts) (none_left threads keepers (i + 1) zero_of ∙ sym (none_left threads keepers i zero_of)) ∙ so.whole;
-      done = record {
-        reached = x.reached;
-        reaches = x.reaches;
-        said = x.said;
-        records_are = x.records_are;
-        spoken = x.spoken;
-        each = λ j e less. set_each (λ (m : ℕ) (y : Worker). KeptSo region f threads (suc m) x.said (get_or old m e) y p x.reached) now i w e j here
-            (subst (λ (y : Worker). KeptSo region f threads (suc i) x.said (get_or old i e) y p x.reached) (sym (is_now e)) (x.each i e lt)) (λ ne. x.each j e less);
-        low = λ j e less within. set_each (λ (m : ℕ) (y : Worker). IsLow y.keeper) now i w e j here
-            (subst (λ (o : Option Keeper). IsLow o) (sym (ap (λ (y : Worker). y.keeper) same ∙ none)) tt) (λ ne. x.low j e (omega (arith, less, ne)) within);
-        left = λ j e from within. get_or-set_other now i j w e (λ is. omega (arith, is, from)) ∙ x.left j e (omega (arith, from)) within;
-        parts = λ k other. x.parts k (λ j less. other j (omega (arith, less)));
-        books = λ k other. x.books k (λ j less. other j (omega (arith, less)));
-        silent = λ k other. x.silent k (λ j less. other j (omega (arith, less)));
-        caches = x.caches;
-        names = x.names;
-      };
-    }
+abbrev pub lower_passes : {region : SharedRegion} {f : Profile} {threads : ℕ} {acts : List Act} {old now : List Worker} {p : Progress} (i : ℕ) (d : Worker) → i < length old → length now ≡ length old → (get_or now i d).keeper ≡ None → Lowered region f threads acts i old now p
+    → Lowered region f threads acts (i + 1) old now p
+lower_passes {region} {f} {threads} {acts} {old} {now} {p} i d lt many none x = record {
+  reached = x.reached;
+  reaches = x.reaches;
+  said = x.said;
+  records_are = x.records_are;
+  spoken = x.spoken;
+  each = x.each;
+  low = λ j e less within. elim (cases_eq j i) [
+    | inl is ↦
+        subst (λ (m : ℕ). IsLow (get_or now m e).keeper) (sym is)
+        (subst (λ (o : Option Keeper). IsLow o) (sym (ap (λ (w : Worker). w.keeper) (get_or_default now i e d (omega (arith, lt, many))) ∙ none)) tt)
+    | inr other ↦ x.low j e (omega (arith, less, other)) within
+  ];
+  left = λ j e from within. x.left j e (omega (arith, from)) within;
+  parts = λ k other. x.parts k (λ j less. other j (omega (arith, less)));
+  books = λ k other. x.books k (λ j less. other j (omega (arith, less)));
+  silent = λ k other. x.silent k (λ j less. other j (omega (arith, less)));
+  caches = x.caches;
+  names = x.names;
+}
 
 -- a worker with one, which lowers its guards
-lower_next : (threads keepers i : ℕ) → i < keepers → lowers_from threads keepers i ≡ Lowers (threads + suc i) ∷ lowers_from threads keepers (i + 1)
+pub lower_next : (threads keepers i : ℕ) → i < keepers → lowers_from threads keepers i ≡ Lowers (threads + suc i) ∷ lowers_from threads keepers (i + 1)
 lower_next threads keepers i lt =
     ap (λ (ks : List ℕ). map Lowers ks) (number_next (threads + 1 + i) (keepers - i) (keepers - (i + 1)) (omega (arith, lt)))
     ∙ ap (λ (k : ℕ). Lowers k ∷ map Lowers (numbers_from (threads + 1 + i + 1) (keepers - (i + 1)))) (let is : threads + 1 + i ≡ threads + suc i = omega arith in is)
     ∙ ap (λ (k : ℕ). Lowers (threads + suc i) ∷ map Lowers (numbers_from k (keepers - (i + 1)))) (let is : threads + 1 + i + 1 ≡ threads + 1 + (i + 1) = omega arith in is)
 
-has_all : {keepers : ℕ} (old : List Worker) (i : ℕ) (d : Worker) (keeper : Keeper) → i < length old → AreGuarded keepers old → (get_or old i d).keeper ≡ Some keeper → keepers ≡ length old
+pub has_all : {keepers : ℕ} (old : List Worker) (i : ℕ) (d : Worker) (keeper : Keeper) → i < length old → AreGuarded keepers old → (get_or old i d).keeper ≡ Some keeper → keepers ≡ length old
 has_all old i d keeper lt (inl all) is = all.0
 has_all old i d keeper lt (inr none) is = absurd (let bad : None ≡ Some keeper = sym (none.1 i d lt) ∙ is in cc)
 
@@ -245,38 +239,35 @@ stands_for {region} {f} {k} {later} {p} o keeper is of waits = record {
   at = (subst (λ (x : Option Keeper). KeeperWaits f k [] (kept_by_worker x) later p) is waits).1;
 }
 
-module _ {region : SharedRegion} {f : Profile} {threads keepers : ℕ} {old now : List Worker} {p : Progress} (i : ℕ) (d w : Worker) (keeper after : Keeper) (may : MayLower region f threads keepers old p) (lt : i < length old) (many : length now ≡ length old)
-    (before : (get_or now i d).keeper ≡ Some keeper) (but : IsButKeeper (get_or now i d) w) (lowered : w.keeper ≡ Some after) (so : LoweredSoFar region f threads keepers i old now p)
-    (did : KeeperLowered region f (threads + suc i) keeper after no_more so.done.reached) where
+module _ {region : SharedRegion} {f : Profile} {threads : ℕ} {acts : List Act} {old now : List Worker} {p : Progress} (i : ℕ) (d w : Worker) (keeper after : Keeper) (lt : i < length old) (many : length now ≡ length old)
+    (before : (get_or now i d).keeper ≡ Some keeper) (but : IsButKeeper (get_or now i d) w) (lowered : w.keeper ≡ Some after) (x : Lowered region f threads acts i old now p)
+    (did : KeeperLowered region f (threads + suc i) keeper after no_more x.reached) where
   abbrev k : ℕ
   k = threads + suc i
-
-  abbrev x : Lowered region f threads so.acts i old now p
-  x = so.done
 
   abbrev y : KeeperLowers f k (keeper_has (standing_of_pass keeper.pass) keeper.book keeper.out) (keeper_has (standing_of_pass after.pass) after.book after.out) no_more x.reached
   y = did.did
 
-  here : i < length now
+  pub here : i < length now
   here = omega (arith, lt, many)
 
   -- it is none of those that lowered theirs before
-  first : (j : ℕ) → j < i → threads + suc j ≢ k
+  pub first : (j : ℕ) → j < i → threads + suc j ≢ k
   first j less is = omega (arith, less, is)
 
-  was : (e : Worker) → (get_or now i e).keeper ≡ Some keeper
+  pub was : (e : Worker) → (get_or now i e).keeper ≡ Some keeper
   was e = ap (λ (v : Worker). v.keeper) (get_or_default now i e d here) ∙ before
 
-  said_own : records_by k (x.said ++ y.said) ≡ y.said
+  pub said_own : records_by k (x.said ++ y.said) ≡ y.said
   said_own = records_both k x.said y.said ∙ ap (λ (rs : List Record). rs ++ records_by k y.said) (x.silent k first) ∙ all_by k y.said y.each
 
-  said_other : (j : ℕ) → j ≢ k → records_by j (x.said ++ y.said) ≡ records_by j x.said
+  pub said_other : (j : ℕ) → j ≢ k → records_by j (x.said ++ y.said) ≡ records_by j x.said
   said_other j ne = records_both j x.said y.said ∙ ap (λ (rs : List Record). records_by j x.said ++ rs) (none_by j k y.said y.each (λ (is : k ≡ j). ne (sym is))) ∙ append-nil (records_by j x.said)
 
-  parts_other : (j : ℕ) → j ≢ k → part j y.reached.list ≡ part j x.reached.list
+  pub parts_other : (j : ℕ) → j ≢ k → part j y.reached.list ≡ part j x.reached.list
   parts_other j ne = ap (λ (l : Whole). part j l) y.moves.list_is ∙ part_of_others j k y.moves.steps x.reached.list (λ (is : k ≡ j). ne (sym is))
 
-  this_one : (e : Worker) → KeptSo region f threads (suc i) (x.said ++ y.said) (get_or old i e) w p y.reached
+  pub this_one : (e : Worker) → KeptSo region f threads (suc i) (x.said ++ y.said) (get_or old i e) w p y.reached
   this_one e =
       let had = x.each i e lt in
       let same : get_or now i e ≡ get_or old i e = x.left i e (omega arith) lt in
@@ -293,7 +284,7 @@ module _ {region : SharedRegion} {f : Profile} {threads keepers : ℕ} {old now 
         paid = omega (arith, y.few, size, owed);
       }
 
-  other_one : (j : ℕ) (e : Worker) → j < length old → j ≢ i → KeptSo region f threads (suc j) (x.said ++ y.said) (get_or old j e) (get_or now j e) p y.reached
+  pub other_one : (j : ℕ) (e : Worker) → j < length old → j ≢ i → KeptSo region f threads (suc j) (x.said ++ y.said) (get_or old j e) (get_or now j e) p y.reached
   other_one j e less ne =
       let had = x.each j e less in
       let apart : threads + suc j ≢ k = λ (is : threads + suc j ≡ k). ne (omega (arith, is)) in
@@ -303,22 +294,19 @@ module _ {region : SharedRegion} {f : Profile} {threads keepers : ℕ} {old now 
       record {
         but = had.but;
         of = had.of;
-        waits = waits_still f (threads + suc j) [] now_kept no_more x.reached y.reached (parts_other (threads + suc j) apart) (y.books (threads + suc j) apart) had.waits;
+        waits = waits_still f (threads + suc j) [] (get_or now j e).keeper no_more x.reached y.reached (parts_other (threads + suc j) apart) (y.books (threads + suc j) apart) had.waits;
         told = kept_both (threads + suc j) x.said y.said (kept_by_worker (get_or old j e).keeper) now_kept now_kept had.told (kept_none (threads + suc j) y.said now_kept (none_by (threads + suc j) k y.said y.each (λ (is : k ≡ threads + suc j). apart (sym is))));
         paid = omega (arith, size, paid);
       }
 
   -- of an actor that is none of those that lowered theirs so far, with this one
-  past : (j : ℕ) → ((m : ℕ) → m < i + 1 → threads + suc m ≢ j) → j ≢ k
+  pub past : (j : ℕ) → ((m : ℕ) → m < i + 1 → threads + suc m ≢ j) → j ≢ k
   past j other is = other i (omega arith) (sym is)
 
-  pub lower_goes_on : LoweredSoFar region f threads keepers (i + 1) old (set now i w) p
-  lower_goes_on =
-      let all = has_all old i d keeper lt may.guarded (ap (λ (v : Worker). v.keeper) (sym (x.left i d (omega arith) lt)) ∙ before) in
-      goes_on (Lowers k ∷ []) (lower_next threads keepers i (omega (arith, lt, all))) so
-      (record {
+  abbrev pub lowers_one : Lowered region f threads (acts ++ (Lowers k ∷ [])) (i + 1) old (set now i w) p
+  lowers_one = record {
         reached = y.reached;
-        reaches = reach_both f so.acts (Lowers k ∷ []) p x.reached y.reached x.reaches y.reaches;
+        reaches = reach_both f acts (Lowers k ∷ []) p x.reached y.reached x.reaches y.reaches;
         said = x.said ++ y.said;
         records_are = y.records_are ∙ ap (λ (rs : List Record). rs ++ y.said) x.records_are ∙ append_assoc p.records x.said y.said;
         spoken = spoken_both x.said y.said x.spoken (spoken_piece k y.said y.each);
@@ -330,18 +318,8 @@ module _ {region : SharedRegion} {f : Profile} {threads keepers : ℕ} {old now 
         silent = λ j other. said_other j (past j other) ∙ x.silent j (λ m less. other m (omega (arith, less)));
         caches = y.caches ∙ x.caches;
         names = y.names ∙ x.names;
-      })
+      }
 
-most_keepers : {keepers : ℕ} (old : List Worker) → AreGuarded keepers old → keepers ≤ length old
+pub most_keepers : {keepers : ℕ} (old : List Worker) → AreGuarded keepers old → keepers ≤ length old
 most_keepers old (inl all) = omega (arith, all.0)
 most_keepers old (inr none) = omega (arith, none.0)
-
-pub lower_ends : {region : SharedRegion} {f : Profile} {threads keepers : ℕ} {old now : List Worker} {p : Progress} (i : ℕ) → MayLower region f threads keepers old p → length old ≤ i → i ≤ length old → LoweredSoFar region f threads keepers i old now p → LoweredAll region f threads keepers old now p
-lower_ends {region} {f} {threads} {keepers} {old} {now} {p} i may le ge so =
-    let most = most_keepers old may.guarded in
-    let at : i ≡ length old = omega (arith, le, ge) in
-    let all : lowers_from threads keepers 0 ≡ map Lowers (numbers_from (threads + 1) keepers) =
-    ap (λ (k : ℕ). map Lowers (numbers_from k (keepers - 0))) (let first : threads + 1 + 0 ≡ threads + 1 = omega arith in first) ∙ ap (λ (n : ℕ). map Lowers (numbers_from (threads + 1) n)) (let whole : keepers - 0 ≡ keepers = omega arith in whole)
-    in
-    subst (λ (m : ℕ). Lowered region f threads (map Lowers (numbers_from (threads + 1) keepers)) m old now p) at
-    (subst (λ (acts : List Act). Lowered region f threads acts i old now p) all (at_last (ap (λ (ks : List ℕ). map Lowers ks) (number_last (threads + 1 + i) (keepers - i) (omega (arith, most, le)))) so))

@@ -97,7 +97,7 @@ pub kept_still : {region : SharedRegion} {f : Profile} {keeper : ℕ} {acts : Li
     → KeeperRests region f keeper acts old p → KeeperRests region f keeper acts new q
 kept_still {region} {f} {keeper} {acts} {old} {new} {p} {q} same parts books rests = subst (λ (o : Option Keeper). KeeperRests region f keeper acts o q) (sym same) record {
   of = rests.of;
-  waits = waits_still f keeper acts (kept_by_worker old) no_more p q parts books rests.waits;
+  waits = waits_still f keeper acts old no_more p q parts books rests.waits;
   silent = rests.silent;
 }
 
@@ -122,7 +122,7 @@ module _ {region : SharedRegion} {r : Round} {k : ℕ} {old new : Worker} {said 
       waits = waits_next r.profile keeper (own_acts k left) (kept_by_worker emptied.keeper) no_more reached
           (will_gathered keeper (own_acts k left) new.keeper emptied.keeper last (will_wait_then keeper said (own_acts k left) (kept_by_worker old.keeper) (kept_by_worker new.keeper) done.kept_told (kept_will k r.ops left old.keeper rests)))
           (subst (λ (l : LaterKept). KeeperWaits r.profile keeper [] (kept_by_worker emptied.keeper) l reached) more
-          (waits_gathered r.profile keeper [] (r.more k) reached new.keeper emptied.keeper last (waits_still r.profile keeper [] (kept_by_worker new.keeper) (r.more k) own reached (sym parts) (sym books) done.waits)));
+          (waits_gathered r.profile keeper [] (r.more k) reached new.keeper emptied.keeper last (waits_still r.profile keeper [] new.keeper (r.more k) own reached (sym parts) (sym books) done.waits)));
       silent = silent_gathered new.keeper emptied.keeper last;
     }
 

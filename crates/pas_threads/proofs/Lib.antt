@@ -1,7 +1,9 @@
 mod Benched
 mod Beside
 mod Pairs
+mod Staging
 mod Sitting
+mod CrewSits
 mod ByCrew
 mod Dealt
 mod TakingTurns
@@ -18,3 +20,7 @@ mod PhaseSums
 mod KeptPhases
 mod PassesOut
 mod End
+mod Hearing
+mod Closing
+mod Heard
+mod InHands

@@ -21,7 +21,8 @@ use Rattle.pas_threads.specs.Hands.{standing_of_pass, ScavengerAt, WorkerAt, Did
 use Rattle.pas_threads.specs.{Sessions.WorkerHas, Turns.Came, Turns.Told, Turns.TookNoPart, Crews.Crew, Crews.CrewDid, Scavengers.crew_of}
 use Rattle.pas_threads.specs.{Scavengers.ScavengerStands, Scavengers.DidScavenge}
 use Rattle.pas_threads.specs.Lent.{Shift, number_in, IsLent, AreLent}
-use Rattle.pas_threads.specs.Performing.{Round, idle_in, IsReady, PaysFor, ThreadDone, ScavengerDone, Piece}
+use Rattle.pas_threads.specs.Performing.{Round, idle_in, IsReady, PaysFor, ThreadDone, ScavengerDone, PieceLeft}
+use Rattle.pas_threads.specs.Left.{pair_in, HasLeft}
 use Rattle.pas_acts.specs.declared.names.NameBook.{NameBook}
 use Rattle.pas_threads.specs.declared.{workers.Worker.Worker, scavenger.Scavenger.Scavenger, phases.Team.Team, keeper.Keeper.Keeper}
 use Rattle.pas_acts.proofs.AtDesk.{sits_for}
@@ -53,7 +54,7 @@ pair_paid r k old new at some did =
     inl (omega (arith, both, own_before, own_then, kept_before, kept_then, w.paid))
 
 active_done : {region : SharedRegion} {r : Round} (k : ℕ) (old new : Worker) → PairStands region r.book r.profile r.threads k (own_acts k r.ops) old (r.later k) (r.more k) r.start → 1 ≤ r.threads → DidPhase region r.book r.ops old new
-    → (own : Came r.profile (own_acts k r.ops) r.start) × ThreadDone region r k old new own.said own.reached
+    → (own : Came r.profile (own_acts k r.ops) r.start) × ThreadDone region r k old new own.said own.reached × HasLeft region new.bench (pair_in r.threads k old.keeper) r.start.list own.reached.list
 active_done {r = r} k old new at some phase =
     let both = phase.did r.profile r.threads k (r.later k) (r.more k) r.start some at in
     let did = both.did in
@@ -71,6 +72,7 @@ active_done {r = r} k old new at some phase =
         room_noted = w.room_noted;
         hands_over = λ none names among. hands_over old new names w none among;
       },
+      both.left,
     )
 
 -- ---- a thread without one
@@ -121,7 +123,7 @@ lent_done {region} {r} {acts} {has} {has'} k n old new some off stood did lt lt'
     let told : Told k said old new = subst (λ (j : ℕ). Told j said old new) number (subst (λ (w : Worker). Told (number_in (shift_of r) n) said w new) (was old) (subst (λ (w : Worker). Told (number_in (shift_of r) n) said (get_or has.lent n old) w) (is old) (did.lent n old lt))) in
     let apart : TookNoPart keeper said r.start q = did.others keeper (λ same. omega (arith, same, some)) (λ i within same. (let most = idle_within r.threads r.ops i within in omega (arith, most, same, some))) in
     let acts_none = none_own k r.ops off in
-    let waits : KeeperWaits r.profile keeper [] kept (r.more k) q = waits_still r.profile keeper [] kept (r.more k) r.start q apart.part_is (ap (λ (books : Books). books keeper) did.books) (subst (λ (xs : List Act). KeeperWaits r.profile keeper xs kept (r.more k) r.start) acts_none stood.waits) in
+    let waits : KeeperWaits r.profile keeper [] kept (r.more k) q = waits_still r.profile keeper [] old.keeper (r.more k) r.start q apart.part_is (ap (λ (books : Books). books keeper) did.books) (subst (λ (xs : List Act). KeeperWaits r.profile keeper xs kept (r.more k) r.start) acts_none stood.waits) in
     let same = sym told.keeper in
     record {
       stands = subst (λ (j : ℕ). WorkerHas region r.profile j new (r.later j) q) number (subst (λ (w : Worker). IsLent region (shift_of r) n w q) (is new) at);
@@ -157,7 +159,7 @@ none_scavenged idle (op ∷ ops) off =
 own_hands : (threads : ℕ) (ops : List Op) (k : ℕ) → k ≤ threads → owner_in threads ops k ≡ (if is_active ops k then k else 0)
 own_hands threads ops k most = ap (λ (t : Bool). if is_active ops (if t then k else k - threads) then (if t then k else k - threads) else 0) (le-leb k threads most)
 
-owned_by : (threads : ℕ) (ops : List Op) (k : ℕ) (t : Bool) → is_active ops k ≡ t → 1 ≤ k → k ≤ threads → (owner_in threads ops k ≡ 0 → is_active ops k ≡ false) × ((w : ℕ) → owner_in threads ops k ≡ w → 1 ≤ w → (k ≡ w) × (is_active ops k ≡ true))
+pub owned_by : (threads : ℕ) (ops : List Op) (k : ℕ) (t : Bool) → is_active ops k ≡ t → 1 ≤ k → k ≤ threads → (owner_in threads ops k ≡ 0 → is_active ops k ≡ false) × ((w : ℕ) → owner_in threads ops k ≡ w → 1 ≤ w → (k ≡ w) × (is_active ops k ≡ true))
 owned_by threads ops k true is some most =
     let own : owner_in threads ops k ≡ k = own_hands threads ops k most ∙ ap (λ (t : Bool). if t then k else 0) is in
     (λ none. absurd (omega (arith, own, none, some)), λ w whose one. (sym own ∙ whose, is))
@@ -255,7 +257,7 @@ module _ {region : SharedRegion} {r : Round} {team : Team} (ready : IsReady regi
     lent_same = elim (cases_Bool (is_active r.ops 0)) [
       | inl on ↦
           let crew = (did on).did (shift_of r) ready.asked r.start ready.sound stands in
-          crew.does.stands.lent.many ∙ sym lent_many
+          crew.did.does.stands.lent.many ∙ sym lent_many
       | inr off ↦ ap (λ (s : Scavenger). length s.lent.items) (stayed off) ∙ ap (λ (ws : List Worker). length ws) lent_is
     ]
 
@@ -270,16 +272,21 @@ module _ {region : SharedRegion} {r : Round} {team : Team} (ready : IsReady regi
     module _ (own1 new : List Worker) (each : (i : ℕ) (d : Worker) → i < length inside → DidPhase region r.book r.ops (get_or inside i d) (get_or own1 i d))
         (own_is : own1 ≡ picked (is_in awake) 1 new) (back : scav1.lent.items ≡ picked (is_out awake) 1 new) (size : length new ≡ length team.threads.items) where
       abbrev PieceOf : ℕ → Type 0
-      PieceOf w = Piece region r team.threads.items new scav0 scav1 w
+      PieceOf w = PieceLeft region r team.threads.items new scav0 scav1 w
 
       -- nobody's
       nobody_piece : (i : ℕ) → is_active r.ops (suc i) ≡ false → acts_by (owner_in r.threads r.ops) (suc i) (acts_of_ops (idle_in r) r.ops) ≡ [] → PieceOf (suc i)
       nobody_piece i off none = record {
-        own = came_as none (came_none r.profile r.start);
-        threads = λ j d lt whose.
-            let mine = (owned_by r.threads r.ops (suc j) (is_active r.ops (suc j)) refl (omega arith) (within_threads j lt)).1 (suc i) whose (omega arith) in
-            absurd (true≢false (sym mine.1 ∙ ap (λ (k : ℕ). is_active r.ops k) mine.0 ∙ off));
-        scavenger = λ bad. absurd (omega (arith, bad));
+        piece = record {
+          own = came_as none (came_none r.profile r.start);
+          threads = λ j d lt whose.
+              let mine = (owned_by r.threads r.ops (suc j) (is_active r.ops (suc j)) refl (omega arith) (within_threads j lt)).1 (suc i) whose (omega arith) in
+              absurd (true≢false (sym mine.1 ∙ ap (λ (k : ℕ). is_active r.ops k) mine.0 ∙ off));
+          scavenger = λ bad. absurd (omega (arith, bad));
+          still = λ away. refl;
+        };
+        left = λ j d is lt on. absurd (true≢false (sym on ∙ off));
+        crew_left = λ bad. absurd (omega (arith, bad));
       }
 
       -- (nobody past the threads has anything in hand)
@@ -301,14 +308,23 @@ module _ {region : SharedRegion} {r : Round} {team : Team} (ready : IsReady regi
           in
           let done = active_done {r = r} (suc i) (get_or team.threads.items i d) (get_or new i d) (ready.workers i d lt) (some_thread i lt) phase in
           record {
-            own = came_as (shared.1 (suc i) (omega arith) (within_threads i lt) on) done.0;
-            threads = λ j e lt' whose.
-                let mine = (owned_by r.threads r.ops (suc j) (is_active r.ops (suc j)) refl (omega arith) (within_threads j lt')).1 (suc i) whose (omega arith) in
-                let at : i ≡ j = (omega (arith, mine.0)) in
-                subst (λ (k : ℕ). ThreadDone region r (suc k) (get_or team.threads.items k e) (get_or new k e) done.0.said done.0.reached) at
-                (subst (λ (w : Worker). ThreadDone region r (suc i) w (get_or new i e) done.0.said done.0.reached) (get_or_default team.threads.items i d e lt)
-                (subst (λ (w : Worker). ThreadDone region r (suc i) (get_or team.threads.items i d) w done.0.said done.0.reached) (get_or_default new i d e (omega (arith, size, lt))) done.1));
-            scavenger = λ bad. absurd (omega (arith, bad));
+            piece = record {
+              own = came_as (shared.1 (suc i) (omega arith) (within_threads i lt) on) done.0;
+              threads = λ j e lt' whose.
+                  let mine = (owned_by r.threads r.ops (suc j) (is_active r.ops (suc j)) refl (omega arith) (within_threads j lt')).1 (suc i) whose (omega arith) in
+                  let at : i ≡ j = (omega (arith, mine.0)) in
+                  subst (λ (k : ℕ). ThreadDone region r (suc k) (get_or team.threads.items k e) (get_or new k e) done.0.said done.0.reached) at
+                  (subst (λ (w : Worker). ThreadDone region r (suc i) w (get_or new i e) done.0.said done.0.reached) (get_or_default team.threads.items i d e lt)
+                  (subst (λ (w : Worker). ThreadDone region r (suc i) (get_or team.threads.items i d) w done.0.said done.0.reached) (get_or_default new i d e (omega (arith, size, lt))) done.1));
+              scavenger = λ bad. absurd (omega (arith, bad));
+              still = λ away. absurd (true≢false (sym on ∙ away));
+            };
+            left = λ j e is lt' awake_too.
+                let at : i ≡ j = (omega (arith, is)) in
+                subst (λ (k : ℕ). HasLeft region (get_or new k e).bench (pair_in r.threads (suc i) (get_or team.threads.items k e).keeper) r.start.list done.0.reached.list) at
+                (subst (λ (w : Worker). HasLeft region (get_or new i e).bench (pair_in r.threads (suc i) w.keeper) r.start.list done.0.reached.list) (get_or_default team.threads.items i d e lt)
+                (subst (λ (w : Worker). HasLeft region w.bench (pair_in r.threads (suc i) (get_or team.threads.items i d).keeper) r.start.list done.0.reached.list) (get_or_default new i d e (omega (arith, size, lt))) done.2));
+            crew_left = λ bad. absurd (omega (arith, bad));
           }
 
       -- where a thread without an operation is lent: its rank among those that are
@@ -334,13 +350,18 @@ module _ {region : SharedRegion} {r : Round} {team : Team} (ready : IsReady regi
       scavenger_piece on =
           let crew = (did on).did (shift_of r) ready.asked r.start ready.sound stands in
           record {
-            own = came_as shared.3 crew.does.came;
-            threads = λ j d lt whose.
-                let off = (owned_by r.threads r.ops (suc j) (is_active r.ops (suc j)) refl (omega arith) (within_threads j lt)).0 whose in
-                let was = lent_at team.threads.items scav0.lent.items lent_is j d lt off in
-                let is = lent_at new scav1.lent.items back j d (omega (arith, size, lt)) off in
-                lent_done (suc j) (rank j) (get_or team.threads.items j d) (get_or new j d) (omega arith) off (ready.workers j d lt) crew.does was.0 is.0 (at_rank j lt off) was.1 is.1;
-            scavenger = λ is. scavenger_done r scav0 scav1 crew;
+            piece = record {
+              own = came_as shared.3 crew.did.does.came;
+              threads = λ j d lt whose.
+                  let off = (owned_by r.threads r.ops (suc j) (is_active r.ops (suc j)) refl (omega arith) (within_threads j lt)).0 whose in
+                  let was = lent_at team.threads.items scav0.lent.items lent_is j d lt off in
+                  let is = lent_at new scav1.lent.items back j d (omega (arith, size, lt)) off in
+                  lent_done (suc j) (rank j) (get_or team.threads.items j d) (get_or new j d) (omega arith) off (ready.workers j d lt) crew.did.does was.0 is.0 (at_rank j lt off) was.1 is.1;
+              scavenger = λ is. scavenger_done r scav0 scav1 crew.did;
+              still = λ away. absurd (true≢false (sym on ∙ away));
+            };
+            left = λ j d bad. absurd (omega (arith, bad));
+            crew_left = λ is awake_too. crew.left;
           }
 
       -- .. where none of the operations is its own
@@ -348,6 +369,7 @@ module _ {region : SharedRegion} {r : Round} {team : Team} (ready : IsReady regi
       idle_piece off =
           let none = none_scavenged (idle_in r) r.ops off in
           record {
+           piece = record {
             own = came_as (shared.3 ∙ none) (came_none r.profile r.start);
             threads = λ j d lt whose.
                 let away = (owned_by r.threads r.ops (suc j) (is_active r.ops (suc j)) refl (omega arith) (within_threads j lt)).0 whose in
@@ -360,6 +382,10 @@ module _ {region : SharedRegion} {r : Round} {team : Team} (ready : IsReady regi
               pushed_none refl,
               λ k far. record { part_is = refl; silent = refl },
             );
+            still = λ away. refl;
+           };
+           left = λ j d bad. absurd (omega (arith, bad));
+           crew_left = λ is on. absurd (true≢false (sym on ∙ off));
           }
 
       pub piece : (w : ℕ) → PieceOf w

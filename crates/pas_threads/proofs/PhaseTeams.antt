@@ -1,13 +1,18 @@
 -- A phase of the team: what its acts cost; its hands are ready once its threads read the epoch and its names are noted; then what all its workers did and said is put together.
 use Rattle.std.proofs.Common.{◌≡◌, ◌≢◌, ℕ, zero, suc, ◌+◌, ◌-◌, ◌<◌, ◌≤◌, ◌==◌, Bool, true, false, if◌then◌else◌, inl, inr, List, [], ◌∷◌, ◌++◌, length, get_or}
-use Rattle.std.proofs.Common.{Option, None, refl, ap, sym, ◌∙◌, subst, arith, All, map, append_assoc, length-append, MatchOption, append-nil}
+use Rattle.std.proofs.Common.{Option, None, refl, ap, sym, ◌∙◌, subst, arith, All, map, append_assoc, length-append, MatchOption, append-nil, vec_capacity, eqb-true, eq-eqb, ◌⊎◌}
 use Rattle.std.specs.Vec.{with_items}
-use Rattle.std.proofs.lemmas.Bool.{false≢true, false_from_ne_true, cases_lt, or_cases, or_left, or_right}
+use Rattle.std.proofs.lemmas.Bool.{false≢true, false_from_ne_true, cases_Bool, cases_lt, or_cases, or_left, or_right}
 use Rattle.std.proofs.lemmas.List.{with_items_is, append_cancel_left}
 use Rattle.pas_profile.specs.declared.profile.Profile.{Profile}
 use Rattle.pas_bits.specs.Masks.{is_set}
 use Rattle.pas_bits.specs.declared.mask.Mask4.{Mask4}
-use Rattle.pas_steps.specs.{Clear.HasNothing, Lists.part, Views.View}
+use Rattle.pas_steps.specs.{Lists.Whole, Lists.part, Views.View}
+use Rattle.pas_shared.specs.Ruled.{steps_of, IsEarlier, AreEarlier}
+use Rattle.pas_shared.specs.Ledgers.{looks_of}
+use Rattle.pas_shared.specs.declared.ledger.Ledger.{Ledger}
+use Rattle.pas_core.specs.Orders.{steps_by}
+use Rattle.pas_answers.specs.Stages.{in_hands, itself, stage, phase_stages}
 use Rattle.pas_trace.specs.{Asked.keeper_in, EveryPhase.FreesItsOwn, EveryPhase.FreeTheirOwn}
 use Rattle.pas_trace.specs.EveryPlan.{records_of_ops, own_records, all_ops, is_asked}
 use Rattle.pas_trace.specs.declared.plan.Op.{Op}
@@ -27,20 +32,24 @@ use Rattle.pas_plans.proofs.ActsLeft.{threads_alike}
 use Rattle.pas_shares.specs.Shares.{Owners, acts_by, owner_in, thread_in, AreKeptBehind, IsShareOf, IsWoven}
 use Rattle.pas_shares.proofs.PhaseActs.{acts_are_shared, zero_own, own_thread, kept_thread, owner_of}
 use Rattle.pas_shares.proofs.Weaving.{weave}
-use Rattle.pas_acts.specs.{Keepers.LaterKept, Pairs.for_guards, Works.Later, Works.Sits}
+use Rattle.pas_acts.specs.{Keepers.LaterKept, Pairs.for_guards, Works.Later}
 use Rattle.pas_acts.specs.NameBooks.{NamesAt, ArePlaced, names_asked, requests_in, room_for, names_of, known_in, Requests, AreWithin}
 use Rattle.pas_acts.specs.declared.names.NameBook.{NameBook}
-use Rattle.pas_acts.proofs.{Alone.rests_still, AtDesk.sits_for, NamesBefore.names_before, NamesBefore.sound_front, NamesBefore.below_front}
+use Rattle.pas_acts.proofs.{Alone.rests_still, Alone.sits_still, AtDesk.sits_for, NamesBefore.names_before, NamesBefore.sound_front, NamesBefore.below_front}
 use Rattle.pas_threads.specs.Hands.{standing_of_pass, WorkerAt}
 use Rattle.pas_threads.specs.Pairs.{no_more, KeeperRests, said_by_keeper, owed_kept, keeper_at, owed_by_keepers, AreGuarded}
-use Rattle.pas_threads.specs.Performing.{Round, round, idle_in, ScavengerHas, IsReady, ThreadDone, ScavengerDone, IsDone}
+use Rattle.pas_threads.specs.Performing.{Round, round, idle_in, ScavengerHas, IsReady, ThreadDone, ScavengerDone, IsDone, HeardOrder, IsHeard}
 use Rattle.pas_threads.specs.Sessions.{Session, planned, owed_by, WorkerRests, AreResting, ScavengerRests, HasPlaces, TeamAt, WorkerHas, AreMarked, AreWritten}
-use Rattle.pas_threads.specs.Sessions.{HasRoom, PhaseAt, PhaseDone}
+use Rattle.pas_threads.specs.Sessions.{HasRoom, PhaseAt, PhaseDone, IsOfActors, StandSo, WentBy}
+use Rattle.pas_threads.specs.{Left.pair_in, Left.crew_in, Settling.ActorsStand}
+use Rattle.pas_threads.proofs.{Closing.turns_stand, InPhases.team_stands}
+use Rattle.pas_threads.proofs.InHands.{in_pair, pair_within, pair_has, pair_keeps, in_crew, crew_within}
+use Rattle.pas_threads.proofs.Staging.{stand_all, of_first, went_both, went_alone, went_sorted, sorted_still, sorted_seen}
 use Rattle.pas_threads.specs.Taken.{HandsOver, IsEmptied, HasTaken, IsWithin}
 use Rattle.pas_threads.specs.Turns.{owed_at, said_by, said_own, said_by_all, said_kept, said_by_keepers, WokeAll, Came, TookNoPart, IsGathered, IsKeptGathered}
 use Rattle.pas_threads.specs.declared.{keeper.Keeper.Keeper, phases.Team.Team, scavenger.Scavenger.Scavenger, workers.Worker.Worker}
 use Rattle.pas_threads.proofs.{Dealt.number_at, Dealt.some_worker, Keepers.keeper_is, Keepers.owed_still, NamesOfPhases.names_then, NamesOfPhases.names_within}
-use Rattle.pas_threads.proofs.{TakingTurns.same_owed, TakingTurns.woke_rest, TakingTurns.rests_clear}
+use Rattle.pas_threads.proofs.{TakingTurns.pass_still, TakingTurns.same_owed, TakingTurns.woke_rest, TakingTurns.rests_clear}
 use Rattle.pas_threads.proofs.KeptPhases.{kept_hands, AreAlike, alike_same, alike_pushed, alike_both, guarded_alike, kept_waits, kept_still, kept_said}
 use Rattle.pas_threads.proofs.KeptPhases.{kept_rests, kept_alike, kept_owes, kept_nobody}
 use Rattle.pas_threads.proofs.PhaseSums.{own_costs, scavenger_costs, own_all, all_paid, owed_less, kept_less, said_in_order, kept_in_order, kept_few, by_all}
@@ -122,7 +131,7 @@ scavenger_ready s book ops left later rests parts events records =
       has = rests.has;
       at = record {
         stands = record {
-          sits = subst (λ (v : View). Sits f 0 HasNothing (standing_of_pass rests.has.pass) v (costs_of f (scavenger_acts (idle_threads s.threads ops) ops) + (later 0).events)) (sym parts) (sits_for rests.at.stands.sits (omega (arith, few, both, events)));
+          sits = sits_still (λ (v : View). costs_of f (scavenger_acts (idle_threads s.threads ops) ops) + (later 0).events) (pass_still rests.has.pass) parts (sits_for rests.at.stands.sits (omega (arith, few, both, events)));
           spare = omega (arith, few, both, none, spare, records);
         };
         has_places = rests.at.has_places;
@@ -174,10 +183,6 @@ team_ready {region} {s} awake {team} {p} ops rest team1 at woke rests kept many 
     }
 
 -- ---- what a phase begins with
--- the team with these workers and this book
-abbrev pub team_with : Team → List Worker → NameBook → Team
-team_with team workers book = record team { threads = with_items team.threads workers; book = book }
-
 -- its threads read the epoch and its names are noted: all hands are ready
 pub record HasBegun (region : SharedRegion) (s : Session) (awake : Mask4) (ops : List Op) (rest : List (List Op)) (team team1 : Team) (p : Progress) : Type 0 where
   pub woke : WokeAll region s.profile awake team.threads.items team1.threads.items (λ k. own_records (planned s) k (all_ops (ops ∷ rest))) p
@@ -190,19 +195,16 @@ pub record HasBegun (region : SharedRegion) (s : Session) (awake : Mask4) (ops :
   pub ready : IsReady region (round_of s ops rest team1 woke.turns.came.reached) team1
 
 -- (`given` are the team's workers, as they are handed to what wakes them, and `now` what they are afterwards)
-pub has_begun : {region : SharedRegion} {s : Session} {awake : Mask4} {team : Team} {p : Progress} {given now : List Worker} {book : NameBook} (ops : List Op) (rest : List (List Op)) → TeamAt region s (ops ∷ rest) team p → given ≡ team.threads.items → length given ≡ team.threads.len
-    → ((g : Profile) (later : ℕ → ℕ) (o : Progress) → AreResting region g given later o → WokeAll region g awake given now later o) → length now ≡ length given
-    → book.names ≡ team.book.names → ((k : ℕ) → ArePlaced book 0 (names_asked (own_acts k ops))) → HasBegun region s awake ops rest team (team_with team now book) p
-has_begun {region} {s} {awake} {team} {p} {given} {now} {book} ops rest at value len wakes many names placed =
+pub has_begun : {region : SharedRegion} {s : Session} {awake : Mask4} {team : Team} {p : Progress} {given now : List Worker} (ops : List Op) (rest : List (List Op)) (team1 : Team) → TeamAt region s (ops ∷ rest) team p → given ≡ team.threads.items
+    → ((g : Profile) (later : ℕ → ℕ) (o : Progress) → AreResting region g given later o → WokeAll region g awake given now later o) → length now ≡ length given → team1.threads.items ≡ now → team1.scavenger ≡ team.scavenger → HasPlaces s.threads team1
+    → team1.book.names ≡ team.book.names → ((k : ℕ) → ArePlaced team1.book 0 (names_asked (own_acts k ops))) → HasBegun region s awake ops rest team team1 p
+has_begun {region} {s} {awake} {team} {p} {given} {now} ops rest team1 at value wakes many new same places names placed =
     let later : ℕ → ℕ = λ k. own_records (planned s) k (all_ops (ops ∷ rest)) in
-    let team1 = team_with team now book in
-    let new = with_items_is team.threads now (many ∙ len) in
     let resting : AreResting region s.profile given later p = subst (λ (ws : List Worker). AreResting region s.profile ws later p) (sym value) at.workers in
     let woke : WokeAll region s.profile awake team.threads.items team1.threads.items later p = subst (λ (ws : List Worker). WokeAll region s.profile awake team.threads.items ws later p) (sym new)
     (subst (λ (ws : List Worker). WokeAll region s.profile awake ws now later p) value (wakes s.profile later p resting))
     in
     let all = ap (λ (ws : List Worker). length ws) new ∙ many ∙ ap (λ (ws : List Worker). length ws) value in
-    let places : HasPlaces s.threads team1 = record { workers = at.places.workers; hands = at.places.hands; lent = at.places.lent; free = at.places.free } in
     let rests = woke_rest all at.workers woke in
     let kept = woke_kept awake ops rest team1.threads.items at all woke in
     record {
@@ -211,14 +213,40 @@ has_begun {region} {s} {awake} {team} {p} {given} {now} {book} ops rest at value
       kept = kept;
       guarded = guarded_alike team.threads.items team1.threads.items all (λ i d lt. alike_same (get_or team.threads.items i d).keeper (get_or team1.threads.items i d).keeper (woke.turns.told i d lt).keeper) at.guarded;
       many = all;
-      scavenger = refl;
+      scavenger = same;
       names = names;
-      ready = team_ready awake ops rest team1 at woke rests kept all refl names placed places;
+      ready = team_ready awake ops rest team1 at woke rests kept all same names placed places;
     }
+
+-- the team with these workers, which the ledger was settled with, and this book
+abbrev pub settled_team : Team → List Worker → List Worker → Scavenger → NameBook → Team
+settled_team team now again scavenger book = record team { threads = with_items (with_items team.threads now) again; scavenger = scavenger; book = book }
+
+-- (`given` are the team's workers, as they are handed to what wakes them, `now` what they are afterwards, and so `given2` and `again` for what settles the ledger)
+pub begun_as : {region : SharedRegion} {s : Session} {awake : Mask4} {team : Team} {p : Progress} {given now given2 again : List Worker} {scavenger : Scavenger} {book : NameBook} (ops : List Op) (rest : List (List Op)) → TeamAt region s (ops ∷ rest) team p → given ≡ team.threads.items → length given ≡ team.threads.len
+    → ((g : Profile) (later : ℕ → ℕ) (o : Progress) → AreResting region g given later o → WokeAll region g awake given now later o) → length now ≡ length given → given2 ≡ (with_items team.threads now).items → length given2 ≡ team.threads.len → again ≡ given2 → scavenger ≡ team.scavenger
+    → book.names ≡ team.book.names → ((k : ℕ) → ArePlaced book 0 (names_asked (own_acts k ops))) → HasBegun region s awake ops rest team (settled_team team now again scavenger book) p
+begun_as {region} {s} {awake} {team} {p} {given} {now} {given2} {again} {scavenger} {book} ops rest at value len wakes many value2 len2 same same_scavenger names placed =
+    let items = with_items_is (with_items team.threads now) again (ap (λ (ws : List Worker). length ws) same ∙ len2) ∙ same ∙ value2 ∙ with_items_is team.threads now (many ∙ len) in
+    has_begun ops rest (settled_team team now again scavenger book) at value wakes many items same_scavenger
+    (record { workers = at.places.workers; hands = at.places.hands; lent = subst (λ (v : Scavenger). s.threads ≤ vec_capacity v.lent) (sym same_scavenger) at.places.lent; free = at.places.free }) names placed
+
+-- all actors stand then
+pub begun_stands : {region : SharedRegion} {s : Session} {awake : Mask4} {team team1 : Team} {p : Progress} (ops : List Op) (rest : List (List Op)) → TeamAt region s (ops ∷ rest) team p → (begun : HasBegun region s awake ops rest team team1 p)
+    → ActorsStand region s team.scavenger.pass team1.threads.items begun.woke.turns.came.reached.list
+begun_stands ops rest at begun = turns_stand (team_stands at) begun.woke.turns begun.many
+
+-- .. as they are handed to what settles the ledger
+pub woke_stands : {region : SharedRegion} {s : Session} (awake : Mask4) {team : Team} {p : Progress} {given now : List Worker} (ops : List Op) (rest : List (List Op)) → TeamAt region s (ops ∷ rest) team p → given ≡ team.threads.items
+    → ((g : Profile) (later : ℕ → ℕ) (o : Progress) → AreResting region g given later o → WokeAll region g awake given now later o) → length now ≡ length given → (l : Whole) × ActorsStand region s team.scavenger.pass now l
+woke_stands {region} {s} awake {team} {p} {given} {now} ops rest at value wakes many =
+    let later : ℕ → ℕ = λ k. own_records (planned s) k (all_ops (ops ∷ rest)) in
+    let woke = subst (λ (ws : List Worker). WokeAll region s.profile awake ws now later p) value (wakes s.profile later p (subst (λ (ws : List Worker). AreResting region s.profile ws later p) (sym value) at.workers)) in
+    (woke.turns.came.reached.list, turns_stand (team_stands at) woke.turns (many ∙ ap (λ (ws : List Worker). length ws) value))
 
 -- ---- the whole phase
 whole_share : (owner : Owners) (w : ℕ) (p : Progress) → IsShareOf owner w p p
-whole_share owner w p = record { parts = λ k is. refl; caches = λ k is. refl; books = λ k is. refl; records = λ k is. refl; epoch = λ is. refl; names = λ n block is. is }
+whole_share owner w p = record { steps = refl; parts = λ k is. refl; caches = λ k is. refl; books = λ k is. refl; records = λ k is. refl; epoch = λ is. refl; names = λ n block is. is }
 
 -- all acts were answered, if each worker answered its own
 phase_woven : {f : Profile} {book : NameBook} {p : Progress} (threads : ℕ) (ops left : List Op) (at : NamesAt f (ops ++ left) book p) → AreKeptBehind threads ops → ((k : ℕ) → is_active ops k ≡ true → k ≤ threads) → (q : Progress) (own : ℕ → Progress) → q.names ≡ p.names
@@ -252,7 +280,7 @@ module _ {region : SharedRegion} {r : Round} {k : ℕ} {acts : List Act} {old ne
 
   -- it rests where the whole phase came to
   has_then : WorkerHas region r.profile k new (r.later k) reached
-  has_then = record { has = done.stands.has; rests = rests_still (sym parts) (sym caches) done.stands.rests }
+  has_then = record { has = done.stands.has; rests = rests_still (pass_still done.stands.has.pass) (sym parts) (sym caches) done.stands.rests }
 
   owed_then : owed_at r.profile k reached ≡ owed_events r.profile (cached new.cache) (part k reached.list)
   owed_then = ap (λ (c : Cached). owed_events r.profile c (part k reached.list)) has_then.rests.cache
@@ -327,7 +355,7 @@ module _ {region : SharedRegion} (r : Round) {acts : List Act} (old new : Scaven
         has = record { pass = done.0.pass; present = pass ∙ done.0.present; of = done.0.of };
         at = record {
           stands = record {
-            sits = subst (λ (v : View). Sits r.profile 0 HasNothing (standing_of_pass done.0.pass) v (costs_of r.profile [] + own_records (planned_in r) 0 left)) parts (sits_for done.1.stands.sits (omega (arith, events)));
+            sits = sits_still (λ (v : View). costs_of r.profile [] + own_records (planned_in r) 0 left) (pass_still done.0.pass) (sym parts) (sits_for done.1.stands.sits (omega (arith, events)));
             spare = omega (arith, done.2.room, rests.at.stands.spare, both, nothing, size);
           };
           has_places = ap places_of outcomes ∙ done.1.has_places;
@@ -362,10 +390,10 @@ module _ {region : SharedRegion} {s : Session} {awake : Mask4} {team team1 team2
   abbrev round_is : Round
   round_is = round_of s ops rest team1 start
 
-  woven : IsWoven f (owner_in s.threads ops) (acts_of_ops (idle_threads s.threads ops) ops) at.names.asked start (λ w. (done.pieces w).own.reached)
+  pub woven : IsWoven f (owner_in s.threads ops) (acts_of_ops (idle_threads s.threads ops) ops) at.names.asked start (λ w. (done.pieces w).own.reached)
   woven = phase_woven s.threads ops left at.names begun.ready.behind begun.ready.within start (λ w. (done.pieces w).own.reached) begun.woke.turns.leaves.names (λ w. (done.pieces w).own.reaches)
 
-  abbrev reached : Progress
+  abbrev pub reached : Progress
   reached = woven.reached
 
   abbrev said : List Record
@@ -682,6 +710,106 @@ module _ {region : SharedRegion} {s : Session} {awake : Mask4} {team team1 team2
       let wakes : awake_in awake threads ≡ active_threads s.threads ops = threads_alike (is_set awake) (is_active ops) threads alike ∙ ap (λ (n : ℕ). active_threads n ops) at.many in
       reach_both f (map Wakes (active_threads s.threads ops)) (acts_of_ops (idle_threads s.threads ops) ops) p start reached (subst (λ (ks : List ℕ). Reaches f (map Wakes ks) p start) wakes begun.woke.turns.came.reaches) woven.reaches
 
+-- ---- the stages of the phase
+module _ {region : SharedRegion} {s : Session} {awake : Mask4} {team team1 team2 : Team} {p : Progress} (ops : List Op) (rest : List (List Op)) (at : TeamAt region s (ops ∷ rest) team p) (begun : HasBegun region s awake ops rest team team1 p)
+    {ledger : Ledger} (heard : IsHeard region ledger (round_of s ops rest team1 begun.woke.turns.came.reached) team1 team2) where
+  abbrev begin_at : Progress
+  begin_at = begun.woke.turns.came.reached
+
+  abbrev end_at : Progress
+  end_at = reached ops rest at begun heard.done
+
+  abbrev own_list : ℕ → Whole
+  own_list w = (heard.done.pieces w).own.reached.list
+
+  abbrev owner : ℕ → ℕ
+  owner = owner_in s.threads ops
+
+  nobody_before : IsOfActors s begin_at.list
+  nobody_before k past = begun.woke.turns.leaves.parts k (λ i lt same. omega (arith, past, at.many, lt, same)) ∙ at.nobody k past
+
+  nobody_after_all : IsOfActors s end_at.list
+  nobody_after_all k past = (nobody ops rest at begun heard.done k past).part_is ∙ nobody_before k past
+
+  -- a worker's own part of its actors, and the order in which it did what it did, are those of the whole phase
+  own_part : (w k : ℕ) → owner k ≡ w → part k (own_list w) ≡ part k end_at.list
+  own_part w k is = ((woven ops rest at begun heard.done).shares w).parts k is
+
+  own_order : (w : ℕ) → steps_by (in_hands owner w) (own_list w) ≡ steps_by (in_hands owner w) end_at.list
+  own_order w = ((woven ops rest at begun heard.done).shares w).steps
+
+  in_its_hands : (w k : ℕ) → in_hands owner w k ≡ true → owner k ≡ w
+  in_its_hands w k its = eqb-true (owner k) w its
+
+  -- what each worker's actors did is sorted
+  module _ (since before made : Whole) (told : end_at.list ≡ made ++ begin_at.list) (behind : (k : ℕ) → part k before ≡ part k begin_at.list) (all : (k : ℕ) → part k (since ++ before) ≡ part k end_at.list) (each : AreEarlier (looks_of ledger) (since ++ before)) where
+    all_told : (k : ℕ) → part k (since ++ before) ≡ part k (made ++ begin_at.list)
+    all_told k = all k ∙ ap (λ (l : Whole). part k l) told
+
+    idle_sorted : (w : ℕ) → is_active ops w ≡ false → steps_by (in_hands owner w) since ≡ steps_by (in_hands owner w) made
+    idle_sorted w off = sorted_still (in_hands owner w) since before made begin_at.list behind all_told
+        (λ k its. ap (λ (l : Whole). part k l) (sym told) ∙ sym (own_part w k (in_its_hands w k its)) ∙ ap (λ (l : Whole). part k l) ((heard.done.pieces w).still off))
+
+    busy_sorted : (w : ℕ) (sat : ℕ → Bool) → HeardOrder ledger sat begin_at.list (own_list w) → ((k : ℕ) → sat k ≡ true → owner k ≡ w) → ((k : ℕ) → owner k ≡ w → (sat k ≡ true) ⊎ (part k (own_list w) ≡ part k begin_at.list))
+        → steps_by (in_hands owner w) since ≡ steps_by (in_hands owner w) made
+    busy_sorted w sat order within others = sorted_seen (in_hands owner w) since before made begin_at.list behind all_told sat (own_list w) (steps_of order.base) order.order (order.first (since ++ before) each)
+        (λ k its. eq-eqb (owner k) w (within k its)) (own_order w ∙ ap (λ (l : Whole). steps_by (in_hands owner w) l) told) (λ k its. own_part w k (in_its_hands w k its) ∙ ap (λ (l : Whole). part k l) told)
+        (λ k its. others k (in_its_hands w k its))
+
+    -- a thread, and its keeper, which did nothing where there is none
+    pair_others : (i : ℕ) (d : Worker) (lt : i < length team1.threads.items) → is_active ops (suc i) ≡ true → (k : ℕ) → owner k ≡ suc i
+        → (pair_in s.threads (suc i) (get_or team1.threads.items i d).keeper k ≡ true) ⊎ (part k (own_list (suc i)) ≡ part k begin_at.list)
+    pair_others i d lt on k is =
+        let o = (get_or team1.threads.items i d).keeper in
+        let most : suc i ≤ s.threads = omega (arith, lt, begun.many, at.many) in
+        let mine = pair_within s.threads ops i o most on (suc i) (pair_has s.threads i o) in
+        elim (in_pair s.threads ops k i is) [
+          | inl thread ↦ inl (ap (λ (j : ℕ). pair_in s.threads (suc i) o j) thread ∙ pair_has s.threads i o)
+          | inr keeper ↦ elim (pair_keeps s.threads i o) [
+            | inl its ↦ inl (ap (λ (j : ℕ). pair_in s.threads (suc i) o j) keeper ∙ its)
+            | inr none ↦ inr (ap (λ (j : ℕ). part j (own_list (suc i))) keeper
+                ∙ (kept_nobody {r = round_of s ops rest team1 begin_at} ((heard.done.pieces (suc i)).threads i d lt mine) none).0
+                ∙ ap (λ (j : ℕ). part j begin_at.list) (sym keeper))
+          ]
+        ]
+
+    thread_sorted : (i : ℕ) → i < length team1.threads.items → is_active ops (suc i) ≡ true → steps_by (in_hands owner (suc i)) since ≡ steps_by (in_hands owner (suc i)) made
+    thread_sorted i lt on =
+        let d = some_worker team1.threads.items i lt in
+        let o = (get_or team1.threads.items i d).keeper in
+        busy_sorted (suc i) (pair_in s.threads (suc i) o) (heard.threads i d lt on) (pair_within s.threads ops i o (omega (arith, lt, begun.many, at.many)) on) (pair_others i d lt on)
+
+    -- the scavenger, and the threads that are idle
+    crew_others : (k : ℕ) → owner k ≡ 0 → (crew_in (idle_threads s.threads ops) k ≡ true) ⊎ (part k (own_list 0) ≡ part k begin_at.list)
+    crew_others k is = elim (cases_lt s.threads k) [
+      | inl past ↦ inr (let none = (heard.done.pieces 0).scavenger refl in (none.3 k past).part_is)
+      | inr within ↦ inl (in_crew s.threads ops k is within)
+    ]
+
+    hand_sorted : (w : ℕ) → is_active ops w ≡ true → steps_by (in_hands owner w) since ≡ steps_by (in_hands owner w) made
+    hand_sorted zero on = busy_sorted 0 (crew_in (idle_threads s.threads ops)) (heard.scavenger on) (λ k its. crew_within s.threads ops k (scavenger_own s.threads ops) its) crew_others
+    hand_sorted (suc i) on = thread_sorted i (let le = begun.ready.within (suc i) on in omega (arith, le, begun.many, at.many)) on
+
+    sorted : (w : ℕ) → steps_by (in_hands owner w) since ≡ steps_by (in_hands owner w) made
+    sorted w = elim (cases_Bool (is_active ops w)) [
+      | inl on ↦ hand_sorted w on
+      | inr off ↦ idle_sorted w off
+    ]
+
+  -- its threads read the epoch, and then its operations were performed: where the ledger was settled between both and after them
+  pub phase_went : ((k : ℕ) → is_set awake k ≡ is_active ops k) → {before mid after : Whole} → IsEarlier before mid → IsEarlier mid after → StandSo s before p.list → StandSo s mid begin_at.list → StandSo s after end_at.list → AreEarlier (looks_of ledger) after
+      → WentBy s (phase_stages s.threads ops) p end_at before after
+  phase_went alike {before} {mid} {after} first second stood midway stand each =
+      let f = s.profile in
+      let threads = length team.threads.items in
+      let wakes : awake_in awake threads ≡ active_threads s.threads ops = threads_alike (is_set awake) (is_active ops) threads alike ∙ ap (λ (n : ℕ). active_threads n ops) at.many in
+      let woke = subst (λ (ks : List ℕ). Reaches f (map Wakes ks) p begin_at) wakes begun.woke.turns.came.reaches in
+      let one = went_alone s (map Wakes (active_threads s.threads ops)) woke first at.nobody nobody_before stood midway in
+      let two = went_sorted s (acts_of_ops (idle_threads s.threads ops) ops) owner (woven ops rest at begun heard.done).reaches second nobody_after_all stand
+      (λ made told of. sorted second.0 mid made told (stand_all s mid begin_at.list midway nobody_before (of_first s second of)) (λ k. ap (λ (l : Whole). part k l) (sym second.1) ∙ stand_all s after end_at.list stand nobody_after_all of k) (subst (AreEarlier (looks_of ledger)) second.1 each))
+      in
+      went_both (stage (map Wakes (active_threads s.threads ops)) itself ∷ []) (stage (acts_of_ops (idle_threads s.threads ops) ops) owner ∷ []) one two
+
 -- ---- all together
 -- what these workers said for their threads, and then what they said for their keepers, came to the end of the records
 pub record WereGathered (old mid new : List Worker) (out out' out'' : Records) : Type 0 where
@@ -707,23 +835,33 @@ pub record WereTaken (old new : List Worker) (book book' : NameBook) : Type 0 wh
   pub each : (i : ℕ) (d : Worker) → i < length old → IsEmptied (get_or old i d) (get_or new i d)
   pub many : length new ≡ length old
 
+-- the team stands where the whole phase came to
+pub phase_team : {region : SharedRegion} {s : Session} {awake : Mask4} {team team1 team2 : Team} {p : Progress} {out1 out2 out3 : Records} {gathered kept last : List Worker} (ops : List Op) (rest : List (List Op)) (at : TeamAt region s (ops ∷ rest) team p) (begun : HasBegun region s awake ops rest team team1 p)
+    (done : IsDone region (round_of s ops rest team1 begun.woke.turns.came.reached) team1 team2) → WereGathered team2.threads.items gathered kept out1 out2 out3 → (team3 : Team) → WereTaken kept last team2.book team3.book → team3.threads.items ≡ last
+    → team3.scavenger.pass ≡ team2.scavenger.pass → team3.scavenger.outcomes ≡ team2.scavenger.outcomes → team3.scavenger.lent.items ≡ [] → records_in team3.scavenger.out ≡ [] → room_of team3.scavenger.out ≡ room_of team2.scavenger.out
+    → HasPlaces s.threads team3 → TeamAt region s rest team3 (reached ops rest at begun done)
+phase_team {s = s} {team1 = team1} {team2} {gathered = gathered} {kept} ops rest at begun done g team3 t now pass outcomes none empty own_size places =
+    let taken : WereTaken kept team3.threads.items team2.book team3.book = subst (λ (ws : List Worker). WereTaken kept ws team2.book team3.book) (sym now) t in
+    let w = woven ops rest at begun done in
+    let own = scavenger_own s.threads ops in
+    let scavenger = scavenger_after (round_of s ops rest team1 begun.woke.turns.came.reached) team1.scavenger team2.scavenger (all_ops rest) w.said w.reached (own_rests ops rest at begun done) (done.pieces 0).own ((done.pieces 0).scavenger refl)
+    ((w.shares 0).parts 0 own) ((w.shares 0).records 0 own) w.records_are refl refl team3.scavenger pass outcomes none empty own_size
+    in
+    team_after ops rest at begun done gathered g.each g.many kept g.each_kept g.many_kept team3 taken.each taken.many taken.taken taken.held scavenger places
+
 pub phase_done : {region : SharedRegion} {s : Session} {awake : Mask4} {team team1 team2 : Team} {p : Progress} {marks : ℕ} {out out1 out2 out3 : Records} {gathered kept last : List Worker} (ops : List Op) (rest : List (List Op)) (at : PhaseAt region s ops rest marks team out p)
     (begun : HasBegun region s awake ops rest team team1 p) (done : IsDone region (round_of s ops rest team1 begun.woke.turns.came.reached) team1 team2) → ((k : ℕ) → is_set awake k ≡ is_active ops k)
     → records_in out1 ≡ records_in out ++ records_in team2.scavenger.out → room_of out1 ≡ room_of out → WereGathered team2.threads.items gathered kept out1 out2 out3 → (team3 : Team) → WereTaken kept last team2.book team3.book → team3.threads.items ≡ last
     → team3.scavenger.pass ≡ team2.scavenger.pass → team3.scavenger.outcomes ≡ team2.scavenger.outcomes → team3.scavenger.lent.items ≡ [] → records_in team3.scavenger.out ≡ [] → room_of team3.scavenger.out ≡ room_of team2.scavenger.out
-    → HasPlaces s.threads team3 → PhaseDone region s ops rest marks team3 out out3 p
-phase_done {s = s} {team1 = team1} {team2} {marks = marks} {out} {out1} {out2} {out3} {gathered} {kept} ops rest at begun done alike added size g team3 t now pass outcomes none empty own_size places =
+    → HasPlaces s.threads team3 → {before after : Whole} → WentBy s (phase_stages s.threads ops) p (reached ops rest at.team_at begun done) before after → PhaseDone region s ops rest marks team3 out out3 before after p
+phase_done {s = s} {team1 = team1} {team2} {marks = marks} {out} {out1} {out2} {out3} {gathered} {kept} ops rest at begun done alike added size g team3 t now pass outcomes none empty own_size places went =
     let taken : WereTaken kept team3.threads.items team2.book team3.book = subst (λ (ws : List Worker). WereTaken kept ws team2.book team3.book) (sym now) t in
-    let w = woven ops rest at.team_at begun done in
-    let own = scavenger_own s.threads ops in
-    let scavenger = scavenger_after (round_of s ops rest team1 begun.woke.turns.came.reached) team1.scavenger team2.scavenger (all_ops rest) w.said w.reached (own_rests ops rest at.team_at begun done) (done.pieces 0).own ((done.pieces 0).scavenger refl)
-    ((w.shares 0).parts 0 own) ((w.shares 0).records 0 own) w.records_are refl refl team3.scavenger pass outcomes none empty own_size
-    in
     record {
       reached = reached ops rest at.team_at begun done;
       reaches = reaches ops rest at.team_at begun done alike;
-      team_at = team_after ops rest at.team_at begun done gathered g.each g.many kept g.each_kept g.many_kept team3 taken.each taken.many taken.taken taken.held scavenger places;
+      team_at = phase_team ops rest at.team_at begun done g team3 t now pass outcomes none empty own_size places;
       written = written ops rest at.team_at begun done marks out at.room out1 added size gathered g.each g.many out2 g.added g.size kept g.each_kept g.many_kept out3 g.added_kept g.size_kept at.marked;
       room = room_left ops rest at.team_at begun done marks out at.room out1 added size gathered g.each g.many out2 g.added g.size kept g.each_kept g.many_kept out3 g.added_kept g.size_kept team3 taken.each taken.many;
       size = g.size_kept ∙ g.size ∙ size;
+      went = went;
     }

@@ -3,9 +3,9 @@ use Rattle.std.proofs.Common.{◌≡◌, ◌≢◌, ℕ, zero, suc, ◌+◌, ◌
 use Rattle.std.proofs.Common.{subst, arith, length-set, get_or-set_same, get_or-set_other}
 use Rattle.std.proofs.lemmas.{Bool.cases_lt, Bool.cases_eq, List.set-get_or, List.get_or_default, Option.same_Some}
 use Rattle.pas_steps.specs.Lists.{Whole, part}
-use Rattle.pas_shared.specs.{Ruled.HasPart, Ruled.IsEarlier, Passes.view_of, Passes.IsPassOf}
-use Rattle.pas_shared.specs.Ledgers.{so_far, actors_in, part_of, IsSameLedger, IsRestOf}
-use Rattle.pas_shared.specs.declared.{ledger.Ledger.Ledger, ledger.Rest.Rest, pass.SharedPass.SharedPass, region.SharedRegion.SharedRegion, rule.Part.Part}
+use Rattle.pas_shared.specs.{Ruled.HasPart, Ruled.IsEarlier, Ruled.AreEarlier, Passes.view_of, Passes.IsPassOf}
+use Rattle.pas_shared.specs.Ledgers.{so_far, looks_of, actors_in, part_of, IsSameLedger, IsRestOf}
+use Rattle.pas_shared.specs.declared.{ledger.Ledger.Ledger, ledger.Rest.Rest, pass.SharedPass.SharedPass, region.SharedRegion.SharedRegion, rule.Entry.Entry, rule.Part.Part}
 use Rattle.pas_threads.specs.{Hands.HasPass, Kits.with_keeper, Settling.Settled, Settling.StandsIn}
 use Rattle.pas_threads.specs.declared.{keeper.Keeper.Keeper, workers.Worker.Worker}
 
@@ -22,6 +22,7 @@ settled_with pass old taken settled back same took so after left = (
     table = after.table ∙ so.table ∙ same.table;
     actors = left;
     earlier = subst (λ (l : Whole). IsEarlier (so_far old) l) (sym after.steps) (subst (λ (l : Whole). IsEarlier l (so_far settled)) same.steps so.earlier);
+    each = subst (λ (l : Whole). AreEarlier (looks_of old) l) (sym after.steps) (subst (λ (ls : List (List Entry)). AreEarlier ls (so_far settled)) same.looks so.each);
     all = λ k v has. ap (λ (l : Whole). part k l) after.steps ∙ so.all k v (subst (λ (ps : List Part). HasPart ps k v) (sym took) (inr has));
   },
   ap (λ (l : Whole). part pass.place.actor l) after.steps ∙ so.all pass.place.actor (view_of pass) (subst (λ (ps : List Part). HasPart ps pass.place.actor (view_of pass)) (sym took) (inl (refl, refl))),

@@ -159,7 +159,7 @@ starts_at region f k bound later pass worker of_profile within unused has =
           sits = record {
             actor = unused.actor;
             profile = unused.of_region.1 ∙ of_profile;
-            beside = [];
+           
             stood = unused.no_step;
             rest = rests_empty f (cached worker.cache) [] (ap (λ (c : Cached). c.locals) has.cache) (ap (λ (c : Cached). c.log) has.cache) nothing;
             room = omega (arith, owed, room, within);
@@ -194,7 +194,7 @@ scavenger_starts region f bound later pass scavenger of_profile within unused re
       has = record { pass = pass; present = ready.present; of = unused.of_region };
       at = record {
         stands = record {
-          sits = record { actor = unused.actor; profile = unused.of_region.1 ∙ of_profile; beside = []; stood = unused.no_step; rest = nothing; room = omega (arith, room, within) };
+          sits = record { actor = unused.actor; profile = unused.of_region.1 ∙ of_profile; stood = unused.no_step; rest = nothing; room = omega (arith, room, within) };
           spare = omega (arith, none, ready.records, within);
         };
         has_places = ready.places;
@@ -250,7 +250,7 @@ keeper_starts region plan k pass o of_profile tried within unused has =
     let fits : FitsBook f (guards_in there.book) [] =
     subst (λ (gs : List Guard). FitsBook f gs []) (sym has.empty) (record { apart = tt; of_region = tt; knows = tt; held = nothing.grains; rights = nothing.rights; clear = nothing.clear }) in
     let at : KeeperAt f actor (keeper_has (standing_of_pass pass) there.book there.out) (for_guards (own_acts k ops) no_more) at_start = record {
-      sits = record { actor = unused.actor; profile = unused.of_region.1 ∙ of_profile; beside = []; stood = unused.no_step; rest = fits; room = omega (arith, room, within, events, owed) };
+      sits = record { actor = unused.actor; profile = unused.of_region.1 ∙ of_profile; stood = unused.no_step; rest = fits; room = omega (arith, room, within, events, owed) };
       book = sym has.empty;
       spare = omega (arith, none, up, owed, counted.2, spare, within);
       places = omega (arith, up, counted.1, places);

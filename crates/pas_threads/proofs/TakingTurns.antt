@@ -3,15 +3,15 @@ use Rattle.std.proofs.Common.{◌≡◌, ◌≢◌, ℕ, ◌<◌, inl, inr, List
 use Rattle.std.proofs.Common.{◌-◌, ◌≤◌, true, false, map, length-append, drop, drop_of_length-le, append-nil, get_or-set_other}
 use Rattle.std.proofs.lemmas.{List.get_or_default, List.drop_more, Grind.get_or-set_at, Bool.cases_eq}
 use Rattle.pas_profile.specs.declared.profile.Profile.{Profile}
-use Rattle.pas_steps.specs.{Lists.part, Views.View}
+use Rattle.pas_steps.specs.{Lists.Whole, Lists.part, Views.View}
 use Rattle.pas_report.specs.Rooms.{records_in, Records, room_of}
 use Rattle.pas_report.specs.declared.record.Record.{Record}
 use Rattle.pas_trace.specs.Acts.{Act, Wakes, Ends, numbers_from}
 use Rattle.pas_answers.specs.{Answers.Progress, Ways.EachOf, Ways.records_by, Calls.owed_events, Fit.own_cost_of_act}
 use Rattle.pas_answers.proofs.OwnRecords.{records_both, none_by, all_by, spoken_piece, spoken_both}
-use Rattle.pas_acts.specs.{Works.Later, Works.Sits, NameBooks.requests_in, NameBooks.room_for}
+use Rattle.pas_acts.specs.{Keepers.StandsStill, Works.Later, Works.Sits, NameBooks.requests_in, NameBooks.room_for}
 use Rattle.pas_acts.proofs.{AtDesk.leaves_rest, AtDesk.sits_for, Alone.rests_still}
-use Rattle.pas_shared.specs.declared.region.SharedRegion.{SharedRegion}
+use Rattle.pas_shared.specs.declared.{region.SharedRegion.SharedRegion, pass.SharedPass.SharedPass}
 use Rattle.pas_answers.proofs.Reached.{reach_both}
 use Rattle.pas_threads.specs.Turns.{AreDistinct, Came, Pushed, Told, TookNoPart, Turn, TookTurns, owed_at, IsDue, Woke, WokeAll, Stopped, StoppedAll, said_by}
 use Rattle.pas_threads.specs.declared.workers.Worker.{Worker}
@@ -138,9 +138,13 @@ takes_turn {number = number} {Stands} {told = told} {old} {now} stays apart thei
     }
 
 -- ---- a worker at rest
+-- with its pass an actor stands where it has the same part, whatever others did
+pub pass_still : (pass : SharedPass) {l m : Whole} → StandsStill (standing_of_pass pass) (standing_of_pass pass) l m
+pass_still pass = record { seat_is = refl; stands = λ stood same. stood ∙ sym same }
+
 -- it rests at each progress at which it has the same in hand, and owes the same
 pub same_rests : {region : SharedRegion} {f : Profile} {k later : ℕ} {worker : Worker} {p q : Progress} → part k q.list ≡ part k p.list → q.caches k ≡ p.caches k → WorkerRests region f k worker later p → WorkerRests region f k worker later q
-same_rests parts caches at = record { here = record { has = at.here.has; rests = rests_still parts caches at.here.rests }; said = at.said; asked = at.asked; requests = at.requests }
+same_rests parts caches at = record { here = record { has = at.here.has; rests = rests_still (pass_still at.here.has.pass) parts caches at.here.rests }; said = at.said; asked = at.asked; requests = at.requests }
 
 -- what it said is gathered, and its requests were taken over: it rests with room for less, where that and what it owes fit
 pub rests_clear : {region : SharedRegion} {f : Profile} {k n : ℕ} {later : Later} {w new : Worker} {p : Progress} → WorkerHas region f k w later p → new.pass ≡ w.pass → new.cache ≡ w.cache → records_in new.out ≡ [] → n ≤ later.events
@@ -153,7 +157,7 @@ rests_clear {region} {f} {k} {n} {later} {w} {new} {p} at pass cache none events
       here = record {
         has = record { pass = at.has.pass; present = pass ∙ at.has.present; of = at.has.of };
         rests = record {
-          sits = subst (λ (c : Cached). Sits f k (AtRest f c) (standing_of_pass at.has.pass) (part k p.list) (owed_events f c (part k p.list) + n)) same (sits_for at.rests.sits (omega (arith, events)));
+          sits = subst (λ (c : Cached). Sits f k (AtRest f c) (standing_of_pass at.has.pass) p.list (owed_events f c (part k p.list) + n)) same (sits_for at.rests.sits (omega (arith, events)));
           cache = at.rests.cache ∙ same;
           spare = omega (arith, size, owed, spare);
         };
@@ -166,17 +170,17 @@ rests_clear {region} {f} {k} {n} {later} {w} {new} {p} at pass cache none events
 pub same_owed : (f : Profile) (p q : Progress) (k : ℕ) → part k q.list ≡ part k p.list → q.caches k ≡ p.caches k → owed_at f k q ≡ owed_at f k p
 same_owed f p q k parts caches = ap (λ (v : View). owed_events f (q.caches k) v) parts ∙ ap (λ (c : Cached). owed_events f c (part k p.list)) caches
 
-due_stays : {region : SharedRegion} {f : Profile} {later : ℕ → ℕ} {p : Progress} → Stays suc (IsDue region f later p)
+pub due_stays : {region : SharedRegion} {f : Profile} {later : ℕ → ℕ} {p : Progress} → Stays suc (IsDue region f later p)
 due_stays {region} {f} {later} {p} i w q r parts caches names at =
     let same = same_owed f q r (suc i) parts caches in
     let paid = at.paid in
-    record { here = record { has = at.here.has; rests = rests_still parts caches at.here.rests }; paid = omega (arith, same, paid) }
+    record { here = record { has = at.here.has; rests = rests_still (pass_still at.here.has.pass) parts caches at.here.rests }; paid = omega (arith, same, paid) }
 
-threads_distinct : (places : ℕ) → AreDistinct suc places
+pub threads_distinct : (places : ℕ) → AreDistinct suc places
 threads_distinct places = record { threads = λ i lt same. omega (arith, same); apart = λ i j low high ne same. ne (omega (arith, same)) }
 
 -- before the first turn
-none_took : {region : SharedRegion} {f : Profile} (old : List Worker) {later : ℕ → ℕ} {p : Progress} → AreResting region f old later p → (i : ℕ) (d : Worker) → i < length old → IsDue region f later p i (get_or old i d) p
+pub none_took : {region : SharedRegion} {f : Profile} (old : List Worker) {later : ℕ → ℕ} {p : Progress} → AreResting region f old later p → (i : ℕ) (d : Worker) → i < length old → IsDue region f later p i (get_or old i d) p
 none_took old at i d lt = let none = ap (λ (rs : List Record). length rs) (at i d lt).said in record { here = (at i d lt).here; paid = omega (arith, none) }
 
 -- the next worker takes its turn, by an act that costs it nothing
@@ -242,13 +246,10 @@ woke_rest {old = old} {now} many at woke i d lt =
 abbrev pub ends_from : ℕ → ℕ → List Act
 ends_from i n = map Ends (numbers_from (i + 1) (n - i))
 
-abbrev pub EndedSoFar : SharedRegion → Profile → ℕ → List Worker → List Worker → (ℕ → ℕ) → Progress → Type 0
-EndedSoFar region f i old now later p = SoFar (ends_from 0 (length old)) (ends_from i (length old)) (λ acts. Stopped region f acts i old now later p)
+abbrev pub ends_begin : {region : SharedRegion} {f : Profile} {old : List Worker} {later : ℕ → ℕ} {p : Progress} → AreResting region f old later p → Stopped region f [] 0 old old later p
+ends_begin {old = old} at = record { turns = no_turn (none_took old at); spoken = tt; none = refl; empty = λ j d less. absurd (omega (arith, less)) }
 
-pub ends_begin : {region : SharedRegion} {f : Profile} {old : List Worker} {later : ℕ → ℕ} {p : Progress} → AreResting region f old later p → EndedSoFar region f 0 old old later p
-ends_begin {old = old} at = at_first (record { turns = no_turn (none_took old at); spoken = tt; none = refl; empty = λ j d less. absurd (omega (arith, less)) })
-
-ends : {region : SharedRegion} {f : Profile} {acts : List Act} {old now : List Worker} {later : ℕ → ℕ} {p : Progress} (i : ℕ) (d w : Worker) (so : Stopped region f acts i old now later p) → i < length old → length now ≡ length old
+abbrev pub ends : {region : SharedRegion} {f : Profile} {acts : List Act} {old now : List Worker} {later : ℕ → ℕ} {p : Progress} (i : ℕ) (d w : Worker) (so : Stopped region f acts i old now later p) → i < length old → length now ≡ length old
     → Turn region f (suc i) (Ends (suc i)) [] (get_or now i d) w (evenly (later (suc i))) so.turns.came.reached → (cached w.cache).locals ≡ [] → Stopped region f (acts ++ (Ends (suc i) ∷ [])) (suc i) old (set now i w) later p
 ends {now = now} i d w so lt many t none =
     let x = t.did.does in
@@ -258,21 +259,6 @@ ends {now = now} i d w so lt many t none =
       none = records_both 0 so.turns.came.said (x.own ++ []) ∙ ap (λ (rs : List Record). rs ++ records_by 0 (x.own ++ [])) so.none ∙ by_scavenger (suc i) x.own [] x.each (λ (is : 0 ≡ suc i). omega (arith, is));
       empty = λ j e less. set_each (λ (m : ℕ) (y : Worker). (cached y.cache).locals ≡ []) now i w e j (omega (arith, lt, many)) none (λ ne. so.empty j e (omega (arith, less, ne)));
     }
-
-pub ends_go_on : {region : SharedRegion} {f : Profile} {old now : List Worker} {later : ℕ → ℕ} {p : Progress} (i : ℕ) (d w : Worker) (so : EndedSoFar region f i old now later p) → i < length old → length now ≡ length old
-    → Turn region f (suc i) (Ends (suc i)) [] (get_or now i d) w (evenly (later (suc i))) so.done.turns.came.reached → (cached w.cache).locals ≡ [] → EndedSoFar region f (i + 1) old (set now i w) later p
-ends_go_on {region} {f} {old} {now} {later} {p} i d w so lt many t none =
-    let n = length old in
-    goes_on (Ends (i + 1) ∷ []) (ap (λ (ks : List ℕ). map Ends ks) (number_next (i + 1) (n - i) (n - (i + 1)) (omega (arith, lt)))) so
-    (subst (λ (m : ℕ). Stopped region f (so.acts ++ (Ends m ∷ [])) m old (set now i w) later p) (let is : suc i ≡ i + 1 = omega arith in is) (ends i d w so.done lt many t none))
-
-pub ends_end : {region : SharedRegion} {f : Profile} {old now : List Worker} {later : ℕ → ℕ} {p : Progress} (i : ℕ) → length old ≤ i → i ≤ length old → EndedSoFar region f i old now later p → StoppedAll region f old now later p
-ends_end {region} {f} {old} {now} {later} {p} i le ge so =
-    let n = length old in
-    let all : ends_from 0 n ≡ map Ends (numbers_from 1 n) = ap (λ (m : ℕ). map Ends (numbers_from 1 m)) (let whole : n - 0 ≡ n = omega arith in whole) in
-    let at : i ≡ n = omega (arith, le, ge) in
-    subst (λ (m : ℕ). Stopped region f (map Ends (numbers_from 1 n)) m old now later p) at
-    (subst (λ (acts : List Act). Stopped region f acts i old now later p) all (at_last (ap (λ (ks : List ℕ). map Ends ks) (number_last (i + 1) (n - i) (omega (arith, le)))) so))
 
 -- ---- what is gathered
 -- Of these workers those before place i are gathered, and the others are as they were. What they say still comes after what was gathered.

@@ -9,8 +9,8 @@ pub mod Scavengers
 pub mod Acting
 pub mod Dealing
 pub mod Sessions
-pub mod Settling
 pub mod Turns
+pub mod Settling
 pub mod Performing
 pub mod Kits
 pub mod Pairs

@@ -1,16 +1,18 @@
 -- The operations of one phase, by all hands at once.
-use Rattle.std.specs.Prelude.{ℕ, suc, ◌+◌, ◌<◌, ◌≤◌, ◌≡◌, ◌⊎◌, true, false, List, [], ◌++◌, length, get_or}
+use Rattle.std.specs.Prelude.{ℕ, suc, ◌+◌, ◌<◌, ◌≤◌, ◌≡◌, ◌⊎◌, Bool, true, false, List, [], ◌++◌, length, get_or}
 use Rattle.pas_profile.specs.declared.profile.Profile.{Profile}
 use Rattle.pas_trace.specs.EveryPlan.{AreSound}
 use Rattle.pas_trace.specs.declared.plan.Op.{Op}
 use Rattle.pas_report.specs.declared.record.Record.{Record}
 use Rattle.pas_utility.specs.Outcomes.{places_of}
-use Rattle.pas_shared.specs.declared.region.SharedRegion.{SharedRegion}
+use Rattle.pas_steps.specs.Lists.{Whole}
+use Rattle.pas_shared.specs.{Ledgers.looks_of, Ruled.steps_of, Ruled.IsEarlier, Ruled.AreEarlier}
+use Rattle.pas_shared.specs.declared.{ledger.Ledger.Ledger, region.SharedRegion.SharedRegion, rule.Entry.Entry}
 use Rattle.pas_trace.specs.Acts.{is_active, acts_of_ops, idle_threads, own_acts, scavenger_acts}
 use Rattle.pas_answers.specs.{Answers.Named, Answers.Progress, Fit.own_costs_of, Ways.records_by}
 use Rattle.pas_shares.specs.Shares.{AreAmong, AreKeptBehind, owner_in, acts_by}
 use Rattle.pas_acts.specs.NameBooks.{requests_in, room_for, names_of, names_asked}
-use Rattle.pas_threads.specs.Left.{pair_in, crew_in, HasLeft}
+use Rattle.pas_threads.specs.Left.{pair_in, crew_in, HasLeft, KeepsOrder}
 use Rattle.pas_threads.specs.{Taken.HandsOver, Hands.standing_of_pass, Hands.HasPass, Hands.ScavengerAt, Sessions.Session, Sessions.WorkerHas}
 use Rattle.pas_threads.specs.{Sessions.HasPlaces}
 use Rattle.pas_acts.specs.{Works.Later, Keepers.LaterKept, Pairs.KeeperWaits, Pairs.KeptPushed, Pairs.KeptStill}
@@ -85,14 +87,26 @@ ScavengerDone region r old new said q =
     (has : HasPass region new.pass) × ScavengerAt r.profile [] (standing_of_pass has.pass) (places_of new.outcomes) new.out (r.later 0) q × Pushed 0 said old.out new.out
     × ((k : ℕ) → r.threads < k → TookNoPart k said r.start q)
 
--- what worker w did, for all actors in its hands, and the bench that it left; one without an operation did nothing
+-- what worker w did, for all actors in its hands; one without an operation did nothing
 pub record Piece (region : SharedRegion) (r : Round) (old new : List Worker) (before after : Scavenger) (w : ℕ) : Type 0 where
   pub own : Came r.profile (acts_by (owner_in r.threads r.ops) w (acts_of_ops (idle_in r) r.ops)) r.start
   pub threads : (i : ℕ) (d : Worker) → i < length old → owner_in r.threads r.ops (suc i) ≡ w → ThreadDone region r (suc i) (get_or old i d) (get_or new i d) own.said own.reached
   pub scavenger : w ≡ 0 → ScavengerDone region r before after own.said own.reached
-  pub left : (i : ℕ) (d : Worker) → w ≡ suc i → i < length old → is_active r.ops w ≡ true → HasLeft region (get_or new i d).bench (pair_in r.threads w (get_or old i d).keeper) r.start.list own.reached.list
-  pub crew_left : w ≡ 0 → is_active r.ops w ≡ true → HasLeft region after.bench (crew_in (idle_in r)) r.start.list own.reached.list
   pub still : is_active r.ops w ≡ false → own.reached.list ≡ r.start.list
+
+-- .. and the bench that it left
+pub record PieceLeft (region : SharedRegion) (r : Round) (old new : List Worker) (before after : Scavenger) (w : ℕ) : Type 0 where
+  pub piece : Piece region r old new before after w
+  pub left : (i : ℕ) (d : Worker) → w ≡ suc i → i < length old → is_active r.ops w ≡ true → HasLeft region (get_or new i d).bench (pair_in r.threads w (get_or old i d).keeper) r.start.list piece.own.reached.list
+  pub crew_left : w ≡ 0 → is_active r.ops w ≡ true → HasLeft region after.bench (crew_in (idle_in r)) r.start.list piece.own.reached.list
+
+-- all hands did their operations, each for itself, and left their benches
+pub record HaveActed (region : SharedRegion) (r : Round) (old new : Team) : Type 0 where
+  pub pieces : (w : ℕ) → PieceLeft region r old.threads.items new.threads.items old.scavenger new.scavenger w
+  pub many : length new.threads.items ≡ length old.threads.items
+  pub none : new.scavenger.lent.items ≡ []
+  pub book : new.book ≡ old.book
+  pub places : HasPlaces r.threads new
 
 -- all hands did their operations, each for itself
 pub record IsDone (region : SharedRegion) (r : Round) (old new : Team) : Type 0 where
@@ -101,3 +115,16 @@ pub record IsDone (region : SharedRegion) (r : Round) (old new : Team) : Type 0 
   pub none : new.scavenger.lent.items ≡ []
   pub book : new.book ≡ old.book
   pub places : HasPlaces r.threads new
+
+-- The ledger heard in which order these actors did what is told of: a list that begins with all that it saw begins with steps that keep that order.
+pub record HeardOrder (ledger : Ledger) (chosen : ℕ → Bool) (told told' : Whole) : Type 0 where
+  pub base : List Entry
+  pub order : KeepsOrder chosen told told' (steps_of base)
+  pub first : (l : Whole) → AreEarlier (looks_of ledger) l → IsEarlier (steps_of base) l
+
+-- .. of each worker with an operation
+pub record IsHeard (region : SharedRegion) (ledger : Ledger) (r : Round) (old new : Team) : Type 0 where
+  pub done : IsDone region r old new
+  pub threads : (i : ℕ) (d : Worker) → i < length old.threads.items → is_active r.ops (suc i) ≡ true
+      → HeardOrder ledger (pair_in r.threads (suc i) (get_or old.threads.items i d).keeper) r.start.list (done.pieces (suc i)).own.reached.list
+  pub scavenger : is_active r.ops 0 ≡ true → HeardOrder ledger (crew_in (idle_in r)) r.start.list (done.pieces 0).own.reached.list

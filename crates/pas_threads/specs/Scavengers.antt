@@ -1,13 +1,13 @@
 -- What the scavenger's worker has in hand while it doesn't sit at the region, before and after its acts of a phase.
-use Rattle.std.specs.Prelude.{ℕ, ◌≡◌, List, [], vec_capacity}
+use Rattle.std.specs.Prelude.{ℕ, ◌≡◌, List, [], Some, vec_capacity}
 use Rattle.pas_steps.specs.Desks.{Standing}
 use Rattle.pas_trace.specs.{EveryPlan.AreSound, Acts.Act, Acts.scavenger_acts}
 use Rattle.pas_trace.specs.declared.plan.Op.{Op}
 use Rattle.pas_utility.specs.Outcomes.{places_of}
-use Rattle.pas_shared.specs.declared.region.SharedRegion.{SharedRegion}
+use Rattle.pas_shared.specs.Passes.{IsPassOf}
+use Rattle.pas_shared.specs.declared.{bench.Bench.Bench, pass.SharedPass.SharedPass, region.SharedRegion.SharedRegion}
 use Rattle.pas_answers.specs.Answers.{Progress}
-use Rattle.pas_threads.specs.{Hands.standing_of_pass, Hands.HasPass, Hands.Did, Lent.Shift}
-use Rattle.pas_threads.specs.Left.{crew_in, HasLeft}
+use Rattle.pas_threads.specs.{Hands.standing_of_pass, Hands.HasPass, Hands.Did, Lent.Shift, Left.crew_in, Left.HasLeft}
 use Rattle.pas_threads.specs.Crews.{Crew, crew, CrewAt, CrewDid}
 use Rattle.pas_threads.specs.declared.scavenger.Scavenger.{Scavenger}
 
@@ -27,6 +27,12 @@ pub record MayScavenge (region : SharedRegion) (ops : List Op) (scavenger : Scav
   pub progress : Progress
   pub sound : AreSound shift.profile asked ops
   pub stands : ScavengerStands region shift (scavenger_acts shift.idle ops) scavenger progress
+
+-- The crew did these acts, and the scavenger has this pass again. The bench that they left saw in which order.
+pub record CrewHasLeft (region : SharedRegion) (s : Shift) (acts : List Act) (pass : SharedPass) (bench : Bench) (has has' : Crew) (p : Progress) : Type 0 where
+  pub of : IsPassOf region pass
+  pub did : CrewDid region s acts [] has has' p
+  pub left : HasLeft region (Some bench) (crew_in s.idle) p.list did.came.reached.list
 
 -- what it did with its pass and the lent threads, which have their passes again, and the bench that it left
 pub record ScavengerDid (region : SharedRegion) (s : Shift) (acts : List Act) (old new : Scavenger) (p : Progress) : Type 0 where

@@ -12,6 +12,7 @@ use Rattle.pas_shared.specs.Ruled.{IsEarlier}
 use Rattle.pas_shared.specs.declared.region.SharedRegion.{SharedRegion}
 use Rattle.pas_trace.specs.Acts.{Ends, Lowers, is_active, numbers_from, own_acts, acts_of, phase_acts}
 use Rattle.pas_answers.specs.{Replays.at_start, Answers.Progress, Calls.owed_events, Reaching.Reaches, Phases.AreInPhases}
+use Rattle.pas_answers.specs.Stages.{Stage, one_by_one, phase_stages, stages_of, GoByStages}
 use Rattle.pas_answers.specs.Ways.{OnThreads, arranged, by_actors, AreSpoken}
 use Rattle.pas_shares.specs.Shares.{AreKeptBehind}
 use Rattle.pas_acts.specs.{Works.Later, Turns.RestsAt, NameBooks.NamesAt, NameBooks.requests_in, NameBooks.room_for}
@@ -115,37 +116,52 @@ pub record PhaseAt (region : SharedRegion) (s : Session) (ops : List Op) (rest :
   pub marked : AreMarked s p.records (records_in out)
   pub room : HasRoom s (ops ∷ rest) marks team.threads.items out p
 
--- its acts were answered, and its records are written
-pub record PhaseDone (region : SharedRegion) (s : Session) (ops : List Op) (rest : List (List Op)) (marks : ℕ) (team : Team) (out out' : Records) (p : Progress) : Type 0 where
+-- nobody but the threads, the keepers and the scavenger has a part in the list
+abbrev pub IsOfActors : Session → Whole → Type 0
+IsOfActors s whole = (k : ℕ) → s.threads + s.keepers < k → part k whole ≡ []
+
+-- the list has of each of the actors the same part as what is told of them
+abbrev pub StandSo : Session → Whole → Whole → Type 0
+StandSo s so_far told = (k : ℕ) → k ≤ s.threads + s.keepers → part k so_far ≡ part k told
+
+-- The acts of these stages took a replay from p to q, and the list of all actors' steps from what stood there to what stands there: what is told of each actor stands in it,
+-- and nobody else did anything. Where nobody else did in the list either, it goes by these stages.
+pub record WentBy (s : Session) (stages : List Stage) (p q : Progress) (before after : Whole) : Type 0 where
+  pub earlier : IsEarlier before after
+  pub stand : StandSo s after q.list
+  pub nobody : IsOfActors s q.list
+  pub by_stages : IsOfActors s after → GoByStages s.profile stages p q before after
+
+-- its acts were answered, stage by stage, and its records are written
+pub record PhaseDone (region : SharedRegion) (s : Session) (ops : List Op) (rest : List (List Op)) (marks : ℕ) (team : Team) (out out' : Records) (before after : Whole) (p : Progress) : Type 0 where
   pub reached : Progress
   pub reaches : Reaches s.profile (phase_acts s.threads ops) p reached
   pub team_at : TeamAt region s rest team reached
   pub written : AreWritten s reached.records (records_in out')
   pub room : HasRoom s rest marks team.threads.items out' reached
   pub size : room_of out' ≡ room_of out
+  pub went : WentBy s (phase_stages s.threads ops) p reached before after
 
 -- ---- the close
 -- The threads were stopped and the keepers lowered their guards, after the mark of the close, what they said is written, no cache has a local allocator, and
--- no guard is up.
-pub record CloseDone (region : SharedRegion) (s : Session) (team : Team) (written : List Record) (p : Progress) : Type 0 where
+-- no guard is up. Each of these acts is a stage.
+pub record CloseDone (region : SharedRegion) (s : Session) (team : Team) (written : List Record) (before after : Whole) (p : Progress) : Type 0 where
   pub reached : Progress
   pub reaches : Reaches s.profile (map Ends (numbers_from 1 s.threads) ++ map Lowers (numbers_from (s.threads + 1) s.keepers)) p reached
   pub team_at : TeamAt region s [] team reached
   pub written_so : AreWritten s reached.records written
   pub empty : (i : ℕ) (d : Worker) → i < length team.threads.items → (cached (get_or team.threads.items i d).cache).locals ≡ []
   pub low : (i : ℕ) (d : Worker) → i < length team.threads.items → IsLow (get_or team.threads.items i d).keeper
+  pub went : WentBy s (one_by_one (map Ends (numbers_from 1 s.threads) ++ map Lowers (numbers_from (s.threads + 1) s.keepers))) p reached before after
 
 -- ---- the whole replay
--- nobody but the threads, the keepers and the scavenger has a part in the list
-abbrev pub IsOfActors : Session → Whole → Type 0
-IsOfActors s whole = (k : ℕ) → s.threads + s.keepers < k → part k whole ≡ []
-
 -- All phases and the close were replayed: their acts are answered, the records are written phase by phase and actor by actor, the team stands at the end, and
--- no cache has a local allocator. Each list of these actors that begins with these steps is in phases.
+-- no cache has a local allocator. Each list of these actors that begins with these steps is in phases; and of each actor these steps are all, so that it goes by the stages.
 pub record HasReplayed (region : SharedRegion) (s : Session) (phases : List (List Op)) (so_far : Whole) (team : Team) (written : List Record) : Type 0 where
   pub end : Progress
   pub answers : Reaches s.profile (acts_of s.threads s.keepers phases) at_start end
   pub stands : TeamAt region s [] team end
+  pub went : WentBy s (stages_of s.threads s.keepers phases) at_start end [] so_far
   pub in_phases : (whole : Whole) → IsEarlier so_far whole → IsOfActors s whole → AreInPhases s.profile (acts_of s.threads s.keepers phases) at_start end answers whole
   pub written_are : written ≡ arranged OnThreads s.profile.threads end.records
   pub empty : (i : ℕ) (d : Worker) → i < length team.threads.items → (cached (get_or team.threads.items i d).cache).locals ≡ []

@@ -1,32 +1,79 @@
--- What stands in a ledger once it was settled.
-use Rattle.std.specs.Prelude.{ℕ, ◌<◌, ◌≡◌, length, get_or, Some, vec_capacity}
+-- What stands in a ledger once it was settled, and what it heard of.
+use Rattle.std.specs.Prelude.{ℕ, suc, ◌+◌, ◌<◌, ◌≡◌, [], List, length, map, get_or, Option, Some}
 use Rattle.pas_steps.specs.Lists.{Whole, part}
-use Rattle.pas_shared.specs.{Ruled.IsEarlier, Ruled.HasAllOf, Passes.seat_of, Passes.view_of, Ledgers.so_far, Ledgers.actors_in}
-use Rattle.pas_shared.specs.declared.{ledger.Ledger.Ledger, pass.SharedPass.SharedPass}
-use Rattle.pas_threads.specs.declared.{keeper.Keeper.Keeper, phases.Team.Team, workers.Worker.Worker}
+use Rattle.pas_shared.specs.{Ruled.AreEarlier, Ruled.IsEarlier, Ruled.HasAllOf, Ruled.bases_in, Passes.seat_of, Passes.view_of, Passes.IsPassOf}
+use Rattle.pas_shared.specs.{Benches.rows_on, Benches.IsBenchOf, Ledgers.so_far, Ledgers.looks_of, Ledgers.actors_in}
+use Rattle.pas_shared.specs.declared.{bench.Bench.Bench, ledger.Ledger.Ledger, pass.SharedPass.SharedPass, region.SharedRegion.SharedRegion}
+use Rattle.pas_trace.specs.Acts.{Act}
+use Rattle.pas_answers.specs.{Answers.Progress, Stages.one_by_one}
+use Rattle.pas_threads.specs.Pairs.{AreGuarded, Lowered}
+use Rattle.pas_threads.specs.Sessions.{Session, IsOfActors, WentBy}
+use Rattle.pas_threads.specs.Turns.{Stopped}
+use Rattle.pas_threads.specs.declared.{keeper.Keeper.Keeper, workers.Worker.Worker}
 
--- It is the ledger of the same region, with the same actors, and what stood in it are the first steps of those that stand there now. Those of its actors are all there.
+-- ---- settling
+-- It is the ledger of the same region, with the same actors, and what it saw are the first steps of those that stand there now. Those of its actors are all there.
 pub record Settled (old new : Ledger) : Type 0 where
   pub table : new.seat.table_id ≡ old.seat.table_id
   pub actors : actors_in new ≡ actors_in old
   pub earlier : IsEarlier (so_far old) (so_far new)
+  pub each : AreEarlier (looks_of old) (so_far new)
   pub all : HasAllOf (actors_in old) (so_far new)
 
 -- the list has of the actor of the pass just its own steps
 abbrev pub StandsIn : Whole → SharedPass → Type 0
 StandsIn l pass = part (seat_of pass).actor l ≡ view_of pass
 
--- .. of each actor of the team
-pub record TeamStandsIn (l : Whole) (team : Team) : Type 0 where
-  pub scavenger : (pass : SharedPass) → team.scavenger.pass ≡ Some pass → StandsIn l pass
-  pub threads : (i : ℕ) (d : Worker) (pass : SharedPass) → i < length team.threads.items → (get_or team.threads.items i d).pass ≡ Some pass → StandsIn l pass
-  pub keepers : (i : ℕ) (d : Worker) (keeper : Keeper) → i < length team.threads.items → (get_or team.threads.items i d).keeper ≡ Some keeper → StandsIn l keeper.pass
+-- ---- all actors at rest
+-- actor k has its pass, and what it made is its part of the list
+pub record PassStands (region : SharedRegion) (k : ℕ) (l : Whole) (slot : Option SharedPass) : Type 0 where
+  pub pass : SharedPass
+  pub present : slot ≡ Some pass
+  pub of : IsPassOf region pass
+  pub actor : (seat_of pass).actor ≡ k
+  pub made : view_of pass ≡ part k l
 
--- the team is as it was
-pub record IsSameTeam (old new : Team) : Type 0 where
-  pub threads : new.threads.items ≡ old.threads.items
-  pub places : vec_capacity new.threads ≡ vec_capacity old.threads
-  pub scavenger : new.scavenger ≡ old.scavenger
-  pub hands : new.hands.items ≡ old.hands.items
-  pub hand_places : vec_capacity new.hands ≡ vec_capacity old.hands
-  pub book : new.book ≡ old.book
+-- So it is of all actors: the scavenger, which has the slot, and those of the workers. Nobody else has a part in the list.
+pub record ActorsStand (region : SharedRegion) (s : Session) (slot : Option SharedPass) (workers : List Worker) (l : Whole) : Type 0 where
+  pub many : length workers ≡ s.threads
+  pub guarded : AreGuarded s.keepers workers
+  pub scavenger : PassStands region 0 l slot
+  pub threads : (i : ℕ) (d : Worker) → i < length workers → PassStands region (suc i) l (get_or workers i d).pass
+  pub keepers : (i : ℕ) (d : Worker) (keeper : Keeper) → i < length workers → (get_or workers i d).keeper ≡ Some keeper → PassStands region (s.threads + suc i) l (Some keeper.pass)
+  pub nobody : IsOfActors s l
+
+-- ---- hearing
+-- a list that begins with all that the new ledger saw begins with all that the old one saw
+abbrev pub SawMore : Ledger → Ledger → Type 0
+SawMore old new = (l : Whole) → AreEarlier (looks_of new) l → AreEarlier (looks_of old) l
+
+-- .. begins with what the bench in this slot saw
+abbrev pub HasHeard : Ledger → Option Bench → Type 0
+HasHeard ledger slot = (bench : Bench) → slot ≡ Some bench → (l : Whole) → AreEarlier (looks_of ledger) l → AreEarlier (bases_in (rows_on bench)) l
+
+-- a bench of the region is there
+pub record HasBench (region : SharedRegion) (slot : Option Bench) : Type 0 where
+  pub bench : Bench
+  pub present : slot ≡ Some bench
+  pub of : IsBenchOf region bench
+
+-- the worker with this in place of its bench
+abbrev pub with_bench : Worker → Option Bench → Worker
+with_bench w bench = record { pass = w.pass; cache = w.cache; requests = w.requests; out = w.out; keeper = w.keeper; member = w.member; bench = bench }
+
+-- nothing of the worker but its bench changed
+abbrev pub IsButBench : Worker → Worker → Type 0
+IsButBench old new = new ≡ with_bench old new.bench
+
+-- ---- the close, one act after the other, each of which the ledger is settled behind
+-- the threads before place i were stopped
+pub record StoppedSo (region : SharedRegion) (s : Session) (slot : Option SharedPass) (acts : List Act) (i : ℕ) (old new : List Worker) (later : ℕ → ℕ) (before after : Whole) (p : Progress) : Type 0 where
+  pub stopped : Stopped region s.profile acts i old new later p
+  pub stand : ActorsStand region s slot new stopped.turns.came.reached.list
+  pub went : WentBy s (one_by_one acts) p stopped.turns.came.reached before after
+
+-- the keepers before place i lowered their guards
+pub record LoweredSo (region : SharedRegion) (s : Session) (slot : Option SharedPass) (acts : List Act) (i : ℕ) (old new : List Worker) (before after : Whole) (p : Progress) : Type 0 where
+  pub lowered : Lowered region s.profile s.threads acts i old new p
+  pub stand : ActorsStand region s slot new lowered.reached.list
+  pub went : WentBy s (one_by_one acts) p lowered.reached before after

@@ -6,14 +6,15 @@ ghost use Rattle.pas_trace.specs.declared.plan.Op.{Op as TheOp};
 ghost use Rattle.pas_report.specs.Rooms.{records_in};
 ghost use Rattle.pas_answers.specs.{Replays.at_start, Answers.Progress};
 ghost use Rattle.pas_acts.specs.{Works.Later, Keepers.LaterKept};
-ghost use Rattle.pas_threads.specs.Performing.{round, IsReady, IsDone};
+ghost use Rattle.pas_threads.specs.Performing.{round, IsReady, HaveActed, IsHeard};
 ghost use Rattle.pas_shared.specs.Ledgers.{IsLedgerOf, so_far};
-ghost use Rattle.pas_threads.specs.Sessions.{Session, AreMarked, CloseDone, PhaseAt, PhaseDone, TeamAt, HasRoom, HasReplayed};
+ghost use Rattle.pas_threads.specs.Sessions.{Session, StandSo, AreMarked, CloseDone, PhaseAt, PhaseDone, TeamAt, HasRoom, HasReplayed};
+ghost use Rattle.pas_threads.specs.Settling.{SawMore};
 
 use crate::dealing::{deal, take_back};
 use crate::hands::{Hand, act_with};
 use crate::scavenger::Scavenger;
-use crate::settling::settle;
+use crate::settling::{hear_all, hear_if, settle};
 use crate::turns::{gather, gather_kept, lower_all, stop_all, wake_all};
 use crate::workers::{Worker, take_all};
 use pas_acts::at_desk::SCAVENGER;
@@ -59,7 +60,7 @@ fn perform_all<R: Threads + Wait + Sync, G: Gate + Sync, M: Remake + Sync>(
     requires awake { (k : ℕ) → is_set awake k ≡ is_active ops.now k }
     requires ready { (s : Session) × (later : ℕ → Later) × (more : ℕ → LaterKept) × (p : Progress) × IsReady region.now (round s team.book ops.now later more p) team }
     ensures done { (s : Session) (later : ℕ → Later) (more : ℕ → LaterKept) (p : Progress) → IsReady region.now (round s team.book ops.now later more p) team
-        → IsDone region.now (round s team.book ops.now later more p) team result }
+        → HaveActed region.now (round s team.book ops.now later more p) team result }
 {
     let Team {
         mut threads,
@@ -82,10 +83,40 @@ fn perform_all<R: Threads + Wait + Sync, G: Gate + Sync, M: Remake + Sync>(
     }
 }
 
-/// One phase: its threads read the epoch, its operations are performed, and what was said is gathered, actor by actor.
+/// .. and the ledger hears in which order the actors of each hand made their steps. One load for each hand.
+fn perform_and_hear<R: Threads + Wait + Sync, G: Gate + Sync, M: Remake + Sync>(
+    rt: &R,
+    region: &SharedRegion,
+    ledger: &mut Ledger,
+    indexes: &[Mutex<LargeIndex>],
+    team: Team,
+    awake: Mask4,
+    ops: &[Op],
+    gate: &G,
+    remaker: &M,
+) -> Team
+    requires ledger { IsLedgerOf region.now ledger.old }
+    requires few { length ops.now < 2 ^ 32 }
+    requires awake { (k : ℕ) → is_set awake k ≡ is_active ops.now k }
+    requires ready { (s : Session) × (later : ℕ → Later) × (more : ℕ → LaterKept) × (p : Progress) × IsReady region.now (round s team.book ops.now later more p) team }
+    ensures ledger { IsLedgerOf region.now ledger.new }
+    ensures saw { SawMore ledger.old ledger.new }
+    ensures done { (s : Session) (later : ℕ → Later) (more : ℕ → LaterKept) (p : Progress) → IsReady region.now (round s team.book ops.now later more p) team
+        → IsHeard region.now ledger.new (round s team.book ops.now later more p) team result }
+{
+    let mut team = perform_all(rt, region, indexes, team, awake, ops, gate, remaker);
+    hear_all(region, ledger, &mut team.threads, awake);
+    let busy = awake.get(SCAVENGER);
+    hear_if(region, ledger, &mut team.scavenger.bench, busy);
+    team
+}
+
+/// One phase: its threads read the epoch, its operations are performed, and what was said is gathered, actor by actor. The ledger is settled before the operations, and after
+/// them, once it heard in which order the actors of each hand made their steps.
 fn perform_phase<R: Threads + Wait + Sync, G: Gate + Sync, M: Remake + Sync>(
     rt: &R,
     region: &SharedRegion,
+    ledger: &mut Ledger,
     indexes: &[Mutex<LargeIndex>],
     team: Team,
     ops: &[Op],
@@ -93,38 +124,47 @@ fn perform_phase<R: Threads + Wait + Sync, G: Gate + Sync, M: Remake + Sync>(
     remaker: &M,
     out: &mut Records,
 ) -> Team
+    requires ledger { IsLedgerOf region.now ledger.old }
     requires may { (s : Session) × (rest : List (List TheOp)) × (marks : ℕ) × (p : Progress) × PhaseAt region.now s ops.now rest marks team out.old p }
-    ensures done { (s : Session) (rest : List (List TheOp)) (marks : ℕ) (p : Progress) → PhaseAt region.now s ops.now rest marks team out.old p → PhaseDone region.now s ops.now rest marks result out.old out.new p }
+    ensures ledger { IsLedgerOf region.now ledger.new }
+    ensures done { (s : Session) (rest : List (List TheOp)) (marks : ℕ) (p : Progress) → PhaseAt region.now s ops.now rest marks team out.old p → StandSo s (so_far ledger.old) p.list
+        → PhaseDone region.now s ops.now rest marks result out.old out.new (so_far ledger.old) (so_far ledger.new) p }
 {
     let awake = active(ops);
     let mut team = team;
     wake_all(region, &mut team.threads, awake);
+    settle(region, ledger, &mut team.scavenger, &mut team.threads);
     team.book.note(ops);
-    let mut team = perform_all(rt, region, indexes, team, awake, ops, gate, remaker);
+    let mut team = perform_and_hear(
+        rt, region, ledger, indexes, team, awake, ops, gate, remaker,
+    );
     out.append(&mut team.scavenger.out);
     gather(&mut team.threads, out);
     gather_kept(&mut team.threads, out);
     take_all(&mut team.book, &mut team.threads);
+    settle(region, ledger, &mut team.scavenger, &mut team.threads);
     team
 }
 
-/// The close: each thread is stopped, and then each keeper lowers its guards; what they said is gathered.
-fn finish(region: &SharedRegion, team: Team, out: &mut Records) -> Team
-    requires may { (s : Session) × (p : Progress) × TeamAt region.now s [] team p × AreMarked s p.records (records_in out.old) × HasRoom s [] 0 team.threads.items out.old p }
-    ensures done { (s : Session) (p : Progress) → TeamAt region.now s [] team p → AreMarked s p.records (records_in out.old) → HasRoom s [] 0 team.threads.items out.old p
-        → CloseDone region.now s result (records_in out.new) p }
+/// The close: each thread is stopped, and then each keeper lowers its guards, and the ledger is settled after each of these; what they said is gathered.
+fn finish(region: &SharedRegion, ledger: &mut Ledger, team: Team, out: &mut Records) -> Team
+    requires ledger { IsLedgerOf region.now ledger.old }
+    requires may { (s : Session) × (p : Progress) × TeamAt region.now s [] team p × AreMarked s p.records (records_in out.old) × HasRoom s [] 0 team.threads.items out.old p × StandSo s (so_far ledger.old) p.list }
+    ensures ledger { IsLedgerOf region.now ledger.new }
+    ensures done { (s : Session) (p : Progress) → TeamAt region.now s [] team p → AreMarked s p.records (records_in out.old) → HasRoom s [] 0 team.threads.items out.old p → StandSo s (so_far ledger.old) p.list
+        → CloseDone region.now s result (records_in out.new) (so_far ledger.old) (so_far ledger.new) p }
 {
     let mut team = team;
-    stop_all(region, &mut team.threads);
-    lower_all(region, &mut team.threads);
+    stop_all(region, ledger, &mut team.scavenger, &mut team.threads);
+    lower_all(region, ledger, &mut team.scavenger, &mut team.threads);
     gather(&mut team.threads, out);
     gather_kept(&mut team.threads, out);
     team
 }
 
 /// Performs the phases in order, with a mark before each from the second on, and closes: a mark, the stop of each thread, and the last sweep of each keeper. The
-/// operations of a phase are performed by as many threads as have one, all at once; the records of each phase come actor by actor. After each phase the ledger is
-/// settled. Takes no memory.
+/// operations of a phase are performed by as many threads as have one, all at once; the records of each phase come actor by actor. The ledger is settled after the
+/// reads of the epoch and after the operations of each phase, and after each stop and each last sweep. Takes no memory.
 pub(crate) fn replay<R: Threads + Wait + Sync, G: Gate + Sync, M: Remake + Sync>(
     rt: &R,
     region: &SharedRegion,
@@ -154,6 +194,7 @@ pub(crate) fn replay<R: Threads + Wait + Sync, G: Gate + Sync, M: Remake + Sync>
         team = perform_phase(
             rt,
             region,
+            ledger,
             indexes,
             team,
             phase.as_slice(),
@@ -161,8 +202,7 @@ pub(crate) fn replay<R: Threads + Wait + Sync, G: Gate + Sync, M: Remake + Sync>
             remaker,
             out,
         );
-        team = settle(region, ledger, team);
     }
     out.push(Record::Close);
-    finish(region, team, out)
+    finish(region, ledger, team, out)
 }

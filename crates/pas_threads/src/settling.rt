@@ -1,17 +1,18 @@
-//! The end of a phase: all actors have risen, and all steps so far come into the ledger of the region.
-ghost use Rattle.std.specs.Prelude.{◌≡◌, ◌<◌, ◌≤◌, ℕ, List, Some, length, get_or};
+//! All actors have risen, and all steps so far come into the ledger of the region, in the order of which the benches tell that workers left.
+ghost use Rattle.std.specs.Prelude.{◌≡◌, ◌<◌, ◌≤◌, ℕ, Some, true, suc, length, get_or};
+ghost use Rattle.pas_bits.specs.Masks.{is_set};
+ghost use Rattle.pas_steps.specs.Lists.{Whole};
 ghost use Rattle.pas_shared.specs.Ledgers.{IsLedgerOf, so_far};
-ghost use Rattle.pas_answers.specs.Answers.{Progress};
-ghost use Rattle.pas_trace.specs.declared.plan.Op.{Op as TheOp};
-ghost use Rattle.pas_threads.specs.{Hands.HasPass, Pairs.IsKeeperOf, Sessions.Session, Sessions.TeamAt};
-ghost use Rattle.pas_threads.specs.Settling.{Settled, StandsIn, TeamStandsIn, IsSameTeam};
+ghost use Rattle.pas_threads.specs.{Hands.HasPass, Pairs.IsKeeperOf, Sessions.Session, Sessions.StandSo};
+ghost use Rattle.pas_threads.specs.Settling.{Settled, StandsIn, ActorsStand, SawMore, HasHeard, HasBench, IsButBench};
 ghost use Rattle.pas_shared.specs.declared.pass.SharedPass.{SharedPass as ThePass};
 ghost use Rattle.pas_threads.specs.declared.{keeper.Keeper.Keeper as TheKeeper, workers.Worker.Worker as TheWorker};
 
 use crate::keeper::Keeper;
-use crate::phases::Team;
+use crate::scavenger::Scavenger;
 use crate::workers::Worker;
-use pas_shared::{Ledger, SharedRegion};
+use pas_bits::Mask4;
+use pas_shared::{Bench, Ledger, SharedRegion};
 
 /// The ledger takes in the keepers of the workers from this place on, looks, and gives them their passes back.
 fn settle_keepers(region: &SharedRegion, ledger: &mut Ledger, workers: &mut [Worker], at: usize)
@@ -60,30 +61,80 @@ fn settle_threads(region: &SharedRegion, ledger: &mut Ledger, workers: &mut [Wor
     workers[at].pass = Some(pass);
 }
 
-/// All actors of the team have risen. The ledger has all their steps then, and the team is as it was. Costs four loads for each actor, and one more.
-pub(crate) fn settle(region: &SharedRegion, ledger: &mut Ledger, team: Team) -> Team
+/// All actors have risen. The ledger has all their steps then, and nothing of them changed. Costs four loads for each actor, and one more.
+pub(crate) fn settle(
+    region: &SharedRegion,
+    ledger: &mut Ledger,
+    scavenger: &mut Scavenger,
+    threads: &mut [Worker],
+)
     requires of { IsLedgerOf region.now ledger.old }
-    requires stands { (s : Session) × (phases : List (List TheOp)) × (p : Progress) × TeamAt region.now s phases team p }
-    ensures same { IsSameTeam team result }
+    requires stand { (s : Session) × (l : Whole) × ActorsStand region.now s scavenger.old.pass threads.old l }
+    ensures same { threads.new ≡ threads.old }
+    ensures scavenger { scavenger.new ≡ scavenger.old }
     ensures settled { Settled ledger.old ledger.new }
-    ensures stand { TeamStandsIn (so_far ledger.new) team }
+    ensures of { IsLedgerOf region.now ledger.new }
+    ensures stand { (s : Session) (l : Whole) → ActorsStand region.now s scavenger.old.pass threads.old l → StandSo s (so_far ledger.new) l }
 {
-    let Team {
-        mut threads,
-        mut scavenger,
-        hands,
-        book,
-    } = team;
     let Some(pass) = scavenger.pass.take() else {
         unreachable!();
     };
     let rest = ledger.take_in(region, pass);
-    settle_threads(region, ledger, &mut threads, 0);
+    settle_threads(region, ledger, threads, 0);
     scavenger.pass = Some(ledger.give_back(region, rest));
-    Team {
-        threads,
-        scavenger,
-        hands,
-        book,
+}
+
+/// The ledger takes over what the bench in this place saw, which its worker left. One load.
+pub(crate) fn hear(region: &SharedRegion, ledger: &mut Ledger, left: &mut Option<Bench>)
+    requires of { IsLedgerOf region.now ledger.old }
+    requires bench { HasBench region.now left.old }
+    ensures of { IsLedgerOf region.now ledger.new }
+    ensures saw { SawMore ledger.old ledger.new }
+    ensures heard { HasHeard ledger.new left.old }
+{
+    let Some(bench) = left.take() else {
+        unreachable!();
+    };
+    ledger.hear(region, bench);
+}
+
+/// .. if there is one.
+pub(crate) fn hear_if(
+    region: &SharedRegion,
+    ledger: &mut Ledger,
+    left: &mut Option<Bench>,
+    busy: bool,
+)
+    requires of { IsLedgerOf region.now ledger.old }
+    requires bench { busy ≡ true → HasBench region.now left.old }
+    ensures of { IsLedgerOf region.now ledger.new }
+    ensures saw { SawMore ledger.old ledger.new }
+    ensures heard { busy ≡ true → HasHeard ledger.new left.old }
+{
+    if busy {
+        hear(region, ledger, left);
+    }
+}
+
+/// .. what the benches saw of the workers of the mask. One load for each.
+pub(crate) fn hear_all(
+    region: &SharedRegion,
+    ledger: &mut Ledger,
+    workers: &mut [Worker],
+    awake: Mask4,
+)
+    requires few { length workers.old < 32 }
+    requires of { IsLedgerOf region.now ledger.old }
+    requires left { (i : ℕ) (d : TheWorker) → i < length workers.old → is_set awake (suc i) ≡ true → HasBench region.now (get_or workers.old i d).bench }
+    ensures of { IsLedgerOf region.now ledger.new }
+    ensures saw { SawMore ledger.old ledger.new }
+    ensures heard { (i : ℕ) (d : TheWorker) → i < length workers.old → is_set awake (suc i) ≡ true → HasHeard ledger.new (get_or workers.old i d).bench }
+    ensures same { (i : ℕ) (d : TheWorker) → i < length workers.old → IsButBench (get_or workers.old i d) (get_or workers.new i d) }
+    ensures many { length workers.new ≡ length workers.old }
+{
+    for index in 0..workers.len() {
+        if awake.get(index as u8 + 1) {
+            hear(region, ledger, &mut workers[index].bench);
+        }
     }
 }

@@ -1,23 +1,27 @@
 //! What threads do one after the other, while nobody else makes a step: the reads of the epoch before a phase, the stops at the close, and what is
 //! gathered of them.
-ghost use Rattle.std.specs.Prelude.{◌≡◌, ◌+◌, ◌<◌, ◌≤◌, ◌++◌, ℕ, [], None, Some, length, get_or};
+ghost use Rattle.std.specs.Prelude.{◌≡◌, ◌+◌, ◌<◌, ◌≤◌, ◌++◌, ℕ, [], true, false, None, Some, length, map, get_or};
 ghost use Rattle.pas_profile.specs.declared.profile.Profile.{Profile as TheProfile};
 ghost use Rattle.pas_report.specs.Rooms.{records_in, room_of};
 ghost use Rattle.pas_answers.specs.Answers.{Progress};
 ghost use Rattle.pas_cache.specs.Caches.{cached};
-ghost use Rattle.pas_trace.specs.Acts.{Wakes, Ends};
+ghost use Rattle.pas_trace.specs.Acts.{Wakes, Ends, Lowers, numbers_from};
+ghost use Rattle.pas_shared.specs.Ledgers.{IsLedgerOf, so_far};
 ghost use Rattle.pas_acts.specs.{Works.Later, Keepers.LaterKept, Pairs.KeeperWaits};
-ghost use Rattle.pas_threads.specs.Sessions.{WorkerHas, AreResting};
-ghost use Rattle.pas_threads.specs.Pairs.{IsKeeperOf, kept_by_worker, no_more, IsButKeeper, KeeperStands, KeeperLowered, MayLower, LoweredAll};
-ghost use Rattle.pas_threads.specs.Turns.{Turn, WokeAll, StoppedAll, said_by_all, said_kept, said_by_keepers, IsGathered, IsKeptGathered};
+ghost use Rattle.pas_threads.specs.Sessions.{Session, StandSo, WorkerHas, AreResting};
+ghost use Rattle.pas_threads.specs.Settling.{ActorsStand, StoppedSo, LoweredSo};
+ghost use Rattle.pas_threads.specs.Pairs.{IsKeeperOf, kept_by_worker, no_more, IsButKeeper, KeeperStands, KeeperLowered, MayLower};
+ghost use Rattle.pas_threads.specs.Turns.{Turn, WokeAll, said_by_all, said_kept, said_by_keepers, IsGathered, IsKeptGathered};
 ghost use Rattle.pas_threads.specs.declared.{keeper.Keeper.Keeper as TheKeeper, workers.Worker.Worker as TheWorker};
 
 use crate::keeper::lower;
+use crate::scavenger::Scavenger;
+use crate::settling::settle;
 use crate::workers::Worker;
 use pas_acts::turns::{begin, end};
 use pas_bits::Mask4;
 use pas_report::Records;
-use pas_shared::SharedRegion;
+use pas_shared::{Ledger, SharedRegion};
 
 /// The thread sits down, reads the epoch, and rises. One step.
 fn wake(region: &SharedRegion, worker: &mut Worker)
@@ -61,39 +65,64 @@ fn stop(region: &SharedRegion, worker: &mut Worker)
     worker.pass = Some(desk.into_pass());
 }
 
-/// Each thread is stopped, in order.
-pub(crate) fn stop_all(region: &SharedRegion, threads: &mut [Worker])
-    requires rest { (f : TheProfile) × (later : ℕ → ℕ) × (p : Progress) × AreResting region.now f threads.old later p }
-    ensures stopped { (f : TheProfile) (later : ℕ → ℕ) (p : Progress) → AreResting region.now f threads.old later p → StoppedAll region.now f threads.old threads.new later p }
+/// Each thread is stopped, in order, and the ledger is settled after each.
+pub(crate) fn stop_all(
+    region: &SharedRegion,
+    ledger: &mut Ledger,
+    scavenger: &mut Scavenger,
+    threads: &mut [Worker],
+)
+    requires of { IsLedgerOf region.now ledger.old }
+    requires rest { (s : Session) × (later : ℕ → ℕ) × (p : Progress) × AreResting region.now s.profile threads.old later p × ActorsStand region.now s scavenger.old.pass threads.old p.list × StandSo s (so_far ledger.old) p.list }
+    ensures of { IsLedgerOf region.now ledger.new }
+    ensures scavenger { scavenger.new ≡ scavenger.old }
+    ensures stopped { (s : Session) (later : ℕ → ℕ) (p : Progress) → AreResting region.now s.profile threads.old later p → ActorsStand region.now s scavenger.old.pass threads.old p.list → StandSo s (so_far ledger.old) p.list
+        → StoppedSo region.now s scavenger.old.pass (map Ends (numbers_from 1 (length threads.old))) (length threads.old) threads.old threads.new later (so_far ledger.old) (so_far ledger.new) p }
     ensures many { length threads.new ≡ length threads.old }
 {
     for index in 0..threads.len() {
         stop(region, &mut threads[index]);
+        settle(region, ledger, scavenger, threads);
     }
 }
 
-/// The keeper of the worker lowers all its guards, if it has one.
-fn lower_one(region: &SharedRegion, worker: &mut Worker)
+/// The keeper of the worker lowers all its guards, if it has one. Whether it has.
+fn lower_one(region: &SharedRegion, worker: &mut Worker) -> bool
     requires stands { (f : TheProfile) × (actor : ℕ) × (p : Progress) × IsKeeperOf region.now worker.old.keeper × KeeperWaits f actor [] (kept_by_worker worker.old.keeper) no_more p }
     ensures but { IsButKeeper worker.old worker.new }
-    ensures none { worker.old.keeper ≡ None → worker.new ≡ worker.old }
+    ensures none { result ≡ false → (worker.old.keeper ≡ None) × (worker.new ≡ worker.old) }
+    ensures has { result ≡ true → (keeper : TheKeeper) × (worker.old.keeper ≡ Some keeper) }
     ensures one { (keeper : TheKeeper) → worker.old.keeper ≡ Some keeper → (after : TheKeeper) × (worker.new.keeper ≡ Some after)
         × ((f : TheProfile) (actor : ℕ) (later : LaterKept) (p : Progress) → KeeperStands region.now f actor keeper later p → KeeperLowered region.now f actor keeper after later p) }
 {
     match worker.keeper.take() {
-        Some(keeper) => worker.keeper = Some(lower(region, keeper)),
-        None => {}
+        Some(keeper) => {
+            worker.keeper = Some(lower(region, keeper));
+            true
+        }
+        None => false,
     }
 }
 
-/// The keeper of each thread, in order, lowers all its guards. There are none in a replay that isn't guarded.
-pub(crate) fn lower_all(region: &SharedRegion, threads: &mut [Worker])
-    requires may { (f : TheProfile) × (many : ℕ) × (keepers : ℕ) × (p : Progress) × MayLower region.now f many keepers threads.old p }
-    ensures lowered { (f : TheProfile) (many keepers : ℕ) (p : Progress) → MayLower region.now f many keepers threads.old p → LoweredAll region.now f many keepers threads.old threads.new p }
+/// The keeper of each thread, in order, lowers all its guards, and the ledger is settled after each. There are none in a replay that isn't guarded.
+pub(crate) fn lower_all(
+    region: &SharedRegion,
+    ledger: &mut Ledger,
+    scavenger: &mut Scavenger,
+    threads: &mut [Worker],
+)
+    requires of { IsLedgerOf region.now ledger.old }
+    requires may { (s : Session) × (p : Progress) × MayLower region.now s.profile s.threads s.keepers threads.old p × ActorsStand region.now s scavenger.old.pass threads.old p.list × StandSo s (so_far ledger.old) p.list }
+    ensures of { IsLedgerOf region.now ledger.new }
+    ensures scavenger { scavenger.new ≡ scavenger.old }
+    ensures lowered { (s : Session) (p : Progress) → MayLower region.now s.profile s.threads s.keepers threads.old p → ActorsStand region.now s scavenger.old.pass threads.old p.list → StandSo s (so_far ledger.old) p.list
+        → LoweredSo region.now s scavenger.old.pass (map Lowers (numbers_from (s.threads + 1) s.keepers)) (length threads.old) threads.old threads.new (so_far ledger.old) (so_far ledger.new) p }
     ensures many { length threads.new ≡ length threads.old }
 {
     for index in 0..threads.len() {
-        lower_one(region, &mut threads[index]);
+        if lower_one(region, &mut threads[index]) {
+            settle(region, ledger, scavenger, threads);
+        }
     }
 }
 

@@ -24,7 +24,7 @@ loop-pass-preserved c =
     let reserved = i.reserved in
     let unused = All-pop (λ (cache : ThreadCache). cached cache ≡ empty_cache) _ _ _ c.pop.ensures.items i.unused in
     let requests = c.in_ok-requests.ensures.room in
-    let worker : Worker = record { pass = Some c.in-Some.pass; cache = c.in-Some-pop.cache; requests = c.in_ok-requests.requests; out = c.in_ok-out.out; keeper = None } in
+    let worker : Worker = record { pass = Some c.in-Some.pass; cache = c.in-Some-pop.cache; requests = c.in_ok-requests.requests; out = c.in_ok-out.out; keeper = None; member = None; bench = None } in
     let equipped : IsEquipped c.in-Some.pass (slice_index bounds (c.len-thread.result + 1)) worker = record {
       present = refl;
       cache = subst (λ (popped : Option ThreadCache). IfSome popped (λ cache. cached cache ≡ empty_cache)) c.in-Some-pop.is unused.1;

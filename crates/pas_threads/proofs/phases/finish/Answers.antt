@@ -1,16 +1,22 @@
-use Rattle.std.proofs.Common.{◌≡◌, ℕ, ◌+◌, ◌<◌, ◌≤◌, List, [], ◌++◌, length, get_or, refl, ap, sym, ◌∙◌, subst, arith}
+use Rattle.std.proofs.Common.{◌≡◌, ℕ, ◌+◌, ◌<◌, ◌≤◌, List, [], ◌++◌, length, map, get_or, Option, refl, ap, sym, ◌∙◌, subst, arith, vec_capacity}
 use Rattle.std.specs.Vec.{with_items}
 use Rattle.std.proofs.lemmas.List.{with_items_is}
 use Rattle.pas_profile.specs.declared.profile.Profile.{Profile}
 use Rattle.pas_trace.specs.EveryPlan.{all_ops, own_records}
 use Rattle.pas_report.specs.Rooms.{records_in, room_of}
 use Rattle.pas_report.specs.declared.record.Record.{Record}
-use Rattle.pas_shared.specs.declared.region.SharedRegion.{SharedRegion}
+use Rattle.pas_steps.specs.Lists.{Whole}
+use Rattle.pas_shared.specs.Ledgers.{so_far}
+use Rattle.pas_shared.specs.declared.{region.SharedRegion.SharedRegion, pass.SharedPass.SharedPass}
+use Rattle.pas_trace.specs.Acts.{Ends, Lowers, numbers_from}
+use Rattle.pas_answers.specs.Stages.{Stage, one_by_one}
 use Rattle.pas_answers.specs.Answers.{Progress}
-use Rattle.pas_threads.specs.Pairs.{MayLower, LoweredAll}
-use Rattle.pas_threads.specs.Sessions.{planned, Session, AreResting, TeamAt}
-use Rattle.pas_threads.specs.Turns.{StoppedAll, said_own, said_by_all, said_kept, said_by_keepers, IsGathered, IsKeptGathered}
-use Rattle.pas_threads.specs.declared.{workers.Worker.Worker, phases.Team.Team}
+use Rattle.pas_threads.specs.Pairs.{MayLower}
+use Rattle.pas_threads.specs.Sessions.{planned, Session, AreResting, StandSo, TeamAt, WentBy}
+use Rattle.pas_threads.specs.Settling.{ActorsStand, StoppedSo, LoweredSo}
+use Rattle.pas_threads.specs.Turns.{said_own, said_by_all, said_kept, said_by_keepers, IsGathered, IsKeptGathered}
+use Rattle.pas_threads.specs.declared.{workers.Worker.Worker, phases.Team.Team, scavenger.Scavenger.Scavenger}
+use Rattle.pas_threads.proofs.{InPhases.team_stands, Staging.went_both, Staging.one_by_one_both}
 use Rattle.pas_threads.proofs.BetweenPhases.{may_lower, room_at_close, room_for_keepers, has_closed}
 use Rattle.pas_threads.proofs.{PhaseTeams.gathered_from, phases.finish.Goals.After-deref_mut-2}
 use Rattle.pas_threads.proofs.phases.finish.Goals as goal
@@ -19,10 +25,16 @@ use Rattle.pas_threads.proofs.phases.finish.Goals as goal
 rest : {region : SharedRegion} {s : Session} {team : Team} {p : Progress} (ws : List Worker) → ws ≡ team.threads.items → TeamAt region s [] team p → AreResting region s.profile ws (λ k. own_records (planned s) k (all_ops [])) p
 rest {region} {s} {team} {p} ws value at = subst (λ (us : List Worker). AreResting region s.profile us (λ k. own_records (planned s) k (all_ops [])) p) (sym value) at.workers
 
+stand : {region : SharedRegion} {s : Session} {team : Team} {p : Progress} (ws : List Worker) → ws ≡ team.threads.items → TeamAt region s [] team p → ActorsStand region s team.scavenger.pass ws p.list
+stand {region} {s} {team} {p} ws value at = subst (λ (us : List Worker). ActorsStand region s team.scavenger.pass us p.list) (sym value) (team_stands at)
+
 module _ (c : After-deref_mut-2) where
-  stopped : (s : Session) (p : Progress) → TeamAt c.args.region.now s [] c.args.team p → StoppedAll c.args.region.now s.profile c.args.team.threads.items c.stop_all.new.threads (λ k. own_records (planned s) k (all_ops [])) p
-  stopped s p at = subst (λ (ws : List Worker). StoppedAll c.args.region.now s.profile ws c.stop_all.new.threads (λ k. own_records (planned s) k (all_ops [])) p) c.deref_mut.ensures.value
-      (c.stop_all.ensures.stopped s.profile (λ k. own_records (planned s) k (all_ops [])) p (rest c.deref_mut.result.now c.deref_mut.ensures.value at))
+  abbrev all_stopped : (s : Session) (p : Progress) → Type 0
+  all_stopped s p = StoppedSo c.args.region.now s c.args.team.scavenger.pass (map Ends (numbers_from 1 (length c.args.team.threads.items))) (length c.args.team.threads.items) c.args.team.threads.items c.stop_all.new.threads (λ k. own_records (planned s) k (all_ops [])) (so_far c.args.ledger.now) (so_far c.stop_all.new.ledger) p
+
+  stopped : (s : Session) (p : Progress) → TeamAt c.args.region.now s [] c.args.team p → StandSo s (so_far c.args.ledger.now) p.list → all_stopped s p
+  stopped s p at stood = subst (λ (ws : List Worker). StoppedSo c.args.region.now s c.args.team.scavenger.pass (map Ends (numbers_from 1 (length ws))) (length ws) ws c.stop_all.new.threads (λ k. own_records (planned s) k (all_ops [])) (so_far c.args.ledger.now) (so_far c.stop_all.new.ledger) p) c.deref_mut.ensures.value
+      (c.stop_all.ensures.stopped s (λ k. own_records (planned s) k (all_ops [])) p (rest c.deref_mut.result.now c.deref_mut.ensures.value at) (stand c.deref_mut.result.now c.deref_mut.ensures.value at) stood)
 
   many : length c.stop_all.new.threads ≡ length c.args.team.threads.items
   many = subst (λ (ws : List Worker). length c.stop_all.new.threads ≡ length ws) c.deref_mut.ensures.value c.stop_all.ensures.many
@@ -31,34 +43,48 @@ module _ (c : After-deref_mut-2) where
   again : c.deref_mut-2.result.now ≡ c.stop_all.new.threads
   again = c.deref_mut-2.ensures.value ∙ with_items_is c.args.team.threads c.stop_all.new.threads (c.stop_all.ensures.many ∙ c.deref_mut.ensures.len)
 
-  may : (s : Session) (p : Progress) (at : TeamAt c.args.region.now s [] c.args.team p) → MayLower c.args.region.now s.profile s.threads s.keepers c.deref_mut-2.result.now (stopped s p at).turns.came.reached
-  may s p at = subst (λ (ws : List Worker). MayLower c.args.region.now s.profile s.threads s.keepers ws (stopped s p at).turns.came.reached) (sym again) (may_lower c.stop_all.new.threads at (stopped s p at) many)
+  may : (s : Session) (p : Progress) (at : TeamAt c.args.region.now s [] c.args.team p) (stood : StandSo s (so_far c.args.ledger.now) p.list) → MayLower c.args.region.now s.profile s.threads s.keepers c.deref_mut-2.result.now (stopped s p at stood).stopped.turns.came.reached
+  may s p at stood = subst (λ (ws : List Worker). MayLower c.args.region.now s.profile s.threads s.keepers ws (stopped s p at stood).stopped.turns.came.reached) (sym again) (may_lower c.stop_all.new.threads at (stopped s p at stood).stopped many)
 
-pub stop_all-requires : goal.stop_all-requires
-stop_all-requires c =
-    let m = c.requires.may in
-    record { rest = (m.0.profile, (λ k. own_records (planned m.0) k (all_ops [])), m.1, rest c.deref_mut.result.now c.deref_mut.ensures.value m.2) }
+  then_stand : (s : Session) (p : Progress) (at : TeamAt c.args.region.now s [] c.args.team p) (stood : StandSo s (so_far c.args.ledger.now) p.list) → ActorsStand c.args.region.now s c.stop_all.new.scavenger.pass c.deref_mut-2.result.now (stopped s p at stood).stopped.turns.came.reached.list
+  then_stand s p at stood =
+      subst (λ (v : Scavenger). ActorsStand c.args.region.now s v.pass c.deref_mut-2.result.now (stopped s p at stood).stopped.turns.came.reached.list) (sym c.stop_all.ensures.scavenger)
+      (subst (λ (ws : List Worker). ActorsStand c.args.region.now s c.args.team.scavenger.pass ws (stopped s p at stood).stopped.turns.came.reached.list) (sym again) (stopped s p at stood).stand)
 
-pub lower_all-requires : goal.lower_all-requires
-lower_all-requires c =
-    let d = (goal.at.lower_all-requires c).After-deref_mut-2 in
+pub stop_all-requires-clause-rest : goal.stop_all-requires-clause-rest
+stop_all-requires-clause-rest c =
     let m = c.requires.may in
-    record { may = (m.0.profile, m.0.threads, m.0.keepers, (stopped d m.0 m.1 m.2).turns.came.reached, may d m.0 m.1 m.2) }
+    (m.0, (λ k. own_records (planned m.0) k (all_ops [])), m.1, rest c.deref_mut.result.now c.deref_mut.ensures.value m.2, stand c.deref_mut.result.now c.deref_mut.ensures.value m.2, m.5)
+
+pub lower_all-requires-clause-may : goal.lower_all-requires-clause-may
+lower_all-requires-clause-may c =
+    let d = (goal.at.lower_all-requires-clause-may c).After-deref_mut-2 in
+    let m = c.requires.may in
+    (m.0, (stopped d m.0 m.1 m.2 m.5).stopped.turns.came.reached, may d m.0 m.1 m.2 m.5, then_stand d m.0 m.1 m.2 m.5, (stopped d m.0 m.1 m.2 m.5).went.stand)
 
 -- the keepers lowered their guards, where the threads stood after their stops
-lowered : {region : SharedRegion} {s : Session} {given stopped now : List Worker} {q : Progress} → given ≡ stopped → MayLower region s.profile s.threads s.keepers given q → ((f : Profile) (many keepers : ℕ) (p : Progress) → MayLower region f many keepers given p → LoweredAll region f many keepers given now p)
-    → LoweredAll region s.profile s.threads s.keepers stopped now q
-lowered {region} {s} {given} {stopped} {now} {q} is may did = subst (λ (ws : List Worker). LoweredAll region s.profile s.threads s.keepers ws now q) is (did s.profile s.threads s.keepers q may)
+lowered_from : {region : SharedRegion} {s : Session} {slot : Option SharedPass} {given stopped now : List Worker} {before after : Whole} {q : Progress} → given ≡ stopped → LoweredSo region s slot (map Lowers (numbers_from (s.threads + 1) s.keepers)) (length given) given now before after q
+    → LoweredSo region s slot (map Lowers (numbers_from (s.threads + 1) s.keepers)) (length stopped) stopped now before after q
+lowered_from {region} {s} {slot} {given} {stopped} {now} {before} {after} {q} is low = subst (λ (ws : List Worker). LoweredSo region s slot (map Lowers (numbers_from (s.threads + 1) s.keepers)) (length ws) ws now before after q) is low
+
+-- both are the stages of the close
+close_went : {s : Session} {threads : ℕ} {p q r : Progress} {a b d : Whole} → threads ≡ s.threads → WentBy s (one_by_one (map Ends (numbers_from 1 threads))) p q a b → WentBy s (one_by_one (map Lowers (numbers_from (s.threads + 1) s.keepers))) q r b d
+    → WentBy s (one_by_one (map Ends (numbers_from 1 s.threads) ++ map Lowers (numbers_from (s.threads + 1) s.keepers))) p r a d
+close_went {s} {threads} {p} {q} {r} {a} {b} {d} many one two =
+    let ends = map Ends (numbers_from 1 s.threads) in
+    let lowers = map Lowers (numbers_from (s.threads + 1) s.keepers) in
+    subst (λ (ss : List Stage). WentBy s ss p r a d) (sym (one_by_one_both ends lowers)) (went_both (one_by_one ends) (one_by_one lowers) (subst (λ (n : ℕ). WentBy s (one_by_one (map Ends (numbers_from 1 n))) p q a b) many one) two)
 
 pub gather-requires : goal.gather-requires
 gather-requires c =
     let d = (goal.at.gather-requires c).After-deref_mut-2 in
     let m = c.requires.may in
     let third = with_items_is (with_items c.args.team.threads c.stop_all.new.threads) c.lower_all.new.threads (c.lower_all.ensures.many ∙ c.deref_mut-2.ensures.len) in
-    let low = lowered (again d) (may d m.0 m.1 m.2) c.lower_all.ensures.lowered in
+    let st = stopped d m.0 m.1 m.2 m.5 in
+    let low = (lowered_from (again d) (c.lower_all.ensures.lowered m.0 st.stopped.turns.came.reached (may d m.0 m.1 m.2 m.5) (then_stand d m.0 m.1 m.2 m.5) st.went.stand)).lowered in
     record {
       room = subst (λ (ws : List Worker). length (records_in c.args.out.now) + length (said_by_all ws) ≤ room_of c.args.out.now) (sym (c.deref_mut-3.ensures.value ∙ third))
-          (room_at_close c.stop_all.new.threads m.2 (stopped d m.0 m.1 m.2) (many d) (records_in c.args.out.now) c.lower_all.new.threads low (subst (λ (ws : List Worker). length c.lower_all.new.threads ≡ length ws) (again d) c.lower_all.ensures.many) m.4);
+          (room_at_close c.stop_all.new.threads m.2 st.stopped (many d) (records_in c.args.out.now) c.lower_all.new.threads low (subst (λ (ws : List Worker). length c.lower_all.new.threads ≡ length ws) (again d) c.lower_all.ensures.many) m.4);
     }
 
 pub gather_kept-requires : goal.gather_kept-requires
@@ -67,9 +93,10 @@ gather_kept-requires c =
     let m = c.requires.may in
     let third = with_items_is (with_items c.args.team.threads c.stop_all.new.threads) c.lower_all.new.threads (c.lower_all.ensures.many ∙ c.deref_mut-2.ensures.len) in
     let fourth = with_items_is (with_items (with_items c.args.team.threads c.stop_all.new.threads) c.lower_all.new.threads) c.gather.new.threads (c.gather.ensures.many ∙ c.deref_mut-3.ensures.len) in
-    let low = lowered (again d) (may d m.0 m.1 m.2) c.lower_all.ensures.lowered in
+    let st = stopped d m.0 m.1 m.2 m.5 in
+    let low = (lowered_from (again d) (c.lower_all.ensures.lowered m.0 st.stopped.turns.came.reached (may d m.0 m.1 m.2 m.5) (then_stand d m.0 m.1 m.2 m.5) st.went.stand)).lowered in
     let own = gathered_from said_own IsGathered c.gather.new.threads (records_in c.args.out.now) (c.deref_mut-3.ensures.value ∙ third) c.gather.ensures.added c.gather.ensures.gathered c.gather.ensures.many in
-    let fits = room_for_keepers c.stop_all.new.threads m.2 (stopped d m.0 m.1 m.2) (many d) (records_in c.args.out.now) c.lower_all.new.threads low (subst (λ (ws : List Worker). length c.lower_all.new.threads ≡ length ws) (again d) c.lower_all.ensures.many)
+    let fits = room_for_keepers c.stop_all.new.threads m.2 st.stopped (many d) (records_in c.args.out.now) c.lower_all.new.threads low (subst (λ (ws : List Worker). length c.lower_all.new.threads ≡ length ws) (again d) c.lower_all.ensures.many)
     c.gather.new.threads own.1 own.2 (records_in c.gather.new.out) own.0 m.4 in
     let size = c.gather.ensures.room in
     record {
@@ -85,8 +112,11 @@ returns c =
     let own = gathered_from said_own IsGathered c.gather.new.threads (records_in c.args.out.now) (c.deref_mut-3.ensures.value ∙ third) c.gather.ensures.added c.gather.ensures.gathered c.gather.ensures.many in
     let its = gathered_from said_kept IsKeptGathered c.gather_kept.new.threads (records_in c.gather.new.out) (c.deref_mut-4.ensures.value ∙ fourth) c.gather_kept.ensures.added c.gather_kept.ensures.gathered c.gather_kept.ensures.many in
     record {
-      done = λ s p at marked room.
-          let low = lowered (again d) (may d s p at) c.lower_all.ensures.lowered in
-          has_closed c.stop_all.new.threads at (stopped d s p at) (many d) (records_in c.args.out.now) c.lower_all.new.threads low (subst (λ (ws : List Worker). length c.lower_all.new.threads ≡ length ws) (again d) c.lower_all.ensures.many)
-          c.gather.new.threads own.1 own.2 c.gather_kept.new.threads its.1 its.2 _ last refl refl (record { workers = at.places.workers; hands = at.places.hands; lent = at.places.lent; free = at.places.free }) marked (its.0 ∙ ap (λ (rs : List Record). rs ++ said_by_keepers c.gather.new.threads) own.0);
+      ledger = c.lower_all.ensures.of;
+      done = λ s p at marked room stood.
+          let st = stopped d s p at stood in
+          let so = lowered_from (again d) (c.lower_all.ensures.lowered s st.stopped.turns.came.reached (may d s p at stood) (then_stand d s p at stood) st.went.stand) in
+          let low = so.lowered in
+          has_closed c.stop_all.new.threads at st.stopped (many d) (records_in c.args.out.now) c.lower_all.new.threads low (subst (λ (ws : List Worker). length c.lower_all.new.threads ≡ length ws) (again d) c.lower_all.ensures.many)
+          c.gather.new.threads own.1 own.2 c.gather_kept.new.threads its.1 its.2 _ last (c.lower_all.ensures.scavenger ∙ c.stop_all.ensures.scavenger) refl (record { workers = at.places.workers; hands = at.places.hands; lent = subst (λ (v : Scavenger). s.threads ≤ vec_capacity v.lent) (sym (c.lower_all.ensures.scavenger ∙ c.stop_all.ensures.scavenger)) at.places.lent; free = at.places.free }) marked (its.0 ∙ ap (λ (rs : List Record). rs ++ said_by_keepers c.gather.new.threads) own.0) (close_went at.many st.went so.went);
     }

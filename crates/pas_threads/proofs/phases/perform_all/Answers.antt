@@ -52,7 +52,7 @@ returns g c = record {
   done = λ s later more p ready.
       let dealt = c.deal.ensures.dealt in
       let each = c.act_with-scavenger.ensures.threads (picked (is_in c.args.awake) 1 c.args.team.threads.items) dealt.0 in
-      let scavenger : Scavenger = record { pass = c.args.team.scavenger.pass; outcomes = c.args.team.scavenger.outcomes; out = c.args.team.scavenger.out; lent = c.deal.new.lent } in
+      let scavenger : Scavenger = record { pass = c.args.team.scavenger.pass; outcomes = c.args.team.scavenger.outcomes; out = c.args.team.scavenger.out; lent = c.deal.new.lent; bench = c.args.team.scavenger.bench } in
       let stands = may_scavenge ready c.args.awake c.requires.awake scavenger refl refl refl dealt.1 in
       let did = λ (on : is_active c.args.ops.now 0 ≡ true). c.act_with-scavenger.ensures.did (c.get-busy.ensures ∙ c.requires.awake 0 ∙ on) in
       let stayed = λ (off : is_active c.args.ops.now 0 ≡ false). c.act_with-scavenger.ensures.stayed (c.get-busy.ensures ∙ c.requires.awake 0 ∙ off) in
@@ -61,7 +61,9 @@ returns g c = record {
       let pieces = piece ready c.args.awake c.requires.awake scavenger c.act_with-scavenger.result stands dealt.1 did stayed each.after c.take_back.new.threads.items each.each (threads_same each.after _ (sym each.hands_are ∙ back.0)) back.1 size in
       let places = lent_places ready c.args.awake c.requires.awake scavenger c.act_with-scavenger.result stands dealt.1 did stayed in
       record {
-        pieces = λ w. record { own = (pieces w).own; threads = (pieces w).threads; scavenger = (pieces w).scavenger };
+        pieces = λ w.
+            let p = (pieces w).piece in
+            record { piece = record { own = p.own; threads = p.threads; scavenger = p.scavenger; still = p.still }; left = (pieces w).left; crew_left = (pieces w).crew_left };
         many = size;
         none = c.take_back.ensures.none.1;
         book = refl;

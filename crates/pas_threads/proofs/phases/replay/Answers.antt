@@ -57,21 +57,10 @@ loop-phase-preserved g c =
     record {
       far = λ s at room.
           let before = begun g d s at room in
-          phase_ends before (c.perform_phase-team.ensures.done s (rest g d s at room) (length (rest g d s at room) + 1) before.p before.at) c.settle-team.ensures.same c.settle-team.ensures.settled.earlier c.settle-team.ensures.stand;
-      ledger = c.settle-team.ensures.settled.table ∙ c.loop-phase.invariant.ledger;
+          phase_ends before (c.perform_phase-team.ensures.done s (rest g d s at room) (length (rest g d s at room) + 1) before.p before.at before.stand);
+      ledger = c.perform_phase-team.ensures.ledger;
       count = ap (λ (n : ℕ). n + 1) c.loop-phase.invariant.count;
     }
-
-pub settle-team-requires-clause-of : goal.settle-team-requires-clause-of
-settle-team-requires-clause-of g c = c.loop-phase.invariant.ledger
-
-pub settle-team-requires-clause-stands : goal.settle-team-requires-clause-stands
-settle-team-requires-clause-stands g c =
-    let st = c.requires.stands in
-    let d = (goal.at.settle-team-requires-clause-stands g c).After-as_slice in
-    let before = begun g d st.0 st.1 st.2 in
-    let did = c.perform_phase-team.ensures.done st.0 (rest g d st.0 st.1 st.2) (length (rest g d st.0 st.1 st.2) + 1) before.p before.at in
-    (st.0, rest g d st.0 st.1 st.2, did.reached, did.team_at)
 
 pub push-requires-2 : goal.push-requires-2
 push-requires-2 g c =
@@ -83,16 +72,19 @@ closing : (g : Over) (c : After-push-2 g) (s : Session) → TeamAt c.args.region
     → BeforeClose c.args.region.now s (map ops_of c.args.phases.now) c.loop-phase.team (so_far c.loop-phase.ledger) c.push-2.new.self
 closing g c s at room = close_begins (as_last c.args.phases.now c.loop-phase.phase-index c.loop-phase-test.false (c.loop-phase.invariant.far s at room)) c.push-2.ensures.added c.push-2.ensures.size
 
-pub finish-requires : goal.finish-requires
-finish-requires g c =
+pub finish-requires-clause-ledger : goal.finish-requires-clause-ledger
+finish-requires-clause-ledger g c = c.loop-phase.invariant.ledger
+
+pub finish-requires-clause-may : goal.finish-requires-clause-may
+finish-requires-clause-may g c =
     let st = c.requires.stands in
-    let before = closing g (goal.at.finish-requires g c).After-push-2 st.0 st.1 st.2 in
-    record { may = (st.0, before.p, before.team_at, before.marked, before.room) }
+    let before = closing g (goal.at.finish-requires-clause-may g c).After-push-2 st.0 st.1 st.2 in
+    (st.0, before.p, before.team_at, before.marked, before.room, before.stand)
 
 pub returns : goal.returns
 returns g c = record {
   replayed = λ s at room.
       let before = closing g (goal.at.returns g c).After-push-2 s at room in
-      close_ends before (c.finish.ensures.done s before.p before.team_at before.marked before.room);
-  ledger = c.loop-phase.invariant.ledger;
+      close_ends before (c.finish.ensures.done s before.p before.team_at before.marked before.room before.stand);
+  ledger = c.finish.ensures.ledger;
 }

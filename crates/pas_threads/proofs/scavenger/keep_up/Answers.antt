@@ -1,28 +1,33 @@
-use Rattle.std.proofs.Common.{◌∙◌, List, [], Some, refl, ap, sym, subst}
-use Rattle.std.specs.Vec.{with_items}
-use Rattle.std.proofs.lemmas.List.{with_items_is}
+use Rattle.std.proofs.Common.{◌∙◌, List, refl, sym, subst}
+use Rattle.std.proofs.lemmas.{List.with_items_is, Option.same_Some}
 use Rattle.pas_utility.specs.Outcomes.{places_of}
 use Rattle.pas_shared.specs.Passes.{IsPassOf}
-use Rattle.pas_shared.specs.declared.region.SharedRegion.{SharedRegion}
+use Rattle.pas_shared.specs.declared.pass.SharedPass.{SharedPass}
 use Rattle.pas_trace.specs.Acts.{scavenger_acts}
-use Rattle.pas_threads.specs.{Hands.standing_of_pass, Crews.crew, Crews.CrewAt, Crews.CrewDid, Scavengers.crew_of}
+use Rattle.pas_threads.specs.{Hands.standing_of_pass, Crews.crew, Crews.CrewAt, Scavengers.crew_of, Scavengers.CrewHasLeft}
 use Rattle.pas_threads.specs.declared.workers.Worker.{Worker}
-use Rattle.pas_threads.proofs.Sitting.{seated, rose}
+use Rattle.pas_threads.proofs.Sitting.{seated}
 use Rattle.pas_threads.proofs.scavenger.keep_up.Goals as goal
 
-pub scavenge-requires-clause-may : goal.scavenge-requires-clause-may
-scavenge-requires-clause-may g c =
+pub scavenge_seated-pass-requires-clause-pass : goal.scavenge_seated-pass-requires-clause-pass
+scavenge_seated-pass-requires-clause-pass g c =
+    let has = c.requires.may.stands.has in
+    subst (λ (x : SharedPass). IsPassOf c.args.region.now x) (same_Some _ _ (sym has.present ∙ (sym c.take.ensures.value ∙ c.in-Some.is))) has.of
+
+pub scavenge_seated-pass-requires-clause-may : goal.scavenge_seated-pass-requires-clause-may
+scavenge_seated-pass-requires-clause-may g c =
     let may = c.requires.may in
     let s = may.shift in
     let old = c.args.scavenger.now in
     let acts = scavenger_acts s.idle c.args.ops.now in
-    let is = sym c.take.ensures.value ∙ c.in-Some.is ∙ ap Some (sym c.desk-desk.ensures.pass) in (
+    let pass = c.in-Some.pass in
+    let is = sym c.take.ensures.value ∙ c.in-Some.is in (
       s,
       may.asked,
       may.progress,
       may.sound,
-      subst (λ (ws : List Worker). CrewAt c.args.region.now s acts (crew (standing_of_pass c.desk-desk.result.pass) ws (places_of old.outcomes) old.out) may.progress)
-          (sym c.deref_mut.ensures.value) (seated (λ σ. CrewAt c.args.region.now s acts (crew_of σ old) may.progress) c.desk-desk.result.pass is may.stands.has may.stands.at),
+      subst (λ (ws : List Worker). CrewAt c.args.region.now s acts (crew (standing_of_pass pass) ws (places_of old.outcomes) old.out) may.progress)
+          (sym c.deref_mut.ensures.value) (seated (λ σ. CrewAt c.args.region.now s acts (crew_of σ old) may.progress) pass is may.stands.has may.stands.at),
     )
 
 pub returns : goal.returns
@@ -30,21 +35,33 @@ returns g c = record {
   did = record {
     did = λ s asked p sound stands.
         let region = c.args.region.now in
-        let pass = c.desk-desk.result.pass in
-        let left = c.scavenge.new.desk.pass in
-        let is = sym c.take.ensures.value ∙ c.in-Some.is ∙ ap Some (sym c.desk-desk.ensures.pass) in
+        let pass = c.in-Some.pass in
+        let is = sym c.take.ensures.value ∙ c.in-Some.is in
         let acts = scavenger_acts s.idle c.args.ops.now in
         let old = c.args.scavenger.now in
-        let lent = c.scavenge.new.lent in
-        let places = places_of c.scavenge.new.outcomes in
-        let out = c.scavenge.new.out in
+        let after = c.scavenge_seated-pass.result.0 in
+        let bench = c.scavenge_seated-pass.result.1 in
+        let lent = c.scavenge_seated-pass.new.lent in
+        let places = places_of c.scavenge_seated-pass.new.outcomes in
+        let out = c.scavenge_seated-pass.new.out in
         let at = subst (λ (ws : List Worker). CrewAt region s acts (crew (standing_of_pass pass) ws (places_of old.outcomes) old.out) p) (sym c.deref_mut.ensures.value)
         (seated (λ σ. CrewAt region s acts (crew_of σ old) p) pass is stands.has stands.at)
         in
-        let before = subst (λ (ws : List Worker). CrewDid region s acts [] (crew (standing_of_pass pass) ws (places_of old.outcomes) old.out) (crew (standing_of_pass left) lent places out) p) c.deref_mut.ensures.value (c.scavenge.ensures.did s asked p sound at) in
-        let after = subst (λ (ws : List Worker). CrewDid region s acts [] (crew_of (standing_of_pass pass) old) (crew (standing_of_pass left) ws places out) p) (sym (with_items_is old.lent lent (c.scavenge.ensures.many ∙ c.deref_mut.ensures.len))) before in
-        rose (λ σ σ'. CrewDid region s acts [] (crew_of σ old) (crew σ' (with_items old.lent lent).items places out) p) pass left c.into_pass.result is stands.has c.into_pass.ensures.pass
-        (subst (λ (r : SharedRegion). IsPassOf r c.into_pass.result) (c.scavenge.ensures.home ∙ c.desk-desk.ensures.region) c.into_pass.ensures.of) after;
+        let first = subst (λ (ws : List Worker). CrewHasLeft region s acts after bench (crew (standing_of_pass pass) ws (places_of old.outcomes) old.out) (crew (standing_of_pass after) lent places out) p) c.deref_mut.ensures.value
+        (c.scavenge_seated-pass.ensures.did s asked p sound at)
+        in
+        let left = subst (λ (ws : List Worker). CrewHasLeft region s acts after bench (crew_of (standing_of_pass pass) old) (crew (standing_of_pass after) ws places out) p)
+        (sym (with_items_is old.lent lent (c.scavenge_seated-pass.ensures.many ∙ c.deref_mut.ensures.len))) first
+        in
+        let has = stands.has in
+        record {
+          did = record {
+            before = record { pass = pass; present = is; of = subst (λ (x : SharedPass). IsPassOf region x) (same_Some _ _ (sym has.present ∙ is)) has.of };
+            after = record { pass = after; present = refl; of = left.of };
+            does = left.did;
+          };
+          left = left.left;
+        };
     places = refl;
   };
 }

@@ -1,5 +1,5 @@
-use Rattle.std.proofs.Common.{◌≡◌, ◌∙◌, Option, Some, None, refl, ap, sym, subst}
-use Rattle.std.proofs.lemmas.Option.{same_Some}
+use Rattle.std.proofs.Common.{◌≡◌, ◌∙◌, Option, Some, None, true, false, refl, ap, sym, subst}
+use Rattle.std.proofs.lemmas.{Bool.false≢true, Option.same_Some}
 use Rattle.pas_threads.specs.{Pairs.no_more, Pairs.KeeperStands, Pairs.KeeperLowered, Kits.with_keeper}
 use Rattle.pas_threads.specs.declared.keeper.Keeper.{Keeper}
 use Rattle.pas_threads.proofs.Keepers.{stands_for}
@@ -11,7 +11,10 @@ lower-requires c =
     record { stands = (r.0, r.1, no_more, r.2, stands_for c.args.worker.now.keeper c.in-Some.keeper (sym c.in-Some.ensures.value) r.3 r.4) }
 
 pub returns-in-Some-clause-none : goal.returns-in-Some-clause-none
-returns-in-Some-clause-none c none = absurd (let bad : Some c.in-Some.keeper ≡ None = c.in-Some.ensures.value ∙ none in cc)
+returns-in-Some-clause-none c off = absurd (false≢true (sym off))
+
+pub returns-in-Some-clause-has : goal.returns-in-Some-clause-has
+returns-in-Some-clause-has c on = (c.in-Some.keeper, sym c.in-Some.ensures.value)
 
 pub returns-in-Some-clause-one : goal.returns-in-Some-clause-one
 returns-in-Some-clause-one c keeper is =
@@ -25,5 +28,8 @@ returns-in-Some-clause-one c keeper is =
 pub returns-in-None-clause-one : goal.returns-in-None-clause-one
 returns-in-None-clause-one c keeper is = absurd (let bad : None ≡ Some keeper = c.in-None.ensures.value ∙ is in cc)
 
+pub returns-in-None-clause-has : goal.returns-in-None-clause-has
+returns-in-None-clause-has c on = absurd (false≢true on)
+
 pub returns-in-None-clause-none : goal.returns-in-None-clause-none
-returns-in-None-clause-none c none = ap (λ (o : Option Keeper). with_keeper c.args.worker.now o) (c.take.ensures.after ∙ sym none)
+returns-in-None-clause-none c off = (sym c.in-None.ensures.value, ap (λ (o : Option Keeper). with_keeper c.args.worker.now o) (c.take.ensures.after ∙ c.in-None.ensures.value))

@@ -36,7 +36,7 @@ loop-place-preserved c =
     let many = i.many in
     let here : place < length now = omega (arith, lt, many) in
     let was = get_or now place e in
-    let w : Worker = record { pass = c.take.new.self; cache = was.cache; requests = was.requests; out = was.out; keeper = was.keeper } in
+    let w : Worker = record { pass = c.take.new.self; cache = was.cache; requests = was.requests; out = was.out; keeper = was.keeper; member = was.member; bench = was.bench } in
     let own = get_or workers place e in
     let takes = c.take.ensures.value ∙ ap (λ (v : Worker). v.pass) (i.left place e (omega arith)) in
     let next = own_slots (drop (place + 1) workers) in

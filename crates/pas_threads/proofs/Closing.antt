@@ -1,0 +1,174 @@
+-- The close: thread by thread and keeper by keeper, and the ledger is settled behind each of these acts.
+use Rattle.std.proofs.Common.{◌≡◌, ◌≢◌, ℕ, suc, ◌+◌, ◌-◌, ◌<◌, ◌≤◌, inl, inr, List, [], ◌∷◌, ◌++◌, length, set, get_or, map, Option, Some, None, refl, ap, sym, ◌∙◌, subst, arith}
+use Rattle.std.proofs.Common.{length-set}
+use Rattle.std.proofs.lemmas.{List.set-get_or, Option.same_Some}
+use Rattle.pas_profile.specs.declared.profile.Profile.{Profile}
+use Rattle.pas_steps.specs.Lists.{Whole, part}
+use Rattle.pas_steps.proofs.Parts.{part_of_others}
+use Rattle.pas_trace.specs.Acts.{Act, Ends, Lowers, numbers_from}
+use Rattle.pas_cache.specs.Caches.{cached}
+use Rattle.pas_shared.specs.Ruled.{IsEarlier}
+use Rattle.pas_shared.specs.declared.{region.SharedRegion.SharedRegion, pass.SharedPass.SharedPass}
+use Rattle.pas_answers.specs.{Answers.Progress, Stages.Stage, Stages.one_by_one}
+use Rattle.pas_plans.proofs.ActsLeft.{number_next, number_last}
+use Rattle.pas_threads.specs.Pairs.{no_more, HasKeeper, AreGuarded, IsButKeeper, KeeperLowered, Lowered, MayLower}
+use Rattle.pas_threads.specs.Sessions.{Session, evenly, AreResting, StandSo, WentBy}
+use Rattle.pas_threads.specs.Settling.{PassStands, ActorsStand, StoppedSo, LoweredSo}
+use Rattle.pas_threads.specs.Turns.{Turn, TookTurns, IsDue, Stopped}
+use Rattle.pas_threads.specs.declared.{keeper.Keeper.Keeper, workers.Worker.Worker}
+use Rattle.pas_threads.proofs.InPhases.{still_at}
+use Rattle.pas_threads.proofs.KeptPhases.{alike_same, guarded_alike}
+use Rattle.pas_threads.proofs.Keepers.{lowers_from, none_left, has_none, has_all, lower_next, most_keepers, lower_begins, lower_passes, lowers_one}
+use Rattle.pas_threads.proofs.Staging.{went_none, went_both, went_alone, one_by_one_both}
+use Rattle.pas_threads.proofs.TakingTurns.{SoFar, at_first, goes_on, at_last, set_each, ends_from, ends_begin, ends}
+
+-- ---- all actors stand after turns of the threads
+pub turns_stand : {region : SharedRegion} {s : Session} {slot : Option SharedPass} {acts : List Act} {old now : List Worker} {later : ℕ → ℕ} {o p : Progress} → ActorsStand region s slot old p.list → (turns : TookTurns s.profile suc (IsDue region s.profile later o) acts old now p) → length now ≡ length old
+    → ActorsStand region s slot now turns.came.reached.list
+turns_stand {region} {s} {slot} {acts} {old} {now} {later} {o} {p} at turns many =
+    let threads = at.many in
+    record {
+      many = many ∙ at.many;
+      guarded = guarded_alike old now many (λ i d lt. alike_same (get_or old i d).keeper (get_or now i d).keeper (turns.told i d lt).keeper) at.guarded;
+      scavenger = still_at (turns.leaves.parts 0 (λ i lt is. omega (arith, is))) at.scavenger;
+      threads = λ i d lt.
+          let here = (turns.stand i d (omega (arith, lt, many))).here in
+          record { pass = here.has.pass; present = here.has.present; of = here.has.of; actor = here.rests.sits.actor; made = here.rests.sits.stood };
+      keepers = λ i d keeper lt is.
+          let less : i < length old = omega (arith, lt, many) in
+          still_at (turns.leaves.parts (s.threads + suc i) (λ j below same. omega (arith, below, same, threads))) (at.keepers i d keeper less (sym (turns.told i d less).keeper ∙ is));
+      nobody = λ k past. turns.leaves.parts k (λ i lt same. omega (arith, past, lt, same, threads)) ∙ at.nobody k past;
+    }
+
+-- ---- .. and after the sweep of a keeper
+module _ {region : SharedRegion} {s : Session} {slot : Option SharedPass} {now : List Worker} {p : Progress} (i : ℕ) (d w : Worker) (keeper after : Keeper) (at : ActorsStand region s slot now p.list) (lt : i < length now) (before : (get_or now i d).keeper ≡ Some keeper)
+    (but : IsButKeeper (get_or now i d) w) (lowered : w.keeper ≡ Some after) (did : KeeperLowered region s.profile (s.threads + suc i) keeper after no_more p) where
+  abbrev k : ℕ
+  k = s.threads + suc i
+
+  others : (j : ℕ) → j ≢ k → part j did.did.reached.list ≡ part j p.list
+  others j ne = ap (λ (l : Whole). part j l) did.did.moves.list_is ∙ part_of_others j k did.did.moves.steps p.list (λ (is : k ≡ j). ne (sym is))
+
+  -- there is a keeper for each thread
+  all_have : AreGuarded s.keepers now → (s.keepers ≡ length now) × ((j : ℕ) (e : Worker) → j < length now → HasKeeper (get_or now j e))
+  all_have (inl all) = all
+  all_have (inr none) = absurd (let bad : None ≡ Some keeper = sym (none.1 i d lt) ∙ before in cc)
+
+  size : length (set now i w) ≡ length now
+  size = length-set now i w
+
+  its_own : (e : Worker) (x : Keeper) → w.keeper ≡ Some x → PassStands region k did.did.reached.list (Some x.pass)
+  its_own e x is = subst (λ (y : Keeper). PassStands region k did.did.reached.list (Some y.pass)) (same_Some after x (sym lowered ∙ is)) (record { pass = after.pass; present = refl; of = did.of; actor = did.did.stands.sits.actor; made = did.did.stands.sits.stood })
+
+  pub lowered_stands : ActorsStand region s slot (set now i w) did.did.reached.list
+  lowered_stands =
+      let all = all_have at.guarded in
+      let threads = at.many in
+      record {
+        many = size ∙ at.many;
+        guarded = inl (all.0 ∙ sym size, λ j e less. set_each (λ (m : ℕ) (v : Worker). HasKeeper v) now i w e j lt (after, lowered) (λ ne. all.1 j e (omega (arith, less, size))));
+        scavenger = still_at (others 0 (λ is. omega (arith, is))) at.scavenger;
+        threads = λ j e less.
+            let here : j < length now = omega (arith, less, size) in
+            let same = others (suc j) (λ is. omega (arith, is, here, threads)) in
+            still_at same (set_each (λ (m : ℕ) (v : Worker). PassStands region (suc m) p.list v.pass) now i w e j lt (subst (λ (o : Option SharedPass). PassStands region (suc i) p.list o) (sym but.pass) (at.threads i d lt)) (λ ne. at.threads j e here));
+        keepers = λ j e x less is.
+            let here : j < length now = omega (arith, less, size) in
+            set_each (λ (m : ℕ) (v : Worker). (y : Keeper) → v.keeper ≡ Some y → PassStands region (s.threads + suc m) did.did.reached.list (Some y.pass)) now i w e j lt (λ y own. its_own e y own)
+            (λ ne y own. still_at (others (s.threads + suc j) (λ same. ne (omega (arith, same)))) (at.keepers j e y here own)) x is;
+        nobody = λ j past. others j (λ same. omega (arith, past, same, all.0, lt)) ∙ at.nobody j past;
+      }
+
+-- ---- the stops
+abbrev pub StopsSoFar : SharedRegion → Session → Option SharedPass → ℕ → List Worker → List Worker → (ℕ → ℕ) → Whole → Whole → Progress → Type 0
+StopsSoFar region s slot i old now later before after p = SoFar (ends_from 0 (length old)) (ends_from i (length old)) (λ acts. StoppedSo region s slot acts i old now later before after p)
+
+pub stops_begin : {region : SharedRegion} {s : Session} {slot : Option SharedPass} {old : List Worker} {later : ℕ → ℕ} {before : Whole} {p : Progress} → AreResting region s.profile old later p → ActorsStand region s slot old p.list → StandSo s before p.list → StopsSoFar region s slot 0 old old later before before p
+stops_begin {s = s} rest stand stood = at_first (record { stopped = ends_begin rest; stand = stand; went = went_none s stood stand.nobody })
+
+module _ {region : SharedRegion} {s : Session} {slot : Option SharedPass} {acts : List Act} {old now : List Worker} {later : ℕ → ℕ} {before after : Whole} {p : Progress} (i : ℕ) (d w : Worker) (so : StoppedSo region s slot acts i old now later before after p) (first : ActorsStand region s slot old p.list)
+    (lt : i < length old) (many : length now ≡ length old) (t : Turn region s.profile (suc i) (Ends (suc i)) [] (get_or now i d) w (evenly (later (suc i))) so.stopped.turns.came.reached) (none : (cached w.cache).locals ≡ []) where
+  abbrev next_stopped : Stopped region s.profile (acts ++ (Ends (suc i) ∷ [])) (suc i) old (set now i w) later p
+  next_stopped = ends i d w so.stopped lt many t none
+
+  pub next_stands : ActorsStand region s slot (set now i w) t.did.does.reached.list
+  next_stands = turns_stand first next_stopped.turns (length-set now i w ∙ many)
+
+  -- once the ledger is settled
+  pub stops_next : {settled : Whole} → IsEarlier after settled → StandSo s settled t.did.does.reached.list → StoppedSo region s slot (acts ++ (Ends (suc i) ∷ [])) (suc i) old (set now i w) later before settled p
+  stops_next {settled} earlier stood = record {
+    stopped = next_stopped;
+    stand = next_stands;
+    went = subst (λ (ss : List Stage). WentBy s ss p t.did.does.reached before settled) (sym (one_by_one_both acts (Ends (suc i) ∷ [])))
+        (went_both (one_by_one acts) (one_by_one (Ends (suc i) ∷ [])) so.went (went_alone s (Ends (suc i) ∷ []) t.did.does.reaches earlier so.stand.nobody next_stands.nobody so.went.stand stood));
+  }
+
+pub stops_go_on : {region : SharedRegion} {s : Session} {slot : Option SharedPass} {old now now' : List Worker} {later : ℕ → ℕ} {before after settled : Whole} {p : Progress} (i : ℕ) (so : StopsSoFar region s slot i old now later before after p) → i < length old
+    → StoppedSo region s slot (so.acts ++ (Ends (suc i) ∷ [])) (suc i) old now' later before settled p → StopsSoFar region s slot (i + 1) old now' later before settled p
+stops_go_on {region} {s} {slot} {old} {now} {now'} {later} {before} {after} {settled} {p} i so lt next =
+    let n = length old in
+    goes_on (Ends (i + 1) ∷ []) (ap (λ (ks : List ℕ). map Ends ks) (number_next (i + 1) (n - i) (n - (i + 1)) (omega (arith, lt)))) so
+    (subst (λ (m : ℕ). StoppedSo region s slot (so.acts ++ (Ends m ∷ [])) m old now' later before settled p) (let is : suc i ≡ i + 1 = omega arith in is) next)
+
+pub stops_end : {region : SharedRegion} {s : Session} {slot : Option SharedPass} {old now : List Worker} {later : ℕ → ℕ} {before after : Whole} {p : Progress} (i : ℕ) → length old ≤ i → i ≤ length old → StopsSoFar region s slot i old now later before after p
+    → StoppedSo region s slot (map Ends (numbers_from 1 (length old))) (length old) old now later before after p
+stops_end {region} {s} {slot} {old} {now} {later} {before} {after} {p} i le ge so =
+    let n = length old in
+    let all : ends_from 0 n ≡ map Ends (numbers_from 1 n) = ap (λ (m : ℕ). map Ends (numbers_from 1 m)) (let whole : n - 0 ≡ n = omega arith in whole) in
+    let at : i ≡ n = omega (arith, le, ge) in
+    subst (λ (m : ℕ). StoppedSo region s slot (map Ends (numbers_from 1 n)) m old now later before after p) at
+    (subst (λ (acts : List Act). StoppedSo region s slot acts i old now later before after p) all (at_last (ap (λ (ks : List ℕ). map Ends ks) (number_last (i + 1) (n - i) (omega (arith, le)))) so))
+
+-- ---- the sweeps
+abbrev pub LowersSoFar : SharedRegion → Session → Option SharedPass → ℕ → List Worker → List Worker → Whole → Whole → Progress → Type 0
+LowersSoFar region s slot i old now before after p = SoFar (lowers_from s.threads s.keepers 0) (lowers_from s.threads s.keepers i) (λ acts. LoweredSo region s slot acts i old now before after p)
+
+pub lowers_begin : {region : SharedRegion} {s : Session} {slot : Option SharedPass} {old : List Worker} {before : Whole} {p : Progress} → MayLower region s.profile s.threads s.keepers old p → ActorsStand region s slot old p.list → StandSo s before p.list → LowersSoFar region s slot 0 old old before before p
+lowers_begin {s = s} may stand stood = at_first (record { lowered = lower_begins may; stand = stand; went = went_none s stood stand.nobody })
+
+-- a worker without a keeper: there is no keeper at all
+pub lowers_pass : {region : SharedRegion} {s : Session} {slot : Option SharedPass} {old now : List Worker} {before after : Whole} {p : Progress} (i : ℕ) (d w : Worker) → MayLower region s.profile s.threads s.keepers old p → i < length old → length now ≡ length old → (get_or now i d).keeper ≡ None → w ≡ get_or now i d
+    → LowersSoFar region s slot i old now before after p → LowersSoFar region s slot (i + 1) old (set now i w) before after p
+lowers_pass {region} {s} {slot} {old} {now} {before} {after} {p} i d w may lt many none same so =
+    let x = so.done.lowered in
+    let no_keepers = has_none old i d lt may.guarded (ap (λ (y : Worker). y.keeper) (sym (x.left i d (omega arith) lt)) ∙ none) in
+    let still : now ≡ set now i w = sym (set-get_or now i d) ∙ ap (λ (v : Worker). set now i v) (sym same) in
+    subst (λ (ws : List Worker). LowersSoFar region s slot (i + 1) old ws before after p) still
+    (record {
+      acts = so.acts;
+      whole = ap (λ (acts : List Act). so.acts ++ acts) (none_left s.threads s.keepers (i + 1) no_keepers ∙ sym (none_left s.threads s.keepers i no_keepers)) ∙ so.whole;
+      done = record { lowered = lower_passes i d lt many none x; stand = so.done.stand; went = so.done.went };
+    })
+
+module _ {region : SharedRegion} {s : Session} {slot : Option SharedPass} {old now : List Worker} {before after : Whole} {p : Progress} (i : ℕ) (d w : Worker) (keeper low : Keeper) (so : LowersSoFar region s slot i old now before after p) (lt : i < length old) (many : length now ≡ length old)
+    (had : (get_or now i d).keeper ≡ Some keeper) (but : IsButKeeper (get_or now i d) w) (lowered : w.keeper ≡ Some low) (did : KeeperLowered region s.profile (s.threads + suc i) keeper low no_more so.done.lowered.reached) where
+  abbrev keeper_at : ℕ
+  keeper_at = s.threads + suc i
+
+  pub sweep_stands : ActorsStand region s slot (set now i w) did.did.reached.list
+  sweep_stands = lowered_stands i d w keeper low so.done.stand (omega (arith, lt, many)) had but lowered did
+
+  pub lowers_go_on : {settled : Whole} → MayLower region s.profile s.threads s.keepers old p → IsEarlier after settled → StandSo s settled did.did.reached.list → LowersSoFar region s slot (i + 1) old (set now i w) before settled p
+  lowers_go_on {settled} may earlier stood =
+      let x = so.done.lowered in
+      let all = has_all old i d keeper lt may.guarded (ap (λ (v : Worker). v.keeper) (sym (x.left i d (omega arith) lt)) ∙ had) in
+      let next : LoweredSo region s slot (so.acts ++ (Lowers keeper_at ∷ [])) (i + 1) old (set now i w) before settled p = record {
+        lowered = lowers_one i d w keeper low lt many had but lowered x did;
+        stand = sweep_stands;
+        went = subst (λ (ss : List Stage). WentBy s ss p did.did.reached before settled) (sym (one_by_one_both so.acts (Lowers keeper_at ∷ [])))
+            (went_both (one_by_one so.acts) (one_by_one (Lowers keeper_at ∷ [])) so.done.went (went_alone s (Lowers keeper_at ∷ []) did.did.reaches earlier so.done.stand.nobody sweep_stands.nobody so.done.went.stand stood));
+      } in
+      goes_on (Lowers keeper_at ∷ []) (lower_next s.threads s.keepers i (omega (arith, lt, all))) so next
+
+pub lowers_end : {region : SharedRegion} {s : Session} {slot : Option SharedPass} {old now : List Worker} {before after : Whole} {p : Progress} (i : ℕ) → MayLower region s.profile s.threads s.keepers old p → length old ≤ i → i ≤ length old → LowersSoFar region s slot i old now before after p
+    → LoweredSo region s slot (map Lowers (numbers_from (s.threads + 1) s.keepers)) (length old) old now before after p
+lowers_end {region} {s} {slot} {old} {now} {before} {after} {p} i may le ge so =
+    let threads = s.threads in
+    let keepers = s.keepers in
+    let most = most_keepers old may.guarded in
+    let at : i ≡ length old = omega (arith, le, ge) in
+    let all : lowers_from threads keepers 0 ≡ map Lowers (numbers_from (threads + 1) keepers) =
+    ap (λ (k : ℕ). map Lowers (numbers_from k (keepers - 0))) (let first : threads + 1 + 0 ≡ threads + 1 = omega arith in first) ∙ ap (λ (n : ℕ). map Lowers (numbers_from (threads + 1) n)) (let whole : keepers - 0 ≡ keepers = omega arith in whole)
+    in
+    subst (λ (m : ℕ). LoweredSo region s slot (map Lowers (numbers_from (threads + 1) keepers)) m old now before after p) at
+    (subst (λ (acts : List Act). LoweredSo region s slot acts i old now before after p) all (at_last (ap (λ (ks : List ℕ). map Lowers ks) (number_last (threads + 1 + i) (keepers - i) (omega (arith, most, le)))) so))

@@ -1,0 +1,620 @@
+-- The scavenger's worker with the lent threads on one bench: they sit down, take their places at its desk, and leave.
+use Rattle.std.proofs.Common.{◌≡◌, ◌≢◌, ◌==◌, ◌⊎◌, inl, inr, ⊎_elim, ℕ, ◌+◌, ◌<◌, ◌≤◌, Bool, true, false, if◌then◌else◌, List, [], ◌∷◌, ◌++◌, length, set}
+use Rattle.std.proofs.Common.{get_or, Some, refl, ap, sym, ◌∙◌, subst, arith, true≢false, eqb-true, eq-eqb, ne_eqb, zero, suc, append-nil, get_or-set_other}
+use Rattle.std.proofs.lemmas.{Bool.cases_eq, Option.same_Some, List.get_or_default}
+use Rattle.pas_profile.specs.declared.profile.Profile.{Profile}
+use Rattle.pas_region.specs.Noted.{AreNotesOf}
+use Rattle.pas_region.specs.declared.notes.Notes.{Notes}
+use Rattle.pas_report.specs.Rooms.{Records, records_in, room_of}
+use Rattle.pas_steps.specs.{Desks.Standing, Lists.Whole, Lists.part, Views.View}
+use Rattle.pas_cache.specs.Caches.{Cached, cached}
+use Rattle.pas_core.proofs.Choosing.{steps_by_same}
+use Rattle.pas_shared.specs.Ruled.{among, made_in, all_actors, HasRow, only, only_this, isnt, rows_of, rows_of_only, steps_of, IsRowOf, AreRowsOf}
+use Rattle.pas_shared.specs.Benches.{empty_row, first_row, row_on, rows_on, home_of, seat_of_member, standing_on, HasLooked, IsBenchOf, IsFreshRow, IsMemberOf}
+use Rattle.pas_shared.specs.Benches.{SitsInRow, MaySitOn, StandsOver}
+use Rattle.pas_shared.specs.{Ledgers.part_of, Passes.seat_of, Passes.view_of, Passes.IsPassOf}
+use Rattle.pas_shared.specs.declared.{bench.Bench.Bench, bench.Member.Member, bench_desk.BenchDesk.BenchDesk, bench_desk.BenchHome.BenchHome}
+use Rattle.pas_shared.specs.declared.{pass.SharedPass.SharedPass, region.SharedRegion.SharedRegion, rule.Entry.Entry, rule.Row.Row}
+use Rattle.pas_shared.proofs.Benching.{among_only, among_picked, row_tells, stands_first}
+use Rattle.pas_trace.specs.Acts.{Act, StopsIdle}
+use Rattle.pas_answers.specs.{Answers.Progress, Ways.EachOf, Ways.records_by}
+use Rattle.pas_answers.proofs.{OwnRecords.records_both, Reached.goes_on}
+use Rattle.pas_report.specs.declared.record.Record.{Record}
+use Rattle.pas_acts.specs.{Works.Later, Turns.RestsAt, Keepers.StandsStill, AtDesks.here, AtDesks.told_if, AtDesks.ThreadActs}
+use Rattle.pas_acts.proofs.{Alone.rests_still, AtDesk.leaves_rest}
+use Rattle.pas_threads.specs.{Hands.standing_of_pass, Left.crew_in, Left.KeepsOrder, Sessions.WorkerHas, Scavengers.CrewHasLeft}
+use Rattle.pas_threads.specs.Turns.{AreDistinct, Came, Pushed, Told, TookTurns}
+use Rattle.pas_threads.specs.Lent.{Shift, number_in, AreBeside, IsLent, AreLent, SitsAmong, standing_among, standing_at, home_at, WorkerSits, SitsLent}
+use Rattle.pas_threads.specs.Lent.{AreOfCrew, TellAs, IsButPlace, HasSeat, AreSeated, IsDeskAt, StopsLent, MayLeave, HasLeave, MayLeaveAll, HaveLeave}
+use Rattle.pas_threads.specs.Crews.{crew, CrewAt, CrewSits, CrewActs, CrewSat, CrewMayRise, CrewRose}
+use Rattle.pas_threads.specs.declared.workers.Worker.{Worker}
+use Rattle.pas_threads.proofs.Sitting.{seated}
+use Rattle.pas_threads.proofs.Benched.{row_part, rows_part, has_seat, member_seat, sits_as, keeps_order}
+use Rattle.pas_threads.proofs.TakingTurns.{Stays, came_both, told_none, told_both, set_each, by_own, by_other}
+
+-- ---- who is among some actors
+among_cases : (n k : ℕ) (ns : List ℕ) → among (n ∷ ns) k ≡ true → (n ≡ k) ⊎ (among ns k ≡ true)
+among_cases n k ns h = at (n == k) refl
+  where
+    at : (b : Bool) → (n == k) ≡ b → (n ≡ k) ⊎ (among ns k ≡ true)
+    at true e = inl (eqb-true n k e)
+    at false e = inr (sym (ap (λ (b : Bool). if b then true else among ns k) e) ∙ h)
+
+among_here : (n k : ℕ) (ns : List ℕ) → n ≡ k → among (n ∷ ns) k ≡ true
+among_here n k ns e = ap (λ (b : Bool). if b then true else among ns k) (eq-eqb n k e)
+
+among_later : (n k : ℕ) (ns : List ℕ) → among ns k ≡ true → among (n ∷ ns) k ≡ true
+among_later n k ns h = at (n == k) refl
+  where
+    at : (b : Bool) → (n == k) ≡ b → among (n ∷ ns) k ≡ true
+    at true e = ap (λ (b : Bool). if b then true else among ns k) e
+    at false e = ap (λ (b : Bool). if b then true else among ns k) e ∙ h
+
+among_at : (ks : List ℕ) (i : ℕ) → i < length ks → among ks (get_or ks i 0) ≡ true
+among_at [] i lt = absurd (let bad : i < 0 = lt in omega (arith, bad))
+among_at (k ∷ ks) zero lt = among_here k k ks refl
+among_at (k ∷ ks) (suc i) lt = among_later k (get_or ks i 0) ks (among_at ks i (omega (arith, lt)))
+
+among_place : (ks : List ℕ) (k : ℕ) → among ks k ≡ true → (i : ℕ) × (i < length ks) × (get_or ks i 0 ≡ k)
+among_place [] k h = absurd (true≢false (sym h))
+among_place (n ∷ ks) k h = ⊎_elim (λ is. (0, omega arith, is)) (λ more. let rest = among_place ks k more in (suc rest.0, omega (arith, rest.1), rest.2)) (among_cases n k ks h)
+
+nobody_among : (ks : List ℕ) → ((k : ℕ) → among ks k ≡ true → ⊥) → ks ≡ []
+nobody_among [] none = refl
+nobody_among (n ∷ ks) none = absurd (none n (among_here n n ks refl))
+
+both_true : (a b : Bool) → (a ≡ true → b ≡ true) → (b ≡ true → a ≡ true) → a ≡ b
+both_true true b to from = sym (to refl)
+both_true false true to from = from refl
+both_true false false to from = refl
+
+isnt_other : (j k : ℕ) → k ≢ j → isnt (only_this j) k ≡ true
+isnt_other j k ne = ap (λ (b : Bool). if b then false else true) (ne_eqb k j ne)
+
+isnt_itself : (j k : ℕ) → isnt (only_this j) k ≡ true → k ≢ j
+isnt_itself j k h same = true≢false (sym h ∙ ap (λ (b : Bool). if b then false else true) (eq-eqb k j same))
+
+-- all of the crew, and nobody else
+pub crew_among : {s : Shift} {actors : List ℕ} → AreOfCrew s 0 (length s.idle) actors → (k : ℕ) → among actors k ≡ crew_in s.idle k
+crew_among {s} {actors} crew k = both_true (among actors k) (crew_in s.idle k)
+    (λ its. ⊎_elim
+    (λ own. among_here 0 k s.idle (sym own))
+    (λ (t : (i : ℕ) × (0 ≤ i) × (i < length s.idle) × (number_in s i ≡ k)). among_later 0 k s.idle (subst (λ (j : ℕ). among s.idle j ≡ true) t.3 (among_at s.idle t.0 t.2)))
+    (crew.only k its))
+    (λ its. ⊎_elim
+    (λ own. subst (λ (j : ℕ). among actors j ≡ true) own crew.own)
+    (λ lent. let at = among_place s.idle k lent in subst (λ (j : ℕ). among actors j ≡ true) at.2 (crew.lent at.0 (omega arith) at.1))
+    (among_cases 0 k s.idle its))
+
+-- ---- a worker on the bench
+-- it stands for what it noted, whatever others do
+still_among : (region : SharedRegion) (actors : List ℕ) (member : Member) (l m : Whole) → StandsStill (standing_among region actors member) (standing_among region actors member) l m
+still_among region actors member l m = record { seat_is = refl; stands = λ at same. subst (λ (v : View). SitsAmong region actors member v) (sym same) at }
+
+pub lent_stays : (region : SharedRegion) (actors : List ℕ) (s : Shift) → Stays (number_in s) (SitsLent region actors s)
+lent_stays region actors s i w q r parts caches names at = record { member = at.member; present = at.present; rests = rests_still (still_among region actors at.member q.list r.list) parts caches at.rests }
+
+-- .. at another desk with the same seat, where that one stands too
+rests_as : {f : Profile} {k : ℕ} {σ τ : Standing} {c : Cached} {out : Records} {later : Later} {p : Progress} → τ.seat ≡ σ.seat → (σ.stands (part k p.list) p.list → τ.stands (part k p.list) p.list) → RestsAt f k σ c out later p → RestsAt f k τ c out later p
+rests_as seat to at = record { sits = sits_as seat to at.sits; cache = at.cache; spare = at.spare }
+
+-- .. of a worker with the same cache and records
+same_worker : {f : Profile} {k : ℕ} {σ : Standing} {old new : Worker} {later : Later} {p : Progress} → IsButPlace old new → RestsAt f k σ (cached old.cache) old.out later p → RestsAt f k σ (cached new.cache) new.out later p
+same_worker {f} {k} {σ} {old} {new} {later} {p} but at =
+    subst (λ (rs : Records). RestsAt f k σ (cached new.cache) rs later p) (sym but.out) (subst (λ (c : Cached). RestsAt f k σ c old.out later p) (ap cached (sym but.cache)) at)
+
+-- among more actors
+sits_wider : {region : SharedRegion} {one more : List ℕ} {f : Profile} {k : ℕ} {worker : Worker} {later : Later} {p : Progress} → ((j : ℕ) → among one j ≡ true → among more j ≡ true) → WorkerSits region one f k worker later p → WorkerSits region more f k worker later p
+sits_wider wider at = record {
+  member = at.member;
+  present = at.present;
+  rests = rests_as refl (λ stood. record { profile = stood.profile; among_them = wider at.member.actor stood.among_them; noted = stood.noted }) at.rests;
+}
+
+-- ---- sitting down
+-- the notes of a pass are its member's
+noted_by : {pass : SharedPass} {member : Member} {v : View} → IsMemberOf pass member → view_of pass ≡ v → AreNotesOf member.actor v member.notes
+noted_by {pass} {member} {v} is view =
+    subst (λ (n : Notes). AreNotesOf member.actor v n) (sym is.notes) (subst (λ (j : ℕ). AreNotesOf j v pass.notes) (sym is.actor) (subst (λ (w : View). AreNotesOf pass.place.actor w pass.notes) view pass.noted))
+
+sits_down : {region : SharedRegion} {f : Profile} {k : ℕ} {old new : Worker} {rows rows' : List Row} {later : Later} {p : Progress} → WorkerHas region f k old later p → HasSeat region old new rows rows' → WorkerSits region (all_actors rows') f k new later p
+sits_down {region} {f} {k} {old} {new} {rows} {rows'} {later} {p} was seat =
+    let pass = seat.has.pass in
+    let member = seat.member in
+    let rests = seated (λ σ. RestsAt f k σ (cached old.cache) old.out later p) pass seat.has.present was.has was.rests in
+    record {
+      member = member;
+      present = seat.present;
+      rests = same_worker seat.but (rests_as (member_seat seat.is)
+          (λ stood. record {
+            profile = seat.is.profile ∙ seat.has.of.1;
+            among_them = ap (λ (rs : List Row). among (all_actors rs) member.actor) seat.rows_are ∙ among_here pass.place.actor member.actor (all_actors rows) (sym seat.is.actor);
+            noted = noted_by seat.is stood;
+          }) rests);
+    }
+
+-- the rows with one more say what the list tells, too
+tell_more : (pass : SharedPass) (rows rows' : List Row) (l : Whole) → rows' ≡ rows_of (part_of pass ∷ []) ++ rows → view_of pass ≡ part pass.place.actor l → TellAs rows l → TellAs rows' l
+tell_more pass rows rows' l is view tell k its = subst (λ (rs : List Row). HasRow rs k (part k l)) (sym is) (⊎_elim
+    (λ (same : pass.place.actor ≡ k). subst (λ (j : ℕ). HasRow (rows_of (part_of pass ∷ []) ++ rows) j (part j l)) same (subst (λ (v : View). HasRow (rows_of (part_of pass ∷ []) ++ rows) pass.place.actor v) view (has_seat pass rows)))
+    (λ more. inr (tell k more))
+    (among_cases pass.place.actor k (all_actors rows) (sym (ap (λ (rs : List Row). among (all_actors rs) k) is) ∙ its)))
+
+-- the first ones sat down, up to this place
+pub record SeatedSoFar (region : SharedRegion) (s : Shift) (i : ℕ) (old now : List Worker) (rows : List Row) (p : Progress) : Type 0 where
+  pub each : (j : ℕ) (d : Worker) → j < i → j < length old → SitsLent region (all_actors rows) s j (get_or now j d) p × IsButPlace (get_or old j d) (get_or now j d)
+  pub left : (j : ℕ) (d : Worker) → i ≤ j → get_or now j d ≡ get_or old j d
+  pub crew : AreOfCrew s 0 i (all_actors rows)
+  pub tell : TellAs rows p.list
+
+pub seats_begin : {region : SharedRegion} {s : Shift} (old : List Worker) {rows : List Row} {p : Progress} → AreOfCrew s 0 0 (all_actors rows) → TellAs rows p.list → SeatedSoFar region s 0 old old rows p
+seats_begin old crew tell = record { each = λ j d less within. absurd (omega (arith, less)); left = λ j d from. refl; crew = crew; tell = tell }
+
+-- the next one has its pass still
+pub seats_next : {region : SharedRegion} {s : Shift} {i : ℕ} {old now : List Worker} {rows : List Row} {p : Progress} (d : Worker) → i < length old → AreLent region s old p → SeatedSoFar region s i old now rows p → IsLent region s i (get_or now i d) p
+seats_next {region} {s} {i} {old} {now} {rows} {p} d lt lent so = subst (λ (w : Worker). IsLent region s i w p) (sym (so.left i d (omega arith))) (lent.each i d lt)
+
+crew_more : {s : Shift} {i : ℕ} {actors : List ℕ} (a : ℕ) → a ≡ number_in s i → AreOfCrew s 0 i actors → AreOfCrew s 0 (i + 1) (a ∷ actors)
+crew_more {s} {i} {actors} a is crew = record {
+  own = among_later a 0 actors crew.own;
+  lent = λ j from to. elim (cases_at j) [
+    | inl same ↦ among_here a (number_in s j) actors (is ∙ ap (number_in s) (sym same))
+    | inr other ↦ among_later a (number_in s j) actors (crew.lent j from (omega (arith, to, other)))
+  ];
+  only = λ k its. ⊎_elim
+      (λ (same : a ≡ k). inr (i, omega arith, omega arith, sym is ∙ same))
+      (λ more. ⊎_elim inl (λ (t : (j : ℕ) × (0 ≤ j) × (j < i) × (number_in s j ≡ k)). inr (t.0, t.1, omega (arith, t.2), t.3)) (crew.only k more))
+      (among_cases a k actors its);
+}
+  where
+    cases_at : (j : ℕ) → (j ≡ i) ⊎ (j ≢ i)
+    cases_at j = cases_eq j i
+
+pub seats_go_on : {region : SharedRegion} {s : Shift} {i : ℕ} {old now : List Worker} {rows rows' : List Row} {p : Progress} (d w : Worker) → i < length old → length now ≡ length old → AreLent region s old p → SeatedSoFar region s i old now rows p → HasSeat region (get_or now i d) w rows rows'
+    → SeatedSoFar region s (i + 1) old (set now i w) rows' p
+seats_go_on {region} {s} {i} {old} {now} {rows} {rows'} {p} d w lt many lent so seat =
+    let was = seats_next d lt lent so in
+    let sits = sits_down was seat in
+    let rests = seated (λ σ. RestsAt s.profile (number_in s i) σ (cached (get_or now i d).cache) (get_or now i d).out (s.lends i) p) seat.has.pass seat.has.present was.has was.rests in
+    let actor = rests.sits.actor in
+    let wider : (k : ℕ) → among (all_actors rows) k ≡ true → among (all_actors rows') k ≡ true =
+    λ k its. ap (λ (rs : List Row). among (all_actors rs) k) seat.rows_are ∙ among_later seat.has.pass.place.actor k (all_actors rows) its
+    in
+    record {
+      each = λ j e less within. set_each (λ (m : ℕ) (x : Worker). SitsLent region (all_actors rows') s m x p × IsButPlace (get_or old m e) x) now i w e j (omega (arith, lt, many))
+          (sits, subst (λ (x : Worker). IsButPlace x w) (so.left i d (omega arith) ∙ get_or_default old i d e lt) seat.but)
+          (λ ne. let one = so.each j e (omega (arith, less, ne)) within in (sits_wider wider one.0, one.1));
+      left = λ j e from. let ne : j ≢ i = λ (is : j ≡ i). omega (arith, is, from) in get_or-set_other now i j w e ne ∙ so.left j e (omega (arith, from));
+      crew = subst (λ (rs : List Row). AreOfCrew s 0 (i + 1) (all_actors rs)) (sym seat.rows_are) (crew_more seat.has.pass.place.actor actor so.crew);
+      tell = tell_more seat.has.pass rows rows' p.list seat.rows_are (rests.sits.stood ∙ ap (λ (k : ℕ). part k p.list) (sym actor)) so.tell;
+    }
+
+pub seats_end : {region : SharedRegion} {s : Shift} {i : ℕ} {old now : List Worker} {rows : List Row} {p : Progress} → length old ≤ i → i ≤ length old → length now ≡ length old → AreLent region s old p → SeatedSoFar region s i old now rows p → AreSeated region s old now rows p
+seats_end {region} {s} {i} {old} {now} {rows} {p} le ge many lent so =
+    let size : i ≡ length s.idle = omega (arith, le, ge, lent.many) in
+    record {
+      lent = record { many = many ∙ lent.many; each = λ j d lt. (so.each j d (omega (arith, lt, le, many)) (omega (arith, lt, many))).0 };
+      crew = subst (λ (n : ℕ). AreOfCrew s 0 n (all_actors rows)) size so.crew;
+      tell = so.tell;
+      but = λ j d lt. (so.each j d (omega (arith, lt, le)) lt).1;
+    }
+
+-- ---- at the desk
+-- a worker of the bench may take the place there
+at_home : {h : BenchHome} (desk : BenchDesk) → home_at desk ≡ h → (k : ℕ) → among (row_on desk.place.bench).actors k ≡ among h.row.actors k
+at_home desk home k = ap (λ (g : BenchHome). among g.row.actors k) home
+
+tells_of : {h : BenchHome} {desk : BenchDesk} {p : Progress} → IsDeskAt h desk p → (k : ℕ) → among (row_on desk.place.bench).actors k ≡ true → part k p.list ≡ made_in (row_on desk.place.bench) k
+tells_of {desk = desk} {p} at k its = row_tells (row_on desk.place.bench) p.list k at.over its
+
+pub may_sit : {h : BenchHome} {desk : BenchDesk} {f : Profile} {k : ℕ} {worker : Worker} {later : Later} {p : Progress} → IsDeskAt h desk p → (w : WorkerSits h.region h.row.actors f k worker later p) → MaySitOn desk.region.now desk.place.bench w.member
+may_sit {h} {desk} {f} {k} {worker} {later} {p} at w =
+    let member = w.member in
+    let stood = w.rests.sits.stood in
+    let actor = w.rests.sits.actor in
+    let its = at_home desk at.home member.actor ∙ stood.among_them in
+    record {
+      of = desk.of;
+      profile = stood.profile ∙ sym (ap (λ (g : BenchHome). g.region.profile) at.home);
+      one = desk.place.one;
+      sits = record { among_them = its; noted = subst (λ (v : View). AreNotesOf member.actor v member.notes) (ap (λ (j : ℕ). part j p.list) (sym actor) ∙ tells_of at member.actor its) stood.noted };
+    }
+
+-- there it rests as it did
+rests_there : {h : BenchHome} {desk : BenchDesk} {f : Profile} {k : ℕ} {worker : Worker} {later : Later} {p : Progress} → IsDeskAt h desk p → (w : WorkerSits h.region h.row.actors f k worker later p)
+    → RestsAt f k (standing_on desk.place.bench w.member) (cached worker.cache) worker.out later p
+rests_there {h} {desk} {f} {k} {worker} {later} {p} at w =
+    rests_as refl (λ stood. (sym (tells_of at w.member.actor (at_home desk at.home w.member.actor ∙ stood.among_them)) ∙ ap (λ (j : ℕ). part j p.list) w.rests.sits.actor, at.over)) w.rests
+
+-- what is so of the bench and the member is so of the desk
+pub at_desk : (At : Standing → Type 0) (desk : BenchDesk) {bench : Bench} {member : Member} → desk.place.bench ≡ bench → desk.place.member ≡ member → At (standing_on bench member) → At (standing_at desk)
+at_desk At desk {bench} {member} b m at = subst (λ (x : Bench). At (standing_on x desk.place.member)) (sym b) (subst (λ (y : Member). At (standing_on bench y)) (sym m) at)
+
+pub from_desk : (At : Standing → Type 0) (desk : BenchDesk) {bench : Bench} {member : Member} → desk.place.bench ≡ bench → desk.place.member ≡ member → At (standing_at desk) → At (standing_on bench member)
+from_desk At desk {bench} {member} b m at = subst (λ (y : Member). At (standing_on bench y)) m (subst (λ (x : Bench). At (standing_on x desk.place.member)) b at)
+
+pub rests_at : {h : BenchHome} {desk : BenchDesk} {f : Profile} {k : ℕ} {worker : Worker} {later : Later} {p : Progress} (now : BenchDesk) {member : Member} → worker.member ≡ Some member → now.place.bench ≡ desk.place.bench → now.place.member ≡ member → IsDeskAt h desk p
+    → WorkerSits h.region h.row.actors f k worker later p → RestsAt f k (standing_at now) (cached worker.cache) worker.out later p
+rests_at {desk = desk} {f} {k} {worker} {later} {p} now is b m at w =
+    at_desk (λ σ. RestsAt f k σ (cached worker.cache) worker.out later p) now b (m ∙ same_Some _ _ (sym is ∙ w.present)) (rests_there at w)
+
+pub home_moved : (desk now : BenchDesk) → now.region.now ≡ desk.region.now → now.place.bench ≡ desk.place.bench → home_at now ≡ home_at desk
+home_moved desk now region bench = ap (λ (r : SharedRegion). home_of r (row_on now.place.bench)) region ∙ ap (λ (b : Bench). home_of desk.region.now (row_on b)) bench
+
+-- the one that made way for it may take its place again
+pub may_again : {h : BenchHome} {desk : BenchDesk} {p : Progress} (mid : BenchDesk) (q : Progress) (risen : Member) → risen ≡ desk.place.member → IsDeskAt h desk p → home_at mid ≡ h → StandsOver (row_on mid.place.bench) q.list → part desk.place.member.actor q.list ≡ part desk.place.member.actor p.list
+    → MaySitOn mid.region.now mid.place.bench risen
+may_again {h} {desk} {p} mid q risen is at home over same =
+    let member = desk.place.member in
+    let a = member.actor in
+    let there = desk.place.sits.among_them in
+    let its : among (row_on mid.place.bench).actors a ≡ true = at_home mid home a ∙ (sym (at_home desk at.home a) ∙ there) in
+    let made : made_in (row_on desk.place.bench) a ≡ made_in (row_on mid.place.bench) a = sym (tells_of at a there) ∙ (sym same ∙ row_tells (row_on mid.place.bench) q.list a over its) in
+    subst (λ (m : Member). MaySitOn mid.region.now mid.place.bench m) (sym is) record {
+      of = mid.of;
+      profile = desk.profiled ∙ (ap (λ (g : BenchHome). g.region.profile) at.home ∙ sym (ap (λ (g : BenchHome). g.region.profile) home));
+      one = mid.place.one;
+      sits = record { among_them = its; noted = subst (λ (v : View). AreNotesOf a v member.notes) made desk.place.sits.noted };
+    }
+
+-- a worker that sat at the desk sits on the bench beside it
+sits_beside : {h : BenchHome} (mid : BenchDesk) {f : Profile} {k : ℕ} {worker : Worker} {later : Later} {q : Progress} → home_at mid ≡ h → worker.member ≡ Some mid.place.member → RestsAt f k (standing_at mid) (cached worker.cache) worker.out later q → WorkerSits h.region h.row.actors f k worker later q
+sits_beside {h} mid {f} {k} {worker} {later} {q} home is at = record {
+  member = mid.place.member;
+  present = is;
+  rests = rests_as refl (λ stood. record {
+    profile = mid.profiled ∙ ap (λ (g : BenchHome). g.region.profile) home;
+    among_them = sym (at_home mid home mid.place.member.actor) ∙ mid.place.sits.among_them;
+    noted = subst (λ (v : View). AreNotesOf mid.place.member.actor v mid.place.member.notes) stood.0 mid.place.sits.noted;
+  }) at;
+}
+
+-- the lent worker took its place there (`sat`), was stopped (`mid`), and gave the place back (`left`)
+pub was_stopped : {h : BenchHome} {f : Profile} {k n : ℕ} {bench bench' : Bench} {old new : Worker} {out out' : Records} {later : Later} {p : Progress} (sat mid : BenchDesk) → sat.place.bench ≡ bench → home_at mid ≡ h → bench' ≡ mid.place.bench
+    → new.member ≡ Some mid.place.member → new.requests ≡ old.requests → new.keeper ≡ old.keeper
+    → ((stopped : Bool) × ThreadActs f k (StopsIdle k n ∷ []) [] (told_if stopped k) (here (standing_at sat) (cached old.cache) old.out) (here (standing_at mid) (cached new.cache) new.out) later p × Pushed 0 (told_if stopped k) out out')
+    → StopsLent h f k n bench bench' old new out out' later p
+was_stopped {h} {f} {k} {n} {bench} {bench'} {old} {new} {out} {out'} {later} {p} sat mid b home b2 present requests keeper did =
+    let at_mid : StopsLent h f k n sat.place.bench mid.place.bench old new out out' later p = record {
+      stopped = did.0;
+      before = sat.place.member;
+      after = mid.place.member;
+      does = did.1;
+      sits = sits_beside mid home present did.1.stands;
+      over = did.1.stands.sits.stood.1;
+      requests = requests;
+      keeper = keeper;
+      told = did.2;
+    } in
+    subst (λ (x : Bench). StopsLent h f k n bench x old new out out' later p) (sym b2) (subst (λ (x : Bench). StopsLent h f k n x mid.place.bench old new out out' later p) b at_mid)
+
+-- ---- a turn at the desk
+-- the worker at this place acted, and the others stand as they did
+abbrev pub acts_in_turn : {f : Profile} {number : ℕ → ℕ} {Stands : ℕ → Worker → Progress → Type 0} {acts : List Act} {act : Act} {told : List Record} {old now : List Worker} {later : Later} {p : Progress} {σ τ : Standing} → Stays number Stands → AreDistinct number (length old) → EachOf 0 told
+    → (i : ℕ) (d w : Worker) → i < length old → length now ≡ length old → (so : TookTurns f number Stands acts old now p)
+    → (x : ThreadActs f (number i) (act ∷ []) [] told (here σ (cached (get_or now i d).cache) (get_or now i d).out) (here τ (cached w.cache) w.out) later so.came.reached) → w.requests ≡ (get_or now i d).requests → w.keeper ≡ (get_or now i d).keeper → Stands i w x.reached
+    → TookTurns f number Stands (acts ++ (act ∷ [])) old (set now i w) p
+acts_in_turn {f} {number} {Stands} {act = act} {told} {old} {now} stays apart theirs i d w lt many so x requests keeper stands =
+    let k = number i in
+    let one : Came f (act ∷ []) so.came.reached = record { reached = x.reached; reaches = x.reaches; said = x.own ++ told; records_are = x.records_are } in
+    let leaves = leaves_rest x in
+    let here : i < length now = omega (arith, lt, many) in
+    let others : (j : ℕ) → 0 ≢ j → k ≢ j → records_by j (x.own ++ told) ≡ [] = λ j some ne. by_other j k x.own told x.each theirs ne some in
+    let mine : Told k (x.own ++ told) (get_or now i d) w = record {
+      out = record { added = x.pushed ∙ ap (λ (rs : List Record). records_in (get_or now i d).out ++ rs) (sym (by_own k x.own told x.each theirs (apart.threads i lt))); room = x.room };
+      requests = requests;
+      keeper = keeper;
+    } in
+    record {
+      came = came_both so.came one;
+      stand = λ j e less. set_each (λ (m : ℕ) (y : Worker). Stands m y x.reached) now i w e j here stands
+          (λ ne. stays j (get_or now j e) so.came.reached x.reached (leaves.parts (number j) (apart.apart j i less lt ne)) (leaves.caches (number j) (apart.apart j i less lt ne)) leaves.names (so.stand j e less));
+      told = λ j e less. set_each (λ (m : ℕ) (y : Worker). Told (number m) (so.came.said ++ (x.own ++ told)) (get_or old m e) y) now i w e j here
+          (told_both (so.told i e lt) (subst (λ (y : Worker). Told k (x.own ++ told) y w) (get_or_default now i d e here) mine))
+          (λ ne. told_both (so.told j e less) (told_none (others (number j) (apart.threads j less) (apart.apart i j lt less (λ is. ne (sym is))))));
+      leaves = record {
+        parts = λ j other. leaves.parts j (λ (same : j ≡ k). other i lt (sym same)) ∙ so.leaves.parts j other;
+        silent = λ j some other. records_both j so.came.said (x.own ++ told) ∙ ap (λ (rs : List Record). rs ++ records_by j (x.own ++ told)) (so.leaves.silent j some other) ∙ others j some (other i lt);
+        names = leaves.names ∙ so.leaves.names;
+        books = x.books ∙ so.leaves.books;
+        epoch = leaves.epoch ∙ so.leaves.epoch;
+      };
+    }
+
+-- ---- all sat down
+module _ {region : SharedRegion} {s : Shift} {old new : List Worker} {p : Progress} {rows : List Row} (bench : Bench) (looked : HasLooked rows (rows_on bench)) (all : AreSeated region s old new rows p) where
+  row_is : row_on bench ≡ record { actors = all_actors rows; made = []; base = looked.base }
+  row_is = ap first_row looked.is
+
+  -- the bench saw of each what the replay told
+  saw : (k : ℕ) → among (all_actors rows) k ≡ true → part k (steps_of looked.base) ≡ part k p.list
+  saw k its = rows_part rows (steps_of looked.base) k (part k p.list) looked.rows (all.tell k its)
+
+  pub made_seen : (k : ℕ) → among (all_actors rows) k ≡ true → made_in (row_on bench) k ≡ part k p.list
+  made_seen k its = ap (λ (r : Row). made_in r k) row_is ∙ saw k its
+
+  pub is_among : (k : ℕ) → among (row_on bench).actors k ≡ among (all_actors rows) k
+  is_among k = ap (λ (r : Row). among r.actors k) row_is
+
+  -- so the scavenger may sit down at the desk
+  pub first_sits : {pass : SharedPass} {member : Member} → IsPassOf region pass → IsMemberOf pass member → IsBenchOf region bench → pass.place.actor ≡ 0 → view_of pass ≡ part 0 p.list → MaySitOn region bench member
+  first_sits {pass} {member} of is at scavenger view =
+      let own : among (all_actors rows) member.actor ≡ true = subst (λ (j : ℕ). among (all_actors rows) j ≡ true) (sym (is.actor ∙ scavenger)) all.crew.own in
+      let made : view_of pass ≡ made_in (row_on bench) member.actor = view ∙ ap (λ (j : ℕ). part j p.list) (sym (is.actor ∙ scavenger)) ∙ sym (made_seen member.actor own) in
+      record {
+        of = at;
+        profile = is.profile ∙ of.1;
+        one = looked.is ∙ ap (λ (r : Row). r ∷ []) (sym row_is);
+        sits = record {
+          among_them = is_among member.actor ∙ own;
+          noted = noted_by is made;
+        };
+      }
+
+-- the scavenger sits there alone at first
+pub first_crew : {s : Shift} {rows rows0 : List Row} (pass : SharedPass) → rows ≡ rows_of (part_of pass ∷ []) ++ rows0 → rows0 ≡ empty_row ∷ [] → pass.place.actor ≡ 0 → AreOfCrew s 0 0 (all_actors rows)
+first_crew {s} {rows} {rows0} pass is none scavenger =
+    let actors : all_actors rows ≡ pass.place.actor ∷ [] = ap (λ (rs : List Row). all_actors rs) is ∙ ap (λ (rs : List Row). all_actors (rows_of (part_of pass ∷ []) ++ rs)) none in
+    subst (λ (ks : List ℕ). AreOfCrew s 0 0 ks) (sym actors) record {
+      own = among_here pass.place.actor 0 [] scavenger;
+      lent = λ i from to. absurd (omega (arith, to));
+      only = λ k its. inl (⊎_elim (λ same. sym same ∙ scavenger) (λ (more : among [] k ≡ true). absurd (true≢false (sym more))) (among_cases pass.place.actor k [] its));
+    }
+
+pub first_tell : {rows rows0 : List Row} (l : Whole) (pass : SharedPass) → rows ≡ rows_of (part_of pass ∷ []) ++ rows0 → rows0 ≡ empty_row ∷ [] → pass.place.actor ≡ 0 → view_of pass ≡ part 0 l → TellAs rows l
+first_tell {rows} {rows0} l pass is none scavenger view =
+    tell_more pass rows0 rows l is (view ∙ ap (λ (k : ℕ). part k l) (sym scavenger)) (λ k its. absurd (true≢false (sym its ∙ ap (λ (rs : List Row). among (all_actors rs) k) none)))
+
+-- .. with the lent threads beside it
+pub all_sat : {region : SharedRegion} {s : Shift} {old new : List Worker} {p : Progress} {rows : List Row} {pass : SharedPass} (desk : BenchDesk) → HasLooked rows (rows_on desk.place.bench) → AreSeated region s old new rows p → IsMemberOf pass desk.place.member → pass.place.actor ≡ 0
+    → CrewSat region s pass desk old new p
+all_sat {region} {s} {old} {new} {p} {rows} {pass} desk looked all is scavenger =
+    let bench = desk.place.bench in
+    let member = desk.place.member in
+    let row = row_on bench in
+    let first = row_is bench looked all in
+    let seen : (k : ℕ) → among row.actors k ≡ true → part k p.list ≡ part k (steps_of row.base) =
+    λ k its. sym (saw bench looked all k (sym (is_among bench looked all k) ∙ its)) ∙ ap (λ (r : Row). part k (steps_of r.base)) (sym first)
+    in
+    let actor = is.actor ∙ scavenger in
+    record {
+      seat = member_seat is;
+      stands = (
+        made_seen bench looked all member.actor (subst (λ (j : ℕ). among (all_actors rows) j ≡ true) (sym actor) all.crew.own) ∙ ap (λ (j : ℕ). part j p.list) actor,
+        stands_first row p.list (ap (λ (r : Row). r.made) first) seen,
+      );
+      lent = record { many = all.lent.many; each = λ i d lt. sits_wider (λ k its. is_among bench looked all k ∙ its) (all.lent.each i d lt) };
+      crew = subst (λ (ks : List ℕ). AreOfCrew s 0 (length s.idle) ks) (sym (ap (λ (r : Row). r.actors) first)) all.crew;
+      tell = seen;
+      but = all.but;
+    }
+
+-- the order of the same actors
+order_as : {one other : ℕ → Bool} {told told' seen : Whole} → ((k : ℕ) → one k ≡ other k) → KeepsOrder one told told' seen → KeepsOrder other told told' seen
+order_as {one} {other} same o = record {
+  made = o.made;
+  told_is = o.told_is;
+  since = o.since;
+  before = o.before;
+  seen_is = o.seen_is;
+  parts = λ k its. o.parts k (same k ∙ its);
+  order = sym (steps_by_same one other o.since same) ∙ (o.order ∙ steps_by_same one other o.made same);
+}
+
+-- ---- leaving
+-- the first ones left, up to this place
+pub record LeftSoFar (region : SharedRegion) (s : Shift) (all : List ℕ) (base : List Entry) (i : ℕ) (old now : List Worker) (rows : List Row) (p : Progress) : Type 0 where
+  pub each : (j : ℕ) (d : Worker) → j < i → j < length old → IsLent region s j (get_or now j d) p × IsButPlace (get_or old j d) (get_or now j d)
+  pub left : (j : ℕ) (d : Worker) → i ≤ j → get_or now j d ≡ get_or old j d
+  pub actors : List ℕ
+  pub fresh : rows ≡ record { actors = actors; made = []; base = base } ∷ []
+  pub crew : AreOfCrew s i (length s.idle) actors
+  pub within : (k : ℕ) → among actors k ≡ true → among all k ≡ true
+
+pub leaves_begin : {region : SharedRegion} {s : Shift} {all : List ℕ} {base : List Entry} (old : List Worker) {rows : List Row} {p : Progress} → MayLeaveAll region s old all base rows p → LeftSoFar region s all base 0 old old rows p
+leaves_begin {all = all} old may = record { each = λ j d less within. absurd (omega (arith, less)); left = λ j d from. refl; actors = all; fresh = may.fresh; crew = may.crew; within = λ k its. its }
+
+module _ {region : SharedRegion} {s : Shift} {all : List ℕ} {base : List Entry} {i : ℕ} {old now : List Worker} {rows0 rows : List Row} {p : Progress} (d : Worker) (lt : i < length old) (may : MayLeaveAll region s old all base rows0 p)
+    (so : LeftSoFar region s all base i old now rows p) where
+  -- the next one sits there still
+  next_sits : SitsLent region all s i (get_or now i d) p
+  next_sits = subst (λ (w : Worker). SitsLent region all s i w p) (sym (so.left i d (omega arith))) (may.lent.each i d lt)
+
+  is_there : (member : Member) → member.actor ≡ number_in s i → among so.actors member.actor ≡ true
+  is_there member actor = subst (λ (j : ℕ). among so.actors j ≡ true) (sym actor) (so.crew.lent i (omega arith) (let many = may.lent.many in omega (arith, lt, many)))
+
+  -- and the row says of it what the replay told
+  row_says : (member : Member) → member.actor ≡ number_in s i → made_in (first_row rows) member.actor ≡ part (number_in s i) p.list
+  row_says member actor = ap (λ (rs : List Row). made_in (first_row rs) member.actor) so.fresh ∙ may.tell member.actor (so.within member.actor (is_there member actor)) ∙ ap (λ (j : ℕ). part j p.list) actor
+
+  pub leaves_next : MayLeave region rows (get_or now i d)
+  leaves_next =
+      let member = next_sits.member in
+      let stood = next_sits.rests.sits.stood in
+      let actor = next_sits.rests.sits.actor in
+      record {
+        member = member;
+        present = next_sits.present;
+        fresh = record { actors = so.actors; base = base; is = so.fresh };
+        profile = stood.profile;
+        sits = record {
+          among_them = ap (λ (rs : List Row). among (first_row rs).actors member.actor) so.fresh ∙ is_there member actor;
+          noted = subst (λ (v : View). AreNotesOf member.actor v member.notes) (sym (row_says member actor)) stood.noted;
+        };
+      }
+
+  -- it has its pass, and rests as it did
+  has_again : {w : Worker} {rows' : List Row} → HasLeave region (get_or now i d) w rows rows' → IsLent region s i w p
+  has_again {w} left =
+      let member = left.may.member in
+      let same : next_sits.member ≡ member = same_Some _ _ (sym next_sits.present ∙ left.may.present) in
+      let rests = subst (λ (m : Member). RestsAt s.profile (number_in s i) (standing_among region all m) (cached (get_or now i d).cache) (get_or now i d).out (s.lends i) p) same next_sits.rests in
+      record { has = left.has; rests = same_worker left.but (rests_as left.is.seat (λ stood. left.is.view ∙ row_says member rests.sits.actor) rests) }
+
+  pub leaves_go_on : (w : Worker) {rows' : List Row} → length now ≡ length old → HasLeave region (get_or now i d) w rows rows' → LeftSoFar region s all base (i + 1) old (set now i w) rows' p
+  leaves_go_on w {rows'} many left =
+      let a = left.may.member.actor in
+      let test = isnt (only_this a) in
+      let has = has_again left in
+      let mine : a ≡ number_in s i = ap (λ (m : Member). m.actor) (same_Some _ _ (sym left.may.present ∙ next_sits.present)) ∙ next_sits.rests.sits.actor in
+      let size = may.lent.many in
+      record {
+        each = λ j e less within. set_each (λ (m : ℕ) (x : Worker). IsLent region s m x p × IsButPlace (get_or old m e) x) now i w e j (omega (arith, lt, many))
+            (has, subst (λ (x : Worker). IsButPlace x w) (so.left i d (omega arith) ∙ get_or_default old i d e lt) left.but)
+            (λ ne. so.each j e (omega (arith, less, ne)) within);
+        left = λ j e from. let ne : j ≢ i = λ (is : j ≡ i). omega (arith, is, from) in get_or-set_other now i j w e ne ∙ so.left j e (omega (arith, from));
+        actors = only test so.actors;
+        fresh = left.rows_are ∙ ap (λ (rs : List Row). rows_of_only test rs) so.fresh;
+        crew = record {
+          own = among_picked test so.actors 0 so.crew.own (isnt_other a 0 (λ same. s.distinct.threads i (omega (arith, lt, size)) (same ∙ mine)));
+          lent = λ j from to. among_picked test so.actors (number_in s j) (so.crew.lent j (omega (arith, from)) to)
+              (isnt_other a (number_in s j) (λ same. s.distinct.apart j i to (omega (arith, lt, size)) (λ is. omega (arith, is, from)) (same ∙ mine)));
+          only = λ k its.
+              let both = among_only test so.actors k its in
+              ⊎_elim inl (λ (t : (j : ℕ) × (i ≤ j) × (j < length s.idle) × (number_in s j ≡ k)).
+              let ne : t.0 ≢ i = λ (is : t.0 ≡ i). isnt_itself a k both.1 (sym t.3 ∙ (ap (number_in s) is ∙ sym mine)) in
+              let from = t.1 in
+              inr (t.0, omega (arith, from, ne), t.2, t.3)) (so.crew.only k both.0);
+        };
+        within = λ k its. so.within k (among_only test so.actors k its).0;
+      }
+
+-- whichever member it is called
+pub member_leaves : {region : SharedRegion} {rows : List Row} {worker : Worker} (member : Member) → worker.member ≡ Some member → MayLeave region rows worker → (member.profile ≡ region.profile) × SitsInRow (first_row rows) member
+member_leaves {region} {rows} member is may = subst (λ (m : Member). (m.profile ≡ region.profile) × SitsInRow (first_row rows) m) (same_Some _ _ (sym may.present ∙ is)) (may.profile, may.sits)
+
+pub leaves_end : {region : SharedRegion} {s : Shift} {all : List ℕ} {base : List Entry} {i : ℕ} {old now : List Worker} {rows0 rows : List Row} {p : Progress} → length old ≤ i → length now ≡ length old → MayLeaveAll region s old all base rows0 p → LeftSoFar region s all base i old now rows p
+    → HaveLeave region s old now base rows p
+leaves_end le many may so =
+    let size = may.lent.many in
+    record {
+      lent = record { many = many ∙ size; each = λ j d lt. (so.each j d (omega (arith, lt, le, many)) (omega (arith, lt, many))).0 };
+      but = λ j d lt. (so.each j d (omega (arith, lt, le)) lt).1;
+      actors = so.actors;
+      fresh = so.fresh;
+      own = so.crew.own;
+      only = λ k its. ⊎_elim (λ is. is) (λ t. absurd (let from = t.1 in let to = t.2 in omega (arith, from, to, le, size))) (so.crew.only k its);
+    }
+
+-- ---- all rise
+module _ {region : SharedRegion} {s : Shift} {lent : List Worker} {p : Progress} (desk : BenchDesk) (may : CrewMayRise region s desk lent p) where
+  abbrev row : Row
+  row = row_on desk.place.bench
+
+  -- the last look saw a list that the row is one of
+  row_seen : (bench : Bench) (looked : HasLooked (rows_on desk.place.bench) (rows_on bench)) → IsRowOf row (steps_of looked.base)
+  row_seen bench looked = (subst (λ (rs : List Row). AreRowsOf rs (steps_of looked.base)) desk.place.one looked.rows).0
+
+  -- all may leave then
+  pub all_may_leave : (bench : Bench) (looked : HasLooked (rows_on desk.place.bench) (rows_on bench)) → MayLeaveAll region s lent row.actors looked.base (rows_on bench) p
+  all_may_leave bench looked =
+      let same : all_actors (rows_on desk.place.bench) ≡ row.actors = ap (λ (rs : List Row). all_actors rs) desk.place.one ∙ append-nil row.actors in
+      record {
+        lent = may.lent;
+        crew = may.crew;
+        fresh = looked.is ∙ ap (λ (ks : List ℕ). record { actors = ks; made = []; base = looked.base } ∷ []) same;
+        tell = λ k its. row_part row (steps_of looked.base) k (row_seen bench looked) its ∙ sym (row_tells row p.list k may.over its);
+      }
+
+  -- and at last the scavenger
+  module _ (bench left : Bench) {now : List Worker} (looked : HasLooked (rows_on desk.place.bench) (rows_on bench)) (have : HaveLeave region s lent now looked.base (rows_on left) p) where
+    own_made : made_in (first_row (rows_on left)) desk.place.member.actor ≡ made_in row desk.place.member.actor
+    own_made = ap (λ (rs : List Row). made_in (first_row rs) desk.place.member.actor) have.fresh ∙ row_part row (steps_of looked.base) desk.place.member.actor (row_seen bench looked) desk.place.sits.among_them
+
+    pub own_sits : SitsInRow (first_row (rows_on left)) desk.place.member
+    own_sits = record {
+      among_them = ap (λ (rs : List Row). among (first_row rs).actors desk.place.member.actor) have.fresh ∙ subst (λ (j : ℕ). among have.actors j ≡ true) (sym may.own) have.own;
+      noted = subst (λ (v : View). AreNotesOf desk.place.member.actor v desk.place.member.notes) (sym own_made) desk.place.sits.noted;
+    }
+
+    pub fresh_row : IsFreshRow (rows_on left)
+    fresh_row = record { actors = have.actors; base = looked.base; is = have.fresh }
+
+    pub all_rose : {end : Bench} {pass : SharedPass} → IsBenchOf region end → IsPassOf region pass → seat_of pass ≡ seat_of_member desk.place.member → view_of pass ≡ made_in (first_row (rows_on left)) desk.place.member.actor
+        → rows_on end ≡ rows_of_only (isnt (only_this desk.place.member.actor)) (rows_on left) → CrewRose region s desk pass end lent now p
+    all_rose {end} {pass} of pass_of seat view rows =
+        let test = isnt (only_this desk.place.member.actor) in
+        let none : only test have.actors ≡ [] = nobody_among (only test have.actors) (λ k its. let both = among_only test have.actors k its in isnt_itself desk.place.member.actor k both.1 (have.only k both.0 ∙ sym may.own)) in
+        record {
+          is = record { of = pass_of; seat = seat; view = view ∙ own_made };
+          lent = have.lent;
+          but = have.but;
+          of = of;
+          base = looked.base;
+          rows = rows ∙ (ap (λ (rs : List Row). rows_of_only test rs) have.fresh ∙ ap (λ (ks : List ℕ). record { actors = ks; made = []; base = looked.base } ∷ []) none);
+          saw = row_seen bench looked;
+        }
+
+-- ---- from pass to pass
+-- the crew on its bench
+pub crew_sits : {region : SharedRegion} {s : Shift} {acts : List Act} {pass : SharedPass} {old new : List Worker} {places : ℕ} {out : Records} {p : Progress} (desk : BenchDesk) → desk.region.now ≡ region → CrewAt region s acts (crew (standing_of_pass pass) old places out) p
+    → CrewSat region s pass desk old new p → CrewSits (home_at desk) s acts (crew (standing_at desk) new places out) p
+crew_sits {s = s} {new = new} {p = p} desk is at sat = record {
+  stands = record {
+    stands = record { sits = sits_as sat.seat (λ stood. sat.stands) at.stands.stands.sits; spare = at.stands.stands.spare };
+    has_places = at.stands.has_places;
+  };
+  lent = subst (λ (r : SharedRegion). AreBeside (SitsLent r (row_on desk.place.bench).actors s) s new p) (sym is) sat.lent;
+}
+
+told_between : {k : ℕ} {said : List Record} {a b c d : Worker} → IsButPlace a b → Told k said b c → IsButPlace c d → Told k said a d
+told_between {k} {said} one told two = record {
+  out = record {
+    added = ap (λ (rs : Records). records_in rs) two.out ∙ (told.out.added ∙ ap (λ (rs : Records). records_in rs ++ records_by k said) one.out);
+    room = ap (λ (rs : Records). room_of rs) two.out ∙ (told.out.room ∙ ap (λ (rs : Records). room_of rs) one.out);
+  };
+  requests = two.requests ∙ (told.requests ∙ one.requests);
+  keeper = two.keeper ∙ (told.keeper ∙ one.keeper);
+}
+
+module _ {region : SharedRegion} {s : Shift} {acts : List Act} {pass : SharedPass} {lent sat1 sat2 : List Worker} {places places' : ℕ} {out out' : Records} {p : Progress} (desk now : BenchDesk) (is : desk.region.now ≡ region) (home : home_at now ≡ home_at desk)
+    (sat : CrewSat region s pass desk lent sat1 p) (did : CrewActs (home_at desk) s acts [] (crew (standing_at desk) sat1 places out) (crew (standing_at now) sat2 places' out') p) where
+  actors_same : (row_on now.place.bench).actors ≡ (row_on desk.place.bench).actors
+  actors_same = ap (λ (h : BenchHome). h.row.actors) home
+
+  pub crew_may_rise : CrewMayRise region s now sat2 did.came.reached
+  crew_may_rise =
+      let sits = did.stands.stands.stands.sits in
+      record {
+        own = sits.actor;
+        over = sits.stood.1;
+        lent = subst (λ (ks : List ℕ). AreBeside (SitsLent region ks s) s sat2 did.came.reached) (sym actors_same)
+            (subst (λ (r : SharedRegion). AreBeside (SitsLent r (row_on desk.place.bench).actors s) s sat2 did.came.reached) is did.stands.lent);
+        crew = subst (λ (ks : List ℕ). AreOfCrew s 0 (length s.idle) ks) (sym actors_same) sat.crew;
+      }
+
+  pub crew_left : {after : SharedPass} {bench : Bench} {new : List Worker} → length sat1 ≡ length lent → length sat2 ≡ length sat1 → CrewRose region s now after bench sat2 new did.came.reached
+      → CrewHasLeft region s acts after bench (crew (standing_of_pass pass) lent places out) (crew (standing_of_pass after) new places' out') p
+  crew_left {after} {bench} {new} many more rose =
+      let row = row_on now.place.bench in
+      let at = did.stands.stands in
+      let grown = goes_on s.profile acts p did.came.reached did.came.reaches in
+      let same : (k : ℕ) → among row.actors k ≡ true → part k p.list ≡ part k (steps_of row.base) =
+      λ k its. sat.tell k (sym (ap (λ (h : BenchHome). among h.row.actors k) home) ∙ its) ∙ ap (λ (h : BenchHome). part k (steps_of h.row.base)) (sym home)
+      in
+      let order = keeps_order row rose.base grown.0 p.list did.came.reached.list rose.saw grown.1 at.stands.sits.stood.1 same in
+      record {
+        of = rose.is.of;
+        did = record {
+          came = did.came;
+          stands = record {
+            stands = record {
+              stands = record { sits = sits_as rose.is.seat (λ stood. rose.is.view ∙ stood.0) at.stands.sits; spare = at.stands.spare };
+              has_places = at.has_places;
+            };
+            lent = rose.lent;
+          };
+          told = did.told;
+          lent = λ i d lt. told_between (sat.but i d lt) (did.lent i d (omega (arith, lt, many))) (rose.but i d (omega (arith, lt, many, more)));
+          books = did.books;
+          others = did.others;
+        };
+        left = record {
+          bench = bench;
+          present = refl;
+          of = rose.of;
+          base = rose.base;
+          rows = rose.rows;
+          order = order_as (λ k. crew_among crew_may_rise.crew k) order;
+        };
+      }

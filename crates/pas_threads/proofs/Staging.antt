@@ -1,0 +1,199 @@
+-- How the stages of a replay follow each other, and what a stage shows in the list of all steps.
+use Rattle.std.proofs.Common.{◌≡◌, ℕ, suc, ◌+◌, ◌<◌, ◌≤◌, ◌==◌, Bool, true, false, if◌then◌else◌, inl, inr, ◌⊎◌, List, [], ◌∷◌, ◌++◌, length, map, refl, ap, sym, ◌∙◌}
+use Rattle.std.proofs.Common.{subst, arith, append_assoc, length-append, eq-eqb, eqb-true, true≢false}
+use Rattle.std.proofs.lemmas.{Bool.cases_lt, Bool.cases_Bool, List.map-append}
+use Rattle.pas_steps.specs.{Lists.Triple, Lists.Whole, Lists.part, Views.View, Desks.triples}
+use Rattle.pas_steps.specs.declared.step.Made.{Made}
+use Rattle.pas_core.specs.Orders.{steps_by}
+use Rattle.pas_core.proofs.Choosing.{step_taken, step_passed, steps_by_both, part_of_chosen, Within, steps_by_one, no_steps_by, as_many_steps}
+use Rattle.pas_trace.specs.Acts.{Act}
+use Rattle.pas_shared.specs.Ruled.{IsEarlier}
+use Rattle.pas_answers.specs.{Answers.Progress, Reaching.Reaches}
+use Rattle.pas_answers.specs.Stages.{Owners, itself, in_hands, AreSorted, Stage, stage, one_by_one, StageDone, GoByStages}
+use Rattle.pas_answers.proofs.{Parts.part_both, Reached.goes_on, Staged.both_by_stages}
+use Rattle.pas_threads.specs.Left.{KeepsOrder}
+use Rattle.pas_threads.specs.Sessions.{Session, IsOfActors, StandSo, WentBy}
+use Rattle.pas_threads.proofs.InPhases.{earlier_both, none_first}
+
+-- ---- parts of lists one behind the other
+-- fronts are the same where lists are, and what is behind them is as long
+cut_views : (a b c d : View) → a ++ b ≡ c ++ d → length b ≡ length d → a ≡ c
+cut_views [] b [] d e many = refl
+cut_views [] b (m ∷ c) d e many = absurd (let all = ap (λ (v : View). length v) e in let more = length-append (m ∷ c) d in omega (arith, all, many, more))
+cut_views (m ∷ a) b [] d e many = absurd (let all = ap (λ (v : View). length v) e in let more = length-append (m ∷ a) b in omega (arith, all, many, more))
+cut_views (m ∷ a) b (n ∷ c) d e many = λ i. (first (e i) m ∷ cut_views a b c d (λ j. rest (e j)) many i)
+  where
+    first : View → Made → Made
+    first [] d = d
+    first (x ∷ xs) d = x
+
+    rest : View → View
+    rest [] = []
+    rest (x ∷ xs) = xs
+
+cut_lists : (a b c d : Whole) → a ++ b ≡ c ++ d → length b ≡ length d → a ≡ c
+cut_lists [] b [] d e many = refl
+cut_lists [] b (t ∷ c) d e many = absurd (let all = ap (λ (l : Whole). length l) e in let more = length-append (t ∷ c) d in omega (arith, all, many, more))
+cut_lists (t ∷ a) b [] d e many = absurd (let all = ap (λ (l : Whole). length l) e in let more = length-append (t ∷ a) b in omega (arith, all, many, more))
+cut_lists (t ∷ a) b (s ∷ c) d e many = λ i. (first (e i) t ∷ cut_lists a b c d (λ j. rest (e j)) many i)
+  where
+    first : Whole → Triple → Triple
+    first [] d = d
+    first (x ∷ xs) d = x
+
+    rest : Whole → Whole
+    rest [] = []
+    rest (x ∷ xs) = xs
+
+-- so the parts of fronts are, where those of the lists and of what is behind are
+front_same : (k : ℕ) (a b c d : Whole) → part k (a ++ b) ≡ part k (c ++ d) → part k b ≡ part k d → part k a ≡ part k c
+front_same k a b c d all behind = cut_views (part k a) (part k b) (part k c) (part k d) (sym (part_both k a b) ∙ all ∙ part_both k c d) (ap (λ (v : View). length v) behind)
+
+front_none : (k : ℕ) (a b : Whole) → part k (a ++ b) ≡ part k b → part k a ≡ []
+front_none k a b all = front_same k a b [] b all refl
+
+-- a list in which nobody has a part is empty
+has_step : (t : Triple) (l : Whole) → part t.actor (t ∷ l) ≡ [] → ⊥
+has_step t l none =
+    let one = sym (ap (λ (b : Bool). if b then t.made ∷ part t.actor l else part t.actor l) (eq-eqb t.actor t.actor refl)) ∙ none in
+    let size = ap (λ (v : View). length v) one in
+    omega (arith, size)
+
+nobody_nothing : (l : Whole) → ((k : ℕ) → part k l ≡ []) → l ≡ []
+nobody_nothing [] none = refl
+nobody_nothing (t ∷ l) none = absurd (has_step t l (none t.actor))
+
+-- ---- all actors
+-- what stands of the actors stands of everybody, where nobody else has a part
+pub stand_all : (s : Session) (l told : Whole) → StandSo s l told → IsOfActors s told → IsOfActors s l → (k : ℕ) → part k l ≡ part k told
+stand_all s l told stand nobody of k = elim (cases_lt (s.threads + s.keepers) k) [
+  | inl past ↦ of k past ∙ sym (nobody k past)
+  | inr within ↦ stand k within
+]
+
+-- who has no part in a list has none in its first steps
+pub of_first : (s : Session) {before after : Whole} → IsEarlier before after → IsOfActors s after → IsOfActors s before
+of_first s {before} {after} earlier of k past = none_first k earlier.0 before (ap (λ (l : Whole). part k l) (sym earlier.1) ∙ of k past)
+
+-- a list that goes on from another one, and has the same part of everybody, is that one
+pub nothing_since : {before after : Whole} → IsEarlier before after → ((k : ℕ) → part k after ≡ part k before) → after ≡ before
+nothing_since {before} {after} earlier same =
+    let none = nobody_nothing earlier.0 (λ k. front_none k earlier.0 before (ap (λ (l : Whole). part k l) (sym earlier.1) ∙ same k)) in
+    earlier.1 ∙ ap (λ (l : Whole). l ++ before) none
+
+-- ---- stages one after the other
+pub went_none : (s : Session) {p : Progress} {l : Whole} → StandSo s l p.list → IsOfActors s p.list → WentBy s [] p p l l
+went_none s stand nobody = record { earlier = ([], refl); stand = stand; nobody = nobody; by_stages = λ of. (refl, refl) }
+
+pub went_both : {s : Session} (xs ys : List Stage) {p q r : Progress} {a b c : Whole} → WentBy s xs p q a b → WentBy s ys q r b c → WentBy s (xs ++ ys) p r a c
+went_both {s} xs ys {p} {q} {r} {a} {b} {c} one two = record {
+  earlier = earlier_both one.earlier two.earlier;
+  stand = two.stand;
+  nobody = two.nobody;
+  by_stages = λ of. both_by_stages s.profile xs ys p q r a b c (one.by_stages (of_first s two.earlier of)) (two.by_stages of);
+}
+
+-- a look at which nothing new was seen
+pub went_still : {s : Session} (xs : List Stage) {p q : Progress} {a b c : Whole} → WentBy s xs p q a b → IsEarlier b c → StandSo s c q.list → WentBy s xs p q a c
+went_still {s} xs {p} {q} {a} {b} {c} went earlier stand = record {
+  earlier = earlier_both went.earlier earlier;
+  stand = stand;
+  nobody = went.nobody;
+  by_stages = λ of.
+      let before = of_first s earlier of in
+      let same : c ≡ b = nothing_since earlier (λ k. stand_all s c q.list stand went.nobody of k ∙ sym (stand_all s b q.list went.stand went.nobody before k)) in
+      subst (λ (l : Whole). GoByStages s.profile xs p q a l) (sym same) (went.by_stages before);
+}
+
+-- ---- one stage
+-- each actor is its own worker: its part is all that there is to sort
+sorted_alone : (since made : Whole) → ((k : ℕ) → part k since ≡ part k made) → AreSorted itself since made
+sorted_alone since made same w = steps_by_one (in_hands itself w) w since (λ j. refl) ∙ ap (λ (v : View). triples w v) (same w) ∙ sym (steps_by_one (in_hands itself w) w made (λ j. refl))
+
+pub went_alone : (s : Session) (acts : List Act) {p q : Progress} {before after : Whole} → Reaches s.profile acts p q → IsEarlier before after → IsOfActors s p.list → IsOfActors s q.list → StandSo s before p.list → StandSo s after q.list
+    → WentBy s (stage acts itself ∷ []) p q before after
+went_alone s acts {p} {q} {before} {after} reaches earlier none nobody stood stand = record {
+  earlier = earlier;
+  stand = stand;
+  nobody = nobody;
+  by_stages = λ of.
+      let on = goes_on s.profile acts p q reaches in
+      let sorted = sorted_alone earlier.0 on.0 (λ k. front_same k earlier.0 before on.0 p.list
+      (ap (λ (l : Whole). part k l) (sym earlier.1) ∙ stand_all s after q.list stand nobody of k ∙ ap (λ (l : Whole). part k l) on.1) (stand_all s before p.list stood none (of_first s earlier of) k)) in
+      (record { next = q; reaches = reaches; made = on.0; told = on.1; since = earlier.0; sorted = sorted }, (refl, earlier.1));
+}
+
+-- .. a mark, at which nothing is done
+pub went_mark : (s : Session) (acts : List Act) {p q : Progress} {l : Whole} → Reaches s.profile acts p q → q.list ≡ p.list → IsOfActors s p.list → StandSo s l p.list → WentBy s (stage acts itself ∷ []) p q l l
+went_mark s acts {p} {q} {l} reaches same none stood = went_alone s acts reaches ([], refl) none (subst (IsOfActors s) (sym same) none) stood (subst (StandSo s l) (sym same) stood)
+
+pub one_by_one_both : (xs ys : List Act) → one_by_one (xs ++ ys) ≡ one_by_one xs ++ one_by_one ys
+one_by_one_both xs ys = map-append (λ (act : Act). stage (act ∷ []) itself) xs ys
+
+-- a stage in which a worker has several actors in hand, where each worker's steps are sorted
+pub went_sorted : (s : Session) (acts : List Act) (owner : Owners) {p q : Progress} {before after : Whole} → Reaches s.profile acts p q → (earlier : IsEarlier before after) → IsOfActors s q.list → StandSo s after q.list
+    → ((made : Whole) → q.list ≡ made ++ p.list → IsOfActors s after → AreSorted owner earlier.0 made) → WentBy s (stage acts owner ∷ []) p q before after
+went_sorted s acts owner {p} {q} {before} {after} reaches earlier nobody stand sorted = record {
+  earlier = earlier;
+  stand = stand;
+  nobody = nobody;
+  by_stages = λ of.
+      let on = goes_on s.profile acts p q reaches in
+      (record { next = q; reaches = reaches; made = on.0; told = on.1; since = earlier.0; sorted = sorted on.0 on.1 of }, (refl, earlier.1));
+}
+
+-- ---- the steps of several actors in one worker's hands
+-- two tests choose the same steps where they differ in actors without a part alone
+steps_by_but : (one other : ℕ → Bool) (l : Whole) → ((k : ℕ) → (one k ≡ other k) ⊎ (part k l ≡ [])) → steps_by one l ≡ steps_by other l
+steps_by_but one other [] alike = refl
+steps_by_but one other (t ∷ l) alike =
+    let again = steps_by_but one other l (λ k. elim (alike k) [ inl same ↦ inl same | inr none ↦ inr (none_first k (t ∷ []) l none) ]) in
+    let same : one t.actor ≡ other t.actor = elim (alike t.actor) [ inl same ↦ same | inr none ↦ absurd (has_step t l none) ] in
+    ap (λ (b : Bool). if b then t ∷ steps_by one l else steps_by one l) same ∙ ap (λ (m : Whole). if other t.actor then t ∷ m else m) again
+
+-- what these actors did is sorted: in the list of all it stands in front of `before`, and it is told of in front of `told`
+module _ (chosen : ℕ → Bool) (since before made told : Whole) (behind : (k : ℕ) → part k before ≡ part k told) (all : (k : ℕ) → part k (since ++ before) ≡ part k (made ++ told)) where
+  -- they did nothing
+  pub sorted_still : ((k : ℕ) → chosen k ≡ true → part k (made ++ told) ≡ part k told) → steps_by chosen since ≡ steps_by chosen made
+  sorted_still still =
+      no_steps_by chosen since (λ k its. front_none k since before (all k ∙ still k its ∙ sym (behind k)))
+      ∙ sym (no_steps_by chosen made (λ k its. front_none k made told (still k its)))
+
+  -- a bench, at which some of them sat and the others did nothing, saw in which order they did it
+  module _ (sat : ℕ → Bool) (own seen : Whole) (keeps : KeepsOrder sat told own seen) (first : IsEarlier seen (since ++ before)) (within : Within sat chosen) (shared : steps_by chosen own ≡ steps_by chosen (made ++ told))
+      (parts : (k : ℕ) → chosen k ≡ true → part k own ≡ part k (made ++ told)) (others : (k : ℕ) → chosen k ≡ true → (sat k ≡ true) ⊎ (part k own ≡ part k told)) where
+    -- each one's new steps are those that the bench saw
+    new_parts : (k : ℕ) → sat k ≡ true → part k keeps.since ≡ part k keeps.made
+    new_parts k its = sym (part_of_chosen sat k keeps.since its) ∙ ap (λ (l : Whole). part k l) keeps.order ∙ part_of_chosen sat k keeps.made its
+
+    seen_parts : (k : ℕ) → sat k ≡ true → part k seen ≡ part k own
+    seen_parts k its =
+        ap (λ (l : Whole). part k l) keeps.seen_is ∙ part_both k keeps.since keeps.before ∙ ap (λ (v : View). v ++ part k keeps.before) (new_parts k its)
+        ∙ ap (λ (v : View). part k keeps.made ++ v) (keeps.parts k its) ∙ sym (part_both k keeps.made told) ∙ ap (λ (l : Whole). part k l) (sym keeps.told_is)
+
+    -- nothing of them came later
+    none_later : steps_by sat first.0 ≡ []
+    none_later = no_steps_by sat first.0 (λ k its. front_none k first.0 seen (ap (λ (l : Whole). part k l) (sym first.1) ∙ all k ∙ sym (parts k (within k its)) ∙ sym (seen_parts k its)))
+
+    lists : steps_by sat since ++ steps_by sat before ≡ steps_by sat keeps.since ++ steps_by sat keeps.before
+    lists =
+        sym (steps_by_both sat since before) ∙ ap (λ (l : Whole). steps_by sat l) first.1 ∙ steps_by_both sat first.0 seen ∙ ap (λ (l : Whole). l ++ steps_by sat seen) none_later
+        ∙ ap (λ (l : Whole). steps_by sat l) keeps.seen_is ∙ steps_by_both sat keeps.since keeps.before
+
+    sat_sorted : steps_by sat since ≡ steps_by sat keeps.made
+    sat_sorted = cut_lists _ _ _ _ lists (as_many_steps sat before keeps.before (λ k its. behind k ∙ sym (keeps.parts k its))) ∙ keeps.order
+
+    made_same : steps_by chosen keeps.made ≡ steps_by chosen made
+    made_same = cut_lists _ _ _ _ (sym (steps_by_both chosen keeps.made told) ∙ ap (λ (l : Whole). steps_by chosen l) (sym keeps.told_is) ∙ shared ∙ steps_by_both chosen made told) refl
+
+    -- chosen and sat differ in those alone that did nothing
+    differ : (l : Whole) → ((k : ℕ) → part k own ≡ part k told → chosen k ≡ true → part k l ≡ []) → (k : ℕ) → (chosen k ≡ sat k) ⊎ (part k l ≡ [])
+    differ l none k = elim (cases_Bool (chosen k)) [
+      | inl on ↦ elim (others k on) [ inl its ↦ inl (on ∙ sym its) | inr still ↦ inr (none k still on) ]
+      | inr off ↦ elim (cases_Bool (sat k)) [ inl its ↦ absurd (true≢false (sym (within k its) ∙ off)) | inr out ↦ inl (off ∙ sym out) ]
+    ]
+
+    pub sorted_seen : steps_by chosen since ≡ steps_by chosen made
+    sorted_seen =
+        steps_by_but chosen sat since (differ since (λ k still on. front_none k since before (all k ∙ sym (parts k on) ∙ still ∙ sym (behind k))))
+        ∙ sat_sorted ∙ sym (steps_by_but chosen sat keeps.made (differ keeps.made (λ k still on. front_none k keeps.made told (ap (λ (l : Whole). part k l) (sym keeps.told_is) ∙ still)))) ∙ made_same
