@@ -1,7 +1,7 @@
 -- The steps of some actors in a list of those of all.
 use Rattle.std.proofs.Common.{ℕ, Bool, true, false, if◌then◌else◌, ◌≡◌, ◌==◌, List, [], ◌∷◌, ◌++◌, length, refl, sym, ap, ◌∙◌, arith, suc, subst, eqb-true}
 use Rattle.std.proofs.Common.{eq-eqb, ne_eqb, true≢false}
-use Rattle.pas_steps.specs.{Desks.triples, Lists.Triple, Lists.Whole, Lists.part}
+use Rattle.pas_steps.specs.{Desks.triple, Desks.triples, Lists.Triple, Lists.Whole, Lists.part}
 use Rattle.pas_steps.specs.declared.step.Made.{Made}
 use Rattle.pas_core.specs.Orders.{steps_by}
 
@@ -44,7 +44,7 @@ part_of_chosen chosen k (t ∷ l) its = at (part_of_chosen chosen k l its) (chos
 abbrev pub Within : (ℕ → Bool) → (ℕ → Bool) → Type 0
 Within fewer more = (k : ℕ) → fewer k ≡ true → more k ≡ true
 
-steps_by_fewer : (fewer more : ℕ → Bool) (l : Whole) → Within fewer more → steps_by fewer (steps_by more l) ≡ steps_by fewer l
+pub steps_by_fewer : (fewer more : ℕ → Bool) (l : Whole) → Within fewer more → steps_by fewer (steps_by more l) ≡ steps_by fewer l
 steps_by_fewer fewer more [] within = refl
 steps_by_fewer fewer more (t ∷ l) within = at (steps_by_fewer fewer more l within) (more t.actor) refl
   where
@@ -63,6 +63,11 @@ steps_by_fewer fewer more (t ∷ l) within = at (steps_by_fewer fewer more l wit
 pub no_steps_by_fewer : (fewer more : ℕ → Bool) (l : Whole) → Within fewer more → steps_by more l ≡ [] → steps_by fewer l ≡ []
 no_steps_by_fewer fewer more l within none = sym (steps_by_fewer fewer more l within) ∙ ap (steps_by fewer) none
 
+-- the same actors, by another test
+pub steps_by_same : (one other : ℕ → Bool) (l : Whole) → ((k : ℕ) → one k ≡ other k) → steps_by one l ≡ steps_by other l
+steps_by_same one other [] same = refl
+steps_by_same one other (t ∷ l) same = ap (λ (b : Bool). if b then t ∷ steps_by one l else steps_by one l) (same t.actor) ∙ ap (λ (m : Whole). if other t.actor then t ∷ m else m) (steps_by_same one other l same)
+
 -- ---- one actor, and all that made a step
 cons_not_nil : {x : Made} {xs : List Made} → x ∷ xs ≡ [] → ⊥
 cons_not_nil e = omega (arith, ap length e)
@@ -72,7 +77,9 @@ steps_by_one chosen k [] just = refl
 steps_by_one chosen k (t ∷ l) just = at (steps_by_one chosen k l just) (t.actor == k) refl
   where
     at : steps_by chosen l ≡ triples k (part k l) → (b : Bool) → (t.actor == k) ≡ b → steps_by chosen (t ∷ l) ≡ triples k (part k (t ∷ l))
-    at again true e = search (arith, eqb-true, step_taken)
+    at again true e =
+        let its : t ≡ triple k t.made = ap (λ (j : ℕ). triple j t.made) (eqb-true t.actor k e) in
+        step_taken chosen t l (just t.actor ∙ e) ∙ (ap (λ (m : Whole). t ∷ m) again ∙ (ap (λ (s : Triple). s ∷ triples k (part k l)) its ∙ sym (ap (triples k) (ap (λ (b : Bool). if b then t.made ∷ part k l else part k l) e))))
     at again false e = step_passed chosen t l (just t.actor ∙ e) ∙ (again ∙ sym (ap (triples k) (part_without k t l e)))
 
 tail_same : {x y : Made} {xs ys : List Made} → x ∷ xs ≡ y ∷ ys → xs ≡ ys
@@ -86,6 +93,22 @@ tail_same {xs = xs} e = ap (λ (l : List Made). tail_or l xs) e
 pub steps_by_nobody : (chosen : ℕ → Bool) (l : Whole) → ((k : ℕ) → chosen k ≡ false) → steps_by chosen l ≡ []
 steps_by_nobody chosen [] none = refl
 steps_by_nobody chosen (t ∷ l) none = step_passed chosen t l (none t.actor) ∙ steps_by_nobody chosen l none
+
+-- where nobody else made a step, the steps of the chosen are all
+pub steps_by_all : (chosen : ℕ → Bool) (l : Whole) → ((k : ℕ) → chosen k ≡ false → part k l ≡ []) → steps_by chosen l ≡ l
+steps_by_all chosen [] none = refl
+steps_by_all chosen (t ∷ l) none = at (steps_by_all chosen l) (chosen t.actor) refl
+  where
+    here : part t.actor (t ∷ l) ≡ t.made ∷ part t.actor l
+    here = ap (λ (b : Bool). if b then t.made ∷ part t.actor l else part t.actor l) (eq-eqb t.actor t.actor refl)
+
+    later : (k : ℕ) → chosen k ≡ false → (b : Bool) → (t.actor == k) ≡ b → part k l ≡ []
+    later k e true same = absurd (cons_not_nil (sym here ∙ (ap (λ (j : ℕ). part j (t ∷ l)) (eqb-true t.actor k same) ∙ none k e)))
+    later k e false ne = sym (part_without k t l ne) ∙ none k e
+
+    at : (((k : ℕ) → chosen k ≡ false → part k l ≡ []) → steps_by chosen l ≡ l) → (b : Bool) → chosen t.actor ≡ b → steps_by chosen (t ∷ l) ≡ t ∷ l
+    at again true e = step_taken chosen t l e ∙ ap (λ (m : Whole). t ∷ m) (again (λ k c. later k c (t.actor == k) refl))
+    at again false e = absurd (cons_not_nil (sym here ∙ none t.actor e))
 
 -- ---- the steps of the chosen are as many in two lists that have the same parts of them
 abbrev without : ℕ → Whole → Whole
@@ -133,7 +156,7 @@ one_fewer chosen k (t ∷ l) m v its h = at (one_fewer chosen k l m v its) (t.ac
     at again true e = ap length (step_taken chosen t l (ap chosen (eqb-true t.actor k e) ∙ its)) ∙ sym (ap suc (ap (λ n. length (steps_by chosen n)) (without_at k t l true e)))
     at again false e = other (again (sym (part_at k t l false e) ∙ h)) (chosen t.actor) refl ∙ sym (ap suc (ap (λ n. length (steps_by chosen n)) (without_at k t l false e)))
 
-no_steps_by : (chosen : ℕ → Bool) (l : Whole) → ((k : ℕ) → chosen k ≡ true → part k l ≡ []) → steps_by chosen l ≡ []
+pub no_steps_by : (chosen : ℕ → Bool) (l : Whole) → ((k : ℕ) → chosen k ≡ true → part k l ≡ []) → steps_by chosen l ≡ []
 no_steps_by chosen [] none = refl
 no_steps_by chosen (t ∷ l) none = at (no_steps_by chosen l) (chosen t.actor) refl
   where
