@@ -1,7 +1,8 @@
 -- Actors on a bench: they sit down with their passes, stand still while another one acts, and leave.
-use Rattle.std.proofs.Common.{◌≡◌, ◌≢◌, ◌==◌, ℕ, Bool, true, false, if◌then◌else◌, inl, inr, List, [], ◌∷◌, ◌++◌, length, refl, ap, sym, ◌∙◌, subst, append-nil, eq-eqb, ne_eqb}
-use Rattle.std.proofs.Common.{true≢false, ◌+◌, ◌≤◌}
-use Rattle.pas_steps.specs.{Agreement.Agreed, Calls.Calls, Calls.Leads, Desks.Seat, Desks.Standing, Desks.triple, Desks.triples, Events.events_of, Lists.Whole, Lists.part, Views.View}
+use Rattle.std.proofs.Common.{◌≡◌, ◌≢◌, ◌==◌, ℕ, Bool, true, false, if◌then◌else◌, inl, inr, List, [], ◌∷◌, ◌++◌, length, refl, ap, sym, ◌∙◌, subst, append-nil}
+use Rattle.std.proofs.Common.{eq-eqb, ne_eqb, true≢false, ◌+◌, ◌≤◌}
+use Rattle.pas_steps.specs.{Agreement.Agreed, Calls.Calls, Calls.Leads, Events.events_of, Lists.Whole, Lists.part, Views.View}
+use Rattle.pas_steps.specs.Desks.{Seat, Standing, triple, triples}
 use Rattle.pas_steps.specs.declared.step.Made.{Made}
 use Rattle.pas_steps.proofs.Parts.{part_of_own}
 use Rattle.pas_profile.specs.declared.profile.Profile.{Profile}
@@ -9,10 +10,11 @@ use Rattle.pas_region.specs.Noted.{AreNotesOf, room_of_notes}
 use Rattle.pas_region.specs.declared.notes.Notes.{Notes}
 use Rattle.pas_core.proofs.Choosing.{part_of_chosen}
 use Rattle.pas_shared.specs.Ruled.{among, made_in, SitsIn, HasRow, entries_by, rows_of, rows_of_only, isnt, only_this, all_actors, steps_of, IsRowOf, AreRowsOf}
-use Rattle.pas_shared.specs.Benches.{rows_on, first_row, row_on, made_by, seat_of_member, IsBenchOf, IsMemberOf, IsFreshRow, HasLooked, SitsInRow, MaySitOn, StandsOver}
+use Rattle.pas_shared.specs.Benches.{rows_on, first_row, row_on, made_by, seat_of_member, IsBenchOf, IsMemberOf, IsFreshRow, HasLooked, SitsInRow, MaySitOn}
+use Rattle.pas_shared.specs.Benches.{StandsOver}
 use Rattle.pas_shared.specs.{Ledgers.part_of, Passes.seat_of, Passes.view_of, Passes.IsPassOf}
-use Rattle.pas_shared.specs.declared.{bench.Bench.Bench, bench.Member.Member, pass.SharedPass.SharedPass, region.SharedRegion.SharedRegion}
-use Rattle.pas_shared.specs.declared.{rule.Entry.Entry, rule.Row.Row}
+use Rattle.pas_shared.specs.declared.{bench.Bench.Bench, bench.Member.Member, pass.SharedPass.SharedPass, region.SharedRegion.SharedRegion, rule.Entry.Entry}
+use Rattle.pas_shared.specs.declared.{rule.Row.Row}
 use Rattle.pas_shared.proofs.{Benching.among_picked, Benching.row_since, Pasts.part_both}
 use Rattle.pas_acts.specs.Works.{Sits}
 use Rattle.pas_threads.specs.Left.{IsSeated, KeepsOrder}
@@ -116,8 +118,7 @@ pub looked_made : (b now : Bench) (k : ℕ) → rows_on b ≡ row_on b ∷ [] �
     → (among (first_row (rows_on now)).actors k ≡ true) × (made_in (first_row (rows_on now)) k ≡ made_in (row_on b) k)
 looked_made b now k one looked its =
     let row_is = ap first_row looked.is in
-    let rows = subst (λ (rs : List Row). AreRowsOf rs (steps_of looked.base)) one looked.rows in
-    (
+    let rows = subst (λ (rs : List Row). AreRowsOf rs (steps_of looked.base)) one looked.rows in (
       ap (λ (r : Row). among r.actors k) row_is ∙ (ap (λ (rs : List Row). among (all_actors rs) k) one ∙ among_front (row_on b).actors [] k its),
       ap (λ (r : Row). made_in r k) row_is ∙ row_part (row_on b) (steps_of looked.base) k rows.0 its,
     )

@@ -29,9 +29,9 @@ use Rattle.pas_threads.specs.Sessions.{planned, Session, evenly, WorkerHas, Scav
 use Rattle.pas_threads.specs.Sessions.{CloseDone, owed_by, PhaseAt, PhaseDone, HasReplayed, IsOfActors, StandSo, WentBy}
 use Rattle.pas_threads.specs.Turns.{StoppedAll, said_own, said_by_all, said_kept, said_by_keepers, HasSaid, IsGathered, IsKeptGathered}
 use Rattle.pas_threads.specs.declared.{keeper.Keeper.Keeper, phases.Team.Team, scavenger.Scavenger.Scavenger, workers.Worker.Worker}
-use Rattle.pas_threads.proofs.{Dealt.some_worker, TakingTurns.pass_still, TakingTurns.same_owed, TakingTurns.same_rests, TakingTurns.rests_clear}
+use Rattle.pas_threads.proofs.{Dealt.some_worker, Staging.went_both, Staging.went_mark}
+use Rattle.pas_threads.proofs.TakingTurns.{pass_still, same_owed, same_rests, rests_clear}
 use Rattle.pas_threads.proofs.InPhases.{in_both, unmarked, phase_unmarked, close_unmarked, earlier_both, stand_first}
-use Rattle.pas_threads.proofs.Staging.{went_both, went_mark}
 use Rattle.pas_threads.proofs.Keepers.{keeper_is, owed_still, waits_gathered, of_gathered, silent_gathered, low_gathered}
 use Rattle.pas_threads.proofs.KeptPhases.{alike_same, alike_pushed, alike_said, alike_both, guarded_alike, kept_still, said_then}
 use Rattle.pas_threads.proofs.PhaseSums.{owed_less, kept_less, own_all, all_paid, said_in_order, kept_in_order, kept_few, by_all}

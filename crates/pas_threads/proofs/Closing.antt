@@ -1,6 +1,6 @@
 -- The close: thread by thread and keeper by keeper, and the ledger is settled behind each of these acts.
-use Rattle.std.proofs.Common.{◌≡◌, ◌≢◌, ℕ, suc, ◌+◌, ◌-◌, ◌<◌, ◌≤◌, inl, inr, List, [], ◌∷◌, ◌++◌, length, set, get_or, map, Option, Some, None, refl, ap, sym, ◌∙◌, subst, arith}
-use Rattle.std.proofs.Common.{length-set}
+use Rattle.std.proofs.Common.{◌≡◌, ◌≢◌, ℕ, suc, ◌+◌, ◌-◌, ◌<◌, ◌≤◌, inl, inr, List, [], ◌∷◌, ◌++◌, length, set, get_or, map, Option, Some, None, refl, ap, sym}
+use Rattle.std.proofs.Common.{◌∙◌, subst, arith, length-set}
 use Rattle.std.proofs.lemmas.{List.set-get_or, Option.same_Some}
 use Rattle.pas_profile.specs.declared.profile.Profile.{Profile}
 use Rattle.pas_steps.specs.Lists.{Whole, part}
@@ -16,8 +16,7 @@ use Rattle.pas_threads.specs.Sessions.{Session, evenly, AreResting, StandSo, Wen
 use Rattle.pas_threads.specs.Settling.{PassStands, ActorsStand, StoppedSo, LoweredSo}
 use Rattle.pas_threads.specs.Turns.{Turn, TookTurns, IsDue, Stopped}
 use Rattle.pas_threads.specs.declared.{keeper.Keeper.Keeper, workers.Worker.Worker}
-use Rattle.pas_threads.proofs.InPhases.{still_at}
-use Rattle.pas_threads.proofs.KeptPhases.{alike_same, guarded_alike}
+use Rattle.pas_threads.proofs.{InPhases.still_at, KeptPhases.alike_same, KeptPhases.guarded_alike}
 use Rattle.pas_threads.proofs.Keepers.{lowers_from, none_left, has_none, has_all, lower_next, most_keepers, lower_begins, lower_passes, lowers_one}
 use Rattle.pas_threads.proofs.Staging.{went_none, went_both, went_alone, one_by_one_both}
 use Rattle.pas_threads.proofs.TakingTurns.{SoFar, at_first, goes_on, at_last, set_each, ends_from, ends_begin, ends}

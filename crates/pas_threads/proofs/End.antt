@@ -15,13 +15,13 @@ use Rattle.pas_guard.specs.declared.book.Guard.{Guard}
 use Rattle.pas_cache.specs.Caches.{cached}
 use Rattle.pas_shared.specs.{Ledgers.EndsAfter, Passes.seat_of, Passes.view_of, Passes.IsPassOf}
 use Rattle.pas_shared.specs.declared.{pass.SharedPass.SharedPass, region.SharedRegion.SharedRegion}
-use Rattle.pas_answers.specs.{Answers.Progress, Fit.AreOfThreads, Ways.OnThreads}
+use Rattle.pas_answers.specs.{Answers.Progress, Fit.AreOfThreads, Ways.OnThreads, Stages.stages_of, Stages.GoByStages}
 use Rattle.pas_answers.specs.Replays.{phases_of, region_of, threads_of, acts_of_plan, at_start, Shows}
-use Rattle.pas_answers.specs.Stages.{stages_of, GoByStages}
 use Rattle.pas_answers.proofs.Consequences.{replays}
 use Rattle.pas_trace.proofs.Keepers.{plan_actors}
 use Rattle.pas_plans.proofs.Nothing.{nothing, no_slots}
-use Rattle.pas_threads.specs.{Hands.HasPass, Sessions.Session, Sessions.TeamAt, Sessions.IsOfActors, Sessions.HasReplayed}
+use Rattle.pas_threads.specs.Hands.{HasPass}
+use Rattle.pas_threads.specs.Sessions.{Session, TeamAt, IsOfActors, HasReplayed}
 use Rattle.pas_threads.specs.Kits.{AreAllBack, slots_of, kept_pass, kept_passes}
 use Rattle.pas_threads.specs.Pairs.{no_more, HasKeeper, AreGuarded, IsLow, KeeperStands}
 use Rattle.pas_threads.specs.declared.{keeper.Keeper.Keeper, phases.Team.Team, workers.Worker.Worker}

@@ -6,9 +6,9 @@ use Rattle.pas_shared.specs.declared.{bench.Bench.Bench, ledger.Ledger.Ledger, r
 use Rattle.pas_report.specs.declared.record.Record.{Record}
 use Rattle.pas_trace.specs.Acts.{is_active}
 use Rattle.pas_answers.specs.Answers.{Progress}
-use Rattle.pas_threads.specs.Left.{HasLeft}
+use Rattle.pas_threads.specs.{Left.HasLeft, Sessions.HasPlaces}
 use Rattle.pas_threads.specs.Performing.{Round, ThreadDone, ScavengerDone, HaveActed, HeardOrder, IsHeard}
-use Rattle.pas_threads.specs.{Sessions.HasPlaces, Settling.SawMore, Settling.HasHeard, Settling.HasBench, Settling.with_bench, Settling.IsButBench}
+use Rattle.pas_threads.specs.Settling.{SawMore, HasHeard, HasBench, with_bench, IsButBench}
 use Rattle.pas_threads.specs.declared.{phases.Team.Team, scavenger.Scavenger.Scavenger, workers.Worker.Worker}
 
 pub bench_left : {region : SharedRegion} {slot : Option Bench} {chosen : ℕ → Bool} {told told' : Whole} → HasLeft region slot chosen told told' → HasBench region slot

@@ -16,9 +16,9 @@ use Rattle.pas_shared.specs.declared.{region.SharedRegion.SharedRegion, pass.Sha
 use Rattle.pas_acts.specs.Pairs.{KeeperWaits}
 use Rattle.pas_answers.specs.{Answers.Progress, Reaching.Reaches, Phases.StandFirst, Phases.AtMark, Phases.AreInPhases}
 use Rattle.pas_answers.proofs.Reached.{reach_both}
-use Rattle.pas_threads.specs.{Hands.HasPass, Pairs.no_more, Pairs.kept_by_worker, Pairs.AreGuarded, Pairs.IsKeeperOf}
+use Rattle.pas_threads.specs.{Hands.HasPass, Settling.StandsIn, Settling.PassStands, Settling.ActorsStand}
+use Rattle.pas_threads.specs.Pairs.{no_more, kept_by_worker, AreGuarded, IsKeeperOf}
 use Rattle.pas_threads.specs.Sessions.{Session, TeamAt, IsOfActors, StandSo}
-use Rattle.pas_threads.specs.Settling.{StandsIn, PassStands, ActorsStand}
 use Rattle.pas_threads.specs.declared.{keeper.Keeper.Keeper, phases.Team.Team, workers.Worker.Worker}
 use Rattle.pas_threads.proofs.Dealt.{some_worker}
 

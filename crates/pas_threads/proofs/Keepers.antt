@@ -305,20 +305,20 @@ module _ {region : SharedRegion} {f : Profile} {threads : ℕ} {acts : List Act}
 
   abbrev pub lowers_one : Lowered region f threads (acts ++ (Lowers k ∷ [])) (i + 1) old (set now i w) p
   lowers_one = record {
-        reached = y.reached;
-        reaches = reach_both f acts (Lowers k ∷ []) p x.reached y.reached x.reaches y.reaches;
-        said = x.said ++ y.said;
-        records_are = y.records_are ∙ ap (λ (rs : List Record). rs ++ y.said) x.records_are ∙ append_assoc p.records x.said y.said;
-        spoken = spoken_both x.said y.said x.spoken (spoken_piece k y.said y.each);
-        each = λ j e less. set_each (λ (m : ℕ) (v : Worker). KeptSo region f threads (suc m) (x.said ++ y.said) (get_or old m e) v p y.reached) now i w e j here (this_one e) (other_one j e less);
-        low = λ j e less within. set_each (λ (m : ℕ) (v : Worker). IsLow v.keeper) now i w e j here (subst (λ (o : Option Keeper). IsLow o) (sym lowered) y.none) (λ ne. x.low j e (omega (arith, less, ne)) within);
-        left = λ j e from within. get_or-set_other now i j w e (λ is. omega (arith, is, from)) ∙ x.left j e (omega (arith, from)) within;
-        parts = λ j other. parts_other j (past j other) ∙ x.parts j (λ m less. other m (omega (arith, less)));
-        books = λ j other. y.books j (past j other) ∙ x.books j (λ m less. other m (omega (arith, less)));
-        silent = λ j other. said_other j (past j other) ∙ x.silent j (λ m less. other m (omega (arith, less)));
-        caches = y.caches ∙ x.caches;
-        names = y.names ∙ x.names;
-      }
+    reached = y.reached;
+    reaches = reach_both f acts (Lowers k ∷ []) p x.reached y.reached x.reaches y.reaches;
+    said = x.said ++ y.said;
+    records_are = y.records_are ∙ ap (λ (rs : List Record). rs ++ y.said) x.records_are ∙ append_assoc p.records x.said y.said;
+    spoken = spoken_both x.said y.said x.spoken (spoken_piece k y.said y.each);
+    each = λ j e less. set_each (λ (m : ℕ) (v : Worker). KeptSo region f threads (suc m) (x.said ++ y.said) (get_or old m e) v p y.reached) now i w e j here (this_one e) (other_one j e less);
+    low = λ j e less within. set_each (λ (m : ℕ) (v : Worker). IsLow v.keeper) now i w e j here (subst (λ (o : Option Keeper). IsLow o) (sym lowered) y.none) (λ ne. x.low j e (omega (arith, less, ne)) within);
+    left = λ j e from within. get_or-set_other now i j w e (λ is. omega (arith, is, from)) ∙ x.left j e (omega (arith, from)) within;
+    parts = λ j other. parts_other j (past j other) ∙ x.parts j (λ m less. other m (omega (arith, less)));
+    books = λ j other. y.books j (past j other) ∙ x.books j (λ m less. other m (omega (arith, less)));
+    silent = λ j other. said_other j (past j other) ∙ x.silent j (λ m less. other m (omega (arith, less)));
+    caches = y.caches ∙ x.caches;
+    names = y.names ∙ x.names;
+  }
 
 pub most_keepers : {keepers : ℕ} (old : List Worker) → AreGuarded keepers old → keepers ≤ length old
 most_keepers old (inl all) = omega (arith, all.0)

@@ -1,6 +1,6 @@
 -- Both actors of a worker sit down on one bench with their passes, work there, and rise.
-use Rattle.std.proofs.Common.{◌≡◌, ◌≢◌, ◌==◌, ℕ, ◌+◌, Bool, true, false, if◌then◌else◌, List, [], ◌∷◌, ◌++◌, Option, Some, None, refl, ap, sym, ◌∙◌, subst, eq-eqb, ne_eqb, eqb-true}
-use Rattle.std.proofs.Common.{true≢false, inr, append-nil, ◌≤◌, arith}
+use Rattle.std.proofs.Common.{◌≡◌, ◌≢◌, ◌==◌, ℕ, ◌+◌, Bool, true, false, if◌then◌else◌, List, [], ◌∷◌, ◌++◌, Option, Some, None, refl, ap, sym, ◌∙◌, subst}
+use Rattle.std.proofs.Common.{eq-eqb, ne_eqb, eqb-true, true≢false, inr, append-nil, ◌≤◌, arith}
 use Rattle.std.proofs.lemmas.Option.{same_Some}
 use Rattle.pas_profile.specs.declared.profile.Profile.{Profile}
 use Rattle.pas_steps.specs.{Desks.Standing, Lists.Whole, Lists.part}
@@ -11,19 +11,24 @@ use Rattle.pas_trace.specs.Acts.{Act, own_acts}
 use Rattle.pas_trace.specs.declared.plan.Op.{Op}
 use Rattle.pas_answers.specs.Answers.{Progress}
 use Rattle.pas_acts.specs.Keepers.{Keeping, OneKeeper, keeper_has, LaterKept, KeeperAt}
-use Rattle.pas_acts.specs.{Pairs.for_guards, Pairs.KeeperWaits, Pairs.KeptPushed, Pairs.PairAt, Pairs.PairWorks, Works.Later, Works.Keeps, Works.ThreadAt}
+use Rattle.pas_acts.specs.Pairs.{for_guards, KeeperWaits, KeptPushed, PairAt, PairWorks}
+use Rattle.pas_acts.specs.Works.{Later, Keeps, ThreadAt}
 use Rattle.pas_shared.specs.Ruled.{among, made_in, HasRow, rows_of, rows_of_only, only, isnt, only_this, all_actors, steps_of, AreRowsOf}
-use Rattle.pas_shared.specs.Benches.{rows_on, first_row, row_on, empty_row, made_by, home_of, standing_on, IsBenchOf, IsFreshRow, HasLooked, SitsInRow, MaySitOn, StandsOver}
+use Rattle.pas_shared.specs.Benches.{rows_on, first_row, row_on, empty_row, made_by, home_of, standing_on, IsBenchOf, IsFreshRow, HasLooked, SitsInRow}
+use Rattle.pas_shared.specs.Benches.{MaySitOn, StandsOver}
 use Rattle.pas_shared.specs.{Ledgers.part_of, Passes.seat_of, Passes.view_of, Passes.IsPassOf}
-use Rattle.pas_shared.specs.declared.{bench.Bench.Bench, bench.Member.Member, bench_desk.BenchDesk.BenchDesk, bench_desk.BenchHome.BenchHome, pass.SharedPass.SharedPass, region.SharedRegion.SharedRegion, rule.Entry.Entry, rule.Row.Row}
+use Rattle.pas_shared.specs.declared.{bench.Bench.Bench, bench.Member.Member, bench_desk.BenchDesk.BenchDesk, bench_desk.BenchHome.BenchHome}
+use Rattle.pas_shared.specs.declared.{pass.SharedPass.SharedPass, region.SharedRegion.SharedRegion, rule.Entry.Entry, rule.Row.Row}
 use Rattle.pas_shared.proofs.Benching.{stands_first}
 use Rattle.pas_acts.specs.declared.names.NameBook.{NameBook}
 use Rattle.pas_threads.specs.Hands.{standing_of_pass, kept_by, Did}
 use Rattle.pas_threads.specs.Left.{keeper_actors, pair_in, IsSeated, standing_beside, KeepsOrder, HasLeft}
 use Rattle.pas_threads.specs.Pairs.{IsKeeperOf, kept_by_worker, kept_seated, PairStands, PairDid}
-use Rattle.pas_threads.specs.Seats.{keeper_parts, rows_without_keeper, seated_actors, IsSameKeeper, SitsBeside, KeeperMayLeave, IsPassOfMember, HasRisen, PairSits, PairRose, IsAnother, KeeperSits}
+use Rattle.pas_threads.specs.Seats.{keeper_parts, rows_without_keeper, seated_actors, IsSameKeeper, SitsBeside, KeeperMayLeave, IsPassOfMember, HasRisen}
+use Rattle.pas_threads.specs.Seats.{PairSits, PairRose, IsAnother, KeeperSits}
 use Rattle.pas_threads.specs.declared.{keeper.Keeper.Keeper, keeper.Seated.Seated, workers.Worker.Worker}
-use Rattle.pas_threads.proofs.Benched.{has_seat, member_seat, sat, sits_as, looked_made, looked_fresh, still_sits, left_fresh, left_made, left_sits, keeps_order}
+use Rattle.pas_threads.proofs.Benched.{has_seat, member_seat, sat, sits_as, looked_made, looked_fresh, still_sits, left_fresh, left_made, left_sits}
+use Rattle.pas_threads.proofs.Benched.{keeps_order}
 use Rattle.pas_answers.proofs.Reached.{goes_on}
 
 -- ---- both sit down
@@ -95,7 +100,7 @@ module _ {region : SharedRegion} {pass : SharedPass} {keeper : Option Keeper} {b
   waits_beside (Some o) (Some s) beside wait = (
     wait.0,
     subst (λ (z : GuardBook × Records). KeeperAt f j (keeper_has (standing_beside region bench s.member) z.0 z.1) (for_guards acts more) p) (λ i. (sym beside.1 i, sym beside.2 i))
-    (record { sits = sits_as (member_seat beside.0.is) (λ stood. (beside.0.may, beside.0.view ∙ stood, stand_over)) wait.1.sits; book = wait.1.book; spare = wait.1.spare; places = wait.1.places }),
+        (record { sits = sits_as (member_seat beside.0.is) (λ stood. (beside.0.may, beside.0.view ∙ stood, stand_over)) wait.1.sits; book = wait.1.book; spare = wait.1.spare; places = wait.1.places }),
   )
 
   pub pair_at : k ≢ j → PairAt f k j acts (standing_on bench member) has (kept_seated region bench seated) later more p
@@ -235,20 +240,44 @@ module _ (region was now : SharedRegion) (b c : Bench) (pass : SharedPass) (memb
       → (v : PairWorks f k j acts [] σ (standing_of_pass pass) has has' (kept_by_worker o) (kept_by_worker keeper) later more p) × (v.reached ≡ w.reached)
   works_back None None None None sits risen w = (
     record {
-      reached = w.reached; reaches = w.reaches; stands = record { thread = thread_back c own w.stands.thread; apart = w.stands.apart; waits = w.stands.waits };
-      said = w.said; records_are = w.records_are; pushed = w.pushed; room = w.room; kept_pushed = w.kept_pushed; still = w.still; each = w.each; book = w.book; noted = w.noted; room_noted = w.room_noted; paid = w.paid;
+      reached = w.reached;
+      reaches = w.reaches;
+      stands = record { thread = thread_back c own w.stands.thread; apart = w.stands.apart; waits = w.stands.waits };
+      said = w.said;
+      records_are = w.records_are;
+      pushed = w.pushed;
+      room = w.room;
+      kept_pushed = w.kept_pushed;
+      still = w.still;
+      each = w.each;
+      book = w.book;
+      noted = w.noted;
+      room_noted = w.room_noted;
+      paid = w.paid;
     },
     refl,
   )
   works_back (Some o) (Some s) (Some t) (Some keeper) sits risen w = subst (λ (z : GuardBook × Records × GuardBook × Records).
       (v : PairWorks f k j acts [] σ (standing_of_pass pass) has has' (OneKeeper (keeper_has (standing_of_pass o.pass) z.0 z.1)) (OneKeeper (keeper_has (standing_of_pass keeper.pass) z.2 z.3)) later more p) × (v.reached ≡ w.reached))
-    (λ i. (sits.1 i, sits.2 i, sym risen.1 i, sym risen.2 i)) (
-      record {
-        reached = w.reached; reaches = w.reaches; stands = record { thread = thread_back c own w.stands.thread; apart = w.stands.apart; waits = (w.stands.waits.0, keeper_back c t keeper risen.0 w.stands.waits.1) };
-        said = w.said; records_are = w.records_are; pushed = w.pushed; room = w.room; kept_pushed = w.kept_pushed; still = w.still; each = w.each; book = w.book; noted = w.noted; room_noted = w.room_noted; paid = w.paid;
-      },
-      refl,
-    )
+      (λ i. (sits.1 i, sits.2 i, sym risen.1 i, sym risen.2 i)) (
+        record {
+          reached = w.reached;
+          reaches = w.reaches;
+          stands = record { thread = thread_back c own w.stands.thread; apart = w.stands.apart; waits = (w.stands.waits.0, keeper_back c t keeper risen.0 w.stands.waits.1) };
+          said = w.said;
+          records_are = w.records_are;
+          pushed = w.pushed;
+          room = w.room;
+          kept_pushed = w.kept_pushed;
+          still = w.still;
+          each = w.each;
+          book = w.book;
+          noted = w.noted;
+          room_noted = w.room_noted;
+          paid = w.paid;
+        },
+        refl,
+      )
   works_back None None (Some t) keeper sits risen w = absurd w.kept_pushed
   works_back (Some o) (Some s) None keeper sits risen w = absurd w.kept_pushed
   works_back None None None (Some keeper) sits risen w = absurd risen
@@ -325,7 +354,7 @@ module _ (region : SharedRegion) (book : NameBook) (worker : Worker) (ops : List
           × IsKeeperOf region risen × HasLeft region (Some left) (pair_in threads k worker.keeper) p.list did.does.reached.list
       pair_did = subst (λ (o : Option Keeper). (did : Did region worker.pass (Some own) (λ σ σ'. PairWorks f k (threads + k) (own_acts k ops) [] σ σ' (kept_by book worker) has (kept_by_worker o) (kept_by_worker risen) later more p))
           × IsKeeperOf region risen × HasLeft region (Some left) (pair_in threads k worker.keeper) p.list did.does.reached.list) taken (
-        record { before = record { pass = pass; present = is; of = its }; after = record { pass = own; present = refl; of = rose.thread.of }; does = back.0 },
-        keeper_of region (row_on after.place.bench) there risen rose.beside,
-        record { bench = left; present = refl; of = rose.of; base = rose.base; rows = rose.rows; order = subst (λ (q : Progress). KeepsOrder (pair_in threads k worker.keeper) p.list q.list (steps_of rose.base)) (sym back.1) order },
-      )
+            record { before = record { pass = pass; present = is; of = its }; after = record { pass = own; present = refl; of = rose.thread.of }; does = back.0 },
+            keeper_of region (row_on after.place.bench) there risen rose.beside,
+            record { bench = left; present = refl; of = rose.of; base = rose.base; rows = rose.rows; order = subst (λ (q : Progress). KeepsOrder (pair_in threads k worker.keeper) p.list q.list (steps_of rose.base)) (sym back.1) order },
+          )

@@ -19,10 +19,9 @@ use Rattle.pas_acts.specs.{Works.Later, Pairs.KeeperWaits, Pairs.KeptPushed}
 use Rattle.pas_threads.specs.Dealing.{picked, count_of, is_in, is_out}
 use Rattle.pas_threads.specs.Hands.{standing_of_pass, ScavengerAt, WorkerAt, Did}
 use Rattle.pas_threads.specs.{Sessions.WorkerHas, Turns.Came, Turns.Told, Turns.TookNoPart, Crews.Crew, Crews.CrewDid, Scavengers.crew_of}
-use Rattle.pas_threads.specs.{Scavengers.ScavengerStands, Scavengers.DidScavenge}
+use Rattle.pas_threads.specs.{Scavengers.ScavengerStands, Scavengers.DidScavenge, Left.pair_in, Left.HasLeft}
 use Rattle.pas_threads.specs.Lent.{Shift, number_in, IsLent, AreLent}
 use Rattle.pas_threads.specs.Performing.{Round, idle_in, IsReady, PaysFor, ThreadDone, ScavengerDone, PieceLeft}
-use Rattle.pas_threads.specs.Left.{pair_in, HasLeft}
 use Rattle.pas_acts.specs.declared.names.NameBook.{NameBook}
 use Rattle.pas_threads.specs.declared.{workers.Worker.Worker, scavenger.Scavenger.Scavenger, phases.Team.Team, keeper.Keeper.Keeper}
 use Rattle.pas_acts.proofs.AtDesk.{sits_for}
@@ -369,23 +368,23 @@ module _ {region : SharedRegion} {r : Round} {team : Team} (ready : IsReady regi
       idle_piece off =
           let none = none_scavenged (idle_in r) r.ops off in
           record {
-           piece = record {
-            own = came_as (shared.3 ∙ none) (came_none r.profile r.start);
-            threads = λ j d lt whose.
-                let away = (owned_by r.threads r.ops (suc j) (is_active r.ops (suc j)) refl (omega arith) (within_threads j lt)).0 whose in
-                let was = lent_at team.threads.items scav0.lent.items lent_is j d lt away in
-                let is = lent_at new scav1.lent.items back j d (omega (arith, size, lt)) away in
-                idle_stayed (suc j) (get_or team.threads.items j d) (get_or new j d) away (ready.workers j d lt) (sym (is.1 d) ∙ ap (λ (s : Scavenger). get_or s.lent.items (rank j) d) (stayed off) ∙ was.1 d);
-            scavenger = λ is. subst (λ (s : Scavenger). ScavengerDone region r scav0 s [] r.start) (sym (stayed off)) (
-              stands.has,
-              subst (λ (acts : List Act). ScavengerAt r.profile acts (standing_of_pass stands.has.pass) (places_of scav0.outcomes) scav0.out (r.later 0) r.start) none stands.at.stands,
-              pushed_none refl,
-              λ k far. record { part_is = refl; silent = refl },
-            );
-            still = λ away. refl;
-           };
-           left = λ j d bad. absurd (omega (arith, bad));
-           crew_left = λ is on. absurd (true≢false (sym on ∙ off));
+            piece = record {
+              own = came_as (shared.3 ∙ none) (came_none r.profile r.start);
+              threads = λ j d lt whose.
+                  let away = (owned_by r.threads r.ops (suc j) (is_active r.ops (suc j)) refl (omega arith) (within_threads j lt)).0 whose in
+                  let was = lent_at team.threads.items scav0.lent.items lent_is j d lt away in
+                  let is = lent_at new scav1.lent.items back j d (omega (arith, size, lt)) away in
+                  idle_stayed (suc j) (get_or team.threads.items j d) (get_or new j d) away (ready.workers j d lt) (sym (is.1 d) ∙ ap (λ (s : Scavenger). get_or s.lent.items (rank j) d) (stayed off) ∙ was.1 d);
+              scavenger = λ is. subst (λ (s : Scavenger). ScavengerDone region r scav0 s [] r.start) (sym (stayed off)) (
+                stands.has,
+                subst (λ (acts : List Act). ScavengerAt r.profile acts (standing_of_pass stands.has.pass) (places_of scav0.outcomes) scav0.out (r.later 0) r.start) none stands.at.stands,
+                pushed_none refl,
+                λ k far. record { part_is = refl; silent = refl },
+              );
+              still = λ away. refl;
+            };
+            left = λ j d bad. absurd (omega (arith, bad));
+            crew_left = λ is on. absurd (true≢false (sym on ∙ off));
           }
 
       pub piece : (w : ℕ) → PieceOf w

@@ -1,6 +1,7 @@
 -- A phase of the team: what its acts cost; its hands are ready once its threads read the epoch and its names are noted; then what all its workers did and said is put together.
 use Rattle.std.proofs.Common.{◌≡◌, ◌≢◌, ℕ, zero, suc, ◌+◌, ◌-◌, ◌<◌, ◌≤◌, ◌==◌, Bool, true, false, if◌then◌else◌, inl, inr, List, [], ◌∷◌, ◌++◌, length, get_or}
-use Rattle.std.proofs.Common.{Option, None, refl, ap, sym, ◌∙◌, subst, arith, All, map, append_assoc, length-append, MatchOption, append-nil, vec_capacity, eqb-true, eq-eqb, ◌⊎◌}
+use Rattle.std.proofs.Common.{Option, None, refl, ap, sym, ◌∙◌, subst, arith, All, map, append_assoc, length-append, MatchOption, append-nil, vec_capacity}
+use Rattle.std.proofs.Common.{eqb-true, eq-eqb, ◌⊎◌}
 use Rattle.std.specs.Vec.{with_items}
 use Rattle.std.proofs.lemmas.Bool.{false≢true, false_from_ne_true, cases_Bool, cases_lt, or_cases, or_left, or_right}
 use Rattle.std.proofs.lemmas.List.{with_items_is, append_cancel_left}
@@ -8,9 +9,8 @@ use Rattle.pas_profile.specs.declared.profile.Profile.{Profile}
 use Rattle.pas_bits.specs.Masks.{is_set}
 use Rattle.pas_bits.specs.declared.mask.Mask4.{Mask4}
 use Rattle.pas_steps.specs.{Lists.Whole, Lists.part, Views.View}
-use Rattle.pas_shared.specs.Ruled.{steps_of, IsEarlier, AreEarlier}
-use Rattle.pas_shared.specs.Ledgers.{looks_of}
-use Rattle.pas_shared.specs.declared.ledger.Ledger.{Ledger}
+use Rattle.pas_shared.specs.{Ruled.steps_of, Ruled.IsEarlier, Ruled.AreEarlier, Ledgers.looks_of}
+use Rattle.pas_shared.specs.declared.{ledger.Ledger.Ledger, region.SharedRegion.SharedRegion}
 use Rattle.pas_core.specs.Orders.{steps_by}
 use Rattle.pas_answers.specs.Stages.{in_hands, itself, stage, phase_stages}
 use Rattle.pas_trace.specs.{Asked.keeper_in, EveryPhase.FreesItsOwn, EveryPhase.FreeTheirOwn}
@@ -21,7 +21,6 @@ use Rattle.pas_report.specs.Rooms.{records_in, room_of, Records}
 use Rattle.pas_report.specs.declared.record.Record.{Record}
 use Rattle.pas_trace.specs.Acts.{Act, own_acts, scavenger_acts, idle_threads, acts_of_ops, Wakes, is_active, numbers_from, active_threads, phase_acts}
 use Rattle.pas_cache.specs.Caches.{Cached, cached}
-use Rattle.pas_shared.specs.declared.region.SharedRegion.{SharedRegion}
 use Rattle.pas_utility.specs.Outcomes.{places_of}
 use Rattle.pas_answers.specs.{Answers.Books, Answers.Progress, Answers.Named, Calls.owed_events, Calls.OnlyAsked, Fit.costs_of, Fit.own_costs_of, Fit.AreFit}
 use Rattle.pas_answers.specs.{Names.names_held, Reaching.Reaches, Ways.records_by, Ways.by_actors}
@@ -36,20 +35,19 @@ use Rattle.pas_acts.specs.{Keepers.LaterKept, Pairs.for_guards, Works.Later}
 use Rattle.pas_acts.specs.NameBooks.{NamesAt, ArePlaced, names_asked, requests_in, room_for, names_of, known_in, Requests, AreWithin}
 use Rattle.pas_acts.specs.declared.names.NameBook.{NameBook}
 use Rattle.pas_acts.proofs.{Alone.rests_still, Alone.sits_still, AtDesk.sits_for, NamesBefore.names_before, NamesBefore.sound_front, NamesBefore.below_front}
-use Rattle.pas_threads.specs.Hands.{standing_of_pass, WorkerAt}
+use Rattle.pas_threads.specs.{Hands.standing_of_pass, Hands.WorkerAt, Left.pair_in, Left.crew_in, Settling.ActorsStand}
 use Rattle.pas_threads.specs.Pairs.{no_more, KeeperRests, said_by_keeper, owed_kept, keeper_at, owed_by_keepers, AreGuarded}
 use Rattle.pas_threads.specs.Performing.{Round, round, idle_in, ScavengerHas, IsReady, ThreadDone, ScavengerDone, IsDone, HeardOrder, IsHeard}
 use Rattle.pas_threads.specs.Sessions.{Session, planned, owed_by, WorkerRests, AreResting, ScavengerRests, HasPlaces, TeamAt, WorkerHas, AreMarked, AreWritten}
 use Rattle.pas_threads.specs.Sessions.{HasRoom, PhaseAt, PhaseDone, IsOfActors, StandSo, WentBy}
-use Rattle.pas_threads.specs.{Left.pair_in, Left.crew_in, Settling.ActorsStand}
-use Rattle.pas_threads.proofs.{Closing.turns_stand, InPhases.team_stands}
+use Rattle.pas_threads.proofs.{Closing.turns_stand, InPhases.team_stands, Dealt.number_at, Dealt.some_worker, Keepers.keeper_is, Keepers.owed_still}
+use Rattle.pas_threads.proofs.{NamesOfPhases.names_then, NamesOfPhases.names_within}
 use Rattle.pas_threads.proofs.InHands.{in_pair, pair_within, pair_has, pair_keeps, in_crew, crew_within}
 use Rattle.pas_threads.proofs.Staging.{stand_all, of_first, went_both, went_alone, went_sorted, sorted_still, sorted_seen}
 use Rattle.pas_threads.specs.Taken.{HandsOver, IsEmptied, HasTaken, IsWithin}
 use Rattle.pas_threads.specs.Turns.{owed_at, said_by, said_own, said_by_all, said_kept, said_by_keepers, WokeAll, Came, TookNoPart, IsGathered, IsKeptGathered}
 use Rattle.pas_threads.specs.declared.{keeper.Keeper.Keeper, phases.Team.Team, scavenger.Scavenger.Scavenger, workers.Worker.Worker}
-use Rattle.pas_threads.proofs.{Dealt.number_at, Dealt.some_worker, Keepers.keeper_is, Keepers.owed_still, NamesOfPhases.names_then, NamesOfPhases.names_within}
-use Rattle.pas_threads.proofs.{TakingTurns.pass_still, TakingTurns.same_owed, TakingTurns.woke_rest, TakingTurns.rests_clear}
+use Rattle.pas_threads.proofs.TakingTurns.{pass_still, same_owed, woke_rest, rests_clear}
 use Rattle.pas_threads.proofs.KeptPhases.{kept_hands, AreAlike, alike_same, alike_pushed, alike_both, guarded_alike, kept_waits, kept_still, kept_said}
 use Rattle.pas_threads.proofs.KeptPhases.{kept_rests, kept_alike, kept_owes, kept_nobody}
 use Rattle.pas_threads.proofs.PhaseSums.{own_costs, scavenger_costs, own_all, all_paid, owed_less, kept_less, said_in_order, kept_in_order, kept_few, by_all}

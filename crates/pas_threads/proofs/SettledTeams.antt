@@ -5,7 +5,8 @@ use Rattle.std.proofs.lemmas.{Bool.cases_lt, Bool.cases_eq, List.set-get_or, Lis
 use Rattle.pas_steps.specs.Lists.{Whole, part}
 use Rattle.pas_shared.specs.{Ruled.HasPart, Ruled.IsEarlier, Ruled.AreEarlier, Passes.view_of, Passes.IsPassOf}
 use Rattle.pas_shared.specs.Ledgers.{so_far, looks_of, actors_in, part_of, IsSameLedger, IsRestOf}
-use Rattle.pas_shared.specs.declared.{ledger.Ledger.Ledger, ledger.Rest.Rest, pass.SharedPass.SharedPass, region.SharedRegion.SharedRegion, rule.Entry.Entry, rule.Part.Part}
+use Rattle.pas_shared.specs.declared.{ledger.Ledger.Ledger, ledger.Rest.Rest, pass.SharedPass.SharedPass, region.SharedRegion.SharedRegion, rule.Entry.Entry}
+use Rattle.pas_shared.specs.declared.{rule.Part.Part}
 use Rattle.pas_threads.specs.{Hands.HasPass, Kits.with_keeper, Settling.Settled, Settling.StandsIn}
 use Rattle.pas_threads.specs.declared.{keeper.Keeper.Keeper, workers.Worker.Worker}
 

@@ -1,6 +1,6 @@
 -- How the stages of a replay follow each other, and what a stage shows in the list of all steps.
-use Rattle.std.proofs.Common.{◌≡◌, ℕ, suc, ◌+◌, ◌<◌, ◌≤◌, ◌==◌, Bool, true, false, if◌then◌else◌, inl, inr, ◌⊎◌, List, [], ◌∷◌, ◌++◌, length, map, refl, ap, sym, ◌∙◌}
-use Rattle.std.proofs.Common.{subst, arith, append_assoc, length-append, eq-eqb, eqb-true, true≢false}
+use Rattle.std.proofs.Common.{◌≡◌, ℕ, suc, ◌+◌, ◌<◌, ◌≤◌, ◌==◌, Bool, true, false, if◌then◌else◌, inl, inr, ◌⊎◌, List, [], ◌∷◌, ◌++◌, length, map, refl, ap}
+use Rattle.std.proofs.Common.{sym, ◌∙◌, subst, arith, append_assoc, length-append, eq-eqb, eqb-true, true≢false}
 use Rattle.std.proofs.lemmas.{Bool.cases_lt, Bool.cases_Bool, List.map-append}
 use Rattle.pas_steps.specs.{Lists.Triple, Lists.Whole, Lists.part, Views.View, Desks.triples}
 use Rattle.pas_steps.specs.declared.step.Made.{Made}

@@ -159,7 +159,6 @@ starts_at region f k bound later pass worker of_profile within unused has =
           sits = record {
             actor = unused.actor;
             profile = unused.of_region.1 ∙ of_profile;
-           
             stood = unused.no_step;
             rest = rests_empty f (cached worker.cache) [] (ap (λ (c : Cached). c.locals) has.cache) (ap (λ (c : Cached). c.log) has.cache) nothing;
             room = omega (arith, owed, room, within);

@@ -1,14 +1,13 @@
 -- What stands in a ledger once it was settled, and what it heard of.
 use Rattle.std.specs.Prelude.{ℕ, suc, ◌+◌, ◌<◌, ◌≡◌, [], List, length, map, get_or, Option, Some}
 use Rattle.pas_steps.specs.Lists.{Whole, part}
-use Rattle.pas_shared.specs.{Ruled.AreEarlier, Ruled.IsEarlier, Ruled.HasAllOf, Ruled.bases_in, Passes.seat_of, Passes.view_of, Passes.IsPassOf}
-use Rattle.pas_shared.specs.{Benches.rows_on, Benches.IsBenchOf, Ledgers.so_far, Ledgers.looks_of, Ledgers.actors_in}
+use Rattle.pas_shared.specs.Ruled.{AreEarlier, IsEarlier, HasAllOf, bases_in}
+use Rattle.pas_shared.specs.{Passes.seat_of, Passes.view_of, Passes.IsPassOf, Benches.rows_on, Benches.IsBenchOf, Ledgers.so_far, Ledgers.looks_of}
+use Rattle.pas_shared.specs.{Ledgers.actors_in}
 use Rattle.pas_shared.specs.declared.{bench.Bench.Bench, ledger.Ledger.Ledger, pass.SharedPass.SharedPass, region.SharedRegion.SharedRegion}
 use Rattle.pas_trace.specs.Acts.{Act}
 use Rattle.pas_answers.specs.{Answers.Progress, Stages.one_by_one}
-use Rattle.pas_threads.specs.Pairs.{AreGuarded, Lowered}
-use Rattle.pas_threads.specs.Sessions.{Session, IsOfActors, WentBy}
-use Rattle.pas_threads.specs.Turns.{Stopped}
+use Rattle.pas_threads.specs.{Pairs.AreGuarded, Pairs.Lowered, Sessions.Session, Sessions.IsOfActors, Sessions.WentBy, Turns.Stopped}
 use Rattle.pas_threads.specs.declared.{keeper.Keeper.Keeper, workers.Worker.Worker}
 
 -- ---- settling

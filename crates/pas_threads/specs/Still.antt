@@ -6,7 +6,8 @@ use Rattle.pas_steps.specs.{Lists.Whole, Lists.part, Views.View}
 use Rattle.pas_region.specs.Noted.{AreNotesOf}
 use Rattle.pas_shared.specs.Ruled.{among, made_in}
 use Rattle.pas_shared.specs.Benches.{rows_on, row_on, home_of, standing_on, IsBenchOf, StandsOver}
-use Rattle.pas_shared.specs.declared.{bench.Bench.Bench, bench.Member.Member, bench_desk.BenchDesk.BenchDesk, bench_desk.BenchHome.BenchHome, region.SharedRegion.SharedRegion}
+use Rattle.pas_shared.specs.declared.{bench.Bench.Bench, bench.Member.Member, bench_desk.BenchDesk.BenchDesk, bench_desk.BenchHome.BenchHome}
+use Rattle.pas_shared.specs.declared.{region.SharedRegion.SharedRegion}
 use Rattle.pas_shared.proofs.Benching.{row_tells}
 use Rattle.pas_acts.specs.Keepers.{KeptStands, StandsAt, StandsStill}
 use Rattle.pas_threads.specs.{Left.standing_beside, Pairs.kept_seated, Pairs.kept_beside}
@@ -22,8 +23,7 @@ stays_beside region now b c member l m home of one over = record {
       let k = member.actor in
       let may = stood.0 in
       let its : among (row_on c).actors k ≡ true = ap (λ (h : BenchHome). among h.row.actors k) home ∙ may.sits.among_them in
-      let told : made_in (row_on c) k ≡ part k m = sym (row_tells (row_on c) m k over its) in
-      (
+      let told : made_in (row_on c) k ≡ part k m = sym (row_tells (row_on c) m k over its) in (
         record {
           of = of;
           profile = may.profile ∙ sym (ap (λ (h : BenchHome). h.region.profile) home);

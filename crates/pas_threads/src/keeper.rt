@@ -3,7 +3,8 @@ ghost use Rattle.std.specs.Prelude.{◌≡◌, ◌++◌, ℕ, Option, Some};
 ghost use Rattle.pas_profile.specs.declared.profile.Profile.{Profile as TheProfile};
 ghost use Rattle.pas_answers.specs.Answers.{Progress};
 ghost use Rattle.pas_acts.specs.Keepers.{LaterKept};
-ghost use Rattle.pas_shared.specs.{Ruled.rows_of, Benches.rows_on, Benches.first_row, Benches.IsBenchOf, Benches.IsFreshRow};
+ghost use Rattle.pas_shared.specs.Ruled.{rows_of};
+ghost use Rattle.pas_shared.specs.Benches.{rows_on, first_row, IsBenchOf, IsFreshRow};
 ghost use Rattle.pas_threads.specs.Pairs.{IsKeeperOf, KeeperStands, KeeperLowered};
 ghost use Rattle.pas_threads.specs.Seats.{keeper_parts, rows_without_keeper, IsSameKeeper, KeeperMayLeave, HasRisen};
 
@@ -83,8 +84,7 @@ pub(crate) fn let_keeper_leave(
 }
 
 impl<'a> Tries<BenchDesk<'a>> for Beside {
-    ghost use Rattle.pas_threads.specs.Pairs.{kept_beside};
-    ghost use Rattle.pas_threads.specs.Still.{beside_still};
+    ghost use Rattle.pas_threads.specs.{Pairs.kept_beside, Still.beside_still};
 
     type Home = ();
 

@@ -135,9 +135,7 @@ fn perform_phase<R: Threads + Wait + Sync, G: Gate + Sync, M: Remake + Sync>(
     wake_all(region, &mut team.threads, awake);
     settle(region, ledger, &mut team.scavenger, &mut team.threads);
     team.book.note(ops);
-    let mut team = perform_and_hear(
-        rt, region, ledger, indexes, team, awake, ops, gate, remaker,
-    );
+    let mut team = perform_and_hear(rt, region, ledger, indexes, team, awake, ops, gate, remaker);
     out.append(&mut team.scavenger.out);
     gather(&mut team.threads, out);
     gather_kept(&mut team.threads, out);

@@ -2,23 +2,20 @@ use Rattle.std.proofs.Common.{◌≡◌, ℕ, ◌+◌, ◌<◌, ◌≤◌, List,
 use Rattle.std.specs.Vec.{with_items}
 use Rattle.std.proofs.lemmas.List.{with_items_is}
 use Rattle.pas_profile.specs.declared.profile.Profile.{Profile}
-use Rattle.pas_trace.specs.EveryPlan.{all_ops, own_records}
+use Rattle.pas_trace.specs.{EveryPlan.all_ops, EveryPlan.own_records, Acts.Ends, Acts.Lowers, Acts.numbers_from}
 use Rattle.pas_report.specs.Rooms.{records_in, room_of}
 use Rattle.pas_report.specs.declared.record.Record.{Record}
 use Rattle.pas_steps.specs.Lists.{Whole}
 use Rattle.pas_shared.specs.Ledgers.{so_far}
 use Rattle.pas_shared.specs.declared.{region.SharedRegion.SharedRegion, pass.SharedPass.SharedPass}
-use Rattle.pas_trace.specs.Acts.{Ends, Lowers, numbers_from}
-use Rattle.pas_answers.specs.Stages.{Stage, one_by_one}
-use Rattle.pas_answers.specs.Answers.{Progress}
-use Rattle.pas_threads.specs.Pairs.{MayLower}
+use Rattle.pas_answers.specs.{Stages.Stage, Stages.one_by_one, Answers.Progress}
+use Rattle.pas_threads.specs.{Pairs.MayLower, Settling.ActorsStand, Settling.StoppedSo, Settling.LoweredSo}
 use Rattle.pas_threads.specs.Sessions.{planned, Session, AreResting, StandSo, TeamAt, WentBy}
-use Rattle.pas_threads.specs.Settling.{ActorsStand, StoppedSo, LoweredSo}
 use Rattle.pas_threads.specs.Turns.{said_own, said_by_all, said_kept, said_by_keepers, IsGathered, IsKeptGathered}
 use Rattle.pas_threads.specs.declared.{workers.Worker.Worker, phases.Team.Team, scavenger.Scavenger.Scavenger}
-use Rattle.pas_threads.proofs.{InPhases.team_stands, Staging.went_both, Staging.one_by_one_both}
+use Rattle.pas_threads.proofs.{InPhases.team_stands, Staging.went_both, Staging.one_by_one_both, PhaseTeams.gathered_from}
+use Rattle.pas_threads.proofs.{phases.finish.Goals.After-deref_mut-2}
 use Rattle.pas_threads.proofs.BetweenPhases.{may_lower, room_at_close, room_for_keepers, has_closed}
-use Rattle.pas_threads.proofs.{PhaseTeams.gathered_from, phases.finish.Goals.After-deref_mut-2}
 use Rattle.pas_threads.proofs.phases.finish.Goals as goal
 
 -- the threads rest, where they are lent to be stopped

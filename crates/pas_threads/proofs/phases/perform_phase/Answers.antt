@@ -10,7 +10,8 @@ use Rattle.pas_threads.specs.Turns.{said_own, said_by_all, said_kept, said_by_ke
 use Rattle.pas_threads.specs.declared.{phases.Team.Team, scavenger.Scavenger.Scavenger, workers.Worker.Worker}
 use Rattle.pas_acts.proofs.NamesBefore.{sound_front, below_front}
 use Rattle.pas_threads.proofs.{Hearing.first_of, InPhases.team_stands}
-use Rattle.pas_threads.proofs.PhaseTeams.{WereGathered, WereTaken, begun_as, begun_stands, woke_stands, may_append, may_gather, may_gather_kept, may_take, gathered_from, reached, phase_team, phase_went, phase_done}
+use Rattle.pas_threads.proofs.PhaseTeams.{WereGathered, WereTaken, begun_as, begun_stands, woke_stands, may_append, may_gather, may_gather_kept, may_take}
+use Rattle.pas_threads.proofs.PhaseTeams.{gathered_from, reached, phase_team, phase_went, phase_done}
 use Rattle.pas_threads.proofs.phases.perform_phase.Goals as goal
 
 pub wake_all-requires-clause-rest : goal.wake_all-requires-clause-rest

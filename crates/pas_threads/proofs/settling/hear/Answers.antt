@@ -1,7 +1,6 @@
 use Rattle.std.proofs.Common.{◌≡◌, ◌∙◌, List, ◌++◌, Some, ap, sym, subst}
 use Rattle.std.proofs.lemmas.Option.{same_Some}
-use Rattle.pas_shared.specs.Ruled.{AreEarlier, bases_in}
-use Rattle.pas_shared.specs.{Benches.rows_on, Benches.IsBenchOf, Ledgers.looks_of}
+use Rattle.pas_shared.specs.{Ruled.AreEarlier, Ruled.bases_in, Benches.rows_on, Benches.IsBenchOf, Ledgers.looks_of}
 use Rattle.pas_shared.specs.declared.{bench.Bench.Bench, rule.Entry.Entry}
 use Rattle.pas_threads.proofs.Hearing.{looks_apart}
 use Rattle.pas_threads.proofs.settling.hear.Goals as goal

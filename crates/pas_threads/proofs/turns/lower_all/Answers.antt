@@ -9,9 +9,8 @@ use Rattle.pas_threads.specs.Pairs.{no_more, MayLower, KeeperStands, KeeperLower
 use Rattle.pas_threads.specs.{Sessions.Session, Sessions.StandSo, Settling.ActorsStand}
 use Rattle.pas_threads.specs.declared.{keeper.Keeper.Keeper, scavenger.Scavenger.Scavenger, workers.Worker.Worker}
 use Rattle.pas_threads.proofs.Closing.{LowersSoFar, lowers_begin, lowers_pass, sweep_stands, lowers_go_on, lowers_end}
-use Rattle.pas_threads.proofs.Keepers.{stands_for}
+use Rattle.pas_threads.proofs.{Keepers.stands_for, turns.lower_all.Goals.then-lower_one, turns.lower_all.Goals.else-lower_one}
 use Rattle.pas_threads.proofs.turns.lower_all.Goals as goal
-use Rattle.pas_threads.proofs.turns.lower_all.Goals.{then-lower_one, else-lower_one}
 
 -- what the sweep of the worker at this place did, if it has a keeper
 did : {region : SharedRegion} {s : Session} {slot : Option SharedPass} {old now : List Worker} {before after : Whole} {p : Progress} {low : Keeper} (i : ℕ) (d : Worker) (keeper : Keeper) (so : LowersSoFar region s slot i old now before after p) → i < length old → (get_or now i d).keeper ≡ Some keeper
@@ -41,9 +40,12 @@ settle-requires-clause-stand c =
     let so = c.loop-index.invariant.low r.0 r.1 r.2 r.3 r.4 in
     let has = c.lower_one.ensures.has c.if-lower_one.true in
     let one = c.lower_one.ensures.one has.0 has.1 in
-    let its = did {low = one.0} i d has.0 so lt has.1 one.2 in
-    (r.0, its.did.reached.list, subst (λ (v : Scavenger). ActorsStand c.args.region.now r.0 v.pass (set c.loop-index.threads i c.lower_one.new.worker) its.did.reached.list) (sym c.loop-index.invariant.same)
-    (sweep_stands i d c.lower_one.new.worker has.0 one.0 so lt c.loop-index.auto.threads has.1 c.lower_one.ensures.but one.1 its))
+    let its = did {low = one.0} i d has.0 so lt has.1 one.2 in (
+      r.0,
+      its.did.reached.list,
+      subst (λ (v : Scavenger). ActorsStand c.args.region.now r.0 v.pass (set c.loop-index.threads i c.lower_one.new.worker) its.did.reached.list) (sym c.loop-index.invariant.same)
+          (sweep_stands i d c.lower_one.new.worker has.0 one.0 so lt c.loop-index.auto.threads has.1 c.lower_one.ensures.but one.1 its),
+    )
 
 pub loop-index-preserved : goal.loop-index-preserved
 loop-index-preserved c = elim c.if-lower_one.branch [

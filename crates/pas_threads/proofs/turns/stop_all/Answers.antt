@@ -28,9 +28,12 @@ settle-requires-clause-stand c =
     let so = c.loop-index.invariant.rests r.0 r.1 r.2 r.3 r.4 r.5 in
     let i = c.loop-index.index in
     let d = c.index-threads-index.result in
-    let t = c.stop.ensures.stopped r.0.profile (suc i) (evenly (r.1 (suc i))) so.done.stopped.turns.came.reached (so.done.stopped.turns.stand i d c.loop-index-test.true).here in
-    (r.0, t.did.does.reached.list, subst (λ (v : Scavenger). ActorsStand c.args.region.now r.0 v.pass (set c.loop-index.threads i c.stop.new.worker) t.did.does.reached.list) (sym c.loop-index.invariant.same)
-    (next_stands i d c.stop.new.worker so.done r.4 c.loop-index-test.true c.loop-index.auto.threads t c.stop.ensures.empty))
+    let t = c.stop.ensures.stopped r.0.profile (suc i) (evenly (r.1 (suc i))) so.done.stopped.turns.came.reached (so.done.stopped.turns.stand i d c.loop-index-test.true).here in (
+      r.0,
+      t.did.does.reached.list,
+      subst (λ (v : Scavenger). ActorsStand c.args.region.now r.0 v.pass (set c.loop-index.threads i c.stop.new.worker) t.did.does.reached.list) (sym c.loop-index.invariant.same)
+          (next_stands i d c.stop.new.worker so.done r.4 c.loop-index-test.true c.loop-index.auto.threads t c.stop.ensures.empty),
+    )
 
 pub loop-index-preserved : goal.loop-index-preserved
 loop-index-preserved c = record {

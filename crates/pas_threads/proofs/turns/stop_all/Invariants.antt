@@ -2,8 +2,7 @@
 use Rattle.std.proofs.Common.{◌≡◌, ℕ}
 use Rattle.pas_answers.specs.Answers.{Progress}
 use Rattle.pas_shared.specs.Ledgers.{IsLedgerOf, so_far}
-use Rattle.pas_threads.specs.Sessions.{Session, StandSo, AreResting}
-use Rattle.pas_threads.specs.Settling.{ActorsStand}
+use Rattle.pas_threads.specs.{Sessions.Session, Sessions.StandSo, Sessions.AreResting, Settling.ActorsStand}
 use Rattle.pas_threads.proofs.Closing.{StopsSoFar}
 use Rattle.pas_threads.proofs.turns.stop_all.Given as goal
 

@@ -13,10 +13,15 @@ pub work-requires-clause-stands : goal.work-requires-clause-stands
 work-requires-clause-stands g c =
     let m = c.requires.may in
     let desk = c.bench_desk-desk.result in
-    let sits = sat_at desk c.bench_desk-desk.ensures.region c.bench_desk-desk.ensures.bench c.bench_desk-desk.ensures.member c.sit_down-bench.ensures.sits in
-    (m.profile, m.threads + m.thread, m.later, m.more, m.progress,
-    begins c.args.region.now c.args.book.now c.args.worker.now c.args.ops.now c.in-Some.pass c.take-2.result c.sit_down-bench.result.keeper desk (sym c.take.ensures.value ∙ c.in-Some.is) c.take-2.ensures.value sits m.profile m.threads m.thread m.later m.more m.progress
-    m.some m.stands)
+    let sits = sat_at desk c.bench_desk-desk.ensures.region c.bench_desk-desk.ensures.bench c.bench_desk-desk.ensures.member c.sit_down-bench.ensures.sits in (
+      m.profile,
+      m.threads + m.thread,
+      m.later,
+      m.more,
+      m.progress,
+      begins c.args.region.now c.args.book.now c.args.worker.now c.args.ops.now c.in-Some.pass c.take-2.result c.sit_down-bench.result.keeper desk (sym c.take.ensures.value ∙ c.in-Some.is) c.take-2.ensures.value sits m.profile m.threads m.thread m.later m.more m.progress
+          m.some m.stands,
+    )
 
 pub rise-bench-requires-clause-keeper : goal.rise-bench-requires-clause-keeper
 rise-bench-requires-clause-keeper g c =

@@ -1,6 +1,5 @@
 use Rattle.std.proofs.Common.{◌∙◌, ◌++◌, ◌∷◌, [], List, ap}
-use Rattle.pas_shared.specs.Ruled.{rows_of}
-use Rattle.pas_shared.specs.Ledgers.{part_of}
+use Rattle.pas_shared.specs.{Ruled.rows_of, Ledgers.part_of}
 use Rattle.pas_shared.specs.declared.rule.Row.{Row}
 use Rattle.pas_threads.specs.Seats.{keeper_parts}
 use Rattle.pas_threads.proofs.{Benched.sat, Pairs.pair_sat, Pairs.has_thread}
