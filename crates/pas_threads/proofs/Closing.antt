@@ -2,7 +2,6 @@
 use Rattle.std.proofs.Common.{◌≡◌, ◌≢◌, ℕ, suc, ◌+◌, ◌-◌, ◌<◌, ◌≤◌, inl, inr, List, [], ◌∷◌, ◌++◌, length, set, get_or, map, Option, Some, None, refl, ap, sym}
 use Rattle.std.proofs.Common.{◌∙◌, subst, arith, length-set}
 use Rattle.std.proofs.lemmas.{List.set-get_or, Option.same_Some}
-use Rattle.pas_profile.specs.declared.profile.Profile.{Profile}
 use Rattle.pas_steps.specs.Lists.{Whole, part}
 use Rattle.pas_steps.proofs.Parts.{part_of_others}
 use Rattle.pas_trace.specs.Acts.{Act, Ends, Lowers, numbers_from}
@@ -11,7 +10,7 @@ use Rattle.pas_shared.specs.Ruled.{IsEarlier}
 use Rattle.pas_shared.specs.declared.{region.SharedRegion.SharedRegion, pass.SharedPass.SharedPass}
 use Rattle.pas_answers.specs.{Answers.Progress, Stages.Stage, Stages.one_by_one}
 use Rattle.pas_plans.proofs.ActsLeft.{number_next, number_last}
-use Rattle.pas_threads.specs.Pairs.{no_more, HasKeeper, AreGuarded, IsButKeeper, KeeperLowered, Lowered, MayLower}
+use Rattle.pas_threads.specs.Pairs.{no_more, HasKeeper, AreGuarded, IsButKeeper, KeeperLowered, MayLower}
 use Rattle.pas_threads.specs.Sessions.{Session, evenly, AreResting, StandSo, WentBy}
 use Rattle.pas_threads.specs.Settling.{PassStands, ActorsStand, StoppedSo, LoweredSo}
 use Rattle.pas_threads.specs.Turns.{Turn, TookTurns, IsDue, Stopped}

@@ -1,5 +1,5 @@
 -- The ledger heard of the benches that the hands of a phase left.
-use Rattle.std.proofs.Common.{◌≡◌, ℕ, suc, ◌<◌, true, Bool, List, [], ◌∷◌, length, get_or, Option, refl, ap, sym, ◌∙◌, subst, arith}
+use Rattle.std.proofs.Common.{◌≡◌, ℕ, suc, ◌<◌, true, Bool, List, length, get_or, Option, refl, ap, sym, ◌∙◌, subst, arith}
 use Rattle.pas_steps.specs.Lists.{Whole}
 use Rattle.pas_shared.specs.Ruled.{bases_in, AreEarlier}
 use Rattle.pas_shared.specs.declared.{bench.Bench.Bench, ledger.Ledger.Ledger, region.SharedRegion.SharedRegion, rule.Row.Row}
@@ -8,7 +8,7 @@ use Rattle.pas_trace.specs.Acts.{is_active}
 use Rattle.pas_answers.specs.Answers.{Progress}
 use Rattle.pas_threads.specs.{Left.HasLeft, Sessions.HasPlaces}
 use Rattle.pas_threads.specs.Performing.{Round, ThreadDone, ScavengerDone, HaveActed, HeardOrder, IsHeard}
-use Rattle.pas_threads.specs.Settling.{SawMore, HasHeard, HasBench, with_bench, IsButBench}
+use Rattle.pas_threads.specs.Settling.{SawMore, HasHeard, HasBench, IsButBench}
 use Rattle.pas_threads.specs.declared.{phases.Team.Team, scavenger.Scavenger.Scavenger, workers.Worker.Worker}
 
 pub bench_left : {region : SharedRegion} {slot : Option Bench} {chosen : ℕ → Bool} {told told' : Whole} → HasLeft region slot chosen told told' → HasBench region slot

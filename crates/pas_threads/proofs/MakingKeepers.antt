@@ -1,7 +1,7 @@
 -- How the keepers of a plan are made: what they may say, their passes and books, and who has them.
-use Rattle.std.proofs.Common.{◌≡◌, ◌≢◌, ℕ, zero, suc, ◌+◌, ◌*◌, ◌<◌, ◌≤◌, ◌==◌, min, Bool, true, false, if◌then◌else◌, List, [], ◌∷◌, ◌++◌, length, set, get_or}
-use Rattle.std.proofs.Common.{slice_index, slice_index_or, All, inl, inr, Option, Some, None, refl, ap, sym, ◌∙◌, subst, arith, ◌-◌, ◌^◌, eq-eqb, ne_eqb}
-use Rattle.std.proofs.Common.{get_or-set_same, get_or-set_other}
+use Rattle.std.proofs.Common.{◌≡◌, ℕ, zero, suc, ◌+◌, ◌*◌, ◌<◌, ◌≤◌, ◌==◌, min, Bool, true, false, if◌then◌else◌, List, [], ◌∷◌, ◌++◌, length, set, get_or}
+use Rattle.std.proofs.Common.{slice_index, All, inl, inr, Option, Some, refl, ap, sym, ◌∙◌, subst, arith, ◌-◌, ◌^◌, eq-eqb, ne_eqb, get_or-set_same}
+use Rattle.std.proofs.Common.{get_or-set_other}
 use Rattle.std.specs.List.{AllByRecursion}
 use Rattle.std.proofs.{Math.Nat.le-min, Math.Nat.mul-le-mul, lemmas.Bool.cases_lt, lemmas.Bool.cases_eq, lemmas.List.get_or_append_left}
 use Rattle.std.proofs.{lemmas.List.get_or_push, lemmas.List.get_or_at}
@@ -19,7 +19,7 @@ use Rattle.pas_answers.specs.Replays.{threads_of, keepers_of}
 use Rattle.pas_plans.specs.Keepers.{one_guarded, guarded_of, AreBooks}
 use Rattle.pas_plans.proofs.KeeperActs.{is_guarded}
 use Rattle.pas_acts.specs.NameBooks.{requests_in, room_for, Requests}
-use Rattle.pas_threads.specs.Kits.{IsEquipped, AreEquipped, IsKeeperFor, IsKeeperWith, AreKeepers, IsAlone, HasRoomForKeeper, HaveKeepers, with_keeper}
+use Rattle.pas_threads.specs.Kits.{IsEquipped, AreEquipped, IsKeeperWith, AreKeepers, IsAlone, HasRoomForKeeper, HaveKeepers, with_keeper}
 use Rattle.pas_threads.specs.Pairs.{AreGuarded, IsButKeeper}
 use Rattle.pas_threads.specs.declared.{keeper.Keeper.Keeper, workers.Worker.Worker}
 

@@ -7,8 +7,7 @@ use Rattle.pas_bits.specs.Masks.{is_set}
 use Rattle.pas_bits.specs.declared.mask.Mask4.{Mask4}
 use Rattle.pas_profile.specs.declared.profile.Profile.{Profile}
 use Rattle.pas_trace.specs.declared.plan.Op.{Op}
-use Rattle.pas_report.specs.Rooms.{records_in, Records}
-use Rattle.pas_report.specs.declared.record.Record.{Record}
+use Rattle.pas_report.specs.Rooms.{Records}
 use Rattle.pas_utility.specs.Outcomes.{places_of, Outcomes}
 use Rattle.pas_shared.specs.declared.region.SharedRegion.{SharedRegion}
 use Rattle.pas_trace.specs.Acts.{Act, is_active, numbers_from, acts_of_op, acts_of_ops, own_acts, scavenger_acts}

@@ -1,5 +1,5 @@
 -- A phase of the team: what its acts cost; its hands are ready once its threads read the epoch and its names are noted; then what all its workers did and said is put together.
-use Rattle.std.proofs.Common.{◌≡◌, ◌≢◌, ℕ, zero, suc, ◌+◌, ◌-◌, ◌<◌, ◌≤◌, ◌==◌, Bool, true, false, if◌then◌else◌, inl, inr, List, [], ◌∷◌, ◌++◌, length, get_or}
+use Rattle.std.proofs.Common.{◌≡◌, ℕ, zero, suc, ◌+◌, ◌-◌, ◌<◌, ◌≤◌, ◌==◌, Bool, true, false, if◌then◌else◌, inl, inr, List, [], ◌∷◌, ◌++◌, length, get_or}
 use Rattle.std.proofs.Common.{Option, None, refl, ap, sym, ◌∙◌, subst, arith, All, map, append_assoc, length-append, MatchOption, append-nil, vec_capacity}
 use Rattle.std.proofs.Common.{eqb-true, eq-eqb, ◌⊎◌}
 use Rattle.std.specs.Vec.{with_items}
@@ -35,7 +35,7 @@ use Rattle.pas_acts.specs.{Keepers.LaterKept, Pairs.for_guards, Works.Later}
 use Rattle.pas_acts.specs.NameBooks.{NamesAt, ArePlaced, names_asked, requests_in, room_for, names_of, known_in, Requests, AreWithin}
 use Rattle.pas_acts.specs.declared.names.NameBook.{NameBook}
 use Rattle.pas_acts.proofs.{Alone.rests_still, Alone.sits_still, AtDesk.sits_for, NamesBefore.names_before, NamesBefore.sound_front, NamesBefore.below_front}
-use Rattle.pas_threads.specs.{Hands.standing_of_pass, Hands.WorkerAt, Left.pair_in, Left.crew_in, Settling.ActorsStand}
+use Rattle.pas_threads.specs.{Hands.WorkerAt, Left.pair_in, Left.crew_in, Settling.ActorsStand}
 use Rattle.pas_threads.specs.Pairs.{no_more, KeeperRests, said_by_keeper, owed_kept, keeper_at, owed_by_keepers, AreGuarded}
 use Rattle.pas_threads.specs.Performing.{Round, round, idle_in, ScavengerHas, IsReady, ThreadDone, ScavengerDone, IsDone, HeardOrder, IsHeard}
 use Rattle.pas_threads.specs.Sessions.{Session, planned, owed_by, WorkerRests, AreResting, ScavengerRests, HasPlaces, TeamAt, WorkerHas, AreMarked, AreWritten}

@@ -1,7 +1,7 @@
 -- A ledger takes in a pass, is settled, and gives the pass back; and the place where the pass was.
-use Rattle.std.proofs.Common.{◌≡◌, ◌≢◌, ℕ, zero, suc, ◌+◌, ◌<◌, ◌≤◌, inl, inr, List, [], ◌∷◌, length, get_or, set, Option, Some, None, refl, ap, sym, ◌∙◌}
-use Rattle.std.proofs.Common.{subst, arith, length-set, get_or-set_same, get_or-set_other}
-use Rattle.std.proofs.lemmas.{Bool.cases_lt, Bool.cases_eq, List.set-get_or, List.get_or_default, Option.same_Some}
+use Rattle.std.proofs.Common.{◌≡◌, ℕ, zero, suc, ◌+◌, ◌<◌, ◌≤◌, inl, inr, List, [], ◌∷◌, length, get_or, set, Option, refl, ap, sym, ◌∙◌, subst, arith}
+use Rattle.std.proofs.Common.{length-set, get_or-set_same, get_or-set_other}
+use Rattle.std.proofs.lemmas.{Bool.cases_lt, Bool.cases_eq, List.set-get_or, List.get_or_default}
 use Rattle.pas_steps.specs.Lists.{Whole, part}
 use Rattle.pas_shared.specs.{Ruled.HasPart, Ruled.IsEarlier, Ruled.AreEarlier, Passes.view_of, Passes.IsPassOf}
 use Rattle.pas_shared.specs.Ledgers.{so_far, looks_of, actors_in, part_of, IsSameLedger, IsRestOf}

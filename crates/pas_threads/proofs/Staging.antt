@@ -1,15 +1,15 @@
 -- How the stages of a replay follow each other, and what a stage shows in the list of all steps.
-use Rattle.std.proofs.Common.{◌≡◌, ℕ, suc, ◌+◌, ◌<◌, ◌≤◌, ◌==◌, Bool, true, false, if◌then◌else◌, inl, inr, ◌⊎◌, List, [], ◌∷◌, ◌++◌, length, map, refl, ap}
-use Rattle.std.proofs.Common.{sym, ◌∙◌, subst, arith, append_assoc, length-append, eq-eqb, eqb-true, true≢false}
+use Rattle.std.proofs.Common.{◌≡◌, ℕ, ◌+◌, Bool, true, if◌then◌else◌, inl, inr, ◌⊎◌, List, [], ◌∷◌, ◌++◌, length, refl, ap, sym, ◌∙◌, subst, arith}
+use Rattle.std.proofs.Common.{length-append, eq-eqb, true≢false}
 use Rattle.std.proofs.lemmas.{Bool.cases_lt, Bool.cases_Bool, List.map-append}
 use Rattle.pas_steps.specs.{Lists.Triple, Lists.Whole, Lists.part, Views.View, Desks.triples}
 use Rattle.pas_steps.specs.declared.step.Made.{Made}
 use Rattle.pas_core.specs.Orders.{steps_by}
-use Rattle.pas_core.proofs.Choosing.{step_taken, step_passed, steps_by_both, part_of_chosen, Within, steps_by_one, no_steps_by, as_many_steps}
+use Rattle.pas_core.proofs.Choosing.{steps_by_both, part_of_chosen, Within, steps_by_one, no_steps_by, as_many_steps}
 use Rattle.pas_trace.specs.Acts.{Act}
 use Rattle.pas_shared.specs.Ruled.{IsEarlier}
 use Rattle.pas_answers.specs.{Answers.Progress, Reaching.Reaches}
-use Rattle.pas_answers.specs.Stages.{Owners, itself, in_hands, AreSorted, Stage, stage, one_by_one, StageDone, GoByStages}
+use Rattle.pas_answers.specs.Stages.{Owners, itself, in_hands, AreSorted, Stage, stage, one_by_one, GoByStages}
 use Rattle.pas_answers.proofs.{Parts.part_both, Reached.goes_on, Staged.both_by_stages}
 use Rattle.pas_threads.specs.Left.{KeepsOrder}
 use Rattle.pas_threads.specs.Sessions.{Session, IsOfActors, StandSo, WentBy}

@@ -1,9 +1,9 @@
 -- How a kit is made, and where its team stands when a replay starts.
-use Rattle.std.proofs.Common.{◌≡◌, ◌≢◌, ℕ, zero, suc, ◌+◌, ◌-◌, ◌*◌, ◌<◌, ◌≤◌, ◌==◌, List, [], ◌∷◌, ◌++◌, length, map, get_or, slice_index, slice_index_or, All}
-use Rattle.std.proofs.Common.{Bool, true, false, if◌then◌else◌, inl, inr, Option, Some, None, refl, ap, sym, ◌∙◌, subst, arith, MatchOption, eq-eqb, ne_eqb}
+use Rattle.std.proofs.Common.{◌≡◌, ◌≢◌, ℕ, zero, suc, ◌+◌, ◌*◌, ◌<◌, ◌≤◌, ◌==◌, List, [], ◌∷◌, ◌++◌, length, map, get_or, slice_index, slice_index_or, Bool}
+use Rattle.std.proofs.Common.{true, false, if◌then◌else◌, inl, inr, Option, Some, None, refl, ap, sym, ◌∙◌, subst, arith, MatchOption, eq-eqb, ne_eqb}
 use Rattle.std.proofs.Common.{length-set}
 use Rattle.std.specs.List.{remove}
-use Rattle.std.proofs.{Math.ListN.set, Math.Nat.suc-mul, lemmas.Bool.cases_eq, lemmas.List.get_or-map, lemmas.List.length-map, lemmas.List.Elements.All-set}
+use Rattle.std.proofs.{Math.ListN.set, Math.Nat.suc-mul, lemmas.Bool.cases_eq, lemmas.List.length-map, lemmas.List.Elements.All-set}
 use Rattle.pas_profile.specs.Rooms.{shown, size_of_room, EventRoom}
 use Rattle.pas_profile.specs.declared.profile.Profile.{Profile}
 use Rattle.pas_trace.specs.Acts.{Act, Settles, act_kept, own_acts}
@@ -18,7 +18,7 @@ use Rattle.pas_guard.specs.Books.{FitsBook, guards_in}
 use Rattle.pas_guard.specs.declared.book.Guard.{Guard}
 use Rattle.pas_cache.specs.Caches.{Cached, cached}
 use Rattle.pas_cache.proofs.FlushesAndFrees.{rests_empty}
-use Rattle.pas_shared.specs.Passes.{AreFresh, seat_of, view_of, IsPassOf}
+use Rattle.pas_shared.specs.Passes.{AreFresh, IsPassOf}
 use Rattle.pas_shared.specs.declared.{pass.SharedPass.SharedPass, region.SharedRegion.SharedRegion}
 use Rattle.pas_answers.specs.{Calls.owed_events, Names.names_held}
 use Rattle.pas_answers.specs.Replays.{at_start, phases_of, region_of, threads_of, keepers_of}
@@ -33,7 +33,7 @@ use Rattle.pas_threads.specs.Hands.{standing_of_pass}
 use Rattle.pas_threads.specs.Kits.{IsEquipped, AreEquipped, IsNew, AreNew, IsSupplied, IsKeeperFor, IsKitOf}
 use Rattle.pas_threads.specs.Pairs.{no_more, KeeperRests, owed_kept, keeper_at, owed_by_keepers, AreGuarded}
 use Rattle.pas_threads.specs.Sessions.{Session, WorkerRests, ScavengerRests, TeamAt, HasRoom, owed_by}
-use Rattle.pas_threads.specs.declared.{keeper.Keeper.Keeper, kit.SharedKit.SharedKit, phases.Team.Team, scavenger.Scavenger.Scavenger, workers.Worker.Worker}
+use Rattle.pas_threads.specs.declared.{keeper.Keeper.Keeper, kit.SharedKit.SharedKit, scavenger.Scavenger.Scavenger, workers.Worker.Worker}
 use Rattle.pas_threads.proofs.{Dealt.some_worker, Keepers.keeper_is, TakingTurns.set_each}
 
 -- ---- equipping

@@ -13,14 +13,14 @@ use Rattle.pas_acts.specs.{Keepers.StandsStill, Works.Later, Works.Sits, NameBoo
 use Rattle.pas_acts.proofs.{AtDesk.leaves_rest, AtDesk.sits_for, Alone.rests_still}
 use Rattle.pas_shared.specs.declared.{region.SharedRegion.SharedRegion, pass.SharedPass.SharedPass}
 use Rattle.pas_answers.proofs.Reached.{reach_both}
-use Rattle.pas_threads.specs.Turns.{AreDistinct, Came, Pushed, Told, TookNoPart, Turn, TookTurns, owed_at, IsDue, Woke, WokeAll, Stopped, StoppedAll, said_by}
+use Rattle.pas_threads.specs.Turns.{AreDistinct, Came, Pushed, Told, TookNoPart, Turn, TookTurns, owed_at, IsDue, Woke, WokeAll, Stopped, said_by}
 use Rattle.pas_threads.specs.declared.workers.Worker.{Worker}
 use Rattle.std.specs.List.{filter}
 use Rattle.pas_bits.specs.Masks.{is_set}
 use Rattle.pas_bits.specs.declared.mask.Mask4.{Mask4}
 use Rattle.pas_cache.specs.Caches.{Cached, cached, AtRest}
 use Rattle.pas_plans.specs.Awake.{awake_in}
-use Rattle.pas_plans.proofs.ActsLeft.{acts_there, next_chosen, next_passed, none_left, number_next, number_last}
+use Rattle.pas_plans.proofs.ActsLeft.{acts_there, next_chosen, next_passed, none_left}
 use Rattle.pas_threads.specs.Hands.{standing_of_pass}
 use Rattle.pas_threads.specs.Sessions.{evenly, WorkerHas, WorkerRests, AreResting}
 

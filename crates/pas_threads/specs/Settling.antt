@@ -1,5 +1,5 @@
 -- What stands in a ledger once it was settled, and what it heard of.
-use Rattle.std.specs.Prelude.{ℕ, suc, ◌+◌, ◌<◌, ◌≡◌, [], List, length, map, get_or, Option, Some}
+use Rattle.std.specs.Prelude.{ℕ, suc, ◌+◌, ◌<◌, ◌≡◌, List, length, get_or, Option, Some}
 use Rattle.pas_steps.specs.Lists.{Whole, part}
 use Rattle.pas_shared.specs.Ruled.{AreEarlier, IsEarlier, HasAllOf, bases_in}
 use Rattle.pas_shared.specs.{Passes.seat_of, Passes.view_of, Passes.IsPassOf, Benches.rows_on, Benches.IsBenchOf, Ledgers.so_far, Ledgers.looks_of}

@@ -1,4 +1,4 @@
-use Rattle.std.proofs.Common.{◌≡◌, ◌<◌, ◌++◌, ◌∷◌, [], ℕ, List, Some, length, get_or, length-append, length-set, ap, sym, ◌∙◌, arith, get_or-set_other}
+use Rattle.std.proofs.Common.{◌<◌, ◌++◌, ◌∷◌, [], List, Some, length, get_or, length-append, length-set, ap, sym, ◌∙◌, arith, get_or-set_other}
 use Rattle.std.proofs.lemmas.List.{get_or_default}
 use Rattle.pas_shared.proofs.Opened.{one_done}
 use Rattle.pas_threads.specs.Kits.{with_keeper}

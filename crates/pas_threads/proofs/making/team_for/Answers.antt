@@ -1,4 +1,4 @@
-use Rattle.std.proofs.Common.{◌≡◌, ◌≤◌, ◌<◌, ◌+◌, ◌++◌, ℕ, List, take, drop, length, slice_index, ap, sym, ◌∙◌, subst, arith, vec_capacity, length-drop}
+use Rattle.std.proofs.Common.{◌≡◌, ◌≤◌, ◌+◌, ◌++◌, ℕ, List, take, drop, length, slice_index, ap, sym, ◌∙◌, subst, arith, vec_capacity, length-drop}
 use Rattle.std.proofs.Common.{length-take-le, take-append-drop}
 use Rattle.std.proofs.lemmas.{List.with_items_is, Option.same_Some}
 use Rattle.pas_trace.specs.Plans.{bounds_of}

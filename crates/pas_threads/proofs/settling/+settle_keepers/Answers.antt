@@ -1,8 +1,8 @@
-use Rattle.std.proofs.Common.{◌≡◌, ◌<◌, ◌≤◌, ◌+◌, ℕ, length, get_or, Option, Some, sym, ap, ◌∙◌, subst, arith, length-set, get_or-set_other}
+use Rattle.std.proofs.Common.{◌≡◌, ◌<◌, length, get_or, Option, Some, sym, ap, ◌∙◌, subst, arith, length-set, get_or-set_other}
 use Rattle.std.proofs.lemmas.{List.get_or_default, Option.same_Some}
-use Rattle.pas_shared.specs.{Passes.IsPassOf, Ledgers.so_far, Ledgers.actors_in}
+use Rattle.pas_shared.specs.Ledgers.{so_far, actors_in}
 use Rattle.pas_shared.specs.declared.pass.SharedPass.{SharedPass}
-use Rattle.pas_threads.specs.{Kits.with_keeper, Pairs.IsKeeperOf, Settling.Settled, Settling.StandsIn}
+use Rattle.pas_threads.specs.{Kits.with_keeper, Pairs.IsKeeperOf, Settling.StandsIn}
 use Rattle.pas_threads.specs.declared.{keeper.Keeper.Keeper, workers.Worker.Worker}
 use Rattle.pas_threads.proofs.SettledTeams.{gives, settled_with, stands_still, keeper_back, here_or_later}
 use Rattle.pas_threads.proofs.settling.+settle_keepers.Goals as goal

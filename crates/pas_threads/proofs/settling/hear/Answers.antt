@@ -1,4 +1,4 @@
-use Rattle.std.proofs.Common.{◌≡◌, ◌∙◌, List, ◌++◌, Some, ap, sym, subst}
+use Rattle.std.proofs.Common.{◌∙◌, List, sym, subst}
 use Rattle.std.proofs.lemmas.Option.{same_Some}
 use Rattle.pas_shared.specs.{Ruled.AreEarlier, Ruled.bases_in, Benches.rows_on, Benches.IsBenchOf, Ledgers.looks_of}
 use Rattle.pas_shared.specs.declared.{bench.Bench.Bench, rule.Entry.Entry}

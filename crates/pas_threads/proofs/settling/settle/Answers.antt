@@ -1,9 +1,8 @@
-use Rattle.std.proofs.Common.{◌≡◌, ◌<◌, ◌≤◌, ℕ, length, get_or, Option, Some, refl, sym, ap, ◌∙◌, subst, arith}
+use Rattle.std.proofs.Common.{Option, Some, sym, ap, ◌∙◌, subst, arith}
 use Rattle.std.proofs.lemmas.Option.{same_Some}
-use Rattle.pas_shared.specs.{Passes.IsPassOf, Ledgers.so_far, Ledgers.actors_in}
+use Rattle.pas_shared.specs.Ledgers.{so_far, actors_in}
 use Rattle.pas_shared.specs.declared.pass.SharedPass.{SharedPass}
-use Rattle.pas_threads.specs.{Hands.HasPass, Settling.StandsIn, Settling.Settled}
-use Rattle.pas_threads.specs.declared.{scavenger.Scavenger.Scavenger, workers.Worker.Worker}
+use Rattle.pas_threads.specs.Settling.{StandsIn}
 use Rattle.pas_threads.proofs.InPhases.{thread_back, keeper_back, stands_with, all_stand}
 use Rattle.pas_threads.proofs.SettledTeams.{gives, settled_with, stands_still}
 use Rattle.pas_threads.proofs.settling.settle.Goals as goal

@@ -1,12 +1,11 @@
-use Rattle.std.proofs.Common.{◌≡◌, ◌+◌, ◌<◌, ◌∙◌, ℕ, suc, List, length, set, get_or, Option, Some, refl, ap, sym, subst}
+use Rattle.std.proofs.Common.{◌≡◌, ◌+◌, ◌<◌, ◌∙◌, ℕ, suc, List, length, set, get_or, Option, Some, refl, sym, subst}
 use Rattle.pas_profile.specs.declared.profile.Profile.{Profile}
 use Rattle.pas_steps.specs.Lists.{Whole}
 use Rattle.pas_shared.specs.Ledgers.{so_far}
 use Rattle.pas_shared.specs.declared.{region.SharedRegion.SharedRegion, pass.SharedPass.SharedPass}
 use Rattle.pas_answers.specs.Answers.{Progress}
 use Rattle.pas_acts.specs.Keepers.{LaterKept}
-use Rattle.pas_threads.specs.Pairs.{no_more, MayLower, KeeperStands, KeeperLowered}
-use Rattle.pas_threads.specs.{Sessions.Session, Sessions.StandSo, Settling.ActorsStand}
+use Rattle.pas_threads.specs.{Pairs.no_more, Pairs.KeeperStands, Pairs.KeeperLowered, Sessions.Session, Settling.ActorsStand}
 use Rattle.pas_threads.specs.declared.{keeper.Keeper.Keeper, scavenger.Scavenger.Scavenger, workers.Worker.Worker}
 use Rattle.pas_threads.proofs.Closing.{LowersSoFar, lowers_begin, lowers_pass, sweep_stands, lowers_go_on, lowers_end}
 use Rattle.pas_threads.proofs.{Keepers.stands_for, turns.lower_all.Goals.then-lower_one, turns.lower_all.Goals.else-lower_one}

@@ -1,4 +1,4 @@
-use Rattle.std.proofs.Common.{◌≡◌, ◌∙◌, Option, Some, None, true, false, refl, ap, sym, subst}
+use Rattle.std.proofs.Common.{◌≡◌, ◌∙◌, Option, Some, None, refl, ap, sym, subst}
 use Rattle.std.proofs.lemmas.{Bool.false≢true, Option.same_Some}
 use Rattle.pas_threads.specs.{Pairs.no_more, Pairs.KeeperStands, Pairs.KeeperLowered, Kits.with_keeper}
 use Rattle.pas_threads.specs.declared.keeper.Keeper.{Keeper}

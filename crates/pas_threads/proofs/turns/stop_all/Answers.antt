@@ -1,10 +1,6 @@
-use Rattle.std.proofs.Common.{◌≡◌, ◌+◌, ◌∙◌, ℕ, suc, List, [], ◌∷◌, set, get_or, Option, refl, ap, sym, subst}
-use Rattle.pas_answers.specs.Answers.{Progress}
+use Rattle.std.proofs.Common.{◌+◌, ◌∙◌, suc, List, set, refl, sym, subst}
 use Rattle.pas_shared.specs.Ledgers.{so_far}
-use Rattle.pas_shared.specs.declared.pass.SharedPass.{SharedPass}
-use Rattle.pas_trace.specs.Acts.{Ends}
-use Rattle.pas_threads.specs.Sessions.{Session, StandSo, AreResting, evenly}
-use Rattle.pas_threads.specs.{Settling.ActorsStand, Turns.Turn}
+use Rattle.pas_threads.specs.{Sessions.evenly, Settling.ActorsStand}
 use Rattle.pas_threads.specs.declared.{scavenger.Scavenger.Scavenger, workers.Worker.Worker}
 use Rattle.pas_threads.proofs.Closing.{StopsSoFar, stops_begin, next_stands, stops_next, stops_go_on, stops_end}
 use Rattle.pas_threads.proofs.turns.stop_all.Goals as goal
