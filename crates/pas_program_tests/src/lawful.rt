@@ -5,7 +5,7 @@ use pas_machine::Machine;
 use pas_profile::{Block, Event};
 use pas_report::{Record, total_line};
 use pas_steps::State;
-use pas_storms::judge;
+use pas_trials::judge;
 use std::alloc::{AllocError, Global};
 use std::test::Fail;
 

@@ -12,7 +12,7 @@ use Rattle.pas_plain.specs.Storms.{StormStands, seat_for}
 use Rattle.pas_plain.specs.declared.{desk.PlainDesk.PlainDesk, pass.PlainPass.PlainPass, region.PlainRegion.PlainRegion}
 use Rattle.pas_plain.proofs.Desks.{pass_rests}
 use Rattle.pas_search.specs.Searches.{SearchRoom}
-use Rattle.pas_storms.proofs.Going.{few_below}
+use Rattle.pas_trials.proofs.Going.{few_below}
 use Rattle.pas_segregated.specs.Stops.{class_directory}
 use Rattle.pas_session_tests.proofs.Besides.{may_search}
 use Rattle.pas_trials.specs.Borrowing.{Borrows, RestsWithRoom}

@@ -1,7 +1,7 @@
 //! An own errand against foreign ones, in storms at each own step number in turn.
 
 use crate::storming::{Found, Spoil, storm};
-use pas_storms::{Errand, Visit};
+use pas_trials::{Errand, Visit};
 use std::alloc::Global;
 use std::test::Fail;
 

@@ -3,7 +3,7 @@
 use crate::errand_tests::{FIRST, SLOT};
 use crate::storming::{Spoil, storm};
 use pas_profile::*;
-use pas_storms::{Errand, Fault, Visit};
+use pas_trials::{Errand, Fault, Visit};
 use std::alloc::Global;
 use std::test::Fail;
 

@@ -7,8 +7,8 @@ use pas_bits::Mask4;
 use pas_profile::*;
 use pas_segregated::Slots;
 use pas_shared::close;
-use pas_shared_trials::{race, rise, workers_of};
 use pas_steps::State;
+use pas_trials::{race, rise, workers_of};
 use std::test::Fail;
 
 /// The free words of page 1, its deed word and its backed word.

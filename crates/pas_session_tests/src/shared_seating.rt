@@ -2,7 +2,7 @@
 ghost use Rattle.std.specs.Prelude.{◌≡◌, ◌≤◌, ◌+◌, [], All, IfOk, vec_len};
 ghost use Rattle.pas_profile.specs.Rooms.{shown, size_of_room};
 ghost use Rattle.pas_shared.specs.Passes.{profile_of};
-ghost use Rattle.pas_shared_trials.specs.Races.{IsFreshPass};
+ghost use Rattle.pas_trials.specs.Races.{IsFreshPass};
 ghost use Rattle.pas_session_tests.specs.Seated.{shared_profile};
 
 use pas_profile::{EventRoom, NoMemory, Profile};

@@ -3,8 +3,7 @@ ghost use Rattle.std.specs.Prelude.{◌≡◌, ◌≤◌, [], true, length, IfOk
 ghost use Rattle.pas_steps.specs.{Desks.CanCall, Lists.Whole, States.profile_of as the_profile_of, Views.View};
 ghost use Rattle.pas_cache.specs.Caches.{AtRest};
 ghost use Rattle.pas_plain.specs.{Plain.profile_of, Plain.room_of_pass, Plain.events_shown, Seats.region_of, Seats.pass_of, Storms.StormStands};
-ghost use Rattle.pas_trials.specs.Filling.{Steps};
-ghost use Rattle.pas_storms.specs.Storms.{cache_of};
+ghost use Rattle.pas_trials.specs.{Filling.Steps, Storms.cache_of};
 ghost use Rattle.pas_session_tests.specs.Seated.{RestsBeside, stormy};
 
 use crate::seating::{seated, stormy_profile};
@@ -14,7 +13,7 @@ use pas_machine::Machine;
 use pas_plain::{PlainDesk, PlainPass, PlainRegion, close};
 use pas_profile::{Event, NoMemory, Word};
 use pas_steps::{Desk, State};
-use pas_storms::{Errand, Fault, Guest, Hands, MOST_WATCHED, Moment, Visit, Watched, judge};
+use pas_trials::{Errand, Fault, Guest, Hands, MOST_WATCHED, Moment, Visit, Watched, judge};
 use pas_utility::Utility;
 use std::alloc::{AllocError, Global};
 use std::test::Fail;

@@ -4,7 +4,7 @@ ghost use Rattle.pas_profile.specs.Rooms.{shown, size_of_room};
 ghost use Rattle.pas_steps.specs.Desks.{AnyView, CanCall};
 ghost use Rattle.pas_plain.specs.{Seats.standing_of, Seats.region_of, Plain.profile_of};
 ghost use Rattle.pas_shared.specs.Passes.{profile_of as the_profile_of};
-ghost use Rattle.pas_shared_trials.specs.Races.{IsFreshPass};
+ghost use Rattle.pas_trials.specs.Races.{IsFreshPass};
 ghost use Rattle.pas_step_timing.specs.Repeats.{bench_profile};
 
 use crate::repeating::PAGES;

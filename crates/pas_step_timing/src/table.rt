@@ -1,7 +1,7 @@
 //! The table of what was measured: processor time, since the clock on the wall also counts what others do on the machine.
 ghost use Rattle.std.specs.Prelude.{◌≡◌, ◌≤◌, ◌<◌, All, IfOk};
 ghost use Rattle.pas_steps.specs.Desks.{AnyView, CanCall};
-ghost use Rattle.pas_shared_trials.specs.Races.{IsFreshPass};
+ghost use Rattle.pas_trials.specs.Races.{IsFreshPass};
 ghost use Rattle.pas_step_timing.specs.Repeats.{IsReady};
 
 use crate::bare;
@@ -9,8 +9,8 @@ use crate::opened::{THREADS, plain, shared};
 use crate::repeating::{Kind, repeat};
 use crate::sharing::{Worker, work_at_once};
 use pas_shared::{SharedPass, SharedRegion};
-use pas_shared_trials::{gather, run_storm, storm_workers};
 use pas_steps::Desk;
+use pas_trials::{gather, run_storm, storm_workers};
 use pas_utility::Utility;
 use std::alloc::Global;
 use std::io;

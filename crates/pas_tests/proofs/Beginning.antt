@@ -2,7 +2,7 @@
 use Rattle.std.proofs.Common.{◌≡◌, ℕ, ◌-◌, ◌≤◌, List, [], length, refl, ap, sym, ◌∙◌, subst, arith}
 use Rattle.pas_profile.specs.declared.profile.Profile.{Profile}
 use Rattle.pas_steps.specs.{Clear.HasNothing, Desks.Seat, Desks.Standing, Desks.CanCall, Lists.Whole, Unknown.unknown_pages, Views.View}
-use Rattle.pas_storms.proofs.Going.{few_below}
+use Rattle.pas_trials.proofs.Going.{few_below}
 use Rattle.pas_report.specs.Rooms.{records_in, room_of, Records}
 use Rattle.pas_report.specs.declared.record.Record.{Record}
 use Rattle.pas_guard.specs.Books.{FitsBook, guards_in, size_of_book}

@@ -12,7 +12,7 @@ use pas_plain::{PlainPass, PlainRegion, close};
 use pas_profile::{Block, Event, EventRoom, NoMemory, Profile};
 use pas_report::{Record, Records, Said};
 use pas_steps::State;
-use pas_storms::{Fault, Guest, Hands, Visit, judge};
+use pas_trials::{Fault, Guest, Hands, Visit, judge};
 use pas_utility::Utility;
 use std::alloc::{AllocError, Global};
 use std::test::Fail;

@@ -1,6 +1,6 @@
 //! The visits of an intruder, by a seed.
 
-use pas_storms::{Errand, Visit};
+use pas_trials::{Errand, Visit};
 use std::alloc::{AllocError, Global};
 
 /// Requests of heap 0: a slot, a bit-fit block, one page and two pages.

@@ -7,3 +7,9 @@ mod Intruding
 mod Borrowing
 mod ByRooms
 mod WholePages
+pub mod Going
+mod Kept
+mod Unfinished
+pub mod Firsts
+mod HandedOver
+mod Working

@@ -1,3 +1,9 @@
 pub mod Trials
 pub mod Filling
 pub mod Borrowing
+pub mod Storms
+pub mod Judging
+pub mod Unfinished
+pub mod Races
+pub mod SharedStorms
+pub mod Handing

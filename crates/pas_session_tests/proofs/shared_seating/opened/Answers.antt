@@ -1,4 +1,4 @@
-use Rattle.pas_shared_trials.proofs.Firsts.{fresh_passes}
+use Rattle.pas_trials.proofs.Firsts.{fresh_passes}
 use Rattle.pas_session_tests.proofs.shared_seating.opened.Goals as goal
 
 pub returns-clause-passes : goal.returns-clause-passes

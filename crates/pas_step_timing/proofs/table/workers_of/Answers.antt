@@ -1,4 +1,4 @@
-use Rattle.pas_shared_trials.specs.Races.{IsFreshPass}
+use Rattle.pas_trials.specs.Races.{IsFreshPass}
 use Rattle.pas_shared.proofs.Pops.{all_more, first_is, others_are}
 use Rattle.pas_step_timing.specs.Repeats.{IsReady}
 use Rattle.pas_step_timing.proofs.table.workers_of.Goals as goal

@@ -1,3 +1,0 @@
-pub mod Firsts
-mod HandedOver
-mod Working

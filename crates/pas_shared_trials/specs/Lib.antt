@@ -1,3 +1,0 @@
-pub mod Races
-pub mod Storms
-pub mod Handing

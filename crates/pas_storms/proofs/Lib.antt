@@ -1,3 +1,0 @@
-pub mod Going
-mod Kept
-mod Unfinished

@@ -1,7 +1,0 @@
-use Rattle.std.proofs.Common.{ℕ, ◌≤◌}
-use Rattle.pas_storms.specs.Judging.{IsSoundPage}
-use Rattle.pas_storms.proofs.judging.judge.Given as goal
-
--- the pages so far are sound
-abbrev pub invariant-loop-before : goal.invariant-loop-before
-invariant-loop-before l = (page : ℕ) → 1 ≤ page → page ≤ l.before → IsSoundPage l.state l.live page

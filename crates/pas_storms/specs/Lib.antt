@@ -1,3 +1,0 @@
-pub mod Storms
-pub mod Judging
-pub mod Unfinished

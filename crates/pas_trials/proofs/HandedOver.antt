@@ -1,0 +1,251 @@
+-- A block that one actor hands another: what each of the two did, and how their steps stand in the one list.
+use Rattle.std.proofs.Common.{◌≡◌, ◌≢◌, ℕ, zero, suc, ◌-◌, ◌/◌, ◌<◌, max, Bool, true, false, if◌then◌else◌, List, [], ◌∷◌, ◌++◌, length, map, reverse, Option}
+use Rattle.std.proofs.Common.{Some, None, Ok, inr, ⊎_elim, refl, sym, ap, ◌∙◌, subst, arith, nat_lt, eq-eqb, append-nil, append_assoc}
+use Rattle.std.specs.List.{AllByRecursion}
+use Rattle.std.proofs.lemmas.{Bool.cases_eq, List.append_cancel_right, List.reverse-reverse}
+use Rattle.pas_bits.proofs.Runs.{first_of_run}
+use Rattle.pas_profile.specs.{Blocks.address_of, Blocks.grain_of, Blocks.length_of, Lives.turn_of, Profiles.IsPage, Profiles.IsValid, Requests.route_in}
+use Rattle.pas_profile.specs.{Routes.room_by, Routes.IsRouteOf}
+use Rattle.pas_profile.specs.declared.{directory.Directory.Directory, directory.Route.Route, event.Event.Event, event.Why.Why, name.Block.Block, name.Name.Name}
+use Rattle.pas_profile.specs.declared.{profile.Profile.Profile}
+use Rattle.pas_profile.proofs.ClassFacts.{route_is, class_known, class_size_whole}
+use Rattle.pas_region.specs.Noted.{events_noted, room_of_notes}
+use Rattle.pas_machine.specs.{Machine.Run, Machine.IsLive, Machine.IsReason, State.live_in, State.ends_in}
+use Rattle.pas_steps.specs.{Clear.HasNothing, Views.View, Views.epoch_of}
+use Rattle.pas_steps.specs.Desks.{Seat, CanCall, triple, triples}
+use Rattle.pas_steps.specs.Events.{event_of, events_of, events_by, with_event}
+use Rattle.pas_steps.specs.Lists.{Triple, Whole, Legal, part, visible}
+use Rattle.pas_steps.specs.declared.{state.State.State, step.Made.Made}
+use Rattle.pas_steps.proofs.Parts.{part_of_own, part_of_others}
+use Rattle.pas_core.proofs.MachineRuns.{runs}
+use Rattle.pas_free_log.specs.{Conditions.IsEntryOf, Logs.entry_of}
+use Rattle.pas_free_log.specs.Flushes.{Settled, Flushes, event_for, shown_for}
+use Rattle.pas_free_log.specs.declared.{ending.Outcome.Outcome, ending.Outcome.TheVariants.Ended, ending.Outcome.TheVariants.Refused, log.Entry.Entry}
+use Rattle.pas_free_log.specs.declared.{noting.EndedRun.EndedRun}
+use Rattle.pas_cache.specs.{Caches.Cached, Caches.AtRest, Calls.MayAllocate, Calls.Allocates, Serves.IsPreparing, Serves.wanted_for}
+use Rattle.pas_shared.specs.{Ruled.IsEarlier, Passes.view_of, Passes.seat_of, Passes.standing_of, Pasts.told, Pasts.IsPastOf, Pasts.HasOwn, Ledgers.EndsAfter}
+use Rattle.pas_shared.specs.declared.{desk.SharedDesk.SharedDesk, past.Past.Past, pass.SharedPass.SharedPass, region.SharedRegion.SharedRegion}
+use Rattle.pas_shared.proofs.{Pops.first_is, Pops.others_are, Pasts.part_both}
+use Rattle.pas_trials.specs.Handing.{IsFirst, IsOfActor, IsGiftOf, HasFreed, IsHandedOver}
+use Rattle.pas_trials.specs.declared.handing.Gift.{Gift}
+use Rattle.pas_trials.proofs.Firsts.{no_events, nothing}
+
+-- ==== What each of the two did.
+
+events_all : (k : ℕ) (xs : List Made) → events_of k (xs ++ []) ≡ events_by k [] xs
+events_all k [] = refl
+events_all k (m ∷ xs) = ap (with_event (event_of k (epoch_of (xs ++ [])) m.step m.answer)) (events_all k xs)
+
+-- ---- the one that asks
+pub can_ask : (desk : SharedDesk) (c : Cached) → view_of desk.pass ≡ [] → (seat_of desk.pass).room ≡ 3 → ((f : Profile) (v : View) → HasNothing v → AtRest f c v)
+    → CanCall (standing_of desk) (MayAllocate (seat_of desk.pass).profile c (room_of_notes desk.pass.notes - length (events_noted desk.pass.notes)))
+can_ask desk c none room rest =
+    let f = (seat_of desk.pass).profile in
+    let empty = no_events desk.pass none in
+    record {
+      view = view_of desk.pass;
+      whole = [];
+      stood = refl;
+      met = record { rest = subst (λ (v : View). AtRest f c v) (sym none) (rest f [] nothing); room = (omega (arith, empty, room), inr (omega (arith, empty, room))) };
+    }
+
+some_grains : (classes size align : ℕ) (route : Route) → IsRouteOf classes size align route → 0 < room_by route (max size 1) / 16
+some_grains classes size align (Route.Class class) is = let whole = class_size_whole class (class_known classes size align class is) in omega (arith, is.suits.room, whole)
+some_grains classes size align Route.Bitfit is = omega arith
+some_grains classes size align Route.Large is = omega arith
+
+pub gift_of : (region : SharedRegion) (c c' : Cached) (tells : Bool) (d d' : SharedDesk) (pass : SharedPass) (gift : Gift) (block : Block)
+    → view_of d.pass ≡ [] → (seat_of d.pass).actor ≡ 1 → (seat_of d.pass).profile ≡ region.profile → ((f : Profile) (v : View) → HasNothing v → AtRest f c v)
+    → Allocates (wanted_for (seat_of d.pass).profile 0 64 16) tells c c' (standing_of d) (standing_of d') (Ok block)
+    → pass ≡ d'.pass → IsPastOf region gift.past → HasOwn (seat_of d'.pass).actor (view_of d'.pass) (told gift.past) → gift.name ≡ block.name
+    → IsGiftOf region pass gift
+gift_of region c c' tells d d' pass gift block none actor profile rest al pass_is of own name =
+    let f = (seat_of d.pass).profile in
+    let met = rest f [] nothing in
+    let view : view_of pass ≡ al.steps ++ [] = ap view_of pass_is ∙ al.calls.adds.added [] [] none met in
+    let who : (seat_of d'.pass).actor ≡ 1 = ap (λ (s : Seat). s.actor) al.calls.adds.seat_is ∙ actor in
+    let shown = al.outcome.events 1 [] in
+    let small = al.outcome.turn.from [] met (al.calls.adds.agreed [] [] none met) in
+    let some = some_grains f.classes 64 16 (route_in f 64 16) (route_is f.classes 64 16) in
+    let room = ap (λ (n : ℕ). n / 16) al.outcome.room in
+    let page = al.outcome.of_region (grain_of block.name) (first_of_run (grain_of block.name) (length_of block) (omega (arith, some, room))) in
+    let same : grain_of block.name / 256 ≡ address_of block.name / 4096 = omega arith in
+    let entry : IsEntryOf f (entry_of block.name) = record { name = record { page = subst (IsPage f) same page; aligned = al.outcome.aligned; turn = omega (arith, small) }; whole = refl; within = omega arith } in
+    record {
+      past = of;
+      own = subst (λ (z : ℕ × View). HasOwn z.0 z.1 (told gift.past)) (λ i. (who i, view_of (sym pass_is i))) own;
+      block = block;
+      name_is = sym name;
+      directory = (wanted_for f 0 64 16).directory;
+      before = shown.0;
+      events = ap (events_of 1) view ∙ (events_all 1 al.steps ∙ shown.1);
+      prepared = shown.2;
+      entry = subst (λ (z : Profile × Name). IsEntryOf z.0 (entry_of z.1)) (λ i. (profile i, sym name i)) entry;
+    }
+
+-- ---- the one that frees
+abbrev first_or : Entry → List Entry → Entry
+first_or entry [] = entry
+first_or entry (e ∷ es) = e
+
+abbrev others_of : List Entry → List Entry
+others_of [] = []
+others_of (e ∷ es) = es
+
+abbrev IsNone : {A : Type 0} → List A → Type 0
+IsNone [] = Unit {0}
+IsNone (x ∷ xs) = ⊥
+
+one_settled : (settled : List Settled) (entry : Entry) → map (λ (s : Settled). s.entry) settled ≡ entry ∷ [] → (s : Settled) × (settled ≡ s ∷ []) × (s.entry ≡ entry)
+one_settled [] entry e = absurd (subst (λ (es : List Entry). IsNone es) e tt)
+one_settled (s ∷ []) entry e = (s, refl, ap (first_or s.entry) e)
+one_settled (s ∷ t ∷ more) entry e = absurd (subst (λ (es : List Entry). IsNone (others_of es)) (sym e) tt)
+
+pub freed : (region : SharedRegion) (d d' : SharedDesk) (gift : Gift) (pass : SharedPass) (past : Past) (noted noted' : List EndedRun)
+    → view_of d.pass ≡ [] → (seat_of d.pass).actor ≡ 2 → Flushes (entry_of gift.name ∷ []) noted noted' (standing_of d) (standing_of d')
+    → pass ≡ d'.pass → IsPastOf region past → IsEarlier (told gift.past) (told past) → HasOwn 2 [] (told past)
+    → HasFreed region gift pass past
+freed region d d' gift pass past noted noted' none actor fl pass_is of earlier own =
+    let one = one_settled fl.settled (entry_of gift.name) (sym (reverse-reverse (map (λ (s : Settled). s.entry) fl.settled)) ∙ ap reverse fl.entries_are) in
+    let view : view_of pass ≡ fl.steps ++ [] = ap view_of pass_is ∙ fl.calls.adds.added [] [] none nothing.clear in
+    let shown = subst (λ (k : ℕ). events_by k [] fl.steps ≡ map (shown_for k fl.epoch) fl.settled) actor (fl.events []) in
+    record {
+      past_of = of;
+      earlier = earlier;
+      own = own;
+      epoch = fl.epoch;
+      outcome = one.0.outcome;
+      events = ap (events_of 2) view ∙ (events_all 2 fl.steps ∙ (shown ∙ (ap (map (shown_for 2 fl.epoch)) one.1 ∙ ap (λ (e : Entry). event_for 2 fl.epoch e one.0.outcome ∷ []) one.2)));
+    }
+
+-- ==== The one list: all steps of the one, and behind them all of the other.
+
+-- ---- a list of one actor
+own_part : (t : Triple) (l : Whole) → part t.actor (t ∷ l) ≡ t.made ∷ part t.actor l
+own_part t l = part_of_own t.actor (t.made ∷ []) l
+
+other_part : (t : Triple) (l : Whole) (j : ℕ) → t.actor ≢ j → part j (t ∷ l) ≡ part j l
+other_part t l j ne = part_of_others j t.actor (t.made ∷ []) l ne
+
+some_step : (m : Made) (v w : View) → w ≡ m ∷ v → w ≡ [] → ⊥
+some_step m v w is none = subst (λ (u : View). IsNone u) (sym none ∙ is) tt
+
+lone : (k : ℕ) (l : Whole) → ((j : ℕ) → j ≢ k → part j l ≡ []) → l ≡ triples k (part k l)
+lone k [] none = refl
+lone k (t ∷ l) none = ⊎_elim
+    (λ (same : t.actor ≡ k).
+    let rest : l ≡ triples k (part k l) = lone k l (λ j ne. sym (other_part t l j (λ e. ne (sym e ∙ same))) ∙ none j ne) in
+    let its : part k (t ∷ l) ≡ t.made ∷ part k l = subst (λ (n : ℕ). part n (t ∷ l) ≡ t.made ∷ part n l) same (own_part t l) in
+    let front : t ∷ l ≡ triple k t.made ∷ triples k (part k l) = λ i. triple (same i) t.made ∷ rest i in
+    front ∙ ap (triples k) (sym its))
+    (λ (ne : t.actor ≢ k). absurd (some_step t.made (part t.actor l) (part t.actor (t ∷ l)) (own_part t l) (none t.actor ne)))
+    (cases_eq t.actor k)
+
+-- ---- no one else made a step
+nobody : (f : Profile) (l : Whole) (j : ℕ) → Legal f l → f.threads < j → part j l ≡ []
+nobody f [] j legal beyond = refl
+nobody f (t ∷ l) j legal beyond = other_part t l j (λ same. omega (arith, legal.0.actor, beyond, same)) ∙ nobody f l j legal.1 beyond
+
+left_none : (v w : View) → v ++ w ≡ [] → v ≡ []
+left_none [] w none = refl
+left_none (m ∷ v) w none = absurd (some_step m (v ++ w) (m ∷ v ++ w) refl none)
+
+right_none : (v w : View) → v ++ w ≡ [] → w ≡ []
+right_none v w none = ap (λ (u : View). u ++ w) (sym (left_none v w none)) ∙ none
+
+but_one : (P : ℕ → Type 0) → P 0 → P 2 → ((j : ℕ) → 2 < j → P j) → (j : ℕ) → j ≢ 1 → P j
+but_one P none two more zero ne = none
+but_one P none two more (suc zero) ne = absurd (ne refl)
+but_one P none two more (suc (suc zero)) ne = two
+but_one P none two more (suc (suc (suc j))) ne = more (suc (suc (suc j))) (omega arith)
+
+but_two : (P : ℕ → Type 0) → P 0 → P 1 → ((j : ℕ) → 2 < j → P j) → (j : ℕ) → j ≢ 2 → P j
+but_two P none one more zero ne = none
+but_two P none one more (suc zero) ne = one
+but_two P none one more (suc (suc zero)) ne = absurd (ne refl)
+but_two P none one more (suc (suc (suc j))) ne = more (suc (suc (suc j))) (omega arith)
+
+-- ---- its events
+event_both : (o : Option Event) (es more : List Event) → with_event o (es ++ more) ≡ with_event o es ++ more
+event_both None es more = refl
+event_both (Some e) es more = refl
+
+shown_both : (k : ℕ) (xs : List Made) (l : Whole) → visible (triples k xs ++ l) ≡ events_by k (part k l) xs ++ visible l
+shown_both k [] l = refl
+shown_both k (m ∷ xs) l =
+    ap (λ (v : View). with_event (event_of k (epoch_of v) m.step m.answer) (visible (triples k xs ++ l))) (part_of_own k xs l)
+    ∙ (ap (with_event (event_of k (epoch_of (xs ++ part k l)) m.step m.answer)) (shown_both k xs l)
+    ∙ event_both (event_of k (epoch_of (xs ++ part k l)) m.step m.answer) (events_by k (part k l) xs) (visible l))
+
+shown_lone : (k : ℕ) (v : View) (l : Whole) → part k l ≡ [] → visible (triples k v ++ l) ≡ events_of k v ++ visible l
+shown_lone k v l none =
+    shown_both k v l ∙ ap (λ (es : List Event). es ++ visible l) (ap (λ (w : View). events_by k w v) none ∙ (sym (events_all k v) ∙ ap (events_of k) (append-nil v)))
+
+-- ==== A run in which the block was given last has no refusal of its name next.
+
+no_end : (d : Directory) (e : Event) (es : List Event) (a : ℕ) → IsPreparing d e → ends_in (e ∷ es) a ≡ ends_in es a
+no_end d e es a (IsPreparing.Deeds k page) = refl
+no_end d e es a (IsPreparing.Backs k page) = refl
+
+no_ends : (d : Directory) (es : List Event) (a : ℕ) → AllByRecursion (IsPreparing d) es → ends_in es a ≡ 0
+no_ends d [] a all = refl
+no_ends d (e ∷ es) a all = no_end d e es a all.0 ∙ no_ends d es a all.1
+
+refuses_not : (ended : Bool) (es : List Event) (name : Name) → ends_in es (address_of name) ≡ 0 → IsLive es name → IsReason es name (if ended then Why.Ended else Why.NoBlock) → ⊥
+refuses_not true es name none live reason = omega (arith, none, reason)
+refuses_not false es name none live reason = reason.1 live
+
+is_end : (f : Profile) (block : Block) (d : Directory) (before : List Event) (epoch : ℕ) (outcome : Outcome) → AllByRecursion (IsPreparing d) before
+    → Run f (event_for 2 epoch (entry_of block.name) outcome ∷ Event.Give 1 block ∷ before) → event_for 2 epoch (entry_of block.name) outcome ≡ Event.End 2 block.name epoch
+is_end f block d before epoch (Ended grains) prepared run = refl
+is_end f block d before epoch (Refused read) prepared run =
+    let a = address_of block.name in
+    let live : IsLive (Event.Give 1 block ∷ before) block.name = (record { actor = 1; block = block }, ap (λ (b : Bool). if b then Some (record { actor = 1; block = block }) else live_in before a) (eq-eqb a a refl), refl) in
+    absurd (refuses_not (nat_lt block.name.turn (turn_of read)) (Event.Give 1 block ∷ before) block.name (no_ends d before a prepared) live run.0.1)
+
+-- ==== The session.
+
+handed_over : (f : Profile) (l first second : Whole) (v w : View) (block : Block) (name : Name) (d : Directory) (before : List Event) (epoch : ℕ) (outcome : Outcome)
+    → IsValid f → Legal f l → f.threads ≡ 2 → IsEarlier first second → IsEarlier second l → HasOwn 1 v first → HasOwn 2 [] second
+    → part 0 l ≡ [] → part 1 l ≡ v → part 2 l ≡ w
+    → block.name ≡ name → events_of 1 v ≡ Event.Give 1 block ∷ before → AllByRecursion (IsPreparing d) before → events_of 2 w ≡ event_for 2 epoch (entry_of name) outcome ∷ []
+    → event_for 2 epoch (entry_of name) outcome ≡ Event.End 2 name epoch
+handed_over f l first second v w block name d before epoch outcome valid legal threads told_before taken own fresh none one two name_is gave prepared ended =
+    let later : Whole = taken.0 in
+    let cut : (j : ℕ) → part j l ≡ part j later ++ part j second = λ j. ap (part j) taken.1 ∙ part_both j later second in
+    let zero_cut : part 0 later ++ part 0 second ≡ [] = sym (cut 0) ∙ none in
+    let more_cut : (j : ℕ) → 2 < j → part j later ++ part j second ≡ [] = λ j beyond. sym (cut j) ∙ nobody f l j legal (omega (arith, threads, beyond)) in
+    let two_later : part 2 later ≡ w = sym (append-nil (part 2 later)) ∙ (ap (λ (x : View). part 2 later ++ x) (sym fresh) ∙ (sym (cut 2) ∙ two)) in
+    let mid : Whole = told_before.0 in
+    let one_after : part 1 second ≡ part 1 mid ++ v = ap (part 1) told_before.1 ∙ (part_both 1 mid first ∙ ap (λ (x : View). part 1 mid ++ x) own) in
+    let one_whole : (part 1 later ++ part 1 mid) ++ v ≡ v = append_assoc (part 1 later) (part 1 mid) v ∙ (ap (λ (x : View). part 1 later ++ x) (sym one_after) ∙ (sym (cut 1) ∙ one)) in
+    let one_later : part 1 later ≡ [] = left_none (part 1 later) (part 1 mid) (append_cancel_right (part 1 later ++ part 1 mid) [] v one_whole) in
+    let one_second : part 1 second ≡ v = ap (λ (x : View). x ++ part 1 second) (sym one_later) ∙ (sym (cut 1) ∙ one) in
+    let second_is : second ≡ triples 1 v = lone 1 second (but_one (λ j. part j second ≡ []) (right_none _ _ zero_cut) fresh (λ j beyond. right_none _ _ (more_cut j beyond))) ∙ ap (triples 1) one_second in
+    let later_is : later ≡ triples 2 w = lone 2 later (but_two (λ j. part j later ≡ []) (left_none _ _ zero_cut) one_later (λ j beyond. left_none _ _ (more_cut j beyond))) ∙ ap (triples 2) two_later in
+    let whole_is : l ≡ triples 2 w ++ second = taken.1 ∙ ap (λ (x : Whole). x ++ second) later_is in
+    let first_events : visible second ≡ Event.Give 1 block ∷ before =
+    ap visible (second_is ∙ sym (append-nil (triples 1 v))) ∙ (shown_lone 1 v [] refl ∙ (append-nil (events_of 1 v) ∙ gave)) in
+    let all : visible l ≡ event_for 2 epoch (entry_of block.name) outcome ∷ Event.Give 1 block ∷ before =
+    ap visible whole_is ∙ (shown_lone 2 w second fresh ∙ (λ i. (ended ∙ ap (λ (n : Name). event_for 2 epoch (entry_of n) outcome ∷ []) (sym name_is)) i ++ first_events i)) in
+    subst (λ (n : Name). event_for 2 epoch (entry_of n) outcome ≡ Event.End 2 n epoch) name_is (is_end f block d before epoch outcome prepared (subst (Run f) all (runs f l valid legal)))
+
+pub is_handed_over : (region : SharedRegion) (gift : Gift) (scavenger giver taker : SharedPass) (past : Past) (state : State) (event : Option Event)
+    → region.profile.threads ≡ 2 → IsFirst region 0 3 scavenger → IsOfActor region 1 giver → IsOfActor region 2 taker → IsGiftOf region giver gift → HasFreed region gift taker past
+    → EndsAfter region.profile (told past) (scavenger ∷ giver ∷ taker ∷ []) state → ((e : Event) (more : List Event) → events_noted taker.notes ≡ e ∷ more → event ≡ Some e)
+    → IsHandedOver record { name = gift.name; event = event }
+is_handed_over region gift scavenger giver taker past state event threads idle one two given free ends tells =
+    let after = ends.ends.after in
+    let l : Whole = after.whole in
+    let others = others_are (λ (p : SharedPass). part (seat_of p).actor l ≡ view_of p) (scavenger ∷ giver ∷ taker ∷ []) scavenger (giver ∷ taker ∷ []) refl after.parts in
+    let last = others_are (λ (p : SharedPass). part (seat_of p).actor l ≡ view_of p) (giver ∷ taker ∷ []) giver (taker ∷ []) refl others in
+    let none : part 0 l ≡ [] = ap (λ (k : ℕ). part k l) (sym idle.actor) ∙ (first_is (λ (p : SharedPass). part (seat_of p).actor l ≡ view_of p) (scavenger ∷ giver ∷ taker ∷ []) scavenger (giver ∷ taker ∷ []) refl after.parts ∙ idle.fresh.no_steps) in
+    let of_giver : part 1 l ≡ view_of giver = ap (λ (k : ℕ). part k l) (sym one.actor) ∙ first_is (λ (p : SharedPass). part (seat_of p).actor l ≡ view_of p) (giver ∷ taker ∷ []) giver (taker ∷ []) refl others in
+    let of_taker : part 2 l ≡ view_of taker = ap (λ (k : ℕ). part k l) (sym two.actor) ∙ first_is (λ (p : SharedPass). part (seat_of p).actor l ≡ view_of p) (taker ∷ []) taker [] refl last in
+    let noted : events_noted taker.notes ≡ event_for 2 free.epoch (entry_of gift.name) free.outcome ∷ [] = taker.noted.shown ∙ ap reverse (ap (λ (k : ℕ). events_of k (view_of taker)) two.actor ∙ free.events) in
+    record {
+      epoch = free.epoch;
+      ended = tells (event_for 2 free.epoch (entry_of gift.name) free.outcome) [] noted
+          ∙ ap Some (handed_over region.profile l (told gift.past) (told past) (view_of giver) (view_of taker) given.block gift.name given.directory given.before free.epoch free.outcome
+          region.valid after.legal threads free.earlier ends.begins given.own free.own none of_giver of_taker given.name_is given.events given.prepared free.events);
+    }

@@ -1,0 +1,46 @@
+-- What is still owed after a call that ends too early, and that it is owed with reason.
+use Rattle.std.proofs.Common.{◌≡◌, ℕ, zero, suc, ◌<◌, ◌==◌, ◌&&◌, not, Bool, true, false, if◌then◌else◌, true≢false, ◌++◌, refl, ap, sym, ◌∙◌, arith, eq-eqb}
+use Rattle.pas_profile.specs.Profiles.{IsValid}
+use Rattle.pas_profile.specs.declared.profile.Profile.{Profile}
+use Rattle.pas_steps.specs.Lists.{Whole, Legal}
+use Rattle.pas_steps.specs.Views.{View, all_ones, owes_check, owes_hint}
+use Rattle.pas_rights.specs.{Looks.looks, Words.ones}
+use Rattle.pas_core.specs.Hints.{IsEmptyBacked}
+use Rattle.pas_core.specs.Rights.{parked_bit, empty_bit, IsUsableFree, IsRightOffered, AllClear}
+use Rattle.pas_core.proofs.Offers.{parked_is_owed, each_clear, hinted_at_rest}
+use Rattle.pas_trials.specs.Unfinished.{ParkingOwes, LookingOwes}
+
+-- ---- a parking without looks
+pub parking_owes : ParkingOwes
+parking_owes page n a answers v owes =
+    true≢false (sym (ap (λ t. if t then true else owes_check (looks page answers n ++ v) page 0) (eq-eqb page page refl)) ∙ owes.checks 0 (omega arith))
+
+pub parked_with_room : (f : Profile) (l : Whole) → Legal f l → (page word bit : ℕ) → word < 4 → parked_bit l page ≡ true → IsUsableFree l page word bit → (IsRightOffered f l page → ⊥) × (AllClear f l → ⊥)
+parked_with_room f l legal page word bit small parked free = (
+  λ offered. true≢false (sym parked ∙ offered.not_parked),
+  λ clear.
+      let owed = parked_is_owed f l legal page word bit parked free in
+      true≢false (sym owed.owes ∙ (((each_clear f l legal clear owed.actor).on page).owes.checks word small)),
+)
+
+-- ---- looks without a hint
+-- the debt is kept by a look that shows each grain as free
+kept : (same full owed : Bool) → full ≡ true → (if same && not full then false else owed) ≡ owed
+kept true true owed is = refl
+kept false true owed is = refl
+kept same false owed is = absurd (true≢false (sym is))
+
+looked : (page n : ℕ) (v : View) → owes_hint v page ≡ true → owes_hint (looks page ones n ++ v) page ≡ true
+looked page zero v owed = owed
+looked page (suc n) v owed = kept (page == page) (all_ones == all_ones) (owes_hint (looks page ones n ++ v) page) (eq-eqb all_ones all_ones refl) ∙ looked page n v owed
+
+-- .. and by one that shows the page as backed
+backed : (same owed : Bool) → (if same && false then false else owed) ≡ owed
+backed true owed = refl
+backed false owed = refl
+
+pub looking_owes : LookingOwes
+looking_owes page n v owed owes = true≢false (sym (backed (page == page) (owes_hint (looks page ones n ++ v) page) ∙ looked page n v owed) ∙ owes.hint)
+
+pub empty_unhinted : (f : Profile) (l : Whole) → IsValid f → Legal f l → (page : ℕ) → IsEmptyBacked l page → empty_bit l page ≡ false → AllClear f l → ⊥
+empty_unhinted f l valid legal page empty unhinted clear = true≢false (sym (hinted_at_rest f l valid legal clear page empty) ∙ unhinted)

@@ -1,0 +1,16 @@
+use Rattle.std.proofs.Common.{List, Option, subst, IfSome}
+use Rattle.pas_shared.specs.{Ledgers.EndsAfter, Pasts.told}
+use Rattle.pas_shared.specs.declared.pass.SharedPass.{SharedPass}
+use Rattle.pas_trials.specs.Handing.{IsGiftOf}
+use Rattle.pas_trials.specs.declared.handing.Gift.{Gift}
+use Rattle.pas_trials.proofs.HandedOver.{is_handed_over}
+use Rattle.pas_trials.proofs.handing.hand_over.Goals as goal
+
+pub returns : goal.returns
+returns c =
+    let region = c.args.region in
+    let giver = c.borrow-giver.result.0 in
+    let given = subst (λ (o : Option Gift). IfSome o (IsGiftOf region giver)) c.in-Some.is c.borrow-giver.ensures.gift in
+    let ends = subst (λ (passes : List SharedPass). EndsAfter region.profile (told c.free-taker.result.1) passes c.close_after.result) c.in_ok-passes.ensures.items c.close_after.ensures in
+    is_handed_over region c.in-Some.gift c.args.scavenger giver c.free-taker.result.0 c.free-taker.result.1 c.close_after.result c.first_event-event.result
+    c.requires.threads c.requires.scavenger c.borrow-giver.ensures.pass c.free-taker.ensures.pass given c.free-taker.ensures.freed ends c.first_event-event.ensures
