@@ -3,9 +3,9 @@
 
 usage: bench/lanes.py [--repeat N] PROGRAM
 
-PROGRAM is the built crates/pas_lanes_timing/out/pas_lanes_timing. Each call is timed on rows of 8, 64 and 4,096 words, in lanes and plain
-in turn. The table has the nanoseconds of one call by the processor's time of the fastest of N runs (5), and how many times as long the
-plain loop takes. A call includes the loop round it, and the row's last word was written just before it.
+PROGRAM is the built crates/pas_timing/out/pas_timing. Each call is timed on rows of 8, 64 and 4,096 words, in lanes and plain in turn. The
+table has the nanoseconds of one call by the processor's time of the fastest of N runs (5), and how many times as long the plain loop takes.
+A call includes the loop round it, and the row's last word was written just before it.
 """
 
 import resource
@@ -21,7 +21,7 @@ WORDS_READ = 120_000_000
 def seconds(program, job):
     """The processor's seconds that the program takes for the job, and the sum that it prints."""
     before = resource.getrusage(resource.RUSAGE_CHILDREN).ru_utime
-    done = subprocess.run([program], input=job + "\n", capture_output=True, text=True, check=True)
+    done = subprocess.run([program, "lanes"], input=job + "\n", capture_output=True, text=True, check=True)
     return resource.getrusage(resource.RUSAGE_CHILDREN).ru_utime - before, done.stdout.split()[-1]
 
 

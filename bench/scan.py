@@ -3,9 +3,9 @@
 
 usage: bench/scan.py [--repeat N] [--times N] PROGRAM
 
-PROGRAM is the built crates/pas_scan_timing/out/pas_scan_timing. The directory has 4,096 pages, of which the last alone is offered, so each
-search reads 65 words. The two ways run in turn. The table has the nanoseconds of one search by the processor's time of the fastest of N
-runs (9), less that of a run of no search, and how many times as long the search word by word takes.
+PROGRAM is the built crates/pas_timing/out/pas_timing. The directory has 4,096 pages, of which the last alone is offered, so each search
+reads 65 words. The two ways run in turn. The table has the nanoseconds of one search by the processor's time of the fastest of N runs (9),
+less that of a run of no search, and how many times as long the search word by word takes.
 """
 
 import resource
@@ -18,7 +18,7 @@ WAYS = ["rows", "words"]
 def seconds(program, job):
     """The processor's seconds that the program takes for the job, and the sum that it prints."""
     before = resource.getrusage(resource.RUSAGE_CHILDREN)
-    done = subprocess.run([program], input=job + "\n", capture_output=True, text=True, check=True)
+    done = subprocess.run([program, "scan"], input=job + "\n", capture_output=True, text=True, check=True)
     after = resource.getrusage(resource.RUSAGE_CHILDREN)
     return after.ru_utime + after.ru_stime - before.ru_utime - before.ru_stime, done.stdout.split()[-1]
 

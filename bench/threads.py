@@ -3,14 +3,14 @@
 
 usage: bench/threads.py [--repeat N] [--operations N] PROGRAM TIMING [TRACE..]
 
-PROGRAM is the built crates/pas/out/pas, and TIMING the built crates/pas_replay_timing/out/pas_replay_timing. The
-traces have 400,000 operations in one phase, divided among 1, 2, 4, 8 and 16 threads: requests of 16 to 256 bytes, and
-frees by name of the thread's own blocks. In one the threads work in heaps of their own, in the other all share one
-heap. The table has the milliseconds by the wall clock from the bytes of the trace to those of the transcript, of the
-fastest of N runs (7), the peak memory, how many times as long `run` takes as `order`, by the fastest of each and by
-the median of the pairs of runs that follow each other, and the same for the operations alone, from a kit that is
-ready to the last record. The ways run in turn. Where traces are named, they are timed in place of the generated ones.
-What else the machine does meanwhile shows in the figures.
+PROGRAM is the built crates/pas/out/pas, and TIMING the built crates/pas_timing/out/pas_timing. The traces have 400,000
+operations in one phase, divided among 1, 2, 4, 8 and 16 threads: requests of 16 to 256 bytes, and frees by name of the
+thread's own blocks. In one the threads work in heaps of their own, in the other all share one heap. The table has the
+milliseconds by the wall clock from the bytes of the trace to those of the transcript, of the fastest of N runs (7),
+the peak memory, how many times as long `run` takes as `order`, by the fastest of each and by the median of the pairs
+of runs that follow each other, and the same for the operations alone, from a kit that is ready to the last record. The
+ways run in turn. Where traces are named, they are timed in place of the generated ones. What else the machine does
+meanwhile shows in the figures.
 """
 
 import os
@@ -54,7 +54,7 @@ def timed(program, way, path):
 def alone(timing, way, path):
     """Seconds by the clock of the operations alone."""
     with open(path, "rb") as source:
-        done = subprocess.run([timing, way, "time"], stdin=source, capture_output=True, text=True, check=True)
+        done = subprocess.run([timing, "replay", way, "time"], stdin=source, capture_output=True, text=True, check=True)
     return int(done.stdout.split()[-1]) / 1e9
 
 

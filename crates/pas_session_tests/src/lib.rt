@@ -10,6 +10,7 @@ mod errand_tests;
 #[cfg(test)]
 mod fault_tests;
 #[cfg(test)]
+mod hand_over_tests;
 #[cfg(test)]
 mod log_tests;
 #[cfg(test)]
