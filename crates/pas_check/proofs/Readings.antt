@@ -5,7 +5,7 @@ use Rattle.pas_profile.specs.{Classes.IsClass, Classes.class_size, Requests.kind
 use Rattle.pas_profile.proofs.Sizes.{class_passes, class_size_le}
 use Rattle.std.proofs.lemmas.Bool.{and_parts, false≢true, Decides.nat_tests}
 use Rattle.pas_trace.specs.Numbers.{is_digit, all_digits}
-use Rattle.pas_generate.proofs.Digits.{are-digits}
+use Rattle.pas_generated.proofs.Digits.{are-digits}
 use Rattle.pas_profile.specs.declared.{directory.Kind.Kind, directory.Directory.Directory, name.Name.Name, name.Block.Block, event.Event.Event, event.Why.Why}
 use Rattle.pas_report.specs.declared.record.{Said.Said, Record.Record}
 use Rattle.pas_report.specs.Lines.{hex_digits, kind_text, name_text, line_of, line_of_event, line_of_answer, CanShow}

@@ -2,8 +2,6 @@
 //!
 //! The generator draws from a linear congruential sequence. Half of its operations allocate, and the others free one of
 //! the blocks that are left; every thousandth makes a pass and begins a phase, and the one before it ticks.
-//!
-//! By a law the reader of traces reads each of them without a fault.
 #![tactic(auto)]
 
 mod draws;

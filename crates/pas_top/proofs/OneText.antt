@@ -7,7 +7,7 @@ use Rattle.pas_trace.specs.{EveryPlan.all_ops, Reasons.guard_in}
 use Rattle.pas_trace.specs.Plans.{IsPlanOf, Parsed, parsed, phases_in}
 use Rattle.pas_trace.specs.declared.{item.Item.Item, fault.TraceFault.TraceFault, plan.Op.Op, plan.Plan.Plan}
 use Rattle.pas_generate.specs.{Operations.State, Operations.allocates, Traces.state_after, Traces.trace_text}
-use Rattle.pas_generate.specs.Meant.{with_drawn, with_operation, items_after, meant}
+use Rattle.pas_generated.specs.Meant.{with_drawn, with_operation, items_after, meant}
 use Rattle.pas_report.specs.Reports.{total_line}
 use Rattle.pas_report.specs.declared.record.Record.{Record}
 use Rattle.pas_answers.specs.Replays.{region_of, threads_of, keepers_of, phases_of, acts_of_plan}

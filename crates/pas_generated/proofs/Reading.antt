@@ -4,7 +4,7 @@ use Rattle.pas_trace.specs.declared.{header.Header.Header, item.Item.Item}
 use Rattle.pas_trace.specs.{Texts.lines_of, Plans.items_from, Plans.parsed}
 use Rattle.pas_trace.specs.Reasons.{started, header_of_words, reason_of, checked, kept, line_says}
 use Rattle.pas_trace.proofs.WordLines.{Lacks, IsLine, lines-until}
-use Rattle.pas_generate.proofs.Says.{Says}
+use Rattle.pas_generated.proofs.Says.{Says}
 
 -- wherever the text stands after these items, its lines are read, and leave those
 abbrev pub Reads : Header → List Item → List ℕ → List Item → Type 0

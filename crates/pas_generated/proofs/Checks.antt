@@ -7,7 +7,8 @@ use Rattle.pas_trace.specs.Reasons.{cost_of_size, cost_of, costs_of, record_boun
 use Rattle.pas_trace.specs.declared.{fault.Reason.Reason, item.Item.Item, item.Item.TheVariants.Operates, item.Item.TheVariants.Scavenges}
 use Rattle.pas_trace.specs.declared.{item.Wish.TheVariants.Asks, item.Wish.TheVariants.Frees, plan.Chore.Chore}
 use Rattle.pas_trace.proofs.{Costs.small_cost, Costs.large_cost, PassedChecks.AreHeld}
-use Rattle.pas_generate.specs.{Traces.IsJob, Meant.region}
+use Rattle.pas_generate.specs.Traces.{IsJob}
+use Rattle.pas_generated.specs.Meant.{region}
 
 none-failed : (cs : List (Bool × Reason)) → AreHeld cs → first_failed cs ≡ None
 none-failed [] h = refl

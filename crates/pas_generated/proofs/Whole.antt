@@ -7,11 +7,11 @@ use Rattle.pas_trace.specs.declared.{fault.TraceFault.TraceFault, plan.Plan.Plan
 use Rattle.pas_trace.specs.declared.{item.Item.TheVariants.NextPhase, plan.Chore.Chore}
 use Rattle.pas_generate.specs.{Lines.header, Lines.line_of, Operations.State, Operations.operation_at, Operations.after_operation}
 use Rattle.pas_generate.specs.Traces.{IsJob, state_after, lines_of, trace_text}
-use Rattle.pas_generate.proofs.{Operations.tick_at, Operations.pass_at, Operations.drawn_at, Splits.lacks-by, Splits.line-then, Headers.header_words}
-use Rattle.pas_generate.proofs.{Headers.header-line, Headers.header-says, Plans.has-plan}
-use Rattle.pas_generate.specs.Meant.{heading, with_drawn, with_operation, items_after, meant}
-use Rattle.pas_generate.proofs.Reading.{Reads, reads-none, reads-both, reads-line, parsed-by}
-use Rattle.pas_generate.proofs.Steps.{Follows, Step, tick-step, pass-step, drawn-step}
+use Rattle.pas_generate.proofs.Operations.{tick_at, pass_at, drawn_at}
+use Rattle.pas_generated.specs.Meant.{heading, with_drawn, with_operation, items_after, meant}
+use Rattle.pas_generated.proofs.{Splits.lacks-by, Splits.line-then, Headers.header_words, Headers.header-line, Headers.header-says, Plans.has-plan}
+use Rattle.pas_generated.proofs.Reading.{Reads, reads-none, reads-both, reads-line, parsed-by}
+use Rattle.pas_generated.proofs.Steps.{Follows, Step, tick-step, pass-step, drawn-step}
 
 -- ---- the operation of a number
 with-tick : (threads number : ℕ) (s : State) (items : List Item) → number % 1000 ≡ 999 → with_operation threads number s items ≡ Scavenges (Chore.Tick (number / 1000 + 1)) ∷ items

@@ -6,7 +6,7 @@ use Rattle.std.proofs.lemmas.Bool.{and_parts}
 use Rattle.pas_trace.specs.Texts.{pieces, without_empty}
 use Rattle.pas_trace.proofs.Splits.{keeps}
 use Rattle.pas_trace.proofs.WordLines.{Lacks, lacks-both, digits-lack, pieces-until, pieces-only, IsLine}
-use Rattle.pas_generate.proofs.Digits.{are-digits}
+use Rattle.pas_generated.proofs.Digits.{are-digits}
 
 pub record IsWord (w : List ℕ) : Type 0 where
   pub some : 0 < length w

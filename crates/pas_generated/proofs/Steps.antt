@@ -8,12 +8,13 @@ use Rattle.pas_trace.specs.declared.{item.Wish.TheVariants.Asks, item.Wish.TheVa
 use Rattle.pas_generate.specs.{Draws.drawn, Draws.draw, Draws.moved_by, Requests.request_from, Lines.line_of, Lines.tick_line, Traces.IsJob}
 use Rattle.pas_generate.specs.Operations.{State, place, none, freed, freeing_thread, allocation, after_allocation, free_of, after_free, allocates, begun}
 use Rattle.pas_generate.specs.Operations.{thread_of, drawn_operation, after_drawn}
-use Rattle.pas_generate.proofs.{Valid.valid, Splits.lacks-by}
-use Rattle.pas_generate.specs.Meant.{heading, with_allocation, with_free, with_drawn}
-use Rattle.pas_generate.proofs.Says.{IsWritten, allocation-says, free-says, tick-says}
-use Rattle.pas_generate.proofs.Reading.{Reads, reads-both, reads-line, reads-said}
-use Rattle.pas_generate.proofs.Checks.{Counted, request-cost, tick-fine, pass-fine, IsRequested, allocation-fine, free-fine}
-use Rattle.pas_generate.proofs.Listed.{IsListed, listed-past, listed-next, listed-new, IsFreer, freer, Each, each-left, each-more, each-weaker}
+use Rattle.pas_generate.proofs.Valid.{valid}
+use Rattle.pas_generated.specs.Meant.{heading, with_allocation, with_free, with_drawn}
+use Rattle.pas_generated.proofs.Splits.{lacks-by}
+use Rattle.pas_generated.proofs.Says.{IsWritten, allocation-says, free-says, tick-says}
+use Rattle.pas_generated.proofs.Reading.{Reads, reads-both, reads-line, reads-said}
+use Rattle.pas_generated.proofs.Checks.{Counted, request-cost, tick-fine, pass-fine, IsRequested, allocation-fine, free-fine}
+use Rattle.pas_generated.proofs.Listed.{IsListed, listed-past, listed-next, listed-new, IsFreer, freer, Each, each-left, each-more, each-weaker}
 
 -- The names were given in order, the allocations that no line has freed were asked for, and there are so many operations and records.
 pub record Follows (pages threads n : ℕ) (s : State) (items : List Item) : Type 0 where

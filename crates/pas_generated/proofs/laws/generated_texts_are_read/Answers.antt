@@ -1,5 +1,5 @@
-use Rattle.pas_generate.proofs.Whole.{text-faultless, text-planned, text-read}
-use Rattle.pas_generate.proofs.laws.generated_texts_are_read.Goals as goal
+use Rattle.pas_generated.proofs.Whole.{text-faultless, text-planned, text-read}
+use Rattle.pas_generated.proofs.laws.generated_texts_are_read.Goals as goal
 
 pub returns-clause-read : goal.returns-clause-read
 returns-clause-read c = text-read

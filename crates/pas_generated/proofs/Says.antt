@@ -6,9 +6,9 @@ use Rattle.pas_trace.specs.Items.{trace_name, epoch_word, item1, item2, item5, i
 use Rattle.pas_trace.specs.declared.{item.Item.Item, item.Item.TheVariants.Operates, item.Item.TheVariants.Scavenges, item.Wish.TheVariants.Asks}
 use Rattle.pas_trace.specs.declared.{item.Wish.TheVariants.Frees, plan.Chore.Chore}
 use Rattle.pas_generate.specs.Lines.{free_line, tick_line}
-use Rattle.pas_generate.proofs.Digits.{number-back}
+use Rattle.pas_generated.proofs.Digits.{number-back}
 use Rattle.pas_trace.proofs.WordLines.{Lacks, IsLine}
-use Rattle.pas_generate.proofs.Splits.{IsWord, decimal-word, word-by, last-word, word-before}
+use Rattle.pas_generated.proofs.Splits.{IsWord, decimal-word, word-by, last-word, word-before}
 
 -- ---- numbers in their places
 name-fits : (n : ℕ) → 1 ≤ n → n ≤ 1000000 → trace_name (decimal n) ≡ Some n

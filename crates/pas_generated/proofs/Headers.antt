@@ -3,10 +3,11 @@ use Rattle.std.proofs.Common.{◌≡◌, ℕ, ◌^◌, ◌<◌, ◌≤◌, List,
 use Rattle.std.specs.Fmt.{decimal}
 use Rattle.std.proofs.lemmas.Bool.{and_from}
 use Rattle.pas_trace.specs.{Numbers.number_of, Reasons.within, Reasons.header_with, Reasons.header_of_words}
-use Rattle.pas_generate.specs.{Lines.header, Meant.heading}
-use Rattle.pas_generate.proofs.Digits.{number-back}
+use Rattle.pas_generate.specs.Lines.{header}
+use Rattle.pas_generated.specs.Meant.{heading}
+use Rattle.pas_generated.proofs.Digits.{number-back}
 use Rattle.pas_trace.proofs.WordLines.{IsLine}
-use Rattle.pas_generate.proofs.Splits.{decimal-word, word-by, last-word, word-before}
+use Rattle.pas_generated.proofs.Splits.{decimal-word, word-by, last-word, word-before}
 
 abbrev pub header_words : ℕ → ℕ → List (List ℕ)
 header_words pages threads =

@@ -1,0 +1,10 @@
+pub mod Digits
+mod Splits
+mod Says
+mod Headers
+mod Reading
+mod Checks
+mod Listed
+mod Steps
+mod Whole
+mod Plans

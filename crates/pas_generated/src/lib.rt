@@ -1,0 +1,4 @@
+//! That generated traces are read without a fault.
+#![tactic(auto)]
+
+pub mod laws;
