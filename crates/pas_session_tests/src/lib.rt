@@ -10,8 +10,6 @@ mod errand_tests;
 #[cfg(test)]
 mod fault_tests;
 #[cfg(test)]
-mod hand_over_tests;
-#[cfg(test)]
 mod log_tests;
 #[cfg(test)]
 mod paging_tests;
