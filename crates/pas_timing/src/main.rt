@@ -13,6 +13,7 @@ mod replay;
 mod scan;
 mod steps;
 
+use pas_io::real::RealSource;
 use std::alloc::Global;
 use std::{env, io};
 
@@ -24,8 +25,8 @@ fn main(rt: HostRuntime) -> io::Result<()> {
     match measure.as_str() {
         "lanes" => print_sums(&rt, lanes::answers),
         "scan" => print_sums(&rt, scan::pages),
-        "steps" => steps::print(&rt, words),
-        "replay" => replay::print(&rt, words),
+        "steps" => steps::print(&rt, rt.alloc(), words),
+        "replay" => replay::print(&rt, rt.alloc(), &mut RealSource::new(rt.stdin()), words),
         _ => println!(rt; "no measure"),
     }
 }

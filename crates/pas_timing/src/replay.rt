@@ -8,7 +8,6 @@ mod replaying;
 
 use crate::replay::replaying::{Timed, Way, time_replay};
 use pas_io::Source;
-use pas_io::real::RealSource;
 use pas_io::whole::{Input, read_all};
 use std::alloc::Global;
 use std::env::Args;
@@ -43,15 +42,19 @@ fn replayed<R: Clock + Threads + Wait + Sync, S: Source>(
     }
 }
 
-/// Prints what the replay comes to, by the words behind `replay`.
-pub fn print(rt: &HostRuntime, mut words: Skip<Args>) -> io::Result<()> {
+/// Prints what the replay of what the source gives comes to, by the words behind `replay`.
+pub fn print<R: Clock + Print + Threads + Wait + Sync, S: Source>(
+    rt: &R,
+    alloc: Global,
+    source: &mut S,
+    mut words: Skip<Args>,
+) -> io::Result<()> {
     let way = words.next().and_then(|word| way_of(word.as_str()));
     let is_shown = words.next().is_some();
     let Some(way) = way else {
         return println!(rt; "no replay");
     };
-    let mut source = RealSource::new(rt.stdin());
-    let Some(Timed { records, took }) = replayed(rt, rt.alloc(), &mut source, way)? else {
+    let Some(Timed { records, took }) = replayed(rt, alloc, source, way)? else {
         return println!(rt; "no replay");
     };
     if is_shown {

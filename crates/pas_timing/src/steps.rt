@@ -9,9 +9,12 @@ mod repeating;
 mod sharing;
 mod table;
 
+use std::alloc::Global;
 use std::env::Args;
 use std::io;
 use std::iter::Skip;
+use std::thread::Threads;
+use std::time::CpuClock;
 
 /// The rounds that the first of these words asks for, 0 where there is none.
 fn rounds(mut words: Skip<Args>) -> u64 {
@@ -22,10 +25,14 @@ fn rounds(mut words: Skip<Args>) -> u64 {
 }
 
 /// Prints the table, by the words behind `steps`.
-pub fn print(rt: &HostRuntime, words: Skip<Args>) -> io::Result<()> {
+pub fn print<R: CpuClock + Print + Threads + Sync>(
+    rt: &R,
+    alloc: Global,
+    words: Skip<Args>,
+) -> io::Result<()> {
     let rounds = rounds(words);
     if rounds == 0 {
         return Ok(());
     }
-    table::print(rt, rt.alloc(), rounds)
+    table::print(rt, alloc, rounds)
 }
