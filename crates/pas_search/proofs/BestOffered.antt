@@ -1,20 +1,17 @@
 -- What a survey of looks and the claim that follows it say of the state at entry, where no other actor makes a step meanwhile.
-use Rattle.std.proofs.Common.{◌≡◌, ℕ, ◌+◌, ◌*◌, ◌/◌, ◌%◌, ◌<◌, Bool, true, false, if◌then◌else◌, List, [], ◌∷◌, ◌++◌, Option, Some, inl, inr, refl, ap, sym, ◌∙◌, subst, arith}
-use Rattle.std.proofs.Common.{true≢false}
+use Rattle.std.proofs.Common.{◌≡◌, ℕ, ◌+◌, ◌*◌, ◌/◌, ◌%◌, ◌<◌, Bool, true, false, if◌then◌else◌, List, [], ◌∷◌, ◌++◌, Option, Some, inl, inr, refl, ap, sym}
+use Rattle.std.proofs.Common.{◌∙◌, subst, arith, true≢false}
 use Rattle.pas_bits.specs.Bits.{has_bit}
-use Rattle.pas_profile.specs.{Directories.number_of, Layouts.same_word, Profiles.IsPage, Profiles.IsValid}
+use Rattle.pas_profile.specs.{Directories.number_of, Layouts.same_word, Profiles.IsValid}
 use Rattle.pas_profile.specs.declared.{directory.Directory.Directory, profile.Profile.Profile, word.Word.Word}
-use Rattle.pas_steps.specs.{Agreement.Agreed, Effects.target, Effects.new_value, Effects.free_word_at, Frames.IsLook, Frames.AreLooks, Past.Once, Views.epoch_of}
-use Rattle.pas_steps.specs.{Views.View, Views.has_right}
-use Rattle.pas_steps.specs.Desks.{triples}
-use Rattle.pas_steps.specs.Evidence.{Readings, ReadsEligible, IsAntitone}
+use Rattle.pas_steps.specs.{Agreement.Agreed, Effects.target, Effects.new_value, Effects.free_word_at, Frames.IsLook, Frames.AreLooks, Past.Once}
+use Rattle.pas_steps.specs.{Views.epoch_of, Views.has_right, Desks.triples, Evidence.Readings, Evidence.ReadsEligible, Evidence.IsAntitone}
 use Rattle.pas_steps.specs.Lists.{Whole, part, word_after, Legal}
 use Rattle.pas_steps.specs.declared.step.{Made.Made, Step.Step}
 use Rattle.pas_core.specs.Rights.{eligible_bit, free_of_page}
-use Rattle.pas_core.proofs.{Deeds.looked, OneActor.fit_entry, OneActor.legal_earlier, OneActor.LendsNone, OneActor.lends_none}
-use Rattle.pas_search.specs.{Kinds.searching, Kinds.AreSearch, Serving.Rule, Serving.ShowsFit}
-use Rattle.pas_search.specs.Searches.{MaySearch}
-use Rattle.pas_search.specs.Ranks.{SeenHere, IsRanked, IsNoBetter, TriesPage, FromSurvey, IsBestOffered}
+use Rattle.pas_core.proofs.{Deeds.looked, OneActor.fit_entry, OneActor.legal_earlier, OneActor.lends_none}
+use Rattle.pas_search.specs.{Kinds.searching, Kinds.AreSearch, Serving.Rule, Serving.ShowsFit, Searches.MaySearch}
+use Rattle.pas_search.specs.Ranks.{SeenHere, IsRanked, TriesPage, FromSurvey, IsBestOffered}
 
 -- ---- looks leave each word as it was
 look_keeps : (e : ℕ) (s : Step) (w : Word) (old : ℕ) → IsLook s → (if same_word (target s) w then new_value e s old else old) ≡ old

@@ -1,6 +1,6 @@
 -- What a survey read of the pages so far, and which one it found best.
-use Rattle.std.proofs.Common.{◌≡◌, ℕ, zero, suc, ◌+◌, ◌-◌, ◌*◌, ◌/◌, ◌<◌, ◌≤◌, Bool, true, false, List, [], ◌∷◌, ◌++◌, length, Option, None, Some, refl, ap, sym, ◌∙◌}
-use Rattle.std.proofs.Common.{subst, arith, inl, inr, append_assoc, append-nil, length-append, nat_le, if◌then◌else◌, true≢false, le-leb, leb-true}
+use Rattle.std.proofs.Common.{◌≡◌, ℕ, zero, suc, ◌+◌, ◌-◌, ◌*◌, ◌/◌, ◌<◌, ◌≤◌, Bool, true, false, List, [], ◌∷◌, ◌++◌, length, Option, None, Some, refl, ap}
+use Rattle.std.proofs.Common.{sym, ◌∙◌, subst, arith, inl, inr, append_assoc, append-nil, length-append, nat_le, if◌then◌else◌, true≢false, le-leb, leb-true}
 use Rattle.std.proofs.lemmas.Bool.{cases_lt, cases_eq}
 use Rattle.pas_bits.specs.{Bits.has_bit, Masks.is_set}
 use Rattle.pas_bits.specs.declared.mask.Mask4.{Mask4}
@@ -10,15 +10,13 @@ use Rattle.pas_profile.specs.declared.{directory.Directory.Directory, profile.Pr
 use Rattle.pas_rights.specs.{Looks.looks, Looks.ReadsPage, Words.words}
 use Rattle.pas_rights.proofs.Looks.{looks_are, looks_few}
 use Rattle.pas_scan.specs.{Rows.row_end, Rows.row_words, Rows.words_to, Scan.IsFirstOffered, Scan.FindsOffered}
-use Rattle.pas_steps.specs.{Agreement.Agreed, Frames.AreLooks, Past.Once}
-use Rattle.pas_steps.specs.Desks.{Seat, Standing, AnyView, Adds, CanCall}
-use Rattle.pas_steps.specs.Evidence.{Readings, ZeroHere, OneHere}
-use Rattle.pas_steps.specs.Views.{View, has_right, KnowsDeed}
+use Rattle.pas_steps.specs.{Agreement.Agreed, Frames.AreLooks, Past.Once, Evidence.Readings, Evidence.ZeroHere, Evidence.OneHere, Views.View, Views.has_right}
+use Rattle.pas_steps.specs.{Views.KnowsDeed}
+use Rattle.pas_steps.specs.Desks.{Seat, Standing, AnyView, Adds}
 use Rattle.pas_steps.specs.declared.step.Made.{Made}
-use Rattle.pas_steps.proofs.Adding.{adds_none, adds_call, can_call, agreed_first, agreed_later}
+use Rattle.pas_steps.proofs.Adding.{adds_none, adds_call, agreed_first, agreed_later}
 use Rattle.pas_steps.proofs.Kept.{knows_still, looks_read, right_reads, scans_look}
 use Rattle.pas_steps.proofs.{Evidence.zero_before, Frames.right_own, Past.once_later, Past.once_earlier}
-use Rattle.pas_search.specs.Searches.{offered_steps}
 use Rattle.pas_search.specs.Ranks.{SeenHere, IsRanked, IsSeen, AllSeen, HasNone, IsNoBetter, IsBestBelow, IsSurvey, better_of, survey_steps, Surveys}
 use Rattle.pas_search.specs.declared.surveying.Best.{Best}
 use Rattle.pas_search.proofs.PagesThatServe.{offered_further, row_within}

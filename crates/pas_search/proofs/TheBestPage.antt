@@ -1,10 +1,10 @@
 -- The best page of a survey is claimed, and serves or comes to nothing; and where it came to nothing the search goes on.
-use Rattle.std.proofs.Common.{◌≡◌, ℕ, ◌+◌, ◌%◌, ◌<◌, ◌≤◌, Bool, true, false, List, [], ◌∷◌, ◌++◌, length, Option, None, Some, Result, Ok, refl, ap, sym, ◌∙◌, subst, arith}
-use Rattle.std.proofs.Common.{inl, inr, append-nil, length-append, true≢false, MatchResult}
+use Rattle.std.proofs.Common.{◌≡◌, ℕ, ◌+◌, ◌%◌, ◌<◌, ◌≤◌, Bool, true, false, List, [], ◌∷◌, ◌++◌, length, Option, None, Some, Result, refl, ap, sym, ◌∙◌, subst}
+use Rattle.std.proofs.Common.{arith, inl, inr, append-nil, length-append, true≢false, MatchResult}
 use Rattle.std.proofs.lemmas.Bool.{cases_eq}
 use Rattle.pas_bits.specs.Bits.{has_bit}
 use Rattle.pas_bits.proofs.Words.{none_of_zero}
-use Rattle.pas_profile.specs.Profiles.{IsPage, IsValid}
+use Rattle.pas_profile.specs.Profiles.{IsValid}
 use Rattle.pas_profile.specs.declared.{directory.Directory.Directory, event.NoRoom.NoRoom, profile.Profile.Profile}
 use Rattle.pas_scan.specs.Marks.{is_marked}
 use Rattle.pas_steps.specs.{Agreement.Agreed, Calls.Leads, Calls.nothing, Calls.Does, Events.events_by, Events.events_of, Evidence.Readings, Evidence.GetsRight}
@@ -12,18 +12,17 @@ use Rattle.pas_steps.specs.{Evidence.IsAntitone, Frames.AreLooks, Lists.Whole, L
 use Rattle.pas_steps.specs.Desks.{Seat, Standing, Adds, CanCall, made, triples}
 use Rattle.pas_steps.specs.Views.{View, has_right, known_deed, KnowsDeed}
 use Rattle.pas_steps.specs.declared.step.{Made.Made, Step.TheVariants.TakeRight}
-use Rattle.pas_steps.proofs.Adding.{Tells, adds_call, adds_under, can_call, legal_after}
-use Rattle.pas_steps.proofs.{Calls.does_none, Calls.leads_none, Calls.leads_then, Calls.still_clear, Kept.deed_stays, Kept.knows_still, Kept.looks_read}
-use Rattle.pas_steps.proofs.{Past.always_both, Unknown.all_known}
-use Rattle.pas_search.specs.Kinds.{AreQuiet, IsQuiet}
+use Rattle.pas_steps.proofs.Adding.{adds_call, adds_under, can_call, legal_after}
+use Rattle.pas_steps.proofs.Calls.{does_none, leads_none, leads_then, still_clear}
+use Rattle.pas_steps.proofs.{Kept.deed_stays, Kept.knows_still, Kept.looks_read, Past.always_both, Unknown.all_known}
+use Rattle.pas_search.specs.{Kinds.AreQuiet, Kinds.IsQuiet, Telling.IsTold}
 use Rattle.pas_search.specs.Searches.{Searching, MaySearch, SearchRoom, IsServed, IsRefused, search_steps, FewEvents, Searches}
-use Rattle.pas_search.specs.{Serving.Rule, Serving.MayServe, Serving.ServeSteps, Serving.ServesPage, Telling.IsTold}
-use Rattle.pas_search.specs.Ranks.{MayRank, RankRoom, Surveys, TriesPage, FromSurvey, ComesToNothing, IsBestOffered, TriesBest, StoodBefore, having_made, FallsBack}
+use Rattle.pas_search.specs.Serving.{Rule, MayServe, ServeSteps, ServesPage}
+use Rattle.pas_search.specs.Ranks.{MayRank, RankRoom, Surveys, TriesPage, FromSurvey, TriesBest, StoodBefore, having_made, FallsBack}
 use Rattle.pas_search.specs.declared.{serving.Served.Served, surveying.Best.Best}
-use Rattle.pas_search.proofs.ForBackEnds.{room_kept}
-use Rattle.pas_search.proofs.PagesThatServe.{AreVain, IsReady, reads_vain, vain_searching, claim_rights, ready, got_search, got_before, served_search, finds, never_got}
+use Rattle.pas_search.proofs.{ForBackEnds.room_kept, BestOffered.best_offered}
+use Rattle.pas_search.proofs.PagesThatServe.{IsReady, reads_vain, vain_searching, claim_rights, ready, got_search, got_before, served_search, finds, never_got}
 use Rattle.pas_search.proofs.PagesThatServe.{got_left, events_after_quiet}
-use Rattle.pas_search.proofs.BestOffered.{best_offered}
 
 -- ---- after looks alone all is as it was
 unmarked : (p : ℕ) → is_marked [] p ≡ false
@@ -151,7 +150,7 @@ module _ {F : Type 0} (rule : Rule F) {ranks : Readings → Option ℕ → Type 
         best_served {found} valid fewer alike told parts serve =
             let steps = serve_at (Some found) serve in let zs : List Made = serve.steps in
             let few : FewEvents f d rule.events (zs ++ claimed) = λ k v agreed.
-                let few : length (events_by k v (zs ++ claimed)) ≤ rule.events = subst (λ es. length es ≤ rule.events) (sym (events_after_quiet k v zs claimed best_claim_quiet)) (steps.few k (claimed ++ v)) in (omega (arith, few), λ known. few) in
+            let few : length (events_by k v (zs ++ claimed)) ≤ rule.events = subst (λ es. length es ≤ rule.events) (sym (events_after_quiet k v zs claimed best_claim_quiet)) (steps.few k (claimed ++ v)) in (omega (arith, few), λ known. few) in
             let adds : Adds σ0 σ3 (MaySearch d) (zs ++ claimed) = adds_call {D = MayServe page d} best_claim_adds serve.adds may_serve in
             let searches = served_search page zs claimed steps.only steps.due (inl gets) (got_search f d page m ws gets s.searches) in
             let outcome = finds f d page m ws gets rule zs got (s.untouched page) found (FromSurvey f ranks d page) steps surveys.outcome.page (record { tries = tries_page zs; got = bit }) few

@@ -1,6 +1,6 @@
-use Rattle.std.proofs.Common.{◌≡◌, ◌+◌, ◌∙◌, ap, arith, refl}
+use Rattle.std.proofs.Common.{◌≡◌, ◌∙◌, ap, arith, refl}
 use Rattle.pas_profile.specs.declared.profile.Profile.{Profile}
-use Rattle.pas_search.proofs.Surveyed.{none_yet, all_surveyed, none_further, next_is, page_is, page_surveyed}
+use Rattle.pas_search.proofs.Surveyed.{none_yet, all_surveyed, none_further, next_is, page_surveyed}
 use Rattle.pas_search.proofs.surveying.survey.Goals as goal
 
 pub loop-looked-init : goal.loop-looked-init
