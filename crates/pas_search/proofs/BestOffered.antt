@@ -11,7 +11,7 @@ use Rattle.pas_steps.specs.declared.step.{Made.Made, Step.Step}
 use Rattle.pas_core.specs.Rights.{eligible_bit, free_of_page}
 use Rattle.pas_core.proofs.{Deeds.looked, OneActor.fit_entry, OneActor.legal_earlier, OneActor.lends_none}
 use Rattle.pas_search.specs.{Kinds.searching, Kinds.AreSearch, Serving.Rule, Serving.ShowsFit, Searches.MaySearch}
-use Rattle.pas_search.specs.Ranks.{SeenHere, IsRanked, TriesPage, FromSurvey, IsBestOffered}
+use Rattle.pas_search.specs.Ranks.{Measure, IsOfGrains, SeenHere, IsRanked, TriesPage, FromSurvey, IsBestOffered}
 
 -- ---- looks leave each word as it was
 look_keeps : (e : ℕ) (s : Step) (w : Word) (old : ℕ) → IsLook s → (if same_word (target s) w then new_value e s old else old) ≡ old
@@ -47,7 +47,7 @@ module _ (f : Profile) (k : ℕ) (l : Whole) where
       ap r whole ∙ z.1 (b % 64) (omega arith) ∙ ap (λ n. has_bit n (b % 64)) (legal.0.answer_is ∙ ap (λ s. word_after (triples k xs ++ l) (target s)) z.0
       ∙ words_same k xs l (Word.Free page (b / 64)) looks.1 ∙ ap (word_after l) (sym (word_of_page page b lt)))
 
-  module _ (ranks : Readings → Option ℕ → Type 0) (alike : (r same : Readings) (rank : Option ℕ) → ((b : ℕ) → b < 256 → r b ≡ same b) → ranks r rank → ranks same rank) (d : Directory) where
+  module _ (ranks : Measure) (alike : IsOfGrains ranks) (d : Directory) where
     -- the rank of a page
     rank_told : (page : ℕ) (rank : Option ℕ) (xs : List Made) → Legal f (triples k xs ++ l) → AreLooks xs → IsRanked ranks d page rank xs → ranks (free_of_page l page) rank
     rank_told page rank xs legal looks is = alike is.readings (free_of_page l page) rank (λ b lt. grain_told page b is.readings xs legal looks lt (is.read (b / 64) (omega (arith, lt)))) is.ranked

@@ -6,5 +6,5 @@ mod PagesThatServe
 mod FindingAPage
 mod Surveyed
 mod BestOffered
-mod TheBestPage
+pub mod TheBestPage
 pub mod Alone

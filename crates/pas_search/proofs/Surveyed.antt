@@ -17,7 +17,7 @@ use Rattle.pas_steps.specs.declared.step.Made.{Made}
 use Rattle.pas_steps.proofs.Adding.{adds_none, adds_call, agreed_first, agreed_later}
 use Rattle.pas_steps.proofs.Kept.{knows_still, looks_read, right_reads, scans_look}
 use Rattle.pas_steps.proofs.{Evidence.zero_before, Frames.right_own, Past.once_later, Past.once_earlier}
-use Rattle.pas_search.specs.Ranks.{SeenHere, IsRanked, IsSeen, AllSeen, HasNone, IsNoBetter, IsBestBelow, IsSurvey, better_of, survey_steps, Surveys}
+use Rattle.pas_search.specs.Ranks.{Measure, SeenHere, IsRanked, IsSeen, AllSeen, HasNone, IsNoBetter, IsBestBelow, IsSurvey, better_of, survey_steps, Surveys}
 use Rattle.pas_search.specs.declared.surveying.Best.{Best}
 use Rattle.pas_search.proofs.PagesThatServe.{offered_further, row_within}
 
@@ -42,7 +42,7 @@ looks_seen page answers r bits (suc n) word lt = elim (cases_eq word n) [
   | inr ne ↦ inr (looks_seen page answers r bits n word (omega (arith, lt, ne)))
 ]
 
-module _ (ranks : Readings → Option ℕ → Type 0) (d : Directory) where
+module _ (ranks : Measure) (d : Directory) where
   -- the page was read as offered, and then its free words
   page_ranked : (page : ℕ) (free : Mask4) (rank : Option ℕ) (xs : List Made) → ranks (is_set free) rank → Once (OneHere d page) xs → IsRanked ranks d page rank (looks page (words free) 4 ++ xs)
   page_ranked page free rank xs ranked offered = record {
@@ -135,7 +135,7 @@ module _ (ranks : Readings → Option ℕ → Type 0) (d : Directory) where
       best_more (Some best) (Some rank) is old = choose best rank (nat_le best.rank rank) refl is old
 
 -- ---- the survey so far
-pub record SurveysTo (ranks : Readings → Option ℕ → Type 0) (d : Directory) (next : ℕ) (best : Option Best) (desk desk' : Standing) : Type 0 where
+pub record SurveysTo (ranks : Measure) (d : Directory) (next : ℕ) (best : Option Best) (desk desk' : Standing) : Type 0 where
   pub steps : List Made
   pub adds : Adds desk desk' AnyView steps
   pub looks : AreLooks steps
@@ -143,7 +143,7 @@ pub record SurveysTo (ranks : Readings → Option ℕ → Type 0) (d : Directory
   pub few : length steps ≤ survey_steps (row_words desk.seat.profile.pages) (next - 1)
   pub outcome : IsSurvey desk.seat.profile ranks d next steps best
 
-pub none_yet : {σ : Standing} (ranks : Readings → Option ℕ → Type 0) (d : Directory) (next : ℕ) → next ≡ 1 → SurveysTo ranks d next None σ σ
+pub none_yet : {σ : Standing} (ranks : Measure) (d : Directory) (next : ℕ) → next ≡ 1 → SurveysTo ranks d next None σ σ
 none_yet ranks d next first = record {
   steps = [];
   adds = adds_none;
@@ -153,7 +153,7 @@ none_yet ranks d next first = record {
   outcome = λ p low high. absurd (omega (arith, low, high, first));
 }
 
-module _ {ranks : Readings → Option ℕ → Type 0} {d : Directory} {next : ℕ} {best : Option Best} {σ0 σ : Standing} (surveys : SurveysTo ranks d next best σ0 σ) where
+module _ {ranks : Measure} {d : Directory} {next : ℕ} {best : Option Best} {σ0 σ : Standing} (surveys : SurveysTo ranks d next best σ0 σ) where
   abbrev f : Profile
   f = σ0.seat.profile
 

@@ -18,11 +18,11 @@ use Rattle.pas_steps.proofs.{Kept.deed_stays, Kept.knows_still, Kept.looks_read,
 use Rattle.pas_search.specs.{Kinds.AreQuiet, Kinds.IsQuiet, Telling.IsTold}
 use Rattle.pas_search.specs.Searches.{Searching, MaySearch, SearchRoom, IsServed, IsRefused, search_steps, FewEvents, Searches}
 use Rattle.pas_search.specs.Serving.{Rule, MayServe, ServeSteps, ServesPage}
-use Rattle.pas_search.specs.Ranks.{MayRank, RankRoom, Surveys, TriesPage, FromSurvey, TriesBest, StoodBefore, having_made, FallsBack}
+use Rattle.pas_search.specs.Ranks.{Measure, IsOfGrains, MayRank, RankRoom, Surveys, TriesPage, FromSurvey, TriesBest, StoodBefore, having_made, FallsBack}
 use Rattle.pas_search.specs.declared.{serving.Served.Served, surveying.Best.Best}
 use Rattle.pas_search.proofs.{ForBackEnds.room_kept, BestOffered.best_offered}
 use Rattle.pas_search.proofs.PagesThatServe.{IsReady, reads_vain, vain_searching, claim_rights, ready, got_search, got_before, served_search, finds, never_got}
-use Rattle.pas_search.proofs.PagesThatServe.{got_left, events_after_quiet}
+use Rattle.pas_search.proofs.PagesThatServe.{deeds_serves, no_deeds, got_left, events_after_quiet}
 
 -- ---- after looks alone all is as it was
 unmarked : (p : ℕ) → is_marked [] p ≡ false
@@ -47,7 +47,7 @@ pub rank_can : {σ : Standing} {f : Profile} {d : Directory} {n spare : ℕ} →
 rank_can can = record { view = can.view; whole = can.whole; stood = can.stood; met = can.met.may.may }
 
 -- ---- no page has a rank
-pub none_ranked : {F : Type 0} {rule : Rule F} {ranks : Readings → Option ℕ → Type 0} {tells : Bool} {d : Directory} {σ0 σ1 : Standing} → Surveys ranks d σ0 σ1 None → TriesBest rule ranks tells d σ0 σ1 None
+pub none_ranked : {F : Type 0} {rule : Rule F} {ranks : Measure} {tells : Bool} {d : Directory} {σ0 σ1 : Standing} → Surveys ranks d σ0 σ1 None → TriesBest rule ranks tells d σ0 σ1 None
 none_ranked {rule = rule} {ranks = ranks} {d = d} {σ0 = σ0} surveys =
     let s = looked_over rule σ0.seat.profile d surveys.steps surveys.looks in record {
       steps = surveys.steps;
@@ -59,7 +59,7 @@ none_ranked {rule = rule} {ranks = ranks} {d = d} {σ0 = σ0} surveys =
     }
 
 -- ---- the best one is claimed
-module _ {F : Type 0} (rule : Rule F) {ranks : Readings → Option ℕ → Type 0} (tells : Bool) {d : Directory} {σ0 σ1 : Standing} {best : Best} (surveys : Surveys ranks d σ0 σ1 (Some best)) where
+module _ {F : Type 0} (rule : Rule F) {ranks : Measure} (tells : Bool) {d : Directory} {σ0 σ1 : Standing} {best : Best} (surveys : Surveys ranks d σ0 σ1 (Some best)) where
   abbrev f : Profile
   f = σ0.seat.profile
 
@@ -144,7 +144,7 @@ module _ {F : Type 0} (rule : Rule F) {ranks : Readings → Option ℕ → Type 
             }
 
         -- it serves
-        pub best_served : {found : F} → IsValid σ0.seat.profile → IsAntitone rule.no_fit → ((r same : Readings) (rank : Option ℕ) → ((b : ℕ) → b < 256 → r b ≡ same b) → ranks r rank → ranks same rank)
+        pub best_served : {found : F} → IsValid σ0.seat.profile → IsAntitone rule.no_fit → IsOfGrains ranks
             → ((v : View) (l : Whole) → tells ≡ true → σ3.stands v l → Legal σ3.seat.profile l) → ((v : View) (l : Whole) → tells ≡ true → σ0.stands v l → part σ0.seat.actor l ≡ v)
             → ServesPage rule best.page d σ2 σ3 (Some found) → TriesBest rule ranks tells d σ0 σ3 (Some (record { page = best.page; found = found }))
         best_served {found} valid fewer alike told parts serve =
@@ -153,7 +153,7 @@ module _ {F : Type 0} (rule : Rule F) {ranks : Readings → Option ℕ → Type 
             let few : length (events_by k v (zs ++ claimed)) ≤ rule.events = subst (λ es. length es ≤ rule.events) (sym (events_after_quiet k v zs claimed best_claim_quiet)) (steps.few k (claimed ++ v)) in (omega (arith, few), λ known. few) in
             let adds : Adds σ0 σ3 (MaySearch d) (zs ++ claimed) = adds_call {D = MayServe page d} best_claim_adds serve.adds may_serve in
             let searches = served_search page zs claimed steps.only steps.due (inl gets) (got_search f d page m ws gets s.searches) in
-            let outcome = finds f d page m ws gets rule zs got (s.untouched page) found (FromSurvey f ranks d page) steps surveys.outcome.page (record { tries = tries_page zs; got = bit }) few
+            let outcome = finds f d page m ws gets rule zs got (s.untouched page) found (FromSurvey f ranks d page) steps surveys.outcome.page (record { tries = tries_page zs; got = bit; no_deed = deeds_serves zs claimed steps.only.kinds ∙ no_deeds claimed best_claim_quiet }) few
             (inl (λ k e. refl)) s.quiet s.searches (λ v agreed. never_got page ws (s.lacked page (unmarked page))) in record {
               steps = zs ++ claimed;
               adds = adds;
@@ -167,7 +167,7 @@ module _ {F : Type 0} (rule : Rule F) {ranks : Readings → Option ℕ → Type 
             }
 
 -- ---- where the try came to nothing
-module _ {F : Type 0} {rule : Rule F} {ranks : Readings → Option ℕ → Type 0} {tells : Bool} {d : Directory} {σ σ1 : Standing} (tries : TriesBest rule ranks tells d σ σ1 None) where
+module _ {F : Type 0} {rule : Rule F} {ranks : Measure} {tells : Bool} {d : Directory} {σ σ1 : Standing} (tries : TriesBest rule ranks tells d σ σ1 None) where
   abbrev xs : List Made
   xs = tries.steps
 
@@ -185,15 +185,15 @@ module _ {F : Type 0} {rule : Rule F} {ranks : Readings → Option ℕ → Type 
   profile_kept = ap (λ (seat : Seat). seat.profile) tries.adds.seat_is
 
   -- what the search that follows asks: no event was made, and what was known of deeds is known still
-  pub can_go_on : {spare spare' : ℕ} → CanCall σ (RankRoom σ.seat.profile d rule.events spare)
+  pub can_go_on : {n spare spare' : ℕ} → CanCall σ (RankRoom σ.seat.profile d n spare)
       → ((v : View) (l : Whole) → σ.stands v l → spare + length (events_of σ.seat.actor v) ≡ σ.seat.room) → ((v : View) (l : Whole) → σ1.stands v l → spare' + length (events_of σ1.seat.actor v) ≡ σ1.seat.room)
-      → CanCall σ1 (SearchRoom σ1.seat.profile d rule.events spare')
-  can_go_on {spare} {spare'} can law law' =
-      let keep = λ (n : ℕ) (fits : n ≤ spare). room_kept {C = MaySearch d} n tries.adds (rank_can can) tries.outcome.quiet law law' fits in
-      can_call {C = RankRoom σ.seat.profile d rule.events spare} (adds_under tries.adds (λ v l stood met. met.may.may)) can (λ v l stood met. let agreed = tries.adds.agreed v l stood met.may.may in record {
+      → CanCall σ1 (SearchRoom σ1.seat.profile d n spare')
+  can_go_on {n} {spare} {spare'} can law law' =
+      let keep = λ (more : ℕ) (fits : more ≤ spare). room_kept {C = MaySearch d} more tries.adds (rank_can can) tries.outcome.quiet law law' fits in
+      can_call {C = RankRoom σ.seat.profile d n spare} (adds_under tries.adds (λ v l stood met. met.may.may)) can (λ v l stood met. let agreed = tries.adds.agreed v l stood met.may.may in record {
         may = may_again v met.may agreed;
-        room = subst (λ x. HasRoom x rule.events spare' (xs ++ v)) (sym profile_kept)
-            (keep rule.events met.room.0, elim met.room.1 [ inl all ↦ inl (all_known σ.seat.profile xs v agreed all) | inr wide ↦ inr (keep (rule.events + 1) wide) ]);
+        room = subst (λ x. HasRoom x n spare' (xs ++ v)) (sym profile_kept)
+            (keep n met.room.0, elim met.room.1 [ inl all ↦ inl (all_known σ.seat.profile xs v agreed all) | inr wide ↦ inr (keep (n + 1) wide) ]);
       })
 
   pub falls_back : {Goes : Standing → Type 0} → Goes (having_made σ (MayRank d) tries.steps) → FallsBack rule.no_fit rule.steps ranks d σ Goes
