@@ -1,6 +1,7 @@
 -- A block is given of the run that a search found, and then the page is left.
-use Rattle.std.proofs.Common.{◌≡◌, ℕ, ◌+◌, ◌*◌, ◌/◌, ◌%◌, ◌^◌, ◌<◌, ◌≤◌, ◌==◌, Bool, true, false, ◌&&◌, if◌then◌else◌, List, [], ◌++◌, length, Some, None, Result, Ok, Err, MatchResult, refl}
-use Rattle.std.proofs.Common.{ap, sym, ◌∙◌, subst, arith, inl, inr, ◌⊎◌, append_assoc, length-append, true≢false, eq-eqb, eqb-true}
+use Rattle.std.proofs.Common.{◌≡◌, ℕ, ◌+◌, ◌*◌, ◌/◌, ◌%◌, ◌^◌, ◌<◌, ◌≤◌, ◌==◌, Bool, true, false, ◌&&◌, if◌then◌else◌, List, [], ◌++◌, length, Some, None}
+use Rattle.std.proofs.Common.{Result, Ok, Err, MatchResult, refl, ap, sym, ◌∙◌, subst, arith, inl, inr, ◌⊎◌, append_assoc, length-append, true≢false, eq-eqb}
+use Rattle.std.proofs.Common.{eqb-true}
 use Rattle.std.proofs.lemmas.Bool.{and_parts, and_from}
 use Rattle.pas_profile.specs.{Profiles.IsPage, Profiles.IsDirectoryOf, Blocks.address_of, Blocks.grain_of, Blocks.length_of}
 use Rattle.pas_bits.specs.Runs.{in_run}
@@ -10,7 +11,8 @@ use Rattle.pas_rights.specs.Gives.{MayGive, block_of, give_steps, GaveRun, Gives
 use Rattle.pas_rights.specs.Leaves.{MayLeave, Leaves}
 use Rattle.pas_rights.proofs.Gives.{may_give_on, covers}
 use Rattle.pas_steps.specs.Calls.{Calls, Kept, Gained, Lost, now, later, Does}
-use Rattle.pas_steps.specs.{Desks.Seat, Desks.Standing, Desks.Adds, Desks.CanCall, Desks.triples, Unknown.HasRoom, Events.events_of, Events.events_by, Evidence.Readings, Kinds.returning}
+use Rattle.pas_steps.specs.Desks.{Seat, Standing, Adds, CanCall, triples}
+use Rattle.pas_steps.specs.{Unknown.HasRoom, Events.events_of, Events.events_by, Evidence.Readings, Kinds.returning}
 use Rattle.pas_steps.specs.Views.{View, holds, has_right, KnowsDeed}
 use Rattle.pas_steps.specs.declared.step.Made.{Made}
 use Rattle.pas_steps.proofs.{Adding.room_left, Apart.events_same, Calls.does_as, Calls.does_then, Calls.returns_are, Frames.events_split, Sets.same_truth}
@@ -19,11 +21,11 @@ use Rattle.pas_steps.proofs.Called.{call_as, call_knows, call_then, next_call}
 use Rattle.pas_search.specs.{Kinds.deeds_made, Serving.right_of, Telling.IsLowestOffered, Telling.IsLowestBare, Telling.IsTold}
 use Rattle.pas_search.specs.Searches.{MaySearch, SearchRoom, FromOffered, ByDeed, Finds, IsRefused, search_steps, Searches}
 use Rattle.pas_search.specs.Ranks.{Measure, RankRoom, TriesBest, IsBestOffered}
-use Rattle.pas_search.proofs.TheBestPage.{falls_back, adds_then, stood_then}
+use Rattle.pas_search.proofs.{TheBestPage.falls_back, TheBestPage.adds_then, TheBestPage.stood_then, Found.KeepsNew, Found.finds_call, Found.left_after}
 use Rattle.pas_search.specs.declared.serving.Served.{Served}
-use Rattle.pas_choice.specs.{Allocates.IsRunOf, Allocates.GaveBlock, Allocates.IsGiven, Allocates.AllocatesRun, Bests.GivesRunOf, Bests.AllocatesBest, Choices.Choice, Choices.choosing}
+use Rattle.pas_choice.specs.Allocates.{IsRunOf, GaveBlock, IsGiven, AllocatesRun}
+use Rattle.pas_choice.specs.{Bests.GivesRunOf, Bests.AllocatesBest, Choices.Choice, Choices.choosing}
 use Rattle.pas_choice.specs.declared.choosing.Run.{Run}
-use Rattle.pas_search.proofs.Found.{KeepsNew, finds_call, left_after}
 
 room_for_one : (f : Profile) (spare : ℕ) (v : View) → HasRoom f 2 spare v → HasRoom f 1 spare v
 room_for_one f spare v room = (omega (arith, room.0), elim room.1 [ inl all ↦ inl all | inr more ↦ inr (omega (arith, more)) ])
@@ -217,19 +219,23 @@ no_deed choice d served tries = let none = tries.outcome.choice.no_deed in omega
 pub allocates_best : {Found : Type 0} (choice : Choice Found) (run : Found → Run) (law : IsLaw choice run) (asked : choice.asked) (d : Directory) {ranks : Measure} {tells : Bool} {σ σ1 σ2 σ3 : Standing} (of_profile : IsDirectoryOf σ.seat.profile d)
     (served : Served Found) (tries : TriesBest (choosing choice) ranks tells d σ σ1 (Some served)) (r : Run) (r_is : r ≡ run served.found) (block : Block) → GivesRun d.heap served.page r.first r.grains block σ1 σ2 → Leaves served.page d σ2 σ3
     → AllocatesBest choice run ranks d tells σ σ3 (Ok block)
-allocates_best choice run law asked d {ranks} {σ = σ} of_profile served tries r r_is block gives left = inl (block, refl, record {
-  searched = tries.steps;
-  searches = tries.searches;
-  few = tries.few;
-  after = left.steps ++ give_steps served.page r.first block gives.word gives.answer;
-  adds = given_adds choice run law asked d of_profile served tries.adds tries.outcome r r_is block gives left;
-  page = served.page;
-  found = served.found;
-  served = tries.outcome;
-  given = given_run choice run law asked d of_profile served tries.adds tries.outcome r r_is block gives left;
-  told = λ t v l stood met. subst (IsBestOffered choice.no_fit σ.seat.profile ranks d l)
-      (sym (page_is choice run law asked d of_profile served tries.adds tries.outcome r r_is block gives left)) (tries.told t v l stood met);
-})
+allocates_best choice run law asked d {ranks} {σ = σ} of_profile served tries r r_is block gives left = inl (
+  block,
+  refl,
+  record {
+    searched = tries.steps;
+    searches = tries.searches;
+    few = tries.few;
+    after = left.steps ++ give_steps served.page r.first block gives.word gives.answer;
+    adds = given_adds choice run law asked d of_profile served tries.adds tries.outcome r r_is block gives left;
+    page = served.page;
+    found = served.found;
+    served = tries.outcome;
+    given = given_run choice run law asked d of_profile served tries.adds tries.outcome r r_is block gives left;
+    told = λ t v l stood met. subst (IsBestOffered choice.no_fit σ.seat.profile ranks d l)
+        (sym (page_is choice run law asked d of_profile served tries.adds tries.outcome r r_is block gives left)) (tries.told t v l stood met);
+  },
+)
 
 -- where the try came to nothing
 pub allocates_then : {Found : Type 0} (choice : Choice Found) (run : Found → Run) (d : Directory) {ranks : Measure} {tells : Bool} {σ σ1 σ2 : Standing} {answer : Result Block NoRoom}

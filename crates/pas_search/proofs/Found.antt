@@ -6,7 +6,8 @@ use Rattle.pas_steps.specs.Calls.{Calls, Fate, Kept, Gained, Lost, later, ClearA
 use Rattle.pas_steps.specs.declared.step.Made.{Made}
 use Rattle.pas_steps.specs.{Desks.Adds, Desks.Standing, Views.View, Views.holds}
 use Rattle.pas_steps.proofs.{Calls.does_as, Calls.does_then, Sets.kept_kept}
-use Rattle.pas_search.specs.{Searches.MaySearch, Searches.KeepsFound, Searches.Finds, Searches.Searches, Serving.Rule}
+use Rattle.pas_search.specs.Searches.{MaySearch, KeepsFound, Finds, Searches}
+use Rattle.pas_search.specs.Serving.{Rule}
 use Rattle.pas_search.specs.declared.serving.Served.{Served}
 
 -- ---- what was found

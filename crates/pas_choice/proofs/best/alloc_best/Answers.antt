@@ -1,5 +1,6 @@
 use Rattle.pas_search.proofs.TheBestPage.{can_go_on}
-use Rattle.pas_choice.proofs.Allocated.{room_to_try, room_to_use, is_run, run_within, can_give, room_to_give, no_deed, can_leave, allocates_best, allocates_then}
+use Rattle.pas_choice.proofs.Allocated.{room_to_try, room_to_use, is_run, run_within, can_give, room_to_give, no_deed, can_leave, allocates_best}
+use Rattle.pas_choice.proofs.Allocated.{allocates_then}
 use Rattle.pas_choice.proofs.best.alloc_best.Goals as goal
 
 pub take_best_page-requires-clause-can : goal.take_best_page-requires-clause-can
