@@ -3,9 +3,11 @@
 #![tactic(auto)]
 
 mod allocating;
+mod best;
 mod choosing;
 mod serving;
 
 pub use allocating::alloc;
+pub use best::alloc_best;
 pub use choosing::{Choosing, ChoosingRun, Chosen, Run};
 pub use serving::{ByChoice, serve_chosen};
