@@ -116,7 +116,8 @@ lies_in_run is_free g n some within free =
 -- ---- the next run of a mask
 -- a run begins at each set bit whose next lower one is clear
 module _ (mask moved others starts : Mask4) (moved_is : (g : ℕ) → g < 256 → is_set moved g ≡ (nat_le 1 g && is_set mask (g - 1)))
-    (others_are : (g : ℕ) → g < 256 → is_set others g ≡ not (is_set moved g)) (starts_are : (g : ℕ) → is_set starts g ≡ (is_set mask g && is_set others g)) where
+    (others_are : (g : ℕ) → g < 256 → is_set others g ≡ not (is_set moved g))
+    (starts_are : (g : ℕ) → is_set starts g ≡ (is_set mask g && is_set others g)) where
   not_moved : (g : ℕ) → g < 256 → ((x : ℕ) → x + 1 ≡ g → is_set mask x ≡ false) → is_set moved g ≡ false
   not_moved g small before = moved_is g small ∙ elim (cases_lt 0 g) [
     | inl some ↦ ap (λ t. t && is_set mask (g - 1)) (le-leb 1 g (omega (arith, some))) ∙ before (g - 1) (omega (arith, some))
@@ -142,7 +143,8 @@ module _ (mask moved others starts : Mask4) (moved_is : (g : ℕ) → g < 256 �
       let some = run.some in let within = run.within in
       clash (is_set starts) g (start_at g n run) (clear g above (omega (arith, some, within)))
 
-  pub next_is : (from first end : ℕ) → IsLowestSet starts from first → IsRunEnd mask first end → IsNextRun (is_set mask) from (record { first = first; length = end - first })
+  pub next_is : (from first end : ℕ) → IsLowestSet starts from first → IsRunEnd mask first end
+      → IsNextRun (is_set mask) from (record { first = first; length = end - first })
   next_is from first end low stop =
       let set = (and_parts (is_set mask first) (is_set others first) (sym (starts_are first) ∙ low.set)).0 in
       let above = stop.above in let most = low.within in
