@@ -151,6 +151,7 @@ module _ {Found : Type 0} (choice : Choice Found) (run : Found → Run) (law : (
       pub page_is : address_of block.name / 4096 ≡ served.page
       page_is = ap (λ (b : Block). address_of b.name / 4096) gives.block_is ∙ omega (arith, is_run.within, is_run.some)
 
+<<<<<<< HEAD
       pub given_adds : Adds σ σ3 (MaySearch d) ((left.steps ++ give_steps served.page r.first block gives.word gives.answer) ++ xs)
       given_adds = whole_call.adds
 
@@ -165,6 +166,35 @@ module _ {Found : Type 0} (choice : Choice Found) (run : Found → Run) (law : (
         block_is = gives.block_is ∙ ap (λ (x : Run). block_of d.heap page x.first x.grains gives.word) r_is;
         gave = whole_call.leads;
         events = λ k v. ap (events_by k v) (append_assoc left.steps given xs) ∙ events_same returning refl k v left.steps (given ++ xs) (returns_are page left.steps left.returns);
+=======
+      block_as : block ≡ block_of d.heap page (run served.found).first (run served.found).grains gives.word
+      block_as = gives.block_is ∙ ap (λ (x : Run). block_of d.heap page x.first x.grains gives.word) r_is
+
+      pub allocates : AllocatesRun choice run d tells σ σ3 (Ok block)
+      allocates = record {
+        searched = xs;
+        searches = searches.searches;
+        few = searches.few;
+        after = after;
+        adds = whole_call.adds;
+        outcome = record {
+          page = page;
+          found = served.found;
+          served = searches.outcome;
+          word = gives.word;
+          answer = gives.answer;
+          left = left.steps;
+          after_is = ap (λ (x : Run). left.steps ++ give_steps page x.first block gives.word gives.answer) r_is;
+          leaves = left.order;
+          few = let sum = length-append left.steps given in omega (arith, sum, left.few);
+          block_is = block_as;
+          address_is = ap (λ (b : Block). address_of b.name) block_as;
+          room_is = ap (λ (b : Block). b.room) block_as;
+          gave = whole_call.leads;
+          events = λ k v. ap (events_by k v) (append_assoc left.steps given xs) ∙ events_same returning refl k v left.steps (given ++ xs) (returns_are page left.steps left.returns);
+        };
+        told = λ t v l stood met. subst (λ q. IsLowestOffered choice.no_fit f d l q ⊎ IsLowestBare choice.no_fit f d l q) (sym page_is) (searches.told t v l stood met);
+>>>>>>> 5ead1ad48aa623f839cbc8dc5c0818b45db6a421
       }
 
 -- ---- by a search

@@ -1,3 +1,4 @@
 pub mod Choices
 pub mod Allocates
 pub mod Bests
+pub mod Placements
