@@ -1,4 +1,4 @@
-//! The best place on a page with four free runs, and the grains of a request.
+//! The best place on a page with four free runs.
 ghost use Rattle.std.specs.Prelude.{◌≤◌};
 
 use crate::best::Best;
@@ -26,10 +26,4 @@ fn the_shortest_run_serves_and_the_lowest_among_equals(rt: HostRuntime) {
     assert!(rt; first_for(6) == Some(250));
     assert!(rt; first_for(7) == Some(0) && first_for(10) == Some(0));
     assert!(rt; first_for(11).is_none());
-}
-
-#[test]
-fn a_request_gets_as_many_grains_as_hold_it(rt: HostRuntime) {
-    assert!(rt; Best::holding(0).grains == 1 && Best::holding(16).grains == 1);
-    assert!(rt; Best::holding(17).grains == 2 && Best::holding(4096).grains == 256);
 }
