@@ -1,3 +1,4 @@
 mod Parts
 mod Allocated
 pub mod Alone
+pub mod Sessions
