@@ -2,8 +2,8 @@
 ghost use Rattle.std.specs.Prelude.{◌≡◌, ◌+◌, ◌≤◌};
 ghost use Rattle.pas_steps.specs.{Clear.HasNothing, Desks.CanCall};
 
+use pas_bestfit::alloc;
 use pas_free_log::{end_one, may_end};
-use pas_powers::alloc;
 use pas_profile::limits::GRAIN_BYTES;
 use pas_profile::{Block, Name, NoRoom};
 use pas_steps::Desk;

@@ -1,4 +1,5 @@
 mod Parts
 mod Allocated
+mod Placed
 pub mod Alone
 pub mod Sessions

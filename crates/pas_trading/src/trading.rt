@@ -6,8 +6,8 @@ ghost use Rattle.pas_shared.specs.Passes.{IsFreshPass, standing_of};
 ghost use Rattle.pas_trading.specs.Trades.{IsPastAt, HasTraded, no_table, spare_of, table_of};
 
 use crossbeam_channel::{Receiver, Sender, bounded};
+use pas_bestfit::alloc;
 use pas_free_log::{end_one, may_end};
-use pas_powers::alloc;
 use pas_profile::Name;
 use pas_shared::{Past, SharedDesk, SharedPass, SharedRegion};
 use pas_steps::Desk;
