@@ -13,7 +13,8 @@ use Rattle.pas_steps.specs.{Calls.Calls, Clear.HasNothing, Kinds.LookEpoch, Desk
 use Rattle.pas_steps.specs.declared.step.Step.TheVariants.{Look}
 use Rattle.pas_steps.proofs.{Called.call_none, Called.call_step, Calls.does_idly}
 use Rattle.pas_scavenger.specs.{Pages.unback_of, Passes.unbacks_in}
-use Rattle.pas_scavenger.proofs.Trying.{nothing_still, one_unback}
+use Rattle.pas_scavenger.proofs.Trying.{one_unback}
+use Rattle.pas_steps.proofs.Nothing.{nothing_still}
 
 -- ---- caches of which that of thread k became another
 pub its_cache : (caches : Caches) (k : ℕ) (c : Cached) → with_cache caches k c k ≡ c

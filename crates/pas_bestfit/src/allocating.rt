@@ -1,7 +1,7 @@
 //! A block is allocated at the best place.
-ghost use Rattle.std.specs.Prelude.{◌≡◌, ◌≤◌};
+ghost use Rattle.std.specs.Prelude.{◌≡◌, ◌≤◌, ◌+◌};
 ghost use Rattle.pas_profile.specs.Profiles.{IsDirectoryOf};
-ghost use Rattle.pas_steps.specs.Desks.{CanCall};
+ghost use Rattle.pas_steps.specs.{Clear.HasNothing, Desks.CanCall};
 ghost use Rattle.pas_search.specs.Searches.{SearchRoom};
 ghost use Rattle.pas_bestfit.specs.Allocates.{bestfit_directory, Allocates};
 
@@ -22,6 +22,8 @@ pub fn alloc<D: Desk>(desk: &mut D, heap: u8, size: u32) -> Result<Block, NoRoom
     requires size { size ≤ 4096 }
     requires can { CanCall (D.standing desk.old) (SearchRoom (D.standing desk.old).seat.profile (bestfit_directory heap) 2 (D.spare_of desk.old)) }
     ensures allocates { Allocates heap size D.tells (D.standing desk.old) (D.standing desk.new) result }
+    ensures rests { CanCall (D.standing desk.old) HasNothing → CanCall (D.standing desk.new) HasNothing }
+    ensures room { D.spare_of desk.old ≤ D.spare_of desk.new + 3 }
     ensures home { D.home desk.new ≡ D.home desk.old }
 {
     let directory = Directory {

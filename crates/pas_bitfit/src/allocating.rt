@@ -1,7 +1,7 @@
 //! A bit-fit block is allocated.
-ghost use Rattle.std.specs.Prelude.{◌≡◌, ◌≤◌, ◌%◌};
+ghost use Rattle.std.specs.Prelude.{◌≡◌, ◌≤◌, ◌+◌, ◌%◌};
 ghost use Rattle.pas_profile.specs.{Classes.IsAlignment, Profiles.IsDirectoryOf};
-ghost use Rattle.pas_steps.specs.Desks.{CanCall};
+ghost use Rattle.pas_steps.specs.{Clear.HasNothing, Desks.CanCall};
 ghost use Rattle.pas_search.specs.Searches.{SearchRoom};
 ghost use Rattle.pas_bitfit.specs.Allocates.{bitfit_directory, Allocates};
 
@@ -24,6 +24,8 @@ pub fn alloc<D: Desk>(desk: &mut D, heap: u8, room: u32, align: u32) -> Result<B
     requires align { IsAlignment align }
     requires can { CanCall (D.standing desk.old) (SearchRoom (D.standing desk.old).seat.profile (bitfit_directory heap) 2 (D.spare_of desk.old)) }
     ensures allocates { Allocates heap room align D.tells (D.standing desk.old) (D.standing desk.new) result }
+    ensures rests { CanCall (D.standing desk.old) HasNothing → CanCall (D.standing desk.new) HasNothing }
+    ensures room { D.spare_of desk.old ≤ D.spare_of desk.new + 3 }
     ensures home { D.home desk.new ≡ D.home desk.old }
 {
     let directory = Directory {

@@ -2,3 +2,4 @@ mod Parts
 mod Allocated
 mod Placed
 pub mod Alone
+pub mod Sessions

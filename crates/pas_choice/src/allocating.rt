@@ -1,7 +1,7 @@
 //! A block is allocated: the run that a search found is given, and its page is left.
-ghost use Rattle.std.specs.Prelude.{◌≡◌};
+ghost use Rattle.std.specs.Prelude.{◌≡◌, ◌≤◌, ◌+◌};
 ghost use Rattle.pas_profile.specs.Profiles.{IsDirectoryOf};
-ghost use Rattle.pas_steps.specs.Desks.{CanCall};
+ghost use Rattle.pas_steps.specs.{Clear.HasNothing, Desks.CanCall};
 ghost use Rattle.pas_search.specs.Searches.{SearchRoom};
 ghost use Rattle.pas_choice.specs.{Allocates.AllocatesRun, Choices.choosing};
 
@@ -16,7 +16,7 @@ use pas_steps::Desk;
 /// deed. Just its grains are taken, the block is given, and then the page is left. Nothing is kept.
 ///
 /// `NoSpace` and `Held` come as the search of the directory gives them. At most two events where the deed of each page is known, and three
-/// otherwise. A page's turn takes at most 15 steps, the search of `n` pages at most `(18 + w) n + 81` and 66 more for each 64 of them, where `w`
+/// otherwise. An actor that had nothing has nothing afterwards. A page's turn takes at most 15 steps, the search of `n` pages at most `(18 + w) n + 81` and 66 more for each 64 of them, where `w`
 /// is the lesser of 8 and `n / 64 + 1`, and the block and the leave 13 more.
 pub fn alloc<C: ChoosingRun, D: Desk>(
     pages: &ByChoice<C>,
@@ -27,6 +27,8 @@ pub fn alloc<C: ChoosingRun, D: Desk>(
     requires suits { (choosing (C.choice pages.now.0)).suits directory }
     requires can { CanCall (D.standing desk.old) (SearchRoom (D.standing desk.old).seat.profile directory 2 (D.spare_of desk.old)) }
     ensures allocates { AllocatesRun (C.choice pages.now.0) (C.run pages.now.0) directory D.tells (D.standing desk.old) (D.standing desk.new) result }
+    ensures rests { CanCall (D.standing desk.old) HasNothing → CanCall (D.standing desk.new) HasNothing }
+    ensures room { D.spare_of desk.old ≤ D.spare_of desk.new + 3 }
     ensures home { D.home desk.new ≡ D.home desk.old }
 {
     match find_page(pages, desk, directory) {

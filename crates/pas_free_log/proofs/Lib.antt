@@ -1,2 +1,3 @@
 pub mod OneEntry
 mod AllEntries
+mod OneName

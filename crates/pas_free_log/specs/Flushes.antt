@@ -7,7 +7,7 @@ use Rattle.pas_steps.specs.{Views.View, Views.known_epoch, Views.epoch_of, Event
 use Rattle.pas_steps.specs.{Desks.made, InTurn.InTurn, Clear.IsClear}
 use Rattle.pas_steps.specs.declared.step.{Made.Made, Step.TheVariants.Look}
 use Rattle.pas_free_log.specs.{Conditions.MayEnd, Stamps.stamps_by, Stamps.pages_met, Stamps.stamps_with, Frames.ending, Frames.freeing, Endings.reason_for}
-use Rattle.pas_free_log.specs.{Endings.EndSteps, Returns.RunSteps, Noted.AreRanges, Noted.noted_by}
+use Rattle.pas_free_log.specs.{Endings.EndSteps, Logs.entry_of, Returns.RunSteps, Noted.AreRanges, Noted.noted_by}
 use Rattle.pas_free_log.specs.declared.{log.Entry.Entry, noting.EndedRun.EndedRun, ending.Outcome.Outcome, ending.Outcome.TheVariants.Ended}
 use Rattle.pas_free_log.specs.declared.{ending.Outcome.TheVariants.Refused}
 
@@ -95,3 +95,13 @@ pub record Flushes (logged : List Entry) (ended ended' : List EndedRun) (desk de
   pub stamps : (v : View) → stamps_by v steps ≡ flat_map (stamps_for epoch) settled
   pub few : length steps ≤ 1 + 3 * length logged + 14 * length (flat_map (stamps_for epoch) settled)
   pub epoch_known : (v : View) → known_epoch (steps ++ v) ≡ Some epoch
+
+-- ---- one name
+-- A flush of a log that has this name alone, without a room: what came of its end, of which directory its page was read, and its one event.
+pub record EndsName (name : Name) (desk desk' : Standing) : Type 0 where
+  pub noted : List EndedRun
+  pub flushes : Flushes (entry_of name ∷ []) [] noted desk desk'
+  pub outcome : Outcome
+  pub directory : Option Directory
+  pub settled_is : flushes.settled ≡ record { entry = entry_of name; outcome = outcome; directory = directory } ∷ []
+  pub event : (v : View) → events_by desk.seat.actor v flushes.steps ≡ event_for desk.seat.actor flushes.epoch (entry_of name) outcome ∷ []

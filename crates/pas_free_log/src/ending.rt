@@ -1,5 +1,5 @@
 //! The end of one name.
-ghost use Rattle.std.specs.Prelude.{◌≡◌, ◌≤◌, true, false, IfSome, MatchOption};
+ghost use Rattle.std.specs.Prelude.{◌≡◌, ◌≤◌, ◌↔◌, true, false, IfSome, IsTrue, MatchOption};
 ghost use Rattle.pas_profile.specs.{Lives.grains_of, Directories.IsKind};
 ghost use Rattle.pas_steps.specs.Desks.{CanCall};
 ghost use Rattle.pas_free_log.specs.{Conditions.IsNameOf, Conditions.IsEntryOf, Conditions.KnowsEpoch, Endings.guess_by, Endings.is_of, Endings.EndsOne};
@@ -8,7 +8,7 @@ ghost use Rattle.pas_free_log.specs.{Logs.entry_of, Logs.is_sized};
 use crate::log::Entry;
 use pas_profile::classes::class_size;
 use pas_profile::limits::{GRAIN_BYTES, PAGE_BYTES};
-use pas_profile::{Directory, Kind, Name, Word, life_word, read_deed, read_life};
+use pas_profile::{Directory, Kind, Name, Profile, Word, life_word, read_deed, read_life};
 use pas_steps::Desk;
 
 /// What came of the end of a name.
@@ -18,6 +18,17 @@ pub enum Outcome {
     Ended { grains: u32 },
     /// This life word was read, which isn't that of the name's block.
     Refused { read: u64 },
+}
+
+/// Whether the end of the name may be tried in a region of this profile: its address is a multiple of 16 on a page of the region, and its turn is
+/// below 2^40 - 1. Whether a block of this name lives isn't asked.
+pub fn may_end(profile: &Profile, name: Name) -> bool
+    ensures { IsTrue result ↔ IsNameOf profile.now name }
+{
+    let page = name.address.0 / PAGE_BYTES;
+    (1..=profile.pages).contains(&page)
+        && name.address.0 % GRAIN_BYTES == 0
+        && name.turn < (1 << 40) - 1
 }
 
 /// How many grains a block has that begins on a page of the directory: right for every block of a class, and 1 otherwise.

@@ -1,14 +1,14 @@
 //! The flush of a log.
 ghost use Rattle.std.specs.Prelude.{◌≡◌, ◌≤◌, ◌+◌, [], All, length};
-ghost use Rattle.pas_steps.specs.{Desks.CanCall, Clear.IsClear};
-ghost use Rattle.pas_free_log.specs.{Logs.entries_in, Conditions.IsEntryOf, Conditions.MayEnd, Flushes.EndsEntry, Flushes.Flushes};
+ghost use Rattle.pas_steps.specs.{Desks.CanCall, Clear.IsClear, Clear.HasNothing};
+ghost use Rattle.pas_free_log.specs.{Logs.entries_in, Conditions.IsEntryOf, Conditions.IsNameOf, Conditions.MayEnd, Flushes.EndsEntry, Flushes.Flushes, Flushes.EndsName};
 
 use crate::ending::{Outcome, end_logged};
 use crate::log::{Entry, FreeLog};
 use crate::noting::{EndedRun, large_run, note};
 use crate::returning::return_run;
 use arrayvec::ArrayVec;
-use pas_profile::Word;
+use pas_profile::{Name, Word};
 use pas_profile::limits::{GRAIN_BYTES, MOST_LOGGED};
 use pas_steps::Desk;
 
@@ -54,4 +54,23 @@ pub fn flush<D: Desk>(desk: &mut D, log: &mut FreeLog, ended: &mut ArrayVec<Ende
         note(ended, run);
     }
     log.clear();
+}
+
+/// Ends the block of this name, as a flush does of a log that has this name alone.
+///
+/// One event: `End` with the epoch that is read, or `Reject` where no block of this name lives. An actor that had nothing has nothing
+/// afterwards. At most four steps, and fourteen for each page of a block that ended.
+pub fn end_one<D: Desk>(desk: &mut D, name: Name)
+    requires name { IsNameOf (D.standing desk.old).seat.profile name }
+    requires room { 1 ≤ D.spare_of desk.old }
+    requires can { CanCall (D.standing desk.old) IsClear }
+    ensures ends { EndsName name (D.standing desk.old) (D.standing desk.new) }
+    ensures rests { CanCall (D.standing desk.old) HasNothing → CanCall (D.standing desk.new) HasNothing }
+    ensures spare { D.spare_of desk.new + 1 ≡ D.spare_of desk.old }
+    ensures home { D.home desk.new ≡ D.home desk.old }
+{
+    let mut log = FreeLog::new();
+    log.add(name);
+    let mut ended = ArrayVec::new();
+    flush(desk, &mut log, &mut ended);
 }

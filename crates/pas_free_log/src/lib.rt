@@ -7,6 +7,7 @@ mod log;
 mod noting;
 mod returning;
 
-pub use flushing::flush;
+pub use ending::may_end;
+pub use flushing::{end_one, flush};
 pub use log::{Entry, FreeLog};
 pub use noting::EndedRun;

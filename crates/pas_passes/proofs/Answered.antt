@@ -3,7 +3,7 @@ use Rattle.std.proofs.Common.{◌≡◌, ℕ, ◌+◌, Some, List, [], ◌∷◌
 use Rattle.pas_profile.specs.declared.event.Outcome.{Outcome}
 use Rattle.pas_report.specs.declared.record.{Record.Record, Said.Said}
 use Rattle.pas_scavenger.specs.Passes.{Passes, unbacks_in}
-use Rattle.pas_scavenger.proofs.Trying.{nothing_still}
+use Rattle.pas_steps.proofs.Nothing.{nothing_still}
 use Rattle.pas_steps.specs.{Calls.Calls, Clear.HasNothing, Desks.Standing, Desks.Makes, Desks.made}
 use Rattle.pas_steps.specs.declared.step.Step.TheVariants.{Tick}
 use Rattle.pas_steps.proofs.{Called.call_none, Called.call_step, Calls.does_idly}

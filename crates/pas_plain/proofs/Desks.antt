@@ -8,8 +8,8 @@ use Rattle.pas_steps.specs.{Calls.nothing, Calls.Does, Calls.Calls, Clear.IsClea
 use Rattle.pas_steps.specs.Views.{known_epoch, View, epoch_of, or_zero}
 use Rattle.pas_steps.specs.Desks.{triples, Seat, Standing, made, triple, CanMake, Makes}
 use Rattle.pas_steps.specs.declared.step.{Made.Made, Step.Step}
-use Rattle.pas_steps.proofs.{Parts.part_of_others, Parts.part_of_own, Frames.with_few, Called.call_none, Called.call_step, Called.call_as, Calls.still_clear}
-use Rattle.pas_steps.proofs.{Calls.does_idly, Targets.target_of_region}
+use Rattle.pas_steps.proofs.{Parts.part_of_others, Parts.part_of_own, Frames.with_few, Called.call_none, Called.call_step}
+use Rattle.pas_steps.proofs.{Calls.does_idly, Nothing.nothing_still, Nothing.calls_rest, Targets.target_of_region}
 use Rattle.pas_plain.specs.Plain.{actor_of, PassStands, pass_for, passes_from, profile_of, room_of_pass, events_shown, RegionStands, epoch_known, IsExchanged}
 use Rattle.pas_plain.specs.declared.{pass.PlainPass.PlainPass, region.PlainRegion.PlainRegion, desk.PlainDesk.PlainDesk}
 use Rattle.pas_steps.specs.Kinds.{Kinds, kind_of, is_in, apart, changing}
@@ -24,7 +24,7 @@ use Rattle.pas_region.proofs.Noting.{notes_next}
 -- ==== Passes that stand: at the opening, and at rest while another actor steps.
 
 -- ---- at the opening
-fresh_stands : (f : Profile) (k : ℕ) (room : EventRoom) → k ≤ f.threads → shown room ≡ [] → PassStands f (pass_for k room) []
+pub fresh_stands : (f : Profile) (k : ℕ) (room : EventRoom) → k ≤ f.threads → shown room ≡ [] → PassStands f (pass_for k room) []
 fresh_stands f k room actor empty = record { actor = actor; shown = empty; count = refl; epoch = refl }
 
 pub passes_stand : (f : Profile) (n : ℕ) (rooms : List EventRoom) → n + length rooms ≤ f.threads + 1 → All (λ room. shown room ≡ []) rooms → All (λ pass. PassStands f pass []) (passes_from n rooms)
@@ -142,20 +142,17 @@ storm_makes old mid new foreign foreign' s a own profile stands makes =
     }
 
 -- ---- for those who write intruders
-still_nothing : {v w : View} → Does nothing v w → HasNothing v → HasNothing w
-still_nothing does none = record { grains = λ g. does.held g ∙ none.grains g; rights = λ page. does.right page ∙ none.rights page; clear = still_clear does none.clear }
-
 -- one that changes nothing of what it holds, has and owes, and that it may always make
 pub acts_idly : {σ σ' : Standing} {s : Step} {a : ℕ} (ks : Kinds) → apart ks changing ≡ true → is_in ks (kind_of s) ≡ true → ((v : View) → Allowed σ.seat.profile v s) → Makes σ σ' s a → Acts σ σ'
 acts_idly {σ} {s = s} {a = a} ks w is allowed makes = record {
   steps = made s a ∷ [];
   calls = call_step (λ v w. HasNothing w) (call_none {R = λ v w. HasNothing w} (λ v met. met)) makes (λ v met same. allowed v)
-      (λ v met same agrees. still_nothing (does_idly σ.seat.profile ks w (made s a ∷ []) v (is, tt) (agrees, tt)) met);
+      (λ v met same agrees. nothing_still (does_idly σ.seat.profile ks w (made s a ∷ []) v (is, tt) (agrees, tt)) met);
 }
 
 -- calls after which the actor holds, has and owes what it did
 pub acts_still : {σ σ' : Standing} {steps : List Made} → Calls σ σ' IsClear (Does nothing) steps → Acts σ σ'
-acts_still {steps = steps} calls = record { steps = steps; calls = call_as (λ v w. HasNothing w) calls (λ v none. none.clear) (λ v w none does. still_nothing does none) }
+acts_still {steps = steps} calls = record { steps = steps; calls = calls_rest calls }
 
 -- ==== The walk of an actor alone at a plain desk, step by step from the opening on.
 

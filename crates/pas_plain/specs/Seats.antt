@@ -1,5 +1,5 @@
 -- What a plain desk stands for, and which passes are a region's own.
-use Rattle.std.specs.Prelude.{ℕ, ◌≡◌, List, All}
+use Rattle.std.specs.Prelude.{ℕ, ◌≡◌, ◌≢◌, List, [], All}
 use Rattle.pas_steps.specs.{Views.View, Views.or_zero, Lists.Whole, Lists.part, Desks.Seat, Desks.Standing}
 use Rattle.pas_steps.specs.declared.step.Step.{Step}
 use Rattle.pas_plain.specs.Plain.{profile_of, RegionStands, actor_of, room_of_pass, epoch_known, PassStands, IsExchanged}
@@ -41,3 +41,12 @@ pub record ArePassesOf (region : PlainRegion) (passes : List PlainPass) : Type 0
   pub whole : Whole
   pub stands : RegionStands region whole
   pub parts : All (λ pass. PassStands (profile_of region) pass whole) passes
+
+-- ---- two actors at a region that nobody used yet
+-- one at its desk, and the pass of another one: nobody made a step. Each has room for so many events in all
+pub record Opens (desk : PlainDesk) (pass : PlainPass) (room : ℕ) : Type 0 where
+  pub stood : DeskStands desk [] []
+  pub rests : PassStands (profile_of (region_of desk)) pass []
+  pub other : actor_of (pass_of desk) ≢ actor_of pass
+  pub room_of : room_of_pass (pass_of desk) ≡ room
+  pub room_of_other : room_of_pass pass ≡ room

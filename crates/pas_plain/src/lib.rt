@@ -8,6 +8,7 @@ pub mod closed;
 pub mod desk;
 pub mod pass;
 pub mod region;
+pub mod seating;
 pub mod session;
 pub mod storm;
 
@@ -15,5 +16,6 @@ pub use closed::Closed;
 pub use desk::PlainDesk;
 pub use pass::PlainPass;
 pub use region::PlainRegion;
+pub use seating::{alone, beside};
 pub use session::close;
 pub use storm::{Intruder, StormDesk};

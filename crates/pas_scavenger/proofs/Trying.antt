@@ -8,7 +8,7 @@ use Rattle.pas_steps.specs.Desks.{Standing, CanCall, Makes, made}
 use Rattle.pas_steps.specs.Kinds.{Kinds, apart, Only, showing, LookEmpty, LookEpoch}
 use Rattle.pas_steps.specs.declared.step.{Made.Made, Step.TheVariants.Look, Step.TheVariants.Unhint}
 use Rattle.pas_steps.proofs.Apart.{no_events, only_within, only_both, epoch_same}
-use Rattle.pas_steps.proofs.{SpareRoom.Spares, SpareRoom.spare_falls, Calls.does_idly, Calls.still_clear, Frames.events_append}
+use Rattle.pas_steps.proofs.{SpareRoom.Spares, SpareRoom.spare_falls, Calls.does_idly, Nothing.nothing_still, Frames.events_append}
 use Rattle.std.proofs.lemmas.{List.reverse-append, List.length-reverse, Bool.cases_eq}
 use Rattle.pas_bits.specs.{Bits.has_bit, PageVectors.HasNoPage, PageVectors.IsLowestPage}
 use Rattle.pas_profile.specs.Profiles.{IsPage, vector_words}
@@ -43,9 +43,6 @@ few_unbacks : (k epoch page : ℕ) (o : Option Outcome) → length (unbacks_in k
 few_unbacks k epoch page o = grind (arith, length-append, one_unback)
 
 -- ---- a look that leaves the actor ready
-pub nothing_still : {v w : View} → Does nothing v w → HasNothing v → HasNothing w
-nothing_still does met = record { grains = λ g. does.held g ∙ met.grains g; rights = λ q. does.right q ∙ met.rights q; clear = still_clear does met.clear }
-
 pub looked_first : {σ σ1 : Standing} (epoch block a : ℕ) (before : List (ℕ × Outcome)) → Makes σ σ1 (Look (Word.Empty block)) a → Tries epoch [] σ σ1 before before (made (Look (Word.Empty block)) a ∷ [])
 looked_first {σ} epoch block a before makes = record {
   calls = call_step (λ v w. IsReady epoch w) (call_none {R = λ v w. IsReady epoch w} (λ v met. met)) makes (λ v met is. tt)

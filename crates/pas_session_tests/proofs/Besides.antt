@@ -11,7 +11,8 @@ use Rattle.pas_plain.proofs.Desks.{pass_rests}
 use Rattle.pas_search.specs.Searches.{MaySearch}
 use Rattle.pas_trials.specs.{Trials.Beside, Trials.Brings, Trials.Wants, Filling.Steps}
 use Rattle.pas_trials.specs.declared.wanting.Findings.{Findings}
-use Rattle.pas_session_tests.specs.Seated.{Opens, Waits}
+use Rattle.pas_session_tests.specs.Seated.{Waits}
+use Rattle.pas_plain.specs.Seats.{Opens}
 
 -- an actor that made no step may search
 pub may_search : (d : Directory) → MaySearch d []

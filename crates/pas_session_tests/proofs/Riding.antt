@@ -11,8 +11,10 @@ use Rattle.pas_plain.specs.Seats.{region_of, pass_of, DeskStands, standing_of}
 use Rattle.pas_plain.specs.declared.{desk.PlainDesk.PlainDesk, pass.PlainPass.PlainPass}
 use Rattle.pas_plain.proofs.Desks.{pass_rests}
 use Rattle.pas_trials.specs.{Borrowing.Borrows, Filling.Steps}
-use Rattle.pas_session_tests.specs.Seated.{RestsBeside, Opens}
-use Rattle.pas_session_tests.proofs.Stormed.{nothing_yet, fresh}
+use Rattle.pas_session_tests.specs.Seated.{RestsBeside}
+use Rattle.pas_plain.specs.Seats.{Opens}
+use Rattle.pas_steps.proofs.Nothing.{nothing_yet}
+use Rattle.pas_session_tests.proofs.Stormed.{fresh}
 
 -- ---- before the storm
 pub rests_first : {d : PlainDesk} {p : PlainPass} {room : ℕ} {c : Cached} → Opens d p room → c.locals ≡ [] → c.log ≡ [] → RestsBeside d p c

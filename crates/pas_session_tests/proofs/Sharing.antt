@@ -6,7 +6,7 @@ use Rattle.pas_cache.specs.Caches.{Cached, AtRest}
 use Rattle.pas_region.specs.Noted.{events_noted, room_of_notes}
 use Rattle.pas_shared.specs.Passes.{view_of, seat_of, standing_of}
 use Rattle.pas_shared.specs.declared.desk.SharedDesk.{SharedDesk}
-use Rattle.pas_session_tests.proofs.Stormed.{nothing_yet}
+use Rattle.pas_steps.proofs.Nothing.{nothing_yet}
 
 -- a request may be made of an empty cache at a region of one page, with room for four events more
 pub can_borrow : (desk : SharedDesk) (c : Cached) → view_of desk.pass ≡ [] → (seat_of desk.pass).room ≡ 16 → (seat_of desk.pass).profile.pages ≡ 1 → ((f : Profile) (v : View) → HasNothing v → AtRest f c v)

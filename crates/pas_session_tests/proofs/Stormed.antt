@@ -4,10 +4,10 @@ use Rattle.pas_profile.specs.Profiles.{IsDirectoryOf}
 use Rattle.pas_profile.specs.declared.profile.Profile.{Profile}
 use Rattle.pas_steps.specs.{Clear.HasNothing, Lists.Whole, Unknown.unknown_pages, Views.View}
 use Rattle.pas_steps.specs.Desks.{Seat, Standing, CanCall, triples}
-use Rattle.pas_steps.proofs.Parts.{part_of_others}
+use Rattle.pas_steps.proofs.{Nothing.nothing_yet, Parts.part_of_others}
 use Rattle.pas_cache.specs.Caches.{Cached, AtRest}
 use Rattle.pas_plain.specs.Plain.{profile_of, actor_of, events_shown, room_of_pass, PassStands}
-use Rattle.pas_plain.specs.Seats.{region_of, pass_of, DeskStands, standing_of}
+use Rattle.pas_plain.specs.Seats.{region_of, pass_of, DeskStands, Opens, standing_of}
 use Rattle.pas_plain.specs.Storms.{StormStands, seat_for}
 use Rattle.pas_plain.specs.declared.{desk.PlainDesk.PlainDesk, pass.PlainPass.PlainPass, region.PlainRegion.PlainRegion}
 use Rattle.pas_plain.proofs.Desks.{pass_rests}
@@ -16,11 +16,7 @@ use Rattle.pas_trials.proofs.Going.{few_below}
 use Rattle.pas_segregated.specs.Stops.{class_directory}
 use Rattle.pas_session_tests.proofs.Besides.{may_search}
 use Rattle.pas_trials.specs.Borrowing.{Borrows, RestsWithRoom}
-use Rattle.pas_session_tests.specs.Seated.{RestsBeside, two_threads, Opens}
-
--- an actor that made no step has nothing
-pub nothing_yet : HasNothing []
-nothing_yet = record { grains = λ g. refl; rights = λ page. refl; clear = record { on = λ page. record { stamped = refl; owes = record { checks = λ word small. refl; hint = refl }; examined = refl } } }
+use Rattle.pas_session_tests.specs.Seated.{RestsBeside, two_threads}
 
 -- an actor that made no step may make requests
 pub may_begin_alone : {d : PlainDesk} {c : Cached} (n spare : ℕ) → DeskStands d [] [] → ((f : Profile) (v : View) → HasNothing v → AtRest f c v) → n + (profile_of (region_of d)).pages ≤ spare → CanCall (standing_of d) (RestsWithRoom (profile_of (region_of d)) c n spare)

@@ -25,14 +25,6 @@ abbrev pub shared_profile : ℕ → ℕ → Profile
 shared_profile pages threads = record { pages = pages; threads = threads; age = 2; heaps = 1; shared = 0; classes = 16 }
 
 -- ---- two actors at one plain region
--- nobody made a step yet. Each has room for so many events in all
-pub record Opens (desk : PlainDesk) (pass : PlainPass) (room : ℕ) : Type 0 where
-  pub stood : DeskStands desk [] []
-  pub rests : PassStands (profile_of (region_of desk)) pass []
-  pub other : actor_of (pass_of desk) ≢ actor_of pass
-  pub room_of : room_of_pass (pass_of desk) ≡ room
-  pub room_of_other : room_of_pass pass ≡ room
-
 -- the desk and the pass of another actor stand for one list, in which that actor made no step
 pub record Waits (desk : PlainDesk) (pass : PlainPass) (room : ℕ) : Type 0 where
   pub view : View

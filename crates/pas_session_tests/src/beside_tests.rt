@@ -3,11 +3,12 @@ ghost use Rattle.std.specs.Prelude.{◌≡◌, ◌<◌, [], IfOk};
 ghost use Rattle.pas_steps.specs.{Lists.Whole, States.profile_of as the_profile_of, Views.View};
 ghost use Rattle.pas_cache.specs.Caches.{cached};
 ghost use Rattle.pas_plain.specs.{Plain.profile_of, Seats.region_of, Storms.StormStands};
-ghost use Rattle.pas_session_tests.specs.Seated.{Opens, RestsBeside, two_threads};
+ghost use Rattle.pas_session_tests.specs.Seated.{RestsBeside, two_threads};
+ghost use Rattle.pas_plain.specs.Seats.{Opens};
 
-use crate::seating::{plain_profile, seated};
+use crate::seating::plain_profile;
 use pas_cache::ThreadCache;
-use pas_plain::{Intruder, PlainDesk, PlainPass, PlainRegion, close};
+use pas_plain::{Intruder, PlainDesk, PlainPass, PlainRegion, beside, close};
 use pas_profile::*;
 use pas_steps::{Desk, State};
 use pas_trials::{Borrower, Flusher, borrow_many, fill};
@@ -107,7 +108,7 @@ fn words_of(state: &State, class: u16) -> [u64; 7]
 /// Actor 1 refills a class, and actor 2 asks for a block of it and stops its cache before each of these steps. Some words of the
 /// region then.
 fn refill_beside_requests(alloc: Global, first: u64, last: u64) -> Result<[u64; 7], Fail> {
-    let (desk, foreign) = seated(alloc, plain_profile(1), 5000)?;
+    let (desk, foreign) = beside(alloc, plain_profile(1), 5000)?;
     let mut utility = Utility::try_new(alloc, desk.profile(), &[0, 5000, 5000])?;
     let Some(seat) = utility.cache_seat(2) else {
         return Err(NoMemory.into());
@@ -120,7 +121,7 @@ fn refill_beside_requests(alloc: Global, first: u64, last: u64) -> Result<[u64; 
 /// Actor 1 asks for the eight blocks of a page, and stops its cache. Before its step of this number actor 2 frees the first of them. The steps
 /// of actor 1, and words of the region.
 fn park_beside_a_free(alloc: Global, at: u64) -> Result<(u64, [u64; 7]), Fail> {
-    let (mut desk, foreign) = seated(alloc, plain_profile(1), 100)?;
+    let (mut desk, foreign) = beside(alloc, plain_profile(1), 100)?;
     let mut utility = Utility::try_new(alloc, desk.profile(), &[0, 100, 100])?;
     let Some(seat) = utility.cache_seat(1) else {
         return Err(NoMemory.into());

@@ -1,6 +1,7 @@
 //! Blocks at the best place of a page.
 
-use crate::seating::{plain_profile, seated};
+use crate::seating::plain_profile;
+use pas_plain::beside;
 use pas_profile::*;
 use pas_trials::{change, close_both};
 use std::alloc::Global;
@@ -8,7 +9,7 @@ use std::test::Fail;
 
 /// Actor 1 asks for 100 bytes, and then actor 2 for 200. Both answers.
 fn two_requests(alloc: Global) -> Result<[Result<Block, NoRoom>; 2], Fail> {
-    let (mut desk, pass) = seated(alloc, plain_profile(2), 3)?;
+    let (mut desk, pass) = beside(alloc, plain_profile(2), 3)?;
     let first = pas_bestfit::alloc(&mut desk, 0, 100);
     let (mut desk, pass) = change(desk, pass);
     let second = pas_bestfit::alloc(&mut desk, 0, 200);

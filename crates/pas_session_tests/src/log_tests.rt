@@ -7,7 +7,7 @@ ghost use Rattle.pas_free_log.specs.Logs.{entries_in, entry_of};
 
 use arrayvec::ArrayVec;
 use pas_free_log::{FreeLog, flush};
-use pas_plain::{PlainDesk, PlainRegion, close};
+use pas_plain::{PlainDesk, alone, close};
 use pas_profile::*;
 use pas_steps::{Desk, State};
 use std::alloc::{AllocError, Global};
@@ -44,22 +44,6 @@ const UNKNOWN: Name = Name {
     address: Address(4096),
     turn: 0,
 };
-
-/// Actor 1 at a region that nobody used yet.
-fn seated(alloc: Global) -> Result<PlainDesk, Fail>
-    ensures fresh { IfOk result (λ desk. DeskStands desk [] []) }
-    ensures profile { IfOk result (λ desk. profile_of (region_of desk) ≡ PROFILE) }
-    ensures room { IfOk result (λ desk. room_of_pass (pass_of desk) ≡ 16) }
-{
-    let mut rooms = Vec::new(alloc);
-    rooms.push(EventRoom::try_new(alloc, 0)?)?;
-    rooms.push(EventRoom::try_new(alloc, 16)?)?;
-    let (region, mut passes) = PlainRegion::try_new(alloc, PROFILE, rooms)?;
-    let Some(pass) = passes.pop() else {
-        return Err(NoMemory.into());
-    };
-    Ok(region.desk(pass))
-}
 
 /// Gives the block, in eight steps that make five events.
 fn give(desk: &mut PlainDesk)
@@ -139,7 +123,7 @@ fn are_one_end(shown: &[Event]) -> bool {
 
 #[test]
 fn a_block_of_two_pages_ends_once(rt: HostRuntime) -> Result<(), Fail> {
-    let mut desk = seated(rt.alloc())?;
+    let mut desk = alone(rt.alloc(), PROFILE, 16)?;
     give(&mut desk);
     let mut log = logged();
     let mut ended = ArrayVec::new();

@@ -1,10 +1,10 @@
 //! Whole pages that ended, with an index and without one.
 ghost use Rattle.std.specs.Prelude.{IfOk};
 
-use crate::seating::alone;
 use pas_cache::ThreadCache;
 use pas_large::{Door, NoIndex, PlainDoor, SharedDoor};
 use pas_large_index::LargeIndex;
+use pas_plain::alone;
 use pas_profile::*;
 use pas_steps::Desk;
 use pas_trials::reuse_pages;

@@ -1,7 +1,8 @@
 //! A pass of a scavenger at a page that another actor left or has in hand.
 ghost use Rattle.std.specs.Prelude.{◌^◌, ◌<◌};
 
-use crate::seating::{plain_profile, seated};
+use crate::seating::plain_profile;
+use pas_plain::beside;
 use pas_profile::*;
 use pas_steps::Desk;
 use pas_trials::{age_and_pass, change, close_both, fill};
@@ -18,7 +19,7 @@ fn refill_and_pass(
 ) -> Result<(Option<(u32, Outcome)>, u64), Fail>
     requires { epoch < 2 ^ 40 }
 {
-    let (mut desk, pass) = seated(alloc, plain_profile(1), 2)?;
+    let (mut desk, pass) = beside(alloc, plain_profile(1), 2)?;
     let _ = fill(&mut desk, 0, 0, stops);
     let (mut desk, pass) = change(desk, pass);
     let mut utility = Utility::try_new(alloc, desk.profile(), &[0, 0, 0])?;

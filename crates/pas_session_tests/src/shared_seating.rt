@@ -1,27 +1,13 @@
 //! Shared regions that nobody used yet.
-ghost use Rattle.std.specs.Prelude.{◌≡◌, ◌≤◌, ◌+◌, [], All, IfOk, vec_len};
-ghost use Rattle.pas_profile.specs.Rooms.{shown, size_of_room};
+ghost use Rattle.std.specs.Prelude.{◌≡◌, ◌≤◌, All, IfOk};
 ghost use Rattle.pas_shared.specs.Passes.{profile_of};
-ghost use Rattle.pas_trials.specs.Races.{IsFreshPass};
+ghost use Rattle.pas_shared.specs.Passes.{IsFreshPass};
 ghost use Rattle.pas_session_tests.specs.Seated.{shared_profile};
 
-use pas_profile::{EventRoom, NoMemory, Profile};
+use pas_profile::{NoMemory, Profile};
 use pas_shared::{SharedPass, SharedRegion};
 use std::alloc::Global;
 use std::test::Fail;
-
-/// So many rooms, each for so many events.
-fn rooms_of(alloc: Global, count: u8, events: u32) -> Result<Vec<EventRoom>, Fail>
-    ensures count { IfOk result (λ rooms. vec_len rooms ≡ count) }
-    ensures empty { IfOk result (λ rooms. All (λ room. shown room ≡ []) rooms.items) }
-    ensures size { IfOk result (λ rooms. All (λ room. size_of_room room ≡ events) rooms.items) }
-{
-    let mut rooms = Vec::new(alloc);
-    for _index in 0..count {
-        rooms.push(EventRoom::try_new(alloc, events)?)?;
-    }
-    Ok(rooms)
-}
 
 /// A region of so many pages and threads and of one heap, and the passes of its actors, each with room for so many events.
 pub fn opened(
@@ -35,7 +21,6 @@ pub fn opened(
     ensures profile { IfOk result (λ opened. profile_of opened.0 ≡ shared_profile pages threads) }
     ensures passes { IfOk result (λ opened. All (IsFreshPass opened.0 events) opened.1.items) }
 {
-    let rooms = rooms_of(alloc, threads + 1, events)?;
     let profile = Profile {
         pages,
         threads,
@@ -44,7 +29,7 @@ pub fn opened(
         shared: 0,
         classes: 16,
     };
-    Ok(SharedRegion::try_new(alloc, profile, rooms)?)
+    Ok(pas_shared::opened(alloc, profile, events)?)
 }
 
 /// Such a region of two threads, and the passes of these two.

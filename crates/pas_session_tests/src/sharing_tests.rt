@@ -1,8 +1,9 @@
 //! Two blocks, and the slots of two classes, on one page.
 
-use crate::seating::{plain_profile, seated};
+use crate::seating::plain_profile;
 use pas_bitfit::end_bits;
 use pas_bits::Mask4;
+use pas_plain::beside;
 use pas_profile::*;
 use pas_segregated::Slots;
 use pas_trials::{Allocated, Filled, allocate, change, close_both, fill_shared};
@@ -12,7 +13,7 @@ use std::test::Fail;
 /// Actor 1 asks for a bit-fit block of 528 bytes, and then actor 2 for one of 64 bytes at a multiple of 2,048. Both, and where the blocks
 /// of page 1 end then.
 fn two_blocks(alloc: Global) -> Result<([Allocated; 2], Mask4), Fail> {
-    let (mut desk, pass) = seated(alloc, plain_profile(2), 3)?;
+    let (mut desk, pass) = beside(alloc, plain_profile(2), 3)?;
     let first = allocate(&mut desk, 528, 16);
     let (mut desk, pass) = change(desk, pass);
     let second = allocate(&mut desk, 64, 2048);
@@ -22,7 +23,7 @@ fn two_blocks(alloc: Global) -> Result<([Allocated; 2], Mask4), Fail> {
 
 /// Actor 1 refills slots of 48 bytes from a shared page, and keeps them. Then actor 2 refills slots of 16 bytes, and stops them.
 fn two_views(alloc: Global) -> Result<[Result<Filled, NoRoom>; 2], Fail> {
-    let (mut desk, pass) = seated(alloc, plain_profile(1), 2)?;
+    let (mut desk, pass) = beside(alloc, plain_profile(1), 2)?;
     let first = fill_shared(&mut desk, 2, false);
     let (mut desk, pass) = change(desk, pass);
     let second = fill_shared(&mut desk, 0, true);

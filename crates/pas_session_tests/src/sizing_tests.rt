@@ -1,7 +1,8 @@
 //! Ends by a room, at a plain region.
 
-use crate::seating::{plain_profile, seated};
+use crate::seating::plain_profile;
 use pas_cache::ThreadCache;
+use pas_plain::beside;
 use pas_profile::*;
 use pas_steps::Desk;
 use pas_trials::borrow_and_end;
@@ -48,7 +49,7 @@ pub fn are_of_three_ends(shown: &[Event]) -> bool {
 
 #[test]
 fn a_block_ends_by_its_own_room_alone(rt: HostRuntime) -> Result<(), Fail> {
-    let (mut desk, _) = seated(rt.alloc(), plain_profile(1), 16)?;
+    let (mut desk, _) = beside(rt.alloc(), plain_profile(1), 16)?;
     let mut utility = Utility::try_new(rt.alloc(), desk.profile(), &[0, 16, 16])?;
     let Some(seat) = utility.cache_seat(1) else {
         return Err(NoMemory.into());

@@ -1,8 +1,9 @@
 //! Two actors that refill one class after each other.
 ghost use Rattle.std.specs.Prelude.{◌<◌, ◌≤◌};
 
-use crate::seating::{plain_profile, seated};
+use crate::seating::plain_profile;
 use pas_bits::Mask4;
+use pas_plain::beside;
 use pas_profile::*;
 use pas_segregated::Slots;
 use pas_trials::{Filled, change, close_both, fill, visit};
@@ -17,7 +18,7 @@ type Refill = Result<Filled, NoRoom>;
 fn two_refills(alloc: Global, class: u8, stops: bool) -> Result<(Refill, Refill, [u64; 2]), Fail>
     requires { class < 16 }
 {
-    let (mut desk, pass) = seated(alloc, plain_profile(1), 2)?;
+    let (mut desk, pass) = beside(alloc, plain_profile(1), 2)?;
     let first = fill(&mut desk, 0, class, stops);
     let (mut desk, pass) = change(desk, pass);
     let second = fill(&mut desk, 0, class, true);
@@ -32,7 +33,7 @@ fn refill_beside(alloc: Global, class: u8, words: u8) -> Result<Refill, Fail>
     requires class { class < 16 }
     requires words { words ≤ 4 }
 {
-    let (mut desk, pass) = seated(alloc, plain_profile(1), 2)?;
+    let (mut desk, pass) = beside(alloc, plain_profile(1), 2)?;
     let directory = Directory {
         heap: 0,
         kind: Kind::Class(class),

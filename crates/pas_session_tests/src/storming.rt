@@ -6,11 +6,11 @@ ghost use Rattle.pas_plain.specs.{Plain.profile_of, Plain.room_of_pass, Plain.ev
 ghost use Rattle.pas_trials.specs.{Filling.Steps, Storms.cache_of};
 ghost use Rattle.pas_session_tests.specs.Seated.{RestsBeside, stormy};
 
-use crate::seating::{seated, stormy_profile};
+use crate::seating::stormy_profile;
 use crate::weaving::{Timed, live_after, weave};
 use arrayvec::ArrayVec;
 use pas_machine::Machine;
-use pas_plain::{PlainDesk, PlainPass, PlainRegion, close};
+use pas_plain::{PlainDesk, PlainPass, PlainRegion, beside, close};
 use pas_profile::{Event, NoMemory, Word};
 use pas_steps::{Desk, State};
 use pas_trials::{Errand, Fault, Guest, Hands, MOST_WATCHED, Moment, Visit, Watched, judge};
@@ -296,7 +296,7 @@ pub fn storm(
 ) -> Result<Found, Fail>
     requires pages { (1 ≤ pages) × (pages ≤ 30) }
 {
-    let (mut desk, foreign) = seated(alloc, stormy_profile(pages), 1000)?;
+    let (mut desk, foreign) = beside(alloc, stormy_profile(pages), 1000)?;
     let mut hands = hands_for(alloc, pages, 1)?;
     let guest = Guest::new(hands_for(alloc, pages, 2)?, visits);
     if !prepare(&mut desk, &foreign, &mut hands, before) {

@@ -1,7 +1,8 @@
 //! Two actors sit at one plain region after each other: the first one leaves a page, and the second one wants it.
 ghost use Rattle.std.specs.Prelude.{◌≤◌};
 
-use crate::seating::{plain_profile, seated};
+use crate::seating::plain_profile;
+use pas_plain::beside;
 use pas_profile::*;
 use pas_trials::{Findings, change, close_both, visit, want};
 use std::alloc::Global;
@@ -18,7 +19,7 @@ pub const DIRECTORY: Directory = Directory {
 fn two_turns(alloc: Global, words: u8, leaves: bool) -> Result<(u64, Findings, [u64; 2]), Fail>
     requires { words ≤ 4 }
 {
-    let (mut desk, pass) = seated(alloc, plain_profile(2), 1)?;
+    let (mut desk, pass) = beside(alloc, plain_profile(2), 1)?;
     let left_in = visit(&mut desk, 1, DIRECTORY, words, leaves);
     let (mut desk, pass) = change(desk, pass);
     let findings = want(&mut desk, 1, DIRECTORY);

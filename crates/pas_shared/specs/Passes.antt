@@ -33,6 +33,12 @@ IsOfTable id f pass = (pass.place.seat.table_id ≡ id) × (pass.profile ≡ f)
 abbrev pub IsPassOf : SharedRegion → SharedPass → Type 0
 IsPassOf region pass = IsOfTable region.table.shared.table_id region.profile pass
 
+-- .. its actor made no step, and its room is for so many events
+pub record IsFreshPass (region : SharedRegion) (events : ℕ) (pass : SharedPass) : Type 0 where
+  pub of_region : IsPassOf region pass
+  pub no_steps : view_of pass ≡ []
+  pub room : (seat_of pass).room ≡ events
+
 -- the pass of this actor, with this room, that made no step
 pub record IsFresh (id : TableId) (f : Profile) (actor : ℕ) (room : EventRoom) (pass : SharedPass) : Type 0 where
   pub of_table : IsOfTable id f pass

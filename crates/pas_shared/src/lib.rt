@@ -18,6 +18,7 @@ pub mod past;
 pub mod past_laws;
 pub mod region;
 pub mod rule;
+pub mod seating;
 
 pub use bench::{Bench, Member};
 pub use bench_desk::{BenchDesk, BenchHome};
@@ -28,3 +29,4 @@ pub use pass::SharedPass;
 pub use past::Past;
 pub use region::{Opening, SharedRegion};
 pub use rule::Picks;
+pub use seating::opened;

@@ -10,6 +10,7 @@ pub mod Apart
 pub mod Calls
 pub mod Events
 pub mod Called
+pub mod Nothing
 pub mod Sets
 pub mod Unknown
 pub mod SpareRoom

@@ -1,7 +1,8 @@
 -- The keeper of a new region may begin.
 use Rattle.std.proofs.Common.{◌≡◌, ℕ, ◌-◌, ◌≤◌, List, [], length, refl, ap, sym, ◌∙◌, subst, arith}
 use Rattle.pas_profile.specs.declared.profile.Profile.{Profile}
-use Rattle.pas_steps.specs.{Clear.HasNothing, Desks.Seat, Desks.Standing, Desks.CanCall, Lists.Whole, Unknown.unknown_pages, Views.View}
+use Rattle.pas_steps.specs.{Desks.Seat, Desks.Standing, Desks.CanCall, Lists.Whole, Unknown.unknown_pages, Views.View}
+use Rattle.pas_steps.proofs.Nothing.{nothing_yet}
 use Rattle.pas_trials.proofs.Going.{few_below}
 use Rattle.pas_report.specs.Rooms.{records_in, room_of, Records}
 use Rattle.pas_report.specs.declared.record.Record.{Record}
@@ -11,11 +12,7 @@ use Rattle.pas_plain.specs.{Plain.events_shown, Plain.room_of_pass, Storms.Storm
 use Rattle.pas_plain.specs.declared.{pass.PlainPass.PlainPass, region.PlainRegion.PlainRegion}
 use Rattle.pas_tests.specs.Kept.{guarded_region, Begins, MayKeep}
 
--- an actor that made no step has nothing
-pub nothing_yet : HasNothing []
-nothing_yet = record { grains = λ g. refl; rights = λ page. refl; clear = record { on = λ page. record { stamped = refl; owes = record { checks = λ word small. refl; hint = refl }; examined = refl } } }
-
--- .. and fits an empty book
+-- an actor that made no step fits an empty book
 fits_empty : (f : Profile) → FitsBook f [] []
 fits_empty f = record { apart = tt; of_region = tt; knows = tt; held = λ g. refl; rights = λ page. refl; clear = nothing_yet.clear }
 

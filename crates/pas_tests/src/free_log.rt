@@ -2,9 +2,10 @@
 ghost use Rattle.std.specs.Prelude.{◌<◌, All};
 ghost use Rattle.pas_free_log.specs.{Conditions.IsEntryOf, Logs.entries_in, Logs.entry_of};
 
-use crate::plain::{PROFILE, seated};
+use crate::plain::PROFILE;
 use arrayvec::ArrayVec;
 use pas_free_log::{FreeLog, flush};
+use pas_plain::alone;
 use pas_profile::{Address, Event, Name, Why};
 use pas_steps::Desk;
 use std::test::Fail;
@@ -59,7 +60,7 @@ fn are_refused(events: &[Event]) -> bool {
 
 #[test]
 fn a_full_log_is_flushed_in_order(rt: HostRuntime) -> Result<(), Fail> {
-    let mut desk = seated(rt.alloc(), 64)?;
+    let mut desk = alone(rt.alloc(), PROFILE, 64)?;
     let mut log = full_log();
     assert!(rt; log.len() == 64);
     flush(&mut desk, &mut log, &mut ArrayVec::new());

@@ -33,22 +33,6 @@ const BLOCK: Block = Block {
     heap: 0,
 };
 
-/// Actor 1, with room for so many events, at a region that nobody used yet.
-pub(crate) fn seated(alloc: Global, events: u32) -> Result<PlainDesk, Fail>
-    ensures fresh { IfOk result (λ desk. DeskStands desk [] []) }
-    ensures profile { IfOk result (λ desk. profile_of (region_of desk) ≡ PROFILE) }
-    ensures room { IfOk result (λ desk. room_of_pass (pass_of desk) ≡ events) }
-{
-    let mut rooms = Vec::new(alloc);
-    rooms.push(EventRoom::try_new(alloc, 0)?)?;
-    rooms.push(EventRoom::try_new(alloc, events)?)?;
-    let (region, mut passes) = PlainRegion::try_new(alloc, PROFILE, rooms)?;
-    let Some(pass) = passes.pop() else {
-        return Err(NoMemory.into());
-    };
-    Ok(region.desk(pass))
-}
-
 /// The life of a block, with the answers of its steps.
 fn live_and_end(desk: &mut PlainDesk) -> [u64; 7]
     requires fresh { DeskStands desk.old [] [] }
@@ -131,7 +115,7 @@ fn is_after_life(state: &State) -> bool
 
 #[test]
 fn a_block_lives_and_ends(rt: HostRuntime) -> Result<(), Fail> {
-    let mut desk = seated(rt.alloc(), 16)?;
+    let mut desk = alone(rt.alloc(), PROFILE, 16)?;
     let answers = live_and_end(&mut desk);
     assert!(rt; has_lived(&desk, answers));
     let state = closed(rt.alloc(), desk)?;
@@ -161,7 +145,7 @@ fn has_stepped(closed: &Closed<PlainDesk>) -> bool {
 
 #[test]
 fn a_closed_desk_steps(rt: HostRuntime) -> Result<(), Fail> {
-    let mut closed = Closed::new(seated(rt.alloc(), 16)?);
+    let mut closed = Closed::new(alone(rt.alloc(), PROFILE, 16)?);
     assert!(rt; epochs(&mut closed) == [0, 0, 0] && has_stepped(&closed));
     let desk = closed.into_inner();
     assert!(rt; desk.count() == 3);

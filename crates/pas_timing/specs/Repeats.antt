@@ -4,7 +4,7 @@ use Rattle.pas_profile.specs.declared.profile.Profile.{Profile}
 use Rattle.pas_steps.specs.{Views.View, Allowed.Allowed, Allowed.IsStepOf, Events.wants}
 use Rattle.pas_steps.specs.declared.step.Step.{Step}
 use Rattle.pas_shared.specs.declared.region.SharedRegion.{SharedRegion}
-use Rattle.pas_trials.specs.Races.{IsFreshPass}
+use Rattle.pas_shared.specs.Passes.{IsFreshPass}
 use Rattle.pas_timing.specs.declared.steps.sharing.Worker.{Worker}
 
 -- the step is of the region, makes no event, and any view allows it

@@ -1,6 +1,6 @@
 -- A hint and a tick, and what may come after them.
 use Rattle.std.proofs.Common.{[], ◌∷◌, List, refl, ℕ}
-use Rattle.pas_scavenger.proofs.Trying.{nothing_still}
+use Rattle.pas_steps.proofs.Nothing.{nothing_still}
 use Rattle.pas_steps.specs.{Calls.Calls, Clear.HasNothing, Kinds.Hinting, Kinds.Ticking}
 use Rattle.pas_steps.specs.Desks.{Standing, Makes, CanCall, made}
 use Rattle.pas_steps.specs.declared.step.{Made.Made, Step.TheVariants.Hint, Step.TheVariants.Tick}

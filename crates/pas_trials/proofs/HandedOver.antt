@@ -19,16 +19,16 @@ use Rattle.pas_steps.specs.declared.{state.State.State, step.Made.Made}
 use Rattle.pas_steps.proofs.Parts.{part_of_own, part_of_others}
 use Rattle.pas_core.proofs.MachineRuns.{runs}
 use Rattle.pas_free_log.specs.{Conditions.IsEntryOf, Logs.entry_of}
-use Rattle.pas_free_log.specs.Flushes.{Settled, Flushes, event_for, shown_for}
-use Rattle.pas_free_log.specs.declared.{ending.Outcome.Outcome, ending.Outcome.TheVariants.Ended, ending.Outcome.TheVariants.Refused, log.Entry.Entry}
-use Rattle.pas_free_log.specs.declared.{noting.EndedRun.EndedRun}
+use Rattle.pas_free_log.specs.Flushes.{EndsName, event_for}
+use Rattle.pas_free_log.specs.declared.{ending.Outcome.Outcome, ending.Outcome.TheVariants.Ended, ending.Outcome.TheVariants.Refused}
 use Rattle.pas_cache.specs.{Caches.Cached, Caches.AtRest, Calls.MayAllocate, Calls.Allocates, Serves.IsPreparing, Serves.wanted_for}
 use Rattle.pas_shared.specs.{Ruled.IsEarlier, Passes.view_of, Passes.seat_of, Passes.standing_of, Pasts.told, Pasts.IsPastOf, Pasts.HasOwn, Ledgers.EndsAfter}
 use Rattle.pas_shared.specs.declared.{desk.SharedDesk.SharedDesk, past.Past.Past, pass.SharedPass.SharedPass, region.SharedRegion.SharedRegion}
 use Rattle.pas_shared.proofs.{Pops.first_is, Pops.others_are, Pasts.part_both}
 use Rattle.pas_trials.specs.Handing.{IsFirst, IsOfActor, IsGiftOf, HasFreed, IsHandedOver}
 use Rattle.pas_trials.specs.declared.handing.Gift.{Gift}
-use Rattle.pas_trials.proofs.Firsts.{no_events, nothing}
+use Rattle.pas_steps.proofs.Nothing.{nothing_yet}
+use Rattle.pas_trials.proofs.Firsts.{no_events}
 
 -- ==== What each of the two did.
 
@@ -46,7 +46,7 @@ can_ask desk c none room rest =
       view = view_of desk.pass;
       whole = [];
       stood = refl;
-      met = record { rest = subst (λ (v : View). AtRest f c v) (sym none) (rest f [] nothing); room = (omega (arith, empty, room), inr (omega (arith, empty, room))) };
+      met = record { rest = subst (λ (v : View). AtRest f c v) (sym none) (rest f [] nothing_yet); room = (omega (arith, empty, room), inr (omega (arith, empty, room))) };
     }
 
 some_grains : (classes size align : ℕ) (route : Route) → IsRouteOf classes size align route → 0 < room_by route (max size 1) / 16
@@ -61,7 +61,7 @@ pub gift_of : (region : SharedRegion) (c c' : Cached) (tells : Bool) (d d' : Sha
     → IsGiftOf region pass gift
 gift_of region c c' tells d d' pass gift block none actor profile rest al pass_is of own name =
     let f = (seat_of d.pass).profile in
-    let met = rest f [] nothing in
+    let met = rest f [] nothing_yet in
     let view : view_of pass ≡ al.steps ++ [] = ap view_of pass_is ∙ al.calls.adds.added [] [] none met in
     let who : (seat_of d'.pass).actor ≡ 1 = ap (λ (s : Seat). s.actor) al.calls.adds.seat_is ∙ actor in
     let shown = al.outcome.events 1 [] in
@@ -84,38 +84,21 @@ gift_of region c c' tells d d' pass gift block none actor profile rest al pass_i
     }
 
 -- ---- the one that frees
-abbrev first_or : Entry → List Entry → Entry
-first_or entry [] = entry
-first_or entry (e ∷ es) = e
-
-abbrev others_of : List Entry → List Entry
-others_of [] = []
-others_of (e ∷ es) = es
-
-abbrev IsNone : {A : Type 0} → List A → Type 0
-IsNone [] = Unit {0}
-IsNone (x ∷ xs) = ⊥
-
-one_settled : (settled : List Settled) (entry : Entry) → map (λ (s : Settled). s.entry) settled ≡ entry ∷ [] → (s : Settled) × (settled ≡ s ∷ []) × (s.entry ≡ entry)
-one_settled [] entry e = absurd (subst (λ (es : List Entry). IsNone es) e tt)
-one_settled (s ∷ []) entry e = (s, refl, ap (first_or s.entry) e)
-one_settled (s ∷ t ∷ more) entry e = absurd (subst (λ (es : List Entry). IsNone (others_of es)) (sym e) tt)
-
-pub freed : (region : SharedRegion) (d d' : SharedDesk) (gift : Gift) (pass : SharedPass) (past : Past) (noted noted' : List EndedRun)
-    → view_of d.pass ≡ [] → (seat_of d.pass).actor ≡ 2 → Flushes (entry_of gift.name ∷ []) noted noted' (standing_of d) (standing_of d')
+pub freed : (region : SharedRegion) (d d' : SharedDesk) (gift : Gift) (pass : SharedPass) (past : Past)
+    → view_of d.pass ≡ [] → (seat_of d.pass).actor ≡ 2 → EndsName gift.name (standing_of d) (standing_of d')
     → pass ≡ d'.pass → IsPastOf region past → IsEarlier (told gift.past) (told past) → HasOwn 2 [] (told past)
     → HasFreed region gift pass past
-freed region d d' gift pass past noted noted' none actor fl pass_is of earlier own =
-    let one = one_settled fl.settled (entry_of gift.name) (sym (reverse-reverse (map (λ (s : Settled). s.entry) fl.settled)) ∙ ap reverse fl.entries_are) in
-    let view : view_of pass ≡ fl.steps ++ [] = ap view_of pass_is ∙ fl.calls.adds.added [] [] none nothing.clear in
-    let shown = subst (λ (k : ℕ). events_by k [] fl.steps ≡ map (shown_for k fl.epoch) fl.settled) actor (fl.events []) in
+freed region d d' gift pass past none actor ends pass_is of earlier own =
+    let all = ends.flushes in
+    let view : view_of pass ≡ all.steps ++ [] = ap view_of pass_is ∙ all.calls.adds.added [] [] none nothing_yet.clear in
+    let shown = subst (λ (k : ℕ). events_by k [] all.steps ≡ event_for k all.epoch (entry_of gift.name) ends.outcome ∷ []) actor (ends.event []) in
     record {
       past_of = of;
       earlier = earlier;
       own = own;
-      epoch = fl.epoch;
-      outcome = one.0.outcome;
-      events = ap (events_of 2) view ∙ (events_all 2 fl.steps ∙ (shown ∙ (ap (map (shown_for 2 fl.epoch)) one.1 ∙ ap (λ (e : Entry). event_for 2 fl.epoch e one.0.outcome ∷ []) one.2)));
+      epoch = all.epoch;
+      outcome = ends.outcome;
+      events = ap (events_of 2) view ∙ (events_all 2 all.steps ∙ shown);
     }
 
 -- ==== The one list: all steps of the one, and behind them all of the other.

@@ -1,15 +1,15 @@
 //! What an actor does at one go.
-ghost use Rattle.std.specs.Prelude.{◌≡◌, ◌≤◌, ◌<◌, ◌+◌, ◌*◌, ◌^◌, [], All, length, true};
+ghost use Rattle.std.specs.Prelude.{◌≡◌, ◌≤◌, ◌<◌, ◌+◌, ◌*◌, ◌^◌, [], All, length};
 ghost use Rattle.pas_profile.specs.Profiles.{IsAdmitted};
 ghost use Rattle.pas_steps.specs.Desks.{CanCall};
-ghost use Rattle.pas_free_log.specs.{Conditions.IsNameOf, Conditions.IsEntryOf, Logs.entries_in};
+ghost use Rattle.pas_free_log.specs.{Conditions.IsEntryOf, Logs.entries_in};
 ghost use Rattle.pas_cache.specs.Caches.{cached, AtRest};
 ghost use Rattle.pas_utility.specs.Outcomes.{places_of};
 ghost use Rattle.pas_trials.specs.Borrowing.{Borrows};
 
 use arrayvec::ArrayVec;
 use pas_cache::ThreadCache;
-use pas_free_log::{FreeLog, flush};
+use pas_free_log::{FreeLog, flush, may_end};
 use pas_large::NoIndex;
 use pas_profile::limits::MOST_BITFIT;
 use pas_profile::{Address, Name, Profile};
@@ -44,14 +44,6 @@ pub struct Hands {
     pages: u32,
     ghost log: { (cached cache).log ≡ [] },
     ghost places: { places_of outcomes ≡ pages },
-}
-
-/// Whether the end of the name may be tried in a region of this profile.
-fn may_end(profile: &Profile, name: Name) -> bool
-    ensures { result ≡ true → IsNameOf profile.now name }
-{
-    let page = name.address.0 / 4096;
-    page >= 1 && page <= profile.pages && name.address.0 % 16 == 0 && name.turn < (1 << 40) - 1
 }
 
 /// A log of these names, as far as their ends may be tried.

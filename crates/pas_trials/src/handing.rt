@@ -7,9 +7,8 @@ ghost use Rattle.pas_cache.specs.Caches.{cached, AtRest};
 ghost use Rattle.pas_shared.specs.Passes.{profile_of};
 ghost use Rattle.pas_trials.specs.Handing.{IsFirst, IsOfActor, IsGiftOf, HasFreed, IsHandedOver};
 
-use arrayvec::ArrayVec;
 use pas_cache::ThreadCache;
-use pas_free_log::{FreeLog, flush};
+use pas_free_log::end_one;
 use pas_profile::{Event, Name};
 use pas_shared::{Past, SharedPass, SharedRegion, close_after};
 use std::alloc::{AllocError, Global};
@@ -55,7 +54,7 @@ pub fn borrow(
     }
 }
 
-/// Actor 2 takes the past, and frees the block by a log of its own.
+/// Actor 2 takes the past, and ends the block.
 pub fn free(
     region: &SharedRegion,
     pass: SharedPass,
@@ -71,10 +70,7 @@ pub fn free(
     let Gift { name, past } = gift;
     let mut desk = region.desk(pass);
     let past = desk.after(past);
-    let mut log = FreeLog::new();
-    log.add(name);
-    let mut ended = ArrayVec::new();
-    flush(&mut desk, &mut log, &mut ended);
+    end_one(&mut desk, name);
     (desk.into_pass(), past)
 }
 

@@ -1,52 +1,28 @@
 //! Foreign actors that free or borrow a block between the steps of another one.
-ghost use Rattle.std.specs.Prelude.{◌≡◌, ◌≤◌, ◌+◌, ◌*◌, [], true};
+ghost use Rattle.std.specs.Prelude.{◌≡◌, ◌≤◌, ◌+◌, ◌*◌, []};
 ghost use Rattle.pas_steps.specs.{Clear.HasNothing, Desks.CanCall, Unknown.unknown_pages};
-ghost use Rattle.pas_free_log.specs.Conditions.{IsNameOf};
 ghost use Rattle.pas_cache.specs.Caches.{cached, AtRest};
 ghost use Rattle.pas_trials.specs.Borrowing.{Borrows};
 ghost use Rattle.pas_plain.specs.Storms.{Acts};
 
-use arrayvec::ArrayVec;
 use pas_cache::ThreadCache;
-use pas_free_log::{FreeLog, flush};
+use pas_free_log::{end_one, may_end};
 use pas_plain::Intruder;
-use pas_profile::{Name, Profile};
+use pas_profile::Name;
 use pas_steps::Desk;
 use pas_utility::CacheSeat;
 
-/// Frees the block of this name before the own step of this number, by a log of its own, and does nothing before the others.
+/// Ends the block of this name before the own step of this number, and does nothing before the others.
 #[derive(Clone, Copy, PartialEq, Eq)]
 pub struct Flusher {
     pub at: u64,
     pub name: Name,
 }
 
-/// Whether the end of the name may be tried in a region of this profile.
-fn may_end(profile: &Profile, name: Name) -> bool
-    ensures { result ≡ true → IsNameOf profile.now name }
-{
-    let page = name.address.0 / 4096;
-    page >= 1 && page <= profile.pages && name.address.0 % 16 == 0 && name.turn < (1 << 40) - 1
-}
-
-/// Flushes a log of this one name.
-fn flush_one<D: Desk>(desk: &mut D, name: Name)
-    requires name { IsNameOf (D.standing desk.old).seat.profile name }
-    requires can { CanCall (D.standing desk.old) HasNothing }
-    requires room { 70 ≤ D.spare_of desk.old }
-    ensures acts { Acts (D.standing desk.old) (D.standing desk.new) }
-    ensures home { D.home desk.new ≡ D.home desk.old }
-{
-    let mut log = FreeLog::new();
-    log.add(name);
-    let mut ended = ArrayVec::new();
-    flush(desk, &mut log, &mut ended);
-}
-
 impl Intruder for Flusher {
     fn act<D: Desk>(&mut self, desk: &mut D, number: u64) {
         if number == self.at && may_end(desk.profile(), self.name) {
-            flush_one(desk, self.name);
+            end_one(desk, self.name);
         }
     }
 }

@@ -2,7 +2,8 @@
 ghost use Rattle.std.specs.Prelude.{◌≡◌, ◌≤◌, All, IfOk};
 ghost use Rattle.pas_utility.specs.Pools.{threads_of};
 ghost use Rattle.pas_shared.specs.Passes.{IsPassOf};
-ghost use Rattle.pas_trials.specs.{Races.IsFreshPass, SharedStorms.IsReadyForStorm, SharedStorms.HasPass};
+ghost use Rattle.pas_trials.specs.{SharedStorms.IsReadyForStorm, SharedStorms.HasPass};
+ghost use Rattle.pas_shared.specs.Passes.{IsFreshPass};
 
 use crate::shared_storm::Storm;
 use pas_cache::ThreadCache;

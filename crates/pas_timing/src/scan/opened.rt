@@ -4,8 +4,8 @@ ghost use Rattle.pas_profile.specs.Profiles.{IsDirectoryOf};
 ghost use Rattle.pas_steps.specs.Desks.{AnyView, CanCall};
 ghost use Rattle.pas_plain.specs.Seats.{standing_of};
 
-use pas_plain::{PlainDesk, PlainRegion};
-use pas_profile::{Directory, EventRoom, Kind, NoMemory, Profile};
+use pas_plain::{PlainDesk, alone};
+use pas_profile::{Directory, Kind, NoMemory, Profile};
 use pas_trials::visit;
 use std::alloc::Global;
 
@@ -32,16 +32,7 @@ pub fn last_offered(alloc: Global) -> Result<PlainDesk, NoMemory>
     ensures can { IfOk result (λ desk. CanCall (standing_of desk) AnyView) }
     ensures directory { IfOk result (λ desk. IsDirectoryOf (standing_of desk).seat.profile DIRECTORY) }
 {
-    let Ok(mut rooms) = Vec::with_capacity(alloc, 2) else {
-        return Err(NoMemory);
-    };
-    rooms.push_reserved(EventRoom::try_new(alloc, 1)?);
-    rooms.push_reserved(EventRoom::try_new(alloc, 1)?);
-    let (region, mut passes) = PlainRegion::try_new(alloc, PROFILE, rooms)?;
-    let Some(pass) = passes.pop() else {
-        return Err(NoMemory);
-    };
-    let mut desk = region.desk(pass);
+    let mut desk = alone(alloc, PROFILE, 1)?;
     visit(&mut desk, PAGES, DIRECTORY, 0, true);
     Ok(desk)
 }

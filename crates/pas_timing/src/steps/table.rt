@@ -1,7 +1,7 @@
 //! The table of what was measured: processor time, since the clock on the wall also counts what others do on the machine.
 ghost use Rattle.std.specs.Prelude.{◌≡◌, ◌≤◌, ◌<◌, All, IfOk};
 ghost use Rattle.pas_steps.specs.Desks.{AnyView, CanCall};
-ghost use Rattle.pas_trials.specs.Races.{IsFreshPass};
+ghost use Rattle.pas_shared.specs.Passes.{IsFreshPass};
 ghost use Rattle.pas_timing.specs.Repeats.{IsReady};
 
 use crate::steps::bare;

@@ -1,3 +1,5 @@
+use Rattle.std.proofs.Common.{Ok, Err}
+use Rattle.pas_choice.proofs.Sessions.{can_ask_again, room_left}
 use Rattle.pas_choice.proofs.Allocated.{room_to_search, is_run, run_within, can_give, room_to_give, one_deed, can_leave, allocates, refuses}
 use Rattle.pas_choice.proofs.allocating.alloc.Goals as goal
 
@@ -24,3 +26,17 @@ returns-in-Ok-clause-allocates g c = allocates (g.C.Choosing.choice c.args.pages
 
 pub returns-in-Err-clause-allocates : goal.returns-in-Err-clause-allocates
 returns-in-Err-clause-allocates g c = refuses (g.C.Choosing.choice c.args.pages.now.0) (g.C.ChoosingRun.run c.args.pages.now.0) c.args.directory c.in-Err.room c.in-Err.ensures.searches
+
+pub returns-in-Ok-clause-rests : goal.returns-in-Ok-clause-rests
+returns-in-Ok-clause-rests g c can = can_ask_again c.args.directory (Ok _) (returns-in-Ok-clause-allocates g c) can
+
+pub returns-in-Err-clause-rests : goal.returns-in-Err-clause-rests
+returns-in-Err-clause-rests g c can = can_ask_again c.args.directory (Err _) (returns-in-Err-clause-allocates g c) can
+
+pub returns-in-Ok-clause-room : goal.returns-in-Ok-clause-room
+returns-in-Ok-clause-room g c = room_left c.args.directory (Ok _) _ _ (returns-in-Ok-clause-allocates g c) (may_search c.requires.can)
+    (λ v l s. g.met.D.Desk.spares c.args.desk.now v l s) (λ v l s. g.met.D.Desk.spares c.leave.new.desk v l s)
+
+pub returns-in-Err-clause-room : goal.returns-in-Err-clause-room
+returns-in-Err-clause-room g c = room_left c.args.directory (Err _) _ _ (returns-in-Err-clause-allocates g c) (may_search c.requires.can)
+    (λ v l s. g.met.D.Desk.spares c.args.desk.now v l s) (λ v l s. g.met.D.Desk.spares c.find_page.new.desk v l s)

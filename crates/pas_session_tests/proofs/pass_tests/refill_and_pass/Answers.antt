@@ -1,6 +1,6 @@
 use Rattle.std.proofs.Common.{[], refl}
 use Rattle.pas_segregated.specs.Stops.{class_directory}
-use Rattle.pas_session_tests.proofs.Stormed.{nothing_yet}
+use Rattle.pas_steps.proofs.Nothing.{nothing_yet}
 use Rattle.pas_session_tests.proofs.Besides.{may_search, beside_then, waits_then, seated_then, rests_beside, others_then}
 use Rattle.pas_session_tests.proofs.pass_tests.refill_and_pass.Goals as goal
 

@@ -3,7 +3,7 @@ use Rattle.pas_profile.specs.Rooms.{shown, EventRoom}
 use Rattle.pas_profile.specs.declared.profile.Profile.{Profile}
 use Rattle.pas_plain.specs.Plain.{profile_of, actor_of, room_of_pass, PassStands, pass_for, passes_from}
 use Rattle.pas_plain.specs.declared.pass.PlainPass.{PlainPass}
-use Rattle.pas_tests.proofs.Beginning.{nothing_yet}
+use Rattle.pas_steps.proofs.Nothing.{nothing_yet}
 use Rattle.pas_tests.proofs.storming.opened.Goals as goal
 
 -- the last two of three

@@ -1,6 +1,6 @@
 use Rattle.std.proofs.Common.{◌≡◌, ◌≢◌, zero, suc, All, List, [], ◌∷◌, ◌++◌, refl, sym, ◌∙◌, subst, arith}
 use Rattle.pas_profile.specs.declared.profile.Profile.{Profile}
-use Rattle.pas_steps.specs.Clear.{HasNothing}
+use Rattle.pas_steps.proofs.Nothing.{nothing_yet}
 use Rattle.pas_plain.specs.Plain.{profile_of, RegionStands, actor_of, PassStands}
 use Rattle.pas_plain.specs.Storms.{StormStands}
 use Rattle.pas_plain.specs.declared.{pass.PlainPass.PlainPass, region.PlainRegion.PlainRegion}
@@ -15,9 +15,6 @@ front_of : {A : Type 0} (P : A → Type 0) (xs : List A) (y : A) → All P (xs +
 front_of P [] y all k d h = absurd (omega (arith, h))
 front_of P (x ∷ xs) y all zero d h = all zero d (omega arith)
 front_of P (x ∷ xs) y all (suc k) d h = front_of P xs y (λ j e g. all (suc j) e (omega (arith, g))) k d (omega (arith, h))
-
-nothing_yet : HasNothing []
-nothing_yet = record { grains = λ g. refl; rights = λ page. refl; clear = record { on = λ page. record { stamped = refl; owes = record { checks = λ word small. refl; hint = refl }; examined = refl } } }
 
 -- region and passes of which nobody made a step
 fresh : (f : Profile) (region : PlainRegion) (passes rest first : List PlainPass) (own foreign : PlainPass) → profile_of region ≡ f → RegionStands region [] → All (λ pass. PassStands f pass []) passes → passes ≡ rest ++ foreign ∷ [] → rest ≡ first ++ own ∷ []

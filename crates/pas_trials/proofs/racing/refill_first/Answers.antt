@@ -1,7 +1,7 @@
 use Rattle.std.proofs.Common.{◌≡◌, Option, Some, sym, subst, ◌∙◌, IfSome}
 use Rattle.pas_segregated.specs.Stops.{class_directory}
 use Rattle.pas_shared.specs.declared.pass.SharedPass.{SharedPass}
-use Rattle.pas_trials.specs.Races.{IsFreshPass}
+use Rattle.pas_shared.specs.Passes.{IsFreshPass}
 use Rattle.pas_trials.proofs.Firsts.{can_search}
 use Rattle.pas_trials.proofs.racing.refill_first.Goals as goal
 

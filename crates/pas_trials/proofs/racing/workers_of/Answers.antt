@@ -1,5 +1,6 @@
 use Rattle.std.proofs.Common.{refl}
-use Rattle.pas_trials.specs.Races.{IsReady, IsFreshPass}
+use Rattle.pas_trials.specs.Races.{IsReady}
+use Rattle.pas_shared.specs.Passes.{IsFreshPass}
 use Rattle.pas_shared.proofs.Pops.{all_more, first_is, others_are}
 use Rattle.pas_trials.proofs.racing.workers_of.Goals as goal
 

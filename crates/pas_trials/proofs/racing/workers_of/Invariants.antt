@@ -1,5 +1,6 @@
 use Rattle.std.specs.List.{All}
-use Rattle.pas_trials.specs.Races.{IsReady, IsFreshPass}
+use Rattle.pas_trials.specs.Races.{IsReady}
+use Rattle.pas_shared.specs.Passes.{IsFreshPass}
 use Rattle.pas_trials.proofs.racing.workers_of.Given as goal
 
 abbrev pub invariant-loop-pass : goal.invariant-loop-pass

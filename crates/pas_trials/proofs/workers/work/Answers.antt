@@ -3,8 +3,8 @@ use Rattle.pas_steps.specs.Views.{View}
 use Rattle.pas_cache.specs.Caches.{cached, AtRest}
 use Rattle.pas_shared.specs.Passes.{view_of, seat_of}
 use Rattle.pas_shared.specs.declared.pass.SharedPass.{SharedPass}
-use Rattle.pas_trials.specs.Races.{IsFreshPass}
-use Rattle.pas_trials.proofs.Firsts.{nothing}
+use Rattle.pas_shared.specs.Passes.{IsFreshPass}
+use Rattle.pas_steps.proofs.Nothing.{nothing_yet}
 use Rattle.pas_trials.proofs.workers.work.Goals as goal
 
 pub run-worker-requires : goal.run-worker-requires
@@ -14,5 +14,5 @@ run-worker-requires c =
     let fresh : IsFreshPass region c.args.events c.in-Some.pass = subst (λ (o : Option SharedPass). IfSome o (IsFreshPass region c.args.events)) is c.requires.pass in
     let here : IsFreshPass region c.args.events c.desk-desk.result.pass = subst (IsFreshPass region c.args.events) (sym c.desk-desk.ensures.pass) fresh in
     let f = (seat_of c.desk-desk.result.pass).profile in
-    let rest = subst (λ (v : View). AtRest f (cached c.args.worker.now.cache) v) (sym here.no_steps) (c.requires.rest f [] nothing) in
+    let rest = subst (λ (v : View). AtRest f (cached c.args.worker.now.cache) v) (sym here.no_steps) (c.requires.rest f [] nothing_yet) in
     record { working = record { room_is = here.room; rest = record { view = view_of c.desk-desk.result.pass; whole = []; stood = refl; met = rest } } }

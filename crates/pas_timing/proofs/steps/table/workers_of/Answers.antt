@@ -1,4 +1,4 @@
-use Rattle.pas_trials.specs.Races.{IsFreshPass}
+use Rattle.pas_shared.specs.Passes.{IsFreshPass}
 use Rattle.pas_shared.proofs.Pops.{all_more, first_is, others_are}
 use Rattle.pas_timing.specs.Repeats.{IsReady}
 use Rattle.pas_timing.proofs.steps.table.workers_of.Goals as goal

@@ -1,5 +1,5 @@
 use Rattle.std.specs.List.{All}
-use Rattle.pas_trials.specs.Races.{IsFreshPass}
+use Rattle.pas_shared.specs.Passes.{IsFreshPass}
 use Rattle.pas_timing.specs.Repeats.{IsReady}
 use Rattle.pas_timing.proofs.steps.table.workers_of.Given as goal
 
