@@ -24,7 +24,7 @@ use Rattle.pas_search.specs.Ranks.{Measure, RankRoom, TriesBest, IsBestOffered}
 use Rattle.pas_search.proofs.{TheBestPage.falls_back, TheBestPage.adds_then, TheBestPage.stood_then, Found.KeepsNew, Found.finds_call, Found.left_after}
 use Rattle.pas_search.specs.declared.serving.Served.{Served}
 use Rattle.pas_choice.specs.Allocates.{IsRunOf, GaveBlock, IsGiven, AllocatesRun}
-use Rattle.pas_choice.specs.{Bests.GivesRunOf, Bests.AllocatesBest, Choices.Choice, Choices.choosing}
+use Rattle.pas_choice.specs.{ByRank.GivesRunOf, ByRank.AllocatesByRank, Choices.Choice, Choices.choosing}
 use Rattle.pas_choice.specs.declared.choosing.Run.{Run}
 
 room_for_one : (f : Profile) (spare : ℕ) (v : View) → HasRoom f 2 spare v → HasRoom f 1 spare v
@@ -218,7 +218,7 @@ no_deed choice d served tries = let none = tries.outcome.choice.no_deed in omega
 
 pub allocates_best : {Found : Type 0} (choice : Choice Found) (run : Found → Run) (law : IsLaw choice run) (asked : choice.asked) (d : Directory) {ranks : Measure} {tells : Bool} {σ σ1 σ2 σ3 : Standing} (of_profile : IsDirectoryOf σ.seat.profile d)
     (served : Served Found) (tries : TriesBest (choosing choice) ranks tells d σ σ1 (Some served)) (r : Run) (r_is : r ≡ run served.found) (block : Block) → GivesRun d.heap served.page r.first r.grains block σ1 σ2 → Leaves served.page d σ2 σ3
-    → AllocatesBest choice run ranks d tells σ σ3 (Ok block)
+    → AllocatesByRank choice run ranks d tells σ σ3 (Ok block)
 allocates_best choice run law asked d {ranks} {σ = σ} of_profile served tries r r_is block gives left = inl (
   block,
   refl,
@@ -239,7 +239,7 @@ allocates_best choice run law asked d {ranks} {σ = σ} of_profile served tries 
 
 -- where the try came to nothing
 pub allocates_then : {Found : Type 0} (choice : Choice Found) (run : Found → Run) (d : Directory) {ranks : Measure} {tells : Bool} {σ σ1 σ2 : Standing} {answer : Result Block NoRoom}
-    → TriesBest (choosing choice) ranks tells d σ σ1 None → AllocatesRun choice run d tells σ1 σ2 answer → AllocatesBest choice run ranks d tells σ σ2 answer
+    → TriesBest (choosing choice) ranks tells d σ σ1 None → AllocatesRun choice run d tells σ1 σ2 answer → AllocatesByRank choice run ranks d tells σ σ2 answer
 allocates_then choice run d {answer = answer} tries a = let seat_is = tries.adds.seat_is in inr (falls_back tries (record {
   searched = a.searched;
   searches = a.searches;

@@ -1,3 +1,3 @@
 pub mod Choices
 pub mod Allocates
-pub mod Bests
+pub mod ByRank

@@ -37,7 +37,7 @@ pub record GivesBest {Found : Type 0} (choice : Choice Found) (run : Found → R
       → IsBestOffered choice.no_fit desk.seat.profile ranks d l (address_of block.name / 4096)
 
 -- So it was, or the try of the best page came to nothing and the directory was searched.
-abbrev pub AllocatesBest : {Found : Type 0} → Choice Found → (Found → Run) → Measure → Directory → Bool → Standing → Standing → Result Block NoRoom → Type 0
-AllocatesBest choice run ranks d tells desk desk' answer =
+abbrev pub AllocatesByRank : {Found : Type 0} → Choice Found → (Found → Run) → Measure → Directory → Bool → Standing → Standing → Result Block NoRoom → Type 0
+AllocatesByRank choice run ranks d tells desk desk' answer =
     ((block : Block) × (answer ≡ Ok block) × GivesBest choice run ranks d tells desk desk' block)
     ⊎ FallsBack choice.no_fit 15 ranks d desk (λ tried. AllocatesRun choice run d tells tried desk' answer)
