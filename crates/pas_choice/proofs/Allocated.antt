@@ -151,6 +151,9 @@ module _ {Found : Type 0} (choice : Choice Found) (run : Found → Run) (law : (
       pub page_is : address_of block.name / 4096 ≡ served.page
       page_is = ap (λ (b : Block). address_of b.name / 4096) gives.block_is ∙ omega (arith, is_run.within, is_run.some)
 
+      block_as : block ≡ block_of d.heap page (run served.found).first (run served.found).grains gives.word
+      block_as = gives.block_is ∙ ap (λ (x : Run). block_of d.heap page x.first x.grains gives.word) r_is
+
       pub given_adds : Adds σ σ3 (MaySearch d) ((left.steps ++ give_steps served.page r.first block gives.word gives.answer) ++ xs)
       given_adds = whole_call.adds
 
@@ -162,7 +165,9 @@ module _ {Found : Type 0} (choice : Choice Found) (run : Found → Run) (law : (
         after_is = ap (λ (x : Run). left.steps ++ give_steps page x.first block gives.word gives.answer) r_is;
         leaves = left.order;
         few = let sum = length-append left.steps given in omega (arith, sum, left.few);
-        block_is = gives.block_is ∙ ap (λ (x : Run). block_of d.heap page x.first x.grains gives.word) r_is;
+        block_is = block_as;
+        address_is = ap (λ (b : Block). address_of b.name) block_as;
+        room_is = ap (λ (b : Block). b.room) block_as;
         gave = whole_call.leads;
         events = λ k v. ap (events_by k v) (append_assoc left.steps given xs) ∙ events_same returning refl k v left.steps (given ++ xs) (returns_are page left.steps left.returns);
       }
@@ -196,6 +201,8 @@ allocates choice run law asked d {σ = σ} of_profile served searches r r_is blo
         leaves = given.leaves;
         few = given.few;
         block_is = given.block_is;
+        address_is = given.address_is;
+        room_is = given.room_is;
         gave = given.gave;
         events = given.events;
       };
