@@ -24,7 +24,7 @@ use Rattle.pas_search.specs.Ranks.{Measure, RankRoom, TriesBest, IsBestOffered}
 use Rattle.pas_search.proofs.{TheBestPage.falls_back, TheBestPage.adds_then, TheBestPage.stood_then, Found.KeepsNew, Found.finds_call, Found.left_after}
 use Rattle.pas_search.specs.declared.serving.Served.{Served}
 use Rattle.pas_choice.specs.Allocates.{IsRunOf, GaveBlock, IsGiven, AllocatesRun}
-use Rattle.pas_choice.specs.{Bests.GivesRunOf, Bests.AllocatesBest, Choices.Choice, Choices.choosing}
+use Rattle.pas_choice.specs.{ByRank.GivesRunOf, ByRank.AllocatesByRank, Choices.Choice, Choices.choosing}
 use Rattle.pas_choice.specs.declared.choosing.Run.{Run}
 
 room_for_one : (f : Profile) (spare : ℕ) (v : View) → HasRoom f 2 spare v → HasRoom f 1 spare v
@@ -44,7 +44,7 @@ taken_given true false held e none = absurd (true≢false e)
 taken_given false true held e none = absurd (true≢false (sym e))
 taken_given false false held e none = inl refl
 
-abbrev pub may_search : {σ : Standing} {d : Directory} {n spare : ℕ} → CanCall σ (SearchRoom σ.seat.profile d n spare) → CanCall σ (MaySearch d)
+abbrev may_search : {σ : Standing} {d : Directory} {n spare : ℕ} → CanCall σ (SearchRoom σ.seat.profile d n spare) → CanCall σ (MaySearch d)
 may_search can = record { view = can.view; whole = can.whole; stood = can.stood; met = can.met.may }
 
 module _ {Found : Type 0} (choice : Choice Found) (run : Found → Run) (law : (readings : Readings) (found : Found) → choice.asked → choice.chosen readings found → IsRunOf (choice.kept found) (run found)) (asked : choice.asked)
@@ -151,7 +151,9 @@ module _ {Found : Type 0} (choice : Choice Found) (run : Found → Run) (law : (
       pub page_is : address_of block.name / 4096 ≡ served.page
       page_is = ap (λ (b : Block). address_of b.name / 4096) gives.block_is ∙ omega (arith, is_run.within, is_run.some)
 
-<<<<<<< HEAD
+      block_as : block ≡ block_of d.heap page (run served.found).first (run served.found).grains gives.word
+      block_as = gives.block_is ∙ ap (λ (x : Run). block_of d.heap page x.first x.grains gives.word) r_is
+
       pub given_adds : Adds σ σ3 (MaySearch d) ((left.steps ++ give_steps served.page r.first block gives.word gives.answer) ++ xs)
       given_adds = whole_call.adds
 
@@ -163,38 +165,11 @@ module _ {Found : Type 0} (choice : Choice Found) (run : Found → Run) (law : (
         after_is = ap (λ (x : Run). left.steps ++ give_steps page x.first block gives.word gives.answer) r_is;
         leaves = left.order;
         few = let sum = length-append left.steps given in omega (arith, sum, left.few);
-        block_is = gives.block_is ∙ ap (λ (x : Run). block_of d.heap page x.first x.grains gives.word) r_is;
+        block_is = block_as;
+        address_is = ap (λ (b : Block). address_of b.name) block_as;
+        room_is = ap (λ (b : Block). b.room) block_as;
         gave = whole_call.leads;
         events = λ k v. ap (events_by k v) (append_assoc left.steps given xs) ∙ events_same returning refl k v left.steps (given ++ xs) (returns_are page left.steps left.returns);
-=======
-      block_as : block ≡ block_of d.heap page (run served.found).first (run served.found).grains gives.word
-      block_as = gives.block_is ∙ ap (λ (x : Run). block_of d.heap page x.first x.grains gives.word) r_is
-
-      pub allocates : AllocatesRun choice run d tells σ σ3 (Ok block)
-      allocates = record {
-        searched = xs;
-        searches = searches.searches;
-        few = searches.few;
-        after = after;
-        adds = whole_call.adds;
-        outcome = record {
-          page = page;
-          found = served.found;
-          served = searches.outcome;
-          word = gives.word;
-          answer = gives.answer;
-          left = left.steps;
-          after_is = ap (λ (x : Run). left.steps ++ give_steps page x.first block gives.word gives.answer) r_is;
-          leaves = left.order;
-          few = let sum = length-append left.steps given in omega (arith, sum, left.few);
-          block_is = block_as;
-          address_is = ap (λ (b : Block). address_of b.name) block_as;
-          room_is = ap (λ (b : Block). b.room) block_as;
-          gave = whole_call.leads;
-          events = λ k v. ap (events_by k v) (append_assoc left.steps given xs) ∙ events_same returning refl k v left.steps (given ++ xs) (returns_are page left.steps left.returns);
-        };
-        told = λ t v l stood met. subst (λ q. IsLowestOffered choice.no_fit f d l q ⊎ IsLowestBare choice.no_fit f d l q) (sym page_is) (searches.told t v l stood met);
->>>>>>> 5ead1ad48aa623f839cbc8dc5c0818b45db6a421
       }
 
 -- ---- by a search
@@ -226,6 +201,8 @@ allocates choice run law asked d {σ = σ} of_profile served searches r r_is blo
         leaves = given.leaves;
         few = given.few;
         block_is = given.block_is;
+        address_is = given.address_is;
+        room_is = given.room_is;
         gave = given.gave;
         events = given.events;
       };
@@ -248,7 +225,7 @@ no_deed choice d served tries = let none = tries.outcome.choice.no_deed in omega
 
 pub allocates_best : {Found : Type 0} (choice : Choice Found) (run : Found → Run) (law : IsLaw choice run) (asked : choice.asked) (d : Directory) {ranks : Measure} {tells : Bool} {σ σ1 σ2 σ3 : Standing} (of_profile : IsDirectoryOf σ.seat.profile d)
     (served : Served Found) (tries : TriesBest (choosing choice) ranks tells d σ σ1 (Some served)) (r : Run) (r_is : r ≡ run served.found) (block : Block) → GivesRun d.heap served.page r.first r.grains block σ1 σ2 → Leaves served.page d σ2 σ3
-    → AllocatesBest choice run ranks d tells σ σ3 (Ok block)
+    → AllocatesByRank choice run ranks d tells σ σ3 (Ok block)
 allocates_best choice run law asked d {ranks} {σ = σ} of_profile served tries r r_is block gives left = inl (
   block,
   refl,
@@ -269,7 +246,7 @@ allocates_best choice run law asked d {ranks} {σ = σ} of_profile served tries 
 
 -- where the try came to nothing
 pub allocates_then : {Found : Type 0} (choice : Choice Found) (run : Found → Run) (d : Directory) {ranks : Measure} {tells : Bool} {σ σ1 σ2 : Standing} {answer : Result Block NoRoom}
-    → TriesBest (choosing choice) ranks tells d σ σ1 None → AllocatesRun choice run d tells σ1 σ2 answer → AllocatesBest choice run ranks d tells σ σ2 answer
+    → TriesBest (choosing choice) ranks tells d σ σ1 None → AllocatesRun choice run d tells σ1 σ2 answer → AllocatesByRank choice run ranks d tells σ σ2 answer
 allocates_then choice run d {answer = answer} tries a = let seat_is = tries.adds.seat_is in inr (falls_back tries (record {
   searched = a.searched;
   searches = a.searches;

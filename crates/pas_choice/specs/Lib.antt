@@ -1,4 +1,4 @@
 pub mod Choices
 pub mod Allocates
-pub mod Bests
+pub mod ByRank
 pub mod Placements

@@ -3,7 +3,7 @@ ghost use Rattle.std.specs.Prelude.{◌≡◌};
 ghost use Rattle.pas_profile.specs.Profiles.{IsDirectoryOf};
 ghost use Rattle.pas_steps.specs.Desks.{CanCall};
 ghost use Rattle.pas_search.specs.Ranks.{RankRoom};
-ghost use Rattle.pas_choice.specs.{Bests.AllocatesBest, Choices.choosing};
+ghost use Rattle.pas_choice.specs.{ByRank.AllocatesByRank, Choices.choosing};
 
 use crate::allocating::alloc;
 use crate::choosing::ChoosingRun;
@@ -30,7 +30,7 @@ pub fn alloc_best<C: ChoosingRun, R: Ranking, D: Desk>(
     requires suits { (choosing (C.choice pages.now.0)).suits directory }
     requires asked { R.asked ranking.now }
     requires can { CanCall (D.standing desk.old) (RankRoom (D.standing desk.old).seat.profile directory 2 (D.spare_of desk.old)) }
-    ensures allocates { AllocatesBest (C.choice pages.now.0) (C.run pages.now.0) (R.ranks ranking.now) directory D.tells (D.standing desk.old) (D.standing desk.new) result }
+    ensures allocates { AllocatesByRank (C.choice pages.now.0) (C.run pages.now.0) (R.ranks ranking.now) directory D.tells (D.standing desk.old) (D.standing desk.new) result }
     ensures home { D.home desk.new ≡ D.home desk.old }
 {
     let Some(served) = take_best_page(pages, ranking, desk, directory) else {

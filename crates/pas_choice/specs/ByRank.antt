@@ -1,5 +1,5 @@
 -- A run of grains on the page that a rule ranks best is given as a block.
-use Rattle.std.specs.Prelude.{ℕ, ◌/◌, ◌≤◌, ◌≡◌, ◌⊎◌, Bool, true, List, ◌∷◌, ◌++◌, length, Result, Ok}
+use Rattle.std.specs.Prelude.{ℕ, ◌+◌, ◌*◌, ◌/◌, ◌≤◌, ◌≡◌, ◌⊎◌, Bool, true, List, ◌∷◌, ◌++◌, length, Result, Ok}
 use Rattle.pas_profile.specs.Blocks.{address_of}
 use Rattle.pas_profile.specs.declared.{directory.Directory.Directory, event.Event.Event, event.NoRoom.NoRoom, name.Block.Block, profile.Profile.Profile}
 use Rattle.pas_rights.specs.{Gives.block_of, Gives.give_steps, Leaves.LeaveSteps}
@@ -10,7 +10,7 @@ use Rattle.pas_search.specs.Ranks.{Measure, FindsBest, IsBestOffered, FallsBack,
 use Rattle.pas_choice.specs.{Allocates.AllocatesRun, Allocates.GaveBlock, Allocates.served_by, Choices.Choice, Choices.choosing}
 use Rattle.pas_choice.specs.declared.choosing.Run.{Run}
 
--- After the search the block of this run of the page was given, and then the page was left: at most 13 steps, and no event but the give.
+-- After the search the block of this run of the page was given, so many bytes at the run's address, and then the page was left: at most 13 steps, and no event but the give.
 pub record GivesRunOf (f : Profile) (d : Directory) (page : ℕ) (run : Run) (searched after : List Made) (block : Block) : Type 0 where
   pub word : ℕ
   pub answer : ℕ
@@ -19,6 +19,8 @@ pub record GivesRunOf (f : Profile) (d : Directory) (page : ℕ) (run : Run) (se
   pub leaves : LeaveSteps page d left
   pub few : length after ≤ 13
   pub block_is : block ≡ block_of d.heap page run.first run.grains word
+  pub address_is : address_of block.name ≡ page * 4096 + run.first * 16
+  pub room_is : block.room ≡ run.grains * 16
   pub gave : Leads f (MaySearch d) (GaveBlock page d block) (after ++ searched)
   pub events : (k : ℕ) (v : View) → events_by k v (after ++ searched) ≡ Event.Give k block ∷ events_by k v searched
 
@@ -37,7 +39,7 @@ pub record GivesBest {Found : Type 0} (choice : Choice Found) (run : Found → R
       → IsBestOffered choice.no_fit desk.seat.profile ranks d l (address_of block.name / 4096)
 
 -- So it was, or the try of the best page came to nothing and the directory was searched.
-abbrev pub AllocatesBest : {Found : Type 0} → Choice Found → (Found → Run) → Measure → Directory → Bool → Standing → Standing → Result Block NoRoom → Type 0
-AllocatesBest choice run ranks d tells desk desk' answer =
+abbrev pub AllocatesByRank : {Found : Type 0} → Choice Found → (Found → Run) → Measure → Directory → Bool → Standing → Standing → Result Block NoRoom → Type 0
+AllocatesByRank choice run ranks d tells desk desk' answer =
     ((block : Block) × (answer ≡ Ok block) × GivesBest choice run ranks d tells desk desk' block)
     ⊎ FallsBack choice.no_fit 15 ranks d desk (λ tried. AllocatesRun choice run d tells tried desk' answer)
