@@ -103,7 +103,8 @@ lost_none true kept none = sym (none refl)
 lost_none false kept none = refl
 
 -- ---- a request
-module _ (f : Profile) (k : ℕ) (r : Request) (p : Progress) (a : Answer) (w : World) (block : Block) (valid : IsValid f) (thread : IsThread f k) (listed : k ≤ length w.caches) (admitted : IsAdmitted f r.size r.align r.heap) (before : IsBetween f p) (same : IsSame f p w)
+module _ (f : Profile) (k : ℕ) (r : Request) (p : Progress) (a : Answer) (w : World) (block : Block) (valid : IsValid f) (thread : IsThread f k)
+    (listed : k ≤ length w.caches) (admitted : IsAdmitted f r.size r.align r.heap) (before : IsBetween f p) (same : IsSame f p w)
     (rest : AtRest f (p.caches k) (part k p.list)) (legal : Legal f (triples k a.steps ++ p.list)) where
   abbrev c : Cached
   c = p.caches k

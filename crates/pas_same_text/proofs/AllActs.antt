@@ -7,7 +7,7 @@ use Rattle.pas_core.proofs.OneActor.{legal_before}
 use Rattle.pas_large.specs.Doors.{Indexes, no_ranges}
 use Rattle.pas_report.specs.declared.record.Record.{Record}
 use Rattle.pas_report.specs.{Lines.lines_of, Marks.marks_after, Reports.report_text, Rests.AreTrueMarks}
-use Rattle.pas_trace.specs.{Acts.Act, Acts.acts_of, Plans.IsPlanOf}
+use Rattle.pas_trace.specs.{Acts.Act, Plans.IsPlanOf}
 use Rattle.pas_trace.specs.declared.plan.Plan.{Plan}
 use Rattle.pas_trace.proofs.Keepers.{plan_actors}
 use Rattle.pas_answers.specs.{Answers.Progress, Indexes.indexes_after, Indexes.indexes_after_all, Reaching.Reaches, Rests.AreAtRest, Rests.AllAtRest}
@@ -20,6 +20,7 @@ use Rattle.pas_same_text.specs.{Same.IsSame, Acts.IsBetween, Acts.IsListed, Seat
 use Rattle.pas_same_text.specs.Known.{ArePlanned, IsCarried, IsKnown, IsKept, AreKnown}
 use Rattle.pas_same_text.proofs.{ActsOfPlans.plan_acts, ActsOfPlans.plan_region, ManyCaches.act_many, OneAct.act_same, SeatedActs.seated_next}
 use Rattle.pas_same_text.proofs.{Seats.between_from, SameIndexes.start_indexes, Stamped.stamped_kept, UsableBlocks.act_usable, TextOfBytes.bytes_told}
+use Rattle.pas_same_text.proofs.{TextOfBytes.region_same}
 use Rattle.pas_same_text.proofs.WholeText.{many_numbers, start_same, start_usable, text_told}
 
 -- ---- one act
@@ -133,11 +134,9 @@ own_told text plan whole records read is =
 pub order_told : (bytes : List ℕ) (plan : Plan) (whole : Whole) (records : List Record) → IsPlanOf bytes plan → IsReplay InOrder plan whole records → order_text bytes ≡ Some (lines_of records ++ report_text (region_of plan) (visible whole) (marks_after whole))
 order_told bytes plan whole records read is = bytes_told bytes plan read ∙ ap (λ (text : List ℕ). Some text) (own_told bytes plan whole records read is).text
 
--- .. and of a plan without keepers, by the number of its threads alone
+-- .. and of a plan without keepers, in the region of its replays, where its threads alone are actors
 pub replay_told : (text : List ℕ) (plan : Plan) (whole : Whole) (records : List Record) → IsPlanOf text plan → (is : IsReplay InOrder plan whole records) → keepers_of plan ≡ 0
     → IsTold plan whole records (replayed (region_of plan) (keepers_of plan) (phases_of plan))
 replay_told text plan whole records read is none =
-    let f : Profile = region_of plan in
-    let all : threads_of plan ≡ f.threads = omega (arith, plan_actors plan, none) in
-    subst (λ (n : ℕ). IsTold plan whole records (each (acts_on f) (acts_of n (keepers_of plan) (phases_of plan)) (opened f))) all
-    (plan_told text plan whole records read is)
+    subst (λ (f : Profile). IsTold plan whole records (replayed f (keepers_of plan) (phases_of plan))) (region_same plan none)
+    (own_told text plan whole records read is)

@@ -105,7 +105,8 @@ idle_act f k n is p p' w usable taken = elim taken.advances [
 rest_emptied : (f : Profile) (c c' : Cached) (noted : List EndedRun) (guards : List Guard) (v : View) → c'.locals ≡ c.locals → IsResting f c' guards v → IsResting f (record c { log = []; noted = noted }) guards v
 rest_emptied f c c' noted guards v is rest = search (arith, rest.locals, rest.few)
 
-module _ (f : Profile) (k : ℕ) (entry : Entry) (p : Progress) (w : World) (c' : Cached) (steps : List Made) (thread : IsThread f k) (listed : k ≤ length w.caches) (valid : IsValid f) (before : IsBetween f p) (same : IsSame f p w) (usable : AreBlocksUsable (visible p.list))
+module _ (f : Profile) (k : ℕ) (entry : Entry) (p : Progress) (w : World) (c' : Cached) (steps : List Made) (thread : IsThread f k)
+    (listed : k ≤ length w.caches) (valid : IsValid f) (before : IsBetween f p) (same : IsSame f p w) (usable : AreBlocksUsable (visible p.list))
     (after : IsBetween f (with_steps p k steps c')) (full : nat_le 64 (length (p.caches k).log) ≡ true) (takes : TakesEntry f k (p.caches k) c' entry steps) where
   abbrev c : Cached
   c = p.caches k
@@ -169,7 +170,8 @@ module _ (f : Profile) (k : ℕ) (entry : Entry) (p : Progress) (w : World) (c' 
   full_same : IsSame f (after_with p k steps None p.names c') (frees f k entry w)
   full_same = subst (λ (x : World). IsSame f (after_with p k steps None p.names c') x) (sym text) added
 
-module _ (f : Profile) (k : ℕ) (entry : Entry) (p : Progress) (w : World) (c' : Cached) (steps : List Made) (thread : IsThread f k) (listed : k ≤ length w.caches) (valid : IsValid f) (before : IsBetween f p) (same : IsSame f p w) (usable : AreBlocksUsable (visible p.list))
+module _ (f : Profile) (k : ℕ) (entry : Entry) (p : Progress) (w : World) (c' : Cached) (steps : List Made) (thread : IsThread f k)
+    (listed : k ≤ length w.caches) (valid : IsValid f) (before : IsBetween f p) (same : IsSame f p w) (usable : AreBlocksUsable (visible p.list))
     (after : IsBetween f (with_steps p k steps c')) where
   by_room : (t : Bool) → nat_le 64 (length (p.caches k).log) ≡ t → TakesEntry f k (p.caches k) c' entry steps → IsSame f (after_with p k steps None p.names c') (frees f k entry w)
   by_room true e takes = full_same f k entry p w c' steps thread listed valid before same usable after e takes
@@ -180,7 +182,9 @@ module _ (f : Profile) (k : ℕ) (entry : Entry) (p : Progress) (w : World) (c' 
   freed_any said (inr t) = subst (λ (s : Option TheSaid). IsSame f (after_with p k steps s p.names c') (frees f k entry w)) (sym t.2) (refused_same f k entry p w c' steps t.0 same t.1)
 
 -- ---- the acts
-module _ (f : Profile) (k : ℕ) (p p' : Progress) (w : World) (thread : IsThread f k) (listed : k ≤ length w.caches) (valid : IsValid f) (before : IsBetween f p) (after : IsBetween f p') (same : IsSame f p w) (usable : HasUsableBlocks p) (a : Answer) (names : a.names ≡ p.names) (reached : p' ≡ after_answer p k a) where
+module _ (f : Profile) (k : ℕ) (p p' : Progress) (w : World) (thread : IsThread f k) (listed : k ≤ length w.caches) (valid : IsValid f)
+    (before : IsBetween f p) (after : IsBetween f p') (same : IsSame f p w) (usable : HasUsableBlocks p) (a : Answer) (names : a.names ≡ p.names)
+    (reached : p' ≡ after_answer p k a) where
   to : p' ≡ after_with p k a.steps a.said p.names a.cache
   to = reached ∙ ap (λ (ns : List Named). after_with p k a.steps a.said ns a.cache) names
 

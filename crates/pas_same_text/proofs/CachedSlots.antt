@@ -176,7 +176,8 @@ pub record Served (f : Profile) (k name heap class : ℕ) (p p' : Progress) (w :
   cache_is : cache ≡ record (p.caches k) { locals = others_than heap class (p.caches k).locals ++ rest ∷ [] }
   after : p' ≡ after_with p k steps None (named name (Some block) ∷ p.names) cache
 
-to_given : (f : Profile) (k name heap class : ℕ) (p p' : Progress) (w : World) (s : Slots) → IsValid f → IsThread f k → k ≤ length w.caches → IsBetween f p → IsBetween f p' → IsSame f p w → local_for heap class (p.caches k).locals ≡ Some s → HasMember s.starts
+to_given : (f : Profile) (k name heap class : ℕ) (p p' : Progress) (w : World) (s : Slots) → IsValid f → IsThread f k → k ≤ length w.caches → IsBetween f p
+    → IsBetween f p' → IsSame f p w → local_for heap class (p.caches k).locals ≡ Some s → HasMember s.starts
     → Served f k name heap class p p' w s → IsSame f p' (serves_class f k name heap class w)
 to_given f k name heap class p p' w s valid is listed between after same there member o =
     let found : Finds s (find (is_for heap class) (locals_of w k)) = found_same heap class (p.caches k).locals (locals_of w k) s (same.caches.each k is).locals there in
@@ -229,7 +230,8 @@ module _ (f : Profile) (k name heap size align class : ℕ) (p p' : Progress) (w
   served_by sv h = search (arith, not_fetched, ends_of, same_slots)
 
 -- ANY REQUEST OF A CLASS for which a slot is cached
-pub cached_answered : (f : Profile) (k name heap size align class : ℕ) (p p' : Progress) (w : World) → IsThread f k → k ≤ length w.caches → route_in f size align ≡ Route.Class class → IsValid f → IsBetween f p → IsBetween f p' → IsSame f p w → HasCachedSlot heap class k p
+pub cached_answered : (f : Profile) (k name heap size align class : ℕ) (p p' : Progress) (w : World) → IsThread f k → k ≤ length w.caches
+    → route_in f size align ≡ Route.Class class → IsValid f → IsBetween f p → IsBetween f p' → IsSame f p w → HasCachedSlot heap class k p
     → (a : Answer) → IsServed f k (record { name = name; heap = heap; size = size; align = align }) (having p.names (part k p.list) (p.caches k)) a → p' ≡ after_answer p k a → IsSame f p' (serves f k name heap (route_in f size align) (room_in f size align) align w)
 cached_answered f k name heap size align class p p' w is listed route valid before after same has a served reached =
     let sv : ServesClass (filling_in (directory_for f heap size align) class) f (p.caches k) a.cache a.steps served.answer =

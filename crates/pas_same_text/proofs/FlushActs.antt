@@ -46,7 +46,8 @@ events_recorded rs ws vs es is more =
     ∙ (sym (reverse-append (map Record.Event es) ws) ∙ ap reverse (sym more)))
 
 -- ---- the whole flush
-module _ (f : Profile) (k : ℕ) (p : Progress) (w : World) (steps : List Made) (noted' : List EndedRun) (valid : IsValid f) (thread : IsThread f k) (listed : k ≤ length w.caches) (same : IsSame f p w) (legal : Legal f (triples k steps ++ p.list))
+module _ (f : Profile) (k : ℕ) (p : Progress) (w : World) (steps : List Made) (noted' : List EndedRun) (valid : IsValid f) (thread : IsThread f k)
+    (listed : k ≤ length w.caches) (same : IsSame f p w) (legal : Legal f (triples k steps ++ p.list))
     (h : EmptiesLog k (p.caches k).log (p.caches k).noted noted' steps) where
   abbrev look : Made
   look = made (Look Word.Epoch) h.epoch
@@ -109,7 +110,8 @@ module _ (f : Profile) (p p' : Progress) (w v : World) (pages : List ℕ) (valid
               true≢false (sym of_it ∙ live_apart f w.events run o.address a o.block b o.lived was (eqb-false o.address a e) g of_own)
 
 -- ---- the act
-module _ (f : Profile) (k : ℕ) (p : Progress) (w : World) (steps : List Made) (c' : Cached) (valid : IsValid f) (thread : IsThread f k) (listed : k ≤ length w.caches) (before : IsBetween f p) (same : IsSame f p w) (usable : AreBlocksUsable (visible p.list))
+module _ (f : Profile) (k : ℕ) (p : Progress) (w : World) (steps : List Made) (c' : Cached) (valid : IsValid f) (thread : IsThread f k)
+    (listed : k ≤ length w.caches) (before : IsBetween f p) (same : IsSame f p w) (usable : AreBlocksUsable (visible p.list))
     (h : EmptiesLog k (p.caches k).log (p.caches k).noted c'.noted steps) (cache : c' ≡ record (p.caches k) { log = []; noted = c'.noted }) (after : IsBetween f (with_steps p k steps c')) where
   abbrev v : World
   v = flushes f k w

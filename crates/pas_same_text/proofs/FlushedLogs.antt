@@ -280,7 +280,8 @@ ended_since es fs gs ps qs q fewer o = record {
   minded = has_both ps qs q ∙ or_right (has_number ps q) (has_number qs q) o.minded;
 }
 
-module _ (f : Profile) (k epoch : ℕ) (l : Whole) (w : World) (c : Cached) (caches : Caches) (valid : IsValid f) (thread : IsThread f k) (listed : k ≤ length w.caches) (now : w.epoch ≡ epoch) where
+module _ (f : Profile) (k epoch : ℕ) (l : Whole) (w : World) (c : Cached) (caches : Caches) (valid : IsValid f) (thread : IsThread f k)
+    (listed : k ≤ length w.caches) (now : w.epoch ≡ epoch) where
   next_flushed : (s : Settled) (settled : List Settled) (piece steps : List Made) (v : World) → Legal f (triples k piece ++ (triples k steps ++ l)) → EntrySteps s piece → IsFlushedTo f k epoch l w c caches settled steps v
       → IsFlushedTo f k epoch l w c caches (s ∷ settled) (piece ++ steps) (ends f k s.entry v)
   next_flushed s settled piece steps v legal is was =

@@ -40,7 +40,8 @@ said_same f k said p w same = record {
 abbrev with_entry : Cached → Entry → Cached
 with_entry c entry = record c { log = c.log ++ entry ∷ []; noted = c.noted }
 
-added_same : (f : Profile) (k : ℕ) (entry : Entry) (p : Progress) (w : World) → IsThread f k → k ≤ length w.caches → IsSame f p w → IsSame f (after_with p k [] None p.names (with_entry (p.caches k) entry)) (adds k entry w)
+added_same : (f : Profile) (k : ℕ) (entry : Entry) (p : Progress) (w : World) → IsThread f k → k ≤ length w.caches → IsSame f p w
+    → IsSame f (after_with p k [] None p.names (with_entry (p.caches k) entry)) (adds k entry w)
 added_same f k entry p w is listed same =
     let own : Cache = cache_of w k in
     let was : IsSameCache (p.caches k) own = same.caches.each k is in
@@ -93,7 +94,8 @@ room_is : (f : Profile) (k : ℕ) (entry : Entry) (p : Progress) (w : World) →
 room_is f k entry p w is same room = search (arith, same.caches.each)
 
 -- ---- the free
-logged_same : (f : Profile) (k : ℕ) (entry : Entry) (p : Progress) (w : World) (c' : Cached) (steps : List Made) → IsThread f k → k ≤ length w.caches → IsSame f p w → nat_le 64 (length (p.caches k).log) ≡ false
+logged_same : (f : Profile) (k : ℕ) (entry : Entry) (p : Progress) (w : World) (c' : Cached) (steps : List Made) → IsThread f k → k ≤ length w.caches
+    → IsSame f p w → nat_le 64 (length (p.caches k).log) ≡ false
     → TakesEntry f k (p.caches k) c' entry steps → IsSame f (after_with p k steps None p.names c') (frees f k entry w)
 logged_same f k entry p w c' steps is listed same room takes =
     let to = logged_cache f k (p.caches k) c' entry steps room takes in
@@ -113,7 +115,8 @@ refused_same f k entry p w c' steps fault same refuses =
     let name : Name = entry.name in
     rw (refused_text f k entry w (p.caches k) c' steps fault refuses, refuses.no_steps, refuses.cache) (said_same f k (said_of_fault name fault) p w same)
 
-pub freed_same : (f : Profile) (k : ℕ) (entry : Entry) (p : Progress) (w : World) (c' : Cached) (steps : List Made) (said : Option TheSaid) → IsThread f k → k ≤ length w.caches → IsSame f p w → nat_le 64 (length (p.caches k).log) ≡ false
+pub freed_same : (f : Profile) (k : ℕ) (entry : Entry) (p : Progress) (w : World) (c' : Cached) (steps : List Made) (said : Option TheSaid) → IsThread f k
+    → k ≤ length w.caches → IsSame f p w → nat_le 64 (length (p.caches k).log) ≡ false
     → IsFreed f k (p.caches k) c' entry steps said → IsSame f (after_with p k steps said p.names c') (frees f k entry w)
 freed_same f k entry p w c' steps said is listed same room (inl t) =
     subst (λ (s : Option TheSaid). IsSame f (after_with p k steps s p.names c') (frees f k entry w)) (sym t.1) (logged_same f k entry p w c' steps is listed same room t.0)
@@ -121,7 +124,8 @@ freed_same f k entry p w c' steps said is listed same room (inr t) =
     subst (λ (s : Option TheSaid). IsSame f (after_with p k steps s p.names c') (frees f k entry w)) (sym t.2) (refused_same f k entry p w c' steps t.0 same t.1)
 
 -- ---- the act
-entry_same : (f : Profile) (k : ℕ) (entry : Entry) (p p' : Progress) (w : World) (a : Answer) → IsThread f k → k ≤ length w.caches → IsSame f p w → HasLogRoom k p → IsFreed f k (p.caches k) a.cache entry a.steps a.said → a.names ≡ p.names → p' ≡ after_answer p k a
+entry_same : (f : Profile) (k : ℕ) (entry : Entry) (p p' : Progress) (w : World) (a : Answer) → IsThread f k → k ≤ length w.caches → IsSame f p w
+    → HasLogRoom k p → IsFreed f k (p.caches k) a.cache entry a.steps a.said → a.names ≡ p.names → p' ≡ after_answer p k a
     → IsSame f p' (frees f k entry w)
 entry_same f k entry p p' w a is listed same room freed names reached =
     let test : nat_le 64 (length (p.caches k).log) ≡ false = grind (arith, nat_tests, room) in
@@ -141,13 +145,15 @@ skipped_same f k name p w c' steps said same no_steps cache is =
     subst (λ (s : Option TheSaid). IsSame f (after_with p k steps s p.names c') (says (Record.Said k (Said.Skipped name)) w)) (sym is)
     (rw (no_steps, cache) (said_same f k (Said.Skipped name) p w same))
 
-freed_named : (f : Profile) (k name : ℕ) (size : Option ℕ) (p : Progress) (w : World) (c' : Cached) (steps : List Made) (said : Option TheSaid) → IsThread f k → k ≤ length w.caches → IsSame f p w → nat_le 64 (length (p.caches k).log) ≡ false
+freed_named : (f : Profile) (k name : ℕ) (size : Option ℕ) (p : Progress) (w : World) (c' : Cached) (steps : List Made) (said : Option TheSaid)
+    → IsThread f k → k ≤ length w.caches → IsSame f p w → nat_le 64 (length (p.caches k).log) ≡ false
     → (meant : Option (Option Block)) → IsFreedBy f k (p.caches k) c' name size meant steps said → IsSame f (after_with p k steps said p.names c') (frees_what f k name (room_noted size) meant w)
 freed_named f k name size p w c' steps said is listed same room None freed = absurd freed
 freed_named f k name size p w c' steps said is listed same room (Some None) freed = skipped_same f k name p w c' steps said same freed.0 freed.1 freed.2
 freed_named f k name size p w c' steps said is listed same room (Some (Some block)) freed = freed_same f k (sized_entry block.name (room_noted size)) p w c' steps said is listed same room freed
 
-by_name_same : (f : Profile) (k name : ℕ) (size : Option ℕ) (p p' : Progress) (w : World) (a : Answer) → IsThread f k → k ≤ length w.caches → IsSame f p w → HasLogRoom k p → IsFreedBy f k (p.caches k) a.cache name size (standing_for p.names name) a.steps a.said → a.names ≡ p.names
+by_name_same : (f : Profile) (k name : ℕ) (size : Option ℕ) (p p' : Progress) (w : World) (a : Answer) → IsThread f k → k ≤ length w.caches → IsSame f p w
+    → HasLogRoom k p → IsFreedBy f k (p.caches k) a.cache name size (standing_for p.names name) a.steps a.said → a.names ≡ p.names
     → p' ≡ after_answer p k a → IsSame f p' (frees_named f k name (room_noted size) w)
 by_name_same f k name size p p' w a is listed same room freed names reached = search (arith, freed_named)
 

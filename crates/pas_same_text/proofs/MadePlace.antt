@@ -98,7 +98,8 @@ placed_by k (Some l) w = gives_up k l w
 unmoved : (f : Profile) (k : ℕ) (p : Progress) (w : World) → IsSame f p w → IsSame f (up_to p k [] (p.caches k).locals) w
 unmoved f k p w same = record { pages = same.pages; caches = same_kept f p.caches w.caches k same.caches; guards = same.guards; names = same.names; records = same.records; epoch = same.epoch; read = same.read }
 
-module _ (f : Profile) (k : ℕ) (p : Progress) (w : World) (valid : IsValid f) (thread : IsThread f k) (listed : k ≤ length w.caches) (before : IsBetween f p) (same : IsSame f p w) where
+module _ (f : Profile) (k : ℕ) (p : Progress) (w : World) (valid : IsValid f) (thread : IsThread f k) (listed : k ≤ length w.caches) (before : IsBetween f p)
+    (same : IsSame f p w) where
   -- ---- the oldest goes where the cache is full
   oldest_gone : (slots : List Slots) (ls : List Local) (fewer : List Slots) (steps : List Made) → (p.caches k).locals ≡ slots → locals_of w k ≡ ls → AreSameLocals slots ls → (t : Bool) → nat_le 32 (length slots) ≡ t → StopsFirst t slots fewer steps → Only releasing steps
       → IsBetween f (up_to p k steps fewer) → IsSame f (up_to p k steps fewer) (gives_up_first k ls w)
@@ -137,7 +138,9 @@ module _ (f : Profile) (k : ℕ) (p : Progress) (w : World) (valid : IsValid f) 
 stops_none : (kept fewer : List Slots) (steps : List Made) (t : Bool) → t ≡ false → StopsFirst t kept fewer steps → (fewer ≡ kept) × (steps ≡ [])
 stops_none kept fewer steps t place h = search (arith, true≢false)
 
-module _ (f : Profile) (k heap class : ℕ) (p : Progress) (w : World) (fewer : List Slots) (steps : List Made) (valid : IsValid f) (thread : IsThread f k) (listed : k ≤ length w.caches) (before : IsBetween f p) (same : IsSame f p w) (place : MakesPlace heap class (p.caches k).locals fewer steps) (kinds : Only releasing steps)
+module _ (f : Profile) (k heap class : ℕ) (p : Progress) (w : World) (fewer : List Slots) (steps : List Made) (valid : IsValid f) (thread : IsThread f k)
+    (listed : k ≤ length w.caches) (before : IsBetween f p) (same : IsSame f p w) (place : MakesPlace heap class (p.caches k).locals fewer steps)
+    (kinds : Only releasing steps)
     (after : IsBetween f (up_to p k steps fewer)) where
   abbrev c : Cached
   c = p.caches k

@@ -72,7 +72,9 @@ pub class_served_by : (f : Profile) (k name heap size align class : ℕ) (p : Pr
 class_served_by f k name heap size align class p a route served = search (arith, home_of_class)
 
 -- ---- the request
-module _ (f : Profile) (k name heap size align class : ℕ) (p p' : Progress) (w : World) (thread : IsThread f k) (listed : k ≤ length w.caches) (admitted : IsAdmitted f size align heap) (route : route_in f size align ≡ Route.Class class) (valid : IsValid f) (before : IsBetween f p) (after : IsBetween f p') (same : IsSame f p w)
+module _ (f : Profile) (k name heap size align class : ℕ) (p p' : Progress) (w : World) (thread : IsThread f k) (listed : k ≤ length w.caches)
+    (admitted : IsAdmitted f size align heap) (route : route_in f size align ≡ Route.Class class) (valid : IsValid f) (before : IsBetween f p)
+    (after : IsBetween f p') (same : IsSame f p w)
     (a : Answer) (served : IsServed f k (record { name = name; heap = heap; size = size; align = align }) (having p.names (part k p.list) (p.caches k)) a) (reached : p' ≡ after_answer p k a) where
   abbrev c : Cached
   c = p.caches k

@@ -35,7 +35,8 @@ last_standing name o names = ap (λ (t : Bool). if t then Some o else standing_f
 
 -- ---- between the request and the log all actors are at rest
 module _ (f : Profile) (k : ℕ) (r : Request) (old : Block) (p : Progress) (a : Answer) (w : World) (is : IsReplaced f k r old (having p.names (part k p.list) (p.caches k)) a)
-    (valid : IsValid f) (thread : IsThread f k) (listed : k ≤ length w.caches) (admitted : IsAdmitted f r.size r.align r.heap) (before : IsBetween f p) (after : IsBetween f (after_answer p k a)) (same : IsSame f p w) where
+    (valid : IsValid f) (thread : IsThread f k) (listed : k ≤ length w.caches) (admitted : IsAdmitted f r.size r.align r.heap) (before : IsBetween f p)
+    (after : IsBetween f (after_answer p k a)) (same : IsSame f p w) where
   abbrev came : Answer
   came = is.placed
 
@@ -177,7 +178,8 @@ module _ (f : Profile) (k : ℕ) (r : Request) (old : Block) (p : Progress) (a :
   replaced_asked = by_answer is.served.answer refl is.logged
 
 -- ---- THE ACT, by what is known of it, and what its request comes to
-pub replaced_same : (f : Profile) (k : ℕ) (r : Request) (old : Block) (p : Progress) (a : Answer) (w : World) → old.heap ≡ r.heap → IsValid f → IsThread f k → k ≤ length w.caches → IsAdmitted f r.size r.align r.heap → IsBetween f p → IsBetween f (after_answer p k a)
+pub replaced_same : (f : Profile) (k : ℕ) (r : Request) (old : Block) (p : Progress) (a : Answer) (w : World) → old.heap ≡ r.heap → IsValid f → IsThread f k
+    → k ≤ length w.caches → IsAdmitted f r.size r.align r.heap → IsBetween f p → IsBetween f (after_answer p k a)
     → IsSame f p w → HasUsableBlocks p → (is : IsReplaced f k r old (having p.names (part k p.list) (p.caches k)) a) → IsNamedBy f w.indexes (Some r) is.placed.found → RequestStaysSame f k r
     → IsSame f (after_answer p k a) (replaces f k r.name old r.size r.align w)
 replaced_same f k r old p a w heap_is valid thread listed admitted before after same usable is named stays =

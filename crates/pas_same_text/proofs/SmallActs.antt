@@ -47,7 +47,8 @@ cache_state w k new is = record { events = refl; live = refl; hinted = refl; loc
 read_now : (f : Profile) (p : Progress) (k epoch : ℕ) → Legal f (triple k (made (Look TheWord.Epoch) epoch) ∷ p.list) → epoch ≡ word_after p.list TheWord.Epoch
 read_now f p k epoch legal = legal.0.answer_is
 
-wakes_to : (f : Profile) (k epoch : ℕ) (p : Progress) (w : World) → IsThread f k → k ≤ length w.caches → IsSame f p w → Legal f (after_wake p k epoch).list → IsSame f (after_wake p k epoch) (begins k w)
+wakes_to : (f : Profile) (k epoch : ℕ) (p : Progress) (w : World) → IsThread f k → k ≤ length w.caches → IsSame f p w → Legal f (after_wake p k epoch).list
+    → IsSame f (after_wake p k epoch) (begins k w)
 wakes_to f k epoch p w is listed same legal =
     let own : Cache = cache_of w k in
     let was : IsSameCache (p.caches k) own = same.caches.each k is in
@@ -108,7 +109,8 @@ all_indexed : (f : Profile) (p : Progress) (runs : List EndedRun) (w : World) �
 all_indexed f p [] w same = same
 all_indexed f p (run ∷ runs) w same = all_indexed f p runs (indexes_run run w) (indexed_same f p run w same)
 
-handed_on : (f : Profile) (k : ℕ) (p : Progress) (w : World) → IsThread f k → k ≤ length w.caches → IsSame f p w → IsSame f (after_settling p k) (set_noted k [] w)
+handed_on : (f : Profile) (k : ℕ) (p : Progress) (w : World) → IsThread f k → k ≤ length w.caches → IsSame f p w
+    → IsSame f (after_settling p k) (set_noted k [] w)
 handed_on f k p w is listed same =
     let own : Cache = cache_of w k in
     let was : IsSameCache (p.caches k) own = same.caches.each k is in

@@ -100,7 +100,8 @@ module _ (f : Profile) (k : ℕ) (p : Progress) (steps : List Made) (c' : Cached
   pub read_room : (q : ℕ) (d : Directory) → IsDirectoryOf f d → is_of v d q ≡ true → s.page ≡ q → ReadsRoom q (home_of s) steps → is_open v d q ≡ true
   read_room q d of is page r = read_open f ended v valid after has freeing refl k p.list steps refl kinds q d (home_of s) (home_is q d of is page) r
 
-module _ (f : Profile) (k : ℕ) (p : Progress) (w : World) (flushed stopped : List Made) (c' : Cached) (valid : IsValid f) (thread : IsThread f k) (listed : k ≤ length w.caches) (before : IsBetween f p) (same : IsSame f p w) (usable : AreBlocksUsable (visible p.list))
+module _ (f : Profile) (k : ℕ) (p : Progress) (w : World) (flushed stopped : List Made) (c' : Cached) (valid : IsValid f) (thread : IsThread f k)
+    (listed : k ≤ length w.caches) (before : IsBetween f p) (same : IsSame f p w) (usable : AreBlocksUsable (visible p.list))
     (h : EmptiesLog k (p.caches k).log (p.caches k).noted c'.noted flushed) (each : StopsEach (p.caches k).locals stopped) (kinds : Only releasing stopped) (silent : (v : View) → events_by k v stopped ≡ [])
     (cache : c' ≡ record (p.caches k) { locals = []; log = []; noted = c'.noted }) (after : IsBetween f (with_steps p k (stopped ++ flushed) c')) where
   abbrev p' : Progress

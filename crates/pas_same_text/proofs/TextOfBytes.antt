@@ -9,7 +9,7 @@ use Rattle.pas_one_text.specs.{State.World, Reports.text_of}
 use Rattle.pas_one_text.specs.Order.{replayed, replay_of, order_text, text_for, region_of as text_region}
 
 -- the region of a plan without keepers has no other actors than its threads
-region_same : (plan : Plan) → keepers_of plan ≡ 0 → plan.profile ≡ region_of plan
+pub region_same : (plan : Plan) → keepers_of plan ≡ 0 → plan.profile ≡ region_of plan
 region_same plan none = search (arith, plan_actors)
 
 -- whatever is told of a region and of what a replay in it comes to

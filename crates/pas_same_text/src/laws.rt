@@ -148,9 +148,10 @@ pub fn texts_are_told()
     ensures { (f : Profile) (p : Progress) (w : World) → IsValid f → Legal f p.list → AreTrueMarks f p.list → IsSame f p w → text_of f w ≡ lines_of p.records ++ report_text f (visible p.list) (marks_after p.list) }
 {}
 
-/// WHAT IS WRITTEN OF A REPLAY in the order of the text is told by the replay as a function, for each plan of a text, with keepers or without: its lines, its report, its records and its
-/// events, by a cache for each actor of its region, and as well by one for each thread alone, as nobody uses those of keepers. So the text that `order_text` has for the bytes is what is
-/// written of any replay of their plan. Where there are no keepers that is the replay of the phases.
+/// WHAT IS WRITTEN OF A REPLAY in the order of the text is told by the replay as a function, for each plan of a text, with keepers or without: its
+/// lines, its report, its records and its events. The function may have a cache for each actor of the region, or as the text one for each thread
+/// alone: nobody uses those of keepers. So the text that `order_text` has for the bytes is what is written of any replay of their plan. Where there
+/// are no keepers that is the replay of the phases.
 pub fn replays_are_told()
     ensures acts { (text : List ℕ) (plan : Plan) (whole : Whole) (records : List Record) → IsPlanOf text plan → IsReplay InOrder plan whole records
         → IsTold plan whole records (each (acts_on (region_of plan)) (acts_of_plan plan) (opened (region_of plan))) }

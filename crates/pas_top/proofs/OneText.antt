@@ -1,16 +1,13 @@
 -- What is written of a replay in the order of the text is the text of the bytes, and the summary of a generated trace that of its numbers.
-use Rattle.std.proofs.Common.{◌≡◌, ℕ, List, [], ◌∷◌, Option, Some, Result, Ok, Err, codes}
-use Rattle.std.proofs.Common.{get_or, inl, inr, refl, ap, sym, subst, ◌∙◌, arith}
+use Rattle.std.proofs.Common.{◌≡◌, ℕ, List, [], ◌∷◌, Option, Some, Result, Ok, codes, get_or, inl, inr, refl, ap, sym, subst, ◌∙◌, arith}
 use Rattle.std.specs.List.{AllByRecursion}
 use Rattle.pas_profile.specs.declared.{profile.Profile.Profile, event.Event.Event}
-use Rattle.pas_trace.specs.{EveryPlan.all_ops, Reasons.guard_in}
-use Rattle.pas_trace.specs.Plans.{IsPlanOf, Parsed, phases_in}
+use Rattle.pas_trace.specs.{EveryPlan.all_ops, Reasons.guard_in, Plans.IsPlanOf, Plans.Parsed, Plans.phases_in}
 use Rattle.pas_trace.specs.declared.{fault.TraceFault.TraceFault, plan.Op.Op, plan.Plan.Plan}
 use Rattle.pas_generate.specs.Traces.{trace_text}
 use Rattle.pas_report.specs.Reports.{total_line}
 use Rattle.pas_report.specs.declared.record.Record.{Record}
-use Rattle.pas_answers.specs.Replays.{threads_of, keepers_of, phases_of}
-use Rattle.pas_answers.specs.Ways.{Way, InOrder, OnThreads}
+use Rattle.pas_answers.specs.{Replays.threads_of, Replays.keepers_of, Replays.phases_of, Ways.Way, Ways.InOrder, Ways.OnThreads}
 use Rattle.pas_replay.specs.OneThread.{IsOfOneThread}
 use Rattle.pas_one_text.specs.{State.World, Order.replayed}
 use Rattle.pas_same_text.specs.Told.{IsTold}
