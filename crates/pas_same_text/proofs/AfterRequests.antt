@@ -139,7 +139,18 @@ module _ (f : Profile) (k : ℕ) (r : Request) (p : Progress) (a : Answer) (w : 
     fetched : (slots : Slots) (fewer : List Slots) (early : List Made) → Legal f (triples k early ++ p.list) → Fetches (filling_in home class) f c.locals fewer early (Ok slots) → RestsWith f (slots ∷ fewer) (early ++ v)
     fetched slots fewer early stands fetch =
         let o : IsFetched f k r.heap class p w (Ok slots) fewer early =
-        record { valid = valid; thread = thread; listed = listed; directory = kind_is (is_shared f r.heap); known = known; before = before; rest = rest; same = same; fetch = fetch; legal = stands } in
+        record {
+          valid = valid;
+          thread = thread;
+          listed = listed;
+          directory = kind_is (is_shared f r.heap);
+          known = known;
+          before = before;
+          rest = rest;
+          same = same;
+          fetch = fetch;
+          legal = stands;
+        } in
         let place : HasPlace f k r.heap class (up_to p k fetch.before fewer) _ = place_fetched f k r.heap class p w (Ok slots) fewer early o in
         let none : local_for r.heap class fewer ≡ None = ap (λ (x : Cached). local_for r.heap class x.locals) (sym (same_own p.caches k (record c { locals = fewer }))) ∙ place.none in
         let ok : Agreed f v (fetch.searched ++ fetch.before) = subst (Agreed f v) fetch.steps_are (agreed_steps f k p.list early valid stands) in

@@ -88,7 +88,13 @@ pub start_carried : (threads n : ℕ) (f : Profile) → threads ≤ n → n ≤ 
 start_carried threads n f each few = record {
   same = start_same f n few;
   many = omega (arith, each, many_numbers n 1);
-  seated = record { few = omega (arith, each, few); unbooked = λ k other. refl; uncached = λ k keeper. refl; beside = λ k. tt; bare = λ k page outer. absurd (false≢true outer) };
+  seated = record {
+    few = omega (arith, each, few);
+    unbooked = λ k other. refl;
+    uncached = λ k keeper. refl;
+    beside = λ k. tt;
+    bare = λ k page outer. absurd (false≢true outer);
+  };
   usable = start_usable;
   stamped = record { kept = tt; stamped = λ k page. refl };
   indexes_are = start_indexes (record f { threads = n });

@@ -45,7 +45,8 @@ module _ (f : Profile) (k : ℕ) (p p' : Progress) (w : World) (usable : HasUsab
       → IsSame f (with_records (with_steps p k steps c') (records_of (events_by k (part k p.list) steps))) (stops f k w)
   stopped_all steps c' is valid before after same =
       subst (λ (ms : List Made). IsSame f (with_records (with_steps p k ms c') (records_of (events_by k (part k p.list) ms))) (stops f k w)) (sym is.steps_are)
-      (stop_same f k p w is.flushed is.stopped c' valid thread listed before same usable is.empties is.stops is.kinds is.silent is.cache (subst (λ (ms : List Made). IsBetween f (with_steps p k ms c')) is.steps_are after))
+      (stop_same f k p w is.flushed is.stopped c' valid thread listed before same usable is.empties is.stops is.kinds is.silent is.cache
+      (subst (λ (ms : List Made). IsBetween f (with_steps p k ms c')) is.steps_are after))
 
   stopped_plain : (steps : List Made) (c' : Cached) → IsStopped k (p.caches k) c' steps → p' ≡ with_records (with_steps p k steps c') (records_of (events_by k (part k p.list) steps) ++ []) → IsValid f → IsBetween f p → IsBetween f p' → IsSame f p w → IsSame f p' (stops f k w)
   stopped_plain steps c' is reached valid before after same =
@@ -62,7 +63,9 @@ module _ (f : Profile) (k : ℕ) (p p' : Progress) (w : World) (usable : HasUsab
       (says_same f (with_records q rs) (stops f k w) r (stopped_all steps c' is valid before there same))
 
 pub flush_act : (f : Profile) (line k : ℕ) → IsThread f k → StaysSameWhere HasUsableBlocks f (Act.Operates (record { line = line; actor = k; what = Flush }))
-flush_act f line k is p p' w usable taken = flushed f k p p' w usable is taken.listed taken.advances.0 taken.advances.1.0 taken.advances.1.1 taken.advances.1.2 taken.advances.2 taken.valid taken.before taken.after taken.same
+flush_act f line k is p p' w usable taken =
+    flushed f k p p' w usable is taken.listed taken.advances.0 taken.advances.1.0 taken.advances.1.1 taken.advances.1.2 taken.advances.2 taken.valid
+    taken.before taken.after taken.same
 
 pub stop_act : (f : Profile) (line k : ℕ) → IsThread f k → StaysSameWhere HasUsableBlocks f (Act.Operates (record { line = line; actor = k; what = Stop }))
 stop_act f line k is p p' w usable taken =
@@ -72,7 +75,9 @@ stop_act f line k is p p' w usable taken =
     stopped_plain f k p p' w usable is taken.listed a.steps a.cache taken.advances.1.0 to taken.valid taken.before taken.after taken.same
 
 pub end_act : (f : Profile) (k : ℕ) → IsThread f k → StaysSameWhere HasUsableBlocks f (Act.Ends k)
-end_act f k is p p' w usable taken = stopped_plain f k p p' w usable is taken.listed taken.advances.0 taken.advances.1 taken.advances.2 taken.advances.3 taken.valid taken.before taken.after taken.same
+end_act f k is p p' w usable taken =
+    stopped_plain f k p p' w usable is taken.listed taken.advances.0 taken.advances.1 taken.advances.2 taken.advances.3 taken.valid taken.before taken.after
+    taken.same
 
 -- ---- a thread that is idle
 idle_test : (f : Profile) (k n : ℕ) (p : Progress) (w : World) → IsThread f k → IsSame f p w → nat_le ((cache_of w k).began + n) w.read ≡ nat_le ((p.caches k).idle_since + n) p.epoch
@@ -156,7 +161,8 @@ module _ (f : Profile) (k : ℕ) (entry : Entry) (p : Progress) (w : World) (c' 
   added : IsSame f (after_with p k steps None p.names c') (adds k entry v)
   added = record {
     pages = pages_next f q.list q.list v (set_cache k new v) flushed_first.pages (unchanged q.list) (cache_state v k new refl);
-    caches = same_again f p.caches (adds k entry v).caches k emptied c' (same_with f (with_cached p.caches k emptied) v.caches k c' new thread listed_then flushed_first.caches new_same);
+    caches = same_again f p.caches (adds k entry v).caches k emptied c'
+        (same_with f (with_cached p.caches k emptied) v.caches k c' new thread listed_then flushed_first.caches new_same);
     guards = flushed_first.guards;
     names = flushed_first.names;
     records = ap (λ (rs : List Record). p.records ++ rs) (append-nil (records_of (events_by k (part k p.list) steps))) ∙ flushed_first.records;
@@ -192,7 +198,9 @@ module _ (f : Profile) (k : ℕ) (p p' : Progress) (w : World) (thread : IsThrea
   there = same_between f p k a.steps a.cache p.names (records_of (events_by k (part k p.list) a.steps) ++ said_by k a.said) (subst (IsBetween f) to after)
 
   entry_any : (entry : Entry) → IsFreed f k (p.caches k) a.cache entry a.steps a.said → IsSame f p' (frees f k entry w)
-  entry_any entry freed = subst (λ (q : Progress). IsSame f q (frees f k entry w)) (sym to) (freed_any f k entry p w a.cache a.steps thread listed valid before same usable there a.said freed)
+  entry_any entry freed =
+      subst (λ (q : Progress). IsSame f q (frees f k entry w)) (sym to)
+      (freed_any f k entry p w a.cache a.steps thread listed valid before same usable there a.said freed)
 
   named_by : (name : ℕ) (size : Option ℕ) (meant : Option (Option Block)) → IsFreedBy f k (p.caches k) a.cache name size meant a.steps a.said → IsSame f p' (frees_what f k name (room_noted size) meant w)
   named_by name size None freed = absurd freed
@@ -203,16 +211,24 @@ module _ (f : Profile) (k : ℕ) (p p' : Progress) (w : World) (thread : IsThrea
   name_any name size freed = subst (λ (ns : List Named). IsSame f p' (frees_what f k name (room_noted size) (standing_for ns name) w)) (sym same.names) (named_by name size (standing_for p.names name) freed)
 
 pub raw_act : (f : Profile) (line k : ℕ) (block : Name) → IsThread f k → StaysSameWhere HasUsableBlocks f (Act.Operates (record { line = line; actor = k; what = Raw block }))
-raw_act f line k block is p p' w usable taken = entry_any f k p p' w is taken.listed taken.valid taken.before taken.after taken.same usable taken.advances.0 taken.advances.1.1 taken.advances.2 (entry_of block) taken.advances.1.0
+raw_act f line k block is p p' w usable taken =
+    entry_any f k p p' w is taken.listed taken.valid taken.before taken.after taken.same usable taken.advances.0 taken.advances.1.1 taken.advances.2
+    (entry_of block) taken.advances.1.0
 
 pub raw_sized_act : (f : Profile) (line k room : ℕ) (block : Name) → IsThread f k → StaysSameWhere HasUsableBlocks f (Act.Operates (record { line = line; actor = k; what = RawSized room block }))
-raw_sized_act f line k room block is p p' w usable taken = entry_any f k p p' w is taken.listed taken.valid taken.before taken.after taken.same usable taken.advances.0 taken.advances.1.1 taken.advances.2 (sized_entry block room) taken.advances.1.0
+raw_sized_act f line k room block is p p' w usable taken =
+    entry_any f k p p' w is taken.listed taken.valid taken.before taken.after taken.same usable taken.advances.0 taken.advances.1.1 taken.advances.2
+    (sized_entry block room) taken.advances.1.0
 
 pub free_act : (f : Profile) (line k name : ℕ) → IsThread f k → StaysSameWhere HasUsableBlocks f (Act.Operates (record { line = line; actor = k; what = Free name }))
-free_act f line k name is p p' w usable taken = name_any f k p p' w is taken.listed taken.valid taken.before taken.after taken.same usable taken.advances.0 taken.advances.1.1 taken.advances.2 name None taken.advances.1.0
+free_act f line k name is p p' w usable taken =
+    name_any f k p p' w is taken.listed taken.valid taken.before taken.after taken.same usable taken.advances.0 taken.advances.1.1 taken.advances.2 name None
+    taken.advances.1.0
 
 pub free_sized_act : (f : Profile) (line k name room : ℕ) → IsThread f k → StaysSameWhere HasUsableBlocks f (Act.Operates (record { line = line; actor = k; what = FreeSized name room }))
-free_sized_act f line k name room is p p' w usable taken = name_any f k p p' w is taken.listed taken.valid taken.before taken.after taken.same usable taken.advances.0 taken.advances.1.1 taken.advances.2 name (Some room) taken.advances.1.0
+free_sized_act f line k name room is p p' w usable taken =
+    name_any f k p p' w is taken.listed taken.valid taken.before taken.after taken.same usable taken.advances.0 taken.advances.1.1 taken.advances.2 name
+    (Some room) taken.advances.1.0
 
 -- ---- reallocations that do nothing
 named_same : (f : Profile) (k name : ℕ) (o : Option Block) (said : TheSaid) (p : Progress) (w : World) → IsSame f p w → IsSame f (after_with p k [] (Some said) (named name o ∷ p.names) (p.caches k)) (names_it name o (says (Record.Said k said) w))

@@ -243,4 +243,5 @@ cached_answered f k name heap size align class p p' w is listed route valid befo
 pub cached_same : (f : Profile) (line k name heap size align class : ℕ) → IsThread f k → route_in f size align ≡ Route.Class class
     → StaysSameWhere (HasCachedSlot heap class k) f (Act.Operates (record { line = line; actor = k; what = Alloc name heap size align }))
 cached_same f line k name heap size align class is route p p' w has taken =
-    cached_answered f k name heap size align class p p' w is taken.listed route taken.valid taken.before taken.after taken.same has taken.advances.0 taken.advances.1 taken.advances.2
+    cached_answered f k name heap size align class p p' w is taken.listed route taken.valid taken.before taken.after taken.same has taken.advances.0
+    taken.advances.1 taken.advances.2

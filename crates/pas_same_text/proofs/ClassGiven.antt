@@ -310,7 +310,8 @@ module _ (f : Profile) (k name heap class : ℕ) (p : Progress) (w : World) (has
   same_now = record {
     events = ap (λ (b : Block). Event.Give k b ∷ (shown es w).events) (sym block_is) ∙ (ap (λ (xs : List Event). Event.Give k block ∷ xs) (shown_events es w ∙ ap (λ (before : List Event). es ++ before) has.same.pages.events) ∙ sym visible_are);
     live = ap (λ (bs : List Block). told ∷ bs) (shown_lives es w has.same.pages.live);
-    caches = same_with f p.caches (shown es w).caches k new (record (cache_of (shown es w) k) { locals = text_locals (shown es w) k local more }) has.thread listed_then caches_shown cache_same;
+    caches = same_with f p.caches (shown es w).caches k new (record (cache_of (shown es w) k) { locals = text_locals (shown es w) k local more }) has.thread
+        listed_then caches_shown cache_same;
     guards = guards_as p.books w v (shown_rest es w).guards has.same.guards;
   }
 

@@ -69,11 +69,13 @@ module _ (f : Profile) (k name heap size align class : ℕ) (p p' : Progress) (w
 
   -- ---- a block was given
   from_slots : (block : Block) → served.answer ≡ Ok block → (slots : Slots) (fewer : List Slots) (early given : List Made) → a.steps ≡ given ++ early → IsObtained (filling_in home class) f c.locals fewer early (Ok slots) → IsAnswered fewer a.cache.locals given (Ok slots) (Ok block) → IsSame f p' asked
-  from_slots block is slots fewer early given steps_are (inl t) ends = cached_answered f k name heap size align class p p' w thread listed route valid before after same (t.0, t.2.cached, t.2.some) a served reached
+  from_slots block is slots fewer early given steps_are (inl t) ends =
+      cached_answered f k name heap size align class p p' w thread listed route valid before after same (t.0, t.2.cached, t.2.some) a served reached
   from_slots block is slots fewer early given steps_are (inr fetch) ends =
       subst (λ (r : Route). IsSame f p' (serves f k name heap r (room_in f size align) align w)) (sym route)
       (given_so block is slots ends.0 fewer early given steps_are ends.1 (by_class.cache ∙ ap (λ (ss : List Slots). record c { locals = ss }) ends.2)
-      (fetched_so f k name heap size align class p p' w thread listed admitted route valid before after same a served reached (Ok slots) fewer early given steps_are fetch))
+      (fetched_so f k name heap size align class p p' w thread listed admitted route valid before after same a served reached
+      (Ok slots) fewer early given steps_are fetch))
 
   from_found : (block : Block) → served.answer ≡ Ok block → (found : Result Slots NoRoom) (fewer : List Slots) (early given : List Made) → a.steps ≡ given ++ early → IsObtained (filling_in home class) f c.locals fewer early found → IsAnswered fewer a.cache.locals given found (Ok block) → IsSame f p' asked
   from_found block is (Ok slots) fewer early given steps_are how ends = from_slots block is slots fewer early given steps_are how ends
@@ -90,4 +92,5 @@ module _ (f : Profile) (k name heap size align class : ℕ) (p p' : Progress) (w
 
 pub class_same : (f : Profile) (line k name heap size align class : ℕ) → IsThread f k → IsAdmitted f size align heap → route_in f size align ≡ Route.Class class → StaysSame f (Act.Operates (record { line = line; actor = k; what = Alloc name heap size align }))
 class_same f line k name heap size align class thread admitted route p p' w taken =
-    class_answered f k name heap size align class p p' w thread taken.listed admitted route taken.valid taken.before taken.after taken.same taken.advances.0 taken.advances.1 taken.advances.2
+    class_answered f k name heap size align class p p' w thread taken.listed admitted route taken.valid taken.before taken.after taken.same taken.advances.0
+    taken.advances.1 taken.advances.2

@@ -162,7 +162,8 @@ module _ (f : Profile) (k : ℕ) (p : Progress) (w : World) (steps : List Made) 
     caches = flush_has.caches;
     guards = flush_has.guards;
     names = to.names ∙ same.names;
-    records = events_recorded p.records w.records v.records (events_by k (part k p.list) steps) same.records (flush_records f k p w steps c'.noted valid thread listed same legal h);
+    records = events_recorded p.records w.records v.records (events_by k (part k p.list) steps) same.records
+        (flush_records f k p w steps c'.noted valid thread listed same legal h);
     epoch = to.epoch ∙ (same.epoch ∙ sym (epoch_stays_by freeing refl k steps p.list to.kinds));
     read = to.read ∙ same.read;
   }

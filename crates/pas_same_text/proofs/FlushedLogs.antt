@@ -309,7 +309,9 @@ module _ (f : Profile) (k epoch : ℕ) (l : Whole) (w : World) (c : Cached) (cac
         read = shown.read ∙ was.read;
         indexes = shown.indexes ∙ was.indexes;
         locals = taken.locals ∙ was.locals;
-        same = same_again f caches x.caches k own new (subst (AreSameCaches f (with_cached (with_cached caches k own) k new)) (sym taken.caches) (same_with f (with_cached caches k own) v.caches k new (own_then s v k) thread (omega (arith, listed, was.many)) was.same new_same));
+        same = same_again f caches x.caches k own new
+            (subst (AreSameCaches f (with_cached (with_cached caches k own) k new)) (sym taken.caches)
+            (same_with f (with_cached caches k own) v.caches k new (own_then s v k) thread (omega (arith, listed, was.many)) was.same new_same));
         many = ap (λ (cs : List Cache). length cs) taken.caches ∙ (many_with v.caches k (own_then s v k) ∙ was.many);
         pages = was.pages ++ taken.pages;
         returns = returns_then f was.pages taken.pages w v x was.returns taken.returns;

@@ -119,7 +119,8 @@ pub freed_same : (f : Profile) (k : ℕ) (entry : Entry) (p : Progress) (w : Wor
     → k ≤ length w.caches → IsSame f p w → nat_le 64 (length (p.caches k).log) ≡ false
     → IsFreed f k (p.caches k) c' entry steps said → IsSame f (after_with p k steps said p.names c') (frees f k entry w)
 freed_same f k entry p w c' steps said is listed same room (inl t) =
-    subst (λ (s : Option TheSaid). IsSame f (after_with p k steps s p.names c') (frees f k entry w)) (sym t.1) (logged_same f k entry p w c' steps is listed same room t.0)
+    subst (λ (s : Option TheSaid). IsSame f (after_with p k steps s p.names c') (frees f k entry w)) (sym t.1)
+    (logged_same f k entry p w c' steps is listed same room t.0)
 freed_same f k entry p w c' steps said is listed same room (inr t) =
     subst (λ (s : Option TheSaid). IsSame f (after_with p k steps s p.names c') (frees f k entry w)) (sym t.2) (refused_same f k entry p w c' steps t.0 same t.1)
 
@@ -133,10 +134,12 @@ entry_same f k entry p p' w a is listed same room freed names reached =
     (freed_same f k entry p w a.cache a.steps a.said is listed same test freed)
 
 pub raw_same : (f : Profile) (line k : ℕ) (block : Name) → IsThread f k → StaysSameWhere (HasLogRoom k) f (Act.Operates (record { line = line; actor = k; what = Raw block }))
-raw_same f line k block is p p' w room taken = entry_same f k (entry_of block) p p' w taken.advances.0 is taken.listed taken.same room taken.advances.1.0 taken.advances.1.1 taken.advances.2
+raw_same f line k block is p p' w room taken =
+    entry_same f k (entry_of block) p p' w taken.advances.0 is taken.listed taken.same room taken.advances.1.0 taken.advances.1.1 taken.advances.2
 
 pub raw_sized_same : (f : Profile) (line k room : ℕ) (block : Name) → IsThread f k → StaysSameWhere (HasLogRoom k) f (Act.Operates (record { line = line; actor = k; what = RawSized room block }))
-raw_sized_same f line k size block is p p' w room taken = entry_same f k (sized_entry block size) p p' w taken.advances.0 is taken.listed taken.same room taken.advances.1.0 taken.advances.1.1 taken.advances.2
+raw_sized_same f line k size block is p p' w room taken =
+    entry_same f k (sized_entry block size) p p' w taken.advances.0 is taken.listed taken.same room taken.advances.1.0 taken.advances.1.1 taken.advances.2
 
 -- ---- a free by a name of the trace
 pub skipped_same : (f : Profile) (k name : ℕ) (p : Progress) (w : World) (c' : Cached) (steps : List Made) (said : Option TheSaid) → IsSame f p w → steps ≡ [] → c' ≡ p.caches k → said ≡ Some (Said.Skipped name)
@@ -150,7 +153,8 @@ freed_named : (f : Profile) (k name : ℕ) (size : Option ℕ) (p : Progress) (w
     → (meant : Option (Option Block)) → IsFreedBy f k (p.caches k) c' name size meant steps said → IsSame f (after_with p k steps said p.names c') (frees_what f k name (room_noted size) meant w)
 freed_named f k name size p w c' steps said is listed same room None freed = absurd freed
 freed_named f k name size p w c' steps said is listed same room (Some None) freed = skipped_same f k name p w c' steps said same freed.0 freed.1 freed.2
-freed_named f k name size p w c' steps said is listed same room (Some (Some block)) freed = freed_same f k (sized_entry block.name (room_noted size)) p w c' steps said is listed same room freed
+freed_named f k name size p w c' steps said is listed same room (Some (Some block)) freed =
+    freed_same f k (sized_entry block.name (room_noted size)) p w c' steps said is listed same room freed
 
 by_name_same : (f : Profile) (k name : ℕ) (size : Option ℕ) (p p' : Progress) (w : World) (a : Answer) → IsThread f k → k ≤ length w.caches → IsSame f p w
     → HasLogRoom k p → IsFreedBy f k (p.caches k) a.cache name size (standing_for p.names name) a.steps a.said → a.names ≡ p.names
@@ -158,7 +162,9 @@ by_name_same : (f : Profile) (k name : ℕ) (size : Option ℕ) (p p' : Progress
 by_name_same f k name size p p' w a is listed same room freed names reached = search (arith, freed_named)
 
 pub named_same : (f : Profile) (line k name : ℕ) → IsThread f k → StaysSameWhere (HasLogRoom k) f (Act.Operates (record { line = line; actor = k; what = Free name }))
-named_same f line k name is p p' w room taken = by_name_same f k name None p p' w taken.advances.0 is taken.listed taken.same room taken.advances.1.0 taken.advances.1.1 taken.advances.2
+named_same f line k name is p p' w room taken =
+    by_name_same f k name None p p' w taken.advances.0 is taken.listed taken.same room taken.advances.1.0 taken.advances.1.1 taken.advances.2
 
 pub named_sized_same : (f : Profile) (line k name room : ℕ) → IsThread f k → StaysSameWhere (HasLogRoom k) f (Act.Operates (record { line = line; actor = k; what = FreeSized name room }))
-named_sized_same f line k name size is p p' w room taken = by_name_same f k name (Some size) p p' w taken.advances.0 is taken.listed taken.same room taken.advances.1.0 taken.advances.1.1 taken.advances.2
+named_sized_same f line k name size is p p' w room taken =
+    by_name_same f k name (Some size) p p' w taken.advances.0 is taken.listed taken.same room taken.advances.1.0 taken.advances.1.1 taken.advances.2

@@ -158,7 +158,8 @@ module _ (f : Profile) (k heap class : ℕ) (p : Progress) (w : World) (fewer : 
       let stops : StopsFirst (nat_le 32 (length c.locals)) c.locals fewer place.stopped = subst (λ (xs : List Slots). StopsFirst (nat_le 32 (length xs)) xs fewer place.stopped) kept place.shortened.first in
       let is : steps ≡ place.stopped = place.steps_are ∙ (ap (λ (ms : List Made). place.stopped ++ ms) h ∙ append-nil place.stopped) in
       rw (none_same heap class c.locals (locals_of w k) both_same none, is)
-      (oldest_gone f k p w valid thread listed before same c.locals (locals_of w k) fewer place.stopped refl refl both_same (nat_le 32 (length c.locals)) refl stops (subst (Only releasing) is kinds) (subst (λ (ms : List Made). IsBetween f (up_to p k ms fewer)) is after))
+      (oldest_gone f k p w valid thread listed before same c.locals (locals_of w k) fewer place.stopped refl refl both_same
+      (nat_le 32 (length c.locals)) refl stops (subst (Only releasing) is kinds) (subst (λ (ms : List Made). IsBetween f (up_to p k ms fewer)) is after))
 
   -- ---- there is one, which is spent
   module _ (s : Slots) (is : local_for heap class c.locals ≡ Some s) (empty : IsEmpty s.starts) (leaves : LeavesWhere s.right s.page (home_of s) place.spent) where

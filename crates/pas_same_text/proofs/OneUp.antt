@@ -90,7 +90,8 @@ module _ (f : Profile) (k : ℕ) (p : Progress) (w : World) (s : Slots) (l : Loc
   has = record {
     events = events;
     live = (gone_only f k l w unique o.found page_of).live ∙ (o.same.pages.live ∙ ap lives_in (sym (gone_only f k l w unique o.found page_of).events));
-    caches = subst (AreSameCaches f (with_cached p.caches k c1)) (sym (gone_only f k l w unique o.found page_of).caches) (same_with f p.caches w.caches k c1 (left f k l w unique o.found page_of) o.thread o.listed o.same.caches new_same);
+    caches = subst (AreSameCaches f (with_cached p.caches k c1)) (sym (gone_only f k l w unique o.found page_of).caches)
+        (same_with f p.caches w.caches k c1 (left f k l w unique o.found page_of) o.thread o.listed o.same.caches new_same);
     guards = guards_as p.books w v (same_guards w v (given_up_keeps k l w)) o.same.guards;
   }
 

@@ -63,7 +63,8 @@ module _ (f : Profile) (k : ℕ) (r : Request) (old : Block) (p : Progress) (a :
       let log : came.cache.log ≡ (p.caches k).log = served_log f k r p came w block valid thread listed admitted before same is.served.rest legal serves_it in
       let kept : a.cache.locals ≡ came.cache.locals = ap (λ (c : Cached). c.locals) takes.cache in
       record {
-        locals = subst (RestsWith f came.cache.locals) (sym (part_of_own k came.steps p.list)) (served_rests f k r p came w block valid thread listed admitted before same is.served.rest legal serves_it);
+        locals = subst (RestsWith f came.cache.locals) (sym (part_of_own k came.steps p.list))
+            (served_rests f k r p came w block valid thread listed admitted before same is.served.rest legal serves_it);
         few = subst (λ (ls : List Slots). length ls ≤ 32) kept at_end.few;
         entries = subst (All (IsEntryOf f)) (sym log) is.served.rest.entries;
         few_entries = subst (λ (es : List Entry). length es ≤ 64) (sym log) is.served.rest.few_entries;

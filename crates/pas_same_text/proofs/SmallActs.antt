@@ -56,7 +56,8 @@ wakes_to f k epoch p w is listed same legal =
     let now : w.epoch ≡ epoch = same.epoch ∙ sym (read_now f p k epoch legal) in
     record {
       pages = pages_next f p.list (triple k (made (Look TheWord.Epoch) epoch) ∷ p.list) w (begins k w) same.pages (look_pages k epoch TheWord.Epoch p.list) (cache_state w k new refl);
-      caches = same_with f p.caches w.caches k (begun (p.caches k) epoch) new is listed same.caches (record { locals = was.locals; log = was.log; noted = was.noted; began = now });
+      caches = same_with f p.caches w.caches k (begun (p.caches k) epoch) new is listed same.caches
+          (record { locals = was.locals; log = was.log; noted = was.noted; began = now });
       guards = same.guards;
       names = same.names;
       records = same.records;

@@ -153,7 +153,9 @@ module _ (f : Profile) (k : ℕ) (p : Progress) (w : World) (flushed stopped : L
   has = record {
     events = events;
     live = up.live ∙ (to.live ∙ ap lives_in (sym up.events));
-    caches = same_again f p.caches v.caches k own c' (subst (AreSameCaches f (with_cached (with_cached p.caches k own) k c')) (sym up.caches) (same_with f (with_cached p.caches k own) vf.caches k c' (record (cache_of vf k) { locals = [] }) thread listed_then to.same new_same));
+    caches = same_again f p.caches v.caches k own c'
+        (subst (AreSameCaches f (with_cached (with_cached p.caches k own) k c')) (sym up.caches)
+        (same_with f (with_cached p.caches k own) vf.caches k c' (record (cache_of vf k) { locals = [] }) thread listed_then to.same new_same));
     guards = guards_as p.books w v (same_guards w v (stops_keep f k w)) same.guards;
   }
 
@@ -212,7 +214,10 @@ module _ (f : Profile) (k : ℕ) (p : Progress) (w : World) (flushed stopped : L
   shown = events_append k stopped flushed (part k p.list) ∙ ap (λ (es : List Event). es ++ events_by k (part k p.list) flushed) (silent (flushed ++ part k p.list))
 
   all_records : v.records ≡ map Record.Event (events_by k (part k p.list) (stopped ++ flushed)) ++ w.records
-  all_records = up.records ∙ (flush_records f k p w flushed c'.noted valid thread listed same flush_legal h ∙ ap (λ (es : List Event). map Record.Event es ++ w.records) (sym shown))
+  all_records =
+      up.records
+      ∙ (flush_records f k p w flushed c'.noted valid thread listed same flush_legal h
+      ∙ ap (λ (es : List Event). map Record.Event es ++ w.records) (sym shown))
 
   pub stop_same : IsSame f (with_records p' (records_of (events_by k (part k p.list) (stopped ++ flushed)))) (stops f k w)
   stop_same = record {

@@ -33,8 +33,8 @@ abbrev pub ArePlanned : ℕ → Profile → List Act → Type 0
 ArePlanned threads f acts = AllByRecursion (IsPlanned threads f) acts
 
 -- ---- between two acts
--- The text's state is that of the replay, with a cache for each thread, its indexes hold these ranges, only keepers have guards up, each live block lies on grains that its page's blocks may cover, and
--- each page where a block ended is stamped.
+-- The text's state is that of the replay, with a cache for each thread, its indexes hold these ranges, only keepers have guards up, each live block
+-- lies on grains that its page's blocks may cover, and each page where a block ended is stamped.
 pub record IsCarried (threads : ℕ) (f : Profile) (p : Progress) (w : World) (indexes : Indexes) : Type 0 where
   pub same : IsSame f p w
   pub many : threads ≤ length w.caches
