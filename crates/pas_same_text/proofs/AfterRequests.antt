@@ -1,6 +1,6 @@
 -- AFTER A REQUEST THAT WAS SERVED its thread is at rest with its cache again: by what the request's steps show.
-use Rattle.std.proofs.Common.{◌≡◌, ℕ, ◌+◌, ◌≤◌, ◌==◌, Bool, true, false, not, ◌||◌, cond, List, [], ◌∷◌, ◌++◌, All, None, Some, Result, Ok, Err, ◌⊎◌, inl, inr}
-use Rattle.std.proofs.Common.{refl, ap, sym, ◌∙◌, subst, append_assoc, arith, eqb-true}
+use Rattle.std.proofs.Common.{length, ◌≡◌, ℕ, ◌+◌, ◌≤◌, ◌==◌, Bool, true, false, not, ◌||◌, cond, List, [], ◌∷◌, ◌++◌, All, None, Some, Result, Ok, Err, ◌⊎◌}
+use Rattle.std.proofs.Common.{inl, inr, refl, ap, sym, ◌∙◌, subst, append_assoc, arith, eqb-true}
 use Rattle.std.specs.List.{find, filter, count_by, Sorted.IsPermutation}
 use Rattle.std.proofs.lemmas.{Bool.false_from_ne_true, List.Elements.All-head, List.Elements.All-tail, List.Sums.sum_by-cons}
 use Rattle.std.proofs.lemmas.List.Sorted.{IsPermutation-refl, IsPermutation-cons, IsPermutation-trans, IsPermutation-middle, IsPermutation-sym}
@@ -103,7 +103,8 @@ lost_none true kept none = sym (none refl)
 lost_none false kept none = refl
 
 -- ---- a request
-module _ (f : Profile) (k : ℕ) (r : Request) (p : Progress) (a : Answer) (w : World) (block : Block) (valid : IsValid f) (thread : IsThread f k) (admitted : IsAdmitted f r.size r.align r.heap) (before : IsBetween f p) (same : IsSame f p w)
+module _ (f : Profile) (k : ℕ) (r : Request) (p : Progress) (a : Answer) (w : World) (block : Block) (valid : IsValid f) (thread : IsThread f k)
+    (listed : k ≤ length w.caches) (admitted : IsAdmitted f r.size r.align r.heap) (before : IsBetween f p) (same : IsSame f p w)
     (rest : AtRest f (p.caches k) (part k p.list)) (legal : Legal f (triples k a.steps ++ p.list)) where
   abbrev c : Cached
   c = p.caches k
@@ -138,7 +139,18 @@ module _ (f : Profile) (k : ℕ) (r : Request) (p : Progress) (a : Answer) (w : 
     fetched : (slots : Slots) (fewer : List Slots) (early : List Made) → Legal f (triples k early ++ p.list) → Fetches (filling_in home class) f c.locals fewer early (Ok slots) → RestsWith f (slots ∷ fewer) (early ++ v)
     fetched slots fewer early stands fetch =
         let o : IsFetched f k r.heap class p w (Ok slots) fewer early =
-        record { valid = valid; thread = thread; directory = kind_is (is_shared f r.heap); known = known; before = before; rest = rest; same = same; fetch = fetch; legal = stands } in
+        record {
+          valid = valid;
+          thread = thread;
+          listed = listed;
+          directory = kind_is (is_shared f r.heap);
+          known = known;
+          before = before;
+          rest = rest;
+          same = same;
+          fetch = fetch;
+          legal = stands;
+        } in
         let place : HasPlace f k r.heap class (up_to p k fetch.before fewer) _ = place_fetched f k r.heap class p w (Ok slots) fewer early o in
         let none : local_for r.heap class fewer ≡ None = ap (λ (x : Cached). local_for r.heap class x.locals) (sym (same_own p.caches k (record c { locals = fewer }))) ∙ place.none in
         let ok : Agreed f v (fetch.searched ++ fetch.before) = subst (Agreed f v) fetch.steps_are (agreed_steps f k p.list early valid stands) in

@@ -22,7 +22,7 @@ use Rattle.pas_one_text.specs.Frees.{adds, frees, frees_what, frees_named, flush
 use Rattle.pas_same_text.specs.Same.{IsSame, IsSameCache}
 use Rattle.pas_same_text.specs.Acts.{HasBoth, IsResting, IsBetween, AreBlocksUsable, HasUsableBlocks, StaysSameWhere}
 use Rattle.pas_same_text.proofs.{CacheLists.same_own, CacheLists.same_with, CacheLists.same_again, FlushActs.flush_same, Frames.unchanged, Frames.pages_next}
-use Rattle.pas_same_text.proofs.{SmallActs.says_same, SmallActs.cache_state, StopActs.stop_same}
+use Rattle.pas_same_text.proofs.{SmallActs.says_same, SmallActs.cache_state, StopActs.stop_same, StillIndexes.same_many, StillIndexes.flushes_keep}
 use Rattle.pas_same_text.proofs.LoggedFrees.{after_with, said_same, page_inside, freed_is, refused_same, skipped_same, freed_same}
 
 -- ---- a replay of the same list, with the same caches
@@ -30,7 +30,7 @@ same_between : (f : Profile) (p : Progress) (k : ℕ) (steps : List Made) (c : C
 same_between f p k steps c names records b = record { legal = b.legal; rest = b.rest }
 
 -- ---- a flush
-module _ (f : Profile) (k : ℕ) (p p' : Progress) (w : World) (usable : HasUsableBlocks p) (thread : IsThread f k) where
+module _ (f : Profile) (k : ℕ) (p p' : Progress) (w : World) (usable : HasUsableBlocks p) (thread : IsThread f k) (listed : k ≤ length w.caches) where
   flushed : (a : Answer) → IsFlushed k (p.caches k) a.cache a.steps → a.said ≡ None → a.names ≡ p.names → p' ≡ after_answer p k a → IsValid f → IsBetween f p → IsBetween f p' → IsSame f p w → IsSame f p' (flushes f k w)
   flushed a is said names reached valid before after same =
       let rs : List Record = records_of (events_by k (part k p.list) a.steps) in
@@ -38,14 +38,15 @@ module _ (f : Profile) (k : ℕ) (p p' : Progress) (w : World) (usable : HasUsab
       reached ∙ (ap (λ (s : Option TheSaid). after_with p k a.steps s a.names a.cache) said ∙ ap (λ (ns : List Named). after_with p k a.steps None ns a.cache) names) in
       let there : IsBetween f (with_steps p k a.steps a.cache) = same_between f p k a.steps a.cache p.names (rs ++ []) (subst (IsBetween f) to after) in
       rw (to, append-nil rs)
-      (flush_same f k p w a.steps a.cache valid thread before same usable is.empties is.cache there)
+      (flush_same f k p w a.steps a.cache valid thread listed before same usable is.empties is.cache there)
 
   -- ---- a stop, after which this is said
   stopped_all : (steps : List Made) (c' : Cached) → IsStopped k (p.caches k) c' steps → IsValid f → IsBetween f p → IsBetween f (with_steps p k steps c') → IsSame f p w
       → IsSame f (with_records (with_steps p k steps c') (records_of (events_by k (part k p.list) steps))) (stops f k w)
   stopped_all steps c' is valid before after same =
       subst (λ (ms : List Made). IsSame f (with_records (with_steps p k ms c') (records_of (events_by k (part k p.list) ms))) (stops f k w)) (sym is.steps_are)
-      (stop_same f k p w is.flushed is.stopped c' valid thread before same usable is.empties is.stops is.kinds is.silent is.cache (subst (λ (ms : List Made). IsBetween f (with_steps p k ms c')) is.steps_are after))
+      (stop_same f k p w is.flushed is.stopped c' valid thread listed before same usable is.empties is.stops is.kinds is.silent is.cache
+      (subst (λ (ms : List Made). IsBetween f (with_steps p k ms c')) is.steps_are after))
 
   stopped_plain : (steps : List Made) (c' : Cached) → IsStopped k (p.caches k) c' steps → p' ≡ with_records (with_steps p k steps c') (records_of (events_by k (part k p.list) steps) ++ []) → IsValid f → IsBetween f p → IsBetween f p' → IsSame f p w → IsSame f p' (stops f k w)
   stopped_plain steps c' is reached valid before after same =
@@ -62,17 +63,21 @@ module _ (f : Profile) (k : ℕ) (p p' : Progress) (w : World) (usable : HasUsab
       (says_same f (with_records q rs) (stops f k w) r (stopped_all steps c' is valid before there same))
 
 pub flush_act : (f : Profile) (line k : ℕ) → IsThread f k → StaysSameWhere HasUsableBlocks f (Act.Operates (record { line = line; actor = k; what = Flush }))
-flush_act f line k is p p' w usable taken = flushed f k p p' w usable is taken.advances.0 taken.advances.1.0 taken.advances.1.1 taken.advances.1.2 taken.advances.2 taken.valid taken.before taken.after taken.same
+flush_act f line k is p p' w usable taken =
+    flushed f k p p' w usable is taken.listed taken.advances.0 taken.advances.1.0 taken.advances.1.1 taken.advances.1.2 taken.advances.2 taken.valid
+    taken.before taken.after taken.same
 
 pub stop_act : (f : Profile) (line k : ℕ) → IsThread f k → StaysSameWhere HasUsableBlocks f (Act.Operates (record { line = line; actor = k; what = Stop }))
 stop_act f line k is p p' w usable taken =
     let a : Answer = taken.advances.0 in
     let to : p' ≡ with_records (with_steps p k a.steps a.cache) (records_of (events_by k (part k p.list) a.steps) ++ []) =
     taken.advances.2 ∙ (ap (λ (s : Option TheSaid). after_with p k a.steps s a.names a.cache) taken.advances.1.1 ∙ ap (λ (ns : List Named). after_with p k a.steps None ns a.cache) taken.advances.1.2) in
-    stopped_plain f k p p' w usable is a.steps a.cache taken.advances.1.0 to taken.valid taken.before taken.after taken.same
+    stopped_plain f k p p' w usable is taken.listed a.steps a.cache taken.advances.1.0 to taken.valid taken.before taken.after taken.same
 
 pub end_act : (f : Profile) (k : ℕ) → IsThread f k → StaysSameWhere HasUsableBlocks f (Act.Ends k)
-end_act f k is p p' w usable taken = stopped_plain f k p p' w usable is taken.advances.0 taken.advances.1 taken.advances.2 taken.advances.3 taken.valid taken.before taken.after taken.same
+end_act f k is p p' w usable taken =
+    stopped_plain f k p p' w usable is taken.listed taken.advances.0 taken.advances.1 taken.advances.2 taken.advances.3 taken.valid taken.before taken.after
+    taken.same
 
 -- ---- a thread that is idle
 idle_test : (f : Profile) (k n : ℕ) (p : Progress) (w : World) → IsThread f k → IsSame f p w → nat_le ((cache_of w k).began + n) w.read ≡ nat_le ((p.caches k).idle_since + n) p.epoch
@@ -87,7 +92,7 @@ idle_act f k n is p p' w usable taken = elim taken.advances [
       let le : (p.caches k).idle_since + n ≤ p.epoch = h.0 in
       let test : nat_le ((p.caches k).idle_since + n) p.epoch ≡ true = grind (arith, nat_tests, le) in
       subst (λ (x : World). IsSame f p' x) (sym (idle_by f k n w true (idle_test f k n p w is taken.same ∙ test)))
-      (stopped_said f k p p' w usable is h.1 h.2 (Record.Said 0 (Said.Stopped k)) h.3 h.4 taken.valid taken.before taken.after taken.same)
+      (stopped_said f k p p' w usable is taken.listed h.1 h.2 (Record.Said 0 (Said.Stopped k)) h.3 h.4 taken.valid taken.before taken.after taken.same)
   | inr h ↦
       let test : nat_le ((p.caches k).idle_since + n) p.epoch ≡ false = not_le ((p.caches k).idle_since + n) p.epoch h.0 in
       subst (λ (x : World). IsSame f p' x) (sym (idle_by f k n w false (idle_test f k n p w is taken.same ∙ test))) (subst (λ (q : Progress). IsSame f q w) (sym h.1) taken.same)
@@ -105,7 +110,8 @@ idle_act f k n is p p' w usable taken = elim taken.advances [
 rest_emptied : (f : Profile) (c c' : Cached) (noted : List EndedRun) (guards : List Guard) (v : View) → c'.locals ≡ c.locals → IsResting f c' guards v → IsResting f (record c { log = []; noted = noted }) guards v
 rest_emptied f c c' noted guards v is rest = search (arith, rest.locals, rest.few)
 
-module _ (f : Profile) (k : ℕ) (entry : Entry) (p : Progress) (w : World) (c' : Cached) (steps : List Made) (thread : IsThread f k) (valid : IsValid f) (before : IsBetween f p) (same : IsSame f p w) (usable : AreBlocksUsable (visible p.list))
+module _ (f : Profile) (k : ℕ) (entry : Entry) (p : Progress) (w : World) (c' : Cached) (steps : List Made) (thread : IsThread f k)
+    (listed : k ≤ length w.caches) (valid : IsValid f) (before : IsBetween f p) (same : IsSame f p w) (usable : AreBlocksUsable (visible p.list))
     (after : IsBetween f (with_steps p k steps c')) (full : nat_le 64 (length (p.caches k).log) ≡ true) (takes : TakesEntry f k (p.caches k) c' entry steps) where
   abbrev c : Cached
   c = p.caches k
@@ -129,10 +135,13 @@ module _ (f : Profile) (k : ℕ) (entry : Entry) (p : Progress) (w : World) (c' 
   between = record { legal = after.legal; rest = record { working = λ j is. rest_at j (j == k) (p.books j) (part j q.list) (after.rest.working j is); none = after.rest.none; beside = after.rest.beside; bare = after.rest.bare; scavenger = after.rest.scavenger } }
 
   flushed_first : IsSame f (with_records q (records_of (events_by k (part k p.list) steps))) (flushes f k w)
-  flushed_first = flush_same f k p w steps emptied valid thread before same usable both.0 refl between
+  flushed_first = flush_same f k p w steps emptied valid thread listed before same usable both.0 refl between
 
   abbrev v : World
   v = flushes f k w
+
+  listed_then : k ≤ length v.caches
+  listed_then = omega (arith, listed, same_many w v (flushes_keep f k w))
 
   own : IsSameCache emptied (cache_of v k)
   own = subst (λ (d : Cached). IsSameCache d (cache_of v k)) (same_own p.caches k emptied) (flushed_first.caches.each k thread)
@@ -152,7 +161,8 @@ module _ (f : Profile) (k : ℕ) (entry : Entry) (p : Progress) (w : World) (c' 
   added : IsSame f (after_with p k steps None p.names c') (adds k entry v)
   added = record {
     pages = pages_next f q.list q.list v (set_cache k new v) flushed_first.pages (unchanged q.list) (cache_state v k new refl);
-    caches = same_again f p.caches (adds k entry v).caches k emptied c' (same_with f (with_cached p.caches k emptied) v.caches k c' new thread flushed_first.caches new_same);
+    caches = same_again f p.caches (adds k entry v).caches k emptied c'
+        (same_with f (with_cached p.caches k emptied) v.caches k c' new thread listed_then flushed_first.caches new_same);
     guards = flushed_first.guards;
     names = flushed_first.names;
     records = ap (λ (rs : List Record). p.records ++ rs) (append-nil (records_of (events_by k (part k p.list) steps))) ∙ flushed_first.records;
@@ -166,18 +176,21 @@ module _ (f : Profile) (k : ℕ) (entry : Entry) (p : Progress) (w : World) (c' 
   full_same : IsSame f (after_with p k steps None p.names c') (frees f k entry w)
   full_same = subst (λ (x : World). IsSame f (after_with p k steps None p.names c') x) (sym text) added
 
-module _ (f : Profile) (k : ℕ) (entry : Entry) (p : Progress) (w : World) (c' : Cached) (steps : List Made) (thread : IsThread f k) (valid : IsValid f) (before : IsBetween f p) (same : IsSame f p w) (usable : AreBlocksUsable (visible p.list))
+module _ (f : Profile) (k : ℕ) (entry : Entry) (p : Progress) (w : World) (c' : Cached) (steps : List Made) (thread : IsThread f k)
+    (listed : k ≤ length w.caches) (valid : IsValid f) (before : IsBetween f p) (same : IsSame f p w) (usable : AreBlocksUsable (visible p.list))
     (after : IsBetween f (with_steps p k steps c')) where
   by_room : (t : Bool) → nat_le 64 (length (p.caches k).log) ≡ t → TakesEntry f k (p.caches k) c' entry steps → IsSame f (after_with p k steps None p.names c') (frees f k entry w)
-  by_room true e takes = full_same f k entry p w c' steps thread valid before same usable after e takes
-  by_room false e takes = freed_same f k entry p w c' steps None thread same e (inl (takes, refl))
+  by_room true e takes = full_same f k entry p w c' steps thread listed valid before same usable after e takes
+  by_room false e takes = freed_same f k entry p w c' steps None thread listed same e (inl (takes, refl))
 
   pub freed_any : (said : Option TheSaid) → IsFreed f k (p.caches k) c' entry steps said → IsSame f (after_with p k steps said p.names c') (frees f k entry w)
   freed_any said (inl t) = subst (λ (s : Option TheSaid). IsSame f (after_with p k steps s p.names c') (frees f k entry w)) (sym t.1) (by_room (nat_le 64 (length (p.caches k).log)) refl t.0)
   freed_any said (inr t) = subst (λ (s : Option TheSaid). IsSame f (after_with p k steps s p.names c') (frees f k entry w)) (sym t.2) (refused_same f k entry p w c' steps t.0 same t.1)
 
 -- ---- the acts
-module _ (f : Profile) (k : ℕ) (p p' : Progress) (w : World) (thread : IsThread f k) (valid : IsValid f) (before : IsBetween f p) (after : IsBetween f p') (same : IsSame f p w) (usable : HasUsableBlocks p) (a : Answer) (names : a.names ≡ p.names) (reached : p' ≡ after_answer p k a) where
+module _ (f : Profile) (k : ℕ) (p p' : Progress) (w : World) (thread : IsThread f k) (listed : k ≤ length w.caches) (valid : IsValid f)
+    (before : IsBetween f p) (after : IsBetween f p') (same : IsSame f p w) (usable : HasUsableBlocks p) (a : Answer) (names : a.names ≡ p.names)
+    (reached : p' ≡ after_answer p k a) where
   to : p' ≡ after_with p k a.steps a.said p.names a.cache
   to = reached ∙ ap (λ (ns : List Named). after_with p k a.steps a.said ns a.cache) names
 
@@ -185,7 +198,9 @@ module _ (f : Profile) (k : ℕ) (p p' : Progress) (w : World) (thread : IsThrea
   there = same_between f p k a.steps a.cache p.names (records_of (events_by k (part k p.list) a.steps) ++ said_by k a.said) (subst (IsBetween f) to after)
 
   entry_any : (entry : Entry) → IsFreed f k (p.caches k) a.cache entry a.steps a.said → IsSame f p' (frees f k entry w)
-  entry_any entry freed = subst (λ (q : Progress). IsSame f q (frees f k entry w)) (sym to) (freed_any f k entry p w a.cache a.steps thread valid before same usable there a.said freed)
+  entry_any entry freed =
+      subst (λ (q : Progress). IsSame f q (frees f k entry w)) (sym to)
+      (freed_any f k entry p w a.cache a.steps thread listed valid before same usable there a.said freed)
 
   named_by : (name : ℕ) (size : Option ℕ) (meant : Option (Option Block)) → IsFreedBy f k (p.caches k) a.cache name size meant a.steps a.said → IsSame f p' (frees_what f k name (room_noted size) meant w)
   named_by name size None freed = absurd freed
@@ -196,16 +211,24 @@ module _ (f : Profile) (k : ℕ) (p p' : Progress) (w : World) (thread : IsThrea
   name_any name size freed = subst (λ (ns : List Named). IsSame f p' (frees_what f k name (room_noted size) (standing_for ns name) w)) (sym same.names) (named_by name size (standing_for p.names name) freed)
 
 pub raw_act : (f : Profile) (line k : ℕ) (block : Name) → IsThread f k → StaysSameWhere HasUsableBlocks f (Act.Operates (record { line = line; actor = k; what = Raw block }))
-raw_act f line k block is p p' w usable taken = entry_any f k p p' w is taken.valid taken.before taken.after taken.same usable taken.advances.0 taken.advances.1.1 taken.advances.2 (entry_of block) taken.advances.1.0
+raw_act f line k block is p p' w usable taken =
+    entry_any f k p p' w is taken.listed taken.valid taken.before taken.after taken.same usable taken.advances.0 taken.advances.1.1 taken.advances.2
+    (entry_of block) taken.advances.1.0
 
 pub raw_sized_act : (f : Profile) (line k room : ℕ) (block : Name) → IsThread f k → StaysSameWhere HasUsableBlocks f (Act.Operates (record { line = line; actor = k; what = RawSized room block }))
-raw_sized_act f line k room block is p p' w usable taken = entry_any f k p p' w is taken.valid taken.before taken.after taken.same usable taken.advances.0 taken.advances.1.1 taken.advances.2 (sized_entry block room) taken.advances.1.0
+raw_sized_act f line k room block is p p' w usable taken =
+    entry_any f k p p' w is taken.listed taken.valid taken.before taken.after taken.same usable taken.advances.0 taken.advances.1.1 taken.advances.2
+    (sized_entry block room) taken.advances.1.0
 
 pub free_act : (f : Profile) (line k name : ℕ) → IsThread f k → StaysSameWhere HasUsableBlocks f (Act.Operates (record { line = line; actor = k; what = Free name }))
-free_act f line k name is p p' w usable taken = name_any f k p p' w is taken.valid taken.before taken.after taken.same usable taken.advances.0 taken.advances.1.1 taken.advances.2 name None taken.advances.1.0
+free_act f line k name is p p' w usable taken =
+    name_any f k p p' w is taken.listed taken.valid taken.before taken.after taken.same usable taken.advances.0 taken.advances.1.1 taken.advances.2 name None
+    taken.advances.1.0
 
 pub free_sized_act : (f : Profile) (line k name room : ℕ) → IsThread f k → StaysSameWhere HasUsableBlocks f (Act.Operates (record { line = line; actor = k; what = FreeSized name room }))
-free_sized_act f line k name room is p p' w usable taken = name_any f k p p' w is taken.valid taken.before taken.after taken.same usable taken.advances.0 taken.advances.1.1 taken.advances.2 name (Some room) taken.advances.1.0
+free_sized_act f line k name room is p p' w usable taken =
+    name_any f k p p' w is taken.listed taken.valid taken.before taken.after taken.same usable taken.advances.0 taken.advances.1.1 taken.advances.2 name
+    (Some room) taken.advances.1.0
 
 -- ---- reallocations that do nothing
 named_same : (f : Profile) (k name : ℕ) (o : Option Block) (said : TheSaid) (p : Progress) (w : World) → IsSame f p w → IsSame f (after_with p k [] (Some said) (named name o ∷ p.names) (p.caches k)) (names_it name o (says (Record.Said k said) w))

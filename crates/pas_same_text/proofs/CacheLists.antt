@@ -64,15 +64,17 @@ same_own caches k c = ap (λ (b : Bool). if b then c else caches k) (eq-eqb k k 
 same_other : (caches : Caches) (j k : ℕ) (c : Cached) → j ≢ k → with_cached caches k c j ≡ caches j
 same_other caches j k c ne = ap (λ (b : Bool). if b then c else caches j) (ne_eqb j k ne)
 
-each_with : (f : Profile) (caches : Caches) (own : List Cache) (j k : ℕ) (c : Cached) (new : Cache) → IsThread f j → IsThread f k → AreSameCaches f caches own → IsSameCache c new → (t : Bool) → (j == k) ≡ t
+each_with : (f : Profile) (caches : Caches) (own : List Cache) (j k : ℕ) (c : Cached) (new : Cache) → IsThread f j → IsThread f k → k ≤ length own
+    → AreSameCaches f caches own → IsSameCache c new → (t : Bool) → (j == k) ≡ t
     → IsSameCache (with_cached caches k c j) (cache_in (with_cache own k new) j)
-each_with f caches own j k c new is of same new_same true e = search (arith, same_own, own_with, eqb-true)
-each_with f caches own j k c new is of same new_same false e = search (arith, eqb-false, same_other, other_with)
+each_with f caches own j k c new is of listed same new_same true e = search (arith, same_own, own_with, eqb-true)
+each_with f caches own j k c new is of listed same new_same false e = search (arith, eqb-false, same_other, other_with)
 
-pub same_with : (f : Profile) (caches : Caches) (own : List Cache) (k : ℕ) (c : Cached) (new : Cache) → IsThread f k → AreSameCaches f caches own → IsSameCache c new → AreSameCaches f (with_cached caches k c) (with_cache own k new)
-same_with f caches own k c new of same new_same = record {
-  many = many_with own k new ∙ same.many;
-  each = λ j is. each_with f caches own j k c new is of same new_same (j == k) refl;
+pub same_with : (f : Profile) (caches : Caches) (own : List Cache) (k : ℕ) (c : Cached) (new : Cache) → IsThread f k → k ≤ length own
+    → AreSameCaches f caches own → IsSameCache c new → AreSameCaches f (with_cached caches k c) (with_cache own k new)
+same_with f caches own k c new of listed same new_same = record {
+  few = omega (arith, many_with own k new, same.few);
+  each = λ j is. each_with f caches own j k c new is of listed same new_same (j == k) refl;
 }
 
 -- one that became what it was

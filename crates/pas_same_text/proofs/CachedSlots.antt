@@ -1,6 +1,6 @@
 -- A request of a class for which the thread's cache has a slot.
-use Rattle.std.proofs.Common.{◌≡◌, ℕ, ◌+◌, ◌*◌, ◌<◌, ◌==◌, Bool, true, false, not, ◌&&◌, if◌then◌else◌, List, [], ◌∷◌, ◌++◌, Option, None, Some, Result, Ok}
-use Rattle.std.proofs.Common.{Err, inl, inr, refl, ap, sym, ◌∙◌, subst, arith, append-nil, eqb-true}
+use Rattle.std.proofs.Common.{◌≤◌, length, ◌≡◌, ℕ, ◌+◌, ◌*◌, ◌<◌, ◌==◌, Bool, true, false, not, ◌&&◌, if◌then◌else◌, List, [], ◌∷◌, ◌++◌, Option, None, Some}
+use Rattle.std.proofs.Common.{Result, Ok, Err, inl, inr, refl, ap, sym, ◌∙◌, subst, arith, append-nil, eqb-true}
 use Rattle.std.proofs.lemmas.{Bool.false≢true, Option.same_Some, Option.none-some}
 use Rattle.std.specs.List.{find}
 use Rattle.pas_bits.specs.Masks.{HasMember, IsLowestSet}
@@ -69,6 +69,7 @@ text_locals w k l more = others l.heap l.class (locals_of w k) ++ record l { slo
 pub record Given (f : Profile) (k name : ℕ) (p : Progress) (w : World) (s s' : Slots) (l : Local) (n : ℕ) (more : List ℕ) (block : Block) (answer page start word : ℕ) (c' : Cached) : Type 0 where
   valid : IsValid f
   thread : IsThread f k
+  listed : k ≤ length w.caches
   same : IsSame f p w
   between : IsBetween f p
   after : IsBetween f (given_to p k name block answer page start word c')
@@ -110,7 +111,7 @@ module _ (f : Profile) (k name : ℕ) (p : Progress) (w : World) (s s' : Slots) 
   has_same = record {
     events = ap (λ (b : Block). Event.Give k b ∷ w.events) (sym block_is) ∙ ap (λ (es : List Event). Event.Give k block ∷ es) g.same.pages.events;
     live = ap (λ (bs : List Block). text_block w l n ∷ bs) g.same.pages.live;
-    caches = same_with f p.caches w.caches k c' (record (cache_of w k) { locals = text_locals w k l more }) g.thread g.same.caches cache_same;
+    caches = same_with f p.caches w.caches k c' (record (cache_of w k) { locals = text_locals w k l more }) g.thread g.listed g.same.caches cache_same;
     guards = g.same.guards;
   }
 
@@ -175,9 +176,10 @@ pub record Served (f : Profile) (k name heap class : ℕ) (p p' : Progress) (w :
   cache_is : cache ≡ record (p.caches k) { locals = others_than heap class (p.caches k).locals ++ rest ∷ [] }
   after : p' ≡ after_with p k steps None (named name (Some block) ∷ p.names) cache
 
-to_given : (f : Profile) (k name heap class : ℕ) (p p' : Progress) (w : World) (s : Slots) → IsValid f → IsThread f k → IsBetween f p → IsBetween f p' → IsSame f p w → local_for heap class (p.caches k).locals ≡ Some s → HasMember s.starts
+to_given : (f : Profile) (k name heap class : ℕ) (p p' : Progress) (w : World) (s : Slots) → IsValid f → IsThread f k → k ≤ length w.caches → IsBetween f p
+    → IsBetween f p' → IsSame f p w → local_for heap class (p.caches k).locals ≡ Some s → HasMember s.starts
     → Served f k name heap class p p' w s → IsSame f p' (serves_class f k name heap class w)
-to_given f k name heap class p p' w s valid is between after same there member o =
+to_given f k name heap class p p' w s valid is listed between after same there member o =
     let found : Finds s (find (is_for heap class) (locals_of w k)) = found_same heap class (p.caches k).locals (locals_of w k) s (same.caches.each k is).locals there in
     let l : Local = found.local in
     let h : HasHead l.slots = head_of l.slots member.0 (found.same.slots member.0 ∙ member.2) in
@@ -228,16 +230,18 @@ module _ (f : Profile) (k name heap size align class : ℕ) (p p' : Progress) (w
   served_by sv h = search (arith, not_fetched, ends_of, same_slots)
 
 -- ANY REQUEST OF A CLASS for which a slot is cached
-pub cached_answered : (f : Profile) (k name heap size align class : ℕ) (p p' : Progress) (w : World) → IsThread f k → route_in f size align ≡ Route.Class class → IsValid f → IsBetween f p → IsBetween f p' → IsSame f p w → HasCachedSlot heap class k p
+pub cached_answered : (f : Profile) (k name heap size align class : ℕ) (p p' : Progress) (w : World) → IsThread f k → k ≤ length w.caches
+    → route_in f size align ≡ Route.Class class → IsValid f → IsBetween f p → IsBetween f p' → IsSame f p w → HasCachedSlot heap class k p
     → (a : Answer) → IsServed f k (record { name = name; heap = heap; size = size; align = align }) (having p.names (part k p.list) (p.caches k)) a → p' ≡ after_answer p k a → IsSame f p' (serves f k name heap (route_in f size align) (room_in f size align) align w)
-cached_answered f k name heap size align class p p' w is route valid before after same has a served reached =
+cached_answered f k name heap size align class p p' w is listed route valid before after same has a served reached =
     let sv : ServesClass (filling_in (directory_for f heap size align) class) f (p.caches k) a.cache a.steps served.answer =
     subst (λ (r : Route). ServesBy r f (wanted_for f heap size align) a.found (p.caches k) a.cache a.steps served.answer) route served.serves in
     let o : Served f k name heap class p p' w has.0 = served_by f k name heap size align class p p' w has.0 has.1 has.2 a served reached sv sv.locals.obtained in
     subst (λ (r : Route). IsSame f p' (serves f k name heap r (room_in f size align) align w)) (sym route)
-    (to_given f k name heap class p p' w has.0 valid is before after same has.1 has.2 o)
+    (to_given f k name heap class p p' w has.0 valid is listed before after same has.1 has.2 o)
 
 pub cached_same : (f : Profile) (line k name heap size align class : ℕ) → IsThread f k → route_in f size align ≡ Route.Class class
     → StaysSameWhere (HasCachedSlot heap class k) f (Act.Operates (record { line = line; actor = k; what = Alloc name heap size align }))
 cached_same f line k name heap size align class is route p p' w has taken =
-    cached_answered f k name heap size align class p p' w is route taken.valid taken.before taken.after taken.same has taken.advances.0 taken.advances.1 taken.advances.2
+    cached_answered f k name heap size align class p p' w is taken.listed route taken.valid taken.before taken.after taken.same has taken.advances.0
+    taken.advances.1 taken.advances.2

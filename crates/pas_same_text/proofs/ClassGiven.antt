@@ -1,7 +1,7 @@
 -- A REQUEST OF A CLASS THAT A PAGE SERVES, where the cache has place for a local allocator: the page that was searched for gets a deed and memory where it has none, its
 -- slots are taken, the lowest of them is given, and the others are cached.
-use Rattle.std.proofs.Common.{◌≡◌, ◌≢◌, ℕ, ◌+◌, ◌*◌, ◌/◌, ◌%◌, ◌<◌, ◌≤◌, ◌==◌, Bool, true, false, not, ◌&&◌, if◌then◌else◌, List, [], ◌∷◌, ◌++◌, None, Some}
-use Rattle.std.proofs.Common.{Result, Ok, ◌⊎◌, inl, inr, refl, ap, sym, ◌∙◌, subst, append_assoc, arith, append-nil, true≢false, eq-eqb, eqb-true}
+use Rattle.std.proofs.Common.{length, ◌≡◌, ◌≢◌, ℕ, ◌+◌, ◌*◌, ◌/◌, ◌%◌, ◌<◌, ◌≤◌, ◌==◌, Bool, true, false, not, ◌&&◌, if◌then◌else◌, List, [], ◌∷◌, ◌++◌, None}
+use Rattle.std.proofs.Common.{Some, Result, Ok, ◌⊎◌, inl, inr, refl, ap, sym, ◌∙◌, subst, append_assoc, arith, append-nil, true≢false, eq-eqb, eqb-true}
 use Rattle.std.proofs.lemmas.Bool.{false≢true, or_cases, or_left, or_right, false_from_ne_true}
 use Rattle.pas_bits.specs.Masks.{is_set}
 use Rattle.pas_profile.specs.{Blocks.address_of, Blocks.grain_of, Blocks.length_of, Classes.class_size, Classes.class_grains, Classes.IsSlotStart}
@@ -31,7 +31,7 @@ use Rattle.pas_segregated.proofs.Starts.{start_at}
 use Rattle.pas_cache.specs.{Changes.GivesSlot, Contents.Cached, Kinds.allocating, Serves.filling_in, Serves.took_in, Serves.IsRefill}
 use Rattle.pas_report.specs.declared.record.Record.{Record}
 use Rattle.pas_answers.specs.Answers.{Progress, Named, named, records_of}
-use Rattle.pas_one_text.specs.State.{World, Local, cache_of, locals_of}
+use Rattle.pas_one_text.specs.State.{Cache, World, Local, cache_of, locals_of}
 use Rattle.pas_partial.specs.Rows.{IsFreeSlot}
 use Rattle.pas_one_text.specs.Pages.{is_free, is_guarded, is_offered}
 use Rattle.pas_one_text.specs.Searches.{some_of, searched, readies, address_on}
@@ -296,6 +296,9 @@ module _ (f : Profile) (k name heap class : ℕ) (p : Progress) (w : World) (has
   caches_shown : AreSameCaches f p.caches (shown es w).caches
   caches_shown = subst (AreSameCaches f p.caches) (sym (shown_rest es w).caches) has.same.caches
 
+  listed_then : k ≤ length (shown es w).caches
+  listed_then = omega (arith, has.listed, ap (λ (cs : List Cache). length cs) (shown_rest es w).caches)
+
   locals_same : AreSameLocals new.locals (text_locals (shown es w) k local more)
   locals_same = last_same c.locals (others heap class (locals_of (shown es w) k)) rest (record local { slots = more })
       (subst (λ (ss : List Slots). AreSameLocals ss (others heap class (locals_of (shown es w) k))) (all_left heap class c.locals has.none) (others_same heap class c.locals (locals_of (shown es w) k) (caches_shown.each k has.thread).locals)) slot.1
@@ -307,7 +310,8 @@ module _ (f : Profile) (k name heap class : ℕ) (p : Progress) (w : World) (has
   same_now = record {
     events = ap (λ (b : Block). Event.Give k b ∷ (shown es w).events) (sym block_is) ∙ (ap (λ (xs : List Event). Event.Give k block ∷ xs) (shown_events es w ∙ ap (λ (before : List Event). es ++ before) has.same.pages.events) ∙ sym visible_are);
     live = ap (λ (bs : List Block). told ∷ bs) (shown_lives es w has.same.pages.live);
-    caches = same_with f p.caches (shown es w).caches k new (record (cache_of (shown es w) k) { locals = text_locals (shown es w) k local more }) has.thread caches_shown cache_same;
+    caches = same_with f p.caches (shown es w).caches k new (record (cache_of (shown es w) k) { locals = text_locals (shown es w) k local more }) has.thread
+        listed_then caches_shown cache_same;
     guards = guards_as p.books w v (shown_rest es w).guards has.same.guards;
   }
 

@@ -1,5 +1,5 @@
 -- A REQUEST OF A CLASS, whatever the thread's cache has: a cached slot is given, or place is made and slots are fetched, of which one is given, or the request is refused.
-use Rattle.std.proofs.Common.{arith, ◌≡◌, ℕ, List, [], ◌∷◌, ◌++◌, Option, None, Some, Result, Ok, Err, inl, inr, refl, ap, sym, ◌∙◌, subst}
+use Rattle.std.proofs.Common.{◌≤◌, length, arith, ◌≡◌, ℕ, List, [], ◌∷◌, ◌++◌, Option, None, Some, Result, Ok, Err, inl, inr, refl, ap, sym, ◌∙◌, subst}
 use Rattle.pas_profile.specs.{Profiles.IsValid, Profiles.IsAdmitted, Requests.class_home, Requests.route_in, Requests.room_in}
 use Rattle.pas_profile.specs.declared.{directory.Directory.Directory, directory.Route.Route, event.NoRoom.NoRoom, name.Block.Block, profile.Profile.Profile}
 use Rattle.pas_steps.specs.Lists.{part}
@@ -17,7 +17,9 @@ use Rattle.pas_same_text.proofs.{CacheLists.same_own, CachedSlots.cached_answere
 use Rattle.pas_same_text.proofs.{OneUp.up_to, RefusedClasses.class_served_by, RefusedClasses.fetched_so, RefusedClasses.class_refused}
 use Rattle.pas_same_text.proofs.FetchedClasses.{IsFetched, with_place, place_fetched, text_fetched, fetch_between, fetch_carried}
 
-module _ (f : Profile) (k name heap size align class : ℕ) (p p' : Progress) (w : World) (thread : IsThread f k) (admitted : IsAdmitted f size align heap) (route : route_in f size align ≡ Route.Class class) (valid : IsValid f) (before : IsBetween f p) (after : IsBetween f p') (same : IsSame f p w)
+module _ (f : Profile) (k name heap size align class : ℕ) (p p' : Progress) (w : World) (thread : IsThread f k) (listed : k ≤ length w.caches)
+    (admitted : IsAdmitted f size align heap) (route : route_in f size align ≡ Route.Class class) (valid : IsValid f) (before : IsBetween f p)
+    (after : IsBetween f p') (same : IsSame f p w)
     (a : Answer) (served : IsServed f k (record { name = name; heap = heap; size = size; align = align }) (having p.names (part k p.list) (p.caches k)) a) (reached : p' ≡ after_answer p k a) where
   abbrev c : Cached
   c = p.caches k
@@ -67,11 +69,13 @@ module _ (f : Profile) (k name heap size align class : ℕ) (p p' : Progress) (w
 
   -- ---- a block was given
   from_slots : (block : Block) → served.answer ≡ Ok block → (slots : Slots) (fewer : List Slots) (early given : List Made) → a.steps ≡ given ++ early → IsObtained (filling_in home class) f c.locals fewer early (Ok slots) → IsAnswered fewer a.cache.locals given (Ok slots) (Ok block) → IsSame f p' asked
-  from_slots block is slots fewer early given steps_are (inl t) ends = cached_answered f k name heap size align class p p' w thread route valid before after same (t.0, t.2.cached, t.2.some) a served reached
+  from_slots block is slots fewer early given steps_are (inl t) ends =
+      cached_answered f k name heap size align class p p' w thread listed route valid before after same (t.0, t.2.cached, t.2.some) a served reached
   from_slots block is slots fewer early given steps_are (inr fetch) ends =
       subst (λ (r : Route). IsSame f p' (serves f k name heap r (room_in f size align) align w)) (sym route)
       (given_so block is slots ends.0 fewer early given steps_are ends.1 (by_class.cache ∙ ap (λ (ss : List Slots). record c { locals = ss }) ends.2)
-      (fetched_so f k name heap size align class p p' w thread admitted route valid before after same a served reached (Ok slots) fewer early given steps_are fetch))
+      (fetched_so f k name heap size align class p p' w thread listed admitted route valid before after same a served reached
+      (Ok slots) fewer early given steps_are fetch))
 
   from_found : (block : Block) → served.answer ≡ Ok block → (found : Result Slots NoRoom) (fewer : List Slots) (early given : List Made) → a.steps ≡ given ++ early → IsObtained (filling_in home class) f c.locals fewer early found → IsAnswered fewer a.cache.locals given found (Ok block) → IsSame f p' asked
   from_found block is (Ok slots) fewer early given steps_are how ends = from_slots block is slots fewer early given steps_are how ends
@@ -81,11 +85,12 @@ module _ (f : Profile) (k name heap size align class : ℕ) (p p' : Progress) (w
   answered (Ok block) is =
       from_found block is by_class.locals.found by_class.locals.fewer by_class.locals.before by_class.locals.given by_class.locals.steps_are by_class.locals.obtained
       (subst (IsAnswered by_class.locals.fewer a.cache.locals by_class.locals.given by_class.locals.found) is by_class.locals.ends)
-  answered (Err room) is = class_refused f k name heap size align class p p' w thread admitted route valid before after same a served reached room is
+  answered (Err room) is = class_refused f k name heap size align class p p' w thread listed admitted route valid before after same a served reached room is
 
   pub class_answered : IsSame f p' (serves f k name heap (route_in f size align) (room_in f size align) align w)
   class_answered = answered served.answer refl
 
 pub class_same : (f : Profile) (line k name heap size align class : ℕ) → IsThread f k → IsAdmitted f size align heap → route_in f size align ≡ Route.Class class → StaysSame f (Act.Operates (record { line = line; actor = k; what = Alloc name heap size align }))
 class_same f line k name heap size align class thread admitted route p p' w taken =
-    class_answered f k name heap size align class p p' w thread admitted route taken.valid taken.before taken.after taken.same taken.advances.0 taken.advances.1 taken.advances.2
+    class_answered f k name heap size align class p p' w thread taken.listed admitted route taken.valid taken.before taken.after taken.same taken.advances.0
+    taken.advances.1 taken.advances.2

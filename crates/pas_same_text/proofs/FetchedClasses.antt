@@ -28,7 +28,8 @@ use Rattle.pas_one_text.specs.Classes.{is_for, fetches, gives_first, gives_up, s
 use Rattle.pas_same_text.specs.Same.{IsSame, IsSameLocal, AreSameLocals, ArePagesSame, has_number}
 use Rattle.pas_same_text.specs.Acts.{AreResting, IsBetween}
 use Rattle.pas_same_text.proofs.{CacheLists.same_own, CacheLists.same_again, LoggedFrees.after_with, MiddleRest.cached_again, MiddleRest.middle_rest}
-use Rattle.pas_same_text.proofs.{OneUp.up_to, SameLocals.Finds, SameLocals.found_same, Tests.and_first, Tests.and_second}
+use Rattle.pas_same_text.proofs.{OneUp.up_to, SameLocals.Finds, SameLocals.found_same, Tests.and_first, Tests.and_second, StillIndexes.same_many}
+use Rattle.pas_same_text.proofs.{StillIndexes.given_up_keeps, StillIndexes.first_up_keeps}
 use Rattle.pas_same_text.proofs.MadePlace.{placed_by, place_made, none_same, most_left, known_found}
 
 -- the text once place was made for a local allocator of the heap and class
@@ -39,6 +40,7 @@ with_place k heap class w = placed_by k (find (is_for heap class) (locals_of w k
 pub record HasPlace (f : Profile) (k heap class : ℕ) (p : Progress) (w : World) : Type 0 where
   pub valid : IsValid f
   pub thread : IsThread f k
+  pub listed : k ≤ length w.caches
   pub directory : IsDirectoryOf f (class_home f heap class)
   pub known : IsClass class
   pub between : IsBetween f p
@@ -51,6 +53,7 @@ pub record HasPlace (f : Profile) (k heap class : ℕ) (p : Progress) (w : World
 pub record IsFetched (f : Profile) (k heap class : ℕ) (p : Progress) (w : World) (found : Result Slots NoRoom) (fewer : List Slots) (steps : List Made) : Type 0 where
   pub valid : IsValid f
   pub thread : IsThread f k
+  pub listed : k ≤ length w.caches
   pub directory : IsDirectoryOf f (class_home f heap class)
   pub known : IsClass class
   pub before : IsBetween f p
@@ -167,12 +170,17 @@ module _ (f : Profile) (k heap class : ℕ) (p : Progress) (w : World) (found : 
   own_is = same_own p.caches k c1
 
   placed : IsSame f p1 w1
-  placed = place_made f k heap class p w fewer xs o.valid o.thread o.before o.same o.fetch.place o.fetch.gives_back middle
+  placed = place_made f k heap class p w fewer xs o.valid o.thread o.listed o.before o.same o.fetch.place o.fetch.gives_back middle
+
+  many_placed : (x : Option Local) → length (placed_by k x w).caches ≡ length w.caches
+  many_placed None = same_many w (placed_by k None w) (first_up_keeps k (locals_of w k) w)
+  many_placed (Some l) = same_many w (placed_by k (Some l) w) (given_up_keeps k l w)
 
   pub place_fetched : HasPlace f k heap class p1 w1
   place_fetched = record {
     valid = o.valid;
     thread = o.thread;
+    listed = omega (arith, o.listed, many_placed (find (is_for heap class) (locals_of w k)));
     directory = o.directory;
     known = o.known;
     between = middle;

@@ -1,6 +1,6 @@
 -- FLUSHES as acts: all entries of a log take effect.
-use Rattle.std.proofs.Common.{◌≡◌, ℕ, ◌+◌, ◌*◌, ◌/◌, ◌%◌, ◌<◌, ◌==◌, Bool, true, false, if◌then◌else◌, List, [], ◌∷◌, ◌++◌, map, reverse, Some, refl, ap, sym}
-use Rattle.std.proofs.Common.{◌∙◌, subst, arith, true≢false, eqb-true}
+use Rattle.std.proofs.Common.{◌≤◌, length, ◌≡◌, ℕ, ◌+◌, ◌*◌, ◌/◌, ◌%◌, ◌<◌, ◌==◌, Bool, true, false, if◌then◌else◌, List, [], ◌∷◌, ◌++◌, map, reverse, Some}
+use Rattle.std.proofs.Common.{refl, ap, sym, ◌∙◌, subst, arith, true≢false, eqb-true}
 use Rattle.std.proofs.lemmas.{Bool.eqb-false, Grind.reverse_onto, List.reverse-append, Option.none-some}
 use Rattle.pas_bits.proofs.Runs.{IsMet, met}
 use Rattle.pas_profile.specs.{Blocks.length_of, Profiles.IsValid, Profiles.IsPage, Profiles.IsDirectoryOf}
@@ -46,7 +46,8 @@ events_recorded rs ws vs es is more =
     ∙ (sym (reverse-append (map Record.Event es) ws) ∙ ap reverse (sym more)))
 
 -- ---- the whole flush
-module _ (f : Profile) (k : ℕ) (p : Progress) (w : World) (steps : List Made) (noted' : List EndedRun) (valid : IsValid f) (thread : IsThread f k) (same : IsSame f p w) (legal : Legal f (triples k steps ++ p.list))
+module _ (f : Profile) (k : ℕ) (p : Progress) (w : World) (steps : List Made) (noted' : List EndedRun) (valid : IsValid f) (thread : IsThread f k)
+    (listed : k ≤ length w.caches) (same : IsSame f p w) (legal : Legal f (triples k steps ++ p.list))
     (h : EmptiesLog k (p.caches k).log (p.caches k).noted noted' steps) where
   abbrev look : Made
   look = made (Look Word.Epoch) h.epoch
@@ -64,8 +65,8 @@ module _ (f : Profile) (k : ℕ) (p : Progress) (w : World) (steps : List Made) 
   flush_to =
       subst (λ (v : World). IsFlushedTo f k h.epoch p.list w (p.caches k) p.caches h.settled steps v) (sym text)
       (subst (λ (ms : List Made). IsFlushedTo f k h.epoch p.list w (p.caches k) p.caches h.settled ms (each (ends f k) (reverse (map (λ (s : Settled). s.entry) h.settled)) (set_log k [] w))) (sym h.steps_are)
-      (flushed_all f k h.epoch p.list w (p.caches k) p.caches valid thread now h.settled h.entries h.order all_legal
-      (flushed_start f k h.epoch p.list w (p.caches k) p.caches valid thread now same.pages.events same.pages.live same.caches refl)))
+      (flushed_all f k h.epoch p.list w (p.caches k) p.caches valid thread listed now h.settled h.entries h.order all_legal
+      (flushed_start f k h.epoch p.list w (p.caches k) p.caches valid thread listed now same.pages.events same.pages.live same.caches refl)))
 
   pub flush_records : (flushes f k w).records ≡ map Record.Event (events_by k (part k p.list) steps) ++ w.records
   flush_records = flush_to.records ∙ ap (λ (es : List Event). map Record.Event es ++ w.records) (sym (h.events (part k p.list)))
@@ -109,7 +110,8 @@ module _ (f : Profile) (p p' : Progress) (w v : World) (pages : List ℕ) (valid
               true≢false (sym of_it ∙ live_apart f w.events run o.address a o.block b o.lived was (eqb-false o.address a e) g of_own)
 
 -- ---- the act
-module _ (f : Profile) (k : ℕ) (p : Progress) (w : World) (steps : List Made) (c' : Cached) (valid : IsValid f) (thread : IsThread f k) (before : IsBetween f p) (same : IsSame f p w) (usable : AreBlocksUsable (visible p.list))
+module _ (f : Profile) (k : ℕ) (p : Progress) (w : World) (steps : List Made) (c' : Cached) (valid : IsValid f) (thread : IsThread f k)
+    (listed : k ≤ length w.caches) (before : IsBetween f p) (same : IsSame f p w) (usable : AreBlocksUsable (visible p.list))
     (h : EmptiesLog k (p.caches k).log (p.caches k).noted c'.noted steps) (cache : c' ≡ record (p.caches k) { log = []; noted = c'.noted }) (after : IsBetween f (with_steps p k steps c')) where
   abbrev v : World
   v = flushes f k w
@@ -118,7 +120,7 @@ module _ (f : Profile) (k : ℕ) (p : Progress) (w : World) (steps : List Made) 
   legal = after.legal
 
   to : IsFlushedTo f k h.epoch p.list w (p.caches k) p.caches h.settled steps v
-  to = flush_to f k p w steps c'.noted valid thread same legal h
+  to = flush_to f k p w steps c'.noted valid thread listed same legal h
 
   cache_is : record (p.caches k) { log = []; noted = noted_after (p.caches k).noted h.settled } ≡ c'
   cache_is = ap (λ (ns : List EndedRun). record (p.caches k) { log = []; noted = ns }) (sym h.noted_are) ∙ sym cache
@@ -160,7 +162,8 @@ module _ (f : Profile) (k : ℕ) (p : Progress) (w : World) (steps : List Made) 
     caches = flush_has.caches;
     guards = flush_has.guards;
     names = to.names ∙ same.names;
-    records = events_recorded p.records w.records v.records (events_by k (part k p.list) steps) same.records (flush_records f k p w steps c'.noted valid thread same legal h);
+    records = events_recorded p.records w.records v.records (events_by k (part k p.list) steps) same.records
+        (flush_records f k p w steps c'.noted valid thread listed same legal h);
     epoch = to.epoch ∙ (same.epoch ∙ sym (epoch_stays_by freeing refl k steps p.list to.kinds));
     read = to.read ∙ same.read;
   }

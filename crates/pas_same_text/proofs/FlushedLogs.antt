@@ -29,7 +29,7 @@ use Rattle.pas_one_text.specs.Frees.{ends, ends_block, is_other_room, rejects, p
 use Rattle.pas_one_text.specs.Pages.{page_numbers}
 use Rattle.pas_same_text.specs.Entries.{IsShown}
 use Rattle.pas_same_text.specs.Same.{AreSameCaches, IsSameCache, lives_in, has_number}
-use Rattle.pas_same_text.proofs.CacheLists.{all_locals, locals_with, same_with, same_own, same_again, with_own}
+use Rattle.pas_same_text.proofs.CacheLists.{all_locals, many_with, locals_with, same_with, same_own, same_again, with_own}
 use Rattle.pas_same_text.proofs.EndedBlocks.{rejected_returns, ended_returns, ended_caches, ended_locals, noted_then}
 use Rattle.pas_same_text.proofs.EntryEvents.{reject_text, end_text, reject_shown, end_shown}
 use Rattle.pas_same_text.proofs.EntrySteps.{IsEndOfBlock, found_block, block_marked, name_same, entry_kinds, entry_events, entry_hints, after_marked}
@@ -127,6 +127,7 @@ pub record IsFlushedTo (f : Profile) (k e : ℕ) (l : Whole) (w : World) (c : Ca
   pub indexes : v.indexes ≡ w.indexes
   pub locals : all_locals v.caches ≡ all_locals w.caches
   pub same : AreSameCaches f (with_cached caches k (record c { log = []; noted = noted_after c.noted settled })) v.caches
+  pub many : length v.caches ≡ length w.caches
   pub pages : List ℕ
   pub returns : Returns f pages w v
   pub fewer : OnlyFewer w.events v.events
@@ -279,7 +280,8 @@ ended_since es fs gs ps qs q fewer o = record {
   minded = has_both ps qs q ∙ or_right (has_number ps q) (has_number qs q) o.minded;
 }
 
-module _ (f : Profile) (k epoch : ℕ) (l : Whole) (w : World) (c : Cached) (caches : Caches) (valid : IsValid f) (thread : IsThread f k) (now : w.epoch ≡ epoch) where
+module _ (f : Profile) (k epoch : ℕ) (l : Whole) (w : World) (c : Cached) (caches : Caches) (valid : IsValid f) (thread : IsThread f k)
+    (listed : k ≤ length w.caches) (now : w.epoch ≡ epoch) where
   next_flushed : (s : Settled) (settled : List Settled) (piece steps : List Made) (v : World) → Legal f (triples k piece ++ (triples k steps ++ l)) → EntrySteps s piece → IsFlushedTo f k epoch l w c caches settled steps v
       → IsFlushedTo f k epoch l w c caches (s ∷ settled) (piece ++ steps) (ends f k s.entry v)
   next_flushed s settled piece steps v legal is was =
@@ -307,7 +309,10 @@ module _ (f : Profile) (k epoch : ℕ) (l : Whole) (w : World) (c : Cached) (cac
         read = shown.read ∙ was.read;
         indexes = shown.indexes ∙ was.indexes;
         locals = taken.locals ∙ was.locals;
-        same = same_again f caches x.caches k own new (subst (AreSameCaches f (with_cached (with_cached caches k own) k new)) (sym taken.caches) (same_with f (with_cached caches k own) v.caches k new (own_then s v k) thread was.same new_same));
+        same = same_again f caches x.caches k own new
+            (subst (AreSameCaches f (with_cached (with_cached caches k own) k new)) (sym taken.caches)
+            (same_with f (with_cached caches k own) v.caches k new (own_then s v k) thread (omega (arith, listed, was.many)) was.same new_same));
+        many = ap (λ (cs : List Cache). length cs) taken.caches ∙ (many_with v.caches k (own_then s v k) ∙ was.many);
         pages = was.pages ++ taken.pages;
         returns = returns_then f was.pages taken.pages w v x was.returns taken.returns;
         fewer = fewer_then w.events v.events x.events was.fewer less;
@@ -337,8 +342,9 @@ module _ (f : Profile) (k epoch : ℕ) (l : Whole) (w : World) (c : Cached) (cac
         read = refl;
         indexes = refl;
         locals = locals;
-        same = same_with f caches w.caches k (record c { log = []; noted = noted_after c.noted [] }) new thread same
+        same = same_with f caches w.caches k (record c { log = []; noted = noted_after c.noted [] }) new thread listed same
             (record { locals = own.locals; log = refl; noted = own.noted ∙ sym (noted_start c.noted); began = own.began });
+        many = many_with w.caches k new;
         pages = [];
         returns = returns_like f [] w w (set_log k [] w) (returns_nothing f w) refl refl refl locals;
         fewer = record { lives = λ a b h. h; deeds = λ page. refl };

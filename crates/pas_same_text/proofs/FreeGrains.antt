@@ -103,8 +103,8 @@ module _ (f : Profile) (p : Progress) (w : World) (valid : IsValid f) (between :
       (λ zero. false≢true (sym (between.rest.scavenger.rights page) ∙ (ap (λ (j : ℕ). has_right (part j p.list) page) (sym zero) ∙ h)))
       (λ past. false≢true (ap (λ (v : View). has_right v page) (sym (no_other_actor f p.list between.legal k past)) ∙ h))
 
-  thread_in : (cs : ℕ) (k : ℕ) → cs ≡ f.threads → 1 ≤ k → k ≤ cs → IsThread f k
-  thread_in cs k is some few = (some, omega (arith, is, few))
+  thread_in : (cs : ℕ) (k : ℕ) → cs ≤ f.threads → 1 ≤ k → k ≤ cs → IsThread f k
+  thread_in cs k fewer some few = (some, omega (arith, fewer, few))
 
   -- ---- live blocks
   live_is : w.live ≡ lives_in (visible p.list)
@@ -139,7 +139,7 @@ module _ (f : Profile) (p : Progress) (w : World) (valid : IsValid f) (between :
   cached_none : (page b : ℕ) → b < 256 → ((k : ℕ) → any_covers (p.caches k).locals (256 * page + b) ≡ true → IsThread f k → ⊥) → is_cached (locals_on w page) b ≡ false
   cached_none page b small nobody = false_from_ne_true (is_cached (locals_on w page) b) (λ h.
       let o : IsOfCache w.caches (has_grain page b) = of_cache w.caches (has_grain page b) (cached_any w.caches page b h) in
-      let is : IsThread f o.k = thread_in (length w.caches) o.k same.caches.many o.first o.last in
+      let is : IsThread f o.k = thread_in (length w.caches) o.k same.caches.few o.first o.last in
       nobody o.k (sym (cache_grains o.k page b small is) ∙ o.so) is)
 
   cached_some : (k page b : ℕ) → b < 256 → IsThread f k → any_covers (p.caches k).locals (256 * page + b) ≡ true → is_cached (locals_on w page) b ≡ true

@@ -37,7 +37,7 @@ module _ (f : Profile) (p : Progress) (w : World) (valid : IsValid f) (between :
   pub keeper : (page : ℕ) → is_kept w page ≡ true → (k : ℕ) × (has_right (part k p.list) page ≡ true)
   keeper page h =
       let o : IsOfCache w.caches (keeps_page page) = of_cache w.caches (keeps_page page) (any_filtered (λ l. l.keeps) (λ l. l.page == page) (all_locals w.caches) h) in
-      let is : IsThread f o.k = (o.first, omega (arith, o.last, same.caches.many)) in
+      let is : IsThread f o.k = (o.first, omega (arith, o.last, same.caches.few)) in
       (o.k, sym (cache_keeps o.k page is) ∙ o.so)
 
   pub kept_by : (k page : ℕ) → has_right (part k p.list) page ≡ true → is_kept w page ≡ true

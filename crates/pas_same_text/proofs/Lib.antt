@@ -49,6 +49,7 @@ pub mod AllActs
 mod SearchedPages
 mod Stamped
 mod StillIndexes
+mod ManyCaches
 mod SameIndexes
 mod SearchMarks
 mod SearchedMarks
@@ -88,9 +89,4 @@ mod PassOrder
 mod PassText
 mod PassActs
 pub mod TextOfBytes
-mod WiderCaches
-mod WiderFrees
-mod WiderRequests
-mod WiderActs
 mod ActsOfPlans
-pub mod WiderText

@@ -40,14 +40,15 @@ said_same f k said p w same = record {
 abbrev with_entry : Cached → Entry → Cached
 with_entry c entry = record c { log = c.log ++ entry ∷ []; noted = c.noted }
 
-added_same : (f : Profile) (k : ℕ) (entry : Entry) (p : Progress) (w : World) → IsThread f k → IsSame f p w → IsSame f (after_with p k [] None p.names (with_entry (p.caches k) entry)) (adds k entry w)
-added_same f k entry p w is same =
+added_same : (f : Profile) (k : ℕ) (entry : Entry) (p : Progress) (w : World) → IsThread f k → k ≤ length w.caches → IsSame f p w
+    → IsSame f (after_with p k [] None p.names (with_entry (p.caches k) entry)) (adds k entry w)
+added_same f k entry p w is listed same =
     let own : Cache = cache_of w k in
     let was : IsSameCache (p.caches k) own = same.caches.each k is in
     let new : Cache = record own { log = own.log ++ entry ∷ [] } in
     record {
       pages = pages_next f p.list p.list w (set_cache k new w) same.pages (unchanged p.list) (cache_state w k new refl);
-      caches = same_with f p.caches w.caches k (with_entry (p.caches k) entry) new is same.caches
+      caches = same_with f p.caches w.caches k (with_entry (p.caches k) entry) new is listed same.caches
           (record { locals = was.locals; log = ap (λ (es : List Entry). es ++ entry ∷ []) was.log; noted = was.noted; began = was.began });
       guards = same.guards;
       names = same.names;
@@ -93,14 +94,15 @@ room_is : (f : Profile) (k : ℕ) (entry : Entry) (p : Progress) (w : World) →
 room_is f k entry p w is same room = search (arith, same.caches.each)
 
 -- ---- the free
-logged_same : (f : Profile) (k : ℕ) (entry : Entry) (p : Progress) (w : World) (c' : Cached) (steps : List Made) → IsThread f k → IsSame f p w → nat_le 64 (length (p.caches k).log) ≡ false
+logged_same : (f : Profile) (k : ℕ) (entry : Entry) (p : Progress) (w : World) (c' : Cached) (steps : List Made) → IsThread f k → k ≤ length w.caches
+    → IsSame f p w → nat_le 64 (length (p.caches k).log) ≡ false
     → TakesEntry f k (p.caches k) c' entry steps → IsSame f (after_with p k steps None p.names c') (frees f k entry w)
-logged_same f k entry p w c' steps is same room takes =
+logged_same f k entry p w c' steps is listed same room takes =
     let to = logged_cache f k (p.caches k) c' entry steps room takes in
     let inside = page_inside f.pages (address_of entry.name) takes.region.page.0 takes.region.page.1 in
     let text : frees f k entry w ≡ adds k entry w =
     freed_is f k entry w true true inside (eq-eqb (address_of entry.name % 16) 0 takes.region.aligned) ∙ room_is f k entry p w is same room in
-    rw (text, to.0, to.1) (added_same f k entry p w is same)
+    rw (text, to.0, to.1) (added_same f k entry p w is listed same)
 
 refused_text : (f : Profile) (k : ℕ) (entry : Entry) (w : World) (c c' : Cached) (steps : List Made) (fault : FreeFault) → RefusesName f c c' entry.name steps fault → frees f k entry w ≡ refuses_free k entry.name fault w
 refused_text f k entry w c c' steps Outside refuses = freed_is f k entry w false (address_of entry.name % 16 == 0) (page_outside f.pages (address_of entry.name) refuses.fault_is) refl
@@ -113,26 +115,31 @@ refused_same f k entry p w c' steps fault same refuses =
     let name : Name = entry.name in
     rw (refused_text f k entry w (p.caches k) c' steps fault refuses, refuses.no_steps, refuses.cache) (said_same f k (said_of_fault name fault) p w same)
 
-pub freed_same : (f : Profile) (k : ℕ) (entry : Entry) (p : Progress) (w : World) (c' : Cached) (steps : List Made) (said : Option TheSaid) → IsThread f k → IsSame f p w → nat_le 64 (length (p.caches k).log) ≡ false
+pub freed_same : (f : Profile) (k : ℕ) (entry : Entry) (p : Progress) (w : World) (c' : Cached) (steps : List Made) (said : Option TheSaid) → IsThread f k
+    → k ≤ length w.caches → IsSame f p w → nat_le 64 (length (p.caches k).log) ≡ false
     → IsFreed f k (p.caches k) c' entry steps said → IsSame f (after_with p k steps said p.names c') (frees f k entry w)
-freed_same f k entry p w c' steps said is same room (inl t) =
-    subst (λ (s : Option TheSaid). IsSame f (after_with p k steps s p.names c') (frees f k entry w)) (sym t.1) (logged_same f k entry p w c' steps is same room t.0)
-freed_same f k entry p w c' steps said is same room (inr t) =
+freed_same f k entry p w c' steps said is listed same room (inl t) =
+    subst (λ (s : Option TheSaid). IsSame f (after_with p k steps s p.names c') (frees f k entry w)) (sym t.1)
+    (logged_same f k entry p w c' steps is listed same room t.0)
+freed_same f k entry p w c' steps said is listed same room (inr t) =
     subst (λ (s : Option TheSaid). IsSame f (after_with p k steps s p.names c') (frees f k entry w)) (sym t.2) (refused_same f k entry p w c' steps t.0 same t.1)
 
 -- ---- the act
-entry_same : (f : Profile) (k : ℕ) (entry : Entry) (p p' : Progress) (w : World) (a : Answer) → IsThread f k → IsSame f p w → HasLogRoom k p → IsFreed f k (p.caches k) a.cache entry a.steps a.said → a.names ≡ p.names → p' ≡ after_answer p k a
+entry_same : (f : Profile) (k : ℕ) (entry : Entry) (p p' : Progress) (w : World) (a : Answer) → IsThread f k → k ≤ length w.caches → IsSame f p w
+    → HasLogRoom k p → IsFreed f k (p.caches k) a.cache entry a.steps a.said → a.names ≡ p.names → p' ≡ after_answer p k a
     → IsSame f p' (frees f k entry w)
-entry_same f k entry p p' w a is same room freed names reached =
+entry_same f k entry p p' w a is listed same room freed names reached =
     let test : nat_le 64 (length (p.caches k).log) ≡ false = grind (arith, nat_tests, room) in
     rw (reached, names)
-    (freed_same f k entry p w a.cache a.steps a.said is same test freed)
+    (freed_same f k entry p w a.cache a.steps a.said is listed same test freed)
 
 pub raw_same : (f : Profile) (line k : ℕ) (block : Name) → IsThread f k → StaysSameWhere (HasLogRoom k) f (Act.Operates (record { line = line; actor = k; what = Raw block }))
-raw_same f line k block is p p' w room taken = entry_same f k (entry_of block) p p' w taken.advances.0 is taken.same room taken.advances.1.0 taken.advances.1.1 taken.advances.2
+raw_same f line k block is p p' w room taken =
+    entry_same f k (entry_of block) p p' w taken.advances.0 is taken.listed taken.same room taken.advances.1.0 taken.advances.1.1 taken.advances.2
 
 pub raw_sized_same : (f : Profile) (line k room : ℕ) (block : Name) → IsThread f k → StaysSameWhere (HasLogRoom k) f (Act.Operates (record { line = line; actor = k; what = RawSized room block }))
-raw_sized_same f line k size block is p p' w room taken = entry_same f k (sized_entry block size) p p' w taken.advances.0 is taken.same room taken.advances.1.0 taken.advances.1.1 taken.advances.2
+raw_sized_same f line k size block is p p' w room taken =
+    entry_same f k (sized_entry block size) p p' w taken.advances.0 is taken.listed taken.same room taken.advances.1.0 taken.advances.1.1 taken.advances.2
 
 -- ---- a free by a name of the trace
 pub skipped_same : (f : Profile) (k name : ℕ) (p : Progress) (w : World) (c' : Cached) (steps : List Made) (said : Option TheSaid) → IsSame f p w → steps ≡ [] → c' ≡ p.caches k → said ≡ Some (Said.Skipped name)
@@ -141,18 +148,23 @@ skipped_same f k name p w c' steps said same no_steps cache is =
     subst (λ (s : Option TheSaid). IsSame f (after_with p k steps s p.names c') (says (Record.Said k (Said.Skipped name)) w)) (sym is)
     (rw (no_steps, cache) (said_same f k (Said.Skipped name) p w same))
 
-freed_named : (f : Profile) (k name : ℕ) (size : Option ℕ) (p : Progress) (w : World) (c' : Cached) (steps : List Made) (said : Option TheSaid) → IsThread f k → IsSame f p w → nat_le 64 (length (p.caches k).log) ≡ false
+freed_named : (f : Profile) (k name : ℕ) (size : Option ℕ) (p : Progress) (w : World) (c' : Cached) (steps : List Made) (said : Option TheSaid)
+    → IsThread f k → k ≤ length w.caches → IsSame f p w → nat_le 64 (length (p.caches k).log) ≡ false
     → (meant : Option (Option Block)) → IsFreedBy f k (p.caches k) c' name size meant steps said → IsSame f (after_with p k steps said p.names c') (frees_what f k name (room_noted size) meant w)
-freed_named f k name size p w c' steps said is same room None freed = absurd freed
-freed_named f k name size p w c' steps said is same room (Some None) freed = skipped_same f k name p w c' steps said same freed.0 freed.1 freed.2
-freed_named f k name size p w c' steps said is same room (Some (Some block)) freed = freed_same f k (sized_entry block.name (room_noted size)) p w c' steps said is same room freed
+freed_named f k name size p w c' steps said is listed same room None freed = absurd freed
+freed_named f k name size p w c' steps said is listed same room (Some None) freed = skipped_same f k name p w c' steps said same freed.0 freed.1 freed.2
+freed_named f k name size p w c' steps said is listed same room (Some (Some block)) freed =
+    freed_same f k (sized_entry block.name (room_noted size)) p w c' steps said is listed same room freed
 
-by_name_same : (f : Profile) (k name : ℕ) (size : Option ℕ) (p p' : Progress) (w : World) (a : Answer) → IsThread f k → IsSame f p w → HasLogRoom k p → IsFreedBy f k (p.caches k) a.cache name size (standing_for p.names name) a.steps a.said → a.names ≡ p.names
+by_name_same : (f : Profile) (k name : ℕ) (size : Option ℕ) (p p' : Progress) (w : World) (a : Answer) → IsThread f k → k ≤ length w.caches → IsSame f p w
+    → HasLogRoom k p → IsFreedBy f k (p.caches k) a.cache name size (standing_for p.names name) a.steps a.said → a.names ≡ p.names
     → p' ≡ after_answer p k a → IsSame f p' (frees_named f k name (room_noted size) w)
-by_name_same f k name size p p' w a is same room freed names reached = search (arith, freed_named)
+by_name_same f k name size p p' w a is listed same room freed names reached = search (arith, freed_named)
 
 pub named_same : (f : Profile) (line k name : ℕ) → IsThread f k → StaysSameWhere (HasLogRoom k) f (Act.Operates (record { line = line; actor = k; what = Free name }))
-named_same f line k name is p p' w room taken = by_name_same f k name None p p' w taken.advances.0 is taken.same room taken.advances.1.0 taken.advances.1.1 taken.advances.2
+named_same f line k name is p p' w room taken =
+    by_name_same f k name None p p' w taken.advances.0 is taken.listed taken.same room taken.advances.1.0 taken.advances.1.1 taken.advances.2
 
 pub named_sized_same : (f : Profile) (line k name room : ℕ) → IsThread f k → StaysSameWhere (HasLogRoom k) f (Act.Operates (record { line = line; actor = k; what = FreeSized name room }))
-named_sized_same f line k name size is p p' w room taken = by_name_same f k name (Some size) p p' w taken.advances.0 is taken.same room taken.advances.1.0 taken.advances.1.1 taken.advances.2
+named_sized_same f line k name size is p p' w room taken =
+    by_name_same f k name (Some size) p p' w taken.advances.0 is taken.listed taken.same room taken.advances.1.0 taken.advances.1.1 taken.advances.2

@@ -98,7 +98,8 @@ placed_by k (Some l) w = gives_up k l w
 unmoved : (f : Profile) (k : ℕ) (p : Progress) (w : World) → IsSame f p w → IsSame f (up_to p k [] (p.caches k).locals) w
 unmoved f k p w same = record { pages = same.pages; caches = same_kept f p.caches w.caches k same.caches; guards = same.guards; names = same.names; records = same.records; epoch = same.epoch; read = same.read }
 
-module _ (f : Profile) (k : ℕ) (p : Progress) (w : World) (valid : IsValid f) (thread : IsThread f k) (before : IsBetween f p) (same : IsSame f p w) where
+module _ (f : Profile) (k : ℕ) (p : Progress) (w : World) (valid : IsValid f) (thread : IsThread f k) (listed : k ≤ length w.caches) (before : IsBetween f p)
+    (same : IsSame f p w) where
   -- ---- the oldest goes where the cache is full
   oldest_gone : (slots : List Slots) (ls : List Local) (fewer : List Slots) (steps : List Made) → (p.caches k).locals ≡ slots → locals_of w k ≡ ls → AreSameLocals slots ls → (t : Bool) → nat_le 32 (length slots) ≡ t → StopsFirst t slots fewer steps → Only releasing steps
       → IsBetween f (up_to p k steps fewer) → IsSame f (up_to p k steps fewer) (gives_up_first k ls w)
@@ -119,6 +120,7 @@ module _ (f : Profile) (k : ℕ) (p : Progress) (w : World) (valid : IsValid f) 
       subst (λ (x : World). IsSame f (up_to p k steps fewer) x) (sym (ap (λ (u : Bool). if u then gives_up k l w else w) test)) (up_same f k p w s l fewer steps record {
         valid = valid;
         thread = thread;
+        listed = listed;
         before = before;
         same = same;
         order = h.1;
@@ -136,7 +138,9 @@ module _ (f : Profile) (k : ℕ) (p : Progress) (w : World) (valid : IsValid f) 
 stops_none : (kept fewer : List Slots) (steps : List Made) (t : Bool) → t ≡ false → StopsFirst t kept fewer steps → (fewer ≡ kept) × (steps ≡ [])
 stops_none kept fewer steps t place h = search (arith, true≢false)
 
-module _ (f : Profile) (k heap class : ℕ) (p : Progress) (w : World) (fewer : List Slots) (steps : List Made) (valid : IsValid f) (thread : IsThread f k) (before : IsBetween f p) (same : IsSame f p w) (place : MakesPlace heap class (p.caches k).locals fewer steps) (kinds : Only releasing steps)
+module _ (f : Profile) (k heap class : ℕ) (p : Progress) (w : World) (fewer : List Slots) (steps : List Made) (valid : IsValid f) (thread : IsThread f k)
+    (listed : k ≤ length w.caches) (before : IsBetween f p) (same : IsSame f p w) (place : MakesPlace heap class (p.caches k).locals fewer steps)
+    (kinds : Only releasing steps)
     (after : IsBetween f (up_to p k steps fewer)) where
   abbrev c : Cached
   c = p.caches k
@@ -154,7 +158,8 @@ module _ (f : Profile) (k heap class : ℕ) (p : Progress) (w : World) (fewer : 
       let stops : StopsFirst (nat_le 32 (length c.locals)) c.locals fewer place.stopped = subst (λ (xs : List Slots). StopsFirst (nat_le 32 (length xs)) xs fewer place.stopped) kept place.shortened.first in
       let is : steps ≡ place.stopped = place.steps_are ∙ (ap (λ (ms : List Made). place.stopped ++ ms) h ∙ append-nil place.stopped) in
       rw (none_same heap class c.locals (locals_of w k) both_same none, is)
-      (oldest_gone f k p w valid thread before same c.locals (locals_of w k) fewer place.stopped refl refl both_same (nat_le 32 (length c.locals)) refl stops (subst (Only releasing) is kinds) (subst (λ (ms : List Made). IsBetween f (up_to p k ms fewer)) is after))
+      (oldest_gone f k p w valid thread listed before same c.locals (locals_of w k) fewer place.stopped refl refl both_same
+      (nat_le 32 (length c.locals)) refl stops (subst (Only releasing) is kinds) (subst (λ (ms : List Made). IsBetween f (up_to p k ms fewer)) is after))
 
   -- ---- there is one, which is spent
   module _ (s : Slots) (is : local_for heap class c.locals ≡ Some s) (empty : IsEmpty s.starts) (leaves : LeavesWhere s.right s.page (home_of s) place.spent) where
@@ -210,6 +215,7 @@ module _ (f : Profile) (k heap class : ℕ) (p : Progress) (w : World) (fewer : 
     spent_gone = subst (λ (x : Option Local). IsSame f (up_to p k steps fewer) (placed_by k x w)) (sym found.is) (up_same f k p w s found.local fewer steps record {
       valid = valid;
       thread = thread;
+      listed = listed;
       before = before;
       same = same;
       order = order;

@@ -21,7 +21,8 @@ use Rattle.pas_same_text.proofs.SmallActs.{phase_same, close_same, wake_same, re
 -- ---- a request, by its route
 by_route : (f : Profile) (k : ℕ) (r : Request) (p : Progress) (a : Answer) (w : World) (route : Route) → route_in f r.size r.align ≡ route → IsAsked f k r p a w → AnswersSame f k r p a w
 by_route f k r p a w (Route.Class class) e asked =
-    class_answered f k r.name r.heap r.size r.align class p (after_answer p k a) w asked.thread asked.admitted e asked.valid asked.before asked.after asked.same a asked.served refl
+    class_answered f k r.name r.heap r.size r.align class p (after_answer p k a) w asked.thread asked.listed asked.admitted e asked.valid asked.before
+    asked.after asked.same a asked.served refl
 by_route f k r p a w Route.Bitfit e asked =
     bitfit_answered f k r.name r.heap r.size r.align p (after_answer p k a) w asked.thread asked.admitted e asked.valid asked.before asked.after asked.same a asked.served refl
 by_route f k r p a w Route.Large e asked =
@@ -52,6 +53,7 @@ module _ (threads : ℕ) (f : Profile) (line k : ℕ) (what : What) (p p' : Prog
   asked r admitted served named = request_same f k r p a w record {
     valid = known.taken.valid;
     thread = thread;
+    listed = known.taken.listed;
     admitted = admitted;
     before = known.taken.before;
     after = after;
@@ -73,7 +75,8 @@ module _ (threads : ℕ) (f : Profile) (line k : ℕ) (what : What) (p p' : Prog
       subst (λ (o : Option ℕ). IsNamedBy f indexes (Some r) o) moved.found_is (subst (λ (t : Bool). IsNamedBy f indexes (unless_suited t r) a.found) moved.unsuited named) in
       subst (λ (q : Progress). IsSame f q (remakes f k name size align (Some (Some block)) w)) (sym reached)
       (subst (λ (t : Bool). IsSame f (after_answer p k a) (if t then keeps_block k name block w else replaces f k name block size align w)) (sym moved.unsuited)
-      (replaced_same f k r block p a w refl known.taken.valid thread own known.taken.before after known.taken.same known.usable moved (named_in_text r moved.placed.found found) (request_same f k r)))
+      (replaced_same f k r block p a w refl known.taken.valid thread known.taken.listed own known.taken.before after known.taken.same known.usable moved
+      (named_in_text r moved.placed.found found) (request_same f k r)))
 
 -- the state that it comes to is that of the replay
 abbrev LeavesSame : ℕ → Profile → Act → Type 0

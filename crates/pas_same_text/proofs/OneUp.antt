@@ -1,6 +1,6 @@
 -- ONE LOCAL ALLOCATOR OF A CACHE IS STOPPED, or left where it has no slot: the text gives it up.
-use Rattle.std.proofs.Common.{arith, ◌≡◌, ℕ, ◌/◌, ◌==◌, Bool, true, false, ◌||◌, if◌then◌else◌, List, [], ◌∷◌, ◌++◌, reverse, Some, inl, inr, refl, ap, sym}
-use Rattle.std.proofs.Common.{◌∙◌, subst, append-nil, eq-eqb, eqb-true}
+use Rattle.std.proofs.Common.{◌≤◌, length, arith, ◌≡◌, ℕ, ◌/◌, ◌==◌, Bool, true, false, ◌||◌, if◌then◌else◌, List, [], ◌∷◌, ◌++◌, reverse, Some, inl, inr, refl}
+use Rattle.std.proofs.Common.{ap, sym, ◌∙◌, subst, append-nil, eq-eqb, eqb-true}
 use Rattle.std.proofs.lemmas.Bool.{false≢true}
 use Rattle.std.specs.List.{find}
 use Rattle.pas_profile.specs.Profiles.{IsValid, IsPage, IsDirectoryOf}
@@ -38,6 +38,7 @@ up_to p k steps fewer = with_steps p k steps (record (p.caches k) { locals = few
 pub record IsStopped (f : Profile) (k : ℕ) (p : Progress) (w : World) (s : Slots) (l : Local) (fewer : List Slots) (steps : List Made) : Type 0 where
   pub valid : IsValid f
   pub thread : IsThread f k
+  pub listed : k ≤ length w.caches
   pub before : IsBetween f p
   pub same : IsSame f p w
   pub order : StopStepsAt (home_of s) s steps
@@ -89,7 +90,8 @@ module _ (f : Profile) (k : ℕ) (p : Progress) (w : World) (s : Slots) (l : Loc
   has = record {
     events = events;
     live = (gone_only f k l w unique o.found page_of).live ∙ (o.same.pages.live ∙ ap lives_in (sym (gone_only f k l w unique o.found page_of).events));
-    caches = subst (AreSameCaches f (with_cached p.caches k c1)) (sym (gone_only f k l w unique o.found page_of).caches) (same_with f p.caches w.caches k c1 (left f k l w unique o.found page_of) o.thread o.same.caches new_same);
+    caches = subst (AreSameCaches f (with_cached p.caches k c1)) (sym (gone_only f k l w unique o.found page_of).caches)
+        (same_with f p.caches w.caches k c1 (left f k l w unique o.found page_of) o.thread o.listed o.same.caches new_same);
     guards = guards_as p.books w v (same_guards w v (given_up_keeps k l w)) o.same.guards;
   }
 

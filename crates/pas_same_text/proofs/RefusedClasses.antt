@@ -1,5 +1,6 @@
 -- A REQUEST OF A CLASS THAT IS REFUSED: place is made for a local allocator, and then no page serves, in the text either.
-use Rattle.std.proofs.Common.{arith, ◌≡◌, ℕ, Bool, true, false, List, [], ◌∷◌, ◌++◌, Option, None, Some, Result, Ok, Err, inl, inr, ap, sym, ◌∙◌, subst}
+use Rattle.std.proofs.Common.{◌≤◌, length, arith, ◌≡◌, ℕ, Bool, true, false, List, [], ◌∷◌, ◌++◌, Option, None, Some, Result, Ok, Err, inl, inr, ap, sym, ◌∙◌}
+use Rattle.std.proofs.Common.{subst}
 use Rattle.pas_profile.specs.{Profiles.IsValid, Profiles.IsAdmitted, Profiles.IsDirectoryOf, Classes.IsClass}
 use Rattle.pas_profile.specs.Requests.{class_home, is_shared, kind_of_route, route_in, room_in}
 use Rattle.pas_profile.specs.declared.{directory.Directory.Directory, directory.Route.Route, event.NoRoom.NoRoom, name.Block.Block, profile.Profile.Profile}
@@ -71,7 +72,9 @@ pub class_served_by : (f : Profile) (k name heap size align class : ℕ) (p : Pr
 class_served_by f k name heap size align class p a route served = search (arith, home_of_class)
 
 -- ---- the request
-module _ (f : Profile) (k name heap size align class : ℕ) (p p' : Progress) (w : World) (thread : IsThread f k) (admitted : IsAdmitted f size align heap) (route : route_in f size align ≡ Route.Class class) (valid : IsValid f) (before : IsBetween f p) (after : IsBetween f p') (same : IsSame f p w)
+module _ (f : Profile) (k name heap size align class : ℕ) (p p' : Progress) (w : World) (thread : IsThread f k) (listed : k ≤ length w.caches)
+    (admitted : IsAdmitted f size align heap) (route : route_in f size align ≡ Route.Class class) (valid : IsValid f) (before : IsBetween f p)
+    (after : IsBetween f p') (same : IsSame f p w)
     (a : Answer) (served : IsServed f k (record { name = name; heap = heap; size = size; align = align }) (having p.names (part k p.list) (p.caches k)) a) (reached : p' ≡ after_answer p k a) where
   abbrev c : Cached
   c = p.caches k

@@ -23,7 +23,7 @@ use Rattle.pas_same_text.specs.{Same.IsSame, Acts.IsResting, Acts.IsBetween, Act
 use Rattle.pas_same_text.specs.{Requests.RequestStaysSame}
 use Rattle.pas_same_text.proofs.{AfterRequests.served_rests, AfterRequests.served_log, BackActs.freed_any, CacheLists.same_own, MiddleRest.cached_again}
 use Rattle.pas_same_text.proofs.{MiddleRest.at_rest_now, MiddleRest.middle_rest, LoggedFrees.after_with, LoggedFrees.page_inside, LoggedFrees.freed_is}
-use Rattle.pas_same_text.proofs.{UsableBlocks.act_usable}
+use Rattle.pas_same_text.proofs.{UsableBlocks.act_usable, ManyCaches.serves_many}
 
 -- ---- records of steps that follow others
 records_both : (later earlier : List Event) → records_of (later ++ earlier) ≡ records_of earlier ++ records_of later
@@ -35,7 +35,8 @@ last_standing name o names = ap (λ (t : Bool). if t then Some o else standing_f
 
 -- ---- between the request and the log all actors are at rest
 module _ (f : Profile) (k : ℕ) (r : Request) (old : Block) (p : Progress) (a : Answer) (w : World) (is : IsReplaced f k r old (having p.names (part k p.list) (p.caches k)) a)
-    (valid : IsValid f) (thread : IsThread f k) (admitted : IsAdmitted f r.size r.align r.heap) (before : IsBetween f p) (after : IsBetween f (after_answer p k a)) (same : IsSame f p w) where
+    (valid : IsValid f) (thread : IsThread f k) (listed : k ≤ length w.caches) (admitted : IsAdmitted f r.size r.align r.heap) (before : IsBetween f p)
+    (after : IsBetween f (after_answer p k a)) (same : IsSame f p w) where
   abbrev came : Answer
   came = is.placed
 
@@ -59,10 +60,11 @@ module _ (f : Profile) (k : ℕ) (r : Request) (old : Block) (p : Progress) (a :
   own_rest (Err room) e none = search (arith, at_end)
   own_rest (Ok block) e takes =
       let serves_it = serves_by (Ok block) e in
-      let log : came.cache.log ≡ (p.caches k).log = served_log f k r p came w block valid thread admitted before same is.served.rest legal serves_it in
+      let log : came.cache.log ≡ (p.caches k).log = served_log f k r p came w block valid thread listed admitted before same is.served.rest legal serves_it in
       let kept : a.cache.locals ≡ came.cache.locals = ap (λ (c : Cached). c.locals) takes.cache in
       record {
-        locals = subst (RestsWith f came.cache.locals) (sym (part_of_own k came.steps p.list)) (served_rests f k r p came w block valid thread admitted before same is.served.rest legal serves_it);
+        locals = subst (RestsWith f came.cache.locals) (sym (part_of_own k came.steps p.list))
+            (served_rests f k r p came w block valid thread listed admitted before same is.served.rest legal serves_it);
         few = subst (λ (ls : List Slots). length ls ≤ 32) kept at_end.few;
         entries = subst (All (IsEntryOf f)) (sym log) is.served.rest.entries;
         few_entries = subst (λ (es : List Entry). length es ≤ 64) (sym log) is.served.rest.few_entries;
@@ -153,9 +155,12 @@ module _ (f : Profile) (k : ℕ) (r : Request) (old : Block) (p : Progress) (a :
     usable_then =
         act_usable f (Act.Operates (record { line = 0; actor = k; what = Alloc r.name r.heap r.size r.align })) p q asked.valid asked.before asked.after (placed, asked.served, refl) usable
 
+    listed_then : k ≤ length v.caches
+    listed_then = omega (arith, asked.listed, serves_many f k r.name r.heap (route_in f r.size r.align) (room_in f r.size r.align) r.align w)
+
     logged : IsSame f end (frees f k (entry_of old.name) v)
     logged =
-        freed_any f k (entry_of old.name) q v a.cache is.freed asked.thread asked.valid asked.after at_request usable_then between_end None
+        freed_any f k (entry_of old.name) q v a.cache is.freed asked.thread listed_then asked.valid asked.after at_request usable_then between_end None
         (inl (subst (λ (c : Cached). TakesEntry f k c a.cache (entry_of old.name) is.freed) (sym (same_own p.caches k placed.cache)) takes, refl))
 
     text_logs : frees f k (entry_of old.name) v ≡ logs f k (entry_of old.name) v
@@ -174,9 +179,10 @@ module _ (f : Profile) (k : ℕ) (r : Request) (old : Block) (p : Progress) (a :
   replaced_asked = by_answer is.served.answer refl is.logged
 
 -- ---- THE ACT, by what is known of it, and what its request comes to
-pub replaced_same : (f : Profile) (k : ℕ) (r : Request) (old : Block) (p : Progress) (a : Answer) (w : World) → old.heap ≡ r.heap → IsValid f → IsThread f k → IsAdmitted f r.size r.align r.heap → IsBetween f p → IsBetween f (after_answer p k a)
+pub replaced_same : (f : Profile) (k : ℕ) (r : Request) (old : Block) (p : Progress) (a : Answer) (w : World) → old.heap ≡ r.heap → IsValid f → IsThread f k
+    → k ≤ length w.caches → IsAdmitted f r.size r.align r.heap → IsBetween f p → IsBetween f (after_answer p k a)
     → IsSame f p w → HasUsableBlocks p → (is : IsReplaced f k r old (having p.names (part k p.list) (p.caches k)) a) → IsNamedBy f w.indexes (Some r) is.placed.found → RequestStaysSame f k r
     → IsSame f (after_answer p k a) (replaces f k r.name old r.size r.align w)
-replaced_same f k r old p a w heap_is valid thread admitted before after same usable is named stays =
-    let asked : IsAsked f k r p is.placed w = assumption (middle f k r old p a w is valid thread admitted before after same) in
+replaced_same f k r old p a w heap_is valid thread listed admitted before after same usable is named stays =
+    let asked : IsAsked f k r p is.placed w = assumption (middle f k r old p a w is valid thread listed admitted before after same) in
     replaced_asked f k r old p a w heap_is is asked usable (stays p is.placed w asked) after

@@ -1,5 +1,5 @@
 -- Acts that change no page: marks, the start of a phase, readings of the epoch, ticks, and what is handed on to the indexes.
-use Rattle.std.proofs.Common.{arith, ◌≡◌, ℕ, max, List, [], ◌∷◌, ◌++◌, reverse, refl, ap, sym, ◌∙◌, subst}
+use Rattle.std.proofs.Common.{◌≤◌, length, arith, ◌≡◌, ℕ, max, List, [], ◌∷◌, ◌++◌, reverse, refl, ap, sym, ◌∙◌, subst}
 use Rattle.std.proofs.lemmas.Grind.{reverse_onto}
 use Rattle.pas_profile.specs.declared.profile.Profile.{Profile}
 use Rattle.pas_profile.specs.declared.word.Word.TheVariants as TheWord
@@ -47,15 +47,17 @@ cache_state w k new is = record { events = refl; live = refl; hinted = refl; loc
 read_now : (f : Profile) (p : Progress) (k epoch : ℕ) → Legal f (triple k (made (Look TheWord.Epoch) epoch) ∷ p.list) → epoch ≡ word_after p.list TheWord.Epoch
 read_now f p k epoch legal = legal.0.answer_is
 
-wakes_to : (f : Profile) (k epoch : ℕ) (p : Progress) (w : World) → IsThread f k → IsSame f p w → Legal f (after_wake p k epoch).list → IsSame f (after_wake p k epoch) (begins k w)
-wakes_to f k epoch p w is same legal =
+wakes_to : (f : Profile) (k epoch : ℕ) (p : Progress) (w : World) → IsThread f k → k ≤ length w.caches → IsSame f p w → Legal f (after_wake p k epoch).list
+    → IsSame f (after_wake p k epoch) (begins k w)
+wakes_to f k epoch p w is listed same legal =
     let own : Cache = cache_of w k in
     let was : IsSameCache (p.caches k) own = same.caches.each k is in
     let new : Cache = record own { began = w.epoch } in
     let now : w.epoch ≡ epoch = same.epoch ∙ sym (read_now f p k epoch legal) in
     record {
       pages = pages_next f p.list (triple k (made (Look TheWord.Epoch) epoch) ∷ p.list) w (begins k w) same.pages (look_pages k epoch TheWord.Epoch p.list) (cache_state w k new refl);
-      caches = same_with f p.caches w.caches k (begun (p.caches k) epoch) new is same.caches (record { locals = was.locals; log = was.log; noted = was.noted; began = now });
+      caches = same_with f p.caches w.caches k (begun (p.caches k) epoch) new is listed same.caches
+          (record { locals = was.locals; log = was.log; noted = was.noted; began = now });
       guards = same.guards;
       names = same.names;
       records = same.records;
@@ -67,7 +69,7 @@ pub wake_same : (f : Profile) (k : ℕ) → IsThread f k → StaysSame f (Act.Wa
 wake_same f k is p p' w taken =
     let epoch : ℕ = taken.advances.0 in
     let legal : Legal f (after_wake p k epoch).list = subst (λ (q : Progress). Legal f q.list) taken.advances.1 taken.after.legal in
-    subst (λ (q : Progress). IsSame f q (begins k w)) (sym taken.advances.1) (wakes_to f k epoch p w is taken.same legal)
+    subst (λ (q : Progress). IsSame f q (begins k w)) (sym taken.advances.1) (wakes_to f k epoch p w is taken.listed taken.same legal)
 
 -- ---- the scavenger reads the epoch
 reads_to : (f : Profile) (epoch : ℕ) (p : Progress) (w : World) → IsSame f p w → Legal f (after_reading p epoch).list → IsSame f (after_reading p epoch) (reads_epoch w)
@@ -108,8 +110,9 @@ all_indexed : (f : Profile) (p : Progress) (runs : List EndedRun) (w : World) �
 all_indexed f p [] w same = same
 all_indexed f p (run ∷ runs) w same = all_indexed f p runs (indexes_run run w) (indexed_same f p run w same)
 
-handed_on : (f : Profile) (k : ℕ) (p : Progress) (w : World) → IsThread f k → IsSame f p w → IsSame f (after_settling p k) (set_noted k [] w)
-handed_on f k p w is same =
+handed_on : (f : Profile) (k : ℕ) (p : Progress) (w : World) → IsThread f k → k ≤ length w.caches → IsSame f p w
+    → IsSame f (after_settling p k) (set_noted k [] w)
+handed_on f k p w is listed same =
     let own : Cache = cache_of w k in
     let was : IsSameCache (p.caches k) own = same.caches.each k is in
     let new : Cache = record own { noted = [] } in
@@ -117,4 +120,4 @@ handed_on f k p w is same =
 
 pub settling_same : (f : Profile) (k : ℕ) → IsThread f k → StaysSame f (Act.Settles k)
 settling_same f k is p p' w taken = subst (λ (q : Progress). IsSame f q (settles k w)) (sym taken.advances)
-    (all_indexed f (after_settling p k) (noted_of w k) (set_noted k [] w) (handed_on f k p w is taken.same))
+    (all_indexed f (after_settling p k) (noted_of w k) (set_noted k [] w) (handed_on f k p w is taken.listed taken.same))

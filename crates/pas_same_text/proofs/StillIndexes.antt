@@ -1,6 +1,6 @@
--- WHAT STAYS IN THE TEXT: what changes no index and no guard.
-use Rattle.std.proofs.Common.{arith, ◌≡◌, ℕ, ◌+◌, ◌*◌, ◌%◌, ◌/◌, ◌==◌, nat_le, nat_lt, Bool, true, false, ◌&&◌, if◌then◌else◌, List, [], ◌∷◌, length, Option}
-use Rattle.std.proofs.Common.{None, Some, Result, Ok, Err, refl, ap, ◌∙◌}
+-- WHAT STAYS IN THE TEXT: what changes no index and no guard, and how many caches there are.
+use Rattle.std.proofs.Common.{arith, ◌≡◌, ℕ, ◌+◌, ◌*◌, ◌%◌, ◌/◌, ◌==◌, nat_le, nat_lt, Bool, true, false, ◌&&◌, if◌then◌else◌, List, [], ◌∷◌, ◌++◌, length}
+use Rattle.std.proofs.Common.{Option, None, Some, Result, Ok, Err, refl, ap, ◌∙◌}
 use Rattle.pas_profile.specs.{Blocks.address_of, Requests.class_home, Requests.is_shared}
 use Rattle.pas_profile.specs.declared.{directory.Directory.Directory, event.Event.Event, event.FreeFault.FreeFault, event.NoRoom.NoRoom, event.Outcome.Outcome}
 use Rattle.pas_profile.specs.declared.{event.Why.Why, name.Block.Block, name.Name.Name, profile.Profile.Profile}
@@ -10,30 +10,39 @@ use Rattle.pas_free_log.specs.Logs.{sized_entry}
 use Rattle.pas_free_log.specs.declared.log.Entry.{Entry}
 use Rattle.pas_report.specs.declared.record.{Record.Record, Said.Said}
 use Rattle.pas_trace.specs.Acts.{numbers_from}
-use Rattle.pas_one_text.specs.State.{World, Guard, Local, each, shows, says, block_at, locals_of, log_of, set_log, set_locals}
+use Rattle.pas_one_text.specs.State.{World, Cache, Guard, Local, each, shows, says, block_at, cache_of, locals_of, log_of, noted_of, set_cache, set_log}
+use Rattle.pas_one_text.specs.State.{set_locals}
 use Rattle.pas_one_text.specs.Pages.{page_numbers, is_empty, is_unowned, is_hinted, hints, minds}
 use Rattle.pas_one_text.specs.Searches.{some_of, searched, deeds, backs, readies}
-use Rattle.pas_one_text.specs.Indexes.{notes}
+use Rattle.pas_one_text.specs.Indexes.{run_of, notes}
 use Rattle.pas_one_text.specs.Classes.{slots_for, gives_up, gives_up_first, gives_first, local_on, takes_page, fetches, makes_place, serves_class_by, others}
 use Rattle.pas_one_text.specs.Runs.{bitfit_of, large_of, lowest_place, gives_place, places, serves_run}
 use Rattle.pas_one_text.specs.Frees.{pages_of, reason, is_other_room, ends_block, rejects, ends_if, takes_effect, ends, flushes, stops, logs, refuses_free}
 use Rattle.pas_one_text.specs.Frees.{frees, frees_what}
 use Rattle.pas_one_text.specs.Passes.{outcome_of, comes_to, examines, passes}
 use Rattle.std.specs.List.{filter}
+use Rattle.pas_same_text.proofs.CacheLists.{many_with}
 
 -- ---- what stays
--- the indexes, and the guards that are up
+-- the indexes, the guards that are up, and the number of caches
 abbrev pub Still : Type 0
-Still = List (List Span) × List Guard
+Still = List (List Span) × List Guard × ℕ
 
 abbrev pub still : World → Still
-still w = (w.indexes, w.guards)
+still w = (w.indexes, w.guards, length w.caches)
 
 pub same_indexes : (w v : World) → still v ≡ still w → v.indexes ≡ w.indexes
 same_indexes w v is = ap (λ (s : Still). s.0) is
 
 pub same_guards : (w v : World) → still v ≡ still w → v.guards ≡ w.guards
 same_guards w v is = ap (λ (s : Still). s.1) is
+
+pub same_many : (w v : World) → still v ≡ still w → length v.caches ≡ length w.caches
+same_many w v is = ap (λ (s : Still). s.2) is
+
+-- a cache becomes another
+cache_keeps : (k : ℕ) (new : Cache) (w : World) → still (set_cache k new w) ≡ still w
+cache_keeps k new w = ap (λ (n : ℕ). let s : Still = (w.indexes, w.guards, n) in s) (many_with w.caches k new)
 
 either : (t : Bool) (v u : World) (value : Still) → still v ≡ value → still u ≡ value → still (if t then v else u) ≡ value
 either true v u value one other = one
@@ -52,7 +61,10 @@ minds_keep page w = either (backed_in w.events page && is_empty w page) (hints p
 
 -- frees that take effect
 block_keeps : (f : Profile) (k : ℕ) (name : Name) (b : Block) (w : World) → still (ends_block f k name b w) ≡ still w
-block_keeps f k name b w = each_keeps minds (pages_of f b) minds_keep (notes k b (shows (Event.End k name w.epoch) w))
+block_keeps f k name b w =
+    let v : World = shows (Event.End k name w.epoch) w in
+    each_keeps minds (pages_of f b) minds_keep (notes k b v)
+    ∙ cache_keeps k (record (cache_of v k) { noted = if nat_lt (length (noted_of v k)) 64 then noted_of v k ++ run_of v b else noted_of v k }) v
 
 effect_keeps : (f : Profile) (k : ℕ) (entry : Entry) (lives : Option Block) (w : World) → still (takes_effect f k entry lives w) ≡ still w
 effect_keeps f k entry lives w = search (arith, either, block_keeps)
@@ -61,11 +73,13 @@ ends_keep : (f : Profile) (k : ℕ) (entry : Entry) (w : World) → still (ends 
 ends_keep f k entry w = effect_keeps f k entry (block_at w (address_of entry.name)) w
 
 pub flushes_keep : (f : Profile) (k : ℕ) (w : World) → still (flushes f k w) ≡ still w
-flushes_keep f k w = each_keeps (ends f k) (log_of w k) (ends_keep f k) (set_log k [] w)
+flushes_keep f k w = each_keeps (ends f k) (log_of w k) (ends_keep f k) (set_log k [] w) ∙ cache_keeps k (record (cache_of w k) { log = [] }) w
 
 -- stops
 pub given_up_keeps : (k : ℕ) (l : Local) (w : World) → still (gives_up k l w) ≡ still w
-given_up_keeps k l w = minds_keep l.page (set_locals k (others l.heap l.class (locals_of w k)) w)
+given_up_keeps k l w =
+    minds_keep l.page (set_locals k (others l.heap l.class (locals_of w k)) w)
+    ∙ cache_keeps k (record (cache_of w k) { locals = others l.heap l.class (locals_of w k) }) w
 
 pub stops_keep : (f : Profile) (k : ℕ) (w : World) → still (stops f k w) ≡ still w
 stops_keep f k w = each_keeps (gives_up k) (locals_of (flushes f k w) k) (given_up_keeps k) (flushes f k w) ∙ flushes_keep f k w
@@ -75,7 +89,10 @@ idle_keeps f t k w = either t (says (Record.Said 0 (Said.Stopped k)) (stops f k 
 
 -- frees
 pub logs_keep : (f : Profile) (k : ℕ) (entry : Entry) (w : World) → still (logs f k entry w) ≡ still w
-logs_keep f k entry w = either (nat_le 64 (length (log_of w k))) (flushes f k w) w (still w) (flushes_keep f k w) refl
+logs_keep f k entry w =
+    let v : World = if nat_le 64 (length (log_of w k)) then flushes f k w else w in
+    cache_keeps k (record (cache_of v k) { log = log_of v k ++ entry ∷ [] }) v
+    ∙ either (nat_le 64 (length (log_of w k))) (flushes f k w) w (still w) (flushes_keep f k w) refl
 
 pub frees_keep : (f : Profile) (k : ℕ) (entry : Entry) (w : World) → still (frees f k entry w) ≡ still w
 frees_keep f k entry w = search (arith, either, logs_keep)
@@ -86,7 +103,7 @@ what_keeps f k name room (Some None) w = refl
 what_keeps f k name room None w = refl
 
 -- ---- requests
-deeds_keep : (k : ℕ) (d : Directory) (page : ℕ) (w : World) → still (deeds k d page w) ≡ still w
+pub deeds_keep : (k : ℕ) (d : Directory) (page : ℕ) (w : World) → still (deeds k d page w) ≡ still w
 deeds_keep k d page w = either (is_unowned w page) (shows (Event.Deed k page d) w) w (still w) refl refl
 
 pub backs_keep : (k page : ℕ) (w : World) → still (backs k page w) ≡ still w
@@ -97,7 +114,7 @@ readies_keep k d page w = backs_keep k page (deeds k d page w) ∙ deeds_keep k 
 
 first_keeps : (k name : ℕ) (l : Local) (slots : List ℕ) (w : World) → still (gives_first k name l slots w) ≡ still w
 first_keeps k name l [] w = refl
-first_keeps k name l (s ∷ rest) w = refl
+first_keeps k name l (s ∷ rest) w = cache_keeps k (record (cache_of w k) { locals = others l.heap l.class (locals_of w k) ++ record l { slots = rest } ∷ [] }) w
 
 page_keeps : (f : Profile) (k name heap class : ℕ) (found : Result ℕ NoRoom) (w : World) → still (takes_page f k name heap class found w) ≡ still w
 page_keeps f k name heap class found w = search (arith, first_keeps, readies_keep)
@@ -105,7 +122,7 @@ page_keeps f k name heap class found w = search (arith, first_keeps, readies_kee
 fetches_keep : (f : Profile) (k name heap class : ℕ) (w : World) → still (fetches f k name heap class w) ≡ still w
 fetches_keep f k name heap class w = page_keeps f k name heap class (searched f w (class_home f heap class) (slots_for (is_shared f heap) w class)) w
 
-first_up_keeps : (k : ℕ) (ls : List Local) (w : World) → still (gives_up_first k ls w) ≡ still w
+pub first_up_keeps : (k : ℕ) (ls : List Local) (w : World) → still (gives_up_first k ls w) ≡ still w
 first_up_keeps k ls w = search (arith, either, given_up_keeps)
 
 pub class_keeps : (f : Profile) (k name heap class : ℕ) (own : Option Local) (w : World) → still (serves_class_by f k name heap class own w) ≡ still w

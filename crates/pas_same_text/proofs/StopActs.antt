@@ -1,6 +1,6 @@
 -- STOPS: a flush, and then all local allocators of the cache go.
-use Rattle.std.proofs.Common.{◌≡◌, ℕ, ◌+◌, ◌*◌, ◌/◌, ◌%◌, ◌<◌, ◌≤◌, ◌==◌, Bool, true, false, not, ◌&&◌, if◌then◌else◌, List, [], ◌∷◌, ◌++◌, map, ◌⊎◌, inl, inr}
-use Rattle.std.proofs.Common.{refl, ap, sym, ◌∙◌, subst, arith, All, eq-eqb, eqb-true}
+use Rattle.std.proofs.Common.{length, ◌≡◌, ℕ, ◌+◌, ◌*◌, ◌/◌, ◌%◌, ◌<◌, ◌≤◌, ◌==◌, Bool, true, false, not, ◌&&◌, if◌then◌else◌, List, [], ◌∷◌, ◌++◌, map, ◌⊎◌}
+use Rattle.std.proofs.Common.{inl, inr, refl, ap, sym, ◌∙◌, subst, arith, All, eq-eqb, eqb-true}
 use Rattle.std.proofs.lemmas.{Bool.false≢true, Bool.or_left, Bool.or_right, Bool.Decides.nat_tests, List.Elements.All-head, List.Elements.All-tail}
 use Rattle.pas_large.proofs.Left.{hints_both}
 use Rattle.pas_bits.specs.Masks.{is_set, HasMember}
@@ -100,7 +100,8 @@ module _ (f : Profile) (k : ℕ) (p : Progress) (steps : List Made) (c' : Cached
   pub read_room : (q : ℕ) (d : Directory) → IsDirectoryOf f d → is_of v d q ≡ true → s.page ≡ q → ReadsRoom q (home_of s) steps → is_open v d q ≡ true
   read_room q d of is page r = read_open f ended v valid after has freeing refl k p.list steps refl kinds q d (home_of s) (home_is q d of is page) r
 
-module _ (f : Profile) (k : ℕ) (p : Progress) (w : World) (flushed stopped : List Made) (c' : Cached) (valid : IsValid f) (thread : IsThread f k) (before : IsBetween f p) (same : IsSame f p w) (usable : AreBlocksUsable (visible p.list))
+module _ (f : Profile) (k : ℕ) (p : Progress) (w : World) (flushed stopped : List Made) (c' : Cached) (valid : IsValid f) (thread : IsThread f k)
+    (listed : k ≤ length w.caches) (before : IsBetween f p) (same : IsSame f p w) (usable : AreBlocksUsable (visible p.list))
     (h : EmptiesLog k (p.caches k).log (p.caches k).noted c'.noted flushed) (each : StopsEach (p.caches k).locals stopped) (kinds : Only releasing stopped) (silent : (v : View) → events_by k v stopped ≡ [])
     (cache : c' ≡ record (p.caches k) { locals = []; log = []; noted = c'.noted }) (after : IsBetween f (with_steps p k (stopped ++ flushed) c')) where
   abbrev p' : Progress
@@ -119,7 +120,7 @@ module _ (f : Profile) (k : ℕ) (p : Progress) (w : World) (flushed stopped : L
   flush_legal = legal_earlier f k stopped flushed p.list after.legal
 
   to : IsFlushedTo f k h.epoch p.list w c p.caches h.settled flushed vf
-  to = flush_to f k p w flushed c'.noted valid thread same flush_legal h
+  to = flush_to f k p w flushed c'.noted valid thread listed same flush_legal h
 
   abbrev own : Cached
   own = record c { log = []; noted = noted_after c.noted h.settled }
@@ -130,8 +131,11 @@ module _ (f : Profile) (k : ℕ) (p : Progress) (w : World) (flushed stopped : L
   known : All (IsLocal f (part k p.list)) c.locals
   known = (before.rest.working k thread).locals.known
 
+  listed_then : k ≤ length vf.caches
+  listed_then = omega (arith, to.many, listed)
+
   up : IsGivenUp f k (locals_of vf k) vf v
-  up = all_up f k vf thread.0 (omega (arith, to.same.many, thread.1)) (unique_of c.locals (locals_of vf k) own_same.locals (before.rest.working k thread).locals.apart.one_each)
+  up = all_up f k vf thread.0 listed_then (unique_of c.locals (locals_of vf k) own_same.locals (before.rest.working k thread).locals.apart.one_each)
       (all_of_region f (part k p.list) c.locals (locals_of vf k) own_same.locals known)
 
   -- ---- events and caches
@@ -149,7 +153,9 @@ module _ (f : Profile) (k : ℕ) (p : Progress) (w : World) (flushed stopped : L
   has = record {
     events = events;
     live = up.live ∙ (to.live ∙ ap lives_in (sym up.events));
-    caches = same_again f p.caches v.caches k own c' (subst (AreSameCaches f (with_cached (with_cached p.caches k own) k c')) (sym up.caches) (same_with f (with_cached p.caches k own) vf.caches k c' (record (cache_of vf k) { locals = [] }) thread to.same new_same));
+    caches = same_again f p.caches v.caches k own c'
+        (subst (AreSameCaches f (with_cached (with_cached p.caches k own) k c')) (sym up.caches)
+        (same_with f (with_cached p.caches k own) vf.caches k c' (record (cache_of vf k) { locals = [] }) thread listed_then to.same new_same));
     guards = guards_as p.books w v (same_guards w v (stops_keep f k w)) same.guards;
   }
 
@@ -208,7 +214,10 @@ module _ (f : Profile) (k : ℕ) (p : Progress) (w : World) (flushed stopped : L
   shown = events_append k stopped flushed (part k p.list) ∙ ap (λ (es : List Event). es ++ events_by k (part k p.list) flushed) (silent (flushed ++ part k p.list))
 
   all_records : v.records ≡ map Record.Event (events_by k (part k p.list) (stopped ++ flushed)) ++ w.records
-  all_records = up.records ∙ (flush_records f k p w flushed c'.noted valid thread same flush_legal h ∙ ap (λ (es : List Event). map Record.Event es ++ w.records) (sym shown))
+  all_records =
+      up.records
+      ∙ (flush_records f k p w flushed c'.noted valid thread listed same flush_legal h
+      ∙ ap (λ (es : List Event). map Record.Event es ++ w.records) (sym shown))
 
   pub stop_same : IsSame f (with_records p' (records_of (events_by k (part k p.list) (stopped ++ flushed)))) (stops f k w)
   stop_same = record {

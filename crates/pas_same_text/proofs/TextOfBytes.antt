@@ -9,7 +9,7 @@ use Rattle.pas_one_text.specs.{State.World, Reports.text_of}
 use Rattle.pas_one_text.specs.Order.{replayed, replay_of, order_text, text_for, region_of as text_region}
 
 -- the region of a plan without keepers has no other actors than its threads
-region_same : (plan : Plan) → keepers_of plan ≡ 0 → plan.profile ≡ region_of plan
+pub region_same : (plan : Plan) → keepers_of plan ≡ 0 → plan.profile ≡ region_of plan
 region_same plan none = search (arith, plan_actors)
 
 -- whatever is told of a region and of what a replay in it comes to
@@ -18,7 +18,7 @@ module _ {A : Type 0} (tells : Profile → World → A) where
   by_parts f keepers phases = tells f (replayed f keepers phases)
 
   -- The replay of the text is that of its plan, in whose region the threads alone are actors.
-  replay_told : (bytes : List ℕ) (plan : Plan) (is : IsPlanOf bytes plan)
+  pub replay_told : (bytes : List ℕ) (plan : Plan) (is : IsPlanOf bytes plan)
       → (let p : Parsed = record { header = is.header; items = is.items } in tells (text_region p) (replay_of p)) ≡ tells plan.profile (replayed plan.profile (keepers_of plan) (phases_of plan))
   replay_told bytes plan is =
       let f : Profile = record is.header.profile { shared = shared_in is.items } in
@@ -28,7 +28,7 @@ module _ {A : Type 0} (tells : Profile → World → A) where
       cc
 
   -- .. and where there are no keepers, in the region of the plan's replays
-  pub unguarded_told : (bytes : List ℕ) (plan : Plan) (is : IsPlanOf bytes plan) → keepers_of plan ≡ 0
+  unguarded_told : (bytes : List ℕ) (plan : Plan) (is : IsPlanOf bytes plan) → keepers_of plan ≡ 0
       → (let p : Parsed = record { header = is.header; items = is.items } in tells (text_region p) (replay_of p)) ≡ tells (region_of plan) (replayed (region_of plan) (keepers_of plan) (phases_of plan))
   unguarded_told bytes plan is none = replay_told bytes plan is ∙ ap (λ (f : Profile). by_parts f (keepers_of plan) (phases_of plan)) (region_same plan none)
 

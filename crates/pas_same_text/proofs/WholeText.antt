@@ -1,6 +1,6 @@
 -- The first state of the text is that of a replay that did nothing yet, and the text of a state that is the replay's is what is written of it.
-use Rattle.std.proofs.Common.{arith, ◌≡◌, ℕ, zero, suc, ◌+◌, ◌%◌, ◌==◌, Bool, true, false, not, List, [], ◌++◌, length, map, if◌then◌else◌, ◌-◌, codes, Option}
-use Rattle.std.proofs.Common.{None, Some, inl, inr, refl, ap, sym, ◌∙◌, subst}
+use Rattle.std.proofs.Common.{arith, ◌≤◌, ◌≡◌, ℕ, zero, suc, ◌+◌, ◌%◌, ◌==◌, Bool, true, false, not, List, [], ◌++◌, length, map, if◌then◌else◌, ◌-◌, codes}
+use Rattle.std.proofs.Common.{Option, None, Some, inl, inr, refl, ap, sym, ◌∙◌, subst}
 use Rattle.std.proofs.lemmas.Option.{none-some}
 use Rattle.pas_bits.proofs.Words.{none_of_zero}
 use Rattle.pas_profile.specs.{Directories.directory_read, Profiles.IsValid}
@@ -26,7 +26,7 @@ pub many_numbers : (n from : ℕ) → length (map (λ k. no_cache) (numbers_from
 many_numbers zero from = refl
 many_numbers (suc n) from = ap suc (many_numbers n (from + 1))
 
-pub none_used : (n from k : ℕ) → cache_in (map (λ k. no_cache) (numbers_from from n)) k ≡ no_cache
+none_used : (n from k : ℕ) → cache_in (map (λ k. no_cache) (numbers_from from n)) k ≡ no_cache
 none_used zero from k = refl
 none_used (suc n) from k = by_place (k == 1) (cache_in (map (λ k. no_cache) (numbers_from (from + 1) n)) (k - 1)) (none_used n (from + 1) (k - 1))
   where
@@ -34,11 +34,19 @@ none_used (suc n) from k = by_place (k == 1) (cache_in (map (λ k. no_cache) (nu
     by_place true rest is = refl
     by_place false rest is = is
 
-start_caches : (f : Profile) → AreSameCaches f empty_caches (opened f).caches
-start_caches f = search (arith, many_numbers, none_used)
+-- with so many caches in the list
+module _ (f : Profile) (n : ℕ) (few : n ≤ f.threads) where
+  abbrev first : World
+  first = opened (record f { threads = n })
 
-pub start_same : (f : Profile) → IsSame f at_start (opened f)
-start_same f = search (arith, none_of_zero, start_caches)
+  start_caches : AreSameCaches f empty_caches first.caches
+  start_caches = record {
+    few = omega (arith, many_numbers n 1, few);
+    each = λ k is. subst (λ (c : Cache). IsSameCache empty_cache c) (sym (none_used n 1 k)) (record { locals = tt; log = refl; noted = refl; began = refl });
+  }
+
+  pub start_same : IsSame f at_start first
+  start_same = search (arith, none_of_zero, start_caches)
 
 pub start_usable : AreBlocksUsable []
 start_usable = record { usable = λ address b lives g of d is. absurd (none-some d is) }

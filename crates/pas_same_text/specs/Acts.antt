@@ -62,12 +62,22 @@ pub record IsAtRest (f : Profile) (p : Progress) (w : World) : Type 0 where
   pub between : IsBetween f p
   pub same : HasSame f p w
 
+-- whose cache the act may change, that one's stands in the text's list
+abbrev pub IsListed : World → Act → Type 0
+IsListed w (Act.Operates op) = op.actor ≤ length w.caches
+IsListed w (Act.Settles k) = k ≤ length w.caches
+IsListed w (Act.StopsIdle k n) = k ≤ length w.caches
+IsListed w (Act.Wakes k) = k ≤ length w.caches
+IsListed w (Act.Ends k) = k ≤ length w.caches
+IsListed w act = Unit {0}
+
 -- the act takes a replay from p to p', and the text from w on
 pub record IsTaken (f : Profile) (act : Act) (p p' : Progress) (w : World) : Type 0 where
   pub valid : IsValid f
   pub before : IsBetween f p
   pub after : IsBetween f p'
   pub same : IsSame f p w
+  pub listed : IsListed w act
   pub advances : Advances f act p p'
 
 -- then the state that the function comes to is that of the replay

@@ -1,5 +1,5 @@
 -- WHAT IS KNOWN OF AN ACT of a replay in the order of the text, and what it owes by that.
-use Rattle.std.specs.Prelude.{ℕ, ◌≡◌, List, Some, MatchOption}
+use Rattle.std.specs.Prelude.{ℕ, ◌≤◌, ◌≡◌, List, length, Some, MatchOption}
 use Rattle.std.specs.List.{AllByRecursion}
 use Rattle.pas_profile.specs.{Profiles.IsValid, Profiles.IsAdmitted, Requests.route_in}
 use Rattle.pas_profile.specs.declared.{directory.Route.Route, profile.Profile.Profile}
@@ -33,10 +33,11 @@ abbrev pub ArePlanned : ℕ → Profile → List Act → Type 0
 ArePlanned threads f acts = AllByRecursion (IsPlanned threads f) acts
 
 -- ---- between two acts
--- The text's state is that of the replay, its indexes hold these ranges, only keepers have guards up, each live block lies on grains that its page's blocks may cover, and
--- each page where a block ended is stamped.
+-- The text's state is that of the replay, with a cache for each thread, its indexes hold these ranges, only keepers have guards up, each live block
+-- lies on grains that its page's blocks may cover, and each page where a block ended is stamped.
 pub record IsCarried (threads : ℕ) (f : Profile) (p : Progress) (w : World) (indexes : Indexes) : Type 0 where
   pub same : IsSame f p w
+  pub many : threads ≤ length w.caches
   pub seated : AreSeated threads f p
   pub usable : HasUsableBlocks p
   pub stamped : AreEndsStamped p.list

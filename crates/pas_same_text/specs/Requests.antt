@@ -1,5 +1,5 @@
 -- A REQUEST in a replay, one that an operation asks for or one for the block that replaces another: what is known of it, and what it owes.
-use Rattle.std.specs.Prelude.{ℕ, Some}
+use Rattle.std.specs.Prelude.{ℕ, ◌≤◌, length, Some}
 use Rattle.pas_profile.specs.{Profiles.IsValid, Profiles.IsAdmitted, Requests.route_in, Requests.room_in}
 use Rattle.pas_profile.specs.declared.profile.Profile.{Profile}
 use Rattle.pas_steps.specs.Lists.{part}
@@ -15,6 +15,7 @@ use Rattle.pas_same_text.specs.{Same.IsSame, Acts.IsBetween}
 pub record IsAsked (f : Profile) (k : ℕ) (r : Request) (p : Progress) (a : Answer) (w : World) : Type 0 where
   pub valid : IsValid f
   pub thread : IsThread f k
+  pub listed : k ≤ length w.caches
   pub admitted : IsAdmitted f r.size r.align r.heap
   pub before : IsBetween f p
   pub after : IsBetween f (after_answer p k a)

@@ -1,5 +1,5 @@
 -- WHEN A STATE OF THE TEXT, which has no words or views, is that of a replay, which has a list of steps.
-use Rattle.std.specs.Prelude.{ℕ, ◌<◌, ◌≡◌, ◌==◌, Bool, List, [], ◌∷◌, length, map, reverse}
+use Rattle.std.specs.Prelude.{ℕ, ◌<◌, ◌≤◌, ◌≡◌, ◌==◌, Bool, List, [], ◌∷◌, length, map, reverse}
 use Rattle.std.specs.List.{AllByRecursion, list_any, filter}
 use Rattle.pas_bits.specs.Masks.{is_set}
 use Rattle.pas_profile.specs.{Directories.number_of, Profiles.IsDirectoryOf}
@@ -45,9 +45,9 @@ pub record IsSameCache (c : Cached) (own : Cache) : Type 0 where
   pub noted : own.noted ≡ c.noted
   pub began : own.began ≡ c.idle_since
 
--- of each actor of the region there is one; those of keepers hold nothing
+-- Each actor of the region has the one that stands at its number. The threads' are in the list; a keeper may be behind its end, and caches nothing then.
 pub record AreSameCaches (f : Profile) (caches : Caches) (own : List Cache) : Type 0 where
-  pub many : length own ≡ f.threads
+  pub few : length own ≤ f.threads
   pub each : (k : ℕ) → IsThread f k → IsSameCache (caches k) (cache_in own k)
 
 -- ---- guards

@@ -148,11 +148,15 @@ pub fn texts_are_told()
     ensures { (f : Profile) (p : Progress) (w : World) → IsValid f → Legal f p.list → AreTrueMarks f p.list → IsSame f p w → text_of f w ≡ lines_of p.records ++ report_text f (visible p.list) (marks_after p.list) }
 {}
 
-/// WHAT IS WRITTEN OF A REPLAY in the order of the text is told by the replay as a function, for each plan of a text, with keepers or without: its lines, its report, its records and its
-/// events. So the text that `order_text` has for the bytes is what is written of any replay of their plan. Where there are no keepers that is the replay of the phases.
+/// WHAT IS WRITTEN OF A REPLAY in the order of the text is told by the replay as a function, for each plan of a text, with keepers or without: its
+/// lines, its report, its records and its events. The function may have a cache for each actor of the region, or as the text one for each thread
+/// alone: nobody uses those of keepers. So the text that `order_text` has for the bytes is what is written of any replay of their plan. Where there
+/// are no keepers that is the replay of the phases.
 pub fn replays_are_told()
     ensures acts { (text : List ℕ) (plan : Plan) (whole : Whole) (records : List Record) → IsPlanOf text plan → IsReplay InOrder plan whole records
         → IsTold plan whole records (each (acts_on (region_of plan)) (acts_of_plan plan) (opened (region_of plan))) }
+    ensures own { (text : List ℕ) (plan : Plan) (whole : Whole) (records : List Record) → IsPlanOf text plan → IsReplay InOrder plan whole records
+        → IsTold plan whole records (replayed plan.profile (keepers_of plan) (phases_of plan)) }
     ensures bytes { (bytes : List ℕ) (plan : Plan) (whole : Whole) (records : List Record) → IsPlanOf bytes plan → IsReplay InOrder plan whole records
         → order_text bytes ≡ Some (lines_of records ++ report_text (region_of plan) (visible whole) (marks_after whole)) }
     ensures unguarded { (text : List ℕ) (plan : Plan) (whole : Whole) (records : List Record) → IsPlanOf text plan → IsReplay InOrder plan whole records → keepers_of plan ≡ 0
@@ -174,14 +178,6 @@ pub fn acts_are_planned()
 pub fn bytes_are_told()
     ensures text { (bytes : List ℕ) (plan : Plan) → IsPlanOf bytes plan → order_text bytes ≡ Some (text_of plan.profile (replayed plan.profile (keepers_of plan) (phases_of plan))) }
     ensures unguarded { (bytes : List ℕ) (plan : Plan) → IsPlanOf bytes plan → keepers_of plan ≡ 0 → order_text bytes ≡ Some (text_of (region_of plan) (replayed (region_of plan) (keepers_of plan) (phases_of plan))) }
-{}
-
-/// A plan's keepers are actors of the region of its replays, and have a cache each there, which nobody uses: the text is that of the region where its threads alone are
-/// actors. So, with keepers or without, the text of bytes that are a trace is what the acts of any plan of them come to in the region of its replays.
-pub fn wider_texts_are_the_same()
-    ensures plan { (bytes : List ℕ) (plan : Plan) → IsPlanOf bytes plan
-        → text_of plan.profile (replayed plan.profile (keepers_of plan) (phases_of plan)) ≡ text_of (region_of plan) (each (acts_on (region_of plan)) (acts_of_plan plan) (opened (region_of plan))) }
-    ensures bytes { (bytes : List ℕ) (plan : Plan) → IsPlanOf bytes plan → order_text bytes ≡ Some (text_of (region_of plan) (each (acts_on (region_of plan)) (acts_of_plan plan) (opened (region_of plan)))) }
 {}
 
 /// A search that found a page found the one that the text finds: the lowest offered page on which something fits, or where there is none, the lowest that nobody has.

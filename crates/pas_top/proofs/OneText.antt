@@ -1,21 +1,17 @@
 -- What is written of a replay in the order of the text is the text of the bytes, and the summary of a generated trace that of its numbers.
-use Rattle.std.proofs.Common.{◌≡◌, ℕ, zero, suc, ◌%◌, ◌==◌, nat_eq, Bool, true, false, if◌then◌else◌, List, [], ◌∷◌, Option, Some, Result, Ok, Err, codes}
-use Rattle.std.proofs.Common.{get_or, inl, inr, refl, ap, sym, subst, ◌∙◌, arith}
+use Rattle.std.proofs.Common.{◌≡◌, ℕ, List, [], ◌∷◌, Option, Some, Result, Ok, codes, get_or, inl, inr, refl, ap, sym, subst, ◌∙◌, arith}
 use Rattle.std.specs.List.{AllByRecursion}
 use Rattle.pas_profile.specs.declared.{profile.Profile.Profile, event.Event.Event}
-use Rattle.pas_trace.specs.{EveryPlan.all_ops, Reasons.guard_in}
-use Rattle.pas_trace.specs.Plans.{IsPlanOf, Parsed, parsed, phases_in}
-use Rattle.pas_trace.specs.declared.{item.Item.Item, fault.TraceFault.TraceFault, plan.Op.Op, plan.Plan.Plan}
-use Rattle.pas_generate.specs.{Operations.State, Operations.allocates, Traces.state_after, Traces.trace_text}
-use Rattle.pas_generated.specs.Meant.{with_drawn, with_operation, items_after, meant}
+use Rattle.pas_trace.specs.{EveryPlan.all_ops, Reasons.guard_in, Plans.IsPlanOf, Plans.Parsed, Plans.phases_in}
+use Rattle.pas_trace.specs.declared.{fault.TraceFault.TraceFault, plan.Op.Op, plan.Plan.Plan}
+use Rattle.pas_generate.specs.Traces.{trace_text}
 use Rattle.pas_report.specs.Reports.{total_line}
 use Rattle.pas_report.specs.declared.record.Record.{Record}
-use Rattle.pas_answers.specs.Replays.{region_of, threads_of, keepers_of, phases_of, acts_of_plan}
-use Rattle.pas_answers.specs.Ways.{Way, InOrder, OnThreads}
+use Rattle.pas_answers.specs.{Replays.threads_of, Replays.keepers_of, Replays.phases_of, Ways.Way, Ways.InOrder, Ways.OnThreads}
 use Rattle.pas_replay.specs.OneThread.{IsOfOneThread}
-use Rattle.pas_one_text.specs.{State.World, State.each, Order.acts_on, Order.opened, Order.replayed}
+use Rattle.pas_one_text.specs.{State.World, Order.replayed}
 use Rattle.pas_same_text.specs.Told.{IsTold}
-use Rattle.pas_same_text.proofs.{AllActs.plan_told, AllActs.replay_told, TextOfBytes.unguarded_told, WiderText.wider_bytes_told}
+use Rattle.pas_same_text.proofs.{AllActs.own_told, AllActs.order_told, TextOfBytes.replay_told}
 use Rattle.pas_telling.specs.Summaries.{summary_text}
 use Rattle.pas_top.specs.{Generating.IsSummarized, Manners.way_of}
 use Rattle.pas_top.specs.OneText.{IsTextOf, WritesTextOf, IsOfOne, IsTextBy, summary_of_world, summary_for, IsSummaryOf}
@@ -25,9 +21,7 @@ use Rattle.pas_words.specs.declared.manner.Manner.{Manner}
 -- ---- the text
 text_told : (bytes text : List ℕ) → IsReplayed InOrder bytes text → IsTextOf bytes text
 text_told bytes text is =
-    let f : Profile = region_of is.plan in
-    let told : IsTold is.plan is.whole is.records (each (acts_on f) (acts_of_plan is.plan) (opened f)) = plan_told bytes is.plan is.whole is.records is.read is.replay in
-    wider_bytes_told bytes is.plan is.read ∙ ap (λ (t : List ℕ). let o : Option (List ℕ) = Some t in o) (told.text ∙ sym is.text_is)
+    order_told bytes is.plan is.whole is.records is.read is.replay ∙ ap (λ (t : List ℕ). let o : Option (List ℕ) = Some t in o) (sym is.text_is)
 
 -- ---- of a trace of one thread alone
 -- what is said of one plan of the bytes is so of each
@@ -51,46 +45,18 @@ pub text_by : (way : Way) (bytes text : List ℕ) → IsReplayed way bytes text 
 text_by InOrder bytes text is alone = text_told bytes text is
 text_by OnThreads bytes text is alone = λ one. text_told bytes text (alone one)
 
--- ---- generated traces have no `guard` line
-either : (t : Bool) (xs ys : List Item) → guard_in xs ≡ 0 → guard_in ys ≡ 0 → guard_in (if t then xs else ys) ≡ 0
-either true xs ys here there = here
-either false xs ys here there = there
-
-drawn_unguarded : (threads : ℕ) (s : State) (earlier : List Item) → guard_in earlier ≡ 0 → guard_in (with_drawn threads s earlier) ≡ 0
-unfolding with_drawn
-drawn_unguarded threads s earlier none = either (allocates s) _ _ none none
-
-operation_unguarded : (threads number : ℕ) (s : State) (earlier : List Item) → guard_in earlier ≡ 0 → guard_in (with_operation threads number s earlier) ≡ 0
-unfolding with_operation
-operation_unguarded threads number s earlier none = either (nat_eq (number % 1000) 999) _ _ none (either (nat_eq (number % 1000) 0) _ _ none (drawn_unguarded threads s earlier none))
-
-items_unguarded : (threads seed n : ℕ) → guard_in (items_after threads seed n) ≡ 0
-unfolding items_after
-items_unguarded threads seed zero = refl
-items_unguarded threads seed (suc n) = operation_unguarded threads (suc n) (state_after threads seed n) (items_after threads seed n) (items_unguarded threads seed n)
-
--- so they have no keepers
-guard_of : Result Parsed TraceFault → ℕ
-guard_of (Ok p) = guard_in p.items
-guard_of (Err fault) = 0
-
-no_keepers : (seed ops threads pages : ℕ) (plan : Plan) → parsed (trace_text seed ops threads pages) ≡ Ok (meant seed ops threads pages) → IsPlanOf (trace_text seed ops threads pages) plan → keepers_of plan ≡ 0
-unfolding guard_of
-no_keepers seed ops threads pages plan read is = ap (λ (guard : ℕ). if guard == 0 then 0 else plan.profile.threads) (is.guard ∙ (ap guard_of (sym is.read ∙ read) ∙ items_unguarded threads seed ops))
-
 -- ---- the summary
 abbrev by_state : ℕ → Profile → World → Option (List ℕ)
 by_state ops f w = Some (summary_of_world ops f w)
 
-pub summary_told : (seed ops threads pages : ℕ) (text : List ℕ) → parsed (trace_text seed ops threads pages) ≡ Ok (meant seed ops threads pages) → IsSummarized seed ops threads pages text → IsSummaryOf seed ops threads pages text
-summary_told seed ops threads pages text read is =
+pub summary_told : (seed ops threads pages : ℕ) (text : List ℕ) → IsSummarized seed ops threads pages text → IsSummaryOf seed ops threads pages text
+summary_told seed ops threads pages text is =
     let bytes : List ℕ = trace_text seed ops threads pages in
-    let without : keepers_of is.plan ≡ 0 = no_keepers seed ops threads pages is.plan read is.read in
-    let f : Profile = region_of is.plan in
+    let f : Profile = is.plan.profile in
     let w : World = replayed f (keepers_of is.plan) (phases_of is.plan) in
-    let told : IsTold is.plan is.whole is.records w = replay_told bytes is.plan is.whole is.records is.read is.replay without in
+    let told : IsTold is.plan is.whole is.records w = own_told bytes is.plan is.whole is.records is.read is.replay in
     ap (summary_for ops) is.read.read
-    ∙ (unguarded_told (by_state ops) bytes is.plan is.read without
+    ∙ (replay_told (by_state ops) bytes is.plan is.read
     ∙ (ap (λ (rs : List Record). let o : Option (List ℕ) = Some (summary_text ops rs (total_line f w.events)) in o) told.records_are
     ∙ (ap (λ (es : List Event). let o : Option (List ℕ) = Some (summary_text ops is.records (total_line f es)) in o) told.events_are
     ∙ ap (λ (t : List ℕ). let o : Option (List ℕ) = Some t in o) (sym is.text_is))))

@@ -15,5 +15,4 @@ returns-in-Ok-Replayed-clause-told g c =
     summarized job.seed job.ops job.threads job.pages c.in-Ok.text.items (records_in c.in-Ok-Replayed.records) c.in-Ok-Replayed.state c.as_str.result.now
     (subst (IsOutcome InOrder c.in-Ok.text.items) c.in-Ok-Replayed.field-0-is c.in-Ok-Replayed.ensures) c.in-Ok.ensures.text text_is
     in
-    let read = c.generated_texts_are_read.ensures.read job.seed job.ops job.threads job.pages job.valid in
-    inr (0, c.as_str.result.now, (refl, is, summary_told job.seed job.ops job.threads job.pages c.as_str.result.now read is), c.tell.ensures)
+    inr (0, c.as_str.result.now, (refl, is, summary_told job.seed job.ops job.threads job.pages c.as_str.result.now is), c.tell.ensures)
