@@ -18,13 +18,11 @@ use Rattle.pas_check.specs.Checks.{AllFit, ArePlanned, FitsAct, FitsHeaps, FitsW
 kind_routed : (shared : Bool) (classes size align : ℕ) (route : Route) → IsRouteOf classes size align route → IsKind (kind_of_route shared route)
 kind_routed true classes size align (Class class) is = tt
 kind_routed false classes size align (Class class) is = class_known classes size align class is
-kind_routed shared classes size align Bitfit is = tt
-kind_routed shared classes size align Large is = tt
+kind_routed shared classes size align other is = tt
 
 room_small : (route : Route) (size : ℕ) → size ≤ 2 ^ 26 → room_by route size < 2 ^ 32
 room_small (Class class) size few = omega (arith, class_size_le class)
-room_small Bitfit size few = omega (arith, few)
-room_small Large size few = omega (arith, few)
+room_small other size few = omega (arith, few)
 
 request_fits : (f : Profile) (k name heap size align : ℕ) → IsValid f → size ≤ f.pages * 4096 → k < 2 ^ 8 → name < 2 ^ 32 → heap < 32 → FitsRequest f k (asked_for name heap size align)
 request_fits f k name heap size align valid within few low one = search (arith, kind_routed, route_is, room_small)
@@ -90,10 +88,7 @@ module _ (f : Profile) (limit : ℕ) (valid : IsValid f) (few : limit ≤ 2 ^ 32
   task_fits k asked (Task.Request name heap size align) small below sound = heaps_fit f k name heap size align valid sound.0 small (omega (arith, below, few))
   task_fits k asked (Task.Remake name old heap size align) small below sound = heaps_fit f k name heap size align valid sound.0 small (omega (arith, below, few))
   task_fits k asked (Task.Guarded keeper name heap size align) small below sound = heaps_fit f k name heap size align valid sound.0 small (omega (arith, below, few))
-  task_fits k asked (Task.Free name room) small below sound = tt
-  task_fits k asked (Task.FreeRaw block room) small below sound = tt
-  task_fits k asked Task.Flush small below sound = tt
-  task_fits k asked Task.Stop small below sound = tt
+  task_fits k asked other small below sound = tt
 
   chore_fits : (idle : List ℕ) (chore : Chore) → AreThreads idle → MatchOption (epoch_of chore) (Unit {0}) (λ e. e < 2 ^ 40) → AllFit f (acts_of_chore idle chore)
   chore_fits idle (Chore.Tick e) all sound = (omega (arith, sound), tt)

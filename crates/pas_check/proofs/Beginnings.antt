@@ -60,9 +60,7 @@ what_no_pass f s k (RawSized room block) no_pass = freeing_no_pass f s k (entry_
 what_no_pass f s k (Remake name old heap size align) no_pass = remade_no_pass s k name size align (standing_for s.names old) no_pass
 what_no_pass f s k Flush no_pass = entries_no_pass k (s.logs k) [] refl
 what_no_pass f s k Stop no_pass = entries_no_pass k (s.logs k) [] refl
-what_no_pass f s k (Tick e) no_pass = no_pass
-what_no_pass f s k Pass no_pass = no_pass
-what_no_pass f s k (Idle n) no_pass = no_pass
+what_no_pass f s k other no_pass = no_pass
 
 stopping_no_pass : (idle : Bool) (s : Stand) (k : ℕ) → BeginsNoPass s.due → BeginsNoPass (stopping idle s k).due
 stopping_no_pass true s k no_pass = entries_no_pass k (s.logs k) _ refl
