@@ -4,7 +4,7 @@ use Rattle.std.proofs.Common.{Some, length, get_or, set, inl, inr, refl, ap, sym
 use Rattle.std.proofs.Common.{eqb-true, is_some, le-leb, leb-true, ne_eqb}
 use Rattle.std.proofs.lemmas.Bool.{and_from, and_parts, cases_eq, false_from_ne_true, lt-leb}
 use Rattle.pas_profile.specs.{Directories.IsKind, Profiles.IsPage, Blocks.address_of}
-use Rattle.pas_profile.specs.declared.{event.Event.Event, name.Block.Block, name.Name.Name, profile.Profile.Profile}
+use Rattle.pas_profile.specs.declared.{name.Block.Block, name.Name.Name, profile.Profile.Profile}
 use Rattle.pas_machine.specs.Machines.{profile_of, StandsFor}
 use Rattle.pas_machine.specs.declared.machine.Machine.{Machine}
 use Rattle.pas_report.specs.declared.record.{Record.Record, Said.Said}
@@ -20,8 +20,7 @@ use Rattle.pas_check.specs.States.{Due, Writes, Serves, Examines, Task, Does, St
 use Rattle.pas_check.specs.Tasks.{ActTaken, Asks, Comes, EntryLogged, FreesEntry, FreesNamed, IsCarried, IsNext, IsSuited, LogEmptied, PassTaken, Remakes}
 use Rattle.pas_check.specs.Tasks.{Resizes, SaysNamed, Stands, being_logged, emptying}
 use Rattle.pas_check.specs.declared.{acting.Judge.Judge, cutting.Cursor.Cursor, entry.Entry.Entry, logging.Logs.Logs, naming.Meaning.Meaning}
-use Rattle.pas_check.specs.declared.{naming.Meaning.TheVariants.Unasked, naming.Meaning.TheVariants.Refused, naming.Meaning.TheVariants.Given}
-use Rattle.pas_check.specs.declared.{naming.Names.Names, serving.Wanted.Wanted}
+use Rattle.pas_check.specs.declared.{naming.Meaning.TheVariants.Given, naming.Names.Names, serving.Wanted.Wanted}
 use Rattle.pas_check.proofs.{Beginnings.begun_alike, Kept.kept_same}
 use Rattle.pas_check.proofs.Leads.{leads_alike, leads_fails, leads_nowhere, leads_on}
 
@@ -31,7 +30,8 @@ later {f} {j} {s} {from} to more stands = search (arith, kept_same)
 
 -- what comes after a stretch, or from another state that is this one
 module _ (f : Profile) (text : List ℕ) (new : Judge) (to : Cursor) (due : List Due) (left : List Task) where
-  pub comes_on : (is : Bool) → {s u : Stand} {from at : Cursor} → Leads f text s from u at → Comes f text u at new to due left is → Comes f text s from new to due left is
+  pub comes_on : (is : Bool) → {s u : Stand} {from at : Cursor} → Leads f text s from u at → Comes f text u at new to due left is
+      → Comes f text s from new to due left is
   comes_on true led end = (end.0, leads_on led end.1, end.2, end.3, end.4)
   comes_on false led end = λ enough. leads_fails led (end enough)
 
@@ -41,7 +41,13 @@ module _ (f : Profile) (text : List ℕ) (new : Judge) (to : Cursor) (due : List
   -- one line, before which the judge stands already for what stands after it
   pub comes_led : (is : Bool) (s : Stand) {from : Cursor} (t : Stand) → Stands f new t from → t.due ≡ due → t.left ≡ left → IsLed f text s from t to is
       → Comes f text s from new to due left is
-  comes_led true s {from} t stands due_is left_is led = (t, led, (let count : from.lines ≤ to.lines = (omega (arith, led.count)) in later to count stands), due_is, left_is)
+  comes_led true s {from} t stands due_is left_is led = (
+    t,
+    led,
+    (let count : from.lines ≤ to.lines = (omega (arith, led.count)) in later to count stands),
+    due_is,
+    left_is,
+  )
   comes_led false s t stands due_is left_is led = λ enough. led
 
 -- ---- an act is begun without a line
@@ -211,7 +217,8 @@ module _ (f : Profile) (text : List ℕ) (old : Judge) (from : Cursor) (k : ℕ)
   -- the log is full
   pub logged_full : true ≡ nat_le 64 (length (logged old.logs k)) → (new : Judge) (to : Cursor) (is : Bool) → LogEmptied f text old from new to k (entry ∷ []) is
       → EntryLogged f text old from new to k entry is
-  logged_full full new to is emptied = λ s more ts stands. comes_as f text new to more ts is from (sym (logging_is true full s more ts stands)) (emptied s more ts stands)
+  logged_full full new to is emptied = λ s more ts stands. comes_as f text new to more ts is from (sym (logging_is true full s more ts stands))
+      (emptied s more ts stands)
 
   -- it isn't
   pub logged_added : IsWithin text from → false ≡ nat_le 64 (length (logged old.logs k)) → (logs : Logs) → logged logs k ≡ logged old.logs k ++ entry ∷ []
@@ -317,7 +324,8 @@ after_some k r replaced name None is some v = absurd (cc)
 after_some k r replaced name (Some block) is some v = ap (λ o. after_request v k r o (Some block) []) is
 
 module _ (f : Profile) (text : List ℕ) (old : Judge) (from to : Cursor) (k : ℕ) (w : Wanted) (few : k < 2 ^ 8) (low : w.name < 2 ^ 32) (room : w.room < 2 ^ 32)
-    (heap : w.directory.heap < 2 ^ 8) (kind : IsKind w.directory.kind) (r : Request) (replaced : Option Name) (wants : IsWanted f r w) (s : Stand) (stands : Stands f old s from)
+    (heap : w.directory.heap < 2 ^ 8) (kind : IsKind w.directory.kind) (r : Request) (replaced : Option Name) (wants : IsWanted f r w) (s : Stand)
+    (stands : Stands f old s from)
     (due : s.due ≡ Serves k r replaced ∷ []) where
   -- the request has the fields of w, whose bounds are given
   request_fits : FitsRequest f k r
@@ -345,24 +353,30 @@ module _ (f : Profile) (text : List ℕ) (old : Judge) (from to : Cursor) (k : �
     served_stands = (let end = taken s r replaced [] asked_there in search (arith, kept_same))
 
     -- nothing is logged
-    pub served : ((v : Stand) → after_request v k r replaced found [] ≡ with_due (with_name v r.name found) []) → IsCarried f text s from (record old { machine = machine; names = names }) to true
+    pub served : ((v : Stand) → after_request v k r replaced found [] ≡ with_due (with_name v r.name found) [])
+        → IsCarried f text s from (record old { machine = machine; names = names }) to true
     served ends = (with_due named [], subst (λ (u : Stand). Leads f text s from u to) (ends made) served_leads, other_plan [] s.left served_stands, refl, refl)
 
     -- the name that it replaces is
-    pub served_logged : (name : Name) → ((v : Stand) → after_request v k r replaced found [] ≡ logging (is_full v k) (with_name v r.name found) k (unsized name) [])
-        → (new : Judge) (last : Cursor) (is : Bool) → EntryLogged f text (record old { machine = machine; names = names }) to new last k (unsized name) is → IsCarried f text s from new last is
+    pub served_logged : (name : Name) → ((v : Stand) → after_request v k r replaced found [] ≡ logging (is_full v k) (with_name v r.name found) k
+        (unsized name) [])
+        → (new : Judge) (last : Cursor) (is : Bool) → EntryLogged f text (record old { machine = machine; names = names }) to new last k (unsized name) is
+        → IsCarried f text s from new last is
     served_logged name same new last is logged =
         let there = same made ∙ sym (left_kept (is_full named k) named k (unsized name) []) in
         comes_on f text new last [] s.left is (subst (λ (u : Stand). Leads f text s from u to) there served_leads) (logged named [] s.left served_stands)
 
 -- an act that only asks
-pub asks_taken : (f : Profile) (text : List ℕ) (old new : Judge) (from to : Cursor) (act : Act) → IsWithin text from → (k : ℕ) (r : Request) (replaced : Option Name)
-    → Asks f old from act k r replaced → (is : Bool) → ((s : Stand) → Stands f old s from → s.due ≡ Serves k r replaced ∷ [] → IsCarried f text s from new to is)
+pub asks_taken : (f : Profile) (text : List ℕ) (old new : Judge) (from to : Cursor) (act : Act) → IsWithin text from
+    → (k : ℕ) (r : Request) (replaced : Option Name)
+    → Asks f old from act k r replaced → (is : Bool) → ((s : Stand) → Stands f old s from → s.due ≡ Serves k r replaced ∷ []
+    → IsCarried f text s from new to is)
     → ActTaken f text old from new to act is
 asks_taken f text old new from to act within k r replaced asks is carried = λ s ts next.
     let u : Stand = record s { due = Serves k r replaced ∷ []; left = ts } in
     comes_on f text new to [] ts is (begins f text old from act within s ts next)
-    (comes_as f text new to [] ts is from (ap (λ (v : Stand). record v { left = ts }) (asks s next.stands)) (carried u (other_plan (Serves k r replaced ∷ []) ts next.stands) refl))
+    (comes_as f text new to [] ts is from (ap (λ (v : Stand). record v { left = ts }) (asks s next.stands))
+    (carried u (other_plan (Serves k r replaced ∷ []) ts next.stands) refl))
 
 -- ---- a free
 is_outside : (f g : Profile) (page : ℕ) → g ≡ f → (IsPage g page → ⊥) → is_page f page ≡ false

@@ -3,8 +3,7 @@ use Rattle.std.proofs.Common.{◌≡◌, ◌≢◌, Option, None, Some, ℕ, zer
 use Rattle.std.proofs.Common.{refl, subst, arith, MatchOption}
 use Rattle.std.specs.List.{AllByRecursion, filter}
 use Rattle.pas_profile.specs.{Directories.IsKind, Profiles.IsAdmitted, Profiles.IsValid, Requests.kind_of_route, Routes.IsRouteOf, Routes.room_by}
-use Rattle.pas_profile.specs.declared.{directory.Route.Route, directory.Route.TheVariants.Class, directory.Route.TheVariants.Bitfit}
-use Rattle.pas_profile.specs.declared.{directory.Route.TheVariants.Large, profile.Profile.Profile}
+use Rattle.pas_profile.specs.declared.{directory.Route.Route, directory.Route.TheVariants.Class, profile.Profile.Profile}
 use Rattle.pas_profile.proofs.{ClassFacts.class_known, ClassFacts.route_is, Sizes.class_size_le}
 use Rattle.pas_trace.specs.Acts.{Act, StopsIdle, Ends, Lowers, act_kept, numbers_from, acts_from, acts_of, acts_of_chore, acts_of_op, acts_of_ops, acts_of_work}
 use Rattle.pas_trace.specs.Acts.{close_acts, phase_acts, threads_where}

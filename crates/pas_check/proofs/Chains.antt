@@ -1,5 +1,5 @@
 -- Acts, one after the other.
-use Rattle.std.proofs.Common.{◌≡◌, ℕ, ◌+◌, ◌-◌, ◌<◌, Bool, true, false, if◌then◌else◌, List, [], ◌∷◌, ◌++◌, map, refl, ap, subst, ◌∙◌, arith}
+use Rattle.std.proofs.Common.{◌≡◌, ℕ, ◌+◌, ◌-◌, ◌<◌, Bool, true, false, if◌then◌else◌, List, [], ◌∷◌, ◌++◌, map, refl, ap, subst, arith}
 use Rattle.std.specs.List.{filter}
 use Rattle.pas_profile.specs.declared.profile.Profile.{Profile}
 use Rattle.pas_trace.specs.Acts.{Act, MakesPass, numbers_from}
@@ -63,7 +63,8 @@ pub number_taken : (text : List ℕ) (old mid new : Judge) (from at to : Cursor)
     → ((f : Profile) → ActTaken f text mid at new to (make (i + 1)) taken) → (more : List Act)
     → TakenTo text old from new to (start ++ more) (map make (numbers_from (i + 1 + 1) (n - (i + 1))) ++ more) taken
 number_taken text old mid new from at to make i n start taken low far act more =
-    then_taken text old mid new from at to _ _ (make (i + 1) ∷ []) (map make (numbers_from (i + 1 + 1) (n - (i + 1))) ++ more) taken (next_number make i n more low) (far more)
+    then_taken text old mid new from at to _ _ (make (i + 1) ∷ []) (map make (numbers_from (i + 1 + 1) (n - (i + 1))) ++ more) taken
+    (next_number make i n more low) (far more)
     (act_taken text mid new at to (make (i + 1)) taken act)
 
 -- as much room as before: each table has as many as the one in between

@@ -1,9 +1,9 @@
 -- Outcomes of a pass, taken or not.
-use Rattle.std.proofs.Common.{arith, ◌≡◌, ℕ, ◌<◌, ◌==◌, Bool, true, false, if◌then◌else◌, List, Option, Some, None, refl, ap, sym, subst, ◌∙◌, eqb-true, eq-eqb}
+use Rattle.std.proofs.Common.{arith, ◌≡◌, ℕ, ◌<◌, true, false, List, Option, Some, None, refl, ap, sym, subst, eqb-true}
 use Rattle.std.proofs.lemmas.Option.{none-some, same_Some}
 use Rattle.pas_profile.specs.Profiles.{IsPage}
 use Rattle.pas_profile.specs.declared.event.{Event.Event, Outcome.Outcome}
-use Rattle.pas_profile.specs.declared.event.Outcome.TheVariants.{Unbacked, Bare, Young, InUse, NotOffered}
+use Rattle.pas_profile.specs.declared.event.Outcome.TheVariants.{Bare, Young, InUse, NotOffered}
 use Rattle.pas_machine.specs.Machines.{profile_of, StandsFor}
 use Rattle.pas_machine.specs.declared.machine.Machine.{Machine}
 use Rattle.pas_report.specs.Lines.{line_of}
@@ -44,16 +44,19 @@ module _ (old : Machine) (line : List ℕ) (last epoch : ℕ) where
 
   outcome_refused : (new : Machine) → new ≡ old
       → ((p : ℕ) (o : Outcome) → last < p → IsPage (profile_of old) p → Fits (record_of epoch p o) → line ≡ line_of (record_of epoch p o)
-      → (s : Stand) → StandsFor old s.events → IsFew s.events → s.epoch ≡ epoch → MayCome (profile_of old) s p o → ⊥) → OutcomeTaken old new last epoch line None
+      → (s : Stand) → StandsFor old s.events → IsFew s.events → s.epoch ≡ epoch → MayCome (profile_of old) s p o → ⊥)
+      → OutcomeTaken old new last epoch line None
   outcome_refused new kept none = search (arith, outcome_fits)
 
   -- no record has the line
   pub outcome_unread : ((r : Record) → Fits r → line ≡ line_of r → None ≡ Some r) → OutcomeTaken old old last epoch line None
-  outcome_unread none = outcome_refused old refl (λ p o rises region fits has s stands low same may. none-some (record_of epoch p o) (none (record_of epoch p o) fits has))
+  outcome_unread none = outcome_refused old refl (λ p o rises region fits has s stands low same may.
+      none-some (record_of epoch p o) (none (record_of epoch p o) fits has))
 
   -- no outcome has it
   pub outcome_other : IsOnly None → OutcomeTaken old old last epoch line None
-  outcome_other none = outcome_refused old refl (λ p o rises region fits has s stands low same may. none-some (record { page = p; outcome = o }) (none p o fits has))
+  outcome_other none = outcome_refused old refl (λ p o rises region fits has s stands low same may. none-some (record { page = p; outcome = o })
+      (none p o fits has))
 
   -- the outcome is of another page than one that may come
   pub outcome_amiss : (x : Examined) → IsOnly (Some x) → (last < x.page → IsPage (profile_of old) x.page → ⊥) → OutcomeTaken old old last epoch line None

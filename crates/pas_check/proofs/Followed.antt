@@ -1,6 +1,6 @@
 -- What follows a pass fits its places, where the acts that are left do.
-use Rattle.std.proofs.Common.{◌≡◌, ◌≢◌, ℕ, ◌+◌, ◌/◌, ◌^◌, ◌<◌, ◌==◌, ◌||◌, if◌then◌else◌, nat_le, max, Bool, cond, true, false, List, [], ◌∷◌, ◌++◌, map}
-use Rattle.std.proofs.Common.{Option, None, Some, inl, inr, refl, ap, sym, subst, ◌∙◌, arith, MatchOption}
+use Rattle.std.proofs.Common.{◌≡◌, ◌≢◌, ℕ, ◌+◌, ◌/◌, ◌^◌, ◌<◌, ◌==◌, if◌then◌else◌, nat_le, max, Bool, cond, true, false, List, [], ◌∷◌, ◌++◌, map, Option}
+use Rattle.std.proofs.Common.{None, Some, inl, inr, refl, sym, subst, ◌∙◌, arith, MatchOption}
 use Rattle.std.specs.List.{filter}
 use Rattle.std.proofs.lemmas.{Bool.and_parts, Option.none-some, Option.same_Some}
 use Rattle.pas_profile.specs.Blocks.{address_of}
@@ -8,12 +8,12 @@ use Rattle.pas_profile.specs.declared.{event.Event.Event, name.Block.Block, prof
 use Rattle.pas_trace.specs.declared.{item.Request.Request, plan.What.What}
 use Rattle.pas_report.specs.declared.record.{Record.Record, Said.Said}
 use Rattle.pas_trace.specs.{Asked.request_in, Named.Named, Named.standing_for}
-use Rattle.pas_trace.specs.Acts.{Act, Operates, Guards, Settles, Ticks, MakesPass, ReadsEpoch, StopsIdle, MarksPhase, Wakes, MarksClose, Ends, Lowers}
-use Rattle.pas_trace.specs.declared.plan.What.TheVariants.{Alloc, Guarded, Free, FreeSized, Raw, RawSized, Remake, Flush, Stop, Tick, Pass, Idle}
+use Rattle.pas_trace.specs.Acts.{Act, Operates, Guards, Ticks, MakesPass, StopsIdle, MarksPhase, Wakes, MarksClose, Ends, Lowers}
+use Rattle.pas_trace.specs.declared.plan.What.TheVariants.{Alloc, Guarded, Free, FreeSized, Raw, RawSized, Remake, Flush, Stop}
 use Rattle.pas_check.specs.Begins.{after_task, begun_act, begun_from, begun_what, entries_due, entry_of, flushing, freeing, freeing_at, freeing_named}
 use Rattle.pas_check.specs.Begins.{goes_down, guarding, is_aligned, is_full, is_page, logging, lowered_due, past_outcomes, remaking, remaking_named}
 use Rattle.pas_check.specs.Begins.{request_for, settled_with, stopping, suits, sweeping, tells, unsized}
-use Rattle.pas_check.specs.{Bounds.FitsNext, Bounds.FitsRequest, Bounds.HaveHeaps, Calls.IsFollowed, Calls.outcome_in, Takes.IsOutcome}
+use Rattle.pas_check.specs.{Bounds.FitsNext, Bounds.FitsRequest, Bounds.HaveHeaps, Calls.IsFollowed}
 use Rattle.pas_check.specs.Checks.{AllFit, FitsAct, FitsHeaps, FitsWhat, IsThread}
 use Rattle.pas_check.specs.States.{Due, Writes, Tries, Task, Does, Reports, Stand}
 use Rattle.pas_check.specs.declared.{entry.Entry.Entry, guard.Guard.Guard}

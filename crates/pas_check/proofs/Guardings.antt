@@ -1,6 +1,6 @@
 -- Guards that are raised and lowered.
-use Rattle.std.proofs.Common.{◌≡◌, ◌≢◌, ℕ, ◌+◌, ◌^◌, ◌<◌, ◌≤◌, ◌==◌, not, if◌then◌else◌, Bool, true, false, cond, List, [], ◌∷◌, ◌++◌, map, Option, None, Some}
-use Rattle.std.proofs.Common.{refl, ap, sym, subst, ◌∙◌, arith, eqb-true}
+use Rattle.std.proofs.Common.{◌≡◌, ◌≢◌, ℕ, ◌+◌, ◌^◌, ◌<◌, ◌≤◌, ◌==◌, if◌then◌else◌, Bool, true, false, cond, List, [], ◌∷◌, ◌++◌, map, None, Some, refl, ap}
+use Rattle.std.proofs.Common.{sym, subst, ◌∙◌, arith, eqb-true}
 use Rattle.std.specs.{List.filter, Global.Vec}
 use Rattle.pas_profile.specs.{Blocks.address_of, Directories.IsKind}
 use Rattle.pas_profile.specs.declared.{event.Event.Event, name.Block.Block, profile.Profile.Profile}
@@ -9,15 +9,15 @@ use Rattle.pas_machine.specs.declared.machine.Machine.{Machine}
 use Rattle.pas_report.specs.declared.record.{Record.Record, Said.Said}
 use Rattle.pas_trace.specs.{Acts.Act, Acts.Lowers, Named.standing_for}
 use Rattle.pas_trace.specs.declared.item.Request.{Request}
-use Rattle.pas_check.specs.Begins.{after_task, goes_down, guard_of, has_sides, lowered_due, lowered_record, page_above, page_below, raising}
+use Rattle.pas_check.specs.Begins.{goes_down, guard_of, has_sides, lowered_due, page_above, page_below, raising}
 use Rattle.pas_check.specs.{Bounds.FitsRequest, Bounds.IsKept, Tables.meant}
-use Rattle.pas_check.specs.Calls.{IsAsked, IsTrying, IsWanted, LinesSwept, RequestTaken, SweepGoes, TrialTaken, after_request, staying}
+use Rattle.pas_check.specs.Calls.{IsTrying, IsWanted, LinesSwept, SweepGoes, TrialTaken, staying}
 use Rattle.pas_check.specs.Leading.{Fails, IsLed, IsWithin, Leads, lines_from}
-use Rattle.pas_check.specs.States.{Due, Writes, Serves, Tries, Never, Task, Does, Stand, with_due, with_name}
+use Rattle.pas_check.specs.States.{Due, Writes, Serves, Tries, Never, Task, Stand, with_due, with_name}
 use Rattle.pas_check.specs.Tasks.{ActTaken, AsksKeeper, Comes, GuardsSwept, IsCarried, IsNext, Stands, being_swept}
 use Rattle.pas_check.specs.declared.{acting.Judge.Judge, cutting.Cursor.Cursor, guard.Guard.Guard, guarding.Trial.TheVariants.Gives}
 use Rattle.pas_check.specs.declared.{guarding.Trial.TheVariants.Passes, guarding.Trial.TheVariants.Stops, naming.Names.Names, serving.Wanted.Wanted}
-use Rattle.pas_check.proofs.Actings.{after_plain, begins, comes_as, comes_led, comes_on}
+use Rattle.pas_check.proofs.Actings.{begins, comes_as, comes_led, comes_on}
 use Rattle.pas_check.proofs.Kept.{kept_same}
 use Rattle.pas_check.proofs.Leads.{due_lacks, due_refused, leads_fails, leads_nowhere, leads_on}
 
@@ -37,18 +37,21 @@ module _ (machine : Machine) (text : List ℕ) (from : Cursor) (guards : List Gu
   sweep_begins within f s more stands due = subst (λ (u : Stand). Leads f text s from u from) (ap (with_due s) due) (leads_nowhere f text s from within)
 
   module _ (at to : Cursor) (guard : Guard) (rest : List Guard) (before : SweepGoes machine text from at guards keeper all (guard ∷ rest)) where
-    due_with : (s : Stand) (down : Bool) → StandsFor machine s.events → ((es : List Event) → StandsFor machine es → down ≡ goes_down es keeper all guard) → (more : List Due)
+    due_with : (s : Stand) (down : Bool) → StandsFor machine s.events → ((es : List Event) → StandsFor machine es → down ≡ goes_down es keeper all guard)
+        → (more : List Due)
         → map lowered_due (filter (goes_down s.events keeper all) (guard ∷ rest)) ++ more
         ≡ map lowered_due (cond down (guard ∷ filter (goes_down s.events keeper all) rest) (filter (goes_down s.events keeper all) rest)) ++ more
     due_with s down stands tells more =
-        ap (λ b. map lowered_due (cond b (guard ∷ filter (goes_down s.events keeper all) rest) (filter (goes_down s.events keeper all) rest)) ++ more) (sym (tells s.events stands))
+        ap (λ b. map lowered_due (cond b (guard ∷ filter (goes_down s.events keeper all) rest) (filter (goes_down s.events keeper all) rest)) ++ more)
+        (sym (tells s.events stands))
 
     pub sweep_stays : ((es : List Event) → StandsFor machine es → false ≡ goes_down es keeper all guard) → SweepGoes machine text from at guards keeper all rest
     sweep_stays up f s more stands due =
         subst (λ (ds : List Due). Leads f text s from (with_due s ds) at) (due_with s false stands up more) (before f s more stands due)
 
     module _ (down : (es : List Event) → StandsFor machine es → true ≡ goes_down es keeper all guard) where
-      first : (f : Profile) (s : Stand) (more : List Due) → StandsFor machine s.events → s.due ≡ map lowered_due (filter (goes_down s.events keeper all) guards) ++ more
+      first : (f : Profile) (s : Stand) (more : List Due) → StandsFor machine s.events
+          → s.due ≡ map lowered_due (filter (goes_down s.events keeper all) guards) ++ more
           → Leads f text s from (with_due s (lowered_due guard ∷ (map lowered_due (filter (goes_down s.events keeper all) rest) ++ more))) at
       first f s more stands due =
           subst (λ (ds : List Due). Leads f text s from (with_due s ds) at) (due_with s true stands down more) (before f s more stands due)
@@ -102,7 +105,8 @@ module _ (f : Profile) (text : List ℕ) (old : Judge) (from to : Cursor) (keepe
 -- the keeper lowers all its guards
 pub lowered : (f : Profile) (text : List ℕ) (old new : Judge) (from to : Cursor) (keeper : ℕ) → IsWithin text from → (is : Bool) → GuardsSwept f text old from new to keeper true is
     → ActTaken f text old from new to (Lowers keeper) is
-lowered f text old new from to keeper within is swept = λ s ts next. comes_on f text new to [] ts is (begins f text old from (Lowers keeper) within s ts next) (swept s [] ts next.stands)
+lowered f text old new from to keeper within is swept = λ s ts next.
+    comes_on f text new to [] ts is (begins f text old from (Lowers keeper) within s ts next) (swept s [] ts next.stands)
 
 -- ---- a request that the keeper tries
 module _ (f : Profile) (text : List ℕ) (old : Judge) (from : Cursor) (k keeper : ℕ) (within : IsWithin text from) (act : Act) (r : Request) (asks : AsksKeeper f old from act keeper k r) where
@@ -110,7 +114,8 @@ module _ (f : Profile) (text : List ℕ) (old : Judge) (from : Cursor) (k keeper
   dues = Tries keeper k r false ∷ []
 
   -- its lines behind those of a sweep
-  swept_comes : (mid : Judge) (at : Cursor) (is : Bool) → GuardsSwept f text old from mid at keeper false is → (s : Stand) (ts : List Task) → IsNext f old s from act ts
+  swept_comes : (mid : Judge) (at : Cursor) (is : Bool) → GuardsSwept f text old from mid at keeper false is → (s : Stand) (ts : List Task)
+      → IsNext f old s from act ts
       → Comes f text s from mid at dues ts is
   swept_comes mid at is swept s ts next =
       comes_on f text mid at dues ts is (begins f text old from act within s ts next)

@@ -3,7 +3,7 @@ use Rattle.std.proofs.Common.{◌≡◌, ℕ, zero, suc, ◌+◌, ◌↔◌, Boo
 use Rattle.pas_profile.specs.declared.profile.Profile.{Profile}
 use Rattle.pas_check.specs.{Accepted.IsDone, Accepted.IsWhole, Accepted.MayGo, Begins.past_outcomes, Begins.ready, Begins.ready_with, Going.AreAlike}
 use Rattle.pas_check.specs.Leading.{Fails, IsJustLine, IsLed, IsWithin, Leads, lines_from}
-use Rattle.pas_check.specs.States.{Due, Writes, Frees, Serves, Tries, Never, Examines, Heads, Shows, Totals, Stand, with_due}
+use Rattle.pas_check.specs.States.{Due, Examines, Stand, with_due}
 use Rattle.pas_check.specs.Takes.{IsJust, Takes, TakesDue, TakesFirst}
 use Rattle.pas_check.specs.declared.cutting.Cursor.{Cursor}
 

@@ -1,17 +1,15 @@
 -- A line that may come next leads to one state: no outcome of a pass has the line of what follows the pass.
-use Rattle.std.proofs.Common.{◌≡◌, ◌≢◌, ℕ, suc, ◌^◌, ◌<◌, ◌⊎◌, List, Option, None, [], ◌∷◌, ◌++◌, length, codes, inl, inr, refl, ap, sym, subst, ◌∙◌, arith}
+use Rattle.std.proofs.Common.{◌≡◌, ◌≢◌, ℕ, suc, ◌^◌, ◌<◌, ◌⊎◌, List, ◌∷◌, ◌++◌, length, codes, inl, inr, refl, ap, sym, subst, ◌∙◌, arith}
 use Rattle.std.specs.Fmt.{decimal}
-use Rattle.pas_profile.specs.declared.{event.Event.Event, event.Why.Why, event.Outcome.Outcome, name.Block.Block, name.Name.Name, profile.Profile.Profile}
+use Rattle.pas_profile.specs.declared.{event.Event.Event, event.Why.Why, event.Outcome.Outcome, profile.Profile.Profile}
 use Rattle.pas_profile.specs.declared.event.Outcome.TheVariants.{Unbacked, Bare, Young, InUse, NotOffered}
 use Rattle.pas_report.specs.Lines.{hex_digits, line_of, line_of_answer, line_of_event}
 use Rattle.pas_report.specs.declared.record.{Record.Record, Said.Said}
-use Rattle.pas_trace.specs.declared.item.Request.{Request}
 use Rattle.pas_check.specs.{Begins.past_outcomes, Begins.ready, Ranges.Fits, Ranges.FitsEntry, Ranges.FitsEvent, Readings.byte_at, Readings.of_u8}
 use Rattle.pas_check.specs.{Readings.past_digits}
-use Rattle.pas_check.specs.Bounds.{FitsFirst, FitsRequest, FitsNext, IsOfThread, IsSmall}
-use Rattle.pas_check.specs.States.{Due, Writes, Frees, Serves, Tries, Never, Examines, Heads, Shows, Totals, Stand}
-use Rattle.pas_check.specs.Takes.{IsEventOf, IsOutcome, IsPreparing, IsRefusal, serving, Takes, TakesRequest, TakesDue, TakesFirst, TakesOutcome, directory_of}
-use Rattle.pas_check.specs.Takes.{record_of}
+use Rattle.pas_check.specs.Bounds.{FitsFirst, FitsNext, IsOfThread, IsSmall}
+use Rattle.pas_check.specs.States.{Due, Writes, Frees, Serves, Tries, Examines, Heads, Shows, Totals, Stand}
+use Rattle.pas_check.specs.Takes.{IsEventOf, IsOutcome, Takes, TakesDue, TakesFirst, TakesOutcome, record_of}
 use Rattle.pas_check.specs.declared.entry.Entry.{Entry}
 use Rattle.pas_check.proofs.{Digits.past_number, Digits.u8_back, Takings.why_fits}
 use Rattle.pas_check.proofs.OneNext.{TellsNone, by_request, by_try, no_outcome, one_next, one_outcome, outcome_fits, same_record}
@@ -86,7 +84,8 @@ module _ (f : Profile) (s : Stand) (small : IsSmall f s) (last : ℕ) (rest : Li
 
   no_entry_of : (t : Stand) (k : ℕ) (entry : Entry) (e : Event) → t.epoch < 2 ^ 64 → (k < 2 ^ 8) × ((0 < k) ⊎ FitsEntry entry) → IsEventOf t k entry e → line ≡ line_of_event e → ⊥
   no_entry_of t k entry e epoch (few, inl some) is has = no_thread k some (line_of_event e) (spaced_actor k few (line_of_event e) (entry_spaced k few t entry e is)) has
-  no_entry_of t k entry e epoch (few, inr fits) is has = no_record (Record.Event e) (entry_fits t k entry e few fits epoch is) (no_outcome (Record.Event e) (no_entry t k entry e is)) has
+  no_entry_of t k entry e epoch (few, inr fits) is has = no_record (Record.Event e) (entry_fits t k entry e few fits epoch is)
+      (no_outcome (Record.Event e) (no_entry t k entry e is)) has
 
   outcome_apart : (t : Stand) → IsSmall f t → (due : List Due) → FitsNext f due → past_outcomes due ≡ due → (b : Stand) → TakesDue f t due line b → ⊥
   outcome_apart t new (Writes item ∷ more) fits no_pass b y = no_writing item fits y.0

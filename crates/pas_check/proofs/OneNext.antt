@@ -1,12 +1,12 @@
 -- A line that may come leads to one state, where it answers what is due.
-use Rattle.std.proofs.Common.{◌≡◌, ◌≢◌, ℕ, ◌/◌, ◌%◌, ◌^◌, ◌<◌, ◌≤◌, ◌==◌, ◌||◌, Bool, true, false, if◌then◌else◌, List, [], ◌∷◌, Option, Some, None, inl, inr}
-use Rattle.std.proofs.Common.{refl, ap, sym, subst, ◌∙◌, arith, eqb-true, eq-eqb, ne_eqb}
+use Rattle.std.proofs.Common.{◌≡◌, ℕ, ◌/◌, ◌%◌, ◌^◌, ◌<◌, ◌≤◌, ◌==◌, ◌||◌, Bool, true, false, if◌then◌else◌, List, [], ◌∷◌, Option, Some, None, inl, inr, refl}
+use Rattle.std.proofs.Common.{ap, sym, subst, ◌∙◌, arith, eqb-true, eq-eqb, ne_eqb}
 use Rattle.std.proofs.lemmas.Option.{none-some, same_Some}
 use Rattle.pas_profile.specs.{Profiles.IsPage, Profiles.IsValid, Blocks.address_of, Blocks.grain_of, Blocks.length_of}
 use Rattle.pas_bits.proofs.Runs.{first_of_run}
 use Rattle.pas_profile.specs.declared.{directory.Directory.Directory, event.Event.Event, event.Outcome.Outcome, name.Block.Block, name.Name.Name}
-use Rattle.pas_profile.specs.declared.{profile.Profile.Profile}
-use Rattle.pas_profile.specs.declared.event.Outcome.TheVariants.{Unbacked, Bare, Young, InUse, NotOffered}
+use Rattle.pas_profile.specs.declared.{profile.Profile.Profile, event.Outcome.TheVariants.Unbacked, event.Outcome.TheVariants.Young}
+use Rattle.pas_profile.specs.declared.{event.Outcome.TheVariants.InUse}
 use Rattle.pas_machine.specs.{Machine.Run, Machine.Admits, State.deed_in}
 use Rattle.pas_steps.specs.Events.{actor_of}
 use Rattle.pas_report.specs.Lines.{line_of}
@@ -14,7 +14,7 @@ use Rattle.pas_report.specs.declared.record.{Record.Record, Said.Said}
 use Rattle.pas_check.specs.{Begins.has_sides, Begins.raising, Begins.replacing, Calls.outcome_in, Ranges.FitsEvent, Ranges.FitsSaid, Ranges.Fits}
 use Rattle.pas_check.specs.Bounds.{FitsRequest, FitsFirst, FitsTry, IsSmall}
 use Rattle.pas_trace.specs.declared.item.Request.{Request}
-use Rattle.pas_check.specs.States.{Due, Writes, Frees, Serves, Tries, Never, Examines, Heads, Shows, Totals, Stand, with_due, with_one, with_name}
+use Rattle.pas_check.specs.States.{Due, Frees, Serves, Tries, Never, Examines, Shows, Stand, with_due, with_one, with_name}
 use Rattle.pas_check.specs.Takes.{IsPreparing, IsFor, IsRefusal, directory_of, is_back, serving, MayCome, record_of, after_outcome, TakesRequest, TakesTry}
 use Rattle.pas_check.specs.Takes.{IsOutcome, TakesOutcome, TakesDue}
 use Rattle.pas_check.specs.declared.examining.Examined.{Examined}
@@ -131,7 +131,14 @@ module _ (f : Profile) (s : Stand) (small : IsSmall f s) (k : ℕ) (r : Request)
     next_is = x.next_is ∙ sym (prepared_then s k r replaced more (directory_of f r) x.event x.prepares);
   }
   by_request replaced more line a (inr (inl x)) =
-      record { item = Record.Event (Event.Give k x.block); own = refl; fits = gives_fits x.block x.is_for x.admitted; none = λ n. refl; has = x.line_is; next_is = x.next_is }
+      record {
+        item = Record.Event (Event.Give k x.block);
+        own = refl;
+        fits = gives_fits x.block x.is_for x.admitted;
+        none = λ n. refl;
+        has = x.line_is;
+        next_is = x.next_is;
+      }
   by_request replaced more line a (inr (inr x)) =
       let fit : Fits (Record.Said k x.said) = (fits.actor, refusal_fits x.said x.refuses) in
       record { item = Record.Said k x.said; own = tt; fits = fit; none = refusal_none f s k r x.said x.refuses; has = x.line_is; next_is = x.next_is }
@@ -143,26 +150,33 @@ small_serving f s k r more small = record { valid = small.valid; run = small.run
 
 -- what follows from an event of the keeper, and from any record
 abbrev pub kept : Profile → Stand → ℕ → ℕ → Request → Bool → List Due → Event → Stand
-kept f s keeper k r backed more (Event.Give j block) = raising (has_sides f block) (with_name (with_one s (Event.Give keeper block)) r.name (Some block)) keeper r.name block more
+kept f s keeper k r backed more (Event.Give j block) = raising (has_sides f block) (with_name (with_one s (Event.Give keeper block)) r.name (Some block))
+    keeper r.name block more
 kept f s keeper k r backed more e = with_due (with_one s e) (Tries keeper k r (backed || is_back e) ∷ more)
 
 abbrev pub tried : Profile → Stand → ℕ → ℕ → Request → Bool → List Due → Record → Stand
-tried f s keeper k r backed more (Record.Event e) = if actor_of e == keeper then kept f s keeper k r backed more e else answered (serving s k r more) k r None more (Record.Event e)
+tried f s keeper k r backed more (Record.Event e) = if actor_of e == keeper then kept f s keeper k r backed more e else answered (serving s k r more) k r
+    None more (Record.Event e)
 tried f s keeper k r backed more other = answered (serving s k r more) k r None more other
 
 module _ (f : Profile) (s : Stand) (small : IsSmall f s) (keeper k : ℕ) (r : Request) (fits : FitsTry f keeper k r) (backed : Bool) (more : List Due) where
   tried_kept : (e : Event) → actor_of e ≡ keeper → tried f s keeper k r backed more (Record.Event e) ≡ kept f s keeper k r backed more e
-  tried_kept e by = ap (λ t. if t then kept f s keeper k r backed more e else answered (serving s k r more) k r None more (Record.Event e)) (eq-eqb (actor_of e) keeper by)
+  tried_kept e by = ap (λ t. if t then kept f s keeper k r backed more e else answered (serving s k r more) k r None more (Record.Event e))
+      (eq-eqb (actor_of e) keeper by)
 
   tried_own : (item : Record) → IsOf k item → tried f s keeper k r backed more item ≡ answered (serving s k r more) k r None more item
   tried_own (Record.Event e) own =
-      ap (λ t. if t then kept f s keeper k r backed more e else answered (serving s k r more) k r None more (Record.Event e)) (ne_eqb (actor_of e) keeper (λ same. fits.apart (sym same ∙ own)))
+      ap (λ t. if t then kept f s keeper k r backed more e else answered (serving s k r more) k r None more (Record.Event e))
+      (ne_eqb (actor_of e) keeper (λ same. fits.apart (sym same ∙ own)))
   tried_own (Record.Said j said) own = refl
   tried_own other own = refl
 
-  kept_then : (e : Event) → IsPreparing keeper (directory_of f r) e → kept f s keeper k r backed more e ≡ with_due (with_one s e) (Tries keeper k r (backed || is_back e) ∷ more)
-  kept_then e (inl is) = subst (λ g. kept f s keeper k r backed more g ≡ with_due (with_one s g) (Tries keeper k r (backed || is_back g) ∷ more)) (sym is.1) refl
-  kept_then e (inr is) = subst (λ g. kept f s keeper k r backed more g ≡ with_due (with_one s g) (Tries keeper k r (backed || is_back g) ∷ more)) (sym is.1) refl
+  kept_then : (e : Event) → IsPreparing keeper (directory_of f r) e
+      → kept f s keeper k r backed more e ≡ with_due (with_one s e) (Tries keeper k r (backed || is_back e) ∷ more)
+  kept_then e (inl is) = subst (λ g. kept f s keeper k r backed more g ≡ with_due (with_one s g) (Tries keeper k r (backed || is_back g) ∷ more)) (sym is.1)
+      refl
+  kept_then e (inr is) = subst (λ g. kept f s keeper k r backed more g ≡ with_due (with_one s g) (Tries keeper k r (backed || is_back g) ∷ more)) (sym is.1)
+      refl
 
   pub by_try : (line : List ℕ) (a : Stand) → TakesTry f s keeper k r backed more line a → IsBy (λ item. Unit {0}) (tried f s keeper k r backed more) line a
   by_try line a (inl x) = record {
@@ -209,7 +223,8 @@ one_next f s small (Frees k entry ∷ more) fits line a b x y = x.next_is ∙ ap
 one_next f s small (Serves k r old ∷ more) fits line a b x y =
     one_by (IsOf k) (answered s k r old more) line a b (by_request f s small k r fits old more line a x) (by_request f s small k r fits old more line b y)
 one_next f s small (Tries keeper k r backed ∷ more) fits line a b x y =
-    one_by (λ item. Unit {0}) (tried f s keeper k r backed more) line a b (by_try f s small keeper k r fits backed more line a x) (by_try f s small keeper k r fits backed more line b y)
+    one_by (λ item. Unit {0}) (tried f s keeper k r backed more) line a b (by_try f s small keeper k r fits backed more line a x)
+    (by_try f s small keeper k r fits backed more line b y)
 one_next f s small (Never ∷ more) fits line a b x y = absurd x
 one_next f s small (Examines page ∷ more) fits line a b x y = one_outcome f s small page more line a b x y
 one_next f s small (Shows page d ∷ more) fits line a b x y = x.next_is ∙ sym y.next_is

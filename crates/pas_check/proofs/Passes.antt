@@ -1,8 +1,7 @@
 -- The lines of the outcomes of a pass, one after the other.
 use Rattle.std.proofs.Common.{◌≡◌, ℕ, ◌+◌, ◌^◌, ◌<◌, List, [], ◌∷◌, None, Some, inl, inr, refl, ap, sym, subst, ◌∙◌, arith}
 use Rattle.pas_profile.specs.Profiles.{IsValid}
-use Rattle.pas_profile.specs.declared.{event.Event.Event, event.Outcome.Outcome, profile.Profile.Profile}
-use Rattle.pas_profile.specs.declared.event.Outcome.TheVariants.{Unbacked, Bare, Young, InUse, NotOffered}
+use Rattle.pas_profile.specs.declared.{event.Event.Event, event.Outcome.Outcome, profile.Profile.Profile, event.Outcome.TheVariants.Unbacked}
 use Rattle.pas_machine.specs.Machines.{profile_of}
 use Rattle.pas_machine.specs.declared.machine.Machine.{Machine}
 use Rattle.pas_check.specs.{Begins.past_outcomes, Begins.ready, Bounds.FitsNext, Bounds.IsKept, Bounds.IsSmall, Leading.IsWithin, Leading.lines_from}
@@ -78,7 +77,8 @@ module _ (old : Machine) (text : List ℕ) (from : Cursor) (epoch : ℕ) where
       module _ (new : Machine) (none : OutcomeTaken mid new last epoch line None) where
         there : (s : Stand) (ex : IsExamining old s from 0 epoch) (next : Stand) → Takes (profile_of old) (t s ex) line next
             → Takes (profile_of old) (with_due (t s ex) []) line next
-        there s ex next (inl x) = absurd (none.1 (t s ex) [] next (subst (λ g. IsSmall g (t s ex)) (sym same) (small s ex)) (before s ex).3 (omega (arith, (before s ex).4.few, low)) (t_epoch s ex)
+        there s ex next (inl x) = absurd (none.1 (t s ex) [] next (subst (λ g. IsSmall g (t s ex)) (sym same) (small s ex)) (before s ex).3
+            (omega (arith, (before s ex).4.few, low)) (t_epoch s ex)
             (subst (λ g. TakesOutcome g (t s ex) last [] line next) (sym same) (subst (λ ds. TakesFirst (profile_of old) (t s ex) ds line next) (t_due s ex) x)))
         there s ex next (inr y) = inr (subst (λ (u : Stand). TakesDue (profile_of old) u u.due line next) (same_ready s ex) y)
 

@@ -127,7 +127,8 @@ module _ (old : Machine) (text : List ℕ) (from : Cursor) (k : ℕ) (w : Wanted
             let small_mid = subst (λ g. IsSmall g t) (sym same) (small s r replaced more asked) in
             let fits = subst (λ g. FitsRequest g k r) (sym same) asked.fits in
             let new_is = ap (λ (m : Machine). profile_of m) kept in
-            fails_to s r replaced more asked (λ next takes. none_of (λ x. none.1 t r next stands few wants.directory (subst (λ g. TakesPreparing g t k r line next) (sym same) x))
+            fails_to s r replaced more asked (λ next takes. none_of
+            (λ x. none.1 t r next stands few wants.directory (subst (λ g. TakesPreparing g t k r line next) (sym same) x))
             (λ x. ending.0.1 t r replaced more next wants small_mid fits stands few (subst (λ g. TakesGive g t k r replaced more line next) (sym same) x))
             (λ x. ending.1 t r more next (subst (λ g. IsWanted g r w) (sym new_is) wants) (subst (λ g. IsSmall g t) (sym new_is) small_mid)
             (subst (λ g. FitsRequest g k r) (sym new_is) fits)

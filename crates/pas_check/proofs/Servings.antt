@@ -73,7 +73,8 @@ module _ (old : Machine) (k : ℕ) (w : Wanted) (line : List ℕ) where
   give_taken new e has only None given = (
     given.0,
     λ s r replaced more next wants small fits stands few takes.
-        given.1 s r takes.block wants stands few (only (Event.Give k takes.block) (gives_fits (profile_of old) s small k r fits takes.block takes.is_for takes.admitted) takes.line_is) takes.is_for takes.admitted,
+        given.1 s r takes.block wants stands few (only (Event.Give k takes.block)
+        (gives_fits (profile_of old) s small k r fits takes.block takes.is_for takes.admitted) takes.line_is) takes.is_for takes.admitted,
   )
 
 -- ---- a refusal

@@ -1,6 +1,6 @@
 -- Lines that the machine judges, taken or not.
-use Rattle.std.proofs.Common.{◌≡◌, ◌≢◌, ℕ, ◌^◌, ◌<◌, ◌≤◌, Bool, true, false, List, Option, Some, None, inl, inr, refl, ap, sym, subst, ◌∙◌, arith, Result, Ok}
-use Rattle.std.proofs.Common.{Err, IfSome, is_ok}
+use Rattle.std.proofs.Common.{◌≡◌, ◌≢◌, ℕ, ◌^◌, ◌<◌, Bool, true, false, List, Option, Some, None, inl, inr, refl, ap, sym, subst, ◌∙◌, arith, Result, Ok, Err}
+use Rattle.std.proofs.Common.{IfSome, is_ok}
 use Rattle.std.proofs.lemmas.Option.{none-some, same_Some}
 use Rattle.pas_profile.specs.declared.{profile.Profile.Profile, directory.Directory.Directory, event.Event.Event, event.Why.Why}
 use Rattle.pas_profile.specs.{Directories.IsKind, Profiles.IsValid, Blocks.address_of}
@@ -39,7 +39,11 @@ entry_place f s k entry e (inr is) admitted = (subst (Admits f s.events) is.1 ad
 module _ (k : ℕ) (entry : Entry) (epoch : ℕ) (line : List ℕ) (old : Machine) where
   -- it isn't of a grain of the region
   pub entry_outside : (IsPlace (profile_of old) (address_of entry.name) → ⊥) → EntryTaken old old k entry epoch line false
-  entry_outside outside = (refl, λ s more next stands few same takes. outside (entry_place (profile_of old) s k entry takes.event takes.of_entry takes.admitted))
+  entry_outside outside = (
+    refl,
+    λ s more next stands few same takes.
+        outside (entry_place (profile_of old) s k entry takes.event takes.of_entry takes.admitted),
+  )
 
   module _ (e : Event) (of_entry : (s : Stand) → StandsFor old s.events → s.epoch ≡ epoch → IsEventOf s k entry e) where
     -- another line
@@ -57,7 +61,8 @@ module _ (k : ℕ) (entry : Entry) (epoch : ℕ) (line : List ℕ) (old : Machin
     entry_stepped new is false stepped = (
       stepped.0,
       λ s more next stands few same takes.
-          stepped.1 s.events stands few (subst (Admits (profile_of old) s.events) (one_event s k entry takes.event e takes.of_entry (of_entry s stands same)) takes.admitted),
+          stepped.1 s.events stands few (subst (Admits (profile_of old) s.events) (one_event s k entry takes.event e takes.of_entry (of_entry s stands same))
+          takes.admitted),
     )
 
 -- ---- the event of a line
@@ -76,7 +81,8 @@ fits_preparing f es k d e valid few heap kind (inr is) admitted = search arith
 
 module _ (k : ℕ) (d : Directory) (few : k < 2 ^ 8) (heap : d.heap < 2 ^ 8) (kind : IsKind d.kind) (line : List ℕ) (old : Machine) (valid : IsValid (profile_of old)) where
   preparing_refused : (new : Machine) → new ≡ old
-      → ((e : Event) → FitsEvent e → IsPreparing k d e → line ≡ line_of_event e → (es : List Event) → StandsFor old es → IsFew es → Admits (profile_of old) es e → ⊥) → PreparingTaken old new k d line false
+      → ((e : Event) → FitsEvent e → IsPreparing k d e → line ≡ line_of_event e → (es : List Event) → StandsFor old es → IsFew es
+      → Admits (profile_of old) es e → ⊥) → PreparingTaken old new k d line false
   preparing_refused new kept none = search (arith, fits_preparing)
 
   pub preparing_stepped : (new : Machine) (e : Event) → line ≡ line_of_event e → ((g : Event) → FitsEvent g → line ≡ line_of_event g → e ≡ g) → IsPreparing k d e
@@ -85,10 +91,12 @@ module _ (k : ℕ) (d : Directory) (few : k < 2 ^ 8) (heap : d.heap < 2 ^ 8) (ki
       let taken = stepped s.events stands in
       (e, record { event = e; prepares = subst (λ x. IsPreparing k x e) (sym same) may; admitted = taken.0; line_is = is; next_is = refl }, taken.1)
   preparing_stepped new e is only may false stepped =
-      preparing_refused new stepped.0 (λ g fits other has es stands low admitted. stepped.1 es stands low (subst (Admits (profile_of old) es) (sym (only g fits has)) admitted))
+      preparing_refused new stepped.0 (λ g fits other has es stands low admitted.
+      stepped.1 es stands low (subst (Admits (profile_of old) es) (sym (only g fits has)) admitted))
 
   pub preparing_other : (e : Event) → ((g : Event) → FitsEvent g → line ≡ line_of_event g → e ≡ g) → (IsPreparing k d e → ⊥) → PreparingTaken old old k d line false
-  preparing_other e only other = preparing_refused old refl (λ g fits may has es stands low admitted. other (subst (IsPreparing k d) (sym (only g fits has)) may))
+  preparing_other e only other = preparing_refused old refl (λ g fits may has es stands low admitted.
+      other (subst (IsPreparing k d) (sym (only g fits has)) may))
 
   pub preparing_none : ((g : Event) → FitsEvent g → line ≡ line_of_event g → None ≡ Some g) → PreparingTaken old old k d line false
   preparing_none none = preparing_refused old refl (λ g fits may has es stands low admitted. none-some g (none g fits has))

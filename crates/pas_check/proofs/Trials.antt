@@ -131,7 +131,8 @@ module _ (old : Machine) (text : List ℕ) (from : Cursor) (keeper : ℕ) (w : W
       not_kept stood new none given s k r more asked next (inl x) =
           let u = t s k r more asked in
           let takes : TakesPreparing (profile_of old) u keeper r line (with_one u x.event) = record { event = x.event; prepares = x.prepares; admitted = x.admitted; line_is = x.line_is; next_is = refl } in
-          none.1 u r (with_one u x.event) (before s k r more asked).2 (few s k r more asked) (wants_mid r asked.wants).directory (subst (λ g. TakesPreparing g u keeper r line (with_one u x.event)) (sym same) takes)
+          none.1 u r (with_one u x.event) (before s k r more asked).2 (few s k r more asked) (wants_mid r asked.wants).directory
+          (subst (λ g. TakesPreparing g u keeper r line (with_one u x.event)) (sym same) takes)
       not_kept stood new none given s k r more asked next (inr x) =
           let u = t s k r more asked in
           let after : Stand = with_due (with_name (with_one u (Event.Give keeper x.block)) r.name (Some x.block)) more in

@@ -62,8 +62,10 @@ module _ (text : List ℕ) (plan : Plan) (transcript : List ℕ) (old new : Judg
         → TakenTo transcript old opening new to (acts_of (threads_in old) (keepers_of plan) (map ops_of (phases_of plan.phases))) [] taken
     there taken done = rw (start, same, kept) at done
 
-    pub acts_amiss : TakenTo transcript old from new to (acts_of (threads_in old) keepers (map ops_of phases)) [] false → new.lacks_memory ≡ false → IsVerdict plan transcript (No to.lines)
-    acts_amiss done enough = no_verdict plan transcript to.lines (there false done plan.profile (at_first plan) (so_far_as (sym same_threads) (so_far text plan transcript old is short opened within)) enough)
+    pub acts_amiss : TakenTo transcript old from new to (acts_of (threads_in old) keepers (map ops_of phases)) [] false → new.lacks_memory ≡ false
+        → IsVerdict plan transcript (No to.lines)
+    acts_amiss done enough = no_verdict plan transcript to.lines
+        (there false done plan.profile (at_first plan) (so_far_as (sym same_threads) (so_far text plan transcript old is short opened within)) enough)
 
     pub acts_on : TakenTo transcript old from new to (acts_of (threads_in old) keepers (map ops_of phases)) [] true → IsSoFar plan.profile transcript (at_first plan) new to []
     acts_on done = there true done plan.profile (at_first plan) (so_far_as (sym same_threads) (so_far text plan transcript old is short opened within))

@@ -59,7 +59,8 @@ Differs es entry = (0 < entry.room) × HasOtherRoom es entry.name entry.room
 abbrev pub EntryTaken : Machine → Machine → ℕ → Entry → ℕ → List ℕ → Bool → Type 0
 EntryTaken old new k entry epoch line true = (s : Stand) (more : List Due) → StandsFor old s.events → s.epoch ≡ epoch
     → (e : Event) × TakesEntry (profile_of old) s k entry more line (with_due (with_one s e) more) × StandsFor new (e ∷ s.events)
-EntryTaken old new k entry epoch line false = (new ≡ old) × ((s : Stand) (more : List Due) (next : Stand) → StandsFor old s.events → IsFew s.events → s.epoch ≡ epoch
+EntryTaken old new k entry epoch line false = (new ≡ old) × ((s : Stand) (more : List Due) (next : Stand) → StandsFor old s.events → IsFew s.events
+    → s.epoch ≡ epoch
     → TakesEntry (profile_of old) s k entry more line next → ⊥)
 
 -- The lines of so many entries lead from where the entries of the log are due to where those that are left are; or one of them can't be taken.
@@ -75,7 +76,8 @@ EntriesTaken old new text from to k log left epoch false = (s : Stand) (more : L
 abbrev pub PreparingTaken : Machine → Machine → ℕ → Directory → List ℕ → Bool → Type 0
 PreparingTaken old new k d line true = (s : Stand) (r : Request) → StandsFor old s.events → directory_of (profile_of old) r ≡ d
     → (e : Event) × TakesPreparing (profile_of old) s k r line (with_one s e) × StandsFor new (e ∷ s.events)
-PreparingTaken old new k d line false = (new ≡ old) × ((s : Stand) (r : Request) (next : Stand) → StandsFor old s.events → IsFew s.events → directory_of (profile_of old) r ≡ d
+PreparingTaken old new k d line false = (new ≡ old) × ((s : Stand) (r : Request) (next : Stand) → StandsFor old s.events → IsFew s.events
+    → directory_of (profile_of old) r ≡ d
     → TakesPreparing (profile_of old) s k r line next → ⊥)
 
 -- ---- an outcome of a pass
@@ -115,13 +117,15 @@ outcome_in epoch Record.Close = None
 -- what came of the page was taken, as it may come, and the machine stands for what stands after it; or it may not, and the machine is as it was
 abbrev pub IsExamined : Machine → Machine → ℕ → Examined → Bool → Type 0
 IsExamined old new epoch x true = (s : Stand) → StandsFor old s.events → s.epoch ≡ epoch → MayCome (profile_of old) s x.page x.outcome × StandsFor new (after_outcome s x.page x.outcome).events
-IsExamined old new epoch x false = (new ≡ old) × ((s : Stand) → StandsFor old s.events → IsFew s.events → s.epoch ≡ epoch → MayCome (profile_of old) s x.page x.outcome → ⊥)
+IsExamined old new epoch x false = (new ≡ old) × ((s : Stand) → StandsFor old s.events → IsFew s.events → s.epoch ≡ epoch
+    → MayCome (profile_of old) s x.page x.outcome → ⊥)
 
 -- The line is that of an outcome on a page after the last one, and this is the page; or it is none of these, and the machine is as it was.
 abbrev pub OutcomeTaken : Machine → Machine → ℕ → ℕ → List ℕ → Option ℕ → Type 0
 OutcomeTaken old new last epoch line (Some page) = (s : Stand) (more : List Due) → StandsFor old s.events → s.epoch ≡ epoch
     → (next : Stand) × TakesOutcome (profile_of old) s last more line (with_due next (Examines page ∷ more)) × StandsFor new next.events
-OutcomeTaken old new last epoch line None = (new ≡ old) × ((s : Stand) (more : List Due) (next : Stand) → IsSmall (profile_of old) s → StandsFor old s.events → IsFew s.events → s.epoch ≡ epoch
+OutcomeTaken old new last epoch line None = (new ≡ old) × ((s : Stand) (more : List Due) (next : Stand) → IsSmall (profile_of old) s → StandsFor old s.events
+    → IsFew s.events → s.epoch ≡ epoch
     → TakesOutcome (profile_of old) s last more line next → ⊥)
 
 -- ---- the end of a request

@@ -56,11 +56,13 @@ abbrev pub emptying : Stand → ℕ → List Entry → List Due → List Task �
 emptying s k log more ts = record (flushing s k log more) { left = ts }
 
 abbrev pub LogEmptied : Profile → List ℕ → Judge → Cursor → Judge → Cursor → ℕ → List Entry → Bool → Type 0
-LogEmptied f text old from new to k log is = (s : Stand) (more : List Due) (ts : List Task) → Stands f old s from → Comes f text (emptying s k log more ts) from new to more ts is
+LogEmptied f text old from new to k log is = (s : Stand) (more : List Due) (ts : List Task) → Stands f old s from
+    → Comes f text (emptying s k log more ts) from new to more ts is
 
 -- .. so do those of a pass, where what follows it fits its places
 abbrev pub PassTaken : Profile → List ℕ → Judge → Cursor → Judge → Cursor → Bool → Type 0
-PassTaken f text old from new to is = (s : Stand) (ts : List Task) → IsNext f old s from MakesPass ts → IsFollowed f (record s { left = ts }) → Comes f text s from new to [] ts is
+PassTaken f text old from new to is = (s : Stand) (ts : List Task) → IsNext f old s from MakesPass ts → IsFollowed f (record s { left = ts })
+    → Comes f text s from new to [] ts is
 
 -- an act that only asks for what thread k's request says, and replaces the block of this name, if there is one
 abbrev pub Asks : Profile → Judge → Cursor → Act → ℕ → Request → Option Name → Type 0
@@ -92,7 +94,8 @@ being_logged s k entry more ts = record (logging (is_full s k) s k entry more) {
 
 -- the lines lead to where the entry is logged
 abbrev pub EntryLogged : Profile → List ℕ → Judge → Cursor → Judge → Cursor → ℕ → Entry → Bool → Type 0
-EntryLogged f text old from new to k entry is = (s : Stand) (more : List Due) (ts : List Task) → Stands f old s from → Comes f text (being_logged s k entry more ts) from new to more ts is
+EntryLogged f text old from new to k entry is = (s : Stand) (more : List Due) (ts : List Task) → Stands f old s from
+    → Comes f text (being_logged s k entry more ts) from new to more ts is
 
 -- ---- guards
 -- where the keeper sweeps, when these are due after its lines
@@ -101,7 +104,8 @@ being_swept s keeper all more ts = record (sweeping s keeper all more) { left = 
 
 -- the lines lead to where they are due
 abbrev pub GuardsSwept : Profile → List ℕ → Judge → Cursor → Judge → Cursor → ℕ → Bool → Bool → Type 0
-GuardsSwept f text old from new to keeper all is = (s : Stand) (more : List Due) (ts : List Task) → Stands f old s from → Comes f text (being_swept s keeper all more ts) from new to more ts is
+GuardsSwept f text old from new to keeper all is = (s : Stand) (more : List Due) (ts : List Task) → Stands f old s from
+    → Comes f text (being_swept s keeper all more ts) from new to more ts is
 
 -- The lines lead from here to where nothing is due, and as much is left of the plan.
 abbrev pub IsCarried : Profile → List ℕ → Stand → Cursor → Judge → Cursor → Bool → Type 0

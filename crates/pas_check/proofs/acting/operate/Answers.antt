@@ -20,8 +20,10 @@ returns-in-Guarded-clause-taken c =
     let act : act_kept (keeper_in op.what) op ≡ Guards a.keeper op = ap (λ (w : What). act_kept (keeper_in w) op) a.is in
     λ f. of_profile f c.args.text.now c.args.judge.now new c.args.cursor.now to (act_kept (keeper_in op.what) op) c.try_request.result
     (λ same. subst (λ (x : Act). ActTaken f c.args.text.now c.args.judge.now c.args.cursor.now new to x c.try_request.result) (sym act)
-    (c.try_request.ensures.taken f (Guards a.keeper op) (asked_for a.name a.heap a.size a.align) (λ s stands. ap (λ (w : What). guarding s a.keeper op.actor (request_in w)) a.is)
-    (subst (λ g. IsWanted g (asked_for a.name a.heap a.size a.align) c.wanted_for-wanted.result) (c.profile.ensures ∙ same) c.wanted_for-wanted.ensures.wanted)))
+    (c.try_request.ensures.taken f (Guards a.keeper op) (asked_for a.name a.heap a.size a.align)
+    (λ s stands. ap (λ (w : What). guarding s a.keeper op.actor (request_in w)) a.is)
+    (subst (λ g. IsWanted g (asked_for a.name a.heap a.size a.align) c.wanted_for-wanted.result) (c.profile.ensures ∙ same)
+    c.wanted_for-wanted.ensures.wanted)))
 
 plain_kept : (what : What) → ((keeper name heap size align : ℕ) → what ≡ Guarded keeper name heap size align → ⊥) → keeper_in what ≡ None
 plain_kept (Guarded keeper name heap size align) not_guarded = absurd (not_guarded keeper name heap size align refl)
@@ -33,4 +35,5 @@ returns-in_default-clause-taken c =
     let new = c.operate_plain.new.judge in
     let to = c.operate_plain.new.cursor in
     let act : act_kept (keeper_in op.what) op ≡ Operates op = ap (λ o. act_kept o op) (plain_kept op.what c.in_default.not-Guarded) in
-    λ f. subst (λ (x : Act). ActTaken f c.args.text.now c.args.judge.now c.args.cursor.now new to x c.operate_plain.result) (sym act) (c.operate_plain.ensures.taken f)
+    λ f. subst (λ (x : Act). ActTaken f c.args.text.now c.args.judge.now c.args.cursor.now new to x c.operate_plain.result) (sym act)
+    (c.operate_plain.ensures.taken f)

@@ -1,4 +1,4 @@
-use Rattle.std.proofs.Common.{◌≡◌, ◌⊎◌, ◌∙◌, ℕ, List, [], None, inl, inr, ap, subst}
+use Rattle.std.proofs.Common.{◌≡◌, ◌⊎◌, ◌∙◌, ℕ, [], None, inl, inr, ap, subst}
 use Rattle.pas_profile.specs.declared.profile.Profile.{Profile}
 use Rattle.pas_trace.specs.Acts.{Operates}
 use Rattle.pas_trace.specs.declared.plan.What.{What}
@@ -21,29 +21,37 @@ pub returns-in-Alloc-clause-taken : goal.returns-in-Alloc-clause-taken
 returns-in-Alloc-clause-taken c = λ f.
     let r = asked_for c.in-Alloc.name c.in-Alloc.heap c.in-Alloc.size c.in-Alloc.align in
     of_profile f c.args.text.now c.args.judge.now c.serve.new.judge c.args.cursor.now c.serve.new.cursor (Operates c.args.op) c.serve.result
-    (λ same. asks_taken f c.args.text.now c.args.judge.now c.serve.new.judge c.args.cursor.now c.serve.new.cursor (Operates c.args.op) c.requires.within c.args.op.actor r None
+    (λ same. asks_taken f c.args.text.now c.args.judge.now c.serve.new.judge c.args.cursor.now c.serve.new.cursor (Operates c.args.op) c.requires.within
+    c.args.op.actor r None
     (λ s stands. ap (λ (w : What). begun_what f s c.args.op.actor w) c.in-Alloc.is) c.serve.result
-    (λ s stands. c.serve.ensures.taken f s r stands (subst (λ g. IsWanted g r c.wanted_for-wanted.result) (c.profile.ensures ∙ same) c.wanted_for-wanted.ensures.wanted)))
+    (λ s stands. c.serve.ensures.taken f s r stands (subst (λ g. IsWanted g r c.wanted_for-wanted.result) (c.profile.ensures ∙ same)
+    c.wanted_for-wanted.ensures.wanted)))
 
 pub returns-in-Guarded-clause-taken : goal.returns-in-Guarded-clause-taken
 returns-in-Guarded-clause-taken c = λ f.
     let r = asked_for c.in-Guarded.name c.in-Guarded.heap c.in-Guarded.size c.in-Guarded.align in
-    of_profile f c.args.text.now c.args.judge.now c.serve-in-Guarded.new.judge c.args.cursor.now c.serve-in-Guarded.new.cursor (Operates c.args.op) c.serve-in-Guarded.result
-    (λ same. asks_taken f c.args.text.now c.args.judge.now c.serve-in-Guarded.new.judge c.args.cursor.now c.serve-in-Guarded.new.cursor (Operates c.args.op) c.requires.within c.args.op.actor r None
+    of_profile f c.args.text.now c.args.judge.now c.serve-in-Guarded.new.judge c.args.cursor.now c.serve-in-Guarded.new.cursor (Operates c.args.op)
+    c.serve-in-Guarded.result
+    (λ same. asks_taken f c.args.text.now c.args.judge.now c.serve-in-Guarded.new.judge c.args.cursor.now c.serve-in-Guarded.new.cursor (Operates c.args.op)
+    c.requires.within c.args.op.actor r None
     (λ s stands. ap (λ (w : What). begun_what f s c.args.op.actor w) c.in-Guarded.is) c.serve-in-Guarded.result
-    (λ s stands. c.serve-in-Guarded.ensures.taken f s r stands (subst (λ g. IsWanted g r c.wanted_for-wanted-in-Guarded.result) (c.profile-in-Guarded.ensures ∙ same) c.wanted_for-wanted-in-Guarded.ensures.wanted)))
+    (λ s stands. c.serve-in-Guarded.ensures.taken f s r stands
+    (subst (λ g. IsWanted g r c.wanted_for-wanted-in-Guarded.result) (c.profile-in-Guarded.ensures ∙ same) c.wanted_for-wanted-in-Guarded.ensures.wanted)))
 
 pub returns-in-Free-clause-taken : goal.returns-in-Free-clause-taken
 returns-in-Free-clause-taken c = λ f. c.free_named.ensures.taken f (Operates c.args.op) (λ s. ap (λ (w : What). begun_what f s c.args.op.actor w) c.in-Free.is)
 
 pub returns-in-FreeSized-clause-taken : goal.returns-in-FreeSized-clause-taken
-returns-in-FreeSized-clause-taken c = λ f. c.free_named-in-FreeSized.ensures.taken f (Operates c.args.op) (λ s. ap (λ (w : What). begun_what f s c.args.op.actor w) c.in-FreeSized.is)
+returns-in-FreeSized-clause-taken c = λ f. c.free_named-in-FreeSized.ensures.taken f (Operates c.args.op)
+    (λ s. ap (λ (w : What). begun_what f s c.args.op.actor w) c.in-FreeSized.is)
 
 pub returns-in-Raw-clause-taken : goal.returns-in-Raw-clause-taken
-returns-in-Raw-clause-taken c = λ f. c.free_entry.ensures.taken f (Operates c.args.op) (λ s stands. ap (λ (w : What). begun_what f s c.args.op.actor w) c.in-Raw.is)
+returns-in-Raw-clause-taken c = λ f. c.free_entry.ensures.taken f (Operates c.args.op)
+    (λ s stands. ap (λ (w : What). begun_what f s c.args.op.actor w) c.in-Raw.is)
 
 pub returns-in-RawSized-clause-taken : goal.returns-in-RawSized-clause-taken
-returns-in-RawSized-clause-taken c = λ f. c.free_entry-in-RawSized.ensures.taken f (Operates c.args.op) (λ s stands. ap (λ (w : What). begun_what f s c.args.op.actor w) c.in-RawSized.is)
+returns-in-RawSized-clause-taken c = λ f. c.free_entry-in-RawSized.ensures.taken f (Operates c.args.op)
+    (λ s stands. ap (λ (w : What). begun_what f s c.args.op.actor w) c.in-RawSized.is)
 
 pub returns-in-Remake-clause-taken : goal.returns-in-Remake-clause-taken
 returns-in-Remake-clause-taken c = λ f. c.remake.ensures.taken f (Operates c.args.op) (λ s. ap (λ (w : What). begun_what f s c.args.op.actor w) c.in-Remake.is)

@@ -25,7 +25,8 @@ pub returns-then-not-flush-clause-taken : goal.returns-then-not-flush-clause-tak
 returns-then-not-flush-clause-taken c =
     let count = ap (λ (f : Profile). f.threads) c.profile-threads.ensures in
     number_taken c.args.text.now c.args.judge.now c.loop-index.judge c.flush.new.judge c.args.cursor.now c.loop-index.cursor c.flush.new.cursor Ends
-    c.loop-index.index (threads_in c.args.judge.now) _ false (omega (arith, c.loop-index-test.true, count)) c.loop-index.invariant.far (λ f. c.if-not-flush.ensures.taken f (Ends (c.loop-index.index + 1)) (λ s. refl))
+    c.loop-index.index (threads_in c.args.judge.now) _ false (omega (arith, c.loop-index-test.true, count)) c.loop-index.invariant.far
+    (λ f. c.if-not-flush.ensures.taken f (Ends (c.loop-index.index + 1)) (λ s. refl))
 
 pub loop-index-preserved : goal.loop-index-preserved
 loop-index-preserved c =
@@ -34,7 +35,8 @@ loop-index-preserved c =
       sized = sized_on c.loop-index.invariant.sized c.if-not-flush.ensures.sized;
       within = c.if-not-flush.ensures.within;
       far = number_taken c.args.text.now c.args.judge.now c.loop-index.judge c.flush.new.judge c.args.cursor.now c.loop-index.cursor c.flush.new.cursor Ends
-          c.loop-index.index (threads_in c.args.judge.now) _ true (omega (arith, c.loop-index-test.true, count)) c.loop-index.invariant.far (λ f. c.if-not-flush.ensures.taken f (Ends (c.loop-index.index + 1)) (λ s. refl));
+          c.loop-index.index (threads_in c.args.judge.now) _ true (omega (arith, c.loop-index-test.true, count)) c.loop-index.invariant.far
+          (λ f. c.if-not-flush.ensures.taken f (Ends (c.loop-index.index + 1)) (λ s. refl));
     }
 
 pub returns-clause-taken : goal.returns-clause-taken

@@ -1,6 +1,6 @@
-use Rattle.std.proofs.Common.{◌≡◌, ◌+◌, ◌-◌, ◌++◌, ◌∷◌, [], true, false, map, refl, ap, ◌∙◌, arith}
+use Rattle.std.proofs.Common.{◌+◌, true, false, refl, ap, arith}
 use Rattle.pas_profile.specs.declared.profile.Profile.{Profile}
-use Rattle.pas_trace.specs.Acts.{Lowers, numbers_from}
+use Rattle.pas_trace.specs.Acts.{Lowers}
 use Rattle.pas_check.specs.Checks.{threads_in}
 use Rattle.pas_check.proofs.Chains.{nothing_taken, number_taken, sized_on, taken_as}
 use Rattle.pas_trace.proofs.ThreadsInOrder.{no_number}
@@ -21,7 +21,8 @@ pub returns-then-not-lower-clause-taken : goal.returns-then-not-lower-clause-tak
 returns-then-not-lower-clause-taken c =
     let count = ap (λ (f : Profile). f.threads) c.profile-threads.ensures in
     number_taken c.args.text.now c.args.judge.now c.loop-index.judge c.lower.new.judge c.args.cursor.now c.loop-index.cursor c.lower.new.cursor Lowers
-    c.loop-index.index (threads_in c.args.judge.now + c.args.keepers) _ false (omega (arith, c.loop-index-test.true, count)) c.loop-index.invariant.far c.if-not-lower.ensures.taken
+    c.loop-index.index (threads_in c.args.judge.now + c.args.keepers) _ false (omega (arith, c.loop-index-test.true, count)) c.loop-index.invariant.far
+    c.if-not-lower.ensures.taken
 
 pub loop-index-preserved : goal.loop-index-preserved
 loop-index-preserved c =
@@ -31,7 +32,8 @@ loop-index-preserved c =
       within = c.if-not-lower.ensures.within;
       after = omega (arith, c.loop-index.invariant.after);
       far = number_taken c.args.text.now c.args.judge.now c.loop-index.judge c.lower.new.judge c.args.cursor.now c.loop-index.cursor c.lower.new.cursor Lowers
-          c.loop-index.index (threads_in c.args.judge.now + c.args.keepers) _ true (omega (arith, c.loop-index-test.true, count)) c.loop-index.invariant.far c.if-not-lower.ensures.taken;
+          c.loop-index.index (threads_in c.args.judge.now + c.args.keepers) _ true (omega (arith, c.loop-index-test.true, count)) c.loop-index.invariant.far
+          c.if-not-lower.ensures.taken;
     }
 
 pub returns-clause-taken : goal.returns-clause-taken

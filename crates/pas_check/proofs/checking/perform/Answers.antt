@@ -8,7 +8,8 @@ use Rattle.pas_check.proofs.checking.perform.Goals as goal
 
 pub returns-in-Own-clause-taken : goal.returns-in-Own-clause-taken
 returns-in-Own-clause-taken c =
-    operation_taken c.args.text.now c.args.judge.now c.operate.new.judge c.args.cursor.now c.operate.new.cursor (threads_where (λ k. not (is_set c.args.awake k)) (threads_in c.args.judge.now)) c.args.op _
+    operation_taken c.args.text.now c.args.judge.now c.operate.new.judge c.args.cursor.now c.operate.new.cursor
+    (threads_where (λ k. not (is_set c.args.awake k)) (threads_in c.args.judge.now)) c.args.op _
     c.operate.result (sym c.work.ensures ∙ c.in-Own.is) c.operate.ensures.within c.operate.ensures.taken
 
 pub returns-in-Chore-Tick-clause-taken : goal.returns-in-Chore-Tick-clause-taken
@@ -29,4 +30,5 @@ pub returns-in-Chore-Idle-clause-taken : goal.returns-in-Chore-Idle-clause-taken
 returns-in-Chore-Idle-clause-taken c =
     let idle = threads_where (λ k. not (is_set c.args.awake k)) (threads_in c.args.judge.now) in
     let is = sym c.work.ensures ∙ c.in-Chore-Idle.is ∙ ap Work.Chore (c.in-Chore-Idle.field-0-is ∙ ap (λ (n : ℕ). Chore.Idle n) (sym c.in-Chore-Idle.epochs-is)) in
-    chore_taken c.args.text.now c.args.judge.now c.stop_all_idle.new.judge c.args.cursor.now c.stop_all_idle.new.cursor idle c.args.op _ c.stop_all_idle.result is c.stop_all_idle.ensures.taken
+    chore_taken c.args.text.now c.args.judge.now c.stop_all_idle.new.judge c.args.cursor.now c.stop_all_idle.new.cursor idle c.args.op _
+    c.stop_all_idle.result is c.stop_all_idle.ensures.taken

@@ -14,6 +14,8 @@ returns-then-get-clause-taken c =
 pub returns-clause-taken : goal.returns-clause-taken
 returns-clause-taken c =
     let on : not (is_set c.args.awake c.args.thread) ≡ true = ap not (sym c.get.ensures ∙ c.if-get.false) in
-    subst (λ (ks : List ℕ). ActsTaken c.args.text.now c.args.judge.now c.args.cursor.now c.stop_idle.new.judge c.stop_idle.new.cursor (idle_stops c.args.epochs ks) c.stop_idle.result)
+    subst (λ (ks : List ℕ). ActsTaken c.args.text.now c.args.judge.now c.args.cursor.now c.stop_idle.new.judge c.stop_idle.new.cursor
+    (idle_stops c.args.epochs ks) c.stop_idle.result)
     (sym (chosen_alone (λ k. not (is_set c.args.awake k)) c.args.thread true on))
-    (act_taken c.args.text.now c.args.judge.now c.stop_idle.new.judge c.args.cursor.now c.stop_idle.new.cursor (StopsIdle c.args.thread c.args.epochs) c.stop_idle.result c.stop_idle.ensures.taken)
+    (act_taken c.args.text.now c.args.judge.now c.stop_idle.new.judge c.args.cursor.now c.stop_idle.new.cursor (StopsIdle c.args.thread c.args.epochs)
+    c.stop_idle.result c.stop_idle.ensures.taken)

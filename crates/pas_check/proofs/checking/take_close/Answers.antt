@@ -22,12 +22,14 @@ returns-clause-taken c = λ more.
     let ends : List Act = map Ends (numbers_from 1 n) in
     let lowers : List Act = map Lowers (numbers_from (n + 1) c.args.keepers) in
     let threads : threads_in mid ≡ n = ap (λ (f : Profile). f.threads) c.if-not-end_all.ensures.sized.profile in
-    taken_on c.args.text.now c.args.judge.now c.args.judge.now new c.args.cursor.now at to (close_acts n c.args.keepers ++ more) ((ends ++ lowers) ++ more) more c.lower_all.result
+    taken_on c.args.text.now c.args.judge.now c.args.judge.now new c.args.cursor.now at to (close_acts n c.args.keepers ++ more) ((ends ++ lowers) ++ more)
+    more c.lower_all.result
     (act_taken c.args.text.now c.args.judge.now c.args.judge.now c.args.cursor.now at MarksClose true c.if-not-mark_close.ensures.taken ((ends ++ lowers) ++ more))
     (taken_on c.args.text.now c.args.judge.now mid new at ended to ((ends ++ lowers) ++ more) (lowers ++ more) more c.lower_all.result
     (taken_as c.args.text.now c.args.judge.now mid at ended true (ends ++ (lowers ++ more)) ((ends ++ lowers) ++ more) (lowers ++ more) (lowers ++ more) (sym (append_assoc ends lowers more)) refl
     (c.if-not-end_all.ensures.taken (lowers ++ more)))
-    (subst (λ (m : ℕ). TakenTo c.args.text.now mid ended new to (map Lowers (numbers_from (m + 1) c.args.keepers) ++ more) more c.lower_all.result) threads (c.lower_all.ensures.taken more)))
+    (subst (λ (m : ℕ). TakenTo c.args.text.now mid ended new to (map Lowers (numbers_from (m + 1) c.args.keepers) ++ more) more c.lower_all.result) threads
+    (c.lower_all.ensures.taken more)))
 
 pub returns-then-not-end_all-clause-taken : goal.returns-then-not-end_all-clause-taken
 returns-then-not-end_all-clause-taken c = λ more.

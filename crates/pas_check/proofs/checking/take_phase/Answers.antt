@@ -5,5 +5,7 @@ use Rattle.pas_check.proofs.checking.take_phase.Goals as goal
 
 pub returns-clause-taken : goal.returns-clause-taken
 returns-clause-taken c =
-    phase_taken c.args.text.now c.args.judge.now c.wake_all.new.judge c.perform_all.new.judge c.args.cursor.now c.perform_all.new.cursor c.args.ops.now c.active-awake.result c.active-awake.ensures
-    (ap (λ (f : Profile). f.threads) c.wake_all.ensures.sized.profile) c.perform_all.result (c.wake_all.ensures.taken c.args.text.now c.args.cursor.now c.requires.within) c.perform_all.ensures.taken
+    phase_taken c.args.text.now c.args.judge.now c.wake_all.new.judge c.perform_all.new.judge c.args.cursor.now c.perform_all.new.cursor c.args.ops.now
+    c.active-awake.result c.active-awake.ensures
+    (ap (λ (f : Profile). f.threads) c.wake_all.ensures.sized.profile) c.perform_all.result
+    (c.wake_all.ensures.taken c.args.text.now c.args.cursor.now c.requires.within) c.perform_all.ensures.taken

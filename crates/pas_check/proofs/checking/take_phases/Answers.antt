@@ -1,4 +1,4 @@
-use Rattle.std.proofs.Common.{◌≡◌, ℕ, ◌<◌, List, drop, length, map, ap, subst, sym, ◌∙◌, arith}
+use Rattle.std.proofs.Common.{◌<◌, List, drop, length, map, ap, subst, sym, ◌∙◌, arith}
 use Rattle.pas_profile.specs.declared.profile.Profile.{Profile}
 use Rattle.pas_machine.specs.Machines.{profile_of}
 use Rattle.pas_trace.specs.{Acts.acts_from, Acts.close_acts, EveryPlan.all_ops, Plans.ops_of}
@@ -32,13 +32,16 @@ returns-clause-taken c keepers =
     let at = c.take_phase.new.cursor in
     let to = c.take_later.new.cursor in
     let some : 0 < length c.args.phases.now = omega arith in
-    first_on keepers c.args.text.now c.args.judge.now c.args.cursor.now c.args.phases.now c.index-phases-0.result c.as_slice.result.now some (c.as_slice.ensures ∙ ap ops_of c.index-phases-0.is)
+    first_on keepers c.args.text.now c.args.judge.now c.args.cursor.now c.args.phases.now c.index-phases-0.result c.as_slice.result.now some
+    (c.as_slice.ensures ∙ ap ops_of c.index-phases-0.is)
     mid new at to c.take_later.result (ap (λ (f : Profile). f.threads) c.if-not-take_phase.ensures.sized.profile) c.if-not-take_phase.ensures.taken
-    (subst (λ (ps : List Phase). TakenTo c.args.text.now mid at new to (acts_from (threads_in mid) keepers 2 (map ops_of ps)) (close_acts (threads_in mid) keepers) c.take_later.result)
+    (subst (λ (ps : List Phase). TakenTo c.args.text.now mid at new to (acts_from (threads_in mid) keepers 2 (map ops_of ps))
+    (close_acts (threads_in mid) keepers) c.take_later.result)
     (rest_is c.args.phases.now) (c.take_later.ensures.taken keepers))
 
 pub returns-then-not-take_phase-clause-taken : goal.returns-then-not-take_phase-clause-taken
 returns-then-not-take_phase-clause-taken c keepers =
     let some : 0 < length c.args.phases.now = omega arith in
-    first_amiss keepers c.args.text.now c.args.judge.now c.args.cursor.now c.args.phases.now c.index-phases-0.result c.as_slice.result.now some (c.as_slice.ensures ∙ ap ops_of c.index-phases-0.is)
+    first_amiss keepers c.args.text.now c.args.judge.now c.args.cursor.now c.args.phases.now c.index-phases-0.result c.as_slice.result.now some
+    (c.as_slice.ensures ∙ ap ops_of c.index-phases-0.is)
     c.take_phase.new.judge c.take_phase.new.cursor c.if-not-take_phase.ensures.taken

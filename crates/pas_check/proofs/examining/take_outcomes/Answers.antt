@@ -31,6 +31,7 @@ lines-preserved c =
       within = c.in-Some.ensures.within;
       goes = outcomes_more c.args.machine.now c.args.text.now c.args.cursor.now c.args.epoch c.lines.machine c.lines.cursor c.lines.last c.lines.invariant.goes
           c.in-Some.line.now (lines_from c.args.text.now c.next_line.new.cursor)
-          c.requires.valid c.lines.invariant.profile low c.in-Some.ensures.some c.take_outcome.new.machine c.next_line.new.cursor c.in-Some-take_outcome.page refl
+          c.requires.valid c.lines.invariant.profile low c.in-Some.ensures.some c.take_outcome.new.machine c.next_line.new.cursor c.in-Some-take_outcome.page
+          refl
           c.next_line.ensures.count c.in-Some.ensures.within c.in-Some-take_outcome.ensures.taken;
     }

@@ -1,4 +1,4 @@
-use Rattle.std.proofs.Common.{arith, rules}
+use Rattle.std.proofs.Common.{rules}
 use Rattle.std.proofs.lemmas.Fn.{filter_same}
 use Rattle.pas_check.proofs.Guardings.{swept_amiss, swept_on}
 use Rattle.pas_check.proofs.guarding.sweep.Goals as goal
@@ -12,4 +12,4 @@ pub returns-clause-taken : goal.returns-clause-taken
 returns-clause-taken c = λ f.
     swept_on f c.args.text.now c.args.judge.now c.args.cursor.now c.take_lowered.new.cursor c.args.keeper c.args.all c.retain.new.self
     (rw c.deref.ensures.value at c.if-not-take_lowered.ensures.taken)
-    (λ es stands. filter_same _ _ _ (λ guard b g called. first_of (search rules, search (rules, stands), grind (arith, stands))) _ _ c.retain.ensures.filtered)
+    (λ es stands. filter_same _ _ _ (λ guard b g called. search (rules, stands)) _ _ c.retain.ensures.filtered)

@@ -16,7 +16,8 @@ pub returns-then-not-take_record-clause-taken : goal.returns-then-not-take_recor
 returns-then-not-take_record-clause-taken c =
     let guards = c.args.guards.now in
     let i = c.loop-guard.guard-index in
-    sweep_amiss c.args.machine.now c.args.text.now c.args.cursor.now guards c.args.keeper c.args.all c.loop-guard.cursor c.take_record.new.cursor _ (drop (i + 1) guards)
+    sweep_amiss c.args.machine.now c.args.text.now c.args.cursor.now guards c.args.keeper c.args.all c.loop-guard.cursor c.take_record.new.cursor _
+    (drop (i + 1) guards)
     (subst (λ (gs : List Guard). SweepGoes c.args.machine.now c.args.text.now c.args.cursor.now c.loop-guard.cursor guards c.args.keeper c.args.all gs)
     (drop_more guards i _ c.loop-guard-test.true) c.loop-guard.invariant.goes) c.if-goes_down.ensures (rw c.lowered.ensures at c.if-not-take_record.ensures.led)
 
@@ -24,17 +25,20 @@ pub loop-guard-preserved : goal.loop-guard-preserved
 loop-guard-preserved c =
     let guards = c.args.guards.now in
     let i = c.loop-guard.guard-index in
-    let before = subst (λ (gs : List Guard). SweepGoes c.args.machine.now c.args.text.now c.args.cursor.now c.loop-guard.cursor guards c.args.keeper c.args.all gs)
+    let before = subst (λ (gs : List Guard). SweepGoes c.args.machine.now c.args.text.now c.args.cursor.now c.loop-guard.cursor guards c.args.keeper
+    c.args.all gs)
     (drop_more guards i _ c.loop-guard-test.true) c.loop-guard.invariant.goes in
     elim c.else-goes_down.branch [
       | else-goes_down-via-then-goes_down+else-not-take_record w ↦ rw w.cursor-is record {
         within = w.if-not-take_record.ensures.within;
-        goes = sweep_lowers c.args.machine.now c.args.text.now c.args.cursor.now guards c.args.keeper c.args.all c.loop-guard.cursor w.take_record.new.cursor _ (drop (i + 1) guards)
+        goes = sweep_lowers c.args.machine.now c.args.text.now c.args.cursor.now guards c.args.keeper c.args.all c.loop-guard.cursor w.take_record.new.cursor
+            _ (drop (i + 1) guards)
             before w.if-goes_down.ensures (rw w.lowered.ensures at w.if-not-take_record.ensures.led);
       }
       | else-goes_down-via-else-goes_down w ↦ rw w.cursor-is record {
         within = c.loop-guard.invariant.within;
-        goes = sweep_stays c.args.machine.now c.args.text.now c.args.cursor.now guards c.args.keeper c.args.all c.loop-guard.cursor c.loop-guard.cursor _ (drop (i + 1) guards)
+        goes = sweep_stays c.args.machine.now c.args.text.now c.args.cursor.now guards c.args.keeper c.args.all c.loop-guard.cursor c.loop-guard.cursor _
+            (drop (i + 1) guards)
             before w.if-goes_down.ensures;
       }
     ]

@@ -23,15 +23,18 @@ pub returns-then-not-take_preparing-clause-taken : goal.returns-then-not-take_pr
 returns-then-not-take_preparing-clause-taken c =
     let low : c.lines.cursor.lines < 2 ^ 32 = (omega (arith, c.lines.invariant.within.lines, c.lines.invariant.within.bytes, c.requires.within.short)) in
     let is : IsRead c.in-Some.line.now c.read_record-found.result = record { some = c.read_record-found.ensures.some; only = c.read_record-found.ensures.only } in
-    trial_ends c.args.machine.now c.args.text.now c.args.cursor.now c.args.keeper c.args.wanted.now c.lines.machine c.lines.backed c.lines.cursor c.next_line.new.cursor
-    c.lines.invariant.goes c.next_line.ensures.count c.in-Some.line.now c.requires.valid c.lines.invariant.profile low c.in-Some.ensures.some c.take_preparing.new.machine c.end_trial.new.machine
+    trial_ends c.args.machine.now c.args.text.now c.args.cursor.now c.args.keeper c.args.wanted.now c.lines.machine c.lines.backed c.lines.cursor
+    c.next_line.new.cursor
+    c.lines.invariant.goes c.next_line.ensures.count c.in-Some.line.now c.requires.valid c.lines.invariant.profile low c.in-Some.ensures.some
+    c.take_preparing.new.machine c.end_trial.new.machine
     c.lines.invariant.within c.in-Some.ensures.within
     (c.if-not-take_preparing.ensures.taken c.in-Some.line.now is) c.end_trial.result (c.end_trial.ensures.ended c.in-Some.line.now is)
 
 pub returns-then-not-take_preparing-clause-stays : goal.returns-then-not-take_preparing-clause-stays
 returns-then-not-take_preparing-clause-stays c =
     let is : IsRead c.in-Some.line.now c.read_record-found.result = record { some = c.read_record-found.ensures.some; only = c.read_record-found.ensures.only } in
-    trial_stays c.take_preparing.new.machine c.end_trial.new.machine c.args.text.now c.args.keeper c.args.wanted.now c.in-Some.line.now c.lines.backed c.lines.cursor c.next_line.new.cursor
+    trial_stays c.take_preparing.new.machine c.end_trial.new.machine c.args.text.now c.args.keeper c.args.wanted.now c.in-Some.line.now c.lines.backed
+    c.lines.cursor c.next_line.new.cursor
     c.lines.invariant.within c.in-Some.ensures.within c.end_trial.result (c.end_trial.ensures.ended c.in-Some.line.now is)
 
 pub lines-preserved : goal.lines-preserved

@@ -25,7 +25,8 @@ returns-then-not-take_preparing-clause-taken c =
     let is : IsRead c.in-Some.line.now c.read_record-found.result = record { some = c.read_record-found.ensures.some; only = c.read_record-found.ensures.only } in
     request_ends c.args.machine.now c.args.text.now c.args.cursor.now c.args.actor c.args.wanted.now c.lines.machine c.lines.cursor c.next_line.new.cursor
     c.lines.invariant.goes c.next_line.ensures.count
-    c.in-Some.line.now c.requires.valid c.lines.invariant.profile low c.in-Some.ensures.some c.take_ending.new.machine c.take_preparing.new.machine c.in-Some.ensures.within
+    c.in-Some.line.now c.requires.valid c.lines.invariant.profile low c.in-Some.ensures.some c.take_ending.new.machine c.take_preparing.new.machine
+    c.in-Some.ensures.within
     (c.if-not-take_preparing.ensures.taken c.in-Some.line.now is) c.take_ending.result (c.take_ending.ensures.taken c.in-Some.line.now is)
 
 pub lines-preserved : goal.lines-preserved
@@ -37,5 +38,6 @@ lines-preserved c =
       goes = request_goes_on c.args.machine.now c.args.text.now c.args.cursor.now c.args.actor c.args.wanted.now c.lines.machine c.lines.cursor
           c.next_line.new.cursor c.lines.invariant.goes c.next_line.ensures.count
           c.in-Some.line.now c.requires.valid c.lines.invariant.profile low c.in-Some.ensures.some c.take_preparing.new.machine c.in-Some.ensures.within
-          (c.if-not-take_preparing.ensures.taken c.in-Some.line.now record { some = c.read_record-found.ensures.some; only = c.read_record-found.ensures.only });
+          (c.if-not-take_preparing.ensures.taken c.in-Some.line.now record
+          { some = c.read_record-found.ensures.some; only = c.read_record-found.ensures.only });
     }

@@ -18,4 +18,5 @@ pub returns-clause-taken : goal.returns-clause-taken
 returns-clause-taken c = λ line is.
     preparing_stepped c.args.actor c.args.directory (omega arith) (omega arith) c.requires.kind line c.args.machine.now c.requires.valid c.step.new.machine c.in-Some.event
     (subst (λ o. IfSome o (λ e. line ≡ line_of_event e)) c.in-Some.is (c.event_read.ensures line is).some)
-    (λ g fits same. same_Some c.in-Some.event g (sym c.in-Some.is ∙ (c.event_read.ensures line is).only g fits same)) c.if-not-prepares.ensures c.step.result c.step.ensures.stepped
+    (λ g fits same. same_Some c.in-Some.event g (sym c.in-Some.is ∙ (c.event_read.ensures line is).only g fits same)) c.if-not-prepares.ensures c.step.result
+    c.step.ensures.stepped

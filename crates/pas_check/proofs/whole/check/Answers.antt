@@ -19,23 +19,28 @@ take_acts-requires-clause-few c =
     omega (arith, few, same)
 
 pub take_acts-requires-clause-planned : goal.take_acts-requires-clause-planned
-take_acts-requires-clause-planned c = planned_there c.requires.plan.0 c.args.plan.now c.in-Ok.judge c.as_slice-phases.result.now c.requires.plan.2 c.in-Ok.ensures c.as_slice-phases.ensures
+take_acts-requires-clause-planned c = planned_there c.requires.plan.0 c.args.plan.now c.in-Ok.judge c.as_slice-phases.result.now c.requires.plan.2
+    c.in-Ok.ensures c.as_slice-phases.ensures
 
 pub returns-then-not-take_acts : goal.returns-then-not-take_acts
 returns-then-not-take_acts c =
     acts_amiss c.requires.plan.0 c.args.plan.now c.args.transcript.now c.in-Ok.judge c.take_acts.new.judge c.take_acts.new.cursor c.requires.plan.2 c.requires.plan.1 c.in-Ok.ensures
-    (opening_within c.args.transcript.now c.requires.short) c.first-cursor.result c.as_slice-phases.result.now c.keeper_count-keepers.result c.first-cursor.ensures c.as_slice-phases.ensures c.keeper_count-keepers.ensures
+    (opening_within c.args.transcript.now c.requires.short) c.first-cursor.result c.as_slice-phases.result.now c.keeper_count-keepers.result
+    c.first-cursor.ensures c.as_slice-phases.ensures c.keeper_count-keepers.ensures
     c.if-not-take_acts.ensures.taken c.if-judge.false
 
 -- after the acts
-so_far : (c : Else-not-take_acts) → IsSoFar c.args.plan.now.profile c.args.transcript.now (at_first c.args.plan.now) c.take_acts.new.judge c.take_acts.new.cursor []
+so_far : (c : Else-not-take_acts) → IsSoFar c.args.plan.now.profile c.args.transcript.now (at_first c.args.plan.now) c.take_acts.new.judge
+    c.take_acts.new.cursor []
 so_far c =
     acts_on c.requires.plan.0 c.args.plan.now c.args.transcript.now c.in-Ok.judge c.take_acts.new.judge c.take_acts.new.cursor c.requires.plan.2 c.requires.plan.1 c.in-Ok.ensures
-    (opening_within c.args.transcript.now c.requires.short) c.first-cursor.result c.as_slice-phases.result.now c.keeper_count-keepers.result c.first-cursor.ensures c.as_slice-phases.ensures c.keeper_count-keepers.ensures
+    (opening_within c.args.transcript.now c.requires.short) c.first-cursor.result c.as_slice-phases.result.now c.keeper_count-keepers.result
+    c.first-cursor.ensures c.as_slice-phases.ensures c.keeper_count-keepers.ensures
     c.if-not-take_acts.ensures.taken
 
 -- its report
-reports : (c : Else-not-take_acts) → report_due (profile_of c.take_acts.new.judge.machine) (so_far c).stand.events ≡ report_due c.args.plan.now.profile (so_far c).stand.events
+reports : (c : Else-not-take_acts) → report_due (profile_of c.take_acts.new.judge.machine) (so_far c).stand.events ≡ report_due c.args.plan.now.profile
+    (so_far c).stand.events
 reports c = ap (λ (f : Profile). report_due f (so_far c).stand.events) (so_far c).stands.profile
 
 pub take_report-requires-clause-known : goal.take_report-requires-clause-known
