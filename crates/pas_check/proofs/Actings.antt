@@ -1,10 +1,10 @@
 -- Acts, done.
 use Rattle.std.proofs.Common.{◌≡◌, ◌≢◌, ℕ, ◌+◌, ◌/◌, ◌%◌, ◌^◌, ◌<◌, ◌≤◌, ◌==◌, if◌then◌else◌, nat_le, max, Bool, true, false, List, [], ◌∷◌, ◌++◌, Option, None}
 use Rattle.std.proofs.Common.{Some, length, get_or, set, inl, inr, refl, ap, sym, subst, ◌∙◌, arith, get_or-set_other, get_or-set_same, length-set, eq-eqb}
-use Rattle.std.proofs.Common.{eqb-true, le-leb, leb-true, ne_eqb}
+use Rattle.std.proofs.Common.{eqb-true, is_some, le-leb, leb-true, ne_eqb}
 use Rattle.std.proofs.lemmas.Bool.{and_from, and_parts, cases_eq, false_from_ne_true, lt-leb}
 use Rattle.pas_profile.specs.{Directories.IsKind, Profiles.IsPage, Blocks.address_of}
-use Rattle.pas_profile.specs.declared.{event.Event.Event, name.Block.Block, name.Name.Name, profile.Profile.Profile}
+use Rattle.pas_profile.specs.declared.{name.Block.Block, name.Name.Name, profile.Profile.Profile}
 use Rattle.pas_machine.specs.Machines.{profile_of, StandsFor}
 use Rattle.pas_machine.specs.declared.machine.Machine.{Machine}
 use Rattle.pas_report.specs.declared.record.{Record.Record, Said.Said}
@@ -17,17 +17,38 @@ use Rattle.pas_check.specs.{Tables.logs_held, Tables.meant}
 use Rattle.pas_check.specs.Calls.{EntriesTaken, IsAsked, IsExamining, IsFollowed, IsWanted, OutcomesTaken, RequestTaken, after_request}
 use Rattle.pas_check.specs.Leading.{Fails, IsLed, IsWithin, Leads}
 use Rattle.pas_check.specs.States.{Due, Writes, Serves, Examines, Task, Does, Stand, with_at, with_due, with_name}
-use Rattle.pas_check.specs.Tasks.{ActTaken, Asks, EntryLogged, FreesEntry, FreesNamed, IsNext, IsSuited, LogEmptied, PassTaken, Remakes, Resizes, SaysNamed}
-use Rattle.pas_check.specs.Tasks.{Stands, being_logged, emptying}
+use Rattle.pas_check.specs.Tasks.{ActTaken, Asks, Comes, EntryLogged, FreesEntry, FreesNamed, IsCarried, IsNext, IsSuited, LogEmptied, PassTaken, Remakes}
+use Rattle.pas_check.specs.Tasks.{Resizes, SaysNamed, Stands, being_logged, emptying}
 use Rattle.pas_check.specs.declared.{acting.Judge.Judge, cutting.Cursor.Cursor, entry.Entry.Entry, logging.Logs.Logs, naming.Meaning.Meaning}
-use Rattle.pas_check.specs.declared.{naming.Meaning.TheVariants.Unasked, naming.Meaning.TheVariants.Refused, naming.Meaning.TheVariants.Given}
-use Rattle.pas_check.specs.declared.{naming.Names.Names, serving.Wanted.Wanted}
+use Rattle.pas_check.specs.declared.{naming.Meaning.TheVariants.Given, naming.Names.Names, serving.Wanted.Wanted}
 use Rattle.pas_check.proofs.{Beginnings.begun_alike, Kept.kept_same}
 use Rattle.pas_check.proofs.Leads.{leads_alike, leads_fails, leads_nowhere, leads_on}
 
 -- further on
 later : {f : Profile} {j : Judge} {s : Stand} {from : Cursor} (to : Cursor) → from.lines ≤ to.lines → Stands f j s from → Stands f j s to
 later {f} {j} {s} {from} to more stands = search (arith, kept_same)
+
+-- what comes after a stretch, or from another state that is this one
+module _ (f : Profile) (text : List ℕ) (new : Judge) (to : Cursor) (due : List Due) (left : List Task) where
+  pub comes_on : (is : Bool) → {s u : Stand} {from at : Cursor} → Leads f text s from u at → Comes f text u at new to due left is
+      → Comes f text s from new to due left is
+  comes_on true led end = (end.0, leads_on led end.1, end.2, end.3, end.4)
+  comes_on false led end = λ enough. leads_fails led (end enough)
+
+  pub comes_as : (is : Bool) (from : Cursor) {s u : Stand} → s ≡ u → Comes f text u from new to due left is → Comes f text s from new to due left is
+  comes_as is from same end = subst (λ v. Comes f text v from new to due left is) (sym same) end
+
+  -- one line, before which the judge stands already for what stands after it
+  pub comes_led : (is : Bool) (s : Stand) {from : Cursor} (t : Stand) → Stands f new t from → t.due ≡ due → t.left ≡ left → IsLed f text s from t to is
+      → Comes f text s from new to due left is
+  comes_led true s {from} t stands due_is left_is led = (
+    t,
+    led,
+    (let count : from.lines ≤ to.lines = (omega (arith, led.count)) in later to count stands),
+    due_is,
+    left_is,
+  )
+  comes_led false s t stands due_is left_is led = λ enough. led
 
 -- ---- an act is begun without a line
 module _ (f : Profile) (text : List ℕ) (old : Judge) (from : Cursor) (act : Act) (within : IsWithin text from) where
@@ -38,12 +59,10 @@ module _ (f : Profile) (text : List ℕ) (old : Judge) (from : Cursor) (act : Ac
   act_of_line : (new : Judge) (to : Cursor) (item : Record)
       → ((s : Stand) (ts : List Task) → IsNext f old s from act ts → ((begun_act f s act).due ≡ Writes item ∷ []) × Stands f new (with_due (after_task f s (Does act) ts) []) from)
       → (is : Bool) → ((s : Stand) (more : List Due) → s.due ≡ Writes item ∷ more → IsLed f text s from (with_due s more) to is) → ActTaken f text old from new to act is
-  act_of_line new to item begun true led = λ s ts next.
+  act_of_line new to item begun is led = λ s ts next.
       let b = begun s ts next in
-      let leads = led (after_task f s (Does act) ts) [] b.0 in
-      let count : from.lines ≤ to.lines = (omega (arith, leads.count)) in
-      (with_due (after_task f s (Does act) ts) [], leads_on (begins s ts next) leads, later to count b.1, refl, refl)
-  act_of_line new to item begun false led = λ s ts next. leads_fails (begins s ts next) (led (after_task f s (Does act) ts) [] (begun s ts next).0)
+      let u : Stand = after_task f s (Does act) ts in
+      comes_on f text new to [] ts is (begins s ts next) (comes_led f text new to [] ts is u (with_due u []) b.1 refl refl (led u [] b.0))
 
   -- it has none
   act_of_none : (new : Judge) → ((s : Stand) (ts : List Task) → IsNext f old s from act ts
@@ -128,7 +147,8 @@ module _ (f : Profile) (text : List ℕ) (old : Judge) (from to : Cursor) (k : �
 
   pub log_amiss : (machine : Machine) → EntriesTaken old.machine machine text from to k (logged old.logs k) [] old.epoch false → (new : Judge)
       → LogEmptied f text old from new to k log false
-  log_amiss machine entries new = search (arith, begun_kept, begun_due)
+  log_amiss machine entries new = λ s more ts stands enough. subst (λ g. Fails g text (emptying s k log more ts) from to.lines) stands.profile
+      (entries (emptying s k log more ts) more stands.events stands.epoch (begun_kept s more ts stands) (begun_due s more ts stands))
 
   pub log_emptied : (machine : Machine) (logs : Logs) → profile_of machine ≡ profile_of old.machine → logged logs k ≡ log
       → ((j : ℕ) → j ≢ k → logged logs j ≡ logged old.logs j) → logs_held logs ≡ logs_held old.logs
@@ -158,40 +178,32 @@ module _ (f : Profile) (text : List ℕ) (old new : Judge) (from to : Cursor) (k
   -- a flush, a stop, a thread's end, and a free where the log is full
   pub flushed : (act : Act) (log : List Entry) → ((s : Stand) → Stands f old s from → begun_act f s act ≡ flushing s k log []) → (is : Bool)
       → LogEmptied f text old from new to k log is → ActTaken f text old from new to act is
-  flushed act log flushes true emptied = λ s ts next.
-      let e = emptied s [] ts next.stands in
-      let same : after_task f s (Does act) ts ≡ emptying s k log [] ts = ap (λ (u : Stand). record u { left = ts }) (flushes s next.stands) in
-      (e.0, leads_on (begins f text old from act within s ts next) (subst (λ (u : Stand). Leads f text u from e.0 to) (sym same) e.1), e.2, e.3, e.4)
-  flushed act log flushes false emptied = λ s ts next.
-      let same : after_task f s (Does act) ts ≡ emptying s k log [] ts = ap (λ (u : Stand). record u { left = ts }) (flushes s next.stands) in
-      leads_fails (begins f text old from act within s ts next) (subst (λ (u : Stand). Fails f text u from to.lines) (sym same) (emptied s [] ts next.stands))
+  flushed act log flushes is emptied = λ s ts next.
+      comes_on f text new to [] ts is (begins f text old from act within s ts next)
+      (comes_as f text new to [] ts is from (ap (λ (u : Stand). record u { left = ts }) (flushes s next.stands)) (emptied s [] ts next.stands))
 
   -- the stop of an idle thread
   stop_same : (s : Stand) (n : ℕ) (ts : List Task) → nat_le (s.idle_since k + n) s.epoch ≡ true
       → after_task f s (Does (StopsIdle k n)) ts ≡ emptying s k [] (Writes (Record.Said 0 (Said.Stopped k)) ∷ []) ts
   stop_same s n ts idle = ap (λ (x : Bool). record (stopping x s k) { left = ts }) idle
 
-  pub stop_amiss : (n : ℕ) → ((s : Stand) → Stands f old s from → nat_le (s.idle_since k + n) s.epoch ≡ true) → LogEmptied f text old from new to k [] false
-      → ActTaken f text old from new to (StopsIdle k n) false
-  stop_amiss n idle emptied = λ s ts next.
-      leads_fails (begins f text old from (StopsIdle k n) within s ts next)
-      (subst (λ (u : Stand). Fails f text u from to.lines) (sym (stop_same s n ts (idle s next.stands))) (emptied s (Writes (Record.Said 0 (Said.Stopped k)) ∷ []) ts next.stands))
+  module _ (n : ℕ) (idle : (s : Stand) → Stands f old s from → nat_le (s.idle_since k + n) s.epoch ≡ true) where
+    stop_comes : (is : Bool) → LogEmptied f text old from new to k [] is → (s : Stand) (ts : List Task) → IsNext f old s from (StopsIdle k n) ts
+        → Comes f text s from new to (Writes (Record.Said 0 (Said.Stopped k)) ∷ []) ts is
+    stop_comes is emptied s ts next =
+        let more : List Due = Writes (Record.Said 0 (Said.Stopped k)) ∷ [] in
+        comes_on f text new to more ts is (begins f text old from (StopsIdle k n) within s ts next)
+        (comes_as f text new to more ts is from (stop_same s n ts (idle s next.stands)) (emptied s more ts next.stands))
 
-  pub idle_stopped : (n : ℕ) (end : Cursor) → ((s : Stand) → Stands f old s from → nat_le (s.idle_since k + n) s.epoch ≡ true) → LogEmptied f text old from new to k [] true
-      → (is : Bool) → ((s : Stand) (more : List Due) → s.due ≡ Writes (Record.Said 0 (Said.Stopped k)) ∷ more → IsLed f text s to (with_due s more) end is)
-      → ActTaken f text old from new end (StopsIdle k n) is
-  idle_stopped n end idle emptied true led = λ s ts next.
-      let e = emptied s (Writes (Record.Said 0 (Said.Stopped k)) ∷ []) ts next.stands in
-      let first = leads_on (begins f text old from (StopsIdle k n) within s ts next)
-      (subst (λ (u : Stand). Leads f text u from e.0 to) (sym (stop_same s n ts (idle s next.stands))) e.1) in
-      let last = led e.0 [] e.3 in
-      let count : to.lines ≤ end.lines = (omega (arith, last.count)) in
-      (with_due e.0 [], leads_on first last, with_other_due [] (later end count e.2), refl, e.4)
-  idle_stopped n end idle emptied false led = λ s ts next.
-      let e = emptied s (Writes (Record.Said 0 (Said.Stopped k)) ∷ []) ts next.stands in
-      let first = leads_on (begins f text old from (StopsIdle k n) within s ts next)
-      (subst (λ (u : Stand). Leads f text u from e.0 to) (sym (stop_same s n ts (idle s next.stands))) e.1) in
-      leads_fails first (led e.0 [] e.3)
+    pub stop_amiss : LogEmptied f text old from new to k [] false → ActTaken f text old from new to (StopsIdle k n) false
+    stop_amiss emptied = stop_comes false emptied
+
+    pub idle_stopped : (end : Cursor) → LogEmptied f text old from new to k [] true
+        → (is : Bool) → ((s : Stand) (more : List Due) → s.due ≡ Writes (Record.Said 0 (Said.Stopped k)) ∷ more → IsLed f text s to (with_due s more) end is)
+        → ActTaken f text old from new end (StopsIdle k n) is
+    idle_stopped end emptied is led = λ s ts next.
+        let e = stop_comes true emptied s ts next in
+        comes_on f text new end [] ts is e.1 (comes_led f text new end [] ts is e.0 (with_due e.0 []) (with_other_due [] e.2) refl e.4 (led e.0 [] e.3))
 
 -- ---- an entry is logged
 module _ (f : Profile) (text : List ℕ) (old : Judge) (from : Cursor) (k : ℕ) (entry : Entry) (held : k < logs_held old.logs) where
@@ -205,11 +217,8 @@ module _ (f : Profile) (text : List ℕ) (old : Judge) (from : Cursor) (k : ℕ)
   -- the log is full
   pub logged_full : true ≡ nat_le 64 (length (logged old.logs k)) → (new : Judge) (to : Cursor) (is : Bool) → LogEmptied f text old from new to k (entry ∷ []) is
       → EntryLogged f text old from new to k entry is
-  logged_full full new to true emptied = λ s more ts stands.
-      let e = emptied s more ts stands in
-      (e.0, subst (λ (u : Stand). Leads f text u from e.0 to) (logging_is true full s more ts stands) e.1, e.2, e.3, e.4)
-  logged_full full new to false emptied = λ s more ts stands.
-      subst (λ (u : Stand). Fails f text u from to.lines) (logging_is true full s more ts stands) (emptied s more ts stands)
+  logged_full full new to is emptied = λ s more ts stands. comes_as f text new to more ts is from (sym (logging_is true full s more ts stands))
+      (emptied s more ts stands)
 
   -- it isn't
   pub logged_added : IsWithin text from → false ≡ nat_le 64 (length (logged old.logs k)) → (logs : Logs) → logged logs k ≡ logged old.logs k ++ entry ∷ []
@@ -264,7 +273,7 @@ module _ (f : Profile) (text : List ℕ) (old : Judge) (from : Cursor) (within :
   pass_due s ts next = ap (λ n. Writes (Record.Said 0 (Said.Pass n)) ∷ Examines 0 ∷ []) next.stands.epoch
 
   pub pass_amiss : (new : Judge) (to : Cursor) → LedToOutcomes to false → PassTaken f text old from new to false
-  pass_amiss new to led = λ s ts next followed.
+  pass_amiss new to led = λ s ts next followed enough.
       leads_fails (begins f text old from MakesPass within s ts next) (led (after_task f s (Does MakesPass) ts) (Examines 0 ∷ []) (pass_due s ts next))
 
   pub passed : (machine : Machine) (mid to : Cursor) → LedToOutcomes mid true → profile_of machine ≡ profile_of old.machine
@@ -289,9 +298,8 @@ module _ (f : Profile) (text : List ℕ) (old : Judge) (from : Cursor) (within :
 
 -- ---- what names stand for
 heap_known : (m : Meaning) (block : Block) → meaning_of m ≡ Some (Some block) → heap_in m < 32 → block.heap < 32
-heap_known Unasked block is small = absurd (cc)
-heap_known Refused block is small = absurd (cc)
 heap_known (Given c) block is small = let same : c ≡ block = cc in subst (λ (x : Block). x.heap < 32) same small
+heap_known other block is small = absurd (cc)
 
 pub heaps_of : {f : Profile} {j : Judge} {s : Stand} {at : Cursor} → Stands f j s at → HaveHeaps s.names
 heaps_of {f} {j} {s} {at} stands name block is = heap_known (meaning_at j.names.meanings.items name) block (sym (stands.names name) ∙ is) (j.names.heaps name)
@@ -305,67 +313,70 @@ left_kept : (full : Bool) (v : Stand) (k : ℕ) (entry : Entry) (more : List Due
 left_kept true v k entry more = refl
 left_kept false v k entry more = refl
 
-module _ (f : Profile) (text : List ℕ) (old : Judge) (from to : Cursor) (k : ℕ) (w : Wanted) (within : IsWithin text from) (few : k < 2 ^ 8)
-    (low : w.name < 2 ^ 32) (room : w.room < 2 ^ 32) (heap : w.directory.heap < 2 ^ 8)
-    (kind : IsKind w.directory.kind) (act : Act) (r : Request) (replaced : Option Name) (asks : Asks f old from act k r replaced) (wants : IsWanted f r w) where
-  abbrev asking : Stand → List Task → Stand
-  asking s ts = record s { due = Serves k r replaced ∷ []; left = ts }
+pub after_none : (k : ℕ) (r : Request) (replaced : Option Name) (found : Option Block) → is_some found ≡ false → (v : Stand)
+    → after_request v k r replaced found [] ≡ with_due (with_name v r.name found) []
+after_none k r replaced None none v = refl
+after_none k r replaced (Some block) none v = absurd (cc)
 
-  asking_is : (s : Stand) (ts : List Task) → Stands f old s from → after_task f s (Does act) ts ≡ asking s ts
-  asking_is s ts stands = ap (λ (u : Stand). record u { left = ts }) (asks s stands)
+pub after_some : (k : ℕ) (r : Request) (replaced : Option Name) (name : Name) (found : Option Block) → replaced ≡ Some name → is_some found ≡ true → (v : Stand)
+    → after_request v k r replaced found [] ≡ logging (is_full v k) (with_name v r.name found) k (unsized name) []
+after_some k r replaced name None is some v = absurd (cc)
+after_some k r replaced name (Some block) is some v = ap (λ o. after_request v k r o (Some block) []) is
 
+module _ (f : Profile) (text : List ℕ) (old : Judge) (from to : Cursor) (k : ℕ) (w : Wanted) (few : k < 2 ^ 8) (low : w.name < 2 ^ 32) (room : w.room < 2 ^ 32)
+    (heap : w.directory.heap < 2 ^ 8) (kind : IsKind w.directory.kind) (r : Request) (replaced : Option Name) (wants : IsWanted f r w) (s : Stand)
+    (stands : Stands f old s from)
+    (due : s.due ≡ Serves k r replaced ∷ []) where
   -- the request has the fields of w, whose bounds are given
   request_fits : FitsRequest f k r
   request_fits = search arith
 
-  asked_there : (s : Stand) (ts : List Task) → Stands f old s from → IsAsked old.machine (asking s ts) from k w r replaced []
-  asked_there s ts stands = search (arith, kept_same, request_fits)
+  asked_there : IsAsked old.machine s from k w r replaced []
+  asked_there = search (arith, request_fits)
 
-  pub request_amiss : (machine : Machine) (new : Judge) → RequestTaken old.machine machine text from to k w None → ActTaken f text old from new to act false
-  request_amiss machine new taken = λ s ts next.
-      leads_fails (begins f text old from act within s ts next) (subst (λ (u : Stand). Fails f text u from to.lines) (sym (asking_is s ts next.stands))
-      (subst (λ g. Fails g text (asking s ts) from to.lines) next.stands.profile (taken (asking s ts) r replaced [] (asked_there s ts next.stands))))
+  pub served_amiss : (machine : Machine) (new : Judge) → RequestTaken old.machine machine text from to k w None → IsCarried f text s from new to false
+  served_amiss machine new taken = λ enough. subst (λ g. Fails g text s from to.lines) stands.profile (taken s r replaced [] asked_there)
 
   module _ (machine : Machine) (names : Names) (found : Option Block) (profile : profile_of machine ≡ profile_of old.machine)
       (sets : (n : ℕ) → meant names n ≡ (if w.name == n then Some found else meant old.names n)) (taken : RequestTaken old.machine machine text from to k w (Some found)) where
+    abbrev made : Stand
+    made = record s { events = (taken s r replaced [] asked_there).0 }
+
     -- where its name stands for this
-    abbrev named_there : Stand → List Task → List Event → Stand
-    named_there s ts es = with_name (record (asking s ts) { events = es }) r.name found
+    abbrev named : Stand
+    named = with_name made r.name found
 
-    request_leads : (s : Stand) (ts : List Task) (next : IsNext f old s from act ts) → (es : List Event)
-        × Leads f text s from (after_request (record (asking s ts) { events = es }) k r replaced found []) to × Stands f (record old { machine = machine; names = names }) (named_there s ts es) to
-    request_leads s ts next =
-        let stands = next.stands in
-        let end = taken (asking s ts) r replaced [] (asked_there s ts stands) in
-        let es = end.0 in (
-          es,
-          leads_on (begins f text old from act within s ts next)
-              (subst (λ (u : Stand). Leads f text u from (after_request (record (asking s ts) { events = es }) k r replaced found []) to) (sym (asking_is s ts stands))
-              (subst (λ g. Leads g text (asking s ts) from (after_request (record (asking s ts) { events = es }) k r replaced found []) to) stands.profile end.1)),
-          search (arith, kept_same),
-        )
+    served_leads : Leads f text s from (after_request made k r replaced found []) to
+    served_leads = subst (λ g. Leads g text s from (after_request made k r replaced found []) to) stands.profile (taken s r replaced [] asked_there).1
 
-    -- nothing is replaced
-    pub request_done : ((v : Stand) → after_request v k r replaced found [] ≡ with_due (with_name v r.name found) []) → ActTaken f text old from (record old { machine = machine; names = names }) to act true
-    request_done ends = λ s ts next.
-        let end = request_leads s ts next in
-        let v : Stand = record (asking s ts) { events = end.0 } in
-        (with_due (named_there s ts end.0) [], subst (λ (u : Stand). Leads f text s from u to) (ends v) end.1, other_plan [] ts end.2, refl, refl)
+    served_stands : Stands f (record old { machine = machine; names = names }) named to
+    served_stands = (let end = taken s r replaced [] asked_there in search (arith, kept_same))
 
-    -- the name that it replaces is logged
-    module _ (name : Name) (new : Judge) (last : Cursor) (same : (v : Stand) → after_request v k r replaced found [] ≡ logging (is_full v k) (with_name v r.name found) k (unsized name) []) where
-      logged_there : (s : Stand) (ts : List Task) (es : List Event)
-          → after_request (record (asking s ts) { events = es }) k r replaced found [] ≡ being_logged (named_there s ts es) k (unsized name) [] ts
-      logged_there s ts es = same (record (asking s ts) { events = es }) ∙ sym (left_kept (is_full (named_there s ts es) k) (named_there s ts es) k (unsized name) [])
+    -- nothing is logged
+    pub served : ((v : Stand) → after_request v k r replaced found [] ≡ with_due (with_name v r.name found) [])
+        → IsCarried f text s from (record old { machine = machine; names = names }) to true
+    served ends = (with_due named [], subst (λ (u : Stand). Leads f text s from u to) (ends made) served_leads, other_plan [] s.left served_stands, refl, refl)
 
-      pub request_logged : (is : Bool) → EntryLogged f text (record old { machine = machine; names = names }) to new last k (unsized name) is → ActTaken f text old from new last act is
-      request_logged true logged = λ s ts next.
-          let end = request_leads s ts next in
-          let done = logged (named_there s ts end.0) [] ts end.2 in
-          (done.0, leads_on (subst (λ (u : Stand). Leads f text s from u to) (logged_there s ts end.0) end.1) done.1, done.2, done.3, done.4)
-      request_logged false logged = λ s ts next.
-          let end = request_leads s ts next in
-          leads_fails (subst (λ (u : Stand). Leads f text s from u to) (logged_there s ts end.0) end.1) (logged (named_there s ts end.0) [] ts end.2)
+    -- the name that it replaces is
+    pub served_logged : (name : Name) → ((v : Stand) → after_request v k r replaced found [] ≡ logging (is_full v k) (with_name v r.name found) k
+        (unsized name) [])
+        → (new : Judge) (last : Cursor) (is : Bool) → EntryLogged f text (record old { machine = machine; names = names }) to new last k (unsized name) is
+        → IsCarried f text s from new last is
+    served_logged name same new last is logged =
+        let there = same made ∙ sym (left_kept (is_full named k) named k (unsized name) []) in
+        comes_on f text new last [] s.left is (subst (λ (u : Stand). Leads f text s from u to) there served_leads) (logged named [] s.left served_stands)
+
+-- an act that only asks
+pub asks_taken : (f : Profile) (text : List ℕ) (old new : Judge) (from to : Cursor) (act : Act) → IsWithin text from
+    → (k : ℕ) (r : Request) (replaced : Option Name)
+    → Asks f old from act k r replaced → (is : Bool) → ((s : Stand) → Stands f old s from → s.due ≡ Serves k r replaced ∷ []
+    → IsCarried f text s from new to is)
+    → ActTaken f text old from new to act is
+asks_taken f text old new from to act within k r replaced asks is carried = λ s ts next.
+    let u : Stand = record s { due = Serves k r replaced ∷ []; left = ts } in
+    comes_on f text new to [] ts is (begins f text old from act within s ts next)
+    (comes_as f text new to [] ts is from (ap (λ (v : Stand). record v { left = ts }) (asks s next.stands))
+    (carried u (other_plan (Serves k r replaced ∷ []) ts next.stands) refl))
 
 -- ---- a free
 is_outside : (f g : Profile) (page : ℕ) → g ≡ f → (IsPage g page → ⊥) → is_page f page ≡ false
@@ -409,13 +420,9 @@ module _ (f : Profile) (text : List ℕ) (old : Judge) (from : Cursor) (k : ℕ)
 
       -- its entry is logged
       pub freed_logged : (new : Judge) (to : Cursor) (is : Bool) → EntryLogged f text old from new to k entry is → ActTaken f text old from new to act is
-      freed_logged new to true logged = λ s ts next.
-          let e = logged s [] ts next.stands in
-          let same : after_task f s (Does act) ts ≡ being_logged s k entry [] ts = ap (λ (u : Stand). record u { left = ts }) (logs_it s next.stands) in
-          (e.0, leads_on (begins f text old from act within s ts next) (subst (λ (u : Stand). Leads f text u from e.0 to) (sym same) e.1), e.2, e.3, e.4)
-      freed_logged new to false logged = λ s ts next.
-          let same : after_task f s (Does act) ts ≡ being_logged s k entry [] ts = ap (λ (u : Stand). record u { left = ts }) (logs_it s next.stands) in
-          leads_fails (begins f text old from act within s ts next) (subst (λ (u : Stand). Fails f text u from to.lines) (sym same) (logged s [] ts next.stands))
+      freed_logged new to is logged = λ s ts next.
+          comes_on f text new to [] ts is (begins f text old from act within s ts next)
+          (comes_as f text new to [] ts is from (ap (λ (u : Stand). record u { left = ts }) (logs_it s next.stands)) (logged s [] ts next.stands))
 
 -- ---- a free of what a name stands for
 module _ (f : Profile) (text : List ℕ) (old : Judge) (from : Cursor) (k name room : ℕ) (within : IsWithin text from) (act : Act) (frees : FreesNamed f act k name room) where
@@ -491,5 +498,4 @@ module _ (f : Profile) (text : List ℕ) (old : Judge) (from : Cursor) (k name s
 -- what holds of the judge's own profile holds of each that it stands in
 pub of_profile : (f : Profile) (text : List ℕ) (old new : Judge) (from to : Cursor) (act : Act) (taken : Bool)
     → (profile_of old.machine ≡ f → ActTaken f text old from new to act taken) → ActTaken f text old from new to act taken
-of_profile f text old new from to act true done = λ s ts next. done next.stands.profile s ts next
-of_profile f text old new from to act false done = λ s ts next. done next.stands.profile s ts next
+of_profile f text old new from to act taken done = λ s ts next. done next.stands.profile s ts next

@@ -3,8 +3,7 @@ use Rattle.std.proofs.Common.{◌≡◌, ◌≢◌, Option, None, Some, ℕ, zer
 use Rattle.std.proofs.Common.{refl, subst, arith, MatchOption}
 use Rattle.std.specs.List.{AllByRecursion, filter}
 use Rattle.pas_profile.specs.{Directories.IsKind, Profiles.IsAdmitted, Profiles.IsValid, Requests.kind_of_route, Routes.IsRouteOf, Routes.room_by}
-use Rattle.pas_profile.specs.declared.{directory.Route.Route, directory.Route.TheVariants.Class, directory.Route.TheVariants.Bitfit}
-use Rattle.pas_profile.specs.declared.{directory.Route.TheVariants.Large, profile.Profile.Profile}
+use Rattle.pas_profile.specs.declared.{directory.Route.Route, directory.Route.TheVariants.Class, profile.Profile.Profile}
 use Rattle.pas_profile.proofs.{ClassFacts.class_known, ClassFacts.route_is, Sizes.class_size_le}
 use Rattle.pas_trace.specs.Acts.{Act, StopsIdle, Ends, Lowers, act_kept, numbers_from, acts_from, acts_of, acts_of_chore, acts_of_op, acts_of_ops, acts_of_work}
 use Rattle.pas_trace.specs.Acts.{close_acts, phase_acts, threads_where}
@@ -18,13 +17,11 @@ use Rattle.pas_check.specs.Checks.{AllFit, ArePlanned, FitsAct, FitsHeaps, FitsW
 kind_routed : (shared : Bool) (classes size align : ℕ) (route : Route) → IsRouteOf classes size align route → IsKind (kind_of_route shared route)
 kind_routed true classes size align (Class class) is = tt
 kind_routed false classes size align (Class class) is = class_known classes size align class is
-kind_routed shared classes size align Bitfit is = tt
-kind_routed shared classes size align Large is = tt
+kind_routed shared classes size align other is = tt
 
 room_small : (route : Route) (size : ℕ) → size ≤ 2 ^ 26 → room_by route size < 2 ^ 32
 room_small (Class class) size few = omega (arith, class_size_le class)
-room_small Bitfit size few = omega (arith, few)
-room_small Large size few = omega (arith, few)
+room_small other size few = omega (arith, few)
 
 request_fits : (f : Profile) (k name heap size align : ℕ) → IsValid f → size ≤ f.pages * 4096 → k < 2 ^ 8 → name < 2 ^ 32 → heap < 32 → FitsRequest f k (asked_for name heap size align)
 request_fits f k name heap size align valid within few low one = search (arith, kind_routed, route_is, room_small)
@@ -90,10 +87,7 @@ module _ (f : Profile) (limit : ℕ) (valid : IsValid f) (few : limit ≤ 2 ^ 32
   task_fits k asked (Task.Request name heap size align) small below sound = heaps_fit f k name heap size align valid sound.0 small (omega (arith, below, few))
   task_fits k asked (Task.Remake name old heap size align) small below sound = heaps_fit f k name heap size align valid sound.0 small (omega (arith, below, few))
   task_fits k asked (Task.Guarded keeper name heap size align) small below sound = heaps_fit f k name heap size align valid sound.0 small (omega (arith, below, few))
-  task_fits k asked (Task.Free name room) small below sound = tt
-  task_fits k asked (Task.FreeRaw block room) small below sound = tt
-  task_fits k asked Task.Flush small below sound = tt
-  task_fits k asked Task.Stop small below sound = tt
+  task_fits k asked other small below sound = tt
 
   chore_fits : (idle : List ℕ) (chore : Chore) → AreThreads idle → MatchOption (epoch_of chore) (Unit {0}) (λ e. e < 2 ^ 40) → AllFit f (acts_of_chore idle chore)
   chore_fits idle (Chore.Tick e) all sound = (omega (arith, sound), tt)

@@ -7,7 +7,7 @@ use Rattle.pas_profile.specs.declared.{name.Block.Block, profile.Profile.Profile
 use Rattle.pas_trace.specs.{Asked.request_in, Named.standing_for}
 use Rattle.pas_trace.specs.Acts.{Operates, Guards, Settles, ReadsEpoch, StopsIdle, Wakes, Ends, Lowers}
 use Rattle.pas_trace.specs.declared.{item.Request.Request, plan.What.What}
-use Rattle.pas_trace.specs.declared.plan.What.TheVariants.{Alloc, Guarded, Free, FreeSized, Raw, RawSized, Remake, Flush, Stop, Tick, Pass, Idle}
+use Rattle.pas_trace.specs.declared.plan.What.TheVariants.{Alloc, Guarded, Free, FreeSized, Raw, RawSized, Remake, Flush, Stop}
 use Rattle.pas_check.specs.Begins.{after_task, begun, begun_from, begun_what, entries_due, entry_of, freeing, freeing_at, freeing_named, goes_down, guarding}
 use Rattle.pas_check.specs.Begins.{is_aligned, is_full, is_page, logging, lowered_due, past_outcomes, ready, ready_with, remaking, remaking_named, request_for}
 use Rattle.pas_check.specs.Begins.{settled_with, stopping, suits, unsized}
@@ -60,9 +60,7 @@ what_no_pass f s k (RawSized room block) no_pass = freeing_no_pass f s k (entry_
 what_no_pass f s k (Remake name old heap size align) no_pass = remade_no_pass s k name size align (standing_for s.names old) no_pass
 what_no_pass f s k Flush no_pass = entries_no_pass k (s.logs k) [] refl
 what_no_pass f s k Stop no_pass = entries_no_pass k (s.logs k) [] refl
-what_no_pass f s k (Tick e) no_pass = no_pass
-what_no_pass f s k Pass no_pass = no_pass
-what_no_pass f s k (Idle n) no_pass = no_pass
+what_no_pass f s k other no_pass = no_pass
 
 stopping_no_pass : (idle : Bool) (s : Stand) (k : ℕ) → BeginsNoPass s.due → BeginsNoPass (stopping idle s k).due
 stopping_no_pass true s k no_pass = entries_no_pass k (s.logs k) _ refl

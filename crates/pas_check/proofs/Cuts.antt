@@ -60,9 +60,7 @@ name_first name rest = hex_first 8 (address_of name) (codes " turn " ++ (decimal
 
 pub kind_first : (kind : Kind) (rest : List ℕ) → is_line (kind_text kind ++ rest) ≡ is_line rest
 kind_first (Kind.Class class) rest = number_first (class_size class) rest
-kind_first Kind.Bitfit rest = refl
-kind_first Kind.Shared rest = refl
-kind_first Kind.Large rest = refl
+kind_first other rest = refl
 
 -- ---- the line of a record
 event_line : (e : Event) → is_line (line_of_event e) ≡ true

@@ -1,5 +1,5 @@
 -- The lines of the entries of a log, one after the other.
-use Rattle.std.proofs.Common.{◌≡◌, ℕ, ◌+◌, ◌≤◌, true, false, List, [], ◌∷◌, ◌++◌, inl, inr, refl, ap, sym, subst, ◌∙◌, arith}
+use Rattle.std.proofs.Common.{◌≡◌, ℕ, ◌+◌, ◌^◌, ◌<◌, ◌≤◌, true, false, List, [], ◌∷◌, ◌++◌, inl, inr, refl, ap, sym, subst, ◌∙◌, arith}
 use Rattle.pas_profile.specs.declared.event.Event.{Event}
 use Rattle.pas_machine.specs.Machines.{profile_of}
 use Rattle.pas_machine.specs.declared.machine.Machine.{Machine}
@@ -49,8 +49,8 @@ module _ (old : Machine) (text : List ℕ) (from : Cursor) (k : ℕ) (log : List
           )
 
       -- it isn't
-      pub entries_amiss : EntryTaken mid new k entry epoch line false → EntriesTaken old new text from to k log [] epoch false
-      entries_amiss taken s more stands same kept due =
+      pub entries_amiss : at.lines < 2 ^ 32 → EntryTaken mid new k entry epoch line false → EntriesTaken old new text from to k log [] epoch false
+      entries_amiss low taken s more stands same kept due =
           let b = before s more stands same kept due in
           let t = b.0 in
           let rest : List Due = entries_due k entries ++ more in
@@ -58,4 +58,4 @@ module _ (old : Machine) (text : List ℕ) (from : Cursor) (k : ℕ) (log : List
           let t_epoch : t.epoch ≡ epoch = ap (λ (u : Stand). u.epoch) b.2 ∙ same in
           subst (Fails (profile_of old) text s from) (sym count)
           (leads_fails b.1 (due_refused (profile_of old) t (Frees k entry) rest t_due refl text at line (lines_from text to) has
-          (λ next x. taken.1 t rest next b.3 t_epoch (subst (λ f. TakesEntry f t k entry rest line next) (sym same_profile) x))))
+          (λ next x. taken.1 t rest next b.3 (omega (arith, b.4.few, low)) t_epoch (subst (λ f. TakesEntry f t k entry rest line next) (sym same_profile) x))))

@@ -1,60 +1,38 @@
 -- Outcomes of a pass, taken or not.
-use Rattle.std.proofs.Common.{arith, ◌≡◌, ℕ, ◌<◌, ◌==◌, Bool, true, false, if◌then◌else◌, List, Option, Some, None, refl, ap, sym, subst, ◌∙◌, eqb-true, eq-eqb}
+use Rattle.std.proofs.Common.{arith, ◌≡◌, ℕ, ◌<◌, true, false, List, Option, Some, None, refl, ap, sym, subst, eqb-true}
 use Rattle.std.proofs.lemmas.Option.{none-some, same_Some}
 use Rattle.pas_profile.specs.Profiles.{IsPage}
 use Rattle.pas_profile.specs.declared.event.{Event.Event, Outcome.Outcome}
-use Rattle.pas_profile.specs.declared.event.Outcome.TheVariants.{Unbacked, Bare, Young, InUse, NotOffered}
+use Rattle.pas_profile.specs.declared.event.Outcome.TheVariants.{Bare, Young, InUse, NotOffered}
 use Rattle.pas_machine.specs.Machines.{profile_of, StandsFor}
 use Rattle.pas_machine.specs.declared.machine.Machine.{Machine}
 use Rattle.pas_report.specs.Lines.{line_of}
 use Rattle.pas_report.specs.declared.record.{Record.Record, Said.Said}
 use Rattle.pas_check.specs.Calls.{outcome_in, outcome_in_event, outcome_in_said, IsExamined, OutcomeTaken}
-use Rattle.pas_check.specs.{Ranges.Fits, States.Stand, Takes.MayCome, Takes.record_of, Takes.after_outcome}
+use Rattle.pas_check.specs.{Bounds.IsFew, Ranges.Fits, States.Stand, Takes.MayCome, Takes.record_of, Takes.after_outcome}
 use Rattle.pas_check.specs.declared.examining.Examined.{Examined}
 use Rattle.pas_trace.proofs.PassedChecks.{if_some}
-use Rattle.pas_check.proofs.OneNext.{outcome_fits}
+use Rattle.pas_check.proofs.OneNext.{outcome_fits, outcome_is}
 
 -- ---- the outcome of a record
 abbrev record_in : ℕ → Examined → Record
 record_in epoch x = record_of epoch x.page x.outcome
 
 event_is : (epoch : ℕ) (e : Event) (x : Examined) → outcome_in_event epoch e ≡ Some x → Record.Event e ≡ record_in epoch x
-event_is epoch (Event.Deed k page d) x h = absurd (none-some x h)
-event_is epoch (Event.Back k page) x h = absurd (none-some x h)
 event_is epoch (Event.Unback k page read) x h = search (arith, if_some, eqb-true, same_Some)
-event_is epoch (Event.Give k block) x h = absurd (none-some x h)
-event_is epoch (Event.End k name read) x h = absurd (none-some x h)
-event_is epoch (Event.Reject k name why) x h = absurd (none-some x h)
+event_is epoch other x h = absurd (none-some x h)
 
 said_is : (epoch : ℕ) (said : Said) (x : Examined) → outcome_in_said said ≡ Some x → Record.Said 0 said ≡ record_in epoch x
-said_is epoch (Said.NoSpace name) x h = absurd (none-some x h)
-said_is epoch (Said.Held page name) x h = absurd (none-some x h)
-said_is epoch (Said.Outside block) x h = absurd (none-some x h)
-said_is epoch (Said.Unaligned block) x h = absurd (none-some x h)
-said_is epoch (Said.Skipped name) x h = absurd (none-some x h)
-said_is epoch (Said.Kept block name) x h = absurd (none-some x h)
-said_is epoch (Said.Tick e) x h = absurd (none-some x h)
-said_is epoch (Said.Pass e) x h = absurd (none-some x h)
 said_is epoch (Said.Bare page) x h = ap (record_in epoch) (same_Some (record { page = page; outcome = Bare }) x h)
 said_is epoch (Said.Young page stamp) x h = ap (record_in epoch) (same_Some (record { page = page; outcome = Young stamp }) x h)
 said_is epoch (Said.InUse page word value) x h = ap (record_in epoch) (same_Some (record { page = page; outcome = InUse word value }) x h)
 said_is epoch (Said.NotOffered page) x h = ap (record_in epoch) (same_Some (record { page = page; outcome = NotOffered }) x h)
-said_is epoch (Said.Stopped thread) x h = absurd (none-some x h)
-said_is epoch (Said.Guarded low high name) x h = absurd (none-some x h)
-said_is epoch (Said.Lowered low high) x h = absurd (none-some x h)
+said_is epoch other x h = absurd (none-some x h)
 
 pub record_is : (epoch : ℕ) (r : Record) (x : Examined) → outcome_in epoch r ≡ Some x → r ≡ record_of epoch x.page x.outcome
 record_is epoch (Record.Event e) x h = event_is epoch e x h
 record_is epoch (Record.Said k said) x h = search (arith, if_some, eqb-true, said_is)
-record_is epoch (Record.Phase n) x h = absurd (none-some x h)
-record_is epoch Record.Close x h = absurd (none-some x h)
-
-pub outcome_is : (epoch page : ℕ) (o : Outcome) → outcome_in epoch (record_of epoch page o) ≡ Some record { page = page; outcome = o }
-outcome_is epoch page Unbacked = ap (λ (t : Bool). if t then Some (record { page = page; outcome = Unbacked }) else None) (eq-eqb epoch epoch refl)
-outcome_is epoch page Bare = refl
-outcome_is epoch page (Young stamp) = refl
-outcome_is epoch page (InUse word value) = refl
-outcome_is epoch page NotOffered = refl
+record_is epoch other x h = absurd (none-some x h)
 
 -- ---- the line of an outcome
 module _ (old : Machine) (line : List ℕ) (last epoch : ℕ) where
@@ -66,16 +44,19 @@ module _ (old : Machine) (line : List ℕ) (last epoch : ℕ) where
 
   outcome_refused : (new : Machine) → new ≡ old
       → ((p : ℕ) (o : Outcome) → last < p → IsPage (profile_of old) p → Fits (record_of epoch p o) → line ≡ line_of (record_of epoch p o)
-      → (s : Stand) → StandsFor old s.events → s.epoch ≡ epoch → MayCome (profile_of old) s p o → ⊥) → OutcomeTaken old new last epoch line None
+      → (s : Stand) → StandsFor old s.events → IsFew s.events → s.epoch ≡ epoch → MayCome (profile_of old) s p o → ⊥)
+      → OutcomeTaken old new last epoch line None
   outcome_refused new kept none = search (arith, outcome_fits)
 
   -- no record has the line
   pub outcome_unread : ((r : Record) → Fits r → line ≡ line_of r → None ≡ Some r) → OutcomeTaken old old last epoch line None
-  outcome_unread none = outcome_refused old refl (λ p o rises region fits has s stands same may. none-some (record_of epoch p o) (none (record_of epoch p o) fits has))
+  outcome_unread none = outcome_refused old refl (λ p o rises region fits has s stands low same may.
+      none-some (record_of epoch p o) (none (record_of epoch p o) fits has))
 
   -- no outcome has it
   pub outcome_other : IsOnly None → OutcomeTaken old old last epoch line None
-  outcome_other none = outcome_refused old refl (λ p o rises region fits has s stands same may. none-some (record { page = p; outcome = o }) (none p o fits has))
+  outcome_other none = outcome_refused old refl (λ p o rises region fits has s stands low same may. none-some (record { page = p; outcome = o })
+      (none p o fits has))
 
   -- the outcome is of another page than one that may come
   pub outcome_amiss : (x : Examined) → IsOnly (Some x) → (last < x.page → IsPage (profile_of old) x.page → ⊥) → OutcomeTaken old old last epoch line None
@@ -101,6 +82,6 @@ module _ (old : Machine) (line : List ℕ) (last epoch : ℕ) where
 
   pub outcome_failed : (new : Machine) (x : Examined) → IsOnly (Some x) → IsExamined old new epoch x false → OutcomeTaken old new last epoch line None
   outcome_failed new x only examined = outcome_refused new examined.0
-      (λ p o up within fits is s stands same may.
+      (λ p o up within fits is s stands low same may.
       let here : record { page = p; outcome = o } ≡ x = sym (same_Some x (record { page = p; outcome = o }) (only p o fits is)) in
-      examined.1 s stands same (subst (λ (y : Examined). MayCome (profile_of old) s y.page y.outcome) here may))
+      examined.1 s stands low same (subst (λ (y : Examined). MayCome (profile_of old) s y.page y.outcome) here may))

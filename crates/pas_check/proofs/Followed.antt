@@ -1,6 +1,6 @@
 -- What follows a pass fits its places, where the acts that are left do.
-use Rattle.std.proofs.Common.{◌≡◌, ◌≢◌, ℕ, ◌+◌, ◌/◌, ◌^◌, ◌<◌, ◌==◌, ◌||◌, if◌then◌else◌, nat_le, max, Bool, cond, true, false, List, [], ◌∷◌, ◌++◌, map}
-use Rattle.std.proofs.Common.{Option, None, Some, inl, inr, refl, ap, sym, subst, ◌∙◌, arith, MatchOption}
+use Rattle.std.proofs.Common.{◌≡◌, ◌≢◌, ℕ, ◌+◌, ◌/◌, ◌^◌, ◌<◌, ◌==◌, if◌then◌else◌, nat_le, max, Bool, cond, true, false, List, [], ◌∷◌, ◌++◌, map, Option}
+use Rattle.std.proofs.Common.{None, Some, inl, inr, refl, sym, subst, ◌∙◌, arith, MatchOption}
 use Rattle.std.specs.List.{filter}
 use Rattle.std.proofs.lemmas.{Bool.and_parts, Option.none-some, Option.same_Some}
 use Rattle.pas_profile.specs.Blocks.{address_of}
@@ -8,20 +8,16 @@ use Rattle.pas_profile.specs.declared.{event.Event.Event, name.Block.Block, prof
 use Rattle.pas_trace.specs.declared.{item.Request.Request, plan.What.What}
 use Rattle.pas_report.specs.declared.record.{Record.Record, Said.Said}
 use Rattle.pas_trace.specs.{Asked.request_in, Named.Named, Named.standing_for}
-use Rattle.pas_trace.specs.Acts.{Act, Operates, Guards, Settles, Ticks, MakesPass, ReadsEpoch, StopsIdle, MarksPhase, Wakes, MarksClose, Ends, Lowers}
-use Rattle.pas_trace.specs.declared.plan.What.TheVariants.{Alloc, Guarded, Free, FreeSized, Raw, RawSized, Remake, Flush, Stop, Tick, Pass, Idle}
+use Rattle.pas_trace.specs.Acts.{Act, Operates, Guards, Ticks, MakesPass, StopsIdle, MarksPhase, Wakes, MarksClose, Ends, Lowers}
+use Rattle.pas_trace.specs.declared.plan.What.TheVariants.{Alloc, Guarded, Free, FreeSized, Raw, RawSized, Remake, Flush, Stop}
 use Rattle.pas_check.specs.Begins.{after_task, begun_act, begun_from, begun_what, entries_due, entry_of, flushing, freeing, freeing_at, freeing_named}
 use Rattle.pas_check.specs.Begins.{goes_down, guarding, is_aligned, is_full, is_page, logging, lowered_due, past_outcomes, remaking, remaking_named}
 use Rattle.pas_check.specs.Begins.{request_for, settled_with, stopping, suits, sweeping, tells, unsized}
-use Rattle.pas_check.specs.{Bounds.FitsNext, Bounds.FitsRequest, Bounds.HaveHeaps, Calls.IsFollowed, Calls.outcome_in, Takes.IsOutcome}
+use Rattle.pas_check.specs.{Bounds.FitsNext, Bounds.FitsRequest, Bounds.HaveHeaps, Calls.IsFollowed}
 use Rattle.pas_check.specs.Checks.{AllFit, FitsAct, FitsHeaps, FitsWhat, IsThread}
 use Rattle.pas_check.specs.States.{Due, Writes, Tries, Task, Does, Reports, Stand}
 use Rattle.pas_check.specs.declared.{entry.Entry.Entry, guard.Guard.Guard}
-use Rattle.pas_check.proofs.{Beginnings.begins_no_pass, Examinings.outcome_is}
-
--- ---- no outcome of a pass
-no_outcome : (item : Record) → ((epoch : ℕ) → outcome_in epoch item ≡ None) → IsOutcome item → ⊥
-no_outcome item none out = none-some _ (sym (none out.0) ∙ ap (outcome_in out.0) out.3 ∙ outcome_is out.0 out.1 out.2)
+use Rattle.pas_check.proofs.{Beginnings.begins_no_pass, OneNext.no_outcome}
 
 -- ---- a task is begun
 record IsBegun (f : Profile) (s b : Stand) : Type 0 where
@@ -102,9 +98,7 @@ module _ (f : Profile) (s : Stand) (due : s.due ≡ []) (small : s.epoch < 2 ^ 6
   operates k (Remake name old heap size align) thread fits = remakes k name heap size align (standing_for s.names old) (heaps old) thread fits
   operates k Flush thread fits = flushes k [] [] thread tt
   operates k Stop thread fits = flushes k [] [] thread tt
-  operates k (Tick e) thread fits = same
-  operates k Pass thread fits = same
-  operates k (Idle n) thread fits = same
+  operates k other thread fits = same
 
   stops : (idle : Bool) (k : ℕ) → IsThread k → IsBegun f s (stopping idle s k)
   stops true k thread = flushes k [] (Writes (Record.Said 0 (Said.Stopped k)) ∷ []) thread (inr ((omega arith, thread.1), no_outcome (Record.Said 0 (Said.Stopped k)) (λ e. refl)))
@@ -123,18 +117,17 @@ module _ (f : Profile) (s : Stand) (due : s.due ≡ []) (small : s.epoch < 2 ^ 6
   begins : (act : Act) → FitsAct f act → IsBegun f s (begun_act f s act)
   begins (Operates op) fits = operates op.actor op.what fits.0 fits.1
   begins (Guards keeper op) fits = guards keeper op.actor (request_in op.what) fits.1 fits.2 fits.3
-  begins (Settles k) fits = same
   begins (Ticks e) fits =
       let great : max s.epoch e < 2 ^ 64 = omega (arith, fits, small) in
       record { fits = inr ((omega arith, great), no_outcome (Record.Said 0 (Said.Tick (max s.epoch e))) (λ n. refl)); events = refl; epoch = great; heaps = heaps }
   begins MakesPass fits = record { fits = inr ((omega arith, small), no_outcome (Record.Said 0 (Said.Pass s.epoch)) (λ n. refl)); events = refl; epoch = small; heaps = heaps }
-  begins ReadsEpoch fits = same
   begins (StopsIdle k n) fits = stops (nat_le (s.idle_since k + n) s.epoch) k fits
   begins (MarksPhase n) fits = record { fits = inr (fits, no_outcome (Record.Phase n) (λ e. refl)); events = refl; epoch = small; heaps = heaps }
   begins (Wakes k) fits = record { fits = subst (FitsNext f) (sym due) tt; events = refl; epoch = small; heaps = heaps }
   begins MarksClose fits = record { fits = inr (tt, no_outcome Record.Close (λ e. refl)); events = refl; epoch = small; heaps = heaps }
   begins (Ends k) fits = flushes k [] [] fits tt
   begins (Lowers keeper) fits = sweeps keeper true [] fits tt
+  begins other fits = same
 
 -- ---- .. up to the first that has a line
 record IsWell (f : Profile) (es : List Event) (b : Stand) : Type 0 where

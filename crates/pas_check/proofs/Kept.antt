@@ -33,11 +33,7 @@ kind_made false made d old kind before is = before is
 
 kinds_more : (e : Event) (es : List Event) (epoch : ℕ) → EndsBy epoch e → AreKinds es → AreKinds (e ∷ es)
 kinds_more (Event.Deed k p made) es epoch by kinds page d is = kind_made (p == page) made d (deed_in es page) by (kinds page d) is
-kinds_more (Event.Back k p) es epoch by kinds page d is = kinds page d is
-kinds_more (Event.Unback k p read) es epoch by kinds page d is = kinds page d is
-kinds_more (Event.Give k block) es epoch by kinds page d is = kinds page d is
-kinds_more (Event.End k name read) es epoch by kinds page d is = kinds page d is
-kinds_more (Event.Reject k name why) es epoch by kinds page d is = kinds page d is
+kinds_more other es epoch by kinds page d is = kinds page d is
 
 pub kept_more : (t s : Stand) (at to : Cursor) (e : Event) → t.events ≡ e ∷ s.events → t.epoch ≡ s.epoch → to.lines ≡ at.lines + 1 → EndsBy s.epoch e → IsKept s at → IsKept t to
 kept_more t s at to e events epoch count by kept = search (arith, kinds_more, epoch_more)

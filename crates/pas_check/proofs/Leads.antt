@@ -3,7 +3,7 @@ use Rattle.std.proofs.Common.{◌≡◌, ℕ, zero, suc, ◌+◌, ◌↔◌, Boo
 use Rattle.pas_profile.specs.declared.profile.Profile.{Profile}
 use Rattle.pas_check.specs.{Accepted.IsDone, Accepted.IsWhole, Accepted.MayGo, Begins.past_outcomes, Begins.ready, Begins.ready_with, Going.AreAlike}
 use Rattle.pas_check.specs.Leading.{Fails, IsJustLine, IsLed, IsWithin, Leads, lines_from}
-use Rattle.pas_check.specs.States.{Due, Writes, Frees, Serves, Tries, Never, Examines, Heads, Shows, Totals, Stand, with_due}
+use Rattle.pas_check.specs.States.{Due, Examines, Stand, with_due}
 use Rattle.pas_check.specs.Takes.{IsJust, Takes, TakesDue, TakesFirst}
 use Rattle.pas_check.specs.declared.cutting.Cursor.{Cursor}
 
@@ -127,15 +127,8 @@ ready_is f s d more due no_pass = ap (ready_with f s) (ap past_outcomes due ∙ 
 
 pub first_none : (f : Profile) (s : Stand) (d : Due) (more : List Due) → past_outcomes (d ∷ more) ≡ d ∷ more → (line : List ℕ) (next : Stand)
     → TakesFirst f s (d ∷ more) line next → ⊥
-first_none f s (Writes item) more no_pass line next takes = takes
-first_none f s (Frees k entry) more no_pass line next takes = takes
-first_none f s (Serves k r old) more no_pass line next takes = takes
-first_none f s (Tries keeper k r backed) more no_pass line next takes = takes
-first_none f s Never more no_pass line next takes = takes
 first_none f s (Examines page) more no_pass line next takes = let e : length more ≡ suc (length more) = ap length no_pass in absurd (omega (arith, e))
-first_none f s Heads more no_pass line next takes = takes
-first_none f s (Shows page d) more no_pass line next takes = takes
-first_none f s Totals more no_pass line next takes = takes
+first_none f s other more no_pass line next takes = takes
 
 module _ (f : Profile) (s : Stand) (d : Due) (more : List Due) (due : s.due ≡ d ∷ more) (no_pass : past_outcomes (d ∷ more) ≡ d ∷ more) where
   ready_due : (ready f s).due ≡ d ∷ more

@@ -1,28 +1,24 @@
 -- A line that may come next leads to one state: no outcome of a pass has the line of what follows the pass.
-use Rattle.std.proofs.Common.{◌≡◌, ◌≢◌, ℕ, suc, ◌^◌, ◌<◌, ◌⊎◌, List, Option, None, [], ◌∷◌, ◌++◌, length, codes, inl, inr, refl, ap, sym, subst, ◌∙◌, arith}
+use Rattle.std.proofs.Common.{◌≡◌, ◌≢◌, ℕ, suc, ◌^◌, ◌<◌, ◌⊎◌, List, ◌∷◌, ◌++◌, length, codes, inl, inr, refl, ap, sym, subst, ◌∙◌, arith}
 use Rattle.std.specs.Fmt.{decimal}
-use Rattle.pas_profile.specs.declared.{event.Event.Event, event.Why.Why, event.Outcome.Outcome, name.Block.Block, name.Name.Name, profile.Profile.Profile}
+use Rattle.pas_profile.specs.declared.{event.Event.Event, event.Why.Why, event.Outcome.Outcome, profile.Profile.Profile}
 use Rattle.pas_profile.specs.declared.event.Outcome.TheVariants.{Unbacked, Bare, Young, InUse, NotOffered}
 use Rattle.pas_report.specs.Lines.{hex_digits, line_of, line_of_answer, line_of_event}
 use Rattle.pas_report.specs.declared.record.{Record.Record, Said.Said}
-use Rattle.pas_trace.specs.declared.item.Request.{Request}
 use Rattle.pas_check.specs.{Begins.past_outcomes, Begins.ready, Ranges.Fits, Ranges.FitsEntry, Ranges.FitsEvent, Readings.byte_at, Readings.of_u8}
 use Rattle.pas_check.specs.{Readings.past_digits}
-use Rattle.pas_check.specs.Bounds.{FitsFirst, FitsRequest, FitsNext, IsOfThread, IsSmall}
-use Rattle.pas_check.specs.States.{Due, Writes, Frees, Serves, Tries, Never, Examines, Heads, Shows, Totals, Stand}
-use Rattle.pas_check.specs.Takes.{IsEventOf, IsOutcome, IsPreparing, IsRefusal, serving, Takes, TakesRequest, TakesDue, TakesFirst, TakesOutcome, directory_of}
-use Rattle.pas_check.specs.Takes.{record_of}
+use Rattle.pas_check.specs.Bounds.{FitsFirst, FitsNext, IsOfThread, IsSmall}
+use Rattle.pas_check.specs.States.{Due, Writes, Frees, Serves, Tries, Examines, Heads, Shows, Totals, Stand}
+use Rattle.pas_check.specs.Takes.{IsEventOf, IsOutcome, Takes, TakesDue, TakesFirst, TakesOutcome, record_of}
 use Rattle.pas_check.specs.declared.entry.Entry.{Entry}
 use Rattle.pas_check.proofs.{Digits.past_number, Digits.u8_back, Takings.why_fits}
-use Rattle.pas_check.proofs.OneNext.{gives_fits, one_next, one_outcome, outcome_fits, prepares_fits, refusal_fits, same_record, small_serving}
+use Rattle.pas_check.proofs.OneNext.{TellsNone, by_request, by_try, no_outcome, one_next, one_outcome, outcome_fits, same_record}
 
 -- ---- the lines of outcomes begin with a number
 behind_actor : (epoch page : ℕ) (o : Outcome) → byte_at 0 (past_digits (line_of (record_of epoch page o))) ≡ 32
-behind_actor epoch page Unbacked = search (arith, past_number)
 behind_actor epoch page Bare = ap (byte_at 0) (past_number 0 32 (codes "bare page " ++ (decimal page ++ codes "\n")) (omega arith) refl)
-behind_actor epoch page (Young stamp) = search (arith, past_number)
-behind_actor epoch page (InUse word value) = search (arith, past_number)
 behind_actor epoch page NotOffered = ap (byte_at 0) (past_number 0 32 (codes "not-offered page " ++ (decimal page ++ codes "\n")) (omega arith) refl)
+behind_actor epoch page other = search (arith, past_number)
 
 -- ---- the actor in front of a line
 outcome_actor : (epoch page : ℕ) (o : Outcome) → of_u8 (line_of (record_of epoch page o)) ≡ 0
@@ -43,20 +39,7 @@ module _ (k : ℕ) (few : k < 2 ^ 8) where
 
   said_spaced : (said : Said) → Spaced (line_of_answer k said)
   said_spaced (Said.NoSpace name) = (_, refl)
-  said_spaced (Said.Held page name) = (_, refl)
-  said_spaced (Said.Outside block) = (_, refl)
-  said_spaced (Said.Unaligned block) = (_, refl)
-  said_spaced (Said.Skipped name) = (_, refl)
-  said_spaced (Said.Kept block name) = (_, refl)
-  said_spaced (Said.Tick epoch) = (_, refl)
-  said_spaced (Said.Pass epoch) = (_, refl)
-  said_spaced (Said.Bare page) = (_, refl)
-  said_spaced (Said.Young page stamp) = (_, refl)
-  said_spaced (Said.InUse page word value) = (_, refl)
-  said_spaced (Said.NotOffered page) = (_, refl)
-  said_spaced (Said.Stopped thread) = (_, refl)
-  said_spaced (Said.Guarded low high name) = (_, refl)
-  said_spaced (Said.Lowered low high) = (_, refl)
+  said_spaced other = (_, refl)
 
   entry_spaced : (s : Stand) (entry : Entry) (e : Event) → IsEventOf s k entry e → Spaced (line_of_event e)
   entry_spaced s entry e (inl is) = subst (λ g. Spaced (line_of_event g)) (sym is.3) (refused is.0)
@@ -67,43 +50,9 @@ module _ (k : ℕ) (few : k < 2 ^ 8) where
       refused (Why.SizeDiffers room) = (_, refl)
   entry_spaced s entry e (inr is) = subst (λ g. Spaced (line_of_event g)) (sym is.1) (_, refl)
 
--- ---- what is no record of an outcome
-event_of_outcome : (e : Event) (epoch page : ℕ) (o : Outcome) → Record.Event e ≡ record_of epoch page o → e ≡ Event.Unback 0 page epoch
-event_of_outcome e epoch page Unbacked same = cc
-event_of_outcome e epoch page Bare same = absurd (cc)
-event_of_outcome e epoch page (Young stamp) same = absurd (cc)
-event_of_outcome e epoch page (InUse word value) same = absurd (cc)
-event_of_outcome e epoch page NotOffered same = absurd (cc)
-
-no_entry : (s : Stand) (k : ℕ) (entry : Entry) (e : Event) → IsEventOf s k entry e → IsOutcome (Record.Event e) → ⊥
-no_entry s k entry e (inl is) out = let same = event_of_outcome e out.0 out.1 out.2 out.3 in let here = is.3 in absurd (cc (same, here))
-no_entry s k entry e (inr is) out = let same = event_of_outcome e out.0 out.1 out.2 out.3 in let here = is.1 in absurd (cc (same, here))
-
-no_give : (k : ℕ) (e : Event) → (block : Block) → e ≡ Event.Give k block → IsOutcome (Record.Event e) → ⊥
-no_give k e block is out = let same = event_of_outcome e out.0 out.1 out.2 out.3 in absurd (cc (same, is))
-
-module _ (f : Profile) (s : Stand) (k : ℕ) where
-  no_preparing : (r : Request) (e : Event) → IsPreparing k (directory_of f r) e → IsOutcome (Record.Event e) → ⊥
-  no_preparing r e (inl is) out = let same = event_of_outcome e out.0 out.1 out.2 out.3 in let here = is.1 in absurd (cc (same, here))
-  no_preparing r e (inr is) out = let same = event_of_outcome e out.0 out.1 out.2 out.3 in let here = is.1 in absurd (cc (same, here))
-
-  no_space : (name epoch page : ℕ) (o : Outcome) → Record.Said k (Said.NoSpace name) ≡ record_of epoch page o → ⊥
-  no_space name epoch page Unbacked same = absurd (cc)
-  no_space name epoch page Bare same = absurd (cc)
-  no_space name epoch page (Young stamp) same = absurd (cc)
-  no_space name epoch page (InUse word value) same = absurd (cc)
-  no_space name epoch page NotOffered same = absurd (cc)
-
-  no_held : (held name epoch page : ℕ) (o : Outcome) → Record.Said k (Said.Held held name) ≡ record_of epoch page o → ⊥
-  no_held held name epoch page Unbacked same = absurd (cc)
-  no_held held name epoch page Bare same = absurd (cc)
-  no_held held name epoch page (Young stamp) same = absurd (cc)
-  no_held held name epoch page (InUse word value) same = absurd (cc)
-  no_held held name epoch page NotOffered same = absurd (cc)
-
-  no_refusal : (r : Request) (said : Said) → IsRefusal f s r said → IsOutcome (Record.Said k said) → ⊥
-  no_refusal r said (inl is) out = no_space r.name out.0 out.1 out.2 (ap (Record.Said k) (sym is) ∙ out.3)
-  no_refusal r said (inr is) out = no_held is.0 r.name out.0 out.1 out.2 (ap (Record.Said k) (sym is.2) ∙ out.3)
+no_entry : (s : Stand) (k : ℕ) (entry : Entry) (e : Event) → IsEventOf s k entry e → TellsNone (Record.Event e)
+no_entry s k entry e (inl is) = subst (λ g. TellsNone (Record.Event g)) (sym is.3) (λ n. refl)
+no_entry s k entry e (inr is) = subst (λ g. TellsNone (Record.Event g)) (sym is.1) (λ n. refl)
 
 entry_fits : (s : Stand) (k : ℕ) (entry : Entry) (e : Event) → k < 2 ^ 8 → FitsEntry entry → s.epoch < 2 ^ 64 → IsEventOf s k entry e → FitsEvent e
 entry_fits s k entry e few fits small (inl is) = subst FitsEvent (sym is.3) (few, fits.name, why_fits entry is.0 fits.room is.1)
@@ -135,70 +84,37 @@ module _ (f : Profile) (s : Stand) (small : IsSmall f s) (last : ℕ) (rest : Li
 
   no_entry_of : (t : Stand) (k : ℕ) (entry : Entry) (e : Event) → t.epoch < 2 ^ 64 → (k < 2 ^ 8) × ((0 < k) ⊎ FitsEntry entry) → IsEventOf t k entry e → line ≡ line_of_event e → ⊥
   no_entry_of t k entry e epoch (few, inl some) is has = no_thread k some (line_of_event e) (spaced_actor k few (line_of_event e) (entry_spaced k few t entry e is)) has
-  no_entry_of t k entry e epoch (few, inr fits) is has = no_record (Record.Event e) (entry_fits t k entry e few fits epoch is) (no_entry t k entry e is) has
-
-  no_request : (t : Stand) → IsSmall f t → (k : ℕ) (r : Request) (old : Option Name) (more : List Due) → FitsRequest f k r → (b : Stand) → TakesRequest f t k r old more line b → ⊥
-  no_request t new k r old more fits b (inl y) =
-      no_record (Record.Event y.event) (prepares_fits f t new k r fits y.event y.prepares y.admitted) (no_preparing f t k r y.event y.prepares) y.line_is
-  no_request t new k r old more fits b (inr (inl y)) =
-      no_record (Record.Event (Event.Give k y.block)) (gives_fits f t new k r fits y.block y.is_for y.admitted) (no_give k (Event.Give k y.block) y.block refl) y.line_is
-  no_request t new k r old more fits b (inr (inr y)) =
-      no_record (Record.Said k y.said) (fits.actor, refusal_fits f t new k r fits y.said y.refuses) (no_refusal f t k r y.said y.refuses) y.line_is
+  no_entry_of t k entry e epoch (few, inr fits) is has = no_record (Record.Event e) (entry_fits t k entry e few fits epoch is)
+      (no_outcome (Record.Event e) (no_entry t k entry e is)) has
 
   outcome_apart : (t : Stand) → IsSmall f t → (due : List Due) → FitsNext f due → past_outcomes due ≡ due → (b : Stand) → TakesDue f t due line b → ⊥
-  outcome_apart t new [] fits no_pass b y = y
   outcome_apart t new (Writes item ∷ more) fits no_pass b y = no_writing item fits y.0
   outcome_apart t new (Frees k entry ∷ more) fits no_pass b y = no_entry_of t k entry y.event new.epoch fits y.of_entry y.line_is
-  outcome_apart t new (Serves k r old ∷ more) fits no_pass b y = no_request t new k r old more fits b y
-  outcome_apart t new (Tries keeper k r backed ∷ more) fits no_pass b (inl y) =
-      no_record (Record.Event y.event) (prepares_fits f t new keeper r fits.kept y.event y.prepares y.admitted) (no_preparing f t keeper r y.event y.prepares) y.line_is
-  outcome_apart t new (Tries keeper k r backed ∷ more) fits no_pass b (inr (inl y)) =
-      no_record (Record.Event (Event.Give keeper y.block)) (gives_fits f t new keeper r fits.kept y.block y.is_for y.admitted) (no_give keeper (Event.Give keeper y.block) y.block refl) y.line_is
-  outcome_apart t new (Tries keeper k r backed ∷ more) fits no_pass b (inr (inr y)) = no_request (serving t k r more) (small_serving f t k r more new) k r None more fits.own b y.1
-  outcome_apart t new (Never ∷ more) fits no_pass b y = y
+  outcome_apart t new (Serves k r old ∷ more) fits no_pass b y =
+      let by = by_request f t new k r fits old more line b y in no_record by.item by.fits (no_outcome by.item by.none) by.has
+  outcome_apart t new (Tries keeper k r backed ∷ more) fits no_pass b y =
+      let by = by_try f t new keeper k r fits backed more line b y in no_record by.item by.fits (no_outcome by.item by.none) by.has
   outcome_apart t new (Examines page ∷ more) fits no_pass b y = let e : length more ≡ suc (length more) = ap length no_pass in absurd (omega (arith, e))
   outcome_apart t new (Heads ∷ more) fits no_pass b y = no_text _ (λ e. omega (arith, e)) y.0
   outcome_apart t new (Shows page d ∷ more) fits no_pass b y = no_text _ (λ e. omega (arith, e)) y.line_is
   outcome_apart t new (Totals ∷ more) fits no_pass b y = no_text _ (λ e. omega (arith, e)) y.0
+  outcome_apart t new other fits no_pass b y = y
 
 -- ---- THE NEXT STATE is one
 fits_first : (f : Profile) (due : List Due) → FitsNext f due → FitsFirst f due
-fits_first f [] fits = fits
 fits_first f (Writes item ∷ more) fits = tt
 fits_first f (Frees k entry ∷ more) fits = tt
-fits_first f (Serves k r old ∷ more) fits = fits
-fits_first f (Tries keeper k r backed ∷ more) fits = fits
-fits_first f (Never ∷ more) fits = fits
-fits_first f (Examines page ∷ more) fits = fits
-fits_first f (Heads ∷ more) fits = fits
-fits_first f (Shows page d ∷ more) fits = fits
-fits_first f (Totals ∷ more) fits = fits
+fits_first f other fits = fits
 
 module _ (f : Profile) (s : Stand) (small : IsSmall f s) where
   one_first : (due : List Due) (line : List ℕ) (a b : Stand) → TakesFirst f s due line a → TakesFirst f s due line b → a ≡ b
-  one_first [] line a b x y = absurd x
-  one_first (Writes item ∷ more) line a b x y = absurd x
-  one_first (Frees k entry ∷ more) line a b x y = absurd x
-  one_first (Serves k r old ∷ more) line a b x y = absurd x
-  one_first (Tries keeper k r backed ∷ more) line a b x y = absurd x
-  one_first (Never ∷ more) line a b x y = absurd x
   one_first (Examines page ∷ more) line a b x y = one_outcome f s small page more line a b x y
-  one_first (Heads ∷ more) line a b x y = absurd x
-  one_first (Shows page d ∷ more) line a b x y = absurd x
-  one_first (Totals ∷ more) line a b x y = absurd x
+  one_first other line a b x y = absurd x
 
   module _ (new : IsSmall f (ready f s)) (fits : FitsNext f (ready f s).due) (no_pass : past_outcomes (ready f s).due ≡ (ready f s).due) where
     first_apart : (due : List Due) (line : List ℕ) (a b : Stand) → TakesFirst f s due line a → TakesDue f (ready f s) (ready f s).due line b → ⊥
-    first_apart [] line a b x y = x
-    first_apart (Writes item ∷ more) line a b x y = x
-    first_apart (Frees k entry ∷ more) line a b x y = x
-    first_apart (Serves k r old ∷ more) line a b x y = x
-    first_apart (Tries keeper k r backed ∷ more) line a b x y = x
-    first_apart (Never ∷ more) line a b x y = x
     first_apart (Examines page ∷ more) line a b x y = outcome_apart f s small page more line a x (ready f s) new (ready f s).due fits no_pass b y
-    first_apart (Heads ∷ more) line a b x y = x
-    first_apart (Shows page d ∷ more) line a b x y = x
-    first_apart (Totals ∷ more) line a b x y = x
+    first_apart other line a b x y = x
 
     pub one_takes : (line : List ℕ) (a b : Stand) → Takes f s line a → Takes f s line b → a ≡ b
     one_takes line a b (inl x) (inl y) = one_first s.due line a b x y

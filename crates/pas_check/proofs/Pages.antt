@@ -1,6 +1,6 @@
 -- What the machine says of a page, and its line in the report.
-use Rattle.std.proofs.Common.{MatchBool, ◌≡◌, ℕ, ◌+◌, ◌*◌, ◌/◌, ◌%◌, ◌<◌, ◌≤◌, ◌==◌, nat_le, nat_lt, not, Bool, true, false, if◌then◌else◌, List, [], ◌∷◌}
-use Rattle.std.proofs.Common.{Option, None, Some, refl, ap, sym, subst, ◌∙◌, arith, eqb-true, leb-true}
+use Rattle.std.proofs.Common.{MatchBool, ◌≡◌, ℕ, ◌+◌, ◌*◌, ◌/◌, ◌%◌, ◌≤◌, ◌==◌, nat_le, nat_lt, not, Bool, true, false, if◌then◌else◌, List, [], ◌∷◌, Option}
+use Rattle.std.proofs.Common.{None, Some, refl, ap, sym, subst, ◌∙◌, arith, eqb-true, leb-true}
 use Rattle.std.proofs.lemmas.{Bool.and_parts, Option.none-some}
 use Rattle.pas_profile.specs.Blocks.{address_of, length_of}
 use Rattle.pas_profile.specs.declared.{directory.Directory.Directory, event.Event.Event, name.Block.Block, profile.Profile.Profile}

@@ -1,8 +1,7 @@
 -- The lines of the outcomes of a pass, one after the other.
 use Rattle.std.proofs.Common.{◌≡◌, ℕ, ◌+◌, ◌^◌, ◌<◌, List, [], ◌∷◌, None, Some, inl, inr, refl, ap, sym, subst, ◌∙◌, arith}
 use Rattle.pas_profile.specs.Profiles.{IsValid}
-use Rattle.pas_profile.specs.declared.{event.Event.Event, event.Outcome.Outcome, profile.Profile.Profile}
-use Rattle.pas_profile.specs.declared.event.Outcome.TheVariants.{Unbacked, Bare, Young, InUse, NotOffered}
+use Rattle.pas_profile.specs.declared.{event.Event.Event, event.Outcome.Outcome, profile.Profile.Profile, event.Outcome.TheVariants.Unbacked}
 use Rattle.pas_machine.specs.Machines.{profile_of}
 use Rattle.pas_machine.specs.declared.machine.Machine.{Machine}
 use Rattle.pas_check.specs.{Begins.past_outcomes, Begins.ready, Bounds.FitsNext, Bounds.IsKept, Bounds.IsSmall, Leading.IsWithin, Leading.lines_from}
@@ -16,18 +15,12 @@ use Rattle.pas_check.proofs.Leads.{IsSameAt, leads_idly, leads_line, leads_nowhe
 -- ---- what an outcome changes
 outcome_shape : (t : Stand) (page : ℕ) (o : Outcome) → after_outcome t page o ≡ record t { events = (after_outcome t page o).events }
 outcome_shape t page Unbacked = refl
-outcome_shape t page Bare = refl
-outcome_shape t page (Young stamp) = refl
-outcome_shape t page (InUse word value) = refl
-outcome_shape t page NotOffered = refl
+outcome_shape t page other = refl
 
 outcome_kept : (u t : Stand) (page : ℕ) (o : Outcome) (at to : Cursor) → u.events ≡ (after_outcome t page o).events → u.epoch ≡ t.epoch
     → to.lines ≡ at.lines + 1 → IsKept t at → IsKept u to
 outcome_kept u t page Unbacked at to events epoch count kept = kept_more u t at to (Event.Unback 0 page t.epoch) events epoch count tt kept
-outcome_kept u t page Bare at to events epoch count kept = kept_same u t at to events epoch (omega (arith, count)) kept
-outcome_kept u t page (Young stamp) at to events epoch count kept = kept_same u t at to events epoch (omega (arith, count)) kept
-outcome_kept u t page (InUse word value) at to events epoch count kept = kept_same u t at to events epoch (omega (arith, count)) kept
-outcome_kept u t page NotOffered at to events epoch count kept = kept_same u t at to events epoch (omega (arith, count)) kept
+outcome_kept u t page other at to events epoch count kept = kept_same u t at to events epoch (omega (arith, count)) kept
 
 -- another state of the same events is small: but for the epoch, its bounds are of the events
 small_as : (f : Profile) (s t : Stand) → t.events ≡ s.events → t.epoch < 2 ^ 64 → IsSmall f s → IsSmall f t
@@ -84,7 +77,8 @@ module _ (old : Machine) (text : List ℕ) (from : Cursor) (epoch : ℕ) where
       module _ (new : Machine) (none : OutcomeTaken mid new last epoch line None) where
         there : (s : Stand) (ex : IsExamining old s from 0 epoch) (next : Stand) → Takes (profile_of old) (t s ex) line next
             → Takes (profile_of old) (with_due (t s ex) []) line next
-        there s ex next (inl x) = absurd (none.1 (t s ex) [] next (subst (λ g. IsSmall g (t s ex)) (sym same) (small s ex)) (before s ex).3 (t_epoch s ex)
+        there s ex next (inl x) = absurd (none.1 (t s ex) [] next (subst (λ g. IsSmall g (t s ex)) (sym same) (small s ex)) (before s ex).3
+            (omega (arith, (before s ex).4.few, low)) (t_epoch s ex)
             (subst (λ g. TakesOutcome g (t s ex) last [] line next) (sym same) (subst (λ ds. TakesFirst (profile_of old) (t s ex) ds line next) (t_due s ex) x)))
         there s ex next (inr y) = inr (subst (λ (u : Stand). TakesDue (profile_of old) u u.due line next) (same_ready s ex) y)
 

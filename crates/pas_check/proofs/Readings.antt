@@ -30,15 +30,11 @@ size_fits class = omega (arith, class_size_le class)
 
 abbrev is_of_class : Kind → ℕ → Bool
 is_of_class (Kind.Class c) class = c == class
-is_of_class Kind.Bitfit class = false
-is_of_class Kind.Shared class = false
-is_of_class Kind.Large class = false
+is_of_class other class = false
 
 of_class : (kind : Kind) (class : ℕ) → is_of_class kind class ≡ true → kind ≡ Kind.Class class
 of_class (Kind.Class c) class e = ap (λ n. Kind.Class n) (eqb-true c class e)
-of_class Kind.Bitfit class e = absurd (false≢true e)
-of_class Kind.Shared class e = absurd (false≢true e)
-of_class Kind.Large class e = absurd (false≢true e)
+of_class other class e = absurd (false≢true e)
 
 -- the size of a class names it
 class_is : (class : ℕ) → IsClass class → kind_of_route false (route_of 20 (class_size class) 16) ≡ Kind.Class class
@@ -46,9 +42,7 @@ class_is class is = of_class _ class (class_passes (λ c. is_of_class (kind_of_r
 
 kind_is : (kind : Kind) → IsKind kind → kind_at (codes " " ++ (kind_text kind ++ codes "\n")) ≡ kind
 kind_is (Kind.Class class) h = ap (λ n. kind_of_route false (route_of 20 n 16)) (u32_back (class_size class) 10 [] (size_fits class) refl) ∙ class_is class h
-kind_is Kind.Bitfit h = refl
-kind_is Kind.Shared h = refl
-kind_is Kind.Large h = refl
+kind_is other h = refl
 
 directory_is : (d : Directory) → d.heap < 2 ^ 8 → IsKind d.kind → directory_at (codes " heap " ++ (decimal d.heap ++ (codes " " ++ (kind_text d.kind ++ codes "\n")))) ≡ d
 directory_is d heap kind = search (arith, u8_back, past_number, kind_is)
@@ -173,14 +167,7 @@ one_line r q fits fits' same = sym (read_back r fits) ∙ ap record_at same ∙ 
 -- a record whose numbers fit can be shown
 pub fits_show : (r : Record) → Fits r → CanShow r
 fits_show (Record.Event (Event.Deed k page d)) fits = fits.3
-fits_show (Record.Event (Event.Back k page)) fits = tt
-fits_show (Record.Event (Event.Unback k page epoch)) fits = tt
-fits_show (Record.Event (Event.Give k block)) fits = tt
-fits_show (Record.Event (Event.End k name epoch)) fits = tt
-fits_show (Record.Event (Event.Reject k name why)) fits = tt
-fits_show (Record.Said k said) fits = tt
-fits_show (Record.Phase n) fits = tt
-fits_show Record.Close fits = tt
+fits_show other fits = tt
 
 -- the record that was found is the one of the line
 pub found_is : (line : List ℕ) (found r : Record) → found ≡ record_at line → Fits r → line ≡ line_of r → found ≡ r

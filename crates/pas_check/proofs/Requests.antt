@@ -5,7 +5,7 @@ use Rattle.pas_profile.specs.declared.{directory.Directory.Directory, event.Even
 use Rattle.pas_machine.specs.Machines.{profile_of, StandsFor}
 use Rattle.pas_machine.specs.declared.machine.Machine.{Machine}
 use Rattle.pas_trace.specs.declared.item.Request.{Request}
-use Rattle.pas_check.specs.{Bounds.FitsRequest, Bounds.IsSmall, Begins.replacing}
+use Rattle.pas_check.specs.{Bounds.FitsRequest, Bounds.IsFew, Bounds.IsSmall, Begins.replacing}
 use Rattle.pas_check.specs.Calls.{EndingTaken, IsAsked, IsWanted, PreparingTaken, RequestGoes, RequestTaken, after_request}
 use Rattle.pas_check.specs.Leading.{Fails, IsWithin, Leads, lines_from}
 use Rattle.pas_check.specs.States.{Due, Serves, Stand, with_due, with_name, with_one}
@@ -120,13 +120,16 @@ module _ (old : Machine) (text : List ℕ) (from : Cursor) (k : ℕ) (w : Wanted
         request_ends_there within none None ending = λ s r replaced more asked.
             let t = (before s r replaced more asked).0 in
             let stands = (before s r replaced more asked).3 in
+            let b_kept = (before s r replaced more asked).4.few in
             let kept : new ≡ mid = ending.0.0 in
             let wants = wants_mid r asked.wants in
+            let few : IsFew t.events = omega (arith, b_kept, low) in
             let small_mid = subst (λ g. IsSmall g t) (sym same) (small s r replaced more asked) in
             let fits = subst (λ g. FitsRequest g k r) (sym same) asked.fits in
             let new_is = ap (λ (m : Machine). profile_of m) kept in
-            fails_to s r replaced more asked (λ next takes. none_of (λ x. none.1 t r next stands wants.directory (subst (λ g. TakesPreparing g t k r line next) (sym same) x))
-            (λ x. ending.0.1 t r replaced more next wants small_mid fits stands (subst (λ g. TakesGive g t k r replaced more line next) (sym same) x))
+            fails_to s r replaced more asked (λ next takes. none_of
+            (λ x. none.1 t r next stands few wants.directory (subst (λ g. TakesPreparing g t k r line next) (sym same) x))
+            (λ x. ending.0.1 t r replaced more next wants small_mid fits stands few (subst (λ g. TakesGive g t k r replaced more line next) (sym same) x))
             (λ x. ending.1 t r more next (subst (λ g. IsWanted g r w) (sym new_is) wants) (subst (λ g. IsSmall g t) (sym new_is) small_mid)
             (subst (λ g. FitsRequest g k r) (sym new_is) fits)
             (subst (λ (m : Machine). StandsFor m t.events) (sym kept) stands) (subst (λ g. TakesRefusal g t k r more line next) (sym (new_is ∙ same)) x)) takes)

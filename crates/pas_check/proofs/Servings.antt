@@ -61,7 +61,7 @@ module _ (old : Machine) (k : ℕ) (w : Wanted) (line : List ℕ) where
   pub give_unread : ((g : Event) → FitsEvent g → line ≡ line_of_event g → None ≡ Some g) → GiveTaken old old k w line None
   give_unread none = (
     refl,
-    λ s r replaced more next wants small fits stands takes.
+    λ s r replaced more next wants small fits stands few takes.
         let e = Event.Give k takes.block in
         none-some e (none e (gives_fits (profile_of old) s small k r fits takes.block takes.is_for takes.admitted) takes.line_is),
   )
@@ -72,8 +72,9 @@ module _ (old : Machine) (k : ℕ) (w : Wanted) (line : List ℕ) where
       (record { block = block; is_for = g.1; admitted = g.2; line_is = has ∙ ap line_of_event g.0; next_is = refl }, g.3)
   give_taken new e has only None given = (
     given.0,
-    λ s r replaced more next wants small fits stands takes.
-        given.1 s r takes.block wants stands (only (Event.Give k takes.block) (gives_fits (profile_of old) s small k r fits takes.block takes.is_for takes.admitted) takes.line_is) takes.is_for takes.admitted,
+    λ s r replaced more next wants small fits stands few takes.
+        given.1 s r takes.block wants stands few (only (Event.Give k takes.block)
+        (gives_fits (profile_of old) s small k r fits takes.block takes.is_for takes.admitted) takes.line_is) takes.is_for takes.admitted,
   )
 
 -- ---- a refusal

@@ -6,7 +6,8 @@ use Rattle.pas_profile.specs.declared.{event.Event.Event, name.Block.Block}
 use Rattle.pas_machine.specs.Machines.{profile_of, StandsFor}
 use Rattle.pas_machine.specs.declared.machine.Machine.{Machine}
 use Rattle.pas_trace.specs.declared.item.Request.{Request}
-use Rattle.pas_check.specs.{Begins.has_sides, Begins.raising, Bounds.FitsRequest, Bounds.IsKept, Bounds.IsSmall, Ranges.FitsEvent}
+use Rattle.pas_check.specs.{Begins.has_sides, Begins.raising, Ranges.FitsEvent}
+use Rattle.pas_check.specs.Bounds.{FitsRequest, IsFew, IsKept, IsSmall}
 use Rattle.pas_check.specs.Calls.{BacksBy, GiveTaken, IsTrying, IsWanted, PreparingTaken, TrialEnded, TrialGoes, TrialStays, TrialTaken, trying}
 use Rattle.pas_check.specs.Leading.{Fails, IsWithin, Leads, lines_from}
 use Rattle.pas_check.specs.States.{Due, Serves, Tries, Stand, with_due, with_name, with_one}
@@ -48,6 +49,9 @@ module _ (old : Machine) (text : List ℕ) (from : Cursor) (keeper : ℕ) (w : W
 
         t_kept : IsKept t at
         t_kept = kept_same t (record s { events = (before s k r more asked).0 }) at at refl refl (omega arith) (before s k r more asked).3
+
+        few : IsFew t.events
+        few = omega (arith, t_kept.few, low)
 
         small : IsSmall (profile_of old) t
         small = small_of (profile_of old) mid t at same valid (before s k r more asked).2 t_kept low asked.epoch
@@ -127,14 +131,15 @@ module _ (old : Machine) (text : List ℕ) (from : Cursor) (keeper : ℕ) (w : W
       not_kept stood new none given s k r more asked next (inl x) =
           let u = t s k r more asked in
           let takes : TakesPreparing (profile_of old) u keeper r line (with_one u x.event) = record { event = x.event; prepares = x.prepares; admitted = x.admitted; line_is = x.line_is; next_is = refl } in
-          none.1 u r (with_one u x.event) (before s k r more asked).2 (wants_mid r asked.wants).directory (subst (λ g. TakesPreparing g u keeper r line (with_one u x.event)) (sym same) takes)
+          none.1 u r (with_one u x.event) (before s k r more asked).2 (few s k r more asked) (wants_mid r asked.wants).directory
+          (subst (λ g. TakesPreparing g u keeper r line (with_one u x.event)) (sym same) takes)
       not_kept stood new none given s k r more asked next (inr x) =
           let u = t s k r more asked in
           let after : Stand = with_due (with_name (with_one u (Event.Give keeper x.block)) r.name (Some x.block)) more in
           let takes : TakesGive (profile_of old) u keeper r None more line after = record { block = x.block; is_for = x.is_for; admitted = x.admitted; line_is = x.line_is; next_is = refl } in
           let here : GiveTaken mid new keeper w line None = subst (λ (m : Machine). GiveTaken m new keeper w line None) none.0 given in
           here.1 u r None more after (wants_mid r asked.wants) (subst (λ g. IsSmall g u) (sym same) (small s k r more asked)) (subst (λ g. FitsRequest g keeper r) (sym same) asked.fits.kept)
-          (before s k r more asked).2 (subst (λ g. TakesGive g u keeper r None more line after) (sym same) takes)
+          (before s k r more asked).2 (few s k r more asked) (subst (λ g. TakesGive g u keeper r None more line after) (sym same) takes)
 
       trial_stops : (stood new : Machine) → PreparingTaken mid stood keeper w.directory line false → GiveTaken stood new keeper w line None → backed ≡ true → TrialTaken old new text from to keeper w Stops
       trial_stops stood new none given has_backed s k r more asked = fails_to s k r more asked never

@@ -27,8 +27,8 @@ pub planned_there : (text : List ℕ) (plan : Plan) (judge : Judge) (phases : Li
 planned_there text plan judge phases is opened same =
     rw (opened.profile, opened.names, same) (plan_planned text plan is)
 
-pub opening_within : (transcript : List ℕ) → IsWithin transcript opening
-opening_within transcript = record { bytes = omega arith; lines = omega arith }
+pub opening_within : (transcript : List ℕ) → length transcript ≤ 16777216 → IsWithin transcript opening
+opening_within transcript short = record { bytes = omega arith; lines = omega arith; short = short }
 
 -- ---- the check begins
 module _ (text : List ℕ) (plan : Plan) (transcript : List ℕ) (judge : Judge) (is : IsPlanOf text plan) (short : length text ≤ 16777216) (opened : IsOpened plan judge)
@@ -62,8 +62,10 @@ module _ (text : List ℕ) (plan : Plan) (transcript : List ℕ) (old new : Judg
         → TakenTo transcript old opening new to (acts_of (threads_in old) (keepers_of plan) (map ops_of (phases_of plan.phases))) [] taken
     there taken done = rw (start, same, kept) at done
 
-    pub acts_amiss : TakenTo transcript old from new to (acts_of (threads_in old) keepers (map ops_of phases)) [] false → IsVerdict plan transcript (No to.lines)
-    acts_amiss done = no_verdict plan transcript to.lines (there false done plan.profile (at_first plan) (so_far_as (sym same_threads) (so_far text plan transcript old is short opened within)))
+    pub acts_amiss : TakenTo transcript old from new to (acts_of (threads_in old) keepers (map ops_of phases)) [] false → new.lacks_memory ≡ false
+        → IsVerdict plan transcript (No to.lines)
+    acts_amiss done enough = no_verdict plan transcript to.lines
+        (there false done plan.profile (at_first plan) (so_far_as (sym same_threads) (so_far text plan transcript old is short opened within)) enough)
 
     pub acts_on : TakenTo transcript old from new to (acts_of (threads_in old) keepers (map ops_of phases)) [] true → IsSoFar plan.profile transcript (at_first plan) new to []
     acts_on done = there true done plan.profile (at_first plan) (so_far_as (sym same_threads) (so_far text plan transcript old is short opened within))

@@ -1,7 +1,7 @@
 -- States whose numbers fit, as those of each check do.
 use Rattle.std.specs.Prelude.{ℕ, ◌^◌, ◌<◌, ◌≤◌, ◌≡◌, ◌≢◌, ◌⊎◌, List, [], ◌∷◌, Some, length}
 use Rattle.pas_profile.specs.{Directories.IsKind, Profiles.IsValid, Requests.room_in}
-use Rattle.pas_profile.specs.declared.{directory.Directory.Directory, name.Block.Block, profile.Profile.Profile}
+use Rattle.pas_profile.specs.declared.{directory.Directory.Directory, event.Event.Event, name.Block.Block, profile.Profile.Profile}
 use Rattle.pas_machine.specs.{Machine.Run, State.deed_in, State.gives_in, State.epoch_in}
 use Rattle.pas_report.specs.declared.record.Record.{Record}
 use Rattle.pas_trace.specs.declared.item.Request.{Request}
@@ -68,6 +68,10 @@ pub record IsSmall (f : Profile) (s : Stand) : Type 0 where
   pub gives : (address : ℕ) → gives_in s.events address < 2 ^ 64
   pub ends : (page : ℕ) → epoch_in s.events page < 2 ^ 64
   pub epoch : s.epoch < 2 ^ 64
+
+-- fewer events than the machine counts at an address
+abbrev pub IsFew : List Event → Type 0
+IsFew es = length es < 2 ^ 32
 
 -- There are no more events than lines before the cursor, no end has a later epoch than the greatest tick, and each deed names a class where it is of one.
 pub record IsKept (s : Stand) (at : Cursor) : Type 0 where

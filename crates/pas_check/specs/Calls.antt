@@ -1,7 +1,7 @@
 -- What the private functions of the checker promise of a line.
 use Rattle.std.specs.Prelude.{ℕ, ◌^◌, ◌<◌, ◌/◌, ◌%◌, ◌≡◌, ◌==◌, if◌then◌else◌, not, ◌||◌, map, Bool, true, false, List, [], ◌∷◌, ◌++◌, Option, None, Some}
 use Rattle.std.specs.Prelude.{IfSome}
-use Rattle.std.specs.{List.filter, Global.Vec}
+use Rattle.std.specs.List.{filter}
 use Rattle.pas_report.specs.Lines.{line_of, line_of_event}
 use Rattle.pas_report.specs.declared.record.{Record.Record, Said.Said}
 use Rattle.pas_profile.specs.declared.{directory.Directory.Directory, profile.Profile.Profile, event.Event.Event, event.Why.Why, name.Block.Block}
@@ -13,7 +13,7 @@ use Rattle.pas_machine.specs.{State.deed_in, Machine.Admits, Machine.HasOtherRoo
 use Rattle.pas_machine.specs.declared.machine.Machine.{Machine}
 use Rattle.pas_trace.specs.declared.item.Request.{Request}
 use Rattle.pas_check.specs.Begins.{begun_from, entries_due, goes_down, has_sides, lowered_due, past_outcomes, raising, replacing}
-use Rattle.pas_check.specs.Bounds.{FitsNext, FitsRequest, FitsTry, IsKept, IsSmall}
+use Rattle.pas_check.specs.Bounds.{FitsNext, FitsRequest, FitsTry, IsFew, IsKept, IsSmall}
 use Rattle.pas_check.specs.{Leading.Fails, Leading.IsWithin, Leading.Leads, Ranges.Fits, Ranges.FitsEvent}
 use Rattle.pas_check.specs.States.{Due, Examines, Serves, Tries, Stand, with_due, with_name, with_one}
 use Rattle.pas_check.specs.Takes.{IsFor, IsRefusal, MayCome, MayRefuse, TakesEntry, TakesGive, TakesOutcome, TakesPreparing, TakesRefusal, after_outcome}
@@ -42,7 +42,7 @@ pub record IsEventRead (line : List ℕ) (found : Option Event) : Type 0 where
 -- the machine took the event, which may come next; or it may not, and the machine is as it was
 abbrev pub IsStepped : Machine → Machine → Event → Bool → Type 0
 IsStepped old new e true = (es : List Event) → StandsFor old es → Admits (profile_of old) es e × StandsFor new (e ∷ es)
-IsStepped old new e false = (new ≡ old) × ((es : List Event) → StandsFor old es → Admits (profile_of old) es e → ⊥)
+IsStepped old new e false = (new ≡ old) × ((es : List Event) → StandsFor old es → IsFew es → Admits (profile_of old) es e → ⊥)
 
 -- ---- an entry
 -- the reason for which the entry's name can't end, or that there is none
@@ -59,7 +59,9 @@ Differs es entry = (0 < entry.room) × HasOtherRoom es entry.name entry.room
 abbrev pub EntryTaken : Machine → Machine → ℕ → Entry → ℕ → List ℕ → Bool → Type 0
 EntryTaken old new k entry epoch line true = (s : Stand) (more : List Due) → StandsFor old s.events → s.epoch ≡ epoch
     → (e : Event) × TakesEntry (profile_of old) s k entry more line (with_due (with_one s e) more) × StandsFor new (e ∷ s.events)
-EntryTaken old new k entry epoch line false = (new ≡ old) × ((s : Stand) (more : List Due) (next : Stand) → StandsFor old s.events → s.epoch ≡ epoch → TakesEntry (profile_of old) s k entry more line next → ⊥)
+EntryTaken old new k entry epoch line false = (new ≡ old) × ((s : Stand) (more : List Due) (next : Stand) → StandsFor old s.events → IsFew s.events
+    → s.epoch ≡ epoch
+    → TakesEntry (profile_of old) s k entry more line next → ⊥)
 
 -- The lines of so many entries lead from where the entries of the log are due to where those that are left are; or one of them can't be taken.
 abbrev pub EntriesTaken : Machine → Machine → List ℕ → Cursor → Cursor → ℕ → List Entry → List Entry → ℕ → Bool → Type 0
@@ -74,7 +76,9 @@ EntriesTaken old new text from to k log left epoch false = (s : Stand) (more : L
 abbrev pub PreparingTaken : Machine → Machine → ℕ → Directory → List ℕ → Bool → Type 0
 PreparingTaken old new k d line true = (s : Stand) (r : Request) → StandsFor old s.events → directory_of (profile_of old) r ≡ d
     → (e : Event) × TakesPreparing (profile_of old) s k r line (with_one s e) × StandsFor new (e ∷ s.events)
-PreparingTaken old new k d line false = (new ≡ old) × ((s : Stand) (r : Request) (next : Stand) → StandsFor old s.events → directory_of (profile_of old) r ≡ d → TakesPreparing (profile_of old) s k r line next → ⊥)
+PreparingTaken old new k d line false = (new ≡ old) × ((s : Stand) (r : Request) (next : Stand) → StandsFor old s.events → IsFew s.events
+    → directory_of (profile_of old) r ≡ d
+    → TakesPreparing (profile_of old) s k r line next → ⊥)
 
 -- ---- an outcome of a pass
 -- what came of a page by an event of a pass in this epoch
@@ -113,13 +117,16 @@ outcome_in epoch Record.Close = None
 -- what came of the page was taken, as it may come, and the machine stands for what stands after it; or it may not, and the machine is as it was
 abbrev pub IsExamined : Machine → Machine → ℕ → Examined → Bool → Type 0
 IsExamined old new epoch x true = (s : Stand) → StandsFor old s.events → s.epoch ≡ epoch → MayCome (profile_of old) s x.page x.outcome × StandsFor new (after_outcome s x.page x.outcome).events
-IsExamined old new epoch x false = (new ≡ old) × ((s : Stand) → StandsFor old s.events → s.epoch ≡ epoch → MayCome (profile_of old) s x.page x.outcome → ⊥)
+IsExamined old new epoch x false = (new ≡ old) × ((s : Stand) → StandsFor old s.events → IsFew s.events → s.epoch ≡ epoch
+    → MayCome (profile_of old) s x.page x.outcome → ⊥)
 
 -- The line is that of an outcome on a page after the last one, and this is the page; or it is none of these, and the machine is as it was.
 abbrev pub OutcomeTaken : Machine → Machine → ℕ → ℕ → List ℕ → Option ℕ → Type 0
 OutcomeTaken old new last epoch line (Some page) = (s : Stand) (more : List Due) → StandsFor old s.events → s.epoch ≡ epoch
     → (next : Stand) × TakesOutcome (profile_of old) s last more line (with_due next (Examines page ∷ more)) × StandsFor new next.events
-OutcomeTaken old new last epoch line None = (new ≡ old) × ((s : Stand) (more : List Due) (next : Stand) → IsSmall (profile_of old) s → StandsFor old s.events → s.epoch ≡ epoch → TakesOutcome (profile_of old) s last more line next → ⊥)
+OutcomeTaken old new last epoch line None = (new ≡ old) × ((s : Stand) (more : List Due) (next : Stand) → IsSmall (profile_of old) s → StandsFor old s.events
+    → IsFew s.events → s.epoch ≡ epoch
+    → TakesOutcome (profile_of old) s last more line next → ⊥)
 
 -- ---- the end of a request
 -- what the request asks for
@@ -145,7 +152,7 @@ IsFitting block w = (block.heap ≡ w.directory.heap) × (block.room ≡ w.room)
 abbrev pub IsGiven : Machine → Machine → ℕ → Wanted → Event → Option Block → Type 0
 IsGiven old new k w e (Some block) = (s : Stand) (r : Request) → IsWanted (profile_of old) r w → StandsFor old s.events
     → (e ≡ Event.Give k block) × IsFor (profile_of old) s r block × Admits (profile_of old) s.events (Event.Give k block) × StandsFor new (Event.Give k block ∷ s.events)
-IsGiven old new k w e None = (new ≡ old) × ((s : Stand) (r : Request) (block : Block) → IsWanted (profile_of old) r w → StandsFor old s.events
+IsGiven old new k w e None = (new ≡ old) × ((s : Stand) (r : Request) (block : Block) → IsWanted (profile_of old) r w → StandsFor old s.events → IsFew s.events
     → e ≡ Event.Give k block → IsFor (profile_of old) s r block → Admits (profile_of old) s.events (Event.Give k block) → ⊥)
 
 -- The line is that of a give of what is wanted, of this block; or it is none, and the machine is as it was.
@@ -154,7 +161,7 @@ GiveTaken old new k w line (Some block) = (s : Stand) (r : Request) (replaced : 
     → TakesGive (profile_of old) s k r replaced more line (replacing replaced (with_name (with_one s (Event.Give k block)) r.name (Some block)) k more)
     × StandsFor new (Event.Give k block ∷ s.events)
 GiveTaken old new k w line None = (new ≡ old) × ((s : Stand) (r : Request) (replaced : Option Name) (more : List Due) (next : Stand) → IsWanted (profile_of old) r w → IsSmall (profile_of old) s
-    → FitsRequest (profile_of old) k r → StandsFor old s.events → TakesGive (profile_of old) s k r replaced more line next → ⊥)
+    → FitsRequest (profile_of old) k r → StandsFor old s.events → IsFew s.events → TakesGive (profile_of old) s k r replaced more line next → ⊥)
 
 -- the record is a refusal of the request
 abbrev pub RefusesBy : Profile → Stand → ℕ → Request → Record → Type 0
@@ -256,23 +263,14 @@ SweepGoes machine text from to guards keeper all rest = (f : Profile) (s : Stand
     → s.due ≡ map lowered_due (filter (goes_down s.events keeper all) guards) ++ more
     → Leads f text s from (with_due s (map lowered_due (filter (goes_down s.events keeper all) rest) ++ more)) to
 
--- these stay up, and of the rest those that stay up follow
+-- these stay up
 abbrev pub staying : List Event → ℕ → Bool → List Guard → List Guard
 staying es keeper all guards = filter (λ guard. not (goes_down es keeper all guard)) guards
 
-abbrev pub AreLeft : Machine → List Guard → ℕ → Bool → List Guard → List Guard → Type 0
-AreLeft machine guards keeper all left rest = (es : List Event) → StandsFor machine es → left ++ staying es keeper all rest ≡ staying es keeper all guards
-
--- one guard more went down or stays up; or its line can't be taken
-abbrev pub OneSwept : Machine → List ℕ → Cursor → Cursor → Guard → ℕ → Bool → List Guard → List Guard → Bool → Type 0
-OneSwept machine text at to guard keeper all left more true = (from : Cursor) (guards rest : List Guard) → SweepGoes machine text from at guards keeper all (guard ∷ rest)
-    → AreLeft machine guards keeper all left (guard ∷ rest) → SweepGoes machine text from to guards keeper all rest × AreLeft machine guards keeper all more rest
-OneSwept machine text at to guard keeper all left more false = (from : Cursor) (guards rest : List Guard) → SweepGoes machine text from at guards keeper all (guard ∷ rest)
-    → (f : Profile) (s : Stand) (more : List Due) → StandsFor machine s.events → s.due ≡ map lowered_due (filter (goes_down s.events keeper all) guards) ++ more → Fails f text s from to.lines
-
-abbrev pub LinesSwept : Machine → List ℕ → Cursor → Cursor → List Guard → ℕ → Bool → Option (Vec Guard) → Type 0
-LinesSwept machine text from to guards keeper all (Some left) = SweepGoes machine text from to guards keeper all [] × AreLeft machine guards keeper all left.items []
-LinesSwept machine text from to guards keeper all None = (f : Profile) (s : Stand) (more : List Due) → StandsFor machine s.events
+-- all of them; or one of them can't be taken
+abbrev pub LinesSwept : Machine → List ℕ → Cursor → Cursor → List Guard → ℕ → Bool → Bool → Type 0
+LinesSwept machine text from to guards keeper all true = SweepGoes machine text from to guards keeper all []
+LinesSwept machine text from to guards keeper all false = (f : Profile) (s : Stand) (more : List Due) → StandsFor machine s.events
     → s.due ≡ map lowered_due (filter (goes_down s.events keeper all) guards) ++ more → Fails f text s from to.lines
 
 -- ---- the lines of a pass

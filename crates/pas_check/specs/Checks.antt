@@ -78,10 +78,14 @@ pub record IsSoFar (f : Profile) (text : List ℕ) (first : Stand) (judge : Judg
   pub left : stand.left ≡ map Does acts ++ Reports ∷ []
   pub fit : AllFit f acts
 
--- Where just these acts are left, their lines lead to where the others are left; or one of them can't be taken.
+-- These acts are left then; or a line can't be taken, where memory wasn't wanting for a guard.
+abbrev pub SoTaken : Profile → List ℕ → Stand → Judge → Cursor → List Act → Bool → Type 0
+SoTaken f text first new to left true = IsSoFar f text first new to left
+SoTaken f text first new to left false = new.lacks_memory ≡ false → Fails f text first opening to.lines
+
+-- Where just these acts are left, their lines lead to where the others are left.
 abbrev pub TakenTo : List ℕ → Judge → Cursor → Judge → Cursor → List Act → List Act → Bool → Type 0
-TakenTo text old from new to acts left true = (f : Profile) (first : Stand) → IsSoFar f text first old from acts → IsSoFar f text first new to left
-TakenTo text old from new to acts left false = (f : Profile) (first : Stand) → IsSoFar f text first old from acts → Fails f text first opening to.lines
+TakenTo text old from new to acts left taken = (f : Profile) (first : Stand) → IsSoFar f text first old from acts → SoTaken f text first new to left taken
 
 -- .. where these are the next ones, whatever follows them
 abbrev pub ActsTaken : List ℕ → Judge → Cursor → Judge → Cursor → List Act → Bool → Type 0

@@ -8,10 +8,11 @@ use Rattle.pas_check.specs.declared.cutting.Cursor.{Cursor}
 abbrev pub lines_from : List ℕ → Cursor → List (List ℕ)
 lines_from text at = lines_in (drop at.bytes text)
 
--- the cursor stands in the text
+-- the cursor stands in the text, which is no longer than an input
 pub record IsWithin (text : List ℕ) (at : Cursor) : Type 0 where
   pub bytes : at.bytes ≤ length text
   pub lines : at.lines ≤ at.bytes
+  pub short : length text ≤ 16777216
 
 -- The lines between two places of a text lead from one state to another: from there on the rest goes, as far as it goes, as the lines went from here.
 pub record Leads (f : Profile) (text : List ℕ) (s : Stand) (old : Cursor) (t : Stand) (new : Cursor) : Type 0 where

@@ -30,11 +30,14 @@ pub record IsNext (f : Profile) (judge : Judge) (s : Stand) (at : Cursor) (act :
   pub due : s.due ≡ []
   pub left : s.left ≡ Does act ∷ ts
 
--- The lines lead to where the act is done, and nothing is due; or one of them can't be taken.
+-- The lines lead from here to where these are due, and these are left; or one of them can't be taken, where memory wasn't wanting for a guard.
+abbrev pub Comes : Profile → List ℕ → Stand → Cursor → Judge → Cursor → List Due → List Task → Bool → Type 0
+Comes f text s from new to due left true = (t : Stand) × Leads f text s from t to × Stands f new t to × (t.due ≡ due) × (t.left ≡ left)
+Comes f text s from new to due left false = new.lacks_memory ≡ false → Fails f text s from to.lines
+
+-- .. to where the act is done, and nothing is due
 abbrev pub ActTaken : Profile → List ℕ → Judge → Cursor → Judge → Cursor → Act → Bool → Type 0
-ActTaken f text old from new to act true = (s : Stand) (ts : List Task) → IsNext f old s from act ts
-    → (t : Stand) × Leads f text s from t to × Stands f new t to × (t.due ≡ []) × (t.left ≡ ts)
-ActTaken f text old from new to act false = (s : Stand) (ts : List Task) → IsNext f old s from act ts → Fails f text s from to.lines
+ActTaken f text old from new to act is = (s : Stand) (ts : List Task) → IsNext f old s from act ts → Comes f text s from new to [] ts is
 
 -- an act that only empties thread k's log: a flush, a stop, and the end at the close
 abbrev pub Flushes : Profile → Act → ℕ → Type 0
@@ -53,15 +56,13 @@ abbrev pub emptying : Stand → ℕ → List Entry → List Due → List Task �
 emptying s k log more ts = record (flushing s k log more) { left = ts }
 
 abbrev pub LogEmptied : Profile → List ℕ → Judge → Cursor → Judge → Cursor → ℕ → List Entry → Bool → Type 0
-LogEmptied f text old from new to k log true = (s : Stand) (more : List Due) (ts : List Task) → Stands f old s from
-    → (t : Stand) × Leads f text (emptying s k log more ts) from t to × Stands f new t to × (t.due ≡ more) × (t.left ≡ ts)
-LogEmptied f text old from new to k log false = (s : Stand) (more : List Due) (ts : List Task) → Stands f old s from → Fails f text (emptying s k log more ts) from to.lines
+LogEmptied f text old from new to k log is = (s : Stand) (more : List Due) (ts : List Task) → Stands f old s from
+    → Comes f text (emptying s k log more ts) from new to more ts is
 
 -- .. so do those of a pass, where what follows it fits its places
 abbrev pub PassTaken : Profile → List ℕ → Judge → Cursor → Judge → Cursor → Bool → Type 0
-PassTaken f text old from new to true = (s : Stand) (ts : List Task) → IsNext f old s from MakesPass ts → IsFollowed f (record s { left = ts })
-    → (t : Stand) × Leads f text s from t to × Stands f new t to × (t.due ≡ []) × (t.left ≡ ts)
-PassTaken f text old from new to false = (s : Stand) (ts : List Task) → IsNext f old s from MakesPass ts → IsFollowed f (record s { left = ts }) → Fails f text s from to.lines
+PassTaken f text old from new to is = (s : Stand) (ts : List Task) → IsNext f old s from MakesPass ts → IsFollowed f (record s { left = ts })
+    → Comes f text s from new to [] ts is
 
 -- an act that only asks for what thread k's request says, and replaces the block of this name, if there is one
 abbrev pub Asks : Profile → Judge → Cursor → Act → ℕ → Request → Option Name → Type 0
@@ -91,24 +92,21 @@ IsSuited block size align = (max size 1 ≤ block.room) × (address_of block.nam
 abbrev pub being_logged : Stand → ℕ → Entry → List Due → List Task → Stand
 being_logged s k entry more ts = record (logging (is_full s k) s k entry more) { left = ts }
 
--- the lines lead to where the entry is logged; or one of them can't be taken
+-- the lines lead to where the entry is logged
 abbrev pub EntryLogged : Profile → List ℕ → Judge → Cursor → Judge → Cursor → ℕ → Entry → Bool → Type 0
-EntryLogged f text old from new to k entry true = (s : Stand) (more : List Due) (ts : List Task) → Stands f old s from
-    → (t : Stand) × Leads f text (being_logged s k entry more ts) from t to × Stands f new t to × (t.due ≡ more) × (t.left ≡ ts)
-EntryLogged f text old from new to k entry false = (s : Stand) (more : List Due) (ts : List Task) → Stands f old s from → Fails f text (being_logged s k entry more ts) from to.lines
+EntryLogged f text old from new to k entry is = (s : Stand) (more : List Due) (ts : List Task) → Stands f old s from
+    → Comes f text (being_logged s k entry more ts) from new to more ts is
 
 -- ---- guards
 -- where the keeper sweeps, when these are due after its lines
 abbrev pub being_swept : Stand → ℕ → Bool → List Due → List Task → Stand
 being_swept s keeper all more ts = record (sweeping s keeper all more) { left = ts }
 
--- the lines lead to where they are due; or one of them can't be taken
+-- the lines lead to where they are due
 abbrev pub GuardsSwept : Profile → List ℕ → Judge → Cursor → Judge → Cursor → ℕ → Bool → Bool → Type 0
-GuardsSwept f text old from new to keeper all true = (s : Stand) (more : List Due) (ts : List Task) → Stands f old s from
-    → Leads f text (being_swept s keeper all more ts) from (with_due (being_swept s keeper all more ts) more) to × Stands f new (with_due (being_swept s keeper all more ts) more) to
-GuardsSwept f text old from new to keeper all false = (s : Stand) (more : List Due) (ts : List Task) → Stands f old s from → Fails f text (being_swept s keeper all more ts) from to.lines
+GuardsSwept f text old from new to keeper all is = (s : Stand) (more : List Due) (ts : List Task) → Stands f old s from
+    → Comes f text (being_swept s keeper all more ts) from new to more ts is
 
--- The lines lead from here to where nothing is due, and as much is left of the plan; or one of them can't be taken.
+-- The lines lead from here to where nothing is due, and as much is left of the plan.
 abbrev pub IsCarried : Profile → List ℕ → Stand → Cursor → Judge → Cursor → Bool → Type 0
-IsCarried f text s from new to true = (t : Stand) × Leads f text s from t to × Stands f new t to × (t.due ≡ []) × (t.left ≡ s.left)
-IsCarried f text s from new to false = Fails f text s from to.lines
+IsCarried f text s from new to is = Comes f text s from new to [] s.left is

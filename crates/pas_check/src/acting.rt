@@ -7,9 +7,10 @@ ghost use Rattle.pas_machine.specs.Machines.{profile_of};
 ghost use Rattle.pas_trace.specs.{Asked.keeper_in, EveryPlan.IsBelow, EveryPlan.IsSoundWhat};
 ghost use Rattle.pas_trace.specs.Acts.{Act, act_kept, MarksClose, MarksPhase, Operates, StopsIdle, Ticks, Wakes};
 ghost use Rattle.pas_trace.specs.declared.item.Request.{Request};
-ghost use Rattle.pas_check.specs.{Calls.IsWanted, Checks.IsSizedAs, Leading.IsWithin, Leading.StaysWithin, Tables.logs_held, Tables.names_held};
-ghost use Rattle.pas_check.specs.Tasks.{ActTaken, Asks, EntryLogged, Flushes, FreesEntry, FreesNamed, IsSuited, LogEmptied, PassTaken, Remakes, Resizes};
-ghost use Rattle.pas_check.specs.Tasks.{SaysNamed};
+ghost use Rattle.pas_check.specs.{Calls.IsWanted, Checks.IsSizedAs, Leading.IsWithin, Leading.StaysWithin, Tables.logs_held, Tables.names_held, States.Serves};
+ghost use Rattle.pas_check.specs.{States.Stand};
+ghost use Rattle.pas_check.specs.Tasks.{ActTaken, EntryLogged, Flushes, FreesEntry, FreesNamed, IsCarried, IsSuited, LogEmptied, PassTaken, Remakes, Resizes};
+ghost use Rattle.pas_check.specs.Tasks.{SaysNamed, Stands};
 ghost use Rattle.pas_check.specs.declared.cutting.Cursor.{Cursor as TheCursor};
 
 use crate::cutting::Cursor;
@@ -30,16 +31,17 @@ use pas_trace::{Op, Plan, What};
 use std::alloc::Global;
 
 /// What a check knows of the lines before: the machine, what the names of the trace stand for, the log of each thread, the epoch that each thread read when it
-/// woke last, the greatest tick, and the guards that are up, in the order in which they went up. Threads stand at their numbers.
+/// woke last, the greatest tick, and the guards that are up, in the order in which they went up. Threads stand at their numbers. Where memory is wanting for
+/// a guard the check stops, and nothing is said of the line then.
 #[derive(Drop)]
 pub(crate) struct Judge {
-    pub alloc: Global,
     pub machine: Machine,
     pub names: Names,
     pub logs: Logs,
     pub awake: Vec<u64>,
     pub epoch: u64,
     pub guards: Vec<Guard>,
+    pub lacks_memory: bool,
 }
 
 impl Judge {
@@ -58,13 +60,13 @@ impl Judge {
             return Err(NoMemory);
         };
         Ok(Judge {
-            alloc,
             machine,
             names,
             logs,
             awake,
             epoch: 0,
             guards: Vec::new(alloc),
+            lacks_memory: false,
         })
     }
 }
@@ -81,7 +83,6 @@ pub(crate) fn wake(judge: &mut Judge, k: u8)
 /// Takes the mark of a phase from the second on.
 pub(crate) fn mark_phase(judge: &Judge, text: &[u8], cursor: &mut Cursor, number: u32) -> bool
     requires within { IsWithin text.now cursor.old }
-    requires short { length text.now ≤ 16777216 }
     ensures taken { (f : Profile) → ActTaken f text.now judge.now cursor.old judge.now cursor.new (MarksPhase number) result }
     ensures within { StaysWithin text.now cursor.new result }
 {
@@ -91,7 +92,6 @@ pub(crate) fn mark_phase(judge: &Judge, text: &[u8], cursor: &mut Cursor, number
 /// Takes the mark of the close.
 pub(crate) fn mark_close(judge: &Judge, text: &[u8], cursor: &mut Cursor) -> bool
     requires within { IsWithin text.now cursor.old }
-    requires short { length text.now ≤ 16777216 }
     ensures taken { (f : Profile) → ActTaken f text.now judge.now cursor.old judge.now cursor.new MarksClose result }
     ensures within { StaysWithin text.now cursor.new result }
 {
@@ -101,7 +101,6 @@ pub(crate) fn mark_close(judge: &Judge, text: &[u8], cursor: &mut Cursor) -> boo
 /// Takes the line of a tick, which tells the greater of the epoch and its argument.
 pub(crate) fn tick(judge: &mut Judge, text: &[u8], cursor: &mut Cursor, epoch: u64) -> bool
     requires within { IsWithin text.now cursor.old }
-    requires short { length text.now ≤ 16777216 }
     ensures taken { (f : Profile) → ActTaken f text.now judge.old cursor.old judge.new cursor.new (Ticks epoch) result }
     ensures within { StaysWithin text.now cursor.new result }
     ensures sized { IsSizedAs judge.old judge.new }
@@ -111,84 +110,51 @@ pub(crate) fn tick(judge: &mut Judge, text: &[u8], cursor: &mut Cursor, epoch: u
 }
 
 /// Takes the lines of the entries of the thread's log, which is empty from then on.
-fn empty_log(judge: &mut Judge, text: &[u8], cursor: &mut Cursor, k: u8) -> Result<bool, NoMemory>
+fn empty_log(judge: &mut Judge, text: &[u8], cursor: &mut Cursor, k: u8) -> bool
     requires within { IsWithin text.now cursor.old }
-    requires short { length text.now ≤ 16777216 }
     requires held { k < logs_held judge.old.logs }
-    ensures taken { IfOk result (λ taken. (f : Profile) → LogEmptied f text.now judge.old cursor.old judge.new cursor.new k [] taken) }
-    ensures within { IfOk result (StaysWithin text.now cursor.new) }
-    ensures sized { IfOk result (λ taken. IsSizedAs judge.old judge.new) }
+    ensures taken { (f : Profile) → LogEmptied f text.now judge.old cursor.old judge.new cursor.new k [] result }
+    ensures within { StaysWithin text.now cursor.new result }
+    ensures sized { IsSizedAs judge.old judge.new }
 {
-    match take_entries(
-        &mut judge.machine,
-        text,
-        cursor,
-        k,
-        judge.logs.log(k),
-        judge.epoch,
-    ) {
-        Ok(true) => {
-            judge.logs.clear(k);
-            Ok(true)
-        }
-        Ok(false) => Ok(false),
-        Err(NoMemory) => Err(NoMemory),
+    let log = judge.logs.log(k);
+    if !take_entries(&mut judge.machine, text, cursor, k, log, judge.epoch) {
+        return false;
     }
+    judge.logs.clear(k);
+    true
 }
 
 /// Takes the lines of the entries of the thread's log, which has just this entry from then on.
-fn refill_log(
-    judge: &mut Judge,
-    text: &[u8],
-    cursor: &mut Cursor,
-    k: u8,
-    entry: Entry,
-) -> Result<bool, NoMemory>
+fn refill_log(judge: &mut Judge, text: &[u8], cursor: &mut Cursor, k: u8, entry: Entry) -> bool
     requires within { IsWithin text.now cursor.old }
-    requires short { length text.now ≤ 16777216 }
     requires held { k < logs_held judge.old.logs }
-    ensures taken { IfOk result (λ taken. (f : Profile) → LogEmptied f text.now judge.old cursor.old judge.new cursor.new k (entry ∷ []) taken) }
-    ensures within { IfOk result (StaysWithin text.now cursor.new) }
-    ensures sized { IfOk result (λ taken. IsSizedAs judge.old judge.new) }
+    ensures taken { (f : Profile) → LogEmptied f text.now judge.old cursor.old judge.new cursor.new k (entry ∷ []) result }
+    ensures within { StaysWithin text.now cursor.new result }
+    ensures sized { IsSizedAs judge.old judge.new }
 {
-    match take_entries(
-        &mut judge.machine,
-        text,
-        cursor,
-        k,
-        judge.logs.log(k),
-        judge.epoch,
-    ) {
-        Ok(true) => {
-            judge.logs.clear(k);
-            judge.logs.add(k, entry);
-            Ok(true)
-        }
-        Ok(false) => Ok(false),
-        Err(NoMemory) => Err(NoMemory),
+    let log = judge.logs.log(k);
+    if !take_entries(&mut judge.machine, text, cursor, k, log, judge.epoch) {
+        return false;
     }
+    judge.logs.clear(k);
+    judge.logs.add(k, entry);
+    true
 }
 
 /// Logs the entry. Takes the lines of the entries of a full log, which is emptied before; where it isn't full there are none.
-fn log_entry(
-    judge: &mut Judge,
-    text: &[u8],
-    cursor: &mut Cursor,
-    k: u8,
-    entry: Entry,
-) -> Result<bool, NoMemory>
+fn log_entry(judge: &mut Judge, text: &[u8], cursor: &mut Cursor, k: u8, entry: Entry) -> bool
     requires within { IsWithin text.now cursor.old }
-    requires short { length text.now ≤ 16777216 }
     requires held { k < logs_held judge.old.logs }
-    ensures taken { IfOk result (λ taken. (f : Profile) → EntryLogged f text.now judge.old cursor.old judge.new cursor.new k entry taken) }
-    ensures within { IfOk result (StaysWithin text.now cursor.new) }
-    ensures sized { IfOk result (λ taken. IsSizedAs judge.old judge.new) }
+    ensures taken { (f : Profile) → EntryLogged f text.now judge.old cursor.old judge.new cursor.new k entry result }
+    ensures within { StaysWithin text.now cursor.new result }
+    ensures sized { IsSizedAs judge.old judge.new }
 {
     if judge.logs.is_full(k) {
         return refill_log(judge, text, cursor, k, entry);
     }
     judge.logs.add(k, entry);
-    Ok(true)
+    true
 }
 
 /// Whether the name's address is that of a grain.
@@ -206,23 +172,20 @@ pub(crate) fn free_entry(
     cursor: &mut Cursor,
     k: u8,
     entry: Entry,
-) -> Result<bool, NoMemory>
+) -> bool
     requires within { IsWithin text.now cursor.old }
-    requires short { length text.now ≤ 16777216 }
     requires held { k < logs_held judge.old.logs }
-    ensures taken { IfOk result (λ taken. (f : Profile) (act : Act) → FreesEntry f judge.old cursor.old act k entry
-        → ActTaken f text.now judge.old cursor.old judge.new cursor.new act taken) }
-    ensures within { IfOk result (StaysWithin text.now cursor.new) }
-    ensures sized { IfOk result (λ taken. IsSizedAs judge.old judge.new) }
+    ensures taken { (f : Profile) (act : Act) → FreesEntry f judge.old cursor.old act k entry
+        → ActTaken f text.now judge.old cursor.old judge.new cursor.new act result }
+    ensures within { StaysWithin text.now cursor.new result }
+    ensures sized { IsSizedAs judge.old judge.new }
 {
     let block = entry.name;
     if !judge.machine.has_page(block.address.0 / 4096) {
-        let outside = take_record(text, cursor, &Record::Said(k, Said::Outside { block }));
-        return Ok(outside);
+        return take_record(text, cursor, &Record::Said(k, Said::Outside { block }));
     }
     if !is_at_grain(block) {
-        let unaligned = take_record(text, cursor, &Record::Said(k, Said::Unaligned { block }));
-        return Ok(unaligned);
+        return take_record(text, cursor, &Record::Said(k, Said::Unaligned { block }));
     }
     log_entry(judge, text, cursor, k, entry)
 }
@@ -236,20 +199,16 @@ pub(crate) fn free_named(
     k: u8,
     name: u32,
     room: u32,
-) -> Result<bool, NoMemory>
+) -> bool
     requires within { IsWithin text.now cursor.old }
-    requires short { length text.now ≤ 16777216 }
     requires held { k < logs_held judge.old.logs }
-    ensures taken { IfOk result (λ taken. (f : Profile) (act : Act) → FreesNamed f act k name room → ActTaken f text.now judge.old cursor.old judge.new cursor.new act taken) }
-    ensures within { IfOk result (StaysWithin text.now cursor.new) }
-    ensures sized { IfOk result (λ taken. IsSizedAs judge.old judge.new) }
+    ensures taken { (f : Profile) (act : Act) → FreesNamed f act k name room → ActTaken f text.now judge.old cursor.old judge.new cursor.new act result }
+    ensures within { StaysWithin text.now cursor.new result }
+    ensures sized { IsSizedAs judge.old judge.new }
 {
     match judge.names.get(name) {
-        None => Ok(true),
-        Some(None) => {
-            let skipped = take_record(text, cursor, &Record::Said(k, Said::Skipped { name }));
-            Ok(skipped)
-        }
+        None => true,
+        Some(None) => take_record(text, cursor, &Record::Said(k, Said::Skipped { name })),
         Some(Some(block)) => {
             let name = block.name;
             free_entry(judge, text, cursor, k, Entry { name, room })
@@ -258,18 +217,12 @@ pub(crate) fn free_named(
 }
 
 /// Takes the lines of an act that empties the thread's log: of a flush, of a stop, or of its end at the close.
-pub(crate) fn flush(
-    judge: &mut Judge,
-    text: &[u8],
-    cursor: &mut Cursor,
-    k: u8,
-) -> Result<bool, NoMemory>
+pub(crate) fn flush(judge: &mut Judge, text: &[u8], cursor: &mut Cursor, k: u8) -> bool
     requires within { IsWithin text.now cursor.old }
-    requires short { length text.now ≤ 16777216 }
     requires held { k < logs_held judge.old.logs }
-    ensures taken { IfOk result (λ taken. (f : Profile) (act : Act) → Flushes f act k → ActTaken f text.now judge.old cursor.old judge.new cursor.new act taken) }
-    ensures within { IfOk result (StaysWithin text.now cursor.new) }
-    ensures sized { IfOk result (λ taken. IsSizedAs judge.old judge.new) }
+    ensures taken { (f : Profile) (act : Act) → Flushes f act k → ActTaken f text.now judge.old cursor.old judge.new cursor.new act result }
+    ensures within { StaysWithin text.now cursor.new result }
+    ensures sized { IsSizedAs judge.old judge.new }
 {
     empty_log(judge, text, cursor, k)
 }
@@ -290,71 +243,71 @@ pub(crate) fn stop_idle(
     cursor: &mut Cursor,
     k: u8,
     epochs: u64,
-) -> Result<bool, NoMemory>
+) -> bool
     requires within { IsWithin text.now cursor.old }
-    requires short { length text.now ≤ 16777216 }
     requires held { k < logs_held judge.old.logs }
     requires known { k < length judge.old.awake.items }
-    ensures taken { IfOk result (λ taken. (f : Profile) → ActTaken f text.now judge.old cursor.old judge.new cursor.new (StopsIdle k epochs) taken) }
-    ensures within { IfOk result (StaysWithin text.now cursor.new) }
-    ensures sized { IfOk result (λ taken. IsSizedAs judge.old judge.new) }
+    ensures taken { (f : Profile) → ActTaken f text.now judge.old cursor.old judge.new cursor.new (StopsIdle k epochs) result }
+    ensures within { StaysWithin text.now cursor.new result }
+    ensures sized { IsSizedAs judge.old judge.new }
 {
     if !is_idle(judge, k, epochs) {
-        return Ok(true);
+        return true;
     }
-    match empty_log(judge, text, cursor, k) {
-        Ok(true) => Ok(take_record(text, cursor, &Record::Said(0, Said::Stopped(k)))),
-        Ok(false) => Ok(false),
-        Err(NoMemory) => Err(NoMemory),
+    if !empty_log(judge, text, cursor, k) {
+        return false;
     }
+    take_record(text, cursor, &Record::Said(0, Said::Stopped(k)))
 }
 
 /// Takes the lines of a pass: its own, and those of its outcomes, as many as there are.
-pub(crate) fn pass(judge: &mut Judge, text: &[u8], cursor: &mut Cursor) -> Result<bool, NoMemory>
+pub(crate) fn pass(judge: &mut Judge, text: &[u8], cursor: &mut Cursor) -> bool
     requires within { IsWithin text.now cursor.old }
-    requires short { length text.now ≤ 16777216 }
     requires valid { IsValid (profile_of judge.old.machine) }
-    ensures taken { IfOk result (λ taken. (f : Profile) → PassTaken f text.now judge.old cursor.old judge.new cursor.new taken) }
-    ensures within { IfOk result (StaysWithin text.now cursor.new) }
-    ensures sized { IfOk result (λ taken. IsSizedAs judge.old judge.new) }
+    ensures taken { (f : Profile) → PassTaken f text.now judge.old cursor.old judge.new cursor.new result }
+    ensures within { StaysWithin text.now cursor.new result }
+    ensures sized { IsSizedAs judge.old judge.new }
 {
     if !take_record(text, cursor, &Record::Said(0, Said::Pass(judge.epoch))) {
-        return Ok(false);
+        return false;
     }
-    match take_outcomes(&mut judge.machine, text, cursor, judge.epoch) {
-        Ok(()) => Ok(true),
-        Err(NoMemory) => Err(NoMemory),
-    }
+    take_outcomes(&mut judge.machine, text, cursor, judge.epoch);
+    true
 }
 
-/// Takes the lines of an act that asks for what is wanted, after which its name stands for the block, or for nothing.
-pub(crate) fn request(
+/// Takes the lines of a request, after which its name stands for the block, or for nothing. Where a block is given in place of another, that one's name is
+/// logged, and the lines of a full log come before.
+pub(crate) fn serve(
     judge: &mut Judge,
     text: &[u8],
     cursor: &mut Cursor,
     k: u8,
     wanted: Wanted,
-) -> Result<bool, NoMemory>
+    replaced: Option<Name>,
+) -> bool
     requires within { IsWithin text.now cursor.old }
-    requires short { length text.now ≤ 16777216 }
+    requires held { IfSome replaced (λ name. k < logs_held judge.old.logs) }
     requires valid { IsValid (profile_of judge.old.machine) }
     requires kind { IsKind wanted.directory.kind }
     requires align { 0 < wanted.align }
     requires heap { wanted.directory.heap < 32 }
     requires named { wanted.name < names_held judge.old.names }
-    ensures taken { IfOk result (λ taken. (f : Profile) (act : Act) (r : Request) → Asks f judge.old cursor.old act k r None → IsWanted f r wanted
-        → ActTaken f text.now judge.old cursor.old judge.new cursor.new act taken) }
-    ensures within { IfOk result (StaysWithin text.now cursor.new) }
-    ensures sized { IfOk result (λ taken. IsSizedAs judge.old judge.new) }
+    ensures taken { (f : Profile) (s : Stand) (r : Request) → Stands f judge.old s cursor.old → IsWanted f r wanted
+        → s.due ≡ Serves k r replaced ∷ [] → IsCarried f text.now s cursor.old judge.new cursor.new result }
+    ensures within { StaysWithin text.now cursor.new result }
+    ensures sized { IsSizedAs judge.old judge.new }
 {
-    match take_request(&mut judge.machine, text, cursor, k, &wanted) {
-        Ok(Some(block)) => {
-            judge.names.set(wanted.name, block);
-            Ok(true)
-        }
-        Ok(None) => Ok(false),
-        Err(NoMemory) => Err(NoMemory),
+    let Some(found) = take_request(&mut judge.machine, text, cursor, k, &wanted) else {
+        return false;
+    };
+    judge.names.set(wanted.name, found);
+    let Some(name) = replaced else {
+        return true;
+    };
+    if found.is_none() {
+        return true;
     }
+    log_entry(judge, text, cursor, k, Entry { name, room: 0 })
 }
 
 /// Whether the block has room for so many bytes, where none count as one, and stands at a multiple of the alignment.
@@ -376,7 +329,6 @@ fn say_named(
     said: Said,
 ) -> bool
     requires within { IsWithin text.now cursor.old }
-    requires short { length text.now ≤ 16777216 }
     requires named { name < names_held judge.old.names }
     requires heap { IfSome block (λ b. b.heap < 32) }
     ensures taken { (f : Profile) (act : Act) → SaysNamed f judge.old cursor.old act k name block said
@@ -386,47 +338,6 @@ fn say_named(
 {
     judge.names.set(name, block);
     take_record(text, cursor, &Record::Said(k, said))
-}
-
-/// Takes the lines of an act that asks for what is wanted in place of the block of this name. Where a block is given, the name is logged, and the lines of a
-/// full log come before.
-fn replace(
-    judge: &mut Judge,
-    text: &[u8],
-    cursor: &mut Cursor,
-    k: u8,
-    wanted: Wanted,
-    replaced: Name,
-) -> Result<bool, NoMemory>
-    requires within { IsWithin text.now cursor.old }
-    requires short { length text.now ≤ 16777216 }
-    requires held { k < logs_held judge.old.logs }
-    requires valid { IsValid (profile_of judge.old.machine) }
-    requires kind { IsKind wanted.directory.kind }
-    requires align { 0 < wanted.align }
-    requires heap { wanted.directory.heap < 32 }
-    requires named { wanted.name < names_held judge.old.names }
-    ensures taken { IfOk result (λ taken. (f : Profile) (act : Act) (r : Request) → Asks f judge.old cursor.old act k r (Some replaced) → IsWanted f r wanted
-        → ActTaken f text.now judge.old cursor.old judge.new cursor.new act taken) }
-    ensures within { IfOk result (StaysWithin text.now cursor.new) }
-    ensures sized { IfOk result (λ taken. IsSizedAs judge.old judge.new) }
-{
-    match take_request(&mut judge.machine, text, cursor, k, &wanted) {
-        Ok(Some(None)) => {
-            judge.names.set(wanted.name, None);
-            Ok(true)
-        }
-        Ok(Some(Some(block))) => {
-            judge.names.set(wanted.name, Some(block));
-            let entry = Entry {
-                name: replaced,
-                room: 0,
-            };
-            log_entry(judge, text, cursor, k, entry)
-        }
-        Ok(None) => Ok(false),
-        Err(NoMemory) => Err(NoMemory),
-    }
 }
 
 /// Takes the lines of an act that gives the block another size, under a new name: it suits and is kept, or another one is asked for in its place.
@@ -439,30 +350,28 @@ fn resize(
     block: Block,
     size: u32,
     align: u32,
-) -> Result<bool, NoMemory>
+) -> bool
     requires within { IsWithin text.now cursor.old }
-    requires short { length text.now ≤ 16777216 }
     requires held { k < logs_held judge.old.logs }
     requires valid { IsValid (profile_of judge.old.machine) }
     requires size { size ≤ (profile_of judge.old.machine).pages * 4096 }
     requires align { IsAlignment align }
     requires heap { block.heap < 32 }
     requires named { name < names_held judge.old.names }
-    ensures taken { IfOk result (λ taken. (f : Profile) (act : Act) → Resizes f judge.old cursor.old act k name block size align
-        → ActTaken f text.now judge.old cursor.old judge.new cursor.new act taken) }
-    ensures within { IfOk result (StaysWithin text.now cursor.new) }
-    ensures sized { IfOk result (λ taken. IsSizedAs judge.old judge.new) }
+    ensures taken { (f : Profile) (act : Act) → Resizes f judge.old cursor.old act k name block size align
+        → ActTaken f text.now judge.old cursor.old judge.new cursor.new act result }
+    ensures within { StaysWithin text.now cursor.new result }
+    ensures sized { IsSizedAs judge.old judge.new }
 {
     if suits(&block, size, align) {
         let said = Said::Kept {
             block: block.name,
             name,
         };
-        let kept = say_named(judge, text, cursor, k, name, Some(block), said);
-        return Ok(kept);
+        return say_named(judge, text, cursor, k, name, Some(block), said);
     }
     let wanted = wanted_for(&judge.machine.profile(), name, block.heap, size, align);
-    replace(judge, text, cursor, k, wanted, block.name)
+    serve(judge, text, cursor, k, wanted, Some(block.name))
 }
 
 /// Takes the lines of an act that gives what the old name stands for another size, under a new name. Where the request of the old name was refused, that is
@@ -476,45 +385,35 @@ pub(crate) fn remake(
     old: u32,
     size: u32,
     align: u32,
-) -> Result<bool, NoMemory>
+) -> bool
     requires within { IsWithin text.now cursor.old }
-    requires short { length text.now ≤ 16777216 }
     requires held { k < logs_held judge.old.logs }
     requires valid { IsValid (profile_of judge.old.machine) }
     requires size { size ≤ (profile_of judge.old.machine).pages * 4096 }
     requires align { IsAlignment align }
     requires named { name < names_held judge.old.names }
-    ensures taken { IfOk result (λ taken. (f : Profile) (act : Act) → Remakes f act k name old size align
-        → ActTaken f text.now judge.old cursor.old judge.new cursor.new act taken) }
-    ensures within { IfOk result (StaysWithin text.now cursor.new) }
-    ensures sized { IfOk result (λ taken. IsSizedAs judge.old judge.new) }
+    ensures taken { (f : Profile) (act : Act) → Remakes f act k name old size align
+        → ActTaken f text.now judge.old cursor.old judge.new cursor.new act result }
+    ensures within { StaysWithin text.now cursor.new result }
+    ensures sized { IsSizedAs judge.old judge.new }
 {
     match judge.names.get(old) {
-        None => Ok(true),
-        Some(None) => {
-            let skipped = say_named(judge, text, cursor, k, name, None, Said::Skipped { name });
-            Ok(skipped)
-        }
+        None => true,
+        Some(None) => say_named(judge, text, cursor, k, name, None, Said::Skipped { name }),
         Some(Some(block)) => resize(judge, text, cursor, k, name, block, size, align),
     }
 }
 
 /// Takes the lines of a thread's operation, as one without a guard. Those of the scavenger are other acts, and begin nothing as operations of a thread.
-fn operate_plain(
-    judge: &mut Judge,
-    text: &[u8],
-    cursor: &mut Cursor,
-    op: Op,
-) -> Result<bool, NoMemory>
+fn operate_plain(judge: &mut Judge, text: &[u8], cursor: &mut Cursor, op: Op) -> bool
     requires within { IsWithin text.now cursor.old }
-    requires short { length text.now ≤ 16777216 }
     requires held { op.actor < logs_held judge.old.logs }
     requires valid { IsValid (profile_of judge.old.machine) }
     requires sound { (asked : List ℕ) × IsSoundWhat (profile_of judge.old.machine) asked op.what }
     requires named { IsBelow (names_held judge.old.names) op.what }
-    ensures taken { IfOk result (λ taken. (f : Profile) → ActTaken f text.now judge.old cursor.old judge.new cursor.new (Operates op) taken) }
-    ensures within { IfOk result (StaysWithin text.now cursor.new) }
-    ensures sized { IfOk result (λ taken. IsSizedAs judge.old judge.new) }
+    ensures taken { (f : Profile) → ActTaken f text.now judge.old cursor.old judge.new cursor.new (Operates op) result }
+    ensures within { StaysWithin text.now cursor.new result }
+    ensures sized { IsSizedAs judge.old judge.new }
 {
     let k = op.actor;
     match op.what {
@@ -525,7 +424,7 @@ fn operate_plain(
             align,
         } => {
             let wanted = wanted_for(&judge.machine.profile(), name, heap, size, align);
-            request(judge, text, cursor, k, wanted)
+            serve(judge, text, cursor, k, wanted, None)
         }
         What::Guarded {
             name,
@@ -535,7 +434,7 @@ fn operate_plain(
             ..
         } => {
             let wanted = wanted_for(&judge.machine.profile(), name, heap, size, align);
-            request(judge, text, cursor, k, wanted)
+            serve(judge, text, cursor, k, wanted, None)
         }
         What::Free { name } => free_named(judge, text, cursor, k, name, 0),
         What::FreeSized { name, room } => free_named(judge, text, cursor, k, name, room),
@@ -551,27 +450,21 @@ fn operate_plain(
             ..
         } => remake(judge, text, cursor, k, name, old, size, align),
         What::Flush | What::Stop => flush(judge, text, cursor, k),
-        What::Tick(_) | What::Pass | What::Idle(_) => Ok(true),
+        What::Tick(_) | What::Pass | What::Idle(_) => true,
     }
 }
 
 /// Takes the lines of a thread's operation. A guarded request is tried by its keeper.
-pub(crate) fn operate(
-    judge: &mut Judge,
-    text: &[u8],
-    cursor: &mut Cursor,
-    op: Op,
-) -> Result<bool, NoMemory>
+pub(crate) fn operate(judge: &mut Judge, text: &[u8], cursor: &mut Cursor, op: Op) -> bool
     requires within { IsWithin text.now cursor.old }
-    requires short { length text.now ≤ 16777216 }
     requires held { op.actor < logs_held judge.old.logs }
     requires valid { IsValid (profile_of judge.old.machine) }
     requires sound { (asked : List ℕ) × IsSoundWhat (profile_of judge.old.machine) asked op.what }
     requires named { IsBelow (names_held judge.old.names) op.what }
     requires kept { MatchOption (keeper_in op.what) (Unit {0}) (λ keeper. (op.actor < keeper) × (keeper < 2 ^ 8)) }
-    ensures taken { IfOk result (λ taken. (f : Profile) → ActTaken f text.now judge.old cursor.old judge.new cursor.new (act_kept (keeper_in op.what) op) taken) }
-    ensures within { IfOk result (StaysWithin text.now cursor.new) }
-    ensures sized { IfOk result (λ taken. IsSizedAs judge.old judge.new) }
+    ensures taken { (f : Profile) → ActTaken f text.now judge.old cursor.old judge.new cursor.new (act_kept (keeper_in op.what) op) result }
+    ensures within { StaysWithin text.now cursor.new result }
+    ensures sized { IsSizedAs judge.old judge.new }
 {
     match op.what {
         What::Guarded {

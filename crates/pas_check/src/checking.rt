@@ -1,5 +1,5 @@
 //! The acts of a plan, in order, and the close.
-ghost use Rattle.std.specs.Prelude.{ℕ, ◌≡◌, ◌+◌, ◌<◌, ◌≤◌, ◌^◌, not, true, List, [], ◌∷◌, ◌++◌, map, length, IfOk};
+ghost use Rattle.std.specs.Prelude.{ℕ, ◌≡◌, ◌+◌, ◌<◌, ◌≤◌, ◌^◌, not, true, List, [], ◌∷◌, ◌++◌, map, length};
 ghost use Rattle.std.specs.List.{filter};
 ghost use Rattle.pas_bits.specs.Masks.{is_set};
 ghost use Rattle.pas_profile.specs.Profiles.{IsValid};
@@ -16,7 +16,6 @@ use crate::awake::active;
 use crate::cutting::Cursor;
 use crate::guarding::lower;
 use pas_bits::Mask4;
-use pas_profile::NoMemory;
 use pas_trace::{Chore, Op, Phase, Work};
 
 /// Each of these threads wakes.
@@ -43,17 +42,16 @@ fn stop_unless_awake(
     awake: Mask4,
     epochs: u64,
     thread: u8,
-) -> Result<bool, NoMemory>
+) -> bool
     requires within { IsWithin text.now cursor.old }
-    requires short { length text.now ≤ 16777216 }
     requires held { thread < logs_held judge.old.logs }
     requires known { thread < length judge.old.awake.items }
-    ensures sized { IfOk result (λ taken. IsSizedAs judge.old judge.new) }
-    ensures taken { IfOk result (λ taken. ActsTaken text.now judge.old cursor.old judge.new cursor.new (idle_stops epochs (filter (λ k. not (is_set awake k)) (thread ∷ []))) taken) }
-    ensures within { IfOk result (StaysWithin text.now cursor.new) }
+    ensures sized { IsSizedAs judge.old judge.new }
+    ensures taken { ActsTaken text.now judge.old cursor.old judge.new cursor.new (idle_stops epochs (filter (λ k. not (is_set awake k)) (thread ∷ []))) result }
+    ensures within { StaysWithin text.now cursor.new result }
 {
     if awake.get(thread) {
-        return Ok(true);
+        return true;
     }
     stop_idle(judge, text, cursor, thread, epochs)
 }
@@ -65,50 +63,37 @@ fn stop_all_idle(
     cursor: &mut Cursor,
     awake: Mask4,
     epochs: u64,
-) -> Result<bool, NoMemory>
+) -> bool
     requires within { IsWithin text.now cursor.old }
-    requires short { length text.now ≤ 16777216 }
     requires sized { IsSized judge.old }
-    ensures sized { IfOk result (λ taken. IsSizedAs judge.old judge.new) }
-    ensures taken { IfOk result (λ taken. ActsTaken text.now judge.old cursor.old judge.new cursor.new
-        (ReadsEpoch ∷ idle_stops epochs (threads_where (λ k. not (is_set awake k)) (threads_in judge.old))) taken) }
-    ensures within { IfOk result (StaysWithin text.now cursor.new) }
+    ensures sized { IsSizedAs judge.old judge.new }
+    ensures taken { ActsTaken text.now judge.old cursor.old judge.new cursor.new
+        (ReadsEpoch ∷ idle_stops epochs (threads_where (λ k. not (is_set awake k)) (threads_in judge.old))) result }
+    ensures within { StaysWithin text.now cursor.new result }
 {
     let threads = judge.machine.profile().threads;
     for index in 0..threads {
-        match stop_unless_awake(judge, text, cursor, awake, epochs, index + 1) {
-            Ok(true) => {}
-            Ok(false) => return Ok(false),
-            Err(NoMemory) => return Err(NoMemory),
+        if !stop_unless_awake(judge, text, cursor, awake, epochs, index + 1) {
+            return false;
         }
     }
-    Ok(true)
+    true
 }
 
 /// Takes the lines of an operation, in a phase in which these threads are awake.
-fn perform(
-    judge: &mut Judge,
-    text: &[u8],
-    cursor: &mut Cursor,
-    awake: Mask4,
-    op: Op,
-) -> Result<bool, NoMemory>
+fn perform(judge: &mut Judge, text: &[u8], cursor: &mut Cursor, awake: Mask4, op: Op) -> bool
     requires within { IsWithin text.now cursor.old }
-    requires short { length text.now ≤ 16777216 }
     requires valid { IsValid (profile_of judge.old.machine) }
     requires sized { IsSized judge.old }
     requires planned { IsPlanned (profile_of judge.old.machine) (names_held judge.old.names) op }
-    ensures sized { IfOk result (λ taken. IsSizedAs judge.old judge.new) }
-    ensures taken { IfOk result (λ taken. ActsTaken text.now judge.old cursor.old judge.new cursor.new
-        (acts_of_op (threads_where (λ k. not (is_set awake k)) (threads_in judge.old)) op) taken) }
-    ensures within { IfOk result (StaysWithin text.now cursor.new) }
+    ensures sized { IsSizedAs judge.old judge.new }
+    ensures taken { ActsTaken text.now judge.old cursor.old judge.new cursor.new
+        (acts_of_op (threads_where (λ k. not (is_set awake k)) (threads_in judge.old)) op) result }
+    ensures within { StaysWithin text.now cursor.new result }
 {
     match op.work() {
         Work::Own(_) => operate(judge, text, cursor, op),
-        Work::Chore(Chore::Tick(epoch)) => {
-            let told = tick(judge, text, cursor, epoch);
-            Ok(told)
-        }
+        Work::Chore(Chore::Tick(epoch)) => tick(judge, text, cursor, epoch),
         Work::Chore(Chore::Pass) => pass(judge, text, cursor),
         Work::Chore(Chore::Idle(epochs)) => stop_all_idle(judge, text, cursor, awake, epochs),
     }
@@ -121,42 +106,33 @@ fn perform_all(
     cursor: &mut Cursor,
     awake: Mask4,
     ops: &[Op],
-) -> Result<bool, NoMemory>
+) -> bool
     requires within { IsWithin text.now cursor.old }
-    requires short { length text.now ≤ 16777216 }
     requires valid { IsValid (profile_of judge.old.machine) }
     requires sized { IsSized judge.old }
     requires planned { ArePlanned (profile_of judge.old.machine) (names_held judge.old.names) ops.now }
-    ensures sized { IfOk result (λ taken. IsSizedAs judge.old judge.new) }
-    ensures taken { IfOk result (λ taken. ActsTaken text.now judge.old cursor.old judge.new cursor.new
-        (acts_of_ops (threads_where (λ k. not (is_set awake k)) (threads_in judge.old)) ops.now) taken) }
-    ensures within { IfOk result (StaysWithin text.now cursor.new) }
+    ensures sized { IsSizedAs judge.old judge.new }
+    ensures taken { ActsTaken text.now judge.old cursor.old judge.new cursor.new
+        (acts_of_ops (threads_where (λ k. not (is_set awake k)) (threads_in judge.old)) ops.now) result }
+    ensures within { StaysWithin text.now cursor.new result }
 {
     for op in ops {
-        match perform(judge, text, cursor, awake, *op) {
-            Ok(true) => {}
-            Ok(false) => return Ok(false),
-            Err(NoMemory) => return Err(NoMemory),
+        if !perform(judge, text, cursor, awake, *op) {
+            return false;
         }
     }
-    Ok(true)
+    true
 }
 
 /// Takes the lines of a phase after its mark: its threads wake, and its operations follow.
-fn take_phase(
-    judge: &mut Judge,
-    text: &[u8],
-    cursor: &mut Cursor,
-    ops: &[Op],
-) -> Result<bool, NoMemory>
+fn take_phase(judge: &mut Judge, text: &[u8], cursor: &mut Cursor, ops: &[Op]) -> bool
     requires within { IsWithin text.now cursor.old }
-    requires short { length text.now ≤ 16777216 }
     requires valid { IsValid (profile_of judge.old.machine) }
     requires sized { IsSized judge.old }
     requires planned { ArePlanned (profile_of judge.old.machine) (names_held judge.old.names) ops.now }
-    ensures sized { IfOk result (λ taken. IsSizedAs judge.old judge.new) }
-    ensures taken { IfOk result (λ taken. ActsTaken text.now judge.old cursor.old judge.new cursor.new (phase_acts (threads_in judge.old) ops.now) taken) }
-    ensures within { IfOk result (StaysWithin text.now cursor.new) }
+    ensures sized { IsSizedAs judge.old judge.new }
+    ensures taken { ActsTaken text.now judge.old cursor.old judge.new cursor.new (phase_acts (threads_in judge.old) ops.now) result }
+    ensures within { StaysWithin text.now cursor.new result }
 {
     let awake = active(ops);
     wake_all(judge, awake);
@@ -164,134 +140,101 @@ fn take_phase(
 }
 
 /// Takes the lines of the later phases, the first of which is the second one, each with its mark.
-fn take_later(
-    judge: &mut Judge,
-    text: &[u8],
-    cursor: &mut Cursor,
-    phases: &[Phase],
-) -> Result<bool, NoMemory>
+fn take_later(judge: &mut Judge, text: &[u8], cursor: &mut Cursor, phases: &[Phase]) -> bool
     requires within { IsWithin text.now cursor.old }
-    requires short { length text.now ≤ 16777216 }
     requires few { length phases.now < 2 ^ 31 }
     requires valid { IsValid (profile_of judge.old.machine) }
     requires sized { IsSized judge.old }
     requires planned { ArePlanned (profile_of judge.old.machine) (names_held judge.old.names) (all_ops (map ops_of phases.now)) }
-    ensures sized { IfOk result (λ taken. IsSizedAs judge.old judge.new) }
-    ensures taken { IfOk result (λ taken. (keepers : ℕ) → TakenTo text.now judge.old cursor.old judge.new cursor.new
-        (acts_from (threads_in judge.old) keepers 2 (map ops_of phases.now)) (close_acts (threads_in judge.old) keepers) taken) }
-    ensures within { IfOk result (StaysWithin text.now cursor.new) }
+    ensures sized { IsSizedAs judge.old judge.new }
+    ensures taken { (keepers : ℕ) → TakenTo text.now judge.old cursor.old judge.new cursor.new
+        (acts_from (threads_in judge.old) keepers 2 (map ops_of phases.now)) (close_acts (threads_in judge.old) keepers) result }
+    ensures within { StaysWithin text.now cursor.new result }
 {
     let mut number = 1;
     for phase in phases {
         number += 1;
         if !mark_phase(judge, text, cursor, number) {
-            return Ok(false);
+            return false;
         }
-        match take_phase(judge, text, cursor, phase.as_slice()) {
-            Ok(true) => {}
-            Ok(false) => return Ok(false),
-            Err(NoMemory) => return Err(NoMemory),
+        if !take_phase(judge, text, cursor, phase.as_slice()) {
+            return false;
         }
     }
-    Ok(true)
+    true
 }
 
 /// Takes the lines of the phases, in order.
-fn take_phases(
-    judge: &mut Judge,
-    text: &[u8],
-    cursor: &mut Cursor,
-    phases: &[Phase],
-) -> Result<bool, NoMemory>
+fn take_phases(judge: &mut Judge, text: &[u8], cursor: &mut Cursor, phases: &[Phase]) -> bool
     requires within { IsWithin text.now cursor.old }
-    requires short { length text.now ≤ 16777216 }
     requires few { length phases.now < 2 ^ 31 }
     requires valid { IsValid (profile_of judge.old.machine) }
     requires sized { IsSized judge.old }
     requires planned { ArePlanned (profile_of judge.old.machine) (names_held judge.old.names) (all_ops (map ops_of phases.now)) }
-    ensures sized { IfOk result (λ taken. IsSizedAs judge.old judge.new) }
-    ensures taken { IfOk result (λ taken. (keepers : ℕ) → TakenTo text.now judge.old cursor.old judge.new cursor.new
-        (acts_of (threads_in judge.old) keepers (map ops_of phases.now)) (close_acts (threads_in judge.old) keepers) taken) }
-    ensures within { IfOk result (StaysWithin text.now cursor.new) }
+    ensures sized { IsSizedAs judge.old judge.new }
+    ensures taken { (keepers : ℕ) → TakenTo text.now judge.old cursor.old judge.new cursor.new
+        (acts_of (threads_in judge.old) keepers (map ops_of phases.now)) (close_acts (threads_in judge.old) keepers) result }
+    ensures within { StaysWithin text.now cursor.new result }
 {
     if phases.len() == 0 {
-        return Ok(true);
+        return true;
     }
-    match take_phase(judge, text, cursor, phases[0].as_slice()) {
-        Ok(true) => take_later(judge, text, cursor, &phases[1..]),
-        Ok(false) => Ok(false),
-        Err(NoMemory) => Err(NoMemory),
+    if !take_phase(judge, text, cursor, phases[0].as_slice()) {
+        return false;
     }
+    take_later(judge, text, cursor, &phases[1..])
 }
 
 /// Takes the lines of each thread's end, in order.
-fn end_all(judge: &mut Judge, text: &[u8], cursor: &mut Cursor) -> Result<bool, NoMemory>
+fn end_all(judge: &mut Judge, text: &[u8], cursor: &mut Cursor) -> bool
     requires within { IsWithin text.now cursor.old }
-    requires short { length text.now ≤ 16777216 }
     requires sized { IsSized judge.old }
-    ensures sized { IfOk result (λ taken. IsSizedAs judge.old judge.new) }
-    ensures taken { IfOk result (λ taken. ActsTaken text.now judge.old cursor.old judge.new cursor.new (map Ends (numbers_from 1 (threads_in judge.old))) taken) }
-    ensures within { IfOk result (StaysWithin text.now cursor.new) }
+    ensures sized { IsSizedAs judge.old judge.new }
+    ensures taken { ActsTaken text.now judge.old cursor.old judge.new cursor.new (map Ends (numbers_from 1 (threads_in judge.old))) result }
+    ensures within { StaysWithin text.now cursor.new result }
 {
     let threads = judge.machine.profile().threads;
     for index in 0..threads {
-        match flush(judge, text, cursor, index + 1) {
-            Ok(true) => {}
-            Ok(false) => return Ok(false),
-            Err(NoMemory) => return Err(NoMemory),
+        if !flush(judge, text, cursor, index + 1) {
+            return false;
         }
     }
-    Ok(true)
+    true
 }
 
 /// Takes the lines of the last sweep of each keeper, in order. They are the actors behind the threads.
-fn lower_all(
-    judge: &mut Judge,
-    text: &[u8],
-    cursor: &mut Cursor,
-    keepers: u8,
-) -> Result<bool, NoMemory>
+fn lower_all(judge: &mut Judge, text: &[u8], cursor: &mut Cursor, keepers: u8) -> bool
     requires within { IsWithin text.now cursor.old }
-    requires short { length text.now ≤ 16777216 }
     requires few { threads_in judge.old + keepers < 2 ^ 8 }
-    ensures sized { IfOk result (λ taken. IsSizedAs judge.old judge.new) }
-    ensures taken { IfOk result (λ taken. ActsTaken text.now judge.old cursor.old judge.new cursor.new (map Lowers (numbers_from (threads_in judge.old + 1) keepers)) taken) }
-    ensures within { IfOk result (StaysWithin text.now cursor.new) }
+    ensures sized { IsSizedAs judge.old judge.new }
+    ensures taken { ActsTaken text.now judge.old cursor.old judge.new cursor.new (map Lowers (numbers_from (threads_in judge.old + 1) keepers)) result }
+    ensures within { StaysWithin text.now cursor.new result }
 {
     let threads = judge.machine.profile().threads;
     for index in threads..threads + keepers {
-        match lower(judge, text, cursor, index + 1) {
-            Ok(true) => {}
-            Ok(false) => return Ok(false),
-            Err(NoMemory) => return Err(NoMemory),
+        if !lower(judge, text, cursor, index + 1) {
+            return false;
         }
     }
-    Ok(true)
+    true
 }
 
 /// Takes the lines of the close: its mark, the end of each thread, and the last sweep of each keeper.
-fn take_close(
-    judge: &mut Judge,
-    text: &[u8],
-    cursor: &mut Cursor,
-    keepers: u8,
-) -> Result<bool, NoMemory>
+fn take_close(judge: &mut Judge, text: &[u8], cursor: &mut Cursor, keepers: u8) -> bool
     requires within { IsWithin text.now cursor.old }
-    requires short { length text.now ≤ 16777216 }
     requires sized { IsSized judge.old }
     requires few { threads_in judge.old + keepers < 2 ^ 8 }
-    ensures sized { IfOk result (λ taken. IsSizedAs judge.old judge.new) }
-    ensures taken { IfOk result (λ taken. ActsTaken text.now judge.old cursor.old judge.new cursor.new (close_acts (threads_in judge.old) keepers) taken) }
-    ensures within { IfOk result (StaysWithin text.now cursor.new) }
+    ensures sized { IsSizedAs judge.old judge.new }
+    ensures taken { ActsTaken text.now judge.old cursor.old judge.new cursor.new (close_acts (threads_in judge.old) keepers) result }
+    ensures within { StaysWithin text.now cursor.new result }
 {
     if !mark_close(judge, text, cursor) {
-        return Ok(false);
+        return false;
     }
-    match end_all(judge, text, cursor) {
-        Ok(true) => lower_all(judge, text, cursor, keepers),
-        Ok(false) => Ok(false),
-        Err(NoMemory) => Err(NoMemory),
+    if !end_all(judge, text, cursor) {
+        return false;
     }
+    lower_all(judge, text, cursor, keepers)
 }
 
 /// Takes the lines of all acts of a plan of these phases and so many keepers: of the phases, and of the close.
@@ -301,21 +244,19 @@ pub(crate) fn take_acts(
     cursor: &mut Cursor,
     phases: &[Phase],
     keepers: u8,
-) -> Result<bool, NoMemory>
+) -> bool
     requires within { IsWithin text.now cursor.old }
-    requires short { length text.now ≤ 16777216 }
     requires few { length phases.now < 2 ^ 31 }
     requires valid { IsValid (profile_of judge.old.machine) }
     requires sized { IsSized judge.old }
     requires planned { ArePlanned (profile_of judge.old.machine) (names_held judge.old.names) (all_ops (map ops_of phases.now)) }
     requires kept { threads_in judge.old + keepers < 2 ^ 8 }
-    ensures sized { IfOk result (λ taken. IsSizedAs judge.old judge.new) }
-    ensures taken { IfOk result (λ taken. TakenTo text.now judge.old cursor.old judge.new cursor.new (acts_of (threads_in judge.old) keepers (map ops_of phases.now)) [] taken) }
-    ensures within { IfOk result (StaysWithin text.now cursor.new) }
+    ensures sized { IsSizedAs judge.old judge.new }
+    ensures taken { TakenTo text.now judge.old cursor.old judge.new cursor.new (acts_of (threads_in judge.old) keepers (map ops_of phases.now)) [] result }
+    ensures within { StaysWithin text.now cursor.new result }
 {
-    match take_phases(judge, text, cursor, phases) {
-        Ok(true) => take_close(judge, text, cursor, keepers),
-        Ok(false) => Ok(false),
-        Err(NoMemory) => Err(NoMemory),
+    if !take_phases(judge, text, cursor, phases) {
+        return false;
     }
+    take_close(judge, text, cursor, keepers)
 }

@@ -40,7 +40,6 @@ pub(crate) fn first_line(text: &[u8]) -> Option<usize>
 /// The line at the cursor, with its newline, behind which the cursor stands from then on. None at the end of the text; the wanting line is counted too.
 pub(crate) fn next_line<'a>(text: &'a [u8], cursor: &mut Cursor) -> Option<&'a [u8]>
     requires within { IsWithin text.now cursor.old }
-    requires short { length text.now ≤ 16777216 }
     ensures some { IfSome result (λ line. lines_from text.now cursor.old ≡ line.now ∷ lines_from text.now cursor.new) }
     ensures within { IfSome result (λ line. IsWithin text.now cursor.new) }
     ensures moves { IfSome result (λ line. cursor.old.bytes < cursor.new.bytes) }
@@ -59,7 +58,6 @@ pub(crate) fn next_line<'a>(text: &'a [u8], cursor: &mut Cursor) -> Option<&'a [
 /// Takes the next line, and says whether it is just this one. Its end isn't looked for: it is where the one that is wanted ends.
 pub(crate) fn take_line(text: &[u8], cursor: &mut Cursor, wanted: &[u8]) -> bool
     requires within { IsWithin text.now cursor.old }
-    requires short { length text.now ≤ 16777216 }
     requires line { is_line wanted.now ≡ true }
     ensures taken { IsJustLine text.now cursor.old cursor.new wanted.now result }
     ensures count { cursor.new.lines ≡ cursor.old.lines + 1 }

@@ -1,5 +1,5 @@
 //! The lines of a log that is emptied.
-ghost use Rattle.std.specs.Prelude.{◌≡◌, ◌≤◌, [], length, IfOk};
+ghost use Rattle.std.specs.Prelude.{◌≡◌, ◌≤◌, [], length};
 ghost use Rattle.pas_machine.specs.Machines.{profile_of};
 ghost use Rattle.pas_check.specs.{Calls.EntriesTaken, Leading.IsWithin, Leading.StaysWithin};
 
@@ -7,7 +7,6 @@ use crate::cutting::{Cursor, next_line};
 use crate::entry::Entry;
 use crate::taking::take_entry;
 use pas_machine::Machine;
-use pas_profile::NoMemory;
 
 /// Takes the lines of the entries of the actor's log, one for each in order, and says whether all are there. After false the cursor has counted the line that
 /// isn't its entry's, or that is wanting.
@@ -18,22 +17,19 @@ pub(crate) fn take_entries(
     actor: u8,
     log: &[Entry],
     epoch: u64,
-) -> Result<bool, NoMemory>
+) -> bool
     requires within { IsWithin text.now cursor.old }
-    requires short { length text.now ≤ 16777216 }
     ensures profile { profile_of machine.new ≡ profile_of machine.old }
-    ensures taken { IfOk result (λ taken. EntriesTaken machine.old machine.new text.now cursor.old cursor.new actor log.now [] epoch taken) }
-    ensures within { IfOk result (StaysWithin text.now cursor.new) }
+    ensures taken { EntriesTaken machine.old machine.new text.now cursor.old cursor.new actor log.now [] epoch result }
+    ensures within { StaysWithin text.now cursor.new result }
 {
     for entry in log {
         let Some(line) = next_line(text, cursor) else {
-            return Ok(false);
+            return false;
         };
-        match take_entry(machine, line, actor, *entry, epoch) {
-            Ok(true) => {}
-            Ok(false) => return Ok(false),
-            Err(NoMemory) => return Err(NoMemory),
+        if !take_entry(machine, line, actor, *entry, epoch) {
+            return false;
         }
     }
-    Ok(true)
+    true
 }

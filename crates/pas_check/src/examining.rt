@@ -1,5 +1,5 @@
 //! Lines of a pass: what came of its pages.
-ghost use Rattle.std.specs.Prelude.{ℕ, ◌≡◌, ◌≢◌, ◌≤◌, length, IfOk, MatchBool};
+ghost use Rattle.std.specs.Prelude.{ℕ, ◌≡◌, ◌≢◌, ◌≤◌, length, MatchBool};
 ghost use Rattle.pas_profile.specs.Profiles.{IsPage, IsValid};
 ghost use Rattle.pas_profile.specs.declared.event.Outcome.TheVariants as TheOutcome;
 ghost use Rattle.pas_machine.specs.Machines.{profile_of, StandsFor};
@@ -10,7 +10,7 @@ use crate::cutting::{Cursor, next_line};
 use crate::reading::read_record;
 use crate::taking::step;
 use pas_machine::Machine;
-use pas_profile::{Event, NoMemory, Outcome};
+use pas_profile::{Event, Outcome};
 use pas_report::{Record, Said};
 
 /// What came of a page.
@@ -81,10 +81,10 @@ fn may_come(machine: &Machine, examined: &Examined, epoch: u64) -> bool
 }
 
 /// Takes what came of the page, where it may come, and says whether it may.
-fn examine(machine: &mut Machine, examined: &Examined, epoch: u64) -> Result<bool, NoMemory>
+fn examine(machine: &mut Machine, examined: &Examined, epoch: u64) -> bool
     requires { IsPage (profile_of machine.old) examined.now.page }
     ensures profile { profile_of machine.new ≡ profile_of machine.old }
-    ensures came { IfOk result (λ came. IsExamined machine.old machine.new epoch examined.now came) }
+    ensures came { IsExamined machine.old machine.new epoch examined.now result }
 {
     match examined.outcome {
         Outcome::Unbacked => step(
@@ -95,63 +95,50 @@ fn examine(machine: &mut Machine, examined: &Examined, epoch: u64) -> Result<boo
                 epoch,
             },
         ),
-        _ => Ok(may_come(machine, examined, epoch)),
+        _ => may_come(machine, examined, epoch),
     }
 }
 
 /// Takes the line of an outcome of a pass of this epoch on a page after the last one, and says which page that is; None where the line is none of these.
-pub(crate) fn take_outcome(
-    machine: &mut Machine,
-    line: &[u8],
-    last: u32,
-    epoch: u64,
-) -> Result<Option<u32>, NoMemory>
+pub(crate) fn take_outcome(machine: &mut Machine, line: &[u8], last: u32, epoch: u64) -> Option<u32>
     ensures profile { profile_of machine.new ≡ profile_of machine.old }
-    ensures taken { IfOk result (λ page. OutcomeTaken machine.old machine.new last epoch line.now page) }
+    ensures taken { OutcomeTaken machine.old machine.new last epoch line.now result }
 {
     let Some(item) = read_record(line) else {
-        return Ok(None);
+        return None;
     };
     let Some(examined) = outcome_of(&item, epoch) else {
-        return Ok(None);
+        return None;
     };
     if examined.page <= last || !machine.has_page(examined.page) {
-        return Ok(None);
+        return None;
     }
-    match examine(machine, &examined, epoch) {
-        Ok(true) => Ok(Some(examined.page)),
-        Ok(false) => Ok(None),
-        Err(NoMemory) => Err(NoMemory),
+    if !examine(machine, &examined, epoch) {
+        return None;
     }
+    Some(examined.page)
 }
 
 /// Takes the lines of the outcomes of a pass of this epoch, as many as there are. The cursor stays before the first line that is none.
-pub(crate) fn take_outcomes(
-    machine: &mut Machine,
-    text: &[u8],
-    cursor: &mut Cursor,
-    epoch: u64,
-) -> Result<(), NoMemory>
+pub(crate) fn take_outcomes(machine: &mut Machine, text: &[u8], cursor: &mut Cursor, epoch: u64)
     requires within { IsWithin text.now cursor.old }
-    requires short { length text.now ≤ 16777216 }
     requires valid { IsValid (profile_of machine.old) }
     ensures profile { profile_of machine.new ≡ profile_of machine.old }
-    ensures taken { IfOk result (λ done. OutcomesTaken machine.old machine.new text.now cursor.old cursor.new epoch) }
-    ensures within { IfOk result (λ done. IsWithin text.now cursor.new) }
+    ensures taken { OutcomesTaken machine.old machine.new text.now cursor.old cursor.new epoch }
+    ensures within { IsWithin text.now cursor.new }
 {
     let mut last = 0;
     'lines: loop {
         let mut ahead = *cursor;
         let Some(line) = next_line(text, &mut ahead) else {
-            return Ok(());
+            return;
         };
         match take_outcome(machine, line, last, epoch) {
-            Ok(Some(page)) => {
+            Some(page) => {
                 last = page;
                 *cursor = ahead;
             }
-            Ok(None) => return Ok(()),
-            Err(NoMemory) => return Err(NoMemory),
+            None => return,
         }
     }
 }

@@ -11,7 +11,6 @@ use pas_report::{Line, Record, push_record};
 /// Takes the next line, and says whether it is the record's, which is made where it is compared.
 fn is_next(text: &[u8], cursor: &mut Cursor, item: &Record) -> bool
     requires within { IsWithin text.now cursor.old }
-    requires short { length text.now ≤ 16777216 }
     requires shown { CanShow item.now }
     ensures taken { IsJustLine text.now cursor.old cursor.new (line_of item.now) result }
     ensures within { StaysWithin text.now cursor.new result }
@@ -25,7 +24,6 @@ fn is_next(text: &[u8], cursor: &mut Cursor, item: &Record) -> bool
 /// Takes the next line where it is just the record's, and says whether it is. After false the cursor has counted the line that isn't, or that is wanting.
 pub(crate) fn take_record(text: &[u8], cursor: &mut Cursor, item: &Record) -> bool
     requires within { IsWithin text.now cursor.old }
-    requires short { length text.now ≤ 16777216 }
     requires shown { CanShow item.now }
     ensures led { (f : Profile) (s : Stand) (more : List Due) → s.due ≡ Writes item.now ∷ more → IsLed f text.now s cursor.old (with_due s more) cursor.new result }
     ensures within { StaysWithin text.now cursor.new result }
@@ -36,7 +34,6 @@ pub(crate) fn take_record(text: &[u8], cursor: &mut Cursor, item: &Record) -> bo
 /// Takes the head of the report, and says whether it is the next line.
 pub(crate) fn take_head(text: &[u8], cursor: &mut Cursor) -> bool
     requires within { IsWithin text.now cursor.old }
-    requires short { length text.now ≤ 16777216 }
     ensures led { (f : Profile) (s : Stand) (more : List Due) → s.due ≡ Heads ∷ more → IsLed f text.now s cursor.old (with_due s more) cursor.new result }
     ensures within { StaysWithin text.now cursor.new result }
 {

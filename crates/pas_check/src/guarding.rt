@@ -1,28 +1,25 @@
 //! Guarded requests: the lines of a keeper, and those of guards that are lowered.
-ghost use Rattle.std.specs.Prelude.{ℕ, ◌≡◌, ◌≢◌, ◌<◌, ◌≤◌, ◌∷◌, [], List, None, Some, true, false, length, nat_lt, IfOk, IfSome, MatchOption};
+ghost use Rattle.std.specs.Prelude.{ℕ, ◌≡◌, ◌≢◌, ◌<◌, ◌≤◌, ◌∷◌, [], List, None, Some, true, false, length, nat_lt, MatchOption};
 ghost use Rattle.pas_profile.specs.{Blocks.address_of, Directories.IsKind, Profiles.IsValid};
 ghost use Rattle.pas_profile.specs.declared.{event.Event.Event as TheEvent, profile.Profile.Profile};
 ghost use Rattle.pas_machine.specs.{Machines.profile_of, Machines.StandsFor, State.ends_in};
 ghost use Rattle.pas_trace.specs.Acts.{Act, Lowers};
 ghost use Rattle.pas_trace.specs.declared.item.Request.{Request};
 ghost use Rattle.pas_check.specs.Begins.{goes_down, guard_of, has_sides, lowered_record, raising};
-ghost use Rattle.pas_check.specs.Calls.{BacksBy, IsGiftOf, IsRead, IsWanted, LinesSwept, OneSwept, TrialEnded, TrialStays, TrialTaken};
-ghost use Rattle.pas_check.specs.{Checks.IsSizedAs, Leading.IsWithin, Leading.StaysWithin, Tables.names_held};
-ghost use Rattle.pas_check.specs.States.{Serves, Stand, Tries, with_name};
+ghost use Rattle.pas_check.specs.Calls.{BacksBy, IsGiftOf, IsRead, IsWanted, LinesSwept, TrialEnded, TrialStays, TrialTaken};
+ghost use Rattle.pas_check.specs.{Checks.IsSizedAs, Leading.IsWithin, Leading.StaysWithin, Tables.names_held, States.Stand, States.Tries, States.with_name};
 ghost use Rattle.pas_check.specs.Tasks.{ActTaken, AsksKeeper, GuardsSwept, IsCarried, Stands};
 
-use crate::acting::Judge;
+use crate::acting::{Judge, serve};
 use crate::cutting::{Cursor, next_line};
 use crate::following::take_record;
 use crate::guard::Guard;
 use crate::reading::read_record;
-use crate::requesting::take_request;
 use crate::serving::{Wanted, take_give};
 use crate::taking::{event_read, is_place, take_preparing};
 use pas_machine::Machine;
-use pas_profile::{Block, Event, Name, NoMemory};
+use pas_profile::{Block, Event, Name};
 use pas_report::{Record, Said};
-use std::alloc::Global;
 
 /// What the lines of a keeper come to: it gave the block; or it backed no page and gave none, so that its thread may be served from this place on; or a line
 /// isn't allowed, or is wanting.
@@ -66,101 +63,51 @@ fn lowered(guard: &Guard) -> Record
     Record::Said(guard.keeper, Said::Lowered { low, high })
 }
 
-/// Takes the line of the guard where it goes down, and says whether it is there; otherwise adds the guard to those that stay up.
-fn sweep_one(
-    machine: &Machine,
-    text: &[u8],
-    cursor: &mut Cursor,
-    guard: Guard,
-    keeper: u8,
-    all: bool,
-    left: &mut Vec<Guard>,
-) -> Result<bool, NoMemory>
-    requires within { IsWithin text.now cursor.old }
-    requires short { length text.now ≤ 16777216 }
-    ensures taken { IfOk result (λ taken. OneSwept machine.now text.now cursor.old cursor.new guard keeper all left.old.items left.new.items taken) }
-    ensures within { IfOk result (StaysWithin text.now cursor.new) }
-{
-    if goes_down(machine, &guard, keeper, all) {
-        return Ok(take_record(text, cursor, &lowered(&guard)));
-    }
-    match left.push(guard) {
-        Ok(()) => Ok(true),
-        Err(_) => Err(NoMemory),
-    }
-}
-
-/// Takes the lines of the guards that go down where the keeper sweeps, in order, and answers the others. None where a line isn't there, which the cursor has
-/// counted.
+/// Takes the lines of the guards that go down where the keeper sweeps, in order, and says whether they are there. After false the cursor has counted the line
+/// that isn't.
 fn take_lowered(
-    alloc: Global,
     machine: &Machine,
     text: &[u8],
     cursor: &mut Cursor,
     guards: &[Guard],
     keeper: u8,
     all: bool,
-) -> Result<Option<Vec<Guard>>, NoMemory>
+) -> bool
     requires within { IsWithin text.now cursor.old }
-    requires short { length text.now ≤ 16777216 }
-    ensures taken { IfOk result (λ left. LinesSwept machine.now text.now cursor.old cursor.new guards.now keeper all left) }
-    ensures within { IfOk result (λ left. IfSome left (λ l. IsWithin text.now cursor.new)) }
+    ensures taken { LinesSwept machine.now text.now cursor.old cursor.new guards.now keeper all result }
+    ensures within { StaysWithin text.now cursor.new result }
 {
-    let mut left = Vec::new(alloc);
     for guard in guards {
-        match sweep_one(machine, text, cursor, *guard, keeper, all, &mut left) {
-            Ok(true) => {}
-            Ok(false) => return Ok(None),
-            Err(NoMemory) => return Err(NoMemory),
+        if goes_down(machine, guard, keeper, all) && !take_record(text, cursor, &lowered(guard)) {
+            return false;
         }
     }
-    Ok(Some(left))
+    true
 }
 
 /// Takes the lines of the guards that go down where the keeper sweeps; the others stay up.
-fn sweep(
-    judge: &mut Judge,
-    text: &[u8],
-    cursor: &mut Cursor,
-    keeper: u8,
-    all: bool,
-) -> Result<bool, NoMemory>
+fn sweep(judge: &mut Judge, text: &[u8], cursor: &mut Cursor, keeper: u8, all: bool) -> bool
     requires within { IsWithin text.now cursor.old }
-    requires short { length text.now ≤ 16777216 }
-    ensures taken { IfOk result (λ taken. (f : Profile) → GuardsSwept f text.now judge.old cursor.old judge.new cursor.new keeper all taken) }
-    ensures within { IfOk result (StaysWithin text.now cursor.new) }
-    ensures sized { IfOk result (λ taken. IsSizedAs judge.old judge.new) }
+    ensures taken { (f : Profile) → GuardsSwept f text.now judge.old cursor.old judge.new cursor.new keeper all result }
+    ensures within { StaysWithin text.now cursor.new result }
+    ensures sized { IsSizedAs judge.old judge.new }
 {
-    match take_lowered(
-        judge.alloc,
-        &judge.machine,
-        text,
-        cursor,
-        &judge.guards,
-        keeper,
-        all,
-    ) {
-        Ok(Some(guards)) => {
-            judge.guards = guards;
-            Ok(true)
-        }
-        Ok(None) => Ok(false),
-        Err(NoMemory) => Err(NoMemory),
+    let machine = &judge.machine;
+    if !take_lowered(machine, text, cursor, &judge.guards, keeper, all) {
+        return false;
     }
+    judge
+        .guards
+        .retain(|guard| !goes_down(machine, guard, keeper, all));
+    true
 }
 
 /// Takes the lines of the keeper's last sweep, which lowers all its guards.
-pub(crate) fn lower(
-    judge: &mut Judge,
-    text: &[u8],
-    cursor: &mut Cursor,
-    keeper: u8,
-) -> Result<bool, NoMemory>
+pub(crate) fn lower(judge: &mut Judge, text: &[u8], cursor: &mut Cursor, keeper: u8) -> bool
     requires within { IsWithin text.now cursor.old }
-    requires short { length text.now ≤ 16777216 }
-    ensures taken { IfOk result (λ taken. (f : Profile) → ActTaken f text.now judge.old cursor.old judge.new cursor.new (Lowers keeper) taken) }
-    ensures within { IfOk result (StaysWithin text.now cursor.new) }
-    ensures sized { IfOk result (λ taken. IsSizedAs judge.old judge.new) }
+    ensures taken { (f : Profile) → ActTaken f text.now judge.old cursor.old judge.new cursor.new (Lowers keeper) result }
+    ensures within { StaysWithin text.now cursor.new result }
+    ensures sized { IsSizedAs judge.old judge.new }
 {
     sweep(judge, text, cursor, keeper, true)
 }
@@ -186,22 +133,21 @@ fn end_trial(
     wanted: &Wanted,
     backed: bool,
     start: Cursor,
-) -> Result<Trial, NoMemory>
+) -> Trial
     requires align { 0 < wanted.now.align }
     ensures profile { profile_of machine.new ≡ profile_of machine.old }
-    ensures ended { IfOk result (λ trial. (line : List ℕ) → IsRead line found.now → TrialEnded machine.old machine.new keeper wanted.now line backed start trial) }
-    ensures heap { IfOk result (IsGiftOf wanted.now) }
+    ensures ended { (line : List ℕ) → IsRead line found.now → TrialEnded machine.old machine.new keeper wanted.now line backed start result }
+    ensures heap { IsGiftOf wanted.now result }
 {
     match take_give(machine, found, keeper, wanted) {
-        Ok(Some(block)) => Ok(Trial::Gives(block)),
-        Ok(None) => {
+        Some(block) => Trial::Gives(block),
+        None => {
             if backed {
-                Ok(Trial::Stops)
+                Trial::Stops
             } else {
-                Ok(Trial::Passes(start))
+                Trial::Passes(start)
             }
         }
-        Err(NoMemory) => Err(NoMemory),
     }
 }
 
@@ -213,29 +159,27 @@ fn take_trial(
     cursor: &mut Cursor,
     keeper: u8,
     wanted: &Wanted,
-) -> Result<Trial, NoMemory>
+) -> Trial
     requires within { IsWithin text.now cursor.old }
-    requires short { length text.now ≤ 16777216 }
     requires valid { IsValid (profile_of machine.old) }
     requires kind { IsKind wanted.now.directory.kind }
     requires align { 0 < wanted.now.align }
     ensures profile { profile_of machine.new ≡ profile_of machine.old }
-    ensures taken { IfOk result (λ trial. TrialTaken machine.old machine.new text.now cursor.old cursor.new keeper wanted.now trial) }
-    ensures stays { IfOk result (TrialStays text.now cursor.new) }
-    ensures heap { IfOk result (IsGiftOf wanted.now) }
+    ensures taken { TrialTaken machine.old machine.new text.now cursor.old cursor.new keeper wanted.now result }
+    ensures stays { TrialStays text.now cursor.new result }
+    ensures heap { IsGiftOf wanted.now result }
 {
     let mut backed = false;
     'lines: loop {
         let start = *cursor;
         let Some(line) = next_line(text, cursor) else {
-            return Ok(Trial::Stops);
+            return Trial::Stops;
         };
         let found = read_record(line);
-        match take_preparing(machine, &found, keeper, wanted.directory) {
-            Ok(true) => backed = has_backed(backed, &found),
-            Ok(false) => return end_trial(machine, &found, keeper, wanted, backed, start),
-            Err(NoMemory) => return Err(NoMemory),
+        if !take_preparing(machine, &found, keeper, wanted.directory) {
+            return end_trial(machine, &found, keeper, wanted, backed, start);
         }
+        backed = has_backed(backed, &found);
     }
 }
 
@@ -271,62 +215,31 @@ fn raise(
     keeper: u8,
     name: u32,
     block: Block,
-) -> Result<bool, NoMemory>
+) -> bool
     requires within { IsWithin text.now cursor.old }
-    requires short { length text.now ≤ 16777216 }
     requires named { name < names_held judge.old.names }
     requires heap { block.heap < 32 }
-    ensures taken { IfOk result (λ taken. (f : Profile) (s : Stand) → Stands f judge.old s cursor.old
-        → IsCarried f text.now (raising (has_sides f block) (with_name s name (Some block)) keeper name block []) cursor.old judge.new cursor.new taken) }
-    ensures within { IfOk result (StaysWithin text.now cursor.new) }
-    ensures sized { IfOk result (λ taken. IsSizedAs judge.old judge.new) }
+    ensures taken { (f : Profile) (s : Stand) → Stands f judge.old s cursor.old
+        → IsCarried f text.now (raising (has_sides f block) (with_name s name (Some block)) keeper name block []) cursor.old judge.new cursor.new result }
+    ensures within { StaysWithin text.now cursor.new result }
+    ensures sized { IsSizedAs judge.old judge.new }
 {
     judge.names.set(name, Some(block));
     let Some(guard) = guard_for(&judge.machine, keeper, &block) else {
         let _ = next_line(text, cursor);
-        return Ok(false);
+        return false;
     };
-    match judge.guards.push(guard) {
-        Ok(()) => {}
-        Err(_) => return Err(NoMemory),
-    }
+    let Ok(()) = judge.guards.push(guard) else {
+        judge.lacks_memory = true;
+        return false;
+    };
     let low = guard.low;
     let high = guard.high;
-    Ok(take_record(
+    take_record(
         text,
         cursor,
         &Record::Said(keeper, Said::Guarded { low, high, name }),
-    ))
-}
-
-/// Takes the lines of the thread's request, where the keeper gave it no block.
-fn serve(
-    judge: &mut Judge,
-    text: &[u8],
-    cursor: &mut Cursor,
-    k: u8,
-    wanted: Wanted,
-) -> Result<bool, NoMemory>
-    requires within { IsWithin text.now cursor.old }
-    requires short { length text.now ≤ 16777216 }
-    requires valid { IsValid (profile_of judge.old.machine) }
-    requires kind { IsKind wanted.directory.kind }
-    requires align { 0 < wanted.align }
-    requires heap { wanted.directory.heap < 32 }
-    requires named { wanted.name < names_held judge.old.names }
-    ensures taken { IfOk result (λ taken. (f : Profile) (s : Stand) (r : Request) → Stands f judge.old s cursor.old → IsWanted f r wanted
-        → s.due ≡ Serves k r None ∷ [] → IsCarried f text.now s cursor.old judge.new cursor.new taken) }
-    ensures within { IfOk result (StaysWithin text.now cursor.new) }
-    ensures sized { IfOk result (λ taken. IsSizedAs judge.old judge.new) }
-{
-    match take_request(&mut judge.machine, text, cursor, k, &wanted) {
-        Ok(Some(block)) => {
-            judge.names.set(wanted.name, block);
-            Ok(true)
-        }
-        Ok(None) => Ok(false),
-        Err(NoMemory) => Err(NoMemory),
-    }
+    )
 }
 
 /// Takes the lines of a request that the keeper tries, and, where it gives no block, its thread is served.
@@ -337,28 +250,26 @@ fn take_tried(
     k: u8,
     keeper: u8,
     wanted: Wanted,
-) -> Result<bool, NoMemory>
+) -> bool
     requires within { IsWithin text.now cursor.old }
-    requires short { length text.now ≤ 16777216 }
     requires valid { IsValid (profile_of judge.old.machine) }
     requires kind { IsKind wanted.directory.kind }
     requires align { 0 < wanted.align }
     requires heap { wanted.directory.heap < 32 }
     requires named { wanted.name < names_held judge.old.names }
     requires apart { keeper ≢ k }
-    ensures taken { IfOk result (λ taken. (f : Profile) (s : Stand) (r : Request) → Stands f judge.old s cursor.old → IsWanted f r wanted
-        → s.due ≡ Tries keeper k r false ∷ [] → IsCarried f text.now s cursor.old judge.new cursor.new taken) }
-    ensures within { IfOk result (StaysWithin text.now cursor.new) }
-    ensures sized { IfOk result (λ taken. IsSizedAs judge.old judge.new) }
+    ensures taken { (f : Profile) (s : Stand) (r : Request) → Stands f judge.old s cursor.old → IsWanted f r wanted
+        → s.due ≡ Tries keeper k r false ∷ [] → IsCarried f text.now s cursor.old judge.new cursor.new result }
+    ensures within { StaysWithin text.now cursor.new result }
+    ensures sized { IsSizedAs judge.old judge.new }
 {
     match take_trial(&mut judge.machine, text, cursor, keeper, &wanted) {
-        Ok(Trial::Gives(block)) => raise(judge, text, cursor, keeper, wanted.name, block),
-        Ok(Trial::Passes(place)) => {
+        Trial::Gives(block) => raise(judge, text, cursor, keeper, wanted.name, block),
+        Trial::Passes(place) => {
             *cursor = place;
-            serve(judge, text, cursor, k, wanted)
+            serve(judge, text, cursor, k, wanted, None)
         }
-        Ok(Trial::Stops) => Ok(false),
-        Err(NoMemory) => Err(NoMemory),
+        Trial::Stops => false,
     }
 }
 
@@ -370,23 +281,21 @@ pub(crate) fn try_request(
     k: u8,
     keeper: u8,
     wanted: Wanted,
-) -> Result<bool, NoMemory>
+) -> bool
     requires within { IsWithin text.now cursor.old }
-    requires short { length text.now ≤ 16777216 }
     requires valid { IsValid (profile_of judge.old.machine) }
     requires kind { IsKind wanted.directory.kind }
     requires align { 0 < wanted.align }
     requires heap { wanted.directory.heap < 32 }
     requires named { wanted.name < names_held judge.old.names }
     requires apart { keeper ≢ k }
-    ensures taken { IfOk result (λ taken. (f : Profile) (act : Act) (r : Request) → AsksKeeper f judge.old cursor.old act keeper k r → IsWanted f r wanted
-        → ActTaken f text.now judge.old cursor.old judge.new cursor.new act taken) }
-    ensures within { IfOk result (StaysWithin text.now cursor.new) }
-    ensures sized { IfOk result (λ taken. IsSizedAs judge.old judge.new) }
+    ensures taken { (f : Profile) (act : Act) (r : Request) → AsksKeeper f judge.old cursor.old act keeper k r → IsWanted f r wanted
+        → ActTaken f text.now judge.old cursor.old judge.new cursor.new act result }
+    ensures within { StaysWithin text.now cursor.new result }
+    ensures sized { IsSizedAs judge.old judge.new }
 {
-    match sweep(judge, text, cursor, keeper, false) {
-        Ok(true) => take_tried(judge, text, cursor, k, keeper, wanted),
-        Ok(false) => Ok(false),
-        Err(NoMemory) => Err(NoMemory),
+    if !sweep(judge, text, cursor, keeper, false) {
+        return false;
     }
+    take_tried(judge, text, cursor, k, keeper, wanted)
 }

@@ -226,7 +226,6 @@ fn take_page(
     directory: Directory,
 ) -> bool
     requires within { IsWithin text.now cursor.old }
-    requires short { length text.now ≤ 16777216 }
     requires page { IsPage (profile_of machine.now) page }
     requires valid { IsValid (profile_of machine.now) }
     requires kind { IsKind directory.kind }
@@ -244,7 +243,6 @@ fn take_page(
 /// Takes the line of the page, where it has a deed; else it has none.
 fn take_next_page(machine: &Machine, text: &[u8], cursor: &mut Cursor, page: u32) -> bool
     requires within { IsWithin text.now cursor.old }
-    requires short { length text.now ≤ 16777216 }
     requires page { IsPage (profile_of machine.now) page }
     requires valid { IsValid (profile_of machine.now) }
     requires known { IsKnown machine.now }
@@ -261,7 +259,6 @@ fn take_next_page(machine: &Machine, text: &[u8], cursor: &mut Cursor, page: u32
 /// Takes the lines of the pages with a deed, in order.
 fn take_pages(machine: &Machine, text: &[u8], cursor: &mut Cursor) -> bool
     requires within { IsWithin text.now cursor.old }
-    requires short { length text.now ≤ 16777216 }
     requires valid { IsValid (profile_of machine.now) }
     requires known { IsKnown machine.now }
     ensures led { (s : Stand) (more : List Due) → StandsFor machine.now s.events → s.due ≡ pages_due s.events (profile_of machine.now).pages ++ more
@@ -381,7 +378,6 @@ fn total(machine: &Machine) -> Totalled
 /// Takes the line of the totals, and says whether it is the next one.
 fn take_totals(machine: &Machine, text: &[u8], cursor: &mut Cursor) -> bool
     requires within { IsWithin text.now cursor.old }
-    requires short { length text.now ≤ 16777216 }
     requires valid { IsValid (profile_of machine.now) }
     requires known { IsKnown machine.now }
     ensures led { (s : Stand) (more : List Due) → StandsFor machine.now s.events → s.due ≡ Totals ∷ more
@@ -396,7 +392,6 @@ fn take_totals(machine: &Machine, text: &[u8], cursor: &mut Cursor) -> bool
 /// Takes the lines of the report: its head, those of the pages with a deed, and that of the totals.
 pub(crate) fn take_report(machine: &Machine, text: &[u8], cursor: &mut Cursor) -> bool
     requires within { IsWithin text.now cursor.old }
-    requires short { length text.now ≤ 16777216 }
     requires valid { IsValid (profile_of machine.now) }
     requires known { IsKnown machine.now }
     ensures led { (s : Stand) → StandsFor machine.now s.events → s.due ≡ report_due (profile_of machine.now) s.events

@@ -1,5 +1,5 @@
 //! The lines of a request: deeds and backs, as many as there are, and then a give or a refusal.
-ghost use Rattle.std.specs.Prelude.{ℕ, ◌≡◌, ◌<◌, ◌≤◌, List, length, IfOk, IfSome};
+ghost use Rattle.std.specs.Prelude.{ℕ, ◌≡◌, ◌<◌, ◌≤◌, List, length, IfSome};
 ghost use Rattle.pas_profile.specs.{Directories.IsKind, Profiles.IsValid};
 ghost use Rattle.pas_machine.specs.Machines.{profile_of};
 ghost use Rattle.pas_check.specs.{Calls.EndingTaken, Calls.IsRead, Calls.RequestTaken, Leading.IsWithin};
@@ -9,7 +9,7 @@ use crate::reading::read_record;
 use crate::serving::{Wanted, is_refusal, take_give};
 use crate::taking::take_preparing;
 use pas_machine::Machine;
-use pas_profile::{Block, NoMemory};
+use pas_profile::Block;
 use pas_report::Record;
 
 /// Takes the line of which this was read where it ends the actor's request, and says what the request's name stands for from then on: the block that was
@@ -19,22 +19,21 @@ fn take_ending(
     found: &Option<Record>,
     actor: u8,
     wanted: &Wanted,
-) -> Result<Option<Option<Block>>, NoMemory>
+) -> Option<Option<Block>>
     requires align { 0 < wanted.now.align }
     ensures profile { profile_of machine.new ≡ profile_of machine.old }
-    ensures heap { IfOk result (λ ending. IfSome ending (λ found. IfSome found (λ block. block.heap ≡ wanted.now.directory.heap))) }
-    ensures taken { IfOk result (λ block. (line : List ℕ) → IsRead line found.now → EndingTaken machine.old machine.new actor wanted.now line block) }
+    ensures heap { IfSome result (λ found. IfSome found (λ block. block.heap ≡ wanted.now.directory.heap)) }
+    ensures taken { (line : List ℕ) → IsRead line found.now → EndingTaken machine.old machine.new actor wanted.now line result }
 {
     match take_give(machine, found, actor, wanted) {
-        Ok(Some(block)) => Ok(Some(Some(block))),
-        Ok(None) => {
+        Some(block) => Some(Some(block)),
+        None => {
             if is_refusal(machine, found, actor, wanted) {
-                Ok(Some(None))
+                Some(None)
             } else {
-                Ok(None)
+                None
             }
         }
-        Err(NoMemory) => Err(NoMemory),
     }
 }
 
@@ -46,26 +45,23 @@ pub(crate) fn take_request(
     cursor: &mut Cursor,
     actor: u8,
     wanted: &Wanted,
-) -> Result<Option<Option<Block>>, NoMemory>
+) -> Option<Option<Block>>
     requires within { IsWithin text.now cursor.old }
-    requires short { length text.now ≤ 16777216 }
     requires valid { IsValid (profile_of machine.old) }
     requires kind { IsKind wanted.now.directory.kind }
     requires align { 0 < wanted.now.align }
     ensures profile { profile_of machine.new ≡ profile_of machine.old }
-    ensures heap { IfOk result (λ ending. IfSome ending (λ found. IfSome found (λ block. block.heap ≡ wanted.now.directory.heap))) }
-    ensures taken { IfOk result (λ block. RequestTaken machine.old machine.new text.now cursor.old cursor.new actor wanted.now block) }
-    ensures within { IfOk result (λ block. IfSome block (λ b. IsWithin text.now cursor.new)) }
+    ensures heap { IfSome result (λ found. IfSome found (λ block. block.heap ≡ wanted.now.directory.heap)) }
+    ensures taken { RequestTaken machine.old machine.new text.now cursor.old cursor.new actor wanted.now result }
+    ensures within { IfSome result (λ b. IsWithin text.now cursor.new) }
 {
     'lines: loop {
         let Some(line) = next_line(text, cursor) else {
-            return Ok(None);
+            return None;
         };
         let found = read_record(line);
-        match take_preparing(machine, &found, actor, wanted.directory) {
-            Ok(true) => {}
-            Ok(false) => return take_ending(machine, &found, actor, wanted),
-            Err(NoMemory) => return Err(NoMemory),
+        if !take_preparing(machine, &found, actor, wanted.directory) {
+            return take_ending(machine, &found, actor, wanted);
         }
     }
 }

@@ -1,5 +1,5 @@
 //! Lines that end a request: a give, or a refusal.
-ghost use Rattle.std.specs.Prelude.{ℕ, ◌≡◌, ◌≢◌, ◌*◌, ◌<◌, ◌≤◌, IfOk, IfSome, List, MatchBool, Some};
+ghost use Rattle.std.specs.Prelude.{ℕ, ◌≡◌, ◌≢◌, ◌*◌, ◌<◌, ◌≤◌, IfSome, List, MatchBool, Some};
 ghost use Rattle.pas_profile.specs.{Directories.IsKind, Classes.IsAlignment, Profiles.IsValid};
 ghost use Rattle.pas_profile.specs.declared.event.Event.{Event as TheEvent};
 ghost use Rattle.pas_machine.specs.{State.deed_in, Places.IsEach, Machines.profile_of, Machines.StandsFor};
@@ -10,7 +10,7 @@ ghost use Rattle.pas_check.specs.States.{Stand};
 use crate::taking::{event_read, step};
 use pas_heap::HeapTable;
 use pas_machine::Machine;
-use pas_profile::{Block, Directory, Event, Kind, NoMemory, Profile, Route};
+use pas_profile::{Block, Directory, Event, Kind, Profile, Route};
 use pas_report::{Record, Said};
 
 /// What a request asks for: a block for this name, of this room, at a multiple of this alignment, on pages of this directory.
@@ -96,28 +96,22 @@ fn fits(block: &Block, wanted: &Wanted) -> bool
 }
 
 /// Takes the event where it is a give by the actor of what is wanted, and may come next; and says which block that is. None where it is no such event.
-fn give(
-    machine: &mut Machine,
-    event: &Event,
-    actor: u8,
-    wanted: &Wanted,
-) -> Result<Option<Block>, NoMemory>
+fn give(machine: &mut Machine, event: &Event, actor: u8, wanted: &Wanted) -> Option<Block>
     requires align { 0 < wanted.now.align }
     ensures profile { profile_of machine.new ≡ profile_of machine.old }
-    ensures heap { IfOk result (λ found. IfSome found (λ block. block.heap ≡ wanted.now.directory.heap)) }
-    ensures given { IfOk result (λ block. IsGiven machine.old machine.new actor wanted.now event.now block) }
+    ensures heap { IfSome result (λ block. block.heap ≡ wanted.now.directory.heap) }
+    ensures given { IsGiven machine.old machine.new actor wanted.now event.now result }
 {
     let Event::Give { actor: k, block } = *event else {
-        return Ok(None);
+        return None;
     };
     if k != actor || !fits(&block, wanted) || !lies_on(machine, &block, wanted.directory) {
-        return Ok(None);
+        return None;
     }
-    match step(machine, event) {
-        Ok(true) => Ok(Some(block)),
-        Ok(false) => Ok(None),
-        Err(NoMemory) => Err(NoMemory),
+    if !step(machine, event) {
+        return None;
     }
+    Some(block)
 }
 
 /// Takes the line of which this was read where it is that of a give by the actor of what is wanted, and says which block that is. None where it is no
@@ -127,14 +121,14 @@ pub(crate) fn take_give(
     found: &Option<Record>,
     actor: u8,
     wanted: &Wanted,
-) -> Result<Option<Block>, NoMemory>
+) -> Option<Block>
     requires align { 0 < wanted.now.align }
     ensures profile { profile_of machine.new ≡ profile_of machine.old }
-    ensures heap { IfOk result (λ found. IfSome found (λ block. block.heap ≡ wanted.now.directory.heap)) }
-    ensures taken { IfOk result (λ block. (line : List ℕ) → IsRead line found.now → GiveTaken machine.old machine.new actor wanted.now line block) }
+    ensures heap { IfSome result (λ block. block.heap ≡ wanted.now.directory.heap) }
+    ensures taken { (line : List ℕ) → IsRead line found.now → GiveTaken machine.old machine.new actor wanted.now line result }
 {
     let Some(event) = event_read(found) else {
-        return Ok(None);
+        return None;
     };
     give(machine, &event, actor, wanted)
 }

@@ -1,5 +1,5 @@
 //! Lines that the machine judges: those of the entries of a log, and the deeds and backs of a request.
-ghost use Rattle.std.specs.Prelude.{ℕ, ◌≡◌, List, IfOk, MatchBool, None, Some};
+ghost use Rattle.std.specs.Prelude.{ℕ, ◌≡◌, List, MatchBool, None, Some};
 ghost use Rattle.pas_profile.specs.{Directories.IsKind, Profiles.IsValid, Blocks.address_of};
 ghost use Rattle.pas_profile.specs.declared.{event.Event.Event as TheEvent, profile.Profile.Profile};
 ghost use Rattle.pas_machine.specs.{Machine.IsPlace, Machine.Run, Machines.profile_of, Machines.StandsFor, State.Live, State.gives_in, State.live_in};
@@ -9,20 +9,16 @@ ghost use Rattle.pas_check.specs.{States.Stand, Takes.IsEventOf, Takes.IsPrepari
 
 use crate::entry::Entry;
 use crate::reading::is_line;
-use pas_machine::{Machine, StepFault};
-use pas_profile::{Address, Block, Directory, Event, Name, NoMemory, Why};
+use pas_machine::Machine;
+use pas_profile::{Address, Block, Directory, Event, Name, Why};
 use pas_report::Record;
 
-/// Takes the event where it may come next, and says whether it may.
-pub(crate) fn step(machine: &mut Machine, event: &Event) -> Result<bool, NoMemory>
+/// Takes the event where it may come next, and says whether it may, where there were less than 2^32 before it: the machine counts so many.
+pub(crate) fn step(machine: &mut Machine, event: &Event) -> bool
     ensures profile { profile_of machine.new ≡ profile_of machine.old }
-    ensures stepped { IfOk result (λ taken. IsStepped machine.old machine.new event.now taken) }
+    ensures stepped { IsStepped machine.old machine.new event.now result }
 {
-    match machine.step(event) {
-        Ok(_) => Ok(true),
-        Err(StepFault::Illegal(_)) => Ok(false),
-        Err(StepFault::NoMemory) => Err(NoMemory),
-    }
+    machine.step(event).is_ok()
 }
 
 /// The event of a record; None where it is of none.
@@ -111,16 +107,16 @@ pub(crate) fn take_entry(
     actor: u8,
     entry: Entry,
     epoch: u64,
-) -> Result<bool, NoMemory>
+) -> bool
     ensures profile { profile_of machine.new ≡ profile_of machine.old }
-    ensures taken { IfOk result (λ taken. EntryTaken machine.old machine.new actor entry epoch line.now taken) }
+    ensures taken { EntryTaken machine.old machine.new actor entry epoch line.now result }
 {
     if !is_place(machine, entry.name.address) {
-        return Ok(false);
+        return false;
     }
     let event = event_for(machine, actor, entry, epoch);
     if !is_line(line, &Record::Event(event)) {
-        return Ok(false);
+        return false;
     }
     step(machine, &event)
 }
@@ -146,17 +142,17 @@ pub(crate) fn take_preparing(
     found: &Option<Record>,
     actor: u8,
     directory: Directory,
-) -> Result<bool, NoMemory>
+) -> bool
     requires valid { IsValid (profile_of machine.old) }
     requires kind { IsKind directory.kind }
     ensures profile { profile_of machine.new ≡ profile_of machine.old }
-    ensures taken { IfOk result (λ taken. (line : List ℕ) → IsRead line found.now → PreparingTaken machine.old machine.new actor directory line taken) }
+    ensures taken { (line : List ℕ) → IsRead line found.now → PreparingTaken machine.old machine.new actor directory line result }
 {
     let Some(event) = event_read(found) else {
-        return Ok(false);
+        return false;
     };
     if !prepares(&event, actor, directory) {
-        return Ok(false);
+        return false;
     }
     step(machine, &event)
 }

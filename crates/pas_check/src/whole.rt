@@ -39,16 +39,12 @@ pub fn check(alloc: Global, plan: &Plan, transcript: &[u8]) -> Result<Verdict, N
     };
     let mut cursor = Cursor::first();
     let keepers = keeper_count(plan);
-    match take_acts(
-        &mut judge,
-        transcript,
-        &mut cursor,
-        plan.phases.as_slice(),
-        keepers,
-    ) {
-        Ok(true) => {}
-        Ok(false) => return Ok(Verdict::No(cursor.lines)),
-        Err(NoMemory) => return Err(NoMemory),
+    let phases = plan.phases.as_slice();
+    if !take_acts(&mut judge, transcript, &mut cursor, phases, keepers) {
+        if judge.lacks_memory {
+            return Err(NoMemory);
+        }
+        return Ok(Verdict::No(cursor.lines));
     }
     if !take_report(&judge.machine, transcript, &mut cursor) {
         return Ok(Verdict::No(cursor.lines));

@@ -1,16 +1,12 @@
-use Rattle.std.proofs.Common.{Bool, [], ◌∷◌, length, sym, leb-false}
-use Rattle.pas_profile.specs.declared.profile.Profile.{Profile}
-use Rattle.pas_check.specs.{Tables.logged, Tasks.EntryLogged, Tasks.LogEmptied}
-use Rattle.pas_check.proofs.{Actings.logged_added, Actings.logged_full, Takings.if_ok}
+use Rattle.std.proofs.Common.{length, sym, leb-false}
+use Rattle.pas_check.specs.Tables.{logged}
+use Rattle.pas_check.proofs.Actings.{logged_added, logged_full}
 use Rattle.pas_check.proofs.acting.log_entry.Goals as goal
 
 pub returns-then-is_full-clause-taken : goal.returns-then-is_full-clause-taken
-returns-then-is_full-clause-taken c =
-    if_ok c.refill_log.result (λ (taken : Bool). (f : Profile)
-    → LogEmptied f c.args.text.now c.args.judge.now c.args.cursor.now c.refill_log.new.judge c.refill_log.new.cursor c.args.k (c.args.entry ∷ []) taken)
-    (λ (taken : Bool). (f : Profile) → EntryLogged f c.args.text.now c.args.judge.now c.args.cursor.now c.refill_log.new.judge c.refill_log.new.cursor c.args.k c.args.entry taken)
-    (λ taken emptied f. logged_full f c.args.text.now c.args.judge.now c.args.cursor.now c.args.k c.args.entry c.requires.held
-    c.if-is_full.ensures c.refill_log.new.judge c.refill_log.new.cursor taken (emptied f)) c.refill_log.ensures.taken
+returns-then-is_full-clause-taken c = λ f.
+    logged_full f c.args.text.now c.args.judge.now c.args.cursor.now c.args.k c.args.entry c.requires.held
+    c.if-is_full.ensures c.refill_log.new.judge c.refill_log.new.cursor c.refill_log.result (c.refill_log.ensures.taken f)
 
 pub returns-clause-taken : goal.returns-clause-taken
 returns-clause-taken c = λ f.

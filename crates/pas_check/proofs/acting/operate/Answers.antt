@@ -1,10 +1,9 @@
-use Rattle.std.proofs.Common.{◌≡◌, ◌∙◌, ◌<◌, ◌^◌, ℕ, Bool, None, ap, refl, subst, sym, arith, MatchOption}
-use Rattle.pas_profile.specs.declared.profile.Profile.{Profile}
+use Rattle.std.proofs.Common.{◌≡◌, ◌∙◌, ◌<◌, ◌^◌, ℕ, None, ap, refl, subst, sym, arith, MatchOption}
 use Rattle.pas_trace.specs.Acts.{Act, Guards, Operates, act_kept}
 use Rattle.pas_trace.specs.Asked.{keeper_in, request_in}
-use Rattle.pas_trace.specs.declared.{item.Request.Request, plan.What.What, plan.What.TheVariants.Guarded}
-use Rattle.pas_check.specs.{Begins.guarding, Calls.IsWanted, Calls.asked_for, Tasks.ActTaken, Tasks.AsksKeeper}
-use Rattle.pas_check.proofs.{Actings.of_profile, Takings.if_ok}
+use Rattle.pas_trace.specs.declared.plan.What.{What, TheVariants.Guarded}
+use Rattle.pas_check.specs.{Begins.guarding, Calls.IsWanted, Calls.asked_for, Tasks.ActTaken}
+use Rattle.pas_check.proofs.Actings.{of_profile}
 use Rattle.pas_check.proofs.acting.operate.Goals as goal
 
 pub try_request-requires-clause-apart : goal.try_request-requires-clause-apart
@@ -19,15 +18,12 @@ returns-in-Guarded-clause-taken c =
     let new = c.try_request.new.judge in
     let to = c.try_request.new.cursor in
     let act : act_kept (keeper_in op.what) op ≡ Guards a.keeper op = ap (λ (w : What). act_kept (keeper_in w) op) a.is in
-    if_ok c.try_request.result
-    (λ (taken : Bool). (f : Profile) (act : Act) (r : Request) → AsksKeeper f c.args.judge.now c.args.cursor.now act a.keeper op.actor r → IsWanted f r c.wanted_for-wanted.result
-    → ActTaken f c.args.text.now c.args.judge.now c.args.cursor.now new to act taken)
-    (λ (taken : Bool). (f : Profile) → ActTaken f c.args.text.now c.args.judge.now c.args.cursor.now new to (act_kept (keeper_in op.what) op) taken)
-    (λ taken asked f. of_profile f c.args.text.now c.args.judge.now new c.args.cursor.now to (act_kept (keeper_in op.what) op) taken
-    (λ same. subst (λ (x : Act). ActTaken f c.args.text.now c.args.judge.now c.args.cursor.now new to x taken) (sym act)
-    (asked f (Guards a.keeper op) (asked_for a.name a.heap a.size a.align) (λ s stands. ap (λ (w : What). guarding s a.keeper op.actor (request_in w)) a.is)
-    (subst (λ g. IsWanted g (asked_for a.name a.heap a.size a.align) c.wanted_for-wanted.result) (c.profile.ensures ∙ same) c.wanted_for-wanted.ensures.wanted))))
-    c.try_request.ensures.taken
+    λ f. of_profile f c.args.text.now c.args.judge.now new c.args.cursor.now to (act_kept (keeper_in op.what) op) c.try_request.result
+    (λ same. subst (λ (x : Act). ActTaken f c.args.text.now c.args.judge.now c.args.cursor.now new to x c.try_request.result) (sym act)
+    (c.try_request.ensures.taken f (Guards a.keeper op) (asked_for a.name a.heap a.size a.align)
+    (λ s stands. ap (λ (w : What). guarding s a.keeper op.actor (request_in w)) a.is)
+    (subst (λ g. IsWanted g (asked_for a.name a.heap a.size a.align) c.wanted_for-wanted.result) (c.profile.ensures ∙ same)
+    c.wanted_for-wanted.ensures.wanted)))
 
 plain_kept : (what : What) → ((keeper name heap size align : ℕ) → what ≡ Guarded keeper name heap size align → ⊥) → keeper_in what ≡ None
 plain_kept (Guarded keeper name heap size align) not_guarded = absurd (not_guarded keeper name heap size align refl)
@@ -39,7 +35,5 @@ returns-in_default-clause-taken c =
     let new = c.operate_plain.new.judge in
     let to = c.operate_plain.new.cursor in
     let act : act_kept (keeper_in op.what) op ≡ Operates op = ap (λ o. act_kept o op) (plain_kept op.what c.in_default.not-Guarded) in
-    if_ok c.operate_plain.result
-    (λ (taken : Bool). (f : Profile) → ActTaken f c.args.text.now c.args.judge.now c.args.cursor.now new to (Operates op) taken)
-    (λ (taken : Bool). (f : Profile) → ActTaken f c.args.text.now c.args.judge.now c.args.cursor.now new to (act_kept (keeper_in op.what) op) taken)
-    (λ taken done f. subst (λ (x : Act). ActTaken f c.args.text.now c.args.judge.now c.args.cursor.now new to x taken) (sym act) (done f)) c.operate_plain.ensures.taken
+    λ f. subst (λ (x : Act). ActTaken f c.args.text.now c.args.judge.now c.args.cursor.now new to x c.operate_plain.result) (sym act)
+    (c.operate_plain.ensures.taken f)

@@ -5,7 +5,7 @@ pub returns-then-not-take_record-clause-taken : goal.returns-then-not-take_recor
 returns-then-not-take_record-clause-taken c = λ f.
     pass_amiss f c.args.text.now c.args.judge.now c.args.cursor.now c.requires.within c.args.judge.now c.take_record.new.cursor (c.if-not-take_record.ensures.led f)
 
-pub returns-in-Ok-clause-taken : goal.returns-in-Ok-clause-taken
-returns-in-Ok-clause-taken c = λ f.
+pub returns-clause-taken : goal.returns-clause-taken
+returns-clause-taken c = λ f.
     passed f c.args.text.now c.args.judge.now c.args.cursor.now c.requires.within c.take_outcomes.new.machine c.take_record.new.cursor c.take_outcomes.new.cursor
-    (c.if-not-take_record.ensures.led f) c.in-Ok.ensures.profile c.in-Ok.ensures.taken
+    (c.if-not-take_record.ensures.led f) c.take_outcomes.ensures.profile c.take_outcomes.ensures.taken

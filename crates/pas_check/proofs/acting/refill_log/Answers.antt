@@ -1,12 +1,12 @@
-use Rattle.std.proofs.Common.{[], ◌∷◌, ◌++◌, length, ap, ◌∙◌, arith}
+use Rattle.std.proofs.Common.{length, ap, arith}
 use Rattle.pas_check.proofs.Actings.{log_amiss, log_emptied}
 use Rattle.pas_check.proofs.acting.refill_log.Goals as goal
 
-pub returns-in-Ok-true-clause-taken : goal.returns-in-Ok-true-clause-taken
-returns-in-Ok-true-clause-taken c = search (arith, log_emptied, c.in-Ok-true.ensures.taken)
+pub returns-then-not-take_entries-clause-taken : goal.returns-then-not-take_entries-clause-taken
+returns-then-not-take_entries-clause-taken c = search (arith, log_amiss, c.log-log.ensures, c.if-not-take_entries.ensures.taken)
 
-pub returns-in-Ok-false-clause-taken : goal.returns-in-Ok-false-clause-taken
-returns-in-Ok-false-clause-taken c = search (arith, log_amiss, c.log.ensures, c.in-Ok-false.ensures.taken)
+pub returns-clause-taken : goal.returns-clause-taken
+returns-clause-taken c = search (arith, log_emptied, c.if-not-take_entries.ensures.taken)
 
 pub add-requires-clause-room : goal.add-requires-clause-room
 add-requires-clause-room c = omega (arith, ap length c.clear.ensures.cleared)

@@ -8,18 +8,16 @@ returns-then-not-is_idle-clause-taken c = λ f.
     (λ s stands. idle_short f c.args.judge.now s c.args.cursor.now c.args.k c.args.epochs (get_or c.args.judge.now.awake.items c.args.k 0) stands
     c.requires.known refl c.if-not-is_idle.ensures)
 
-pub returns-in-Ok-true-clause-taken : goal.returns-in-Ok-true-clause-taken
-returns-in-Ok-true-clause-taken c = λ f.
-    let emptied = rw c.in-Ok-true.field-0-test at c.in-Ok-true.ensures.taken in
-    idle_stopped f c.args.text.now c.args.judge.now c.empty_log.new.judge c.args.cursor.now c.empty_log.new.cursor c.args.k c.requires.within c.args.epochs c.take_record.new.cursor
+pub returns-clause-taken : goal.returns-clause-taken
+returns-clause-taken c = λ f.
+    idle_stopped f c.args.text.now c.args.judge.now c.empty_log.new.judge c.args.cursor.now c.empty_log.new.cursor c.args.k c.requires.within c.args.epochs
     (λ s stands. idle_long f c.args.judge.now s c.args.cursor.now c.args.k c.args.epochs (get_or c.args.judge.now.awake.items c.args.k 0) stands
     c.requires.known refl c.if-not-is_idle.ensures)
-    (emptied f) c.take_record.result (c.take_record.ensures.led f)
+    c.take_record.new.cursor (c.if-not-empty_log.ensures.taken f) c.take_record.result (c.take_record.ensures.led f)
 
-pub returns-in-Ok-false-clause-taken : goal.returns-in-Ok-false-clause-taken
-returns-in-Ok-false-clause-taken c = λ f.
-    let emptied = rw c.in-Ok-false.field-0-test at c.in-Ok-false.ensures.taken in
+pub returns-then-not-empty_log-clause-taken : goal.returns-then-not-empty_log-clause-taken
+returns-then-not-empty_log-clause-taken c = λ f.
     stop_amiss f c.args.text.now c.args.judge.now c.empty_log.new.judge c.args.cursor.now c.empty_log.new.cursor c.args.k c.requires.within c.args.epochs
     (λ s stands. idle_long f c.args.judge.now s c.args.cursor.now c.args.k c.args.epochs (get_or c.args.judge.now.awake.items c.args.k 0) stands
     c.requires.known refl c.if-not-is_idle.ensures)
-    (emptied f)
+    (c.if-not-empty_log.ensures.taken f)

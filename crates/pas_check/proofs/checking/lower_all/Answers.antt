@@ -1,9 +1,9 @@
-use Rattle.std.proofs.Common.{◌≡◌, ◌+◌, ◌-◌, ◌++◌, ◌∷◌, [], true, false, map, refl, ap, ◌∙◌, arith}
+use Rattle.std.proofs.Common.{◌+◌, true, false, refl, ap, arith}
 use Rattle.pas_profile.specs.declared.profile.Profile.{Profile}
-use Rattle.pas_trace.specs.Acts.{Lowers, numbers_from}
+use Rattle.pas_trace.specs.Acts.{Lowers}
 use Rattle.pas_check.specs.Checks.{threads_in}
-use Rattle.pas_check.proofs.Chains.{act_taken, nothing_taken, sized_on, taken_as, then_taken}
-use Rattle.pas_trace.proofs.ThreadsInOrder.{next_number, no_number}
+use Rattle.pas_check.proofs.Chains.{nothing_taken, number_taken, sized_on, taken_as}
+use Rattle.pas_trace.proofs.ThreadsInOrder.{no_number}
 use Rattle.pas_check.proofs.checking.lower_all.Goals as goal
 
 pub loop-index-init : goal.loop-index-init
@@ -14,35 +14,26 @@ loop-index-init c = record {
   far = search (arith, taken_as, nothing_taken, c.profile-threads.ensures);
 }
 
-pub lower-requires-clause-within : goal.lower-requires-clause-within
-lower-requires-clause-within c = c.loop-index.invariant.within
+pub lower-requires : goal.lower-requires
+lower-requires c = record { within = c.loop-index.invariant.within }
 
-pub returns-in-Ok-false-clause-taken : goal.returns-in-Ok-false-clause-taken
-returns-in-Ok-false-clause-taken c = λ more.
-    let test = c.loop-index-test.true in
+pub returns-then-not-lower-clause-taken : goal.returns-then-not-lower-clause-taken
+returns-then-not-lower-clause-taken c =
     let count = ap (λ (f : Profile). f.threads) c.profile-threads.ensures in
-    let i = c.loop-index.index in
-    let n = threads_in c.args.judge.now + c.args.keepers in
-    then_taken c.args.text.now c.args.judge.now c.loop-index.judge c.lower.new.judge c.args.cursor.now c.loop-index.cursor c.lower.new.cursor _ _ (Lowers (i + 1) ∷ [])
-    (map Lowers (numbers_from (i + 1 + 1) (n - (i + 1))) ++ more) false (next_number Lowers i n more (omega (arith, test, count))) (c.loop-index.invariant.far more)
-    (act_taken c.args.text.now c.loop-index.judge c.lower.new.judge c.loop-index.cursor c.lower.new.cursor (Lowers (i + 1)) false
-    (rw c.in-Ok-false.field-0-test at c.in-Ok-false.ensures.taken))
+    number_taken c.args.text.now c.args.judge.now c.loop-index.judge c.lower.new.judge c.args.cursor.now c.loop-index.cursor c.lower.new.cursor Lowers
+    c.loop-index.index (threads_in c.args.judge.now + c.args.keepers) _ false (omega (arith, c.loop-index-test.true, count)) c.loop-index.invariant.far
+    c.if-not-lower.ensures.taken
 
 pub loop-index-preserved : goal.loop-index-preserved
 loop-index-preserved c =
-    let test = c.loop-index-test.true in
     let count = ap (λ (f : Profile). f.threads) c.profile-threads.ensures in
-    let i = c.loop-index.index in
-    let n = threads_in c.args.judge.now + c.args.keepers in
-    let within = rw c.in-Ok-true.field-0-test at c.in-Ok-true.ensures.within in
     record {
-      sized = sized_on c.loop-index.invariant.sized c.in-Ok-true.ensures.sized;
-      within = within;
-      after = (omega (arith, c.loop-index.invariant.after));
-      far = λ more. then_taken c.args.text.now c.args.judge.now c.loop-index.judge c.lower.new.judge c.args.cursor.now c.loop-index.cursor c.lower.new.cursor _ _ (Lowers (i + 1) ∷ [])
-          (map Lowers (numbers_from (i + 1 + 1) (n - (i + 1))) ++ more) true (next_number Lowers i n more (omega (arith, test, count))) (c.loop-index.invariant.far more)
-          (act_taken c.args.text.now c.loop-index.judge c.lower.new.judge c.loop-index.cursor c.lower.new.cursor (Lowers (i + 1)) true
-          (rw c.in-Ok-true.field-0-test at c.in-Ok-true.ensures.taken));
+      sized = sized_on c.loop-index.invariant.sized c.if-not-lower.ensures.sized;
+      within = c.if-not-lower.ensures.within;
+      after = omega (arith, c.loop-index.invariant.after);
+      far = number_taken c.args.text.now c.args.judge.now c.loop-index.judge c.lower.new.judge c.args.cursor.now c.loop-index.cursor c.lower.new.cursor Lowers
+          c.loop-index.index (threads_in c.args.judge.now + c.args.keepers) _ true (omega (arith, c.loop-index-test.true, count)) c.loop-index.invariant.far
+          c.if-not-lower.ensures.taken;
     }
 
 pub returns-clause-taken : goal.returns-clause-taken

@@ -22,8 +22,8 @@ perform-requires-clause-planned c =
     one_planned_as old c.loop-op.judge (get_or c.args.ops.now c.loop-op.op-index past) c.loop-op.invariant.sized
     (ops_there (profile_of old.machine) (names_held old.names) c.args.ops.now c.loop-op.op-index c.loop-op-test.true c.loop-op.invariant.planned).0
 
-pub returns-in-Ok-false-clause-taken : goal.returns-in-Ok-false-clause-taken
-returns-in-Ok-false-clause-taken c = λ more.
+pub returns-then-not-perform-clause-taken : goal.returns-then-not-perform-clause-taken
+returns-then-not-perform-clause-taken c = λ more.
     let old = c.args.judge.now in
     let i = c.loop-op.op-index in
     let ops = c.args.ops.now in
@@ -33,7 +33,7 @@ returns-in-Ok-false-clause-taken c = λ more.
     (acts_of_op (idle (threads_in old)) (get_or ops i past)) (acts_of_ops (idle (threads_in old)) (drop (i + 1) ops) ++ more) false
     (acts_at (idle (threads_in old)) ops i more c.loop-op-test.true) (c.loop-op.invariant.far more)
     (subst (λ (n : ℕ). ActsTaken c.args.text.now c.loop-op.judge c.loop-op.cursor c.perform.new.judge c.perform.new.cursor (acts_of_op (idle n) (get_or ops i past)) false) threads
-    (rw c.in-Ok-false.field-0-test at c.in-Ok-false.ensures.taken))
+    c.if-not-perform.ensures.taken)
 
 pub loop-op-preserved : goal.loop-op-preserved
 loop-op-preserved c =
@@ -42,16 +42,15 @@ loop-op-preserved c =
     let ops = c.args.ops.now in
     let idle = λ (n : ℕ). threads_where (λ k. not (is_set c.args.awake k)) n in
     let threads = ap (λ (f : Profile). f.threads) c.loop-op.invariant.sized.profile in
-    let within = rw c.in-Ok-true.field-0-test at c.in-Ok-true.ensures.within in
     record {
-      sized = sized_on c.loop-op.invariant.sized c.in-Ok-true.ensures.sized;
-      within = within;
+      sized = sized_on c.loop-op.invariant.sized c.if-not-perform.ensures.sized;
+      within = c.if-not-perform.ensures.within;
       planned = (ops_there (profile_of old.machine) (names_held old.names) ops i c.loop-op-test.true c.loop-op.invariant.planned).1;
       far = λ more. then_taken c.args.text.now old c.loop-op.judge c.perform.new.judge c.args.cursor.now c.loop-op.cursor c.perform.new.cursor _ _
           (acts_of_op (idle (threads_in old)) (get_or ops i past)) (acts_of_ops (idle (threads_in old)) (drop (i + 1) ops) ++ more) true
           (acts_at (idle (threads_in old)) ops i more c.loop-op-test.true) (c.loop-op.invariant.far more)
           (subst (λ (n : ℕ). ActsTaken c.args.text.now c.loop-op.judge c.loop-op.cursor c.perform.new.judge c.perform.new.cursor (acts_of_op (idle n) (get_or ops i past)) true) threads
-          (rw c.in-Ok-true.field-0-test at c.in-Ok-true.ensures.taken));
+          c.if-not-perform.ensures.taken);
     }
 
 pub returns-clause-taken : goal.returns-clause-taken

@@ -33,8 +33,8 @@ stop_unless_awake-requires-clause-known c =
     let count = ap (λ (f : Profile). f.threads) c.profile-threads.ensures in
     omega (arith, c.loop-index-test.true, count, c.requires.sized.awake, c.loop-index.invariant.sized.awake)
 
-pub returns-in-Ok-false-clause-taken : goal.returns-in-Ok-false-clause-taken
-returns-in-Ok-false-clause-taken c = λ more.
+pub returns-then-not-stop_unless_awake-clause-taken : goal.returns-then-not-stop_unless_awake-clause-taken
+returns-then-not-stop_unless_awake-clause-taken c = λ more.
     let count = ap (λ (f : Profile). f.threads) c.profile-threads.ensures in
     let i = c.loop-index.index in
     let n = threads_in c.args.judge.now in
@@ -42,7 +42,7 @@ returns-in-Ok-false-clause-taken c = λ more.
     then_taken c.args.text.now c.args.judge.now c.loop-index.judge c.stop_unless_awake.new.judge c.args.cursor.now c.loop-index.cursor c.stop_unless_awake.new.cursor _ _
     (idle_stops c.args.epochs (filter p ((i + 1) ∷ []))) (acts_past (λ k. StopsIdle k c.args.epochs) p i n more) false
     (next_there (λ k. StopsIdle k c.args.epochs) p i n more (omega (arith, c.loop-index-test.true, count))) (c.loop-index.invariant.far more)
-    (rw c.in-Ok-false.field-0-test at c.in-Ok-false.ensures.taken)
+    c.if-not-stop_unless_awake.ensures.taken
 
 pub loop-index-preserved : goal.loop-index-preserved
 loop-index-preserved c =
@@ -50,14 +50,13 @@ loop-index-preserved c =
     let i = c.loop-index.index in
     let n = threads_in c.args.judge.now in
     let p = λ (k : ℕ). not (is_set c.args.awake k) in
-    let within = rw c.in-Ok-true.field-0-test at c.in-Ok-true.ensures.within in
     record {
-      sized = sized_on c.loop-index.invariant.sized c.in-Ok-true.ensures.sized;
-      within = within;
+      sized = sized_on c.loop-index.invariant.sized c.if-not-stop_unless_awake.ensures.sized;
+      within = c.if-not-stop_unless_awake.ensures.within;
       far = λ more. then_taken c.args.text.now c.args.judge.now c.loop-index.judge c.stop_unless_awake.new.judge c.args.cursor.now c.loop-index.cursor c.stop_unless_awake.new.cursor _ _
           (idle_stops c.args.epochs (filter p ((i + 1) ∷ []))) (acts_past (λ k. StopsIdle k c.args.epochs) p i n more) true
           (next_there (λ k. StopsIdle k c.args.epochs) p i n more (omega (arith, c.loop-index-test.true, count))) (c.loop-index.invariant.far more)
-          (rw c.in-Ok-true.field-0-test at c.in-Ok-true.ensures.taken);
+          c.if-not-stop_unless_awake.ensures.taken;
     }
 
 pub returns-clause-taken : goal.returns-clause-taken

@@ -35,8 +35,8 @@ take_phase-requires-clause-planned c =
     let is : ops_of (get_or c.args.phases.now i d) ≡ c.as_slice.result.now = ap ops_of (sym c.phase-item.is) ∙ sym c.as_slice.ensures in
     planned_as old c.loop-phase.judge c.as_slice.result.now c.loop-phase.invariant.sized (subst (λ (os : List Op). ArePlanned (profile_of old.machine) (names_held old.names) os) is here)
 
-pub returns-in-Ok-false-clause-taken : goal.returns-in-Ok-false-clause-taken
-returns-in-Ok-false-clause-taken c keepers =
+pub returns-then-not-take_phase-clause-taken : goal.returns-then-not-take_phase-clause-taken
+returns-then-not-take_phase-clause-taken c keepers =
     let n = threads_in c.args.judge.now in
     let d = c.phase-item.result in
     let i = c.loop-phase.phase-index in
@@ -45,7 +45,7 @@ returns-in-Ok-false-clause-taken c keepers =
     c.as_slice.result.now (ops_of (get_or c.args.phases.now i d)) _ _ (acts_from n keepers (number + 1) (map ops_of (drop (i + 1) c.args.phases.now))) false
     (ap (λ (f : Profile). f.threads) c.loop-phase.invariant.sized.profile) (c.as_slice.ensures ∙ ap ops_of c.phase-item.is)
     (phase_at n keepers number c.args.phases.now i d c.loop-phase-test.true) (c.loop-phase.invariant.far keepers) c.if-not-mark_phase.ensures.taken
-    (rw c.in-Ok-false.field-0-test at c.in-Ok-false.ensures.taken)
+    c.if-not-take_phase.ensures.taken
 
 pub loop-phase-preserved : goal.loop-phase-preserved
 loop-phase-preserved c =
@@ -54,17 +54,16 @@ loop-phase-preserved c =
     let d = c.phase-item.result in
     let i = c.loop-phase.phase-index in
     let number = c.loop-phase.number + 1 in
-    let within = rw c.in-Ok-true.field-0-test at c.in-Ok-true.ensures.within in
     record {
-      sized = sized_on c.loop-phase.invariant.sized c.in-Ok-true.ensures.sized;
-      within = within;
+      sized = sized_on c.loop-phase.invariant.sized c.if-not-take_phase.ensures.sized;
+      within = c.if-not-take_phase.ensures.within;
       count = (omega (arith, c.loop-phase.invariant.count));
       planned = (phases_there (profile_of old.machine) (names_held old.names) c.args.phases.now i d c.loop-phase-test.true c.loop-phase.invariant.planned).1;
       far = λ keepers. phase_done c.args.text.now old c.loop-phase.judge c.take_phase.new.judge c.args.cursor.now c.loop-phase.cursor c.mark_phase.new.cursor c.take_phase.new.cursor number
           c.as_slice.result.now (ops_of (get_or c.args.phases.now i d)) _ _ (acts_from n keepers (number + 1) (map ops_of (drop (i + 1) c.args.phases.now))) true
           (ap (λ (f : Profile). f.threads) c.loop-phase.invariant.sized.profile) (c.as_slice.ensures ∙ ap ops_of c.phase-item.is)
           (phase_at n keepers number c.args.phases.now i d c.loop-phase-test.true) (c.loop-phase.invariant.far keepers) c.if-not-mark_phase.ensures.taken
-          (rw c.in-Ok-true.field-0-test at c.in-Ok-true.ensures.taken);
+          c.if-not-take_phase.ensures.taken;
     }
 
 pub returns-clause-taken : goal.returns-clause-taken

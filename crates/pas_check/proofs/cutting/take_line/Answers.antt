@@ -19,5 +19,5 @@ returns-clause-taken c =
     let bytes = c.requires.within.bytes in
     let fits = c.starts_with.ensures.bound c.if-not-starts_with.false in (
       cut_here c.args.text.now c.args.wanted.now c.args.cursor.now.bytes (starts.0 c.if-not-starts_with.false) c.requires.line,
-      record { bytes = omega (arith, bytes, fits); lines = omega (arith, lines, some) },
+      record { bytes = omega (arith, bytes, fits); lines = omega (arith, lines, some); short = c.requires.within.short },
     )

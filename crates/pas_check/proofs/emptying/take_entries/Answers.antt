@@ -22,27 +22,27 @@ returns-in_default-clause-taken c =
     (rw (drop_more log i nobody c.loop-entry-test.true) at c.loop-entry.invariant.taken)
     c.next_line.ensures.count c.in_default.ensures.none
 
-pub returns-in-Ok-false-clause-taken : goal.returns-in-Ok-false-clause-taken
-returns-in-Ok-false-clause-taken c =
+pub returns-then-not-take_entry-clause-taken : goal.returns-then-not-take_entry-clause-taken
+returns-then-not-take_entry-clause-taken c =
     let log = c.args.log.now in
     let i = c.loop-entry.entry-index in
     entries_amiss c.args.machine.now c.args.text.now c.args.cursor.now c.args.actor log c.args.epoch c.loop-entry.machine c.loop-entry.cursor
     c.next_line.new.cursor _ (drop (i + 1) log)
     (search (arith, drop_more))
     c.next_line.ensures.count c.take_entry.new.machine c.in-Some.line.now c.loop-entry.invariant.profile c.in-Some.ensures.some
-    (rw c.in-Ok-false.field-0-test at c.in-Ok-false.ensures.taken)
+    (omega (arith, c.loop-entry.invariant.within.lines, c.loop-entry.invariant.within.bytes, c.requires.within.short)) c.if-not-take_entry.ensures.taken
 
 pub loop-entry-preserved : goal.loop-entry-preserved
 loop-entry-preserved c =
     let log = c.args.log.now in
     let i = c.loop-entry.entry-index in
     record {
-      profile = c.in-Ok-true.ensures.profile ∙ c.loop-entry.invariant.profile;
+      profile = c.if-not-take_entry.ensures.profile ∙ c.loop-entry.invariant.profile;
       within = c.in-Some.ensures.within;
       taken = entries_more c.args.machine.now c.args.text.now c.args.cursor.now c.args.actor log c.args.epoch c.loop-entry.machine c.loop-entry.cursor
           c.next_line.new.cursor _ (drop (i + 1) log)
           (subst (λ (entries : List Entry). EntriesTaken c.args.machine.now c.loop-entry.machine c.args.text.now c.args.cursor.now c.loop-entry.cursor c.args.actor
           log entries c.args.epoch true) (drop_more log i _ c.loop-entry-test.true) c.loop-entry.invariant.taken)
           c.next_line.ensures.count c.take_entry.new.machine c.in-Some.line.now c.loop-entry.invariant.profile c.in-Some.ensures.some c.in-Some.ensures.within
-          (rw c.in-Ok-true.field-0-test at c.in-Ok-true.ensures.taken);
+          c.if-not-take_entry.ensures.taken;
     }

@@ -1,6 +1,5 @@
-use Rattle.std.proofs.Common.{◌≡◌, Bool, sym, subst, ◌∙◌, arith, IfOk, IfSome}
+use Rattle.std.proofs.Common.{◌≡◌, sym, subst, ◌∙◌, arith, IfSome}
 use Rattle.pas_report.specs.Lines.{line_of}
-use Rattle.pas_check.specs.Calls.{IsExamined}
 use Rattle.pas_check.proofs.Examinings.{found_only, outcome_unread, outcome_other, outcome_amiss, outcome_came, outcome_failed, record_is}
 use Rattle.pas_check.proofs.examining.take_outcome.Goals as goal
 use Rattle.pas_check.proofs.examining.take_outcome.Goals.{then-examined-last-via-then-examined-last}
@@ -23,19 +22,16 @@ returns-then-examined-last-clause-taken c =
       | then-examined-last-via-else-examined-last+then-not-has_page w ↦ w.if-not-has_page.ensures region
     ])
 
-pub returns-in-Ok-true-clause-taken : goal.returns-in-Ok-true-clause-taken
-returns-in-Ok-true-clause-taken c =
+pub returns-then-not-examine-clause-taken : goal.returns-then-not-examine-clause-taken
+returns-then-not-examine-clause-taken c =
+    outcome_failed c.args.machine.now c.args.line.now c.args.last c.args.epoch c.examine.new.machine c.in-Some-outcome_of.examined
+    (λ page o fits has. sym c.in-Some-outcome_of.is ∙ found_only c.args.machine.now c.args.line.now c.args.last c.args.epoch c.in-Some.item _ _ c.in-Some.is c.read_record.ensures.only c.outcome_of.ensures page o fits has)
+    c.if-not-examine.ensures.came
+
+pub returns-clause-taken : goal.returns-clause-taken
+returns-clause-taken c =
     let x = c.in-Some-outcome_of.examined in
     let is = record_is c.args.epoch c.in-Some.item x (sym c.outcome_of.ensures ∙ c.in-Some-outcome_of.is) in
     let read = subst (λ o. IfSome o (λ r. c.args.line.now ≡ line_of r)) c.in-Some.is c.read_record.ensures.some in
-    let came = subst (λ r. IfOk r (λ came. IsExamined c.args.machine.now c.examine.new.machine c.args.epoch x came)) c.in-Ok-true.is c.examine.ensures.came in
     outcome_came c.args.machine.now c.args.line.now c.args.last c.args.epoch c.examine.new.machine x (subst (λ r. c.args.line.now ≡ line_of r) is read) (omega (arith, c.if-examined-last.false)) c.if-not-has_page.ensures
-    (subst (λ (t : Bool). IsExamined c.args.machine.now c.examine.new.machine c.args.epoch x t) c.in-Ok-true.field-0-test came)
-
-pub returns-in-Ok-false-clause-taken : goal.returns-in-Ok-false-clause-taken
-returns-in-Ok-false-clause-taken c =
-    let x = c.in-Some-outcome_of.examined in
-    let came = subst (λ r. IfOk r (λ came. IsExamined c.args.machine.now c.examine.new.machine c.args.epoch x came)) c.in-Ok-false.is c.examine.ensures.came in
-    outcome_failed c.args.machine.now c.args.line.now c.args.last c.args.epoch c.examine.new.machine x
-    (λ page o fits has. sym c.in-Some-outcome_of.is ∙ found_only c.args.machine.now c.args.line.now c.args.last c.args.epoch c.in-Some.item _ _ c.in-Some.is c.read_record.ensures.only c.outcome_of.ensures page o fits has)
-    (subst (λ (t : Bool). IsExamined c.args.machine.now c.examine.new.machine c.args.epoch x t) c.in-Ok-false.field-0-test came)
+    c.if-not-examine.ensures.came

@@ -15,22 +15,23 @@ returns-in_default-clause-taken c =
     outcomes_lack c.args.machine.now c.args.text.now c.args.cursor.now c.args.epoch c.lines.machine c.lines.cursor c.lines.last c.lines.invariant.goes
     c.lines.invariant.within c.in_default.ensures.none
 
-pub returns-in-Ok-None-clause-taken : goal.returns-in-Ok-None-clause-taken
-returns-in-Ok-None-clause-taken c =
-    let low : c.lines.cursor.lines < 2 ^ 32 = (omega (arith, c.lines.invariant.within.lines, c.lines.invariant.within.bytes, c.requires.short)) in
+pub returns-in-None-clause-taken : goal.returns-in-None-clause-taken
+returns-in-None-clause-taken c =
+    let low : c.lines.cursor.lines < 2 ^ 32 = (omega (arith, c.lines.invariant.within.lines, c.lines.invariant.within.bytes, c.requires.within.short)) in
     outcomes_over c.args.machine.now c.args.text.now c.args.cursor.now c.args.epoch c.lines.machine c.lines.cursor c.lines.last c.lines.invariant.goes
     c.in-Some.line.now (lines_from c.args.text.now c.next_line.new.cursor)
-    c.requires.valid c.lines.invariant.profile low c.in-Some.ensures.some c.take_outcome.new.machine (rw c.in-Ok-None.field-0-is at c.in-Ok-None.ensures.taken)
+    c.requires.valid c.lines.invariant.profile low c.in-Some.ensures.some c.take_outcome.new.machine c.in-None.ensures.taken
     c.lines.invariant.within
 
 pub lines-preserved : goal.lines-preserved
 lines-preserved c =
-    let low : c.lines.cursor.lines < 2 ^ 32 = (omega (arith, c.lines.invariant.within.lines, c.lines.invariant.within.bytes, c.requires.short)) in
+    let low : c.lines.cursor.lines < 2 ^ 32 = (omega (arith, c.lines.invariant.within.lines, c.lines.invariant.within.bytes, c.requires.within.short)) in
     record {
-      profile = c.in-Ok-Some.ensures.profile ∙ c.lines.invariant.profile;
+      profile = c.in-Some-take_outcome.ensures.profile ∙ c.lines.invariant.profile;
       within = c.in-Some.ensures.within;
       goes = outcomes_more c.args.machine.now c.args.text.now c.args.cursor.now c.args.epoch c.lines.machine c.lines.cursor c.lines.last c.lines.invariant.goes
           c.in-Some.line.now (lines_from c.args.text.now c.next_line.new.cursor)
-          c.requires.valid c.lines.invariant.profile low c.in-Some.ensures.some c.take_outcome.new.machine c.next_line.new.cursor c.in-Ok-Some.page refl
-          c.next_line.ensures.count c.in-Some.ensures.within (rw c.in-Ok-Some.field-0-is at c.in-Ok-Some.ensures.taken);
+          c.requires.valid c.lines.invariant.profile low c.in-Some.ensures.some c.take_outcome.new.machine c.next_line.new.cursor c.in-Some-take_outcome.page
+          refl
+          c.next_line.ensures.count c.in-Some.ensures.within c.in-Some-take_outcome.ensures.taken;
     }

@@ -1,4 +1,4 @@
-use Rattle.std.proofs.Common.{◌≡◌, ◌∷◌, [], ap, ◌++◌, ◌∙◌}
+use Rattle.std.proofs.Common.{◌∷◌, [], ap, ◌++◌, ◌∙◌}
 use Rattle.pas_check.specs.declared.guard.Guard.{Guard}
 use Rattle.pas_check.proofs.Guardings.{not_raised, raised}
 use Rattle.pas_check.proofs.guarding.raise.Goals as goal

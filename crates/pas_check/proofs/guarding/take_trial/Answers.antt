@@ -1,9 +1,7 @@
-use Rattle.std.proofs.Common.{◌^◌, ◌<◌, ℕ, List, refl, sym, subst, ◌∙◌, arith}
+use Rattle.std.proofs.Common.{◌^◌, ◌<◌, refl, sym, subst, ◌∙◌, arith}
 use Rattle.pas_profile.specs.Profiles.{IsValid}
-use Rattle.pas_check.specs.Calls.{IsRead, TrialEnded, TrialStays, TrialTaken}
-use Rattle.pas_check.specs.declared.guarding.Trial.{Trial}
+use Rattle.pas_check.specs.Calls.{IsRead}
 use Rattle.pas_check.proofs.Trials.{trial_begins, trial_ends, trial_goes_on, trial_lacks, trial_stays}
-use Rattle.pas_check.proofs.Takings.{if_ok}
 use Rattle.pas_check.proofs.guarding.take_trial.Goals as goal
 
 pub lines-init : goal.lines-init
@@ -21,37 +19,32 @@ returns-in_default-clause-taken c =
     trial_lacks c.args.machine.now c.args.text.now c.args.cursor.now c.args.keeper c.args.wanted.now c.lines.machine c.lines.backed c.lines.cursor c.next_line.new.cursor
     c.lines.invariant.goes c.next_line.ensures.count c.in_default.ensures.none
 
-pub returns-in-Ok-false-clause-taken : goal.returns-in-Ok-false-clause-taken
-returns-in-Ok-false-clause-taken c =
-    let stood = c.take_preparing.new.machine in
-    let new = c.end_trial.new.machine in
-    let low : c.lines.cursor.lines < 2 ^ 32 = (omega (arith, c.lines.invariant.within.lines, c.lines.invariant.within.bytes, c.requires.short)) in
+pub returns-then-not-take_preparing-clause-taken : goal.returns-then-not-take_preparing-clause-taken
+returns-then-not-take_preparing-clause-taken c =
+    let low : c.lines.cursor.lines < 2 ^ 32 = (omega (arith, c.lines.invariant.within.lines, c.lines.invariant.within.bytes, c.requires.within.short)) in
     let is : IsRead c.in-Some.line.now c.read_record-found.result = record { some = c.read_record-found.ensures.some; only = c.read_record-found.ensures.only } in
-    if_ok c.end_trial.result (λ (trial : Trial). (line : List ℕ) → IsRead line c.read_record-found.result → TrialEnded stood new c.args.keeper c.args.wanted.now line c.lines.backed c.lines.cursor trial)
-    (λ (trial : Trial). TrialTaken c.args.machine.now new c.args.text.now c.args.cursor.now c.next_line.new.cursor c.args.keeper c.args.wanted.now trial)
-    (λ trial ended. trial_ends c.args.machine.now c.args.text.now c.args.cursor.now c.args.keeper c.args.wanted.now c.lines.machine c.lines.backed c.lines.cursor c.next_line.new.cursor
-    c.lines.invariant.goes c.next_line.ensures.count c.in-Some.line.now c.requires.valid c.lines.invariant.profile low c.in-Some.ensures.some stood new c.lines.invariant.within c.in-Some.ensures.within
-    ((rw c.in-Ok-false.field-0-test at c.in-Ok-false.ensures.taken) c.in-Some.line.now is) trial (ended c.in-Some.line.now is)) c.end_trial.ensures.ended
+    trial_ends c.args.machine.now c.args.text.now c.args.cursor.now c.args.keeper c.args.wanted.now c.lines.machine c.lines.backed c.lines.cursor
+    c.next_line.new.cursor
+    c.lines.invariant.goes c.next_line.ensures.count c.in-Some.line.now c.requires.valid c.lines.invariant.profile low c.in-Some.ensures.some
+    c.take_preparing.new.machine c.end_trial.new.machine
+    c.lines.invariant.within c.in-Some.ensures.within
+    (c.if-not-take_preparing.ensures.taken c.in-Some.line.now is) c.end_trial.result (c.end_trial.ensures.ended c.in-Some.line.now is)
 
-pub returns-in-Ok-false-clause-stays : goal.returns-in-Ok-false-clause-stays
-returns-in-Ok-false-clause-stays c =
-    let stood = c.take_preparing.new.machine in
-    let new = c.end_trial.new.machine in
+pub returns-then-not-take_preparing-clause-stays : goal.returns-then-not-take_preparing-clause-stays
+returns-then-not-take_preparing-clause-stays c =
     let is : IsRead c.in-Some.line.now c.read_record-found.result = record { some = c.read_record-found.ensures.some; only = c.read_record-found.ensures.only } in
-    if_ok c.end_trial.result (λ (trial : Trial). (line : List ℕ) → IsRead line c.read_record-found.result → TrialEnded stood new c.args.keeper c.args.wanted.now line c.lines.backed c.lines.cursor trial)
-    (λ (trial : Trial). TrialStays c.args.text.now c.next_line.new.cursor trial)
-    (λ trial ended. trial_stays stood new c.args.text.now c.args.keeper c.args.wanted.now c.in-Some.line.now c.lines.backed c.lines.cursor c.next_line.new.cursor c.lines.invariant.within c.in-Some.ensures.within
-    trial (ended c.in-Some.line.now is)) c.end_trial.ensures.ended
+    trial_stays c.take_preparing.new.machine c.end_trial.new.machine c.args.text.now c.args.keeper c.args.wanted.now c.in-Some.line.now c.lines.backed
+    c.lines.cursor c.next_line.new.cursor
+    c.lines.invariant.within c.in-Some.ensures.within c.end_trial.result (c.end_trial.ensures.ended c.in-Some.line.now is)
 
 pub lines-preserved : goal.lines-preserved
 lines-preserved c =
-    let low : c.lines.cursor.lines < 2 ^ 32 = (omega (arith, c.lines.invariant.within.lines, c.lines.invariant.within.bytes, c.requires.short)) in
+    let low : c.lines.cursor.lines < 2 ^ 32 = (omega (arith, c.lines.invariant.within.lines, c.lines.invariant.within.bytes, c.requires.within.short)) in
     let is : IsRead c.in-Some.line.now c.read_record-found.result = record { some = c.read_record-found.ensures.some; only = c.read_record-found.ensures.only } in
     record {
-      profile = c.in-Ok-true.ensures.profile ∙ c.lines.invariant.profile;
+      profile = c.if-not-take_preparing.ensures.profile ∙ c.lines.invariant.profile;
       within = c.in-Some.ensures.within;
       goes = trial_goes_on c.args.machine.now c.args.text.now c.args.cursor.now c.args.keeper c.args.wanted.now c.lines.machine c.lines.backed c.lines.cursor c.next_line.new.cursor
           c.lines.invariant.goes c.next_line.ensures.count c.in-Some.line.now c.requires.valid c.lines.invariant.profile low c.in-Some.ensures.some c.take_preparing.new.machine c.in-Some.ensures.within
-          ((rw c.in-Ok-true.field-0-test at c.in-Ok-true.ensures.taken) c.in-Some.line.now is) c.has_backed-backed.result
-          (c.has_backed-backed.ensures c.in-Some.line.now is);
+          (c.if-not-take_preparing.ensures.taken c.in-Some.line.now is) c.has_backed-backed.result (c.has_backed-backed.ensures c.in-Some.line.now is);
     }

@@ -1,4 +1,4 @@
-use Rattle.std.proofs.Common.{arith, ◌∙◌}
+use Rattle.std.proofs.Common.{arith}
 use Rattle.pas_check.proofs.reading.spoken.Goals as goal
 
 pub returns : goal.returns

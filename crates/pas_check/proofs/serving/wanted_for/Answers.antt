@@ -1,4 +1,4 @@
-use Rattle.std.proofs.Common.{arith, ◌∙◌}
+use Rattle.std.proofs.Common.{arith}
 use Rattle.pas_check.proofs.Servings.{class_kind}
 use Rattle.pas_check.proofs.serving.wanted_for.Goals as goal
 

@@ -1,5 +1,5 @@
 use Rattle.std.proofs.Common.{arith}
-use Rattle.pas_check.proofs.Takings.{entry_amiss, entry_outside, entry_stepped, if_ok}
+use Rattle.pas_check.proofs.Takings.{entry_amiss, entry_outside, entry_stepped}
 use Rattle.pas_check.proofs.taking.take_entry.Goals as goal
 
 pub returns-then-not-is_place-clause-taken : goal.returns-then-not-is_place-clause-taken
@@ -10,4 +10,4 @@ returns-then-not-is_line-clause-taken c =
     entry_amiss c.args.actor c.args.entry c.args.epoch c.args.line.now c.args.machine.now c.event_for-event.result c.event_for-event.ensures.event c.if-not-is_line.ensures
 
 pub returns-clause-taken : goal.returns-clause-taken
-returns-clause-taken c = search (arith, if_ok, entry_stepped, c.step.ensures.stepped)
+returns-clause-taken c = search (arith, entry_stepped, c.step.ensures.stepped)

@@ -1,8 +1,7 @@
-use Rattle.std.proofs.Common.{◌≡◌, ℕ, List, sym, subst, ◌∙◌, arith, IfSome}
+use Rattle.std.proofs.Common.{◌≡◌, sym, subst, ◌∙◌, arith, IfSome}
 use Rattle.std.proofs.lemmas.Option.{same_Some}
 use Rattle.pas_report.specs.Lines.{line_of_event}
-use Rattle.pas_check.specs.Calls.{IsRead, IsStepped, PreparingTaken}
-use Rattle.pas_check.proofs.Takings.{preparing_none, preparing_other, preparing_stepped, if_ok}
+use Rattle.pas_check.proofs.Takings.{preparing_none, preparing_other, preparing_stepped}
 use Rattle.pas_check.proofs.taking.take_preparing.Goals as goal
 
 pub returns-in_default-clause-taken : goal.returns-in_default-clause-taken
@@ -16,10 +15,8 @@ returns-then-not-prepares-clause-taken c = λ line is.
     (λ g fits has. same_Some c.in-Some.event g (sym c.in-Some.is ∙ (c.event_read.ensures line is).only g fits has)) c.if-not-prepares.ensures
 
 pub returns-clause-taken : goal.returns-clause-taken
-returns-clause-taken c =
-    if_ok c.step.result (λ taken. IsStepped c.args.machine.now c.step.new.machine c.in-Some.event taken)
-    (λ taken. (line : List ℕ) → IsRead line c.args.found.now → PreparingTaken c.args.machine.now c.step.new.machine c.args.actor c.args.directory line taken)
-    (λ taken stepped line is.
+returns-clause-taken c = λ line is.
     preparing_stepped c.args.actor c.args.directory (omega arith) (omega arith) c.requires.kind line c.args.machine.now c.requires.valid c.step.new.machine c.in-Some.event
     (subst (λ o. IfSome o (λ e. line ≡ line_of_event e)) c.in-Some.is (c.event_read.ensures line is).some)
-    (λ g fits same. same_Some c.in-Some.event g (sym c.in-Some.is ∙ (c.event_read.ensures line is).only g fits same)) c.if-not-prepares.ensures taken stepped) c.step.ensures.stepped
+    (λ g fits same. same_Some c.in-Some.event g (sym c.in-Some.is ∙ (c.event_read.ensures line is).only g fits same)) c.if-not-prepares.ensures c.step.result
+    c.step.ensures.stepped

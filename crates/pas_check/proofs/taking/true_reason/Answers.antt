@@ -1,4 +1,4 @@
-use Rattle.std.proofs.Common.{◌≡◌, ◌*◌, ◌/◌, ◌∙◌, arith}
+use Rattle.std.proofs.Common.{arith}
 use Rattle.pas_check.proofs.Entries.{block_there, nothing_there}
 use Rattle.pas_check.proofs.taking.true_reason.Goals as goal
 
