@@ -102,7 +102,11 @@ isnt_true test k h = at (test k) refl
 
 -- a row of fewer actors, none of which made a step
 row_of_fewer : (test : ℕ → Bool) (r : Row) (l : Whole) → r.made ≡ [] → IsRowOf r l → IsRowOf (row_of_only test r) l
-row_of_fewer test r l none h = search (arith, no_steps_by_fewer, among_only)
+row_of_fewer test r l none h = record {
+  since = h.since;
+  goes_on = h.goes_on;
+  made_is = no_steps_by_fewer (among (only test r.actors)) (among r.actors) h.since (λ k its. (among_only test r.actors k its).0) (h.made_is ∙ ap steps_of none) ∙ sym (ap steps_of none);
+}
 
 pub gives : (f : Profile) (id : ℕ) (test : ℕ → Bool) (r : Row) → r.made ≡ [] → Splits (Holds f) id (Benched (r ∷ [])) (Benched (row_of_only (isnt test) r ∷ [])) (Benched (row_of_only test r ∷ []))
 gives f id test r none s h there = record {
@@ -307,7 +311,11 @@ pub made_next : (r : Row) (k : ℕ) (m : Made) → made_in (row_with k m r) k �
 made_next r k m = part_of_own k (m ∷ []) (steps_of r.made ++ steps_of r.base)
 
 pub stands_next : (r : Row) (k : ℕ) (m : Made) (l : Whole) → among r.actors k ≡ true → StandsOver r l → StandsOver (row_with k m r) (triple k m ∷ l)
-stands_next r k m l its h = search (arith, step_taken)
+stands_next r k m l its h = record {
+  before = h.before;
+  order = step_taken (among r.actors) (triple k m) l its ∙ ap (λ (n : Whole). triple k m ∷ n) h.order;
+  parts = h.parts;
+}
 
 -- beside a list that tells of the row's actors what the row tells, a desk at a row in which nobody made a step stands
 pub stands_first : (r : Row) (l : Whole) → r.made ≡ [] → ((k : ℕ) → among r.actors k ≡ true → part k l ≡ part k (steps_of r.base)) → StandsOver r l

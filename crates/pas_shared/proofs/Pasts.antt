@@ -1,5 +1,5 @@
 -- Two pasts that become one, and what stands behind a past.
-use Rattle.std.proofs.Common.{arith, ◌≡◌, ℕ, ◌==◌, if◌then◌else◌, Bool, true, false, List, [], ◌∷◌, ◌++◌, refl, ap}
+use Rattle.std.proofs.Common.{arith, ◌≡◌, ℕ, ◌==◌, if◌then◌else◌, Bool, true, false, List, [], ◌∷◌, ◌++◌, refl, sym, ap, ◌∙◌}
 use Rattle.std.proofs.lemmas.List.{append_cancel_right}
 use Rattle.atomic_table.specs.Table.{Me}
 use Rattle.pas_steps.specs.{Views.View, Lists.Whole, Lists.part}
@@ -33,4 +33,8 @@ part_both k [] m = refl
 part_both k (t ∷ l) m = one_more (t.actor == k) t.made (part k l) (part k m) (part k (l ++ m)) (part_both k l m)
 
 pub stands_after : (first whole : Whole) (k : ℕ) (v since : View) → IsEarlier first whole → HasOwn k v first → part k whole ≡ since ++ v → StandsAfter first k since whole
-stands_after first whole k v since earlier own now = search (arith, append_cancel_right, part_both)
+stands_after first whole k v since earlier own now = record {
+  later = earlier.0;
+  whole_is = earlier.1;
+  own = append_cancel_right (part k earlier.0) since v (ap (λ (x : View). part k earlier.0 ++ x) (sym own) ∙ (sym (part_both k earlier.0 first) ∙ (ap (part k) (sym earlier.1) ∙ now)));
+}
