@@ -33,13 +33,12 @@ sits_after {f} {k} {Rest} {Rest'} {σ} {σ'} {l} {need} {need'} {steps} s calls 
     let seat = calls.adds.seat_is in
     let mine : part k (triples k steps ++ l) ≡ steps ++ v = part_of_own k steps l in
     let grown = ap length (events_split k steps v) ∙ length-append (events_by k v steps) (events_of k v) in
-    let room = s.room in
     record {
       actor = ap (λ (t : Seat). t.actor) seat ∙ s.actor;
       profile = ap (λ (t : Seat). t.profile) seat ∙ s.profile;
       stood = subst (λ (z : View × ℕ). σ'.stands z.0 (triples z.1 steps ++ l)) (λ i. (sym mine i, s.actor i)) (calls.adds.added v l s.stood s.rest);
       rest = subst Rest' (sym mine) (calls.leads.from v s.rest (calls.adds.agreed v l s.stood s.rest));
-      room = subst (λ (z : View × Seat). length (events_of k z.0) + need' ≤ z.1.room) (λ i. (sym mine i, sym seat i)) (omega (arith, grown, few, room));
+      room = subst (λ (z : View × Seat). length (events_of k z.0) + need' ≤ z.1.room) (λ i. (sym mine i, sym seat i)) (omega (arith, grown, few, s.room));
     }
 
 -- ---- while another actor makes steps
@@ -64,17 +63,12 @@ pub rests_after : {f : Profile} {k : ℕ} {σ σ' : Standing} {c c' : Cached} {o
     → records_in out' ≡ records_in out ++ own → room_of out' ≡ room_of out → length (events_by k (part k p.list) moves.steps) ≤ length own → length own + owed_events f c' (part k q.list) ≤ cost + owed_events f c (part k p.list) → RestsAt f k σ' c' out' later q
 rests_after {f} {k} {σ} {σ'} {c} {c'} {out} {out'} {later} {p} {q} cost own at moves cache pushed room few paid =
     let longer = ap (λ (rs : List Record). length rs) pushed ∙ length-append (records_in out) own in
-    let spare = at.spare in
     record {
       sits = subst (λ (l : Whole). Sits f k (AtRest f c') σ' l (owed_events f c' (part k q.list) + later.events)) (sym moves.list_is) (sits_after at.sits moves.calls (omega (arith, few, paid)));
       cache = cache;
-      spare = omega (arith, longer, paid, spare, room);
+      spare = omega (arith, longer, paid, at.spare, room);
     }
 
 -- it rests at each progress at which it has the same in hand
 pub rests_still : {f : Profile} {k : ℕ} {σ σ' : Standing} {c : Cached} {out : Records} {later : Later} {p q : Progress} → StandsStill σ σ' p.list q.list → part k q.list ≡ part k p.list → q.caches k ≡ p.caches k → RestsAt f k σ c out later p → RestsAt f k σ' c out later q
-rests_still {f} {k} {σ} {σ'} {c} {out} {later} still parts caches at = record {
-  sits = sits_still (λ (w : View). owed_events f c w + later.events) still parts at.sits;
-  cache = caches ∙ at.cache;
-  spare = subst (λ (w : View). length (records_in out) + (owed_events f c w + later.records) ≤ room_of out) (sym parts) at.spare;
-}
+rests_still {f} {k} {σ} {σ'} {c} {out} {later} still parts caches at = search (arith, sits_still)

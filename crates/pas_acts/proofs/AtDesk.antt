@@ -1,5 +1,5 @@
 -- The acts of a thread at its desk: an operation, its stop, and its reading of the epoch.
-use Rattle.std.proofs.Common.{◌≡◌, ℕ, ◌+◌, ◌≤◌, ◌==◌, if◌then◌else◌, inl, inr, List, [], ◌∷◌, ◌++◌, length, Option, None, refl, ap, sym, ◌∙◌, subst, arith}
+use Rattle.std.proofs.Common.{◌≡◌, ℕ, ◌+◌, ◌≤◌, ◌==◌, if◌then◌else◌, inr, List, [], ◌∷◌, ◌++◌, length, Option, None, refl, ap, sym, ◌∙◌, subst, arith}
 use Rattle.std.proofs.Common.{length-append, append-nil, eq-eqb}
 use Rattle.pas_profile.specs.declared.{profile.Profile.Profile, name.Block.Block, event.Range.Range}
 use Rattle.pas_steps.specs.{Agreement.Agreed, Calls.Calls, Events.events_of, Events.events_by, Lists.Whole, Lists.part, Views.View, Desks.Standing}
@@ -42,15 +42,13 @@ may_answer {f} {k} {what} {meant} {σ} {c} {out} {later} {p} spare fits may =
     let v = part k p.list in
     let s = may.rests.sits in
     let is = subst (λ (j : ℕ). spare + length (events_of j v) ≡ σ.seat.room) s.actor (fits v p.list s.stood) in
-    let room = s.room in
-    let records = may.rests.spare in
     record {
       view = v;
       whole = p.list;
       stood = s.stood;
       met = subst (λ (g : Profile). MayAnswer g c what spare out v) (sym s.profile) record {
-        may = record { rest = s.rest; room = omega (arith, is, room) };
-        records = omega (arith, records);
+        may = record { rest = s.rest; room = omega (arith, is, s.room) };
+        records = omega (arith, may.rests.spare);
       };
     }
 
@@ -85,16 +83,11 @@ module _ {f : Profile} {k : ℕ} {what : What} {meant came : Option Block} {σ �
   pushed_so = of_seat may.rests.sits (λ (j : ℕ) (g : Profile). records_in out' ≡ records_in out ++ (records_of (events_by j v steps) ++ said_by j did.said)) (did.pushed v p.list may.rests.sits.stood was_at_rest)
 
   few_so : length (events_by k v steps) + length (said_by k did.said) + owed_events f c1 (steps ++ v) ≤ cost_of_what what + owed_events f c v
-  few_so = of_seat may.rests.sits (λ (j : ℕ) (g : Profile). length (events_by j v steps) + length (said_by j did.said) + owed_events g c1 (steps ++ v) ≤ cost_of_what what + owed_events g c v)
-      (did.performs.few v was_at_rest (did.performs.calls.adds.agreed v p.list may.rests.sits.stood was_at_rest))
+  few_so = search (arith, of_seat, was_at_rest)
 
   -- so is what came to its records, where it has a cache whose log is the same
   paid_so : (c' : Cached) → length c'.log ≡ length c1.log → length piece + owed_events f c' (part k (triples k steps ++ p.list)) ≤ cost_of_what what + owed_events f c v
-  paid_so c' log =
-      let owed = ap (λ (w : View). owed_events f c' w) (part_of_own k steps p.list) in
-      let both = length-append (records_of (events_by k v steps)) (said_by k did.said) in
-      let count = records_count (events_by k v steps) in
-      omega (arith, few_so, log, owed, both, count)
+  paid_so c' log = search (arith, part_of_own, length-append, records_count, few_so)
 
   -- the thread rests again with that
   rests_again : {c' : Cached} {q : Progress} → (moves : Moves k (AtRest f c) (AtRest f c') σ σ' p q) → moves.steps ≡ steps → length c'.log ≡ length c1.log → q.caches k ≡ c' → RestsAt f k σ' c' out' later q
@@ -204,9 +197,7 @@ module _ {f : Profile} {k : ℕ} {σ σ' : Standing} {c c1 : Cached} {out out' :
 
   -- where it was idle for n epochs
   pub was_stopped : {n epoch : ℕ} → p.epoch ≡ epoch → c.idle_since + n ≤ epoch → ThreadActs f k (StopsIdle k n ∷ []) [] (stopped k) (here σ c out) (here σ' c1 out') later p
-  was_stopped {n} read idle =
-      let since = ap (λ (d : Cached). d.idle_since) at.cache in
-      stops (StopsIdle k n) (stopped k) (after_stop p k flush c1 (stopped k), inl (omega (arith, since, read, idle), flush, c1, is_stopped, refl), refl)
+  was_stopped {n} read idle = search (arith, stops, is_stopped)
 
 pub has_stayed : {f : Profile} {k n epoch : ℕ} {σ : Standing} {c : Cached} {out : Records} {later : Later} {p : Progress} → RestsAt f k σ c out later p → p.epoch ≡ epoch → (c.idle_since + n ≤ epoch → ⊥)
     → ThreadActs f k (StopsIdle k n ∷ []) [] [] (here σ c out) (here σ c out) later p
@@ -265,9 +256,4 @@ has_begun {f} {k} {σ} {σ'} {c} {c'} {out} {later} {p} at did =
 
 -- ---- what a thread's acts leave as it was
 pub leaves_rest : {f : Profile} {k : ℕ} {acts : List Act} {told : List Record} {old new : Here} {later : Later} {p : Progress} → (did : ThreadActs f k acts [] told old new later p) → LeavesRest k p did.reached
-leaves_rest {k = k} {p = p} did = record {
-  parts = λ j ne. ap (λ (l : Whole). part j l) did.moves.list_is ∙ part_of_others j k did.moves.steps p.list (λ (e : k ≡ j). ne (sym e));
-  caches = did.caches;
-  names = did.names;
-  epoch = did.epoch;
-}
+leaves_rest {k = k} {p = p} did = search (arith, part_of_others)

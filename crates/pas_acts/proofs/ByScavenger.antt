@@ -2,10 +2,10 @@
 use Rattle.std.proofs.Common.{◌≡◌, ℕ, ◌+◌, ◌≤◌, List, [], ◌∷◌, ◌++◌, length, max, reverse, refl, ap, sym, ◌∙◌, subst, arith, length-append, append-nil}
 use Rattle.std.proofs.lemmas.List.{length-map, length-reverse}
 use Rattle.pas_profile.specs.declared.{profile.Profile.Profile, event.Event.Event, event.Outcome.Outcome, word.Word.Word}
-use Rattle.pas_steps.specs.{Calls.Calls, Clear.HasNothing, Events.events_by, Events.events_of, Lists.Whole, Lists.part, Views.View}
+use Rattle.pas_steps.specs.{Calls.Calls, Clear.HasNothing, Events.events_by, Events.events_of, Lists.Whole, Lists.part}
 use Rattle.pas_steps.specs.Desks.{CanCall, Standing, Makes, made}
 use Rattle.pas_steps.specs.declared.step.{Made.Made, Step.TheVariants.Look, Step.TheVariants.Tick}
-use Rattle.pas_steps.proofs.{SpareRoom.Spares, Parts.part_of_own}
+use Rattle.pas_steps.proofs.SpareRoom.{Spares}
 use Rattle.pas_scavenger.specs.Passes.{PassSteps}
 use Rattle.pas_report.specs.Rooms.{records_in, room_of, Records}
 use Rattle.pas_report.specs.declared.record.{Record.Record, Said.Said}
@@ -34,10 +34,9 @@ room_again : {f : Profile} {σ σ' : Standing} {out out' : Records} {p q : Progr
     → length (events_by 0 (part 0 p.list) moves.steps) ≤ unbacks_of_act f act → length says.said ≤ cost_of_act f act → HasRoomAt f σ' out' later q
 room_again {f} {σ} {σ'} {out} {out'} {p} {q} act later at moves says few paid =
     let longer = ap (λ (rs : List Record). length rs) says.pushed ∙ length-append (records_in out) says.said in
-    let spare = at.spare in
     record {
       sits = subst (λ (l : Whole). Sits f 0 HasNothing σ' l later.events) (sym moves.list_is) (sits_after at.sits moves.calls (omega (arith, few)));
-      spare = omega (arith, longer, spare, says.room, paid);
+      spare = omega (arith, longer, at.spare, says.room, paid);
     }
 
 pub has_ticked : {f : Profile} {σ σ' : Standing} {out out' : Records} {later : Later} {p : Progress} (epoch : ℕ) → HasRoomAt f σ out (for_act f (Ticks epoch) later) p
@@ -47,8 +46,7 @@ has_ticked {f} {σ} {σ'} {out} {out'} {later} {p} epoch at ticks room =
     let said : List Record = Record.Said 0 (Said.Tick (max ticks.answer epoch)) ∷ [] in
     let q = after_tick p epoch ticks.answer in
     let moves : Moves 0 HasNothing HasNothing σ σ' p q = record { steps = steps; list_is = refl; calls = subst (λ (ms : List Made). Calls σ σ' HasNothing (λ v w. HasNothing w) ms) ticks.steps_are ticks.calls } in
-    let added : records_in out' ≡ records_in out ++ said = ticks.added ∙ ap (λ (k : ℕ). records_in out ++ Record.Said k (Said.Tick ticks.epoch) ∷ []) at.sits.actor
-    ∙ ap (λ (e : ℕ). records_in out ++ Record.Said 0 (Said.Tick e) ∷ []) (ticks.raised 0) in
+    let added : records_in out' ≡ records_in out ++ said = cc (ticks.raised 0) in
     let says : Says 0 out out' p q = record { said = said; records_are = refl; pushed = added; room = room; each = (λ k. refl, tt) } in
     record { reached = q; reaches = (q, (ticks.answer, refl), refl); stands = room_again (Ticks epoch) later at moves says (omega arith) (omega arith); moves = moves; says = says; caches = refl; books = refl; names = refl }
 

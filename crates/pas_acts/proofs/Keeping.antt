@@ -1,6 +1,6 @@
 -- A keeper at its desk: a guarded request that it tries, and the close.
-use Rattle.std.proofs.Common.{◌≡◌, ◌≢◌, ℕ, ◌+◌, ◌≤◌, Bool, true, false, if◌then◌else◌, List, [], ◌∷◌, ◌++◌, length, Option, None, Some, refl, ap, sym, ◌∙◌}
-use Rattle.std.proofs.Common.{subst, arith, length-append, eq-eqb, ne_eqb}
+use Rattle.std.proofs.Common.{◌≡◌, ◌≢◌, ℕ, ◌+◌, ◌≤◌, Bool, true, if◌then◌else◌, List, [], ◌++◌, length, Option, None, Some, refl, ap, sym, ◌∙◌, subst, arith}
+use Rattle.std.proofs.Common.{length-append, eq-eqb, ne_eqb}
 use Rattle.pas_profile.specs.declared.{event.Event.Event, name.Block.Block, profile.Profile.Profile}
 use Rattle.pas_steps.specs.{Agreement.Agreed, Calls.Calls, Desks.Standing, Desks.CanCall, Events.events_of, Events.events_by, Lists.Whole, Lists.part}
 use Rattle.pas_steps.specs.{Unknown.unknown_pages, Views.View}
@@ -8,9 +8,9 @@ use Rattle.pas_steps.specs.declared.step.Made.{Made}
 use Rattle.pas_steps.proofs.{Apart.no_events, Parts.part_of_own, SpareRoom.Spares, Unknown.unknown_stays}
 use Rattle.pas_trace.specs.{Acts.Guards, Asked.request_in, Reasons.cost_of_size}
 use Rattle.pas_trace.specs.declared.{item.Request.Request, plan.Op.Op}
-use Rattle.pas_report.specs.Rooms.{records_in, room_of, Records}
+use Rattle.pas_report.specs.Rooms.{records_in, Records}
 use Rattle.pas_report.specs.declared.record.Record.{Record}
-use Rattle.pas_guard.specs.{Books.FitsBook, Books.guards_in, Raises.RaiseSteps, Raises.guard_of, Sweeps.sweeping}
+use Rattle.pas_guard.specs.{Books.FitsBook, Books.guards_in, Raises.RaiseSteps, Sweeps.sweeping}
 use Rattle.pas_guard.specs.declared.book.{Guard.Guard, GuardBook.GuardBook}
 use Rattle.pas_answers.specs.{Answers.Books, Answers.with_book, Answers.Progress, Calls.MayStand}
 use Rattle.pas_answers.specs.Guarding.{Tried, try_steps, IsTried, after_trying, after_giving, IsLowered, after_lowering}
@@ -56,13 +56,7 @@ sits_owing {f} {k} {Rest} {σ} {l} {v} n mine s = subst (λ (w : View). Sits f k
 
 -- the keeper is there still, while another actor makes steps
 pub keeper_still : {f : Profile} {k : ℕ} {has has' : KeeperHas} {later : LaterKept} {p q : Progress} → HasStill has has' p.list q.list → part k q.list ≡ part k p.list → q.books k ≡ p.books k → KeeperAt f k has later p → KeeperAt f k has' later q
-keeper_still {f} {k} {has} {has'} {later} {p} {q} still parts books at =
-    subst (λ (z : GuardBook × Records). KeeperAt f k (keeper_has has'.desk z.0 z.1) later q) (λ i. (sym still.book i, sym still.out i)) record {
-      sits = sits_still (λ (w : View). unknown_pages f w + later.events) still.desk parts at.sits;
-      book = books ∙ at.book;
-      spare = subst (λ (w : View). length (records_in has.out) + (owed_by_keeper f (guards_in has.book) w + later.records) ≤ room_of has.out) (sym parts) at.spare;
-      places = at.places;
-    }
+keeper_still {f} {k} {has} {has'} {later} {p} {q} still parts books at = search (arith, sits_still)
 
 -- ---- a request is tried
 pub may_try : {f : Profile} {k : ℕ} {σ : Standing} {book : GuardBook} {out : Records} {p : Progress} (later : LaterKept) (size spare : ℕ) → Spares σ spare → At f k σ book out (and_try size later) p → CanCall σ (MayTry σ.seat.profile book size spare out)
@@ -70,8 +64,6 @@ may_try {f} {k} {σ} {book} {out} {p} later size spare fits at =
     let v = part k p.list in
     let s = at.sits in
     let is = subst (λ (j : ℕ). spare + length (events_of j v) ≡ σ.seat.room) s.actor (fits v p.list s.stood) in
-    let room = s.room in
-    let records = at.spare in
     record {
       view = v;
       whole = p.list;
@@ -79,8 +71,8 @@ may_try {f} {k} {σ} {book} {out} {p} later size spare fits at =
       met = subst (λ (g : Profile). MayTry g book size spare out v) (sym s.profile) record {
         fits = s.rest;
         place = omega (arith, at.places);
-        room = omega (arith, is, room);
-        records = omega (arith, records);
+        room = omega (arith, is, s.room);
+        records = omega (arith, at.spare);
       };
     }
 
@@ -90,14 +82,10 @@ few_cost size (Some block) = omega arith
 
 -- the book has one guard more at most
 one_more : (f : Profile) (heap k : ℕ) (guards guards' : List Guard) (answer : Option Block) (steps : List Made) → RaiseSteps f heap k guards guards' answer steps → length guards' ≤ length guards + 1
-one_more f heap k guards guards' None steps is = let same = ap (λ (gs : List Guard). length gs) is.outcome.same in omega (arith, same)
-one_more f heap k guards guards' (Some block) steps is = let same = ap (λ (gs : List Guard). length gs) is.outcome.raised ∙ length-append guards (guard_of is.outcome.first k block ∷ []) in omega (arith, same)
+one_more f heap k guards guards' answer steps h = grind (arith, length-append)
 
 few_guards : (f : Profile) (keeper : ℕ) (r : Request) (v : View) (guards : List Guard) (t : Tried) → IsTried f keeper r v guards t → length t.guards ≤ length guards + 1
-few_guards f keeper r v guards t is =
-    let swept = swept_count false keeper guards is.left is.lowered is.swept is.sweep.swept in
-    let more = one_more f r.heap _ is.left t.guards t.block is.raised is.raise in
-    omega (arith, swept, more)
+few_guards f keeper r v guards t is = omega (arith, swept_count, one_more)
 
 pub has_tried : {f : Profile} {k : ℕ} {σ σ' : Standing} {book book' : GuardBook} {out out' : Records} {p : Progress} {block : Option Block} (later : LaterKept) (r : Request) → At f k σ book out (and_try r.size later) p → TriesRequest r book book' out out' σ σ' block → MayStand σ.seat.profile block
     → KeeperTries f k r block (keeper_has σ book out) (keeper_has σ' book' out') later p
@@ -119,9 +107,7 @@ has_tried {f} {k} {σ} {σ'} {book} {book'} {out} {out'} {p} {block} later r at 
     let longer = ap (λ (rs : List Record). length rs) got.2 ∙ length-append (records_in out) got.0 in
     let paid = got.3 in
     let cost = few_cost r.size block in
-    let spare = at.spare in
     let room = did.room in
-    let places = at.places in
     let size = did.size in
     let guards = few_guards f k r v (guards_in book) tried got.1 in
     record {
@@ -133,8 +119,8 @@ has_tried {f} {k} {σ} {σ'} {book} {book'} {out} {out'} {p} {block} later r at 
       stands = record {
         sits = sits_owing later.events mine (sits_after s calls (omega (arith, few)));
         book = its_book p.books k (guards_in book');
-        spare = omega (arith, longer, spare, room, owed, paid, cost);
-        places = omega (arith, places, size, guards);
+        spare = omega (arith, longer, at.spare, room, owed, paid, cost);
+        places = omega (arith, at.places, size, guards);
       };
       moves = record { steps = steps; list_is = refl; calls = calls };
       pushed = got.2;
@@ -147,12 +133,11 @@ has_tried {f} {k} {σ} {σ'} {book} {book'} {out} {out'} {p} {block} later r at 
 -- ---- the close
 pub may_lower : {f : Profile} {k : ℕ} {σ : Standing} {book : GuardBook} {out : Records} {later : LaterKept} {p : Progress} → At f k σ book out later p → CanCall σ (MayLowerAll σ.seat.profile book out)
 may_lower {f} {k} {σ} {book} {out} {later} {p} at =
-    let records = at.spare in
     record {
       view = part k p.list;
       whole = p.list;
       stood = at.sits.stood;
-      met = record { fits = fits_seat at; records = omega (arith, records) };
+      met = record { fits = fits_seat at; records = omega (arith, at.spare) };
     }
 
 pub has_lowered : {f : Profile} {k : ℕ} {σ σ' : Standing} {book book' : GuardBook} {out out' : Records} {later : LaterKept} {p : Progress} → At f k σ book out later p → LowersAll book book' out out' σ σ'
@@ -173,9 +158,7 @@ has_lowered {f} {k} {σ} {σ'} {book} {book'} {out} {out'} {later} {p} at did =
     let none = ap (λ (gs : List Guard). length gs) did.none in
     let longer = ap (λ (rs : List Record). length rs) did.added ∙ length-append (records_in out) did.said in
     let few = did.few in
-    let spare = at.spare in
     let room = did.room in
-    let places = at.places in
     let size = did.size in
     record {
       reached = q;
@@ -183,8 +166,8 @@ has_lowered {f} {k} {σ} {σ'} {book} {book'} {out} {out'} {later} {p} at did =
       stands = record {
         sits = sits_owing later.events mine (sits_after s calls (omega (arith, silent, unknown)));
         book = its_book p.books k [] ∙ sym did.none;
-        spare = omega (arith, longer, spare, room, left, unknown, none, few);
-        places = omega (arith, none, places, size);
+        spare = omega (arith, longer, at.spare, room, left, unknown, none, few);
+        places = omega (arith, none, at.places, size);
       };
       none = did.none;
       moves = record { steps = steps; list_is = refl; calls = subst (λ (gs : List Guard). Calls σ σ' (FitsBook f (guards_in book)) (λ u w. FitsBook f gs w) steps) did.none calls };

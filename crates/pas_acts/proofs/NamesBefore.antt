@@ -9,15 +9,13 @@ pub use Rattle.pas_trace.proofs.EveryPlan.{below_front}
 use Rattle.pas_trace.specs.Asked.{work_of, of_task, request_of, freed_of, request_in, keeper_in}
 use Rattle.pas_trace.specs.EveryPlan.{is_asked, asked_with, asked_after, asked_by, AreSound, IsSoundTask, IsSoundWork, IsActorBy, IsThread}
 use Rattle.pas_trace.specs.EveryPhase.{FreesItsOwn}
-use Rattle.pas_trace.specs.declared.{plan.What.What, plan.What.TheVariants.Alloc, plan.What.TheVariants.Guarded, plan.What.TheVariants.Remake}
-use Rattle.pas_trace.specs.declared.{item.Request.Request, plan.Task.Task, plan.Work.Work, plan.Op.Op}
+use Rattle.pas_trace.specs.declared.{plan.What.What, item.Request.Request, plan.Task.Task, plan.Work.Work, plan.Op.Op}
 use Rattle.pas_trace.specs.Acts.{Act, Settles, act_kept, own_acts}
 use Rattle.pas_answers.specs.{Answers.Named, Answers.standing_for, Answers.Progress, Calls.block_behind, Calls.MayStand, Names.block_named, Names.names_held}
 use Rattle.pas_answers.specs.{Replays.at_start}
 use Rattle.pas_answers.specs.Fit.{KeepsAbove, IsFitTask, IsFitWork, IsFitWhat, AreFit, AreBelow, cost_of_what, own_costs_of}
 use Rattle.pas_answers.specs.declared.names.Names.{Names}
-use Rattle.pas_acts.specs.NameBooks.{requests_in, room_for, name_asked, name_asked_by, names_asked, names_of, ArePlaced, came_to, known_in, table, NamesAt}
-use Rattle.pas_acts.specs.NameBooks.{Requests}
+use Rattle.pas_acts.specs.NameBooks.{requests_in, room_for, name_asked, names_asked, names_of, ArePlaced, came_to, known_in, table, NamesAt, Requests}
 use Rattle.pas_acts.specs.Works.{KnowsNames}
 use Rattle.pas_acts.specs.declared.names.NameBook.{NameBook}
 use Rattle.pas_acts.proofs.{Noting.is_same, Noting.not_before, Pairing.kept_cost, Places.kept_asks}
@@ -54,22 +52,15 @@ smaller_if false what few many small n none = small n (not_before what many n no
 
 fit_task : (f : Profile) (limit : ℕ) (few many : List ℕ) (task : Task) → IsSmaller few many → IsSoundTask f many task → MatchOption (request_of task) (Unit {0}) (λ r. r.name < limit) → MatchOption (freed_of task) (Unit {0}) (λ n. is_asked few n ≡ true)
     → IsFitTask f limit few task
-fit_task f limit few many (Task.Request name heap size align) small sound below frees = (below, (sound.0, small name sound.1))
-fit_task f limit few many (Task.Guarded keeper name heap size align) small sound below frees = (below, (sound.0, small name sound.1, sound.2))
-fit_task f limit few many (Task.Free name room) small sound below frees = (below, (frees, sound.1))
-fit_task f limit few many (Task.Remake name old heap size align) small sound below frees = (below, (sound.0, small name sound.1, frees))
-fit_task f limit few many task small sound below frees = (below, sound)
+fit_task f limit few many task h i j k = grind arith
 
 fit_work : (f : Profile) (limit k : ℕ) (few many : List ℕ) (work : Work) → 1 ≤ k → IsSmaller few many → IsActorBy f work k → IsSoundWork f many work → MatchOption (of_task request_of work) (Unit {0}) (λ r. r.name < limit)
     → MatchOption (of_task freed_of work) (Unit {0}) (λ n. is_asked few n ≡ true) → IsThread f k × IsFitWork f limit few work
-fit_work f limit k few many (Work.Own task) some small actor sound below frees = (actor, fit_task f limit few many task small sound below frees)
-fit_work f limit k few many (Work.Chore chore) some small actor sound below frees = absurd (omega (arith, some, actor))
+fit_work f limit k few many work h i j m p q = grind (arith, fit_task)
 
 fit_if : (t : Bool) (f : Profile) (limit : ℕ) (asked : List ℕ) (keeper : Option ℕ) (op : Op) (acts : List Act) → MatchOption keeper (Unit {0}) (λ k. IsThread f k × (op.actor < k)) → (t ≡ true → IsThread f op.actor × IsFitWhat f limit asked op.what)
     → AreFit f limit (if t then asked_after op.what asked else asked) acts → AreFit f limit asked (if t then act_kept keeper op ∷ (Settles op.actor ∷ acts) else acts)
-fit_if true f limit asked None op acts above here rest = let fit = here refl in (fit.0, fit.1, rest)
-fit_if true f limit asked (Some keeper) op acts above here rest = let fit = here refl in (above.0, above.1, fit.0, fit.1, rest)
-fit_if false f limit asked keeper op acts above here rest = rest
+fit_if t f limit asked keeper op acts h i j = grind arith
 
 own_fit : (f : Profile) (limit k : ℕ) (few many : List ℕ) (ops : List Op) → 1 ≤ k → IsSmaller few many → AreSound f many ops → AllByRecursion (KeepsAbove f) ops → AreBelow limit ops → FreesItsOwn k few ops → AreFit f limit few (own_acts k ops)
 own_fit f limit k few many [] some small sound above below frees = tt
@@ -83,10 +74,7 @@ own_fit f limit k few many (op ∷ ops) some small sound above below frees =
 
 -- ---- there is room for its requests
 few_asked : (what : What) → length (name_asked what) ≤ cost_of_what what
-few_asked (Alloc name heap size align) = let one = some_cost size in omega (arith, one)
-few_asked (Guarded keeper name heap size align) = let one = some_cost size in omega (arith, one)
-few_asked (Remake name old heap size align) = omega arith
-few_asked what = omega arith
+few_asked what = grind (arith, some_cost)
 
 own_asked : (k : ℕ) (ops : List Op) → length (names_asked (own_acts k ops)) ≤ own_costs_of k (own_acts k ops)
 own_asked k [] = omega arith
@@ -97,11 +85,7 @@ own_asked k (op ∷ ops) =
     let Holds = λ (t : Bool). length (names_asked (if t then head ∷ (Settles op.actor ∷ acts) else acts)) ≤ own_costs_of k (if t then head ∷ (Settles op.actor ∷ acts) else acts) in
     elim (cases_eq op.actor k) [
       | inl same ↦
-          let cost = kept_cost k (keeper_in op.what) op ∙ ap (λ (t : Bool). if t then cost_of_what op.what else 0) (eq-eqb op.actor k same) in
-          let one = few_asked op.what in
-          let asks = ap (λ (ns : List ℕ). length ns) (kept_asks (keeper_in op.what) op) in
-          let both = length-append (name_asked_by head) (names_asked acts) in
-          subst Holds (sym (eq-eqb op.actor k same)) (omega (arith, rest, cost, one, asks, both))
+          search (arith, kept_cost, eq-eqb, few_asked, kept_asks, length-append)
       | inr other ↦ subst Holds (sym (ne_eqb op.actor k other)) rest
     ]
 

@@ -76,9 +76,8 @@ never_before [] asked n none = none
 never_before (op ∷ ops) asked n none = (not_before op.what asked n (never_before ops (asked_after op.what asked) n none)).1
 
 if_none : (t : Bool) (ms ns : List ℕ) (n : ℕ) → is_asked ms n ≡ false → is_asked ns n ≡ false → is_asked ((if t then ms else []) ++ ns) n ≡ false
-if_none true [] ns n one two = two
 if_none true (m ∷ ms) ns n one two = let both = or_parts (m == n) (is_asked ms n) one in ap (λ (s : Bool). s || is_asked (ms ++ ns) n) both.0 ∙ if_none true ms ns n both.1 two
-if_none false ms ns n one two = two
+if_none _ _ ns n one two = two
 
 not_asked : (k : ℕ) (ops : List Op) (asked : List ℕ) (n : ℕ) → is_asked (asked_by asked ops) n ≡ false → is_asked (asks k ops) n ≡ false
 not_asked k [] asked n none = refl

@@ -1,6 +1,6 @@
 -- A thread and its keeper: what an operation of the thread comes to for both.
-use Rattle.std.proofs.Common.{◌≡◌, ◌≢◌, ℕ, ◌+◌, ◌==◌, ◌⊎◌, if◌then◌else◌, inl, inr, List, [], ◌∷◌, ◌++◌, length, Option, None, Some, refl, ap, sym, ◌∙◌, subst}
-use Rattle.std.proofs.Common.{arith, length-append, append_assoc, append-nil}
+use Rattle.std.proofs.Common.{◌≡◌, ◌≢◌, ℕ, ◌+◌, ◌==◌, inl, inr, List, [], ◌∷◌, ◌++◌, length, Option, None, Some, refl, ap, sym, ◌∙◌, subst, arith}
+use Rattle.std.proofs.Common.{length-append, append_assoc, append-nil}
 use Rattle.pas_profile.specs.declared.{name.Block.Block, profile.Profile.Profile}
 use Rattle.pas_profile.proofs.Lists.{all_both, all_map}
 use Rattle.pas_steps.specs.{Desks.Standing, Lists.Whole, Lists.part, Views.View}
@@ -54,9 +54,8 @@ head_cost op =
 -- it waits still, where its part and its book are as they were
 waits_still : (f : Profile) (keeper : ℕ) (kept kept' : Keeping) (later : LaterKept) (p q : Progress) → KeptStands kept kept' p.list q.list → part keeper q.list ≡ part keeper p.list → q.books keeper ≡ p.books keeper → KeeperWaits f keeper [] kept later p → KeeperWaits f keeper [] kept' later q
 waits_still f keeper NoKeeper NoKeeper later p q stands parts books waits = tt
-waits_still f keeper NoKeeper (OneKeeper new) later p q stands parts books waits = absurd stands
-waits_still f keeper (OneKeeper old) NoKeeper later p q stands parts books waits = absurd stands
 waits_still f keeper (OneKeeper old) (OneKeeper new) later p q stands parts books waits = (tt, keeper_still stands parts books waits.1)
+waits_still f keeper _ _ later p q stands parts books waits = absurd stands
 
 -- where nobody acts
 pub kept_same : (kept : Keeping) (l : Whole) → KeptStands kept kept l l
@@ -65,10 +64,9 @@ kept_same (OneKeeper has) l = record { desk = record { seat_is = refl; stands = 
 
 pub nothing_kept : (keeper : ℕ) (kept kept' : Keeping) (l m : Whole) (said : List Record) → KeptStands kept kept' l m → records_by keeper said ≡ [] → KeptPushed keeper said kept kept'
 nothing_kept keeper NoKeeper NoKeeper l m said stands none = none
-nothing_kept keeper NoKeeper (OneKeeper new) l m said stands none = absurd stands
-nothing_kept keeper (OneKeeper old) NoKeeper l m said stands none = absurd stands
 nothing_kept keeper (OneKeeper old) (OneKeeper new) l m said stands none =
     (ap records_in stands.out ∙ sym (ap (λ (rs : List Record). records_in old.out ++ rs) none ∙ append-nil (records_in old.out)), ap room_of stands.out, ap size_of_book stands.book)
+nothing_kept keeper _ _ l m said stands none = absurd stands
 
 pub nobody_still : (keeper : ℕ) (kept : Keeping) (p q : Progress) → part keeper q.list ≡ part keeper p.list → KeptStill keeper kept p q
 nobody_still keeper NoKeeper p q parts = parts
@@ -76,9 +74,8 @@ nobody_still keeper (OneKeeper has) p q parts = tt
 
 owes_same : (f : Profile) (kept kept' : Keeping) (l m : Whole) (v : View) → KeptStands kept kept' l m → owed_of f kept' v ≡ owed_of f kept v
 owes_same f NoKeeper NoKeeper l m v stands = refl
-owes_same f NoKeeper (OneKeeper new) l m v stands = absurd stands
-owes_same f (OneKeeper old) NoKeeper l m v stands = absurd stands
 owes_same f (OneKeeper old) (OneKeeper new) l m v stands = ap (λ (b : GuardBook). owed_by_keeper f (guards_in b) v) stands.book
+owes_same f _ _ l m v stands = absurd stands
 
 -- an act of the thread alone
 alone_acts : {f : Profile} {k : ℕ} {acts : List Act} {came : List Named} {old new : Here} {later : Later} {p : Progress} (keeper : ℕ) (kept kept' : Keeping) (more : LaterKept) → k ≢ keeper → KeeperWaits f keeper [] kept more p
@@ -86,7 +83,6 @@ alone_acts : {f : Profile} {k : ℕ} {acts : List Act} {came : List Named} {old 
 alone_acts {f} {k} {acts} {came} {old} {new} {later} {p} keeper kept kept' more apart waits did stands =
     let parts : part keeper did.reached.list ≡ part keeper p.list = ap (λ (l : Whole). part keeper l) did.moves.list_is ∙ part_of_others keeper k did.moves.steps p.list apart in
     let owed = owes_same f kept kept' p.list did.reached.list (part keeper did.reached.list) stands ∙ ap (λ (w : View). owed_of f kept w) parts in
-    let paid = did.paid in
     record {
       reached = did.reached;
       reaches = did.reaches;
@@ -100,7 +96,7 @@ alone_acts {f} {k} {acts} {came} {old} {new} {later} {p} keeper kept kept' more 
       still = nobody_still keeper kept p did.reached parts;
       each = of_one k keeper did.own did.each;
       names = did.names;
-      paid = omega (arith, paid, owed);
+      paid = omega (arith, did.paid, owed);
     }
 
 -- ---- the keeper first
@@ -137,7 +133,6 @@ module _ {f : Profile} {keeper : ℕ} {r : Request} {block : Option Block} {h h'
       let spare = rests.spare in
       let log = ap (λ (d : Cached). length d.log) done in
       let mine = ap (λ (w : View). owed_events f c w) thread_same in
-      let paid = tries.paid in
       let pays = ap (λ (o : Option Block). cost_of_try r.size o) given in
       let own = own_cost op in
       of_guard record {
@@ -157,7 +152,7 @@ module _ {f : Profile} {keeper : ℕ} {r : Request} {block : Option Block} {h h'
         still = tt;
         each = of_other k keeper told tries.each;
         names = ap (λ (o : Option Request). named_with o (Some b) ++ p.names) (sym asks);
-        paid = omega (arith, paid, pays, log, mine, own, cost);
+        paid = omega (arith, tries.paid, pays, log, mine, own, cost);
       }
 
   -- It gave none. The thread makes the request from there on.
@@ -169,7 +164,6 @@ module _ {f : Profile} {keeper : ℕ} {r : Request} {block : Option Block} {h h'
       let mine = ap (λ (w : View). owed_events f c w) thread_same in
       let both = length-append told did.own in
       let pays = ap (λ (o : Option Block). cost_of_try r.size o) none in
-      let paid = tries.paid in
       of_guard record {
         reached = did.reached;
         reaches = (did.reaches.0, guarded_by_thread f keeper op r p did.reaches.0 tries.tried asks tries.is (tries.block_is ∙ none) did.reaches.1, did.reaches.2);
@@ -189,7 +183,7 @@ module _ {f : Profile} {keeper : ℕ} {r : Request} {block : Option Block} {h h'
         still = tt;
         each = two_both k keeper told did.own (of_other k keeper told tries.each) (of_one k keeper did.own did.each);
         names = did.names;
-        paid = omega (arith, paid, did.paid, pays, owed, mine, both);
+        paid = omega (arith, tries.paid, did.paid, pays, owed, mine, both);
       }
 
 -- ---- by the task
@@ -215,10 +209,9 @@ may_try_task f keeper limit asked more p task op rest kept asks fit waits = tt
 pub pair_given : {f : Profile} {keeper : ℕ} {p : Progress} {σ σ' : Standing} {c c' : Cached} {out : Records} {later : Later} (b : Block) (more : LaterKept) (task : Task) (op : Op) (rest : List Act) (kept kept' : Keeping) → op.what ≡ what_of task → (keeper_of task ≡ None → Some b ≡ None)
     → op.actor ≢ keeper → KeeperWaits f keeper (act_kept (keeper_in op.what) op ∷ rest) kept more p → TriesTask f keeper task (Some b) σ σ' kept kept' (for_guards rest more) p → RestsAt f op.actor σ c out (and_for (cost_of_what op.what) later) p → c' ≡ settled c
     → PairActs f op.actor keeper (head_acts op) (named_by op.what (Some b)) (here σ c out) (here σ' c' out) kept kept' later (for_guards rest more) p × MayStand f (Some b)
-pair_given b more (Task.Guarded k name heap size align) op rest NoKeeper kept' asks guarded apart waits tries at done = absurd tries
-pair_given b more (Task.Guarded k name heap size align) op rest (OneKeeper h) NoKeeper asks guarded apart waits tries at done = absurd tries
 pair_given b more (Task.Guarded k name heap size align) op rest (OneKeeper h) (OneKeeper h') asks guarded apart waits tries at done =
     (given_acts op apart (ap (λ (w : What). request_in w) asks) (its_keeper more op rest k (kept_by op (Task.Guarded k name heap size align) asks) waits) tries.0 b refl (ap (λ (w : What). cost_of_what w) asks) tries.1 at done, tries.0.given)
+pair_given b more (Task.Guarded k name heap size align) op rest _ _ asks guarded apart waits tries at done = absurd tries
 pair_given b more task op rest kept kept' asks guarded apart waits tries at done = absurd (let bad = guarded refl in cc)
 
 -- .. and where it gave none, or the task is no guarded request: the thread does it

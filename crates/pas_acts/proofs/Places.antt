@@ -42,9 +42,7 @@ kept_asks (Some keeper) op = refl
 -- the names of what an operation came to are those that it asks for
 pub names_named : (what : What) (came : Option Block) → names_of (named_by what came) ≡ name_asked what
 names_named (Alloc name heap size align) came = refl
-names_named (Guarded keeper name heap size align) came = refl
-names_named (Remake name old heap size align) came = refl
-names_named what came = refl
+names_named _ came = refl
 
 -- ---- places
 pub placed_both : (book : NameBook) (i : ℕ) (xs ys : List ℕ) → ArePlaced book i (xs ++ ys) → ArePlaced book i xs × ArePlaced book (i + length xs) ys
@@ -101,15 +99,12 @@ at_past (r ∷ items) (suc i) n le = at_past items i n (omega (arith, le))
 -- ---- after an operation
 both_ways : (t : Bool) (o : Option (Option Block)) (came base : Option Block) (old : Option (Option Block)) → (t ≡ true → o ≡ None) → came_to o base ≡ block_behind old
     → came_to (or_else o (if t then Some came else None)) base ≡ block_behind (if t then Some came else old)
-both_ways true o came base old none tells = ap (λ (q : Option (Option Block)). came_to (or_else q (Some came)) base) (none refl)
-both_ways false None came base old none tells = tells
-both_ways false (Some b) came base old none tells = tells
+both_ways t o came base old h i = grind arith
 
 stand_either : (f : Profile) (t : Bool) (o : Option (Option Block)) (came base : Option Block) → MayStand f came → MayStand f (came_to o base) → MayStand f (came_to (or_else o (if t then Some came else None)) base)
 stand_either f true None came base new old = new
-stand_either f true (Some b) came base new old = old
 stand_either f false None came base new old = old
-stand_either f false (Some b) came base new old = old
+stand_either f _ _ came base new old = old
 
 not_yet : (book : NameBook) (rs : List Named) (ms : List ℕ) (name n : ℕ) → ArePlaced book 0 (names_of rs ++ (name ∷ ms)) → name == n ≡ true → standing_for rs n ≡ None
 not_yet book rs ms name n placed is = elim (cases_eq name n) [

@@ -1,6 +1,6 @@
 -- The operations of one thread in a phase, one after the other.
-use Rattle.std.proofs.Common.{Option, None, Some, ◌≡◌, ℕ, ◌+◌, ◌<◌, ◌≤◌, Bool, if◌then◌else◌, List, [], ◌∷◌, ◌++◌, length, drop, get_or, refl, ap, sym, ◌∙◌}
-use Rattle.std.proofs.Common.{subst, arith, length-append, append_assoc, drop_of_length-le, append-nil, eq-eqb, ne_eqb}
+use Rattle.std.proofs.Common.{Option, None, Some, ◌≡◌, ℕ, ◌+◌, ◌<◌, ◌≤◌, List, [], ◌∷◌, ◌++◌, length, drop, get_or, refl, ap, sym, ◌∙◌, subst, arith}
+use Rattle.std.proofs.Common.{length-append, append_assoc, drop_of_length-le, append-nil, eq-eqb, ne_eqb}
 use Rattle.std.proofs.lemmas.List.{drop_more}
 use Rattle.pas_profile.specs.declared.{profile.Profile.Profile, name.Block.Block}
 use Rattle.pas_steps.specs.Desks.{Standing}
@@ -45,10 +45,7 @@ thread_rests : {f : Profile} {k : ℕ} {acts : List Act} {σ : Standing} {c : Ca
 thread_rests cost next same at = let spare = at.spare in record { sits = sits_for at.sits (omega (arith, same)); cache = at.cache; spare = omega (arith, spare, same) }
 
 pub op_rests : {f : Profile} {next : List Act} {σ : Standing} {c : Cached} {known : Table} {out : Records} {later : Later} {p : Progress} (op : Op) → Before f op next σ (keeps c known out) later p → RestsAt f op.actor σ c out (and_for (cost_of_what op.what) (with_acts op.actor next later)) p
-op_rests {next = next} op at =
-    let both = sum_both (own_cost_of_act op.actor) (head_acts op) next in
-    let cost = head_cost op in
-    thread_rests (cost_of_what op.what) next (omega (arith, both, cost)) at
+op_rests {next = next} op at = search (arith, sum_both, head_cost, thread_rests)
 
 thread_stands : {f : Profile} {k : ℕ} {next : List Act} {σ : Standing} {c : Cached} {known : Table} {out : Records} {later : Later} {p : Progress} → RestsAt f k σ c out (with_acts k next later) p → KnowsNames f next known p.names → ThreadAt f k next σ (keeps c known out) later p
 thread_stands at names = let spare = at.spare in record { sits = sits_for at.sits (omega arith); cache = at.cache; spare = omega (arith, spare); names = names }
@@ -84,11 +81,7 @@ asks_now op next = ap (λ (ns : List ℕ). ns ++ names_asked next) (kept_asks (k
 
 pub room_now : {f : Profile} {next : List Act} {known : Table} {names : List Named} {what : What} (op : Op) → op.what ≡ what → KnowsNames f (head_acts op ++ next) known names
     → length (requests_in known.requests) + length (name_asked what) ≤ room_for known.requests
-room_now {f} {next} op asks knows =
-    let now = ap (λ (ns : List ℕ). length ns) (asks_now op next) in
-    let both = length-append (name_asked op.what) (names_asked next) in
-    let same = ap (λ (w : What). length (name_asked w)) asks in
-    omega (arith, knows.room, now, both, same)
+room_now {f} {next} op asks knows = search (arith, asks_now, length-append)
 
 -- ---- after an operation
 -- what the thread knows after it: the name that the operation asked for is its last request
@@ -110,7 +103,6 @@ knows_more {f} {next} {known} {known'} {came} {names} op knows kept stands =
     let asks = asks_now op next in
     let placed = subst (λ (ns : List ℕ). ArePlaced known.book 0 (names_of rs ++ ns)) asks knows.placed in
     let same = names_kept what kept in
-    let room = knows.room in
     let now = ap (λ (ns : List ℕ). length ns) asks in
     let count = names_count rs in
     let count' = names_count rs' in
@@ -123,16 +115,13 @@ knows_more {f} {next} {known} {known'} {came} {names} op knows kept stands =
       stand = λ n. stand_more f rs rs' what came n (block_named known.book.names n) kept.requests stands (knows.stand n);
       known = known_more what came knows.asked names knows.known;
       placed = subst (λ (ns : List ℕ). ArePlaced known.book 0 ns) (sym (ap (λ (ns : List ℕ). ns ++ names_asked next) same ∙ append_assoc (names_of rs) (name_asked what) (names_asked next))) placed;
-      room = omega (arith, room, kept.room, now, count, count', grown, both);
+      room = omega (arith, knows.room, kept.room, now, count, count', grown, both);
     }
 
 -- the keeper waits for what comes next
 waits_next : (f : Profile) (keeper : ℕ) (more : LaterKept) (p : Progress) (said : List Record) (op : Op) (next : List Act) (kept kept' : Keeping) (q : Progress) → KeeperWaits f keeper (head_acts op ++ next) kept more p → KeptPushed keeper said kept kept'
     → KeeperWaits f keeper [] kept' (for_guards next more) q → KeeperWaits f keeper next kept' more q
-waits_next f keeper more p said op next NoKeeper NoKeeper q was pushed now = was.1.1
-waits_next f keeper more p said op next NoKeeper (OneKeeper h') q was pushed now = absurd pushed
-waits_next f keeper more p said op next (OneKeeper h) NoKeeper q was pushed now = absurd pushed
-waits_next f keeper more p said op next (OneKeeper h) (OneKeeper h') q was pushed now = (was.0.1.1, now.1)
+waits_next f keeper more p said op next kept kept' q h i j = grind arith
 
 pub operated : {f : Profile} {keeper : ℕ} {next : List Act} {σ σ' : Standing} {c c' : Cached} {known known' : Table} {what : What} {came : Option Block} {out out' : Records} {kept kept' : Keeping} {later : Later} {more : LaterKept} {p : Progress} (op : Op) → op.what ≡ what
     → PairAt f op.actor keeper (head_acts op ++ next) σ (keeps c known out) kept later more p
@@ -166,15 +155,12 @@ kept_both : (keeper : ℕ) (xs ys : List Record) (k0 k1 k2 : Keeping) → KeptPu
 kept_both keeper xs ys NoKeeper NoKeeper NoKeeper one two = records_both keeper xs ys ∙ ap (λ (rs : List Record). rs ++ records_by keeper ys) one ∙ two
 kept_both keeper xs ys (OneKeeper h0) (OneKeeper h1) (OneKeeper h2) one two =
     (two.0 ∙ ap (λ (rs : List Record). rs ++ records_by keeper ys) one.0 ∙ append_assoc (records_in h0.out) (records_by keeper xs) (records_by keeper ys) ∙ ap (λ (rs : List Record). records_in h0.out ++ rs) (sym (records_both keeper xs ys)), two.1 ∙ one.1, two.2 ∙ one.2)
-kept_both keeper xs ys NoKeeper NoKeeper (OneKeeper h2) one two = absurd two
 kept_both keeper xs ys NoKeeper (OneKeeper h1) k2 one two = absurd one
 kept_both keeper xs ys (OneKeeper h0) NoKeeper k2 one two = absurd one
-kept_both keeper xs ys (OneKeeper h0) (OneKeeper h1) NoKeeper one two = absurd two
+kept_both keeper xs ys _ _ _ one two = absurd two
 
 still_both : (keeper : ℕ) (xs : List Record) (k0 k1 : Keeping) (p q r : Progress) → KeptPushed keeper xs k0 k1 → KeptStill keeper k0 p q → KeptStill keeper k1 q r → KeptStill keeper k0 p r
-still_both keeper xs NoKeeper NoKeeper p q r pushed one two = two ∙ one
-still_both keeper xs NoKeeper (OneKeeper h1) p q r pushed one two = absurd pushed
-still_both keeper xs (OneKeeper h0) k1 p q r pushed one two = tt
+still_both keeper xs k0 k1 p q r h i j = grind arith
 
 works_both : {f : Profile} {k keeper : ℕ} {xs ys mid next : List Act} {σ0 σ σ' : Standing} {h0 h h' : Keeps} {k0 k1 k2 : Keeping} {later : Later} {more : LaterKept} {p : Progress} → (one : PairWorks f k keeper xs mid σ0 σ h0 h k0 k1 later more p)
     → PairWorks f k keeper ys next σ σ' h h' k1 k2 later more one.reached → PairWorks f k keeper (xs ++ ys) next σ0 σ' h0 h' k0 k2 later more p
@@ -187,15 +173,13 @@ works_both {f} {k} {keeper} {xs} {ys} {mid} {next} {σ0} {σ} {σ'} {h0} {h} {h'
       stands = two.stands;
       said = one.said ++ two.said;
       records_are = two.records_are ∙ ap (λ (rs : List Record). rs ++ two.said) one.records_are ∙ append_assoc p.records one.said two.said;
-      pushed = two.pushed ∙ ap (λ (rs : List Record). rs ++ records_by k two.said) one.pushed ∙ append_assoc (records_in h0.out) (records_by k one.said) (records_by k two.said)
-          ∙ ap (λ (rs : List Record). records_in h0.out ++ rs) (sym (records_both k one.said two.said));
+      pushed = simp (two.pushed, one.pushed, append_assoc, ← records_both);
       room = two.room ∙ one.room;
       kept_pushed = kept_both keeper one.said two.said k0 k1 k2 one.kept_pushed two.kept_pushed;
       still = still_both keeper one.said k0 k1 p one.reached two.reached one.kept_pushed one.still two.still;
       each = two_both k keeper one.said two.said one.each two.each;
       book = two.book ∙ one.book;
-      noted = two.noted ∙ ap (λ (ns : List ℕ). ns ++ names_asked ys) one.noted ∙ append_assoc (names_of (requests_in h0.table.requests)) (names_asked xs) (names_asked ys)
-          ∙ ap (λ (ns : List ℕ). names_of (requests_in h0.table.requests) ++ ns) (sym (asked_both xs ys));
+      noted = simp (two.noted, one.noted, append_assoc, ← asked_both);
       room_noted = two.room_noted ∙ one.room_noted;
       paid = omega (arith, count, cost, one.paid, two.paid);
     }
@@ -220,12 +204,10 @@ works_none {f} {k} {keeper} {acts} {σ} {has} kept {later} {more} {p} at = recor
 
 -- ---- which operation comes next
 own_next : (k : ℕ) (ops : List Op) (i : ℕ) (d : Op) → i < length ops → (get_or ops i d).actor ≡ k → own_acts k (drop i ops) ≡ head_acts (get_or ops i d) ++ own_acts k (drop (i + 1) ops)
-own_next k ops i d lt is = ap (λ (xs : List Op). own_acts k xs) (drop_more ops i d lt)
-    ∙ ap (λ (t : Bool). if t then head_acts (get_or ops i d) ++ own_acts k (drop (i + 1) ops) else own_acts k (drop (i + 1) ops)) (eq-eqb (get_or ops i d).actor k is)
+own_next k ops i d lt is = cc (drop_more ops i d lt, eq-eqb (get_or ops i d).actor k is)
 
 own_skip : (k : ℕ) (ops : List Op) (i : ℕ) (d : Op) → i < length ops → ((get_or ops i d).actor ≡ k → ⊥) → own_acts k (drop i ops) ≡ own_acts k (drop (i + 1) ops)
-own_skip k ops i d lt other = ap (λ (xs : List Op). own_acts k xs) (drop_more ops i d lt)
-    ∙ ap (λ (t : Bool). if t then head_acts (get_or ops i d) ++ own_acts k (drop (i + 1) ops) else own_acts k (drop (i + 1) ops)) (ne_eqb (get_or ops i d).actor k other)
+own_skip k ops i d lt other = cc (drop_more ops i d lt, ne_eqb (get_or ops i d).actor k other)
 
 -- so far, the acts of thread k before the operation at this place were done
 abbrev SoFar : Profile → ℕ → ℕ → List Op → ℕ → Standing → Standing → Keeps → Keeps → Keeping → Keeping → Later → LaterKept → Progress → Type 0
@@ -237,9 +219,7 @@ begins ops kept at = ([], refl, works_none kept at)
 -- the operation is the thread's: it stands before it
 pub stands_before : {f : Profile} {k keeper : ℕ} (ops : List Op) {i : ℕ} {σ0 σ : Standing} {h0 h : Keeps} {k0 k1 : Keeping} {later : Later} {more : LaterKept} {p : Progress} (d : Op) → i < length ops → (get_or ops i d).actor ≡ k → (so : SoFar f k keeper ops i σ0 σ h0 h k0 k1 later more p)
     → PairAt f (get_or ops i d).actor keeper (head_acts (get_or ops i d) ++ own_acts k (drop (i + 1) ops)) σ h k1 later more so.2.reached
-stands_before {f} {k} {keeper} ops {i} {σ0} {σ} {h0} {h} {k0} {k1} {later} {more} {p} d lt is so =
-    subst (λ (j : ℕ). PairAt f j keeper (head_acts (get_or ops i d) ++ own_acts k (drop (i + 1) ops)) σ h k1 later more so.2.reached) (sym is)
-    (subst (λ (acts : List Act). PairAt f k keeper acts σ h k1 later more so.2.reached) (own_next k ops i d lt is) so.2.stands)
+stands_before {f} {k} {keeper} ops {i} {σ0} {σ} {h0} {h} {k0} {k1} {later} {more} {p} d lt is so = search (arith, own_next)
 
 pub goes_on : {f : Profile} {k keeper : ℕ} (ops : List Op) {i : ℕ} {σ0 σ σ' : Standing} {h0 h h' : Keeps} {k0 k1 k2 : Keeping} {later : Later} {more : LaterKept} {p : Progress} (d : Op) → i < length ops → (get_or ops i d).actor ≡ k → (so : SoFar f k keeper ops i σ0 σ h0 h k0 k1 later more p)
     → PairWorks f (get_or ops i d).actor keeper (head_acts (get_or ops i d)) (own_acts k (drop (i + 1) ops)) σ σ' h h' k1 k2 later more so.2.reached → SoFar f k keeper ops (i + 1) σ0 σ' h0 h' k0 k2 later more p

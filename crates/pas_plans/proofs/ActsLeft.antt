@@ -17,8 +17,7 @@ close_left threads keepers zero = refl
 close_left threads keepers (suc n) = refl
 
 left_is : (threads keepers n : ℕ) (phases : List (List Op)) → 1 ≤ n → acts_left threads keepers n phases ≡ acts_from threads keepers (n + 1) phases
-left_is threads keepers zero phases some = absurd (omega (arith, some))
-left_is threads keepers (suc n) phases some = refl
+left_is threads keepers n phases h = grind arith
 
 -- the first phase, which has no mark, and another one
 pub first_phase : (threads keepers n : ℕ) (phase : List Op) (phases : List (List Op)) → n ≡ 0 → acts_left threads keepers n (phase ∷ phases) ≡ phase_acts threads phase ++ acts_left threads keepers (n + 1) phases

@@ -1,25 +1,24 @@
 -- The acts of a plan fit where its operations do, and cost no more than they, and one record for each phase and one for the close.
-use Rattle.std.proofs.Common.{◌≡◌, ℕ, ◌+◌, ◌*◌, ◌<◌, ◌≤◌, ◌==◌, Bool, true, false, if◌then◌else◌, cond, List, [], ◌∷◌, ◌++◌, length, Option, None, Some, refl}
-use Rattle.std.proofs.Common.{ap, sym, subst, arith, append_assoc, map, not, MatchOption, eq-eqb}
+use Rattle.std.proofs.Common.{◌≡◌, ℕ, ◌+◌, ◌*◌, ◌<◌, ◌≤◌, ◌==◌, Bool, true, if◌then◌else◌, cond, List, [], ◌∷◌, ◌++◌, length, Option, None, Some, refl, ap, sym}
+use Rattle.std.proofs.Common.{subst, arith, append_assoc, map, not, MatchOption, eq-eqb}
 use Rattle.std.specs.List.{AllByRecursion, filter}
 use Rattle.std.proofs.Math.Nat.{suc-mul}
 use Rattle.pas_profile.specs.declared.profile.Profile.{Profile}
 use Rattle.pas_trace.specs.EveryPlan.{all_ops, asked_with, asked_after, IsThread, IsActorBy, IsActorOf, IsSoundWork, AreSound, records_of_chore}
 use Rattle.pas_trace.specs.EveryPlan.{records_of_work, records_of_what, records_of_ops, own_records}
-use Rattle.pas_trace.specs.Asked.{work_of, of_task, request_of, keeper_of, cost_of_task}
+use Rattle.pas_trace.specs.Asked.{work_of, of_task, request_of, keeper_of}
 use Rattle.pas_trace.specs.declared.plan.{Chore.Chore, Work.Work, Op.Op}
 use Rattle.pas_trace.specs.Acts.{Act, Settles, StopsIdle, MarksPhase, MarksClose, Wakes, Ends, Lowers, operation_in, act_kept, is_active, numbers_from}
 use Rattle.pas_trace.specs.Acts.{active_threads, idle_threads, idle_stops, acts_of_chore, acts_of_work, acts_of_op, acts_of_ops, phase_acts, close_acts}
 use Rattle.pas_trace.specs.Acts.{acts_from, acts_of}
 use Rattle.pas_trace.proofs.ThreadsInOrder.{numbers_count}
 use Rattle.pas_answers.proofs.SingleActs.{sum_both}
-use Rattle.pas_answers.specs.Fit.{KeepsAbove, IsFitWork, IsFitWhat, AreFit, AreOfThreads, cost_of_work, cost_of_what, cost_of_act, costs_of, own_cost_of_act}
-use Rattle.pas_answers.specs.Fit.{own_costs_of, unbacks_of_act, unbacks_of, sum_over, AreBelow}
+use Rattle.pas_answers.specs.Fit.{KeepsAbove, IsFitWhat, AreFit, AreOfThreads, cost_of_what, cost_of_act, costs_of, own_cost_of_act, own_costs_of}
+use Rattle.pas_answers.specs.Fit.{unbacks_of_act, unbacks_of, sum_over, AreBelow}
 
 -- ---- so many threads
 one_chosen : (b : Bool) (k : ℕ) (chosen ks : List ℕ) → length chosen ≤ length ks → length (cond b (k ∷ chosen) chosen) ≤ length (k ∷ ks)
-one_chosen true k chosen ks few = omega (arith, few)
-one_chosen false k chosen ks few = omega (arith, few)
+one_chosen b k chosen ks h = grind arith
 
 chosen_few : (chosen : ℕ → Bool) (ks : List ℕ) → length (filter chosen ks) ≤ length ks
 chosen_few chosen [] = omega arith
@@ -127,14 +126,10 @@ its_own : (t : Bool) (n : ℕ) → t ≡ true → n ≤ (if t then 1 + n else 0)
 its_own t n is = grind arith
 
 kept_unbacks : (f : Profile) (keeper : Option ℕ) (op : Op) → unbacks_of f (act_kept keeper op ∷ (Settles op.actor ∷ [])) ≤ 0
-kept_unbacks f None op = omega arith
-kept_unbacks f (Some keeper) op = omega arith
+kept_unbacks f keeper op = grind arith
 
 work_unbacks : (f : Profile) (idle : List ℕ) (op : Op) (work : Work) → IsActorBy f work op.actor → unbacks_of f (acts_of_work idle op work) ≤ (if op.actor == 0 then records_of_work f work else 0)
-work_unbacks f idle op (Work.Own task) of = let none = kept_unbacks f (keeper_of task) op in omega (arith, none)
-work_unbacks f idle op (Work.Chore (Chore.Tick e)) of = omega arith
-work_unbacks f idle op (Work.Chore Chore.Pass) of = let own = its_own (op.actor == 0) f.pages (eq-eqb op.actor 0 of) in omega (arith, own)
-work_unbacks f idle op (Work.Chore (Chore.Idle n)) of = let stops = free_map (unbacks_of_act f) (λ j. StopsIdle j n) (λ j. refl) idle in omega (arith, stops)
+work_unbacks f idle op work h = grind (arith, kept_unbacks, its_own, eq-eqb, free_map)
 
 -- ---- the plan's own sums
 records_sum : (f : Profile) (ops : List Op) → sum_of_ops (λ op. records_of_what f op.what) ops ≡ records_of_ops f ops
@@ -174,8 +169,7 @@ fits_chore f limit asked chore idle more sound fit = search (arith, skip_stops)
 
 kept_fits : (f : Profile) (limit : ℕ) (asked : List ℕ) (keeper : Option ℕ) (op : Op) (more : List Act) → MatchOption keeper (Unit {0}) (λ k. IsThread f k × (op.actor < k)) → IsThread f op.actor → IsFitWhat f limit asked op.what
     → AreFit f limit (asked_after op.what asked) more → AreFit f limit asked (act_kept keeper op ∷ (Settles op.actor ∷ more))
-kept_fits f limit asked None op more above of sound fit = (of, sound, fit)
-kept_fits f limit asked (Some keeper) op more above of sound fit = (above.0, above.1, of, sound, fit)
+kept_fits f limit asked keeper op more h i j m = grind arith
 
 fits : (f : Profile) (limit : ℕ) (asked : List ℕ) (op : Op) (work : Work) (idle : List ℕ) (more : List Act) → KeepsAbove f op → work_of op.what ≡ work → MatchOption (of_task request_of work) (Unit {0}) (λ r. r.name < limit) → IsActorBy f work op.actor → IsSoundWork f asked work
     → AreFit f limit (asked_with (of_task request_of work) asked) more → AreFit f limit asked (acts_of_work idle op work ++ more)
@@ -225,13 +219,11 @@ of_map threads to none [] = tt
 of_map threads to none (k ∷ ks) = (subst (λ (o : Option Op). MatchOption o (Unit {0}) (λ op. op.actor ≤ threads)) (sym (none k)) tt, of_map threads to none ks)
 
 of_kept : (threads : ℕ) (keeper : Option ℕ) (op : Op) → op.actor ≤ threads → AreOfThreads threads (act_kept keeper op ∷ (Settles op.actor ∷ []))
-of_kept threads None op most = (most, (tt, tt))
-of_kept threads (Some keeper) op most = (most, (tt, tt))
+of_kept threads keeper op h = grind arith
 
 of_chore : (threads : ℕ) (idle : List ℕ) (chore : Chore) → AreOfThreads threads (acts_of_chore idle chore)
-of_chore threads idle (Chore.Tick e) = (tt, tt)
-of_chore threads idle Chore.Pass = (tt, tt)
 of_chore threads idle (Chore.Idle n) = (tt, of_map threads (λ k. StopsIdle k n) (λ k. refl) idle)
+of_chore threads idle _ = (tt, tt)
 
 of_work : (f : Profile) (idle : List ℕ) (op : Op) (work : Work) → IsActorBy f work op.actor → AreOfThreads f.threads (acts_of_work idle op work)
 of_work f idle op (Work.Own task) of = of_kept f.threads (keeper_of task) op of.1

@@ -1,13 +1,13 @@
 -- How many guarded requests operations have, and the books of their keepers.
 use Rattle.std.proofs.Common.{◌≡◌, ℕ, zero, suc, ◌+◌, ◌<◌, ◌≤◌, ◌==◌, Bool, true, false, if◌then◌else◌, List, [], ◌∷◌, ◌++◌, map, length, drop, get_or}
-use Rattle.std.proofs.Common.{slice_index_or, inl, inr, Result, Ok, Err, ap, sym, ◌∙◌, arith, length-append, IfOk, eq-eqb, ne_eqb}
+use Rattle.std.proofs.Common.{slice_index_or, inl, inr, Result, ap, ◌∙◌, arith, length-append, IfOk, eq-eqb, ne_eqb}
 use Rattle.std.specs.{List.AllByRecursion, Global.Vec}
-use Rattle.std.proofs.lemmas.{Bool.cases_lt, Bool.cases_eq, List.drop_more, List.get_or_append_left}
+use Rattle.std.proofs.lemmas.{Bool.cases_lt, List.drop_more, List.get_or_append_left}
 use Rattle.pas_profile.specs.declared.profile.Profile.{Profile}
 use Rattle.pas_trace.specs.Asked.{work_of, of_task, keeper_of, keeper_in}
 use Rattle.pas_trace.specs.EveryPlan.{all_ops, IsActorBy, records_of_work, records_of_what, records_of_ops}
 use Rattle.pas_trace.specs.Plans.{ops_of}
-use Rattle.pas_trace.specs.declared.plan.{Op.Op, Phase.Phase, Task.Task, Work.Work}
+use Rattle.pas_trace.specs.declared.plan.{Op.Op, Phase.Phase, Work.Work}
 use Rattle.pas_guard.specs.Books.{guards_in, size_of_book}
 use Rattle.pas_guard.specs.declared.book.GuardBook.{GuardBook}
 use Rattle.pas_plans.specs.Keepers.{one_guarded, guarded_of, AreBooksFor}
@@ -28,9 +28,7 @@ guarded_next k ops i d lt = ap (λ (xs : List Op). guarded_of k xs) (drop_more o
 -- .. and of phases with one phase more
 pub phases_next : (k : ℕ) (phases : List Phase) (i : ℕ) (item : Phase) → i < length phases → item ≡ slice_index_or phases i item
     → guarded_of k (all_ops (map ops_of (drop i phases))) ≡ guarded_of k (ops_of item) + guarded_of k (all_ops (map ops_of (drop (i + 1) phases)))
-phases_next k phases i item lt is =
-    ap (λ (ps : List Phase). guarded_of k (all_ops (map ops_of ps))) (drop_more phases i item lt)
-    ∙ ap (λ (p : Phase). guarded_of k (ops_of p ++ all_ops (map ops_of (drop (i + 1) phases)))) (sym is) ∙ guarded_both k (ops_of item) (all_ops (map ops_of (drop (i + 1) phases)))
+phases_next k phases i item lt is = cc (drop_more phases i item lt, guarded_both k (ops_of item) (all_ops (map ops_of (drop (i + 1) phases))))
 
 -- so many more of one actor
 pub count_more : (a k more : ℕ) (counts : ℕ → ℕ) → (if a == k then counts a + more else counts k) ≡ counts k + (if a == k then more else 0)
@@ -38,8 +36,7 @@ count_more a k more counts = search (arith, eq-eqb, ne_eqb)
 
 -- ---- each costs its plan a record at least
 few_work : (f : Profile) (work : Work) → one_guarded (of_task keeper_of work) ≤ records_of_work f work
-few_work f (Work.Own (Task.Guarded keeper name heap size align)) = omega arith
-few_work f work = omega arith
+few_work f work = grind arith
 
 few_if : (t : Bool) (a b : ℕ) → a ≤ b → (if t then a else 0) ≤ b
 few_if true a b le = le
@@ -53,8 +50,7 @@ guarded_few f k (op ∷ ops) =
 
 -- ---- actors
 within_work : (f : Profile) (work : Work) (k : ℕ) → f.threads ≤ 16 → IsActorBy f work k → k < 17
-within_work f (Work.Own task) k few of = omega (arith, of.1, few)
-within_work f (Work.Chore chore) k few of = omega (arith, of)
+within_work f work k h i = grind arith
 
 pub actors_within : (f : Profile) (ops : List Op) → f.threads ≤ 16 → ArePlanned f ops → AllByRecursion (λ (op : Op). op.actor < 17) ops
 actors_within f [] few all = tt

@@ -1,6 +1,6 @@
 -- What the acts of a plan ask of its keepers.
-use Rattle.std.proofs.Common.{◌≡◌, ◌≢◌, ℕ, ◌+◌, ◌-◌, ◌<◌, ◌≤◌, ◌==◌, Bool, true, false, if◌then◌else◌, List, [], ◌∷◌, Option, None, Some, inl, inr, slice_index}
-use Rattle.std.proofs.Common.{refl, ap, sym, ◌∙◌, subst, arith, map, MatchOption, eq-eqb, ne_eqb}
+use Rattle.std.proofs.Common.{◌≡◌, ◌≢◌, ℕ, ◌+◌, ◌-◌, ◌<◌, ◌≤◌, ◌==◌, Bool, if◌then◌else◌, List, [], ◌∷◌, Option, Some, slice_index, refl, ap, subst, arith, map}
+use Rattle.std.proofs.Common.{MatchOption, eq-eqb, ne_eqb}
 use Rattle.std.specs.List.{AllByRecursion}
 use Rattle.std.proofs.lemmas.Bool.{cases_eq}
 use Rattle.pas_profile.specs.declared.profile.Profile.{Profile}
@@ -8,7 +8,7 @@ use Rattle.pas_profile.proofs.Lists.{all_both}
 use Rattle.pas_trace.specs.Asked.{work_of, of_task, request_of, request_in, keeper_of, keeper_in}
 use Rattle.pas_trace.specs.EveryPlan.{all_ops, operations_of, IsActorBy, IsActorOf, IsKept, AreKept, kept_of_work, kept_records}
 use Rattle.pas_trace.specs.Plans.{IsPlanOf, bounds_of}
-use Rattle.pas_trace.specs.declared.plan.{Chore.Chore, Op.Op, Plan.Plan, Task.Task, Work.Work}
+use Rattle.pas_trace.specs.declared.plan.{Chore.Chore, Op.Op, Plan.Plan, Work.Work}
 use Rattle.pas_trace.proofs.{EveryPlan.every_plan, Keepers.plan_actors, Keepers.keepers_few}
 use Rattle.pas_trace.specs.Acts.{Act, Guards, Settles, StopsIdle, MarksPhase, Wakes, Ends, Lowers, act_kept, numbers_from, active_threads, idle_threads}
 use Rattle.pas_trace.specs.Acts.{acts_of_chore, acts_of_work, acts_of_op, acts_of_ops, phase_acts, close_acts, acts_from, acts_of}
@@ -64,9 +64,8 @@ keeps_task : (f : Profile) (guard : ℕ) (op : Op) (keeper : Option ℕ) → op.
 keeps_task f guard op keeper most kept = search (arith, guarded_keepers)
 
 keeps_chore : (threads keepers : ℕ) (idle : List ℕ) (chore : Chore) → AreKeptFor threads keepers (acts_of_chore idle chore)
-keeps_chore threads keepers idle (Chore.Tick e) = (tt, tt)
-keeps_chore threads keepers idle Chore.Pass = (tt, tt)
 keeps_chore threads keepers idle (Chore.Idle n) = (tt, all_map (IsKeptFor threads keepers) (λ k. StopsIdle k n) (λ k. tt) idle)
+keeps_chore threads keepers idle _ = (tt, tt)
 
 keeps_work : (f : Profile) (guard : ℕ) (idle : List ℕ) (op : Op) (work : Work) → IsActorBy f work op.actor → MatchOption (of_task keeper_of work) (Unit {0}) (λ k. (k ≡ f.threads + op.actor) × (guard ≢ 0)) → AreKeptFor f.threads (if guard == 0 then 0 else f.threads) (acts_of_work idle op work)
 keeps_work f guard idle op (Work.Own task) of kept = keeps_task f guard op (keeper_of task) of.1 kept
@@ -115,9 +114,8 @@ module _ (much most : Op → ℕ) (k : ℕ) (enough : (op : Op) (keeper : ℕ) �
   asked_kept op keeper is = search (arith, if_less)
 
   asked_chore : (idle : List ℕ) (chore : Chore) → sum_over (asked_of_act much k) (acts_of_chore idle chore) ≡ 0
-  asked_chore idle (Chore.Tick e) = refl
-  asked_chore idle Chore.Pass = refl
   asked_chore idle (Chore.Idle n) = let stops = none_asked much k (λ j. StopsIdle j n) (λ j. refl) idle in omega (arith, stops)
+  asked_chore idle _ = refl
 
   asked_work : (idle : List ℕ) (op : Op) (work : Work) → work_of op.what ≡ work → sum_over (asked_of_act much k) (acts_of_work idle op work) ≤ (if op.actor == k then most op else 0)
   asked_work idle op work is = search (arith, asked_kept, asked_chore)
@@ -127,9 +125,7 @@ module _ (much most : Op → ℕ) (k : ℕ) (enough : (op : Op) (keeper : ℕ) �
 
 -- ---- events
 kept_enough : (work : Work) (keeper : ℕ) → of_task keeper_of work ≡ Some keeper → kept_cost_of (of_task request_of work) ≤ kept_of_work work
-kept_enough (Work.Own (Task.Guarded j name heap size align)) keeper is = omega arith
-kept_enough (Work.Own task) keeper is = absurd (cc)
-kept_enough (Work.Chore chore) keeper is = absurd (cc)
+kept_enough work keeper h = grind arith
 
 kept_sum : (k : ℕ) (ops : List Op) → sum_of_ops (λ op. if op.actor == k then kept_of_work (work_of op.what) else 0) ops ≡ kept_records k ops
 kept_sum k [] = refl
@@ -153,8 +149,7 @@ plan_kept_own {text} {plan} is k past within =
 
 -- ---- guards
 guarded_enough : (keeper : Option ℕ) (k : ℕ) → keeper ≡ Some k → 1 ≤ one_guarded keeper
-guarded_enough None k is = absurd (cc)
-guarded_enough (Some keeper) k is = omega arith
+guarded_enough keeper k h = grind arith
 
 guarded_sum : (k : ℕ) (ops : List Op) → sum_of_ops (λ op. if op.actor == k then one_guarded (keeper_in op.what) else 0) ops ≡ guarded_of k ops
 guarded_sum k [] = refl

@@ -1,8 +1,7 @@
 -- How the parts of a kit are made, one after the other.
 use Rattle.std.proofs.Common.{◌≡◌, ℕ, ◌+◌, List, [], ◌∷◌, ◌++◌, length, All, slice_index_or, inl, inr, Option, Some, None, ap, sym, ◌∙◌, subst, arith}
 use Rattle.std.proofs.Common.{length-append}
-use Rattle.std.proofs.{lemmas.Bool.cases_lt, lemmas.List.get_or_append_left, lemmas.List.Elements.All-nil, lemmas.List.Elements.All-push}
-use Rattle.std.proofs.{Math.Seq.get_or-append_seam}
+use Rattle.std.proofs.{lemmas.Bool.cases_lt, lemmas.List.get_or_append_left, lemmas.List.Elements.All-push, Math.Seq.get_or-append_seam}
 use Rattle.pas_profile.specs.Rooms.{shown, size_of_room, EventRoom}
 use Rattle.pas_cache.specs.Caches.{Cached, cached}
 use Rattle.pas_cache.specs.declared.cache.ThreadCache.{ThreadCache}
@@ -13,12 +12,9 @@ use Rattle.pas_answers.specs.Replays.{empty_cache}
 pub at_end : {A : Type 0} (xs : List A) (x d : A) (k : ℕ) → k ≡ length xs → slice_index_or (xs ++ x ∷ []) k d ≡ x
 at_end xs x d k is = ap (λ i. slice_index_or (xs ++ x ∷ []) i d) is ∙ get_or-append_seam xs x [] d
 
+-- there are no rooms, so nothing is said of one
 pub no_rooms : (sizes : ℕ → Option ℕ) (rooms : List EventRoom) → rooms ≡ [] → AreRooms sizes 0 rooms
-no_rooms sizes rooms none = record {
-  many = ap (λ rs. length rs) none;
-  each = λ k d bad. absurd (omega (arith, bad));
-  empty = subst (All (λ room. shown room ≡ [])) (sym none) (All-nil (λ room. shown room ≡ []));
-}
+no_rooms sizes rooms none = search arith
 
 -- .. and one more
 pub next_room : {sizes : ℕ → Option ℕ} {count : ℕ} {rooms : List EventRoom} (after : List EventRoom) (room : EventRoom) → after ≡ rooms ++ room ∷ [] → sizes count ≡ Some (size_of_room room) → shown room ≡ [] → AreRooms sizes count rooms → AreRooms sizes (count + 1) after

@@ -1,7 +1,7 @@
 -- Names below a limit: of all phases, of each, and below a higher limit.
 use Rattle.std.proofs.Common.{ℕ, ◌≤◌, List, [], ◌∷◌, ◌++◌, arith}
 use Rattle.pas_trace.specs.EveryPlan.{all_ops}
-use Rattle.pas_trace.specs.declared.plan.{What.What, What.TheVariants.Alloc, What.TheVariants.Guarded, What.TheVariants.Remake, Op.Op}
+use Rattle.pas_trace.specs.declared.plan.{What.What, Op.Op}
 use Rattle.pas_trace.proofs.EveryPlan.{below_front}
 use Rattle.pas_answers.specs.Fit.{IsBelow, AreBelow, AllBelow}
 use Rattle.pas_plans.proofs.ActsOfPlan.{back_below}
@@ -15,10 +15,7 @@ below_all limit [] all = tt
 below_all limit (p ∷ ps) all = below_both limit p (all_ops ps) all.0 (below_all limit ps all.1)
 
 below_what : (limit higher : ℕ) (what : What) → limit ≤ higher → IsBelow limit what → IsBelow higher what
-below_what limit higher (Alloc n h s a) le is = omega (arith, le, is)
-below_what limit higher (Guarded k n h s a) le is = omega (arith, le, is)
-below_what limit higher (Remake n o h s a) le is = omega (arith, le, is)
-below_what limit higher s le is = tt
+below_what limit higher what h i = grind arith
 
 below_higher : (limit higher : ℕ) (ops : List Op) → limit ≤ higher → AreBelow limit ops → AreBelow higher ops
 below_higher limit higher [] le all = tt

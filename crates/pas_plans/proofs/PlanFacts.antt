@@ -1,10 +1,10 @@
 -- Each plan can be replayed: its operations follow one another, and its bounds suffice for their records.
-use Rattle.std.proofs.Common.{◌≡◌, ◌≢◌, ◌∷◌, Option, None, Some, refl, ap, ◌∙◌, ℕ, ◌+◌, ◌*◌, ◌<◌, ◌≤◌, List, [], length, slice_index, arith, ◌^◌, MatchOption}
+use Rattle.std.proofs.Common.{◌≡◌, ◌≢◌, ◌∷◌, Option, Some, refl, ap, ◌∙◌, ℕ, ◌+◌, ◌*◌, ◌<◌, ◌≤◌, List, [], length, slice_index, arith, ◌^◌, MatchOption}
 use Rattle.std.proofs.lemmas.List.{length-map}
 use Rattle.pas_profile.specs.Profiles.{IsValid, IsAdmitted}
 use Rattle.pas_profile.specs.declared.profile.Profile.{Profile}
 use Rattle.std.specs.List.{AllByRecursion}
-use Rattle.pas_trace.specs.{Reasons.actors_by, Plans.IsPlanOf, Plans.bounds_of, Plans.ops_of, Acts.Act, Acts.Operates, Acts.MakesPass}
+use Rattle.pas_trace.specs.{Reasons.actors_by, Plans.IsPlanOf, Plans.bounds_of, Plans.ops_of, Acts.Act, Acts.MakesPass}
 use Rattle.pas_trace.specs.Asked.{work_of, of_task, keeper_of, keeper_in}
 use Rattle.pas_trace.specs.EveryPlan.{all_ops, asked_after, IsThread, IsActorBy, IsActorOf, IsSoundTask, IsSoundWork, AreSound, AreKept}
 use Rattle.pas_trace.specs.declared.plan.{Op.Op, Task.Task, Work.Work, Plan.Plan}
@@ -21,8 +21,7 @@ module _ (f : Profile) (threads : ℕ) (more : f.threads ≤ threads) where
   region = record f { threads = threads }
 
   wider_actor : (work : Work) (k : ℕ) → IsActorBy f work k → IsActorBy region work k
-  wider_actor (Work.Own task) k of = (of.0, omega (arith, of.1, more))
-  wider_actor (Work.Chore chore) k of = of
+  wider_actor work k h = grind arith
 
   wider_admits : (size align heap : ℕ) → IsAdmitted f size align heap → IsAdmitted region size align heap
   wider_admits size align heap admits = record { within = admits.within; aligned = admits.aligned; of_profile = admits.of_profile }
@@ -59,8 +58,7 @@ above_one : (f : Profile) (guard : ℕ) (actor : ℕ) (o : Option ℕ) → 1 ≤
 above_one f guard actor o h most kept = search (arith, keepers_among)
 
 of_thread : (f : Profile) (work : Work) (k : ℕ) (o : Option ℕ) → IsActorBy f work k → of_task keeper_of work ≡ o → (keeper : ℕ) → o ≡ Some keeper → IsThread f k
-of_thread f (Work.Own task) k o of is keeper some = of
-of_thread f (Work.Chore chore) k o of is keeper some = absurd (cc)
+of_thread f work k o h i keeper j = grind arith
 
 keeps_above : (f : Profile) (guard : ℕ) (op : Op) (o : Option ℕ) → keeper_in op.what ≡ o → IsActorOf f op.what op.actor → MatchOption o (Unit {0}) (λ keeper. (keeper ≡ f.threads + op.actor) × (guard ≢ 0))
     → MatchOption o (Unit {0}) (λ keeper. IsThread (record f { threads = actors_by guard f.threads }) keeper × (op.actor < keeper))
@@ -75,17 +73,7 @@ pub plan_valid : {text : List ℕ} {plan : Plan} → IsPlanOf text plan → IsVa
 plan_valid {text} {plan} is =
     let sound = every_plan is in
     let valid = sound.valid in
-    record {
-      some_page = valid.some_page;
-      pages = valid.pages;
-      classes = valid.classes;
-      some_thread = omega (arith, threads_among plan.guard plan.profile.threads, valid.some_thread);
-      threads = sound.actors;
-      some_age = valid.some_age;
-      age = valid.age;
-      some_heap = valid.some_heap;
-      heaps = valid.heaps;
-    }
+    search (arith, threads_among)
 
 -- its threads are actors of its region
 pub plan_threads : (plan : Plan) → threads_of plan ≤ (region_of plan).threads

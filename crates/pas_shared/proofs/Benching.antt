@@ -358,7 +358,4 @@ part_both k (t ∷ l) m = at (part_both k l m) (eqb t.actor k) refl
     at again false e = ap (λ (b : Bool). if b then t.made ∷ part k (l ++ m) else part k (l ++ m)) e ∙ (again ∙ sym (ap (λ (b : Bool). (if b then t.made ∷ part k l else part k l) ++ part k m) e))
 
 pub row_tells : (r : Row) (l : Whole) (k : ℕ) → StandsOver r l → among r.actors k ≡ true → part k l ≡ made_in r k
-row_tells r l k h its =
-    let A = among r.actors in
-    sym (part_of_chosen A k l its) ∙ (ap (part k) h.order ∙ (part_both k (steps_of r.made) (steps_by A h.before)
-    ∙ (ap (λ (v : View). part k (steps_of r.made) ++ v) (part_of_chosen A k h.before its ∙ h.parts k its) ∙ sym (part_both k (steps_of r.made) (steps_of r.base)))))
+row_tells r l k h its = search (arith, part_of_chosen, part_both)

@@ -3,8 +3,7 @@ use Rattle.std.proofs.Common.{◌≡◌, ℕ, ◌<◌, List, [], ◌∷◌, refl
 use Rattle.atomic_table.specs.Table.{Me, Splits, Allows}
 use Rattle.pas_profile.specs.declared.profile.Profile.{Profile}
 use Rattle.pas_steps.specs.Views.{View}
-use Rattle.pas_shared.specs.declared.{rule.Entry.Entry, rule.Part.Part, rule.Roster.Roster, region.SharedRegion.SharedRegion}
-use Rattle.pas_shared.specs.declared.rule.Roster.TheVariants.{Unused, Listed, Settled, Benched}
+use Rattle.pas_shared.specs.declared.{rule.Entry.Entry, rule.Part.Part, rule.Roster.Roster, region.SharedRegion.SharedRegion, rule.Roster.TheVariants.Settled}
 use Rattle.pas_shared.specs.Ruled.{Holds, alone, joined, looks_in, parts_in, seen_in, all_but_last, last_alone, AreEarlier, SeesAll}
 use Rattle.pas_shared.proofs.Ruling.{splits_last, looks}
 
@@ -36,8 +35,5 @@ took_alone me own now k v is none its new =
 
 -- it saw what it saw
 pub seen_by_rest : (u : Roster) → seen_in (all_but_last u) ≡ seen_in u
-seen_by_rest (Unused n) = refl
-seen_by_rest (Listed ps) = refl
-seen_by_rest (Settled es []) = refl
 seen_by_rest (Settled es (p ∷ ps)) = refl
-seen_by_rest (Benched rs) = refl
+seen_by_rest _ = refl

@@ -42,23 +42,20 @@ splits_as f id n me is = subst (λ (m : Me (Unit {0}) Roster). Splits (Holds f) 
 -- ---- one more pass
 pub fresh_many : (id : TableId) (f : Profile) (k : ℕ) (rooms : List EventRoom) (passes : List SharedPass) → AreFresh id f k rooms passes → length rooms ≡ length passes
 fresh_many id f k [] [] h = refl
-fresh_many id f k [] (pass ∷ passes) h = absurd h
-fresh_many id f k (room ∷ rooms) [] h = absurd h
 fresh_many id f k (room ∷ rooms) (pass ∷ passes) h = ap suc (fresh_many id f (k + 1) rooms passes h.1)
+fresh_many id f k _ _ h = absurd h
 
 pub fresh_more : (id : TableId) (f : Profile) (k n : ℕ) (rooms : List EventRoom) (passes : List SharedPass) (room : EventRoom) (pass : SharedPass) → AreFresh id f k rooms passes → n ≡ k + length passes → IsFresh id f n room pass → AreFresh id f k (rooms ++ room ∷ []) (passes ++ pass ∷ [])
 fresh_more id f k n [] [] room pass h at new = (subst (λ (m : ℕ). IsFresh id f m room pass) (omega (arith, at)) new, tt)
-fresh_more id f k n [] (p ∷ passes) room pass h at new = absurd h
-fresh_more id f k n (r ∷ rooms) [] room pass h at new = absurd h
 fresh_more id f k n (r ∷ rooms) (p ∷ passes) room pass h at new = (h.0, fresh_more id f (k + 1) n rooms passes room pass h.1 (omega (arith, at)) new)
+fresh_more id f k n _ _ room pass h at new = absurd h
 
 -- ---- all of them are of the table
 pub fresh_are_of : (id : TableId) (f : Profile) (k : ℕ) (rooms : List EventRoom) (passes : List SharedPass) → AreFresh id f k rooms passes → All (IsOfTable id f) passes
 fresh_are_of id f k [] [] h j d lt = absurd (omega (arith, lt))
-fresh_are_of id f k [] (pass ∷ passes) h j d lt = absurd h
-fresh_are_of id f k (room ∷ rooms) [] h j d lt = absurd h
 fresh_are_of id f k (room ∷ rooms) (pass ∷ passes) h zero d lt = h.0.of_table
 fresh_are_of id f k (room ∷ rooms) (pass ∷ passes) h (suc j) d lt = fresh_are_of id f (k + 1) rooms passes h.1 j d (omega (arith, lt))
+fresh_are_of id f k _ _ h j d lt = absurd h
 
 -- ---- the rooms that are left
 pub one_done : {A : Type 0} (done xs : List A) (x : A) (rest whole : List A) → xs ≡ x ∷ rest → done ++ xs ≡ whole → (done ++ x ∷ []) ++ rest ≡ whole

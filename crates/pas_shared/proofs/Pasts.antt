@@ -1,5 +1,5 @@
 -- Two pasts that become one, and what stands behind a past.
-use Rattle.std.proofs.Common.{◌≡◌, ℕ, ◌==◌, if◌then◌else◌, Bool, true, false, List, [], ◌∷◌, ◌++◌, refl, sym, ap, ◌∙◌, subst}
+use Rattle.std.proofs.Common.{arith, ◌≡◌, ℕ, ◌==◌, if◌then◌else◌, Bool, true, false, List, [], ◌∷◌, ◌++◌, refl, sym, ap, ◌∙◌}
 use Rattle.std.proofs.lemmas.List.{append_cancel_right}
 use Rattle.atomic_table.specs.Table.{Me}
 use Rattle.pas_steps.specs.{Views.View, Lists.Whole, Lists.part}
@@ -21,10 +21,7 @@ earlier_right (es ∷ looks) more l seen = earlier_right looks more l seen.1
 -- what each of two ledgers' seats saw is behind the look of the one that took the other in
 pub both_earlier : (one other both : Me (Unit {0}) Roster) (l : Whole) → one ≡ (Settled (looks_in one.0) (parts_in one.0), []) → other ≡ (Settled (looks_in other.0) (parts_in other.0), [])
     → both.0 ≡ joined one.0 other.0 → AreEarlier (looks_in both.0) l → IsEarlier (seen_in one.0) l × IsEarlier (seen_in other.0) l
-both_earlier one other both l one_is other_is new seen =
-    let looks : looks_in both.0 ≡ looks_in one.0 ++ looks_in other.0 = ap looks_in new ∙ ap (λ (z : Me (Unit {0}) Roster × Me (Unit {0}) Roster). looks_in (joined z.0.0 z.1.0)) (λ i. (one_is i, other_is i)) in
-    let all = subst (λ (looks : List (List Entry)). AreEarlier looks l) looks seen in
-    (first_earlier (looks_in one.0) l (earlier_left (looks_in one.0) (looks_in other.0) l all), first_earlier (looks_in other.0) l (earlier_right (looks_in one.0) (looks_in other.0) l all))
+both_earlier one other both l one_is other_is new seen = search (arith, first_earlier, earlier_left, earlier_right)
 
 -- ---- what stands behind a past
 one_more : (b : Bool) (m : Made) (v w x : View) → x ≡ v ++ w → (if b then m ∷ x else x) ≡ (if b then m ∷ v else v) ++ w

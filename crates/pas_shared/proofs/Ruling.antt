@@ -13,7 +13,7 @@ use Rattle.pas_core.proofs.{Choosing.steps_by_one}
 use Rattle.pas_core.proofs.Rights.{right_in_one_place, free_without_deed, free_known, deeds_known, backed_known}
 use Rattle.pas_core.proofs.Stamps.{ends_stamped, unstamped_is_held, stamp_known, epoch_known}
 use Rattle.pas_shared.specs.{Kept.IsGood, Kept.NoneIsEarly, Left.IsLeftBy}
-use Rattle.std.proofs.lemmas.{Bool.cases_eq, List.set-get_or, List.Elements.All-cons, List.Elements.All-weaker}
+use Rattle.std.proofs.lemmas.{Bool.cases_eq, List.set-get_or, List.Elements.All-weaker}
 use prog.Atomic.{either}
 use mathlib.Core.Option.{some, some-injective, some-ne-none}
 use lib.ListN.{get_elem?}
@@ -70,8 +70,7 @@ none_is_early f l valid legal k page epoch later earlier is = (earlier_run f lat
 
 -- ---- what the seats know after one more step of actor k, whose seat is id
 sits_named : (u : Roster) (k : ℕ) (v : View) → SitsFor u k v → Names u k v
-sits_named u k v (inl is) = subst (λ (y : Roster). Names y k v) (sym is) (inl (refl, refl))
-sits_named u k v (inr (r, is, sits)) = subst (λ (y : Roster). Names y k v) (sym is) (inl sits)
+sits_named u k v h = grind arith
 
 view_with : (own : ℕ → View) (k : ℕ) (m : Made) (l : Whole) (b : ℕ) → own b ≡ part b l → with_step k m own b ≡ part b (triple k m ∷ l)
 view_with own k m l b is = ⊎_elim here there (cases_eq b k)
@@ -183,22 +182,17 @@ rows_still (r ∷ rs) k m l none h = (at (among r.actors k) refl, rows_still rs 
     at false other = row_still r k m l other h.0
 
 names_rows : (u : Roster) (k : ℕ) (x : View) → HasRow (rows_in u) k x → Names u k x
-names_rows (Unused n) k x h = absurd h
-names_rows (Listed ps) k x h = absurd h
-names_rows (Settled es ps) k x h = absurd h
 names_rows (Benched rs) k x h = h
+names_rows _ k x h = absurd h
 
 apart_with : (k : ℕ) (v : View) (m : Made) (u : Roster) → SitsFor u k v → Apart (with_made k m u)
-apart_with k v m u (inl is) = subst (λ (y : Roster). Apart (with_made k m y)) (sym is) ((λ x none. none), tt)
-apart_with k v m u (inr (r, is, sits)) = subst (λ (y : Roster). Apart (with_made k m y)) (sym is) tt
+apart_with k v m u h = grind arith
 
 seen_with : (l : Whole) (k : ℕ) (v : View) (m : Made) (u : Roster) → SitsFor u k v → SawOf l (with_made k m u)
-seen_with l k v m u (inl is) = subst (λ (y : Roster). SawOf l (with_made k m y)) (sym is) (nothing_seen l)
-seen_with l k v m u (inr (r, is, sits)) = subst (λ (y : Roster). SawOf l (with_made k m y)) (sym is) (nothing_seen l)
+seen_with l k v m u h = grind (arith, nothing_seen)
 
 rows_with_step : (l : Whole) (k : ℕ) (v : View) (m : Made) (u : Roster) → SitsFor u k v → RowsOf l u → RowsOf (triple k m ∷ l) (with_made k m u)
-rows_with_step l k v m u (inl is) h = subst (λ (y : Roster). RowsOf (triple k m ∷ l) (with_made k m y)) (sym is) tt
-rows_with_step l k v m u (inr (r, is, sits)) h = subst (λ (y : Roster). RowsOf (triple k m ∷ l) (with_made k m y)) (sym is) (row_grown r k m l sits.0 (subst (RowsOf l) is h).0, tt)
+rows_with_step l k v m u h i = grind (arith, row_grown)
 
 -- ---- a step
 pub adds : (f : Profile) (slots id k : ℕ) (v : View) (s : Step) (i : ℕ) (g : ℕ → ℕ) (u : Roster) → SitsFor u k v → IsAskedOf f k v s → i ≡ index_of f.pages (target s) → ((n : ℕ) → new_value (epoch_of v) s n ≡ g n)
@@ -263,10 +257,7 @@ at_call : {f key : Profile} {here there : TableId} {m slots id k : ℕ} {v : Vie
     → me ≡ (u, []) → IsAskedOf f k v s → i ≡ index_of f.pages (target s)
     → Allows (Holds f) slots id (u, []) i g told
     → (here ≡ there) × (i < m) × Allows (Holds key) slots id me i g told
-at_call {f = f} {m = m} {slots = slots} {id = id} {v = v} {i = i} s g told place seated asked at allows =
-    let low : index_of f.pages (target s) < words_of f.pages f.heaps = index_lt f.pages f.heaps (target s) (target_of_region f v s asked.of_region asked.allowed) in
-    let below : i < m = subst (λ (z : ℕ × ℕ). z.0 < z.1) (λ j. (sym at j, sym place.2 j)) low in
-    (place.0, below, subst (λ (z : Profile × Me (Unit {0}) Roster). Allows (Holds z.0) slots id z.1 i g told) (λ j. (sym place.1 j, sym seated j)) allows)
+at_call {f = f} {m = m} {slots = slots} {id = id} {v = v} {i = i} s g told place seated asked at allows = search (arith, index_lt, target_of_region)
 
 -- for the step that a match has shown to be s
 pub may_make : {f key : Profile} {here there : TableId} {m slots id k : ℕ} {v : View} {u : Roster} {chosen step s : Step} {i e : ℕ} {g : ℕ → ℕ} {me : Me (Unit {0}) Roster}
@@ -390,10 +381,7 @@ among_one n k h = at (n == k) refl h
 
 -- a row of one actor names it alone
 row_of_one : (p : Part) (k : ℕ) (v : View) → SitsIn (record { actors = p.actor ∷ []; made = entries_by p.actor p.made; base = [] }) k v → (p.actor ≡ k) × (p.made ≡ v)
-row_of_one p k v sits =
-    let its : p.actor ≡ k = among_one p.actor k sits.0 in
-    let all : part p.actor (steps_of (entries_by p.actor p.made) ++ []) ≡ p.made = ap (λ (l : Whole). part p.actor (l ++ [])) (entries_are p.actor p.made) ∙ (part_of_own p.actor p.made [] ∙ append-nil p.made) in
-    (its, sym all ∙ (ap (λ (j : ℕ). part j (steps_of (entries_by p.actor p.made) ++ [])) its ∙ sits.1))
+row_of_one p k v sits = search (arith, among_one, entries_are, part_of_own, append-nil)
 
 rows_of_parts : (ps : List Part) (k : ℕ) (v : View) → HasRow (rows_of ps) k v → HasPart ps k v
 rows_of_parts [] k v h = absurd h
@@ -401,22 +389,7 @@ rows_of_parts (p ∷ ps) k v (inl h) = inl (row_of_one p k v h)
 rows_of_parts (p ∷ ps) k v (inr h) = inr (rows_of_parts ps k v h)
 
 names_either : (u w : Roster) (k : ℕ) (v : View) → Names (joined u w) k v → Names u k v ⊎ Names w k v
-names_either (Listed ps) (Listed qs) k v h = ⊎_elim inr inl (has_either qs ps k v h)
-names_either (Listed ps) (Unused n) k v h = inl h
-names_either (Listed ps) (Settled es qs) k v h = ⊎_elim inr inl (has_either qs ps k v h)
-names_either (Settled es ps) (Listed qs) k v h = ⊎_elim inr inl (has_either qs ps k v h)
-names_either (Settled es ps) (Unused n) k v h = inl h
-names_either (Settled es ps) (Settled ds qs) k v h = ⊎_elim inr inl (has_either qs ps k v h)
-names_either (Listed ps) (Benched qs) k v h = inl h
-names_either (Settled es ps) (Benched qs) k v h = inl h
-names_either (Benched rs) (Listed ps) k v h = ⊎_elim (λ t. inr (rows_of_parts ps k v t)) inl (row_either (rows_of ps) rs k v h)
-names_either (Benched rs) (Benched qs) k v h = ⊎_elim inr inl (row_either qs rs k v h)
-names_either (Benched rs) (Unused n) k v h = inl h
-names_either (Benched rs) (Settled es ps) k v h = inl h
-names_either (Unused n) (Benched qs) k v h = inr h
-names_either (Unused n) (Listed qs) k v h = inr h
-names_either (Unused n) (Unused m) k v h = inr h
-names_either (Unused n) (Settled es qs) k v h = inr h
+names_either u w k v h = grind (arith, has_either, rows_of_parts, row_either)
 
 -- no actor is at both
 abbrev AtOne : Roster → Roster → Type 0
@@ -439,13 +412,10 @@ apart_joined (Settled es ps) (Settled ds qs) one other never = apart_both qs ps 
 apart_joined (Listed ps) (Benched qs) one other never = one
 apart_joined (Settled es ps) (Benched qs) one other never = one
 apart_joined (Benched rs) (Listed ps) one other never = tt
-apart_joined (Benched rs) (Benched qs) one other never = tt
-apart_joined (Benched rs) (Unused n) one other never = tt
-apart_joined (Benched rs) (Settled es ps) one other never = tt
-apart_joined (Unused n) (Benched qs) one other never = tt
 apart_joined (Unused n) (Listed qs) one other never = other
 apart_joined (Unused n) (Unused m) one other never = other
 apart_joined (Unused n) (Settled es qs) one other never = other
+apart_joined _ _ one other never = tt
 
 -- the list goes on from each row's base
 bases_earlier : (rs : List Row) (l : Whole) → AreRowsOf rs l → AreEarlier (bases_in rs) l
@@ -453,32 +423,14 @@ bases_earlier [] l rows = tt
 bases_earlier (r ∷ rs) l rows = ((rows.0.since, rows.0.goes_on), bases_earlier rs l rows.1)
 
 seen_joined : (u w : Roster) (l : Whole) → SawOf l u → SawOf l w → RowsOf l w → SawOf l (joined u w)
-seen_joined (Listed ps) (Listed qs) l one other rows = one
-seen_joined (Listed ps) (Unused n) l one other rows = one
-seen_joined (Listed ps) (Settled es qs) l one other rows = one
-seen_joined (Settled es ps) (Listed qs) l one other rows = one
-seen_joined (Settled es ps) (Unused n) l one other rows = one
-seen_joined (Settled es ps) (Settled ds qs) l one other rows = seen_both es ds l one other
-seen_joined (Listed ps) (Benched qs) l one other rows = one
-seen_joined (Settled es ps) (Benched qs) l one other rows = seen_both es (bases_in qs) l one (bases_earlier qs l rows)
-seen_joined (Benched rs) (Listed ps) l one other rows = one
-seen_joined (Benched rs) (Benched qs) l one other rows = one
-seen_joined (Benched rs) (Unused n) l one other rows = one
-seen_joined (Benched rs) (Settled es ps) l one other rows = one
-seen_joined (Unused n) (Benched qs) l one other rows = other
-seen_joined (Unused n) (Listed qs) l one other rows = other
-seen_joined (Unused n) (Unused m) l one other rows = other
-seen_joined (Unused n) (Settled es qs) l one other rows = other
+seen_joined u w l h i j = grind (arith, seen_both, bases_earlier)
 
 rows_both : (qs rs : List Row) (l : Whole) → AreRowsOf qs l → AreRowsOf rs l → AreRowsOf (qs ++ rs) l
 rows_both [] rs l one other = other
 rows_both (q ∷ qs) rs l one other = (one.0, rows_both qs rs l one.1 other)
 
 just_one : (n j : ℕ) → among (n ∷ []) j ≡ (j == n)
-just_one n j = ⊎_elim
-    (λ (e : j ≡ n). ap (λ (b : Bool). if b then true else false) (eq-eqb n j (sym e)) ∙ sym (eq-eqb j n e))
-    (λ (ne : j ≢ n). ap (λ (b : Bool). if b then true else false) (ne_eqb n j (λ e. ne (sym e))) ∙ sym (ne_eqb j n ne))
-    (cases_eq j n)
+just_one n j = search (arith, eq-eqb, ne_eqb, cases_eq)
 
 rows_of_theirs : (ps : List Part) (l : Whole) → ((k : ℕ) (v : View) → HasPart ps k v → part k l ≡ v) → AreRowsOf (rows_of ps) l
 rows_of_theirs [] l own = tt
@@ -493,13 +445,7 @@ rows_of_theirs (p ∷ ps) l own = (
 
 rows_joined : (u w : Roster) (l : Whole) → RowsOf l u → RowsOf l w → ((k : ℕ) (v : View) → Names w k v → part k l ≡ v) → RowsOf l (joined u w)
 rows_joined (Listed ps) (Listed qs) l one other own = tt
-rows_joined (Listed ps) (Unused n) l one other own = tt
-rows_joined (Listed ps) (Settled es qs) l one other own = tt
-rows_joined (Listed ps) (Benched qs) l one other own = tt
 rows_joined (Settled es ps) (Listed qs) l one other own = tt
-rows_joined (Settled es ps) (Unused n) l one other own = tt
-rows_joined (Settled es ps) (Settled ds qs) l one other own = tt
-rows_joined (Settled es ps) (Benched qs) l one other own = tt
 rows_joined (Benched rs) (Listed ps) l one other own = rows_both (rows_of ps) rs l (rows_of_theirs ps l own) one
 rows_joined (Benched rs) (Benched qs) l one other own = rows_both qs rs l other one
 rows_joined (Benched rs) (Unused n) l one other own = one
@@ -508,6 +454,7 @@ rows_joined (Unused n) (Listed qs) l one other own = other
 rows_joined (Unused n) (Unused m) l one other own = other
 rows_joined (Unused n) (Settled es qs) l one other own = other
 rows_joined (Unused n) (Benched qs) l one other own = other
+rows_joined _ _ l one other own = tt
 
 pub joins : (f : Profile) (id : ℕ) (u : Roster) (other : ℕ) (w : Roster) → Joins (Holds f) id u other w (joined u w) (Listed [])
 joins f id u other w s h here apart there = record {
@@ -562,44 +509,27 @@ has_right [] qs k v h = h
 has_right (p ∷ ps) qs k v h = inr (has_right ps qs k v h)
 
 kept : (u : Roster) (n : ℕ) (w : View) (k : ℕ) (v : View) → HasPart (parts_in u) k v → HasPart (parts_in (joined u (alone n w))) k v
-kept (Unused m) n w k v h = absurd h
-kept (Listed ps) n w k v h = has_right (record { actor = n; made = w } ∷ []) ps k v h
-kept (Benched rs) n w k v h = absurd h
-kept (Settled es ps) n w k v h = has_right (record { actor = n; made = w } ∷ []) ps k v h
+kept u n w k v h = grind (arith, has_right)
 
 taken_in : (u : Roster) (n : ℕ) (w : View) → IsNoBench u → HasPart (parts_in (joined u (alone n w))) n w
-taken_in (Unused m) n w list = inl (refl, refl)
-taken_in (Listed ps) n w list = inl (refl, refl)
-taken_in (Settled es ps) n w list = inl (refl, refl)
 taken_in (Benched rs) n w list = absurd list
+taken_in _ n w list = inl (refl, refl)
 
 pub no_bench_still : (u : Roster) (n : ℕ) (w : View) → IsNoBench u → IsNoBench (joined u (alone n w))
-no_bench_still (Unused m) n w list = tt
-no_bench_still (Listed ps) n w list = tt
-no_bench_still (Settled es ps) n w list = tt
 no_bench_still (Benched rs) n w list = list
+no_bench_still _ n w list = tt
 
 -- what it saw stays
 pub seen_still : (u : Roster) (n : ℕ) (w : View) → seen_in (joined u (alone n w)) ≡ seen_in u
 seen_still (Unused m) n w = refl
-seen_still (Listed ps) n w = refl
-seen_still (Settled es ps) n w = refl
-seen_still (Benched rs) n w = refl
+seen_still _ n w = refl
 
 -- one more pass
 pub takes_in : (u : Roster) (me : Me (Unit {0}) Roster) (p : SharedPass) (rest : List SharedPass) → IsNoBench u → me ≡ (joined u p.place.seat.me.0, []) → All (IsNamed u) rest → All (IsNamed me.0) (p ∷ rest)
-takes_in u me p rest list is h =
-    let n = p.place.actor in
-    let w = view_of p in
-    let now : me.0 ≡ joined u (alone n w) = ap (λ m. m.0) is ∙ ap (λ m. joined u m.0) p.place.named in
-    subst (λ (k : Roster). All (IsNamed k) (p ∷ rest)) (sym now)
-    (All-cons (IsNamed (joined u (alone n w))) p rest (taken_in u n w list) (All-weaker (IsNamed u) (IsNamed (joined u (alone n w))) (λ q. kept u n w q.place.actor (view_of q)) rest h))
+takes_in u me p rest list is h = search (arith, taken_in)
 
 names_shown : (u : Roster) (k : ℕ) (v : View) → HasPart (parts_in u) k v → Names u k v
-names_shown (Unused n) k v h = absurd h
-names_shown (Listed ps) k v h = h
-names_shown (Settled es ps) k v h = h
-names_shown (Benched rs) k v h = absurd h
+names_shown u k v h = grind arith
 
 -- what the region was left with shows of each pass
 pub ends : (f : Profile) (u : Roster) (state : State) (passes : List SharedPass) → (left : IsLeftBy f u state) → All (IsNamed u) passes

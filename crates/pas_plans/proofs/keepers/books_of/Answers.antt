@@ -9,10 +9,9 @@ loop-below-init c = record { made = no_books (λ k. slice_index_or c.args.places
 pub loop-below-preserved : goal.loop-below-preserved
 loop-below-preserved c =
     let i = c.loop-below.invariant in
-    let reserved = i.reserved in
     record {
       made = next_book c.push_reserved.new.self.items c.in_ok-book.book c.push_reserved.ensures.items c.in_ok-book.ensures.empty c.in_ok-book.ensures.size i.made;
-      reserved = omega (arith, reserved, c.push_reserved.ensures.capacity);
+      reserved = omega (arith, i.reserved, c.push_reserved.ensures.capacity);
     }
 
 pub returns : goal.returns

@@ -23,13 +23,12 @@ unreachable-requires c =
 pub loop-below-preserved : goal.loop-below-preserved
 loop-below-preserved c =
     let i = c.loop-below.invariant in
-    let reserved = i.reserved in
     record {
       made = next_unused c.push_reserved.new.self.items c.new.result c.push_reserved.ensures.items (is_empty (cached c.new.result) c.new.ensures.locals c.new.ensures.log c.new.ensures.noted c.new.ensures.idle_since) i.made;
       left = λ k at. c.cache_seat.ensures.others k (λ e. absurd (omega (arith, e, at))) ∙ i.left k (omega (arith, at));
       threads = c.cache_seat.ensures.threads ∙ i.threads;
       outcomes = c.cache_seat.ensures.outcomes ∙ i.outcomes;
-      reserved = omega (arith, reserved, c.push_reserved.ensures.capacity);
+      reserved = omega (arith, i.reserved, c.push_reserved.ensures.capacity);
     }
 
 pub returns-clause-caches : goal.returns-clause-caches

@@ -22,14 +22,13 @@ unreachable-requires c =
 pub loop-actor-preserved : goal.loop-actor-preserved
 loop-actor-preserved c =
     let i = c.loop-actor.invariant in
-    let reserved = i.reserved in
     record {
       made = next_room _ c.in-Some.room c.push_reserved.ensures.items (sym (i.left c.loop-actor.actor (omega arith)) ∙ c.in-Some.ensures.room.0) c.in-Some.ensures.room.1 i.made;
       left = λ k at. c.event_room.ensures.others k (λ e. absurd (omega (arith, e, at))) ∙ i.left k (omega (arith, at));
       seats = λ k. c.event_room.ensures.seats k ∙ i.seats k;
       outcomes = c.event_room.ensures.outcomes ∙ i.outcomes;
       threads = c.event_room.ensures.threads ∙ i.threads;
-      reserved = omega (arith, reserved, c.push_reserved.ensures.capacity);
+      reserved = omega (arith, i.reserved, c.push_reserved.ensures.capacity);
     }
 
 pub returns-clause-rooms : goal.returns-clause-rooms
