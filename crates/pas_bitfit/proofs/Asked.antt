@@ -14,8 +14,8 @@ is_wanted room align sized is = record { grains = (omega (arith, sized.0), omega
 module _ (room align : ℕ) (sized : (16 ≤ room) × (room ≤ 2048) × (room % 16 ≡ 0)) (alignment : IsAlignment align) where
   of_request : (f : Profile) (d : Directory) (searched after : List Made) (block : Block) → IsGiven (runs (run_for room align)) (run_at (run_for room align)) f d searched after block → IsOfRequest room align block
   of_request f d searched after block is = record {
-    room_is = ap (λ (b : Block). b.room) is.block_is ∙ (omega (arith, sized.2));
-    aligned = ap (λ (b : Block). address_of b.name % align) is.block_is ∙ stands_aligned is.page is.found align alignment is.served.serves.chosen.this.aligned;
+    room_is = is.room_is ∙ omega (arith, sized.2);
+    aligned = ap (λ a. a % align) is.address_is ∙ stands_aligned is.page is.found align alignment is.served.serves.chosen.this.aligned;
   }
 
   pub answer_of_request : {tells : Bool} {σ σ' : Standing} (heap : ℕ) (answer : Result Block NoRoom) → AllocatesRun (runs (run_for room align)) (run_at (run_for room align)) (bitfit_directory heap) tells σ σ' answer → MatchResult answer (IsOfRequest room align) (λ why. Unit {0})

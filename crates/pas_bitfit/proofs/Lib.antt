@@ -1,4 +1,4 @@
 pub mod Aligned
 mod EndBits
-pub mod Lowest
+mod Lowest
 mod Asked

@@ -1,10 +1,11 @@
 -- Runs of free grains of a page.
 use Rattle.std.specs.Prelude.{ℕ, ◌+◌, ◌%◌, ◌<◌, ◌≤◌, ◌≡◌, refl}
-use Rattle.pas_bits.specs.Runs.{in_run}
+use Rattle.std.proofs.Common.{arith}
+use Rattle.pas_bits.specs.Runs.{AreFree}
 use Rattle.pas_profile.specs.declared.directory.Kind.{Kind}
 use Rattle.pas_steps.specs.Evidence.{Readings, IsAntitone}
-use Rattle.pas_rights.specs.Looks.{AllFree}
-use Rattle.pas_choice.specs.{Allocates.IsRunOf, Choices.Choice}
+use Rattle.pas_choice.specs.Choices.{Choice}
+use Rattle.pas_choice.specs.Placements.{Placement, IsPlacement, placed, run_from}
 use Rattle.pas_choice.specs.declared.choosing.Run.{Run}
 use Rattle.pas_bitfit.specs.declared.wanted.Wanted.{Wanted}
 
@@ -16,7 +17,7 @@ pub record IsWanted (wanted : Wanted) : Type 0 where
 pub record Fits (wanted : Wanted) (r : Readings) (g : ℕ) : Type 0 where
   pub aligned : g % wanted.align ≡ 0
   pub within : g + wanted.grains ≤ 256
-  pub free : AllFree r g wanted.grains
+  pub free : AreFree r g wanted.grains
 
 abbrev pub NoneFits : Wanted → Readings → Type 0
 NoneFits wanted r = (g : ℕ) → Fits wanted r g → ⊥
@@ -28,21 +29,34 @@ pub record IsLowestFit (wanted : Wanted) (r : Readings) (g : ℕ) : Type 0 where
 
 -- fewer free grains show no run where more of them show none
 pub fewer_runs : (wanted : Wanted) → IsAntitone (NoneFits wanted)
-fewer_runs wanted r fewer less none g fits = none g record { aligned = fits.aligned; within = fits.within; free = λ x lt low high. less x lt (fits.free x lt low high) }
+fewer_runs wanted r fewer less none g fits = none g record {
+  aligned = fits.aligned;
+  within = fits.within;
+  free = λ x low high. less x (omega (arith, high, fits.within)) (fits.free x low high);
+}
 
--- of a bit-fit page just the lowest run that fits is chosen, by its first grain
-abbrev pub runs : Wanted → Choice ℕ
-runs wanted = record {
+-- of a bit-fit page just the lowest run that fits is chosen
+abbrev pub lowest_run : Wanted → Placement
+lowest_run wanted = record {
   asked = IsWanted wanted;
   kind = Kind.Bitfit;
+  grains = wanted.grains;
   no_fit = NoneFits wanted;
   chosen = IsLowestFit wanted;
-  kept = λ first. in_run first wanted.grains;
 }
+
+pub is_lowest_run : (wanted : Wanted) → IsPlacement (lowest_run wanted)
+is_lowest_run wanted = record {
+  some = λ is. is.grains.0;
+  empty = λ is none. none 0 (record { aligned = grind arith; within = omega (arith, is.grains.1); free = λ x low high. refl });
+  fewer = fewer_runs wanted;
+  is_fit = λ r first is fit. record { within = fit.this.within; free = fit.this.free; fits = λ none. none first fit.this };
+}
+
+-- it is chosen by its first grain
+abbrev pub runs : Wanted → Choice ℕ
+runs wanted = placed (lowest_run wanted)
 
 -- the run from this grain on
 abbrev pub run_at : Wanted → ℕ → Run
-run_at wanted first = record { first = first; grains = wanted.grains }
-
-pub is_run_at : (wanted : Wanted) (r : Readings) (first : ℕ) → IsWanted wanted → IsLowestFit wanted r first → IsRunOf (λ b. in_run first wanted.grains b) (run_at wanted first)
-is_run_at wanted r first is fit = record { some = is.grains.0; within = fit.this.within; are = λ b lt. refl }
+run_at wanted = run_from (lowest_run wanted)

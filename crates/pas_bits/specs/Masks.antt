@@ -1,6 +1,6 @@
 -- Masks of 256 bits as sets of numbers.
 use Rattle.std.specs.Prelude.{ℕ, ◌+◌, ◌-◌, ◌/◌, ◌%◌, ◌<◌, ◌≤◌, ◌≡◌, nat_lt, Bool, true, false, if◌then◌else◌, slice_index}
-use Rattle.pas_bits.specs.Bits.{has_bit, count_below}
+use Rattle.pas_bits.specs.{Bits.has_bit, Bits.count_below, Runs.AreFree}
 use Rattle.pas_bits.specs.declared.mask.Mask4.{Mask4}
 
 -- bit g of the mask is set. There are no bits from 256 on
@@ -13,7 +13,7 @@ set_count mask = count_below 256 (is_set mask)
 
 -- all bits of the run of n from g are set
 abbrev pub AreSet : Mask4 → ℕ → ℕ → Type 0
-AreSet mask g n = (x : ℕ) → g ≤ x → x < g + n → is_set mask x ≡ true
+AreSet mask = AreFree (is_set mask)
 
 -- all bits below n are set
 abbrev pub AllSetBelow : Mask4 → ℕ → Type 0

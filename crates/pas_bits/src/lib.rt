@@ -4,10 +4,12 @@
 //! it does to that set, or which of its members it finds. No call refuses, and none allocates.
 #![tactic(auto)]
 
+pub mod free_runs;
 pub mod mask;
 mod moving;
 pub mod page_vector;
 pub mod run;
 pub mod search;
 
+pub use free_runs::FreeRun;
 pub use mask::Mask4;

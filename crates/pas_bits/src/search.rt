@@ -57,8 +57,8 @@ impl Mask4 {
         self.first_place(grains, grains, usable)
     }
 
-    /// The lowest clear bit at or after `from`, or 256 where there is none.
-    fn run_end(&self, from: u16) -> u16
+    /// The lowest clear bit at or after `from`, which is at most 256, or 256 where there is none. Looks at each word at most once.
+    pub fn run_end(&self, from: u16) -> u16
         requires { from ≤ 256 }
         ensures { IsRunEnd self.now from result }
     {

@@ -147,6 +147,9 @@ module _ {Found : Type 0} (choice : Choice Found) (run : Found → Run) (law : (
       page_is : address_of block.name / 4096 ≡ page
       page_is = ap (λ (b : Block). address_of b.name / 4096) gives.block_is ∙ omega (arith, is_run.within, is_run.some)
 
+      block_as : block ≡ block_of d.heap page (run served.found).first (run served.found).grains gives.word
+      block_as = gives.block_is ∙ ap (λ (x : Run). block_of d.heap page x.first x.grains gives.word) r_is
+
       pub allocates : AllocatesRun choice run d tells σ σ3 (Ok block)
       allocates = record {
         searched = xs;
@@ -164,7 +167,9 @@ module _ {Found : Type 0} (choice : Choice Found) (run : Found → Run) (law : (
           after_is = ap (λ (x : Run). left.steps ++ give_steps page x.first block gives.word gives.answer) r_is;
           leaves = left.order;
           few = let sum = length-append left.steps given in omega (arith, sum, left.few);
-          block_is = gives.block_is ∙ ap (λ (x : Run). block_of d.heap page x.first x.grains gives.word) r_is;
+          block_is = block_as;
+          address_is = ap (λ (b : Block). address_of b.name) block_as;
+          room_is = ap (λ (b : Block). b.room) block_as;
           gave = whole_call.leads;
           events = λ k v. ap (events_by k v) (append_assoc left.steps given xs) ∙ events_same returning refl k v left.steps (given ++ xs) (returns_are page left.steps left.returns);
         };

@@ -1,3 +1,4 @@
 mod Parts
 mod Allocated
+mod Placed
 pub mod Alone

@@ -1,5 +1,5 @@
 -- A run of grains that was chosen is given as a block.
-use Rattle.std.specs.Prelude.{ℕ, ◌+◌, ◌/◌, ◌^◌, ◌<◌, ◌≤◌, ◌≡◌, Bool, true, false, List, [], ◌∷◌, ◌++◌, length, Result, MatchResult}
+use Rattle.std.specs.Prelude.{ℕ, ◌+◌, ◌*◌, ◌/◌, ◌^◌, ◌<◌, ◌≤◌, ◌≡◌, Bool, true, false, List, [], ◌∷◌, ◌++◌, length, Result, MatchResult}
 use Rattle.pas_bits.specs.Runs.{in_run}
 use Rattle.pas_profile.specs.Blocks.{address_of, grain_of, length_of}
 use Rattle.pas_profile.specs.declared.{directory.Directory.Directory, event.Event.Event, event.NoRoom.NoRoom, name.Block.Block, profile.Profile.Profile}
@@ -29,8 +29,8 @@ pub record GaveBlock (page : ℕ) (d : Directory) (block : Block) (v w : View) :
   pub deed : KnowsDeed page d w
   pub turn : block.name.turn < 2 ^ 37
 
--- The search found the page and what is chosen of it. Then the block of the run was given, and after that the page was left: at most 13 steps,
--- and no event but the give.
+-- The search found the page and what is chosen of it. Then the block of the run was given, so many bytes at the run's address, and after that the
+-- page was left: at most 13 steps, and no event but the give.
 pub record IsGiven {Found : Type 0} (choice : Choice Found) (run : Found → Run) (f : Profile) (d : Directory) (searched after : List Made) (block : Block) : Type 0 where
   pub page : ℕ
   pub found : Found
@@ -42,6 +42,8 @@ pub record IsGiven {Found : Type 0} (choice : Choice Found) (run : Found → Run
   pub leaves : LeaveSteps page d left
   pub few : length after ≤ 13
   pub block_is : block ≡ block_of d.heap page (run found).first (run found).grains word
+  pub address_is : address_of block.name ≡ page * 4096 + (run found).first * 16
+  pub room_is : block.room ≡ (run found).grains * 16
   pub gave : Leads f (MaySearch d) (GaveBlock page d block) (after ++ searched)
   pub events : (k : ℕ) (v : View) → events_by k v (after ++ searched) ≡ Event.Give k block ∷ events_by k v searched
 

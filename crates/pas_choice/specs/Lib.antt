@@ -1,2 +1,3 @@
 pub mod Choices
 pub mod Allocates
+pub mod Placements

@@ -1,10 +1,10 @@
 -- Looks at the free words of a page, and what they show; and the hint of a page that may be empty.
-use Rattle.std.specs.Prelude.{ℕ, ◌<◌, ◌≤◌, ◌+◌, ◌≡◌, ◌≢◌, Bool, true, false, ◌⊎◌, List, [], ◌∷◌, Option, None, Some, MatchOption}
+use Rattle.std.specs.Prelude.{ℕ, ◌<◌, ◌≡◌, ◌≢◌, Bool, true, false, ◌⊎◌, List, [], ◌∷◌, Option, None, Some, MatchOption}
 use Rattle.pas_bits.specs.declared.mask.Mask4.{Mask4}
 use Rattle.pas_bits.specs.{Masks.is_set, Masks.AllSetBelow, Bits.has_bit}
 use Rattle.pas_profile.specs.declared.{directory.Directory.Directory, word.Word.Word}
 use Rattle.pas_steps.specs.Desks.{Standing, AnyView, Adds, made}
-use Rattle.pas_steps.specs.{Evidence.Readings, Past.Since, Views.usable_by_kind, Views.all_ones}
+use Rattle.pas_steps.specs.{Past.Since, Views.usable_by_kind, Views.all_ones}
 use Rattle.pas_steps.specs.declared.step.{Made.Made, Step.TheVariants.Look, Step.TheVariants.Take, Step.TheVariants.Hint}
 use Rattle.pas_rights.specs.Words.{each_word, words, ones}
 use Rattle.pas_rights.specs.declared.reading.Used.{Used}
@@ -19,10 +19,6 @@ abbrev pub ReadsPage : ℕ → Standing → Standing → Mask4 → Type 0
 ReadsPage page desk desk' free = Adds desk desk' AnyView (looks page (words free) 4)
 
 -- ---- what they show
--- each grain of the page, 0 to 255, that is one of the n from s on was read as free
-abbrev pub AllFree : Readings → ℕ → ℕ → Type 0
-AllFree r s n = (g : ℕ) → g < 256 → s ≤ g → g < s + n → r g ≡ true
-
 -- a grain was read as free that blocks of the directory may cover; none was
 abbrev pub HasUsable : Directory → Mask4 → Type 0
 HasUsable directory free = (g : ℕ) × (g < 256) × (is_set free g ≡ true) × (usable_by_kind directory.kind g ≡ true)

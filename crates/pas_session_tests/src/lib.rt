@@ -4,6 +4,8 @@
 #[cfg(test)]
 mod beside_tests;
 #[cfg(test)]
+mod bestfit_tests;
+#[cfg(test)]
 mod cache_tests;
 #[cfg(test)]
 mod errand_tests;
@@ -15,8 +17,6 @@ mod log_tests;
 mod paging_tests;
 #[cfg(test)]
 mod pass_tests;
-#[cfg(test)]
-mod power_tests;
 #[cfg(test)]
 mod racing_tests;
 #[cfg(test)]

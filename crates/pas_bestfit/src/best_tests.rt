@@ -1,0 +1,35 @@
+//! The best place on a page with four free runs, and the grains of a request.
+ghost use Rattle.std.specs.Prelude.{◌≤◌};
+
+use crate::best::Best;
+use pas_bits::Mask4;
+use pas_choice::Placing;
+
+/// Runs of 10, 5, 5 and 6 free grains.
+fn some_runs() -> Mask4 {
+    Mask4::run(0, 10)
+        .either(&Mask4::run(20, 5))
+        .either(&Mask4::run(40, 5))
+        .either(&Mask4::run(250, 6))
+}
+
+/// The first grain that a request for so many gets there.
+fn first_for(grains: u16) -> Option<u8>
+    requires { (1 ≤ grains) × (grains ≤ 256) }
+{
+    Best { grains }.first(&some_runs())
+}
+
+#[test]
+fn the_shortest_run_serves_and_the_lowest_among_equals(rt: HostRuntime) {
+    assert!(rt; first_for(1) == Some(20) && first_for(5) == Some(20));
+    assert!(rt; first_for(6) == Some(250));
+    assert!(rt; first_for(7) == Some(0) && first_for(10) == Some(0));
+    assert!(rt; first_for(11).is_none());
+}
+
+#[test]
+fn a_request_gets_as_many_grains_as_hold_it(rt: HostRuntime) {
+    assert!(rt; Best::holding(0).grains == 1 && Best::holding(16).grains == 1);
+    assert!(rt; Best::holding(17).grains == 2 && Best::holding(4096).grains == 256);
+}
