@@ -16,10 +16,10 @@ import quotes  # noqa: E402
 
 # Quotes that are made of a file that is there, and what is wrong with each.
 WRONG = {
-    "<!-- quote pas_powers/src/power.rt: impl Nothing { -->\n<!-- end of quote -->": "0 lines begin",
-    "<!-- quote pas_powers/src/power.rt: } -->\n<!-- end of quote -->": "and not one",
-    "<!-- quote pas_powers/src/nothing.rt: impl { -->\n<!-- end of quote -->": "No such file",
-    "<!-- quote pas_powers/src/power.rt: impl Power { -->\n": "1 quotes begin, 0 end",
+    "<!-- quote pas_bestfit/src/best.rt: impl Nothing { -->\n<!-- end of quote -->": "0 lines begin",
+    "<!-- quote pas_bestfit/src/best.rt: } -->\n<!-- end of quote -->": "and not one",
+    "<!-- quote pas_bestfit/src/nothing.rt: impl { -->\n<!-- end of quote -->": "No such file",
+    "<!-- quote pas_bestfit/src/best.rt: impl Best { -->\n": "1 quotes begin, 0 end",
 }
 PIECE = ["/// Says.", "fn f()", "    requires { a }", "{", "    if b {", "    }", "", "    c", "}", "", "fn g() {}"]
 ENTRY = ["-- what it is", "pub f : A", "f a =", "    b", "", "g = c"]

@@ -4,7 +4,7 @@
 A quote stands between two marks, of which the first names a file below crates/ and how the line begins with which the
 piece begins there, without the blanks before it:
 
-    <!-- quote pas_powers/src/power.rt: impl Choosing for -->
+    <!-- quote pas_bestfit/src/best.rt: impl Placing for -->
     <!-- end of quote -->
 
 One line of the file alone may begin so. The piece is that line, with the comments and clauses right above it that belong

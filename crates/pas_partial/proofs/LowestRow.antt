@@ -6,12 +6,11 @@ use Rattle.std.proofs.lemmas.Bool.{and_from, and_parts, or_cases, cases_lt}
 use Rattle.pas_bits.specs.Runs.{in_run}
 use Rattle.pas_bits.proofs.Runs.{run_of, to_run}
 use Rattle.pas_bits.specs.declared.mask.Mask4.{Mask4}
-use Rattle.pas_bits.specs.Masks.{is_set, AreSet, AreClear, IsLowestSet}
+use Rattle.pas_bits.specs.Masks.{is_set, AreClear, IsLowestSet}
 use Rattle.pas_partial.specs.Rows.{IsInRow, IsFreeSlot, rows}
 use Rattle.pas_profile.specs.Classes.{IsClass, class_grains, IsSlotStart}
 use Rattle.pas_profile.proofs.ClassFacts.{class_grains_positive, first_slot, slot_end, slot_lt}
-use Rattle.pas_segregated.specs.Masks.{start_of, AreStarts}
-use Rattle.pas_rights.specs.Looks.{AllFree}
+use Rattle.pas_segregated.specs.{Masks.start_of, Masks.AreStarts, Takes.NoSlot, Takes.AreFreeSlots}
 use Rattle.pas_segregated.proofs.Starts.{start_at, start_below}
 use Rattle.pas_choice.specs.Choices.{IsUnfit, IsChosen}
 
@@ -92,39 +91,35 @@ module _ (mask row moved joined more : Mask4) (first step n : ℕ) (some : 1 ≤
 
 -- ==== The free slots of a class in a mask: the lowest of them, and its row.
 
-module _ (class : ℕ) (free slots : Mask4) (is : IsClass class) (whole : (s : ℕ) → IsTrue (is_set slots s) ↔ (IsSlotStart class s × AreSet free s (class_grains class))) where
-  free_slot : (s : ℕ) → is_set slots s ≡ true → IsFreeSlot class (is_set free) s
-  free_slot s set = let both = (whole s).0 set in (both.0, λ x lt low high. both.1 x low high)
-
-  slot_free : (s : ℕ) → IsFreeSlot class (is_set free) s → is_set slots s ≡ true
-  slot_free s both = (whole s).1 (both.0, λ x low high. let end = slot_end class s is both.0 in both.1 x (omega (arith, high, end)) low high)
-
+module _ (class : ℕ) (free slots : Mask4) (is : IsClass class) (whole : AreFreeSlots class (is_set free) slots) where
   pub none_fits : AreClear slots 0 256 → IsUnfit (rows class) (is_set free)
   none_fits clear =
-      let none = λ (s : ℕ) (slot : IsSlotStart class s) (all : AllFree (is_set free) s (class_grains class)). true≢false (sym (slot_free s (slot, all)) ∙ clear s (omega arith) (slot_lt class s is slot)) in
-      record { none = none; used = λ all. none 0 (first_slot class is) (λ x lt low high. all x lt) }
+      let none : NoSlot class (is_set free) = λ s slot all. true≢false (sym ((whole s).1 (slot, all)) ∙ clear s (omega arith) (slot_lt class s is slot)) in
+      let end = slot_end class 0 is (first_slot class is) in
+      record { none = none; used = λ all. none 0 (first_slot class is) (λ x low high. all x (omega (arith, high, end))) }
 
   module _ (first : ℕ) (starts : Mask4) (lowest : IsLowestSet slots 0 first) (row : AreRow slots first (class_grains class) 4 starts) where
     pub are_starts : AreStarts class starts
-    are_starts s set = (free_slot s (row_last (λ x. is_set slots x ≡ true) first (class_grains class) 4 s ((row s).0 set))).0
+    are_starts s set = ((whole s).0 (row_last (λ x. is_set slots x ≡ true) first (class_grains class) 4 s ((row s).0 set))).0
 
     pub lowest_row : (grains : Mask4) → ((g : ℕ) → is_set grains g ≡ is_set starts (start_of class g)) → IsChosen (rows class) (is_set free) starts grains
     lowest_row grains covered =
-        let first_free = free_slot first lowest.set in let some = class_grains_positive class is in
+        let first_free = (whole first).0 lowest.set in let some = class_grains_positive class is in
         record {
           chosen = record {
             first = first;
             free = first_free;
-            lowest = λ s lt both. true≢false (sym (slot_free s both) ∙ lowest.lowest s (omega arith) lt);
+            lowest = λ s lt both. true≢false (sym ((whole s).1 both) ∙ lowest.lowest s (omega arith) lt);
             are = λ s. (
-              λ set. row_as (λ x. is_set slots x ≡ true) (IsFreeSlot class (is_set free)) first (class_grains class) 4 s free_slot ((row s).0 set),
-              λ here. (row s).1 (row_as (IsFreeSlot class (is_set free)) (λ x. is_set slots x ≡ true) first (class_grains class) 4 s slot_free here),
+              λ set. row_as (λ x. is_set slots x ≡ true) (IsFreeSlot class (is_set free)) first (class_grains class) 4 s (λ x. (whole x).0) ((row s).0 set),
+              λ here. (row s).1 (row_as (IsFreeSlot class (is_set free)) (λ x. is_set slots x ≡ true) first (class_grains class) 4 s (λ x. (whole x).1) here),
             );
           };
           fits = λ none. none first first_free.0 first_free.1;
           within = λ b lt kept.
               let at = start_below class b is in
-              (free_slot (start_of class b) (row_last (λ x. is_set slots x ≡ true) first (class_grains class) 4 (start_of class b) ((row (start_of class b)).0 kept))).1 b lt at.0 at.1;
+              let s = start_of class b in
+              ((whole s).0 (row_last (λ x. is_set slots x ≡ true) first (class_grains class) 4 s ((row s).0 kept))).1 b at.0 at.1;
           some = (
             first,
             lowest.within,

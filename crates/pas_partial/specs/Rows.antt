@@ -3,10 +3,9 @@ use Rattle.std.specs.Prelude.{ℕ, ◌+◌, ◌*◌, ◌<◌, ◌≤◌, ◌≡�
 use Rattle.pas_profile.specs.Classes.{IsClass, class_grains, IsSlotStart}
 use Rattle.pas_profile.specs.declared.directory.Kind.{Kind}
 use Rattle.pas_bits.specs.declared.mask.Mask4.{Mask4}
-use Rattle.pas_bits.specs.Masks.{is_set}
+use Rattle.pas_bits.specs.{Masks.is_set, Runs.AreFree}
 use Rattle.pas_steps.specs.Evidence.{Readings}
 use Rattle.pas_search.specs.Serving.{Rule}
-use Rattle.pas_rights.specs.Looks.{AllFree}
 use Rattle.pas_segregated.specs.Takes.{NoSlot, in_starts}
 use Rattle.pas_choice.specs.Choices.{Choice, choosing}
 
@@ -16,7 +15,7 @@ IsInRow Good first step n s = (i : ℕ) × (i < n) × (s ≡ first + i * step) �
 
 -- a slot of the class begins at this grain, and all its grains were read as free
 abbrev pub IsFreeSlot : ℕ → Readings → ℕ → Type 0
-IsFreeSlot class r s = IsSlotStart class s × AllFree r s (class_grains class)
+IsFreeSlot class r s = IsSlotStart class s × AreFree r s (class_grains class)
 
 -- the starts are those of the lowest slot that was read as free, and of the three after it that were read as free without a break
 pub record IsLowestRow (class : ℕ) (r : Readings) (starts : Mask4) : Type 0 where

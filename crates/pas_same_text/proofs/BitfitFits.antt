@@ -47,7 +47,7 @@ module _ (f : Profile) (p : Progress) (w : World) (valid : IsValid f) (between :
   fits_unguarded : (page s : ℕ) → Fits (run_for room align) (free_of_page p.list page) s → is_guarded w page ≡ false
   fits_unguarded page s fits =
       let within = fits.within in
-      bit_unguarded f p w valid between same page s (omega (arith, within, some)) (bit_read p.list page s ∙ fits.free s (omega (arith, within, some)) (omega arith) (omega (arith, some)))
+      bit_unguarded f p w valid between same page s (omega (arith, within, some)) (bit_read p.list page s ∙ fits.free s (omega arith) (omega (arith, some)))
 
   test_fits : (page s : ℕ) → is_guarded w page ≡ false → s % step ≡ 0 → test page s ≡ true → Fits (run_for room align) (free_of_page p.list page) s
   test_fits page s none aligned h =
@@ -55,14 +55,14 @@ module _ (f : Profile) (p : Progress) (w : World) (valid : IsValid f) (between :
       record {
         aligned = aligned;
         within = within;
-        free = λ g lt low high. sym (read_unless f p w valid between same page g lt none) ∙ each_at n s g (is_free w page) (and_second (nat_le (s + n) 256) (are_free w page s n) h) low high;
+        free = λ g low high. sym (read_unless f p w valid between same page g (omega (arith, within, high)) none) ∙ each_at n s g (is_free w page) (and_second (nat_le (s + n) 256) (are_free w page s n) h) low high;
       }
 
   fits_test : (page s : ℕ) → Fits (run_for room align) (free_of_page p.list page) s → test page s ≡ true
   fits_test page s fits =
       let within = fits.within in
       and_from (nat_le (s + n) 256) (are_free w page s n) (grind (arith, nat_tests, within))
-      (each_all n s (is_free w page) (λ b low high. read_unless f p w valid between same page b (omega (arith, high, within)) (fits_unguarded page s fits) ∙ fits.free b (omega (arith, high, within)) low high))
+      (each_all n s (is_free w page) (λ b low high. read_unless f p w valid between same page b (omega (arith, high, within)) (fits_unguarded page s fits) ∙ fits.free b low high))
 
   some_is : (page : ℕ) → some_of (lowest_place w n step page) ≡ list_any (test page) (spaced 0 step (256 / step))
   some_is page = some_first (filter (test page) (spaced 0 step (256 / step))) ∙ some_filtered (test page) (spaced 0 step (256 / step))
@@ -101,4 +101,4 @@ module _ (f : Profile) (p : Progress) (w : World) (valid : IsValid f) (between :
           let this : Fits (run_for room align) (free_of_page p.list page) (0 + j * step) = test_fits page (0 + j * step) (fits_unguarded page first fits) (ap (λ (x : ℕ). x % step) (omega arith) ∙ mul-mod_left j step) h in
           let next : suc j * step ≤ first / step * step = mul-le (suc j) step (first / step) step (omega (arith, small)) (omega arith) in
           let m = suc-mul j step in
-          lowest.lowest (0 + j * step) (omega (arith, next, m, times, low)) (record { aligned = this.aligned; within = this.within; free = λ b lt from to. more b lt (this.free b lt from to) }))
+          lowest.lowest (0 + j * step) (omega (arith, next, m, times, low)) (record { aligned = this.aligned; within = this.within; free = λ b from to. more b (omega (arith, this.within, to)) (this.free b from to) }))

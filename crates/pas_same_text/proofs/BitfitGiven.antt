@@ -172,19 +172,17 @@ module _ (f : Profile) (k name heap size align : ℕ) (p p' : Progress) (w : Wor
   within = lowest.this.within
 
   address : address_of block.name ≡ address_on page first
-  address = let at_grain : address_of block.name ≡ page * 4096 + first * 16 = ap (λ (b : Block). address_of b.name) given.block_is in omega (arith, at_grain)
+  address = omega (arith, given.address_is)
 
   grain : grain_of block.name ≡ 256 * page + first
   grain =
-      let at_grain : address_of block.name ≡ page * 4096 + first * 16 = ap (λ (b : Block). address_of b.name) given.block_is in
       let whole : (page * 4096 + first * 16) / 16 ≡ 256 * page + first = omega arith in
-      ap (λ (x : ℕ). x / 16) at_grain ∙ whole
+      ap (λ (x : ℕ). x / 16) given.address_is ∙ whole
 
   long : length_of block ≡ n
   long =
-      let of_room : block.room ≡ n * 16 = ap (λ (b : Block). b.room) given.block_is in
       let whole : n * 16 / 16 ≡ n = omega arith in
-      ap (λ (x : ℕ). x / 16) of_room ∙ whole
+      ap (λ (x : ℕ). x / 16) given.room_is ∙ whole
 
   covers : (b : ℕ) → first ≤ b → b < first + n → in_run (grain_of block.name) (length_of block) (256 * page + b) ≡ true
   covers b low high = to_run (grain_of block.name) (length_of block) (256 * page + b) (omega (arith, low, grain)) (omega (arith, high, grain, long))
@@ -208,7 +206,7 @@ module _ (f : Profile) (k name heap size align : ℕ) (p p' : Progress) (w : Wor
           (given.served.shows.held.from own may agreed) e)
 
   fits : Fits (run_for bytes align) (free_of_page l page) first
-  fits = record { aligned = lowest.this.aligned; within = within; free = λ g small low high. read_free g small (to_run first n g low high) }
+  fits = record { aligned = lowest.this.aligned; within = within; free = λ g low high. read_free g (omega (arith, within, high)) (to_run first n g low high) }
 
   more : (b : ℕ) → b < 256 → free_of_page l page b ≡ true → given.served.serves.readings b ≡ true
   more b small free =
@@ -255,7 +253,7 @@ module _ (f : Profile) (k name heap size align : ℕ) (p p' : Progress) (w : Wor
   block_is = block_same block (address_on page first) (gives_in (shown es w).events (address_on page first)) bytes heap
       address
       (run.0.turn ∙ (ap (λ (xs : List Event). gives_in xs (address_of block.name)) (sym (shown_events es w)) ∙ ap (gives_in (shown es w).events) address))
-      (let of_room : block.room ≡ n * 16 = ap (λ (b : Block). b.room) given.block_is in omega (arith, of_room, sized.2))
+      (omega (arith, given.room_is, sized.2))
       (ap (λ (b : Block). b.heap) given.block_is)
 
   same_now : HasSame f q v

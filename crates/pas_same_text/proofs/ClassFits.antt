@@ -5,9 +5,9 @@ use Rattle.std.specs.List.{list_any}
 use Rattle.pas_profile.specs.Classes.{IsClass, class_grains, slots_of, IsSlotStart}
 use Rattle.pas_profile.specs.Profiles.{IsValid}
 use Rattle.pas_profile.specs.declared.profile.Profile.{Profile}
-use Rattle.pas_profile.proofs.ClassFacts.{class_grains_positive, usable_grains_le}
+use Rattle.pas_profile.proofs.ClassFacts.{class_grains_positive, usable_grains_le, slot_end}
 use Rattle.pas_core.specs.Rights.{free_of_page}
-use Rattle.pas_rights.specs.Looks.{AllFree}
+use Rattle.pas_bits.specs.Runs.{AreFree}
 use Rattle.pas_segregated.specs.Takes.{NoSlot}
 use Rattle.pas_answers.specs.Answers.{Progress}
 use Rattle.pas_one_text.specs.{State.World, Pages.is_free, Pages.are_free, Pages.is_guarded, Searches.some_of}
@@ -54,18 +54,20 @@ module _ (f : Profile) (p : Progress) (w : World) (valid : IsValid f) (between :
       (s / step, div_below s step (slots_of class) (omega (arith, some_grains)) (omega (arith, slot.within, some_grains)), times)
 
   -- it is free in the text exactly where its grains are in the replay
-  pub slot_tested : (page s : ℕ) → IsSlotStart class s → AllFree (free_of_page p.list page) s step → test page s ≡ true
+  pub slot_tested : (page s : ℕ) → IsSlotStart class s → AreFree (free_of_page p.list page) s step → test page s ≡ true
   slot_tested page s slot free =
       let within = slot.within in
       let most = usable_grains_le class is in
       let some = some_grains in
-      let none : is_guarded w page ≡ false = read_unguarded page s (omega (arith, within, most, some)) (free s (omega (arith, within, most, some)) (omega arith) (omega (arith, some))) in
-      each_all step s (is_free w page) (λ b low high. read_unless f p w valid between same page b (omega (arith, high, within, most)) none ∙ free b (omega (arith, high, within, most)) low high)
+      let none : is_guarded w page ≡ false = read_unguarded page s (omega (arith, within, most, some)) (free s (omega arith) (omega (arith, some))) in
+      each_all step s (is_free w page) (λ b low high. read_unless f p w valid between same page b (omega (arith, high, within, most)) none ∙ free b low high)
 
-  pub slot_free : (page s : ℕ) → is_guarded w page ≡ false → test page s ≡ true → AllFree (free_of_page p.list page) s step
-  slot_free page s none tested b small low high = sym (read_unless f p w valid between same page b small none) ∙ each_at step s b (is_free w page) tested low high
+  pub slot_free : (page s : ℕ) → IsSlotStart class s → is_guarded w page ≡ false → test page s ≡ true → AreFree (free_of_page p.list page) s step
+  slot_free page s slot none tested b low high =
+      let within = slot_end class s is slot in
+      sym (read_unless f p w valid between same page b (omega (arith, within, high)) none) ∙ each_at step s b (is_free w page) tested low high
 
-  there : (page s : ℕ) → IsSlotStart class s → AllFree (free_of_page p.list page) s step → list_any (test page) (spaced 0 step (slots_of class)) ≡ true
+  there : (page s : ℕ) → IsSlotStart class s → AreFree (free_of_page p.list page) s step → list_any (test page) (spaced 0 step (slots_of class)) ≡ true
   there page s slot free =
       let o = slot_index s slot in
       in_spaced (test page) (slots_of class) 0 step o.0 o.1 (ap (test page) (omega (arith, o.2)) ∙ slot_tested page s slot free)
@@ -74,7 +76,7 @@ module _ (f : Profile) (p : Progress) (w : World) (valid : IsValid f) (between :
   class_fits shared = record {
     none = λ page of unguarded none. false_from_ne_true (some_of (slots_for shared w class page)) (λ h.
         let o = from_spaced (test page) (slots_of class) 0 step (sym (some_is shared page) ∙ h) in
-        none (o.0 * step) (slot_there o.0 o.1) (slot_free page (o.0 * step) unguarded (ap (test page) (omega arith) ∙ o.2)));
+        none (o.0 * step) (slot_there o.0 o.1) (slot_free page (o.0 * step) (slot_there o.0 o.1) unguarded (ap (test page) (omega arith) ∙ o.2)));
     some = λ page of unguarded fits. some_is shared page ∙ by_test page fits (list_any (test page) (spaced 0 step (slots_of class))) refl;
   }
     where

@@ -167,7 +167,7 @@ module _ (f : Profile) (k name heap class : ℕ) (p : Progress) (w : World) (has
       let within = free.0.within in
       let most = usable_grains_le class has.known in
       let some = class_grains_positive class has.known in
-      read_unguarded f p w has.valid has.between old class has.known page s (omega (arith, within, most, some)) (free.1 s (omega (arith, within, most, some)) (omega arith) (omega (arith, some)))
+      read_unguarded f p w has.valid has.between old class has.known page s (omega (arith, within, most, some)) (free.1 s (omega arith) (omega (arith, some)))
 
   unguarded_by : (t : Bool) → took_in (kind_of_class t class) class page search slots.starts → is_guarded w page ≡ false
   unguarded_by false took = slot_unguarded start ((exclusive_free f k l class page search slots.starts legal_search refill.searches marks took start).0 gives.lowest.set)

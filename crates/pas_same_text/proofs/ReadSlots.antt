@@ -12,12 +12,13 @@ use Rattle.pas_core.proofs.OneActor.{LendsNone, lends_none}
 use Rattle.pas_choice.specs.Choices.{TookChosen}
 use Rattle.pas_partial.specs.Rows.{IsInRow, IsFreeSlot, IsLowestRow, rows}
 use Rattle.pas_search.specs.Kinds.{AreSearch, searching}
+use Rattle.pas_segregated.specs.Takes.{slot_within}
 use Rattle.pas_same_text.specs.Words.{free_bit}
 use Rattle.pas_same_text.proofs.SearchMarks.{free_shown, shown_free}
 
 -- ---- the same readings show the same slots and rows
 free_slot_as : (class : ℕ) (r fair : Readings) → ((b : ℕ) → b < 256 → r b ≡ fair b) → (s : ℕ) → IsFreeSlot class r s → IsFreeSlot class fair s
-free_slot_as class r fair same s free = (free.0, λ b small low high. sym (same b small) ∙ free.1 b small low high)
+free_slot_as class r fair same s free = let end = slot_within class s free.0 in (free.0, λ b low high. sym (same b (omega (arith, end, high))) ∙ free.1 b low high)
 
 row_as : (Good Fair : ℕ → Type 0) (first step n s : ℕ) → ((x : ℕ) → Good x → Fair x) → IsInRow Good first step n s → IsInRow Fair first step n s
 row_as Good Fair first step n s fair row = (row.0, row.1, row.2, λ j le. fair (first + j * step) (row.3 j le))

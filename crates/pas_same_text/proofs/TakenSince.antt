@@ -6,7 +6,7 @@ use Rattle.std.proofs.lemmas.Bool.{false≢true, cases_eq, or_cases, false_from_
 use Rattle.pas_bits.specs.{Bits.has_bit, Masks.is_set}
 use Rattle.pas_bits.specs.declared.mask.Mask4.{Mask4}
 use Rattle.pas_bits.proofs.Words.{none_of_zero}
-use Rattle.pas_profile.specs.{Classes.class_grains, Classes.usable_grains, Classes.is_usable, Directories.number_of}
+use Rattle.pas_profile.specs.{Classes.class_grains, Classes.usable_grains, Classes.is_usable, Classes.IsSlotStart, Directories.number_of}
 use Rattle.pas_profile.specs.declared.{profile.Profile.Profile, word.Word.Word}
 use Rattle.pas_steps.specs.{Allowed.Allowed, Desks.made, Desks.triples, Effects.target, Effects.in_mask, Effects.free_word_at, Kinds.kind_of, Kinds.is_in}
 use Rattle.pas_steps.specs.{Kinds.lending, Past.Once, Past.Always}
@@ -22,7 +22,7 @@ use Rattle.pas_core.proofs.Rights.{Spot, is_with, spot_of, Suits, IsSpotted, ste
 use Rattle.pas_rights.specs.{Takes.takes, Takes.word_take, Words.words}
 use Rattle.pas_search.specs.Kinds.{IsReturnOf, ReturnsDuly, AreSearch, KeepsMarks, searching}
 use Rattle.pas_partial.specs.Rows.{IsFreeSlot}
-use Rattle.pas_segregated.specs.Takes.{TookSlots, takes_after, takes_since}
+use Rattle.pas_segregated.specs.Takes.{TookSlots, slot_within, takes_after, takes_since}
 use Rattle.pas_same_text.specs.Words.{free_bit}
 use Rattle.pas_same_text.proofs.{SearchMarks.stays_used, SearchMarks.stays_free, Tests.and_first, Tests.and_second, Tests.eqb_turned}
 
@@ -213,11 +213,13 @@ module _ (f : Profile) (k : ℕ) (l : Whole) (class page : ℕ) (searched : List
       (takes_below page (words took.usable) (words took.answers) (b / 64) g (omega (arith, at_word))) split.0 (took.takes ∙ split.1) in
       ap (has_bit (words took.answers (b / 64))) at_bit ∙ (read ∙ ap (has_bit (word_after l (free_word_at g))) (sym at_bit))
 
-  usable_in : (s b : ℕ) → s + class_grains class ≤ usable_grains class → b < s + class_grains class → is_usable class b ≡ true
-  usable_in s b within high = lt-ltb b (usable_grains class) (omega (arith, within, high))
+  slot_answer : (s b : ℕ) → IsSlotStart class s → b < s + class_grains class → is_set took.answers b ≡ free_of_page l page b
+  slot_answer s b slot high =
+      let within = slot.within in let end = slot_within class s slot in
+      answer_is b (omega (arith, end, high)) (lt-ltb b (usable_grains class) (omega (arith, within, high)))
 
   pub exclusive_free : (s : ℕ) → IsTrue (is_set starts s) ↔ IsFreeSlot class (free_of_page l page) s
   exclusive_free s = (
-    λ set. let both = (took.are s).0 set in (both.0, λ b small low high. sym (answer_is b small (usable_in s b both.0.within high)) ∙ both.1 b small low high),
-    λ both. (took.are s).1 (both.0, λ b small low high. answer_is b small (usable_in s b both.0.within high) ∙ both.1 b small low high),
+    λ set. let both = (took.are s).0 set in (both.0, λ b low high. sym (slot_answer s b both.0 high) ∙ both.1 b low high),
+    λ both. (took.are s).1 (both.0, λ b low high. slot_answer s b both.0 high ∙ both.1 b low high),
   )

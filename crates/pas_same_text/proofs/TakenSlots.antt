@@ -164,7 +164,7 @@ module _ (f : Profile) (p : Progress) (w : World) (valid : IsValid f) (between :
 
   -- the i-th slot is free where it passes
   free_at : (i : ℕ) → i < count → test (i * step) ≡ true → IsFree (i * step)
-  free_at i lt so = (slot_there f p w valid between same class is i lt, slot_free f p w valid between same class is page (i * step) none so)
+  free_at i lt so = let slot = slot_there f p w valid between same class is i lt in (slot, slot_free f p w valid between same class is page (i * step) slot none so)
 
   tested : (s : ℕ) → IsFree s → test s ≡ true
   tested s free = slot_tested f p w valid between same class is page s free.0 free.1

@@ -60,7 +60,7 @@ module _ (class page : ℕ) (d : Directory) (is : IsClass class) (starts : Mask4
     pub keeps_slots : {σ2 : Standing} (a : ℕ) → Makes σ1 σ2 (Back page) a → ServesPage (exclusive class) page d σ σ2 (Some starts)
     keeps_slots a back = keeps_page (exclusive class) page d (is_set took.answers) (in_starts class starts) prepared some_grain starts (λ b lt. refl) refl a back
         (λ none. none some.0 first_slot_is ((took.are some.0).0 some.2).1)
-        (λ b lt kept. let at = start_below class b is in ((took.are (start_of class b)).0 kept).1 b lt at.0 at.1)
+        (λ b lt kept. let at = start_below class b is in ((took.are (start_of class b)).0 kept).1 b at.0 at.1)
         (λ before got. record { usable = took.usable; usable_are = took.usable_are; answers = took.answers; takes = took.takes before got.newest; are = took.are; some = some })
         (omega arith) (omega (arith, took.few))
 

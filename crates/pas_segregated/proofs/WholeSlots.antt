@@ -7,7 +7,7 @@ use Rattle.pas_bits.specs.Bits.{has_bit}
 use Rattle.pas_profile.specs.declared.directory.Directory.{Directory}
 use Rattle.pas_profile.proofs.ClassFacts.{class_grains_positive, usable_grains_le, usable_grains_ge, first_slot}
 use Rattle.pas_bits.specs.declared.mask.Mask4.{Mask4}
-use Rattle.pas_bits.specs.Masks.{is_set, AreSet, IsEmpty, HasMember}
+use Rattle.pas_bits.specs.Masks.{is_set, IsEmpty, HasMember}
 use Rattle.pas_bits.proofs.Words.{at_word, none_of_zero}
 use Rattle.pas_rights.specs.{Puts.masked, Puts.PutsBelow, Puts.PutsHere, Returns.ReturnSteps, Words.words}
 use Rattle.pas_rights.specs.PutsBack.{MayPutAndReturn, giving_back, PutsAndReturns, taking_grains}
@@ -30,10 +30,6 @@ use Rattle.pas_segregated.specs.Takes.{AreUsable, AreFreeSlots, IsRest, in_start
 use Rattle.pas_segregated.proofs.Starts.{start_at, start_below}
 use Rattle.pas_segregated.proofs.GivenUp.{back_count, takes_count, none_yet, back_holds, same_after}
 
--- the starts are those of the slots all of whose grains are in the mask
-abbrev pub AreWhole : ℕ → Mask4 → Mask4 → Type 0
-AreWhole class got starts = (s : ℕ) → IsTrue (is_set starts s) ↔ (IsSlotStart class s × AreSet got s (class_grains class))
-
 pub rest_is : (class : ℕ) (got starts kept others rest : Mask4) → ((g : ℕ) → is_set kept g ≡ is_set starts (start_of class g)) → ((g : ℕ) → g < 256 → is_set others g ≡ not (is_set kept g)) → ((g : ℕ) → is_set rest g ≡ (is_set got g && is_set others g))
     → IsRest class got starts rest
 rest_is class got starts kept others rest covers other both g lt = both g ∙ ap (λ t. is_set got g && t) (other g lt ∙ ap not (covers g))
@@ -54,7 +50,7 @@ slot_in : (class s g : ℕ) → IsClass class → IsSlotStart class s → g < s 
 slot_in class s g is slot lt = let most = usable_grains_le class is in omega (arith, slot.within, lt, most)
 
 -- ---- the whole call
-module _ (class page : ℕ) (d : Directory) (is : IsClass class) {σ σ1 : Standing} (usable starts got rest : Mask4) (usable_are : AreUsable class usable) (took : TakesMask page usable σ σ1 got) (whole : AreWhole class got starts) (rests : IsRest class got starts rest) where
+module _ (class page : ℕ) (d : Directory) (is : IsClass class) {σ σ1 : Standing} (usable starts got rest : Mask4) (usable_are : AreUsable class usable) (took : TakesMask page usable σ σ1 got) (whole : AreFreeSlots class (is_set got) starts) (rests : IsRest class got starts rest) where
   abbrev first : List Made
   first = takes page (words usable) (words took.answers) 4
 
@@ -68,8 +64,12 @@ module _ (class page : ℕ) (d : Directory) (is : IsClass class) {σ σ1 : Stand
 
   free_slots : AreFreeSlots class (is_set took.answers) starts
   free_slots s = (
-    λ h. let both = (whole s).0 h in (both.0, λ g lt low high. (and_parts (is_set took.answers g) (is_usable class g) (sym (read_of g lt) ∙ both.1 g low high)).0),
-    λ both. (whole s).1 (both.0, λ g low high. read_of g (slot_in class s g is both.0 high) ∙ and_from (is_set took.answers g) (is_usable class g) (both.1 g (slot_in class s g is both.0 high) low high) (slot_usable class s g both.0 high)),
+    λ h. let both = (whole s).0 h in
+        (both.0, λ g low high. (and_parts (is_set took.answers g) (is_usable class g) (sym (read_of g (slot_in class s g is both.0 high)) ∙ both.1 g low high)).0),
+    λ both. (whole s).1 (
+      both.0,
+      λ g low high. read_of g (slot_in class s g is both.0 high) ∙ and_from (is_set took.answers g) (is_usable class g) (both.1 g low high) (slot_usable class s g both.0 high),
+    ),
   )
 
   -- a grain of a whole slot was got, and the others of those that were are the rest
@@ -199,7 +199,8 @@ module _ (class page : ℕ) (d : Directory) (is : IsClass class) {σ σ1 : Stand
         omega arith,
         (free_slots 0).1 (
           first_slot class is,
-          λ b lt low high. let g = page * 256 + b in let at : g / 256 ≡ page = omega (arith, lt) in
+          λ b low high. let lt = slot_in class 0 b is (first_slot class is) high in
+              let g = page * 256 + b in let at : g / 256 ≡ page = omega (arith, lt) in
               sym (bit_on took.answers page b lt)
               ∙ takes_free page (words usable) (words took.answers) σ.seat.profile 4 v (agreed_later σ.seat.profile v back.steps first agreed) g at (omega arith) (some_word (g / 64 % 4) (omega arith)) (free g at),
         ),

@@ -1,10 +1,13 @@
 -- The slots of a page that are taken.
-use Rattle.std.specs.Prelude.{ℕ, ◌/◌, ◌%◌, ◌<◌, ◌≤◌, ◌≡◌, ◌==◌, ◌↔◌, IsTrue, Bool, true, not, ◌&&◌, if◌then◌else◌, List, [], ◌∷◌, ◌++◌, length}
-use Rattle.pas_profile.specs.Classes.{is_usable, class_grains, IsSlotStart}
-use Rattle.pas_bits.specs.{Bits.has_bit, Masks.is_set, Masks.IsEmpty, Masks.HasMember}
+use Rattle.std.specs.Prelude.{ℕ, ◌+◌, ◌*◌, ◌/◌, ◌%◌, ◌<◌, ◌≤◌, ◌≡◌, ◌==◌, ◌↔◌, IsTrue, Bool, true, not, ◌&&◌, if◌then◌else◌, List, [], ◌∷◌, ◌++◌, length}
+use Rattle.std.proofs.Common.{ap, arith, inl, inr}
+use Rattle.std.proofs.lemmas.{Bool.cases_lt, List.get_or_past}
+use Rattle.pas_profile.specs.Classes.{is_usable, class_sizes, class_size, class_grains, usable_grains, IsSlotStart}
+use Rattle.pas_profile.proofs.ClassFacts.{slot_end}
+use Rattle.pas_bits.specs.{Bits.has_bit, Masks.is_set, Masks.IsEmpty, Masks.HasMember, Runs.AreFree}
 use Rattle.pas_profile.specs.declared.directory.{Directory.Directory, Kind.Kind}
 use Rattle.pas_bits.specs.declared.mask.Mask4.{Mask4}
-use Rattle.pas_rights.specs.{Looks.AllFree, PutsBack.taking_grains, PutsBack.GivesDuly, Takes.GetsGrains, Takes.takes, Words.words}
+use Rattle.pas_rights.specs.{PutsBack.taking_grains, PutsBack.GivesDuly, Takes.GetsGrains, Takes.takes, Words.words}
 use Rattle.pas_steps.specs.{Views.View, Views.known_free, Agreement.Agreed, Calls.Calls, Calls.Leads, Past.Always, Past.Since, Frames.OnlyOn, Frames.KeepsRight}
 use Rattle.pas_steps.specs.{Kinds.Only, Desks.Standing, Desks.made}
 use Rattle.pas_steps.specs.declared.step.{Made.Made, Step.Step}
@@ -22,11 +25,11 @@ AreUsable class usable = (g : ℕ) → g < 256 → is_set usable g ≡ is_usable
 
 -- no slot of the class was read as free with all its grains
 abbrev pub NoSlot : ℕ → Readings → Type 0
-NoSlot class r = (s : ℕ) → IsSlotStart class s → AllFree r s (class_grains class) → ⊥
+NoSlot class r = (s : ℕ) → IsSlotStart class s → AreFree r s (class_grains class) → ⊥
 
 -- the starts are those of the slots all of whose grains were read as free
 abbrev pub AreFreeSlots : ℕ → Readings → Mask4 → Type 0
-AreFreeSlots class r starts = (s : ℕ) → IsTrue (is_set starts s) ↔ (IsSlotStart class s × AllFree r s (class_grains class))
+AreFreeSlots class r starts = (s : ℕ) → IsTrue (is_set starts s) ↔ (IsSlotStart class s × AreFree r s (class_grains class))
 
 -- the grain of the page, 0 to 255, is of one of the slots
 abbrev pub in_starts : ℕ → Mask4 → ℕ → Bool
@@ -96,9 +99,20 @@ pub record TakesSlots (class page : ℕ) (d : Directory) (desk desk' : Standing)
   pub read : (before : List Made) → GotBefore page before → (word : ℕ) → word < 4 → Since (ShowsHere page word (is_set answers)) (KeptHere page) (steps ++ before)
   pub none : (before : List Made) → HoldsNone page before → IsEmpty starts → HoldsNone page (steps ++ before)
 
+-- a slot ends on its page. From 20 on a number is of no class, and its slots would have no grain
+pub slot_within : (class s : ℕ) → IsSlotStart class s → s + class_grains class ≤ 256
+slot_within class s slot = elim (cases_lt class 20) [
+  | inl is ↦ slot_end class s is slot
+  | inr past ↦
+      let none : class_size class ≡ 0 = get_or_past class_sizes class 0 past in
+      let usable : usable_grains class ≡ 0 = ap (λ n. 4096 / n * (n / 16)) none in
+      let within = slot.within in omega (arith, within, usable)
+]
+
 -- fewer free grains show no slot where more of them show none
 pub fewer_slots : (class : ℕ) → IsAntitone (NoSlot class)
-fewer_slots class r fewer less no_slot s slot free = no_slot s slot (λ g within low high. less g within (free g within low high))
+fewer_slots class r fewer less no_slot s slot free =
+    let within = slot_within class s slot in no_slot s slot (λ g low high. less g (omega (arith, within, high)) (free g low high))
 
 -- ---- exclusive pages, for the search
 -- All free slots of a page of the class are taken, by their first grains, and the page's right is kept. One event, when the page is backed.
