@@ -1,6 +1,6 @@
 -- A block of the room and the alignment that were asked for.
 use Rattle.std.proofs.Common.{◌≡◌, ℕ, ◌%◌, ◌≤◌, Bool, List, Ok, Err, Result, ap, ◌∙◌, arith, MatchResult}
-use Rattle.pas_profile.specs.{Classes.IsAlignment, Blocks.address_of}
+use Rattle.pas_profile.specs.Classes.{IsAlignment}
 use Rattle.pas_profile.specs.declared.{directory.Directory.Directory, event.NoRoom.NoRoom, name.Block.Block, profile.Profile.Profile}
 use Rattle.pas_steps.specs.Desks.{Standing}
 use Rattle.pas_steps.specs.declared.step.Made.{Made}

@@ -1,5 +1,5 @@
 -- The lowest place of a mask as the lowest run that fits.
-use Rattle.std.proofs.Common.{◌≡◌, ℕ, Option, None, Some, MatchOption, arith, sym, ◌∙◌, true≢false}
+use Rattle.std.proofs.Common.{ℕ, Option, None, Some, MatchOption, arith, sym, ◌∙◌, true≢false}
 use Rattle.pas_lanes.specs.Rows.{IsEmpty}
 use Rattle.pas_bits.specs.declared.mask.Mask4.{Mask4}
 use Rattle.pas_bits.specs.Masks.{is_set, IsPlace, HasNoPlace, IsLowestPlace}

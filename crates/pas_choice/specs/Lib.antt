@@ -1,3 +1,4 @@
 pub mod Choices
 pub mod Allocates
+pub mod ByRank
 pub mod Placements

@@ -4,11 +4,13 @@
 #![tactic(auto)]
 
 mod allocating;
+mod best;
 mod choosing;
 mod placing;
 mod serving;
 
 pub use allocating::alloc;
+pub use best::alloc_best;
 pub use choosing::{Choosing, ChoosingRun, Chosen, Run};
 pub use placing::{ByPlacement, Placing};
 pub use serving::{ByChoice, serve_chosen};

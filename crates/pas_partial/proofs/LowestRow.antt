@@ -3,10 +3,9 @@ use Rattle.std.proofs.Common.{◌≡◌, ℕ, zero, suc, ◌+◌, ◌-◌, ◌*�
 use Rattle.std.proofs.Common.{◌⊎◌, true≢false, leb-true, le-leb}
 use Rattle.std.proofs.Math.Nat.{suc-mul, zero-mul}
 use Rattle.std.proofs.lemmas.Bool.{and_from, and_parts, or_cases, cases_lt}
-use Rattle.pas_bits.specs.Runs.{in_run}
+use Rattle.pas_bits.specs.{Runs.in_run, Masks.is_set, Masks.AreClear, Masks.IsLowestSet}
 use Rattle.pas_bits.proofs.Runs.{run_of, to_run}
 use Rattle.pas_bits.specs.declared.mask.Mask4.{Mask4}
-use Rattle.pas_bits.specs.Masks.{is_set, AreClear, IsLowestSet}
 use Rattle.pas_partial.specs.Rows.{IsInRow, IsFreeSlot, rows}
 use Rattle.pas_profile.specs.Classes.{IsClass, class_grains, IsSlotStart}
 use Rattle.pas_profile.proofs.ClassFacts.{class_grains_positive, first_slot, slot_end, slot_lt}

@@ -6,7 +6,8 @@ use Rattle.std.proofs.lemmas.Bool.{false≢true, cases_eq, or_cases, false_from_
 use Rattle.pas_bits.specs.{Bits.has_bit, Masks.is_set}
 use Rattle.pas_bits.specs.declared.mask.Mask4.{Mask4}
 use Rattle.pas_bits.proofs.Words.{none_of_zero}
-use Rattle.pas_profile.specs.{Classes.class_grains, Classes.usable_grains, Classes.is_usable, Classes.IsSlotStart, Directories.number_of}
+use Rattle.pas_profile.specs.Classes.{class_grains, usable_grains, is_usable, IsSlotStart}
+use Rattle.pas_profile.specs.Directories.{number_of}
 use Rattle.pas_profile.specs.declared.{profile.Profile.Profile, word.Word.Word}
 use Rattle.pas_steps.specs.{Allowed.Allowed, Desks.made, Desks.triples, Effects.target, Effects.in_mask, Effects.free_word_at, Kinds.kind_of, Kinds.is_in}
 use Rattle.pas_steps.specs.{Kinds.lending, Past.Once, Past.Always}

@@ -8,7 +8,7 @@ use Rattle.pas_profile.proofs.Codecs.{deed_word_of-positive}
 use Rattle.pas_steps.specs.{Agreement.Agreed, Calls.nothing, Calls.Does, Desks.triples, Evidence.Readings, Evidence.IsAntitone, Views.View, Views.has_right}
 use Rattle.pas_steps.specs.{Views.KnowsDeed}
 use Rattle.pas_steps.specs.Lists.{Whole, part, word_after, Legal}
-use Rattle.pas_steps.specs.declared.step.{Made.Made, Step.TheVariants.Deed}
+use Rattle.pas_steps.specs.declared.step.Made.{Made}
 use Rattle.pas_steps.proofs.{Parts.part_of_own, Past.once_map}
 use Rattle.pas_core.specs.{Alone.ShowsNone, Alone.ShowsAnswer, Alone.IsPlainAnswer, Fits.HasNoFit, Rights.AllRest}
 use Rattle.pas_core.proofs.OneActor.{plain_answer, lends_none, legal_earlier, legal_before, entry_lacks, in_hands, is_with_own}

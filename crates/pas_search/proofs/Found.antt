@@ -1,11 +1,13 @@
 -- For callers of a search: what it found, and the page that is left at once.
-use Rattle.std.proofs.Common.{◌≡◌, ℕ, ◌/◌, ◌%◌, ◌==◌, Bool, true, false, ◌&&◌, if◌then◌else◌, Ok, refl, sym, ◌∙◌, subst, arith, inl, true≢false, eqb-true}
+use Rattle.std.proofs.Common.{◌≡◌, ℕ, ◌/◌, ◌%◌, ◌==◌, Bool, true, false, ◌&&◌, if◌then◌else◌, List, Ok, refl, sym, ◌∙◌, subst, arith, inl, true≢false, eqb-true}
 use Rattle.std.proofs.lemmas.Bool.{and_parts, false_from_ne_true}
 use Rattle.pas_profile.specs.declared.directory.Directory.{Directory}
 use Rattle.pas_steps.specs.Calls.{Calls, Fate, Kept, Gained, Lost, later, ClearAfter, Effect, on_page, Does}
-use Rattle.pas_steps.specs.{Desks.Standing, Views.View, Views.holds}
+use Rattle.pas_steps.specs.declared.step.Made.{Made}
+use Rattle.pas_steps.specs.{Desks.Adds, Desks.Standing, Views.View, Views.holds}
 use Rattle.pas_steps.proofs.{Calls.does_as, Calls.does_then, Sets.kept_kept}
-use Rattle.pas_search.specs.{Searches.MaySearch, Searches.KeepsFound, Searches.Searches, Serving.Rule}
+use Rattle.pas_search.specs.Searches.{MaySearch, KeepsFound, Finds, Searches}
+use Rattle.pas_search.specs.Serving.{Rule}
 use Rattle.pas_search.specs.declared.serving.Served.{Served}
 
 -- ---- what was found
@@ -14,18 +16,23 @@ pub record KeepsNew {Found : Type 0} (rule : Rule Found) (d : Directory) (served
   pub found : KeepsFound rule d served v w
   pub apart : (g : ℕ) → ((served.page == g / 256) && rule.kept served.found (g % 256)) ≡ true → holds v g ≡ false
 
-pub found_call : {Found : Type 0} (rule : Rule Found) (d : Directory) {tells : Bool} {σ σ1 : Standing} (served : Served Found) (searches : Searches rule tells d σ σ1 (Ok served)) → Calls σ σ1 (MaySearch d) (KeepsNew rule d served) searches.steps
-found_call rule d served searches = record {
-  adds = searches.adds;
+-- a page that was chosen, however it was
+pub finds_call : {Found : Type 0} (rule : Rule Found) (d : Directory) {Choice : List Made → Type 0} {σ σ1 : Standing} (served : Served Found) {steps : List Made}
+    → Adds σ σ1 (MaySearch d) steps → Finds rule σ.seat.profile d Choice steps served → Calls σ σ1 (MaySearch d) (KeepsNew rule d served) steps
+finds_call rule d served adds finds = record {
+  adds = adds;
   leads = record {
     from = λ v met agreed. record {
-      found = searches.outcome.keeps.from v met agreed;
+      found = finds.keeps.from v met agreed;
       apart = λ g here.
-          let at = and_parts (served.page == g / 256) (rule.kept served.found (g % 256)) here in let shows = searches.outcome.shows in
+          let at = and_parts (served.page == g / 256) (rule.kept served.found (g % 256)) here in let shows = finds.shows in
           false_from_ne_true (holds v g) (λ held. true≢false (sym (shows.took (g % 256) (omega arith) at.1) ∙ shows.held.from v met agreed g (sym (eqb-true served.page (g / 256) at.0)) held));
     };
   };
 }
+
+pub found_call : {Found : Type 0} (rule : Rule Found) (d : Directory) {tells : Bool} {σ σ1 : Standing} (served : Served Found) (searches : Searches rule tells d σ σ1 (Ok served)) → Calls σ σ1 (MaySearch d) (KeepsNew rule d served) searches.steps
+found_call rule d served searches = finds_call rule d served searches.adds searches.outcome
 
 -- ---- the page is left
 -- what became of the grains, and of the page's right

@@ -4,4 +4,7 @@ pub mod Pages
 pub mod Found
 mod PagesThatServe
 mod FindingAPage
+mod Surveyed
+mod BestOffered
+pub mod TheBestPage
 pub mod Alone

@@ -39,7 +39,7 @@ served_search p ys xs only due got are = record { kinds = only_both searching ys
 
 -- ---- events
 -- the events of steps, where those before made none
-events_after_quiet : (k : ℕ) (v : View) (ys xs : List Made) → AreQuiet xs → events_by k v (ys ++ xs) ≡ events_by k (xs ++ v) ys
+pub events_after_quiet : (k : ℕ) (v : View) (ys xs : List Made) → AreQuiet xs → events_by k v (ys ++ xs) ≡ events_by k (xs ++ v) ys
 events_after_quiet k v ys xs quiet = events_append k ys xs v ∙ ap (λ es. events_by k (xs ++ v) ys ++ es) (events_quiet k v xs quiet) ∙ append-nil (events_by k (xs ++ v) ys)
 
 serve_event : (d : Directory) (p : ℕ) (s : Step) (a : ℕ) → is_in serving (kind_of s) ≡ true → IsOnPage p s → IsQuiet (made s a) ⊎ IsDeedOrBack d p s
@@ -102,7 +102,7 @@ gets_way here bit got w h same = grind arith
 deed_rights : (p : ℕ) (d : Directory) (a : ℕ) (got : Bool) → (a == 0) ≡ got → Rights (gained got p) (made (Deed p d) a)
 deed_rights p d a got e = record { grains = λ x. refl; rights = λ q. gets_way (p == q) (a == 0) got Way.ByDeed refl (λ is. e); opens = λ q. refl; kind = refl; returns = λ q h. elim h [ ] }
 
-claim_rights : (p : ℕ) (d : Directory) (a : ℕ) (got : Bool) → has_bit a (p % 64) ≡ got → Rights (gained got p) (made (TakeRight p d) a)
+pub claim_rights : (p : ℕ) (d : Directory) (a : ℕ) (got : Bool) → has_bit a (p % 64) ≡ got → Rights (gained got p) (made (TakeRight p d) a)
 claim_rights p d a got e = record { grains = λ x. refl; rights = λ q. gets_way (p == q) (has_bit a (q % 64)) got (Way.FromOffer (number_of d)) refl (λ is. ap (λ x. has_bit a (x % 64)) (sym (eqb-true p q is)) ∙ e); opens = λ q. refl; kind = refl; returns = λ q h. elim h [ ] }
 
 -- the right was got
@@ -192,7 +192,7 @@ got_first t keeps = grind arith
 got_served : {F : Type 0} (rule : Rule F) (page : ℕ) (found : F) {v w u : View} → Does (right_of page Gained) v w → Does (served rule page found) w u → Does (served rule page found) v u
 got_served rule page found a b = does_as (served rule page found) (does_then a b) (λ x. inl (kept_first ((served rule page found).grains x))) (λ q. got_first (page == q) (rule.keeps_right found)) (λ q h. h)
 
-got_left : (page : ℕ) {v w u : View} → has_right v page ≡ false → Does (right_of page Gained) v w → Does (right_of page Lost) w u → Does nothing v u
+pub got_left : (page : ℕ) {v w u : View} → has_right v page ≡ false → Does (right_of page Gained) v w → Does (right_of page Lost) w u → Does nothing v u
 got_left page {v} lacked a b = search (arith, got_lost, eqb-true)
 
 lacks_on : (page p : ℕ) (ys xs : List Made) → OnlyOn page ys → p ≢ page → has_right xs p ≡ false → Always (LacksAfter p) xs → Always (LacksAfter p) (ys ++ xs)
@@ -211,7 +211,7 @@ module _ (f : Profile) (d : Directory) (page : ℕ) (m : Made) (ws : List Made) 
   got_right : (v : View) → has_right (m ∷ v) page ≡ true
   got_right v = right_then (λ q. if page == q then Gained else Kept) m v page turns ∙ ap (λ t. now (if t then Gained else Kept) (has_right v page)) (eq-eqb page page refl)
 
-  got_before : IsUntouched page ws → GotBefore page (m ∷ ws)
+  pub got_before : IsUntouched page ws → GotBefore page (m ∷ ws)
   got_before h = record { right = got_right ws; got = inl gets; none = λ g at. holds_then (λ q. if page == q then Gained else Kept) m ws g turns ∙ h.none g at; newest = gets }
 
   pub got_search : AreSearch ws → AreSearch (m ∷ ws)
@@ -250,7 +250,7 @@ module _ (f : Profile) (d : Directory) (page : ℕ) (m : Made) (ws : List Made) 
         }
 
 -- a page whose right the call never had was never got
-never_got : (p : ℕ) (xs : List Made) → Always (LacksAfter p) xs → Once (GetsHere p) xs → ⊥
+pub never_got : (p : ℕ) (xs : List Made) → Always (LacksAfter p) xs → Once (GetsHere p) xs → ⊥
 never_got p [] lacks got = got
 never_got p (m ∷ xs) lacks (inl gets) = true≢false (sym (right_then (λ q. if p == q then Gained else Kept) m xs p (gets_rights p m.step m.answer gets) ∙ ap (λ t. now (if t then Gained else Kept) (has_right xs p)) (eq-eqb p p refl)) ∙ lacks.0)
 never_got p (m ∷ xs) lacks (inr got) = never_got p xs lacks.1 got
@@ -261,7 +261,7 @@ unfolding offered_steps
 offered_grows each words le = let more = mul-le-mul_right (each + words + 1) le in omega (arith, le, more)
 
 -- from the search from `next` on, which finds the page, to that from the page after it
-offered_further : (each words : ℕ) {next page end : ℕ} → 1 ≤ page → next ≤ page → end ≤ page / 64 + words → offered_steps each words (next - 1) + (end - next / 64) + (each + 1) ≤ offered_steps each words page
+pub offered_further : (each words : ℕ) {next page end : ℕ} → 1 ≤ page → next ≤ page → end ≤ page / 64 + words → offered_steps each words (next - 1) + (end - next / 64) + (each + 1) ≤ offered_steps each words page
 unfolding offered_steps
 offered_further each words {next} {page} {end} some le within =
     let more : suc (next - 1) * (each + words + 1) ≤ page * (each + words + 1) = mul-le-mul_right (each + words + 1) (omega (arith, some, le)) in omega (arith, some, le, within, more, suc-mul (next - 1) (each + words + 1))
@@ -270,7 +270,7 @@ offered_further each words {next} {page} {end} some le within =
 few_past : (each page : ℕ) (f : Profile) (steps : List Made) → length steps ≤ offered_steps each (row_words f.pages) page → length steps ≤ offered_steps each (row_words f.pages) (page + 1 - 1)
 few_past each page f steps few = let same : page ≡ page + 1 - 1 = omega arith in subst (λ n. length steps ≤ offered_steps each (row_words f.pages) n) same few
 
-row_within : (f : Profile) (page : ℕ) → page ≤ f.pages → row_end f page ≤ page / 64 + row_words f.pages
+pub row_within : (f : Profile) (page : ℕ) → page ≤ f.pages → row_end f page ≤ page / 64 + row_words f.pages
 row_within f page le = omega (arith, le)
 
 -- ---- an offered page

@@ -3,3 +3,4 @@ pub mod Serving
 pub mod Searches
 pub mod Telling
 pub mod Alone
+pub mod Ranks

@@ -3,10 +3,16 @@
 #![tactic(auto)]
 
 mod bare;
+mod best;
 mod finding;
 pub mod laws;
 mod offered;
+mod ranking;
 mod serving;
+mod surveying;
 
+pub use best::{find_best_page, take_best_page};
 pub use finding::find_page;
+pub use ranking::Ranking;
 pub use serving::{Served, Serving};
+pub use surveying::Best;

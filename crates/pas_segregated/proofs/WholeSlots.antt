@@ -3,11 +3,10 @@ use Rattle.std.proofs.Common.{◌≡◌, ◌≢◌, ℕ, ◌+◌, ◌*◌, ◌/�
 use Rattle.std.proofs.Common.{ap, sym, ◌∙◌, subst, arith, inl, inr, append_assoc, length-append, true≢false, eq-eqb, lt-ltb}
 use Rattle.std.proofs.lemmas.Bool.{cases_Bool, and_parts, and_from, and_right}
 use Rattle.pas_profile.specs.Classes.{IsClass, class_grains, usable_grains, is_usable, IsSlotStart}
-use Rattle.pas_bits.specs.Bits.{has_bit}
+use Rattle.pas_bits.specs.{Bits.has_bit, Masks.is_set, Masks.IsEmpty, Masks.HasMember}
 use Rattle.pas_profile.specs.declared.directory.Directory.{Directory}
 use Rattle.pas_profile.proofs.ClassFacts.{class_grains_positive, usable_grains_le, usable_grains_ge, first_slot}
 use Rattle.pas_bits.specs.declared.mask.Mask4.{Mask4}
-use Rattle.pas_bits.specs.Masks.{is_set, IsEmpty, HasMember}
 use Rattle.pas_bits.proofs.Words.{at_word, none_of_zero}
 use Rattle.pas_rights.specs.{Puts.masked, Puts.PutsBelow, Puts.PutsHere, Returns.ReturnSteps, Words.words}
 use Rattle.pas_rights.specs.PutsBack.{MayPutAndReturn, giving_back, PutsAndReturns, taking_grains}

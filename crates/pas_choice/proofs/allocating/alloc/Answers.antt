@@ -1,23 +1,23 @@
-use Rattle.pas_choice.proofs.Allocated.{room_to_search, is_run, run_within, can_give, room_to_give, can_leave, allocates, refuses}
+use Rattle.pas_choice.proofs.Allocated.{room_to_search, is_run, run_within, can_give, room_to_give, one_deed, can_leave, allocates, refuses}
 use Rattle.pas_choice.proofs.allocating.alloc.Goals as goal
 
 pub find_page-requires-clause-can : goal.find_page-requires-clause-can
 find_page-requires-clause-can g c = room_to_search c.requires.can
 
 pub give-block-requires-clause-some : goal.give-block-requires-clause-some
-give-block-requires-clause-some g c = (is_run (g.C.Choosing.choice c.args.pages.now.0) (g.C.ChoosingRun.run c.args.pages.now.0) (g.met.C.ChoosingRun.is_run c.args.pages.now.0) c.requires.suits.0 c.args.directory c.requires.directory c.in-Ok.served c.in-Ok.ensures.searches c.run-run.result c.run-run.ensures).some
+give-block-requires-clause-some g c = (is_run (g.C.Choosing.choice c.args.pages.now.0) (g.C.ChoosingRun.run c.args.pages.now.0) (g.met.C.ChoosingRun.is_run c.args.pages.now.0) c.requires.suits.0 c.args.directory c.requires.directory c.in-Ok.served c.in-Ok.ensures.searches.adds c.in-Ok.ensures.searches.outcome c.run-run.result c.run-run.ensures).some
 
 pub give-block-requires-clause-within : goal.give-block-requires-clause-within
-give-block-requires-clause-within g c = run_within (g.C.Choosing.choice c.args.pages.now.0) (g.C.ChoosingRun.run c.args.pages.now.0) (g.met.C.ChoosingRun.is_run c.args.pages.now.0) c.requires.suits.0 c.args.directory c.requires.directory c.in-Ok.served c.in-Ok.ensures.searches c.run-run.result c.run-run.ensures
+give-block-requires-clause-within g c = run_within (g.C.Choosing.choice c.args.pages.now.0) (g.C.ChoosingRun.run c.args.pages.now.0) (g.met.C.ChoosingRun.is_run c.args.pages.now.0) c.requires.suits.0 c.args.directory c.requires.directory c.in-Ok.served c.in-Ok.ensures.searches.adds c.in-Ok.ensures.searches.outcome c.run-run.result c.run-run.ensures
 
 pub give-block-requires-clause-can : goal.give-block-requires-clause-can
-give-block-requires-clause-can g c = can_give (g.C.Choosing.choice c.args.pages.now.0) (g.C.ChoosingRun.run c.args.pages.now.0) (g.met.C.ChoosingRun.is_run c.args.pages.now.0) c.requires.suits.0 c.args.directory c.requires.directory c.in-Ok.served c.in-Ok.ensures.searches c.run-run.result c.run-run.ensures c.requires.can
+give-block-requires-clause-can g c = can_give (g.C.Choosing.choice c.args.pages.now.0) (g.C.ChoosingRun.run c.args.pages.now.0) (g.met.C.ChoosingRun.is_run c.args.pages.now.0) c.requires.suits.0 c.args.directory c.requires.directory c.in-Ok.served c.in-Ok.ensures.searches.adds c.in-Ok.ensures.searches.outcome c.run-run.result c.run-run.ensures c.requires.can
 
 pub give-block-requires-clause-room : goal.give-block-requires-clause-room
-give-block-requires-clause-room g c = room_to_give (g.C.Choosing.choice c.args.pages.now.0) (g.C.ChoosingRun.run c.args.pages.now.0) (g.met.C.ChoosingRun.is_run c.args.pages.now.0) c.requires.suits.0 c.args.directory c.requires.directory c.in-Ok.served c.in-Ok.ensures.searches c.run-run.result c.run-run.ensures (g.met.D.Desk.spares c.args.desk.now) (g.met.D.Desk.spares c.find_page.new.desk) c.requires.can
+give-block-requires-clause-room g c = room_to_give (g.C.Choosing.choice c.args.pages.now.0) (g.C.ChoosingRun.run c.args.pages.now.0) (g.met.C.ChoosingRun.is_run c.args.pages.now.0) c.requires.suits.0 c.args.directory c.requires.directory c.in-Ok.served c.in-Ok.ensures.searches.adds c.in-Ok.ensures.searches.outcome c.run-run.result c.run-run.ensures (one_deed (g.C.Choosing.choice c.args.pages.now.0) c.args.directory c.in-Ok.served c.in-Ok.ensures.searches) (g.met.D.Desk.spares c.args.desk.now) (g.met.D.Desk.spares c.find_page.new.desk) c.requires.can
 
 pub leave-requires-clause-can : goal.leave-requires-clause-can
-leave-requires-clause-can g c = can_leave (g.C.Choosing.choice c.args.pages.now.0) (g.C.ChoosingRun.run c.args.pages.now.0) (g.met.C.ChoosingRun.is_run c.args.pages.now.0) c.requires.suits.0 c.args.directory c.requires.directory c.in-Ok.served c.in-Ok.ensures.searches c.run-run.result c.run-run.ensures c.give-block.result c.give-block.ensures.gives c.requires.can
+leave-requires-clause-can g c = can_leave (g.C.Choosing.choice c.args.pages.now.0) (g.C.ChoosingRun.run c.args.pages.now.0) (g.met.C.ChoosingRun.is_run c.args.pages.now.0) c.requires.suits.0 c.args.directory c.requires.directory c.in-Ok.served c.in-Ok.ensures.searches.adds c.in-Ok.ensures.searches.outcome c.run-run.result c.run-run.ensures c.give-block.result c.give-block.ensures.gives c.requires.can
 
 pub returns-in-Ok-clause-allocates : goal.returns-in-Ok-clause-allocates
 returns-in-Ok-clause-allocates g c = allocates (g.C.Choosing.choice c.args.pages.now.0) (g.C.ChoosingRun.run c.args.pages.now.0) (g.met.C.ChoosingRun.is_run c.args.pages.now.0) c.requires.suits.0 c.args.directory c.requires.directory c.in-Ok.served c.in-Ok.ensures.searches c.run-run.result c.run-run.ensures c.give-block.result c.give-block.ensures.gives c.leave.ensures.leaves

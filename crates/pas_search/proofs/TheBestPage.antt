@@ -1,0 +1,224 @@
+-- The best page of a survey is claimed, and serves or comes to nothing; and where it came to nothing the search goes on.
+use Rattle.std.proofs.Common.{◌≡◌, ℕ, ◌+◌, ◌%◌, ◌≤◌, Bool, true, false, List, [], ◌∷◌, ◌++◌, length, Option, None, Some, Result, refl, ap, sym, ◌∙◌, subst}
+use Rattle.std.proofs.Common.{arith, inl, inr, append-nil, length-append, true≢false, MatchResult}
+use Rattle.std.proofs.lemmas.Bool.{cases_eq}
+use Rattle.pas_bits.specs.Bits.{has_bit}
+use Rattle.pas_bits.proofs.Words.{none_of_zero}
+use Rattle.pas_profile.specs.Profiles.{IsValid}
+use Rattle.pas_profile.specs.declared.{directory.Directory.Directory, event.NoRoom.NoRoom, profile.Profile.Profile}
+use Rattle.pas_scan.specs.Marks.{is_marked}
+use Rattle.pas_steps.specs.{Agreement.Agreed, Calls.Leads, Calls.nothing, Calls.Does, Events.events_by, Events.events_of, Evidence.Readings, Evidence.GetsRight}
+use Rattle.pas_steps.specs.{Evidence.IsAntitone, Frames.AreLooks, Lists.Whole, Lists.Legal, Lists.part, Unknown.HasRoom}
+use Rattle.pas_steps.specs.Desks.{Seat, Standing, Adds, CanCall, made, triples}
+use Rattle.pas_steps.specs.Views.{View, has_right, known_deed, KnowsDeed}
+use Rattle.pas_steps.specs.declared.step.{Made.Made, Step.TheVariants.TakeRight}
+use Rattle.pas_steps.proofs.Adding.{adds_call, adds_under, can_call, legal_after}
+use Rattle.pas_steps.proofs.Calls.{does_none, leads_none, leads_then, still_clear}
+use Rattle.pas_steps.proofs.{Kept.deed_stays, Kept.knows_still, Kept.looks_read, Past.always_both, Unknown.all_known}
+use Rattle.pas_search.specs.{Kinds.AreQuiet, Kinds.IsQuiet, Telling.IsTold}
+use Rattle.pas_search.specs.Searches.{Searching, MaySearch, SearchRoom, IsServed, IsRefused, search_steps, FewEvents, Searches}
+use Rattle.pas_search.specs.Serving.{Rule, MayServe, ServeSteps, ServesPage}
+use Rattle.pas_search.specs.Ranks.{Measure, IsOfGrains, MayRank, RankRoom, Surveys, TriesPage, FromSurvey, TriesBest, StoodBefore, having_made, FallsBack}
+use Rattle.pas_search.specs.declared.{serving.Served.Served, surveying.Best.Best}
+use Rattle.pas_search.proofs.{ForBackEnds.room_kept, BestOffered.best_offered}
+use Rattle.pas_search.proofs.PagesThatServe.{IsReady, reads_vain, vain_searching, claim_rights, ready, got_search, got_before, served_search, finds, never_got}
+use Rattle.pas_search.proofs.PagesThatServe.{deeds_serves, no_deeds, got_left, events_after_quiet}
+
+-- ---- after looks alone all is as it was
+unmarked : (p : ℕ) → is_marked [] p ≡ false
+unmarked p = none_of_zero (p % 64)
+
+none_searched : (no_fit : Readings → Type 0) (f : Profile) (d : Directory) → Searching no_fit f d 1 [] []
+none_searched no_fit f d = record {
+  still = leads_none (λ v met. does_none v);
+  searches = record { kinds = tt; returns = tt };
+  quiet = tt;
+  untouched = λ p. record { right = refl; none = λ g at. refl };
+  marked = λ p mark. absurd (true≢false (sym mark ∙ unmarked p));
+  zeros = λ p low high mark. absurd (omega (arith, low, high));
+  lacked = λ p mark. tt;
+}
+
+looked_over : {F : Type 0} (rule : Rule F) (f : Profile) (d : Directory) (ws : List Made) → AreLooks ws → Searching rule.no_fit f d 1 [] ws
+looked_over rule f d ws looks = subst (Searching rule.no_fit f d 1 []) (append-nil ws) (vain_searching rule f d 1 [] ws [] (reads_vain ws (looks_read ws looks)) (none_searched rule.no_fit f d))
+
+-- what the survey and the claim ask
+pub rank_can : {σ : Standing} {f : Profile} {d : Directory} {n spare : ℕ} → CanCall σ (RankRoom f d n spare) → CanCall σ (MaySearch d)
+rank_can can = record { view = can.view; whole = can.whole; stood = can.stood; met = can.met.may.may }
+
+-- ---- no page has a rank
+pub none_ranked : {F : Type 0} {rule : Rule F} {ranks : Measure} {tells : Bool} {d : Directory} {σ0 σ1 : Standing} → Surveys ranks d σ0 σ1 None → TriesBest rule ranks tells d σ0 σ1 None
+none_ranked {rule = rule} {ranks = ranks} {d = d} {σ0 = σ0} surveys =
+    let s = looked_over rule σ0.seat.profile d surveys.steps surveys.looks in record {
+      steps = surveys.steps;
+      adds = adds_under surveys.adds (λ v l stood met. tt);
+      searches = s.searches;
+      few = omega (arith, surveys.few);
+      outcome = record { still = s.still; quiet = s.quiet; why = inl (surveys.looks, surveys.outcome) };
+      told = λ t v l stood met. tt;
+    }
+
+-- ---- the best one is claimed
+module _ {F : Type 0} (rule : Rule F) {ranks : Measure} (tells : Bool) {d : Directory} {σ0 σ1 : Standing} {best : Best} (surveys : Surveys ranks d σ0 σ1 (Some best)) where
+  abbrev f : Profile
+  f = σ0.seat.profile
+
+  abbrev page : ℕ
+  page = best.page
+
+  abbrev ws : List Made
+  ws = surveys.steps
+
+  s : Searching rule.no_fit f d 1 [] ws
+  s = looked_over rule f d ws surveys.looks
+
+  survey_adds : Adds σ0 σ1 (MaySearch d) ws
+  survey_adds = adds_under surveys.adds (λ v l stood met. tt)
+
+  deed_at : (v : View) (l : Whole) → σ0.stands v l → KnowsDeed best.page d (ws ++ v)
+  deed_at v l stood = surveys.outcome.deed v (surveys.adds.agreed v l stood tt)
+
+  pub best_can : CanCall σ0 (MaySearch d) → CanCall σ1 (KnowsDeed best.page d)
+  best_can can = can_call {C = MaySearch d} survey_adds can (λ v l stood met. deed_at v l stood)
+
+  module _ {σ2 : Standing} {a : ℕ} (claim : Adds σ1 σ2 (KnowsDeed best.page d) (made (TakeRight best.page d) a ∷ [])) where
+    abbrev m : Made
+    m = made (TakeRight page d) a
+
+    abbrev claimed : List Made
+    claimed = m ∷ ws
+
+    pub best_claim_adds : Adds σ0 σ2 (MaySearch d) (made (TakeRight best.page d) a ∷ surveys.steps)
+    best_claim_adds = adds_call {D = KnowsDeed page d} survey_adds claim (λ v l stood met. deed_at v l stood)
+
+    pub best_claim_quiet : AreQuiet (made (TakeRight best.page d) a ∷ surveys.steps)
+    best_claim_quiet = (λ k e. refl, s.quiet)
+
+    abbrev tries_page : (serve : List Made) → TriesPage f ranks d page (serve ++ claimed)
+    tries_page serve = record { surveyed = ws; looks = surveys.looks; rank = best.rank; best = surveys.outcome; claim = a; serve = serve; steps_are = refl }
+
+    -- another actor was first
+    pub best_lost : has_bit a (best.page % 64) ≡ false → TriesBest rule ranks tells d σ0 σ2 None
+    best_lost bit =
+        let now : Searching rule.no_fit f d 1 [] claimed = vain_searching rule f d 1 [] (m ∷ []) ws (record { rights = claim_rights page d a false bit; quiet = λ k e. refl }, tt) s in record {
+          steps = claimed;
+          adds = best_claim_adds;
+          searches = now.searches;
+          few = omega (arith, surveys.few);
+          outcome = record { still = now.still; quiet = now.quiet; why = inr (record { page = page; tries = tries_page []; missed = inl bit }) };
+          told = λ t v l stood met. tt;
+        }
+
+    module _ (bit : has_bit a (best.page % 64) ≡ true) where
+      gets : GetsRight page (TakeRight page d) a
+      gets = GetsRight.Claims d a bit
+
+      got : Leads f (MaySearch d) (IsReady page d) claimed
+      got = ready f d page m ws gets (λ v met. met.clear) s.still (λ v agreed. knows_still f d page (m ∷ []) (ws ++ v) (agreed.0, tt) (surveys.outcome.deed v agreed.1))
+
+      may_serve : (v : View) (l : Whole) → σ0.stands v l → MaySearch d v → MayServe page d (claimed ++ v)
+      may_serve v l stood met = (got.from v met (best_claim_adds.agreed v l stood met)).may
+
+      pub best_can_serve : CanCall σ0 (MaySearch d) → CanCall σ2 (MayServe best.page d)
+      best_can_serve can = can_call {C = MaySearch d} best_claim_adds can may_serve
+
+      module _ {σ3 : Standing} where
+        serve_at : (answer : Option F) (serve : ServesPage rule page d σ2 σ3 answer) → ServeSteps rule f page d serve.steps answer
+        serve_at answer serve = subst (λ (seat : Seat). ServeSteps rule seat.profile page d serve.steps answer) best_claim_adds.seat_is serve.serves
+
+        -- nothing fits any more
+        pub best_left : ServesPage rule best.page d σ2 σ3 None → TriesBest rule ranks tells d σ0 σ3 None
+        best_left serve =
+            let steps = serve_at None serve in let zs : List Made = serve.steps in let left = steps.outcome in
+            let lacking : Leads f (MaySearch d) (λ v w. IsReady page d v w × (has_right v page ≡ false)) claimed = record { from = λ v met agreed. (got.from v met agreed, surveys.outcome.lacks v agreed.1) } in record {
+              steps = zs ++ claimed;
+              adds = adds_call {D = MayServe page d} best_claim_adds serve.adds may_serve;
+              searches = served_search page zs claimed steps.only steps.due (inl gets) (got_search f d page m ws gets s.searches);
+              few = omega (arith, surveys.few, steps.short, length-append zs claimed);
+              outcome = record {
+                still = leads_then (Does nothing) lacking left.leaves (λ v w met r. r.0.may) (λ v w u r b. got_left page r.1 r.0.got b);
+                quiet = always_both (λ n before. IsQuiet n) (λ n before. IsQuiet n) zs claimed (λ n before h. h) left.quiet best_claim_quiet;
+                why = inr (record { page = page; tries = tries_page zs; missed = inr (left.unfit claimed (got_before f d page m ws gets (s.untouched page))) });
+              };
+              told = λ t v l stood met. tt;
+            }
+
+        -- it serves
+        pub best_served : {found : F} → IsValid σ0.seat.profile → IsAntitone rule.no_fit → IsOfGrains ranks
+            → ((v : View) (l : Whole) → tells ≡ true → σ3.stands v l → Legal σ3.seat.profile l) → ((v : View) (l : Whole) → tells ≡ true → σ0.stands v l → part σ0.seat.actor l ≡ v)
+            → ServesPage rule best.page d σ2 σ3 (Some found) → TriesBest rule ranks tells d σ0 σ3 (Some (record { page = best.page; found = found }))
+        best_served {found} valid fewer alike told parts serve =
+            let steps = serve_at (Some found) serve in let zs : List Made = serve.steps in
+            let few : FewEvents f d rule.events (zs ++ claimed) = λ k v agreed.
+            let few : length (events_by k v (zs ++ claimed)) ≤ rule.events = subst (λ es. length es ≤ rule.events) (sym (events_after_quiet k v zs claimed best_claim_quiet)) (steps.few k (claimed ++ v)) in (omega (arith, few), λ known. few) in
+            let adds : Adds σ0 σ3 (MaySearch d) (zs ++ claimed) = adds_call {D = MayServe page d} best_claim_adds serve.adds may_serve in
+            let searches = served_search page zs claimed steps.only steps.due (inl gets) (got_search f d page m ws gets s.searches) in
+            let outcome = finds f d page m ws gets rule zs got (s.untouched page) found (FromSurvey f ranks d page) steps surveys.outcome.page (record { tries = tries_page zs; got = bit; no_deed = deeds_serves zs claimed steps.only.kinds ∙ no_deeds claimed best_claim_quiet }) few
+            (inl (λ k e. refl)) s.quiet s.searches (λ v agreed. never_got page ws (s.lacked page (unmarked page))) in record {
+              steps = zs ++ claimed;
+              adds = adds;
+              searches = searches;
+              few = omega (arith, surveys.few, steps.short, length-append zs claimed);
+              outcome = outcome;
+              told = λ t v l stood met.
+                  let legal = legal_after adds (λ w n. told w n t) v l stood met in let same : v ≡ part σ0.seat.actor l = sym (parts v l t stood) in
+                  best_offered f σ0.seat.actor l ranks alike d rule page (rule.kept found) (zs ++ claimed) valid fewer legal searches
+                  (subst (MaySearch d) same met) (subst (λ w. Agreed f w (zs ++ claimed)) same (adds.agreed v l stood met)) outcome.choice outcome.shows;
+            }
+
+-- ---- where the try came to nothing
+module _ {F : Type 0} {rule : Rule F} {ranks : Measure} {tells : Bool} {d : Directory} {σ σ1 : Standing} (tries : TriesBest rule ranks tells d σ σ1 None) where
+  abbrev xs : List Made
+  xs = tries.steps
+
+  may_again : (v : View) → MayRank d v → Agreed σ.seat.profile v xs → MaySearch d (xs ++ v)
+  may_again v met agreed =
+      let still = tries.outcome.still.from v met.may agreed in record {
+        rights = λ p knows. still.right p ∙ elim (cases_eq (known_deed v p) 0) [
+          | inl none ↦ met.known p none
+          | inr some ↦ met.may.rights p (sym (deed_stays σ.seat.profile xs v p agreed some) ∙ knows)
+        ];
+        clear = still_clear still met.may.clear;
+      }
+
+  profile_kept : σ1.seat.profile ≡ σ.seat.profile
+  profile_kept = ap (λ (seat : Seat). seat.profile) tries.adds.seat_is
+
+  -- what the search that follows asks: no event was made, and what was known of deeds is known still
+  pub can_go_on : {n spare spare' : ℕ} → CanCall σ (RankRoom σ.seat.profile d n spare)
+      → ((v : View) (l : Whole) → σ.stands v l → spare + length (events_of σ.seat.actor v) ≡ σ.seat.room) → ((v : View) (l : Whole) → σ1.stands v l → spare' + length (events_of σ1.seat.actor v) ≡ σ1.seat.room)
+      → CanCall σ1 (SearchRoom σ1.seat.profile d n spare')
+  can_go_on {n} {spare} {spare'} can law law' =
+      let keep = λ (more : ℕ) (fits : more ≤ spare). room_kept {C = MaySearch d} more tries.adds (rank_can can) tries.outcome.quiet law law' fits in
+      can_call {C = RankRoom σ.seat.profile d n spare} (adds_under tries.adds (λ v l stood met. met.may.may)) can (λ v l stood met. let agreed = tries.adds.agreed v l stood met.may.may in record {
+        may = may_again v met.may agreed;
+        room = subst (λ x. HasRoom x n spare' (xs ++ v)) (sym profile_kept)
+            (keep n met.room.0, elim met.room.1 [ inl all ↦ inl (all_known σ.seat.profile xs v agreed all) | inr wide ↦ inr (keep (n + 1) wide) ]);
+      })
+
+  pub falls_back : {Goes : Standing → Type 0} → Goes (having_made σ (MayRank d) tries.steps) → FallsBack rule.no_fit rule.steps ranks d σ Goes
+  falls_back goes = record { tried = xs; agreed = λ v l stood met. tries.adds.agreed v l stood met.may; searches = tries.searches; few = tries.few; outcome = tries.outcome; goes = goes }
+
+  -- ---- what is said of the desk then is said of the one that made these steps
+  abbrev pub before : Standing
+  before = having_made σ (MayRank d) tries.steps
+
+  pub stood_then : (v : View) (l : Whole) → StoodBefore σ (MayRank d) tries.steps v l → σ1.stands v l
+  stood_then v l b = subst (λ w. σ1.stands w l) (sym b.view_is) (subst (σ1.stands (xs ++ b.view)) (sym b.whole_is) (tries.adds.added b.view b.whole b.stood b.met.may))
+
+  pub adds_then : {σ2 : Standing} {C : View → Type 0} {ys : List Made} → Adds σ1 σ2 C ys → Adds (having_made σ (MayRank d) tries.steps) σ2 C ys
+  adds_then {σ2} {C} {ys} adds = record {
+    seat_is = adds.seat_is ∙ tries.adds.seat_is;
+    added = λ v l b met. subst (λ (seat : Seat). σ2.stands (ys ++ v) (triples seat.actor ys ++ l)) tries.adds.seat_is (adds.added v l (stood_then v l b) met);
+    agreed = λ v l b met. subst (λ (seat : Seat). Agreed seat.profile v ys) tries.adds.seat_is (adds.agreed v l (stood_then v l b) met);
+  }
+
+  pub searches_then : {σ2 : Standing} {answer : Result (Served F) NoRoom} → Searches rule tells d σ1 σ2 answer → Searches rule tells d (having_made σ (MayRank d) tries.steps) σ2 answer
+  searches_then {σ2} {answer} searches = let ys : List Made = searches.steps in record {
+    steps = ys;
+    adds = adds_then searches.adds;
+    searches = searches.searches;
+    few = subst (λ (seat : Seat). length ys ≤ search_steps rule.steps seat.profile.pages) tries.adds.seat_is searches.few;
+    outcome = subst (λ (seat : Seat). MatchResult answer (IsServed rule seat.profile d ys) (IsRefused rule.no_fit seat.profile d ys)) tries.adds.seat_is searches.outcome;
+    told = λ t v l b met. subst (λ (seat : Seat). IsTold (λ (served : Served F). served.page) rule.no_fit seat.profile d l (triples seat.actor ys ++ l) answer) tries.adds.seat_is (searches.told t v l (stood_then v l b) met);
+  }
