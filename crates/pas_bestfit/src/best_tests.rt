@@ -4,6 +4,7 @@ ghost use Rattle.std.specs.Prelude.{◌≤◌};
 use crate::best::Best;
 use pas_bits::Mask4;
 use pas_choice::Placing;
+use pas_search::Ranking;
 
 /// Runs of 10, 5, 5 and 6 free grains.
 fn some_runs() -> Mask4 {
@@ -26,6 +27,20 @@ fn the_shortest_run_serves_and_the_lowest_among_equals(rt: HostRuntime) {
     assert!(rt; first_for(6) == Some(250));
     assert!(rt; first_for(7) == Some(0) && first_for(10) == Some(0));
     assert!(rt; first_for(11).is_none());
+}
+
+/// The rank of that page for a request of so many.
+fn rank_for(grains: u16) -> Option<u32>
+    requires { (1 ≤ grains) × (grains ≤ 256) }
+{
+    Best { grains }.rank(&some_runs())
+}
+
+#[test]
+fn a_page_is_ranked_by_its_shortest_run_that_is_long_enough(rt: HostRuntime) {
+    assert!(rt; rank_for(1) == Some(5) && rank_for(5) == Some(5));
+    assert!(rt; rank_for(6) == Some(6) && rank_for(7) == Some(10));
+    assert!(rt; rank_for(11).is_none());
 }
 
 #[test]

@@ -1,0 +1,53 @@
+-- The rank of a page, and the block of the best page.
+use Rattle.std.proofs.Common.{◌≡◌, ℕ, ◌+◌, ◌-◌, ◌*◌, ◌<◌, ◌≤◌, true, false, Ok, Err, Result, MatchResult, Bool, inl, inr, refl, sym, ◌∙◌, subst, arith, true≢false}
+use Rattle.std.proofs.lemmas.Bool.{cases_lt}
+use Rattle.pas_bits.specs.declared.mask.Mask4.{Mask4}
+use Rattle.pas_bits.specs.{Masks.is_set, Masks.IsRunEnd}
+use Rattle.pas_choice.specs.{Allocates.AllocatesRun, ByRank.AllocatesByRank, Placements.placed, Placements.run_from}
+use Rattle.pas_profile.specs.declared.{event.NoRoom.NoRoom, name.Block.Block}
+use Rattle.pas_steps.specs.Desks.{Standing}
+use Rattle.pas_bestfit.specs.{Allocates.bestfit_directory, Bests.IsBestFit, Bests.IsNoBetter, Bests.best_fit, Bests.best_for, Region.AllocatesInRegion, Region.IsShortest}
+use Rattle.pas_bestfit.specs.Region.{by_length}
+use Rattle.pas_bestfit.specs.declared.best.Best.{Best}
+
+-- a run ends where the first clear bit comes
+length_of : (mask : Mask4) (grains g end : ℕ) (fit : IsBestFit grains (is_set mask) g) → IsRunEnd mask g end → end ≡ g + fit.length
+length_of mask grains g end fit ends =
+    let within = fit.run.within in let most = ends.within in let from = ends.above in
+    elim (cases_lt end (g + fit.length)) [
+      | inl short ↦ absurd (true≢false (sym (fit.run.free end from short) ∙ ends.clear (omega (arith, short, within))))
+      | inr long ↦ elim (cases_lt (g + fit.length) end) [
+        | inl past ↦ absurd (true≢false (sym (ends.set (g + fit.length) (omega arith) past) ∙ fit.run.after (omega (arith, past, most))))
+        | inr same ↦ omega (arith, long, same)
+      ]
+    ]
+
+no_shorter : (g n h m : ℕ) → IsNoBetter g n h m → n ≤ m
+no_shorter g n h m (inl less) = omega (arith, less)
+no_shorter g n h m (inr same) = let e = same.0 in omega (arith, e)
+
+pub shortest : (mask : Mask4) (grains g end : ℕ) → IsBestFit grains (is_set mask) g → IsRunEnd mask g end → IsShortest grains (is_set mask) (end - g)
+shortest mask grains g end fit ends = let at = length_of mask grains g end fit ends in let same : fit.length ≡ end - g = omega (arith, at) in
+    subst (IsShortest grains (is_set mask)) same
+    (record { first = g; run = fit.run; enough = fit.enough; shortest = λ h m run enough. no_shorter g fit.length h m (fit.best h m run enough) })
+
+-- ---- the block
+module _ (heap bytes : ℕ) where
+  abbrev best : Best
+  best = best_for bytes
+
+  room_of : {tells : Bool} {σ σ' : Standing} (answer : Result Block NoRoom) → AllocatesRun (placed (best_fit best)) (run_from (best_fit best)) (bestfit_directory heap) tells σ σ' answer
+      → MatchResult answer (λ block. block.room ≡ best.grains * 16) (λ why. Unit {0})
+  room_of (Ok block) a = a.outcome.room_is
+  room_of (Err why) a = tt
+
+  pub in_region : {tells : Bool} {σ σ' : Standing} (answer : Result Block NoRoom) (b : Best) → b ≡ best_for bytes
+      → AllocatesByRank (placed (best_fit b)) (run_from (best_fit b)) (by_length b.grains) (bestfit_directory heap) tells σ σ' answer → AllocatesInRegion heap bytes tells σ σ' answer
+  in_region {tells} {σ} {σ'} answer b is by =
+      let by_rank = subst (λ x. AllocatesByRank (placed (best_fit x)) (run_from (best_fit x)) (by_length x.grains) (bestfit_directory heap) tells σ σ' answer) is by in record {
+        by_rank = by_rank;
+        room_is = elim by_rank [
+          | inl taken ↦ subst (λ a. MatchResult a (λ block. block.room ≡ best.grains * 16) (λ why. Unit {0})) (sym taken.1) taken.2.given.room_is
+          | inr back ↦ room_of answer back.goes
+        ];
+      }
