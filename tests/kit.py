@@ -3,9 +3,9 @@
 
 Tests tools/kit.py, by which tools/prove calls the kit's rt. With kits that are written here: one that is no Python and one that makes the sums of
 crates by other code run as they are, with their words and their status; whether a kit keeps what passed is asked of its help, and tools/prove says so
-only then. With the kit of this machine: each crate's sum is kept as the kit makes it, its files are read once a run, and its version is told as rt
-tells it. Where no kit is in PATH that part is skipped, and said to be. The program isn't needed. Prints what was checked; the status is 1 where
-something was wrong."""
+only then. With the kit of this machine: each crate's sum is kept as the kit makes it, its files are read once a run, its version is told as rt
+tells it, and a library that is marked as built counts as built with rt, until a file of it changes. Where no kit is in PATH that part is skipped, and
+said to be. The program isn't needed. Prints what was checked; the status is 1 where something was wrong."""
 import os
 import shutil
 import subprocess
@@ -47,6 +47,9 @@ def test_other_kits(room):
         check((ran.stdout, ran.returncode) == (said, status), f"a kit of another kind: {ran.stdout!r}, status {ran.returncode}")
         told = called([sys.executable, str(ROOT / "tools/prove"), "--estimate"], env=environment)
         check(told.returncode == 0 and (LEAST in told.stdout) == keeps, f"tools/prove says of a kit that {'keeps' if keeps else 'forgets'}: {told.stdout}")
+        # of such a kit no library can be marked as built, so each is built by itself
+        told = called([sys.executable, str(ROOT / "tools/prove"), "pas_bits", "--estimate"], env=environment)
+        check(told.returncode == 0 and LEAST not in told.stdout, f"tools/prove says of a library, with a kit of another kind: {told.stdout}")
     none = called(WORDS, env=os.environ | {"PATH": str(room / "nothing")})
     check(none.returncode == 1 and "there is no rt" in none.stderr, f"without a kit: {none.stderr}")
     print("kits of other kinds, and none")
@@ -75,6 +78,27 @@ def test_sums():
     print(f"the sums of {len(names)} crates, by {len(read)} readings")
 
 
+def test_marks(room):
+    """A library of a small repository, as a gate leaves it, and one that wasn't built."""
+    (room / ".git").mkdir(parents=True)
+    (room / "crates.txt").write_text("low:\nhigh: low\n")
+    for name in ("low", "high"):
+        (room / "crates" / name / "src").mkdir(parents=True)
+        (room / "crates" / name / "src/lib.rt").write_text("//! Nothing.\n")
+    (room / "crates/low/out/rlib/low.rlib").mkdir(parents=True)
+    (room / "crates/low/out/rlib/low.rlib/format").write_text("")
+    rt = kit.building()
+    if not rt:
+        print(f"this kit ({called(['rt', 'version']).stdout.strip()}) tells by code that isn't known that a library is built: none is marked")
+        return
+    built = lambda: {it.name for it in rt.rtlib.crates_below(str(room)) if it.is_built()}
+    check(built() == set(), "a library counts as built before it is marked")
+    check(kit.mark_built(room) == ["low"] and built() == {"low"}, f"marked, and built: {built()}")
+    (room / "crates/low/src/lib.rt").write_text("//! Nothing more.\n")
+    check(built() == set(), "a library that changed counts as built")
+    print("libraries that are marked as built")
+
+
 def main():
     if len(sys.argv) > 2 or sys.argv[1:2] in (["-h"], ["--help"]):
         sys.exit(__doc__)
@@ -84,6 +108,8 @@ def main():
     check(helped.returncode == 0 and "tools/kit.py WORD.." in helped.stdout, f"--help: {helped.stdout}")
     if shutil.which("rt"):
         test_sums()
+        with tempfile.TemporaryDirectory() as room:
+            test_marks(Path(room) / "repository")
         told = [subprocess.run([*words, "version"], stdout=subprocess.PIPE, text=True).stdout for words in (["rt"], WORDS[:2])]
         check(told[0] == told[1] != "", f"rt version: {told}")
     else:

@@ -36,7 +36,7 @@ def said(page):
 def faults(page):
     """What is wrong with the quotes of this page, and with the tool."""
     yield from difflib.unified_diff(page.splitlines(), quotes.made_anew(page).splitlines(), n=0, lineterm="")
-    spoilt = page.replace("type Found = u8;", "type Found = u16;")
+    spoilt = page.replace("let mut best = None;", "let mut best = Some(0);")
     if page == spoilt or quotes.made_anew(spoilt) != quotes.made_anew(page):
         yield "a quote with another word isn't mended"
     for wrong, why in WRONG.items():

@@ -26,6 +26,8 @@ from types import ModuleType
 
 # The code by which rattle-kit-13b makes the sum: of the files of the crate and of those below it, which no run writes.
 KNOWN_SUMS = {"bd65806bc231da43"}
+# The code by which rattle-kit-13f builds a library and tells that it is built: by the crate's sum, in a file beside it.
+KNOWN_BUILDS = {"d0ae00b6b66174f0"}
 
 
 def find() -> str:
@@ -63,11 +65,38 @@ def load(path: str) -> ModuleType | None:
         return None
 
 
+def code_sum(of: type, *names: str) -> str:
+    """A sum of the code of these methods, or nothing where one isn't there."""
+    found = [getattr(of, name, None) for name in names]
+    return hashlib.sha256("".join(map(inspect.getsource, found)).encode()).hexdigest()[:16] if all(found) else ""
+
+
+@functools.lru_cache(maxsize=None)
+def building() -> ModuleType | None:
+    """The kit's rt, if it tells that a library is built by code that is known."""
+    kit = load(find())
+    crate = getattr(getattr(kit, "rtlib", None), "Crate", object)
+    return kit if code_sum(crate, "is_built", "build_rlib") in KNOWN_BUILDS else None
+
+
+def mark_built(top: Path) -> list[str]:
+    """Marks the libraries that the gate built below this folder as built, and returns their names.
+
+    The gate builds a library of what its functions promise, over libraries that are built so, and leaves it unmarked, as
+    it fits no others. So they are taken together: those of a crate and of all below it."""
+    kit = building()
+    crates = kit.rtlib.crates_below(str(top)) if kit else []
+    built = [it for it in crates if it.makes_rlib() and (Path(it.rlib) / "format").is_file()]
+    for it in built:
+        (Path(it.rlib).parent / "stamp").write_text(it.stamp())
+    return [it.name for it in built]
+
+
 def keep_sums(crate: type) -> bool:
     """Has each crate's sum kept, if it is made by code that is known."""
-    made = getattr(crate, "stamp", None)
-    if not made or hashlib.sha256(inspect.getsource(made).encode()).hexdigest()[:16] not in KNOWN_SUMS:
+    if code_sum(crate, "stamp") not in KNOWN_SUMS:
         return False
+    made = crate.stamp
     sums: dict[tuple[str, str], str] = {}
 
     def stamp(self) -> str:

@@ -41,10 +41,11 @@ class Crate:
         return (self.folder / "src/main.rt").is_file()
 
     def is_built(self) -> bool:
-        """Whether nothing in the folder is younger than what was built: a guess, for the estimate alone."""
+        """Whether it was built with its work, and nothing in the folder is younger: a guess, for the estimate alone."""
         built = self.folder / "out/rlib/stamp"
         files = [file for part in ("src", "specs", "proofs") for file in (self.folder / part).rglob("*")]
-        return built.is_file() and all(file.stat().st_mtime <= built.stat().st_mtime for file in files)
+        has_work = (self.folder / "out/incremental").is_dir()
+        return has_work and built.is_file() and all(file.stat().st_mtime <= built.stat().st_mtime for file in files)
 
 
 def read_crates(top: str) -> dict[str, Crate]:
