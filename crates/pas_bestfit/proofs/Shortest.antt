@@ -1,13 +1,13 @@
 -- The rank of a page, and the block of the best page.
-use Rattle.std.proofs.Common.{◌≡◌, ℕ, ◌+◌, ◌-◌, ◌*◌, ◌<◌, ◌≤◌, true, false, Ok, Err, Result, MatchResult, Bool, inl, inr, refl, sym, ◌∙◌, subst, arith, true≢false}
+use Rattle.std.proofs.Common.{◌≡◌, ℕ, ◌+◌, ◌-◌, ◌*◌, ◌≤◌, Ok, Err, Result, MatchResult, Bool, inl, inr, sym, ◌∙◌, subst, arith, true≢false}
 use Rattle.std.proofs.lemmas.Bool.{cases_lt}
 use Rattle.pas_bits.specs.declared.mask.Mask4.{Mask4}
-use Rattle.pas_bits.specs.{Masks.is_set, Masks.IsRunEnd}
+use Rattle.pas_bits.specs.Masks.{is_set, IsRunEnd}
 use Rattle.pas_choice.specs.{Allocates.AllocatesRun, ByRank.AllocatesByRank, Placements.placed, Placements.run_from}
 use Rattle.pas_profile.specs.declared.{event.NoRoom.NoRoom, name.Block.Block}
 use Rattle.pas_steps.specs.Desks.{Standing}
-use Rattle.pas_bestfit.specs.{Allocates.bestfit_directory, Bests.IsBestFit, Bests.IsNoBetter, Bests.best_fit, Bests.best_for, Region.AllocatesInRegion, Region.IsShortest}
-use Rattle.pas_bestfit.specs.Region.{by_length}
+use Rattle.pas_bestfit.specs.{Allocates.bestfit_directory, Region.AllocatesInRegion, Region.IsShortest, Region.by_length}
+use Rattle.pas_bestfit.specs.Bests.{IsBestFit, IsNoBetter, best_fit, best_for}
 use Rattle.pas_bestfit.specs.declared.best.Best.{Best}
 
 -- a run ends where the first clear bit comes
