@@ -36,15 +36,18 @@ module _ (heap bytes : ℕ) where
   abbrev best : Best
   best = best_for bytes
 
-  room_of : {tells : Bool} {σ σ' : Standing} (answer : Result Block NoRoom) → AllocatesRun (placed (best_fit best)) (run_from (best_fit best)) (bestfit_directory heap) tells σ σ' answer
+  room_of : {tells : Bool} {σ σ' : Standing} (answer : Result Block NoRoom)
+      → AllocatesRun (placed (best_fit best)) (run_from (best_fit best)) (bestfit_directory heap) tells σ σ' answer
       → MatchResult answer (λ block. block.room ≡ best.grains * 16) (λ why. Unit {0})
   room_of (Ok block) a = a.outcome.room_is
   room_of (Err why) a = tt
 
   pub in_region : {tells : Bool} {σ σ' : Standing} (answer : Result Block NoRoom) (b : Best) → b ≡ best_for bytes
-      → AllocatesByRank (placed (best_fit b)) (run_from (best_fit b)) (by_length b.grains) (bestfit_directory heap) tells σ σ' answer → AllocatesInRegion heap bytes tells σ σ' answer
+      → AllocatesByRank (placed (best_fit b)) (run_from (best_fit b)) (by_length b.grains) (bestfit_directory heap) tells σ σ' answer
+      → AllocatesInRegion heap bytes tells σ σ' answer
   in_region {tells} {σ} {σ'} answer b is by =
-      let by_rank = subst (λ x. AllocatesByRank (placed (best_fit x)) (run_from (best_fit x)) (by_length x.grains) (bestfit_directory heap) tells σ σ' answer) is by in record {
+      let by_rank = subst (λ x. AllocatesByRank (placed (best_fit x)) (run_from (best_fit x)) (by_length x.grains)
+      (bestfit_directory heap) tells σ σ' answer) is by in record {
         by_rank = by_rank;
         room_is = elim by_rank [
           | inl taken ↦ subst (λ a. MatchResult a (λ block. block.room ≡ best.grains * 16) (λ why. Unit {0})) (sym taken.1) taken.2.given.room_is
