@@ -6,9 +6,8 @@ use Rattle.pas_bits.specs.declared.free_runs.FreeRun.{FreeRun}
 use Rattle.pas_bits.proofs.FreeRuns.{same_run, lies_in_run}
 use Rattle.pas_profile.specs.declared.{event.NoRoom.NoRoom, name.Block.Block}
 use Rattle.pas_steps.specs.{Desks.Standing, Evidence.Readings}
-use Rattle.pas_bestfit.specs.declared.best.Best.{Best}
-use Rattle.pas_bestfit.specs.Allocates.{AllocatesBest, Allocates}
-use Rattle.pas_bestfit.specs.Bests.{best_for, HasNoRun, IsBetter, IsNoBetter, IsPreferred}
+use Rattle.pas_bestfit.specs.Allocates.{grains_for, GivesBest, Allocates}
+use Rattle.pas_bestfit.specs.Bests.{HasNoRun, IsBetter, IsNoBetter, IsPreferred}
 
 -- ---- the policy
 -- a run serves better than all that one serves no worse than, which is worse itself
@@ -59,12 +58,12 @@ module _ (r : Readings) (n from : ℕ) (run : FreeRun) (next : IsNextRun r from 
     ];
   }
 
-  pub preferred : (best : Option FreeRun) → IsPreferred n run best → SoFar r n from best → SoFar r n end (Some run)
+  pub preferred : (best : Option FreeRun) → IsPreferred run n best → SoFar r n from best → SoFar r n end (Some run)
   preferred None is none = this_best is.0 (λ h m old other far. absurd (none h m old other far))
   preferred (Some b) is so =
       this_best is.0 (λ h m old other far. better_still b.first b.length run.first run.length h m is.1 (so.no_better h m old other far))
 
-  pub not_preferred : (best : Option FreeRun) → (IsPreferred n run best → ⊥) → SoFar r n from best → SoFar r n end best
+  pub not_preferred : (best : Option FreeRun) → (IsPreferred run n best → ⊥) → SoFar r n from best → SoFar r n end best
   not_preferred None isnt none = λ h m lt other far. elim (old_or_this h m lt other) [
     | inl old ↦ none h m old other far
     | inr this ↦ let long = this.1 in isnt (omega (arith, far, long), tt)
@@ -92,12 +91,12 @@ none_fits r n from some none no_more g within free =
     ]
 
 -- ---- the block
-pub allocated : {tells : Bool} {σ σ' : Standing} (heap bytes : ℕ) (best : Best) (answer : Result Block NoRoom) → best ≡ best_for bytes
-    → AllocatesBest heap best tells σ σ' answer → Allocates heap bytes tells σ σ' answer
-allocated {tells} {σ} {σ'} heap bytes best answer is run =
-    let by_run = subst (λ b. AllocatesBest heap b tells σ σ' answer) is run in record { by_run = by_run; room_is = room_of answer by_run }
+pub allocated : {tells : Bool} {σ σ' : Standing} (heap bytes n : ℕ) (answer : Result Block NoRoom) → n ≡ grains_for bytes
+    → GivesBest heap n tells σ σ' answer → Allocates heap bytes tells σ σ' answer
+allocated {tells} {σ} {σ'} heap bytes n answer is run =
+    let by_run = subst (λ n. GivesBest heap n tells σ σ' answer) is run in record { by_run = by_run; room_is = room_of answer by_run }
   where
-    room_of : (answer : Result Block NoRoom) → AllocatesBest heap (best_for bytes) tells σ σ' answer
-        → MatchResult answer (λ block. block.room ≡ (best_for bytes).grains * 16) (λ why. Unit {0})
+    room_of : (answer : Result Block NoRoom) → GivesBest heap (grains_for bytes) tells σ σ' answer
+        → MatchResult answer (λ block. block.room ≡ grains_for bytes * 16) (λ why. Unit {0})
     room_of (Ok block) a = a.outcome.room_is
     room_of (Err why) a = tt

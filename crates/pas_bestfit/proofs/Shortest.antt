@@ -3,12 +3,10 @@ use Rattle.std.proofs.Common.{◌≡◌, ℕ, ◌+◌, ◌-◌, ◌*◌, ◌≤�
 use Rattle.std.proofs.lemmas.Bool.{cases_lt}
 use Rattle.pas_bits.specs.declared.mask.Mask4.{Mask4}
 use Rattle.pas_bits.specs.Masks.{is_set, IsRunEnd}
-use Rattle.pas_choice.specs.{Allocates.AllocatesRun, ByRank.AllocatesByRank, Placements.placed, Placements.run_from}
 use Rattle.pas_profile.specs.declared.{event.NoRoom.NoRoom, name.Block.Block}
 use Rattle.pas_steps.specs.Desks.{Standing}
-use Rattle.pas_bestfit.specs.{Allocates.bestfit_directory, Region.AllocatesInRegion, Region.IsShortest, Region.by_length}
-use Rattle.pas_bestfit.specs.Bests.{IsBestFit, IsNoBetter, best_fit, best_for}
-use Rattle.pas_bestfit.specs.declared.best.Best.{Best}
+use Rattle.pas_bestfit.specs.{Allocates.grains_for, Allocates.GivesBest, Bests.IsBestFit, Bests.IsNoBetter, Region.AllocatesInRegion, Region.GivesInRegion}
+use Rattle.pas_bestfit.specs.{Region.IsShortest}
 
 -- a run ends where the first clear bit comes
 length_of : (mask : Mask4) (grains g end : ℕ) (fit : IsBestFit grains (is_set mask) g) → IsRunEnd mask g end → end ≡ g + fit.length
@@ -32,25 +30,18 @@ shortest mask grains g end fit ends = let at = length_of mask grains g end fit e
     (record { first = g; run = fit.run; enough = fit.enough; shortest = λ h m run enough. no_shorter g fit.length h m (fit.best h m run enough) })
 
 -- ---- the block
-module _ (heap bytes : ℕ) where
-  abbrev best : Best
-  best = best_for bytes
+room_of : {tells : Bool} {σ σ' : Standing} (heap n : ℕ) (answer : Result Block NoRoom) → GivesBest heap n tells σ σ' answer
+    → MatchResult answer (λ block. block.room ≡ n * 16) (λ why. Unit {0})
+room_of heap n (Ok block) a = a.outcome.room_is
+room_of heap n (Err why) a = tt
 
-  room_of : {tells : Bool} {σ σ' : Standing} (answer : Result Block NoRoom)
-      → AllocatesRun (placed (best_fit best)) (run_from (best_fit best)) (bestfit_directory heap) tells σ σ' answer
-      → MatchResult answer (λ block. block.room ≡ best.grains * 16) (λ why. Unit {0})
-  room_of (Ok block) a = a.outcome.room_is
-  room_of (Err why) a = tt
-
-  pub in_region : {tells : Bool} {σ σ' : Standing} (answer : Result Block NoRoom) (b : Best) → b ≡ best_for bytes
-      → AllocatesByRank (placed (best_fit b)) (run_from (best_fit b)) (by_length b.grains) (bestfit_directory heap) tells σ σ' answer
-      → AllocatesInRegion heap bytes tells σ σ' answer
-  in_region {tells} {σ} {σ'} answer b is by =
-      let by_rank = subst (λ x. AllocatesByRank (placed (best_fit x)) (run_from (best_fit x)) (by_length x.grains)
-      (bestfit_directory heap) tells σ σ' answer) is by in record {
-        by_rank = by_rank;
-        room_is = elim by_rank [
-          | inl taken ↦ subst (λ a. MatchResult a (λ block. block.room ≡ best.grains * 16) (λ why. Unit {0})) (sym taken.1) taken.2.given.room_is
-          | inr back ↦ room_of answer back.goes
-        ];
-      }
+pub in_region : {tells : Bool} {σ σ' : Standing} (heap bytes n : ℕ) (answer : Result Block NoRoom) → n ≡ grains_for bytes → GivesInRegion heap n tells σ σ' answer
+    → AllocatesInRegion heap bytes tells σ σ' answer
+in_region {tells} {σ} {σ'} heap bytes n answer is by =
+    let by_rank : GivesInRegion heap (grains_for bytes) tells σ σ' answer = subst (λ n. GivesInRegion heap n tells σ σ' answer) is by in record {
+      by_rank = by_rank;
+      room_is = elim by_rank [
+        | inl taken ↦ subst (λ a. MatchResult a (λ block. block.room ≡ grains_for bytes * 16) (λ why. Unit {0})) (sym taken.1) taken.2.given.room_is
+        | inr back ↦ room_of heap (grains_for bytes) answer back.goes
+      ];
+    }

@@ -1,5 +1,5 @@
 -- The shortest free run of a page that is long enough.
-use Rattle.std.specs.Prelude.{ℕ, ◌+◌, ◌/◌, ◌<◌, ◌≤◌, ◌≡◌, ◌⊎◌, max, Option, MatchOption, refl}
+use Rattle.std.specs.Prelude.{ℕ, ◌+◌, ◌<◌, ◌≤◌, ◌≡◌, ◌⊎◌, Option, MatchOption, refl}
 use Rattle.std.proofs.Common.{arith}
 use Rattle.pas_bits.specs.Runs.{AreFree, IsFreeRun}
 use Rattle.pas_bits.specs.declared.free_runs.FreeRun.{FreeRun}
@@ -28,22 +28,12 @@ pub record IsBestFit (grains : ℕ) (r : Readings) (g : ℕ) : Type 0 where
   pub best : (h m : ℕ) → IsFreeRun r h m → grains ≤ m → IsNoBetter g length h m
 
 -- the run is long enough, and better than the best one before it, if there is one
-abbrev pub IsPreferred : ℕ → FreeRun → Option FreeRun → Type 0
-IsPreferred grains run best = (grains ≤ run.length) × MatchOption best (Unit {0}) (λ b. IsBetter run.length b.length)
-
--- as many grains as hold so many bytes, and one for none
-abbrev pub best_for : ℕ → Best
-best_for bytes = record { grains = max 1 ((bytes + 15) / 16) }
+abbrev pub IsPreferred : FreeRun → ℕ → Option FreeRun → Type 0
+IsPreferred run grains best = (grains ≤ run.length) × MatchOption best (Unit {0}) (λ b. IsBetter run.length b.length)
 
 -- of a bit-fit page the first grains of the best run are chosen
 abbrev pub best_fit : Best → Placement
-best_fit best = record {
-  asked = (1 ≤ best.grains) × (best.grains ≤ 256);
-  kind = Kind.Bitfit;
-  grains = best.grains;
-  no_fit = HasNoRun best.grains;
-  chosen = IsBestFit best.grains;
-}
+best_fit best = let n = best.grains in record { asked = (1 ≤ n) × (n ≤ 256); kind = Kind.Bitfit; grains = n; no_fit = HasNoRun n; chosen = IsBestFit n }
 
 pub is_best_fit : (best : Best) → IsPlacement (best_fit best)
 is_best_fit best = record {

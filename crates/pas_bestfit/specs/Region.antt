@@ -6,7 +6,7 @@ use Rattle.pas_choice.specs.{ByRank.AllocatesByRank, Placements.placed, Placemen
 use Rattle.pas_profile.specs.declared.{event.NoRoom.NoRoom, name.Block.Block}
 use Rattle.pas_search.specs.Ranks.{Measure, IsOfGrains}
 use Rattle.pas_steps.specs.{Desks.Standing, Evidence.Readings}
-use Rattle.pas_bestfit.specs.{Allocates.bestfit_directory, Bests.HasNoRun, Bests.best_fit, Bests.best_for}
+use Rattle.pas_bestfit.specs.{Allocates.bestfit_directory, Allocates.grains_for, Bests.HasNoRun, Bests.best_fit}
 
 -- some free run of the page has just so many grains, which are enough, and none that is long enough is shorter
 pub record IsShortest (grains : ℕ) (r : Readings) (n : ℕ) : Type 0 where
@@ -42,8 +42,12 @@ pub of_grains : (grains : ℕ) → IsOfGrains (by_length grains)
 of_grains grains = λ r same rank eq is. same_rank grains r same rank eq is
 
 -- ---- the allocation
--- the page with the shortest such run was taken from, or the try of it came to nothing and the block is the best one of the page that a search finds
+-- the first n grains of the best run of the page that is ranked best were given, or the try of it came to nothing and the lowest page was searched
+abbrev pub GivesInRegion : ℕ → ℕ → Bool → Standing → Standing → Result Block NoRoom → Type 0
+GivesInRegion heap n = AllocatesByRank (placed (best_fit (record { grains = n }))) (run_from (best_fit (record { grains = n }))) (by_length n)
+    (bestfit_directory heap)
+
+-- as many grains as hold the bytes
 pub record AllocatesInRegion (heap bytes : ℕ) (tells : Bool) (desk desk' : Standing) (answer : Result Block NoRoom) : Type 0 where
-  pub by_rank : AllocatesByRank (placed (best_fit (best_for bytes))) (run_from (best_fit (best_for bytes))) (by_length (best_for bytes).grains)
-      (bestfit_directory heap) tells desk desk' answer
-  pub room_is : MatchResult answer (λ block. block.room ≡ (best_for bytes).grains * 16) (λ why. Unit {0})
+  pub by_rank : GivesInRegion heap (grains_for bytes) tells desk desk' answer
+  pub room_is : MatchResult answer (λ block. block.room ≡ grains_for bytes * 16) (λ why. Unit {0})

@@ -7,6 +7,7 @@ ghost use Rattle.pas_bestfit.specs.Allocates.{bestfit_directory, Allocates};
 
 use crate::best::Best;
 use pas_choice::{ByChoice, ByPlacement};
+use pas_profile::limits::GRAIN_BYTES;
 use pas_profile::{Block, Directory, Kind, NoRoom};
 use pas_steps::Desk;
 
@@ -27,6 +28,6 @@ pub fn alloc<D: Desk>(desk: &mut D, heap: u8, size: u32) -> Result<Block, NoRoom
         heap,
         kind: Kind::Bitfit,
     };
-    let policy = ByPlacement(Best::holding(size));
-    pas_choice::alloc(&ByChoice(policy), desk, directory)
+    let grains = size.div_ceil(GRAIN_BYTES).max(1) as u16;
+    pas_choice::alloc(&ByChoice(ByPlacement(Best { grains })), desk, directory)
 }

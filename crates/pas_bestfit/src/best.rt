@@ -1,7 +1,9 @@
 //! The shortest free run that is long enough.
+ghost use Rattle.std.specs.Prelude.{MatchBool};
+ghost use Rattle.pas_bestfit.specs.Bests.{IsPreferred, best_fit, is_best_fit};
+
 use pas_bits::{FreeRun, Mask4};
 use pas_choice::Placing;
-use pas_profile::limits::GRAIN_BYTES;
 
 /// How many grains a block has, 1 to 256.
 #[derive(Clone, Copy, PartialEq, Eq)]
@@ -9,37 +11,14 @@ pub struct Best {
     pub grains: u16,
 }
 
-impl Best {
-    ghost use Rattle.std.specs.Prelude.{◌≡◌, ◌≤◌, MatchBool};
-    ghost use Rattle.pas_bestfit.specs.Bests.{best_for, IsPreferred};
-
-    /// As many grains as hold so many bytes, 0 to 4,096: one for none.
-    pub fn holding(bytes: u32) -> Best
-        requires { bytes ≤ 4096 }
-        ensures { result ≡ best_for bytes }
-    {
-        Best {
-            grains: bytes.div_ceil(GRAIN_BYTES).max(1) as u16,
-        }
-    }
-
-    /// Whether the run is long enough, and better than the best one before it, if there is one.
-    fn prefers(&self, run: FreeRun, best: Option<FreeRun>) -> bool
-        ensures { MatchBool result (IsPreferred self.now.grains run best) (IsPreferred self.now.grains run best → ⊥) }
-    {
-        if run.length < self.grains {
-            return false;
-        }
-        match best {
-            Some(best) => run.length < best.length,
-            None => true,
-        }
-    }
+/// Whether the run has so many grains, and is better than the best one before it, if there is one.
+fn is_preferred(run: FreeRun, grains: u16, best: Option<FreeRun>) -> bool
+    ensures { MatchBool result (IsPreferred run grains best) (IsPreferred run grains best → ⊥) }
+{
+    grains <= run.length && best.is_none_or(|best| run.length < best.length)
 }
 
 impl Placing for Best {
-    ghost use Rattle.pas_bestfit.specs.Bests.{best_fit, is_best_fit};
-
     ghost placement = { λ best. best_fit best };
 
     fn grains(&self) -> u16 {
@@ -51,7 +30,7 @@ impl Placing for Best {
         let mut best = None;
         let mut from = 0;
         while let Some(run) = free.next_run(from) {
-            if self.prefers(run, best) {
+            if is_preferred(run, self.grains, best) {
                 best = Some(run);
             }
             from = run.first as u16 + run.length;

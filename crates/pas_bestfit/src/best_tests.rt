@@ -1,4 +1,4 @@
-//! The best place on a page with four free runs, and the grains of a request.
+//! The best place on a page with four free runs.
 ghost use Rattle.std.specs.Prelude.{◌≤◌};
 
 use crate::best::Best;
@@ -41,10 +41,4 @@ fn a_page_is_ranked_by_its_shortest_run_that_is_long_enough(rt: HostRuntime) {
     assert!(rt; rank_for(1) == Some(5) && rank_for(5) == Some(5));
     assert!(rt; rank_for(6) == Some(6) && rank_for(7) == Some(10));
     assert!(rt; rank_for(11).is_none());
-}
-
-#[test]
-fn a_request_gets_as_many_grains_as_hold_it(rt: HostRuntime) {
-    assert!(rt; Best::holding(0).grains == 1 && Best::holding(16).grains == 1);
-    assert!(rt; Best::holding(17).grains == 2 && Best::holding(4096).grains == 256);
 }

@@ -8,6 +8,7 @@ ghost use Rattle.pas_bestfit.specs.{Allocates.bestfit_directory, Region.Allocate
 use crate::best::Best;
 use pas_bits::Mask4;
 use pas_choice::{ByChoice, ByPlacement, Placing, alloc_best};
+use pas_profile::limits::GRAIN_BYTES;
 use pas_profile::{Block, Directory, Kind, NoRoom};
 use pas_search::Ranking;
 use pas_steps::Desk;
@@ -47,6 +48,8 @@ pub fn alloc_in_region<D: Desk>(desk: &mut D, heap: u8, size: u32) -> Result<Blo
         heap,
         kind: Kind::Bitfit,
     };
-    let best = Best::holding(size);
+    let best = Best {
+        grains: size.div_ceil(GRAIN_BYTES).max(1) as u16,
+    };
     alloc_best(&ByChoice(ByPlacement(best)), &best, desk, directory)
 }

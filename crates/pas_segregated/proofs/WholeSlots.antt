@@ -1,6 +1,6 @@
 -- The slots that the takes of a page got whole, and the grains that are put back.
-use Rattle.std.proofs.Common.{◌≡◌, ◌≢◌, ℕ, ◌+◌, ◌*◌, ◌/◌, ◌%◌, ◌<◌, ◌==◌, ◌↔◌, IsTrue, Bool, true, false, not, ◌&&◌, if◌then◌else◌, List, [], ◌∷◌, ◌++◌, refl}
-use Rattle.std.proofs.Common.{ap, sym, ◌∙◌, subst, arith, inl, inr, append_assoc, length-append, true≢false, eq-eqb, lt-ltb}
+use Rattle.std.proofs.Common.{◌≡◌, ◌≢◌, ℕ, ◌+◌, ◌*◌, ◌/◌, ◌%◌, ◌<◌, ◌==◌, Bool, true, false, not, ◌&&◌, if◌then◌else◌, List, [], ◌∷◌, ◌++◌, refl, ap, sym, ◌∙◌}
+use Rattle.std.proofs.Common.{subst, arith, inl, inr, append_assoc, length-append, true≢false, eq-eqb, lt-ltb}
 use Rattle.std.proofs.lemmas.Bool.{cases_Bool, and_parts, and_from, and_right}
 use Rattle.pas_profile.specs.Classes.{IsClass, class_grains, usable_grains, is_usable, IsSlotStart}
 use Rattle.pas_bits.specs.{Bits.has_bit, Masks.is_set, Masks.IsEmpty, Masks.HasMember}

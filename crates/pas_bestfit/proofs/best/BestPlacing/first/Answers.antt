@@ -2,16 +2,16 @@ use Rattle.std.proofs.Common.{◌+◌, subst, sym}
 use Rattle.pas_bits.specs.Masks.{is_set}
 use Rattle.pas_bestfit.proofs.Searched.{SoFar, preferred, not_preferred, none_fits}
 use Rattle.pas_bestfit.proofs.best.BestPlacing.first.Goals as goal
-use Rattle.pas_bestfit.proofs.best.BestPlacing.first.Goals.{then-prefers, else-prefers}
+use Rattle.pas_bestfit.proofs.best.BestPlacing.first.Goals.{then-is_preferred, else-is_preferred}
 
 pub loop-run-preserved : goal.loop-run-preserved
 loop-run-preserved c =
     let r = is_set c.args.free.now in let n = c.args.self.now.grains in let from = c.loop-run.from in let best = c.loop-run.best in
     let run = c.in-Some.run' in let next = c.in-Some.ensures in let so_far = c.loop-run.invariant.1 in (
       next.is_run.within,
-      elim c.if-prefers.branch [
-        | then-prefers w ↦ subst (SoFar r n (run.first + run.length)) (sym w.best-is) (preferred r n from run next best w.if-prefers.ensures so_far)
-        | else-prefers w ↦ subst (SoFar r n (run.first + run.length)) (sym w.best-is) (not_preferred r n from run next best w.if-prefers.ensures so_far)
+      elim c.if-is_preferred.branch [
+        | then-is_preferred w ↦ subst (SoFar r n (run.first + run.length)) (sym w.best-is) (preferred r n from run next best w.if-is_preferred.ensures so_far)
+        | else-is_preferred w ↦ subst (SoFar r n (run.first + run.length)) (sym w.best-is) (not_preferred r n from run next best w.if-is_preferred.ensures so_far)
       ],
     )
 
