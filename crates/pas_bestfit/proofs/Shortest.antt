@@ -5,8 +5,8 @@ use Rattle.pas_bits.specs.declared.mask.Mask4.{Mask4}
 use Rattle.pas_bits.specs.Masks.{is_set, IsRunEnd}
 use Rattle.pas_profile.specs.declared.{event.NoRoom.NoRoom, name.Block.Block}
 use Rattle.pas_steps.specs.Desks.{Standing}
-use Rattle.pas_bestfit.specs.{Allocates.GivesBest, Allocates.grains_for, Bests.IsBestFit, Bests.IsNoBetter}
-use Rattle.pas_bestfit.specs.Region.{AllocatesInRegion, GivesByRank, IsShortest}
+use Rattle.pas_bestfit.specs.{Allocates.grains_for, Allocates.GivesBest, Bests.IsBestFit, Bests.IsNoBetter, Region.AllocatesInRegion, Region.GivesInRegion}
+use Rattle.pas_bestfit.specs.{Region.IsShortest}
 
 -- a run ends where the first clear bit comes
 length_of : (mask : Mask4) (grains g end : ℕ) (fit : IsBestFit grains (is_set mask) g) → IsRunEnd mask g end → end ≡ g + fit.length
@@ -30,19 +30,18 @@ shortest mask grains g end fit ends = let at = length_of mask grains g end fit e
     (record { first = g; run = fit.run; enough = fit.enough; shortest = λ h m run enough. no_shorter g fit.length h m (fit.best h m run enough) })
 
 -- ---- the block
-module _ (heap bytes : ℕ) where
-  room_of : {tells : Bool} {σ σ' : Standing} (answer : Result Block NoRoom) → GivesBest heap (grains_for bytes) tells σ σ' answer
-      → MatchResult answer (λ block. block.room ≡ grains_for bytes * 16) (λ why. Unit {0})
-  room_of (Ok block) a = a.outcome.room_is
-  room_of (Err why) a = tt
+room_of : {tells : Bool} {σ σ' : Standing} (heap n : ℕ) (answer : Result Block NoRoom) → GivesBest heap n tells σ σ' answer
+    → MatchResult answer (λ block. block.room ≡ n * 16) (λ why. Unit {0})
+room_of heap n (Ok block) a = a.outcome.room_is
+room_of heap n (Err why) a = tt
 
-  pub in_region : {tells : Bool} {σ σ' : Standing} (n : ℕ) (answer : Result Block NoRoom) → n ≡ grains_for bytes
-      → GivesByRank heap n tells σ σ' answer → AllocatesInRegion heap bytes tells σ σ' answer
-  in_region {tells} {σ} {σ'} n answer is by =
-      let by_rank = subst (λ n. GivesByRank heap n tells σ σ' answer) is by in record {
-        by_rank = by_rank;
-        room_is = elim by_rank [
-          | inl taken ↦ subst (λ a. MatchResult a (λ block. block.room ≡ grains_for bytes * 16) (λ why. Unit {0})) (sym taken.1) taken.2.given.room_is
-          | inr back ↦ room_of answer back.goes
-        ];
-      }
+pub in_region : {tells : Bool} {σ σ' : Standing} (heap bytes n : ℕ) (answer : Result Block NoRoom) → n ≡ grains_for bytes → GivesInRegion heap n tells σ σ' answer
+    → AllocatesInRegion heap bytes tells σ σ' answer
+in_region {tells} {σ} {σ'} heap bytes n answer is by =
+    let by_rank : GivesInRegion heap (grains_for bytes) tells σ σ' answer = subst (λ n. GivesInRegion heap n tells σ σ' answer) is by in record {
+      by_rank = by_rank;
+      room_is = elim by_rank [
+        | inl taken ↦ subst (λ a. MatchResult a (λ block. block.room ≡ grains_for bytes * 16) (λ why. Unit {0})) (sym taken.1) taken.2.given.room_is
+        | inr back ↦ room_of heap (grains_for bytes) answer back.goes
+      ];
+    }

@@ -42,12 +42,12 @@ pub of_grains : (grains : ℕ) → IsOfGrains (by_length grains)
 of_grains grains = λ r same rank eq is. same_rank grains r same rank eq is
 
 -- ---- the allocation
--- a block of so many grains: of the page that was ranked best, or, where the try of it came to nothing, the best one of the page that a search finds
-abbrev pub GivesByRank : ℕ → ℕ → Bool → Standing → Standing → Result Block NoRoom → Type 0
-GivesByRank heap n =
-    AllocatesByRank (placed (best_fit (record { grains = n }))) (run_from (best_fit (record { grains = n }))) (by_length n) (bestfit_directory heap)
+-- the first n grains of the best run of the page that is ranked best were given, or the try of it came to nothing and the lowest page was searched
+abbrev pub GivesInRegion : ℕ → ℕ → Bool → Standing → Standing → Result Block NoRoom → Type 0
+GivesInRegion heap n = AllocatesByRank (placed (best_fit (record { grains = n }))) (run_from (best_fit (record { grains = n }))) (by_length n)
+    (bestfit_directory heap)
 
--- it holds the bytes that were asked for
+-- as many grains as hold the bytes
 pub record AllocatesInRegion (heap bytes : ℕ) (tells : Bool) (desk desk' : Standing) (answer : Result Block NoRoom) : Type 0 where
-  pub by_rank : GivesByRank heap (grains_for bytes) tells desk desk' answer
+  pub by_rank : GivesInRegion heap (grains_for bytes) tells desk desk' answer
   pub room_is : MatchResult answer (λ block. block.room ≡ grains_for bytes * 16) (λ why. Unit {0})

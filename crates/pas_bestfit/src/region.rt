@@ -48,7 +48,8 @@ pub fn alloc_in_region<D: Desk>(desk: &mut D, heap: u8, size: u32) -> Result<Blo
         heap,
         kind: Kind::Bitfit,
     };
-    let grains = size.div_ceil(GRAIN_BYTES).max(1) as u16;
-    let best = Best { grains };
+    let best = Best {
+        grains: size.div_ceil(GRAIN_BYTES).max(1) as u16,
+    };
     alloc_best(&ByChoice(ByPlacement(best)), &best, desk, directory)
 }

@@ -31,7 +31,8 @@ room_for_one : (f : Profile) (spare : ℕ) (v : View) → HasRoom f 2 spare v �
 room_for_one f spare v room = (omega (arith, room.0), elim room.1 [ inl all ↦ inl all | inr more ↦ inr (omega (arith, more)) ])
 
 pub room_to_search : {σ : Standing} {f : Profile} {d : Directory} {spare : ℕ} → CanCall σ (SearchRoom f d 2 spare) → CanCall σ (SearchRoom f d 1 spare)
-room_to_search {f = f} {spare = spare} can = record { view = can.view; whole = can.whole; stood = can.stood; met = record { may = can.met.may; room = room_for_one f spare can.view can.met.room } }
+room_to_search {f = f} {spare = spare} can =
+    record { view = can.view; whole = can.whole; stood = can.stood; met = record { may = can.met.may; room = room_for_one f spare can.view can.met.room } }
 
 few_deeds : (m : ℕ) {A B : Type 0} → (A → m ≡ 0) → (B → m ≡ 1) → A ⊎ B → m ≤ 1
 few_deeds m f g (inl a) = let z = f a in omega (arith, z)
@@ -176,12 +177,16 @@ module _ {Found : Type 0} (choice : Choice Found) (run : Found → Run) (law : (
 abbrev pub IsLaw : {Found : Type 0} → Choice Found → (Found → Run) → Type 0
 IsLaw {Found} choice run = (readings : Readings) (found : Found) → choice.asked → choice.chosen readings found → IsRunOf (choice.kept found) (run found)
 
-pub one_deed : {Found : Type 0} (choice : Choice Found) (d : Directory) {tells : Bool} {σ σ1 : Standing} (served : Served Found) (searches : Searches (choosing choice) tells d σ σ1 (Ok served)) → deeds_made searches.steps ≤ 1
+pub one_deed : {Found : Type 0} (choice : Choice Found) (d : Directory) {tells : Bool} {σ σ1 : Standing} (served : Served Found)
+    (searches : Searches (choosing choice) tells d σ σ1 (Ok served)) → deeds_made searches.steps ≤ 1
 one_deed choice d {σ = σ} served searches = let f : Profile = σ.seat.profile in let xs : List Made = searches.steps in
-    few_deeds (deeds_made xs) (λ (c : FromOffered choice.no_fit d served.page xs). c.no_deed) (λ (c : ByDeed choice.no_fit f d served.page xs). c.one_deed) searches.outcome.choice
+    few_deeds (deeds_made xs) (λ (c : FromOffered choice.no_fit d served.page xs). c.no_deed)
+    (λ (c : ByDeed choice.no_fit f d served.page xs). c.one_deed) searches.outcome.choice
 
-pub allocates : {Found : Type 0} (choice : Choice Found) (run : Found → Run) (law : IsLaw choice run) (asked : choice.asked) (d : Directory) {tells : Bool} {σ σ1 σ2 σ3 : Standing} (of_profile : IsDirectoryOf σ.seat.profile d) (served : Served Found)
-    (searches : Searches (choosing choice) tells d σ σ1 (Ok served)) (r : Run) (r_is : r ≡ run served.found) (block : Block) → GivesRun d.heap served.page r.first r.grains block σ1 σ2 → Leaves served.page d σ2 σ3
+pub allocates : {Found : Type 0} (choice : Choice Found) (run : Found → Run) (law : IsLaw choice run) (asked : choice.asked) (d : Directory) {tells : Bool}
+    {σ σ1 σ2 σ3 : Standing} (of_profile : IsDirectoryOf σ.seat.profile d) (served : Served Found)
+    (searches : Searches (choosing choice) tells d σ σ1 (Ok served)) (r : Run) (r_is : r ≡ run served.found) (block : Block)
+    → GivesRun d.heap served.page r.first r.grains block σ1 σ2 → Leaves served.page d σ2 σ3
     → AllocatesRun choice run d tells σ σ3 (Ok block)
 allocates choice run law asked d {σ = σ} of_profile served searches r r_is block gives left =
     let given = given_run choice run law asked d of_profile served searches.adds searches.outcome r r_is block gives left in record {
@@ -215,16 +220,20 @@ refuses choice run d why searches = record { searched = searches.steps; searches
 
 -- ---- by a rule over pages
 pub room_to_try : {σ : Standing} {f : Profile} {d : Directory} {spare : ℕ} → CanCall σ (RankRoom f d 2 spare) → CanCall σ (RankRoom f d 1 spare)
-room_to_try {f = f} {spare = spare} can = record { view = can.view; whole = can.whole; stood = can.stood; met = record { may = can.met.may; room = room_for_one f spare can.view can.met.room } }
+room_to_try {f = f} {spare = spare} can =
+    record { view = can.view; whole = can.whole; stood = can.stood; met = record { may = can.met.may; room = room_for_one f spare can.view can.met.room } }
 
 pub room_to_use : {σ : Standing} {f : Profile} {d : Directory} {n spare : ℕ} → CanCall σ (RankRoom f d n spare) → CanCall σ (SearchRoom f d n spare)
 room_to_use can = record { view = can.view; whole = can.whole; stood = can.stood; met = record { may = can.met.may.may; room = can.met.room } }
 
-pub no_deed : {Found : Type 0} (choice : Choice Found) (d : Directory) {ranks : Measure} {tells : Bool} {σ σ1 : Standing} (served : Served Found) (tries : TriesBest (choosing choice) ranks tells d σ σ1 (Some served)) → deeds_made tries.steps ≤ 1
+pub no_deed : {Found : Type 0} (choice : Choice Found) (d : Directory) {ranks : Measure} {tells : Bool} {σ σ1 : Standing} (served : Served Found)
+    (tries : TriesBest (choosing choice) ranks tells d σ σ1 (Some served)) → deeds_made tries.steps ≤ 1
 no_deed choice d served tries = let none = tries.outcome.choice.no_deed in omega (arith, none)
 
-pub allocates_best : {Found : Type 0} (choice : Choice Found) (run : Found → Run) (law : IsLaw choice run) (asked : choice.asked) (d : Directory) {ranks : Measure} {tells : Bool} {σ σ1 σ2 σ3 : Standing} (of_profile : IsDirectoryOf σ.seat.profile d)
-    (served : Served Found) (tries : TriesBest (choosing choice) ranks tells d σ σ1 (Some served)) (r : Run) (r_is : r ≡ run served.found) (block : Block) → GivesRun d.heap served.page r.first r.grains block σ1 σ2 → Leaves served.page d σ2 σ3
+pub allocates_best : {Found : Type 0} (choice : Choice Found) (run : Found → Run) (law : IsLaw choice run) (asked : choice.asked) (d : Directory)
+    {ranks : Measure} {tells : Bool} {σ σ1 σ2 σ3 : Standing} (of_profile : IsDirectoryOf σ.seat.profile d)
+    (served : Served Found) (tries : TriesBest (choosing choice) ranks tells d σ σ1 (Some served)) (r : Run) (r_is : r ≡ run served.found) (block : Block)
+    → GivesRun d.heap served.page r.first r.grains block σ1 σ2 → Leaves served.page d σ2 σ3
     → AllocatesByRank choice run ranks d tells σ σ3 (Ok block)
 allocates_best choice run law asked d {ranks} {σ = σ} of_profile served tries r r_is block gives left = inl (
   block,
@@ -245,7 +254,8 @@ allocates_best choice run law asked d {ranks} {σ = σ} of_profile served tries 
 )
 
 -- where the try came to nothing
-pub allocates_then : {Found : Type 0} (choice : Choice Found) (run : Found → Run) (d : Directory) {ranks : Measure} {tells : Bool} {σ σ1 σ2 : Standing} {answer : Result Block NoRoom}
+pub allocates_then : {Found : Type 0} (choice : Choice Found) (run : Found → Run) (d : Directory) {ranks : Measure} {tells : Bool} {σ σ1 σ2 : Standing}
+    {answer : Result Block NoRoom}
     → TriesBest (choosing choice) ranks tells d σ σ1 None → AllocatesRun choice run d tells σ1 σ2 answer → AllocatesByRank choice run ranks d tells σ σ2 answer
 allocates_then choice run d {answer = answer} tries a = let seat_is = tries.adds.seat_is in inr (falls_back tries (record {
   searched = a.searched;
@@ -253,6 +263,8 @@ allocates_then choice run d {answer = answer} tries a = let seat_is = tries.adds
   few = subst (λ (seat : Seat). length a.searched ≤ search_steps 15 seat.profile.pages) seat_is a.few;
   after = a.after;
   adds = adds_then tries a.adds;
-  outcome = subst (λ (seat : Seat). MatchResult answer (IsGiven choice run seat.profile d a.searched a.after) (λ why. IsRefused choice.no_fit seat.profile d a.searched why × (a.after ≡ []))) seat_is a.outcome;
-  told = λ t v l b met. subst (λ (seat : Seat). IsTold (λ (block : Block). address_of block.name / 4096) choice.no_fit seat.profile d l (triples seat.actor (a.after ++ a.searched) ++ l) answer) seat_is (a.told t v l (stood_then tries v l b) met);
+  outcome = subst (λ (seat : Seat). MatchResult answer (IsGiven choice run seat.profile d a.searched a.after)
+      (λ why. IsRefused choice.no_fit seat.profile d a.searched why × (a.after ≡ []))) seat_is a.outcome;
+  told = λ t v l b met. subst (λ (seat : Seat). IsTold (λ (block : Block). address_of block.name / 4096) choice.no_fit seat.profile d l
+      (triples seat.actor (a.after ++ a.searched) ++ l) answer) seat_is (a.told t v l (stood_then tries v l b) met);
 }))

@@ -10,7 +10,8 @@ use Rattle.pas_search.specs.Ranks.{Measure, FindsBest, IsBestOffered, FallsBack,
 use Rattle.pas_choice.specs.{Allocates.AllocatesRun, Allocates.GaveBlock, Allocates.served_by, Choices.Choice, Choices.choosing}
 use Rattle.pas_choice.specs.declared.choosing.Run.{Run}
 
--- After the search the block of this run of the page was given, so many bytes at the run's address, and then the page was left: at most 13 steps, and no event but the give.
+-- After the search the block of this run of the page was given, so many bytes at the run's address, and then the page was left: at most 13 steps, and
+-- no event but the give.
 pub record GivesRunOf (f : Profile) (d : Directory) (page : ℕ) (run : Run) (searched after : List Made) (block : Block) : Type 0 where
   pub word : ℕ
   pub answer : ℕ
@@ -25,7 +26,8 @@ pub record GivesRunOf (f : Profile) (d : Directory) (page : ℕ) (run : Run) (se
   pub events : (k : ℕ) (v : View) → events_by k v (after ++ searched) ≡ Event.Give k block ∷ events_by k v searched
 
 -- The page that is ranked best was taken from, and the block was given. That the page was the best one is true of the state at entry where the desk tells it.
-pub record GivesBest {Found : Type 0} (choice : Choice Found) (run : Found → Run) (ranks : Measure) (d : Directory) (tells : Bool) (desk desk' : Standing) (block : Block) : Type 0 where
+pub record GivesBest {Found : Type 0} (choice : Choice Found) (run : Found → Run) (ranks : Measure) (d : Directory) (tells : Bool) (desk desk' : Standing)
+    (block : Block) : Type 0 where
   pub searched : List Made
   pub searches : AreSearch searched
   pub few : length searched ≤ try_steps 15 desk.seat.profile.pages

@@ -19,9 +19,11 @@ look_keeps e s w old is = grind (arith, looked)
 
 words_same : (k : ℕ) (xs : List Made) (l : Whole) (w : Word) → AreLooks xs → word_after (triples k xs ++ l) w ≡ word_after l w
 words_same k [] l w looks = refl
-words_same k (m ∷ xs) l w looks = look_keeps (epoch_of (part k (triples k xs ++ l))) m.step w (word_after (triples k xs ++ l) w) looks.0 ∙ words_same k xs l w looks.1
+words_same k (m ∷ xs) l w looks = look_keeps (epoch_of (part k (triples k xs ++ l))) m.step w (word_after (triples k xs ++ l) w) looks.0
+    ∙ words_same k xs l w looks.1
 
-eligible_read : (d : Directory) (p : ℕ) (s : Step) (w : Whole) → ReadsEligible d p s → word_after w (target s) ≡ word_after w (Word.Eligible (number_of d) (p / 64))
+eligible_read : (d : Directory) (p : ℕ) (s : Step) (w : Whole) → ReadsEligible d p s
+    → word_after w (target s) ≡ word_after w (Word.Eligible (number_of d) (p / 64))
 eligible_read d p s w e = grind arith
 
 word_of_page : (page b : ℕ) → b < 256 → free_word_at (page * 256 + b) ≡ Word.Free page (b / 64)
@@ -35,11 +37,13 @@ module _ (f : Profile) (k : ℕ) (l : Whole) where
       → Once (λ m before. ReadsEligible d p m.step × (has_bit m.answer (p % 64) ≡ bit) × (has_right before p ≡ false)) xs → eligible_bit l (number_of d) p ≡ bit
   bit_told d p bit [] legal looks h = absurd h
   bit_told d p bit (m ∷ xs) legal looks (inl z) =
-      ap (λ n. has_bit n (p % 64)) (sym (words_same k xs l (Word.Eligible (number_of d) (p / 64)) looks.1) ∙ sym (eligible_read d p m.step (triples k xs ++ l) z.0) ∙ sym legal.0.answer_is) ∙ z.1
+      ap (λ n. has_bit n (p % 64)) (sym (words_same k xs l (Word.Eligible (number_of d) (p / 64)) looks.1)
+      ∙ sym (eligible_read d p m.step (triples k xs ++ l) z.0) ∙ sym legal.0.answer_is) ∙ z.1
   bit_told d p bit (m ∷ xs) legal looks (inr h) = bit_told d p bit xs legal.1 looks.1 h
 
   -- a grain
-  grain_told : (page b : ℕ) (r : Readings) (xs : List Made) → Legal f (triples k xs ++ l) → AreLooks xs → b < 256 → Once (SeenHere page (b / 64) r) xs → r b ≡ free_of_page l page b
+  grain_told : (page b : ℕ) (r : Readings) (xs : List Made) → Legal f (triples k xs ++ l) → AreLooks xs → b < 256 → Once (SeenHere page (b / 64) r) xs
+      → r b ≡ free_of_page l page b
   grain_told page b r [] legal looks lt h = absurd h
   grain_told page b r (m ∷ xs) legal looks lt (inr h) = grain_told page b r xs legal.1 looks.1 lt h
   grain_told page b r (m ∷ xs) legal looks lt (inl z) =
@@ -49,11 +53,14 @@ module _ (f : Profile) (k : ℕ) (l : Whole) where
 
   module _ (ranks : Measure) (alike : IsOfGrains ranks) (d : Directory) where
     -- the rank of a page
-    rank_told : (page : ℕ) (rank : Option ℕ) (xs : List Made) → Legal f (triples k xs ++ l) → AreLooks xs → IsRanked ranks d page rank xs → ranks (free_of_page l page) rank
-    rank_told page rank xs legal looks is = alike is.readings (free_of_page l page) rank (λ b lt. grain_told page b is.readings xs legal looks lt (is.read (b / 64) (omega (arith, lt)))) is.ranked
+    rank_told : (page : ℕ) (rank : Option ℕ) (xs : List Made) → Legal f (triples k xs ++ l) → AreLooks xs → IsRanked ranks d page rank xs
+        → ranks (free_of_page l page) rank
+    rank_told page rank xs legal looks is = alike is.readings (free_of_page l page) rank
+        (λ b lt. grain_told page b is.readings xs legal looks lt (is.read (b / 64) (omega (arith, lt)))) is.ranked
 
     -- ---- the page that was served from
-    pub best_offered : {F : Type 0} (rule : Rule F) (page : ℕ) (kept : ℕ → Bool) (steps : List Made) → IsValid f → IsAntitone rule.no_fit → Legal f (triples k steps ++ l) → AreSearch steps → MaySearch d (part k l) → Agreed f (part k l) steps
+    pub best_offered : {F : Type 0} (rule : Rule F) (page : ℕ) (kept : ℕ → Bool) (steps : List Made) → IsValid f → IsAntitone rule.no_fit
+        → Legal f (triples k steps ++ l) → AreSearch steps → MaySearch d (part k l) → Agreed f (part k l) steps
         → FromSurvey f ranks d page steps → ShowsFit rule.no_fit kept f page (MaySearch d) steps steps → IsBestOffered rule.no_fit f ranks d l page
     best_offered rule page kept steps valid fewer legal searches may agreed from shows =
         let tries : TriesPage f ranks d page steps = from.tries in let ws : List Made = tries.surveyed in
@@ -62,7 +69,8 @@ module _ (f : Profile) (k : ℕ) (l : Whole) where
           this = record {
             of_region = tries.best.page;
             offered = bit_told d page true ws surveyed tries.looks tries.best.this.offered;
-            fits = fit_entry rule.no_fit f k l page shows.readings steps fewer valid legal (lends_none searching refl steps searches.kinds) shows.fits shows.read (shows.held.from (part k l) may agreed);
+            fits = fit_entry rule.no_fit f k l page shows.readings steps fewer valid legal
+                (lends_none searching refl steps searches.kinds) shows.fits shows.read (shows.held.from (part k l) may agreed);
           };
           rank = tries.rank;
           ranked = rank_told page (Some tries.rank) ws surveyed tries.looks tries.best.this;

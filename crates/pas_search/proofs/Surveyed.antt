@@ -35,7 +35,8 @@ looks_lack p xs looks = ap (λ s. has_right s p) (sym (append-nil xs)) ∙ right
 
 -- ---- what is read of a page
 -- each free word was read so
-looks_seen : (page : ℕ) (answers : ℕ → ℕ) (r : Readings) → ((word b : ℕ) → b < 64 → r (64 * word + b) ≡ has_bit (answers word) b) → (n word : ℕ) → word < n → Once (SeenHere page word r) (looks page answers n)
+looks_seen : (page : ℕ) (answers : ℕ → ℕ) (r : Readings) → ((word b : ℕ) → b < 64 → r (64 * word + b) ≡ has_bit (answers word) b) → (n word : ℕ) → word < n
+    → Once (SeenHere page word r) (looks page answers n)
 looks_seen page answers r bits zero word lt = absurd (omega (arith, lt))
 looks_seen page answers r bits (suc n) word lt = elim (cases_eq word n) [
   | inl e ↦ subst (λ k. Once (SeenHere page k r) (looks page answers (suc n))) (sym e) (inl (refl, bits n))
@@ -44,7 +45,8 @@ looks_seen page answers r bits (suc n) word lt = elim (cases_eq word n) [
 
 module _ (ranks : Measure) (d : Directory) where
   -- the page was read as offered, and then its free words
-  page_ranked : (page : ℕ) (free : Mask4) (rank : Option ℕ) (xs : List Made) → ranks (is_set free) rank → Once (OneHere d page) xs → IsRanked ranks d page rank (looks page (words free) 4 ++ xs)
+  page_ranked : (page : ℕ) (free : Mask4) (rank : Option ℕ) (xs : List Made) → ranks (is_set free) rank → Once (OneHere d page) xs
+      → IsRanked ranks d page rank (looks page (words free) 4 ++ xs)
   page_ranked page free rank xs ranked offered = record {
     offered = once_later (OneHere d page) (looks page (words free) 4) xs offered;
     readings = is_set free;
@@ -66,19 +68,22 @@ module _ (ranks : Measure) (d : Directory) where
   seen_later Holds page ys xs (inl z) = inl (once_later (ZeroHere d page) ys xs z)
   seen_later Holds page ys xs (inr s) = inr (s.0, ranked_later page s.0 ys xs s.1, s.2)
 
-  seen_as : (Holds Also : Option ℕ → Type 0) (page : ℕ) (xs : List Made) → ((rank : Option ℕ) → Holds rank → Also rank) → IsSeen ranks d Holds page xs → IsSeen ranks d Also page xs
+  seen_as : (Holds Also : Option ℕ → Type 0) (page : ℕ) (xs : List Made) → ((rank : Option ℕ) → Holds rank → Also rank) → IsSeen ranks d Holds page xs
+      → IsSeen ranks d Also page xs
   seen_as Holds Also page xs more (inl z) = inl z
   seen_as Holds Also page xs more (inr s) = inr (s.0, s.1, more s.0 s.2)
 
   -- the pages from `next` to below `end` were read as not offered
-  all_later : (Holds : ℕ → Option ℕ → Type 0) (next end : ℕ) (ys xs : List Made) → ((p : ℕ) → next ≤ p → p < end → Once (ZeroHere d p) (ys ++ xs)) → AllSeen ranks d next Holds xs → AllSeen ranks d end Holds (ys ++ xs)
+  all_later : (Holds : ℕ → Option ℕ → Type 0) (next end : ℕ) (ys xs : List Made) → ((p : ℕ) → next ≤ p → p < end → Once (ZeroHere d p) (ys ++ xs))
+      → AllSeen ranks d next Holds xs → AllSeen ranks d end Holds (ys ++ xs)
   all_later Holds next end ys xs zeros all p low high = elim (cases_lt p next) [
     | inl lt ↦ seen_later (Holds p) p ys xs (all p low lt)
     | inr ge ↦ inl (zeros p ge high)
   ]
 
   -- and this page was ranked so
-  all_more : (Holds Also : ℕ → Option ℕ → Type 0) (page : ℕ) (rank : Option ℕ) (xs : List Made) → ((p : ℕ) (other : Option ℕ) → p < page → Holds p other → Also p other) → IsRanked ranks d page rank xs → Also page rank
+  all_more : (Holds Also : ℕ → Option ℕ → Type 0) (page : ℕ) (rank : Option ℕ) (xs : List Made)
+      → ((p : ℕ) (other : Option ℕ) → p < page → Holds p other → Also p other) → IsRanked ranks d page rank xs → Also page rank
       → AllSeen ranks d page Holds xs → AllSeen ranks d (page + 1) Also xs
   all_more Holds Also page rank xs more is here all p low high = elim (cases_eq p page) [
     | inl e ↦ subst (λ q. IsSeen ranks d (Also q) q xs) (sym e) (inr (rank, is, here))
@@ -87,48 +92,60 @@ module _ (ranks : Measure) (d : Directory) where
 
   -- ---- the best page
   module _ (f : Profile) where
-    best_later : (next end : ℕ) (best : Option Best) (ys xs : List Made) → next ≤ end → ((p : ℕ) → next ≤ p → p < end → Once (ZeroHere d p) (ys ++ xs)) → IsSurvey f ranks d next xs best → IsSurvey f ranks d end (ys ++ xs) best
+    best_later : (next end : ℕ) (best : Option Best) (ys xs : List Made) → next ≤ end → ((p : ℕ) → next ≤ p → p < end → Once (ZeroHere d p) (ys ++ xs))
+        → IsSurvey f ranks d next xs best → IsSurvey f ranks d end (ys ++ xs) best
     best_later next end None ys xs le zeros all = all_later HasNone next end ys xs zeros all
     best_later next end (Some best) ys xs le zeros is = record {
       page = is.page;
       below = omega (arith, is.below, le);
       this = ranked_later best.page (Some best.rank) ys xs is.this;
       others = all_later (IsNoBetter best.page best.rank) next end ys xs zeros is.others;
-      deed = λ v agreed. subst (KnowsDeed best.page d) (sym (append_assoc ys xs v)) (knows_still f d best.page ys (xs ++ v) (agreed_first f v ys xs agreed) (is.deed v (agreed_later f v ys xs agreed)));
+      deed = λ v agreed. subst (KnowsDeed best.page d) (sym (append_assoc ys xs v))
+          (knows_still f d best.page ys (xs ++ v) (agreed_first f v ys xs agreed) (is.deed v (agreed_later f v ys xs agreed)));
       lacks = λ v agreed. is.lacks v (agreed_later f v ys xs agreed);
     }
 
     -- one more page that was read as offered
-    module _ (page : ℕ) (xs : List Made) (here : IsPage f page) (deed : (v : View) → Agreed f v xs → KnowsDeed page d (xs ++ v)) (lacks : (v : View) → Agreed f v xs → has_right v page ≡ false) where
+    module _ (page : ℕ) (xs : List Made) (here : IsPage f page) (deed : (v : View) → Agreed f v xs → KnowsDeed page d (xs ++ v)) (lacks : (v : View)
+        → Agreed f v xs → has_right v page ≡ false) where
       -- the pages so far that have none, or a worse one
-      new_best : (rank : ℕ) (Holds : ℕ → Option ℕ → Type 0) → ((p : ℕ) (other : Option ℕ) (n : ℕ) → Holds p other → other ≡ Some n → rank < n) → IsRanked ranks d page (Some rank) xs → AllSeen ranks d page Holds xs
+      new_best : (rank : ℕ) (Holds : ℕ → Option ℕ → Type 0) → ((p : ℕ) (other : Option ℕ) (n : ℕ) → Holds p other → other ≡ Some n → rank < n)
+          → IsRanked ranks d page (Some rank) xs → AllSeen ranks d page Holds xs
           → IsBestBelow f ranks d (page + 1) (record { page = page; rank = rank }) xs
       new_best rank Holds worse is all = record {
         page = here;
         below = omega arith;
         this = is;
-        others = all_more Holds (IsNoBetter page rank) page (Some rank) xs (λ p other lt holds n e. let more = worse p other n holds e in (omega (arith, more), λ same. absurd (omega (arith, more, same)))) is
+        others = all_more Holds (IsNoBetter page rank) page (Some rank) xs (λ p other lt holds n e. let more = worse p other n holds e in
+            (omega (arith, more), λ same. absurd (omega (arith, more, same)))) is
             (λ n e. let same : rank ≡ n = cc in (omega (arith, same), λ back. omega arith)) all;
         deed = deed;
         lacks = lacks;
       }
 
-      old_best : (best : Best) (rank : Option ℕ) → IsRanked ranks d page rank xs → ((n : ℕ) → rank ≡ Some n → best.rank ≤ n) → IsBestBelow f ranks d page best xs → IsBestBelow f ranks d (page + 1) best xs
+      old_best : (best : Best) (rank : Option ℕ) → IsRanked ranks d page rank xs → ((n : ℕ) → rank ≡ Some n → best.rank ≤ n)
+          → IsBestBelow f ranks d page best xs → IsBestBelow f ranks d (page + 1) best xs
       old_best best rank is worse old = record {
         page = old.page;
         below = omega (arith, old.below);
         this = old.this;
-        others = all_more (IsNoBetter best.page best.rank) (IsNoBetter best.page best.rank) page rank xs (λ p other lt holds. holds) is (λ n e. (worse n e, λ same. omega (arith, old.below))) old.others;
+        others = all_more (IsNoBetter best.page best.rank) (IsNoBetter best.page best.rank) page rank xs (λ p other lt holds. holds) is
+            (λ n e. (worse n e, λ same. omega (arith, old.below))) old.others;
         deed = old.deed;
         lacks = old.lacks;
       }
 
       choose : (best : Best) (rank : ℕ) (t : Bool) → nat_le best.rank rank ≡ t → IsRanked ranks d page (Some rank) xs → IsBestBelow f ranks d page best xs
           → IsSurvey f ranks d (page + 1) xs (if t then Some best else Some (record { page = page; rank = rank }))
-      choose best rank true e is old = old_best best (Some rank) is (λ n same. let low : best.rank ≤ rank = leb-true best.rank rank e in let here : rank ≡ n = cc in omega (arith, low, here)) old
-      choose best rank false e is old = new_best rank (IsNoBetter best.page best.rank) (λ p other n holds same. let less : rank < best.rank = not_le best.rank rank e in let no = holds n same in omega (arith, less, no.0)) is old.others
+      choose best rank true e is old =
+          let low : best.rank ≤ rank = leb-true best.rank rank e in
+          old_best best (Some rank) is (λ n same. let here : rank ≡ n = cc in omega (arith, low, here)) old
+      choose best rank false e is old =
+          let less : rank < best.rank = not_le best.rank rank e in
+          new_best rank (IsNoBetter best.page best.rank) (λ p other n holds same. let no = holds n same in omega (arith, less, no.0)) is old.others
 
-      pub best_more : (best : Option Best) (rank : Option ℕ) → IsRanked ranks d page rank xs → IsSurvey f ranks d page xs best → IsSurvey f ranks d (page + 1) xs (better_of best page rank)
+      pub best_more : (best : Option Best) (rank : Option ℕ) → IsRanked ranks d page rank xs → IsSurvey f ranks d page xs best
+          → IsSurvey f ranks d (page + 1) xs (better_of best page rank)
       best_more None None is all = all_more HasNone HasNone page None xs (λ p other lt holds. holds) is refl all
       best_more (Some best) None is old = old_best best None is (λ n e. absurd cc) old
       best_more None (Some rank) is all = new_best rank HasNone (λ p other n holds e. absurd cc) is all
@@ -172,7 +189,8 @@ module _ {ranks : Measure} {d : Directory} {next : ℕ} {best : Option Best} {σ
       }
 
   -- no page is offered any more
-  pub none_further : {σ1 : Standing} {d' : Directory} → d' ≡ d → {next' : ℕ} → 1 ≤ next → next ≤ f.pages → FindsOffered d' next σ σ1 next' None → Surveys ranks d σ0 σ1 best
+  pub none_further : {σ1 : Standing} {d' : Directory} → d' ≡ d → {next' : ℕ} → 1 ≤ next → next ≤ f.pages → FindsOffered d' next σ σ1 next' None
+      → Surveys ranks d σ0 σ1 best
   none_further {σ1} same {next'} some low found =
       let find : FindsOffered d next σ σ1 next' None = subst (λ x. FindsOffered x next σ σ1 next' None) same found in
       let pages : σ.seat.profile.pages ≡ f.pages = ap (λ (s : Seat). s.profile.pages) surveys.adds.seat_is in
@@ -180,8 +198,11 @@ module _ {ranks : Measure} {d : Directory} {next : ℕ} {best : Option Best} {σ
         steps = find.steps ++ earlier;
         adds = adds_call {D = AnyView} surveys.adds find.adds (λ v l stood met. tt);
         looks = looks_both find.steps earlier (scans_look find.steps find.scans) surveys.looks;
-        few = let all = offered_further 3 (row_words f.pages) {end = f.pages / 64 + 1} (omega (arith, some, low)) low (omega arith) in omega (arith, surveys.few, find.count, pages, all, length-append find.steps earlier);
-        outcome = best_later ranks d f next (f.pages + 1) best find.steps earlier (omega (arith, low)) (λ p low high. zero_before d p find.steps earlier (looks_lack p earlier surveys.looks) (find.outcome.1 p low (omega (arith, high, pages)))) surveys.outcome;
+        few = let all = offered_further 3 (row_words f.pages) {end = f.pages / 64 + 1} (omega (arith, some, low)) low (omega arith) in
+            omega (arith, surveys.few, find.count, pages, all, length-append find.steps earlier);
+        outcome = best_later ranks d f next (f.pages + 1) best find.steps earlier (omega (arith, low))
+            (λ p low high. zero_before d p find.steps earlier (looks_lack p earlier surveys.looks)
+            (find.outcome.1 p low (omega (arith, high, pages)))) surveys.outcome;
       }
 
   module _ {σ1 : Standing} {d' : Directory} (same : d' ≡ d) {next' page : ℕ} (found : FindsOffered d' next σ σ1 next' (Some page)) where
@@ -207,7 +228,8 @@ module _ {ranks : Measure} {d : Directory} {next : ℕ} {best : Option Best} {σ
     looked_looks = looks_both find.steps earlier (scans_look find.steps find.scans) surveys.looks
 
     offered : Once (OneHere d page) looked
-    offered = once_earlier (OneHere d page) (OneHere d page) find.steps earlier (λ m before z. (z.0, z.1, right_own page before earlier (looks_lack page earlier surveys.looks) ∙ z.2)) first.one
+    offered = once_earlier (OneHere d page) (OneHere d page) find.steps earlier
+        (λ m before z. (z.0, z.1, right_own page before earlier (looks_lack page earlier surveys.looks) ∙ z.2)) first.one
 
     module _ {σ2 : Standing} (free : Mask4) (reads : ReadsPage page σ1 σ2 free) (rank : Option ℕ) (ranked : ranks (is_set free) rank) where
       abbrev ys : List Made
@@ -215,11 +237,13 @@ module _ {ranks : Measure} {d : Directory} {next : ℕ} {best : Option Best} {σ
 
       at_page : IsSurvey f ranks d page (ys ++ looked) best
       at_page = best_later ranks d f page page best ys looked (omega arith) (λ p low high. absurd (omega (arith, low, high)))
-          (best_later ranks d f next page best find.steps earlier first.from_next (λ p low high. zero_before d p find.steps earlier (looks_lack p earlier surveys.looks) (first.lower p low high)) surveys.outcome)
+          (best_later ranks d f next page best find.steps earlier first.from_next
+          (λ p low high. zero_before d p find.steps earlier (looks_lack p earlier surveys.looks) (first.lower p low high)) surveys.outcome)
 
       pub page_surveyed : {best' : Option Best} → best' ≡ better_of best page rank → SurveysTo ranks d next' best' σ0 σ2
       page_surveyed {best'} is =
-          let counted : length find.steps ≡ words_to f next page = subst (λ (s : Seat). length find.steps ≡ words_to s.profile next page) surveys.adds.seat_is find.count in
+          let counted : length find.steps ≡ words_to f next page = subst
+          (λ (s : Seat). length find.steps ≡ words_to s.profile next page) surveys.adds.seat_is find.count in
           let further = offered_further 3 (row_words f.pages) {end = row_end f page} first.of_region.0 first.from_next (row_within f page first.of_region.1) in
           let short = looks_few page (words free) 4 in
           let past : page ≡ next' - 1 = omega (arith, next_is) in record {
@@ -231,7 +255,10 @@ module _ {ranks : Measure} {d : Directory} {next : ℕ} {best : Option Best} {σ
                 (omega (arith, surveys.few, counted, further, short, length-append ys looked, length-append find.steps earlier));
             outcome = subst (λ n. IsSurvey f ranks d n (ys ++ looked) best') (sym next_is) (subst (IsSurvey f ranks d (page + 1) (ys ++ looked)) (sym is)
                 (best_more ranks d f page (ys ++ looked) first.of_region
-                (λ v agreed. subst (KnowsDeed page d) (sym (append_assoc ys looked v)) (knows_still f d page ys (looked ++ v) (agreed_first f v ys looked agreed) (subst (KnowsDeed page d) (sym (append_assoc find.steps earlier v)) (first.deed (earlier ++ v)))))
-                (λ v agreed. sym (right_reads page earlier v (looks_read earlier surveys.looks)) ∙ first.lacks (earlier ++ v) (agreed_first f v find.steps earlier (agreed_later f v ys looked agreed)))
+                (λ v agreed. subst (KnowsDeed page d) (sym (append_assoc ys looked v))
+                (knows_still f d page ys (looked ++ v) (agreed_first f v ys looked agreed)
+                (subst (KnowsDeed page d) (sym (append_assoc find.steps earlier v)) (first.deed (earlier ++ v)))))
+                (λ v agreed. sym (right_reads page earlier v (looks_read earlier surveys.looks))
+                ∙ first.lacks (earlier ++ v) (agreed_first f v find.steps earlier (agreed_later f v ys looked agreed)))
                 best rank (page_ranked ranks d page free rank looked ranked offered) at_page));
           }

@@ -40,14 +40,16 @@ none_searched no_fit f d = record {
 }
 
 looked_over : {F : Type 0} (rule : Rule F) (f : Profile) (d : Directory) (ws : List Made) → AreLooks ws → Searching rule.no_fit f d 1 [] ws
-looked_over rule f d ws looks = subst (Searching rule.no_fit f d 1 []) (append-nil ws) (vain_searching rule f d 1 [] ws [] (reads_vain ws (looks_read ws looks)) (none_searched rule.no_fit f d))
+looked_over rule f d ws looks = subst (Searching rule.no_fit f d 1 []) (append-nil ws)
+    (vain_searching rule f d 1 [] ws [] (reads_vain ws (looks_read ws looks)) (none_searched rule.no_fit f d))
 
 -- what the survey and the claim ask
 pub rank_can : {σ : Standing} {f : Profile} {d : Directory} {n spare : ℕ} → CanCall σ (RankRoom f d n spare) → CanCall σ (MaySearch d)
 rank_can can = record { view = can.view; whole = can.whole; stood = can.stood; met = can.met.may.may }
 
 -- ---- no page has a rank
-pub none_ranked : {F : Type 0} {rule : Rule F} {ranks : Measure} {tells : Bool} {d : Directory} {σ0 σ1 : Standing} → Surveys ranks d σ0 σ1 None → TriesBest rule ranks tells d σ0 σ1 None
+pub none_ranked : {F : Type 0} {rule : Rule F} {ranks : Measure} {tells : Bool} {d : Directory} {σ0 σ1 : Standing} → Surveys ranks d σ0 σ1 None
+    → TriesBest rule ranks tells d σ0 σ1 None
 none_ranked {rule = rule} {ranks = ranks} {d = d} {σ0 = σ0} surveys =
     let s = looked_over rule σ0.seat.profile d surveys.steps surveys.looks in record {
       steps = surveys.steps;
@@ -59,7 +61,8 @@ none_ranked {rule = rule} {ranks = ranks} {d = d} {σ0 = σ0} surveys =
     }
 
 -- ---- the best one is claimed
-module _ {F : Type 0} (rule : Rule F) {ranks : Measure} (tells : Bool) {d : Directory} {σ0 σ1 : Standing} {best : Best} (surveys : Surveys ranks d σ0 σ1 (Some best)) where
+module _ {F : Type 0} (rule : Rule F) {ranks : Measure} (tells : Bool) {d : Directory} {σ0 σ1 : Standing} {best : Best}
+    (surveys : Surveys ranks d σ0 σ1 (Some best)) where
   abbrev f : Profile
   f = σ0.seat.profile
 
@@ -100,7 +103,8 @@ module _ {F : Type 0} (rule : Rule F) {ranks : Measure} (tells : Bool) {d : Dire
     -- another actor was first
     pub best_lost : has_bit a (best.page % 64) ≡ false → TriesBest rule ranks tells d σ0 σ2 None
     best_lost bit =
-        let now : Searching rule.no_fit f d 1 [] claimed = vain_searching rule f d 1 [] (m ∷ []) ws (record { rights = claim_rights page d a false bit; quiet = λ k e. refl }, tt) s in record {
+        let now : Searching rule.no_fit f d 1 [] claimed = vain_searching rule f d 1 [] (m ∷ []) ws
+        (record { rights = claim_rights page d a false bit; quiet = λ k e. refl }, tt) s in record {
           steps = claimed;
           adds = best_claim_adds;
           searches = now.searches;
@@ -114,7 +118,8 @@ module _ {F : Type 0} (rule : Rule F) {ranks : Measure} (tells : Bool) {d : Dire
       gets = GetsRight.Claims d a bit
 
       got : Leads f (MaySearch d) (IsReady page d) claimed
-      got = ready f d page m ws gets (λ v met. met.clear) s.still (λ v agreed. knows_still f d page (m ∷ []) (ws ++ v) (agreed.0, tt) (surveys.outcome.deed v agreed.1))
+      got = ready f d page m ws gets (λ v met. met.clear) s.still (λ v agreed. knows_still f d page (m ∷ []) (ws ++ v) (agreed.0, tt)
+          (surveys.outcome.deed v agreed.1))
 
       may_serve : (v : View) (l : Whole) → σ0.stands v l → MaySearch d v → MayServe page d (claimed ++ v)
       may_serve v l stood met = (got.from v met (best_claim_adds.agreed v l stood met)).may
@@ -130,7 +135,8 @@ module _ {F : Type 0} (rule : Rule F) {ranks : Measure} (tells : Bool) {d : Dire
         pub best_left : ServesPage rule best.page d σ2 σ3 None → TriesBest rule ranks tells d σ0 σ3 None
         best_left serve =
             let steps = serve_at None serve in let zs : List Made = serve.steps in let left = steps.outcome in
-            let lacking : Leads f (MaySearch d) (λ v w. IsReady page d v w × (has_right v page ≡ false)) claimed = record { from = λ v met agreed. (got.from v met agreed, surveys.outcome.lacks v agreed.1) } in record {
+            let lacking : Leads f (MaySearch d) (λ v w. IsReady page d v w × (has_right v page ≡ false)) claimed =
+            record { from = λ v met agreed. (got.from v met agreed, surveys.outcome.lacks v agreed.1) } in record {
               steps = zs ++ claimed;
               adds = adds_call {D = MayServe page d} best_claim_adds serve.adds may_serve;
               searches = served_search page zs claimed steps.only steps.due (inl gets) (got_search f d page m ws gets s.searches);
@@ -145,15 +151,19 @@ module _ {F : Type 0} (rule : Rule F) {ranks : Measure} (tells : Bool) {d : Dire
 
         -- it serves
         pub best_served : {found : F} → IsValid σ0.seat.profile → IsAntitone rule.no_fit → IsOfGrains ranks
-            → ((v : View) (l : Whole) → tells ≡ true → σ3.stands v l → Legal σ3.seat.profile l) → ((v : View) (l : Whole) → tells ≡ true → σ0.stands v l → part σ0.seat.actor l ≡ v)
+            → ((v : View) (l : Whole) → tells ≡ true → σ3.stands v l → Legal σ3.seat.profile l)
+            → ((v : View) (l : Whole) → tells ≡ true → σ0.stands v l → part σ0.seat.actor l ≡ v)
             → ServesPage rule best.page d σ2 σ3 (Some found) → TriesBest rule ranks tells d σ0 σ3 (Some (record { page = best.page; found = found }))
         best_served {found} valid fewer alike told parts serve =
             let steps = serve_at (Some found) serve in let zs : List Made = serve.steps in
             let few : FewEvents f d rule.events (zs ++ claimed) = λ k v agreed.
-            let few : length (events_by k v (zs ++ claimed)) ≤ rule.events = subst (λ es. length es ≤ rule.events) (sym (events_after_quiet k v zs claimed best_claim_quiet)) (steps.few k (claimed ++ v)) in (omega (arith, few), λ known. few) in
+            let few : length (events_by k v (zs ++ claimed)) ≤ rule.events =
+            subst (λ es. length es ≤ rule.events) (sym (events_after_quiet k v zs claimed best_claim_quiet)) (steps.few k (claimed ++ v)) in
+            (omega (arith, few), λ known. few) in
             let adds : Adds σ0 σ3 (MaySearch d) (zs ++ claimed) = adds_call {D = MayServe page d} best_claim_adds serve.adds may_serve in
             let searches = served_search page zs claimed steps.only steps.due (inl gets) (got_search f d page m ws gets s.searches) in
-            let outcome = finds f d page m ws gets rule zs got (s.untouched page) found (FromSurvey f ranks d page) steps surveys.outcome.page (record { tries = tries_page zs; got = bit; no_deed = deeds_serves zs claimed steps.only.kinds ∙ no_deeds claimed best_claim_quiet }) few
+            let outcome = finds f d page m ws gets rule zs got (s.untouched page) found (FromSurvey f ranks d page) steps surveys.outcome.page
+            (record { tries = tries_page zs; got = bit; no_deed = deeds_serves zs claimed steps.only.kinds ∙ no_deeds claimed best_claim_quiet }) few
             (inl (λ k e. refl)) s.quiet s.searches (λ v agreed. never_got page ws (s.lacked page (unmarked page))) in record {
               steps = zs ++ claimed;
               adds = adds;
@@ -186,25 +196,35 @@ module _ {F : Type 0} {rule : Rule F} {ranks : Measure} {tells : Bool} {d : Dire
 
   -- what the search that follows asks: no event was made, and what was known of deeds is known still
   pub can_go_on : {n spare spare' : ℕ} → CanCall σ (RankRoom σ.seat.profile d n spare)
-      → ((v : View) (l : Whole) → σ.stands v l → spare + length (events_of σ.seat.actor v) ≡ σ.seat.room) → ((v : View) (l : Whole) → σ1.stands v l → spare' + length (events_of σ1.seat.actor v) ≡ σ1.seat.room)
+      → ((v : View) (l : Whole) → σ.stands v l → spare + length (events_of σ.seat.actor v) ≡ σ.seat.room)
+      → ((v : View) (l : Whole) → σ1.stands v l → spare' + length (events_of σ1.seat.actor v) ≡ σ1.seat.room)
       → CanCall σ1 (SearchRoom σ1.seat.profile d n spare')
   can_go_on {n} {spare} {spare'} can law law' =
       let keep = λ (more : ℕ) (fits : more ≤ spare). room_kept {C = MaySearch d} more tries.adds (rank_can can) tries.outcome.quiet law law' fits in
-      can_call {C = RankRoom σ.seat.profile d n spare} (adds_under tries.adds (λ v l stood met. met.may.may)) can (λ v l stood met. let agreed = tries.adds.agreed v l stood met.may.may in record {
+      can_call {C = RankRoom σ.seat.profile d n spare} (adds_under tries.adds (λ v l stood met. met.may.may)) can (λ v l stood met.
+      let agreed = tries.adds.agreed v l stood met.may.may in record {
         may = may_again v met.may agreed;
         room = subst (λ x. HasRoom x n spare' (xs ++ v)) (sym profile_kept)
             (keep n met.room.0, elim met.room.1 [ inl all ↦ inl (all_known σ.seat.profile xs v agreed all) | inr wide ↦ inr (keep (n + 1) wide) ]);
       })
 
   pub falls_back : {Goes : Standing → Type 0} → Goes (having_made σ (MayRank d) tries.steps) → FallsBack rule.no_fit rule.steps ranks d σ Goes
-  falls_back goes = record { tried = xs; agreed = λ v l stood met. tries.adds.agreed v l stood met.may; searches = tries.searches; few = tries.few; outcome = tries.outcome; goes = goes }
+  falls_back goes = record {
+    tried = xs;
+    agreed = λ v l stood met. tries.adds.agreed v l stood met.may;
+    searches = tries.searches;
+    few = tries.few;
+    outcome = tries.outcome;
+    goes = goes;
+  }
 
   -- ---- what is said of the desk then is said of the one that made these steps
   abbrev pub before : Standing
   before = having_made σ (MayRank d) tries.steps
 
   pub stood_then : (v : View) (l : Whole) → StoodBefore σ (MayRank d) tries.steps v l → σ1.stands v l
-  stood_then v l b = subst (λ w. σ1.stands w l) (sym b.view_is) (subst (σ1.stands (xs ++ b.view)) (sym b.whole_is) (tries.adds.added b.view b.whole b.stood b.met.may))
+  stood_then v l b = subst (λ w. σ1.stands w l) (sym b.view_is) (subst (σ1.stands (xs ++ b.view)) (sym b.whole_is)
+      (tries.adds.added b.view b.whole b.stood b.met.may))
 
   pub adds_then : {σ2 : Standing} {C : View → Type 0} {ys : List Made} → Adds σ1 σ2 C ys → Adds (having_made σ (MayRank d) tries.steps) σ2 C ys
   adds_then {σ2} {C} {ys} adds = record {
@@ -213,12 +233,15 @@ module _ {F : Type 0} {rule : Rule F} {ranks : Measure} {tells : Bool} {d : Dire
     agreed = λ v l b met. subst (λ (seat : Seat). Agreed seat.profile v ys) tries.adds.seat_is (adds.agreed v l (stood_then v l b) met);
   }
 
-  pub searches_then : {σ2 : Standing} {answer : Result (Served F) NoRoom} → Searches rule tells d σ1 σ2 answer → Searches rule tells d (having_made σ (MayRank d) tries.steps) σ2 answer
+  pub searches_then : {σ2 : Standing} {answer : Result (Served F) NoRoom} → Searches rule tells d σ1 σ2 answer
+      → Searches rule tells d (having_made σ (MayRank d) tries.steps) σ2 answer
   searches_then {σ2} {answer} searches = let ys : List Made = searches.steps in record {
     steps = ys;
     adds = adds_then searches.adds;
     searches = searches.searches;
     few = subst (λ (seat : Seat). length ys ≤ search_steps rule.steps seat.profile.pages) tries.adds.seat_is searches.few;
-    outcome = subst (λ (seat : Seat). MatchResult answer (IsServed rule seat.profile d ys) (IsRefused rule.no_fit seat.profile d ys)) tries.adds.seat_is searches.outcome;
-    told = λ t v l b met. subst (λ (seat : Seat). IsTold (λ (served : Served F). served.page) rule.no_fit seat.profile d l (triples seat.actor ys ++ l) answer) tries.adds.seat_is (searches.told t v l (stood_then v l b) met);
+    outcome = subst (λ (seat : Seat). MatchResult answer (IsServed rule seat.profile d ys)
+        (IsRefused rule.no_fit seat.profile d ys)) tries.adds.seat_is searches.outcome;
+    told = λ t v l b met. subst (λ (seat : Seat). IsTold (λ (served : Served F). served.page) rule.no_fit seat.profile d l
+        (triples seat.actor ys ++ l) answer) tries.adds.seat_is (searches.told t v l (stood_then v l b) met);
   }

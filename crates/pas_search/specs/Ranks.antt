@@ -145,7 +145,8 @@ pub record IsBestOffered (no_fit : Readings → Type 0) (f : Profile) (ranks : M
 abbrev pub try_steps : ℕ → ℕ → ℕ
 try_steps each pages = survey_steps (row_words pages) pages + 1 + each
 
-pub record TriesBest {F : Type 0} (rule : Rule F) (ranks : Measure) (tells : Bool) (d : Directory) (desk desk' : Standing) (found : Option (Served F)) : Type 0 where
+pub record TriesBest {F : Type 0} (rule : Rule F) (ranks : Measure) (tells : Bool) (d : Directory) (desk desk' : Standing)
+    (found : Option (Served F)) : Type 0 where
   pub steps : List Made
   pub adds : Adds desk desk' (MaySearch d) steps
   pub searches : AreSearch steps

@@ -3,5 +3,6 @@ use Rattle.pas_bestfit.proofs.Shortest.{in_region}
 use Rattle.pas_bestfit.proofs.region.alloc_in_region.Goals as goal
 
 pub returns-clause-allocates : goal.returns-clause-allocates
-returns-clause-allocates g c = 
-    in_region c.args.heap c.args.size c.max-grains.result c.alloc_best.result (omega (arith, c.max-grains.ensures, c.div_ceil.ensures)) c.alloc_best.ensures.allocates
+returns-clause-allocates g c =
+    let bytes = c.args.size in
+    in_region c.args.heap bytes c.max.result c.alloc_best.result (omega (arith, c.max.ensures, c.div_ceil.ensures)) c.alloc_best.ensures.allocates

@@ -15,16 +15,19 @@ claim-requires-clause-can g c = best_can (g.S.Serving.rule c.args.serving.now) g
 
 pub serve-requires-clause-can : goal.serve-requires-clause-can
 serve-requires-clause-can g c = let h = c.claim.ensures.claims in
-    best_can_serve (g.S.Serving.rule c.args.serving.now) g.D.Desk.tells c.in-Some.ensures.surveys h.calls.adds (sym h.got_is ∙ c.if-claim.true) (rank_can c.requires.can)
+    best_can_serve (g.S.Serving.rule c.args.serving.now) g.D.Desk.tells c.in-Some.ensures.surveys h.calls.adds (sym h.got_is ∙ c.if-claim.true)
+    (rank_can c.requires.can)
 
 pub serve-requires-clause-room : goal.serve-requires-clause-room
 serve-requires-clause-room g c = let rule = g.S.Serving.rule c.args.serving.now in let found = c.in-Some.ensures.surveys in let h = c.claim.ensures.claims in
     room_kept {C = MaySearch c.args.directory} rule.events (best_claim_adds rule g.D.Desk.tells found h.calls.adds) (rank_can c.requires.can)
-    (best_claim_quiet rule g.D.Desk.tells found h.calls.adds) (g.met.D.Desk.spares c.args.desk.now) (g.met.D.Desk.spares c.claim.new.desk) c.requires.can.met.room.0
+    (best_claim_quiet rule g.D.Desk.tells found h.calls.adds) (g.met.D.Desk.spares c.args.desk.now)
+    (g.met.D.Desk.spares c.claim.new.desk) c.requires.can.met.room.0
 
 pub returns-in-None-clause-tries : goal.returns-in-None-clause-tries
 returns-in-None-clause-tries g c = let h = c.claim.ensures.claims in
-    best_left (g.S.Serving.rule c.args.serving.now) g.D.Desk.tells c.in-Some.ensures.surveys h.calls.adds (sym h.got_is ∙ c.if-claim.true) c.in-None.ensures.serves
+    best_left (g.S.Serving.rule c.args.serving.now) g.D.Desk.tells c.in-Some.ensures.surveys h.calls.adds
+    (sym h.got_is ∙ c.if-claim.true) c.in-None.ensures.serves
 
 pub returns-in-Some-serve-clause-tries : goal.returns-in-Some-serve-clause-tries
 returns-in-Some-serve-clause-tries g c = let h = c.claim.ensures.claims in

@@ -5,7 +5,12 @@ use Rattle.pas_search.proofs.surveying.survey.Goals as goal
 
 pub loop-looked-init : goal.loop-looked-init
 loop-looked-init g c = let first = c.begin-looked.ensures.next in
-    record { low = omega (arith, first); directory = c.begin-looked.ensures.directory; surveys = none_yet (g.R.Ranking.ranks c.args.ranking.now) c.args.directory c.begin-looked.result.next first; home = refl }
+    record {
+      low = omega (arith, first);
+      directory = c.begin-looked.ensures.directory;
+      surveys = none_yet (g.R.Ranking.ranks c.args.ranking.now) c.args.directory c.begin-looked.result.next first;
+      home = refl;
+    }
 
 pub returns-in_default-clause-surveys : goal.returns-in_default-clause-surveys
 returns-in_default-clause-surveys g c =
