@@ -29,7 +29,7 @@ pub fn opened(
         shared: 0,
         classes: 16,
     };
-    Ok(pas_shared::opened(alloc, profile, events)?)
+    Ok(pas_shared::opened_with_room(alloc, profile, events)?)
 }
 
 /// Such a region of two threads, and the passes of these two.

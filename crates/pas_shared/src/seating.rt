@@ -25,7 +25,7 @@ fn rooms_for(alloc: Global, actors: u8, events: u32) -> Result<Vec<EventRoom>, N
 
 /// A region that nobody used yet, and the passes of its actors from 0 on, each with room for so many events. It costs two passes over the words,
 /// and a load for each actor. It refuses only where memory is wanting.
-pub fn opened(
+pub fn opened_with_room(
     alloc: Global,
     profile: Profile,
     events: u32,

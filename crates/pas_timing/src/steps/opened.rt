@@ -38,5 +38,5 @@ pub fn shared(alloc: Global, events: u32) -> Result<(SharedRegion, Vec<SharedPas
     ensures profile { IfOk result (λ opened. the_profile_of opened.0 ≡ bench_profile) }
     ensures passes { IfOk result (λ opened. All (IsFreshPass opened.0 events) opened.1.items) }
 {
-    pas_shared::opened(alloc, PROFILE, events)
+    pas_shared::opened_with_room(alloc, PROFILE, events)
 }
