@@ -3,7 +3,8 @@ use Rattle.std.proofs.Common.{◌≡◌, List, [], ◌∷◌, map, reverse, refl
 use Rattle.std.proofs.lemmas.List.{reverse-reverse}
 use Rattle.pas_profile.specs.declared.name.Name.{Name}
 use Rattle.pas_steps.specs.Desks.{Standing}
-use Rattle.pas_free_log.specs.{Flushes.Settled, Flushes.Flushes, Flushes.EndsName, Flushes.event_for, Flushes.shown_for, Logs.entry_of}
+use Rattle.pas_free_log.specs.Flushes.{Settled, Flushes, EndsName, event_for, shown_for}
+use Rattle.pas_free_log.specs.Logs.{entry_of}
 use Rattle.pas_free_log.specs.declared.{log.Entry.Entry, noting.EndedRun.EndedRun}
 
 -- ---- a list of one
