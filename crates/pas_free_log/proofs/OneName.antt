@@ -20,7 +20,8 @@ abbrev IsNone : List Entry → Type 0
 IsNone [] = Unit {0}
 IsNone (e ∷ es) = ⊥
 
-one_settled : (settled : List Settled) (entry : Entry) → map (λ (s : Settled). s.entry) settled ≡ entry ∷ [] → (s : Settled) × (settled ≡ s ∷ []) × (s.entry ≡ entry)
+one_settled : (settled : List Settled) (entry : Entry) → map (λ (s : Settled). s.entry) settled ≡ entry ∷ []
+    → (s : Settled) × (settled ≡ s ∷ []) × (s.entry ≡ entry)
 one_settled [] entry e = absurd (subst (λ (es : List Entry). IsNone es) e tt)
 one_settled (s ∷ []) entry e = (s, refl, ap (first_or s.entry) e)
 one_settled (s ∷ t ∷ more) entry e = absurd (subst (λ (es : List Entry). IsNone (others_of es)) (sym e) tt)
