@@ -11,10 +11,9 @@ use Rattle.pas_report.specs.declared.record.Record.{Record}
 use Rattle.pas_answers.specs.{Calls.AreKnown, Calls.IsKnown, Fit.IsFitWhat, Fit.sum_over}
 use Rattle.pas_steps.specs.{Calls.Calls, Clear.HasNothing, Kinds.LookEpoch, Desks.Standing, Desks.Makes}
 use Rattle.pas_steps.specs.declared.step.Step.TheVariants.{Look}
-use Rattle.pas_steps.proofs.{Called.call_none, Called.call_step, Calls.does_idly}
+use Rattle.pas_steps.proofs.{Called.call_none, Called.call_step, Calls.does_idly, Nothing.nothing_still}
 use Rattle.pas_scavenger.specs.{Pages.unback_of, Passes.unbacks_in}
 use Rattle.pas_scavenger.proofs.Trying.{one_unback}
-use Rattle.pas_steps.proofs.Nothing.{nothing_still}
 
 -- ---- caches of which that of thread k became another
 pub its_cache : (caches : Caches) (k : ℕ) (c : Cached) → with_cache caches k c k ≡ c

@@ -1,5 +1,5 @@
 //! Requests and frees of one actor.
-ghost use Rattle.std.specs.Prelude.{◌≡◌, ◌+◌, ◌≤◌};
+ghost use Rattle.std.specs.Prelude.{◌+◌, ◌≤◌};
 ghost use Rattle.pas_steps.specs.{Clear.HasNothing, Desks.CanCall};
 
 use pas_bestfit::alloc;

@@ -1,11 +1,11 @@
 -- What an actor that has nothing may ask, and what a request leaves for the next one.
-use Rattle.std.proofs.Common.{◌≡◌, ℕ, ◌+◌, ◌≤◌, ◌==◌, ◌⊎◌, List, [], ◌++◌, length, Bool, true, false, Ok, Err, Result, if◌then◌else◌, inl, inr, refl, ap, ◌∙◌}
-use Rattle.std.proofs.Common.{sym, subst, arith}
+use Rattle.std.proofs.Common.{◌≡◌, ℕ, ◌+◌, ◌≤◌, ◌==◌, ◌⊎◌, List, ◌++◌, length, Bool, true, false, Ok, Err, Result, if◌then◌else◌, inl, inr, refl, ap, ◌∙◌, sym}
+use Rattle.std.proofs.Common.{subst, arith}
 use Rattle.pas_profile.specs.Profiles.{IsDirectoryOf, IsValid}
-use Rattle.pas_profile.specs.declared.{directory.Directory.Directory, directory.Kind.TheVariants.Bitfit, event.Event.Event, event.NoRoom.NoRoom, name.Block.Block}
-use Rattle.pas_profile.specs.declared.{profile.Profile.Profile}
-use Rattle.pas_steps.specs.{Agreement.Agreed, Calls.Calls, Calls.Kept, Calls.Lost, Calls.now, Calls.Does, Clear.HasNothing, Desks.Standing, Desks.CanCall}
-use Rattle.pas_steps.specs.{Desks.Adds, Events.events_by, Views.View, Views.has_right}
+use Rattle.pas_profile.specs.declared.{directory.Directory.Directory, directory.Kind.TheVariants.Bitfit, event.Event.Event, event.NoRoom.NoRoom}
+use Rattle.pas_profile.specs.declared.{name.Block.Block, profile.Profile.Profile}
+use Rattle.pas_steps.specs.{Agreement.Agreed, Clear.HasNothing, Desks.Standing, Desks.CanCall, Events.events_by, Views.View, Views.has_right}
+use Rattle.pas_steps.specs.Calls.{Calls, Kept, Lost, now, Does}
 use Rattle.pas_steps.specs.declared.step.Made.{Made}
 use Rattle.pas_steps.proofs.{Adding.adds_under, Adding.agreed_later, Nothing.can_go_on, Nothing.nothing_still, SpareRoom.Spares, SpareRoom.spare_falls}
 use Rattle.pas_search.specs.{Kinds.deeds_made, Searches.MaySearch, Searches.SearchRoom, Serving.right_of}

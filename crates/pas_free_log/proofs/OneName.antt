@@ -3,7 +3,8 @@ use Rattle.std.proofs.Common.{◌≡◌, List, [], ◌∷◌, map, reverse, refl
 use Rattle.std.proofs.lemmas.List.{reverse-reverse}
 use Rattle.pas_profile.specs.declared.name.Name.{Name}
 use Rattle.pas_steps.specs.Desks.{Standing}
-use Rattle.pas_free_log.specs.{Flushes.Settled, Flushes.Flushes, Flushes.EndsName, Flushes.event_for, Flushes.shown_for, Logs.entry_of}
+use Rattle.pas_free_log.specs.Flushes.{Settled, Flushes, EndsName, event_for, shown_for}
+use Rattle.pas_free_log.specs.Logs.{entry_of}
 use Rattle.pas_free_log.specs.declared.{log.Entry.Entry, noting.EndedRun.EndedRun}
 
 -- ---- a list of one
@@ -19,7 +20,8 @@ abbrev IsNone : List Entry → Type 0
 IsNone [] = Unit {0}
 IsNone (e ∷ es) = ⊥
 
-one_settled : (settled : List Settled) (entry : Entry) → map (λ (s : Settled). s.entry) settled ≡ entry ∷ [] → (s : Settled) × (settled ≡ s ∷ []) × (s.entry ≡ entry)
+one_settled : (settled : List Settled) (entry : Entry) → map (λ (s : Settled). s.entry) settled ≡ entry ∷ []
+    → (s : Settled) × (settled ≡ s ∷ []) × (s.entry ≡ entry)
 one_settled [] entry e = absurd (subst (λ (es : List Entry). IsNone es) e tt)
 one_settled (s ∷ []) entry e = (s, refl, ap (first_or s.entry) e)
 one_settled (s ∷ t ∷ more) entry e = absurd (subst (λ (es : List Entry). IsNone (others_of es)) (sym e) tt)

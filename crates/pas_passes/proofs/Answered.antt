@@ -3,10 +3,9 @@ use Rattle.std.proofs.Common.{◌≡◌, ℕ, ◌+◌, Some, List, [], ◌∷◌
 use Rattle.pas_profile.specs.declared.event.Outcome.{Outcome}
 use Rattle.pas_report.specs.declared.record.{Record.Record, Said.Said}
 use Rattle.pas_scavenger.specs.Passes.{Passes, unbacks_in}
-use Rattle.pas_steps.proofs.Nothing.{nothing_still}
+use Rattle.pas_steps.proofs.{Nothing.nothing_still, Called.call_none, Called.call_step, Calls.does_idly}
 use Rattle.pas_steps.specs.{Calls.Calls, Clear.HasNothing, Desks.Standing, Desks.Makes, Desks.made}
 use Rattle.pas_steps.specs.declared.step.Step.TheVariants.{Tick}
-use Rattle.pas_steps.proofs.{Called.call_none, Called.call_step, Calls.does_idly}
 use Rattle.pas_passes.specs.{Answers.ticking, Answers.AnswersTick, Answers.AnswersPass, Records.record_of, Records.records_of_pass}
 use Rattle.pas_passes.proofs.Shown.{pass_shown}
 

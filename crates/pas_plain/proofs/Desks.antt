@@ -8,8 +8,8 @@ use Rattle.pas_steps.specs.{Calls.nothing, Calls.Does, Calls.Calls, Clear.IsClea
 use Rattle.pas_steps.specs.Views.{known_epoch, View, epoch_of, or_zero}
 use Rattle.pas_steps.specs.Desks.{triples, Seat, Standing, made, triple, CanMake, Makes}
 use Rattle.pas_steps.specs.declared.step.{Made.Made, Step.Step}
-use Rattle.pas_steps.proofs.{Parts.part_of_others, Parts.part_of_own, Frames.with_few, Called.call_none, Called.call_step}
-use Rattle.pas_steps.proofs.{Calls.does_idly, Nothing.nothing_still, Nothing.calls_rest, Targets.target_of_region}
+use Rattle.pas_steps.proofs.{Parts.part_of_others, Parts.part_of_own, Frames.with_few, Called.call_none, Called.call_step, Calls.does_idly}
+use Rattle.pas_steps.proofs.{Nothing.nothing_still, Nothing.calls_rest, Targets.target_of_region}
 use Rattle.pas_plain.specs.Plain.{actor_of, PassStands, pass_for, passes_from, profile_of, room_of_pass, events_shown, RegionStands, epoch_known, IsExchanged}
 use Rattle.pas_plain.specs.declared.{pass.PlainPass.PlainPass, region.PlainRegion.PlainRegion, desk.PlainDesk.PlainDesk}
 use Rattle.pas_steps.specs.Kinds.{Kinds, kind_of, is_in, apart, changing}

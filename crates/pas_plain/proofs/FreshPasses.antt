@@ -1,5 +1,5 @@
 -- The last passes of a region that nobody used yet.
-use Rattle.std.proofs.Common.{◌≡◌, ℕ, suc, ◌+◌, ◌≤◌, List, [], ◌∷◌, ◌++◌, length, reverse, refl, ap, sym, ◌∙◌, subst, arith, length-append}
+use Rattle.std.proofs.Common.{◌≡◌, ℕ, suc, ◌+◌, ◌≤◌, List, [], ◌∷◌, ◌++◌, length, reverse, ap, sym, ◌∙◌, subst, arith, length-append}
 use Rattle.std.proofs.lemmas.List.{reverse-append}
 use Rattle.pas_profile.specs.Rooms.{shown, EventRoom}
 use Rattle.pas_profile.specs.declared.profile.Profile.{Profile}
@@ -23,7 +23,8 @@ last_two a b c (r ∷ []) x y e = (cc, cc)
 last_two a b c (r ∷ s ∷ rest) x y e = absurd (omega (arith, simp length-append at (ap length e)))
 
 -- ---- the last pass
-passes_more : (n : ℕ) (rooms : List EventRoom) (room : EventRoom) → passes_from n (rooms ++ room ∷ []) ≡ passes_from n rooms ++ pass_for (n + length rooms) room ∷ []
+passes_more : (n : ℕ) (rooms : List EventRoom) (room : EventRoom)
+    → passes_from n (rooms ++ room ∷ []) ≡ passes_from n rooms ++ pass_for (n + length rooms) room ∷ []
 passes_more n [] room = let same : n ≡ n + 0 = omega arith in ap (λ (k : ℕ). pass_for k room ∷ []) same
 passes_more n (r ∷ rooms) room =
     let same : n + 1 + length rooms ≡ n + suc (length rooms) = omega arith in
@@ -50,7 +51,8 @@ pub record IsLast (f : Profile) (region : PlainRegion) (room : EventRoom) (pass 
   pub stands : PassStands (profile_of region) pass []
 
 pub is_last : (f : Profile) (region : PlainRegion) (rooms all : List EventRoom) (room : EventRoom) (passes rest : List PlainPass) (pass : PlainPass)
-    → profile_of region ≡ f → length rooms ≡ f.threads → shown room ≡ [] → all ≡ rooms ++ room ∷ [] → passes ≡ passes_from 0 all → passes ≡ rest ++ pass ∷ [] → IsLast f region room pass
+    → profile_of region ≡ f → length rooms ≡ f.threads → shown room ≡ [] → all ≡ rooms ++ room ∷ [] → passes ≡ passes_from 0 all
+    → passes ≡ rest ++ pass ∷ [] → IsLast f region room pass
 is_last f region rooms all room passes rest pass of many empty more from last =
     let is = last_pass rooms all room passes rest pass more from last in
     record { pass_is = is ∙ ap (λ (k : ℕ). pass_for k room) many; stands = fresh_pass f region (length rooms) room pass of (omega (arith, many)) empty is }
@@ -63,7 +65,8 @@ pub record AreTwo (region : PlainRegion) (one two : EventRoom) (first second : P
   pub second_stands : PassStands (profile_of region) second []
 
 pub are_two : (f : Profile) (region : PlainRegion) (idle one two : EventRoom) (all : List EventRoom) (passes rest : List PlainPass) (first second : PlainPass)
-    → profile_of region ≡ f → f.threads ≡ 2 → shown one ≡ [] → shown two ≡ [] → all ≡ idle ∷ one ∷ two ∷ [] → passes ≡ passes_from 0 all → passes ≡ (rest ++ first ∷ []) ++ second ∷ []
+    → profile_of region ≡ f → f.threads ≡ 2 → shown one ≡ [] → shown two ≡ [] → all ≡ idle ∷ one ∷ two ∷ [] → passes ≡ passes_from 0 all
+    → passes ≡ (rest ++ first ∷ []) ++ second ∷ []
     → AreTwo region one two first second
 are_two f region idle one two all passes rest first second of threads empty empty' three from last =
     let is = last_two (pass_for 0 idle) (pass_for 1 one) (pass_for 2 two) rest first second (sym (from ∙ ap (passes_from 0) three) ∙ last) in

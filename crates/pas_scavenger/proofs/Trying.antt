@@ -2,8 +2,8 @@
 use Rattle.std.proofs.Common.{◌≡◌, ℕ, true, List, length, ap, arith, zero, suc, ◌+◌, ◌-◌, ◌*◌, ◌%◌, ◌<◌, ◌≤◌, ◌==◌, Bool, false, ◌&&◌, if◌then◌else◌, [], ◌∷◌}
 use Rattle.std.proofs.Common.{◌++◌, Option, None, Some, refl, sym, ◌∙◌, subst, inl, inr, append_assoc, length-append, reverse, map, append-nil}
 use Rattle.pas_profile.specs.declared.{event.Event.Event, event.Outcome.Outcome, profile.Profile.Profile, word.Word.Word}
-use Rattle.pas_steps.specs.{Calls.Calls, Calls.nothing, Calls.Does, Views.View, Views.examines, Agreement.AgreesEmpty, Clear.HasNothing, Events.events_by}
-use Rattle.pas_steps.specs.{InTurn.InTurn, InTurn.numbers_below}
+use Rattle.pas_steps.specs.{Calls.Calls, Views.View, Views.examines, Agreement.AgreesEmpty, Clear.HasNothing, Events.events_by, InTurn.InTurn}
+use Rattle.pas_steps.specs.{InTurn.numbers_below}
 use Rattle.pas_steps.specs.Desks.{Standing, CanCall, Makes, made}
 use Rattle.pas_steps.specs.Kinds.{Kinds, apart, Only, showing, LookEmpty, LookEpoch}
 use Rattle.pas_steps.specs.declared.step.{Made.Made, Step.TheVariants.Look, Step.TheVariants.Unhint}

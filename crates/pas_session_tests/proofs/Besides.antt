@@ -5,14 +5,13 @@ use Rattle.pas_steps.specs.Desks.{Seat, Standing, triples, AnyView}
 use Rattle.pas_steps.specs.{Lists.Whole, Lists.part, Views.View}
 use Rattle.pas_steps.proofs.Parts.{part_of_others}
 use Rattle.pas_plain.specs.Plain.{profile_of, actor_of, room_of_pass, RegionStands, PassStands}
-use Rattle.pas_plain.specs.Seats.{region_of, pass_of, standing_of, DeskStands}
+use Rattle.pas_plain.specs.Seats.{region_of, pass_of, standing_of, DeskStands, Opens}
 use Rattle.pas_plain.specs.declared.{desk.PlainDesk.PlainDesk, pass.PlainPass.PlainPass, region.PlainRegion.PlainRegion}
 use Rattle.pas_plain.proofs.Desks.{pass_rests}
 use Rattle.pas_search.specs.Searches.{MaySearch}
 use Rattle.pas_trials.specs.{Trials.Beside, Trials.Brings, Trials.Wants, Filling.Steps}
 use Rattle.pas_trials.specs.declared.wanting.Findings.{Findings}
 use Rattle.pas_session_tests.specs.Seated.{Waits}
-use Rattle.pas_plain.specs.Seats.{Opens}
 
 -- an actor that made no step may search
 pub may_search : (d : Directory) → MaySearch d []

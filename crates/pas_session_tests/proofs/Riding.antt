@@ -3,17 +3,15 @@ use Rattle.std.proofs.Common.{◌≡◌, ◌≢◌, ℕ, [], ◌++◌, refl, ap,
 use Rattle.pas_profile.specs.declared.profile.Profile.{Profile}
 use Rattle.pas_steps.specs.{Clear.HasNothing, Lists.Whole, Views.View}
 use Rattle.pas_steps.specs.Desks.{Seat, Standing, CanCall, triples}
-use Rattle.pas_steps.proofs.{Adding.adds_call, Called.next_call, Parts.part_of_others}
+use Rattle.pas_steps.proofs.{Adding.adds_call, Called.next_call, Parts.part_of_others, Nothing.nothing_yet}
 use Rattle.pas_cache.specs.{Caches.Cached, Caches.AtRest, Calls.StopsCache}
 use Rattle.pas_cache.proofs.FlushesAndFrees.{rests_empty}
 use Rattle.pas_plain.specs.{Plain.profile_of, Plain.actor_of, Plain.PassStands, Storms.own_stands}
-use Rattle.pas_plain.specs.Seats.{region_of, pass_of, DeskStands, standing_of}
+use Rattle.pas_plain.specs.Seats.{region_of, pass_of, DeskStands, standing_of, Opens}
 use Rattle.pas_plain.specs.declared.{desk.PlainDesk.PlainDesk, pass.PlainPass.PlainPass}
 use Rattle.pas_plain.proofs.Desks.{pass_rests}
 use Rattle.pas_trials.specs.{Borrowing.Borrows, Filling.Steps}
 use Rattle.pas_session_tests.specs.Seated.{RestsBeside}
-use Rattle.pas_plain.specs.Seats.{Opens}
-use Rattle.pas_steps.proofs.Nothing.{nothing_yet}
 use Rattle.pas_session_tests.proofs.Stormed.{fresh}
 
 -- ---- before the storm

@@ -1,7 +1,6 @@
 //! Shared regions that nobody used yet.
 ghost use Rattle.std.specs.Prelude.{◌≡◌, ◌≤◌, All, IfOk};
-ghost use Rattle.pas_shared.specs.Passes.{profile_of};
-ghost use Rattle.pas_shared.specs.Passes.{IsFreshPass};
+ghost use Rattle.pas_shared.specs.Passes.{profile_of, IsFreshPass};
 ghost use Rattle.pas_session_tests.specs.Seated.{shared_profile};
 
 use pas_profile::{NoMemory, Profile};
@@ -29,7 +28,7 @@ pub fn opened(
         shared: 0,
         classes: 16,
     };
-    Ok(pas_shared::opened(alloc, profile, events)?)
+    Ok(pas_shared::opened_with_room(alloc, profile, events)?)
 }
 
 /// Such a region of two threads, and the passes of these two.

@@ -7,7 +7,8 @@ use Rattle.pas_shared.specs.declared.{region.SharedRegion.SharedRegion, pass.Sha
 use Rattle.pas_shared.proofs.Pops.{first_is, others_are}
 
 pub fresh_passes : (region : SharedRegion) (events k : ℕ) (rooms : List EventRoom) (passes : List SharedPass)
-    → AreFresh region.table.shared.table_id region.profile k rooms passes → All (λ room. size_of_room room ≡ events) rooms → All (IsFreshPass region events) passes
+    → AreFresh region.table.shared.table_id region.profile k rooms passes → All (λ room. size_of_room room ≡ events) rooms
+    → All (IsFreshPass region events) passes
 fresh_passes region events k [] [] h sized = All-nil (IsFreshPass region events)
 fresh_passes region events k [] (pass ∷ passes) h sized = absurd h
 fresh_passes region events k (room ∷ rooms) [] h sized = absurd h

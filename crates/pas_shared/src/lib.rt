@@ -29,4 +29,4 @@ pub use pass::SharedPass;
 pub use past::Past;
 pub use region::{Opening, SharedRegion};
 pub use rule::Picks;
-pub use seating::opened;
+pub use seating::opened_with_room;

@@ -1,5 +1,5 @@
 //! A shared region that nobody used yet, all of whose actors have the same room.
-ghost use Rattle.std.specs.Prelude.{◌≡◌, ◌≤◌, ◌+◌, [], All, IfOk, vec_len};
+ghost use Rattle.std.specs.Prelude.{◌≡◌, ◌+◌, [], All, IfOk, vec_len};
 ghost use Rattle.pas_profile.specs.{Profiles.IsValid, Rooms.shown, Rooms.size_of_room};
 ghost use Rattle.pas_shared.specs.Passes.{profile_of, IsFreshPass};
 
@@ -25,7 +25,7 @@ fn rooms_for(alloc: Global, actors: u8, events: u32) -> Result<Vec<EventRoom>, N
 
 /// A region that nobody used yet, and the passes of its actors from 0 on, each with room for so many events. It costs two passes over the words,
 /// and a load for each actor. It refuses only where memory is wanting.
-pub fn opened(
+pub fn opened_with_room(
     alloc: Global,
     profile: Profile,
     events: u32,

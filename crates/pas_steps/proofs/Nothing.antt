@@ -14,7 +14,11 @@ nothing_yet = record {
 
 -- one that had nothing, and of whose grains, rights and debts nothing was changed, has nothing still
 pub nothing_still : {v w : View} → Does nothing v w → HasNothing v → HasNothing w
-nothing_still does none = record { grains = λ g. does.held g ∙ none.grains g; rights = λ page. does.right page ∙ none.rights page; clear = still_clear does none.clear }
+nothing_still does none = record {
+  grains = λ g. does.held g ∙ none.grains g;
+  rights = λ page. does.right page ∙ none.rights page;
+  clear = still_clear does none.clear;
+}
 
 -- so calls of a clear actor that change nothing are calls after which one that had nothing has nothing
 pub calls_rest : {σ σ' : Standing} {steps : List Made} → Calls σ σ' IsClear (Does nothing) steps → Calls σ σ' HasNothing (λ v w. HasNothing w) steps

@@ -2,7 +2,7 @@
 use Rattle.std.specs.Prelude.{ℕ, ◌-◌, ◌≡◌, List, [], ◌∷◌, length, IfSome}
 use Rattle.atomic_table.specs.Seated.{TableId}
 use Rattle.pas_profile.specs.declared.{event.Event.Event, name.Name.Name}
-use Rattle.pas_steps.specs.{Clear.HasNothing, Events.events_of}
+use Rattle.pas_steps.specs.{Clear.HasNothing, Desks.Standing, Events.events_of}
 use Rattle.pas_free_log.specs.{Flushes.event_for, Logs.entry_of}
 use Rattle.pas_free_log.specs.declared.ending.Outcome.{Outcome}
 use Rattle.pas_region.specs.Noted.{events_noted, room_of_notes}
@@ -23,6 +23,10 @@ abbrev pub no_table : TableId
 no_table = record { words = 0; slots = 0; views_name = 0; atom = 0; block = 0; offset = 0; slot_names = [] }
 
 -- ---- actors
+-- what a desk of this pass stands for
+abbrev pub standing_at : SharedPass → Standing
+standing_at pass = record { seat = seat_of pass; stands = λ v l. view_of pass ≡ v }
+
 -- for how many more events the actor has room
 abbrev pub spare_of : SharedDesk → ℕ
 spare_of desk = room_of_notes desk.pass.notes - length (events_noted desk.pass.notes)

@@ -113,10 +113,8 @@ fn trade<K: OfTable + Send + Sync, R: Wait>(
     let mut desk = region.desk(pass);
     give(rt, &mut desk, &to);
     let ended = take(rt, &mut desk, &from);
-    Traded {
-        pass: desk.into_pass(),
-        ended,
-    }
+    let pass = desk.into_pass();
+    Traded { pass, ended }
 }
 
 /// Both at once, with a channel for each way.
@@ -136,8 +134,14 @@ fn both<K: OfTable + Send + Sync, R: Threads + Wait + Sync>(
     let (to_first, from_second) = bounded::<Gift<K>, Global>(alloc, 1)?;
     Ok(join(
         rt,
-        move || trade::<K, R>(rt, region, first, to_second, from_second),
-        move || trade::<K, R>(rt, region, second, to_first, from_first),
+        move || -> Traded
+            requires { (table_of region.now ≡ K.table) × IsFreshPass region.now 4 first }
+            ensures { HasTraded region.entry.now result }
+        { trade::<K, R>(rt, region, first, to_second, from_second) },
+        move || -> Traded
+            requires { (table_of region.now ≡ K.table) × IsFreshPass region.now 4 second }
+            ensures { HasTraded region.entry.now result }
+        { trade::<K, R>(rt, region, second, to_first, from_first) },
     ))
 }
 

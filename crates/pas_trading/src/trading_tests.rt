@@ -4,7 +4,7 @@ ghost use Rattle.pas_steps.specs.States.{profile_of as the_profile_of};
 
 use crate::trading::{Traded, trade_blocks};
 use pas_profile::{Event, NoMemory, Profile, Word};
-use pas_shared::{close, opened};
+use pas_shared::{close, opened_with_room};
 use pas_steps::State;
 use std::test::Fail;
 
@@ -47,7 +47,7 @@ fn is_empty(state: &State, page: u32) -> bool
 
 #[test]
 fn each_ends_the_block_of_the_other_one(rt: HostRuntime) -> Result<(), Fail> {
-    let (region, mut passes) = opened(rt.alloc(), PROFILE, 4)?;
+    let (region, mut passes) = opened_with_room(rt.alloc(), PROFILE, 4)?;
     let Some(second) = passes.pop() else {
         return Err(NoMemory.into());
     };

@@ -5,9 +5,8 @@ use Rattle.pas_profile.specs.declared.{event.NoRoom.NoRoom, name.Block.Block, pr
 use Rattle.pas_steps.specs.{Calls.Calls, Clear.HasNothing, Kinds.Ticking, Unknown.unknown_here, Unknown.unknown_below, Views.View, Views.known_deed}
 use Rattle.pas_steps.specs.Desks.{Standing, Seat, CanCall, Makes, made}
 use Rattle.pas_steps.specs.declared.step.{Made.Made, Step.TheVariants.Tick}
-use Rattle.pas_steps.proofs.{Adding.adds_under, Calls.does_idly, Unknown.has_room}
+use Rattle.pas_steps.proofs.{Adding.adds_under, Calls.does_idly, Unknown.has_room, Nothing.nothing_still}
 use Rattle.pas_steps.proofs.Called.{call_none, call_step, call_as, call_then}
-use Rattle.pas_steps.proofs.Nothing.{nothing_still}
 use Rattle.pas_free_log.specs.Flushes.{Flushes}
 use Rattle.pas_free_log.specs.declared.{log.Entry.Entry, noting.EndedRun.EndedRun}
 use Rattle.pas_cache.specs.{Caches.Cached, Caches.AtRest, Serves.Wanted}

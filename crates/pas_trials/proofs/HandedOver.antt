@@ -1,8 +1,8 @@
 -- A block that one actor hands another: what each of the two did, and how their steps stand in the one list.
-use Rattle.std.proofs.Common.{◌≡◌, ◌≢◌, ℕ, zero, suc, ◌-◌, ◌/◌, ◌<◌, max, Bool, true, false, if◌then◌else◌, List, [], ◌∷◌, ◌++◌, length, map, reverse, Option}
-use Rattle.std.proofs.Common.{Some, None, Ok, inr, ⊎_elim, refl, sym, ap, ◌∙◌, subst, arith, nat_lt, eq-eqb, append-nil, append_assoc}
+use Rattle.std.proofs.Common.{◌≡◌, ◌≢◌, ℕ, zero, suc, ◌-◌, ◌/◌, ◌<◌, max, Bool, true, false, if◌then◌else◌, List, [], ◌∷◌, ◌++◌, length, reverse, Option, Some}
+use Rattle.std.proofs.Common.{None, Ok, inr, ⊎_elim, refl, sym, ap, ◌∙◌, subst, arith, nat_lt, eq-eqb, append-nil, append_assoc}
 use Rattle.std.specs.List.{AllByRecursion}
-use Rattle.std.proofs.lemmas.{Bool.cases_eq, List.append_cancel_right, List.reverse-reverse}
+use Rattle.std.proofs.lemmas.{Bool.cases_eq, List.append_cancel_right}
 use Rattle.pas_bits.proofs.Runs.{first_of_run}
 use Rattle.pas_profile.specs.{Blocks.address_of, Blocks.grain_of, Blocks.length_of, Lives.turn_of, Profiles.IsPage, Profiles.IsValid, Requests.route_in}
 use Rattle.pas_profile.specs.{Routes.room_by, Routes.IsRouteOf}
@@ -16,18 +16,16 @@ use Rattle.pas_steps.specs.Desks.{Seat, CanCall, triple, triples}
 use Rattle.pas_steps.specs.Events.{event_of, events_of, events_by, with_event}
 use Rattle.pas_steps.specs.Lists.{Triple, Whole, Legal, part, visible}
 use Rattle.pas_steps.specs.declared.{state.State.State, step.Made.Made}
-use Rattle.pas_steps.proofs.Parts.{part_of_own, part_of_others}
+use Rattle.pas_steps.proofs.{Parts.part_of_own, Parts.part_of_others, Nothing.nothing_yet}
 use Rattle.pas_core.proofs.MachineRuns.{runs}
-use Rattle.pas_free_log.specs.{Conditions.IsEntryOf, Logs.entry_of}
-use Rattle.pas_free_log.specs.Flushes.{EndsName, event_for}
-use Rattle.pas_free_log.specs.declared.{ending.Outcome.Outcome, ending.Outcome.TheVariants.Ended, ending.Outcome.TheVariants.Refused}
+use Rattle.pas_free_log.specs.{Conditions.IsEntryOf, Logs.entry_of, Flushes.EndsName, Flushes.event_for}
+use Rattle.pas_free_log.specs.declared.ending.Outcome.{Outcome, TheVariants.Ended, TheVariants.Refused}
 use Rattle.pas_cache.specs.{Caches.Cached, Caches.AtRest, Calls.MayAllocate, Calls.Allocates, Serves.IsPreparing, Serves.wanted_for}
 use Rattle.pas_shared.specs.{Ruled.IsEarlier, Passes.view_of, Passes.seat_of, Passes.standing_of, Pasts.told, Pasts.IsPastOf, Pasts.HasOwn, Ledgers.EndsAfter}
 use Rattle.pas_shared.specs.declared.{desk.SharedDesk.SharedDesk, past.Past.Past, pass.SharedPass.SharedPass, region.SharedRegion.SharedRegion}
 use Rattle.pas_shared.proofs.{Pops.first_is, Pops.others_are, Pasts.part_both}
 use Rattle.pas_trials.specs.Handing.{IsFirst, IsOfActor, IsGiftOf, HasFreed, IsHandedOver}
 use Rattle.pas_trials.specs.declared.handing.Gift.{Gift}
-use Rattle.pas_steps.proofs.Nothing.{nothing_yet}
 use Rattle.pas_trials.proofs.Firsts.{no_events}
 
 -- ==== What each of the two did.

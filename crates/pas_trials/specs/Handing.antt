@@ -6,9 +6,9 @@ use Rattle.pas_steps.specs.Events.{events_of}
 use Rattle.pas_free_log.specs.{Conditions.IsEntryOf, Flushes.event_for, Logs.entry_of}
 use Rattle.pas_free_log.specs.declared.ending.Outcome.{Outcome}
 use Rattle.pas_cache.specs.Serves.{IsPreparing}
-use Rattle.pas_shared.specs.{Ruled.IsEarlier, Passes.IsPassOf, Passes.view_of, Passes.seat_of, Pasts.told, Pasts.IsPastOf, Pasts.HasOwn}
+use Rattle.pas_shared.specs.{Ruled.IsEarlier, Pasts.told, Pasts.IsPastOf, Pasts.HasOwn}
+use Rattle.pas_shared.specs.Passes.{IsPassOf, view_of, seat_of, IsFreshPass}
 use Rattle.pas_shared.specs.declared.{past.Past.Past, pass.SharedPass.SharedPass, region.SharedRegion.SharedRegion}
-use Rattle.pas_shared.specs.Passes.{IsFreshPass}
 use Rattle.pas_trials.specs.declared.handing.{Gift.Gift, Handed.Handed}
 
 -- the pass of this actor, which made no step, with room for so many events

@@ -3,9 +3,8 @@ use Rattle.std.specs.Prelude.{◌≡◌, ℕ, IsSome, IfSome}
 use Rattle.pas_profile.specs.declared.profile.Profile.{Profile}
 use Rattle.pas_steps.specs.{Views.View, Clear.HasNothing, Desks.Standing, Desks.CanCall}
 use Rattle.pas_cache.specs.Caches.{Cached, cached, AtRest}
-use Rattle.pas_shared.specs.Passes.{IsPassOf}
+use Rattle.pas_shared.specs.Passes.{IsPassOf, IsFreshPass}
 use Rattle.pas_shared.specs.declared.region.SharedRegion.{SharedRegion}
-use Rattle.pas_shared.specs.Passes.{IsFreshPass}
 use Rattle.pas_trials.specs.declared.workers.StormWorker.{StormWorker}
 
 -- the actor's room is for so many events in all, and the actor is at rest with the cache

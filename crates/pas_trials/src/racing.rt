@@ -1,8 +1,7 @@
 //! Threads that each take the slots of a page at once.
 ghost use Rattle.std.specs.Prelude.{◌≡◌, All, IfOk};
 ghost use Rattle.pas_trials.specs.Races.{IsReady, IsBack};
-ghost use Rattle.pas_shared.specs.Passes.{IsFreshPass};
-ghost use Rattle.pas_shared.specs.Passes.{IsPassOf};
+ghost use Rattle.pas_shared.specs.Passes.{IsFreshPass, IsPassOf};
 
 use pas_profile::NoRoom;
 use pas_segregated::{Slots, refill};

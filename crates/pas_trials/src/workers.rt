@@ -1,9 +1,8 @@
 //! Threads in a storm at one shared region, each with a cache of its own.
 ghost use Rattle.std.specs.Prelude.{◌≡◌, ◌≤◌, All, IfOk};
 ghost use Rattle.pas_utility.specs.Pools.{threads_of};
-ghost use Rattle.pas_shared.specs.Passes.{IsPassOf};
-ghost use Rattle.pas_trials.specs.{SharedStorms.IsReadyForStorm, SharedStorms.HasPass};
-ghost use Rattle.pas_shared.specs.Passes.{IsFreshPass};
+ghost use Rattle.pas_shared.specs.Passes.{IsPassOf, IsFreshPass};
+ghost use Rattle.pas_trials.specs.SharedStorms.{IsReadyForStorm, HasPass};
 
 use crate::shared_storm::Storm;
 use pas_cache::ThreadCache;

@@ -2,8 +2,7 @@
 ghost use Rattle.std.specs.Prelude.{◌≡◌, All, IfOk};
 ghost use Rattle.pas_steps.specs.Desks.{AnyView, CanCall};
 ghost use Rattle.pas_plain.specs.{Seats.standing_of, Seats.region_of, Plain.profile_of};
-ghost use Rattle.pas_shared.specs.Passes.{profile_of as the_profile_of};
-ghost use Rattle.pas_shared.specs.Passes.{IsFreshPass};
+ghost use Rattle.pas_shared.specs.Passes.{profile_of as the_profile_of, IsFreshPass};
 ghost use Rattle.pas_timing.specs.Repeats.{bench_profile};
 
 use crate::steps::repeating::PAGES;
@@ -38,5 +37,5 @@ pub fn shared(alloc: Global, events: u32) -> Result<(SharedRegion, Vec<SharedPas
     ensures profile { IfOk result (λ opened. the_profile_of opened.0 ≡ bench_profile) }
     ensures passes { IfOk result (λ opened. All (IsFreshPass opened.0 events) opened.1.items) }
 {
-    pas_shared::opened(alloc, PROFILE, events)
+    pas_shared::opened_with_room(alloc, PROFILE, events)
 }

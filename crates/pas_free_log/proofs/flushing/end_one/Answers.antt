@@ -8,7 +8,8 @@ use Rattle.pas_free_log.proofs.flushing.end_one.Goals as goal
 pub returns-clause-ends : goal.returns-clause-ends
 returns-clause-ends g c =
     let empty : length c.new-log.result ≡ 0 = ap length c.new-log.ensures in
-    let logged = c.add.ensures.added (c.add.ensures.room.1 (omega (arith, empty))) ∙ ap (λ (l : List Entry). l ++ entry_of c.args.name ∷ []) c.new-log.ensures in
+    let logged =
+    c.add.ensures.added (c.add.ensures.room.1 (omega (arith, empty))) ∙ ap (λ (l : List Entry). l ++ entry_of c.args.name ∷ []) c.new-log.ensures in
     ends_name c.args.name _ _ _ logged c.new-ended.ensures c.flush.ensures.flushes
 
 pub returns-clause-rests : goal.returns-clause-rests

@@ -1,5 +1,5 @@
 use Rattle.std.proofs.Common.{refl, ◌∙◌}
-use Rattle.pas_trials.specs.{SharedStorms.IsReadyForStorm}
+use Rattle.pas_trials.specs.SharedStorms.{IsReadyForStorm}
 use Rattle.pas_shared.specs.Passes.{IsFreshPass}
 use Rattle.pas_shared.proofs.Pops.{all_more, first_is, others_are}
 use Rattle.pas_trials.proofs.workers.storm_workers.Goals as goal

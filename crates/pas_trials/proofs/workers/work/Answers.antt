@@ -1,9 +1,8 @@
 use Rattle.std.proofs.Common.{◌≡◌, Option, Some, [], refl, sym, subst, ◌∙◌, IfSome}
 use Rattle.pas_steps.specs.Views.{View}
 use Rattle.pas_cache.specs.Caches.{cached, AtRest}
-use Rattle.pas_shared.specs.Passes.{view_of, seat_of}
+use Rattle.pas_shared.specs.Passes.{view_of, seat_of, IsFreshPass}
 use Rattle.pas_shared.specs.declared.pass.SharedPass.{SharedPass}
-use Rattle.pas_shared.specs.Passes.{IsFreshPass}
 use Rattle.pas_steps.proofs.Nothing.{nothing_yet}
 use Rattle.pas_trials.proofs.workers.work.Goals as goal
 
