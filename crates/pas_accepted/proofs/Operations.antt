@@ -86,6 +86,4 @@ module _ (f : Profile) (valid : IsValid f) (p : Progress) (s : Stand) (ts : List
         due = refl;
         left = refl;
       }
-  what_comes (Tick e) is truly begun = absurd is
-  what_comes Pass is truly begun = absurd is
-  what_comes (Idle n) is truly begun = absurd is
+  what_comes other is truly begun = absurd is

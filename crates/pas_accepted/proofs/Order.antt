@@ -56,9 +56,8 @@ stops_on n [] rest on = on true
 stops_on n (k ∷ idle) rest on = (refl, stops_on n idle rest on)
 
 chore_on : (idle : List ℕ) (chore : Chore) (rest : List Act) → Anyhow rest → Anyhow (acts_of_chore idle chore ++ rest)
-chore_on idle (Chore.Tick epoch) rest on known = (tt, on false)
-chore_on idle Chore.Pass rest on known = (tt, on false)
 chore_on idle (Chore.Idle n) rest on known = (tt, stops_on n idle rest on)
+chore_on idle other rest on known = (tt, on false)
 
 own_on : (keeper : Option ℕ) (op : Op) (rest : List Act) → keeper_in op.what ≡ keeper → Anyhow rest → Anyhow (act_kept keeper op ∷ (Settles op.actor ∷ rest))
 own_on None op rest kept on known = (tt, (tt, on false))

@@ -61,14 +61,13 @@ module _ (f : Profile) (valid : IsValid f) (s : Stand) (l : Whole) (may : MayPas
 
   -- ---- without the page's right
   without : (outcome : Outcome) → EndsWithout page outcome after → MayCome f (at_pass s l last) page outcome
-  without Unbacked h = absurd h
   without Bare h = let at = since [] (made (Look (Word.Backed page)) 0 ∷ []) h in bare_at f l page at.1 at.0.answer_is
-  without (Young stamp) h = absurd h
   without (InUse word value) h =
       let before : List Made = looks page ones word ++ made (Look (Word.Backed page)) h.0 ∷ [] in
       let at = since [] (made (Look (Word.Free page word)) value ∷ before) h.3 in
       (h.2.within, used_small f (triples 0 before ++ l) page word value valid at.1 h.2.some at.0.answer_is)
   without NotOffered h = search (arith, since, quiet_visible, first_quiet, deed_at)
+  without other h = absurd h
 
   -- ---- with it
   module _ (outcome : Outcome) (h : EndsWith f.age s.epoch page outcome after) where

@@ -17,8 +17,7 @@ module _ (f : Profile) (n : ℕ) where
   -- ---- what is begun
   named_same : (s : Stand) (k name room : ℕ) (o : Option (Option Block)) → freeing_named other s k name room o ≡ freeing_named f s k name room o
   named_same s k name room None = refl
-  named_same s k name room (Some None) = refl
-  named_same s k name room (Some (Some block)) = refl
+  named_same s k name room any = refl
 
   what_same : (s : Stand) (k : ℕ) (what : What) → begun_what other s k what ≡ begun_what f s k what
   what_same s k (Free name) = named_same s k name 0 (standing_for s.names name)
@@ -65,41 +64,25 @@ module _ (f : Profile) (n : ℕ) where
 
   comes : (s : Stand) (page : ℕ) (outcome : Outcome) → MayCome other s page outcome → MayCome f s page outcome
   comes s page Unbacked h = h
-  comes s page Bare h = h
-  comes s page (Young stamp) h = h
-  comes s page (InUse word value) h = h
-  comes s page NotOffered h = h
+  comes s page any h = h
 
   outcome_of : (s : Stand) (last : ℕ) (more : List Due) (line : List ℕ) (next : Stand) → TakesOutcome other s last more line next → TakesOutcome f s last more line next
   outcome_of s last more line next h =
       record { page = h.page; rises = h.rises; of_region = h.of_region; outcome = h.outcome; may = comes s h.page h.outcome h.may; line_is = h.line_is; next_is = h.next_is }
 
   first : (s : Stand) (due : List Due) (line : List ℕ) (next : Stand) → TakesFirst other s due line next → TakesFirst f s due line next
-  first s [] line next h = h
-  first s (Writes item ∷ more) line next h = h
-  first s (Frees k entry ∷ more) line next h = h
-  first s (Serves k r old ∷ more) line next h = h
-  first s (Tries keeper k r backed ∷ more) line next h = h
-  first s (Never ∷ more) line next h = h
   first s (Examines page ∷ more) line next h = outcome_of s page more line next h
-  first s (Heads ∷ more) line next h = h
-  first s (Shows page d ∷ more) line next h = h
-  first s (Totals ∷ more) line next h = h
+  first s any line next h = h
 
   due_of : (s : Stand) (due : List Due) (line : List ℕ) (next : Stand) → TakesDue other s due line next → TakesDue f s due line next
-  due_of s [] line next h = h
-  due_of s (Writes item ∷ more) line next h = h
   due_of s (Frees k entry ∷ more) line next h = record { event = h.event; of_entry = h.of_entry; admitted = admits s.events h.event h.admitted; line_is = h.line_is; next_is = h.next_is }
   due_of s (Serves k r old ∷ more) line next h = request s k r old more line next h
   due_of s (Tries keeper k r backed ∷ more) line next (inl h) = inl record { event = h.event; prepares = h.prepares; admitted = admits s.events h.event h.admitted; line_is = h.line_is; next_is = h.next_is }
   due_of s (Tries keeper k r backed ∷ more) line next (inr (inl h)) =
       inr (inl record { block = h.block; is_for = is_for s r h.block h.is_for; admitted = admits s.events (Event.Give keeper h.block) h.admitted; line_is = h.line_is; next_is = h.next_is })
   due_of s (Tries keeper k r backed ∷ more) line next (inr (inr h)) = inr (inr (h.0, request (serving s k r more) k r None more line next h.1))
-  due_of s (Never ∷ more) line next h = h
   due_of s (Examines page ∷ more) line next h = outcome_of s page more line next h
-  due_of s (Heads ∷ more) line next h = h
-  due_of s (Shows page d ∷ more) line next h = h
-  due_of s (Totals ∷ more) line next h = h
+  due_of s any line next h = h
 
   takes : (s : Stand) (line : List ℕ) (next : Stand) → Takes other s line next → Takes f s line next
   takes s line next (inl h) = inl (first s s.due line next h)

@@ -34,8 +34,7 @@ use Rattle.pas_accepted.proofs.Pieces.{lines_both, lines_by, lines_more, visible
 kind_routed : (f : Profile) (size align : ℕ) (shared : Bool) (route : Route) → route_in f size align ≡ route → IsKind (kind_of_route shared route)
 kind_routed f size align true (Route.Class class) is = tt
 kind_routed f size align false (Route.Class class) is = class_known f.classes size align class (class_suits f.classes size align class is)
-kind_routed f size align shared Route.Bitfit is = tt
-kind_routed f size align shared Route.Large is = tt
+kind_routed f size align shared other is = tt
 
 pub kind_asked : (f : Profile) (r : Request) → IsKind (directory_of f r).kind
 kind_asked f r = kind_routed f r.size r.align (is_shared f r.heap) (route_in f r.size r.align) refl
@@ -81,14 +80,12 @@ all_deeds d [] all = tt
 all_deeds d (e ∷ es) all = (deeds_prepare d e all.0, all_deeds d es all.1)
 
 refusal_prepares : (route : Route) (d : Directory) (es : List Event) → RefusalEnds route d es → AllByRecursion (Prepares d) es
-refusal_prepares (Route.Class class) d es none = subst (AllByRecursion (Prepares d)) (sym none) tt
-refusal_prepares Route.Bitfit d es none = subst (AllByRecursion (Prepares d)) (sym none) tt
 refusal_prepares Route.Large d es all = all_deeds d es all
+refusal_prepares other d es none = subst (AllByRecursion (Prepares d)) (sym none) tt
 
 reason_by : (route : Route) (f : Profile) (w : Wanted) (locals : List Slots) (entry exit : Whole) (room : NoRoom) → IsTrulyRefusedBy route f w locals entry exit room → IsTrueReason f w.directory exit room
-reason_by (Route.Class class) f w locals entry exit room h = h.reason
-reason_by Route.Bitfit f w locals entry exit room h = h.reason
 reason_by Route.Large f w locals entry exit room h = h.2
+reason_by other f w locals entry exit room h = h.reason
 
 -- after the request
 abbrev pub served : Stand → ℕ → Request → Option Name → Result Block NoRoom → List Event → Stand

@@ -59,17 +59,11 @@ record IsTried (f : Profile) (s : Stand) (l : Whole) (page last : ℕ) (o : Opti
 
 same_record : (epoch page : ℕ) (o : Outcome) → record_of 0 epoch page o ≡ allowed_record epoch page o
 same_record epoch page Unbacked = refl
-same_record epoch page Bare = refl
-same_record epoch page (Young stamp) = refl
-same_record epoch page (InUse word value) = refl
-same_record epoch page NotOffered = refl
+same_record epoch page other = refl
 
 then_is : (s : Stand) (page : ℕ) (o : Outcome) → after_outcome s page o ≡ record s { events = unback_of 0 s.epoch page o ++ s.events }
 then_is s page Unbacked = refl
-then_is s page Bare = refl
-then_is s page (Young stamp) = refl
-then_is s page (InUse word value) = refl
-then_is s page NotOffered = refl
+then_is s page other = refl
 
 try_page : (f : Profile) → IsValid f → (s : Stand) (l : Whole) (page last : ℕ) (o : Option Outcome) (steps : List Made) → MayPass s l → (1 ≤ page → last < page) → Legal f (triples 0 steps ++ l) → TrySteps f.age s.epoch page o steps
     → IsTried f s l page last o steps

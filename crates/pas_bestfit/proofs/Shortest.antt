@@ -1,8 +1,8 @@
 -- The rank of a page, and the block of the best page.
-use Rattle.std.proofs.Common.{◌≡◌, ℕ, ◌+◌, ◌-◌, ◌*◌, ◌<◌, ◌≤◌, true, false, Ok, Err, Result, MatchResult, Bool, inl, inr, refl, sym, ◌∙◌, subst, arith, true≢false}
+use Rattle.std.proofs.Common.{◌≡◌, ℕ, ◌+◌, ◌-◌, ◌*◌, ◌≤◌, Ok, Err, Result, MatchResult, Bool, inl, inr, sym, ◌∙◌, subst, arith, true≢false}
 use Rattle.std.proofs.lemmas.Bool.{cases_lt}
 use Rattle.pas_bits.specs.declared.mask.Mask4.{Mask4}
-use Rattle.pas_bits.specs.{Masks.is_set, Masks.IsRunEnd}
+use Rattle.pas_bits.specs.Masks.{is_set, IsRunEnd}
 use Rattle.pas_profile.specs.declared.{event.NoRoom.NoRoom, name.Block.Block}
 use Rattle.pas_steps.specs.Desks.{Standing}
 use Rattle.pas_bestfit.specs.{Allocates.GivesBest, Allocates.grains_for, Bests.IsBestFit, Bests.IsNoBetter}

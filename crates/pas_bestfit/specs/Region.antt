@@ -1,7 +1,7 @@
 -- The shortest free run that is long enough, of all offered pages.
-use Rattle.std.specs.Prelude.{ℕ, ◌+◌, ◌*◌, ◌<◌, ◌≤◌, ◌≡◌, true, false, Bool, Option, None, Some, MatchOption, Result, MatchResult}
+use Rattle.std.specs.Prelude.{ℕ, ◌+◌, ◌*◌, ◌<◌, ◌≤◌, ◌≡◌, Bool, Option, None, Some, MatchOption, Result, MatchResult}
 use Rattle.std.proofs.Common.{arith, sym, ◌∙◌}
-use Rattle.pas_bits.specs.Runs.{AreFree, IsFreeRun}
+use Rattle.pas_bits.specs.Runs.{IsFreeRun}
 use Rattle.pas_choice.specs.{ByRank.AllocatesByRank, Placements.placed, Placements.run_from}
 use Rattle.pas_profile.specs.declared.{event.NoRoom.NoRoom, name.Block.Block}
 use Rattle.pas_search.specs.Ranks.{Measure, IsOfGrains}

@@ -6,7 +6,7 @@ use Rattle.pas_profile.specs.declared.profile.Profile.{Profile}
 use Rattle.pas_trace.specs.declared.plan.{Op.Op, What.TheVariants.Alloc}
 use Rattle.pas_report.specs.Rooms.{records_in, room_of, Records}
 use Rattle.pas_report.specs.declared.record.Record.{Record}
-use Rattle.pas_trace.specs.Acts.{Act, Wakes, Lowers, is_active, numbers_from, active_threads, idle_threads, acts_of_op, acts_of_ops, phase_acts}
+use Rattle.pas_trace.specs.Acts.{Act, Wakes, Lowers, is_active, numbers_from, acts_of_op, acts_of_ops, phase_acts}
 use Rattle.pas_answers.specs.{Answers.Progress, Answers.with_records, Reaching.Advances, Fit.AreFit, Fit.cost_of_act, Names.names_held}
 use Rattle.pas_large.specs.Doors.{Indexes}
 use Rattle.pas_plain.specs.declared.pass.PlainPass.{PlainPass}
@@ -115,6 +115,4 @@ wakes_first {r} awake ops more alike so =
     let n = r.threads in
     let active = threads_alike (is_set awake) (is_active ops) n alike in
     let idle = threads_alike (λ k. not (is_set awake k)) (λ k. not (is_active ops k)) n (λ k. ap not (alike k)) in
-    as_acts (append_assoc (map Wakes (active_threads n ops)) (acts_of_ops (idle_threads n ops) ops) more
-    ∙ ap (λ (ks : List ℕ). map Wakes ks ++ (acts_of_ops (idle_threads n ops) ops ++ more)) (sym active)
-    ∙ ap (λ (ks : List ℕ). map Wakes (awake_in awake n) ++ (acts_of_ops ks ops ++ more)) (sym idle)) so
+    as_acts (simp (append_assoc, ← active, ← idle)) so

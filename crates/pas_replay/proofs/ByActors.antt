@@ -1,6 +1,6 @@
 -- What each actor's turn needs and leaves: instances of the turn.
-use Rattle.std.proofs.Common.{◌≡◌, ℕ, ◌-◌, ◌≤◌, ◌==◌, Bool, true, false, if◌then◌else◌, List, [], ◌∷◌, ◌++◌, length, set, get_or, Option, None, Some, refl, ap}
-use Rattle.std.proofs.Common.{sym, ◌∙◌, subst, arith, eq-eqb, append-nil}
+use Rattle.std.proofs.Common.{◌≡◌, ℕ, ◌-◌, ◌≤◌, ◌==◌, Bool, true, false, if◌then◌else◌, List, [], ◌∷◌, ◌++◌, length, set, get_or, Option, refl, ap, sym, ◌∙◌}
+use Rattle.std.proofs.Common.{subst, arith, eq-eqb, append-nil}
 use Rattle.pas_profile.specs.declared.{name.Block.Block, profile.Profile.Profile}
 use Rattle.pas_trace.specs.{Asked.work_of, Asked.keeper_of, EveryPlan.asked_after}
 use Rattle.pas_trace.specs.declared.plan.{Op.Op, What.What, Task.Task, Work.Work, Chore.Chore}
@@ -97,8 +97,7 @@ kept_as op is = ap (λ (o : Option ℕ). act_kept o op ∷ (Settles op.actor ∷
 
 -- whose they are
 pub own_actor : (keeper : Option ℕ) (op : Op) {r : Replay} {more : List Act} {h : Hand} → SoFar r (act_kept keeper op ∷ (Settles op.actor ∷ more)) h → (1 ≤ op.actor) × (op.actor ≤ r.threads)
-own_actor None op so = (so.1.names.fit.0.0, so.1.operate.0)
-own_actor (Some keeper) op so = (so.1.names.fit.2.0, so.1.operate.0)
+own_actor keeper op i = grind arith
 
 pub acts_as_chore : (idle : List ℕ) (op : Op) {work : Work} {chore chore' : Chore} → work ≡ work_of op.what → work ≡ Work.Chore chore → chore ≡ chore' → acts_of_op idle op ≡ acts_of_chore idle chore'
 acts_as_chore idle op asks is same = acts_as_work idle op asks is ∙ ap (λ (c : Chore). acts_of_chore idle c) same

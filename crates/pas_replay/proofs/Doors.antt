@@ -1,15 +1,14 @@
 -- What a door to plain indexes tells, as the definition of a replay says it.
-use Rattle.std.proofs.Common.{◌≡◌, ℕ, List, [], ◌∷◌, ◌++◌, length, drop, take, Option, Some, None, ap, sym, ◌∙◌, subst, refl, length-set, take_at}
-use Rattle.pas_large_index.specs.Spans.{span_of, cut_lowest, added}
-use Rattle.pas_profile.specs.Requests.{route_in}
+use Rattle.std.proofs.Common.{arith, ◌≡◌, ℕ, List, [], ◌∷◌, ◌++◌, length, drop, take, Option, ap, sym, ◌∙◌, subst, refl, length-set, take_at}
+use Rattle.pas_large_index.specs.Spans.{span_of, added}
 use Rattle.pas_profile.specs.declared.{directory.Route.Route, event.Range.Range, profile.Profile.Profile}
 use Rattle.pas_free_log.specs.declared.noting.EndedRun.{EndedRun}
 use Rattle.pas_large.specs.Doors.{Indexes, ranges_of, found_in, cut_in, added_in}
 use Rattle.pas_trace.specs.declared.{item.Request.Request, plan.Op.Op}
-use Rattle.pas_cache.specs.{Calls.IsNamed, Calls.SettlesEach, Serves.pages_of}
+use Rattle.pas_cache.specs.Calls.{IsNamed, SettlesEach}
 use Rattle.pas_trace.specs.Acts.{Operates, Settles}
 use Rattle.pas_acts.specs.{Works.Later, AtDesks.Here, AtDesks.GoesThrough}
-use Rattle.pas_answers.specs.{Answers.Named, Answers.wanted_by, Answers.Progress, Reaching.Reaches}
+use Rattle.pas_answers.specs.{Answers.Named, Answers.Progress, Reaching.Reaches}
 use Rattle.pas_answers.specs.Indexes.{request_by, IsNamedFor, IsNamedBy, AllAreNamedBy, after_request, after_operation, with_noted, indexes_after_all}
 use Rattle.pas_replay.specs.Operating.{ActsByIndexes}
 
@@ -33,15 +32,10 @@ module _ {Door : Type 0} (Kept : Door → Door → Type 0) (held : Door → Inde
 
     asked_on : (route : Route) (heap n : ℕ) (found : Option ℕ) (before after : Door) → IsNamed route (Answers before after heap n) (after ≡ before) found
         → Kept before after × IsNamed route (λ o. o ≡ found_in (held before) heap n) (Unit {0}) found × (held after ≡ after_request route heap n (held before))
-    asked_on (Route.Class class) heap n found before after named = (kept_same before after named.1, (named.0, tt), ap held named.1)
-    asked_on Route.Bitfit heap n found before after named = (kept_same before after named.1, (named.0, tt), ap held named.1)
-    asked_on Route.Large heap n found before after named = (named.0, named.1, named.2)
+    asked_on route heap n found before after h = grind (arith, kept_same)
 
     asked_for : (f : Profile) (request : Option Request) (found : Option ℕ) (before after : Door) → IsNamedFor f (Answers before after) (after ≡ before) request found → Asked f request found before after
-    asked_for f None found before after same = record { kept = kept_same before after same; named = tt; left = ap held same }
-    asked_for f (Some r) found before after named =
-        let came = asked_on (route_in f r.size r.align) r.heap (pages_of (wanted_by f r)) found before after named in
-        record { kept = came.0; named = came.1; left = came.2 }
+    asked_for f request found before after h = grind (arith, kept_same, asked_on)
 
     pub handed : (together : (a b c : Door) → Kept a b → Kept b c → Kept a c) (runs : List EndedRun) (before after : Door) → SettlesEach HandsOn runs before after → Kept before after × (held after ≡ with_noted (held before) runs)
     handed together [] before after same = (kept_same before after same, ap held same)
@@ -59,13 +53,10 @@ module _ {Door : Type 0} (Kept : Door → Door → Type 0) (held : Door → Inde
 
 -- ---- how many indexes there are
 request_many : (route : Route) (heap n : ℕ) (indexes : Indexes) → length (after_request route heap n indexes) ≡ length indexes
-request_many (Route.Class class) heap n indexes = refl
-request_many Route.Bitfit heap n indexes = refl
-request_many Route.Large heap n indexes = length-set indexes heap (cut_lowest n (ranges_of indexes heap))
+request_many route heap n indexes = grind (arith, length-set)
 
 after_many : (f : Profile) (request : Option Request) (indexes : Indexes) → length (after_operation f request indexes) ≡ length indexes
-after_many f None indexes = refl
-after_many f (Some r) indexes = request_many (route_in f r.size r.align) r.heap (pages_of (wanted_by f r)) indexes
+after_many f request indexes = grind (arith, request_many)
 
 noted_many : (runs : List EndedRun) (indexes : Indexes) → length (with_noted indexes runs) ≡ length indexes
 noted_many [] indexes = refl

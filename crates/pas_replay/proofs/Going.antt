@@ -1,9 +1,8 @@
 -- How a replay goes on: the acts that were answered are followed by others, and all actors are at rest between them.
-use Rattle.std.proofs.Common.{◌≡◌, ℕ, zero, suc, ◌<◌, ◌≤◌, ◌==◌, Bool, true, false, if◌then◌else◌, List, [], ◌∷◌, ◌++◌, refl, ap, sym, subst, arith, eqb-true}
-use Rattle.std.proofs.Common.{le-leb}
+use Rattle.std.proofs.Common.{◌≡◌, ℕ, zero, suc, ◌<◌, ◌≤◌, Bool, true, if◌then◌else◌, List, [], ◌∷◌, ◌++◌, subst, arith, eqb-true, le-leb}
 use Rattle.std.proofs.lemmas.Bool.{lt-leb}
 use Rattle.pas_profile.specs.declared.profile.Profile.{Profile}
-use Rattle.pas_steps.specs.{Lists.part, Views.View}
+use Rattle.pas_steps.specs.Views.{View}
 use Rattle.pas_guard.specs.Books.{FitsBook}
 use Rattle.pas_large.specs.Doors.{Indexes}
 use Rattle.pas_cache.specs.Caches.{Cached, AtRest}
@@ -24,12 +23,7 @@ rests_of_keeper threads f p (suc i) v past rest = subst (λ (kind : Bool). rests
 
 -- all are, wherever a replay has come
 pub all_rest : {r : Replay} {acts : List Act} {h : Hand} {p : Progress} → IsAt r acts h p → AreAtRest r.threads r.profile p.caches p.books p.list
-all_rest {r} {p = p} at = record {
-  working = λ k (is : (1 ≤ k) × (k ≤ r.threads)).
-      rests_of_thread r.threads r.profile p k (part k p.list) is (at.each k (omega (arith, is.1, at.threads))).rest;
-  keeping = λ k (is : (r.threads < k) × (k ≤ r.profile.threads)). rests_of_keeper r.threads r.profile p k (part k p.list) is.0 (at.each k is.1).rest;
-  scavenger = (at.each 0 (omega arith)).rest;
-}
+all_rest {r} {p = p} at = search (arith, rests_of_thread, rests_of_keeper)
 
 -- .. before the first of the acts
 pub rest_first : (threads : ℕ) (f : Profile) (acts : List Act) (p q : Progress) (is : Reaches f acts p q) → AllAtRest threads f acts p q is → AreAtRest threads f p.caches p.books p.list
@@ -42,15 +36,10 @@ rest_one threads f act p q is before after = (before, subst (λ (s : Progress). 
 
 -- what a cache noted doesn't matter
 before_settled : (f : Profile) (t : Bool) (c own : Cached) (v : View) → (t ≡ true → own ≡ c) → AtRest f (if t then settled c else own) v → AtRest f own v
-before_settled f true c own v same rest = subst (λ (d : Cached). AtRest f d v) (sym (same refl)) record { locals = rest.locals; few = rest.few; entries = rest.entries; few_entries = rest.few_entries }
-before_settled f false c own v same rest = rest
+before_settled f t c own v h i = grind arith
 
 unsettled : (threads : ℕ) (f : Profile) (p : Progress) (k : ℕ) → AreAtRest threads f (after_settling p k).caches (after_settling p k).books (after_settling p k).list → AreAtRest threads f p.caches p.books p.list
-unsettled threads f p k rest = record {
-  working = λ j is. before_settled f (j == k) (p.caches k) (p.caches j) (part j p.list) (λ same. ap p.caches (eqb-true j k same)) (rest.working j is);
-  keeping = rest.keeping;
-  scavenger = rest.scavenger;
-}
+unsettled threads f p k rest = search (arith, before_settled, eqb-true)
 
 -- .. before an operation, once it is done, and after what its cache noted was handed on
 pub rest_two : (threads : ℕ) (f : Profile) (op : Op) (p q : Progress) (is : Reaches f (Operates op ∷ (Settles op.actor ∷ [])) p q) → AreAtRest threads f p.caches p.books p.list → AreAtRest threads f q.caches q.books q.list

@@ -1,6 +1,6 @@
 -- The turn of a keeper, and what is left of a guarded request after it.
-use Rattle.std.proofs.Common.{◌≡◌, ◌≢◌, ℕ, zero, suc, ◌+◌, ◌-◌, ◌<◌, ◌≤◌, ◌==◌, nat_le, Bool, true, false, inl, inr, List, [], ◌∷◌, ◌++◌, length, set, get_or}
-use Rattle.std.proofs.Common.{Option, Some, None, refl, ap, sym, ◌∙◌, subst, arith, length-append, eq-eqb, length-set}
+use Rattle.std.proofs.Common.{◌≡◌, ◌≢◌, ℕ, zero, suc, ◌+◌, ◌-◌, ◌<◌, ◌≤◌, ◌==◌, nat_le, Bool, true, false, List, [], ◌∷◌, ◌++◌, length, set, get_or, Option}
+use Rattle.std.proofs.Common.{Some, None, refl, ap, sym, ◌∙◌, subst, arith, length-append, eq-eqb, length-set}
 use Rattle.std.proofs.lemmas.Bool.{cases_eq, lt-leb}
 use Rattle.pas_profile.specs.declared.{profile.Profile.Profile, name.Block.Block}
 use Rattle.pas_steps.specs.{Lists.part, Unknown.unknown_pages, Views.View}
@@ -19,7 +19,7 @@ use Rattle.pas_trace.specs.{Asked.request_in, EveryPlan.asked_after, Reasons.cos
 use Rattle.pas_trace.specs.declared.{item.Request.Request, plan.Op.Op}
 use Rattle.pas_answers.specs.Answers.{Named, Progress, Caches, settled, after_settling}
 use Rattle.pas_answers.specs.Calls.{Tells, MayStand, AreKnown, what_of, named_with}
-use Rattle.pas_answers.specs.Fit.{AreFit, AreOfThreads, cost_of_what, costs_of, own_costs_of, kept_cost_of, kept_costs_of}
+use Rattle.pas_answers.specs.Fit.{AreFit, AreOfThreads, cost_of_what, costs_of, kept_cost_of, kept_costs_of}
 use Rattle.pas_answers.specs.Guarding.{Tried, IsTried, after_trying, after_giving}
 use Rattle.pas_answers.specs.Indexes.{request_by, with_noted, after_operation, after_tried, after_guarded, TriedIsNamedBy, GuardedIsNamedBy, AllAreNamedBy}
 use Rattle.pas_answers.specs.{Keeping.owed_by_keeper, Keeping.cost_of_try, Reaching.AnswersTried, Reaching.AnswersGuarded, Rests.AreAtRest}
@@ -65,24 +65,17 @@ keeper_now {r} {acts} {desk0} {desk} {passes0} {passes} {caches} {books} {places
     let book : p.books k ≡ guards_in there = ap p.books place ∙ book_is r.threads p.books books i there some most at.books_are is in
     let least = owed_at r.threads f p k (r.threads + r.keepers) (omega (arith, past)) within in
     let mine = keeper_owes r.threads f p k past ∙ ap (λ (gs : List Guard). owed_by_keeper f gs v) book in
-    let spare = at.spare in
     let room = place_is r.threads books acts i there some most at.books_have is in
     let tries = ap (λ (m : ℕ). tries_of m acts) place in
-    record {
-      sits = subst (λ (gs : List Guard). Sits f k (FitsBook f gs) (standing_of desk) p.list (unknown_pages f v + (events + kept_costs_of k more))) book (sits_for sits (omega (arith, own)));
-      book = book;
-      spare = omega (arith, least, mine, spare, all);
-      places = omega (arith, room, tries, tried);
-    }
+    -- its seat and its book are those; there is room for what it owes, within what all owe, and for what the acts ask
+    search arith
 
 -- .. where its last sweep comes next, which costs nothing
 pub keeper_closes : {r : Replay} {more : List Act} {desk0 desk : PlainDesk} {passes0 passes : Slots} {caches : List ThreadCache} {books : List GuardBook} {places : ℕ} {indexes : Indexes} {table : Names} {out : Records} {p : Progress} (k i : ℕ) (there : GuardBook) → k ≡ r.threads + i → 1 ≤ i → i ≤ length books → TakesSeat desk0 desk passes0 passes k
     → there ≡ get_or books (i - 1) there → IsAt r (Lowers k ∷ more) (hand desk0 passes0 caches books places indexes table out) p → KeeperAt r.profile k (keeper_has (standing_of desk) there out) (later_kept r k p more) p
 keeper_closes {r} {more} {p = p} k i there place some most seat is at =
     let now = keeper_now k i there 0 0 0 more place some most seat is (omega arith) (omega arith) (omega arith) at in
-    let spare = now.spare in
-    let places = now.places in
-    record { sits = sits_for now.sits (omega arith); book = now.book; spare = omega (arith, spare); places = omega (arith, places) }
+    record { sits = sits_for now.sits (omega arith); book = now.book; spare = omega (arith, now.spare); places = omega (arith, now.places) }
 
 -- ---- its turn
 -- what it came to: where it sits, its book, and its room
@@ -115,10 +108,7 @@ module _ {r : Replay} {acts more : List Act} {desk0 desk desk' : PlainDesk} {pas
 
   -- what is owed then, and what it owed itself
   owed_then : owed_by r.threads r.profile q (r.threads + r.keepers) + owed_by_keeper r.profile (guards_in there) (part k p.list) ≡ owed_by r.threads r.profile p (r.threads + r.keepers) + owed_by_keeper r.profile (guards_in book) (part k q.list)
-  owed_then =
-      let change = owed_moves r.threads r.profile p q k kept_so (r.threads + r.keepers) (omega (arith, past)) within in
-      let new = keeper_owes r.threads r.profile q k past ∙ ap (λ (gs : List Guard). owed_by_keeper r.profile gs (part k q.list)) x.book_is in
-      omega (arith, change, keeper_was, new)
+  owed_then = search (arith, owed_moves, kept_so, keeper_owes, keeper_was)
 
   -- .. and no more than all owed before
   owed_least : owed_by_keeper r.profile (guards_in there) (part k p.list) ≤ owed_by r.threads r.profile p (r.threads + r.keepers)
@@ -127,17 +117,10 @@ module _ {r : Replay} {acts more : List Act} {desk0 desk desk' : PlainDesk} {pas
       omega (arith, least, keeper_was)
 
   moves_so : MovesAs (nat_le k r.threads) r k desk desk' p q
-  moves_so =
-      let kind : false ≡ nat_le k r.threads = sym (lt-leb k r.threads past) in
-      subst (λ (b : Bool). MovesAs b r k desk desk' p q) kind
-      (subst (λ (gs : List Guard). Moves k (FitsBook r.profile (p.books k)) (FitsBook r.profile gs) (standing_of desk) (standing_of desk') p q) (sym x.book_is)
-      (subst (λ (gs : List Guard). Moves k (FitsBook r.profile gs) (FitsBook r.profile (guards_in book)) (standing_of desk) (standing_of desk') p q) (sym was) x.moves))
+  moves_so = search (arith, lt-leb)
 
   sits_so : SitsAs (nat_le k r.threads) r k desk' more q
-  sits_so =
-      let kind : false ≡ nat_le k r.threads = sym (lt-leb k r.threads past) in
-      subst (λ (b : Bool). SitsAs b r k desk' more q) kind
-      (subst (λ (gs : List Guard). Sits r.profile k (FitsBook r.profile gs) (standing_of desk') q.list (unknown_pages r.profile (part k q.list) + kept_costs_of k more)) (sym x.book_is) x.sits)
+  sits_so = search (arith, lt-leb)
 
 -- the keeper had its turn, after which `more` acts are left
 keeper_turn : {r : Replay} {acts more : List Act} {desk0 desk desk' : PlainDesk} {passes0 passes : Slots} {caches : List ThreadCache} {books : List GuardBook} {places : ℕ} {indexes indexes' : Indexes} {table table' : Names} {out out' : Records} {p q : Progress} (k i : ℕ) (there book : GuardBook) → k ≡ r.threads + i → 1 ≤ i → i ≤ length books
@@ -222,9 +205,7 @@ done_by_keeper threads f keeper op request p block indexes more t before tried a
 
 -- what it costs is the same where its thread answers it
 thread_events : (threads : ℕ) (f : Profile) (keeper : ℕ) (op : Op) (more : List Act) (j : ℕ) → own_events threads f j (Operates op ∷ more) ≤ own_events threads f j (Guards keeper op ∷ more)
-thread_events threads f keeper op more zero = omega arith
-thread_events threads f keeper op more (suc i) =
-    either_less (nat_le (suc i) threads) (own_costs_of (suc i) (Operates op ∷ more)) (kept_costs_of (suc i) (Operates op ∷ more)) (own_costs_of (suc i) (Guards keeper op ∷ more)) (kept_costs_of (suc i) (Guards keeper op ∷ more)) (omega arith) (omega arith)
+thread_events threads f keeper op more j = grind (arith, either_less)
 
 -- the operation asks for this, is of the thread at place i, and keeper k tries it
 pub record AsksKeeper (k i : ℕ) (op : Op) (request : Request) : Type 0 where
@@ -335,24 +316,14 @@ module _ (threads : ℕ) (f : Profile) (p : Progress) (k : ℕ) where
   then = after_settling p k
 
   rests_then : (j : ℕ) (v : View) → rests threads f p j v → rests threads f then j v
-  rests_then zero v rest = rest
-  rests_then (suc i) v rest =
-      let kind = nat_le (suc i) threads in
-      elim (cases_eq (suc i) k) [
-        | inl same ↦ subst (λ (c : Cached). rests_as kind f c (p.books (suc i)) v) (sym (ap (λ (j : ℕ). then.caches j) same ∙ its_cache p.caches k (settled (p.caches k)) ∙ ap (λ (j : ℕ). settled (p.caches j)) (sym same))) (settled_as f kind (p.caches (suc i)) (p.books (suc i)) v rest)
-        | inr other ↦ subst (λ (c : Cached). rests_as kind f c (p.books (suc i)) v) (sym (other_cache p.caches k (suc i) (settled (p.caches k)) other)) rest
-      ]
+  rests_then j v h = grind (arith, cases_eq, its_cache, settled_as, other_cache)
 
   -- what is the same of a settled cache is the same of each
   same_of : {A : Type 0} (of : ℕ → Cached → A) → ((c : Cached) (j : ℕ) → of j (settled c) ≡ of j c) → (j : ℕ) → of j (then.caches j) ≡ of j (p.caches j)
-  same_of of same j = elim (cases_eq j k) [
-    | inl here ↦ ap (of j) (ap (λ (i : ℕ). then.caches i) here ∙ its_cache p.caches k (settled (p.caches k)) ∙ ap (λ (i : ℕ). settled (p.caches i)) (sym here)) ∙ same (p.caches j) j
-    | inr other ↦ ap (of j) (other_cache p.caches k j (settled (p.caches k)) other)
-  ]
+  same_of of same j = search (arith, cases_eq, its_cache, other_cache)
 
   owes_then : (j : ℕ) (v : View) → owes threads f then j v ≡ owes threads f p j v
-  owes_then zero v = refl
-  owes_then (suc i) v = same_of (λ j c. owes_as (nat_le (suc i) threads) f c v) (λ c j. owes_settled f (nat_le (suc i) threads) c v) (suc i)
+  owes_then j v = grind (arith, same_of, owes_settled)
 
   owed_then_by : (n : ℕ) → owed_by threads f then n ≡ owed_by threads f p n
   owed_then_by zero = refl
@@ -376,7 +347,6 @@ settle_turn {r} {more} {h} {p} k there cache some most is now at =
     let names = at.names in
     let was = there_is p.caches h.caches k there some most at.caches_are is in
     let owed = owed_then_by r.threads f p k (r.threads + r.keepers) in
-    let spare = at.spare in
     record {
       profile_is = at.profile_is;
       actors = at.actors;
@@ -394,7 +364,7 @@ settle_turn {r} {more} {h} {p} k there cache some most is now at =
       books_are = at.books_are;
       books_have = still_places r.threads h.books (Settles k ∷ more) more (less_tries (Settles k ∷ []) more) at.books_have;
       records_are = at.records_are;
-      spare = omega (arith, spare, owed);
+      spare = omega (arith, at.spare, owed);
       answers = λ s rest.
           let left = subst (λ (runs : List EndedRun). GoesBy r.threads f (with_noted h.indexes runs) more q s) (ap (λ (c : Cached). c.noted) (sym was)) rest in
           at.answers s (((q, refl, left.0.0), (tt, left.0.1)), (all_rest at, left.1));

@@ -1,6 +1,6 @@
 -- The bounds of a plan say whether it is of one thread, and the acts of such a plan are that thread's.
-use Rattle.std.proofs.Common.{◌≡◌, ◌≢◌, ℕ, ◌+◌, ◌≤◌, ◌==◌, Bool, true, false, if◌then◌else◌, List, [], ◌∷◌, Option, None, Some, slice_index, refl, ap, sym, ◌∙◌}
-use Rattle.std.proofs.Common.{subst, arith, map, MatchOption, eq-eqb}
+use Rattle.std.proofs.Common.{◌≡◌, ◌≢◌, ℕ, ◌+◌, ◌≤◌, ◌==◌, Bool, true, if◌then◌else◌, List, [], ◌∷◌, Option, None, slice_index, refl, ap, sym, ◌∙◌, subst}
+use Rattle.std.proofs.Common.{arith, map, MatchOption, eq-eqb}
 use Rattle.std.specs.List.{AllByRecursion}
 use Rattle.pas_profile.specs.declared.profile.Profile.{Profile}
 use Rattle.pas_profile.proofs.Lists.{all_both}
@@ -9,8 +9,8 @@ use Rattle.pas_trace.specs.EveryPlan.{all_ops, IsActorBy, IsActorOf, AreKept, re
 use Rattle.pas_trace.specs.Plans.{IsPlanOf, bounds_of}
 use Rattle.pas_trace.specs.declared.plan.{Chore.Chore, Work.Work, Op.Op, Plan.Plan}
 use Rattle.pas_trace.proofs.EveryPlan.{every_plan}
-use Rattle.pas_trace.specs.Acts.{Act, Operates, Guards, Settles, Ticks, MakesPass, ReadsEpoch, StopsIdle, Wakes, Ends, Lowers, act_kept, active_threads}
-use Rattle.pas_trace.specs.Acts.{idle_threads, acts_of_work, acts_of_op, acts_of_ops, phase_acts, acts_from, acts_of}
+use Rattle.pas_trace.specs.Acts.{Act, Operates, Guards, Ticks, MakesPass, ReadsEpoch, StopsIdle, Wakes, Ends, Lowers, active_threads, idle_threads}
+use Rattle.pas_trace.specs.Acts.{acts_of_work, acts_of_op, acts_of_ops, phase_acts, acts_from, acts_of}
 use Rattle.pas_answers.specs.Replays.{phases_of, threads_of, keepers_of, acts_of_plan}
 use Rattle.pas_replay.specs.OneThread.{IsOfOneThread}
 use Rattle.pas_plans.proofs.{ActsOfPlan.ArePlanned, ActsOfPlan.all_front, ActsOfPlan.all_back, PlanFacts.plan_planned}
@@ -24,17 +24,13 @@ AreOfOne ops = AllByRecursion IsOfOne ops
 
 -- an operation of the scavenger makes a record
 its_record : (t : Bool) (n : ℕ) → t ≡ true → 1 ≤ n → (if t then n else 0) ≡ 0 → ⊥
-its_record true n is some none = omega (arith, some, none)
-its_record false n is some none = absurd (let bad : false ≡ true = is in cc)
+its_record t n h i j = grind arith
 
 chore_record : (f : Profile) (chore : Chore) → f.threads ≡ 1 → 1 ≤ records_of_chore f chore
-chore_record f (Chore.Tick e) one = omega arith
-chore_record f Chore.Pass one = omega arith
-chore_record f (Chore.Idle n) one = omega (arith, one)
+chore_record f chore h = grind arith
 
 thread_or_record : (f : Profile) (k : ℕ) (work : Work) → f.threads ≡ 1 → IsActorBy f work k → (if k == 0 then records_of_work f work else 0) ≡ 0 → k ≡ 1
-thread_or_record f k (Work.Own task) one of none = omega (arith, one, of.0, of.1)
-thread_or_record f k (Work.Chore chore) one of none = absurd (its_record (k == 0) (records_of_chore f chore) (eq-eqb k 0 of) (chore_record f chore one) none)
+thread_or_record f k work h i j = grind (arith, its_record, eq-eqb, chore_record)
 
 no_records : (f : Profile) (ops : List Op) → f.threads ≡ 1 → ArePlanned f ops → own_records f 0 ops ≡ 0 → AreOfOne ops
 no_records f [] one all none = tt
@@ -83,16 +79,14 @@ record IsPlannedOfOne (f : Profile) (op : Op) : Type 0 where
   pub unguarded : keeper_in op.what ≡ None
 
 no_keeper : (f : Profile) (actor : ℕ) (keeper : Option ℕ) → MatchOption keeper (Unit {0}) (λ k. (k ≡ f.threads + actor) × (◌≢◌ {A = ℕ} 0 0)) → keeper ≡ None
-no_keeper f actor None kept = refl
-no_keeper f actor (Some k) kept = absurd (kept.1 refl)
+no_keeper f actor keeper h = grind arith
 
 are_all : (f : Profile) (ops : List Op) → ArePlanned f ops → AreOfOne ops → AreKept f 0 ops → AllByRecursion (IsPlannedOfOne f) ops
 are_all f [] all own kept = tt
 are_all f (op ∷ ops) all own kept = (record { planned = all.0; one = own.0; unguarded = no_keeper f op.actor (keeper_in op.what) kept.0 }, are_all f ops all.1 own.1 kept.1)
 
 work_of_one : (f : Profile) (idle : List ℕ) (op : Op) (work : Work) → IsActorBy f work op.actor → IsOfOne op → of_task keeper_of work ≡ None → AreActsOfOne (acts_of_work idle op work)
-work_of_one f idle op (Work.Own task) of one none = subst (λ (keeper : Option ℕ). AreActsOfOne (act_kept keeper op ∷ (Settles op.actor ∷ []))) (sym none) (one, (tt, tt))
-work_of_one f idle op (Work.Chore chore) of one none = not_first op.actor of one
+work_of_one f idle op work h i j = grind (arith, not_first)
 
 ops_of_one : (f : Profile) (idle : List ℕ) (ops : List Op) → AllByRecursion (IsPlannedOfOne f) ops → AreActsOfOne (acts_of_ops idle ops)
 ops_of_one f idle [] all = tt

@@ -1,16 +1,16 @@
 -- The records of a plan of one thread are written in the same order in both ways.
-use Rattle.std.proofs.Common.{◌≡◌, ℕ, ◌==◌, List, [], ◌∷◌, ◌++◌, None, ap, sym, ◌∙◌, subst, append_assoc, append-nil}
+use Rattle.std.proofs.Common.{arith, ◌≡◌, ℕ, ◌==◌, List, [], ◌∷◌, ◌++◌, None, ap, sym, ◌∙◌, subst, append_assoc, append-nil}
 use Rattle.std.specs.List.{AllByRecursion}
 use Rattle.pas_profile.specs.declared.profile.Profile.{Profile}
 use Rattle.pas_profile.proofs.Lists.{all_both}
 use Rattle.pas_steps.specs.{Events.events_by, Lists.Whole, Lists.part}
 use Rattle.pas_steps.specs.declared.state.State.{State}
-use Rattle.pas_trace.specs.{Plans.IsPlanOf, Reasons.actors_by}
+use Rattle.pas_trace.specs.Plans.{IsPlanOf}
 use Rattle.pas_trace.specs.declared.plan.Plan.{Plan}
 use Rattle.pas_report.specs.declared.record.Record.{Record}
 use Rattle.pas_trace.specs.Acts.{Act, Operates, Settles, MarksPhase, Wakes, MarksClose, Ends}
-use Rattle.pas_answers.specs.{Answers.Progress, Answers.records_of, Answers.said_by, Reaching.Advances, Reaching.Reaches}
-use Rattle.pas_answers.specs.Replays.{at_start, IsReplay, Shows, region_of, threads_of, acts_of_plan}
+use Rattle.pas_answers.specs.{Answers.Progress, Answers.records_of, Reaching.Advances, Reaching.Reaches}
+use Rattle.pas_answers.specs.Replays.{at_start, IsReplay, Shows, region_of, acts_of_plan}
 use Rattle.pas_answers.specs.Ways.{InOrder, OnThreads, is_of, EachOf, records_by, by_actors, by_phases, arranged}
 use Rattle.pas_answers.proofs.OwnRecords.{each_both, piece_of, all_by, none_by}
 use Rattle.pas_replay.specs.OneThread.{IsOfOneThread}
@@ -44,10 +44,7 @@ own_one : (f : Profile) (act : Act) (p q : Progress) → IsActOfOne act → AreO
 own_one f (MarksPhase n) p q own all did = own_after did (all_both IsOwnOrMark p.records (Record.Phase n ∷ []) all (tt, tt))
 own_one f MarksClose p q own all did = own_after did (all_both IsOwnOrMark p.records (Record.Close ∷ []) all (tt, tt))
 own_one f (Wakes k) p q own all did = own_after did.1 all
-own_one f (Operates op) p q own all did =
-    let v = part op.actor p.list in
-    let a = did.0 in
-    own_after did.2 (more_own op.actor p.records (records_of (events_by op.actor v a.steps) ++ said_by op.actor a.said) own all (piece_of op.actor v a.steps a.said))
+own_one f (Operates op) p q own all did = search (arith, own_after, more_own, piece_of)
 own_one f (Settles k) p q own all did = own_after did all
 own_one f (Ends k) p q own all did =
     let v = part k p.list in
@@ -77,8 +74,7 @@ same_order since (Record.Said k said ∷ rs) own all =
 arranged_same : {text : List ℕ} {plan : Plan} → IsPlanOf text plan → IsOfOneThread plan → (reached : Progress) → Reaches (region_of plan) (acts_of_plan plan) at_start reached
     → arranged OnThreads (region_of plan).threads reached.records ≡ reached.records
 arranged_same {text} {plan} is alone reached answers =
-    ap (λ (n : ℕ). arranged OnThreads n reached.records) (ap (λ (guard : ℕ). actors_by guard (threads_of plan)) alone.unguarded ∙ alone.threads)
-    ∙ same_order [] reached.records tt (own_records (region_of plan) (acts_of_plan plan) at_start reached (plan_of_one is alone) tt answers)
+    cc (same_order [] reached.records tt (own_records (region_of plan) (acts_of_plan plan) at_start reached (plan_of_one is alone) tt answers))
 
 replay_of_one : {text : List ℕ} {plan : Plan} {whole : Whole} {records : List Record} → IsPlanOf text plan → IsOfOneThread plan → IsReplay InOrder plan whole records → IsReplay OnThreads plan whole records
 replay_of_one {text} {plan} {whole} {records} is alone replay = record {

@@ -37,8 +37,7 @@ use Rattle.pas_plans.proofs.{KeeperActs.plan_kept_own, KeeperActs.plan_tries, Ke
 -- an actor that made no step, which rests
 starts_at : (plan : Plan) (k need : ℕ) (slot : Option PlainPass) (Rest : View → Type 0) → Rest [] → need ≤ slice_index (bounds_of plan.bounds) k → IsFresh plan k slot → SeatStands (region_of plan) k Rest slot [] need
 starts_at plan k need slot Rest rest within fresh =
-    let room = fresh.room in
-    record { pass = fresh.pass; present = fresh.present; actor = fresh.actor; stands = fresh.stands; rest = rest; room = omega (arith, room, within) }
+    record { pass = fresh.pass; present = fresh.present; actor = fresh.actor; stands = fresh.stands; rest = rest; room = omega (arith, fresh.room, within) }
 
 -- a thread or a keeper, which made no step and has nothing
 abbrev StartsAs : Bool → Plan → ℕ → Option PlainPass → Type 0
@@ -68,8 +67,7 @@ actor_starts {text} {plan} {kit} read made (suc i) le =
 
 -- each owes a deed of each page
 all_owed : (f : Profile) (kind : Bool) → records_owed_as kind f empty_cache [] [] ≡ f.pages
-all_owed f true = nothing_owed f
-all_owed f false = let owed = nothing_owed f in omega (arith, owed)
+all_owed f kind = grind (arith, nothing_owed)
 
 owed_start : (threads : ℕ) (f : Profile) (n : ℕ) → owed_by threads f at_start n ≡ n * f.pages
 owed_start threads f zero = omega arith
@@ -122,8 +120,7 @@ start {text} {plan} {kit} {out} read made empty room =
     )
 
 some_cache : (caches : List ThreadCache) → 1 ≤ length caches → ThreadCache
-some_cache [] bad = absurd (omega (arith, bad))
-some_cache (cache ∷ caches) some = cache
+some_cache caches h = grind arith
 
 some_book : (books : List GuardBook) → 1 ≤ length books → GuardBook
 some_book [] bad = absurd (omega (arith, bad))

@@ -1,12 +1,12 @@
 -- THE TURN: an actor sits down, does acts of its own as at any desk, and all others still stand.
-use Rattle.std.proofs.Common.{◌≡◌, ◌≢◌, ℕ, zero, suc, ◌+◌, ◌-◌, ◌<◌, ◌≤◌, nat_le, Bool, true, false, if◌then◌else◌, inl, inr, List, [], ◌∷◌, ◌++◌, length, set}
-use Rattle.std.proofs.Common.{Option, Some, refl, ap, sym, ◌∙◌, subst, arith, length-append, append_assoc, le-leb, length-set}
+use Rattle.std.proofs.Common.{◌≡◌, ◌≢◌, ℕ, zero, suc, ◌+◌, ◌-◌, ◌<◌, ◌≤◌, nat_le, Bool, true, if◌then◌else◌, inl, inr, List, [], ◌∷◌, ◌++◌, length, set, Option}
+use Rattle.std.proofs.Common.{Some, ap, sym, ◌∙◌, subst, arith, length-append, append_assoc, le-leb, length-set}
 use Rattle.std.proofs.lemmas.{Bool.cases_eq, Option.same_Some}
 use Rattle.pas_profile.specs.declared.profile.Profile.{Profile}
 use Rattle.pas_steps.specs.{Events.events_of, Views.View, Lists.Whole, Lists.part, Desks.triples}
 use Rattle.pas_steps.specs.declared.step.Made.{Made}
 use Rattle.pas_steps.proofs.Parts.{part_of_others}
-use Rattle.pas_plain.specs.Plain.{profile_of, actor_of, room_of_pass, RegionStands, PassStands}
+use Rattle.pas_plain.specs.Plain.{profile_of, actor_of, RegionStands, PassStands}
 use Rattle.pas_plain.specs.Seats.{region_of, pass_of, standing_of, DeskStands}
 use Rattle.pas_plain.proofs.Desks.{pass_rests}
 use Rattle.pas_plain.specs.declared.{region.PlainRegion.PlainRegion, pass.PlainPass.PlainPass, desk.PlainDesk.PlainDesk}
@@ -62,8 +62,7 @@ hand desk passes caches books places indexes table out = record { region = regio
 pub sat_down : {r : Replay} {acts : List Act} {desk desk' : PlainDesk} {passes passes' : Slots} {k : ℕ} {caches : List ThreadCache} {books : List GuardBook} {places : ℕ} {indexes : Indexes} {table : Names} {out : Records} {p : Progress} → TakesSeat desk desk' passes passes' k
     → IsAt r acts (hand desk passes caches books places indexes table out) p → IsAt r acts (hand desk' passes' caches books places indexes table out) p
 sat_down {r} {acts} {desk} {desk'} {passes} {passes'} {k} {caches} {books} {places} {indexes} {table} {out} {p} seat at =
-    subst (λ (ps : Slots). IsAt r acts (record { region = region_of desk'; passes = ps; caches = caches; books = books; places = places; indexes = indexes; table = table; out = out }) p) (sym seat.passes_are)
-    (subst (λ (x : PlainRegion). IsAt r acts (record { region = x; passes = risen desk passes; caches = caches; books = books; places = places; indexes = indexes; table = table; out = out }) p) (sym seat.region_is) at)
+    rw (seat.passes_are, seat.region_is) at
 
 -- ---- at the desk
 module _ {r : Replay} {acts : List Act} {desk0 desk : PlainDesk} {passes0 passes : Slots} {caches : List ThreadCache} {books : List GuardBook} {places : ℕ} {indexes : Indexes} {table : Names} {out : Records} {p : Progress} (k : ℕ) (within : k ≤ r.threads + r.keepers) (seat : TakesSeat desk0 desk passes0 passes k)
@@ -81,31 +80,18 @@ module _ {r : Replay} {acts : List Act} {desk0 desk : PlainDesk} {passes0 passes
   its_pass = same_Some _ _ (sym (at.each k le).present ∙ ap (λ (m : ℕ). pass_in (set passes m (Some (pass_of desk))) k) seat.actor_is ∙ put_there passes k (Some (pass_of desk)) has_place)
 
   stood_now : DeskStands desk (part k p.list) p.list
-  stood_now = record {
-    region = at.stands;
-    pass = subst (λ (g : Profile). PassStands g (pass_of desk) p.list) (sym at.profile_is) (subst (λ (x : PlainPass). PassStands r.profile x p.list) its_pass (at.each k le).stands);
-    part_is = ap (λ (m : ℕ). part m p.list) seat.actor_is;
-  }
+  stood_now = search (arith, its_pass)
 
   pub sits_now : Sits r.profile k (rests r.threads r.profile p k) (standing_of desk) p.list (owes r.threads r.profile p k (part k p.list) + own_events r.threads r.profile k acts)
-  sits_now = record {
-    actor = seat.actor_is;
-    profile = at.profile_is;
-    stood = stood_now;
-    rest = (at.each k le).rest;
-    room = subst (λ (x : PlainPass). length (events_of k (part k p.list)) + (owes r.threads r.profile p k (part k p.list) + own_events r.threads r.profile k acts) ≤ room_of_pass x) its_pass (at.each k le).room;
-  }
+  sits_now = search (arith, stood_now, its_pass)
 
 -- ---- the others
 module _ (threads : ℕ) (f : Profile) (p q : Progress) where
   rests_kept : (j : ℕ) (v : View) → q.caches j ≡ p.caches j → q.books j ≡ p.books j → rests threads f p j v → rests threads f q j v
-  rests_kept zero v cache book rest = rest
-  rests_kept (suc i) v cache book rest =
-      subst (λ (c : Cached). rests_as (nat_le (suc i) threads) f c (q.books (suc i)) v) (sym cache) (subst (λ (gs : List Guard). rests_as (nat_le (suc i) threads) f (p.caches (suc i)) gs v) (sym book) rest)
+  rests_kept j v h i k = grind arith
 
   owes_kept : (j : ℕ) (v : View) → q.caches j ≡ p.caches j → owes threads f q j v ≡ owes threads f p j v
-  owes_kept zero v cache = refl
-  owes_kept (suc i) v cache = ap (λ (c : Cached). owes_as (nat_le (suc i) threads) f c v) cache
+  owes_kept j v h = grind arith
 
   pub other_stands : {j k : ℕ} {slot slot' : Option PlainPass} (acts more : List Act) (steps : List Made) → k ≢ j → q.list ≡ triples k steps ++ p.list → q.caches j ≡ p.caches j → q.books j ≡ p.books j → slot' ≡ slot
       → own_events threads f j more ≤ own_events threads f j acts → ActorStands threads f j p slot acts → ActorStands threads f j q slot' more
@@ -113,14 +99,13 @@ module _ (threads : ℕ) (f : Profile) (p q : Progress) where
       let kept : part j q.list ≡ part j p.list = ap (λ (w : Whole). part j w) list ∙ part_of_others j k steps p.list ne in
       let events = ap (λ (v : View). length (events_of j v)) kept in
       let owed = owes_kept j (part j q.list) cache ∙ ap (λ (v : View). owes threads f p j v) kept in
-      let room = st.room in
       record {
         pass = st.pass;
         present = there ∙ st.present;
         actor = st.actor;
         stands = subst (λ (w : Whole). PassStands f st.pass w) (sym list) (pass_rests f st.pass k steps p.list (λ e. ne (e ∙ st.actor)) st.stands);
         rest = rests_kept j (part j q.list) cache book (subst (λ (v : View). rests threads f p j v) (sym kept) st.rest);
-        room = omega (arith, events, owed, room, free);
+        room = omega (arith, events, owed, st.room, free);
       }
 
 -- ---- what acts cost, and those behind them
@@ -128,8 +113,7 @@ behind : (cost : Act → ℕ) (first more : List Act) → sum_over cost more ≤
 behind cost first more = let both = sum_both cost first more in omega (arith, both)
 
 pub either_less : (t : Bool) (a b a' b' : ℕ) → a ≤ a' → b ≤ b' → (if t then a else b) ≤ (if t then a' else b')
-either_less true a b a' b' one two = one
-either_less false a b a' b' one two = two
+either_less t a b a' b' h i = grind arith
 
 pub less_events : (threads : ℕ) (f : Profile) (first more : List Act) (j : ℕ) → own_events threads f j more ≤ own_events threads f j (first ++ more)
 less_events threads f first more zero = behind (unbacks_of_act f) first more
@@ -216,11 +200,7 @@ module _ {r : Replay} {acts more : List Act} {desk0 desk desk' : PlainDesk} {pas
 
 -- the actor alone made the steps between, and its cache and its book alone changed
 pub kept_by_moves : {k : ℕ} {Rest Rest' : View → Type 0} {desk desk' : PlainDesk} {p q : Progress} → Moves k Rest Rest' (standing_of desk) (standing_of desk') p q → ((j : ℕ) → j ≢ k → q.caches j ≡ p.caches j) → ((j : ℕ) → j ≢ k → q.books j ≡ p.books j) → OthersKept k p q
-kept_by_moves {k} {p = p} moves caches books = record {
-  parts = λ j ne. ap (λ (l : Whole). part j l) moves.list_is ∙ part_of_others j k moves.steps p.list (λ (e : k ≡ j). ne (sym e));
-  caches = caches;
-  books = books;
-}
+kept_by_moves {k} {p = p} moves caches books = search (arith, part_of_others)
 
 -- ---- an actor behind the scavenger, which is a thread or a keeper
 abbrev pub SitsAs : Bool → Replay → ℕ → PlainDesk → List Act → Progress → Type 0
@@ -247,13 +227,9 @@ thread_now {r} {acts} {desk0} {desk} {passes0} {passes} {p = p} {c} (suc i) cost
     let least = owed_at r.threads f p k (r.threads + r.keepers) some (omega (arith, within)) in
     let mine = thread_owes r.threads f p k within in
     let owed = ap (λ (d : Cached). owed_events f d (part k p.list)) cache in
-    let spare = at.spare in
     let sits = subst (λ (kind : Bool). SitsAs kind r k desk acts p) (le-leb k r.threads within) (sits_now k (omega (arith, within)) seat at) in
-    record {
-      sits = subst (λ (d : Cached). Sits f k (AtRest f d) (standing_of desk) p.list (owed_events f d (part k p.list) + (cost + own_costs_of k more))) cache (sits_for sits (omega (arith, own)));
-      cache = cache;
-      spare = omega (arith, least, mine, owed, spare, costs);
-    }
+    -- its seat and its cache are those; there is room for what it owes, within what all owe, and for what the acts ask
+    search arith
 
 pub thread_turn : {r : Replay} {first more : List Act} {desk0 desk desk' : PlainDesk} {passes0 passes : Slots} {caches : List ThreadCache} {books : List GuardBook} {places : ℕ} {indexes indexes' : Indexes} {table table' : Names} {out out1 out2 : Records} {p : Progress} {c : Cached} {came : List Named} {told : List Record} {extra : ℕ}
     (k : ℕ) (cache : ThreadCache) → 1 ≤ k → k ≤ length caches → TakesSeat desk0 desk passes0 passes k → p.caches k ≡ c → IsAt r (first ++ more) (hand desk0 passes0 caches books places indexes table out) p
@@ -267,8 +243,7 @@ thread_turn {r} {first} {more} {desk0} {desk} {desk'} {passes0} {passes} {caches
     let k = suc i in
     let q = did.reached in
     let now = did.stands.cache in
-    let many = at.many in
-    let within : k ≤ r.threads = omega (arith, most, many) in
+    let within : k ≤ r.threads = omega (arith, most, at.many) in
     let all : k ≤ r.threads + r.keepers = omega (arith, within) in
     let kind : true ≡ nat_le k r.threads = sym (le-leb k r.threads within) in
     let moves0 : Moves k (AtRest f (p.caches k)) (AtRest f (q.caches k)) (standing_of desk) (standing_of desk') p q =
@@ -283,7 +258,6 @@ thread_turn {r} {first} {more} {desk0} {desk} {desk'} {passes0} {passes} {caches
     let then_mine = thread_owes r.threads f q k within in
     let owed = ap (λ (d : Cached). owed_events f d (part k q.list)) now in
     let longer = ap (λ (rs : List Record). length rs) added ∙ length-append (records_in out1) told in
-    let spare = did.stands.spare in
     turn k all seat at record {
       reaches = λ s rest. goes_both r.threads f indexes first more p q s did.reaches named (rested (all_rest at) (rest_first r.threads f more q s rest.0.0 rest.1)) (subst (λ (ix : Indexes). GoesBy r.threads f ix more q s) after rest);
       moves = moves;
@@ -302,7 +276,7 @@ thread_turn {r} {first} {more} {desk0} {desk} {desk'} {passes0} {passes} {caches
       books_are = subst (λ (bs : ℕ → List Guard). HaveBooks r.threads bs books) (sym did.books) at.books_are;
       books_have = still_places r.threads books (first ++ more) more (less_tries first more) at.books_have;
       records_are = added ∙ ap (λ (rs : List Record). rs ++ told) (did.pushed ∙ ap (λ (rs : List Record). rs ++ did.own) at.records_are) ∙ append_assoc p.records did.own told ∙ sym did.records_are;
-      spare = omega (arith, change, least, mine, then_mine, owed, longer, spare, few, room);
+      spare = omega (arith, change, least, mine, then_mine, owed, longer, did.stands.spare, few, room);
     }
 
 -- ---- the turn of the scavenger
@@ -322,7 +296,6 @@ scavenger_turn {r} {more} {act} {desk0} {desk} {desk'} {passes0} {passes} {cache
     let names = at.names in
     let kept : OthersKept 0 p q = kept_by_moves did.moves (λ j ne. ap (λ (cs : Caches). cs j) did.caches) (λ j ne. ap (λ (bs : ℕ → List Guard). bs j) did.books) in
     let owed = owed_kept r.threads f p q 0 kept (r.threads + r.keepers) (λ j low high e. omega (arith, low, e)) in
-    let spare = did.stands.spare in
     let asked = asks indexes p did.reaches.0 did.reaches.1 in
     turn 0 (omega arith) seat at record {
       reaches = λ s rest. goes_both r.threads f indexes (act ∷ []) more p q s did.reaches (asked.1, tt) (rest_one r.threads f act p q did.reaches (all_rest at) (rest_first r.threads f more q s rest.0.0 rest.1))
@@ -343,5 +316,5 @@ scavenger_turn {r} {more} {act} {desk0} {desk} {desk'} {passes0} {passes} {cache
       books_are = subst (λ (bs : ℕ → List Guard). HaveBooks r.threads bs books) (sym did.books) at.books_are;
       books_have = still_places r.threads books (act ∷ more) more (less_tries (act ∷ []) more) at.books_have;
       records_are = did.says.pushed ∙ ap (λ (rs : List Record). rs ++ did.says.said) at.records_are ∙ sym did.says.records_are;
-      spare = omega (arith, owed, spare);
+      spare = omega (arith, owed, did.stands.spare);
     }

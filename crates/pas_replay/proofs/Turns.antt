@@ -1,5 +1,5 @@
 -- The one desk of a replay, at which the actors take turns.
-use Rattle.std.proofs.Common.{◌≡◌, ◌≢◌, ℕ, ◌<◌, length, set, Option, Some, None, ap, sym, ◌∙◌, get_or-set_same, get_or-set_other, length-set, set-set}
+use Rattle.std.proofs.Common.{arith, ◌≡◌, ◌≢◌, ℕ, ◌<◌, length, set, Option, Some, None, ap, sym, ◌∙◌, get_or-set_same, get_or-set_other, length-set, set-set}
 use Rattle.std.proofs.lemmas.List.{set_comm, set-get_or}
 use Rattle.pas_plain.specs.{Plain.actor_of, Seats.region_of, Seats.pass_of}
 use Rattle.pas_plain.specs.declared.{pass.PlainPass.PlainPass, desk.PlainDesk.PlainDesk}
@@ -36,9 +36,4 @@ pub seat_taken : {desk desk' : PlainDesk} {passes : Slots} {q : PlainPass} (k n 
 seat_taken {desk} {desk'} {passes} {q} k n slot is other has actor region pass =
     let p = pass_of desk in
     let after = set (set passes k slot) n (Some p) in
-    record {
-      region_is = region;
-      actor_is = ap actor_of pass ∙ actor;
-      passes_are = ap (λ (r : PlainPass). set after (actor_of r) (Some r)) pass ∙ ap (λ (m : ℕ). set after m (Some q)) actor
-          ∙ seats_change p q n k passes slot (λ (e : k ≡ n). other (sym (e ∙ is))) has ∙ ap (λ (m : ℕ). set passes m (Some p)) is;
-    }
+    search (arith, seats_change)

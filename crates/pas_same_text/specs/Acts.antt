@@ -62,7 +62,7 @@ pub record IsAtRest (f : Profile) (p : Progress) (w : World) : Type 0 where
   pub between : IsBetween f p
   pub same : HasSame f p w
 
--- whose cache the act may change, that one's stands in the text's list
+-- the thread whose cache the act may change has one in the text's list
 abbrev pub IsListed : World → Act → Type 0
 IsListed w (Act.Operates op) = op.actor ≤ length w.caches
 IsListed w (Act.Settles k) = k ≤ length w.caches

@@ -1,5 +1,5 @@
 //! What each act owes: from a state of the text that is the replay's it leads to one that is. Each law is the contract of an empty function.
-ghost use Rattle.std.specs.Prelude.{ℕ, ◌+◌, ◌*◌, ◌<◌, ◌≤◌, ◌≡◌, ◌↔◌, List, [], ◌∷◌, ◌++◌, true, None, Some, Ok, ◌||◌, false};
+ghost use Rattle.std.specs.Prelude.{ℕ, ◌+◌, ◌*◌, ◌<◌, ◌≤◌, ◌≡◌, ◌↔◌, List, [], ◌∷◌, ◌++◌, length, true, None, Some, Ok, ◌||◌, false};
 ghost use Rattle.pas_profile.specs.declared.{name.Name.Name, profile.Profile.Profile, directory.Route.Route, event.NoRoom.NoRoom};
 ghost use Rattle.pas_profile.specs.declared.{directory.Directory.Directory, event.Event.Event};
 ghost use Rattle.pas_trace.specs.{Acts.Act, EveryPlan.IsThread, Plans.IsPlanOf};
@@ -134,8 +134,9 @@ pub fn indexes_stay_the_same()
 
 /// EACH ACT keeps the text and its indexes, whatever it is, by what is known of it in a replay. So do acts one after the other, with all actors at
 /// rest between them, which carry what each of them needs: that only keepers have guards up, that live blocks lie on grains that they may cover, that pages are stamped, and that the
-/// indexes are those of the text. Before the first act it is so.
+/// indexes are those of the text. Before the first act it is so. No act changes how many caches the text has.
 pub fn acts_stay_the_same()
+    ensures many { (f : Profile) (act : Act) (w : World) → length (acts_on f act w).caches ≡ length w.caches }
     ensures start { (threads : ℕ) (f : Profile) → threads ≤ f.threads → IsCarried threads f at_start (opened f) (no_ranges f.heaps) }
     ensures act { (threads : ℕ) (f : Profile) (act : Act) → KeepsSame threads f act }
     ensures acts { (threads : ℕ) (f : Profile) (acts : List Act) (p p' : Progress) (is : Reaches f acts p p') (w : World) (indexes : Indexes) → ArePlanned threads f acts

@@ -9,8 +9,7 @@ take_seat-requires c = let so = c.requires.so_far.1.2 in may_take c.args.desk.no
 pub pass-requires-clause-stands : goal.pass-requires-clause-stands
 pass-requires-clause-stands c =
     let so0 = c.requires.so_far.1 in
-    let so = so0.2.1 in
-    (so0.0.profile, _, so.0, scavenger_now c.take_seat.ensures so.1)
+    (so0.0.profile, _, so0.2.1.0, scavenger_now c.take_seat.ensures so0.2.1.1)
 
 pub pass-requires-clause-places : goal.pass-requires-clause-places
 pass-requires-clause-places c = let at = sat_down c.take_seat.ensures c.requires.so_far.1.2.1.1 in at.places ∙ ap (λ (g : Profile). g.pages) (sym at.profile_is)

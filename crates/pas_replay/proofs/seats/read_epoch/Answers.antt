@@ -8,8 +8,7 @@ take_seat-requires c = let so = c.requires.so_far.2.2 in may_take c.args.desk.no
 pub read_epoch-requires : goal.read_epoch-requires
 read_epoch-requires c =
     let so0 = c.requires.so_far in
-    let so = so0.2.2.1 in
-    record { stands = (so0.2.0.profile, so0.1, _, so.0, scavenger_now c.take_seat.ensures so.1) }
+    record { stands = (so0.2.0.profile, so0.1, _, so0.2.2.1.0, scavenger_now c.take_seat.ensures so0.2.2.1.1) }
 
 pub returns-clause-so_far : goal.returns-clause-so_far
 returns-clause-so_far c table out r more (taken, (p, at)) =

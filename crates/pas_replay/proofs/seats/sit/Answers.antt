@@ -1,6 +1,6 @@
 use Rattle.std.proofs.Common.{None, Some, ap, sym, ◌∙◌}
 use Rattle.std.proofs.lemmas.{List.get_or_default, Option.same_Some}
-use Rattle.pas_plain.specs.{Plain.actor_of, Seats.region_of}
+use Rattle.pas_plain.specs.Plain.{actor_of}
 use Rattle.pas_plain.specs.declared.region.PlainRegion.{PlainRegion}
 use Rattle.pas_utility.specs.Outcomes.{places_of}
 use Rattle.pas_replay.specs.Sessions.{Slots, Hand}
@@ -18,5 +18,4 @@ returns-clause-hand c table out =
     let pass = c.desk.ensures.pass in
     let actor = ap actor_of (pass ∙ same_Some _ _ (sym has ∙ c.requires.may.present)) ∙ c.requires.may.actor_is in
     let hand_with = λ (r : PlainRegion) (ps : Slots). (let h : Hand = record { region = r; passes = ps; caches = caches; books = books; places = places; indexes = indexes; table = table; out = out } in h) in
-    ap (λ (r : PlainRegion). hand_with r passes) (sym c.desk.ensures.region)
-    ∙ ap (λ (ps : Slots). hand_with (region_of c.desk.result) ps) (sym (sits_down c.desk.result passes c.args.actor c.take.new.self actor (has ∙ ap (λ p. Some p) (sym pass))))
+    cc (sits_down c.desk.result passes c.args.actor c.take.new.self actor (has ∙ ap (λ p. Some p) (sym pass)))

@@ -11,8 +11,7 @@ tick-requires-clause-epoch c = c.requires.so_far.1.2.1.1.names.fit.0
 pub tick-requires-clause-stands : goal.tick-requires-clause-stands
 tick-requires-clause-stands c =
     let so0 = c.requires.so_far.1 in
-    let so = so0.2.1 in
-    (so0.0.profile, _, so.0, scavenger_now c.take_seat.ensures so.1)
+    (so0.0.profile, _, so0.2.1.0, scavenger_now c.take_seat.ensures so0.2.1.1)
 
 pub returns-clause-so_far : goal.returns-clause-so_far
 returns-clause-so_far c table r more (taken, (p, at)) =

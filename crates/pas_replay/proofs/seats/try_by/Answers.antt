@@ -6,10 +6,9 @@ use Rattle.pas_replay.proofs.seats.try_by.Goals as goal
 pub take_seat-requires : goal.take_seat-requires
 take_seat-requires c =
     let so0 = c.requires.so_far in
-    let so = so0.4.2 in
-    let at = so.1.1 in
+    let at = so0.4.2.1.1 in
     let place = its_place c.args.request.keeper c.args.actor so0.1 at in
-    may_take c.args.desk.now c.args.actors.now c.args.request.keeper (omega (arith, place.0, place.2, at.many)) so.0 at
+    may_take c.args.desk.now c.args.actors.now c.args.request.keeper (omega (arith, place.0, place.2, at.many)) so0.4.2.0 at
 
 pub try_guarded-requires-clause-stands : goal.try_guarded-requires-clause-stands
 try_guarded-requires-clause-stands c =
