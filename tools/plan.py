@@ -60,6 +60,8 @@ def read_crates(top: str) -> dict[str, Crate]:
     wanted: dict[str, Crate] = {}
 
     def want(crate: Crate) -> None:
+        if not crate.folder.is_dir():
+            sys.exit(f"crates.txt names {crate.name}, and there is no crates/{crate.name}")
         # The names that are no lines of the file are the kit's libraries.
         own = [known[name] for name in crate.uses if name in known]
         for it in own:
