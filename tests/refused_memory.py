@@ -115,10 +115,13 @@ TRACES = {
     "a fault": b"pas 1 pages 4 threads 1 heaps 1 age 2\nf 1 1\n",
 }
 
-TRANSCRIPT = pathlib.Path(__file__).resolve().parent.parent.joinpath("examples/first.transcript").read_bytes()
+EXAMPLES = pathlib.Path(__file__).resolve().parent.parent / "examples"
+TRANSCRIPT = (EXAMPLES / "first.transcript").read_bytes()
+GUARDED = (EXAMPLES / "guards.transcript").read_bytes()
 
 RUNS = {f"{word}, {what}": ([word], text) for word in ("order", "run") for what, text in TRACES.items()} | {
     "a check of a right transcript": (["check"], TRACES["a small trace"] + b"transcript\n" + TRANSCRIPT),
+    "a check of one with guards": (["check"], (EXAMPLES / "guards.trace").read_bytes() + b"transcript\n" + GUARDED),
     "a check of an empty one": (["check"], TRACES["a small trace"]),
     "a generated trace": (["gen", "7", "2000", "4", "64"], b""),
     "other words": (["replay", "it"], b""),
@@ -156,7 +159,7 @@ def wanted_status(words, text):
     if words[0] not in ("order", "run", "check", "gen"):
         return 2
     if words == ["check"]:
-        return 0 if TRANSCRIPT in text else 8
+        return 0 if TRANSCRIPT in text or GUARDED in text else 8
     return 1 if text == TRACES["a fault"] else 0
 
 

@@ -6,7 +6,7 @@ use Rattle.pas_profile.specs.Profiles.{IsValid}
 use Rattle.pas_profile.specs.declared.{name.Block.Block, profile.Profile.Profile, word.Word.Word}
 use Rattle.pas_core.proofs.OneActor.{legal_before}
 use Rattle.pas_steps.specs.{Desks.triples, Events.events_by, Lists.Legal, Lists.part, Lists.word_after}
-use Rattle.pas_steps.specs.declared.step.{Made.Made, Step.TheVariants.Tick}
+use Rattle.pas_steps.specs.declared.step.Made.{Made}
 use Rattle.pas_cache.specs.{Caches.Cached, Refusals.IsTrulyRefused}
 use Rattle.pas_report.specs.Lines.{line_of}
 use Rattle.pas_report.specs.declared.record.{Record.Record, Said.Said}
@@ -14,7 +14,7 @@ use Rattle.pas_trace.specs.declared.{item.Request.Request, plan.Op.Op, plan.What
 use Rattle.pas_trace.specs.Asked.{keeper_in}
 use Rattle.pas_trace.specs.Acts.{Act, Operates, Guards, Settles, Ticks, MakesPass, ReadsEpoch, StopsIdle, MarksPhase, Wakes, MarksClose, Ends, Lowers}
 use Rattle.pas_answers.specs.Answers.{Answer, IsAnswered, IsIdleFor, IsServed, IsStopped, Progress, having, said_by, wanted_by, after_reading, after_settling}
-use Rattle.pas_answers.specs.Answers.{after_stop, after_tick, after_wake, begun as woken, epoch_look, records_of, settled, stopped, with_cache, with_records}
+use Rattle.pas_answers.specs.Answers.{after_stop, after_tick, after_wake, begun as woken, epoch_look, records_of, stopped, with_cache, with_records}
 use Rattle.pas_answers.specs.{Guarding.IsTried, Guarding.Tried, Guarding.after_trying, Reaching.Advances, Reaching.AnswersTried, Refusals.ActRefusesTruly}
 use Rattle.pas_answers.specs.{Refusals.RefusesTruly, Refusals.TriedRefusesTruly}
 use Rattle.pas_answers.proofs.{Consequences.tidy_piece, Tidy.look_tidy, Tidy.tick_tidy}

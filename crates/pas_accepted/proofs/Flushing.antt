@@ -1,5 +1,5 @@
 -- The entries of a log that is emptied answer what is due, one after the other.
-use Rattle.std.proofs.Common.{◌≡◌, ℕ, ◌==◌, if◌then◌else◌, List, [], ◌∷◌, ◌++◌, Some, inr, refl, ap, sym, ◌∙◌, subst, append_assoc, map, reverse}
+use Rattle.std.proofs.Common.{◌≡◌, ℕ, ◌==◌, List, [], ◌∷◌, ◌++◌, Some, inr, refl, ap, sym, ◌∙◌, subst, append_assoc, map, reverse}
 use Rattle.std.proofs.lemmas.List.{map-append, reverse-append}
 use Rattle.pas_profile.specs.{Blocks.address_of, Profiles.IsValid}
 use Rattle.pas_profile.specs.declared.{event.Event.Event, profile.Profile.Profile, word.Word.Word}

@@ -1,13 +1,13 @@
 -- Which transcripts are whole doesn't hang on how many actors the region has.
-use Rattle.std.proofs.Common.{◌≡◌, ℕ, List, [], ◌∷◌, Option, None, Some, inl, inr, refl, ap, ◌∙◌, subst}
+use Rattle.std.proofs.Common.{◌≡◌, ℕ, List, [], ◌∷◌, Option, None, inl, inr, refl, ap, ◌∙◌, subst}
 use Rattle.pas_profile.specs.declared.{event.Event.Event, event.Outcome.Outcome, name.Block.Block, name.Name.Name, profile.Profile.Profile}
-use Rattle.pas_profile.specs.declared.event.Outcome.TheVariants.{Unbacked, Bare, Young, InUse, NotOffered}
+use Rattle.pas_profile.specs.declared.{event.Outcome.TheVariants.Unbacked}
 use Rattle.pas_machine.specs.Machine.{Admits, Bears}
 use Rattle.pas_trace.specs.{Acts.Act, Acts.Operates, Named.standing_for}
 use Rattle.pas_trace.specs.declared.{item.Request.Request, plan.What.What, plan.What.TheVariants.Free, plan.What.TheVariants.FreeSized}
 use Rattle.pas_check.specs.Accepted.{Goes, IsWhole}
 use Rattle.pas_check.specs.Begins.{after_task, begun, begun_act, begun_from, begun_what, freeing_named, past_outcomes, ready, ready_with, settled_with}
-use Rattle.pas_check.specs.States.{Due, Writes, Frees, Serves, Tries, Never, Examines, Heads, Shows, Totals, Stand, Task, Does, Reports, with_due}
+use Rattle.pas_check.specs.States.{Due, Frees, Serves, Tries, Examines, Stand, Task, Does, Reports, with_due}
 use Rattle.pas_check.specs.Takes.{IsFor, MayCome, Takes, TakesDue, TakesFirst, TakesOutcome, TakesRequest, serving}
 
 module _ (f : Profile) (n : ℕ) where

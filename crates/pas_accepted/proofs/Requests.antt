@@ -1,6 +1,6 @@
 -- A request: deeds and backs, and then the give of its block or a refusal, which is true.
-use Rattle.std.proofs.Common.{arith, ◌≡◌, ◌≢◌, ℕ, ◌/◌, Bool, true, false, List, [], ◌∷◌, ◌++◌, Option, Some, None, Result, Ok, Err, inl, inr, refl, ap, sym}
-use Rattle.std.proofs.Common.{◌∙◌, subst, append-nil, MatchResult}
+use Rattle.std.proofs.Common.{arith, ◌≡◌, ℕ, ◌/◌, Bool, true, false, List, [], ◌∷◌, ◌++◌, Option, Some, None, Result, Ok, Err, inl, inr, refl, ap, sym, ◌∙◌}
+use Rattle.std.proofs.Common.{subst, append-nil, MatchResult}
 use Rattle.std.specs.List.{AllByRecursion}
 use Rattle.pas_bits.specs.Runs.{in_run}
 use Rattle.pas_profile.specs.{Blocks.grain_of, Blocks.length_of, Directories.IsKind, Directories.deed_word_of, Profiles.IsValid, Requests.is_shared}

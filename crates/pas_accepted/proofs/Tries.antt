@@ -4,8 +4,7 @@ use Rattle.std.proofs.Common.{sym, ◌∙◌, subst, arith, append-nil, map, rev
 use Rattle.std.proofs.lemmas.List.{map-append, reverse-append}
 use Rattle.pas_bits.specs.Bits.{has_bit}
 use Rattle.pas_profile.specs.Profiles.{IsValid}
-use Rattle.pas_profile.specs.declared.{event.Outcome.Outcome, profile.Profile.Profile, word.Word.Word}
-use Rattle.pas_profile.specs.declared.event.Outcome.TheVariants.{Unbacked, Bare, Young, InUse, NotOffered}
+use Rattle.pas_profile.specs.declared.{event.Outcome.Outcome, profile.Profile.Profile, word.Word.Word, event.Outcome.TheVariants.Unbacked}
 use Rattle.pas_core.proofs.OneActor.{legal_earlier}
 use Rattle.pas_steps.specs.{Desks.made, Desks.triple, Desks.triples, InTurn.InTurn, InTurn.numbers_below, Kinds.Only, Views.known_epoch}
 use Rattle.pas_steps.specs.Lists.{Legal, Whole, part, visible}
