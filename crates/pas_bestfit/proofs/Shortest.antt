@@ -35,7 +35,8 @@ room_of : {tells : Bool} {σ σ' : Standing} (heap n : ℕ) (answer : Result Blo
 room_of heap n (Ok block) a = a.outcome.room_is
 room_of heap n (Err why) a = tt
 
-pub in_region : {tells : Bool} {σ σ' : Standing} (heap bytes n : ℕ) (answer : Result Block NoRoom) → n ≡ grains_for bytes → GivesInRegion heap n tells σ σ' answer
+pub in_region : {tells : Bool} {σ σ' : Standing} (heap bytes n : ℕ) (answer : Result Block NoRoom) → n ≡ grains_for bytes
+    → GivesInRegion heap n tells σ σ' answer
     → AllocatesInRegion heap bytes tells σ σ' answer
 in_region {tells} {σ} {σ'} heap bytes n answer is by =
     let by_rank : GivesInRegion heap (grains_for bytes) tells σ σ' answer = subst (λ n. GivesInRegion heap n tells σ σ' answer) is by in record {
