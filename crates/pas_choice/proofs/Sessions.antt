@@ -55,7 +55,7 @@ module _ {Found : Type 0} {σ σ' : Standing} {tells : Bool} {choice : Choice Fo
   leads (Err why) asks v none agreed =
       let only = ap (λ (xs : List Made). xs ++ asks.searched) asks.outcome.1 in
       subst (λ (xs : List Made). Agreed σ.seat.profile v xs → HasNothing (xs ++ v)) (sym only)
-          (λ same. nothing_still (asks.outcome.0.still.from v (may_search d v none) same) none) agreed
+      (λ same. nothing_still (asks.outcome.0.still.from v (may_search d v none) same) none) agreed
 
   few : (answer : Result Block NoRoom) (asks : AllocatesRun choice run d tells σ σ' answer) (k : ℕ) (v : View) → MaySearch d v
       → Agreed σ.seat.profile v (asks.after ++ asks.searched) → length (events_by k v (asks.after ++ asks.searched)) ≤ 3

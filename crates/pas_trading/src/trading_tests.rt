@@ -27,11 +27,9 @@ fn has_ended(one: &Traded, other: &Traded) -> bool {
         _ => false,
     };
     ended
-        && other
-            .pass
-            .shown()
-            .iter()
-            .any(|event| matches!(event, Event::Give { block, .. } if block.name == name))
+        && other.pass.shown().iter().any(
+            |event| matches!(event, Event::Give { block, .. } if block.name == name),
+        )
 }
 
 /// Whether all grains of the page are free.

@@ -102,6 +102,10 @@ freed region d d' gift pass past none actor ends pass_is of earlier own =
 -- ==== The one list: all steps of the one, and behind them all of the other.
 
 -- ---- a list of one actor
+abbrev IsNone : View → Type 0
+IsNone [] = Unit {0}
+IsNone (m ∷ v) = ⊥
+
 own_part : (t : Triple) (l : Whole) → part t.actor (t ∷ l) ≡ t.made ∷ part t.actor l
 own_part t l = part_of_own t.actor (t.made ∷ []) l
 
