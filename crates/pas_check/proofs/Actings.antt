@@ -8,6 +8,7 @@ use Rattle.pas_profile.specs.declared.{name.Block.Block, name.Name.Name, profile
 use Rattle.pas_machine.specs.Machines.{profile_of, StandsFor}
 use Rattle.pas_machine.specs.declared.machine.Machine.{Machine}
 use Rattle.pas_report.specs.declared.record.{Record.Record, Said.Said}
+use Rattle.pas_trace.specs.Named.{standing_for}
 use Rattle.pas_trace.specs.Acts.{Act, MakesPass, MarksClose, MarksPhase, StopsIdle, Ticks, Wakes}
 use Rattle.pas_trace.specs.declared.item.Request.{Request}
 use Rattle.pas_check.specs.Begins.{after_task, begun_act, entries_due, entry_of, flushing, freeing_at, freeing_named, is_full, is_page, logging, remaking}
@@ -452,17 +453,10 @@ said_named f text old from k name within act found said says names sets to is le
     let same = says s stands in
     let named : Stand = record (with_name s name found) { due = []; left = ts } in (
       ap (λ (u : Stand). u.due) same,
-      subst (λ (u : Stand). Stands f (record old { names = names }) (with_due (record u { left = ts }) []) from) (sym same) (record {
-        profile = stands.profile;
-        events = stands.events;
-        names = λ n. (λ i. if name == n then Some found else stands.names n i) ∙ sym (sets n);
-        logs = stands.logs;
-        awake = stands.awake;
-        epoch = stands.epoch;
-        guards = stands.guards;
-        small = stands.small;
-        kept = kept_same named s from from refl refl (omega arith) stands.kept;
-      }),
+      subst (λ (u : Stand). Stands f (record old { names = names }) (with_due (record u { left = ts }) []) from) (sym same)
+          (let named_so : (n : ℕ) → standing_for named.names n ≡ meant names n = λ n. (λ i. if name == n then Some found else stands.names n i)
+          ∙ sym (sets n) in
+          search (arith, kept_same)),
     )) is led
 
 suits_it : (block : Block) (size align : ℕ) → IsSuited block size align → suits block size align ≡ true

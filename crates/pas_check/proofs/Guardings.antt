@@ -81,23 +81,10 @@ module _ (f : Profile) (text : List ℕ) (old : Judge) (from to : Cursor) (keepe
   swept_on guards lines left s more ts stands =
       let u = being_swept s keeper all more ts in
       let led = lines f u more stands.events (swept_due s more ts stands) in
-      let count : from.lines ≤ to.lines = (omega (arith, led.count)) in (
-        with_due u more,
-        led,
-        record {
-          profile = stands.profile;
-          events = stands.events;
-          names = stands.names;
-          logs = stands.logs;
-          awake = stands.awake;
-          epoch = stands.epoch;
-          guards = ap (λ (gs : List Guard). staying s.events keeper all gs) stands.guards ∙ sym (left s.events stands.events);
-          small = stands.small;
-          kept = kept_same (with_due u more) s from to refl refl count stands.kept;
-        },
-        refl,
-        refl,
-      )
+      let count : from.lines ≤ to.lines = (omega (arith, led.count)) in
+      let stay : staying s.events keeper all s.guards ≡ guards.items
+      = ap (λ (gs : List Guard). staying s.events keeper all gs) stands.guards ∙ sym (left s.events stands.events) in
+      (with_due u more, led, search (arith, kept_same), refl, refl)
 
   pub swept_amiss : (new : Judge) → LinesSwept old.machine text from to old.guards.items keeper all false → GuardsSwept f text old from new to keeper all false
   swept_amiss new amiss s more ts stands = λ enough. amiss f (being_swept s keeper all more ts) more stands.events (swept_due s more ts stands)

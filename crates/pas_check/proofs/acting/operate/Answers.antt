@@ -1,8 +1,7 @@
-use Rattle.std.proofs.Common.{◌≡◌, ◌∙◌, ◌<◌, ◌^◌, ℕ, None, ap, refl, subst, sym, arith, MatchOption}
-use Rattle.pas_trace.specs.Acts.{Act, Guards, Operates, act_kept}
-use Rattle.pas_trace.specs.Asked.{keeper_in, request_in}
+use Rattle.std.proofs.Common.{◌≡◌, ◌∙◌, ◌<◌, ◌^◌, ℕ, None, ap, refl, subst, arith, MatchOption}
+use Rattle.pas_trace.specs.{Acts.Guards, Acts.Operates, Acts.act_kept, Asked.keeper_in, Asked.request_in}
 use Rattle.pas_trace.specs.declared.plan.What.{What, TheVariants.Guarded}
-use Rattle.pas_check.specs.{Begins.guarding, Calls.IsWanted, Calls.asked_for, Tasks.ActTaken}
+use Rattle.pas_check.specs.{Begins.guarding, Calls.IsWanted, Calls.asked_for}
 use Rattle.pas_check.proofs.Actings.{of_profile}
 use Rattle.pas_check.proofs.acting.operate.Goals as goal
 
@@ -19,8 +18,7 @@ returns-in-Guarded-clause-taken c =
     let to = c.try_request.new.cursor in
     let act : act_kept (keeper_in op.what) op ≡ Guards a.keeper op = ap (λ (w : What). act_kept (keeper_in w) op) a.is in
     λ f. of_profile f c.args.text.now c.args.judge.now new c.args.cursor.now to (act_kept (keeper_in op.what) op) c.try_request.result
-    (λ same. subst (λ (x : Act). ActTaken f c.args.text.now c.args.judge.now c.args.cursor.now new to x c.try_request.result) (sym act)
-    (c.try_request.ensures.taken f (Guards a.keeper op) (asked_for a.name a.heap a.size a.align)
+    (λ same. rw act (c.try_request.ensures.taken f (Guards a.keeper op) (asked_for a.name a.heap a.size a.align)
     (λ s stands. ap (λ (w : What). guarding s a.keeper op.actor (request_in w)) a.is)
     (subst (λ g. IsWanted g (asked_for a.name a.heap a.size a.align) c.wanted_for-wanted.result) (c.profile.ensures ∙ same)
     c.wanted_for-wanted.ensures.wanted)))
@@ -35,5 +33,4 @@ returns-in_default-clause-taken c =
     let new = c.operate_plain.new.judge in
     let to = c.operate_plain.new.cursor in
     let act : act_kept (keeper_in op.what) op ≡ Operates op = ap (λ o. act_kept o op) (plain_kept op.what c.in_default.not-Guarded) in
-    λ f. subst (λ (x : Act). ActTaken f c.args.text.now c.args.judge.now c.args.cursor.now new to x c.operate_plain.result) (sym act)
-    (c.operate_plain.ensures.taken f)
+    λ f. rw act (c.operate_plain.ensures.taken f)

@@ -1,21 +1,17 @@
-use Rattle.std.proofs.Common.{◌≡◌, ℕ, not, true, false, List, ap, sym, subst, ◌∙◌}
+use Rattle.std.proofs.Common.{◌≡◌, not, true, false, ap, sym, ◌∙◌}
 use Rattle.pas_bits.specs.Masks.{is_set}
-use Rattle.pas_trace.specs.Acts.{StopsIdle, idle_stops}
-use Rattle.pas_check.specs.Checks.{ActsTaken}
+use Rattle.pas_trace.specs.Acts.{StopsIdle}
 use Rattle.pas_check.proofs.Chains.{act_taken, chosen_alone, none_taken}
 use Rattle.pas_check.proofs.checking.stop_unless_awake.Goals as goal
 
 pub returns-then-get-clause-taken : goal.returns-then-get-clause-taken
 returns-then-get-clause-taken c =
     let off : not (is_set c.args.awake c.args.thread) ≡ false = ap not (sym c.get.ensures ∙ c.if-get.true) in
-    subst (λ (ks : List ℕ). ActsTaken c.args.text.now c.args.judge.now c.args.cursor.now c.args.judge.now c.args.cursor.now (idle_stops c.args.epochs ks) true)
-    (sym (chosen_alone (λ k. not (is_set c.args.awake k)) c.args.thread false off)) (none_taken c.args.text.now c.args.judge.now c.args.cursor.now)
+    rw (chosen_alone (λ k. not (is_set c.args.awake k)) c.args.thread false off) (none_taken c.args.text.now c.args.judge.now c.args.cursor.now)
 
 pub returns-clause-taken : goal.returns-clause-taken
 returns-clause-taken c =
     let on : not (is_set c.args.awake c.args.thread) ≡ true = ap not (sym c.get.ensures ∙ c.if-get.false) in
-    subst (λ (ks : List ℕ). ActsTaken c.args.text.now c.args.judge.now c.args.cursor.now c.stop_idle.new.judge c.stop_idle.new.cursor
-    (idle_stops c.args.epochs ks) c.stop_idle.result)
-    (sym (chosen_alone (λ k. not (is_set c.args.awake k)) c.args.thread true on))
+    rw (chosen_alone (λ k. not (is_set c.args.awake k)) c.args.thread true on)
     (act_taken c.args.text.now c.args.judge.now c.stop_idle.new.judge c.args.cursor.now c.stop_idle.new.cursor (StopsIdle c.args.thread c.args.epochs)
     c.stop_idle.result c.stop_idle.ensures.taken)

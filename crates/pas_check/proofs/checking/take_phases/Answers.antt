@@ -35,9 +35,7 @@ returns-clause-taken c keepers =
     first_on keepers c.args.text.now c.args.judge.now c.args.cursor.now c.args.phases.now c.index-phases-0.result c.as_slice.result.now some
     (c.as_slice.ensures ∙ ap ops_of c.index-phases-0.is)
     mid new at to c.take_later.result (ap (λ (f : Profile). f.threads) c.if-not-take_phase.ensures.sized.profile) c.if-not-take_phase.ensures.taken
-    (subst (λ (ps : List Phase). TakenTo c.args.text.now mid at new to (acts_from (threads_in mid) keepers 2 (map ops_of ps))
-    (close_acts (threads_in mid) keepers) c.take_later.result)
-    (rest_is c.args.phases.now) (c.take_later.ensures.taken keepers))
+    (rw (rest_is c.args.phases.now) at (c.take_later.ensures.taken keepers))
 
 pub returns-then-not-take_phase-clause-taken : goal.returns-then-not-take_phase-clause-taken
 returns-then-not-take_phase-clause-taken c keepers =

@@ -1,10 +1,12 @@
-use Rattle.std.proofs.Common.{◌+◌, List, drop, subst, drop_of_length-le}
+use Rattle.std.proofs.Common.{◌+◌, drop, drop_of_length-le}
 use Rattle.std.proofs.lemmas.List.{drop_more}
-use Rattle.pas_check.specs.Calls.{SweepGoes}
 use Rattle.pas_check.specs.declared.guard.Guard.{Guard}
 use Rattle.pas_check.proofs.Guardings.{sweep_amiss, sweep_begins, sweep_lowers, sweep_stays}
 use Rattle.pas_check.proofs.guarding.take_lowered.Goals as goal
 use Rattle.pas_check.proofs.guarding.take_lowered.Goals.{else-goes_down-via-then-goes_down+else-not-take_record, else-goes_down-via-else-goes_down}
+
+abbrev nobody : Guard
+nobody = record { keeper = 0; low = 0; high = 0; name = record { address = record { 0 = 0 }; turn = 0 } }
 
 pub loop-guard-init : goal.loop-guard-init
 loop-guard-init c = record {
@@ -18,16 +20,14 @@ returns-then-not-take_record-clause-taken c =
     let i = c.loop-guard.guard-index in
     sweep_amiss c.args.machine.now c.args.text.now c.args.cursor.now guards c.args.keeper c.args.all c.loop-guard.cursor c.take_record.new.cursor _
     (drop (i + 1) guards)
-    (subst (λ (gs : List Guard). SweepGoes c.args.machine.now c.args.text.now c.args.cursor.now c.loop-guard.cursor guards c.args.keeper c.args.all gs)
-    (drop_more guards i _ c.loop-guard-test.true) c.loop-guard.invariant.goes) c.if-goes_down.ensures (rw c.lowered.ensures at c.if-not-take_record.ensures.led)
+    (rw (drop_more guards i nobody c.loop-guard-test.true) at c.loop-guard.invariant.goes) c.if-goes_down.ensures
+    (rw c.lowered.ensures at c.if-not-take_record.ensures.led)
 
 pub loop-guard-preserved : goal.loop-guard-preserved
 loop-guard-preserved c =
     let guards = c.args.guards.now in
     let i = c.loop-guard.guard-index in
-    let before = subst (λ (gs : List Guard). SweepGoes c.args.machine.now c.args.text.now c.args.cursor.now c.loop-guard.cursor guards c.args.keeper
-    c.args.all gs)
-    (drop_more guards i _ c.loop-guard-test.true) c.loop-guard.invariant.goes in
+    let before = rw (drop_more guards i nobody c.loop-guard-test.true) at c.loop-guard.invariant.goes in
     elim c.else-goes_down.branch [
       | else-goes_down-via-then-goes_down+else-not-take_record w ↦ rw w.cursor-is record {
         within = w.if-not-take_record.ensures.within;
@@ -44,7 +44,4 @@ loop-guard-preserved c =
     ]
 
 pub returns-clause-taken : goal.returns-clause-taken
-returns-clause-taken c =
-    let guards = c.args.guards.now in
-    subst (λ (gs : List Guard). SweepGoes c.args.machine.now c.args.text.now c.args.cursor.now c.loop-guard.cursor guards c.args.keeper c.args.all gs)
-    (drop_of_length-le guards c.loop-guard-test.false) c.loop-guard.invariant.goes
+returns-clause-taken c = rw (drop_of_length-le c.args.guards.now c.loop-guard-test.false) at c.loop-guard.invariant.goes
