@@ -1,5 +1,5 @@
 -- The steps of a flush end names, and stamp and put back what they ended: none is a tick.
-use Rattle.std.proofs.Common.{arith, ◌≡◌, ℕ, ◌/◌, Bool, true, false, List, [], ◌∷◌, ◌++◌, inl, inr, refl, sym, subst}
+use Rattle.std.proofs.Common.{arith, ◌≡◌, ℕ, ◌/◌, Bool, true, false, List, [], ◌∷◌, ◌++◌, refl, sym, subst}
 use Rattle.pas_profile.specs.{Blocks.grain_of, Directories.deed_word_of}
 use Rattle.pas_profile.specs.declared.{name.Name.Name, word.Word.Word}
 use Rattle.pas_steps.specs.{Desks.made, InTurn.InTurn}
@@ -41,12 +41,10 @@ last_kind true entry guess = refl
 last_kind false entry guess = refl
 
 tries_only : (name : Name) (first guess : ℕ) (before : List Made) → Tries name first guess before → Only freeing before
-tries_only name first guess before (inl h) = none_only freeing before h.1
-tries_only name first guess before (inr h) = subst (Only freeing) (sym h.4) (refl, tt)
+tries_only name first guess before h = grind (arith, none_only)
 
 before_only : (t : Bool) (entry : Entry) (first guess : ℕ) (before : List Made) → TriesBy t entry first guess before → Only freeing before
-before_only true entry first guess before h = none_only freeing before h.1
-before_only false entry first guess before h = tries_only entry.name first guess before h
+before_only t entry first guess before h = grind (arith, none_only, tries_only)
 
 pub ends_only : (entry : Entry) (outcome : Outcome) (steps : List Made) → EndSteps entry outcome steps → Only freeing steps
 ends_only entry outcome steps h = search (arith, last_kind, only_both, before_only)

@@ -1,7 +1,7 @@
 -- The entries of a log that is emptied answer what is due, one after the other.
-use Rattle.std.proofs.Common.{◌≡◌, ℕ, ◌==◌, if◌then◌else◌, List, [], ◌∷◌, ◌++◌, Some, inr, refl, ap, sym, ◌∙◌, subst, append_assoc, map, reverse}
+use Rattle.std.proofs.Common.{arith, ◌≡◌, ℕ, List, [], ◌∷◌, ◌++◌, Some, inr, refl, ap, sym, ◌∙◌, subst, append_assoc, map, reverse}
 use Rattle.std.proofs.lemmas.List.{map-append, reverse-append}
-use Rattle.pas_profile.specs.{Blocks.address_of, Profiles.IsValid}
+use Rattle.pas_profile.specs.Profiles.{IsValid}
 use Rattle.pas_profile.specs.declared.{event.Event.Event, profile.Profile.Profile, word.Word.Word}
 use Rattle.pas_machine.specs.{Machine.Admits, Machine.Run, State.Live, State.live_in}
 use Rattle.pas_core.proofs.{MachineRuns.runs, OneActor.legal_earlier}
@@ -48,18 +48,14 @@ known_more x xs = reverse-append (known_as x.entry ∷ []) (map (λ (y : Settled
 
 -- what lives after their events lived before them
 lived_one : (k epoch : ℕ) (entry : Entry) (outcome : Outcome) (es : List Event) (address : ℕ) (b : Live) → live_in (event_for k epoch entry outcome ∷ es) address ≡ Some b → live_in es address ≡ Some b
-lived_one k epoch entry (Ended grains) es address b is = ended_if (address_of entry.name == address) (live_in es address) b is
-lived_one k epoch entry (Refused read) es address b is = is
+lived_one k epoch entry outcome es address b h = grind (arith, ended_if)
 
 lived_all : (k epoch : ℕ) (settled : List Settled) (es : List Event) (address : ℕ) (b : Live) → live_in (map (shown_for k epoch) settled ++ es) address ≡ Some b → live_in es address ≡ Some b
 lived_all k epoch [] es address b is = is
 lived_all k epoch (x ∷ xs) es address b is = lived_all k epoch xs es address b (lived_one k epoch x.entry x.outcome (map (shown_for k epoch) xs ++ es) address b is)
 
 still_heeds : (k epoch : ℕ) (settled : List Settled) (es : List Event) (entry : Entry) (outcome : Outcome) → Heeds es entry outcome → Heeds (map (shown_for k epoch) settled ++ es) entry outcome
-still_heeds k epoch settled es entry (Refused read) heeds = tt
-still_heeds k epoch settled es entry (Ended grains) heeds = λ differs.
-    let other = differs.1 in
-    heeds (differs.0, record { block = other.block; lives = lived_all k epoch settled es (address_of entry.name) other.block other.lives; turn_is = other.turn_is; differs = other.differs })
+still_heeds k epoch settled es entry outcome h = grind (arith, lived_all)
 
 entries_lead : (f : Profile) (k : ℕ) (s : Stand) (settled : List Settled) (more : List Due) → AllHeed s.events settled → Run f (shown_by k s settled ++ s.events) → s.due ≡ entries_due k (known_in settled) ++ more
     → LeadsOn f s (lines_by (records_of (shown_by k s settled))) (settled_in k s settled more)

@@ -1,6 +1,6 @@
 -- Guarded requests: the lines of the keeper, and where it gave nothing, those of the thread; and the close of a keeper.
-use Rattle.std.proofs.Common.{◌≡◌, ℕ, ◌+◌, ◌-◌, ◌*◌, ◌/◌, ◌%◌, ◌==◌, Bool, if◌then◌else◌, true, false, ◌&&◌, ◌||◌, not, List, [], ◌∷◌, ◌++◌, length, Option}
-use Rattle.std.proofs.Common.{Some, None, inl, inr, refl, ap, sym, ◌∙◌, subst, arith, append-nil, map, MatchOption, MatchResult, eq-eqb, le-leb}
+use Rattle.std.proofs.Common.{◌≡◌, ℕ, ◌+◌, ◌-◌, ◌*◌, ◌/◌, ◌%◌, ◌==◌, Bool, if◌then◌else◌, true, false, ◌||◌, not, List, [], ◌∷◌, ◌++◌, length, Option, Some}
+use Rattle.std.proofs.Common.{None, inl, inr, refl, ap, sym, ◌∙◌, subst, arith, append-nil, map, MatchOption, MatchResult, eq-eqb, le-leb}
 use Rattle.std.specs.List.{AllByRecursion, filter}
 use Rattle.std.proofs.lemmas.Bool.{and_from}
 use Rattle.pas_bits.specs.Runs.{in_run}
@@ -111,8 +111,7 @@ module _ (f : Profile) (w : Stand) (keeper k : ℕ) (r : Request) (es : List Eve
   by_thread = record w { events = es; due = Serves k r None ∷ [] }
 
   taken_by : (line : List ℕ) (next : Stand) → Takes f by_thread line next → Takes f (trying w keeper k r false es) line next
-  taken_by line next (inl none) = absurd none
-  taken_by line next (inr takes) = inr (inr (inr (refl, takes)))
+  taken_by line next h = grind arith
 
   on_thread : LeadsOn f (trying w keeper k r false es) [] by_thread
   on_thread [] whole = let none = ap (λ (ds : List Due). length ds) (subst (IsDone f) whole.1 whole.2) in absurd (omega (arith, none))

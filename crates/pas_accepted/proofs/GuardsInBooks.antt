@@ -31,8 +31,7 @@ staying es all guards = filter (λ guard. not (is_down es all guard)) guards
 -- ---- filters, one after the other
 module _ (p t : Known → Bool) where
   both_of : (a : Bool) (x : Known) (all some : List Known) → some ≡ filter t all → (if a && t x then x ∷ some else some) ≡ filter t (if a then x ∷ all else all)
-  both_of true x all some same = ap (λ (xs : List Known). if t x then x ∷ xs else xs) same
-  both_of false x all some same = same
+  both_of a x all some h = grind arith
 
   both_tests : (xs : List Known) → filter (λ x. p x && t x) xs ≡ filter t (filter p xs)
   both_tests [] = refl
@@ -40,10 +39,7 @@ module _ (p t : Known → Bool) where
 
   rest_of : (a b : Bool) (x : Known) (kept all : List Known) → p x ≡ a → t x ≡ b → filter p kept ≡ filter (λ y. not (t y)) all
       → filter p (if not (a && b) then x ∷ kept else kept) ≡ filter (λ y. not (t y)) (if a then x ∷ all else all)
-  rest_of true true x kept all px tx same = same ∙ ap (λ (c : Bool). if not c then x ∷ filter (λ y. not (t y)) all else filter (λ y. not (t y)) all) (sym tx)
-  rest_of true false x kept all px tx same =
-      cc
-  rest_of false b x kept all px tx same = ap (λ (c : Bool). if c then x ∷ filter p kept else filter p kept) px ∙ same
+  rest_of a b x kept all h i j = grind arith
 
   rest_tests : (xs : List Known) → filter p (filter (λ x. not (p x && t x)) xs) ≡ filter (λ x. not (t x)) (filter p xs)
   rest_tests [] = refl
@@ -51,18 +47,14 @@ module _ (p t : Known → Bool) where
 
   other_of : (q : Known → Bool) (a b c : Bool) (x : Known) (kept all : List Known) → q x ≡ c → (c ≡ true → a ≡ false) → filter q kept ≡ filter q all
       → filter q (if not (a && b) then x ∷ kept else kept) ≡ (if c then x ∷ filter q all else filter q all)
-  other_of q true true true x kept all qx apart same = absurd (false≢true (sym (apart refl)))
-  other_of q true true false x kept all qx apart same = same
-  other_of q true false c x kept all qx apart same = ap (λ (d : Bool). if d then x ∷ filter q kept else filter q kept) qx ∙ ap (λ (ys : List Known). if c then x ∷ ys else ys) same
-  other_of q false b c x kept all qx apart same = ap (λ (d : Bool). if d then x ∷ filter q kept else filter q kept) qx ∙ ap (λ (ys : List Known). if c then x ∷ ys else ys) same
+  other_of q a b c x kept all h i j = grind (arith, false≢true)
 
   other_tests : (q : Known → Bool) → ((x : Known) → q x ≡ true → p x ≡ false) → (xs : List Known) → filter q (filter (λ x. not (p x && t x)) xs) ≡ filter q xs
   other_tests q apart [] = refl
   other_tests q apart (x ∷ xs) = other_of q (p x) (t x) (q x) x (filter (λ y. not (p y && t y)) xs) xs refl (apart x) (other_tests q apart xs)
 
 mapped_if : (a : Bool) (g : Guard → Known) (x : Guard) (xs : List Guard) (ys : List Known) → ys ≡ map g xs → (if a then g x ∷ ys else ys) ≡ map g (if a then x ∷ xs else xs)
-mapped_if true g x xs ys same = ap (λ (zs : List Known). g x ∷ zs) same
-mapped_if false g x xs ys same = same
+mapped_if a g x xs ys h = grind arith
 
 mapped_filter : (g : Guard → Known) (t : Known → Bool) (xs : List Guard) → filter t (map g xs) ≡ map g (filter (λ x. t (g x)) xs)
 mapped_filter g t [] = refl

@@ -7,7 +7,7 @@ use Rattle.pas_free_log.specs.Frames.{freeing}
 use Rattle.pas_cache.specs.{Caches.Cached, Refusals.IsTrulyRefused}
 use Rattle.pas_report.specs.declared.record.Record.{Record}
 use Rattle.pas_trace.specs.declared.{item.Request.Request, plan.What.What}
-use Rattle.pas_trace.specs.declared.plan.What.TheVariants.{Alloc, Guarded, Free, FreeSized, Raw, RawSized, Remake, Flush, Stop, Tick, Pass, Idle}
+use Rattle.pas_trace.specs.declared.plan.What.TheVariants.{Alloc, Guarded, Free, FreeSized, Raw, RawSized, Remake, Flush, Stop}
 use Rattle.pas_answers.specs.Answers.{Answer, IsAnswered, IsFreedBy, IsServed, Progress, after_answer, having, records_of, room_noted, said_by, wanted_by}
 use Rattle.pas_trace.specs.Named.{standing_for}
 use Rattle.pas_answers.specs.Refusals.{RefusesTruly}
@@ -86,6 +86,4 @@ module _ (f : Profile) (valid : IsValid f) (p : Progress) (s : Stand) (ts : List
         due = refl;
         left = refl;
       }
-  what_comes (Tick e) is truly begun = absurd is
-  what_comes Pass is truly begun = absurd is
-  what_comes (Idle n) is truly begun = absurd is
+  what_comes _ is truly begun = absurd is

@@ -31,9 +31,7 @@ abbrev pub IsRead : Bool → Progress → Type 0
 IsRead known p = known ≡ true → p.epoch ≡ word_after p.list Word.Epoch
 
 pub in_place : (known : Bool) (act : Act) (p : Progress) → MayStand known act → IsRead known p → IsInPlace act p
-in_place known (StopsIdle k n) p is read = read is
-in_place known (Guards keeper op) p is read = is
-in_place known act p is read = tt
+in_place known act p h i = grind arith
 
 never : {A : Type 0} → false ≡ true → A
 never is = absurd (true≢false (sym is))
@@ -56,9 +54,8 @@ stops_on n [] rest on = on true
 stops_on n (k ∷ idle) rest on = (refl, stops_on n idle rest on)
 
 chore_on : (idle : List ℕ) (chore : Chore) (rest : List Act) → Anyhow rest → Anyhow (acts_of_chore idle chore ++ rest)
-chore_on idle (Chore.Tick epoch) rest on known = (tt, on false)
-chore_on idle Chore.Pass rest on known = (tt, on false)
 chore_on idle (Chore.Idle n) rest on known = (tt, stops_on n idle rest on)
+chore_on idle _ rest on known = (tt, on false)
 
 own_on : (keeper : Option ℕ) (op : Op) (rest : List Act) → keeper_in op.what ≡ keeper → Anyhow rest → Anyhow (act_kept keeper op ∷ (Settles op.actor ∷ rest))
 own_on None op rest kept on known = (tt, (tt, on false))

@@ -27,8 +27,7 @@ quiet_visible steps l only = visible_piece 0 steps l ∙ ap (λ es. es ++ visibl
 
 -- ---- what a word that was read says
 none_backed : (b : Bool) → 0 ≡ word_of_backed b → b ≡ false
-none_backed true is = absurd (omega (arith, is))
-none_backed false is = refl
+none_backed b h = grind arith
 
 bare_at : (f : Profile) (l : Whole) (page : ℕ) → Legal f l → 0 ≡ word_after l (Word.Backed page) → backed_in (visible l) page ≡ false
 bare_at f l page legal read = none_backed (backed_in (visible l) page) (read ∙ backed_of f l legal page)

@@ -1,5 +1,5 @@
 -- The events and the records of a piece, and tables by thread after it.
-use Rattle.std.proofs.Common.{arith, ◌≡◌, ℕ, Bool, true, false, if◌then◌else◌, List, [], ◌∷◌, ◌++◌, refl, ap, ◌∙◌, map, reverse, eq-eqb, ne_eqb}
+use Rattle.std.proofs.Common.{arith, ◌≡◌, ℕ, Bool, if◌then◌else◌, List, [], ◌∷◌, ◌++◌, refl, ap, ◌∙◌, map, reverse, eq-eqb, ne_eqb}
 use Rattle.std.proofs.lemmas.{Bool.cases_eq, List.map-append, List.reverse-append}
 use Rattle.pas_profile.specs.declared.event.Event.{Event}
 use Rattle.pas_steps.specs.{Desks.triples, Events.event_of, Events.events_by, Events.with_event, Lists.Whole, Lists.part, Lists.visible, Views.epoch_of}
@@ -31,8 +31,7 @@ lines_more e es = ap (λ (x : List Event). lines_by (map Record.Event x)) (rever
 
 -- ---- tables by thread, of which that of one thread became another
 pub table_at : {A B : Type 0} (T : Cached → A) (g : B → A) (t : Bool) (c d : Cached) (b e : B) → T c ≡ g b → T d ≡ g e → T (if t then c else d) ≡ g (if t then b else e)
-table_at T g true c d b e new old = new
-table_at T g false c d b e new old = old
+table_at T g t c d b e h i = grind arith
 
 pub table_same : {A : Type 0} (T : Cached → A) (caches : Caches) (k : ℕ) (c : Cached) → T c ≡ T (caches k) → (j : ℕ) → T (with_cache caches k c j) ≡ T (caches j)
 table_same T caches k c same j = search (arith, cases_eq, eq-eqb, ne_eqb)

@@ -32,8 +32,7 @@ use Rattle.pas_accepted.proofs.Telling.{Comes, Tells, piece_of, told_after}
 
 -- no request changes when its thread read the epoch
 idle_kept : (f : Profile) (wanted : Wanted) (found : Option ℕ) (c c' : Cached) (steps : List Made) (answer : Result Block NoRoom) (route : Route) → ServesBy route f wanted found c c' steps answer → c'.idle_since ≡ c.idle_since
-idle_kept f wanted found c c' steps answer (Route.Class class) h = ap (λ (d : Cached). d.idle_since) h.cache
-idle_kept f wanted found c c' steps answer route h = ap (λ (d : Cached). d.idle_since) h.cache
+idle_kept f wanted found c c' steps answer route h = grind arith
 
 -- ---- what a check knows after a request
 module _ (f : Profile) (p : Progress) (s : Stand) (ts : List Task) (tells : Tells p s) (k : ℕ) (r : Request) (placed : Answer) (is : IsServed f k r (having p.names (part k p.list) (p.caches k)) placed) (legal : Legal f (triples k placed.steps ++ p.list)) where

@@ -1,12 +1,12 @@
 -- The report of a replay is allowed line by line.
-use Rattle.std.proofs.Common.{◌≡◌, ℕ, zero, suc, ◌≤◌, Bool, true, false, List, [], ◌∷◌, ◌++◌, Option, Some, None, codes, inr, refl, ap, sym, ◌∙◌, subst, arith}
+use Rattle.std.proofs.Common.{◌≡◌, ℕ, zero, suc, ◌≤◌, Bool, true, List, [], ◌∷◌, ◌++◌, Option, Some, None, codes, inr, refl, ap, sym, ◌∙◌, subst, arith}
 use Rattle.std.proofs.Common.{append-nil, append_assoc}
 use Rattle.pas_profile.specs.declared.{directory.Directory.Directory, event.Event.Event, profile.Profile.Profile}
-use Rattle.pas_machine.specs.State.{deed_in, epoch_in}
+use Rattle.pas_machine.specs.State.{deed_in}
 use Rattle.pas_machine.specs.Totals.{backed_total, deeds_total, ended_total, given_total, live_total}
 use Rattle.pas_steps.specs.Lists.{Whole, visible}
 use Rattle.pas_report.specs.{Marks.Marked, Marks.marks_after, Marks.marks_text, Rests.AreTrueMarks}
-use Rattle.pas_report.specs.Reports.{live_on, machine_page, machine_pages, page_text, report_text, total_line, uncovered_on}
+use Rattle.pas_report.specs.Reports.{machine_page, machine_pages, page_text, report_text, total_line}
 use Rattle.pas_check.specs.{Accepted.IsWhole, Begins.page_due, Begins.pages_due, Lines.is_line, Lines.lines_in, Takes.AreAllowedMarks, Takes.head_line}
 use Rattle.pas_check.specs.States.{Due, Heads, Reports, Shows, Stand, Totals}
 use Rattle.pas_check.proofs.Cuts.{cut_line, kind_first, number_first, totals_end}
@@ -25,29 +25,13 @@ abbrev pub report_lines : Profile → List Event → (ℕ → Marked) → List (
 report_lines f es marks = head_line ∷ (page_lines es marks f.pages ++ total_line f es ∷ [])
 
 marks_end : (b o p h : Bool) → is_line (marks_text record { backed = b; offered = o; parked = p; hinted = h } ++ codes "\n") ≡ true
-marks_end true true true true = refl
-marks_end true true true false = refl
-marks_end true true false true = refl
-marks_end true true false false = refl
-marks_end true false true true = refl
-marks_end true false true false = refl
-marks_end true false false true = refl
-marks_end true false false false = refl
-marks_end false true true true = refl
-marks_end false true true false = refl
-marks_end false true false true = refl
-marks_end false true false false = refl
-marks_end false false true true = refl
-marks_end false false true false = refl
-marks_end false false false true = refl
-marks_end false false false false = refl
+marks_end b o p h = grind arith
 
 page_ends : (page : ℕ) (d : Directory) (live free stamp : ℕ) (m : Marked) → is_line (page_text page d live free stamp m) ≡ true
 page_ends page d live free stamp m = search (arith, number_first, kind_first, marks_end)
 
 cut_page : (es : List Event) (page : ℕ) (o : Option Directory) (m : Marked) (rest : List ℕ) → lines_in (machine_page es page o m ++ rest) ≡ page_line es page o m ++ lines_in rest
-cut_page es page None m rest = refl
-cut_page es page (Some d) m rest = cut_line (machine_page es page (Some d) m) rest (page_ends page d (live_on es page) (uncovered_on es page) (epoch_in es page) m)
+cut_page es page o m rest = grind (arith, cut_line, page_ends)
 
 cut_pages : (es : List Event) (marks : ℕ → Marked) (n : ℕ) (rest : List ℕ) → lines_in (machine_pages es marks n ++ rest) ≡ page_lines es marks n ++ lines_in rest
 cut_pages es marks zero rest = refl

@@ -1,6 +1,6 @@
 -- A request: deeds and backs, and then the give of its block or a refusal, which is true.
-use Rattle.std.proofs.Common.{arith, ◌≡◌, ◌≢◌, ℕ, ◌/◌, Bool, true, false, List, [], ◌∷◌, ◌++◌, Option, Some, None, Result, Ok, Err, inl, inr, refl, ap, sym}
-use Rattle.std.proofs.Common.{◌∙◌, subst, append-nil, MatchResult}
+use Rattle.std.proofs.Common.{arith, ◌≡◌, ℕ, ◌/◌, Bool, true, false, List, [], ◌∷◌, ◌++◌, Option, Some, None, Result, Ok, Err, inl, inr, refl, ap, sym, ◌∙◌}
+use Rattle.std.proofs.Common.{subst, append-nil, MatchResult}
 use Rattle.std.specs.List.{AllByRecursion}
 use Rattle.pas_bits.specs.Runs.{in_run}
 use Rattle.pas_profile.specs.{Blocks.grain_of, Blocks.length_of, Directories.IsKind, Directories.deed_word_of, Profiles.IsValid, Requests.is_shared}
@@ -23,8 +23,7 @@ use Rattle.pas_report.specs.Lines.{line_of_answer, line_of_event}
 use Rattle.pas_report.specs.declared.record.{Record.Record, Said.Said}
 use Rattle.pas_trace.specs.declared.item.Request.{Request}
 use Rattle.pas_answers.specs.Answers.{IsGiven, RefusalEnds, RequestEnds, block_of, records_of, said_by, said_of_request, said_of_room, wanted_by}
-use Rattle.pas_check.specs.Begins.{is_full, logging, replacing, unsized}
-use Rattle.pas_check.specs.{Calls.after_request, Takes.IsPreparing, Takes.IsRefusal, Takes.directory_of}
+use Rattle.pas_check.specs.{Begins.logging, Begins.replacing, Calls.after_request, Takes.IsPreparing, Takes.IsRefusal, Takes.directory_of}
 use Rattle.pas_check.specs.States.{Due, Serves, Stand, with_due, with_name}
 use Rattle.pas_check.specs.declared.entry.Entry.{Entry}
 use Rattle.pas_accepted.proofs.Going.{LeadsOn, on_as, on_both, on_line, on_same}
@@ -32,17 +31,13 @@ use Rattle.pas_accepted.proofs.Pieces.{lines_both, lines_by, lines_more, visible
 
 -- ---- the directory of a request
 kind_routed : (f : Profile) (size align : ℕ) (shared : Bool) (route : Route) → route_in f size align ≡ route → IsKind (kind_of_route shared route)
-kind_routed f size align true (Route.Class class) is = tt
-kind_routed f size align false (Route.Class class) is = class_known f.classes size align class (class_suits f.classes size align class is)
-kind_routed f size align shared Route.Bitfit is = tt
-kind_routed f size align shared Route.Large is = tt
+kind_routed f size align shared route h = grind (arith, class_known, class_suits)
 
 pub kind_asked : (f : Profile) (r : Request) → IsKind (directory_of f r).kind
 kind_asked f r = kind_routed f r.size r.align (is_shared f r.heap) (route_in f r.size r.align) refl
 
 directory_told : (o : Option Directory) (d : Directory) → IsKind d.kind → ((x : Directory) → o ≡ Some x → IsKind x.kind) → word_of_deed o ≡ deed_word_of d → o ≡ Some d
-directory_told None d is all word = absurd (deed_word_of-positive d (sym word))
-directory_told (Some x) d is all word = ap (λ y. Some y) (same_from_deed_word x d (all x refl) is word)
+directory_told o d h i j = grind (arith, deed_word_of-positive, same_from_deed_word)
 
 -- a deed word of this directory is the page's deed
 deed_told : (f : Profile) (l : Whole) (page : ℕ) (d : Directory) → Legal f l → IsKind d.kind → word_after l (Word.Deed page) ≡ deed_word_of d → deed_in (visible l) page ≡ Some d
@@ -57,8 +52,7 @@ abbrev pub serving : Stand → ℕ → Request → Option Name → List Event �
 serving w k r replaced es = record w { events = es; due = Serves k r replaced ∷ [] }
 
 prepared_by : (k : ℕ) (d : Directory) (e : Event) → Prepares d e → actor_of e ≡ k → IsPreparing k d e
-prepared_by k d e (Prepares.Deeds j page) own = inl (page, ap (λ i. Event.Deed i page d) own)
-prepared_by k d e (Prepares.Backs j page) own = inr (page, ap (λ i. Event.Back i page) own)
+prepared_by k d e h i = grind arith
 
 pub all_prepared : (k : ℕ) (d : Directory) (es : List Event) → AllByRecursion (Prepares d) es → AllByRecursion (λ e. actor_of e ≡ k) es → AllByRecursion (IsPreparing k d) es
 all_prepared k d [] all own = tt
@@ -81,14 +75,10 @@ all_deeds d [] all = tt
 all_deeds d (e ∷ es) all = (deeds_prepare d e all.0, all_deeds d es all.1)
 
 refusal_prepares : (route : Route) (d : Directory) (es : List Event) → RefusalEnds route d es → AllByRecursion (Prepares d) es
-refusal_prepares (Route.Class class) d es none = subst (AllByRecursion (Prepares d)) (sym none) tt
-refusal_prepares Route.Bitfit d es none = subst (AllByRecursion (Prepares d)) (sym none) tt
-refusal_prepares Route.Large d es all = all_deeds d es all
+refusal_prepares route d es h = grind (arith, all_deeds)
 
 reason_by : (route : Route) (f : Profile) (w : Wanted) (locals : List Slots) (entry exit : Whole) (room : NoRoom) → IsTrulyRefusedBy route f w locals entry exit room → IsTrueReason f w.directory exit room
-reason_by (Route.Class class) f w locals entry exit room h = h.reason
-reason_by Route.Bitfit f w locals entry exit room h = h.reason
-reason_by Route.Large f w locals entry exit room h = h.2
+reason_by route f w locals entry exit room h = grind arith
 
 -- after the request
 abbrev pub served : Stand → ℕ → Request → Option Name → Result Block NoRoom → List Event → Stand
@@ -106,8 +96,7 @@ logged_apart true v k entry due = refl
 logged_apart false v k entry due = refl
 
 due_apart : (replaced : Option Name) (v : Stand) (k : ℕ) (due : List Due) → replacing replaced (with_due v due) k [] ≡ replacing replaced v k []
-due_apart None v k due = refl
-due_apart (Some old) v k due = logged_apart (is_full v k) v k (unsized old) due
+due_apart replaced v k due = grind (arith, logged_apart)
 
 module _ (f : Profile) (valid : IsValid f) (w : Stand) (k : ℕ) (r : Request) (replaced : Option Name) (l : Whole) (steps : List Made) (events : w.events ≡ visible l) (legal : Legal f (triples k steps ++ l)) where
   run : Run f (visible (triples k steps ++ l))

@@ -1,6 +1,6 @@
 -- A block that a flush ended by an entry with a room had that room.
-use Rattle.std.proofs.Common.{◌≡◌, ◌≢◌, ℕ, ◌+◌, ◌/◌, ◌%◌, ◌==◌, Bool, true, false, not, ◌&&◌, if◌then◌else◌, List, [], ◌∷◌, ◌++◌, Option, Some, None, refl, ap}
-use Rattle.std.proofs.Common.{sym, ◌∙◌, subst, arith, append_assoc, ne_eqb}
+use Rattle.std.proofs.Common.{◌≡◌, ◌≢◌, ℕ, ◌+◌, ◌/◌, ◌%◌, Bool, true, false, not, if◌then◌else◌, List, [], ◌∷◌, ◌++◌, Option, Some, None, refl, ap, sym, ◌∙◌}
+use Rattle.std.proofs.Common.{subst, arith, append_assoc, ne_eqb}
 use Rattle.std.specs.List.{AllByRecursion}
 use Rattle.std.proofs.lemmas.{Bool.cond_both, Bool.false≢true, Option.none-some, Option.same_Some}
 use Rattle.pas_profile.specs.{Blocks.address_of, Blocks.grain_of, Lives.live_word, Profiles.IsValid}
@@ -12,8 +12,7 @@ use Rattle.pas_core.proofs.{Lives.block_of_word, Lives.life_at, OneActor.legal_e
 use Rattle.pas_steps.specs.{Desks.made, Desks.triples, Effects.life_word_at, Kinds.Only, Kinds.is_in, Kinds.kind_of, Views.epoch_of, Events.event_of}
 use Rattle.pas_steps.specs.{Events.with_event}
 use Rattle.pas_steps.specs.Lists.{Legal, Whole, part, visible, word_after}
-use Rattle.pas_steps.specs.declared.step.{Made.Made, Step.Step}
-use Rattle.pas_steps.specs.declared.step.Step.TheVariants.{Look, Deed, Back, Give, End, EndSized, Unback}
+use Rattle.pas_steps.specs.declared.step.{Made.Made, Step.Step, Step.TheVariants.Look, Step.TheVariants.Deed, Step.TheVariants.EndSized}
 use Rattle.pas_steps.proofs.Apart.{only_both}
 use Rattle.pas_free_log.specs.{Endings.EndSteps, Endings.TriesBy, Endings.last_step, Flushes.EntriesSteps, Flushes.EntrySteps, Flushes.Settled, Frames.freeing}
 use Rattle.pas_free_log.specs.{Logs.is_sized}
@@ -27,13 +26,7 @@ ended_if true old b is = absurd (none-some b is)
 ended_if false old b is = is
 
 lived_before : (k e : ℕ) (s : Step) (a : ℕ) (es : List Event) (address : ℕ) (b : Live) → is_in freeing (kind_of s) ≡ true → live_in (with_event (event_of k e s a) es) address ≡ Some b → live_in es address ≡ Some b
-lived_before k e (End name guess) a es address b of = search (arith, cond_both, ended_if)
-lived_before k e (EndSized name room) a es address b of = search (arith, cond_both, ended_if)
-lived_before k e (Give block) a es address b of = absurd (false≢true of)
-lived_before k e (Deed page d) a es address b of = absurd (false≢true of)
-lived_before k e (Back page) a es address b of = absurd (false≢true of)
-lived_before k e (Unback page) a es address b of = absurd (false≢true of)
-lived_before k e s a es address b of = λ is. is
+lived_before k e s a es address b h = grind (arith, cond_both, ended_if, false≢true)
 
 lived_then : (k : ℕ) (xs : List Made) (l : Whole) (address : ℕ) (b : Live) → Only freeing xs → live_in (visible (triples k xs ++ l)) address ≡ Some b → live_in (visible l) address ≡ Some b
 lived_then k [] l address b only is = is

@@ -1,5 +1,5 @@
 -- A keeper's sweep lowers just the guards whose blocks have ended, or all; and it makes no event.
-use Rattle.std.proofs.Common.{◌≡◌, ℕ, ◌/◌, ◌%◌, Bool, true, false, ◌||◌, if◌then◌else◌, List, [], ◌∷◌, ◌++◌, inr, refl, ap, sym, ◌∙◌, subst, arith, map}
+use Rattle.std.proofs.Common.{◌≡◌, ℕ, ◌/◌, ◌%◌, Bool, true, false, ◌||◌, List, [], ◌∷◌, ◌++◌, inr, refl, ap, sym, ◌∙◌, subst, arith, map}
 use Rattle.pas_profile.specs.{Blocks.address_of, Lives.turn_of, Profiles.IsValid}
 use Rattle.pas_profile.specs.declared.{event.Event.Event, profile.Profile.Profile, word.Word.Word}
 use Rattle.pas_machine.specs.State.{ends_in, gives_in, live_in}
@@ -36,8 +36,7 @@ lowered_are keeper (guard ∷ guards) = ap (λ (rs : List Record). lowered_by ke
 -- of a guard that is in both lists or in neither the rest decides
 one_is : (es : List Event) (all t : Bool) (k : ℕ) (guard : Guard) (guards : List Guard) (first : List Made) (kept after : List Guard) (said more : List Record) → t ≡ is_down es all guard → SweptOne t k guard first kept after said more
     → after ≡ staying es all guards → more ≡ map (lowered_by k) (going es all guards) → (kept ≡ staying es all (guard ∷ guards)) × (said ≡ map (lowered_by k) (going es all (guard ∷ guards)))
-one_is es all true k guard guards first kept after said more down one stay go = search arith
-one_is es all false k guard guards first kept after said more down one stay go = search arith
+one_is es all t k guard guards first kept after said more h i j m = grind arith
 
 pub record IsSwept (es : List Event) (k : ℕ) (all : Bool) (guards kept : List Guard) (said : List Record) (steps : List Made) (l : Whole) : Type 0 where
   pub stay : kept ≡ staying es all guards

@@ -1,11 +1,10 @@
 -- The pages of a pass, tried one after the other: their outcomes rise, and each may come.
-use Rattle.std.proofs.Common.{◌≡◌, ℕ, zero, suc, ◌+◌, ◌*◌, ◌<◌, ◌≤◌, Bool, true, false, if◌then◌else◌, List, [], ◌∷◌, ◌++◌, Option, Some, None, inl, refl, ap}
-use Rattle.std.proofs.Common.{sym, ◌∙◌, subst, arith, append-nil, map, reverse}
+use Rattle.std.proofs.Common.{◌≡◌, ℕ, zero, suc, ◌+◌, ◌*◌, ◌<◌, ◌≤◌, Bool, if◌then◌else◌, List, [], ◌∷◌, ◌++◌, Option, Some, None, inl, refl, ap, sym, ◌∙◌}
+use Rattle.std.proofs.Common.{subst, arith, append-nil, map, reverse}
 use Rattle.std.proofs.lemmas.List.{map-append, reverse-append}
 use Rattle.pas_bits.specs.Bits.{has_bit}
 use Rattle.pas_profile.specs.Profiles.{IsValid}
-use Rattle.pas_profile.specs.declared.{event.Outcome.Outcome, profile.Profile.Profile, word.Word.Word}
-use Rattle.pas_profile.specs.declared.event.Outcome.TheVariants.{Unbacked, Bare, Young, InUse, NotOffered}
+use Rattle.pas_profile.specs.declared.{event.Outcome.Outcome, profile.Profile.Profile, word.Word.Word, event.Outcome.TheVariants.InUse}
 use Rattle.pas_core.proofs.OneActor.{legal_earlier}
 use Rattle.pas_steps.specs.{Desks.made, Desks.triple, Desks.triples, InTurn.InTurn, InTurn.numbers_below, Kinds.Only, Views.known_epoch}
 use Rattle.pas_steps.specs.Lists.{Legal, Whole, part, visible}
@@ -58,18 +57,12 @@ record IsTried (f : Profile) (s : Stand) (l : Whole) (page last : ℕ) (o : Opti
   leads : LeadsOn f (at_pass s l last) (outcome_lines s.epoch (with_outcome page o [])) (at_pass s (triples 0 steps ++ l) (last_after o page last))
 
 same_record : (epoch page : ℕ) (o : Outcome) → record_of 0 epoch page o ≡ allowed_record epoch page o
-same_record epoch page Unbacked = refl
-same_record epoch page Bare = refl
-same_record epoch page (Young stamp) = refl
 same_record epoch page (InUse word value) = refl
-same_record epoch page NotOffered = refl
+same_record epoch page _ = refl
 
 then_is : (s : Stand) (page : ℕ) (o : Outcome) → after_outcome s page o ≡ record s { events = unback_of 0 s.epoch page o ++ s.events }
-then_is s page Unbacked = refl
-then_is s page Bare = refl
-then_is s page (Young stamp) = refl
 then_is s page (InUse word value) = refl
-then_is s page NotOffered = refl
+then_is s page _ = refl
 
 try_page : (f : Profile) → IsValid f → (s : Stand) (l : Whole) (page last : ℕ) (o : Option Outcome) (steps : List Made) → MayPass s l → (1 ≤ page → last < page) → Legal f (triples 0 steps ++ l) → TrySteps f.age s.epoch page o steps
     → IsTried f s l page last o steps
@@ -152,8 +145,7 @@ raised low high more [] le falls = tt
 raised low high more (x ∷ xs) le falls = (falls.0, (omega (arith, falls.1, le)), falls.2)
 
 set_more : (t : Bool) (n m : ℕ) (xs : List ℕ) → Descends (64 * n) (64 * n + m) xs → Descends (64 * n) (64 * n + suc m) (if t then (64 * n + m) ∷ xs else xs)
-set_more true n m xs falls = (omega arith, omega arith, falls)
-set_more false n m xs falls = raised (64 * n) (64 * n + m) (64 * n + suc m) xs (omega arith) falls
+set_more t n m xs h = grind (arith, raised)
 
 set_falls : (n value m : ℕ) → Descends (64 * n) (64 * n + m) (pages_set n value m)
 set_falls n value zero = tt
