@@ -23,14 +23,12 @@ small_room f c less spare v le may = let two = may.room.0 in record {
 }
 
 more_room : (route : Route) (f : Profile) (c : Cached) (n less spare : ℕ) (v : View) → less ≤ spare → MayRequestBy route f c n less v → MayRequestBy route f c n spare v
-more_room (Route.Class class) f c n less spare v le may = small_room f c less spare v le may
-more_room Route.Bitfit f c n less spare v le may = small_room f c less spare v le may
 more_room Route.Large f c n less spare v le may = let room = may.room in record { rest = may.rest; room = omega (arith, room, le) }
+more_room _ f c n less spare v le may = small_room f c less spare v le may
 
 at_rest : (route : Route) (f : Profile) (c : Cached) (n spare : ℕ) (v : View) → MayRequestBy route f c n spare v → AtRest f c v
 at_rest (Route.Class class) f c n spare v may = may.rest
-at_rest Route.Bitfit f c n spare v may = may.rest
-at_rest Route.Large f c n spare v may = may.rest
+at_rest _ f c n spare v may = may.rest
 
 pub can_serve : {σ : Standing} (c : Cached) (heap size align spare : ℕ) → CanCall σ (MayMove σ.seat.profile (wanted_for σ.seat.profile heap size align) c spare) → CanCall σ (MayRequest σ.seat.profile (wanted_for σ.seat.profile heap size align) c spare)
 can_serve {σ} c heap size align spare can =
@@ -41,12 +39,11 @@ can_serve {σ} c heap size align spare can =
 small_left : {σ σ1 : Standing} (wanted : Wanted) (tells : Bool) (c c1 : Cached) (answer : Result Block NoRoom) (less spare spare1 : ℕ) → Allocates wanted tells c c1 σ σ1 answer → CanCall σ (MayAllocate σ.seat.profile c less) → Spares σ spare → Spares σ1 spare1
     → (spare ≤ spare1 + less) × (1 ≤ less)
 small_left {σ} wanted tells c c1 answer less spare spare1 did can law law1 =
-    let f = σ.seat.profile in
     let v = can.view in
     let few = did.few σ.seat.actor v can.met.rest (did.calls.adds.agreed v can.whole can.stood can.met.rest) in
     let falls = spare_falls spare spare1 (length (events_by σ.seat.actor v did.steps)) did.calls.adds (record { view = v; whole = can.whole; stood = can.stood; met = can.met.rest }) law law1 refl in
     let within : length (events_by σ.seat.actor v did.steps) ≤ less = elim can.met.room.1 [
-      | inl all ↦ let none = none_unknown f v all in omega (arith, few.paid, none, can.met.room.0)
+      | inl all ↦ let none = none_unknown σ.seat.profile v all in omega (arith, few.paid, none, can.met.room.0)
       | inr more ↦ omega (arith, few.most, more)
     ] in
     (omega (arith, falls, within), omega (arith, can.met.room.0))
@@ -61,9 +58,8 @@ large_left {σ} wanted found tells c c1 block less spare spare1 did can law law1
 
 left_by : (σ σ1 : Standing) (route : Route) (wanted : Wanted) (found : Option ℕ) (tells : Bool) (c c1 : Cached) (block : Block) (less spare spare1 : ℕ) → AllocatesBy route wanted found tells c c1 σ σ1 (Ok block) → CanCall σ (MayRequestBy route σ.seat.profile c (pages_of wanted) less)
     → Spares σ spare → Spares σ1 spare1 → (spare ≤ spare1 + less) × (1 ≤ less)
-left_by σ σ1 (Route.Class class) wanted found tells c c1 block less spare spare1 did can law law1 = small_left wanted tells c c1 (Ok block) less spare spare1 did can law law1
-left_by σ σ1 Route.Bitfit wanted found tells c c1 block less spare spare1 did can law law1 = small_left wanted tells c c1 (Ok block) less spare spare1 did can law law1
 left_by σ σ1 Route.Large wanted found tells c c1 block less spare spare1 did can law law1 = large_left wanted found tells c c1 block less spare spare1 did can law law1
+left_by σ σ1 _ wanted found tells c c1 block less spare spare1 did can law law1 = small_left wanted tells c c1 (Ok block) less spare spare1 did can law law1
 
 -- ---- what it comes to
 pub kept : {σ : Standing} (Answers : Option ℕ → Type 0) (Same : Type 0) (wanted : Wanted) (old : Block) (size align : ℕ) (c : Cached) → suits old size align ≡ true → Same → Moves Answers Same wanted old size align c c σ σ (Ok Kept)

@@ -1,5 +1,5 @@
 -- Where one actor alone has operations in a phase, all acts of each stage are in one worker's hands.
-use Rattle.std.proofs.Common.{◌≡◌, ℕ, ◌+◌, ◌==◌, ◌||◌, Option, None, Some, Bool, true, false, if◌then◌else◌, List, [], ◌∷◌, ◌++◌, map, refl, ap, sym, ◌∙◌}
+use Rattle.std.proofs.Common.{arith, ◌≡◌, ℕ, ◌+◌, ◌==◌, ◌||◌, Option, Bool, true, false, if◌then◌else◌, List, [], ◌∷◌, ◌++◌, map, refl, ap, sym, ◌∙◌}
 use Rattle.std.proofs.Common.{MatchOption, ◌≢◌, eqb-true}
 use Rattle.std.specs.List.{AllByRecursion, filter}
 use Rattle.std.proofs.lemmas.Bool.{false≢true}
@@ -9,8 +9,7 @@ use Rattle.pas_trace.specs.Asked.{keeper_in}
 use Rattle.pas_trace.specs.EveryPlan.{all_ops, asked_by, asked_after, AreSound, AreKept}
 use Rattle.pas_trace.specs.declared.plan.Op.{Op}
 use Rattle.pas_trace.proofs.EveryPlan.{every_plan}
-use Rattle.pas_trace.specs.Acts.{Act, Operates, Guards, Settles, Ticks, MakesPass, ReadsEpoch, StopsIdle, MarksPhase, Wakes, MarksClose, Ends, Lowers}
-use Rattle.pas_trace.specs.Acts.{is_active, numbers_from, idle_threads, acts_of_ops, close_acts}
+use Rattle.pas_trace.specs.Acts.{Act, Wakes, Ends, Lowers, is_active, numbers_from, idle_threads, acts_of_ops, close_acts}
 use Rattle.pas_answers.specs.Replays.{at_start, region_of, keepers_of, phases_of, stages_of_plan}
 use Rattle.pas_answers.specs.Stages.{Owners, itself, owner_in, one_by_one, phase_stages, stages_from, stages_of}
 use Rattle.pas_answers.proofs.OneHand.{IsHeldBy, AreHeldBy, IsOneHanded, one_handed_list}
@@ -60,18 +59,7 @@ wakes_held ops k (j ∷ js) own = at (wakes_held ops k js own) (is_active ops j)
 
 -- what its worker makes of what it has in hand, it has in hand
 held_of : (owner : Owners) (k : ℕ) (act : Act) → IsInHand owner act → actor_of_act act ≡ k → IsHeldBy owner (owner k) act
-held_of owner k (Operates op) hand is = ap owner is
-held_of owner k (Guards keeper op) hand is = (hand ∙ ap owner is, ap owner is)
-held_of owner k (Settles j) hand is = tt
-held_of owner k (Ticks epoch) hand is = ap owner is
-held_of owner k MakesPass hand is = ap owner is
-held_of owner k ReadsEpoch hand is = ap owner is
-held_of owner k (StopsIdle j n) hand is = hand ∙ ap owner is
-held_of owner k (MarksPhase n) hand is = tt
-held_of owner k (Wakes j) hand is = ap owner is
-held_of owner k MarksClose hand is = tt
-held_of owner k (Ends j) hand is = ap owner is
-held_of owner k (Lowers keeper) hand is = ap owner is
+held_of owner k act h i = grind arith
 
 all_held : (owner : Owners) (k : ℕ) (acts : List Act) → AreInHand owner acts → AreOf k acts → AreHeldBy owner (owner k) acts
 all_held owner k [] hands of = tt
@@ -95,8 +83,7 @@ sound_back f asked [] ys sound = sound
 sound_back f asked (x ∷ xs) ys sound = sound_back f (asked_after x.what asked) xs ys sound.2
 
 behind_one : (threads actor guard : ℕ) (o : Option ℕ) → MatchOption o (Unit {0}) (λ keeper. (keeper ≡ threads + actor) × (guard ≢ 0)) → MatchOption o (Unit {0}) (λ keeper. keeper ≡ threads + actor)
-behind_one threads actor guard None kept = tt
-behind_one threads actor guard (Some keeper) kept = kept.0
+behind_one threads actor guard o h = grind arith
 
 kept_front : (f : Profile) (guard : ℕ) (xs ys : List Op) → AreKept f guard (xs ++ ys) → AreKeptBehind f.threads xs
 kept_front f guard [] ys kept = tt

@@ -8,10 +8,9 @@ use Rattle.pas_shares.specs.Shares.{ArePhasesArranged}
 -- records without a mark are added to those since the last one
 gathers : (threads : ℕ) (since said rest : List Record) → AreSpoken said → by_phases threads since (said ++ rest) ≡ by_phases threads (since ++ said) rest
 gathers threads since [] rest spoken = ap (λ (rs : List Record). by_phases threads rs rest) (sym (append-nil since))
-gathers threads since (Record.Phase n ∷ said) rest spoken = absurd (false≢true spoken.0.1)
-gathers threads since (Record.Close ∷ said) rest spoken = absurd (false≢true spoken.0.1)
 gathers threads since (Record.Event e ∷ said) rest spoken = gathers threads (since ++ Record.Event e ∷ []) said rest spoken.1 ∙ ap (λ (rs : List Record). by_phases threads rs rest) (append_assoc since (Record.Event e ∷ []) said)
 gathers threads since (Record.Said k s ∷ said) rest spoken = gathers threads (since ++ Record.Said k s ∷ []) said rest spoken.1 ∙ ap (λ (rs : List Record). by_phases threads rs rest) (append_assoc since (Record.Said k s ∷ []) said)
+gathers threads since _ rest spoken = absurd (false≢true spoken.0.1)
 
 pub are_arranged : ArePhasesArranged
 are_arranged threads said spoken = (

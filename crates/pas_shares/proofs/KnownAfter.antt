@@ -1,9 +1,9 @@
 -- The names that were asked for stand for something after the acts too.
-use Rattle.std.proofs.Common.{◌≡◌, ℕ, Option, Some, None, List, [], ◌∷◌, refl, sym, subst}
+use Rattle.std.proofs.Common.{arith, ◌≡◌, ℕ, Option, Some, None, List, [], ◌∷◌, refl, sym, subst}
 use Rattle.pas_profile.specs.declared.{profile.Profile.Profile, name.Block.Block}
 use Rattle.pas_steps.specs.Lists.{part}
 use Rattle.pas_trace.specs.{Acts.Act, Acts.Operates, Acts.Guards, Asked.request_in, EveryPlan.asked_with, EveryPlan.asked_after}
-use Rattle.pas_answers.specs.{Answers.Progress, Calls.AreKnown, Guarding.after_trying}
+use Rattle.pas_answers.specs.{Answers.Progress, Calls.AreKnown}
 use Rattle.pas_answers.proofs.{KnownNames.known_after, KnownNames.known_named, Reached.put_on}
 use Rattle.pas_trace.specs.declared.{item.Request.Request, plan.Op.Op}
 use Rattle.pas_answers.specs.Reaching.{AnswersOp, AnswersTried, AnswersGuarded, Advances}
@@ -24,8 +24,7 @@ known_tried f op r (Some block) asked p q asks did known =
 known_tried f op r None asked p q asks did known = known_op f op asked p q did known
 
 known_guarded : (f : Profile) (keeper : ℕ) (op : Op) (o : Option Request) → request_in op.what ≡ o → (asked : List ℕ) (p q : Progress) → AnswersGuarded f keeper op o p q → AreKnown asked p.names → AreKnown (asked_after op.what asked) q.names
-known_guarded f keeper op None asks asked p q did known = absurd did
-known_guarded f keeper op (Some r) asks asked p q did known = known_tried f op r did.0.block asked (after_trying p keeper did.0) q asks did.2 known
+known_guarded f keeper op o h asked p q i j = grind (arith, known_tried)
 
 known_one : (f : Profile) (act : Act) (asked : List ℕ) (p q : Progress) → Advances f act p q → AreKnown asked p.names → AreKnown (asked_after_act act asked) q.names
 known_one f (Operates op) asked p q did known = same_known (asked_after_act (Operates op) asked) did.2

@@ -1,5 +1,5 @@
 -- An answer by what a worker knows of names is one by what all know.
-use Rattle.std.proofs.Common.{◌≡◌, ◌≢◌, ℕ, ◌==◌, ◌||◌, Bool, true, false, if◌then◌else◌, inl, inr, List, ◌∷◌, Option, Some, None, refl, ap, sym, ◌∙◌, subst}
+use Rattle.std.proofs.Common.{arith, ◌≡◌, ◌≢◌, ℕ, ◌==◌, ◌||◌, Bool, false, if◌then◌else◌, inl, inr, List, ◌∷◌, Option, Some, None, refl, ap, sym, ◌∙◌, subst}
 use Rattle.std.proofs.Common.{ne_eqb}
 use Rattle.std.proofs.lemmas.Bool.{cases_eq}
 use Rattle.pas_profile.specs.declared.{profile.Profile.Profile, name.Block.Block}
@@ -18,18 +18,13 @@ none_some : {b : Option Block} {A : Type 0} → None ≡ Some b → A
 none_some bad = absurd (cc)
 
 both_more : (t : Bool) (block : Option Block) (few many : Option (Option Block)) (b : Option Block) → (few ≡ Some b → many ≡ Some b) → (if t then Some block else few) ≡ Some b → (if t then Some block else many) ≡ Some b
-both_more true block few many b old is = is
-both_more false block few many b old is = old is
+both_more t block few many b h i = grind arith
 
 new_here : (name n : ℕ) (block : Option Block) (names : List Named) (b : Option Block) → standing_for names name ≡ None → standing_for names n ≡ Some b → (if name == n then Some block else standing_for names n) ≡ Some b
-new_here name n block names b none is = elim (cases_eq name n) [
-  | inl same ↦ none_some (sym none ∙ ap (λ (m : ℕ). standing_for names m) same ∙ is)
-  | inr other ↦ ap (λ (t : Bool). if t then Some block else standing_for names n) (ne_eqb name n other) ∙ is
-]
+new_here name n block names b none is = search (arith, cases_eq, none_some, ne_eqb)
 
 asked_more : (t : Bool) (block : Option Block) (o : Option (Option Block)) (old : Bool) → (old ≡ false → o ≡ None) → t || old ≡ false → (if t then Some block else o) ≡ None
-asked_more true block o old none is = absurd (let bad : true ≡ false = is in cc)
-asked_more false block o old none is = none is
+asked_more t block o old h i = grind arith
 
 -- the same answer by all names
 pub record Retold (f : Profile) (k : ℕ) (what : What) (asked : List ℕ) (names : List Named) (v : View) (c : Cached) (a : Answer) : Type 0 where
@@ -42,8 +37,7 @@ pub record Retold (f : Profile) (k : ℕ) (what : What) (asked : List ℕ) (name
 
 freed_same : (f : Profile) (k : ℕ) (c c1 : Cached) (name : ℕ) (room : Option ℕ) (o many : Option (Option Block)) (steps : List Made) (said : Option Said)
     → ((b : Option Block) → o ≡ Some b → many ≡ Some b) → IsFreedBy f k c c1 name room o steps said → IsFreedBy f k c c1 name room many steps said
-freed_same f k c c1 name room None many steps said sub is = absurd is
-freed_same f k c c1 name room (Some b) many steps said sub is = subst (λ (o : Option (Option Block)). IsFreedBy f k c c1 name room o steps said) (sym (sub b refl)) is
+freed_same f k c c1 name room o many steps said h i = grind arith
 
 keeps_names : (f : Profile) (k : ℕ) (what : What) (asked : List ℕ) (few names : List Named) (v : View) (c : Cached) (a : Answer)
     → a.names ≡ few → AreAmong few names → OnlyAsked (asked_after what asked) names → IsAnswered f k what (having names v c) (answer_of a.steps a.said a.found names a.cache) → Retold f k what asked names v c a
@@ -68,8 +62,7 @@ remade_same f k name size align (Some None) many few names v c a sub is = (
 remade_same f k name size align (Some (Some old)) many few names v c a sub (inl kept) = (
   Some old,
   kept.names_are,
-  subst (λ (o : Option (Option Block)). IsRemadeBy f k name size align o (having names v c) (answer_of a.steps a.said a.found (named name (Some old) ∷ names) a.cache)) (sym (sub (Some old) refl))
-      (inl record { suited = kept.suited; no_steps = kept.no_steps; cache = kept.cache; said_is = kept.said_is; names_are = refl }),
+  rw (sub (Some old) refl) (inl record { suited = kept.suited; no_steps = kept.no_steps; cache = kept.cache; said_is = kept.said_is; names_are = refl }),
 )
 remade_same f k name size align (Some (Some old)) many few names v c a sub (inr moved) =
     let served = moved.served in
@@ -110,21 +103,12 @@ pub record IsNamedNew (asked : List ℕ) (few names : List Named) (name : ℕ) (
   pub same_names : (n : ℕ) → name ≢ n → standing_for (named name block ∷ names) n ≡ standing_for names n
 
 pub names_new : (asked : List ℕ) (few names : List Named) (name : ℕ) (block : Option Block) → is_asked asked name ≡ false → AreAmong few names → OnlyAsked asked names → IsNamedNew asked few names name block
-names_new asked few names name block new among only = record {
-  own = λ n b is. both_more (name == n) block (standing_for few n) (standing_for names n) b (among n b) is;
-  others = λ more is n b known. new_here name n block names b (only name new) (is n b known);
-  only_asked = λ n is. asked_more (name == n) block (standing_for names n) (is_asked asked n) (only n) is;
-  same_names = λ n other. ap (λ (t : Bool). if t then Some block else standing_for names n) (ne_eqb name n other);
-}
+names_new asked few names name block new among only = search (arith, both_more, new_here, asked_more, ne_eqb)
 
 pub retold : (f : Profile) (limit k : ℕ) (what : What) (asked : List ℕ) (few names : List Named) (v : View) (c : Cached) (a : Answer)
     → AreAmong few names → OnlyAsked asked names → IsFitWhat f limit asked what → IsAnswered f k what (having few v c) a → Retold f k what asked names v c a
-retold f limit k (Alloc name heap size align) asked few names v c a among only fit answered =
-    asks_name f k (Alloc name heap size align) asked few names v c a name (block_of answered.answer) refl (λ n same. same) fit.1.1 among only answered.names_are
-    (record { rest = answered.rest; answer = answered.answer; serves = answered.serves; kinds = answered.kinds; ends = answered.ends; said_is = answered.said_is; names_are = refl })
-retold f limit k (Guarded keeper name heap size align) asked few names v c a among only fit answered =
-    asks_name f k (Guarded keeper name heap size align) asked few names v c a name (block_of answered.answer) refl (λ n same. same) fit.1.1 among only answered.names_are
-    (record { rest = answered.rest; answer = answered.answer; serves = answered.serves; kinds = answered.kinds; ends = answered.ends; said_is = answered.said_is; names_are = refl })
+retold f limit k (Alloc name heap size align) asked few names v c a among only fit answered = search (arith, asks_name)
+retold f limit k (Guarded keeper name heap size align) asked few names v c a among only fit answered = search (arith, asks_name)
 retold f limit k (Free name) asked few names v c a among only fit answered = keeps_names f k (Free name) asked few names v c a answered.1 among only (freed_same f k c a.cache name None (standing_for few name) (standing_for names name) a.steps a.said (among name) answered.0, refl)
 retold f limit k (FreeSized name room) asked few names v c a among only fit answered = keeps_names f k (FreeSized name room) asked few names v c a answered.1 among only (freed_same f k c a.cache name (Some room) (standing_for few name) (standing_for names name) a.steps a.said (among name) answered.0, refl)
 retold f limit k (Raw block) asked few names v c a among only fit answered = keeps_names f k (Raw block) asked few names v c a answered.1 among only (answered.0, refl)

@@ -1,6 +1,6 @@
 -- The acts of a phase are shared among its workers.
-use Rattle.std.proofs.Common.{◌≡◌, ℕ, zero, suc, ◌+◌, ◌-◌, ◌≤◌, ◌==◌, ◌||◌, not, Option, None, Some, Bool, true, false, if◌then◌else◌, inl, inr, List, [], ◌∷◌}
-use Rattle.std.proofs.Common.{◌++◌, map, refl, ap, sym, subst, ◌∙◌, arith, MatchOption, eq-eqb, ne_eqb, le-leb}
+use Rattle.std.proofs.Common.{◌≡◌, ℕ, zero, suc, ◌+◌, ◌-◌, ◌≤◌, ◌==◌, ◌||◌, not, Option, Bool, true, false, if◌then◌else◌, inl, inr, List, [], ◌∷◌, ◌++◌, map}
+use Rattle.std.proofs.Common.{refl, ap, sym, subst, ◌∙◌, arith, MatchOption, eq-eqb, ne_eqb, le-leb}
 use Rattle.std.specs.List.{AllByRecursion, filter}
 use Rattle.std.proofs.lemmas.Bool.{lt-leb, false≢true, cases_eq, or_left, or_right, or_parts}
 use Rattle.pas_profile.specs.declared.profile.Profile.{Profile}
@@ -22,9 +22,7 @@ pub own_thread : (threads k : ℕ) → k ≤ threads → thread_in threads k ≡
 own_thread threads k most = ap (λ (t : Bool). if t then k else k - threads) (le-leb k threads most)
 
 pub kept_thread : (threads k : ℕ) → 1 ≤ k → thread_in threads (threads + k) ≡ k
-kept_thread threads k some =
-    let place : threads + k - threads ≡ k = omega arith in
-    ap (λ (t : Bool). if t then threads + k else threads + k - threads) (lt-leb (threads + k) threads (omega (arith, some))) ∙ place
+kept_thread threads k some = search (arith, lt-leb)
 
 -- a thread is owned by itself where it is active, and by the scavenger elsewhere, and so is its keeper
 pub owner_of : (threads : ℕ) (ops : List Op) (j k : ℕ) → thread_in threads j ≡ k → owner_in threads ops j ≡ (if is_active ops k then k else 0)
@@ -45,8 +43,7 @@ zero_own false = refl
 
 -- who is active is a thread of the region, or the scavenger
 work_within : (f : Profile) (work : Work) (k : ℕ) → IsActorBy f work k → k ≤ f.threads
-work_within f (Work.Own task) k of = of.1
-work_within f (Work.Chore chore) k of = omega (arith, of)
+work_within f work k h = grind arith
 
 pub active_within : (f : Profile) (asked : List ℕ) (ops : List Op) (k : ℕ) → AreSound f asked ops → is_active ops k ≡ true → k ≤ f.threads
 active_within f asked [] k sound on = absurd (false≢true on)
@@ -57,8 +54,7 @@ active_within f asked (op ∷ ops) k sound on = elim (cases_eq op.actor k) [
 
 -- ---- the acts of one worker
 if_both : (t : Bool) (act : Act) (xs ys zs : List Act) → zs ≡ xs ++ ys → (if t then act ∷ zs else zs) ≡ (if t then act ∷ xs else xs) ++ ys
-if_both true act xs ys zs is = ap (λ (acts : List Act). act ∷ acts) is
-if_both false act xs ys zs is = is
+if_both t act xs ys zs h = grind arith
 
 by_both : (owner : Owners) (w : ℕ) (xs ys : List Act) → acts_by owner w (xs ++ ys) ≡ acts_by owner w xs ++ acts_by owner w ys
 by_both owner w [] ys = refl
@@ -91,8 +87,7 @@ abbrev pub AreOf : ℕ → List Act → Type 0
 AreOf j acts = AllByRecursion (λ act. actor_of_act act ≡ j) acts
 
 kept_is_of : (keeper : Option ℕ) (op : Op) → AreOf op.actor (act_kept keeper op ∷ (Settles op.actor ∷ []))
-kept_is_of None op = (refl, (refl, tt))
-kept_is_of (Some keeper) op = (refl, (refl, tt))
+kept_is_of keeper op = grind arith
 
 work_is_of : (f : Profile) (idle : List ℕ) (op : Op) (work : Work) → IsActorBy f work op.actor → AreOf op.actor (acts_of_work idle op work)
 work_is_of f idle op (Work.Own task) of = kept_is_of (keeper_of task) op
@@ -136,10 +131,7 @@ module _ (f : Profile) (owner : Owners) (k : ℕ) (idle : List ℕ) (whole : Lis
 -- no operation of a thread is a chore
 own_next : (f : Profile) (k : ℕ) (idle : List ℕ) (op : Op) (work : Work) (rest : List Act) → 1 ≤ k → IsActorBy f work op.actor
     → (if op.actor == k then act_kept (of_task keeper_of work) op ∷ (Settles op.actor ∷ rest) else rest) ≡ (if op.actor == k then acts_of_work idle op work ++ rest else rest)
-own_next f k idle op (Work.Own task) rest some of = refl
-own_next f k idle op (Work.Chore chore) rest some of =
-    let ne = ne_eqb op.actor k (λ is. omega (arith, some, of, is)) in
-    ap (λ (t : Bool). if t then act_kept None op ∷ (Settles op.actor ∷ rest) else rest) ne ∙ sym (ap (λ (t : Bool). if t then acts_of_chore idle chore ++ rest else rest) ne)
+own_next f k idle op work rest h i = grind (arith, ne_eqb)
 
 pub none_own : (k : ℕ) (ops : List Op) → is_active ops k ≡ false → own_acts k ops ≡ []
 none_own k [] is = refl
@@ -153,8 +145,7 @@ abbrev AreIdle : Owners → List ℕ → Type 0
 AreIdle owner ks = AllByRecursion (λ k. owner k ≡ owner 0) ks
 
 kept_in_hand : (owner : Owners) (keeper : Option ℕ) (op : Op) → MatchOption keeper (Unit {0}) (λ k. owner k ≡ owner op.actor) → AreInHand owner (act_kept keeper op ∷ (Settles op.actor ∷ []))
-kept_in_hand owner None op own = (tt, (tt, tt))
-kept_in_hand owner (Some keeper) op own = (own, (tt, tt))
+kept_in_hand owner keeper op h = grind arith
 
 hands_one : (owner : Owners) (idle : List ℕ) (op : Op) (work : Work) → MatchOption (of_task keeper_of work) (Unit {0}) (λ k. owner k ≡ owner op.actor) → AreIdle owner idle → AreInHand owner (acts_of_work idle op work)
 hands_one owner idle op (Work.Own task) own all = kept_in_hand owner (keeper_of task) op own
@@ -163,18 +154,10 @@ hands_one owner idle op (Work.Chore chore) own all = all_of_chore (IsInHand owne
 -- a keeper is in the hands of its thread's worker
 kept_owned : (f : Profile) (threads : ℕ) (ops : List Op) (op : Op) (work : Work) (o : Option ℕ) → of_task keeper_of work ≡ o → IsActorBy f work op.actor → op.actor ≤ threads → MatchOption o (Unit {0}) (λ keeper. keeper ≡ threads + op.actor)
     → MatchOption o (Unit {0}) (λ k. owner_in threads ops k ≡ owner_in threads ops op.actor)
-kept_owned f threads ops op work None is of most kept = tt
-kept_owned f threads ops op (Work.Own task) (Some keeper) is of most kept =
-    let a = op.actor in
-    owner_of threads ops keeper a (ap (thread_in threads) kept ∙ kept_thread threads a of.0) ∙ sym (owner_of threads ops a a (own_thread threads a most))
-kept_owned f threads ops op (Work.Chore chore) (Some keeper) is of most kept = absurd (cc)
+kept_owned f threads ops op work o h i j m = grind (arith, owner_of, kept_thread, own_thread)
 
 idle_one : (threads : ℕ) (ops : List Op) (k : ℕ) (t : Bool) (rest : List ℕ) → k ≤ threads → is_active ops k ≡ t → AreIdle (owner_in threads ops) rest → AreIdle (owner_in threads ops) (if not t then k ∷ rest else rest)
-idle_one threads ops k true rest most is all = all
-idle_one threads ops k false rest most is all =
-    let own = owner_of threads ops k k (own_thread threads k most) ∙ ap (λ (t : Bool). if t then k else 0) is in
-    let scavenger = owner_of threads ops 0 0 (own_thread threads 0 (omega arith)) ∙ zero_own (is_active ops 0) in
-    (own ∙ sym scavenger, all)
+idle_one threads ops k t rest h i j = grind (arith, owner_of, own_thread, zero_own)
 
 -- so many numbers from k on are below the next one
 are_idle : (threads : ℕ) (ops : List Op) (k n : ℕ) → k + n ≤ threads + 1 → AreIdle (owner_in threads ops) (filter (λ k. not (is_active ops k)) (numbers_from k n))

@@ -1,5 +1,5 @@
 -- What a piece does to the share of its own worker, and to those of the others.
-use Rattle.std.proofs.Common.{◌≡◌, ◌≢◌, ℕ, ◌==◌, Bool, false, if◌then◌else◌, inl, inr, List, [], ◌∷◌, ◌++◌, refl, ap, sym, ◌∙◌, subst, append-nil, ne_eqb}
+use Rattle.std.proofs.Common.{arith, ◌≡◌, ◌≢◌, ℕ, ◌==◌, Bool, false, if◌then◌else◌, List, [], ◌∷◌, ◌++◌, refl, ap, sym, ◌∙◌, append-nil, ne_eqb}
 use Rattle.std.proofs.lemmas.Bool.{cases_eq}
 use Rattle.pas_steps.specs.{Lists.Whole, Lists.part, Desks.triple, Desks.triples}
 use Rattle.pas_core.specs.Orders.{steps_by}
@@ -16,10 +16,7 @@ use Rattle.pas_shares.specs.Shares.{Owners, in_hands, AreAmong, IsShareOf}
 
 -- ---- parts
 same_part : (j k : ℕ) (steps : List Made) (l m : Whole) → part j l ≡ part j m → part j (triples k steps ++ l) ≡ part j (triples k steps ++ m)
-same_part j k steps l m same = elim (cases_eq k j) [
-  | inl is ↦ subst (λ (i : ℕ). part i (triples k steps ++ l) ≡ part i (triples k steps ++ m)) is (part_of_own k steps l ∙ ap (λ v. steps ++ v) (subst (λ (i : ℕ). part i l ≡ part i m) (sym is) same) ∙ sym (part_of_own k steps m))
-  | inr other ↦ part_of_others j k steps l other ∙ same ∙ sym (part_of_others j k steps m other)
-]
+same_part j k steps l m same = search (arith, cases_eq, part_of_own, part_of_others)
 
 -- ---- steps
 -- the same ones in front of both

@@ -1,16 +1,15 @@
 -- What workers did, each for itself, is put into the order of the acts.
-use Rattle.std.proofs.Common.{◌≡◌, ◌≢◌, ℕ, ◌+◌, ◌==◌, ◌≤◌, Bool, true, false, Option, None, Some, if◌then◌else◌, inl, inr, List, [], ◌∷◌, ◌++◌, append_assoc}
-use Rattle.std.proofs.Common.{max, refl, ap, sym, ◌∙◌, subst, IsSomeAnd, append-nil, eq-eqb, ne_eqb}
+use Rattle.std.proofs.Common.{arith, ◌≡◌, ◌≢◌, ℕ, ◌+◌, ◌==◌, ◌≤◌, Bool, true, false, Option, None, Some, if◌then◌else◌, inl, inr, List, [], ◌∷◌, ◌++◌}
+use Rattle.std.proofs.Common.{append_assoc, max, refl, ap, sym, ◌∙◌, subst, IsSomeAnd, append-nil, eq-eqb, ne_eqb}
 use Rattle.std.proofs.lemmas.Bool.{cases_eq}
 use Rattle.pas_profile.specs.declared.{profile.Profile.Profile, name.Block.Block}
 use Rattle.pas_steps.specs.{Events.events_by, Views.View, Lists.part, Desks.made}
 use Rattle.pas_steps.specs.declared.step.{Made.Made, Step.Step}
-use Rattle.pas_trace.specs.declared.{plan.Op.Op, item.Request.Request, plan.What.What, plan.What.TheVariants.Alloc, plan.What.TheVariants.Guarded}
-use Rattle.pas_trace.specs.declared.{plan.What.TheVariants.Remake}
+use Rattle.pas_trace.specs.declared.{plan.Op.Op, item.Request.Request, plan.What.What}
 use Rattle.pas_report.specs.declared.record.{Record.Record, Said.Said}
 use Rattle.pas_cache.specs.Caches.{Cached}
 use Rattle.pas_passes.specs.Records.{records_of_pass}
-use Rattle.pas_trace.specs.Acts.{Act, Operates, Guards, Settles, Ticks, MakesPass, ReadsEpoch, StopsIdle, MarksPhase, Wakes, MarksClose, Ends, Lowers}
+use Rattle.pas_trace.specs.Acts.{Act, Operates, Guards, Settles, Ticks, MakesPass, ReadsEpoch, StopsIdle, Wakes, Ends, Lowers}
 use Rattle.pas_answers.specs.Answers.{Named, named, having, answer_of, standing_for, IsAnswered, IsStopped, Progress, with_records, with_steps, after_answer}
 use Rattle.pas_answers.specs.Answers.{after_settling, after_wake, after_reading, after_tick, after_pass, after_stop, stopped, epoch_look, begun, settled}
 use Rattle.pas_answers.specs.Answers.{IsIdleFor, records_of, said_by}
@@ -107,17 +106,9 @@ idle_one f owner asked k n p before after mine only share did =
     ]
 
 -- ---- a guarded request: its keeper's piece, and what follows it
--- the name that a request is for
-abbrev name_for : Option Request → ℕ
-name_for None = 0
-name_for (Some r) = r.name
-
 -- an operation that makes a request asks for a new name, and for no other
 new_request : (f : Profile) (limit : ℕ) (asked : List ℕ) (what : What) (r : Request) → request_in what ≡ Some r → IsFitWhat f limit asked what → is_asked asked r.name ≡ false
-new_request f limit asked (Alloc name heap size align) r asks fit = subst (λ (n : ℕ). is_asked asked n ≡ false) (ap name_for asks) fit.1.1
-new_request f limit asked (Guarded keeper name heap size align) r asks fit = subst (λ (n : ℕ). is_asked asked n ≡ false) (ap name_for asks) fit.1.1
-new_request f limit asked (Remake name old heap size align) r asks fit = subst (λ (n : ℕ). is_asked asked n ≡ false) (ap name_for asks) fit.1.1
-new_request f limit asked what r asks fit = absurd (cc)
+new_request f limit asked what r h i = grind arith
 
 asks_this : (what : What) (r : Request) (n : ℕ) → request_in what ≡ Some r → r.name ≡ n → IsRequestOf n what
 asks_this what r n asks same = subst (λ (o : Option Request). IsSomeAnd o (λ q. q.name ≡ n)) (sym asks) same
@@ -171,11 +162,7 @@ module _ (f : Profile) (owner : Owners) (limit : ℕ) (asked : List ℕ) (keeper
       }
 
   guarded : (o : Option Request) → request_in op.what ≡ o → AnswersGuarded f keeper op o before after → IsWovenOne f owner (Guards keeper op) asked p after
-  guarded None asks did = absurd did
-  guarded (Some r) asks did =
-      let here : IsTried f keeper r (part keeper p.list) (p.books keeper) did.0 =
-      subst (λ (gs : List Guard). IsTried f keeper r (part keeper p.list) gs did.0) (share.books keeper mine) (subst (λ (v : View). IsTried f keeper r v (before.books keeper) did.0) (share.parts keeper mine) did.1) in
-      followed r did.0 did.0.block asks refl here (try_each f keeper r (part keeper p.list) (p.books keeper) did.0 here) did.2
+  guarded o h i = grind (arith, followed, try_each)
 
 guards_one : (f : Profile) (owner : Owners) (limit : ℕ) (asked : List ℕ) (keeper : ℕ) (op : Op) (p before after : Progress) → IsFitWhat f limit asked op.what → owner keeper ≡ owner op.actor → OnlyAsked asked p.names
     → IsShareOf owner (owner op.actor) before p → Advances f (Guards keeper op) before after → IsWovenOne f owner (Guards keeper op) asked p after
@@ -184,10 +171,7 @@ guards_one f owner limit asked keeper op p before after fit mine only share did 
 -- ---- any act
 -- what of the fitness of all acts is that of the others after the first
 rest_fit : (f : Profile) (limit : ℕ) (asked : List ℕ) (act : Act) (acts : List Act) → AreFit f limit asked (act ∷ acts) → AreFit f limit (asked_after_act act asked) acts
-rest_fit f limit asked (Operates op) acts fit = fit.2
-rest_fit f limit asked (Guards keeper op) acts fit = fit.4
-rest_fit f limit asked (Ticks epoch) acts fit = fit.1
-rest_fit f limit asked act acts fit = fit
+rest_fit f limit asked act acts h = grind arith
 
 woven_one : (f : Profile) (owner : Owners) (limit : ℕ) (asked : List ℕ) (act : Act) (acts : List Act) (p before after : Progress) → AreFit f limit asked (act ∷ acts) → IsInHand owner act → OnlyAsked asked p.names
     → IsShareOf owner (owner (actor_of_act act)) before p → Advances f act before after → IsWovenOne f owner act asked p after
@@ -212,13 +196,11 @@ woven_one f owner limit asked ReadsEpoch acts p before after fit hand only share
     let look = epoch_look e in
     woven_by (after_reading p e) [] only refl (sym (append-nil p.records)) tt did.1 (by_epochs (share_list 0 look share) e e (λ is. refl)) (λ x o other theirs. by_epochs (beside_list 0 look other theirs) o.epoch e (λ is. absurd (other is))) (e, refl)
 woven_one f owner limit asked (StopsIdle k n) acts p before after fit hand only share did = idle_one f owner asked k n p before after hand only share did
-woven_one f owner limit asked (MarksPhase n) acts p before after fit hand only share did = absurd hand
 woven_one f owner limit asked (Wakes k) acts p before after fit hand only share did =
     let e = did.0 in
     let c = begun (p.caches k) e in
     let same = ap (λ (d : Cached). begun d e) (share.caches k refl) in
     woven_by (after_wake p k e) [] only refl (sym (append-nil p.records)) tt did.1 (share_cache k (begun (before.caches k) e) c same (share_list k (epoch_look e) share)) (λ x o other theirs. beside_cache k c other (beside_list k (epoch_look e) other theirs)) (e, refl)
-woven_one f owner limit asked MarksClose acts p before after fit hand only share did = absurd hand
 woven_one f owner limit asked (Lowers keeper) acts p before after fit hand only share did =
     let steps = did.0 in
     let said = did.1 in
@@ -228,6 +210,7 @@ woven_one f owner limit asked (Lowers keeper) acts p before after fit hand only 
     woven_by (after_lowering p keeper steps said) said only refl refl (spoken_piece keeper said each) did.3 (share_records said (share_book keeper [] (share_list keeper steps share)))
     (λ x o other theirs. beside_records said (elsewhere owner x keeper said each other) (beside_book keeper [] other (beside_list keeper steps other theirs))) (steps, said, here, refl)
 woven_one f owner limit asked (Ends k) acts p before after fit hand only share did = stops_one f owner asked (Ends k) k k p before after did.0 did.1 [] refl refl tt only share did.2 did.3 (λ so. (did.0, did.1, so, refl))
+woven_one f owner limit asked _ acts p before after fit hand only share did = absurd hand
 
 -- ---- all acts
 -- the progress of worker w is another now
@@ -257,11 +240,7 @@ weave f owner limit asked (act ∷ acts) p before after fit hands only shares ow
       | inl same ↦ subst (λ (t : Bool). IsShareOf owner x (if t then mine.0 else before x) one.next) (sym (eq-eqb x w same)) (subst (λ (y : ℕ). IsShareOf owner y mine.0 one.next) (sym same) one.share)
       | inr other ↦ subst (λ (t : Bool). IsShareOf owner x (if t then mine.0 else before x) one.next) (sym (ne_eqb x w other)) (one.beside x (before x) (λ is. other (sym is)) (shares x))
     ] in
-    let own1 : (x : ℕ) → Reaches f (acts_by owner x acts) (now x) (after x) = λ x. elim (cases_eq x w) [
-      | inl same ↦ subst (λ (t : Bool). Reaches f (acts_by owner x acts) (if t then mine.0 else before x) (after x)) (sym (eq-eqb x w same)) (subst (λ (y : ℕ). Reaches f (acts_by owner y acts) mine.0 (after y)) (sym same) mine.2)
-      | inr other ↦ subst (λ (t : Bool). Reaches f (acts_by owner x acts) (if t then mine.0 else before x) (after x)) (sym (ne_eqb x w other))
-          (subst (λ (t : Bool). Reaches f (if t then act ∷ acts_by owner x acts else acts_by owner x acts) (before x) (after x)) (ne_eqb w x (λ is. other (sym is))) (own x))
-    ] in
+    let own1 : (x : ℕ) → Reaches f (acts_by owner x acts) (now x) (after x) = search (arith, cases_eq, eq-eqb, ne_eqb) in
     let rest = weave f owner limit (asked_after_act act asked) acts one.next now after (rest_fit f limit asked act acts fit) hands.1 one.only_asked shares1 own1 in
     record {
       reached = rest.reached;

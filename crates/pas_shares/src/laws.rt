@@ -10,6 +10,7 @@ pub fn weaving()
 {}
 
 /// Each act of a phase is in the hands of one worker: a thread that has an operation in it, or the scavenger.
+#[tactic(auto, using(crate::proofs::PhaseActs::acts_are_shared))]
 pub fn shares()
     ensures { ActsAreShared }
 {}

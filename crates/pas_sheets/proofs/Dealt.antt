@@ -27,9 +27,8 @@ texts_are (sheet ∷ sheets) round filled =
     let first : sheet.text.items ≡ lines_of (take 2048 round) = filled 0 sheet (omega arith) in
     let others : AreFilled sheets (drop 2048 round) = λ place d within. filled (suc place) d (omega arith) ∙ ap lines_of (next_part round place) in
     let e : suc (length sheets) * 2048 ≡ 2048 + length sheets * 2048 = omega arith in
-    (λ t. first t ++ texts_are sheets (drop 2048 round) others t)
-    ∙ sym (lines_append (take 2048 round) (take (length sheets * 2048) (drop 2048 round)))
-    ∙ ap lines_of (sym (ap (λ n. take n round) e ∙ take-add 2048 (length sheets * 2048) round))
+    let rest = drop 2048 round in
+    cc (texts_are sheets rest others, lines_append (take 2048 round) (take (length sheets * 2048) rest), take-add 2048 (length sheets * 2048) round)
 
 -- .. the whole round, where there are sheets enough
 pub round_is : (sheets : List Sheet) (round : List Record) → length round ≤ length sheets * 2048 → AreFilled sheets round → texts_of sheets ≡ lines_of round
@@ -53,12 +52,7 @@ first_round records first others text is text_is = ap (λ (t : List ℕ). t ++ l
 
 -- the lines of one round more, where a text was written and another holds the round's before
 pub next_round : (records rest round more : List Record) (text held next : List ℕ) → rest ≡ round ++ more → next ≡ lines_of round → text ++ (held ++ lines_of rest) ≡ lines_of records → (text ++ held) ++ (next ++ lines_of more) ≡ lines_of records
-next_round records rest round more text held next rest_is next_is before =
-    let whole : lines_of rest ≡ lines_of round ++ lines_of more = ap lines_of rest_is ∙ lines_append round more in
-    ap (λ (t : List ℕ). (text ++ held) ++ (t ++ lines_of more)) next_is
-    ∙ ap (λ (t : List ℕ). (text ++ held) ++ t) (sym whole)
-    ∙ append_assoc text held (lines_of rest)
-    ∙ before
+next_round records rest round more text held next rest_is next_is before = cc (lines_append round more, append_assoc text held (lines_of rest))
 
 pub shown_after : (rest round more : List Record) → rest ≡ round ++ more → All CanShow rest → All CanShow more
 shown_after rest round more is shown =

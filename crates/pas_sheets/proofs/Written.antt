@@ -20,7 +20,4 @@ front_more before middle after text piece rest whole is wrote (front, back, piec
 
 -- the text of one sheet more
 pub next_text : (sheets : List Sheet) (i : ℕ) (sheet : Sheet) (text : List ℕ) → i < length sheets → sheet ≡ get_or sheets i sheet → text ++ texts_of (drop i sheets) ≡ texts_of sheets → text ++ (sheet.text.items ++ texts_of (drop (i + 1) sheets)) ≡ texts_of sheets
-next_text sheets i sheet text within is before =
-    let bytes : sheet.text.items ≡ (get_or sheets i sheet).text.items = ap (λ (s : Sheet). s.text.items) is in
-    let more : texts_of (drop i sheets) ≡ (get_or sheets i sheet).text.items ++ texts_of (drop (i + 1) sheets) = at_drop_more texts_of sheets i sheet within in
-    ap (λ (t : List ℕ). text ++ (t ++ texts_of (drop (i + 1) sheets))) bytes ∙ ap (λ (t : List ℕ). text ++ t) (sym more) ∙ before
+next_text sheets i sheet text within is before = cc (at_drop_more texts_of sheets i sheet within)

@@ -20,6 +20,7 @@ pub(crate) fn useful_threads<R: Threads>(rt: &R) -> usize
 }
 
 /// The records of the sheet at this place. Those after the round's last record have none.
+#[tactic(auto, using(crate::proofs::Dealt::part_is))]
 fn part(round: &[Record], place: usize) -> &[Record]
     requires { place < SHEETS }
     ensures { result.now ≡ part_of round.now place }

@@ -16,9 +16,8 @@ isnt_text word text r is f same = false≢true (sym f ∙ (slice_eq-Decides Deci
 
 -- one word
 one_word : (words : List (Bor (List ℕ))) (d : Bor (List ℕ)) → 1 ≤ length words → length words < 2 → texts_of words ≡ (get_or words 0 d).now ∷ []
-one_word [] d some few = absurd (omega arith)
 one_word (word ∷ []) d some few = refl
-one_word (word ∷ other ∷ words) d some few = absurd (omega arith)
+one_word _ d some few = absurd (omega arith)
 
 pub manner_words : (words : List (Bor (List ℕ))) (d : Bor (List ℕ)) → 1 ≤ length words → length words < 2 → (manner : Manner) → (get_or words 0 d).now ≡ word_of manner → IsReplaying manner (texts_of words)
 manner_words words d some few manner is = one_word words d some few ∙ ap (λ (x : List ℕ). x ∷ []) is
@@ -35,20 +34,13 @@ check_words words d r some few is t = one_word words d some few ∙ ap (λ (x : 
 
 pub not_one_of : (words : List (Bor (List ℕ))) (d : Bor (List ℕ)) → 1 ≤ length words → length words < 2 → ((get_or words 0 d).now ≡ codes "check" → ⊥) → ((manner : Manner) → (get_or words 0 d).now ≡ word_of manner → ⊥)
     → IsAccepted (texts_of words) → ⊥
-not_one_of words d some few other never (inl (manner, is)) = never manner (same_word _ _ (sym (one_word words d some few) ∙ is))
-not_one_of words d some few other never (inr (inl is)) = other (same_word _ _ (sym (one_word words d some few) ∙ is))
-not_one_of words d some few other never (inr (inr (seed, ops, threads, pages, is))) = not_one _ _ _ _ _ _ (sym is.words_are ∙ one_word words d some few)
+not_one_of words d h i j k m = grind (arith, same_word, one_word, not_one)
 
 -- five words
 five_words : (words : List (Bor (List ℕ))) (d0 d1 d2 d3 d4 : Bor (List ℕ)) → 5 ≤ length words → length words < 6
     → texts_of words ≡ (get_or words 0 d0).now ∷ (get_or words 1 d1).now ∷ (get_or words 2 d2).now ∷ (get_or words 3 d3).now ∷ (get_or words 4 d4).now ∷ []
-five_words [] d0 d1 d2 d3 d4 some few = absurd (omega arith)
-five_words (a ∷ []) d0 d1 d2 d3 d4 some few = absurd (omega arith)
-five_words (a ∷ b ∷ []) d0 d1 d2 d3 d4 some few = absurd (omega arith)
-five_words (a ∷ b ∷ c ∷ []) d0 d1 d2 d3 d4 some few = absurd (omega arith)
-five_words (a ∷ b ∷ c ∷ d ∷ []) d0 d1 d2 d3 d4 some few = absurd (omega arith)
 five_words (a ∷ b ∷ c ∷ d ∷ e ∷ []) d0 d1 d2 d3 d4 some few = refl
-five_words (a ∷ b ∷ c ∷ d ∷ e ∷ g ∷ rest) d0 d1 d2 d3 d4 some few = absurd (omega arith)
+five_words _ d0 d1 d2 d3 d4 some few = absurd (omega arith)
 
 pub gen_words : (words : List (Bor (List ℕ))) (d0 d1 d2 d3 d4 : Bor (List ℕ)) (r : Bool) → 5 ≤ length words → length words < 6 → r ≡ pointwise nat_eq (get_or words 0 d0).now (codes "gen") → IsTrue r
     → (seed ops threads pages : ℕ) → IsNumbers (get_or words 1 d1).now (get_or words 2 d2).now (get_or words 3 d3).now (get_or words 4 d4).now seed ops threads pages → IsGen (texts_of words) seed ops threads pages
@@ -57,8 +49,7 @@ gen_words words d0 d1 d2 d3 d4 r some few is t seed ops threads pages numbers = 
   o = (get_or words 2 d2).now;
   t = (get_or words 3 d3).now;
   p = (get_or words 4 d4).now;
-  words_are = five_words words d0 d1 d2 d3 d4 some few
-      ∙ ap (λ (x : List ℕ). x ∷ (get_or words 1 d1).now ∷ (get_or words 2 d2).now ∷ (get_or words 3 d3).now ∷ (get_or words 4 d4).now ∷ []) (is_text (get_or words 0 d0).now (codes "gen") r is t);
+  words_are = cc (five_words words d0 d1 d2 d3 d4 some few, is_text (get_or words 0 d0).now (codes "gen") r is t);
   numbers = numbers;
 }
 

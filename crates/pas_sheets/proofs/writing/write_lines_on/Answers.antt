@@ -24,8 +24,7 @@ loop-round-init g c =
 
 pub write_and_fill-requires-clause-shown : goal.write_and_fill-requires-clause-shown
 write_and_fill-requires-clause-shown g c κs within =
-    let steps = c.in-Some.ensures.steps in
-    shown_before c.loop-round.round-iterator.rest.now c.in-Some.round.now c.next.new.self.rest.now steps.1.0 c.loop-round.invariant.shown
+    shown_before c.loop-round.round-iterator.rest.now c.in-Some.round.now c.next.new.self.rest.now c.in-Some.ensures.steps.1.0 c.loop-round.invariant.shown
 
 pub loop-round-preserved : goal.loop-round-preserved
 loop-round-preserved g c =
