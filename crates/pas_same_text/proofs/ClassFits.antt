@@ -1,5 +1,5 @@
 -- WHETHER A SLOT OF A CLASS FITS on a page: in the text exactly where it does by the free grains of the replay.
-use Rattle.std.proofs.Common.{◌≡◌, ℕ, ◌+◌, ◌*◌, ◌/◌, ◌<◌, ◌≤◌, Bool, true, false, if◌then◌else◌, List, [], ◌∷◌, refl, ap, sym, ◌∙◌, arith, true≢false, eq-eqb}
+use Rattle.std.proofs.Common.{◌≡◌, ℕ, ◌+◌, ◌*◌, ◌/◌, ◌<◌, ◌≤◌, Bool, true, false, List, refl, ap, sym, ◌∙◌, arith, true≢false, eq-eqb}
 use Rattle.std.proofs.{lemmas.Bool.false_from_ne_true, lemmas.Nat.div_below, lemmas.Nat.mul-le, Math.Nat.mul-mod_left, Math.Nat.mod-add-div', Math.Nat.suc-mul}
 use Rattle.std.specs.List.{list_any}
 use Rattle.pas_profile.specs.Classes.{IsClass, class_grains, slots_of, IsSlotStart}
@@ -11,7 +11,7 @@ use Rattle.pas_bits.specs.Runs.{AreFree}
 use Rattle.pas_segregated.specs.Takes.{NoSlot}
 use Rattle.pas_answers.specs.Answers.{Progress}
 use Rattle.pas_one_text.specs.{State.World, Pages.is_free, Pages.are_free, Pages.is_guarded, Searches.some_of}
-use Rattle.pas_one_text.specs.Classes.{spaced, free_slots, first_row, row_from, slots_for}
+use Rattle.pas_one_text.specs.Classes.{spaced, free_slots, first_row, slots_for}
 use Rattle.pas_same_text.specs.{Same.HasSame, Acts.IsBetween, Searched.FitsSame}
 use Rattle.pas_same_text.proofs.{FreeGrains.bit_unguarded, FreeGrains.bit_read, FreeGrains.read_unless, GivenBack.each_at, GivenBack.each_all}
 use Rattle.pas_same_text.proofs.{SpacedPlaces.some_filtered, SpacedPlaces.in_spaced, SpacedPlaces.from_spaced}

@@ -24,7 +24,17 @@ row_as : (Good Fair : ℕ → Type 0) (first step n s : ℕ) → ((x : ℕ) → 
 row_as Good Fair first step n s fair row = (row.0, row.1, row.2, λ j le. fair (first + j * step) (row.3 j le))
 
 lowest_row_as : (class : ℕ) (r fair : Readings) (starts : Mask4) → ((b : ℕ) → b < 256 → r b ≡ fair b) → IsLowestRow class r starts → IsLowestRow class fair starts
-lowest_row_as class r fair starts same row = search (arith, free_slot_as, row_as)
+lowest_row_as class r fair starts same row =
+    let there = free_slot_as class r fair same in let back = free_slot_as class fair r (λ b small. sym (same b small)) in
+    record {
+      first = row.first;
+      free = there row.first row.free;
+      lowest = λ s lt free. row.lowest s lt (back s free);
+      are = λ s. (
+        λ set. row_as (IsFreeSlot class r) (IsFreeSlot class fair) row.first (class_grains class) 4 s there ((row.are s).0 set),
+        λ here. (row.are s).1 (row_as (IsFreeSlot class fair) (IsFreeSlot class r) row.first (class_grains class) 4 s back here),
+      );
+    }
 
 module _ (f : Profile) (k : ℕ) (l : Whole) (class page : ℕ) (searched : List Made) (starts : Mask4) (legal : Legal f (triples k searched ++ l)) (searches : AreSearch searched) (took : TookChosen (rows class) page searched starts) where
   lends : LendsNone searched

@@ -25,7 +25,7 @@ use Rattle.pas_search.specs.Kinds.{IsReturnOf, ReturnsDuly, AreSearch, KeepsMark
 use Rattle.pas_partial.specs.Rows.{IsFreeSlot}
 use Rattle.pas_segregated.specs.Takes.{TookSlots, slot_within, takes_after, takes_since}
 use Rattle.pas_same_text.specs.Words.{free_bit}
-use Rattle.pas_same_text.proofs.{SearchMarks.stays_used, SearchMarks.stays_free, Tests.and_first, Tests.and_second, Tests.eqb_turned}
+use Rattle.pas_same_text.proofs.{SearchMarks.stays_used, SearchMarks.stays_free, Tests.and_first, Tests.and_second}
 
 -- ---- the right of a page that is neither offered nor parked stays
 module _ (page : ℕ) where
