@@ -1,14 +1,14 @@
 -- Acts that were answered one after the other, stage by stage: how far each stage comes, and what each actor's part of the list is then.
 use Rattle.std.proofs.Common.{◌≡◌, ℕ, ◌+◌, true, List, [], ◌∷◌, ◌++◌, refl, sym, ◌∙◌, ap, subst, append_assoc, append-nil, map, eq-eqb}
 use Rattle.pas_profile.specs.declared.profile.Profile.{Profile}
-use Rattle.pas_steps.specs.{Lists.Whole, Lists.part}
+use Rattle.pas_steps.specs.Lists.{Whole, part}
 use Rattle.pas_core.proofs.Choosing.{part_of_chosen}
 use Rattle.pas_trace.specs.Acts.{Act, Wakes, MarksPhase, active_threads, idle_threads, acts_of_ops, phase_acts, close_acts, acts_from, acts_of}
 use Rattle.pas_trace.specs.declared.plan.{Op.Op, Plan.Plan}
 use Rattle.pas_answers.specs.{Answers.Progress, Reaching.Reaches}
 use Rattle.pas_answers.specs.Replays.{at_start, region_of, threads_of, keepers_of, phases_of, acts_of_plan, stages_of_plan}
 use Rattle.pas_answers.specs.Stages.{Owners, Stage, GoByStages, AreSorted, in_hands, one_by_one, phase_stages, stages_from, stages_of}
-use Rattle.pas_answers.proofs.{Reached.goes_on}
+use Rattle.pas_answers.proofs.Reached.{goes_on}
 
 -- ---- the acts of stages
 abbrev pub acts_in : List Stage → List Act
