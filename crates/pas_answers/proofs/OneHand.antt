@@ -76,7 +76,7 @@ nothing_more : (v w : List Made) → v ++ w ≡ w → v ≡ []
 nothing_more [] w is = refl
 nothing_more (m ∷ v) w is = absurd (let n = ap length is in omega (arith, n, length-append v w))
 
-pub none_of_others : (f : Profile) (owner : Owners) (w : ℕ) (acts : List Act) (p q : Progress) (new : Whole) → AreHeldBy owner w acts → Reaches f acts p q → q.list ≡ new ++ p.list → (k : ℕ) → owner k ≢ w → part k new ≡ []
+none_of_others : (f : Profile) (owner : Owners) (w : ℕ) (acts : List Act) (p q : Progress) (new : Whole) → AreHeldBy owner w acts → Reaches f acts p q → q.list ≡ new ++ p.list → (k : ℕ) → owner k ≢ w → part k new ≡ []
 none_of_others f owner w acts p q new its is told k other =
     nothing_more (part k new) (part k p.list) (sym (part_both k new p.list) ∙ (sym (ap (part k) told) ∙ acts_by f owner w k other acts p q its is))
 

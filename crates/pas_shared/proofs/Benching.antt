@@ -7,11 +7,11 @@ use lib.ListN.{get_elem?}
 use Rattle.atomic_table.specs.Table.{Me, keeps, Allows, Splits, Enters}
 use Rattle.atomic_table.proofs.Lists.{at_set}
 use Rattle.pas_profile.specs.declared.profile.Profile.{Profile}
-use Rattle.pas_steps.specs.{Views.View, Lists.Triple, Lists.Whole, Lists.part, Desks.triple}
+use Rattle.pas_steps.specs.{Views.View, Lists.Triple, Lists.Whole, Lists.part}
 use Rattle.pas_core.specs.{Orders.steps_by, WordLists.AreWordsAfter}
 use Rattle.pas_steps.specs.declared.step.Made.{Made}
 use Rattle.pas_steps.proofs.Parts.{part_of_own}
-use Rattle.pas_core.proofs.Choosing.{steps_by_nobody, no_steps_by_fewer, step_taken, part_of_chosen, as_many_steps, steps_by_both}
+use Rattle.pas_core.proofs.Choosing.{steps_by_nobody, no_steps_by_fewer, part_of_chosen, as_many_steps, steps_by_both}
 use Rattle.pas_shared.specs.declared.{bench.Member.Member, rule.Entry.Entry, rule.Row.Row, rule.Roster.Roster, rule.Roster.TheVariants.Benched}
 use Rattle.pas_shared.specs.Ruled.{Names, AreNamed, Holds, steps_of, among, made_in, HasRow, rows_in, row_with, with_made, only, only_this, leaver_of, alone}
 use Rattle.pas_shared.specs.Ruled.{isnt, row_of_only, left_of, picked_of, all_actors, IsEmptyBench, IsRowOf, AreRowsOf, SettlesAll}
@@ -108,7 +108,7 @@ row_of_fewer test r l none h = record {
   made_is = no_steps_by_fewer (among (only test r.actors)) (among r.actors) h.since (λ k its. (among_only test r.actors k its).0) (h.made_is ∙ ap steps_of none) ∙ sym (ap steps_of none);
 }
 
-pub gives : (f : Profile) (id : ℕ) (test : ℕ → Bool) (r : Row) → r.made ≡ [] → Splits (Holds f) id (Benched (r ∷ [])) (Benched (row_of_only (isnt test) r ∷ [])) (Benched (row_of_only test r ∷ []))
+gives : (f : Profile) (id : ℕ) (test : ℕ → Bool) (r : Row) → r.made ≡ [] → Splits (Holds f) id (Benched (r ∷ [])) (Benched (row_of_only (isnt test) r ∷ [])) (Benched (row_of_only test r ∷ []))
 gives f id test r none s h there = record {
   whole = h.whole;
   legal = h.legal;
@@ -168,7 +168,7 @@ gives f id test r none s h there = record {
         (at_end (set s.views id stays) goes y i e)
 
 -- ---- one gets a seat for itself
-pub leaves : (f : Profile) (id k : ℕ) (r : Row) → r.made ≡ [] → among r.actors k ≡ true → Splits (Holds f) id (Benched (r ∷ [])) (Benched (row_of_only (isnt (only_this k)) r ∷ [])) (alone k (made_in r k))
+leaves : (f : Profile) (id k : ℕ) (r : Row) → r.made ≡ [] → among r.actors k ≡ true → Splits (Holds f) id (Benched (r ∷ [])) (Benched (row_of_only (isnt (only_this k)) r ∷ [])) (alone k (made_in r k))
 leaves f id a r none sits s h there = record {
   whole = h.whole;
   legal = h.legal;
@@ -239,7 +239,7 @@ has_a_row : (rs : List Row) (k : ℕ) → among (all_actors rs) k ≡ true → (
 has_a_row [] k h = absurd (true≢false (sym h))
 has_a_row (r ∷ rs) k h = ⊎_elim (λ its. (made_in r k, inl (its, refl))) (λ later. let rest = has_a_row rs k later in (rest.0, inr rest.1)) (among_both r.actors (all_actors rs) k h)
 
-pub settles : (f : Profile) (slots id i : ℕ) (rs : List Row) → Allows (Holds f) slots id (Benched rs, []) i (λ n. n) (λ n me. SettlesAll (Benched rs, []) me)
+settles : (f : Profile) (slots id i : ℕ) (rs : List Row) → Allows (Holds f) slots id (Benched rs, []) i (λ n. n) (λ n me. SettlesAll (Benched rs, []) me)
 settles f slots id i rs s h len there fits = (
   now,
   keeps,
@@ -309,13 +309,6 @@ sits_as r s member is sits = subst (λ (q : Row). SitsInRow q member) (sym is) s
 -- ---- the lists for which a desk at a bench stands
 pub made_next : (r : Row) (k : ℕ) (m : Made) → made_in (row_with k m r) k ≡ m ∷ made_in r k
 made_next r k m = part_of_own k (m ∷ []) (steps_of r.made ++ steps_of r.base)
-
-pub stands_next : (r : Row) (k : ℕ) (m : Made) (l : Whole) → among r.actors k ≡ true → StandsOver r l → StandsOver (row_with k m r) (triple k m ∷ l)
-stands_next r k m l its h = record {
-  before = h.before;
-  order = step_taken (among r.actors) (triple k m) l its ∙ ap (λ (n : Whole). triple k m ∷ n) h.order;
-  parts = h.parts;
-}
 
 -- beside a list that tells of the row's actors what the row tells, a desk at a row in which nobody made a step stands
 pub stands_first : (r : Row) (l : Whole) → r.made ≡ [] → ((k : ℕ) → among r.actors k ≡ true → part k l ≡ part k (steps_of r.base)) → StandsOver r l

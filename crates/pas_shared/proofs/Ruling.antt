@@ -195,7 +195,7 @@ rows_with_step : (l : Whole) (k : ℕ) (v : View) (m : Made) (u : Roster) → Si
 rows_with_step l k v m u h i = grind (arith, row_grown)
 
 -- ---- a step
-pub adds : (f : Profile) (slots id k : ℕ) (v : View) (s : Step) (i : ℕ) (g : ℕ → ℕ) (u : Roster) → SitsFor u k v → IsAskedOf f k v s → i ≡ index_of f.pages (target s) → ((n : ℕ) → new_value (epoch_of v) s n ≡ g n)
+adds : (f : Profile) (slots id k : ℕ) (v : View) (s : Step) (i : ℕ) (g : ℕ → ℕ) (u : Roster) → SitsFor u k v → IsAskedOf f k v s → i ≡ index_of f.pages (target s) → ((n : ℕ) → new_value (epoch_of v) s n ≡ g n)
     → Allows (Holds f) slots id (u, []) i g (IsAdded f u k v s)
 adds f slots id k v s i g u sits asked at same t h len there fits =
     let n : ℕ = slice_index t.words i in
