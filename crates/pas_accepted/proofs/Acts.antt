@@ -38,7 +38,8 @@ IsInPlace act p = Unit {0}
 
 module _ (f : Profile) (valid : IsValid f) (p : Progress) (s : Stand) (ts : List Task) (tells : Tells p s) (due : s.due ≡ []) where
   -- ---- one look at the epoch
-  look_tells : (k epoch : ℕ) (t : Stand) (caches : ℕ → Cached) (read : ℕ) → t.events ≡ s.events → t.names ≡ s.names → ((j : ℕ) → (caches j).log ≡ map logged_as (t.logs j)) → ((j : ℕ) → t.idle_since j ≡ (caches j).idle_since) → t.epoch ≡ s.epoch → t.guards ≡ s.guards
+  look_tells : (k epoch : ℕ) (t : Stand) (caches : ℕ → Cached) (read : ℕ) → t.events ≡ s.events → t.names ≡ s.names
+      → ((j : ℕ) → (caches j).log ≡ map logged_as (t.logs j)) → ((j : ℕ) → t.idle_since j ≡ (caches j).idle_since) → t.epoch ≡ s.epoch → t.guards ≡ s.guards
       → Tells record { names = p.names; caches = caches; books = p.books; epoch = read; list = triples k (epoch_look epoch) ++ p.list; records = p.records } t
   look_tells k epoch t caches read events names logs awake same guards = search (arith, booked_as, tidy_piece, look_tidy)
 
@@ -74,7 +75,8 @@ module _ (f : Profile) (valid : IsValid f) (p : Progress) (s : Stand) (ts : List
   same_tells t records events names logs awake epoch guards = search (arith, booked_as)
 
   -- one line is written
-  wrote : (act : Act) (item : Record) (t : Stand) → s.left ≡ Does act ∷ ts → LeadsOn f s [] (record t { due = Writes item ∷ [] }) → LeadsOn f s (lines_by (item ∷ [])) (record t { due = [] })
+  wrote : (act : Act) (item : Record) (t : Stand) → s.left ≡ Does act ∷ ts → LeadsOn f s [] (record t { due = Writes item ∷ [] })
+      → LeadsOn f s (lines_by (item ∷ [])) (record t { due = [] })
   wrote act item t left begun =
       on_both f s (record t { due = Writes item ∷ [] }) (record t { due = [] }) [] (line_of item ∷ []) begun (on_line f (record t { due = Writes item ∷ [] }) (record t { due = [] }) (line_of item) (inr (refl, refl)))
 
@@ -96,7 +98,8 @@ module _ (f : Profile) (valid : IsValid f) (p : Progress) (s : Stand) (ts : List
     left = refl;
   }
 
-  tick_comes : (asked answer : ℕ) → s.left ≡ Does (Ticks asked) ∷ ts → answer ≡ word_after p.list Word.Epoch → Comes f s (Record.Said 0 (Said.Tick (max answer asked)) ∷ []) (after_tick p asked answer) ts
+  tick_comes : (asked answer : ℕ) → s.left ≡ Does (Ticks asked) ∷ ts → answer ≡ word_after p.list Word.Epoch
+      → Comes f s (Record.Said 0 (Said.Tick (max answer asked)) ∷ []) (after_tick p asked answer) ts
   tick_comes asked answer left is =
       let same : max s.epoch asked ≡ max answer asked = ap (λ n. max n asked) (tells.epoch ∙ sym is) in
       let t : Stand = record s { epoch = max s.epoch asked; left = ts } in
@@ -130,7 +133,8 @@ module _ (f : Profile) (valid : IsValid f) (p : Progress) (s : Stand) (ts : List
   idle_isnt : (k n : ℕ) → p.epoch ≡ word_after p.list Word.Epoch → (IsIdleFor p k n → ⊥) → nat_le (s.idle_since k + n) s.epoch ≡ false
   idle_isnt k n reads busy = search (arith, false_from_ne_true, leb-true)
 
-  idle_comes : (k n : ℕ) (steps : List Made) (c : Cached) → p.epoch ≡ word_after p.list Word.Epoch → IsIdleFor p k n → IsStopped k (p.caches k) c steps → Legal f (triples k steps ++ p.list) → s.left ≡ Does (StopsIdle k n) ∷ ts
+  idle_comes : (k n : ℕ) (steps : List Made) (c : Cached) → p.epoch ≡ word_after p.list Word.Epoch → IsIdleFor p k n → IsStopped k (p.caches k) c steps
+      → Legal f (triples k steps ++ p.list) → s.left ≡ Does (StopsIdle k n) ∷ ts
       → Comes f s (records_of (events_by k (part k p.list) steps) ++ stopped k) (after_stop p k steps c (stopped k)) ts
   idle_comes k n steps c reads idle h legal left =
       let item : Record = Record.Said 0 (Said.Stopped k) in
@@ -184,14 +188,18 @@ module _ (f : Profile) (valid : IsValid f) (p : Progress) (s : Stand) (ts : List
         thread_comes f valid p s ts tells keeper op.actor r t is (legal_before f op.actor a.steps (after_trying p keeper t).list there) begun none a so.0 so.1 there,
       )
 
-  guarded_written : (keeper line k : ℕ) (what : What) (q : Progress) → keeper_in what ≡ Some keeper → s.left ≡ Does (Guards keeper (record { line = line; actor = k; what = what })) ∷ ts → (did : Advances f (Guards keeper (record { line = line; actor = k; what = what })) p q)
+  guarded_written : (keeper line k : ℕ) (what : What) (q : Progress) → keeper_in what ≡ Some keeper
+      → s.left ≡ Does (Guards keeper (record { line = line; actor = k; what = what })) ∷ ts
+      → (did : Advances f (Guards keeper (record { line = line; actor = k; what = what })) p q)
       → ActRefusesTruly f (Guards keeper (record { line = line; actor = k; what = what })) p q did → Legal f q.list → Written f p s q ts
   guarded_written keeper line k (What.Guarded own name heap size align) q kept left did truly legal =
       let op : Op = record { line = line; actor = k; what = What.Guarded own name heap size align } in
       tried_written keeper op (record { name = name; heap = heap; size = size; align = align }) did.0 did.1 q (on_task f s (Does (Guards keeper op)) ts due left) (λ a so so_truly. (so, so_truly)) did.0.block refl did.2 truly legal
   guarded_written keeper line k what q kept left did truly legal = absurd (none-some keeper kept)
 
-  pub act_written : (act : Act) (q : Progress) → s.left ≡ Does act ∷ ts → (did : Advances f act p q) → ActRefusesTruly f act p q did → IsInPlace act p → Legal f q.list → Written f p s q ts
+  -- The lines of an act of a replay lead a check from before it to after it.
+  pub act_written : (act : Act) (q : Progress) → s.left ≡ Does act ∷ ts → (did : Advances f act p q) → ActRefusesTruly f act p q did → IsInPlace act p
+      → Legal f q.list → Written f p s q ts
   act_written (MarksPhase n) q left did truly placed legal = at_end q _ did (Record.Phase n ∷ [], refl, phase_comes n left)
   act_written MarksClose q left did truly placed legal = at_end q _ did (Record.Close ∷ [], refl, close_comes left)
   act_written (Wakes k) q left did truly placed legal = at_end q _ did.1 ([], sym (append-nil p.records), woken_comes k did.0 left (legal_end q _ did.1 legal).0.answer_is)

@@ -18,7 +18,9 @@ use Rattle.pas_answers.specs.Answers.{IsStopped}
 none_only : (ks : Kinds) (steps : List Made) → steps ≡ [] → Only ks steps
 none_only ks steps none = subst (Only ks) (sym none) tt
 
-pub turn_only : {A : Type 0} (ks : Kinds) (P : A → List Made → Type 0) → ((x : A) (piece : List Made) → P x piece → Only ks piece) → (xs : List A) (steps : List Made) → InTurn P xs steps → Only ks steps
+-- What is done in turn has steps of some kinds where each piece has.
+pub turn_only : {A : Type 0} (ks : Kinds) (P : A → List Made → Type 0) → ((x : A) (piece : List Made) → P x piece → Only ks piece)
+    → (xs : List A) (steps : List Made) → InTurn P xs steps → Only ks steps
 turn_only ks P each [] steps h = none_only ks steps h
 turn_only ks P each (x ∷ xs) steps h = subst (Only ks) (sym h.4) (only_both ks h.0 h.1 (each x h.0 h.2) (turn_only ks P each xs h.1 h.3))
 
@@ -48,9 +50,11 @@ before_only : (t : Bool) (entry : Entry) (first guess : ℕ) (before : List Made
 before_only true entry first guess before h = none_only freeing before h.1
 before_only false entry first guess before h = tries_only entry.name first guess before h
 
+-- The steps that end a name are freeing ones.
 pub ends_only : (entry : Entry) (outcome : Outcome) (steps : List Made) → EndSteps entry outcome steps → Only freeing steps
 ends_only entry outcome steps h = search (arith, last_kind, only_both, before_only)
 
+-- The steps for an entry of a log are freeing ones.
 pub entry_only : (entry : Settled) (steps : List Made) → EntrySteps entry steps → Only freeing steps
 entry_only entry steps h = subst (Only freeing) (sym h.steps_are) (only_both freeing h.after h.ends (after_only entry.entry.name entry.outcome h.after h.returns) (ends_only entry.entry entry.outcome h.ends h.order))
 

@@ -24,7 +24,8 @@ use Rattle.pas_accepted.proofs.{Pieces.lines_by, Pieces.lines_more, Pieces.visib
 use Rattle.pas_accepted.proofs.SizedEnds.{AllHeed, Heeds, all_heed, ended_if}
 
 -- ---- the event of an entry
-event_is : (f : Profile) (s : Stand) (k : ℕ) (entry : Entry) (outcome : Outcome) → Heeds s.events entry outcome → Run f s.events → Admits f s.events (event_for k s.epoch entry outcome)
+event_is : (f : Profile) (s : Stand) (k : ℕ) (entry : Entry) (outcome : Outcome) → Heeds s.events entry outcome → Run f s.events
+    → Admits f s.events (event_for k s.epoch entry outcome)
     → IsEventOf s k (known_as entry) (event_for k s.epoch entry outcome)
 event_is f s k entry (Ended grains) heeds run may = end_is f s k (known_as entry) run may heeds
 event_is f s k entry (Refused read) heeds run may = reject_is f s k (known_as entry) (reason_for entry read) (reason_may entry read) may
@@ -40,28 +41,33 @@ shown_by k s settled = map (shown_for k s.epoch) settled
 abbrev settled_in : ℕ → Stand → List Settled → List Due → Stand
 settled_in k s settled more = record s { events = shown_by k s settled ++ s.events; due = more }
 
-due_more : (k : ℕ) (entries : List Known) (entry : Known) (more : List Due) → entries_due k (entries ++ entry ∷ []) ++ more ≡ entries_due k entries ++ Frees k entry ∷ more
+due_more : (k : ℕ) (entries : List Known) (entry : Known) (more : List Due)
+    → entries_due k (entries ++ entry ∷ []) ++ more ≡ entries_due k entries ++ Frees k entry ∷ more
 due_more k entries entry more = ap (λ ds. ds ++ more) (map-append (λ e. Frees k e) entries (entry ∷ [])) ∙ append_assoc (entries_due k entries) (Frees k entry ∷ []) more
 
 known_more : (x : Settled) (xs : List Settled) → known_in (x ∷ xs) ≡ known_in xs ++ known_as x.entry ∷ []
 known_more x xs = reverse-append (known_as x.entry ∷ []) (map (λ (y : Settled). known_as y.entry) xs)
 
 -- what lives after their events lived before them
-lived_one : (k epoch : ℕ) (entry : Entry) (outcome : Outcome) (es : List Event) (address : ℕ) (b : Live) → live_in (event_for k epoch entry outcome ∷ es) address ≡ Some b → live_in es address ≡ Some b
+lived_one : (k epoch : ℕ) (entry : Entry) (outcome : Outcome) (es : List Event) (address : ℕ) (b : Live)
+    → live_in (event_for k epoch entry outcome ∷ es) address ≡ Some b → live_in es address ≡ Some b
 lived_one k epoch entry (Ended grains) es address b is = ended_if (address_of entry.name == address) (live_in es address) b is
 lived_one k epoch entry (Refused read) es address b is = is
 
-lived_all : (k epoch : ℕ) (settled : List Settled) (es : List Event) (address : ℕ) (b : Live) → live_in (map (shown_for k epoch) settled ++ es) address ≡ Some b → live_in es address ≡ Some b
+lived_all : (k epoch : ℕ) (settled : List Settled) (es : List Event) (address : ℕ) (b : Live) → live_in (map (shown_for k epoch) settled ++ es) address ≡ Some b
+    → live_in es address ≡ Some b
 lived_all k epoch [] es address b is = is
 lived_all k epoch (x ∷ xs) es address b is = lived_all k epoch xs es address b (lived_one k epoch x.entry x.outcome (map (shown_for k epoch) xs ++ es) address b is)
 
-still_heeds : (k epoch : ℕ) (settled : List Settled) (es : List Event) (entry : Entry) (outcome : Outcome) → Heeds es entry outcome → Heeds (map (shown_for k epoch) settled ++ es) entry outcome
+still_heeds : (k epoch : ℕ) (settled : List Settled) (es : List Event) (entry : Entry) (outcome : Outcome) → Heeds es entry outcome
+    → Heeds (map (shown_for k epoch) settled ++ es) entry outcome
 still_heeds k epoch settled es entry (Refused read) heeds = tt
 still_heeds k epoch settled es entry (Ended grains) heeds = λ differs.
     let other = differs.1 in
     heeds (differs.0, record { block = other.block; lives = lived_all k epoch settled es (address_of entry.name) other.block other.lives; turn_is = other.turn_is; differs = other.differs })
 
-entries_lead : (f : Profile) (k : ℕ) (s : Stand) (settled : List Settled) (more : List Due) → AllHeed s.events settled → Run f (shown_by k s settled ++ s.events) → s.due ≡ entries_due k (known_in settled) ++ more
+entries_lead : (f : Profile) (k : ℕ) (s : Stand) (settled : List Settled) (more : List Due) → AllHeed s.events settled
+    → Run f (shown_by k s settled ++ s.events) → s.due ≡ entries_due k (known_in settled) ++ more
     → LeadsOn f s (lines_by (records_of (shown_by k s settled))) (settled_in k s settled more)
 entries_lead f k s [] more heed run due = on_same f s (settled_in k s [] more) (ap (with_due s) due)
 entries_lead f k s (x ∷ xs) more heed run due =
@@ -82,7 +88,8 @@ known_of (x ∷ xs) =
     ap (map known_as) (reverse-append (x.entry ∷ []) entries) ∙ map-append known_as (reverse entries) (x.entry ∷ []) ∙ ap (λ (es : List Known). es ++ known_as x.entry ∷ []) (known_of xs) ∙ sym (known_more x xs)
 
 -- ---- THE FLUSH of thread k's log
-module _ (f : Profile) (valid : IsValid f) (p : Progress) (s : Stand) (tells : Tells p s) (k : ℕ) (noted noted' : List EndedRun) (steps : List Made) (h : EmptiesLog k (p.caches k).log noted noted' steps) (legal : Legal f (triples k steps ++ p.list)) where
+module _ (f : Profile) (valid : IsValid f) (p : Progress) (s : Stand) (tells : Tells p s) (k : ℕ) (noted noted' : List EndedRun) (steps : List Made)
+    (h : EmptiesLog k (p.caches k).log noted noted' steps) (legal : Legal f (triples k steps ++ p.list)) where
   log_is : reverse (map (λ (x : Settled). x.entry) h.settled) ≡ map logged_as (s.logs k)
   log_is = h.entries_are ∙ tells.logs k
 
@@ -104,6 +111,7 @@ module _ (f : Profile) (valid : IsValid f) (p : Progress) (s : Stand) (tells : T
   visible_is : visible (triples k steps ++ p.list) ≡ shown_by k s h.settled ++ s.events
   visible_is = visible_piece k steps p.list ∙ ap (λ es. es ++ visible p.list) events_are ∙ ap (λ es. shown_by k s h.settled ++ es) (sym tells.events)
 
+  -- The lines of a log that is emptied lead the check to where its entries aren't due any more.
   pub flush_leads : (log : List Known) (more : List Due) (ts : List Task)
       → LeadsOn f (emptying s k log more ts) (lines_by (records_of (events_by k (part k p.list) steps))) (record (emptying s k log more ts) { events = visible (triples k steps ++ p.list); due = more })
   flush_leads log more ts =

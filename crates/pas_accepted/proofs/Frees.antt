@@ -34,7 +34,8 @@ pub silent_lines : (k : ℕ) (said : Option Said) (rs : List Record) → said �
 silent_lines k said rs none = ap (λ o. lines_by (rs ++ said_by k o)) none ∙ ap lines_by (append-nil rs)
 
 -- lines that lead to where an act's lines go on
-pub comes_after : (f : Profile) (s u : Stand) (q : Progress) (ts : List Task) (before : List Record) {rs : List Record} → LeadsOn f s (lines_by before) u → Comes f u rs q ts → Comes f s (before ++ rs) q ts
+pub comes_after : (f : Profile) (s u : Stand) (q : Progress) (ts : List Task) (before : List Record) {rs : List Record} → LeadsOn f s (lines_by before) u
+    → Comes f u rs q ts → Comes f s (before ++ rs) q ts
 comes_after f s u q ts before {rs} led come = record {
   end = come.end;
   leads = on_as f s come.end come.end _ _ (lines_both before rs) refl (on_both f s u come.end _ _ led come.leads);
@@ -43,7 +44,8 @@ comes_after f s u q ts before {rs} led come = record {
   left = come.left;
 }
 
-module _ (f : Profile) (valid : IsValid f) (p : Progress) (s : Stand) (ts : List Task) (tells : Tells p s) (k : ℕ) (a : Answer) (names : a.names ≡ p.names) (tidy : Tidy (a.steps ++ part k p.list)) (legal : Legal f (triples k a.steps ++ p.list)) where
+module _ (f : Profile) (valid : IsValid f) (p : Progress) (s : Stand) (ts : List Task) (tells : Tells p s) (k : ℕ) (a : Answer) (names : a.names ≡ p.names)
+    (tidy : Tidy (a.steps ++ part k p.list)) (legal : Legal f (triples k a.steps ++ p.list)) where
   -- ---- it is only said
   said_comes : (said : Said) → a.steps ≡ [] → a.cache ≡ p.caches k → a.said ≡ Some said → LeadsOn f s [] (record (saying s k said) { left = ts }) → Comes f s (records_of (events_by k (part k p.list) a.steps) ++ said_by k a.said) (after_answer p k a) ts
   said_comes said none cache is begun =
@@ -60,7 +62,8 @@ module _ (f : Profile) (valid : IsValid f) (p : Progress) (s : Stand) (ts : List
       }
 
   -- ---- it is logged
-  pub logged_comes : (full : Bool) (entry : Known) (kept : List Entry) → EmptiesFull full k (p.caches k).log kept (p.caches k).noted a.cache.noted a.steps → a.cache.log ≡ kept ++ logged_as entry ∷ [] → a.cache.idle_since ≡ (p.caches k).idle_since → a.said ≡ None
+  pub logged_comes : (full : Bool) (entry : Known) (kept : List Entry) → EmptiesFull full k (p.caches k).log kept (p.caches k).noted a.cache.noted a.steps
+      → a.cache.log ≡ kept ++ logged_as entry ∷ [] → a.cache.idle_since ≡ (p.caches k).idle_since → a.said ≡ None
       → Comes f (record (logging full s k entry []) { left = ts }) (records_of (events_by k (part k p.list) a.steps) ++ said_by k a.said) (after_answer p k a) ts
   logged_comes true entry kept h log idle silent =
       let u : Stand = emptying s k (entry ∷ []) [] ts in
@@ -96,6 +99,7 @@ module _ (f : Profile) (valid : IsValid f) (p : Progress) (s : Stand) (ts : List
   fault_comes entry Outside h said begun = search (arith, page_isnt, said_comes, on_as)
   fault_comes entry Unaligned h said begun = search (arith, page_is, ne_eqb, said_comes, on_as)
 
+  -- The lines of a free lead the check to what the free comes to.
   pub free_comes : (entry : Known) → IsFreed f k (p.caches k) a.cache (logged_as entry) a.steps a.said → LeadsOn f s [] (record (freeing f s k entry) { left = ts })
       → Comes f s (records_of (events_by k (part k p.list) a.steps) ++ said_by k a.said) (after_answer p k a) ts
   free_comes entry (inl h) begun =

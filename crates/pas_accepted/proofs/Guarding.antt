@@ -46,8 +46,10 @@ use Rattle.pas_accepted.proofs.Sweeps.{IsSwept, lowered_are, lowered_lead, swept
 abbrev pub up_after : Stand → ℕ → Bool → List Known
 up_after s keeper all = filter (λ guard. not (goes_down s.events keeper all guard)) s.guards
 
-sweep_leads : (f : Profile) (s : Stand) (keeper : ℕ) (all : Bool) (more : List Due) (ts : List Task) (book : List Guard) (said : List Record) → guards_of keeper s.guards ≡ map (raised_by keeper) book
-    → said ≡ map (lowered_by keeper) (going s.events all book) → LeadsOn f (record (sweeping s keeper all more) { left = ts }) (lines_by said) (record s { guards = up_after s keeper all; due = more; left = ts })
+sweep_leads : (f : Profile) (s : Stand) (keeper : ℕ) (all : Bool) (more : List Due) (ts : List Task) (book : List Guard) (said : List Record)
+    → guards_of keeper s.guards ≡ map (raised_by keeper) book
+    → said ≡ map (lowered_by keeper) (going s.events all book)
+    → LeadsOn f (record (sweeping s keeper all more) { left = ts }) (lines_by said) (record s { guards = up_after s keeper all; due = more; left = ts })
 sweep_leads f s keeper all more ts book said told are =
     let u : Stand = record s { guards = up_after s keeper all; left = ts } in
     let end : Stand = record s { guards = up_after s keeper all; due = more; left = ts } in
@@ -58,7 +60,9 @@ sweep_leads f s keeper all more ts book said told are =
 
 -- ---- THE CLOSE of a keeper
 module _ (f : Profile) (valid : IsValid f) (p : Progress) (s : Stand) (ts : List Task) (tells : Tells p s) (due : s.due ≡ []) (keeper : ℕ) where
-  pub lowered_comes : (steps : List Made) (said : List Record) → IsLowered f keeper (part keeper p.list) (p.books keeper) steps said → Legal f (triples keeper steps ++ p.list) → s.left ≡ Does (Lowers keeper) ∷ ts
+  -- The lines of the guards that a keeper lowers at the close lead the check to what the act comes to.
+  pub lowered_comes : (steps : List Made) (said : List Record) → IsLowered f keeper (part keeper p.list) (p.books keeper) steps said
+      → Legal f (triples keeper steps ++ p.list) → s.left ≡ Does (Lowers keeper) ∷ ts
       → Comes f s said (after_lowering p keeper steps said) ts
   lowered_comes steps said h legal left =
       let swept = swept_is f valid keeper true (p.books keeper) [] said steps p.list s.events (sym tells.events) (tells.books.aligned keeper) h.sweep.swept legal in
@@ -89,7 +93,8 @@ abbrev pub any_back : List Event → Bool
 any_back [] = false
 any_back (e ∷ es) = any_back es || is_back e
 
-keeping_lead : (f : Profile) (w : Stand) (keeper k : ℕ) (r : Request) (es : List Event) → AllByRecursion (IsPreparing keeper (directory_of f r)) es → Run f (es ++ w.events)
+keeping_lead : (f : Profile) (w : Stand) (keeper k : ℕ) (r : Request) (es : List Event) → AllByRecursion (IsPreparing keeper (directory_of f r)) es
+    → Run f (es ++ w.events)
     → LeadsOn f (trying w keeper k r false w.events) (lines_by (records_of es)) (trying w keeper k r (any_back es) (es ++ w.events))
 keeping_lead f w keeper k r [] all run = on_same f (trying w keeper k r false w.events) (trying w keeper k r false w.events) refl
 keeping_lead f w keeper k r (e ∷ es) all run =
@@ -125,7 +130,8 @@ guarded w keeper r block es = record w { events = es; names = record { name = r.
 abbrev pub guard_said : ℕ → Request → Block → Record
 guard_said keeper r block = Record.Said keeper (Said.Guarded (page_below block) (page_above block) r.name)
 
-module _ (f : Profile) (valid : IsValid f) (w : Stand) (keeper k : ℕ) (r : Request) (l : Whole) (steps : List Made) (events : w.events ≡ visible l) (legal : Legal f (triples keeper steps ++ l)) where
+module _ (f : Profile) (valid : IsValid f) (w : Stand) (keeper k : ℕ) (r : Request) (l : Whole) (steps : List Made) (events : w.events ≡ visible l)
+    (legal : Legal f (triples keeper steps ++ l)) where
   run : Run f (visible (triples keeper steps ++ l))
   run = runs f (triples keeper steps ++ l) valid legal
 
@@ -171,7 +177,8 @@ module _ (f : Profile) (valid : IsValid f) (w : Stand) (keeper k : ℕ) (r : Req
       (keeping_lead f w keeper k r es (all_prepared keeper (directory_of f r) es (all_deeds (directory_of f r) es deeds) (events_own keeper (part keeper l) steps)) (subst (Run f) shown run))
 
 -- ---- the pages beside a block that was raised
-module _ (f : Profile) (d : Directory) (keeper n : ℕ) (guards guards' : List Guard) (searched after : List Made) (block : Block) (h : IsRaised f d n guards guards' searched after block) where
+module _ (f : Profile) (d : Directory) (keeper n : ℕ) (guards guards' : List Guard) (searched after : List Made) (block : Block)
+    (h : IsRaised f d n guards guards' searched after block) where
   begins : address_of block.name ≡ (h.first + 1) * 4096
   begins = ap (λ (b : Block). address_of b.name) h.block_is
 
@@ -197,19 +204,23 @@ module _ (f : Profile) (d : Directory) (keeper n : ℕ) (guards guards' : List G
   said_is name = search (arith, begins, below_is, above_is)
 
 -- ---- the epoch over what a keeper does
-epoch_both : (k : ℕ) (steps ys xs : List Made) (l : Whole) → steps ≡ ys ++ xs → word_after (triples k ys ++ (triples k xs ++ l)) Word.Epoch ≡ word_after (triples k xs ++ l) Word.Epoch → word_after (triples k xs ++ l) Word.Epoch ≡ word_after l Word.Epoch
+epoch_both : (k : ℕ) (steps ys xs : List Made) (l : Whole) → steps ≡ ys ++ xs
+    → word_after (triples k ys ++ (triples k xs ++ l)) Word.Epoch ≡ word_after (triples k xs ++ l) Word.Epoch
+    → word_after (triples k xs ++ l) Word.Epoch ≡ word_after l Word.Epoch
     → word_after (triples k steps ++ l) Word.Epoch ≡ word_after l Word.Epoch
 epoch_both k steps ys xs l are later earlier = ap (λ ms. word_after (triples k ms ++ l) Word.Epoch) are ∙ ap (λ (x : Whole). word_after x Word.Epoch) (sym (triples_append k ys xs l)) ∙ later ∙ earlier
 
 raised_epoch : (f : Profile) (k heap n : ℕ) (guards left : List Guard) (answer : Option Block) (searched after : List Made) (l : Whole)
-    → MatchOption answer (IsNotRaised f (large_directory heap) n guards left searched after) (IsRaised f (large_directory heap) n guards left searched after) → word_after (triples k after ++ l) Word.Epoch ≡ word_after l Word.Epoch
+    → MatchOption answer (IsNotRaised f (large_directory heap) n guards left searched after) (IsRaised f (large_directory heap) n guards left searched after)
+    → word_after (triples k after ++ l) Word.Epoch ≡ word_after l Word.Epoch
 raised_epoch f k heap n guards left None searched after l is = ap (λ ms. word_after (triples k ms ++ l) Word.Epoch) is.nothing
 raised_epoch f k heap n guards left (Some block) searched after l is =
     let give : List Made = give_steps (is.first + 1) 0 block is.word is.answer in
     epoch_both k after is.left (give ++ is.backs) l is.after_is (epoch_kept returning refl k is.left (triples k (give ++ is.backs) ++ l) (raised_leaves is))
     (epoch_both k (give ++ is.backs) give is.backs l refl (epoch_kept (Giving ∷ (LookLife ∷ [])) refl k give (triples k is.backs ++ l) (refl, (refl, tt))) (epoch_kept (Backing ∷ []) refl k is.backs l (raised_backs is)))
 
-raise_epoch : (f : Profile) (k heap n : ℕ) (guards left : List Guard) (answer : Option Block) (steps : List Made) (l : Whole) → RaiseSteps f heap n guards left answer steps → word_after (triples k steps ++ l) Word.Epoch ≡ word_after l Word.Epoch
+raise_epoch : (f : Profile) (k heap n : ℕ) (guards left : List Guard) (answer : Option Block) (steps : List Made) (l : Whole)
+    → RaiseSteps f heap n guards left answer steps → word_after (triples k steps ++ l) Word.Epoch ≡ word_after l Word.Epoch
 raise_epoch f k heap n guards left answer steps l is =
     epoch_both k steps is.after is.searched l is.steps_are (raised_epoch f k heap n guards left answer is.searched is.after (triples k is.searched ++ l) is.outcome) (epoch_kept seeking refl k is.searched l is.kinds)
 
@@ -225,7 +236,8 @@ twice_booked : (books : Books) (k : ℕ) (a b : List Guard) → with_book (with_
 twice_booked books k a b = λ i j. twice (j == k) a b (books j) i
 
 -- ---- A GUARDED REQUEST, as its keeper tried it
-module _ (f : Profile) (valid : IsValid f) (p : Progress) (s : Stand) (ts : List Task) (tells : Tells p s) (keeper k : ℕ) (r : Request) (t : Tried) (is : IsTried f keeper r (part keeper p.list) (p.books keeper) t)
+module _ (f : Profile) (valid : IsValid f) (p : Progress) (s : Stand) (ts : List Task) (tells : Tells p s) (keeper k : ℕ) (r : Request) (t : Tried)
+    (is : IsTried f keeper r (part keeper p.list) (p.books keeper) t)
     (legal : Legal f (triples keeper t.steps ++ p.list)) (begun : LeadsOn f s [] (record (sweeping s keeper false (Tries keeper k r false ∷ [])) { left = ts })) where
   abbrev n : ℕ
   n = pages_of (wanted_by f r)
@@ -277,7 +289,8 @@ module _ (f : Profile) (valid : IsValid f) (p : Progress) (s : Stand) (ts : List
   tried_epoch : word_after list1 Word.Epoch ≡ word_after p.list Word.Epoch
   tried_epoch = epoch_both keeper t.steps is.raised is.swept p.list is.steps_are (raise_epoch f keeper r.heap n is.left t.guards t.block is.raised l1 is.raise) (epoch_kept sweeping_kinds refl keeper is.swept p.list is.sweep.kinds)
 
-  tried_tells : (names : List Named) (u : Stand) (records : List Record) → u.events ≡ visible list1 → u.names ≡ names → u.logs ≡ s.logs → u.idle_since ≡ s.idle_since → u.epoch ≡ s.epoch → AreBooked (with_book p.books keeper t.guards) u.guards
+  tried_tells : (names : List Named) (u : Stand) (records : List Record) → u.events ≡ visible list1 → u.names ≡ names → u.logs ≡ s.logs
+      → u.idle_since ≡ s.idle_since → u.epoch ≡ s.epoch → AreBooked (with_book p.books keeper t.guards) u.guards
       → Tells record { names = names; caches = p.caches; books = with_book p.books keeper t.guards; epoch = p.epoch; list = list1; records = records } u
   tried_tells names u records events named_so logs awake epoch books = record {
     events = events;
@@ -290,7 +303,8 @@ module _ (f : Profile) (valid : IsValid f) (p : Progress) (s : Stand) (ts : List
   }
 
   -- the lines of its records
-  lines_are : (said : List Record) → said_of_guard keeper r.name n t.block ≡ said → lines_by t.records ≡ lines_by is.lowered ++ lines_by (records_of (events_by keeper (part keeper l1) is.raised) ++ said)
+  lines_are : (said : List Record) → said_of_guard keeper r.name n t.block ≡ said
+      → lines_by t.records ≡ lines_by is.lowered ++ lines_by (records_of (events_by keeper (part keeper l1) is.raised) ++ said)
   lines_are said same = search (arith, lines_both, part_is)
 
   -- ---- it gave the block
@@ -350,8 +364,10 @@ module _ (f : Profile) (valid : IsValid f) (p : Progress) (s : Stand) (ts : List
         (on_both f s tried (by_thread f w keeper k r (visible list1)) (lines_by is.lowered ++ lines_by (records_of events)) [] there (on_thread f w keeper k r (visible list1)))
 
     -- the answer of the thread
-    pub thread_comes : (a : Answer) (so : IsServed f k r (having p1.names (part k p1.list) (p1.caches k)) a) → MatchResult so.answer (λ block. Unit {0}) (IsTrulyRefused f (wanted_by f r) (p1.caches k).locals p1.list (triples k a.steps ++ p1.list))
-        → Legal f (triples k a.steps ++ p1.list) → Comes f s (t.records ++ (records_of (events_by k (part k p1.list) a.steps) ++ said_by k a.said)) (after_answer p1 k a) ts
+    pub thread_comes : (a : Answer) (so : IsServed f k r (having p1.names (part k p1.list) (p1.caches k)) a)
+        → MatchResult so.answer (λ block. Unit {0}) (IsTrulyRefused f (wanted_by f r) (p1.caches k).locals p1.list (triples k a.steps ++ p1.list))
+        → Legal f (triples k a.steps ++ p1.list)
+        → Comes f s (t.records ++ (records_of (events_by k (part k p1.list) a.steps) ++ said_by k a.said)) (after_answer p1 k a) ts
     thread_comes a so truly answered_legal =
         let end : Stand = asked_then f p1 s1 ts none_tells k r a so answered_legal in
         let there : Stand = served s1 k r None so.answer (visible (triples k a.steps ++ p1.list)) in

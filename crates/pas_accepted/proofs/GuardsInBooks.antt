@@ -60,7 +60,8 @@ module _ (p t : Known → Bool) where
   other_tests q apart [] = refl
   other_tests q apart (x ∷ xs) = other_of q (p x) (t x) (q x) x (filter (λ y. not (p y && t y)) xs) xs refl (apart x) (other_tests q apart xs)
 
-mapped_if : (a : Bool) (g : Guard → Known) (x : Guard) (xs : List Guard) (ys : List Known) → ys ≡ map g xs → (if a then g x ∷ ys else ys) ≡ map g (if a then x ∷ xs else xs)
+mapped_if : (a : Bool) (g : Guard → Known) (x : Guard) (xs : List Guard) (ys : List Known) → ys ≡ map g xs
+    → (if a then g x ∷ ys else ys) ≡ map g (if a then x ∷ xs else xs)
 mapped_if true g x xs ys same = ap (λ (zs : List Known). g x ∷ zs) same
 mapped_if false g x xs ys same = same
 
@@ -69,7 +70,8 @@ mapped_filter g t [] = refl
 mapped_filter g t (x ∷ xs) = mapped_if (t (g x)) g x (filter (λ y. t (g y)) xs) (filter t (map g xs)) (mapped_filter g t xs)
 
 -- ---- a sweep of one keeper
-module _ (es : List Event) (keeper : ℕ) (all : Bool) (guards : List Known) (book : List Guard) (told : guards_of keeper guards ≡ map (raised_by keeper) book) where
+module _ (es : List Event) (keeper : ℕ) (all : Bool) (guards : List Known) (book : List Guard) (told : guards_of keeper guards ≡ map (raised_by keeper) book)
+    where
   -- those that go down are those of his book
   pub going_told : filter (goes_down es keeper all) guards ≡ map (raised_by keeper) (going es all book)
   going_told =
@@ -80,17 +82,20 @@ module _ (es : List Event) (keeper : ℕ) (all : Bool) (guards : List Known) (bo
       simp (rest_tests, told, mapped_filter)
 
 -- those of the others stay
-others_told : (es : List Event) (keeper j : ℕ) (all : Bool) (guards : List Known) → j ≢ keeper → guards_of j (filter (λ guard. not (goes_down es keeper all guard)) guards) ≡ guards_of j guards
+others_told : (es : List Event) (keeper j : ℕ) (all : Bool) (guards : List Known) → j ≢ keeper
+    → guards_of j (filter (λ guard. not (goes_down es keeper all guard)) guards) ≡ guards_of j guards
 others_told es keeper j all guards other =
     other_tests (λ guard. guard.keeper == keeper) (λ guard. all || nat_lt guard.name.turn (ends_in es (address_of guard.name))) (λ guard. guard.keeper == j)
     (λ guard his. ne_eqb guard.keeper keeper (λ same. other (sym (eqb-true guard.keeper j his) ∙ same))) guards
 
 -- .. so the books are told after it
-book_if : (books : Books) (keeper : ℕ) (book : List Guard) (guards : List Known) (j : ℕ) → (j ≡ keeper → guards_of j guards ≡ map (raised_by j) book) → (j ≢ keeper → guards_of j guards ≡ map (raised_by j) (books j))
+book_if : (books : Books) (keeper : ℕ) (book : List Guard) (guards : List Known) (j : ℕ) → (j ≡ keeper → guards_of j guards ≡ map (raised_by j) book)
+    → (j ≢ keeper → guards_of j guards ≡ map (raised_by j) (books j))
     → guards_of j guards ≡ map (raised_by j) (with_book books keeper book j)
 book_if books keeper book guards j his others = search (arith, cases_eq, eq-eqb, ne_eqb)
 
-swept_books : (books : Books) (es : List Event) (keeper : ℕ) (all : Bool) (guards : List Known) → ((j : ℕ) → guards_of j guards ≡ map (raised_by j) (books j)) → (j : ℕ)
+swept_books : (books : Books) (es : List Event) (keeper : ℕ) (all : Bool) (guards : List Known) → ((j : ℕ) → guards_of j guards ≡ map (raised_by j) (books j))
+    → (j : ℕ)
     → guards_of j (filter (λ guard. not (goes_down es keeper all guard)) guards) ≡ map (raised_by j) (with_book books keeper (staying es all (books keeper)) j)
 swept_books books es keeper all guards told j = search (arith, book_if, staying_told, others_told)
 
@@ -99,7 +104,8 @@ filter_end : (p : Known → Bool) (xs : List Known) (x : Known) → filter p (xs
 filter_end p [] x = refl
 filter_end p (y ∷ ys) x = ended (p y) (filter_end p ys x)
   where
-    ended : (a : Bool) → filter p (ys ++ x ∷ []) ≡ filter p ys ++ (if p x then x ∷ [] else []) → (if a then y ∷ filter p (ys ++ x ∷ []) else filter p (ys ++ x ∷ [])) ≡ (if a then y ∷ filter p ys else filter p ys) ++ (if p x then x ∷ [] else [])
+    ended : (a : Bool) → filter p (ys ++ x ∷ []) ≡ filter p ys ++ (if p x then x ∷ [] else [])
+        → (if a then y ∷ filter p (ys ++ x ∷ []) else filter p (ys ++ x ∷ [])) ≡ (if a then y ∷ filter p ys else filter p ys) ++ (if p x then x ∷ [] else [])
     ended true same = ap (λ (zs : List Known). y ∷ zs) same
     ended false same = same
 
@@ -128,6 +134,7 @@ pub record AreBooked (books : Books) (guards : List Known) : Type 0 where
   pub told : (j : ℕ) → guards_of j guards ≡ map (raised_by j) (books j)
   pub aligned : (j : ℕ) → AreAligned (books j)
 
+-- Guards that are booked in some list are booked in the same list.
 pub booked_as : (books : Books) (guards now : List Known) → now ≡ guards → AreBooked books guards → AreBooked books now
 booked_as books guards now same booked = subst (AreBooked books) (sym same) booked
 
@@ -143,19 +150,24 @@ aligned_end : (book : List Guard) (guard : Guard) → AreAligned book → addres
 aligned_end [] guard are new = (new, tt)
 aligned_end (x ∷ xs) guard are new = (are.0, aligned_end xs guard are.1 new)
 
-aligned_if : (books : Books) (keeper : ℕ) (book : List Guard) → ((j : ℕ) → AreAligned (books j)) → AreAligned book → (j : ℕ) → AreAligned (with_book books keeper book j)
+aligned_if : (books : Books) (keeper : ℕ) (book : List Guard) → ((j : ℕ) → AreAligned (books j)) → AreAligned book → (j : ℕ)
+    → AreAligned (with_book books keeper book j)
 aligned_if books keeper book are new j = either (j == keeper)
   where
     either : (t : Bool) → AreAligned (if t then book else books j)
     either true = new
     either false = are j
 
-pub booked_sweep : (books : Books) (es : List Event) (keeper : ℕ) (all : Bool) (guards : List Known) (book : List Guard) → book ≡ staying es all (books keeper) → AreBooked books guards
+-- After a sweep the guards that stay up are those of the keepers' books.
+pub booked_sweep : (books : Books) (es : List Event) (keeper : ℕ) (all : Bool) (guards : List Known) (book : List Guard) → book ≡ staying es all (books keeper)
+    → AreBooked books guards
     → AreBooked (with_book books keeper book) (filter (λ guard. not (goes_down es keeper all guard)) guards)
 booked_sweep books es keeper all guards book is booked =
     subst (λ (b : List Guard). AreBooked (with_book books keeper b) (filter (λ guard. not (goes_down es keeper all guard)) guards)) (sym is)
     record { told = swept_books books es keeper all guards booked.told; aligned = aligned_if books keeper (staying es all (books keeper)) booked.aligned (aligned_filter (λ guard. not (is_down es all guard)) (books keeper) (booked.aligned keeper)) }
 
-pub booked_raise : (books : Books) (keeper : ℕ) (guard : Guard) (guards : List Known) → address_of guard.block.name % 16 ≡ 0 → AreBooked books guards → AreBooked (with_book books keeper (books keeper ++ guard ∷ [])) (guards ++ raised_by keeper guard ∷ [])
+-- After a raise the new guard is the last one up, and in its keeper's book.
+pub booked_raise : (books : Books) (keeper : ℕ) (guard : Guard) (guards : List Known) → address_of guard.block.name % 16 ≡ 0 → AreBooked books guards
+    → AreBooked (with_book books keeper (books keeper ++ guard ∷ [])) (guards ++ raised_by keeper guard ∷ [])
 booked_raise books keeper guard guards new booked =
     record { told = raised_books books keeper guard guards booked.told; aligned = aligned_if books keeper (books keeper ++ guard ∷ []) booked.aligned (aligned_end (books keeper) guard (booked.aligned keeper) new) }

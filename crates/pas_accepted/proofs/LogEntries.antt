@@ -15,6 +15,7 @@ logged_as entry = record { name = entry.name; room = entry.room }
 abbrev pub known_as : Entry → Known
 known_as entry = record { name = entry.name; room = entry.room }
 
+-- Entries of a log that are logged are known again as they were.
 pub known_again : (entries : List Known) → map known_as (map logged_as entries) ≡ entries
 known_again [] = refl
 known_again (entry ∷ entries) = ap (λ (es : List Known). entry ∷ es) (known_again entries)
@@ -24,7 +25,8 @@ plain_may : (entry : Known) (later : Bool) → MayRefuse entry (if later then Wh
 plain_may entry true = tt
 plain_may entry false = tt
 
-sized_may : (entry : Known) (lives later : Bool) → 0 < entry.room → MayRefuse entry (if lives then Why.SizeDiffers entry.room else (if later then Why.Ended else Why.NoBlock))
+sized_may : (entry : Known) (lives later : Bool) → 0 < entry.room
+    → MayRefuse entry (if lives then Why.SizeDiffers entry.room else (if later then Why.Ended else Why.NoBlock))
 sized_may entry true later some = (some, refl)
 sized_may entry false later some = plain_may entry later
 

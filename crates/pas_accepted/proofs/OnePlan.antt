@@ -30,8 +30,10 @@ of_parts : (text : List ℕ) (v : Verdict) (a : Plan) → JudgesIn text v a.prof
 of_parts text Yes a is = is
 of_parts text (No n) a is = is
 
+-- The verdict for one plan of a text is that for each.
 pub same_verdict : (bytes text : List ℕ) (a b : Plan) → IsPlanOf bytes a → IsPlanOf bytes b → (v : Verdict) → IsVerdict a text v → IsVerdict b text v
 same_verdict bytes text a b p q v verdict = search (arith, same_parsed, to_parts, of_parts)
 
+-- A transcript that is accepted for one plan of a text is accepted for each.
 pub same_plan : (bytes text : List ℕ) (a b : Plan) → IsPlanOf bytes a → IsPlanOf bytes b → IsAccepted a text → IsAccepted b text
 same_plan bytes text a b p q accepted = same_verdict bytes text a b p q Yes accepted

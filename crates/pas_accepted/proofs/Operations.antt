@@ -21,20 +21,24 @@ use Rattle.pas_accepted.proofs.{Requests.request_leads, Requests.served, Request
 use Rattle.pas_accepted.proofs.Stopping.{emptied, logs_with, stop_leads, stop_tells}
 use Rattle.pas_accepted.proofs.Telling.{Comes, Tells, piece_of, told_after}
 
-module _ (f : Profile) (valid : IsValid f) (p : Progress) (s : Stand) (ts : List Task) (tells : Tells p s) (due : s.due ≡ []) (k : ℕ) (a : Answer) (legal : Legal f (triples k a.steps ++ p.list)) where
+module _ (f : Profile) (valid : IsValid f) (p : Progress) (s : Stand) (ts : List Task) (tells : Tells p s) (due : s.due ≡ []) (k : ℕ) (a : Answer)
+    (legal : Legal f (triples k a.steps ++ p.list)) where
   -- the piece is tidy
   tidy_of : (what : What) → IsAnswered f k what (having p.names (part k p.list) (p.caches k)) a → Tidy (a.steps ++ part k p.list)
   tidy_of what is = answer_tidy f k what (having p.names (part k p.list) (p.caches k)) a is (piece_of f k a.steps p.list legal) (tells.tidy k)
 
   -- a free of what a name stands for
-  named_comes : (name : ℕ) (room : Option ℕ) → IsFreedBy f k (p.caches k) a.cache name room (standing_for p.names name) a.steps a.said → a.names ≡ p.names → Tidy (a.steps ++ part k p.list)
+  named_comes : (name : ℕ) (room : Option ℕ) → IsFreedBy f k (p.caches k) a.cache name room (standing_for p.names name) a.steps a.said → a.names ≡ p.names
+      → Tidy (a.steps ++ part k p.list)
       → LeadsOn f s [] (record (freeing_named f s k name (room_noted room) (standing_for s.names name)) { left = ts })
       → Comes f s (records_of (events_by k (part k p.list) a.steps) ++ said_by k a.said) (after_answer p k a) ts
   named_comes name room is same tidy begun = search (arith, freed_comes, on_as)
 
   -- a request
-  request_comes : (r : Request) (is : IsServed f k r (having p.names (part k p.list) (p.caches k)) a) → MatchResult is.answer (λ block. Unit {0}) (IsTrulyRefused f (wanted_by f r) (p.caches k).locals p.list (triples k a.steps ++ p.list))
-      → LeadsOn f s [] (record s { due = Serves k r None ∷ []; left = ts }) → Comes f s (records_of (events_by k (part k p.list) a.steps) ++ said_by k a.said) (after_answer p k a) ts
+  request_comes : (r : Request) (is : IsServed f k r (having p.names (part k p.list) (p.caches k)) a)
+      → MatchResult is.answer (λ block. Unit {0}) (IsTrulyRefused f (wanted_by f r) (p.caches k).locals p.list (triples k a.steps ++ p.list))
+      → LeadsOn f s [] (record s { due = Serves k r None ∷ []; left = ts })
+      → Comes f s (records_of (events_by k (part k p.list) a.steps) ++ said_by k a.said) (after_answer p k a) ts
   request_comes r is truly begun =
       let w : Stand = record s { left = ts } in
       let u : Stand = record s { due = Serves k r None ∷ []; left = ts } in

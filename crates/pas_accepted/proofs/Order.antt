@@ -30,6 +30,7 @@ AreInPlace known (act ∷ acts) = MayStand known act × AreInPlace (read_after k
 abbrev pub IsRead : Bool → Progress → Type 0
 IsRead known p = known ≡ true → p.epoch ≡ word_after p.list Word.Epoch
 
+-- An act that may stand where it does, by what is known of the scavenger's epoch, is in its place.
 pub in_place : (known : Bool) (act : Act) (p : Progress) → MayStand known act → IsRead known p → IsInPlace act p
 in_place known (StopsIdle k n) p is read = read is
 in_place known (Guards keeper op) p is read = is
@@ -41,7 +42,9 @@ never is = absurd (true≢false (sym is))
 read_as : (known : Bool) (p q : Progress) → q ≡ p → IsRead known p → IsRead known q
 read_as known p q same read = subst (IsRead known) (sym same) read
 
-pub still_read : (f : Profile) (known : Bool) (act : Act) (p q : Progress) → Advances f act p q → Legal f q.list → IsRead known p → IsRead (read_after known act) q
+-- What is known of the epoch that the scavenger read stays true after each act.
+pub still_read : (f : Profile) (known : Bool) (act : Act) (p q : Progress) → Advances f act p q → Legal f q.list → IsRead known p
+    → IsRead (read_after known act) q
 still_read f known ReadsEpoch p q did legal read = λ is. subst (λ (x : Progress). x.epoch ≡ word_after x.list Word.Epoch) (sym did.1) (subst (λ (x : Progress). Legal f x.list) did.1 legal).0.answer_is
 still_read f known (StopsIdle k n) p q (inl so) legal read = read_as known _ q so.4 (λ is. read is ∙ sym (epoch_kept freeing refl k so.1 p.list (stop_only k (p.caches k) so.2 so.1 so.3)))
 still_read f known (StopsIdle k n) p q (inr stays) legal read = read_as known p q stays.1 read
@@ -94,6 +97,7 @@ from_on : (threads keepers n : ℕ) (phases : List (List Op)) → Anyhow (acts_f
 from_on threads keepers n [] known = close_on threads keepers known
 from_on threads keepers n (phase ∷ phases) known = (tt, phase_on threads phase (acts_from threads keepers (n + 1) phases) (from_on threads keepers (n + 1) phases) false)
 
+-- The acts of a plan all stand in their places.
 pub acts_in_place : (threads keepers : ℕ) (phases : List (List Op)) (known : Bool) → AreInPlace known (acts_of threads keepers phases)
 acts_in_place threads keepers [] known = close_on threads keepers known
 acts_in_place threads keepers (phase ∷ phases) known = phase_on threads phase (acts_from threads keepers 2 phases) (from_on threads keepers 2 phases) known

@@ -39,7 +39,8 @@ some_deed o d read none = deed_word_of-positive d (read ∙ ap word_of_deed none
 deed_at : (f : Profile) (l : Whole) (page : ℕ) (d : Directory) → Legal f l → deed_word_of d ≡ word_after l (Word.Deed page) → deed_in (visible l) page ≢ None
 deed_at f l page d legal read = some_deed (deed_in (visible l) page) d (read ∙ deed_of f l legal page)
 
-used_small : (f : Profile) (l : Whole) (page word value : ℕ) → IsValid f → Legal f l → value ≢ all_ones → value ≡ word_after l (Word.Free page word) → value < 2 ^ 64 - 1
+used_small : (f : Profile) (l : Whole) (page word value : ℕ) → IsValid f → Legal f l → value ≢ all_ones → value ≡ word_after l (Word.Free page word)
+    → value < 2 ^ 64 - 1
 used_small f l page word value valid legal some read = omega (arith, words_fit f l valid legal (Word.Free page word), some, read)
 
 -- ---- in a pass
@@ -54,7 +55,8 @@ pub record MayPass (s : Stand) (l : Whole) : Type 0 where
 first_quiet : (page b : ℕ) → Only quiet (first_looks page b None)
 first_quiet page b = only_both quiet (looks_until page None) (made (Look (Word.Backed page)) b ∷ []) (only_within (LookFree ∷ []) quiet (looks_until page None) refl (until_only page None)) (refl, tt)
 
-module _ (f : Profile) (valid : IsValid f) (s : Stand) (l : Whole) (may : MayPass s l) (page last : ℕ) (after : List Made) (legal : Legal f (triples 0 after ++ l)) where
+module _ (f : Profile) (valid : IsValid f) (s : Stand) (l : Whole) (may : MayPass s l) (page last : ℕ) (after : List Made)
+    (legal : Legal f (triples 0 after ++ l)) where
   -- what was made before these steps
   since : (ys xs : List Made) → after ≡ ys ++ xs → Legal f (triples 0 xs ++ l)
   since ys xs is = legal_earlier f 0 ys xs l (subst (λ ms. Legal f (triples 0 ms ++ l)) is legal)
@@ -77,7 +79,8 @@ module _ (f : Profile) (valid : IsValid f) (s : Stand) (l : Whole) (may : MayPas
     taken : (judged : List Made) → h.takes.after ≡ judged → after ≡ h.takes.back ++ (judged ++ (takes_until page h.takes.used ++ h.asked))
     taken judged is = taken_on f.age s.epoch page outcome after h ∙ ap (λ ms. h.takes.back ++ (ms ++ (takes_until page h.takes.used ++ h.asked))) is
 
-  with_right : (outcome : Outcome) → EndsWith f.age s.epoch page outcome after → Run f (visible (triples 0 after ++ l)) → visible (triples 0 after ++ l) ≡ unback_of 0 s.epoch page outcome ++ visible l → MayCome f (at_pass s l last) page outcome
+  with_right : (outcome : Outcome) → EndsWith f.age s.epoch page outcome after → Run f (visible (triples 0 after ++ l))
+      → visible (triples 0 after ++ l) ≡ unback_of 0 s.epoch page outcome ++ visible l → MayCome f (at_pass s l last) page outcome
   with_right Unbacked h run shown = (subst (Run f) shown run).0
   with_right Bare h run shown =
       let rest : List Made = takes_until page h.takes.used ++ h.asked in
@@ -102,7 +105,8 @@ module _ (f : Profile) (valid : IsValid f) (s : Stand) (l : Whole) (may : MayPas
   with_right NotOffered h run shown = absurd h.takes.judged
 
   -- its event
-  pub outcome_shown : (outcome : Outcome) → ExamineSteps f.age s.epoch page outcome after → visible (triples 0 after ++ l) ≡ unback_of 0 s.epoch page outcome ++ visible l
+  pub outcome_shown : (outcome : Outcome) → ExamineSteps f.age s.epoch page outcome after
+      → visible (triples 0 after ++ l) ≡ unback_of 0 s.epoch page outcome ++ visible l
   outcome_shown outcome h = visible_piece 0 after l ∙ ap (λ es. es ++ visible l) (examine_event 0 f.age s.epoch page outcome after (part 0 l) h may.known)
 
   -- THE OUTCOME of the page

@@ -20,9 +20,11 @@ use Rattle.pas_accepted.proofs.Going.{LeadsOn, on_as, on_both, on_line, on_past,
 use Rattle.pas_accepted.proofs.{Outcomes.MayPass, Outcomes.at_pass, Pieces.lines_by, Telling.Comes, Telling.Tells, Tries.Passed, Tries.both_pieces}
 use Rattle.pas_accepted.proofs.{Tries.words_pass}
 
-module _ (f : Profile) (valid : IsValid f) (p : Progress) (s : Stand) (ts : List Task) (tells : Tells p s) (due : s.due ≡ []) (left : s.left ≡ Does MakesPass ∷ ts) where
+module _ (f : Profile) (valid : IsValid f) (p : Progress) (s : Stand) (ts : List Task) (tells : Tells p s) (due : s.due ≡ [])
+    (left : s.left ≡ Does MakesPass ∷ ts) where
   -- by the epoch that the check knows
-  passed : (found : List (ℕ × Outcome)) (steps : List Made) → PassSteps f 0 s.epoch found steps → Legal f (triples 0 steps ++ p.list) → Comes f s (records_of_pass 0 s.epoch found) (after_pass p s.epoch found steps) ts
+  passed : (found : List (ℕ × Outcome)) (steps : List Made) → PassSteps f 0 s.epoch found steps → Legal f (triples 0 steps ++ p.list)
+      → Comes f s (records_of_pass 0 s.epoch found) (after_pass p s.epoch found steps) ts
   passed found steps h legal =
       let look : List Made = made (Look Word.Epoch) s.epoch ∷ [] in
       let l1 : Whole = triples 0 look ++ p.list in
@@ -59,5 +61,6 @@ module _ (f : Profile) (valid : IsValid f) (p : Progress) (s : Stand) (ts : List
       }
 
   -- THE PASS
-  pub pass_comes : (epoch : ℕ) (found : List (ℕ × Outcome)) (steps : List Made) → PassSteps f 0 epoch found steps → Legal f (triples 0 steps ++ p.list) → Comes f s (records_of_pass 0 epoch found) (after_pass p epoch found steps) ts
+  pub pass_comes : (epoch : ℕ) (found : List (ℕ × Outcome)) (steps : List Made) → PassSteps f 0 epoch found steps → Legal f (triples 0 steps ++ p.list)
+      → Comes f s (records_of_pass 0 epoch found) (after_pass p epoch found steps) ts
   pass_comes epoch found steps h legal = search (arith, legal_earlier, passed)

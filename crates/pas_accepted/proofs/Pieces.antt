@@ -22,6 +22,7 @@ visible_piece k (m ∷ ms) l =
 abbrev pub lines_by : List Record → List (List ℕ)
 lines_by rs = map line_of rs
 
+-- The lines of two lists of records are those of both, one after the other.
 pub lines_both : (xs ys : List Record) → lines_by (xs ++ ys) ≡ lines_by xs ++ lines_by ys
 lines_both xs ys = map-append line_of xs ys
 
@@ -30,9 +31,12 @@ pub lines_more : (e : Event) (es : List Event) → lines_by (records_of (e ∷ e
 lines_more e es = ap (λ (x : List Event). lines_by (map Record.Event x)) (reverse-append (e ∷ []) es) ∙ ap lines_by (map-append Record.Event (reverse es) (e ∷ [])) ∙ lines_both (records_of es) (Record.Event e ∷ [])
 
 -- ---- tables by thread, of which that of one thread became another
-pub table_at : {A B : Type 0} (T : Cached → A) (g : B → A) (t : Bool) (c d : Cached) (b e : B) → T c ≡ g b → T d ≡ g e → T (if t then c else d) ≡ g (if t then b else e)
+pub table_at : {A B : Type 0} (T : Cached → A) (g : B → A) (t : Bool) (c d : Cached) (b e : B) → T c ≡ g b → T d ≡ g e
+    → T (if t then c else d) ≡ g (if t then b else e)
 table_at T g true c d b e new old = new
 table_at T g false c d b e new old = old
 
-pub table_same : {A : Type 0} (T : Cached → A) (caches : Caches) (k : ℕ) (c : Cached) → T c ≡ T (caches k) → (j : ℕ) → T (with_cache caches k c j) ≡ T (caches j)
+-- A table by thread of what a changed cache has as before is the same.
+pub table_same : {A : Type 0} (T : Cached → A) (caches : Caches) (k : ℕ) (c : Cached) → T c ≡ T (caches k) → (j : ℕ)
+    → T (with_cache caches k c j) ≡ T (caches j)
 table_same T caches k c same j = search (arith, cases_eq, eq-eqb, ne_eqb)

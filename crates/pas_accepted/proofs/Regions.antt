@@ -56,7 +56,8 @@ module _ (f : Profile) (n : ℕ) where
   is_for : (s : Stand) (r : Request) (block : Block) → IsFor other s r block → IsFor f s r block
   is_for s r block h = record { heap = h.heap; room = h.room; aligned = h.aligned; deeds = h.deeds }
 
-  request : (s : Stand) (k : ℕ) (r : Request) (old : Option Name) (more : List Due) (line : List ℕ) (next : Stand) → TakesRequest other s k r old more line next → TakesRequest f s k r old more line next
+  request : (s : Stand) (k : ℕ) (r : Request) (old : Option Name) (more : List Due) (line : List ℕ) (next : Stand) → TakesRequest other s k r old more line next
+      → TakesRequest f s k r old more line next
   request s k r old more line next (inl h) = inl record { event = h.event; prepares = h.prepares; admitted = admits s.events h.event h.admitted; line_is = h.line_is; next_is = h.next_is }
   request s k r old more line next (inr (inl h)) =
       inr (inl record { block = h.block; is_for = is_for s r h.block h.is_for; admitted = admits s.events (Event.Give k h.block) h.admitted; line_is = h.line_is; next_is = h.next_is })
@@ -66,7 +67,8 @@ module _ (f : Profile) (n : ℕ) where
   comes s page Unbacked h = h
   comes s page any h = h
 
-  outcome_of : (s : Stand) (last : ℕ) (more : List Due) (line : List ℕ) (next : Stand) → TakesOutcome other s last more line next → TakesOutcome f s last more line next
+  outcome_of : (s : Stand) (last : ℕ) (more : List Due) (line : List ℕ) (next : Stand) → TakesOutcome other s last more line next
+      → TakesOutcome f s last more line next
   outcome_of s last more line next h =
       record { page = h.page; rises = h.rises; of_region = h.of_region; outcome = h.outcome; may = comes s h.page h.outcome h.may; line_is = h.line_is; next_is = h.next_is }
 

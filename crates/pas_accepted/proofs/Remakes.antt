@@ -31,15 +31,18 @@ use Rattle.pas_accepted.proofs.Going.{LeadsOn, on_as, on_both, on_line}
 use Rattle.pas_accepted.proofs.Telling.{Comes, Tells, piece_of, told_after}
 
 -- no request changes when its thread read the epoch
-idle_kept : (f : Profile) (wanted : Wanted) (found : Option ℕ) (c c' : Cached) (steps : List Made) (answer : Result Block NoRoom) (route : Route) → ServesBy route f wanted found c c' steps answer → c'.idle_since ≡ c.idle_since
+idle_kept : (f : Profile) (wanted : Wanted) (found : Option ℕ) (c c' : Cached) (steps : List Made) (answer : Result Block NoRoom) (route : Route)
+    → ServesBy route f wanted found c c' steps answer → c'.idle_since ≡ c.idle_since
 idle_kept f wanted found c c' steps answer (Route.Class class) h = ap (λ (d : Cached). d.idle_since) h.cache
 idle_kept f wanted found c c' steps answer route h = ap (λ (d : Cached). d.idle_since) h.cache
 
 -- ---- what a check knows after a request
-module _ (f : Profile) (p : Progress) (s : Stand) (ts : List Task) (tells : Tells p s) (k : ℕ) (r : Request) (placed : Answer) (is : IsServed f k r (having p.names (part k p.list) (p.caches k)) placed) (legal : Legal f (triples k placed.steps ++ p.list)) where
+module _ (f : Profile) (p : Progress) (s : Stand) (ts : List Task) (tells : Tells p s) (k : ℕ) (r : Request) (placed : Answer)
+    (is : IsServed f k r (having p.names (part k p.list) (p.caches k)) placed) (legal : Legal f (triples k placed.steps ++ p.list)) where
   abbrev pub asked_then : Stand
   asked_then = record s { events = visible (triples k placed.steps ++ p.list); names = record { name = r.name; block = block_of is.answer } ∷ s.names; due = []; left = ts }
 
+  -- After a reallocation's request was answered, the check knows what the replay came to.
   pub asked_tells : (records : List Record) → Tells record { names = placed.names; caches = with_cache p.caches k placed.cache; books = p.books; epoch = p.epoch; list = triples k placed.steps ++ p.list; records = records } asked_then
   asked_tells records = told_after p s asked_then k placed.steps placed.cache placed.names records tells refl
       (ap (λ ns. record { name = r.name; block = block_of is.answer } ∷ ns) tells.names ∙ sym is.names_are)
@@ -58,17 +61,20 @@ twice false c d e = refl
 twice_cached : (caches : Caches) (k : ℕ) (c d : Cached) → with_cache (with_cache caches k c) k d ≡ with_cache caches k d
 twice_cached caches k c d = λ i j. twice (j == k) c d (caches j) i
 
-logged_state : (full : Bool) (v : Stand) (k : ℕ) (entry : Known) → record (logging full (record v { due = [] }) k entry []) { left = v.left } ≡ logging full v k entry []
+logged_state : (full : Bool) (v : Stand) (k : ℕ) (entry : Known)
+    → record (logging full (record v { due = [] }) k entry []) { left = v.left } ≡ logging full v k entry []
 logged_state true v k entry = refl
 logged_state false v k entry = refl
 
 records_both : (xs ys : List Event) → records_of (xs ++ ys) ≡ records_of ys ++ records_of xs
 records_both xs ys = ap (λ (es : List Event). map Record.Event es) (reverse-append xs ys) ∙ map-append Record.Event (reverse ys) (reverse xs)
 
-module _ (f : Profile) (valid : IsValid f) (p : Progress) (s : Stand) (ts : List Task) (tells : Tells p s) (k : ℕ) (a : Answer) (tidy : Tidy (a.steps ++ part k p.list)) (legal : Legal f (triples k a.steps ++ p.list)) where
+module _ (f : Profile) (valid : IsValid f) (p : Progress) (s : Stand) (ts : List Task) (tells : Tells p s) (k : ℕ) (a : Answer)
+    (tidy : Tidy (a.steps ++ part k p.list)) (legal : Legal f (triples k a.steps ++ p.list)) where
   -- ---- it is only said, and the name stands for this
   named_said : (name : ℕ) (found : Option Block) (said : Said) → a.steps ≡ [] → a.cache ≡ p.caches k → a.said ≡ Some said → a.names ≡ named name found ∷ p.names
-      → LeadsOn f s [] (record (saying (with_name s name found) k said) { left = ts }) → Comes f s (records_of (events_by k (part k p.list) a.steps) ++ said_by k a.said) (after_answer p k a) ts
+      → LeadsOn f s [] (record (saying (with_name s name found) k said) { left = ts })
+      → Comes f s (records_of (events_by k (part k p.list) a.steps) ++ said_by k a.said) (after_answer p k a) ts
   named_said name found said none cache is names begun =
       let u : Stand = record (saying (with_name s name found) k said) { left = ts } in
       let t : Stand = record (with_name s name found) { due = []; left = ts } in
@@ -84,11 +90,14 @@ module _ (f : Profile) (valid : IsValid f) (p : Progress) (s : Stand) (ts : List
 
   -- ---- another block in its place
   -- what is known after other steps, tables and names that are the same: nothing that is told looks at the rest
-  tells_as : (names names' : List Named) (caches caches' : Caches) (list list' : Whole) (epoch epoch' : ℕ) (records records' : List Record) (t : Stand) → names' ≡ names → caches' ≡ caches → list' ≡ list
-      → Tells record { names = names; caches = caches; books = p.books; epoch = epoch; list = list; records = records } t → Tells record { names = names'; caches = caches'; books = p.books; epoch = epoch'; list = list'; records = records' } t
+  tells_as : (names names' : List Named) (caches caches' : Caches) (list list' : Whole) (epoch epoch' : ℕ) (records records' : List Record) (t : Stand)
+      → names' ≡ names → caches' ≡ caches → list' ≡ list
+      → Tells record { names = names; caches = caches; books = p.books; epoch = epoch; list = list; records = records } t
+      → Tells record { names = names'; caches = caches'; books = p.books; epoch = epoch'; list = list'; records = records' } t
   tells_as names names' caches caches' list list' epoch epoch' records records' t same_names same_caches same_list known_there = search arith
 
-  module _ (r : Request) (old : Name) (placed : Answer) (is : IsServed f k r (having p.names (part k p.list) (p.caches k)) placed) (freed : List Made) (steps_are : a.steps ≡ freed ++ placed.steps)
+  module _ (r : Request) (old : Name) (placed : Answer) (is : IsServed f k r (having p.names (part k p.list) (p.caches k)) placed) (freed : List Made)
+      (steps_are : a.steps ≡ freed ++ placed.steps)
       (said_is : a.said ≡ placed.said) (names_are : a.names ≡ placed.names) (begun : LeadsOn f s [] (serving (record s { left = ts }) k r (Some old) s.events)) where
     legal_both : Legal f (triples k (freed ++ placed.steps) ++ p.list)
     legal_both = subst (λ ms. Legal f (triples k ms ++ p.list)) steps_are legal
@@ -114,7 +123,8 @@ module _ (f : Profile) (valid : IsValid f) (p : Progress) (s : Stand) (ts : List
     p1 = after_answer p k placed
 
     -- it was refused
-    refused_so : freed ≡ [] → a.cache ≡ placed.cache → LeadsOn f s (lines_by first) s1 → Comes f s (records_of (events_by k (part k p.list) a.steps) ++ said_by k a.said) (after_answer p k a) ts
+    refused_so : freed ≡ [] → a.cache ≡ placed.cache → LeadsOn f s (lines_by first) s1
+        → Comes f s (records_of (events_by k (part k p.list) a.steps) ++ said_by k a.said) (after_answer p k a) ts
     refused_so none cache leads =
         let steps : a.steps ≡ placed.steps = steps_are ∙ ap (λ ms. ms ++ placed.steps) none in
         let said : a.said ≡ said_of_request r.name is.answer = said_is ∙ is.said_is in
@@ -148,7 +158,8 @@ module _ (f : Profile) (valid : IsValid f) (p : Progress) (s : Stand) (ts : List
     abbrev logging_old : Stand
     logging_old = record (logging (nat_le 64 (length (p1.caches k).log)) s1 k (unsized old) []) { left = ts }
 
-    logged_old : TakesEntry f k placed.cache a.cache (entry_of old) freed → Comes f logging_old (records_of (events_by k (part k p1.list) freed) ++ []) (after_answer p1 k logs_old) ts
+    logged_old : TakesEntry f k placed.cache a.cache (entry_of old) freed
+        → Comes f logging_old (records_of (events_by k (part k p1.list) freed) ++ []) (after_answer p1 k logs_old) ts
     logged_old takes = logged_comes f valid p1 s1 ts tells1 k logs_old refl tidy_freed legal_freed (nat_le 64 (length (p1.caches k).log)) (unsized old) takes.logs.kept
         (subst (λ (d : Cached). EmptiesFull (nat_le 64 (length d.log)) k d.log takes.logs.kept d.noted a.cache.noted freed) (sym own) takes.logs.emptied)
         takes.logs.log_is (ap (λ (d : Cached). d.idle_since) takes.cache ∙ ap (λ (d : Cached). d.idle_since) (sym own)) refl
@@ -184,8 +195,10 @@ module _ (f : Profile) (valid : IsValid f) (p : Progress) (s : Stand) (ts : List
         sym (logged_state (is_full v k) v k (unsized old)) ∙ (λ i. record (logging (is_full (same i) k) (same i) k (unsized old) []) { left = left i })
         ∙ ap (λ t. record (logging t s1 k (unsized old) []) { left = ts }) (full_is f valid p1 s1 ts tells1 k logs_old refl tidy_freed legal_freed)
 
-    answered : (answer : Result Block NoRoom) → is.answer ≡ answer → MatchResult answer (λ block. TakesEntry f k placed.cache a.cache (entry_of old) freed) (λ room. (freed ≡ []) × (a.cache ≡ placed.cache))
-        → LeadsOn f s (lines_by first) (served (record s { left = ts }) k r (Some old) is.answer (visible list1)) → Comes f s (records_of (events_by k (part k p.list) a.steps) ++ said_by k a.said) (after_answer p k a) ts
+    answered : (answer : Result Block NoRoom) → is.answer ≡ answer
+        → MatchResult answer (λ block. TakesEntry f k placed.cache a.cache (entry_of old) freed) (λ room. (freed ≡ []) × (a.cache ≡ placed.cache))
+        → LeadsOn f s (lines_by first) (served (record s { left = ts }) k r (Some old) is.answer (visible list1))
+        → Comes f s (records_of (events_by k (part k p.list) a.steps) ++ said_by k a.said) (after_answer p k a) ts
     answered (Ok block) same logged leads =
         let v : Stand = with_name (record s { events = visible list1; left = ts }) r.name (Some block) in
         let is_s1 : record v { due = [] } ≡ s1 = ap (λ x. record s { events = visible list1; names = record { name = r.name; block = block_of x } ∷ s.names; due = []; left = ts }) (sym same) in
@@ -197,7 +210,8 @@ module _ (f : Profile) (valid : IsValid f) (p : Progress) (s : Stand) (ts : List
         refused_so logged.0 logged.1 (on_as f s _ s1 _ _ refl (sym there) leads)
 
   -- ---- WHAT IT COMES TO
-  moved_comes : (r : Request) (old : Block) (is : IsKept r old (having p.names (part k p.list) (p.caches k)) a ⊎ IsReplaced f k r old (having p.names (part k p.list) (p.caches k)) a)
+  moved_comes : (r : Request) (old : Block)
+      (is : IsKept r old (having p.names (part k p.list) (p.caches k)) a ⊎ IsReplaced f k r old (having p.names (part k p.list) (p.caches k)) a)
       → MatchOption (request_in_move f k r old (having p.names (part k p.list) (p.caches k)) a is) (Unit {0})
       (λ x. MatchResult x.served.answer (λ block. Unit {0}) (IsTrulyRefused f (wanted_by f x.request) (p.caches k).locals p.list (triples k x.placed.steps ++ p.list)))
       → LeadsOn f s [] (record (remaking (suits old r.size r.align) s k r old) { left = ts })
@@ -210,7 +224,9 @@ module _ (f : Profile) (valid : IsValid f) (p : Progress) (s : Stand) (ts : List
       answered r old.name h.placed h.served h.freed h.steps_are h.said_is h.names_are there h.served.answer refl h.logged
       (leads_first r old.name h.placed h.served h.freed h.steps_are h.said_is h.names_are there truly)
 
-  pub remade_comes : (name size align : ℕ) (found : Option (Option Block)) (is : IsRemadeBy f k name size align found (having p.names (part k p.list) (p.caches k)) a)
+  -- The lines of a reallocation lead the check to what it comes to.
+  pub remade_comes : (name size align : ℕ) (found : Option (Option Block))
+      (is : IsRemadeBy f k name size align found (having p.names (part k p.list) (p.caches k)) a)
       → MatchOption (request_in_remade f k name size align found (having p.names (part k p.list) (p.caches k)) a is) (Unit {0})
       (λ x. MatchResult x.served.answer (λ block. Unit {0}) (IsTrulyRefused f (wanted_by f x.request) (p.caches k).locals p.list (triples k x.placed.steps ++ p.list)))
       → LeadsOn f s [] (record (remaking_named s k name size align found) { left = ts })

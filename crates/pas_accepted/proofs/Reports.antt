@@ -45,17 +45,20 @@ marks_end false false false false = refl
 page_ends : (page : ℕ) (d : Directory) (live free stamp : ℕ) (m : Marked) → is_line (page_text page d live free stamp m) ≡ true
 page_ends page d live free stamp m = search (arith, number_first, kind_first, marks_end)
 
-cut_page : (es : List Event) (page : ℕ) (o : Option Directory) (m : Marked) (rest : List ℕ) → lines_in (machine_page es page o m ++ rest) ≡ page_line es page o m ++ lines_in rest
+cut_page : (es : List Event) (page : ℕ) (o : Option Directory) (m : Marked) (rest : List ℕ)
+    → lines_in (machine_page es page o m ++ rest) ≡ page_line es page o m ++ lines_in rest
 cut_page es page None m rest = refl
 cut_page es page (Some d) m rest = cut_line (machine_page es page (Some d) m) rest (page_ends page d (live_on es page) (uncovered_on es page) (epoch_in es page) m)
 
-cut_pages : (es : List Event) (marks : ℕ → Marked) (n : ℕ) (rest : List ℕ) → lines_in (machine_pages es marks n ++ rest) ≡ page_lines es marks n ++ lines_in rest
+cut_pages : (es : List Event) (marks : ℕ → Marked) (n : ℕ) (rest : List ℕ)
+    → lines_in (machine_pages es marks n ++ rest) ≡ page_lines es marks n ++ lines_in rest
 cut_pages es marks zero rest = refl
 cut_pages es marks (suc n) rest =
     let page : List ℕ = machine_page es (suc n) (deed_in es (suc n)) (marks (suc n)) in
     ap lines_in (append_assoc (machine_pages es marks n) page rest) ∙ cut_pages es marks n (page ++ rest) ∙ ap (λ ls. page_lines es marks n ++ ls) (cut_page es (suc n) (deed_in es (suc n)) (marks (suc n)) rest)
     ∙ sym (append_assoc (page_lines es marks n) (page_line es (suc n) (deed_in es (suc n)) (marks (suc n))) (lines_in rest))
 
+-- The lines of a report are the report's own, one by one.
 pub cut_report : (f : Profile) (es : List Event) (marks : ℕ → Marked) → lines_in (report_text f es marks) ≡ report_lines f es marks
 cut_report f es marks =
     let total : List ℕ = total_line f es in
@@ -70,15 +73,18 @@ module _ (f : Profile) (l : Whole) (true_marks : AreTrueMarks f l) (r : Stand) w
   showing due = record r { events = visible l; due = due; left = [] }
 
   -- the true marks are allowed, and the page has a deed
-  allowed : (page : ℕ) (d : Directory) (more : List Due) → 1 ≤ page → page ≤ f.pages → deed_in (visible l) page ≡ Some d → AreAllowedMarks (showing (Shows page d ∷ more)) page d (marks_after l page)
+  allowed : (page : ℕ) (d : Directory) (more : List Due) → 1 ≤ page → page ≤ f.pages → deed_in (visible l) page ≡ Some d
+      → AreAllowedMarks (showing (Shows page d ∷ more)) page d (marks_after l page)
   allowed page d more low high deed = search arith
 
-  page_leads : (page : ℕ) (o : Option Directory) (more : List Due) → 1 ≤ page → page ≤ f.pages → deed_in (visible l) page ≡ o → LeadsOn f (showing (page_due page o ++ more)) (page_line (visible l) page o (marks_after l page)) (showing more)
+  page_leads : (page : ℕ) (o : Option Directory) (more : List Due) → 1 ≤ page → page ≤ f.pages → deed_in (visible l) page ≡ o
+      → LeadsOn f (showing (page_due page o ++ more)) (page_line (visible l) page o (marks_after l page)) (showing more)
   page_leads page None more low high deed = on_same f (showing more) (showing more) refl
   page_leads page (Some d) more low high deed =
       on_line f (showing (Shows page d ∷ more)) (showing more) (machine_page (visible l) page (Some d) (marks_after l page)) (inr record { marks = marks_after l page; allowed = allowed page d more low high deed; line_is = refl; next_is = refl })
 
-  pages_lead : (n : ℕ) (more : List Due) → n ≤ f.pages → LeadsOn f (showing (pages_due (visible l) n ++ more)) (page_lines (visible l) (marks_after l) n) (showing more)
+  pages_lead : (n : ℕ) (more : List Due) → n ≤ f.pages
+      → LeadsOn f (showing (pages_due (visible l) n ++ more)) (page_lines (visible l) (marks_after l) n) (showing more)
   pages_lead zero more le = on_same f (showing more) (showing more) refl
   pages_lead (suc n) more le =
       let es : List Event = visible l in

@@ -36,18 +36,23 @@ kind_routed f size align true (Route.Class class) is = tt
 kind_routed f size align false (Route.Class class) is = class_known f.classes size align class (class_suits f.classes size align class is)
 kind_routed f size align shared other is = tt
 
+-- The directory of each request has one of the kinds.
 pub kind_asked : (f : Profile) (r : Request) → IsKind (directory_of f r).kind
 kind_asked f r = kind_routed f r.size r.align (is_shared f r.heap) (route_in f r.size r.align) refl
 
-directory_told : (o : Option Directory) (d : Directory) → IsKind d.kind → ((x : Directory) → o ≡ Some x → IsKind x.kind) → word_of_deed o ≡ deed_word_of d → o ≡ Some d
+directory_told : (o : Option Directory) (d : Directory) → IsKind d.kind → ((x : Directory) → o ≡ Some x → IsKind x.kind) → word_of_deed o ≡ deed_word_of d
+    → o ≡ Some d
 directory_told None d is all word = absurd (deed_word_of-positive d (sym word))
 directory_told (Some x) d is all word = ap (λ y. Some y) (same_from_deed_word x d (all x refl) is word)
 
 -- a deed word of this directory is the page's deed
-deed_told : (f : Profile) (l : Whole) (page : ℕ) (d : Directory) → Legal f l → IsKind d.kind → word_after l (Word.Deed page) ≡ deed_word_of d → deed_in (visible l) page ≡ Some d
+deed_told : (f : Profile) (l : Whole) (page : ℕ) (d : Directory) → Legal f l → IsKind d.kind → word_after l (Word.Deed page) ≡ deed_word_of d
+    → deed_in (visible l) page ≡ Some d
 deed_told f l page d legal is word = directory_told (deed_in (visible l) page) d is (λ x found. (directory_is_of f l legal page x found).kind) (sym (deed_of f l legal page) ∙ word)
 
-pub deed_known : (f : Profile) (l : Whole) (k page : ℕ) (d : Directory) → Legal f l → IsKind d.kind → KnowsDeed page d (part k l) → deed_in (visible l) page ≡ Some d
+-- A deed that a view knows is the one of the events.
+pub deed_known : (f : Profile) (l : Whole) (k page : ℕ) (d : Directory) → Legal f l → IsKind d.kind → KnowsDeed page d (part k l)
+    → deed_in (visible l) page ≡ Some d
 deed_known f l k page d legal is knows = search (arith, deed_word_of-positive, deed_told, known_is, deeds_known)
 
 -- ---- deeds and backs
@@ -59,11 +64,15 @@ prepared_by : (k : ℕ) (d : Directory) (e : Event) → Prepares d e → actor_o
 prepared_by k d e (Prepares.Deeds j page) own = inl (page, ap (λ i. Event.Deed i page d) own)
 prepared_by k d e (Prepares.Backs j page) own = inr (page, ap (λ i. Event.Back i page) own)
 
-pub all_prepared : (k : ℕ) (d : Directory) (es : List Event) → AllByRecursion (Prepares d) es → AllByRecursion (λ e. actor_of e ≡ k) es → AllByRecursion (IsPreparing k d) es
+-- Deeds and backs of one directory by one actor prepare its request.
+pub all_prepared : (k : ℕ) (d : Directory) (es : List Event) → AllByRecursion (Prepares d) es → AllByRecursion (λ e. actor_of e ≡ k) es
+    → AllByRecursion (IsPreparing k d) es
 all_prepared k d [] all own = tt
 all_prepared k d (e ∷ es) all own = (prepared_by k d e all.0 own.0, all_prepared k d es all.1 own.1)
 
-prepares_lead : (f : Profile) (w : Stand) (k : ℕ) (r : Request) (replaced : Option Name) (es : List Event) → AllByRecursion (IsPreparing k (directory_of f r)) es → Run f (es ++ w.events) → LeadsOn f (serving w k r replaced w.events) (lines_by (records_of es)) (serving w k r replaced (es ++ w.events))
+prepares_lead : (f : Profile) (w : Stand) (k : ℕ) (r : Request) (replaced : Option Name) (es : List Event)
+    → AllByRecursion (IsPreparing k (directory_of f r)) es → Run f (es ++ w.events)
+    → LeadsOn f (serving w k r replaced w.events) (lines_by (records_of es)) (serving w k r replaced (es ++ w.events))
 prepares_lead f w k r replaced [] all run = on_same f (serving w k r replaced w.events) (serving w k r replaced w.events) refl
 prepares_lead f w k r replaced (e ∷ es) all run =
     let old : Stand = serving w k r replaced (es ++ w.events) in
@@ -75,6 +84,7 @@ prepares_lead f w k r replaced (e ∷ es) all run =
 deeds_prepare : (d : Directory) (e : Event) → IsDeedOf d e → Prepares d e
 deeds_prepare d e (IsDeedOf.Deeds k page) = Prepares.Deeds k page
 
+-- Deeds of one directory prepare a request.
 pub all_deeds : (d : Directory) (es : List Event) → AllByRecursion (IsDeedOf d) es → AllByRecursion (Prepares d) es
 all_deeds d [] all = tt
 all_deeds d (e ∷ es) all = (deeds_prepare d e all.0, all_deeds d es all.1)
@@ -83,7 +93,8 @@ refusal_prepares : (route : Route) (d : Directory) (es : List Event) → Refusal
 refusal_prepares Route.Large d es all = all_deeds d es all
 refusal_prepares other d es none = subst (AllByRecursion (Prepares d)) (sym none) tt
 
-reason_by : (route : Route) (f : Profile) (w : Wanted) (locals : List Slots) (entry exit : Whole) (room : NoRoom) → IsTrulyRefusedBy route f w locals entry exit room → IsTrueReason f w.directory exit room
+reason_by : (route : Route) (f : Profile) (w : Wanted) (locals : List Slots) (entry exit : Whole) (room : NoRoom)
+    → IsTrulyRefusedBy route f w locals entry exit room → IsTrueReason f w.directory exit room
 reason_by Route.Large f w locals entry exit room h = h.2
 reason_by other f w locals entry exit room h = h.reason
 
@@ -106,7 +117,8 @@ due_apart : (replaced : Option Name) (v : Stand) (k : ℕ) (due : List Due) → 
 due_apart None v k due = refl
 due_apart (Some old) v k due = logged_apart (is_full v k) v k (unsized old) due
 
-module _ (f : Profile) (valid : IsValid f) (w : Stand) (k : ℕ) (r : Request) (replaced : Option Name) (l : Whole) (steps : List Made) (events : w.events ≡ visible l) (legal : Legal f (triples k steps ++ l)) where
+module _ (f : Profile) (valid : IsValid f) (w : Stand) (k : ℕ) (r : Request) (replaced : Option Name) (l : Whole) (steps : List Made)
+    (events : w.events ≡ visible l) (legal : Legal f (triples k steps ++ l)) where
   run : Run f (visible (triples k steps ++ l))
   run = runs f (triples k steps ++ l) valid legal
 
@@ -132,12 +144,14 @@ module _ (f : Profile) (valid : IsValid f) (w : Stand) (k : ℕ) (r : Request) (
       (on_both f (serving w k r replaced w.events) old new _ _ (prepares_lead f w k r replaced before (all_prepared k (directory_of f r) before h.prepared own.1) all.1)
       (on_line f old new (line_of_event give) (inr (inr (inl record { block = block; is_for = record { heap = h.of_heap; room = h.room; aligned = h.aligned; deeds = deeds }; admitted = all.0; line_is = refl; next_is = next_is })))))
 
-  refuses : (room : NoRoom) → IsTrueReason f (directory_of f r) (triples k steps ++ l) room → (es : List Event) → visible (triples k steps ++ l) ≡ es → IsRefusal f (serving w k r replaced es) r (said_of_room r.name room)
+  refuses : (room : NoRoom) → IsTrueReason f (directory_of f r) (triples k steps ++ l) room → (es : List Event) → visible (triples k steps ++ l) ≡ es
+      → IsRefusal f (serving w k r replaced es) r (said_of_room r.name room)
   refuses NoSpace true_reason es shown = inl refl
   refuses (Held page) true_reason es shown =
       inr (page, subst (λ xs. deed_in xs page ≡ Some (directory_of f r)) shown (deed_told f (triples k steps ++ l) page (directory_of f r) legal (kind_asked f r) true_reason.0.of_directory), refl)
 
-  refused_leads : (room : NoRoom) → RefusalEnds (wanted_by f r).route (directory_of f r) (events_by k (part k l) steps) → IsTrueReason f (directory_of f r) (triples k steps ++ l) room
+  refused_leads : (room : NoRoom) → RefusalEnds (wanted_by f r).route (directory_of f r) (events_by k (part k l) steps)
+      → IsTrueReason f (directory_of f r) (triples k steps ++ l) room
       → LeadsOn f (serving w k r replaced w.events) (lines_by (records_of (events_by k (part k l) steps) ++ Record.Said k (said_of_room r.name room) ∷ [])) (served w k r replaced (Err room) (visible (triples k steps ++ l)))
   refused_leads room ends true_reason =
       let es : List Event = events_by k (part k l) steps in

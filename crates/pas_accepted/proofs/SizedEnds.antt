@@ -26,7 +26,8 @@ pub ended_if : (t : Bool) (old : Option Live) (b : Live) → (if t then None els
 ended_if true old b is = absurd (none-some b is)
 ended_if false old b is = is
 
-lived_before : (k e : ℕ) (s : Step) (a : ℕ) (es : List Event) (address : ℕ) (b : Live) → is_in freeing (kind_of s) ≡ true → live_in (with_event (event_of k e s a) es) address ≡ Some b → live_in es address ≡ Some b
+lived_before : (k e : ℕ) (s : Step) (a : ℕ) (es : List Event) (address : ℕ) (b : Live) → is_in freeing (kind_of s) ≡ true
+    → live_in (with_event (event_of k e s a) es) address ≡ Some b → live_in es address ≡ Some b
 lived_before k e (End name guess) a es address b of = search (arith, cond_both, ended_if)
 lived_before k e (EndSized name room) a es address b of = search (arith, cond_both, ended_if)
 lived_before k e (Give block) a es address b of = absurd (false≢true of)
@@ -35,13 +36,15 @@ lived_before k e (Back page) a es address b of = absurd (false≢true of)
 lived_before k e (Unback page) a es address b of = absurd (false≢true of)
 lived_before k e s a es address b of = λ is. is
 
-lived_then : (k : ℕ) (xs : List Made) (l : Whole) (address : ℕ) (b : Live) → Only freeing xs → live_in (visible (triples k xs ++ l)) address ≡ Some b → live_in (visible l) address ≡ Some b
+lived_then : (k : ℕ) (xs : List Made) (l : Whole) (address : ℕ) (b : Live) → Only freeing xs → live_in (visible (triples k xs ++ l)) address ≡ Some b
+    → live_in (visible l) address ≡ Some b
 lived_then k [] l address b only is = is
 lived_then k (m ∷ xs) l address b only is =
     lived_then k xs l address b only.1 (lived_before k (epoch_of (part k (triples k xs ++ l))) m.step m.answer (visible (triples k xs ++ l)) address b only.0 is)
 
 -- ---- the length that a life word tells is that of the block
-same_length : (f : Profile) (g word room : ℕ) (b : Live) (gives ends turn : ℕ) → IsLifeOfLive f g word b gives ends → word ≡ live_word turn (room / 16) → ends ≡ turn → room % 16 ≡ 0 → b.block.room ≡ room
+same_length : (f : Profile) (g word room : ℕ) (b : Live) (gives ends turn : ℕ) → IsLifeOfLive f g word b gives ends → word ≡ live_word turn (room / 16)
+    → ends ≡ turn → room % 16 ≡ 0 → b.block.room ≡ room
 same_length f g word room b gives ends turn life is same whole = search (arith, life.word_is, life.whole)
 
 -- ---- one entry
@@ -52,7 +55,8 @@ Heeds es entry (Refused read) = Unit {0}
 
 module _ (f : Profile) (valid : IsValid f) (k : ℕ) (l : Whole) (rest : List Made) (only : Only freeing rest) where
   -- the step with the room found the block
-  room_is : (name : Name) (room answer : ℕ) → Legal f (triples k (made (EndSized name room) answer ∷ rest) ++ l) → answer ≡ live_word name.turn (room / 16) → HasOtherRoom (visible l) name room → ⊥
+  room_is : (name : Name) (room answer : ℕ) → Legal f (triples k (made (EndSized name room) answer ∷ rest) ++ l) → answer ≡ live_word name.turn (room / 16)
+      → HasOtherRoom (visible l) name room → ⊥
   room_is name room answer legal found other =
       let there : Whole = triples k rest ++ l in
       let of = legal.0.of_region in
@@ -64,7 +68,8 @@ module _ (f : Profile) (valid : IsValid f) (k : ℕ) (l : Whole) (rest : List Ma
       search (arith, block_of_word, same_Some, lived_then, same_length)
 
   -- .. where it was a step with the room
-  last_heeds : (t : Bool) (entry : Entry) (first guess answer : ℕ) (before : List Made) (grains : ℕ) → is_sized entry ≡ t → TriesBy t entry first guess before → answer ≡ live_word entry.name.turn guess
+  last_heeds : (t : Bool) (entry : Entry) (first guess answer : ℕ) (before : List Made) (grains : ℕ) → is_sized entry ≡ t → TriesBy t entry first guess before
+      → answer ≡ live_word entry.name.turn guess
       → Legal f (triples k (made (last_step t entry guess) answer ∷ rest) ++ l) → Heeds (visible l) entry (Ended grains)
   last_heeds true entry first guess answer before grains sized tries found legal differs =
       room_is entry.name entry.room answer legal (found ∙ ap (live_word entry.name.turn) tries.0) differs.1
@@ -75,7 +80,8 @@ module _ (f : Profile) (valid : IsValid f) (k : ℕ) (l : Whole) (rest : List Ma
 both : (after ends before : List Made) → (after ++ ends) ++ before ≡ after ++ (ends ++ before)
 both after ends before = append_assoc after ends before
 
-entry_heeds : (f : Profile) → IsValid f → (k : ℕ) (l : Whole) (entry : Entry) (outcome : Outcome) (ends before : List Made) → EndSteps entry outcome ends → Only freeing before → Legal f (triples k (ends ++ before) ++ l) → Heeds (visible l) entry outcome
+entry_heeds : (f : Profile) → IsValid f → (k : ℕ) (l : Whole) (entry : Entry) (outcome : Outcome) (ends before : List Made) → EndSteps entry outcome ends
+    → Only freeing before → Legal f (triples k (ends ++ before) ++ l) → Heeds (visible l) entry outcome
 entry_heeds f valid k l entry (Refused read) ends before h only legal = tt
 entry_heeds f valid k l entry (Ended grains) ends before h only legal =
     let look : List Made = made (Look (Word.Deed (address_of entry.name / 4096))) h.deed ∷ [] in
@@ -88,7 +94,8 @@ abbrev pub AllHeed : List Event → List Settled → Type 0
 AllHeed es = AllByRecursion (λ (x : Settled). Heeds es x.entry x.outcome)
 
 -- THE ENTRIES of a flush that are ended have their rooms
-pub all_heed : (f : Profile) → IsValid f → (k : ℕ) (l : Whole) (settled : List Settled) (steps : List Made) → EntriesSteps settled steps → Legal f (triples k steps ++ l) → AllHeed (visible l) settled
+pub all_heed : (f : Profile) → IsValid f → (k : ℕ) (l : Whole) (settled : List Settled) (steps : List Made) → EntriesSteps settled steps
+    → Legal f (triples k steps ++ l) → AllHeed (visible l) settled
 all_heed f valid k l [] steps h legal = tt
 all_heed f valid k l (x ∷ xs) steps h legal =
     let piece : List Made = h.0 in

@@ -20,7 +20,8 @@ use Rattle.pas_accepted.proofs.GuardsInBooks.{AreAligned, going, is_down, raised
 use Rattle.pas_accepted.proofs.Pieces.{lines_by, visible_piece}
 
 -- ---- their lines
-pub lowered_lead : (f : Profile) (u : Stand) (guards : List Known) (more : List Due) → LeadsOn f (record u { due = map lowered_due guards ++ more }) (lines_by (map lowered_record guards)) (record u { due = more })
+pub lowered_lead : (f : Profile) (u : Stand) (guards : List Known) (more : List Due)
+    → LeadsOn f (record u { due = map lowered_due guards ++ more }) (lines_by (map lowered_record guards)) (record u { due = more })
 lowered_lead f u [] more = on_same f (record u { due = more }) (record u { due = more }) refl
 lowered_lead f u (guard ∷ guards) more =
     let first : Stand = record u { due = lowered_due guard ∷ (map lowered_due guards ++ more) } in
@@ -34,8 +35,10 @@ lowered_are keeper (guard ∷ guards) = ap (λ (rs : List Record). lowered_by ke
 
 -- ---- what goes down
 -- of a guard that is in both lists or in neither the rest decides
-one_is : (es : List Event) (all t : Bool) (k : ℕ) (guard : Guard) (guards : List Guard) (first : List Made) (kept after : List Guard) (said more : List Record) → t ≡ is_down es all guard → SweptOne t k guard first kept after said more
-    → after ≡ staying es all guards → more ≡ map (lowered_by k) (going es all guards) → (kept ≡ staying es all (guard ∷ guards)) × (said ≡ map (lowered_by k) (going es all (guard ∷ guards)))
+one_is : (es : List Event) (all t : Bool) (k : ℕ) (guard : Guard) (guards : List Guard) (first : List Made) (kept after : List Guard) (said more : List Record)
+    → t ≡ is_down es all guard → SweptOne t k guard first kept after said more
+    → after ≡ staying es all guards → more ≡ map (lowered_by k) (going es all guards)
+    → (kept ≡ staying es all (guard ∷ guards)) × (said ≡ map (lowered_by k) (going es all (guard ∷ guards)))
 one_is es all true k guard guards first kept after said more down one stay go = search arith
 one_is es all false k guard guards first kept after said more down one stay go = search arith
 
@@ -46,7 +49,8 @@ pub record IsSwept (es : List Event) (k : ℕ) (all : Bool) (guards kept : List 
 
 module _ (f : Profile) (valid : IsValid f) (k : ℕ) where
   -- the life word of a guard's block tells how many blocks ended at its address
-  word_tells : (l : Whole) (guard : Guard) (word : ℕ) → Legal f (triples k (life_look guard word) ++ l) → address_of guard.block.name % 16 ≡ 0 → turn_of word ≡ ends_in (visible l) (address_of guard.block.name)
+  word_tells : (l : Whole) (guard : Guard) (word : ℕ) → Legal f (triples k (life_look guard word) ++ l) → address_of guard.block.name % 16 ≡ 0
+      → turn_of word ≡ ends_in (visible l) (address_of guard.block.name)
   word_tells l guard word legal aligned =
       let a : ℕ = address_of guard.block.name in
       let page : a / 4096 ≡ a / 16 / 256 = omega arith in
@@ -56,7 +60,8 @@ module _ (f : Profile) (valid : IsValid f) (k : ℕ) where
       ∙ turn_is f (a / 16) (word_after l (life_word_at (a / 16))) (live_in (visible l) a) (gives_in (visible l) a) (ends_in (visible l) a) (life_at f l valid legal.1 a aligned)
 
   -- looks and what is given back are no events
-  quiet_one : (t : Bool) (guard : Guard) (first : List Made) (kept after : List Guard) (said more : List Record) (word : ℕ) (l : Whole) → SweptOne t k guard first kept after said more → visible (triples k (first ++ life_look guard word) ++ l) ≡ visible l
+  quiet_one : (t : Bool) (guard : Guard) (first : List Made) (kept after : List Guard) (said more : List Record) (word : ℕ) (l : Whole)
+      → SweptOne t k guard first kept after said more → visible (triples k (first ++ life_look guard word) ++ l) ≡ visible l
   quiet_one true guard first kept after said more word l one =
       ap visible (sym (triples_append k first (life_look guard word) l)) ∙ visible_piece k first (triples k (life_look guard word) ++ l)
       ∙ ap (λ (es : List Event). es ++ visible (triples k (life_look guard word) ++ l)) (no_events giving_back refl k (part k (triples k (life_look guard word) ++ l)) first one.0.kinds)
@@ -64,7 +69,8 @@ module _ (f : Profile) (valid : IsValid f) (k : ℕ) where
   quiet_one false guard first kept after said more word l one = search (arith, visible_piece, no_events)
 
   -- THE SWEEP
-  pub swept_is : (all : Bool) (guards kept : List Guard) (said : List Record) (steps : List Made) (l : Whole) (es : List Event) → visible l ≡ es → AreAligned guards → Swept all k guards kept said steps → Legal f (triples k steps ++ l)
+  pub swept_is : (all : Bool) (guards kept : List Guard) (said : List Record) (steps : List Made) (l : Whole) (es : List Event) → visible l ≡ es
+      → AreAligned guards → Swept all k guards kept said steps → Legal f (triples k steps ++ l)
       → IsSwept es k all guards kept said steps l
   swept_is all [] kept said steps l es shown aligned h legal = record { stay = h.0; go = h.1; shown = ap (λ (ms : List Made). visible (triples k ms ++ l)) h.2 ∙ shown }
   swept_is all (guard ∷ guards) kept said steps l es shown aligned h legal =

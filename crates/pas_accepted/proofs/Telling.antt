@@ -38,8 +38,10 @@ pub piece_of : (f : Profile) (k : ℕ) (steps : List Made) (l : Whole) → Legal
 piece_of f k steps l legal = of_front f steps (part k l) (subst (AreOfRegion f) (part_of_own k steps l) (legal_part f (triples k steps ++ l) k legal))
 
 -- after a piece of actor k, whose cache holds c then
-pub told_after : (p : Progress) (s t : Stand) (k : ℕ) (steps : List Made) (c : Cached) (names : List Named) (records : List Record) → Tells p s → t.events ≡ visible (triples k steps ++ p.list) → t.names ≡ names
-    → ((j : ℕ) → (with_cache p.caches k c j).log ≡ map logged_as (t.logs j)) → c.idle_since ≡ (p.caches k).idle_since → t.idle_since ≡ s.idle_since → t.epoch ≡ s.epoch → t.guards ≡ s.guards
+pub told_after : (p : Progress) (s t : Stand) (k : ℕ) (steps : List Made) (c : Cached) (names : List Named) (records : List Record) → Tells p s
+    → t.events ≡ visible (triples k steps ++ p.list) → t.names ≡ names
+    → ((j : ℕ) → (with_cache p.caches k c j).log ≡ map logged_as (t.logs j)) → c.idle_since ≡ (p.caches k).idle_since → t.idle_since ≡ s.idle_since
+    → t.epoch ≡ s.epoch → t.guards ≡ s.guards
     → word_after (triples k steps ++ p.list) Word.Epoch ≡ word_after p.list Word.Epoch → Tidy (steps ++ part k p.list)
     → Tells record { names = names; caches = with_cache p.caches k c; books = p.books; epoch = p.epoch; list = triples k steps ++ p.list; records = records } t
 told_after p s t k steps c names records tells events named logs idle awake epoch guards still tidy = search (arith, table_same, booked_as, tidy_piece)

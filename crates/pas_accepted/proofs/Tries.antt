@@ -42,7 +42,8 @@ outcomes_both epoch xs ys =
     let record_by : ℕ × Outcome → Record = λ p. record_of 0 epoch p.0 p.1 in
     ap (λ ps. lines_by (map record_by ps)) (reverse-append xs ys) ∙ ap lines_by (map-append record_by (reverse ys) (reverse xs)) ∙ lines_both (map record_by (reverse ys)) (map record_by (reverse xs))
 
-outcome_more : (epoch page : ℕ) (o : Option Outcome) (found : List (ℕ × Outcome)) → outcome_lines epoch (with_outcome page o found) ≡ outcome_lines epoch found ++ outcome_lines epoch (with_outcome page o [])
+outcome_more : (epoch page : ℕ) (o : Option Outcome) (found : List (ℕ × Outcome))
+    → outcome_lines epoch (with_outcome page o found) ≡ outcome_lines epoch found ++ outcome_lines epoch (with_outcome page o [])
 outcome_more epoch page None found = sym (append-nil (outcome_lines epoch found))
 outcome_more epoch page (Some o) found = outcomes_both epoch (with_outcome page (Some o) []) found
 
@@ -64,7 +65,8 @@ then_is : (s : Stand) (page : ℕ) (o : Outcome) → after_outcome s page o ≡ 
 then_is s page Unbacked = refl
 then_is s page other = refl
 
-try_page : (f : Profile) → IsValid f → (s : Stand) (l : Whole) (page last : ℕ) (o : Option Outcome) (steps : List Made) → MayPass s l → (1 ≤ page → last < page) → Legal f (triples 0 steps ++ l) → TrySteps f.age s.epoch page o steps
+try_page : (f : Profile) → IsValid f → (s : Stand) (l : Whole) (page last : ℕ) (o : Option Outcome) (steps : List Made) → MayPass s l → (1 ≤ page → last < page)
+    → Legal f (triples 0 steps ++ l) → TrySteps f.age s.epoch page o steps
     → IsTried f s l page last o steps
 try_page f valid s l page last None steps may rises legal h = search (arith, on_same)
 try_page f valid s l page last (Some o) steps may rises legal h =
@@ -118,7 +120,8 @@ none_passed f s l first high steps below none = record {
   leads = on_same f (at_pass s l first) (at_pass s (triples 0 steps ++ l) first) (ap (λ ms. at_pass s (triples 0 ms ++ l) first) (sym none));
 }
 
-tries_pass : (f : Profile) → IsValid f → (s : Stand) (l : Whole) (first low high : ℕ) (tried : List Tried) (steps : List Made) → MayPass s l → Legal f (triples 0 steps ++ l) → low ≤ high → Below low first
+tries_pass : (f : Profile) → IsValid f → (s : Stand) (l : Whole) (first low high : ℕ) (tried : List Tried) (steps : List Made) → MayPass s l
+    → Legal f (triples 0 steps ++ l) → low ≤ high → Below low first
     → Descends low high (map (λ t. t.page) tried) → InTurn (TriedSteps f.age s.epoch) tried steps → Passed f s l first high (outcomes_in tried) steps
 tries_pass f valid s l first low high [] steps may legal le below falls h = none_passed f s l first high steps (λ x more some. below x (omega (arith, le, more)) some) h
 tries_pass f valid s l first low high (t ∷ earlier) steps may legal le below falls h =
@@ -164,7 +167,9 @@ no_element same = cc
 no_list : {A : Type 0} {x : A} {xs : List A} → [] ≡ x ∷ xs → ⊥
 no_list same = cc
 
-pub words_pass : (f : Profile) → IsValid f → (s : Stand) (l : Whole) (n : ℕ) (words : List WordRead) (steps : List Made) → MayPass s l → Legal f (triples 0 steps ++ l) → map (λ w. w.number) words ≡ numbers_below n
+-- The pages of a pass are tried upwards, each once, and each outcome may come.
+pub words_pass : (f : Profile) → IsValid f → (s : Stand) (l : Whole) (n : ℕ) (words : List WordRead) (steps : List Made) → MayPass s l
+    → Legal f (triples 0 steps ++ l) → map (λ w. w.number) words ≡ numbers_below n
     → InTurn (WordSteps f.age s.epoch) words steps → Passed f s l 0 (64 * n) (outcomes_in (all_tried words)) steps
 words_pass f valid s l zero [] steps may legal numbers h = none_passed f s l 0 (64 * 0) steps (λ x le some. some) h
 words_pass f valid s l zero (w ∷ words) steps may legal numbers h = absurd (no_element numbers)

@@ -36,7 +36,8 @@ written_both f p q r s us ts one rest = (
   },
 )
 
-acts_written : (f : Profile) → IsValid f → (acts : List Act) (known : Bool) (p q : Progress) (s : Stand) (ts : List Task) → Tells p s → s.due ≡ [] → s.left ≡ map Does acts ++ ts → (is : Reaches f acts p q) → AllRefuseTruly f acts p q is
+acts_written : (f : Profile) → IsValid f → (acts : List Act) (known : Bool) (p q : Progress) (s : Stand) (ts : List Task) → Tells p s → s.due ≡ []
+    → s.left ≡ map Does acts ++ ts → (is : Reaches f acts p q) → AllRefuseTruly f acts p q is
     → AreInPlace known acts → IsRead known p → Legal f q.list → Written f p s q ts
 acts_written f valid [] known p q s ts tells due left is truly are read legal = written_none f p q s ts tells due left is
 acts_written f valid (act ∷ acts) known p q s ts tells due left is truly are read legal =
@@ -51,25 +52,30 @@ acts_written f valid (act ∷ acts) known p q s ts tells due left is truly are r
 first_tells : (plan : Plan) → Tells at_start (at_first plan)
 first_tells plan = record { events = refl; names = refl; logs = λ k. refl; awake = λ k. refl; epoch = refl; books = record { told = λ j. refl; aligned = λ j. tt }; tidy = λ k. record { kept = tt; stamped = λ page. refl } }
 
-acts_of_replay : (plan : Plan) (whole : Whole) (records : List Record) → IsValid (region_of plan) → (is : IsReplay InOrder plan whole records) → Written (region_of plan) at_start (at_first plan) is.reached (Reports ∷ [])
+acts_of_replay : (plan : Plan) (whole : Whole) (records : List Record) → IsValid (region_of plan) → (is : IsReplay InOrder plan whole records)
+    → Written (region_of plan) at_start (at_first plan) is.reached (Reports ∷ [])
 acts_of_replay plan whole records valid is =
     acts_written (region_of plan) valid (acts_of_plan plan) false at_start is.reached (at_first plan) (Reports ∷ []) (first_tells plan) refl refl is.answers is.refusals (acts_in_place (threads_of plan) (keepers_of plan) (phases_of plan) false)
     (λ bad. absurd (true≢false (sym bad))) (subst (Legal (region_of plan)) is.one_order is.legal)
 
 -- the report comes after them
-reported : (f : Profile) (s : Stand) (q : Progress) (whole : Whole) (rs : List Record) → AreTrueMarks f whole → whole ≡ q.list → Comes f s rs q (Reports ∷ []) → IsWhole f s (lines_by rs ++ report_lines f (visible whole) (marks_after whole))
+reported : (f : Profile) (s : Stand) (q : Progress) (whole : Whole) (rs : List Record) → AreTrueMarks f whole → whole ≡ q.list → Comes f s rs q (Reports ∷ [])
+    → IsWhole f s (lines_by rs ++ report_lines f (visible whole) (marks_after whole))
 reported f s q whole rs marks order come = come.leads (report_lines f (visible whole) (marks_after whole)) (report_whole f whole marks come.end (come.tells.events ∙ sym (ap visible order)) come.due come.left)
 
-written_text : (f : Profile) (records : List Record) (es : List Event) (marks : ℕ → Marked) → lines_in (lines_of records ++ report_text f es marks) ≡ lines_by records ++ report_lines f es marks
+written_text : (f : Profile) (records : List Record) (es : List Event) (marks : ℕ → Marked)
+    → lines_in (lines_of records ++ report_text f es marks) ≡ lines_by records ++ report_lines f es marks
 written_text f records es marks = cut_records records (report_text f es marks) ∙ ap (λ ls. lines_by records ++ ls) (cut_report f es marks)
 
-transcript_whole : (f : Profile) (s : Stand) (q : Progress) (whole : Whole) (records : List Record) → AreTrueMarks f whole → whole ≡ q.list → records ≡ q.records → Written f at_start s q (Reports ∷ [])
+transcript_whole : (f : Profile) (s : Stand) (q : Progress) (whole : Whole) (records : List Record) → AreTrueMarks f whole → whole ≡ q.list
+    → records ≡ q.records → Written f at_start s q (Reports ∷ [])
     → IsWhole f s (lines_in (lines_of records ++ report_text f (visible whole) (marks_after whole)))
 transcript_whole f s q whole records marks order same written =
     subst (IsWhole f s) (sym (written_text f records (visible whole) (marks_after whole)))
     (subst (λ (rs : List Record). IsWhole f s (lines_by rs ++ report_lines f (visible whole) (marks_after whole))) (sym (same ∙ written.1)) (reported f s q whole written.0 marks order written.2))
 
 -- EVERY TRANSCRIPT of a replay in the order of the text is accepted
-pub replay_accepted : (plan : Plan) (whole : Whole) (records : List Record) → IsValid (region_of plan) → IsReplay InOrder plan whole records → IsAccepted plan (lines_of records ++ report_text plan.profile (visible whole) (marks_after whole))
+pub replay_accepted : (plan : Plan) (whole : Whole) (records : List Record) → IsValid (region_of plan) → IsReplay InOrder plan whole records
+    → IsAccepted plan (lines_of records ++ report_text plan.profile (visible whole) (marks_after whole))
 replay_accepted plan whole records valid is = whole_in plan.profile (region_of plan).threads (at_first plan) (lines_in (lines_of records ++ report_text plan.profile (visible whole) (marks_after whole)))
     (transcript_whole (region_of plan) (at_first plan) is.reached whole records is.marks is.one_order is.records_are (acts_of_replay plan whole records valid is))

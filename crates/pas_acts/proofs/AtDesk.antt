@@ -5,7 +5,7 @@ use Rattle.pas_profile.specs.declared.{profile.Profile.Profile, name.Block.Block
 use Rattle.pas_steps.specs.{Agreement.Agreed, Calls.Calls, Events.events_of, Events.events_by, Lists.Whole, Lists.part, Views.View, Desks.Standing}
 use Rattle.pas_steps.specs.{Desks.CanCall, Desks.triples}
 use Rattle.pas_steps.specs.declared.step.Made.{Made}
-use Rattle.pas_steps.proofs.{Called.call_none, Called.call_as, SpareRoom.Spares, Parts.part_of_own, Parts.part_of_others, Unknown.unknown_stays}
+use Rattle.pas_steps.proofs.{Called.call_none, Called.call_as, SpareRoom.Spares, Parts.part_of_own, Parts.part_of_others, Unknown.unknown_no_more}
 use Rattle.pas_trace.specs.declared.{plan.Op.Op, plan.What.What, plan.What.TheVariants.Stop, item.Request.Request}
 use Rattle.pas_report.specs.Rooms.{records_in, Records}
 use Rattle.pas_report.specs.declared.record.{Record.Record, Said.Said}
@@ -22,21 +22,30 @@ use Rattle.pas_acts.specs.AtDesks.{Here, here, MayOperate, ThreadActs, GoesThrou
 use Rattle.pas_acts.proofs.Alone.{of_seat, rests_after}
 
 -- ---- with less room
-pub sits_for : {f : Profile} {k : ℕ} {Rest : View → Type 0} {σ : Standing} {l : Whole} {need need' : ℕ} → Sits f k Rest σ l need → need' ≤ need → Sits f k Rest σ l need'
+pub sits_for : {f : Profile} {k : ℕ} {Rest : View → Type 0} {σ : Standing} {l : Whole} {need need' : ℕ} → Sits f k Rest σ l need → need' ≤ need
+    → Sits f k Rest σ l need'
 sits_for s less = let room = s.room in record { actor = s.actor; profile = s.profile; stood = s.stood; rest = s.rest; room = omega (arith, room, less) }
 
-pub rests_for : {f : Profile} {k : ℕ} {σ : Standing} {c : Cached} {out : Records} {later later' : Later} {p : Progress} → RestsAt f k σ c out later p → later'.events ≤ later.events → later'.records ≤ later.records → RestsAt f k σ c out later' p
+-- A thread that rests with some room rests with less.
+pub rests_for : {f : Profile} {k : ℕ} {σ : Standing} {c : Cached} {out : Records} {later later' : Later} {p : Progress} → RestsAt f k σ c out later p
+    → later'.events ≤ later.events → later'.records ≤ later.records → RestsAt f k σ c out later' p
 rests_for at events records = let spare = at.spare in record { sits = sits_for at.sits (omega (arith, events)); cache = at.cache; spare = omega (arith, spare, records) }
 
 -- ---- before an operation
 -- it is what is asked for
-pub may_do : {f : Profile} {k : ℕ} {w what : What} {meant : Option Block} {old : Here} {later : Later} {p : Progress} → w ≡ what → MayOperate f k w meant old later p → MayOperate f k what meant old later p
+pub may_do : {f : Profile} {k : ℕ} {w what : What} {meant : Option Block} {old : Here} {later : Later} {p : Progress} → w ≡ what
+    → MayOperate f k w meant old later p → MayOperate f k what meant old later p
 may_do {f} {k} {meant = meant} {old = old} {later = later} {p = p} is may = subst (λ (x : What). MayOperate f k x meant old later p) is may
 
-pub fit_at : {f : Profile} {k : ℕ} {what : What} {meant : Option Block} {σ : Standing} {c : Cached} {out : Records} {later : Later} {p : Progress} → MayOperate f k what meant (here σ c out) later p → (limit : ℕ) × (asked : List ℕ) × IsFitWhat σ.seat.profile limit asked what
+-- An operation that may be done asks for what fits the region.
+pub fit_at : {f : Profile} {k : ℕ} {what : What} {meant : Option Block} {σ : Standing} {c : Cached} {out : Records} {later : Later} {p : Progress}
+    → MayOperate f k what meant (here σ c out) later p → (limit : ℕ) × (asked : List ℕ) × IsFitWhat σ.seat.profile limit asked what
 fit_at {what = what} may = (may.limit, may.asked, subst (λ (g : Profile). IsFitWhat g may.limit may.asked what) (sym may.rests.sits.profile) may.fit)
 
-pub may_answer : {f : Profile} {k : ℕ} {what : What} {meant : Option Block} {σ : Standing} {c : Cached} {out : Records} {later : Later} {p : Progress} (spare : ℕ) → Spares σ spare → MayOperate f k what meant (here σ c out) later p
+-- An operation that may be done may be answered by its thread's cache.
+pub may_answer : {f : Profile} {k : ℕ} {what : What} {meant : Option Block} {σ : Standing} {c : Cached} {out : Records} {later : Later} {p : Progress}
+      (spare : ℕ)
+    → Spares σ spare → MayOperate f k what meant (here σ c out) later p
     → CanCall σ (MayAnswer σ.seat.profile c what spare out)
 may_answer {f} {k} {what} {meant} {σ} {c} {out} {later} {p} spare fits may =
     let v = part k p.list in
@@ -53,7 +62,8 @@ may_answer {f} {k} {what} {meant} {σ} {c} {out} {later} {p} spare fits may =
     }
 
 -- ---- after it
-module _ {f : Profile} {k : ℕ} {what : What} {meant came : Option Block} {σ σ' : Standing} {c c1 : Cached} {out out' : Records} {later : Later} {p : Progress} (may : MayOperate f k what meant (here σ c out) later p)
+module _ {f : Profile} {k : ℕ} {what : What} {meant came : Option Block} {σ σ' : Standing} {c c1 : Cached} {out out' : Records} {later : Later} {p : Progress}
+    (may : MayOperate f k what meant (here σ c out) later p)
     (did : AnswersMeant what meant came c c1 out out' σ σ') where
   abbrev v : View
   v = part k p.list
@@ -86,11 +96,13 @@ module _ {f : Profile} {k : ℕ} {what : What} {meant came : Option Block} {σ �
   few_so = search (arith, of_seat, was_at_rest)
 
   -- so is what came to its records, where it has a cache whose log is the same
-  paid_so : (c' : Cached) → length c'.log ≡ length c1.log → length piece + owed_events f c' (part k (triples k steps ++ p.list)) ≤ cost_of_what what + owed_events f c v
+  paid_so : (c' : Cached) → length c'.log ≡ length c1.log
+      → length piece + owed_events f c' (part k (triples k steps ++ p.list)) ≤ cost_of_what what + owed_events f c v
   paid_so c' log = search (arith, part_of_own, length-append, records_count, few_so)
 
   -- the thread rests again with that
-  rests_again : {c' : Cached} {q : Progress} → (moves : Moves k (AtRest f c) (AtRest f c') σ σ' p q) → moves.steps ≡ steps → length c'.log ≡ length c1.log → q.caches k ≡ c' → RestsAt f k σ' c' out' later q
+  rests_again : {c' : Cached} {q : Progress} → (moves : Moves k (AtRest f c) (AtRest f c') σ σ' p q) → moves.steps ≡ steps → length c'.log ≡ length c1.log
+      → q.caches k ≡ c' → RestsAt f k σ' c' out' later q
   rests_again {c'} moves same log cache =
       let paid = paid_so c' log in
       let owed = ap (λ (l : Whole). owed_events f c' (part k l)) (moves.list_is ∙ ap (λ (ms : List Made). triples k ms ++ p.list) same) in
@@ -113,9 +125,13 @@ module _ {Door : Type 0} (Answers : Door → Door → ℕ → ℕ → Option ℕ
   abbrev pub AnswersAsking : What → Option Block → Option Block → Cached → Cached → Records → Records → Standing → Standing → Type 0
   AnswersAsking what meant came c c1 out out' σ σ' = (did : AnswersMeant what meant came c c1 out out' σ σ') × IsNamedFor σ.seat.profile (Answers door next) (next ≡ door) (request_made what meant) did.performs.found
 
-  pub has_operated : {f : Profile} {op : Op} {what : What} {meant came : Option Block} {σ σ' : Standing} {c c1 c' : Cached} {out out' : Records} {later : Later} {p : Progress} → op.what ≡ what → MayOperate f op.actor op.what meant (here σ c out) later p
+  -- An operation that was answered, and whose noted runs were handed on, is done, and goes through its door.
+  pub has_operated : {f : Profile} {op : Op} {what : What} {meant came : Option Block} {σ σ' : Standing} {c c1 c' : Cached} {out out' : Records} {later : Later}
+        {p : Progress}
+      → op.what ≡ what → MayOperate f op.actor op.what meant (here σ c out) later p
       → AnswersAsking what meant came c c1 out out' σ σ' → c' ≡ settled c1 → SettlesEach HandsOn c1.noted next door'
-      → (did : ThreadActs f op.actor (Operates op ∷ (Settles op.actor ∷ [])) (named_by op.what came) [] (here σ c out) (here σ' c' out') later p) × GoesThrough Answers HandsOn f op p did.reached did.reaches door door'
+      → (did : ThreadActs f op.actor (Operates op ∷ (Settles op.actor ∷ [])) (named_by op.what came) [] (here σ c out) (here σ' c' out') later p)
+        × GoesThrough Answers HandsOn f op p did.reached did.reaches door door'
   has_operated {f} {op} {what} {meant} {came} {σ} {σ'} {c} {c1} {c'} {out} {out'} {later} {p} asks may answers is handed =
       let k = op.actor in
       let both : AnswersAsking op.what meant came c c1 out out' σ σ' = subst (λ (w : What). AnswersAsking w meant came c c1 out out' σ σ') (sym asks) answers in
@@ -150,10 +166,12 @@ module _ {Door : Type 0} (Answers : Door → Door → ℕ → ℕ → Option ℕ
       )
 
 -- ---- a thread is stopped
-pub may_stop : {f : Profile} {k : ℕ} {σ : Standing} {c : Cached} {out : Records} {later : Later} {p : Progress} → RestsAt f k σ c out later p → MayOperate f k Stop None (here σ c out) later p
+pub may_stop : {f : Profile} {k : ℕ} {σ : Standing} {c : Cached} {out : Records} {later : Later} {p : Progress} → RestsAt f k σ c out later p
+    → MayOperate f k Stop None (here σ c out) later p
 may_stop {f} at = record { rests = rests_for at (omega arith) (omega arith); limit = 0; asked = []; fit = (tt, tt); known = tt; means = tt; stands = none_stands f }
 
-module _ {f : Profile} {k : ℕ} {σ σ' : Standing} {c c1 : Cached} {out out' : Records} {later : Later} {p : Progress} (at : RestsAt f k σ c out later p) (did : AnswersMeant Stop None None c c1 out out' σ σ') where
+module _ {f : Profile} {k : ℕ} {σ σ' : Standing} {c c1 : Cached} {out out' : Records} {later : Later} {p : Progress} (at : RestsAt f k σ c out later p)
+    (did : AnswersMeant Stop None None c c1 out out' σ σ') where
   abbrev flush : List Made
   flush = did.performs.steps
 
@@ -168,7 +186,8 @@ module _ {f : Profile} {k : ℕ} {σ σ' : Standing} {c c1 : Cached} {out out' :
   quiet = ap (λ (o : Option Said). flushed ++ said_by k o) (answered (may_stop at) did).1 ∙ append-nil flushed
 
   -- by an act that stops it, and of which `told` is said besides
-  stops : (act : Act) (told : List Record) → Reaches f (act ∷ []) p (after_stop p k flush c1 told) → ThreadActs f k (act ∷ []) [] told (here σ c out) (here σ' c1 out') later p
+  stops : (act : Act) (told : List Record) → Reaches f (act ∷ []) p (after_stop p k flush c1 told)
+      → ThreadActs f k (act ∷ []) [] told (here σ c out) (here σ' c1 out') later p
   stops act told reaches =
       let q = after_stop p k flush c1 told in
       let moves : Moves k (AtRest f c) (AtRest f c1) σ σ' p q = record { steps = flush; list_is = refl; calls = calls_so (may_stop at) did } in
@@ -196,10 +215,13 @@ module _ {f : Profile} {k : ℕ} {σ σ' : Standing} {c c1 : Cached} {out out' :
   has_ended = (stops (Ends k) [] (after_stop p k flush c1 [], (flush, c1, is_stopped, refl), refl), ap (λ (d : Cached). d.locals) is_stopped.cache)
 
   -- where it was idle for n epochs
-  pub was_stopped : {n epoch : ℕ} → p.epoch ≡ epoch → c.idle_since + n ≤ epoch → ThreadActs f k (StopsIdle k n ∷ []) [] (stopped k) (here σ c out) (here σ' c1 out') later p
+  pub was_stopped : {n epoch : ℕ} → p.epoch ≡ epoch → c.idle_since + n ≤ epoch
+      → ThreadActs f k (StopsIdle k n ∷ []) [] (stopped k) (here σ c out) (here σ' c1 out') later p
   was_stopped {n} read idle = search (arith, stops, is_stopped)
 
-pub has_stayed : {f : Profile} {k n epoch : ℕ} {σ : Standing} {c : Cached} {out : Records} {later : Later} {p : Progress} → RestsAt f k σ c out later p → p.epoch ≡ epoch → (c.idle_since + n ≤ epoch → ⊥)
+-- A thread that wasn't idle for long enough stays as it is, by the act of its stop.
+pub has_stayed : {f : Profile} {k n epoch : ℕ} {σ : Standing} {c : Cached} {out : Records} {later : Later} {p : Progress} → RestsAt f k σ c out later p
+    → p.epoch ≡ epoch → (c.idle_since + n ≤ epoch → ⊥)
     → ThreadActs f k (StopsIdle k n ∷ []) [] [] (here σ c out) (here σ c out) later p
 has_stayed {f} {k} {n} {epoch} {σ} {c} {out} {later} {p} at read short =
     let since = ap (λ (d : Cached). d.idle_since) at.cache in
@@ -221,7 +243,8 @@ has_stayed {f} {k} {n} {epoch} {σ} {c} {out} {later} {p} at read short =
     }
 
 -- ---- the epoch is read
-pub has_begun : {f : Profile} {k : ℕ} {σ σ' : Standing} {c c' : Cached} {out : Records} {later : Later} {p : Progress} → RestsAt f k σ c out later p → Begins c c' σ σ' → (did : ThreadActs f k (Wakes k ∷ []) [] [] (here σ c out) (here σ' c' out) later p) × (did.own ≡ [])
+pub has_begun : {f : Profile} {k : ℕ} {σ σ' : Standing} {c c' : Cached} {out : Records} {later : Later} {p : Progress} → RestsAt f k σ c out later p
+    → Begins c c' σ σ' → (did : ThreadActs f k (Wakes k ∷ []) [] [] (here σ c out) (here σ' c' out) later p) × (did.own ≡ [])
 has_begun {f} {k} {σ} {σ'} {c} {c'} {out} {later} {p} at did =
     let v = part k p.list in
     let steps = epoch_look did.epoch in
@@ -229,7 +252,7 @@ has_begun {f} {k} {σ} {σ'} {c} {c'} {out} {later} {p} at did =
     let calls : Calls σ σ' (AtRest f c) (λ v w. AtRest f c' w) steps = subst (λ (g : Profile). Calls σ σ' (AtRest g c) (λ v w. AtRest g c' w) steps) at.sits.profile did.calls in
     let agreed : Agreed f v steps = subst (λ (g : Profile). Agreed g v steps) at.sits.profile (calls.adds.agreed v p.list at.sits.stood at.sits.rest) in
     let moves : Moves k (AtRest f c) (AtRest f c') σ σ' p q = record { steps = steps; list_is = refl; calls = calls } in
-    let unknown = unknown_stays f steps v agreed in
+    let unknown = unknown_no_more f steps v agreed in
     let log = ap (λ (d : Cached). length d.log) did.cache in
     let mine = ap (λ (w : View). owed_events f c' w) (part_of_own k steps p.list) in
     let paid : 0 + owed_events f c' (part k q.list) ≤ 0 + owed_events f c v = omega (arith, unknown, log, mine) in
@@ -255,5 +278,6 @@ has_begun {f} {k} {σ} {σ'} {c} {c'} {out} {later} {p} at did =
     )
 
 -- ---- what a thread's acts leave as it was
-pub leaves_rest : {f : Profile} {k : ℕ} {acts : List Act} {told : List Record} {old new : Here} {later : Later} {p : Progress} → (did : ThreadActs f k acts [] told old new later p) → LeavesRest k p did.reached
+pub leaves_rest : {f : Profile} {k : ℕ} {acts : List Act} {told : List Record} {old new : Here} {later : Later} {p : Progress}
+    → (did : ThreadActs f k acts [] told old new later p) → LeavesRest k p did.reached
 leaves_rest {k = k} {p = p} did = search (arith, part_of_others)

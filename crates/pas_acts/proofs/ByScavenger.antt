@@ -21,7 +21,9 @@ use Rattle.pas_acts.proofs.Alone.{sits_after}
 pub can_scavenge : {f : Profile} {σ : Standing} {out : Records} {later : Later} {p : Progress} → HasRoomAt f σ out later p → CanCall σ HasNothing
 can_scavenge {p = p} at = record { view = part 0 p.list; whole = p.list; stood = at.sits.stood; met = at.sits.rest }
 
-pub pass_room : {f : Profile} {σ : Standing} {out : Records} {p : Progress} (later : Later) (spare : ℕ) → Spares σ spare → HasRoomAt f σ out (for_act f MakesPass later) p → σ.seat.profile.pages ≤ spare
+-- A scavenger with room for a pass may unback each page of the region.
+pub pass_room : {f : Profile} {σ : Standing} {out : Records} {p : Progress} (later : Later) (spare : ℕ) → Spares σ spare
+    → HasRoomAt f σ out (for_act f MakesPass later) p → σ.seat.profile.pages ≤ spare
 pass_room {f} {σ} {out} {p} later spare fits at =
     let v = part 0 p.list in
     let is = subst (λ (k : ℕ). spare + length (events_of k v) ≡ σ.seat.room) at.sits.actor (fits v p.list at.sits.stood) in
@@ -30,7 +32,8 @@ pass_room {f} {σ} {out} {p} later spare fits at =
 
 -- ---- after
 -- there is room again, where the act pays for the events of its steps and for what is said
-room_again : {f : Profile} {σ σ' : Standing} {out out' : Records} {p q : Progress} (act : Act) (later : Later) → HasRoomAt f σ out (for_act f act later) p → (moves : Moves 0 HasNothing HasNothing σ σ' p q) → (says : Says 0 out out' p q)
+room_again : {f : Profile} {σ σ' : Standing} {out out' : Records} {p q : Progress} (act : Act) (later : Later) → HasRoomAt f σ out (for_act f act later) p
+    → (moves : Moves 0 HasNothing HasNothing σ σ' p q) → (says : Says 0 out out' p q)
     → length (events_by 0 (part 0 p.list) moves.steps) ≤ unbacks_of_act f act → length says.said ≤ cost_of_act f act → HasRoomAt f σ' out' later q
 room_again {f} {σ} {σ'} {out} {out'} {p} {q} act later at moves says few paid =
     let longer = ap (λ (rs : List Record). length rs) says.pushed ∙ length-append (records_in out) says.said in
@@ -39,7 +42,9 @@ room_again {f} {σ} {σ'} {out} {out'} {p} {q} act later at moves says few paid 
       spare = omega (arith, longer, at.spare, says.room, paid);
     }
 
-pub has_ticked : {f : Profile} {σ σ' : Standing} {out out' : Records} {later : Later} {p : Progress} (epoch : ℕ) → HasRoomAt f σ out (for_act f (Ticks epoch) later) p
+-- A tick that was answered is an act of the scavenger.
+pub has_ticked : {f : Profile} {σ σ' : Standing} {out out' : Records} {later : Later} {p : Progress} (epoch : ℕ)
+    → HasRoomAt f σ out (for_act f (Ticks epoch) later) p
     → AnswersTick epoch σ σ' (records_in out) (records_in out') → room_of out' ≡ room_of out → ScavengerActs f (Ticks epoch) σ σ' out out' later p
 has_ticked {f} {σ} {σ'} {out} {out'} {later} {p} epoch at ticks room =
     let steps : List Made = made (Tick epoch) ticks.answer ∷ [] in
@@ -50,8 +55,11 @@ has_ticked {f} {σ} {σ'} {out} {out'} {later} {p} epoch at ticks room =
     let says : Says 0 out out' p q = record { said = said; records_are = refl; pushed = added; room = room; each = (λ k. refl, tt) } in
     record { reached = q; reaches = (q, (ticks.answer, refl), refl); stands = room_again (Ticks epoch) later at moves says (omega arith) (omega arith); moves = moves; says = says; caches = refl; books = refl; names = refl }
 
-pub has_passed : {f : Profile} {σ σ' : Standing} {spare spare' : ℕ} {found : List (ℕ × Outcome)} {out out' : Records} {later : Later} {p : Progress} → HasRoomAt f σ out (for_act f MakesPass later) p
-    → AnswersPass σ σ' spare spare' found (records_in out) (records_in out') → length (records_in out') ≤ length (records_in out) + (1 + f.pages) → room_of out' ≡ room_of out → ScavengerActs f MakesPass σ σ' out out' later p
+-- A pass that was answered is an act of the scavenger.
+pub has_passed : {f : Profile} {σ σ' : Standing} {spare spare' : ℕ} {found : List (ℕ × Outcome)} {out out' : Records} {later : Later} {p : Progress}
+    → HasRoomAt f σ out (for_act f MakesPass later) p
+    → AnswersPass σ σ' spare spare' found (records_in out) (records_in out') → length (records_in out') ≤ length (records_in out) + (1 + f.pages)
+    → room_of out' ≡ room_of out → ScavengerActs f MakesPass σ σ' out out' later p
 has_passed {f} {σ} {σ'} {spare} {spare'} {found} {out} {out'} {later} {p} at pass short room =
     let epoch = pass.epoch in
     let steps = pass.passes.steps in
@@ -77,7 +85,9 @@ has_passed {f} {σ} {σ'} {spare} {spare'} {found} {out} {out'} {later} {p} at p
       names = refl;
     }
 
-pub has_read : {f : Profile} {σ σ' : Standing} {out : Records} {later : Later} {p : Progress} (epoch : ℕ) → HasRoomAt f σ out (for_act f ReadsEpoch later) p → Makes σ σ' (Look Word.Epoch) epoch
+-- A look at the epoch is an act of the scavenger, which knows that epoch then.
+pub has_read : {f : Profile} {σ σ' : Standing} {out : Records} {later : Later} {p : Progress} (epoch : ℕ) → HasRoomAt f σ out (for_act f ReadsEpoch later) p
+    → Makes σ σ' (Look Word.Epoch) epoch
     → (did : ScavengerActs f ReadsEpoch σ σ' out out later p) × (did.reached.epoch ≡ epoch)
 has_read {f} {σ} {σ'} {out} {later} {p} epoch at makes =
     let q = after_reading p epoch in

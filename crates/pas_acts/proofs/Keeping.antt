@@ -5,7 +5,7 @@ use Rattle.pas_profile.specs.declared.{event.Event.Event, name.Block.Block, prof
 use Rattle.pas_steps.specs.{Agreement.Agreed, Calls.Calls, Desks.Standing, Desks.CanCall, Events.events_of, Events.events_by, Lists.Whole, Lists.part}
 use Rattle.pas_steps.specs.{Unknown.unknown_pages, Views.View}
 use Rattle.pas_steps.specs.declared.step.Made.{Made}
-use Rattle.pas_steps.proofs.{Apart.no_events, Parts.part_of_own, SpareRoom.Spares, Unknown.unknown_stays}
+use Rattle.pas_steps.proofs.{Apart.no_events, Parts.part_of_own, SpareRoom.Spares, Unknown.unknown_no_more}
 use Rattle.pas_trace.specs.{Acts.Guards, Asked.request_in, Reasons.cost_of_size}
 use Rattle.pas_trace.specs.declared.{item.Request.Request, plan.Op.Op}
 use Rattle.pas_report.specs.Rooms.{records_in, Records}
@@ -25,19 +25,22 @@ use Rattle.pas_acts.proofs.Alone.{of_seat, sits_after, sits_still}
 its_book : (books : Books) (k : ℕ) (guards : List Guard) → with_book books k guards k ≡ guards
 its_book books k guards = ap (λ (b : Bool). if b then guards else books k) (eq-eqb k k refl)
 
+-- A keeper's new book leaves that of every other actor as it was.
 pub other_book : (books : Books) (k j : ℕ) (guards : List Guard) → j ≢ k → with_book books k guards j ≡ books j
 other_book books k j guards ne = ap (λ (b : Bool). if b then guards else books j) (ne_eqb j k ne)
 
 -- ---- a guarded request is answered
 -- by its keeper, which gave a block
-pub guarded_by_keeper : (f : Profile) (keeper : ℕ) (op : Op) (r : Request) (block : Block) (p : Progress) (t : Tried) → request_in op.what ≡ Some r → IsTried f keeper r (part keeper p.list) (p.books keeper) t → t.block ≡ Some block
+pub guarded_by_keeper : (f : Profile) (keeper : ℕ) (op : Op) (r : Request) (block : Block) (p : Progress) (t : Tried) → request_in op.what ≡ Some r
+    → IsTried f keeper r (part keeper p.list) (p.books keeper) t → t.block ≡ Some block
     → Advances f (Guards keeper op) p (after_giving (after_trying p keeper t) r.name block)
 guarded_by_keeper f keeper op r block p t asks is given =
     let q = after_giving (after_trying p keeper t) r.name block in
     subst (λ (o : Option Request). AnswersGuarded f keeper op o p q) (sym asks) (t, is, subst (λ (b : Option Block). AnswersTried f op r b (after_trying p keeper t) q) (sym given) refl)
 
 -- by its thread, where the keeper gave none
-pub guarded_by_thread : (f : Profile) (keeper : ℕ) (op : Op) (r : Request) (p q : Progress) (t : Tried) → request_in op.what ≡ Some r → IsTried f keeper r (part keeper p.list) (p.books keeper) t → t.block ≡ None
+pub guarded_by_thread : (f : Profile) (keeper : ℕ) (op : Op) (r : Request) (p q : Progress) (t : Tried) → request_in op.what ≡ Some r
+    → IsTried f keeper r (part keeper p.list) (p.books keeper) t → t.block ≡ None
     → AnswersOp f op (after_trying p keeper t) q → Advances f (Guards keeper op) p q
 guarded_by_thread f keeper op r p q t asks is given did =
     subst (λ (o : Option Request). AnswersGuarded f keeper op o p q) (sym asks) (t, is, subst (λ (b : Option Block). AnswersTried f op r b (after_trying p keeper t) q) (sym given) did)
@@ -47,19 +50,23 @@ abbrev At : Profile → ℕ → Standing → GuardBook → Records → LaterKept
 At f k σ book out later p = KeeperAt f k (keeper_has σ book out) later p
 
 -- what the keeper has in hand is said of its desk's seat
-fits_seat : {f : Profile} {k : ℕ} {σ : Standing} {book : GuardBook} {out : Records} {later : LaterKept} {p : Progress} → At f k σ book out later p → FitsBook σ.seat.profile (guards_in book) (part k p.list)
+fits_seat : {f : Profile} {k : ℕ} {σ : Standing} {book : GuardBook} {out : Records} {later : LaterKept} {p : Progress} → At f k σ book out later p
+    → FitsBook σ.seat.profile (guards_in book) (part k p.list)
 fits_seat {k = k} {book = book} {p = p} at = subst (λ (g : Profile). FitsBook g (guards_in book) (part k p.list)) (sym at.sits.profile) at.sits.rest
 
 -- what it owes then
-sits_owing : {f : Profile} {k : ℕ} {Rest : View → Type 0} {σ : Standing} {l : Whole} {v : View} (n : ℕ) → part k l ≡ v → Sits f k Rest σ l (unknown_pages f v + n) → Sits f k Rest σ l (unknown_pages f (part k l) + n)
+sits_owing : {f : Profile} {k : ℕ} {Rest : View → Type 0} {σ : Standing} {l : Whole} {v : View} (n : ℕ) → part k l ≡ v
+    → Sits f k Rest σ l (unknown_pages f v + n) → Sits f k Rest σ l (unknown_pages f (part k l) + n)
 sits_owing {f} {k} {Rest} {σ} {l} {v} n mine s = subst (λ (w : View). Sits f k Rest σ l (unknown_pages f w + n)) (sym mine) s
 
 -- the keeper is there still, while another actor makes steps
-pub keeper_still : {f : Profile} {k : ℕ} {has has' : KeeperHas} {later : LaterKept} {p q : Progress} → HasStill has has' p.list q.list → part k q.list ≡ part k p.list → q.books k ≡ p.books k → KeeperAt f k has later p → KeeperAt f k has' later q
+pub keeper_still : {f : Profile} {k : ℕ} {has has' : KeeperHas} {later : LaterKept} {p q : Progress} → HasStill has has' p.list q.list
+    → part k q.list ≡ part k p.list → q.books k ≡ p.books k → KeeperAt f k has later p → KeeperAt f k has' later q
 keeper_still {f} {k} {has} {has'} {later} {p} {q} still parts books at = search (arith, sits_still)
 
 -- ---- a request is tried
-pub may_try : {f : Profile} {k : ℕ} {σ : Standing} {book : GuardBook} {out : Records} {p : Progress} (later : LaterKept) (size spare : ℕ) → Spares σ spare → At f k σ book out (and_try size later) p → CanCall σ (MayTry σ.seat.profile book size spare out)
+pub may_try : {f : Profile} {k : ℕ} {σ : Standing} {book : GuardBook} {out : Records} {p : Progress} (later : LaterKept) (size spare : ℕ) → Spares σ spare
+    → At f k σ book out (and_try size later) p → CanCall σ (MayTry σ.seat.profile book size spare out)
 may_try {f} {k} {σ} {book} {out} {p} later size spare fits at =
     let v = part k p.list in
     let s = at.sits in
@@ -81,13 +88,18 @@ few_cost size None = omega arith
 few_cost size (Some block) = omega arith
 
 -- the book has one guard more at most
-one_more : (f : Profile) (heap k : ℕ) (guards guards' : List Guard) (answer : Option Block) (steps : List Made) → RaiseSteps f heap k guards guards' answer steps → length guards' ≤ length guards + 1
+one_more : (f : Profile) (heap k : ℕ) (guards guards' : List Guard) (answer : Option Block) (steps : List Made)
+    → RaiseSteps f heap k guards guards' answer steps → length guards' ≤ length guards + 1
 one_more f heap k guards guards' answer steps h = grind (arith, length-append)
 
-few_guards : (f : Profile) (keeper : ℕ) (r : Request) (v : View) (guards : List Guard) (t : Tried) → IsTried f keeper r v guards t → length t.guards ≤ length guards + 1
+few_guards : (f : Profile) (keeper : ℕ) (r : Request) (v : View) (guards : List Guard) (t : Tried) → IsTried f keeper r v guards t
+    → length t.guards ≤ length guards + 1
 few_guards f keeper r v guards t is = omega (arith, swept_count, one_more)
 
-pub has_tried : {f : Profile} {k : ℕ} {σ σ' : Standing} {book book' : GuardBook} {out out' : Records} {p : Progress} {block : Option Block} (later : LaterKept) (r : Request) → At f k σ book out (and_try r.size later) p → TriesRequest r book book' out out' σ σ' block → MayStand σ.seat.profile block
+-- A request that a keeper tried at its desk is one that it tried in the replay.
+pub has_tried : {f : Profile} {k : ℕ} {σ σ' : Standing} {book book' : GuardBook} {out out' : Records} {p : Progress} {block : Option Block} (later : LaterKept)
+      (r : Request)
+    → At f k σ book out (and_try r.size later) p → TriesRequest r book book' out out' σ σ' block → MayStand σ.seat.profile block
     → KeeperTries f k r block (keeper_has σ book out) (keeper_has σ' book' out') later p
 has_tried {f} {k} {σ} {σ'} {book} {book'} {out} {out'} {p} {block} later r at did given =
     let v = part k p.list in
@@ -131,7 +143,8 @@ has_tried {f} {k} {σ} {σ'} {book} {book'} {out} {out'} {p} {block} later r at 
     }
 
 -- ---- the close
-pub may_lower : {f : Profile} {k : ℕ} {σ : Standing} {book : GuardBook} {out : Records} {later : LaterKept} {p : Progress} → At f k σ book out later p → CanCall σ (MayLowerAll σ.seat.profile book out)
+pub may_lower : {f : Profile} {k : ℕ} {σ : Standing} {book : GuardBook} {out : Records} {later : LaterKept} {p : Progress} → At f k σ book out later p
+    → CanCall σ (MayLowerAll σ.seat.profile book out)
 may_lower {f} {k} {σ} {book} {out} {later} {p} at =
     record {
       view = part k p.list;
@@ -140,7 +153,9 @@ may_lower {f} {k} {σ} {book} {out} {later} {p} at =
       met = record { fits = fits_seat at; records = omega (arith, at.spare) };
     }
 
-pub has_lowered : {f : Profile} {k : ℕ} {σ σ' : Standing} {book book' : GuardBook} {out out' : Records} {later : LaterKept} {p : Progress} → At f k σ book out later p → LowersAll book book' out out' σ σ'
+-- Guards that a keeper lowered at its desk are lowered in the replay.
+pub has_lowered : {f : Profile} {k : ℕ} {σ σ' : Standing} {book book' : GuardBook} {out out' : Records} {later : LaterKept} {p : Progress}
+    → At f k σ book out later p → LowersAll book book' out out' σ σ'
     → KeeperLowers f k (keeper_has σ book out) (keeper_has σ' book' out') later p
 has_lowered {f} {k} {σ} {σ'} {book} {book'} {out} {out'} {later} {p} at did =
     let v = part k p.list in
@@ -151,7 +166,7 @@ has_lowered {f} {k} {σ} {σ'} {book} {book'} {out} {out'} {later} {p} at did =
     let calls : Calls σ σ' (FitsBook f (guards_in book)) (λ u w. FitsBook f (guards_in book') w) steps = subst (λ (g : Profile). Calls σ σ' (FitsBook g (guards_in book)) (λ u w. FitsBook g (guards_in book') w) steps) s.profile did.calls in
     let agreed : Agreed f v steps = subst (λ (g : Profile). Agreed g v steps) s.profile (did.calls.adds.agreed v p.list s.stood fits) in
     let silent = ap (λ (es : List Event). length es) (no_events sweeping refl k v steps lowered.sweep.kinds) in
-    let unknown = unknown_stays f steps v agreed in
+    let unknown = unknown_no_more f steps v agreed in
     let q = after_lowering p k steps did.said in
     let mine : part k q.list ≡ steps ++ v = part_of_own k steps p.list in
     let left = ap (λ (w : View). unknown_pages f w) mine in

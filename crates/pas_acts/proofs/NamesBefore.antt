@@ -25,6 +25,7 @@ pub sound_front : (f : Profile) (asked : List ℕ) (xs ys : List Op) → AreSoun
 sound_front f asked [] ys sound = tt
 sound_front f asked (x ∷ xs) ys sound = (sound.0, sound.1, sound_front f (asked_after x.what asked) xs ys sound.2)
 
+-- Sound operations behind others are sound after the names that those asked for.
 pub sound_back : (f : Profile) (asked : List ℕ) (xs ys : List Op) → AreSound f asked (xs ++ ys) → AreSound f (asked_by asked xs) ys
 sound_back f asked [] ys sound = sound
 sound_back f asked (x ∷ xs) ys sound = sound_back f (asked_after x.what asked) xs ys sound.2
@@ -50,19 +51,24 @@ smaller_if : (t : Bool) (what : What) (few many : List ℕ) → IsSmaller few ma
 smaller_if true what few many small n none = smaller_after (request_in what) few many small n none
 smaller_if false what few many small n none = small n (not_before what many n none).1
 
-fit_task : (f : Profile) (limit : ℕ) (few many : List ℕ) (task : Task) → IsSmaller few many → IsSoundTask f many task → MatchOption (request_of task) (Unit {0}) (λ r. r.name < limit) → MatchOption (freed_of task) (Unit {0}) (λ n. is_asked few n ≡ true)
+fit_task : (f : Profile) (limit : ℕ) (few many : List ℕ) (task : Task) → IsSmaller few many → IsSoundTask f many task
+    → MatchOption (request_of task) (Unit {0}) (λ r. r.name < limit) → MatchOption (freed_of task) (Unit {0}) (λ n. is_asked few n ≡ true)
     → IsFitTask f limit few task
 fit_task f limit few many task h i j k = grind arith
 
-fit_work : (f : Profile) (limit k : ℕ) (few many : List ℕ) (work : Work) → 1 ≤ k → IsSmaller few many → IsActorBy f work k → IsSoundWork f many work → MatchOption (of_task request_of work) (Unit {0}) (λ r. r.name < limit)
+fit_work : (f : Profile) (limit k : ℕ) (few many : List ℕ) (work : Work) → 1 ≤ k → IsSmaller few many → IsActorBy f work k → IsSoundWork f many work
+    → MatchOption (of_task request_of work) (Unit {0}) (λ r. r.name < limit)
     → MatchOption (of_task freed_of work) (Unit {0}) (λ n. is_asked few n ≡ true) → IsThread f k × IsFitWork f limit few work
 fit_work f limit k few many work h i j m p q = grind (arith, fit_task)
 
-fit_if : (t : Bool) (f : Profile) (limit : ℕ) (asked : List ℕ) (keeper : Option ℕ) (op : Op) (acts : List Act) → MatchOption keeper (Unit {0}) (λ k. IsThread f k × (op.actor < k)) → (t ≡ true → IsThread f op.actor × IsFitWhat f limit asked op.what)
-    → AreFit f limit (if t then asked_after op.what asked else asked) acts → AreFit f limit asked (if t then act_kept keeper op ∷ (Settles op.actor ∷ acts) else acts)
+fit_if : (t : Bool) (f : Profile) (limit : ℕ) (asked : List ℕ) (keeper : Option ℕ) (op : Op) (acts : List Act)
+    → MatchOption keeper (Unit {0}) (λ k. IsThread f k × (op.actor < k)) → (t ≡ true → IsThread f op.actor × IsFitWhat f limit asked op.what)
+    → AreFit f limit (if t then asked_after op.what asked else asked) acts
+    → AreFit f limit asked (if t then act_kept keeper op ∷ (Settles op.actor ∷ acts) else acts)
 fit_if t f limit asked keeper op acts h i j = grind arith
 
-own_fit : (f : Profile) (limit k : ℕ) (few many : List ℕ) (ops : List Op) → 1 ≤ k → IsSmaller few many → AreSound f many ops → AllByRecursion (KeepsAbove f) ops → AreBelow limit ops → FreesItsOwn k few ops → AreFit f limit few (own_acts k ops)
+own_fit : (f : Profile) (limit k : ℕ) (few many : List ℕ) (ops : List Op) → 1 ≤ k → IsSmaller few many → AreSound f many ops → AllByRecursion (KeepsAbove f) ops
+    → AreBelow limit ops → FreesItsOwn k few ops → AreFit f limit few (own_acts k ops)
 own_fit f limit k few many [] some small sound above below frees = tt
 own_fit f limit k few many (op ∷ ops) some small sound above below frees =
     let t = op.actor == k in
@@ -90,7 +96,8 @@ own_asked k (op ∷ ops) =
     ]
 
 -- ---- before a phase
-module _ {f : Profile} {ops : List Op} {book : NameBook} {p : Progress} {names : List Named} (book1 : NameBook) (requests : Requests) (at : NamesAt f ops book p) (same : book1.names ≡ book.names) (none : requests_in requests ≡ []) (are : names ≡ p.names) where
+module _ {f : Profile} {ops : List Op} {book : NameBook} {p : Progress} {names : List Named} (book1 : NameBook) (requests : Requests)
+    (at : NamesAt f ops book p) (same : book1.names ≡ book.names) (none : requests_in requests ≡ []) (are : names ≡ p.names) where
   only_book : (n : ℕ) → known_in book1 requests n ≡ block_named book.names n
   only_book n = ap (λ (rs : List Named). came_to (standing_for rs n) (block_named book1.names n)) none ∙ ap (λ (t : Names). block_named t n) same
 
@@ -107,7 +114,8 @@ module _ {f : Profile} {ops : List Op} {book : NameBook} {p : Progress} {names :
   no_names = ap names_of none
 
   -- a thread with these acts, which fit
-  knows_by : (acts : List Act) → AreFit f (names_held book.names) at.asked acts → ArePlaced book1 0 (names_asked acts) → length (names_asked acts) ≤ room_for requests → KnowsNames f acts (table book1 requests) names
+  knows_by : (acts : List Act) → AreFit f (names_held book.names) at.asked acts → ArePlaced book1 0 (names_asked acts)
+      → length (names_asked acts) ≤ room_for requests → KnowsNames f acts (table book1 requests) names
   knows_by acts fit placed room = record {
     asked = at.asked;
     fit = subst (λ (t : Names). AreFit f (names_held t) at.asked acts) (sym same) fit;
@@ -119,15 +127,19 @@ module _ {f : Profile} {ops : List Op} {book : NameBook} {p : Progress} {names :
   }
 
 -- A thread of the phase knows its names once they are noted.
-pub names_before : {f : Profile} {book : NameBook} {p : Progress} {names : List Named} (k : ℕ) (phase rest : List Op) (book1 : NameBook) (requests : Requests) (at : NamesAt f (phase ++ rest) book p) → 1 ≤ k → FreesItsOwn k at.asked phase → book1.names ≡ book.names
-    → ArePlaced book1 0 (names_asked (own_acts k phase)) → requests_in requests ≡ [] → own_costs_of k (own_acts k phase) ≤ room_for requests → names ≡ p.names → KnowsNames f (own_acts k phase) (table book1 requests) names
+pub names_before : {f : Profile} {book : NameBook} {p : Progress} {names : List Named} (k : ℕ) (phase rest : List Op) (book1 : NameBook) (requests : Requests)
+      (at : NamesAt f (phase ++ rest) book p)
+    → 1 ≤ k → FreesItsOwn k at.asked phase → book1.names ≡ book.names
+    → ArePlaced book1 0 (names_asked (own_acts k phase)) → requests_in requests ≡ [] → own_costs_of k (own_acts k phase) ≤ room_for requests → names ≡ p.names
+    → KnowsNames f (own_acts k phase) (table book1 requests) names
 names_before {f} {book} k phase rest book1 requests at some frees same placed none room are =
     let few = own_asked k phase in
     knows_by book1 requests at same none are (own_acts k phase)
     (own_fit f (names_held book.names) k at.asked at.asked phase some (λ n is. is) (sound_front f at.asked phase rest at.sound) (above_front f phase rest at.above) (below_front (names_held book.names) phase rest at.below) frees) placed (omega (arith, few, room))
 
 -- ---- before the first phase no name stands for a block
-unfoldable pub names_at_start : (f : Profile) (ops : List Op) (book : NameBook) → AreSound f [] ops → AllByRecursion (KeepsAbove f) ops → AreBelow (names_held book.names) ops → ((n : ℕ) → block_named book.names n ≡ None) → NamesAt f ops book at_start
+unfoldable pub names_at_start : (f : Profile) (ops : List Op) (book : NameBook) → AreSound f [] ops → AllByRecursion (KeepsAbove f) ops
+    → AreBelow (names_held book.names) ops → ((n : ℕ) → block_named book.names n ≡ None) → NamesAt f ops book at_start
 names_at_start f ops book sound above below none = record {
   asked = [];
   sound = sound;

@@ -26,10 +26,12 @@ none_yet n k = elim (cases_lt k n) [
 abbrev pub asks : ℕ → List Op → List ℕ
 asks k ops = names_asked (own_acts k ops)
 
-own_one : (t : Bool) (o : Option ℕ) (op : Op) (acts : List Act) → names_asked (if t then act_kept o op ∷ (Settles op.actor ∷ acts) else acts) ≡ (if t then name_asked op.what else []) ++ names_asked acts
+own_one : (t : Bool) (o : Option ℕ) (op : Op) (acts : List Act)
+    → names_asked (if t then act_kept o op ∷ (Settles op.actor ∷ acts) else acts) ≡ (if t then name_asked op.what else []) ++ names_asked acts
 own_one true o op acts = ap (λ (ns : List ℕ). ns ++ names_asked acts) (kept_asks o op)
 own_one false o op acts = refl
 
+-- The names that an actor asks for by one operation more in front are that one's, if it is its own, and the others.
 pub asks_more : (k : ℕ) (op : Op) (ops : List Op) → asks k (op ∷ ops) ≡ (if op.actor == k then name_asked op.what else []) ++ asks k ops
 asks_more k op ops = own_one (op.actor == k) (keeper_in op.what) op (own_acts k ops)
 
@@ -56,6 +58,7 @@ asks_few k (op ∷ ops) =
     let both = ap (λ (ns : List ℕ). length ns) (asks_more k op ops) ∙ length-append (if op.actor == k then name_asked op.what else []) (asks k ops) in
     omega (arith, rest, one, both)
 
+-- An actor asks for at most one name an operation.
 pub count_small : (k : ℕ) (ops : List Op) (i : ℕ) → i < length ops → length (asks k (take i ops)) ≤ i
 count_small k ops i lt =
     let few = asks_few k (take i ops) in
@@ -65,7 +68,8 @@ count_small k ops i lt =
 -- ---- a new name is none of those before
 
 -- not asked for afterwards: neither before nor by the operation
-pub not_before : (what : What) (asked : List ℕ) (n : ℕ) → is_asked (asked_after what asked) n ≡ false → (is_asked (name_asked what) n ≡ false) × (is_asked asked n ≡ false)
+pub not_before : (what : What) (asked : List ℕ) (n : ℕ) → is_asked (asked_after what asked) n ≡ false
+    → (is_asked (name_asked what) n ≡ false) × (is_asked asked n ≡ false)
 not_before (Alloc name heap size align) asked n none = let both = or_parts (name == n) (is_asked asked n) none in (ap (λ (t : Bool). t || false) both.0, both.1)
 not_before (Guarded keeper name heap size align) asked n none = let both = or_parts (name == n) (is_asked asked n) none in (ap (λ (t : Bool). t || false) both.0, both.1)
 not_before (Remake name old heap size align) asked n none = let both = or_parts (name == n) (is_asked asked n) none in (ap (λ (t : Bool). t || false) both.0, both.1)
@@ -85,11 +89,13 @@ not_asked k (op ∷ ops) asked n none =
     let one = not_before op.what asked n (never_before ops (asked_after op.what asked) n none) in
     ap (λ (ns : List ℕ). is_asked ns n) (asks_more k op ops) ∙ if_none (op.actor == k) (name_asked op.what) (asks k ops) n one.0 (not_asked k ops (asked_after op.what asked) n none)
 
-sound_at : (f : Profile) (asked : List ℕ) (ops : List Op) (i : ℕ) (d : Op) → AreSound f asked ops → i < length ops → IsSoundWhat f (asked_by asked (take i ops)) (get_or ops i d).what
+sound_at : (f : Profile) (asked : List ℕ) (ops : List Op) (i : ℕ) (d : Op) → AreSound f asked ops → i < length ops
+    → IsSoundWhat f (asked_by asked (take i ops)) (get_or ops i d).what
 sound_at f asked [] i d sound lt = absurd (let bad : i < 0 = lt in omega (arith, bad))
 sound_at f asked (op ∷ ops) zero d sound lt = sound.1
 sound_at f asked (op ∷ ops) (suc i) d sound lt = sound_at f (asked_after op.what asked) ops i d sound.2 (omega (arith, lt))
 
+-- Each operation of those below a limit is below it.
 pub below_at : (limit : ℕ) (ops : List Op) (i : ℕ) (d : Op) → AreBelow limit ops → i < length ops → IsBelow limit (get_or ops i d).what
 below_at limit [] i d below lt = absurd (let bad : i < 0 = lt in omega (arith, bad))
 below_at limit (op ∷ ops) zero d below lt = below.0
@@ -110,7 +116,8 @@ asks_below limit (Remake n old heap size align) name below is = subst (λ (m : �
 asks_below limit what name below is = absurd (let bad : [] ≡ name ∷ [] = is in cc)
 
 -- the name of the operation at a place is new to each thread
-new_name : (f : Profile) (asked : List ℕ) (ops : List Op) (i : ℕ) (d : Op) (name : ℕ) → AreSound f asked ops → i < length ops → name_asked (get_or ops i d).what ≡ name ∷ [] → (k : ℕ) → is_asked (asks k (take i ops)) name ≡ false
+new_name : (f : Profile) (asked : List ℕ) (ops : List Op) (i : ℕ) (d : Op) (name : ℕ) → AreSound f asked ops → i < length ops
+    → name_asked (get_or ops i d).what ≡ name ∷ [] → (k : ℕ) → is_asked (asks k (take i ops)) name ≡ false
 new_name f asked ops i d name sound lt is k = not_asked k (take i ops) asked name (asks_new f (asked_by asked (take i ops)) (get_or ops i d).what name (sound_at f asked ops i d sound lt) is)
 
 -- ---- a place is set
@@ -127,20 +134,24 @@ set_other old new name place n sets other = sets n ∙ ap (λ (t : Bool). if t t
 apart : (x name : ℕ) → x == name ≡ false → name ≢ x
 apart x name none is = true≢false (sym (eq-eqb x name (sym is)) ∙ none)
 
-still_placed : (old new : NameBook) (name place i : ℕ) (xs : List ℕ) → SetsPlace old new name place → is_asked xs name ≡ false → ArePlaced old i xs → ArePlaced new i xs
+still_placed : (old new : NameBook) (name place i : ℕ) (xs : List ℕ) → SetsPlace old new name place → is_asked xs name ≡ false → ArePlaced old i xs
+    → ArePlaced new i xs
 still_placed old new name place i [] sets none placed = tt
 still_placed old new name place i (x ∷ xs) sets none placed =
     let both = or_parts (x == name) (is_asked xs name) none in
     (set_other old new name place x sets (apart x name both.0) ∙ placed.0, still_placed old new name place (i + 1) xs sets both.1 placed.1)
 
-one_more : (t : Bool) (old new : NameBook) (name : ℕ) (xs : List ℕ) → (t ≡ true → place_in new name ≡ length xs) → ArePlaced new 0 xs → ArePlaced new 0 (xs ++ (if t then name ∷ [] else []))
+one_more : (t : Bool) (old new : NameBook) (name : ℕ) (xs : List ℕ) → (t ≡ true → place_in new name ≡ length xs) → ArePlaced new 0 xs
+    → ArePlaced new 0 (xs ++ (if t then name ∷ [] else []))
 one_more true old new name xs here placed = let at = here refl in placed_all new 0 xs (name ∷ []) placed (omega (arith, at), tt)
 one_more false old new name xs here placed = subst (λ (ns : List ℕ). ArePlaced new 0 ns) (sym (append-nil xs)) placed
 
 -- what each thread asked for, after the operation at a place
-asks_next : (k : ℕ) (ops : List Op) (i : ℕ) (d : Op) (names : List ℕ) → i < length ops → name_asked (get_or ops i d).what ≡ names → asks k (take (i + 1) ops) ≡ asks k (take i ops) ++ (if (get_or ops i d).actor == k then names else [])
+asks_next : (k : ℕ) (ops : List Op) (i : ℕ) (d : Op) (names : List ℕ) → i < length ops → name_asked (get_or ops i d).what ≡ names
+    → asks k (take (i + 1) ops) ≡ asks k (take i ops) ++ (if (get_or ops i d).actor == k then names else [])
 asks_next k ops i d names lt is = ap (λ (xs : List Op). asks k xs) (take_more ops i d lt) ∙ asks_last k (take i ops) (get_or ops i d) ∙ ap (λ (ns : List ℕ). asks k (take i ops) ++ (if (get_or ops i d).actor == k then ns else [])) is
 
+-- Two numbers that test as the same are the same.
 pub is_same : (a k : ℕ) → a == k ≡ true → a ≡ k
 is_same a k is = elim (cases_eq a k) [
   | inl same ↦ same
@@ -148,7 +159,8 @@ is_same a k is = elim (cases_eq a k) [
 ]
 
 -- the next operation asks for a name
-pub placed_next : (f : Profile) (asked : List ℕ) (old new : NameBook) (ops : List Op) (i : ℕ) (d : Op) (name place : ℕ) → AreSound f asked ops → i < length ops → name_asked (get_or ops i d).what ≡ name ∷ [] → SetsPlace old new name place
+pub placed_next : (f : Profile) (asked : List ℕ) (old new : NameBook) (ops : List Op) (i : ℕ) (d : Op) (name place : ℕ) → AreSound f asked ops → i < length ops
+    → name_asked (get_or ops i d).what ≡ name ∷ [] → SetsPlace old new name place
     → place ≡ length (asks (get_or ops i d).actor (take i ops)) → (k : ℕ) → ArePlaced old 0 (asks k (take i ops)) → ArePlaced new 0 (asks k (take (i + 1) ops))
 placed_next f asked old new ops i d name place sound lt is sets count k placed =
     let a = (get_or ops i d).actor in
@@ -173,7 +185,9 @@ count_next : (ops : List Op) (i : ℕ) (d : Op) (name k : ℕ) → i < length op
 count_next ops i d name k lt is =
     ap (λ (ns : List ℕ). length ns) (asks_next k ops i d (name ∷ []) lt is) ∙ if_length ((get_or ops i d).actor == k) (asks k (take i ops)) name 0
 
-pub counted : (ops : List Op) (i : ℕ) (d : Op) (name k place old : ℕ) → i < length ops → name_asked (get_or ops i d).what ≡ name ∷ [] → place ≡ length (asks (get_or ops i d).actor (take i ops)) → old ≡ length (asks k (take i ops))
+-- An operation that asks for a name makes the names of its actor one more, and of no other.
+pub counted : (ops : List Op) (i : ℕ) (d : Op) (name k place old : ℕ) → i < length ops → name_asked (get_or ops i d).what ≡ name ∷ []
+    → place ≡ length (asks (get_or ops i d).actor (take i ops)) → old ≡ length (asks k (take i ops))
     → (if (get_or ops i d).actor == k then place + 1 else old) ≡ length (asks k (take (i + 1) ops))
 counted ops i d name k place old lt is here there =
     count_if (get_or ops i d).actor k place old (λ j. length (asks j (take i ops))) here there ∙ sym (count_next ops i d name k lt is)
@@ -183,5 +197,7 @@ if_nothing : (t : Bool) (xs : List ℕ) → xs ++ (if t then [] else []) ≡ xs
 if_nothing true xs = append-nil xs
 if_nothing false xs = append-nil xs
 
-pub asks_same : (k : ℕ) (ops : List Op) (i : ℕ) (d : Op) → i < length ops → name_asked (get_or ops i d).what ≡ [] → asks k (take (i + 1) ops) ≡ asks k (take i ops)
+-- An operation that asks for no name leaves the names asked for as they are.
+pub asks_same : (k : ℕ) (ops : List Op) (i : ℕ) (d : Op) → i < length ops → name_asked (get_or ops i d).what ≡ []
+    → asks k (take (i + 1) ops) ≡ asks k (take i ops)
 asks_same k ops i d lt none = asks_next k ops i d [] lt none ∙ if_nothing ((get_or ops i d).actor == k) (asks k (take i ops))

@@ -35,6 +35,7 @@ of_one j k rs each = all_map (λ r. (n : ℕ) → is_of n r ≡ (j == n)) (IsOfT
 of_other : (j k : ℕ) (rs : List Record) → EachOf k rs → EachOfTwo j k rs
 of_other j k rs each = all_map (λ r. (n : ℕ) → is_of n r ≡ (k == n)) (IsOfTwo j k) rs (λ r is. inr is) each
 
+-- Records that are each of one of two actors are so together.
 pub two_both : (j k : ℕ) (xs ys : List Record) → EachOfTwo j k xs → EachOfTwo j k ys → EachOfTwo j k (xs ++ ys)
 two_both j k xs ys a b = all_both (IsOfTwo j k) xs ys a b
 
@@ -52,7 +53,8 @@ head_cost op =
 
 -- ---- the keeper, where the thread alone acts
 -- it waits still, where its part and its book are as they were
-waits_still : (f : Profile) (keeper : ℕ) (kept kept' : Keeping) (later : LaterKept) (p q : Progress) → KeptStands kept kept' p.list q.list → part keeper q.list ≡ part keeper p.list → q.books keeper ≡ p.books keeper → KeeperWaits f keeper [] kept later p → KeeperWaits f keeper [] kept' later q
+waits_still : (f : Profile) (keeper : ℕ) (kept kept' : Keeping) (later : LaterKept) (p q : Progress) → KeptStands kept kept' p.list q.list
+    → part keeper q.list ≡ part keeper p.list → q.books keeper ≡ p.books keeper → KeeperWaits f keeper [] kept later p → KeeperWaits f keeper [] kept' later q
 waits_still f keeper NoKeeper NoKeeper later p q stands parts books waits = tt
 waits_still f keeper (OneKeeper old) (OneKeeper new) later p q stands parts books waits = (tt, keeper_still stands parts books waits.1)
 waits_still f keeper _ _ later p q stands parts books waits = absurd stands
@@ -62,15 +64,18 @@ pub kept_same : (kept : Keeping) (l : Whole) → KeptStands kept kept l l
 kept_same NoKeeper l = tt
 kept_same (OneKeeper has) l = record { desk = record { seat_is = refl; stands = λ stood same. stood }; book = refl; out = refl }
 
-pub nothing_kept : (keeper : ℕ) (kept kept' : Keeping) (l m : Whole) (said : List Record) → KeptStands kept kept' l m → records_by keeper said ≡ [] → KeptPushed keeper said kept kept'
+-- A keeper that stood still and said nothing has its records as they were.
+pub nothing_kept : (keeper : ℕ) (kept kept' : Keeping) (l m : Whole) (said : List Record) → KeptStands kept kept' l m → records_by keeper said ≡ []
+    → KeptPushed keeper said kept kept'
 nothing_kept keeper NoKeeper NoKeeper l m said stands none = none
 nothing_kept keeper (OneKeeper old) (OneKeeper new) l m said stands none =
     (ap records_in stands.out ∙ sym (ap (λ (rs : List Record). records_in old.out ++ rs) none ∙ append-nil (records_in old.out)), ap room_of stands.out, ap size_of_book stands.book)
 nothing_kept keeper _ _ l m said stands none = absurd stands
 
-pub nobody_still : (keeper : ℕ) (kept : Keeping) (p q : Progress) → part keeper q.list ≡ part keeper p.list → KeptStill keeper kept p q
-nobody_still keeper NoKeeper p q parts = parts
-nobody_still keeper (OneKeeper has) p q parts = tt
+-- Where there is no keeper and its part of the list is the same, nobody made its steps.
+pub still_without_keeper : (keeper : ℕ) (kept : Keeping) (p q : Progress) → part keeper q.list ≡ part keeper p.list → KeptStill keeper kept p q
+still_without_keeper keeper NoKeeper p q parts = parts
+still_without_keeper keeper (OneKeeper has) p q parts = tt
 
 owes_same : (f : Profile) (kept kept' : Keeping) (l m : Whole) (v : View) → KeptStands kept kept' l m → owed_of f kept' v ≡ owed_of f kept v
 owes_same f NoKeeper NoKeeper l m v stands = refl
@@ -78,8 +83,11 @@ owes_same f (OneKeeper old) (OneKeeper new) l m v stands = ap (λ (b : GuardBook
 owes_same f _ _ l m v stands = absurd stands
 
 -- an act of the thread alone
-alone_acts : {f : Profile} {k : ℕ} {acts : List Act} {came : List Named} {old new : Here} {later : Later} {p : Progress} (keeper : ℕ) (kept kept' : Keeping) (more : LaterKept) → k ≢ keeper → KeeperWaits f keeper [] kept more p
-    → (did : ThreadActs f k acts came [] old new later p) → KeptStands kept kept' p.list did.reached.list → PairActs f k keeper acts came old new kept kept' later more p
+alone_acts : {f : Profile} {k : ℕ} {acts : List Act} {came : List Named} {old new : Here} {later : Later} {p : Progress} (keeper : ℕ) (kept kept' : Keeping)
+      (more : LaterKept)
+    → k ≢ keeper → KeeperWaits f keeper [] kept more p
+    → (did : ThreadActs f k acts came [] old new later p) → KeptStands kept kept' p.list did.reached.list
+    → PairActs f k keeper acts came old new kept kept' later more p
 alone_acts {f} {k} {acts} {came} {old} {new} {later} {p} keeper kept kept' more apart waits did stands =
     let parts : part keeper did.reached.list ≡ part keeper p.list = ap (λ (l : Whole). part keeper l) did.moves.list_is ∙ part_of_others keeper k did.moves.steps p.list apart in
     let owed = owes_same f kept kept' p.list did.reached.list (part keeper did.reached.list) stands ∙ ap (λ (w : View). owed_of f kept w) parts in
@@ -93,14 +101,15 @@ alone_acts {f} {k} {acts} {came} {old} {new} {later} {p} keeper kept kept' more 
       pushed = did.pushed ∙ ap (λ (rs : List Record). records_in old.out ++ rs) (sym (all_by k did.own did.each));
       room = did.room;
       kept_pushed = nothing_kept keeper kept kept' p.list did.reached.list did.own stands (none_by keeper k did.own did.each apart);
-      still = nobody_still keeper kept p did.reached parts;
+      still = still_without_keeper keeper kept p did.reached parts;
       each = of_one k keeper did.own did.each;
       names = did.names;
       paid = omega (arith, did.paid, owed);
     }
 
 -- ---- the keeper first
-module _ {f : Profile} {keeper : ℕ} {r : Request} {block : Option Block} {h h' : KeeperHas} {more : LaterKept} {p : Progress} (op : Op) (apart : op.actor ≢ keeper) (asks : request_in op.what ≡ Some r) (kept : keeper_in op.what ≡ Some keeper)
+module _ {f : Profile} {keeper : ℕ} {r : Request} {block : Option Block} {h h' : KeeperHas} {more : LaterKept} {p : Progress} (op : Op)
+    (apart : op.actor ≢ keeper) (asks : request_in op.what ≡ Some r) (kept : keeper_in op.what ≡ Some keeper)
     (tries : KeeperTries f keeper r block h h' more p) where
   abbrev k : ℕ
   k = op.actor
@@ -119,11 +128,14 @@ module _ {f : Profile} {keeper : ℕ} {r : Request} {block : Option Block} {h h'
   no_own : records_by k told ≡ []
   no_own = none_by k keeper told tries.each (λ e. apart (sym e))
 
-  of_guard : {came : List Named} {old new : Here} {h'' : KeeperHas} {later : Later} → PairActs f k keeper (Guards keeper op ∷ (Settles k ∷ [])) came old new (OneKeeper h) (OneKeeper h'') later more p → PairActs f k keeper (head_acts op) came old new (OneKeeper h) (OneKeeper h'') later more p
+  of_guard : {came : List Named} {old new : Here} {h'' : KeeperHas} {later : Later}
+      → PairActs f k keeper (Guards keeper op ∷ (Settles k ∷ [])) came old new (OneKeeper h) (OneKeeper h'') later more p
+      → PairActs f k keeper (head_acts op) came old new (OneKeeper h) (OneKeeper h'') later more p
   of_guard {came} {old} {new} {h''} {later} acts = subst (λ (o : Option ℕ). PairActs f k keeper (act_kept o op ∷ (Settles k ∷ [])) came old new (OneKeeper h) (OneKeeper h'') later more p) (sym kept) acts
 
   -- The keeper gave a block. Of the thread only the runs that its cache noted are handed on.
-  given_acts : {σ σ' : Standing} {c c' : Cached} {out : Records} {later : Later} (b : Block) → block ≡ Some b → cost_of_what op.what ≡ cost_of_size r.size + 2 → StandsStill σ σ' p.list after.list → RestsAt f k σ c out (and_for (cost_of_what op.what) later) p → c' ≡ settled c
+  given_acts : {σ σ' : Standing} {c c' : Cached} {out : Records} {later : Later} (b : Block) → block ≡ Some b → cost_of_what op.what ≡ cost_of_size r.size + 2
+      → StandsStill σ σ' p.list after.list → RestsAt f k σ c out (and_for (cost_of_what op.what) later) p → c' ≡ settled c
       → PairActs f k keeper (head_acts op) (named_by op.what (Some b)) (here σ c out) (here σ' c' out) (OneKeeper h) (OneKeeper h') later more p
   given_acts {σ} {σ'} {c} {c'} {out} {later} b given cost stays at done =
       let midway = after_giving after r.name b in
@@ -156,8 +168,10 @@ module _ {f : Profile} {keeper : ℕ} {r : Request} {block : Option Block} {h h'
       }
 
   -- It gave none. The thread makes the request from there on.
-  left_acts : {σ σ' : Standing} {c : Cached} {out : Records} {new : Here} {h'' : KeeperHas} {later : Later} (came : Option Block) → block ≡ None → (did : ThreadActs f k (Operates op ∷ (Settles k ∷ [])) (named_by op.what came) [] (here σ' c out) new later after)
-      → HasStill h' h'' after.list did.reached.list → PairActs f k keeper (head_acts op) (named_by op.what came) (here σ c out) new (OneKeeper h) (OneKeeper h'') later more p
+  left_acts : {σ σ' : Standing} {c : Cached} {out : Records} {new : Here} {h'' : KeeperHas} {later : Later} (came : Option Block) → block ≡ None
+      → (did : ThreadActs f k (Operates op ∷ (Settles k ∷ [])) (named_by op.what came) [] (here σ' c out) new later after)
+      → HasStill h' h'' after.list did.reached.list
+      → PairActs f k keeper (head_acts op) (named_by op.what came) (here σ c out) new (OneKeeper h) (OneKeeper h'') later more p
   left_acts {σ} {σ'} {c} {out} {new} {h''} {later} came none did still =
       let parts : part keeper did.reached.list ≡ part keeper after.list = ap (λ (l : Whole). part keeper l) did.moves.list_is ∙ part_of_others keeper k did.moves.steps after.list apart in
       let owed = ap (λ (b : GuardBook). owed_by_keeper f (guards_in b) (part keeper did.reached.list)) still.book ∙ ap (λ (w : View). owed_by_keeper f (guards_in h'.book) w) parts in
@@ -192,11 +206,14 @@ kept_by : (op : Op) (task : Task) → op.what ≡ what_of task → keeper_in op.
 kept_by op task asks = ap (λ (w : What). keeper_in w) asks ∙ ap (λ (w : Work). of_task keeper_of w) (task_of task)
 
 -- the keeper that waits is the one that keeps the guard
-its_keeper : {f : Profile} {keeper : ℕ} {p : Progress} {has : KeeperHas} (more : LaterKept) (op : Op) (rest : List Act) (k : ℕ) → keeper_in op.what ≡ Some k → KeeperWaits f keeper (act_kept (keeper_in op.what) op ∷ rest) (OneKeeper has) more p → keeper_in op.what ≡ Some keeper
+its_keeper : {f : Profile} {keeper : ℕ} {p : Progress} {has : KeeperHas} (more : LaterKept) (op : Op) (rest : List Act) (k : ℕ) → keeper_in op.what ≡ Some k
+    → KeeperWaits f keeper (act_kept (keeper_in op.what) op ∷ rest) (OneKeeper has) more p → keeper_in op.what ≡ Some keeper
 its_keeper {keeper = keeper} more op rest k is waits = let same : k ≡ keeper = subst (λ (o : Option ℕ). IsTriedBy keeper (act_kept o op)) is waits.0.0 in is ∙ ap (λ (j : ℕ). Some j) same
 
 -- before it
-pub may_try_task : (f : Profile) (keeper limit : ℕ) (asked : List ℕ) (more : LaterKept) (p : Progress) (task : Task) (op : Op) (rest : List Act) (kept : Keeping) → op.what ≡ what_of task → IsFitWhat f limit asked op.what
+pub may_try_task : (f : Profile) (keeper limit : ℕ) (asked : List ℕ) (more : LaterKept) (p : Progress) (task : Task) (op : Op) (rest : List Act)
+      (kept : Keeping)
+    → op.what ≡ what_of task → IsFitWhat f limit asked op.what
     → KeeperWaits f keeper (act_kept (keeper_in op.what) op ∷ rest) kept more p → MayTryTask f keeper task kept (for_guards rest more) p
 may_try_task f keeper limit asked more p (Task.Guarded k name heap size align) op rest NoKeeper asks fit waits = absurd (subst (λ (o : Option ℕ). IsUnguarded (act_kept o op)) (kept_by op (Task.Guarded k name heap size align) asks) waits.0)
 may_try_task f keeper limit asked more p (Task.Guarded k name heap size align) op rest (OneKeeper has) asks fit waits =
@@ -206,20 +223,29 @@ may_try_task f keeper limit asked more p (Task.Guarded k name heap size align) o
 may_try_task f keeper limit asked more p task op rest kept asks fit waits = tt
 
 -- after it, where the keeper gave a block
-pub pair_given : {f : Profile} {keeper : ℕ} {p : Progress} {σ σ' : Standing} {c c' : Cached} {out : Records} {later : Later} (b : Block) (more : LaterKept) (task : Task) (op : Op) (rest : List Act) (kept kept' : Keeping) → op.what ≡ what_of task → (keeper_of task ≡ None → Some b ≡ None)
-    → op.actor ≢ keeper → KeeperWaits f keeper (act_kept (keeper_in op.what) op ∷ rest) kept more p → TriesTask f keeper task (Some b) σ σ' kept kept' (for_guards rest more) p → RestsAt f op.actor σ c out (and_for (cost_of_what op.what) later) p → c' ≡ settled c
-    → PairActs f op.actor keeper (head_acts op) (named_by op.what (Some b)) (here σ c out) (here σ' c' out) kept kept' later (for_guards rest more) p × MayStand f (Some b)
+pub pair_given : {f : Profile} {keeper : ℕ} {p : Progress} {σ σ' : Standing} {c c' : Cached} {out : Records} {later : Later} (b : Block) (more : LaterKept)
+      (task : Task) (op : Op) (rest : List Act) (kept kept' : Keeping)
+    → op.what ≡ what_of task → (keeper_of task ≡ None → Some b ≡ None)
+    → op.actor ≢ keeper → KeeperWaits f keeper (act_kept (keeper_in op.what) op ∷ rest) kept more p
+    → TriesTask f keeper task (Some b) σ σ' kept kept' (for_guards rest more) p → RestsAt f op.actor σ c out (and_for (cost_of_what op.what) later) p
+    → c' ≡ settled c
+    → PairActs f op.actor keeper (head_acts op) (named_by op.what (Some b)) (here σ c out) (here σ' c' out) kept kept' later (for_guards rest more) p
+      × MayStand f (Some b)
 pair_given b more (Task.Guarded k name heap size align) op rest (OneKeeper h) (OneKeeper h') asks guarded apart waits tries at done =
     (given_acts op apart (ap (λ (w : What). request_in w) asks) (its_keeper more op rest k (kept_by op (Task.Guarded k name heap size align) asks) waits) tries.0 b refl (ap (λ (w : What). cost_of_what w) asks) tries.1 at done, tries.0.given)
 pair_given b more (Task.Guarded k name heap size align) op rest _ _ asks guarded apart waits tries at done = absurd tries
 pair_given b more task op rest kept kept' asks guarded apart waits tries at done = absurd (let bad = guarded refl in cc)
 
 -- .. and where it gave none, or the task is no guarded request: the thread does it
-waits_past : (f : Profile) (keeper : ℕ) (more : LaterKept) (p : Progress) (op : Op) (rest : List Act) (kept : Keeping) → KeeperWaits f keeper (act_kept None op ∷ rest) kept more p → KeeperWaits f keeper [] kept (for_guards rest more) p
+waits_past : (f : Profile) (keeper : ℕ) (more : LaterKept) (p : Progress) (op : Op) (rest : List Act) (kept : Keeping)
+    → KeeperWaits f keeper (act_kept None op ∷ rest) kept more p → KeeperWaits f keeper [] kept (for_guards rest more) p
 waits_past f keeper more p op rest NoKeeper waits = tt
 waits_past f keeper more p op rest (OneKeeper has) waits = (tt, waits.1)
 
-may_still : {f : Profile} {k : ℕ} {what : What} {meant : Option Block} {σ σ' : Standing} {c : Cached} {out : Records} {later : Later} {p : Progress} (q : Progress) → StandsStill σ σ' p.list q.list → part k q.list ≡ part k p.list → q.caches k ≡ p.caches k → q.names ≡ p.names → MayOperate f k what meant (here σ c out) later p → MayOperate f k what meant (here σ' c out) later q
+may_still : {f : Profile} {k : ℕ} {what : What} {meant : Option Block} {σ σ' : Standing} {c : Cached} {out : Records} {later : Later} {p : Progress}
+      (q : Progress)
+    → StandsStill σ σ' p.list q.list → part k q.list ≡ part k p.list → q.caches k ≡ p.caches k → q.names ≡ p.names
+    → MayOperate f k what meant (here σ c out) later p → MayOperate f k what meant (here σ' c out) later q
 may_still {what = what} {meant = meant} q stays parts caches names may = record {
   rests = rests_still stays parts caches may.rests;
   limit = may.limit;
@@ -231,8 +257,11 @@ may_still {what = what} {meant = meant} q stays parts caches names may = record 
 }
 
 -- the thread may do the task then, from where the keeper's try led
-pub may_next : {f : Profile} {k keeper : ℕ} {p : Progress} {σ σ' : Standing} {c : Cached} {out : Records} {what : What} {meant : Option Block} {later : Later} (more : LaterKept) (task : Task) (kept kept' : Keeping) → (keeper_of task ≡ None → (σ' ≡ σ) × (kept' ≡ kept)) → k ≢ keeper
-    → TriesTask f keeper task None σ σ' kept kept' more p → MayOperate f k what meant (here σ c out) later p → (q : Progress) × MayOperate f k what meant (here σ' c out) later q
+pub may_next : {f : Profile} {k keeper : ℕ} {p : Progress} {σ σ' : Standing} {c : Cached} {out : Records} {what : What} {meant : Option Block} {later : Later}
+      (more : LaterKept) (task : Task) (kept kept' : Keeping)
+    → (keeper_of task ≡ None → (σ' ≡ σ) × (kept' ≡ kept)) → k ≢ keeper
+    → TriesTask f keeper task None σ σ' kept kept' more p → MayOperate f k what meant (here σ c out) later p
+    → (q : Progress) × MayOperate f k what meant (here σ' c out) later q
 may_next more (Task.Guarded keeper name heap size align) NoKeeper kept' same apart tries may = absurd tries
 may_next more (Task.Guarded keeper name heap size align) (OneKeeper h) NoKeeper same apart tries may = absurd tries
 may_next {k = j} {keeper = by} {p = p} more (Task.Guarded keeper name heap size align) (OneKeeper h) (OneKeeper h') same apart tries may =
@@ -243,9 +272,15 @@ may_next {f} {k = j} {p = p} {c = c} {out = out} {what = what} {meant = meant} {
 abbrev Law : Standing → Standing → Keeping → Keeping → Type 0
 Law desk desk' kept kept' = (l m : Whole) → StandsAt desk l → StandsAt desk' m → KeptStands kept kept' l m
 
-pub pair_left : {f : Profile} {keeper : ℕ} {p : Progress} {σ σ' : Standing} {c : Cached} {out : Records} {new : Here} {later : Later} {meant : Option Block} (came : Option Block) (more : LaterKept) (task : Task) (op : Op) (rest : List Act) (kept kept' kept'' : Keeping) → op.what ≡ what_of task
-    → (keeper_of task ≡ None → (σ' ≡ σ) × (kept' ≡ kept)) → op.actor ≢ keeper → KeeperWaits f keeper (act_kept (keeper_in op.what) op ∷ rest) kept more p → TriesTask f keeper task None σ σ' kept kept' (for_guards rest more) p → MayOperate f op.actor op.what meant (here σ c out) later p
-    → ((q : Progress) → MayOperate f op.actor op.what meant (here σ' c out) later q → ThreadActs f op.actor (Operates op ∷ (Settles op.actor ∷ [])) (named_by op.what came) [] (here σ' c out) new later q) → Law σ' new.desk kept' kept''
+-- What a keeper tried, and its thread did after it, is the operation of the pair.
+pub pair_left : {f : Profile} {keeper : ℕ} {p : Progress} {σ σ' : Standing} {c : Cached} {out : Records} {new : Here} {later : Later} {meant : Option Block}
+      (came : Option Block) (more : LaterKept) (task : Task) (op : Op) (rest : List Act) (kept kept' kept'' : Keeping)
+    → op.what ≡ what_of task
+    → (keeper_of task ≡ None → (σ' ≡ σ) × (kept' ≡ kept)) → op.actor ≢ keeper → KeeperWaits f keeper (act_kept (keeper_in op.what) op ∷ rest) kept more p
+    → TriesTask f keeper task None σ σ' kept kept' (for_guards rest more) p → MayOperate f op.actor op.what meant (here σ c out) later p
+    → ((q : Progress) → MayOperate f op.actor op.what meant (here σ' c out) later q
+        → ThreadActs f op.actor (Operates op ∷ (Settles op.actor ∷ [])) (named_by op.what came) [] (here σ' c out) new later q)
+    → Law σ' new.desk kept' kept''
     → PairActs f op.actor keeper (head_acts op) (named_by op.what came) (here σ c out) new kept kept'' later (for_guards rest more) p
 pair_left came more (Task.Guarded k name heap size align) op rest NoKeeper kept' kept'' asks same apart waits tries may does law = absurd tries
 pair_left came more (Task.Guarded k name heap size align) op rest (OneKeeper h) NoKeeper kept'' asks same apart waits tries may does law = absurd tries

@@ -22,14 +22,17 @@ standing_both : (xs ys : List Named) (n : ℕ) → standing_for (xs ++ ys) n ≡
 standing_both [] ys n = refl
 standing_both (x ∷ xs) ys n = if_else (x.name == n) x.block (standing_for xs n) (standing_for ys n) (standing_for (xs ++ ys) n) (standing_both xs ys n)
 
+-- The names of two lists are those of both, one after the other.
 pub names_both : (xs ys : List Named) → names_of (xs ++ ys) ≡ names_of xs ++ names_of ys
 names_both [] ys = refl
 names_both (x ∷ xs) ys = ap (λ (ns : List ℕ). x.name ∷ ns) (names_both xs ys)
 
+-- There are as many names as what they stand for.
 pub names_count : (xs : List Named) → length (names_of xs) ≡ length xs
 names_count [] = refl
 names_count (x ∷ xs) = let rest = names_count xs in omega (arith, rest)
 
+-- The names that two lists of acts ask for are those of both, one after the other.
 pub asked_both : (xs ys : List Act) → names_asked (xs ++ ys) ≡ names_asked xs ++ names_asked ys
 asked_both [] ys = refl
 asked_both (x ∷ xs) ys = ap (λ (ns : List ℕ). name_asked_by x ++ ns) (asked_both xs ys) ∙ sym (append_assoc (name_asked_by x) (names_asked xs) (names_asked ys))
@@ -51,6 +54,7 @@ placed_both book i (x ∷ xs) ys placed =
     let rest = placed_both book (i + 1) xs ys placed.1 in
     ((placed.0, rest.0), subst (λ (j : ℕ). ArePlaced book j ys) (omega arith) rest.1)
 
+-- Names that have their places, and others that have those behind them, have their places together.
 pub placed_all : (book : NameBook) (i : ℕ) (xs ys : List ℕ) → ArePlaced book i xs → ArePlaced book (i + length xs) ys → ArePlaced book i (xs ++ ys)
 placed_all book i [] ys one two = subst (λ (j : ℕ). ArePlaced book j ys) (omega arith) two
 placed_all book i (x ∷ xs) ys one two = (one.0, placed_all book (i + 1) xs ys one.1 (subst (λ (j : ℕ). ArePlaced book j ys) (omega arith) two))
@@ -72,7 +76,8 @@ before_none book i (r ∷ rs) n placed lt =
     skip r rs n (λ is. let same = ap (λ (m : ℕ). place_in book m) is in omega (arith, here, same, lt)) ∙ before_none book (i + 1) rs n placed.1 (omega (arith, lt))
 
 -- where each is at its place, the request at a name's place is the only one that can have it
-pub at_place : (book : NameBook) (i : ℕ) (rs : List Named) (n j : ℕ) → ArePlaced book i (names_of rs) → place_in book n ≡ i + j → standing_for rs n ≡ request_at rs j n
+pub at_place : (book : NameBook) (i : ℕ) (rs : List Named) (n j : ℕ) → ArePlaced book i (names_of rs) → place_in book n ≡ i + j
+    → standing_for rs n ≡ request_at rs j n
 at_place book i [] n j placed is = refl
 at_place book i (r ∷ rs) n zero placed is = ap (λ (o : Option (Option Block)). if r.name == n then Some r.block else o) (before_none book (i + 1) rs n placed.1 (omega (arith, is)))
 at_place book i (r ∷ rs) n (suc j) placed is =
@@ -80,33 +85,42 @@ at_place book i (r ∷ rs) n (suc j) placed is =
     skip r rs n (λ same. let there = ap (λ (m : ℕ). place_in book m) same in omega (arith, here, there, is)) ∙ at_place book (i + 1) rs n j placed.1 (omega (arith, is))
 
 -- the request at a place of the room
-at_index : (items : List Request) (i n : ℕ) (d : Request) → i < length items → request_at (map named_of items) i n ≡ (if (get_or items i d).name == n then Some (block_in (get_or items i d).meaning) else None)
+at_index : (items : List Request) (i n : ℕ) (d : Request) → i < length items
+    → request_at (map named_of items) i n ≡ (if (get_or items i d).name == n then Some (block_in (get_or items i d).meaning) else None)
 at_index [] i n d lt = absurd (omega (arith, lt))
 at_index (r ∷ items) zero n d lt = refl
 at_index (r ∷ items) (suc i) n d lt = at_index items i n d (omega (arith, lt))
 
-pub at_named : (items : List Request) (i n : ℕ) (d : Request) → i < length items → (get_or items i d).name ≡ n → Some (block_in (get_or items i d).meaning) ≡ request_at (map named_of items) i n
+-- The request at a place whose name is asked about tells what came of it.
+pub at_named : (items : List Request) (i n : ℕ) (d : Request) → i < length items → (get_or items i d).name ≡ n
+    → Some (block_in (get_or items i d).meaning) ≡ request_at (map named_of items) i n
 at_named items i n d lt same = sym (at_index items i n d lt ∙ ap (λ (t : Bool). if t then Some (block_in (get_or items i d).meaning) else None) (eq-eqb (get_or items i d).name n same))
 
-pub at_other : (items : List Request) (i n : ℕ) (d : Request) → i < length items → ((get_or items i d).name ≡ n → ⊥) → None ≡ request_at (map named_of items) i n
+-- The request at a place with another name tells nothing of the one asked about.
+pub at_other : (items : List Request) (i n : ℕ) (d : Request) → i < length items → ((get_or items i d).name ≡ n → ⊥)
+    → None ≡ request_at (map named_of items) i n
 at_other items i n d lt other = sym (at_index items i n d lt ∙ ap (λ (t : Bool). if t then Some (block_in (get_or items i d).meaning) else None) (ne_eqb (get_or items i d).name n other))
 
+-- Past the last request nothing is told of a name.
 pub at_past : (items : List Request) (i n : ℕ) → length items ≤ i → request_at (map named_of items) i n ≡ None
 at_past [] i n le = refl
 at_past (r ∷ items) zero n le = absurd (omega (arith, le))
 at_past (r ∷ items) (suc i) n le = at_past items i n (omega (arith, le))
 
 -- ---- after an operation
-both_ways : (t : Bool) (o : Option (Option Block)) (came base : Option Block) (old : Option (Option Block)) → (t ≡ true → o ≡ None) → came_to o base ≡ block_behind old
+both_ways : (t : Bool) (o : Option (Option Block)) (came base : Option Block) (old : Option (Option Block)) → (t ≡ true → o ≡ None)
+    → came_to o base ≡ block_behind old
     → came_to (or_else o (if t then Some came else None)) base ≡ block_behind (if t then Some came else old)
 both_ways t o came base old h i = grind arith
 
-stand_either : (f : Profile) (t : Bool) (o : Option (Option Block)) (came base : Option Block) → MayStand f came → MayStand f (came_to o base) → MayStand f (came_to (or_else o (if t then Some came else None)) base)
+stand_either : (f : Profile) (t : Bool) (o : Option (Option Block)) (came base : Option Block) → MayStand f came → MayStand f (came_to o base)
+    → MayStand f (came_to (or_else o (if t then Some came else None)) base)
 stand_either f true None came base new old = new
 stand_either f false None came base new old = old
 stand_either f _ _ came base new old = old
 
-not_yet : (book : NameBook) (rs : List Named) (ms : List ℕ) (name n : ℕ) → ArePlaced book 0 (names_of rs ++ (name ∷ ms)) → name == n ≡ true → standing_for rs n ≡ None
+not_yet : (book : NameBook) (rs : List Named) (ms : List ℕ) (name n : ℕ) → ArePlaced book 0 (names_of rs ++ (name ∷ ms)) → name == n ≡ true
+    → standing_for rs n ≡ None
 not_yet book rs ms name n placed is = elim (cases_eq name n) [
   | inl same ↦
       let both = placed_both book 0 (names_of rs) (name ∷ ms) placed in
@@ -117,14 +131,18 @@ not_yet book rs ms name n placed is = elim (cases_eq name n) [
 ]
 
 -- what each name stands for then, where the request's has its place next
-came_as : (rs more : List Named) (n : ℕ) (base : Option Block) (rs' : List Named) → rs' ≡ rs ++ more → came_to (standing_for rs' n) base ≡ came_to (or_else (standing_for rs n) (standing_for more n)) base
+came_as : (rs more : List Named) (n : ℕ) (base : Option Block) (rs' : List Named) → rs' ≡ rs ++ more
+    → came_to (standing_for rs' n) base ≡ came_to (or_else (standing_for rs n) (standing_for more n)) base
 came_as rs more n base rs' is = ap (λ (xs : List Named). came_to (standing_for xs n) base) is ∙ ap (λ (o : Option (Option Block)). came_to o base) (standing_both rs more n)
 
 came_same : (rs rs' : List Named) (n : ℕ) (base : Option Block) → rs' ≡ rs ++ [] → came_to (standing_for rs' n) base ≡ came_to (standing_for rs n) base
 came_same rs rs' n base is = ap (λ (xs : List Named). came_to (standing_for xs n) base) (is ∙ append-nil rs)
 
-pub tells_more : (book : NameBook) (rs rs' : List Named) (what : What) (came : Option Block) (names : List Named) (ms : List ℕ) (n : ℕ) (base : Option Block) → rs' ≡ rs ++ named_by what came → ArePlaced book 0 (names_of rs ++ (name_asked what ++ ms))
-    → came_to (standing_for rs n) base ≡ block_behind (standing_for names n) → came_to (standing_for rs' n) base ≡ block_behind (standing_for (named_by what came ++ names) n)
+-- After an operation the thread's requests tell of each name what the replay's names do.
+pub tells_more : (book : NameBook) (rs rs' : List Named) (what : What) (came : Option Block) (names : List Named) (ms : List ℕ) (n : ℕ) (base : Option Block)
+    → rs' ≡ rs ++ named_by what came → ArePlaced book 0 (names_of rs ++ (name_asked what ++ ms))
+    → came_to (standing_for rs n) base ≡ block_behind (standing_for names n)
+    → came_to (standing_for rs' n) base ≡ block_behind (standing_for (named_by what came ++ names) n)
 tells_more book rs rs' (Alloc name heap size align) came names ms n base is placed tells =
     came_as rs (named name came ∷ []) n base rs' is ∙ both_ways (name == n) (standing_for rs n) came base (standing_for names n) (not_yet book rs ms name n placed) tells
 tells_more book rs rs' (Guarded keeper name heap size align) came names ms n base is placed tells =
@@ -133,10 +151,13 @@ tells_more book rs rs' (Remake name old heap size align) came names ms n base is
     came_as rs (named name came ∷ []) n base rs' is ∙ both_ways (name == n) (standing_for rs n) came base (standing_for names n) (not_yet book rs ms name n placed) tells
 tells_more book rs rs' what came names ms n base is placed tells = came_same rs rs' n base is ∙ tells
 
-stand_same : (f : Profile) (rs rs' : List Named) (n : ℕ) (base : Option Block) → rs' ≡ rs ++ [] → MayStand f (came_to (standing_for rs n) base) → MayStand f (came_to (standing_for rs' n) base)
+stand_same : (f : Profile) (rs rs' : List Named) (n : ℕ) (base : Option Block) → rs' ≡ rs ++ [] → MayStand f (came_to (standing_for rs n) base)
+    → MayStand f (came_to (standing_for rs' n) base)
 stand_same f rs rs' n base is stands = subst (MayStand f) (sym (came_same rs rs' n base is)) stands
 
-pub stand_more : (f : Profile) (rs rs' : List Named) (what : What) (came : Option Block) (n : ℕ) (base : Option Block) → rs' ≡ rs ++ named_by what came → MayStand f came → MayStand f (came_to (standing_for rs n) base) → MayStand f (came_to (standing_for rs' n) base)
+-- After an operation what a name stands for by the thread's requests may stand in the region.
+pub stand_more : (f : Profile) (rs rs' : List Named) (what : What) (came : Option Block) (n : ℕ) (base : Option Block) → rs' ≡ rs ++ named_by what came
+    → MayStand f came → MayStand f (came_to (standing_for rs n) base) → MayStand f (came_to (standing_for rs' n) base)
 stand_more f rs rs' (Alloc name heap size align) came n base is new old = subst (MayStand f) (sym (came_as rs (named name came ∷ []) n base rs' is)) (stand_either f (name == n) (standing_for rs n) came base new old)
 stand_more f rs rs' (Guarded keeper name heap size align) came n base is new old = subst (MayStand f) (sym (came_as rs (named name came ∷ []) n base rs' is)) (stand_either f (name == n) (standing_for rs n) came base new old)
 stand_more f rs rs' (Remake name other heap size align) came n base is new old = subst (MayStand f) (sym (came_as rs (named name came ∷ []) n base rs' is)) (stand_either f (name == n) (standing_for rs n) came base new old)

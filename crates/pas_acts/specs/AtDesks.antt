@@ -59,7 +59,8 @@ pub record ThreadActs (f : Profile) (k : ℕ) (acts : List Act) (came : List Nam
 -- ---- the door
 -- What became of a door by the two acts of an operation: it was asked for a run where that makes a request for whole pages, and then handed the runs that the
 -- cache noted.
-abbrev pub GoesThrough : {Door : Type 0} → (Door → Door → ℕ → ℕ → Option ℕ → Type 0) → (Door → Door → ℕ → Range → Type 0) → (f : Profile) (op : Op) (p q : Progress) → Reaches f (Operates op ∷ (Settles op.actor ∷ [])) p q → Door → Door → Type 0
+abbrev pub GoesThrough : {Door : Type 0} → (Door → Door → ℕ → ℕ → Option ℕ → Type 0) → (Door → Door → ℕ → Range → Type 0)
+    → (f : Profile) (op : Op) (p q : Progress) → Reaches f (Operates op ∷ (Settles op.actor ∷ [])) p q → Door → Door → Type 0
 GoesThrough {Door} Answers HandsOn f op p q is door door' = (next : Door) × IsNamedFor f (Answers door next) (next ≡ door) (request_by p.names op.what) is.1.0.found × SettlesEach HandsOn (is.0.caches op.actor).noted next door'
 
 -- what is to be said of an idle thread, where it was stopped

@@ -54,7 +54,8 @@ pub record KeeperTries (f : Profile) (keeper : ℕ) (r : Request) (block : Optio
   pub room : room_of new.out ≡ room_of old.out
   pub size : size_of_book new.book ≡ size_of_book old.book
   pub each : EachOf keeper tried.records
-  pub paid : length tried.records + owed_by_keeper f (guards_in new.book) (part keeper (after_trying p keeper tried).list) ≤ cost_of_try r.size block + owed_by_keeper f (guards_in old.book) (part keeper p.list)
+  pub paid : length tried.records + owed_by_keeper f (guards_in new.book) (part keeper (after_trying p keeper tried).list)
+      ≤ cost_of_try r.size block + owed_by_keeper f (guards_in old.book) (part keeper p.list)
 
 -- the keeper lowered all its guards
 pub record KeeperLowers (f : Profile) (keeper : ℕ) (old new : KeeperHas) (later : LaterKept) (p : Progress) : Type 0 where

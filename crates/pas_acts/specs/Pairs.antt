@@ -106,7 +106,8 @@ pub record PairActs (f : Profile) (k keeper : ℕ) (acts : List Act) (came : Lis
   pub still : KeptStill keeper kept p reached
   pub each : EachOfTwo k keeper said
   pub names : reached.names ≡ came ++ p.names
-  pub paid : length said + (owed_events f new.cache (part k reached.list) + owed_of f kept' (part keeper reached.list)) ≤ own_costs_of k acts + (owed_events f old.cache (part k p.list) + owed_of f kept (part keeper p.list))
+  pub paid : length said + (owed_events f new.cache (part k reached.list) + owed_of f kept' (part keeper reached.list))
+      ≤ own_costs_of k acts + (owed_events f old.cache (part k p.list) + owed_of f kept (part keeper p.list))
 
 -- ---- a phase
 -- Thread k stands before these acts of its own, and its keeper, if it has one, waits for them.
@@ -130,4 +131,5 @@ pub record PairWorks (f : Profile) (k keeper : ℕ) (acts next : List Act) (desk
   pub book : has'.table.book ≡ has.table.book
   pub noted : names_of (requests_in has'.table.requests) ≡ names_of (requests_in has.table.requests) ++ names_asked acts
   pub room_noted : room_for has'.table.requests ≡ room_for has.table.requests
-  pub paid : length said + (owed_events f has'.cache (part k reached.list) + owed_of f kept' (part keeper reached.list)) ≤ own_costs_of k acts + (owed_events f has.cache (part k p.list) + owed_of f kept (part keeper p.list))
+  pub paid : length said + (owed_events f has'.cache (part k reached.list) + owed_of f kept' (part keeper reached.list))
+      ≤ own_costs_of k acts + (owed_events f has.cache (part k p.list) + owed_of f kept (part keeper p.list))

@@ -37,10 +37,12 @@ record Leaves (l l' : Whole) (rs rs' : List Record) : Type 0 where
   tidy : Each Tidy l → Each Tidy l'
   shown : EachShown rs → EachShown rs'
 
+-- Steps of one actor that leave its own part tidy leave each actor's part of the list tidy.
 pub tidy_piece : (k : ℕ) (steps : List Made) (l : Whole) → Each Tidy l → Tidy (steps ++ part k l) → Each Tidy (triples k steps ++ l)
 tidy_piece k steps l all new j = search (arith, cases_eq, part_of_own, part_of_others)
 
-leaves_piece : (f : Profile) (k : ℕ) (steps : List Made) (more : List Record) (l : Whole) (rs : List Record) → (AreOfRegion f steps → Tidy (part k l) → Tidy (steps ++ part k l)) → (AreOfRegion f steps → EachShown more)
+leaves_piece : (f : Profile) (k : ℕ) (steps : List Made) (more : List Record) (l : Whole) (rs : List Record)
+    → (AreOfRegion f steps → Tidy (part k l) → Tidy (steps ++ part k l)) → (AreOfRegion f steps → EachShown more)
     → Each (AreOfRegion f) (triples k steps ++ l) → Leaves l (triples k steps ++ l) rs (rs ++ more)
 leaves_piece f k steps more l rs piece shows all_of =
     let own : AreOfRegion f steps = of_front f steps (part k l) (subst (AreOfRegion f) (part_of_own k steps l) (all_of k)) in
@@ -65,7 +67,8 @@ left_at : (f : Profile) (p : Progress) {q r : Progress} → q ≡ r → AreLeft 
 left_at f p is left = subst (λ (x : Progress). AreLeft f p x) (sym is) left
 
 -- thread k was stopped, and something is said besides
-left_stopped : (f : Profile) (p : Progress) (k : ℕ) (steps : List Made) (c : Cached) (said : List Record) → IsStopped k (p.caches k) c steps → EachShown said → AreLeft f p (after_stop p k steps c said)
+left_stopped : (f : Profile) (p : Progress) (k : ℕ) (steps : List Made) (c : Cached) (said : List Record) → IsStopped k (p.caches k) c steps → EachShown said
+    → AreLeft f p (after_stop p k steps c said)
 left_stopped f p k steps c said is shown of =
     let v = part k p.list in
     leaves_piece f k steps (records_of (events_by k v steps) ++ said) p.list p.records (λ own tidy. stop_tidy f k (p.caches k) c steps v own is tidy)
@@ -126,6 +129,7 @@ later_kept : (t : Bool) (m : Made) (v : View) → KeptPart (if t then m ∷ v el
 later_kept true m v all = all.1
 later_kept false m v all = all
 
+-- A list keeps stamps to the epochs of ends where each actor's part of it does.
 pub parts_kept : (l : Whole) → ((k : ℕ) → KeptPart (part k l)) → AllKeepToEnds l
 parts_kept [] all = tt
 parts_kept (t ∷ l) all = (
@@ -133,7 +137,8 @@ parts_kept (t ∷ l) all = (
   parts_kept l (λ k. later_kept (t.actor == k) t.made (part k l) (all k)),
 )
 
-module _ (way : Way) (f : Profile) (acts : List Act) (reached : Progress) (whole : Whole) (answers : Reaches f acts at_start reached) (one_order : IsOneOrder way reached.list whole) (legal : Legal f whole) where
+module _ (way : Way) (f : Profile) (acts : List Act) (reached : Progress) (whole : Whole) (answers : Reaches f acts at_start reached)
+    (one_order : IsOneOrder way reached.list whole) (legal : Legal f whole) where
   same : (k : ℕ) → part k whole ≡ part k reached.list
   same = same_parts way reached.list whole one_order
 
@@ -153,6 +158,7 @@ module _ (way : Way) (f : Profile) (acts : List Act) (reached : Progress) (whole
   are_shown : EachShown reached.records
   are_shown = left.shown tt
 
+-- Each record of a replay can be shown as its line.
 pub can_be_shown : {way : Way} {plan : Plan} {whole : Whole} {records : List Record} → IsReplay way plan whole records → All CanShow records
 can_be_shown {way} {plan} {whole} {records} is = search (arith, are_shown, all_shown, each_arranged)
 
@@ -162,18 +168,24 @@ abbrev pub GoInOrder : (way : Way) (threads : ℕ) (f : Profile) (acts : List Ac
 GoInOrder InOrder threads f acts p p' is = GoByIndexes InOrder f acts p p' is × RestBetween InOrder threads f acts p p' is
 GoInOrder OnThreads threads f acts p p' is = Unit {0}
 
-by_indexes : (way : Way) (threads : ℕ) (f : Profile) (acts : List Act) (p p' : Progress) (is : Reaches f acts p p') → GoInOrder way threads f acts p p' is → GoByIndexes way f acts p p' is
+by_indexes : (way : Way) (threads : ℕ) (f : Profile) (acts : List Act) (p p' : Progress) (is : Reaches f acts p p') → GoInOrder way threads f acts p p' is
+    → GoByIndexes way f acts p p' is
 by_indexes InOrder threads f acts p p' is go = go.0
 by_indexes OnThreads threads f acts p p' is go = tt
 
-resting : (way : Way) (threads : ℕ) (f : Profile) (acts : List Act) (p p' : Progress) (is : Reaches f acts p p') → GoInOrder way threads f acts p p' is → RestBetween way threads f acts p p' is
+resting : (way : Way) (threads : ℕ) (f : Profile) (acts : List Act) (p p' : Progress) (is : Reaches f acts p p') → GoInOrder way threads f acts p p' is
+    → RestBetween way threads f acts p p' is
 resting InOrder threads f acts p p' is go = go.1
 resting OnThreads threads f acts p p' is go = tt
 
-pub replays : (way : Way) (plan : Plan) (reached : Progress) (whole : Whole) (records : List Record) → IsValid (region_of plan) → (answers : Reaches (region_of plan) (acts_of_plan plan) at_start reached)
-    → IsOneOrder way reached.list whole → AreInPhases (region_of plan) (acts_of_plan plan) at_start reached answers whole → GoByStages (region_of plan) (stages_of_plan plan) at_start reached [] whole
+-- Acts of a plan that were answered by a legal list, at whose end all actors have nothing, are a replay of the plan.
+pub replays : (way : Way) (plan : Plan) (reached : Progress) (whole : Whole) (records : List Record) → IsValid (region_of plan)
+    → (answers : Reaches (region_of plan) (acts_of_plan plan) at_start reached)
+    → IsOneOrder way reached.list whole → AreInPhases (region_of plan) (acts_of_plan plan) at_start reached answers whole
+    → GoByStages (region_of plan) (stages_of_plan plan) at_start reached [] whole
     → records ≡ arranged way (region_of plan).threads reached.records → Legal (region_of plan) whole → ((k : ℕ) → HasNothing (part k whole))
-    → AreRefusalsTrue way (region_of plan) (acts_of_plan plan) at_start reached answers → GoInOrder way (threads_of plan) (region_of plan) (acts_of_plan plan) at_start reached answers
+    → AreRefusalsTrue way (region_of plan) (acts_of_plan plan) at_start reached answers
+    → GoInOrder way (threads_of plan) (region_of plan) (acts_of_plan plan) at_start reached answers
     → AreOfThreads (threads_of plan) (acts_of_plan plan) → IsReplay way plan whole records
 replays way plan reached whole records valid answers one_order phases stages records_are legal nothing refusals go of = record {
   reached = reached;

@@ -4,7 +4,7 @@ use Rattle.std.proofs.Common.{length-append, nat_le, MatchResult}
 use Rattle.pas_profile.specs.declared.{name.Block.Block, name.Name.Name, profile.Profile.Profile, event.Event.Event, event.FreeFault.FreeFault}
 use Rattle.pas_steps.specs.declared.step.Made.{Made}
 use Rattle.pas_steps.specs.{Views.View, Events.events_by, Agreement.Agreed, Desks.Standing, Desks.CanCall}
-use Rattle.pas_steps.proofs.{Called.call_none, Called.call_as, Frames.events_append, Unknown.unknown_stays}
+use Rattle.pas_steps.proofs.{Called.call_none, Called.call_as, Frames.events_append, Unknown.unknown_no_more}
 use Rattle.pas_trace.specs.Asked.{request_of, cost_of_task}
 use Rattle.pas_trace.specs.declared.plan.{Task.Task, Work.Work, What.TheVariants.Raw}
 use Rattle.pas_report.specs.declared.record.Said.{Said}
@@ -25,30 +25,37 @@ pub taken_few : (f : Profile) (k : ℕ) (c c' : Cached) (entry : Entry) (steps :
 taken_few f k c c' entry steps v takes agreed =
     let events = full_events (nat_le 64 (length c.log)) k c.log takes.logs.kept c.noted c'.noted steps v takes.logs.emptied in
     let log = ap (λ (es : List Entry). length es) takes.logs.log_is ∙ length-append takes.logs.kept (entry ∷ []) in
-    omega (arith, events, log, unknown_stays f steps v agreed)
+    omega (arith, events, log, unknown_no_more f steps v agreed)
 
 refused_few : (f : Profile) (k : ℕ) (c c' : Cached) (name : Name) (steps : List Made) (fault : FreeFault) (v : View) → RefusesName f c c' name steps fault
     → length (events_by k v steps) + 1 + owed_events f c' (steps ++ v) ≤ 1 + owed_events f c v
 refused_few f k c c' name steps fault v refuses = search (arith, refuses.no_steps, refuses.cache)
 
+-- A free that was taken has its entry logged, and says nothing.
 pub frees_taken : {σ σ' : Standing} (entry : Entry) (c c' : Cached) (done : Unit {0}) → Frees entry c c' σ σ' (Ok done) → FreesOne entry c c' σ σ' None
 frees_taken {σ} entry c c' done frees = search (arith, taken_few)
 
-pub frees_refused : {σ σ' : Standing} {answer : Result (Unit {0}) FreeFault} (entry : Entry) (c c' : Cached) (fault : FreeFault) → Frees entry c c' σ σ' answer → answer ≡ Err fault → FreesOne entry c c' σ σ' (Some (said_of_fault entry.name fault))
+-- A free that was refused for a fault says which.
+pub frees_refused : {σ σ' : Standing} {answer : Result (Unit {0}) FreeFault} (entry : Entry) (c c' : Cached) (fault : FreeFault) → Frees entry c c' σ σ' answer
+    → answer ≡ Err fault → FreesOne entry c c' σ σ' (Some (said_of_fault entry.name fault))
 frees_refused {σ} {σ'} {answer} entry c c' fault frees is = search (arith, refused_few)
 
 -- ---- what is asked
 -- it asks its thread for a task that costs one event
-pub can_log : {σ : Standing} {task : Task} (c : Cached) (task' : Task) (block : Name) (spare : ℕ) → task ≡ task' → cost_of_task task' ≡ 1 → CanCall σ (MayPerform σ.seat.profile c (what_of task) spare) → CanCall σ (MayPerform σ.seat.profile c (Raw block) spare)
+pub can_log : {σ : Standing} {task : Task} (c : Cached) (task' : Task) (block : Name) (spare : ℕ) → task ≡ task' → cost_of_task task' ≡ 1
+    → CanCall σ (MayPerform σ.seat.profile c (what_of task) spare) → CanCall σ (MayPerform σ.seat.profile c (Raw block) spare)
 can_log {σ} {task} c task' block spare is one can =
     let cost = ap cost_of_work (task_of task) ∙ ap cost_of_task is ∙ one in
     record { view = can.view; whole = can.whole; stood = can.stood; met = let room = can.met.room in record { rest = can.met.rest; room = omega (arith, room, cost) } }
 
-pub fits_task : (f : Profile) (limit : ℕ) (asked : List ℕ) {task : Task} (task' : Task) → task ≡ task' → IsFitWhat f limit asked (what_of task) → IsFitTask f limit asked task'
+-- A task that is another one written otherwise fits where the operation of the other does.
+pub fits_task : (f : Profile) (limit : ℕ) (asked : List ℕ) {task : Task} (task' : Task) → task ≡ task' → IsFitWhat f limit asked (what_of task)
+    → IsFitTask f limit asked task'
 fits_task f limit asked {task} task' is fit = subst (λ (w : Work). IsFitWork f limit asked w) (task_of task ∙ ap (λ (t : Task). Work.Own t) is) fit
 
 -- a task without a new name asks no door
-pub not_asked : (f : Profile) (Answers : ℕ → ℕ → Option ℕ → Type 0) (Same : Type 0) (task : Task) (meant : Option Block) (found : Option ℕ) → request_of task ≡ None → Same → IsNamedFor f Answers Same (request_made (what_of task) meant) found
+pub not_asked : (f : Profile) (Answers : ℕ → ℕ → Option ℕ → Type 0) (Same : Type 0) (task : Task) (meant : Option Block) (found : Option ℕ)
+    → request_of task ≡ None → Same → IsNamedFor f Answers Same (request_made (what_of task) meant) found
 not_asked f Answers Same task meant found h same = grind arith
 
 -- ---- a free by a name of the trace
@@ -56,11 +63,14 @@ not_asked f Answers Same task meant found h same = grind arith
 behind : (o : Option (Option Block)) (b : Option Block) → o ≡ Some b → block_behind o ≡ b
 behind o b is = ap block_behind is
 
-pub stands_for : (names : List Named) (name : ℕ) (block : Option Block) → block_behind (standing_for names name) ≡ block → (b : Option Block) × (standing_for names name ≡ Some b) → standing_for names name ≡ Some block
+-- A name that was asked for and behind which a block is, or none, stands for that.
+pub stands_for : (names : List Named) (name : ℕ) (block : Option Block) → block_behind (standing_for names name) ≡ block
+    → (b : Option Block) × (standing_for names name ≡ Some b) → standing_for names name ≡ Some block
 stands_for names name block means known = known.1 ∙ ap (λ b. Some b) (sym (behind (standing_for names name) known.0 known.1) ∙ means)
 
 -- the name that is freed stands for the block
-freed_by_name : {σ σ' : Standing} {said : Option Said} (meant : Option Block) (c c' : Cached) (name : ℕ) (room : Option ℕ) (block : Block) → meant ≡ Some block → FreesOne (entry_with block.name room) c c' σ σ' said
+freed_by_name : {σ σ' : Standing} {said : Option Said} (meant : Option Block) (c c' : Cached) (name : ℕ) (room : Option ℕ) (block : Block) → meant ≡ Some block
+    → FreesOne (entry_with block.name room) c c' σ σ' said
     → PerformsMeant (what_of (Task.Free name room)) meant None c c' σ σ' said
 freed_by_name {σ} {σ'} {said} meant c c' name None block named frees = record {
   steps = frees.steps;
@@ -79,12 +89,15 @@ freed_by_name {σ} {σ'} {said} meant c c' name (Some room) block named frees = 
   others = λ none. refl;
 }
 
-pub performs_free : {σ σ' : Standing} {said : Option Said} (task : Task) (meant : Option Block) (c c' : Cached) (name : ℕ) (room : Option ℕ) (block : Block) → task ≡ Task.Free name room → meant ≡ Some block → FreesOne (entry_with block.name room) c c' σ σ' said
+-- A free of the block that a name stands for performs what the task means.
+pub performs_free : {σ σ' : Standing} {said : Option Said} (task : Task) (meant : Option Block) (c c' : Cached) (name : ℕ) (room : Option ℕ) (block : Block)
+    → task ≡ Task.Free name room → meant ≡ Some block → FreesOne (entry_with block.name room) c c' σ σ' said
     → PerformsMeant (what_of task) meant None c c' σ σ' said
 performs_free {σ} {σ'} {said} task meant c c' name room block is named frees = subst (λ t. PerformsMeant (what_of t) meant None c c' σ σ' said) (sym is) (freed_by_name meant c c' name room block named frees)
 
 -- its request was refused
-skipped : {σ : Standing} (meant : Option Block) (c : Cached) (name : ℕ) (room : Option ℕ) → meant ≡ None → PerformsMeant (what_of (Task.Free name room)) meant None c c σ σ (Some (Said.Skipped name))
+skipped : {σ : Standing} (meant : Option Block) (c : Cached) (name : ℕ) (room : Option ℕ) → meant ≡ None
+    → PerformsMeant (what_of (Task.Free name room)) meant None c c σ σ (Some (Said.Skipped name))
 skipped {σ} meant c name None named = record {
   steps = [];
   found = None;
@@ -102,11 +115,14 @@ skipped {σ} meant c name (Some room) named = record {
   others = λ none. refl;
 }
 
-pub performs_skip : {σ : Standing} (task : Task) (meant : Option Block) (c : Cached) (name : ℕ) (room : Option ℕ) → task ≡ Task.Free name room → meant ≡ None → PerformsMeant (what_of task) meant None c c σ σ (Some (Said.Skipped name))
+-- A free of a name whose request was refused performs what the task means: it is skipped.
+pub performs_skip : {σ : Standing} (task : Task) (meant : Option Block) (c : Cached) (name : ℕ) (room : Option ℕ) → task ≡ Task.Free name room → meant ≡ None
+    → PerformsMeant (what_of task) meant None c c σ σ (Some (Said.Skipped name))
 performs_skip {σ} task meant c name room is named = subst (λ t. PerformsMeant (what_of t) meant None c c σ σ (Some (Said.Skipped name))) (sym is) (skipped meant c name room named)
 
 -- a free by address and turn
-freed_raw : {σ σ' : Standing} {said : Option Said} (meant : Option Block) (c c' : Cached) (block : Name) (room : Option ℕ) → FreesOne (entry_with block room) c c' σ σ' said → PerformsMeant (what_of (Task.FreeRaw block room)) meant None c c' σ σ' said
+freed_raw : {σ σ' : Standing} {said : Option Said} (meant : Option Block) (c c' : Cached) (block : Name) (room : Option ℕ)
+    → FreesOne (entry_with block room) c c' σ σ' said → PerformsMeant (what_of (Task.FreeRaw block room)) meant None c c' σ σ' said
 freed_raw meant c c' block None frees = record {
   steps = frees.steps;
   found = None;
@@ -124,24 +140,29 @@ freed_raw meant c c' block (Some room) frees = record {
   others = λ none. refl;
 }
 
-pub performs_raw : {σ σ' : Standing} {said : Option Said} (task : Task) (meant : Option Block) (c c' : Cached) (block : Name) (room : Option ℕ) → task ≡ Task.FreeRaw block room → FreesOne (entry_with block room) c c' σ σ' said → PerformsMeant (what_of task) meant None c c' σ σ' said
+-- A free of a bare name performs what the task means.
+pub performs_raw : {σ σ' : Standing} {said : Option Said} (task : Task) (meant : Option Block) (c c' : Cached) (block : Name) (room : Option ℕ)
+    → task ≡ Task.FreeRaw block room → FreesOne (entry_with block room) c c' σ σ' said → PerformsMeant (what_of task) meant None c c' σ σ' said
 performs_raw {σ} {σ'} {said} task meant c c' block room is frees = subst (λ t. PerformsMeant (what_of t) meant None c c' σ σ' said) (sym is) (freed_raw meant c c' block room frees)
 
 -- ---- a flush and a stop
-pub performs_flush : {σ σ' : Standing} (task : Task) (meant : Option Block) (c c' : Cached) → task ≡ Task.Flush → FlushesLog c c' σ σ' → PerformsMeant (what_of task) meant None c c' σ σ' None
+pub performs_flush : {σ σ' : Standing} (task : Task) (meant : Option Block) (c c' : Cached) → task ≡ Task.Flush → FlushesLog c c' σ σ'
+    → PerformsMeant (what_of task) meant None c c' σ σ' None
 performs_flush {σ} {σ'} task meant c c' is flushes = subst (λ t. PerformsMeant (what_of t) meant None c c' σ σ' None) (sym is) record {
   steps = flushes.steps;
   found = None;
   calls = flushes.calls;
   few = λ v rest agreed.
       let none = ap (λ (d : Cached). length d.log) flushes.cache in
-      let unknown = unknown_stays σ.seat.profile flushes.steps v agreed in
+      let unknown = unknown_no_more σ.seat.profile flushes.steps v agreed in
       omega (arith, emptied_events σ.seat.actor c.log c.noted c'.noted flushes.steps v flushes.empties, none, unknown);
   answered = λ v l stood rest names means known. (record { empties = flushes.empties; cache = flushes.cache }, refl, refl);
   others = λ none. refl;
 }
 
-pub performs_stop : {σ σ' : Standing} (task : Task) (meant : Option Block) (c c' : Cached) → task ≡ Task.Stop → StopsCache c c' σ σ' → PerformsMeant (what_of task) meant None c c' σ σ' None
+-- A stop of the cache performs what the task means.
+pub performs_stop : {σ σ' : Standing} (task : Task) (meant : Option Block) (c c' : Cached) → task ≡ Task.Stop → StopsCache c c' σ σ'
+    → PerformsMeant (what_of task) meant None c c' σ σ' None
 performs_stop {σ} {σ'} task meant c c' is stops = subst (λ t. PerformsMeant (what_of t) meant None c c' σ σ' None) (sym is) record {
   steps = stops.stopped ++ stops.flushed;
   found = None;
@@ -150,7 +171,7 @@ performs_stop {σ} {σ'} task meant c c' is stops = subst (λ t. PerformsMeant (
       let events = emptied_events σ.seat.actor c.log c.noted c'.noted stops.flushed v stops.empties in
       let all = ap (λ (es : List Event). length es) (events_append σ.seat.actor stops.stopped stops.flushed v ∙ ap (λ (es : List Event). es ++ events_by σ.seat.actor v stops.flushed) (stops.silent σ.seat.actor (stops.flushed ++ v))) in
       let none = ap (λ (d : Cached). length d.log) stops.cache in
-      omega (arith, events, all, none, unknown_stays σ.seat.profile (stops.stopped ++ stops.flushed) v agreed);
+      omega (arith, events, all, none, unknown_no_more σ.seat.profile (stops.stopped ++ stops.flushed) v agreed);
   answered = λ v l stood rest names means known. (
     record {
       flushed = stops.flushed;

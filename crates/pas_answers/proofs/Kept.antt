@@ -11,6 +11,7 @@ use Rattle.pas_answers.specs.Calls.{what_of, MayStand, block_behind, IsMeant, na
 same_own : {a b : Task} → Work.Own a ≡ Work.Own b → a ≡ b
 same_own is = cc
 
+-- An operation that is a thread's own task is the operation of that task.
 pub own_what : (what : What) (task : Task) → work_of what ≡ Work.Own task → what ≡ what_of task
 own_what what task is = search (arith, same_own)
 
@@ -22,11 +23,13 @@ task_of task = grind arith
 pub freed_task : (block : ℕ → Option Block) (task : Task) → option_and_then block (freed_of task) ≡ freed_by block (what_of task)
 freed_task block task = ap (λ (w : Work). option_and_then block (of_task freed_of w)) (sym (task_of task))
 
+-- What a task's request comes to is named as by its operation.
 pub named_task : (task : Task) (came : Option Block) → named_with (request_of task) came ≡ named_by (what_of task) came
 named_task task came = ap (λ (w : Work). named_with (of_task request_of w) came) (sym (task_of task))
 
 -- what is said of each name is said of the freed or reallocated one
-pub meant_by : (block : ℕ → Option Block) (names : List Named) (what : What) → ((n : ℕ) → block n ≡ block_behind (standing_for names n)) → IsMeant names what (freed_by block what)
+pub meant_by : (block : ℕ → Option Block) (names : List Named) (what : What) → ((n : ℕ) → block n ≡ block_behind (standing_for names n))
+    → IsMeant names what (freed_by block what)
 meant_by block names what tells = grind arith
 
 -- the request that it makes by what names stand for
@@ -37,6 +40,7 @@ request_meant what names meant means = grind arith
 pub none_stands : (f : Profile) → MayStand f None
 none_stands f = λ b same. absurd (let bad : None ≡ Some b = same in cc)
 
+-- What the name that an operation frees or reallocates stands for may stand in the region, where each name's may.
 pub meant_stands : (f : Profile) (block : ℕ → Option Block) (what : What) → ((n : ℕ) → MayStand f (block n)) → MayStand f (freed_by block what)
 meant_stands f block (Free name) stand = stand name
 meant_stands f block (FreeSized name room) stand = stand name

@@ -20,10 +20,13 @@ same_names : (asked : List ℕ) {names names' : List Named} → names' ≡ names
 same_names asked same known = subst (λ (ns : List Named). AreKnown asked ns) (sym same) known
 
 -- a reallocation asks for its new name, which stands for this then
-remade_names : (f : Profile) (k name size align : ℕ) (o : Option (Option Block)) (b : Having) (a : Answer) → IsRemadeBy f k name size align o b a → (came : Option Block) × (a.names ≡ named name came ∷ b.names)
+remade_names : (f : Profile) (k name size align : ℕ) (o : Option (Option Block)) (b : Having) (a : Answer) → IsRemadeBy f k name size align o b a
+    → (came : Option Block) × (a.names ≡ named name came ∷ b.names)
 remade_names f k name size align o b a is = grind arith
 
-pub known_after : (f : Profile) (k : ℕ) (what : What) (asked : List ℕ) (names names' : List Named) (v : View) (c c' : Cached) (steps : List Made) (said : Option Said) (found : Option ℕ)
+-- After an operation was answered, each name that was asked for so far stands for something.
+pub known_after : (f : Profile) (k : ℕ) (what : What) (asked : List ℕ) (names names' : List Named) (v : View) (c c' : Cached) (steps : List Made)
+    (said : Option Said) (found : Option ℕ)
     → IsAnswered f k what (having names v c) (answer_of steps said found names' c') → AreKnown asked names → AreKnown (asked_after what asked) names'
 known_after f k (Alloc name heap size align) asked names names' l c c' steps said found answered known = subst (λ (ns : List Named). AreKnown (name ∷ asked) ns) (sym answered.names_are)
     (λ n is. one_more (name == n) (block_of answered.answer) (standing_for names n) (is_asked asked n) (known n) is)
@@ -40,12 +43,14 @@ known_after f k Stop asked names names' l c c' steps said found answered known =
 known_after f k what asked names names' l c c' steps said found answered known = absurd answered
 
 -- the name that an operation asked for stands for what it came to
-pub known_more : (what : What) (came : Option Block) (asked : List ℕ) (names : List Named) → AreKnown asked names → AreKnown (asked_after what asked) (named_by what came ++ names)
+pub known_more : (what : What) (came : Option Block) (asked : List ℕ) (names : List Named) → AreKnown asked names
+    → AreKnown (asked_after what asked) (named_by what came ++ names)
 known_more (Alloc name heap size align) came asked names known = λ n is. one_more (name == n) came (standing_for names n) (is_asked asked n) (known n) is
 known_more (Guarded keeper name heap size align) came asked names known = λ n is. one_more (name == n) came (standing_for names n) (is_asked asked n) (known n) is
 known_more (Remake name old heap size align) came asked names known = λ n is. one_more (name == n) came (standing_for names n) (is_asked asked n) (known n) is
 known_more what came asked names known = known
 
 -- a name that comes to stand for something is known, and so are those before it
-pub known_named : (name : ℕ) (came : Option Block) (asked : List ℕ) (names : List Named) → AreKnown asked names → AreKnown (name ∷ asked) (named name came ∷ names)
+pub known_named : (name : ℕ) (came : Option Block) (asked : List ℕ) (names : List Named) → AreKnown asked names
+    → AreKnown (name ∷ asked) (named name came ∷ names)
 known_named name came asked names known = λ n is. one_more (name == n) came (standing_for names n) (is_asked asked n) (known n) is

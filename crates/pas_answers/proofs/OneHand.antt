@@ -45,11 +45,13 @@ module _ (f : Profile) (owner : Owners) (w j : ℕ) (other : owner j ≢ w) wher
   put_by : (k : ℕ) (steps : List Made) (l : Whole) → owner k ≡ w → part j (triples k steps ++ l) ≡ part j l
   put_by k steps l its = part_of_others j k steps l (apart k its)
 
-  tried_by : (op : Op) (r : Request) (block : Option Block) (p q : Progress) → owner op.actor ≡ w → AnswersTried f op r block p q → part j q.list ≡ part j p.list
+  tried_by : (op : Op) (r : Request) (block : Option Block) (p q : Progress) → owner op.actor ≡ w → AnswersTried f op r block p q
+      → part j q.list ≡ part j p.list
   tried_by op r (Some block) p q its did = part_is j did
   tried_by op r None p q its did = part_is j did.2 ∙ put_by op.actor did.0.steps p.list its
 
-  guarded_by : (keeper : ℕ) (op : Op) (o : Option Request) (p q : Progress) → owner keeper ≡ w → owner op.actor ≡ w → AnswersGuarded f keeper op o p q → part j q.list ≡ part j p.list
+  guarded_by : (keeper : ℕ) (op : Op) (o : Option Request) (p q : Progress) → owner keeper ≡ w → owner op.actor ≡ w → AnswersGuarded f keeper op o p q
+      → part j q.list ≡ part j p.list
   guarded_by keeper op None p q kept its did = absurd did
   guarded_by keeper op (Some r) p q kept its did = tried_by op r did.0.block (after_trying p keeper did.0) q its did.2 ∙ put_by keeper did.0.steps p.list kept
 
@@ -76,7 +78,8 @@ nothing_more : (v w : List Made) → v ++ w ≡ w → v ≡ []
 nothing_more [] w is = refl
 nothing_more (m ∷ v) w is = absurd (let n = ap length is in omega (arith, n, length-append v w))
 
-none_of_others : (f : Profile) (owner : Owners) (w : ℕ) (acts : List Act) (p q : Progress) (new : Whole) → AreHeldBy owner w acts → Reaches f acts p q → q.list ≡ new ++ p.list → (k : ℕ) → owner k ≢ w → part k new ≡ []
+none_of_others : (f : Profile) (owner : Owners) (w : ℕ) (acts : List Act) (p q : Progress) (new : Whole) → AreHeldBy owner w acts → Reaches f acts p q
+    → q.list ≡ new ++ p.list → (k : ℕ) → owner k ≢ w → part k new ≡ []
 none_of_others f owner w acts p q new its is told k other =
     nothing_more (part k new) (part k p.list) (sym (part_both k new p.list) ∙ (sym (ap (part k) told) ∙ acts_by f owner w k other acts p q its is))
 
@@ -93,7 +96,9 @@ same_if_alone owner w one other none same =
 abbrev pub IsOneHanded : Stage → Type 0
 IsOneHanded s = (w : ℕ) × AreHeldBy s.owner w s.acts
 
-pub one_handed_list : (f : Profile) (ss : List Stage) (p q : Progress) (before after : Whole) → AllByRecursion IsOneHanded ss → GoByStages f ss p q before after → before ≡ p.list → after ≡ q.list
+-- Where each stage has acts in one worker's hands alone, the list is in the order of the acts.
+pub one_handed_list : (f : Profile) (ss : List Stage) (p q : Progress) (before after : Whole) → AllByRecursion IsOneHanded ss → GoByStages f ss p q before after
+    → before ≡ p.list → after ≡ q.list
 one_handed_list f [] p q before after all go same = go.1 ∙ (same ∙ sym (ap (λ (r : Progress). r.list) go.0))
 one_handed_list f (s ∷ ss) p q before after all go same =
     let d = go.0 in

@@ -8,7 +8,8 @@ use Rattle.pas_cache.proofs.Budget.{emptied_events}
 
 -- ---- a log is emptied
 -- what is left of the log, and the events of its flush
-pub full_events : (full : Bool) (k : ℕ) (log kept : List Entry) (noted noted' : List EndedRun) (steps : List Made) (v : View) → EmptiesFull full k log kept noted noted' steps → length (events_by k v steps) + length kept ≡ length log
+pub full_events : (full : Bool) (k : ℕ) (log kept : List Entry) (noted noted' : List EndedRun) (steps : List Made) (v : View)
+    → EmptiesFull full k log kept noted noted' steps → length (events_by k v steps) + length kept ≡ length log
 full_events true k log kept noted noted' steps v empties =
     let none = ap (λ (es : List Entry). length es) empties.1 in
     omega (arith, emptied_events k log noted noted' steps v empties.0, none)

@@ -108,7 +108,8 @@ all_up n keepers (phase ∷ phases) = (later_up n keepers 1 (phase ∷ phases)).
 abbrev HasCalls : Profile → ℕ → Progress → Type 0
 HasCalls f keeper p = (calls : List Call) × MakesCalls f keeper calls (p.books keeper) (part keeper p.list)
 
-has_still : (f : Profile) (keeper : ℕ) (p q : Progress) → q.books keeper ≡ p.books keeper → part keeper q.list ≡ part keeper p.list → HasCalls f keeper p → HasCalls f keeper q
+has_still : (f : Profile) (keeper : ℕ) (p q : Progress) → q.books keeper ≡ p.books keeper → part keeper q.list ≡ part keeper p.list → HasCalls f keeper p
+    → HasCalls f keeper q
 has_still f keeper p q books list has =
     (has.0, subst (λ (gs : List Guard). MakesCalls f keeper has.0 gs (part keeper q.list)) (sym books) (subst (λ (v : View). MakesCalls f keeper has.0 (p.books keeper) v) (sym list) has.1))
 
@@ -128,7 +129,8 @@ op_still : (f : Profile) (keeper : ℕ) (op : Op) (p q : Progress) → op.actor 
 op_still f keeper op p q other did has = all_still f keeper p q _ did.2 has refl (part_of_others keeper op.actor did.0.steps p.list other)
 
 -- its own try
-own_tried : (f : Profile) (j : ℕ) (r : Request) (p : Progress) (t : Tried) → IsTried f j r (part j p.list) (p.books j) t → HasCalls f j p → HasCalls f j (after_trying p j t)
+own_tried : (f : Profile) (j : ℕ) (r : Request) (p : Progress) (t : Tried) → IsTried f j r (part j p.list) (p.books j) t → HasCalls f j p
+    → HasCalls f j (after_trying p j t)
 own_tried f j r p t is has =
     let v = part j p.list in
     let calls = Call.Raise r.heap (pages_of (wanted_by f r)) t.block ∷ (Call.Sweep false is.lowered ∷ has.0) in
@@ -137,17 +139,20 @@ own_tried f j r p t is has =
     let book : (after_trying p j t).books j ≡ t.guards = ap (λ (b : Bool). if b then t.guards else p.books j) (eq-eqb j j refl) in
     (calls, subst (λ (gs : List Guard). MakesCalls f j calls gs (part j (after_trying p j t).list)) (sym book) (subst (λ (w : View). MakesCalls f j calls t.guards w) (sym list) made_so))
 
-try_has : (f : Profile) (keeper j : ℕ) (r : Request) (p : Progress) (t : Tried) → IsTried f j r (part j p.list) (p.books j) t → HasCalls f keeper p → HasCalls f keeper (after_trying p j t)
+try_has : (f : Profile) (keeper j : ℕ) (r : Request) (p : Progress) (t : Tried) → IsTried f j r (part j p.list) (p.books j) t → HasCalls f keeper p
+    → HasCalls f keeper (after_trying p j t)
 try_has f keeper j r p t is has = elim (cases_eq j keeper) [
   | inl same ↦ subst (λ (i : ℕ). HasCalls f i (after_trying p j t)) same (own_tried f j r p t is (subst (λ (i : ℕ). HasCalls f i p) (sym same) has))
   | inr other ↦ has_still f keeper p (after_trying p j t) (ap (λ (b : Bool). if b then t.guards else p.books keeper) (ne_eqb keeper j (λ e. other (sym e)))) (part_of_others keeper j t.steps p.list other) has
 ]
 
-tried_has : (f : Profile) (keeper : ℕ) (op : Op) (r : Request) (block : Option Block) (p q : Progress) → op.actor ≢ keeper → AnswersTried f op r block p q → HasCalls f keeper p → HasCalls f keeper q
+tried_has : (f : Profile) (keeper : ℕ) (op : Op) (r : Request) (block : Option Block) (p q : Progress) → op.actor ≢ keeper → AnswersTried f op r block p q
+    → HasCalls f keeper p → HasCalls f keeper q
 tried_has f keeper op r (Some block) p q other did has = all_still f keeper p q _ did has refl refl
 tried_has f keeper op r None p q other did has = op_still f keeper op p q other did has
 
-guarded_has : (f : Profile) (keeper j : ℕ) (op : Op) (o : Option Request) (p q : Progress) → op.actor ≢ keeper → AnswersGuarded f j op o p q → HasCalls f keeper p → HasCalls f keeper q
+guarded_has : (f : Profile) (keeper j : ℕ) (op : Op) (o : Option Request) (p q : Progress) → op.actor ≢ keeper → AnswersGuarded f j op o p q
+    → HasCalls f keeper p → HasCalls f keeper q
 guarded_has f keeper j op None p q other did has = absurd did
 guarded_has f keeper j op (Some r) p q other did has = tried_has f keeper op r did.0.block (after_trying p j did.0) q other did.2 (try_has f keeper j r p did.0 did.1 has)
 
@@ -179,12 +184,14 @@ act_has f keeper (StopsIdle k n) p q apart did has = search (arith, all_still, p
 act_has f keeper (Ends k) p q apart did has = all_still f keeper p q _ did.3 has refl (part_of_others keeper k did.0 p.list apart)
 act_has f keeper (Lowers j) p q apart did has = lowered_has f keeper j p q did has
 
-acts_have : (f : Profile) (keeper : ℕ) (acts : List Act) (p q : Progress) → AllByRecursion (IsApart keeper) acts → Reaches f acts p q → HasCalls f keeper p → HasCalls f keeper q
+acts_have : (f : Profile) (keeper : ℕ) (acts : List Act) (p q : Progress) → AllByRecursion (IsApart keeper) acts → Reaches f acts p q → HasCalls f keeper p
+    → HasCalls f keeper q
 acts_have f keeper [] p q apart is has = all_still f keeper p q p is has refl refl
 acts_have f keeper (act ∷ acts) p q apart is has = acts_have f keeper acts is.0 q apart.1 is.2 (act_has f keeper act p is.0 apart.0 is.1 has)
 
 -- after the acts of a plan
-pub calls_alone : (f : Profile) (keeper threads keepers : ℕ) (phases : List (List Op)) (p q : Progress) → threads < keeper → AreOfThreads threads (acts_of threads keepers phases) → Reaches f (acts_of threads keepers phases) p q → p.list ≡ [] → p.books keeper ≡ []
+pub calls_alone : (f : Profile) (keeper threads keepers : ℕ) (phases : List (List Op)) (p q : Progress) → threads < keeper
+    → AreOfThreads threads (acts_of threads keepers phases) → Reaches f (acts_of threads keepers phases) p q → p.list ≡ [] → p.books keeper ≡ []
     → (calls : List Call) × (guards : List Guard) × MakesCalls f keeper calls guards (part keeper q.list)
 calls_alone f keeper threads keepers phases p q lt of is none empty =
     let acts = acts_of threads keepers phases in
@@ -205,7 +212,8 @@ longer k [] m = omega arith
 longer k (t ∷ l) m = let rest = longer k l m in let one = not_fewer (t.actor == k) t.made (part k (l ++ m)) in omega (arith, rest, one)
 
 -- a keeper that made a step made a call
-pub is_keeper : (f : Profile) (keeper : ℕ) (later newer older : Whole) (give : Triple) (calls : List Call) (guards : List Guard) → IsValid f → Legal f (later ++ (newer ++ (give ∷ older))) → give.actor ≡ keeper
+pub is_keeper : (f : Profile) (keeper : ℕ) (later newer older : Whole) (give : Triple) (calls : List Call) (guards : List Guard) → IsValid f
+    → Legal f (later ++ (newer ++ (give ∷ older))) → give.actor ≡ keeper
     → MakesCalls f keeper calls guards (part keeper (later ++ (newer ++ (give ∷ older)))) → IsKeeper f keeper (part keeper (later ++ (newer ++ (give ∷ older))))
 is_keeper f keeper later newer older give [] guards valid legal own is =
     let none = ap (λ (v : View). length v) is.1 in

@@ -21,14 +21,19 @@ events_all : (P : Record → Type 0) (es : List Event) → AllByRecursion (λ e.
 events_all P [] all = tt
 events_all P (e ∷ es) all = (all.0, events_all P es all.1)
 
+-- What is so of each event is so of the records of those events.
 pub piece_events : (P : Record → Type 0) (es : List Event) → AllByRecursion (λ e. P (Record.Event e)) es → AllByRecursion P (records_of es)
 piece_events P es all = events_all P (reverse es) (all_reverse (λ e. P (Record.Event e)) es all)
 
-pub piece_all : (P : Record → Type 0) (k : ℕ) (es : List Event) (said : Option Said) → AllByRecursion (λ e. P (Record.Event e)) es → ((s : Said) → P (Record.Said k s)) → AllByRecursion P (records_of es ++ said_by k said)
+-- What is so of each event of a piece and of all that its actor says is so of each of its records.
+pub piece_all : (P : Record → Type 0) (k : ℕ) (es : List Event) (said : Option Said) → AllByRecursion (λ e. P (Record.Event e)) es
+    → ((s : Said) → P (Record.Said k s)) → AllByRecursion P (records_of es ++ said_by k said)
 piece_all P k es None all says = all_both P (records_of es) [] (piece_events P es all) tt
 piece_all P k es (Some said) all says = all_both P (records_of es) (Record.Said k said ∷ []) (piece_events P es all) (says said, tt)
 
-pub outcomes_all : (P : Record → Type 0) (k epoch : ℕ) (found : List (ℕ × Outcome)) → ((page : ℕ) (o : Outcome) → P (record_of k epoch page o)) → AllByRecursion P (map (λ p. record_of k epoch p.0 p.1) found)
+-- What is so of the record of each page's outcome is so of all those of a pass.
+pub outcomes_all : (P : Record → Type 0) (k epoch : ℕ) (found : List (ℕ × Outcome)) → ((page : ℕ) (o : Outcome) → P (record_of k epoch page o))
+    → AllByRecursion P (map (λ p. record_of k epoch p.0 p.1) found)
 outcomes_all P k epoch [] all = tt
 outcomes_all P k epoch (x ∷ found) all = (all x.0 x.1, outcomes_all P k epoch found all)
 
@@ -39,12 +44,15 @@ IsOf j r = (k : ℕ) → is_of k r ≡ (j == k)
 events_are : (j : ℕ) (v : View) (steps : List Made) → AllByRecursion (λ e. IsOf j (Record.Event e)) (events_by j v steps)
 events_are j v steps = all_map (λ e. actor_of e ≡ j) (λ e. IsOf j (Record.Event e)) (events_by j v steps) (λ e own k. ap (λ i. i == k) own) (events_own j v steps)
 
+-- Two lists of records of one actor are of it together.
 pub each_both : (j : ℕ) (xs ys : List Record) → EachOf j xs → EachOf j ys → EachOf j (xs ++ ys)
 each_both j xs ys a b = all_both (IsOf j) xs ys a b
 
+-- The events that an actor's steps make are its own records.
 pub events_of_piece : (j : ℕ) (v : View) (steps : List Made) → EachOf j (records_of (events_by j v steps))
 events_of_piece j v steps = piece_events (IsOf j) (events_by j v steps) (events_are j v steps)
 
+-- The events of an actor's steps, with what it says besides, are its own records.
 pub piece_of : (j : ℕ) (v : View) (steps : List Made) (said : Option Said) → EachOf j (records_of (events_by j v steps) ++ said_by j said)
 piece_of j v steps said = piece_all (IsOf j) j (events_by j v steps) said (events_are j v steps) (λ s k. refl)
 
@@ -52,6 +60,7 @@ outcome_of : (j epoch page : ℕ) (o : Outcome) → IsOf j (record_of j epoch pa
 outcome_of j epoch page Unbacked k = refl
 outcome_of j epoch page o k = refl
 
+-- The records of a pass are those of the actor that makes it.
 pub pass_of : (j epoch : ℕ) (found : List (ℕ × Outcome)) → EachOf j (records_of_pass j epoch found)
 pass_of j epoch found = (λ k. refl, outcomes_all (IsOf j) j epoch found (outcome_of j epoch))
 
@@ -60,6 +69,7 @@ pub spoken_piece : (j : ℕ) (rs : List Record) → EachOf j rs → AreSpoken rs
 spoken_piece j [] all = tt
 spoken_piece j (r ∷ rs) all = ((j, all.0 j ∙ eq-eqb j j refl), spoken_piece j rs all.1)
 
+-- Two lists of records without marks have none together.
 pub spoken_both : (xs ys : List Record) → AreSpoken xs → AreSpoken ys → AreSpoken (xs ++ ys)
 spoken_both xs ys a b = all_both (λ r. (j : ℕ) × (is_of j r ≡ true)) xs ys a b
 
@@ -68,6 +78,7 @@ both_by : (t : Bool) (r : Record) (xs ys zs : List Record) → zs ≡ xs ++ ys �
 both_by true r xs ys zs is = ap (λ (rs : List Record). r ∷ rs) is
 both_by false r xs ys zs is = is
 
+-- An actor's records among two lists are those of both, one after the other.
 pub records_both : (k : ℕ) (xs ys : List Record) → records_by k (xs ++ ys) ≡ records_by k xs ++ records_by k ys
 records_both k [] ys = refl
 records_both k (x ∷ xs) ys = both_by (is_of k x) x (records_by k xs) (records_by k ys) (records_by k (xs ++ ys)) (records_both k xs ys)
@@ -83,10 +94,12 @@ none_by k j [] all other = refl
 none_by k j (r ∷ rs) all other = ap (λ (t : Bool). if t then r ∷ records_by k rs else records_by k rs) (all.0 k ∙ ne_eqb j k other) ∙ none_by k j rs all.1 other
 
 -- ---- what a keeper says is its own
-lowered_each : (down : Bool) (k : ℕ) (guard : Guard) (first : List Made) (kept after : List Guard) (said more : List Record) → SweptOne down k guard first kept after said more → EachOf k more → EachOf k said
+lowered_each : (down : Bool) (k : ℕ) (guard : Guard) (first : List Made) (kept after : List Guard) (said more : List Record)
+    → SweptOne down k guard first kept after said more → EachOf k more → EachOf k said
 lowered_each true k guard first kept after said more is rest = subst (EachOf k) (sym is.2) (λ j. refl, rest)
 lowered_each false k guard first kept after said more is rest = subst (EachOf k) (sym is.2) rest
 
+-- The lines of a sweep are records of its keeper.
 pub swept_each : (all : Bool) (k : ℕ) (guards kept : List Guard) (said : List Record) (steps : List Made) → Swept all k guards kept said steps → EachOf k said
 swept_each all k [] kept said steps is = subst (EachOf k) (sym is.1) tt
 swept_each all k (guard ∷ guards) kept said steps is = lowered_each (all || is_over guard is.0) k guard is.1 kept is.3 said is.4 is.5 (swept_each all k guards is.3 is.4 is.2 is.6)
@@ -95,6 +108,7 @@ guard_each : (keeper name k : ℕ) (block : Option Block) → EachOf keeper (sai
 guard_each keeper name k None = tt
 guard_each keeper name k (Some block) = (λ j. refl, tt)
 
+-- The records of a keeper's try are its own.
 pub try_each : (f : Profile) (keeper : ℕ) (r : Request) (v : View) (guards : List Guard) (t : Tried) → IsTried f keeper r v guards t → EachOf keeper t.records
 try_each f keeper r v guards t is =
     let events = records_of (events_by keeper (is.swept ++ v) is.raised) in

@@ -6,6 +6,7 @@ use Rattle.pas_steps.specs.declared.step.Made.{Made}
 use Rattle.pas_report.proofs.Showable.{AreOfRegion}
 use Rattle.pas_answers.specs.Ways.{Way, InOrder, OnThreads, IsOneOrder}
 
+-- Two lists that are one order of each actor's steps have the same part of each actor.
 pub same_parts : (way : Way) (told whole : Whole) → IsOneOrder way told whole → (k : ℕ) → part k whole ≡ part k told
 same_parts InOrder told whole same k = ap (λ (l : Whole). part k l) same
 same_parts OnThreads told whole same k = same k
@@ -28,6 +29,7 @@ one_of : (f : Profile) (t : Bool) (m : Made) (v : View) → IsStepOf f m.step �
 one_of f true m v one rest = (one, rest)
 one_of f false m v one rest = rest
 
+-- Each actor's part of a legal list has steps of the region alone.
 pub legal_part : (f : Profile) (l : Whole) (k : ℕ) → Legal f l → AreOfRegion f (part k l)
 legal_part f [] k legal = tt
 legal_part f (t ∷ l) k legal = one_of f (t.actor == k) t.made (part k l) legal.0.of_region (legal_part f l k legal.1)
@@ -36,14 +38,17 @@ later_of : (f : Profile) (t : Bool) (m : Made) (v : View) → AreOfRegion f (if 
 later_of f true m v all = all.1
 later_of f false m v all = all
 
+-- The later steps of a list that are of the region are so by themselves.
 pub of_front : (f : Profile) (ys xs : List Made) → AreOfRegion f (ys ++ xs) → AreOfRegion f ys
 of_front f [] xs of = tt
 of_front f (y ∷ ys) xs of = (of.0, of_front f ys xs of.1)
 
+-- The earlier steps of a list that are of the region are so by themselves.
 pub of_back : (f : Profile) (ys xs : List Made) → AreOfRegion f (ys ++ xs) → AreOfRegion f xs
 of_back f [] xs of = of
 of_back f (y ∷ ys) xs of = of_back f ys xs of.1
 
+-- Where each actor's part of a list is of the region, it was so before the last steps of one.
 pub of_rest : (f : Profile) (k : ℕ) (xs : List Made) (l : Whole) → Each (AreOfRegion f) (triples k xs ++ l) → Each (AreOfRegion f) l
 of_rest f k [] l all = all
 of_rest f k (x ∷ xs) l all = of_rest f k xs l (λ j. later_of f (k == j) x (part j (triples k xs ++ l)) (all j))

@@ -39,7 +39,8 @@ abbrev PutsOn : Act → Progress → Progress → Type 0
 PutsOn act p q = (pieces : Pieces) × (q.list ≡ pieces_on pieces p.list) × MatchOption (operation_in act) (q.names ≡ p.names) (λ op. Unit {0})
 
 -- .. a guarded request one of its keeper, and then, where that gave no block, one of its thread
-pub tried_on : (f : Profile) (op : Op) (r : Request) (block : Option Block) (p q : Progress) → AnswersTried f op r block p q → (pieces : Pieces) × (q.list ≡ pieces_on pieces p.list)
+pub tried_on : (f : Profile) (op : Op) (r : Request) (block : Option Block) (p q : Progress) → AnswersTried f op r block p q
+    → (pieces : Pieces) × (q.list ≡ pieces_on pieces p.list)
 tried_on f op r (Some block) p q did = (Done, list_of did)
 tried_on f op r None p q did = (piece_of op.actor did.0.steps, list_of did.2)
 
@@ -47,13 +48,15 @@ pieces_both : (late early : Pieces) (l : Whole) → (both : Pieces) × (pieces_o
 pieces_both Done early l = (early, refl)
 pieces_both (Before k steps earlier) early l = let rest = pieces_both earlier early l in (Before k steps rest.0, ap (λ (m : Whole). triples k steps ++ m) rest.1)
 
-guarded_on : (f : Profile) (keeper : ℕ) (op : Op) (o : Option Request) (p q : Progress) → AnswersGuarded f keeper op o p q → (pieces : Pieces) × (q.list ≡ pieces_on pieces p.list)
+guarded_on : (f : Profile) (keeper : ℕ) (op : Op) (o : Option Request) (p q : Progress) → AnswersGuarded f keeper op o p q
+    → (pieces : Pieces) × (q.list ≡ pieces_on pieces p.list)
 guarded_on f keeper op None p q did = absurd did
 guarded_on f keeper op (Some r) p q did =
     let late = tried_on f op r did.0.block (after_trying p keeper did.0) q did.2 in
     let both = pieces_both late.0 (piece_of keeper did.0.steps) p.list in
     (both.0, late.1 ∙ sym both.1)
 
+-- An act puts its pieces of steps onto the list, and changes nothing of it otherwise.
 pub put_on : (f : Profile) (act : Act) (p q : Progress) → Advances f act p q → PutsOn act p q
 put_on f (Operates op) p q did = (piece_of op.actor did.0.steps, list_of did.2, tt)
 put_on f (Guards keeper op) p q did = let on = guarded_on f keeper op (request_in op.what) p q did in (on.0, on.1, tt)
@@ -68,12 +71,15 @@ put_on f MarksClose p q did = (Done, list_of did, names_of did)
 put_on f (Ends k) p q did = (piece_of k did.0, list_of did.3, names_of did.3)
 put_on f (Lowers keeper) p q did = (piece_of keeper did.0, list_of did.3, names_of did.3)
 
-pub pieces_back : (P : Whole → Type 0) → ((k : ℕ) (steps : List Made) (l : Whole) → P (triples k steps ++ l) → P l) → (pieces : Pieces) (l : Whole) → P (pieces_on pieces l) → P l
+-- What a list keeps when steps are taken off it is so of the list before all the pieces of an act.
+pub pieces_back : (P : Whole → Type 0) → ((k : ℕ) (steps : List Made) (l : Whole) → P (triples k steps ++ l) → P l) → (pieces : Pieces) (l : Whole)
+    → P (pieces_on pieces l) → P l
 pieces_back P back Done l so = so
 pieces_back P back (Before k steps earlier) l so = pieces_back P back earlier l (back k steps (pieces_on earlier l) so)
 
 -- what is so of a list only where it was so before any steps, was so before acts
-pub was_so : (f : Profile) (P : Whole → Type 0) → ((k : ℕ) (steps : List Made) (l : Whole) → P (triples k steps ++ l) → P l) → (acts : List Act) (p q : Progress) → Reaches f acts p q → P q.list → P p.list
+pub was_so : (f : Profile) (P : Whole → Type 0) → ((k : ℕ) (steps : List Made) (l : Whole) → P (triples k steps ++ l) → P l)
+    → (acts : List Act) (p q : Progress) → Reaches f acts p q → P q.list → P p.list
 was_so f P back [] p q is so = subst P (list_of is) so
 was_so f P back (act ∷ acts) p q is so =
     let on = put_on f act p is.0 is.1 in
@@ -96,7 +102,9 @@ at_mark (MarksPhase n) So so = so
 at_mark MarksClose So so = so
 at_mark act So so = tt
 
-pub in_phases : (f : Profile) (acts : List Act) (p q : Progress) (is : Reaches f acts p q) (whole : Whole) → (since : Whole) × (whole ≡ since ++ q.list) → AreInPhases f acts p q is whole
+-- In the list of a replay in its own order, at each mark all steps of the acts before it are the first.
+pub in_phases : (f : Profile) (acts : List Act) (p q : Progress) (is : Reaches f acts p q) (whole : Whole) → (since : Whole) × (whole ≡ since ++ q.list)
+    → AreInPhases f acts p q is whole
 in_phases f [] p q is whole begun = tt
 in_phases f (act ∷ acts) p q is whole begun =
     let first = was_so f (Begins whole) (begun_before whole) (act ∷ acts) p q is begun in

@@ -25,18 +25,23 @@ use Rattle.pas_answers.proofs.Requests.{may_request, named_for, is_given, block_
 flush_few : (t : Bool) (n : ℕ) → nat_le 64 n ≡ t → (if t then 64 else 0) ≤ n
 flush_few t n is = search (arith, leb-true)
 
-pub can_move : {σ : Standing} (c : Cached) (name n heap size align spare there : ℕ) → CanCall σ (MayPerform σ.seat.profile c (Remake name n heap size align) spare) → CanCall σ (MayMove σ.seat.profile (wanted_for σ.seat.profile there size align) c spare)
+-- A reallocation at rest may be asked of whatever gives blocks another size.
+pub can_move : {σ : Standing} (c : Cached) (name n heap size align spare there : ℕ)
+    → CanCall σ (MayPerform σ.seat.profile c (Remake name n heap size align) spare)
+    → CanCall σ (MayMove σ.seat.profile (wanted_for σ.seat.profile there size align) c spare)
 can_move {σ} c name n heap size align spare there can = search (arith, flush_few)
 
 -- whatever the old name and its heap are
-pub can_resize : {σ : Standing} {task : Task} {name n heap size align : ℕ} (c : Cached) (spare : ℕ) → task ≡ Task.Remake name n heap size align → CanCall σ (MayPerform σ.seat.profile c (what_of task) spare) → (m h : ℕ) → CanCall σ (MayPerform σ.seat.profile c (Remake name m h size align) spare)
+pub can_resize : {σ : Standing} {task : Task} {name n heap size align : ℕ} (c : Cached) (spare : ℕ) → task ≡ Task.Remake name n heap size align
+    → CanCall σ (MayPerform σ.seat.profile c (what_of task) spare) → (m h : ℕ) → CanCall σ (MayPerform σ.seat.profile c (Remake name m h size align) spare)
 can_resize {σ} {task} {name} {n} {heap} {size} {align} c spare is can m h =
     let cost : cost_of_what (what_of task) ≡ cost_of_size size + 1 = ap (λ (t : Task). cost_of_what (what_of t)) is in
     let room = can.met.room in
     record { view = can.view; whole = can.whole; stood = can.stood; met = record { rest = can.met.rest; room = omega (arith, room, cost) } }
 
 -- the request is admitted in each heap of the region
-pub admitted_there : {task : Task} {name n heap size align : ℕ} (f : Profile) (limit : ℕ) (asked : List ℕ) (block : Block) → task ≡ Task.Remake name n heap size align → IsFitWhat f limit asked (what_of task) → IsBlockOf f block → IsAdmitted f size align block.heap
+pub admitted_there : {task : Task} {name n heap size align : ℕ} (f : Profile) (limit : ℕ) (asked : List ℕ) (block : Block)
+    → task ≡ Task.Remake name n heap size align → IsFitWhat f limit asked (what_of task) → IsBlockOf f block → IsAdmitted f size align block.heap
 admitted_there {task} {name} {n} {heap} {size} {align} f limit asked block is fit of = search (arith, fits_task)
 
 -- ---- what it comes to
@@ -61,12 +66,14 @@ module _ (σ σ' : Standing) (c c' : Cached) (name n heap size align : ℕ) (old
   no_more came A none = absurd (let bad : the_name name came ∷ [] ≡ [] = none in cc)
 
   -- by what the old name stands for
-  by_meant : (names : List Named) (v : View) (a : Answer) → IsMeant names (Remake name n heap size align) (Some old) → IsKnown names (Remake name n heap size align) → IsRemadeBy f k name size align (Some (Some old)) (having names v c) a
+  by_meant : (names : List Named) (v : View) (a : Answer) → IsMeant names (Remake name n heap size align) (Some old)
+      → IsKnown names (Remake name n heap size align) → IsRemadeBy f k name size align (Some (Some old)) (having names v c) a
       → IsAnswered f k (Remake name n heap size align) (having names v c) a
   by_meant names v a means known is = subst (λ (o : Option (Option Block)). IsRemadeBy f k name size align o (having names v c) a) (sym (stands_for names n (Some old) means known)) is
 
   -- which request is made
-  made_by : (t : Bool) (found : Option ℕ) → suits old size align ≡ t → IsNamedFor f Answers Same (unless_suited t r) found → IsNamedFor f Answers Same (request_made (Remake name n heap size align) (Some old)) found
+  made_by : (t : Bool) (found : Option ℕ) → suits old size align ≡ t → IsNamedFor f Answers Same (unless_suited t r) found
+      → IsNamedFor f Answers Same (request_made (Remake name n heap size align) (Some old)) found
   made_by t found is named = subst (λ (s : Bool). IsNamedFor f Answers Same (unless_suited s r) found) (sym is) named
 
   -- it is kept
@@ -90,7 +97,8 @@ module _ (σ σ' : Standing) (c c' : Cached) (name n heap size align : ℕ) (old
       )
 
   -- another block was given, and the old name was logged
-  pub replaced : {answer : Result Moved NoRoom} (block : Block) → answer ≡ Ok (New block) → old.heap < σ.seat.profile.heaps → CameTo answer → Did (Some block) None
+  pub replaced : {answer : Result Moved NoRoom} (block : Block) → answer ≡ Ok (New block) → old.heap < σ.seat.profile.heaps → CameTo answer
+      → Did (Some block) None
   replaced block came of_region m0 =
       let m : CameTo (Ok (New block)) = subst CameTo came m0 in
       let is = m.moved in
@@ -127,7 +135,8 @@ module _ (σ σ' : Standing) (c c' : Cached) (name n heap size align : ℕ) (old
       )
 
   -- the request was refused
-  pub refused : (room : NoRoom) (message : Said) → message ≡ said_of_room name room → old.heap < σ.seat.profile.heaps → CameTo (Err room) → Did None (Some message)
+  pub refused : (room : NoRoom) (message : Said) → message ≡ said_of_room name room → old.heap < σ.seat.profile.heaps → CameTo (Err room)
+      → Did None (Some message)
   refused room message says of_region m =
       let is = m.moved in (
         record {
@@ -157,7 +166,9 @@ module _ (σ σ' : Standing) (c c' : Cached) (name n heap size align : ℕ) (old
       )
 
   -- the new block may be freed or reallocated
-  pub new_stands : (spare : ℕ) (block : Block) → IsAdmitted σ.seat.profile size align old.heap → CanCall σ (MayPerform σ.seat.profile c (Remake name n heap size align) spare) → {answer : Result Moved NoRoom} → answer ≡ Ok (New block) → CameTo answer → MayStand σ.seat.profile (Some block)
+  pub new_stands : (spare : ℕ) (block : Block) → IsAdmitted σ.seat.profile size align old.heap
+      → CanCall σ (MayPerform σ.seat.profile c (Remake name n heap size align) spare) → {answer : Result Moved NoRoom} → answer ≡ Ok (New block) → CameTo answer
+      → MayStand σ.seat.profile (Some block)
   new_stands spare block admitted can came m0 =
       let m : CameTo (Ok (New block)) = subst CameTo came m0 in
       let is = m.moved in
@@ -169,13 +180,18 @@ module _ (σ σ' : Standing) (c c' : Cached) (name n heap size align : ℕ) (old
 abbrev pub DoesTask : (σ σ' : Standing) → Task → Option Block → Option Block → Cached → Cached → Option Said → (ℕ → ℕ → Option ℕ → Type 0) → Type 0 → Type 0
 DoesTask σ σ' task meant came c c' said Answers Same = (did : PerformsMeant (what_of task) meant came c c' σ σ' said) × IsNamedFor σ.seat.profile Answers Same (request_made (what_of task) meant) did.found
 
-pub performs_move : {σ σ' : Standing} {task : Task} {name n heap size align : ℕ} {meant came : Option Block} {old : Block} {said : Option Said} (c c' : Cached) (Answers : ℕ → ℕ → Option ℕ → Type 0) (Same : Type 0) → task ≡ Task.Remake name n heap size align → meant ≡ Some old
+-- A reallocation of the block that a name stands for performs what the task means.
+pub performs_move : {σ σ' : Standing} {task : Task} {name n heap size align : ℕ} {meant came : Option Block} {old : Block} {said : Option Said} (c c' : Cached)
+      (Answers : ℕ → ℕ → Option ℕ → Type 0) (Same : Type 0)
+    → task ≡ Task.Remake name n heap size align → meant ≡ Some old
     → DoesTask σ σ' (Task.Remake name n heap size align) (Some old) came c c' said Answers Same → DoesTask σ σ' task meant came c c' said Answers Same
 performs_move {σ} {σ'} {task} {name} {n} {heap} {size} {align} {meant} {came} {old} {said} c c' Answers Same is named did =
     subst (λ (t : Task). DoesTask σ σ' t meant came c c' said Answers Same) (sym is) (subst (λ (o : Option Block). DoesTask σ σ' (Task.Remake name n heap size align) o came c c' said Answers Same) (sym named) did)
 
 -- its own request was refused
-pub performs_no_move : {σ : Standing} {task : Task} {name n heap size align : ℕ} {meant : Option Block} (c : Cached) (Answers : ℕ → ℕ → Option ℕ → Type 0) (Same : Type 0) → task ≡ Task.Remake name n heap size align → meant ≡ None → Same
+pub performs_no_move : {σ : Standing} {task : Task} {name n heap size align : ℕ} {meant : Option Block} (c : Cached) (Answers : ℕ → ℕ → Option ℕ → Type 0)
+      (Same : Type 0)
+    → task ≡ Task.Remake name n heap size align → meant ≡ None → Same
     → DoesTask σ σ task meant None c c (Some (Said.Skipped name)) Answers Same
 performs_no_move {σ} {task} {name} {n} {heap} {size} {align} {meant} c Answers Same is named same =
     subst (λ (t : Task). DoesTask σ σ t meant None c c (Some (Said.Skipped name)) Answers Same) (sym is) (subst (λ (o : Option Block). DoesTask σ σ (Task.Remake name n heap size align) o None c c (Some (Said.Skipped name)) Answers Same) (sym named) (

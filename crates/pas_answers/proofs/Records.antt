@@ -18,28 +18,36 @@ use Rattle.pas_answers.specs.{Answers.records_of, Answers.said_by, Calls.Perform
 abbrev pub IsShown : Standing → List Event → Type 0
 IsShown σ shown = (v : View) (l : Whole) → σ.stands v l → shown ≡ reverse (events_of σ.seat.actor v)
 
-shown_more : {σ σ' : Standing} {C : View → Type 0} {steps : List Made} → Adds σ σ' C steps → (old new : List Event) → IsShown σ old → IsShown σ' new → (v : View) (l : Whole) → σ.stands v l → C v → new ≡ old ++ reverse (events_by σ.seat.actor v steps)
+shown_more : {σ σ' : Standing} {C : View → Type 0} {steps : List Made} → Adds σ σ' C steps → (old new : List Event) → IsShown σ old → IsShown σ' new
+    → (v : View) (l : Whole) → σ.stands v l → C v → new ≡ old ++ reverse (events_by σ.seat.actor v steps)
 shown_more {σ} {σ'} {C} {steps} adds old new before after v l stood met =
     subst (λ s. new ≡ reverse (events_of s.actor (steps ++ v))) adds.seat_is (after (steps ++ v) (triples σ.seat.actor steps ++ l) (adds.added v l stood met)) ∙ ap reverse (events_split σ.seat.actor steps v)
     ∙ reverse-append (events_by σ.seat.actor v steps) (events_of σ.seat.actor v) ∙ ap (λ es. es ++ reverse (events_by σ.seat.actor v steps)) (sym (before v l stood))
 
 -- the events of a call are those from the place on where the earlier ones ended
-pub shown_new : {σ σ' : Standing} {C : View → Type 0} {steps : List Made} → Adds σ σ' C steps → (old new : List Event) → IsShown σ old → IsShown σ' new → (v : View) (l : Whole) → σ.stands v l → C v → drop (length old) new ≡ reverse (events_by σ.seat.actor v steps)
+pub shown_new : {σ σ' : Standing} {C : View → Type 0} {steps : List Made} → Adds σ σ' C steps → (old new : List Event) → IsShown σ old → IsShown σ' new
+    → (v : View) (l : Whole) → σ.stands v l → C v → drop (length old) new ≡ reverse (events_by σ.seat.actor v steps)
 shown_new {σ} {σ'} {C} {steps} adds old new before after v l stood met = ap (drop (length old)) (shown_more adds old new before after v l stood met) ∙ drop-append_seam old (reverse (events_by σ.seat.actor v steps))
 
-pub shown_longer : {σ σ' : Standing} {C : View → Type 0} {steps : List Made} → Adds σ σ' C steps → (old new : List Event) → IsShown σ old → IsShown σ' new → CanCall σ C → length old ≤ length new
+-- After a call a desk has shown no fewer events than before it.
+pub shown_longer : {σ σ' : Standing} {C : View → Type 0} {steps : List Made} → Adds σ σ' C steps → (old new : List Event) → IsShown σ old → IsShown σ' new
+    → CanCall σ C → length old ≤ length new
 shown_longer {σ} {σ'} {C} {steps} adds old new before after can =
     let n = ap (λ (es : List Event). length es) (shown_more adds old new before after can.view can.whole can.stood can.met) ∙ length-append old (reverse (events_by σ.seat.actor can.view steps)) in
     omega (arith, n)
 
 -- ---- what an operation asks
-pub can_rest : {σ : Standing} (c : Cached) (what : What) (spare : ℕ) (out : Records) → CanCall σ (MayAnswer σ.seat.profile c what spare out) → CanCall σ (AtRest σ.seat.profile c)
+pub can_rest : {σ : Standing} (c : Cached) (what : What) (spare : ℕ) (out : Records) → CanCall σ (MayAnswer σ.seat.profile c what spare out)
+    → CanCall σ (AtRest σ.seat.profile c)
 can_rest {σ} c what spare out can = record { view = can.view; whole = can.whole; stood = can.stood; met = can.met.may.rest }
 
 -- ---- the records
 -- there is room for the events, and for what is said besides
-pub records_fit : {σ σ' : Standing} {said : Option Said} {c' : Cached} (what : What) (meant came : Option Block) (c : Cached) (spare : ℕ) (out : Records) (old new : List Event) → (can : CanCall σ (MayAnswer σ.seat.profile c what spare out))
-    → PerformsMeant what meant came c c' σ σ' said → IsShown σ old → IsShown σ' new → length (records_in out) + length (drop (length old) new) + length (said_by σ.seat.actor said) ≤ room_of out
+pub records_fit : {σ σ' : Standing} {said : Option Said} {c' : Cached} (what : What) (meant came : Option Block) (c : Cached) (spare : ℕ) (out : Records)
+      (old new : List Event)
+    → (can : CanCall σ (MayAnswer σ.seat.profile c what spare out))
+    → PerformsMeant what meant came c c' σ σ' said → IsShown σ old → IsShown σ' new
+    → length (records_in out) + length (drop (length old) new) + length (said_by σ.seat.actor said) ≤ room_of out
 unfolding can_rest
 records_fit {σ} {σ'} {said} {c'} what meant came c spare out old new can performs before after =
     let rest = can_rest c what spare out can in
@@ -48,7 +56,8 @@ records_fit {σ} {σ'} {said} {c'} what meant came c spare out old new can perfo
     omega (arith, events, few, can.met.records)
 
 -- .. and room for what is said then
-pub said_fits : {said : Option Said} (k : ℕ) (out pushed : Records) (events : List Event) (message : Said) → said ≡ Some message → length (records_in out) + length events + length (said_by k said) ≤ room_of out
+pub said_fits : {said : Option Said} (k : ℕ) (out pushed : Records) (events : List Event) (message : Said) → said ≡ Some message
+    → length (records_in out) + length events + length (said_by k said) ≤ room_of out
     → records_in pushed ≡ records_in out ++ map Record.Event events → room_of pushed ≡ room_of out → length (records_in pushed) < room_of pushed
 said_fits {said} k out pushed events message is fits added same =
     let size = ap (λ (rs : List Record). length rs) added ∙ length-append (records_in out) (map Record.Event events) ∙ ap (λ n. length (records_in out) + n) (length-map events Record.Event) in
@@ -56,8 +65,12 @@ said_fits {said} k out pushed events message is fits added same =
     omega (arith, size, one, fits, same)
 
 -- nothing is said besides
-pub answers_silent : {σ σ' : Standing} {said : Option Said} (Named : Option ℕ → Type 0) (what : What) (meant came : Option Block) (c c' : Cached) (out out' : Records) (old new : List Event) → said ≡ None
-    → (performs : PerformsMeant what meant came c c' σ σ' said) → Named performs.found → IsShown σ old → IsShown σ' new → records_in out' ≡ records_in out ++ map Record.Event (drop (length old) new) → room_of out' ≡ room_of out → (did : AnswersMeant what meant came c c' out out' σ σ') × Named did.performs.found
+pub answers_silent : {σ σ' : Standing} {said : Option Said} (Named : Option ℕ → Type 0) (what : What) (meant came : Option Block) (c c' : Cached)
+      (out out' : Records) (old new : List Event)
+    → said ≡ None
+    → (performs : PerformsMeant what meant came c c' σ σ' said) → Named performs.found → IsShown σ old → IsShown σ' new
+    → records_in out' ≡ records_in out ++ map Record.Event (drop (length old) new) → room_of out' ≡ room_of out
+    → (did : AnswersMeant what meant came c c' out out' σ σ') × Named did.performs.found
 answers_silent {σ} {σ'} {said} Named what meant came c c' out out' old new is performs named before after added room = (
   record {
     said = said;
@@ -70,9 +83,13 @@ answers_silent {σ} {σ'} {said} Named what meant came c c' out out' old new is 
 )
 
 -- this is said besides
-pub answers_said : {σ σ' : Standing} {said : Option Said} (Named : Option ℕ → Type 0) (what : What) (meant came : Option Block) (c c' : Cached) (out pushed out' : Records) (old new : List Event) (message : Said) (actor : ℕ) → said ≡ Some message → actor ≡ σ'.seat.actor
-    → (performs : PerformsMeant what meant came c c' σ σ' said) → Named performs.found → IsShown σ old → IsShown σ' new → records_in pushed ≡ records_in out ++ map Record.Event (drop (length old) new) → room_of pushed ≡ room_of out
-    → records_in out' ≡ records_in pushed ++ Record.Said actor message ∷ [] → room_of out' ≡ room_of pushed → (did : AnswersMeant what meant came c c' out out' σ σ') × Named did.performs.found
+pub answers_said : {σ σ' : Standing} {said : Option Said} (Named : Option ℕ → Type 0) (what : What) (meant came : Option Block) (c c' : Cached)
+      (out pushed out' : Records) (old new : List Event) (message : Said) (actor : ℕ)
+    → said ≡ Some message → actor ≡ σ'.seat.actor
+    → (performs : PerformsMeant what meant came c c' σ σ' said) → Named performs.found → IsShown σ old → IsShown σ' new
+    → records_in pushed ≡ records_in out ++ map Record.Event (drop (length old) new) → room_of pushed ≡ room_of out
+    → records_in out' ≡ records_in pushed ++ Record.Said actor message ∷ [] → room_of out' ≡ room_of pushed
+    → (did : AnswersMeant what meant came c c' out out' σ σ') × Named did.performs.found
 answers_said {σ} {σ'} {said} Named what meant came c c' out pushed out' old new message actor is actor_is performs named before after added same last room =
     let own : actor ≡ σ.seat.actor = actor_is ∙ ap (λ s. s.actor) performs.calls.adds.seat_is in (
       record {

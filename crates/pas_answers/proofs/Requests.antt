@@ -30,11 +30,12 @@ use Rattle.pas_answers.specs.Answers.{named as the_name, block_of, said_by, said
 use Rattle.pas_answers.specs.{Indexes.IsNamedFor, Indexes.request_made, Fit.cost_of_what}
 use Rattle.pas_report.specs.declared.record.Said.{Said}
 use Rattle.pas_answers.specs.Calls.{what_of, IsBlockOf, MayStand, owed_events, MayPerform, Serves, events_for, PerformsMeant}
-use Rattle.pas_steps.proofs.{Adding.adds_none, Adding.can_call, Unknown.unknown_stays, Unknown.has_room}
+use Rattle.pas_steps.proofs.{Adding.adds_none, Adding.can_call, Unknown.unknown_no_more, Unknown.has_room}
 use Rattle.pas_cache.proofs.Routes.{is_small, is_large, small_may, small_did, none_named, pages_asked}
 
 -- ---- what a request asks
-pub may_request : (f : Profile) (c : Cached) (heap size align spare : ℕ) (v : View) → AtRest f c v → cost_of_size size + unknown_pages f v ≤ spare → MayRequest f (wanted_for f heap size align) c spare v
+pub may_request : (f : Profile) (c : Cached) (heap size align spare : ℕ) (v : View) → AtRest f c v → cost_of_size size + unknown_pages f v ≤ spare
+    → MayRequest f (wanted_for f heap size align) c spare v
 may_request f c heap size align spare v rest fits = elim (cases_lt 2048 size) [
   | inl large ↦
       let route = is_large f.classes size align large in
@@ -46,7 +47,9 @@ may_request f c heap size align spare v rest fits = elim (cases_lt 2048 size) [
       small_may (room_in f size align / 4096) (route_in f size align) (is_small f.classes size align small) (record { rest = rest; room = has_room f 2 spare v (omega (arith, fits, cost)) })
 ]
 
-pub can_request : {σ : Standing} (c : Cached) (name heap size align spare : ℕ) → CanCall σ (MayPerform σ.seat.profile c (Alloc name heap size align) spare) → CanCall σ (MayRequest σ.seat.profile (wanted_for σ.seat.profile heap size align) c spare)
+-- An operation that makes a request may ask its thread's cache for it.
+pub can_request : {σ : Standing} (c : Cached) (name heap size align spare : ℕ) → CanCall σ (MayPerform σ.seat.profile c (Alloc name heap size align) spare)
+    → CanCall σ (MayRequest σ.seat.profile (wanted_for σ.seat.profile heap size align) c spare)
 can_request {σ} c name heap size align spare can = can_call adds_none can (λ v l stood met. may_request σ.seat.profile c heap size align spare v met.rest (omega (arith, met.room)))
 
 -- ---- how it was served
@@ -54,23 +57,27 @@ silent_ends : (r : Route) (d : Directory) (es : List Event) → es ≡ [] → Re
 silent_ends Route.Large d es none = subst (AllByRecursion (IsDeedOf d)) (sym none) tt
 silent_ends route d es none = none
 
-small_ends : (f : Profile) (w : Wanted) (Meets : View → Type 0) (steps : List Made) (answer : Result Block NoRoom) → MatchResult answer (IsBlockFor f w Meets steps) (λ room. IsSilent steps)
+small_ends : (f : Profile) (w : Wanted) (Meets : View → Type 0) (steps : List Made) (answer : Result Block NoRoom)
+    → MatchResult answer (IsBlockFor f w Meets steps) (λ room. IsSilent steps)
     → MatchResult answer (IsBlockFor f w Meets steps) (λ room. (k : ℕ) (v : View) → RefusalEnds w.route w.directory (events_by k v steps))
 small_ends f w Meets steps answer of = search (arith, silent_ends)
 
-small_few : (f : Profile) (w : Wanted) (Meets : View → Type 0) (steps : List Made) (cost : ℕ) (answer : Result Block NoRoom) → cost ≡ 2 → MakesFew f Meets 2 steps → MatchResult answer (IsBlockFor f w Meets steps) (λ room. IsSilent steps)
+small_few : (f : Profile) (w : Wanted) (Meets : View → Type 0) (steps : List Made) (cost : ℕ) (answer : Result Block NoRoom) → cost ≡ 2
+    → MakesFew f Meets 2 steps → MatchResult answer (IsBlockFor f w Meets steps) (λ room. IsSilent steps)
     → MakesAtMost f Meets (events_for cost answer) steps
 small_few f w Meets steps cost (Ok block) two few of = λ k v met agreed. let paid = (few k v met agreed).paid in omega (arith, paid, two)
 small_few f w Meets steps cost (Err room) two few silent = λ k v met agreed.
     let none = ap (λ (es : List Event). length es) (silent k v) in
-    omega (arith, none, unknown_stays f steps v agreed)
+    omega (arith, none, unknown_no_more f steps v agreed)
 
-serves_small : {σ σ' : Standing} {answer : Result Block NoRoom} {tells : Bool} (c c' : Cached) (heap size align : ℕ) → size ≤ 2048 → Allocates (wanted_for σ.seat.profile heap size align) tells c c' σ σ' answer
+serves_small : {σ σ' : Standing} {answer : Result Block NoRoom} {tells : Bool} (c c' : Cached) (heap size align : ℕ) → size ≤ 2048
+    → Allocates (wanted_for σ.seat.profile heap size align) tells c c' σ σ' answer
     → Serves (cost_of_size size) (wanted_for σ.seat.profile heap size align) None c c' σ σ' answer
 serves_small {σ} {σ'} {answer} c c' heap size align small call =
     search (arith, small_few, small_cost, small_ends, log_kept)
 
-pages_ends : (f : Profile) (w : Wanted) (Meets : View → Type 0) (steps : List Made) (answer : Result Block NoRoom) → w.route ≡ Route.Large → MatchResult answer (IsBlockFor f w Meets steps) (λ room. MakesDeedsOf w.directory steps)
+pages_ends : (f : Profile) (w : Wanted) (Meets : View → Type 0) (steps : List Made) (answer : Result Block NoRoom) → w.route ≡ Route.Large
+    → MatchResult answer (IsBlockFor f w Meets steps) (λ room. MakesDeedsOf w.directory steps)
     → MatchResult answer (IsBlockFor f w Meets steps) (λ room. (k : ℕ) (v : View) → RefusalEnds w.route w.directory (events_by k v steps))
 pages_ends f w Meets steps (Ok block) large of = of
 pages_ends f w Meets steps (Err room) large deeds = λ k v. subst (λ (r : Route). RefusalEnds r w.directory (events_by k v steps)) (sym large) (deeds k v)
@@ -79,7 +86,8 @@ most_same : (n cost : ℕ) (answer : Result Block NoRoom) → cost ≡ n + 1 →
 most_same n cost (Ok block) same = sym same
 most_same n cost (Err room) same = refl
 
-serves_pages : {σ σ' : Standing} {answer : Result Block NoRoom} {found : Option ℕ} {tells : Bool} (c c' : Cached) (heap size align : ℕ) → 2048 < size → AllocatesPages (wanted_for σ.seat.profile heap size align) found tells c c' σ σ' answer
+serves_pages : {σ σ' : Standing} {answer : Result Block NoRoom} {found : Option ℕ} {tells : Bool} (c c' : Cached) (heap size align : ℕ) → 2048 < size
+    → AllocatesPages (wanted_for σ.seat.profile heap size align) found tells c c' σ σ' answer
     → Serves (cost_of_size size) (wanted_for σ.seat.profile heap size align) found c c' σ σ' answer
 serves_pages {σ} {σ'} {answer} {found} c c' heap size align large call =
     let f = σ.seat.profile in
@@ -90,7 +98,8 @@ serves_pages {σ} {σ'} {answer} {found} c c' heap size align large call =
     search (arith, most_same, pages_ends, log_kept)
 
 -- by its route
-pub serves : {σ σ' : Standing} {answer : Result Block NoRoom} {Answers : Option ℕ → Type 0} {Same : Type 0} {tells : Bool} (c c' : Cached) (heap size align : ℕ) → (r : AllocatesRequest Answers Same (wanted_for σ.seat.profile heap size align) tells c c' σ σ' answer)
+pub serves : {σ σ' : Standing} {answer : Result Block NoRoom} {Answers : Option ℕ → Type 0} {Same : Type 0} {tells : Bool} (c c' : Cached) (heap size align : ℕ)
+    → (r : AllocatesRequest Answers Same (wanted_for σ.seat.profile heap size align) tells c c' σ σ' answer)
     → Serves (cost_of_size size) (wanted_for σ.seat.profile heap size align) r.found c c' σ σ' answer
 serves {σ} {σ'} {answer} {Answers} {Same} {tells} c c' heap size align r =
     let f = σ.seat.profile in
@@ -108,19 +117,26 @@ abbrev pub asking : ℕ → ℕ → ℕ → ℕ → Request
 asking name heap size align = record { name = name; heap = heap; size = size; align = align }
 
 -- what its route says of the run that was named, for its number of pages
-named_on : (f : Profile) (heap size align : ℕ) (Answers : ℕ → Option ℕ → Type 0) (Same : Type 0) (found : Option ℕ) (route : Route) → route_in f size align ≡ route → IsNamed route (Answers ((size + 4096 - 1) / 4096)) Same found → IsNamed route (Answers (pages_of (wanted_for f heap size align))) Same found
+named_on : (f : Profile) (heap size align : ℕ) (Answers : ℕ → Option ℕ → Type 0) (Same : Type 0) (found : Option ℕ) (route : Route)
+    → route_in f size align ≡ route → IsNamed route (Answers ((size + 4096 - 1) / 4096)) Same found
+    → IsNamed route (Answers (pages_of (wanted_for f heap size align))) Same found
 named_on f heap size align Answers Same found route is named = search (arith, pages_asked)
 
-pub named_for : (f : Profile) (name heap size align : ℕ) (Answers : ℕ → ℕ → Option ℕ → Type 0) (Same : Type 0) (found : Option ℕ) → IsNamed (route_in f size align) (Answers heap ((size + 4096 - 1) / 4096)) Same found → IsNamedFor f Answers Same (Some (asking name heap size align)) found
+-- The run that a door named for a request by its route is named so for the operation.
+pub named_for : (f : Profile) (name heap size align : ℕ) (Answers : ℕ → ℕ → Option ℕ → Type 0) (Same : Type 0) (found : Option ℕ)
+    → IsNamed (route_in f size align) (Answers heap ((size + 4096 - 1) / 4096)) Same found
+    → IsNamedFor f Answers Same (Some (asking name heap size align)) found
 named_for f name heap size align Answers Same found named = named_on f heap size align (Answers heap) Same found (route_in f size align) refl named
 
 -- ---- the directory
 -- a deed word of a directory is of that one
-directory_is : (o : Option Directory) (d : Directory) → IsDirectory d → ((x : Directory) → o ≡ Some x → IsDirectory x) → word_of_deed o ≡ deed_word_of d → o ≡ Some d
+directory_is : (o : Option Directory) (d : Directory) → IsDirectory d → ((x : Directory) → o ≡ Some x → IsDirectory x) → word_of_deed o ≡ deed_word_of d
+    → o ≡ Some d
 directory_is o d is all word = grind arith
 
 -- a deed that an actor knows is the page's deed
-pub known_directory : (f : Profile) (l : Whole) (k page : ℕ) (d : Directory) → IsValid f → Legal f l → IsDirectoryOf f d → KnowsDeed page d (part k l) → deed_in (visible l) page ≡ Some d
+pub known_directory : (f : Profile) (l : Whole) (k page : ℕ) (d : Directory) → IsValid f → Legal f l → IsDirectoryOf f d → KnowsDeed page d (part k l)
+    → deed_in (visible l) page ≡ Some d
 known_directory f l k page d valid legal of knows =
     let some : known_deed (part k l) page ≢ 0 = λ none. deed_word_of-positive d (sym knows ∙ none) in
     directory_is (deed_in (visible l) page) d (directory_from_profile f d valid of) (λ x found. directory_from_profile f x valid (directory_is_of f l legal page x found))
@@ -140,7 +156,8 @@ sixteenth a align is at =
     ap (λ n. n % 16) (bytes ∙ ap (λ n. a / align * n) (sym whole) ∙ sym (mul_assoc (a / align) (align / 16) 16)) ∙ mul-mod_left (a / align * (align / 16)) 16
 
 -- a block that was given may be freed or reallocated
-pub block_stands : (f : Profile) (c : Cached) (heap size align : ℕ) (steps : List Made) (block : Block) (v : View) → IsAdmitted f size align heap → AtRest f c v → Agreed f v steps → IsBlockFor f (wanted_for f heap size align) (AtRest f c) steps block → MayStand f (Some block)
+pub block_stands : (f : Profile) (c : Cached) (heap size align : ℕ) (steps : List Made) (block : Block) (v : View) → IsAdmitted f size align heap → AtRest f c v
+    → Agreed f v steps → IsBlockFor f (wanted_for f heap size align) (AtRest f c) steps block → MayStand f (Some block)
 block_stands f c heap size align steps block v admitted rest agreed of =
     let some = some_grains f.classes size align (route_in f size align) (route_is f.classes size align) in
     let room = ap (λ n. n / 16) of.room in
@@ -152,13 +169,17 @@ block_stands f c heap size align steps block v admitted rest agreed of =
       turn = omega (arith, of.turn.from v rest agreed);
     }
 
-pub given_stands : {σ σ' : Standing} {found : Option ℕ} (c c' : Cached) (name heap size align spare : ℕ) (block : Block) → IsAdmitted σ.seat.profile size align heap
-    → CanCall σ (MayPerform σ.seat.profile c (Alloc name heap size align) spare) → Serves (cost_of_size size) (wanted_for σ.seat.profile heap size align) found c c' σ σ' (Ok block) → MayStand σ.seat.profile (Some block)
+-- The block of a request that was served may stand for its name in the region.
+pub given_stands : {σ σ' : Standing} {found : Option ℕ} (c c' : Cached) (name heap size align spare : ℕ) (block : Block)
+    → IsAdmitted σ.seat.profile size align heap
+    → CanCall σ (MayPerform σ.seat.profile c (Alloc name heap size align) spare)
+    → Serves (cost_of_size size) (wanted_for σ.seat.profile heap size align) found c c' σ σ' (Ok block) → MayStand σ.seat.profile (Some block)
 given_stands {σ} c c' name heap size align spare block admitted can call =
     block_stands σ.seat.profile c heap size align call.steps block can.view admitted can.met.rest (call.calls.adds.agreed can.view can.whole can.stood can.met.rest) call.outcome
 
 -- what is known of its give, by one view
-pub is_given : (f : Profile) (k : ℕ) (w : Wanted) (c : Cached) (steps : List Made) (block : Block) (v : View) → AtRest f c v → Agreed f v steps → IsBlockFor f w (AtRest f c) steps block → IsGiven k w v steps block
+pub is_given : (f : Profile) (k : ℕ) (w : Wanted) (c : Cached) (steps : List Made) (block : Block) (v : View) → AtRest f c v → Agreed f v steps
+    → IsBlockFor f w (AtRest f c) steps block → IsGiven k w v steps block
 is_given f k w c steps block v rest agreed of = record {
   of_heap = of.of_heap;
   room = of.room;
@@ -178,15 +199,20 @@ module _ (σ σ' : Standing) (c c' : Cached) (name heap size align : ℕ) (found
   abbrev IsPaid : Result Block NoRoom → List Made → View → Type 0
   IsPaid answer steps v = length (events_by σ.seat.actor v steps) + length (said_by σ.seat.actor (said_of_request name answer)) + owed_events σ.seat.profile c' (steps ++ v) ≤ cost_of_size size + owed_events σ.seat.profile c v
 
-  paid : (answer : Result Block NoRoom) (call : Served answer) (v : View) → AtRest σ.seat.profile c v → Agreed σ.seat.profile v call.steps → IsPaid answer call.steps v
+  paid : (answer : Result Block NoRoom) (call : Served answer) (v : View) → AtRest σ.seat.profile c v → Agreed σ.seat.profile v call.steps
+      → IsPaid answer call.steps v
   paid answer call v rest agreed = search (arith, some_cost)
 
-  ends : (answer : Result Block NoRoom) (call : Served answer) (v : View) (l : Whole) → σ.stands v l → AtRest σ.seat.profile c v → RequestEnds σ.seat.actor (wanted_for σ.seat.profile heap size align) v call.steps answer
+  ends : (answer : Result Block NoRoom) (call : Served answer) (v : View) (l : Whole) → σ.stands v l → AtRest σ.seat.profile c v
+      → RequestEnds σ.seat.actor (wanted_for σ.seat.profile heap size align) v call.steps answer
   ends (Ok block) call v l stood rest = is_given σ.seat.profile σ.seat.actor (wanted_for σ.seat.profile heap size align) c call.steps block v rest (call.calls.adds.agreed v l stood rest) call.outcome
   ends (Err room) call v l stood rest = call.outcome σ.seat.actor v
 
-  pub performs_request : (answer : Result Block NoRoom) (meant : Option Block) (Answers : ℕ → ℕ → Option ℕ → Type 0) (Same : Type 0) → Served answer → IsNamed (route_in σ.seat.profile size align) (Answers heap ((size + 4096 - 1) / 4096)) Same found
-      → (did : PerformsMeant (Alloc name heap size align) meant (block_of answer) c c' σ σ' (said_of_request name answer)) × IsNamedFor σ.seat.profile Answers Same (request_made (Alloc name heap size align) meant) did.found
+  -- A request that its cache served or refused performs what the operation means, with the run that was named for it.
+  pub performs_request : (answer : Result Block NoRoom) (meant : Option Block) (Answers : ℕ → ℕ → Option ℕ → Type 0) (Same : Type 0) → Served answer
+      → IsNamed (route_in σ.seat.profile size align) (Answers heap ((size + 4096 - 1) / 4096)) Same found
+      → (did : PerformsMeant (Alloc name heap size align) meant (block_of answer) c c' σ σ' (said_of_request name answer))
+        × IsNamedFor σ.seat.profile Answers Same (request_made (Alloc name heap size align) meant) did.found
   performs_request answer meant Answers Same call named = (
     record {
       steps = call.steps;
@@ -200,7 +226,8 @@ module _ (σ σ' : Standing) (c c' : Cached) (name heap size align : ℕ) (found
   )
 
 -- ---- a guarded request that is answered as any
-pub can_unguarded : {σ : Standing} {task : Task} {keeper name heap size align : ℕ} (c : Cached) (spare : ℕ) → task ≡ Task.Guarded keeper name heap size align → CanCall σ (MayPerform σ.seat.profile c (what_of task) spare)
+pub can_unguarded : {σ : Standing} {task : Task} {keeper name heap size align : ℕ} (c : Cached) (spare : ℕ) → task ≡ Task.Guarded keeper name heap size align
+    → CanCall σ (MayPerform σ.seat.profile c (what_of task) spare)
     → CanCall σ (MayPerform σ.seat.profile c (Alloc name heap size align) spare)
 can_unguarded {σ} {task} {keeper} {name} {heap} {size} {align} c spare is can = can_call adds_none can (λ v l stood met.
     let room = met.room in
@@ -208,9 +235,12 @@ can_unguarded {σ} {task} {keeper} {name} {heap} {size} {align} c spare is can =
     record { rest = met.rest; room = omega (arith, room, cost) })
 
 -- what answers the request answers the guarded one, which costs more
-pub guarded_performs : {σ σ' : Standing} {c c' : Cached} {name heap size align : ℕ} {meant came : Option Block} {said : Option Said} (Answers : ℕ → ℕ → Option ℕ → Type 0) (Same : Type 0) (keeper : ℕ)
-    → (did : PerformsMeant (Alloc name heap size align) meant came c c' σ σ' said) × IsNamedFor σ.seat.profile Answers Same (request_made (Alloc name heap size align) meant) did.found
-    → (did : PerformsMeant (Guarded keeper name heap size align) meant came c c' σ σ' said) × IsNamedFor σ.seat.profile Answers Same (request_made (Guarded keeper name heap size align) meant) did.found
+pub guarded_performs : {σ σ' : Standing} {c c' : Cached} {name heap size align : ℕ} {meant came : Option Block} {said : Option Said}
+    (Answers : ℕ → ℕ → Option ℕ → Type 0) (Same : Type 0) (keeper : ℕ)
+    → (did : PerformsMeant (Alloc name heap size align) meant came c c' σ σ' said)
+      × IsNamedFor σ.seat.profile Answers Same (request_made (Alloc name heap size align) meant) did.found
+    → (did : PerformsMeant (Guarded keeper name heap size align) meant came c c' σ σ' said)
+      × IsNamedFor σ.seat.profile Answers Same (request_made (Guarded keeper name heap size align) meant) did.found
 guarded_performs Answers Same keeper is =
     let did = is.0 in
     (record { steps = did.steps; found = did.found; calls = did.calls; few = λ v rest agreed. let few = did.few v rest agreed in omega (arith, few); answered = did.answered; others = did.others }, is.1)

@@ -17,6 +17,7 @@ use Rattle.pas_answers.specs.Ways.{Way, InOrder, OnThreads, is_of, records_by, b
 abbrev pub EachShown : List Record → Type 0
 EachShown = AllByRecursion CanShow
 
+-- Two lists of records that can be shown can be shown together.
 pub each_both : (xs ys : List Record) → EachShown xs → EachShown ys → EachShown (xs ++ ys)
 each_both xs ys a b = all_both CanShow xs ys a b
 
@@ -40,6 +41,7 @@ each_phases threads since (Record.Close ∷ rs) a b = each_both (by_actors 0 (th
 each_phases threads since (Record.Event e ∷ rs) a b = each_phases threads (since ++ Record.Event e ∷ []) rs (each_both since (Record.Event e ∷ []) a (b.0, tt)) b.1
 each_phases threads since (Record.Said k said ∷ rs) a b = each_phases threads (since ++ Record.Said k said ∷ []) rs (each_both since (Record.Said k said ∷ []) a (b.0, tt)) b.1
 
+-- Records that can be shown can be shown in the order in which they are written, too.
 pub each_arranged : (way : Way) (threads : ℕ) (rs : List Record) → EachShown rs → EachShown (arranged way threads rs)
 each_arranged way threads rs all = search (arith, each_phases)
 
@@ -47,13 +49,16 @@ each_arranged way threads rs all = search (arith, each_phases)
 pub records_shown : (f : Profile) (k : ℕ) (steps : List Made) (v : View) → AreOfRegion f steps → EachShown (records_of (events_by k v steps))
 records_shown f k steps v of = piece_events CanShow (events_by k v steps) (steps_showable f k steps v of)
 
-pub piece_shown : (f : Profile) (k : ℕ) (steps : List Made) (said : Option Said) (v : View) → AreOfRegion f steps → EachShown (records_of (events_by k v steps) ++ said_by k said)
+-- The records of a piece can be shown, where its steps are of the region.
+pub piece_shown : (f : Profile) (k : ℕ) (steps : List Made) (said : Option Said) (v : View) → AreOfRegion f steps
+    → EachShown (records_of (events_by k v steps) ++ said_by k said)
 piece_shown f k steps said v of = piece_all CanShow k (events_by k v steps) said (steps_showable f k steps v of) (λ s. tt)
 
 outcome_shown : (k epoch page : ℕ) (outcome : Outcome) → CanShow (record_of k epoch page outcome)
 outcome_shown k epoch page Unbacked = tt
 outcome_shown k epoch page outcome = tt
 
+-- The records of a pass can be shown.
 pub pass_shown : (k epoch : ℕ) (found : List (ℕ × Outcome)) → EachShown (records_of_pass k epoch found)
 pass_shown k epoch found = (tt, outcomes_all CanShow k epoch found (outcome_shown k epoch))
 

@@ -26,7 +26,8 @@ acts_one_by_one (act ∷ acts) = ap (λ (more : List Act). act ∷ more) (acts_o
 acts_of_phase : (threads : ℕ) (ops : List Op) → acts_in (phase_stages threads ops) ≡ phase_acts threads ops
 acts_of_phase threads ops = ap (λ (acts : List Act). map Wakes (active_threads threads ops) ++ acts) (append-nil (acts_of_ops (idle_threads threads ops) ops))
 
-acts_behind_phase : (threads : ℕ) (ops : List Op) (ss : List Stage) (acts : List Act) → acts_in ss ≡ acts → acts_in (phase_stages threads ops ++ ss) ≡ phase_acts threads ops ++ acts
+acts_behind_phase : (threads : ℕ) (ops : List Op) (ss : List Stage) (acts : List Act) → acts_in ss ≡ acts
+    → acts_in (phase_stages threads ops ++ ss) ≡ phase_acts threads ops ++ acts
 acts_behind_phase threads ops ss acts is =
     acts_in_both (phase_stages threads ops) ss ∙ (ap (λ (first : List Act). first ++ acts_in ss) (acts_of_phase threads ops) ∙ ap (λ (more : List Act). phase_acts threads ops ++ more) is)
 
@@ -62,13 +63,15 @@ by_one_list f (s ∷ ss) p q is =
     )
 
 -- .. so a replay in the order of the text goes by the stages of its plan
-pub plan_by_one_list : (plan : Plan) (p : Progress) → Reaches (region_of plan) (acts_of_plan plan) at_start p → GoByStages (region_of plan) (stages_of_plan plan) at_start p [] p.list
+pub plan_by_one_list : (plan : Plan) (p : Progress) → Reaches (region_of plan) (acts_of_plan plan) at_start p
+    → GoByStages (region_of plan) (stages_of_plan plan) at_start p [] p.list
 plan_by_one_list plan p is =
     by_one_list (region_of plan) (stages_of_plan plan) at_start p
     (subst (λ (acts : List Act). Reaches (region_of plan) acts at_start p) (sym (acts_of_stages (threads_of plan) (keepers_of plan) (phases_of plan))) is)
 
 -- ---- stages one behind the other
-pub both_by_stages : (f : Profile) (ss ts : List Stage) (p q r : Progress) (a b c : Whole) → GoByStages f ss p q a b → GoByStages f ts q r b c → GoByStages f (ss ++ ts) p r a c
+pub both_by_stages : (f : Profile) (ss ts : List Stage) (p q r : Progress) (a b c : Whole) → GoByStages f ss p q a b → GoByStages f ts q r b c
+    → GoByStages f (ss ++ ts) p r a c
 both_by_stages f [] ts p q r a b c one two = subst (λ (z : Progress × Whole). GoByStages f ts z.0 r z.1 c) (λ i. (one.0 i, one.1 i)) two
 both_by_stages f (s ∷ ss) ts p q r a b c one two = (one.0, both_by_stages f ss ts one.0.next q r (one.0.since ++ a) b c one.1 two)
 

@@ -57,10 +57,12 @@ untidy = Ending ∷ Stamping ∷ Ticking ∷ []
 keeps_tidy : (s : Step) (v : View) → is_in untidy (kind_of s) ≡ false → AllStamped v → KeepsToEnds v s
 keeps_tidy s v h stamped = search (arith, true≢false)
 
+-- Steps of kinds that learn no epoch, end nothing and stamp nothing leave a view tidy.
 pub tidy_over : (ks : Kinds) → apart ks untidy ≡ true → (steps : List Made) (v : View) → Only ks steps → Tidy v → Tidy (steps ++ v)
 tidy_over ks w = holds_over Tidy untidy ks
     (λ m v h tidy. record { kept = (keeps_tidy m.step v h tidy.stamped, tidy.kept); stamped = λ p. unstamped_step_same m.step m.answer p (is_unstamped v p) (out_within unstamping untidy (place_of (kind_of m.step)) refl h) ∙ tidy.stamped p }) w
 
+-- A look at another word than the epoch leaves a view tidy.
 pub look_tidy : (word : Word) (a : ℕ) (v : View) → is_in looking (look_kind word) ≡ true → Tidy v → Tidy (made (Look word) a ∷ v)
 look_tidy word a v is = tidy_over looking refl (made (Look word) a ∷ []) v (is, tt)
 
@@ -68,9 +70,11 @@ look_tidy word a v is = tidy_over looking refl (made (Look word) a ∷ []) v (is
 pub tick_tidy : (asked a : ℕ) (v : View) → Tidy v → Tidy (made (Tick asked) a ∷ v)
 tick_tidy asked a v tidy = record { kept = (tidy.stamped, tidy.kept); stamped = tidy.stamped }
 
+-- Where no step was made, a view stays tidy.
 pub tidy_none : (steps : List Made) (v : View) → steps ≡ [] → Tidy v → Tidy (steps ++ v)
 tidy_none steps v none tidy = subst (λ ms. Tidy (ms ++ v)) (sym none) tidy
 
+-- Steps in two parts leave a view tidy where the parts do, one after the other.
 pub tidy_both : (steps ys xs : List Made) (v : View) → steps ≡ ys ++ xs → Tidy (ys ++ (xs ++ v)) → Tidy (steps ++ v)
 tidy_both steps ys xs v is tidy = subst (λ ms. Tidy (ms ++ v)) (sym is) (subst Tidy (sym (append_assoc ys xs v)) tidy)
 
@@ -100,6 +104,7 @@ record PagesDone (g n k : ℕ) (v : View) : Type 0 where
   kept : KeptPart v
   pending : IsPending g n k v
 
+-- The first grain of a run on a page so many behind its first is on that page.
 pub first_page : (g k : ℕ) → first_on g (g / 256 + k) / 256 ≡ g / 256 + k
 first_page g k = omega arith
 
@@ -112,7 +117,8 @@ other_stays x was e h = ap (λ t. if t then false else was) e ∙ h
 next_pending : (g n k : ℕ) (v w : View) → IsPending g n k v → PageDone (g / 256 + k) v w → IsPending g n (suc k) w
 next_pending g n k v w was at = search (arith, others_stay, eqb-false, other_stays, ne_eqb)
 
-pages_done : (k g n : ℕ) (steps : List Made) (v : View) → 1 ≤ n → g / 256 + k ≤ (g + n - 1) / 256 + 1 → PagesDone g n 0 v → PagesSteps k g n steps → PagesDone g n k (steps ++ v)
+pages_done : (k g n : ℕ) (steps : List Made) (v : View) → 1 ≤ n → g / 256 + k ≤ (g + n - 1) / 256 + 1 → PagesDone g n 0 v → PagesSteps k g n steps
+    → PagesDone g n k (steps ++ v)
 pages_done zero g n steps v some few was h = subst (λ ms. PagesDone g n 0 (ms ++ v)) (sym h) was
 pages_done (suc k) g n steps v some few was h =
     let before : PagesDone g n k (h.1 ++ v) = pages_done k g n h.1 v some (omega (arith, few)) was h.3 in
@@ -171,29 +177,34 @@ end_of entry guess a (Refused read) h = h
 
 -- what the step of an end leaves unstamped, by a length or by a room
 record MarksEnds (name : Name) (n : ℕ) (s : Step) : Type 0 where
-  marks : (a p : ℕ) (u : View) → is_unstamped (made s a ∷ u) p ≡ (if (a == live_word name.turn n) && meets_page (grain_of name) n p then true else is_unstamped u p)
+  marks : (a p : ℕ) (u : View)
+      → is_unstamped (made s a ∷ u) p ≡ (if (a == live_word name.turn n) && meets_page (grain_of name) n p then true else is_unstamped u p)
   keeps : (u : View) → KeepsToEnds u s
 
 marks_by : (t : Bool) (entry : Entry) (n : ℕ) → (t ≡ true → n ≡ entry.room / 16) → MarksEnds entry.name n (last_step t entry n)
 marks_by true entry n is = subst (λ m. MarksEnds entry.name m (EndSized entry.name entry.room)) (sym (is refl)) (record { marks = λ a p u. refl; keeps = λ u. tt })
 marks_by false entry n is = record { marks = λ a p u. refl; keeps = λ u. tt }
 
-last_of : (f : Profile) (t : Bool) (entry : Entry) (n : ℕ) → (t ≡ true → n ≡ entry.room / 16) → IsStepOf f (last_step t entry n) → (entry.name.turn < 2 ^ 40 - 1) × (1 ≤ n)
+last_of : (f : Profile) (t : Bool) (entry : Entry) (n : ℕ) → (t ≡ true → n ≡ entry.room / 16) → IsStepOf f (last_step t entry n)
+    → (entry.name.turn < 2 ^ 40 - 1) × (1 ≤ n)
 last_of f true entry n is of = (of.0.2, subst (λ m. 1 ≤ m) (sym (is refl)) of.0.3)
 last_of f false entry n is of = (of.2, of.3)
 
 tries_by_tidy : (t : Bool) (entry : Entry) (first guess : ℕ) (before : List Made) (v : View) → TriesBy t entry first guess before → Tidy v → Tidy (before ++ v)
 tries_by_tidy t entry first guess before v h tidy = search (arith, tidy_none, tries_tidy)
 
-pending_now : (name : Name) (guess a : ℕ) (s : Step) (u : View) → MarksEnds name guess s → AllStamped u → a ≡ live_word name.turn guess → IsPending (grain_of name) guess 0 (made s a ∷ u)
+pending_now : (name : Name) (guess a : ℕ) (s : Step) (u : View) → MarksEnds name guess s → AllStamped u → a ≡ live_word name.turn guess
+    → IsPending (grain_of name) guess 0 (made s a ∷ u)
 pending_now name guess a s u h stamped hit = search (arith, eq-eqb, if_met, met_from)
 
-end_done : (t : Bool) (name : Name) (outcome : Outcome) (guess a : ℕ) (s : Step) (u : View) → MarksEnds name guess s → Tidy u → name.turn < 2 ^ 40 - 1 → 1 ≤ guess → EndOf t name guess a outcome → IsTried name outcome (made s a ∷ u)
+end_done : (t : Bool) (name : Name) (outcome : Outcome) (guess a : ℕ) (s : Step) (u : View) → MarksEnds name guess s → Tidy u → name.turn < 2 ^ 40 - 1
+    → 1 ≤ guess → EndOf t name guess a outcome → IsTried name outcome (made s a ∷ u)
 end_done t name (Ended grains) guess a s u marks tidy turn some h = search (arith, ended_is, pending_now, not_refused)
 end_done t name (Refused read) guess a s u marks tidy turn some h = search (arith, not_refused, misses, ne_eqb, not_ended)
 
 -- ---- an entry, all entries, and a flush; the steps are of the region
-ends_done : (f : Profile) (entry : Entry) (outcome : Outcome) (steps : List Made) (v : View) → AreOfRegion f steps → EndSteps entry outcome steps → Tidy v → IsTried entry.name outcome (steps ++ v)
+ends_done : (f : Profile) (entry : Entry) (outcome : Outcome) (steps : List Made) (v : View) → AreOfRegion f steps → EndSteps entry outcome steps → Tidy v
+    → IsTried entry.name outcome (steps ++ v)
 ends_done f entry outcome steps v of h tidy =
     let t : Bool = is_sized entry in
     let first : ℕ = guess_by (directory_read h.deed) in
@@ -215,13 +226,15 @@ entry_tidy f entry steps v of h tidy =
     let ends = of_back f h.after h.ends (subst (AreOfRegion f) h.steps_are of) in
     tidy_both steps h.after h.ends v h.steps_are (after_tidy entry.entry.name entry.outcome h.after (h.ends ++ v) (ends_done f entry.entry entry.outcome h.ends v ends h.order tidy) h.returns)
 
-entries_tidy : (f : Profile) (settled : List Settled) (steps : List Made) (v : View) → AreOfRegion f steps → EntriesSteps settled steps → Tidy v → Tidy (steps ++ v)
+entries_tidy : (f : Profile) (settled : List Settled) (steps : List Made) (v : View) → AreOfRegion f steps → EntriesSteps settled steps → Tidy v
+    → Tidy (steps ++ v)
 entries_tidy f [] steps v of h tidy = tidy_none steps v h tidy
 entries_tidy f (entry ∷ earlier) steps v of h tidy =
     let here : AreOfRegion f (h.0 ++ h.1) = subst (AreOfRegion f) h.4 of in
     tidy_both steps h.0 h.1 v h.4 (entry_tidy f entry h.0 (h.1 ++ v) (of_front f h.0 h.1 here) h.2 (entries_tidy f earlier h.1 v (of_back f h.0 h.1 here) h.3 tidy))
 
-flush_tidy : (f : Profile) (k : ℕ) (logged : List Entry) (noted noted' : List EndedRun) (steps : List Made) (v : View) → AreOfRegion f steps → EmptiesLog k logged noted noted' steps → Tidy v → Tidy (steps ++ v)
+flush_tidy : (f : Profile) (k : ℕ) (logged : List Entry) (noted noted' : List EndedRun) (steps : List Made) (v : View) → AreOfRegion f steps
+    → EmptiesLog k logged noted noted' steps → Tidy v → Tidy (steps ++ v)
 flush_tidy f k logged noted noted' steps v of h tidy =
     let look = made (Look Word.Epoch) h.epoch in
     tidy_both steps h.entries (look ∷ []) v h.steps_are (entries_tidy f h.settled h.entries (look ∷ v) (of_front f h.entries (look ∷ []) (subst (AreOfRegion f) h.steps_are of)) h.order (look_tidy Word.Epoch h.epoch v refl tidy))
@@ -232,30 +245,36 @@ stop_tidy f k c c' steps v of h tidy =
     let flushed = of_back f h.stopped h.flushed (subst (AreOfRegion f) h.steps_are of) in
     tidy_both steps h.stopped h.flushed v h.steps_are (tidy_over releasing refl h.stopped (h.flushed ++ v) h.kinds (flush_tidy f k c.log c.noted c'.noted h.flushed v flushed h.empties tidy))
 
-full_tidy : (f : Profile) (k : ℕ) (full : Bool) (log log' : List Entry) (noted noted' : List EndedRun) (steps : List Made) (v : View) → AreOfRegion f steps → EmptiesFull full k log log' noted noted' steps → Tidy v → Tidy (steps ++ v)
+full_tidy : (f : Profile) (k : ℕ) (full : Bool) (log log' : List Entry) (noted noted' : List EndedRun) (steps : List Made) (v : View) → AreOfRegion f steps
+    → EmptiesFull full k log log' noted noted' steps → Tidy v → Tidy (steps ++ v)
 full_tidy f k true log log' noted noted' steps v of h tidy = flush_tidy f k log noted noted' steps v of h.0 tidy
 full_tidy f k false log log' noted noted' steps v of h tidy = tidy_none steps v h.0 tidy
 
 -- a name is logged
-taken_tidy : (f : Profile) (k : ℕ) (c c' : Cached) (entry : Entry) (steps : List Made) (v : View) → AreOfRegion f steps → TakesEntry f k c c' entry steps → Tidy v → Tidy (steps ++ v)
+taken_tidy : (f : Profile) (k : ℕ) (c c' : Cached) (entry : Entry) (steps : List Made) (v : View) → AreOfRegion f steps → TakesEntry f k c c' entry steps
+    → Tidy v → Tidy (steps ++ v)
 taken_tidy f k c c' entry steps v of h tidy = full_tidy f k (nat_le 64 (length c.log)) c.log h.logs.kept c.noted c'.noted steps v of h.logs.emptied tidy
 
-free_tidy : (f : Profile) (k : ℕ) (c c' : Cached) (entry : Entry) (steps : List Made) (said : Option Said) (v : View) → AreOfRegion f steps → IsFreed f k c c' entry steps said → Tidy v → Tidy (steps ++ v)
+free_tidy : (f : Profile) (k : ℕ) (c c' : Cached) (entry : Entry) (steps : List Made) (said : Option Said) (v : View) → AreOfRegion f steps
+    → IsFreed f k c c' entry steps said → Tidy v → Tidy (steps ++ v)
 free_tidy f k c c' entry steps said v of (inl h) tidy = taken_tidy f k c c' entry steps v of h.0 tidy
 free_tidy f k c c' entry steps said v of (inr h) tidy = tidy_none steps v h.1.no_steps tidy
 
-freed_tidy : (f : Profile) (k : ℕ) (c c' : Cached) (name : ℕ) (room : Option ℕ) (is : Option (Option Block)) (steps : List Made) (said : Option Said) (v : View) → AreOfRegion f steps → IsFreedBy f k c c' name room is steps said → Tidy v → Tidy (steps ++ v)
+freed_tidy : (f : Profile) (k : ℕ) (c c' : Cached) (name : ℕ) (room : Option ℕ) (is : Option (Option Block)) (steps : List Made) (said : Option Said) (v : View)
+    → AreOfRegion f steps → IsFreedBy f k c c' name room is steps said → Tidy v → Tidy (steps ++ v)
 freed_tidy f k c c' name room None steps said v of h tidy = absurd h
 freed_tidy f k c c' name room (Some None) steps said v of h tidy = tidy_none steps v h.0 tidy
 freed_tidy f k c c' name room (Some (Some block)) steps said v of h tidy = free_tidy f k c c' (entry_with block.name room) steps said v of h tidy
 
 -- .. or nothing was, since the request was refused
-logged_tidy : (f : Profile) (k : ℕ) (answer : Result Block NoRoom) (c c' : Cached) (entry : Entry) (steps : List Made) (v : View) → AreOfRegion f steps → MatchResult answer (λ block. TakesEntry f k c c' entry steps) (λ room. (steps ≡ []) × (c' ≡ c)) → Tidy v → Tidy (steps ++ v)
+logged_tidy : (f : Profile) (k : ℕ) (answer : Result Block NoRoom) (c c' : Cached) (entry : Entry) (steps : List Made) (v : View) → AreOfRegion f steps
+    → MatchResult answer (λ block. TakesEntry f k c c' entry steps) (λ room. (steps ≡ []) × (c' ≡ c)) → Tidy v → Tidy (steps ++ v)
 logged_tidy f k (Ok block) c c' entry steps v of h tidy = taken_tidy f k c c' entry steps v of h tidy
 logged_tidy f k (Err room) c c' entry steps v of h tidy = tidy_none steps v h.0 tidy
 
 -- a block is kept or replaced
-remade_tidy : (f : Profile) (k name size align : ℕ) (is : Option (Option Block)) (b : Having) (a : Answer) → IsRemadeBy f k name size align is b a → AreOfRegion f a.steps → Tidy b.view → Tidy (a.steps ++ b.view)
+remade_tidy : (f : Profile) (k name size align : ℕ) (is : Option (Option Block)) (b : Having) (a : Answer) → IsRemadeBy f k name size align is b a
+    → AreOfRegion f a.steps → Tidy b.view → Tidy (a.steps ++ b.view)
 remade_tidy f k name size align None b a h of tidy = absurd h
 remade_tidy f k name size align (Some None) b a h of tidy = tidy_none a.steps b.view h.0 tidy
 remade_tidy f k name size align (Some (Some old)) b a (inl kept) of tidy = tidy_none a.steps b.view kept.no_steps tidy
@@ -264,7 +283,9 @@ remade_tidy f k name size align (Some (Some old)) b a (inr h) of tidy =
     tidy_both a.steps h.freed h.placed.steps b.view h.steps_are
     (logged_tidy f k h.served.answer h.placed.cache a.cache (entry_of old.name) h.freed (h.placed.steps ++ b.view) freed h.logged (tidy_over allocating refl h.placed.steps b.view h.served.kinds tidy))
 
-pub answer_tidy : (f : Profile) (k : ℕ) (what : What) (b : Having) (a : Answer) → IsAnswered f k what b a → AreOfRegion f a.steps → Tidy b.view → Tidy (a.steps ++ b.view)
+-- The steps that answer an operation leave their actor's view tidy.
+pub answer_tidy : (f : Profile) (k : ℕ) (what : What) (b : Having) (a : Answer) → IsAnswered f k what b a → AreOfRegion f a.steps → Tidy b.view
+    → Tidy (a.steps ++ b.view)
 answer_tidy f k (What.Alloc name heap size align) b a h of tidy = tidy_over allocating refl a.steps b.view h.kinds tidy
 answer_tidy f k (What.Guarded keeper name heap size align) b a h of tidy = tidy_over allocating refl a.steps b.view h.kinds tidy
 answer_tidy f k (What.FreeSized name room) b a h of tidy = freed_tidy f k b.cache a.cache name (Some room) (standing_for b.names name) a.steps a.said b.view of h.0 tidy

@@ -18,7 +18,7 @@ use Rattle.pas_steps.specs.Kinds.{Backing, Only, returning, kind_of, is_in}
 use Rattle.pas_steps.specs.declared.step.{Made.Made, Step.Step, Step.TheVariants.Deed}
 use Rattle.pas_steps.proofs.{Adding.agreed_first, Adding.agreed_later, Apart.no_events, Apart.events_same, Called.call_then, Called.next_call, Events.ComesOf}
 use Rattle.pas_steps.proofs.{Events.comes_of, Events.each_event, Frames.events_append, Kept.knows_still, Past.always_map, Past.always_pair, SpareRoom.Spares}
-use Rattle.pas_steps.proofs.{SpareRoom.spare_falls, Unknown.unknown_stays}
+use Rattle.pas_steps.proofs.{SpareRoom.spare_falls, Unknown.unknown_no_more}
 use Rattle.pas_rights.specs.Gives.{give_steps}
 use Rattle.pas_large.specs.{Claims.in_span, Evidence.DeedsOf, Finds.MayFind}
 use Rattle.pas_trace.specs.Reasons.{cost_of_size}
@@ -38,12 +38,14 @@ use Rattle.pas_answers.specs.Keeping.{owed_by_keeper, MayTry, cost_of_try, Tries
 use Rattle.pas_answers.proofs.Records.{IsShown, shown_new, shown_longer}
 
 -- ---- a sweep
-one_count : (t : Bool) (k : ℕ) (guard : Guard) (first : List Made) (kept after : List Guard) (said more : List Record) → SweptOne t k guard first kept after said more → length said + length kept ≡ length more + length after + 1
+one_count : (t : Bool) (k : ℕ) (guard : Guard) (first : List Made) (kept after : List Guard) (said more : List Record)
+    → SweptOne t k guard first kept after said more → length said + length kept ≡ length more + length after + 1
 one_count true k guard first kept after said more h = let kept_is = ap (λ (gs : List Guard). length gs) h.1 in let said_is = ap (λ (rs : List Record). length rs) h.2 in omega (arith, kept_is, said_is)
 one_count false k guard first kept after said more h = let kept_is = ap (λ (gs : List Guard). length gs) h.1 in let said_is = ap (λ (rs : List Record). length rs) h.2 in omega (arith, kept_is, said_is)
 
 -- each guard stays up, or is said to be lowered
-pub swept_count : (all : Bool) (k : ℕ) (guards kept : List Guard) (said : List Record) (steps : List Made) → Swept all k guards kept said steps → length said + length kept ≡ length guards
+pub swept_count : (all : Bool) (k : ℕ) (guards kept : List Guard) (said : List Record) (steps : List Made) → Swept all k guards kept said steps
+    → length said + length kept ≡ length guards
 swept_count all k [] kept said steps h = let kept_is = ap (λ (gs : List Guard). length gs) h.0 in let said_is = ap (λ (rs : List Record). length rs) h.1 in omega (arith, kept_is, said_is)
 swept_count all k (guard ∷ guards) kept said steps h =
     let rest = swept_count all k guards h.3 h.4 h.2 h.6 in
@@ -54,17 +56,23 @@ all_gone : (k : ℕ) (guards kept : List Guard) (said : List Record) (steps : Li
 all_gone k [] kept said steps h = h.0
 all_gone k (guard ∷ guards) kept said steps h = h.5.1 ∙ all_gone k guards h.3 h.4 h.2 h.6
 
-sweep_call : {σ σ' : Standing} {all : Bool} {guards guards' : List Guard} {said said' : List Record} → (s : Sweeps all guards guards' said said' σ σ') → Calls σ σ' (FitsBook σ.seat.profile guards) (λ v w. FitsBook σ.seat.profile guards' w) s.steps
+sweep_call : {σ σ' : Standing} {all : Bool} {guards guards' : List Guard} {said said' : List Record} → (s : Sweeps all guards guards' said said' σ σ')
+    → Calls σ σ' (FitsBook σ.seat.profile guards) (λ v w. FitsBook σ.seat.profile guards' w) s.steps
 sweep_call s = record { adds = s.adds; leads = s.sweep.fits }
 
-sweep_silent : {σ σ' : Standing} {all : Bool} {guards guards' : List Guard} {said said' : List Record} → (s : Sweeps all guards guards' said said' σ σ') → (k : ℕ) (v : View) → events_by k v s.steps ≡ []
+sweep_silent : {σ σ' : Standing} {all : Bool} {guards guards' : List Guard} {said said' : List Record} → (s : Sweeps all guards guards' said said' σ σ')
+    → (k : ℕ) (v : View) → events_by k v s.steps ≡ []
 sweep_silent s k v = no_events sweeping refl k v s.steps s.sweep.kinds
 
-pub fewer_up : {σ σ' : Standing} {all : Bool} {guards guards' : List Guard} {said said' : List Record} → Sweeps all guards guards' said said' σ σ' → length guards' ≤ length guards
+-- A sweep leaves no more guards up than before.
+pub fewer_up : {σ σ' : Standing} {all : Bool} {guards guards' : List Guard} {said said' : List Record} → Sweeps all guards guards' said said' σ σ'
+    → length guards' ≤ length guards
 fewer_up {σ} {all = all} {guards = guards} {guards' = guards'} s = let count = swept_count all σ.seat.actor guards guards' s.more s.steps s.sweep.swept in omega (arith, count)
 
 -- ---- the close
-pub lowers_all : {σ σ' : Standing} {book book' : GuardBook} {out out' : Records} → Sweeps true (guards_in book) (guards_in book') (records_in out) (records_in out') σ σ' → room_of out' ≡ room_of out → size_of_book book' ≡ size_of_book book → LowersAll book book' out out' σ σ'
+pub lowers_all : {σ σ' : Standing} {book book' : GuardBook} {out out' : Records}
+    → Sweeps true (guards_in book) (guards_in book') (records_in out) (records_in out') σ σ' → room_of out' ≡ room_of out
+    → size_of_book book' ≡ size_of_book book → LowersAll book book' out out' σ σ'
 lowers_all {σ} {book = book} {book' = book'} s room size =
     let gone = all_gone σ.seat.actor (guards_in book) (guards_in book') s.more s.steps s.sweep.swept in
     let count = swept_count true σ.seat.actor (guards_in book) (guards_in book') s.more s.steps s.sweep.swept in
@@ -81,11 +89,13 @@ lowers_all {σ} {book = book} {book' = book'} s room size =
     }
 
 -- ---- what a raise made
-deed_sought : (d : Directory) (k : ℕ) (s : Step) (a : ℕ) (e : Event) → is_in seeking (kind_of s) ≡ true → ((p : ℕ) (x : Directory) → s ≡ Deed p x → a ≡ 0 → x ≡ d) → ComesOf k s a e → IsDeedOf d e
+deed_sought : (d : Directory) (k : ℕ) (s : Step) (a : ℕ) (e : Event) → is_in seeking (kind_of s) ≡ true
+    → ((p : ℕ) (x : Directory) → s ≡ Deed p x → a ≡ 0 → x ≡ d) → ComesOf k s a e → IsDeedOf d e
 deed_sought d k s a (Event.Deed j p x) is made comes = subst (λ y. IsDeedOf d (Event.Deed j p y)) (sym (made p x comes.step.0 comes.step.1)) (IsDeedOf.Deeds j p)
 deed_sought d k s a e is made comes = absurd (true≢false (sym is ∙ ap (is_in seeking) comes.kind))
 
-deeds_sought : (d : Directory) (steps : List Made) → Only seeking steps → MadeOf d steps → (k : ℕ) (v : View) → AllByRecursion (IsDeedOf d) (events_by k v steps)
+deeds_sought : (d : Directory) (steps : List Made) → Only seeking steps → MadeOf d steps → (k : ℕ) (v : View)
+    → AllByRecursion (IsDeedOf d) (events_by k v steps)
 deeds_sought d steps kinds deeds k v = each_event (IsDeedOf d) (λ m before. (is_in seeking (kind_of m.step) ≡ true) × ((p : ℕ) (x : Directory) → m.step ≡ Deed p x → m.answer ≡ 0 → x ≡ d)) k v
     (λ m before epoch e h is. deed_sought d k m.step m.answer e h.0 h.1 (comes_of k epoch m.step m.answer e is)) steps
     (always_pair (λ m before. is_in seeking (kind_of m.step) ≡ true) (λ m before. (p : ℕ) (x : Directory) → m.step ≡ Deed p x → m.answer ≡ 0 → x ≡ d) steps kinds deeds)
@@ -159,7 +169,8 @@ module _ (f : Profile) (heap n : ℕ) (guards guards' : List Guard) (steps : Lis
     block_of_region v of agreed = search (arith, turn_small, page_is)
 
     -- the pages of the block are known to have the directory as their deed
-    deeds_known : (v : View) → FitsBook f guards v → Agreed f v steps → (g : ℕ) → in_run (grain_of block.name) (length_of block) g ≡ true → KnowsDeed (g / 256) d (steps ++ v)
+    deeds_known : (v : View) → FitsBook f guards v → Agreed f v steps → (g : ℕ) → in_run (grain_of block.name) (length_of block) g ≡ true
+        → KnowsDeed (g / 256) d (steps ++ v)
     deeds_known v fits agreed g inside =
         let all = subst (Agreed f v) is.steps_are agreed in
         let span = up.found.got.from v (fits_find f d guards v fits) (agreed_later f v is.after is.searched all) in
@@ -169,7 +180,8 @@ module _ (f : Profile) (heap n : ℕ) (guards guards' : List Guard) (steps : Lis
         subst (λ (w : View). KnowsDeed (g / 256) d w) (sym (append_assoc is.after is.searched v) ∙ ap (λ (xs : List Made). xs ++ v) (sym is.steps_are))
         (knows_still f d (g / 256) is.after (is.searched ++ v) (agreed_first f v is.after is.searched all) before)
 
-    some_ends : (k align : ℕ) (v : View) → FitsBook f guards v → Agreed f v steps → address_of block.name % align ≡ 0 → IsGiven k (record { directory = d; route = Route.Large; room = n * 4096; align = align }) v steps block
+    some_ends : (k align : ℕ) (v : View) → FitsBook f guards v → Agreed f v steps → address_of block.name % align ≡ 0
+        → IsGiven k (record { directory = d; route = Route.Large; room = n * 4096; align = align }) v steps block
     some_ends k align v fits agreed aligned =
         record {
           of_heap = ap (λ (b : Block). b.heap) up.block_is;
@@ -188,11 +200,12 @@ module _ (f : Profile) (heap n : ℕ) (guards guards' : List Guard) (steps : Lis
     stands_so align alignment = ap (λ (a : ℕ). a % align) page_is ∙ ap (λ a. a % align) (omega arith) ∙ stands_aligned (up.first + 1) 0 align alignment (zero-mod (align / 16))
 
   -- ---- how many events
-  raise_few : (answer : Option Block) → Raised answer → (k : ℕ) (v : View) → Agreed f v steps → length (events_by k v steps) + unknown_pages f (steps ++ v) ≤ cost_of_raise n answer + unknown_pages f v
+  raise_few : (answer : Option Block) → Raised answer → (k : ℕ) (v : View) → Agreed f v steps
+      → length (events_by k v steps) + unknown_pages f (steps ++ v) ≤ cost_of_raise n answer + unknown_pages f v
   raise_few None is k v agreed = search (arith, none_is)
   raise_few (Some block) is k v agreed =
       let all = subst (Agreed f v) is.steps_are agreed in
-      let stays = unknown_stays f is.after (is.searched ++ v) (agreed_first f v is.after is.searched all) in
+      let stays = unknown_no_more f is.after (is.searched ++ v) (agreed_first f v is.after is.searched all) in
       let left = ap (λ (xs : List Made). unknown_pages f (xs ++ v)) is.steps_are ∙ ap (λ (w : View). unknown_pages f w) (append_assoc is.after is.searched v) in
       let events = ap (λ (es : List Event). length es) (events_are block is k v) in
       let both = length-append (events_by k (is.searched ++ v) is.outcome.backs) (events_by k v is.searched) in
@@ -212,7 +225,8 @@ count_wanted f r n is large = is ∙ sym (pages_asked f r.size r.align (is_large
 cost_wanted : (size n : ℕ) → n ≡ (size + 4096 - 1) / 4096 → 2048 < size → n + 1 ≡ cost_of_size size
 cost_wanted size n is large = let cost = large_cost size large in omega (arith, is, cost)
 
-ends_by : (f : Profile) (k n : ℕ) (r : Request) (guards guards' : List Guard) (steps : List Made) (v : View) (answer : Option Block) → n ≡ (r.size + 4096 - 1) / 4096 → 2048 < r.size → IsAlignment r.align → RaiseSteps f r.heap n guards guards' answer steps
+ends_by : (f : Profile) (k n : ℕ) (r : Request) (guards guards' : List Guard) (steps : List Made) (v : View) (answer : Option Block)
+    → n ≡ (r.size + 4096 - 1) / 4096 → 2048 < r.size → IsAlignment r.align → RaiseSteps f r.heap n guards guards' answer steps
     → FitsBook f guards v → Agreed f v steps → TryEnds f k r v steps answer
 ends_by f k n r guards guards' steps v None is large alignment raise fits agreed =
     subst (λ (w : Wanted). AllByRecursion (IsDeedOf w.directory) (events_by k v steps)) (pages_wanted f r.heap r.size r.align n is large) (none_ends f r.heap n guards guards' steps raise k v fits agreed)
@@ -221,19 +235,23 @@ ends_by f k n r guards guards' steps v (Some block) is large alignment raise fit
     (some_ends f r.heap n guards guards' steps block raise k r.align v fits agreed (stands_so f r.heap n guards guards' steps block raise r.align alignment))
 
 -- ---- what may come after the sweep
-pub can_sweep : {σ : Standing} {book : GuardBook} {size spare : ℕ} {out : Records} → CanCall σ (MayTry σ.seat.profile book size spare out) → CanCall σ (FitsBook σ.seat.profile (guards_in book))
+pub can_sweep : {σ : Standing} {book : GuardBook} {size spare : ℕ} {out : Records} → CanCall σ (MayTry σ.seat.profile book size spare out)
+    → CanCall σ (FitsBook σ.seat.profile (guards_in book))
 can_sweep can = record { view = can.view; whole = can.whole; stood = can.stood; met = can.met.fits }
 
-module _ {σ σ1 : Standing} {said said' : List Record} {guards1 : List Guard} (book : GuardBook) (size spare spare1 : ℕ) (out : Records) (can : CanCall σ (MayTry σ.seat.profile book size spare out)) (s : Sweeps false (guards_in book) guards1 said said' σ σ1) where
+module _ {σ σ1 : Standing} {said said' : List Record} {guards1 : List Guard} (book : GuardBook) (size spare spare1 : ℕ) (out : Records)
+    (can : CanCall σ (MayTry σ.seat.profile book size spare out)) (s : Sweeps false (guards_in book) guards1 said said' σ σ1) where
   abbrev fit : CanCall σ (FitsBook σ.seat.profile (guards_in book))
   fit = record { view = can.view; whole = can.whole; stood = can.stood; met = can.met.fits }
 
-  pub can_raise : (n : ℕ) → n ≡ (size + 4096 - 1) / 4096 → 2048 < size → Spares σ spare → Spares σ1 spare1 → CanCall σ1 (RaiseRoom σ1.seat.profile guards1 (n + 1) spare1)
+  -- After its sweep a keeper may raise a guard, with room for its events.
+  pub can_raise : (n : ℕ) → n ≡ (size + 4096 - 1) / 4096 → 2048 < size → Spares σ spare → Spares σ1 spare1
+      → CanCall σ1 (RaiseRoom σ1.seat.profile guards1 (n + 1) spare1)
   can_raise n is large law law1 =
       let agreed = s.adds.agreed can.view can.whole can.stood can.met.fits in
       let none = ap (λ (es : List Event). length es) (sweep_silent s σ.seat.actor can.view) in
       let left = spare_falls {C = FitsBook σ.seat.profile (guards_in book)} spare spare1 0 s.adds fit law law1 none in
-      let unknown = unknown_stays σ.seat.profile s.steps can.view agreed in
+      let unknown = unknown_no_more σ.seat.profile s.steps can.view agreed in
       let room = can.met.room in
       let cost = cost_wanted size n is large in
       record {
@@ -244,7 +262,8 @@ module _ {σ σ1 : Standing} {said said' : List Record} {guards1 : List Guard} (
       }
 
 -- ---- what both calls come to
-module _ {σ σ1 σ2 : Standing} (r : Request) (book book1 book2 : GuardBook) (out out1 : Records) (answer : Option Block) (n : ℕ) (is : n ≡ (r.size + 4096 - 1) / 4096) (large : 2048 < r.size)
+module _ {σ σ1 σ2 : Standing} (r : Request) (book book1 book2 : GuardBook) (out out1 : Records) (answer : Option Block) (n : ℕ)
+    (is : n ≡ (r.size + 4096 - 1) / 4096) (large : 2048 < r.size)
     (s : Sweeps false (guards_in book) (guards_in book1) (records_in out) (records_in out1) σ σ1) (u : Raises r.heap n (guards_in book1) (guards_in book2) σ1 σ2 answer) where
   abbrev guards1 : List Guard
   guards1 = guards_in book1
@@ -278,11 +297,12 @@ module _ {σ σ1 σ2 : Standing} (r : Request) (book book1 book2 : GuardBook) (o
   events_then v = events_append k u.steps s.steps v ∙ ap (λ (es : List Event). events_by k (s.steps ++ v) u.steps ++ es) (sweep_silent s k v) ∙ append-nil (events_by k (s.steps ++ v) u.steps)
 
   -- the events and the deeds that aren't known then
-  few_then : (v : View) → Agreed f v steps → length (events_by k (s.steps ++ v) u.steps) + unknown_pages f (steps ++ v) ≤ cost_of_raise n answer + unknown_pages f v
+  few_then : (v : View) → Agreed f v steps
+      → length (events_by k (s.steps ++ v) u.steps) + unknown_pages f (steps ++ v) ≤ cost_of_raise n answer + unknown_pages f v
   few_then v agreed =
       let few = raise_few f r.heap n guards1 guards2 u.steps answer raise_so k (s.steps ++ v) (agreed_first f v u.steps s.steps agreed) in
       let left = ap (λ (w : View). unknown_pages f w) (append_assoc u.steps s.steps v) in
-      omega (arith, few, unknown_stays f s.steps v (agreed_later f v u.steps s.steps agreed), left)
+      omega (arith, few, unknown_no_more f s.steps v (agreed_later f v u.steps s.steps agreed), left)
 
   most_cost : (a : Option Block) → cost_of_raise n a ≤ cost_of_size r.size
   most_cost a = search (arith, cost_wanted)
@@ -297,7 +317,8 @@ module _ {σ σ1 σ2 : Standing} (r : Request) (book book1 book2 : GuardBook) (o
   one_told : (a : Option Block) (m : ℕ) → length (said_of_guard k r.name m a) + more_guards a + cost_of_raise n a ≤ cost_of_try r.size a
   one_told a m = search (arith, cost_wanted)
 
-  paid : (v : View) → Agreed f v steps → length (told v) + owed_by_keeper f guards2 (steps ++ v) ≤ cost_of_try r.size answer + owed_by_keeper f (guards_in book) v
+  paid : (v : View) → Agreed f v steps
+      → length (told v) + owed_by_keeper f guards2 (steps ++ v) ≤ cost_of_try r.size answer + owed_by_keeper f (guards_in book) v
   paid v agreed =
       let es = events_by k (s.steps ++ v) u.steps in
       let guard = said_of_guard k r.name (pages_of (wanted_by f r)) answer in
@@ -308,7 +329,8 @@ module _ {σ σ1 σ2 : Standing} (r : Request) (book book1 book2 : GuardBook) (o
       let c : length (records_of es) ≡ length es = length-map (reverse es) Record.Event ∙ length-reverse es in
       omega (arith, few_then v agreed, count, more, one_told answer (pages_of (wanted_by f r)), a, b, c)
 
-  is_tried : (v : View) → IsAlignment r.align → FitsBook f (guards_in book) v → Agreed f v steps → IsTried f k r v (guards_in book) (record { steps = steps; records = told v; block = answer; guards = guards2 })
+  is_tried : (v : View) → IsAlignment r.align → FitsBook f (guards_in book) v → Agreed f v steps
+      → IsTried f k r v (guards_in book) (record { steps = steps; records = told v; block = answer; guards = guards2 })
   is_tried v alignment met agreed =
       let first = agreed_later f v u.steps s.steps agreed in
       record {
@@ -328,11 +350,13 @@ module _ {σ σ1 σ2 : Standing} (r : Request) (book book1 book2 : GuardBook) (o
   after_sweep : CanCall σ (FitsBook f (guards_in book)) → CanCall σ1 (FitsBook σ1.seat.profile guards1)
   after_sweep can = next_call (sweep_call s) can (λ v met here. subst (λ (x : Seat). FitsBook x.profile guards1 (s.steps ++ v)) (sym s.adds.seat_is) here)
 
+  -- After a raise a desk has shown no fewer events than before it.
   pub more_shown : (old new : List Event) → IsShown σ1 old → IsShown σ2 new → CanCall σ (FitsBook f (guards_in book)) → length old ≤ length new
   more_shown old new before after can = shown_longer u.adds old new before after (after_sweep can)
 
   -- the events that are shown more are those of the raise
-  shown_of : (old new : List Event) → IsShown σ1 old → IsShown σ2 new → (v : View) (l : Whole) → σ.stands v l → FitsBook f (guards_in book) v → drop (length old) new ≡ reverse (events_by k (s.steps ++ v) u.steps)
+  shown_of : (old new : List Event) → IsShown σ1 old → IsShown σ2 new → (v : View) (l : Whole) → σ.stands v l → FitsBook f (guards_in book) v
+      → drop (length old) new ≡ reverse (events_by k (s.steps ++ v) u.steps)
   shown_of old new before after v l stood met =
       let here = fits_then v met (s.adds.agreed v l stood met) in
       shown_new u.adds old new before after (s.steps ++ v) (triples k s.steps ++ l) (s.adds.added v l stood met) (subst (λ (x : Seat). FitsBook x.profile guards1 (s.steps ++ v)) (sym s.adds.seat_is) here)
@@ -342,7 +366,8 @@ module _ {σ σ1 σ2 : Standing} (r : Request) (book book1 book2 : GuardBook) (o
   both_agreed v l stood met = both_call.adds.agreed v l stood met
 
   -- there is room for what is said
-  pub told_fits : (spare : ℕ) (old new : List Event) → IsShown σ1 old → IsShown σ2 new → CanCall σ (MayTry f book r.size spare out) → length (records_in out1) + length (drop (length old) new) + 1 ≤ room_of out
+  pub told_fits : (spare : ℕ) (old new : List Event) → IsShown σ1 old → IsShown σ2 new → CanCall σ (MayTry f book r.size spare out)
+      → length (records_in out1) + length (drop (length old) new) + 1 ≤ room_of out
   told_fits spare old new before after can =
       let v = can.view in
       let es = events_by k (s.steps ++ v) u.steps in
@@ -358,26 +383,35 @@ module _ {σ σ1 σ2 : Standing} (r : Request) (book book1 book2 : GuardBook) (o
   stands_by None v of raise agreed = λ block same. absurd (let bad : None ≡ Some block = same in cc)
   stands_by (Some block) v of raise agreed = λ b same. subst (IsBlockOf f) (same_Some _ _ same) (block_of_region f r.heap n guards1 guards2 u.steps block raise v of agreed)
 
+  -- The block of a raise may stand for its name in the region.
   pub given_stands : r.heap < f.heaps → CanCall σ (FitsBook f (guards_in book)) → MayStand f answer
   given_stands of can = stands_by answer (s.steps ++ can.view) of raise_so (agreed_first f can.view u.steps s.steps (both_agreed can.view can.whole can.stood can.met))
 
   -- what is said of the guard that went up, if any
-  pub said_some : (block : Block) (actor : ℕ) (message : Said) → actor ≡ σ2.seat.actor → message ≡ Said.Guarded (address_of block.name / 4096 - 1) (address_of block.name / 4096 + n) r.name → Record.Said actor message ∷ [] ≡ said_of_guard k r.name (pages_of (wanted_by f r)) (Some block)
+  pub said_some : (block : Block) (actor : ℕ) (message : Said) → actor ≡ σ2.seat.actor
+      → message ≡ Said.Guarded (address_of block.name / 4096 - 1) (address_of block.name / 4096 + n) r.name
+      → Record.Said actor message ∷ [] ≡ said_of_guard k r.name (pages_of (wanted_by f r)) (Some block)
   said_some block actor message actor_is message_is = search (arith, count_wanted)
 
+  -- Where a raise gave no block, nothing more is said of a guard.
   pub said_none : (rs : List Record) → answer ≡ None → rs ≡ rs ++ said_of_guard k r.name (pages_of (wanted_by f r)) answer
   said_none rs none = sym (ap (λ (a : Option Block). rs ++ said_of_guard k r.name (pages_of (wanted_by f r)) a) none ∙ append-nil rs)
 
   -- the keeper's records, in the order in which they came
-  told_are : (out2 out3 : Records) (old new : List Event) → IsShown σ1 old → IsShown σ2 new → records_in out2 ≡ records_in out1 ++ map Record.Event (drop (length old) new)
-      → records_in out3 ≡ records_in out2 ++ said_of_guard k r.name (pages_of (wanted_by f r)) answer → (v : View) (l : Whole) → σ.stands v l → FitsBook f (guards_in book) v → records_in out3 ≡ records_in out ++ told v
+  told_are : (out2 out3 : Records) (old new : List Event) → IsShown σ1 old → IsShown σ2 new
+      → records_in out2 ≡ records_in out1 ++ map Record.Event (drop (length old) new)
+      → records_in out3 ≡ records_in out2 ++ said_of_guard k r.name (pages_of (wanted_by f r)) answer → (v : View) (l : Whole) → σ.stands v l
+      → FitsBook f (guards_in book) v → records_in out3 ≡ records_in out ++ told v
   told_are out2 out3 old new before after events last v l stood met = search (arith, shown_of, append_assoc)
 
   short : length steps ≤ try_steps f r (guards_in book)
   short = search (arith, count_wanted, raise_so, length-append)
 
-  pub tries : (out2 out3 : Records) (old new : List Event) → IsAlignment r.align → IsShown σ1 old → IsShown σ2 new → records_in out2 ≡ records_in out1 ++ map Record.Event (drop (length old) new)
-      → records_in out3 ≡ records_in out2 ++ said_of_guard k r.name (pages_of (wanted_by f r)) answer → room_of out3 ≡ room_of out → size_of_book book2 ≡ size_of_book book → TriesRequest r book book2 out out3 σ σ2 answer
+  -- A sweep and a raise after it, with what is said of both, are a keeper's try of a request.
+  pub tries : (out2 out3 : Records) (old new : List Event) → IsAlignment r.align → IsShown σ1 old → IsShown σ2 new
+      → records_in out2 ≡ records_in out1 ++ map Record.Event (drop (length old) new)
+      → records_in out3 ≡ records_in out2 ++ said_of_guard k r.name (pages_of (wanted_by f r)) answer → room_of out3 ≡ room_of out
+      → size_of_book book2 ≡ size_of_book book → TriesRequest r book book2 out out3 σ σ2 answer
   tries out2 out3 old new alignment before after events last room size = record {
     steps = steps;
     calls = both_call;

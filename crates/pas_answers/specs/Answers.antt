@@ -165,7 +165,8 @@ pub record IsReplaced (f : Profile) (k : ℕ) (r : Request) (old : Block) (befor
   pub placed : Answer
   pub served : IsServed f k r before placed
   pub freed : List Made
-  pub logged : MatchResult served.answer (λ block. TakesEntry f k placed.cache after.cache (entry_of old.name) freed) (λ room. (freed ≡ []) × (after.cache ≡ placed.cache))
+  pub logged : MatchResult served.answer (λ block. TakesEntry f k placed.cache after.cache (entry_of old.name) freed) (λ room. (freed ≡ [])
+        × (after.cache ≡ placed.cache))
   pub steps_are : after.steps ≡ freed ++ placed.steps
   pub said_is : after.said ≡ placed.said
   pub found_is : after.found ≡ placed.found

@@ -83,7 +83,8 @@ abbrev pub TriedIsNamedBy : (f : Profile) → Indexes → (op : Op) (r : Request
 TriedIsNamedBy f indexes op r (Some block) p p' is = Unit {0}
 TriedIsNamedBy f indexes op r None p p' is = IsNamedBy f indexes (request_by p.names op.what) is.0.found
 
-abbrev pub GuardedIsNamedBy : (f : Profile) → Indexes → (keeper : ℕ) (op : Op) (o : Option Request) (p p' : Progress) → AnswersGuarded f keeper op o p p' → Type 0
+abbrev pub GuardedIsNamedBy : (f : Profile) → Indexes → (keeper : ℕ) (op : Op) (o : Option Request) (p p' : Progress) → AnswersGuarded f keeper op o p p'
+    → Type 0
 GuardedIsNamedBy f indexes keeper op None p p' is = Unit {0}
 GuardedIsNamedBy f indexes keeper op (Some r) p p' is = TriedIsNamedBy f indexes op r is.0.block (after_trying p keeper is.0) p' is.2
 

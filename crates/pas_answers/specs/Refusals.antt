@@ -21,11 +21,13 @@ pub record Served (f : Profile) (k : ℕ) (b : Having) : Type 0 where
   pub served : IsServed f k request b placed
 
 -- that of a reallocation, where the block was replaced
-abbrev pub request_in_move : (f : Profile) (k : ℕ) (r : Request) (old : Block) (b : Having) (a : Answer) → IsKept r old b a ⊎ IsReplaced f k r old b a → Option (Served f k b)
+abbrev pub request_in_move : (f : Profile) (k : ℕ) (r : Request) (old : Block) (b : Having) (a : Answer) → IsKept r old b a ⊎ IsReplaced f k r old b a
+    → Option (Served f k b)
 request_in_move f k r old b a (inl kept) = None
 request_in_move f k r old b a (inr moved) = Some record { request = r; placed = moved.placed; served = moved.served }
 
-abbrev pub request_in_remade : (f : Profile) (k name size align : ℕ) (o : Option (Option Block)) (b : Having) (a : Answer) → IsRemadeBy f k name size align o b a → Option (Served f k b)
+abbrev pub request_in_remade : (f : Profile) (k name size align : ℕ) (o : Option (Option Block)) (b : Having) (a : Answer)
+    → IsRemadeBy f k name size align o b a → Option (Served f k b)
 request_in_remade f k name size align None b a is = None
 request_in_remade f k name size align (Some None) b a is = None
 request_in_remade f k name size align (Some (Some old)) b a is = request_in_move f k (request_for old name size align) old b a is

@@ -14,6 +14,7 @@ sixteens_all = refl
 or_last : (x y z : Bool) → (x || not y || z) ≡ true → x ≡ false → y ≡ true → z ≡ true
 or_last x y z h hx hy = grind arith
 
+-- An alignment is a multiple of 16.
 pub sixteens : (align : ℕ) → IsAlignment align → align % 16 ≡ 0
 sixteens align is =
     let low = is.0 in let high = is.1 in

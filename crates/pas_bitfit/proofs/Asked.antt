@@ -8,16 +8,21 @@ use Rattle.pas_choice.specs.Allocates.{IsGiven, AllocatesRun}
 use Rattle.pas_bitfit.specs.{Allocates.bitfit_directory, Allocates.run_for, Allocates.IsOfRequest, Runs.IsWanted, Runs.runs, Runs.run_at}
 use Rattle.pas_bitfit.proofs.Aligned.{stands_aligned}
 
+-- A bit-fit room and an alignment are what a run may be wanted for.
 pub is_wanted : (room align : ℕ) → (16 ≤ room) × (room ≤ 2048) × (room % 16 ≡ 0) → IsAlignment align → IsWanted (run_for room align)
 is_wanted room align sized is = record { grains = (omega (arith, sized.0), omega (arith, sized.1)); align = (omega (arith, is.0), omega (arith, is.1)) }
 
 module _ (room align : ℕ) (sized : (16 ≤ room) × (room ≤ 2048) × (room % 16 ≡ 0)) (alignment : IsAlignment align) where
-  of_request : (f : Profile) (d : Directory) (searched after : List Made) (block : Block) → IsGiven (runs (run_for room align)) (run_at (run_for room align)) f d searched after block → IsOfRequest room align block
+  of_request : (f : Profile) (d : Directory) (searched after : List Made) (block : Block)
+      → IsGiven (runs (run_for room align)) (run_at (run_for room align)) f d searched after block → IsOfRequest room align block
   of_request f d searched after block is = record {
     room_is = is.room_is ∙ omega (arith, sized.2);
     aligned = ap (λ a. a % align) is.address_is ∙ stands_aligned is.page is.found align alignment is.served.serves.chosen.this.aligned;
   }
 
-  pub answer_of_request : {tells : Bool} {σ σ' : Standing} (heap : ℕ) (answer : Result Block NoRoom) → AllocatesRun (runs (run_for room align)) (run_at (run_for room align)) (bitfit_directory heap) tells σ σ' answer → MatchResult answer (IsOfRequest room align) (λ why. Unit {0})
+  -- The block of a run that was allocated for a room and an alignment has both.
+  pub answer_of_request : {tells : Bool} {σ σ' : Standing} (heap : ℕ) (answer : Result Block NoRoom)
+      → AllocatesRun (runs (run_for room align)) (run_at (run_for room align)) (bitfit_directory heap) tells σ σ' answer
+      → MatchResult answer (IsOfRequest room align) (λ why. Unit {0})
   answer_of_request {σ = σ} heap (Ok block) a = of_request σ.seat.profile (bitfit_directory heap) a.searched a.after block a.outcome
   answer_of_request heap (Err why) a = tt

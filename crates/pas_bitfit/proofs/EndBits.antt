@@ -6,7 +6,9 @@ use Rattle.pas_steps.specs.States.{word_in}
 use Rattle.pas_steps.specs.declared.state.State.{State}
 use Rattle.pas_bitfit.specs.Ends.{ends_with, IsEnd}
 
-pub one_more : (state : State) (page n x : ℕ) (was now : Bool) → now ≡ (ends_with (word_in state (Word.Life page n)) n x || was) → IsTrue was ↔ IsEnd state page n x → IsTrue now ↔ IsEnd state page (n + 1) x
+-- Whether a block ends at a grain, by the life words of n + 1 grains, is so by the last of them or by those before.
+pub one_more : (state : State) (page n x : ℕ) (was now : Bool) → now ≡ (ends_with (word_in state (Word.Life page n)) n x || was)
+    → IsTrue was ↔ IsEnd state page n x → IsTrue now ↔ IsEnd state page (n + 1) x
 one_more state page n x was now is so_far = (
   λ h. elim (cases_Bool (ends_with (word_in state (Word.Life page n)) n x)) [
     | inl here ↦ (n, omega arith, here)

@@ -10,6 +10,7 @@ module _ (wanted : Wanted) (free : Mask4) where
   place_of : (g : ℕ) → Fits wanted (is_set free) g → IsPlace free wanted.grains wanted.align 256 g
   place_of g fits = record { aligned = fits.aligned; within = fits.within; set = fits.free }
 
+  -- The lowest place of a mask is the lowest run that fits.
   pub lowest_fits : (found : Option ℕ) → MatchOption found (HasNoPlace free wanted.grains wanted.align 256) (IsLowestPlace free wanted.grains wanted.align 256)
       → MatchOption found (NoneFits wanted (is_set free)) (IsLowestFit wanted (is_set free))
   lowest_fits None none = λ g fits. none g (place_of g fits)

@@ -9,6 +9,7 @@ use Rattle.pas_bits.specs.Bits.{has_bit, count_below}
 pub count_suc : (i : ℕ) (p : ℕ → Bool) (b : Bool) → p i ≡ b → count_below (suc i) p ≡ count_below i p + (if b then 1 else 0)
 count_suc i p b e = grind arith
 
+-- The numbers below one more that pass are those before it, and the number itself if it passes.
 pub count_more : (i : ℕ) (p : ℕ → Bool) → count_below (i + 1) p ≡ count_below i p + (if p i then 1 else 0)
 count_more i p = ap (λ n. count_below n p) (add-one i) ∙ count_suc i p (p i) refl
 
@@ -17,6 +18,7 @@ pub count_same : (n : ℕ) (p q : ℕ → Bool) → ((i : ℕ) → i < n → p i
 count_same zero p q same = refl
 count_same (suc n) p q same = let rest = count_same n p q (λ i h. same i (omega arith)) in λ t. if same n (omega arith) t then suc (rest t) else rest t
 
+-- The numbers below a sum that pass are those below its first part and those behind it.
 pub count_add : (i j : ℕ) (p : ℕ → Bool) → count_below (i + j) p ≡ count_below i p + count_below j (λ b. p (i + b))
 count_add i zero p = ap (λ n. count_below n p) (add-zero i) ∙ omega arith
 count_add i (suc j) p = ap (λ n. count_below n p) (add-suc i j) ∙ count_suc (i + j) p (p (i + j)) refl ∙ omega (arith, count_add i j p, count_suc j (λ b. p (i + b)) (p (i + j)) refl)
@@ -32,6 +34,7 @@ top_ones zero few b is = ap (λ t. if t then 1 else 0) is
 top_ones (suc zero) few b is = ap (λ t. if t then 1 else 0) is
 top_ones (suc (suc n)) few b is = absurd (omega arith)
 
+-- The ones of a number are its set bits.
 pub ones_counted : (k n : ℕ) → n < 2 ^ k → count_ones n ≡ count_below k (has_bit n)
 ones_counted zero n small = let none : n ≡ 0 = omega arith in ap (λ m. count_ones m) none ∙ no_ones
 ones_counted (suc k) n small =

@@ -31,6 +31,7 @@ pub record IsLowestBit (n low z : ℕ) : Type 0 where
   pub set : has_bit n (low + z) ≡ true
   pub lowest : (b : ℕ) → low ≤ b → b < low + z → has_bit n b ≡ false
 
+-- A number whose bits from one on aren't all 0 has its lowest set bit where its trailing zeros end.
 pub lowest_from : (n low : ℕ) → n < 2 ^ 64 → n / 2 ^ low ≢ 0 → IsLowestBit n low (trailing_zeros w64 (n / 2 ^ low))
 lowest_from n low fits some =
     let s = shr_le n low in
@@ -53,6 +54,7 @@ lowest_from n low fits some =
 pub ones_are : (bits : ℕ) → bits ≤ 64 → 18446744073709551615 / 2 ^ (64 - bits) ≡ 2 ^ bits - 1
 ones_are bits h = ones_shr 64 (64 - bits) (omega arith) ∙ ap (λ n. 2 ^ n - 1) (omega (arith, h))
 
+-- A run of low ones is at most each longer one.
 pub ones_le : (low high : ℕ) → low ≤ high → 2 ^ low - 1 ≤ 2 ^ high - 1
 ones_le low high h = let p : 2 ^ low ≤ 2 ^ high = pow-le-pow_right (lit< tt) h in omega (arith, p)
 
@@ -63,13 +65,15 @@ min_is a b = elim (cases_lt b a) [ inl lt ↦ inr (grind (arith, nat_tests, lt),
 cut : (at base b : ℕ) → b < 64 → (b < min (at - base) 64 → base + b < at) × (min (at - base) 64 ≤ b → at ≤ base + b)
 cut at base b h = search (arith, min_is)
 
+-- The part of a word that a place cuts off is at most that of a later place.
 pub cut_le : (at to base : ℕ) → at ≤ to → min (at - base) 64 ≤ min (to - base) 64
 cut_le at to base h = search (arith, min_is)
 
 mask_between : (low high : ℕ) → low ≤ high → 2 ^ high - 1 - (2 ^ low - 1) ≡ 2 ^ high - 2 ^ low
 mask_between low high h = let p = pow_pos low in omega (arith, p)
 
-mask_bit : (first grains base b : ℕ) → b < 64 → has_bit (2 ^ min (first + grains - base) 64 - 1 - (2 ^ min (first - base) 64 - 1)) b ≡ in_run first grains (base + b)
+mask_bit : (first grains base b : ℕ) → b < 64
+    → has_bit (2 ^ min (first + grains - base) 64 - 1 - (2 ^ min (first - base) 64 - 1)) b ≡ in_run first grains (base + b)
 mask_bit first grains base b h =
     let order : min (first - base) 64 ≤ min (first + grains - base) 64 = cut_le first (first + grains) base (omega arith) in
     let is = mask_between (min (first - base) 64) (min (first + grains - base) 64) order in
@@ -83,7 +87,9 @@ mask_bit first grains base b h =
       ]
     ]
 
-pub mask_is : (first grains base low high b m : ℕ) → m ≡ high - low → high ≡ 2 ^ min (first + grains - base) 64 - 1 → low ≡ 2 ^ min (first - base) 64 - 1 → b < 64 → has_bit m b ≡ in_run first grains (base + b)
+-- The difference of two runs of low ones has just the bits of a run that lie in the word.
+pub mask_is : (first grains base low high b m : ℕ) → m ≡ high - low → high ≡ 2 ^ min (first + grains - base) 64 - 1 → low ≡ 2 ^ min (first - base) 64 - 1
+    → b < 64 → has_bit m b ≡ in_run first grains (base + b)
 mask_is first grains base low high b m is is_high is_low h = ap (λ n. has_bit n b) (is ∙ ap (λ n. n - low) is_high ∙ ap (λ n. 2 ^ min (first + grains - base) 64 - 1 - n) is_low) ∙ mask_bit first grains base b h
 
 -- ---- masks that share no bit
@@ -91,7 +97,9 @@ mask_is first grains base low high b m is is_high is_low h = ap (λ n. has_bit n
 abbrev pub ApartBelow : Mask4 → Mask4 → ℕ → Type 0
 ApartBelow a b end = (x : ℕ) → x < end → is_set b x ≡ true → is_set a x ≡ false
 
-pub apart_more : (a b : Mask4) (word : ℕ) → bit_and (slice_index a.0 word) (slice_index b.0 word) ≡ 0 → ApartBelow a b (64 * word) → ApartBelow a b (64 * (word + 1))
+-- Masks that are apart in one word more are apart below its end.
+pub apart_more : (a b : Mask4) (word : ℕ) → bit_and (slice_index a.0 word) (slice_index b.0 word) ≡ 0 → ApartBelow a b (64 * word)
+    → ApartBelow a b (64 * (word + 1))
 apart_more a b word shares before x lt set = elim (cases_lt x (64 * word)) [
   | inl below ↦ before x below set
   | inr ge ↦
@@ -101,6 +109,7 @@ apart_more a b word shares before x lt set = elim (cases_lt x (64 * word)) [
       by_word a word x at ∙ sym (and-true (has_bit (slice_index a.0 word) (x % 64))) ∙ ap (λ t. has_bit (slice_index a.0 word) (x % 64) && t) (sym (sym (by_word b word x at) ∙ set)) ∙ none
 ]
 
+-- Masks with a common bit in a word aren't apart.
 pub not_apart : (a b : Mask4) (word : ℕ) → slice_index a.0 word < 2 ^ 64 → bit_and (slice_index a.0 word) (slice_index b.0 word) ≢ 0 → AreApart a b → ⊥
 not_apart a b word fits shares apart =
     let le = and_le_l (slice_index a.0 word) (slice_index b.0 word) in
@@ -111,18 +120,21 @@ not_apart a b word fits shares apart =
     let out_of_a = apart (64 * word + z) (at_word b word z t.0 ∙ both.1) in
     cc
 
+-- Masks of four words that are apart below 256 are apart.
 pub apart_whole : (a b : Mask4) → length b.0 ≡ 4 → ApartBelow a b 256 → AreApart a b
 apart_whole a b long h x set = h x (set_within b x long set) set
 
 -- ---- a mask has a run where its other bits and the run share none
-pub has_run_where : (r : Bool) (mask others run : Mask4) (first grains : ℕ) → first + grains ≤ 256 → ((g : ℕ) → g < 256 → is_set others g ≡ not (is_set mask g)) → ((g : ℕ) → is_set run g ≡ in_run first grains g)
+pub has_run_where : (r : Bool) (mask others run : Mask4) (first grains : ℕ) → first + grains ≤ 256 → ((g : ℕ) → g < 256 → is_set others g ≡ not (is_set mask g))
+    → ((g : ℕ) → is_set run g ≡ in_run first grains g)
     → (IsTrue r ↔ AreApart others run) → IsTrue r ↔ AreSet mask first grains
 has_run_where r mask others run first grains within other is answer = search (arith, not-false, to_run, run_of)
 
 -- ==== How many bits of a mask are set.
 
 -- the bits of one word of a mask
-count_word : (mask : Mask4) (word k from : ℕ) → k ≡ 64 → from ≡ 64 * word → WordsFit mask → count_below k (λ x. is_set mask (from + x)) ≡ count_ones (slice_index mask.0 word)
+count_word : (mask : Mask4) (word k from : ℕ) → k ≡ 64 → from ≡ 64 * word → WordsFit mask
+    → count_below k (λ x. is_set mask (from + x)) ≡ count_ones (slice_index mask.0 word)
 count_word mask word k from width at fits =
     count_same k _ _ (λ x h. ap (λ n. is_set mask (n + x)) at ∙ at_word mask word x (omega (arith, width, h)))
     ∙ sym (ones_counted k (slice_index mask.0 word) (subst (λ n. slice_index mask.0 word < 2 ^ n) (sym width) (fits word)))
@@ -154,11 +166,13 @@ set_ones mask = set_counted mask 256 64 refl refl
 
 -- ---- the lowest set bit
 -- a word that is left as 0 has no set bit from there on
-pub none_left : (mask : Mask4) (from word low : ℕ) → low ≡ from - 64 * word → slice_index mask.0 word / 2 ^ low ≡ 0 → AreClear mask from (64 * word) → AreClear mask from (64 * (word + 1))
+pub none_left : (mask : Mask4) (from word low : ℕ) → low ≡ from - 64 * word → slice_index mask.0 word / 2 ^ low ≡ 0 → AreClear mask from (64 * word)
+    → AreClear mask from (64 * (word + 1))
 none_left mask from word low is nothing before x a b = search (arith, cases_lt, by_word, none_from)
 
 -- where a word isn't left as 0, its lowest bit there is the mask's
-pub lowest_is : (mask : Mask4) (from word low g : ℕ) → g ≡ 64 * word + low + trailing_zeros w64 (slice_index mask.0 word / 2 ^ low) → low ≡ from - 64 * word → from / 64 ≤ word → word < 4 → slice_index mask.0 word < 2 ^ 64
+pub lowest_is : (mask : Mask4) (from word low g : ℕ) → g ≡ 64 * word + low + trailing_zeros w64 (slice_index mask.0 word / 2 ^ low) → low ≡ from - 64 * word
+    → from / 64 ≤ word → word < 4 → slice_index mask.0 word < 2 ^ 64
     → slice_index mask.0 word / 2 ^ low ≢ 0 → AreClear mask from (64 * word) → IsLowestSet mask from g
 lowest_is mask from word low g at is began small fits some before =
     let found = lowest_from (slice_index mask.0 word) low fits some in
@@ -172,7 +186,8 @@ lowest_is mask from word low g at is began small fits some before =
     }
 
 -- there is none exactly in an empty mask
-pub is_empty_by : (mask : Mask4) (o : Option ℕ) → MatchOption o (AreClear mask 0 256) (λ g. IsLowestSet mask 0 g) → (t : Bool) → is_some o ≡ not t → MatchBool t (IsEmpty mask) (HasMember mask)
+pub is_empty_by : (mask : Mask4) (o : Option ℕ) → MatchOption o (AreClear mask 0 256) (λ g. IsLowestSet mask 0 g) → (t : Bool) → is_some o ≡ not t
+    → MatchBool t (IsEmpty mask) (HasMember mask)
 is_empty_by mask o clear t e = grind arith
 
 -- ---- the lowest clear bit, by the other bits of the mask
@@ -185,7 +200,9 @@ set_where mask others x other h none = not-false (is_set mask x) (sym (other x h
 clear_where : (mask others : Mask4) (x : ℕ) → AreOthers mask others → x < 256 → is_set others x ≡ true → is_set mask x ≡ false
 clear_where mask others x other h one = not-true (is_set mask x) (sym (other x h) ∙ one)
 
-pub lowest_clear : (mask others : Mask4) → AreOthers mask others → (r : Option ℕ) → MatchOption r (AreClear others 0 256) (λ g. IsLowestSet others 0 g) → MatchOption r (AllSetBelow mask 256) (λ g. IsLowestClear mask g)
+-- The lowest clear bit of a mask is the lowest set one of its complement.
+pub lowest_clear : (mask others : Mask4) → AreOthers mask others → (r : Option ℕ) → MatchOption r (AreClear others 0 256) (λ g. IsLowestSet others 0 g)
+    → MatchOption r (AllSetBelow mask 256) (λ g. IsLowestClear mask g)
 lowest_clear mask others other r bare = grind (arith, set_where, clear_where)
 
 -- ---- places
@@ -197,7 +214,8 @@ next_multiple : (k a b : ℕ) → a % k ≡ 0 → b % k ≡ 0 → a < b → a + 
 next_multiple k a b ea eb lt = search (arith, cases_lt, same_from_place, multiple)
 
 -- the least multiple from a number on
-pub rounded : (set align up : ℕ) → 1 ≤ align → up ≡ set / align + min 1 (set % align) → (set ≤ up * align) × (up * align < set + align) × (up * align % align ≡ 0)
+pub rounded : (set align up : ℕ) → 1 ≤ align → up ≡ set / align + min 1 (set % align)
+    → (set ≤ up * align) × (up * align < set + align) × (up * align % align ≡ 0)
 rounded set align up h is =
     let b = div_ceil_times set align h in
     let same : up * align ≡ (set / align + min 1 (set % align)) * align = ap (λ n. n * align) is in
@@ -213,11 +231,13 @@ own : (mask : Mask4) (n align end h : ℕ) → 1 ≤ n → IsPlace mask n align 
 own mask n align end h some place = place.set h (omega arith) (omega (arith, some))
 
 -- none where no bit is set from `start` on
-none_to : (mask : Mask4) (n align end start stop : ℕ) → 1 ≤ n → NoPlaceBelow mask n align end start → AreClear mask start stop → NoPlaceBelow mask n align end stop
+none_to : (mask : Mask4) (n align end start stop : ℕ) → 1 ≤ n → NoPlaceBelow mask n align end start → AreClear mask start stop
+    → NoPlaceBelow mask n align end stop
 none_to mask n align end start stop some before bare h lt place = search (arith, cases_lt, own)
 
 -- none between the lowest set bit and the next multiple
-pub none_to_place : (mask : Mask4) (n align end start set place : ℕ) → 1 ≤ n → place % align ≡ 0 → place < set + align → NoPlaceBelow mask n align end start → IsLowestSet mask start set → NoPlaceBelow mask n align end place
+pub none_to_place : (mask : Mask4) (n align end start set place : ℕ) → 1 ≤ n → place % align ≡ 0 → place < set + align → NoPlaceBelow mask n align end start
+    → IsLowestSet mask start set → NoPlaceBelow mask n align end place
 none_to_place mask n align end start set place some whole near before low h lt other = search (arith, cases_lt, none_to, next_multiple)
 
 -- none at all where the lowest possible one ends too late
@@ -225,10 +245,13 @@ pub none_within : (mask : Mask4) (n align end place : ℕ) → end < place + n �
 none_within mask n align end place late before h other = search (arith, cases_lt)
 
 -- none up to the clear bit that ends a run that is too short
-pub none_past : (mask : Mask4) (n align end place stop : ℕ) → end ≤ 256 → place + n ≤ end → stop < place + n → NoPlaceBelow mask n align end place → IsRunEnd mask place stop → NoPlaceBelow mask n align end (stop + 1)
+pub none_past : (mask : Mask4) (n align end place stop : ℕ) → end ≤ 256 → place + n ≤ end → stop < place + n → NoPlaceBelow mask n align end place
+    → IsRunEnd mask place stop → NoPlaceBelow mask n align end (stop + 1)
 none_past mask n align end place stop small within short before run h lt other = search (arith, cases_lt)
 
-pub place_found : (mask : Mask4) (n align end place stop : ℕ) → place % align ≡ 0 → place + n ≤ end → place + n ≤ stop → NoPlaceBelow mask n align end place → IsRunEnd mask place stop → IsLowestPlace mask n align end place
+-- A place whose run ends late enough, with none below it, is the lowest one.
+pub place_found : (mask : Mask4) (n align end place stop : ℕ) → place % align ≡ 0 → place + n ≤ end → place + n ≤ stop → NoPlaceBelow mask n align end place
+    → IsRunEnd mask place stop → IsLowestPlace mask n align end place
 place_found mask n align end place stop whole within long before run = record {
   place = record { aligned = whole; within = within; set = λ x a b. run.set x a (omega (arith, b, long)) };
   lowest = before;

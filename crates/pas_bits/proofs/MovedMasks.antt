@@ -37,7 +37,8 @@ twice_above : (m k i : ℕ) → i < 64 → k < i → has_bit (shifted_twice m k)
 twice_above m k i h gt = shifted_above (m * 2 ^ 1 % 2 ^ 64) k i h (omega (arith, gt)) ∙ shifted_above m 1 (i - k) (omega (arith, h)) (omega (arith, gt))
 
 -- 64 bits of two words, from one of the lower word's on
-pub window_bit : (low high from b : ℕ) → low < 2 ^ 64 → from < 64 → b < 64 → has_bit (bit_or (low / 2 ^ from) (shifted_twice high (63 - from))) b ≡ bit_of_two low high (b + from)
+pub window_bit : (low high from b : ℕ) → low < 2 ^ 64 → from < 64 → b < 64
+    → has_bit (bit_or (low / 2 ^ from) (shifted_twice high (63 - from))) b ≡ bit_of_two low high (b + from)
 window_bit low high from b fits few h = bit_of_or (low / 2 ^ from) (shifted_twice high (63 - from)) b ∙ elim (cases_lt (b + from) 64) [
   | inl lt ↦
       ap (λ t. has_bit (low / 2 ^ from) b || t) (twice_below high (63 - from) b h (omega (arith, lt))) ∙ or-false (has_bit (low / 2 ^ from) b)
@@ -58,7 +59,8 @@ two_words mask i j h = search (arith, cases_lt, lt-ltb, at_word, le-ltb)
 abbrev pub Window : ℕ → ℕ → ℕ → ℕ → Type 0
 Window r low high from = (b : ℕ) → b < 64 → has_bit r b ≡ bit_of_two low high (b + from)
 
-window_of : (mask : Mask4) (r i from to : ℕ) → Window r (slice_index mask.0 i) (slice_index mask.0 (i + 1)) from → from < 64 → (x : ℕ) → x < 64 → 64 * i + (x + from) ≡ to → has_bit r x ≡ is_set mask to
+window_of : (mask : Mask4) (r i from to : ℕ) → Window r (slice_index mask.0 i) (slice_index mask.0 (i + 1)) from → from < 64 → (x : ℕ) → x < 64
+    → 64 * i + (x + from) ≡ to → has_bit r x ≡ is_set mask to
 window_of mask r i from to w few x h e = w x h ∙ two_words mask i (x + from) (omega (arith, h, few)) ∙ ap (is_set mask) e
 
 -- the words that a mask hasn't are 0
@@ -68,8 +70,11 @@ no_word mask long = get_or_past mask.0 4 0 (omega (arith, long))
 abbrev pub four : ℕ → ℕ → ℕ → ℕ → Mask4
 four a b c d = record { 0 = a ∷ b ∷ c ∷ d ∷ [] }
 
-pub moved_down_is : (mask : Mask4) (a b c d by : ℕ) → length mask.0 ≡ 4 → by < 64 → Window a (slice_index mask.0 0) (slice_index mask.0 1) by → Window b (slice_index mask.0 1) (slice_index mask.0 2) by
-    → Window c (slice_index mask.0 2) (slice_index mask.0 3) by → Window d (slice_index mask.0 3) 0 by → (g : ℕ) → is_set (four a b c d) g ≡ is_set mask (g + by)
+-- A mask each of whose words is the window of two is the mask moved down.
+pub moved_down_is : (mask : Mask4) (a b c d by : ℕ) → length mask.0 ≡ 4 → by < 64 → Window a (slice_index mask.0 0) (slice_index mask.0 1) by
+    → Window b (slice_index mask.0 1) (slice_index mask.0 2) by
+    → Window c (slice_index mask.0 2) (slice_index mask.0 3) by → Window d (slice_index mask.0 3) 0 by → (g : ℕ)
+    → is_set (four a b c d) g ≡ is_set mask (g + by)
 moved_down_is mask a b c d by long few wa wb wc wd g = elim (cases_lt g 256) [
   | inl lt ↦
       let last : Window d (slice_index mask.0 3) (slice_index mask.0 4) by = subst (λ n. Window d (slice_index mask.0 3) n by) (sym (no_word mask long)) wd in
@@ -85,11 +90,13 @@ from_above : (t : Bool) (x y : Bool) → t ≡ true → y ≡ x → y ≡ (t && 
 from_above t x y h e = e ∙ ap (λ s. s && x) (sym h)
 
 -- a word above the lowest is moved up with the bits of the one below it
-moved_word : (mask : Mask4) (r i by : ℕ) → Window r (slice_index mask.0 i) (slice_index mask.0 (i + 1)) (64 - by) → 1 ≤ by → by ≤ 64 → (x : ℕ) → x < 64 → has_bit r x ≡ (nat_le by (64 * (i + 1) + x) && is_set mask (64 * (i + 1) + x - by))
+moved_word : (mask : Mask4) (r i by : ℕ) → Window r (slice_index mask.0 i) (slice_index mask.0 (i + 1)) (64 - by) → 1 ≤ by → by ≤ 64 → (x : ℕ) → x < 64
+    → has_bit r x ≡ (nat_le by (64 * (i + 1) + x) && is_set mask (64 * (i + 1) + x - by))
 moved_word mask r i by w some few x h = from_above (nat_le by (64 * (i + 1) + x)) (is_set mask (64 * (i + 1) + x - by)) (has_bit r x) (le-leb by (64 * (i + 1) + x) (omega (arith, few)))
     (window_of mask r i (64 - by) (64 * (i + 1) + x - by) w (omega (arith, some)) x h (omega (arith, some, few)))
 
-lowest_word : (mask : Mask4) (r by : ℕ) → Window r 0 (slice_index mask.0 0) (64 - by) → 1 ≤ by → by ≤ 64 → (x : ℕ) → x < 64 → has_bit r x ≡ (nat_le by x && is_set mask (x - by))
+lowest_word : (mask : Mask4) (r by : ℕ) → Window r 0 (slice_index mask.0 0) (64 - by) → 1 ≤ by → by ≤ 64 → (x : ℕ) → x < 64
+    → has_bit r x ≡ (nat_le by x && is_set mask (x - by))
 lowest_word mask r by w some few x h = elim (cases_lt x by) [
   | inl lt ↦ search (arith, lt-ltb, none_of_zero, and_left, lt-leb)
   | inr ge ↦ from_above (nat_le by x) (is_set mask (x - by)) (has_bit r x) (le-leb by x ge)
@@ -98,16 +105,21 @@ lowest_word mask r by w some few x h = elim (cases_lt x by) [
       ∙ ap (has_bit (slice_index mask.0 0)) (let e : x + (64 - by) - 64 ≡ x - by = omega (arith, ge, few) in e) ∙ sym (at_word mask 0 (x - by) (omega (arith, h))) ∙ ap (is_set mask) (let e : 64 * 0 + (x - by) ≡ x - by = omega arith in e))
 ]
 
-pub moved_up_is : (mask : Mask4) (a b c d by : ℕ) → 1 ≤ by → by ≤ 64 → Window a 0 (slice_index mask.0 0) (64 - by) → Window b (slice_index mask.0 0) (slice_index mask.0 1) (64 - by)
-    → Window c (slice_index mask.0 1) (slice_index mask.0 2) (64 - by) → Window d (slice_index mask.0 2) (slice_index mask.0 3) (64 - by) → (g : ℕ) → g < 256 → is_set (four a b c d) g ≡ (nat_le by g && is_set mask (g - by))
+-- A mask each of whose words is the window of two is the mask moved up.
+pub moved_up_is : (mask : Mask4) (a b c d by : ℕ) → 1 ≤ by → by ≤ 64 → Window a 0 (slice_index mask.0 0) (64 - by)
+    → Window b (slice_index mask.0 0) (slice_index mask.0 1) (64 - by)
+    → Window c (slice_index mask.0 1) (slice_index mask.0 2) (64 - by) → Window d (slice_index mask.0 2) (slice_index mask.0 3) (64 - by) → (g : ℕ) → g < 256
+    → is_set (four a b c d) g ≡ (nat_le by g && is_set mask (g - by))
 moved_up_is mask a b c d by some few wa wb wc wd g h =
     four_words a b c d (λ x. nat_le by x && is_set mask (x - by))
     (λ x lt. lowest_word mask a by wa some few x lt ∙ ap (λ y. nat_le by y && is_set mask (y - by)) (let e : x ≡ 0 + x = omega arith in e)) (λ x lt. moved_word mask b 0 by wb some few x lt) (λ x lt. moved_word mask c 1 by wc some few x lt) (λ x lt. moved_word mask d 2 by wd some few x lt) g h
 
 -- ---- bits of two masks
 -- the words of one with those of the other, by an operation that acts on each bit alone
-pub words_are : (op : ℕ → ℕ → ℕ) (bit : Bool → Bool → Bool) → ((m n b : ℕ) → has_bit (op m n) b ≡ bit (has_bit m b) (has_bit n b)) → bit false false ≡ false → (m n : Mask4) → length m.0 ≡ 4 → length n.0 ≡ 4 → (g : ℕ)
-    → is_set (four (op (slice_index m.0 0) (slice_index n.0 0)) (op (slice_index m.0 1) (slice_index n.0 1)) (op (slice_index m.0 2) (slice_index n.0 2)) (op (slice_index m.0 3) (slice_index n.0 3))) g ≡ bit (is_set m g) (is_set n g)
+pub words_are : (op : ℕ → ℕ → ℕ) (bit : Bool → Bool → Bool) → ((m n b : ℕ) → has_bit (op m n) b ≡ bit (has_bit m b) (has_bit n b)) → bit false false ≡ false
+    → (m n : Mask4) → length m.0 ≡ 4 → length n.0 ≡ 4 → (g : ℕ)
+    → is_set (four (op (slice_index m.0 0) (slice_index n.0 0)) (op (slice_index m.0 1) (slice_index n.0 1)) (op (slice_index m.0 2) (slice_index n.0 2)) (op (slice_index m.0 3) (slice_index n.0 3))) g
+      ≡ bit (is_set m g) (is_set n g)
 words_are op bit bits none m n long_m long_n g =
     let word = λ (w x : ℕ) (h : x < 64). bits (slice_index m.0 w) (slice_index n.0 w) x ∙ ap (λ t. bit t (has_bit (slice_index n.0 w) x)) (sym (at_word m w x h)) ∙ ap (bit (is_set m (64 * w + x))) (sym (at_word n w x h)) in
     let at = λ (w : ℕ). op (slice_index m.0 w) (slice_index n.0 w) in
@@ -121,7 +133,9 @@ words_are op bit bits none m n long_m long_n g =
 abbrev pub BeginRuns : Mask4 → ℕ → Mask4 → Type 0
 BeginRuns mask n begins = (g : ℕ) → IsTrue (is_set begins g) ↔ AreSet mask g n
 
-pub runs_longer : (mask begins moved longer : Mask4) (n by : ℕ) → by ≤ n → BeginRuns mask n begins → ((g : ℕ) → is_set moved g ≡ is_set begins (g + by)) → ((g : ℕ) → is_set longer g ≡ (is_set begins g && is_set moved g)) → BeginRuns mask (n + by) longer
+-- Where runs of a length begin, and again so much further, longer ones begin.
+pub runs_longer : (mask begins moved longer : Mask4) (n by : ℕ) → by ≤ n → BeginRuns mask n begins → ((g : ℕ) → is_set moved g ≡ is_set begins (g + by))
+    → ((g : ℕ) → is_set longer g ≡ (is_set begins g && is_set moved g)) → BeginRuns mask (n + by) longer
 runs_longer mask begins moved longer n by few runs down joined g = (
   search (arith, and_parts, cases_lt),
   λ all.
@@ -132,7 +146,10 @@ runs_longer mask begins moved longer n by few runs down joined g = (
 abbrev pub AreNear : Mask4 → ℕ → Mask4 → Type 0
 AreNear mask n near = (g : ℕ) → g < 256 → IsTrue (is_set near g) ↔ IsNear mask g n
 
-pub near_longer : (mask near moved longer : Mask4) (n by : ℕ) → by ≤ n → AreNear mask n near → ((g : ℕ) → g < 256 → is_set moved g ≡ (nat_le by g && is_set near (g - by))) → ((g : ℕ) → is_set longer g ≡ (is_set near g || is_set moved g)) → AreNear mask (n + by) longer
+-- Where a bit is near in some distance, or so much further, it is near in a longer one.
+pub near_longer : (mask near moved longer : Mask4) (n by : ℕ) → by ≤ n → AreNear mask n near
+    → ((g : ℕ) → g < 256 → is_set moved g ≡ (nat_le by g && is_set near (g - by))) → ((g : ℕ) → is_set longer g ≡ (is_set near g || is_set moved g))
+    → AreNear mask (n + by) longer
 near_longer mask near moved longer n by few all up joined g within = (
   λ h. elim (cases_Bool (is_set near g)) [
     | inl here ↦ let found = (all g within).0 here in (found.0, found.1, omega (arith, found.2), found.3)

@@ -28,6 +28,7 @@ same_bit q p e = grind (arith, nat_tests, e)
 block_bit : (q p : ℕ) → (q / 64 == p / 64) ≡ true → is_in_word (page_mask q) p ≡ (q == p)
 block_bit q p h = page_mask_bit q (p % 64) ∙ same_bit q p (eqb-true (q / 64) (p / 64) h)
 
+-- A word of a page vector with one page more has that page and those before.
 pub page_added : (word page p : ℕ) → p / 64 ≡ page / 64 → is_in_word (bit_or word (page_mask page)) p ≡ ((page == p) || is_in_word word p)
 page_added word page p same = search (arith, bit_of_or, or_comm, page_mask_bit, same_bit)
 
@@ -41,26 +42,34 @@ set_cases f y = grind arith
 other_block : (q p : ℕ) → (q / 64 == p / 64) ≡ false → (q == p) ≡ false
 other_block q p h = ne_eqb q p (λ e. eqb-false (q / 64) (p / 64) h (ap (λ x. x / 64) e))
 
-clear_page : (q p old : ℕ) (x t : Bool) → (q / 64 == p / 64) ≡ t → has_bit (if x && t then bit_and old (bit_not w64 (page_mask q)) else old) (p % 64) ≡ (if x && (q == p) then false else has_bit old (p % 64))
+clear_page : (q p old : ℕ) (x t : Bool) → (q / 64 == p / 64) ≡ t
+    → has_bit (if x && t then bit_and old (bit_not w64 (page_mask q)) else old) (p % 64) ≡ (if x && (q == p) then false else has_bit old (p % 64))
 clear_page q p old true true h = bit_cleared old (page_mask q) (p % 64) (page_mask_lt q) (omega arith) ∙ ap (λ y. has_bit old (p % 64) && not y) (block_bit q p h) ∙ clear_cases (has_bit old (p % 64)) (q == p)
 clear_page q p old true false h = ap (λ y. if y then false else has_bit old (p % 64)) (sym (other_block q p h))
 clear_page q p old false t h = refl
 
-set_page : (q p old : ℕ) (x t : Bool) → (q / 64 == p / 64) ≡ t → has_bit (if x && t then bit_or old (page_mask q) else old) (p % 64) ≡ (if x && (q == p) then true else has_bit old (p % 64))
+set_page : (q p old : ℕ) (x t : Bool) → (q / 64 == p / 64) ≡ t
+    → has_bit (if x && t then bit_or old (page_mask q) else old) (p % 64) ≡ (if x && (q == p) then true else has_bit old (p % 64))
 set_page q p old x t h = grind (arith, bit_of_or, block_bit, set_cases, other_block)
 
 -- the page's bit after the bit of page q was cleared, or set, where x says that the vector is the same
-pub page_bit-clear : (q p old : ℕ) (x : Bool) → has_bit (if x && (q / 64 == p / 64) then bit_and old (bit_not w64 (page_mask q)) else old) (p % 64) ≡ (if x && (q == p) then false else has_bit old (p % 64))
+pub page_bit-clear : (q p old : ℕ) (x : Bool)
+    → has_bit (if x && (q / 64 == p / 64) then bit_and old (bit_not w64 (page_mask q)) else old) (p % 64)
+      ≡ (if x && (q == p) then false else has_bit old (p % 64))
 page_bit-clear q p old x = clear_page q p old x (q / 64 == p / 64) refl
 
-pub page_bit-set : (q p old : ℕ) (x : Bool) → has_bit (if x && (q / 64 == p / 64) then bit_or old (page_mask q) else old) (p % 64) ≡ (if x && (q == p) then true else has_bit old (p % 64))
+-- A page's bit in a word with the mask of one is set for that page, and is as before for others.
+pub page_bit-set : (q p old : ℕ) (x : Bool)
+    → has_bit (if x && (q / 64 == p / 64) then bit_or old (page_mask q) else old) (p % 64) ≡ (if x && (q == p) then true else has_bit old (p % 64))
 page_bit-set q p old x = set_page q p old x (q / 64 == p / 64) refl
 
 -- ---- the lowest page of a word
 pub no_page : (n number next low : ℕ) → low ≡ next - 64 * number → n / 2 ^ low ≡ 0 → HasNoPage n number next
 no_page n number next low is nothing p from at = none_from n low (p % 64) nothing (omega (arith, is, from, at))
 
-pub lowest_found : (n number next low : ℕ) → low ≡ next - 64 * number → low < 64 → n < 2 ^ 64 → n / 2 ^ low ≢ 0 → IsLowestPage n number next (64 * number + low + trailing_zeros w64 (n / 2 ^ low))
+-- The lowest page of a word from one on is where the trailing zeros end.
+pub lowest_found : (n number next low : ℕ) → low ≡ next - 64 * number → low < 64 → n < 2 ^ 64 → n / 2 ^ low ≢ 0
+    → IsLowestPage n number next (64 * number + low + trailing_zeros w64 (n / 2 ^ low))
 lowest_found n number next low is small fits some =
     let found = lowest_from n low fits some in
     let place : low + trailing_zeros w64 (n / 2 ^ low) ≡ (64 * number + low + trailing_zeros w64 (n / 2 ^ low)) % 64 = omega (arith, found.within) in

@@ -10,12 +10,15 @@ use Rattle.pas_bits.specs.declared.mask.Mask4.{Mask4}
 
 -- ---- bits as numbers and as tests
 
+-- A bit of a number that is 1 is set.
 pub is_one : (n b : ℕ) → bit_at n b ≡ 1 → has_bit n b ≡ true
 is_one n b h = ap (λ x. x == 1) h
 
+-- A bit of a number that is 0 isn't set.
 pub is_zero : (n b : ℕ) → bit_at n b ≡ 0 → has_bit n b ≡ false
 is_zero n b h = ap (λ x. x == 1) h
 
+-- The number 0 has no set bit.
 pub none_of_zero : (b : ℕ) → has_bit 0 b ≡ false
 none_of_zero b = is_zero 0 b (bit_at-zero b)
 
@@ -61,14 +64,18 @@ at_word mask word b h =
 pub none_past : (mask : Mask4) (x : ℕ) → length mask.0 ≡ 4 → 256 ≤ x → is_set mask x ≡ false
 none_past mask x long h = ap (λ n. has_bit n (x % 64)) (get_or_past mask.0 (x / 64) 0 (omega (arith, long, h))) ∙ none_of_zero (x % 64)
 
+-- A set bit of a mask of four words is below 256.
 pub set_within : (mask : Mask4) (x : ℕ) → length mask.0 ≡ 4 → is_set mask x ≡ true → x < 256
 set_within mask x long h = elim (cases_lt x 256) [ inl lt ↦ lt | inr ge ↦ let no_bit = none_past mask x long ge in absurd (cc) ]
 
 -- ---- the numbers of four words that are written out, word by word
-in_word : (words : List ℕ) (P : ℕ → Bool) (k g : ℕ) → ((x : ℕ) → x < 64 → has_bit (slice_index words k) x ≡ P (64 * k + x)) → g / 64 ≡ k → has_bit (slice_index words (g / 64)) (g % 64) ≡ P g
+in_word : (words : List ℕ) (P : ℕ → Bool) (k g : ℕ) → ((x : ℕ) → x < 64 → has_bit (slice_index words k) x ≡ P (64 * k + x)) → g / 64 ≡ k
+    → has_bit (slice_index words (g / 64)) (g % 64) ≡ P g
 in_word words P k g bits at = ap (λ w. has_bit (slice_index words w) (g % 64)) at ∙ bits (g % 64) (omega arith) ∙ ap P (omega (arith, at))
 
-pub four_words : (a b c d : ℕ) (P : ℕ → Bool) → ((x : ℕ) → x < 64 → has_bit a x ≡ P (0 + x)) → ((x : ℕ) → x < 64 → has_bit b x ≡ P (64 + x)) → ((x : ℕ) → x < 64 → has_bit c x ≡ P (128 + x))
+-- Four words whose bits are each those of a test are a mask of that test.
+pub four_words : (a b c d : ℕ) (P : ℕ → Bool) → ((x : ℕ) → x < 64 → has_bit a x ≡ P (0 + x)) → ((x : ℕ) → x < 64 → has_bit b x ≡ P (64 + x))
+    → ((x : ℕ) → x < 64 → has_bit c x ≡ P (128 + x))
     → ((x : ℕ) → x < 64 → has_bit d x ≡ P (192 + x)) → (g : ℕ) → g < 256 → has_bit (slice_index (a ∷ b ∷ c ∷ d ∷ []) (g / 64)) (g % 64) ≡ P g
 four_words a b c d P ha hb hc hd g h = let here = in_word (a ∷ b ∷ c ∷ d ∷ []) P in elim (cases_lt g 64) [
   | inl lt ↦ here 0 g ha (omega (arith, lt))
@@ -102,8 +109,10 @@ one_set n k = bit_or n (1 * 2 ^ k % 2 ^ 64)
 abbrev one_cleared : ℕ → ℕ → ℕ
 one_cleared n k = bit_and n (2 ^ 64 - 1 - 1 * 2 ^ k % 2 ^ 64)
 
+-- After one grain was set, a mask's bits are that one and those before.
 pub after_set : (words : List ℕ) (grain : ℕ) → length words ≡ 4 → grain < 256 → (g : ℕ)
-    → has_bit (slice_index (slice_set words (grain / 64) (one_set (slice_index words (grain / 64)) (grain % 64))) (g / 64)) (g % 64) ≡ ((g == grain) || has_bit (slice_index words (g / 64)) (g % 64))
+    → has_bit (slice_index (slice_set words (grain / 64) (one_set (slice_index words (grain / 64)) (grain % 64))) (g / 64)) (g % 64)
+      ≡ ((g == grain) || has_bit (slice_index words (g / 64)) (g % 64))
 after_set words grain long h g = elim (cases_eq (g / 64) (grain / 64)) [
   | inl word ↦ replaced_same words (grain / 64) (one_set (slice_index words (grain / 64)) (grain % 64)) (g / 64) (g % 64) (omega (arith, long, h)) word
       ∙ elim (cases_eq (g % 64) (grain % 64)) [
@@ -115,8 +124,10 @@ after_set words grain long h g = elim (cases_eq (g / 64) (grain / 64)) [
   | inr word ↦ replaced_other words (grain / 64) (one_set (slice_index words (grain / 64)) (grain % 64)) (g / 64) (g % 64) word ∙ ap (λ t. t || has_bit (slice_index words (g / 64)) (g % 64)) (sym (other_word g grain word))
 ]
 
+-- After one grain was cleared, a mask's bits are those before but that one.
 pub after_clear : (words : List ℕ) (grain : ℕ) → length words ≡ 4 → grain < 256 → (g : ℕ)
-    → has_bit (slice_index (slice_set words (grain / 64) (one_cleared (slice_index words (grain / 64)) (grain % 64))) (g / 64)) (g % 64) ≡ (not (g == grain) && has_bit (slice_index words (g / 64)) (g % 64))
+    → has_bit (slice_index (slice_set words (grain / 64) (one_cleared (slice_index words (grain / 64)) (grain % 64))) (g / 64)) (g % 64)
+      ≡ (not (g == grain) && has_bit (slice_index words (g / 64)) (g % 64))
 after_clear words grain long h g = elim (cases_eq (g / 64) (grain / 64)) [
   | inl word ↦ replaced_same words (grain / 64) (one_cleared (slice_index words (grain / 64)) (grain % 64)) (g / 64) (g % 64) (omega (arith, long, h)) word
       ∙ elim (cases_eq (g % 64) (grain % 64)) [
@@ -136,8 +147,10 @@ WordsFit mask = (word : ℕ) → slice_index mask.0 word < 2 ^ 64
 other_bits : (mask : Mask4) (word b : ℕ) → WordsFit mask → b < 64 → has_bit (2 ^ 64 - 1 - slice_index mask.0 word) b ≡ not (is_set mask (64 * word + b))
 other_bits mask word b fits h = bit_of_not (slice_index mask.0 word) b (fits word) h ∙ ap not (sym (at_word mask word b h))
 
+-- A mask of the complements of words has just the bits that aren't set.
 pub after_complement : (mask : Mask4) → WordsFit mask → (g : ℕ) → g < 256
-    → has_bit (slice_index ((2 ^ 64 - 1 - slice_index mask.0 0) ∷ (2 ^ 64 - 1 - slice_index mask.0 1) ∷ (2 ^ 64 - 1 - slice_index mask.0 2) ∷ (2 ^ 64 - 1 - slice_index mask.0 3) ∷ []) (g / 64)) (g % 64) ≡ not (is_set mask g)
+    → has_bit (slice_index ((2 ^ 64 - 1 - slice_index mask.0 0) ∷ (2 ^ 64 - 1 - slice_index mask.0 1) ∷ (2 ^ 64 - 1 - slice_index mask.0 2) ∷ (2 ^ 64 - 1 - slice_index mask.0 3) ∷ []) (g / 64)) (g % 64)
+      ≡ not (is_set mask g)
 after_complement mask fits g h =
     four_words (2 ^ 64 - 1 - slice_index mask.0 0) (2 ^ 64 - 1 - slice_index mask.0 1) (2 ^ 64 - 1 - slice_index mask.0 2) (2 ^ 64 - 1 - slice_index mask.0 3) (λ x. not (is_set mask x))
     (λ x lt. other_bits mask 0 x fits lt) (λ x lt. other_bits mask 1 x fits lt) (λ x lt. other_bits mask 2 x fits lt) (λ x lt. other_bits mask 3 x fits lt) g h

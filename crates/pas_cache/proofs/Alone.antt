@@ -28,12 +28,14 @@ use Rattle.pas_cache.proofs.Obtained.{no_fit_before, none_shortened, may_search,
 spent_none : (heap class : ℕ) (locals : List Slots) (steps : List Made) → LeavesSpent (local_for heap class locals) steps → HasNoneCached heap class locals
 spent_none heap class locals steps left slots found some = let empty = (subst (λ o. LeavesSpent o steps) found left).0 in true≢false (sym some.2 ∙ empty some.0 some.1)
 
-module _ (f : Profile) (k : ℕ) (l : Whole) (valid : IsValid f) (fill : Filling) (is : IsFilling f fill) (locals : List Slots) (rest : RestsWith f locals (part k l)) where
+module _ (f : Profile) (k : ℕ) (l : Whole) (valid : IsValid f) (fill : Filling) (is : IsFilling f fill) (locals : List Slots)
+    (rest : RestsWith f locals (part k l)) where
   -- the refusal is true, and the actor has no right of a page of the directory afterwards
   abbrev IsTrueAfter : List Made → NoRoom → Type 0
   IsTrueAfter steps room = IsTrueOf fill f locals l (triples k steps ++ l) room × OwnLacks k fill.directory (triples k steps ++ l)
 
-  fetch_refused : (fewer : List Slots) (steps : List Made) (room : NoRoom) → Legal f (triples k steps ++ l) → Fetches fill f locals fewer steps (Err room) → IsTrueAfter steps room
+  fetch_refused : (fewer : List Slots) (steps : List Made) (room : NoRoom) → Legal f (triples k steps ++ l) → Fetches fill f locals fewer steps (Err room)
+      → IsTrueAfter steps room
   fetch_refused fewer steps room legal fetch =
       let xs = fetch.before in
       let ys = fetch.searched in
@@ -55,18 +57,21 @@ module _ (f : Profile) (k : ℕ) (l : Whole) (valid : IsValid f) (fill : Filling
         still_lacks f k middle fill.directory ys valid at_middle may.rights still,
       ))
 
-  obtained_refused : (fewer : List Slots) (steps : List Made) (room : NoRoom) → Legal f (triples k steps ++ l) → IsObtained fill f locals fewer steps (Err room) → IsTrueAfter steps room
+  obtained_refused : (fewer : List Slots) (steps : List Made) (room : NoRoom) → Legal f (triples k steps ++ l) → IsObtained fill f locals fewer steps (Err room)
+      → IsTrueAfter steps room
   obtained_refused fewer steps room legal (inl cached) = absurd (let bad : Err room ≡ Ok cached.0 = cached.1 in cc)
   obtained_refused fewer steps room legal (inr fetch) = fetch_refused fewer steps room legal fetch
 
-  answered_refused : (fewer locals' : List Slots) (given before : List Made) (found : Result Slots NoRoom) (room : NoRoom) → Legal f (triples k (given ++ before) ++ l) → IsObtained fill f locals fewer before found → IsAnswered fewer locals' given found (Err room)
+  answered_refused : (fewer locals' : List Slots) (given before : List Made) (found : Result Slots NoRoom) (room : NoRoom)
+      → Legal f (triples k (given ++ before) ++ l) → IsObtained fill f locals fewer before found → IsAnswered fewer locals' given found (Err room)
       → IsTrueAfter (given ++ before) room
   answered_refused fewer locals' given before (Ok slots) room legal how ends = absurd ends
   answered_refused fewer locals' given before (Err why) room legal how ends =
       subst (λ xs. IsTrueAfter (xs ++ before) room) (sym ends.2)
       (subst (IsTrueAfter before) (sym ends.0) (obtained_refused fewer before why (legal_earlier f k given before l legal) how))
 
-  locals_refused : (locals' : List Slots) (steps : List Made) (room : NoRoom) → Legal f (triples k steps ++ l) → ServesLocals fill f locals locals' steps (Err room) → IsTrueAfter steps room
+  locals_refused : (locals' : List Slots) (steps : List Made) (room : NoRoom) → Legal f (triples k steps ++ l)
+      → ServesLocals fill f locals locals' steps (Err room) → IsTrueAfter steps room
   locals_refused locals' steps room legal serves =
       subst (λ xs. IsTrueAfter xs room) (sym serves.steps_are)
       (answered_refused serves.fewer locals' serves.given serves.before serves.found room (subst (λ xs. Legal f (triples k xs ++ l)) serves.steps_are legal) serves.obtained serves.ends)
@@ -78,11 +83,13 @@ large_home f heap size align route = ap (λ (r : Route). record { heap = heap; k
 kind_large : (f : Profile) (heap size align : ℕ) → route_in f size align ≡ Route.Large → IsKind (wanted_for f heap size align).directory.kind
 kind_large f heap size align route = subst (λ (d : Directory). IsKind d.kind) (large_home f heap size align route) tt
 
-find_large : (f : Profile) (heap size align : ℕ) (locals : List Slots) (v : View) → route_in f size align ≡ Route.Large → RestsWith f locals v → MayFind (wanted_for f heap size align).directory v
+find_large : (f : Profile) (heap size align : ℕ) (locals : List Slots) (v : View) → route_in f size align ≡ Route.Large → RestsWith f locals v
+    → MayFind (wanted_for f heap size align).directory v
 find_large f heap size align locals v route rest = subst (λ d. MayFind d v) (large_home f heap size align route) (may_find f v heap locals rest)
 
 -- ---- any request that was refused
-module _ (f : Profile) (heap size align k : ℕ) (found : Option ℕ) (c c' : Cached) (l : Whole) (steps : List Made) (room : NoRoom) (valid : IsValid f) (admitted : IsAdmitted f size align heap) (rest : AtRest f c (part k l)) (legal : Legal f (triples k steps ++ l)) where
+module _ (f : Profile) (heap size align k : ℕ) (found : Option ℕ) (c c' : Cached) (l : Whole) (steps : List Made) (room : NoRoom) (valid : IsValid f)
+    (admitted : IsAdmitted f size align heap) (rest : AtRest f c (part k l)) (legal : Legal f (triples k steps ++ l)) where
   abbrev exit : Whole
   exit = triples k steps ++ l
 
@@ -93,7 +100,8 @@ module _ (f : Profile) (heap size align k : ℕ) (found : Option ℕ) (c c' : Ca
   abbrev IsRefusedBy : Route → Wanted → Type 0
   IsRefusedBy r w = IsTrulyRefusedBy r f w c.locals l exit room × OwnLacks k w.directory exit
 
-  class_refused : (class : ℕ) → route_in f size align ≡ Route.Class class → ServesClass (filling_in wanted.directory class) f c c' steps (Err room) → IsRefusedBy (Route.Class class) wanted
+  class_refused : (class : ℕ) → route_in f size align ≡ Route.Class class → ServesClass (filling_in wanted.directory class) f c c' steps (Err room)
+      → IsRefusedBy (Route.Class class) wanted
   class_refused class route serves =
       let same = wanted_is f heap class size align route in
       let d = class_home f heap class in
@@ -135,17 +143,22 @@ module _ (f : Profile) (heap size align k : ℕ) (found : Option ℕ) (c c' : Ca
   true_reason : (r : Route) → IsTrulyRefusedBy r f wanted c.locals l exit room → IsTrueReason f wanted.directory exit room
   true_reason r told = grind arith
 
-  pub truly_refused : ServesRequest f (wanted_for f heap size align) found c c' steps (Err room) → IsTrulyRefused f (wanted_for f heap size align) c.locals l (triples k steps ++ l) room
+  -- A request that was refused while its actor went on alone was truly refused.
+  pub truly_refused : ServesRequest f (wanted_for f heap size align) found c c' steps (Err room)
+      → IsTrulyRefused f (wanted_for f heap size align) c.locals l (triples k steps ++ l) room
   truly_refused serves = (by_route (route_in f size align) refl serves).0
 
+  -- A request that was refused while nobody else had a right finds no space, and no page held.
   pub no_space : OthersHaveNone k l → ServesRequest f (wanted_for f heap size align) found c c' steps (Err room) → room ≡ NoSpace
   no_space others serves =
       let told = by_route (route_in f size align) refl serves in
       none_held_there f k wanted.directory exit room (of_profile (route_in f size align) refl) legal told.1 (λ j p other. ap (λ v. has_right v p) (part_of_others j k steps l other) ∙ others j p other) (true_reason (route_in f size align) told.0)
 
 -- ---- the run that a door named
-module _ (f : Profile) (heap size align k : ℕ) (found : Option ℕ) (c c' : Cached) (l : Whole) (steps : List Made) (answer : Result Block NoRoom) (valid : IsValid f) (rest : AtRest f c (part k l)) (legal : Legal f (triples k steps ++ l)) where
-  takes_on : (r : Route) → route_in f size align ≡ r → ServesBy r f (wanted_for f heap size align) found c c' steps answer → GoesByDoorOn r f (wanted_for f heap size align) found l steps answer
+module _ (f : Profile) (heap size align k : ℕ) (found : Option ℕ) (c c' : Cached) (l : Whole) (steps : List Made) (answer : Result Block NoRoom)
+    (valid : IsValid f) (rest : AtRest f c (part k l)) (legal : Legal f (triples k steps ++ l)) where
+  takes_on : (r : Route) → route_in f size align ≡ r → ServesBy r f (wanted_for f heap size align) found c c' steps answer
+      → GoesByDoorOn r f (wanted_for f heap size align) found l steps answer
   takes_on (Route.Class class) route serves = tt
   takes_on Route.Bitfit route serves = tt
   takes_on Route.Large route serves =
@@ -154,5 +167,7 @@ module _ (f : Profile) (heap size align k : ℕ) (found : Option ℕ) (c c' : Ca
       subst (λ xs. GoesByDoor f w.directory (pages_of w) found l xs answer) (sym serves.steps_are)
       (goes_by_door f k l w.directory (pages_of w) found serves.tried serves.rest valid (kind_large f heap size align route) serves.old serves.returns stands (find_large f heap size align c.locals (part k l) route rest.locals) answer serves.outcome)
 
-  pub takes_named : ServesRequest f (wanted_for f heap size align) found c c' steps answer → TakesWhatIsNamed f (wanted_for f heap size align) found l steps answer
+  -- A request whose actor went on alone takes the run that its door named, where that is whole.
+  pub takes_named : ServesRequest f (wanted_for f heap size align) found c c' steps answer
+      → TakesWhatIsNamed f (wanted_for f heap size align) found l steps answer
   takes_named serves = takes_on (route_in f size align) refl serves

@@ -15,11 +15,13 @@ pub record HasBudget (f : Profile) (c : Cached) (n spare : ℕ) (v : View) : Typ
   pub room : n + unknown_pages f v ≤ spare
 
 -- two of the n are enough for a request
-pub may_allocate : {σ : Standing} {c : Cached} {spare : ℕ} (n : ℕ) → 2 ≤ n → CanCall σ (HasBudget σ.seat.profile c n spare) → CanCall σ (MayAllocate σ.seat.profile c spare)
+pub may_allocate : {σ : Standing} {c : Cached} {spare : ℕ} (n : ℕ) → 2 ≤ n → CanCall σ (HasBudget σ.seat.profile c n spare)
+    → CanCall σ (MayAllocate σ.seat.profile c spare)
 may_allocate {σ} {spare = spare} n two can = can_call adds_none can (λ v l stood met. record { rest = met.rest; room = has_room σ.seat.profile 2 spare v (omega (arith, two, met.room)) })
 
 -- and the others are left after it
-pub budget_left : {σ σ' : Standing} {c c' : Cached} {answer : Result Block NoRoom} {wanted : Wanted} {spare spare' : ℕ} {tells : Bool} (n : ℕ) → (h : Allocates wanted tells c c' σ σ' answer) → CanCall σ (HasBudget σ.seat.profile c (n + 2) spare)
+pub budget_left : {σ σ' : Standing} {c c' : Cached} {answer : Result Block NoRoom} {wanted : Wanted} {spare spare' : ℕ} {tells : Bool} (n : ℕ)
+    → (h : Allocates wanted tells c c' σ σ' answer) → CanCall σ (HasBudget σ.seat.profile c (n + 2) spare)
     → Spares σ spare → Spares σ' spare' → CanCall σ' (HasBudget σ'.seat.profile c' n spare')
 budget_left {σ} {c = c} {c' = c'} {spare = spare} {spare' = spare'} n h can law law' =
     let k : ℕ = σ.seat.actor in
@@ -35,10 +37,12 @@ budget_left {σ} {c = c} {c' = c'} {spare = spare} {spare' = spare'} n h can law
     }
 
 -- no request changes the log
-pub log_kept : (f : Profile) (wanted : Wanted) (found : Option ℕ) (c c' : Cached) (steps : List Made) (answer : Result Block NoRoom) (route : Route) → ServesBy route f wanted found c c' steps answer → c'.log ≡ c.log
+pub log_kept : (f : Profile) (wanted : Wanted) (found : Option ℕ) (c c' : Cached) (steps : List Made) (answer : Result Block NoRoom) (route : Route)
+    → ServesBy route f wanted found c c' steps answer → c'.log ≡ c.log
 log_kept f wanted found c c' steps answer route h = grind arith
 
 -- ---- a log is emptied
 -- each entry makes one event
-pub emptied_events : (k : ℕ) (logged : List Entry) (noted noted' : List EndedRun) (steps : List Made) (v : View) → EmptiesLog k logged noted noted' steps → length (events_by k v steps) ≡ length logged
+pub emptied_events : (k : ℕ) (logged : List Entry) (noted noted' : List EndedRun) (steps : List Made) (v : View) → EmptiesLog k logged noted noted' steps
+    → length (events_by k v steps) ≡ length logged
 emptied_events k logged noted noted' steps v empties = search (arith, length-map, length-reverse)

@@ -21,16 +21,21 @@ use Rattle.pas_cache.proofs.Resting.{rests_kept}
 
 -- ==== A cache while its fields are open.
 
-pub rests_open : {σ : Standing} {fields cache : CacheOf} → fields ≡ cache → CanCall σ (AtRest σ.seat.profile cache.contents) → CanCall σ (AtRest σ.seat.profile fields.contents)
+-- A cache that is at rest is so by its parts.
+pub rests_open : {σ : Standing} {fields cache : CacheOf} → fields ≡ cache → CanCall σ (AtRest σ.seat.profile cache.contents)
+    → CanCall σ (AtRest σ.seat.profile fields.contents)
 rests_open {σ} is can = subst (λ (x : CacheOf). CanCall σ (AtRest σ.seat.profile x.contents)) (sym is) can
 
-pub may_allocate_open : {σ : Standing} {fields cache : CacheOf} {spare : ℕ} → fields ≡ cache → CanCall σ (MayAllocate σ.seat.profile cache.contents spare) → CanCall σ (MayAllocate σ.seat.profile fields.contents spare)
+-- A cache that may allocate may do so by its parts.
+pub may_allocate_open : {σ : Standing} {fields cache : CacheOf} {spare : ℕ} → fields ≡ cache → CanCall σ (MayAllocate σ.seat.profile cache.contents spare)
+    → CanCall σ (MayAllocate σ.seat.profile fields.contents spare)
 may_allocate_open {σ} {spare = spare} is can = subst (λ (x : CacheOf). CanCall σ (MayAllocate σ.seat.profile x.contents spare)) (sym is) can
 
 -- no local allocators are kept as they must be
 pub none_twice : (locals : List Slots) → locals ≡ [] → HasOneEach locals
 none_twice locals none = subst HasOneEach (sym none) (λ heap class. omega arith)
 
+-- An empty list of local allocators has only formed ones.
 pub none_formed : (locals : List Slots) → locals ≡ [] → All IsFormed locals
 none_formed locals none = subst (λ (xs : List Slots). All IsFormed xs) (sym none) (All-nil IsFormed)
 
@@ -41,11 +46,13 @@ none_formed locals none = subst (λ (xs : List Slots). All IsFormed xs) (sym non
 no_locals : (f : Profile) (v : View) → HasNothing v → RestsWith f [] v
 no_locals f v none = search arith
 
+-- A cache without local allocators and with an empty log is at rest where its actor has nothing.
 pub rests_empty : (f : Profile) (c : Cached) (v : View) → c.locals ≡ [] → c.log ≡ [] → HasNothing v → AtRest f c v
 rests_empty f c v locals log none = search (arith, no_locals)
 
 -- ---- at rest after steps that did nothing, with the same local allocators
-rests_idle : (f : Profile) (c c' : Cached) (steps : List Made) → c'.locals ≡ c.locals → Leads f IsClear (Does nothing) steps → ((v : View) → AtRest f c v → All (IsEntryOf f) c'.log × (length c'.log ≤ 64)) → Leads f (AtRest f c) (λ v w. AtRest f c' w) steps
+rests_idle : (f : Profile) (c c' : Cached) (steps : List Made) → c'.locals ≡ c.locals → Leads f IsClear (Does nothing) steps
+    → ((v : View) → AtRest f c v → All (IsEntryOf f) c'.log × (length c'.log ≤ 64)) → Leads f (AtRest f c) (λ v w. AtRest f c' w) steps
 rests_idle f c c' steps same does names = record {
   from = λ v h agreed.
       let log = names v h in
@@ -70,9 +77,11 @@ begins {σ} c epoch look = record {
 }
 
 -- ---- flush
-empties : {σ σ' : Standing} (logged : List Entry) (noted noted' : List EndedRun) (flush : Flushes logged noted noted' σ σ') → EmptiesLog σ.seat.actor logged noted noted' flush.steps
+empties : {σ σ' : Standing} (logged : List Entry) (noted noted' : List EndedRun) (flush : Flushes logged noted noted' σ σ')
+    → EmptiesLog σ.seat.actor logged noted noted' flush.steps
 empties logged noted noted' flush = record { epoch = flush.epoch; settled = flush.settled; entries_are = flush.entries_are; noted_are = flush.noted; entries = flush.entries; order = flush.order; steps_are = flush.steps_are; events = flush.events; stamps = flush.stamps; few = flush.few }
 
+-- A flush of a cache's log empties the log, and changes nothing else of the cache but its noted runs.
 pub flushes_log : {σ σ' : Standing} (c c' : Cached) (noted : List EndedRun) → c' ≡ record c { log = []; noted = noted } → Flushes c.log c.noted noted σ σ' → FlushesLog c c' σ σ'
 flushes_log {σ} {σ'} c c' noted is flush =
     subst (λ x. FlushesLog c x σ σ') (sym is) (record {
@@ -90,9 +99,12 @@ flushes_log {σ} {σ'} c c' noted is flush =
 pub clear_call : {σ : Standing} {c : Cached} → CanCall σ (AtRest σ.seat.profile c) → CanCall σ IsClear
 clear_call can = record { view = can.view; whole = can.whole; stood = can.stood; met = can.met.locals.clear }
 
-pub flushed_call : {σ σ1 : Standing} (c c' : Cached) → FlushesLog c c' σ σ1 → CanCall σ (AtRest σ.seat.profile c) → CanCall σ1 (RestsWith σ1.seat.profile c'.locals)
+-- After a flush a cache still rests with its local allocators.
+pub flushed_call : {σ σ1 : Standing} (c c' : Cached) → FlushesLog c c' σ σ1 → CanCall σ (AtRest σ.seat.profile c)
+    → CanCall σ1 (RestsWith σ1.seat.profile c'.locals)
 flushed_call {σ} {σ1} c c' flush can = next_call flush.calls can (λ v h here. subst (λ (s : Seat). RestsWith s.profile c'.locals (flush.steps ++ v)) (sym flush.calls.adds.seat_is) here.locals)
 
+-- A flush, and then a stop of all local allocators, stop the cache.
 pub stops_cache : {σ σ1 σ2 : Standing} (c c1 c' : Cached) → (flush : FlushesLog c c1 σ σ1) → (stops : Releases (StopsEach c1.locals) c1.locals [] σ1 σ2) → c1 ≡ record c { log = []; noted = c1.noted } → c' ≡ record c { locals = []; log = []; noted = c1.noted } → StopsCache c c' σ σ2
 stops_cache {σ} {σ1} {σ2} c c1 c' flush stops mid is =
     let f : Profile = σ.seat.profile in
@@ -112,25 +124,33 @@ stops_cache {σ} {σ1} {σ2} c c1 c' flush stops mid is =
     }
 
 -- ---- names
-pub empties_where : {σ σ' : Standing} (log log' : List Entry) (noted noted' : List EndedRun) → 64 ≤ length log → log' ≡ [] → Flushes log noted noted' σ σ' → EmptiesWhere (nat_le 64 (length log)) log log' noted noted' σ σ'
+pub empties_where : {σ σ' : Standing} (log log' : List Entry) (noted noted' : List EndedRun) → 64 ≤ length log → log' ≡ [] → Flushes log noted noted' σ σ'
+    → EmptiesWhere (nat_le 64 (length log)) log log' noted noted' σ σ'
 empties_where {σ} {σ'} log log' noted noted' full none flush = search (arith, empties, le-leb)
 
-pub empties_nothing : {σ : Standing} (log : List Entry) (noted : List EndedRun) → length log < 64 → EmptiesWhere (nat_le 64 (length log)) log log noted noted σ σ
+-- A log with room needs no emptying before a name is logged.
+pub empties_nothing : {σ : Standing} (log : List Entry) (noted : List EndedRun) → length log < 64
+    → EmptiesWhere (nat_le 64 (length log)) log log noted noted σ σ
 empties_nothing {σ} log noted few = record { steps = []; calls = call_none (λ v clear. does_none v); empties = subst (λ t. EmptiesFull t σ.seat.actor log log noted noted []) (sym (lt-leb 64 (length log) few)) (refl, refl, refl); ranges = λ are. are }
 
-pub logs_into : {σ σ' : Standing} (log kept log' : List Entry) (noted noted' : List EndedRun) (entry : Entry) → EmptiesWhere (nat_le 64 (length log)) log kept noted noted' σ σ' → log' ≡ kept ++ entry ∷ [] → LogsInto log log' noted noted' entry σ σ'
+-- A log that was emptied where it was full, and then got an entry at its end, logs the entry.
+pub logs_into : {σ σ' : Standing} (log kept log' : List Entry) (noted noted' : List EndedRun) (entry : Entry)
+    → EmptiesWhere (nat_le 64 (length log)) log kept noted noted' σ σ' → log' ≡ kept ++ entry ∷ [] → LogsInto log log' noted noted' entry σ σ'
 logs_into log kept log' noted noted' entry emptied is = record { steps = emptied.steps; calls = emptied.calls; logs = record { kept = kept; emptied = emptied.empties; log_is = is }; ranges = emptied.ranges }
 
 -- the names of a log after one more
-kept_names : (f : Profile) (full : Bool) (k : ℕ) (log kept : List Entry) (noted noted' : List EndedRun) (steps : List Made) → full ≡ nat_le 64 (length log) → EmptiesFull full k log kept noted noted' steps → All (IsEntryOf f) log → All (IsEntryOf f) kept × (length kept < 64)
+kept_names : (f : Profile) (full : Bool) (k : ℕ) (log kept : List Entry) (noted noted' : List EndedRun) (steps : List Made) → full ≡ nat_le 64 (length log)
+    → EmptiesFull full k log kept noted noted' steps → All (IsEntryOf f) log → All (IsEntryOf f) kept × (length kept < 64)
 kept_names f full k log kept noted noted' steps e h names = grind (arith, leb-false)
 
-logged_names : (f : Profile) (k : ℕ) (log log' : List Entry) (noted noted' : List EndedRun) (entry : Entry) (steps : List Made) → LogsEntry k log log' noted noted' entry steps → IsEntryOf f entry → All (IsEntryOf f) log → All (IsEntryOf f) log' × (length log' ≤ 64)
+logged_names : (f : Profile) (k : ℕ) (log log' : List Entry) (noted noted' : List EndedRun) (entry : Entry) (steps : List Made)
+    → LogsEntry k log log' noted noted' entry steps → IsEntryOf f entry → All (IsEntryOf f) log → All (IsEntryOf f) log' × (length log' ≤ 64)
 logged_names f k log log' noted noted' entry steps logs is names =
     let kept = kept_names f (nat_le 64 (length log)) k log logs.kept noted noted' steps refl logs.emptied names in
     let n : length log' ≡ length logs.kept + 1 = ap length logs.log_is ∙ length-append logs.kept (entry ∷ []) in
     (All-same (IsEntryOf f) log' (logs.kept ++ entry ∷ []) logs.log_is (All-push (IsEntryOf f) logs.kept entry kept.0 is), omega (arith, n, kept.1))
 
+-- A name that may be tried, and was logged, is freed.
 pub frees : {σ σ' : Standing} (c c' : Cached) (entry : Entry) → entry.name.turn < 2 ^ 40 - 1 → (entry.room % 16 ≡ 0) × (entry.room ≤ 4096 * σ.seat.profile.pages) → IsInRegion σ.seat.profile entry.name → LogsInto c.log c'.log c.noted c'.noted entry σ σ' → c' ≡ record c { log = c'.log; noted = c'.noted } → Frees entry c c' σ σ' (Ok tt)
 frees {σ} c c' entry turn size region logs is = record {
   steps = logs.steps;
@@ -142,7 +162,9 @@ frees {σ} c c' entry turn size region logs is = record {
   outcome = record { region = region; logs = logs.logs; cache = is };
 }
 
-pub refuses : {σ : Standing} (c c' : Cached) (entry : Entry) (fault : FreeFault) → IsFaultOf σ.seat.profile entry.name fault → c' ≡ c → Frees entry c c' σ σ (Err fault)
+-- A name with a fault is refused, and the cache stays as it is.
+pub refuses : {σ : Standing} (c c' : Cached) (entry : Entry) (fault : FreeFault) → IsFaultOf σ.seat.profile entry.name fault → c' ≡ c
+    → Frees entry c c' σ σ (Err fault)
 refuses {σ} c c' entry fault is same = search (arith, call_none)
 
 -- room for the events of a full log
@@ -150,12 +172,15 @@ refuses {σ} c c' entry fault is same = search (arith, call_none)
 pub full_room : (n spare : ℕ) → n ≤ 64 → (n ≡ 64 → 64 ≤ spare) → 64 ≤ n → n ≤ spare
 full_room n spare most room full = search arith
 
+-- A cache at rest may flush its log.
 pub flush_call : {σ : Standing} {c : Cached} → CanCall σ (AtRest σ.seat.profile c) → CanCall σ (MayFlush σ.seat.profile c.log)
 flush_call can = record { view = can.view; whole = can.whole; stood = can.stood; met = record { clear = can.met.locals.clear; each = can.met.entries } }
 
 -- ==== The runs that were handed on so far.
 
-pub settles_more : {Door : Type 0} (Settles : Door → Door → ℕ → Range → Type 0) (runs : List EndedRun) (run : EndedRun) (a b c : Door) → SettlesEach Settles runs a b → Settles b c run.heap run.range → SettlesEach Settles (runs ++ run ∷ []) a c
+-- Runs that were settled one by one, and one more, are settled together.
+pub settles_more : {Door : Type 0} (Settles : Door → Door → ℕ → Range → Type 0) (runs : List EndedRun) (run : EndedRun) (a b c : Door)
+    → SettlesEach Settles runs a b → Settles b c run.heap run.range → SettlesEach Settles (runs ++ run ∷ []) a c
 settles_more Settles [] run a b c before one = (c, subst (λ x. Settles x c run.heap run.range) before one, refl)
 settles_more Settles (first ∷ rest) run a b c before one = (before.0, before.1, settles_more Settles rest run before.0 b c before.2 one)
 

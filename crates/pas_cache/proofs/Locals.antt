@@ -66,12 +66,14 @@ module _ {X : Type 0} (test : X → Bool) where
   pub none_found : (xs : List X) → find test xs ≡ None → NonePasses xs
   none_found xs h = elim (passing xs) [ inl none ↦ none | inr some ↦ let found = some.1.found in cc ]
 
+  -- Where a list has none that passes the test, nothing in it passes.
   pub none_any : (xs : List X) → list_any test xs ≡ false → NonePasses xs
   none_any xs h = elim (passing xs) [ inl none ↦ none | inr some ↦ absurd (true≢false (sym some.1.any ∙ h)) ]
 
   none_count : (xs : List X) → count_by test xs ≡ 0 → NonePasses xs
   none_count xs h = elim (passing xs) [ inl none ↦ none | inr some ↦ absurd (omega (arith, some.1.count, h)) ]
 
+  -- What is found in a list passes the test.
   pub found_passes : (xs : List X) (x : X) → find test xs ≡ Some x → Passes xs x
   found_passes xs x h = elim (passing xs) [ inl none ↦ let found = none.found in cc | inr some ↦ let found = some.1.found in subst (Passes xs) (cc) some.1 ]
 
@@ -79,17 +81,20 @@ module _ {X : Type 0} (test : X → Bool) where
   pub no_other : (x : X) (xs : List X) → count_by test (x ∷ xs) ≤ 1 → test x ≡ true → list_any test xs ≡ false
   no_other x xs one is = let n = counted_is x xs is in (none_count xs (omega (arith, n, one))).any
 
+  -- One more in a list, of which none passed if it does, leaves at most one that passes.
   pub one_more : (x : X) (xs : List X) → (test x ≡ true → list_any test xs ≡ false) → count_by test xs ≤ 1 → count_by test (x ∷ xs) ≤ 1
   one_more x xs other one = elim (cases_Bool (test x)) [
     | inl is ↦ let n = counted_is x xs is in let none = (none_any xs (other is)).count in omega (arith, n, none)
     | inr isnt ↦ let n = counted_not x xs isnt in omega (arith, n, one)
   ]
 
+  -- A list of which at most one passes has at most one without its first.
   pub one_fewer : (x : X) (xs : List X) → count_by test (x ∷ xs) ≤ 1 → count_by test xs ≤ 1
   one_fewer x xs one = let n = counted x xs in omega (arith, n, one)
 
   -- the one at a place
-  pub at_place : (xs : List X) (place : ℕ) (d : X) → place < length xs → test (get_or xs place d) ≡ true → count_by test xs ≤ 1 → (find test xs ≡ Some (get_or xs place d)) × (filter (λ y. not (test y)) xs ≡ remove xs place)
+  pub at_place : (xs : List X) (place : ℕ) (d : X) → place < length xs → test (get_or xs place d) ≡ true → count_by test xs ≤ 1
+      → (find test xs ≡ Some (get_or xs place d)) × (filter (λ y. not (test y)) xs ≡ remove xs place)
   at_place [] place d lt is one = absurd (omega arith)
   at_place (x ∷ xs) zero d lt is one =
       let n = counted_is x xs is in
@@ -112,6 +117,7 @@ module _ {X : Type 0} (test : X → Bool) where
 
 -- ---- the last one
 module _ {X : Type 0} where
+  -- A list is all but its last, and that one at the end.
   pub at_end : (xs : List X) (place : ℕ) (d : X) → place + 1 ≡ length xs → xs ≡ remove xs place ++ get_or xs place d ∷ []
   at_end [] place d is = absurd (omega arith)
   at_end (x ∷ []) zero d is = refl
@@ -122,10 +128,13 @@ module _ {X : Type 0} where
   pub refill_same : (xs ys : List X) → length ys ≡ length xs → refill (length xs) xs ys ≡ ys
   refill_same xs ys same = items-with_items (record { items = xs }) ys same
 
+  -- What stands at the last place of a list is its last one.
   pub last_is : {xs ys : List X} {n : ℕ} (fewer : List X) (x d : X) → ys ≡ xs → xs ≡ fewer ++ x ∷ [] → n ≡ length xs → get_or ys (n - 1) d ≡ x
   last_is {xs} {ys} {n} fewer x d same last long = search (arith, length-append, get_or-append_right)
 
-  pub last_set : {xs ys : List X} {n : ℕ} (fewer : List X) (x y : X) → ys ≡ xs → xs ≡ fewer ++ x ∷ [] → n ≡ length xs → refill (length xs) xs (set ys (n - 1) y) ≡ fewer ++ y ∷ []
+  -- A list whose last one was set to another has that one at its end.
+  pub last_set : {xs ys : List X} {n : ℕ} (fewer : List X) (x y : X) → ys ≡ xs → xs ≡ fewer ++ x ∷ [] → n ≡ length xs
+      → refill (length xs) xs (set ys (n - 1) y) ≡ fewer ++ y ∷ []
   last_set {xs} {ys} {n} fewer x y same last long =
       let m = ap length last ∙ length-append fewer (x ∷ []) in
       let first : n - 1 - length fewer ≡ 0 = omega (arith, m, long) in

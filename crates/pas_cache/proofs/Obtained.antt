@@ -22,7 +22,7 @@ use Rattle.pas_cache.specs.Serves.{IsFilling, IsRefill, IsFew, IsPreparing, Make
 use Rattle.pas_cache.proofs.Locals.{none_found, none_any, found_passes, at_place, none_left}
 use Rattle.pas_cache.proofs.Resting.{rests_gained, rests_kept, here, rests_reordered}
 use Rattle.pas_profile.proofs.Codecs.{same_from_deed_word, same_parts, deed_word_of-positive}
-use Rattle.pas_steps.proofs.{Unknown.unknown_stays, Unknown.unknown_less, Unknown.room_after, Frames.events_append, Kept.deed_stays, Apart.no_events}
+use Rattle.pas_steps.proofs.{Unknown.unknown_no_more, Unknown.unknown_less, Unknown.room_after, Frames.events_append, Kept.deed_stays, Apart.no_events}
 use Rattle.pas_steps.proofs.{Apart.events_same, Events.each_event, Called.call_none}
 use Rattle.pas_steps.proofs.Adding.{agreed_first, agreed_later, adds_under, triples_append, adds_none, can_call}
 use Rattle.pas_search.specs.Kinds.{AreQuiet, IsDeedOrBack, EventsAt, IsQuiet}
@@ -47,11 +47,14 @@ kept_by : (right shared : Bool) (a b : ℕ) → kind_of_class (not right) a ≡ 
 kept_by right shared a b h = grind arith
 
 -- slots that keep their page's right and are at home in the directory are those for its heap and the class
-is_one : (f : Profile) (fill : Filling) → IsFilling f fill → (slots : Slots) → slots.right ≡ true → home_of slots ≡ fill.directory → is_for fill.directory.heap fill.class slots ≡ true
+is_one : (f : Profile) (fill : Filling) → IsFilling f fill → (slots : Slots) → slots.right ≡ true → home_of slots ≡ fill.directory
+    → is_for fill.directory.heap fill.class slots ≡ true
 is_one f fill is slots right home = search (arith, and_from, eq-eqb, unshared)
 
 -- ---- an actor whose local allocators are all of other directories has no right of a page of this one
-no_right_in : (f : Profile) (v : View) (d : Directory) (test : Slots → Bool) → IsKind d.kind → ((slots : Slots) → slots.right ≡ true → home_of slots ≡ d → test slots ≡ true) → (locals : List Slots) → All (IsLocal f v) locals → list_any test locals ≡ false
+no_right_in : (f : Profile) (v : View) (d : Directory) (test : Slots → Bool) → IsKind d.kind
+    → ((slots : Slots) → slots.right ≡ true → home_of slots ≡ d → test slots ≡ true) → (locals : List Slots) → All (IsLocal f v) locals
+    → list_any test locals ≡ false
     → (p : ℕ) → KnowsDeed p d v → any_keeps locals p ≡ false
 no_right_in f v d test is all_there [] all none p of = refl
 no_right_in f v d test is all_there (first ∷ rest) all none p of =
@@ -68,42 +71,56 @@ no_test : (locals : List Slots) → list_any (λ (s : Slots). false) locals ≡ 
 no_test [] = refl
 no_test (s ∷ rest) = no_test rest
 
-pub no_right_of : (f : Profile) (v : View) (d : Directory) → IsKind d.kind → ((shared : Bool) (class : ℕ) → kind_of_class shared class ≡ d.kind → ⊥) → (locals : List Slots) → All (IsLocal f v) locals → (p : ℕ) → KnowsDeed p d v → any_keeps locals p ≡ false
+-- A thread keeps no page of a directory whose kind is that of no class.
+pub no_right_of : (f : Profile) (v : View) (d : Directory) → IsKind d.kind → ((shared : Bool) (class : ℕ) → kind_of_class shared class ≡ d.kind → ⊥)
+    → (locals : List Slots) → All (IsLocal f v) locals → (p : ℕ) → KnowsDeed p d v → any_keeps locals p ≡ false
 no_right_of f v d is no_class locals known p of = no_right_in f v d (λ s. false) is (λ slots right home. absurd (no_class (not slots.right) slots.class (ap (λ (h : Directory). h.kind) home))) locals known (no_test locals) p of
 
-pub may_search : (f : Profile) (v : View) (fill : Filling) (locals : List Slots) → IsFilling f fill → local_for fill.directory.heap fill.class locals ≡ None → RestsWith f locals v → MaySearch fill.directory v
+-- A cache that rests without a local allocator of the heap and class may search the pages of the class's home.
+pub may_search : (f : Profile) (v : View) (fill : Filling) (locals : List Slots) → IsFilling f fill → local_for fill.directory.heap fill.class locals ≡ None
+    → RestsWith f locals v → MaySearch fill.directory v
 may_search f v fill locals is none h = record {
   rights = λ p of. h.rights p ∙ no_right_in f v fill.directory (is_for fill.directory.heap fill.class) is.directory.kind (is_one f fill is) locals h.known (none_found (is_for fill.directory.heap fill.class) locals none).any p of;
   clear = h.clear;
 }
 
-pub search_call : {σ : Standing} {n spare : ℕ} (fill : Filling) (locals : List Slots) → IsFilling σ.seat.profile fill → local_for fill.directory.heap fill.class locals ≡ None → CanCall σ (MayObtain σ.seat.profile n spare locals) → CanCall σ (SearchRoom σ.seat.profile fill.directory n spare)
+-- A cache that may obtain slots has room for the search that a refill makes.
+pub search_call : {σ : Standing} {n spare : ℕ} (fill : Filling) (locals : List Slots) → IsFilling σ.seat.profile fill
+    → local_for fill.directory.heap fill.class locals ≡ None → CanCall σ (MayObtain σ.seat.profile n spare locals)
+    → CanCall σ (SearchRoom σ.seat.profile fill.directory n spare)
 search_call {σ} fill locals is none can = can_call adds_none can (λ v l stood met. record { may = may_search σ.seat.profile v fill locals is none met.rest; room = met.room })
 
 -- ---- what a refill says, by its answer
-refill_of : {σ σ' : Standing} (fill : Filling) (tells : Bool) (answer : Result Slots NoRoom) → (h : Refills fill tells σ σ' answer) → IsRefill fill σ.seat.profile (h.after ++ h.searched) answer
+refill_of : {σ σ' : Standing} (fill : Filling) (tells : Bool) (answer : Result Slots NoRoom) → (h : Refills fill tells σ σ' answer)
+    → IsRefill fill σ.seat.profile (h.after ++ h.searched) answer
 refill_of fill tells answer h = record { searched = h.searched; searches = h.searches; few = h.few; after = h.after; outcome = h.outcome; steps_are = refl }
 
-found_by : (fill : Filling) (f : Profile) (steps : List Made) (answer : Result Slots NoRoom) → IsRefill fill f steps answer → MatchResult answer (IsFoundFor fill) (λ room. Unit {0})
+found_by : (fill : Filling) (f : Profile) (steps : List Made) (answer : Result Slots NoRoom) → IsRefill fill f steps answer
+    → MatchResult answer (IsFoundFor fill) (λ room. Unit {0})
 found_by fill f steps answer refill = grind arith
 
 -- the one that is cached for the heap and the class is at home in its directory
-cached_home : (f : Profile) (v : View) (fill : Filling) → IsFilling f fill → (slots : Slots) → IsLocal f v slots → is_for fill.directory.heap fill.class slots ≡ true → home_of slots ≡ fill.directory
+cached_home : (f : Profile) (v : View) (fill : Filling) → IsFilling f fill → (slots : Slots) → IsLocal f v slots
+    → is_for fill.directory.heap fill.class slots ≡ true → home_of slots ≡ fill.directory
 cached_home f v fill is slots at for = search (arith, and_parts, eqb-true, not-not, same_parts)
 
 -- ---- what it does to what the actor holds and has
-refill_leads : {fill : Filling} {f : Profile} {steps : List Made} {slots : Slots} → IsRefill fill f steps (Ok slots) → Leads f (MaySearch fill.directory) (GetsSlots fill.directory slots) steps
+refill_leads : {fill : Filling} {f : Profile} {steps : List Made} {slots : Slots} → IsRefill fill f steps (Ok slots)
+    → Leads f (MaySearch fill.directory) (GetsSlots fill.directory slots) steps
 refill_leads {fill} {f} {slots = slots} h = subst (Leads f (MaySearch fill.directory) (GetsSlots fill.directory slots)) (sym h.steps_are) h.outcome.gets
 
 -- the steps of a refusal are those of the search alone
 pub refused_steps : {fill : Filling} {f : Profile} {steps : List Made} {room : NoRoom} → (h : IsRefill fill f steps (Err room)) → h.searched ≡ steps
 refused_steps h = sym (h.steps_are ∙ ap (λ xs. xs ++ h.searched) h.outcome.1)
 
-pub refusal : {fill : Filling} {f : Profile} {steps : List Made} {room : NoRoom} → IsRefill fill f steps (Err room) → IsRefused fill.no_fit f fill.directory steps room
+-- A refill that was refused is a refused search.
+pub refusal : {fill : Filling} {f : Profile} {steps : List Made} {room : NoRoom} → IsRefill fill f steps (Err room)
+    → IsRefused fill.no_fit f fill.directory steps room
 refusal {fill} {f} {room = room} h = subst (λ xs. IsRefused fill.no_fit f fill.directory xs room) (refused_steps h) h.outcome.0
 
 -- ---- the actor is at rest with the slots that were found besides
-rests_refilled : (f : Profile) (fill : Filling) (locals : List Slots) → IsFilling f fill → local_for fill.directory.heap fill.class locals ≡ None → (steps : List Made) (v : View) → RestsWith f locals v → Agreed f v steps
+rests_refilled : (f : Profile) (fill : Filling) (locals : List Slots) → IsFilling f fill → local_for fill.directory.heap fill.class locals ≡ None
+    → (steps : List Made) (v : View) → RestsWith f locals v → Agreed f v steps
     → (answer : Result Slots NoRoom) → IsRefill fill f steps answer → RestsWith f (cons_option (result_ok answer) locals) (steps ++ v)
 rests_refilled f fill locals is none steps v h agreed (Ok slots) refill =
     let d : Directory = fill.directory in
@@ -120,7 +137,8 @@ rests_refilled f fill locals is none steps v h agreed (Err room) refill = rests_
 -- ==== Which events a refill makes, and how many.
 
 -- ---- a deed that was made wasn't known before
-made_unknown : (no_fit : Readings → Type 0) (f : Profile) (d : Directory) (page : ℕ) (steps : List Made) (v : View) → Agreed f v steps → Once (DeedMadeHere no_fit f d page) steps → known_deed v page ≢ 0 → ⊥
+made_unknown : (no_fit : Readings → Type 0) (f : Profile) (d : Directory) (page : ℕ) (steps : List Made) (v : View) → Agreed f v steps
+    → Once (DeedMadeHere no_fit f d page) steps → known_deed v page ≢ 0 → ⊥
 made_unknown no_fit f d page [] v agreed h some = h
 made_unknown no_fit f d page (m ∷ more) v agreed (inl h) some = search (arith, deed_stays)
 made_unknown no_fit f d page (m ∷ more) v agreed (inr h) some = made_unknown no_fit f d page more v agreed.1 h some
@@ -130,19 +148,24 @@ zero_from n h = elim (cases_eq n 0) [ inl e ↦ e | inr ne ↦ absurd (h ne) ]
 
 -- ---- the events of a refill
 -- the leave makes none
-pub refill_events : {fill : Filling} {f : Profile} {steps : List Made} {slots : Slots} → (h : IsRefill fill f steps (Ok slots)) → (k : ℕ) (v : View) → events_by k v steps ≡ events_by k v h.searched
+pub refill_events : {fill : Filling} {f : Profile} {steps : List Made} {slots : Slots} → (h : IsRefill fill f steps (Ok slots)) → (k : ℕ) (v : View)
+    → events_by k v steps ≡ events_by k v h.searched
 refill_events h k v = ap (events_by k v) h.steps_are ∙ events_same returning refl k v h.after h.searched h.outcome.after_kinds
 
 -- where a page was chosen so, and its deed is known in the end
-pub chosen_few : (no_fit : Readings → Type 0) (f : Profile) (d : Directory) (page : ℕ) (searched steps : List Made) → IsPage f page → FromOffered no_fit d page searched ⊎ ByDeed no_fit f d page searched → FewEvents f d 1 searched → (k : ℕ) (v : View) → Agreed f v searched → Agreed f v steps
+pub chosen_few : (no_fit : Readings → Type 0) (f : Profile) (d : Directory) (page : ℕ) (searched steps : List Made) → IsPage f page
+    → FromOffered no_fit d page searched ⊎ ByDeed no_fit f d page searched → FewEvents f d 1 searched → (k : ℕ) (v : View) → Agreed f v searched
+    → Agreed f v steps
     → KnowsDeed page d (steps ++ v) → (n : ℕ) → length (events_by k v steps) ≤ length (events_by k v searched) + n → IsFew f (1 + n) k steps v
 chosen_few no_fit f d page searched steps is choice few k v agreed all deed n more =
-    search (arith, unknown_stays, zero_from, made_unknown, unknown_less, deed_word_of-positive)
+    search (arith, unknown_no_more, zero_from, made_unknown, unknown_less, deed_word_of-positive)
 
+-- Quiet steps make few events, as they make none.
 pub silent_few : (f : Profile) (k : ℕ) (steps : List Made) (v : View) → AreQuiet steps → Agreed f v steps → IsFew f 1 k steps v
-silent_few f k steps v quiet agreed = search (arith, events_quiet, unknown_stays)
+silent_few f k steps v quiet agreed = search (arith, events_quiet, unknown_no_more)
 
-found_few : (fill : Filling) (f : Profile) (steps : List Made) (found : Result Slots NoRoom) → IsRefill fill f steps found → (k : ℕ) (v : View) → MaySearch fill.directory v → Agreed f v steps → IsFew f 1 k steps v
+found_few : (fill : Filling) (f : Profile) (steps : List Made) (found : Result Slots NoRoom) → IsRefill fill f steps found → (k : ℕ) (v : View)
+    → MaySearch fill.directory v → Agreed f v steps → IsFew f 1 k steps v
 found_few fill f steps (Ok slots) h k v may agreed =
     let s = h.outcome in
     let same = ap length (refill_events h k v) in
@@ -150,10 +173,11 @@ found_few fill f steps (Ok slots) h k v may agreed =
 found_few fill f steps (Err room) h k v may agreed = silent_few f k steps v (refusal h).quiet agreed
 
 -- after steps without events
-refill_few : (fill : Filling) (f : Profile) (ys xs : List Made) (found : Result Slots NoRoom) → IsRefill fill f ys found → Only releasing xs → (k : ℕ) (v : View) → MaySearch fill.directory (xs ++ v) → Agreed f v (ys ++ xs) → IsFew f 1 k (ys ++ xs) v
+refill_few : (fill : Filling) (f : Profile) (ys xs : List Made) (found : Result Slots NoRoom) → IsRefill fill f ys found → Only releasing xs
+    → (k : ℕ) (v : View) → MaySearch fill.directory (xs ++ v) → Agreed f v (ys ++ xs) → IsFew f 1 k (ys ++ xs) v
 refill_few fill f ys xs found refill kinds k v may agreed =
     let here = found_few fill f ys found refill k (xs ++ v) may (agreed_first f v ys xs agreed) in
-    let before = unknown_stays f xs v (agreed_later f v ys xs agreed) in
+    let before = unknown_no_more f xs v (agreed_later f v ys xs agreed) in
     let split : length (events_by k v (ys ++ xs)) ≡ length (events_by k (xs ++ v) ys) + length (events_by k v xs) = ap length (events_append k ys xs v) ∙ length-append (events_by k (xs ++ v) ys) (events_by k v xs) in
     let none : length (events_by k v xs) ≡ 0 = ap length (no_events releasing refl k v xs kinds) in
     let same : unknown_pages f ((ys ++ xs) ++ v) ≡ unknown_pages f (ys ++ (xs ++ v)) = ap (unknown_pages f) (append_assoc ys xs v) in
@@ -164,11 +188,15 @@ one_prepared : (d : Directory) (k page epoch : ℕ) (s : Step) (a : ℕ) (e : Ev
 one_prepared d k page epoch s a e IsDeedOrBack.Deeds is = subst (IsPreparing d) (cond_some (a == 0) (Event.Deed k page d) e is).1 (IsPreparing.Deeds k page)
 one_prepared d k page epoch s a e IsDeedOrBack.Backs is = subst (IsPreparing d) (cond_some (a == 0) (Event.Back k page) e is).1 (IsPreparing.Backs k page)
 
-pub prepared : (d : Directory) (page : ℕ) (steps : List Made) → EventsAt d page steps → (k : ℕ) (v : View) → AllByRecursion (IsPreparing d) (events_by k v steps)
+-- The events of a search at one page are deeds of its directory and backs.
+pub prepared : (d : Directory) (page : ℕ) (steps : List Made) → EventsAt d page steps → (k : ℕ) (v : View)
+    → AllByRecursion (IsPreparing d) (events_by k v steps)
 prepared d page steps at k v = each_event (IsPreparing d) (λ m before. IsQuiet m ⊎ IsDeedOrBack d page m.step) k v
     (λ m before epoch e which is. elim which [ inl quiet ↦ absurd (none-some e (sym (quiet k epoch) ∙ is)) | inr some ↦ one_prepared d k page epoch m.step m.answer e some is ]) steps at
 
-pub no_fit_before : (no_fit : Readings → Type 0) (f : Profile) (d : Directory) (k : ℕ) (xs : List Made) (l : Whole) → IsAntitone no_fit → Only releasing xs → HasNoFit no_fit f d (triples k xs ++ l) → HasNoFit no_fit f d l
+-- Where no page fits after a local allocator was released, none fitted before.
+pub no_fit_before : (no_fit : Readings → Type 0) (f : Profile) (d : Directory) (k : ℕ) (xs : List Made) (l : Whole) → IsAntitone no_fit → Only releasing xs
+    → HasNoFit no_fit f d (triples k xs ++ l) → HasNoFit no_fit f d l
 no_fit_before no_fit f d k xs l fewer are none = record {
   offered = λ page o. none.offered page (record {
     of_region = o.of_region;
@@ -188,9 +216,12 @@ module _ {heap class : ℕ} {locals : List Slots} {place : ℕ} (d : Slots) (one
   placed : (local_for heap class locals ≡ Some (get_or locals place d)) × (others_than heap class locals ≡ remove locals place)
   placed = at_place (is_for heap class) locals place d at.within (at.serves d) (one heap class)
 
-  pub brings : (locals' : List Slots) → HasMember (get_or locals place d).starts → locals' ≡ remove locals place ++ get_or locals place d ∷ [] → BringsCached heap class locals locals'
+  -- A local allocator with a slot, moved to the end of its list, brings a cached slot.
+  pub brings : (locals' : List Slots) → HasMember (get_or locals place d).starts → locals' ≡ remove locals place ++ get_or locals place d ∷ []
+      → BringsCached heap class locals locals'
   brings locals' some is = record { slots = get_or locals place d; cached = placed.0; some = some; last = is ∙ ap (λ xs. xs ++ get_or locals place d ∷ []) (sym placed.1) }
 
+  -- A local allocator without a slot leaves none cached of its heap and class.
   pub none_cached : IsEmpty (get_or locals place d).starts → HasNoneCached heap class locals
   none_cached empty other found some = search (arith, placed, true≢false)
 
@@ -202,13 +233,17 @@ no_set : (slots : Slots) (g : ℕ) → IsClass slots.class → IsEmpty slots.sta
 no_set slots g is empty lt set =
     true≢false (sym set ∙ empty (start_of slots.class g) (omega (arith, (start_below slots.class g is).0, lt)))
 
-nothing_back : (slots : Slots) (steps : List Made) → IsClass slots.class → IsEmpty slots.starts → (h : StopStepsAt (home_of slots) slots steps) → BackSteps slots.page (home_of slots) h.mask h.back → h.back ≡ []
+nothing_back : (slots : Slots) (steps : List Made) → IsClass slots.class → IsEmpty slots.starts → (h : StopStepsAt (home_of slots) slots steps)
+    → BackSteps slots.page (home_of slots) h.mask h.back → h.back ≡ []
 nothing_back slots steps is empty h e = grind (arith, no_set)
 
-spent_leaves : (slots : Slots) (steps : List Made) → IsClass slots.class → IsEmpty slots.starts → StopStepsAt (home_of slots) slots steps → LeavesWhere slots.right slots.page (home_of slots) steps
+spent_leaves : (slots : Slots) (steps : List Made) → IsClass slots.class → IsEmpty slots.starts → StopStepsAt (home_of slots) slots steps
+    → LeavesWhere slots.right slots.page (home_of slots) steps
 spent_leaves slots steps is empty h = search (arith, nothing_back, append-nil)
 
-pub leaves_spent : {σ σ1 : Standing} (heap class : ℕ) {locals others : List Slots} {place : ℕ} → IsPlaceOf heap class locals place → HasNoneCached heap class locals → CanCall σ (RestsWith σ.seat.profile locals) → StopsPlace place locals others σ σ1
+-- The spent local allocator of a heap and class that was stopped is taken out.
+pub leaves_spent : {σ σ1 : Standing} (heap class : ℕ) {locals others : List Slots} {place : ℕ} → IsPlaceOf heap class locals place
+    → HasNoneCached heap class locals → CanCall σ (RestsWith σ.seat.profile locals) → StopsPlace place locals others σ σ1
     → Releases (IsTakenOut heap class locals others) locals others σ σ1
 leaves_spent heap class {locals} {others} {place} at none can h =
     let slots : Slots = h.slots in
@@ -218,9 +253,12 @@ leaves_spent heap class {locals} {others} {place} at none can h =
     let empty : IsEmpty slots.starts = none_empty slots (none slots found) in
     releases_as h.stops (λ steps one. record { left = subst (λ o. LeavesSpent o steps) (sym found) (empty, spent_leaves slots steps small empty one.order); others = h.fewer ∙ sym p.1; few = one.few })
 
-pub leaves_none : {σ : Standing} (heap class : ℕ) {locals : List Slots} → list_any (is_for heap class) locals ≡ false → Releases (IsTakenOut heap class locals locals) locals locals σ σ
+-- Where a list has no local allocator of a heap and class, none is taken out.
+pub leaves_none : {σ : Standing} (heap class : ℕ) {locals : List Slots} → list_any (is_for heap class) locals ≡ false
+    → Releases (IsTakenOut heap class locals locals) locals locals σ σ
 leaves_none heap class {locals} none = search (arith, none_any, releases_none)
 
+-- Where no local allocator of a heap and class is found, none is cached.
 pub none_at_all : (heap class : ℕ) (locals : List Slots) → None ≡ local_for heap class locals → HasNoneCached heap class locals
 none_at_all heap class locals none other at some = cc
 
@@ -231,23 +269,30 @@ none_after t x rest none = grind arith
 none_first : (heap class : ℕ) (first : Slots) (rest : List Slots) → local_for heap class (first ∷ rest) ≡ None → local_for heap class rest ≡ None
 none_first heap class first rest none = none_after (is_for heap class first) first (local_for heap class rest) none
 
-none_stopped : (heap class : ℕ) (full : Bool) (locals kept : List Slots) (steps : List Made) → StopsFirst full locals kept steps → local_for heap class locals ≡ None → local_for heap class kept ≡ None
+none_stopped : (heap class : ℕ) (full : Bool) (locals kept : List Slots) (steps : List Made) → StopsFirst full locals kept steps
+    → local_for heap class locals ≡ None → local_for heap class kept ≡ None
 none_stopped heap class full locals kept steps h none = grind (arith, none_first)
 
-pub none_shortened : {heap class : ℕ} {locals others fewer : List Slots} {spent stopped : List Made} → IsTakenOut heap class locals others spent → IsShortened others fewer stopped → local_for heap class fewer ≡ None
+-- Once the spent one was taken out and the list shortened, none of the heap and class is left.
+pub none_shortened : {heap class : ℕ} {locals others fewer : List Slots} {spent stopped : List Made} → IsTakenOut heap class locals others spent
+    → IsShortened others fewer stopped → local_for heap class fewer ≡ None
 none_shortened {heap} {class} {locals} {others} {fewer} {spent} {stopped} taken short = none_stopped heap class _ others fewer stopped short.first (none_in heap class locals others taken.others)
 
-pub makes_place : {σ σ1 σ2 : Standing} (heap class : ℕ) (locals others fewer : List Slots) → Releases (IsTakenOut heap class locals others) locals others σ σ1 → Releases (IsShortened others fewer) others fewer σ1 σ2 → Releases (MakesPlace heap class locals fewer) locals fewer σ σ2
+-- A list of which the spent one was taken out, and which was shortened then, has place.
+pub makes_place : {σ σ1 σ2 : Standing} (heap class : ℕ) (locals others fewer : List Slots) → Releases (IsTakenOut heap class locals others) locals others σ σ1
+    → Releases (IsShortened others fewer) others fewer σ1 σ2 → Releases (MakesPlace heap class locals fewer) locals fewer σ σ2
 makes_place heap class locals others fewer one two =
     let n = length-append two.steps one.steps in
     releases_then locals others one (MakesPlace heap class locals fewer) fewer two (record { spent = one.steps; kept = others; taken = one.change; stopped = two.steps; shortened = two.change; steps_are = refl; few = omega (arith, n, one.change.few, two.change.few) })
 
 -- ---- the slots that serve the request
-abbrev pub obtain_rests : {σ : Standing} {n spare : ℕ} {locals : List Slots} → CanCall σ (MayObtain σ.seat.profile n spare locals) → CanCall σ (RestsWith σ.seat.profile locals)
+abbrev pub obtain_rests : {σ : Standing} {n spare : ℕ} {locals : List Slots} → CanCall σ (MayObtain σ.seat.profile n spare locals)
+    → CanCall σ (RestsWith σ.seat.profile locals)
 obtain_rests can = record { view = can.view; whole = can.whole; stood = can.stood; met = can.met.rest }
 
 -- the same room after place was made
-pub obtain_after : {σ σ1 : Standing} {n spare spare1 : ℕ} {Change : List Made → Type 0} (locals fewer : List Slots) → Releases Change locals fewer σ σ1 → spare1 ≡ spare → CanCall σ (MayObtain σ.seat.profile n spare locals) → CanCall σ1 (MayObtain σ1.seat.profile n spare1 fewer)
+pub obtain_after : {σ σ1 : Standing} {n spare spare1 : ℕ} {Change : List Made → Type 0} (locals fewer : List Slots) → Releases Change locals fewer σ σ1
+    → spare1 ≡ spare → CanCall σ (MayObtain σ.seat.profile n spare locals) → CanCall σ1 (MayObtain σ1.seat.profile n spare1 fewer)
 obtain_after {σ} {σ1} {n} {spare} {spare1} locals fewer one same can = can_call (adds_under one.calls.adds (λ v l stood met. met.rest)) can (λ v l stood met.
     let f : Profile = σ.seat.profile in
     let ok : Agreed f v one.steps = one.calls.adds.agreed v l stood met.rest in
@@ -255,11 +300,14 @@ obtain_after {σ} {σ1} {n} {spare} {spare1} locals fewer one same can = can_cal
     (record { rest = one.calls.leads.from v met.rest ok; room = subst (λ m. HasRoom f n m (one.steps ++ v)) (sym same) (room_after f n spare one.steps v ok met.room) }))
 
 -- the profile is the same after place was made
-pub filling_then : {σ σ1 : Standing} {fill : Filling} {First : List Made → Type 0} {locals fewer : List Slots} → Releases First locals fewer σ σ1 → IsFilling σ.seat.profile fill → IsFilling σ1.seat.profile fill
+pub filling_then : {σ σ1 : Standing} {fill : Filling} {First : List Made → Type 0} {locals fewer : List Slots} → Releases First locals fewer σ σ1
+    → IsFilling σ.seat.profile fill → IsFilling σ1.seat.profile fill
 filling_then {fill = fill} one is = subst (λ (s : Seat). IsFilling s.profile fill) (sym one.calls.adds.seat_is) is
 
 -- a cached one that was brought to the end
-pub obtains_cached : {σ : Standing} (fill : Filling) (tells : Bool) (locals locals' : List Slots) → IsFilling σ.seat.profile fill → CanCall σ (RestsWith σ.seat.profile locals) → length locals ≤ 32 → BringsCached fill.directory.heap fill.class locals locals' → StandsLast fill tells locals locals' σ σ
+pub obtains_cached : {σ : Standing} (fill : Filling) (tells : Bool) (locals locals' : List Slots) → IsFilling σ.seat.profile fill
+    → CanCall σ (RestsWith σ.seat.profile locals) → length locals ≤ 32 → BringsCached fill.directory.heap fill.class locals locals'
+    → StandsLast fill tells locals locals' σ σ
 obtains_cached {σ} fill tells locals locals' is can fits cached =
     let heap : ℕ = fill.directory.heap in
     let class : ℕ = fill.class in
@@ -287,13 +335,17 @@ obtains_cached {σ} fill tells locals locals' is can fits cached =
       last = cached.last;
     }
 
-refill_told : (fill : Filling) (f : Profile) (locals : List Slots) (entry middle exit : Whole) (answer : Result Slots NoRoom) → HasNoneCached fill.directory.heap fill.class locals
+refill_told : (fill : Filling) (f : Profile) (locals : List Slots) (entry middle exit : Whole) (answer : Result Slots NoRoom)
+    → HasNoneCached fill.directory.heap fill.class locals
     → (HasNoFit fill.no_fit f fill.directory middle → HasNoFit fill.no_fit f fill.directory entry)
     → IsTold (λ (s : Slots). s.page) fill.no_fit f fill.directory middle exit answer → IsToldOf fill f locals entry exit answer
 refill_told fill f locals entry middle exit answer none back told = grind arith
 
-pub obtains_refilled : {σ σ1 σ2 : Standing} (fill : Filling) (tells : Bool) (locals fewer : List Slots) (answer : Result Slots NoRoom) → IsFilling σ.seat.profile fill → HasNoneCached fill.directory.heap fill.class locals
-    → Releases (MakesPlace fill.directory.heap fill.class locals fewer) locals fewer σ σ1 → local_for fill.directory.heap fill.class fewer ≡ None → length fewer < 32 → Refills fill tells σ1 σ2 answer → Obtains fill tells locals fewer σ σ2 answer
+-- Slots that a refill brings, after place was made for them, are obtained.
+pub obtains_refilled : {σ σ1 σ2 : Standing} (fill : Filling) (tells : Bool) (locals fewer : List Slots) (answer : Result Slots NoRoom)
+    → IsFilling σ.seat.profile fill → HasNoneCached fill.directory.heap fill.class locals
+    → Releases (MakesPlace fill.directory.heap fill.class locals fewer) locals fewer σ σ1 → local_for fill.directory.heap fill.class fewer ≡ None
+    → length fewer < 32 → Refills fill tells σ1 σ2 answer → Obtains fill tells locals fewer σ σ2 answer
 obtains_refilled {σ} {σ1} {σ2} fill tells locals fewer answer is cached one none place two =
     let f : Profile = σ.seat.profile in
     let k : ℕ = σ.seat.actor in

@@ -40,7 +40,8 @@ pub record InSlot (slots : Slots) (start g : ℕ) : Type 0 where
   pub low : start ≤ g % 256
   pub high : g % 256 < start + class_grains slots.class
 
-in_slot : (slots : Slots) (start g : ℕ) → IsClass slots.class → IsSlotStart slots.class start → in_run (first_grain slots start) (class_grains slots.class) g ≡ true → InSlot slots start g
+in_slot : (slots : Slots) (start g : ℕ) → IsClass slots.class → IsSlotStart slots.class start
+    → in_run (first_grain slots start) (class_grains slots.class) g ≡ true → InSlot slots start g
 in_slot slots start g is slot inside = search (arith, run_of, slot_end)
 
 -- they are among those of all slots
@@ -49,19 +50,25 @@ slot_covers slots start g slot set at = search (arith, and_from, eq-eqb, start_a
 
 -- ---- the give
 module _ (slots : Slots) (start : ℕ) (lowest : IsLowestSet slots.starts 0 start) where
+  -- The lowest slot of a local allocator has some grains, and lies on its page.
   pub slot_within : (f : Profile) (v : View) → MayGiveSlot f slots v → (1 ≤ class_grains slots.class) × (start + class_grains slots.class ≤ 256)
   slot_within f v may = (class_grains_positive slots.class may.local.class, slot_end slots.class start may.local.class (may.local.starts start lowest.set))
 
+  -- The lowest slot of a local allocator lies within the region.
   pub region_within : (f : Profile) (v : View) → MayGiveSlot f slots v → slots.page * 256 + start + class_grains slots.class ≤ 256 * (f.pages + 1)
   region_within f v may = let ends = (slot_within f v may).1 in omega (arith, may.local.page.1, ends)
 
   may_give : (f : Profile) (v : View) → MayGiveSlot f slots v → MayGive f slots.heap slots.page start (class_grains slots.class) v
   may_give f v may = search (arith, may_give_on, slot_within, slot_covers, in_slot)
 
-  pub can_give : {σ : Standing} → CanCall σ (MayGiveSlot σ.seat.profile slots) → CanCall σ (MayGive σ.seat.profile slots.heap slots.page start (class_grains slots.class))
+  -- Who may give a slot of a local allocator may give the block of its lowest one.
+  pub can_give : {σ : Standing} → CanCall σ (MayGiveSlot σ.seat.profile slots)
+      → CanCall σ (MayGive σ.seat.profile slots.heap slots.page start (class_grains slots.class))
   can_give {σ} can = record { view = can.view; whole = can.whole; stood = can.stood; met = may_give σ.seat.profile can.view can.met }
 
-  pub gives_lowest : {σ σ' : Standing} (slots' : Slots) (block : Block) → IsClass slots.class → IsWithoutSlot slots slots' start → GivesRun slots.heap slots.page start (class_grains slots.class) block σ σ' → GivesLowest slots slots' block σ σ'
+  -- The block of the lowest slot that was given leaves the local allocator without that slot.
+  pub gives_lowest : {σ σ' : Standing} (slots' : Slots) (block : Block) → IsClass slots.class → IsWithoutSlot slots slots' start
+      → GivesRun slots.heap slots.page start (class_grains slots.class) block σ σ' → GivesLowest slots slots' block σ σ'
   gives_lowest {σ} slots' block is rest give = record {
     steps = give_steps slots.page start block give.word give.answer;
     calls = call_as (λ v w. block.name.turn < 2 ^ 37) give.calls (may_give σ.seat.profile) (λ v w met gave. gave.turn);
@@ -87,7 +94,8 @@ some_grain : (f : Profile) (v : View) (t : Slots) → IsLocal f v t → (some : 
 some_grain f v t here some = search (arith, class_grains_positive, slot_covers)
 
 -- one whose grains were all kept is as it was
-local_after : (f : Profile) (e : Effect) (steps : List Made) (v : View) (t : Slots) → Does e v (steps ++ v) → Agreed f v steps → ((g : ℕ) → covers t g ≡ true → (holds v g ≡ true) × (e.grains g ≡ Kept)) → IsLocal f v t → IsLocal f (steps ++ v) t
+local_after : (f : Profile) (e : Effect) (steps : List Made) (v : View) (t : Slots) → Does e v (steps ++ v) → Agreed f v steps
+    → ((g : ℕ) → covers t g ≡ true → (holds v g ≡ true) × (e.grains g ≡ Kept)) → IsLocal f v t → IsLocal f (steps ++ v) t
 local_after f e steps v t does agreed stays at = record {
   page = at.page;
   class = at.class;
@@ -102,7 +110,9 @@ local_after f e steps v t does agreed stays at = record {
       subst (λ p. knows_backed (steps ++ v) p ≡ true) on (does.backed g here.1 (record { held = here.0; backed = subst (λ p. knows_backed v p ≡ true) (sym on) (at.backed some) })).backed;
 }
 
-pub locals_after : (f : Profile) (e : Effect) (steps : List Made) (v : View) (locals : List Slots) → Does e v (steps ++ v) → Agreed f v steps → ((g : ℕ) → any_covers locals g ≡ true → (holds v g ≡ true) × (e.grains g ≡ Kept)) → All (IsLocal f v) locals → All (IsLocal f (steps ++ v)) locals
+-- What is known of local allocators stays so through steps that keep all their grains.
+pub locals_after : (f : Profile) (e : Effect) (steps : List Made) (v : View) (locals : List Slots) → Does e v (steps ++ v) → Agreed f v steps
+    → ((g : ℕ) → any_covers locals g ≡ true → (holds v g ≡ true) × (e.grains g ≡ Kept)) → All (IsLocal f v) locals → All (IsLocal f (steps ++ v)) locals
 locals_after f e steps v locals does agreed stays known k d lt =
     local_after f e steps v (get_or locals k d) does agreed (λ g here. stays g (or_at (list_any (λ t. covers t g)) (λ t. covers t g) refl (λ x xs. refl) locals k d lt here)) (known k d lt)
 
@@ -120,7 +130,8 @@ rests_reordered f xs ys p v h =
     }
 
 -- after a call with this effect, where what the others cover and keep is what it leaves
-pub rests_by : (f : Profile) (e : Effect) (steps : List Made) (v : View) (xs ys : List Slots) → Does e v (steps ++ v) → ((g : ℕ) → now (e.grains g) (any_covers xs g) ≡ any_covers ys g) → ((page : ℕ) → now (e.rights page) (any_keeps xs page) ≡ any_keeps ys page)
+pub rests_by : (f : Profile) (e : Effect) (steps : List Made) (v : View) (xs ys : List Slots) → Does e v (steps ++ v)
+    → ((g : ℕ) → now (e.grains g) (any_covers xs g) ≡ any_covers ys g) → ((page : ℕ) → now (e.rights page) (any_keeps xs page) ≡ any_keeps ys page)
     → ((page : ℕ) → e.clears page ≡ Kept) → RestsWith f xs v → All (IsLocal f (steps ++ v)) ys → AreApart ys → RestsWith f ys (steps ++ v)
 rests_by f e steps v xs ys does grains rights clears h known apart = record {
   grains = λ g. does.held g ∙ ap (now (e.grains g)) (h.grains g) ∙ grains g;
@@ -131,7 +142,8 @@ rests_by f e steps v xs ys does grains rights clears h known apart = record {
 }
 
 -- a call that does nothing
-pub rests_kept : (f : Profile) (locals : List Slots) (steps : List Made) (v : View) → Does nothing v (steps ++ v) → Agreed f v steps → RestsWith f locals v → RestsWith f locals (steps ++ v)
+pub rests_kept : (f : Profile) (locals : List Slots) (steps : List Made) (v : View) → Does nothing v (steps ++ v) → Agreed f v steps → RestsWith f locals v
+    → RestsWith f locals (steps ++ v)
 rests_kept f locals steps v does agreed h = rests_by f nothing steps v locals locals does (λ g. refl) (λ page. refl) (λ page. refl) h (locals_after f nothing steps v locals does agreed (λ g here. (h.grains g ∙ here, refl)) h.known) h.apart
 
 unless_covered : (t : Bool) (fate : Fate) → (t ≡ true → ⊥) → (if t then fate else Kept) ≡ Kept
@@ -145,6 +157,7 @@ more c r = grind arith
 
 -- ---- the first of them
 module _ (f : Profile) (slots : Slots) (rest : List Slots) (v : View) (h : RestsWith f (slots ∷ rest) v) where
+  -- A cache at rest knows of its first local allocator what a local allocator is.
   pub here : IsLocal f v slots
   here = All-head (IsLocal f v) slots rest h.known
 
@@ -160,14 +173,17 @@ module _ (f : Profile) (slots : Slots) (rest : List Slots) (v : View) (h : Rests
   held_here : (g : ℕ) → covers slots g ≡ true → holds v g ≡ true
   held_here g covered = h.grains g ∙ ap (λ t. t || any_covers rest g) covered
 
+  -- A cache at rest may stop its first local allocator.
   pub may_stop : MayStopAt (home_of slots) slots v
   may_stop = search (arith, held_here, here, and_from, eq-eqb)
 
+  -- A cache at rest may give a slot of its first local allocator.
   pub may_give_slot : MayGiveSlot f slots v
   may_give_slot = record { held = held_here; local = here; stamped = (h.clear.on slots.page).stamped }
 
   -- the others after a call that keeps what this one doesn't cover
-  others_after : (e : Effect) (steps : List Made) → Does e v (steps ++ v) → Agreed f v steps → ((g : ℕ) → covers slots g ≡ false → e.grains g ≡ Kept) → All (IsLocal f (steps ++ v)) rest
+  others_after : (e : Effect) (steps : List Made) → Does e v (steps ++ v) → Agreed f v steps → ((g : ℕ) → covers slots g ≡ false → e.grains g ≡ Kept)
+      → All (IsLocal f (steps ++ v)) rest
   others_after e steps does agreed kept = locals_after f e steps v rest does agreed (λ g there. (h.grains g ∙ or_right (covers slots g) (any_covers rest g) there, kept g (false_from_ne_true (covers slots g) (λ mine. true≢false (sym there ∙ no_other_grain g mine))))) others
 
   fewer_apart : AreApart rest
@@ -187,8 +203,11 @@ module _ (f : Profile) (slots : Slots) (rest : List Slots) (v : View) (h : Rests
 by_page : (t right kept : Bool) → (t ≡ true → kept ≡ false) → now (if t then (if right then Gained else Lost) else Kept) kept ≡ ((right && t) || kept)
 by_page t right kept none = grind arith
 
-pub rests_gained : (f : Profile) (d : Directory) (slots : Slots) (rest : List Slots) (steps : List Made) (v : View) → RestsWith f rest v → GetsSlots d slots v (steps ++ v) → Agreed f v steps → IsLocal f (steps ++ v) slots
-    → local_for slots.heap slots.class rest ≡ None → (All (IsLocal f (steps ++ v)) rest → (page : ℕ) → (slots.page == page) ≡ true → any_keeps rest page ≡ false) → RestsWith f (slots ∷ rest) (steps ++ v)
+-- A cache that rests is at rest with slots more that it got.
+pub rests_gained : (f : Profile) (d : Directory) (slots : Slots) (rest : List Slots) (steps : List Made) (v : View) → RestsWith f rest v
+    → GetsSlots d slots v (steps ++ v) → Agreed f v steps → IsLocal f (steps ++ v) slots
+    → local_for slots.heap slots.class rest ≡ None
+    → (All (IsLocal f (steps ++ v)) rest → (page : ℕ) → (slots.page == page) ≡ true → any_keeps rest page ≡ false) → RestsWith f (slots ∷ rest) (steps ++ v)
 rests_gained f d slots rest steps v h gains agreed here none no_right =
     let e : Effect = got slots in
     let later : All (IsLocal f (steps ++ v)) rest = locals_after f e steps v rest gains.does agreed (λ g there. (h.grains g ∙ there, unless_covered (covers slots g) Gained (λ mine. true≢false (sym (h.grains g ∙ there) ∙ gains.apart g mine)))) h.known in
@@ -208,7 +227,8 @@ rests_gained f d slots rest steps v h gains agreed here none no_right =
 abbrev given : Block → Effect
 given block = record { grains = λ g. if in_run (grain_of block.name) (length_of block) g then Lost else Kept; rights = λ page. Kept; clears = λ page. Kept }
 
-give_does : (f : Profile) (slots rest : Slots) (block : Block) (steps : List Made) → GivesSlot slots rest block steps → (v : View) → Agreed f v steps → Does (given block) v (steps ++ v)
+give_does : (f : Profile) (slots rest : Slots) (block : Block) (steps : List Made) → GivesSlot slots rest block steps → (v : View) → Agreed f v steps
+    → Does (given block) v (steps ++ v)
 give_does f slots rest block steps gives v agreed =
     let ok : Agreed f v (made (Give block) gives.answer ∷ made (Look (Word.Life slots.page gives.start)) gives.word ∷ []) = subst (Agreed f v) gives.steps_are agreed in
     subst (λ s. Does (given block) v (s ++ v)) (sym gives.steps_are)
@@ -218,10 +238,12 @@ give_does f slots rest block steps gives v agreed =
 unless_start : (page at set : Bool) → (page ≡ true → at ≡ true → ⊥) → (page && (not at && set)) ≡ (page && set)
 unless_start page at set h = grind arith
 
-by_run : (inside had left rest : Bool) → (inside ≡ true → (left || rest) ≡ false) → (inside ≡ false → left ≡ had) → now (if inside then Lost else Kept) (had || rest) ≡ (left || rest)
+by_run : (inside had left rest : Bool) → (inside ≡ true → (left || rest) ≡ false) → (inside ≡ false → left ≡ had)
+    → now (if inside then Lost else Kept) (had || rest) ≡ (left || rest)
 by_run inside had left rest gone same = grind arith
 
-module _ (f : Profile) (locals : List Slots) (slots rest : Slots) (block : Block) (steps : List Made) (gives : GivesSlot slots rest block steps) (v : View) (h : RestsWith f (slots ∷ locals) v) where
+module _ (f : Profile) (locals : List Slots) (slots rest : Slots) (block : Block) (steps : List Made) (gives : GivesSlot slots rest block steps) (v : View)
+    (h : RestsWith f (slots ∷ locals) v) where
   local : IsLocal f v slots
   local = here f slots locals v h
 
@@ -281,6 +303,7 @@ module _ (f : Profile) (locals : List Slots) (slots rest : Slots) (block : Block
   rest_before : IsLocal f v rest
   rest_before = search (arith, local, same_home, and_parts)
 
+  -- A cache that rests is at rest after a slot of its first local allocator was given.
   pub rests_given : Agreed f v steps → RestsWith f (rest ∷ locals) (steps ++ v)
   rests_given agreed =
       let does : Does (given block) v (steps ++ v) = give_does f slots rest block steps gives v agreed in

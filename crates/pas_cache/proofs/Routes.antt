@@ -19,7 +19,7 @@ use Rattle.pas_steps.specs.Kinds.{returning, Only, Backing, looking, kind_of, is
 use Rattle.pas_steps.specs.declared.step.{Made.Made, Step.Step, Step.TheVariants.Deed}
 use Rattle.pas_steps.proofs.Adding.{agreed_later, adds_under, agreed_first, adds_none, can_call}
 use Rattle.pas_steps.proofs.{Apart.only_both, Apart.only_within, Apart.events_same, Calls.returns_are, Frames.events_append, Past.always_pair}
-use Rattle.pas_steps.proofs.{Unknown.unknown_stays, Events.ComesOf, Events.comes_of, Events.each_event}
+use Rattle.pas_steps.proofs.{Unknown.unknown_no_more, Events.ComesOf, Events.comes_of, Events.each_event}
 use Rattle.pas_search.proofs.ForBackEnds.{events_quiet}
 use Rattle.pas_search.specs.{Kinds.searching, Serving.right_of, Telling.IsTold}
 use Rattle.pas_search.specs.Searches.{MaySearch, IsRefused, SearchRoom, search_steps}
@@ -50,6 +50,7 @@ use Rattle.pas_segregated.specs.Stops.{home_of}
 small_with : (o : Option ℕ) (n : ℕ) → n ≤ 2048 → IsSmallRoute (route_with o n)
 small_with o n le = grind (arith, le-leb)
 
+-- A request of at most 2,048 bytes goes by a class or is bit-fit.
 pub is_small : (classes size align : ℕ) → size ≤ 2048 → IsSmallRoute (route_of classes size align)
 is_small classes size align le = small_with (first_class (sizes_of classes) 0 (max size 1) align) (max size 1) (omega (arith, le))
 
@@ -57,28 +58,37 @@ is_small classes size align le = small_with (first_class (sizes_of classes) 0 (m
 pub is_large : (classes size align : ℕ) → 2048 < size → route_of classes size align ≡ Route.Large
 is_large classes size align more = sym (large_for classes size align more)
 
+-- A request for whole pages is of more than 2,048 bytes.
 pub large_size : (classes size align : ℕ) → route_of classes size align ≡ Route.Large → 2048 < size
 large_size classes size align e = (subst (IsRouteOf classes size align) e (route_is classes size align)).0
 
 -- ==== A request goes by its route.
 -- Both facts are at the way, which is the route.
-pub goes : {σ σ' : Standing} {Answers : Option ℕ → Type 0} {Same : Type 0} {wanted : Wanted} {tells : Bool} {c c' : Cached} {answer : Result Block NoRoom} (way : Route) (found : Option ℕ) → wanted.route ≡ way → IsNamed way Answers Same found
+pub goes : {σ σ' : Standing} {Answers : Option ℕ → Type 0} {Same : Type 0} {wanted : Wanted} {tells : Bool} {c c' : Cached} {answer : Result Block NoRoom}
+      (way : Route) (found : Option ℕ)
+    → wanted.route ≡ way → IsNamed way Answers Same found
     → AllocatesBy way wanted found tells c c' σ σ' answer → AllocatesRequest Answers Same wanted tells c c' σ σ' answer
 goes {σ} {σ'} {Answers} {Same} {wanted} {tells} {c} {c'} {answer} way found route named it = search arith
 
-pub may_go : {σ : Standing} (c : Cached) (heap size align spare : ℕ) (way : Route) → route_in σ.seat.profile size align ≡ way → CanCall σ (MayRequest σ.seat.profile (wanted_for σ.seat.profile heap size align) c spare)
+-- A request that may be made may be made by its route.
+pub may_go : {σ : Standing} (c : Cached) (heap size align spare : ℕ) (way : Route) → route_in σ.seat.profile size align ≡ way
+    → CanCall σ (MayRequest σ.seat.profile (wanted_for σ.seat.profile heap size align) c spare)
     → CanCall σ (MayRequestBy way σ.seat.profile c (room_in σ.seat.profile size align / 4096) spare)
 may_go {σ} c heap size align spare way route can = subst (λ (r : Route). CanCall σ (MayRequestBy r σ.seat.profile c (room_in σ.seat.profile size align / 4096) spare)) route can
 
 -- where it is small
-pub small_may : {f : Profile} {c : Cached} {spare : ℕ} {v : View} (n : ℕ) (route : Route) → IsSmallRoute route → MayAllocate f c spare v → MayRequestBy route f c n spare v
+pub small_may : {f : Profile} {c : Cached} {spare : ℕ} {v : View} (n : ℕ) (route : Route) → IsSmallRoute route → MayAllocate f c spare v
+    → MayRequestBy route f c n spare v
 small_may n route small may = grind arith
 
-pub small_did : {σ σ' : Standing} {tells : Bool} {c c' : Cached} {answer : Result Block NoRoom} (wanted : Wanted) (found : Option ℕ) (route : Route) → IsSmallRoute route → AllocatesBy route wanted found tells c c' σ σ' answer → Serves wanted tells c c' σ σ' answer
+-- A request that goes by a class or is bit-fit is served as any small one.
+pub small_did : {σ σ' : Standing} {tells : Bool} {c c' : Cached} {answer : Result Block NoRoom} (wanted : Wanted) (found : Option ℕ) (route : Route)
+    → IsSmallRoute route → AllocatesBy route wanted found tells c c' σ σ' answer → Serves wanted tells c c' σ σ' answer
 small_did wanted found route small it = grind arith
 
 -- no run was named where the door names none for whole pages
-pub none_named : (Answers : Option ℕ → Type 0) (Same : Type 0) {found : Option ℕ} (route : Route) → (route ≡ Route.Large → Answers found → found ≡ None) → IsNamed route Answers Same found → found ≡ None
+pub none_named : (Answers : Option ℕ → Type 0) (Same : Type 0) {found : Option ℕ} (route : Route) → (route ≡ Route.Large → Answers found → found ≡ None)
+    → IsNamed route Answers Same found → found ≡ None
 none_named Answers Same route by named = grind arith
 
 -- where it is for whole pages, so many
@@ -91,6 +101,7 @@ pages_asked f size align route = search (arith, large_size)
 not_bitfit : (shared : Bool) (class : ℕ) → kind_of_class shared class ≡ Kind.Bitfit → ⊥
 not_bitfit shared class same = grind arith
 
+-- A cache at rest may search the bit-fit pages of each heap.
 pub may_search_bitfit : (f : Profile) (v : View) (heap : ℕ) (locals : List Slots) → RestsWith f locals v → MaySearch (bitfit_directory heap) v
 may_search_bitfit f v heap locals rest = record { rights = λ p of. rest.rights p ∙ no_right_of f v (bitfit_directory heap) tt not_bitfit locals rest.known p of; clear = rest.clear }
 
@@ -105,14 +116,16 @@ module _ (f : Profile) (heap room align : ℕ) (locals : List Slots) (searched a
   abbrev bitfit_steps : List Made
   bitfit_steps = after ++ searched
 
-  bitfit_gave : (block : Block) → (both : IsAllocated f (bitfit_directory heap) room align searched after block) → (v : View) → RestsWith f locals v → Agreed f v bitfit_steps → GaveBlock both.0.page (bitfit_directory heap) block v (bitfit_steps ++ v)
+  bitfit_gave : (block : Block) → (both : IsAllocated f (bitfit_directory heap) room align searched after block) → (v : View) → RestsWith f locals v
+      → Agreed f v bitfit_steps → GaveBlock both.0.page (bitfit_directory heap) block v (bitfit_steps ++ v)
   bitfit_gave block both v h agreed = both.0.gave.from v (may_search_bitfit f v heap locals h) agreed
 
   -- the steps of a refusal are those of the search
   refused : after ≡ [] → searched ≡ bitfit_steps
   refused none = ap (λ xs. xs ++ searched) (sym none)
 
-  bitfit_rests : (answer : Result Block NoRoom) → BitfitEnds f heap room align searched after answer → (v : View) → RestsWith f locals v → Agreed f v bitfit_steps → RestsWith f locals (bitfit_steps ++ v)
+  bitfit_rests : (answer : Result Block NoRoom) → BitfitEnds f heap room align searched after answer → (v : View) → RestsWith f locals v
+      → Agreed f v bitfit_steps → RestsWith f locals (bitfit_steps ++ v)
   bitfit_rests (Ok block) both v h agreed =
       let page = both.0.page in
       let g = bitfit_gave block both v h agreed in
@@ -123,7 +136,8 @@ module _ (f : Profile) (heap room align : ℕ) (locals : List Slots) (searched a
   bitfit_rests (Err why) h v rest agreed =
       subst (λ xs. Agreed f v xs → RestsWith f locals (xs ++ v)) (refused h.1) (λ ok. rests_kept f locals searched v (h.0.still.from v (may_search_bitfit f v heap locals rest) ok) ok rest) agreed
 
-  bitfit_few : (answer : Result Block NoRoom) → BitfitEnds f heap room align searched after answer → (k : ℕ) (v : View) → RestsWith f locals v → Agreed f v bitfit_steps → IsFew f 2 k bitfit_steps v
+  bitfit_few : (answer : Result Block NoRoom) → BitfitEnds f heap room align searched after answer → (k : ℕ) (v : View) → RestsWith f locals v
+      → Agreed f v bitfit_steps → IsFew f 2 k bitfit_steps v
   bitfit_few (Ok block) both k v h agreed = let is = both.0 in
       chosen_few (NoneFits (run_for room align)) f (bitfit_directory heap) is.page searched bitfit_steps is.served.page is.served.choice is.served.few k v (agreed_later f v after searched agreed) agreed (bitfit_gave block both v h agreed).deed 1 (let more = ap length (is.events k v) in omega (arith, more))
   bitfit_few (Err why) h k v rest agreed =
@@ -137,10 +151,12 @@ module _ (f : Profile) (heap room align : ℕ) (locals : List Slots) (searched a
   bitfit_kinds (Err why) h only = subst (Only allocating) (refused h.1) (only_within searching allocating searched refl only)
 
   -- the block's page
-  on_page : (block : Block) → (both : IsAllocated f (bitfit_directory heap) room align searched after block) → (g : ℕ) → in_run (grain_of block.name) (length_of block) g ≡ true → g / 256 ≡ both.0.page
+  on_page : (block : Block) → (both : IsAllocated f (bitfit_directory heap) room align searched after block) → (g : ℕ)
+      → in_run (grain_of block.name) (length_of block) g ≡ true → g / 256 ≡ both.0.page
   on_page block both g inside = search (arith, run_of, covers)
 
-  bitfit_ends : {Meets : View → Type 0} → ((v : View) → Meets v → RestsWith f locals v) → (answer : Result Block NoRoom) → BitfitEnds f heap room align searched after answer
+  bitfit_ends : {Meets : View → Type 0} → ((v : View) → Meets v → RestsWith f locals v) → (answer : Result Block NoRoom)
+      → BitfitEnds f heap room align searched after answer
       → MatchResult answer (IsBlockFor f (record { directory = bitfit_directory heap; route = Route.Bitfit; room = room; align = align }) Meets bitfit_steps) (λ why. IsSilent bitfit_steps)
   bitfit_ends rests (Ok block) both = let is = both.0 in record {
     of_heap = ap (λ (b : Block). b.heap) is.block_is;
@@ -155,27 +171,36 @@ module _ (f : Profile) (heap room align : ℕ) (locals : List Slots) (searched a
   bitfit_ends rests (Err why) h = subst IsSilent (refused h.1) (λ k v. events_quiet k v searched h.0.quiet)
 
 -- ---- how many steps there are at most
-bitfit_short : (f : Profile) (heap room align : ℕ) (searched after : List Made) (answer : Result Block NoRoom) → length searched ≤ search_steps 15 f.pages → BitfitEnds f heap room align searched after answer → length (after ++ searched) ≤ 59 + search_steps 15 f.pages
+bitfit_short : (f : Profile) (heap room align : ℕ) (searched after : List Made) (answer : Result Block NoRoom) → length searched ≤ search_steps 15 f.pages
+    → BitfitEnds f heap room align searched after answer → length (after ++ searched) ≤ 59 + search_steps 15 f.pages
 bitfit_short f heap room align searched after answer few h = grind (arith, length-append)
 
 -- ---- what it says of the whole state
-bitfit_told : (f : Profile) (heap room align : ℕ) (locals : List Slots) (entry exit : Whole) (answer : Result Block NoRoom) → IsTold (λ (b : Block). address_of b.name / 4096) (NoneFits (run_for room align)) f (bitfit_directory heap) entry exit answer
+bitfit_told : (f : Profile) (heap room align : ℕ) (locals : List Slots) (entry exit : Whole) (answer : Result Block NoRoom)
+    → IsTold (λ (b : Block). address_of b.name / 4096) (NoneFits (run_for room align)) f (bitfit_directory heap) entry exit answer
     → IsToldBy f (record { directory = bitfit_directory heap; route = Route.Bitfit; room = room; align = align }) locals entry exit answer
 bitfit_told f heap room align locals entry exit answer told = grind arith
 
 -- ---- of a cache
 with_request : (f : Profile) (heap room align : ℕ) (searched after : List Made) (answer : Result Block NoRoom)
-    → MatchResult answer (IsGiven (runs (run_for room align)) (run_at (run_for room align)) f (bitfit_directory heap) searched after) (λ why. IsRefused (NoneFits (run_for room align)) f (bitfit_directory heap) searched why × (after ≡ []))
+    → MatchResult answer (IsGiven (runs (run_for room align)) (run_at (run_for room align)) f (bitfit_directory heap) searched after) (λ why. IsRefused (NoneFits (run_for room align)) f (bitfit_directory heap) searched why
+        × (after ≡ []))
     → MatchResult answer (IsOfRequest room align) (λ why. Unit {0}) → BitfitEnds f heap room align searched after answer
 with_request f heap room align searched after answer given fits = grind arith
 
-pub bitfit_call : {σ : Standing} {c : Cached} {spare : ℕ} (heap : ℕ) → CanCall σ (MayAllocate σ.seat.profile c spare) → CanCall σ (SearchRoom σ.seat.profile (bitfit_directory heap) 2 spare)
+-- A cache that may allocate has room for the search of a bit-fit request.
+pub bitfit_call : {σ : Standing} {c : Cached} {spare : ℕ} (heap : ℕ) → CanCall σ (MayAllocate σ.seat.profile c spare)
+    → CanCall σ (SearchRoom σ.seat.profile (bitfit_directory heap) 2 spare)
 bitfit_call {σ} {c} heap can = can_call adds_none can (λ v l stood met. record { may = may_search_bitfit σ.seat.profile v heap c.locals met.rest.locals; room = met.room })
 
+-- What a bit-fit request wants is the bit-fit directory of its heap, and its room and alignment.
 pub bitfit_wanted : (f : Profile) (heap size align : ℕ) → route_in f size align ≡ Route.Bitfit → record { directory = bitfit_directory heap; route = Route.Bitfit; room = room_in f size align; align = align } ≡ wanted_for f heap size align
 bitfit_wanted f heap size align route = ap (λ (r : Route). record { directory = record { heap = heap; kind = kind_of_route (is_shared f heap) r }; route = r; room = room_in f size align; align = align }) (sym route)
 
-pub bitfit_allocates : {σ σ' : Standing} (size align heap : ℕ) (tells : Bool) (c : Cached) (answer : Result Block NoRoom) → route_in σ.seat.profile size align ≡ Route.Bitfit → Allocates heap (room_in σ.seat.profile size align) align tells σ σ' answer → Serves (wanted_for σ.seat.profile heap size align) tells c c σ σ' answer
+-- A bit-fit block that was allocated, or refused, serves the request, and leaves the cache as it is.
+pub bitfit_allocates : {σ σ' : Standing} (size align heap : ℕ) (tells : Bool) (c : Cached) (answer : Result Block NoRoom)
+    → route_in σ.seat.profile size align ≡ Route.Bitfit → Allocates heap (room_in σ.seat.profile size align) align tells σ σ' answer
+    → Serves (wanted_for σ.seat.profile heap size align) tells c c σ σ' answer
 bitfit_allocates {σ} {σ'} size align heap tells c answer route both =
     let f : Profile = σ.seat.profile in
     let room : ℕ = room_in f size align in let a = both.0 in
@@ -196,7 +221,8 @@ bitfit_allocates {σ} {σ'} size align heap tells c answer route both =
     })
 
 -- ---- its room
-pub bitfit_room : (classes size align : ℕ) → route_of classes size align ≡ Route.Bitfit → (16 ≤ room_of classes size align) × (room_of classes size align ≤ 2048) × (room_of classes size align % 16 ≡ 0)
+pub bitfit_room : (classes size align : ℕ) → route_of classes size align ≡ Route.Bitfit
+    → (16 ≤ room_of classes size align) × (room_of classes size align ≤ 2048) × (room_of classes size align % 16 ≡ 0)
 bitfit_room classes size align route =
     let n : ℕ = max size 1 in
     let small : n ≤ 2048 = omega (arith, (bitfit_suits classes size align route).0) in
@@ -222,6 +248,7 @@ known_of_local f v p (first ∷ rest) all keeps none = elim (cases_Bool (keeps_r
 lacks_known : (f : Profile) (v : View) (locals : List Slots) (p : ℕ) → All (IsLocal f v) locals → known_deed v p ≡ 0 → any_keeps locals p ≡ false
 lacks_known f v locals p all none = false_from_ne_true (any_keeps locals p) (λ keeps. known_of_local f v p locals all keeps none)
 
+-- A cache at rest may look for a run of whole pages in each heap.
 pub may_find : (f : Profile) (v : View) (heap : ℕ) (locals : List Slots) → RestsWith f locals v → MayFind (large_directory heap) v
 may_find f v heap locals h = record {
   lacks = λ p of. h.rights p ∙ elim of [
@@ -232,7 +259,8 @@ may_find f v heap locals h = record {
 }
 
 -- ---- which events
-deed_made : (d : Directory) (k : ℕ) (s : Step) (a : ℕ) (e : Event) → is_in finding (kind_of s) ≡ true → ((p : ℕ) (x : Directory) → s ≡ Deed p x → a ≡ 0 → x ≡ d) → ComesOf k s a e → IsDeedOf d e
+deed_made : (d : Directory) (k : ℕ) (s : Step) (a : ℕ) (e : Event) → is_in finding (kind_of s) ≡ true → ((p : ℕ) (x : Directory) → s ≡ Deed p x → a ≡ 0 → x ≡ d)
+    → ComesOf k s a e → IsDeedOf d e
 deed_made d k s a (Event.Deed j p x) is made comes = subst (λ y. IsDeedOf d (Event.Deed j p y)) (sym (made p x comes.step.0 comes.step.1)) (IsDeedOf.Deeds j p)
 deed_made d k s a e is made comes = absurd (true≢false (sym is ∙ ap (is_in finding) comes.kind))
 
@@ -256,7 +284,8 @@ module _ (f : Profile) (heap n : ℕ) (searched after : List Made) (block : Bloc
   abbrev pages : ℕ → Bool
   pages = in_span is.first (is.first + n)
 
-  gave : (locals : List Slots) (v : View) → RestsWith f locals v → Agreed f v (after ++ searched) → GaveLarge (large_directory heap) is.first n block v ((after ++ searched) ++ v)
+  gave : (locals : List Slots) (v : View) → RestsWith f locals v → Agreed f v (after ++ searched)
+      → GaveLarge (large_directory heap) is.first n block v ((after ++ searched) ++ v)
   gave locals v h agreed = is.gave.from v (may_find f v heap locals h) agreed
 
   events_are : (k : ℕ) (v : View) → events_by k v (after ++ searched) ≡ Event.Give k block ∷ (events_by k (searched ++ v) is.backs ++ events_by k v searched)
@@ -278,7 +307,8 @@ abbrev pub Ends : Profile → ℕ → ℕ → List Made → List Made → Result
 Ends f heap n searched after answer = MatchResult answer (IsGivenRun f (large_directory heap) n searched after) (λ why. IsRefusedRun f (large_directory heap) searched after)
 
 module _ (f : Profile) (heap n : ℕ) (searched after : List Made) where
-  rests : (locals : List Slots) (answer : Result Block NoRoom) → Ends f heap n searched after answer → (v : View) → RestsWith f locals v → Agreed f v (after ++ searched) → RestsWith f locals ((after ++ searched) ++ v)
+  rests : (locals : List Slots) (answer : Result Block NoRoom) → Ends f heap n searched after answer → (v : View) → RestsWith f locals v
+      → Agreed f v (after ++ searched) → RestsWith f locals ((after ++ searched) ++ v)
   rests locals (Ok block) is v h agreed = rests_kept f locals (after ++ searched) v (is.gave.from v (may_find f v heap locals h) agreed).does agreed h
   rests locals (Err why) is v h agreed = rests_kept f locals (after ++ searched) v (is.still.from v (may_find f v heap locals h) agreed) agreed h
 
@@ -286,10 +316,13 @@ module _ (f : Profile) (heap n : ℕ) (searched after : List Made) where
   silent : IsRefusedRun f (large_directory heap) searched after → (k : ℕ) (v : View) → events_by k v (after ++ searched) ≡ events_by k v searched
   silent is k v = events_same looking refl k v after searched (scans_only after is.scans)
 
-  few_by : OnlyDeedsShow f searched → (k most : ℕ) (v : View) → Agreed f v (after ++ searched) → length (events_by k v (after ++ searched)) ≤ most + length (events_by k v searched) → length (events_by k v (after ++ searched)) + unknown_pages f ((after ++ searched) ++ v) ≤ most + unknown_pages f v
-  few_by shows k most v agreed all = search (arith, agreed_later, unknown_stays, agreed_first, append_assoc)
+  few_by : OnlyDeedsShow f searched → (k most : ℕ) (v : View) → Agreed f v (after ++ searched)
+      → length (events_by k v (after ++ searched)) ≤ most + length (events_by k v searched)
+      → length (events_by k v (after ++ searched)) + unknown_pages f ((after ++ searched) ++ v) ≤ most + unknown_pages f v
+  few_by shows k most v agreed all = search (arith, agreed_later, unknown_no_more, agreed_first, append_assoc)
 
-  few : (answer : Result Block NoRoom) → Ends f heap n searched after answer → OnlyDeedsShow f searched → (k : ℕ) (v : View) → Agreed f v (after ++ searched) → length (events_by k v (after ++ searched)) + unknown_pages f ((after ++ searched) ++ v) ≤ most_events n answer + unknown_pages f v
+  few : (answer : Result Block NoRoom) → Ends f heap n searched after answer → OnlyDeedsShow f searched → (k : ℕ) (v : View) → Agreed f v (after ++ searched)
+      → length (events_by k v (after ++ searched)) + unknown_pages f ((after ++ searched) ++ v) ≤ most_events n answer + unknown_pages f v
   few (Ok block) is shows k v agreed = few_by shows k (n + 1) v agreed
       (let all = ap length (events_are f heap n searched after block is k v) in let both = length-append (events_by k (searched ++ v) is.backs) (events_by k v searched) in let backs = back_events k (searched ++ v) is.backs in omega (arith, all, both, backs, is.back_few))
   few (Err why) is shows k v agreed = few_by shows k 0 v agreed (let all = ap length (silent is k v) in omega (arith, all))
@@ -300,7 +333,8 @@ module _ (f : Profile) (heap n : ℕ) (searched after : List Made) where
       (only_within finding allocating searched refl only)
   kinds (Err why) is only = only_both allocating after searched (only_within looking allocating after refl (scans_only after is.scans)) (only_within finding allocating searched refl only)
 
-  ends : {Meets : View → Type 0} (align : ℕ) (locals : List Slots) → IsAlignment align → Only finding searched → ((v : View) → Meets v → RestsWith f locals v) → (answer : Result Block NoRoom) → Ends f heap n searched after answer
+  ends : {Meets : View → Type 0} (align : ℕ) (locals : List Slots) → IsAlignment align → Only finding searched → ((v : View) → Meets v → RestsWith f locals v)
+      → (answer : Result Block NoRoom) → Ends f heap n searched after answer
       → MatchResult answer (IsBlockFor f (record { directory = large_directory heap; route = Route.Large; room = n * 4096; align = align }) Meets (after ++ searched)) (λ why. MakesDeedsOf (large_directory heap) (after ++ searched))
   ends align locals alignment only rests (Ok block) is = record {
     of_heap = ap (λ (b : Block). b.heap) is.block_is;
@@ -324,13 +358,19 @@ module _ (f : Profile) (heap n : ℕ) (searched after : List Made) where
 pages_wanted : (f : Profile) (heap size align n : ℕ) → n ≡ (size + 4096 - 1) / 4096 → 1 ≤ size → route_in f size align ≡ Route.Large → record { directory = large_directory heap; route = Route.Large; room = n * 4096; align = align } ≡ wanted_for f heap size align
 pages_wanted f heap size align n is some route = search arith
 
+-- The whole pages of a size are as many as begun pages.
 pub whole_pages : (size : ℕ) → size / 4096 + min 1 (size % 4096) ≡ (size + 4096 - 1) / 4096
 whole_pages size = omega arith
 
-pub pages_call : {σ : Standing} {c : Cached} {spare n m : ℕ} (heap : ℕ) → m ≡ n → CanCall σ (MayAllocatePages σ.seat.profile c n spare) → CanCall σ (FindRoom σ.seat.profile (large_directory heap) (m + 1) spare)
+-- A cache that may allocate pages has room for the search for a run of them.
+pub pages_call : {σ : Standing} {c : Cached} {spare n m : ℕ} (heap : ℕ) → m ≡ n → CanCall σ (MayAllocatePages σ.seat.profile c n spare)
+    → CanCall σ (FindRoom σ.seat.profile (large_directory heap) (m + 1) spare)
 pages_call {σ} {c} heap same can = can_call adds_none can (λ v l stood met. record { may = may_find σ.seat.profile v heap c.locals met.rest.locals; room = omega (arith, met.room, same) })
 
-pub pages_allocates : {σ σ' : Standing} (size align heap n : ℕ) (found : Option ℕ) (tells : Bool) (c : Cached) (answer : Result Block NoRoom) → n ≡ (size + 4096 - 1) / 4096 → 2048 < size → IsAlignment align → route_in σ.seat.profile size align ≡ Route.Large → AllocatesLarge heap n found tells σ σ' answer → AllocatesPages (wanted_for σ.seat.profile heap size align) found tells c c σ σ' answer
+-- A large block that was allocated, or refused, serves the request for pages, and leaves the cache as it is.
+pub pages_allocates : {σ σ' : Standing} (size align heap n : ℕ) (found : Option ℕ) (tells : Bool) (c : Cached) (answer : Result Block NoRoom)
+    → n ≡ (size + 4096 - 1) / 4096 → 2048 < size → IsAlignment align → route_in σ.seat.profile size align ≡ Route.Large
+    → AllocatesLarge heap n found tells σ σ' answer → AllocatesPages (wanted_for σ.seat.profile heap size align) found tells c c σ σ' answer
 pages_allocates {σ} {σ'} size align heap n found tells c answer is some alignment route a =
     let f : Profile = σ.seat.profile in
     let d : Directory = large_directory heap in

@@ -5,7 +5,7 @@ use Rattle.std.proofs.lemmas.List.{Elements.All-weaker, Sorted.IsPermutation-sym
 use Rattle.pas_steps.specs.{Calls.Calls, Views.View, Views.known_deed, Events.events_by, Agreement.Agreed, Lists.Whole, Desks.Standing, Desks.Seat}
 use Rattle.pas_steps.specs.{Desks.CanCall, Unknown.unknown_pages, Kinds.returning, Kinds.Only}
 use Rattle.pas_steps.proofs.{Called.call_as, Called.next_call, Calls.leads_as, Calls.leads_at, SpareRoom.Spares, SpareRoom.spare_falls, Frames.events_append}
-use Rattle.pas_steps.proofs.{Kept.deed_stays, Apart.no_events, Apart.only_both, Apart.only_within, Unknown.unknown_stays, Unknown.none_unknown}
+use Rattle.pas_steps.proofs.{Kept.deed_stays, Apart.no_events, Apart.only_both, Apart.only_within, Unknown.unknown_no_more, Unknown.none_unknown}
 use Rattle.pas_profile.specs.{Profiles.IsAdmitted, Profiles.IsDirectoryOf, Profiles.IsPage, Routes.room_by, Classes.IsClass, Classes.class_size}
 use Rattle.pas_profile.specs.{Classes.IsSlotStart, Directories.IsKind, Directories.IsKindAmong, Directories.deed_word_of}
 use Rattle.pas_profile.specs.Requests.{is_shared, kind_of_class, kind_of_route, route_in, room_in, class_home}
@@ -32,10 +32,13 @@ use Rattle.pas_cache.proofs.Resting.{here, may_give_slot, rests_reordered, rests
 use Rattle.pas_cache.proofs.Obtained.{obtain_rests, refill_events, prepared, refused_steps, refusal}
 
 -- ---- room
-pub fewer_room : {σ : Standing} {spare : ℕ} {locals : List Slots} → CanCall σ (MayObtain σ.seat.profile 2 spare locals) → CanCall σ (MayObtain σ.seat.profile 1 spare locals)
+pub fewer_room : {σ : Standing} {spare : ℕ} {locals : List Slots} → CanCall σ (MayObtain σ.seat.profile 2 spare locals)
+    → CanCall σ (MayObtain σ.seat.profile 1 spare locals)
 fewer_room can = can_call adds_none can (λ v l stood met. record { rest = met.rest; room = (omega (arith, met.room.0), inr (omega (arith, met.room.0))) })
 
-pub room_to_give : {σ σ1 : Standing} {spare spare1 : ℕ} {locals fewer : List Slots} {answer : Result Slots NoRoom} (fill : Filling) (tells : Bool) → Obtains fill tells locals fewer σ σ1 answer → CanCall σ (MayObtain σ.seat.profile 2 spare locals)
+-- After slots were obtained there is room for the event of a give.
+pub room_to_give : {σ σ1 : Standing} {spare spare1 : ℕ} {locals fewer : List Slots} {answer : Result Slots NoRoom} (fill : Filling) (tells : Bool)
+    → Obtains fill tells locals fewer σ σ1 answer → CanCall σ (MayObtain σ.seat.profile 2 spare locals)
     → Spares σ spare → Spares σ1 spare1 → 1 ≤ spare1
 room_to_give {σ} {spare = spare} {spare1 = spare1} {locals} fill tells one can law law' =
     let few = one.few σ.seat.actor can.view can.met.rest (one.calls.adds.agreed can.view can.whole can.stood can.met.rest) in
@@ -46,7 +49,8 @@ room_to_give {σ} {spare = spare} {spare1 = spare1} {locals} fill tells one can 
     ]
 
 -- ---- the slots that were obtained may give
-pub give_call : {σ σ1 : Standing} {spare : ℕ} (fill : Filling) (tells : Bool) (locals fewer : List Slots) (slots : Slots) → Obtains fill tells locals fewer σ σ1 (Ok slots) → CanCall σ (MayObtain σ.seat.profile 2 spare locals)
+pub give_call : {σ σ1 : Standing} {spare : ℕ} (fill : Filling) (tells : Bool) (locals fewer : List Slots) (slots : Slots)
+    → Obtains fill tells locals fewer σ σ1 (Ok slots) → CanCall σ (MayObtain σ.seat.profile 2 spare locals)
     → CanCall σ1 (MayGiveSlot σ1.seat.profile slots)
 give_call {σ} {σ1} fill tells locals fewer slots one can =
     next_call one.calls (obtain_rests can) (λ v met here. subst (λ (s : Seat). MayGiveSlot s.profile slots (one.steps ++ v)) (sym one.calls.adds.seat_is) (may_give_slot σ.seat.profile slots fewer (one.steps ++ v) here))
@@ -57,24 +61,30 @@ refill_kinds {found = Ok slots} h = subst (Only allocating) (sym h.steps_are)
     (only_both allocating h.after h.searched (only_within returning allocating h.after refl h.outcome.after_kinds) (only_within searching allocating h.searched refl h.searches.kinds))
 refill_kinds {found = Err room} h = subst (Only allocating) (refused_steps h) (only_within searching allocating h.searched refl h.searches.kinds)
 
-obtained_kinds : {fill : Filling} {f : Profile} {locals fewer : List Slots} {steps : List Made} {found : Result Slots NoRoom} → IsObtained fill f locals fewer steps found → Only allocating steps
+obtained_kinds : {fill : Filling} {f : Profile} {locals fewer : List Slots} {steps : List Made} {found : Result Slots NoRoom}
+    → IsObtained fill f locals fewer steps found → Only allocating steps
 obtained_kinds (inl h) = subst (Only allocating) (sym h.2.no_steps) tt
 obtained_kinds (inr h) = subst (Only allocating) (sym h.steps_are) (only_both allocating h.searched h.before (refill_kinds h.refill) (only_within releasing allocating h.before refl h.gives_back))
 
 events_later : (ys xs : List Made) → Only releasing xs → (k : ℕ) (v : View) → events_by k v (ys ++ xs) ≡ events_by k (xs ++ v) ys
 events_later ys xs kinds k v = events_append k ys xs v ∙ (ap (λ es. events_by k (xs ++ v) ys ++ es) (no_events releasing refl k v xs kinds) ∙ append-nil (events_by k (xs ++ v) ys))
 
-prepared_before : {f : Profile} (fill : Filling) {locals fewer : List Slots} (steps : List Made) (slots : Slots) → IsObtained fill f locals fewer steps (Ok slots) → (k : ℕ) (v : View) → AllByRecursion (IsPreparing fill.directory) (events_by k v steps)
+prepared_before : {f : Profile} (fill : Filling) {locals fewer : List Slots} (steps : List Made) (slots : Slots)
+    → IsObtained fill f locals fewer steps (Ok slots) → (k : ℕ) (v : View) → AllByRecursion (IsPreparing fill.directory) (events_by k v steps)
 prepared_before fill steps slots e k v = grind (arith, events_later, refill_events, prepared)
 
-silent_before : {fill : Filling} {f : Profile} {locals fewer : List Slots} (steps : List Made) (room : NoRoom) → IsObtained fill f locals fewer steps (Err room) → IsSilent steps
+silent_before : {fill : Filling} {f : Profile} {locals fewer : List Slots} (steps : List Made) (room : NoRoom) → IsObtained fill f locals fewer steps (Err room)
+    → IsSilent steps
 silent_before steps room e = grind (arith, events_later, events_quiet, refusal)
 
 -- ---- the give
-give_event : (slots rest : Slots) (block : Block) (steps : List Made) → GivesSlot slots rest block steps → (k : ℕ) (v : View) → events_by k v steps ≡ Event.Give k block ∷ []
+give_event : (slots rest : Slots) (block : Block) (steps : List Made) → GivesSlot slots rest block steps → (k : ℕ) (v : View)
+    → events_by k v steps ≡ Event.Give k block ∷ []
 give_event slots rest block steps gives k v = ap (events_by k v) gives.steps_are
 
-pub serves_given : {σ σ1 σ2 : Standing} (fill : Filling) (tells : Bool) (locals fewer after : List Slots) (slots rest : Slots) (block : Block) → CanCall σ (RestsWith σ.seat.profile locals) → (one : Obtains fill tells locals fewer σ σ1 (Ok slots))
+-- A request of a class is served where slots were obtained and the lowest one of them was given.
+pub serves_given : {σ σ1 σ2 : Standing} (fill : Filling) (tells : Bool) (locals fewer after : List Slots) (slots rest : Slots) (block : Block)
+    → CanCall σ (RestsWith σ.seat.profile locals) → (one : Obtains fill tells locals fewer σ σ1 (Ok slots))
     → GivesLowest slots rest block σ1 σ2 → after ≡ fewer ++ rest ∷ [] → ServesFrom fill tells locals after σ σ2 (Ok block)
 serves_given {σ} {σ1} {σ2} fill tells locals fewer after slots rest block can one two list =
     let f : Profile = σ.seat.profile in
@@ -101,7 +111,7 @@ serves_given {σ} {σ1} {σ2} fill tells locals fewer after slots rest block can
       kinds = only_both allocating ys xs (subst (Only allocating) (sym two.gives.steps_are) (refl, (refl, tt))) (obtained_kinds one.how);
       few = λ k v h agreed.
           let few = one.few k v h (agreed_later f v ys xs agreed) in
-          let fewer_left = unknown_stays f ys (xs ++ v) (agreed_first f v ys xs agreed) in
+          let fewer_left = unknown_no_more f ys (xs ++ v) (agreed_first f v ys xs agreed) in
           let split : length (events_by k v (ys ++ xs)) ≡ length (events_by k (xs ++ v) ys) + length (events_by k v xs) = ap length (events_append k ys xs v) ∙ length-append (events_by k (xs ++ v) ys) (events_by k v xs) in
           let last : length (events_by k (xs ++ v) ys) ≡ 1 = ap length (give_event slots rest block ys two.gives k (xs ++ v)) in
           let left : unknown_pages f ((ys ++ xs) ++ v) ≡ unknown_pages f (ys ++ (xs ++ v)) = ap (unknown_pages f) (append_assoc ys xs v) in
@@ -131,7 +141,8 @@ serves_given {σ} {σ1} {σ2} fill tells locals fewer after slots rest block can
     }
 
 -- ---- a refusal
-pub serves_none : {σ σ1 : Standing} (fill : Filling) (tells : Bool) (locals fewer : List Slots) (room : NoRoom) → Obtains fill tells locals fewer σ σ1 (Err room) → ServesFrom fill tells locals fewer σ σ1 (Err room)
+pub serves_none : {σ σ1 : Standing} (fill : Filling) (tells : Bool) (locals fewer : List Slots) (room : NoRoom)
+    → Obtains fill tells locals fewer σ σ1 (Err room) → ServesFrom fill tells locals fewer σ σ1 (Err room)
 serves_none {σ} fill tells locals fewer room one = record {
   steps = one.steps;
   calls = one.calls;
@@ -144,29 +155,37 @@ serves_none {σ} fill tells locals fewer room one = record {
 }
 
 -- ---- a cached slot is given in two steps
-given_two : (fewer locals' : List Slots) (given : List Made) (found : Result Slots NoRoom) (answer : Result Block NoRoom) (slots : Slots) → found ≡ Ok slots → IsAnswered fewer locals' given found answer → length given ≡ 2
+given_two : (fewer locals' : List Slots) (given : List Made) (found : Result Slots NoRoom) (answer : Result Block NoRoom) (slots : Slots) → found ≡ Ok slots
+    → IsAnswered fewer locals' given found answer → length given ≡ 2
 given_two fewer locals' given found answer slots is h = grind arith
 
 spent_empty : (spent : List Made) (local : Option Slots) (slots : Slots) → local ≡ Some slots → LeavesSpent local spent → HasMember slots.starts → ⊥
 spent_empty spent local slots is leaves some = true≢false (sym some.2 ∙ (subst (λ l. LeavesSpent l spent) is leaves).0 some.0 some.1)
 
-cached_two : {fill : Filling} {f : Profile} {locals locals' : List Slots} {steps : List Made} {answer : Result Block NoRoom} → (h : ServesLocals fill f locals locals' steps answer) → (slots : Slots) → local_for fill.directory.heap fill.class locals ≡ Some slots → HasMember slots.starts
+cached_two : {fill : Filling} {f : Profile} {locals locals' : List Slots} {steps : List Made} {answer : Result Block NoRoom}
+    → (h : ServesLocals fill f locals locals' steps answer) → (slots : Slots) → local_for fill.directory.heap fill.class locals ≡ Some slots
+    → HasMember slots.starts
     → length steps ≡ 2
 cached_two {fill = fill} {locals = locals} {locals' = locals'} {answer = answer} h slots is some = search (arith, given_two, length-append, spent_empty)
 
 -- ---- how many steps there are at most
-refill_short : {fill : Filling} {f : Profile} {steps : List Made} {found : Result Slots NoRoom} → IsRefill fill f steps found → length steps ≤ 11 + search_steps fill.steps f.pages
+refill_short : {fill : Filling} {f : Profile} {steps : List Made} {found : Result Slots NoRoom} → IsRefill fill f steps found
+    → length steps ≤ 11 + search_steps fill.steps f.pages
 refill_short {found = Ok slots} h = let n = ap length h.steps_are ∙ length-append h.after h.searched in omega (arith, n, h.few, h.outcome.after_few)
 refill_short {found = Err room} h = let n = ap length (refused_steps h) in omega (arith, n, h.few)
 
-given_few : (fewer locals' : List Slots) (given : List Made) (found : Result Slots NoRoom) (answer : Result Block NoRoom) → IsAnswered fewer locals' given found answer → length given ≤ 2
+given_few : (fewer locals' : List Slots) (given : List Made) (found : Result Slots NoRoom) (answer : Result Block NoRoom)
+    → IsAnswered fewer locals' given found answer → length given ≤ 2
 given_few fewer locals' given found answer h = grind arith
 
-serves_short : {fill : Filling} {f : Profile} {locals locals' : List Slots} {steps : List Made} {answer : Result Block NoRoom} → ServesLocals fill f locals locals' steps answer → length steps ≤ 59 + search_steps fill.steps f.pages
+serves_short : {fill : Filling} {f : Profile} {locals locals' : List Slots} {steps : List Made} {answer : Result Block NoRoom}
+    → ServesLocals fill f locals locals' steps answer → length steps ≤ 59 + search_steps fill.steps f.pages
 serves_short {locals' = locals'} {answer = answer} h = search (arith, length-append, given_few, refill_short)
 
 -- ---- of a cache
-for_cache : (f : Profile) (c : Cached) (d : Directory) (class size align : ℕ) (steps : List Made) (answer : Result Block NoRoom) → 4096 % align ≡ 0 → route_in f size align ≡ Route.Class class → MatchResult answer (IsBlockFor f (class_wanted d class 1) (RestsWith f c.locals) steps) (λ room. IsSilent steps)
+for_cache : (f : Profile) (c : Cached) (d : Directory) (class size align : ℕ) (steps : List Made) (answer : Result Block NoRoom) → 4096 % align ≡ 0
+    → route_in f size align ≡ Route.Class class
+    → MatchResult answer (IsBlockFor f (class_wanted d class 1) (RestsWith f c.locals) steps) (λ room. IsSilent steps)
     → MatchResult answer (IsBlockFor f (class_wanted d class align) (AtRest f c) steps) (λ room. IsSilent steps)
 for_cache f c d class size align steps answer whole route h = grind (arith, routed_slot_aligned, leads_as)
 
@@ -185,7 +204,8 @@ pub roomed : (f : Profile) (size align room : ℕ) → route_in f size align ≡
 roomed f size align room route is = ap (λ (r : Route). room_by r (max size 1)) route ∙ sym is
 
 -- the class of a request has its home in the heap
-pub filling_for : (f : Profile) (size align heap class : ℕ) → IsAdmitted f size align heap → route_in f size align ≡ Route.Class class → IsFilling f (filling_in (class_home f heap class) class)
+pub filling_for : (f : Profile) (size align heap class : ℕ) → IsAdmitted f size align heap → route_in f size align ≡ Route.Class class
+    → IsFilling f (filling_in (class_home f heap class) class)
 filling_for f size align heap class admitted route =
     let smallest = class_suits f.classes size align class route in
     let known : IsClass class = class_known f.classes size align class smallest in
@@ -193,18 +213,22 @@ filling_for f size align heap class admitted route =
     record { directory = directory; class = known; home = refl; fewer = fewer_slots class }
 
 -- a request of a class wants pages of the class's home
-pub wanted_is : (f : Profile) (heap class size align : ℕ) → route_in f size align ≡ Route.Class class → class_wanted (class_home f heap class) class align ≡ wanted_for f heap size align
+pub wanted_is : (f : Profile) (heap class size align : ℕ) → route_in f size align ≡ Route.Class class
+    → class_wanted (class_home f heap class) class align ≡ wanted_for f heap size align
 wanted_is f heap class size align route = ap (λ (r : Route). record { directory = record { heap = heap; kind = kind_of_route (is_shared f heap) r }; route = r; room = room_by r (max size 1); align = align }) (sym route)
 
 -- the directory that the table of heaps tells is that home
 pub home_is : (f : Profile) (table : HeapTable) (heap class : ℕ) (kind : TheKind) → kind ≡ kind_of_class (is_marked table heap) class → marks_of table ≡ f.shared → record { heap = heap; kind = kind } ≡ class_home f heap class
 home_is f table heap class kind is marks = ap (λ (k : TheKind). record { heap = heap; kind = k }) (is ∙ ap (λ n. kind_of_class (has_bit n heap) class) marks)
 
-true_refusal : (f : Profile) (d : Directory) (class align : ℕ) (locals : List Slots) (entry exit : Whole) (answer : Result Block NoRoom) → IsToldOf (filling_in d class) f locals entry exit answer → IsToldBy f (class_wanted d class align) locals entry exit answer
+true_refusal : (f : Profile) (d : Directory) (class align : ℕ) (locals : List Slots) (entry exit : Whole) (answer : Result Block NoRoom)
+    → IsToldOf (filling_in d class) f locals entry exit answer → IsToldBy f (class_wanted d class align) locals entry exit answer
 true_refusal f d class align locals entry exit answer told = grind arith
 
+-- A request of a class that was served from its slots is allocated.
 pub allocates : {σ σ' : Standing} (size align heap class : ℕ) (tells : Bool) (c c' : Cached) (answer : Result Block NoRoom) → IsAdmitted σ.seat.profile size align heap → route_in σ.seat.profile size align ≡ Route.Class class → c' ≡ record c { locals = c'.locals }
-    → ServesFrom (filling_in (class_home σ.seat.profile heap class) class) tells c.locals c'.locals σ σ' answer → Allocates (wanted_for σ.seat.profile heap size align) tells c c' σ σ' answer
+    → ServesFrom (filling_in (class_home σ.seat.profile heap class) class) tells c.locals c'.locals σ σ' answer
+    → Allocates (wanted_for σ.seat.profile heap size align) tells c c' σ σ' answer
 allocates {σ} {σ'} size align heap class tells c c' answer admitted route is h =
     let f : Profile = σ.seat.profile in
     subst (λ (w : Wanted). Allocates w tells c c' σ σ' answer) (wanted_is f heap class size align route) (record {
@@ -219,12 +243,17 @@ allocates {σ} {σ'} size align heap class tells c c' answer admitted route is h
       told = λ t v l stood rest. true_refusal f (class_home f heap class) class align c.locals l _ answer (h.told t v l stood rest.locals);
     })
 
-pub serve_call : {σ : Standing} {c : Cached} {spare : ℕ} → CanCall σ (MayAllocate σ.seat.profile c spare) → CanCall σ (MayObtain σ.seat.profile 2 spare c.locals)
+-- A cache that may allocate may obtain slots with room for two events.
+pub serve_call : {σ : Standing} {c : Cached} {spare : ℕ} → CanCall σ (MayAllocate σ.seat.profile c spare)
+    → CanCall σ (MayObtain σ.seat.profile 2 spare c.locals)
 serve_call can = can_call adds_none can (λ v l stood met. record { rest = met.rest.locals; room = met.room })
 
 -- the local allocators of an actor at rest are well formed
 pub formed : (f : Profile) (v : View) (locals : List Slots) → RestsWith f locals v → All IsFormed locals
 formed f v locals h = All-weaker (IsLocal f v) IsFormed (λ t at. record { class = at.class; starts = at.starts }) locals h.known
 
-pub rests_after : {σ σ' : Standing} (fill : Filling) (tells : Bool) (locals locals' : List Slots) (answer : Result Block NoRoom) → (h : ServesFrom fill tells locals locals' σ σ' answer) → (can : CanCall σ (RestsWith σ.seat.profile locals)) → RestsWith σ.seat.profile locals' (h.steps ++ can.view)
+-- After a request of a class its cache rests with the local allocators that it has then.
+pub rests_after : {σ σ' : Standing} (fill : Filling) (tells : Bool) (locals locals' : List Slots) (answer : Result Block NoRoom)
+    → (h : ServesFrom fill tells locals locals' σ σ' answer) → (can : CanCall σ (RestsWith σ.seat.profile locals))
+    → RestsWith σ.seat.profile locals' (h.steps ++ can.view)
 rests_after fill tells locals locals' answer h can = h.calls.leads.from can.view can.met (h.calls.adds.agreed can.view can.whole can.stood can.met)

@@ -41,7 +41,8 @@ pub record Allocates (wanted : Wanted) (tells : Bool) (c c' : Cached) (desk desk
   pub two : HasCached wanted.route wanted.directory.heap c.locals → length steps ≡ 2
   pub few : MakesFew desk.seat.profile (AtRest desk.seat.profile c) 2 steps
   pub outcome : MatchResult answer (IsBlockFor desk.seat.profile wanted (AtRest desk.seat.profile c) steps) (λ room. IsSilent steps)
-  pub told : tells ≡ true → (v : View) (l : Whole) → desk.stands v l → AtRest desk.seat.profile c v → IsToldBy desk.seat.profile wanted c.locals l (triples desk.seat.actor steps ++ l) answer
+  pub told : tells ≡ true → (v : View) (l : Whole) → desk.stands v l → AtRest desk.seat.profile c v
+      → IsToldBy desk.seat.profile wanted c.locals l (triples desk.seat.actor steps ++ l) answer
 
 -- ---- alloc_large
 -- the actor is at rest, and there is room for an event a page, one more, and the deeds that aren't known
@@ -67,7 +68,8 @@ pub record AllocatesPages (wanted : Wanted) (found : Option ℕ) (tells : Bool) 
   pub short : length steps ≤ 56 * desk.seat.profile.pages + 12 * pages_of wanted + missed_steps found (pages_of wanted) + 66
   pub few : MakesAtMost desk.seat.profile (AtRest desk.seat.profile c) (most_events (pages_of wanted) answer) steps
   pub outcome : MatchResult answer (IsBlockFor desk.seat.profile wanted (AtRest desk.seat.profile c) steps) (λ room. MakesDeedsOf wanted.directory steps)
-  pub told : tells ≡ true → (v : View) (l : Whole) → desk.stands v l → AtRest desk.seat.profile c v → IsToldByDoor desk.seat.profile wanted.directory (pages_of wanted) found l (triples desk.seat.actor steps ++ l) steps answer
+  pub told : tells ≡ true → (v : View) (l : Whole) → desk.stands v l → AtRest desk.seat.profile c v
+      → IsToldByDoor desk.seat.profile wanted.directory (pages_of wanted) found l (triples desk.seat.actor steps ++ l) steps answer
 
 -- ---- serve
 -- What is known of the run that was named for a request of this route: the door's answer where the request is for whole pages. For another request the

@@ -51,7 +51,8 @@ pub record ServesBitfit (f : Profile) (wanted : Wanted) (c c' : Cached) (steps :
   pub searched : List Made
   pub searches : AreSearch searched
   pub after : List Made
-  pub outcome : MatchResult answer (IsAllocated f wanted.directory wanted.room wanted.align searched after) (λ room. IsRefused (NoneFits (run_for wanted.room wanted.align)) f wanted.directory searched room × (after ≡ []))
+  pub outcome : MatchResult answer (IsAllocated f wanted.directory wanted.room wanted.align searched after) (λ room. IsRefused (NoneFits (run_for wanted.room wanted.align)) f wanted.directory searched room
+        × (after ≡ []))
   pub steps_are : steps ≡ after ++ searched
 
 -- ---- a request for whole pages
@@ -68,7 +69,8 @@ pub record ServesPages (f : Profile) (wanted : Wanted) (found : Option ℕ) (c c
   pub rest : List Made
   pub old : Only claiming_old tried
   pub returns : Always ReturnsDuly tried
-  pub outcome : IsServedNamed f wanted.directory (pages_of wanted) found tried rest answer ⊎ IsScanned f wanted.directory (pages_of wanted) found tried rest answer
+  pub outcome : IsServedNamed f wanted.directory (pages_of wanted) found tried rest answer
+      ⊎ IsScanned f wanted.directory (pages_of wanted) found tried rest answer
   pub steps_are : steps ≡ rest ++ tried
 
 -- ---- slots are obtained
@@ -205,7 +207,8 @@ pub record IsBlockFor (f : Profile) (wanted : Wanted) (Meets : View → Type 0) 
   pub of_region : (g : ℕ) → in_run (grain_of block.name) (length_of block) g ≡ true → IsPage f (g / 256)
   pub turn : Leads f Meets (λ v w. block.name.turn < 2 ^ 37) steps
   pub deeds : Leads f Meets (λ v w. (g : ℕ) → in_run (grain_of block.name) (length_of block) g ≡ true → KnowsDeed (g / 256) wanted.directory w) steps
-  pub events : (k : ℕ) (v : View) → (before : List Event) × (events_by k v steps ≡ Event.Give k block ∷ before) × AllByRecursion (IsPreparing wanted.directory) before
+  pub events : (k : ℕ) (v : View)
+      → (before : List Event) × (events_by k v steps ≡ Event.Give k block ∷ before) × AllByRecursion (IsPreparing wanted.directory) before
 
 -- Each deed that was made is one that the actor didn't know before. So the events, and the pages whose deed isn't known then, are at most n more
 -- than the pages whose deed wasn't known before. At most one deed is made.

@@ -53,13 +53,16 @@ module _ (f : Profile) (text : List ℕ) (new : Judge) (to : Cursor) (due : List
 
 -- ---- an act is begun without a line
 module _ (f : Profile) (text : List ℕ) (old : Judge) (from : Cursor) (act : Act) (within : IsWithin text from) where
+  -- Where an act comes next, the text leads from before it to where it is begun.
   pub begins : (s : Stand) (ts : List Task) → IsNext f old s from act ts → Leads f text s from (after_task f s (Does act) ts) from
   begins s ts next = leads_alike f text s (after_task f s (Does act) ts) from within (begun_alike f s (Does act) ts next.due next.left)
 
   -- it has one line
   act_of_line : (new : Judge) (to : Cursor) (item : Record)
-      → ((s : Stand) (ts : List Task) → IsNext f old s from act ts → ((begun_act f s act).due ≡ Writes item ∷ []) × Stands f new (with_due (after_task f s (Does act) ts) []) from)
-      → (is : Bool) → ((s : Stand) (more : List Due) → s.due ≡ Writes item ∷ more → IsLed f text s from (with_due s more) to is) → ActTaken f text old from new to act is
+      → ((s : Stand) (ts : List Task) → IsNext f old s from act ts
+          → ((begun_act f s act).due ≡ Writes item ∷ []) × Stands f new (with_due (after_task f s (Does act) ts) []) from)
+      → (is : Bool) → ((s : Stand) (more : List Due) → s.due ≡ Writes item ∷ more → IsLed f text s from (with_due s more) to is)
+      → ActTaken f text old from new to act is
   act_of_line new to item begun is led = λ s ts next.
       let b = begun s ts next in
       let u : Stand = after_task f s (Does act) ts in
@@ -76,11 +79,13 @@ module _ (f : Profile) (text : List ℕ) (judge : Judge) (from to : Cursor) (wit
       → t.epoch ≡ s.epoch → t.guards ≡ s.guards → Stands f judge s from → Stands f judge t from
   same_judge s t events names logs idle epoch guards stands = search (arith, kept_same)
 
+  -- Where the line of its mark comes or fails, a phase's mark is taken or not.
   pub phase_marked : (n : ℕ) → ((s : Stand) (more : List Due) → s.due ≡ Writes (Record.Phase n) ∷ more → IsLed f text s from (with_due s more) to is)
       → ActTaken f text judge from judge to (MarksPhase n) is
   phase_marked n led = act_of_line f text judge from (MarksPhase n) within judge to (Record.Phase n)
       (λ s ts next. (refl, same_judge s (with_due (after_task f s (Does (MarksPhase n)) ts) []) refl refl (λ k. refl) (λ k. refl) refl refl next.stands)) is led
 
+  -- Where the line of its mark comes or fails, the mark of the close is taken or not.
   pub close_marked : ((s : Stand) (more : List Due) → s.due ≡ Writes Record.Close ∷ more → IsLed f text s from (with_due s more) to is)
       → ActTaken f text judge from judge to MarksClose is
   close_marked led = act_of_line f text judge from MarksClose within judge to Record.Close
@@ -146,11 +151,13 @@ module _ (f : Profile) (text : List ℕ) (old : Judge) (from to : Cursor) (k : �
   begun_due : (s : Stand) (more : List Due) (ts : List Task) → Stands f old s from → (emptying s k log more ts).due ≡ entries_due k (logged old.logs k) ++ more
   begun_due s more ts stands = ap (λ (entries : List Entry). entries_due k entries ++ more) (stands.logs k held)
 
+  -- Where the lines of a log's entries fail, the log isn't emptied.
   pub log_amiss : (machine : Machine) → EntriesTaken old.machine machine text from to k (logged old.logs k) [] old.epoch false → (new : Judge)
       → LogEmptied f text old from new to k log false
   log_amiss machine entries new = λ s more ts stands enough. subst (λ g. Fails g text (emptying s k log more ts) from to.lines) stands.profile
       (entries (emptying s k log more ts) more stands.events stands.epoch (begun_kept s more ts stands) (begun_due s more ts stands))
 
+  -- Where the lines of a log's entries were taken, the log is emptied, and no other one changes.
   pub log_emptied : (machine : Machine) (logs : Logs) → profile_of machine ≡ profile_of old.machine → logged logs k ≡ log
       → ((j : ℕ) → j ≢ k → logged logs j ≡ logged old.logs j) → logs_held logs ≡ logs_held old.logs
       → EntriesTaken old.machine machine text from to k (logged old.logs k) [] old.epoch true
@@ -196,9 +203,11 @@ module _ (f : Profile) (text : List ℕ) (old new : Judge) (from to : Cursor) (k
         comes_on f text new to more ts is (begins f text old from (StopsIdle k n) within s ts next)
         (comes_as f text new to more ts is from (stop_same s n ts (idle s next.stands)) (emptied s more ts next.stands))
 
+    -- Where the flush of an idle thread fails, its stop isn't taken.
     pub stop_amiss : LogEmptied f text old from new to k [] false → ActTaken f text old from new to (StopsIdle k n) false
     stop_amiss emptied = stop_comes false emptied
 
+    -- Where the flush of an idle thread was taken, its stop is taken by the line that says it, or fails there.
     pub idle_stopped : (end : Cursor) → LogEmptied f text old from new to k [] true
         → (is : Bool) → ((s : Stand) (more : List Due) → s.due ≡ Writes (Record.Said 0 (Said.Stopped k)) ∷ more → IsLed f text s to (with_due s more) end is)
         → ActTaken f text old from new end (StopsIdle k n) is
@@ -216,14 +225,16 @@ module _ (f : Profile) (text : List ℕ) (old : Judge) (from : Cursor) (k : ℕ)
   logging_is full is s more ts stands = ap (λ (x : Bool). record (logging x s k entry more) { left = ts }) (sym (full_is full is s stands))
 
   -- the log is full
-  pub logged_full : true ≡ nat_le 64 (length (logged old.logs k)) → (new : Judge) (to : Cursor) (is : Bool) → LogEmptied f text old from new to k (entry ∷ []) is
+  pub logged_full : true ≡ nat_le 64 (length (logged old.logs k)) → (new : Judge) (to : Cursor) (is : Bool)
+      → LogEmptied f text old from new to k (entry ∷ []) is
       → EntryLogged f text old from new to k entry is
   logged_full full new to is emptied = λ s more ts stands. comes_as f text new to more ts is from (sym (logging_is true full s more ts stands))
       (emptied s more ts stands)
 
   -- it isn't
   pub logged_added : IsWithin text from → false ≡ nat_le 64 (length (logged old.logs k)) → (logs : Logs) → logged logs k ≡ logged old.logs k ++ entry ∷ []
-      → ((j : ℕ) → j ≢ k → logged logs j ≡ logged old.logs j) → logs_held logs ≡ logs_held old.logs → EntryLogged f text old from (record old { logs = logs }) from k entry true
+      → ((j : ℕ) → j ≢ k → logged logs j ≡ logged old.logs j) → logs_held logs ≡ logs_held old.logs
+      → EntryLogged f text old from (record old { logs = logs }) from k entry true
   logged_added within room logs added others count = λ s more ts stands.
       let t : Stand = record (logging false s k entry more) { left = ts } in (
         t,
@@ -238,10 +249,12 @@ module _ (f : Profile) (text : List ℕ) (old : Judge) (from : Cursor) (k : ℕ)
 
 -- ---- an act that begins nothing
 -- the same tables stand for another list of what is due and left
-other_plan : {f : Profile} {j : Judge} {s : Stand} {at : Cursor} (due : List Due) (left : List Task) → Stands f j s at → Stands f j (record s { due = due; left = left }) at
+other_plan : {f : Profile} {j : Judge} {s : Stand} {at : Cursor} (due : List Due) (left : List Task) → Stands f j s at
+    → Stands f j (record s { due = due; left = left }) at
 other_plan {f} {j} {s} {at} due left stands = search (arith, kept_same)
 
 module _ (f : Profile) (text : List ℕ) (old : Judge) (from : Cursor) (act : Act) (within : IsWithin text from) where
+  -- An act that begins nothing is taken without a line.
   pub nothing_begun : ((s : Stand) → Stands f old s from → begun_act f s act ≡ s) → ActTaken f text old from old from act true
   nothing_begun nothing = act_of_none f text old from act within old
       (λ s ts next.
@@ -260,6 +273,7 @@ pub idle_long : (f : Profile) (j : Judge) (s : Stand) (at : Cursor) (k n since :
     → since ≡ get_or j.awake.items k 0 → since + n ≤ j.epoch → nat_le (s.idle_since k + n) s.epoch ≡ true
 idle_long f j s at k n since stands held is long = search (arith, le-leb)
 
+-- A thread that read the epoch too recently isn't to be stopped.
 pub idle_short : (f : Profile) (j : Judge) (s : Stand) (at : Cursor) (k n since : ℕ) → Stands f j s at → k < length j.awake.items
     → since ≡ get_or j.awake.items k 0 → j.epoch < since + n → nat_le (s.idle_since k + n) s.epoch ≡ false
 idle_short f j s at k n since stands held is short = search (arith, lt-leb)
@@ -273,10 +287,12 @@ module _ (f : Profile) (text : List ℕ) (old : Judge) (from : Cursor) (within :
       → (after_task f s (Does MakesPass) ts).due ≡ Writes (Record.Said 0 (Said.Pass old.epoch)) ∷ Examines 0 ∷ []
   pass_due s ts next = ap (λ n. Writes (Record.Said 0 (Said.Pass n)) ∷ Examines 0 ∷ []) next.stands.epoch
 
+  -- Where the line of a pass fails, the pass isn't taken.
   pub pass_amiss : (new : Judge) (to : Cursor) → LedToOutcomes to false → PassTaken f text old from new to false
   pass_amiss new to led = λ s ts next followed enough.
       leads_fails (begins f text old from MakesPass within s ts next) (led (after_task f s (Does MakesPass) ts) (Examines 0 ∷ []) (pass_due s ts next))
 
+  -- A pass is taken by its line and those of its outcomes.
   pub passed : (machine : Machine) (mid to : Cursor) → LedToOutcomes mid true → profile_of machine ≡ profile_of old.machine
       → OutcomesTaken old.machine machine text mid to old.epoch → PassTaken f text old from (record old { machine = machine }) to true
   passed machine mid to led profile outcomes = λ s ts next followed.
@@ -302,6 +318,7 @@ heap_known : (m : Meaning) (block : Block) → meaning_of m ≡ Some (Some block
 heap_known (Given c) block is small = let same : c ≡ block = cc in subst (λ (x : Block). x.heap < 32) same small
 heap_known other block is small = absurd (cc)
 
+-- Each block that a name stands for in a check has a heap of the region.
 pub heaps_of : {f : Profile} {j : Judge} {s : Stand} {at : Cursor} → Stands f j s at → HaveHeaps s.names
 heaps_of {f} {j} {s} {at} stands name block is = heap_known (meaning_at j.names.meanings.items name) block (sym (stands.names name) ∙ is) (j.names.heaps name)
 
@@ -389,7 +406,8 @@ is_inside f g page same is = search (arith, and_from, le-leb)
 module _ (f : Profile) (text : List ℕ) (old : Judge) (from : Cursor) (k : ℕ) (within : IsWithin text from) (act : Act) where
   -- it is said, and not logged
   spoken : (said : Said) → ((s : Stand) → Stands f old s from → begun_act f s act ≡ tells s k said) → (to : Cursor) (is : Bool)
-      → ((s : Stand) (more : List Due) → s.due ≡ Writes (Record.Said k said) ∷ more → IsLed f text s from (with_due s more) to is) → ActTaken f text old from old to act is
+      → ((s : Stand) (more : List Due) → s.due ≡ Writes (Record.Said k said) ∷ more → IsLed f text s from (with_due s more) to is)
+      → ActTaken f text old from old to act is
   spoken said tells_it to is led = act_of_line f text old from act within old to (Record.Said k said)
       (λ s ts next.
       let same = tells_it s next.stands in (
@@ -399,6 +417,7 @@ module _ (f : Profile) (text : List ℕ) (old : Judge) (from : Cursor) (k : ℕ)
 
 module _ (f : Profile) (text : List ℕ) (old : Judge) (from : Cursor) (k : ℕ) (entry : Entry) (within : IsWithin text from) (act : Act)
     (frees : FreesEntry f old from act k entry) where
+  -- A free outside the region is taken by the line that says so, or fails there.
   pub freed_outside : (IsPage (profile_of old.machine) (address_of entry.name / 4096) → ⊥) → (to : Cursor) (is : Bool)
       → ((s : Stand) (more : List Due) → s.due ≡ Writes (Record.Said k (Said.Outside entry.name)) ∷ more → IsLed f text s from (with_due s more) to is)
       → ActTaken f text old from old to act is
@@ -407,6 +426,7 @@ module _ (f : Profile) (text : List ℕ) (old : Judge) (from : Cursor) (k : ℕ)
       (λ s stands. cc (frees s stands, is_outside f (profile_of old.machine) (address_of entry.name / 4096) stands.profile none)) to is led
 
   module _ (inside : IsPage (profile_of old.machine) (address_of entry.name / 4096)) where
+    -- A free at an address that isn't a multiple of 16 is taken by the line that says so, or fails there.
     pub freed_unaligned : address_of entry.name % 16 ≢ 0 → (to : Cursor) (is : Bool)
         → ((s : Stand) (more : List Due) → s.due ≡ Writes (Record.Said k (Said.Unaligned entry.name)) ∷ more → IsLed f text s from (with_due s more) to is)
         → ActTaken f text old from old to act is
@@ -426,25 +446,32 @@ module _ (f : Profile) (text : List ℕ) (old : Judge) (from : Cursor) (k : ℕ)
           (comes_as f text new to [] ts is from (ap (λ (u : Stand). record u { left = ts }) (logs_it s next.stands)) (logged s [] ts next.stands))
 
 -- ---- a free of what a name stands for
-module _ (f : Profile) (text : List ℕ) (old : Judge) (from : Cursor) (k name room : ℕ) (within : IsWithin text from) (act : Act) (frees : FreesNamed f act k name room) where
-  named_as : (block : Option (Option Block)) → block ≡ meant old.names name → (s : Stand) → Stands f old s from → begun_act f s act ≡ freeing_named f s k name room block
+module _ (f : Profile) (text : List ℕ) (old : Judge) (from : Cursor) (k name room : ℕ) (within : IsWithin text from) (act : Act)
+    (frees : FreesNamed f act k name room) where
+  named_as : (block : Option (Option Block)) → block ≡ meant old.names name → (s : Stand) → Stands f old s from
+      → begun_act f s act ≡ freeing_named f s k name room block
   named_as block is s stands = frees s ∙ ap (freeing_named f s k name room) (stands.names name ∙ sym is)
 
+  -- A free of a name that was never asked for is taken without a line.
   pub unasked_freed : None ≡ meant old.names name → ActTaken f text old from old from act true
   unasked_freed is = nothing_begun f text old from act within (named_as None is)
 
+  -- A free of a name whose request was refused is taken by the line that it was skipped, or fails there.
   pub refused_freed : Some None ≡ meant old.names name → (to : Cursor) (is : Bool)
       → ((s : Stand) (more : List Due) → s.due ≡ Writes (Record.Said k (Said.Skipped name)) ∷ more → IsLed f text s from (with_due s more) to is)
       → ActTaken f text old from old to act is
   refused_freed is to taken led = spoken f text old from k within act (Said.Skipped name) (named_as (Some None) is) to taken led
 
+  -- A free of a name that stands for a block frees the entry of that block.
   pub given_freed : (block : Block) → Some (Some block) ≡ meant old.names name → FreesEntry f old from act k (entry_of block.name room)
   given_freed block is = named_as (Some (Some block)) is
 
 -- ---- another size
 -- it is said, and the name stands for this
-pub said_named : (f : Profile) (text : List ℕ) (old : Judge) (from : Cursor) (k name : ℕ) → IsWithin text from → (act : Act) (found : Option Block) (said : Said)
-    → SaysNamed f old from act k name found said → (names : Names) → ((n : ℕ) → meant names n ≡ (if name == n then Some found else meant old.names n)) → (to : Cursor) (is : Bool)
+pub said_named : (f : Profile) (text : List ℕ) (old : Judge) (from : Cursor) (k name : ℕ) → IsWithin text from
+    → (act : Act) (found : Option Block) (said : Said)
+    → SaysNamed f old from act k name found said → (names : Names) → ((n : ℕ) → meant names n ≡ (if name == n then Some found else meant old.names n))
+    → (to : Cursor) (is : Bool)
     → ((s : Stand) (more : List Due) → s.due ≡ Writes (Record.Said k said) ∷ more → IsLed f text s from (with_due s more) to is)
     → ActTaken f text old from (record old { names = names }) to act is
 said_named f text old from k name within act found said says names sets to is led = act_of_line f text old from act within (record old { names = names }) to (Record.Said k said)
@@ -468,23 +495,30 @@ suits_not block size align never = search (arith, false_from_ne_true, and_parts,
 
 module _ (f : Profile) (text : List ℕ) (old : Judge) (from : Cursor) (k name size align : ℕ) (within : IsWithin text from) (act : Act) where
   -- the block is kept, or another one is asked for in its place
-  pub resized_kept : (block : Block) → IsSuited block size align → Resizes f old from act k name block size align → SaysNamed f old from act k name (Some block) (Said.Kept block.name name)
+  pub resized_kept : (block : Block) → IsSuited block size align → Resizes f old from act k name block size align
+      → SaysNamed f old from act k name (Some block) (Said.Kept block.name name)
   resized_kept block suited resizes = λ s stands. resizes s stands ∙ ap (λ (x : Bool). remaking x s k (request_for block name size align) block) (suits_it block size align suited)
 
-  pub resized_asks : (block : Block) → (IsSuited block size align → ⊥) → Resizes f old from act k name block size align → Asks f old from act k (request_for block name size align) (Some block.name)
+  -- A reallocation of a block that doesn't suit asks for another one, which replaces it.
+  pub resized_asks : (block : Block) → (IsSuited block size align → ⊥) → Resizes f old from act k name block size align
+      → Asks f old from act k (request_for block name size align) (Some block.name)
   resized_asks block unsuited resizes = λ s stands. resizes s stands ∙ ap (λ (x : Bool). remaking x s k (request_for block name size align) block) (suits_not block size align unsuited)
 
   -- what its old name stands for
   module _ (replaced : ℕ) (remakes : Remakes f act k name replaced size align) where
-    remade_as : (found : Option (Option Block)) → found ≡ meant old.names replaced → (s : Stand) → Stands f old s from → begun_act f s act ≡ remaking_named s k name size align found
+    remade_as : (found : Option (Option Block)) → found ≡ meant old.names replaced → (s : Stand) → Stands f old s from
+        → begun_act f s act ≡ remaking_named s k name size align found
     remade_as found is s stands = remakes s ∙ ap (remaking_named s k name size align) (stands.names replaced ∙ sym is)
 
+    -- A reallocation of a name that was never asked for is taken without a line.
     pub unasked_remade : None ≡ meant old.names replaced → ActTaken f text old from old from act true
     unasked_remade is = nothing_begun f text old from act within (remade_as None is)
 
+    -- A reallocation of a name whose request was refused says that it was skipped, and the new name counts as refused.
     pub refused_remade : Some None ≡ meant old.names replaced → SaysNamed f old from act k name None (Said.Skipped name)
     refused_remade is = remade_as (Some None) is
 
+    -- A reallocation of a name that stands for a block gives that block another size.
     pub given_remade : (block : Block) → Some (Some block) ≡ meant old.names replaced → Resizes f old from act k name block size align
     given_remade block is = remade_as (Some (Some block)) is
 

@@ -23,10 +23,12 @@ room_small : (route : Route) (size : ℕ) → size ≤ 2 ^ 26 → room_by route 
 room_small (Class class) size few = omega (arith, class_size_le class)
 room_small other size few = omega (arith, few)
 
-request_fits : (f : Profile) (k name heap size align : ℕ) → IsValid f → size ≤ f.pages * 4096 → k < 2 ^ 8 → name < 2 ^ 32 → heap < 32 → FitsRequest f k (asked_for name heap size align)
+request_fits : (f : Profile) (k name heap size align : ℕ) → IsValid f → size ≤ f.pages * 4096 → k < 2 ^ 8 → name < 2 ^ 32 → heap < 32
+    → FitsRequest f k (asked_for name heap size align)
 request_fits f k name heap size align valid within few low one = search (arith, kind_routed, route_is, room_small)
 
-heaps_fit : (f : Profile) (k name heap size align : ℕ) → IsValid f → IsAdmitted f size align heap → k < 2 ^ 8 → name < 2 ^ 32 → FitsHeaps f k (asked_for name heap size align)
+heaps_fit : (f : Profile) (k name heap size align : ℕ) → IsValid f → IsAdmitted f size align heap → k < 2 ^ 8 → name < 2 ^ 32
+    → FitsHeaps f k (asked_for name heap size align)
 heaps_fit f k name heap size align valid may few low = search (arith, request_fits)
 
 -- ---- lists of acts
@@ -58,6 +60,7 @@ pub planned_front : (f : Profile) (limit : ℕ) (xs ys : List Op) → ArePlanned
 planned_front f limit [] ys all = tt
 planned_front f limit (x ∷ xs) ys all = (all.0, planned_front f limit xs ys all.1)
 
+-- Later operations of planned ones are planned.
 pub planned_back : (f : Profile) (limit : ℕ) (xs ys : List Op) → ArePlanned f limit (xs ++ ys) → ArePlanned f limit ys
 planned_back f limit [] ys all = all
 planned_back f limit (x ∷ xs) ys all = planned_back f limit xs ys all.1
@@ -70,7 +73,9 @@ keeper_behind f guard actor (Work.Own task) (Some keeper) few by is kept =
     let some : 1 ≤ actor = by.0 in let last : actor ≤ f.threads = by.1 in (omega (arith, kept.0, some, last), omega (arith, kept.0, last, few))
 keeper_behind f guard actor (Work.Chore chore) (Some keeper) few by is kept = absurd (cc)
 
-pub all_planned : (f : Profile) (limit guard : ℕ) (asked : List ℕ) (ops : List Op) → f.threads ≤ 16 → AreSound f asked ops → AreBelow limit ops → AreKept f guard ops → ArePlanned f limit ops
+-- Sound operations of a plan, whose names are below the limit and which are kept by their keepers, are planned.
+pub all_planned : (f : Profile) (limit guard : ℕ) (asked : List ℕ) (ops : List Op) → f.threads ≤ 16 → AreSound f asked ops → AreBelow limit ops
+    → AreKept f guard ops → ArePlanned f limit ops
 all_planned f limit guard asked [] few sound below kept = tt
 all_planned f limit guard asked (op ∷ ops) few sound below kept = (
   record { actor = sound.0; sound = (asked, sound.1); named = below.0; kept = keeper_behind f guard op.actor (work_of op.what) (keeper_in op.what) few sound.0 refl kept.0 },
@@ -89,12 +94,14 @@ module _ (f : Profile) (limit : ℕ) (valid : IsValid f) (few : limit ≤ 2 ^ 32
   task_fits k asked (Task.Guarded keeper name heap size align) small below sound = heaps_fit f k name heap size align valid sound.0 small (omega (arith, below, few))
   task_fits k asked other small below sound = tt
 
-  chore_fits : (idle : List ℕ) (chore : Chore) → AreThreads idle → MatchOption (epoch_of chore) (Unit {0}) (λ e. e < 2 ^ 40) → AllFit f (acts_of_chore idle chore)
+  chore_fits : (idle : List ℕ) (chore : Chore) → AreThreads idle → MatchOption (epoch_of chore) (Unit {0}) (λ e. e < 2 ^ 40)
+      → AllFit f (acts_of_chore idle chore)
   chore_fits idle (Chore.Tick e) all sound = (omega (arith, sound), tt)
   chore_fits idle Chore.Pass all sound = (tt, tt)
   chore_fits idle (Chore.Idle n) all sound = (tt, all_made f (λ k. StopsIdle k n) (λ k is. is) idle all)
 
-  kept_fits : (op : Op) (o : Option ℕ) → IsThread op.actor → FitsWhat f op.actor op.what → MatchOption o (Unit {0}) (λ keeper. (op.actor < keeper) × (keeper < 2 ^ 8)) → FitsAct f (act_kept o op)
+  kept_fits : (op : Op) (o : Option ℕ) → IsThread op.actor → FitsWhat f op.actor op.what
+      → MatchOption o (Unit {0}) (λ keeper. (op.actor < keeper) × (keeper < 2 ^ 8)) → FitsAct f (act_kept o op)
   kept_fits op None thread fits kept = (thread, fits)
   kept_fits op (Some keeper) thread fits kept =
       (thread, fits, (omega (arith, kept.0), kept.1), λ same. absurd (omega (arith, kept.0, same)))
@@ -120,7 +127,8 @@ module _ (f : Profile) (limit : ℕ) (valid : IsValid f) (few : limit ≤ 2 ^ 32
             (all_made f Lowers (λ k is. is) (numbers_from (f.threads + 1) keepers) (numbers_are (f.threads + 1) keepers (omega arith) (omega (arith, most, many)))),
       )
 
-  later_fits : (n : ℕ) (phases : List (List Op)) → n + length phases < 2 ^ 32 → ArePlanned f limit (all_ops phases) → AllFit f (acts_from f.threads keepers n phases)
+  later_fits : (n : ℕ) (phases : List (List Op)) → n + length phases < 2 ^ 32 → ArePlanned f limit (all_ops phases)
+      → AllFit f (acts_from f.threads keepers n phases)
   later_fits n [] short planned = close_fits
   later_fits n (phase ∷ phases) short planned = (
     omega (arith, short),
@@ -128,6 +136,7 @@ module _ (f : Profile) (limit : ℕ) (valid : IsValid f) (few : limit ≤ 2 ^ 32
         (later_fits (n + 1) phases (omega (arith, short)) (planned_back f limit phase (all_ops phases) planned)),
   )
 
+  -- The numbers of all acts of a plan fit their places.
   pub acts_fit : (phases : List (List Op)) → length phases < 2 ^ 31 → ArePlanned f limit (all_ops phases) → AllFit f (acts_of f.threads keepers phases)
   acts_fit [] short planned = close_fits
   acts_fit (phase ∷ phases) short planned =

@@ -36,7 +36,8 @@ freeing_at_no_pass true true s k entry no_pass = logging_no_pass (is_full s k) s
 freeing_no_pass : (f : Profile) (s : Stand) (k : ℕ) (entry : Entry) → BeginsNoPass s.due → BeginsNoPass (freeing f s k entry).due
 freeing_no_pass f s k entry no_pass = freeing_at_no_pass (is_page f (address_of entry.name / 4096)) (is_aligned entry.name) s k entry no_pass
 
-named_no_pass : (f : Profile) (s : Stand) (k name room : ℕ) (block : Option (Option Block)) → BeginsNoPass s.due → BeginsNoPass (freeing_named f s k name room block).due
+named_no_pass : (f : Profile) (s : Stand) (k name room : ℕ) (block : Option (Option Block)) → BeginsNoPass s.due
+    → BeginsNoPass (freeing_named f s k name room block).due
 named_no_pass f s k name room None no_pass = no_pass
 named_no_pass f s k name room (Some None) no_pass = refl
 named_no_pass f s k name room (Some (Some block)) no_pass = freeing_no_pass f s k (entry_of block.name room) no_pass
@@ -45,7 +46,8 @@ remaking_no_pass : (suited : Bool) (s : Stand) (k : ℕ) (r : Request) (old : Bl
 remaking_no_pass true s k r old = refl
 remaking_no_pass false s k r old = refl
 
-remade_no_pass : (s : Stand) (k name size align : ℕ) (block : Option (Option Block)) → BeginsNoPass s.due → BeginsNoPass (remaking_named s k name size align block).due
+remade_no_pass : (s : Stand) (k name size align : ℕ) (block : Option (Option Block)) → BeginsNoPass s.due
+    → BeginsNoPass (remaking_named s k name size align block).due
 remade_no_pass s k name size align None no_pass = no_pass
 remade_no_pass s k name size align (Some None) no_pass = refl
 remade_no_pass s k name size align (Some (Some old)) no_pass = remaking_no_pass (suits old size align) s k (request_for old name size align) old
@@ -74,6 +76,7 @@ guarding_no_pass : (s : Stand) (keeper k : ℕ) (o : Option Request) → BeginsN
 guarding_no_pass s keeper k None no_pass = no_pass
 guarding_no_pass s keeper k (Some r) no_pass = lowered_no_pass (filter (goes_down s.events keeper false) s.guards) (Tries keeper k r false ∷ []) refl
 
+-- A task that is begun puts no outcomes of a pass first where none came first.
 pub begins_no_pass : (f : Profile) (s : Stand) (t : Task) → BeginsNoPass s.due → BeginsNoPass (begun f s t).due
 begins_no_pass f s (Does (Operates op)) no_pass = what_no_pass f s op.actor op.what no_pass
 begins_no_pass f s (Does (Guards keeper op)) no_pass = guarding_no_pass s keeper op.actor (request_in op.what) no_pass
@@ -86,7 +89,8 @@ begins_no_pass f s (Does ReadsEpoch) no_pass = no_pass
 begins_no_pass f s t no_pass = refl
 
 -- ---- what is due then
-settles : (f : Profile) (b : Stand) (due : List Due) → b.due ≡ due → BeginsNoPass due → settled_with due b (begun_from f b b.left) ≡ ready_with f b (past_outcomes due)
+settles : (f : Profile) (b : Stand) (due : List Due) → b.due ≡ due → BeginsNoPass due
+    → settled_with due b (begun_from f b b.left) ≡ ready_with f b (past_outcomes due)
 settles f b [] is no_pass = ap (λ (u : Stand). begun_from f u b.left) (ap (with_due b) is)
 settles f b (d ∷ more) is no_pass = ap (with_due b) is ∙ sym (ap (ready_with f b) no_pass)
 

@@ -16,6 +16,7 @@ pub so_far_as : {f : Profile} {text : List ℕ} {first : Stand} {judge : Judge} 
 so_far_as {f} {text} {first} {judge} {at} {acts} {others} is so = subst (λ (al : List Act). IsSoFar f text first judge at al) is so
 
 module _ (text : List ℕ) (old new : Judge) (from to : Cursor) where
+  -- Acts that were taken up to some left are taken so by any other name of the same lists.
   pub taken_as : (taken : Bool) (acts others left rest : List Act) → acts ≡ others → left ≡ rest → TakenTo text old from new to acts left taken
       → TakenTo text old from new to others rest taken
   taken_as taken acts others left rest is same done = rw (same, is) at done
@@ -39,7 +40,8 @@ module _ (text : List ℕ) (old new : Judge) (from to : Cursor) where
       (is_followed f more so.fit.1 (record so.stand { left = ts }) (omega (arith, so.stands.epoch, so.stands.small)) (heaps_of so.stands) refl))
 
 -- one after another, in the middle of which the judge is another one
-pub taken_on : (text : List ℕ) (old mid new : Judge) (from at to : Cursor) (acts between left : List Act) (taken : Bool) → TakenTo text old from mid at acts between true
+pub taken_on : (text : List ℕ) (old mid new : Judge) (from at to : Cursor) (acts between left : List Act) (taken : Bool)
+    → TakenTo text old from mid at acts between true
     → TakenTo text mid at new to between left taken → TakenTo text old from new to acts left taken
 taken_on text old mid new from at to acts between left taken one two = λ f first so. two f first (one f first so)
 
@@ -48,6 +50,7 @@ pub idly_taken : (text : List ℕ) (judge : Judge) (at : Cursor) (act : Act) →
     → ActsTaken text judge at judge at (act ∷ []) true
 idly_taken text judge at act within idle = act_taken text judge judge at at act true (λ f. nothing_begun f text judge at act within (λ s stands. idle f s))
 
+-- No acts are taken where the check stands, and all are left.
 pub nothing_taken : (text : List ℕ) (judge : Judge) (at : Cursor) (acts : List Act) → TakenTo text judge at judge at acts acts true
 nothing_taken text judge at acts = λ f first so. so
 
@@ -71,6 +74,7 @@ number_taken text old mid new from at to make i n start taken low far act more =
 pub sized_on : {old mid new : Judge} → IsSizedAs old mid → IsSizedAs mid new → IsSizedAs old new
 sized_on {old} {mid} {new} one two = search arith
 
+-- An empty list of acts is taken where the check stands.
 pub none_taken : (text : List ℕ) (judge : Judge) (at : Cursor) → ActsTaken text judge at judge at [] true
 none_taken text judge at = λ more. nothing_taken text judge at more
 

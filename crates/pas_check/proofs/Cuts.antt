@@ -18,6 +18,7 @@ cut_at : (b : ℕ) (bs rest : List ℕ) → is_nothing bs ≡ true → lines_in 
 cut_at b [] rest h = refl
 cut_at b (c ∷ cs) rest h = absurd (false≢true h)
 
+-- The first line of a text that begins with a line is that line.
 pub cut_line : (line rest : List ℕ) → is_line line ≡ true → lines_in (line ++ rest) ≡ line ∷ lines_in rest
 cut_line [] rest h = absurd (false≢true h)
 cut_line (b ∷ bs) rest h = elim (cases_eq b 10) [
@@ -36,7 +37,8 @@ hex_no_newline n = grind (arith, nat_tests)
 glyph_first : (d : ℕ) (ds rest : List ℕ) → is_line ((digit_glyph false d ∷ ds) ++ rest) ≡ is_line (ds ++ rest)
 glyph_first d ds rest = ap (λ (x : Bool). if x then is_nothing (ds ++ rest) else is_line (ds ++ rest)) (hex_no_newline d)
 
-either_first : (t : Bool) (xs ys rest more : List ℕ) → is_line (xs ++ rest) ≡ is_line more → is_line (ys ++ rest) ≡ is_line more → is_line ((if t then xs else ys) ++ rest) ≡ is_line more
+either_first : (t : Bool) (xs ys rest more : List ℕ) → is_line (xs ++ rest) ≡ is_line more → is_line (ys ++ rest) ≡ is_line more
+    → is_line ((if t then xs else ys) ++ rest) ≡ is_line more
 either_first true xs ys rest more x y = x
 either_first false xs ys rest more x y = y
 
@@ -46,6 +48,7 @@ onto_first (suc k) n ds rest =
     let d : ℕ = digit_glyph false (n % 10) in
     either_first (n / 10 == 0) (d ∷ ds) (digits_onto k 10 false (n / 10) (d ∷ ds)) rest (ds ++ rest) (glyph_first (n % 10) ds rest) (onto_first k (n / 10) (d ∷ ds) rest ∙ glyph_first (n % 10) ds rest)
 
+-- A text with a number in front is a line exactly where it is one without.
 pub number_first : (n : ℕ) (rest : List ℕ) → is_line (decimal n ++ rest) ≡ is_line rest
 unfolding digits
 number_first n rest = onto_first 64 n [] rest
@@ -58,6 +61,7 @@ hex_first (suc k) n rest =
 name_first : (name : Name) (rest : List ℕ) → is_line (name_text name ++ rest) ≡ is_line rest
 name_first name rest = hex_first 8 (address_of name) (codes " turn " ++ (decimal name.turn ++ rest)) ∙ number_first name.turn rest
 
+-- A text with the name of a kind in front is a line exactly where it is one without.
 pub kind_first : (kind : Kind) (rest : List ℕ) → is_line (kind_text kind ++ rest) ≡ is_line rest
 kind_first (Kind.Class class) rest = number_first (class_size class) rest
 kind_first other rest = refl
@@ -82,7 +86,8 @@ event_line (Event.Reject k name (Why.SizeDiffers room)) =
     number_first k (codes " size-differs" ++ (name_text name ++ (codes " asked " ++ (decimal room ++ codes "\n"))))
     ∙ name_first name (codes " asked " ++ (decimal room ++ codes "\n")) ∙ number_first room (codes "\n")
 
-numbered : (k : ℕ) (words : List ℕ) (n : ℕ) → is_line (words ++ (decimal n ++ codes "\n")) ≡ is_line (decimal n ++ codes "\n") → is_line (decimal k ++ (words ++ (decimal n ++ codes "\n"))) ≡ true
+numbered : (k : ℕ) (words : List ℕ) (n : ℕ) → is_line (words ++ (decimal n ++ codes "\n")) ≡ is_line (decimal n ++ codes "\n")
+    → is_line (decimal k ++ (words ++ (decimal n ++ codes "\n"))) ≡ true
 numbered k words n passes = number_first k (words ++ (decimal n ++ codes "\n")) ∙ passes ∙ number_first n (codes "\n")
 
 said_line : (k : ℕ) (said : Said) → is_line (line_of_answer k said) ≡ true
@@ -109,6 +114,7 @@ said_line k (Said.Kept block name) =
 said_line k (Said.Lowered low high) =
     simp number_first
 
+-- The line of each record is one line.
 pub record_line : (r : Record) → is_line (line_of r) ≡ true
 record_line (Record.Event e) = event_line e
 record_line (Record.Said k said) = said_line k said
@@ -142,6 +148,7 @@ front_before (b ∷ bs) (suc n) none rest =
     let t : (b == 10) ≡ false = false_from_ne_true (b == 10) (none 0 (omega arith) (omega arith)) in
     ap (λ (x : Bool). if x then is_nothing (take n bs ++ rest) else is_line (take n bs ++ rest)) t ∙ front_before bs n (λ k low high. none (suc k) (omega arith) (omega (arith, high))) rest
 
+-- A text without a line feed, with one behind it, is a line.
 pub front_ends : (xs : List ℕ) (b : ℕ) → IsFront xs → b ≡ 10 → is_line (xs ++ b ∷ []) ≡ true
 front_ends xs b front e = front (b ∷ []) ∙ ap (λ c. is_line (c ∷ [])) e
 
@@ -167,6 +174,7 @@ only_front b (c ∷ cs) front =
     ap (λ (x : Bool). if x then (10 ∷ []) ∷ lines_in (c ∷ cs) else put_front b (lines_in (c ∷ cs))) (head_isnt b (c ∷ cs) front)
     ∙ ap (put_front b) (only_front c cs (tail_front b (c ∷ cs) front))
 
+-- A text without a line feed is its own only line.
 pub all_front : (text : List ℕ) → 0 < length text → IsFront text → lines_in text ≡ text ∷ []
 all_front [] some front = absurd (omega (arith, some))
 all_front (b ∷ bs) some front = only_front b bs front
@@ -181,7 +189,8 @@ line_some [] is = absurd (false≢true is)
 line_some (b ∷ bs) is = omega arith
 
 -- where the text goes on with it, it is the next line
-pub cut_here : (text wanted : List ℕ) (b : ℕ) → drop b text ≡ wanted ++ drop (length wanted) (drop b text) → is_line wanted ≡ true → lines_in (drop b text) ≡ wanted ∷ lines_in (drop (b + length wanted) text)
+pub cut_here : (text wanted : List ℕ) (b : ℕ) → drop b text ≡ wanted ++ drop (length wanted) (drop b text) → is_line wanted ≡ true
+    → lines_in (drop b text) ≡ wanted ∷ lines_in (drop (b + length wanted) text)
 cut_here text wanted b starts is =
     ap lines_in starts ∙ cut_line wanted (drop (length wanted) (drop b text)) is ∙ ap (λ (rest : List ℕ). wanted ∷ lines_in rest) (drop-drop (length wanted) b text)
 

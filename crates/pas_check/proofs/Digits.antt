@@ -34,12 +34,15 @@ number_back n end rest fits stops =
     let h = are-digits n fits in
     ap (small (2 ^ 64)) (digits_value (decimal n) 0 end rest h.digits stops ∙ h.value_is) ∙ small_is (2 ^ 64) n fits
 
+-- The digits of a number in front of a text end where another byte stands.
 pub past_number : (n end : ℕ) (rest : List ℕ) → n < 2 ^ 64 → is_digit end ≡ false → past_digits (decimal n ++ end ∷ rest) ≡ end ∷ rest
 past_number n end rest fits stops = digits_past (decimal n) end rest (are-digits n fits).digits stops
 
+-- A number below 256 in front of a text is read back.
 pub u8_back : (n end : ℕ) (rest : List ℕ) → n < 2 ^ 8 → is_digit end ≡ false → of_u8 (decimal n ++ end ∷ rest) ≡ n
 u8_back n end rest fits stops = ap (small (2 ^ 8)) (number_back n end rest (omega (arith, fits)) stops) ∙ small_is (2 ^ 8) n fits
 
+-- A number below 2^32 in front of a text is read back.
 pub u32_back : (n end : ℕ) (rest : List ℕ) → n < 2 ^ 32 → is_digit end ≡ false → of_u32 (decimal n ++ end ∷ rest) ≡ n
 u32_back n end rest fits stops = ap (small (2 ^ 32)) (number_back n end rest (omega (arith, fits)) stops) ∙ small_is (2 ^ 32) n fits
 
@@ -73,9 +76,11 @@ hex_value_is (suc k) v n rest =
     ap (λ x. hex_after k (16 * v + x) (hex_digits k n ++ rest)) one ∙ hex_value_is k (16 * v + n / 16 ^ k % 16) n rest ∙ digits_join v n (16 ^ k)
     ∙ (λ i. mul_left_comm 16 v (16 ^ k) i + n % sym power i) ∙ ap (λ x. v * x + n % 16 ^ suc k) (mul_comm 16 (16 ^ k) ∙ sym power)
 
+-- A number in eight hexadecimal digits is read back.
 pub hex8_back : (n : ℕ) (rest : List ℕ) → n < 2 ^ 32 → hex_after 8 0 (hex_digits 8 n ++ rest) ≡ n
 hex8_back n rest fits = hex_value_is 8 0 n rest ∙ omega (arith, fits)
 
+-- A number in sixteen hexadecimal digits is read back.
 pub hex16_back : (n : ℕ) (rest : List ℕ) → n < 2 ^ 64 → hex_after 16 0 (hex_digits 16 n ++ rest) ≡ n
 hex16_back n rest fits = hex_value_is 16 0 n rest ∙ omega (arith, fits)
 
@@ -89,6 +94,7 @@ digits_grow : (v : ℕ) (bs : List ℕ) → v ≤ digits_after v bs
 digits_grow v [] = omega arith
 digits_grow v (b ∷ bs) = grown (is_digit b) v (10 * v + (b - 48)) (digits_after (10 * v + (b - 48)) bs) (omega arith) (digits_grow (10 * v + (b - 48)) bs)
 
+-- Digits that come to 2^64 or more read as 0.
 pub too_large : (v b : ℕ) (bs : List ℕ) → 48 ≤ b → b ≤ 57 → 2 ^ 64 ≤ 10 * v + (b - 48) → small (2 ^ 64) (digits_after v (b ∷ bs)) ≡ 0
 too_large v b bs lo hi large = search (arith, digit_more, digits_grow, no_small)
 
@@ -96,16 +102,20 @@ too_large v b bs lo hi large = search (arith, digit_more, digits_grow, no_small)
 pub hex_bound : (v d i : ℕ) → v < 16 ^ i → d < 16 → 16 * v + d < 16 ^ (i + 1)
 hex_bound v d i lt less = omega (arith, pow_more 16 i, lt, less)
 
+-- A number of fewer than sixteen hexadecimal digits is below 16^15.
 pub hex_room : (v i : ℕ) → v < 16 ^ i → i < 16 → v < 16 ^ 15
 hex_room v i lt le = let few : i ≤ 15 = omega (arith, le) in let p : 16 ^ i ≤ 16 ^ 15 = pow-le-pow_right (omega arith) few in omega (arith, lt, p)
 
+-- A number below a power of 16 is below each that is at least as great.
 pub hex_most : (v i n : ℕ) → v < 16 ^ i → i ≤ n → v < 16 ^ n
 hex_most v i n lt le = let p : 16 ^ i ≤ 16 ^ n = pow-le-pow_right (omega arith) le in omega (arith, lt, p)
 
+-- One hexadecimal digit more is read as sixteen times the number before and its value.
 pub hex_more : (k v b : ℕ) (bs : List ℕ) → 0 < k → hex_after k v (b ∷ bs) ≡ hex_after (k - 1) (16 * v + hex_value b % 16) bs
 hex_more zero v b bs some = absurd (omega (arith, some))
 hex_more (suc k) v b bs some = let e : suc k - 1 ≡ k = omega arith in ap (λ j. hex_after j (16 * v + hex_value b % 16) bs) (sym e)
 
+-- Where no byte is left, the number read so far stays.
 pub hex_stops : (k v : ℕ) → hex_after k v [] ≡ v
 hex_stops zero v = refl
 hex_stops (suc k) v = refl

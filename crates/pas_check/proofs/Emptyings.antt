@@ -15,10 +15,12 @@ ends_by s k entry e (inl is) = subst (EndsBy s.epoch) (sym is.3) tt
 ends_by s k entry e (inr is) = let same : s.epoch ≤ s.epoch = omega arith in subst (EndsBy s.epoch) (sym is.1) same
 
 module _ (old : Machine) (text : List ℕ) (from : Cursor) (k : ℕ) (log : List Entry) (epoch : ℕ) where
+  -- Before any line, no entry of the log is taken.
   pub entries_begin : IsWithin text from → EntriesTaken old old text from from k log log epoch true
   entries_begin within s more stands same kept due = (s, leads_nowhere (profile_of old) text s from within, ap (with_due s) due, stands, kept)
 
-  module _ (mid : Machine) (at to : Cursor) (entry : Entry) (entries : List Entry) (before : EntriesTaken old mid text from at k log (entry ∷ entries) epoch true)
+  module _ (mid : Machine) (at to : Cursor) (entry : Entry) (entries : List Entry)
+      (before : EntriesTaken old mid text from at k log (entry ∷ entries) epoch true)
       (count : to.lines ≡ at.lines + 1) where
     -- no line is left
     pub entries_lack : lines_from text at ≡ [] → EntriesTaken old mid text from to k log [] epoch false

@@ -29,6 +29,7 @@ said_is epoch (Said.InUse page word value) x h = ap (record_in epoch) (same_Some
 said_is epoch (Said.NotOffered page) x h = ap (record_in epoch) (same_Some (record { page = page; outcome = NotOffered }) x h)
 said_is epoch other x h = absurd (none-some x h)
 
+-- A record that tells a page's outcome is the record of just that outcome.
 pub record_is : (epoch : ℕ) (r : Record) (x : Examined) → outcome_in epoch r ≡ Some x → r ≡ record_of epoch x.page x.outcome
 record_is epoch (Record.Event e) x h = event_is epoch e x h
 record_is epoch (Record.Said k said) x h = search (arith, if_some, eqb-true, said_is)
@@ -39,7 +40,9 @@ module _ (old : Machine) (line : List ℕ) (last epoch : ℕ) where
   abbrev pub IsOnly : Option Examined → Type 0
   IsOnly found = (page : ℕ) (o : Outcome) → Fits (record_of epoch page o) → line ≡ line_of (record_of epoch page o) → found ≡ Some record { page = page; outcome = o }
 
-  pub found_only : (item : Record) (read : Option Record) (found : Option Examined) → read ≡ Some item → ((r : Record) → Fits r → line ≡ line_of r → read ≡ Some r) → found ≡ outcome_in epoch item → IsOnly found
+  -- The outcome that a line's record tells is the only one of that line.
+  pub found_only : (item : Record) (read : Option Record) (found : Option Examined) → read ≡ Some item
+      → ((r : Record) → Fits r → line ≡ line_of r → read ≡ Some r) → found ≡ outcome_in epoch item → IsOnly found
   found_only item read found is only outcome page o fits has = search (arith, same_Some, outcome_is)
 
   outcome_refused : (new : Machine) → new ≡ old
@@ -80,6 +83,7 @@ module _ (old : Machine) (line : List ℕ) (last epoch : ℕ) where
         came.1,
       )
 
+  -- Where the machine refuses the outcome of a line, no outcome is taken.
   pub outcome_failed : (new : Machine) (x : Examined) → IsOnly (Some x) → IsExamined old new epoch x false → OutcomeTaken old new last epoch line None
   outcome_failed new x only examined = outcome_refused new examined.0
       (λ p o up within fits is s stands low same may.

@@ -27,12 +27,14 @@ record IsBegun (f : Profile) (s b : Stand) : Type 0 where
   heaps : HaveHeaps b.names
 
 -- a name more
-heaps_if : (t : Bool) (found : Option Block) (old : Option (Option Block)) (block : Block) → ((b : Block) → found ≡ Some b → b.heap < 32) → (old ≡ Some (Some block) → block.heap < 32)
+heaps_if : (t : Bool) (found : Option Block) (old : Option (Option Block)) (block : Block) → ((b : Block) → found ≡ Some b → b.heap < 32)
+    → (old ≡ Some (Some block) → block.heap < 32)
     → (if t then Some found else old) ≡ Some (Some block) → block.heap < 32
 heaps_if true found old block new before is = new block (same_Some found (Some block) is)
 heaps_if false found old block new before is = before is
 
-heaps_more : (names : List Named) (name : ℕ) (found : Option Block) → HaveHeaps names → ((b : Block) → found ≡ Some b → b.heap < 32) → HaveHeaps (record { name = name; block = found } ∷ names)
+heaps_more : (names : List Named) (name : ℕ) (found : Option Block) → HaveHeaps names → ((b : Block) → found ≡ Some b → b.heap < 32)
+    → HaveHeaps (record { name = name; block = found } ∷ names)
 heaps_more names name found heaps new n block is = heaps_if (name == n) found (standing_for names n) block new (heaps n block) is
 
 entries_fit : (f : Profile) (k : ℕ) (log : List Entry) (more : List Due) → IsThread k → FitsNext f more → FitsNext f (entries_due k log ++ more)
@@ -40,7 +42,8 @@ entries_fit f k [] more thread fits = fits
 entries_fit f k (entry ∷ log) more thread fits = (thread.1, inl thread.0)
 
 -- each guard that goes down is of the keeper that sweeps
-lowered_first : (f : Profile) (es : List Event) (keeper : ℕ) (all : Bool) (guard : Guard) (rest : List Guard) (more : List Due) → IsThread keeper → FitsNext f (map lowered_due rest ++ more)
+lowered_first : (f : Profile) (es : List Event) (keeper : ℕ) (all : Bool) (guard : Guard) (rest : List Guard) (more : List Due) → IsThread keeper
+    → FitsNext f (map lowered_due rest ++ more)
     → (down : Bool) → goes_down es keeper all guard ≡ down → FitsNext f (map lowered_due (cond down (guard ∷ rest) rest) ++ more)
 lowered_first f es keeper all guard rest more thread fits true is = search (arith, and_parts)
 lowered_first f es keeper all guard rest more thread fits false is = fits
@@ -78,7 +81,8 @@ module _ (f : Profile) (s : Stand) (due : s.due ≡ []) (small : s.epoch < 2 ^ 6
   frees_named k name room (Some None) thread = said k (Said.Skipped name) thread
   frees_named k name room (Some (Some block)) thread = frees k (entry_of block.name room) thread
 
-  remakes_as : (suited : Bool) (k name size align : ℕ) (old : Block) → old.heap < 32 → IsThread k → FitsRequest f k (request_for old name size align) → IsBegun f s (remaking suited s k (request_for old name size align) old)
+  remakes_as : (suited : Bool) (k name size align : ℕ) (old : Block) → old.heap < 32 → IsThread k → FitsRequest f k (request_for old name size align)
+      → IsBegun f s (remaking suited s k (request_for old name size align) old)
   remakes_as true k name size align old one thread fits = record { fits = inl thread; events = refl; epoch = small; heaps = heaps_more s.names name (Some old) heaps (λ b is. subst (λ (c : Block). c.heap < 32) (same_Some old b is) one) }
   remakes_as false k name size align old one thread fits = record { fits = fits; events = refl; epoch = small; heaps = heaps }
 
@@ -137,7 +141,8 @@ record IsWell (f : Profile) (es : List Event) (b : Stand) : Type 0 where
   epoch : b.epoch < 2 ^ 64
 
 -- with something due it is the state itself that is well, by what is given of it
-settles : (f : Profile) (es : List Event) (b other : Stand) (ds : List Due) → b.due ≡ ds → FitsNext f ds → past_outcomes ds ≡ ds → b.events ≡ es → b.epoch < 2 ^ 64
+settles : (f : Profile) (es : List Event) (b other : Stand) (ds : List Due) → b.due ≡ ds → FitsNext f ds → past_outcomes ds ≡ ds → b.events ≡ es
+    → b.epoch < 2 ^ 64
     → (ds ≡ [] → IsWell f es other) → IsWell f es (settled_with ds b other)
 settles f es b other [] is fits no_pass events epoch rest = rest refl
 settles f es b other (d ∷ ds) is fits no_pass events epoch rest = search arith
@@ -152,5 +157,7 @@ well_from f es (act ∷ acts) fit u due events epoch heaps =
     settles f es b (begun_from f b rest) b.due refl begun.fits (begins_no_pass f u (Does act) (subst (λ (ds : List Due). past_outcomes ds ≡ ds) (sym due) refl))
     (begun.events ∙ events) begun.epoch (λ none. well_from f es acts fit.1 b none (begun.events ∙ events) begun.epoch begun.heaps)
 
-pub is_followed : (f : Profile) (acts : List Act) → AllFit f acts → (s : Stand) → s.epoch < 2 ^ 64 → HaveHeaps s.names → s.left ≡ map Does acts ++ Reports ∷ [] → IsFollowed f s
+-- Where the acts that are left fit, what follows a pass fits, too.
+pub is_followed : (f : Profile) (acts : List Act) → AllFit f acts → (s : Stand) → s.epoch < 2 ^ 64 → HaveHeaps s.names → s.left ≡ map Does acts ++ Reports ∷ []
+    → IsFollowed f s
 is_followed f acts fit s epoch heaps left = search (arith, well_from)

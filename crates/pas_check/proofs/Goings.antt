@@ -21,6 +21,7 @@ module _ (f : Profile) (s next : Stand) (line : List ℕ) (takes : Takes f s lin
   whole_on : (more : List (List ℕ)) → IsWhole f s (line ∷ more) → IsWhole f next more
   whole_on more go = subst (λ t. IsWhole f t more) (one go.1.0 go.1.1) (go.0, go.1.2, go.2)
 
+  -- A line that may come, and leads to one state, is one line more of those seen.
   pub by_line : (first : Stand) (seen : List (List ℕ)) → SoFar f first seen s → SoFar f first (seen ++ line ∷ []) next
   by_line first seen far = record {
     go = λ more.
@@ -45,6 +46,7 @@ alike_whole f s t like (line ∷ more) go = (go.0, (go.1.0, (like.takes line go.
 other_way : {f : Profile} {s t : Stand} → AreAlike f s t → AreAlike f t s
 other_way like = record { takes = λ line next. ((like.takes line next).1, (like.takes line next).0); done = (like.done.1, like.done.0) }
 
+-- A task that is begun without a line leaves the lines seen as they are.
 pub by_none : (f : Profile) (first s t : Stand) (seen : List (List ℕ)) → AreAlike f s t → SoFar f first seen s → SoFar f first seen t
 by_none f first s t seen like far = record {
   go = λ more. let at = far.go more in (λ go. alike_go f s t like more (at.0 go), λ go. at.1 (alike_go f t s (other_way like) more go));
@@ -60,7 +62,8 @@ take_one [] line rest = refl
 take_one (x ∷ seen) line rest = let e : suc (length seen) + 1 ≡ suc (length seen + 1) = omega arith in ap (λ n. take n (x ∷ (seen ++ line ∷ rest))) e ∙ ap (λ ys. x ∷ ys) (take_one seen line rest)
 
 -- THE LINE that can't be taken is the first that isn't allowed
-pub refused : (f : Profile) (first s : Stand) (seen : List (List ℕ)) (line : List ℕ) (rest : List (List ℕ)) → SoFar f first seen s → ((next : Stand) → Takes f s line next → ⊥)
+pub refused : (f : Profile) (first s : Stand) (seen : List (List ℕ)) (line : List ℕ) (rest : List (List ℕ)) → SoFar f first seen s
+    → ((next : Stand) → Takes f s line next → ⊥)
     → IsStopped f first (seen ++ line ∷ rest) (length seen + 1)
 refused f first s seen line rest far never = record {
   before = length seen;
@@ -79,7 +82,9 @@ ended_whole f first s lines far done = subst (IsWhole f first) (append_none line
 take_whole : (lines : List (List ℕ)) → take (length lines) lines ≡ lines
 take_whole lines = ap (take (length lines)) (sym (append_none lines)) ∙ take-append_seam lines []
 
-pub ended_early : (f : Profile) (first s : Stand) (lines : List (List ℕ)) → SoFar f first lines s → (IsDone f s → ⊥) → IsStopped f first lines (length lines + 1)
+-- A text that ends before all is done stops behind its last line.
+pub ended_early : (f : Profile) (first s : Stand) (lines : List (List ℕ)) → SoFar f first lines s → (IsDone f s → ⊥)
+    → IsStopped f first lines (length lines + 1)
 ended_early f first s lines far undone = record {
   before = length lines;
   number = refl;

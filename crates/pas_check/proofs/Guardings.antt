@@ -26,6 +26,7 @@ no_end : (f : Profile) (t : Bool) (address a old : ℕ) → (address == a) ≡ t
 no_end f true address a old same place none before = absurd (none (subst (IsPlace f) (eqb-true address a same) place))
 no_end f false address a old same place none before = before
 
+-- No block ends at an address that is no place of the region.
 pub no_ends : (f : Profile) (es : List Event) → Run f es → (a : ℕ) → (IsPlace f a → ⊥) → ends_in es a ≡ 0
 no_ends f [] run a none = refl
 no_ends f (Event.End k name e ∷ es) run a none = no_end f (address_of name == a) (address_of name) a (ends_in es a) refl run.0.0 none (no_ends f es run.1 a none)
@@ -33,6 +34,7 @@ no_ends f (other ∷ es) run a none = no_ends f es run.1 a none
 
 -- ---- the lines of a sweep
 module _ (machine : Machine) (text : List ℕ) (from : Cursor) (guards : List Guard) (keeper : ℕ) (all : Bool) where
+  -- Before a sweep's first line all guards are to be judged.
   pub sweep_begins : IsWithin text from → SweepGoes machine text from from guards keeper all guards
   sweep_begins within f s more stands due = subst (λ (u : Stand). Leads f text s from u from) (ap (with_due s) due) (leads_nowhere f text s from within)
 
@@ -75,6 +77,7 @@ module _ (f : Profile) (text : List ℕ) (old : Judge) (from to : Cursor) (keepe
       → (being_swept s keeper all more ts).due ≡ map lowered_due (filter (goes_down s.events keeper all) old.guards.items) ++ more
   swept_due s more ts stands = ap (λ (gs : List Guard). map lowered_due (filter (goes_down s.events keeper all) gs) ++ more) stands.guards
 
+  -- Once each guard was judged, the sweep is taken with those that are left.
   pub swept_on : (guards : Vec Guard) → LinesSwept old.machine text from to old.guards.items keeper all true
       → ((es : List Event) → StandsFor old.machine es → guards.items ≡ staying es keeper all old.guards.items)
       → GuardsSwept f text old from (record old { guards = guards }) to keeper all true
@@ -86,17 +89,20 @@ module _ (f : Profile) (text : List ℕ) (old : Judge) (from to : Cursor) (keepe
       = ap (λ (gs : List Guard). staying s.events keeper all gs) stands.guards ∙ sym (left s.events stands.events) in
       (with_due u more, led, search (arith, kept_same), refl, refl)
 
+  -- Where a line of a lowered guard fails, the sweep isn't taken.
   pub swept_amiss : (new : Judge) → LinesSwept old.machine text from to old.guards.items keeper all false → GuardsSwept f text old from new to keeper all false
   swept_amiss new amiss s more ts stands = λ enough. amiss f (being_swept s keeper all more ts) more stands.events (swept_due s more ts stands)
 
 -- the keeper lowers all its guards
-pub lowered : (f : Profile) (text : List ℕ) (old new : Judge) (from to : Cursor) (keeper : ℕ) → IsWithin text from → (is : Bool) → GuardsSwept f text old from new to keeper true is
+pub lowered : (f : Profile) (text : List ℕ) (old new : Judge) (from to : Cursor) (keeper : ℕ) → IsWithin text from → (is : Bool)
+    → GuardsSwept f text old from new to keeper true is
     → ActTaken f text old from new to (Lowers keeper) is
 lowered f text old new from to keeper within is swept = λ s ts next.
     comes_on f text new to [] ts is (begins f text old from (Lowers keeper) within s ts next) (swept s [] ts next.stands)
 
 -- ---- a request that the keeper tries
-module _ (f : Profile) (text : List ℕ) (old : Judge) (from : Cursor) (k keeper : ℕ) (within : IsWithin text from) (act : Act) (r : Request) (asks : AsksKeeper f old from act keeper k r) where
+module _ (f : Profile) (text : List ℕ) (old : Judge) (from : Cursor) (k keeper : ℕ) (within : IsWithin text from) (act : Act) (r : Request)
+    (asks : AsksKeeper f old from act keeper k r) where
   abbrev dues : List Due
   dues = Tries keeper k r false ∷ []
 
@@ -108,9 +114,11 @@ module _ (f : Profile) (text : List ℕ) (old : Judge) (from : Cursor) (k keeper
       comes_on f text mid at dues ts is (begins f text old from act within s ts next)
       (comes_as f text mid at dues ts is from (ap (λ (u : Stand). record u { left = ts }) (asks s next.stands)) (swept s dues ts next.stands))
 
+  -- Where the sweep before a keeper's try fails, the guarded request isn't taken.
   pub tried_amiss : (new : Judge) (to : Cursor) → GuardsSwept f text old from new to keeper false false → ActTaken f text old from new to act false
   tried_amiss new to swept = swept_comes new to false swept
 
+  -- After its sweep, a guarded request is taken where the lines of its try are.
   pub tried : (mid new : Judge) (at to : Cursor) → GuardsSwept f text old from mid at keeper false true
       → (is : Bool) → ((s : Stand) → Stands f mid s at → s.due ≡ dues → IsCarried f text s at new to is) → ActTaken f text old from new to act is
   tried mid new at to swept is carried = λ s ts next.
@@ -118,7 +126,8 @@ module _ (f : Profile) (text : List ℕ) (old : Judge) (from : Cursor) (k keeper
       comes_on f text new to [] ts is e.1 (subst (λ left. Comes f text e.0 at new to [] left is) e.4 (carried e.0 e.2 e.3))
 
 -- ---- the keeper's lines
-module _ (f : Profile) (text : List ℕ) (old : Judge) (from : Cursor) (w : Wanted) (low : w.name < 2 ^ 32) (room : w.room < 2 ^ 32) (heap : w.directory.heap < 2 ^ 8)
+module _ (f : Profile) (text : List ℕ) (old : Judge) (from : Cursor) (w : Wanted) (low : w.name < 2 ^ 32) (room : w.room < 2 ^ 32)
+    (heap : w.directory.heap < 2 ^ 8)
     (kind : IsKind w.directory.kind) (r : Request) (wants : IsWanted f r w) where
   -- the request has the fields of w, whose bounds are given
   fits_by : (k : ℕ) → k < 2 ^ 8 → FitsRequest f k r
@@ -144,26 +153,34 @@ module _ (f : Profile) (text : List ℕ) (old : Judge) (from : Cursor) (w : Want
         kept = kept_same t (record s { events = es }) to to (ap (λ (u : Stand). u.events) is) (ap (λ (u : Stand). u.epoch) is) (omega arith) kept;
       }
 
-      pub tried_stops : (machine : Machine) (new : Judge) (to : Cursor) → TrialTaken old.machine machine text from to keeper w Stops → IsCarried f text s from new to false
+      -- Where the keeper's lines stop, the guarded request isn't taken.
+      pub tried_stops : (machine : Machine) (new : Judge) (to : Cursor) → TrialTaken old.machine machine text from to keeper w Stops
+          → IsCarried f text s from new to false
       tried_stops machine new to taken = λ enough. subst (λ g. Fails g text s from to.lines) stands.profile (taken s k r [] trying_there)
 
-      carried_on : (t : Stand) (at : Cursor) (new : Judge) (to : Cursor) (is : Bool) → Leads f text s from t at → t.left ≡ s.left → IsCarried f text t at new to is → IsCarried f text s from new to is
+      carried_on : (t : Stand) (at : Cursor) (new : Judge) (to : Cursor) (is : Bool) → Leads f text s from t at → t.left ≡ s.left
+          → IsCarried f text t at new to is → IsCarried f text s from new to is
       carried_on t at new to is led left end = comes_on f text new to [] s.left is led (subst (λ ts. Comes f text t at new to [] ts is) left end)
 
       raise_left : (sides : Bool) (v : Stand) (name : ℕ) (block : Block) (more : List Due) → (raising sides v keeper name block more).left ≡ v.left
       raise_left true v name block more = refl
       raise_left false v name block more = refl
 
-      pub tried_passes : (machine : Machine) (new : Judge) (at to place : Cursor) (is : Bool) → profile_of machine ≡ profile_of old.machine → TrialTaken old.machine machine text from at keeper w (Passes place)
-          → ((t : Stand) → Stands f (record old { machine = machine }) t place → t.due ≡ Serves k r None ∷ [] → IsCarried f text t place new to is) → IsCarried f text s from new to is
+      -- Where the keeper gave no block and backed no page, the lines of its thread decide the guarded request.
+      pub tried_passes : (machine : Machine) (new : Judge) (at to place : Cursor) (is : Bool) → profile_of machine ≡ profile_of old.machine
+          → TrialTaken old.machine machine text from at keeper w (Passes place)
+          → ((t : Stand) → Stands f (record old { machine = machine }) t place → t.due ≡ Serves k r None ∷ [] → IsCarried f text t place new to is)
+          → IsCarried f text s from new to is
       tried_passes machine new at to place is profile taken carried =
           let b = taken s k r [] trying_there in
           let t : Stand = record s { events = b.0; due = Serves k r None ∷ [] } in
           carried_on t place new to is (subst (λ g. Leads g text s from t place) stands.profile b.1) refl (carried t (stands_then machine place profile t b.0 refl b.2 b.3) refl)
 
+      -- Where the keeper gave a block, the line of its guard decides the guarded request.
       pub tried_gives : (machine : Machine) (new : Judge) (at to : Cursor) (block : Block) (is : Bool) → profile_of machine ≡ profile_of old.machine
           → TrialTaken old.machine machine text from at keeper w (Gives block)
-          → ((t : Stand) → Stands f (record old { machine = machine }) t at → IsCarried f text (raising (has_sides f block) (with_name t w.name (Some block)) keeper w.name block []) at new to is)
+          → ((t : Stand) → Stands f (record old { machine = machine }) t at
+              → IsCarried f text (raising (has_sides f block) (with_name t w.name (Some block)) keeper w.name block []) at new to is)
           → IsCarried f text s from new to is
       tried_gives machine new at to block is profile taken carried =
           let b = taken s k r [] trying_there in
@@ -184,8 +201,11 @@ module _ (f : Profile) (text : List ℕ) (old : Judge) (from : Cursor) (keeper n
   abbrev up : Stand → Stand
   up s = raising true (with_name s name (Some block)) keeper name block []
 
-  pub raised : has_sides (profile_of old.machine) block ≡ true → (guards : Vec Guard) → guards.items ≡ old.guards.items ++ guard_of keeper block ∷ [] → (to : Cursor) (is : Bool)
-      → ((s : Stand) (more : List Due) → s.due ≡ Writes (Record.Said keeper (Said.Guarded (page_below block) (page_above block) name)) ∷ more → IsLed f text s from (with_due s more) to is)
+  -- The guard of a keeper's block is up by the line that says it, or the text fails there.
+  pub raised : has_sides (profile_of old.machine) block ≡ true → (guards : Vec Guard) → guards.items ≡ old.guards.items ++ guard_of keeper block ∷ []
+      → (to : Cursor) (is : Bool)
+      → ((s : Stand) (more : List Due) → s.due ≡ Writes (Record.Said keeper (Said.Guarded (page_below block) (page_above block) name)) ∷ more
+          → IsLed f text s from (with_due s more) to is)
       → (s : Stand) → Stands f old s from → IsCarried f text (raised_from s) from (record old { names = names; guards = guards }) to is
   raised sides guards added to is led s stands =
       let new : Judge = record old { names = names; guards = guards } in
@@ -195,7 +215,8 @@ module _ (f : Profile) (text : List ℕ) (old : Judge) (from : Cursor) (keeper n
       (comes_led f text new to [] (raised_from s).left is (up s) (with_due (up s) []) there refl (sym (ap (λ (u : Stand). u.left) same)) (led (up s) [] refl))
 
   -- without one of them
-  pub not_raised : has_sides (profile_of old.machine) block ≡ false → (new : Judge) (to : Cursor) → to.lines ≡ from.lines + 1 → (s : Stand) → Stands f old s from → IsCarried f text (raised_from s) from new to false
+  pub not_raised : has_sides (profile_of old.machine) block ≡ false → (new : Judge) (to : Cursor) → to.lines ≡ from.lines + 1 → (s : Stand)
+      → Stands f old s from → IsCarried f text (raised_from s) from new to false
   not_raised sides new to count s stands = λ enough.
       let same : raised_from s ≡ with_due (with_name s name (Some block)) (Never ∷ []) = ap (λ b. raising b (with_name s name (Some block)) keeper name block []) (ap (λ g. has_sides g block) (sym stands.profile) ∙ sides) in
       subst (λ (u : Stand). Fails f text u from to.lines) (sym same) (subst (Fails f text stuck from) (sym count) (either (lines_from text from) refl))

@@ -27,7 +27,8 @@ epoch_more other es page epoch by low = low
 abbrev AreKinds : List Event → Type 0
 AreKinds es = (page : ℕ) (d : Directory) → deed_in es page ≡ Some d → IsKind d.kind
 
-kind_made : (t : Bool) (made d : Directory) (old : Option Directory) → IsKind made.kind → (old ≡ Some d → IsKind d.kind) → (if t then Some made else old) ≡ Some d → IsKind d.kind
+kind_made : (t : Bool) (made d : Directory) (old : Option Directory) → IsKind made.kind → (old ≡ Some d → IsKind d.kind)
+    → (if t then Some made else old) ≡ Some d → IsKind d.kind
 kind_made true made d old kind before is = subst (λ (g : Directory). IsKind g.kind) (same_Some made d is) kind
 kind_made false made d old kind before is = before is
 
@@ -35,7 +36,9 @@ kinds_more : (e : Event) (es : List Event) (epoch : ℕ) → EndsBy epoch e → 
 kinds_more (Event.Deed k p made) es epoch by kinds page d is = kind_made (p == page) made d (deed_in es page) by (kinds page d) is
 kinds_more other es epoch by kinds page d is = kinds page d is
 
-pub kept_more : (t s : Stand) (at to : Cursor) (e : Event) → t.events ≡ e ∷ s.events → t.epoch ≡ s.epoch → to.lines ≡ at.lines + 1 → EndsBy s.epoch e → IsKept s at → IsKept t to
+-- One event more, in one line more, at an epoch so far, keeps events few and epochs small.
+pub kept_more : (t s : Stand) (at to : Cursor) (e : Event) → t.events ≡ e ∷ s.events → t.epoch ≡ s.epoch → to.lines ≡ at.lines + 1 → EndsBy s.epoch e
+    → IsKept s at → IsKept t to
 kept_more t s at to e events epoch count by kept = search (arith, kinds_more, epoch_more)
 
 -- without an event: all that is kept is said of the events, the epoch and the lines
@@ -47,11 +50,13 @@ one_more : (t : Bool) (old long : ℕ) → old ≤ long → (if t then old + 1 e
 one_more true old long low = omega (arith, low)
 one_more false old long low = omega (arith, low)
 
+-- No more blocks were given at an address than there are events.
 pub gives_few : (es : List Event) (a : ℕ) → gives_in es a ≤ length es
 gives_few [] a = omega arith
 gives_few (Event.Give k block ∷ es) a = one_more (address_of block.name == a) (gives_in es a) (length es) (gives_few es a)
 gives_few (other ∷ es) a = omega (arith, gives_few es a)
 
+-- Before the 2^32nd line, the numbers of a state are small enough to be read back.
 pub small_of : (f : Profile) (machine : Machine) (s : Stand) (at : Cursor) → profile_of machine ≡ f → IsValid f → StandsFor machine s.events → IsKept s at
     → at.lines < 2 ^ 32 → s.epoch < 2 ^ 64 → IsSmall f s
 small_of f machine s at same valid stands kept lines epoch = search (arith, gives_few)

@@ -9,6 +9,7 @@ use Rattle.pas_check.specs.declared.cutting.Cursor.{Cursor}
 
 -- ---- two stretches, one after the other
 module _ {f : Profile} {text : List ℕ} {s t : Stand} {old mid : Cursor} (first : Leads f text s old t mid) where
+  -- What leads from one place to a second and from there to a third leads to the third.
   pub leads_on : {u : Stand} {new : Cursor} → Leads f text t mid u new → Leads f text s old u new
   leads_on {u} {new} second = record {
     taken = first.taken + second.taken;
@@ -23,6 +24,7 @@ module _ {f : Profile} {text : List ℕ} {s t : Stand} {old mid : Cursor} (first
     within = second.within;
   }
 
+  -- What leads from one place to another, from where the text fails, fails from the first.
   pub leads_fails : {number : ℕ} → Fails f text t mid number → Fails f text s old number
   leads_fails {number} fails =
       let at = fails.stopped in
@@ -58,6 +60,7 @@ module _ (f : Profile) (text : List ℕ) (s t : Stand) (at : Cursor) where
   alike_whole [] same done = (λ g. (t, refl, done.0 (subst (IsDone f) g.1 g.2)), λ g. (s, refl, done.1 (subst (IsDone f) g.1 g.2)))
   alike_whole (line ∷ more) same done = (λ g. (g.0, (g.1.0, (same g.1.0).0 g.1.1, g.1.2), g.2), λ g. (g.0, (g.1.0, (same g.1.0).1 g.1.1, g.1.2), g.2))
 
+  -- Where the same lines may come before and after it, a change without a line leads on.
   pub leads_idly : IsWithin text at → IsSameAt (lines_from text at) → (IsDone f s ↔ IsDone f t) → Leads f text s at t at
   leads_idly within same done = record {
     taken = 0;
@@ -71,6 +74,7 @@ module _ (f : Profile) (text : List ℕ) (s t : Stand) (at : Cursor) where
     within = within;
   }
 
+-- From a place each text leads to that place.
 pub leads_nowhere : (f : Profile) (text : List ℕ) (s : Stand) (at : Cursor) → IsWithin text at → Leads f text s at s at
 leads_nowhere f text s at within = leads_idly f text s s at within (same_as_itself (lines_from text at)) (λ g. g, λ g. g)
   where
@@ -80,7 +84,9 @@ leads_nowhere f text s at within = leads_idly f text s s at within (same_as_itse
 
 -- ---- one line
 module _ (f : Profile) (text : List ℕ) (s : Stand) (old : Cursor) where
-  pub leads_line : (next : Stand) (new : Cursor) (line : List ℕ) → lines_from text old ≡ line ∷ lines_from text new → new.lines ≡ old.lines + 1 → IsWithin text new
+  -- A line that may come, and leads to one state, leads the text one line on.
+  pub leads_line : (next : Stand) (new : Cursor) (line : List ℕ) → lines_from text old ≡ line ∷ lines_from text new → new.lines ≡ old.lines + 1
+      → IsWithin text new
       → Takes f s line next → ((other : Stand) → Takes f s line other → other ≡ next) → Leads f text s old next new
   leads_line next new line has count within takes one = record {
     taken = 1;
@@ -93,7 +99,8 @@ module _ (f : Profile) (text : List ℕ) (s : Stand) (old : Cursor) where
   }
 
   -- it can't be taken
-  pub fails_line : (line : List ℕ) (rest : List (List ℕ)) → lines_from text old ≡ line ∷ rest → ((next : Stand) → Takes f s line next → ⊥) → Fails f text s old (old.lines + 1)
+  pub fails_line : (line : List ℕ) (rest : List (List ℕ)) → lines_from text old ≡ line ∷ rest → ((next : Stand) → Takes f s line next → ⊥)
+      → Fails f text s old (old.lines + 1)
   fails_line line rest has never = record {
     further = 1;
     number_is = refl;
@@ -125,6 +132,7 @@ module _ (f : Profile) (text : List ℕ) (s : Stand) (old : Cursor) where
 ready_is : (f : Profile) (s : Stand) (d : Due) (more : List Due) → s.due ≡ d ∷ more → past_outcomes (d ∷ more) ≡ d ∷ more → ready f s ≡ s
 ready_is f s d more due no_pass = ap (ready_with f s) (ap past_outcomes due ∙ no_pass) ∙ ap (with_due s) (sym due)
 
+-- No outcome of a pass comes where none is due.
 pub first_none : (f : Profile) (s : Stand) (d : Due) (more : List Due) → past_outcomes (d ∷ more) ≡ d ∷ more → (line : List ℕ) (next : Stand)
     → TakesFirst f s (d ∷ more) line next → ⊥
 first_none f s (Examines page) more no_pass line next takes = let e : length more ≡ suc (length more) = ap length no_pass in absurd (omega (arith, e))
@@ -134,26 +142,33 @@ module _ (f : Profile) (s : Stand) (d : Due) (more : List Due) (due : s.due ≡ 
   ready_due : (ready f s).due ≡ d ∷ more
   ready_due = ap (λ (t : Stand). t.due) (ready_is f s d more due no_pass) ∙ due
 
+  -- Where something is due, the transcript isn't done.
   pub undone : IsDone f s → ⊥
   undone done = let e : suc (length more) ≡ 0 = ap length (sym ready_due ∙ done) in absurd (omega (arith, e))
 
+  -- A line that may come where something is due answers what is due.
   pub takes_due : (line : List ℕ) (next : Stand) → Takes f s line next → TakesDue f s (d ∷ more) line next
   takes_due line next (inl takes) = absurd (first_none f s d more no_pass line next (subst (λ ds. TakesFirst f s ds line next) due takes))
   takes_due line next (inr takes) = search (arith, ready_is, ready_due)
 
+  -- A line that answers what is due may come.
   pub due_takes : (line : List ℕ) (next : Stand) → TakesDue f s (d ∷ more) line next → Takes f s line next
   due_takes line next takes = inr (search (arith, ready_due, ready_is))
 
   module _ (text : List ℕ) (old : Cursor) where
-    pub due_taken : (next : Stand) (new : Cursor) (line : List ℕ) → lines_from text old ≡ line ∷ lines_from text new → new.lines ≡ old.lines + 1 → IsWithin text new
+    -- A line that answers what is due, and leads to one state, leads the text one line on.
+    pub due_taken : (next : Stand) (new : Cursor) (line : List ℕ) → lines_from text old ≡ line ∷ lines_from text new → new.lines ≡ old.lines + 1
+        → IsWithin text new
         → TakesDue f s (d ∷ more) line next → ((other : Stand) → TakesDue f s (d ∷ more) line other → other ≡ next) → Leads f text s old next new
     due_taken next new line has count within takes one =
         leads_line f text s old next new line has count within (due_takes line next takes) (λ other other_takes. one other (takes_due line other other_takes))
 
+    -- A line that doesn't answer what is due is the first that isn't allowed.
     pub due_refused : (line : List ℕ) (rest : List (List ℕ)) → lines_from text old ≡ line ∷ rest → ((next : Stand) → TakesDue f s (d ∷ more) line next → ⊥)
         → Fails f text s old (old.lines + 1)
     due_refused line rest has never = fails_line f text s old line rest has (λ next takes. never next (takes_due line next takes))
 
+    -- Where something is due and no line is left, the text fails behind its end.
     pub due_lacks : lines_from text old ≡ [] → Fails f text s old (old.lines + 1)
     due_lacks none = fails_early f text s old none undone
 

@@ -11,6 +11,7 @@ front_of : (b : ℕ) (lines : List (List ℕ)) → concat (put_front b lines) �
 front_of b [] = refl
 front_of b (line ∷ lines) = refl
 
+-- A text's lines one after the other are the text.
 pub all_lines : (text : List ℕ) → concat (lines_in text) ≡ text
 all_lines [] = refl
 all_lines (b ∷ bs) = elim (cases_eq b 10) [
@@ -23,7 +24,10 @@ all_lines (b ∷ bs) = elim (cases_eq b 10) [
 ]
 
 -- ---- the line from place p on, which is n bytes long
-module _ (input : List ℕ) (p n : ℕ) (cut : lines_in (take (length input - p) (drop p input)) ≡ take n (take (length input - p) (drop p input)) ∷ lines_in (drop n (take (length input - p) (drop p input)))) where
+module _ (input : List ℕ) (p n : ℕ)
+    (cut : lines_in (take (length input - p) (drop p input))
+        ≡ take n (take (length input - p) (drop p input)) ∷ lines_in (drop n (take (length input - p) (drop p input))))
+    where
   line : List ℕ
   line = take n (drop p input)
 
@@ -56,7 +60,8 @@ module _ (input : List ℕ) (p n : ℕ) (cut : lines_in (take (length input - p)
       ∙ all_lines more ∙ sym (take_rest input (p + n))
 
   -- another line belongs to the trace
-  pub past_line : is_mark (take (p + n - p) (drop p input)) ≡ false → trace_in input ≡ take p input ++ trace_in (drop p input) → trace_in input ≡ take (p + n) input ++ trace_in (drop (p + n) input)
+  pub past_line : is_mark (take (p + n - p) (drop p input)) ≡ false → trace_in input ≡ take p input ++ trace_in (drop p input)
+      → trace_in input ≡ take (p + n) input ++ trace_in (drop (p + n) input)
   unfolding line more
   past_line is so_far =
       so_far
@@ -65,6 +70,7 @@ module _ (input : List ℕ) (p n : ℕ) (cut : lines_in (take (length input - p)
       ∙ sym (append_assoc (take p input) line (trace_in more))
       ∙ ap (λ (bs : List ℕ). bs ++ trace_in more) (sym (take-add p n input))
 
+  -- The transcript of an input is the same after a first line that isn't the mark.
   pub same_rest : is_mark (take (p + n - p) (drop p input)) ≡ false → transcript_in (drop p input) ≡ transcript_in (drop (p + n) input)
   unfolding more
   same_rest is =

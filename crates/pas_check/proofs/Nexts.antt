@@ -82,7 +82,8 @@ module _ (f : Profile) (s : Stand) (small : IsSmall f s) (last : ℕ) (rest : Li
   no_writing Record.Close (inl of) has = of
   no_writing item (inr fits) has = no_record item fits.0 fits.1 has
 
-  no_entry_of : (t : Stand) (k : ℕ) (entry : Entry) (e : Event) → t.epoch < 2 ^ 64 → (k < 2 ^ 8) × ((0 < k) ⊎ FitsEntry entry) → IsEventOf t k entry e → line ≡ line_of_event e → ⊥
+  no_entry_of : (t : Stand) (k : ℕ) (entry : Entry) (e : Event) → t.epoch < 2 ^ 64 → (k < 2 ^ 8) × ((0 < k) ⊎ FitsEntry entry) → IsEventOf t k entry e
+      → line ≡ line_of_event e → ⊥
   no_entry_of t k entry e epoch (few, inl some) is has = no_thread k some (line_of_event e) (spaced_actor k few (line_of_event e) (entry_spaced k few t entry e is)) has
   no_entry_of t k entry e epoch (few, inr fits) is has = no_record (Record.Event e) (entry_fits t k entry e few fits epoch is)
       (no_outcome (Record.Event e) (no_entry t k entry e is)) has
@@ -116,6 +117,7 @@ module _ (f : Profile) (s : Stand) (small : IsSmall f s) where
     first_apart (Examines page ∷ more) line a b x y = outcome_apart f s small page more line a x (ready f s) new (ready f s).due fits no_pass b y
     first_apart other line a b x y = x
 
+    -- A line that may come next leads to one state.
     pub one_takes : (line : List ℕ) (a b : Stand) → Takes f s line a → Takes f s line b → a ≡ b
     one_takes line a b (inl x) (inl y) = one_first s.due line a b x y
     one_takes line a b (inl x) (inr y) = absurd (first_apart s.due line a b x y)

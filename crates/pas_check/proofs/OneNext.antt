@@ -20,6 +20,7 @@ use Rattle.pas_check.specs.Takes.{IsOutcome, TakesOutcome, TakesDue}
 use Rattle.pas_check.specs.declared.examining.Examined.{Examined}
 use Rattle.pas_check.proofs.{Entries.one_event, Readings.one_line}
 
+-- Two records that fit and have the same line are the same.
 pub same_record : (line : List ℕ) (r q : Record) → Fits r → Fits q → line ≡ line_of r → line ≡ line_of q → r ≡ q
 same_record line r q fits fits' a b = one_line r q fits fits' (sym a ∙ b)
 
@@ -96,10 +97,12 @@ prepared_then s k r replaced more d e (inl is) = subst (λ g. answered s k r rep
 prepared_then s k r replaced more d e (inr is) = subst (λ g. answered s k r replaced more (Record.Event g) ≡ with_one s g) (sym is.1) refl
 
 module _ (f : Profile) (s : Stand) (small : IsSmall f s) (k : ℕ) (r : Request) (fits : FitsRequest f k r) where
+  -- A deed or a back that the machine admits for a request fits.
   pub prepares_fits : (e : Event) → IsPreparing k (directory_of f r) e → Admits f s.events e → FitsEvent e
   prepares_fits e (inl is) admitted = search (arith, small_page)
   prepares_fits e (inr is) admitted = search (arith, small_page)
 
+  -- A give that the machine admits for a request fits.
   pub gives_fits : (block : Block) → IsFor f s r block → Admits f s.events (Event.Give k block) → FitsEvent (Event.Give k block)
   gives_fits block is may =
       let some : 0 < block.room = may.some in
@@ -116,6 +119,7 @@ module _ (f : Profile) (s : Stand) (small : IsSmall f s) (k : ℕ) (r : Request)
       let fewer = fits.heap in
       (fits.actor, record { name = record { address = omega (arith, last, most); turn = omega (arith, few, turn) }; room = omega (arith, room, fit); heap = omega (arith, heap, fewer) })
 
+  -- A refusal of a request fits.
   pub refusal_fits : (said : Said) → IsRefusal f s r said → FitsSaid said
   refusal_fits said (inl is) = subst FitsSaid (sym is) fits.name
   refusal_fits said (inr is) = subst FitsSaid (sym is.2) (small_page f is.0 small.valid (deed_page f s.events small.run is.0 (directory_of f r) is.1), fits.name)
@@ -203,13 +207,16 @@ module _ (f : Profile) (s : Stand) (small : IsSmall f s) (keeper k : ℕ) (r : R
 same_outcome : (epoch : ℕ) (x y : Examined) → record_of epoch x.page x.outcome ≡ record_of epoch y.page y.outcome → x ≡ y
 same_outcome epoch x y e = same_Some x y (sym (outcome_is epoch x.page x.outcome) ∙ ap (outcome_in epoch) e ∙ outcome_is epoch y.page y.outcome)
 
+-- An outcome that may come of a page fits.
 pub outcome_fits : (f : Profile) (s : Stand) → IsSmall f s → (page : ℕ) (o : Outcome) → IsPage f page → MayCome f s page o → Fits (record_of s.epoch page o)
 outcome_fits f s small page Unbacked of may = (omega arith, small_page f page small.valid of, small.epoch)
 outcome_fits f s small page (Young stamp) of may = let few = small.ends page in (omega arith, (small_page f page small.valid of, omega (arith, few, may.0)))
 outcome_fits f s small page (InUse word value) of may = (omega arith, (small_page f page small.valid of, omega (arith, may.0), omega (arith, may.1)))
 outcome_fits f s small page other of may = (omega arith, small_page f page small.valid of)
 
-pub one_outcome : (f : Profile) (s : Stand) → IsSmall f s → (last : ℕ) (more : List Due) (line : List ℕ) (a b : Stand) → TakesOutcome f s last more line a → TakesOutcome f s last more line b → a ≡ b
+-- A line that tells an outcome of a pass leads to one state.
+pub one_outcome : (f : Profile) (s : Stand) → IsSmall f s → (last : ℕ) (more : List Due) (line : List ℕ) (a b : Stand) → TakesOutcome f s last more line a
+    → TakesOutcome f s last more line b → a ≡ b
 one_outcome f s small last more line a b x y =
     let same = same_outcome s.epoch (record { page = x.page; outcome = x.outcome }) (record { page = y.page; outcome = y.outcome })
     (same_record line (record_of s.epoch x.page x.outcome) (record_of s.epoch y.page y.outcome)
@@ -217,7 +224,8 @@ one_outcome f s small last more line a b x y =
     x.next_is ∙ ap (λ (z : Examined). with_due (after_outcome s z.page z.outcome) (Examines z.page ∷ more)) same ∙ sym y.next_is
 
 -- ---- what is due
-pub one_next : (f : Profile) (s : Stand) → IsSmall f s → (due : List Due) → FitsFirst f due → (line : List ℕ) (a b : Stand) → TakesDue f s due line a → TakesDue f s due line b → a ≡ b
+pub one_next : (f : Profile) (s : Stand) → IsSmall f s → (due : List Due) → FitsFirst f due → (line : List ℕ) (a b : Stand) → TakesDue f s due line a
+    → TakesDue f s due line b → a ≡ b
 one_next f s small [] fits line a b x y = absurd x
 one_next f s small (Frees k entry ∷ more) fits line a b x y = x.next_is ∙ ap (λ e. with_due (with_one s e) more) (one_event s k entry x.event y.event x.of_entry y.of_entry) ∙ sym y.next_is
 one_next f s small (Serves k r old ∷ more) fits line a b x y =

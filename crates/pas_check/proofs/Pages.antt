@@ -51,28 +51,34 @@ clash : {A : Type 0} (b : Bool) → b ≡ true → b ≡ false → A
 clash b on off = absurd (cc)
 
 module _ (shown : Shown) (line : List ℕ) (hinted : Bool) where
-  pub hinted_none : shown.room ≡ true → (IsWith shown line true hinted → ⊥) → IsHinted shown line hinted → ⊥
-  hinted_none room other has = other (subst (λ (o : Bool). IsWith shown line o hinted) (has.1 room) has.2)
+  -- Where a page must be offered, a line that isn't one with the offer is none of it with this hint.
+  pub must_be_offered : shown.room ≡ true → (IsWith shown line true hinted → ⊥) → IsHinted shown line hinted → ⊥
+  must_be_offered room other has = other (subst (λ (o : Bool). IsWith shown line o hinted) (has.1 room) has.2)
 
-  pub hinted_last : shown.room ≡ false → (IsWith shown line true hinted → ⊥) → (is : Bool) → MatchBool is (IsWith shown line false hinted) (IsWith shown line false hinted → ⊥)
+  -- Where a page need not be offered, the line without the offer decides once that with it failed.
+  pub may_be_unoffered : shown.room ≡ false → (IsWith shown line true hinted → ⊥) → (is : Bool)
+      → MatchBool is (IsWith shown line false hinted) (IsWith shown line false hinted → ⊥)
       → MatchBool is (IsHinted shown line hinted) (IsHinted shown line hinted → ⊥)
-  hinted_last room other true is = (false, λ on. clash shown.room on room, is)
-  hinted_last room other false none = λ has. by has.0 has.2
+  may_be_unoffered room other true is = (false, λ on. clash shown.room on room, is)
+  may_be_unoffered room other false none = λ has. by has.0 has.2
     where
       by : (offered : Bool) → IsWith shown line offered hinted → ⊥
       by true is = other is
       by false is = none is
 
 module _ (shown : Shown) (line : List ℕ) where
+  -- A line with an allowed offer, and with the hint where that must be, is one of the page.
   pub page_hinted : (hinted : Bool) → (shown.empty ≡ true → hinted ≡ true) → IsHinted shown line hinted → IsPageLine shown line
   page_hinted hinted empty is = (marks_for shown is.0 hinted, record { backed = refl; parked = refl; offered = is.1; hinted = empty }, is.2)
 
   hinted_page : (is : IsPageLine shown line) → IsHinted shown line is.0.hinted
   hinted_page is = (is.0.offered, is.1.offered, is.2 ∙ ap (λ (n : Marked). line_with shown n) (marks_are_for shown is.0 is.1.backed is.1.parked))
 
+  -- Where a page must be hinted, a line that isn't one with the hint is none of it.
   pub page_none : shown.empty ≡ true → (IsHinted shown line true → ⊥) → IsPageLine shown line → ⊥
   page_none empty other is = other (subst (IsHinted shown line) (is.1.hinted empty) (hinted_page is))
 
+  -- Where a page need not be hinted, the line without the hint decides once that with it failed.
   pub page_last : shown.empty ≡ false → (IsHinted shown line true → ⊥) → (is : Bool) → MatchBool is (IsHinted shown line false) (IsHinted shown line false → ⊥)
       → MatchBool is (IsPageLine shown line) (IsPageLine shown line → ⊥)
   page_last empty other true is = page_hinted false (λ on. clash shown.empty on empty) is
@@ -95,7 +101,8 @@ module _ (s : Stand) (shown : Shown) (tells : TellsPage s.events shown) where
   line_is : (m : Marked) → line_with shown m ≡ machine_page s.events shown.page (Some shown.directory) m
   line_is m = λ t. page_text shown.page shown.directory (tells.live t) (tells.free t) (tells.stamp t) m
 
-  module _ (f : Profile) (text : List ℕ) (old new : Cursor) (more : List Due) (due : s.due ≡ Shows shown.page shown.directory ∷ more) (count : new.lines ≡ old.lines + 1) where
+  module _ (f : Profile) (text : List ℕ) (old new : Cursor) (more : List Due) (due : s.due ≡ Shows shown.page shown.directory ∷ more)
+      (count : new.lines ≡ old.lines + 1) where
     page_taken : (line : List ℕ) → lines_from text old ≡ line ∷ lines_from text new → IsWithin text new → (is : Bool)
         → MatchBool is (IsPageLine shown line) (IsPageLine shown line → ⊥) → IsLed f text s old (with_due s more) new is
     page_taken line has within true is =
@@ -106,8 +113,11 @@ module _ (s : Stand) (shown : Shown) (tells : TellsPage s.events shown) where
         (λ next x. none (x.marks, may_show x.marks x.allowed, x.line_is ∙ sym (line_is x.marks))))
 
 -- the same, whatever the page's number and directory are called
-pub page_led : (f : Profile) (text : List ℕ) (s : Stand) (shown : Shown) (page : ℕ) (d : Directory) (old new : Cursor) (more : List Due) (line : List ℕ) (is : Bool) → TellsPage s.events shown
-    → shown.page ≡ page → shown.directory ≡ d → s.due ≡ Shows page d ∷ more → new.lines ≡ old.lines + 1 → lines_from text old ≡ line ∷ lines_from text new → IsWithin text new
+pub page_led : (f : Profile) (text : List ℕ) (s : Stand) (shown : Shown) (page : ℕ) (d : Directory) (old new : Cursor) (more : List Due) (line : List ℕ)
+      (is : Bool)
+    → TellsPage s.events shown
+    → shown.page ≡ page → shown.directory ≡ d → s.due ≡ Shows page d ∷ more → new.lines ≡ old.lines + 1 → lines_from text old ≡ line ∷ lines_from text new
+    → IsWithin text new
     → MatchBool is (IsPageLine shown line) (IsPageLine shown line → ⊥) → IsLed f text s old (with_due s more) new is
 page_led f text s shown page d old new more line is tells page_is d_is due count has within shows =
     page_taken s shown tells f text old new more (due ∙ (λ t. Shows (sym page_is t) (sym d_is t) ∷ more)) count line has within is shows

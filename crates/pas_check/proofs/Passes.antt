@@ -27,6 +27,7 @@ small_as : (f : Profile) (s t : Stand) → t.events ≡ s.events → t.epoch < 2
 small_as f s t events epoch small = search arith
 
 module _ (old : Machine) (text : List ℕ) (from : Cursor) (epoch : ℕ) where
+  -- Before any line, a pass has no outcome.
   pub outcomes_begin : IsWithin text from → OutcomesGo old old text from from 0 epoch
   outcomes_begin within s ex = (s, leads_nowhere (profile_of old) text s from within, ap (with_due s) ex.due, ex.stands, ex.kept)
 
@@ -65,6 +66,7 @@ module _ (old : Machine) (text : List ℕ) (from : Cursor) (epoch : ℕ) where
       kept_same (with_due (t s ex) []) (t s ex) at at refl refl (omega arith) (before s ex).4,
     )
 
+    -- Where no line is left, the outcomes of a pass are those taken so far.
     pub outcomes_lack : IsWithin text at → lines_from text at ≡ [] → OutcomesTaken old mid text from at epoch
     outcomes_lack within none = outcomes_end within (λ s ex. subst (IsSameAt (profile_of old) text (t s ex) (with_due (t s ex) []) at) (sym none) tt)
 
@@ -87,6 +89,7 @@ module _ (old : Machine) (text : List ℕ) (from : Cursor) (epoch : ℕ) where
         back s ex next (inl x) = absurd x
         back s ex next (inr y) = inr (subst (λ (u : Stand). TakesDue (profile_of old) u u.due line next) (sym (same_ready s ex)) y)
 
+        -- A line that tells no outcome ends those of a pass.
         pub outcomes_over : IsWithin text at → OutcomesTaken old new text from at epoch
         outcomes_over within = subst (λ (m : Machine). OutcomesTaken old m text from at epoch) (sym none.0) (outcomes_end within (λ s ex.
             subst (IsSameAt (profile_of old) text (t s ex) (with_due (t s ex) []) at) (sym has) (λ next. (there s ex next, back s ex next))))

@@ -27,14 +27,18 @@ module _ (text : List ℕ) (old new : Judge) (from to : Cursor) (idle : List ℕ
       (idly_taken text new to (Settles op.actor) within (λ f s. refl) more)
   own_taken act false within done = λ more first s so. act_taken text old new from to act false done (Settles op.actor ∷ more) first s so
 
-  work_taken : (work : Work) (taken : Bool) → work_of op.what ≡ work → ActsTaken text old from new to (acts_of_work idle op work) taken → ActsTaken text old from new to (acts_of_op idle op) taken
+  work_taken : (work : Work) (taken : Bool) → work_of op.what ≡ work → ActsTaken text old from new to (acts_of_work idle op work) taken
+      → ActsTaken text old from new to (acts_of_op idle op) taken
   work_taken work taken is = subst (λ (w : Work). ActsTaken text old from new to (acts_of_work idle op w) taken) (sym is)
 
-  pub operation_taken : (task : Task) (taken : Bool) → work_of op.what ≡ Work.Own task → StaysWithin text to taken → ((f : Profile) → ActTaken f text old from new to (act_kept (keeper_in op.what) op) taken)
+  -- A thread's operation is taken as its own act.
+  pub operation_taken : (task : Task) (taken : Bool) → work_of op.what ≡ Work.Own task → StaysWithin text to taken
+      → ((f : Profile) → ActTaken f text old from new to (act_kept (keeper_in op.what) op) taken)
       → ActsTaken text old from new to (acts_of_op idle op) taken
   operation_taken task taken is within done = work_taken (Work.Own task) taken is (own_taken (act_kept (keeper_of task) op) taken within
       (λ f. subst (λ (w : Work). ActTaken f text old from new to (act_kept (of_task keeper_of w) op) taken) is (done f)))
 
+  -- An operation that is a chore is taken as the acts of the chore.
   pub chore_taken : (chore : Chore) (taken : Bool) → work_of op.what ≡ Work.Chore chore → ActsTaken text old from new to (acts_of_chore idle chore) taken
       → ActsTaken text old from new to (acts_of_op idle op) taken
   chore_taken chore taken is done = work_taken (Work.Chore chore) taken is done
@@ -51,8 +55,10 @@ module _ (text : List ℕ) (old mid new : Judge) (from to : Cursor) (ops : List 
   wakes_same : threads_where (is_set awake) n ≡ active_threads n ops
   wakes_same = threads_alike (is_set awake) (is_active ops) n same
 
+  -- A phase is taken by the reads of the epoch of its threads, and then its operations.
   pub phase_taken : (taken : Bool) → ActsTaken text old from mid from (map Wakes (threads_where (is_set awake) n)) true
-      → ActsTaken text mid from new to (acts_of_ops (threads_where (λ k. not (is_set awake k)) (threads_in mid)) ops) taken → ActsTaken text old from new to (phase_acts n ops) taken
+      → ActsTaken text mid from new to (acts_of_ops (threads_where (λ k. not (is_set awake k)) (threads_in mid)) ops) taken
+      → ActsTaken text old from new to (phase_acts n ops) taken
   phase_taken taken wake perform = λ more.
       let rest : List Act = acts_of_ops (idle_threads n ops) ops ++ more in
       let woken : List Act = map Wakes (active_threads n ops) in
@@ -68,24 +74,29 @@ abbrev pub past : Op
 past = record { line = 0; actor = 0; what = Alloc 0 0 0 0 }
 
 -- .. and those after it
-pub ops_there : (f : Profile) (limit : ℕ) (ops : List Op) (i : ℕ) → i < length ops → ArePlanned f limit (drop i ops) → IsPlanned f limit (get_or ops i past) × ArePlanned f limit (drop (i + 1) ops)
+pub ops_there : (f : Profile) (limit : ℕ) (ops : List Op) (i : ℕ) → i < length ops → ArePlanned f limit (drop i ops)
+    → IsPlanned f limit (get_or ops i past) × ArePlanned f limit (drop (i + 1) ops)
 ops_there f limit ops i lt planned = subst (ArePlanned f limit) (drop_more ops i past lt) planned
 
+-- The acts of operations from one on are those of that operation and of the others.
 pub acts_at : (idle : List ℕ) (ops : List Op) (i : ℕ) (more : List Act) → i < length ops
     → acts_of_ops idle (drop i ops) ++ more ≡ acts_of_op idle (get_or ops i past) ++ (acts_of_ops idle (drop (i + 1) ops) ++ more)
 acts_at idle ops i more lt =
     ap (λ (os : List Op). acts_of_ops idle os ++ more) (drop_more ops i past lt) ∙ append_assoc (acts_of_op idle (get_or ops i past)) (acts_of_ops idle (drop (i + 1) ops)) more
 
 -- ---- the phase at a place
-pub phases_there : (f : Profile) (limit : ℕ) (phases : List Phase) (i : ℕ) (d : Phase) → i < length phases → ArePlanned f limit (all_ops (map ops_of (drop i phases)))
+pub phases_there : (f : Profile) (limit : ℕ) (phases : List Phase) (i : ℕ) (d : Phase) → i < length phases
+    → ArePlanned f limit (all_ops (map ops_of (drop i phases)))
     → ArePlanned f limit (ops_of (get_or phases i d)) × ArePlanned f limit (all_ops (map ops_of (drop (i + 1) phases)))
 phases_there f limit phases i d lt planned =
     let both : ArePlanned f limit (ops_of (get_or phases i d) ++ all_ops (map ops_of (drop (i + 1) phases)))
     = subst (λ (ps : List Phase). ArePlanned f limit (all_ops (map ops_of ps))) (drop_more phases i d lt) planned in
     (planned_front f limit (ops_of (get_or phases i d)) (all_ops (map ops_of (drop (i + 1) phases))) both, planned_back f limit (ops_of (get_or phases i d)) (all_ops (map ops_of (drop (i + 1) phases))) both)
 
+-- The acts from a phase on are its mark, its own acts and those from the next phase on.
 pub phase_at : (threads keepers n : ℕ) (phases : List Phase) (i : ℕ) (d : Phase) → i < length phases
-    → acts_from threads keepers n (map ops_of (drop i phases)) ≡ MarksPhase n ∷ (phase_acts threads (ops_of (get_or phases i d)) ++ acts_from threads keepers (n + 1) (map ops_of (drop (i + 1) phases)))
+    → acts_from threads keepers n (map ops_of (drop i phases))
+      ≡ MarksPhase n ∷ (phase_acts threads (ops_of (get_or phases i d)) ++ acts_from threads keepers (n + 1) (map ops_of (drop (i + 1) phases)))
 phase_at threads keepers n phases i d lt = ap (λ (ps : List Phase). acts_from threads keepers n (map ops_of ps)) (drop_more phases i d lt)
 
 first_phase : (threads keepers : ℕ) (phases : List Phase) (d : Phase) → 0 < length phases
@@ -93,17 +104,23 @@ first_phase : (threads keepers : ℕ) (phases : List Phase) (d : Phase) → 0 < 
 first_phase threads keepers phases d lt = ap (λ (ps : List Phase). acts_of threads keepers (map ops_of ps)) (drop_more phases 0 d lt)
 
 -- the same, of the profile and the names of another judge
-pub planned_as : (old new : Judge) (ops : List Op) → IsSizedAs old new → ArePlanned (profile_of old.machine) (names_held old.names) ops → ArePlanned (profile_of new.machine) (names_held new.names) ops
+pub planned_as : (old new : Judge) (ops : List Op) → IsSizedAs old new → ArePlanned (profile_of old.machine) (names_held old.names) ops
+    → ArePlanned (profile_of new.machine) (names_held new.names) ops
 planned_as old new ops sized planned =
     subst (λ (n : ℕ). ArePlanned (profile_of new.machine) n ops) (sym sized.names) (subst (λ (f : Profile). ArePlanned f (names_held old.names) ops) (sym sized.profile) planned)
 
-pub one_planned_as : (old new : Judge) (op : Op) → IsSizedAs old new → IsPlanned (profile_of old.machine) (names_held old.names) op → IsPlanned (profile_of new.machine) (names_held new.names) op
+-- A planned operation is planned for a judge of the same sizes.
+pub one_planned_as : (old new : Judge) (op : Op) → IsSizedAs old new → IsPlanned (profile_of old.machine) (names_held old.names) op
+    → IsPlanned (profile_of new.machine) (names_held new.names) op
 one_planned_as old new op sized planned = (planned_as old new (op ∷ []) sized (planned, tt)).0
 
 -- a phase with its mark
-pub phase_done : (text : List ℕ) (old mid new : Judge) (from at marked to : Cursor) (number : ℕ) (ops others : List Op) (all there rest : List Act) (taken : Bool)
-    → threads_in mid ≡ threads_in old → ops ≡ others → there ≡ MarksPhase number ∷ (phase_acts (threads_in old) others ++ rest) → TakenTo text old from mid at all there true
-    → ((f : Profile) → ActTaken f text mid at mid marked (MarksPhase number) true) → ActsTaken text mid marked new to (phase_acts (threads_in mid) ops) taken → TakenTo text old from new to all rest taken
+pub phase_done : (text : List ℕ) (old mid new : Judge) (from at marked to : Cursor) (number : ℕ) (ops others : List Op) (all there rest : List Act)
+    (taken : Bool)
+    → threads_in mid ≡ threads_in old → ops ≡ others → there ≡ MarksPhase number ∷ (phase_acts (threads_in old) others ++ rest)
+    → TakenTo text old from mid at all there true
+    → ((f : Profile) → ActTaken f text mid at mid marked (MarksPhase number) true) → ActsTaken text mid marked new to (phase_acts (threads_in mid) ops) taken
+    → TakenTo text old from new to all rest taken
 phase_done text old mid new from at marked to number ops others all there rest taken threads same is far mark done =
     let here : List Act = phase_acts (threads_in old) others in
     let two : ActsTaken text mid marked new to here taken
@@ -118,19 +135,25 @@ take_length zero (x ∷ xs) is = absurd (omega (arith, is))
 take_length (suc n) [] is = refl
 take_length (suc n) (x ∷ xs) is = ap (λ (ys : List Phase). x ∷ ys) (take_length n xs (omega (arith, is)))
 
-pub rest_is : (phases : List Phase) → take (length phases - 1) (drop 1 phases) ≡ drop 1 phases
-rest_is phases = let long = length-drop 1 phases in take_length (length phases - 1) (drop 1 phases) (omega (arith, long))
+-- As many phases as there are behind the first, taken from there, are all of those.
+pub phases_behind_first : (phases : List Phase) → take (length phases - 1) (drop 1 phases) ≡ drop 1 phases
+phases_behind_first phases = let long = length-drop 1 phases in take_length (length phases - 1) (drop 1 phases) (omega (arith, long))
 
 -- the first phase, which has no mark, and those after it
-module _ (keepers : ℕ) (text : List ℕ) (old : Judge) (from : Cursor) (phases : List Phase) (d : Phase) (ops : List Op) (some : 0 < length phases) (is : ops ≡ ops_of (get_or phases 0 d)) where
-  acts_first : acts_of (threads_in old) keepers (map ops_of phases) ≡ phase_acts (threads_in old) ops ++ acts_from (threads_in old) keepers 2 (map ops_of (drop 1 phases))
+module _ (keepers : ℕ) (text : List ℕ) (old : Judge) (from : Cursor) (phases : List Phase) (d : Phase) (ops : List Op) (some : 0 < length phases)
+    (is : ops ≡ ops_of (get_or phases 0 d)) where
+  acts_first : acts_of (threads_in old) keepers (map ops_of phases)
+      ≡ phase_acts (threads_in old) ops ++ acts_from (threads_in old) keepers 2 (map ops_of (drop 1 phases))
   acts_first = cc (first_phase (threads_in old) keepers phases d some)
 
+  -- Where the first phase fails, the acts of the plan aren't taken.
   pub first_amiss : (new : Judge) (to : Cursor) → ActsTaken text old from new to (phase_acts (threads_in old) ops) false
       → TakenTo text old from new to (acts_of (threads_in old) keepers (map ops_of phases)) (close_acts (threads_in old) keepers) false
   first_amiss new to done = λ f first so. done (acts_from (threads_in old) keepers 2 (map ops_of (drop 1 phases))) f first (so_far_as acts_first so)
 
-  pub first_on : (mid new : Judge) (at to : Cursor) (taken : Bool) → threads_in mid ≡ threads_in old → ActsTaken text old from mid at (phase_acts (threads_in old) ops) true
+  -- Where the first phase was taken, the other phases decide the acts of the plan.
+  pub first_on : (mid new : Judge) (at to : Cursor) (taken : Bool) → threads_in mid ≡ threads_in old
+      → ActsTaken text old from mid at (phase_acts (threads_in old) ops) true
       → TakenTo text mid at new to (acts_from (threads_in mid) keepers 2 (map ops_of (drop 1 phases))) (close_acts (threads_in mid) keepers) taken
       → TakenTo text old from new to (acts_of (threads_in old) keepers (map ops_of phases)) (close_acts (threads_in old) keepers) taken
   first_on mid new at to taken threads one two =
@@ -140,8 +163,10 @@ module _ (keepers : ℕ) (text : List ℕ) (old : Judge) (from : Cursor) (phases
       (subst (λ (m : ℕ). TakenTo text mid at new to (acts_from m keepers 2 (map ops_of (drop 1 phases))) (close_acts m keepers) taken) threads two)
 
 -- the phases, and then the close
-pub close_on : (keepers : ℕ) (text : List ℕ) (old mid new : Judge) (from at to : Cursor) (phases : List (List Op)) (taken : Bool) → threads_in mid ≡ threads_in old
-    → TakenTo text old from mid at (acts_of (threads_in old) keepers phases) (close_acts (threads_in old) keepers) true → ActsTaken text mid at new to (close_acts (threads_in mid) keepers) taken
+pub close_on : (keepers : ℕ) (text : List ℕ) (old mid new : Judge) (from at to : Cursor) (phases : List (List Op)) (taken : Bool)
+    → threads_in mid ≡ threads_in old
+    → TakenTo text old from mid at (acts_of (threads_in old) keepers phases) (close_acts (threads_in old) keepers) true
+    → ActsTaken text mid at new to (close_acts (threads_in mid) keepers) taken
     → TakenTo text old from new to (acts_of (threads_in old) keepers phases) [] taken
 close_on keepers text old mid new from at to phases taken threads one two =
     let n = threads_in old in

@@ -44,22 +44,26 @@ kind_is : (kind : Kind) → IsKind kind → kind_at (codes " " ++ (kind_text kin
 kind_is (Kind.Class class) h = ap (λ n. kind_of_route false (route_of 20 n 16)) (u32_back (class_size class) 10 [] (size_fits class) refl) ∙ class_is class h
 kind_is other h = refl
 
-directory_is : (d : Directory) → d.heap < 2 ^ 8 → IsKind d.kind → directory_at (codes " heap " ++ (decimal d.heap ++ (codes " " ++ (kind_text d.kind ++ codes "\n")))) ≡ d
+directory_is : (d : Directory) → d.heap < 2 ^ 8 → IsKind d.kind
+    → directory_at (codes " heap " ++ (decimal d.heap ++ (codes " " ++ (kind_text d.kind ++ codes "\n")))) ≡ d
 directory_is d heap kind = search (arith, u8_back, past_number, kind_is)
 
 -- ---- events
 deed_is : (k page : ℕ) (d : Directory) → FitsEvent (Event.Deed k page d)
-    → deed_at k (codes " deed page " ++ (decimal page ++ (codes " heap " ++ (decimal d.heap ++ (codes " " ++ (kind_text d.kind ++ codes "\n")))))) ≡ Event.Deed k page d
+    → deed_at k (codes " deed page " ++ (decimal page ++ (codes " heap " ++ (decimal d.heap ++ (codes " " ++ (kind_text d.kind ++ codes "\n"))))))
+      ≡ Event.Deed k page d
 deed_is k page d fits = search (arith, u32_back, past_number, directory_is)
 
 back_is : (k page : ℕ) → page < 2 ^ 32 → back_at k (codes " back page " ++ (decimal page ++ codes "\n")) ≡ Event.Back k page
 back_is k page fits = ap (Event.Back k) (u32_back page 10 [] fits refl)
 
-unback_is : (k page epoch : ℕ) → page < 2 ^ 32 → epoch < 2 ^ 64 → unback_at k (codes " unback page " ++ (decimal page ++ (codes " epoch " ++ (decimal epoch ++ codes "\n")))) ≡ Event.Unback k page epoch
+unback_is : (k page epoch : ℕ) → page < 2 ^ 32 → epoch < 2 ^ 64
+    → unback_at k (codes " unback page " ++ (decimal page ++ (codes " epoch " ++ (decimal epoch ++ codes "\n")))) ≡ Event.Unback k page epoch
 unback_is k page epoch fits small = search (arith, u32_back, past_number, number_back)
 
 give_is : (k : ℕ) (block : Block) → FitsBlock block
-    → give_at k (codes " give" ++ (name_text block.name ++ (codes " room " ++ (decimal block.room ++ (codes " heap " ++ (decimal block.heap ++ codes "\n")))))) ≡ Event.Give k block
+    → give_at k (codes " give" ++ (name_text block.name ++ (codes " room " ++ (decimal block.room ++ (codes " heap " ++ (decimal block.heap ++ codes "\n"))))))
+      ≡ Event.Give k block
 give_is k block fits =
     let last : List ℕ = codes "heap " ++ (decimal block.heap ++ codes "\n") in
     let rest : List ℕ = codes "room " ++ (decimal block.room ++ 32 ∷ last) in
@@ -69,22 +73,27 @@ give_is k block fits =
     ∙ (λ i. Event.Give k record { name = block.name; room = u32_back block.room 32 last fits.room refl i; heap = of_u8 (drop 6 (room i)) })
     ∙ ap (λ h. Event.Give k record { name = block.name; room = block.room; heap = h }) (u8_back block.heap 10 [] fits.heap refl)
 
-freed_is : (k : ℕ) (name : Name) (epoch : ℕ) → FitsName name → epoch < 2 ^ 64 → freed_at k (codes " freed" ++ (name_text name ++ (codes " epoch " ++ (decimal epoch ++ codes "\n")))) ≡ Event.End k name epoch
+freed_is : (k : ℕ) (name : Name) (epoch : ℕ) → FitsName name → epoch < 2 ^ 64
+    → freed_at k (codes " freed" ++ (name_text name ++ (codes " epoch " ++ (decimal epoch ++ codes "\n")))) ≡ Event.End k name epoch
 freed_is k name epoch fits small = search (arith, past_is, name_is, number_back)
 
 size_differs_is : (k : ℕ) (name : Name) (room : ℕ) → FitsName name → room < 2 ^ 32
-    → size_differs_at k (codes " size-differs" ++ (name_text name ++ (codes " asked " ++ (decimal room ++ codes "\n")))) ≡ Event.Reject k name (Why.SizeDiffers room)
+    → size_differs_at k (codes " size-differs" ++ (name_text name ++ (codes " asked " ++ (decimal room ++ codes "\n"))))
+      ≡ Event.Reject k name (Why.SizeDiffers room)
 size_differs_is k name room fits small = search (arith, past_is, name_is, u32_back)
 
 -- ---- answers
-held_is : (page name : ℕ) → page < 2 ^ 32 → name < 2 ^ 32 → held_at (codes " held " ++ (decimal page ++ (codes " name " ++ (decimal name ++ codes "\n")))) ≡ Said.Held page name
+held_is : (page name : ℕ) → page < 2 ^ 32 → name < 2 ^ 32
+    → held_at (codes " held " ++ (decimal page ++ (codes " name " ++ (decimal name ++ codes "\n")))) ≡ Said.Held page name
 held_is page name fits small = search (arith, u32_back, past_number)
 
-young_is : (page stamp : ℕ) → page < 2 ^ 32 → stamp < 2 ^ 64 → young_at (codes " young page " ++ (decimal page ++ (codes " stamp " ++ (decimal stamp ++ codes "\n")))) ≡ Said.Young page stamp
+young_is : (page stamp : ℕ) → page < 2 ^ 32 → stamp < 2 ^ 64
+    → young_at (codes " young page " ++ (decimal page ++ (codes " stamp " ++ (decimal stamp ++ codes "\n")))) ≡ Said.Young page stamp
 young_is page stamp fits small = search (arith, u32_back, past_number, number_back)
 
 in_use_is : (page word value : ℕ) → page < 2 ^ 32 → word < 2 ^ 8 → value < 2 ^ 64
-    → in_use_at (codes " in-use page " ++ (decimal page ++ (codes " word " ++ (decimal word ++ (codes " value 0x" ++ (hex_digits 16 value ++ codes "\n")))))) ≡ Said.InUse page word value
+    → in_use_at (codes " in-use page " ++ (decimal page ++ (codes " word " ++ (decimal word ++ (codes " value 0x" ++ (hex_digits 16 value ++ codes "\n"))))))
+      ≡ Said.InUse page word value
 in_use_is page word value fits few small =
     let last : List ℕ = codes "value 0x" ++ (hex_digits 16 value ++ codes "\n") in
     let rest : List ℕ = codes "word " ++ (decimal word ++ 32 ∷ last) in
@@ -94,14 +103,17 @@ in_use_is page word value fits few small =
     ∙ (λ i. Said.InUse page (u8_back word 32 last few refl i) (hex_after 16 0 (drop 9 (of_word i))))
     ∙ ap (Said.InUse page word) (hex16_back value (codes "\n") small)
 
-kept_is : (block : Name) (name : ℕ) → FitsName block → name < 2 ^ 32 → kept_at (codes " kept" ++ (name_text block ++ (codes " name " ++ (decimal name ++ codes "\n")))) ≡ Said.Kept block name
+kept_is : (block : Name) (name : ℕ) → FitsName block → name < 2 ^ 32
+    → kept_at (codes " kept" ++ (name_text block ++ (codes " name " ++ (decimal name ++ codes "\n")))) ≡ Said.Kept block name
 kept_is block name fits small = search (arith, past_is, name_is, u32_back)
 
 guarded_is : (low high name : ℕ) → low < 2 ^ 32 → high < 2 ^ 32 → name < 2 ^ 32
-    → guarded_at (codes " guarded " ++ (decimal low ++ (codes " " ++ (decimal high ++ (codes " name " ++ (decimal name ++ codes "\n")))))) ≡ Said.Guarded low high name
+    → guarded_at (codes " guarded " ++ (decimal low ++ (codes " " ++ (decimal high ++ (codes " name " ++ (decimal name ++ codes "\n"))))))
+      ≡ Said.Guarded low high name
 guarded_is low high name fits few small = search (arith, past_number, u32_back)
 
-lowered_is : (low high : ℕ) → low < 2 ^ 32 → high < 2 ^ 32 → lowered_at (codes " lowered " ++ (decimal low ++ (codes " " ++ (decimal high ++ codes "\n")))) ≡ Said.Lowered low high
+lowered_is : (low high : ℕ) → low < 2 ^ 32 → high < 2 ^ 32
+    → lowered_at (codes " lowered " ++ (decimal low ++ (codes " " ++ (decimal high ++ codes "\n")))) ≡ Said.Lowered low high
 lowered_is low high fits small = search (arith, u32_back, past_number)
 
 -- ---- a line whose actor is k, and the letter of its word

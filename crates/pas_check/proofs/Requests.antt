@@ -15,6 +15,7 @@ use Rattle.pas_check.proofs.Kept.{EndsBy, kept_more, kept_same, small_of}
 use Rattle.pas_check.proofs.Leads.{due_lacks, due_refused, due_taken, leads_fails, leads_nowhere, leads_on}
 use Rattle.pas_check.proofs.OneNext.{one_next}
 
+-- A deed or a back is no end, and so keeps epochs small.
 pub prepares_by : (epoch k : ℕ) (d : Directory) (e : Event) → IsKind d.kind → IsPreparing k d e → EndsBy epoch e
 prepares_by epoch k d e kind (inl is) = subst (EndsBy epoch) (sym is.1) kind
 prepares_by epoch k d e kind (inr is) = subst (EndsBy epoch) (sym is.1) tt
@@ -25,6 +26,7 @@ none_of a b c (inr (inl x)) = b x
 none_of a b c (inr (inr x)) = c x
 
 module _ (old : Machine) (text : List ℕ) (from : Cursor) (k : ℕ) (w : Wanted) where
+  -- Before any line, nothing was taken of a request.
   pub request_begins : IsWithin text from → RequestGoes old old text from from k w
   request_begins within s r replaced more asked = (s, leads_nowhere (profile_of old) text s from within, refl, asked.stands, asked.kept)
 
@@ -134,6 +136,7 @@ module _ (old : Machine) (text : List ℕ) (from : Cursor) (k : ℕ) (w : Wanted
             (subst (λ g. FitsRequest g k r) (sym new_is) fits)
             (subst (λ (m : Machine). StandsFor m t.events) (sym kept) stands) (subst (λ g. TakesRefusal g t k r more line next) (sym (new_is ∙ same)) x)) takes)
 
+        -- A line that is neither a deed nor a back ends the lines of a request: it gives, refuses or fails.
         pub request_ends : (stood : Machine) → IsWithin text to → PreparingTaken mid stood k w.directory line false → (block : Option (Option Block))
             → EndingTaken stood new k w line block → RequestTaken old new text from to k w block
         request_ends stood within none block ending = request_ends_there within (refl, none.1) block (subst (λ (m : Machine). EndingTaken m new k w line block) none.0 ending)

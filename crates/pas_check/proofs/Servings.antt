@@ -30,7 +30,8 @@ class_kind shared f size align class is =
 
 -- ---- the pages under a block
 -- a page that isn't of the region has no deed
-pub no_deed : (machine : Machine) (es : List Event) (page : ℕ) (d : Directory) → StandsFor machine es → (IsPage (profile_of machine) page → ⊥) → deed_in es page ≢ Some d
+pub no_deed : (machine : Machine) (es : List Event) (page : ℕ) (d : Directory) → StandsFor machine es → (IsPage (profile_of machine) page → ⊥)
+    → deed_in es page ≢ Some d
 no_deed machine es page d stands outside has = outside (deed_page (profile_of machine) es stands.run page d has)
 
 -- the grain where a page meets a run
@@ -40,7 +41,8 @@ grain_there g n page some low high = elim (cases_lt g (256 * page)) [
   | inr after ↦ (g, and_from (nat_le g g) (nat_lt g (g + n)) (le-leb g g (omega arith)) (lt-ltb g (g + n) (omega (arith, some))), omega (arith, low, after))
 ]
 
-lies_where : (es : List Event) (block : Block) (d : Directory) → IsEach (grain_of block.name / 256) ((grain_of block.name + (length_of block - 1)) / 256 + 1) (λ page. deed_in es page ≡ Some d) → LiesOn es block d
+lies_where : (es : List Event) (block : Block) (d : Directory)
+    → IsEach (grain_of block.name / 256) ((grain_of block.name + (length_of block - 1)) / 256 + 1) (λ page. deed_in es page ≡ Some d) → LiesOn es block d
 lies_where es block d each x within = search (arith, leb-true, and_parts, ltb-true)
 
 lies_each : (es : List Event) (block : Block) (d : Directory) → 0 < length_of block → LiesOn es block d
@@ -49,15 +51,17 @@ lies_each es block d some lies page low high =
     let there = grain_there (grain_of block.name) (length_of block) page some low high in
     subst (λ p. deed_in es p ≡ Some d) there.2 (lies there.0 there.1)
 
-pub lies_both : (es : List Event) (block : Block) (d : Directory) → 0 < length_of block → (each : Bool)
+-- Each page of a block is of the directory exactly where each grain's page is.
+pub lies_as_pages_do : (es : List Event) (block : Block) (d : Directory) → 0 < length_of block → (each : Bool)
     → MatchBool each (IsEach (grain_of block.name / 256) ((grain_of block.name + (length_of block - 1)) / 256 + 1) (λ page. deed_in es page ≡ Some d))
     (IsEach (grain_of block.name / 256) ((grain_of block.name + (length_of block - 1)) / 256 + 1) (λ page. deed_in es page ≡ Some d) → ⊥)
     → MatchBool each (LiesOn es block d) (LiesOn es block d → ⊥)
-lies_both es block d some true all = lies_where es block d all
-lies_both es block d some false not_all = λ lies. not_all (lies_each es block d some lies)
+lies_as_pages_do es block d some true all = lies_where es block d all
+lies_as_pages_do es block d some false not_all = λ lies. not_all (lies_each es block d some lies)
 
 -- ---- the line of a give
 module _ (old : Machine) (k : ℕ) (w : Wanted) (line : List ℕ) where
+  -- A line that reads as no event gives no block.
   pub give_unread : ((g : Event) → FitsEvent g → line ≡ line_of_event g → None ≡ Some g) → GiveTaken old old k w line None
   give_unread none = (
     refl,
@@ -66,7 +70,9 @@ module _ (old : Machine) (k : ℕ) (w : Wanted) (line : List ℕ) where
         none-some e (none e (gives_fits (profile_of old) s small k r fits takes.block takes.is_for takes.admitted) takes.line_is),
   )
 
-  pub give_taken : (new : Machine) (e : Event) → line ≡ line_of_event e → ((g : Event) → FitsEvent g → line ≡ line_of_event g → e ≡ g) → (found : Option Block) → IsGiven old new k w e found → GiveTaken old new k w line found
+  -- A line of an event gives what its event gives, if it is a give for the request.
+  pub give_taken : (new : Machine) (e : Event) → line ≡ line_of_event e → ((g : Event) → FitsEvent g → line ≡ line_of_event g → e ≡ g) → (found : Option Block)
+      → IsGiven old new k w e found → GiveTaken old new k w line found
   give_taken new e has only (Some block) given = λ s r replaced more wants stands.
       let g = given s r wants stands in
       (record { block = block; is_for = g.1; admitted = g.2; line_is = has ∙ ap line_of_event g.0; next_is = refl }, g.3)
@@ -79,11 +85,13 @@ module _ (old : Machine) (k : ℕ) (w : Wanted) (line : List ℕ) where
 
 -- ---- a refusal
 module _ (machine : Machine) (k : ℕ) (w : Wanted) (line : List ℕ) where
+  -- A line that reads as no record refuses nothing.
   pub refusal_unread : (few : k < 2 ^ 8) → ((r : Record) → Fits r → line ≡ line_of r → None ≡ Some r) → RefusalSeen machine k w line false
   refusal_unread few none = λ s r more next wants small fits stands takes.
       let item = Record.Said k takes.said in
       none-some item (none item (few, refusal_fits (profile_of machine) s small k r fits takes.said takes.refuses) takes.line_is)
 
+  -- A line of a record refuses where that is a refusal of the request.
   pub refusal_seen : (few : k < 2 ^ 8) (item : Record) → line ≡ line_of item → ((r : Record) → Fits r → line ≡ line_of r → item ≡ r)
       → (seen : Bool) → ((s : Stand) (r : Request) → IsWanted (profile_of machine) r w → StandsFor machine s.events
       → MatchBool seen (RefusesBy (profile_of machine) s k r item) (RefusesBy (profile_of machine) s k r item → ⊥)) → RefusalSeen machine k w line seen

@@ -66,26 +66,32 @@ module _ (k : ℕ) (entry : Entry) (epoch : ℕ) (line : List ℕ) (old : Machin
     )
 
 -- ---- the event of a line
-pub event_some : (item : Record) (found : Option Event) (line : List ℕ) → found ≡ event_in item → line ≡ line_of item → IfSome found (λ e. line ≡ line_of_event e)
+pub event_some : (item : Record) (found : Option Event) (line : List ℕ) → found ≡ event_in item → line ≡ line_of item
+    → IfSome found (λ e. line ≡ line_of_event e)
 event_some (Record.Event e) found line is has = subst (λ o. IfSome o (λ g. line ≡ line_of_event g)) (sym is) has
 event_some other found line is has = subst (λ o. IfSome o (λ g. line ≡ line_of_event g)) (sym is) tt
 
+-- The event in a record of an event is that event.
 pub event_only : (item : Record) (found : Option Event) (e : Event) → found ≡ event_in item → Some item ≡ Some (Record.Event e) → found ≡ Some e
 event_only item found e is same = is ∙ ap event_in (same_Some item (Record.Event e) same)
 
 -- ---- deeds and backs
 -- what is admitted is of a page of the region, so its number fits
-fits_preparing : (f : Profile) (es : List Event) (k : ℕ) (d : Directory) (e : Event) → IsValid f → k < 2 ^ 8 → d.heap < 2 ^ 8 → IsKind d.kind → IsPreparing k d e → Admits f es e → FitsEvent e
+fits_preparing : (f : Profile) (es : List Event) (k : ℕ) (d : Directory) (e : Event) → IsValid f → k < 2 ^ 8 → d.heap < 2 ^ 8 → IsKind d.kind
+    → IsPreparing k d e → Admits f es e → FitsEvent e
 fits_preparing f es k d e valid few heap kind (inl is) admitted = search arith
 fits_preparing f es k d e valid few heap kind (inr is) admitted = search arith
 
-module _ (k : ℕ) (d : Directory) (few : k < 2 ^ 8) (heap : d.heap < 2 ^ 8) (kind : IsKind d.kind) (line : List ℕ) (old : Machine) (valid : IsValid (profile_of old)) where
+module _ (k : ℕ) (d : Directory) (few : k < 2 ^ 8) (heap : d.heap < 2 ^ 8) (kind : IsKind d.kind) (line : List ℕ) (old : Machine)
+    (valid : IsValid (profile_of old)) where
   preparing_refused : (new : Machine) → new ≡ old
       → ((e : Event) → FitsEvent e → IsPreparing k d e → line ≡ line_of_event e → (es : List Event) → StandsFor old es → IsFew es
       → Admits (profile_of old) es e → ⊥) → PreparingTaken old new k d line false
   preparing_refused new kept none = search (arith, fits_preparing)
 
-  pub preparing_stepped : (new : Machine) (e : Event) → line ≡ line_of_event e → ((g : Event) → FitsEvent g → line ≡ line_of_event g → e ≡ g) → IsPreparing k d e
+  -- A deed or a back for a request is taken exactly where the machine takes it.
+  pub preparing_stepped : (new : Machine) (e : Event) → line ≡ line_of_event e → ((g : Event) → FitsEvent g → line ≡ line_of_event g → e ≡ g)
+      → IsPreparing k d e
       → (taken : Bool) → IsStepped old new e taken → PreparingTaken old new k d line taken
   preparing_stepped new e is only may true stepped = λ s r stands same.
       let taken = stepped s.events stands in
@@ -94,9 +100,12 @@ module _ (k : ℕ) (d : Directory) (few : k < 2 ^ 8) (heap : d.heap < 2 ^ 8) (ki
       preparing_refused new stepped.0 (λ g fits other has es stands low admitted.
       stepped.1 es stands low (subst (Admits (profile_of old) es) (sym (only g fits has)) admitted))
 
-  pub preparing_other : (e : Event) → ((g : Event) → FitsEvent g → line ≡ line_of_event g → e ≡ g) → (IsPreparing k d e → ⊥) → PreparingTaken old old k d line false
+  -- An event that is no deed or back for a request isn't taken as one.
+  pub preparing_other : (e : Event) → ((g : Event) → FitsEvent g → line ≡ line_of_event g → e ≡ g) → (IsPreparing k d e → ⊥)
+      → PreparingTaken old old k d line false
   preparing_other e only other = preparing_refused old refl (λ g fits may has es stands low admitted.
       other (subst (IsPreparing k d) (sym (only g fits has)) may))
 
+  -- A line that reads as no event isn't taken as a deed or a back.
   pub preparing_none : ((g : Event) → FitsEvent g → line ≡ line_of_event g → None ≡ Some g) → PreparingTaken old old k d line false
   preparing_none none = preparing_refused old refl (λ g fits may has es stands low admitted. none-some g (none g fits has))

@@ -18,11 +18,13 @@ use Rattle.pas_check.proofs.{Kept.kept_more, Kept.kept_same, Kept.small_of, OneN
 use Rattle.pas_check.proofs.Leads.{IsSameAt, due_lacks, due_refused, due_taken, due_takes, leads_fails, leads_idly, leads_nowhere, leads_on, takes_due, undone}
 
 -- what was due before a guard is raised has no part in it
-raise_due : (sides : Bool) (v : Stand) (due : List Due) (keeper name : ℕ) (block : Block) (more : List Due) → raising sides (with_due v due) keeper name block more ≡ raising sides v keeper name block more
+raise_due : (sides : Bool) (v : Stand) (due : List Due) (keeper name : ℕ) (block : Block) (more : List Due)
+    → raising sides (with_due v due) keeper name block more ≡ raising sides v keeper name block more
 raise_due true v due keeper name block more = refl
 raise_due false v due keeper name block more = refl
 
 module _ (old : Machine) (text : List ℕ) (from : Cursor) (keeper : ℕ) (w : Wanted) where
+  -- Before any line, nothing was taken of a keeper's try.
   pub trial_begins : IsWithin text from → TrialGoes old old text from from keeper w false
   trial_begins within s k r more asked = (
     s.events,
@@ -68,7 +70,8 @@ module _ (old : Machine) (text : List ℕ) (from : Cursor) (keeper : ℕ) (w : W
             (leads_fails (before s k r more asked).1 (due_refused (profile_of old) t (Tries keeper k r backed) more refl refl text at line (lines_from text to) has never))
 
       -- a deed or a back
-      pub trial_goes_on : (new : Machine) → IsWithin text to → PreparingTaken mid new keeper w.directory line true → (now : Bool) → BacksBy backed line now → TrialGoes old new text from to keeper w now
+      pub trial_goes_on : (new : Machine) → IsWithin text to → PreparingTaken mid new keeper w.directory line true → (now : Bool) → BacksBy backed line now
+          → TrialGoes old new text from to keeper w now
       trial_goes_on new within taken now is s k r more asked =
           let f = profile_of old in
           let b = before s k r more asked in
@@ -95,7 +98,8 @@ module _ (old : Machine) (text : List ℕ) (from : Cursor) (keeper : ℕ) (w : W
       same_block : (es : List Event) (b c : Block) → Event.Give keeper b ∷ es ≡ Event.Give keeper c ∷ es → b ≡ c
       same_block es b c is = cc
 
-      gives_there : (new : Machine) → IsWithin text to → (block : Block) → GiveTaken mid new keeper w line (Some block) → TrialTaken old new text from to keeper w (Gives block)
+      gives_there : (new : Machine) → IsWithin text to → (block : Block) → GiveTaken mid new keeper w line (Some block)
+          → TrialTaken old new text from to keeper w (Gives block)
       gives_there new within block taken s k r more asked =
           let f = profile_of old in
           let b = before s k r more asked in
@@ -120,14 +124,17 @@ module _ (old : Machine) (text : List ℕ) (from : Cursor) (keeper : ℕ) (w : W
             kept_more (record s { events = give ∷ b.0 }) u at to give refl refl count tt (t_kept s k r more asked),
           )
 
-      trial_gives : (stood new : Machine) → IsWithin text to → PreparingTaken mid stood keeper w.directory line false → (block : Block) → GiveTaken stood new keeper w line (Some block)
+      trial_gives : (stood new : Machine) → IsWithin text to → PreparingTaken mid stood keeper w.directory line false → (block : Block)
+          → GiveTaken stood new keeper w line (Some block)
           → TrialTaken old new text from to keeper w (Gives block)
       trial_gives stood new within none block given = gives_there new within block (subst (λ (m : Machine). GiveTaken m new keeper w line (Some block)) none.0 given)
 
       -- neither of them
       not_kept : (stood new : Machine) → PreparingTaken mid stood keeper w.directory line false → GiveTaken stood new keeper w line None
           → (s : Stand) (k : ℕ) (r : Request) (more : List Due) (asked : IsTrying old s from keeper k w r more) (next : Stand)
-          → TakesKeeping (profile_of old) (t s k r more asked) keeper k r backed more line next ⊎ TakesGuarded (profile_of old) (t s k r more asked) keeper r more line next → ⊥
+          → TakesKeeping (profile_of old) (t s k r more asked) keeper k r backed more line next
+            ⊎ TakesGuarded (profile_of old) (t s k r more asked) keeper r more line next
+          → ⊥
       not_kept stood new none given s k r more asked next (inl x) =
           let u = t s k r more asked in
           let takes : TakesPreparing (profile_of old) u keeper r line (with_one u x.event) = record { event = x.event; prepares = x.prepares; admitted = x.admitted; line_is = x.line_is; next_is = refl } in
@@ -141,7 +148,8 @@ module _ (old : Machine) (text : List ℕ) (from : Cursor) (keeper : ℕ) (w : W
           here.1 u r None more after (wants_mid r asked.wants) (subst (λ g. IsSmall g u) (sym same) (small s k r more asked)) (subst (λ g. FitsRequest g keeper r) (sym same) asked.fits.kept)
           (before s k r more asked).2 (few s k r more asked) (subst (λ g. TakesGive g u keeper r None more line after) (sym same) takes)
 
-      trial_stops : (stood new : Machine) → PreparingTaken mid stood keeper w.directory line false → GiveTaken stood new keeper w line None → backed ≡ true → TrialTaken old new text from to keeper w Stops
+      trial_stops : (stood new : Machine) → PreparingTaken mid stood keeper w.directory line false → GiveTaken stood new keeper w line None → backed ≡ true
+          → TrialTaken old new text from to keeper w Stops
       trial_stops stood new none given has_backed s k r more asked = fails_to s k r more asked never
         where
           never : (next : Stand) → TakesTry (profile_of old) (t s k r more asked) keeper k r backed more line next → ⊥
@@ -151,7 +159,8 @@ module _ (old : Machine) (text : List ℕ) (from : Cursor) (keeper : ℕ) (w : W
 
       module _ (stood new : Machine) (none : PreparingTaken mid stood keeper w.directory line false) (given : GiveTaken stood new keeper w line None)
           (s : Stand) (k : ℕ) (r : Request) (more : List Due) (asked : IsTrying old s from keeper k w r more) (next : Stand) where
-        by_thread : TakesTry (profile_of old) (t s k r more asked) keeper k r backed more line next → Takes (profile_of old) (serving (t s k r more asked) k r more) line next
+        by_thread : TakesTry (profile_of old) (t s k r more asked) keeper k r backed more line next
+            → Takes (profile_of old) (serving (t s k r more asked) k r more) line next
         by_thread (inl x) = absurd (not_kept stood new none given s k r more asked next (inl x))
         by_thread (inr (inl x)) = absurd (not_kept stood new none given s k r more asked next (inr x))
         by_thread (inr (inr x)) = due_takes (profile_of old) (serving (t s k r more asked) k r more) (Serves k r None) more refl refl line next x.1
@@ -159,11 +168,13 @@ module _ (old : Machine) (text : List ℕ) (from : Cursor) (keeper : ℕ) (w : W
         passes_on : Takes (profile_of old) (t s k r more asked) line next → Takes (profile_of old) (serving (t s k r more asked) k r more) line next
         passes_on x = by_thread (takes_due (profile_of old) (t s k r more asked) (Tries keeper k r backed) more refl refl line next x)
 
-        passes_back : backed ≡ false → Takes (profile_of old) (serving (t s k r more asked) k r more) line next → Takes (profile_of old) (t s k r more asked) line next
+        passes_back : backed ≡ false → Takes (profile_of old) (serving (t s k r more asked) k r more) line next
+            → Takes (profile_of old) (t s k r more asked) line next
         passes_back none_backed x = due_takes (profile_of old) (t s k r more asked) (Tries keeper k r backed) more refl refl line next
             (inr (inr (none_backed, takes_due (profile_of old) (serving (t s k r more asked) k r more) (Serves k r None) more refl refl line next x)))
 
-      trial_passes : (stood new : Machine) → IsWithin text at → PreparingTaken mid stood keeper w.directory line false → GiveTaken stood new keeper w line None → backed ≡ false
+      trial_passes : (stood new : Machine) → IsWithin text at → PreparingTaken mid stood keeper w.directory line false → GiveTaken stood new keeper w line None
+          → backed ≡ false
           → TrialTaken old new text from to keeper w (Passes at)
       trial_passes stood new within none given none_backed s k r more asked =
           let f = profile_of old in
@@ -179,7 +190,8 @@ module _ (old : Machine) (text : List ℕ) (from : Cursor) (keeper : ℕ) (w : W
           )
 
       -- either of them
-      pub trial_ends : (stood new : Machine) → IsWithin text at → IsWithin text to → PreparingTaken mid stood keeper w.directory line false → (trial : Trial) → TrialEnded stood new keeper w line backed at trial
+      pub trial_ends : (stood new : Machine) → IsWithin text at → IsWithin text to → PreparingTaken mid stood keeper w.directory line false → (trial : Trial)
+          → TrialEnded stood new keeper w line backed at trial
           → TrialTaken old new text from to keeper w trial
       trial_ends stood new behind within none (Gives block) ended = trial_gives stood new within none block ended
       trial_ends stood new behind within none (Passes place) ended =
@@ -187,7 +199,8 @@ module _ (old : Machine) (text : List ℕ) (from : Cursor) (keeper : ℕ) (w : W
       trial_ends stood new behind within none Stops ended = trial_stops stood new none ended.0 ended.1
 
 -- the place behind the lines
-pub trial_stays : (old new : Machine) (text : List ℕ) (keeper : ℕ) (w : Wanted) (line : List ℕ) (backed : Bool) (at to : Cursor) → IsWithin text at → IsWithin text to → (trial : Trial)
+pub trial_stays : (old new : Machine) (text : List ℕ) (keeper : ℕ) (w : Wanted) (line : List ℕ) (backed : Bool) (at to : Cursor) → IsWithin text at
+    → IsWithin text to → (trial : Trial)
     → TrialEnded old new keeper w line backed at trial → TrialStays text to trial
 trial_stays old new text keeper w line backed at to behind within (Gives block) ended = within
 trial_stays old new text keeper w line backed at to behind within (Passes place) ended = subst (λ (p : Cursor). IsWithin text p) (sym ended.2) behind

@@ -47,6 +47,7 @@ module _ (f : Profile) (s : Stand) (lines : List (List ℕ)) where
     ]
   ]
 
+-- A transcript has at most one verdict for its plan.
 pub one_verdict : (plan : Plan) (text : List ℕ) (v w : Verdict) → IsVerdict plan text v → IsVerdict plan text w → v ≡ w
 one_verdict plan text Yes Yes a b = refl
 one_verdict plan text Yes (No m) a b = absurd (no_whole plan.profile (at_first plan) (lines_in text) m b a)

@@ -22,16 +22,20 @@ plan_planned : (text : List ℕ) (plan : Plan) → IsPlanOf text plan → ArePla
 plan_planned text plan is =
     all_planned plan.profile plan.names_limit plan.guard [] (all_ops (map ops_of (phases_of plan.phases))) (every_plan is).valid.threads (every_plan is).operations (every_plan is).names (every_plan is).keepers
 
-pub planned_there : (text : List ℕ) (plan : Plan) (judge : Judge) (phases : List Phase) → IsPlanOf text plan → IsOpened plan judge → phases ≡ phases_of plan.phases
+-- The operations of a plan of a text are planned for the judge that was opened for it.
+pub planned_there : (text : List ℕ) (plan : Plan) (judge : Judge) (phases : List Phase) → IsPlanOf text plan → IsOpened plan judge
+    → phases ≡ phases_of plan.phases
     → ArePlanned (profile_of judge.machine) (names_held judge.names) (all_ops (map ops_of phases))
 planned_there text plan judge phases is opened same =
     rw (opened.profile, opened.names, same) (plan_planned text plan is)
 
+-- At its beginning a check stands within the transcript.
 pub opening_within : (transcript : List ℕ) → length transcript ≤ 16777216 → IsWithin transcript opening
 opening_within transcript short = record { bytes = omega arith; lines = omega arith; short = short }
 
 -- ---- the check begins
-module _ (text : List ℕ) (plan : Plan) (transcript : List ℕ) (judge : Judge) (is : IsPlanOf text plan) (short : length text ≤ 16777216) (opened : IsOpened plan judge)
+module _ (text : List ℕ) (plan : Plan) (transcript : List ℕ) (judge : Judge) (is : IsPlanOf text plan) (short : length text ≤ 16777216)
+    (opened : IsOpened plan judge)
     (within : IsWithin transcript opening) where
   so_far : IsSoFar plan.profile transcript (at_first plan) judge opening (acts_of plan.profile.threads (keepers_of plan) (map ops_of (phases_of plan.phases)))
   so_far =
@@ -51,23 +55,29 @@ no_verdict : (plan : Plan) (transcript : List ℕ) (n : ℕ) → Fails plan.prof
 no_verdict plan transcript n fails = search (arith, fails.number_is, fails.stopped)
 
 -- ---- the acts
-module _ (text : List ℕ) (plan : Plan) (transcript : List ℕ) (old new : Judge) (to : Cursor) (is : IsPlanOf text plan) (short : length text ≤ 16777216) (opened : IsOpened plan old)
+module _ (text : List ℕ) (plan : Plan) (transcript : List ℕ) (old new : Judge) (to : Cursor) (is : IsPlanOf text plan) (short : length text ≤ 16777216)
+    (opened : IsOpened plan old)
     (within : IsWithin transcript opening) where
-  same_threads : acts_of (threads_in old) (keepers_of plan) (map ops_of (phases_of plan.phases)) ≡ acts_of plan.profile.threads (keepers_of plan) (map ops_of (phases_of plan.phases))
+  same_threads : acts_of (threads_in old) (keepers_of plan) (map ops_of (phases_of plan.phases))
+      ≡ acts_of plan.profile.threads (keepers_of plan) (map ops_of (phases_of plan.phases))
   same_threads = ap (λ (f : Profile). acts_of f.threads (keepers_of plan) (map ops_of (phases_of plan.phases))) opened.profile
 
   -- from the cursor, with the phases and the keepers as they are called there
-  module _ (from : Cursor) (phases : List Phase) (keepers : ℕ) (start : from ≡ opening) (same : phases ≡ phases_of plan.phases) (kept : keepers ≡ keepers_of plan) where
+  module _ (from : Cursor) (phases : List Phase) (keepers : ℕ) (start : from ≡ opening) (same : phases ≡ phases_of plan.phases)
+      (kept : keepers ≡ keepers_of plan) where
     there : (taken : Bool) → TakenTo transcript old from new to (acts_of (threads_in old) keepers (map ops_of phases)) [] taken
         → TakenTo transcript old opening new to (acts_of (threads_in old) (keepers_of plan) (map ops_of (phases_of plan.phases))) [] taken
     there taken done = rw (start, same, kept) at done
 
+    -- Where the lines of the plan's acts fail, the verdict is no, at that line.
     pub acts_amiss : TakenTo transcript old from new to (acts_of (threads_in old) keepers (map ops_of phases)) [] false → new.lacks_memory ≡ false
         → IsVerdict plan transcript (No to.lines)
     acts_amiss done enough = no_verdict plan transcript to.lines
         (there false done plan.profile (at_first plan) (so_far_as (sym same_threads) (so_far text plan transcript old is short opened within)) enough)
 
-    pub acts_on : TakenTo transcript old from new to (acts_of (threads_in old) keepers (map ops_of phases)) [] true → IsSoFar plan.profile transcript (at_first plan) new to []
+    -- Where the lines of the plan's acts were taken, nothing is left but the report.
+    pub acts_on : TakenTo transcript old from new to (acts_of (threads_in old) keepers (map ops_of phases)) [] true
+        → IsSoFar plan.profile transcript (at_first plan) new to []
     acts_on done = there true done plan.profile (at_first plan) (so_far_as (sym same_threads) (so_far text plan transcript old is short opened within))
 
 -- ---- after the acts
@@ -83,9 +93,11 @@ module _ (plan : Plan) (transcript : List ℕ) (judge : Judge) (at : Cursor) (so
   begins = leads_on so.led (leads_alike plan.profile transcript so.stand reported at so.led.within (begun_alike plan.profile so.stand Reports [] so.due so.left))
 
   module _ (to : Cursor) (f : Profile) (same : f ≡ plan.profile) where
-    report_led : (taken : Bool) → IsLed f transcript reported at (with_due reported []) to taken → IsLed plan.profile transcript reported at (with_due reported []) to taken
+    report_led : (taken : Bool) → IsLed f transcript reported at (with_due reported []) to taken
+        → IsLed plan.profile transcript reported at (with_due reported []) to taken
     report_led taken led = subst (λ (g : Profile). IsLed g transcript reported at (with_due reported []) to taken) same led
 
+    -- Where a line of the report fails, the verdict is no, at that line.
     pub report_amiss : IsLed f transcript reported at (with_due reported []) to false → IsVerdict plan transcript (No to.lines)
     report_amiss led = no_verdict plan transcript to.lines (leads_fails begins (report_led false led))
 
@@ -93,10 +105,13 @@ module _ (plan : Plan) (transcript : List ℕ) (judge : Judge) (at : Cursor) (so
       ended : Leads plan.profile transcript (at_first plan) opening (with_due reported []) to
       ended = leads_on begins (report_led true led)
 
+      -- Where the report was taken and no line is left, the verdict is yes.
       pub ended_well : lines_from transcript to ≡ [] → IsVerdict plan transcript Yes
       ended_well none = ended.whole.1 (subst (λ (ls : List (List ℕ)). IsWhole plan.profile (with_due reported []) ls) (sym none) (with_due reported [], refl, refl))
 
-      pub goes_on : (line : List ℕ) (last : Cursor) → lines_from transcript to ≡ line ∷ lines_from transcript last → last.lines ≡ to.lines + 1 → IsVerdict plan transcript (No last.lines)
+      -- Where a line is left behind the report, the verdict is no, at that line.
+      pub goes_on : (line : List ℕ) (last : Cursor) → lines_from transcript to ≡ line ∷ lines_from transcript last → last.lines ≡ to.lines + 1
+          → IsVerdict plan transcript (No last.lines)
       goes_on line last has count =
           no_verdict plan transcript last.lines (subst (Fails plan.profile transcript (at_first plan) opening) (sym count)
           (leads_fails ended (fails_line plan.profile transcript (with_due reported []) to line (lines_from transcript last) has never)))

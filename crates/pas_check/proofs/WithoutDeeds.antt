@@ -70,7 +70,9 @@ module _ (n : ℕ) (all : n ≡ 256) (es : List Event) where
   none_live_of f run page none =
       sym (grains_counted n _ all) ∙ none_counted n _ (λ b low. no_block f es run (16 * (256 * page + b)) (ap (deed_in es) (omega (arith, low, all)) ∙ none))
 
-  live_more_of : (k : ℕ) → count_below (256 * (k + 1)) (λ i. has_block (live_in es (address_at i))) ≡ count_below (256 * k) (λ i. has_block (live_in es (address_at i))) + live_on es (k + 1)
+  live_more_of : (k : ℕ)
+      → count_below (256 * (k + 1)) (λ i. has_block (live_in es (address_at i)))
+        ≡ count_below (256 * k) (λ i. has_block (live_in es (address_at i))) + live_on es (k + 1)
   live_more_of k =
       let p : ℕ → Bool = λ i. has_block (live_in es (address_at i)) in
       let e : 256 * (k + 1) ≡ 256 * k + n = omega (arith, all) in
@@ -78,7 +80,8 @@ module _ (n : ℕ) (all : n ≡ 256) (es : List Event) where
       ∙ ap (λ m. count_below (256 * k) p + m) (count_same n (λ b. p (256 * k + b)) (λ b. has_block (live_in es (16 * (256 * (k + 1) + b)))) (λ b low. ap (λ a. has_block (live_in es a)) (omega arith))
       ∙ grains_counted n _ all)
 
-  given_more_of : (k : ℕ) → sum_below (256 * (k + 1)) (λ i. gives_in es (address_at i)) ≡ sum_below (256 * k) (λ i. gives_in es (address_at i)) + given_on es (k + 1)
+  given_more_of : (k : ℕ)
+      → sum_below (256 * (k + 1)) (λ i. gives_in es (address_at i)) ≡ sum_below (256 * k) (λ i. gives_in es (address_at i)) + given_on es (k + 1)
   given_more_of k =
       let v : ℕ → ℕ = λ i. gives_in es (address_at i) in
       let e : 256 * (k + 1) ≡ 256 * k + n = omega (arith, all) in
@@ -90,12 +93,17 @@ module _ (n : ℕ) (all : n ≡ 256) (es : List Event) where
 pub none_given : (es : List Event) (f : Profile) → Run f es → (page : ℕ) → deed_in es page ≡ None → given_on es page ≡ 0
 none_given es = none_given_of 256 refl es
 
+-- On a page without a deed no block lives.
 pub none_live : (es : List Event) (f : Profile) → Run f es → (page : ℕ) → deed_in es page ≡ None → live_on es page ≡ 0
 none_live es = none_live_of 256 refl es
 
 -- ---- the blocks of the region, one page more
-pub live_more : (es : List Event) (k : ℕ) → count_below (256 * (k + 1)) (λ i. has_block (live_in es (address_at i))) ≡ count_below (256 * k) (λ i. has_block (live_in es (address_at i))) + live_on es (k + 1)
+pub live_more : (es : List Event) (k : ℕ)
+    → count_below (256 * (k + 1)) (λ i. has_block (live_in es (address_at i)))
+      ≡ count_below (256 * k) (λ i. has_block (live_in es (address_at i))) + live_on es (k + 1)
 live_more es = live_more_of 256 refl es
 
-pub given_more : (es : List Event) (k : ℕ) → sum_below (256 * (k + 1)) (λ i. gives_in es (address_at i)) ≡ sum_below (256 * k) (λ i. gives_in es (address_at i)) + given_on es (k + 1)
+-- The blocks that were given on the pages up to one are those on the pages before it and its own.
+pub given_more : (es : List Event) (k : ℕ)
+    → sum_below (256 * (k + 1)) (λ i. gives_in es (address_at i)) ≡ sum_below (256 * k) (λ i. gives_in es (address_at i)) + given_on es (k + 1)
 given_more es = given_more_of 256 refl es

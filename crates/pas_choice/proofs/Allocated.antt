@@ -30,6 +30,7 @@ use Rattle.pas_choice.specs.declared.choosing.Run.{Run}
 room_for_one : (f : Profile) (spare : ℕ) (v : View) → HasRoom f 2 spare v → HasRoom f 1 spare v
 room_for_one f spare v room = (omega (arith, room.0), elim room.1 [ inl all ↦ inl all | inr more ↦ inr (omega (arith, more)) ])
 
+-- Who has room for a search and two events has it for a search and one.
 pub room_to_search : {σ : Standing} {f : Profile} {d : Directory} {spare : ℕ} → CanCall σ (SearchRoom f d 2 spare) → CanCall σ (SearchRoom f d 1 spare)
 room_to_search {f = f} {spare = spare} can =
     record { view = can.view; whole = can.whole; stood = can.stood; met = record { may = can.met.may; room = room_for_one f spare can.view can.met.room } }
@@ -39,7 +40,9 @@ few_deeds m f g (inl a) = let z = f a in omega (arith, z)
 few_deeds m f g (inr b) = let z = g b in omega (arith, z)
 
 -- a grain that was taken and given is as it was, since it wasn't held
-taken_given : (t u held : Bool) → t ≡ u → (t ≡ true → held ≡ false) → (later (if t then Gained else Kept) (if u then Lost else Kept) ≡ Kept) ⊎ ((held ≡ false) × (now (later (if t then Gained else Kept) (if u then Lost else Kept)) false ≡ false))
+taken_given : (t u held : Bool) → t ≡ u → (t ≡ true → held ≡ false)
+    → (later (if t then Gained else Kept) (if u then Lost else Kept) ≡ Kept)
+      ⊎ ((held ≡ false) × (now (later (if t then Gained else Kept) (if u then Lost else Kept)) false ≡ false))
 taken_given true true held e none = inr (none refl, refl)
 taken_given true false held e none = absurd (true≢false e)
 taken_given false true held e none = absurd (true≢false (sym e))
@@ -48,9 +51,11 @@ taken_given false false held e none = inl refl
 abbrev may_search : {σ : Standing} {d : Directory} {n spare : ℕ} → CanCall σ (SearchRoom σ.seat.profile d n spare) → CanCall σ (MaySearch d)
 may_search can = record { view = can.view; whole = can.whole; stood = can.stood; met = can.met.may }
 
-module _ {Found : Type 0} (choice : Choice Found) (run : Found → Run) (law : (readings : Readings) (found : Found) → choice.asked → choice.chosen readings found → IsRunOf (choice.kept found) (run found)) (asked : choice.asked)
+module _ {Found : Type 0} (choice : Choice Found) (run : Found → Run)
+    (law : (readings : Readings) (found : Found) → choice.asked → choice.chosen readings found → IsRunOf (choice.kept found) (run found)) (asked : choice.asked)
     (d : Directory) {Chosen : List Made → Type 0} {σ σ1 : Standing} (of_profile : IsDirectoryOf σ.seat.profile d) (served : Served Found) {xs : List Made} (adds : Adds σ σ1 (MaySearch d) xs)
     (finds : Finds (choosing choice) σ.seat.profile d Chosen xs served) (r : Run) (r_is : r ≡ run served.found) where
+  -- What a search found by a choice is its run.
   pub is_run : IsRunOf (choice.kept served.found) r
   is_run = subst (IsRunOf (choice.kept served.found)) (sym r_is) (law finds.serves.readings served.found asked finds.serves.chosen)
 
@@ -86,12 +91,15 @@ module _ {Found : Type 0} (choice : Choice Found) (run : Found → Run) (law : (
       may_give_on d page first n (subst (λ s. IsDirectoryOf s.profile d) (sym adds.seat_is) of_profile) is_run.within
       (λ g inside. kept.found.keeps.does.held g ∙ ap (λ t. now (if t then Gained else Kept) (holds v g)) (in_region g ∙ inside)) kept.found.deed kept.found.keeps.backed clear.stamped
 
+  -- The run that a search found lies within the region.
   pub run_within : served.page * 256 + r.first + r.grains ≤ 256 * (σ1.seat.profile.pages + 1)
   run_within = let of : IsPage σ1.seat.profile page = subst (λ s. IsPage s.profile page) (sym adds.seat_is) finds.page in omega (arith, of.1, is_run.within)
 
+  -- The block of the run that a search found may be given.
   pub can_give : {spare : ℕ} → CanCall σ (SearchRoom σ.seat.profile d 2 spare) → CanCall σ1 (MayGive σ1.seat.profile d.heap served.page r.first r.grains)
   can_give can = next_call new_call (may_search can) may_give
 
+  -- After the search there is room for the event of the give.
   pub room_to_give : {spare spare1 : ℕ} → deeds_made xs ≤ 1 → Spares σ spare → Spares σ1 spare1 → CanCall σ (SearchRoom σ.seat.profile d 2 spare) → 1 ≤ spare1
   room_to_give {spare} {spare1} made law law' can =
       let k : ℕ = σ.seat.actor in
@@ -116,7 +124,8 @@ module _ {Found : Type 0} (choice : Choice Found) (run : Found → Run) (law : (
       apart : (g : ℕ) → in_run (grain_of block.name) (length_of block) g ≡ true → holds v g ≡ false
       turn : block.name.turn < 2 ^ 37
 
-    give_call : Calls σ1 σ2 (λ v. MayGive σ1.seat.profile d.heap page first n v × KnowsDeed page d v) (λ v w. GaveRun page first n block v w × KnowsDeed page d w) given
+    give_call : Calls σ1 σ2 (λ v. MayGive σ1.seat.profile d.heap page first n v
+          × KnowsDeed page d v) (λ v w. GaveRun page first n block v w × KnowsDeed page d w) given
     give_call = call_knows page d (call_as (GaveRun page first n block) gives.calls (λ v met. met.0) (λ v w met gave. gave)) (λ v met. met.1)
 
     gave_call : Calls σ σ2 (MaySearch d) (λ v w. Gave v w × KnowsDeed page d w) (given ++ xs)
@@ -133,6 +142,7 @@ module _ {Found : Type 0} (choice : Choice Found) (run : Found → Run) (law : (
     may_leave : (v : View) → MaySearch d v → Gave v ((given ++ xs) ++ v) × KnowsDeed page d ((given ++ xs) ++ v) → MayLeave page d ((given ++ xs) ++ v)
     may_leave v met gave = record { right = gave.0.does.right page ∙ ap (λ t. now (if t then Gained else Kept) (has_right v page)) (eq-eqb page page refl); deed = gave.1 }
 
+    -- After its block was given, the page may be left.
     pub can_leave : {spare : ℕ} → CanCall σ (SearchRoom σ.seat.profile d 2 spare) → CanCall σ2 (MayLeave served.page d)
     can_leave can = next_call gave_call (may_search can) may_leave
 
@@ -183,6 +193,7 @@ one_deed choice d {σ = σ} served searches = let f : Profile = σ.seat.profile 
     few_deeds (deeds_made xs) (λ (c : FromOffered choice.no_fit d served.page xs). c.no_deed)
     (λ (c : ByDeed choice.no_fit f d served.page xs). c.one_deed) searches.outcome.choice
 
+-- A run that was found, given and left is allocated.
 pub allocates : {Found : Type 0} (choice : Choice Found) (run : Found → Run) (law : IsLaw choice run) (asked : choice.asked) (d : Directory) {tells : Bool}
     {σ σ1 σ2 σ3 : Standing} (of_profile : IsDirectoryOf σ.seat.profile d) (served : Served Found)
     (searches : Searches (choosing choice) tells d σ σ1 (Ok served)) (r : Run) (r_is : r ≡ run served.found) (block : Block)
@@ -215,7 +226,9 @@ allocates choice run law asked d {σ = σ} of_profile served searches r r_is blo
           (sym (page_is choice run law asked d of_profile served searches.adds searches.outcome r r_is block gives left)) (searches.told t v l stood met);
     }
 
-pub refuses : {Found : Type 0} (choice : Choice Found) (run : Found → Run) (d : Directory) {tells : Bool} {σ σ1 : Standing} (why : NoRoom) → Searches (choosing choice) tells d σ σ1 (Err why) → AllocatesRun choice run d tells σ σ1 (Err why)
+-- A search that was refused allocates nothing, for its reason.
+pub refuses : {Found : Type 0} (choice : Choice Found) (run : Found → Run) (d : Directory) {tells : Bool} {σ σ1 : Standing} (why : NoRoom)
+    → Searches (choosing choice) tells d σ σ1 (Err why) → AllocatesRun choice run d tells σ σ1 (Err why)
 refuses choice run d why searches = record { searched = searches.steps; searches = searches.searches; few = searches.few; after = []; adds = searches.adds; outcome = (searches.outcome, refl); told = searches.told }
 
 -- ---- by a rule over pages

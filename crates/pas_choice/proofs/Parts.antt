@@ -32,7 +32,8 @@ idle_keeps : (kept : ℕ → Bool) (page : ℕ) (m : Made) → is_in (LookFree �
 idle_keeps kept page m is word mask g same here = let none : true ≡ false = sym is ∙ ap (λ s. is_in (LookFree ∷ []) (kind_of s)) same in absurd (true≢false none)
 
 -- takes of these grains alone
-takes_kept : (page : ℕ) (grains : Mask4) (kept : ℕ → Bool) → ((b : ℕ) → b < 256 → is_set grains b ≡ kept b) → (answers : ℕ → ℕ) (n : ℕ) → Always (λ m before. TakesKept kept page m) (takes page (words grains) answers n)
+takes_kept : (page : ℕ) (grains : Mask4) (kept : ℕ → Bool) → ((b : ℕ) → b < 256 → is_set grains b ≡ kept b) → (answers : ℕ → ℕ) (n : ℕ)
+    → Always (λ m before. TakesKept kept page m) (takes page (words grains) answers n)
 takes_kept page grains kept exactly answers = takes_always page (words grains) answers (TakesKept kept page) (λ taken word mask g same here.
     let word_is : taken ≡ word = cc in
     let mask_is : words grains taken ≡ mask = cc in
@@ -41,7 +42,8 @@ takes_kept page grains kept exactly answers = takes_always page (words grains) a
     sym (exactly (g % 256) (omega arith)) ∙ sym (bit_of grains taken g (word_is ∙ eqb-true word (g / 64 % 4) in_word.0)) ∙ ap (λ w. has_bit w (g % 64)) mask_is ∙ at.1)
 
 -- what holds of each step since the right was got
-since_got : (P : Made → Type 0) (page : ℕ) (steps before : List Made) → Always (λ m past. P m) steps → IsJustGot page before → Since (GetsHere page) (λ m past. P m) (steps ++ before)
+since_got : (P : Made → Type 0) (page : ℕ) (steps before : List Made) → Always (λ m past. P m) steps → IsJustGot page before
+    → Since (GetsHere page) (λ m past. P m) (steps ++ before)
 since_got P page [] [] each got = got
 since_got P page [] (m ∷ before) each got = inl got
 since_got P page (s ∷ steps) before each got = inr (each.0, since_got P page steps before each.1 got)
@@ -56,7 +58,8 @@ module _ {Found : Type 0} (choice : Choice Found) (page : ℕ) (d : Directory) {
   looked_only : Only (LookFree ∷ []) looked
   looked_only = looks_only page (words free) 4
 
-  looked_read : (before : List Made) → GotBefore page before → (word : ℕ) → word < 4 → Since (ShowsHere page word (is_set free)) (KeptHere page) (looked ++ before)
+  looked_read : (before : List Made) → GotBefore page before → (word : ℕ) → word < 4
+      → Since (ShowsHere page word (is_set free)) (KeptHere page) (looked ++ before)
   looked_read before got word lt = looks_read page (words free) (is_set free) (λ w b small. at_word free w b small) before got.right got.none 4 word lt lt
 
   unheld : Leads σ.seat.profile (MayServe page d) (ReadsNoneHeld page (is_set free)) looked
@@ -84,6 +87,7 @@ module _ {Found : Type 0} (choice : Choice Found) (page : ℕ) (d : Directory) {
   none_got : {v w : View} → Does nothing v w → Does (taken (on_page page (λ b. false))) v w
   none_got does = does_as (taken (on_page page (λ b. false))) does (λ g. inl (ap (λ t. if t then Gained else Kept) (sym (and_right (page == g / 256) false refl)))) (λ q. refl) (λ q h. h)
 
+  -- After the looks at a page its free grains are known, and nothing is taken.
   pub looked_at : Prepares page d (is_set free) (λ b. false) σ σ1
   looked_at = record {
     steps = looked;
@@ -97,6 +101,7 @@ module _ {Found : Type 0} (choice : Choice Found) (page : ℕ) (d : Directory) {
     marks = λ some. keeps_marks (LookFree ∷ []) page looked refl looked_only;
   }
 
+  -- A page that doesn't fit and was left serves nothing.
   pub leaves_unfit : {σ2 : Standing} → IsUnfit choice (is_set free) → Leaves page d σ1 σ2 → ServesPage (choosing choice) page d σ σ2 None
   unfolding looked_at
   leaves_unfit unfit left = leaves_page (choosing choice) page d (is_set free) (λ b. false) looked_at (λ b lt. refl) unfit.none
@@ -112,7 +117,8 @@ module _ {Found : Type 0} (choice : Choice Found) (page : ℕ) (d : Directory) {
         let at = and_parts (page == g / 256) (is_set grains (g % 256)) here in
         and_from (page == g / 256) (is_set free (g % 256)) at.0 (is.within (g % 256) (omega arith) (sym (is.exactly (g % 256) (omega arith)) ∙ at.1))
 
-    may_take : (v : View) → MayServe page d v → Does nothing v (looked ++ v) × ((g : ℕ) → masked page free g ≡ true → known_free (looked ++ v) g ≡ true) → MayTakeAll page grains (looked ++ v)
+    may_take : (v : View) → MayServe page d v → Does nothing v (looked ++ v) × ((g : ℕ) → masked page free g ≡ true → known_free (looked ++ v) g ≡ true)
+        → MayTakeAll page grains (looked ++ v)
     may_take v met after = record { right = after.0.right page ∙ met.right; free = λ g here. after.1 g (chosen_free g here) }
 
     module _ {σ2 : Standing} (got : Mask4) (took : TakesMask page grains σ1 σ2 got) where
@@ -129,6 +135,7 @@ module _ {Found : Type 0} (choice : Choice Found) (page : ℕ) (d : Directory) {
       take_call = call_then (Does (taken (on_page page (choice.kept found)))) look_call (takes_known page grains got took) may_take (λ v met a b.
           does_as (taken (on_page page (choice.kept found))) (does_after_nothing (taken (masked page grains)) a.0 b) (λ g. inl (ap (λ t. if (page == g / 256) && t then Gained else Kept) (is.exactly (g % 256) (omega arith)))) (λ q. refl) (λ q h. h))
 
+      -- Takes of just the chosen grains of a page leave it prepared with them.
       pub taken_from : Prepares page d (is_set free) (choice.kept found) σ σ2
       taken_from = record {
         steps = ts ++ looked;
@@ -148,6 +155,7 @@ module _ {Found : Type 0} (choice : Choice Found) (page : ℕ) (d : Directory) {
           (takes_kept page grains (choice.kept found) is.exactly (words took.answers) 4)
           (always_map (λ m before. is_in (LookFree ∷ []) (kind_of m.step) ≡ true) (λ m before. TakesKept (choice.kept found) page m) looked (λ m before. idle_keeps (choice.kept found) page m) looked_only)
 
+      -- A page of which the chosen grains were taken, and which was backed, serves and keeps them.
       pub keeps_chosen : {σ3 : Standing} (a : ℕ) → Makes σ2 σ3 (Back page) a → ServesPage (choosing choice) page d σ σ3 (Some found)
       unfolding taken_from
       keeps_chosen a back =

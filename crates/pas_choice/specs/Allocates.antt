@@ -55,5 +55,7 @@ pub record AllocatesRun {Found : Type 0} (choice : Choice Found) (run : Found �
   pub few : length searched ≤ search_steps 15 desk.seat.profile.pages
   pub after : List Made
   pub adds : Adds desk desk' (MaySearch d) (after ++ searched)
-  pub outcome : MatchResult answer (IsGiven choice run desk.seat.profile d searched after) (λ why. IsRefused choice.no_fit desk.seat.profile d searched why × (after ≡ []))
-  pub told : tells ≡ true → (v : View) (l : Whole) → desk.stands v l → MaySearch d v → IsTold (λ (b : Block). address_of b.name / 4096) choice.no_fit desk.seat.profile d l (triples desk.seat.actor (after ++ searched) ++ l) answer
+  pub outcome : MatchResult answer (IsGiven choice run desk.seat.profile d searched after) (λ why. IsRefused choice.no_fit desk.seat.profile d searched why
+        × (after ≡ []))
+  pub told : tells ≡ true → (v : View) (l : Whole) → desk.stands v l → MaySearch d v
+      → IsTold (λ (b : Block). address_of b.name / 4096) choice.no_fit desk.seat.profile d l (triples desk.seat.actor (after ++ searched) ++ l) answer

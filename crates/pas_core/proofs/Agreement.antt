@@ -33,7 +33,8 @@ use Rattle.pas_core.proofs.Rights.{hinted_page, free_known}
 -- ==== What a step of an actor told once is so for good, where every later step keeps it.
 
 -- what holds before a step that tells it, and is kept by each step, holds after every list whose part has such a step
-since_once : (f : Profile) (k : ℕ) (P : Made → List Made → Type 0) (Q : Whole → Type 0) → ((t : Triple) (l : Whole) → Legal f (t ∷ l) → P t.made (part k l) → Q l) → ((t : Triple) (l : Whole) → Legal f (t ∷ l) → Q l → Q (t ∷ l))
+since_once : (f : Profile) (k : ℕ) (P : Made → List Made → Type 0) (Q : Whole → Type 0)
+    → ((t : Triple) (l : Whole) → Legal f (t ∷ l) → P t.made (part k l) → Q l) → ((t : Triple) (l : Whole) → Legal f (t ∷ l) → Q l → Q (t ∷ l))
     → (l : Whole) → Legal f l → Once P (part k l) → Q l
 since_once f k P Q told kept [] legal h = absurd h
 since_once f k P Q told kept (t ∷ l) legal h =
@@ -43,7 +44,8 @@ since_once f k P Q told kept (t ∷ l) legal h =
 
 -- ---- where it lay
 -- a block that ends lies in the region
-end_within : (f : Profile) (l : Whole) → IsValid f → Legal f l → (name : Name) (guess a : ℕ) → IsStepOf f (End name guess) → a ≡ word_after l (life_word_at (grain_of name)) → a ≡ live_word name.turn guess → (256 ≤ grain_of name) × (grain_of name + guess ≤ 256 * (f.pages + 1))
+end_within : (f : Profile) (l : Whole) → IsValid f → Legal f l → (name : Name) (guess a : ℕ) → IsStepOf f (End name guess)
+    → a ≡ word_after l (life_word_at (grain_of name)) → a ≡ live_word name.turn guess → (256 ≤ grain_of name) × (grain_of name + guess ≤ 256 * (f.pages + 1))
 end_within f l valid legal name guess a of is hit = let at : IsFound f l name guess = end_finds f l valid legal name guess a of is hit in (at.first, at.last)
 
 -- ---- the deeds of its pages
@@ -56,7 +58,8 @@ borne_heap : (f : Profile) (l : Whole) → IsValid f → Legal f l → (heap pag
 borne_heap f l valid legal heap page bears = search (arith, deed_of, deed_word_of-positive, directory_is_of)
 
 -- the pages of a live block of so many grains have deeds of its heap
-live_heap : (f : Profile) (l : Whole) → IsValid f → Legal f l → (address guess page : ℕ) (b : Live) → live_in (visible l) address ≡ Some b → length_of b.block ≡ guess → 0 < guess → meets_page (address / 16) guess page ≡ true → IsOfHeap l page b.block.heap
+live_heap : (f : Profile) (l : Whole) → IsValid f → Legal f l → (address guess page : ℕ) (b : Live) → live_in (visible l) address ≡ Some b
+    → length_of b.block ≡ guess → 0 < guess → meets_page (address / 16) guess page ≡ true → IsOfHeap l page b.block.heap
 live_heap f l valid legal address guess page b lives n some meets =
     let at : IsMet (address / 16) guess page = met (address / 16) guess page some meets in
     let here : in_run (address / 16) (length_of b.block) at.grain ≡ true = ap (λ m. in_run (address / 16) m at.grain) n ∙ at.of_run in
@@ -70,7 +73,8 @@ record HasEnded (l : Whole) (s : Step) (a : ℕ) : Type 0 where
 no_end : (l : Whole) (s : Step) (a : ℕ) → ((page : ℕ) → ends_on s a page ≡ false) → HasEnded l s a
 no_end l s a none = record { heap = 0; pages = λ page h. absurd (false≢true (sym (none page) ∙ h)) }
 
-end_pages : (f : Profile) (l : Whole) → IsValid f → Legal f l → (name : Name) (guess a : ℕ) → IsStepOf f (End name guess) → a ≡ word_after l (life_word_at (grain_of name)) → (t : Bool) → (a == live_word name.turn guess) ≡ t → HasEnded l (End name guess) a
+end_pages : (f : Profile) (l : Whole) → IsValid f → Legal f l → (name : Name) (guess a : ℕ) → IsStepOf f (End name guess)
+    → a ≡ word_after l (life_word_at (grain_of name)) → (t : Bool) → (a == live_word name.turn guess) ≡ t → HasEnded l (End name guess) a
 end_pages f l valid legal name guess a of is true e =
     let at : IsFound f l name guess = end_finds f l valid legal name guess a of is (eqb-true a (live_word name.turn guess) e) in
     record {
@@ -107,7 +111,8 @@ kept_one : (t : Triple) (l : Whole) (page other : ℕ) → AreOfOne l page other
 kept_one t l page other h = search (arith, deed_kept)
 
 -- two pages of one block that an actor once ended have deeds of one heap
-ended_has_heap : (f : Profile) (l : Whole) → IsValid f → Legal f l → (k page other : ℕ) → EndedOnBoth (part k l) page other → heap_recorded (word_after l (Word.Deed page)) ≡ heap_recorded (word_after l (Word.Deed other))
+ended_has_heap : (f : Profile) (l : Whole) → IsValid f → Legal f l → (k page other : ℕ) → EndedOnBoth (part k l) page other
+    → heap_recorded (word_after l (Word.Deed page)) ≡ heap_recorded (word_after l (Word.Deed other))
 ended_has_heap f l valid legal k page other h =
     let both : AreOfOne l page other = since_once f k (λ m before. (ends_on m.step m.answer page ≡ true) × (ends_on m.step m.answer other ≡ true)) (λ l. AreOfOne l page other)
     (λ t l legal h.
@@ -125,7 +130,8 @@ ended_has_heap f l valid legal k page other h =
 deed_more : (x : Bool) (d : Directory) (old : Option Directory) → old ≢ None → (if x then Some d else old) ≢ None
 deed_more x d old h = grind arith
 
-back_has : (x : Bool) (q p : ℕ) (es : List Event) (old : Bool) → (q == p) ≡ x → deed_in es q ≢ None → (old ≡ true → deed_in es p ≢ None) → (if x then true else old) ≡ true → deed_in es p ≢ None
+back_has : (x : Bool) (q p : ℕ) (es : List Event) (old : Bool) → (q == p) ≡ x → deed_in es q ≢ None → (old ≡ true → deed_in es p ≢ None)
+    → (if x then true else old) ≡ true → deed_in es p ≢ None
 back_has x q p es old e here before h = grind (arith, eqb-true)
 
 backed_deed : (f : Profile) (es : List Event) → Run f es → (p : ℕ) → backed_in es p ≡ true → deed_in es p ≢ None
@@ -170,7 +176,8 @@ record WasThere (l : Whole) (g turn grains : ℕ) : Type 0 where
   grains_are : length_of block ≡ grains
   given : WasGiven (visible l) block
 
-there : (f : Profile) (l : Whole) (g word turn grains gives ends : ℕ) (live : Option Live) → live_in (visible l) (16 * g) ≡ live → gives_in (visible l) (16 * g) ≡ gives → IsLifeOf f g word live gives ends
+there : (f : Profile) (l : Whole) (g word turn grains gives ends : ℕ) (live : Option Live) → live_in (visible l) (16 * g) ≡ live
+    → gives_in (visible l) (16 * g) ≡ gives → IsLifeOf f g word live gives ends
     → is_live word ≡ true → turn_of word ≡ turn → grains_of word ≡ grains → WasThere l g turn grains
 there f l g word turn grains gives ends None is gave life alive t n = let big : 2 ^ 63 ≤ word = leb-true (2 ^ 63) word alive in absurd (omega (arith, life.word_is, life.few, big))
 there f l g word turn grains gives ends (Some b) is gave life alive t n =
@@ -206,12 +213,14 @@ was_there f l valid legal k g turn grains =
       given = event_kept f (event_of t.actor (epoch_of (part t.actor l)) t.made.step t.made.answer) (visible l) was.block (runs f (t ∷ l) valid legal) was.given;
     }) l legal
 
-same_grains : (f : Profile) (g word : ℕ) (live : Option Live) (gives ends : ℕ) (block : Block) → IsLifeOf f g word live gives ends → ((b : Live) → live ≡ Some b → b.block.name.turn ≡ block.name.turn → b.block ≡ block)
+same_grains : (f : Profile) (g word : ℕ) (live : Option Live) (gives ends : ℕ) (block : Block) → IsLifeOf f g word live gives ends
+    → ((b : Live) → live ≡ Some b → b.block.name.turn ≡ block.name.turn → b.block ≡ block)
     → is_live word ≡ true → turn_of word ≡ block.name.turn → grains_of word ≡ length_of block
 same_grains f g word live gives ends block life same alive t = grind (arith, leb-true)
 
 -- a block that an actor once read as live, and that still lives, has the length that it had then
-read_again : (f : Profile) (l : Whole) → IsValid f → Legal f l → (k g grains : ℕ) → is_live (word_after l (life_word_at g)) ≡ true → ReadLive (part k l) g (turn_of (word_after l (life_word_at g))) grains → grains_of (word_after l (life_word_at g)) ≡ grains
+read_again : (f : Profile) (l : Whole) → IsValid f → Legal f l → (k g grains : ℕ) → is_live (word_after l (life_word_at g)) ≡ true
+    → ReadLive (part k l) g (turn_of (word_after l (life_word_at g))) grains → grains_of (word_after l (life_word_at g)) ≡ grains
 read_again f l valid legal k g grains alive read =
     let was : WasThere l g (turn_of (word_after l (life_word_at g))) grains = was_there f l valid legal k g (turn_of (word_after l (life_word_at g))) grains read in
     same_grains f g (word_after l (life_word_at g)) (live_in (visible l) (16 * g)) (gives_in (visible l) (16 * g)) (ends_in (visible l) (16 * g)) was.block (life_of f l valid legal g)
@@ -236,7 +245,8 @@ deed_agrees f l valid legal k page a is = record {
 word_at : (l : Whole) (page word a g : ℕ) → a ≡ word_after l (Word.Free page word) → g / 256 ≡ page → g / 64 % 4 ≡ word → a ≡ word_after l (free_word_at g)
 word_at l page word a g is p w = is ∙ ap (λ x. word_after l (Word.Free x word)) (sym p) ∙ ap (λ x. word_after l (Word.Free (g / 256) x)) (sym w)
 
-free_agrees : (f : Profile) (l : Whole) → IsValid f → Legal f l → (k page word a : ℕ) → a ≡ word_after l (Word.Free page word) → AgreesFree (part k l) page word a
+free_agrees : (f : Profile) (l : Whole) → IsValid f → Legal f l → (k page word a : ℕ) → a ≡ word_after l (Word.Free page word)
+    → AgreesFree (part k l) page word a
 free_agrees f l valid legal k page word a is = record {
   free = λ g p w h. ap (λ n. has_bit n (g % 64)) (word_at l page word a g is p w) ∙ free_known f l legal k g h;
   held = λ g p w h.
@@ -249,14 +259,17 @@ backed_agrees f l valid legal k page a is = record { small = omega (arith, is, b
 
 -- ---- life words
 -- a live block has a length that fits the region
-length_fits : (f : Profile) (g word : ℕ) (live : Option Live) (gives ends : ℕ) → IsLifeOf f g word live gives ends → is_live word ≡ true → (1 ≤ grains_of word) × (grains_of word ≤ 256 * f.pages)
+length_fits : (f : Profile) (g word : ℕ) (live : Option Live) (gives ends : ℕ) → IsLifeOf f g word live gives ends → is_live word ≡ true
+    → (1 ≤ grains_of word) × (grains_of word ≤ 256 * f.pages)
 length_fits f g word live gives ends life h = grind (arith, leb-true)
 
-word_length : (f : Profile) (l : Whole) → IsValid f → Legal f l → (g : ℕ) → is_live (word_after l (life_word_at g)) ≡ true → (1 ≤ grains_of (word_after l (life_word_at g))) × (grains_of (word_after l (life_word_at g)) ≤ 256 * f.pages)
+word_length : (f : Profile) (l : Whole) → IsValid f → Legal f l → (g : ℕ) → is_live (word_after l (life_word_at g)) ≡ true
+    → (1 ≤ grains_of (word_after l (life_word_at g))) × (grains_of (word_after l (life_word_at g)) ≤ 256 * f.pages)
 word_length f l valid legal g = length_fits f g (word_after l (life_word_at g)) (live_in (visible l) (16 * g)) (gives_in (visible l) (16 * g)) (ends_in (visible l) (16 * g)) (life_of f l valid legal g)
 
 -- no grain of a live block is held
-covered_is_free : (f : Profile) (l : Whole) → IsValid f → Legal f l → (k g x : ℕ) → is_live (word_after l (life_word_at g)) ≡ true → in_run g (grains_of (word_after l (life_word_at g))) x ≡ true → holds (part k l) x ≡ false
+covered_is_free : (f : Profile) (l : Whole) → IsValid f → Legal f l → (k g x : ℕ) → is_live (word_after l (life_word_at g)) ≡ true
+    → in_run g (grains_of (word_after l (life_word_at g))) x ≡ true → holds (part k l) x ≡ false
 covered_is_free f l valid legal k g x live inside = false_from_ne_true (holds (part k l) x) (λ h.
     let at : IsPlacedOnce l x = placed_once f l valid legal x in
     let covered : covers (word_after l (life_word_at g)) g x ≡ true = and_from (is_live (word_after l (life_word_at g))) (in_run g (grains_of (word_after l (life_word_at g))) x) live inside in
@@ -267,7 +280,8 @@ held_is_dead : (f : Profile) (l : Whole) → IsValid f → Legal f l → (k g : 
 held_is_dead f l valid legal k g h = search (arith, false_from_ne_true, first_of_run, word_length, false≢true, covered_is_free)
 
 -- a life word is that of a live block, or the turn alone
-live_codec : (f : Profile) (g word : ℕ) (live : Option Live) (gives ends : ℕ) → IsLifeOf f g word live gives ends → is_live word ≡ true → word ≡ live_word (turn_of word) (grains_of word)
+live_codec : (f : Profile) (g word : ℕ) (live : Option Live) (gives ends : ℕ) → IsLifeOf f g word live gives ends → is_live word ≡ true
+    → word ≡ live_word (turn_of word) (grains_of word)
 live_codec f g word live gives ends life h = grind (arith, leb-true)
 
 turn_codec : (f : Profile) (g word : ℕ) (live : Option Live) (gives ends : ℕ) → IsLifeOf f g word live gives ends → is_live word ≡ false → word ≡ turn_of word
@@ -286,7 +300,8 @@ life_agrees f l valid legal k g a is = subst (AgreesLife f (part k l) g) (sym is
 
 -- ---- the life word of an end
 -- no grain of the block that ends is held
-end_apart : (f : Profile) (l : Whole) → IsValid f → Legal f l → (k : ℕ) (name : Name) (guess a : ℕ) → IsStepOf f (End name guess) → a ≡ word_after l (life_word_at (grain_of name)) → a ≡ live_word name.turn guess → (x : ℕ) → in_run (grain_of name) guess x ≡ true
+end_apart : (f : Profile) (l : Whole) → IsValid f → Legal f l → (k : ℕ) (name : Name) (guess a : ℕ) → IsStepOf f (End name guess)
+    → a ≡ word_after l (life_word_at (grain_of name)) → a ≡ live_word name.turn guess → (x : ℕ) → in_run (grain_of name) guess x ≡ true
     → holds (part k l) x ≡ false
 end_apart f l valid legal k name guess a of is live x inside =
     let turn : name.turn < 2 ^ 40 = omega (arith, of.2) in
@@ -294,7 +309,8 @@ end_apart f l valid legal k name guess a of is live x inside =
     let n : guess ≡ grains_of (word_after l (life_word_at (grain_of name))) = sym (grains_of-live_word name.turn guess turn (guess_fits guess f.pages valid.pages of.4)) ∙ ap grains_of word in
     covered_is_free f l valid legal k (grain_of name) x (ap is_live (sym word) ∙ is_live-live_word name.turn guess) (ap (λ m. in_run (grain_of name) m x) (sym n) ∙ inside)
 
-end_agrees : (f : Profile) (l : Whole) → IsValid f → Legal f l → (k : ℕ) (name : Name) (guess a : ℕ) → IsStepOf f (End name guess) → a ≡ word_after l (life_word_at (grain_of name)) → AgreesEnd f (part k l) name guess a
+end_agrees : (f : Profile) (l : Whole) → IsValid f → Legal f l → (k : ℕ) (name : Name) (guess a : ℕ) → IsStepOf f (End name guess)
+    → a ≡ word_after l (life_word_at (grain_of name)) → AgreesEnd f (part k l) name guess a
 end_agrees f l valid legal k name guess a of is = record {
   life = life_agrees f l valid legal k (grain_of name) a is;
   within = end_within f l valid legal name guess a of is;
@@ -343,7 +359,8 @@ stamp_agrees : (f : Profile) (l : Whole) → IsValid f → Legal f l → (k page
 stamp_agrees f l valid legal k page a is = record { small = omega (arith, is, stamp_small f l legal page); known = λ s h. is ∙ stamp_known f l valid legal k page s h }
 
 -- what an actor reads at a word of the profile agrees with its view
-pub answer_agrees_at : (f : Profile) (l : Whole) → IsValid f → Legal f l → (k : ℕ) (s : Step) (a : ℕ) → IsStepOf f s → a ≡ word_after l (target s) → Agrees f (part k l) s a
+pub answer_agrees_at : (f : Profile) (l : Whole) → IsValid f → Legal f l → (k : ℕ) (s : Step) (a : ℕ) → IsStepOf f s → a ≡ word_after l (target s)
+    → Agrees f (part k l) s a
 answer_agrees_at f l valid legal k (Look (Word.Free q w)) a of is = free_agrees f l valid legal k q w a is
 answer_agrees_at f l valid legal k (Look (Word.Life q g)) a of is = life_agrees f l valid legal k (q * 256 + g) a (is ∙ life_at l q g of.2)
 answer_agrees_at f l valid legal k (Look (Word.Deed q)) a of is = deed_agrees f l valid legal k q a is

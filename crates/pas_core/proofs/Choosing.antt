@@ -9,6 +9,7 @@ use Rattle.pas_core.specs.Orders.{steps_by}
 pub step_taken : (chosen : ℕ → Bool) (t : Triple) (l : Whole) → chosen t.actor ≡ true → steps_by chosen (t ∷ l) ≡ t ∷ steps_by chosen l
 step_taken chosen t l e = ap (λ (b : Bool). if b then t ∷ steps_by chosen l else steps_by chosen l) e
 
+-- A step of another actor isn't among the steps of the chosen ones.
 pub step_passed : (chosen : ℕ → Bool) (t : Triple) (l : Whole) → chosen t.actor ≡ false → steps_by chosen (t ∷ l) ≡ steps_by chosen l
 step_passed chosen t l e = ap (λ (b : Bool). if b then t ∷ steps_by chosen l else steps_by chosen l) e
 
@@ -17,7 +18,8 @@ pub steps_by_both : (chosen : ℕ → Bool) (l m : Whole) → steps_by chosen (l
 steps_by_both chosen [] m = refl
 steps_by_both chosen (t ∷ l) m = at (steps_by_both chosen l m) (chosen t.actor) refl
   where
-    at : steps_by chosen (l ++ m) ≡ steps_by chosen l ++ steps_by chosen m → (b : Bool) → chosen t.actor ≡ b → steps_by chosen (t ∷ (l ++ m)) ≡ steps_by chosen (t ∷ l) ++ steps_by chosen m
+    at : steps_by chosen (l ++ m) ≡ steps_by chosen l ++ steps_by chosen m → (b : Bool) → chosen t.actor ≡ b
+        → steps_by chosen (t ∷ (l ++ m)) ≡ steps_by chosen (t ∷ l) ++ steps_by chosen m
     at again true e = step_taken chosen t (l ++ m) e ∙ (ap (λ (k : Whole). t ∷ k) again ∙ sym (ap (λ (k : Whole). k ++ steps_by chosen m) (step_taken chosen t l e)))
     at again false e = step_passed chosen t (l ++ m) e ∙ (again ∙ sym (ap (λ (k : Whole). k ++ steps_by chosen m) (step_passed chosen t l e)))
 
@@ -28,6 +30,7 @@ part_more k t l m e = ap (λ v. if t.actor == k then t.made ∷ v else v) e
 part_without : (k : ℕ) (t : Triple) (l : Whole) → (t.actor == k) ≡ false → part k (t ∷ l) ≡ part k l
 part_without k t l e = ap (λ (b : Bool). if b then t.made ∷ part k l else part k l) e
 
+-- A chosen actor's part of the chosen steps is its part of the whole list.
 pub part_of_chosen : (chosen : ℕ → Bool) (k : ℕ) (l : Whole) → chosen k ≡ true → part k (steps_by chosen l) ≡ part k l
 part_of_chosen chosen k [] its = refl
 part_of_chosen chosen k (t ∷ l) its = at (part_of_chosen chosen k l its) (chosen t.actor) refl
@@ -44,11 +47,13 @@ part_of_chosen chosen k (t ∷ l) its = at (part_of_chosen chosen k l its) (chos
 abbrev pub Within : (ℕ → Bool) → (ℕ → Bool) → Type 0
 Within fewer more = (k : ℕ) → fewer k ≡ true → more k ≡ true
 
+-- The steps of fewer actors are the same among the steps of more as in the whole list.
 pub steps_by_fewer : (fewer more : ℕ → Bool) (l : Whole) → Within fewer more → steps_by fewer (steps_by more l) ≡ steps_by fewer l
 steps_by_fewer fewer more [] within = refl
 steps_by_fewer fewer more (t ∷ l) within = at (steps_by_fewer fewer more l within) (more t.actor) refl
   where
-    kept : steps_by fewer (steps_by more l) ≡ steps_by fewer l → more t.actor ≡ true → (b : Bool) → fewer t.actor ≡ b → steps_by fewer (t ∷ steps_by more l) ≡ steps_by fewer (t ∷ l)
+    kept : steps_by fewer (steps_by more l) ≡ steps_by fewer l → more t.actor ≡ true → (b : Bool) → fewer t.actor ≡ b
+        → steps_by fewer (t ∷ steps_by more l) ≡ steps_by fewer (t ∷ l)
     kept again m true e = step_taken fewer t (steps_by more l) e ∙ (ap (λ (k : Whole). t ∷ k) again ∙ sym (step_taken fewer t l e))
     kept again m false e = step_passed fewer t (steps_by more l) e ∙ (again ∙ sym (step_passed fewer t l e))
 
@@ -60,6 +65,7 @@ steps_by_fewer fewer more (t ∷ l) within = at (steps_by_fewer fewer more l wit
     at again true m = ap (steps_by fewer) (step_taken more t l m) ∙ kept again m (fewer t.actor) refl
     at again false m = ap (steps_by fewer) (step_passed more t l m) ∙ (again ∙ dropped m (fewer t.actor) refl)
 
+-- Where some actors made no steps, fewer of them made none.
 pub no_steps_by_fewer : (fewer more : ℕ → Bool) (l : Whole) → Within fewer more → steps_by more l ≡ [] → steps_by fewer l ≡ []
 no_steps_by_fewer fewer more l within none = sym (steps_by_fewer fewer more l within) ∙ ap (steps_by fewer) none
 
@@ -72,6 +78,7 @@ steps_by_same one other (t ∷ l) same = ap (λ (b : Bool). if b then t ∷ step
 cons_not_nil : {x : Made} {xs : List Made} → x ∷ xs ≡ [] → ⊥
 cons_not_nil e = omega (arith, ap length e)
 
+-- The steps of one chosen actor are its own part, as steps of that actor.
 pub steps_by_one : (chosen : ℕ → Bool) (k : ℕ) (l : Whole) → ((j : ℕ) → chosen j ≡ (j == k)) → steps_by chosen l ≡ triples k (part k l)
 steps_by_one chosen k [] just = refl
 steps_by_one chosen k (t ∷ l) just = at (steps_by_one chosen k l just) (t.actor == k) refl
@@ -144,18 +151,22 @@ part_of_others_left k j (t ∷ l) ne = at (part_of_others_left k j l ne) (t.acto
     at again false e = ap (part j) (without_at k t l false e) ∙ part_more j t (without k l) l again
 
 -- one fewer of the chosen
-one_fewer : (chosen : ℕ → Bool) (k : ℕ) (l : Whole) (m : Made) (v : List Made) → chosen k ≡ true → part k l ≡ m ∷ v → length (steps_by chosen l) ≡ suc (length (steps_by chosen (without k l)))
+one_fewer : (chosen : ℕ → Bool) (k : ℕ) (l : Whole) (m : Made) (v : List Made) → chosen k ≡ true → part k l ≡ m ∷ v
+    → length (steps_by chosen l) ≡ suc (length (steps_by chosen (without k l)))
 one_fewer chosen k [] m v its h = absurd (cons_not_nil (sym h))
 one_fewer chosen k (t ∷ l) m v its h = at (one_fewer chosen k l m v its) (t.actor == k) refl
   where
-    other : length (steps_by chosen l) ≡ suc (length (steps_by chosen (without k l))) → (b : Bool) → chosen t.actor ≡ b → length (steps_by chosen (t ∷ l)) ≡ suc (length (steps_by chosen (t ∷ without k l)))
+    other : length (steps_by chosen l) ≡ suc (length (steps_by chosen (without k l))) → (b : Bool) → chosen t.actor ≡ b
+        → length (steps_by chosen (t ∷ l)) ≡ suc (length (steps_by chosen (t ∷ without k l)))
     other again true e = ap length (step_taken chosen t l e) ∙ (ap suc again ∙ sym (ap suc (ap length (step_taken chosen t (without k l) e))))
     other again false e = ap length (step_passed chosen t l e) ∙ (again ∙ sym (ap suc (ap length (step_passed chosen t (without k l) e))))
 
-    at : (part k l ≡ m ∷ v → length (steps_by chosen l) ≡ suc (length (steps_by chosen (without k l)))) → (b : Bool) → (t.actor == k) ≡ b → length (steps_by chosen (t ∷ l)) ≡ suc (length (steps_by chosen (without k (t ∷ l))))
+    at : (part k l ≡ m ∷ v → length (steps_by chosen l) ≡ suc (length (steps_by chosen (without k l)))) → (b : Bool) → (t.actor == k) ≡ b
+        → length (steps_by chosen (t ∷ l)) ≡ suc (length (steps_by chosen (without k (t ∷ l))))
     at again true e = ap length (step_taken chosen t l (ap chosen (eqb-true t.actor k e) ∙ its)) ∙ sym (ap suc (ap (λ n. length (steps_by chosen n)) (without_at k t l true e)))
     at again false e = other (again (sym (part_at k t l false e) ∙ h)) (chosen t.actor) refl ∙ sym (ap suc (ap (λ n. length (steps_by chosen n)) (without_at k t l false e)))
 
+-- Actors whose parts of a list are empty made no steps in it.
 pub no_steps_by : (chosen : ℕ → Bool) (l : Whole) → ((k : ℕ) → chosen k ≡ true → part k l ≡ []) → steps_by chosen l ≡ []
 no_steps_by chosen [] none = refl
 no_steps_by chosen (t ∷ l) none = at (no_steps_by chosen l) (chosen t.actor) refl
@@ -171,7 +182,9 @@ no_steps_by chosen (t ∷ l) none = at (no_steps_by chosen l) (chosen t.actor) r
     at again true e = absurd (cons_not_nil (sym here ∙ none t.actor e))
     at again false e = step_passed chosen t l e ∙ again (λ k its. later k its (t.actor == k) refl)
 
-pub as_many_steps : (chosen : ℕ → Bool) (l m : Whole) → ((k : ℕ) → chosen k ≡ true → part k l ≡ part k m) → length (steps_by chosen l) ≡ length (steps_by chosen m)
+-- Two lists with the same parts of the chosen actors have as many steps of them.
+pub as_many_steps : (chosen : ℕ → Bool) (l m : Whole) → ((k : ℕ) → chosen k ≡ true → part k l ≡ part k m)
+    → length (steps_by chosen l) ≡ length (steps_by chosen m)
 as_many_steps chosen [] m same = sym (ap length (no_steps_by chosen m (λ k its. sym (same k its))))
 as_many_steps chosen (t ∷ l) m same = at (as_many_steps chosen l) (chosen t.actor) refl
   where
@@ -191,6 +204,7 @@ as_many_steps chosen (t ∷ l) m same = at (as_many_steps chosen l) (chosen t.ac
     passed : chosen k ≡ false → (j : ℕ) → chosen j ≡ true → part j l ≡ part j m
     passed other j chose = sym (part_without j t l (ne_eqb k j (λ is. true≢false (sym chose ∙ (ap chosen (sym is) ∙ other))))) ∙ same j chose
 
-    at : ((n : Whole) → ((j : ℕ) → chosen j ≡ true → part j l ≡ part j n) → length (steps_by chosen l) ≡ length (steps_by chosen n)) → (b : Bool) → chosen k ≡ b → length (steps_by chosen (t ∷ l)) ≡ length (steps_by chosen m)
+    at : ((n : Whole) → ((j : ℕ) → chosen j ≡ true → part j l ≡ part j n) → length (steps_by chosen l) ≡ length (steps_by chosen n)) → (b : Bool) → chosen k ≡ b
+        → length (steps_by chosen (t ∷ l)) ≡ length (steps_by chosen m)
     at again true e = ap length (step_taken chosen t l e) ∙ (ap suc (again (without k m) (λ j chose. taken e j chose (j == k) refl)) ∙ sym (one_fewer chosen k m t.made (part k l) e (sym (same k e) ∙ here)))
     at again false e = ap length (step_passed chosen t l e) ∙ again m (passed e)

@@ -29,6 +29,7 @@ looked t x = grind arith
 abbrev pub IsKnown : ℕ → ℕ → Type 0
 IsKnown known word = (known ≡ 0) ⊎ (known ≡ word)
 
+-- A known deed word that isn't 0 is the word.
 pub known_is : (known word : ℕ) → IsKnown known word → known ≢ 0 → known ≡ word
 known_is known word e ne = grind arith
 
@@ -39,13 +40,16 @@ deed_stays x d old known h = grind (arith, cases_eq, ne_eqb)
 pub word_stays : (e : ℕ) (s : Step) (p old known : ℕ) → IsKnown known old → IsKnown known (next_value e s (Word.Deed p) old)
 word_stays e s p old known h = grind (arith, looked, deed_stays)
 
+-- A deed step leaves what its actor knows of the deed word true.
 pub deed_tells : (x : Bool) (d : Directory) (old a known : ℕ) → (x ≡ true → a ≡ old) → IsKnown known old
     → IsKnown (if x then (if a == 0 then deed_word_of d else a) else known) (if x then (if old == 0 then deed_word_of d else old) else old)
 deed_tells x d old a known is h = grind arith
 
+-- A look leaves what its actor knows of the word true.
 pub look_tells : (x : Bool) (old a known : ℕ) → (x ≡ true → a ≡ old) → IsKnown known old → IsKnown (if x then a else known) (if x then old else old)
 look_tells x old a known is h = grind arith
 
+-- An answer that is the deed word of a page is that of the page with the same number.
 pub deed_at : (l : Whole) (a q p : ℕ) → a ≡ word_after l (Word.Deed q) → (q == p) ≡ true → a ≡ word_after l (Word.Deed p)
 deed_at l a q p is t = is ∙ ap (λ n. word_after l (Word.Deed n)) (eqb-true q p t)
 
@@ -58,12 +62,14 @@ pub deed_was_none : (l : Whole) (t : Triple) (p : ℕ) → word_after (t ∷ l) 
 deed_was_none l t p gone = elim (word_stays (epoch_of (part t.actor l)) t.made.step p (word_after l (Word.Deed p)) (word_after l (Word.Deed p)) (inr refl)) [ inl z ↦ z | inr e ↦ e ∙ gone ]
 
 -- ---- each deed word is that of a directory of the profile
-deed_written : (f : Profile) (x z : Bool) (d : Directory) (old : ℕ) → IsDirectoryOf f d → IsDeedWord f old → IsDeedWord f (if x then (if z then deed_word_of d else old) else old)
+deed_written : (f : Profile) (x z : Bool) (d : Directory) (old : ℕ) → IsDirectoryOf f d → IsDeedWord f old
+    → IsDeedWord f (if x then (if z then deed_word_of d else old) else old)
 deed_written f x z d old of h = grind arith
 
 deed_word_next : (f : Profile) (e : ℕ) (s : Step) (p old : ℕ) → IsStepOf f s → IsDeedWord f old → IsDeedWord f (next_value e s (Word.Deed p) old)
 deed_word_next f e s p old of h = grind (arith, looked, deed_written)
 
+-- The deed word of each page in a legal list is 0 or that of a directory of the profile.
 pub deed_words : (f : Profile) (l : Whole) → Legal f l → (p : ℕ) → IsDeedWord f (word_after l (Word.Deed p))
 deed_words f [] legal p = λ ne. absurd (ne refl)
 deed_words f (t ∷ l) legal p =
@@ -98,21 +104,25 @@ number_told d n kind h = let small = kind_number_lt d.kind kind in omega (arith,
 pub event_if : (P : List Event → Type 0) (z : Bool) (e : Event) (es : List Event) → P (e ∷ es) → P es → P (with_event (if z then Some e else None) es)
 event_if P z e es new old = cond_both z (Some e) None (λ o. P (with_event o es)) (λ made. new) (λ none. old)
 
-pub end_if : (P : List Event → Type 0) (z y : Bool) (end reject : Event) (es : List Event) → (z ≡ true → P (end ∷ es)) → P (reject ∷ es) → P es → P (with_event (if z then Some end else (if y then None else Some reject)) es)
-end_if P z y end reject es ended rejected old = search (arith, cond_both)
+-- What an end makes of the events is so by its three cases: the end, a refusal, or no event.
+pub end_event_cases : (P : List Event → Type 0) (z y : Bool) (end reject : Event) (es : List Event) → (z ≡ true → P (end ∷ es)) → P (reject ∷ es) → P es
+    → P (with_event (if z then Some end else (if y then None else Some reject)) es)
+end_event_cases P z y end reject es ended rejected old = search (arith, cond_both)
 
 -- ---- deeds
-deed_agrees : (x z : Bool) (k q : ℕ) (d : Directory) (p old a : ℕ) (es : List Event) → (q == p) ≡ x → (x ≡ true → a ≡ old) → (a == 0) ≡ z → old ≡ word_of_deed (deed_in es p)
+deed_agrees : (x z : Bool) (k q : ℕ) (d : Directory) (p old a : ℕ) (es : List Event) → (q == p) ≡ x → (x ≡ true → a ≡ old) → (a == 0) ≡ z
+    → old ≡ word_of_deed (deed_in es p)
     → (if x then (if old == 0 then deed_word_of d else old) else old) ≡ word_of_deed (deed_in (with_event (if z then Some (Event.Deed k q d) else None) es) p)
 deed_agrees x z k q d p old a es xe is ze h = grind (arith, eqb-true)
 
 deed_step : (l : Whole) (k e : ℕ) (s : Step) (a p : ℕ) → a ≡ word_after l (target s) → word_after l (Word.Deed p) ≡ word_of_deed (deed_in (visible l) p)
-    → (if same_word (target s) (Word.Deed p) then new_value e s (word_after l (Word.Deed p)) else word_after l (Word.Deed p)) ≡ word_of_deed (deed_in (with_event (event_of k e s a) (visible l)) p)
+    → (if same_word (target s) (Word.Deed p) then new_value e s (word_after l (Word.Deed p)) else word_after l (Word.Deed p))
+      ≡ word_of_deed (deed_in (with_event (event_of k e s a) (visible l)) p)
 deed_step l k e (Look word) a p is h = looked (same_word word (Word.Deed p)) (word_after l (Word.Deed p)) ∙ h
 deed_step l k e (Deed q d) a p is h = deed_agrees (q == p) (a == 0) k q d p (word_after l (Word.Deed p)) a (visible l) refl (λ t. is ∙ ap (λ n. word_after l (Word.Deed n)) (eqb-true q p t)) refl h
 deed_step l k e (Back q) a p is h = h ∙ ap word_of_deed (sym (event_if (λ x. deed_in x p ≡ deed_in (visible l) p) (a == 0) (Event.Back k q) (visible l) refl refl))
-deed_step l k e (End name guess) a p is h = h ∙ ap word_of_deed (sym (end_if (λ x. deed_in x p ≡ deed_in (visible l) p) (a == live_word name.turn guess) (is_live a && (turn_of a == name.turn)) (Event.End k name e) (Event.Reject k name (reason_of name a)) (visible l) (λ hit. refl) refl refl))
-deed_step l k e (EndSized name room) a p is h = h ∙ ap word_of_deed (sym (end_if (λ x. deed_in x p ≡ deed_in (visible l) p) (a == live_word name.turn (room / 16)) false (Event.End k name e) (Event.Reject k name (sized_reason name room a)) (visible l) (λ hit. refl) refl refl))
+deed_step l k e (End name guess) a p is h = h ∙ ap word_of_deed (sym (end_event_cases (λ x. deed_in x p ≡ deed_in (visible l) p) (a == live_word name.turn guess) (is_live a && (turn_of a == name.turn)) (Event.End k name e) (Event.Reject k name (reason_of name a)) (visible l) (λ hit. refl) refl refl))
+deed_step l k e (EndSized name room) a p is h = h ∙ ap word_of_deed (sym (end_event_cases (λ x. deed_in x p ≡ deed_in (visible l) p) (a == live_word name.turn (room / 16)) false (Event.End k name e) (Event.Reject k name (sized_reason name room a)) (visible l) (λ hit. refl) refl refl))
 deed_step l k e s a p is h = h
 
 -- the deed word of a page records the machine's directory
@@ -124,19 +134,22 @@ deed_of f (t ∷ l) legal p = deed_step l t.actor (epoch_of (part t.actor l)) t.
 abbrev AreOf : Profile → List Event → Type 0
 AreOf f es = (p : ℕ) (d : Directory) → deed_in es p ≡ Some d → IsDirectoryOf f d
 
-one_directory : (f : Profile) (x : Bool) (d : Directory) (old : Option Directory) (d' : Directory) → IsDirectoryOf f d → (old ≡ Some d' → IsDirectoryOf f d') → (if x then Some d else old) ≡ Some d' → IsDirectoryOf f d'
+one_directory : (f : Profile) (x : Bool) (d : Directory) (old : Option Directory) (d' : Directory) → IsDirectoryOf f d → (old ≡ Some d' → IsDirectoryOf f d')
+    → (if x then Some d else old) ≡ Some d' → IsDirectoryOf f d'
 one_directory f x d old d' of rest is = grind (arith, same_Some)
 
-directory_if : (f : Profile) (z : Bool) (k q : ℕ) (d : Directory) (es : List Event) → IsDirectoryOf f d → AreOf f es → AreOf f (with_event (if z then Some (Event.Deed k q d) else None) es)
+directory_if : (f : Profile) (z : Bool) (k q : ℕ) (d : Directory) (es : List Event) → IsDirectoryOf f d → AreOf f es
+    → AreOf f (with_event (if z then Some (Event.Deed k q d) else None) es)
 directory_if f z k q d es of rest p d' is = grind (arith, one_directory)
 
 directory_step : (f : Profile) (k e : ℕ) (s : Step) (a : ℕ) (es : List Event) → IsStepOf f s → AreOf f es → AreOf f (with_event (event_of k e s a) es)
 directory_step f k e (Deed q d) a es of rest = directory_if f (a == 0) k q d es of.1 rest
 directory_step f k e (Back q) a es of rest = λ p d is. rest p d (sym (event_if (λ x. deed_in x p ≡ deed_in es p) (a == 0) (Event.Back k q) es refl refl) ∙ is)
-directory_step f k e (End name guess) a es of rest = λ p d is. rest p d (sym (end_if (λ x. deed_in x p ≡ deed_in es p) (a == live_word name.turn guess) (is_live a && (turn_of a == name.turn)) (Event.End k name e) (Event.Reject k name (reason_of name a)) es (λ hit. refl) refl refl) ∙ is)
-directory_step f k e (EndSized name room) a es of rest = λ p d is. rest p d (sym (end_if (λ x. deed_in x p ≡ deed_in es p) (a == live_word name.turn (room / 16)) false (Event.End k name e) (Event.Reject k name (sized_reason name room a)) es (λ hit. refl) refl refl) ∙ is)
+directory_step f k e (End name guess) a es of rest = λ p d is. rest p d (sym (end_event_cases (λ x. deed_in x p ≡ deed_in es p) (a == live_word name.turn guess) (is_live a && (turn_of a == name.turn)) (Event.End k name e) (Event.Reject k name (reason_of name a)) es (λ hit. refl) refl refl) ∙ is)
+directory_step f k e (EndSized name room) a es of rest = λ p d is. rest p d (sym (end_event_cases (λ x. deed_in x p ≡ deed_in es p) (a == live_word name.turn (room / 16)) false (Event.End k name e) (Event.Reject k name (sized_reason name room a)) es (λ hit. refl) refl refl) ∙ is)
 directory_step f k e s a es of rest = rest
 
+-- A page's deed by the events of a legal list is a directory of the profile.
 pub directory_is_of : (f : Profile) (l : Whole) → Legal f l → (p : ℕ) (d : Directory) → deed_in (visible l) p ≡ Some d → IsDirectoryOf f d
 directory_is_of f [] legal p d is = cc
 directory_is_of f (t ∷ l) legal p d is = directory_step f t.actor (epoch_of (part t.actor l)) t.made.step t.made.answer (visible l) legal.0.of_region (directory_is_of f l legal.1) p d is
@@ -145,6 +158,7 @@ directory_is_of f (t ∷ l) legal p d is = directory_step f t.actor (epoch_of (p
 or_one : (b : Bool) (old : ℕ) → old ≡ word_of_backed b → bit_or old 1 ≡ 1
 or_one b old h = grind arith
 
+-- A backed word is 0 exactly where the page isn't backed.
 pub is_backed : (z : Bool) (b : Bool) (n : ℕ) → n ≡ word_of_backed b → (n == 0) ≡ z → b ≡ not z
 is_backed z b n h e = grind (arith, nat_tests)
 
@@ -156,12 +170,13 @@ unback_agrees : (x : Bool) (old : ℕ) (was : Bool) → old ≡ word_of_backed w
 unback_agrees x old was h = grind arith
 
 back_step : (l : Whole) (k e : ℕ) (s : Step) (a p : ℕ) → a ≡ word_after l (target s) → word_after l (Word.Backed p) ≡ word_of_backed (backed_in (visible l) p)
-    → (if same_word (target s) (Word.Backed p) then new_value e s (word_after l (Word.Backed p)) else word_after l (Word.Backed p)) ≡ word_of_backed (backed_in (with_event (event_of k e s a) (visible l)) p)
+    → (if same_word (target s) (Word.Backed p) then new_value e s (word_after l (Word.Backed p)) else word_after l (Word.Backed p))
+      ≡ word_of_backed (backed_in (with_event (event_of k e s a) (visible l)) p)
 back_step l k e (Look word) a p is h = looked (same_word word (Word.Backed p)) (word_after l (Word.Backed p)) ∙ h
 back_step l k e (Deed q d) a p is h = h ∙ ap word_of_backed (sym (event_if (λ x. backed_in x p ≡ backed_in (visible l) p) (a == 0) (Event.Deed k q d) (visible l) refl refl))
 back_step l k e (Back q) a p is h = back_agrees (q == p) (a == 0) k q p (word_after l (Word.Backed p)) a (visible l) refl (λ t. is ∙ ap (λ n. word_after l (Word.Backed n)) (eqb-true q p t)) refl h
-back_step l k e (End name guess) a p is h = h ∙ ap word_of_backed (sym (end_if (λ x. backed_in x p ≡ backed_in (visible l) p) (a == live_word name.turn guess) (is_live a && (turn_of a == name.turn)) (Event.End k name e) (Event.Reject k name (reason_of name a)) (visible l) (λ hit. refl) refl refl))
-back_step l k e (EndSized name room) a p is h = h ∙ ap word_of_backed (sym (end_if (λ x. backed_in x p ≡ backed_in (visible l) p) (a == live_word name.turn (room / 16)) false (Event.End k name e) (Event.Reject k name (sized_reason name room a)) (visible l) (λ hit. refl) refl refl))
+back_step l k e (End name guess) a p is h = h ∙ ap word_of_backed (sym (end_event_cases (λ x. backed_in x p ≡ backed_in (visible l) p) (a == live_word name.turn guess) (is_live a && (turn_of a == name.turn)) (Event.End k name e) (Event.Reject k name (reason_of name a)) (visible l) (λ hit. refl) refl refl))
+back_step l k e (EndSized name room) a p is h = h ∙ ap word_of_backed (sym (end_event_cases (λ x. backed_in x p ≡ backed_in (visible l) p) (a == live_word name.turn (room / 16)) false (Event.End k name e) (Event.Reject k name (sized_reason name room a)) (visible l) (λ hit. refl) refl refl))
 back_step l k e (Unback q) a p is h = unback_agrees (q == p) (word_after l (Word.Backed p)) (backed_in (visible l) p) h
 back_step l k e s a p is h = h
 

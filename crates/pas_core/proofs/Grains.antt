@@ -23,7 +23,8 @@ pub life_same : (c b : ℕ) → same_word (life_word_at c) (life_word_at b) ≡ 
 life_same c b = grind (arith, nat_tests)
 
 -- the free word of a page that a grain stands in
-free_same : (l : Whole) (page word g : ℕ) → ((word == g / 64 % 4) && (page == g / 256)) ≡ true → word_after l (Word.Free page word) ≡ word_after l (free_word_at g)
+free_same : (l : Whole) (page word g : ℕ) → ((word == g / 64 % 4) && (page == g / 256)) ≡ true
+    → word_after l (Word.Free page word) ≡ word_after l (free_word_at g)
 free_same l page word g h = search (arith, and_parts, eqb-true)
 
 -- ---- the numbers of a step of a valid profile fit
@@ -48,6 +49,7 @@ Fits j (Ends a) o = o ≡ Covered a
 is_free-true : (o : Place) → is_free o ≡ true → o ≡ IsFree
 is_free-true s h = grind arith
 
+-- A grain's place that is held by an actor is in that actor's hands.
 pub is_held_by-true : (k : ℕ) (o : Place) → is_held_by k o ≡ true → o ≡ Held k
 is_held_by-true k s h = grind (arith, eqb-true)
 
@@ -73,9 +75,11 @@ covered_moved (Gives a) b was = if a == b then true else was
 covered_moved (Ends a) b was = if a == b then false else was
 covered_moved s b was = was
 
+-- A test that chooses true or false is the test itself.
 pub if_true : (t : Bool) → (if t then true else false) ≡ t
 if_true t = grind arith
 
+-- A test that chooses false or itself is false.
 pub if_false : (t : Bool) → (if t then false else t) ≡ false
 if_false t = grind arith
 
@@ -93,7 +97,8 @@ take_free : (t : Bool) (old a mask b : ℕ) → (t ≡ true → a ≡ old) → m
     → has_bit (if t then bit_and old (bit_not w64 mask) else old) b ≡ free_moved (if (t && has_bit mask b) && has_bit a b then Gets else Stays) (has_bit old b)
 take_free t old a mask b same hm hb = grind (arith, bit_cleared, take_cases)
 
-put_free : (t : Bool) (old mask b : ℕ) → has_bit (if t then bit_or old mask else old) b ≡ free_moved (if t && has_bit mask b then Puts else Stays) (has_bit old b)
+put_free : (t : Bool) (old mask b : ℕ)
+    → has_bit (if t then bit_or old mask else old) b ≡ free_moved (if t && has_bit mask b then Puts else Stays) (has_bit old b)
 put_free t old mask b = grind (arith, bit_of_or, put_cases)
 
 rests_free : (t was : Bool) (m : Move) → free_moved m was ≡ was → was ≡ free_moved (if t then m else Stays) was
@@ -101,7 +106,8 @@ rests_free t was m h = cond_both t m Stays (λ x. was ≡ free_moved x was) (λ 
 
 -- what a step does to the bit of a grain
 pub free_step : (f : Profile) (l : Whole) (e : ℕ) (s : Step) (a g : ℕ) → IsStepOf f s → a ≡ word_after l (target s)
-    → has_bit (if same_word (target s) (free_word_at g) then new_value e s (word_after l (free_word_at g)) else word_after l (free_word_at g)) (g % 64) ≡ free_moved (grain_move s a g) (has_bit (word_after l (free_word_at g)) (g % 64))
+    → has_bit (if same_word (target s) (free_word_at g) then new_value e s (word_after l (free_word_at g)) else word_after l (free_word_at g)) (g % 64)
+      ≡ free_moved (grain_move s a g) (has_bit (word_after l (free_word_at g)) (g % 64))
 free_step f l e (Look word) a g of is = ap (λ n. has_bit n (g % 64)) (looked (same_word word (free_word_at g)) (word_after l (free_word_at g)))
 free_step f l e (Take page word mask) a g of is = take_free ((word == g / 64 % 4) && (page == g / 256)) (word_after l (free_word_at g)) a mask (g % 64) (λ h. is ∙ free_same l page word g h) of.2 (omega arith)
 free_step f l e (Put page word mask) a g of is = put_free ((word == g / 64 % 4) && (page == g / 256)) (word_after l (free_word_at g)) mask (g % 64)
@@ -125,22 +131,27 @@ none_covers t c g n h = grind (arith, nat_tests)
 pub some_grain : (room : ℕ) → room % 16 ≡ 0 → 0 < room → 0 < room / 16
 some_grain room whole some = omega arith
 
-not_covering : (f : Profile) (l : Whole) (k : ℕ) (block : Block) (g : ℕ) → IsPlacedOnce l (grain_of block.name) → Allowed f (part k l) (Give block) → covers (word_after l (life_word_at (grain_of block.name))) (grain_of block.name) g ≡ false
+not_covering : (f : Profile) (l : Whole) (k : ℕ) (block : Block) (g : ℕ) → IsPlacedOnce l (grain_of block.name) → Allowed f (part k l) (Give block)
+    → covers (word_after l (life_word_at (grain_of block.name))) (grain_of block.name) g ≡ false
 not_covering f l k block g at allowed = search (arith, is_held_by-true, first_of_run, some_grain, none_covers)
 
 rests_covered : (t was : Bool) (m : Move) (b : ℕ) → covered_moved m b was ≡ was → was ≡ covered_moved (if t then m else Stays) b was
 rests_covered t was m b h = cond_both t m Stays (λ x. was ≡ covered_moved x b was) (λ here. sym h) (λ other. refl)
 
-give_covers : (x y : Bool) (c b g turn n old : ℕ) → y ≡ (c == b) → (c == b) ≡ x → turn < 2 ^ 40 → n < 2 ^ 23 → (x ≡ true → covers old b g ≡ false) → (r : Bool) → in_run c n g ≡ r
+give_covers : (x y : Bool) (c b g turn n old : ℕ) → y ≡ (c == b) → (c == b) ≡ x → turn < 2 ^ 40 → n < 2 ^ 23 → (x ≡ true → covers old b g ≡ false) → (r : Bool)
+    → in_run c n g ≡ r
     → covers (if y then live_word turn n else old) b g ≡ covered_moved (if r then Gives c else Stays) b (covers old b g)
 give_covers x y c b g turn n old ye e ht hn dead r run = grind (arith, covers_live, eqb-true)
 
-end_covers : (x : Bool) (c b g turn n old a : ℕ) → (c == b) ≡ x → turn < 2 ^ 40 - 1 → n < 2 ^ 23 → (x ≡ true → a ≡ old) → (z : Bool) → (a == live_word turn n) ≡ z → (r : Bool) → in_run c n g ≡ r
+end_covers : (x : Bool) (c b g turn n old a : ℕ) → (c == b) ≡ x → turn < 2 ^ 40 - 1 → n < 2 ^ 23 → (x ≡ true → a ≡ old) → (z : Bool)
+    → (a == live_word turn n) ≡ z → (r : Bool) → in_run c n g ≡ r
     → covers (if x then (if old == live_word turn n then turn + 1 else old) else old) b g ≡ covered_moved (if z && r then Ends c else Stays) b (covers old b g)
 end_covers x c b g turn n old a e ht hn same z is r run = grind (arith, covers_ended, eqb-true, covers_live)
 
-covered_step : (f : Profile) (l : Whole) (k e : ℕ) (s : Step) (a g b : ℕ) → IsValid f → ((g : ℕ) → IsPlacedOnce l g) → IsStepOf f s → Allowed f (part k l) s → a ≡ word_after l (target s)
-    → covers (if same_word (target s) (life_word_at b) then new_value e s (word_after l (life_word_at b)) else word_after l (life_word_at b)) b g ≡ covered_moved (grain_move s a g) b (covers (word_after l (life_word_at b)) b g)
+covered_step : (f : Profile) (l : Whole) (k e : ℕ) (s : Step) (a g b : ℕ) → IsValid f → ((g : ℕ) → IsPlacedOnce l g) → IsStepOf f s → Allowed f (part k l) s
+    → a ≡ word_after l (target s)
+    → covers (if same_word (target s) (life_word_at b) then new_value e s (word_after l (life_word_at b)) else word_after l (life_word_at b)) b g
+      ≡ covered_moved (grain_move s a g) b (covers (word_after l (life_word_at b)) b g)
 covered_step f l k e (Look word) a g b valid placed of allowed is = ap (λ n. covers n b g) (looked (same_word word (life_word_at b)) (word_after l (life_word_at b)))
 covered_step f l k e (Take page word mask) a g b valid placed of allowed is = rests_covered (in_mask page word mask g && has_bit a (g % 64)) (covers (word_after l (life_word_at b)) b g) Gets b refl
 covered_step f l k e (Put page word mask) a g b valid placed of allowed is = rests_covered (in_mask page word mask g) (covers (word_after l (life_word_at b)) b g) Puts b refl
@@ -158,7 +169,9 @@ covered_step f l k e s a g b valid placed of allowed is = refl
 fits_if : (j : ℕ) (m : Move) (o : Place) (t : Bool) → (t ≡ true → Fits j m o) → Fits j (if t then m else Stays) o
 fits_if j m o t h = cond_both t m Stays (λ x. Fits j x o) h (λ other. tt)
 
-pub step_fits : (f : Profile) (l : Whole) (k : ℕ) (s : Step) (a g : ℕ) (at : IsPlacedOnce l g) → IsValid f → IsStepOf f s → Allowed f (part k l) s → a ≡ word_after l (target s) → Fits k (grain_move s a g) at.place
+-- A legal step takes each grain from where it is.
+pub step_fits : (f : Profile) (l : Whole) (k : ℕ) (s : Step) (a g : ℕ) (at : IsPlacedOnce l g) → IsValid f → IsStepOf f s → Allowed f (part k l) s
+    → a ≡ word_after l (target s) → Fits k (grain_move s a g) at.place
 step_fits f l k (Take page word mask) a g at valid of allowed is = search (arith, fits_if, and_parts, is_free-true, free_same)
 step_fits f l k (Put page word mask) a g at valid of allowed is = fits_if k Puts at.place (in_mask page word mask g) (λ h. is_held_by-true k at.place (sym (at.held k) ∙ allowed.held g h))
 step_fits f l k (Give block) a g at valid of allowed is = fits_if k (Gives (grain_of block.name)) at.place (in_run (grain_of block.name) (length_of block) g) (λ h. is_held_by-true k at.place (sym (at.held k) ∙ allowed.held g h))

@@ -17,7 +17,7 @@ use Rattle.pas_steps.specs.declared.step.Step.TheVariants.{Look, Deed, Back, Giv
 use Rattle.pas_core.specs.Good.{Place, Held, is_held_by, covers, IsPlacedOnce, IsLifeOf, IsLifeOfNone, IsLifeOfLive, IsBare}
 use Rattle.pas_core.proofs.Grains.{life_same, give_short, Fits, is_held_by-true, covers_live, some_grain, step_fits, placed_once}
 use Rattle.std.proofs.lemmas.{Option.same_Some, Option.none-some, Bool.Decides.nat_tests}
-use Rattle.pas_core.proofs.Deeds.{event_if, end_if, looked}
+use Rattle.pas_core.proofs.Deeds.{event_if, end_event_cases, looked}
 use Rattle.pas_bits.proofs.Runs.{first_of_run}
 use Rattle.pas_machine.specs.{Machine.Admits, Machine.Run, Totals.sum_below}
 use Rattle.pas_core.specs.Given.{WasGiven}
@@ -34,10 +34,12 @@ abbrev pub is_still : Move → Bool
 is_still Stays = true
 is_still s = false
 
-give_rests : (x r : Bool) (c g n old new : ℕ) → (c == g) ≡ x → 0 < n → in_run c n g ≡ r → is_still (if r then Gives c else Stays) ≡ true → (if x then new else old) ≡ old
+give_rests : (x r : Bool) (c g n old new : ℕ) → (c == g) ≡ x → 0 < n → in_run c n g ≡ r → is_still (if r then Gives c else Stays) ≡ true
+    → (if x then new else old) ≡ old
 give_rests x r c g n old new xe some re still = grind (arith, false≢true, eqb-true, first_of_run)
 
-end_rests : (x z r : Bool) (c g n old t a : ℕ) → (c == g) ≡ x → (x ≡ true → a ≡ old) → 0 < n → (a == live_word t n) ≡ z → in_run c n g ≡ r → is_still (if z && r then Ends c else Stays) ≡ true
+end_rests : (x z r : Bool) (c g n old t a : ℕ) → (c == g) ≡ x → (x ≡ true → a ≡ old) → 0 < n → (a == live_word t n) ≡ z → in_run c n g ≡ r
+    → is_still (if z && r then Ends c else Stays) ≡ true
     → (if x then (if old == live_word t n then t + 1 else old) else old) ≡ old
 end_rests x z r c g n old t a xe is some ze re still = grind (arith, false≢true, eqb-true, first_of_run)
 
@@ -45,8 +47,10 @@ end_rests x z r c g n old t a xe is some ze re still = grind (arith, false≢tru
 pub word_is : (l : Whole) (a c g : ℕ) → a ≡ word_after l (life_word_at c) → (c == g) ≡ true → a ≡ word_after l (life_word_at g)
 word_is l a c g is x = is ∙ ap (λ b. word_after l (life_word_at b)) (eqb-true c g x)
 
-life_rests : (f : Profile) (l : Whole) (k e : ℕ) (s : Step) (a g : ℕ) → IsStepOf f s → Allowed f (part k l) s → a ≡ word_after l (target s) → is_still (grain_move s a g) ≡ true
-    → (if same_word (target s) (life_word_at g) then new_value e s (word_after l (life_word_at g)) else word_after l (life_word_at g)) ≡ word_after l (life_word_at g)
+life_rests : (f : Profile) (l : Whole) (k e : ℕ) (s : Step) (a g : ℕ) → IsStepOf f s → Allowed f (part k l) s → a ≡ word_after l (target s)
+    → is_still (grain_move s a g) ≡ true
+    → (if same_word (target s) (life_word_at g) then new_value e s (word_after l (life_word_at g)) else word_after l (life_word_at g))
+      ≡ word_after l (life_word_at g)
 life_rests f l k e (Look word) a g of allowed is still = looked (same_word word (life_word_at g)) (word_after l (life_word_at g))
 life_rests f l k e (Give block) a g of allowed is still =
     as_test (same_word (life_word_at (grain_of block.name)) (life_word_at g)) (grain_of block.name == g) (λ w. w ≡ word_after l (life_word_at g)) (live_word block.name.turn (length_of block)) (word_after l (life_word_at g)) (life_same (grain_of block.name) g)
@@ -64,7 +68,8 @@ pub look_is : (l : Whole) (s : Step) (a g : ℕ) → a ≡ word_after l (target 
 look_is l s a g is h = grind (arith, and_parts, eqb-true, false≢true)
 
 -- of an own step
-own_life : (m : Move) (looks held : Bool) (a word word' : ℕ) (known : Option ℕ) (w : ℕ) → (is_still m ≡ true → word' ≡ word) → (looks ≡ true → a ≡ word) → ((w : ℕ) → known ≡ Some w → (held ≡ true) × (w ≡ word))
+own_life : (m : Move) (looks held : Bool) (a word word' : ℕ) (known : Option ℕ) (w : ℕ) → (is_still m ≡ true → word' ≡ word) → (looks ≡ true → a ≡ word)
+    → ((w : ℕ) → known ≡ Some w → (held ≡ true) × (w ≡ word))
     → life_after m looks held a known ≡ Some w → (held_after m held ≡ true) × (w ≡ word')
 own_life s looks held a word word' known w rests is old h = grind (arith, same_Some)
 
@@ -80,9 +85,11 @@ abbrev pub TellsLife : View → ℕ → ℕ → Type 0
 TellsLife v g word = (w : ℕ) → known_life v g ≡ Some w → (holds v g ≡ true) × (w ≡ word)
 
 -- the life word of a grain that a step doesn't move
-rests_at : (f : Profile) (t : Triple) (l : Whole) (g : ℕ) → Legal f (t ∷ l) → is_still (grain_move t.made.step t.made.answer g) ≡ true → word_after (t ∷ l) (life_word_at g) ≡ word_after l (life_word_at g)
+rests_at : (f : Profile) (t : Triple) (l : Whole) (g : ℕ) → Legal f (t ∷ l) → is_still (grain_move t.made.step t.made.answer g) ≡ true
+    → word_after (t ∷ l) (life_word_at g) ≡ word_after l (life_word_at g)
 rests_at f t l g legal = life_rests f l t.actor (epoch_of (part t.actor l)) t.made.step t.made.answer g legal.0.of_region legal.0.allowed legal.0.answer_is
 
+-- What a view knows of a life word is the word, and its actor holds the grain.
 pub life_is_known : (f : Profile) (l : Whole) → IsValid f → Legal f l → (k g : ℕ) → TellsLife (part k l) g (word_after l (life_word_at g))
 life_is_known f l valid legal k g = each_part f (λ l k v. TellsLife v g (word_after l (life_word_at g))) (λ k w h. cc)
     (λ t l legal before w. own_life (grain_move t.made.step t.made.answer g) (looks_at_life t.made.step g) (holds (part t.actor l) g) t.made.answer (word_after l (life_word_at g)) (word_after (t ∷ l) (life_word_at g)) (known_life (part t.actor l) g) w
@@ -95,13 +102,15 @@ life_is_known f l valid legal k g = each_part f (λ l k v. TellsLife v g (word_a
 
 -- ---- life words of the machine
 -- the block that a live word tells of
-pub block_of_word : (f : Profile) (g word : ℕ) (live : Option Live) (gives ends t n : ℕ) → IsLifeOf f g word live gives ends → t < 2 ^ 40 → word ≡ live_word t n → (b : Live) × (live ≡ Some b) × (b.block.name.turn ≡ t) × (ends ≡ t)
+pub block_of_word : (f : Profile) (g word : ℕ) (live : Option Live) (gives ends t n : ℕ) → IsLifeOf f g word live gives ends → t < 2 ^ 40 → word ≡ live_word t n
+    → (b : Live) × (live ≡ Some b) × (b.block.name.turn ≡ t) × (ends ≡ t)
 block_of_word f g word live gives ends t n h small is = grind arith
 
 -- the turn of a life word is the number of blocks that ended there
 pub turn_is : (f : Profile) (g word : ℕ) (live : Option Live) (gives ends : ℕ) → IsLifeOf f g word live gives ends → turn_of word ≡ ends
 turn_is f g word live gives ends h = grind arith
 
+-- The life word of a grain where a block lives is a live one.
 pub live_is_live : (f : Profile) (g word : ℕ) (b : Live) (gives ends : ℕ) → IsLifeOfLive f g word b gives ends → is_live word ≡ true
 live_is_live f g word b gives ends h = let big : 2 ^ 63 ≤ word = omega (arith, h.word_is) in le-leb (2 ^ 63) word big
 
@@ -120,24 +129,28 @@ record IsNewAt (f : Profile) (g : ℕ) (block : Block) (ends : ℕ) : Type 0 whe
   last : g + length_of block ≤ 256 * (f.pages + 1)
   heap : block.heap < f.heaps
 
-give_life : (x : Bool) (f : Profile) (g word k : ℕ) (block : Block) (live : Option Live) (gives ends : ℕ) → IsLifeOf f g word live gives ends → (x ≡ true → live ≡ None) → (x ≡ true → IsNewAt f g block ends)
+give_life : (x : Bool) (f : Profile) (g word k : ℕ) (block : Block) (live : Option Live) (gives ends : ℕ) → IsLifeOf f g word live gives ends
+    → (x ≡ true → live ≡ None) → (x ≡ true → IsNewAt f g block ends)
     → IsLifeOf f g (if x then live_word block.name.turn (length_of block) else word) (if x then Some record { actor = k; block = block } else live) (if x then gives + 1 else gives) ends
 give_life x f g word k block live gives ends was none new = grind arith
 
-ended : (f : Profile) (g word : ℕ) (live : Option Live) (gives ends t n : ℕ) → IsLifeOf f g word live gives ends → t < 2 ^ 40 - 1 → word ≡ live_word t n → IsLifeOfNone (t + 1) gives (ends + 1)
+ended : (f : Profile) (g word : ℕ) (live : Option Live) (gives ends t n : ℕ) → IsLifeOf f g word live gives ends → t < 2 ^ 40 - 1 → word ≡ live_word t n
+    → IsLifeOfNone (t + 1) gives (ends + 1)
 ended f g word live gives ends t n h small is = grind arith
 
 -- the machine's life of a grain
 abbrev LifeIn : Profile → ℕ → ℕ → List Event → ℕ → Type 0
 LifeIn f g word es address = IsLifeOf f g word (live_in es address) (gives_in es address) (ends_in es address)
 
-end_life : (x z y : Bool) (f : Profile) (g k ep a word guess : ℕ) (name : Name) (w : Why) (es : List Event) (address : ℕ) → (address_of name == address) ≡ x → (x ≡ true → a ≡ word) → (a == live_word name.turn guess) ≡ z → name.turn < 2 ^ 40 - 1
+end_life : (x z y : Bool) (f : Profile) (g k ep a word guess : ℕ) (name : Name) (w : Why) (es : List Event) (address : ℕ) → (address_of name == address) ≡ x
+    → (x ≡ true → a ≡ word) → (a == live_word name.turn guess) ≡ z → name.turn < 2 ^ 40 - 1
     → LifeIn f g word es address
     → LifeIn f g (if x then (if word == live_word name.turn guess then name.turn + 1 else word) else word) (with_event (if z then Some (Event.End k name ep) else (if y then None else Some (Event.Reject k name w))) es) address
 end_life x z y f g k ep a word guess name w es address xe is ze small h = grind (arith, eqb-true, ended, eq-eqb, cond_both)
 
 -- a block that may be given at the grain, from its step's conditions
-new_at : (f : Profile) (l : Whole) (k : ℕ) (block : Block) (g ends : ℕ) → IsValid f → IsBlockOf f block → Allowed f (part k l) (Give block) → block.name.turn ≡ ends → (grain_of block.name == g) ≡ true → IsNewAt f g block ends
+new_at : (f : Profile) (l : Whole) (k : ℕ) (block : Block) (g ends : ℕ) → IsValid f → IsBlockOf f block → Allowed f (part k l) (Give block)
+    → block.name.turn ≡ ends → (grain_of block.name == g) ≡ true → IsNewAt f g block ends
 new_at f l k block g ends valid of allowed turn x = search (arith, eqb-true, some_grain, give_short)
 
 life_step : (f : Profile) (l : Whole) (k e : ℕ) (s : Step) (a g : ℕ) → IsValid f → IsStepOf f s → Allowed f (part k l) s → a ≡ word_after l (target s)
@@ -168,18 +181,23 @@ life_step f l k e (EndSized name room) a g valid of allowed is dead tells h =
 life_step f l k e s a g valid of allowed is dead tells h = h
 
 -- a grain of a live block is covered
-live_covers : (f : Profile) (g word : ℕ) (b : Live) (gives ends x : ℕ) → IsLifeOfLive f g word b gives ends → in_run g (length_of b.block) x ≡ true → covers word g x ≡ true
+live_covers : (f : Profile) (g word : ℕ) (b : Live) (gives ends x : ℕ) → IsLifeOfLive f g word b gives ends → in_run g (length_of b.block) x ≡ true
+    → covers word g x ≡ true
 live_covers f g word b gives ends x h run = ap (λ w. covers w g x) h.word_is ∙ covers_live ends (length_of b.block) g x h.few h.short ∙ run
 
 -- no live block has a grain that an actor holds
-pub no_block : (f : Profile) (l : Whole) (k a x : ℕ) (b : Live) (gives ends : ℕ) → IsPlacedOnce l x → holds (part k l) x ≡ true → IsLifeOfLive f a (word_after l (life_word_at a)) b gives ends → in_run a (length_of b.block) x ≡ true → ⊥
+pub no_block : (f : Profile) (l : Whole) (k a x : ℕ) (b : Live) (gives ends : ℕ) → IsPlacedOnce l x → holds (part k l) x ≡ true
+    → IsLifeOfLive f a (word_after l (life_word_at a)) b gives ends → in_run a (length_of b.block) x ≡ true → ⊥
 no_block f l k a x b gives ends at holds life run = search (arith, is_held_by-true, false≢true, live_covers)
 
-pub dead_while_held : (f : Profile) (l : Whole) (k g : ℕ) (live : Option Live) (gives ends : ℕ) → IsPlacedOnce l g → holds (part k l) g ≡ true → IsLifeOf f g (word_after l (life_word_at g)) live gives ends → live ≡ None
+-- Where an actor holds a grain, no block lives that begins there.
+pub dead_while_held : (f : Profile) (l : Whole) (k g : ℕ) (live : Option Live) (gives ends : ℕ) → IsPlacedOnce l g → holds (part k l) g ≡ true
+    → IsLifeOf f g (word_after l (life_word_at g)) live gives ends → live ≡ None
 dead_while_held f l k g live gives ends at holds life = grind (arith, no_block, first_of_run)
 
 -- after every legal list each life word tells of the block that the machine has at its grain
-pub life_of : (f : Profile) (l : Whole) → IsValid f → Legal f l → (g : ℕ) → IsLifeOf f g (word_after l (life_word_at g)) (live_in (visible l) (16 * g)) (gives_in (visible l) (16 * g)) (ends_in (visible l) (16 * g))
+pub life_of : (f : Profile) (l : Whole) → IsValid f → Legal f l → (g : ℕ)
+    → IsLifeOf f g (word_after l (life_word_at g)) (live_in (visible l) (16 * g)) (gives_in (visible l) (16 * g)) (ends_in (visible l) (16 * g))
 life_of f [] valid legal g = record { word_is = refl; gives_are = refl; few = omega arith }
 life_of f (t ∷ l) valid legal g =
     let next : IsNext f l t = legal.0 in
@@ -195,26 +213,31 @@ BareIn es address = IsBare address (live_in es address) (gives_in es address) (e
 other_address : (b address : ℕ) → b % 16 ≡ 0 → address % 16 ≢ 0 → (x : Bool) → (b == address) ≡ x → x ≡ false
 other_address b address h e x k = grind (arith, nat_tests)
 
-bare_give : (x : Bool) (k : ℕ) (block : Block) (address : ℕ) (live : Option Live) (gives ends : ℕ) → x ≡ false → IsBare address live gives ends → IsBare address (if x then Some record { actor = k; block = block } else live) (if x then gives + 1 else gives) ends
+bare_give : (x : Bool) (k : ℕ) (block : Block) (address : ℕ) (live : Option Live) (gives ends : ℕ) → x ≡ false → IsBare address live gives ends
+    → IsBare address (if x then Some record { actor = k; block = block } else live) (if x then gives + 1 else gives) ends
 bare_give x k block address live gives ends e h = grind (arith, false≢true)
 
-bare_ended : (x : Bool) (address : ℕ) (live : Option Live) (gives ends : ℕ) → x ≡ false → IsBare address live gives ends → IsBare address (if x then None else live) gives (if x then ends + 1 else ends)
+bare_ended : (x : Bool) (address : ℕ) (live : Option Live) (gives ends : ℕ) → x ≡ false → IsBare address live gives ends
+    → IsBare address (if x then None else live) gives (if x then ends + 1 else ends)
 bare_ended x address live gives ends e h = grind (arith, false≢true)
 
-bare_step : (f : Profile) (v : View) (k e : ℕ) (s : Step) (a : ℕ) (es : List Event) (address : ℕ) → IsStepOf f s → Allowed f v s → address % 16 ≢ 0 → BareIn es address → BareIn (with_event (event_of k e s a) es) address
+bare_step : (f : Profile) (v : View) (k e : ℕ) (s : Step) (a : ℕ) (es : List Event) (address : ℕ) → IsStepOf f s → Allowed f v s → address % 16 ≢ 0
+    → BareIn es address → BareIn (with_event (event_of k e s a) es) address
 bare_step f v k e (Deed page directory) a es address of allowed un h = event_if (λ x. BareIn x address) (a == 0) (Event.Deed k page directory) es h h
 bare_step f v k e (Back page) a es address of allowed un h = event_if (λ x. BareIn x address) (a == 0) (Event.Back k page) es h h
 bare_step f v k e (Give block) a es address of allowed un h =
     bare_give (address_of block.name == address) k block address (live_in es address) (gives_in es address) (ends_in es address) (other_address (address_of block.name) address allowed.aligned un (address_of block.name == address) refl) h
 bare_step f v k e (End name guess) a es address of allowed un h =
-    end_if (λ x. BareIn x address) (a == live_word name.turn guess) (is_live a && (turn_of a == name.turn)) (Event.End k name e) (Event.Reject k name (reason_of name a)) es
+    end_event_cases (λ x. BareIn x address) (a == live_word name.turn guess) (is_live a && (turn_of a == name.turn)) (Event.End k name e) (Event.Reject k name (reason_of name a)) es
     (λ hit. bare_ended (address_of name == address) address (live_in es address) (gives_in es address) (ends_in es address) (other_address (address_of name) address of.1 un (address_of name == address) refl) h) h h
 bare_step f v k e (EndSized name room) a es address of allowed un h =
-    end_if (λ x. BareIn x address) (a == live_word name.turn (room / 16)) false (Event.End k name e) (Event.Reject k name (sized_reason name room a)) es
+    end_event_cases (λ x. BareIn x address) (a == live_word name.turn (room / 16)) false (Event.End k name e) (Event.Reject k name (sized_reason name room a)) es
     (λ hit. bare_ended (address_of name == address) address (live_in es address) (gives_in es address) (ends_in es address) (other_address (address_of name) address of.0.1 un (address_of name == address) refl) h) h h
 bare_step f v k e s a es address of allowed un h = h
 
-pub bare_of : (f : Profile) (l : Whole) → Legal f l → (address : ℕ) → address % 16 ≢ 0 → IsBare address (live_in (visible l) address) (gives_in (visible l) address) (ends_in (visible l) address)
+-- No block ever began at an address that isn't a multiple of 16.
+pub bare_of : (f : Profile) (l : Whole) → Legal f l → (address : ℕ) → address % 16 ≢ 0
+    → IsBare address (live_in (visible l) address) (gives_in (visible l) address) (ends_in (visible l) address)
 bare_of f [] legal address un = record { no_block = refl; no_give = refl; no_end = refl }
 bare_of f (t ∷ l) legal address un = bare_step f (part t.actor l) t.actor (epoch_of (part t.actor l)) t.made.step t.made.answer (visible l) address legal.0.of_region legal.0.allowed un (bare_of f l legal.1 address un)
 
@@ -241,13 +264,16 @@ life_at f l valid legal address aligned =
 -- ==== What callers need of the blocks that were given: names keep their blocks, and there are no more gives than events.
 
 -- ---- a block that was given stays so
-given_live : (x : Bool) (live : Option Live) (new : Live) (block : Block) → (x ≡ true → new.block.name.turn ≡ block.name.turn → ⊥) → ((b : Live) → live ≡ Some b → b.block.name.turn ≡ block.name.turn → b.block ≡ block)
+given_live : (x : Bool) (live : Option Live) (new : Live) (block : Block) → (x ≡ true → new.block.name.turn ≡ block.name.turn → ⊥)
+    → ((b : Live) → live ≡ Some b → b.block.name.turn ≡ block.name.turn → b.block ≡ block)
     → (b : Live) → (if x then Some new else live) ≡ Some b → b.block.name.turn ≡ block.name.turn → b.block ≡ block
 given_live x live new block other old b is turn = grind (arith, same_Some)
 
-ended_live : (x : Bool) (live : Option Live) (block : Block) → ((b : Live) → live ≡ Some b → b.block.name.turn ≡ block.name.turn → b.block ≡ block) → (b : Live) → (if x then None else live) ≡ Some b → b.block.name.turn ≡ block.name.turn → b.block ≡ block
+ended_live : (x : Bool) (live : Option Live) (block : Block) → ((b : Live) → live ≡ Some b → b.block.name.turn ≡ block.name.turn → b.block ≡ block) → (b : Live)
+    → (if x then None else live) ≡ Some b → b.block.name.turn ≡ block.name.turn → b.block ≡ block
 ended_live x live block old b is turn = grind arith
 
+-- A block that was given stays so by one event more.
 pub one_more : (f : Profile) (e : Event) (es : List Event) (block : Block) → Admits f es e → WasGiven es block → WasGiven (e ∷ es) block
 one_more f s es block admits given = grind (arith, cond_both, given_live, eqb-true, ended_live)
 
@@ -286,7 +312,7 @@ counts_few (e ∷ es) = let rest = counted_few e (count_gives es) (length es) (c
 
 -- a step adds as many gives as its event is
 count_step : (k e : ℕ) (s : Step) (a : ℕ) (es : List Event) → count_gives (with_event (event_of k e s a) es) ≡ given_after s (count_gives es)
-count_step k e s a es = grind (arith, event_if, end_if)
+count_step k e s a es = grind (arith, event_if, end_event_cases)
 
 -- no address was given more often than there are events
 pub turns_few : (es : List Event) (address : ℕ) → gives_in es address ≤ length es
@@ -310,7 +336,8 @@ sum_grows : (n : ℕ) (v w : ℕ → ℕ) → ((k : ℕ) → v k ≤ w k) → su
 sum_grows zero v w h = omega arith
 sum_grows (suc n) v w h = omega (arith, sum_grows n v w h, h n)
 
-rises_last : (t : Bool) (n j c : ℕ) (v w : ℕ → ℕ) → (j == n) ≡ t → ((k : ℕ) → v k ≤ w k) → v j + c ≤ w j → j < suc n → (j < n → sum_below n v + c ≤ sum_below n w) → sum_below n v + v n + c ≤ sum_below n w + w n
+rises_last : (t : Bool) (n j c : ℕ) (v w : ℕ → ℕ) → (j == n) ≡ t → ((k : ℕ) → v k ≤ w k) → v j + c ≤ w j → j < suc n
+    → (j < n → sum_below n v + c ≤ sum_below n w) → sum_below n v + v n + c ≤ sum_below n w + w n
 rises_last t n j c v w e grows here low rest = grind (arith, eqb-true, sum_grows, eqb-false)
 
 -- more at one number makes the sum that much greater

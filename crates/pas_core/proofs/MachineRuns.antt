@@ -39,7 +39,8 @@ pub agrees : (f : Profile) (l : Whole) → IsValid f → Legal f l → AgreesWit
 agrees f l valid legal = record { deed = deed_of f l legal; backed = backed_of f l legal; life = life_of f l valid legal; bare = bare_of f l legal }
 
 -- ---- grains of a run
-page_of_run : (f : Profile) (address room x : ℕ) → 4096 ≤ address → address + room ≤ 4096 * (f.pages + 1) → address % 16 ≡ 0 → in_run (address / 16) (room / 16) x ≡ true → IsPage f (x / 256)
+page_of_run : (f : Profile) (address room x : ℕ) → 4096 ≤ address → address + room ≤ 4096 * (f.pages + 1) → address % 16 ≡ 0
+    → in_run (address / 16) (room / 16) x ≡ true → IsPage f (x / 256)
 page_of_run f address room x low high aligned run = search (arith, run_of)
 
 -- ---- deeds and backed pages that are known are the machine's
@@ -58,7 +59,8 @@ record HasDeed (f : Profile) (o : Option Directory) (heap : ℕ) : Type 0 where
   deed : o ≡ Some directory
   of_heap : directory.heap ≡ heap
 
-deed_from : (f : Profile) (o : Option Directory) (d : Directory) → ((d' : Directory) → o ≡ Some d' → IsDirectoryOf f d') → IsDirectoryOf f d → deed_word_of d ≡ word_of_deed o → HasDeed f o d.heap
+deed_from : (f : Profile) (o : Option Directory) (d : Directory) → ((d' : Directory) → o ≡ Some d' → IsDirectoryOf f d') → IsDirectoryOf f d
+    → deed_word_of d ≡ word_of_deed o → HasDeed f o d.heap
 deed_from f o d of is_of h = grind (arith, kind_number_lt)
 
 bearing : (f : Profile) (l : Whole) → IsValid f → Legal f l → (k heap p : ℕ) → IsPage f p → KnowsBearing f (part k l) heap p → Bears f (visible l) heap p
@@ -83,36 +85,47 @@ give_turn : (f : Profile) (g word : ℕ) (live : Option Live) (gives ends : ℕ)
 give_turn f g word live gives ends h none = search (arith, turn_is)
 
 -- ---- events of steps
-reason : (x : Bool) (es : List Event) (name : Name) (turn : ℕ) → turn ≡ ends_in es (address_of name) → nat_lt name.turn turn ≡ x → (IsLive es name → ⊥) → IsReason es name (if x then Why.Ended else Why.NoBlock)
+reason : (x : Bool) (es : List Event) (name : Name) (turn : ℕ) → turn ≡ ends_in es (address_of name) → nat_lt name.turn turn ≡ x → (IsLive es name → ⊥)
+    → IsReason es name (if x then Why.Ended else Why.NoBlock)
 reason x es name turn is e dead = grind (arith, nat_tests)
 
 -- no block of the name lives where the word tells of none
-none_lives : (f : Profile) (g word a : ℕ) (name : Name) (es : List Event) → a ≡ word → IsLifeOf f g word (live_in es (address_of name)) (gives_in es (address_of name)) (ends_in es (address_of name)) → (is_live a && (turn_of a == name.turn)) ≡ false → IsLive es name → ⊥
+none_lives : (f : Profile) (g word a : ℕ) (name : Name) (es : List Event) → a ≡ word
+    → IsLifeOf f g word (live_in es (address_of name)) (gives_in es (address_of name)) (ends_in es (address_of name))
+    → (is_live a && (turn_of a == name.turn)) ≡ false → IsLive es name → ⊥
 none_lives f g word a name es is life none live = search (arith, turn_is, false≢true, and_from, live_is_live, eq-eqb)
 
 -- such an end is refused by its true reason
-refused : (f : Profile) (g word a : ℕ) (name : Name) (es : List Event) → a ≡ word → IsLifeOf f g word (live_in es (address_of name)) (gives_in es (address_of name)) (ends_in es (address_of name)) → (is_live a && (turn_of a == name.turn)) ≡ false → IsReason es name (reason_of name a)
+refused : (f : Profile) (g word a : ℕ) (name : Name) (es : List Event) → a ≡ word
+    → IsLifeOf f g word (live_in es (address_of name)) (gives_in es (address_of name)) (ends_in es (address_of name))
+    → (is_live a && (turn_of a == name.turn)) ≡ false → IsReason es name (reason_of name a)
 refused f g word a name es is life none = search (arith, turn_is, reason, none_lives)
 
-end_admits : (f : Profile) (z y : Bool) (k ep g a word guess : ℕ) (name : Name) (es : List Event) → Run f es → IsPlace f (address_of name) → a ≡ word → name.turn < 2 ^ 40 - 1
-    → IsLifeOf f g word (live_in es (address_of name)) (gives_in es (address_of name)) (ends_in es (address_of name)) → (a == live_word name.turn guess) ≡ z → (is_live a && (turn_of a == name.turn)) ≡ y
+end_admits : (f : Profile) (z y : Bool) (k ep g a word guess : ℕ) (name : Name) (es : List Event) → Run f es → IsPlace f (address_of name) → a ≡ word
+    → name.turn < 2 ^ 40 - 1
+    → IsLifeOf f g word (live_in es (address_of name)) (gives_in es (address_of name)) (ends_in es (address_of name)) → (a == live_word name.turn guess) ≡ z
+    → (is_live a && (turn_of a == name.turn)) ≡ y
     → Run f (with_event (if z then Some (Event.End k name ep) else (if y then None else Some (Event.Reject k name (reason_of name a)))) es)
 end_admits f z y k ep g a word guess name es run of is small life ze ye = grind (arith, block_of_word, eqb-true, refused)
 
 -- a block of the name lives, and its room isn't the one that was named
-other_room : (f : Profile) (g word a room : ℕ) (name : Name) (es : List Event) (live : Option Live) → live_in es (address_of name) ≡ live → a ≡ word → IsLifeOf f g word live (gives_in es (address_of name)) (ends_in es (address_of name))
+other_room : (f : Profile) (g word a room : ℕ) (name : Name) (es : List Event) (live : Option Live) → live_in es (address_of name) ≡ live → a ≡ word
+    → IsLifeOf f g word live (gives_in es (address_of name)) (ends_in es (address_of name))
     → (a == live_word name.turn (room / 16)) ≡ false → is_live a ≡ true → turn_of a ≡ name.turn → IsReason es name (Why.SizeDiffers room)
 other_room f g word a room name es live at is life ne lives turn = grind (arith, nat_tests, turn_is, eqb-false)
 
-sized_admits : (f : Profile) (z y : Bool) (k ep g a word room : ℕ) (name : Name) (es : List Event) → Run f es → IsPlace f (address_of name) → a ≡ word → name.turn < 2 ^ 40 - 1
-    → IsLifeOf f g word (live_in es (address_of name)) (gives_in es (address_of name)) (ends_in es (address_of name)) → (a == live_word name.turn (room / 16)) ≡ z → (is_live a && (turn_of a == name.turn)) ≡ y
+sized_admits : (f : Profile) (z y : Bool) (k ep g a word room : ℕ) (name : Name) (es : List Event) → Run f es → IsPlace f (address_of name) → a ≡ word
+    → name.turn < 2 ^ 40 - 1
+    → IsLifeOf f g word (live_in es (address_of name)) (gives_in es (address_of name)) (ends_in es (address_of name))
+    → (a == live_word name.turn (room / 16)) ≡ z → (is_live a && (turn_of a == name.turn)) ≡ y
     → Run f (with_event (if z then Some (Event.End k name ep) else Some (Event.Reject k name (if y then Why.SizeDiffers room else reason_of name a))) es)
 sized_admits f true y k ep g a word room name es run of is small life ze ye = end_admits f true y k ep g a word (room / 16) name es run of is small life ze ye
 sized_admits f false true k ep g a word room name es run of is small life ze ye =
     search (arith, and_parts, other_room, eqb-true)
 sized_admits f false false k ep g a word room name es run of is small life ze ye = ((of, refused f g word a name es is life ye), run)
 
-give_admits : (f : Profile) (l : Whole) → IsValid f → Legal f l → (k : ℕ) (block : Block) → IsBlockOf f block → Allowed f (part k l) (Give block) → MayGive f (visible l) block
+give_admits : (f : Profile) (l : Whole) → IsValid f → Legal f l → (k : ℕ) (block : Block) → IsBlockOf f block → Allowed f (part k l) (Give block)
+    → MayGive f (visible l) block
 give_admits f l valid legal k block of allowed =
     let g : ℕ = grain_of block.name in
     let life : IsLifeOf f (grain_of block.name) (word_after l (life_word_at (grain_of block.name))) (live_in (visible l) (address_of block.name)) (gives_in (visible l) (address_of block.name)) (ends_in (visible l) (address_of block.name))
@@ -130,7 +143,8 @@ give_admits f l valid legal k block of allowed =
     }
 
 -- no live block touches a page each of whose grains an actor holds
-untouched_if : (f : Profile) (l : Whole) → IsValid f → Legal f l → (k page address : ℕ) → ((g : ℕ) → g / 256 ≡ page → holds (part k l) g ≡ true) → (live : Option Live) → live_in (visible l) address ≡ live → touches live page ≡ false
+untouched_if : (f : Profile) (l : Whole) → IsValid f → Legal f l → (k page address : ℕ) → ((g : ℕ) → g / 256 ≡ page → holds (part k l) g ≡ true)
+    → (live : Option Live) → live_in (visible l) address ≡ live → touches live page ≡ false
 untouched_if f l valid legal k page address held None is = refl
 untouched_if f l valid legal k page address held (Some b) is = false_from_ne_true (touches (Some b) page) (λ h.
     let life : IsLifeOfLive f (address / 16) (word_after l (life_word_at (address / 16))) b (gives_in (visible l) address) (ends_in (visible l) address) = live_of f l valid legal address b is in
@@ -139,7 +153,8 @@ untouched_if f l valid legal k page address held (Some b) is = false_from_ne_tru
     no_block f l k (address / 16) at.grain b (gives_in (visible l) address) (ends_in (visible l) address) (placed_once f l valid legal at.grain) (held at.grain at.of_page) life at.of_run)
 
 -- a page that may be unbacked: its last end is old enough, since its stamp is
-unback_admits : (f : Profile) (l : Whole) → IsValid f → Legal f l → (k page : ℕ) → IsPage f page → MayUnback f (part k l) page → Admits f (visible l) (Event.Unback k page (epoch_of (part k l)))
+unback_admits : (f : Profile) (l : Whole) → IsValid f → Legal f l → (k page : ℕ) → IsPage f page → MayUnback f (part k l) page
+    → Admits f (visible l) (Event.Unback k page (epoch_of (part k l)))
 unback_admits f l valid legal k page of may =
     let stamp : word_after l (Word.Stamp page) ≡ may.stamp = stamp_known f l valid legal k page may.stamp may.known in
     let old = may.old in (
@@ -149,7 +164,8 @@ unback_admits f l valid legal k page of may =
       omega (arith, ends_before f l valid legal k page may.held may.stamped, stamp, old),
     )
 
-admits : (f : Profile) (l : Whole) → IsValid f → Legal f l → (k : ℕ) (s : Step) (a : ℕ) → IsStepOf f s → Allowed f (part k l) s → a ≡ word_after l (target s) → Run f (visible l) → Run f (with_event (event_of k (epoch_of (part k l)) s a) (visible l))
+admits : (f : Profile) (l : Whole) → IsValid f → Legal f l → (k : ℕ) (s : Step) (a : ℕ) → IsStepOf f s → Allowed f (part k l) s → a ≡ word_after l (target s)
+    → Run f (visible l) → Run f (with_event (event_of k (epoch_of (part k l)) s a) (visible l))
 admits f l valid legal k (Deed q d) a of allowed is run = cond_both (a == 0) (Some (Event.Deed k q d)) None (λ o. Run f (with_event o (visible l))) (λ z. ((of.0, of.1.heap, no_deed (deed_in (visible l) q) (sym (eqb-true a 0 z) ∙ is ∙ deed_of f l legal q)), run)) (λ none. run)
 admits f l valid legal k (Back q) a of allowed is run = cond_both (a == 0) (Some (Event.Back k q)) None (λ o. Run f (with_event o (visible l))) (λ z. (
   (
@@ -175,7 +191,8 @@ runs f (t ∷ l) valid legal = admits f l valid legal.1 t.actor t.made.step t.ma
 -- ==== Where a grain is, in the machine's words.
 
 -- a live block has the grain just where the grain's place says so
-part_is : (f : Profile) (l : Whole) (g : ℕ) → IsValid f → Legal f l → (at : IsPlacedOnce l g) (address : ℕ) (b : Live) → live_in (visible l) address ≡ Some b → in_run (address / 16) (length_of b.block) g ≡ is_covered_by (address / 16) at.place
+part_is : (f : Profile) (l : Whole) (g : ℕ) → IsValid f → Legal f l → (at : IsPlacedOnce l g) (address : ℕ) (b : Live) → live_in (visible l) address ≡ Some b
+    → in_run (address / 16) (length_of b.block) g ≡ is_covered_by (address / 16) at.place
 part_is f l g valid legal at address b is = search (arith, live_of, covers_live)
 
 -- the block that a live word tells of
@@ -183,11 +200,14 @@ record LivesAt (l : Whole) (a : ℕ) : Type 0 where
   block : Live
   lives : live_in (visible l) (16 * a) ≡ Some block
 
-found_block : (f : Profile) (l : Whole) (a word : ℕ) (live : Option Live) (gives ends : ℕ) → live_in (visible l) (16 * a) ≡ live → IsLifeOf f a word live gives ends → is_live word ≡ true → LivesAt l a
+found_block : (f : Profile) (l : Whole) (a word : ℕ) (live : Option Live) (gives ends : ℕ) → live_in (visible l) (16 * a) ≡ live
+    → IsLifeOf f a word live gives ends → is_live word ≡ true → LivesAt l a
 found_block f l a word live gives ends is life e = grind (arith, leb-true)
 
-in_place : (f : Profile) (l : Whole) (g : ℕ) → Legal f l → (o : Place) → has_bit (word_after l (free_word_at g)) (g % 64) ≡ is_free o → ((k : ℕ) → holds (part k l) g ≡ is_held_by k o)
-    → ((address : ℕ) (b : Live) → live_in (visible l) address ≡ Some b → in_run (address / 16) (length_of b.block) g ≡ is_covered_by (address / 16) o) → ((a : ℕ) → o ≡ Covered a → LivesAt l a) → IsInOnePlace l g
+in_place : (f : Profile) (l : Whole) (g : ℕ) → Legal f l → (o : Place) → has_bit (word_after l (free_word_at g)) (g % 64) ≡ is_free o
+    → ((k : ℕ) → holds (part k l) g ≡ is_held_by k o)
+    → ((address : ℕ) (b : Live) → live_in (visible l) address ≡ Some b → in_run (address / 16) (length_of b.block) g ≡ is_covered_by (address / 16) o)
+    → ((a : ℕ) → o ≡ Covered a → LivesAt l a) → IsInOnePlace l g
 in_place f l g legal IsFree free held parts lives = inl (record { free = free; nobody = held; no_block = λ address b is here. false≢true (sym (parts address b is) ∙ here) })
 in_place f l g legal (Held k) free held parts lives = inr (inl (record { actor = k; not_free = free; holder = held; no_block = λ address b is here. false≢true (sym (parts address b is) ∙ here) }))
 in_place f l g legal (Covered a) free held parts lives =
@@ -217,6 +237,7 @@ in_one_place f l valid legal g =
 pub lists_borne : (f : Profile) (l : Whole) → IsValid f → Legal f l → AreBorne f (visible l)
 lists_borne f l valid legal = all_borne f (visible l) (runs f l valid legal)
 
+-- The live blocks that a legal list shows have no grain in common.
 pub lists_apart : (f : Profile) (l : Whole) → IsValid f → Legal f l → AreApart (visible l)
 lists_apart f l valid legal = live_apart f (visible l) (runs f l valid legal)
 

@@ -27,7 +27,8 @@ use Rattle.pas_core.proofs.Rights.{Spot, InParked, is_with, is_parked, spot_afte
 -- ==== A backed page whose grains are all free isn't forgotten: its empty bit is set, or some actor owes its hint, or some actor examines it.
 
 -- a bit of a free word is that of a grain, by division
-grain_bit : (l : Whole) (p w b : ℕ) → w < 4 → b < 64 → has_bit (word_after l (Word.Free p w)) b ≡ has_bit (word_after l (free_word_at (p * 256 + w * 64 + b))) ((p * 256 + w * 64 + b) % 64)
+grain_bit : (l : Whole) (p w b : ℕ) → w < 4 → b < 64
+    → has_bit (word_after l (Word.Free p w)) b ≡ has_bit (word_after l (free_word_at (p * 256 + w * 64 + b))) ((p * 256 + w * 64 + b) % 64)
 grain_bit l p w b hw hb = search arith
 
 free_bits : (l : Whole) (p w b : ℕ) → w < 4 → b < 64 → IsEmptyBacked l p → has_bit (word_after l (Word.Free p w)) b ≡ true
@@ -55,13 +56,15 @@ put_misses : (q w p g : ℕ) → (q == p) ≡ false → g / 256 ≡ p → ((w ==
 put_misses q w p g other e = search (arith, false_from_ne_true, and_parts, false≢true, eq-eqb, eqb-true)
 
 -- whoever backs a page holds a grain of it, so it isn't empty
-back_not_empty : (f : Profile) (l : Whole) → IsValid f → Legal f l → (j q p : ℕ) → HoldsOn (part j l) q → ((g : ℕ) → g / 256 ≡ p → has_bit (word_after l (free_word_at g)) (g % 64) ≡ true) → (q == p) ≡ true → ⊥
+back_not_empty : (f : Profile) (l : Whole) → IsValid f → Legal f l → (j q p : ℕ) → HoldsOn (part j l) q
+    → ((g : ℕ) → g / 256 ≡ p → has_bit (word_after l (free_word_at g)) (g % 64) ≡ true) → (q == p) ≡ true → ⊥
 back_not_empty f l valid legal j q p on free h =
     let at : IsPlacedOnce l on.0 = placed_once f l valid legal on.0 in
     let here : at.place ≡ Held j = is_held_by-true j at.place (sym (at.held j) ∙ on.2) in
     false≢true (sym (at.free ∙ ap is_free here) ∙ free on.0 (on.1 ∙ eqb-true q p h))
 
-was_empty : (f : Profile) (l : Whole) → IsValid f → Legal f l → (j : ℕ) (s : Step) (a p : ℕ) → IsStepOf f s → Allowed f (part j l) s → puts s p ≡ false → IsEmptyBacked (triple j (made s a) ∷ l) p → IsEmptyBacked l p
+was_empty : (f : Profile) (l : Whole) → IsValid f → Legal f l → (j : ℕ) (s : Step) (a p : ℕ) → IsStepOf f s → Allowed f (part j l) s → puts s p ≡ false
+    → IsEmptyBacked (triple j (made s a) ∷ l) p → IsEmptyBacked l p
 was_empty f l valid legal j (Look word) a p of allowed other h = search (arith, looked)
 was_empty f l valid legal j (Back q) a p of allowed other h = record { backed = back_was (q == p) (word_after l (Word.Backed p)) (back_not_empty f l valid legal j q p allowed.0 h.free) h.backed; free = h.free }
 was_empty f l valid legal j (Take q w mask) a p of allowed other h = record { backed = h.backed; free = λ g e. clear_was ((w == g / 64 % 4) && (q == g / 256)) (word_after l (free_word_at g)) mask (g % 64) of.2 (omega arith) (h.free g e) }
@@ -71,7 +74,8 @@ was_empty f l valid legal j s a p of allowed other h = record { backed = h.backe
 
 -- ---- debts and examinations
 -- the debt and the examination stay where the step ends none, and the bit where it stays set
-keeps : (l : Whole) (j : ℕ) (s : Step) (a p : ℕ) → hint_after s a p true ≡ true → examined_after s a p true ≡ true → (empty_bit l p ≡ true → IsMinded (triple j (made s a) ∷ l) p) → IsMinded l p → IsMinded (triple j (made s a) ∷ l) p
+keeps : (l : Whole) (j : ℕ) (s : Step) (a p : ℕ) → hint_after s a p true ≡ true → examined_after s a p true ≡ true
+    → (empty_bit l p ≡ true → IsMinded (triple j (made s a) ∷ l) p) → IsMinded l p → IsMinded (triple j (made s a) ∷ l) p
 keeps l j s a p hint examined bit e = grind (arith, cond_both)
 
 -- who puts grains of a page back owes its hint
@@ -79,7 +83,8 @@ put_owes : (s : Step) (a p : ℕ) (was : Bool) → puts s p ≡ true → hint_af
 put_owes s a p was h = grind (arith, false≢true)
 
 -- a look at a free word of the page, or at its backed word, ends nothing
-look_free_keeps : (f : Profile) (l : Whole) → IsValid f → Legal f l → (q w a p : ℕ) → w < 4 → a ≡ word_after l (Word.Free q w) → IsEmptyBacked l p → ((q == p) && not (a == all_ones)) ≡ false
+look_free_keeps : (f : Profile) (l : Whole) → IsValid f → Legal f l → (q w a p : ℕ) → w < 4 → a ≡ word_after l (Word.Free q w) → IsEmptyBacked l p
+    → ((q == p) && not (a == all_ones)) ≡ false
 look_free_keeps f l valid legal q w a p hw is empty = false_from_ne_true ((q == p) && not (a == all_ones)) (λ h.
     let parts = and_parts (q == p) (not (a == all_ones)) h in
     let full : a ≡ all_ones = is ∙ ap (λ x. word_after l (Word.Free x w)) (eqb-true q p parts.0) ∙ full_word f l valid legal p w hw empty in
@@ -89,7 +94,8 @@ look_backed_keeps : (l : Whole) (q a p : ℕ) → a ≡ word_after l (Word.Backe
 look_backed_keeps l q a p is empty = search (arith, false_from_ne_true, and_parts, eqb-true)
 
 -- a take that leaves each grain of the page free got none, and read all ones
-take_mask_none : (l : Whole) (j e q w mask a p : ℕ) → w < 4 → mask < 2 ^ 64 → (q == p) ≡ true → ((b : ℕ) → b < 64 → has_bit (next_value e (Take q w mask) (Word.Free p w) (word_after l (Word.Free p w))) b ≡ true) → mask ≡ 0
+take_mask_none : (l : Whole) (j e q w mask a p : ℕ) → w < 4 → mask < 2 ^ 64 → (q == p) ≡ true
+    → ((b : ℕ) → b < 64 → has_bit (next_value e (Take q w mask) (Word.Free p w) (word_after l (Word.Free p w))) b ≡ true) → mask ≡ 0
 take_mask_none l j e q w mask a p hw hm here free = none_set mask hm (λ b hb.
     let both : ((w == w) && (q == p)) ≡ true = ap (λ t. t && (q == p)) (eq-eqb w w refl) ∙ here in
     let cleared : (has_bit (word_after l (Word.Free p w)) b && not (has_bit mask b)) ≡ true
@@ -99,7 +105,8 @@ take_mask_none l j e q w mask a p hw hm here free = none_set mask hm (λ b hb.
 and_zero : (a : ℕ) → bit_and a 0 ≡ 0
 and_zero a = let le = and_le_r a 0 in omega (arith, le)
 
-take_keeps : (f : Profile) (l : Whole) → IsValid f → Legal f l → (j q w mask a p : ℕ) → w < 4 → mask < 2 ^ 64 → a ≡ word_after l (Word.Free q w) → IsEmptyBacked l p → IsEmptyBacked (triple j (made (Take q w mask) a) ∷ l) p
+take_keeps : (f : Profile) (l : Whole) → IsValid f → Legal f l → (j q w mask a p : ℕ) → w < 4 → mask < 2 ^ 64 → a ≡ word_after l (Word.Free q w)
+    → IsEmptyBacked l p → IsEmptyBacked (triple j (made (Take q w mask) a) ∷ l) p
     → ((q == p) && (not (a == all_ones) || not (bit_and a mask == 0))) ≡ false
 take_keeps f l valid legal j q w mask a p hw hm is empty now = false_from_ne_true ((q == p) && (not (a == all_ones) || not (bit_and a mask == 0))) (λ h.
     let parts = and_parts (q == p) (not (a == all_ones) || not (bit_and a mask == 0)) h in
@@ -114,13 +121,15 @@ hint_keeps l j q a p true e was = inl (page_bit-set q p (word_after l (Word.Empt
 hint_keeps l j q a p false e was = keeps l j (Hint q) a p (cond-false (q == p) false true e) (cond-false (q == p) false true e) (λ set. inl (page_bit-set q p (word_after l (Word.Empty (p / 64))) true ∙ stays_set (q == p) (empty_bit l p) set)) was
 
 -- who clears the bit that was set examines the page
-unhint_bit : (l : Whole) (j q a p : ℕ) → a ≡ word_after l (Word.Empty (q / 64)) → (x : Bool) → (q == p) ≡ x → empty_bit l p ≡ true → IsMinded (triple j (made (Unhint q) a) ∷ l) p
+unhint_bit : (l : Whole) (j q a p : ℕ) → a ≡ word_after l (Word.Empty (q / 64)) → (x : Bool) → (q == p) ≡ x → empty_bit l p ≡ true
+    → IsMinded (triple j (made (Unhint q) a) ∷ l) p
 unhint_bit l j q a p is true e set =
     let read : has_bit a (p % 64) ≡ true = ap (λ n. has_bit n (p % 64)) (is ∙ ap (λ x. word_after l (Word.Empty (x / 64))) (eqb-true q p e)) ∙ set in
     inr (inr (record { actor = j; examines_it = ap (λ b. examines (if b then (made (Unhint q) a) ∷ (part j l) else (part j l)) p) (eq-eqb j j refl) ∙ ap (λ t. if t && has_bit a (p % 64) then true else examines (part j l) p) e ∙ ap (λ t. if t then true else examines (part j l) p) read }))
 unhint_bit l j q a p is false e set = inl (page_bit-clear q p (word_after l (Word.Empty (p / 64))) true ∙ cond-false (q == p) false (empty_bit l p) e ∙ set)
 
-minded_step : (f : Profile) (l : Whole) → IsValid f → Legal f l → (j : ℕ) (s : Step) (a p : ℕ) → IsStepOf f s → a ≡ word_after l (target s) → IsEmptyBacked l p → IsEmptyBacked (triple j (made s a) ∷ l) p → IsMinded l p → IsMinded (triple j (made s a) ∷ l) p
+minded_step : (f : Profile) (l : Whole) → IsValid f → Legal f l → (j : ℕ) (s : Step) (a p : ℕ) → IsStepOf f s → a ≡ word_after l (target s) → IsEmptyBacked l p
+    → IsEmptyBacked (triple j (made s a) ∷ l) p → IsMinded l p → IsMinded (triple j (made s a) ∷ l) p
 minded_step f l valid legal j (Look (Word.Free q w)) a p of is was now h = keeps l j (Look (Word.Free q w)) a p (cond-false ((q == p) && not (a == all_ones)) false true (look_free_keeps f l valid legal q w a p of.2 is was)) (cond-false ((q == p) && not (a == all_ones)) false true (look_free_keeps f l valid legal q w a p of.2 is was)) (λ set. inl set) h
 minded_step f l valid legal j (Look (Word.Backed q)) a p of is was now h = keeps l j (Look (Word.Backed q)) a p (cond-false ((q == p) && (a == 0)) false true (look_backed_keeps l q a p is was)) (cond-false ((q == p) && (a == 0)) false true (look_backed_keeps l q a p is was)) (λ set. inl set) h
 minded_step f l valid legal j (Look (Word.Empty i)) a p of is was now h = keeps l j (Look (Word.Empty i)) a p refl refl (λ set. inl (ap (λ n. has_bit n (p % 64)) (looked (same_word (Word.Empty i) (Word.Empty (p / 64))) (word_after l (Word.Empty (p / 64)))) ∙ set)) h
@@ -161,12 +170,14 @@ keeps_owed l j s a p w keep owed = record {
 }
 
 -- the actor of the step owes it now
-owes_now : (l : Whole) (j : ℕ) (s : Step) (a p w : ℕ) → check_after s a p w (has_right (part j l) p) (known_deed (part j l) p) (owes_check (part j l) p w) ≡ true → IsOwed (triple j (made s a) ∷ l) p w
+owes_now : (l : Whole) (j : ℕ) (s : Step) (a p w : ℕ)
+    → check_after s a p w (has_right (part j l) p) (known_deed (part j l) p) (owes_check (part j l) p w) ≡ true → IsOwed (triple j (made s a) ∷ l) p w
 owes_now l j s a p w h = record { actor = j; owes = ap (λ t. owes_check (if t then made s a ∷ part j l else part j l) p w) (eq-eqb j j refl) ∙ h }
 
 -- ---- a look that finds no usable bit
 -- the word of a look has a usable bit, so the look ends no debt
-look_keeps : (l : Whole) (q u a p w b k : ℕ) → IsSpotted l p → IsUsableFree l p w b → a ≡ word_after l (Word.Free q u) → ((u == w) && (q == p) && not (known_deed (part k l) p == 0) && no_usable (known_deed (part k l) p) w a) ≡ false
+look_keeps : (l : Whole) (q u a p w b k : ℕ) → IsSpotted l p → IsUsableFree l p w b → a ≡ word_after l (Word.Free q u)
+    → ((u == w) && (q == p) && not (known_deed (part k l) p == 0) && no_usable (known_deed (part k l) p) w a) ≡ false
 look_keeps l q u a p w b k at is_free is = false_from_ne_true ((u == w) && (q == p) && not (known_deed (part k l) p == 0) && no_usable (known_deed (part k l) p) w a) (λ h.
     let none = and_parts ((u == w) && (q == p) && not (known_deed (part k l) p == 0)) (no_usable (known_deed (part k l) p) w a) h in
     let knows = and_parts ((u == w) && (q == p)) (not (known_deed (part k l) p == 0)) none.0 in
@@ -178,30 +189,37 @@ look_keeps l q u a p w b k at is_free is = false_from_ne_true ((u == w) && (q ==
     ∙ all_below-at 64 b (λ i. not (has_bit a i && usable_by (directory_read (known_deed (part k l) p)) (64 * w + i))) none.1 is_free.small))
 
 -- ---- what was so before a step
-was_parked : (j : ℕ) (t : Bool) (m : Way) (o : Spot) → (spot_after j m o ≡ InParked → ⊥) → spot_after j (if t then m else Rests) o ≡ InParked → (t ≡ false) × (o ≡ InParked)
+was_parked : (j : ℕ) (t : Bool) (m : Way) (o : Spot) → (spot_after j m o ≡ InParked → ⊥) → spot_after j (if t then m else Rests) o ≡ InParked
+    → (t ≡ false) × (o ≡ InParked)
 was_parked j t m o never h = grind arith
 
 -- a deed that there is stays
-same_deed : (l : Whole) (e : ℕ) (s : Step) (p : ℕ) → IsSpotted l p → spot_of l p ≡ InParked → next_value e s (Word.Deed p) (word_after l (Word.Deed p)) ≡ word_after l (Word.Deed p)
+same_deed : (l : Whole) (e : ℕ) (s : Step) (p : ℕ) → IsSpotted l p → spot_of l p ≡ InParked
+    → next_value e s (Word.Deed p) (word_after l (Word.Deed p)) ≡ word_after l (Word.Deed p)
 same_deed l e s p at parked = search (arith, known_is, word_stays)
 
 -- ---- steps
 -- grains that are put into the word of a parked page are owed by who put them, since it hasn't the right
-put_owed : (l : Whole) (j q u mask a p w b : ℕ) → IsSpotted l p → spot_of l p ≡ InParked → (has_bit (word_after l (Word.Free p w)) b ≡ true → IsOwed l p w) → (t : Bool) → ((u == w) && (q == p)) ≡ t
-    → has_bit (if t then bit_or (word_after l (Word.Free p w)) mask else word_after l (Word.Free p w)) b ≡ true → IsOwed (triple j (made (Put q u mask) a) ∷ l) p w
+put_owed : (l : Whole) (j q u mask a p w b : ℕ) → IsSpotted l p → spot_of l p ≡ InParked → (has_bit (word_after l (Word.Free p w)) b ≡ true → IsOwed l p w)
+    → (t : Bool) → ((u == w) && (q == p)) ≡ t
+    → has_bit (if t then bit_or (word_after l (Word.Free p w)) mask else word_after l (Word.Free p w)) b ≡ true
+    → IsOwed (triple j (made (Put q u mask) a) ∷ l) p w
 put_owed l j q u mask a p w b at parked before t e free = grind (arith, owes_now, is_with, keeps_owed, stays_set)
 
-park_owed : (l : Whole) (j q a p w : ℕ) (t : Bool) → (q == p) ≡ t → spot_after j (if t then ToParked else Rests) (spot_of l p) ≡ InParked → (spot_of l p ≡ InParked → IsOwed l p w) → IsOwed (triple j (made (Park q) a) ∷ l) p w
+park_owed : (l : Whole) (j q a p w : ℕ) (t : Bool) → (q == p) ≡ t → spot_after j (if t then ToParked else Rests) (spot_of l p) ≡ InParked
+    → (spot_of l p ≡ InParked → IsOwed l p w) → IsOwed (triple j (made (Park q) a) ∷ l) p w
 park_owed l j q a p w t e parked before = grind (arith, owes_now, keeps_owed, stays_set)
 
 -- a page stays parked only where its parked bit isn't cleared
-unpark_other : (l : Whole) (q a p : ℕ) → IsSpotted l p → a ≡ word_after l (Word.Parked (q / 64)) → spot_of l p ≡ InParked → ((q == p) && has_bit a (p % 64)) ≡ false → (q == p) ≡ false
+unpark_other : (l : Whole) (q a p : ℕ) → IsSpotted l p → a ≡ word_after l (Word.Parked (q / 64)) → spot_of l p ≡ InParked
+    → ((q == p) && has_bit a (p % 64)) ≡ false → (q == p) ≡ false
 unpark_other l q a p at is parked none = search (arith, false_from_ne_true, eqb-true, is_parked, false≢true, and_from)
 
 owed_step : (f : Profile) (l : Whole) (j e : ℕ) (s : Step) (a p w b : ℕ) → b < 64 → IsSpotted l p → IsStepOf f s → a ≡ word_after l (target s)
     → (spot_of l p ≡ InParked → has_bit (word_after l (Word.Free p w)) b ≡ true → IsOwed l p w)
     → (spot_of l p ≡ InParked → has_bit (word_after l (Word.Free p w)) b ≡ true → IsUsableFree l p w b)
-    → spot_after j (way s a p) (spot_of l p) ≡ InParked → has_bit (next_value e s (Word.Free p w) (word_after l (Word.Free p w))) b ≡ true → IsOwed (triple j (made s a) ∷ l) p w
+    → spot_after j (way s a p) (spot_of l p) ≡ InParked → has_bit (next_value e s (Word.Free p w) (word_after l (Word.Free p w))) b ≡ true
+    → IsOwed (triple j (made s a) ∷ l) p w
 owed_step f l j e (Look (Word.Free q u)) a p w b small at of is before usable o free =
     search (arith, looked, keeps_owed, cond-false, look_keeps)
 owed_step f l j e (Deed q d) a p w b small at of is before usable o free = search (arith, was_parked, keeps_owed)
@@ -233,7 +251,8 @@ parked_is_owed f l legal p w b parked free = owed_at f l legal p w b (parked_spo
 -- ==== Nothing is lost: a page with a free usable grain, whose right no actor has and whose check no actor owes, is offered, and once all actors are clear
 -- an empty page that is backed is hinted. And actors are those of the profile.
 
-offered_place : (f : Profile) (l : Whole) → Legal f l → (p w b : ℕ) → word_after l (Word.Deed p) ≢ 0 → IsUsableFree l p w b → NobodyHasRight l p → NobodyOwes l p w → IsRightInOnePlace f l p → IsRightOffered f l p
+offered_place : (f : Profile) (l : Whole) → Legal f l → (p w b : ℕ) → word_after l (Word.Deed p) ≢ 0 → IsUsableFree l p w b → NobodyHasRight l p
+    → NobodyOwes l p w → IsRightInOnePlace f l p → IsRightOffered f l p
 offered_place f l legal p w b deed free lacks paid (inl none) = absurd (deed none.no_deed)
 offered_place f l legal p w b deed free lacks paid (inr (inl one)) = absurd (false≢true (sym (lacks one.actor) ∙ one.holder one.actor ∙ eq-eqb one.actor one.actor refl))
 offered_place f l legal p w b deed free lacks paid (inr (inr (inl offers))) = offers
@@ -242,7 +261,8 @@ offered_place f l legal p w b deed free lacks paid (inr (inr (inr parks))) =
     absurd (false≢true (sym (paid owed.actor) ∙ owed.owes))
 
 -- NO PAGE IS LOST
-pub free_is_offered : (f : Profile) (l : Whole) → Legal f l → (p w b : ℕ) → word_after l (Word.Deed p) ≢ 0 → IsUsableFree l p w b → NobodyHasRight l p → NobodyOwes l p w → IsRightOffered f l p
+pub free_is_offered : (f : Profile) (l : Whole) → Legal f l → (p w b : ℕ) → word_after l (Word.Deed p) ≢ 0 → IsUsableFree l p w b → NobodyHasRight l p
+    → NobodyOwes l p w → IsRightOffered f l p
 free_is_offered f l legal p w b deed free lacks paid = offered_place f l legal p w b deed free lacks paid (right_in_one_place f l legal p)
 
 -- an actor past the threads makes no step
@@ -258,7 +278,9 @@ clear_owes f l legal clear p w small = λ k. elim (cases_lt f.threads k) [
   | inr within ↦ ((clear k within).on p).owes.checks w small
 ]
 
-pub offered_at_rest : (f : Profile) (l : Whole) → Legal f l → AllClear f l → (p w b : ℕ) → w < 4 → word_after l (Word.Deed p) ≢ 0 → IsUsableFree l p w b → NobodyHasRight l p → IsRightOffered f l p
+-- When all actors are clear, a page with a usable free grain whose right nobody has is offered.
+pub offered_at_rest : (f : Profile) (l : Whole) → Legal f l → AllClear f l → (p w b : ℕ) → w < 4 → word_after l (Word.Deed p) ≢ 0 → IsUsableFree l p w b
+    → NobodyHasRight l p → IsRightOffered f l p
 offered_at_rest f l legal clear p w b small deed free lacks = free_is_offered f l legal p w b deed free lacks (clear_owes f l legal clear p w small)
 
 nothing_owed : IsClear []
@@ -271,6 +293,7 @@ each_clear f l legal clear k = elim (cases_lt f.threads k) [
   | inr within ↦ clear k within
 ]
 
+-- When all actors are clear, a page that is backed and empty has its empty bit set.
 pub hinted_at_rest : (f : Profile) (l : Whole) → IsValid f → Legal f l → AllClear f l → (page : ℕ) → IsEmptyBacked l page → empty_bit l page ≡ true
 hinted_at_rest f l valid legal clear page h = elim (empty_is_minded f l valid legal page h) [
   | inl set ↦ set
@@ -279,7 +302,8 @@ hinted_at_rest f l valid legal clear page h = elim (empty_is_minded f l valid le
 ]
 
 -- ---- one actor alone goes on
-lone_place : (f : Profile) (l : Whole) (k : ℕ) (steps : List Made) (p : ℕ) → NobodyHasRight l p → word_after (triples k steps ++ l) (Word.Deed p) ≢ 0 → has_right (part k (triples k steps ++ l)) p ≡ false
+lone_place : (f : Profile) (l : Whole) (k : ℕ) (steps : List Made) (p : ℕ) → NobodyHasRight l p → word_after (triples k steps ++ l) (Word.Deed p) ≢ 0
+    → has_right (part k (triples k steps ++ l)) p ≡ false
     → IsRightInOnePlace f (triples k steps ++ l) p → IsRightOffered f (triples k steps ++ l) p ⊎ IsRightParked (triples k steps ++ l) p
 lone_place f l k steps p nobody deed lacks (inl none) = absurd (deed none.no_deed)
 lone_place f l k steps p nobody deed lacks (inr (inl one)) =
@@ -291,6 +315,8 @@ lone_place f l k steps p nobody deed lacks (inr (inl one)) =
 lone_place f l k steps p nobody deed lacks (inr (inr (inl offers))) = inl offers
 lone_place f l k steps p nobody deed lacks (inr (inr (inr parks))) = inr parks
 
-pub lone_right : (f : Profile) (l : Whole) (k : ℕ) (steps : List Made) → Legal f (triples k steps ++ l) → (p : ℕ) → NobodyHasRight l p → word_after (triples k steps ++ l) (Word.Deed p) ≢ 0
+-- After steps of one actor alone, a page whose right nobody had before and it hasn't now is offered or parked.
+pub lone_right : (f : Profile) (l : Whole) (k : ℕ) (steps : List Made) → Legal f (triples k steps ++ l) → (p : ℕ) → NobodyHasRight l p
+    → word_after (triples k steps ++ l) (Word.Deed p) ≢ 0
     → has_right (part k (triples k steps ++ l)) p ≡ false → IsRightOffered f (triples k steps ++ l) p ⊎ IsRightParked (triples k steps ++ l) p
 lone_right f l k steps legal p nobody deed lacks = lone_place f l k steps p nobody deed lacks (right_in_one_place f (triples k steps ++ l) legal p)

@@ -34,31 +34,38 @@ use Rattle.pas_core.specs.Alone.{ShowsOffered, ShowsBare, ShowsNone, ShowsHeld, 
 -- ==== Bits of free and eligible words, and deed words, that steps of some kinds leave as they were.
 
 -- what no step of these kinds ends holds of a word after them
-over : (Q : ℕ → Type 0) (x : Word) (ks ls : Kinds) → ((e : ℕ) (s : Step) (old : ℕ) → is_in ls (kind_of s) ≡ false → Q old → Q (if same_word (target s) x then new_value e s old else old)) → apart ks ls ≡ true
+over : (Q : ℕ → Type 0) (x : Word) (ks ls : Kinds)
+    → ((e : ℕ) (s : Step) (old : ℕ) → is_in ls (kind_of s) ≡ false → Q old → Q (if same_word (target s) x then new_value e s old else old)) → apart ks ls ≡ true
     → (k : ℕ) (xs : List Made) (l : Whole) → Only ks xs → Q (word_after l x) → Q (word_after (triples k xs ++ l) x)
 over Q x ks ls step w k [] l only h = h
 over Q x ks ls step w k (m ∷ xs) l only h =
     step (epoch_of (part k (triples k xs ++ l))) m.step (word_after (triples k xs ++ l) x) (in_apart ks ls (place_of (kind_of m.step)) w only.0) (over Q x ks ls step w k xs l only.1 h)
 
-frees_kept : (e : ℕ) (s : Step) (p w old b : ℕ) → is_in (Taking ∷ []) (kind_of s) ≡ false → has_bit old b ≡ true → has_bit (if same_word (target s) (Word.Free p w) then new_value e s old else old) b ≡ true
+frees_kept : (e : ℕ) (s : Step) (p w old b : ℕ) → is_in (Taking ∷ []) (kind_of s) ≡ false → has_bit old b ≡ true
+    → has_bit (if same_word (target s) (Word.Free p w) then new_value e s old else old) b ≡ true
 frees_kept e s p w old b is h = grind (arith, looked, put_keeps, true≢false)
 
 -- where none takes, free grains stay free
-pub free_stays : (ks : Kinds) → apart ks (Taking ∷ []) ≡ true → (k : ℕ) (xs : List Made) (l : Whole) (p w b : ℕ) → Only ks xs → has_bit (word_after l (Word.Free p w)) b ≡ true → has_bit (word_after (triples k xs ++ l) (Word.Free p w)) b ≡ true
+pub free_stays : (ks : Kinds) → apart ks (Taking ∷ []) ≡ true → (k : ℕ) (xs : List Made) (l : Whole) (p w b : ℕ) → Only ks xs
+    → has_bit (word_after l (Word.Free p w)) b ≡ true → has_bit (word_after (triples k xs ++ l) (Word.Free p w)) b ≡ true
 free_stays ks apart k xs l p w b = over (λ n. has_bit n b ≡ true) (Word.Free p w) ks (Taking ∷ []) (λ e s old other. frees_kept e s p w old b other) apart k xs l
 
-offers_kept : (e : ℕ) (s : Step) (n j old b : ℕ) → is_in (Claiming ∷ []) (kind_of s) ≡ false → has_bit old b ≡ true → has_bit (if same_word (target s) (Word.Eligible n j) then new_value e s old else old) b ≡ true
+offers_kept : (e : ℕ) (s : Step) (n j old b : ℕ) → is_in (Claiming ∷ []) (kind_of s) ≡ false → has_bit old b ≡ true
+    → has_bit (if same_word (target s) (Word.Eligible n j) then new_value e s old else old) b ≡ true
 offers_kept e s n j old b is h = grind (arith, looked, put_keeps, true≢false)
 
 -- where none claims, offered pages stay offered
-pub offered_stays : (ks : Kinds) → apart ks (Claiming ∷ []) ≡ true → (k : ℕ) (xs : List Made) (l : Whole) (n j b : ℕ) → Only ks xs → has_bit (word_after l (Word.Eligible n j)) b ≡ true → has_bit (word_after (triples k xs ++ l) (Word.Eligible n j)) b ≡ true
+pub offered_stays : (ks : Kinds) → apart ks (Claiming ∷ []) ≡ true → (k : ℕ) (xs : List Made) (l : Whole) (n j b : ℕ) → Only ks xs
+    → has_bit (word_after l (Word.Eligible n j)) b ≡ true → has_bit (word_after (triples k xs ++ l) (Word.Eligible n j)) b ≡ true
 offered_stays ks apart k xs l n j b = over (λ a. has_bit a b ≡ true) (Word.Eligible n j) ks (Claiming ∷ []) (λ e s old other. offers_kept e s n j old b other) apart k xs l
 
-deeds_kept : (e : ℕ) (s : Step) (p old : ℕ) → is_in (Deeding ∷ []) (kind_of s) ≡ false → (if same_word (target s) (Word.Deed p) then new_value e s old else old) ≡ old
+deeds_kept : (e : ℕ) (s : Step) (p old : ℕ) → is_in (Deeding ∷ []) (kind_of s) ≡ false
+    → (if same_word (target s) (Word.Deed p) then new_value e s old else old) ≡ old
 deeds_kept e s p old is = grind (arith, looked, true≢false)
 
 -- where none makes a deed, deed words stay
-pub deed_same : (ks : Kinds) → apart ks (Deeding ∷ []) ≡ true → (k : ℕ) (xs : List Made) (l : Whole) (p : ℕ) → Only ks xs → word_after (triples k xs ++ l) (Word.Deed p) ≡ word_after l (Word.Deed p)
+pub deed_same : (ks : Kinds) → apart ks (Deeding ∷ []) ≡ true → (k : ℕ) (xs : List Made) (l : Whole) (p : ℕ) → Only ks xs
+    → word_after (triples k xs ++ l) (Word.Deed p) ≡ word_after l (Word.Deed p)
 deed_same ks apart k xs l p only = over (λ n. n ≡ word_after l (Word.Deed p)) (Word.Deed p) ks (Deeding ∷ []) (λ e s old other h. deeds_kept e s p old other ∙ h) apart k xs l only refl
 
 -- ==== Which grains are free, and which deed words there are, before and after the steps of an actor that gives and ends no block.
@@ -78,6 +85,7 @@ plain_move s a g h = grind (arith, cond_both, true≢false)
 abbrev pub LendsNone : List Made → Type 0
 LendsNone = Always (λ m before. is_in lending (kind_of m.step) ≡ false)
 
+-- Steps of kinds apart from gives and ends give and end no block.
 pub lends_none : (ks : Kinds) → apart ks lending ≡ true → (xs : List Made) → Only ks xs → LendsNone xs
 lends_none ks w xs = always_map (λ m before. is_in ks (kind_of m.step) ≡ true) (λ m before. is_in lending (kind_of m.step) ≡ false) xs (λ m before is. in_apart ks lending (place_of (kind_of m.step)) w is)
 
@@ -88,14 +96,16 @@ holds_own : (g : ℕ) (xs : List Made) (v : View) → holds v g ≡ false → ho
 holds_own g [] v h = h
 holds_own g (m ∷ xs) v h = ap (held_after (grain_move m.step m.answer g)) (holds_own g xs v h)
 
-bit_moved : (f : Profile) (k : ℕ) (l : Whole) (g : ℕ) (m : Made) (xs : List Made) → Legal f (triples k (m ∷ xs) ++ l) → bit_of (triples k (m ∷ xs) ++ l) g ≡ free_moved (grain_move m.step m.answer g) (bit_of (triples k xs ++ l) g)
+bit_moved : (f : Profile) (k : ℕ) (l : Whole) (g : ℕ) (m : Made) (xs : List Made) → Legal f (triples k (m ∷ xs) ++ l)
+    → bit_of (triples k (m ∷ xs) ++ l) g ≡ free_moved (grain_move m.step m.answer g) (bit_of (triples k xs ++ l) g)
 bit_moved f k l g m xs legal = free_step f (triples k xs ++ l) (epoch_of (part k (triples k xs ++ l))) m.step m.answer g legal.0.of_region legal.0.answer_is
 
 -- ---- a grain that was free at entry is free, or the call holds it
 free_move : (m : Move) (bit held : Bool) → IsPlain m → (bit || held) ≡ true → (free_moved m bit || held_after m held) ≡ true
 free_move s bit held plain h = grind arith
 
-free_or_held : (f : Profile) (k : ℕ) (l : Whole) (g : ℕ) (xs : List Made) → Legal f (triples k xs ++ l) → LendsNone xs → bit_of l g ≡ true → (bit_of (triples k xs ++ l) g || holds xs g) ≡ true
+free_or_held : (f : Profile) (k : ℕ) (l : Whole) (g : ℕ) (xs : List Made) → Legal f (triples k xs ++ l) → LendsNone xs → bit_of l g ≡ true
+    → (bit_of (triples k xs ++ l) g || holds xs g) ≡ true
 free_or_held f k l g [] legal lends free = or_left (bit_of l g) false free
 free_or_held f k l g (m ∷ xs) legal lends free =
     ap (λ x. x || held_after (grain_move m.step m.answer g) (holds xs g)) (bit_moved f k l g m xs legal)
@@ -108,10 +118,12 @@ Used k l g xs = (bit_of (triples k xs ++ l) g ≡ false) × (holds (xs ++ part k
 held_own : (k : ℕ) → is_held_by k (Held k) ≡ true
 held_own k = eq-eqb k k refl
 
-used_move : (k : ℕ) (m : Move) (o : Place) (bit held : Bool) → IsPlain m → Fits k m o → is_free o ≡ false → is_held_by k o ≡ false → bit ≡ false → held ≡ false → (free_moved m bit ≡ false) × (held_after m held ≡ false)
+used_move : (k : ℕ) (m : Move) (o : Place) (bit held : Bool) → IsPlain m → Fits k m o → is_free o ≡ false → is_held_by k o ≡ false → bit ≡ false → held ≡ false
+    → (free_moved m bit ≡ false) × (held_after m held ≡ false)
 used_move k s o bit held plain fits not_free not_held b h = grind (arith, true≢false, held_own)
 
-used_next : (f : Profile) (k : ℕ) (l : Whole) (g : ℕ) (m : Made) (xs : List Made) → IsValid f → Legal f (triples k (m ∷ xs) ++ l) → is_in lending (kind_of m.step) ≡ false → Used k l g xs → Used k l g (m ∷ xs)
+used_next : (f : Profile) (k : ℕ) (l : Whole) (g : ℕ) (m : Made) (xs : List Made) → IsValid f → Legal f (triples k (m ∷ xs) ++ l)
+    → is_in lending (kind_of m.step) ≡ false → Used k l g xs → Used k l g (m ∷ xs)
 used_next f k l g m xs valid legal search used =
     let w : Whole = triples k xs ++ l in
     let at : IsPlacedOnce w g = placed_once f w valid legal.1 g in
@@ -132,20 +144,23 @@ word_of_page : (page b : ℕ) → b < 256 → free_word_at (page * 256 + b) ≡ 
 word_of_page page b lt = let x : (page * 256 + b) / 256 ≡ page = omega (arith, lt) in let y : (page * 256 + b) / 64 % 4 ≡ b / 64 = omega (arith, lt) in
     ap (λ p. Word.Free p ((page * 256 + b) / 64 % 4)) x ∙ ap (λ w. Word.Free page w) y
 
-shown : (f : Profile) (k : ℕ) (l : Whole) (page b : ℕ) (r : Readings) (m : Made) (xs : List Made) → Legal f (triples k (m ∷ xs) ++ l) → b < 256 → ShowsHere page (b / 64) r m xs → r b ≡ (bit_of (triples k xs ++ l) (page * 256 + b) || holds xs (page * 256 + b))
+shown : (f : Profile) (k : ℕ) (l : Whole) (page b : ℕ) (r : Readings) (m : Made) (xs : List Made) → Legal f (triples k (m ∷ xs) ++ l) → b < 256
+    → ShowsHere page (b / 64) r m xs → r b ≡ (bit_of (triples k xs ++ l) (page * 256 + b) || holds xs (page * 256 + b))
 shown f k l page b r m xs legal lt s = search (arith, free_read, word_of_page)
 
 of_page : (l : Whole) (page b : ℕ) → free_of_page l page b ≡ bit_of l (page * 256 + b)
 of_page l page b = let bit : b % 64 ≡ (page * 256 + b) % 64 = omega arith in ap (λ n. has_bit (word_after l (free_word_at (page * 256 + b))) n) bit
 
 -- a grain that was free at entry is read as free
-free_shown : (f : Profile) (k : ℕ) (l : Whole) (page b : ℕ) (r : Readings) (xs : List Made) → Legal f (triples k xs ++ l) → LendsNone xs → b < 256 → bit_of l (page * 256 + b) ≡ true → Once (ShowsHere page (b / 64) r) xs → r b ≡ true
+free_shown : (f : Profile) (k : ℕ) (l : Whole) (page b : ℕ) (r : Readings) (xs : List Made) → Legal f (triples k xs ++ l) → LendsNone xs → b < 256
+    → bit_of l (page * 256 + b) ≡ true → Once (ShowsHere page (b / 64) r) xs → r b ≡ true
 free_shown f k l page b r [] legal lends lt free h = absurd h
 free_shown f k l page b r (m ∷ xs) legal lends lt free (inr h) = free_shown f k l page b r xs legal.1 lends.1 lt free h
 free_shown f k l page b r (m ∷ xs) legal lends lt free (inl s) = shown f k l page b r m xs legal lt s ∙ free_or_held f k l (page * 256 + b) xs legal.1 lends.1 free
 
 -- one that was read as not free, and that the actor didn't hold at entry, is used from then on
-shown_used : (f : Profile) (k : ℕ) (l : Whole) (page b : ℕ) (r : Readings) (xs : List Made) → IsValid f → Legal f (triples k xs ++ l) → LendsNone xs → b < 256 → r b ≡ false → holds (part k l) (page * 256 + b) ≡ false → Once (ShowsHere page (b / 64) r) xs → Used k l (page * 256 + b) xs
+shown_used : (f : Profile) (k : ℕ) (l : Whole) (page b : ℕ) (r : Readings) (xs : List Made) → IsValid f → Legal f (triples k xs ++ l) → LendsNone xs → b < 256
+    → r b ≡ false → holds (part k l) (page * 256 + b) ≡ false → Once (ShowsHere page (b / 64) r) xs → Used k l (page * 256 + b) xs
 shown_used f k l page b r [] valid legal lends lt miss none h = absurd h
 shown_used f k l page b r (m ∷ xs) valid legal lends lt miss none (inr h) = used_next f k l (page * 256 + b) m xs valid legal lends.0 (shown_used f k l page b r xs valid legal.1 lends.1 lt miss none h)
 shown_used f k l page b r (m ∷ xs) valid legal lends lt miss none (inl s) =
@@ -153,7 +168,8 @@ shown_used f k l page b r (m ∷ xs) valid legal lends lt miss none (inl s) =
     used_next f k l (page * 256 + b) m xs valid legal lends.0 (parts.0, holds_own (page * 256 + b) xs (part k l) none ∙ parts.1)
 
 -- one that was used at entry is read as not free
-used_shown : (f : Profile) (k : ℕ) (l : Whole) (page b : ℕ) (r : Readings) (xs : List Made) → IsValid f → Legal f (triples k xs ++ l) → LendsNone xs → b < 256 → Used k l (page * 256 + b) [] → Once (ShowsHere page (b / 64) r) xs → r b ≡ false
+used_shown : (f : Profile) (k : ℕ) (l : Whole) (page b : ℕ) (r : Readings) (xs : List Made) → IsValid f → Legal f (triples k xs ++ l) → LendsNone xs → b < 256
+    → Used k l (page * 256 + b) [] → Once (ShowsHere page (b / 64) r) xs → r b ≡ false
 used_shown f k l page b r [] valid legal lends lt used h = absurd h
 used_shown f k l page b r (m ∷ xs) valid legal lends lt used (inr h) = used_shown f k l page b r xs valid legal.1 lends.1 lt used h
 used_shown f k l page b r (m ∷ xs) valid legal lends lt used (inl s) =
@@ -162,14 +178,16 @@ used_shown f k l page b r (m ∷ xs) valid legal lends lt used (inl s) =
 
 -- ---- a page that didn't fit
 -- it fitted neither at entry ..
-pub unfit_entry : (no_fit : Readings → Type 0) (f : Profile) (k : ℕ) (l : Whole) (page : ℕ) (xs : List Made) → IsAntitone no_fit → Legal f (triples k xs ++ l) → LendsNone xs → Once (UnfitHere no_fit page) xs → no_fit (free_of_page l page)
+pub unfit_entry : (no_fit : Readings → Type 0) (f : Profile) (k : ℕ) (l : Whole) (page : ℕ) (xs : List Made) → IsAntitone no_fit → Legal f (triples k xs ++ l)
+    → LendsNone xs → Once (UnfitHere no_fit page) xs → no_fit (free_of_page l page)
 unfit_entry no_fit f k l page [] fewer legal lends h = absurd h
 unfit_entry no_fit f k l page (m ∷ xs) fewer legal lends (inr h) = unfit_entry no_fit f k l page xs fewer legal.1 lends.1 h
 unfit_entry no_fit f k l page (m ∷ xs) fewer legal lends (inl u) =
     fewer u.readings (free_of_page l page) (λ b lt free. free_shown f k l page b u.readings xs legal.1 lends.1 lt (sym (of_page l page b) ∙ free)
     (since_once (ShowsHere page (b / 64) u.readings) (KeptHere page) xs (u.read (b / 64) (omega (arith, lt))))) u.none
 
-unfit_used : (no_fit : Readings → Type 0) (f : Profile) (k : ℕ) (l : Whole) (page : ℕ) (xs : List Made) → IsValid f → Legal f (triples k xs ++ l) → LendsNone xs → Once (UnfitHere no_fit page) xs
+unfit_used : (no_fit : Readings → Type 0) (f : Profile) (k : ℕ) (l : Whole) (page : ℕ) (xs : List Made) → IsValid f → Legal f (triples k xs ++ l) → LendsNone xs
+    → Once (UnfitHere no_fit page) xs
     → (r : Readings) × no_fit r × ((b : ℕ) → b < 256 → r b ≡ false → holds (part k l) (page * 256 + b) ≡ false → Used k l (page * 256 + b) xs)
 unfit_used no_fit f k l page [] valid legal lends h = absurd h
 unfit_used no_fit f k l page (m ∷ xs) valid legal lends (inr h) =
@@ -183,7 +201,9 @@ unfit_used no_fit f k l page (m ∷ xs) valid legal lends (inl u) = (
 )
 
 -- .. nor at exit, where the actor holds what it held
-pub unfit_exit : (no_fit : Readings → Type 0) (f : Profile) (k : ℕ) (l : Whole) (page : ℕ) (xs : List Made) → IsAntitone no_fit → IsValid f → Legal f (triples k xs ++ l) → LendsNone xs → ((g : ℕ) → holds (xs ++ part k l) g ≡ holds (part k l) g) → Once (UnfitHere no_fit page) xs → no_fit (free_of_page (triples k xs ++ l) page)
+pub unfit_exit : (no_fit : Readings → Type 0) (f : Profile) (k : ℕ) (l : Whole) (page : ℕ) (xs : List Made) → IsAntitone no_fit → IsValid f
+    → Legal f (triples k xs ++ l) → LendsNone xs → ((g : ℕ) → holds (xs ++ part k l) g ≡ holds (part k l) g) → Once (UnfitHere no_fit page) xs
+    → no_fit (free_of_page (triples k xs ++ l) page)
 unfit_exit no_fit f k l page xs fewer valid legal lends still h =
     let w : Whole = triples k xs ++ l in
     let r = unfit_used no_fit f k l page xs valid legal lends h in
@@ -200,8 +220,10 @@ unfit_exit no_fit f k l page xs fewer valid legal lends still h =
     ]) r.1
 
 -- a page that was read as fitting fitted at entry, where no grain that the actor held was read as free
-pub fit_entry : (no_fit : Readings → Type 0) (f : Profile) (k : ℕ) (l : Whole) (page : ℕ) (r : Readings) (xs : List Made) → IsAntitone no_fit → IsValid f → Legal f (triples k xs ++ l) → LendsNone xs
-    → (no_fit r → ⊥) → ((word : ℕ) → word < 4 → Once (ShowsHere page word r) xs) → ((g : ℕ) → g / 256 ≡ page → holds (part k l) g ≡ true → r (g % 256) ≡ false) → no_fit (free_of_page l page) → ⊥
+pub fit_entry : (no_fit : Readings → Type 0) (f : Profile) (k : ℕ) (l : Whole) (page : ℕ) (r : Readings) (xs : List Made) → IsAntitone no_fit → IsValid f
+    → Legal f (triples k xs ++ l) → LendsNone xs
+    → (no_fit r → ⊥) → ((word : ℕ) → word < 4 → Once (ShowsHere page word r) xs) → ((g : ℕ) → g / 256 ≡ page → holds (part k l) g ≡ true → r (g % 256) ≡ false)
+    → no_fit (free_of_page l page) → ⊥
 fit_entry no_fit f k l page r xs fewer valid legal lends fits read held none =
     fits (fewer (free_of_page l page) r (λ b lt hit. let g : ℕ = page * 256 + b in
     let rest : g % 256 ≡ b = omega (arith, lt) in
@@ -217,8 +239,9 @@ fit_entry no_fit f k l page r xs fewer valid legal lends fits read held none =
 abbrev pub MakesNoEvent : List Made → Type 0
 MakesNoEvent = Always (λ m before. (k epoch : ℕ) → event_of k epoch m.step m.answer ≡ None)
 
-pub no_deed_event : (t : Bool) (e : Event) → (if t then Some e else None) ≡ None → t ≡ false
-no_deed_event t e h = grind arith
+-- A step that makes its event only where it passes a test, and makes none, doesn't pass it.
+pub no_event_fails_test : (t : Bool) (e : Event) → (if t then Some e else None) ≡ None → t ≡ false
+no_event_fails_test t e h = grind arith
 
 no_deed_written : (t z : Bool) (word old : ℕ) → (t ≡ true → z ≡ false) → (if t then (if z then word else old) else old) ≡ old
 no_deed_written t z word old h = grind arith
@@ -227,19 +250,22 @@ deed_step : (w : Whole) (e : ℕ) (s : Step) (a p : ℕ) → a ≡ word_after w 
     → (if same_word (target s) (Word.Deed p) then new_value e s (word_after w (Word.Deed p)) else word_after w (Word.Deed p)) ≡ word_after w (Word.Deed p)
 deed_step w e (Look x) a p is quiet = looked (same_word x (Word.Deed p)) (word_after w (Word.Deed p))
 deed_step w e (Deed q d) a p is quiet = no_deed_written (q == p) (word_after w (Word.Deed p) == 0) (deed_word_of d) (word_after w (Word.Deed p))
-    (λ h. ap (λ n. n == 0) (sym (is ∙ ap (λ x. word_after w (Word.Deed x)) (eqb-true q p h))) ∙ no_deed_event (a == 0) (Event.Deed 0 q d) (quiet 0 0))
+    (λ h. ap (λ n. n == 0) (sym (is ∙ ap (λ x. word_after w (Word.Deed x)) (eqb-true q p h))) ∙ no_event_fails_test (a == 0) (Event.Deed 0 q d) (quiet 0 0))
 deed_step w e s a p is quiet = refl
 
 -- without events it stays as it was
-pub deed_quiet : (f : Profile) (k : ℕ) (l : Whole) (p : ℕ) (xs : List Made) → Legal f (triples k xs ++ l) → MakesNoEvent xs → word_after (triples k xs ++ l) (Word.Deed p) ≡ word_after l (Word.Deed p)
+pub deed_quiet : (f : Profile) (k : ℕ) (l : Whole) (p : ℕ) (xs : List Made) → Legal f (triples k xs ++ l) → MakesNoEvent xs
+    → word_after (triples k xs ++ l) (Word.Deed p) ≡ word_after l (Word.Deed p)
 deed_quiet f k l p [] legal quiet = refl
 deed_quiet f k l p (m ∷ xs) legal quiet = deed_step (triples k xs ++ l) (epoch_of (part k (triples k xs ++ l))) m.step m.answer p legal.0.answer_is quiet.0 ∙ deed_quiet f k l p xs legal.1 quiet.1
 
+-- A look at a page's deed word reads that word.
 pub deed_read : (p : ℕ) (s : Step) (w : Whole) → ReadsDeed p s → word_after w (target s) ≡ word_after w (Word.Deed p)
 deed_read p s w e = grind arith
 
 -- one that was read as not 0 isn't 0 at exit
-pub deed_exit : (f : Profile) (k : ℕ) (l : Whole) (p : ℕ) (xs : List Made) → Legal f (triples k xs ++ l) → Once (DeedHere p) xs → word_after (triples k xs ++ l) (Word.Deed p) ≢ 0
+pub deed_exit : (f : Profile) (k : ℕ) (l : Whole) (p : ℕ) (xs : List Made) → Legal f (triples k xs ++ l) → Once (DeedHere p) xs
+    → word_after (triples k xs ++ l) (Word.Deed p) ≢ 0
 deed_exit f k l p [] legal h = absurd h
 deed_exit f k l p (m ∷ xs) legal (inl z) = search (arith, deed_read, deed_kept)
 deed_exit f k l p (m ∷ xs) legal (inr h) =
@@ -256,13 +282,16 @@ deed_none k l p (m ∷ xs) h = deed_none k l p xs (deed_was_none (triples k xs +
 stays_put : (k : ℕ) (w : Way) (o : Spot) → had_after w false ≡ false → Suits k w o → (o ≡ With k → ⊥) → spot_after k w o ≡ o
 stays_put k s o lacks suits not_with = grind (arith, true≢false)
 
+-- A right that is with an actor is with just that actor.
 pub is_with_own : (k : ℕ) → is_with k (With k) ≡ true
 is_with_own k = eq-eqb k k refl
 
 not_with : (l : Whole) (k p : ℕ) → IsSpotted l p → has_right (part k l) p ≡ false → spot_of l p ≡ With k → ⊥
 not_with l k p at lacks e = true≢false (sym (at.has k ∙ ap (is_with k) e ∙ is_with_own k) ∙ lacks)
 
-pub spot_same : (f : Profile) (k : ℕ) (l : Whole) (p : ℕ) (xs : List Made) → Legal f (triples k xs ++ l) → has_right (part k l) p ≡ false → Always (LacksAfter p) xs → spot_of (triples k xs ++ l) p ≡ spot_of l p
+-- A page's right stays where it was while an actor alone never has it.
+pub spot_same : (f : Profile) (k : ℕ) (l : Whole) (p : ℕ) (xs : List Made) → Legal f (triples k xs ++ l) → has_right (part k l) p ≡ false
+    → Always (LacksAfter p) xs → spot_of (triples k xs ++ l) p ≡ spot_of l p
 spot_same f k l p [] legal none lacks = refl
 spot_same f k l p (m ∷ xs) legal none lacks =
     let w : Whole = triples k xs ++ l in
@@ -274,10 +303,13 @@ spot_same f k l p (m ∷ xs) legal none lacks =
     ∙ spot_same f k l p xs legal.1 none lacks.1
 
 -- ---- readings of the page's bits
-eligible_read : (d : Directory) (p : ℕ) (s : Step) (w : Whole) → ReadsEligible d p s → word_after w (target s) ≡ word_after w (Word.Eligible (number_of d) (p / 64))
+eligible_read : (d : Directory) (p : ℕ) (s : Step) (w : Whole) → ReadsEligible d p s
+    → word_after w (target s) ≡ word_after w (Word.Eligible (number_of d) (p / 64))
 eligible_read d p s w e = grind arith
 
-pub zero_told : (f : Profile) (k : ℕ) (l : Whole) (d : Directory) (p : ℕ) (xs : List Made) → Legal f (triples k xs ++ l) → has_right (part k l) p ≡ false → Always (LacksAfter p) xs → Once (ZeroHere d p) xs → is_offered (number_of d) (spot_of l p) ≡ false
+-- A page whose eligible bit an actor alone read as 0, without ever having its right, wasn't offered.
+pub zero_told : (f : Profile) (k : ℕ) (l : Whole) (d : Directory) (p : ℕ) (xs : List Made) → Legal f (triples k xs ++ l) → has_right (part k l) p ≡ false
+    → Always (LacksAfter p) xs → Once (ZeroHere d p) xs → is_offered (number_of d) (spot_of l p) ≡ false
 zero_told f k l d p [] legal none lacks h = absurd h
 zero_told f k l d p (m ∷ xs) legal none lacks (inr h) = zero_told f k l d p xs legal.1 none lacks.1 h
 zero_told f k l d p (m ∷ xs) legal none lacks (inl z) =
@@ -287,7 +319,9 @@ zero_told f k l d p (m ∷ xs) legal none lacks (inl z) =
     ∙ ap (λ n. has_bit n (p % 64)) (sym (eligible_read d p m.step w z.0) ∙ sym legal.0.answer_is) ∙ z.1
 
 -- the page was offered when the call read its bit as 1
-pub one_told : (f : Profile) (k : ℕ) (l : Whole) (d : Directory) (p : ℕ) (xs : List Made) → Legal f (triples k xs ++ l) → Once (λ m before. OneHere d p m before × Always (LacksAfter p) before) xs → (ys : List Made) × Legal f (triples k ys ++ l) × Always (LacksAfter p) ys × (eligible_bit (triples k ys ++ l) (number_of d) p ≡ true)
+pub one_told : (f : Profile) (k : ℕ) (l : Whole) (d : Directory) (p : ℕ) (xs : List Made) → Legal f (triples k xs ++ l)
+    → Once (λ m before. OneHere d p m before × Always (LacksAfter p) before) xs
+    → (ys : List Made) × Legal f (triples k ys ++ l) × Always (LacksAfter p) ys × (eligible_bit (triples k ys ++ l) (number_of d) p ≡ true)
 one_told f k l d p [] legal h = absurd h
 one_told f k l d p (m ∷ xs) legal (inr h) = one_told f k l d p xs legal.1 h
 one_told f k l d p (m ∷ xs) legal (inl z) = (xs, legal.1, z.1, ap (λ n. has_bit n (p % 64)) (sym (eligible_read d p m.step (triples k xs ++ l) z.0.0) ∙ sym legal.0.answer_is) ∙ z.0.1)
@@ -295,14 +329,17 @@ one_told f k l d p (m ∷ xs) legal (inl z) = (xs, legal.1, z.1, ap (λ n. has_b
 parked_read : (p : ℕ) (s : Step) (w : Whole) → ReadsParked p s → word_after w (target s) ≡ word_after w (Word.Parked (p / 64))
 parked_read p s w (ReadsParked.Looks j ej) = ap (λ x. word_after w (Word.Parked x)) ej
 
-pub parked_told : (f : Profile) (k : ℕ) (l : Whole) (p : ℕ) (set : Bool) (xs : List Made) → Legal f (triples k xs ++ l) → has_right (part k l) p ≡ false → Always (LacksAfter p) xs → Once (ParkedHere set p) xs → is_parked (spot_of l p) ≡ set
+-- A parked bit that an actor alone read, without ever having the page's right, is what it was before.
+pub parked_told : (f : Profile) (k : ℕ) (l : Whole) (p : ℕ) (set : Bool) (xs : List Made) → Legal f (triples k xs ++ l) → has_right (part k l) p ≡ false
+    → Always (LacksAfter p) xs → Once (ParkedHere set p) xs → is_parked (spot_of l p) ≡ set
 parked_told f k l p set [] legal none lacks h = absurd h
 parked_told f k l p set (m ∷ xs) legal none lacks (inr h) = parked_told f k l p set xs legal.1 none lacks.1 h
 parked_told f k l p set (m ∷ xs) legal none lacks (inl z) =
     cc (spot_same f k l p xs legal.1 none lacks.1, (spotted f (triples k xs ++ l) legal.1 p).parked, parked_read p m.step (triples k xs ++ l) z.0)
 
 -- ---- the deed word stays, once it is there
-deed_later : (k : ℕ) (l : Whole) (p : ℕ) (xs : List Made) → word_after l (Word.Deed p) ≢ 0 → word_after (triples k xs ++ l) (Word.Deed p) ≡ word_after l (Word.Deed p)
+deed_later : (k : ℕ) (l : Whole) (p : ℕ) (xs : List Made) → word_after l (Word.Deed p) ≢ 0
+    → word_after (triples k xs ++ l) (Word.Deed p) ≡ word_after l (Word.Deed p)
 deed_later k l p [] some = refl
 deed_later k l p (m ∷ xs) some = let e = deed_later k l p xs some in deed_kept (triples k xs ++ l) (triple k m) p (λ z. some (sym e ∙ z)) ∙ e
 
@@ -323,7 +360,8 @@ gains_known f v (Park q) a p allowed h = absurd (false≢true (got_if (q == p) T
 gains_known f v (Unpark q) a p allowed h = search (arith, and_parts, got_if, eqb-true)
 gains_known f v s a p allowed h = absurd (false≢true h)
 
-own_known : (f : Profile) (v : View) (m : Made) (p : ℕ) → Allowed f v m.step → Agrees f v m.step m.answer → (has_right v p ≡ true → known_deed v p ≢ 0) → (had : Bool) → has_right v p ≡ had → had_after (way m.step m.answer p) had ≡ true → known_deed (m ∷ v) p ≢ 0
+own_known : (f : Profile) (v : View) (m : Made) (p : ℕ) → Allowed f v m.step → Agrees f v m.step m.answer → (has_right v p ≡ true → known_deed v p ≢ 0)
+    → (had : Bool) → has_right v p ≡ had → had_after (way m.step m.answer p) had ≡ true → known_deed (m ∷ v) p ≢ 0
 own_known f v m p allowed agrees known had e h = grind (arith, deed_stays, gains_known)
 
 right_known : (f : Profile) (l : Whole) → IsValid f → Legal f l → (k p : ℕ) → has_right (part k l) p ≡ true → known_deed (part k l) p ≢ 0
@@ -333,7 +371,9 @@ right_known f l valid legal k p = each_part f (λ l k v. has_right v p ≡ true 
     (λ t l k legal other before. before) l legal k
 
 -- An actor that has no right of a page that it knows to be of the directory had none at entry of a page that turns out to be so.
-pub entry_lacks : (f : Profile) (k : ℕ) (l : Whole) (d : Directory) (p : ℕ) (xs : List Made) → IsValid f → Legal f l → (KnowsDeed p d (part k l) → has_right (part k l) p ≡ false) → word_after (triples k xs ++ l) (Word.Deed p) ≡ deed_word_of d → has_right (part k l) p ≡ false
+pub entry_lacks : (f : Profile) (k : ℕ) (l : Whole) (d : Directory) (p : ℕ) (xs : List Made) → IsValid f → Legal f l
+    → (KnowsDeed p d (part k l) → has_right (part k l) p ≡ false) → word_after (triples k xs ++ l) (Word.Deed p) ≡ deed_word_of d
+    → has_right (part k l) p ≡ false
 entry_lacks f k l d p xs valid legal may deed = elim (cases_Bool (has_right (part k l) p)) [
   | inl has ↦
       let known : known_deed (part k l) p ≢ 0 = right_known f l valid legal k p has in
@@ -343,6 +383,7 @@ entry_lacks f k l d p xs valid legal may deed = elim (cases_Bool (has_right (par
   | inr none ↦ none
 ]
 
+-- The list before the steps of one actor of a legal list is legal.
 pub legal_before : (f : Profile) (k : ℕ) (xs : List Made) (l : Whole) → Legal f (triples k xs ++ l) → Legal f l
 legal_before f k [] l legal = legal
 legal_before f k (x ∷ xs) l legal = legal_before f k xs l legal.1
@@ -352,14 +393,17 @@ pub legal_earlier : (f : Profile) (k : ℕ) (ys xs : List Made) (l : Whole) → 
 legal_earlier f k ys xs l legal = legal_before f k ys (triples k xs ++ l) (subst (Legal f) (sym (triples_append k ys xs l)) legal)
 
 -- the deed of a page that is offered to a directory
-pub offered_deed : (f : Profile) (l : Whole) (d : Directory) (p : ℕ) → IsDirectoryOf f d → Legal f l → eligible_bit l (number_of d) p ≡ true → word_after l (Word.Deed p) ≡ deed_word_of d
+pub offered_deed : (f : Profile) (l : Whole) (d : Directory) (p : ℕ) → IsDirectoryOf f d → Legal f l → eligible_bit l (number_of d) p ≡ true
+    → word_after l (Word.Deed p) ≡ deed_word_of d
 offered_deed f l d p of legal bit = offered_has_deed f l legal (number_of d) p bit ∙ numbered d of.kind
 
+-- An actor hasn't the right of a page that is offered.
 pub offered_lacks : (f : Profile) (k : ℕ) (l : Whole) (n p : ℕ) → Legal f l → eligible_bit l n p ≡ true → has_right (part k l) p ≡ false
 offered_lacks f k l n p legal bit = let at : IsSpotted l p = spotted f l legal p in at.has k ∙ ap (is_with k) (offered_spot l n p at bit)
 
 -- ---- a page whose right the call once had is in nobody's hands but the actor's
-had_then : (f : Profile) (k : ℕ) (l : Whole) (p j : ℕ) (xs : List Made) → Legal f (triples k xs ++ l) → k ≢ j → Once (KeptHere p) xs → has_right (part j l) p ≡ true → ⊥
+had_then : (f : Profile) (k : ℕ) (l : Whole) (p j : ℕ) (xs : List Made) → Legal f (triples k xs ++ l) → k ≢ j → Once (KeptHere p) xs
+    → has_right (part j l) p ≡ true → ⊥
 had_then f k l p j [] legal ne h there = h
 had_then f k l p j (m ∷ xs) legal ne (inr h) there = had_then f k l p j xs legal.1 ne h there
 had_then f k l p j (m ∷ xs) legal ne (inl h) there =
@@ -372,8 +416,11 @@ had_then f k l p j (m ∷ xs) legal ne (inl h) there =
 pub in_hands : (o : Spot) (word : ℕ) → DeedFits o word → word ≢ 0 → is_on_offer o ≡ false → is_parked o ≡ false → (j : ℕ) × (o ≡ With j)
 in_hands o word fits some offer parked = grind (arith, true≢false)
 
-pub not_in_hands : (f : Profile) (k : ℕ) (l : Whole) (d : Directory) (p : ℕ) (xs : List Made) → IsDirectoryOf f d → Legal f (triples k xs ++ l) → has_right (xs ++ part k l) p ≡ false → Once (KeptHere p) xs
-    → word_after (triples k xs ++ l) (Word.Deed p) ≡ deed_word_of d → eligible_bit (triples k xs ++ l) (number_of d) p ≡ false → parked_bit (triples k xs ++ l) p ≡ false → ⊥
+-- A page whose right an actor alone had and gave up is offered or parked, where it has the directory's deed.
+pub not_in_hands : (f : Profile) (k : ℕ) (l : Whole) (d : Directory) (p : ℕ) (xs : List Made) → IsDirectoryOf f d → Legal f (triples k xs ++ l)
+    → has_right (xs ++ part k l) p ≡ false → Once (KeptHere p) xs
+    → word_after (triples k xs ++ l) (Word.Deed p) ≡ deed_word_of d → eligible_bit (triples k xs ++ l) (number_of d) p ≡ false
+    → parked_bit (triples k xs ++ l) p ≡ false → ⊥
 not_in_hands f k l d p xs of legal lacks once deed not_offered not_parked =
     let w : Whole = triples k xs ++ l in
     let at : IsSpotted w p = spotted f w legal p in
@@ -395,12 +442,14 @@ unfit_lacks no_fit p (m ∷ more) (inl u) lacks = true≢false (sym u.kept ∙ l
 unfit_lacks no_fit p (m ∷ more) (inr h) lacks = unfit_lacks no_fit p more h lacks.1
 
 -- a deed that was made was on a page without one
-deed_made : (f : Profile) (k : ℕ) (l : Whole) (d : Directory) (p : ℕ) (xs : List Made) → Legal f (triples k xs ++ l) → Once (λ m before. (m.step ≡ Deed p d) × (m.answer ≡ 0)) xs → word_after l (Word.Deed p) ≡ 0
+deed_made : (f : Profile) (k : ℕ) (l : Whole) (d : Directory) (p : ℕ) (xs : List Made) → Legal f (triples k xs ++ l)
+    → Once (λ m before. (m.step ≡ Deed p d) × (m.answer ≡ 0)) xs → word_after l (Word.Deed p) ≡ 0
 deed_made f k l d p [] legal h = absurd h
 deed_made f k l d p (m ∷ xs) legal (inl z) = deed_none k l p xs (sym (legal.0.answer_is ∙ ap (λ s. word_after (triples k xs ++ l) (target s)) z.0) ∙ z.1)
 deed_made f k l d p (m ∷ xs) legal (inr h) = deed_made f k l d p xs legal.1 h
 
-module _ (no_fit : Readings → Type 0) (f : Profile) (d : Directory) (k : ℕ) (l : Whole) (xs : List Made) (valid : IsValid f) (of : IsDirectoryOf f d) (fewer : IsAntitone no_fit)
+module _ (no_fit : Readings → Type 0) (f : Profile) (d : Directory) (k : ℕ) (l : Whole) (xs : List Made) (valid : IsValid f) (of : IsDirectoryOf f d)
+    (fewer : IsAntitone no_fit)
     (rest : AllRest f l) (legal : Legal f (triples k xs ++ l)) (lends : LendsNone xs) where
   abbrev w : Whole
   w = triples k xs ++ l
@@ -452,6 +501,7 @@ module _ (no_fit : Readings → Type 0) (f : Profile) (d : Directory) (k : ℕ) 
   plain (Err (NoRoom.Held page)) shows = absurd (nobody_holds page shows.0 shows.1)
 
 -- after rest a search alone finds what there is
-pub plain_answer : (no_fit : Readings → Type 0) (f : Profile) (d : Directory) (k : ℕ) (l : Whole) (xs : List Made) (answer : Result ℕ NoRoom) → IsValid f → IsDirectoryOf f d → IsAntitone no_fit → AllRest f l
+pub plain_answer : (no_fit : Readings → Type 0) (f : Profile) (d : Directory) (k : ℕ) (l : Whole) (xs : List Made) (answer : Result ℕ NoRoom) → IsValid f
+    → IsDirectoryOf f d → IsAntitone no_fit → AllRest f l
     → SearchesAlone no_fit f d k l xs answer → IsPlainAnswer no_fit f d l answer
 plain_answer no_fit f d k l xs answer valid of fewer rest search = plain no_fit f d k l xs valid of fewer rest search.legal search.lends_none answer search.shows

@@ -88,12 +88,14 @@ pub record IsSpotted (l : Whole) (p : ℕ) : Type 0 where
 is_with-true : (k : ℕ) (o : Spot) → is_with k o ≡ true → o ≡ With k
 is_with-true k s h = grind (arith, eqb-true, false≢true)
 
+-- A right that passes as offered to a directory's number is offered there.
 pub is_offered-true : (n : ℕ) (o : Spot) → is_offered n o ≡ true → o ≡ Offered n
 is_offered-true n s h = grind (arith, eqb-true, false≢true)
 
 is_parked-true : (o : Spot) → is_parked o ≡ true → o ≡ InParked
 is_parked-true s h = grind (arith, false≢true)
 
+-- The right of a page without a deed is nowhere.
 pub no_deed : (o : Spot) → DeedFits o 0 → o ≡ Nowhere
 no_deed s h = grind (arith, numbered_ne)
 
@@ -146,7 +148,8 @@ parked_step l e (Unpark q) a p is = page_bit-clear q p (word_after l (Word.Parke
 parked_step l e s a p is = refl
 
 -- ---- the eligible words
-take_right_cases : (x y g was : Bool) (m n : ℕ) → (m == n) ≡ x → (x ≡ true → y ≡ true → g ≡ was) → (if x && y then false else was) ≡ offered_moved (if y && g then FromOffer m else Rests) n was
+take_right_cases : (x y g was : Bool) (m n : ℕ) → (m == n) ≡ x → (x ≡ true → y ≡ true → g ≡ was)
+    → (if x && y then false else was) ≡ offered_moved (if y && g then FromOffer m else Rests) n was
 take_right_cases x y g was m n e h = grind arith
 
 offer_cases : (x y was : Bool) (m n : ℕ) → (m == n) ≡ x → (if x && y then true else was) ≡ offered_moved (if y then ToOffer m else Rests) n was
@@ -155,7 +158,8 @@ offer_cases x y was m n e = grind arith
 offered_rests : (y was : Bool) (n : ℕ) (m : Way) → ((b : Bool) → offered_moved m n b ≡ b) → was ≡ offered_moved (if y then m else Rests) n was
 offered_rests y was n m h = cond_both y m Rests (λ x. was ≡ offered_moved x n was) (λ here. sym (h was)) (λ other. refl)
 
-eligible_at : (l : Whole) (a m n q p : ℕ) → a ≡ word_after l (Word.Eligible m (q / 64)) → (m == n) ≡ true → (q == p) ≡ true → has_bit a (p % 64) ≡ eligible_bit l n p
+eligible_at : (l : Whole) (a m n q p : ℕ) → a ≡ word_after l (Word.Eligible m (q / 64)) → (m == n) ≡ true → (q == p) ≡ true
+    → has_bit a (p % 64) ≡ eligible_bit l n p
 eligible_at l a m n q p is x y = ap (λ b. has_bit b (p % 64)) (is ∙ ap (λ i. word_after l (Word.Eligible i (q / 64))) (eqb-true m n x) ∙ ap (λ i. word_after l (Word.Eligible n (i / 64))) (eqb-true q p y))
 
 eligible_step : (l : Whole) (e : ℕ) (s : Step) (a p n : ℕ) → a ≡ word_after l (target s)
@@ -172,13 +176,16 @@ eligible_step l e s a p n is = refl
 suits_if : (j : ℕ) (m : Way) (o : Spot) (t : Bool) → (t ≡ true → Suits j m o) → Suits j (if t then m else Rests) o
 suits_if j m o t h = cond_both t m Rests (λ x. Suits j x o) h (λ other. tt)
 
-offered_here : (l : Whole) (a n j p : ℕ) → IsSpotted l p → a ≡ word_after l (Word.Eligible n j) → j ≡ p / 64 → has_bit a (p % 64) ≡ true → spot_of l p ≡ Offered n
+offered_here : (l : Whole) (a n j p : ℕ) → IsSpotted l p → a ≡ word_after l (Word.Eligible n j) → j ≡ p / 64 → has_bit a (p % 64) ≡ true
+    → spot_of l p ≡ Offered n
 offered_here l a n j p at is here set = is_offered-true n (spot_of l p) (sym (at.eligible n) ∙ ap (λ b. has_bit b (p % 64)) (ap (λ i. word_after l (Word.Eligible n i)) (sym here) ∙ sym is) ∙ set)
 
 with_here : (f : Profile) (l : Whole) (j q p : ℕ) → IsSpotted l p → has_right (part j l) q ≡ true → (q == p) ≡ true → spot_of l p ≡ With j
 with_here f l j q p at has h = is_with-true j (spot_of l p) (sym (at.has j) ∙ ap (has_right (part j l)) (sym (eqb-true q p h)) ∙ has)
 
-pub step_suits : (f : Profile) (l : Whole) (j : ℕ) (s : Step) (a p : ℕ) → IsSpotted l p → Allowed f (part j l) s → a ≡ word_after l (target s) → Suits j (way s a p) (spot_of l p)
+-- A legal step finds each right where its move takes it from.
+pub step_suits : (f : Profile) (l : Whole) (j : ℕ) (s : Step) (a p : ℕ) → IsSpotted l p → Allowed f (part j l) s → a ≡ word_after l (target s)
+    → Suits j (way s a p) (spot_of l p)
 step_suits f l j (Deed q d) a p at allowed is = search (arith, suits_if, and_parts, eqb-true, no_deed)
 step_suits f l j (TakeRight q d) a p at allowed is = search (arith, suits_if, and_parts, offered_here, eqb-true)
 step_suits f l j (Offer q d) a p at allowed is = suits_if j (ToOffer (number_of d)) (spot_of l p) (q == p) (λ h. with_here f l j q p at allowed.0 h)
@@ -197,14 +204,17 @@ deed_fits : (y z : Bool) (d : Directory) (n j : ℕ) (o : Spot) → (y ≡ true 
     → DeedFits (spot_after j (if y && z then ByDeed else Rests) o) (if y then (if n == 0 then deed_word_of d else n) else n)
 deed_fits y z d n j o h fits = grind (arith, deed_ne, deed_word_of-positive)
 
-moved_fits : (y : Bool) (m : Way) (n j : ℕ) (o : Spot) → (y ≡ true → DeedFits (spot_after j m o) n) → DeedFits o n → DeedFits (spot_after j (if y then m else Rests) o) n
+moved_fits : (y : Bool) (m : Way) (n j : ℕ) (o : Spot) → (y ≡ true → DeedFits (spot_after j m o) n) → DeedFits o n
+    → DeedFits (spot_after j (if y then m else Rests) o) n
 moved_fits y m n j o go fits = cond_both y m Rests (λ x. DeedFits (spot_after j x o) n) go (λ other. fits)
 
 -- the deed that an actor knows is that of the page
-known_here : (l : Whole) (j q p : ℕ) (d : Directory) → IsSpotted l p → known_deed (part j l) q ≡ deed_word_of d → (q == p) ≡ true → word_after l (Word.Deed p) ≡ deed_word_of d
+known_here : (l : Whole) (j q p : ℕ) (d : Directory) → IsSpotted l p → known_deed (part j l) q ≡ deed_word_of d → (q == p) ≡ true
+    → word_after l (Word.Deed p) ≡ deed_word_of d
 known_here l j q p d at knows h = search (arith, eqb-true, known_is, deed_word_of-positive)
 
-fits_step : (f : Profile) (l : Whole) (j e : ℕ) (s : Step) (a p : ℕ) → IsSpotted l p → IsStepOf f s → Allowed f (part j l) s → a ≡ word_after l (target s) → Suits j (way s a p) (spot_of l p)
+fits_step : (f : Profile) (l : Whole) (j e : ℕ) (s : Step) (a p : ℕ) → IsSpotted l p → IsStepOf f s → Allowed f (part j l) s → a ≡ word_after l (target s)
+    → Suits j (way s a p) (spot_of l p)
     → DeedFits (spot_after j (way s a p) (spot_of l p)) (next_value e s (Word.Deed p) (word_after l (Word.Deed p)))
 fits_step f l j e (Look word) a p at of allowed is suits = subst (DeedFits (spot_of l p)) (sym (looked (same_word word (Word.Deed p)) (word_after l (Word.Deed p)))) at.deed
 fits_step f l j e (Deed q d) a p at of allowed is suits = deed_fits (q == p) (a == 0) d (word_after l (Word.Deed p)) j (spot_of l p) (λ h. ap (λ n. n == 0) (ap (λ x. word_after l (Word.Deed x)) (sym (eqb-true q p h)) ∙ sym is)) at.deed
@@ -216,10 +226,12 @@ fits_step f l j e s a p at of allowed is suits = at.deed
 
 -- ---- what is known of deeds
 -- a set bit of an eligible word tells the deed
-eligible_tells : (y : Bool) (word known n : ℕ) → (y ≡ true → word ≡ deed_word_numbered n) → IsKnown known word → IsKnown (if y then deed_word_numbered n else known) word
+eligible_tells : (y : Bool) (word known n : ℕ) → (y ≡ true → word ≡ deed_word_numbered n) → IsKnown known word
+    → IsKnown (if y then deed_word_numbered n else known) word
 eligible_tells y word known n is h = grind arith
 
-offered_deed : (l : Whole) (a n j p : ℕ) → IsSpotted l p → a ≡ word_after l (Word.Eligible n j) → ((j == p / 64) && has_bit a (p % 64)) ≡ true → word_after l (Word.Deed p) ≡ deed_word_numbered n
+offered_deed : (l : Whole) (a n j p : ℕ) → IsSpotted l p → a ≡ word_after l (Word.Eligible n j) → ((j == p / 64) && has_bit a (p % 64)) ≡ true
+    → word_after l (Word.Deed p) ≡ deed_word_numbered n
 offered_deed l a n j p at is h = search (arith, and_parts, offered_here, eqb-true)
 
 -- an actor's own step tells it the word
@@ -267,9 +279,11 @@ one_has_right f l legal j k p hj hk =
 with_spot : (l : Whole) (k p : ℕ) → IsSpotted l p → has_right (part k l) p ≡ true → spot_of l p ≡ With k
 with_spot l k p at h = is_with-true k (spot_of l p) (sym (at.has k) ∙ h)
 
+-- A page whose eligible bit is set has its right offered in that directory's vector.
 pub offered_spot : (l : Whole) (n p : ℕ) → IsSpotted l p → eligible_bit l n p ≡ true → spot_of l p ≡ Offered n
 offered_spot l n p at h = is_offered-true n (spot_of l p) (sym (at.eligible n) ∙ h)
 
+-- A page whose parked bit is set has its right parked.
 pub parked_spot : (l : Whole) (p : ℕ) → IsSpotted l p → parked_bit l p ≡ true → spot_of l p ≡ InParked
 parked_spot l p at h = is_parked-true (spot_of l p) (sym at.parked ∙ h)
 
@@ -292,10 +306,12 @@ parked_has_deed f l legal p h = let at : IsSpotted l p = spotted f l legal p in 
 pub right_not_offered : (f : Profile) (l : Whole) → Legal f l → (k n p : ℕ) → has_right (part k l) p ≡ true → eligible_bit l n p ≡ false
 right_not_offered f l legal k n p h = let at : IsSpotted l p = spotted f l legal p in at.eligible n ∙ ap (is_offered n) (with_spot l k p at h)
 
+-- A page whose right an actor has isn't parked.
 pub right_not_parked : (f : Profile) (l : Whole) → Legal f l → (k p : ℕ) → has_right (part k l) p ≡ true → parked_bit l p ≡ false
 right_not_parked f l legal k p h = let at : IsSpotted l p = spotted f l legal p in at.parked ∙ ap is_parked (with_spot l k p at h)
 
-in_place : (f : Profile) (l : Whole) (p : ℕ) (o : Spot) → ((k : ℕ) → has_right (part k l) p ≡ is_with k o) → ((n : ℕ) → eligible_bit l n p ≡ is_offered n o) → parked_bit l p ≡ is_parked o → DeedFits o (word_after l (Word.Deed p))
+in_place : (f : Profile) (l : Whole) (p : ℕ) (o : Spot) → ((k : ℕ) → has_right (part k l) p ≡ is_with k o) → ((n : ℕ) → eligible_bit l n p ≡ is_offered n o)
+    → parked_bit l p ≡ is_parked o → DeedFits o (word_after l (Word.Deed p))
     → IsDeedWord f (word_after l (Word.Deed p)) → IsRightInOnePlace f l p
 in_place f l p Nowhere has eligible parked deed word = inl (record { no_deed = deed; nobody = has; not_offered = eligible; not_parked = parked })
 in_place f l p (With j) has eligible parked deed word = inr (inl (record { a_deed = deed; actor = j; holder = has; not_offered = eligible; not_parked = parked }))
@@ -323,12 +339,15 @@ is_on_offer s = false
 own_offer : (o : Spot) (d : Directory) → IsKind d.kind → DeedFits o (deed_word_of d) → is_offered (number_of d) o ≡ is_on_offer o
 own_offer s d kind fits = grind (arith, eq-eqb, number_told)
 
-pub own_eligible : (f : Profile) (l : Whole) → Legal f l → (p : ℕ) (d : Directory) → IsDirectoryOf f d → word_after l (Word.Deed p) ≡ deed_word_of d → eligible_bit l (number_of d) p ≡ is_on_offer (spot_of l p)
+-- The eligible bit in a page's own directory is set exactly where its right is offered.
+pub own_eligible : (f : Profile) (l : Whole) → Legal f l → (p : ℕ) (d : Directory) → IsDirectoryOf f d → word_after l (Word.Deed p) ≡ deed_word_of d
+    → eligible_bit l (number_of d) p ≡ is_on_offer (spot_of l p)
 own_eligible f l legal p d of deed =
     cc ((spotted f l legal p).eligible (number_of d), own_offer (spot_of l p) d of.kind (subst (DeedFits (spot_of l p)) deed (spotted f l legal p).deed))
 
 -- a set bit of an eligible word tells the deed that an actor knows, if it knows one
-pub offered_is_known : (f : Profile) (l : Whole) → Legal f l → (k n p : ℕ) → eligible_bit l n p ≡ true → known_deed (part k l) p ≢ 0 → known_deed (part k l) p ≡ deed_word_numbered n
+pub offered_is_known : (f : Profile) (l : Whole) → Legal f l → (k n p : ℕ) → eligible_bit l n p ≡ true → known_deed (part k l) p ≢ 0
+    → known_deed (part k l) p ≡ deed_word_numbered n
 offered_is_known f l legal k n p h ne =
     cc (known_is (known_deed (part k l) p) (word_after l (Word.Deed p)) ((spotted f l legal p).known k) ne, offered_has_deed f l legal n p h)
 
@@ -336,18 +355,21 @@ offered_is_known f l legal k n p h ne =
 pub offered_page : (f : Profile) (l : Whole) → Legal f l → (n p : ℕ) → eligible_bit l n p ≡ true → IsPage f p
 offered_page f l legal n p h = deed_has_page f l legal p (λ z. numbered_ne n (sym (offered_has_deed f l legal n p h) ∙ z))
 
+-- A page whose parked bit is set is one of the region.
 pub parked_page : (f : Profile) (l : Whole) → Legal f l → (p : ℕ) → parked_bit l p ≡ true → IsPage f p
 parked_page f l legal p h = deed_has_page f l legal p (parked_has_deed f l legal p h)
 
 hint_if : (f : Profile) (x was : Bool) (q p : ℕ) → (q == p) ≡ x → IsPage f q → (was ≡ true → IsPage f p) → (if x then true else was) ≡ true → IsPage f p
 hint_if f x was q p e of h set = grind (arith, eqb-true)
 
-hint_next : (f : Profile) (e : ℕ) (s : Step) (p old : ℕ) → IsStepOf f s → (has_bit old (p % 64) ≡ true → IsPage f p) → has_bit (next_value e s (Word.Empty (p / 64)) old) (p % 64) ≡ true → IsPage f p
+hint_next : (f : Profile) (e : ℕ) (s : Step) (p old : ℕ) → IsStepOf f s → (has_bit old (p % 64) ≡ true → IsPage f p)
+    → has_bit (next_value e s (Word.Empty (p / 64)) old) (p % 64) ≡ true → IsPage f p
 hint_next f e (Look word) p old of h set = h (ap (λ n. has_bit n (p % 64)) (sym (looked (same_word word (Word.Empty (p / 64))) old)) ∙ set)
 hint_next f e (Hint q) p old of h set = hint_if f (q == p) (has_bit old (p % 64)) q p refl of h (sym (page_bit-set q p old true) ∙ set)
 hint_next f e (Unhint q) p old of h set = h (was_set (q == p) (has_bit old (p % 64)) (sym (page_bit-clear q p old true) ∙ set))
 hint_next f e s p old of h set = h set
 
+-- A page whose empty bit is set is one of the region.
 pub hinted_page : (f : Profile) (l : Whole) → Legal f l → (p : ℕ) → empty_bit l p ≡ true → IsPage f p
 hinted_page f [] legal p h = absurd (false≢true (sym (none_of_zero (p % 64)) ∙ h))
 hinted_page f (t ∷ l) legal p h =
@@ -370,24 +392,29 @@ leaves (Offer q d) p = q == p
 leaves (Park q) p = q == p
 leaves s p = false
 
-take_keeps : (x y : Bool) (old mask b : ℕ) → mask < 2 ^ 64 → b < 64 → (x && y && has_bit mask b) ≡ false → has_bit old b ≡ true → has_bit (if x && y then bit_and old (bit_not w64 mask) else old) b ≡ true
+take_keeps : (x y : Bool) (old mask b : ℕ) → mask < 2 ^ 64 → b < 64 → (x && y && has_bit mask b) ≡ false → has_bit old b ≡ true
+    → has_bit (if x && y then bit_and old (bit_not w64 mask) else old) b ≡ true
 take_keeps x y old mask b hm hb misses h = grind (arith, bit_cleared)
 
+-- A put keeps each free bit that was set.
 pub put_keeps : (x : Bool) (old mask b : ℕ) → has_bit old b ≡ true → has_bit (if x then bit_or old mask else old) b ≡ true
 put_keeps x old mask b h = grind (arith, bit_of_or, or_left)
 
 -- a step that doesn't take a free grain leaves it free
-free_stays : (f : Profile) (e : ℕ) (s : Step) (g old : ℕ) → IsStepOf f s → takes s g ≡ false → has_bit old (g % 64) ≡ true → has_bit (next_value e s (free_word_at g) old) (g % 64) ≡ true
+free_stays : (f : Profile) (e : ℕ) (s : Step) (g old : ℕ) → IsStepOf f s → takes s g ≡ false → has_bit old (g % 64) ≡ true
+    → has_bit (next_value e s (free_word_at g) old) (g % 64) ≡ true
 free_stays f e s g old of misses h = grind (arith, looked, take_keeps, put_keeps)
 
 takes_page : (q w mask g : ℕ) → in_mask q w mask g ≡ true → q ≡ g / 256
 takes_page q w mask g h = search (arith, and_parts, eqb-true)
 
 -- only the actor that has the right takes
-takes_with : (f : Profile) (l : Whole) (j : ℕ) (s : Step) (g : ℕ) → IsSpotted l (g / 256) → Allowed f (part j l) s → takes s g ≡ true → spot_of l (g / 256) ≡ With j
+takes_with : (f : Profile) (l : Whole) (j : ℕ) (s : Step) (g : ℕ) → IsSpotted l (g / 256) → Allowed f (part j l) s → takes s g ≡ true
+    → spot_of l (g / 256) ≡ With j
 takes_with f l j s g at allowed h = grind (arith, is_with-true, takes_page, false≢true)
 
-takes_not : (f : Profile) (l : Whole) (j : ℕ) (s : Step) (g : ℕ) → IsSpotted l (g / 256) → Allowed f (part j l) s → (spot_of l (g / 256) ≡ With j → ⊥) → takes s g ≡ false
+takes_not : (f : Profile) (l : Whole) (j : ℕ) (s : Step) (g : ℕ) → IsSpotted l (g / 256) → Allowed f (part j l) s → (spot_of l (g / 256) ≡ With j → ⊥)
+    → takes s g ≡ false
 takes_not f l j s g at allowed never = false_from_ne_true (takes s g) (λ h. never (takes_with f l j s g at allowed h))
 
 was_nowhere : (j : ℕ) (m : Way) (o : Spot) → spot_after j m o ≡ Nowhere → o ≡ Nowhere
@@ -424,14 +451,16 @@ leaves_or : (x known : Bool) → (if x then false else known) ≡ (false || (not
 leaves_or x known = grind arith
 
 -- a grain is known as free if the step tells so, or if it was, and the step neither takes it nor gives the right away
-free_after-is : (s : Step) (a g : ℕ) (right known : Bool) → free_after s a g right known ≡ (tells_free s a g right || (not (takes s g) && not (leaves s (g / 256)) && known))
+free_after-is : (s : Step) (a g : ℕ) (right known : Bool)
+    → free_after s a g right known ≡ (tells_free s a g right || (not (takes s g) && not (leaves s (g / 256)) && known))
 free_after-is s a g right known = grind (arith, tells_or, takes_or, leaves_or)
 
 not_from : (x z y : Bool) → (not x && not z && y) ≡ true → (x ≡ false) × (z ≡ false) × (y ≡ true)
 not_from x z y h = grind arith
 
 -- the step tells it, and it is so
-told_free : (f : Profile) (l : Whole) (j e : ℕ) (s : Step) (a g : ℕ) → IsSpotted l (g / 256) → IsClear l g → Allowed f (part j l) s → a ≡ word_after l (target s) → tells_free s a g (has_right (part j l) (g / 256)) ≡ true
+told_free : (f : Profile) (l : Whole) (j e : ℕ) (s : Step) (a g : ℕ) → IsSpotted l (g / 256) → IsClear l g → Allowed f (part j l) s
+    → a ≡ word_after l (target s) → tells_free s a g (has_right (part j l) (g / 256)) ≡ true
     → Known j (spot_after j (way s a (g / 256)) (spot_of l (g / 256))) (has_bit (next_value e s (free_word_at g) (word_after l (free_word_at g))) (g % 64))
 told_free f l j e (Look (Word.Free q w)) a g at clear allowed is h =
     search (arith, and_parts, eqb-true, is_with-true, looked)
@@ -447,7 +476,8 @@ own_spot : (j : ℕ) (s : Step) (a p : ℕ) (o : Spot) → leaves s p ≡ false 
 own_spot j s a p o stays h = grind (arith, moved_spot, false≢true)
 
 -- what follows for the actor that made the step
-own_free : (f : Profile) (l : Whole) (j e : ℕ) (s : Step) (a g : ℕ) → IsSpotted l (g / 256) → IsClear l g → IsStepOf f s → Allowed f (part j l) s → a ≡ word_after l (target s)
+own_free : (f : Profile) (l : Whole) (j e : ℕ) (s : Step) (a g : ℕ) → IsSpotted l (g / 256) → IsClear l g → IsStepOf f s → Allowed f (part j l) s
+    → a ≡ word_after l (target s)
     → free_after s a g (has_right (part j l) (g / 256)) (known_free (part j l) g) ≡ true
     → Known j (spot_after j (way s a (g / 256)) (spot_of l (g / 256))) (has_bit (next_value e s (free_word_at g) (word_after l (free_word_at g))) (g % 64))
 own_free f l j e s a g at clear of allowed is h =
@@ -458,7 +488,8 @@ own_free f l j e s a g at clear of allowed is h =
     ]
 
 -- and for another, whose right stays and whose grains nobody takes
-other_free : (f : Profile) (l : Whole) (j k e : ℕ) (s : Step) (a g : ℕ) → IsSpotted l (g / 256) → IsClear l g → IsStepOf f s → Allowed f (part j l) s → a ≡ word_after l (target s) → (j == k) ≡ false → known_free (part k l) g ≡ true
+other_free : (f : Profile) (l : Whole) (j k e : ℕ) (s : Step) (a g : ℕ) → IsSpotted l (g / 256) → IsClear l g → IsStepOf f s → Allowed f (part j l) s
+    → a ≡ word_after l (target s) → (j == k) ≡ false → known_free (part k l) g ≡ true
     → Known k (spot_after j (way s a (g / 256)) (spot_of l (g / 256))) (has_bit (next_value e s (free_word_at g) (word_after l (free_word_at g))) (g % 64))
 other_free f l j k e s a g at clear of allowed is ne h =
     search (arith, other_spot, step_suits, free_stays, takes_not, with_differs)
@@ -528,11 +559,13 @@ back_tells x known old small was told = grind (arith, or_one)
 unback_tells : (x known : Bool) (old : ℕ) → (known ≡ true → old ≡ 1) → (if x then false else known) ≡ true → (if x then 0 else old) ≡ 1
 unback_tells x known old h e = grind arith
 
-look_backed : (x known : Bool) (old a : ℕ) → (x ≡ true → a ≡ old) → (known ≡ true → old ≡ 1) → (if x then a == 1 else known) ≡ true → (if x then old else old) ≡ 1
+look_backed : (x known : Bool) (old a : ℕ) → (x ≡ true → a ≡ old) → (known ≡ true → old ≡ 1) → (if x then a == 1 else known) ≡ true
+    → (if x then old else old) ≡ 1
 look_backed x known old a h e k = grind (arith, nat_tests)
 
 -- an actor's own step tells it that the page is backed only where it is
-backed_learns : (l : Whole) (e : ℕ) (s : Step) (a p : ℕ) (known : Bool) → a ≡ word_after l (target s) → word_after l (Word.Backed p) ≤ 1 → (known ≡ true → word_after l (Word.Backed p) ≡ 1) → backed_after s a p known ≡ true
+backed_learns : (l : Whole) (e : ℕ) (s : Step) (a p : ℕ) (known : Bool) → a ≡ word_after l (target s) → word_after l (Word.Backed p) ≤ 1
+    → (known ≡ true → word_after l (Word.Backed p) ≡ 1) → backed_after s a p known ≡ true
     → next_value e s (Word.Backed p) (word_after l (Word.Backed p)) ≡ 1
 backed_learns l e s a p known is small was told = grind (arith, look_backed, eqb-true, back_tells, unback_tells)
 
@@ -544,7 +577,8 @@ unbacks_held : (f : Profile) (v : View) (s : Step) (p : ℕ) → Allowed f v s �
 unbacks_held f v s p allowed h = grind (arith, allowed_at, eqb-true, false≢true)
 
 -- so no other does while this actor holds one
-other_unbacks : (f : Profile) (l : Whole) → IsValid f → Legal f l → (t : Triple) (k p : ℕ) → IsNext f l t → (t.actor == k) ≡ false → holds_on (part k l) p ≡ true → unbacks t.made.step p ≡ false
+other_unbacks : (f : Profile) (l : Whole) → IsValid f → Legal f l → (t : Triple) (k p : ℕ) → IsNext f l t → (t.actor == k) ≡ false
+    → holds_on (part k l) p ≡ true → unbacks t.made.step p ≡ false
 other_unbacks f l valid legal t k p next other held = false_from_ne_true (unbacks t.made.step p) (λ h.
     let one = any_one 256 (λ i. holds (part k l) (p * 256 + i)) held in
     let lt = one.1 in

@@ -18,7 +18,7 @@ use Rattle.pas_steps.specs.declared.step.Step.TheVariants.{Look, Deed, Back, Tak
 use Rattle.pas_steps.specs.declared.step.Step.TheVariants.{Unhint}
 use Rattle.pas_core.proofs.{Grains.give_short, Grains.one_holder, Lives.life_at}
 use Rattle.pas_bits.proofs.{PageVectors.page_mask_lt, Runs.IsMet, Runs.met}
-use Rattle.pas_core.proofs.Deeds.{next_value, looked, event_if, end_if}
+use Rattle.pas_core.proofs.Deeds.{next_value, looked, event_if, end_event_cases}
 use Rattle.std.proofs.lemmas.Bool.{cond_both, false≢true, and_parts, and_from, false_from_ne_true, cases_Bool}
 use Rattle.pas_profile.proofs.Codecs.{kind_number_lt}
 use Rattle.pas_machine.specs.State.{Live, live_in, gives_in, ends_in, touches, epoch_in}
@@ -38,7 +38,8 @@ epoch_grows : (l : Whole) (t : Triple) → word_after l Word.Epoch ≤ word_afte
 epoch_grows l t = epoch_next (epoch_of (part t.actor l)) t.made.step (word_after l Word.Epoch)
 
 -- an actor learns no epoch but that of the word, and its tick the one that it makes
-epoch_learns : (l : Whole) (e : ℕ) (s : Step) (a : ℕ) (known : Option ℕ) → a ≡ word_after l (target s) → or_zero known ≤ word_after l Word.Epoch → or_zero (epoch_after s a known) ≤ next_value e s Word.Epoch (word_after l Word.Epoch)
+epoch_learns : (l : Whole) (e : ℕ) (s : Step) (a : ℕ) (known : Option ℕ) → a ≡ word_after l (target s) → or_zero known ≤ word_after l Word.Epoch
+    → or_zero (epoch_after s a known) ≤ next_value e s Word.Epoch (word_after l Word.Epoch)
 epoch_learns l e s a known is h = grind arith
 
 -- the epoch that a view knows is at most the epoch
@@ -116,11 +117,14 @@ pub record IsFound (f : Profile) (l : Whole) (name : Name) (guess : ℕ) : Type 
   pub first : 256 ≤ grain_of name
   pub last : grain_of name + guess ≤ 256 * (f.pages + 1)
 
-found : (f : Profile) (l : Whole) (name : Name) (word guess gives ends : ℕ) (live : Option Live) → live_in (visible l) (address_of name) ≡ live → IsLifeOf f (grain_of name) word live gives ends
+found : (f : Profile) (l : Whole) (name : Name) (word guess gives ends : ℕ) (live : Option Live) → live_in (visible l) (address_of name) ≡ live
+    → IsLifeOf f (grain_of name) word live gives ends
     → name.turn < 2 ^ 40 → guess < 2 ^ 23 → word ≡ live_word name.turn guess → IsFound f l name guess
 found f l name word guess gives ends live is life turn short h = grind arith
 
-pub end_finds : (f : Profile) (l : Whole) → IsValid f → Legal f l → (name : Name) (guess a : ℕ) → IsStepOf f (End name guess) → a ≡ word_after l (life_word_at (grain_of name)) → a ≡ live_word name.turn guess → IsFound f l name guess
+-- An end that is answered by the live word of its turn and length finds that block.
+pub end_finds : (f : Profile) (l : Whole) → IsValid f → Legal f l → (name : Name) (guess a : ℕ) → IsStepOf f (End name guess)
+    → a ≡ word_after l (life_word_at (grain_of name)) → a ≡ live_word name.turn guess → IsFound f l name guess
 end_finds f l valid legal name guess a of is hit =
     found f l name (word_after l (life_word_at (grain_of name))) guess (gives_in (visible l) (address_of name)) (ends_in (visible l) (address_of name)) (live_in (visible l) (address_of name)) refl (life_at f l valid legal (address_of name) of.1)
     (omega (arith, of.2)) (guess_fits guess f.pages valid.pages of.4) (sym is ∙ hit)
@@ -153,19 +157,23 @@ all_held v p g all e =
     let is : p * 256 + g % 256 ≡ g = omega (arith, e) in
     subst (λ x. holds v x ≡ true) is (all_below-at 256 (g % 256) (λ b. holds v (p * 256 + b)) all (omega arith))
 
-look_stamp : (x : Bool) (a word : ℕ) (known : Option ℕ) (s : ℕ) → (x ≡ true → a ≡ word) → ((s : ℕ) → known ≡ Some s → word ≡ s) → (if x then Some a else known) ≡ Some s → word ≡ s
+look_stamp : (x : Bool) (a word : ℕ) (known : Option ℕ) (s : ℕ) → (x ≡ true → a ≡ word) → ((s : ℕ) → known ≡ Some s → word ≡ s)
+    → (if x then Some a else known) ≡ Some s → word ≡ s
 look_stamp x a word known s h e k = grind arith
 
-own_stamp : (x : Bool) (e word : ℕ) (known : Option ℕ) (s : ℕ) → ((s : ℕ) → known ≡ Some s → word ≡ s) → (if x then None else known) ≡ Some s → (if x then max word e else word) ≡ s
+own_stamp : (x : Bool) (e word : ℕ) (known : Option ℕ) (s : ℕ) → ((s : ℕ) → known ≡ Some s → word ≡ s) → (if x then None else known) ≡ Some s
+    → (if x then max word e else word) ≡ s
 own_stamp x e word known s h k = grind arith
 
 -- an actor's own step tells it the stamp
-stamp_learns : (l : Whole) (e : ℕ) (t : Step) (a p : ℕ) (known : Option ℕ) (s : ℕ) → a ≡ word_after l (target t) → ((s : ℕ) → known ≡ Some s → word_after l (Word.Stamp p) ≡ s) → stamp_after t a p known ≡ Some s
+stamp_learns : (l : Whole) (e : ℕ) (t : Step) (a p : ℕ) (known : Option ℕ) (s : ℕ) → a ≡ word_after l (target t)
+    → ((s : ℕ) → known ≡ Some s → word_after l (Word.Stamp p) ≡ s) → stamp_after t a p known ≡ Some s
     → next_value e t (Word.Stamp p) (word_after l (Word.Stamp p)) ≡ s
 stamp_learns l e step a p known s is old h = grind (arith, looked, look_stamp, eqb-true, own_stamp)
 
 -- nobody else stamps a page each of whose grains this actor holds
-other_stamps : (f : Profile) (l : Whole) → IsValid f → Legal f l → (t : Triple) (k p : ℕ) → IsNext f l t → (t.actor == k) ≡ false → holds_all (part k l) p ≡ true → stamps t.made.step p ≡ false
+other_stamps : (f : Profile) (l : Whole) → IsValid f → Legal f l → (t : Triple) (k p : ℕ) → IsNext f l t → (t.actor == k) ≡ false
+    → holds_all (part k l) p ≡ true → stamps t.made.step p ≡ false
 other_stamps f l valid legal t k p next other all = search (arith, false_from_ne_true, stamps_held, false≢true, one_holder, all_held)
 
 -- a stamp that a view knows is the page's
@@ -182,12 +190,14 @@ moved_held t held m new h = cond_both t m Stays (λ x. held_after x held ≡ tru
 put_misses : (v : View) (q w mask p g : ℕ) → MayPutNow v q w mask → is_unstamped v p ≡ true → g / 256 ≡ p → in_mask q w mask g ≡ false
 put_misses v q w mask p g may unstamped e = search (arith, false_from_ne_true, and_parts, eqb-true, false≢true)
 
-give_misses : (f : Profile) (v : View) (block : Block) (p g : ℕ) → MayGiveNow f v block → is_unstamped v p ≡ true → g / 256 ≡ p → in_run (grain_of block.name) (length_of block) g ≡ false
+give_misses : (f : Profile) (v : View) (block : Block) (p g : ℕ) → MayGiveNow f v block → is_unstamped v p ≡ true → g / 256 ≡ p
+    → in_run (grain_of block.name) (length_of block) g ≡ false
 give_misses f v block p g may unstamped e = false_from_ne_true (in_run (grain_of block.name) (length_of block) g) (λ h.
     false≢true (sym (may.bears g h).stamped ∙ ap (is_unstamped v) e ∙ unstamped))
 
 -- after an end: a page of the block has a grain of it, and another page is as it was
-end_keeps : (v : View) (name : Name) (guess a p : ℕ) → 1 ≤ guess → (is_unstamped v p ≡ true → HoldsOn v p) → (z : Bool) → (a == live_word name.turn guess) ≡ z → (y : Bool) → meets_page (grain_of name) guess p ≡ y
+end_keeps : (v : View) (name : Name) (guess a p : ℕ) → 1 ≤ guess → (is_unstamped v p ≡ true → HoldsOn v p) → (z : Bool) → (a == live_word name.turn guess) ≡ z
+    → (y : Bool) → meets_page (grain_of name) guess p ≡ y
     → (if z && y then true else is_unstamped v p) ≡ true → HoldsOn (made (End name guess) a ∷ v) p
 end_keeps v name guess a p some before true ze true ye h =
     let at : IsMet (grain_of name) guess p = met (grain_of name) guess p some ye in
@@ -195,7 +205,8 @@ end_keeps v name guess a p some before true ze true ye h =
 end_keeps v name guess a p some before true ze false ye h = let was = before h in (was.0, was.1, moved_held ((a == live_word name.turn guess) && in_run (grain_of name) guess was.0) (holds v was.0) (Ends (grain_of name)) (λ here. refl) was.2)
 end_keeps v name guess a p some before false ze y ye h = let was = before h in (was.0, was.1, moved_held ((a == live_word name.turn guess) && in_run (grain_of name) guess was.0) (holds v was.0) (Ends (grain_of name)) (λ here. refl) was.2)
 
-keeps_held : (f : Profile) (v : View) (s : Step) (a p : ℕ) → IsStepOf f s → Allowed f v s → (is_unstamped v p ≡ true → HoldsOn v p) → unstamped_after s a p (is_unstamped v p) ≡ true → HoldsOn (made s a ∷ v) p
+keeps_held : (f : Profile) (v : View) (s : Step) (a p : ℕ) → IsStepOf f s → Allowed f v s → (is_unstamped v p ≡ true → HoldsOn v p)
+    → unstamped_after s a p (is_unstamped v p) ≡ true → HoldsOn (made s a ∷ v) p
 keeps_held f v (Take q w mask) a p of allowed before h = let was = before h in (was.0, was.1, moved_held (in_mask q w mask was.0 && has_bit a (was.0 % 64)) (holds v was.0) Gets (λ here. refl) was.2)
 keeps_held f v (Put q w mask) a p of allowed before h = let was = before h in (was.0, was.1, moved_held (in_mask q w mask was.0) (holds v was.0) Puts (λ here. absurd (false≢true (sym (put_misses v q w mask p was.0 allowed h was.1) ∙ here))) was.2)
 keeps_held f v (Give block) a p of allowed before h = let was = before h in (was.0, was.1, moved_held (in_run (grain_of block.name) (length_of block) was.0) (holds v was.0) (Gives (grain_of block.name)) (λ here. absurd (false≢true (sym (give_misses f v block p was.0 allowed h was.1) ∙ here))) was.2)
@@ -218,7 +229,8 @@ ends_map P Q [] p f h = tt
 ends_map P Q (e ∷ es) p f h = (so_map P Q e es p f h.0, ends_map P Q es p f h.1)
 
 -- a block that ends touches a page just where its run meets it
-end_touches : (f : Profile) (l : Whole) → IsValid f → Legal f l → (name : Name) (guess a p : ℕ) → IsStepOf f (End name guess) → a ≡ word_after l (life_word_at (grain_of name)) → (a == live_word name.turn guess) ≡ true
+end_touches : (f : Profile) (l : Whole) → IsValid f → Legal f l → (name : Name) (guess a p : ℕ) → IsStepOf f (End name guess)
+    → a ≡ word_after l (life_word_at (grain_of name)) → (a == live_word name.turn guess) ≡ true
     → touches (live_in (visible l) (address_of name)) p ≡ true → ends_on (End name guess) a p ≡ true
 end_touches f l valid legal name guess a p of is hit on =
     let at : IsFound f l name guess = end_finds f l valid legal name guess a of is (eqb-true a (live_word name.turn guess) hit) in
@@ -227,23 +239,26 @@ end_touches f l valid legal name guess a p of is hit on =
     and_from (a == live_word name.turn guess) (meets_page (grain_of name) guess p) hit meets
 
 -- the ends so far and the one that the step may make
-ends_step : (f : Profile) (l : Whole) → IsValid f → Legal f l → (P : ℕ → ℕ → Type 0) (k e : ℕ) (s : Step) (a p : ℕ) → IsStepOf f s → a ≡ word_after l (target s) → (ends_on s a p ≡ true → P k e) → EachEnd P (visible l) p
+ends_step : (f : Profile) (l : Whole) → IsValid f → Legal f l → (P : ℕ → ℕ → Type 0) (k e : ℕ) (s : Step) (a p : ℕ) → IsStepOf f s → a ≡ word_after l (target s)
+    → (ends_on s a p ≡ true → P k e) → EachEnd P (visible l) p
     → EachEnd P (with_event (event_of k e s a) (visible l)) p
-ends_step f l valid legal P k e s a p of is new h = grind (arith, event_if, end_if, end_touches)
+ends_step f l valid legal P k e s a p of is new h = grind (arith, event_if, end_event_cases, end_touches)
 
 -- no step lowers a stamp
 stamp_next : (e : ℕ) (s : Step) (p old : ℕ) → old ≤ next_value e s (Word.Stamp p) old
 stamp_next e s p old = grind (arith, looked, cond_both)
 
 -- an actor forgets no epoch
-epoch_rises : (l : Whole) (s : Step) (a : ℕ) (known : Option ℕ) → a ≡ word_after l (target s) → or_zero known ≤ word_after l Word.Epoch → or_zero known ≤ or_zero (epoch_after s a known)
+epoch_rises : (l : Whole) (s : Step) (a : ℕ) (known : Option ℕ) → a ≡ word_after l (target s) → or_zero known ≤ word_after l Word.Epoch
+    → or_zero known ≤ or_zero (epoch_after s a known)
 epoch_rises l s a known is h = grind arith
 
 -- what an own step leaves: the page is unstamped still, or is stamped now
 stamped_now : (x was : Bool) (e n old : ℕ) → was ≡ true → n ≤ e → ((if x then false else was) ≡ true) ⊎ (n ≤ (if x then max old e else old))
 stamped_now x was e n old h k = grind arith
 
-own_late : (e : ℕ) (s : Step) (a p : ℕ) (was : Bool) (n old : ℕ) → was ≡ true → n ≤ e → (unstamped_after s a p was ≡ true) ⊎ (n ≤ next_value e s (Word.Stamp p) old)
+own_late : (e : ℕ) (s : Step) (a p : ℕ) (was : Bool) (n old : ℕ) → was ≡ true → n ≤ e
+    → (unstamped_after s a p was ≡ true) ⊎ (n ≤ next_value e s (Word.Stamp p) old)
 own_late e s a p was n old h le = grind (arith, stays_set, stamped_now)
 
 late_next : (f : Profile) (t : Triple) (l : Whole) → Legal f (t ∷ l) → (p k n : ℕ) → IsStampedOr l p k n → IsStampedOr (t ∷ l) p k n
@@ -275,7 +290,8 @@ ends_bound (Event.End k name e ∷ es) p n h = cond_both (touches (live_in es (a
 ends_bound (e ∷ es) p n h = ends_bound es p n h.1
 
 -- where an actor holds each grain of a page that isn't unstamped for it, the stamp is at least the epoch of each end on the page
-pub ends_before : (f : Profile) (l : Whole) → IsValid f → Legal f l → (k p : ℕ) → ((g : ℕ) → g / 256 ≡ p → holds (part k l) g ≡ true) → is_unstamped (part k l) p ≡ false → epoch_in (visible l) p ≤ word_after l (Word.Stamp p)
+pub ends_before : (f : Profile) (l : Whole) → IsValid f → Legal f l → (k p : ℕ) → ((g : ℕ) → g / 256 ≡ p → holds (part k l) g ≡ true)
+    → is_unstamped (part k l) p ≡ false → epoch_in (visible l) p ≤ word_after l (Word.Stamp p)
 ends_before f l valid legal k p held stamped =
     ends_bound (visible l) p (word_after l (Word.Stamp p)) (ends_map (IsStampedOr l p) (λ j e. e ≤ word_after l (Word.Stamp p)) (visible l) p (λ j n late. elim late [
       | inl le ↦ le
@@ -296,17 +312,20 @@ with_more : (o : Option Event) (es : List Event) (p : ℕ) → epoch_in es p ≤
 with_more o es p = grind (arith, more_epoch)
 
 -- a block that an end ended touches each page that its run meets
-touched_by_end : (f : Profile) (l : Whole) → IsValid f → Legal f l → (name : Name) (guess a p : ℕ) → IsStepOf f (End name guess) → a ≡ word_after l (life_word_at (grain_of name)) → (a == live_word name.turn guess) ≡ true → meets_page (grain_of name) guess p ≡ true
+touched_by_end : (f : Profile) (l : Whole) → IsValid f → Legal f l → (name : Name) (guess a p : ℕ) → IsStepOf f (End name guess)
+    → a ≡ word_after l (life_word_at (grain_of name)) → (a == live_word name.turn guess) ≡ true → meets_page (grain_of name) guess p ≡ true
     → touches (live_in (visible l) (address_of name)) p ≡ true
 touched_by_end f l valid legal name guess a p of is hit meets =
     let at : IsFound f l name guess = end_finds f l valid legal name guess a of is (eqb-true a (live_word name.turn guess) hit) in
     let first : address_of at.block.block.name / 16 ≡ grain_of name = omega (arith, at.address_is) in
     ap (λ o. touches o p) at.lives ∙ ap (λ n. meets_page (address_of at.block.block.name / 16) n p) at.grains_are ∙ ap (λ g. meets_page g guess p) first ∙ meets
 
-end_reached : (z y : Bool) (k e : ℕ) (name : Name) (reject : Event) (es : List Event) (p : ℕ) → z ≡ true → touches (live_in es (address_of name)) p ≡ true → e ≤ epoch_in (with_event (if z then Some (Event.End k name e) else (if y then None else Some reject)) es) p
+end_reached : (z y : Bool) (k e : ℕ) (name : Name) (reject : Event) (es : List Event) (p : ℕ) → z ≡ true → touches (live_in es (address_of name)) p ≡ true
+    → e ≤ epoch_in (with_event (if z then Some (Event.End k name e) else (if y then None else Some reject)) es) p
 end_reached z y k e name reject es p h on = grind (arith, cond_both, false≢true)
 
-end_reaches : (f : Profile) (l : Whole) → IsValid f → Legal f l → (k e : ℕ) (s : Step) (a p : ℕ) → IsStepOf f s → a ≡ word_after l (target s) → ends_on s a p ≡ true → e ≤ epoch_in (with_event (event_of k e s a) (visible l)) p
+end_reaches : (f : Profile) (l : Whole) → IsValid f → Legal f l → (k e : ℕ) (s : Step) (a p : ℕ) → IsStepOf f s → a ≡ word_after l (target s)
+    → ends_on s a p ≡ true → e ≤ epoch_in (with_event (event_of k e s a) (visible l)) p
 end_reaches f l valid legal k e s a p of is h = grind (arith, and_parts, end_reached, touched_by_end, false≢true)
 
 -- ---- steps
@@ -350,7 +369,8 @@ exact f (t ∷ l) valid legal keeps p =
     }
 
 -- the stamp of a page is the greatest epoch of an end on it, once the page is unstamped for nobody
-pub stamps_are_ends : (f : Profile) (l : Whole) → IsValid f → Legal f l → AllKeepToEnds l → (p : ℕ) → ((k : ℕ) → is_unstamped (part k l) p ≡ false) → word_after l (Word.Stamp p) ≡ epoch_in (visible l) p
+pub stamps_are_ends : (f : Profile) (l : Whole) → IsValid f → Legal f l → AllKeepToEnds l → (p : ℕ) → ((k : ℕ) → is_unstamped (part k l) p ≡ false)
+    → word_after l (Word.Stamp p) ≡ epoch_in (visible l) p
 stamps_are_ends f l valid legal keeps p settled =
     let at : IsExact l p = exact f l valid legal keeps p in
     let least : epoch_in (visible l) p ≤ word_after l (Word.Stamp p) = ends_bound (visible l) p (word_after l (Word.Stamp p)) (ends_map (IsStampedOr l p) (λ j e. e ≤ word_after l (Word.Stamp p)) (visible l) p (λ j n late. elim late [

@@ -117,5 +117,6 @@ pub record IsBare (address : ℕ) (live : Option Live) (gives ends : ℕ) : Type
 pub record AgreesWithWords (f : Profile) (l : Whole) : Type 0 where
   pub deed : (page : ℕ) → word_after l (Word.Deed page) ≡ word_of_deed (deed_in (visible l) page)
   pub backed : (page : ℕ) → word_after l (Word.Backed page) ≡ word_of_backed (backed_in (visible l) page)
-  pub life : (g : ℕ) → IsLifeOf f g (word_after l (life_word_at g)) (live_in (visible l) (16 * g)) (gives_in (visible l) (16 * g)) (ends_in (visible l) (16 * g))
+  pub life : (g : ℕ)
+      → IsLifeOf f g (word_after l (life_word_at g)) (live_in (visible l) (16 * g)) (gives_in (visible l) (16 * g)) (ends_in (visible l) (16 * g))
   pub bare : (address : ℕ) → address % 16 ≢ 0 → IsBare address (live_in (visible l) address) (gives_in (visible l) address) (ends_in (visible l) address)

@@ -35,7 +35,8 @@ by_few t entry first guess before none = grind arith
 end_few : (entry : Entry) (outcome : Outcome) (steps : List Made) → EndSteps entry outcome steps → length steps ≤ 3
 end_few entry outcome steps h = let all = ap length h.steps_are in let n = length-append h.before (made (Look (Word.Deed (address_of entry.name / 4096))) h.deed ∷ []) in let few = by_few (is_sized entry) entry (guess_by (directory_read h.deed)) h.guess h.before h.tries in omega (arith, all, n, few)
 
-after_few : (epoch : ℕ) (name : Name) (outcome : Outcome) (steps : List Made) → AfterEnd name outcome steps → length steps ≤ 14 * length (stamps_by_outcome epoch name outcome)
+after_few : (epoch : ℕ) (name : Name) (outcome : Outcome) (steps : List Made) → AfterEnd name outcome steps
+    → length steps ≤ 14 * length (stamps_by_outcome epoch name outcome)
 after_few epoch name (Ended grains) steps h =
     let g = grain_of name in
     let few = in_turn_length (λ page piece. PageSteps (first_on g page) (count_on g grains page) piece) 14 (λ page piece. page_few (first_on g page) (count_on g grains page) piece) (pages_met g grains) steps h in
@@ -43,7 +44,8 @@ after_few epoch name (Ended grains) steps h =
     omega (arith, few, pages)
 after_few epoch name (Refused read) steps h = let none = ap length h in omega (arith, none)
 
-entries_few : (epoch : ℕ) (settled : List Settled) (steps : List Made) → EntriesSteps settled steps → length steps ≤ 3 * length settled + 14 * length (flat_map (stamps_for epoch) settled)
+entries_few : (epoch : ℕ) (settled : List Settled) (steps : List Made) → EntriesSteps settled steps
+    → length steps ≤ 3 * length settled + 14 * length (flat_map (stamps_for epoch) settled)
 entries_few epoch [] steps h = let none = ap length h in omega (arith, none)
 entries_few epoch (entry ∷ earlier) steps h =
     let e = h.2 in
@@ -61,18 +63,23 @@ settled_count settled logged are = sym (length-map settled (λ s. s.entry)) ∙ 
 
 -- ---- one entry more
 pub events_more : (k epoch : ℕ) (entry : Settled) (settled : List Settled) (ys xs : List Made) → Only ending xs
-    → ((v : View) → epoch_of v ≡ epoch → events_by k v xs ≡ map (shown_for k epoch) settled) → ((v : View) → events_by k v ys ≡ event_for k (epoch_of v) entry.entry entry.outcome ∷ [])
+    → ((v : View) → epoch_of v ≡ epoch → events_by k v xs ≡ map (shown_for k epoch) settled)
+    → ((v : View) → events_by k v ys ≡ event_for k (epoch_of v) entry.entry entry.outcome ∷ [])
     → (v : View) → epoch_of v ≡ epoch → events_by k v (ys ++ xs) ≡ map (shown_for k epoch) (entry ∷ settled)
 events_more k epoch entry settled ys xs kinds before one v is =
     cc (events_append k ys xs v, one (xs ++ v), epoch_same ending refl xs v kinds, before v is)
 
+-- The stamps for one entry more come behind those for the entries before.
 pub stamps_more : (epoch : ℕ) (entry : Settled) (settled : List Settled) (ys xs : List Made) → Only ending xs
-    → ((v : View) → epoch_of v ≡ epoch → stamps_by v xs ≡ flat_map (stamps_for epoch) settled) → ((v : View) → stamps_by v ys ≡ stamps_by_outcome (epoch_of v) entry.entry.name entry.outcome)
+    → ((v : View) → epoch_of v ≡ epoch → stamps_by v xs ≡ flat_map (stamps_for epoch) settled)
+    → ((v : View) → stamps_by v ys ≡ stamps_by_outcome (epoch_of v) entry.entry.name entry.outcome)
     → (v : View) → epoch_of v ≡ epoch → stamps_by v (ys ++ xs) ≡ flat_map (stamps_for epoch) (entry ∷ settled)
 stamps_more epoch entry settled ys xs kinds before one v is =
     cc (stamps_append v ys xs, one (xs ++ v), epoch_same ending refl xs v kinds, before v is)
 
-pub entries_more : (settled : List Settled) (entry : Settled) (logged : List Entry) (i : ℕ) (d : Entry) → i < length logged → entry.entry ≡ get_or logged i d → reverse (map (λ s. s.entry) settled) ≡ take i logged → reverse (map (λ s. s.entry) (entry ∷ settled)) ≡ take (i + 1) logged
+-- The entries that were settled, with one more, are the first ones of the log.
+pub entries_more : (settled : List Settled) (entry : Settled) (logged : List Entry) (i : ℕ) (d : Entry) → i < length logged → entry.entry ≡ get_or logged i d
+    → reverse (map (λ s. s.entry) settled) ≡ take i logged → reverse (map (λ s. s.entry) (entry ∷ settled)) ≡ take (i + 1) logged
 entries_more settled entry logged i d lt is before =
     reverse-append (entry.entry ∷ []) (map (λ s. s.entry) settled) ∙ ap (λ xs. xs ++ entry.entry ∷ []) before ∙ ap (λ e. take i logged ++ e ∷ []) is ∙ sym (take_more logged i d lt)
 
@@ -83,13 +90,16 @@ take_both zero xs ys = refl
 take_both (suc k) [] ys = ap (λ n. take n ys) {y = suc k} (omega arith)
 take_both (suc k) (x ∷ xs) ys = ap (λ n. x ∷ take k xs ++ take n ys) (omega arith) ∙ ap (λ zs. x ∷ zs) (take_both k xs ys)
 
-noted_both : {A : Type 0} (n : ℕ) (es xs ys : List A) → (es ++ take (n - length es) xs) ++ take (n - length (es ++ take (n - length es) xs)) ys ≡ es ++ take (n - length es) (xs ++ ys)
+noted_both : {A : Type 0} (n : ℕ) (es xs ys : List A)
+    → (es ++ take (n - length es) xs) ++ take (n - length (es ++ take (n - length es) xs)) ys ≡ es ++ take (n - length es) (xs ++ ys)
 noted_both n es xs ys =
     append_assoc es (take (n - length es) xs) (take (n - length (es ++ take (n - length es) xs)) ys)
     ∙ ap (λ k. es ++ (take (n - length es) xs ++ take k ys)) (omega (arith, length-append es (take (n - length es) xs)))
     ∙ ap (λ zs. es ++ zs) (take_both (n - length es) xs ys)
 
-pub noted_more : (settled : List Settled) (s : Settled) (es noted noted' runs : List EndedRun) → noted ≡ noted_after es settled → runs ≡ noted_for s → noted' ≡ noted ++ take (64 - length noted) runs
+-- The runs that were noted for one entry more are those before and its own, as far as there is room.
+pub noted_more : (settled : List Settled) (s : Settled) (es noted noted' runs : List EndedRun) → noted ≡ noted_after es settled → runs ≡ noted_for s
+    → noted' ≡ noted ++ take (64 - length noted) runs
     → noted' ≡ noted_after es (s ∷ settled)
 noted_more settled s es noted noted' runs before one more =
     let so_far = flat_map noted_for (reverse settled) in
@@ -98,23 +108,30 @@ noted_more settled s es noted noted' runs before one more =
 no_runs : {A : Type 0} (k : ℕ) → take {A = A} k [] ≡ []
 no_runs k = grind arith
 
+-- Without an entry the noted runs are as they were.
 pub noted_none : (es : List EndedRun) → es ≡ noted_after es []
 noted_none es = sym (ap (λ xs. es ++ xs) (no_runs (64 - length es)) ∙ append-nil es)
 
+-- Noted runs with more of which each is a range are ranges.
 pub ranges_more : (noted noted' runs : List EndedRun) → noted' ≡ noted ++ take (64 - length noted) runs → AreRanges runs → AreRanges noted → AreRanges noted'
 ranges_more noted noted' runs is more before = subst AreRanges (sym is) (All-append (λ run. IsRange run.range) noted (take (64 - length noted) runs) before (All-take (λ run. IsRange run.range) (64 - length noted) runs more))
 
 -- ---- the whole flush
-epoch_after_entries : (epoch : ℕ) (entries : List Made) (v : View) → Only ending entries → known_epoch ((entries ++ made (Look Word.Epoch) epoch ∷ []) ++ v) ≡ Some epoch
+epoch_after_entries : (epoch : ℕ) (entries : List Made) (v : View) → Only ending entries
+    → known_epoch ((entries ++ made (Look Word.Epoch) epoch ∷ []) ++ v) ≡ Some epoch
 epoch_after_entries epoch entries v kinds = ap known_epoch (append_assoc entries (made (Look Word.Epoch) epoch ∷ []) v) ∙ epoch_same ending refl entries (made (Look Word.Epoch) epoch ∷ v) kinds
 
 -- the next entry may be ended
-pub may_end : (epoch : ℕ) (entries : List Made) (v : View) → Only ending entries → Does nothing v ((entries ++ made (Look Word.Epoch) epoch ∷ []) ++ v) → IsClear v → MayEnd ((entries ++ made (Look Word.Epoch) epoch ∷ []) ++ v)
+pub may_end : (epoch : ℕ) (entries : List Made) (v : View) → Only ending entries → Does nothing v ((entries ++ made (Look Word.Epoch) epoch ∷ []) ++ v)
+    → IsClear v → MayEnd ((entries ++ made (Look Word.Epoch) epoch ∷ []) ++ v)
 may_end epoch entries v kinds does clear = record { epoch = subst IsEpochKnown (sym (epoch_after_entries epoch entries v kinds)) tt; examined = λ page. ((still_clear does clear).on page).examined }
 
-pub flushed : {σ σ' : Standing} (epoch : ℕ) (settled : List Settled) (logged : List Entry) (ended ended' : List EndedRun) (entries : List Made) → ended' ≡ noted_after ended settled → (AreRanges ended → AreRanges ended') → reverse (map (λ s. s.entry) settled) ≡ logged → EntriesSteps settled entries
+-- The epoch that was read, and then the steps for each entry, flush the log.
+pub flushed : {σ σ' : Standing} (epoch : ℕ) (settled : List Settled) (logged : List Entry) (ended ended' : List EndedRun) (entries : List Made)
+    → ended' ≡ noted_after ended settled → (AreRanges ended → AreRanges ended') → reverse (map (λ s. s.entry) settled) ≡ logged → EntriesSteps settled entries
     → Calls σ σ' IsClear (Does nothing) (entries ++ made (Look Word.Epoch) epoch ∷ []) → Only ending entries
-    → ((v : View) → epoch_of v ≡ epoch → events_by σ.seat.actor v entries ≡ map (shown_for σ.seat.actor epoch) settled) → ((v : View) → epoch_of v ≡ epoch → stamps_by v entries ≡ flat_map (stamps_for epoch) settled)
+    → ((v : View) → epoch_of v ≡ epoch → events_by σ.seat.actor v entries ≡ map (shown_for σ.seat.actor epoch) settled)
+    → ((v : View) → epoch_of v ≡ epoch → stamps_by v entries ≡ flat_map (stamps_for epoch) settled)
     → Flushes logged ended ended' σ σ'
 flushed {σ} {σ'} epoch settled logged ended ended' entries noted ranges entries_are order calls kinds events stamps =
     let look : List Made = made (Look Word.Epoch) epoch ∷ [] in

@@ -46,6 +46,7 @@ use Rattle.pas_free_log.specs.Noted.{IsRange, AreRanges, is_whole, range_of, run
 stamped_more : (s : Step) (e : ℕ) (ys xs : List (ℕ × ℕ)) → stamped_by s e (ys ++ xs) ≡ stamped_by s e ys ++ xs
 stamped_more s e ys xs = grind arith
 
+-- The stamps of two lists of steps are those of both, from where each began.
 pub stamps_append : (v : View) (ys xs : List Made) → stamps_by v (ys ++ xs) ≡ stamps_by (xs ++ v) ys ++ stamps_by v xs
 stamps_append v [] xs = refl
 stamps_append v (y ∷ ys) xs =
@@ -78,20 +79,24 @@ first_meets : (g n : ℕ) → 1 ≤ n → meets_page g n (g / 256) ≡ true
 first_meets g n some = grind (arith, nat_tests, some)
 
 -- the deed word of a page on which the actor ended a block is that of a directory of the region
-read_here : (f : Profile) (v : View) (g n deed : ℕ) → 1 ≤ n → MayReturn g n v → AgreesDeed f v (g / 256) deed → (d : Directory) × (deed ≡ deed_word_of d) × IsDirectoryOf f d
+read_here : (f : Profile) (v : View) (g n deed : ℕ) → 1 ≤ n → MayReturn g n v → AgreesDeed f v (g / 256) deed
+    → (d : Directory) × (deed ≡ deed_word_of d) × IsDirectoryOf f d
 read_here f v g n deed some met agrees = agrees.a_deed (agrees.ended (met.ended (g / 256) (first_meets g n some)))
 
 stamp_held : (g n deed : ℕ) (v : View) → 1 ≤ n → MayReturn g n v → HoldsOn (made (Look (Word.Deed (g / 256))) deed ∷ v) (g / 256)
 stamp_held g n deed v some met = (g, refl, met.held g (to_run g n g (omega arith) (omega (arith, some))))
 
-may_stamp : (g n deed : ℕ) (v : View) → 1 ≤ n → MayReturn g n v → HoldsOn (made (Look (Word.Deed (g / 256))) deed ∷ v) (g / 256) × IsEpochKnown (known_epoch (made (Look (Word.Deed (g / 256))) deed ∷ v))
+may_stamp : (g n deed : ℕ) (v : View) → 1 ≤ n → MayReturn g n v
+    → HoldsOn (made (Look (Word.Deed (g / 256))) deed ∷ v) (g / 256) × IsEpochKnown (known_epoch (made (Look (Word.Deed (g / 256))) deed ∷ v))
 may_stamp g n deed v some met = (stamp_held g n deed v some met, met.epoch)
 
 -- the grains of the mask on the page are the run's
-pub run_grains : (g n : ℕ) (mask : Mask4) → g % 256 + n ≤ 256 → ((x : ℕ) → is_set mask x ≡ in_run (g % 256) n x) → (x : ℕ) → masked (g / 256) mask x ≡ in_run g n x
+pub run_grains : (g n : ℕ) (mask : Mask4) → g % 256 + n ≤ 256 → ((x : ℕ) → is_set mask x ≡ in_run (g % 256) n x) → (x : ℕ)
+    → masked (g / 256) mask x ≡ in_run g n x
 run_grains g n mask within bits x = ap (λ t. (g / 256 == x / 256) && t) (bits (x % 256)) ∙ grind (arith, nat_tests, within)
 
-may_put_now : (g n deed stamped : ℕ) (mask : Mask4) (v : View) → ((x : ℕ) → masked (g / 256) mask x ≡ in_run g n x) → MayReturn g n v → MayPut (g / 256) mask (stamping (g / 256) deed stamped ++ v)
+may_put_now : (g n deed stamped : ℕ) (mask : Mask4) (v : View) → ((x : ℕ) → masked (g / 256) mask x ≡ in_run g n x) → MayReturn g n v
+    → MayPut (g / 256) mask (stamping (g / 256) deed stamped ++ v)
 may_put_now g n deed stamped mask v grains met = record { held = λ x inside. met.held x (sym (grains x) ∙ inside); stamped = ends (g / 256) (is_unstamped v (g / 256)) }
 
 -- ---- what the steps leave
@@ -107,7 +112,8 @@ pages_one g n some within = ap (λ c. pages_from (g / 256) c) (count_one g n som
 its_page : (g n q : ℕ) → page_count g n ≡ 1 → (g / 256 == q) ≡ in_run (g / 256) (page_count g n) q
 its_page g n q one = grind (arith, nat_tests, one)
 
-page_back : (g n deed stamped : ℕ) (puts after : List Made) → 1 ≤ n → g % 256 + n ≤ 256 → Only (Putting ∷ []) puts → OnlyReturns (g / 256) after → PutsBack g n (piece (g / 256) deed stamped puts after)
+page_back : (g n deed stamped : ℕ) (puts after : List Made) → 1 ≤ n → g % 256 + n ≤ 256 → Only (Putting ∷ []) puts → OnlyReturns (g / 256) after
+    → PutsBack g n (piece (g / 256) deed stamped puts after)
 page_back g n deed stamped puts after some within kinds returns =
     let p = g / 256 in
     let are = returns_are p after returns in
@@ -118,7 +124,8 @@ page_back g n deed stamped puts after some within kinds returns =
 
 -- ---- the call
 -- the directory of a page on which the actor ended a block
-pub page_directory : {σ σ1 : Standing} (g n deed : ℕ) (r : Option Directory) → IsValid σ.seat.profile → 1 ≤ n → CanCall σ (MayReturn g n) → Makes σ σ1 (Look (Word.Deed (g / 256))) deed → r ≡ directory_read deed
+pub page_directory : {σ σ1 : Standing} (g n deed : ℕ) (r : Option Directory) → IsValid σ.seat.profile → 1 ≤ n → CanCall σ (MayReturn g n)
+    → Makes σ σ1 (Look (Word.Deed (g / 256))) deed → r ≡ directory_read deed
     → (d : Directory) × (r ≡ Some d) × (deed ≡ deed_word_of d) × IsDirectoryOf σ.seat.profile d
 page_directory {σ} {σ1} g n deed r valid some can look read =
     directory_told σ.seat.profile deed r valid read (read_here σ.seat.profile can.view g n deed some can.met (look.agrees can.view can.whole can.stood tt))
@@ -129,10 +136,12 @@ pub record IsStamped (page word : ℕ) (w : View) : Type 0 where
   pub stamped : is_unstamped w page ≡ false
   pub examined : examines w page ≡ false
 
-module _ {σ σ1 σ2 : Standing} (g n deed stamped : ℕ) (mask : Mask4) (some : 1 ≤ n) (grains : (x : ℕ) → masked (g / 256) mask x ≡ in_run g n x) (look : Makes σ σ1 (Look (Word.Deed (g / 256))) deed) (stamp : Makes σ1 σ2 (Stamp (g / 256)) stamped) where
+module _ {σ σ1 σ2 : Standing} (g n deed stamped : ℕ) (mask : Mask4) (some : 1 ≤ n) (grains : (x : ℕ) → masked (g / 256) mask x ≡ in_run g n x)
+    (look : Makes σ σ1 (Look (Word.Deed (g / 256))) deed) (stamp : Makes σ1 σ2 (Stamp (g / 256)) stamped) where
   abbrev page : ℕ
   page = g / 256
 
+  -- After a page was stamped, its part of a run may be put.
   pub stamped_so : Calls σ σ2 (MayReturn g n) (λ v w. Does nothing v w × MayPut page mask w × IsStamped page deed w) (stamping page deed stamped)
   stamped_so = record {
     adds = adds_step (adds_step adds_none look (λ v l stood met. tt)) stamp (λ v l stood met. may_stamp g n deed v some met);
@@ -145,7 +154,9 @@ module _ {σ σ1 σ2 : Standing} (g n deed stamped : ℕ) (mask : Mask4) (some :
     };
   }
 
-  pub put_so : {σ3 : Standing} (p : PutsMask page mask σ2 σ3) → Calls σ σ3 (MayReturn g n) (λ v w. Does (put (in_run g n) page) v w × IsStamped page deed w) (p.steps ++ stamping page deed stamped)
+  -- After a page's part of a run was put, it is held no longer.
+  pub put_so : {σ3 : Standing} (p : PutsMask page mask σ2 σ3)
+      → Calls σ σ3 (MayReturn g n) (λ v w. Does (put (in_run g n) page) v w × IsStamped page deed w) (p.steps ++ stamping page deed stamped)
   put_so p = call_then (λ v w. Does (put (in_run g n) page) v w × IsStamped page deed w) stamped_so p.calls (λ v met r. r.1)
       (λ v met r d. let w = stamping page deed stamped ++ v in (
         put_as (masked page mask) (in_run g n) page (does_after_nothing (put (masked page mask) page) r.0 d) grains,
@@ -156,7 +167,9 @@ module _ {σ σ1 σ2 : Standing} (g n deed stamped : ℕ) (mask : Mask4) (some :
         },
       ))
 
-  pub page_returned : {σ3 σ4 : Standing} (d : Directory) → g % 256 + n ≤ 256 → deed ≡ deed_word_of d → PutsMask page mask σ2 σ3 → Returned page d σ3 σ4 → ReturnsPage g n σ σ4
+  -- A page that was stamped, put back and settled is returned.
+  pub page_returned : {σ3 σ4 : Standing} (d : Directory) → g % 256 + n ≤ 256 → deed ≡ deed_word_of d → PutsMask page mask σ2 σ3 → Returned page d σ3 σ4
+      → ReturnsPage g n σ σ4
   page_returned d within is p r = record {
     steps = piece page deed stamped p.steps r.steps;
     calls = call_then (Does (run_freed g n)) (put_so p) r.calls (λ v met q. q.1.deed ∙ is)
@@ -175,9 +188,11 @@ join a m b n k x at whole = grind (arith, nat_tests, at, whole)
 no_run : (g x : ℕ) → in_run g 0 x ≡ false
 no_run g x = grind (arith, nat_tests)
 
+-- Before any page of a run is put back, no step was made.
 pub back_none : (g : ℕ) → PutsBack g 0 []
 back_none g = record { kinds = tt; stamps = λ v. refl }
 
+-- A run without grains that is freed leaves a view as it is.
 pub none_freed : (g : ℕ) (v : View) → Does (run_freed g 0) v v
 none_freed g v = freed_nothing (in_run g 0) (in_run (g / 256) 0) (does_none v) (no_run g) (no_run (g / 256))
 
@@ -200,18 +215,23 @@ pub record IsNextBorder (g n from next : ℕ) : Type 0 where
   pub on_page : from % 256 + (next - from) ≤ 256
   pub border : IsBorder g n next
 
+-- The next border of a run, behind one within it, is the end of that page or of the run.
 pub next_is : (g n from next : ℕ) → g ≤ from → from < g + n → next ≡ next_border g n from → IsNextBorder g n from next
 next_is g n from next low high is = record { some = omega (arith, is, high); within = omega (arith, is); on_page = omega (arith, is, high); border = λ left. omega (arith, is, low, left) }
 
-count_next : (g n from next : ℕ) → g ≤ from → from < g + n → IsBorder g n from → IsNextBorder g n from next → page_count g (next - g) ≡ suc (page_count g (from - g))
+count_next : (g n from next : ℕ) → g ≤ from → from < g + n → IsBorder g n from → IsNextBorder g n from next
+    → page_count g (next - g) ≡ suc (page_count g (from - g))
 count_next g n from next low high border is =
     omega (arith, count_so_far g n from low high border, count_some g (next - g) (omega (arith, low, is.some)), low, is.some, is.on_page)
 
 -- ---- one page more
-pages_more : (g n from next : ℕ) → g ≤ from → from < g + n → IsBorder g n from → IsNextBorder g n from next → pages_met g (next - g) ≡ pages_met from (next - from) ++ pages_met g (from - g)
+pages_more : (g n from next : ℕ) → g ≤ from → from < g + n → IsBorder g n from → IsNextBorder g n from next
+    → pages_met g (next - g) ≡ pages_met from (next - from) ++ pages_met g (from - g)
 pages_more g n from next low high border is = search (arith, count_next, count_so_far, pages_one)
 
-pub back_more : (g n from next : ℕ) (ys xs : List Made) → g ≤ from → from < g + n → IsBorder g n from → IsNextBorder g n from next → PutsBack g (from - g) xs → PutsBack from (next - from) ys → PutsBack g (next - g) (ys ++ xs)
+-- The grains of a run up to one border more are put back page by page.
+pub back_more : (g n from next : ℕ) (ys xs : List Made) → g ≤ from → from < g + n → IsBorder g n from → IsNextBorder g n from next → PutsBack g (from - g) xs
+    → PutsBack from (next - from) ys → PutsBack g (next - g) (ys ++ xs)
 back_more g n from next ys xs low high border is a b = record {
   kinds = only_both putting_back ys xs b.kinds a.kinds;
   stamps = λ v.
@@ -220,7 +240,9 @@ back_more g n from next ys xs low high border is a b = record {
       ∙ sym (map-append (λ page. (page, epoch_of v)) (pages_met from (next - from)) (pages_met g (from - g))) ∙ ap (stamps_with (epoch_of v)) (sym (pages_more g n from next low high border is));
 }
 
-pub more_freed : {v w u : View} (g n from next : ℕ) → g ≤ from → from < g + n → IsBorder g n from → IsNextBorder g n from next → Does (run_freed g (from - g)) v w → Does (run_freed from (next - from)) w u → Does (run_freed g (next - g)) v u
+-- The grains of a run up to one border more are freed together.
+pub more_freed : {v w u : View} (g n from next : ℕ) → g ≤ from → from < g + n → IsBorder g n from → IsNextBorder g n from next
+    → Does (run_freed g (from - g)) v w → Does (run_freed from (next - from)) w u → Does (run_freed g (next - g)) v u
 more_freed g n from next low high border is d e =
     let one = count_one from (next - from) (omega (arith, is.some)) is.on_page in
     let more = count_next g n from next low high border is in
@@ -231,7 +253,9 @@ more_freed g n from next low high border is d e =
 count_is : (g n from next : ℕ) → from < g + n → next ≡ next_border g n from → first_on g (from / 256) ≡ from → count_on g n (from / 256) ≡ next - from
 count_is g n from next high is first = ap (λ k. min (g + n) (256 * (from / 256) + 256) - k) first ∙ omega (arith, is)
 
-pub order_more : (g n from next : ℕ) (ys xs : List Made) → g ≤ from → from < g + n → IsBorder g n from → next ≡ next_border g n from → PagesSteps (page_count g (from - g)) g n xs → PageSteps from (next - from) ys → PagesSteps (page_count g (next - g)) g n (ys ++ xs)
+-- The steps for the pages of a run, with one more page, are in order.
+pub order_more : (g n from next : ℕ) (ys xs : List Made) → g ≤ from → from < g + n → IsBorder g n from → next ≡ next_border g n from
+    → PagesSteps (page_count g (from - g)) g n xs → PageSteps from (next - from) ys → PagesSteps (page_count g (next - g)) g n (ys ++ xs)
 order_more g n from next ys xs low high border is before piece =
     let c = count_so_far g n from low high border in
     let first = border high in
@@ -243,7 +267,8 @@ meets_more : (g n from k page : ℕ) → g ≤ from → from + k ≤ g + n → m
 meets_more g n from k page low high meets = grind (arith, nat_tests, low, high, meets)
 
 -- what is left of the run may be put back
-pub may_more : (g n from next : ℕ) (xs : List Made) (v : View) → g ≤ from → IsNextBorder g n from next → PutsBack g (from - g) xs → Does (run_freed g (from - g)) v (xs ++ v) → MayReturn g n v → MayReturn from (next - from) (xs ++ v)
+pub may_more : (g n from next : ℕ) (xs : List Made) (v : View) → g ≤ from → IsNextBorder g n from next → PutsBack g (from - g) xs
+    → Does (run_freed g (from - g)) v (xs ++ v) → MayReturn g n v → MayReturn from (next - from) (xs ++ v)
 may_more g n from next xs v low is back does met =
     let some = is.some in
     let within = is.within in
@@ -271,12 +296,14 @@ kind_length s is = grind (arith, class_grains_positive, class_grains_le)
 by_length : (o : Option Directory) → ((d : Directory) → o ≡ Some d → IsKind d.kind) → IsLength (guess_by o)
 by_length o is = grind (arith, kind_length)
 
+-- The length that a deed word lets guess is one of a block.
 pub guess_length : (deed : ℕ) → IsLength (guess_by (directory_read deed))
 guess_length deed = by_length (directory_read deed) (λ d e. (read_is deed d e).0.kind)
 
 kind_if : (o : Option Directory) → ((d : Directory) → o ≡ Some d → IsKind d.kind) → IfSome o (λ d. IsKind d.kind)
 kind_if o is = grind arith
 
+-- The directory that a deed word reads as has a kind.
 pub known_kind : (deed : ℕ) (directory : Option Directory) → directory ≡ directory_read deed → IfSome directory (λ d. IsKind d.kind)
 known_kind deed directory is = kind_if directory (λ d e. (read_is deed d (sym is ∙ e)).0.kind)
 
@@ -285,31 +312,39 @@ known_kind deed directory is = kind_if directory (λ d e. (read_is deed d (sym i
 abbrev pub first_look : Name → ℕ → List Made
 first_look name deed = made (Look (Word.Deed (address_of name / 4096))) deed ∷ []
 
-pub looked : {σ σ1 : Standing} (name : Name) (deed : ℕ) → Makes σ σ1 (Look (Word.Deed (address_of name / 4096))) deed → Adds σ σ1 KnowsEpoch (first_look name deed)
+-- A look at the deed word of a name's page is the first step for its entry.
+pub looked : {σ σ1 : Standing} (name : Name) (deed : ℕ) → Makes σ σ1 (Look (Word.Deed (address_of name / 4096))) deed
+    → Adds σ σ1 KnowsEpoch (first_look name deed)
 looked name deed makes = adds_step adds_none makes (λ v l stood met. tt)
 
 -- ---- an entry with a room
 some_bytes : (entry : Entry) → is_sized entry ≡ true → 0 < entry.room
 some_bytes entry sized = let ne = eqb-false entry.room 0 (not-true (entry.room == 0) sized) in omega (arith, ne)
 
+-- An entry with a room has at least one grain.
 pub some_room : (f : Profile) (entry : Entry) → IsEntryOf f entry → is_sized entry ≡ true → 1 ≤ entry.room / 16
 some_room f entry of sized = let some = some_bytes entry sized in omega (arith, some, of.whole)
 
+-- The end with the room of an entry is a step of the region.
 pub room_end : (f : Profile) (entry : Entry) → IsEntryOf f entry → is_sized entry ≡ true → IsStepOf f (EndSized entry.name entry.room)
 room_end f entry of sized = ((of.name.page, of.name.aligned, of.name.turn, some_room f entry of sized, omega (arith, of.within)), of.whole)
 
-pub refused_by_room : (entry : Entry) (a : ℕ) → is_sized entry ≡ true → a ≢ live_word entry.name.turn (entry.room / 16) → IsEndOf entry (entry.room / 16) a (Refused a)
+-- An end with a room that isn't answered by the live word of its turn and grains is refused.
+pub refused_by_room : (entry : Entry) (a : ℕ) → is_sized entry ≡ true → a ≢ live_word entry.name.turn (entry.room / 16)
+    → IsEndOf entry (entry.room / 16) a (Refused a)
 refused_by_room entry a sized ne = (subst (λ t. IsRefusedBy t entry.name (entry.room / 16) a) (sym sized) ne, refl)
 
 -- ---- what a try tells
-pub ended_run : (f : Profile) (v : View) (name : Name) (guess a : ℕ) → 1 ≤ guess → a ≡ live_word name.turn guess → AgreesEnd f v name guess a → IsRun f (grain_of name) guess
+pub ended_run : (f : Profile) (v : View) (name : Name) (guess a : ℕ) → 1 ≤ guess → a ≡ live_word name.turn guess → AgreesEnd f v name guess a
+    → IsRun f (grain_of name) guess
 ended_run f v name guess a some live agrees = let w = agrees.within live in record { some = some; first = w.0; last = w.1 }
 
 is_of_name : (name : Name) (a : ℕ) → is_live a ≡ true → turn_of a ≡ name.turn → is_of name a ≡ true
 is_of_name name a live turn = and_from (is_live a) (turn_of a == name.turn) live (eq-eqb (turn_of a) name.turn turn)
 
 -- a block that was read as live with the name's turn, and still lives, has the length that it had
-still_length : (f : Profile) (v : View) (name : Name) (first guess read a : ℕ) → is_of name read ≡ true → guess ≡ grains_of read → AgreesLife f (made (End name first) read ∷ v) (grain_of name) a → is_of name a ≡ true → grains_of a ≡ guess
+still_length : (f : Profile) (v : View) (name : Name) (first guess read a : ℕ) → is_of name read ≡ true → guess ≡ grains_of read
+    → AgreesLife f (made (End name first) read ∷ v) (grain_of name) a → is_of name a ≡ true → grains_of a ≡ guess
 still_length f v name first guess read a is length agrees lives =
     let old = and_parts (is_live read) (turn_of read == name.turn) is in
     let now = and_parts (is_live a) (turn_of a == name.turn) lives in
@@ -317,7 +352,8 @@ still_length f v name first guess read a is length agrees lives =
     (inl record { reads = eq-eqb (grain_of name) (grain_of name) refl; live = old.0; turn_is = eqb-true (turn_of read) name.turn old.1 ∙ sym (eqb-true (turn_of a) name.turn now.1); grains_are = sym length })
 
 -- where another life word is read then, it lives no longer
-pub gone_since : (f : Profile) (v : View) (name : Name) (first guess read a : ℕ) → is_of name read ≡ true → guess ≡ grains_of read → AgreesLife f (made (End name first) read ∷ v) (grain_of name) a → a ≢ live_word name.turn guess → is_of name a ≡ false
+pub gone_since : (f : Profile) (v : View) (name : Name) (first guess read a : ℕ) → is_of name read ≡ true → guess ≡ grains_of read
+    → AgreesLife f (made (End name first) read ∷ v) (grain_of name) a → a ≢ live_word name.turn guess → is_of name a ≡ false
 gone_since f v name first guess read a is length agrees ne = elim (cases_Bool (is_of name a)) [
   | inl lives ↦
       let now = and_parts (is_live a) (turn_of a == name.turn) lives in
@@ -326,7 +362,8 @@ gone_since f v name first guess read a is length agrees ne = elim (cases_Bool (i
 ]
 
 -- the block that ended at the second try
-pub ended_again : (f : Profile) (v : View) (name : Name) (first guess read a : ℕ) → IsNameOf f name → is_of name read ≡ true → guess ≡ grains_of read → a ≡ live_word name.turn guess → AgreesEnd f (made (End name first) read ∷ v) name guess a → IsRun f (grain_of name) guess
+pub ended_again : (f : Profile) (v : View) (name : Name) (first guess read a : ℕ) → IsNameOf f name → is_of name read ≡ true → guess ≡ grains_of read
+    → a ≡ live_word name.turn guess → AgreesEnd f (made (End name first) read ∷ v) name guess a → IsRun f (grain_of name) guess
 ended_again f v name first guess read a named is length live agrees =
     let turn : name.turn < 2 ^ 40 = omega (arith, named.turn) in
     let lives : is_live a ≡ true = ap is_live live ∙ is_live-live_word name.turn guess in
@@ -335,7 +372,8 @@ ended_again f v name first guess read a named is length live agrees =
     ended_run f (made (End name first) read ∷ v) name guess a (omega (arith, same, some)) live agrees
 
 -- the first try read another length
-pub again : (name : Name) (deed first guess read : ℕ) → first ≡ guess_by (directory_read deed) → read ≢ live_word name.turn first → is_of name read ≡ true → guess ≡ grains_of read → Tries name (guess_by (directory_read deed)) guess (made (End name first) read ∷ [])
+pub again : (name : Name) (deed first guess read : ℕ) → first ≡ guess_by (directory_read deed) → read ≢ live_word name.turn first → is_of name read ≡ true
+    → guess ≡ grains_of read → Tries name (guess_by (directory_read deed)) guess (made (End name first) read ∷ [])
 again name deed first guess read first_is ne is length = inr (read, (λ e. ne (e ∙ ap (λ n. live_word name.turn n) (sym first_is))), is, length, ap (λ n. made (End name n) read ∷ []) first_is)
 
 -- ---- tries that change nothing, and a try that ends the block
@@ -364,19 +402,22 @@ idle_look name deed = record {
   events = λ k v. refl;
 }
 
-idle_try : (name : Name) (deed first read : ℕ) → read ≢ live_word name.turn first → is_of name read ≡ true → AreIdle (made (End name first) read ∷ first_look name deed)
+idle_try : (name : Name) (deed first read : ℕ) → read ≢ live_word name.turn first → is_of name read ≡ true
+    → AreIdle (made (End name first) read ∷ first_look name deed)
 idle_try name deed first read ne is = record {
   kinds = (refl, (refl, tt));
   does = λ f. nothing_then ((idle_look name deed).does f) (end_fails f name first read ne);
   events = λ k v. ap (λ o. with_event o []) (no_event k (or_zero (known_epoch v)) name first read ne is);
 }
 
+-- The look and the tries of a name before its last do nothing, and make no event.
 pub tries_idle : (name : Name) (deed first guess : ℕ) (before : List Made) → Tries name first guess before → AreIdle (before ++ first_look name deed)
 tries_idle name deed first guess before (inl t) = subst (λ s. AreIdle (s ++ first_look name deed)) (sym t.1) (idle_look name deed)
 tries_idle name deed first guess before (inr t) = subst (λ s. AreIdle (s ++ first_look name deed)) (sym t.4) (idle_try name deed first t.0 t.1 t.2)
 
 -- the steps of a try
-pub tried : {σ σ1 σ2 : Standing} (name : Name) (deed first guess a : ℕ) (before : List Made) → Tries name first guess before → Adds σ σ1 KnowsEpoch (before ++ first_look name deed) → Makes σ1 σ2 (End name guess) a
+pub tried : {σ σ1 σ2 : Standing} (name : Name) (deed first guess a : ℕ) (before : List Made) → Tries name first guess before
+    → Adds σ σ1 KnowsEpoch (before ++ first_look name deed) → Makes σ1 σ2 (End name guess) a
     → Adds σ σ2 KnowsEpoch (made (End name guess) a ∷ before ++ first_look name deed)
 tried name deed first guess a before tries adds makes = adds_step adds makes (λ v l stood met. subst IsEpochKnown (sym (epoch_same trying refl (before ++ first_look name deed) v (tries_idle name deed first guess before tries).kinds)) met)
 
@@ -393,13 +434,15 @@ pub record EndsWith (name : Name) (n : ℕ) (s : Step) : Type 0 where
   pub stamps : (e : ℕ) (xs : List (ℕ × ℕ)) → stamped_by s e xs ≡ xs
   pub agrees : (f : Profile) (v : View) (a : ℕ) → Agrees f v s a → AgreesEnd f v name n a
 
-success : (k e : ℕ) (name : Name) (n a : ℕ) (other : Option Event) → a ≡ live_word name.turn n → (if succeeds name n a then Some (Event.End k name e) else other) ≡ Some (Event.End k name e)
+success : (k e : ℕ) (name : Name) (n a : ℕ) (other : Option Event) → a ≡ live_word name.turn n
+    → (if succeeds name n a then Some (Event.End k name e) else other) ≡ Some (Event.End k name e)
 success k e name n a other live = ap (λ t. if t then Some (Event.End k name e) else other) (eq-eqb a (live_word name.turn n) live)
 
 ends_by_length : (name : Name) (n : ℕ) → EndsWith name n (End name n)
 ends_by_length name n = search (arith, end_succeeds, end_fails, success)
 
-sized_does : (f : Profile) (name : Name) (room a : ℕ) (t : Bool) (v : View) → (a == live_word name.turn (room / 16)) ≡ t → Agrees f v (EndSized name room) a → Does (end_effect t (grain_of name) (room / 16)) v (made (EndSized name room) a ∷ v)
+sized_does : (f : Profile) (name : Name) (room a : ℕ) (t : Bool) (v : View) → (a == live_word name.turn (room / 16)) ≡ t → Agrees f v (EndSized name room) a
+    → Does (end_effect t (grain_of name) (room / 16)) v (made (EndSized name room) a ∷ v)
 sized_does f name room a t v e agrees = subst (λ x. Does (end_effect x (grain_of name) (room / 16)) v (made (EndSized name room) a ∷ v)) e (does_step f (EndSized name room) a v refl agrees)
 
 by_room : (name : Name) (room : ℕ) → EndsWith name (room / 16) (EndSized name room)
@@ -420,13 +463,17 @@ last_ends true entry n is = subst (λ m. EndsWith entry.name m (EndSized entry.n
 last_ends false entry n is = ends_by_length entry.name n
 
 -- ---- the event of a refusal
-refusal : (k e : ℕ) (name : Name) (guess a : ℕ) → a ≢ live_word name.turn guess → is_of name a ≡ false → event_of k e (End name guess) a ≡ Some (Event.Reject k name (reason_of name a))
+refusal : (k e : ℕ) (name : Name) (guess a : ℕ) → a ≢ live_word name.turn guess → is_of name a ≡ false
+    → event_of k e (End name guess) a ≡ Some (Event.Reject k name (reason_of name a))
 refusal k e name guess a ne is = cc (ne_eqb a (live_word name.turn guess) ne)
 
-sized_refusal : (k e : ℕ) (name : Name) (room a : ℕ) → a ≢ live_word name.turn (room / 16) → event_of k e (EndSized name room) a ≡ Some (Event.Reject k name (sized_reason name room a))
+sized_refusal : (k e : ℕ) (name : Name) (room a : ℕ) → a ≢ live_word name.turn (room / 16)
+    → event_of k e (EndSized name room) a ≡ Some (Event.Reject k name (sized_reason name room a))
 sized_refusal k e name room a ne = ap (λ t. if t then Some (Event.End k name e) else Some (Event.Reject k name (sized_reason name room a))) (ne_eqb a (live_word name.turn (room / 16)) ne)
 
-pub last_refused : (t : Bool) (entry : Entry) (n k e a : ℕ) → (t ≡ true → n ≡ entry.room / 16) → IsRefusedBy t entry.name n a → a ≢ live_word entry.name.turn n → event_of k e (last_step t entry n) a ≡ Some (Event.Reject k entry.name (reason_by t entry a))
+-- The last try of an entry, refused, shows the refusal with the true reason.
+pub last_refused : (t : Bool) (entry : Entry) (n k e a : ℕ) → (t ≡ true → n ≡ entry.room / 16) → IsRefusedBy t entry.name n a → a ≢ live_word entry.name.turn n
+    → event_of k e (last_step t entry n) a ≡ Some (Event.Reject k entry.name (reason_by t entry a))
 last_refused t entry n k e a is refused ne = grind (arith, sized_refusal, refusal)
 
 -- ==== The end of one entry.
@@ -436,9 +483,12 @@ pub guess_is : (t : Bool) (entry : Entry) (first guess : ℕ) (before : List Mad
 guess_is t entry first guess before tries e = grind (arith, true≢false)
 
 -- what the last try came to, by what its answer agrees with
-ends_by : {σ σ1 : Standing} (entry : Entry) (outcome : Outcome) (directory : Option Directory) (deed guess a : ℕ) (before : List Made) → directory ≡ directory_read deed → TriesBy (is_sized entry) entry (guess_by (directory_read deed)) guess before
+ends_by : {σ σ1 : Standing} (entry : Entry) (outcome : Outcome) (directory : Option Directory) (deed guess a : ℕ) (before : List Made)
+    → directory ≡ directory_read deed → TriesBy (is_sized entry) entry (guess_by (directory_read deed)) guess before
     → Adds σ σ1 KnowsEpoch (made (last_step (is_sized entry) entry guess) a ∷ before ++ first_look entry.name deed) → CanCall σ KnowsEpoch
-    → ((v : View) → AgreesEnd σ.seat.profile (before ++ first_look entry.name deed ++ v) entry.name guess a → IsEndOf entry guess a outcome × IsOfRegion σ.seat.profile entry.name outcome) → EndsOne entry σ σ1 outcome directory
+    → ((v : View) → AgreesEnd σ.seat.profile (before ++ first_look entry.name deed ++ v) entry.name guess a
+        → IsEndOf entry guess a outcome × IsOfRegion σ.seat.profile entry.name outcome)
+    → EndsOne entry σ σ1 outcome directory
 ends_by {σ} entry outcome directory deed guess a before tells tries adds can told =
     let last = last_ends (is_sized entry) entry guess (guess_is (is_sized entry) entry (guess_by (directory_read deed)) guess before tries) in
     let came = told can.view (last.agrees σ.seat.profile (before ++ first_look entry.name deed ++ can.view) a (adds.agreed can.view can.whole can.stood can.met).0) in
@@ -451,19 +501,29 @@ ends_by {σ} entry outcome directory deed guess a before tells tries adds can to
     }
 
 -- by the name alone
-pub ends_named : {σ σ1 σ2 : Standing} (name : Name) (outcome : Outcome) (directory : Option Directory) (deed guess a : ℕ) (before : List Made) → directory ≡ directory_read deed → Tries name (guess_by (directory_read deed)) guess before → Adds σ σ1 KnowsEpoch (before ++ first_look name deed) → Makes σ1 σ2 (End name guess) a
-    → CanCall σ KnowsEpoch → ((v : View) → AgreesEnd σ.seat.profile (before ++ first_look name deed ++ v) name guess a → IsEndOf (entry_of name) guess a outcome × IsOfRegion σ.seat.profile name outcome) → EndsOne (entry_of name) σ σ2 outcome directory
+pub ends_named : {σ σ1 σ2 : Standing} (name : Name) (outcome : Outcome) (directory : Option Directory) (deed guess a : ℕ) (before : List Made)
+    → directory ≡ directory_read deed → Tries name (guess_by (directory_read deed)) guess before → Adds σ σ1 KnowsEpoch (before ++ first_look name deed)
+    → Makes σ1 σ2 (End name guess) a
+    → CanCall σ KnowsEpoch
+    → ((v : View) → AgreesEnd σ.seat.profile (before ++ first_look name deed ++ v) name guess a
+        → IsEndOf (entry_of name) guess a outcome × IsOfRegion σ.seat.profile name outcome)
+    → EndsOne (entry_of name) σ σ2 outcome directory
 ends_named name outcome directory deed guess a before tells tries adds makes = ends_by (entry_of name) outcome directory deed guess a before tells tries (tried name deed (guess_by (directory_read deed)) guess a before tries adds makes)
 
 -- an entry with a room has the one try
-pub ends_by_room : {σ σ1 σ2 : Standing} (entry : Entry) (outcome : Outcome) (directory : Option Directory) (deed a : ℕ) → is_sized entry ≡ true → directory ≡ directory_read deed → Adds σ σ1 KnowsEpoch (first_look entry.name deed) → Makes σ1 σ2 (EndSized entry.name entry.room) a
-    → CanCall σ KnowsEpoch → ((v : View) → AgreesEnd σ.seat.profile (first_look entry.name deed ++ v) entry.name (entry.room / 16) a → IsEndOf entry (entry.room / 16) a outcome × IsOfRegion σ.seat.profile entry.name outcome) → EndsOne entry σ σ2 outcome directory
+pub ends_by_room : {σ σ1 σ2 : Standing} (entry : Entry) (outcome : Outcome) (directory : Option Directory) (deed a : ℕ) → is_sized entry ≡ true
+    → directory ≡ directory_read deed → Adds σ σ1 KnowsEpoch (first_look entry.name deed) → Makes σ1 σ2 (EndSized entry.name entry.room) a
+    → CanCall σ KnowsEpoch
+    → ((v : View) → AgreesEnd σ.seat.profile (first_look entry.name deed ++ v) entry.name (entry.room / 16) a
+        → IsEndOf entry (entry.room / 16) a outcome × IsOfRegion σ.seat.profile entry.name outcome)
+    → EndsOne entry σ σ2 outcome directory
 ends_by_room {σ} {σ2 = σ2} entry outcome directory deed a sized tells adds makes can told =
     ends_by entry outcome directory deed (entry.room / 16) a [] tells (subst (λ t. TriesBy t entry (guess_by (directory_read deed)) (entry.room / 16) []) (sym sized) (refl, refl))
     (subst (λ t. Adds σ σ2 KnowsEpoch (made (last_step t entry (entry.room / 16)) a ∷ first_look entry.name deed)) (sym sized) (adds_step adds makes (λ v l stood met. met))) can told
 
 -- ---- the tries before the last one change nothing
-idle_before : (t : Bool) (entry : Entry) (deed first guess : ℕ) (before : List Made) → TriesBy t entry first guess before → AreIdle (before ++ first_look entry.name deed)
+idle_before : (t : Bool) (entry : Entry) (deed first guess : ℕ) (before : List Made) → TriesBy t entry first guess before
+    → AreIdle (before ++ first_look entry.name deed)
 idle_before true entry deed first guess before tries = subst (λ s. AreIdle (s ++ first_look entry.name deed)) (sym tries.1) (idle_look entry.name deed)
 idle_before false entry deed first guess before tries = tries_idle entry.name deed first guess before tries
 
@@ -484,17 +544,22 @@ module _ {σ σ1 : Standing} {entry : Entry} {outcome : Outcome} {directory : Op
   end_stamps v = ap (stamps_by v) e.order.steps_are ∙ last.stamps (epoch_of (first_steps ++ v)) (stamps_by v first_steps) ∙ no_stamps trying refl v first_steps idle.kinds
 
   -- the last one makes the event
-  end_shows : (k : ℕ) (v : View) (event : Event) → event_of k (epoch_of v) (last_step (is_sized entry) entry e.order.guess) e.order.answer ≡ Some event → events_by k v e.steps ≡ event ∷ []
+  end_shows : (k : ℕ) (v : View) (event : Event) → event_of k (epoch_of v) (last_step (is_sized entry) entry e.order.guess) e.order.answer ≡ Some event
+      → events_by k v e.steps ≡ event ∷ []
   end_shows k v event is = cc (epoch_same trying refl first_steps v idle.kinds, idle.events k v)
 
 -- ---- a name that was refused
 pub not_ended : (t : Bool) (name : Name) (guess a : ℕ) → name.turn < 2 ^ 40 - 1 → IsRefusedBy t name guess a → a ≢ live_word name.turn guess
 not_ended t name guess a turn refused = grind (arith, not_live)
 
-pub came_to : {σ σ1 : Standing} {entry : Entry} {directory : Option Directory} {outcome : Outcome} (o : Outcome) → outcome ≡ o → EndsOne entry σ σ1 outcome directory → EndsOne entry σ σ1 o directory
+-- What an entry came to is so by whatever name its outcome has.
+pub came_to : {σ σ1 : Standing} {entry : Entry} {directory : Option Directory} {outcome : Outcome} (o : Outcome) → outcome ≡ o
+    → EndsOne entry σ σ1 outcome directory → EndsOne entry σ σ1 o directory
 came_to {σ} {σ1} {entry} {directory} o is e = subst (λ x. EndsOne entry σ σ1 x directory) is e
 
-pub entry_refused : {σ σ1 : Standing} (entry : Entry) (read : ℕ) (directory : Option Directory) → IsEntryOf σ.seat.profile entry → EndsOne entry σ σ1 (Refused read) directory → EndsEntry entry σ σ1 None
+-- An entry whose end was refused is done, and no block ended.
+pub entry_refused : {σ σ1 : Standing} (entry : Entry) (read : ℕ) (directory : Option Directory) → IsEntryOf σ.seat.profile entry
+    → EndsOne entry σ σ1 (Refused read) directory → EndsEntry entry σ σ1 None
 entry_refused {σ} entry read directory named e =
     let o = e.order in
     let f : Profile = σ.seat.profile in
@@ -521,7 +586,8 @@ range_of_kind kind heap range is = grind arith
 range_in : (directory : Option Directory) (range : Range) → IsRange range → AreRanges (option_to_list (run_in directory range))
 range_in directory range is = grind (arith, range_of_kind)
 
-whole_range : (f : Profile) (name : Name) (grains : ℕ) (directory : Option Directory) → IsValid f → IsRun f (grain_of name) grains → AreRanges (option_to_list (large_run name grains directory))
+whole_range : (f : Profile) (name : Name) (grains : ℕ) (directory : Option Directory) → IsValid f → IsRun f (grain_of name) grains
+    → AreRanges (option_to_list (large_run name grains directory))
 whole_range f name grains directory valid run = elim (cases_Bool (is_whole name grains)) [
   | inl whole ↦ search (arith, and_parts, eqb-true, range_in)
   | inr other ↦ subst (λ t. AreRanges (option_to_list (if t then run_in directory (range_of name grains) else None))) (sym other) (All-nil (λ run. IsRange run.range))
@@ -558,11 +624,13 @@ module _ {σ σ1 : Standing} {entry : Entry} {grains : ℕ} {directory : Option 
   ends_block = subst (Leads σ.seat.profile AnyView (EndsBlock g grains)) (sym e.order.steps_are)
       (leads_then (EndsBlock g grains) ((idle e).does σ.seat.profile) (ended_last.hits σ.seat.profile e.order.answer lived) (λ v w met d. tt) (λ v w u d x. end_later g grains d x))
 
+  -- An entry whose end came true ended the block, whose grains may be returned.
   pub ended_call : Calls σ σ1 MayEnd (λ v w. EndsBlock g grains v w × MayReturn g grains w) e.steps
   ended_call = record { adds = adds_under e.adds (λ v l stood met. met.epoch); leads = record { from = λ v met agreed. (ends_block.from v tt agreed, may_return v met) } }
 
   -- whoever ended it and put its grains back is as before
-  pub entry_ended : {σ2 : Standing} (run : Option EndedRun) → IsValid σ.seat.profile → ReturnsRun g grains σ1 σ2 → run ≡ large_run entry.name grains directory → EndsEntry entry σ σ2 run
+  pub entry_ended : {σ2 : Standing} (run : Option EndedRun) → IsValid σ.seat.profile → ReturnsRun g grains σ1 σ2 → run ≡ large_run entry.name grains directory
+      → EndsEntry entry σ σ2 run
   entry_ended run valid r is = record {
     outcome = Ended grains;
     directory = directory;

@@ -23,6 +23,7 @@ align_of (suc (suc (suc n))) small = absurd (omega arith)
 sized : (a b c : ℕ) → a < 6144 → b < 1536 → c < 513 → (p q : Bool) → cond p (2049 + a) (cond q (513 + b) c) ≤ 8192
 sized a b c f g h p q = either (λ n. n ≤ 8192) p (2049 + a) (cond q (513 + b) c) (omega arith) (either (λ n. n ≤ 8192) q (513 + b) c (omega arith) (omega arith))
 
+-- Each drawn request is valid.
 pub valid : (x : ℕ) → IsValid (request_from x)
 valid x = record {
   heap = below (moved_by 1 x) 6 (lit< tt);

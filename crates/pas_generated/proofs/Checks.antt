@@ -23,22 +23,27 @@ pub record Counted (pages threads n : ℕ) (items : List Item) : Type 0 where
   pub costs : costs_of (region pages threads) items ≤ 3 * n + 4096 * (n / 1000)
   pub lines : length items ≤ 2 * n + 1
 
+-- A request of at most 8,192 bytes may make three records at most.
 pub request-cost : (size : ℕ) → size ≤ 8192 → cost_of_size size ≤ 3
 request-cost size within = elim (cases_lt 2048 size) [
   | inl beyond ↦ omega (arith, large_cost size beyond, within)
   | inr few ↦ omega (arith, small_cost size few)
 ]
 
-few : (ops threads pages n : ℕ) (items : List Item) (i : Item) → IsJob ops threads pages → n < ops → ((guard : ℕ) → guard_after i guard ≡ guard) → Counted pages threads n items → cost_of (region pages threads) 0 i ≤ 4097
+few : (ops threads pages n : ℕ) (items : List Item) (i : Item) → IsJob ops threads pages → n < ops → ((guard : ℕ) → guard_after i guard ≡ guard)
+    → Counted pages threads n items → cost_of (region pages threads) 0 i ≤ 4097
     → AreHeld (few_enough (operations_in items) (record_bound (region pages threads) (i ∷ items)))
 few ops threads pages n items i job more same counted small = search (arith, mul-le-mul, lt-ltb, le-leb)
 
 -- ---- ticks and passes
-pub tick-fine : (ops threads pages n : ℕ) (items : List Item) (epoch : ℕ) → IsJob ops threads pages → n < ops → Counted pages threads n items → reason_of (region pages threads) items (Scavenges (Chore.Tick epoch)) ≡ None
+pub tick-fine : (ops threads pages n : ℕ) (items : List Item) (epoch : ℕ) → IsJob ops threads pages → n < ops → Counted pages threads n items
+    → reason_of (region pages threads) items (Scavenges (Chore.Tick epoch)) ≡ None
 tick-fine ops threads pages n items epoch job more counted =
     none-failed (checks_of (region pages threads) items (Scavenges (Chore.Tick epoch))) (few ops threads pages n items (Scavenges (Chore.Tick epoch)) job more (λ guard. refl) counted (omega arith))
 
-pub pass-fine : (ops threads pages n : ℕ) (items : List Item) → IsJob ops threads pages → n < ops → Counted pages threads n items → reason_of (region pages threads) items (Scavenges Chore.Pass) ≡ None
+-- A pass of a generated trace passes its checks.
+pub pass-fine : (ops threads pages n : ℕ) (items : List Item) → IsJob ops threads pages → n < ops → Counted pages threads n items
+    → reason_of (region pages threads) items (Scavenges Chore.Pass) ≡ None
 pass-fine ops threads pages n items job more counted =
     none-failed (checks_of (region pages threads) items (Scavenges Chore.Pass)) (few ops threads pages n items (Scavenges Chore.Pass) job more (λ guard. refl) counted (omega (arith, job.pages_most)))
 
@@ -60,7 +65,9 @@ pub record IsRequested (threads t name heap size align : ℕ) (items : List Item
   pub aligned : (align ≡ 16) ⊎ ((align ≡ 32) ⊎ (align ≡ 64))
   pub fresh : is_named items name ≡ false
 
-pub allocation-fine : (ops threads pages n : ℕ) (items : List Item) (t name heap size align : ℕ) → IsJob ops threads pages → n < ops → Counted pages threads n items → IsRequested threads t name heap size align items
+-- An allocation of a generated trace passes its checks.
+pub allocation-fine : (ops threads pages n : ℕ) (items : List Item) (t name heap size align : ℕ) → IsJob ops threads pages → n < ops
+    → Counted pages threads n items → IsRequested threads t name heap size align items
     → reason_of (region pages threads) items (Operates t (Asks name heap size align)) ≡ None
 allocation-fine ops threads pages n items t name heap size align job more counted r =
     let cost : cost_of_size size ≤ 3 = request-cost size r.small in
@@ -71,6 +78,7 @@ allocation-fine ops threads pages n items t name heap size align job more counte
     )
 
 -- ---- frees
-pub free-fine : (ops threads pages n : ℕ) (items : List Item) (t name : ℕ) → IsJob ops threads pages → n < ops → Counted pages threads n items → 1 ≤ t → t ≤ threads → is_named items name ≡ true
+pub free-fine : (ops threads pages n : ℕ) (items : List Item) (t name : ℕ) → IsJob ops threads pages → n < ops → Counted pages threads n items → 1 ≤ t
+    → t ≤ threads → is_named items name ≡ true
     → ((t == thread_of items name) || not (is_named_now items name)) ≡ true → reason_of (region pages threads) items (Operates t (Frees name)) ≡ None
 free-fine ops threads pages n items t name job more counted lo hi named early = search (arith, none-failed, thread-fine, few)

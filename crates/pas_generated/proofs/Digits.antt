@@ -21,6 +21,7 @@ one-digit n small = search (arith, and_from, digit-is)
 more-digits : (n : ℕ) (ds : List ℕ) → 10 ≤ n → AreDigits (n / 10) ds → AreDigits n (ds ++ ((48 + n % 10) ∷ []))
 more-digits n ds large h = search (arith, length-append, digits-add, digit-is, value-add)
 
+-- The decimal digits of a number below 2^64 read as that number.
 pub are-digits : (n : ℕ) → n < 2 ^ 64 → AreDigits n (decimal n)
 are-digits = decimal_by_steps AreDigits one-digit more-digits
 

@@ -13,6 +13,7 @@ abbrev pub header_words : ℕ → ℕ → List (List ℕ)
 header_words pages threads =
     codes "pas" ∷ codes "1" ∷ codes "pages" ∷ decimal pages ∷ codes "threads" ∷ decimal threads ∷ codes "heaps" ∷ codes "6" ∷ codes "age" ∷ codes "2" ∷ []
 
+-- The first line of a generated trace has the words of its header.
 pub header-line : (pages threads : ℕ) → pages < 2 ^ 64 → threads < 2 ^ 64 → IsLine (header pages threads) (header_words pages threads) (codes "shared 5\n")
 unfolding header
 header-line pages threads pw tw =
@@ -24,6 +25,8 @@ header-line pages threads pw tw =
 in-range : (least most n : ℕ) → n < 2 ^ 64 → least ≤ n → n ≤ most → within least most (number_of (decimal n)) ≡ Some n
 in-range least most n small lo hi = search (arith, and_from, le-leb, number-back)
 
-pub header-says : (pages threads : ℕ) → 1 ≤ pages → pages ≤ 4096 → 1 ≤ threads → threads ≤ 16 → header_of_words (header_words pages threads) ≡ Some (heading pages threads)
+-- The words of a generated header say its region.
+pub header-says : (pages threads : ℕ) → 1 ≤ pages → pages ≤ 4096 → 1 ≤ threads → threads ≤ 16
+    → header_of_words (header_words pages threads) ≡ Some (heading pages threads)
 header-says pages threads pages_lo pages_hi threads_lo threads_hi =
     λ i. header_with 1 (in-range 1 4096 pages (omega arith) pages_lo pages_hi i) (in-range 1 16 threads (omega arith) threads_lo threads_hi i) (Some 6) (Some 2)

@@ -35,7 +35,8 @@ most-add n op [] h = (omega arith, tt)
 most-add n op (p ∷ []) h = (omega (arith, h.0, length-append p (op ∷ [])), tt)
 most-add n op (p ∷ q ∷ ps) h = (omega (arith, h.0), most-add n op (q ∷ ps) h.1)
 
-most-after : (f : Profile) (heaps : ℕ → ℕ) (keeper : Option ℕ) (n line : ℕ) (i : Item) (ps : List (List Op)) → AtMost n ps → AtMost (n + 1) (phases_after f heaps keeper i line ps)
+most-after : (f : Profile) (heaps : ℕ → ℕ) (keeper : Option ℕ) (n line : ℕ) (i : Item) (ps : List (List Op)) → AtMost n ps
+    → AtMost (n + 1) (phases_after f heaps keeper i line ps)
 most-after f heaps keeper n line Blank ps h = most-more n ps h
 most-after f heaps keeper n line (Shares a) ps h = most-more n ps h
 most-after f heaps keeper n line (Guards g) ps h = most-more n ps h
@@ -104,7 +105,9 @@ plan-of heap header items few threads =
       names_limit = limit_in items;
     }
 
-pub has-plan : (heap : Global) (text : List ℕ) (header : Header) (items : List Item) → parsed text ≡ Ok (record { header = header; items = items }) → length items < 2 ^ 62 → header.profile.threads < 2 ^ 62 → (plan : Plan) × IsPlanOf text plan
+-- A text that parses into not too many items has a plan.
+pub has-plan : (heap : Global) (text : List ℕ) (header : Header) (items : List Item) → parsed text ≡ Ok (record { header = header; items = items })
+    → length items < 2 ^ 62 → header.profile.threads < 2 ^ 62 → (plan : Plan) × IsPlanOf text plan
 unfolding plan-of holding
 has-plan heap text header items read few threads = (
   plan-of heap header items few threads,

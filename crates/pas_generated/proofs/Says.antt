@@ -25,11 +25,13 @@ pub record Says (version : ℕ) (text : List ℕ) (item : Item) : Type 0 where
   pub says : (started : Bool) → item_of_line version started line ≡ Ok item
 
 -- a line is no comment if its text begins with a letter
-by-words : (started : Bool) (b : ℕ) (bs line : List ℕ) → b ∷ bs ≡ line ++ 10 ∷ [] → 35 < b → item_of_line 1 started line ≡ item_of_words 1 started (words_of line)
+by-words : (started : Bool) (b : ℕ) (bs line : List ℕ) → b ∷ bs ≡ line ++ 10 ∷ [] → 35 < b
+    → item_of_line 1 started line ≡ item_of_words 1 started (words_of line)
 by-words started b bs [] is big = absurd (let e : b ≡ 10 = ap (λ xs. get_or xs 0 0) is in omega (arith, e, big))
 by-words started b bs (c ∷ cs) is big = search (arith, ne_eqb)
 
-line-says : (b : ℕ) (bs : List ℕ) (words : List (List ℕ)) (item : Item) → 35 < b → IsLine (b ∷ bs) words [] → ((started : Bool) → item_of_words 1 started words ≡ Ok item) → Says 1 (b ∷ bs) item
+line-says : (b : ℕ) (bs : List ℕ) (words : List (List ℕ)) (item : Item) → 35 < b → IsLine (b ∷ bs) words []
+    → ((started : Bool) → item_of_words 1 started words ≡ Ok item) → Says 1 (b ∷ bs) item
 line-says b bs words item big l says = record {
   line = l.line;
   text_is = l.text_is;
@@ -49,6 +51,7 @@ pub record IsWritten (thread name heap size align : ℕ) : Type 0 where
   pub size_fits : size < 2 ^ 64
   pub align_fits : align < 2 ^ 64
 
+-- The line of an allocation says the allocation.
 pub allocation-says : (t n h s a : ℕ) → IsWritten t n h s a
     → Says 1 (97 ∷ 32 ∷ (decimal t ++ 32 ∷ (decimal n ++ 32 ∷ (decimal h ++ 32 ∷ (decimal s ++ 32 ∷ (decimal a ++ 10 ∷ [])))))) (Operates t (Asks n h s a))
 allocation-says t n h s a w =
@@ -62,12 +65,14 @@ allocation-says t n h s a w =
     (word-before (97 ∷ []) _ _ [] (letter 97 (lit< tt)) (word-before (decimal t) _ _ [] tw (word-before (decimal n) _ _ [] nw (word-before (decimal h) _ _ [] hw (word-before (decimal s) _ _ [] sw (last-word (decimal a) [] aw))))))
     (λ started i. item5 (λ t n h s a. Operates t (Asks n h s a)) (number-back t w.thread_fits i) (name-fits n w.some_name w.name_fits i) (number-back h w.heap_fits i) (number-back s w.size_fits i) (number-back a w.align_fits i))
 
+-- The line of a free says the free.
 pub free-says : (t n : ℕ) → t < 2 ^ 64 → 1 ≤ n → n ≤ 1000000 → Says 1 (free_line t n) (Operates t (Frees n))
 free-says t n small lo hi =
     line-says 102 (32 ∷ (decimal t ++ 32 ∷ (decimal n ++ 10 ∷ []))) ((102 ∷ []) ∷ decimal t ∷ decimal n ∷ []) _ (lit< tt)
     (word-before (102 ∷ []) _ _ [] (letter 102 (lit< tt)) (word-before (decimal t) _ _ [] (decimal-word t small) (last-word (decimal n) [] (decimal-word n (omega arith)))))
     (λ started i. item2 (λ t n. Operates t (Frees n)) (number-back t small i) (name-fits n lo hi i))
 
+-- The line of a tick says the tick.
 pub tick-says : (n : ℕ) → n < 2 ^ 40 → Says 1 (tick_line n) (Scavenges (Chore.Tick n))
 tick-says n small =
     line-says 116 (105 ∷ 99 ∷ 107 ∷ 32 ∷ (decimal n ++ 10 ∷ [])) (codes "tick" ∷ decimal n ∷ []) _ (lit< tt)

@@ -18,15 +18,18 @@ abbrev pub lacks : ℕ → List ℕ → Bool
 lacks s [] = true
 lacks s (b ∷ bs) = not (b == s) && lacks s bs
 
+-- A word that tests as lacking a byte lacks it.
 pub lacks-by : (s : ℕ) (w : List ℕ) → lacks s w ≡ true → Lacks s w
 lacks-by s [] e = tt
 lacks-by s (b ∷ bs) e =
     let p = and_parts (not (b == s)) (lacks s bs) e in
     (λ same. let t : (b == s) ≡ true = eq-eqb b s same in absurd (let bad : false ≡ true = ap not (sym t) ∙ p.0 in cc), lacks-by s bs p.1)
 
+-- Some bytes without a line feed or a space are a word.
 pub word-by : (w : List ℕ) → nat_lt 0 (length w) ≡ true → lacks 10 w ≡ true → lacks 32 w ≡ true → IsWord w
 word-by w some end space = record { some = ltb-true 0 (length w) some; no_end = lacks-by 10 w end; no_space = lacks-by 32 w space }
 
+-- The decimal digits of a number are a word.
 pub decimal-word : (n : ℕ) → n < 2 ^ 64 → IsWord (decimal n)
 decimal-word n small = let h = are-digits n small in search (arith, digits-lack)
 
@@ -39,6 +42,7 @@ last-word w rest h = record {
   words_are = ap without_empty (pieces-only 32 w h.no_space) ∙ keeps w [] h.some;
 }
 
+-- A word and a space in front of a line are the line's first word.
 pub word-before : (w after : List ℕ) (words : List (List ℕ)) (rest : List ℕ) → IsWord w → IsLine after words rest → IsLine (w ++ 32 ∷ after) (w ∷ words) rest
 word-before w after words rest h l = record {
   line = w ++ 32 ∷ l.line;

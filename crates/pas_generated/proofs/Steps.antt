@@ -43,7 +43,9 @@ tick-step ops threads pages n s items job more h =
       follows = search (arith, each-weaker, listed-past, one-more);
     }
 
-pub pass-step : (ops threads pages n : ℕ) (s : State) (items : List Item) → IsJob ops threads pages → n < ops → (n + 1) % 1000 ≡ 0 → Follows pages threads n s items
+-- A pass and the phase after it are read as the next items of a generated trace.
+pub pass-step : (ops threads pages n : ℕ) (s : State) (items : List Item) → IsJob ops threads pages → n < ops → (n + 1) % 1000 ≡ 0
+    → Follows pages threads n s items
     → Step pages threads n items (codes "pass\nphase\n") (record s { phase = s.phase + 1 }) (NextPhase ∷ Scavenges Chore.Pass ∷ items)
 pass-step ops threads pages n s items job more turn h =
     record {
@@ -59,7 +61,8 @@ aligned-small a (inl e) = omega arith
 aligned-small a (inr (inl e)) = omega arith
 aligned-small a (inr (inr e)) = omega arith
 
-allocation-step : (ops threads pages n t : ℕ) (s : State) (items : List Item) → IsJob ops threads pages → n < ops → 1 ≤ t → t ≤ threads → Follows pages threads n s items
+allocation-step : (ops threads pages n t : ℕ) (s : State) (items : List Item) → IsJob ops threads pages → n < ops → 1 ≤ t → t ≤ threads
+    → Follows pages threads n s items
     → Step pages threads n items (line_of (allocation t s)) (after_allocation t s) (with_allocation t s items)
 allocation-step ops threads pages n t s items job more lo hi h =
     let name = s.next_name in
@@ -89,7 +92,8 @@ drawn-below : (x n : ℕ) → 0 < n → drawn x n < n
 unfolding drawn
 drawn-below x n some = mod-lt (x / 2 ^ 33) some
 
-free-step : (ops threads pages n t : ℕ) (s : State) (items : List Item) → IsJob ops threads pages → n < ops → 1 ≤ t → t ≤ threads → 0 < length s.unfreed → Follows pages threads n s items
+free-step : (ops threads pages n t : ℕ) (s : State) (items : List Item) → IsJob ops threads pages → n < ops → 1 ≤ t → t ≤ threads → 0 < length s.unfreed
+    → Follows pages threads n s items
     → Step pages threads n items (line_of (free_of t s)) (after_free s) (with_free t s items)
 free-step ops threads pages n t s items job more lo hi some h =
     let within : place s < length s.unfreed = drawn-below (moved_by 1 s.x) (length s.unfreed) some in
@@ -119,7 +123,8 @@ some-left true n e = absurd (cc)
 some-left false zero e = absurd (cc)
 some-left false (suc n) e = omega arith
 
-by-choice : (ops threads pages n : ℕ) (s : State) (items : List Item) (choice : Bool) → allocates s ≡ choice → IsJob ops threads pages → n < ops → Follows pages threads n s items
+by-choice : (ops threads pages n : ℕ) (s : State) (items : List Item) (choice : Bool) → allocates s ≡ choice → IsJob ops threads pages → n < ops
+    → Follows pages threads n s items
     → Step pages threads n items (line_of (drawn_operation threads s)) (after_drawn threads s) (with_drawn threads s items)
 unfolding drawn_operation after_drawn with_drawn
 by-choice ops threads pages n s items true e job more h =
@@ -130,6 +135,7 @@ by-choice ops threads pages n s items false e job more h =
     let left : 0 < length s.unfreed = some-left (nat_lt (draw 1 s.x 8) 4) (length s.unfreed) e in
     rw e (free-step ops threads pages n (thread_of threads s) (begun s) items job more (omega arith) (omega arith) left (drawn-follows pages threads n s items h))
 
+-- A drawn operation is read as the next item of a generated trace.
 pub drawn-step : (ops threads pages n : ℕ) (s : State) (items : List Item) → IsJob ops threads pages → n < ops → Follows pages threads n s items
     → Step pages threads n items (line_of (drawn_operation threads s)) (after_drawn threads s) (with_drawn threads s items)
 drawn-step ops threads pages n s items job more h = by-choice ops threads pages n s items (allocates s) refl job more h

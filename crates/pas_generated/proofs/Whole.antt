@@ -14,20 +14,24 @@ use Rattle.pas_generated.proofs.Reading.{Reads, reads-none, reads-both, reads-li
 use Rattle.pas_generated.proofs.Steps.{Follows, Step, tick-step, pass-step, drawn-step}
 
 -- ---- the operation of a number
-with-tick : (threads number : ℕ) (s : State) (items : List Item) → number % 1000 ≡ 999 → with_operation threads number s items ≡ Scavenges (Chore.Tick (number / 1000 + 1)) ∷ items
+with-tick : (threads number : ℕ) (s : State) (items : List Item) → number % 1000 ≡ 999
+    → with_operation threads number s items ≡ Scavenges (Chore.Tick (number / 1000 + 1)) ∷ items
 unfolding with_operation
 with-tick threads number s items e = rw e refl
 
-with-pass : (threads number : ℕ) (s : State) (items : List Item) → number % 1000 ≡ 0 → with_operation threads number s items ≡ NextPhase ∷ Scavenges Chore.Pass ∷ items
+with-pass : (threads number : ℕ) (s : State) (items : List Item) → number % 1000 ≡ 0
+    → with_operation threads number s items ≡ NextPhase ∷ Scavenges Chore.Pass ∷ items
 unfolding with_operation
 with-pass threads number s items e = rw e refl
 
-with-draws : (threads number : ℕ) (s : State) (items : List Item) → number % 1000 ≢ 999 → number % 1000 ≢ 0 → with_operation threads number s items ≡ with_drawn threads s items
+with-draws : (threads number : ℕ) (s : State) (items : List Item) → number % 1000 ≢ 999 → number % 1000 ≢ 0
+    → with_operation threads number s items ≡ with_drawn threads s items
 unfolding with_operation
 with-draws threads number s items tick pass =
     rw (ne_eqb (number % 1000) 999 tick, ne_eqb (number % 1000) 0 pass) refl
 
-same-step : (pages threads n : ℕ) (items : List Item) (text other : List ℕ) (now next : State) (after later : List Item) → text ≡ other → now ≡ next → after ≡ later → Step pages threads n items other next later
+same-step : (pages threads n : ℕ) (items : List Item) (text other : List ℕ) (now next : State) (after later : List Item) → text ≡ other → now ≡ next
+    → after ≡ later → Step pages threads n items other next later
     → Step pages threads n items text now after
 same-step pages threads n items text other now next after later t s a h =
     subst (λ (x : List ℕ). Step pages threads n items x now after) (sym t) (subst (λ (x : State). Step pages threads n items other x after) (sym s) (subst (λ (x : List Item). Step pages threads n items other next x) (sym a) h))
@@ -100,9 +104,11 @@ text-read seed ops threads pages job =
     (header-says pages threads (omega arith) pages_hi threads_lo threads_hi)
     (reads-both f [] (Shares 5 ∷ []) (items_after threads seed ops) (codes "shared 5\n") lines (reads-line f [] (codes "shared 5") (Shares 5) (lacks-by 10 (codes "shared 5") refl) refl) all.reads)
 
+-- A generated trace has no fault.
 pub text-faultless : (seed ops threads pages : ℕ) → IsJob ops threads pages → (fault : TraceFault) → parsed (trace_text seed ops threads pages) ≢ Err fault
 text-faultless seed ops threads pages job fault bad = let same : Ok (meant seed ops threads pages) ≡ Err fault = sym (text-read seed ops threads pages job) ∙ bad in absurd (cc)
 
+-- A generated trace has a plan.
 pub text-planned : (heap : Global) (seed ops threads pages : ℕ) → IsJob ops threads pages → (plan : Plan) × IsPlanOf (trace_text seed ops threads pages) plan
 text-planned heap seed ops threads pages job =
     let few : length (items_after threads seed ops) ≤ 2 * ops + 1 = lines-few seed ops threads pages job in

@@ -17,7 +17,8 @@ use Rattle.pas_guard.specs.{Raises.BacksNot, Evidence.BackedReadHere, Seeks.Left
 use Rattle.pas_guard.specs.Guarded.{StandsGuard, LeavesGuard, KeepsGuard, GivesOn, IsUntouched, AreUntouched}
 
 -- only a back makes a page that isn't backed a backed one
-stays_bare : (e : ℕ) (s : Step) (page old : ℕ) → (s ≡ Back page → ⊥) → old ≡ 0 → (if same_word (target s) (Words.Backed page) then new_value e s old else old) ≡ 0
+stays_bare : (e : ℕ) (s : Step) (page old : ℕ) → (s ≡ Back page → ⊥) → old ≡ 0
+    → (if same_word (target s) (Words.Backed page) then new_value e s old else old) ≡ 0
 stays_bare e s page old not h = search (arith, cases_Bool, eqb-true)
 
 -- ---- the steps of others
@@ -39,7 +40,8 @@ own_give : (page : ℕ) (m : Made) → LeavesGuard page m → GivesOn page m.ste
 own_give page m leaves on = search (arith, moved)
 
 -- ---- one step more
-module _ (f : Profile) (l : Whole) (t : Triple) (keeper page : ℕ) (d : Directory) (valid : IsValid f) (legal : Legal f l) (next : IsNext f l t) (stands : StandsGuard l keeper page d) (keeps : (t.actor == keeper) ≡ true → LeavesGuard page t.made) where
+module _ (f : Profile) (l : Whole) (t : Triple) (keeper page : ℕ) (d : Directory) (valid : IsValid f) (legal : Legal f l) (next : IsNext f l t)
+    (stands : StandsGuard l keeper page d) (keeps : (t.actor == keeper) ≡ true → LeavesGuard page t.made) where
   untouched_next : IsUntouched page t.made.step
   untouched_next = search (arith, cases_Bool, own_give, no_back, no_give)
 
@@ -57,18 +59,23 @@ backs_it e s page old is zero = search (arith, bit_or, eq-eqb)
 given_away : (page answer : ℕ) (s : Step) (on : GivesOn page s) (h : Bool) → held_after (grain_move s answer on.2.0) h ≡ false
 given_away page answer s on h = search (arith, on.0, on.2, on.1)
 
-pub untouched_between : (f : Profile) (l : Whole) (t : Triple) (keeper page : ℕ) (d : Directory) → IsValid f → Legal f (t ∷ l) → StandsGuard l keeper page d → StandsGuard (t ∷ l) keeper page d → IsUntouched page t.made.step
+-- A step between two places at which a keeper's page stands leaves the page untouched.
+pub untouched_between : (f : Profile) (l : Whole) (t : Triple) (keeper page : ℕ) (d : Directory) → IsValid f → Legal f (t ∷ l) → StandsGuard l keeper page d
+    → StandsGuard (t ∷ l) keeper page d → IsUntouched page t.made.step
 untouched_between f l t keeper page d valid legal before after = record {
   unbacked = λ e. absurd (let one = sym after.bare ∙ backs_it (epoch_of (part t.actor l)) t.made.step page (word_after l (Words.Backed page)) e before.bare in omega (arith, one));
   ungiven = search (arith, cases_Bool, true≢false, given_away, no_give);
 }
 
 -- ---- all steps
-pub stands_on : (f : Profile) (older newer : Whole) (keeper page : ℕ) (d : Directory) → IsValid f → Legal f (newer ++ older) → StandsGuard older keeper page d → KeepsGuard keeper page newer → StandsGuard (newer ++ older) keeper page d
+pub stands_on : (f : Profile) (older newer : Whole) (keeper page : ℕ) (d : Directory) → IsValid f → Legal f (newer ++ older) → StandsGuard older keeper page d
+    → KeepsGuard keeper page newer → StandsGuard (newer ++ older) keeper page d
 stands_on f older [] keeper page d valid legal stands keeps = stands
 stands_on f older (t ∷ newer) keeper page d valid legal stands keeps = stands_next f (newer ++ older) t keeper page d valid legal.1 legal.0 (stands_on f older newer keeper page d valid legal.1 stands keeps.1) keeps.0
 
-pub untouched_on : (f : Profile) (older newer : Whole) (keeper page : ℕ) (d : Directory) → IsValid f → Legal f (newer ++ older) → StandsGuard older keeper page d → KeepsGuard keeper page newer → AreUntouched page newer
+-- Steps that keep a page which stands for its keeper leave it untouched.
+pub untouched_on : (f : Profile) (older newer : Whole) (keeper page : ℕ) (d : Directory) → IsValid f → Legal f (newer ++ older)
+    → StandsGuard older keeper page d → KeepsGuard keeper page newer → AreUntouched page newer
 untouched_on f older [] keeper page d valid legal stands keeps = tt
 untouched_on f older (t ∷ newer) keeper page d valid legal stands keeps =
     let before = stands_on f older newer keeper page d valid legal.1 stands keeps.1 in (untouched_next f (newer ++ older) t keeper page d valid legal.1 legal.0 before keeps.0, untouched_on f older newer keeper page d valid legal.1 stands keeps.1)
@@ -79,10 +86,13 @@ pub record Leaves (keeper page : ℕ) (own : Bool) (m : Made) (rest : List Made)
   pub stays : (g : ℕ) → g / 256 ≡ page → StaysPut g rest
   pub backs : BacksNot page rest
 
-one_leaves : (keeper page : ℕ) (own : Bool) (m : Made) (rest : List Made) → ((g : ℕ) → g / 256 ≡ page → StaysPut g (if own then m ∷ rest else rest)) → BacksNot page (if own then m ∷ rest else rest) → Leaves keeper page own m rest
+one_leaves : (keeper page : ℕ) (own : Bool) (m : Made) (rest : List Made) → ((g : ℕ) → g / 256 ≡ page → StaysPut g (if own then m ∷ rest else rest))
+    → BacksNot page (if own then m ∷ rest else rest) → Leaves keeper page own m rest
 one_leaves keeper page own m rest stays backs = search (arith, true≢false)
 
-pub own_keep : (keeper page : ℕ) (newer : Whole) → ((g : ℕ) → g / 256 ≡ page → StaysPut g (part keeper newer)) → BacksNot page (part keeper newer) → KeepsGuard keeper page newer
+-- A keeper whose own steps move no grain of the page and don't back it keeps its guard.
+pub own_keep : (keeper page : ℕ) (newer : Whole) → ((g : ℕ) → g / 256 ≡ page → StaysPut g (part keeper newer)) → BacksNot page (part keeper newer)
+    → KeepsGuard keeper page newer
 own_keep keeper page [] stays backs = tt
 own_keep keeper page (t ∷ l) stays backs = let one = one_leaves keeper page (t.actor == keeper) t.made (part keeper l) stays backs in (one.mine, own_keep keeper page l one.stays one.backs)
 
@@ -91,14 +101,17 @@ pub record StandsBare (l : Whole) (keeper page : ℕ) : Type 0 where
   pub held : (g : ℕ) → g / 256 ≡ page → holds (part keeper l) g ≡ true
   pub bare : word_after l (Words.Backed page) ≡ 0
 
-looked_bare : (e : ℕ) (s : Step) (page old : ℕ) → s ≡ Look (Words.Backed page) → old ≡ 0 → (if same_word (target s) (Words.Backed page) then new_value e s old else old) ≡ 0
+looked_bare : (e : ℕ) (s : Step) (page old : ℕ) → s ≡ Look (Words.Backed page) → old ≡ 0
+    → (if same_word (target s) (Words.Backed page) then new_value e s old else old) ≡ 0
 looked_bare e s page old is zero = subst (λ x. (if same_word (target x) (Words.Backed page) then new_value e x old else old) ≡ 0) (sym is) (looked (same_word (Words.Backed page) (Words.Backed page)) old ∙ zero)
 
 -- the keeper's newest step is the look
-begins_here : (f : Profile) (l : Whole) (t : Triple) (keeper page : ℕ) (v : View) (before : List Made) → IsNext f l t → part keeper l ≡ before ++ v → (t.actor == keeper) ≡ true → BackedReadHere v page 0 t.made before → StandsBare (t ∷ l) keeper page
+begins_here : (f : Profile) (l : Whole) (t : Triple) (keeper page : ℕ) (v : View) (before : List Made) → IsNext f l t → part keeper l ≡ before ++ v
+    → (t.actor == keeper) ≡ true → BackedReadHere v page 0 t.made before → StandsBare (t ∷ l) keeper page
 begins_here f l t keeper page v before next is own read = search (arith, looked_bare)
 
-goes_bare : (f : Profile) (l : Whole) (t : Triple) (keeper page : ℕ) → IsValid f → Legal f l → IsNext f l t → StandsBare l keeper page → ((t.actor == keeper) ≡ true → LeavesGuard page t.made) → StandsBare (t ∷ l) keeper page
+goes_bare : (f : Profile) (l : Whole) (t : Triple) (keeper page : ℕ) → IsValid f → Legal f l → IsNext f l t → StandsBare l keeper page
+    → ((t.actor == keeper) ≡ true → LeavesGuard page t.made) → StandsBare (t ∷ l) keeper page
 goes_bare f l t keeper page valid legal next stands keeps =
     let no_back : t.made.step ≡ Back page → ⊥ = λ e. elim (cases_Bool (t.actor == keeper)) [
       | inl own ↦ (keeps own).unbacked e
@@ -109,14 +122,17 @@ goes_bare f l t keeper page valid legal next stands keeps =
     }
 
 -- the steps since, in the list of all actors
-begins_by : (f : Profile) (t : Triple) (l : Whole) (keeper page : ℕ) (v : View) (m : Made) (steps : List Made) → IsValid f → Legal f l → IsNext f l t → t.made ≡ m → part keeper l ≡ steps ++ v → (t.actor == keeper) ≡ true → Since (BackedReadHere v page 0) (LeftSince page) (m ∷ steps)
+begins_by : (f : Profile) (t : Triple) (l : Whole) (keeper page : ℕ) (v : View) (m : Made) (steps : List Made) → IsValid f → Legal f l → IsNext f l t
+    → t.made ≡ m → part keeper l ≡ steps ++ v → (t.actor == keeper) ≡ true → Since (BackedReadHere v page 0) (LeftSince page) (m ∷ steps)
     → (Since (BackedReadHere v page 0) (LeftSince page) steps → StandsBare l keeper page) → StandsBare (t ∷ l) keeper page
 begins_by f t l keeper page v m steps valid legal next same is own h more = search (arith, begins_here, goes_bare)
 
+-- Two lists that are the same have the same first step and the same others.
 pub head_same : (x y : Made) (xs ys : List Made) → x ∷ xs ≡ y ∷ ys → (x ≡ y) × (xs ≡ ys)
 head_same x y xs ys e = (cc, cc)
 
-begins : (f : Profile) (l : Whole) (keeper page : ℕ) (v : View) (steps : List Made) → IsValid f → Legal f l → part keeper l ≡ steps ++ v → Since (BackedReadHere v page 0) (LeftSince page) steps → StandsBare l keeper page
+begins : (f : Profile) (l : Whole) (keeper page : ℕ) (v : View) (steps : List Made) → IsValid f → Legal f l → part keeper l ≡ steps ++ v
+    → Since (BackedReadHere v page 0) (LeftSince page) steps → StandsBare l keeper page
 begins f [] keeper page v [] valid legal is since = absurd since
 begins f [] keeper page v (m ∷ steps) valid legal is since = absurd (let e : [] ≡ m ∷ (steps ++ v) = is in cc)
 begins f (t ∷ l) keeper page v [] valid legal is since = absurd since
@@ -127,7 +143,9 @@ begins f (t ∷ l) keeper page v (m ∷ steps) valid legal is since = elim (case
       goes_bare f l t keeper page valid legal.1 legal.0 (begins f l keeper page v (m ∷ steps) valid legal.1 same since) (λ own. absurd (true≢false (sym own ∙ other))))
 ]
 
-pub guard_begins : (f : Profile) (l : Whole) (keeper page : ℕ) (d : Directory) (v : View) (steps : List Made) → IsValid f → Legal f l → part keeper l ≡ steps ++ v → Since (BackedReadHere v page 0) (LeftSince page) steps → KnowsDeed page d (part keeper l) → StandsGuard l keeper page d
+-- A page that its keeper read as not backed, and has held whole since, stands guarded.
+pub guard_begins : (f : Profile) (l : Whole) (keeper page : ℕ) (d : Directory) (v : View) (steps : List Made) → IsValid f → Legal f l
+    → part keeper l ≡ steps ++ v → Since (BackedReadHere v page 0) (LeftSince page) steps → KnowsDeed page d (part keeper l) → StandsGuard l keeper page d
 guard_begins f l keeper page d v steps valid legal is since knows =
     let stands = begins f l keeper page v steps valid legal is since in
     record { held = stands.held; deed = sym (known_is (known_deed (part keeper l) page) (word_after l (Words.Deed page)) (deeds_known f l legal keeper page) (λ z. deed_word_of-positive d (sym knows ∙ z))) ∙ knows; bare = stands.bare }

@@ -24,11 +24,14 @@ with_high first k q = grind (arith, nat_tests)
 inner_pages : (d : Directory) (first k : ℕ) (v : View) → HasPages d first (first + (k + 2)) v → HasPages d (first + 1) (first + 1 + k) v
 inner_pages d first k v met = search (arith, inner_in)
 
-pub can_give_inner : {σ : Standing} (d : Directory) (first k : ℕ) → CanCall σ (HasPages d first (first + (k + 2))) → CanCall σ (HasPages d (first + 1) (first + 1 + k))
+-- Who has the pages of a run may give the block of those between its outer ones.
+pub can_give_inner : {σ : Standing} (d : Directory) (first k : ℕ) → CanCall σ (HasPages d first (first + (k + 2)))
+    → CanCall σ (HasPages d (first + 1) (first + 1 + k))
 can_give_inner d first k can = record { view = can.view; whole = can.whole; stood = can.stood; met = inner_pages d first k can.view can.met }
 
 -- one page more is left
-leave_one : {v w u : View} (low high first stop first' stop' page : ℕ) → ((q : ℕ) → (in_span first stop q || (page == q)) ≡ in_span first' stop' q) → Does (given_and_left low high first stop) v w → Does (on_page page Lost Kept) w u → Does (given_and_left low high first' stop') v u
+leave_one : {v w u : View} (low high first stop first' stop' page : ℕ) → ((q : ℕ) → (in_span first stop q || (page == q)) ≡ in_span first' stop' q)
+    → Does (given_and_left low high first stop) v w → Does (on_page page Lost Kept) w u → Does (given_and_left low high first' stop') v u
 leave_one {v} {w} {u} low high first stop first' stop' page same a b = does_as (given_and_left low high first' stop') (does_then a b) (λ x. inl refl) (λ q. both_fates Lost (in_span first stop q) (page == q) (in_span first' stop' q) refl (same q))
     (λ q c. subst (λ t. ClearAfter t q v u) (kept_kept (page == q)) c)
 
@@ -73,6 +76,7 @@ module _ (d : Directory) (first k : ℕ) (block : Block) where
     may_low : (v : View) → HasPages d first (first + (k + 2)) v → Gave v (gs ++ v) → MayLeave first d (gs ++ v)
     may_low v met gaves = record { right = gaves.0.does.right first ∙ ap (λ t. now (if t then Lost else Kept) (has_right v first)) low_out ∙ met.right first low_in; deed = gaves.1 first low_in }
 
+    -- After the give of a guarded block its low outer page may be left.
     pub can_leave_low : CanCall σ (HasPages d first (first + (k + 2))) → CanCall σ1 (MayLeave first d)
     can_leave_low can = next_call gave can may_low
 
@@ -81,12 +85,15 @@ module _ (d : Directory) (first k : ℕ) (block : Block) where
       left_low = call_knowing d run (call_then LeftLow gave low.calls may_low
           (λ v met gaves left. record { does = leave_one (first + 1) (first + 1 + k) (first + 1) (first + 1 + k) first (first + 1 + k) first (with_low first k) gaves.0.does left.does; turn = gaves.0.turn })) (λ v met. met.deeds)
 
-      may_high : (v : View) → HasPages d first (first + (k + 2)) v → LeftLow v ((low.steps ++ gs) ++ v) × Knows ((low.steps ++ gs) ++ v) → MayLeave (first + k + 1) d ((low.steps ++ gs) ++ v)
+      may_high : (v : View) → HasPages d first (first + (k + 2)) v → LeftLow v ((low.steps ++ gs) ++ v) × Knows ((low.steps ++ gs) ++ v)
+          → MayLeave (first + k + 1) d ((low.steps ++ gs) ++ v)
       may_high v met left = record { right = left.0.does.right (first + k + 1) ∙ ap (λ t. now (if t then Lost else Kept) (has_right v (first + k + 1))) high_out ∙ met.right (first + k + 1) high_in; deed = left.1 (first + k + 1) high_in }
 
+      -- After the low outer page was left, the high one may be left, too.
       pub can_leave_high : CanCall σ (HasPages d first (first + (k + 2))) → CanCall σ2 (MayLeave (first + k + 1) d)
       can_leave_high can = next_call left_low can may_high
 
+      -- A run whose inner pages were given, and whose outer ones were left, is guarded.
       pub guards : {σ3 : Standing} → Leaves (first + k + 1) d σ2 σ3 → GuardsRun d first k block σ σ3
       guards {σ3} high =
           let done : Calls σ σ3 (HasPages d first (first + (k + 2))) (λ v w. LeftAll v w × Knows w) (high.steps ++ (low.steps ++ gs)) = call_knowing d run (call_then LeftAll left_low high.calls may_high

@@ -13,34 +13,43 @@ use Rattle.pas_large.proofs.Claims.{span_in, in_parts, span_none, got_both}
 use Rattle.pas_large.proofs.Pages.{undone}
 use Rattle.pas_guard.specs.Seeks.{HasSpan}
 
+-- An actor that did nothing got just an empty span.
 pub span_of_none : {v w : View} (d : Directory) (a : ℕ) → Does nothing v w → HasSpan d a a v w
 span_of_none {v} d a does = search (arith, does_as, span_none, true≢false)
 
-pub span_then : {v w u : View} (d : Directory) (a b : ℕ) → HasSpan d a b v w → Does nothing w u → ((p : ℕ) → KnowsDeed p d w → KnowsDeed p d u) → HasSpan d a b v u
+-- Pages that the actor has stay its own through steps that do nothing.
+pub span_then : {v w u : View} (d : Directory) (a b : ℕ) → HasSpan d a b v w → Does nothing w u → ((p : ℕ) → KnowsDeed p d w → KnowsDeed p d u)
+    → HasSpan d a b v u
 span_then d a b span still knows = record { got = record { does = does_then span.got.does still; apart = span.got.apart; lacked = span.got.lacked; deeds = λ p is. knows p (span.got.deeds p is) }; lacked = span.lacked }
 
+-- A span that was got and lost again leaves all as it was.
 pub span_lost : {v w u : View} (d : Directory) (a b : ℕ) → HasSpan d a b v w → Does (of_pages (in_span a b) Lost) w u → Does nothing v u
 span_lost d a b span lost = undone (λ g. in_span a b (g / 256)) (in_span a b) span.got.apart span.lacked span.got.does lost
 
 joined : (a b c p : ℕ) → a ≤ b → b ≤ c → (in_span a b p || in_span b c p) ≡ in_span a c p
 joined a b c p low high = grind (arith, nat_tests)
 
-pub span_both : {v w u : View} (d : Directory) (a b c : ℕ) → a ≤ b → b ≤ c → HasSpan d a b v w → ((p : ℕ) → b ≤ p → p < c → has_right v p ≡ false) → GotPages (in_span b c) d w u → ((p : ℕ) → KnowsDeed p d w → KnowsDeed p d u) → HasSpan d a c v u
+-- Pages that were got behind a span make it longer.
+pub span_both : {v w u : View} (d : Directory) (a b c : ℕ) → a ≤ b → b ≤ c → HasSpan d a b v w → ((p : ℕ) → b ≤ p → p < c → has_right v p ≡ false)
+    → GotPages (in_span b c) d w u → ((p : ℕ) → KnowsDeed p d w → KnowsDeed p d u) → HasSpan d a c v u
 span_both d a b c low high span lacked second knows = record {
   got = got_both d (in_span a b) (in_span b c) (in_span a c) (λ p. joined a b c p low high) span.got second knows;
   lacked = λ p is. let at = in_parts a c p is in elim (cases_lt p b) [ inl below ↦ span.lacked p (span_in a b p at.0 below) | inr above ↦ lacked p above at.1 ];
 }
 
+-- A page outside a span is outside each one that begins later.
 pub out_later : (a b c p : ℕ) → a ≤ b → in_span a c p ≡ false → in_span b c p ≡ false
 out_later a b c p le out = grind (arith, nat_tests)
 
 -- the first of them is left
-slid : (m t u had : Bool) → (m ≡ true → (u ≡ false) × (had ≡ false)) → (m ≡ false → t ≡ u) → now (if m then Lost else Kept) (now (if t then Gained else Kept) had) ≡ now (if u then Gained else Kept) had
+slid : (m t u had : Bool) → (m ≡ true → (u ≡ false) × (had ≡ false)) → (m ≡ false → t ≡ u)
+    → now (if m then Lost else Kept) (now (if t then Gained else Kept) had) ≡ now (if u then Gained else Kept) had
 slid m t u had here there = grind arith
 
 past_first : (a c p : ℕ) → p ≡ a → in_span (a + 1) c p ≡ false
 past_first a c p e = grind (arith, nat_tests)
 
+-- A page other than the first of a span is in it exactly where it is in the span behind that.
 pub but_first : (a c p : ℕ) → p ≢ a → in_span a c p ≡ in_span (a + 1) c p
 but_first a c p ne = grind (arith, nat_tests)
 
@@ -54,6 +63,7 @@ module _ {v w u : View} (d : Directory) (a c : ℕ) (some : a < c) (span : HasSp
   in_first : (p : ℕ) → p ≡ a → in_span a c p ≡ true
   in_first p e = span_in a c p (omega (arith, e)) (omega (arith, e, some))
 
+  -- A span whose first page was left is the span from the next page on.
   pub span_slid : ((p : ℕ) → KnowsDeed p d w → KnowsDeed p d u) → HasSpan d (a + 1) c v u
   span_slid knows = record {
     got = record {

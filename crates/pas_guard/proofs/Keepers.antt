@@ -27,6 +27,7 @@ use Rattle.pas_guard.proofs.Raises.{no_backs, after_steady, after_unbacked, fits
 
 -- ==== The list of all actors, and the steps of one.
 
+-- An actor's part of two lists is that of the newer in front of that of the older.
 pub part_both : (k : ℕ) (newer older : Whole) → part k (newer ++ older) ≡ part k newer ++ part k older
 part_both k [] older = refl
 part_both k (t ∷ newer) older = elim (cases_Bool (t.actor == k)) [
@@ -70,6 +71,7 @@ cut (t ∷ l) k (x ∷ xs) ys is = elim (cases_Bool (t.actor == k)) [
   })
 ]
 
+-- The older steps of a legal list are legal.
 pub older_legal : (f : Profile) (newer older : Whole) → Legal f (newer ++ older) → Legal f older
 older_legal f [] older legal = legal
 older_legal f (t ∷ newer) older legal = older_legal f newer older legal.1
@@ -89,6 +91,7 @@ agreed_of f (t ∷ l) k (x ∷ xs) v valid legal is = elim (cases_Bool (t.actor 
 
 -- ==== Steps that leave a page alone.
 
+-- What is so always in a list is so in its older steps.
 pub older_always : (P : Made → List Made → Type 0) (ys xs : List Made) → Always P (ys ++ xs) → Always P xs
 older_always P [] xs h = h
 older_always P (y ∷ ys) xs h = older_always P ys xs h.1
@@ -102,12 +105,14 @@ leave_older : (page : ℕ) (ys xs : List Made) → LeavePage page (ys ++ xs) →
 leave_older page ys xs h = record { stays = λ g at. older_always (λ m before. grain_move m.step m.answer g ≡ Stays) ys xs (h.stays g at); backs = older_always _ ys xs h.backs }
 
 -- a guard stands on after such steps
-page_on : (f : Profile) (l : Whole) (keeper page : ℕ) (d : Directory) (xs ys : List Made) → IsValid f → Legal f l → (c : Cut l keeper xs ys) → StandsGuard c.older keeper page d → LeavePage page xs → StandsGuard l keeper page d
+page_on : (f : Profile) (l : Whole) (keeper page : ℕ) (d : Directory) (xs ys : List Made) → IsValid f → Legal f l → (c : Cut l keeper xs ys)
+    → StandsGuard c.older keeper page d → LeavePage page xs → StandsGuard l keeper page d
 page_on f l keeper page d xs ys valid legal c stands leaves =
     subst (λ w. StandsGuard w keeper page d) (sym c.whole) (stands_on f c.older c.newer keeper page d valid (subst (Legal f) c.whole legal) stands
     (own_keep keeper page c.newer (λ g at. subst (StaysPut g) (sym c.newer_is) (leaves.stays g at)) (subst (BacksNot page) (sym c.newer_is) leaves.backs)))
 
-between_on : (f : Profile) (l : Whole) (keeper : ℕ) (guard : Guard) (xs ys : List Made) → IsValid f → Legal f l → (c : Cut l keeper xs ys) → StandsBetween c.older keeper guard → LeavePage guard.low xs → LeavePage guard.high xs → StandsBetween l keeper guard
+between_on : (f : Profile) (l : Whole) (keeper : ℕ) (guard : Guard) (xs ys : List Made) → IsValid f → Legal f l → (c : Cut l keeper xs ys)
+    → StandsBetween c.older keeper guard → LeavePage guard.low xs → LeavePage guard.high xs → StandsBetween l keeper guard
 between_on f l keeper guard xs ys valid legal c stands low high = let d = large_directory guard.block.heap in record {
   low = page_on f l keeper guard.low d xs ys valid legal c stands.low low;
   high = page_on f l keeper guard.high d xs ys valid legal c stands.high high;
@@ -121,12 +126,15 @@ at_cases : (g : Guard) (gs : List Guard) (x : Guard) (k : ℕ) → k < length (g
 at_cases g gs x zero lt is = inl is
 at_cases g gs x (suc k) lt is = inr (k, omega (arith, lt), is)
 
+-- A guard that a list contains is its first or one of the others.
 pub first_or_later : (g : Guard) (gs : List Guard) (x : Guard) → Contains (g ∷ gs) x → (g ≡ x) ⊎ Contains gs x
 first_or_later g gs x has = at_cases g gs x has.0 has.1 has.2
 
+-- An empty list contains no guard.
 pub none_in : (x : Guard) → Contains [] x → ⊥
 none_in x has = omega (arith, has.1)
 
+-- The low page of a guard is an outer one of it.
 pub low_outer : (g : Guard) → is_outer_of g g.low ≡ true
 low_outer g = ap (λ t. t || (g.high == g.low)) (eq-eqb g.low g.low refl)
 
@@ -142,10 +150,12 @@ outer_in (g ∷ gs) x p has is = elim (first_or_later g gs x has) [
 ]
 
 -- those that stay up in a sweep were up before
-one_was_up : (t : Bool) (k : ℕ) (guard : Guard) (first : List Made) (kept after : List Guard) (said more : List Record) (x : Guard) → SweptOne t k guard first kept after said more → Contains kept x → (guard ≡ x) ⊎ Contains after x
+one_was_up : (t : Bool) (k : ℕ) (guard : Guard) (first : List Made) (kept after : List Guard) (said more : List Record) (x : Guard)
+    → SweptOne t k guard first kept after said more → Contains kept x → (guard ≡ x) ⊎ Contains after x
 one_was_up t k guard first kept after said more x h has = search (arith, first_or_later)
 
-was_up : (all : Bool) (k : ℕ) (guards kept : List Guard) (said : List Record) (steps : List Made) (x : Guard) → Swept all k guards kept said steps → Contains kept x → Contains guards x
+was_up : (all : Bool) (k : ℕ) (guards kept : List Guard) (said : List Record) (steps : List Made) (x : Guard) → Swept all k guards kept said steps
+    → Contains kept x → Contains guards x
 was_up all k [] kept said steps x h has = subst (λ xs. Contains xs x) h.0 has
 was_up all k (guard ∷ guards) kept said steps x h has = elim (one_was_up (all || is_over guard h.0) k guard h.1 kept h.3 said h.4 x h.5 has) [
   | inl same ↦ (0, omega arith, same)
@@ -186,7 +196,8 @@ high_out : (first k : ℕ) → in_span (first + 1) (first + 1 + k) (first + k + 
 high_out first k = grind (arith, nat_tests)
 
 -- ---- a raise, of which these were the first steps by then
-module _ (f : Profile) (keeper heap k : ℕ) (guards guards' : List Guard) (answer : Option Block) (l : Whole) (before first rest : List Made) (valid : IsValid f) (legal : Legal f l) (is : part keeper l ≡ first ++ before) (agreed : Agreed f before (rest ++ first)) (stood : StoodBefore f keeper guards before)
+module _ (f : Profile) (keeper heap k : ℕ) (guards guards' : List Guard) (answer : Option Block) (l : Whole) (before first rest : List Made) (valid : IsValid f)
+    (legal : Legal f l) (is : part keeper l ≡ first ++ before) (agreed : Agreed f before (rest ++ first)) (stood : StoodBefore f keeper guards before)
     (raise : RaiseSteps f heap k guards guards' answer (rest ++ first)) where
   raise_cut : Cut l keeper first before
   raise_cut = cut l keeper first before is
@@ -205,7 +216,8 @@ module _ (f : Profile) (keeper heap k : ℕ) (guards guards' : List Guard) (answ
       (raise_leaves guard.low (outer_in guards guard guard.low has (low_outer guard))) (raise_leaves guard.high (outer_in guards guard guard.high has (high_outer guard)))
 
   -- its own guard, from the end of the search on
-  module _ (block : Block) (r : IsRaised f (large_directory heap) k guards guards' raise.searched raise.after block) (x : List Made) (first_is : first ≡ x ++ raise.searched) (after_is : raise.after ≡ rest ++ x) where
+  module _ (block : Block) (r : IsRaised f (large_directory heap) k guards guards' raise.searched raise.after block) (x : List Made)
+      (first_is : first ≡ x ++ raise.searched) (after_is : raise.after ≡ rest ++ x) where
     abbrev d : Directory
     d = large_directory heap
 
@@ -242,8 +254,10 @@ module _ (f : Profile) (keeper heap k : ℕ) (guards guards' : List Guard) (answ
         }
 
 -- a guard of the book after the raise: from the give on, or when the raise is over
-raise_up : (f : Profile) (keeper heap k : ℕ) (guards guards' : List Guard) (answer : Option Block) (l : Whole) (before first rest : List Made) → IsValid f → Legal f l → part keeper l ≡ first ++ before → Agreed f before (rest ++ first) → StoodBefore f keeper guards before
-    → (raise : RaiseSteps f heap k guards guards' answer (rest ++ first)) → (guard : Guard) → Contains guards' guard → ((x : List Made) × (first ≡ x ++ raise.searched) × (raise.after ≡ rest ++ x)) → StandsBetween l keeper guard
+raise_up : (f : Profile) (keeper heap k : ℕ) (guards guards' : List Guard) (answer : Option Block) (l : Whole) (before first rest : List Made) → IsValid f
+    → Legal f l → part keeper l ≡ first ++ before → Agreed f before (rest ++ first) → StoodBefore f keeper guards before
+    → (raise : RaiseSteps f heap k guards guards' answer (rest ++ first)) → (guard : Guard) → Contains guards' guard
+    → ((x : List Made) × (first ≡ x ++ raise.searched) × (raise.after ≡ rest ++ x)) → StandsBetween l keeper guard
 raise_up f keeper heap k guards guards' None l before first rest valid legal is agreed stood raise guard has at =
     raise_old f keeper heap k guards guards' None l before first rest valid legal is agreed stood raise guard (subst (λ xs. Contains xs guard) raise.outcome.same has)
 raise_up f keeper heap k guards guards' (Some block) l before first rest valid legal is agreed stood raise guard has at =
@@ -257,10 +271,12 @@ raise_up f keeper heap k guards guards' (Some block) l before first rest valid l
 put_stays : (page word mask g : ℕ) → (page == g / 256) ≡ false → (if in_mask page word mask g then Puts else Stays) ≡ Stays
 put_stays page word mask g other = grind arith
 
-sweep_step : (s : Step) (answer g : ℕ) → is_in sweeping (kind_of s) ≡ true → ((page word mask : ℕ) → s ≡ Put page word mask → (page == g / 256) ≡ false) → grain_move s answer g ≡ Stays
+sweep_step : (s : Step) (answer g : ℕ) → is_in sweeping (kind_of s) ≡ true → ((page word mask : ℕ) → s ≡ Put page word mask → (page == g / 256) ≡ false)
+    → grain_move s answer g ≡ Stays
 sweep_step s answer g kind puts = search (arith, put_stays, true≢false)
 
-puts_leave : (guard : Guard) (p : ℕ) (xs : List Made) → is_outer_of guard p ≡ true → Only sweeping xs → Always (PutsNoneOf guard) xs → (g : ℕ) → g / 256 ≡ p → StaysPut g xs
+puts_leave : (guard : Guard) (p : ℕ) (xs : List Made) → is_outer_of guard p ≡ true → Only sweeping xs → Always (PutsNoneOf guard) xs → (g : ℕ) → g / 256 ≡ p
+    → StaysPut g xs
 puts_leave guard p [] outer only puts g at = tt
 puts_leave guard p (m ∷ xs) outer only puts g at = (
   sweep_step m.step m.answer g only.0 (λ page word mask e. elim (cases_Bool (page == g / 256)) [
@@ -270,7 +286,8 @@ puts_leave guard p (m ∷ xs) outer only puts g at = (
   puts_leave guard p xs outer only.1 puts.1 g at,
 )
 
-module _ (f : Profile) (keeper : ℕ) (all : Bool) (guards guards' : List Guard) (said : List Record) (l : Whole) (before first rest : List Made) (valid : IsValid f) (legal : Legal f l) (is : part keeper l ≡ first ++ before) (stood : StoodBefore f keeper guards before)
+module _ (f : Profile) (keeper : ℕ) (all : Bool) (guards guards' : List Guard) (said : List Record) (l : Whole) (before first rest : List Made)
+    (valid : IsValid f) (legal : Legal f l) (is : part keeper l ≡ first ++ before) (stood : StoodBefore f keeper guards before)
     (sweep : SweepSteps f keeper all guards guards' said (rest ++ first)) where
   sweep_cut : Cut l keeper first before
   sweep_cut = cut l keeper first before is
@@ -293,7 +310,8 @@ module _ (f : Profile) (keeper : ℕ) (all : Bool) (guards guards' : List Guard)
 -- ==== Whole calls, and a place in one call.
 
 -- where the calls before it left the book standing, so does this one
-call_stands : (f : Profile) (keeper : ℕ) (call : Call) (guards guards' : List Guard) (l : Whole) (before last : List Made) → IsValid f → Legal f l → part keeper l ≡ last ++ before → StoodBefore f keeper guards before → MakesCall f keeper call guards guards' last → BookStands f keeper guards' l
+call_stands : (f : Profile) (keeper : ℕ) (call : Call) (guards guards' : List Guard) (l : Whole) (before last : List Made) → IsValid f → Legal f l
+    → part keeper l ≡ last ++ before → StoodBefore f keeper guards before → MakesCall f keeper call guards guards' last → BookStands f keeper guards' l
 call_stands f keeper (Call.Raise heap k answer) guards guards' l before last valid legal is stood raise =
     let agreed = agreed_of f l keeper last before valid legal is in let met = raise_fits f keeper heap k guards guards' answer l before last [] valid legal is agreed stood raise in record {
       fits = subst (FitsBook f guards') (sym is) (raise.fits.from before met agreed);
@@ -313,13 +331,15 @@ clear_at_first = record { on = λ page. record { stamped = refl; owes = record {
 empty_stands : (f : Profile) (keeper : ℕ) (guards : List Guard) (l : Whole) → guards ≡ [] → part keeper l ≡ [] → BookStands f keeper guards l
 empty_stands f keeper guards l none no_steps = search (arith, clear_at_first, none_in)
 
-calls_stand : (f : Profile) (keeper : ℕ) → IsValid f → (calls : List Call) (guards : List Guard) (steps : List Made) → MakesCalls f keeper calls guards steps → (l : Whole) → Legal f l → part keeper l ≡ steps → BookStands f keeper guards l
+calls_stand : (f : Profile) (keeper : ℕ) → IsValid f → (calls : List Call) (guards : List Guard) (steps : List Made) → MakesCalls f keeper calls guards steps
+    → (l : Whole) → Legal f l → part keeper l ≡ steps → BookStands f keeper guards l
 calls_stand f keeper valid [] guards steps made l legal is = empty_stands f keeper guards l made.0 (is ∙ made.1)
 calls_stand f keeper valid (call ∷ calls) guards steps made l legal is =
     call_stands f keeper call made.0 guards l made.1 made.2 valid legal (is ∙ made.5) (λ older older_legal at. calls_stand f keeper valid calls made.0 made.1 made.3 older older_legal at) made.4
 
 -- a place in a call
-place_stands : (f : Profile) (keeper : ℕ) (call : Call) (guards guards' : List Guard) (guard : Guard) (l : Whole) (before first rest : List Made) → IsValid f → Legal f l → part keeper l ≡ first ++ before → Agreed f before (rest ++ first) → StoodBefore f keeper guards before
+place_stands : (f : Profile) (keeper : ℕ) (call : Call) (guards guards' : List Guard) (guard : Guard) (l : Whole) (before first rest : List Made) → IsValid f
+    → Legal f l → part keeper l ≡ first ++ before → Agreed f before (rest ++ first) → StoodBefore f keeper guards before
     → MakesCall f keeper call guards guards' (rest ++ first) → IsUpIn call guards guards' guard first → StandsBetween l keeper guard
 place_stands f keeper (Call.Raise heap k answer) guards guards' guard l before first rest valid legal is agreed stood raise up = elim up [
   | inl old ↦ raise_old f keeper heap k guards guards' answer l before first rest valid legal is agreed stood raise guard old
@@ -335,7 +355,8 @@ agreed_all : (f : Profile) (l : Whole) (k : ℕ) → IsValid f → Legal f l →
 agreed_all f l k valid legal = agreed_of f l k (part k l) [] valid legal (sym (append-nil (part k l)))
 
 -- the keeper goes on by the steps `later`
-pub up_stands : (f : Profile) (keeper : ℕ) (guard : Guard) (later : List Made) (l : Whole) → IsValid f → Legal f l → Agreed f [] (later ++ part keeper l) → IsUp f keeper guard later (part keeper l) → StandsBetween l keeper guard
+pub up_stands : (f : Profile) (keeper : ℕ) (guard : Guard) (later : List Made) (l : Whole) → IsValid f → Legal f l → Agreed f [] (later ++ part keeper l)
+    → IsUp f keeper guard later (part keeper l) → StandsBetween l keeper guard
 up_stands f keeper guard later l valid legal agreed up =
     let steps = up.rest ++ up.first in
     let whole : later ++ part keeper l ≡ up.more ++ (steps ++ up.before) = search (arith, append_assoc) in
@@ -349,17 +370,21 @@ at_the_end keeper guard [] older stands = stands
 at_the_end keeper guard (t ∷ newer) older stands = stands.0
 
 -- it stands on at one place more
-pub one_more : (f : Profile) (keeper : ℕ) (guard : Guard) (t : Triple) (newer older : Whole) → IsValid f → Legal f (t ∷ (newer ++ older)) → StandsBetween (t ∷ (newer ++ older)) keeper guard → StandsThrough keeper guard newer older
+pub one_more : (f : Profile) (keeper : ℕ) (guard : Guard) (t : Triple) (newer older : Whole) → IsValid f → Legal f (t ∷ (newer ++ older))
+    → StandsBetween (t ∷ (newer ++ older)) keeper guard → StandsThrough keeper guard newer older
     → StandsThrough keeper guard (t ∷ newer) older
 one_more f keeper guard t newer older valid legal after so_far =
     let d = large_directory guard.block.heap in let l = newer ++ older in let before = at_the_end keeper guard newer older so_far in
     (after, untouched_between f l t keeper guard.low d valid legal before.low after.low, untouched_between f l t keeper guard.high d valid legal before.high after.high, so_far)
 
-up_here : (f : Profile) (keeper : ℕ) (guard : Guard) (later l : Whole) → IsValid f → Legal f (later ++ l) → IsUp f keeper guard (part keeper later) (part keeper l) → StandsBetween l keeper guard
+up_here : (f : Profile) (keeper : ℕ) (guard : Guard) (later l : Whole) → IsValid f → Legal f (later ++ l)
+    → IsUp f keeper guard (part keeper later) (part keeper l) → StandsBetween l keeper guard
 up_here f keeper guard later l valid legal up =
     up_stands f keeper guard (part keeper later) l valid (older_legal f later l legal) (subst (Agreed f []) (part_both keeper later l) (agreed_all f (later ++ l) keeper valid legal)) up
 
-pub stands_through : (f : Profile) (keeper : ℕ) (guard : Guard) (later newer older : Whole) → IsValid f → Legal f (later ++ (newer ++ older)) → IsUpThrough f keeper guard later newer older → StandsThrough keeper guard newer older
+-- While a keeper's guard is up, its outer pages stand whole and bare beside its block.
+pub stands_through : (f : Profile) (keeper : ℕ) (guard : Guard) (later newer older : Whole) → IsValid f → Legal f (later ++ (newer ++ older))
+    → IsUpThrough f keeper guard later newer older → StandsThrough keeper guard newer older
 stands_through f keeper guard later [] older valid legal up = up_here f keeper guard later older valid legal up
 stands_through f keeper guard later (t ∷ newer) older valid legal up =
     let l = newer ++ older in one_more f keeper guard t newer older valid (older_legal f later (t ∷ l) legal) (up_here f keeper guard later (t ∷ l) valid legal up.0)

@@ -30,6 +30,7 @@ module _ (f : Profile) (guard : Guard) where
   low_met : (v : View) → MayLower f guard v → MayPutAndReturn guard.low d full v
   low_met v met = record { deed = met.knows.low; puts = record { held = λ g here. met.held g (is_low (g / 256) (of_page guard.low g here)); stamped = (met.clear.on guard.low).stamped } }
 
+  -- A guard's low page may be put back, where the guard may be lowered.
   pub can_low : {σ : Standing} → CanCall σ (MayLower f guard) → CanCall σ (MayPutAndReturn guard.low d full)
   can_low can = record { view = can.view; whole = can.whole; stood = can.stood; met = low_met can.view can.met }
 
@@ -37,9 +38,11 @@ module _ (f : Profile) (guard : Guard) where
     low_call : Calls σ σ1 (MayLower f guard) (λ v w. Does (given_back (masked guard.low full)) v w × KnowsDeed guard.high d w) low.steps
     low_call = call_knows guard.high d (call_as (Does (given_back (masked guard.low full))) low.calls low_met (λ v w met does. does)) (λ v met. met.knows.high)
 
-    high_met : (v : View) → MayLower f guard v → Does (given_back (masked guard.low full)) v (low.steps ++ v) × KnowsDeed guard.high d (low.steps ++ v) → MayPutAndReturn guard.high d full (low.steps ++ v)
+    high_met : (v : View) → MayLower f guard v → Does (given_back (masked guard.low full)) v (low.steps ++ v) × KnowsDeed guard.high d (low.steps ++ v)
+        → MayPutAndReturn guard.high d full (low.steps ++ v)
     high_met v met low = search (arith, of_page, on_full, ne_eqb, is_high)
 
+    -- After its low page was put back, a guard's high page may be, too.
     pub can_high : CanCall σ (MayLower f guard) → CanCall σ1 (MayPutAndReturn guard.high d full)
     can_high can = next_call low_call can high_met
 
@@ -49,7 +52,9 @@ module _ (f : Profile) (guard : Guard) where
         (λ g. inl (both_fates Lost (masked guard.low full g) (masked guard.high full g) (is_outer_of guard (g / 256)) refl (ap (λ t. t || masked guard.high full g) (on_full guard.low g) ∙ ap (λ t. (guard.low == g / 256) || t) (on_full guard.high g))))
         (λ q. refl) (λ q h. h))
 
-pub lowers : {σ σ1 σ2 : Standing} (guard : Guard) → PutsAndReturns guard.low (large_directory guard.block.heap) full σ σ1 → PutsAndReturns guard.high (large_directory guard.block.heap) full σ1 σ2 → Lowers guard σ σ2
+-- A guard both of whose pages were put back is lowered.
+pub lowers : {σ σ1 σ2 : Standing} (guard : Guard) → PutsAndReturns guard.low (large_directory guard.block.heap) full σ σ1
+    → PutsAndReturns guard.high (large_directory guard.block.heap) full σ1 σ2 → Lowers guard σ σ2
 lowers {σ} guard low high = record {
   steps = high.steps ++ low.steps;
   calls = both σ.seat.profile guard low high;

@@ -38,10 +38,12 @@ outer_more : (gs : List Guard) (guard : Guard) (p : ℕ) → is_outer (gs ++ gua
 outer_more [] guard p = or_false (is_outer_of guard p)
 outer_more (g ∷ gs) guard p = ap (λ t. is_outer_of g p || t) (outer_more gs guard p) ∙ or_later (is_outer_of g p) (is_outer gs p) (is_outer_of guard p)
 
+-- What is so of each guard of a book is so with one more of which it is so.
 pub each_more : (P : Guard → Type 0) (gs : List Guard) (guard : Guard) → Each P gs → P guard → Each P (gs ++ guard ∷ [])
 each_more P [] guard h last = (last, tt)
 each_more P (g ∷ gs) guard h last = (h.0, each_more P gs guard h.1 last)
 
+-- What is so of each guard of a book is so in any weaker form.
 pub each_map : (P Q : Guard → Type 0) (gs : List Guard) → ((g : Guard) → P g → Q g) → Each P gs → Each Q gs
 each_map P Q [] f h = tt
 each_map P Q (g ∷ gs) f h = (f g h.0, each_map P Q gs f h.1)
@@ -68,7 +70,8 @@ raised_in : (inner outer : Bool) → (inner || outer) ≡ true → (inner ≡ tr
 raised_in true outer one apart = sym (apart refl)
 raised_in false outer one apart = sym one
 
-in_or_outer : (first k p : ℕ) → in_span first (first + (k + 2)) p ≡ true → (in_span (first + 1) (first + 1 + k) p || ((first == p) || (first + k + 1 == p))) ≡ true
+in_or_outer : (first k p : ℕ) → in_span first (first + (k + 2)) p ≡ true
+    → (in_span (first + 1) (first + 1 + k) p || ((first == p) || (first + k + 1 == p))) ≡ true
 in_or_outer first k p is = grind (arith, nat_tests)
 
 in_not_outer : (first k p : ℕ) → in_span (first + 1) (first + 1 + k) p ≡ true → ((first == p) || (first + k + 1 == p)) ≡ false
@@ -78,7 +81,8 @@ page_again : (p : ℕ) → p * 4096 / 4096 ≡ p
 page_again p = omega arith
 
 -- of a page of the run
-raised_here : (first k p : ℕ) → in_span first (first + (k + 2)) p ≡ true → now (if in_span (first + 1) (first + 1 + k) p then Lost else Kept) true ≡ ((first == p) || (first + k + 1 == p))
+raised_here : (first k p : ℕ) → in_span first (first + (k + 2)) p ≡ true
+    → now (if in_span (first + 1) (first + 1 + k) p then Lost else Kept) true ≡ ((first == p) || (first + k + 1 == p))
 raised_here first k p is = raised_in (in_span (first + 1) (first + 1 + k) p) ((first == p) || (first + k + 1 == p)) (in_or_outer first k p is) (in_not_outer first k p)
 
 -- of another page
@@ -122,7 +126,8 @@ module _ (f : Profile) (heap first k : ℕ) (gs : List Guard) (block : Block) wh
     rights_now : (q : ℕ) → has_right u q ≡ false
     rights_now q = search (arith, cases_Bool)
 
-    fits_more : 1 ≤ first → first + (k + 2) ≤ f.pages + 1 → heap < f.heaps → 1 ≤ k → block.heap ≡ heap → address_of block.name / 4096 ≡ first + 1 → ((p : ℕ) (e : Directory) → KnowsDeed p e v → KnowsDeed p e u) → FitsBook f (gs ++ guard ∷ []) u
+    fits_more : 1 ≤ first → first + (k + 2) ≤ f.pages + 1 → heap < f.heaps → 1 ≤ k → block.heap ≡ heap → address_of block.name / 4096 ≡ first + 1
+        → ((p : ℕ) (e : Directory) → KnowsDeed p e v → KnowsDeed p e u) → FitsBook f (gs ++ guard ∷ []) u
     fits_more low high of some of_heap at knows = record {
       apart = apart_more gs guard fits.apart (new_page first low_in) (new_page (first + k + 1) high_in);
       of_region = search (arith, each_more);
@@ -147,15 +152,18 @@ whole_outer : (f : Profile) (gs : List Guard) (v : View) → FitsBook f gs v →
 whole_outer f gs v fits p is = record { held = λ g at. fits.held g ∙ ap (is_outer gs) at ∙ is; known = outer_known v gs fits.knows p is }
 
 -- they aren't of a run that was got
-run_out : (f : Profile) (d : Directory) (gs : List Guard) (first stop : ℕ) (v w : View) → FitsBook f gs v → HasSpan d first stop v w → (p : ℕ) → is_outer gs p ≡ true → in_span first stop p ≡ false
+run_out : (f : Profile) (d : Directory) (gs : List Guard) (first stop : ℕ) (v w : View) → FitsBook f gs v → HasSpan d first stop v w → (p : ℕ)
+    → is_outer gs p ≡ true → in_span first stop p ≡ false
 run_out f d gs first stop v w fits span p is = elim (cases_Bool (in_span first stop p)) [
   | inl here ↦ (let at : p * 256 / 256 ≡ p = omega arith in absurd (true≢false (sym is ∙ ap (is_outer gs) (sym at) ∙ sym (fits.held (p * 256)) ∙ span.got.apart (p * 256) (ap (in_span first stop) at ∙ here))))
   | inr out ↦ out
 ]
 
+-- Steps of kinds without a back don't back a page.
 pub no_backs : (ks : Kinds) (p : ℕ) (xs : List Made) → is_in ks Backing ≡ false → Only ks xs → BacksNot p xs
 no_backs ks p xs none = always_map (λ m before. is_in ks (kind_of m.step) ≡ true) (λ m before. m.step ≡ Back p → ⊥) xs (λ m before is e. true≢false (sym is ∙ ap (λ s. is_in ks (kind_of s)) e ∙ none))
 
+-- Two lists of steps that don't back a page don't back it together.
 pub backs_both : (p : ℕ) (ys xs : List Made) → BacksNot p ys → BacksNot p xs → BacksNot p (ys ++ xs)
 backs_both p ys xs = always_both (λ m before. m.step ≡ Back p → ⊥) (λ m before. m.step ≡ Back p → ⊥) ys xs (λ m before h. h)
 
@@ -164,10 +172,14 @@ module _ (d : Directory) (first k word answer : ℕ) (block : Block) (is : block
   give_stays : (g : ℕ) → in_span (first + 1) (first + 1 + k) (g / 256) ≡ false → grain_move (Give block) answer g ≡ Stays
   give_stays g out = search (arith, run_is)
 
-  pub after_steady : Only returning left → Only (Backing ∷ []) backs → (g : ℕ) → in_span (first + 1) (first + 1 + k) (g / 256) ≡ false → StaysPut g (left ++ (give_steps (first + 1) 0 block word answer ++ backs))
+  -- After the search of a raise, no step moves a grain of a page that isn't an inner one.
+  pub after_steady : Only returning left → Only (Backing ∷ []) backs → (g : ℕ) → in_span (first + 1) (first + 1 + k) (g / 256) ≡ false
+      → StaysPut g (left ++ (give_steps (first + 1) 0 block word answer ++ backs))
   after_steady leaves back g out = steady_both g left (give_steps (first + 1) 0 block word answer ++ backs) (steady_kinds returning refl g left leaves) (give_stays g out, (refl, steady_kinds (Backing ∷ []) refl g backs back))
 
-  pub after_unbacked : Only returning left → BacksIn (first + 1) (first + 1 + k) backs → (p : ℕ) → in_span (first + 1) (first + 1 + k) p ≡ false → BacksNot p (left ++ (give_steps (first + 1) 0 block word answer ++ backs))
+  -- After the search of a raise, no step backs a page that isn't an inner one.
+  pub after_unbacked : Only returning left → BacksIn (first + 1) (first + 1 + k) backs → (p : ℕ) → in_span (first + 1) (first + 1 + k) p ≡ false
+      → BacksNot p (left ++ (give_steps (first + 1) 0 block word answer ++ backs))
   after_unbacked leaves pages p out = backs_both p left (give_steps (first + 1) 0 block word answer ++ backs) (no_backs returning p left refl leaves) (
     (λ e. cc),
     (
@@ -180,11 +192,14 @@ module _ (d : Directory) (first k word answer : ℕ) (block : Block) (is : block
 pub fits_find : (f : Profile) (d : Directory) (gs : List Guard) (v : View) → FitsBook f gs v → MayFind d v
 fits_find f d gs v fits = record { lacks = λ p h. fits.rights p; clear = fits.clear }
 
-pub can_seek : {σ : Standing} (heap n spare : ℕ) (gs : List Guard) → 1 ≤ n → CanCall σ (RaiseRoom σ.seat.profile gs n spare) → CanCall σ (FindRoom σ.seat.profile (large_directory heap) 1 spare)
+-- Who may raise a guard may search for a run of its heap's large pages.
+pub can_seek : {σ : Standing} (heap n spare : ℕ) (gs : List Guard) → 1 ≤ n → CanCall σ (RaiseRoom σ.seat.profile gs n spare)
+    → CanCall σ (FindRoom σ.seat.profile (large_directory heap) 1 spare)
 can_seek {σ} heap n spare gs some can = record { view = can.view; whole = can.whole; stood = can.stood; met = record { may = fits_find σ.seat.profile (large_directory heap) gs can.view can.met.fits; room = (omega (arith, can.met.room, some)) } }
 
 -- ---- after it
-fits_nothing : (f : Profile) (gs : List Guard) (v w : View) → FitsBook f gs v → Does nothing v w → ((p : ℕ) (e : Directory) → KnowsDeed p e v → KnowsDeed p e w) → FitsBook f gs w
+fits_nothing : (f : Profile) (gs : List Guard) (v w : View) → FitsBook f gs v → Does nothing v w → ((p : ℕ) (e : Directory) → KnowsDeed p e v → KnowsDeed p e w)
+    → FitsBook f gs w
 fits_nothing f gs v w fits still knows = record {
   apart = fits.apart;
   of_region = fits.of_region;
@@ -194,6 +209,7 @@ fits_nothing f gs v w fits still knows = record {
   clear = record { on = λ q. still.clear q (fits.clear.on q) };
 }
 
+-- Where the search found no run, no guard is raised, and the book stays as it is.
 pub not_raised : {σ σ1 : Standing} (heap k : ℕ) (gs : List Guard) → Seeks (large_directory heap) k σ σ1 None → Raises heap k gs gs σ σ1 None
 not_raised {σ} heap k gs seek =
     let f = σ.seat.profile in let d = large_directory heap in record {
@@ -231,13 +247,17 @@ module _ {σ σ1 : Standing} (heap k first : ℕ) (gs : List Guard) (seek : Seek
   abbrev may_fit : (n spare : ℕ) → CanCall σ (RaiseRoom f_ gs n spare) → CanCall σ (FitsBook f_ gs)
   may_fit n spare can = record { view = can.view; whole = can.whole; stood = can.stood; met = can.met.fits }
 
+  -- After a search that found a run, its pages are in hand, so that it may be guarded.
   pub can_guard : (n spare : ℕ) → CanCall σ (RaiseRoom f_ gs n spare) → CanCall σ1 (HasPages d_ first (first + (k + 2)))
   can_guard n spare can = next_call sought (may_fit n spare can) sought_pages
 
+  -- After a search that found a run there is room for the events of its guard.
   pub room_to_guard : (n spare spare1 : ℕ) → CanCall σ (RaiseRoom f_ gs n spare) → Spares σ spare → Spares σ1 spare1 → n ≤ spare1
   room_to_guard n spare spare1 can law law1 = let room = room_after {spare = spare} {spare' = spare1} n sought.adds (may_fit n spare can) seek.shows can.met.room law law1 in omega (arith, room)
 
-  pub raised : {σ2 : Standing} (block : Block) → 1 ≤ k → heap < f_.heaps → GuardsRun d_ first k block σ1 σ2 → Raises heap k gs (gs ++ guard_of first k block ∷ []) σ σ2 (Some block)
+  -- A run that was found and guarded raises a guard, which is the last of the book.
+  pub raised : {σ2 : Standing} (block : Block) → 1 ≤ k → heap < f_.heaps → GuardsRun d_ first k block σ1 σ2
+      → Raises heap k gs (gs ++ guard_of first k block ∷ []) σ σ2 (Some block)
   raised block some of g =
       let after = g.left ++ (give_steps (first + 1) 0 block g.word g.answer ++ g.backs) in
       let later = leads_at sought.adds.seat_is g.calls.leads in

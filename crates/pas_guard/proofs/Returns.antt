@@ -25,16 +25,19 @@ use Rattle.pas_guard.specs.Seeks.{HasSpan}
 pub rise_later : (ks : Kinds) (end : ℕ) (ys xs : List Made) → is_in ks Deeding ≡ false → Only ks ys → DeedsBelow end xs → DeedsRise xs → DeedsRise (ys ++ xs)
 rise_later ks end ys xs none only below rise = rise_both end ys xs (rise_none ks ys none only) rise (from_none ks end ys none only) below
 
+-- Steps without a deed keep all deeds below a page.
 pub below_later : (ks : Kinds) (end : ℕ) (ys xs : List Made) → is_in ks Deeding ≡ false → Only ks ys → DeedsBelow end xs → DeedsBelow end (ys ++ xs)
 below_later ks end ys xs none only below = below_both end ys xs (below_none ks end ys none only) below
 
 -- ---- a right that steps have they got, where they take back only what they got
-by_deed : (p q : ℕ) (d : Directory) (a : ℕ) (had x y : Bool) → (q == p) ≡ x → (a == 0) ≡ y → had_after (if x && y then ByDeed else Rests) had ≡ true → GetsRight p (Deed q d) a ⊎ (had ≡ true)
+by_deed : (p q : ℕ) (d : Directory) (a : ℕ) (had x y : Bool) → (q == p) ≡ x → (a == 0) ≡ y → had_after (if x && y then ByDeed else Rests) had ≡ true
+    → GetsRight p (Deed q d) a ⊎ (had ≡ true)
 by_deed p q d a had true true at zero h = inl (subst (λ r. GetsRight p (Deed r d) a) (sym (eqb-true q p at)) (GetsRight.Deeds d a (eqb-true a 0 zero)))
 by_deed p q d a had true false at zero h = inr h
 by_deed p q d a had false y at zero h = inr h
 
-by_claim : (p q : ℕ) (d : Directory) (a : ℕ) (had x y : Bool) → (q == p) ≡ x → has_bit a (p % 64) ≡ y → had_after (if x && y then FromOffer (number_of d) else Rests) had ≡ true → GetsRight p (TakeRight q d) a ⊎ (had ≡ true)
+by_claim : (p q : ℕ) (d : Directory) (a : ℕ) (had x y : Bool) → (q == p) ≡ x → has_bit a (p % 64) ≡ y
+    → had_after (if x && y then FromOffer (number_of d) else Rests) had ≡ true → GetsRight p (TakeRight q d) a ⊎ (had ≡ true)
 by_claim p q d a had true true at bit h = inl (subst (λ r. GetsRight p (TakeRight r d) a) (sym (eqb-true q p at)) (GetsRight.Claims d a bit))
 by_claim p q d a had true false at bit h = inr h
 by_claim p q d a had false y at bit h = inr h
@@ -63,7 +66,8 @@ right_was_got p (m ∷ xs) due h = elim (gets_or_had p m.step m.answer (has_righ
 ]
 
 -- ---- pages that steps got, and that are given back
-module _ {σ σ2 : Standing} (d : Directory) (from free : ℕ) {ss : List Made} (held : Calls σ σ2 (MayFind d) (HasSpan d from free) ss) (can : CanCall σ (MayFind d)) (due : Always ReturnsDuly ss) where
+module _ {σ σ2 : Standing} (d : Directory) (from free : ℕ) {ss : List Made} (held : Calls σ σ2 (MayFind d) (HasSpan d from free) ss)
+    (can : CanCall σ (MayFind d)) (due : Always ReturnsDuly ss) where
   span : HasSpan d from free can.view (ss ++ can.view)
   span = held.leads.from can.view can.met (held.adds.agreed can.view can.whole can.stood can.met)
 

@@ -21,7 +21,7 @@ use Rattle.pas_steps.specs.Kinds.{Kinds, Deeding, Only, kind_of, is_in, place_of
 use Rattle.pas_steps.specs.Views.{View, held_after, holds, has_right, KnowsDeed}
 use Rattle.pas_steps.proofs.Adding.{adds_none, adds_step, adds_call, agreed_first, agreed_later}
 use Rattle.pas_steps.proofs.Apart.{in_apart, grain_same, no_events, only_both, only_within, holds_same}
-use Rattle.pas_steps.proofs.{Called.call_then, Called.next_call, Frames.right_own, Kept.right_on, Kept.knows_still, SpareRoom.Spares, Unknown.unknown_stays}
+use Rattle.pas_steps.proofs.{Called.call_then, Called.next_call, Frames.right_own, Kept.right_on, Kept.knows_still, SpareRoom.Spares, Unknown.unknown_no_more}
 use Rattle.pas_steps.proofs.{Evidence.unknown}
 use Rattle.pas_steps.proofs.Calls.{does_none, does_idly, leads_none, leads_at}
 use Rattle.pas_steps.proofs.Past.{once_later, once_earlier, once_map, always_both, always_map}
@@ -48,14 +48,16 @@ failed_more : (v : View) (d : Directory) (k s : ℕ) (ys xs : List Made) → Has
 failed_more v d k s ys xs h = search (arith, once_later)
 
 -- steps that make no deed
-deeds_none : (ks : Kinds) (d : Directory) (n : ℕ) (P : ℕ → Type 0) (ys xs : List Made) → is_in ks Deeding ≡ false → Only ks ys → DeedsOf d n P xs → DeedsOf d n P (ys ++ xs)
+deeds_none : (ks : Kinds) (d : Directory) (n : ℕ) (P : ℕ → Type 0) (ys xs : List Made) → is_in ks Deeding ≡ false → Only ks ys → DeedsOf d n P xs
+    → DeedsOf d n P (ys ++ xs)
 deeds_none ks d n P ys xs none = always_both (λ m before. is_in ks (kind_of m.step) ≡ true) (DeedOf d n P) ys xs (λ m before is p e same z. absurd (true≢false (sym is ∙ ap (λ s. is_in ks (kind_of s)) same ∙ none)))
 
 -- an outer page that was looked at while the run was held
 some_is_one : (f : Profile) (v : View) (page : ℕ) (m : Made) → SomeBackedHere page m [] → Agrees f v m.step m.answer → m.answer ≡ 1
 some_is_one f v page m h agrees = let read = subst (λ s. Agrees f v s m.answer) h.0 agrees in omega (arith, read.small, h.1)
 
-outer_some : (f : Profile) (v : View) (page : ℕ) (R : List Made → Type 0) (ls ss : List Made) → ((b : List Made) → Only backed_looks b → R (b ++ ss)) → Only backed_looks ls → Agreed f v (ls ++ ss) → ((g : ℕ) → g / 256 ≡ page → holds (ss ++ v) g ≡ true) → Once (SomeBackedHere page) ls
+outer_some : (f : Profile) (v : View) (page : ℕ) (R : List Made → Type 0) (ls ss : List Made) → ((b : List Made) → Only backed_looks b → R (b ++ ss))
+    → Only backed_looks ls → Agreed f v (ls ++ ss) → ((g : ℕ) → g / 256 ≡ page → holds (ss ++ v) g ≡ true) → Once (SomeBackedHere page) ls
     → Once (λ m before. R before × BackedReadHere v page 1 m before) (ls ++ ss)
 outer_some f v page R [] ss had only agreed held h = absurd h
 outer_some f v page R (m ∷ ls) ss had only agreed held (inl h) = inl (had ls only.1, (h.0, some_is_one f ((ls ++ ss) ++ v) page m h agreed.0, λ g at. ap (λ s. holds s g) (append_assoc ls ss v) ∙ holds_same backed_looks refl g ls (ss ++ v) only.1 ∙ held g at))
@@ -65,7 +67,8 @@ outer_some f v page R (m ∷ ls) ss had only agreed held (inr h) = inr (outer_so
 look_leaves : (page : ℕ) (m : Made) → is_in backed_looks (kind_of m.step) ≡ true → LeavesGuard page m
 look_leaves page m is = search (arith, grain_same, in_apart, true≢false)
 
-outer_zero : (v : View) (page : ℕ) (ls ss : List Made) → Only backed_looks ls → ((g : ℕ) → g / 256 ≡ page → holds (ss ++ v) g ≡ true) → Once (ZeroBackedHere page) ls → Since (BackedReadHere v page 0) (LeftSince page) (ls ++ ss)
+outer_zero : (v : View) (page : ℕ) (ls ss : List Made) → Only backed_looks ls → ((g : ℕ) → g / 256 ≡ page → holds (ss ++ v) g ≡ true)
+    → Once (ZeroBackedHere page) ls → Since (BackedReadHere v page 0) (LeftSince page) (ls ++ ss)
 outer_zero v page [] ss only held h = absurd h
 outer_zero v page (m ∷ ls) ss only held (inl h) = inl (h.0, h.1, λ g at. ap (λ s. holds s g) (append_assoc ls ss v) ∙ holds_same backed_looks refl g ls (ss ++ v) only.1 ∙ held g at)
 outer_zero v page (m ∷ ls) ss only held (inr h) = inr (look_leaves page m only.0, outer_zero v page ls ss only.1 held h)
@@ -101,7 +104,8 @@ first_bit f v p s a h agrees held = grind arith
 either_false : {a b : Bool} → a ≡ false → b ≡ false → (a || b) ≡ false
 either_false {a} {b} x y = ap (λ t. t || b) x ∙ y
 
-used_here : (f : Profile) (v : View) (p : ℕ) (xs : List Made) → Agreed f v xs → Once (WholeHere p 0) xs → ((g : ℕ) → g / 256 ≡ p → holds v g ≡ true) → ((g : ℕ) → g / 256 ≡ p → StaysPut g xs) → ⊥
+used_here : (f : Profile) (v : View) (p : ℕ) (xs : List Made) → Agreed f v xs → Once (WholeHere p 0) xs → ((g : ℕ) → g / 256 ≡ p → holds v g ≡ true)
+    → ((g : ℕ) → g / 256 ≡ p → StaysPut g xs) → ⊥
 used_here f v p [] agreed h held stays = h
 used_here f v p (m ∷ xs) agreed (inr h) held stays = used_here f v p xs agreed.1 h held (λ g at. (stays g at).1)
 used_here f v p (m ∷ xs) agreed (inl h) held stays =
@@ -111,7 +115,8 @@ used_here f v p (m ∷ xs) agreed (inl h) held stays =
     true≢false (sym (h.1 0 (omega arith)) ∙ either_false (first_bit f (xs ++ v) p m.step m.answer h.0 agreed.0 now_held) own)
 
 -- it is read as not usable
-not_usable : (f : Profile) (d : Directory) (v : View) (p : ℕ) (xs : List Made) → Agreed f v xs → HoldsWhole p v → ((g : ℕ) → g / 256 ≡ p → StaysPut g xs) → ReadUsable d p xs → ⊥
+not_usable : (f : Profile) (d : Directory) (v : View) (p : ℕ) (xs : List Made) → Agreed f v xs → HoldsWhole p v → ((g : ℕ) → g / 256 ≡ p → StaysPut g xs)
+    → ReadUsable d p xs → ⊥
 not_usable f d v p xs agreed whole stays (inl bare) = unknown f v p xs agreed bare whole.known
 not_usable f d v p xs agreed whole stays (inr offered) = used_here f v p xs agreed (offered.free 0 (omega arith)) whole.held stays
 
@@ -136,8 +141,10 @@ pub record Sought (d : Directory) (k from free next : ℕ) (desk desk' : Standin
   pub alone : AloneFrom free steps
   pub steady : (v : View) → MayFind d v → Agreed desk.seat.profile v steps → (page : ℕ) → HoldsWhole page v → (g : ℕ) → g / 256 ≡ page → StaysPut g steps
   pub bad : (v : View) → MayFind d v → Agreed desk.seat.profile v steps → (s : ℕ) → 1 ≤ s → s < from → IsBad v d k s steps
-  pub deeds : (v : View) → MayFind d v → Agreed desk.seat.profile v steps → DeedsOf d (k + 2) (λ s. ((s ≡ from) × (free ≡ from + (k + 2))) ⊎ ((s < from) × HasFailedOnce v d k s steps)) steps
+  pub deeds : (v : View) → MayFind d v → Agreed desk.seat.profile v steps
+      → DeedsOf d (k + 2) (λ s. ((s ≡ from) × (free ≡ from + (k + 2))) ⊎ ((s < from) × HasFailedOnce v d k s steps)) steps
 
+-- Before the first page, nothing is sought.
 pub sought_none : {σ : Standing} (d : Directory) (k : ℕ) → Sought d k 1 1 1 σ σ
 sought_none d k = record {
   steps = [];
@@ -232,7 +239,7 @@ module _ {σ σ1 : Standing} (d : Directory) (k from free next : ℕ) (so : Soug
     looked_returns = duly_both ys xs (duly_none page_looks ys refl refl find.kinds) so.returns
 
     looked_shows : OnlyDeedsShow f (ys ++ xs)
-    looked_shows = shows_both f ys xs (λ n v agreed. let none = ap (λ es. length es) (no_events page_looks refl n v ys find.kinds) in let stays = unknown_stays f ys v agreed in omega (arith, none, stays)) so.shows
+    looked_shows = shows_both f ys xs (λ n v agreed. let none = ap (λ es. length es) (no_events page_looks refl n v ys find.kinds) in let stays = unknown_no_more f ys v agreed in omega (arith, none, stays)) so.shows
 
     looked_lacks : (p : ℕ) → in_span from free p ≡ false → has_right (ys ++ xs) p ≡ false
     looked_lacks p out = right_own p ys xs (so.lacks p out) ∙ lacks_by page_looks refl p ys find.kinds
@@ -246,7 +253,8 @@ module _ {σ σ1 : Standing} (d : Directory) (k from free next : ℕ) (so : Soug
     looked_steady : (v : View) (met : MayFind d v) → Agreed f v (ys ++ xs) → (p : ℕ) → HoldsWhole p v → (g : ℕ) → g / 256 ≡ p → StaysPut g (ys ++ xs)
     looked_steady v met agreed p whole g at = steady_both g ys xs (steady_kinds page_looks refl g ys find.kinds) (so.steady v met (agreed_later f v ys xs agreed) p whole g at)
 
-    put_steady : {σ3 : Standing} (r : Releases d from free σ2 σ3) (v : View) (met : MayFind d v) → Agreed f v (r.steps ++ (ys ++ xs)) → (p : ℕ) → HoldsWhole p v → (g : ℕ) → g / 256 ≡ p → StaysPut g (r.steps ++ (ys ++ xs))
+    put_steady : {σ3 : Standing} (r : Releases d from free σ2 σ3) (v : View) (met : MayFind d v) → Agreed f v (r.steps ++ (ys ++ xs)) → (p : ℕ) → HoldsWhole p v
+        → (g : ℕ) → g / 256 ≡ p → StaysPut g (r.steps ++ (ys ++ xs))
     put_steady r v met agreed p whole g at =
         let before = agreed_later f v r.steps (ys ++ xs) agreed in
         steady_both g r.steps (ys ++ xs) (r.steady g (narrower from free next (g / 256) so.order.1 (held_apart v met (agreed_later f v ys xs before) p whole g at))) (looked_steady v met before p whole g at)
@@ -261,16 +269,19 @@ module _ {σ σ1 : Standing} (d : Directory) (k from free next : ℕ) (so : Soug
     looked_bad v met agreed s low lt = bad_more v d k s ys xs (so.bad v met (agreed_later f v ys xs agreed) s low lt)
 
     -- where not all pages of a run are held
-    looked_deeds : (rs : List Made) → free < from + (k + 2) → (v : View) (met : MayFind d v) → Agreed f v (ys ++ xs) → DeedsOf d (k + 2) (λ s. (s < from) × HasFailedOnce v d k s (rs ++ (ys ++ xs))) (ys ++ xs)
+    looked_deeds : (rs : List Made) → free < from + (k + 2) → (v : View) (met : MayFind d v) → Agreed f v (ys ++ xs)
+        → DeedsOf d (k + 2) (λ s. (s < from) × HasFailedOnce v d k s (rs ++ (ys ++ xs))) (ys ++ xs)
     looked_deeds rs short v met agreed = deeds_none page_looks d (k + 2) (λ s. (s < from) × HasFailedOnce v d k s (rs ++ (ys ++ xs))) ys xs refl find.kinds
         (deeds_map d (k + 2) (λ s. ((s ≡ from) × (free ≡ from + (k + 2))) ⊎ ((s < from) × HasFailedOnce v d k s xs)) (λ s. (s < from) × HasFailedOnce v d k s (rs ++ (ys ++ xs))) xs
         (λ s h. elim h [ inl full ↦ (absurd (omega (arith, full.1, short))) | inr failed ↦ (failed.0, failed_more v d k s rs (ys ++ xs) (failed_more v d k s ys xs failed.1)) ]) (so.deeds v met (agreed_later f v ys xs agreed)))
 
+  -- After a look for the next page, those of the run so far may be released.
   pub can_release_looked : {σ2 : Standing} {found : Option ℕ} → FindsRun d next next 1 σ1 σ2 found → CanCall σ (MayFind d) → CanCall σ2 (HasPages d from free)
   can_release_looked find can = can_release (looked find) can
 
   -- none is usable, and what is held is put back
-  pub seek_ends : {σ2 σ3 : Standing} → CanCall σ (MayFind d) → next < from + (k + 2) → FindsRun d next next 1 σ1 σ2 None → Releases d from free σ2 σ3 → Seeks d k σ σ3 None
+  pub seek_ends : {σ2 σ3 : Standing} → CanCall σ (MayFind d) → next < from + (k + 2) → FindsRun d next next 1 σ1 σ2 None → Releases d from free σ2 σ3
+      → Seeks d k σ σ3 None
   seek_ends can short find r =
       let ys = find.steps in let rs = r.steps in let none = subst (λ x. HasNoRun x d next next 1 ys) same find.outcome in
       let calls = released (looked find) r in let order = so.order.1 in let first = so.order.0 in let in_region = so.within.1 in record {
@@ -279,7 +290,7 @@ module _ {σ σ1 : Standing} (d : Directory) (k from free next : ℕ) (so : Soug
         kinds = only_both seeking rs (ys ++ xs) (only_within giving_back seeking rs refl r.kinds) (looked_kinds find);
         rise = rise_later giving_back free rs (ys ++ xs) refl r.kinds (looked_below find) (looked_rise find);
         returns = release_duly d from free (looked find) can (looked_returns find) r;
-        shows = shows_both f rs (ys ++ xs) (λ n v agreed. let none = ap (λ es. length es) (no_events giving_back refl n v rs r.kinds) in let stays = unknown_stays f rs v agreed in omega (arith, none, stays)) (looked_shows find);
+        shows = shows_both f rs (ys ++ xs) (λ n v agreed. let none = ap (λ es. length es) (no_events giving_back refl n v rs r.kinds) in let stays = unknown_no_more f rs v agreed in omega (arith, none, stays)) (looked_shows find);
         few = (let i = length-append rs (ys ++ xs) in let j = length-append ys xs in let e = ap (λ (x : Profile). x.pages) same in omega (arith, i, j, r.few, find.few, so.few, e, order, first, in_region));
         steady = put_steady find r;
         outcome = record {
@@ -299,7 +310,8 @@ module _ {σ σ1 : Standing} (d : Directory) (k from free next : ℕ) (so : Soug
       }
 
   -- the next page is usable
-  pub seek_more : {σ2 : Standing} (page : ℕ) → page ≡ next → next < from + (k + 2) → FindsRun d next next 1 σ1 σ2 (Some page) → Sought d k from free (page + 1) σ σ2
+  pub seek_more : {σ2 : Standing} (page : ℕ) → page ≡ next → next < from + (k + 2) → FindsRun d next next 1 σ1 σ2 (Some page)
+      → Sought d k from free (page + 1) σ σ2
   seek_more page at short find =
       let ys = find.steps in let run = subst (λ x. IsFirstRun x d next next 1 ys page) same find.outcome in let order = so.order.1 in let region = run.of_region in record {
         steps = ys ++ xs;
@@ -327,14 +339,15 @@ module _ {σ σ1 : Standing} (d : Directory) (k from free next : ℕ) (so : Soug
       }
 
   -- a later page is, and what is held is put back
-  pub seek_jump : {σ2 σ3 : Standing} → CanCall σ (MayFind d) → (page : ℕ) → page ≢ next → next < from + (k + 2) → FindsRun d next next 1 σ1 σ2 (Some page) → Releases d from free σ2 σ3 → Sought d k page page (page + 1) σ σ3
+  pub seek_jump : {σ2 σ3 : Standing} → CanCall σ (MayFind d) → (page : ℕ) → page ≢ next → next < from + (k + 2) → FindsRun d next next 1 σ1 σ2 (Some page)
+      → Releases d from free σ2 σ3 → Sought d k page page (page + 1) σ σ3
   seek_jump can page other short find r =
       let ys = find.steps in let rs = r.steps in let run = subst (λ x. IsFirstRun x d next next 1 ys page) same find.outcome in
       let calls = released (looked find) r in let order = so.order.1 in let first = so.order.0 in let region = run.of_region in let past = run.from_there in let low = so.low in record {
         steps = rs ++ (ys ++ xs);
         adds = calls.adds;
         got = record { from = λ v met agreed. span_of_none d page (calls.leads.from v met agreed) };
-        shows = shows_both f rs (ys ++ xs) (λ n v agreed. let none = ap (λ es. length es) (no_events giving_back refl n v rs r.kinds) in let stays = unknown_stays f rs v agreed in omega (arith, none, stays)) (looked_shows find);
+        shows = shows_both f rs (ys ++ xs) (λ n v agreed. let none = ap (λ es. length es) (no_events giving_back refl n v rs r.kinds) in let stays = unknown_no_more f rs v agreed in omega (arith, none, stays)) (looked_shows find);
         lacks = λ p out. r.lacks (ys ++ xs) p (λ out. looked_lacks find p out);
         kinds = only_both seeking rs (ys ++ xs) (only_within giving_back seeking rs refl r.kinds) (looked_kinds find);
         rise = rise_later giving_back free rs (ys ++ xs) refl r.kinds (looked_below find) (looked_rise find);
@@ -365,7 +378,9 @@ module _ {σ σ1 : Standing} (d : Directory) (k from free next : ℕ) (so : Soug
     all_usable : (b : List Made) → AllUsable d (k + 2) from (b ++ xs)
     all_usable b p is = usable_later d p b xs (so.usable p is.0 (omega (arith, is.1, whole)))
 
-    pub can_claim : (spare spare1 : ℕ) → CanCall σ (FindRoom f d 1 spare) → Spares σ spare → Spares σ1 spare1 → CanCall σ1 (HasRunRoom σ1.seat.profile d free next 1 spare1)
+    -- Once a run has all its pages read as usable, those that aren't held may be claimed.
+    pub can_claim : (spare spare1 : ℕ) → CanCall σ (FindRoom f d 1 spare) → Spares σ spare → Spares σ1 spare1
+        → CanCall σ1 (HasRunRoom σ1.seat.profile d free next 1 spare1)
     can_claim spare spare1 can law law1 =
         let may = may_find can in let met = can.met.may in
         let agreed = so.adds.agreed may.view may.whole may.stood met in record {
@@ -410,7 +425,8 @@ module _ {σ σ1 : Standing} (d : Directory) (k from free next : ℕ) (so : Soug
       claim_steady v met agreed p whole g at = search (arith, agreed_later, steady_both, out_later, held_apart)
 
       -- deeds of the claim are of the run, and those before of it or of one that failed
-      claim_deeds : (v : View) (met : MayFind d v) → Agreed f v (zs ++ xs) → (P : ℕ → Type 0) → P from → ((s : ℕ) → s < from → HasFailedOnce v d k s xs → P s) → DeedsOf d (k + 2) P (zs ++ xs)
+      claim_deeds : (v : View) (met : MayFind d v) → Agreed f v (zs ++ xs) → (P : ℕ → Type 0) → P from → ((s : ℕ) → s < from → HasFailedOnce v d k s xs → P s)
+          → DeedsOf d (k + 2) P (zs ++ xs)
       claim_deeds v met agreed P its more = always_both (λ m before. (p : ℕ) (e : Directory) → m.step ≡ Deed p e → m.answer ≡ 0 → (e ≡ d) × (free ≤ p) × (p < next)) (DeedOf d (k + 2) P) zs xs
           (λ m before h p e is z. let at = h p e is z in (at.0, (from, (omega (arith, at.1, so.order.0), omega (arith, at.2, whole)), all_usable before, its)))
           claim.made (deeds_map d (k + 2) (λ s. ((s ≡ from) × (free ≡ from + (k + 2))) ⊎ ((s < from) × HasFailedOnce v d k s xs)) P xs (λ s h. elim h [ inl full ↦ subst P (sym full.0) its | inr failed ↦ more s failed.0 failed.1 ]) (so.deeds v met (agreed_later f v zs xs agreed)))
@@ -433,6 +449,7 @@ module _ {σ σ1 : Standing} (d : Directory) (k from free next : ℕ) (so : Soug
         };
       }
 
+      -- After a claim that failed, the pages that were held of the run may be released.
       pub can_release_lost : CanCall σ (MayFind d) → CanCall σ2 (HasPages d from free)
       can_release_lost can = can_release lost_call can
 
@@ -456,13 +473,14 @@ module _ {σ σ1 : Standing} (d : Directory) (k from free next : ℕ) (so : Soug
         run_failed = once_earlier (λ m b. LostHere d page m (b ++ xs) ⊎ BrokenHere page m (b ++ xs)) (FailsHere d (k + 2) from) ws xs
             (λ m b x. (all_usable b, (page, (omega (arith, so.order.0, fails.in_run.0), omega (arith, fails.in_run.1, whole)), x))) failing
 
+      -- After a claim that failed at a page, and the others were released, the search goes on past it.
       pub seek_lost : {σ3 : Standing} → CanCall σ (MayFind d) → Releases d from free σ2 σ3 → Sought d k (page + 1) (page + 1) next σ σ3
       seek_lost can r =
           let rs = r.steps in let calls = released lost_call r in let low = so.low in let first = so.order.0 in let ge = fails.in_run.0 in let lt = fails.in_run.1 in record {
             steps = rs ++ (ws ++ xs);
             adds = calls.adds;
             got = record { from = λ v met agreed. span_of_none d (page + 1) (calls.leads.from v met agreed) };
-            shows = shows_both f rs (ws ++ xs) (λ n v agreed. let none = ap (λ es. length es) (no_events giving_back refl n v rs r.kinds) in let stays = unknown_stays f rs v agreed in omega (arith, none, stays)) (claim_shows claim);
+            shows = shows_both f rs (ws ++ xs) (λ n v agreed. let none = ap (λ es. length es) (no_events giving_back refl n v rs r.kinds) in let stays = unknown_no_more f rs v agreed in omega (arith, none, stays)) (claim_shows claim);
             lacks = λ p out. r.lacks (ws ++ xs) p (λ out. lost_lacks p out);
             kinds = only_both seeking rs (ws ++ xs) (only_within giving_back seeking rs refl r.kinds) (claim_kinds claim);
             rise = rise_later giving_back (page + 1) rs (ws ++ xs) refl r.kinds lost_below (claim_rise claim);
@@ -527,11 +545,13 @@ module _ {σ σ1 : Standing} (d : Directory) (k from free next : ℕ) (so : Soug
 abbrev HeldRun : View → Directory → ℕ → ℕ → List Made → Type 0
 HeldRun v d k first before = AllUsable d (k + 2) first before × HoldsRunWhole v k first before
 
+-- Whatever a search did, its desk may make a step that asks nothing of the view.
 pub anything_goes : {σ σ1 : Standing} (d : Directory) (k from next : ℕ) → Sought d k from next next σ σ1 → CanCall σ (MayFind d) → CanCall σ1 AnyView
 anything_goes d k from next so can = record { view = so.steps ++ can.view; whole = _; stood = so.adds.added can.view can.whole can.stood can.met; met = tt }
 
 -- ---- the whole run is held, and its outer pages are looked at
-module _ {σ σ1 σ2 : Standing} (d : Directory) (k from next high : ℕ) (whole : next ≡ from + (k + 2)) (last : high + 1 ≡ next) (so : Sought d k from next next σ σ1) {bare : Bool} (looks : LooksBacked from high σ1 σ2 bare) where
+module _ {σ σ1 σ2 : Standing} (d : Directory) (k from next high : ℕ) (whole : next ≡ from + (k + 2)) (last : high + 1 ≡ next)
+    (so : Sought d k from next next σ σ1) {bare : Bool} (looks : LooksBacked from high σ1 σ2 bare) where
   abbrev g_ : Profile
   g_ = σ.seat.profile
 
@@ -553,7 +573,7 @@ module _ {σ σ1 σ2 : Standing} (d : Directory) (k from next high : ℕ) (whole
       (λ v met has. tt) (λ v met has kept. span_then d from next has kept.0 kept.1)
 
   look_shows : OnlyDeedsShow g_ (ls ++ us)
-  look_shows = shows_both g_ ls us (λ n v agreed. let none = ap (λ es. length es) (no_events backed_looks refl n v ls looks.kinds) in let stays = unknown_stays g_ ls v agreed in omega (arith, none, stays)) so.shows
+  look_shows = shows_both g_ ls us (λ n v agreed. let none = ap (λ es. length es) (no_events backed_looks refl n v ls looks.kinds) in let stays = unknown_no_more g_ ls v agreed in omega (arith, none, stays)) so.shows
 
   look_kinds : Only seeking (ls ++ us)
   look_kinds = only_both seeking ls us (only_within backed_looks seeking ls refl looks.kinds) so.kinds
@@ -586,11 +606,13 @@ module _ {σ σ1 σ2 : Standing} (d : Directory) (k from next high : ℕ) (whole
   look_bad : (v : View) (met : MayFind d v) → Agreed g_ v (ls ++ us) → (s : ℕ) → 1 ≤ s → s < from → IsBad v d k s (ls ++ us)
   look_bad v met agreed s low lt = bad_more v d k s ls us (so.bad v met (agreed_later g_ v ls us agreed) s low lt)
 
-  look_deeds : (v : View) (met : MayFind d v) → Agreed g_ v (ls ++ us) → (P : ℕ → Type 0) → P from → ((s : ℕ) → s < from → HasFailedOnce v d k s us → P s) → DeedsOf d (k + 2) P (ls ++ us)
+  look_deeds : (v : View) (met : MayFind d v) → Agreed g_ v (ls ++ us) → (P : ℕ → Type 0) → P from → ((s : ℕ) → s < from → HasFailedOnce v d k s us → P s)
+      → DeedsOf d (k + 2) P (ls ++ us)
   look_deeds v met agreed P its more = deeds_none backed_looks d (k + 2) P ls us refl looks.kinds
       (deeds_map d (k + 2) (λ s. ((s ≡ from) × (next ≡ from + (k + 2))) ⊎ ((s < from) × HasFailedOnce v d k s us)) P us (λ s h. elim h [ inl run ↦ subst P (sym run.0) its | inr failed ↦ more s failed.0 failed.1 ]) (so.deeds v met (agreed_later g_ v ls us agreed)))
 
-module _ {σ σ1 σ2 : Standing} (d : Directory) (k from next high : ℕ) (whole : next ≡ from + (k + 2)) (last : high + 1 ≡ next) (so : Sought d k from next next σ σ1) where
+module _ {σ σ1 σ2 : Standing} (d : Directory) (k from next high : ℕ) (whole : next ≡ from + (k + 2)) (last : high + 1 ≡ next)
+    (so : Sought d k from next next σ σ1) where
   -- neither is backed
   pub seek_found : LooksBacked from high σ1 σ2 true → Seeks d k σ σ2 (Some from)
   seek_found looks =
@@ -647,9 +669,11 @@ module _ {σ σ1 σ2 : Standing} (d : Directory) (k from next high : ℕ) (whole
     slide_may : (v : View) → MayFind d v → HasSpan d from next v ((ls_ ++ us_) ++ v) → MayPutAndLeave from d (masked from full) ((ls_ ++ us_) ++ v)
     slide_may v met span = subst (MayPutAndLeave from d (masked from full)) (sym (append_assoc ls_ us_ v)) (may_slide v met (subst (HasSpan d from next v) (append_assoc ls_ us_ v) span))
 
+    -- After the looks at the outer pages of a run, its first page may be put back and left.
     pub can_slide : CanCall σ (MayFind d) → CanCall σ2 (MayPutAndLeave from d (masked from full))
     can_slide can = next_call (look_call d k from next high whole last so looks) can slide_may
 
+    -- After its first page was left, the run slides one page on.
     pub seek_slide : {σ3 : Standing} → CanCall σ (MayFind d) → PutsAndLeaves from d full σ2 σ3 → Sought d k (from + 1) next next σ σ3
     seek_slide can h =
         let f = σ.seat.profile in let ps = h.after ++ h.puts in let call = look_call d k from next high whole last so looks in let left = leads_at call.adds.seat_is h.calls.leads in record {
@@ -660,7 +684,7 @@ module _ {σ σ1 σ2 : Standing} (d : Directory) (k from next high : ℕ) (whole
                 let before = agreed_later f v ps (ls_ ++ us_) agreed in let after = agreed_first f v ps (ls_ ++ us_) agreed in let span = call.leads.from v met before in
                 subst (HasSpan d (from + 1) next v) (sym (append_assoc ps (ls_ ++ us_) v)) (span_slid d from next (omega (arith, whole)) span (left.from ((ls_ ++ us_) ++ v) (slide_may v met span) after) (λ p knows. knows_still f d p ps ((ls_ ++ us_) ++ v) after knows));
           };
-          shows = shows_both f ps (ls_ ++ us_) (λ n v agreed. let none = ap (λ es. length es) (no_events giving_back refl n v ps h.kinds) in let stays = unknown_stays f ps v agreed in omega (arith, none, stays)) (look_shows d k from next high whole last so looks);
+          shows = shows_both f ps (ls_ ++ us_) (λ n v agreed. let none = ap (λ es. length es) (no_events giving_back refl n v ps h.kinds) in let stays = unknown_no_more f ps v agreed in omega (arith, none, stays)) (look_shows d k from next high whole last so looks);
           lacks = λ p out. elim (cases_eq p from) [
             | inl e ↦ ap (has_right (ps ++ (ls_ ++ us_))) e ∙ h.lacks (ls_ ++ us_)
             | inr ne ↦ right_on from p ps (ls_ ++ us_) h.on ne ∙ look_lacks d k from next high whole last so looks p (but_first from next p ne ∙ out)
@@ -695,14 +719,19 @@ module _ {σ σ1 σ2 : Standing} (d : Directory) (k from next high : ℕ) (whole
 abbrev look_at : ℕ → ℕ → Made
 look_at page a = made (Look (Word.Backed page)) a
 
+-- A low page that was read as backed shows that the run can't be guarded.
 pub looks_low : {σ σ1 : Standing} (low high a : ℕ) → a ≢ 0 → Makes σ σ1 (Look (Word.Backed low)) a → LooksBacked low high σ σ1 false
 looks_low low high a some makes = record { steps = look_at low a ∷ []; adds = adds_step {step = Look (Word.Backed low)} adds_none makes (λ v l stood met. tt); kinds = (refl, tt); few = omega arith; outcome = inl (inl (refl, some)) }
 
 two_reads : (low high a b : ℕ) → a ≡ 0 → (bare : Bool) → (b == 0) ≡ bare
-    → MatchBool bare (Once (ZeroBackedHere low) (look_at high b ∷ look_at low a ∷ []) × Once (ZeroBackedHere high) (look_at high b ∷ look_at low a ∷ [])) (Once (SomeBackedHere low) (look_at high b ∷ look_at low a ∷ []) ⊎ Once (SomeBackedHere high) (look_at high b ∷ look_at low a ∷ []))
+    → MatchBool bare (Once (ZeroBackedHere low) (look_at high b ∷ look_at low a ∷ [])
+        × Once (ZeroBackedHere high) (look_at high b ∷ look_at low a ∷ [])) (Once (SomeBackedHere low) (look_at high b ∷ look_at low a ∷ [])
+          ⊎ Once (SomeBackedHere high) (look_at high b ∷ look_at low a ∷ []))
 two_reads low high a b bare h is = search (arith, eqb-true, true≢false, eq-eqb)
 
-pub looks_both : {σ σ1 σ2 : Standing} (low high a b : ℕ) (bare : Bool) → a ≡ 0 → (b == 0) ≡ bare → Makes σ σ1 (Look (Word.Backed low)) a → Makes σ1 σ2 (Look (Word.Backed high)) b → LooksBacked low high σ σ2 bare
+-- The backed words of both outer pages show whether the run can be guarded, where the low one is 0.
+pub looks_both : {σ σ1 σ2 : Standing} (low high a b : ℕ) (bare : Bool) → a ≡ 0 → (b == 0) ≡ bare → Makes σ σ1 (Look (Word.Backed low)) a
+    → Makes σ1 σ2 (Look (Word.Backed high)) b → LooksBacked low high σ σ2 bare
 looks_both low high a b bare zero is first second = record {
   steps = look_at high b ∷ look_at low a ∷ [];
   adds = adds_step {step = Look (Word.Backed high)} (adds_step {step = Look (Word.Backed low)} adds_none first (λ v l stood met. tt)) second (λ v l stood met. tt);

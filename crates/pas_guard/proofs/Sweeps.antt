@@ -47,7 +47,8 @@ each_split : (P : Guard → Type 0) (ks rs : List Guard) (g : Guard) → Each P 
 each_split P [] rs g h = h
 each_split P (k ∷ ks) rs g h = let rest = each_split P ks rs g h.1 in (rest.0, (h.0, rest.1))
 
-apart_split : (ks rs : List Guard) (g : Guard) → AreApart (ks ++ g ∷ rs) → AreApart (ks ++ rs) × (is_outer (ks ++ rs) g.low ≡ false) × (is_outer (ks ++ rs) g.high ≡ false)
+apart_split : (ks rs : List Guard) (g : Guard) → AreApart (ks ++ g ∷ rs)
+    → AreApart (ks ++ rs) × (is_outer (ks ++ rs) g.low ≡ false) × (is_outer (ks ++ rs) g.high ≡ false)
 apart_split [] rs g h = (h.2, h.0, h.1)
 apart_split (k ∷ ks) rs g h =
     let rest = apart_split ks rs g h.2 in
@@ -67,7 +68,8 @@ held_less : (t rest : Bool) → (t ≡ true → rest ≡ false) → now (if t th
 held_less true rest none = sym (none refl)
 held_less false rest none = refl
 
-fits_less : (f : Profile) (ks rs : List Guard) (g : Guard) (v w : View) → FitsBook f (ks ++ g ∷ rs) v → Does (lowered g) v w → ((q : ℕ) → has_right w q ≡ has_right v q) → ((p h : ℕ) → KnowsDeed p (large_directory h) v → KnowsDeed p (large_directory h) w) → FitsBook f (ks ++ rs) w
+fits_less : (f : Profile) (ks rs : List Guard) (g : Guard) (v w : View) → FitsBook f (ks ++ g ∷ rs) v → Does (lowered g) v w
+    → ((q : ℕ) → has_right w q ≡ has_right v q) → ((p h : ℕ) → KnowsDeed p (large_directory h) v → KnowsDeed p (large_directory h) w) → FitsBook f (ks ++ rs) w
 fits_less f ks rs g v w fits does rights knows = record {
   apart = (apart_split ks rs g fits.apart).0;
   of_region = (each_split (IsGuardOf f) ks rs g fits.of_region).1;
@@ -81,12 +83,15 @@ may_lower : (f : Profile) (ks rs : List Guard) (g : Guard) (v : View) → FitsBo
 may_lower f ks rs g v fits = search (arith, each_split, outer_split)
 
 -- ---- the sweep, a guard more at the end
-joined_one : (t : Bool) (k : ℕ) (g : Guard) (first : List Made) (kept after more : List Guard) (said left : List Record) (r : List Record) → SweptOne t k g first kept after said left → SweptOne t k g first (kept ++ more) (after ++ more) (said ++ r) (left ++ r)
+joined_one : (t : Bool) (k : ℕ) (g : Guard) (first : List Made) (kept after more : List Guard) (said left : List Record) (r : List Record)
+    → SweptOne t k g first kept after said left → SweptOne t k g first (kept ++ more) (after ++ more) (said ++ r) (left ++ r)
 joined_one true k g first kept after more said left r h = (h.0, ap (λ x. x ++ more) h.1, ap (λ x. x ++ r) h.2)
 joined_one false k g first kept after more said left r h = (h.0, ap (λ x. x ++ more) h.1, ap (λ x. x ++ r) h.2)
 
-swept_more : (all : Bool) (k : ℕ) (ps kept : List Guard) (said : List Record) (xs : List Made) (g : Guard) (word : ℕ) (first : List Made) (mine : List Guard) (mine_said : List Record)
-    → Swept all k ps kept said xs → SweptOne (all || is_over g word) k g first mine [] mine_said [] → Swept all k (ps ++ g ∷ []) (kept ++ mine) (said ++ mine_said) ((first ++ life_look g word) ++ xs)
+swept_more : (all : Bool) (k : ℕ) (ps kept : List Guard) (said : List Record) (xs : List Made) (g : Guard) (word : ℕ) (first : List Made) (mine : List Guard)
+    (mine_said : List Record)
+    → Swept all k ps kept said xs → SweptOne (all || is_over g word) k g first mine [] mine_said []
+    → Swept all k (ps ++ g ∷ []) (kept ++ mine) (said ++ mine_said) ((first ++ life_look g word) ++ xs)
 swept_more all k [] kept said xs g word first mine mine_said h one = (
   word,
   first,
@@ -110,20 +115,24 @@ swept_more all k (p ∷ ps) kept said xs g word first mine mine_said h one =
     )
 
 -- ---- what its steps are, and how many
-one_kinds : (t : Bool) (k : ℕ) (guard : Guard) (first : List Made) (kept after : List Guard) (said more : List Record) → SweptOne t k guard first kept after said more → Only sweeping first
+one_kinds : (t : Bool) (k : ℕ) (guard : Guard) (first : List Made) (kept after : List Guard) (said more : List Record)
+    → SweptOne t k guard first kept after said more → Only sweeping first
 one_kinds true k guard first kept after said more h = let low = h.0 in only_within giving_back sweeping first refl low.kinds
 one_kinds false k guard first kept after said more h = subst (Only sweeping) (sym h.0) tt
 
-one_few : (t : Bool) (k : ℕ) (guard : Guard) (first : List Made) (kept after : List Guard) (said more : List Record) → SweptOne t k guard first kept after said more → length first ≤ 24
+one_few : (t : Bool) (k : ℕ) (guard : Guard) (first : List Made) (kept after : List Guard) (said more : List Record)
+    → SweptOne t k guard first kept after said more → length first ≤ 24
 one_few true k guard first kept after said more h = let low = h.0 in low.few
 one_few false k guard first kept after said more h = let none = ap (λ (xs : List Made). length xs) h.0 in omega (arith, none)
 
-swept_kinds : (all : Bool) (k : ℕ) (guards kept : List Guard) (said : List Record) (steps : List Made) → Swept all k guards kept said steps → Only sweeping steps
+swept_kinds : (all : Bool) (k : ℕ) (guards kept : List Guard) (said : List Record) (steps : List Made) → Swept all k guards kept said steps
+    → Only sweeping steps
 swept_kinds all k [] kept said steps h = subst (Only sweeping) (sym h.2) tt
 swept_kinds all k (guard ∷ guards) kept said steps h = subst (Only sweeping) (sym h.7) (only_both sweeping h.2 (h.1 ++ life_look guard h.0) (swept_kinds all k guards h.3 h.4 h.2 h.6)
     (only_both sweeping h.1 (life_look guard h.0) (one_kinds (all || is_over guard h.0) k guard h.1 kept h.3 said h.4 h.5) (refl, tt)))
 
-swept_few : (all : Bool) (k : ℕ) (guards kept : List Guard) (said : List Record) (steps : List Made) → Swept all k guards kept said steps → length steps ≤ 25 * length guards
+swept_few : (all : Bool) (k : ℕ) (guards kept : List Guard) (said : List Record) (steps : List Made) → Swept all k guards kept said steps
+    → length steps ≤ 25 * length guards
 swept_few all k [] kept said steps h = let none = ap (λ (xs : List Made). length xs) h.2 in omega (arith, none)
 swept_few all k (guard ∷ guards) kept said steps h =
     let one = one_few (all || is_over guard h.0) k guard h.1 kept h.3 said h.4 h.5 in let rest = swept_few all k guards h.3 h.4 h.2 h.6 in
@@ -144,6 +153,7 @@ pub record SweptSoFar (all : Bool) (guards now_up : List Guard) (place : ℕ) (s
   pub swept : Swept all desk.seat.actor done kept more steps
   pub added : said' ≡ said ++ more
 
+-- Before any guard was looked over, none of the book went down.
 pub swept_none : {σ : Standing} (all : Bool) (guards : List Guard) (said : List Record) → SweptSoFar all guards guards 0 said said σ σ
 swept_none all guards said = record { done = []; kept = []; rest = guards; whole = refl; up = refl; at = refl; steps = []; more = []; calls = call_none (λ v met. met); swept = (refl, refl, refl); added = sym (append-nil said) }
 
@@ -152,7 +162,10 @@ no_rest : (kept rest : List Guard) → length (kept ++ rest) ≤ length kept →
 no_rest kept [] le = refl
 no_rest kept (g ∷ rest) le = absurd (let n = length-append kept (g ∷ rest) in omega (arith, n, le))
 
-pub swept_all : {σ σ1 : Standing} (all : Bool) (guards up : List Guard) (place : ℕ) (said said' : List Record) (so : SweptSoFar all guards up place said said' σ σ1) → length up ≤ place → Sweeps all guards up said said' σ σ1
+-- Once all guards that are up were looked over, the book is swept.
+pub swept_all : {σ σ1 : Standing} (all : Bool) (guards up : List Guard) (place : ℕ) (said said' : List Record)
+      (so : SweptSoFar all guards up place said said' σ σ1)
+    → length up ≤ place → Sweeps all guards up said said' σ σ1
 swept_all {σ} all guards up place said said' so le =
     let none = no_rest so.kept so.rest (let e = ap (λ (xs : List Guard). length xs) so.up in omega (arith, e, so.at, le)) in
     let done : guards ≡ so.done = so.whole ∙ ap (λ xs. so.done ++ xs) none ∙ append-nil so.done in
@@ -170,12 +183,14 @@ pub record NextGuard (up kept rest : List Guard) (guard : Guard) : Type 0 where
   pub later : List Guard
   pub rest_is : rest ≡ guard ∷ later
 
-next_guard : (kept rest up : List Guard) (place : ℕ) (d : Guard) → up ≡ kept ++ rest → length kept ≡ place → place < length up → NextGuard up kept rest (slice_index_or up place d)
+next_guard : (kept rest up : List Guard) (place : ℕ) (d : Guard) → up ≡ kept ++ rest → length kept ≡ place → place < length up
+    → NextGuard up kept rest (slice_index_or up place d)
 next_guard kept [] up place d is at lt = absurd (let e = ap (λ (xs : List Guard). length xs) (is ∙ append-nil kept) in omega (arith, e, at, lt))
 next_guard kept (g ∷ rest) up place d is at lt =
     record { later = rest; rest_is = ap (λ x. x ∷ rest) (sym (ap (λ n. slice_index_or up n d) (sym at) ∙ ap (λ xs. slice_index_or xs (length kept) d) is ∙ at_place kept rest g d)) }
 
-module _ {σ σ1 : Standing} (all : Bool) (guards up : List Guard) (place : ℕ) (said said' : List Record) (so : SweptSoFar all guards up place said said' σ σ1) (guard : Guard) (later : List Guard) (rest_is : so.rest ≡ guard ∷ later) where
+module _ {σ σ1 : Standing} (all : Bool) (guards up : List Guard) (place : ℕ) (said said' : List Record) (so : SweptSoFar all guards up place said said' σ σ1)
+    (guard : Guard) (later : List Guard) (rest_is : so.rest ≡ guard ∷ later) where
   abbrev f : Profile
   f = σ.seat.profile
 
@@ -242,7 +257,8 @@ module _ {σ σ1 : Standing} (all : Bool) (guards up : List Guard) (place : ℕ)
       met_low : (v : View) → FitsBook f up ((ls ++ so.steps) ++ v) → MayLower f guard ((ls ++ so.steps) ++ v)
       met_low v fits = may_lower f so.kept later guard ((ls ++ so.steps) ++ v) (fits_split ((ls ++ so.steps) ++ v) fits)
 
-      goes_down : (up' : List Guard) (said'' : List Record) → up' ≡ remove up place → said'' ≡ said' ++ lowered_record σ.seat.actor guard ∷ [] → SweptSoFar all guards up' place said said'' σ σ3
+      goes_down : (up' : List Guard) (said'' : List Record) → up' ≡ remove up place → said'' ≡ said' ++ lowered_record σ.seat.actor guard ∷ []
+          → SweptSoFar all guards up' place said said'' σ σ3
       goes_down up' said'' out pushed =
           let test : (all || is_over guard look.word) ≡ true = sym look.down_is ∙ falls in
           let less : up' ≡ so.kept ++ later = out ∙ ap (λ n. remove up n) (sym so.at) ∙ ap (λ xs. remove xs (length so.kept)) up_is ∙ taken_out so.kept later guard in
@@ -270,7 +286,8 @@ module _ {σ σ1 : Standing} (all : Bool) (guards up : List Guard) (place : ℕ)
           }
 
 -- ---- the guard at the place, as it was read
-module _ {σ σ1 : Standing} (all : Bool) (guards up : List Guard) (place : ℕ) (said said' : List Record) (so : SweptSoFar all guards up place said said' σ σ1) (guard d : Guard) (read : guard ≡ slice_index_or up place d) (lt : place < length up) where
+module _ {σ σ1 : Standing} (all : Bool) (guards up : List Guard) (place : ℕ) (said said' : List Record) (so : SweptSoFar all guards up place said said' σ σ1)
+    (guard d : Guard) (read : guard ≡ slice_index_or up place d) (lt : place < length up) where
   next : NextGuard up so.kept so.rest guard
   next = subst (NextGuard up so.kept so.rest) (sym read) (next_guard so.kept so.rest up place d so.up so.at lt)
 
@@ -281,19 +298,25 @@ module _ {σ σ1 : Standing} (all : Bool) (guards up : List Guard) (place : ℕ)
       let its = each_split (IsGuardOf σ.seat.profile) so.kept next.later guard (fits_split all guards up place said said' so guard next.later next.rest_is (so.steps ++ can.view) fits).of_region in
       subst (λ (s : Seat). IsPage s.profile (address_of guard.block.name / 4096)) (sym so.calls.adds.seat_is) its.0.block
 
+  -- A keeper that fits its book may look over the next guard.
   pub may_look : CanCall σ (FitsBook σ.seat.profile guards) → CanCall σ1 AnyView
   may_look can = record { view = so.steps ++ can.view; whole = _; stood = so.calls.adds.added can.view can.whole can.stood can.met; met = tt }
 
   module _ {σ2 : Standing} {down : Bool} (look : LooksOver all guard σ1 σ2 down) where
+    -- After the look over a guard, it may be lowered.
     pub can_lower_it : CanCall σ (FitsBook σ.seat.profile guards) → CanCall σ2 (MayLower σ2.seat.profile guard)
     can_lower_it can = can_lower all guards up place said said' so guard next.later next.rest_is look can
 
+    -- A guard that stays up is looked over, and the sweep goes on with the next one.
     pub it_stays : down ≡ false → SweptSoFar all guards up (place + 1) said said' σ σ2
     it_stays stays = stays_up all guards up place said said' so guard next.later next.rest_is look stays
 
-    pub it_goes : {σ3 : Standing} → down ≡ true → Lowers guard σ2 σ3 → (up' : List Guard) (said'' : List Record) → up' ≡ remove up place → said'' ≡ said' ++ lowered_record σ.seat.actor guard ∷ [] → SweptSoFar all guards up' place said said'' σ σ3
+    -- A guard that was lowered is taken out of the book, and its line is said.
+    pub it_goes : {σ3 : Standing} → down ≡ true → Lowers guard σ2 σ3 → (up' : List Guard) (said'' : List Record) → up' ≡ remove up place
+        → said'' ≡ said' ++ lowered_record σ.seat.actor guard ∷ [] → SweptSoFar all guards up' place said said'' σ σ3
     it_goes falls low up' said'' out pushed = goes_down all guards up place said said' so guard next.later next.rest_is look falls low up' said'' out pushed
 
+  -- A guard that was taken out of the book leaves one fewer up.
   pub one_less : (up' : List Guard) → up' ≡ remove up place → length up' + 1 ≡ length up
   one_less up' out =
       let split = so.up ∙ ap (λ xs. so.kept ++ xs) next.rest_is in
@@ -306,7 +329,8 @@ mine_not : (mine other : Bool) → other ≡ true → (mine ≡ true → other �
 mine_not mine other is not = search (arith, true≢false)
 
 -- steps of a sweep are on pages of guards that go down
-one_steady : (t : Bool) (k : ℕ) (guard : Guard) (first : List Made) (kept after : List Guard) (said more : List Record) (g : ℕ) → SweptOne t k guard first kept after said more → is_outer_of guard (g / 256) ≡ false → StaysPut g first
+one_steady : (t : Bool) (k : ℕ) (guard : Guard) (first : List Made) (kept after : List Guard) (said more : List Record) (g : ℕ)
+    → SweptOne t k guard first kept after said more → is_outer_of guard (g / 256) ≡ false → StaysPut g first
 one_steady true k guard first kept after said more g h out =
     let parts = or_parts (guard.low == g / 256) (guard.high == g / 256) out in let low = h.0 in
     subst (StaysPut g) (sym low.steps_are) (steady_both g low.high low.low
@@ -315,30 +339,37 @@ one_steady true k guard first kept after said more g h out =
 one_steady false k guard first kept after said more g h out = subst (StaysPut g) (sym h.0) tt
 
 -- the steps of one guard and of those after it
-piece_steady : (guard : Guard) (word : ℕ) (first rest steps : List Made) (g : ℕ) → steps ≡ rest ++ (first ++ life_look guard word) → StaysPut g first → StaysPut g rest → StaysPut g steps
+piece_steady : (guard : Guard) (word : ℕ) (first rest steps : List Made) (g : ℕ) → steps ≡ rest ++ (first ++ life_look guard word) → StaysPut g first
+    → StaysPut g rest → StaysPut g steps
 piece_steady guard word first rest steps g is one more = subst (StaysPut g) (sym is) (steady_both g rest (first ++ life_look guard word) more (steady_both g first (life_look guard word) one (refl, tt)))
 
-none_steady : (all : Bool) (k : ℕ) (guards kept : List Guard) (said : List Record) (steps : List Made) (g : ℕ) → Swept all k guards kept said steps → is_outer guards (g / 256) ≡ false → StaysPut g steps
+none_steady : (all : Bool) (k : ℕ) (guards kept : List Guard) (said : List Record) (steps : List Made) (g : ℕ) → Swept all k guards kept said steps
+    → is_outer guards (g / 256) ≡ false → StaysPut g steps
 none_steady all k [] kept said steps g h out = subst (StaysPut g) (sym h.2) tt
 none_steady all k (guard ∷ guards) kept said steps g h out =
     let parts = or_parts (is_outer_of guard (g / 256)) (is_outer guards (g / 256)) out in
     piece_steady guard h.0 h.1 h.2 steps g h.7 (one_steady (all || is_over guard h.0) k guard h.1 kept h.3 said h.4 g h.5 parts.0) (none_steady all k guards h.3 h.4 h.2 g h.6 parts.1)
 
 -- those that stay up are of those that were
-one_among : (t : Bool) (k : ℕ) (guard : Guard) (first : List Made) (kept after : List Guard) (said more : List Record) (p : ℕ) → SweptOne t k guard first kept after said more → is_outer kept p ≡ true → ((t ≡ false) × (is_outer_of guard p ≡ true)) ⊎ (is_outer after p ≡ true)
+one_among : (t : Bool) (k : ℕ) (guard : Guard) (first : List Made) (kept after : List Guard) (said more : List Record) (p : ℕ)
+    → SweptOne t k guard first kept after said more → is_outer kept p ≡ true → ((t ≡ false) × (is_outer_of guard p ≡ true)) ⊎ (is_outer after p ≡ true)
 one_among t k guard first kept after said more p h is = search (arith, cases_Bool)
 
-among : (all : Bool) (k : ℕ) (guards kept : List Guard) (said : List Record) (steps : List Made) (p : ℕ) → Swept all k guards kept said steps → is_outer kept p ≡ true → is_outer guards p ≡ true
+among : (all : Bool) (k : ℕ) (guards kept : List Guard) (said : List Record) (steps : List Made) (p : ℕ) → Swept all k guards kept said steps
+    → is_outer kept p ≡ true → is_outer guards p ≡ true
 among all k [] kept said steps p h is = absurd (true≢false (sym is ∙ ap (λ xs. is_outer xs p) h.0))
 among all k (guard ∷ guards) kept said steps p h is = elim (one_among (all || is_over guard h.0) k guard h.1 kept h.3 said h.4 p h.5 is) [
   | inl mine ↦ ap (λ t. t || is_outer guards p) mine.1
   | inr after ↦ or_right (is_outer_of guard p) (is_outer guards p) (among all k guards h.3 h.4 h.2 p h.6 after)
 ]
 
-stays_steady : (t : Bool) (k : ℕ) (guard : Guard) (first : List Made) (kept after : List Guard) (said more : List Record) (g : ℕ) → SweptOne t k guard first kept after said more → t ≡ false → StaysPut g first
+stays_steady : (t : Bool) (k : ℕ) (guard : Guard) (first : List Made) (kept after : List Guard) (said more : List Record) (g : ℕ)
+    → SweptOne t k guard first kept after said more → t ≡ false → StaysPut g first
 stays_steady t k guard first kept after said more g h up = search (arith, true≢false)
 
-pub kept_steady : (all : Bool) (k : ℕ) (guards kept : List Guard) (said : List Record) (steps : List Made) → AreApart guards → Swept all k guards kept said steps → (g : ℕ) → is_outer kept (g / 256) ≡ true → StaysPut g steps
+-- A sweep moves no grain of an outer page of a guard that it leaves up.
+pub kept_steady : (all : Bool) (k : ℕ) (guards kept : List Guard) (said : List Record) (steps : List Made) → AreApart guards
+    → Swept all k guards kept said steps → (g : ℕ) → is_outer kept (g / 256) ≡ true → StaysPut g steps
 kept_steady all k [] kept said steps apart h g is = subst (StaysPut g) (sym h.2) tt
 kept_steady all k (guard ∷ guards) kept said steps apart h g is = elim (one_among (all || is_over guard h.0) k guard h.1 kept h.3 said h.4 (g / 256) h.5 is) [
   | inl mine ↦ search (arith, piece_steady, stays_steady, none_steady, not_outer)

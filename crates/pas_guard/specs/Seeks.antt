@@ -26,7 +26,8 @@ pub record LooksBacked (low high : ℕ) (desk desk' : Standing) (bare : Bool) : 
   pub adds : Adds desk desk' AnyView steps
   pub kinds : Only backed_looks steps
   pub few : length steps ≤ 2
-  pub outcome : MatchBool bare (Once (ZeroBackedHere low) steps × Once (ZeroBackedHere high) steps) (Once (SomeBackedHere low) steps ⊎ Once (SomeBackedHere high) steps)
+  pub outcome : MatchBool bare (Once (ZeroBackedHere low) steps
+        × Once (ZeroBackedHere high) steps) (Once (SomeBackedHere low) steps ⊎ Once (SomeBackedHere high) steps)
 
 -- ---- the search
 -- a later step moves no grain of the page and doesn't back it
@@ -53,9 +54,11 @@ pub record SoughtRun (f : Profile) (d : Directory) (k : ℕ) (steps : List Made)
   pub got : Leads f (MayFind d) (HasSpan d first (first + (k + 2))) steps
   pub usable : AllUsable d (k + 2) first steps
   pub taken : (v : View) → MayFind d v → Agreed f v steps → IsTakenRun d (k + 2) first steps
-  pub bare : (v : View) → MayFind d v → Agreed f v steps → Since (BackedReadHere v first 0) (LeftSince first) steps × Since (BackedReadHere v (first + k + 1) 0) (LeftSince (first + k + 1)) steps
+  pub bare : (v : View) → MayFind d v → Agreed f v steps
+      → Since (BackedReadHere v first 0) (LeftSince first) steps × Since (BackedReadHere v (first + k + 1) 0) (LeftSince (first + k + 1)) steps
   pub lower : (v : View) → MayFind d v → Agreed f v steps → (other : ℕ) → 1 ≤ other → other < first → IsBad v d k other steps
-  pub deeds : (v : View) → MayFind d v → Agreed f v steps → DeedsOf d (k + 2) (λ other. (other ≡ first) ⊎ ((other < first) × HasFailedOnce v d k other steps)) steps
+  pub deeds : (v : View) → MayFind d v → Agreed f v steps
+      → DeedsOf d (k + 2) (λ other. (other ≡ first) ⊎ ((other < first) × HasFailedOnce v d k other steps)) steps
 
 -- No run can be guarded, and all is as it was but for the deeds, each of a page of a run that failed.
 pub record SoughtNone (f : Profile) (d : Directory) (k : ℕ) (steps : List Made) : Type 0 where

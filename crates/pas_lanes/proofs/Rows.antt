@@ -49,10 +49,13 @@ lowest_bit n some fits =
     }
 
 -- ---- rows without a set bit so far
-pub clear_more : (words : List ℕ) (start end : ℕ) → ((k : ℕ) → start ≤ k → k < end → slice_index words k ≡ 0) → IsClearBelow words (64 * start) → IsClearBelow words (64 * end)
+pub clear_more : (words : List ℕ) (start end : ℕ) → ((k : ℕ) → start ≤ k → k < end → slice_index words k ≡ 0) → IsClearBelow words (64 * start)
+    → IsClearBelow words (64 * end)
 clear_more words start end bare clear x h = search (arith, cases_lt, clear_word)
 
-pub lowest_set : (words : List ℕ) (word : ℕ) → WordsFit words → slice_index words word ≢ 0 → IsClearBelow words (64 * word) → IsLowestSet words (64 * word + trailing_zeros w64 (slice_index words word))
+-- The first word that isn't 0 has the lowest set number of its row.
+pub lowest_set : (words : List ℕ) (word : ℕ) → WordsFit words → slice_index words word ≢ 0 → IsClearBelow words (64 * word)
+    → IsLowestSet words (64 * word + trailing_zeros w64 (slice_index words word))
 lowest_set words word fits some clear =
     let low = lowest_bit (slice_index words word) some (fits word) in
     record {
@@ -60,6 +63,7 @@ lowest_set words word fits some clear =
       lowest = search (arith, cases_lt, by_word);
     }
 
+-- A row with a word that isn't 0 has a member.
 pub has_member : (words : List ℕ) (word : ℕ) → WordsFit words → slice_index words word ≢ 0 → HasMember words
 has_member words word fits some =
     let low = lowest_bit (slice_index words word) some (fits word) in
@@ -79,7 +83,9 @@ outside_bit m n b fits h = bit_of_and m (2 ^ 64 - 1 - n) b ∙ ap (λ t. has_bit
 abbrev pub outside : List ℕ → List ℕ → ℕ → ℕ
 outside a b word = bit_and (slice_index a word) (2 ^ 64 - 1 - slice_index b word)
 
-pub within_more : (a b : List ℕ) (start end : ℕ) → WordsFit b → ((k : ℕ) → start ≤ k → k < end → outside a b k ≡ 0) → IsWithinBelow a b (64 * start) → IsWithinBelow a b (64 * end)
+-- A row within another up to one word is so up to a later one where no word between has numbers outside.
+pub within_more : (a b : List ℕ) (start end : ℕ) → WordsFit b → ((k : ℕ) → start ≤ k → k < end → outside a b k ≡ 0) → IsWithinBelow a b (64 * start)
+    → IsWithinBelow a b (64 * end)
 within_more a b start end fits none inside x h is = elim (cases_lt x (64 * start)) [
   | inl lt ↦ inside x lt is
   | inr ge ↦ implied (is_set a x) (is_set b x)
@@ -87,9 +93,11 @@ within_more a b start end fits none inside x h is = elim (cases_lt x (64 * start
       ∙ ap (λ n. has_bit n (x % 64)) (none (x / 64) (omega (arith, ge)) (omega (arith, h))) ∙ none_of_zero (x % 64)) is
 ]
 
+-- A row within another up to one word is so up to the next where that has no numbers outside.
 pub within_one : (a b : List ℕ) (word : ℕ) → WordsFit b → outside a b word ≡ 0 → IsWithinBelow a b (64 * word) → IsWithinBelow a b (64 * (word + 1))
 within_one a b word fits none = within_more a b word (word + 1) fits (λ k le lt. ap (outside a b) (omega (arith, le, lt)) ∙ none)
 
+-- A row with a word that has bits outside another has a member outside it.
 pub has_outside : (a b : List ℕ) (word : ℕ) → WordsFit a → WordsFit b → outside a b word ≢ 0 → HasMemberOutside a b
 has_outside a b word fits_a fits_b some =
     let small = and_le_l (slice_index a word) (2 ^ 64 - 1 - slice_index b word) in
@@ -126,7 +134,9 @@ group_zero words start n none k le lt =
 abbrev pub outside_lanes : List ℕ → List ℕ → List ℕ
 outside_lanes xs ys = zip2 bit_and xs (map (λ y. 2 ^ 64 - 1 - y) ys)
 
-pub group_within : (a b : List ℕ) (start n : ℕ) → start + n ≤ length a → start + n ≤ length b → union 0 (outside_lanes (chunk start n a) (chunk start n b)) ≡ 0 → (k : ℕ) → start ≤ k → k < start + n → outside a b k ≡ 0
+-- A group of words whose lanes have nothing outside has no word with bits outside.
+pub group_within : (a b : List ℕ) (start n : ℕ) → start + n ≤ length a → start + n ≤ length b → union 0 (outside_lanes (chunk start n a) (chunk start n b)) ≡ 0
+    → (k : ℕ) → start ≤ k → k < start + n → outside a b k ≡ 0
 group_within a b start n room_a room_b none k le lt =
     let at : start + (k - start) ≡ k = omega (arith, le) in
     let lane : k - start < n = omega (arith, le, lt) in
@@ -150,10 +160,12 @@ group_within a b start n room_a room_b none k le lt =
 unfoldable pub count_before : List ℕ → ℕ → ℕ
 count_before words word = count_below (64 * word) (is_set words)
 
+-- Before the first word of a row no number is set.
 pub none_before : (words : List ℕ) → count_before words 0 ≡ 0
 unfolding count_before
 none_before words = refl
 
+-- The numbers before a row's end are all that are set in it.
 pub whole_before : (words : List ℕ) → count_before words (length words) ≡ set_count words
 unfolding count_before set_count
 whole_before words = refl
@@ -165,16 +177,19 @@ count_most : (n : ℕ) (p : ℕ → Bool) → count_below n p ≤ n
 count_most zero p = omega arith
 count_most (suc n) p = omega (arith, count_suc n p (p n) refl, choice_most (p n), count_most n p)
 
+-- At most 64 numbers are set in each word before one.
 pub before_most : (words : List ℕ) (word : ℕ) → count_before words word ≤ 64 * word
 unfolding count_before
 before_most words word = count_most (64 * word) (is_set words)
 
+-- At most 64 numbers are set in each word of a row.
 pub set_most : (words : List ℕ) → set_count words ≤ 64 * length words
 unfolding set_count
 set_most words = count_most (64 * length words) (is_set words)
 
 -- ---- one more word
-next_word : (words : List ℕ) (word k : ℕ) → k ≡ 64 → WordsFit words → count_below (k * (word + 1)) (is_set words) ≡ count_below (k * word) (is_set words) + count_ones (slice_index words word)
+next_word : (words : List ℕ) (word k : ℕ) → k ≡ 64 → WordsFit words
+    → count_below (k * (word + 1)) (is_set words) ≡ count_below (k * word) (is_set words) + count_ones (slice_index words word)
 next_word words word k width fits =
     let split : k * (word + 1) ≡ k * word + k = omega arith in
     let here : count_below k (λ b. is_set words (k * word + b)) ≡ count_below k (has_bit (slice_index words word)) =
@@ -182,6 +197,7 @@ next_word words word k width fits =
     let ones = ones_counted k (slice_index words word) (subst (λ n. slice_index words word < 2 ^ n) (sym width) (fits word)) in
     ap (λ n. count_below n (is_set words)) split ∙ omega (arith, count_add (k * word) k (is_set words), here, ones)
 
+-- The numbers before one word more are those before it and its ones.
 pub word_more : (words : List ℕ) (word : ℕ) → WordsFit words → count_before words (word + 1) ≡ count_before words word + count_ones (slice_index words word)
 unfolding count_before
 word_more words word = next_word words word 64 refl
@@ -195,7 +211,9 @@ group_next : (words : List ℕ) (start n : ℕ) → start < length words → chu
 group_next words start n h =
     ap (take (suc n)) (drop-cons words start 0 h) ∙ ap (λ (i : ℕ). slice_index words start ∷ take n (drop i words)) (sym (add-one start))
 
-pub group_more : (words : List ℕ) (start n : ℕ) → start + n ≤ length words → WordsFit words → count_before words (start + n) ≡ count_before words start + sum_l (lane_counts (chunk start n words))
+-- The numbers before a group more are those before it and the sum of its lanes.
+pub group_more : (words : List ℕ) (start n : ℕ) → start + n ≤ length words → WordsFit words
+    → count_before words (start + n) ≡ count_before words start + sum_l (lane_counts (chunk start n words))
 group_more words start zero room fits = ap (count_before words) (add-zero start) ∙ omega arith
 group_more words start (suc n) room fits =
     let first = group_next words start n (omega (arith, room)) in
@@ -204,6 +222,7 @@ group_more words start (suc n) room fits =
     let at : start + suc n ≡ start + 1 + n = omega arith in
     ap (count_before words) at ∙ omega (arith, group_more words (start + 1) n (omega (arith, room)) fits, word, sums)
 
+-- A group has as many counts as words.
 pub length_counts : (words : List ℕ) (start n : ℕ) → start + n ≤ length words → length (lane_counts (chunk start n words)) ≡ n
 length_counts words start n room =
     length-map (map count_ones (chunk start n words)) (λ (x : ℕ). x) ∙ length-map (chunk start n words) count_ones ∙ length-chunk start n words room

@@ -32,9 +32,11 @@ module _ {σ σ1 : Standing} (d : Directory) (n first : ℕ) (tells : Bool) (fin
   has_pages : (v : View) → MayFind d v → GotPages (in_span first (first + n)) d v (find.steps ++ v) → HasPages d first (first + n) (find.steps ++ v)
   has_pages v met got = has_got d first (first + n) met.clear got
 
+  -- After a scan that found a run, its pages are in hand, so that they may be backed.
   pub can_give_run : CanCall σ (MayFind d) → CanCall σ1 (HasPages d first (first + n))
   can_give_run can = next_call found_call can has_pages
 
+  -- After a scan that found a run there is room for the events of its backs and its give.
   pub room_to_give_run : (spare spare1 : ℕ) → CanCall σ (FindRoom σ.seat.profile d (n + 1) spare) → Spares σ spare → Spares σ1 spare1 → n + 1 ≤ spare1
   room_to_give_run spare spare1 can law law1 = let room = room_after {spare = spare} {spare' = spare1} (n + 1) find.adds (may_find can) find.shows can.met.room law law1 in omega (arith, room)
 
@@ -42,13 +44,16 @@ module _ {σ σ1 : Standing} (d : Directory) (n first : ℕ) (tells : Bool) (fin
 scan_kind : (s : Step) → IsScan s → is_in looking (kind_of s) ≡ true
 scan_kind s scans = grind arith
 
+-- Steps that scan are looks alone.
 pub scans_only : (steps : List Made) → OnlyScans steps → Only looking steps
 scans_only steps scans = always_map (λ m before. IsScan m.step) (λ m before. is_in looking (kind_of m.step) ≡ true) steps (λ m before is. scan_kind m.step is) scans
 
 scans_lead : (f : Profile) (steps : List Made) → OnlyScans steps → Leads f AnyView (Does nothing) steps
 scans_lead f steps scans = leads_idly f looking refl steps (scans_only steps scans)
 
-pub allocates : {σ σ1 σ2 : Standing} (heap n first : ℕ) (tells : Bool) (find : Finds (large_directory heap) n tells σ σ1 (Some first)) (block : Block) → GivesRun (large_directory heap) first n block σ1 σ2 → AllocatesByScan heap n tells σ σ2 (Ok block)
+-- A scan that found a run, which was then given, allocates a large block by scan.
+pub allocates : {σ σ1 σ2 : Standing} (heap n first : ℕ) (tells : Bool) (find : Finds (large_directory heap) n tells σ σ1 (Some first)) (block : Block)
+    → GivesRun (large_directory heap) first n block σ1 σ2 → AllocatesByScan heap n tells σ σ2 (Ok block)
 allocates heap n first tells find block give =
     let d = large_directory heap in
     let calls = call_then (GaveLarge d first n block) (found_call d n first tells find) give.calls (has_pages d n first tells find)
@@ -79,7 +84,10 @@ allocates heap n first tells find block give =
       looked = λ why refused. cc;
     }
 
-pub refuses_large : {σ σ1 σ2 : Standing} (heap n : ℕ) (tells : Bool) (find : Finds (large_directory heap) n tells σ σ1 None) (why : NoRoom) → (tells ≡ true → Tells σ2) → (tells ≡ true → (v : View) (l : Whole) → σ.stands v l → part σ.seat.actor l ≡ v) → Refuses (large_directory heap) σ1 σ2 why → AllocatesByScan heap n tells σ σ2 (Err why)
+-- A scan that found no run, and a reason that was looked up, refuse a large request by scan.
+pub refuses_large : {σ σ1 σ2 : Standing} (heap n : ℕ) (tells : Bool) (find : Finds (large_directory heap) n tells σ σ1 None) (why : NoRoom)
+    → (tells ≡ true → Tells σ2) → (tells ≡ true → (v : View) (l : Whole) → σ.stands v l → part σ.seat.actor l ≡ v) → Refuses (large_directory heap) σ1 σ2 why
+    → AllocatesByScan heap n tells σ σ2 (Err why)
 refuses_large {σ} {σ1} heap n tells find why laws parts refused =
     let same : σ1.seat.profile ≡ σ.seat.profile = ap (λ (s : Seat). s.profile) find.adds.seat_is in
     let f : Profile = σ.seat.profile in
@@ -121,17 +129,23 @@ module _ {σ σ1 : Standing} (d : Directory) (n first : ℕ) (found : Option ℕ
   named_pages : (v : View) → MayFind d v → GotPages (in_span first (first + n)) d v (claim.steps ++ v) → HasPages d first (first + n) (claim.steps ++ v)
   named_pages v met got = has_got d first (first + n) met.clear got
 
+  -- After the claim of the run that a door named, its pages are in hand, so that they may be backed.
   pub can_give_named : CanCall σ (MayFind d) → CanCall σ1 (HasPages d first (first + n))
   can_give_named can = next_call named_call can named_pages
 
-pub region_named : {σ σ1 : Standing} (d : Directory) (n first : ℕ) (found : Option ℕ) → ClaimsNamed d n found σ σ1 (Some first) → first + n ≤ σ1.seat.profile.pages + 1
+-- A named run that was claimed is one of the region.
+pub region_named : {σ σ1 : Standing} (d : Directory) (n first : ℕ) (found : Option ℕ) → ClaimsNamed d n found σ σ1 (Some first)
+    → first + n ≤ σ1.seat.profile.pages + 1
 region_named d n first found claim = subst (λ (s : Seat). first + n ≤ s.profile.pages + 1) (sym claim.adds.seat_is) claim.outcome.of_region.1
 
 -- room for so many events is left
-pub room_named : {σ σ1 : Standing} (d : Directory) (n k : ℕ) {found result : Option ℕ} (claim : ClaimsNamed d n found σ σ1 result) (spare spare1 : ℕ) → CanCall σ (FindRoom σ.seat.profile d k spare) → Spares σ spare → Spares σ1 spare1 → k ≤ spare1
+pub room_named : {σ σ1 : Standing} (d : Directory) (n k : ℕ) {found result : Option ℕ} (claim : ClaimsNamed d n found σ σ1 result) (spare spare1 : ℕ)
+    → CanCall σ (FindRoom σ.seat.profile d k spare) → Spares σ spare → Spares σ1 spare1 → k ≤ spare1
 room_named d n k claim spare spare1 can law law1 = let room = room_after {spare = spare} {spare' = spare1} k claim.adds (may_find can) claim.shows can.met.room law law1 in omega (arith, room)
 
-pub can_scan : {σ σ1 : Standing} (d : Directory) (n k : ℕ) {found : Option ℕ} (claim : ClaimsNamed d n found σ σ1 None) (spare spare1 : ℕ) → CanCall σ (FindRoom σ.seat.profile d k spare) → Spares σ spare → Spares σ1 spare1 → CanCall σ1 (FindRoom σ1.seat.profile d k spare1)
+-- After the claim of a named run failed, or where none was named, the scan may begin with its room.
+pub can_scan : {σ σ1 : Standing} (d : Directory) (n k : ℕ) {found : Option ℕ} (claim : ClaimsNamed d n found σ σ1 None) (spare spare1 : ℕ)
+    → CanCall σ (FindRoom σ.seat.profile d k spare) → Spares σ spare → Spares σ1 spare1 → CanCall σ1 (FindRoom σ1.seat.profile d k spare1)
 can_scan {σ} {σ1} d n k claim spare spare1 can law law1 =
     let xs = claim.steps in let met = can.met.may in
     let agreed = claim.adds.agreed can.view can.whole can.stood met in
@@ -146,7 +160,9 @@ can_scan {σ} {σ1} d n k claim spare spare1 can law law1 =
     }
 
 -- in a legal list its pages were whole before these steps
-pub holds_whole : (f : Profile) (k : ℕ) (l : Whole) (d : Directory) (n first : ℕ) (found : Option ℕ) (steps : List Made) → IsValid f → IsKind d.kind → MayFind d (part k l) → Legal f (triples k steps ++ l) → Only claiming_old steps → Always ReturnsDuly steps → GotPages (in_span first (first + n)) d (part k l) (steps ++ part k l)
+pub holds_whole : (f : Profile) (k : ℕ) (l : Whole) (d : Directory) (n first : ℕ) (found : Option ℕ) (steps : List Made) → IsValid f → IsKind d.kind
+    → MayFind d (part k l) → Legal f (triples k steps ++ l) → Only claiming_old steps → Always ReturnsDuly steps
+    → GotPages (in_span first (first + n)) d (part k l) (steps ++ part k l)
     → HoldsNamed f d n found steps first → IsNamedWhole f d n l found first
 holds_whole f k l d n first found steps valid kind met legal old returns got holds = record {
   named = holds.named;
@@ -158,14 +174,19 @@ holds_whole f k l d n first found steps valid kind met legal old returns got hol
       (λ word lt. once_map (TakenWholeHere p word) (WholeHere p word) steps (λ m b h. h.0) (since_once (TakenWholeHere p word) (KeptHere p) steps (holds.holding.whole p word here.0 here.1 lt)));
 }
 
-named_whole : {σ σ1 : Standing} (d : Directory) (n first : ℕ) (found : Option ℕ) (claim : ClaimsNamed d n found σ σ1 (Some first)) → IsValid σ.seat.profile → IsKind d.kind → (v : View) (l : Whole) → part σ.seat.actor l ≡ v → MayFind d v → Agreed σ.seat.profile v claim.steps
+named_whole : {σ σ1 : Standing} (d : Directory) (n first : ℕ) (found : Option ℕ) (claim : ClaimsNamed d n found σ σ1 (Some first)) → IsValid σ.seat.profile
+    → IsKind d.kind → (v : View) (l : Whole) → part σ.seat.actor l ≡ v → MayFind d v → Agreed σ.seat.profile v claim.steps
     → Legal σ.seat.profile (triples σ.seat.actor claim.steps ++ l) → IsNamedWhole σ.seat.profile d n l found first
 named_whole {σ} d n first found claim valid kind v l own met agreed legal =
     holds_whole σ.seat.profile σ.seat.actor l d n first found claim.steps valid kind (subst (MayFind d) (sym own) met) legal claim.old claim.returns
     (subst (λ u. GotPages (in_span first (first + n)) d u (claim.steps ++ u)) (sym own) (claim.outcome.got.from v met agreed)) claim.outcome
 
-pub serves_named : {σ σ1 σ2 : Standing} (heap n first : ℕ) (found : Option ℕ) (tells : Bool) (claim : ClaimsNamed (large_directory heap) n found σ σ1 (Some first)) (block : Block) → IsValid σ.seat.profile → (tells ≡ true → Tells σ2)
-    → (tells ≡ true → (v : View) (l : Whole) → σ.stands v l → part σ.seat.actor l ≡ v) → GivesRun (large_directory heap) first n block σ1 σ2 → AllocatesLarge heap n found tells σ σ2 (Ok block)
+-- A named run that was claimed and then given allocates a large block.
+pub serves_named : {σ σ1 σ2 : Standing} (heap n first : ℕ) (found : Option ℕ) (tells : Bool)
+      (claim : ClaimsNamed (large_directory heap) n found σ σ1 (Some first)) (block : Block)
+    → IsValid σ.seat.profile → (tells ≡ true → Tells σ2)
+    → (tells ≡ true → (v : View) (l : Whole) → σ.stands v l → part σ.seat.actor l ≡ v) → GivesRun (large_directory heap) first n block σ1 σ2
+    → AllocatesLarge heap n found tells σ σ2 (Ok block)
 serves_named {σ} heap n first found tells claim block valid laws parts give =
     let d = large_directory heap in
     let calls = call_then (GaveLarge d first n block) (named_call d n first found claim) give.calls (named_pages d n first found claim)
@@ -228,7 +249,8 @@ module _ {σ σ1 : Standing} (heap n : ℕ) (found : Option ℕ) (claim : Claims
     search_agreed = agreed_later f v after (searched ++ tried) (subst (Agreed f v) at agreed)
 
     -- what the scan's steps show all steps of the call do
-    whole_call : (answer : Result Block NoRoom) → MatchResult answer (IsAllocatedLarge f d n searched after) (IsRefusedLarge f d n searched after) → MatchResult answer (IsAllocatedLarge f d n (searched ++ tried) after) (IsRefusedLarge f d n (searched ++ tried) after)
+    whole_call : (answer : Result Block NoRoom) → MatchResult answer (IsAllocatedLarge f d n searched after) (IsRefusedLarge f d n searched after)
+        → MatchResult answer (IsAllocatedLarge f d n (searched ++ tried) after) (IsRefusedLarge f d n (searched ++ tried) after)
     whole_call (Ok block) is = record {
       first = is.first;
       found = found_run f d n tried searched claim.old claim.outcome.left claim.outcome.still v search_agreed is.first is.found;
@@ -251,8 +273,11 @@ module _ {σ σ1 : Standing} (heap n : ℕ) (found : Option ℕ) (claim : Claims
       still = subst (Leads f (MayFind d) (Does nothing)) at (after_still d (after ++ searched) tried (λ v u w a b. does_then a b) claim.outcome.still is.still);
     }
 
-pub scans_after : {σ σ1 σ2 : Standing} (heap n : ℕ) (found : Option ℕ) (tells : Bool) (claim : ClaimsNamed (large_directory heap) n found σ σ1 None) → CanCall σ (MayFind (large_directory heap)) → IsValid σ.seat.profile → (tells ≡ true → Tells σ2)
-    → (tells ≡ true → (v : View) (l : Whole) → σ.stands v l → part σ.seat.actor l ≡ v) → (answer : Result Block NoRoom) → AllocatesByScan heap n tells σ1 σ2 answer → AllocatesLarge heap n found tells σ σ2 answer
+-- What a scan comes to after the claim of a named run failed is what the whole request comes to.
+pub scans_after : {σ σ1 σ2 : Standing} (heap n : ℕ) (found : Option ℕ) (tells : Bool) (claim : ClaimsNamed (large_directory heap) n found σ σ1 None)
+    → CanCall σ (MayFind (large_directory heap)) → IsValid σ.seat.profile → (tells ≡ true → Tells σ2)
+    → (tells ≡ true → (v : View) (l : Whole) → σ.stands v l → part σ.seat.actor l ≡ v) → (answer : Result Block NoRoom)
+    → AllocatesByScan heap n tells σ1 σ2 answer → AllocatesLarge heap n found tells σ σ2 answer
 scans_after {σ} {σ1} heap n found tells claim can valid laws parts answer scan =
     let d = large_directory heap in
     let same : σ1.seat.profile ≡ σ.seat.profile = ap (λ (s : Seat). s.profile) claim.adds.seat_is in

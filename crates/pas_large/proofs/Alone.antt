@@ -27,7 +27,8 @@ is_look_of s t look same other = true≢false (sym look ∙ ap (λ x. is_in look
 gives_up_look : (p : ℕ) (s : Step) → GivesUp p s → is_in looking (kind_of s) ≡ true → ⊥
 gives_up_look p s h look = search (arith, true≢false)
 
-no_run : (f : Profile) (k : ℕ) (l : Whole) (d : Directory) (n : ℕ) (steps : List Made) → Legal f (triples k steps ++ l) → Only looking steps → IsVain f d n steps → HasNoUsableRun f d n l
+no_run : (f : Profile) (k : ℕ) (l : Whole) (d : Directory) (n : ℕ) (steps : List Made) → Legal f (triples k steps ++ l) → Only looking steps
+    → IsVain f d n steps → HasNoUsableRun f d n l
 no_run f k l d n steps legal only vain first low le usable =
     let bad = vain.runs first low le in
     once_of (BadHere d bad.0) f k l ⊥ steps legal only (λ m before t ok looks x. elim x [
@@ -37,7 +38,8 @@ no_run f k l d n steps legal only vain first low le usable =
 
 -- ---- who has rights
 -- nobody, where nobody had one before these steps, which leave all as it was
-nobody_after : (k : ℕ) (l : Whole) (xs : List Made) → Does nothing (part k l) (xs ++ part k l) → ((p j : ℕ) → has_right (part j l) p ≡ false) → (p j : ℕ) → has_right (part j (triples k xs ++ l)) p ≡ false
+nobody_after : (k : ℕ) (l : Whole) (xs : List Made) → Does nothing (part k l) (xs ++ part k l) → ((p j : ℕ) → has_right (part j l) p ≡ false) → (p j : ℕ)
+    → has_right (part j (triples k xs ++ l)) p ≡ false
 nobody_after k l xs still none p j = elim (cases_eq k j) [
   | inl same ↦ ap (λ (i : ℕ). has_right (part i (triples k xs ++ l)) p) (sym same) ∙ ap (λ v. has_right v p) (part_of_own k xs l) ∙ (still.right p ∙ none p k)
   | inr other ↦ ap (λ v. has_right v p) (part_of_others j k xs l other) ∙ none p j
@@ -49,7 +51,8 @@ pub record IsRefusedByScan (f : Profile) (d : Directory) (n : ℕ) (searched aft
   pub is : IsRefusedLarge f d n searched after why
   pub alone : LooksAlone f d searched
 
-module _ (f : Profile) (k : ℕ) (l : Whole) (d : Directory) (n : ℕ) (searched after : List Made) (why : NoRoom) (valid : IsValid f) (refused : IsRefusedByScan f d n searched after why) (legal : Legal f (triples k (after ++ searched) ++ l)) (met : MayFind d (part k l)) where
+module _ (f : Profile) (k : ℕ) (l : Whole) (d : Directory) (n : ℕ) (searched after : List Made) (why : NoRoom) (valid : IsValid f)
+    (refused : IsRefusedByScan f d n searched after why) (legal : Legal f (triples k (after ++ searched) ++ l)) (met : MayFind d (part k l)) where
   abbrev w : Whole
   w = triples k (after ++ searched) ++ l
 
@@ -98,7 +101,8 @@ pub record IsRefusedAlone (f : Profile) (k : ℕ) (d : Directory) (n : ℕ) (l e
   pub not_held : IsDirectoryOf f d → ((p j : ℕ) → has_right (part j l) p ≡ false) → (p : ℕ) → why ≡ Held p → ⊥
   pub own_lacks : OwnLacks k d exit
 
-module _ (f : Profile) (k : ℕ) (l : Whole) (d : Directory) (n : ℕ) (found : Option ℕ) (tried rest : List Made) (valid : IsValid f) (kind : IsKind d.kind) (old : Only claiming_old tried) (returns : Always ReturnsDuly tried) (legal : Legal f (triples k (rest ++ tried) ++ l)) (met : MayFind d (part k l)) where
+module _ (f : Profile) (k : ℕ) (l : Whole) (d : Directory) (n : ℕ) (found : Option ℕ) (tried rest : List Made) (valid : IsValid f) (kind : IsKind d.kind)
+    (old : Only claiming_old tried) (returns : Always ReturnsDuly tried) (legal : Legal f (triples k (rest ++ tried) ++ l)) (met : MayFind d (part k l)) where
   -- the state after what was tried
   abbrev mid : Whole
   mid = triples k tried ++ l
@@ -137,6 +141,7 @@ module _ (f : Profile) (k : ℕ) (l : Whole) (d : Directory) (n : ℕ) (found : 
       own_lacks = subst (OwnLacks k d) exit_is (own_lacks f k mid d n is.searched is.after why valid by_scan legal_mid met_mid);
     }
 
+  -- A request for whole pages that was refused while its actor went on alone found no usable run at entry.
   pub refused_alone : (why : NoRoom) → IsOutcome f d n found tried rest (Err why) → IsRefusedAlone f k d n l (triples k (rest ++ tried) ++ l) why
   refused_alone why (inl served) = absurd (let bad : Err why ≡ Ok served.0 = served.1 in cc)
   refused_alone why (inr is) = refused_scan why is
@@ -154,18 +159,23 @@ module _ (f : Profile) (k : ℕ) (l : Whole) (d : Directory) (n : ℕ) (found : 
       let miss = is.misses.missed first whole.named whole.of_region.0 whole.of_region.1 in
       absurd (never_missed f k l d miss.0 valid kind met tried at_mid old (whole.whole miss.0 miss.1) miss.2)
 
-  scanned_else : (answer : Result Block NoRoom) → IsOutcome f d n found tried rest answer → ((first : ℕ) → IsWholeThere first → ⊥) → IsScanned f d n found tried rest answer
+  scanned_else : (answer : Result Block NoRoom) → IsOutcome f d n found tried rest answer → ((first : ℕ) → IsWholeThere first → ⊥)
+      → IsScanned f d n found tried rest answer
   scanned_else answer (inl served) none = let is = served.2 in absurd (none is.first (holds_whole f k l d n is.first found tried valid kind met at_mid old returns (is.holds_it.got.from (part k l) met agreed) is.holds_it))
   scanned_else answer (inr is) none = is
 
+  -- A request whose actor went on alone goes by its door: the named run serves exactly where it was whole before.
   pub goes_by_door : (answer : Result Block NoRoom) → IsOutcome f d n found tried rest answer → GoesByDoor f d n found l (rest ++ tried) answer
   goes_by_door answer outcome = record { served = served_named answer outcome; tried = tried; rest = rest; steps_are = refl; otherwise = scanned_else answer outcome }
 
 large_of : (f : Profile) (heap : ℕ) → heap < f.heaps → IsDirectoryOf f (large_directory heap)
 large_of f heap lt = record { heap = lt; kind = tt; class = tt }
 
-pub request_alone : {σ σ' : Standing} (heap n : ℕ) (found : Option ℕ) (tells : Bool) (answer : Result Block NoRoom) → (call : AllocatesLarge heap n found tells σ σ' answer) → (l : Whole) → IsValid σ.seat.profile → heap < σ.seat.profile.heaps
-    → Legal σ.seat.profile (triples σ.seat.actor (call.rest ++ call.tried) ++ l) → MayFind (large_directory heap) (part σ.seat.actor l) → FindsTheRunThereIs σ.seat.profile (large_directory heap) n found l (call.rest ++ call.tried) answer
+-- A request whose actor went on alone is refused only where no run of usable pages was there.
+pub request_alone : {σ σ' : Standing} (heap n : ℕ) (found : Option ℕ) (tells : Bool) (answer : Result Block NoRoom)
+    → (call : AllocatesLarge heap n found tells σ σ' answer) → (l : Whole) → IsValid σ.seat.profile → heap < σ.seat.profile.heaps
+    → Legal σ.seat.profile (triples σ.seat.actor (call.rest ++ call.tried) ++ l) → MayFind (large_directory heap) (part σ.seat.actor l)
+    → FindsTheRunThereIs σ.seat.profile (large_directory heap) n found l (call.rest ++ call.tried) answer
 request_alone {σ} heap n found tells answer call l valid lt legal met =
     let f = σ.seat.profile in
     let k = σ.seat.actor in

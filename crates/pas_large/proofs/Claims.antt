@@ -37,18 +37,23 @@ use Rattle.pas_large.proofs.Left.{missed_before, left_hints, released}
 pub span_in : (first stop p : ℕ) → first ≤ p → p < stop → in_span first stop p ≡ true
 span_in first stop p low high = grind (arith, nat_tests)
 
+-- A page in the span of some pages is at least the first and below the end.
 pub in_parts : (first stop p : ℕ) → in_span first stop p ≡ true → (first ≤ p) × (p < stop)
 in_parts first stop p h = let parts = and_parts (nat_le first p) (nat_lt p stop) h in let a = parts.0 in let b = parts.1 in (grind (arith, nat_tests), grind (arith, nat_tests))
 
+-- A page from the end of a span on isn't in it.
 pub span_past : (first stop p : ℕ) → stop ≤ p → in_span first stop p ≡ false
 span_past first stop p past = grind (arith, nat_tests)
 
+-- A page in a span is in each longer span from the same first page.
 pub span_wider : (first stop end p : ℕ) → stop ≤ end → in_span first stop p ≡ true → in_span first end p ≡ true
 span_wider first stop end p le is = grind (arith, nat_tests)
 
+-- A span that ends where it begins has no page.
 pub span_none : (first p : ℕ) → in_span first first p ≡ false
 span_none first p = grind (arith, nat_tests)
 
+-- A span and the page behind it are the span that ends one page later.
 pub span_more : (first page p : ℕ) → first ≤ page → (in_span first page p || (page == p)) ≡ in_span first (page + 1) p
 span_more first page p low = grind (arith, nat_tests)
 
@@ -62,12 +67,16 @@ span_apart first page p ne out = grind (arith, nat_tests)
 got_none : (d : Directory) (pages : ℕ → Bool) (v : View) → ((p : ℕ) → pages p ≡ false) → Does nothing v v → GotPages pages d v v
 got_none d pages v none does = search (arith, does_as, true≢false)
 
-pub got_both : {v w u : View} (d : Directory) (a b c : ℕ → Bool) → ((p : ℕ) → (a p || b p) ≡ c p) → GotPages a d v w → GotPages b d w u → ((p : ℕ) → KnowsDeed p d w → KnowsDeed p d u) → GotPages c d v u
+-- Pages that were got one after the other are got together.
+pub got_both : {v w u : View} (d : Directory) (a b c : ℕ → Bool) → ((p : ℕ) → (a p || b p) ≡ c p) → GotPages a d v w → GotPages b d w u
+    → ((p : ℕ) → KnowsDeed p d w → KnowsDeed p d u) → GotPages c d v u
 got_both {v} {w} {u} d a b c same first second knows = search (arith, does_as, does_then, cases_Bool)
 
-got_still : {v w u : View} (d : Directory) (a : ℕ → Bool) → GotPages a d v w → Does nothing w u → ((p : ℕ) → KnowsDeed p d w → KnowsDeed p d u) → GotPages a d v u
+got_still : {v w u : View} (d : Directory) (a : ℕ → Bool) → GotPages a d v w → Does nothing w u → ((p : ℕ) → KnowsDeed p d w → KnowsDeed p d u)
+    → GotPages a d v u
 got_still d a first second knows = record { does = does_then first.does second; apart = first.apart; lacked = first.lacked; deeds = λ p h. knows p (first.deeds p h) }
 
+-- Pages got after steps that did nothing were got from the view before.
 pub got_after : {v w u : View} (a : ℕ → Bool) (d : Directory) → Does nothing v w → GotPages a d w u → GotPages a d v u
 got_after a d first second = record { does = does_after_nothing (of_pages a Gained) first second.does; apart = λ g h. sym (first.held g) ∙ second.apart g h; lacked = λ p h. sym (first.right p) ∙ second.lacked p h; deeds = second.deeds }
 
@@ -75,9 +84,11 @@ got_after a d first second = record { does = does_after_nothing (of_pages a Gain
 abbrev pub StaysHere : ℕ → Made → List Made → Type 0
 StaysHere g m before = grain_move m.step m.answer g ≡ Stays
 
+-- Steps on one page move no grain of another one.
 pub steady_on : (q g : ℕ) (ys : List Made) → OnlyOn q ys → g / 256 ≢ q → StaysPut g ys
 steady_on q g ys on ne = always_map (λ m before. IsOnPage q m.step) (StaysHere g) ys (λ m before h. on_grain q m.step m.answer g h ne) on
 
+-- A grain that neither of two lists of steps moves is moved by none of both.
 pub steady_both : (g : ℕ) (ys xs : List Made) → StaysPut g ys → StaysPut g xs → StaysPut g (ys ++ xs)
 steady_both g ys xs = always_both (StaysHere g) (StaysHere g) ys xs (λ m before h. h)
 
@@ -85,9 +96,11 @@ steady_holds : (g : ℕ) (ys xs : List Made) → StaysPut g ys → holds (ys ++ 
 steady_holds g [] xs h = refl
 steady_holds g (y ∷ ys) xs h = ap (λ t. held_after t (holds (ys ++ xs) g)) h.0 ∙ steady_holds g ys xs h.1
 
+-- A page outside a span is none of its pages.
 pub out_of : (first end p q : ℕ) → in_span first end p ≡ false → first ≤ q → q < end → p ≢ q
 out_of first end p q out low high e = true≢false (sym (ap (in_span first end) e ∙ span_in first end q low high) ∙ out)
 
+-- A page outside a span is outside each shorter one from the same first page.
 pub narrower : (first stop end p : ℕ) → stop ≤ end → in_span first end p ≡ false → in_span first stop p ≡ false
 narrower first stop end p le out = grind (arith, nat_tests)
 
@@ -111,14 +124,18 @@ claims_fewer d first stop end le v met = record { lacks = λ p low high. met.lac
 claims_one : (d : Directory) (first end page : ℕ) → first ≤ page → page < end → (v : View) → MayClaimPages d first end v → MayClaim d page v
 claims_one d first end page low high v met = record { lacks = met.lacks page low high; clear = met.clear }
 
-pub can_claim_one : {σ : Standing} {page : ℕ} (d : Directory) (first end : ℕ) → first ≤ page → page < end → CanCall σ (MayClaimPages d first end) → CanCall σ (MayClaim d page)
+-- Who may claim the pages of a run may claim each of them.
+pub can_claim_one : {σ : Standing} {page : ℕ} (d : Directory) (first end : ℕ) → first ≤ page → page < end → CanCall σ (MayClaimPages d first end)
+    → CanCall σ (MayClaim d page)
 can_claim_one {page = page} d first end low high can = record { view = can.view; whole = can.whole; stood = can.stood; met = claims_one d first end page low high can.view can.met }
 
-abbrev pub may_claim : {σ : Standing} {f : Profile} {d : Directory} {first end n spare : ℕ} (stop : ℕ) → stop ≤ end → CanCall σ (HasRunRoom f d first end n spare) → CanCall σ (MayClaimPages d first stop)
+abbrev pub may_claim : {σ : Standing} {f : Profile} {d : Directory} {first end n spare : ℕ} (stop : ℕ) → stop ≤ end
+    → CanCall σ (HasRunRoom f d first end n spare) → CanCall σ (MayClaimPages d first stop)
 may_claim {d = d} {first = first} {end = end} stop le can = record { view = can.view; whole = can.whole; stood = can.stood; met = claims_fewer d first stop end le can.view can.met.may }
 
 -- the room for unknown deeds is kept, and the room for n events besides
-pub room_after : {σ σ' : Standing} {C : View → Type 0} {xs : List Made} {spare spare' : ℕ} (n : ℕ) → Adds σ σ' C xs → (can : CanCall σ C) → OnlyDeedsShow σ.seat.profile xs → n + unknown_pages σ.seat.profile can.view ≤ spare → Spares σ spare → Spares σ' spare'
+pub room_after : {σ σ' : Standing} {C : View → Type 0} {xs : List Made} {spare spare' : ℕ} (n : ℕ) → Adds σ σ' C xs → (can : CanCall σ C)
+    → OnlyDeedsShow σ.seat.profile xs → n + unknown_pages σ.seat.profile can.view ≤ spare → Spares σ spare → Spares σ' spare'
     → n + unknown_pages σ.seat.profile (xs ++ can.view) ≤ spare'
 room_after {σ} {xs = xs} {spare = spare} {spare' = spare'} n adds can shows room law law' =
     let falls = spare_falls spare spare' (length (events_by σ.seat.actor can.view xs)) adds can law law' refl in let shown = shows σ.seat.actor can.view (adds.agreed can.view can.whole can.stood can.met) in omega (arith, falls, shown, room)
@@ -128,8 +145,9 @@ pub record ClaimedBelow (deeds : Bool) (d : Directory) (first page : ℕ) (desk 
   pub so_far : ClaimsPages deeds d first page desk desk' page
   pub alone : (before : List Made) → AloneFrom first before → AloneFrom page (so_far.steps ++ before)
 
-pub pages_none : {σ : Standing} (deeds : Bool) (d : Directory) (first : ℕ) → ClaimedBelow deeds d first first σ σ
-pages_none deeds d first = record {
+-- Before the first page of a run is claimed, none is.
+pub none_claimed : {σ : Standing} (deeds : Bool) (d : Directory) (first : ℕ) → ClaimedBelow deeds d first first σ σ
+none_claimed deeds d first = record {
   alone = λ before alone. alone;
   so_far = record {
     steps = [];
@@ -158,16 +176,19 @@ pages_none deeds d first = record {
 abbrev MadeIn : Directory → ℕ → ℕ → Made → List Made → Type 0
 MadeIn d first end m before = (p : ℕ) (e : Directory) → m.step ≡ Deed p e → m.answer ≡ 0 → (e ≡ d) × (first ≤ p) × (p < end)
 
-deeds_join : (d : Directory) (first stop end page : ℕ) (ys xs : List Made) → first ≤ page → page < end → stop ≤ end → DeedsOn d page ys → DeedsIn d first stop xs → DeedsIn d first end (ys ++ xs)
+deeds_join : (d : Directory) (first stop end page : ℕ) (ys xs : List Made) → first ≤ page → page < end → stop ≤ end → DeedsOn d page ys
+    → DeedsIn d first stop xs → DeedsIn d first end (ys ++ xs)
 deeds_join d first stop end page ys xs low high le on within = always_both (MadeHere d page) (MadeIn d first end) ys xs (λ m before h p e same z. let its = h p e same z in (its.0, omega (arith, its.1, low), omega (arith, its.1, high))) on
     (always_map (MadeIn d first stop) (MadeIn d first end) xs (λ m before h p e same z. let its = h p e same z in (its.0, its.1, omega (arith, its.2, le))) within)
 
 deeds_wider : (d : Directory) (first stop end : ℕ) (xs : List Made) → stop ≤ end → DeedsIn d first stop xs → DeedsIn d first end xs
 deeds_wider d first stop end xs le = always_map (MadeIn d first stop) (MadeIn d first end) xs (λ m before h p e same z. let its = h p e same z in (its.0, its.1, omega (arith, its.2, le)))
 
+-- Deeds of pages of a span are of pages below each end behind it.
 pub deeds_below : (d : Directory) (first stop end : ℕ) (xs : List Made) → stop ≤ end → DeedsIn d first stop xs → DeedsBelow end xs
 deeds_below d first stop end xs le = always_map (MadeIn d first stop) (λ m before. (p : ℕ) (e : Directory) → m.step ≡ Deed p e → m.answer ≡ 0 → p < end) xs (λ m before h p e same z. let lt = (h p e same z).2 in omega (arith, lt, le))
 
+-- Deeds of pages of a span are of pages from its first one on.
 pub deeds_from : (d : Directory) (first stop : ℕ) (xs : List Made) → DeedsIn d first stop xs → DeedsFrom first xs
 deeds_from d first stop xs = always_map (MadeIn d first stop) (λ m before. (p : ℕ) (e : Directory) → m.step ≡ Deed p e → m.answer ≡ 0 → first ≤ p) xs (λ m before h p e same z. (h p e same z).1)
 
@@ -194,6 +215,7 @@ module _ {σ σ1 : Standing} (deeds : Bool) (d : Directory) (first end page : �
   page_may : (v : View) → MayClaimPages d first end v → Agreed σ.seat.profile v xs → MayClaim d page (xs ++ v)
   page_may v met agreed = claims_one d page end page (omega arith) high (xs ++ v) (rest_may v met agreed)
 
+  -- Once the pages below one are claimed, those from it on may be.
   pub rest_call : CanCall σ (MayClaimPages d first end) → CanCall σ1 (MayClaimPages d page end)
   rest_call can = can_call so_adds can (λ v l stood met. rest_may v met (so_adds.agreed v l stood met))
 
@@ -207,9 +229,13 @@ module _ {σ σ1 : Standing} (deeds : Bool) (d : Directory) (first end page : �
     turn_alone : (before : List Made) → AloneFrom first before → AloneFrom (page + 1) ((ys ++ xs) ++ before)
     turn_alone before free p ge = subst (LeftAlone p) (sym (all_at before)) (alone_on page p ys (xs ++ before) h.on (λ e. absurd (omega (arith, e, ge))) (below.alone before free p (omega (arith, ge))))
 
-    turned : (stop : ℕ) → (page ≤ stop) × (stop ≤ end) → Leads σ.seat.profile (MayClaimPages d first end) (GotPages (in_span first stop) d) (ys ++ xs) → ((before : List Made) → AloneFrom first before → HoldsSpan first stop ((ys ++ xs) ++ before))
-        → ((before : List Made) → LacksAll before → (p : ℕ) → in_span first stop p ≡ false → has_right ((ys ++ xs) ++ before) p ≡ false) → (stop < end → deeds ≡ true → FailsAt σ.seat.profile d first stop (ys ++ xs)) → length ys ≤ 6 * (stop - page) + 21 * (min (stop + 1) end - stop) → ((p : ℕ) → first ≤ p → p < stop → Once (GetsHere p) (ys ++ xs))
-        → (stop < end → deeds ≡ false → Once (MissedHere d stop) (ys ++ xs)) → (deeds ≡ false → (p : ℕ) → in_span first stop p ≡ true → GotOf d p (ys ++ xs)) → (deeds ≡ false → (p : ℕ) → in_span first stop p ≡ false → LeftOrBroken d p (ys ++ xs)) → ClaimsPages deeds d first end σ σ2 stop
+    turned : (stop : ℕ) → (page ≤ stop) × (stop ≤ end) → Leads σ.seat.profile (MayClaimPages d first end) (GotPages (in_span first stop) d) (ys ++ xs)
+        → ((before : List Made) → AloneFrom first before → HoldsSpan first stop ((ys ++ xs) ++ before))
+        → ((before : List Made) → LacksAll before → (p : ℕ) → in_span first stop p ≡ false → has_right ((ys ++ xs) ++ before) p ≡ false)
+        → (stop < end → deeds ≡ true → FailsAt σ.seat.profile d first stop (ys ++ xs)) → length ys ≤ 6 * (stop - page) + 21 * (min (stop + 1) end - stop)
+        → ((p : ℕ) → first ≤ p → p < stop → Once (GetsHere p) (ys ++ xs))
+        → (stop < end → deeds ≡ false → Once (MissedHere d stop) (ys ++ xs)) → (deeds ≡ false → (p : ℕ) → in_span first stop p ≡ true → GotOf d p (ys ++ xs))
+        → (deeds ≡ false → (p : ℕ) → in_span first stop p ≡ false → LeftOrBroken d p (ys ++ xs)) → ClaimsPages deeds d first end σ σ2 stop
     turned stop at got holding lacks failed few gets missed of left = let low = so_far.span.0 in let above = at.0 in record {
       steps = ys ++ xs;
       adds = adds_call {D = MayClaim d page} so_adds h.adds (λ v l stood met. page_may v met (so_adds.agreed v l stood met));
@@ -253,7 +279,10 @@ module _ {σ σ1 : Standing} (deeds : Bool) (d : Directory) (first end page : �
     }
 
     -- it was lost or broken
-    stopped : Leads σ.seat.profile (MayClaim d page) (Does nothing) h.steps → ((before : List Made) → has_right before page ≡ false → has_right (h.steps ++ before) page ≡ false) → (deeds ≡ true → FailsAt σ.seat.profile d first page (h.steps ++ so_far.steps)) → (deeds ≡ false → LeftOrBroken d page h.steps) → (deeds ≡ false → Once (MissedHere d page) h.steps) → ClaimsPages deeds d first end σ σ2 page
+    stopped : Leads σ.seat.profile (MayClaim d page) (Does nothing) h.steps
+        → ((before : List Made) → has_right before page ≡ false → has_right (h.steps ++ before) page ≡ false)
+        → (deeds ≡ true → FailsAt σ.seat.profile d first page (h.steps ++ so_far.steps)) → (deeds ≡ false → LeftOrBroken d page h.steps)
+        → (deeds ≡ false → Once (MissedHere d page) h.steps) → ClaimsPages deeds d first end σ σ2 page
     stopped still lack failed left missed = turned page (omega arith, omega (arith, high))
         (record {
           from = λ v met agreed.
@@ -272,11 +301,13 @@ module _ {σ σ1 : Standing} (deeds : Bool) (d : Directory) (first end page : �
         others_of
         (λ bare p out. elim (cases_eq p page) [ inl e ↦ subst (λ q. LeftOrBroken d q (ys ++ xs)) (sym e) (left_before d page ys xs page_alone (left bare)) | inr ne ↦ others_left bare p ne out ])
 
+    -- A page that was lost ends the claim of its run there.
     pub lost_turn : LosesPage deeds σ1.seat.profile d page h.steps → ClaimsPages deeds d first end σ σ2 page
     lost_turn lost =
         let loses = subst (λ (s : Seat). LosesPage deeds s.profile d page ys) so_adds.seat_is lost in
         stopped loses.still loses.lacks (λ may before v free usable agreed. inl (after_more (LostHere d page) ys xs before (loses.lost may (xs ++ before) v (below.alone before free page (omega arith)) (usable_later d page xs before usable) (subst (Agreed σ.seat.profile v) (all_at before) agreed)))) (λ bare. left_of_alone d page ys loses.alone) loses.missed
 
+    -- A page that was broken ends the claim of its run there.
     pub broken_turn : BreaksPage deeds σ1.seat.profile d page h.steps → ClaimsPages deeds d first end σ σ2 page
     broken_turn broken =
         let breaks = subst (λ (s : Seat). BreaksPage deeds s.profile d page ys) so_adds.seat_is broken in
@@ -314,7 +345,9 @@ module _ {σ σ1 : Standing} (deeds : Bool) (d : Directory) (first end page : �
         ])
         (λ bare p out. others_left bare p (not_in first page p low out) (narrower first page (page + 1) p (omega arith) out))
 
-pub won_turn : {σ σ1 σ2 : Standing} (deeds : Bool) (d : Directory) (first page : ℕ) → ClaimedBelow deeds d first page σ σ1 → (h : ClaimsPage deeds d page σ1 σ2 Claimed.Whole) → ClaimedBelow deeds d first (page + 1) σ σ2
+-- A page that was got whole makes the claimed pages of its run one more.
+pub won_turn : {σ σ1 σ2 : Standing} (deeds : Bool) (d : Directory) (first page : ℕ) → ClaimedBelow deeds d first page σ σ1
+    → (h : ClaimsPage deeds d page σ1 σ2 Claimed.Whole) → ClaimedBelow deeds d first (page + 1) σ σ2
 unfolding won_claims turned
 won_turn deeds d first page below h = record { so_far = won_claims deeds d first (page + 1) page (omega arith) below h refl h.outcome; alone = turn_alone deeds d first (page + 1) page (omega arith) below h }
 
@@ -330,14 +363,18 @@ has_got {v} d first stop clear got = record {
 pages_fewer : (d : Directory) (first stop end : ℕ) → stop ≤ end → (v : View) → HasPages d first end v → HasPages d first stop v
 pages_fewer d first stop end le v met = search (arith, span_wider)
 
-pub pages_call : {σ σ1 : Standing} {R : View → View → Type 0} {xs : List Made} (d : Directory) (first stop end : ℕ) → stop ≤ end → Calls σ σ1 (HasPages d first stop) R xs → Calls σ σ1 (HasPages d first end) R xs
+-- A call for the first pages of a run is one for whoever has all its pages.
+pub pages_call : {σ σ1 : Standing} {R : View → View → Type 0} {xs : List Made} (d : Directory) (first stop end : ℕ) → stop ≤ end
+    → Calls σ σ1 (HasPages d first stop) R xs → Calls σ σ1 (HasPages d first end) R xs
 pages_call {R = R} d first stop end le c = call_as R c (pages_fewer d first stop end le) (λ v w met r. r)
 
 -- and the deeds of these pages are known still
-pub call_knowing : {σ σ1 : Standing} {B : View → Type 0} {R : View → View → Type 0} {xs : List Made} (d : Directory) (pages : ℕ → Bool) → Calls σ σ1 B R xs → ((v : View) → B v → (p : ℕ) → pages p ≡ true → KnowsDeed p d v)
+pub call_knowing : {σ σ1 : Standing} {B : View → Type 0} {R : View → View → Type 0} {xs : List Made} (d : Directory) (pages : ℕ → Bool) → Calls σ σ1 B R xs
+    → ((v : View) → B v → (p : ℕ) → pages p ≡ true → KnowsDeed p d v)
     → Calls σ σ1 B (λ v w. R v w × ((p : ℕ) → pages p ≡ true → KnowsDeed p d w)) xs
 call_knowing {σ} {xs = xs} d pages c knows = record { adds = c.adds; leads = record { from = λ v met agreed. (c.leads.from v met agreed, λ p is. knows_still σ.seat.profile d p xs v agreed (knows v met p is)) } }
 
+-- Before the first page of a run is left, none is.
 pub left_none : {σ : Standing} (d : Directory) (first : ℕ) → Releases d first first σ σ
 left_none d first = record {
   steps = [];
@@ -355,10 +392,13 @@ left_none d first = record {
 }
 
 module _ {σ σ1 : Standing} (d : Directory) (first end page : ℕ) (low : first ≤ page) (high : page < end) (so_far : Releases d first page σ σ1) where
-  known : Calls σ σ1 (HasPages d first end) (λ v w. Does (of_pages (in_span first page) Lost) v w × ((p : ℕ) → in_span first end p ≡ true → KnowsDeed p d w)) so_far.steps
+  known : Calls σ σ1 (HasPages d first end) (λ v w. Does (of_pages (in_span first page) Lost) v w
+        × ((p : ℕ) → in_span first end p ≡ true → KnowsDeed p d w)) so_far.steps
   known = call_knowing d (in_span first end) (pages_call d first page end (omega (arith, high)) so_far.calls) (λ v met. met.deeds)
 
-  leave_may : (v : View) → HasPages d first end v → Does (of_pages (in_span first page) Lost) v (so_far.steps ++ v) × ((p : ℕ) → in_span first end p ≡ true → KnowsDeed p d (so_far.steps ++ v)) → MayPutAndLeave page d (masked page full) (so_far.steps ++ v)
+  leave_may : (v : View) → HasPages d first end v
+      → Does (of_pages (in_span first page) Lost) v (so_far.steps ++ v) × ((p : ℕ) → in_span first end p ≡ true → KnowsDeed p d (so_far.steps ++ v))
+      → MayPutAndLeave page d (masked page full) (so_far.steps ++ v)
   leave_may v met left =
       let here = span_in first end page low high in let past = span_past first page page (omega arith) in
       record {
@@ -368,6 +408,7 @@ module _ {σ σ1 : Standing} (d : Directory) (first end page : ℕ) (low : first
         clear = left.0.clear page (met.clear.on page);
       }
 
+  -- Once the pages of a run before one were left, that one may be put back and left, too.
   pub leave_call : CanCall σ (HasPages d first end) → CanCall σ1 (MayPutAndLeave page d (masked page full))
   leave_call can = next_call known can leave_may
 
@@ -380,7 +421,9 @@ off_span first end p ys out = always_map (OnSpan first end) (λ m before. (q : �
 abbrev ReturnsHere : (ℕ → Bool) → Made → List Made → Type 0
 ReturnsHere pages m before = (p : ℕ) → IsReturnOf p m.step → pages p ≡ true
 
-pub left_more : {σ σ1 σ2 : Standing} (d : Directory) → IsDirectory d → (first page : ℕ) → first ≤ page → Releases d first page σ σ1 → PutsAndLeaves page d full σ1 σ2 → Releases d first (page + 1) σ σ2
+-- A page that was put back and left makes the pages of its run that are left one more.
+pub left_more : {σ σ1 σ2 : Standing} (d : Directory) → IsDirectory d → (first page : ℕ) → first ≤ page → Releases d first page σ σ1
+    → PutsAndLeaves page d full σ1 σ2 → Releases d first (page + 1) σ σ2
 left_more d directory first page low so_far h =
     let ys = h.after ++ h.puts in
     record {
@@ -412,7 +455,8 @@ left_more d directory first page low so_far h =
     }
 
 -- ---- the claim of a run
-pub run_claimed : {σ σ1 : Standing} (deeds : Bool) (d : Directory) (first end stop : ℕ) → stop ≡ end → ClaimsPages deeds d first end σ σ1 stop → ClaimsRun deeds d first end σ σ1 None
+pub run_claimed : {σ σ1 : Standing} (deeds : Bool) (d : Directory) (first end stop : ℕ) → stop ≡ end → ClaimsPages deeds d first end σ σ1 stop
+    → ClaimsRun deeds d first end σ σ1 None
 run_claimed {σ} {σ1} deeds d first end stop e h =
     let all = subst (ClaimsPages deeds d first end σ σ1) e h in
     record {
@@ -439,6 +483,7 @@ module _ {σ σ1 : Standing} (deeds : Bool) (d : Directory) (first end stop : �
   got_call : Calls σ σ1 (MayClaimPages d first end) (GotPages (in_span first stop) d) h.steps
   got_call = record { adds = h.adds; leads = h.got }
 
+  -- After a claim that failed at a page, those before it may be left.
   pub release_call : CanCall σ (MayClaimPages d first end) → CanCall σ1 (HasPages d first stop)
   release_call can = next_call got_call can may_release
 
@@ -446,6 +491,7 @@ module _ {σ σ1 : Standing} (deeds : Bool) (d : Directory) (first end stop : �
   own_held : CanCall σ (MayClaimPages d first end) → (g : ℕ) → in_span first stop (g / 256) ≡ true → holds h.steps g ≡ true
   own_held can g is = search (arith, holds_own)
 
+  -- A claim that failed, after which the pages before were left, fails for the whole run at that page.
   pub run_failed : {σ2 : Standing} → CanCall σ (MayClaimPages d first end) → Releases d first stop σ1 σ2 → ClaimsRun deeds d first end σ σ2 (Some stop)
   run_failed can r =
       let calls = call_then (Does nothing) got_call r.calls may_release

@@ -1,5 +1,5 @@
 -- The search for a run that can be claimed, one run more.
-use Rattle.pas_steps.proofs.{SpareRoom.Spares, Frames.right_own, Apart.no_events, Apart.only_both, Apart.only_within, Kept.deed_stays, Unknown.unknown_stays}
+use Rattle.pas_steps.proofs.{SpareRoom.Spares, Frames.right_own, Apart.no_events, Apart.only_both, Apart.only_within, Kept.deed_stays, Unknown.unknown_no_more}
 use Rattle.pas_steps.proofs.{Evidence.unknown}
 use Rattle.std.proofs.Common.{ℕ, ◌+◌, ◌<◌, ◌≤◌, List, [], ◌++◌, refl, ◌∙◌, inl, inr, ◌⊎◌, arith, Option, ◌≡◌, true, Some, None, ap, sym, subst, append_assoc}
 use Rattle.std.proofs.Common.{true≢false, length, ◌*◌, length-append, Bool, append-nil}
@@ -37,11 +37,13 @@ pub record VainSoFar (d : Directory) (n from next : ℕ) (steps : List Made) : T
   pub usable : (page : ℕ) → from ≤ page → page < next → ReadUsable d page steps
   pub alone : AloneFrom from steps
 
+-- A run that has a bad page has it after later steps, too.
 pub bad_later : (d : Directory) (n first : ℕ) (ys xs : List Made) → HasBad d n first xs → HasBad d n first (ys ++ xs)
 bad_later d n first ys xs h = (h.0, h.1, once_later (BadHere d h.0) ys xs h.2)
 
 -- a page that was read as not usable, on pages that the steps before left alone
-unusable_bad : (d : Directory) (n from first : ℕ) (ys xs : List Made) → AloneFrom from xs → from ≤ first → HasUnusable d n first ys → HasBad d n first (ys ++ xs)
+unusable_bad : (d : Directory) (n from first : ℕ) (ys xs : List Made) → AloneFrom from xs → from ≤ first → HasUnusable d n first ys
+    → HasBad d n first (ys ++ xs)
 unusable_bad d n from first ys xs alone ge h =
     let low = h.1.0 in
     (h.0, h.1, once_map (UnusableHere d h.0) (BadHere d h.0) (ys ++ xs) (λ m b x. inl x) (unusable_before d h.0 ys xs (alone h.0 (omega (arith, ge, low))) h.2))
@@ -58,7 +60,8 @@ alone_looks p ys xs looks alone =
     }
 
 -- the search found no run
-vain_ends : (f : Profile) (d : Directory) (n from next : ℕ) (ys xs : List Made) → 1 ≤ from → VainSoFar d n from next xs → HasNoRun f d from next n ys → IsVain f d n (ys ++ xs)
+vain_ends : (f : Profile) (d : Directory) (n from next : ℕ) (ys xs : List Made) → 1 ≤ from → VainSoFar d n from next xs → HasNoRun f d from next n ys
+    → IsVain f d n (ys ++ xs)
 vain_ends f d n from next ys xs some so_far none = record {
   deeds = search (arith, cases_lt, once_later, deed_before);
   runs = λ s low le. elim (cases_lt s from) [
@@ -68,7 +71,8 @@ vain_ends f d n from next ys xs some so_far none = record {
 }
 
 -- it found one
-module _ (f : Profile) (d : Directory) (n from next first : ℕ) (some : 1 ≤ from) (ys xs : List Made) (so_far : VainSoFar d n from next xs) (looks : Only page_looks ys) (found : IsFirstRun f d from next n ys first) where
+module _ (f : Profile) (d : Directory) (n from next first : ℕ) (some : 1 ≤ from) (ys xs : List Made) (so_far : VainSoFar d n from next xs)
+    (looks : Only page_looks ys) (found : IsFirstRun f d from next n ys first) where
   abbrev before : List Made
   before = ys ++ xs
 
@@ -129,6 +133,7 @@ knew f d p xs v agreed usable = elim (cases_eq (known_deed v p) 0) [
 abbrev pub DeedOf : Directory → ℕ → (ℕ → Type 0) → Made → List Made → Type 0
 DeedOf d n Chosen m before = (page : ℕ) (e : Directory) → m.step ≡ Deed page e → m.answer ≡ 0 → (e ≡ d) × ((first : ℕ) × IsInRun first n page × AllUsable d n first before × Chosen first)
 
+-- Deeds of pages of chosen runs are such of runs chosen in any weaker way.
 pub deeds_map : (d : Directory) (n : ℕ) (P Q : ℕ → Type 0) (steps : List Made) → ((s : ℕ) → P s → Q s) → DeedsOf d n P steps → DeedsOf d n Q steps
 deeds_map d n P Q steps more = always_map (DeedOf d n P) (DeedOf d n Q) steps (λ m before h p e same z. let its = h p e same z in (its.0, (its.1.0, its.1.1, its.1.2, more its.1.0 its.1.3)))
 
@@ -159,6 +164,7 @@ IsFirst from next steps = (from ≡ 1) × (next ≡ 1) × (steps ≡ [])
 abbrev pub IsFirstAlone : Profile → Directory → ℕ → ℕ → List Made → Type 0
 IsFirstAlone f d from next steps = (k : ℕ) (l : Whole) → Legal f (triples k steps ++ l) → MayFind d (part k l) → IsFirst from next steps
 
+-- Before the first run is looked for, the search passed none.
 pub searched_none : {σ : Standing} (d : Directory) (n : ℕ) → 1 ≤ n → SearchedRuns d n 1 1 σ σ
 searched_none d n some = record {
   kinds = tt;
@@ -176,6 +182,7 @@ searched_none d n some = record {
   deeds = tt;
 }
 
+-- The search that passed no run made no step.
 pub none_searched : (σ : Standing) (d : Directory) (n : ℕ) (some : 1 ≤ n) → (searched_none {σ = σ} d n some).steps ≡ []
 unfolding searched_none
 none_searched σ d n some = refl
@@ -213,7 +220,7 @@ module _ {σ σ1 : Standing} (d : Directory) (n from next : ℕ) (low : 1 ≤ fr
     look_below = below_both from ys xs (below_none page_looks from ys refl find.kinds) so_far.below
 
     look_shows : OnlyDeedsShow f (ys ++ xs)
-    look_shows = shows_both f ys xs (λ k v agreed. let none = ap (λ es. length es) (no_events page_looks refl k v ys find.kinds) in let stays = unknown_stays f ys v agreed in omega (arith, none, stays)) so_far.shows
+    look_shows = shows_both f ys xs (λ k v agreed. let none = ap (λ es. length es) (no_events page_looks refl k v ys find.kinds) in let stays = unknown_no_more f ys v agreed in omega (arith, none, stays)) so_far.shows
 
     look_lacks : LacksAll (ys ++ xs)
     look_lacks p = right_own p ys xs (so_far.lacks p) ∙ lacks_by page_looks refl p ys find.kinds
@@ -232,7 +239,8 @@ module _ {σ σ1 : Standing} (d : Directory) (n from next : ℕ) (low : 1 ≤ fr
     legal_alone tells none v l stood met = subst (λ zs. Legal f (triples σ.seat.actor zs ++ l)) (all_alone none) (legal_after look_adds tells v l stood met)
 
   -- the scan found none
-  pub finds_none : {σ2 : Standing} (tells : Bool) → (tells ≡ true → Tells σ2) → (tells ≡ true → (from ≡ 1) × (next ≡ 1) × (xs ≡ [])) → IsFirstAlone f d from next xs → FindsRun d from next n σ1 σ2 None → Finds d n tells σ σ2 None
+  pub finds_none : {σ2 : Standing} (tells : Bool) → (tells ≡ true → Tells σ2) → (tells ≡ true → (from ≡ 1) × (next ≡ 1) × (xs ≡ []))
+      → IsFirstAlone f d from next xs → FindsRun d from next n σ1 σ2 None → Finds d n tells σ σ2 None
   finds_none tells laws first alone find = record {
     told = λ t v l stood met.
         let at = first t in
@@ -272,7 +280,9 @@ module _ {σ σ1 : Standing} (d : Directory) (n from next : ℕ) (low : 1 ≤ fr
         let does = (look_still find).from v met agreed in
         record { lacks = λ p ge lt knows. does.right p ∙ met.lacks p (knew f d p ls v agreed (usable p (ge, lt))); clear = still_clear does met.clear }
 
-    pub can_claim_run : (spare spare2 : ℕ) → CanCall σ (FindRoom σ.seat.profile d 1 spare) → Spares σ spare → Spares σ2 spare2 → CanCall σ2 (HasRunRoom σ2.seat.profile d first (first + n) 1 spare2)
+    -- After the looks that found a run, there is room for its claim.
+    pub can_claim_run : (spare spare2 : ℕ) → CanCall σ (FindRoom σ.seat.profile d 1 spare) → Spares σ spare → Spares σ2 spare2
+        → CanCall σ2 (HasRunRoom σ2.seat.profile d first (first + n) 1 spare2)
     can_claim_run spare spare2 can law law2 =
         let adds = look_adds find in let met = can.met.may in
         record {
@@ -326,7 +336,8 @@ module _ {σ σ1 : Standing} (d : Directory) (n from next : ℕ) (low : 1 ≤ fr
     }
 
     -- and its claim doesn't fail
-    fails_alone : {σ3 : Standing} → IsKind d.kind → IsValid f → (page : ℕ) → (claim : ClaimsRun true d first (first + n) σ2 σ3 (Some page)) → (from ≡ 1) × (next ≡ 1) × (xs ≡ [])
+    fails_alone : {σ3 : Standing} → IsKind d.kind → IsValid f → (page : ℕ) → (claim : ClaimsRun true d first (first + n) σ2 σ3 (Some page))
+        → (from ≡ 1) × (next ≡ 1) × (xs ≡ [])
         → (k : ℕ) (l : Whole) → Legal f (triples k (claim.steps ++ ls) ++ l) → MayFind d (part k l) → ⊥
     fails_alone kind valid page claim at k l legal met =
         let agreed = agreed_steps f k l (claim.steps ++ ls) valid legal in
@@ -338,11 +349,13 @@ module _ {σ σ1 : Standing} (d : Directory) (n from next : ℕ) (low : 1 ≤ fr
         (run_has_failed f d n from next first low find.steps xs so_far.vain find.kinds run_at page claim.steps fails (part k l) agreed)
 
     -- on a desk that tells the whole state
-    pub never_fails : {σ3 : Standing} → IsKind d.kind → IsValid f → Tells σ3 → (page : ℕ) → (claim : ClaimsRun true d first (first + n) σ2 σ3 (Some page)) → (from ≡ 1) × (next ≡ 1) × (xs ≡ []) → (can : CanCall σ (MayFind d)) → part σ.seat.actor can.whole ≡ can.view → ⊥
+    pub never_fails : {σ3 : Standing} → IsKind d.kind → IsValid f → Tells σ3 → (page : ℕ) → (claim : ClaimsRun true d first (first + n) σ2 σ3 (Some page))
+        → (from ≡ 1) × (next ≡ 1) × (xs ≡ []) → (can : CanCall σ (MayFind d)) → part σ.seat.actor can.whole ≡ can.view → ⊥
     never_fails kind valid tells page claim at can own = fails_alone kind valid page claim at σ.seat.actor can.whole (legal_after (claim_adds claim) tells can.view can.whole can.stood can.met) (subst (MayFind d) (sym own) can.met)
 
     -- its claim failed
-    pub goes_on : {σ3 : Standing} → CanCall σ (MayFind d) → (page : ℕ) → ClaimsRun true d first (first + n) σ2 σ3 (Some page) → SearchedRuns d n (page + 1) (first + n) σ σ3
+    pub goes_on : {σ3 : Standing} → CanCall σ (MayFind d) → (page : ℕ) → ClaimsRun true d first (first + n) σ2 σ3 (Some page)
+        → SearchedRuns d n (page + 1) (first + n) σ σ3
     goes_on can page claim =
         let fails = subst (λ x. FailsRun true x d first (first + n) page claim.steps) (same2 claim) claim.outcome in
         let adds = claim_adds claim in
@@ -369,14 +382,17 @@ module _ {σ σ1 : Standing} (d : Directory) (n from next : ℕ) (low : 1 ≤ fr
         }
 
     -- so nothing was done before, where no other actor made a step between these
-    pub never_alone : {σ3 : Standing} → IsKind d.kind → IsValid f → (can : CanCall σ (MayFind d)) → (page : ℕ) → (claim : ClaimsRun true d first (first + n) σ2 σ3 (Some page)) → IsFirstAlone f d from next xs → IsFirstAlone f d (page + 1) (first + n) (goes_on can page claim).steps
+    pub never_alone : {σ3 : Standing} → IsKind d.kind → IsValid f → (can : CanCall σ (MayFind d)) → (page : ℕ)
+        → (claim : ClaimsRun true d first (first + n) σ2 σ3 (Some page)) → IsFirstAlone f d from next xs
+        → IsFirstAlone f d (page + 1) (first + n) (goes_on can page claim).steps
     unfolding goes_on
     never_alone kind valid can page claim alone k l legal met =
         let before = legal_earlier f k find.steps xs l (legal_earlier f k claim.steps ls l legal) in
         absurd (fails_alone kind valid page claim (alone k l before met) k l legal met)
 
     -- it was claimed
-    pub finds_run : {σ3 : Standing} (tells : Bool) → (tells ≡ true → Tells σ2) → (tells ≡ true → (from ≡ 1) × (next ≡ 1) × (xs ≡ [])) → 1 ≤ n → ClaimsRun true d first (first + n) σ2 σ3 None → Finds d n tells σ σ3 (Some first)
+    pub finds_run : {σ3 : Standing} (tells : Bool) → (tells ≡ true → Tells σ2) → (tells ≡ true → (from ≡ 1) × (next ≡ 1) × (xs ≡ [])) → 1 ≤ n
+        → ClaimsRun true d first (first + n) σ2 σ3 None → Finds d n tells σ σ3 (Some first)
     finds_run tells laws alone some claim =
         let holds_it = subst (λ x. HoldsRun x d first (first + n) claim.steps) (same2 claim) claim.outcome in
         let span = holds_it.holding ls (first_alone f d n from next first low find.steps xs so_far.vain find.kinds run_at) in

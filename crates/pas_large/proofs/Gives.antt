@@ -28,13 +28,15 @@ use Rattle.pas_bits.proofs.Runs.{run_of, to_run}
 none_in_turn : (P : ℕ → List Made → Type 0) (first : ℕ) → InTurn P (pages_from first (first - first)) []
 none_in_turn P first = let none : zero ≡ first - first = omega arith in subst (λ n. InTurn P (pages_from first n) []) none refl
 
-more_in_turn : (P : ℕ → List Made → Type 0) (first page end : ℕ) (xs steps : List Made) → first ≤ page → end ≡ page + 1 → P page xs → InTurn P (pages_from first (page - first)) steps → InTurn P (pages_from first (end - first)) (xs ++ steps)
+more_in_turn : (P : ℕ → List Made → Type 0) (first page end : ℕ) (xs steps : List Made) → first ≤ page → end ≡ page + 1 → P page xs
+    → InTurn P (pages_from first (page - first)) steps → InTurn P (pages_from first (end - first)) (xs ++ steps)
 more_in_turn P first page end xs steps low last this earlier =
     let count : suc (page - first) ≡ end - first = omega (arith, low, last) in
     let same : page ≡ first + (page - first) = omega (arith, low) in
     subst (λ n. InTurn P (pages_from first n) (xs ++ steps)) count (xs, steps, subst (λ q. P q xs) same this, earlier, refl)
 
-run_in_turn : (P : ℕ → List Made → Type 0) (first n : ℕ) (steps : List Made) → InTurn P (pages_from first (first + n - first)) steps → InTurn P (pages_from first n) steps
+run_in_turn : (P : ℕ → List Made → Type 0) (first n : ℕ) (steps : List Made) → InTurn P (pages_from first (first + n - first)) steps
+    → InTurn P (pages_from first n) steps
 run_in_turn P first n steps h = let count : first + n - first ≡ n = omega arith in subst (λ m. InTurn P (pages_from first m) steps) count h
 
 -- ---- the pages are backed, one page more
@@ -50,7 +52,9 @@ may_back_page : (f : Profile) (d : Directory) (first end page : ℕ) → first �
 may_back_page f d first end page low high v met = let here = span_in first end page low high in
     ((page * 256, omega arith, met.held (page * 256) (ap (in_span first end) (omega arith) ∙ here)), λ z. deed_word_of-positive d (sym (met.deeds page here) ∙ z))
 
-pub can_back : {σ : Standing} {page : ℕ} (d : Directory) (first end : ℕ) → first ≤ page → page < end → IsPage σ.seat.profile page → CanCall σ (HasPages d first end) → CanMake σ (Back page)
+-- Who has the pages of a run may back each of them.
+pub can_back : {σ : Standing} {page : ℕ} (d : Directory) (first end : ℕ) → first ≤ page → page < end → IsPage σ.seat.profile page
+    → CanCall σ (HasPages d first end) → CanMake σ (Back page)
 can_back {σ} {page} d first end low high is can = record { of_region = is; view = can.view; whole = can.whole; stood = can.stood; allowed = may_back_page σ.seat.profile d first end page low high can.view can.met }
 
 module _ {σ σ1 : Standing} (d : Directory) (first end page : ℕ) (low : first ≤ page) (high : page < end) (so_far : BacksRun d first page σ σ1) where
@@ -69,6 +73,7 @@ module _ {σ σ1 : Standing} (d : Directory) (first end page : ℕ) (low : first
     clear = record { on = λ q. old.does.clear q (met.clear.on q) };
   }
 
+  -- After some pages of a run were backed, the actor still has all of them.
   pub can_back_next : CanCall σ (HasPages d first end) → CanCall σ1 (HasPages d first end)
   can_back_next can = next_call so_calls can has_still
 
@@ -78,7 +83,8 @@ module _ {σ σ1 : Standing} (d : Directory) (first end page : ℕ) (low : first
   may_back : (v : View) → HasPages d first end v → BackedRun first page v (xs ++ v) → Allowed σ.seat.profile (xs ++ v) (Back page)
   may_back v met old = may_back_page σ.seat.profile d first end page low high (xs ++ v) (has_still v met old)
 
-  now_backed : (a : ℕ) (v : View) → HasPages d first end v → BackedRun first page v (xs ++ v) → Agrees σ.seat.profile (xs ++ v) (Back page) a → BackedRun first (page + 1) v (made (Back page) a ∷ (xs ++ v))
+  now_backed : (a : ℕ) (v : View) → HasPages d first end v → BackedRun first page v (xs ++ v) → Agrees σ.seat.profile (xs ++ v) (Back page) a
+      → BackedRun first (page + 1) v (made (Back page) a ∷ (xs ++ v))
   now_backed a v met old agrees =
       let step : Does nothing (xs ++ v) (made (Back page) a ∷ (xs ++ v)) = does_idly σ.seat.profile (Backing ∷ []) refl (made (Back page) a ∷ []) (xs ++ v) (refl, tt) (agrees, tt) in
       record {
@@ -94,6 +100,7 @@ module _ {σ σ1 : Standing} (d : Directory) (first end page : ℕ) (low : first
         ];
       }
 
+  -- A page that was backed makes the backed pages of its run one more.
   pub backed_more : {σ2 : Standing} → end ≡ page + 1 → (a : ℕ) → Makes σ1 σ2 (Back page) a → BacksRun d first end σ σ2
   backed_more last a makes = record {
     steps = made (Back page) a ∷ xs;
@@ -117,13 +124,18 @@ module _ {σ σ1 : Standing} (d : Directory) (first end page : ℕ) (low : first
   so_left : Calls σ σ1 (MayLeaveRun d first end) (λ v w. LeftRun d first page v w × ((p : ℕ) → in_span first end p ≡ true → KnowsDeed p d w)) so_far.steps
   so_left = call_knowing d (in_span first end) (call_as (LeftRun d first page) so_far.calls leaves_fewer (λ v w met left. left)) (λ v met. met.deeds)
 
-  may_leave : (v : View) → MayLeaveRun d first end v → LeftRun d first page v (so_far.steps ++ v) × ((p : ℕ) → in_span first end p ≡ true → KnowsDeed p d (so_far.steps ++ v)) → MayLeave page d (so_far.steps ++ v)
+  may_leave : (v : View) → MayLeaveRun d first end v
+      → LeftRun d first page v (so_far.steps ++ v) × ((p : ℕ) → in_span first end p ≡ true → KnowsDeed p d (so_far.steps ++ v))
+      → MayLeave page d (so_far.steps ++ v)
   may_leave v met left = search (arith, span_past, span_in)
 
+  -- Once the pages before one of a run are left, it may be left.
   pub can_leave_next : CanCall σ (MayLeaveRun d first end) → CanCall σ1 (MayLeave page d)
   can_leave_next can = next_call so_left can may_leave
 
-pub left_run_more : {σ σ1 σ2 : Standing} (d : Directory) (first page : ℕ) → first ≤ page → LeavesRun d first page σ σ1 → Leaves page d σ1 σ2 → LeavesRun d first (page + 1) σ σ2
+-- A page that was left makes the left pages of its run one more.
+pub left_run_more : {σ σ1 σ2 : Standing} (d : Directory) (first page : ℕ) → first ≤ page → LeavesRun d first page σ σ1 → Leaves page d σ1 σ2
+    → LeavesRun d first (page + 1) σ σ2
 left_run_more d first page low so_far h =
     let calls = call_then (Does (left_run first (page + 1))) (so_left d first (page + 1) page low (omega arith) so_far) h.calls (may_leave d first (page + 1) page low (omega arith) so_far)
     (λ v met a b. does_as (left_run first (page + 1)) (does_then a.0.does b.does) (λ g. inl refl) (λ q. both_fates Lost (in_span first page q) (page == q) (in_span first (page + 1) q) refl (span_more first page q low))
@@ -145,7 +157,9 @@ back_events k v (m ∷ more) = let rest = back_events k v more in let one = with
 run_span : (first n g : ℕ) → in_run (first * 256 + 0) (n * 256) g ≡ in_span first (first + n) (g / 256)
 run_span first n g = search (arith, run_of, span_in, in_parts, to_run)
 
-pub run_is : (d : Directory) (first n word g : ℕ) → in_run (grain_of (run_block d first n word).name) (length_of (run_block d first n word)) g ≡ in_span first (first + n) (g / 256)
+-- The block of a run covers just the grains of the run's pages.
+pub run_is : (d : Directory) (first n word g : ℕ)
+    → in_run (grain_of (run_block d first n word).name) (length_of (run_block d first n word)) g ≡ in_span first (first + n) (g / 256)
 run_is d first n word g = search (arith, run_span)
 
 is_run_block : (d : Directory) (first n word : ℕ) (block : Block) → block ≡ block_of d.heap first 0 (n * 256) word → block ≡ run_block d first n word
@@ -159,7 +173,8 @@ module _ {σ σ1 : Standing} (d : Directory) (first n : ℕ) (backs : BacksRun d
   kinds : Only (Backing ∷ []) backs.steps
   kinds = only_backs first n backs.steps order
 
-  may_give : IsDirectoryOf σ.seat.profile d → (v : View) → HasPages d first (first + n) v → BackedRun first (first + n) v (backs.steps ++ v) → MayGive σ1.seat.profile d.heap first 0 (n * 256) (backs.steps ++ v)
+  may_give : IsDirectoryOf σ.seat.profile d → (v : View) → HasPages d first (first + n) v → BackedRun first (first + n) v (backs.steps ++ v)
+      → MayGive σ1.seat.profile d.heap first 0 (n * 256) (backs.steps ++ v)
   may_give of_profile v met back = record {
     held = λ g inside. back.does.held g ∙ met.held g (sym (run_span first n g) ∙ inside);
     bears = λ g inside.
@@ -167,9 +182,11 @@ module _ {σ σ1 : Standing} (d : Directory) (first n : ℕ) (backs : BacksRun d
         bears_by d p (subst (λ s. IsDirectoryOf s.profile d) (sym backs.calls.adds.seat_is) of_profile) (deeds_same (Backing ∷ []) refl p backs.steps v kinds ∙ met.deeds p is) b.backed clear.stamped;
   }
 
+  -- Once the pages of a run are backed, its block may be given.
   pub can_give : IsDirectoryOf σ.seat.profile d → CanCall σ (HasPages d first (first + n)) → CanCall σ1 (MayGive σ1.seat.profile d.heap first 0 (n * 256))
   can_give of_profile can = next_call backs.calls can (may_give of_profile)
 
+  -- The grains of a run within the region end within it.
   pub gives_within : first + n ≤ σ.seat.profile.pages + 1 → first * 256 + 0 + n * 256 ≤ 256 * (σ1.seat.profile.pages + 1)
   gives_within region = let high : first + n ≤ σ1.seat.profile.pages + 1 = subst (λ s. first + n ≤ s.profile.pages + 1) (sym backs.calls.adds.seat_is) region in omega (arith, high)
 
@@ -193,9 +210,11 @@ module _ {σ σ1 : Standing} (d : Directory) (first n : ℕ) (backs : BacksRun d
           };
         })
 
+    -- Once its block is given, the pages of a run may be left.
     pub can_leave_run : CanCall σ (HasPages d first (first + n)) → CanCall σ2 (MayLeaveRun d first (first + n))
     can_leave_run can = next_call given_call can (λ v met given. given.leave)
 
+    -- A run whose pages were backed, whose block was given and whose pages were left was given.
     pub gives_run : {σ3 : Standing} → LeavesRun d first (first + n) σ2 σ3 → GivesRun d first n block σ σ3
     gives_run left = record {
       backs = backs.steps;

@@ -17,6 +17,7 @@ only_backs first n = in_turn_always BackStep (λ m. is_in (Backing ∷ []) (kind
 abbrev pub BacksIn : ℕ → ℕ → List Made → Type 0
 BacksIn first end = Always (λ m before. (page : ℕ) → m.step ≡ Back page → (first ≤ page) × (page < end))
 
+-- Backs of the pages of a run in turn are backs of pages in its span.
 pub backs_in : (first n : ℕ) (steps : List Made) → InTurn BackStep (pages_from first n) steps → BacksIn first (first + n) steps
 backs_in first zero steps h = subst (BacksIn first (first + zero)) (sym h) tt
 backs_in first (suc n) steps h =
@@ -26,6 +27,7 @@ backs_in first (suc n) steps h =
           (λ m before its page e. let at = its page e in (at.0, omega (arith, at.1))) (backs_in first n h.1 h.3),
     )
 
+-- Backs of the pages of a run in turn are at most one step a page.
 pub backs_few : (first n : ℕ) (steps : List Made) → InTurn BackStep (pages_from first n) steps → length steps ≤ n
 backs_few first zero steps h = let none : length steps ≡ 0 = ap length h in omega (arith, none)
 backs_few first (suc n) steps h =

@@ -30,15 +30,19 @@ use Rattle.pas_large.specs.Pages.{OnceAfter}
 pub deeds_none : (ks : Kinds) (page : ℕ) (steps : List Made) → is_in ks Deeding ≡ false → Only ks steps → Always (MakesNoDeedHere page) steps
 deeds_none ks page steps none = always_map (λ m before. is_in ks (kind_of m.step) ≡ true) (MakesNoDeedHere page) steps (λ m before is d e z. absurd (true≢false (sym is ∙ ap (λ s. is_in ks (kind_of s)) e ∙ none)))
 
+-- Steps of kinds without a park park no page.
 pub parks_none : (ks : Kinds) (page : ℕ) (steps : List Made) → is_in ks Parking ≡ false → Only ks steps → Always (ParksNotHere page) steps
 parks_none ks page steps none = always_map (λ m before. is_in ks (kind_of m.step) ≡ true) (ParksNotHere page) steps (λ m before is e. absurd (true≢false (sym is ∙ ap (λ s. is_in ks (kind_of s)) e ∙ none)))
 
+-- Steps that keep a page's right don't park it.
 pub parks_kept : (page : ℕ) (steps : List Made) → KeepsRight page steps → Always (ParksNotHere page) steps
 parks_kept page steps = always_map (λ m before. GivesUp page m.step → ⊥) (ParksNotHere page) steps (λ m before keeps e. keeps (subst (GivesUp page) (sym e) GivesUp.Parks))
 
+-- Two lists of steps that don't park a page don't park it together.
 pub parks_both : (page : ℕ) (ys xs : List Made) → Always (ParksNotHere page) ys → Always (ParksNotHere page) xs → Always (ParksNotHere page) (ys ++ xs)
 parks_both page ys xs = always_both (ParksNotHere page) (ParksNotHere page) ys xs (λ m before h. h)
 
+-- Two lists of steps that don't make a page's deed don't make it together.
 pub deeds_both : (page : ℕ) (ys xs : List Made) → Always (MakesNoDeedHere page) ys → Always (MakesNoDeedHere page) xs → Always (MakesNoDeedHere page) (ys ++ xs)
 deeds_both page ys xs = always_both (MakesNoDeedHere page) (MakesNoDeedHere page) ys xs (λ m before h. h)
 
@@ -46,6 +50,7 @@ deeds_both page ys xs = always_both (MakesNoDeedHere page) (MakesNoDeedHere page
 abbrev pub OffPage : ℕ → List Made → Type 0
 OffPage p = Always (λ m before. (q : ℕ) × (p ≢ q) × IsOnPage q m.step)
 
+-- Steps on one page are off every other.
 pub off_on : (q p : ℕ) (ys : List Made) → p ≢ q → OnlyOn q ys → OffPage p ys
 off_on q p ys ne = always_map (λ m before. IsOnPage q m.step) (λ m before. (r : ℕ) × (p ≢ r) × IsOnPage r m.step) ys (λ m before on. (q, ne, on))
 
@@ -65,9 +70,11 @@ not_deeded : (q p : ℕ) (s : Step) (x : Directory) → p ≢ q → IsOnPage q s
 not_deeded q p s x ne (IsOnPage.Deeds d) e = let same : q ≡ p = cc in ne (sym same)
 not_deeded q p s x ne on e = cc
 
+-- Steps off a page don't park it.
 pub off_parks : (p : ℕ) (ys : List Made) → OffPage p ys → Always (ParksNotHere p) ys
 off_parks p ys = always_map (λ m before. (q : ℕ) × (p ≢ q) × IsOnPage q m.step) (ParksNotHere p) ys (λ m before off. not_parked off.0 p m.step off.1 off.2)
 
+-- Steps off a page don't make its deed.
 pub off_deeds : (p : ℕ) (ys : List Made) → OffPage p ys → Always (MakesNoDeedHere p) ys
 off_deeds p ys = always_map (λ m before. (q : ℕ) × (p ≢ q) × IsOnPage q m.step) (MakesNoDeedHere p) ys (λ m before off x e z. not_deeded off.0 p m.step x off.1 off.2 e)
 
@@ -84,6 +91,7 @@ left_off d p ys xs off left = record {
   parks = elim left.parks [ inl parks ↦ inl (parks_both p ys xs (off_parks p ys off) parks) | inr broken ↦ inr (once_later (OfHere d p) ys xs broken.0, once_later (BrokenHere p) ys xs broken.1) ];
 }
 
+-- A page that was got stays so by steps off it.
 pub got_off : (d : Directory) (p : ℕ) (ys xs : List Made) → OffPage p ys → GotOf d p xs → GotOf d p (ys ++ xs)
 got_off d p ys xs off got = record {
   right = off_right p ys xs off ∙ got.right;
@@ -95,18 +103,22 @@ got_off d p ys xs off got = record {
 
 -- ---- one page, with steps that stood before and have neither its right nor a grain of it
 module _ (d : Directory) (p : ℕ) (xs : List Made) (left : LeftOrBroken d p xs) where
+  -- Behind steps that left a page alone its right is where later steps took it.
   pub right_at : (b : List Made) → has_right (b ++ xs) p ≡ has_right b p
   right_at b = right_own p b xs left.right
 
+  -- Behind steps that left a page alone, its grains are held where later steps took them.
   pub held_at : (b : List Made) (word i : ℕ) → word < 4 → i < 64 → holds (b ++ xs) (p * 256 + (64 * word + i)) ≡ holds b (p * 256 + (64 * word + i))
   held_at b word i w lt = holds_own (p * 256 + (64 * word + i)) b xs (left.none (p * 256 + (64 * word + i)) (omega (arith, w, lt)))
 
+  -- A page's right that later steps keep is kept behind steps that left the page alone.
   pub kept_at : (m : Made) (b : List Made) → KeptHere p m b → KeptHere p m (b ++ xs)
   kept_at m b h = right_at b ∙ h
 
   shows_at : (word : ℕ) → word < 4 → (r : Readings) (m : Made) (b : List Made) → ShowsHere p word r m b → ShowsHere p word r m (b ++ xs)
   shows_at word w r m b h = (h.0, right_at b ∙ h.1, λ i lt. h.2 i lt ∙ ap (λ t. has_bit m.answer i || t) (sym (held_at b word i w lt)))
 
+  -- A page that later steps broke was broken behind steps that left the page alone.
   pub broken_at : (m : Made) (b : List Made) → BrokenHere p m b → BrokenHere p m (b ++ xs)
   broken_at m b h = record {
     left = h.left;
@@ -129,6 +141,7 @@ left_before d p ys xs alone left = record {
   ];
 }
 
+-- A page that later steps got was got behind steps that left it alone.
 pub got_before : (d : Directory) (p : ℕ) (ys xs : List Made) → LeftAlone p xs → GotOf d p ys → GotOf d p (ys ++ xs)
 got_before d p ys xs alone got = record {
   right = right_own p ys xs alone.right ∙ got.right;
@@ -147,6 +160,7 @@ missed_at d p xs alone m b (inl other) = inl other
 missed_at d p xs alone m b (inr (inl lost)) = inr (inl (lost.0, lost.1, right_own p b xs alone.right ∙ lost.2, fresh_before d p b xs alone lost.3))
 missed_at d p xs alone m b (inr (inr broken)) = inr (inr (broken_at d p xs (left_of_alone d p xs alone) m b broken))
 
+-- A page that later steps missed was missed behind steps that left it alone.
 pub missed_before : (d : Directory) (p : ℕ) (ys xs : List Made) → LeftAlone p xs → Once (MissedHere d p) ys → Once (MissedHere d p) (ys ++ xs)
 missed_before d p ys xs alone = once_earlier (MissedHere d p) (MissedHere d p) ys xs (missed_at d p xs alone)
 
@@ -164,10 +178,12 @@ word_back : (page word mask : ℕ) (piece : List Made) → WordPut page word mas
 word_back page word mask piece (inl none) = subst (Only giving_back) (sym none.1) tt
 word_back page word mask piece (inr puts) = subst (Only giving_back) (sym puts.2) (refl, tt)
 
-word_gone : (page word mask g : ℕ) (piece : List Made) (v : View) → WordPut page word mask piece → in_mask page word mask g ≡ true → holds (piece ++ v) g ≡ false
+word_gone : (page word mask g : ℕ) (piece : List Made) (v : View) → WordPut page word mask piece → in_mask page word mask g ≡ true
+    → holds (piece ++ v) g ≡ false
 word_gone page word mask g piece v h is = search (arith, true≢false)
 
-below_gone : (page : ℕ) (mask : Mask4) (g : ℕ) (v : View) → masked page mask g ≡ true → (n : ℕ) (steps : List Made) → PutsBelow page mask n steps → g / 64 % 4 < n → holds (steps ++ v) g ≡ false
+below_gone : (page : ℕ) (mask : Mask4) (g : ℕ) (v : View) → masked page mask g ≡ true → (n : ℕ) (steps : List Made) → PutsBelow page mask n steps
+    → g / 64 % 4 < n → holds (steps ++ v) g ≡ false
 below_gone page mask g v is zero steps h lt = absurd (omega (arith, lt))
 below_gone page mask g v is (suc n) steps h lt = ap (λ s. holds (s ++ v) g) h.4 ∙ ap (λ s. holds s g) (append_assoc h.0 h.1 v) ∙ elim (cases_eq n (g / 64 % 4)) [
   | inl e ↦ word_gone page n (slice_index mask.0 n) g h.0 (h.1 ++ v) h.2 (in_word page mask n g ∙ and_from (n == g / 64 % 4) (masked page mask g) (eq-eqb n (g / 64 % 4) e) is)
@@ -181,6 +197,7 @@ hint_later m before xs empty page same = let e = empty page same in record {
   free = λ word lt. since_earlier (ReadsAllFree page word) (TakesNone page) (ReadsAllFree page word) (TakesNone page) before xs (λ n b r. r) (λ n b r. r) (e.free word lt);
 }
 
+-- Two lists of steps that hint only what they read as empty do so together.
 pub hints_both : (ys xs : List Made) → Always HintsEmpty ys → Always HintsEmpty xs → Always HintsEmpty (ys ++ xs)
 hints_both ys xs = always_both HintsEmpty HintsEmpty ys xs (λ m before is. hint_later m before xs is)
 
@@ -199,6 +216,7 @@ module _ {σ σ1 : Standing} (page : ℕ) (d : Directory) (mask : Mask4) (h : Pu
   pub nothing_held : (before : List Made) (g : ℕ) → (masked page mask g ≡ false → holds before g ≡ false) → holds ((h.after ++ h.puts) ++ before) g ≡ false
   nothing_held before g others = search (arith, cases_Bool, append_assoc, put_gone, still_none)
 
+  -- Grains that are put back when a page is left hint only pages that were read as empty.
   pub left_hints : (before : List Made) → Always HintsEmpty before → Always HintsEmpty ((h.after ++ h.puts) ++ before)
   left_hints before all = hints_both (h.after ++ h.puts) before
       (hints_both h.after h.puts (always_map GivesDuly HintsEmpty h.after (λ m b due. due.0) (leave_due page d h.after h.order)) (hints_none h.puts (puts_kinds page mask 4 h.puts h.put_order))) all
@@ -209,7 +227,8 @@ hints_park true page steps (inl h) = subst (Always (ParksNotHere page)) (sym h.2
 hints_park true page steps (inr h) = subst (Always (ParksNotHere page)) (sym h.1) ((λ e. cc), ((λ e. cc), tt))
 hints_park false page steps h = subst (Always (ParksNotHere page)) (sym h) tt
 
-module _ (page : ℕ) (d : Directory) (is : IsDirectory d) (free : Mask4) (xs : List Made) (right : has_right xs page ≡ true) (got : Once (GetsHere page) xs) (none : (g : ℕ) → g / 256 ≡ page → holds xs g ≡ false) where
+module _ (page : ℕ) (d : Directory) (is : IsDirectory d) (free : Mask4) (xs : List Made) (right : has_right xs page ≡ true) (got : Once (GetsHere page) xs)
+    (none : (g : ℕ) → g / 256 ≡ page → holds xs g ≡ false) where
   abbrev first : List Made
   first = looks page (words free) 4
 
@@ -226,16 +245,20 @@ module _ (page : ℕ) (d : Directory) (is : IsDirectory d) (free : Mask4) (xs : 
     read = λ word lt. looks_read page (words free) (is_set free) (λ w b small. at_word free w b small) xs right none 4 word lt lt;
   }
 
-  end_parks : (usable all_free : Bool) (after : List Made) → MatchBool usable (HasUsable d free) (HasNoUsable d free) → EndsLeave usable page d all_free after → Always (ParksNotHere page) (after ++ first) ⊎ Once BrokenAfter (after ++ first)
+  end_parks : (usable all_free : Bool) (after : List Made) → MatchBool usable (HasUsable d free) (HasNoUsable d free) → EndsLeave usable page d all_free after
+      → Always (ParksNotHere page) (after ++ first) ⊎ Once BrokenAfter (after ++ first)
   end_parks true all_free after usable h = search (arith, parks_both, hints_park, parks_none, looks_only)
   end_parks false all_free after unusable h = search (arith, once_later, park_breaks)
 
-leave_parks : (page : ℕ) (d : Directory) (is : IsDirectory d) (xs steps : List Made) → has_right xs page ≡ true → Once (GetsHere page) xs → ((g : ℕ) → g / 256 ≡ page → holds xs g ≡ false) → LeaveSteps page d steps
+leave_parks : (page : ℕ) (d : Directory) (is : IsDirectory d) (xs steps : List Made) → has_right xs page ≡ true → Once (GetsHere page) xs
+    → ((g : ℕ) → g / 256 ≡ page → holds xs g ≡ false) → LeaveSteps page d steps
     → Always (ParksNotHere page) steps ⊎ OnceAfter xs (BrokenHere page) steps
 leave_parks page d is xs steps right got none h =
     subst (λ s. Always (ParksNotHere page) s ⊎ OnceAfter xs (BrokenHere page) s) (sym h.steps_are) (end_parks page d is h.free xs right got none h.usable h.all_free h.after h.usable_is h.ends)
 
-pub released : {σ σ1 : Standing} (page : ℕ) (d : Directory) → IsDirectory d → (before : List Made) → GotOf d page before → (h : PutsAndLeaves page d full σ σ1) → LeftOrBroken d page ((h.after ++ h.puts) ++ before)
+-- A page that was got and then put back and left is as it was, or it was broken.
+pub released : {σ σ1 : Standing} (page : ℕ) (d : Directory) → IsDirectory d → (before : List Made) → GotOf d page before → (h : PutsAndLeaves page d full σ σ1)
+    → LeftOrBroken d page ((h.after ++ h.puts) ++ before)
 released page d is before got h =
     let all = h.after ++ h.puts in
     let ws = h.puts ++ before in

@@ -72,12 +72,14 @@ module _ (d : Directory) (p : ℕ) (xs : List Made) (left : LeftOrBroken d p xs)
   still_fresh : (b : List Made) → Once (OneHere d p) b → IsFresh d p b → Since (OneHere d p) (ParksNotHere p) b
   still_fresh b read h = search (arith, once_since)
 
-  lost_again : (f : Profile) (v : View) (m : Made) (b : List Made) → Agreed f v (b ++ xs) → Once (OfHere d p) xs → ReadUsable d p b → LostHere d p m b → LostHere d p m (b ++ xs)
+  lost_again : (f : Profile) (v : View) (m : Made) (b : List Made) → Agreed f v (b ++ xs) → Once (OfHere d p) xs → ReadUsable d p b → LostHere d p m b
+      → LostHere d p m (b ++ xs)
   lost_again f v m b agreed of (inl bare) h = absurd (not_bare f v b agreed of bare)
   lost_again f v m b agreed of (inr whole) (inr h) = absurd (not_bare f v b agreed of h.2)
   lost_again f v m b agreed of (inr whole) (inl h) = inl (h.0, h.1, right_at d p xs left b ∙ h.2, inr (since_earlier (OneHere d p) (ParksNotHere p) (OneHere d p) (ParksNotHere p) b xs one_at (λ m c h. h) (still_fresh b whole.offered h.3)))
 
-  failed_at : (f : Profile) (v : View) (m : Made) (b : List Made) → Agreed f v (b ++ xs) → ReadUsable d p b → LostHere d p m b ⊎ BrokenHere p m b → LostHere d p m (b ++ xs) ⊎ BrokenHere p m (b ++ xs)
+  failed_at : (f : Profile) (v : View) (m : Made) (b : List Made) → Agreed f v (b ++ xs) → ReadUsable d p b → LostHere d p m b ⊎ BrokenHere p m b
+      → LostHere d p m (b ++ xs) ⊎ BrokenHere p m (b ++ xs)
   failed_at f v m b agreed usable (inr broken) = inr (broken_at d p xs left m b broken)
   failed_at f v m b agreed usable (inl lost) = elim left.parks [ inl parks ↦ inl (lost_at parks m b lost) | inr broken ↦ inl (lost_again f v m b agreed broken.0 usable lost) ]
 
@@ -92,7 +94,8 @@ module _ (d : Directory) (n : ℕ) (xs : List Made) (left : (p : ℕ) → LeftOr
   vain_run : (f : Profile) (ys : List Made) → IsVain f d n ys → IsVain f d n (ys ++ xs)
   vain_run f ys vain = record { deeds = λ p of. deed_before p ys xs (vain.deeds p of); runs = λ first low high. bad_run first ys (vain.runs first low high) }
 
-  once_agreed : (P R : Made → List Made → Type 0) (f : Profile) (v : View) (ys : List Made) → Agreed f v (ys ++ xs) → ((m : Made) (b : List Made) → Agreed f v (b ++ xs) → P m b → R m (b ++ xs)) → Once P ys → Once R (ys ++ xs)
+  once_agreed : (P R : Made → List Made → Type 0) (f : Profile) (v : View) (ys : List Made) → Agreed f v (ys ++ xs)
+      → ((m : Made) (b : List Made) → Agreed f v (b ++ xs) → P m b → R m (b ++ xs)) → Once P ys → Once R (ys ++ xs)
   once_agreed P R f v [] agreed lift h = absurd h
   once_agreed P R f v (m ∷ ys) agreed lift (inl h) = inl (lift m ys agreed.1 h)
   once_agreed P R f v (m ∷ ys) agreed lift (inr h) = inr (once_agreed P R f v ys agreed.1 lift h)
@@ -114,7 +117,8 @@ pub find_again : (f : Profile) (d : Directory) (v : View) (xs : List Made) → M
 find_again f d v xs met agreed does = record { lacks = λ p knows. does.right p ∙ met.lacks p (knew_before f d p xs v agreed knows); clear = still_clear does met.clear }
 
 -- after these steps all is as it was, so those that follow do what they do alone
-pub after_still : {f : Profile} {R : View → View → Type 0} (d : Directory) (ys xs : List Made) → ((v u w : View) → Does nothing v u → R u w → R v w) → Leads f (MayFind d) (Does nothing) xs → Leads f (MayFind d) R ys → Leads f (MayFind d) R (ys ++ xs)
+pub after_still : {f : Profile} {R : View → View → Type 0} (d : Directory) (ys xs : List Made) → ((v u w : View) → Does nothing v u → R u w → R v w)
+    → Leads f (MayFind d) (Does nothing) xs → Leads f (MayFind d) R ys → Leads f (MayFind d) R (ys ++ xs)
 after_still {f} {R} d ys xs join still leads = record {
   from = λ v met agreed.
       let first = agreed_later f v ys xs agreed in
@@ -122,7 +126,8 @@ after_still {f} {R} d ys xs join still leads = record {
       subst (R v) (sym (append_assoc ys xs v)) (join v (xs ++ v) (ys ++ (xs ++ v)) does (leads.from (xs ++ v) (find_again f d v xs met first does) (agreed_first f v ys xs agreed)));
 }
 
-module _ (f : Profile) (d : Directory) (n : ℕ) (xs ys : List Made) (old : Only claiming_old xs) (left : (p : ℕ) → LeftOrBroken d p xs) (still : Leads f (MayFind d) (Does nothing) xs) where
+module _ (f : Profile) (d : Directory) (n : ℕ) (xs ys : List Made) (old : Only claiming_old xs) (left : (p : ℕ) → LeftOrBroken d p xs)
+    (still : Leads f (MayFind d) (Does nothing) xs) where
   deeds_run : (P Q : ℕ → Type 0) → ((s : ℕ) → P s → Q s) → DeedsOf d n P ys → DeedsOf d n Q (ys ++ xs)
   deeds_run P Q more deeds = always_both (DeedOf d n P) (DeedOf d n Q) ys xs (λ m b h p e same z. let its = h p e same z in (its.0, (its.1.0, its.1.1, all_usable d n xs left its.1.0 b its.1.2, more its.1.0 its.1.3)))
       deeds
@@ -133,6 +138,7 @@ module _ (f : Profile) (d : Directory) (n : ℕ) (xs ys : List Made) (old : Only
 
   -- with a view that the answers agree with
   module _ (v : View) (agreed : Agreed f v (ys ++ xs)) where
+    -- The run that a scan found, after a failed claim by the door, is found by all steps of the request.
     pub found_run : (first : ℕ) → FoundRun f d n ys first → FoundRun f d n (ys ++ xs) first
     found_run first found = record {
       of_region = found.of_region;
@@ -144,6 +150,7 @@ module _ (f : Profile) (d : Directory) (n : ℕ) (xs ys : List Made) (old : Only
       rise = rise_run found.rise;
     }
 
+    -- Where a scan found no run, after a failed claim by the door, all steps of the request found none.
     pub found_none : FoundNone f d n ys → FoundNone f d n (ys ++ xs)
     found_none none = record {
       still = after_still d ys xs (λ v u w a b. does_then a b) still none.still;

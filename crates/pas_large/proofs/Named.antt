@@ -19,7 +19,9 @@ some_none first found named none = cc
 pub named_steps : (n first : ℕ) (found : Option ℕ) → found ≡ Some first → missed_steps found n ≡ 48 * n
 named_steps n first found named = ap (λ o. missed_steps o n) named
 
-pub holds_named : {σ σ1 : Standing} (d : Directory) (n first : ℕ) (found : Option ℕ) → found ≡ Some first → (1 ≤ first) × (first + n ≤ σ.seat.profile.pages + 1) → ClaimsRun false d first (first + n) σ σ1 None → ClaimsNamed d n found σ σ1 (Some first)
+-- The claim of a named run that got all its pages holds the named run.
+pub holds_named : {σ σ1 : Standing} (d : Directory) (n first : ℕ) (found : Option ℕ) → found ≡ Some first → (1 ≤ first) × (first + n ≤ σ.seat.profile.pages + 1)
+    → ClaimsRun false d first (first + n) σ σ1 None → ClaimsNamed d n found σ σ1 (Some first)
 holds_named d n first found named region claim = record {
   steps = claim.steps;
   adds = adds_under claim.adds (λ v l stood met. may_claim_named d first (first + n) v met);
@@ -36,7 +38,9 @@ holds_named d n first found named region claim = record {
   };
 }
 
-pub misses_named : {σ σ1 : Standing} (d : Directory) (n first page : ℕ) (found : Option ℕ) → found ≡ Some first → ClaimsRun false d first (first + n) σ σ1 (Some page) → ClaimsNamed d n found σ σ1 None
+-- The claim of a named run that failed at a page misses the named run.
+pub misses_named : {σ σ1 : Standing} (d : Directory) (n first page : ℕ) (found : Option ℕ) → found ≡ Some first
+    → ClaimsRun false d first (first + n) σ σ1 (Some page) → ClaimsNamed d n found σ σ1 None
 misses_named d n first page found named claim = record {
   steps = claim.steps;
   adds = adds_under claim.adds (λ v l stood met. may_claim_named d first (first + n) v met);

@@ -49,11 +49,13 @@ pub record HasEnded (f : Profile) (d : Directory) (n : ℕ) (steps : List Made) 
 no_deed : (d : Directory) (steps : List Made) → Only claiming_old steps → MadeOf d steps
 no_deed d steps only = always_map (λ m before. is_in claiming_old (kind_of m.step) ≡ true) (λ m before. (p : ℕ) (e : Directory) → m.step ≡ Deed p e → m.answer ≡ 0 → e ≡ d) steps (λ m before is p e same z. absurd (true≢false (sym is ∙ ap (λ s. is_in claiming_old (kind_of s)) same))) only
 
+-- Deeds of pages of runs are of their directory alone.
 pub of_directory : (d : Directory) (n : ℕ) (P : ℕ → Type 0) (steps : List Made) → DeedsOf d n P steps → MadeOf d steps
 of_directory d n P steps deeds = always_map _ (λ m before. (p : ℕ) (e : Directory) → m.step ≡ Deed p e → m.answer ≡ 0 → e ≡ d) steps (λ m before h p e same z. (h p e same z).0) deeds
 
 module _ (f : Profile) (d : Directory) (n : ℕ) (tried : List Made) (old : Only claiming_old tried) (shows : OnlyDeedsShow f tried) where
-  named_ended : (found : Option ℕ) (rest : List Made) (answer : Result Block NoRoom) → IsServedNamed f d n found tried rest answer → HasEnded f d n (rest ++ tried) answer
+  named_ended : (found : Option ℕ) (rest : List Made) (answer : Result Block NoRoom) → IsServedNamed f d n found tried rest answer
+      → HasEnded f d n (rest ++ tried) answer
   named_ended found rest answer served = let block = served.0 in let is = served.2 in record {
     got = tried;
     after = rest;
@@ -77,7 +79,8 @@ module _ (f : Profile) (d : Directory) (n : ℕ) (tried : List Made) (old : Only
     steps_are = refl;
   }
 
-  scan_outcome : (got after : List Made) (answer : Result Block NoRoom) → MatchResult answer (IsAllocatedLarge f d n got after) (IsRefusedLarge f d n got after) → MatchResult answer (IsGivenRun f d n got after) (λ why. IsRefusedRun f d got after)
+  scan_outcome : (got after : List Made) (answer : Result Block NoRoom) → MatchResult answer (IsAllocatedLarge f d n got after) (IsRefusedLarge f d n got after)
+      → MatchResult answer (IsGivenRun f d n got after) (λ why. IsRefusedRun f d got after)
   scan_outcome got after (Ok block) is = record {
     first = is.first;
     of_region = is.found.of_region;
@@ -95,7 +98,8 @@ module _ (f : Profile) (d : Directory) (n : ℕ) (tried : List Made) (old : Only
   }
   scan_outcome got after (Err why) is = record { made = of_directory d n _ got is.found.deeds; scans = is.scans; still = is.still }
 
-  scan_ended : {found : Option ℕ} (rest : List Made) (answer : Result Block NoRoom) → IsScanned f d n found tried rest answer → HasEnded f d n (rest ++ tried) answer
+  scan_ended : {found : Option ℕ} (rest : List Made) (answer : Result Block NoRoom) → IsScanned f d n found tried rest answer
+      → HasEnded f d n (rest ++ tried) answer
   scan_ended rest answer is = record {
     got = is.searched ++ tried;
     after = is.after;
@@ -105,5 +109,7 @@ module _ (f : Profile) (d : Directory) (n : ℕ) (tried : List Made) (old : Only
     steps_are = ap (λ xs. xs ++ tried) is.rest_is ∙ append_assoc is.after is.searched tried;
   }
 
-  pub ended : (found : Option ℕ) (rest : List Made) (answer : Result Block NoRoom) → IsServedNamed f d n found tried rest answer ⊎ IsScanned f d n found tried rest answer → HasEnded f d n (rest ++ tried) answer
+  -- The steps of a request for whole pages, by the door or by the scan, are those of its search and then its end.
+  pub ended : (found : Option ℕ) (rest : List Made) (answer : Result Block NoRoom)
+      → IsServedNamed f d n found tried rest answer ⊎ IsScanned f d n found tried rest answer → HasEnded f d n (rest ++ tried) answer
   ended found rest answer outcome = elim outcome [ inl served ↦ named_ended found rest answer served | inr scanned ↦ scan_ended rest answer scanned ]

@@ -26,7 +26,7 @@ use Rattle.pas_bits.specs.{Bits.has_bit, Masks.is_set, Masks.AllSetBelow, Masks.
 use Rattle.pas_steps.specs.Evidence.{GetsHere, ShowsHere, KeptHere, ReadsDeed, GetsRight, NoDeedHere}
 use Rattle.pas_steps.specs.{Past.Once, Past.Since, Past.Always, Agreement.Agreed, Events.with_event, Events.events_by, Unknown.unknown_pages}
 use Rattle.pas_steps.specs.declared.step.{Made.Made, Step.Step, Step.TheVariants.Look, Step.TheVariants.Deed, Step.TheVariants.TakeRight}
-use Rattle.pas_steps.proofs.{Frames.rights_stay, Frames.events_append, Unknown.unknown_stays, Unknown.unknown_less, Evidence.deed_known, Sets.got_lost}
+use Rattle.pas_steps.proofs.{Frames.rights_stay, Frames.events_append, Unknown.unknown_no_more, Unknown.unknown_less, Evidence.deed_known, Sets.got_lost}
 use Rattle.pas_search.specs.Serving.{MayServe, HoldsNone, GotBefore, right_of}
 use Rattle.pas_search.proofs.Returns.{duly_none, duly_on}
 use Rattle.pas_large.specs.Evidence.{BrokenHere, TakenWholeHere, LostRightHere, LostHere, DeedsBelow, DeedsRise, MissedHere}
@@ -48,10 +48,12 @@ since_map P P' Q (m ∷ xs) f (inl h) = inl (f m xs h)
 since_map P P' Q (m ∷ xs) f (inr h) = inr (h.0, since_map P P' Q xs f h.1)
 
 -- at each later step Q holds, by what is known of it and of the steps before it
-pub since_more : (P Q R : Made → List Made → Type 0) (ys xs : List Made) → ((m : Made) (b : List Made) → R m b → Always R b → Q m (b ++ xs)) → Always R ys → Since P Q xs → Since P Q (ys ++ xs)
+pub since_more : (P Q R : Made → List Made → Type 0) (ys xs : List Made) → ((m : Made) (b : List Made) → R m b → Always R b → Q m (b ++ xs)) → Always R ys
+    → Since P Q xs → Since P Q (ys ++ xs)
 since_more P Q R [] xs f all h = h
 since_more P Q R (m ∷ ys) xs f all h = inr (f m ys all.0 all.1, since_more P Q R ys xs f all.1 h)
 
+-- What held once in the later steps of a call, after its earlier ones, held once in all of them.
 pub after_more : (P : Made → List Made → Type 0) (ys zs xs : List Made) → OnceAfter (zs ++ xs) P ys → OnceAfter xs P (ys ++ zs)
 after_more P ys zs xs h = once_earlier (λ m b. P m (b ++ (zs ++ xs))) (λ m b. P m (b ++ xs)) ys zs (λ m b x. subst (P m) (sym (append_assoc b zs xs)) x) h
 
@@ -66,7 +68,8 @@ module _ (d : Directory) (page : ℕ) (got : Mask4) {σ σ1 : Standing} (taken :
   ts_due : Always GivesDuly ts
   ts_due = due_none (Taking ∷ []) ts refl (takes_only page (words full) answers 4)
 
-  ts_read : (before : List Made) → GotBefore page before → (word : ℕ) → word < 4 → Since (ShowsHere page word (is_set taken.answers)) (KeptHere page) (ts ++ before)
+  ts_read : (before : List Made) → GotBefore page before → (word : ℕ) → word < 4
+      → Since (ShowsHere page word (is_set taken.answers)) (KeptHere page) (ts ++ before)
   ts_read before met word lt = takes_read page (words full) answers (is_set taken.answers) (λ w b small. at_word taken.answers w b small) before met.right met.none 4 word lt lt (full_word word lt)
 
   take_call : Calls σ σ1 (MayServe page d) (GetsGrains (masked page got)) ts
@@ -83,12 +86,14 @@ module _ (d : Directory) (page : ℕ) (got : Mask4) {σ σ1 : Standing} (taken :
     on_page : (g : ℕ) → masked page got g ≡ (page == g / 256)
     on_page g = ap (λ t. (page == g / 256) && t) (all (g % 256) (omega arith)) ∙ and-true (page == g / 256)
 
-    whole_here : (word : ℕ) → word < 4 → (m : Made) (before : List Made) → ShowsHere page word (is_set taken.answers) m before → TakenWholeHere page word m before
+    whole_here : (word : ℕ) → word < 4 → (m : Made) (before : List Made) → ShowsHere page word (is_set taken.answers) m before
+        → TakenWholeHere page word m before
     whole_here word small m before h = ((h.0, λ b lt. sym (h.2 b lt) ∙ set_read (64 * word + b) (all (64 * word + b) (omega (arith, small, lt)))), h.1)
 
     took : (v w : View) → GetsGrains (masked page got) v w → TookPage page v w
     took v w gets = search (arith, does_as, on_page, eq-eqb)
 
+    -- Takes that got all grains of a page keep it.
     pub keeps_all : TakesPage d page σ σ1 true
     keeps_all = record {
       steps = ts;
@@ -109,7 +114,8 @@ module _ (d : Directory) (page : ℕ) (got : Mask4) {σ σ1 : Standing} (taken :
   took_call : Calls σ σ1 (MayServe page d) (λ v w. GetsGrains (masked page got) v w × KnowsDeed page d w) ts
   took_call = call_knows page d take_call (λ v met. met.deed)
 
-  may_put_back : (v : View) → MayServe page d v → GetsGrains (masked page got) v (ts ++ v) × KnowsDeed page d (ts ++ v) → MayPutAndLeave page d (masked page got) (ts ++ v)
+  may_put_back : (v : View) → MayServe page d v → GetsGrains (masked page got) v (ts ++ v) × KnowsDeed page d (ts ++ v)
+      → MayPutAndLeave page d (masked page got) (ts ++ v)
   may_put_back v met gets = record {
     right = gets.0.does.right page ∙ met.right;
     deed = gets.1;
@@ -117,12 +123,15 @@ module _ (d : Directory) (page : ℕ) (got : Mask4) {σ σ1 : Standing} (taken :
     clear = gets.0.does.clear page met.clear;
   }
 
+  -- Grains that were taken of a page may be put back, and the page be left.
   pub can_put : CanCall σ (MayServe page d) → CanCall σ1 (MayPutAndLeave page d (masked page got))
   can_put can = next_call took_call can may_put_back
 
   module _ {σ2 : Standing} (back : PutsAndLeaves page d got σ1 σ2) (x : ℕ) (clear : IsLowestClear got x) where
     -- what was got is lost again
-    again : (t had : Bool) → (t ≡ true → had ≡ false) → (later (if t then Gained else Kept) (if t then Lost else Kept) ≡ Kept) ⊎ ((had ≡ false) × (now (later (if t then Gained else Kept) (if t then Lost else Kept)) false ≡ false))
+    again : (t had : Bool) → (t ≡ true → had ≡ false)
+        → (later (if t then Gained else Kept) (if t then Lost else Kept) ≡ Kept)
+          ⊎ ((had ≡ false) × (now (later (if t then Gained else Kept) (if t then Lost else Kept)) false ≡ false))
     again t had none = grind arith
 
     left_call : Calls σ σ2 (MayServe page d) (Does (right_of page Lost)) ((back.after ++ back.puts) ++ ts)
@@ -151,6 +160,7 @@ module _ (d : Directory) (page : ℕ) (got : Mask4) {σ σ1 : Standing} (taken :
     all_back : (before : List Made) → HoldsNone page before → HoldsNone page (((back.after ++ back.puts) ++ ts) ++ before)
     all_back before none g at = ap (λ s. holds s g) (append_assoc (back.after ++ back.puts) ts before) ∙ nothing_held page d got back (ts ++ before) g (λ other. takes_leave page full taken.answers got taken.got_is g before other ∙ none g at)
 
+    -- Takes that missed a grain, after which all was put back and left, leave the page broken.
     pub leaves_broken : TakesPage d page σ σ2 false
     leaves_broken = record {
       steps = (back.after ++ back.puts) ++ ts;
@@ -170,6 +180,7 @@ read_here p a known = ap (λ t. if t then a else known) (eq-eqb p p refl)
 known_here : (s : Step) (a p known : ℕ) (d : Directory) → ReadsDeed p s → a ≡ deed_word_of d → deed_after s a p known ≡ deed_word_of d
 known_here s a p known d h e = search (arith, read_here, ne_eqb, deed_word_of-positive)
 
+-- A page that was read as of a directory is known to be so.
 pub known_of : (f : Profile) (d : Directory) (p : ℕ) (xs : List Made) (v : View) → Agreed f v xs → Once (OfHere d p) xs → KnowsDeed p d (xs ++ v)
 known_of f d p [] v agreed h = absurd h
 known_of f d p (m ∷ xs) v agreed (inl h) = known_here m.step m.answer p (known_deed (xs ++ v) p) d h.0 h.1
@@ -179,15 +190,18 @@ abbrev pub deed_look : ℕ → ℕ → Made
 deed_look page a = made (Look (Word.Deed page)) a
 
 -- ---- both steps
-way_taken : (page : ℕ) (t got had : Bool) (w : Way) → had_after w had ≡ true → t ≡ got → had_after (if (page == page) && t then w else Rests) had ≡ now (if got then Gained else Kept) had
+way_taken : (page : ℕ) (t got had : Bool) (w : Way) → had_after w had ≡ true → t ≡ got
+    → had_after (if (page == page) && t then w else Rests) had ≡ now (if got then Gained else Kept) had
 way_taken page t got had w gains e = search (arith, eq-eqb)
 
-module _ {σ σ1 : Standing} (deeds : Bool) (d : Directory) (page a : ℕ) (m : Made) (adds : Adds σ σ1 AnyView (m ∷ deed_look page a ∷ [])) (on : IsOnPage page m.step) (kind : is_in getting (kind_of m.step) ≡ true) where
+module _ {σ σ1 : Standing} (deeds : Bool) (d : Directory) (page a : ℕ) (m : Made) (adds : Adds σ σ1 AnyView (m ∷ deed_look page a ∷ []))
+    (on : IsOnPage page m.step) (kind : is_in getting (kind_of m.step) ≡ true) where
   abbrev pair : List Made
   pair = m ∷ deed_look page a ∷ []
 
   -- this becomes of the right, and of nothing else
-  pair_does : (r : Fate) (v : View) → Agreed σ.seat.profile v pair → has_right (pair ++ v) page ≡ now r (has_right v page) → Does (right_of page r) v (pair ++ v)
+  pair_does : (r : Fate) (v : View) → Agreed σ.seat.profile v pair → has_right (pair ++ v) page ≡ now r (has_right v page)
+      → Does (right_of page r) v (pair ++ v)
   pair_does r v agreed right =
       let kinds : Only getting pair = (kind, (refl, tt)) in
       let does = does_on_page σ.seat.profile page r Kept getting refl refl pair v kinds (on, (IsOnPage.Looks (Word.Deed page), tt)) agreed right (λ is. record {
@@ -197,8 +211,13 @@ module _ {σ σ1 : Standing} (deeds : Bool) (d : Directory) (page a : ℕ) (m : 
       }) in
       does_as (right_of page r) does (λ x. inl refl) (λ q. refl) (λ q h. subst (λ t. ClearAfter t q v (pair ++ v)) (looked (page == q) Kept) h)
 
-  pair_outcome : (got : Bool) → ((v : View) → has_right (pair ++ v) page ≡ now (if got then Gained else Kept) (has_right v page)) → (got ≡ true → (v : View) → Agreed σ.seat.profile v pair → KnowsDeed page d (pair ++ v)) → (got ≡ true → GetsRight page m.step m.answer) → (got ≡ false → (x : Directory) → m.step ≡ Deed page x → m.answer ≡ 0 → ⊥) → (got ≡ false → deeds ≡ false → LostRightHere d page m (deed_look page a ∷ []))
-      → (got ≡ false → (before : List Made) (v : View) → LeftAlone page before → ReadUsable d page before → Agreed σ.seat.profile v (pair ++ before) → LostHere d page m (deed_look page a ∷ before)) → MatchBool got (GetsRightOf σ.seat.profile d page pair) (LosesRightOf deeds σ.seat.profile d page pair)
+  pair_outcome : (got : Bool) → ((v : View) → has_right (pair ++ v) page ≡ now (if got then Gained else Kept) (has_right v page))
+      → (got ≡ true → (v : View) → Agreed σ.seat.profile v pair → KnowsDeed page d (pair ++ v)) → (got ≡ true → GetsRight page m.step m.answer)
+      → (got ≡ false → (x : Directory) → m.step ≡ Deed page x → m.answer ≡ 0 → ⊥)
+      → (got ≡ false → deeds ≡ false → LostRightHere d page m (deed_look page a ∷ []))
+      → (got ≡ false → (before : List Made) (v : View) → LeftAlone page before → ReadUsable d page before → Agreed σ.seat.profile v (pair ++ before)
+          → LostHere d page m (deed_look page a ∷ before))
+      → MatchBool got (GetsRightOf σ.seat.profile d page pair) (LosesRightOf deeds σ.seat.profile d page pair)
   pair_outcome true right known gets undeeded missed lost = record {
     leads = record { from = λ v met agreed. let does = pair_does Gained v agreed (right v) in record { does = does; may = record { right = right v; deed = known refl v agreed; clear = does.clear page (met.clear.on page) } } };
     got = λ before alone. record { right = right before; got = inl (gets refl); none = λ g at. holds_same getting refl g pair before (kind, (refl, tt)) ∙ alone.none g at; newest = gets refl };
@@ -211,7 +230,9 @@ module _ {σ σ1 : Standing} (deeds : Bool) (d : Directory) (page a : ℕ) (m : 
     lost = λ may before v alone usable agreed. inl (lost refl before v alone usable agreed);
   }
 
-  pair_gets : (got : Bool) → (deeds ≡ false → Only getting_old pair) → (deeds ≡ false → got ≡ true → Once (OfHere d page) pair) → DeedsOn d page (m ∷ []) → OnlyDeedsShow σ.seat.profile pair → MatchBool got (GetsRightOf σ.seat.profile d page pair) (LosesRightOf deeds σ.seat.profile d page pair) → GetsPage deeds d page σ σ1 got
+  pair_gets : (got : Bool) → (deeds ≡ false → Only getting_old pair) → (deeds ≡ false → got ≡ true → Once (OfHere d page) pair) → DeedsOn d page (m ∷ [])
+      → OnlyDeedsShow σ.seat.profile pair → MatchBool got (GetsRightOf σ.seat.profile d page pair) (LosesRightOf deeds σ.seat.profile d page pair)
+      → GetsPage deeds d page σ σ1 got
   pair_gets got old of made shows outcome = record {
     steps = pair;
     adds = adds;
@@ -227,20 +248,23 @@ module _ {σ σ1 : Standing} (deeds : Bool) (d : Directory) (page a : ℕ) (m : 
   }
 
 -- ---- the claim of a page whose deed word was read as the directory's
-pub claim_gets : {σ σ1 σ2 : Standing} (deeds : Bool) (d : Directory) (page a : ℕ) → a ≡ deed_word_of d → Makes σ σ1 (Look (Word.Deed page)) a → (got : Bool) → Claims page d σ1 σ2 got → GetsPage deeds d page σ σ2 got
+pub claim_gets : {σ σ1 σ2 : Standing} (deeds : Bool) (d : Directory) (page a : ℕ) → a ≡ deed_word_of d → Makes σ σ1 (Look (Word.Deed page)) a → (got : Bool)
+    → Claims page d σ1 σ2 got → GetsPage deeds d page σ σ2 got
 claim_gets {σ} {σ1} {σ2} deeds d page a is look got h =
     let m : Made = made (TakeRight page d) h.answer in let f : Profile = σ.seat.profile in let known = λ (v : View). read_here page a (known_deed v page) ∙ is in
     let adds : Adds σ σ2 AnyView (m ∷ deed_look page a ∷ []) = adds_call {D = KnowsDeed page d} (adds_step adds_none look (λ v l stood met. tt)) h.calls.adds (λ v l stood met. known v) in
-    pair_gets deeds d page a m adds (IsOnPage.Claims d) refl got (λ none. (refl, (refl, tt))) (λ none gets. inr (inl (ReadsDeed.Looks, is))) ((λ p e same z. cc), tt) (λ k v agreed. let still = unknown_stays f (m ∷ deed_look page a ∷ []) v agreed in omega (arith, still))
+    pair_gets deeds d page a m adds (IsOnPage.Claims d) refl got (λ none. (refl, (refl, tt))) (λ none gets. inr (inl (ReadsDeed.Looks, is))) ((λ p e same z. cc), tt) (λ k v agreed. let still = unknown_no_more f (m ∷ deed_look page a ∷ []) v agreed in omega (arith, still))
     (pair_outcome deeds d page a m adds (IsOnPage.Claims d) refl got (λ v. way_taken page (has_bit h.answer (page % 64)) got (has_right v page) (FromOffer (number_of d)) refl (sym h.got_is))
     (λ e v agreed. knows_still f d page (m ∷ []) (deed_look page a ∷ v) (agreed.0, tt) (known v)) (λ e. GetsRight.Claims d h.answer (sym h.got_is ∙ e)) (λ e x same z. cc) (λ e none. (refl, sym h.got_is ∙ e, refl, inl ((λ x. cc), tt)))
     (λ e before v alone usable agreed. inl (refl, sym h.got_is ∙ e, alone.right, inl ((λ e. cc), alone.parks))))
 
 -- ---- the deed of a page whose deed word was read as another word
-other_known : (f : Profile) (d : Directory) (page a : ℕ) (before : List Made) (v : View) → a ≢ deed_word_of d → ReadUsable d page before → Agreed f v (deed_look page a ∷ before) → Once (NoDeedHere page) before
+other_known : (f : Profile) (d : Directory) (page a : ℕ) (before : List Made) (v : View) → a ≢ deed_word_of d → ReadUsable d page before
+    → Agreed f v (deed_look page a ∷ before) → Once (NoDeedHere page) before
 other_known f d page a before v ne h agreed = search (arith, known_of, deed_word_of-positive)
 
-module _ {σ σ1 σ2 : Standing} (d : Directory) (page a b : ℕ) (is : IsPage σ.seat.profile page) (ne : a ≢ deed_word_of d) (look : Makes σ σ1 (Look (Word.Deed page)) a) (deed : Makes σ1 σ2 (Deed page d) b) where
+module _ {σ σ1 σ2 : Standing} (d : Directory) (page a b : ℕ) (is : IsPage σ.seat.profile page) (ne : a ≢ deed_word_of d)
+    (look : Makes σ σ1 (Look (Word.Deed page)) a) (deed : Makes σ1 σ2 (Deed page d) b) where
   abbrev both : List Made
   both = made (Deed page d) b ∷ deed_look page a ∷ []
 
@@ -257,9 +281,10 @@ module _ {σ σ1 σ2 : Standing} (d : Directory) (page a b : ℕ) (is : IsPage �
         | inl z ↦
             let one : length (events_by k v both) ≡ 1 = count true (eq-eqb b 0 z) in
             let fewer = unknown_less σ.seat.profile page both v agreed is (knew_none v agreed z) (λ none. deed_word_of-positive d (sym (deed_known page d b (deed_look page a ∷ v) z) ∙ none)) in omega (arith, one, fewer)
-        | inr some ↦ let none : length (events_by k v both) ≡ 0 = count false (ne_eqb b 0 some) in let still = unknown_stays σ.seat.profile both v agreed in omega (arith, none, still)
+        | inr some ↦ let none : length (events_by k v both) ≡ 0 = count false (ne_eqb b 0 some) in let still = unknown_no_more σ.seat.profile both v agreed in omega (arith, none, still)
       ]
 
+  -- A deed that is tried on a page without one gets the page exactly where its answer is 0.
   pub deed_gets : GetsPage true d page σ σ2 (b == 0)
   deed_gets = pair_gets true d page a (made (Deed page d) b) deed_adds (IsOnPage.Deeds d) refl (b == 0) (λ none. absurd (true≢false none)) (λ none. absurd (true≢false none)) ((λ p e same z. (cc, cc)), tt) deed_shows
       (pair_outcome true d page a (made (Deed page d) b) deed_adds (IsOnPage.Deeds d) refl (b == 0) (λ v. way_taken page (b == 0) (b == 0) (has_right v page) ByDeed refl refl)
@@ -278,7 +303,7 @@ look_gets {σ} d page a other look = record {
   few = omega arith;
   made = ((λ p e same z. cc), tt);
   rise = ((λ p e same z. cc), tt);
-  shows = λ k v agreed. let still = unknown_stays σ.seat.profile (deed_look page a ∷ []) v agreed in omega (arith, still);
+  shows = λ k v agreed. let still = unknown_no_more σ.seat.profile (deed_look page a ∷ []) v agreed in omega (arith, still);
   outcome = record {
     leads = leads_idly σ.seat.profile (LookDeed ∷ []) refl (deed_look page a ∷ []) (refl, tt);
     alone = left_alone_by (LookDeed ∷ []) refl refl page (deed_look page a ∷ []) (refl, tt);
@@ -289,7 +314,8 @@ look_gets {σ} d page a other look = record {
 }
 
 -- what is known of a deed afterwards was known of it before, or nothing was
-pub knew_before : (f : Profile) (d : Directory) (p : ℕ) (xs : List Made) (v : View) → Agreed f v xs → (known_deed (xs ++ v) p ≡ 0) ⊎ KnowsDeed p d (xs ++ v) → (known_deed v p ≡ 0) ⊎ KnowsDeed p d v
+pub knew_before : (f : Profile) (d : Directory) (p : ℕ) (xs : List Made) (v : View) → Agreed f v xs → (known_deed (xs ++ v) p ≡ 0) ⊎ KnowsDeed p d (xs ++ v)
+    → (known_deed v p ≡ 0) ⊎ KnowsDeed p d v
 knew_before f d p xs v agreed after = search (arith, cases_eq, deed_stays)
 
 -- ---- the claim of one page of a run: its right, and then its grains
@@ -329,15 +355,18 @@ FromHere first m before = (p : ℕ) (e : Directory) → m.step ≡ Deed p e → 
 abbrev pub DeedsFrom : ℕ → List Made → Type 0
 DeedsFrom first = Always (FromHere first)
 
+-- Deeds of pages below one are of pages below each higher one.
 pub below_wider : (a b : ℕ) (steps : List Made) → a ≤ b → DeedsBelow a steps → DeedsBelow b steps
 below_wider a b steps le = always_map (BelowHere a) (BelowHere b) steps (λ m before h p e same z. let lt = h p e same z in omega (arith, lt, le))
 
+-- Two lists whose deeds are of pages below one are so together.
 pub below_both : (end : ℕ) (ys xs : List Made) → DeedsBelow end ys → DeedsBelow end xs → DeedsBelow end (ys ++ xs)
 below_both end ys xs = always_both (BelowHere end) (BelowHere end) ys xs (λ m before h. h)
 
 below_on : (d : Directory) (page : ℕ) (steps : List Made) → DeedsOn d page steps → DeedsBelow (page + 1) steps
 below_on d page steps = always_map (MadeHere d page) (BelowHere (page + 1)) steps (λ m before h p e same z. let at = (h p e same z).1 in omega (arith, at))
 
+-- Deeds on one page are from that page on.
 pub from_on : (d : Directory) (page : ℕ) (steps : List Made) → DeedsOn d page steps → DeedsFrom page steps
 from_on d page steps = always_map (MadeHere d page) (FromHere page) steps (λ m before h p e same z. let at = (h p e same z).1 in omega (arith, at))
 
@@ -345,6 +374,7 @@ from_on d page steps = always_map (MadeHere d page) (FromHere page) steps (λ m 
 pub rise_none : (ks : Kinds) (steps : List Made) → is_in ks Deeding ≡ false → Only ks steps → DeedsRise steps
 rise_none ks steps none = always_map (λ m before. is_in ks (kind_of m.step) ≡ true) RisesHere steps (λ m before is p e same z. absurd (true≢false (sym is ∙ ap (λ s. is_in ks (kind_of s)) same ∙ none)))
 
+-- Steps of kinds without a deed make deeds from any page on only, as they make none.
 pub from_none : (ks : Kinds) (first : ℕ) (steps : List Made) → is_in ks Deeding ≡ false → Only ks steps → DeedsFrom first steps
 from_none ks first steps none = always_map (λ m before. is_in ks (kind_of m.step) ≡ true) (FromHere first) steps (λ m before is p e same z. absurd (true≢false (sym is ∙ ap (λ s. is_in ks (kind_of s)) same ∙ none)))
 
@@ -352,6 +382,7 @@ from_none ks first steps none = always_map (λ m before. is_in ks (kind_of m.ste
 pub from_first : (steps : List Made) → DeedsRise steps → DeedsFrom 0 steps
 from_first steps = always_map RisesHere (FromHere 0) steps (λ m before h p e same z. omega arith)
 
+-- Steps of kinds without a deed make deeds below any page only, as they make none.
 pub below_none : (ks : Kinds) (end : ℕ) (steps : List Made) → is_in ks Deeding ≡ false → Only ks steps → DeedsBelow end steps
 below_none ks end steps none = always_map (λ m before. is_in ks (kind_of m.step) ≡ true) (BelowHere end) steps (λ m before is p e same z. absurd (true≢false (sym is ∙ ap (λ s. is_in ks (kind_of s)) same ∙ none)))
 
@@ -360,6 +391,7 @@ pub rise_both : (first : ℕ) (ys xs : List Made) → DeedsRise ys → DeedsRise
 rise_both first ys xs later before from below =
     always_both (λ m b. RisesHere m b × FromHere first m b) RisesHere ys xs (λ m b h p e same z. below_both p b xs (h.0 p e same z) (below_wider first p xs (h.1 p e same z) below)) (always_pair RisesHere (FromHere first) ys later from) before
 
+-- Two lists of which deeds alone show events show deeds alone together.
 pub shows_both : (f : Profile) (ys xs : List Made) → OnlyDeedsShow f ys → OnlyDeedsShow f xs → OnlyDeedsShow f (ys ++ xs)
 shows_both f ys xs later first k v agreed =
     let a = later k (xs ++ v) (agreed_first f v ys xs agreed) in let b = first k v (agreed_later f v ys xs agreed) in
@@ -367,8 +399,9 @@ shows_both f ys xs later first k v agreed =
     let same : unknown_pages f ((ys ++ xs) ++ v) ≡ unknown_pages f (ys ++ (xs ++ v)) = ap (unknown_pages f) (append_assoc ys xs v) in
     omega (arith, a, b, n, same)
 
+-- Takes and puts of grains show no event.
 pub shows_taking : (f : Profile) (steps : List Made) → Only taking_grains steps → OnlyDeedsShow f steps
-shows_taking f steps only k v agreed = let none = ap length (no_events taking_grains refl k v steps only) in let still = unknown_stays f steps v agreed in omega (arith, none, still)
+shows_taking f steps only k v agreed = let none = ap length (no_events taking_grains refl k v steps only) in let still = unknown_no_more f steps v agreed in omega (arith, none, still)
 
 -- ---- effects
 -- what was got is lost again
@@ -411,6 +444,7 @@ module _ (deeds : Bool) (d : Directory) (page : ℕ) {σ σ1 : Standing} (get : 
   got_lacked : (v : View) → MayClaim d page v → Agreed σ.seat.profile v get.steps → has_right v page ≡ false
   got_lacked v met agreed = met.lacks (knew_before σ.seat.profile d page get.steps v agreed (inr (get.outcome.leads.from v met agreed).may.deed))
 
+  -- A page that was got and taken whole is claimed whole.
   pub claim_whole : {σ2 : Standing} → TakesPage d page σ1 σ2 true → ClaimsPage deeds d page σ σ2 Claimed.Whole
   claim_whole takes =
       let took = leads_at {R = TookPage page} get.adds.seat_is takes.outcome.leads in

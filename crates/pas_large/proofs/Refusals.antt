@@ -40,6 +40,7 @@ newest : (d : Directory) (p block a : ℕ) (steps : List Made) (t : Bool) → bl
 newest d p block a steps true at scans bit = inl (ReadsEligible.Looks (number_of d) block refl at, bit, scans_lack steps p scans)
 newest d p block a steps false at scans bit = inl (ReadsEligible.Looks (number_of d) block refl at, bit, scans_lack steps p scans)
 
+-- After one more eligible word was read, the marks are those of all words so far.
 pub marked_more : (d : Directory) (block a : ℕ) (marks : List ℕ) (steps : List Made) → block < length marks → OnlyScans steps → MarkedBelow d block marks steps
     → MarkedBelow d (block + 1) (set marks block a) (made (Look (Word.Eligible (number_of d) block)) a ∷ steps)
 marked_more d block a marks steps small scans before p lt = elim (cases_lt (p / 64) block) [
@@ -63,12 +64,14 @@ last_within f NoSpace h = omega arith
 last_within f (Held page) h = let le = h page refl in omega (arith, le)
 
 -- ---- a page read as not offered, and its right not had since
-missing : (d : Directory) (p : ℕ) (ys xs : List Made) → OnlyScans ys → has_right xs p ≡ false → Once (ZeroHere d p) ys → Since (MissingHere d p) (LacksAfter p) (ys ++ xs)
+missing : (d : Directory) (p : ℕ) (ys xs : List Made) → OnlyScans ys → has_right xs p ≡ false → Once (ZeroHere d p) ys
+    → Since (MissingHere d p) (LacksAfter p) (ys ++ xs)
 missing d p [] xs scans none h = absurd h
 missing d p (m ∷ ys) xs scans none (inl z) = inl (inl (z.0, z.1, right_own p ys xs none ∙ z.2), right_scans (m ∷ ys) xs p scans ∙ none)
 missing d p (m ∷ ys) xs scans none (inr h) = inr (right_scans (m ∷ ys) xs p scans ∙ none, missing d p ys xs scans.1 none h)
 
-held_from : (d : Directory) (p : ℕ) (ys xs : List Made) → OnlyScans ys → has_right xs p ≡ false → Since (MissingHere d p) (LacksAfter p) xs → Once (ParkedHere false p) ys → Once (HeldHere d p) (ys ++ xs)
+held_from : (d : Directory) (p : ℕ) (ys xs : List Made) → OnlyScans ys → has_right xs p ≡ false → Since (MissingHere d p) (LacksAfter p) xs
+    → Once (ParkedHere false p) ys → Once (HeldHere d p) (ys ++ xs)
 held_from d p [] xs scans none since h = absurd h
 held_from d p (m ∷ ys) xs scans none since (inl z) = inl ((z.0, z.1, right_own p ys xs none ∙ z.2), since_more (MissingHere d p) (LacksAfter p) (λ k c. IsScan k.step) ys xs (λ k c is more. right_scans (k ∷ c) xs p (is, more) ∙ none) scans.1 since)
 held_from d p (m ∷ ys) xs scans none since (inr h) = inr (held_from d p ys xs scans.1 none since h)
@@ -112,7 +115,8 @@ module _ (d : Directory) (marks : List ℕ) {σ σ1 σ2 : Standing} (offers : Ma
     parked_later p zero_read h = subst (Once (ParkedLater d p)) (sym at)
         (once_earlier (ParkedHere true p) (ParkedLater d p) js (ms ++ before) (λ m b x. ((x.0, x.1, right_own p b (ms ++ before) (ms_none p) ∙ x.2), inl (once_later (ZeroHere d p) b (ms ++ before) (zero_before d p ms before (none p) zero_read)))) h)
 
-    by_mark : (p : ℕ) (t : Bool) → is_marked marks p ≡ t → MatchBool t (LastOffered d p ms) (Once (ZeroHere d p) ms) → (is_marked marks p ≡ false → Once (ParkedHere true p) js) → IsAccounted d p ((js ++ ms) ++ before)
+    by_mark : (p : ℕ) (t : Bool) → is_marked marks p ≡ t → MatchBool t (LastOffered d p ms) (Once (ZeroHere d p) ms)
+        → (is_marked marks p ≡ false → Once (ParkedHere true p) js) → IsAccounted d p ((js ++ ms) ++ before)
     by_mark p true e h parked = inr (last p h)
     by_mark p false e h parked = inl (inr (parked_later p h (parked e)))
 
@@ -141,7 +145,8 @@ module _ (d : Directory) (marks : List ℕ) {σ σ1 σ2 : Standing} (offers : Ma
   }
 
 -- by the directory that the search was begun with
-pub refuses_by : {σ σ1 σ2 : Standing} (d e h : Directory) (marks : List ℕ) → e ≡ d → h ≡ e → MarksOffered e marks σ σ1 → (room : NoRoom) → Judges marks h σ1 σ2 room → Refuses d σ σ2 room
+pub refuses_by : {σ σ1 σ2 : Standing} (d e h : Directory) (marks : List ℕ) → e ≡ d → h ≡ e → MarksOffered e marks σ σ1 → (room : NoRoom)
+    → Judges marks h σ1 σ2 room → Refuses d σ σ2 room
 refuses_by {σ} {σ1} {σ2} d e h marks ed he offers room judges =
     subst (λ x. Refuses x σ σ2 room) ed (refuses e marks offers room (subst (λ x. Judges marks x σ1 σ2 room) he judges))
 
@@ -179,6 +184,7 @@ module _ (d : Directory) (xs : List Made) (lacks : (p : ℕ) → has_right xs p 
     all_before end all v agreed p some lt knows =
         accounted_before p ys (all (xs ++ v) (agreed_first f v ys xs agreed) p some lt (subst (KnowsDeed p d) (append_assoc ys xs v) knows))
 
+    -- A reason that steps of a refusal show is one behind steps that have no right any more.
     pub reason_before : (why : NoRoom) → IsReason f d ys why → IsReason f d (ys ++ xs) why
     reason_before NoSpace all = all_before (f.pages + 1) all
     reason_before (Held page) is = record {

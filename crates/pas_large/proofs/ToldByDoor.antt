@@ -34,17 +34,21 @@ use Rattle.pas_large.proofs.Told.{of_page, deed_told, free_told, grain_bit, clea
 abbrev bit_of : Whole → ℕ → Bool
 bit_of l g = has_bit (word_after l (free_word_at g)) (g % 64)
 
-takes_same : (k : ℕ) (t : Bool) (o : Place) (bit held : Bool) → Fits k (if t then Gets else Stays) o → bit ≡ is_free o → (free_moved (if t then Gets else Stays) bit || held_after (if t then Gets else Stays) held) ≡ (bit || held)
+takes_same : (k : ℕ) (t : Bool) (o : Place) (bit held : Bool) → Fits k (if t then Gets else Stays) o → bit ≡ is_free o
+    → (free_moved (if t then Gets else Stays) bit || held_after (if t then Gets else Stays) held) ≡ (bit || held)
 takes_same k t o bit held fits free = search (arith, or_left)
 
-puts_same : (k : ℕ) (t : Bool) (o : Place) (bit held : Bool) → Fits k (if t then Puts else Stays) o → held ≡ is_held_by k o → (free_moved (if t then Puts else Stays) bit || held_after (if t then Puts else Stays) held) ≡ (bit || held)
+puts_same : (k : ℕ) (t : Bool) (o : Place) (bit held : Bool) → Fits k (if t then Puts else Stays) o → held ≡ is_held_by k o
+    → (free_moved (if t then Puts else Stays) bit || held_after (if t then Puts else Stays) held) ≡ (bit || held)
 puts_same k t o bit held fits mine = search (arith, or_right, eq-eqb)
 
-same_move : (k : ℕ) (s : Step) (a g : ℕ) (o : Place) (bit held : Bool) → is_in lending (kind_of s) ≡ false → Fits k (grain_move s a g) o → bit ≡ is_free o → held ≡ is_held_by k o → (free_moved (grain_move s a g) bit || held_after (grain_move s a g) held) ≡ (bit || held)
+same_move : (k : ℕ) (s : Step) (a g : ℕ) (o : Place) (bit held : Bool) → is_in lending (kind_of s) ≡ false → Fits k (grain_move s a g) o → bit ≡ is_free o
+    → held ≡ is_held_by k o → (free_moved (grain_move s a g) bit || held_after (grain_move s a g) held) ≡ (bit || held)
 same_move k s a g o bit held h fits free mine = search (arith, takes_same, puts_same, true≢false)
 
 module _ (f : Profile) (k : ℕ) (l : Whole) (valid : IsValid f) (g : ℕ) where
-  free_same : (xs : List Made) → Legal f (triples k xs ++ l) → LendsNone xs → holds (part k l) g ≡ false → (bit_of (triples k xs ++ l) g || holds xs g) ≡ bit_of l g
+  free_same : (xs : List Made) → Legal f (triples k xs ++ l) → LendsNone xs → holds (part k l) g ≡ false
+      → (bit_of (triples k xs ++ l) g || holds xs g) ≡ bit_of l g
   free_same [] legal lends none = or-false (bit_of l g)
   free_same (m ∷ xs) legal lends none =
       let w : Whole = triples k xs ++ l in
@@ -101,7 +105,8 @@ stuck_gets k p s a o (GetsRight.Claims d b set) suits stuck = stuck_other k o (O
 stuck_gets k p s a o (GetsRight.Deeds d b zero) suits stuck = stuck_other k o Nowhere refl (suits_when k ByDeed o ((p == p) && (b == 0)) (and_from (p == p) (b == 0) (eq-eqb p p refl) (eq-eqb b 0 zero)) suits) stuck
 
 -- it stays there, since a page is taken back from the parked ones only after it was got
-stuck_all : (f : Profile) (k : ℕ) (l : Whole) (p : ℕ) (xs : List Made) → Legal f (triples k xs ++ l) → Always ReturnsDuly xs → is_stuck k (spot_of l p) ≡ true → (is_stuck k (spot_of (triples k xs ++ l) p) ≡ true) × (Once (GetsHere p) xs → ⊥)
+stuck_all : (f : Profile) (k : ℕ) (l : Whole) (p : ℕ) (xs : List Made) → Legal f (triples k xs ++ l) → Always ReturnsDuly xs → is_stuck k (spot_of l p) ≡ true
+    → (is_stuck k (spot_of (triples k xs ++ l) p) ≡ true) × (Once (GetsHere p) xs → ⊥)
 stuck_all f k l p [] legal returns stuck = (stuck, λ got. got)
 stuck_all f k l p (m ∷ xs) legal returns stuck =
     let w : Whole = triples k xs ++ l in
@@ -112,7 +117,8 @@ stuck_all f k l p (m ∷ xs) legal returns stuck =
     )
 
 -- so a page of the directory that isn't there, nor with the actor, is offered
-offered_else : (k : ℕ) (d : Directory) (o : Spot) (word : ℕ) → IsKind d.kind → is_stuck k o ≡ false → is_with k o ≡ false → DeedFits o word → word ≡ deed_word_of d → is_offered (number_of d) o ≡ true
+offered_else : (k : ℕ) (d : Directory) (o : Spot) (word : ℕ) → IsKind d.kind → is_stuck k o ≡ false → is_with k o ≡ false → DeedFits o word
+    → word ≡ deed_word_of d → is_offered (number_of d) o ≡ true
 offered_else k d Nowhere word is free mine fits deed = absurd (deed_word_of-positive d (sym deed ∙ fits))
 offered_else k d (With j) word is free mine fits deed = absurd (true≢false (ap not (sym mine) ∙ free))
 offered_else k d (Offered m) word is free mine fits deed = eq-eqb m (number_of d) (sym (number_told d m is (sym deed ∙ fits)))
@@ -144,7 +150,8 @@ module _ (f : Profile) (k : ℕ) (l : Whole) (d : Directory) (p : ℕ) (valid : 
   of_entry (m ∷ xs) legal old (inl h) = sym (deed_entry xs old.1) ∙ sym (deed_told (triples k xs ++ l) p m.step m.answer h.0 legal.0.answer_is) ∙ h.1
   of_entry (m ∷ xs) legal old (inr h) = of_entry xs legal.1 old.1 h
 
-  free_entry : (word b : ℕ) → word < 4 → b < 64 → holds (part k l) (p * 256 + (64 * word + b)) ≡ false → (xs : List Made) → Legal f (triples k xs ++ l) → LendsNone xs → Once (WholeHere p word) xs → free_of_page l p (64 * word + b) ≡ true
+  free_entry : (word b : ℕ) → word < 4 → b < 64 → holds (part k l) (p * 256 + (64 * word + b)) ≡ false → (xs : List Made) → Legal f (triples k xs ++ l)
+      → LendsNone xs → Once (WholeHere p word) xs → free_of_page l p (64 * word + b) ≡ true
   free_entry word b small lt none [] legal lends h = absurd h
   free_entry word b small lt none (m ∷ xs) legal lends (inr h) = free_entry word b small lt none xs legal.1 lends.1 h
   free_entry word b small lt none (m ∷ xs) legal lends (inl h) =
@@ -153,7 +160,9 @@ module _ (f : Profile) (k : ℕ) (l : Whole) (d : Directory) (p : ℕ) (valid : 
       let bit : has_bit m.answer b ≡ bit_of w g = ap (λ n. has_bit n b) (free_told w p word m.step m.answer h.0 legal.0.answer_is) ∙ grain_bit w p word b small lt ∙ of_page w p (64 * word + b) in
       of_page l p (64 * word + b) ∙ sym (free_same f k l valid g xs legal.1 lends.1 none) ∙ ap (λ t. t || holds xs g) (sym bit) ∙ h.1 b lt
 
-  pub got_whole : (xs : List Made) → Legal f (triples k xs ++ l) → Only claiming_old xs → Always ReturnsDuly xs → GotOf d p xs → ((g : ℕ) → g / 256 ≡ p → holds (part k l) g ≡ false) → ((word : ℕ) → word < 4 → Once (WholeHere p word) xs) → IsWholePage d l p
+  -- A page that an actor alone got of a directory and took whole was whole before.
+  pub got_whole : (xs : List Made) → Legal f (triples k xs ++ l) → Only claiming_old xs → Always ReturnsDuly xs → GotOf d p xs
+      → ((g : ℕ) → g / 256 ≡ p → holds (part k l) g ≡ false) → ((word : ℕ) → word < 4 → Once (WholeHere p word) xs) → IsWholePage d l p
   got_whole xs legal old returns got apart whole =
       let before = legal_before f k xs l legal in
       let deed = of_entry xs legal old got.of in
@@ -166,7 +175,8 @@ module _ (f : Profile) (k : ℕ) (l : Whole) (d : Directory) (p : ℕ) (valid : 
       }
 
   -- ---- a claim that failed leaves the page as usable as it was
-  module _ (xs : List Made) (legal : Legal f (triples k xs ++ l)) (old : Only claiming_old xs) (returns : Always ReturnsDuly xs) (left : LeftOrBroken d p xs) (still : Does nothing (part k l) (xs ++ part k l)) where
+  module _ (xs : List Made) (legal : Legal f (triples k xs ++ l)) (old : Only claiming_old xs) (returns : Always ReturnsDuly xs) (left : LeftOrBroken d p xs)
+      (still : Does nothing (part k l) (xs ++ part k l)) where
     abbrev w : Whole
     w = triples k xs ++ l
 
@@ -213,14 +223,17 @@ module _ (f : Profile) (k : ℕ) (l : Whole) (d : Directory) (p : ℕ) (valid : 
               of_page l p b ∙ sym (free_same f k l valid g xs legal lends none) ∙ or_left (bit_of w g) (holds xs g) free;
         }
 
+    -- A page that was usable before a failed claim by the door is usable after it.
     pub usable_later : IsUsablePage d l p → IsUsablePage d w p
     usable_later h = search (arith, deed_entry, whole_later)
 
+    -- A page that is usable after a failed claim by the door was usable before it.
     pub usable_earlier : IsUsablePage d w p → IsUsablePage d l p
     usable_earlier h = search (arith, deed_entry, whole_earlier)
 
 -- ---- what is told of a state is told of one whose pages are as usable
-pub told_earlier : (f : Profile) (d : Directory) (n : ℕ) (l w exit : Whole) → ((p : ℕ) → IsUsablePage d l p → IsUsablePage d w p) → ((p : ℕ) → IsUsablePage d w p → IsUsablePage d l p) → (answer : Result Block NoRoom) → IsToldLarge f d n w exit answer → IsToldLarge f d n l exit answer
+pub told_earlier : (f : Profile) (d : Directory) (n : ℕ) (l w exit : Whole) → ((p : ℕ) → IsUsablePage d l p → IsUsablePage d w p)
+    → ((p : ℕ) → IsUsablePage d w p → IsUsablePage d l p) → (answer : Result Block NoRoom) → IsToldLarge f d n w exit answer → IsToldLarge f d n l exit answer
 told_earlier f d n l w exit later earlier (Ok block) told = (
   told.0,
   search (arith, told.1.of_region, told.1.usable, told.1.lowest),

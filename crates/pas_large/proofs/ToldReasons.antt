@@ -21,14 +21,18 @@ use Rattle.pas_large.proofs.Pages.{known_of}
 use Rattle.pas_large.proofs.Told.{looks_same, once_of, deed_told, eligible_told, parked_bit_told}
 
 -- ---- no run at exit
-usable_before : (k : ℕ) (l : Whole) (d : Directory) (steps : List Made) → Only looking steps → (p : ℕ) → IsUsablePage d (triples k steps ++ l) p → IsUsablePage d l p
+usable_before : (k : ℕ) (l : Whole) (d : Directory) (steps : List Made) → Only looking steps → (p : ℕ) → IsUsablePage d (triples k steps ++ l) p
+    → IsUsablePage d l p
 usable_before k l d steps only p h = search (arith, looks_same)
 
-pub none_after : (f : Profile) (k : ℕ) (l : Whole) (d : Directory) (n : ℕ) (steps : List Made) → Only looking steps → HasNoUsableRun f d n l → HasNoUsableRun f d n (triples k steps ++ l)
+-- Where no run of usable pages is there, none is after looks.
+pub none_after : (f : Profile) (k : ℕ) (l : Whole) (d : Directory) (n : ℕ) (steps : List Made) → Only looking steps → HasNoUsableRun f d n l
+    → HasNoUsableRun f d n (triples k steps ++ l)
 none_after f k l d n steps only none first low le usable = none first low le (λ p here. usable_before k l d steps only p (usable p here))
 
 -- ---- the reason
-module _ (f : Profile) (k : ℕ) (l : Whole) (d : Directory) (steps : List Made) (legal : Legal f (triples k steps ++ l)) (only : Only looking steps) (agreed : Agreed f (part k l) steps) (read : (p : ℕ) → IsPage f p → Once (DeedReadHere p) steps) where
+module _ (f : Profile) (k : ℕ) (l : Whole) (d : Directory) (steps : List Made) (legal : Legal f (triples k steps ++ l)) (only : Only looking steps)
+    (agreed : Agreed f (part k l) steps) (read : (p : ℕ) → IsPage f p → Once (DeedReadHere p) steps) where
   abbrev w : Whole
   w = triples k steps ++ l
 
@@ -71,7 +75,8 @@ module _ (f : Profile) (k : ℕ) (l : Whole) (d : Directory) (steps : List Made)
       let there : known_deed (part k w) p ≡ deed_word_of d = ap (λ v. known_deed v p) (part_of_own k steps l) ∙ known in
       sym (known_is (known_deed (part k w) p) (word_after w (Word.Deed p)) ((spotted f w legal p).known k) (λ z. deed_word_of-positive d (sym there ∙ z))) ∙ there
 
-  zero_at : (p : ℕ) (before : List Made) → Legal f (triples k before ++ l) → Only looking before → word_after l (Word.Deed p) ≡ deed_word_of d → Once (MissingHere d p) before → eligible_bit l (number_of d) p ≡ false
+  zero_at : (p : ℕ) (before : List Made) → Legal f (triples k before ++ l) → Only looking before → word_after l (Word.Deed p) ≡ deed_word_of d
+      → Once (MissingHere d p) before → eligible_bit l (number_of d) p ≡ false
   zero_at p before ok looks deed = once_of (MissingHere d p) f k l (eligible_bit l (number_of d) p ≡ false) before ok looks (λ m earlier t fine more x. elim x.0 [
     | inl zero ↦ sym (eligible_told l d p m.step m.answer zero.0 t.is) ∙ zero.1
     | inr none ↦ absurd (deed_word_of-positive d (sym deed ∙ sym (deed_told l p m.step m.answer none.0 t.is) ∙ none.1))
@@ -88,5 +93,6 @@ module _ (f : Profile) (k : ℕ) (l : Whole) (d : Directory) (steps : List Made)
         not_parked = parked_was p ∙ once_of (HeldHere d p) f k l (parked_bit l p ≡ false) steps legal only (λ m before t ok looks x. sym (parked_bit_told l p m.step m.answer x.0.0 t.is) ∙ x.0.1) held.held;
       }
 
+  -- A reason that looks alone show is true of the words after them.
   pub true_reason : (why : NoRoom) → IsReason f d steps why → IsTrueReason f d w why
   true_reason why all = search (arith, not_in_hands, in_hands)

@@ -54,7 +54,8 @@ pub record AllocatesByScan (heap n : ℕ) (tells : Bool) (desk desk' : Standing)
   pub few : length (after ++ searched) ≤ 56 * desk.seat.profile.pages + 12 * n + 66
   pub outcome : MatchResult answer (IsAllocatedLarge desk.seat.profile (large_directory heap) n searched after) (IsRefusedLarge desk.seat.profile (large_directory heap) n searched after)
   pub looked : (why : NoRoom) → answer ≡ Err why → LooksAlone desk.seat.profile (large_directory heap) searched
-  pub told : tells ≡ true → (v : View) (l : Whole) → desk.stands v l → MayFind (large_directory heap) v → IsToldLarge desk.seat.profile (large_directory heap) n l (triples desk.seat.actor (after ++ searched) ++ l) answer
+  pub told : tells ≡ true → (v : View) (l : Whole) → desk.stands v l → MayFind (large_directory heap) v
+      → IsToldLarge desk.seat.profile (large_directory heap) n l (triples desk.seat.actor (after ++ searched) ++ l) answer
 
 -- ---- by the door
 -- The run that the door named was claimed without a deed, its pages were backed, the block of the whole run was given, and the pages were left. At most
@@ -104,5 +105,7 @@ pub record AllocatesLarge (heap n : ℕ) (found : Option ℕ) (tells : Bool) (de
   pub returns : Always ReturnsDuly tried
   pub shows : OnlyDeedsShow desk.seat.profile tried
   pub few : length (rest ++ tried) ≤ 56 * desk.seat.profile.pages + 12 * n + missed_steps found n + 66
-  pub told : tells ≡ true → (v : View) (l : Whole) → desk.stands v l → MayFind (large_directory heap) v → IsToldByDoor desk.seat.profile (large_directory heap) n found l (triples desk.seat.actor (rest ++ tried) ++ l) (rest ++ tried) answer
-  pub outcome : IsServedNamed desk.seat.profile (large_directory heap) n found tried rest answer ⊎ IsScanned desk.seat.profile (large_directory heap) n found tried rest answer
+  pub told : tells ≡ true → (v : View) (l : Whole) → desk.stands v l → MayFind (large_directory heap) v
+      → IsToldByDoor desk.seat.profile (large_directory heap) n found l (triples desk.seat.actor (rest ++ tried) ++ l) (rest ++ tried) answer
+  pub outcome : IsServedNamed desk.seat.profile (large_directory heap) n found tried rest answer
+      ⊎ IsScanned desk.seat.profile (large_directory heap) n found tried rest answer

@@ -94,7 +94,8 @@ pub record Releases (d : Directory) (first end : ℕ) (desk desk' : Standing) : 
   pub within : Always (λ m before. (p : ℕ) → IsReturnOf p m.step → in_span first end p ≡ true) steps
   pub hints : Always HintsEmpty steps
   pub on : Always (λ m before. (p : ℕ) × (in_span first end p ≡ true) × IsOnPage p m.step) steps
-  pub due : (before : List Made) → ((g : ℕ) → in_span first end (g / 256) ≡ true → holds before g ≡ true) → Always GivesDuly before → Always GivesDuly (steps ++ before)
+  pub due : (before : List Made) → ((g : ℕ) → in_span first end (g / 256) ≡ true → holds before g ≡ true) → Always GivesDuly before
+      → Always GivesDuly (steps ++ before)
   pub few : length steps ≤ 15 * (end - first)
   pub lacks : (before : List Made) (p : ℕ) → (in_span first end p ≡ false → has_right before p ≡ false) → has_right (steps ++ before) p ≡ false
   pub left : (before : List Made) (p : ℕ) → in_span first end p ≡ true → GotOf d p before → LeftOrBroken d p (steps ++ before)

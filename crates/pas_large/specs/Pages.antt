@@ -67,7 +67,8 @@ pub record LosesRightOf (deeds : Bool) (f : Profile) (d : Directory) (page : ℕ
   pub alone : LeftAlone page steps
   pub missed : deeds ≡ false → Once (MissedHere d page) steps
   pub lacks : (before : List Made) → has_right before page ≡ false → has_right (steps ++ before) page ≡ false
-  pub lost : deeds ≡ true → (before : List Made) (v : View) → LeftAlone page before → ReadUsable d page before → Agreed f v (steps ++ before) → OnceAfter before (LostHere d page) steps
+  pub lost : deeds ≡ true → (before : List Made) (v : View) → LeftAlone page before → ReadUsable d page before → Agreed f v (steps ++ before)
+      → OnceAfter before (LostHere d page) steps
 
 -- A look at the deed word, and a claim, or where deeds may be made a deed. Without a deed the page is got only where it was read as of the directory.
 pub record GetsPage (deeds : Bool) (d : Directory) (page : ℕ) (desk desk' : Standing) (got : Bool) : Type 0 where
@@ -125,7 +126,8 @@ pub record LosesPage (deeds : Bool) (f : Profile) (d : Directory) (page : ℕ) (
   pub lacks : (before : List Made) → has_right before page ≡ false → has_right (steps ++ before) page ≡ false
   pub alone : LeftAlone page steps
   pub missed : deeds ≡ false → Once (MissedHere d page) steps
-  pub lost : deeds ≡ true → (before : List Made) (v : View) → LeftAlone page before → ReadUsable d page before → Agreed f v (steps ++ before) → OnceAfter before (LostHere d page) steps
+  pub lost : deeds ≡ true → (before : List Made) (v : View) → LeftAlone page before → ReadUsable d page before → Agreed f v (steps ++ before)
+      → OnceAfter before (LostHere d page) steps
 
 -- not all its grains were free, and all is as it was
 pub record BreaksPage (deeds : Bool) (f : Profile) (d : Directory) (page : ℕ) (steps : List Made) : Type 0 where

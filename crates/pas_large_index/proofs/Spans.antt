@@ -78,12 +78,15 @@ joins_before new s rest isnt is =
     ap (λ t. if t then s ∷ joined new rest else if nat_lt new.end s.first then new ∷ s ∷ rest else joined (hull s new) rest) isnt
     ∙ ap (λ t. if t then new ∷ s ∷ rest else joined (hull s new) rest) is
 
-joins_into : (new s : Span) (rest : List Span) → nat_lt s.end new.first ≡ false → nat_lt new.end s.first ≡ false → joined new (s ∷ rest) ≡ joined (hull s new) rest
+joins_into : (new s : Span) (rest : List Span) → nat_lt s.end new.first ≡ false → nat_lt new.end s.first ≡ false
+    → joined new (s ∷ rest) ≡ joined (hull s new) rest
 joins_into new s rest isnt either =
     ap (λ t. if t then s ∷ joined new rest else if nat_lt new.end s.first then new ∷ s ∷ rest else joined (hull s new) rest) isnt
     ∙ ap (λ t. if t then new ∷ s ∷ rest else joined (hull s new) rest) either
 
-pub joined_apart : (low : ℕ) (new : Span) (spans : List Span) → AreApart low spans → low < new.first → new.first < new.end → new.end ≤ 65536 → AreApart low (joined new spans)
+-- Ranges that keep apart still do with one more joined to them.
+pub joined_apart : (low : ℕ) (new : Span) (spans : List Span) → AreApart low spans → low < new.first → new.first < new.end → new.end ≤ 65536
+    → AreApart low (joined new spans)
 joined_apart low new [] h above some last = (above, some, last, tt)
 joined_apart low new (s ∷ rest) h above some last =
     let a = h.0 in let b = h.1 in let c = h.2 in
@@ -96,7 +99,8 @@ joined_apart low new (s ∷ rest) h above some last =
       ]
     ]
 
-hull_has : (s new : Span) (p : ℕ) → s.first < s.end → new.first < new.end → new.first ≤ s.end → s.first ≤ new.end → in_span (hull s new) p ≡ (in_span s p || in_span new p)
+hull_has : (s new : Span) (p : ℕ) → s.first < s.end → new.first < new.end → new.first ≤ s.end → s.first ≤ new.end
+    → in_span (hull s new) p ≡ (in_span s p || in_span new p)
 hull_has s new p some other low high =
     same_truth (in_span (hull s new) p) (in_span s p || in_span new p)
     (λ is. let parts = span_parts (hull s new) p is in let a : min s.first new.first ≤ p = parts.0 in let b : p < max s.end new.end = parts.1 in
@@ -112,7 +116,9 @@ hull_has s new p some other low high =
       | inr two ↦ let parts = span_parts new p two in span_in (hull s new) p (omega (arith, parts.0)) (omega (arith, parts.1))
     ])
 
-pub joined_has : (low : ℕ) (new : Span) (spans : List Span) → AreApart low spans → new.first < new.end → HasMore new (has_page spans) (has_page (joined new spans))
+-- Ranges with one more joined have just that one's pages more.
+pub joined_has : (low : ℕ) (new : Span) (spans : List Span) → AreApart low spans → new.first < new.end
+    → HasMore new (has_page spans) (has_page (joined new spans))
 joined_has low new [] h some p = or_comm (in_span new p) false
 joined_has low new (s ∷ rest) h some p =
     let b = h.1 in
@@ -132,7 +138,8 @@ joined_has low new (s ∷ rest) h some p =
 same_spans : (s t : Span) → s.first ≡ t.first → s.end ≡ t.end → s ≡ t
 same_spans s t first end = ap (λ f. record { first = f; end = s.end }) first ∙ ap (λ e. record { first = t.first; end = e }) end
 
-begin_same : (low : ℕ) (s t : Span) (xs ys : List Span) → AreApart low (s ∷ xs) → AreApart low (t ∷ ys) → ((p : ℕ) → has_page (s ∷ xs) p ≡ has_page (t ∷ ys) p) → s.first ≤ t.first
+begin_same : (low : ℕ) (s t : Span) (xs ys : List Span) → AreApart low (s ∷ xs) → AreApart low (t ∷ ys) → ((p : ℕ) → has_page (s ∷ xs) p ≡ has_page (t ∷ ys) p)
+    → s.first ≤ t.first
 begin_same low s t xs ys h k same = elim (cases_lt t.first s.first) [
   | inr le ↦ le
   | inl lt ↦ let a = k.1 in let b = h.1 in
@@ -141,7 +148,8 @@ begin_same low s t xs ys h k same = elim (cases_lt t.first s.first) [
       absurd (true≢false (sym there ∙ (sym (same t.first) ∙ not_here)))
 ]
 
-end_same : (low : ℕ) (s t : Span) (xs ys : List Span) → AreApart low (s ∷ xs) → AreApart low (t ∷ ys) → s.first ≡ t.first → ((p : ℕ) → has_page (s ∷ xs) p ≡ has_page (t ∷ ys) p) → t.end ≤ s.end
+end_same : (low : ℕ) (s t : Span) (xs ys : List Span) → AreApart low (s ∷ xs) → AreApart low (t ∷ ys) → s.first ≡ t.first
+    → ((p : ℕ) → has_page (s ∷ xs) p ≡ has_page (t ∷ ys) p) → t.end ≤ s.end
 end_same low s t xs ys h k first same = elim (cases_lt s.end t.end) [
   | inr le ↦ le
   | inl lt ↦ let b = h.1 in
@@ -169,14 +177,17 @@ same_lists_of low (s ∷ xs) (t ∷ ys) h k same =
     ] in
     ap (λ r. r ∷ xs) (same_spans s t first end) ∙ ap (λ r. t ∷ r) (same_lists_of s.end xs ys h.3 (subst (λ e. AreApart e ys) (sym end) k.3) rest)
 
-pub joined_only : (new : Span) (spans others : List Span) → AreApart 0 spans → 1 ≤ new.first → new.first < new.end → new.end ≤ 65536 → AreApart 0 others → HasMore new (has_page spans) (has_page others) → others ≡ joined new spans
+-- Ranges that keep apart and have just one range's pages more are those with it joined.
+pub joined_only : (new : Span) (spans others : List Span) → AreApart 0 spans → 1 ≤ new.first → new.first < new.end → new.end ≤ 65536 → AreApart 0 others
+    → HasMore new (has_page spans) (has_page others) → others ≡ joined new spans
 joined_only new spans others h first some last apart more =
     same_lists_of 0 others (joined new spans) apart (joined_apart 0 new spans h first some last) (λ p. more p ∙ sym (joined_has 0 new spans h some p))
 
 -- ==== Where enough pages follow each other, in a list of ranges and in its set of pages.
 
 -- the first range begins there and has as many, or one of the others does
-fit_step : (low : ℕ) (s : Span) (rest : List Span) (n p : ℕ) → AreApart low (s ∷ rest) → FitsAt (has_page (s ∷ rest)) n p → IsPlaceOf p n s ⊎ FitsAt (has_page rest) n p
+fit_step : (low : ℕ) (s : Span) (rest : List Span) (n p : ℕ) → AreApart low (s ∷ rest) → FitsAt (has_page (s ∷ rest)) n p
+    → IsPlaceOf p n s ⊎ FitsAt (has_page rest) n p
 fit_step low s rest n p h fit =
     let b = h.1 in
     elim (cases_order p s.first) [
@@ -237,7 +248,8 @@ fits_later n s rest isnt = ap (λ t. if t then Some s.first else lowest_fit n re
 abbrev pub IsFound : List Span → ℕ → Option ℕ → Type 0
 IsFound spans n found = MatchOption found (HasNoFit (has_page spans) n) (IsLowestFit (has_page spans) n)
 
-found_later : (low : ℕ) (s : Span) (rest : List Span) (n : ℕ) → AreApart low (s ∷ rest) → (s.end - s.first < n) → (found : Option ℕ) → IsFound rest n found → IsFound (s ∷ rest) n found
+found_later : (low : ℕ) (s : Span) (rest : List Span) (n : ℕ) → AreApart low (s ∷ rest) → (s.end - s.first < n) → (found : Option ℕ) → IsFound rest n found
+    → IsFound (s ∷ rest) n found
 found_later low s rest n h short None none = λ p fit. elim (fit_step low s rest n p h fit) [
   | inl here ↦ absurd (omega (arith, short, here.long))
   | inr later ↦ none p later
@@ -291,6 +303,7 @@ left_apart low n s rest h =
       | inr le ↦ subst (λ l. AreApart low (l ++ rest)) (sym (leaves_none n s le)) (apart_from s.end low rest (omega (arith, a, b)) h.3)
     ]
 
+-- Ranges that keep apart still do when the first pages of one are cut.
 pub cut_apart : (low first n : ℕ) (spans : List Span) → AreApart low spans → AreApart low (cut_at first n spans)
 cut_apart low first n [] h = tt
 cut_apart low first n (s ∷ rest) h = elim (cases_eq s.first first) [
@@ -311,13 +324,15 @@ front_cases a x c apart = grind arith
 front_or : (a r x c : Bool) → r ≡ (x && not c) → (a ≡ true → c ≡ false) → (a || r) ≡ ((a || x) && not c)
 front_or a r x c is apart = ap (λ t. a || t) is ∙ front_cases a x c apart
 
-some_left : (n p : ℕ) (s : Span) → n < s.end - s.first → in_span (record { first = s.first + n; end = s.end }) p ≡ (in_span s p && not (in_span (from_to s.first n) p))
+some_left : (n p : ℕ) (s : Span) → n < s.end - s.first
+    → in_span (record { first = s.first + n; end = s.end }) p ≡ (in_span s p && not (in_span (from_to s.first n) p))
 some_left n p s lt = grind (arith, nat_tests)
 
 none_left : (n p : ℕ) (s : Span) → s.end ≡ s.first + n → false ≡ (in_span s p && not (in_span (from_to s.first n) p))
 none_left n p s is = grind (arith, nat_tests)
 
-left_has : (low n p : ℕ) (s : Span) (rest : List Span) → AreApart low (s ∷ rest) → s.first + n ≤ s.end → has_page (left_of n s ++ rest) p ≡ ((in_span s p || has_page rest p) && not (in_span (from_to s.first n) p))
+left_has : (low n p : ℕ) (s : Span) (rest : List Span) → AreApart low (s ∷ rest) → s.first + n ≤ s.end
+    → has_page (left_of n s ++ rest) p ≡ ((in_span s p || has_page rest p) && not (in_span (from_to s.first n) p))
 left_has low n p s rest h long =
     let a = h.1 in
     let apart : has_page rest p ≡ true → in_span (from_to s.first n) p ≡ false
@@ -327,7 +342,9 @@ left_has low n p s rest h long =
       | inr le ↦ ap (λ l. has_page (l ++ rest) p) (leaves_none n s le) ∙ within_or false (in_span s p) (has_page rest p) (in_span (from_to s.first n) p) (none_left n p s (omega (arith, a, le, long))) apart
     ]
 
-pub cut_has : (low first n : ℕ) (spans : List Span) → AreApart low spans → FitsAt (has_page spans) n first → HasFewer (from_to first n) (has_page spans) (has_page (cut_at first n spans))
+-- Ranges that were cut have just those first pages fewer.
+pub cut_has : (low first n : ℕ) (spans : List Span) → AreApart low spans → FitsAt (has_page spans) n first
+    → HasFewer (from_to first n) (has_page spans) (has_page (cut_at first n spans))
 cut_has low first n [] h fit p = refl
 cut_has low first n (s ∷ rest) h fit p =
     elim (fit_step low s rest n first h fit) [
@@ -361,6 +378,7 @@ above_fit low (s ∷ rest) n first h is =
       | inr short ↦ let past = above_fit s.end rest n first h.3 (sym (fits_later n s rest short) ∙ is) in omega (arith, a, b, past)
     ]
 
+-- A cut at the lowest range that fits is the cut of the lowest one.
 pub cut_is_lowest : (low first n : ℕ) (spans : List Span) → AreApart low spans → lowest_fit n spans ≡ Some first → cut_at first n spans ≡ cut_lowest n spans
 cut_is_lowest low first n [] h is = refl
 cut_is_lowest low first n (s ∷ rest) h is =
@@ -373,6 +391,7 @@ cut_is_lowest low first n (s ∷ rest) h is =
           cuts_later first n s rest (λ same. omega (arith, same, past, b)) ∙ (ap (λ l. s ∷ l) (cut_is_lowest s.end first n rest h.3 later) ∙ sym (ap (λ t. if t then left_of n s ++ rest else s ∷ cut_lowest n rest) short))
     ]
 
+-- Where no range is long enough, nothing is cut.
 pub none_cut : (n : ℕ) (spans : List Span) → lowest_fit n spans ≡ None → cut_lowest n spans ≡ spans
 none_cut n [] is = refl
 none_cut n (s ∷ rest) is = elim (cases_Bool (nat_le n (s.end - s.first))) [
@@ -385,7 +404,8 @@ none_cut n (s ∷ rest) is = elim (cases_Bool (nat_le n (s.end - s.first))) [
 above_first : (s : Span) (rest : List Span) (p : ℕ) → AreApart 0 (s ∷ rest) → has_page rest p ≡ true → s.first < p
 above_first s rest p h is = let past = above_low s.end rest p h.3 is in omega (arith, past, h.1)
 
-dropped_more : (front spans : List Span) (place here : ℕ) → length front ≡ place → here < length spans → drop (suc place) (front ++ drop here spans) ≡ drop (here + 1) spans
+dropped_more : (front spans : List Span) (place here : ℕ) → length front ≡ place → here < length spans
+    → drop (suc place) (front ++ drop here spans) ≡ drop (here + 1) spans
 dropped_more [] spans place here n lt = subst (λ p. drop (suc p) (drop here spans) ≡ drop (here + 1) spans) n (drop-drop 1 here spans)
 dropped_more (x ∷ front) spans zero here n lt = absurd (omega (arith, n))
 dropped_more (x ∷ front) spans (suc place) here n lt = dropped_more front spans place here (omega (arith, n)) lt
@@ -396,6 +416,7 @@ apart_drop zero low spans h = h
 apart_drop (suc i) low [] h = tt
 apart_drop (suc i) low (s ∷ rest) h = apart_from s.end low (drop i rest) (omega (arith, h.0, h.1)) (apart_drop i s.end rest h.3)
 
+-- A range and those behind its place keep apart.
 pub at_place : (spans : List Span) (i : ℕ) (d : Span) → AreApart 0 spans → i < length spans → AreApart 0 (get_or spans i d ∷ drop (i + 1) spans)
 at_place spans i d h lt = subst (AreApart 0) (drop_more spans i d lt) (apart_drop i 0 spans h)
 
@@ -422,7 +443,9 @@ pub record Gathers (new whole : Span) (spans : List Span) (place here : ℕ) : T
   pub joins : joined new (drop place spans) ≡ joined whole (drop here spans)
   pub behind : EndsFrom whole.first (drop here spans)
 
-pub gathers_more : (new whole : Span) (spans : List Span) (place here : ℕ) (d : Span) → AreApart 0 spans → here < length spans → (get_or spans here d).first ≤ whole.end → Gathers new whole spans place here → Gathers new (hull (get_or spans here d) whole) spans place (here + 1)
+-- A range that meets what was gathered so far is gathered, too.
+pub gathers_more : (new whole : Span) (spans : List Span) (place here : ℕ) (d : Span) → AreApart 0 spans → here < length spans
+    → (get_or spans here d).first ≤ whole.end → Gathers new whole spans place here → Gathers new (hull (get_or spans here d) whole) spans place (here + 1)
 gathers_more new whole spans place here d h lt meets so_far =
     let s : Span = get_or spans here d in
     let ends = ends_of whole.first spans here d lt so_far.behind in
@@ -440,13 +463,16 @@ pub record LooksFor (first n : ℕ) (spans : List Span) (i : ℕ) : Type 0 where
   pub fits : FitsAt (has_page (drop i spans)) n first
   pub before : cut_at first n spans ≡ take i spans ++ cut_at first n (drop i spans)
 
+-- The range that is looked for stands before the end of the list.
 pub looks_within : (first n : ℕ) (spans : List Span) (i : ℕ) → LooksFor first n spans i → i < length spans
 looks_within first n spans i so_far = elim (cases_lt i (length spans)) [
   | inl lt ↦ lt
   | inr past ↦ absurd (no_fit n first (subst (λ r. FitsAt (has_page r) n first) (drop_all i spans past) so_far.fits))
 ]
 
-pub looks_more : (first n : ℕ) (spans : List Span) (i : ℕ) (d : Span) → AreApart 0 spans → i < length spans → (get_or spans i d).first ≢ first → LooksFor first n spans i → LooksFor first n spans (i + 1)
+-- A range that begins elsewhere is passed over.
+pub looks_more : (first n : ℕ) (spans : List Span) (i : ℕ) (d : Span) → AreApart 0 spans → i < length spans → (get_or spans i d).first ≢ first
+    → LooksFor first n spans i → LooksFor first n spans (i + 1)
 looks_more first n spans i d h lt other so_far =
     let s : Span = get_or spans i d in
     record {
@@ -458,7 +484,9 @@ looks_more first n spans i d h lt other so_far =
       before = so_far.before ∙ (ap (λ r. take i spans ++ cut_at first n r) (drop_more spans i d lt) ∙ (ap (λ r. take i spans ++ r) (cuts_later first n s (drop (i + 1) spans) other) ∙ one_on spans i d (cut_at first n (drop (i + 1) spans)) lt));
     }
 
-pub looked : (first n : ℕ) (spans : List Span) (i : ℕ) (d : Span) → AreApart 0 spans → i < length spans → (get_or spans i d).first ≡ first → LooksFor first n spans i → IsPlaceOf first n (get_or spans i d)
+-- A range that begins at the page is the one that was looked for, and is long enough.
+pub looked : (first n : ℕ) (spans : List Span) (i : ℕ) (d : Span) → AreApart 0 spans → i < length spans → (get_or spans i d).first ≡ first
+    → LooksFor first n spans i → IsPlaceOf first n (get_or spans i d)
 looked first n spans i d h lt is so_far =
     let s : Span = get_or spans i d in
     elim (fit_step 0 s (drop (i + 1) spans) n first (at_place spans i d h lt) (subst (λ r. FitsAt (has_page r) n first) (drop_more spans i d lt) so_far.fits)) [
@@ -467,7 +495,8 @@ looked first n spans i d h lt is so_far =
     ]
 
 -- ---- the list afterwards
-cut_there : (first n : ℕ) (spans : List Span) (i : ℕ) (d : Span) → i < length spans → (get_or spans i d).first ≡ first → cut_at first n spans ≡ take i spans ++ cut_at first n (drop i spans)
+cut_there : (first n : ℕ) (spans : List Span) (i : ℕ) (d : Span) → i < length spans → (get_or spans i d).first ≡ first
+    → cut_at first n spans ≡ take i spans ++ cut_at first n (drop i spans)
     → cut_at first n spans ≡ take i spans ++ (left_of n (get_or spans i d) ++ drop (i + 1) spans)
 cut_there first n spans i d lt is before = before ∙ ap (λ r. take i spans ++ r) (ap (cut_at first n) (drop_more spans i d lt) ∙ cuts_here first n (get_or spans i d) (drop (i + 1) spans) is)
 
@@ -478,7 +507,9 @@ one_up i = omega arith
 refill_same : (xs ys : List Span) → length ys ≡ length xs → refill (length xs) xs ys ≡ ys
 refill_same xs ys same = items-with_items (record { items = xs }) ys same
 
-pub shortened : (spans : List Span) (i n : ℕ) (s : Span) (ys : List Span) → ys ≡ spans → i < length spans → n < s.end - s.first → refill (length spans) spans (set ys i (record { first = s.first + n; end = s.end })) ≡ take i spans ++ (left_of n s ++ drop (i + 1) spans)
+-- A range that is longer than what is cut of it is left shorter at its place.
+pub shortened : (spans : List Span) (i n : ℕ) (s : Span) (ys : List Span) → ys ≡ spans → i < length spans → n < s.end - s.first
+    → refill (length spans) spans (set ys i (record { first = s.first + n; end = s.end })) ≡ take i spans ++ (left_of n s ++ drop (i + 1) spans)
 shortened spans i n s ys same lt some =
     let new : Span = record { first = s.first + n; end = s.end } in
     ap (λ zs. refill (length spans) spans (set zs i new)) same
@@ -487,7 +518,8 @@ shortened spans i n s ys same lt some =
     ∙ (ap (λ k. take i spans ++ new ∷ drop k spans) (one_up i) ∙ ap (λ l. take i spans ++ (l ++ drop (i + 1) spans)) (sym (leaves_some n s some)))))
 
 -- those from a place to here were taken out, one more
-pub without_more : (spans : List Span) (place here : ℕ) → place ≤ here → here < length spans → remove (take place spans ++ drop here spans) place ≡ take place spans ++ drop (here + 1) spans
+pub without_more : (spans : List Span) (place here : ℕ) → place ≤ here → here < length spans
+    → remove (take place spans ++ drop here spans) place ≡ take place spans ++ drop (here + 1) spans
 without_more spans place here le lt =
     let n : length (take place spans) ≡ place = length-take-le place spans (omega (arith, le, lt)) in
     ap (λ l. l ++ drop (suc place) (take place spans ++ drop here spans)) (take_at (take place spans) (drop here spans) place n)
@@ -497,14 +529,19 @@ without_more spans place here le lt =
 abbrev pub blank : Span
 blank = record { first = 0; end = 0 }
 
+-- The lowest range that fits is what is found, where ranges keep apart.
 pub found_for : (spans items : List Span) (n : ℕ) (found : Option ℕ) → AreApart 0 spans → items ≡ spans → found ≡ lowest_fit n items → IsFound spans n found
 found_for spans items n found h same is = subst (IsFound spans n) (sym (is ∙ ap (lowest_fit n) same)) (lowest_found 0 spans n h)
 
-pub cut_is : (first n : ℕ) (spans items ys : List Span) (i : ℕ) → items ≡ spans → i < length items → cut_at first n items ≡ take i items ++ cut_at first n (drop i items) → ((d : Span) → IsPlaceOf first n (get_or items i d))
+-- A list in which the looked-for range lost its first pages is the ranges cut there.
+pub cut_is : (first n : ℕ) (spans items ys : List Span) (i : ℕ) → items ≡ spans → i < length items
+    → cut_at first n items ≡ take i items ++ cut_at first n (drop i items) → ((d : Span) → IsPlaceOf first n (get_or items i d))
     → ((d : Span) → ys ≡ take i spans ++ (left_of n (get_or spans i d) ++ drop (i + 1) spans)) → ys ≡ cut_at first n spans
 cut_is first n spans items ys i same lt before here is =
     is blank ∙ sym (cut_there first n spans i blank (subst (λ l. i < length l) same lt) (subst (λ l. (get_or l i blank).first ≡ first) same (here blank).begins) (subst (λ l. cut_at first n l ≡ take i l ++ cut_at first n (drop i l)) same before))
 
-pub joined_is : (new whole : Span) (spans one two ys : List Span) (place end : ℕ) → one ≡ spans → two ≡ spans → StandsBehind new.first one place → joined new (drop place two) ≡ whole ∷ drop end two → ys ≡ take place spans ++ whole ∷ drop end spans → ys ≡ joined new spans
+-- A list in which one range stands for all that it meets is the ranges with the new one joined.
+pub joined_is : (new whole : Span) (spans one two ys : List Span) (place end : ℕ) → one ≡ spans → two ≡ spans → StandsBehind new.first one place
+    → joined new (drop place two) ≡ whole ∷ drop end two → ys ≡ take place spans ++ whole ∷ drop end spans → ys ≡ joined new spans
 joined_is new whole spans one two ys place end first second before joins is =
     is ∙ sym (subst (λ l. StandsBehind new.first l place) first before new refl ∙ ap (λ r. take place spans ++ r) (subst (λ l. joined new (drop place l) ≡ whole ∷ drop end l) second joins))

@@ -11,14 +11,16 @@ use Rattle.pas_machine.specs.Machine.{Run, MayGive, Bears}
 use Rattle.pas_machine.specs.Laws.{AreApart, IsWhere, IsCounted, AreCounted, AreBorne}
 
 -- ---- what holds of each block that is given holds of each live block
-given_if : (P : ℕ → Live → Type 0) (t : Bool) (a k : ℕ) (block : Block) (old : Option Live) (b : Live) → (address_of block.name == a) ≡ t → P (address_of block.name) (record { actor = k; block = block }) → ((b : Live) → old ≡ Some b → P a b)
+given_if : (P : ℕ → Live → Type 0) (t : Bool) (a k : ℕ) (block : Block) (old : Option Live) (b : Live) → (address_of block.name == a) ≡ t
+    → P (address_of block.name) (record { actor = k; block = block }) → ((b : Live) → old ≡ Some b → P a b)
     → (if t then Some (record { actor = k; block = block }) else old) ≡ Some b → P a b
 given_if P t a k block old b e new before h = grind (arith, same_Some, eqb-true)
 
 ended_if : (P : Live → Type 0) (t : Bool) (old : Option Live) (b : Live) → ((b : Live) → old ≡ Some b → P b) → (if t then None else old) ≡ Some b → P b
 ended_if P t old b before h = grind (arith, none-some)
 
-each_live : (f : Profile) (P : ℕ → Live → Type 0) → ((es : List Event) (k : ℕ) (block : Block) → MayGive f es block → P (address_of block.name) (record { actor = k; block = block }))
+each_live : (f : Profile) (P : ℕ → Live → Type 0)
+    → ((es : List Event) (k : ℕ) (block : Block) → MayGive f es block → P (address_of block.name) (record { actor = k; block = block }))
     → (es : List Event) → Run f es → (a : ℕ) (b : Live) → live_in es a ≡ Some b → P a b
 each_live f P new [] run a b h = absurd (none-some _ h)
 each_live f P new (Event.Give k block ∷ es) run a b h = given_if P (address_of block.name == a) a k block (live_in es a) b refl (new es k block run.0) (each_live f P new es run.1 a) h
@@ -29,6 +31,7 @@ each_live f P new (e ∷ es) run a b h = each_live f P new es run.1 a b h
 pub lives_where : (f : Profile) (es : List Event) → Run f es → IsWhere es
 lives_where f es run a b h = each_live f (λ a b. address_of b.block.name ≡ a) (λ es k block may. refl) es run a b h
 
+-- In every run each live block has some grains.
 pub live_long : (f : Profile) (es : List Event) → Run f es → (a : ℕ) (b : Live) → live_in es a ≡ Some b → 0 < length_of b.block
 live_long f = each_live f (λ a b. 0 < length_of b.block) (λ es k block may. let room : 0 < block.room = may.some in let whole : block.room % 16 ≡ 0 = may.whole in omega (arith, room, whole))
 
@@ -41,19 +44,23 @@ clear_other g n c m clear x h = other (in_run c m x) refl
     other true e = absurd (false≢true (sym (clear x e) ∙ h))
     other false e = e
 
-apart_give : (t u : Bool) (a c k : ℕ) (block : Block) (old old' : Option Live) (b d : Live) → (address_of block.name == a) ≡ t → (address_of block.name == c) ≡ u
+apart_give : (t u : Bool) (a c k : ℕ) (block : Block) (old old' : Option Live) (b d : Live) → (address_of block.name == a) ≡ t
+    → (address_of block.name == c) ≡ u
     → ((b : Live) → old ≡ Some b → (x : ℕ) → in_run (a / 16) (length_of b.block) x ≡ true → in_run (grain_of block.name) (length_of block) x ≡ false)
     → ((d : Live) → old' ≡ Some d → (x : ℕ) → in_run (c / 16) (length_of d.block) x ≡ true → in_run (grain_of block.name) (length_of block) x ≡ false)
     → ((b d : Live) → old ≡ Some b → old' ≡ Some d → (x : ℕ) → in_run (a / 16) (length_of b.block) x ≡ true → in_run (c / 16) (length_of d.block) x ≡ false)
-    → (if t then Some (record { actor = k; block = block }) else old) ≡ Some b → (if u then Some (record { actor = k; block = block }) else old') ≡ Some d → a ≢ c
+    → (if t then Some (record { actor = k; block = block }) else old) ≡ Some b → (if u then Some (record { actor = k; block = block }) else old') ≡ Some d
+    → a ≢ c
     → (x : ℕ) → in_run (a / 16) (length_of b.block) x ≡ true → in_run (c / 16) (length_of d.block) x ≡ false
 apart_give t u a c k block old old' b d e e' first second before h h' ne x = grind (arith, eqb-true, same_Some, clear_other)
 
 apart_end : (t u : Bool) (a c : ℕ) (old old' : Option Live) (b d : Live)
     → ((b d : Live) → old ≡ Some b → old' ≡ Some d → (x : ℕ) → in_run (a / 16) (length_of b.block) x ≡ true → in_run (c / 16) (length_of d.block) x ≡ false)
-    → (if t then None else old) ≡ Some b → (if u then None else old') ≡ Some d → (x : ℕ) → in_run (a / 16) (length_of b.block) x ≡ true → in_run (c / 16) (length_of d.block) x ≡ false
+    → (if t then None else old) ≡ Some b → (if u then None else old') ≡ Some d → (x : ℕ) → in_run (a / 16) (length_of b.block) x ≡ true
+    → in_run (c / 16) (length_of d.block) x ≡ false
 apart_end t u a c old old' b d before h h' = grind (arith, none-some)
 
+-- In every run live blocks have no grain in common.
 pub live_apart : (f : Profile) (es : List Event) → Run f es → AreApart es
 live_apart f [] run a c b d h h' ne = absurd (none-some _ h)
 live_apart f (Event.Give k block ∷ es) run a c b d h h' ne = apart_give (address_of block.name == a) (address_of block.name == c) a c k block (live_in es a) (live_in es c) b d refl refl
@@ -62,7 +69,8 @@ live_apart f (Event.End k name e ∷ es) run a c b d h h' ne = apart_end (addres
 live_apart f (e ∷ es) run a c b d h h' ne = live_apart f es run.1 a c b d h h' ne
 
 -- ---- gives, ends and turns
-counted_give : (t : Bool) (a k : ℕ) (block : Block) (old : Option Live) (gives ends : ℕ) → (t ≡ true → old ≡ None) → (t ≡ true → block.name.turn ≡ gives) → IsCounted old gives ends
+counted_give : (t : Bool) (a k : ℕ) (block : Block) (old : Option Live) (gives ends : ℕ) → (t ≡ true → old ≡ None) → (t ≡ true → block.name.turn ≡ gives)
+    → IsCounted old gives ends
     → IsCounted (if t then Some (record { actor = k; block = block }) else old) (if t then gives + 1 else gives) ends
 counted_give t a k block old gives ends none turn before = grind (arith, none-some)
 
@@ -81,6 +89,7 @@ no_block f es block a (Some b) is may e some =
     let here : in_run (grain_of block.name) (length_of block) (a / 16) ≡ true = ap (λ n. in_run (n / 16) (length_of block) (a / 16)) e ∙ first_of_run (a / 16) (length_of block) long in
     absurd (false≢true (sym (may.clear a b is (a / 16) own) ∙ here))
 
+-- In every run as many blocks were given at an address as ended there and live there.
 pub all_counted : (f : Profile) (es : List Event) → Run f es → AreCounted es
 all_counted f [] run a = refl
 all_counted f (Event.Give k block ∷ es) run a = counted_give (address_of block.name == a) a k block (live_in es a) (gives_in es a) (ends_in es a)
@@ -104,13 +113,16 @@ not_unbacked t old h e = grind arith
 borne_if : (f : Profile) (es es' : List Event) (t : Bool) (a k : ℕ) (block : Block) (old : Option Live) (b : Live) → (address_of block.name == a) ≡ t
     → ((x : ℕ) → in_run (grain_of block.name) (length_of block) x ≡ true → Bears f es' block.heap (x / 256))
     → ((b : Live) → old ≡ Some b → (x : ℕ) → in_run (a / 16) (length_of b.block) x ≡ true → Bears f es' b.block.heap (x / 256))
-    → (if t then Some (record { actor = k; block = block }) else old) ≡ Some b → (x : ℕ) → in_run (a / 16) (length_of b.block) x ≡ true → Bears f es' b.block.heap (x / 256)
+    → (if t then Some (record { actor = k; block = block }) else old) ≡ Some b → (x : ℕ) → in_run (a / 16) (length_of b.block) x ≡ true
+    → Bears f es' b.block.heap (x / 256)
 borne_if f es es' t a k block old b e new before h x r = grind (arith, same_Some, eqb-true)
 
 -- a page goes on bearing where its deed and its backing are as they were
-still_bears : (f : Profile) (es es' : List Event) (heap page : ℕ) (old : Bears f es heap page) → deed_in es' page ≡ Some old.directory → backed_in es' page ≡ true → Bears f es' heap page
+still_bears : (f : Profile) (es es' : List Event) (heap page : ℕ) (old : Bears f es heap page) → deed_in es' page ≡ Some old.directory
+    → backed_in es' page ≡ true → Bears f es' heap page
 still_bears f es es' heap page old deed backed = record { exists = old.exists; directory = old.directory; deed = deed; of_heap = old.of_heap; backed = backed }
 
+-- In every run the pages of a live block are backed and of its heap.
 pub all_borne : (f : Profile) (es : List Event) → Run f es → AreBorne f es
 all_borne f [] run a b h x r = absurd (none-some _ h)
 all_borne f (Event.Deed k p d ∷ es) run a b h x r =

@@ -64,7 +64,8 @@ deed_heaps f (Event.Deed k p d' ∷ es) run page d h = new (p == page) (deed_in 
 deed_heaps f (e ∷ es) run page d h = deed_heaps f es run.1 page d h
 
 -- what is there has this number, or nothing that has it is there
-found_or_not : {A : Type 0} (o : Option A) (number : A → ℕ) (n : ℕ) → ((a : A) × (o ≡ Some a) × (number a ≡ n)) ⊎ (((a : A) × (o ≡ Some a) × (number a ≡ n)) → ⊥)
+found_or_not : {A : Type 0} (o : Option A) (number : A → ℕ) (n : ℕ)
+    → ((a : A) × (o ≡ Some a) × (number a ≡ n)) ⊎ (((a : A) × (o ≡ Some a) × (number a ≡ n)) → ⊥)
 found_or_not None number n = inr (λ has. none-some _ has.1)
 found_or_not (Some a) number n = elim (eqb_tells (number a) n) [ inl h ↦ inl (a, refl, h.1) | inr h ↦ inr (λ has. h.1 (ap number (same_Some _ _ has.1) ∙ has.2)) ]
 
@@ -93,11 +94,13 @@ reason_of es name (Why.SizeDiffers room) never = (
 )
 
 -- ---- where no reason applies, the event may come next
-give_bears : (f : Profile) (es : List Event) (heap page : ℕ) → (IsOutside f page → ⊥) → ((HasDeedOf es heap page → ⊥) → ⊥) → (backed_in es page ≡ false → ⊥) → Bears f es heap page
+give_bears : (f : Profile) (es : List Event) (heap page : ℕ) → (IsOutside f page → ⊥) → ((HasDeedOf es heap page → ⊥) → ⊥) → (backed_in es page ≡ false → ⊥)
+    → Bears f es heap page
 give_bears f es heap page outside deed backed =
     let has : HasDeedOf es heap page = elim (found_or_not (deed_in es page) (λ (d : Directory). d.heap) heap) [ inl h ↦ h | inr h ↦ absurd (deed h) ] in
     record { exists = page_of f page outside; directory = has.0; deed = has.1; of_heap = has.2; backed = true_from_ne_false (backed_in es page) backed }
 
+-- An event to which no reason applies is admitted.
 pub admits_of : (f : Profile) (es : List Event) (e : Event) → ((reason : Illegal) → Applies f es e reason → ⊥) → Admits f es e
 admits_of f es (Event.Deed k page d) never = (page_of f page (never Illegal.BadPage), lt_of d.heap f.heaps (never Illegal.BadHeap), none_of (deed_in es page) (never Illegal.DeedTwice))
 admits_of f es (Event.Back k page) never = (page_of f page (never Illegal.BadPage), never Illegal.NoDeed, false_from_ne_true (backed_in es page) (never Illegal.BackedTwice))
@@ -125,6 +128,7 @@ not_no_run f es block may e = grind (arith, not_outside)
 first_grain : (f : Profile) (es : List Event) (block : Block) → MayGive f es block → IsGrainOf block (grain_of block.name)
 first_grain f es block may = first_of_run (grain_of block.name) (length_of block) (omega (arith, may.some, may.whole))
 
+-- To an event that a run admits no reason applies.
 pub never_of : (f : Profile) (es : List Event) → Run f es → (e : Event) → Admits f es e → (reason : Illegal) → Applies f es e reason → ⊥
 never_of f es run (Event.Deed k page d) may Illegal.BadPage h = not_outside f page may.0 h
 never_of f es run (Event.Deed k page d) may Illegal.BadHeap h = let heap : d.heap < f.heaps = may.1 in let other : f.heaps ≤ d.heap = h in omega arith
@@ -160,6 +164,7 @@ numbered n = if n == 1 then Illegal.BadPage else if n == 2 then Illegal.BadHeap 
 numbers_tell : (reason : Illegal) → numbered (reason_number reason) ≡ reason
 numbers_tell reason = grind arith
 
+-- Only one reason is the first that applies to an event.
 pub one_first : (f : Profile) (es : List Event) (e : Event) (reason other : Illegal) → IsFirst f es e reason → IsFirst f es e other → reason ≡ other
 one_first f es e reason other first first' = sym (numbers_tell reason) ∙ (ap numbered same ∙ numbers_tell other)
   where
@@ -179,10 +184,13 @@ ends_outside f block is high =
     let last : ℕ = grain_of block.name + length_of block - 1 in
     inr (grain_of block.name + length_of block - 1, to_run (grain_of block.name) (length_of block) (grain_of block.name + length_of block - 1) (omega (arith, long)) (omega (arith, long)), inr (omega (arith, high)))
 
-pub ends_by_test : (f : Profile) (block : Block) (t : Bool) → IsWhole block → 256 ≤ grain_of block.name → nat_lt (256 * f.pages + 256) (grain_of block.name + length_of block) ≡ t → MatchBool t (IsNoRun f block) (IsWithin f block)
+-- A block is no run of the region exactly where its end is past the region's.
+pub ends_by_test : (f : Profile) (block : Block) (t : Bool) → IsWhole block → 256 ≤ grain_of block.name
+    → nat_lt (256 * f.pages + 256) (grain_of block.name + length_of block) ≡ t → MatchBool t (IsNoRun f block) (IsWithin f block)
 ends_by_test f block true is low e = ends_outside f block is (ltb-true (grains_of f) (grain_of block.name + length_of block) e)
 ends_by_test f block false is low e = (low, ltb-false (grains_of f) (grain_of block.name + length_of block) e)
 
+-- A block inside the region is a run of it.
 pub inside_never : (f : Profile) (block : Block) → IsInside f block → IsNoRun f block → ⊥
 inside_never f block is (inl (inl h)) = h is.whole.aligned
 inside_never f block is (inl (inr (inl h))) = let some : 0 < block.room = is.whole.some in let none : block.room ≡ 0 = h in omega arith
@@ -204,12 +212,14 @@ page_on : (g n x : ℕ) → in_run g n x ≡ true → (g / 256 ≤ x / 256) × (
 page_on g n x h = let at = run_of g n x h in (omega (arith, at.0), omega (arith, at.1))
 
 -- ---- what a machine keeps, at one place
-pub page_is : (f : Profile) (pages : List Page) (places : List Place) (covered : List Bool) (es : List Event) → Shows f pages places covered es → (page : ℕ) → page ≤ f.pages → (len : ℕ) → len ≡ length pages → len ≡ f.pages + 1
+pub page_is : (f : Profile) (pages : List Page) (places : List Place) (covered : List Bool) (es : List Event) → Shows f pages places covered es → (page : ℕ)
+    → page ≤ f.pages → (len : ℕ) → len ≡ length pages → len ≡ f.pages + 1
     → (p : Page) → p ≡ get_or pages page p → p ≡ page_in es page
 page_is f pages places covered es shows page within len same sized p is =
     let low : page < length pages = omega (arith, within, same, sized) in is ∙ (get_or_default pages page p blank_page low ∙ shows.pages_are page within)
 
-place_is : (f : Profile) (pages : List Page) (places : List Place) (covered : List Bool) (es : List Event) → Shows f pages places covered es → (g : ℕ) → g < grains_of f → (len : ℕ) → len ≡ length places → len ≡ grains_of f
+place_is : (f : Profile) (pages : List Page) (places : List Place) (covered : List Bool) (es : List Event) → Shows f pages places covered es → (g : ℕ)
+    → g < grains_of f → (len : ℕ) → len ≡ length places → len ≡ grains_of f
     → (p : Place) → p ≡ get_or places g p → p ≡ place_in es g
 place_is f pages places covered es shows g within len same sized p is =
     let low : g < length places = omega (arith, within, same, sized) in is ∙ (get_or_default places g p blank_place low ∙ shows.places_are g within)
@@ -218,7 +228,9 @@ place_is f pages places covered es shows g within len same sized p is =
 ends_by : (o : Option Live) (gives ends : ℕ) → IsCounted o gives ends → (is_some o ≡ true → gives - 1 ≡ ends) × (is_some o ≡ false → gives ≡ ends)
 ends_by o gives ends counted = grind (arith, false≢true)
 
-pub ends_are : (f : Profile) (pages : List Page) (places : List Place) (covered : List Bool) (len a : ℕ) (p : Place) → len ≡ length places → len ≡ grains_of f → IsPlace f a → p ≡ get_or places (a / 16) p
+-- A place's gives, less one where a block lives, are the ends at its address.
+pub ends_are : (f : Profile) (pages : List Page) (places : List Place) (covered : List Bool) (len a : ℕ) (p : Place) → len ≡ length places → len ≡ grains_of f
+    → IsPlace f a → p ≡ get_or places (a / 16) p
     → (es : List Event) → Shows f pages places covered es → (p.lives ≡ true → p.gives - 1 ≡ ends_in es a) × (p.lives ≡ false → p.gives ≡ ends_in es a)
 ends_are f pages places covered len a p same sized place read es shows =
     let high : a / 4096 ≤ f.pages = place.0.1 in
@@ -228,10 +240,13 @@ ends_are f pages places covered len a p same sized place read es shows =
 
 -- ---- the block of a place
 -- A live block is what its place says: it lives at its own address, and all that were given there before it have ended.
-block_by : (o : Option Live) (address : Address) (gives ends : ℕ) → ((b : Live) → o ≡ Some b → address_of b.block.name ≡ address.0) → IsCounted o gives ends → block_at (place_with o gives) address ≡ block_of o
+block_by : (o : Option Live) (address : Address) (gives ends : ℕ) → ((b : Live) → o ≡ Some b → address_of b.block.name ≡ address.0) → IsCounted o gives ends
+    → block_at (place_with o gives) address ≡ block_of o
 block_by o address gives ends home counted = grind arith
 
-pub block_is : (f : Profile) (pages : List Page) (places : List Place) (covered : List Bool) (es : List Event) → Shows f pages places covered es → (address : Address) → address.0 % 16 ≡ 0 → address.0 / 16 < grains_of f → (len : ℕ)
+-- The block at a place of the table is the one that lives at its address.
+pub block_is : (f : Profile) (pages : List Page) (places : List Place) (covered : List Bool) (es : List Event) → Shows f pages places covered es
+    → (address : Address) → address.0 % 16 ≡ 0 → address.0 / 16 < grains_of f → (len : ℕ)
     → len ≡ length places → len ≡ grains_of f → (p : Place) → p ≡ get_or places (address.0 / 16) p → block_at p address ≡ block_of (live_in es address.0)
 block_is f pages places covered es shows address aligned within len same sized p read =
     let is : p ≡ place_in es (address.0 / 16) = place_is f pages places covered es shows (address.0 / 16) within len same sized p read in
@@ -242,25 +257,30 @@ live_there : (o : Option Live) (block : Block) → block_of o ≡ Some block →
 live_there o block h = grind (arith, none-some, same_Some)
 
 -- the block that was found at the place of a name
-module _ {f : Profile} {pages : List Page} {places : List Place} {covered : List Bool} {es : List Event} (shows : Shows f pages places covered es) (name : Name) (place : IsPlace f (address_of name)) (len : ℕ) (same : len ≡ length places)
+module _ {f : Profile} {pages : List Page} {places : List Place} {covered : List Bool} {es : List Event} (shows : Shows f pages places covered es) (name : Name)
+    (place : IsPlace f (address_of name)) (len : ℕ) (same : len ≡ length places)
     (sized : len ≡ grains_of f) (p : Place) (read : p ≡ get_or places (grain_of name) p) (block : Block) (found : block_at p name.address ≡ Some block) where
   found_there : (b : Live) × (live_in es (address_of name) ≡ Some b) × (b.block ≡ block)
   found_there =
       let on : address_of name / 4096 ≤ f.pages = place.0.1 in
       live_there (live_in es (address_of name)) block (sym (block_is f pages places covered es shows name.address place.1 (omega (arith, on)) len same sized p read) ∙ found)
 
+  -- A block that was found at a name's place with its turn is the live block of that name.
   pub found_live : block.name.turn ≡ name.turn → IsLiveBlock es name block
   found_live turn = (found_there.0, found_there.1, found_there.2, turn)
 
+  -- A block that was found at a name's place with another turn shows that the name isn't live.
   pub found_other : (block.name.turn ≡ name.turn → ⊥) → IsLive es name → ⊥
   found_other differs live = search (arith, found_there, same_Some)
 
 -- ---- unbacks
 -- a live block that has a grain of the page touches it, and the other way round
-touches_by : (f : Profile) (es : List Event) → Run f es → (page x : ℕ) → x / 256 ≡ page → Covers es x → (address : ℕ) × (touches (live_in es address) page ≡ true)
+touches_by : (f : Profile) (es : List Event) → Run f es → (page x : ℕ) → x / 256 ≡ page → Covers es x
+    → (address : ℕ) × (touches (live_in es address) page ≡ true)
 touches_by f es run page x on c = search (arith, lives_where, run_meets)
 
-touched_by : (f : Profile) (es : List Event) → Run f es → (page : ℕ) → ((x : ℕ) → 256 * page ≤ x → x < 256 * page + 256 → Covers es x → ⊥) → (address : ℕ) → touches (live_in es address) page ≡ true → ⊥
+touched_by : (f : Profile) (es : List Event) → Run f es → (page : ℕ) → ((x : ℕ) → 256 * page ≤ x → x < 256 * page + 256 → Covers es x → ⊥) → (address : ℕ)
+    → touches (live_in es address) page ≡ true → ⊥
 touched_by f es run page never address h = by (live_in es address) refl h
   where
     by : (o : Option Live) → live_in es address ≡ o → touches o page ≡ true → ⊥
@@ -271,10 +291,12 @@ touched_by f es run page never address h = by (live_in es address) refl h
         let on = x.of_page in
         never x.grain (omega (arith, on)) (omega (arith, on)) (record { address = address; live = b; lives = is; has = x.of_run })
 
-unback_before : (f : Profile) (es : List Event) (k page epoch n : ℕ) → (1 < n → IsOutside f page → ⊥) → (6 < n → backed_in es page ≡ false → ⊥) → (7 < n → (a : ℕ) → touches (live_in es a) page ≡ true → ⊥)
+unback_before : (f : Profile) (es : List Event) (k page epoch n : ℕ) → (1 < n → IsOutside f page → ⊥) → (6 < n → backed_in es page ≡ false → ⊥)
+    → (7 < n → (a : ℕ) → touches (live_in es a) page ≡ true → ⊥)
     → (8 < n → epoch < epoch_in es page + f.age → ⊥) → (reason : Illegal) → reason_number reason < n → Applies f es (Event.Unback k page epoch) reason → ⊥
 unback_before f es k page epoch n a b c d reason lt h = grind arith
 
+-- The number of each reason is below 12.
 pub number_below : (reason : Illegal) → reason_number reason < 12
 number_below reason = grind arith
 
@@ -288,7 +310,9 @@ covered_at es x t is h = grind (arith, false≢true)
 uncovered_at : (es : List Event) (x : ℕ) (t : Bool) → IsCovered es x t → t ≡ false → Covers es x → ⊥
 uncovered_at es x t is h = grind (arith, false≢true)
 
-pub unback_lives : (f : Profile) (pages : List Page) (places : List Place) (covered : List Bool) (es : List Event) → Shows f pages places covered es → (k page epoch : ℕ) → IsPage f page → (p : Page) → p ≡ page_in es page → p.backed ≡ true
+-- An unback of a page with a covered grain is refused first because a block lives there.
+pub unback_lives : (f : Profile) (pages : List Page) (places : List Place) (covered : List Bool) (es : List Event) → Shows f pages places covered es
+    → (k page epoch : ℕ) → IsPage f page → (p : Page) → p ≡ page_in es page → p.backed ≡ true
     → IsSome (256 * page) (256 * page + 256) (λ x. get_or covered x false ≡ true) → IsFirst f es (Event.Unback k page epoch) Illegal.LivesThere
 unback_lives f pages places covered es shows k page epoch within p is backed some =
     let high : page ≤ f.pages = within.1 in
@@ -299,27 +323,36 @@ unback_lives f pages places covered es shows k page epoch within p is backed som
       others = unback_before f es k page epoch 7 (λ _. not_outside f page within) (λ _. backed_now es page p is backed) (λ lt. absurd (omega (arith, lt))) (λ lt. absurd (omega (arith, lt)));
     }
 
-untouched : (f : Profile) (pages : List Page) (places : List Place) (covered : List Bool) (es : List Event) → Shows f pages places covered es → (page : ℕ) → IsPage f page
+untouched : (f : Profile) (pages : List Page) (places : List Place) (covered : List Bool) (es : List Event) → Shows f pages places covered es → (page : ℕ)
+    → IsPage f page
     → IsEach (256 * page) (256 * page + 256) (λ x. get_or covered x false ≡ false) → (a : ℕ) → touches (live_in es a) page ≡ true → ⊥
 untouched f pages places covered es shows page within each = touched_by f es shows.run page
     (λ x low until. let high : page ≤ f.pages = within.1 in uncovered_at es x (get_or covered x false) (shows.covered_are x (omega (arith, high, until))) (each x low until))
 
-pub unback_young : (f : Profile) (pages : List Page) (places : List Place) (covered : List Bool) (es : List Event) → Shows f pages places covered es → (k page epoch : ℕ) → IsPage f page → (p : Page) → p ≡ page_in es page → p.backed ≡ true
-    → IsEach (256 * page) (256 * page + 256) (λ x. get_or covered x false ≡ false) → epoch < p.epoch + f.age → IsFirst f es (Event.Unback k page epoch) Illegal.TooYoung
+-- An unback of an empty page at too small an epoch is refused first because it is too young.
+pub unback_young : (f : Profile) (pages : List Page) (places : List Place) (covered : List Bool) (es : List Event) → Shows f pages places covered es
+    → (k page epoch : ℕ) → IsPage f page → (p : Page) → p ≡ page_in es page → p.backed ≡ true
+    → IsEach (256 * page) (256 * page + 256) (λ x. get_or covered x false ≡ false) → epoch < p.epoch + f.age
+    → IsFirst f es (Event.Unback k page epoch) Illegal.TooYoung
 unback_young f pages places covered es shows k page epoch within p is backed each young = record {
   applies = subst (λ (q : Page). epoch < q.epoch + f.age) is young;
   others = unback_before f es k page epoch 8 (λ _. not_outside f page within) (λ _. backed_now es page p is backed) (λ _. untouched f pages places covered es shows page within each) (λ lt. absurd (omega (arith, lt)));
 }
 
-pub unback_may : (f : Profile) (pages : List Page) (places : List Place) (covered : List Bool) (es : List Event) → Shows f pages places covered es → (k page epoch : ℕ) → IsPage f page → (p : Page) → p ≡ page_in es page → p.backed ≡ true
-    → IsEach (256 * page) (256 * page + 256) (λ x. get_or covered x false ≡ false) → p.epoch + f.age ≤ epoch → (reason : Illegal) → Applies f es (Event.Unback k page epoch) reason → ⊥
+-- No reason applies to an unback of an empty backed page at an epoch that is late enough.
+pub unback_may : (f : Profile) (pages : List Page) (places : List Place) (covered : List Bool) (es : List Event) → Shows f pages places covered es
+    → (k page epoch : ℕ) → IsPage f page → (p : Page) → p ≡ page_in es page → p.backed ≡ true
+    → IsEach (256 * page) (256 * page + 256) (λ x. get_or covered x false ≡ false) → p.epoch + f.age ≤ epoch → (reason : Illegal)
+    → Applies f es (Event.Unback k page epoch) reason → ⊥
 unback_may f pages places covered es shows k page epoch within p is backed each old reason =
     let old' : epoch_in es page + f.age ≤ epoch = subst (λ (q : Page). q.epoch + f.age ≤ epoch) is old in
     unback_before f es k page epoch 12 (λ _. not_outside f page within) (λ _. backed_now es page p is backed) (λ _. untouched f pages places covered es shows page within each) (λ _ young. omega (arith, old', young)) reason (number_below reason)
 
 -- ---- gives
-pub give_before : (f : Profile) (es : List Event) (k : ℕ) (block : Block) (n : ℕ) → (1 < n → IsNoRun f block → ⊥) → (2 < n → f.heaps ≤ block.heap → ⊥) → (4 < n → Applies f es (Event.Give k block) Illegal.NoDeed → ⊥)
-    → (6 < n → Applies f es (Event.Give k block) Illegal.NotBacked → ⊥) → (7 < n → Applies f es (Event.Give k block) Illegal.LivesThere → ⊥) → (9 < n → Applies f es (Event.Give k block) Illegal.WrongTurn → ⊥)
+pub give_before : (f : Profile) (es : List Event) (k : ℕ) (block : Block) (n : ℕ) → (1 < n → IsNoRun f block → ⊥) → (2 < n → f.heaps ≤ block.heap → ⊥)
+    → (4 < n → Applies f es (Event.Give k block) Illegal.NoDeed → ⊥)
+    → (6 < n → Applies f es (Event.Give k block) Illegal.NotBacked → ⊥) → (7 < n → Applies f es (Event.Give k block) Illegal.LivesThere → ⊥)
+    → (9 < n → Applies f es (Event.Give k block) Illegal.WrongTurn → ⊥)
     → (reason : Illegal) → reason_number reason < n → Applies f es (Event.Give k block) reason → ⊥
 give_before f es k block n a b c d e g reason lt h = grind arith
 
@@ -334,30 +367,41 @@ page_within : (f : Profile) (block : Block) → IsWithin f block → (x : ℕ) �
 page_within f block within x has = search (arith, run_of)
 
 -- what the machine was asked of each page and each grain of the run
-module _ {f : Profile} {pages : List Page} {places : List Place} {covered : List Bool} {es : List Event} (shows : Shows f pages places covered es) (block : Block) (is : IsInside f block) where
-  pub some_page : (P : Page → Type 0) → IsSome (first_page block) (until_page block) (λ page. P (get_or pages page blank_page)) → (x : ℕ) × IsGrainOf block x × P (page_in es (x / 256))
+module _ {f : Profile} {pages : List Page} {places : List Place} {covered : List Bool} {es : List Event} (shows : Shows f pages places covered es)
+    (block : Block) (is : IsInside f block) where
+  -- Where some page of a block is so by the table, it is so of some grain's page by the events.
+  pub some_page : (P : Page → Type 0) → IsSome (first_page block) (until_page block) (λ page. P (get_or pages page blank_page))
+      → (x : ℕ) × IsGrainOf block x × P (page_in es (x / 256))
   some_page P some =
       let x = grain_on (grain_of block.name) (length_of block) some.0 (long_of block is.whole) some.1 some.2 in
       let within : some.0 ≤ f.pages = subst (λ n. n ≤ f.pages) x.of_page (page_within f block is.within x.grain x.of_run).0 in
       (x.grain, x.of_run, subst P (shows.pages_are some.0 within ∙ ap (page_in es) (sym x.of_page)) some.3)
 
-  pub each_page : (P : Page → Type 0) → IsEach (first_page block) (until_page block) (λ page. P (get_or pages page blank_page)) → (x : ℕ) → IsGrainOf block x → P (page_in es (x / 256))
+  -- Where each page of a block is so by the table, it is so of each grain's page by the events.
+  pub each_page : (P : Page → Type 0) → IsEach (first_page block) (until_page block) (λ page. P (get_or pages page blank_page)) → (x : ℕ) → IsGrainOf block x
+      → P (page_in es (x / 256))
   each_page P each x has =
       let on = page_on (grain_of block.name) (length_of block) x has in subst P (shows.pages_are (x / 256) (page_within f block is.within x has).0) (each (x / 256) on.0 on.1)
 
-  pub some_lives : IsSome (grain_of block.name) (grain_of block.name + length_of block) (λ x. get_or covered x false ≡ true) → (x : ℕ) × IsGrainOf block x × Covers es x
+  -- Where some grain of a block is marked as covered, a live block covers it.
+  pub some_lives : IsSome (grain_of block.name) (grain_of block.name + length_of block) (λ x. get_or covered x false ≡ true)
+      → (x : ℕ) × IsGrainOf block x × Covers es x
   some_lives some = search (arith, to_run, covered_at, page_within)
 
-  pub none_lives : IsEach (grain_of block.name) (grain_of block.name + length_of block) (λ x. get_or covered x false ≡ false) → (x : ℕ) → IsGrainOf block x → Covers es x → ⊥
+  -- Where no grain of a block is marked as covered, no live block covers any.
+  pub none_lives : IsEach (grain_of block.name) (grain_of block.name + length_of block) (λ x. get_or covered x false ≡ false) → (x : ℕ) → IsGrainOf block x
+      → Covers es x → ⊥
   none_lives each x has =
       let at = run_of (grain_of block.name) (length_of block) x has in
       uncovered_at es x (get_or covered x false) (shows.covered_are x (page_within f block is.within x has).1) (each x at.0 at.1)
 
+-- The gives of a place are those at its address.
 pub gives_are : (es : List Event) (a : ℕ) → a % 16 ≡ 0 → (p : Place) → p ≡ place_in es (a / 16) → p.gives ≡ gives_in es a
 gives_are es a aligned p is = ap (λ (q : Place). q.gives) is ∙ ap (gives_in es) (at_place a aligned)
 
 -- the place where a block that is inside begins
-pub place_at : (f : Profile) (pages : List Page) (places : List Place) (covered : List Bool) (es : List Event) → Shows f pages places covered es → (block : Block) → IsInside f block → (len : ℕ) → len ≡ length places
+pub place_at : (f : Profile) (pages : List Page) (places : List Place) (covered : List Bool) (es : List Event) → Shows f pages places covered es
+    → (block : Block) → IsInside f block → (len : ℕ) → len ≡ length places
     → len ≡ grains_of f → (p : Place) → p ≡ get_or places (grain_of block.name) p → p ≡ place_in es (grain_of block.name)
 place_at f pages places covered es shows block is =
     place_is f pages places covered es shows (grain_of block.name) (omega (arith, is.within.1, long_of block is.whole))
@@ -370,7 +414,9 @@ live_within f es run a b is =
     let on : (a / 16 + length_of b.block - 1) / 256 ≤ f.pages = (all_borne f es run a b is (a / 16 + length_of b.block - 1) last).exists.1 in
     omega (arith, on, long)
 
-pub ends_within : (f : Profile) (pages : List Page) (places : List Place) (covered : List Bool) (name : Name) (block : Block) → ∥ ((es : List Event) × Shows f pages places covered es) ∥₁
+-- The live block of a name ends within the grains of the region.
+pub ends_within : (f : Profile) (pages : List Page) (places : List Place) (covered : List Bool) (name : Name) (block : Block)
+    → ∥ ((es : List Event) × Shows f pages places covered es) ∥₁
     → ((es : List Event) → Shows f pages places covered es → IsLiveBlock es name block) → grain_of name + length_of block ≤ grains_of f
 ends_within f pages places covered name block some is = ∥∥₁_elim some le_prop (λ s.
     let live = is s.0 s.1 in
@@ -378,14 +424,17 @@ ends_within f pages places covered name block some is = ∥∥₁_elim some le_p
 
 -- ==== What a machine keeps at its opening.
 
-pub opens : (f : Profile) (pages : List Page) (places : List Place) (covered : List Bool) → pages ≡ replicate (f.pages + 1) blank_page → places ≡ replicate (grains_of f) blank_place → covered ≡ replicate (grains_of f) false
+-- Blank tables show a region in which nothing happened.
+pub opens : (f : Profile) (pages : List Page) (places : List Place) (covered : List Bool) → pages ≡ replicate (f.pages + 1) blank_page
+    → places ≡ replicate (grains_of f) blank_place → covered ≡ replicate (grains_of f) false
     → Shows f pages places covered []
 opens f pages places covered e e' e'' = search (arith, get_or-replicate, none-some)
 
 -- ==== What a machine keeps after an event that may come next is what the events lead to.
 
 -- ---- one element is written
-written : {X : Type 0} (xs : List X) (d : X) (i most : ℕ) (x : X) (old new : ℕ → X) → i < length xs → ((j : ℕ) → j < most → get_or xs j d ≡ old j) → x ≡ new i → ((j : ℕ) → i ≢ j → old j ≡ new j)
+written : {X : Type 0} (xs : List X) (d : X) (i most : ℕ) (x : X) (old new : ℕ → X) → i < length xs → ((j : ℕ) → j < most → get_or xs j d ≡ old j) → x ≡ new i
+    → ((j : ℕ) → i ≢ j → old j ≡ new j)
     → (j : ℕ) → j < most → get_or (set xs i x) j d ≡ new j
 written xs d i most x old new low before here others j within = search (arith, eqb_tells, get_or-set_same, get_or-set_other)
 
@@ -398,10 +447,13 @@ same_covered es es' x t same is = grind (arith, same_cover)
 
 -- ---- deeds, backs and unbacks
 -- an event that changes what is kept of one page alone; `after q t` is what is kept of page q after it, where t says that q is that page
-module _ (f : Profile) (pages : List Page) (places : List Place) (covered : List Bool) (len page : ℕ) (p : Page) (same : len ≡ length pages) (sized : len ≡ f.pages + 1) (within : IsPage f page) (read : p ≡ get_or pages page p) where
-  page_made : (es : List Event) → Shows f pages places covered es → (e : Event) → ((reason : Illegal) → Applies f es e reason → ⊥) → (new : Page → Page) (after : ℕ → Bool → Page)
+module _ (f : Profile) (pages : List Page) (places : List Place) (covered : List Bool) (len page : ℕ) (p : Page) (same : len ≡ length pages)
+    (sized : len ≡ f.pages + 1) (within : IsPage f page) (read : p ≡ get_or pages page p) where
+  page_made : (es : List Event) → Shows f pages places covered es → (e : Event) → ((reason : Illegal) → Applies f es e reason → ⊥)
+      → (new : Page → Page) (after : ℕ → Bool → Page)
       → ((q : ℕ) → new (page_in es q) ≡ after q true) → ((q : ℕ) → page_in es q ≡ after q false) → ((q : ℕ) → after q (page == q) ≡ page_in (e ∷ es) q)
-      → ((g : ℕ) → place_in es g ≡ place_in (e ∷ es) g) → ((a : ℕ) → live_in (e ∷ es) a ≡ live_in es a) → Admits f es e × Shows f (set pages page (new p)) places covered (e ∷ es)
+      → ((g : ℕ) → place_in es g ≡ place_in (e ∷ es) g) → ((a : ℕ) → live_in (e ∷ es) a ≡ live_in es a)
+      → Admits f es e × Shows f (set pages page (new p)) places covered (e ∷ es)
   page_made es shows e none new after changed kept now places_same live_same =
       let may : Admits f es e = admits_of f es e none in
       let high : page ≤ f.pages = within.1 in
@@ -416,22 +468,30 @@ module _ (f : Profile) (pages : List Page) (places : List Place) (covered : List
         },
       )
 
-  pub deed_made : (d : Directory) → ((k : ℕ) (es : List Event) → Shows f pages places covered es → IsVerdict f es (Event.Deed k page d) None) → (k : ℕ) (es : List Event) → Shows f pages places covered es
+  -- A deed that is admitted, noted at its page, makes tables that show it.
+  pub deed_made : (d : Directory) → ((k : ℕ) (es : List Event) → Shows f pages places covered es → IsVerdict f es (Event.Deed k page d) None)
+      → (k : ℕ) (es : List Event) → Shows f pages places covered es
       → Admits f es (Event.Deed k page d) × Shows f (set pages page (record p { directory = Some d })) places covered (Event.Deed k page d ∷ es)
   deed_made d none k es shows = page_made es shows (Event.Deed k page d) (none k es shows) (λ q. record q { directory = Some d })
       (λ q t. record { directory = if t then Some d else deed_in es q; backed = backed_in es q; epoch = epoch_in es q }) (λ q. refl) (λ q. refl) (λ q. refl) (λ g. refl) (λ a. refl)
 
-  pub back_made : ((k : ℕ) (es : List Event) → Shows f pages places covered es → IsVerdict f es (Event.Back k page) None) → (k : ℕ) (es : List Event) → Shows f pages places covered es
+  -- A back that is admitted, noted at its page, makes tables that show it.
+  pub back_made : ((k : ℕ) (es : List Event) → Shows f pages places covered es → IsVerdict f es (Event.Back k page) None) → (k : ℕ) (es : List Event)
+      → Shows f pages places covered es
       → Admits f es (Event.Back k page) × Shows f (set pages page (record p { backed = true })) places covered (Event.Back k page ∷ es)
   back_made none k es shows = page_made es shows (Event.Back k page) (none k es shows) (λ q. record q { backed = true })
       (λ q t. record { directory = deed_in es q; backed = if t then true else backed_in es q; epoch = epoch_in es q }) (λ q. refl) (λ q. refl) (λ q. refl) (λ g. refl) (λ a. refl)
 
-  pub unback_made : (epoch : ℕ) → ((k : ℕ) (es : List Event) → Shows f pages places covered es → IsVerdict f es (Event.Unback k page epoch) None) → (k : ℕ) (es : List Event) → Shows f pages places covered es
+  -- An unback that is admitted, noted at its page, makes tables that show it.
+  pub unback_made : (epoch : ℕ) → ((k : ℕ) (es : List Event) → Shows f pages places covered es → IsVerdict f es (Event.Unback k page epoch) None)
+      → (k : ℕ) (es : List Event) → Shows f pages places covered es
       → Admits f es (Event.Unback k page epoch) × Shows f (set pages page (record p { backed = false })) places covered (Event.Unback k page epoch ∷ es)
   unback_made epoch none k es shows = page_made es shows (Event.Unback k page epoch) (none k es shows) (λ q. record q { backed = false })
       (λ q t. record { directory = deed_in es q; backed = if t then false else backed_in es q; epoch = epoch_in es q }) (λ q. refl) (λ q. refl) (λ q. refl) (λ g. refl) (λ a. refl)
 
-pub reject_shows : (f : Profile) (pages : List Page) (places : List Place) (covered : List Bool) (es : List Event) → Shows f pages places covered es → (k : ℕ) (name : Name) (why : Why) → Admits f es (Event.Reject k name why)
+-- A refusal that is admitted changes nothing of the tables that show it.
+pub reject_shows : (f : Profile) (pages : List Page) (places : List Place) (covered : List Bool) (es : List Event) → Shows f pages places covered es
+    → (k : ℕ) (name : Name) (why : Why) → Admits f es (Event.Reject k name why)
     → Shows f pages places covered (Event.Reject k name why ∷ es)
 reject_shows f pages places covered es shows k name why may = search (arith, same_covered)
 
@@ -440,8 +500,10 @@ off_place : (a g : ℕ) → a % 16 ≡ 0 → a / 16 ≢ g → a ≢ 16 * g
 off_place a g h ne e = ne (omega (arith, h, e))
 
 -- the place of an address is written; `after g t` is what is kept of grain g after the event, where t says that the address is the grain's
-place_set : (f : Profile) (places : List Place) (es : List Event) (e : Event) (a : ℕ) (v : Place) (after : ℕ → Bool → Place) → a % 16 ≡ 0 → a / 16 < length places → ((g : ℕ) → g < grains_of f → get_or places g blank_place ≡ place_in es g)
-    → v ≡ after (a / 16) true → ((g : ℕ) → place_in es g ≡ after g false) → ((g : ℕ) → after g (a == 16 * g) ≡ place_in (e ∷ es) g) → (g : ℕ) → g < grains_of f → get_or (set places (a / 16) v) g blank_place ≡ place_in (e ∷ es) g
+place_set : (f : Profile) (places : List Place) (es : List Event) (e : Event) (a : ℕ) (v : Place) (after : ℕ → Bool → Place) → a % 16 ≡ 0
+    → a / 16 < length places → ((g : ℕ) → g < grains_of f → get_or places g blank_place ≡ place_in es g)
+    → v ≡ after (a / 16) true → ((g : ℕ) → place_in es g ≡ after g false) → ((g : ℕ) → after g (a == 16 * g) ≡ place_in (e ∷ es) g) → (g : ℕ) → g < grains_of f
+    → get_or (set places (a / 16) v) g blank_place ≡ place_in (e ∷ es) g
 place_set f places es e a v after aligned low are new kept now = written places blank_place (a / 16) (grains_of f) v (place_in es) (place_in (e ∷ es)) low are
     (new ∙ ap (after (a / 16)) (sym (eq-eqb a (16 * (a / 16)) (sym (at_place a aligned)))) ∙ now (a / 16))
     (λ g ne. kept g ∙ ap (after g) (sym (ne_eqb a (16 * g) (off_place a g aligned ne))) ∙ now g)
@@ -451,11 +513,13 @@ in_range : (g n x : ℕ) → (in_run g n x ≡ true → ⊥) → x < g + n → x
 in_range g n x out high = elim (leb_tells g x) [ inl h ↦ absurd (out (to_run g n x h.1 high)) | inr h ↦ h.1 ]
 
 -- a grain that is outside of what was marked is as it was
-unmarked : (covered covered' : List Bool) (g n x : ℕ) → ((y : ℕ) → y < g → get_or covered' y false ≡ get_or covered y false) → ((y : ℕ) → g + n ≤ y → get_or covered' y false ≡ get_or covered y false)
+unmarked : (covered covered' : List Bool) (g n x : ℕ) → ((y : ℕ) → y < g → get_or covered' y false ≡ get_or covered y false)
+    → ((y : ℕ) → g + n ≤ y → get_or covered' y false ≡ get_or covered y false)
     → (in_run g n x ≡ true → ⊥) → get_or covered' x false ≡ get_or covered x false
 unmarked covered covered' g n x below above out = elim (leb_tells (g + n) x) [ inl h ↦ above x h.1 | inr h ↦ below x (in_range g n x out h.1) ]
 
-give_covered : (f : Profile) (es : List Event) → Run f es → (k : ℕ) (block : Block) → MayGive f es block → (x : ℕ) (t : Bool) → (in_run (grain_of block.name) (length_of block) x ≡ true → ⊥) → IsCovered es x t
+give_covered : (f : Profile) (es : List Event) → Run f es → (k : ℕ) (block : Block) → MayGive f es block → (x : ℕ) (t : Bool)
+    → (in_run (grain_of block.name) (length_of block) x ≡ true → ⊥) → IsCovered es x t
     → IsCovered (Event.Give k block ∷ es) x t
 give_covered f es run k block may x true out c = record { address = c.address; live = c.live; lives = ap (λ t. if t then Some record { actor = k; block = block } else live_in es c.address) (ne_eqb (address_of block.name) c.address other) ∙ c.lives; has = c.has }
   where
@@ -463,7 +527,8 @@ give_covered f es run k block may x true out c = record { address = c.address; l
     other e = none-some _ (sym (no_block f es block c.address (live_in es c.address) refl may e (λ b h. live_long f es run c.address b h)) ∙ c.lives)
 give_covered f es run k block may x false out never = λ c. by c (address_of block.name == c.address) refl c.lives
   where
-    by : (c : Covers (Event.Give k block ∷ es) x) (t : Bool) → (address_of block.name == c.address) ≡ t → (if t then Some record { actor = k; block = block } else live_in es c.address) ≡ Some c.live → ⊥
+    by : (c : Covers (Event.Give k block ∷ es) x) (t : Bool) → (address_of block.name == c.address) ≡ t
+        → (if t then Some record { actor = k; block = block } else live_in es c.address) ≡ Some c.live → ⊥
     by c true e is =
         let same : block ≡ c.live.block = ap (λ (l : Live). l.block) (same_Some _ _ is) in
         out (ap (λ n. in_run (n / 16) (length_of block) x) (eqb-true (address_of block.name) c.address e) ∙ (ap (λ (b : Block). in_run (c.address / 16) (length_of b) x) same ∙ c.has))
@@ -483,10 +548,12 @@ covered_by es x t e c = grind (arith, false≢true)
 uncovered_by : (es : List Event) (x : ℕ) (t : Bool) → t ≡ false → (Covers es x → ⊥) → IsCovered es x t
 uncovered_by es x t e never = grind (arith, false≢true)
 
-give_shows : (f : Profile) (pages : List Page) (places : List Place) (covered covered' : List Bool) (es : List Event) → Shows f pages places covered es → (k : ℕ) (block : Block) → Admits f es (Event.Give k block)
+give_shows : (f : Profile) (pages : List Page) (places : List Place) (covered covered' : List Bool) (es : List Event) → Shows f pages places covered es
+    → (k : ℕ) (block : Block) → Admits f es (Event.Give k block)
     → (gives : ℕ) → gives ≡ gives_in es (address_of block.name) → grain_of block.name < length places
     → IsEach (grain_of block.name) (grain_of block.name + length_of block) (λ x. get_or covered' x false ≡ true)
-    → ((y : ℕ) → y < grain_of block.name → get_or covered' y false ≡ get_or covered y false) → ((y : ℕ) → grain_of block.name + length_of block ≤ y → get_or covered' y false ≡ get_or covered y false)
+    → ((y : ℕ) → y < grain_of block.name → get_or covered' y false ≡ get_or covered y false)
+    → ((y : ℕ) → grain_of block.name + length_of block ≤ y → get_or covered' y false ≡ get_or covered y false)
     → Shows f pages (set places (grain_of block.name) (record { lives = true; heap = block.heap; room = block.room; gives = gives + 1 })) covered' (Event.Give k block ∷ es)
 give_shows f pages places covered covered' es shows k block may gives is low set' below above = record {
   run = (may, shows.run);
@@ -497,16 +564,20 @@ give_shows f pages places covered covered' es shows k block may gives is low set
   covered_are = λ x h. by x h (in_run (grain_of block.name) (length_of block) x) refl;
 }
   where
-    by : (x : ℕ) → x < grains_of f → (t : Bool) → in_run (grain_of block.name) (length_of block) x ≡ t → IsCovered (Event.Give k block ∷ es) x (get_or covered' x false)
+    by : (x : ℕ) → x < grains_of f → (t : Bool) → in_run (grain_of block.name) (length_of block) x ≡ t
+        → IsCovered (Event.Give k block ∷ es) x (get_or covered' x false)
     by x h true e = search (arith, run_of, covered_by, new_cover)
     by x h false e = search (arith, false≢true, unmarked, give_covered)
 
 -- by what was read at the block's first grain, and marked from there on
-pub give_made : (f : Profile) (pages : List Page) (places : List Place) (covered covered' : List Bool) (len first n : ℕ) (block : Block) (p : Place) → first ≡ grain_of block.name → n ≡ length_of block → IsInside f block
+pub give_made : (f : Profile) (pages : List Page) (places : List Place) (covered covered' : List Bool) (len first n : ℕ) (block : Block) (p : Place)
+    → first ≡ grain_of block.name → n ≡ length_of block → IsInside f block
     → len ≡ length places → len ≡ grains_of f → p ≡ get_or places first p → IsEach first (first + n) (λ x. get_or covered' x false ≡ true)
     → ((y : ℕ) → y < first → get_or covered' y false ≡ get_or covered y false) → ((y : ℕ) → first + n ≤ y → get_or covered' y false ≡ get_or covered y false)
-    → ((k : ℕ) (es : List Event) → Shows f pages places covered es → IsVerdict f es (Event.Give k block) None) → (k : ℕ) (es : List Event) → Shows f pages places covered es
-    → Admits f es (Event.Give k block) × Shows f pages (set places first (record { lives = true; heap = block.heap; room = block.room; gives = p.gives + 1 })) covered' (Event.Give k block ∷ es)
+    → ((k : ℕ) (es : List Event) → Shows f pages places covered es → IsVerdict f es (Event.Give k block) None) → (k : ℕ) (es : List Event)
+    → Shows f pages places covered es
+    → Admits f es (Event.Give k block)
+      × Shows f pages (set places first (record { lives = true; heap = block.heap; room = block.room; gives = p.gives + 1 })) covered' (Event.Give k block ∷ es)
 give_made f pages places covered covered' len first n block p e e' inside same sized read marked below above none k es shows =
     let may : Admits f es (Event.Give k block) = admits_of f es (Event.Give k block) (none k es shows) in
     let at = place_at f pages places covered es shows block inside len same sized p (rw e at read) in
@@ -528,39 +599,48 @@ under_of g n p low = let first : 256 * p + 256 ≤ g = omega (arith, low) in gri
 over_of : (g n p : ℕ) → (g + n + 255) / 256 ≤ p → meets_page g n p ≡ false
 over_of g n p high = let last : g + n ≤ 256 * p = omega (arith, high) in grind (arith, nat_tests, last)
 
-touches_of : (f : Profile) (es : List Event) → Run f es → (name : Name) (block : Block) → IsLiveBlock es name block → (p : ℕ) → touches (live_in es (address_of name)) p ≡ meets_page (grain_of name) (length_of block) p
+touches_of : (f : Profile) (es : List Event) → Run f es → (name : Name) (block : Block) → IsLiveBlock es name block → (p : ℕ)
+    → touches (live_in es (address_of name)) p ≡ meets_page (grain_of name) (length_of block) p
 touches_of f es run name block live p = ap (λ o. touches o p) live.1 ∙ (ap (λ n. meets_page (n / 16) (length_of live.0.block) p) (lives_where f es run (address_of name) live.0 live.1) ∙ ap (λ (b : Block). meets_page (grain_of name) (length_of b) p) live.2)
 
-ended_page : (es : List Event) (k : ℕ) (name : Name) (epoch p : ℕ) (t : Bool) (q : Page) → touches (live_in es (address_of name)) p ≡ t → q ≡ (if t then ended_at epoch (page_in es p) else page_in es p) → q ≡ page_in (Event.End k name epoch ∷ es) p
+ended_page : (es : List Event) (k : ℕ) (name : Name) (epoch p : ℕ) (t : Bool) (q : Page) → touches (live_in es (address_of name)) p ≡ t
+    → q ≡ (if t then ended_at epoch (page_in es p) else page_in es p) → q ≡ page_in (Event.End k name epoch ∷ es) p
 ended_page es k name epoch p t q e is = grind arith
 
 -- a live block beside the one that ends
-apart_from : (f : Profile) (es : List Event) → Run f es → (k : ℕ) (name : Name) (epoch : ℕ) (block : Block) → IsLiveBlock es name block → (x : ℕ) → Covers (Event.End k name epoch ∷ es) x → (in_run (grain_of name) (length_of block) x ≡ true → ⊥) × Covers es x
+apart_from : (f : Profile) (es : List Event) → Run f es → (k : ℕ) (name : Name) (epoch : ℕ) (block : Block) → IsLiveBlock es name block → (x : ℕ)
+    → Covers (Event.End k name epoch ∷ es) x → (in_run (grain_of name) (length_of block) x ≡ true → ⊥) × Covers es x
 apart_from f es run k name epoch block live x c = by (address_of name == c.address) refl c.lives
   where
-    by : (t : Bool) → (address_of name == c.address) ≡ t → (if t then None else live_in es c.address) ≡ Some c.live → (in_run (grain_of name) (length_of block) x ≡ true → ⊥) × Covers es x
+    by : (t : Bool) → (address_of name == c.address) ≡ t → (if t then None else live_in es c.address) ≡ Some c.live
+        → (in_run (grain_of name) (length_of block) x ≡ true → ⊥) × Covers es x
     by true e is = absurd (none-some _ is)
     by false e is = (
       (λ i. false≢true (sym (live_apart f es run c.address (address_of name) c.live live.0 is live.1 (λ same. false≢true (sym e ∙ eq-eqb (address_of name) c.address (sym same))) x c.has) ∙ (ap (λ (b : Block). in_run (grain_of name) (length_of b) x) live.2 ∙ i))),
       record { address = c.address; live = c.live; lives = is; has = c.has },
     )
 
-still_covers : (es : List Event) (k : ℕ) (name : Name) (epoch : ℕ) (block : Block) → IsLiveBlock es name block → (x : ℕ) → (in_run (grain_of name) (length_of block) x ≡ true → ⊥) → Covers es x → Covers (Event.End k name epoch ∷ es) x
+still_covers : (es : List Event) (k : ℕ) (name : Name) (epoch : ℕ) (block : Block) → IsLiveBlock es name block → (x : ℕ)
+    → (in_run (grain_of name) (length_of block) x ≡ true → ⊥) → Covers es x → Covers (Event.End k name epoch ∷ es) x
 still_covers es k name epoch block live x out c = record { address = c.address; live = c.live; lives = ap (λ t. if t then None else live_in es c.address) (ne_eqb (address_of name) c.address other) ∙ c.lives; has = c.has }
   where
     other : address_of name ≢ c.address
     other e = search (arith, same_Some)
 
-end_covered : (f : Profile) (es : List Event) → Run f es → (k : ℕ) (name : Name) (epoch : ℕ) (block : Block) → IsLiveBlock es name block → (x : ℕ) (t : Bool) → (in_run (grain_of name) (length_of block) x ≡ true → ⊥) → IsCovered es x t
+end_covered : (f : Profile) (es : List Event) → Run f es → (k : ℕ) (name : Name) (epoch : ℕ) (block : Block) → IsLiveBlock es name block → (x : ℕ) (t : Bool)
+    → (in_run (grain_of name) (length_of block) x ≡ true → ⊥) → IsCovered es x t
     → IsCovered (Event.End k name epoch ∷ es) x t
 end_covered f es run k name epoch block live x t out c = grind (arith, still_covers, apart_from)
 
-end_shows : (f : Profile) (pages pages' : List Page) (places : List Place) (covered covered' : List Bool) (es : List Event) → Shows f pages places covered es → (k : ℕ) (name : Name) (epoch : ℕ) → IsPlace f (address_of name)
+end_shows : (f : Profile) (pages pages' : List Page) (places : List Place) (covered covered' : List Bool) (es : List Event) → Shows f pages places covered es
+    → (k : ℕ) (name : Name) (epoch : ℕ) → IsPlace f (address_of name)
     → (block : Block) → IsLiveBlock es name block → (p : Place) → p ≡ place_in es (grain_of name) → grain_of name < length places
     → IsEach (grain_of name) (grain_of name + length_of block) (λ x. get_or covered' x false ≡ false)
-    → ((y : ℕ) → y < grain_of name → get_or covered' y false ≡ get_or covered y false) → ((y : ℕ) → grain_of name + length_of block ≤ y → get_or covered' y false ≡ get_or covered y false)
+    → ((y : ℕ) → y < grain_of name → get_or covered' y false ≡ get_or covered y false)
+    → ((y : ℕ) → grain_of name + length_of block ≤ y → get_or covered' y false ≡ get_or covered y false)
     → IsEach (grain_of name / 256) ((grain_of name + length_of block + 255) / 256) (λ q. get_or pages' q blank_page ≡ ended_at epoch (get_or pages q blank_page))
-    → ((q : ℕ) → q < grain_of name / 256 → get_or pages' q blank_page ≡ get_or pages q blank_page) → ((q : ℕ) → (grain_of name + length_of block + 255) / 256 ≤ q → get_or pages' q blank_page ≡ get_or pages q blank_page)
+    → ((q : ℕ) → q < grain_of name / 256 → get_or pages' q blank_page ≡ get_or pages q blank_page)
+    → ((q : ℕ) → (grain_of name + length_of block + 255) / 256 ≤ q → get_or pages' q blank_page ≡ get_or pages q blank_page)
     → Admits f es (Event.End k name epoch) × Shows f pages' (set places (grain_of name) (bare_place p.gives)) covered' (Event.End k name epoch ∷ es)
 end_shows f pages pages' places covered covered' es shows k name epoch place block live p is low cset cbelow cabove pset pbelow pabove = (
   may,
@@ -585,17 +665,22 @@ end_shows f pages pages' places covered covered' es shows k name epoch place blo
       | inr l ↦ ended_page es k name epoch q false (get_or pages' q blank_page) (touches_of f es shows.run name block live q ∙ under_of (grain_of name) (length_of block) q l.1) (pbelow q l.1 ∙ shows.pages_are q within)
     ]
 
-    by : (x : ℕ) → x < grains_of f → (t : Bool) → in_run (grain_of name) (length_of block) x ≡ t → IsCovered (Event.End k name epoch ∷ es) x (get_or covered' x false)
+    by : (x : ℕ) → x < grains_of f → (t : Bool) → in_run (grain_of name) (length_of block) x ≡ t
+        → IsCovered (Event.End k name epoch ∷ es) x (get_or covered' x false)
     by x h true e =
         let on = run_of (grain_of name) (length_of block) x e in
         uncovered_by (Event.End k name epoch ∷ es) x (get_or covered' x false) (cset x on.0 on.1) (λ c. (apart_from f es shows.run k name epoch block live x c).0 e)
     by x h false e = search (arith, false≢true, unmarked, end_covered)
 
-pub end_made : (f : Profile) (pages pages' : List Page) (places : List Place) (covered covered' : List Bool) (len first n : ℕ) (name : Name) (epoch : ℕ) (block : Block) (p : Place) → first ≡ grain_of name → n ≡ length_of block → IsPlace f (address_of name)
+-- An end that is admitted, noted at its place, its grains and its pages, makes tables that show it.
+pub end_made : (f : Profile) (pages pages' : List Page) (places : List Place) (covered covered' : List Bool) (len first n : ℕ) (name : Name) (epoch : ℕ)
+      (block : Block) (p : Place)
+    → first ≡ grain_of name → n ≡ length_of block → IsPlace f (address_of name)
     → len ≡ length places → len ≡ grains_of f → p ≡ get_or places first p → IsEach first (first + n) (λ x. get_or covered' x false ≡ false)
     → ((y : ℕ) → y < first → get_or covered' y false ≡ get_or covered y false) → ((y : ℕ) → first + n ≤ y → get_or covered' y false ≡ get_or covered y false)
     → IsEach (first / 256) ((first + n + 255) / 256) (λ q. get_or pages' q blank_page ≡ ended_at epoch (get_or pages q blank_page))
-    → ((q : ℕ) → q < first / 256 → get_or pages' q blank_page ≡ get_or pages q blank_page) → ((q : ℕ) → (first + n + 255) / 256 ≤ q → get_or pages' q blank_page ≡ get_or pages q blank_page)
+    → ((q : ℕ) → q < first / 256 → get_or pages' q blank_page ≡ get_or pages q blank_page)
+    → ((q : ℕ) → (first + n + 255) / 256 ≤ q → get_or pages' q blank_page ≡ get_or pages q blank_page)
     → ((es : List Event) → Shows f pages places covered es → IsLiveBlock es name block) → (k : ℕ) (es : List Event) → Shows f pages places covered es
     → Admits f es (Event.End k name epoch) × Shows f pages' (set places first (bare_place p.gives)) covered' (Event.End k name epoch ∷ es)
 end_made f pages pages' places covered covered' len first n name epoch block p e e' place same sized read marked below above noted before after live k es shows =
@@ -605,6 +690,7 @@ end_made f pages pages' places covered covered' len first n name epoch block p e
     (rw (e, e') at marked) (rw e at below) (rw (e, e') at above) (rw (e, e') at noted) (rw e at before) (rw (e, e') at after))
 
 -- ---- a machine stands for some run, also after the event
-pub shown_after : (f : Profile) (pages pages' : List Page) (places places' : List Place) (covered covered' : List Bool) (e : Event) → ((es : List Event) → Shows f pages places covered es → Admits f es e × Shows f pages' places' covered' (e ∷ es))
+pub shown_after : (f : Profile) (pages pages' : List Page) (places places' : List Place) (covered covered' : List Bool) (e : Event)
+    → ((es : List Event) → Shows f pages places covered es → Admits f es e × Shows f pages' places' covered' (e ∷ es))
     → ∥ ((es : List Event) × Shows f pages places covered es) ∥₁ → ∥ ((es : List Event) × Shows f pages' places' covered' es) ∥₁
 shown_after f pages pages' places places' covered covered' e after some = ∥∥₁_map some (λ s. (e ∷ s.0, (after s.0 s.1).1))

@@ -37,6 +37,7 @@ row_first Good first step n some good = (
       let none : j ≡ 0 = omega (arith, le) in let z : j * step ≡ 0 = ap (λ i. i * step) none ∙ zero-mul step in subst Good (omega (arith, z)) good,
 )
 
+-- A set bit of a mask by itself is a row of one.
 pub row_one : (mask row : Mask4) (first step : ℕ) → is_set mask first ≡ true → ((s : ℕ) → is_set row s ≡ in_run first 1 s) → AreRow mask first step 1 row
 row_one mask row first step good run s = (
   λ h. let at = run_of first 1 s (sym (run s) ∙ h) in let low = at.0 in let high = at.1 in
@@ -49,7 +50,8 @@ row_one mask row first step good run s = (
 either_true : (x y : Bool) → (x ≡ true) ⊎ (y ≡ true) → (x || y) ≡ true
 either_true x y h = grind arith
 
-module _ (mask row moved joined more : Mask4) (first step n : ℕ) (some : 1 ≤ n) (within : (s : ℕ) → is_set mask s ≡ true → s < 256) (moved_is : (s : ℕ) → s < 256 → is_set moved s ≡ (nat_le step s && is_set row (s - step)))
+module _ (mask row moved joined more : Mask4) (first step n : ℕ) (some : 1 ≤ n) (within : (s : ℕ) → is_set mask s ≡ true → s < 256)
+    (moved_is : (s : ℕ) → s < 256 → is_set moved s ≡ (nat_le step s && is_set row (s - step)))
     (joined_is : (s : ℕ) → is_set joined s ≡ (is_set moved s && is_set mask s)) (more_is : (s : ℕ) → is_set more s ≡ (is_set row s || is_set joined s)) (row_is : AreRow mask first step n row) where
   abbrev Good : ℕ → Type 0
   Good x = is_set mask x ≡ true
@@ -76,6 +78,7 @@ module _ (mask row moved joined more : Mask4) (first step n : ℕ) (some : 1 ≤
       let next = suc-mul i step in let last : Good s = subst Good (sym e) (good (suc i) (omega arith)) in
       inr (moved_is s (within s last) ∙ and_from (nat_le step s) (is_set row (s - step)) (le-leb step s (omega (arith, e, next))) ((row_is (s - step)).1 (i, omega (arith, lt), omega (arith, e, next), λ j le. good j (omega (arith, le)))))
 
+  -- A row that is moved on, cut to the free ones and joined to itself is a row of one more.
   pub row_more : AreRow mask first step (n + 1) more
   row_more s = (
     λ h. elim (or_cases (is_set row s) (is_set joined s) (sym (more_is s) ∙ h)) [
@@ -91,6 +94,7 @@ module _ (mask row moved joined more : Mask4) (first step n : ℕ) (some : 1 ≤
 -- ==== The free slots of a class in a mask: the lowest of them, and its row.
 
 module _ (class : ℕ) (free slots : Mask4) (is : IsClass class) (whole : AreFreeSlots class (is_set free) slots) where
+  -- A page without a free slot of the class fits no row.
   pub none_fits : AreClear slots 0 256 → IsUnfit (rows class) (is_set free)
   none_fits clear =
       let none : NoSlot class (is_set free) = λ s slot all. true≢false (sym ((whole s).1 (slot, all)) ∙ clear s (omega arith) (slot_lt class s is slot)) in
@@ -98,9 +102,11 @@ module _ (class : ℕ) (free slots : Mask4) (is : IsClass class) (whole : AreFre
       record { none = none; used = λ all. none 0 (first_slot class is) (λ x low high. all x (omega (arith, high, end))) }
 
   module _ (first : ℕ) (starts : Mask4) (lowest : IsLowestSet slots 0 first) (row : AreRow slots first (class_grains class) 4 starts) where
+    -- The row that begins at the lowest free slot is of starts of slots.
     pub are_starts : AreStarts class starts
     are_starts s set = ((whole s).0 (row_last (λ x. is_set slots x ≡ true) first (class_grains class) 4 s ((row s).0 set))).0
 
+    -- The row that begins at the lowest free slot is the one that is chosen.
     pub lowest_row : (grains : Mask4) → ((g : ℕ) → is_set grains g ≡ is_set starts (start_of class g)) → IsChosen (rows class) (is_set free) starts grains
     lowest_row grains covered =
         let first_free = (whole first).0 lowest.set in let some = class_grains_positive class is in

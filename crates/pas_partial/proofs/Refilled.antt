@@ -22,7 +22,8 @@ use Rattle.pas_search.proofs.Found.{KeepsNew, found_call, left_after}
 use Rattle.pas_partial.specs.{Refills.shared_directory, Refills.shared_slots, Rows.IsFreeSlot, Rows.IsLowestRow, Rows.partial}
 use Rattle.pas_partial.proofs.LowestRow.{row_last, row_first}
 
-module _ (heap class : ℕ) (is : IsClass class) {tells : Bool} {σ σ1 : Standing} (served : Served Mask4) (searches : Searches (partial class) tells (shared_directory heap) σ σ1 (Ok served)) where
+module _ (heap class : ℕ) (is : IsClass class) {tells : Bool} {σ σ1 : Standing} (served : Served Mask4)
+    (searches : Searches (partial class) tells (shared_directory heap) σ σ1 (Ok served)) where
   abbrev d : Directory
   d = shared_directory heap
 
@@ -47,7 +48,9 @@ module _ (heap class : ℕ) (is : IsClass class) {tells : Bool} {σ σ1 : Standi
   may_leave : (v : View) → MaySearch d v → Found v (xs ++ v) → MayLeave page d (xs ++ v)
   may_leave v met kept = record { right = kept.found.keeps.does.right page ∙ ap (λ t. now (if t then Gained else Kept) (has_right v page)) (eq-eqb page page refl); deed = kept.found.deed }
 
-  pub can_leave : {spare : ℕ} → CanCall σ (SearchRoom σ.seat.profile (shared_directory heap) 1 spare) → CanCall σ1 (MayLeave served.page (shared_directory heap))
+  -- The page of slots that a search of shared pages found may be left.
+  pub can_leave : {spare : ℕ} → CanCall σ (SearchRoom σ.seat.profile (shared_directory heap) 1 spare)
+      → CanCall σ1 (MayLeave served.page (shared_directory heap))
   can_leave can = next_call new_call (record { view = can.view; whole = can.whole; stood = can.stood; met = can.met.may }) may_leave
 
   first_set : is_set served.found row.first ≡ true
@@ -81,6 +84,7 @@ module _ (heap class : ℕ) (is : IsClass class) {tells : Bool} {σ σ1 : Standi
           may_stop = record { clear = record { on = λ q. does.clear q (met.clear.on q) }; held = λ g inside. does.held g ∙ held g inside; deed = b.1; right = λ has. absurd (true≢false (sym has)) };
         })
 
+    -- Slots that a search of shared pages found, once the page was left, are a refill without its right.
     pub refills_ok : Refills (shared_slots heap class) tells σ σ2 (Ok (record { page = served.page; heap = heap; class = class; starts = served.found; right = false }))
     refills_ok = record {
       searched = xs;
@@ -108,5 +112,7 @@ module _ (heap class : ℕ) (is : IsClass class) {tells : Bool} {σ σ1 : Standi
       told = λ t v l stood met. searches.told t v l stood met;
     }
 
-pub refills_err : (heap class : ℕ) {tells : Bool} {σ σ' : Standing} (why : NoRoom) → Searches (partial class) tells (shared_directory heap) σ σ' (Err why) → Refills (shared_slots heap class) tells σ σ' (Err why)
+-- A search of shared pages that was refused is a refused refill.
+pub refills_err : (heap class : ℕ) {tells : Bool} {σ σ' : Standing} (why : NoRoom) → Searches (partial class) tells (shared_directory heap) σ σ' (Err why)
+    → Refills (shared_slots heap class) tells σ σ' (Err why)
 refills_err heap class why searches = record { searched = searches.steps; searches = searches.searches; few = searches.few; after = []; adds = searches.adds; outcome = (searches.outcome, refl); told = searches.told }

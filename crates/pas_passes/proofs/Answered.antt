@@ -15,7 +15,9 @@ module _ {σ σ' : Standing} (asked answer : ℕ) (makes : Makes σ σ' (Tick as
   ticks = call_step (λ v w. HasNothing w) (call_none {R = λ v w. HasNothing w} (λ v met. met)) makes (λ v met is. tt)
       (λ v met is agrees. nothing_still (does_idly σ.seat.profile ticking refl (made (Tick asked) answer ∷ []) v (refl, tt) (agrees, tt)) met)
 
-  pub tick_answered : (epoch actor : ℕ) (before after : List Record) → epoch ≡ max answer asked → actor ≡ σ'.seat.actor → after ≡ before ++ Record.Said actor (Said.Tick epoch) ∷ [] → AnswersTick asked σ σ' before after
+  -- A tick whose record was said is answered.
+  pub tick_answered : (epoch actor : ℕ) (before after : List Record) → epoch ≡ max answer asked → actor ≡ σ'.seat.actor
+      → after ≡ before ++ Record.Said actor (Said.Tick epoch) ∷ [] → AnswersTick asked σ σ' before after
   tick_answered epoch actor before after raised own added = record {
     answer = answer;
     steps = made (Tick asked) answer ∷ [];
@@ -31,8 +33,11 @@ module _ {σ σ' : Standing} (asked answer : ℕ) (makes : Makes σ σ' (Tick as
   }
 
 -- ---- a pass
-pub pass_answered : {σ σ' : Standing} {epoch : ℕ} {found : List (ℕ × Outcome)} (spare spare' actor : ℕ) (listed : List (ℕ × Outcome)) (before marked after : List Record) → Passes σ σ' epoch found → spare' + length (unbacks_in σ.seat.actor epoch (reverse found)) ≡ spare
-    → actor ≡ σ'.seat.actor → listed ≡ found → marked ≡ before ++ Record.Said actor (Said.Pass epoch) ∷ [] → after ≡ marked ++ map (λ p. record_of actor epoch p.0 p.1) listed → AnswersPass σ σ' spare spare' found before after
+pub pass_answered : {σ σ' : Standing} {epoch : ℕ} {found : List (ℕ × Outcome)} (spare spare' actor : ℕ) (listed : List (ℕ × Outcome))
+      (before marked after : List Record)
+    → Passes σ σ' epoch found → spare' + length (unbacks_in σ.seat.actor epoch (reverse found)) ≡ spare
+    → actor ≡ σ'.seat.actor → listed ≡ found → marked ≡ before ++ Record.Said actor (Said.Pass epoch) ∷ []
+    → after ≡ marked ++ map (λ p. record_of actor epoch p.0 p.1) listed → AnswersPass σ σ' spare spare' found before after
 pass_answered {σ} {σ'} {epoch} {found} spare spare' actor listed before marked after passes fell own same mark added = record {
   epoch = epoch;
   passes = passes;

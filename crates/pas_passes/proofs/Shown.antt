@@ -15,7 +15,8 @@ one_event k epoch page (InUse word value) = refl
 one_event k epoch page NotOffered = refl
 
 -- of the outcomes, which the events have the newest first
-outcomes_shown : (k epoch : ℕ) (found : List (ℕ × Outcome)) → events_in (map (λ p. record_of k epoch p.0 p.1) found) ≡ reverse (unbacks_in k epoch (reverse found))
+outcomes_shown : (k epoch : ℕ) (found : List (ℕ × Outcome))
+    → events_in (map (λ p. record_of k epoch p.0 p.1) found) ≡ reverse (unbacks_in k epoch (reverse found))
 outcomes_shown k epoch [] = refl
 outcomes_shown k epoch (x ∷ found) =
     let one = x ∷ [] in
@@ -23,5 +24,7 @@ outcomes_shown k epoch (x ∷ found) =
     ∙ sym (ap (λ ps. reverse (unbacks_in k epoch ps)) (reverse-append one found) ∙ ap reverse (flat_map-append (λ (p : ℕ × Outcome). unback_of k epoch p.0 p.1) (reverse found) one)
     ∙ reverse-append (unbacks_in k epoch (reverse found)) (unbacks_in k epoch one) ∙ ap (λ es. reverse es ++ reverse (unbacks_in k epoch (reverse found))) (append-nil (unback_of k epoch x.0 x.1)))
 
-pub pass_shown : {σ σ' : Standing} {epoch : ℕ} {found : List (ℕ × Outcome)} (passes : Passes σ σ' epoch found) (v : View) → events_in (records_of_pass σ.seat.actor epoch found) ≡ reverse (events_by σ.seat.actor v passes.steps)
+-- The events among the records of a pass are those of its steps, in order.
+pub pass_shown : {σ σ' : Standing} {epoch : ℕ} {found : List (ℕ × Outcome)} (passes : Passes σ σ' epoch found) (v : View)
+    → events_in (records_of_pass σ.seat.actor epoch found) ≡ reverse (events_by σ.seat.actor v passes.steps)
 pass_shown {σ} {σ'} {epoch} {found} passes v = outcomes_shown σ.seat.actor epoch found ∙ ap reverse (sym (passes.order.events v))

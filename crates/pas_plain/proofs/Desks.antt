@@ -27,14 +27,17 @@ use Rattle.pas_region.proofs.Noting.{notes_next}
 pub fresh_stands : (f : Profile) (k : ℕ) (room : EventRoom) → k ≤ f.threads → shown room ≡ [] → PassStands f (pass_for k room) []
 fresh_stands f k room actor empty = record { actor = actor; shown = empty; count = refl; epoch = refl }
 
-pub passes_stand : (f : Profile) (n : ℕ) (rooms : List EventRoom) → n + length rooms ≤ f.threads + 1 → All (λ room. shown room ≡ []) rooms → All (λ pass. PassStands f pass []) (passes_from n rooms)
+-- Passes for rooms of which nothing is shown stand for actors that did nothing.
+pub passes_stand : (f : Profile) (n : ℕ) (rooms : List EventRoom) → n + length rooms ≤ f.threads + 1 → All (λ room. shown room ≡ []) rooms
+    → All (λ pass. PassStands f pass []) (passes_from n rooms)
 passes_stand f n [] few empty k d h = absurd (omega (arith, h))
 passes_stand f n (room ∷ rooms) few empty zero d h = fresh_stands f n room (omega (arith, few)) (empty zero room (omega arith))
 passes_stand f n (room ∷ rooms) few empty (suc k) d h =
     passes_stand f (n + 1) rooms (omega (arith, few)) (λ j e g. empty (suc j) e (omega (arith, g))) k d (omega (arith, h))
 
 -- ---- at rest: the steps of another actor change nothing of what a pass stands for
-pub pass_rests : (f : Profile) (pass : PlainPass) (k : ℕ) (steps : List Made) (l : Whole) → k ≢ actor_of pass → PassStands f pass l → PassStands f pass (triples k steps ++ l)
+pub pass_rests : (f : Profile) (pass : PlainPass) (k : ℕ) (steps : List Made) (l : Whole) → k ≢ actor_of pass → PassStands f pass l
+    → PassStands f pass (triples k steps ++ l)
 pass_rests f pass k steps l other stands =
     let j = actor_of pass in
     let same : part j l ≡ part j (triples k steps ++ l) = sym (part_of_others j k steps l other) in
@@ -49,11 +52,13 @@ pass_rests f pass k steps l other stands =
 
 -- ---- the foreign actor sits at the desk
 -- it stands for its part of each list
-foreign_stands : (d : PlainDesk) (own : PlainPass) (v : View) (l : Whole) → StormStands (region_of d) own (pass_of d) v l → DeskStands d (part (actor_of (pass_of d)) l) l
+foreign_stands : (d : PlainDesk) (own : PlainPass) (v : View) (l : Whole) → StormStands (region_of d) own (pass_of d) v l
+    → DeskStands d (part (actor_of (pass_of d)) l) l
 foreign_stands d own v l stood = record { region = stood.region_stands; pass = stood.foreign_part; part_is = refl }
 
 -- it acted, and has nothing again: its steps stand on the list, and the own part is as it was
-acted : (old new : PlainDesk) (own : PlainPass) → Acts (standing_of old) (standing_of new) → (v : View) (l : Whole) → StormStands (region_of old) own (pass_of old) v l → (w : Whole) × StormStands (region_of new) own (pass_of new) v w
+acted : (old new : PlainDesk) (own : PlainPass) → Acts (standing_of old) (standing_of new) → (v : View) (l : Whole)
+    → StormStands (region_of old) own (pass_of old) v l → (w : Whole) × StormStands (region_of new) own (pass_of new) v w
 acted old new own acts v l stood =
     let j : ℕ = actor_of (pass_of old) in
     let u : View = part j l in
@@ -75,7 +80,8 @@ acted old new own acts v l stood =
     )
 
 -- ---- the two passes were exchanged, the foreign actor acted, and they were exchanged again
-pub disturbed : (old seated acts_done new : PlainDesk) (foreign foreign' waiting : PlainPass) → region_of seated ≡ region_of old → pass_of seated ≡ foreign → waiting ≡ pass_of old → Acts (standing_of seated) (standing_of acts_done)
+pub disturbed : (old seated acts_done new : PlainDesk) (foreign foreign' waiting : PlainPass) → region_of seated ≡ region_of old → pass_of seated ≡ foreign
+    → waiting ≡ pass_of old → Acts (standing_of seated) (standing_of acts_done)
     → region_of new ≡ region_of acts_done → pass_of new ≡ waiting → foreign' ≡ pass_of acts_done
     → (v : View) (l : Whole) → StormStands (region_of old) (pass_of old) foreign v l → (w : Whole) × StormStands (region_of new) (pass_of new) foreign' v w
 disturbed old seated acts_done new foreign foreign' waiting region pass own acts region' pass' risen v l stood =
@@ -89,7 +95,8 @@ disturbed old seated acts_done new foreign foreign' waiting region pass own acts
     )
 
 -- ---- an own step
-storm_next : (mid new : PlainDesk) (foreign : PlainPass) (s : Step) (a : ℕ) → Makes (standing_of mid) (standing_of new) s a → (v : View) (w : Whole) → StormStands (region_of mid) (pass_of mid) foreign v w → Allowed (profile_of (region_of mid)) v s
+storm_next : (mid new : PlainDesk) (foreign : PlainPass) (s : Step) (a : ℕ) → Makes (standing_of mid) (standing_of new) s a → (v : View) (w : Whole)
+    → StormStands (region_of mid) (pass_of mid) foreign v w → Allowed (profile_of (region_of mid)) v s
     → StormStands (region_of new) (pass_of new) foreign (made s a ∷ v) (triple (actor_of (pass_of mid)) (made s a) ∷ w)
 storm_next mid new foreign s a makes v w at allowed =
     let k : ℕ = actor_of (pass_of mid) in
@@ -126,7 +133,8 @@ abbrev seat_at : Profile → PlainPass → Seat
 seat_at f pass = record { actor = actor_of pass; profile = f; room = room_of_pass pass }
 
 -- what a call says, from what the intruder left and what the step changed
-pub storm_makes : (old mid new : PlainDesk) (foreign foreign' : PlainPass) (s : Step) (a : ℕ) → pass_of mid ≡ pass_of old → profile_of (region_of mid) ≡ profile_of (region_of old)
+pub storm_makes : (old mid new : PlainDesk) (foreign foreign' : PlainPass) (s : Step) (a : ℕ) → pass_of mid ≡ pass_of old
+    → profile_of (region_of mid) ≡ profile_of (region_of old)
     → ((v : View) (l : Whole) → StormStands (region_of old) (pass_of old) foreign v l → (w : Whole) × StormStands (region_of mid) (pass_of mid) foreign' v w)
     → Makes (standing_of mid) (standing_of new) s a → Makes (storm_of old foreign) (storm_of new foreign') s a
 storm_makes old mid new foreign foreign' s a own profile stands makes =
@@ -143,7 +151,8 @@ storm_makes old mid new foreign foreign' s a own profile stands makes =
 
 -- ---- for those who write intruders
 -- one that changes nothing of what it holds, has and owes, and that it may always make
-pub acts_idly : {σ σ' : Standing} {s : Step} {a : ℕ} (ks : Kinds) → apart ks changing ≡ true → is_in ks (kind_of s) ≡ true → ((v : View) → Allowed σ.seat.profile v s) → Makes σ σ' s a → Acts σ σ'
+pub acts_idly : {σ σ' : Standing} {s : Step} {a : ℕ} (ks : Kinds) → apart ks changing ≡ true → is_in ks (kind_of s) ≡ true
+    → ((v : View) → Allowed σ.seat.profile v s) → Makes σ σ' s a → Acts σ σ'
 acts_idly {σ} {s = s} {a = a} ks w is allowed makes = record {
   steps = made s a ∷ [];
   calls = call_step (λ v w. HasNothing w) (call_none {R = λ v w. HasNothing w} (λ v met. met)) makes (λ v met same. allowed v)
@@ -163,10 +172,14 @@ pub record At (f : Profile) (room k : ℕ) (d : PlainDesk) (v : View) : Type 0 w
   pub of_profile : profile_of d.region ≡ f
   pub of_room : room_of_pass d.pass ≡ room
 
-pub start : {f : Profile} {room : ℕ} {d : PlainDesk} → DeskStands d [] [] → profile_of d.region ≡ f → room_of_pass d.pass ≡ room → At f room (actor_of d.pass) d []
+-- A desk that stands for nothing stands for its actor at its beginning.
+pub start : {f : Profile} {room : ℕ} {d : PlainDesk} → DeskStands d [] [] → profile_of d.region ≡ f → room_of_pass d.pass ≡ room
+    → At f room (actor_of d.pass) d []
 start fresh of size = record { stood = fresh; actor_is = refl; of_profile = of; of_room = size }
 
-pub next : {f : Profile} {room k : ℕ} {d d' : PlainDesk} {v : View} {s : Step} {a : ℕ} → At f room k d v → Makes (standing_of d) (standing_of d') s a → Allowed f v s → At f room k d' (made s a ∷ v)
+-- A desk that made an allowed step stands for its actor's view with that step.
+pub next : {f : Profile} {room k : ℕ} {d d' : PlainDesk} {v : View} {s : Step} {a : ℕ} → At f room k d v → Makes (standing_of d) (standing_of d') s a
+    → Allowed f v s → At f room k d' (made s a ∷ v)
 next {f} {room} {k} {d} {d'} {v} {s} {a} at m allowed = record {
   stood = subst (λ (j : ℕ). DeskStands d' (made s a ∷ v) (triple j (made s a) ∷ triples k v)) at.actor_is (m.added v (triples k v) at.stood (subst (λ (x : Profile). Allowed x v s) (sym at.of_profile) allowed));
   actor_is = ap (λ (x : Seat). x.actor) m.seat_is ∙ at.actor_is;
@@ -174,6 +187,7 @@ next {f} {room} {k} {d} {d'} {v} {s} {a} at m allowed = record {
   of_room = ap (λ (x : Seat). x.room) m.seat_is ∙ at.of_room;
 }
 
+-- A desk can make each step of the region that its actor's view allows.
 pub can : {f : Profile} {room k : ℕ} {d : PlainDesk} {v : View} (s : Step) → At f room k d v → IsStepOf f s → Allowed f v s → CanMake (standing_of d) s
 can {f} {room} {k} {d} {v} s at of allowed = record {
   of_region = subst (λ (x : Profile). IsStepOf x s) (sym at.of_profile) of;
@@ -192,7 +206,8 @@ events_few k [] = omega arith
 events_few k (m ∷ v) = omega (arith, with_few (event_of k (epoch_of v) m.step m.answer) (events_of k v), events_few k v)
 
 -- there is room for n events after so few steps
-pub spare : {f : Profile} {room k : ℕ} {d : PlainDesk} {v : View} (n : ℕ) → At f room k d v → length v + n ≤ room → n ≤ room_of_pass d.pass - length (events_shown d.pass)
+pub spare : {f : Profile} {room k : ℕ} {d : PlainDesk} {v : View} (n : ℕ) → At f room k d v → length v + n ≤ room
+    → n ≤ room_of_pass d.pass - length (events_shown d.pass)
 spare {d = d} {v = v} n at few =
     let j = actor_of d.pass in
     let e : length (events_shown d.pass) ≡ length (events_of j v) = ap length at.stood.pass.shown ∙ length-reverse _ ∙ ap (λ x. length (events_of j x)) at.stood.part_is in
@@ -205,7 +220,8 @@ own_part : (k : ℕ) (m : Made) (l : Whole) → part k (triple k m ∷ l) ≡ m 
 own_part k m l = part_of_own k (m ∷ []) l
 
 -- ---- the pass
-pass_next : (f : Profile) (old new : PlainPass) (s : Step) (a : ℕ) (l : Whole) → PassStands f old l → actor_of new ≡ actor_of old → IsNoted old.notes new.notes (actor_of old) s a → PassStands f new (triple (actor_of old) (made s a) ∷ l)
+pass_next : (f : Profile) (old new : PlainPass) (s : Step) (a : ℕ) (l : Whole) → PassStands f old l → actor_of new ≡ actor_of old
+    → IsNoted old.notes new.notes (actor_of old) s a → PassStands f new (triple (actor_of old) (made s a) ∷ l)
 pass_next f old new s a l stands same noted =
     let k = actor_of old in
     let next = triple k (made s a) ∷ l in
@@ -223,7 +239,8 @@ pass_next f old new s a l stands same noted =
 are_words_after : (r : PlainRegion) (l : Whole) → RegionStands r l → AreWordsAfter (profile_of r) r.words.items l
 are_words_after r l stands = record { sized = omega (arith, r.sized, r.words.ok.0); values = stands.ends }
 
-region_next : (old new : PlainRegion) (e : ℕ) (s : Step) (a : ℕ) (l : Whole) (k : ℕ) → RegionStands old l → IsExchanged old new e s a → e ≡ epoch_of (part k l) → IsWordOf (profile_of old) (target s)
+region_next : (old new : PlainRegion) (e : ℕ) (s : Step) (a : ℕ) (l : Whole) (k : ℕ) → RegionStands old l → IsExchanged old new e s a → e ≡ epoch_of (part k l)
+    → IsWordOf (profile_of old) (target s)
     → Legal (profile_of old) (triple k (made s a) ∷ l) → RegionStands new (triple k (made s a) ∷ l)
 region_next old new e s a l k stands changed ep of legal =
     let f = profile_of old in
@@ -243,7 +260,8 @@ seat a f r = record { actor = a; profile = f; room = r }
 seat_same : {a a' r r' : ℕ} {f f' : Profile} → a ≡ a' → f ≡ f' → r ≡ r' → seat a f r ≡ seat a' f' r'
 seat_same {a} {a'} {r} {r'} {f} {f'} x y z = ap (λ (n : ℕ). seat n f r) x ∙ ap (λ (g : Profile). seat a' g r) y ∙ ap (λ (n : ℕ). seat a' f' n) z
 
-desk_next : (d new : PlainDesk) (s : Step) (a : ℕ) → IsStepOf (profile_of d.region) s → IsChanged d new s a → (v : View) (l : Whole) → DeskStands d v l → Allowed (profile_of d.region) v s
+desk_next : (d new : PlainDesk) (s : Step) (a : ℕ) → IsStepOf (profile_of d.region) s → IsChanged d new s a → (v : View) (l : Whole) → DeskStands d v l
+    → Allowed (profile_of d.region) v s
     → DeskStands new (made s a ∷ v) (triple (actor_of d.pass) (made s a) ∷ l)
 desk_next d new s a of changed v l stood allowed =
     let f = profile_of d.region in

@@ -42,13 +42,16 @@ storm_of desk foreign = record {
 
 -- ---- what the storm tells of its own actor, as a plain desk of that actor does
 -- for each such list a plain desk of the own actor stands
-abbrev pub own_stands : (desk : PlainDesk) (foreign : PlainPass) (v : View) (l : Whole) → StormStands (region_of desk) (pass_of desk) foreign v l → DeskStands desk v l
+abbrev pub own_stands : (desk : PlainDesk) (foreign : PlainPass) (v : View) (l : Whole) → StormStands (region_of desk) (pass_of desk) foreign v l
+    → DeskStands desk v l
 own_stands desk foreign v l stood = record { region = stood.region_stands; pass = stood.own_part; part_is = stood.part_is }
 
-pub shown_own : (desk : PlainDesk) (foreign : PlainPass) (v : View) (l : Whole) → StormStands (region_of desk) (pass_of desk) foreign v l → events_shown (pass_of desk) ≡ reverse (events_of (actor_of (pass_of desk)) v)
+pub shown_own : (desk : PlainDesk) (foreign : PlainPass) (v : View) (l : Whole) → StormStands (region_of desk) (pass_of desk) foreign v l
+    → events_shown (pass_of desk) ≡ reverse (events_of (actor_of (pass_of desk)) v)
 shown_own desk foreign v l stood = stood.own_part.shown ∙ ap (λ x. reverse (events_of (actor_of (pass_of desk)) x)) stood.part_is
 
-pub counted_own : (desk : PlainDesk) (foreign : PlainPass) (v : View) (l : Whole) → StormStands (region_of desk) (pass_of desk) foreign v l → count_of_pass (pass_of desk) ≡ min (length v) (2 ^ 64 - 1)
+pub counted_own : (desk : PlainDesk) (foreign : PlainPass) (v : View) (l : Whole) → StormStands (region_of desk) (pass_of desk) foreign v l
+    → count_of_pass (pass_of desk) ≡ min (length v) (2 ^ 64 - 1)
 counted_own desk foreign v l stood = stood.own_part.count ∙ ap (λ x. min (length x) (2 ^ 64 - 1)) stood.part_is
 
 pub spare_own : (desk : PlainDesk) (foreign : PlainPass) (v : View) (l : Whole) → StormStands (region_of desk) (pass_of desk) foreign v l

@@ -12,6 +12,7 @@ abbrev pub acts_left : ℕ → ℕ → ℕ → List (List Op) → List Act
 acts_left threads keepers zero phases = acts_of threads keepers phases
 acts_left threads keepers (suc n) phases = acts_from threads keepers (suc n + 1) phases
 
+-- Where no phase is left, the acts left are those of the close.
 pub close_left : (threads keepers n : ℕ) → acts_left threads keepers n [] ≡ close_acts threads keepers
 close_left threads keepers zero = refl
 close_left threads keepers (suc n) = refl
@@ -20,14 +21,21 @@ left_is : (threads keepers n : ℕ) (phases : List (List Op)) → 1 ≤ n → ac
 left_is threads keepers n phases h = grind arith
 
 -- the first phase, which has no mark, and another one
-pub first_phase : (threads keepers n : ℕ) (phase : List Op) (phases : List (List Op)) → n ≡ 0 → acts_left threads keepers n (phase ∷ phases) ≡ phase_acts threads phase ++ acts_left threads keepers (n + 1) phases
+pub first_phase : (threads keepers n : ℕ) (phase : List Op) (phases : List (List Op)) → n ≡ 0
+    → acts_left threads keepers n (phase ∷ phases) ≡ phase_acts threads phase ++ acts_left threads keepers (n + 1) phases
 first_phase threads keepers n phase phases is = grind arith
 
-pub other_phase : (threads keepers n : ℕ) (phase : List Op) (phases : List (List Op)) → 1 ≤ n → acts_left threads keepers n (phase ∷ phases) ≡ MarksPhase (n + 1) ∷ (phase_acts threads phase ++ acts_left threads keepers (n + 1) phases)
+-- A phase that isn't the first is its mark, its acts and those of the phases after it.
+pub other_phase : (threads keepers n : ℕ) (phase : List Op) (phases : List (List Op)) → 1 ≤ n
+    → acts_left threads keepers n (phase ∷ phases) ≡ MarksPhase (n + 1) ∷ (phase_acts threads phase ++ acts_left threads keepers (n + 1) phases)
 other_phase threads keepers n phase phases some = left_is threads keepers n (phase ∷ phases) some ∙ ap (λ (acts : List Act). MarksPhase (n + 1) ∷ (phase_acts threads phase ++ acts)) (sym (left_is threads keepers (n + 1) phases (omega arith)))
 
-pub next_phase : (threads keepers : ℕ) (phases : List Phase) (i : ℕ) (d : Phase) (ops : List Op) → i < length phases → ops_of (slice_index_or phases i d) ≡ ops → acts_left threads keepers i (map ops_of (drop i phases)) ≡ acts_left threads keepers i (ops ∷ map ops_of (drop (i + 1) phases))
+-- The acts left from a phase on are those of its operations and of the phases after it.
+pub next_phase : (threads keepers : ℕ) (phases : List Phase) (i : ℕ) (d : Phase) (ops : List Op) → i < length phases → ops_of (slice_index_or phases i d) ≡ ops
+    → acts_left threads keepers i (map ops_of (drop i phases)) ≡ acts_left threads keepers i (ops ∷ map ops_of (drop (i + 1) phases))
 next_phase threads keepers phases i d ops lt is = ap (λ (ps : List Phase). acts_left threads keepers i (map ops_of ps)) (drop_more phases i d lt) ∙ ap (λ (os : List Op). acts_left threads keepers i (os ∷ map ops_of (drop (i + 1) phases))) is
 
-pub last_phase : (threads keepers : ℕ) (phases : List Phase) (i : ℕ) → length phases ≤ i → acts_left threads keepers i (map ops_of (drop i phases)) ≡ close_acts threads keepers
+-- Past the last phase the acts left are those of the close.
+pub last_phase : (threads keepers : ℕ) (phases : List Phase) (i : ℕ) → length phases ≤ i
+    → acts_left threads keepers i (map ops_of (drop i phases)) ≡ close_acts threads keepers
 last_phase threads keepers phases i le = ap (λ (ps : List Phase). acts_left threads keepers i (map ops_of ps)) (drop_of_length-le phases le) ∙ close_left threads keepers i

@@ -24,6 +24,7 @@ chosen_few : (chosen : ℕ → Bool) (ks : List ℕ) → length (filter chosen k
 chosen_few chosen [] = omega arith
 chosen_few chosen (k ∷ ks) = one_chosen (chosen k) k (filter chosen ks) ks (chosen_few chosen ks)
 
+-- There are no more idle threads than threads.
 pub idle_few : (threads : ℕ) (ops : List Op) → length (idle_threads threads ops) ≤ threads
 idle_few threads ops = let few = chosen_few (λ k. not (is_active ops k)) (numbers_from 1 threads) in let count = numbers_count 1 threads in omega (arith, few, count)
 
@@ -33,6 +34,7 @@ pub all_front : {A : Type 0} (P : A → Type 0) (xs ys : List A) → AllByRecurs
 all_front P [] ys all = tt
 all_front P (x ∷ xs) ys all = (all.0, all_front P xs ys all.1)
 
+-- What is so of each of two lists together is so of each of the second.
 pub all_back : {A : Type 0} (P : A → Type 0) (xs ys : List A) → AllByRecursion P (xs ++ ys) → AllByRecursion P ys
 all_back P [] ys all = all
 all_back P (x ∷ xs) ys all = all_back P xs ys all.1
@@ -41,6 +43,7 @@ all_back P (x ∷ xs) ys all = all_back P xs ys all.1
 abbrev pub ArePlanned : Profile → List Op → Type 0
 ArePlanned f ops = AllByRecursion (λ (op : Op). IsActorOf f op.what op.actor) ops
 
+-- Sound operations are planned.
 pub are_planned : (f : Profile) (asked : List ℕ) (ops : List Op) → AreSound f asked ops → ArePlanned f ops
 are_planned f asked [] sound = tt
 are_planned f asked (op ∷ ops) sound = (sound.0, are_planned f (asked_after op.what asked) ops sound.2)
@@ -62,7 +65,8 @@ sum_of_ops most [] = 0
 sum_of_ops most (op ∷ ops) = most op + sum_of_ops most ops
 
 -- each operation's acts cost at most `most` of it, and a mark `mark`
-module _ (f : Profile) (cost : Act → ℕ) (most : Op → ℕ) (mark : ℕ) (each : (idle : List ℕ) (op : Op) → length idle ≤ f.threads → IsActorOf f op.what op.actor → sum_over cost (acts_of_op idle op) ≤ most op)
+module _ (f : Profile) (cost : Act → ℕ) (most : Op → ℕ) (mark : ℕ)
+    (each : (idle : List ℕ) (op : Op) → length idle ≤ f.threads → IsActorOf f op.what op.actor → sum_over cost (acts_of_op idle op) ≤ most op)
     (wakes : (k : ℕ) → cost (Wakes k) ≡ 0) (ends : (k : ℕ) → cost (Ends k) ≡ 0) (lowers : (k : ℕ) → cost (Lowers k) ≡ 0) (phase : (n : ℕ) → cost (MarksPhase n) ≡ mark) (close : cost MarksClose ≡ mark) where
   of_ops : (idle : List ℕ) (ops : List Op) → length idle ≤ f.threads → ArePlanned f ops → sum_over cost (acts_of_ops idle ops) ≤ sum_of_ops most ops
   of_ops idle [] few all = omega arith
@@ -83,7 +87,8 @@ module _ (f : Profile) (cost : Act → ℕ) (most : Op → ℕ) (mark : ℕ) (ea
   ops_both [] ys = omega arith
   ops_both (x ∷ xs) ys = let rest = ops_both xs ys in omega (arith, rest)
 
-  of_later : (keepers n : ℕ) (phases : List (List Op)) → ArePlanned f (all_ops phases) → sum_over cost (acts_from f.threads keepers n phases) ≤ sum_of_ops most (all_ops phases) + (length phases + 1) * mark
+  of_later : (keepers n : ℕ) (phases : List (List Op)) → ArePlanned f (all_ops phases)
+      → sum_over cost (acts_from f.threads keepers n phases) ≤ sum_of_ops most (all_ops phases) + (length phases + 1) * mark
   of_later keepers n [] all = let last = of_close keepers in omega (arith, last)
   of_later keepers n (p ∷ ps) all =
       let this = of_phase p (all_front (λ (op : Op). IsActorOf f op.what op.actor) p (all_ops ps) all) in
@@ -91,9 +96,11 @@ module _ (f : Profile) (cost : Act → ℕ) (most : Op → ℕ) (mark : ℕ) (ea
       let both = sum_both cost (phase_acts f.threads p) (acts_from f.threads keepers (n + 1) ps) in
       omega (arith, this, rest, both, ops_both p (all_ops ps), phase n, suc-mul (length ps + 1) mark)
 
-  pub of_plan : (keepers : ℕ) (phases : List (List Op)) → ArePlanned f (all_ops phases) → sum_over cost (acts_of f.threads keepers phases) ≤ sum_of_ops most (all_ops phases) + (length phases + 1) * mark
-  of_plan keepers [] all = let last = of_close keepers in omega (arith, last)
-  of_plan keepers (p ∷ ps) all = let marked = of_later keepers 1 (p ∷ ps) all in omega (arith, marked)
+  -- The acts of a plan cost at most what its operations may, and a mark for each phase and one for the close.
+  pub plan_sums_at_most : (keepers : ℕ) (phases : List (List Op)) → ArePlanned f (all_ops phases)
+      → sum_over cost (acts_of f.threads keepers phases) ≤ sum_of_ops most (all_ops phases) + (length phases + 1) * mark
+  plan_sums_at_most keepers [] all = let last = of_close keepers in omega (arith, last)
+  plan_sums_at_most keepers (p ∷ ps) all = let marked = of_later keepers 1 (p ∷ ps) all in omega (arith, marked)
 
 -- ---- each operation
 -- records
@@ -104,7 +111,9 @@ chore_costs f idle chore few = search (arith, one_each)
 kept_cost : (f : Profile) (keeper : Option ℕ) (op : Op) → costs_of f (act_kept keeper op ∷ (Settles op.actor ∷ [])) ≡ cost_of_what op.what
 kept_cost f keeper op = grind arith
 
-pub work_costs : (f : Profile) (idle : List ℕ) (op : Op) (work : Work) → work_of op.what ≡ work → length idle ≤ f.threads → costs_of f (acts_of_work idle op work) ≤ records_of_work f work
+-- The acts of an operation's work cost at most the records that the work may make.
+pub work_costs : (f : Profile) (idle : List ℕ) (op : Op) (work : Work) → work_of op.what ≡ work → length idle ≤ f.threads
+    → costs_of f (acts_of_work idle op work) ≤ records_of_work f work
 work_costs f idle op work is few = search (arith, kept_cost, chore_costs)
 
 -- events of thread k
@@ -114,11 +123,13 @@ own_cost t a b same = grind arith
 chore_owns : (k : ℕ) (idle : List ℕ) (chore : Chore) → own_costs_of k (acts_of_chore idle chore) ≡ 0
 chore_owns k idle chore = search (arith, free_map)
 
-kept_owns : (k : ℕ) (keeper : Option ℕ) (op : Op) → own_costs_of k (act_kept keeper op ∷ (Settles op.actor ∷ [])) ≡ (if op.actor == k then cost_of_what op.what else 0) + 0
+kept_owns : (k : ℕ) (keeper : Option ℕ) (op : Op)
+    → own_costs_of k (act_kept keeper op ∷ (Settles op.actor ∷ [])) ≡ (if op.actor == k then cost_of_what op.what else 0) + 0
 kept_owns k None op = refl
 kept_owns k (Some keeper) op = refl
 
-work_owns : (f : Profile) (k : ℕ) (idle : List ℕ) (op : Op) (work : Work) → work_of op.what ≡ work → own_costs_of k (acts_of_work idle op work) ≤ (if op.actor == k then records_of_work f work else 0)
+work_owns : (f : Profile) (k : ℕ) (idle : List ℕ) (op : Op) (work : Work) → work_of op.what ≡ work
+    → own_costs_of k (acts_of_work idle op work) ≤ (if op.actor == k then records_of_work f work else 0)
 work_owns f k idle op work is = search (arith, kept_owns, own_cost, chore_owns)
 
 -- pages that the scavenger unbacks, which is actor 0
@@ -128,7 +139,8 @@ its_own t n is = grind arith
 kept_unbacks : (f : Profile) (keeper : Option ℕ) (op : Op) → unbacks_of f (act_kept keeper op ∷ (Settles op.actor ∷ [])) ≤ 0
 kept_unbacks f keeper op = grind arith
 
-work_unbacks : (f : Profile) (idle : List ℕ) (op : Op) (work : Work) → IsActorBy f work op.actor → unbacks_of f (acts_of_work idle op work) ≤ (if op.actor == 0 then records_of_work f work else 0)
+work_unbacks : (f : Profile) (idle : List ℕ) (op : Op) (work : Work) → IsActorBy f work op.actor
+    → unbacks_of f (acts_of_work idle op work) ≤ (if op.actor == 0 then records_of_work f work else 0)
 work_unbacks f idle op work h = grind (arith, kept_unbacks, its_own, eq-eqb, free_map)
 
 -- ---- the plan's own sums
@@ -140,19 +152,25 @@ own_sum : (f : Profile) (k : ℕ) (ops : List Op) → sum_of_ops (λ op. if op.a
 own_sum f k [] = refl
 own_sum f k (op ∷ ops) = ap (λ n. (if op.actor == k then records_of_what f op.what else 0) + n) (own_sum f k ops)
 
-pub plan_costs : (f : Profile) (keepers : ℕ) (phases : List (List Op)) → ArePlanned f (all_ops phases) → costs_of f (acts_of f.threads keepers phases) ≤ records_of_ops f (all_ops phases) + (length phases + 1)
+-- The acts of a plan cost at most the records of its operations, one for each phase and one for the close.
+pub plan_costs : (f : Profile) (keepers : ℕ) (phases : List (List Op)) → ArePlanned f (all_ops phases)
+    → costs_of f (acts_of f.threads keepers phases) ≤ records_of_ops f (all_ops phases) + (length phases + 1)
 plan_costs f keepers phases all =
-    let most = of_plan f (cost_of_act f) (λ op. records_of_what f op.what) 1 (λ idle op few is. work_costs f idle op (work_of op.what) refl few) (λ k. refl) (λ k. refl) (λ k. refl) (λ n. refl) refl keepers phases all in
+    let most = plan_sums_at_most f (cost_of_act f) (λ op. records_of_what f op.what) 1 (λ idle op few is. work_costs f idle op (work_of op.what) refl few) (λ k. refl) (λ k. refl) (λ k. refl) (λ n. refl) refl keepers phases all in
     omega (arith, most, records_sum f (all_ops phases))
 
-pub plan_owns : (f : Profile) (keepers k : ℕ) (phases : List (List Op)) → ArePlanned f (all_ops phases) → own_costs_of k (acts_of f.threads keepers phases) ≤ own_records f k (all_ops phases)
+-- The acts of an actor cost at most the records that its operations may make.
+pub plan_owns : (f : Profile) (keepers k : ℕ) (phases : List (List Op)) → ArePlanned f (all_ops phases)
+    → own_costs_of k (acts_of f.threads keepers phases) ≤ own_records f k (all_ops phases)
 plan_owns f keepers k phases all =
-    let most = of_plan f (own_cost_of_act k) (λ op. if op.actor == k then records_of_what f op.what else 0) 0 (λ idle op few is. work_owns f k idle op (work_of op.what) refl) (λ j. refl) (λ j. refl) (λ j. refl) (λ n. refl) refl keepers phases all in
+    let most = plan_sums_at_most f (own_cost_of_act k) (λ op. if op.actor == k then records_of_what f op.what else 0) 0 (λ idle op few is. work_owns f k idle op (work_of op.what) refl) (λ j. refl) (λ j. refl) (λ j. refl) (λ n. refl) refl keepers phases all in
     omega (arith, most, own_sum f k (all_ops phases))
 
-pub plan_unbacks : (f : Profile) (keepers : ℕ) (phases : List (List Op)) → ArePlanned f (all_ops phases) → unbacks_of f (acts_of f.threads keepers phases) ≤ own_records f 0 (all_ops phases)
+-- The acts of a plan unback at most as many pages as the scavenger's operations may make records.
+pub plan_unbacks : (f : Profile) (keepers : ℕ) (phases : List (List Op)) → ArePlanned f (all_ops phases)
+    → unbacks_of f (acts_of f.threads keepers phases) ≤ own_records f 0 (all_ops phases)
 plan_unbacks f keepers phases all =
-    let most = of_plan f (unbacks_of_act f) (λ op. if op.actor == 0 then records_of_what f op.what else 0) 0 (λ idle op few is. work_unbacks f idle op (work_of op.what) is) (λ j. refl) (λ j. refl) (λ j. refl) (λ n. refl) refl keepers phases all in
+    let most = plan_sums_at_most f (unbacks_of_act f) (λ op. if op.actor == 0 then records_of_what f op.what else 0) 0 (λ idle op few is. work_unbacks f idle op (work_of op.what) is) (λ j. refl) (λ j. refl) (λ j. refl) (λ n. refl) refl keepers phases all in
     omega (arith, most, own_sum f 0 (all_ops phases))
 
 -- ---- what acts fit to
@@ -160,22 +178,28 @@ plan_unbacks f keepers phases all =
 abbrev pub Continues : Profile → ℕ → List Op → List Act → Type 0
 Continues f limit ops acts = (asked : List ℕ) → AreSound f asked ops → AllByRecursion (KeepsAbove f) ops → AreFit f limit asked acts
 
-skip_stops : (f : Profile) (limit : ℕ) (asked : List ℕ) (n : ℕ) (idle : List ℕ) (more : List Act) → AreFit f limit asked more → AreFit f limit asked (idle_stops n idle ++ more)
+skip_stops : (f : Profile) (limit : ℕ) (asked : List ℕ) (n : ℕ) (idle : List ℕ) (more : List Act) → AreFit f limit asked more
+    → AreFit f limit asked (idle_stops n idle ++ more)
 skip_stops f limit asked n [] more fit = fit
 skip_stops f limit asked n (k ∷ idle) more fit = skip_stops f limit asked n idle more fit
 
-fits_chore : (f : Profile) (limit : ℕ) (asked : List ℕ) (chore : Chore) (idle : List ℕ) (more : List Act) → IsSoundWork f asked (Work.Chore chore) → AreFit f limit asked more → AreFit f limit asked (acts_of_chore idle chore ++ more)
+fits_chore : (f : Profile) (limit : ℕ) (asked : List ℕ) (chore : Chore) (idle : List ℕ) (more : List Act) → IsSoundWork f asked (Work.Chore chore)
+    → AreFit f limit asked more → AreFit f limit asked (acts_of_chore idle chore ++ more)
 fits_chore f limit asked chore idle more sound fit = search (arith, skip_stops)
 
-kept_fits : (f : Profile) (limit : ℕ) (asked : List ℕ) (keeper : Option ℕ) (op : Op) (more : List Act) → MatchOption keeper (Unit {0}) (λ k. IsThread f k × (op.actor < k)) → IsThread f op.actor → IsFitWhat f limit asked op.what
+kept_fits : (f : Profile) (limit : ℕ) (asked : List ℕ) (keeper : Option ℕ) (op : Op) (more : List Act)
+    → MatchOption keeper (Unit {0}) (λ k. IsThread f k × (op.actor < k)) → IsThread f op.actor → IsFitWhat f limit asked op.what
     → AreFit f limit (asked_after op.what asked) more → AreFit f limit asked (act_kept keeper op ∷ (Settles op.actor ∷ more))
 kept_fits f limit asked keeper op more h i j m = grind arith
 
-fits : (f : Profile) (limit : ℕ) (asked : List ℕ) (op : Op) (work : Work) (idle : List ℕ) (more : List Act) → KeepsAbove f op → work_of op.what ≡ work → MatchOption (of_task request_of work) (Unit {0}) (λ r. r.name < limit) → IsActorBy f work op.actor → IsSoundWork f asked work
+fits : (f : Profile) (limit : ℕ) (asked : List ℕ) (op : Op) (work : Work) (idle : List ℕ) (more : List Act) → KeepsAbove f op → work_of op.what ≡ work
+    → MatchOption (of_task request_of work) (Unit {0}) (λ r. r.name < limit) → IsActorBy f work op.actor → IsSoundWork f asked work
     → AreFit f limit (asked_with (of_task request_of work) asked) more → AreFit f limit asked (acts_of_work idle op work ++ more)
 fits f limit asked op work idle more above is below of sound fit = search (arith, kept_fits, fits_chore)
 
-pub ops_fit : (f : Profile) (limit : ℕ) (idle : List ℕ) (ops rest : List Op) (more : List Act) → AreBelow limit (ops ++ rest) → Continues f limit rest more → Continues f limit (ops ++ rest) (acts_of_ops idle ops ++ more)
+-- The acts of operations, and what follows them, fit where the names of all are below a limit.
+pub ops_fit : (f : Profile) (limit : ℕ) (idle : List ℕ) (ops rest : List Op) (more : List Act) → AreBelow limit (ops ++ rest) → Continues f limit rest more
+    → Continues f limit (ops ++ rest) (acts_of_ops idle ops ++ more)
 ops_fit f limit idle [] rest more below go asked sound above = go asked sound above
 ops_fit f limit idle (op ∷ ops) rest more below go asked sound above =
     subst (AreFit f limit asked) (sym (append_assoc (acts_of_op idle op) (acts_of_ops idle ops) more))
@@ -193,19 +217,24 @@ ends_fit : (f : Profile) (limit : ℕ) (asked : List ℕ) (ks js : List ℕ) →
 ends_fit f limit asked [] js = lowers_fit f limit asked js
 ends_fit f limit asked (k ∷ ks) js = ends_fit f limit asked ks js
 
-phase_fit : (f : Profile) (limit threads : ℕ) (ops rest : List Op) (more : List Act) → AreBelow limit (ops ++ rest) → Continues f limit rest more → Continues f limit (ops ++ rest) (phase_acts threads ops ++ more)
+phase_fit : (f : Profile) (limit threads : ℕ) (ops rest : List Op) (more : List Act) → AreBelow limit (ops ++ rest) → Continues f limit rest more
+    → Continues f limit (ops ++ rest) (phase_acts threads ops ++ more)
 phase_fit f limit threads ops rest more below go asked sound above = search (arith, append_assoc, wakes_fit, ops_fit)
 
+-- Later operations of those below a limit are below it.
 pub back_below : (limit : ℕ) (xs ys : List Op) → AreBelow limit (xs ++ ys) → AreBelow limit ys
 back_below limit [] ys all = all
 back_below limit (x ∷ xs) ys all = back_below limit xs ys all.1
 
-later_fit : (f : Profile) (limit threads keepers n : ℕ) (phases : List (List Op)) → AreBelow limit (all_ops phases) → Continues f limit (all_ops phases) (acts_from threads keepers n phases)
+later_fit : (f : Profile) (limit threads keepers n : ℕ) (phases : List (List Op)) → AreBelow limit (all_ops phases)
+    → Continues f limit (all_ops phases) (acts_from threads keepers n phases)
 later_fit f limit threads keepers n [] below asked sound above = ends_fit f limit asked (numbers_from 1 threads) (numbers_from (threads + 1) keepers)
 later_fit f limit threads keepers n (p ∷ ps) below asked sound above =
     phase_fit f limit threads p (all_ops ps) (acts_from threads keepers (n + 1) ps) below (later_fit f limit threads keepers (n + 1) ps (back_below limit p (all_ops ps) below)) asked sound above
 
-pub acts_fit : (f : Profile) (limit threads keepers : ℕ) (phases : List (List Op)) → AreBelow limit (all_ops phases) → AreSound f [] (all_ops phases) → AllByRecursion (KeepsAbove f) (all_ops phases) → AreFit f limit [] (acts_of threads keepers phases)
+-- The acts of a plan fit where its operations are sound and below a limit.
+pub acts_fit : (f : Profile) (limit threads keepers : ℕ) (phases : List (List Op)) → AreBelow limit (all_ops phases) → AreSound f [] (all_ops phases)
+    → AllByRecursion (KeepsAbove f) (all_ops phases) → AreFit f limit [] (acts_of threads keepers phases)
 acts_fit f limit threads keepers [] below sound above = later_fit f limit threads keepers 1 [] below [] sound above
 acts_fit f limit threads keepers (p ∷ ps) below sound above = later_fit f limit threads keepers 1 (p ∷ ps) below [] sound above
 
@@ -233,7 +262,8 @@ of_all : (f : Profile) (idle : List ℕ) (ops : List Op) → ArePlanned f ops �
 of_all f idle [] all = tt
 of_all f idle (op ∷ ops) all = of_both f.threads (acts_of_op idle op) (acts_of_ops idle ops) (of_work f idle op (work_of op.what) all.0) (of_all f idle ops all.1)
 
-of_later_acts : (f : Profile) (keepers n : ℕ) (phases : List (List Op)) → ArePlanned f (all_ops phases) → AreOfThreads f.threads (acts_from f.threads keepers n phases)
+of_later_acts : (f : Profile) (keepers n : ℕ) (phases : List (List Op)) → ArePlanned f (all_ops phases)
+    → AreOfThreads f.threads (acts_from f.threads keepers n phases)
 of_later_acts f keepers n [] all =
     (tt, of_both f.threads (map Ends (numbers_from 1 f.threads)) (map Lowers (numbers_from (f.threads + 1) keepers)) (of_map f.threads Ends (λ k. refl) (numbers_from 1 f.threads)) (of_map f.threads Lowers (λ k. refl) (numbers_from (f.threads + 1) keepers)))
 of_later_acts f keepers n (p ∷ ps) all =
@@ -246,6 +276,8 @@ of_later_acts f keepers n (p ∷ ps) all =
           (of_later_acts f keepers (n + 1) ps (all_back (λ (op : Op). IsActorOf f op.what op.actor) p (all_ops ps) all)),
     )
 
-pub of_threads : (f : Profile) (keepers : ℕ) (phases : List (List Op)) → ArePlanned f (all_ops phases) → AreOfThreads f.threads (acts_of f.threads keepers phases)
+-- The acts of a plan are of its threads.
+pub of_threads : (f : Profile) (keepers : ℕ) (phases : List (List Op)) → ArePlanned f (all_ops phases)
+    → AreOfThreads f.threads (acts_of f.threads keepers phases)
 of_threads f keepers [] all = of_later_acts f keepers 1 [] all
 of_threads f keepers (p ∷ ps) all = (of_later_acts f keepers 1 (p ∷ ps) all).1

@@ -22,7 +22,8 @@ guarded_both k [] ys = omega arith
 guarded_both k (x ∷ xs) ys = let rest = guarded_both k xs ys in omega (arith, rest)
 
 -- with one operation more
-pub guarded_next : (k : ℕ) (ops : List Op) (i : ℕ) (d : Op) → i < length ops → guarded_of k (drop i ops) ≡ guards_of k (get_or ops i d) + guarded_of k (drop (i + 1) ops)
+pub guarded_next : (k : ℕ) (ops : List Op) (i : ℕ) (d : Op) → i < length ops
+    → guarded_of k (drop i ops) ≡ guards_of k (get_or ops i d) + guarded_of k (drop (i + 1) ops)
 guarded_next k ops i d lt = ap (λ (xs : List Op). guarded_of k xs) (drop_more ops i d lt)
 
 -- .. and of phases with one phase more
@@ -42,6 +43,7 @@ few_if : (t : Bool) (a b : ℕ) → a ≤ b → (if t then a else 0) ≤ b
 few_if true a b le = le
 few_if false a b le = omega arith
 
+-- Operations have no more guarded requests than they may make records.
 pub guarded_few : (f : Profile) (k : ℕ) (ops : List Op) → guarded_of k ops ≤ records_of_ops f ops
 guarded_few f k [] = omega arith
 guarded_few f k (op ∷ ops) =
@@ -52,17 +54,20 @@ guarded_few f k (op ∷ ops) =
 within_work : (f : Profile) (work : Work) (k : ℕ) → f.threads ≤ 16 → IsActorBy f work k → k < 17
 within_work f work k h i = grind arith
 
+-- The actor of each planned operation is below 17.
 pub actors_within : (f : Profile) (ops : List Op) → f.threads ≤ 16 → ArePlanned f ops → AllByRecursion (λ (op : Op). op.actor < 17) ops
 actors_within f [] few all = tt
 actors_within f (op ∷ ops) few all = (within_work f (work_of op.what) op.actor few all.0, actors_within f ops few all.1)
 
+-- What is so of each of a list is so of the one at a place.
 pub all_at : {A : Type 0} (P : A → Type 0) (xs : List A) (i : ℕ) (d : A) → AllByRecursion P xs → i < length xs → P (get_or xs i d)
 all_at P [] i d all lt = absurd (let bad : i < 0 = lt in omega (arith, bad))
 all_at P (x ∷ xs) zero d all lt = all.0
 all_at P (x ∷ xs) (suc i) d all lt = all_at P xs i d all.1 (omega (arith, lt))
 
 -- what is so of all operations is so of those of a phase
-pub phase_at : (P : Op → Type 0) (phases : List Phase) (i : ℕ) (d : Phase) → AllByRecursion P (all_ops (map ops_of phases)) → i < length phases → AllByRecursion P (ops_of (get_or phases i d))
+pub phase_at : (P : Op → Type 0) (phases : List Phase) (i : ℕ) (d : Phase) → AllByRecursion P (all_ops (map ops_of phases)) → i < length phases
+    → AllByRecursion P (ops_of (get_or phases i d))
 phase_at P [] i d all lt = absurd (let bad : i < 0 = lt in omega (arith, bad))
 phase_at P (p ∷ phases) zero d all lt = all_front P (ops_of p) (all_ops (map ops_of phases)) all
 phase_at P (p ∷ phases) (suc i) d all lt = phase_at P phases i d (all_back P (ops_of p) (all_ops (map ops_of phases)) all) (omega (arith, lt))
@@ -71,7 +76,9 @@ phase_at P (p ∷ phases) (suc i) d all lt = phase_at P phases i d (all_back P (
 pub no_books : (places : ℕ → ℕ) (books : List GuardBook) → books ≡ [] → AreBooksFor 0 places books
 no_books places books none = record { many = ap (λ (bs : List GuardBook). length bs) none; empty = λ i d bad. absurd (omega (arith, bad)); places = λ i d bad. absurd (omega (arith, bad)) }
 
-pub next_book : {many : ℕ} {places : ℕ → ℕ} {books : List GuardBook} (after : List GuardBook) (book : GuardBook) → after ≡ books ++ book ∷ [] → guards_in book ≡ [] → size_of_book book ≡ places (many + 1) → AreBooksFor many places books → AreBooksFor (many + 1) places after
+-- An empty book with enough places for the next keeper makes the books one more.
+pub next_book : {many : ℕ} {places : ℕ → ℕ} {books : List GuardBook} (after : List GuardBook) (book : GuardBook) → after ≡ books ++ book ∷ []
+    → guards_in book ≡ [] → size_of_book book ≡ places (many + 1) → AreBooksFor many places books → AreBooksFor (many + 1) places after
 next_book {many} {places} {books} after book is empty size made =
     let count = made.many in
     let same = ap (λ (bs : List GuardBook). length bs) is in
@@ -90,8 +97,11 @@ next_book {many} {places} {books} after book is empty size made =
     }
 
 -- with other numbers that are the same
-pub same_books : {many many' : ℕ} {places places' : ℕ → ℕ} {books : List GuardBook} → many ≡ many' → ((k : ℕ) → places k ≡ places' k) → AreBooksFor many places books → AreBooksFor many' places' books
+pub same_books : {many many' : ℕ} {places places' : ℕ → ℕ} {books : List GuardBook} → many ≡ many' → ((k : ℕ) → places k ≡ places' k)
+    → AreBooksFor many places books → AreBooksFor many' places' books
 same_books {many} {many'} {places} {places'} {books} same alike made = search (arith, made.many, made.empty, made.places)
 
-pub books_in : {many many' : ℕ} {places places' : ℕ → ℕ} {E : Type 0} (made : Result (Vec GuardBook) E) → many ≡ many' → ((k : ℕ) → places k ≡ places' k) → IfOk made (λ books. AreBooksFor many places books.items) → IfOk made (λ books. AreBooksFor many' places' books.items)
+-- Books that were made for keepers are for as many keepers with the same places, otherwise counted.
+pub books_in : {many many' : ℕ} {places places' : ℕ → ℕ} {E : Type 0} (made : Result (Vec GuardBook) E) → many ≡ many' → ((k : ℕ) → places k ≡ places' k)
+    → IfOk made (λ books. AreBooksFor many places books.items) → IfOk made (λ books. AreBooksFor many' places' books.items)
 books_in made same alike is = search (arith, same_books)

@@ -17,7 +17,8 @@ pub no_rooms : (sizes : ℕ → Option ℕ) (rooms : List EventRoom) → rooms �
 no_rooms sizes rooms none = search arith
 
 -- .. and one more
-pub next_room : {sizes : ℕ → Option ℕ} {count : ℕ} {rooms : List EventRoom} (after : List EventRoom) (room : EventRoom) → after ≡ rooms ++ room ∷ [] → sizes count ≡ Some (size_of_room room) → shown room ≡ [] → AreRooms sizes count rooms → AreRooms sizes (count + 1) after
+pub next_room : {sizes : ℕ → Option ℕ} {count : ℕ} {rooms : List EventRoom} (after : List EventRoom) (room : EventRoom) → after ≡ rooms ++ room ∷ []
+    → sizes count ≡ Some (size_of_room room) → shown room ≡ [] → AreRooms sizes count rooms → AreRooms sizes (count + 1) after
 next_room {sizes} {count} {rooms} after room is size empty made =
     let many = made.many in
     let same = ap (λ rs. length rs) is in
@@ -36,10 +37,13 @@ next_room {sizes} {count} {rooms} after room is size empty made =
 pub left_room : {A : Type 0} (found : Option ℕ) (size : ℕ) → found ≡ None → found ≡ Some size → A
 left_room found size none some = absurd (cc)
 
+-- An empty list of caches is one of no thread.
 pub none_unused : (caches : List ThreadCache) → caches ≡ [] → AreUnused 0 caches
 none_unused caches none = record { many = ap (λ (cs : List ThreadCache). length cs) none; each = λ i d bad. absurd (omega (arith, bad)) }
 
-pub next_unused : {count : ℕ} {caches : List ThreadCache} (after : List ThreadCache) (cache : ThreadCache) → after ≡ caches ++ cache ∷ [] → cached cache ≡ empty_cache → AreUnused count caches → AreUnused (count + 1) after
+-- One empty cache more makes the unused caches one more.
+pub next_unused : {count : ℕ} {caches : List ThreadCache} (after : List ThreadCache) (cache : ThreadCache) → after ≡ caches ++ cache ∷ []
+    → cached cache ≡ empty_cache → AreUnused count caches → AreUnused (count + 1) after
 next_unused {count} {caches} after cache is empty made =
     let many = made.many in
     let same = ap (λ (cs : List ThreadCache). length cs) is in

@@ -10,6 +10,7 @@ below_both : (limit : ℕ) (xs ys : List Op) → AreBelow limit xs → AreBelow 
 below_both limit [] ys a b = b
 below_both limit (x ∷ xs) ys a b = (a.0, below_both limit xs ys a.1 b)
 
+-- Names that are below a limit in each phase are below it in all.
 pub below_all : (limit : ℕ) (phases : List (List Op)) → AllBelow limit phases → AreBelow limit (all_ops phases)
 below_all limit [] all = tt
 below_all limit (p ∷ ps) all = below_both limit p (all_ops ps) all.0 (below_all limit ps all.1)
@@ -21,6 +22,7 @@ below_higher : (limit higher : ℕ) (ops : List Op) → limit ≤ higher → Are
 below_higher limit higher [] le all = tt
 below_higher limit higher (op ∷ ops) le all = (below_what limit higher op.what le all.0, below_higher limit higher ops le all.1)
 
+-- Names below a limit are below each higher one.
 pub all_higher : (limit higher : ℕ) (phases : List (List Op)) → limit ≤ higher → AllBelow limit phases → AllBelow higher phases
 all_higher limit higher [] le all = tt
 all_higher limit higher (p ∷ ps) le all = (below_higher limit higher p le all.0, all_higher limit higher ps le all.1)

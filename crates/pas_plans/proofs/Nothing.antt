@@ -10,11 +10,14 @@ unknown_all : (n : ℕ) → unknown_below n [] ≡ n
 unknown_all zero = refl
 unknown_all (suc n) = let rest = unknown_all n in omega (arith, rest)
 
-pub nothing_owed : (f : Profile) → owed_events f empty_cache [] ≡ f.pages
-nothing_owed f = let all = unknown_all f.pages in omega (arith, all)
+-- An actor that did nothing owes as many events as the region has pages.
+pub pages_owed_at_first : (f : Profile) → owed_events f empty_cache [] ≡ f.pages
+pages_owed_at_first f = let all = unknown_all f.pages in omega (arith, all)
 
+-- An actor that did nothing has nothing.
 pub nothing : HasNothing []
 nothing = record { grains = λ g. refl; rights = λ page. refl; clear = record { on = λ page. record { stamped = refl; owes = record { checks = λ word lt. refl; hint = refl }; examined = refl } } }
 
+-- A cache without local allocators covers no grain and keeps no page.
 pub no_slots : (locals : List Slots) → locals ≡ [] → (g : ℕ) → (any_covers locals g ≡ false) × (any_keeps locals g ≡ false)
 no_slots locals is g = (ap (λ (xs : List Slots). any_covers xs g) is, ap (λ (xs : List Slots). any_keeps xs g) is)

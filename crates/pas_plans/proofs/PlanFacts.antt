@@ -32,6 +32,7 @@ module _ (f : Profile) (threads : ℕ) (more : f.threads ≤ threads) where
   wider_work : (asked : List ℕ) (work : Work) → IsSoundWork f asked work → IsSoundWork region asked work
   wider_work asked work sound = search (arith, wider_task)
 
+  -- Operations that are sound in a region are sound in one with more threads.
   pub wider_sound : (asked : List ℕ) (ops : List Op) → AreSound f asked ops → AreSound region asked ops
   wider_sound asked [] sound = tt
   wider_sound asked (op ∷ ops) sound = (wider_actor (work_of op.what) op.actor sound.0, wider_work asked (work_of op.what) sound.1, wider_sound (asked_after op.what asked) ops sound.2)
@@ -53,18 +54,21 @@ module _ (f : Profile) (threads : ℕ) (more : f.threads ≤ threads) where
   same_unbacks (act ∷ acts) = ap (λ n. n + unbacks_of region acts) (same_unback act) ∙ ap (λ n. unbacks_of_act f act + n) (same_unbacks acts)
 
 -- the keepers of a guarded plan are actors of its region behind all threads
-above_one : (f : Profile) (guard : ℕ) (actor : ℕ) (o : Option ℕ) → 1 ≤ actor → actor ≤ f.threads → MatchOption o (Unit {0}) (λ keeper. (keeper ≡ f.threads + actor) × (guard ≢ 0))
+above_one : (f : Profile) (guard : ℕ) (actor : ℕ) (o : Option ℕ) → 1 ≤ actor → actor ≤ f.threads
+    → MatchOption o (Unit {0}) (λ keeper. (keeper ≡ f.threads + actor) × (guard ≢ 0))
     → MatchOption o (Unit {0}) (λ keeper. IsThread (record f { threads = actors_by guard f.threads }) keeper × (actor < keeper))
 above_one f guard actor o h most kept = search (arith, keepers_among)
 
 of_thread : (f : Profile) (work : Work) (k : ℕ) (o : Option ℕ) → IsActorBy f work k → of_task keeper_of work ≡ o → (keeper : ℕ) → o ≡ Some keeper → IsThread f k
 of_thread f work k o h i keeper j = grind arith
 
-keeps_above : (f : Profile) (guard : ℕ) (op : Op) (o : Option ℕ) → keeper_in op.what ≡ o → IsActorOf f op.what op.actor → MatchOption o (Unit {0}) (λ keeper. (keeper ≡ f.threads + op.actor) × (guard ≢ 0))
+keeps_above : (f : Profile) (guard : ℕ) (op : Op) (o : Option ℕ) → keeper_in op.what ≡ o → IsActorOf f op.what op.actor
+    → MatchOption o (Unit {0}) (λ keeper. (keeper ≡ f.threads + op.actor) × (guard ≢ 0))
     → MatchOption o (Unit {0}) (λ keeper. IsThread (record f { threads = actors_by guard f.threads }) keeper × (op.actor < keeper))
 keeps_above f guard op o is of kept = search (arith, of_thread, above_one)
 
-all_above : (f : Profile) (guard : ℕ) (asked : List ℕ) (ops : List Op) → AreSound f asked ops → AreKept f guard ops → AllByRecursion (KeepsAbove (record f { threads = actors_by guard f.threads })) ops
+all_above : (f : Profile) (guard : ℕ) (asked : List ℕ) (ops : List Op) → AreSound f asked ops → AreKept f guard ops
+    → AllByRecursion (KeepsAbove (record f { threads = actors_by guard f.threads })) ops
 all_above f guard asked [] sound kept = tt
 all_above f guard asked (op ∷ ops) sound kept = (keeps_above f guard op (keeper_in op.what) refl sound.0 kept.0, all_above f guard (asked_after op.what asked) ops sound.2 kept.1)
 
@@ -83,9 +87,11 @@ plan_threads plan = threads_among plan.guard plan.profile.threads
 pub plan_bounds : {text : List ℕ} {plan : Plan} → IsPlanOf text plan → length (bounds_of plan.bounds) ≡ (region_of plan).threads + 1
 plan_bounds {text} {plan} is = (every_plan is).count
 
+-- A plan of a text of at most 16 MB has fewer than 2^32 phases.
 pub plan_phases : {text : List ℕ} {plan : Plan} → IsPlanOf text plan → length text ≤ 16777216 → length (phases_of plan) < 2 ^ 32
 plan_phases {text} {plan} is short = let few = (every_plan is).phases in let same = length-map plan.phases.phases.items ops_of in omega (arith, few, same, short)
 
+-- The operations of a plan of a text are planned.
 pub plan_planned : {text : List ℕ} {plan : Plan} → IsPlanOf text plan → ArePlanned plan.profile (all_ops (phases_of plan))
 plan_planned {text} {plan} is = are_planned plan.profile [] (all_ops (phases_of plan)) (every_plan is).operations
 
@@ -97,7 +103,9 @@ plan_below {text} {plan} is = below_each plan.names_limit (phases_of plan) (ever
 pub plan_above : {text : List ℕ} {plan : Plan} → IsPlanOf text plan → AllByRecursion (KeepsAbove (region_of plan)) (all_ops (phases_of plan))
 plan_above {text} {plan} is = let sound = every_plan is in all_above plan.profile plan.guard [] (all_ops (phases_of plan)) sound.operations sound.keepers
 
-pub plan_fit : {text : List ℕ} {plan : Plan} → IsPlanOf text plan → (limit : ℕ) → AllBelow limit (phases_of plan) → AreFit (region_of plan) limit [] (acts_of_plan plan)
+-- The acts of a plan of a text fit its region, for each limit on its names.
+pub plan_fit : {text : List ℕ} {plan : Plan} → IsPlanOf text plan → (limit : ℕ) → AllBelow limit (phases_of plan)
+    → AreFit (region_of plan) limit [] (acts_of_plan plan)
 plan_fit {text} {plan} is limit below =
     let sound = every_plan is in
     acts_fit (region_of plan) limit (threads_of plan) (keepers_of plan) (phases_of plan) (below_all limit (phases_of plan) below)
@@ -116,14 +124,16 @@ plan_own {text} {plan} is k some le =
     omega (arith, plan_owns plan.profile (keepers_of plan) k (phases_of plan) (plan_planned is), bound)
 
 -- .. that of the scavenger for its passes
-pub plan_scavenger : {text : List ℕ} {plan : Plan} → IsPlanOf text plan → unbacks_of (region_of plan) (acts_of_plan plan) ≤ slice_index (bounds_of plan.bounds) 0
+pub plan_scavenger : {text : List ℕ} {plan : Plan} → IsPlanOf text plan
+    → unbacks_of (region_of plan) (acts_of_plan plan) ≤ slice_index (bounds_of plan.bounds) 0
 plan_scavenger {text} {plan} is =
     let bound = (every_plan is).scavenger in
     let same = same_unbacks plan.profile (actors_by plan.guard plan.profile.threads) (plan_threads plan) (acts_of_plan plan) in
     omega (arith, plan_unbacks plan.profile (keepers_of plan) (phases_of plan) (plan_planned is), bound, same)
 
 -- .. and the total for those of all actors, with a record for each phase and one for the close
-pub plan_total : {text : List ℕ} {plan : Plan} → IsPlanOf text plan → (region_of plan).threads * (region_of plan).pages + costs_of (region_of plan) (acts_of_plan plan) ≤ plan.total + length (phases_of plan) + 1
+pub plan_total : {text : List ℕ} {plan : Plan} → IsPlanOf text plan
+    → (region_of plan).threads * (region_of plan).pages + costs_of (region_of plan) (acts_of_plan plan) ≤ plan.total + length (phases_of plan) + 1
 plan_total {text} {plan} is =
     let total = (every_plan is).total in
     let same = same_costs plan.profile (actors_by plan.guard plan.profile.threads) (plan_threads plan) (acts_of_plan plan) in

@@ -10,6 +10,7 @@ use Rattle.pas_profile.specs.declared.directory.Kind.TheVariants.{Class, Bitfit,
 
 -- A kind's number is below 23, and names the kind.
 
+-- The number of a kind is below 23.
 pub kind_number_lt : (k : Kind) → IsKind k → kind_number k < 23
 kind_number_lt k h = grind arith
 
@@ -19,7 +20,8 @@ kind_of-kind_number k h = grind (arith, lt-ltb)
 abbrev Names : ℕ → Kind → Type 0
 Names n k = IsKind k × (kind_number k ≡ n)
 
-named : (small bitfit shared large : Bool) (n : ℕ) (k : Kind) → (small ≡ true → n < 20) → (bitfit ≡ true → n ≡ 20) → (shared ≡ true → n ≡ 21) → (large ≡ true → n ≡ 22) →
+named : (small bitfit shared large : Bool) (n : ℕ) (k : Kind) → (small ≡ true → n < 20) → (bitfit ≡ true → n ≡ 20) → (shared ≡ true → n ≡ 21)
+    → (large ≡ true → n ≡ 22) →
     (if small then Some (Class n) else (if bitfit then Some Bitfit else (if shared then Some Shared else (if large then Some Large else None)))) ≡ Some k → Names n k
 named small b c d n k p q r s e = grind arith
 
@@ -32,6 +34,7 @@ same_kind a b ha hb e =
 
 -- A directory's number is below 23 times the number of heaps, and names the directory.
 
+-- The number of a directory is below 23 times the number of heaps.
 pub number_lt : (d : Directory) (heaps : ℕ) → d.heap < heaps → IsKind d.kind → number_of d < 23 * heaps
 number_lt d heaps h k = mul-add-lt d.heap 23 (kind_number d.kind) heaps h (kind_number_lt d.kind k)
 
@@ -44,11 +47,13 @@ directory_from_profile f d v h =
 pub numbered : (d : Directory) → IsKind d.kind → deed_word_numbered (number_of d) ≡ deed_word_of d
 numbered d kind = let small = kind_number_lt d.kind kind in omega (arith, small)
 
+-- Two directories of the same heap and kind are one.
 pub same_parts : (a b : Directory) → a.heap ≡ b.heap → a.kind ≡ b.kind → a ≡ b
 same_parts a b h k = ap (λ (n : ℕ). record { heap = n; kind = a.kind }) h ∙ ap (λ (n : Kind). record { heap = b.heap; kind = n }) k
 
 -- A deed word is not 0 and fits its word.
 
+-- The deed word of a directory isn't 0.
 pub deed_word_of-positive : (d : Directory) → deed_word_of d ≢ 0
 deed_word_of-positive d e = omega (arith, e)
 
@@ -56,6 +61,7 @@ deed_word_of-positive d e = omega (arith, e)
 abbrev read_by : Bool → Bool → ℕ → ℕ → Option Directory
 read_by low below heap kind = if low then None else (if below then with_kind heap (kind_of kind) else None)
 
+-- The deed word of a directory reads as that directory.
 pub read-deed_word_of : (d : Directory) → IsDirectory d → directory_read (deed_word_of d) ≡ Some d
 read-deed_word_of d h =
     let w = deed_word_of d in
@@ -75,7 +81,8 @@ Records w d = IsDirectory d × (w ≡ deed_word_of d)
 with_kind_is : (heap : ℕ) (o : Option Kind) (d : Directory) → with_kind heap o ≡ Some d → (k : Kind) × (o ≡ Some k) × (d.heap ≡ heap) × (d.kind ≡ k)
 with_kind_is heap o d e = grind arith
 
-recorded : (low below : Bool) (w : ℕ) (d : Directory) → (low ≡ false → 65536 ≤ w) → (below ≡ true → w < 73728) → read_by low below ((w - 65536) / 256) (w % 256) ≡ Some d → Records w d
+recorded : (low below : Bool) (w : ℕ) (d : Directory) → (low ≡ false → 65536 ≤ w) → (below ≡ true → w < 73728)
+    → read_by low below ((w - 65536) / 256) (w % 256) ≡ Some d → Records w d
 recorded low b w d p q e = grind (arith, with_kind_is, kind_named)
 
 -- a word is read as a directory only where it is that directory's deed word
@@ -95,11 +102,14 @@ same_from_deed_word a b ha hb e = search (arith, kind_number_lt, same_parts, sam
 
 -- A live block's word is read as its turn and its grains.
 
+-- The turn of a live word is the one that it was made of.
 pub turn_of-live_word : (turn grains : ℕ) → turn < 2 ^ 40 → turn_of (live_word turn grains) ≡ turn
 turn_of-live_word turn grains h = omega (arith, h)
 
+-- The grains of a live word are those that it was made of.
 pub grains_of-live_word : (turn grains : ℕ) → turn < 2 ^ 40 → grains < 2 ^ 23 → grains_of (live_word turn grains) ≡ grains
 grains_of-live_word turn grains h k = omega (arith, h, k)
 
+-- A live word tells that a block lives.
 pub is_live-live_word : (turn grains : ℕ) → is_live (live_word turn grains) ≡ true
 is_live-live_word turn grains = le-leb (2 ^ 63) _ (omega arith)

@@ -46,5 +46,6 @@ same_place pages heaps x y hx hy e = absurd (omega (arith, hx, hy, e))
 pub other_place : (pages heaps : ℕ) (x y : Word) → IsWordIn pages heaps x → IsWordIn pages heaps y → same_word x y ≡ false → index_of pages x ≢ index_of pages y
 other_place pages heaps x y hx hy h e = let t : same_word x y ≡ true = same_place pages heaps x y hx hy e in cc
 
+-- Two words of a region with the same place are one.
 pub word_from_place : (pages heaps : ℕ) (x y : Word) → IsWordIn pages heaps x → IsWordIn pages heaps y → index_of pages x ≡ index_of pages y → x ≡ y
 word_from_place pages heaps x y hx hy e = same_word-true x y (same_place pages heaps x y hx hy e)

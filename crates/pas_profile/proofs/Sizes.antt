@@ -16,6 +16,7 @@ abbrev pub passes_below : (ℕ → Bool) → ℕ → Bool
 passes_below f zero = true
 passes_below f (suc n) = f n && passes_below f n
 
+-- A test that all numbers below a bound pass is passed by each.
 pub passes_at : (f : ℕ → Bool) (n k : ℕ) → passes_below f n ≡ true → k < n → f k ≡ true
 passes_at f n k h lt = (Decides-below_and f (λ i. f i ≡ true) (passes_below f) (λ i. (λ e. e, λ e. e)) refl (λ i. refl) n).0 h k lt
 
@@ -26,6 +27,7 @@ passes_at f n k h lt = (Decides-below_and f (λ i. f i ≡ true) (passes_below f
 abbrev pub of_each_class : (ℕ → Bool) → Bool
 of_each_class test = passes_below test 20
 
+-- A test that all classes pass is passed by each class.
 pub class_passes : (test : ℕ → Bool) → of_each_class test ≡ true → (class : ℕ) → IsClass class → test class ≡ true
 class_passes test all class is = passes_at test 20 class all is
 
@@ -33,6 +35,7 @@ class_passes test all class is = passes_at test 20 class all is
 pub class_from_size : (class : ℕ) → 1 ≤ class_size class → IsClass class
 class_from_size class some = search (arith, cases_lt, get_or_past)
 
+-- The size of each class is at most 1,024 bytes.
 pub class_size_le : (class : ℕ) → class_size class ≤ 1024
 class_size_le class = elim (cases_lt class 20) [
   | inl is ↦ leb-true _ _ (class_passes (λ c. leb (class_size c) 1024) refl class is)
@@ -43,18 +46,21 @@ class_size_le class = elim (cases_lt class 20) [
 pub count_le : (classes : ℕ) → IsClassCount classes → classes ≤ 20
 count_le classes is = search (arith, or_cases, eqb-true)
 
+-- The classes of a valid profile are sixteen or twenty.
 pub count_of : (pages classes : ℕ) → AreClassesFor pages classes → IsClassCount classes
 count_of pages classes is = elim (or_cases (classes == 20) ((classes == 16) && nat_le pages 4096) is) [
   | inl all ↦ or_right (classes == 16) (classes == 20) all
   | inr few ↦ or_left (classes == 16) (classes == 20) (and_parts (classes == 16) (nat_le pages 4096) few).0
 ]
 
+-- There are at most so many sizes as classes.
 pub sizes_le : (classes : ℕ) → length (sizes_of classes) ≤ classes
 sizes_le classes = omega (arith, length-take classes class_sizes)
 
 sizes_are : (classes : ℕ) → classes ≤ 20 → length (sizes_of classes) ≡ classes
 sizes_are classes few = length-take-le classes class_sizes few
 
+-- The size in the list at a class is the size of that class.
 pub size_at : (classes class : ℕ) → class < classes → get_or (sizes_of classes) class 0 ≡ class_size class
 size_at classes class lt = get_or-take classes class_sizes class 0 lt
 
@@ -129,11 +135,14 @@ begins classes size align grains first low high t = record {
   large = λ k ge lt. omega (arith, t.2 k ge lt, low, high);
 }
 
-pub begins_at : (classes size align grains : ℕ) → grains < 65 → size ≤ 16 * grains → 16 * grains < size + 16 → BeginsAt classes size align (get_or CLASS_BY_GRAINS grains 0)
+-- The table by grains tells where the search for a size's class may begin.
+pub begins_at : (classes size align grains : ℕ) → grains < 65 → size ≤ 16 * grains → 16 * grains < size + 16
+    → BeginsAt classes size align (get_or CLASS_BY_GRAINS grains 0)
 begins_at classes size align grains few low high = begins classes size align grains _ low high (at_table grains few)
 
 -- a class of the region that suits is found where the search has come to it
-pub found_at : (classes class size align : ℕ) → classes ≤ 20 → class < classes → suits (class_size class) size align ≡ true → first_class (drop class (sizes_of classes)) class size align ≡ Some class
+pub found_at : (classes class size align : ℕ) → classes ≤ 20 → class < classes → suits (class_size class) size align ≡ true
+    → first_class (drop class (sizes_of classes)) class size align ≡ Some class
 found_at classes class size align few lt e =
     found_here (sizes_of classes) class size align (omega (arith, lt, sizes_are classes few)) (ap (λ c. suits c size align) (size_at classes class lt) ∙ e)
 
@@ -158,9 +167,11 @@ pub after_all : (classes size align class : ℕ) → classes ≤ class →
 after_all classes size align class h e =
     sym e ∙ ap (λ (cs : List ℕ). first_class cs class (max size 1) align) (drop_all class (sizes_of classes) (omega (arith, h, sizes_le classes)))
 
+-- A size of at most 2,048 bytes without a class is bit-fit.
 pub bitfit_for : (classes size align : ℕ) → size ≤ 2048 → first_class (sizes_of classes) 0 (max size 1) align ≡ None → Bitfit ≡ route_of classes size align
 bitfit_for classes size align h e = sym (ap (λ o. route_with o (max size 1)) e ∙ ap (λ b. if b then Bitfit else Large) (le-leb (max size 1) 2048 (omega (arith, h))))
 
+-- A size above 2,048 bytes is for whole pages.
 pub large_for : (classes size align : ℕ) → 2048 < size → Large ≡ route_of classes size align
 large_for classes size align h =
     sym (ap (λ o. route_with o (max size 1)) (none_above classes size align (omega (arith, h))) ∙ ap (λ b. if b then Bitfit else Large) (lt-leb (max size 1) 2048 (omega (arith, h))))

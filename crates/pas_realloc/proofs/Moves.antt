@@ -22,7 +22,8 @@ small_room f c less spare v le may = let two = may.room.0 in record {
   room = (omega (arith, two, le), elim may.room.1 [ inl all ↦ inl all | inr more ↦ inr (omega (arith, more, le)) ]);
 }
 
-more_room : (route : Route) (f : Profile) (c : Cached) (n less spare : ℕ) (v : View) → less ≤ spare → MayRequestBy route f c n less v → MayRequestBy route f c n spare v
+more_room : (route : Route) (f : Profile) (c : Cached) (n less spare : ℕ) (v : View) → less ≤ spare → MayRequestBy route f c n less v
+    → MayRequestBy route f c n spare v
 more_room Route.Large f c n less spare v le may = let room = may.room in record { rest = may.rest; room = omega (arith, room, le) }
 more_room _ f c n less spare v le may = small_room f c less spare v le may
 
@@ -30,13 +31,16 @@ at_rest : (route : Route) (f : Profile) (c : Cached) (n spare : ℕ) (v : View) 
 at_rest (Route.Class class) f c n spare v may = may.rest
 at_rest _ f c n spare v may = may.rest
 
-pub can_serve : {σ : Standing} (c : Cached) (heap size align spare : ℕ) → CanCall σ (MayMove σ.seat.profile (wanted_for σ.seat.profile heap size align) c spare) → CanCall σ (MayRequest σ.seat.profile (wanted_for σ.seat.profile heap size align) c spare)
+-- Who may give a block another size may make the request for it.
+pub can_serve : {σ : Standing} (c : Cached) (heap size align spare : ℕ) → CanCall σ (MayMove σ.seat.profile (wanted_for σ.seat.profile heap size align) c spare)
+    → CanCall σ (MayRequest σ.seat.profile (wanted_for σ.seat.profile heap size align) c spare)
 can_serve {σ} c heap size align spare can =
     let w = wanted_for σ.seat.profile heap size align in
     can_call adds_none can (λ v l stood met. more_room w.route σ.seat.profile c (pages_of w) (spare - flush_of_full c.log) spare v (omega arith) met)
 
 -- ---- what it leaves of the room
-small_left : {σ σ1 : Standing} (wanted : Wanted) (tells : Bool) (c c1 : Cached) (answer : Result Block NoRoom) (less spare spare1 : ℕ) → Allocates wanted tells c c1 σ σ1 answer → CanCall σ (MayAllocate σ.seat.profile c less) → Spares σ spare → Spares σ1 spare1
+small_left : {σ σ1 : Standing} (wanted : Wanted) (tells : Bool) (c c1 : Cached) (answer : Result Block NoRoom) (less spare spare1 : ℕ)
+    → Allocates wanted tells c c1 σ σ1 answer → CanCall σ (MayAllocate σ.seat.profile c less) → Spares σ spare → Spares σ1 spare1
     → (spare ≤ spare1 + less) × (1 ≤ less)
 small_left {σ} wanted tells c c1 answer less spare spare1 did can law law1 =
     let v = can.view in
@@ -48,7 +52,9 @@ small_left {σ} wanted tells c c1 answer less spare spare1 did can law law1 =
     ] in
     (omega (arith, falls, within), omega (arith, can.met.room.0))
 
-large_left : {σ σ1 : Standing} (wanted : Wanted) (found : Option ℕ) (tells : Bool) (c c1 : Cached) (block : Block) (less spare spare1 : ℕ) → AllocatesPages wanted found tells c c1 σ σ1 (Ok block) → CanCall σ (MayAllocatePages σ.seat.profile c (pages_of wanted) less) → Spares σ spare → Spares σ1 spare1
+large_left : {σ σ1 : Standing} (wanted : Wanted) (found : Option ℕ) (tells : Bool) (c c1 : Cached) (block : Block) (less spare spare1 : ℕ)
+    → AllocatesPages wanted found tells c c1 σ σ1 (Ok block) → CanCall σ (MayAllocatePages σ.seat.profile c (pages_of wanted) less) → Spares σ spare
+    → Spares σ1 spare1
     → (spare ≤ spare1 + less) × (1 ≤ less)
 large_left {σ} wanted found tells c c1 block less spare spare1 did can law law1 =
     let v = can.view in
@@ -56,23 +62,33 @@ large_left {σ} wanted found tells c c1 block less spare spare1 did can law law1
     let falls = spare_falls spare spare1 (length (events_by σ.seat.actor v did.steps)) did.calls.adds (record { view = v; whole = can.whole; stood = can.stood; met = can.met.rest }) law law1 refl in
     (omega (arith, falls, few, can.met.room), omega (arith, can.met.room))
 
-left_by : (σ σ1 : Standing) (route : Route) (wanted : Wanted) (found : Option ℕ) (tells : Bool) (c c1 : Cached) (block : Block) (less spare spare1 : ℕ) → AllocatesBy route wanted found tells c c1 σ σ1 (Ok block) → CanCall σ (MayRequestBy route σ.seat.profile c (pages_of wanted) less)
+left_by : (σ σ1 : Standing) (route : Route) (wanted : Wanted) (found : Option ℕ) (tells : Bool) (c c1 : Cached) (block : Block) (less spare spare1 : ℕ)
+    → AllocatesBy route wanted found tells c c1 σ σ1 (Ok block) → CanCall σ (MayRequestBy route σ.seat.profile c (pages_of wanted) less)
     → Spares σ spare → Spares σ1 spare1 → (spare ≤ spare1 + less) × (1 ≤ less)
 left_by σ σ1 Route.Large wanted found tells c c1 block less spare spare1 did can law law1 = large_left wanted found tells c c1 block less spare spare1 did can law law1
 left_by σ σ1 _ wanted found tells c c1 block less spare spare1 did can law law1 = small_left wanted tells c c1 (Ok block) less spare spare1 did can law law1
 
 -- ---- what it comes to
-pub kept : {σ : Standing} (Answers : Option ℕ → Type 0) (Same : Type 0) (wanted : Wanted) (old : Block) (size align : ℕ) (c : Cached) → suits old size align ≡ true → Same → Moves Answers Same wanted old size align c c σ σ (Ok Kept)
+pub kept : {σ : Standing} (Answers : Option ℕ → Type 0) (Same : Type 0) (wanted : Wanted) (old : Block) (size align : ℕ) (c : Cached)
+    → suits old size align ≡ true → Same → Moves Answers Same wanted old size align c c σ σ (Ok Kept)
 kept Answers Same wanted old size align c suited same = record { steps = []; calls = call_none (λ v met. met); moved = record { suited = suited; no_steps = refl; cache = refl; door = same } }
 
-pub refused : {σ σ1 : Standing} (Answers : Option ℕ → Type 0) (Same : Type 0) (wanted : Wanted) (found : Option ℕ) (old : Block) (size align : ℕ) (c c1 : Cached) (room : NoRoom) → suits old size align ≡ false → IsNamed wanted.route Answers Same found → Serves (cost_of_size size) wanted found c c1 σ σ1 (Err room) → Moves Answers Same wanted old size align c c1 σ σ1 (Err room)
+-- A block that doesn't suit, and for which the request was refused, isn't moved.
+pub refused : {σ σ1 : Standing} (Answers : Option ℕ → Type 0) (Same : Type 0) (wanted : Wanted) (found : Option ℕ) (old : Block) (size align : ℕ)
+      (c c1 : Cached) (room : NoRoom)
+    → suits old size align ≡ false → IsNamed wanted.route Answers Same found → Serves (cost_of_size size) wanted found c c1 σ σ1 (Err room)
+    → Moves Answers Same wanted old size align c c1 σ σ1 (Err room)
 refused Answers Same wanted found old size align c c1 room unsuited named s = record { steps = s.steps; calls = s.calls; moved = record { unsuited = unsuited; found = found; named = named; serves = s.change; kinds = s.kinds; few = s.few; ends = s.outcome; same_log = s.log_is } }
 
 full_log : (n : ℕ) → n ≡ 64 → nat_le 64 n ≡ true
 full_log n e = le-leb 64 n (omega (arith, e))
 
-pub room_to_free : {σ σ1 : Standing} {Answers : Option ℕ → Type 0} {Same : Type 0} {tells : Bool} (heap size align spare spare1 : ℕ) (c c1 : Cached) (block : Block) → AllocatesRequest Answers Same (wanted_for σ.seat.profile heap size align) tells c c1 σ σ1 (Ok block)
-    → CanCall σ (MayMove σ.seat.profile (wanted_for σ.seat.profile heap size align) c spare) → Spares σ spare → Spares σ1 spare1 → length c1.log ≡ 64 → 64 ≤ spare1
+-- After the request there is room for the events of a full log, which its free empties.
+pub room_to_free : {σ σ1 : Standing} {Answers : Option ℕ → Type 0} {Same : Type 0} {tells : Bool} (heap size align spare spare1 : ℕ) (c c1 : Cached)
+      (block : Block)
+    → AllocatesRequest Answers Same (wanted_for σ.seat.profile heap size align) tells c c1 σ σ1 (Ok block)
+    → CanCall σ (MayMove σ.seat.profile (wanted_for σ.seat.profile heap size align) c spare) → Spares σ spare → Spares σ1 spare1 → length c1.log ≡ 64
+    → 64 ≤ spare1
 room_to_free {σ} {σ1} {tells = tells} heap size align spare spare1 c c1 block r can law law1 full =
     let w = wanted_for σ.seat.profile heap size align in
     let s = serves c c1 heap size align r in
@@ -81,7 +97,9 @@ room_to_free {σ} {σ1} {tells = tells} heap size align spare spare1 c c1 block 
     let left = left_by σ σ1 w.route w r.found tells c c1 block (spare - flush_of_full c.log) spare spare1 r.allocates can law law1 in
     omega (arith, flush, left.0, left.1)
 
-pub can_free : {σ σ1 : Standing} {Answers : Option ℕ → Type 0} {Same : Type 0} {tells : Bool} (heap size align spare : ℕ) (c c1 : Cached) (block : Block) → AllocatesRequest Answers Same (wanted_for σ.seat.profile heap size align) tells c c1 σ σ1 (Ok block)
+-- After the request the cache is at rest, so that the old name may be freed.
+pub can_free : {σ σ1 : Standing} {Answers : Option ℕ → Type 0} {Same : Type 0} {tells : Bool} (heap size align spare : ℕ) (c c1 : Cached) (block : Block)
+    → AllocatesRequest Answers Same (wanted_for σ.seat.profile heap size align) tells c c1 σ σ1 (Ok block)
     → CanCall σ (MayMove σ.seat.profile (wanted_for σ.seat.profile heap size align) c spare) → CanCall σ1 (AtRest σ1.seat.profile c1)
 can_free {σ} {σ1} heap size align spare c c1 block r can =
     let f = σ.seat.profile in
@@ -95,7 +113,11 @@ pub no_fault : (f : Profile) (name : Name) (fault : FreeFault) → IsInRegion f 
 no_fault f name Outside region fault = fault region.page
 no_fault f name Unaligned region fault = fault.1 region.aligned
 
-pub replaced : {σ σ1 σ2 : Standing} (Answers : Option ℕ → Type 0) (Same : Type 0) (wanted : Wanted) (found : Option ℕ) (old : Block) (size align : ℕ) (c c1 c2 : Cached) (block : Block) → suits old size align ≡ false → IsNamed wanted.route Answers Same found → (s : Serves (cost_of_size size) wanted found c c1 σ σ1 (Ok block)) → Frees (entry_of old.name) c1 c2 σ1 σ2 (Ok tt) → Moves Answers Same wanted old size align c c2 σ σ2 (Ok (New block))
+-- A block that doesn't suit, for which another was given and the old name freed, is replaced.
+pub replaced : {σ σ1 σ2 : Standing} (Answers : Option ℕ → Type 0) (Same : Type 0) (wanted : Wanted) (found : Option ℕ) (old : Block) (size align : ℕ)
+      (c c1 c2 : Cached) (block : Block)
+    → suits old size align ≡ false → IsNamed wanted.route Answers Same found → (s : Serves (cost_of_size size) wanted found c c1 σ σ1 (Ok block))
+    → Frees (entry_of old.name) c1 c2 σ1 σ2 (Ok tt) → Moves Answers Same wanted old size align c c2 σ σ2 (Ok (New block))
 replaced {σ} {σ1} {σ2} Answers Same wanted found old size align c c1 c2 block unsuited named s free =
     let f = σ.seat.profile in
     let takes = subst (λ (t : Seat). TakesEntry t.profile t.actor c1 c2 (entry_of old.name) free.steps) s.calls.adds.seat_is free.outcome in
@@ -121,5 +143,6 @@ replaced {σ} {σ1} {σ2} Answers Same wanted found old size align c c1 c2 block
     }
 
 -- the region is the same after the request
-pub in_same : {σ σ1 : Standing} {cost : ℕ} {wanted : Wanted} {found : Option ℕ} {c c1 : Cached} {answer : Result Block NoRoom} → Serves cost wanted found c c1 σ σ1 answer → (name : Name) → IsInRegion σ.seat.profile name → IsInRegion σ1.seat.profile name
+pub in_same : {σ σ1 : Standing} {cost : ℕ} {wanted : Wanted} {found : Option ℕ} {c c1 : Cached} {answer : Result Block NoRoom}
+    → Serves cost wanted found c c1 σ σ1 answer → (name : Name) → IsInRegion σ.seat.profile name → IsInRegion σ1.seat.profile name
 in_same s name region = subst (λ (t : Seat). IsInRegion t.profile name) (sym s.calls.adds.seat_is) region

@@ -17,6 +17,7 @@ shown_next (Some e) shown es h = ap (λ r. r ++ e ∷ []) h ∙ sym (reverse-app
 count_next : (c c' n m : ℕ) → m ≡ n + 1 → c' ≡ min (c + 1) (2 ^ 64 - 1) → c ≡ min n (2 ^ 64 - 1) → c' ≡ min m (2 ^ 64 - 1)
 count_next c c' n m more e h = omega arith
 
+-- Notes with one more step are those of the view with that step.
 pub notes_next : (old new : Notes) (k : ℕ) (s : Step) (a : ℕ) (v : View) → AreNotesOf k v old → IsNoted old new k s a → AreNotesOf k (made s a ∷ v) new
 notes_next old new k s a v are noted = record {
   shown = noted.shown ∙ ap (λ e. events_noted old ++ option_to_list (event_of k (or_zero e) s a)) are.epoch ∙ shown_next (event_of k (epoch_of v) s a) (events_noted old) (events_of k v) are.shown;

@@ -20,12 +20,17 @@ use Rattle.pas_replay.proofs.Turning.{AsksNoIndex, less_events, less_tries, othe
 
 -- ---- marks
 -- no actor has a hand in a mark
-still_stands : (threads : ℕ) (f : Profile) (k : ℕ) {slot : Option PlainPass} (p : Progress) (acts more : List Act) (mark : Record) → own_events threads f k more ≤ own_events threads f k acts → ActorStands threads f k p slot acts → ActorStands threads f k (with_records p (mark ∷ [])) slot more
+still_stands : (threads : ℕ) (f : Profile) (k : ℕ) {slot : Option PlainPass} (p : Progress) (acts more : List Act) (mark : Record)
+    → own_events threads f k more ≤ own_events threads f k acts → ActorStands threads f k p slot acts
+    → ActorStands threads f k (with_records p (mark ∷ [])) slot more
 still_stands threads f k p acts more mark less st =
     other_stands threads f p (with_records p (mark ∷ [])) {j = k} {k = k + 1} acts more [] (λ e. omega (arith, e)) refl refl refl refl less st
 
-pub after_mark : {r : Replay} {more : List Act} {act : Act} {T : Type 0} {h : Hand} (out' : Records) (mark : Record) → T × SoFar r (act ∷ more) h → ((p : Progress) → Advances r.profile act p (with_records p (mark ∷ []))) → cost_of_act r.profile act ≡ 1
-    → ((limit : ℕ) (asked : List ℕ) → AreFit r.profile limit asked (act ∷ more) → AreFit r.profile limit asked more) → AsksNoIndex r.profile act → records_in out' ≡ records_in h.out ++ mark ∷ [] → room_of out' ≡ room_of h.out → T × SoFar r more (record h { out = out' })
+-- A mark that was said takes the replay on, and the acts behind it come next.
+pub after_mark : {r : Replay} {more : List Act} {act : Act} {T : Type 0} {h : Hand} (out' : Records) (mark : Record) → T × SoFar r (act ∷ more) h
+    → ((p : Progress) → Advances r.profile act p (with_records p (mark ∷ []))) → cost_of_act r.profile act ≡ 1
+    → ((limit : ℕ) (asked : List ℕ) → AreFit r.profile limit asked (act ∷ more) → AreFit r.profile limit asked more) → AsksNoIndex r.profile act
+    → records_in out' ≡ records_in h.out ++ mark ∷ [] → room_of out' ≡ room_of h.out → T × SoFar r more (record h { out = out' })
 after_mark {r} {more} {act} {T} {h} out' mark (taken, (p, at)) advances one fit asks pushed room =
     let names = at.names in
     let next = with_records p (mark ∷ []) in
@@ -66,27 +71,36 @@ after_mark {r} {more} {act} {T} {h} out' mark (taken, (p, at)) advances one fit 
 pub as_acts : {r : Replay} {acts acts' : List Act} {T : Type 0} {h : Hand} → acts ≡ acts' → T × SoFar r acts h → T × SoFar r acts' h
 as_acts {r} {h = h} same so = (so.0, subst (λ (xs : List Act). SoFar r xs h) same so.1)
 
+-- What a hand had so far is had by the same hand otherwise written.
 pub as_hand : {r : Replay} {acts : List Act} {h h' : Hand} → h ≡ h' → SoFar r acts h → SoFar r acts h'
 as_hand {r} {acts} same so = subst (λ (k : Hand). SoFar r acts k) same so
 
-pub as_read : {r : Replay} {acts acts' : List Act} {T : Type 0} {h : Hand} {epoch : ℕ} → acts ≡ acts' → T × (p : Progress) × IsAt r acts h p × (p.epoch ≡ epoch) → T × (p : Progress) × IsAt r acts' h p × (p.epoch ≡ epoch)
+-- What stands before some acts after a reading of the epoch stands before the same acts otherwise written.
+pub as_read : {r : Replay} {acts acts' : List Act} {T : Type 0} {h : Hand} {epoch : ℕ} → acts ≡ acts' → T × (p : Progress) × IsAt r acts h p × (p.epoch ≡ epoch)
+    → T × (p : Progress) × IsAt r acts' h p × (p.epoch ≡ epoch)
 as_read {r} {h = h} {epoch} same so = let rest = subst (λ (xs : List Act). (p : Progress) × IsAt r xs h p × (p.epoch ≡ epoch)) same (so.1, so.2, so.3) in (so.0, rest.0, rest.1, rest.2)
 
 -- .. where the first ones are alike
-pub as_first : {r : Replay} {acts acts' : List Act} {T : Type 0} {h : Hand} (more : List Act) → acts ≡ acts' → T × SoFar r (acts ++ more) h → T × SoFar r (acts' ++ more) h
+pub as_first : {r : Replay} {acts acts' : List Act} {T : Type 0} {h : Hand} (more : List Act) → acts ≡ acts' → T × SoFar r (acts ++ more) h
+    → T × SoFar r (acts' ++ more) h
 as_first more same so = as_acts (ap (λ (xs : List Act). xs ++ more) same) so
 
 -- .. where all are
 module _ {r : Replay} {T : Type 0} {h : Hand} (to : ℕ → Act) (i n : ℕ) (more : List Act) where
-  pub next_number : i < n → T × SoFar r (map to (numbers_from (i + 1) (n - i)) ++ more) h → T × SoFar r (to (i + 1) ∷ (map to (numbers_from (i + 1 + 1) (n - (i + 1))) ++ more)) h
+  -- Where acts of actors from one on come next, that of the first of them does, and then those past it.
+  pub next_number : i < n → T × SoFar r (map to (numbers_from (i + 1) (n - i)) ++ more) h
+      → T × SoFar r (to (i + 1) ∷ (map to (numbers_from (i + 1 + 1) (n - (i + 1))) ++ more)) h
   next_number lt so = as_first more (ap (λ (ks : List ℕ). map to ks) (number_next (i + 1) (n - i) (n - (i + 1)) (omega (arith, lt)))) so
 
+  -- Past the last actor, what comes next are the acts behind theirs.
   pub no_number : n ≤ i → T × SoFar r (map to (numbers_from (i + 1) (n - i)) ++ more) h → T × SoFar r more h
   no_number le so = as_first more (ap (λ (ks : List ℕ). map to ks) (number_last (i + 1) (n - i) (omega (arith, le)))) so
 
 -- .. where they are those of the keepers
 module _ {r : Replay} {T : Type 0} {h : Hand} (i : ℕ) (more : List Act) where
-  pub next_keeper : (keeper : ℕ) → keeper ≡ r.threads + (i + 1) → i < r.keepers → T × SoFar r (map Lowers (numbers_from (r.threads + (i + 1)) (r.keepers - i)) ++ more) h
+  -- Where the keepers from one on lower their guards next, the first of them does, and then those past it.
+  pub next_keeper : (keeper : ℕ) → keeper ≡ r.threads + (i + 1) → i < r.keepers
+      → T × SoFar r (map Lowers (numbers_from (r.threads + (i + 1)) (r.keepers - i)) ++ more) h
       → T × SoFar r (Lowers keeper ∷ (map Lowers (numbers_from (r.threads + (i + 1 + 1)) (r.keepers - (i + 1))) ++ more)) h
   next_keeper keeper is lt so =
       let k = r.threads + (i + 1) in
@@ -95,6 +109,7 @@ module _ {r : Replay} {T : Type 0} {h : Hand} (i : ℕ) (more : List Act) where
       as_first more (ap (λ (ks : List ℕ). map Lowers ks) (number_next k (r.keepers - i) m (omega (arith, lt))) ∙ ap (λ (n : ℕ). Lowers k ∷ map Lowers (numbers_from n m)) next
       ∙ ap (λ (n : ℕ). Lowers n ∷ map Lowers (numbers_from (r.threads + (i + 1 + 1)) m)) (sym is)) so
 
+  -- Past the last keeper, what comes next are the acts behind theirs.
   pub no_keeper : r.keepers ≤ i → T × SoFar r (map Lowers (numbers_from (r.threads + (i + 1)) (r.keepers - i)) ++ more) h → T × SoFar r more h
   no_keeper le so = as_first more (ap (λ (ks : List ℕ). map Lowers ks) (number_last (r.threads + (i + 1)) (r.keepers - i) (omega (arith, le)))) so
 
@@ -103,13 +118,16 @@ module _ {r : Replay} {T : Type 0} {h : Hand} (i : ℕ) (more : List Act) where
 abbrev pub past : Op
 past = record { line = 0; actor = 0; what = Alloc 0 0 0 0 }
 
-pub at_next : {r : Replay} {T : Type 0} {h : Hand} (idle : List ℕ) (more : List Act) (ops : List Op) (i : ℕ) → i < length ops → T × SoFar r (acts_of_ops idle (drop i ops) ++ more) h
+-- Where operations from one on come next, the acts of that operation do, and then those of the others.
+pub at_next : {r : Replay} {T : Type 0} {h : Hand} (idle : List ℕ) (more : List Act) (ops : List Op) (i : ℕ) → i < length ops
+    → T × SoFar r (acts_of_ops idle (drop i ops) ++ more) h
     → T × SoFar r (acts_of_op idle (get_or ops i past) ++ (acts_of_ops idle (drop (i + 1) ops) ++ more)) h
 at_next idle more ops i lt so =
     as_acts (append_assoc (acts_of_op idle (get_or ops i past)) (acts_of_ops idle (drop (i + 1) ops)) more) (as_first more (ap (λ (os : List Op). acts_of_ops idle os) (drop_more ops i past lt)) so)
 
 -- the phase begins: first its threads wake
-pub wakes_first : {r : Replay} {T : Type 0} {h : Hand} (awake : Mask4) (ops : List Op) (more : List Act) → ((k : ℕ) → is_set awake k ≡ is_active ops k) → T × SoFar r (phase_acts r.threads ops ++ more) h
+pub wakes_first : {r : Replay} {T : Type 0} {h : Hand} (awake : Mask4) (ops : List Op) (more : List Act) → ((k : ℕ) → is_set awake k ≡ is_active ops k)
+    → T × SoFar r (phase_acts r.threads ops ++ more) h
     → T × SoFar r (map Wakes (awake_in awake r.threads) ++ (acts_of_ops (idle_in awake r.threads) ops ++ more)) h
 wakes_first {r} awake ops more alike so =
     let n = r.threads in

@@ -27,15 +27,26 @@ use Rattle.pas_replay.specs.Operating.{ActsByIndexes}
 use Rattle.pas_replay.proofs.Turning.{hand, AsksNoIndex, thread_now, later_for, thread_turn}
 
 -- ---- an act of a thread for which no name stands: it wakes, it is stopped where it is idle, it ends
-pub rests_now : {r : Replay} {more : List Act} {act : Act} {desk desk1 : PlainDesk} {passes passes1 : Slots} {caches : List ThreadCache} {books : List GuardBook} {places : ℕ} {indexes : Indexes} {table : Names} {out : Records} {p : Progress} (k extra : ℕ) (there : ThreadCache) → 1 ≤ k → k ≤ length caches → own_cost_of_act k act ≡ 0
-    → cost_of_act r.profile act ≡ extra → TakesSeat desk desk1 passes passes1 k → there ≡ get_or caches (k - 1) there → IsAt r (act ∷ more) (hand desk passes caches books places indexes table out) p → RestsAt r.profile k (standing_of desk1) (cached there) out (later_for r k p more extra) p
+pub rests_now : {r : Replay} {more : List Act} {act : Act} {desk desk1 : PlainDesk} {passes passes1 : Slots} {caches : List ThreadCache}
+      {books : List GuardBook} {places : ℕ} {indexes : Indexes} {table : Names} {out : Records} {p : Progress} (k extra : ℕ) (there : ThreadCache)
+    → 1 ≤ k → k ≤ length caches → own_cost_of_act k act ≡ 0
+    → cost_of_act r.profile act ≡ extra → TakesSeat desk desk1 passes passes1 k → there ≡ get_or caches (k - 1) there
+    → IsAt r (act ∷ more) (hand desk passes caches books places indexes table out) p
+    → RestsAt r.profile k (standing_of desk1) (cached there) out (later_for r k p more extra) p
 rests_now {more = more} {caches = caches} {p = p} k extra there some within own cost seat is at =
     rests_for (thread_now k 0 extra more some within seat (there_is p.caches caches k there some within at.caches_are is) (omega (arith, own)) (omega (arith, cost)) at) (omega arith) (omega arith)
 
-pub act_turn : {r : Replay} {more : List Act} {act : Act} {desk desk1 desk2 : PlainDesk} {passes passes1 : Slots} {caches : List ThreadCache} {books : List GuardBook} {places : ℕ} {indexes : Indexes} {table : Names} {out out1 out2 : Records} {p : Progress} {told : List Record} {extra : ℕ} (k : ℕ) (there cache : ThreadCache)
-    → 1 ≤ k → k ≤ length caches → ((limit : ℕ) (asked : List ℕ) → AreFit r.profile limit asked (act ∷ more) → AreFit r.profile limit asked more) → AsksNoIndex r.profile act → TakesSeat desk desk1 passes passes1 k → there ≡ get_or caches (k - 1) there
-    → IsAt r (act ∷ more) (hand desk passes caches books places indexes table out) p → (did : ThreadActs r.profile k (act ∷ []) [] told (here (standing_of desk1) (cached there) out) (here (standing_of desk2) (cached cache) out1) (later_for r k p more extra) p) → length told ≤ extra
-    → records_in out2 ≡ records_in out1 ++ told → room_of out2 ≡ room_of out1 → IsTaken desk2 passes1 × IsAt r more (hand desk2 passes1 (set caches (k - 1) cache) books places indexes table out2) did.reached
+-- An act that a thread did at its seat takes the replay on, with all others standing as before.
+pub act_turn : {r : Replay} {more : List Act} {act : Act} {desk desk1 desk2 : PlainDesk} {passes passes1 : Slots} {caches : List ThreadCache}
+    {books : List GuardBook} {places : ℕ} {indexes : Indexes} {table : Names} {out out1 out2 : Records} {p : Progress} {told : List Record} {extra : ℕ} (k : ℕ)
+    (there cache : ThreadCache)
+    → 1 ≤ k → k ≤ length caches → ((limit : ℕ) (asked : List ℕ) → AreFit r.profile limit asked (act ∷ more) → AreFit r.profile limit asked more)
+    → AsksNoIndex r.profile act → TakesSeat desk desk1 passes passes1 k → there ≡ get_or caches (k - 1) there
+    → IsAt r (act ∷ more) (hand desk passes caches books places indexes table out) p
+    → (did : ThreadActs r.profile k (act ∷ []) [] told (here (standing_of desk1) (cached there) out) (here (standing_of desk2) (cached cache) out1) (later_for r k p more extra) p)
+    → length told ≤ extra
+    → records_in out2 ≡ records_in out1 ++ told → room_of out2 ≡ room_of out1
+    → IsTaken desk2 passes1 × IsAt r more (hand desk2 passes1 (set caches (k - 1) cache) books places indexes table out2) did.reached
 act_turn {r} {more} {act} {caches = caches} {indexes = indexes} {table = table} {p = p} k there cache some within fit asks seat is at did few added room =
     let names = at.names in
     let asked = asks indexes p did.reaches.0 did.reaches.1 in
@@ -48,8 +59,12 @@ set_stands f true came old new is now before = subst (MayStand f) (sym is) now
 set_stands f false came old new is now before = subst (MayStand f) (sym is) before
 
 -- ---- an operation of thread k, which asks for `what`
-pub may_operate : {r : Replay} {more : List Act} {op : Op} {what : What} {desk desk1 : PlainDesk} {passes passes1 : Slots} {caches : List ThreadCache} {books : List GuardBook} {places : ℕ} {indexes : Indexes} {table : Names} {out : Records} {p : Progress} {meant : Option Block} (k : ℕ) (there : ThreadCache) → op.actor ≡ k → op.what ≡ what → 1 ≤ k → k ≤ length caches
-    → TakesSeat desk desk1 passes passes1 k → there ≡ get_or caches (k - 1) there → meant ≡ freed_by (block_named table) what → IsAt r (Operates op ∷ (Settles op.actor ∷ more)) (hand desk passes caches books places indexes table out) p
+pub may_operate : {r : Replay} {more : List Act} {op : Op} {what : What} {desk desk1 : PlainDesk} {passes passes1 : Slots} {caches : List ThreadCache}
+      {books : List GuardBook} {places : ℕ} {indexes : Indexes} {table : Names} {out : Records} {p : Progress} {meant : Option Block} (k : ℕ)
+      (there : ThreadCache)
+    → op.actor ≡ k → op.what ≡ what → 1 ≤ k → k ≤ length caches
+    → TakesSeat desk desk1 passes passes1 k → there ≡ get_or caches (k - 1) there → meant ≡ freed_by (block_named table) what
+    → IsAt r (Operates op ∷ (Settles op.actor ∷ more)) (hand desk passes caches books places indexes table out) p
     → MayOperate r.profile op.actor op.what meant (here (standing_of desk1) (cached there) out) (later_for r op.actor p more 0) p
 may_operate {r} {more} {op} {desk1 = desk1} {caches = caches} {table = table} {out} {p} k there mine asks some within seat is means at =
     let cost = if_same (op.actor == k) (cost_of_what op.what) (eq-eqb op.actor k mine) in
@@ -65,10 +80,15 @@ may_operate {r} {more} {op} {desk1 = desk1} {caches = caches} {table = table} {o
       stands = subst (MayStand r.profile) (sym meaning) (meant_stands r.profile (block_named table) op.what at.names.stand);
     }
 
-pub operate_turn : {r : Replay} {more : List Act} {op : Op} {what : What} {desk desk1 desk2 : PlainDesk} {passes passes1 : Slots} {caches : List ThreadCache} {books : List GuardBook} {places : ℕ} {indexes indexes' : Indexes} {table table' : Names} {out out' : Records} {p : Progress} (k : ℕ) (came : Option Block) (there cache : ThreadCache)
-    → op.actor ≡ k → op.what ≡ what → 1 ≤ k → k ≤ length caches → TakesSeat desk desk1 passes passes1 k → there ≡ get_or caches (k - 1) there → IsAt r (Operates op ∷ (Settles op.actor ∷ more)) (hand desk passes caches books places indexes table out) p
+-- An operation that a thread did at its seat takes the replay on, by what the indexes name.
+pub operate_turn : {r : Replay} {more : List Act} {op : Op} {what : What} {desk desk1 desk2 : PlainDesk} {passes passes1 : Slots} {caches : List ThreadCache}
+    {books : List GuardBook} {places : ℕ} {indexes indexes' : Indexes} {table table' : Names} {out out' : Records} {p : Progress} (k : ℕ) (came : Option Block)
+    (there cache : ThreadCache)
+    → op.actor ≡ k → op.what ≡ what → 1 ≤ k → k ≤ length caches → TakesSeat desk desk1 passes passes1 k → there ≡ get_or caches (k - 1) there
+    → IsAt r (Operates op ∷ (Settles op.actor ∷ more)) (hand desk passes caches books places indexes table out) p
     → ActsByIndexes r.profile op.actor op indexes indexes' (named_by op.what came) (here (standing_of desk1) (cached there) out) (here (standing_of desk2) (cached cache) out') (later_for r op.actor p more 0) p
-    → names_held table' ≡ names_held table → Tells table' (named_by what came ++ p.names) → AllMayStand r.profile table' → IsTaken desk2 passes1 × SoFar r more (hand desk2 passes1 (set caches (k - 1) cache) books places indexes' table' out')
+    → names_held table' ≡ names_held table → Tells table' (named_by what came ++ p.names) → AllMayStand r.profile table'
+    → IsTaken desk2 passes1 × SoFar r more (hand desk2 passes1 (set caches (k - 1) cache) books places indexes' table' out')
 operate_turn {r} {more} {op} {desk1 = desk1} {desk2} {caches = caches} {indexes = indexes} {indexes'} {table = table} {table'} {out} {out'} {p} k came there cache mine asks some within seat is at acted held tells stand =
     let names = at.names in
     let all = subst (λ (j : ℕ). ActsByIndexes r.profile j op indexes indexes' (named_by op.what came) (here (standing_of desk1) (cached there) out) (here (standing_of desk2) (cached cache) out') (later_for r j p more 0) p) mine acted in
@@ -88,16 +108,22 @@ operate_turn {r} {more} {op} {desk1 = desk1} {desk2} {caches = caches} {indexes 
 acts_as_work : (idle : List ℕ) (op : Op) {work work' : Work} → work ≡ work_of op.what → work ≡ work' → acts_of_op idle op ≡ acts_of_work idle op work'
 acts_as_work idle op asks is = ap (λ (w : Work). acts_of_work idle op w) (sym asks ∙ is)
 
-pub acts_as_own : (idle : List ℕ) (op : Op) {work : Work} {task : Task} → work ≡ work_of op.what → work ≡ Work.Own task → acts_of_op idle op ≡ act_kept (keeper_of task) op ∷ (Settles op.actor ∷ [])
+-- The acts of a thread's own task are the operation, kept by its keeper if any, and what is handed on behind it.
+pub acts_as_own : (idle : List ℕ) (op : Op) {work : Work} {task : Task} → work ≡ work_of op.what → work ≡ Work.Own task
+    → acts_of_op idle op ≡ act_kept (keeper_of task) op ∷ (Settles op.actor ∷ [])
 acts_as_own idle op asks is = acts_as_work idle op asks is
 
 -- .. with this keeper, or with none
-pub kept_as : (op : Op) {keeper keeper' : Option ℕ} → keeper ≡ keeper' → act_kept keeper op ∷ (Settles op.actor ∷ []) ≡ act_kept keeper' op ∷ (Settles op.actor ∷ [])
+pub kept_as : (op : Op) {keeper keeper' : Option ℕ} → keeper ≡ keeper'
+    → act_kept keeper op ∷ (Settles op.actor ∷ []) ≡ act_kept keeper' op ∷ (Settles op.actor ∷ [])
 kept_as op is = ap (λ (o : Option ℕ). act_kept o op ∷ (Settles op.actor ∷ [])) is
 
 -- whose they are
-pub own_actor : (keeper : Option ℕ) (op : Op) {r : Replay} {more : List Act} {h : Hand} → SoFar r (act_kept keeper op ∷ (Settles op.actor ∷ more)) h → (1 ≤ op.actor) × (op.actor ≤ r.threads)
+pub own_actor : (keeper : Option ℕ) (op : Op) {r : Replay} {more : List Act} {h : Hand} → SoFar r (act_kept keeper op ∷ (Settles op.actor ∷ more)) h
+    → (1 ≤ op.actor) × (op.actor ≤ r.threads)
 own_actor keeper op i = grind arith
 
-pub acts_as_chore : (idle : List ℕ) (op : Op) {work : Work} {chore chore' : Chore} → work ≡ work_of op.what → work ≡ Work.Chore chore → chore ≡ chore' → acts_of_op idle op ≡ acts_of_chore idle chore'
+-- The acts of an operation that is a chore are those of the chore.
+pub acts_as_chore : (idle : List ℕ) (op : Op) {work : Work} {chore chore' : Chore} → work ≡ work_of op.what → work ≡ Work.Chore chore → chore ≡ chore'
+    → acts_of_op idle op ≡ acts_of_chore idle chore'
 acts_as_chore idle op asks is same = acts_as_work idle op asks is ∙ ap (λ (c : Chore). acts_of_chore idle c) same

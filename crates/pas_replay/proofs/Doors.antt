@@ -34,18 +34,24 @@ module _ {Door : Type 0} (Kept : Door → Door → Type 0) (held : Door → Inde
         → Kept before after × IsNamed route (λ o. o ≡ found_in (held before) heap n) (Unit {0}) found × (held after ≡ after_request route heap n (held before))
     asked_on route heap n found before after h = grind (arith, kept_same)
 
-    asked_for : (f : Profile) (request : Option Request) (found : Option ℕ) (before after : Door) → IsNamedFor f (Answers before after) (after ≡ before) request found → Asked f request found before after
+    asked_for : (f : Profile) (request : Option Request) (found : Option ℕ) (before after : Door)
+        → IsNamedFor f (Answers before after) (after ≡ before) request found → Asked f request found before after
     asked_for f request found before after h = grind (arith, kept_same, asked_on)
 
-    pub handed : (together : (a b c : Door) → Kept a b → Kept b c → Kept a c) (runs : List EndedRun) (before after : Door) → SettlesEach HandsOn runs before after → Kept before after × (held after ≡ with_noted (held before) runs)
+    -- Runs that a door was handed one by one are added to its indexes, in order.
+    pub handed : (together : (a b c : Door) → Kept a b → Kept b c → Kept a c) (runs : List EndedRun) (before after : Door)
+        → SettlesEach HandsOn runs before after → Kept before after × (held after ≡ with_noted (held before) runs)
     handed together [] before after same = (kept_same before after same, ap held same)
     handed together (run ∷ runs) before after (next, one, rest) =
         let later = handed together runs next after rest in
         (together before next after one.0 later.0, later.1 ∙ ap (λ ix. with_noted ix runs) one.1)
 
     -- the acts of an operation by such a door are acts by what it holds
-    pub went_through : (together : (a b c : Door) → Kept a b → Kept b c → Kept a c) (f : Profile) (op : Op) (p q : Progress) (is : Reaches f (Operates op ∷ (Settles op.actor ∷ [])) p q) (before after : Door) → GoesThrough Answers HandsOn f op p q is before after
-        → AllAreNamedBy f (held before) (Operates op ∷ (Settles op.actor ∷ [])) p q is × Kept before after × (held after ≡ indexes_after_all f (Operates op ∷ (Settles op.actor ∷ [])) p q is (held before))
+    pub went_through : (together : (a b c : Door) → Kept a b → Kept b c → Kept a c) (f : Profile) (op : Op) (p q : Progress)
+          (is : Reaches f (Operates op ∷ (Settles op.actor ∷ [])) p q) (before after : Door)
+        → GoesThrough Answers HandsOn f op p q is before after
+        → AllAreNamedBy f (held before) (Operates op ∷ (Settles op.actor ∷ [])) p q is × Kept before after
+          × (held after ≡ indexes_after_all f (Operates op ∷ (Settles op.actor ∷ [])) p q is (held before))
     went_through together f op p q is before after (next, named, settled) =
         let asked = asked_for f (request_by p.names op.what) is.1.0.found before next named in
         let later = handed together (is.0.caches op.actor).noted next after settled in
@@ -62,16 +68,20 @@ noted_many : (runs : List EndedRun) (indexes : Indexes) → length (with_noted i
 noted_many [] indexes = refl
 noted_many (run ∷ runs) indexes = noted_many runs (added_in indexes run.heap run.range) ∙ length-set indexes run.heap (added (span_of run.range) (ranges_of indexes run.heap))
 
-operated_many : (f : Profile) (op : Op) (p q : Progress) (is : Reaches f (Operates op ∷ (Settles op.actor ∷ [])) p q) (indexes : Indexes) → length (indexes_after_all f (Operates op ∷ (Settles op.actor ∷ [])) p q is indexes) ≡ length indexes
+operated_many : (f : Profile) (op : Op) (p q : Progress) (is : Reaches f (Operates op ∷ (Settles op.actor ∷ [])) p q) (indexes : Indexes)
+    → length (indexes_after_all f (Operates op ∷ (Settles op.actor ∷ [])) p q is indexes) ≡ length indexes
 operated_many f op p q is indexes = noted_many (is.0.caches op.actor).noted (after_operation f (request_by p.names op.what) indexes) ∙ after_many f (request_by p.names op.what) indexes
 
 -- a vector whose elements were all written back has what the indexes hold then
-pub noted_back : {indexes indexes' : Indexes} (items : Indexes) (many : ℕ) (runs : List EndedRun) → indexes ≡ items → length indexes ≡ many → indexes' ≡ with_noted indexes runs → take many (indexes' ++ drop (length indexes') items) ≡ with_noted items runs
+pub noted_back : {indexes indexes' : Indexes} (items : Indexes) (many : ℕ) (runs : List EndedRun) → indexes ≡ items → length indexes ≡ many
+    → indexes' ≡ with_noted indexes runs → take many (indexes' ++ drop (length indexes') items) ≡ with_noted items runs
 noted_back {indexes} {indexes'} items many runs is same noted =
     take_at indexes' (drop (length indexes') items) many (ap (λ (ix : Indexes). length ix) noted ∙ noted_many runs indexes ∙ same) ∙ noted ∙ ap (λ (ix : Indexes). with_noted ix runs) is
 
 -- .. so of an operation
-pub written_back : {f : Profile} {k : ℕ} {op : Op} {indexes indexes' : Indexes} {came : List Named} {old new : Here} {later : Later} {p : Progress} (items : Indexes) (many : ℕ) → indexes ≡ items → length indexes ≡ many → ActsByIndexes f k op indexes indexes' came old new later p
+pub written_back : {f : Profile} {k : ℕ} {op : Op} {indexes indexes' : Indexes} {came : List Named} {old new : Here} {later : Later} {p : Progress}
+      (items : Indexes) (many : ℕ)
+    → indexes ≡ items → length indexes ≡ many → ActsByIndexes f k op indexes indexes' came old new later p
     → ActsByIndexes f k op items (take many (indexes' ++ drop (length indexes') items)) came old new later p
 written_back {f} {k} {op} {indexes} {indexes'} {p = p} items many is same acts =
     let did = acts.did in

@@ -26,30 +26,35 @@ pub all_rest : {r : Replay} {acts : List Act} {h : Hand} {p : Progress} → IsAt
 all_rest {r} {p = p} at = search (arith, rests_of_thread, rests_of_keeper)
 
 -- .. before the first of the acts
-pub rest_first : (threads : ℕ) (f : Profile) (acts : List Act) (p q : Progress) (is : Reaches f acts p q) → AllAtRest threads f acts p q is → AreAtRest threads f p.caches p.books p.list
+pub rest_first : (threads : ℕ) (f : Profile) (acts : List Act) (p q : Progress) (is : Reaches f acts p q) → AllAtRest threads f acts p q is
+    → AreAtRest threads f p.caches p.books p.list
 rest_first threads f [] p q is all = all
 rest_first threads f (act ∷ acts) p q is all = all.0
 
 -- .. before one act, and after it
-pub rest_one : (threads : ℕ) (f : Profile) (act : Act) (p q : Progress) (is : Reaches f (act ∷ []) p q) → AreAtRest threads f p.caches p.books p.list → AreAtRest threads f q.caches q.books q.list → AllAtRest threads f (act ∷ []) p q is
+pub rest_one : (threads : ℕ) (f : Profile) (act : Act) (p q : Progress) (is : Reaches f (act ∷ []) p q) → AreAtRest threads f p.caches p.books p.list
+    → AreAtRest threads f q.caches q.books q.list → AllAtRest threads f (act ∷ []) p q is
 rest_one threads f act p q is before after = (before, subst (λ (s : Progress). AreAtRest threads f s.caches s.books s.list) is.2 after)
 
 -- what a cache noted doesn't matter
 before_settled : (f : Profile) (t : Bool) (c own : Cached) (v : View) → (t ≡ true → own ≡ c) → AtRest f (if t then settled c else own) v → AtRest f own v
 before_settled f t c own v h i = grind arith
 
-unsettled : (threads : ℕ) (f : Profile) (p : Progress) (k : ℕ) → AreAtRest threads f (after_settling p k).caches (after_settling p k).books (after_settling p k).list → AreAtRest threads f p.caches p.books p.list
+unsettled : (threads : ℕ) (f : Profile) (p : Progress) (k : ℕ)
+    → AreAtRest threads f (after_settling p k).caches (after_settling p k).books (after_settling p k).list → AreAtRest threads f p.caches p.books p.list
 unsettled threads f p k rest = search (arith, before_settled, eqb-true)
 
 -- .. before an operation, once it is done, and after what its cache noted was handed on
-pub rest_two : (threads : ℕ) (f : Profile) (op : Op) (p q : Progress) (is : Reaches f (Operates op ∷ (Settles op.actor ∷ [])) p q) → AreAtRest threads f p.caches p.books p.list → AreAtRest threads f q.caches q.books q.list
+pub rest_two : (threads : ℕ) (f : Profile) (op : Op) (p q : Progress) (is : Reaches f (Operates op ∷ (Settles op.actor ∷ [])) p q)
+    → AreAtRest threads f p.caches p.books p.list → AreAtRest threads f q.caches q.books q.list
     → AllAtRest threads f (Operates op ∷ (Settles op.actor ∷ [])) p q is
 rest_two threads f op p q is before after =
     let then_settled = subst (λ (s : Progress). AreAtRest threads f s.caches s.books s.list) is.2.2 after in
     (before, (unsettled threads f is.0 op.actor (subst (λ (s : Progress). AreAtRest threads f s.caches s.books s.list) is.2.1 then_settled), then_settled))
 
 -- ---- acts that were answered are followed by others
-pub goes_both : (threads : ℕ) (f : Profile) (indexes : Indexes) (xs ys : List Act) (p q r : Progress) → (one : Reaches f xs p q) → AllAreNamedBy f indexes xs p q one → AllAtRest threads f xs p q one → GoesBy threads f (indexes_after_all f xs p q one indexes) ys q r
+pub goes_both : (threads : ℕ) (f : Profile) (indexes : Indexes) (xs ys : List Act) (p q r : Progress) → (one : Reaches f xs p q)
+    → AllAreNamedBy f indexes xs p q one → AllAtRest threads f xs p q one → GoesBy threads f (indexes_after_all f xs p q one indexes) ys q r
     → GoesBy threads f indexes (xs ++ ys) p r
 goes_both threads f indexes [] ys p q r one named rested two = subst (λ (s : Progress). GoesBy threads f indexes ys s r) one two
 goes_both threads f indexes (x ∷ xs) ys p q r one named rested two =

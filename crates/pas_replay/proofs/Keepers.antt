@@ -51,9 +51,13 @@ and_kept events records guards later = record { events = events + later.events; 
 
 -- ---- the keeper of the thread at place i sits at the desk
 -- where the acts cost it so much, and all records so many, and it tries so many requests among them
-keeper_now : {r : Replay} {acts : List Act} {desk0 desk : PlainDesk} {passes0 passes : Slots} {caches : List ThreadCache} {books : List GuardBook} {places : ℕ} {indexes : Indexes} {table : Names} {out : Records} {p : Progress} (k i : ℕ) (there : GuardBook) (events records guards : ℕ) (more : List Act)
-    → k ≡ r.threads + i → 1 ≤ i → i ≤ length books → TakesSeat desk0 desk passes0 passes k → there ≡ get_or books (i - 1) there → kept_costs_of k acts ≡ events + kept_costs_of k more → costs_of r.profile acts ≡ records + costs_of r.profile more → tries_of k acts ≡ guards + tries_of k more
-    → IsAt r acts (hand desk0 passes0 caches books places indexes table out) p → KeeperAt r.profile k (keeper_has (standing_of desk) there out) (and_kept events records guards (later_kept r k p more)) p
+keeper_now : {r : Replay} {acts : List Act} {desk0 desk : PlainDesk} {passes0 passes : Slots} {caches : List ThreadCache} {books : List GuardBook} {places : ℕ}
+    {indexes : Indexes} {table : Names} {out : Records} {p : Progress} (k i : ℕ) (there : GuardBook) (events records guards : ℕ) (more : List Act)
+    → k ≡ r.threads + i → 1 ≤ i → i ≤ length books → TakesSeat desk0 desk passes0 passes k → there ≡ get_or books (i - 1) there
+    → kept_costs_of k acts ≡ events + kept_costs_of k more → costs_of r.profile acts ≡ records + costs_of r.profile more
+    → tries_of k acts ≡ guards + tries_of k more
+    → IsAt r acts (hand desk0 passes0 caches books places indexes table out) p
+    → KeeperAt r.profile k (keeper_has (standing_of desk) there out) (and_kept events records guards (later_kept r k p more)) p
 keeper_now zero i there events records guards more place some most seat is own all tried at = absurd (omega (arith, place, some))
 keeper_now {r} {acts} {desk0} {desk} {passes0} {passes} {caches} {books} {places} {indexes} {table} {out} {p} (suc j) i there events records guards more place some most seat is own all tried at =
     let f = r.profile in
@@ -71,8 +75,11 @@ keeper_now {r} {acts} {desk0} {desk} {passes0} {passes} {caches} {books} {places
     search arith
 
 -- .. where its last sweep comes next, which costs nothing
-pub keeper_closes : {r : Replay} {more : List Act} {desk0 desk : PlainDesk} {passes0 passes : Slots} {caches : List ThreadCache} {books : List GuardBook} {places : ℕ} {indexes : Indexes} {table : Names} {out : Records} {p : Progress} (k i : ℕ) (there : GuardBook) → k ≡ r.threads + i → 1 ≤ i → i ≤ length books → TakesSeat desk0 desk passes0 passes k
-    → there ≡ get_or books (i - 1) there → IsAt r (Lowers k ∷ more) (hand desk0 passes0 caches books places indexes table out) p → KeeperAt r.profile k (keeper_has (standing_of desk) there out) (later_kept r k p more) p
+pub keeper_closes : {r : Replay} {more : List Act} {desk0 desk : PlainDesk} {passes0 passes : Slots} {caches : List ThreadCache} {books : List GuardBook}
+      {places : ℕ} {indexes : Indexes} {table : Names} {out : Records} {p : Progress} (k i : ℕ) (there : GuardBook)
+    → k ≡ r.threads + i → 1 ≤ i → i ≤ length books → TakesSeat desk0 desk passes0 passes k
+    → there ≡ get_or books (i - 1) there → IsAt r (Lowers k ∷ more) (hand desk0 passes0 caches books places indexes table out) p
+    → KeeperAt r.profile k (keeper_has (standing_of desk) there out) (later_kept r k p more) p
 keeper_closes {r} {more} {p = p} k i there place some most seat is at =
     let now = keeper_now k i there 0 0 0 more place some most seat is (omega arith) (omega arith) (omega arith) at in
     record { sits = sits_for now.sits (omega arith); book = now.book; spare = omega (arith, now.spare); places = omega (arith, now.places) }
@@ -89,7 +96,9 @@ pub record KeeperTurned (r : Replay) (k : ℕ) (acts more : List Act) (there boo
   pub free : (j : ℕ) → own_events r.threads r.profile j more ≤ own_events r.threads r.profile j acts
   pub tries : (j : ℕ) → tries_of j more ≤ tries_of j acts
 
-module _ {r : Replay} {acts more : List Act} {desk0 desk desk' : PlainDesk} {passes0 passes : Slots} {caches : List ThreadCache} {books : List GuardBook} {places : ℕ} {indexes : Indexes} {table : Names} {out : Records} {p q : Progress} (k i : ℕ) (there book : GuardBook) (place : k ≡ r.threads + i) (some : 1 ≤ i) (most : i ≤ length books)
+module _ {r : Replay} {acts more : List Act} {desk0 desk desk' : PlainDesk} {passes0 passes : Slots} {caches : List ThreadCache} {books : List GuardBook}
+    {places : ℕ} {indexes : Indexes} {table : Names} {out : Records} {p q : Progress} (k i : ℕ) (there book : GuardBook) (place : k ≡ r.threads + i)
+    (some : 1 ≤ i) (most : i ≤ length books)
     (seat : TakesSeat desk0 desk passes0 passes k) (is : there ≡ get_or books (i - 1) there) (at : IsAt r acts (hand desk0 passes0 caches books places indexes table out) p) (x : KeeperTurned r k acts more there book desk desk' p q) where
   past : r.threads < k
   past = omega (arith, place, some)
@@ -107,7 +116,8 @@ module _ {r : Replay} {acts more : List Act} {desk0 desk desk' : PlainDesk} {pas
   keeper_was = keeper_owes r.threads r.profile p k past ∙ ap (λ (gs : List Guard). owed_by_keeper r.profile gs (part k p.list)) was
 
   -- what is owed then, and what it owed itself
-  owed_then : owed_by r.threads r.profile q (r.threads + r.keepers) + owed_by_keeper r.profile (guards_in there) (part k p.list) ≡ owed_by r.threads r.profile p (r.threads + r.keepers) + owed_by_keeper r.profile (guards_in book) (part k q.list)
+  owed_then : owed_by r.threads r.profile q (r.threads + r.keepers) + owed_by_keeper r.profile (guards_in there) (part k p.list)
+      ≡ owed_by r.threads r.profile p (r.threads + r.keepers) + owed_by_keeper r.profile (guards_in book) (part k q.list)
   owed_then = search (arith, owed_moves, kept_so, keeper_owes, keeper_was)
 
   -- .. and no more than all owed before
@@ -123,10 +133,15 @@ module _ {r : Replay} {acts more : List Act} {desk0 desk desk' : PlainDesk} {pas
   sits_so = search (arith, lt-leb)
 
 -- the keeper had its turn, after which `more` acts are left
-keeper_turn : {r : Replay} {acts more : List Act} {desk0 desk desk' : PlainDesk} {passes0 passes : Slots} {caches : List ThreadCache} {books : List GuardBook} {places : ℕ} {indexes indexes' : Indexes} {table table' : Names} {out out' : Records} {p q : Progress} (k i : ℕ) (there book : GuardBook) → k ≡ r.threads + i → 1 ≤ i → i ≤ length books
-    → TakesSeat desk0 desk passes0 passes k → there ≡ get_or books (i - 1) there → IsAt r acts (hand desk0 passes0 caches books places indexes table out) p → KeeperTurned r k acts more there book desk desk' p q
-    → ((s : Progress) → GoesBy r.threads r.profile indexes' more q s → GoesBy r.threads r.profile indexes acts p s) → HasNames r.profile more table' q.names → AreOfThreads r.threads more → AreKeptFor r.threads r.keepers more → records_in out' ≡ q.records
-    → length (records_in out') + (owed_by r.threads r.profile q (r.threads + r.keepers) + costs_of r.profile more) ≤ room_of out' → IsTaken desk' passes × IsAt r more (hand desk' passes caches (set books (i - 1) book) places indexes' table' out') q
+keeper_turn : {r : Replay} {acts more : List Act} {desk0 desk desk' : PlainDesk} {passes0 passes : Slots} {caches : List ThreadCache} {books : List GuardBook}
+      {places : ℕ} {indexes indexes' : Indexes} {table table' : Names} {out out' : Records} {p q : Progress} (k i : ℕ) (there book : GuardBook)
+    → k ≡ r.threads + i → 1 ≤ i → i ≤ length books
+    → TakesSeat desk0 desk passes0 passes k → there ≡ get_or books (i - 1) there → IsAt r acts (hand desk0 passes0 caches books places indexes table out) p
+    → KeeperTurned r k acts more there book desk desk' p q
+    → ((s : Progress) → GoesBy r.threads r.profile indexes' more q s → GoesBy r.threads r.profile indexes acts p s) → HasNames r.profile more table' q.names
+    → AreOfThreads r.threads more → AreKeptFor r.threads r.keepers more → records_in out' ≡ q.records
+    → length (records_in out') + (owed_by r.threads r.profile q (r.threads + r.keepers) + costs_of r.profile more) ≤ room_of out'
+    → IsTaken desk' passes × IsAt r more (hand desk' passes caches (set books (i - 1) book) places indexes' table' out') q
 keeper_turn zero i there book place some most seat is at x reaches names operate keep written spare = absurd (omega (arith, place, some))
 keeper_turn {r} {acts} {more} {caches = caches} {books} {p = p} {q} (suc j) i there book place some most seat is at x reaches names operate keep written spare =
     let f = r.profile in
@@ -153,9 +168,12 @@ keeper_turn {r} {acts} {more} {caches = caches} {books} {p = p} {q} (suc j) i th
     }
 
 -- ---- it lowers all its guards, as the replay closes
-pub lower_turn : {r : Replay} {more : List Act} {desk0 desk desk' : PlainDesk} {passes0 passes : Slots} {caches : List ThreadCache} {books : List GuardBook} {places : ℕ} {indexes : Indexes} {table : Names} {out out' : Records} {p : Progress} (k i : ℕ) (there book : GuardBook) → k ≡ r.threads + i → 1 ≤ i → i ≤ length books → TakesSeat desk0 desk passes0 passes k
+pub lower_turn : {r : Replay} {more : List Act} {desk0 desk desk' : PlainDesk} {passes0 passes : Slots} {caches : List ThreadCache} {books : List GuardBook}
+      {places : ℕ} {indexes : Indexes} {table : Names} {out out' : Records} {p : Progress} (k i : ℕ) (there book : GuardBook)
+    → k ≡ r.threads + i → 1 ≤ i → i ≤ length books → TakesSeat desk0 desk passes0 passes k
     → there ≡ get_or books (i - 1) there → IsAt r (Lowers k ∷ more) (hand desk0 passes0 caches books places indexes table out) p
-    → (did : KeeperLowers r.profile k (keeper_has (standing_of desk) there out) (keeper_has (standing_of desk') book out') (later_kept r k p more) p) → IsTaken desk' passes × IsAt r more (hand desk' passes caches (set books (i - 1) book) places indexes table out') did.reached
+    → (did : KeeperLowers r.profile k (keeper_has (standing_of desk) there out) (keeper_has (standing_of desk') book out') (later_kept r k p more) p)
+    → IsTaken desk' passes × IsAt r more (hand desk' passes caches (set books (i - 1) book) places indexes table out') did.reached
 lower_turn {r} {more} {desk0} {desk} {desk'} {indexes = indexes} {table} {out} {out'} {p} k i there book place some most seat is at did =
     let f = r.profile in
     let q = did.reached in
@@ -179,7 +197,9 @@ lower_turn {r} {more} {desk0} {desk} {desk'} {indexes = indexes} {table} {out} {
 
 -- ---- it tries a guarded request
 -- where its keeper gave no block, its thread answers it from there on as any request
-left_to_thread : (threads : ℕ) (f : Profile) (keeper : ℕ) (op : Op) (request : Request) (p : Progress) (indexes : Indexes) (more : List Act) (t : Tried) → AreAtRest threads f p.caches p.books p.list → IsTried f keeper request (part keeper p.list) (p.books keeper) t → request_in op.what ≡ Some request → t.block ≡ None
+left_to_thread : (threads : ℕ) (f : Profile) (keeper : ℕ) (op : Op) (request : Request) (p : Progress) (indexes : Indexes) (more : List Act) (t : Tried)
+    → AreAtRest threads f p.caches p.books p.list → IsTried f keeper request (part keeper p.list) (p.books keeper) t → request_in op.what ≡ Some request
+    → t.block ≡ None
     → (s : Progress) → GoesBy threads f indexes (Operates op ∷ more) (after_trying p keeper t) s → GoesBy threads f indexes (Guards keeper op ∷ more) p s
 left_to_thread threads f keeper op request p indexes more t before tried asks none s ((is, named), rested) =
     let midway = after_trying p keeper t in
@@ -192,8 +212,12 @@ left_to_thread threads f keeper op request p indexes more t before tried asks no
     (((next, all.0, is.2), (all.1, subst (λ (ix : Indexes). AllAreNamedBy f ix more next s is.2) (sym all.2) named.1)), (before, rested.1))
 
 -- .. and where it gave one, its name stands for the block
-done_by_keeper : (threads : ℕ) (f : Profile) (keeper : ℕ) (op : Op) (request : Request) (p : Progress) (block : Block) (indexes : Indexes) (more : List Act) (t : Tried) → AreAtRest threads f p.caches p.books p.list → IsTried f keeper request (part keeper p.list) (p.books keeper) t → request_in op.what ≡ Some request → t.block ≡ Some block
-    → (s : Progress) → GoesBy threads f indexes more (after_giving (after_trying p keeper t) request.name block) s → GoesBy threads f indexes (Guards keeper op ∷ more) p s
+done_by_keeper : (threads : ℕ) (f : Profile) (keeper : ℕ) (op : Op) (request : Request) (p : Progress) (block : Block) (indexes : Indexes) (more : List Act)
+      (t : Tried)
+    → AreAtRest threads f p.caches p.books p.list → IsTried f keeper request (part keeper p.list) (p.books keeper) t → request_in op.what ≡ Some request
+    → t.block ≡ Some block
+    → (s : Progress) → GoesBy threads f indexes more (after_giving (after_trying p keeper t) request.name block) s
+    → GoesBy threads f indexes (Guards keeper op ∷ more) p s
 done_by_keeper threads f keeper op request p block indexes more t before tried asks gave s ((is, named), rested) =
     let midway = after_trying p keeper t in
     let next = after_giving midway request.name block in
@@ -204,7 +228,8 @@ done_by_keeper threads f keeper op request p block indexes more t before tried a
     (((next, all.0, is), (all.1, subst (λ (ix : Indexes). AllAreNamedBy f ix more next s is) (sym all.2) named)), (before, rested))
 
 -- what it costs is the same where its thread answers it
-thread_events : (threads : ℕ) (f : Profile) (keeper : ℕ) (op : Op) (more : List Act) (j : ℕ) → own_events threads f j (Operates op ∷ more) ≤ own_events threads f j (Guards keeper op ∷ more)
+thread_events : (threads : ℕ) (f : Profile) (keeper : ℕ) (op : Op) (more : List Act) (j : ℕ)
+    → own_events threads f j (Operates op ∷ more) ≤ own_events threads f j (Guards keeper op ∷ more)
 thread_events threads f keeper op more j = grind (arith, either_less)
 
 -- the operation asks for this, is of the thread at place i, and keeper k tries it
@@ -213,25 +238,32 @@ pub record AsksKeeper (k i : ℕ) (op : Op) (request : Request) : Type 0 where
   pub cost : cost_of_what op.what ≡ cost_of_size request.size + 2
   pub actor : op.actor ≡ i
 
+-- A guarded request of a plan asks the keeper of its own thread.
 pub asks_keeper : {op : Op} (request : Guarded) (i : ℕ) → op.actor ≡ i → op.what ≡ what_of (task_of request) → AsksKeeper request.keeper i op (asked_by request)
 asks_keeper request i mine is = record { request_is = ap request_in is; cost = ap cost_of_what is; actor = mine }
 
 -- it is the one of the keepers that has the thread's place
-pub its_place : {r : Replay} {more : List Act} {op : Op} {h : Hand} {p : Progress} (k i : ℕ) → op.actor ≡ i → IsAt r (Guards k op ∷ more) h p → (k ≡ r.threads + i) × (1 ≤ i) × (i ≤ length h.books)
+pub its_place : {r : Replay} {more : List Act} {op : Op} {h : Hand} {p : Progress} (k i : ℕ) → op.actor ≡ i → IsAt r (Guards k op ∷ more) h p
+    → (k ≡ r.threads + i) × (1 ≤ i) × (i ≤ length h.books)
 its_place k i mine at =
     (omega (arith, at.keep.0.0, mine), omega (arith, mine, at.names.fit.2.0), omega (arith, mine, at.keep.0.1, at.kept))
 
 -- what it came to, by whether it gave a block
 pub has_tried_by : (op : Op) (k : ℕ) (before after : Session) (result : Option Block)
-    → (result ≡ None → (r : Replay) (more : List Act) → SoFarAt r (Guards k op ∷ (Settles op.actor ∷ more)) before → SoFarAt r (Operates op ∷ (Settles op.actor ∷ more)) after)
-    → ((block : Block) → result ≡ Some block → (r : Replay) (more : List Act) (table : Names) → HasNamed op (Some block) before.table table → SoFarAt r (Guards k op ∷ (Settles op.actor ∷ more)) before → SoFarAt r (Settles op.actor ∷ more) (session after.desk after.actors table after.out))
+    → (result ≡ None → (r : Replay) (more : List Act) → SoFarAt r (Guards k op ∷ (Settles op.actor ∷ more)) before
+        → SoFarAt r (Operates op ∷ (Settles op.actor ∷ more)) after)
+    → ((block : Block) → result ≡ Some block → (r : Replay) (more : List Act) (table : Names) → HasNamed op (Some block) before.table table
+        → SoFarAt r (Guards k op ∷ (Settles op.actor ∷ more)) before → SoFarAt r (Settles op.actor ∷ more) (session after.desk after.actors table after.out))
     → HasTried op k result before after
 has_tried_by op k before after None left gave = left refl
 has_tried_by op k before after (Some block) left gave = gave block refl
 
 -- before it does
-pub keeper_may : {r : Replay} {more : List Act} {op : Op} {request : Request} {desk0 desk : PlainDesk} {passes0 passes : Slots} {caches : List ThreadCache} {books : List GuardBook} {places : ℕ} {indexes : Indexes} {table : Names} {out : Records} {p : Progress} (k i : ℕ) (there : GuardBook) → AsksKeeper k i op request → k ≡ r.threads + i → 1 ≤ i
-    → i ≤ length books → TakesSeat desk0 desk passes0 passes k → there ≡ get_or books (i - 1) there → IsAt r (Guards k op ∷ more) (hand desk0 passes0 caches books places indexes table out) p
+pub keeper_may : {r : Replay} {more : List Act} {op : Op} {request : Request} {desk0 desk : PlainDesk} {passes0 passes : Slots} {caches : List ThreadCache}
+      {books : List GuardBook} {places : ℕ} {indexes : Indexes} {table : Names} {out : Records} {p : Progress} (k i : ℕ) (there : GuardBook)
+    → AsksKeeper k i op request → k ≡ r.threads + i → 1 ≤ i
+    → i ≤ length books → TakesSeat desk0 desk passes0 passes k → there ≡ get_or books (i - 1) there
+    → IsAt r (Guards k op ∷ more) (hand desk0 passes0 caches books places indexes table out) p
     → KeeperAt r.profile k (keeper_has (standing_of desk) there out) (and_try request.size (later_kept r k p more)) p
 keeper_may {r} {more} {op} {request} {p = p} k i there asks place some most seat is at =
     let cost = asks.cost in
@@ -240,10 +272,15 @@ keeper_may {r} {more} {op} {request} {p = p} k i there asks place some most seat
     keeper_now k i there (cost_of_size request.size) (cost_of_size request.size + 2) 1 more place some most seat is (omega (arith, own)) (omega (arith, cost)) (omega (arith, one)) at
 
 -- where it gave no block
-pub left_turn : {r : Replay} {more : List Act} {op : Op} {request : Request} {desk0 desk desk' : PlainDesk} {passes0 passes : Slots} {caches : List ThreadCache} {books : List GuardBook} {places : ℕ} {indexes : Indexes} {table : Names} {out out' : Records} {p : Progress} {result : Option Block} (k i : ℕ) (there book : GuardBook) → result ≡ None → AsksKeeper k i op request → k ≡ r.threads + i
-    → 1 ≤ i → i ≤ length books → TakesSeat desk0 desk passes0 passes k → there ≡ get_or books (i - 1) there → IsAt r (Guards k op ∷ more) (hand desk0 passes0 caches books places indexes table out) p
+pub left_turn : {r : Replay} {more : List Act} {op : Op} {request : Request} {desk0 desk desk' : PlainDesk} {passes0 passes : Slots} {caches : List ThreadCache}
+      {books : List GuardBook} {places : ℕ} {indexes : Indexes} {table : Names} {out out' : Records} {p : Progress} {result : Option Block} (k i : ℕ)
+      (there book : GuardBook)
+    → result ≡ None → AsksKeeper k i op request → k ≡ r.threads + i
+    → 1 ≤ i → i ≤ length books → TakesSeat desk0 desk passes0 passes k → there ≡ get_or books (i - 1) there
+    → IsAt r (Guards k op ∷ more) (hand desk0 passes0 caches books places indexes table out) p
     → (did : KeeperTries r.profile k request result (keeper_has (standing_of desk) there out) (keeper_has (standing_of desk') book out') (later_kept r k p more) p)
-    → IsTaken desk' passes × IsAt r (Operates op ∷ more) (hand desk' passes caches (set books (i - 1) book) places indexes table out') (after_trying p k did.tried)
+    → IsTaken desk' passes
+      × IsAt r (Operates op ∷ more) (hand desk' passes caches (set books (i - 1) book) places indexes table out') (after_trying p k did.tried)
 left_turn {r} {more} {op} {request} {desk0} {desk} {desk'} {indexes = indexes} {table} {out} {out'} {p} {result} k i there book none asks place some most seat is at did =
     let f = r.profile in
     let q = after_trying p k did.tried in
@@ -266,10 +303,15 @@ left_turn {r} {more} {op} {request} {desk0} {desk} {desk'} {indexes = indexes} {
     (did.pushed ∙ ap (λ (rs : List Record). rs ++ did.tried.records) at.records_are) (omega (arith, change, did.paid, cost, longer, did.room, at.spare))
 
 -- where it gave this block, once the table has it
-pub gave_turn : {r : Replay} {more : List Act} {op : Op} {request : Request} {desk0 desk desk' : PlainDesk} {passes0 passes : Slots} {caches : List ThreadCache} {books : List GuardBook} {places : ℕ} {indexes : Indexes} {table : Names} {out out' : Records} {p : Progress} {result : Option Block} {block : Block} (k i : ℕ) (there book : GuardBook) (table' : Names)
-    → result ≡ Some block → AsksKeeper k i op request → k ≡ r.threads + i → 1 ≤ i → i ≤ length books → TakesSeat desk0 desk passes0 passes k → there ≡ get_or books (i - 1) there → IsAt r (Guards k op ∷ more) (hand desk0 passes0 caches books places indexes table out) p
-    → (did : KeeperTries r.profile k request result (keeper_has (standing_of desk) there out) (keeper_has (standing_of desk') book out') (later_kept r k p more) p) → HasNamed op (Some block) table table'
-    → IsTaken desk' passes × IsAt r more (hand desk' passes caches (set books (i - 1) book) places indexes table' out') (after_giving (after_trying p k did.tried) request.name block)
+pub gave_turn : {r : Replay} {more : List Act} {op : Op} {request : Request} {desk0 desk desk' : PlainDesk} {passes0 passes : Slots} {caches : List ThreadCache}
+    {books : List GuardBook} {places : ℕ} {indexes : Indexes} {table : Names} {out out' : Records} {p : Progress} {result : Option Block} {block : Block}
+    (k i : ℕ) (there book : GuardBook) (table' : Names)
+    → result ≡ Some block → AsksKeeper k i op request → k ≡ r.threads + i → 1 ≤ i → i ≤ length books → TakesSeat desk0 desk passes0 passes k
+    → there ≡ get_or books (i - 1) there → IsAt r (Guards k op ∷ more) (hand desk0 passes0 caches books places indexes table out) p
+    → (did : KeeperTries r.profile k request result (keeper_has (standing_of desk) there out) (keeper_has (standing_of desk') book out') (later_kept r k p more) p)
+    → HasNamed op (Some block) table table'
+    → IsTaken desk' passes
+      × IsAt r more (hand desk' passes caches (set books (i - 1) book) places indexes table' out') (after_giving (after_trying p k did.tried) request.name block)
 gave_turn {r} {more} {op} {request} {desk0} {desk} {desk'} {indexes = indexes} {table} {out} {out'} {p} {result} {block} k i there book table' gave asks place some most seat is at did named =
     let f = r.profile in
     let midway = after_trying p k did.tried in
@@ -307,7 +349,8 @@ owes_settled : (f : Profile) (kind : Bool) (c : Cached) (v : View) → owes_as k
 owes_settled f true c v = refl
 owes_settled f false c v = refl
 
-owed_settled : (f : Profile) (kind : Bool) (c : Cached) (guards : List Guard) (v : View) → records_owed_as kind f (settled c) guards v ≡ records_owed_as kind f c guards v
+owed_settled : (f : Profile) (kind : Bool) (c : Cached) (guards : List Guard) (v : View)
+    → records_owed_as kind f (settled c) guards v ≡ records_owed_as kind f c guards v
 owed_settled f true c guards v = refl
 owed_settled f false c guards v = refl
 
@@ -339,7 +382,9 @@ module _ (threads : ℕ) (f : Profile) (p : Progress) (k : ℕ) where
       let free = less_events threads f (Settles k ∷ []) more j in
       record { pass = st.pass; present = st.present; actor = st.actor; stands = st.stands; rest = rests_then j (part j p.list) st.rest; room = omega (arith, room, owed, free) }
 
-pub settle_turn : {r : Replay} {more : List Act} {h : Hand} {p : Progress} (k : ℕ) (there cache : ThreadCache) → 1 ≤ k → k ≤ length h.caches → there ≡ get_or h.caches (k - 1) there → cached cache ≡ settled (cached there) → IsAt r (Settles k ∷ more) h p
+-- What a thread's cache noted and hands on takes the replay on, with the runs added to the indexes.
+pub settle_turn : {r : Replay} {more : List Act} {h : Hand} {p : Progress} (k : ℕ) (there cache : ThreadCache) → 1 ≤ k → k ≤ length h.caches
+    → there ≡ get_or h.caches (k - 1) there → cached cache ≡ settled (cached there) → IsAt r (Settles k ∷ more) h p
     → IsAt r more (record h { caches = set h.caches (k - 1) cache; indexes = with_noted h.indexes (cached there).noted }) (after_settling p k)
 settle_turn {r} {more} {h} {p} k there cache some most is now at =
     let f = r.profile in

@@ -21,7 +21,8 @@ pub passes_count : (n : ℕ) (rooms : List EventRoom) → length (passes_from n 
 passes_count n [] = refl
 passes_count n (room ∷ rooms) = let m = passes_count (n + 1) rooms in omega (arith, m)
 
-pass_at : (n k : ℕ) (rooms : List EventRoom) (d : PlainPass) (r : EventRoom) → k < length rooms → slice_index_or (passes_from n rooms) k d ≡ pass_for (n + k) (slice_index_or rooms k r)
+pass_at : (n k : ℕ) (rooms : List EventRoom) (d : PlainPass) (r : EventRoom) → k < length rooms
+    → slice_index_or (passes_from n rooms) k d ≡ pass_for (n + k) (slice_index_or rooms k r)
 pass_at n k [] d r bad = absurd (omega (arith, bad))
 pass_at n zero (room ∷ rooms) d r lt = ap (λ j. pass_for j room) (omega arith)
 pass_at n (suc k) (room ∷ rooms) d r lt = pass_at (n + 1) k rooms d r (omega (arith, lt)) ∙ ap (λ j. pass_for j (slice_index_or rooms k r)) (omega arith)
@@ -31,8 +32,10 @@ first_room [] bad = absurd (omega (arith, bad))
 first_room (room ∷ rooms) some = room
 
 -- the actors, whose passes have the rooms, did nothing yet
-pub fresh_actor : (plan : Plan) (sizes : ℕ → Option ℕ) (count : ℕ) (rooms : List EventRoom) (passes : List PlainPass) (places : List (Option PlainPass)) → AreRooms sizes count rooms → ((k : ℕ) → k < count → sizes k ≡ Some (slice_index (bounds_of plan.bounds) k))
-    → passes ≡ passes_from 0 rooms → All (λ pass. PassStands (region_of plan) pass []) passes → places ≡ map Some passes → (k : ℕ) → k < count → IsFresh plan k (pass_in places k)
+pub fresh_actor : (plan : Plan) (sizes : ℕ → Option ℕ) (count : ℕ) (rooms : List EventRoom) (passes : List PlainPass) (places : List (Option PlainPass))
+    → AreRooms sizes count rooms → ((k : ℕ) → k < count → sizes k ≡ Some (slice_index (bounds_of plan.bounds) k))
+    → passes ≡ passes_from 0 rooms → All (λ pass. PassStands (region_of plan) pass []) passes → places ≡ map Some passes → (k : ℕ) → k < count
+    → IsFresh plan k (pass_in places k)
 fresh_actor plan sizes count rooms passes places are bounds is stand placed k lt =
     let all = are.many in
     let same = ap (λ (ps : List PlainPass). length ps) is in

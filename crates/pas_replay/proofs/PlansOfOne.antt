@@ -45,10 +45,12 @@ one_records f (op ∷ ops) all =
     omega (arith, this, rest)
 
 -- ---- what the bounds say
-pub bound_shows : {text : List ℕ} {plan : Plan} → IsPlanOf text plan → threads_of plan ≡ 1 → plan.guard ≡ 0 → slice_index (bounds_of plan.bounds) 0 ≡ 0 → IsOfOneThread plan
+pub bound_shows : {text : List ℕ} {plan : Plan} → IsPlanOf text plan → threads_of plan ≡ 1 → plan.guard ≡ 0 → slice_index (bounds_of plan.bounds) 0 ≡ 0
+    → IsOfOneThread plan
 bound_shows {text} {plan} is one unguarded none =
     record { unguarded = unguarded; threads = one; own = no_records plan.profile (all_ops (phases_of plan)) one (plan_planned is) (sym (every_plan is).scavenger ∙ none) }
 
+-- A plan of one thread has 0 as the scavenger's bound.
 pub one_shows : {text : List ℕ} {plan : Plan} → IsPlanOf text plan → IsOfOneThread plan → slice_index (bounds_of plan.bounds) 0 ≡ 0
 one_shows {text} {plan} is alone = (every_plan is).scavenger ∙ one_records plan.profile (all_ops (phases_of plan)) alone.own
 
@@ -85,7 +87,8 @@ are_all : (f : Profile) (ops : List Op) → ArePlanned f ops → AreOfOne ops �
 are_all f [] all own kept = tt
 are_all f (op ∷ ops) all own kept = (record { planned = all.0; one = own.0; unguarded = no_keeper f op.actor (keeper_in op.what) kept.0 }, are_all f ops all.1 own.1 kept.1)
 
-work_of_one : (f : Profile) (idle : List ℕ) (op : Op) (work : Work) → IsActorBy f work op.actor → IsOfOne op → of_task keeper_of work ≡ None → AreActsOfOne (acts_of_work idle op work)
+work_of_one : (f : Profile) (idle : List ℕ) (op : Op) (work : Work) → IsActorBy f work op.actor → IsOfOne op → of_task keeper_of work ≡ None
+    → AreActsOfOne (acts_of_work idle op work)
 work_of_one f idle op work h i j = grind (arith, not_first)
 
 ops_of_one : (f : Profile) (idle : List ℕ) (ops : List Op) → AllByRecursion (IsPlannedOfOne f) ops → AreActsOfOne (acts_of_ops idle ops)
@@ -111,6 +114,7 @@ acts_of_one : (f : Profile) (phases : List (List Op)) → AllByRecursion (IsPlan
 acts_of_one f [] all = later_of_one f 1 [] all
 acts_of_one f (p ∷ ps) all = (later_of_one f 1 (p ∷ ps) all).1
 
+-- The acts of a plan of one thread are all that thread's.
 pub plan_of_one : {text : List ℕ} {plan : Plan} → IsPlanOf text plan → IsOfOneThread plan → AreActsOfOne (acts_of_plan plan)
 plan_of_one {text} {plan} is alone =
     let f = plan.profile in

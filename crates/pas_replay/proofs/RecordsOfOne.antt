@@ -71,12 +71,14 @@ same_order since (Record.Said k said ∷ rs) own all =
     same_order (since ++ Record.Said k said ∷ []) rs (each_both 1 since (Record.Said k said ∷ []) own (all.0, tt)) all.1 ∙ append_assoc since (Record.Said k said ∷ []) rs
 
 -- ---- the replay
-arranged_same : {text : List ℕ} {plan : Plan} → IsPlanOf text plan → IsOfOneThread plan → (reached : Progress) → Reaches (region_of plan) (acts_of_plan plan) at_start reached
+arranged_same : {text : List ℕ} {plan : Plan} → IsPlanOf text plan → IsOfOneThread plan → (reached : Progress)
+    → Reaches (region_of plan) (acts_of_plan plan) at_start reached
     → arranged OnThreads (region_of plan).threads reached.records ≡ reached.records
 arranged_same {text} {plan} is alone reached answers =
     cc (same_order [] reached.records tt (own_records (region_of plan) (acts_of_plan plan) at_start reached (plan_of_one is alone) tt answers))
 
-replay_of_one : {text : List ℕ} {plan : Plan} {whole : Whole} {records : List Record} → IsPlanOf text plan → IsOfOneThread plan → IsReplay InOrder plan whole records → IsReplay OnThreads plan whole records
+replay_of_one : {text : List ℕ} {plan : Plan} {whole : Whole} {records : List Record} → IsPlanOf text plan → IsOfOneThread plan
+    → IsReplay InOrder plan whole records → IsReplay OnThreads plan whole records
 replay_of_one {text} {plan} {whole} {records} is alone replay = record {
   reached = replay.reached;
   answers = replay.answers;
@@ -96,7 +98,9 @@ replay_of_one {text} {plan} {whole} {records} is alone replay = record {
   rests = tt;
 }
 
-pub shows_of_one : {text : List ℕ} {plan : Plan} {records : List Record} {state : State} → IsPlanOf text plan → IsOfOneThread plan → Shows InOrder plan records state → Shows OnThreads plan records state
+-- What a replay of a plan of one thread shows in the order of the text, it shows as one on threads, too.
+pub shows_of_one : {text : List ℕ} {plan : Plan} {records : List Record} {state : State} → IsPlanOf text plan → IsOfOneThread plan
+    → Shows InOrder plan records state → Shows OnThreads plan records state
 shows_of_one {text} {plan} {records} {state} is alone shows = record {
   whole = shows.whole;
   replay = replay_of_one is alone shows.replay;

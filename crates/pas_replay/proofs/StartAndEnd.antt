@@ -32,10 +32,11 @@ use Rattle.pas_replay.proofs.Going.{all_rest}
 use Rattle.pas_trace.proofs.Keepers.{plan_actors}
 use Rattle.pas_plans.specs.Keepers.{guarded_of}
 use Rattle.pas_plans.proofs.PlanFacts.{plan_operate, plan_fit, plan_own, plan_scavenger, plan_total}
-use Rattle.pas_plans.proofs.{KeeperActs.plan_kept_own, KeeperActs.plan_tries, KeeperActs.plan_keeps, Nothing.nothing_owed, Nothing.nothing, Nothing.no_slots}
+use Rattle.pas_plans.proofs.{KeeperActs.plan_kept_own, KeeperActs.plan_tries, KeeperActs.plan_keeps, Nothing.pages_owed_at_first, Nothing.nothing, Nothing.no_slots}
 
 -- an actor that made no step, which rests
-starts_at : (plan : Plan) (k need : ℕ) (slot : Option PlainPass) (Rest : View → Type 0) → Rest [] → need ≤ slice_index (bounds_of plan.bounds) k → IsFresh plan k slot → SeatStands (region_of plan) k Rest slot [] need
+starts_at : (plan : Plan) (k need : ℕ) (slot : Option PlainPass) (Rest : View → Type 0) → Rest [] → need ≤ slice_index (bounds_of plan.bounds) k
+    → IsFresh plan k slot → SeatStands (region_of plan) k Rest slot [] need
 starts_at plan k need slot Rest rest within fresh =
     record { pass = fresh.pass; present = fresh.present; actor = fresh.actor; stands = fresh.stands; rest = rest; room = omega (arith, fresh.room, within) }
 
@@ -44,14 +45,15 @@ abbrev StartsAs : Bool → Plan → ℕ → Option PlainPass → Type 0
 StartsAs kind plan k slot =
     SeatStands (region_of plan) k (rests_as kind (region_of plan) empty_cache []) slot [] (owes_as kind (region_of plan) empty_cache [] + (if kind then own_costs_of k (acts_of_plan plan) else kept_costs_of k (acts_of_plan plan)))
 
-actor_starts : {text : List ℕ} {plan : Plan} {kit : PlainKit} → IsPlanOf text plan → IsKitOf plan kit → (k : ℕ) → k ≤ (region_of plan).threads → ActorStands (threads_of plan) (region_of plan) k at_start (pass_in kit.actors.passes.items k) (acts_of_plan plan)
+actor_starts : {text : List ℕ} {plan : Plan} {kit : PlainKit} → IsPlanOf text plan → IsKitOf plan kit → (k : ℕ) → k ≤ (region_of plan).threads
+    → ActorStands (threads_of plan) (region_of plan) k at_start (pass_in kit.actors.passes.items k) (acts_of_plan plan)
 actor_starts {text} {plan} {kit} read made zero le = let bound = plan_scavenger read in starts_at plan 0 _ (pass_in kit.actors.passes.items 0) HasNothing nothing (omega (arith, bound)) (made.fresh 0 (omega arith))
 actor_starts {text} {plan} {kit} read made (suc i) le =
     let f = region_of plan in
     let k = suc i in
     let slot = pass_in kit.actors.passes.items k in
     let fresh = made.fresh k (omega (arith, le)) in
-    let owed = nothing_owed f in
+    let owed = pages_owed_at_first f in
     elim (cases_lt (threads_of plan) k) [
       | inl past ↦
           let own = plan_kept_own read k past le in
@@ -67,7 +69,7 @@ actor_starts {text} {plan} {kit} read made (suc i) le =
 
 -- each owes a deed of each page
 all_owed : (f : Profile) (kind : Bool) → records_owed_as kind f empty_cache [] [] ≡ f.pages
-all_owed f kind = grind (arith, nothing_owed)
+all_owed f kind = grind (arith, pages_owed_at_first)
 
 owed_start : (threads : ℕ) (f : Profile) (n : ℕ) → owed_by threads f at_start n ≡ n * f.pages
 owed_start threads f zero = omega arith
@@ -77,7 +79,9 @@ owed_start threads f (suc n) =
     let more = suc-mul n f.pages in
     omega (arith, this, rest, more)
 
-pub start : {text : List ℕ} {plan : Plan} {kit : PlainKit} {out : Records} → IsPlanOf text plan → IsKitOf plan kit → records_in out ≡ [] → plan.total + length (phases_of plan) + 1 ≤ room_of out → SoFar (replay_of plan) (replay_of plan).acts (hand_of kit.region kit.actors kit.names out)
+-- A replay starts at the kit of its plan, with nothing said and all its acts to come.
+pub start : {text : List ℕ} {plan : Plan} {kit : PlainKit} {out : Records} → IsPlanOf text plan → IsKitOf plan kit → records_in out ≡ []
+    → plan.total + length (phases_of plan) + 1 ≤ room_of out → SoFar (replay_of plan) (replay_of plan).acts (hand_of kit.region kit.actors kit.names out)
 start {text} {plan} {kit} {out} read made empty room =
     let actors = plan_actors plan in
     let owed = owed_start (threads_of plan) (region_of plan) (threads_of plan + keepers_of plan) in
@@ -161,7 +165,9 @@ module _ {r : Replay} {h : Hand} (so : SoFar r [] h) (empty : AreEmpty h.caches)
   bare_at : (k : ℕ) → HasNothing (part k so.0.list)
   bare_at k = elim (cases_lt (r.threads + r.keepers) k) [ inl past ↦ subst HasNothing (sym (so.1.nobody k past)) nothing | inr within ↦ bare k (omega (arith, within)) ]
 
-pub shows : {plan : Plan} {region : PlainRegion} (actors : Actors) (table : Names) {out : Records} {state : State} (limit : ℕ) → IsValid (region_of plan) → AreOfThreads (threads_of plan) (acts_of_plan plan) → AreFit (region_of plan) limit [] (acts_of_plan plan)
+-- A replay without acts left, whose actors have nothing, shows its plan by the words of its region.
+pub shows : {plan : Plan} {region : PlainRegion} (actors : Actors) (table : Names) {out : Records} {state : State} (limit : ℕ) → IsValid (region_of plan)
+    → AreOfThreads (threads_of plan) (acts_of_plan plan) → AreFit (region_of plan) limit [] (acts_of_plan plan)
     → SoFar (replay_of plan) [] (hand_of region actors table out) → AreEmpty actors.caches.items → AreLowered actors.books.items
     → the_profile_of state ≡ profile_of region
     → ((l : Whole) → RegionStands region l → (w : Word) → IsWordOf (profile_of region) w → word_in state w ≡ word_after l w)

@@ -36,7 +36,8 @@ use Rattle.pas_replay.proofs.Going.{all_rest, rest_first, rest_one, goes_both}
 use Rattle.pas_replay.proofs.Threads.{OthersKept, set_caches, still_places, owed_kept, owed_moves, owed_at, thread_owes}
 
 -- ---- an actor sits down
-pub may_sit : {f : Profile} {k : ℕ} {Rest : View → Type 0} {region : PlainRegion} {slot : Option PlainPass} {l : Whole} {need : ℕ} → profile_of region ≡ f → RegionStands region l → SeatStands f k Rest slot l need → MaySit region slot k
+pub may_sit : {f : Profile} {k : ℕ} {Rest : View → Type 0} {region : PlainRegion} {slot : Option PlainPass} {l : Whole} {need : ℕ} → profile_of region ≡ f
+    → RegionStands region l → SeatStands f k Rest slot l need → MaySit region slot k
 may_sit {l = l} of stands st = record {
   pass = st.pass;
   present = st.present;
@@ -44,9 +45,11 @@ may_sit {l = l} of stands st = record {
   actor_is = st.actor;
 }
 
-pub may_take : {r : Replay} {acts : List Act} {table : Names} {out : Records} {p : Progress} (desk : PlainDesk) (actors : Actors) (k : ℕ) → k ≤ length actors.caches.items + length actors.books.items → IsTaken desk actors.passes.items → IsAt r acts (hand_at desk actors table out) p
+-- Between two acts each actor of the replay may take the seat at the desk.
+pub may_take_seat : {r : Replay} {acts : List Act} {table : Names} {out : Records} {p : Progress} (desk : PlainDesk) (actors : Actors) (k : ℕ)
+    → k ≤ length actors.caches.items + length actors.books.items → IsTaken desk actors.passes.items → IsAt r acts (hand_at desk actors table out) p
     → MayTakeSeat desk actors.passes.items k
-may_take desk actors k within taken at =
+may_take_seat desk actors k within taken at =
     let sized = risen_length desk actors.passes.items in
     let places = at.actors in
     let many = at.many in
@@ -59,13 +62,17 @@ abbrev pub hand : PlainDesk → Slots → List ThreadCache → List GuardBook �
 hand desk passes caches books places indexes table out = record { region = region_of desk; passes = risen desk passes; caches = caches; books = books; places = places; indexes = indexes; table = table; out = out }
 
 -- .. is what was in hand before it sat down
-pub sat_down : {r : Replay} {acts : List Act} {desk desk' : PlainDesk} {passes passes' : Slots} {k : ℕ} {caches : List ThreadCache} {books : List GuardBook} {places : ℕ} {indexes : Indexes} {table : Names} {out : Records} {p : Progress} → TakesSeat desk desk' passes passes' k
+pub sat_down : {r : Replay} {acts : List Act} {desk desk' : PlainDesk} {passes passes' : Slots} {k : ℕ} {caches : List ThreadCache} {books : List GuardBook}
+      {places : ℕ} {indexes : Indexes} {table : Names} {out : Records} {p : Progress}
+    → TakesSeat desk desk' passes passes' k
     → IsAt r acts (hand desk passes caches books places indexes table out) p → IsAt r acts (hand desk' passes' caches books places indexes table out) p
 sat_down {r} {acts} {desk} {desk'} {passes} {passes'} {k} {caches} {books} {places} {indexes} {table} {out} {p} seat at =
     rw (seat.passes_are, seat.region_is) at
 
 -- ---- at the desk
-module _ {r : Replay} {acts : List Act} {desk0 desk : PlainDesk} {passes0 passes : Slots} {caches : List ThreadCache} {books : List GuardBook} {places : ℕ} {indexes : Indexes} {table : Names} {out : Records} {p : Progress} (k : ℕ) (within : k ≤ r.threads + r.keepers) (seat : TakesSeat desk0 desk passes0 passes k)
+module _ {r : Replay} {acts : List Act} {desk0 desk : PlainDesk} {passes0 passes : Slots} {caches : List ThreadCache} {books : List GuardBook} {places : ℕ}
+    {indexes : Indexes} {table : Names} {out : Records} {p : Progress} (k : ℕ) (within : k ≤ r.threads + r.keepers)
+    (seat : TakesSeat desk0 desk passes0 passes k)
     (before : IsAt r acts (hand desk0 passes0 caches books places indexes table out) p) where
   at : IsAt r acts (hand desk passes caches books places indexes table out) p
   at = sat_down seat before
@@ -82,6 +89,7 @@ module _ {r : Replay} {acts : List Act} {desk0 desk : PlainDesk} {passes0 passes
   stood_now : DeskStands desk (part k p.list) p.list
   stood_now = search (arith, its_pass)
 
+  -- An actor that took its seat sits at the desk as it rested, with room for its acts.
   pub sits_now : Sits r.profile k (rests r.threads r.profile p k) (standing_of desk) p.list (owes r.threads r.profile p k (part k p.list) + own_events r.threads r.profile k acts)
   sits_now = search (arith, stood_now, its_pass)
 
@@ -93,7 +101,9 @@ module _ (threads : ℕ) (f : Profile) (p q : Progress) where
   owes_kept : (j : ℕ) (v : View) → q.caches j ≡ p.caches j → owes threads f q j v ≡ owes threads f p j v
   owes_kept j v h = grind arith
 
-  pub other_stands : {j k : ℕ} {slot slot' : Option PlainPass} (acts more : List Act) (steps : List Made) → k ≢ j → q.list ≡ triples k steps ++ p.list → q.caches j ≡ p.caches j → q.books j ≡ p.books j → slot' ≡ slot
+  -- Another actor than the one that made steps still stands, with its acts that are left.
+  pub other_stands : {j k : ℕ} {slot slot' : Option PlainPass} (acts more : List Act) (steps : List Made) → k ≢ j → q.list ≡ triples k steps ++ p.list
+      → q.caches j ≡ p.caches j → q.books j ≡ p.books j → slot' ≡ slot
       → own_events threads f j more ≤ own_events threads f j acts → ActorStands threads f j p slot acts → ActorStands threads f j q slot' more
   other_stands {j} {k} {slot} {slot'} acts more steps ne list cache book there free st =
       let kept : part j q.list ≡ part j p.list = ap (λ (w : Whole). part j w) list ∙ part_of_others j k steps p.list ne in
@@ -112,14 +122,17 @@ module _ (threads : ℕ) (f : Profile) (p q : Progress) where
 behind : (cost : Act → ℕ) (first more : List Act) → sum_over cost more ≤ sum_over cost (first ++ more)
 behind cost first more = let both = sum_both cost first more in omega (arith, both)
 
+-- A choice is at most another one where both its parts are.
 pub either_less : (t : Bool) (a b a' b' : ℕ) → a ≤ a' → b ≤ b' → (if t then a else b) ≤ (if t then a' else b')
 either_less t a b a' b' h i = grind arith
 
+-- The acts that are left of some make no more events of an actor than all of them.
 pub less_events : (threads : ℕ) (f : Profile) (first more : List Act) (j : ℕ) → own_events threads f j more ≤ own_events threads f j (first ++ more)
 less_events threads f first more zero = behind (unbacks_of_act f) first more
 less_events threads f first more (suc i) =
     either_less (nat_le (suc i) threads) (own_costs_of (suc i) more) (kept_costs_of (suc i) more) (own_costs_of (suc i) (first ++ more)) (kept_costs_of (suc i) (first ++ more)) (behind (own_cost_of_act (suc i)) first more) (behind (kept_cost_of_act (suc i)) first more)
 
+-- The acts that are left of some have no more guarded requests of a keeper than all of them.
 pub less_tries : (first more : List Act) (j : ℕ) → tries_of j more ≤ tries_of j (first ++ more)
 less_tries first more j = behind (tries_of_act j) first more
 
@@ -150,7 +163,9 @@ pub record HaveInHand (r : Replay) (more : List Act) (caches : List ThreadCache)
   pub records_are : records_in out ≡ q.records
   pub spare : length (records_in out) + (owed_by r.threads r.profile q (r.threads + r.keepers) + costs_of r.profile more) ≤ room_of out
 
-module _ {r : Replay} {acts more : List Act} {desk0 desk desk' : PlainDesk} {passes0 passes : Slots} {caches caches' : List ThreadCache} {books books' : List GuardBook} {places places' : ℕ} {indexes indexes' : Indexes} {table table' : Names} {out out' : Records} {p q : Progress} (k : ℕ) (within : k ≤ r.threads + r.keepers)
+module _ {r : Replay} {acts more : List Act} {desk0 desk desk' : PlainDesk} {passes0 passes : Slots} {caches caches' : List ThreadCache}
+    {books books' : List GuardBook} {places places' : ℕ} {indexes indexes' : Indexes} {table table' : Names} {out out' : Records} {p q : Progress} (k : ℕ)
+    (within : k ≤ r.threads + r.keepers)
     (seat : TakesSeat desk0 desk passes0 passes k) (before : IsAt r acts (hand desk0 passes0 caches books places indexes table out) p) (x : Turned r k acts more indexes indexes' desk desk' p q) (have : HaveInHand r more caches' books' places' table' out' q) where
   stood_then : DeskStands desk' (x.moves.steps ++ part k p.list) q.list
   stood_then = subst (λ (l : Whole). DeskStands desk' (x.moves.steps ++ part k p.list) l) (ap (λ (m : ℕ). triples m x.moves.steps ++ p.list) seat.actor_is ∙ sym x.moves.list_is)
@@ -170,6 +185,7 @@ module _ {r : Replay} {acts more : List Act} {desk0 desk desk' : PlainDesk} {pas
   same_slot j ne = put_elsewhere passes (actor_of (pass_of desk')) j (Some (pass_of desk')) (λ (e : j ≡ actor_of (pass_of desk')). ne (e ∙ x.sits.actor))
       ∙ sym (put_elsewhere passes (actor_of (pass_of desk)) j (Some (pass_of desk)) (λ (e : j ≡ actor_of (pass_of desk)). ne (e ∙ seat.actor_is))) ∙ ap (λ (ps : Slots). pass_in ps j) seat.passes_are
 
+  -- An actor that took its seat and did its acts leaves the replay where the acts after them come next.
   pub turn : IsTaken desk' passes × IsAt r more (hand desk' passes caches' books' places' indexes' table' out') q
   turn = (
     let lt = has_place k within seat before in omega (arith, x.sits.actor, lt),
@@ -199,7 +215,9 @@ module _ {r : Replay} {acts more : List Act} {desk0 desk desk' : PlainDesk} {pas
   )
 
 -- the actor alone made the steps between, and its cache and its book alone changed
-pub kept_by_moves : {k : ℕ} {Rest Rest' : View → Type 0} {desk desk' : PlainDesk} {p q : Progress} → Moves k Rest Rest' (standing_of desk) (standing_of desk') p q → ((j : ℕ) → j ≢ k → q.caches j ≡ p.caches j) → ((j : ℕ) → j ≢ k → q.books j ≡ p.books j) → OthersKept k p q
+pub kept_by_moves : {k : ℕ} {Rest Rest' : View → Type 0} {desk desk' : PlainDesk} {p q : Progress}
+    → Moves k Rest Rest' (standing_of desk) (standing_of desk') p q → ((j : ℕ) → j ≢ k → q.caches j ≡ p.caches j) → ((j : ℕ) → j ≢ k → q.books j ≡ p.books j)
+    → OthersKept k p q
 kept_by_moves {k} {p = p} moves caches books = search (arith, part_of_others)
 
 -- ---- an actor behind the scavenger, which is a thread or a keeper
@@ -217,8 +235,12 @@ later_for r k p more extra =
     record { events = own_costs_of k more; records = (owed_by r.threads r.profile p (r.threads + r.keepers) - owed_events r.profile (p.caches k) (part k p.list)) + (costs_of r.profile more + extra) }
 
 -- it rests at the desk, with room for acts of this cost
-pub thread_now : {r : Replay} {acts : List Act} {desk0 desk : PlainDesk} {passes0 passes : Slots} {caches : List ThreadCache} {books : List GuardBook} {places : ℕ} {indexes : Indexes} {table : Names} {out : Records} {p : Progress} {c : Cached} (k cost extra : ℕ) (more : List Act) → 1 ≤ k → k ≤ length caches → TakesSeat desk0 desk passes0 passes k
-    → p.caches k ≡ c → own_costs_of k acts ≡ cost + own_costs_of k more → costs_of r.profile acts ≡ cost + (extra + costs_of r.profile more) → IsAt r acts (hand desk0 passes0 caches books places indexes table out) p → RestsAt r.profile k (standing_of desk) c out (and_for cost (later_for r k p more extra)) p
+pub thread_now : {r : Replay} {acts : List Act} {desk0 desk : PlainDesk} {passes0 passes : Slots} {caches : List ThreadCache} {books : List GuardBook}
+      {places : ℕ} {indexes : Indexes} {table : Names} {out : Records} {p : Progress} {c : Cached} (k cost extra : ℕ) (more : List Act)
+    → 1 ≤ k → k ≤ length caches → TakesSeat desk0 desk passes0 passes k
+    → p.caches k ≡ c → own_costs_of k acts ≡ cost + own_costs_of k more → costs_of r.profile acts ≡ cost + (extra + costs_of r.profile more)
+    → IsAt r acts (hand desk0 passes0 caches books places indexes table out) p
+    → RestsAt r.profile k (standing_of desk) c out (and_for cost (later_for r k p more extra)) p
 thread_now zero cost extra more some most seat cache own costs at = absurd (omega (arith, some))
 thread_now {r} {acts} {desk0} {desk} {passes0} {passes} {p = p} {c} (suc i) cost extra more some most seat cache own costs at =
     let f = r.profile in
@@ -231,7 +253,10 @@ thread_now {r} {acts} {desk0} {desk} {passes0} {passes} {p = p} {c} (suc i) cost
     -- its seat and its cache are those; there is room for what it owes, within what all owe, and for what the acts ask
     search arith
 
-pub thread_turn : {r : Replay} {first more : List Act} {desk0 desk desk' : PlainDesk} {passes0 passes : Slots} {caches : List ThreadCache} {books : List GuardBook} {places : ℕ} {indexes indexes' : Indexes} {table table' : Names} {out out1 out2 : Records} {p : Progress} {c : Cached} {came : List Named} {told : List Record} {extra : ℕ}
+-- A thread that took its seat and did its acts leaves the replay where the acts after them come next.
+pub thread_turn : {r : Replay} {first more : List Act} {desk0 desk desk' : PlainDesk} {passes0 passes : Slots} {caches : List ThreadCache}
+    {books : List GuardBook} {places : ℕ} {indexes indexes' : Indexes} {table table' : Names} {out out1 out2 : Records} {p : Progress} {c : Cached}
+    {came : List Named} {told : List Record} {extra : ℕ}
     (k : ℕ) (cache : ThreadCache) → 1 ≤ k → k ≤ length caches → TakesSeat desk0 desk passes0 passes k → p.caches k ≡ c → IsAt r (first ++ more) (hand desk0 passes0 caches books places indexes table out) p
     → (did : ThreadActs r.profile k first came told (here (standing_of desk) c out) (here (standing_of desk') (cached cache) out1) (later_for r k p more extra) p) → AllAreNamedBy r.profile indexes first p did.reached did.reaches → indexes' ≡ indexes_after_all r.profile first p did.reached did.reaches indexes
     → (AreAtRest r.threads r.profile p.caches p.books p.list → AreAtRest r.threads r.profile did.reached.caches did.reached.books did.reached.list → AllAtRest r.threads r.profile first p did.reached did.reaches)
@@ -283,13 +308,22 @@ thread_turn {r} {first} {more} {desk0} {desk} {desk'} {passes0} {passes} {caches
 abbrev pub later_of : Replay → Progress → List Act → Later
 later_of r p more = record { events = unbacks_of r.profile more; records = owed_by r.threads r.profile p (r.threads + r.keepers) + costs_of r.profile more }
 
-pub scavenger_now : {r : Replay} {more : List Act} {act : Act} {desk0 desk : PlainDesk} {passes0 passes : Slots} {caches : List ThreadCache} {books : List GuardBook} {places : ℕ} {indexes : Indexes} {table : Names} {out : Records} {p : Progress} → TakesSeat desk0 desk passes0 passes 0
-    → IsAt r (act ∷ more) (hand desk0 passes0 caches books places indexes table out) p → HasRoomAt r.profile (standing_of desk) out (for_act r.profile act (later_of r p more)) p
+-- The scavenger that took its seat has room for its act that comes next.
+pub scavenger_now : {r : Replay} {more : List Act} {act : Act} {desk0 desk : PlainDesk} {passes0 passes : Slots} {caches : List ThreadCache}
+      {books : List GuardBook} {places : ℕ} {indexes : Indexes} {table : Names} {out : Records} {p : Progress}
+    → TakesSeat desk0 desk passes0 passes 0
+    → IsAt r (act ∷ more) (hand desk0 passes0 caches books places indexes table out) p
+    → HasRoomAt r.profile (standing_of desk) out (for_act r.profile act (later_of r p more)) p
 scavenger_now seat at = let spare = at.spare in record { sits = sits_for (sits_now 0 (omega arith) seat at) (omega arith); spare = omega (arith, spare) }
 
-pub scavenger_turn : {r : Replay} {more : List Act} {act : Act} {desk0 desk desk' : PlainDesk} {passes0 passes : Slots} {caches : List ThreadCache} {books : List GuardBook} {places places' : ℕ} {indexes : Indexes} {table : Names} {out out' : Records} {p : Progress} → TakesSeat desk0 desk passes0 passes 0
-    → ((limit : ℕ) (asked : List ℕ) → AreFit r.profile limit asked (act ∷ more) → AreFit r.profile limit asked more) → AsksNoIndex r.profile act → IsAt r (act ∷ more) (hand desk0 passes0 caches books places indexes table out) p
-    → (did : ScavengerActs r.profile act (standing_of desk) (standing_of desk') out out' (later_of r p more) p) → places' ≡ places → IsTaken desk' passes × IsAt r more (hand desk' passes caches books places' indexes table out') did.reached
+-- The scavenger that took its seat and did an act leaves the replay where the acts after it come next.
+pub scavenger_turn : {r : Replay} {more : List Act} {act : Act} {desk0 desk desk' : PlainDesk} {passes0 passes : Slots} {caches : List ThreadCache}
+      {books : List GuardBook} {places places' : ℕ} {indexes : Indexes} {table : Names} {out out' : Records} {p : Progress}
+    → TakesSeat desk0 desk passes0 passes 0
+    → ((limit : ℕ) (asked : List ℕ) → AreFit r.profile limit asked (act ∷ more) → AreFit r.profile limit asked more) → AsksNoIndex r.profile act
+    → IsAt r (act ∷ more) (hand desk0 passes0 caches books places indexes table out) p
+    → (did : ScavengerActs r.profile act (standing_of desk) (standing_of desk') out out' (later_of r p more) p) → places' ≡ places
+    → IsTaken desk' passes × IsAt r more (hand desk' passes caches books places' indexes table out') did.reached
 scavenger_turn {r} {more} {act} {desk0} {desk} {desk'} {passes0} {passes} {caches} {books} {places} {places'} {indexes} {table} {out} {out'} {p} seat fit asks at did same =
     let f = r.profile in
     let q = did.reached in

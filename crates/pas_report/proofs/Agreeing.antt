@@ -15,10 +15,12 @@ deed_agrees : (d : Option Directory) (word : ℕ) → word ≡ word_of_deed d �
 deed_agrees None word e = ap (λ b. not b) (eq-eqb word 0 e)
 deed_agrees (Some d) word e = ap (λ b. not b) (ne_eqb word 0 (λ z. omega arith))
 
+-- A backed word is 1 exactly where the page is backed.
 pub backed_agrees : (b : Bool) (word : ℕ) → word ≡ word_of_backed b → (word == 1) ≡ b
 backed_agrees true word e = eq-eqb word 1 e
 backed_agrees false word e = ne_eqb word 1 (λ z. omega arith)
 
+-- The life word of a grain tells whether a block lives there, and the gives and ends.
 pub life_agrees : (f : Profile) (g word : ℕ) (b : Option Live) (gives ends : ℕ) → IsLifeOf f g word b gives ends → IsLifeWord word (has_block b) gives ends
 life_agrees f g word None gives ends h = bare_life word gives ends h.word_is h.gives_are h.few
 life_agrees f g word (Some b) gives ends h = live_life word gives ends (length_of b.block) h.word_is h.gives_are h.few h.short
@@ -28,7 +30,8 @@ life_after : (l : Whole) (i : ℕ) → word_after l (life_word_at (256 + i)) ≡
 life_after l i = search arith
 
 module _ (state : State) (l : Whole) (has : HasWords state l) (agree : AgreesWithWords (profile_of state) l) where
-  life_totalled : (i : ℕ) → i < grains_in state → IsLifeWord (life_of_grain state i) (has_block (live_in (visible l) (address_at i))) (gives_in (visible l) (address_at i)) (ends_in (visible l) (address_at i))
+  life_totalled : (i : ℕ) → i < grains_in state
+      → IsLifeWord (life_of_grain state i) (has_block (live_in (visible l) (address_at i))) (gives_in (visible l) (address_at i)) (ends_in (visible l) (address_at i))
   life_totalled i h =
       let word : word_after l (life_word_at (256 + i)) ≡ life_of_grain state i = life_after l i ∙ sym (has.words (Word.Life (page_at (i / 256)) (i % 256)) (omega arith, omega arith, omega arith)) in
       let address : 16 * (256 + i) ≡ address_at i = omega arith in

@@ -26,6 +26,7 @@ pub grains_counted : (n : ℕ) (p : ℕ → Bool) → n ≡ 256 → count_below 
 unfolding grains_that
 grains_counted n p all = ap (λ m. count_below m p) all
 
+-- As many grains pass a test as pass an equal one.
 pub grains_same : (p q : ℕ → Bool) → ((b : ℕ) → b < 256 → p b ≡ q b) → grains_that p ≡ grains_that q
 unfolding grains_that
 grains_same p q same = count_same 256 p q same
@@ -41,6 +42,8 @@ four_words v a b c d first second third fourth (suc (suc zero)) few = third
 four_words v a b c d first second third fourth (suc (suc (suc zero))) few = fourth
 four_words v a b c d first second third fourth (suc (suc (suc (suc n)))) few = absurd (omega arith)
 
-pub four_counted : (v : ℕ → ℕ) (a b c d : ℕ) → a ≡ v 0 → b ≡ v 1 → c ≡ v 2 → d ≡ v 3 → set_count (a ∷ b ∷ c ∷ d ∷ []) ≡ grains_that (λ g. has_bit (v (g / 64)) (g % 64))
+-- The set bits of four free words are the free grains of a page.
+pub four_counted : (v : ℕ → ℕ) (a b c d : ℕ) → a ≡ v 0 → b ≡ v 1 → c ≡ v 2 → d ≡ v 3
+    → set_count (a ∷ b ∷ c ∷ d ∷ []) ≡ grains_that (λ g. has_bit (v (g / 64)) (g % 64))
 unfolding set_count grains_that
 four_counted v a b c d first second third fourth = count_same 256 _ _ (λ g h. ap (λ w. has_bit w (g % 64)) (four_words v a b c d first second third fourth (g / 64) (omega (arith, h))))

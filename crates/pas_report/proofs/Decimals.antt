@@ -13,12 +13,15 @@ same_digit n small = let t : nat_lt n 10 ≡ true = lt-ltb n 10 small in rw t re
 same_pair : (n : ℕ) → n < 100 → (48 + n / 10) ∷ (48 + n % 10) ∷ [] ≡ hex_digit (n / 10) ∷ hex_digit (n % 10) ∷ []
 same_pair n small i = same_digit (n / 10) (omega arith) i ∷ same_digit (n % 10) (omega arith) i ∷ []
 
+-- A number below 10 has one digit.
 pub one_digit : (n : ℕ) → n < 10 → decimal n ≡ hex_digit n ∷ []
 one_digit n small = decimal_digit n small ∙ ap (λ d. d ∷ []) (same_digit n small)
 
+-- A number from 10 to 99 has two digits.
 pub two_digits : (n : ℕ) → 10 ≤ n → n < 100 → decimal n ≡ hex_digit (n / 10) ∷ hex_digit (n % 10) ∷ []
 two_digits n large small = decimal_two n large small ∙ same_pair n small
 
+-- A number from 100 to 999 has three digits.
 pub three_digits : (n : ℕ) → 100 ≤ n → n < 1000 → decimal n ≡ hex_digit (n / 100) ∷ hex_digit (n % 100 / 10) ∷ hex_digit (n % 100 % 10) ∷ []
 three_digits n large small = decimal_pair n large (omega arith) ∙ (λ i. one_digit (n / 100) (omega arith) i ++ same_pair (n % 100) (omega arith) i)
 
@@ -38,6 +41,7 @@ digit_among (suc k) n t h =
       | inr g ↦ digit_among k n (and_r _ (are_digits k) t) (omega arith)
     ]
 
+-- The digit at a place of the table is that number's.
 pub digit_at : (n : ℕ) → n < 16 → slice_range digits n (n + 1) ≡ hex_digit n ∷ []
 digit_at n small =
     let one : n + 1 - n ≡ 1 = omega arith in

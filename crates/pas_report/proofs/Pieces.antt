@@ -8,11 +8,13 @@ use Rattle.pas_report.specs.Counts.{page_by_words, pages_by_words, pages_of, rep
 use Rattle.pas_report.specs.Pieces.{IsPutOut}
 
 -- a text that was written whole
-pub flushed : (before now after : Option (List ℕ)) (waiting text : List ℕ) → IsPutOut before now waiting text → Writes now after waiting → Writes before after text
+pub flushed : (before now after : Option (List ℕ)) (waiting text : List ℕ) → IsPutOut before now waiting text → Writes now after waiting
+    → Writes before after text
 flushed before now after waiting text out wrote = subst (Writes before after) (sym out.text_is) (writes_more before now after out.written waiting out.writes wrote)
 
 -- all that waited was written
-pub put_all : (before now after : Option (List ℕ)) (waiting waiting' text : List ℕ) → waiting' ≡ [] → IsPutOut before now waiting text → Writes now after waiting → IsPutOut before after waiting' text
+pub put_all : (before now after : Option (List ℕ)) (waiting waiting' text : List ℕ) → waiting' ≡ [] → IsPutOut before now waiting text
+    → Writes now after waiting → IsPutOut before after waiting' text
 put_all before now after waiting waiting' text none out wrote = record {
   written = text;
   text_is = sym (append-nil text) ∙ ap (λ (t : List ℕ). text ++ t) (sym none);
@@ -20,15 +22,19 @@ put_all before now after waiting waiting' text none out wrote = record {
 }
 
 -- a line more waits
-pub put_more : (before now : Option (List ℕ)) (waiting waiting' text line : List ℕ) → waiting' ≡ waiting ++ line → IsPutOut before now waiting text → IsPutOut before now waiting' (text ++ line)
+pub put_more : (before now : Option (List ℕ)) (waiting waiting' text line : List ℕ) → waiting' ≡ waiting ++ line → IsPutOut before now waiting text
+    → IsPutOut before now waiting' (text ++ line)
 put_more before now waiting waiting' text line is out = search (arith, append_assoc)
 
 -- a failed write
-pub front_out : (before now after : Option (List ℕ)) (waiting text : List ℕ) → IsPutOut before now waiting text → WritesFront now after waiting → WritesFront before after text
+pub front_out : (before now after : Option (List ℕ)) (waiting text : List ℕ) → IsPutOut before now waiting text → WritesFront now after waiting
+    → WritesFront before after text
 front_out before now after waiting text out (front, back, is, wrote) =
     (out.written ++ front, back, out.text_is ∙ ap (λ (t : List ℕ). out.written ++ t) is ∙ sym (append_assoc out.written front back), writes_more before now after out.written front out.writes wrote)
 
-pub front_longer : (before after : Option (List ℕ)) (text more whole : List ℕ) → whole ≡ text ++ more → WritesFront before after text → WritesFront before after whole
+-- A first part that was written of a text is one of each longer text.
+pub front_longer : (before after : Option (List ℕ)) (text more whole : List ℕ) → whole ≡ text ++ more → WritesFront before after text
+    → WritesFront before after whole
 front_longer before after text more whole longer (front, back, is, wrote) = (front, back ++ more, longer ∙ ap (λ (t : List ℕ). t ++ more) is ∙ append_assoc front back more, wrote)
 
 -- ---- the report so far
@@ -54,18 +60,23 @@ split_pages state n (suc k) =
     ap (pages_by_words state) (add-suc n k) ∙ (λ t. split_pages state n k t ++ page_by_words state (sym (add-suc n k) t)) ∙ append_assoc (pages_by_words state n) (pages_between state n k) (page_by_words state (n + suc k))
 
 -- the lines so far are a front of the report
-so_far_front : (state : State) (n : ℕ) → n ≤ pages_of state → report_by_words state ≡ so_far state n ++ (pages_between state n (pages_of state - n) ++ totals_by_words state)
+so_far_front : (state : State) (n : ℕ) → n ≤ pages_of state
+    → report_by_words state ≡ so_far state n ++ (pages_between state n (pages_of state - n) ++ totals_by_words state)
 so_far_front state n within =
     let all : pages_of state ≡ n + (pages_of state - n) = omega arith in
     let pages : pages_by_words state (pages_of state) ≡ pages_by_words state n ++ pages_between state n (pages_of state - n) = ap (pages_by_words state) all ∙ split_pages state n (pages_of state - n) in
     search (arith, append_assoc)
 
-pub report_front : (state : State) (n : ℕ) (before after : Option (List ℕ)) → n ≤ pages_of state → WritesFront before after (so_far state n) → WritesFront before after (report_by_words state)
+-- A first part that was written of the report so far is one of the whole report.
+pub report_front : (state : State) (n : ℕ) (before after : Option (List ℕ)) → n ≤ pages_of state → WritesFront before after (so_far state n)
+    → WritesFront before after (report_by_words state)
 report_front state n before after within wrote = front_longer before after (so_far state n) (pages_between state n (pages_of state - n) ++ totals_by_words state) (report_by_words state) (so_far_front state n within) wrote
 
 -- the lines of all pages, and that of the totals
 report_is : (state : State) (n : ℕ) (line : List ℕ) → n ≡ pages_of state → line ≡ totals_by_words state → so_far state n ++ line ≡ report_by_words state
 report_is state n line all is = (λ t. so_far state (all t) ++ is t) ∙ append_assoc (codes "report\n") (pages_by_words state (pages_of state)) (totals_by_words state)
 
-pub report_put_out : (state : State) (n : ℕ) (line waiting : List ℕ) (before now : Option (List ℕ)) → n ≡ pages_of state → line ≡ totals_by_words state → IsPutOut before now waiting (so_far state n ++ line) → IsPutOut before now waiting (report_by_words state)
+-- The report so far with its totals, put out, is the whole report.
+pub report_put_out : (state : State) (n : ℕ) (line waiting : List ℕ) (before now : Option (List ℕ)) → n ≡ pages_of state → line ≡ totals_by_words state
+    → IsPutOut before now waiting (so_far state n ++ line) → IsPutOut before now waiting (report_by_words state)
 report_put_out state n line waiting before now all is out = record { written = out.written; text_is = sym (report_is state n line all is) ∙ out.text_is; writes = out.writes }

@@ -27,19 +27,22 @@ pub some_of : (n x : ℕ) (p : ℕ → Bool) → x < n → p x ≡ true → some
 some_of zero x p below is = absurd (omega arith)
 some_of (suc n) x p below is = elim (cases_eq x n) [ inl e ↦ or_left (p n) (some_below n p) (ap p (sym e) ∙ is) | inr ne ↦ or_right (p n) (some_below n p) (some_of n x p (omega arith) is) ]
 
+-- Where no number below a bound passes a test, it isn't so that some does.
 pub none_of : (n : ℕ) (p : ℕ → Bool) → ((x : ℕ) → x < n → p x ≡ false) → some_below n p ≡ false
 none_of zero p fails = refl
 none_of (suc n) p fails = or_from (p n) (some_below n p) (fails n (omega arith)) (none_of n p (λ x h. fails x (omega arith)))
 
 -- ---- a grain that nobody holds is free, or a live block covers it
-pub not_covering : (o : Option Live) (address g : ℕ) → ((b : Live) → o ≡ Some b → in_run (address / 16) (length_of b.block) g ≡ true → ⊥) → covers o address g ≡ false
+pub not_covering : (o : Option Live) (address g : ℕ) → ((b : Live) → o ≡ Some b → in_run (address / 16) (length_of b.block) g ≡ true → ⊥)
+    → covers o address g ≡ false
 not_covering None address g apart = refl
 not_covering (Some b) address g apart = false_from_ne_true (in_run (address / 16) (length_of b.block) g) (apart b refl)
 
 free_grain : (l : Whole) (g : ℕ) → IsFreeGrain l g → has_bit (word_after l (free_word_at g)) (g % 64) ≡ not (is_covered (visible l) g)
 free_grain l g at = at.free ∙ sym (ap (λ b. not b) (none_of (g + 1) (λ x. covers (live_in (visible l) (16 * x)) (16 * x) g) (λ x h. not_covering (live_in (visible l) (16 * x)) (16 * x) g (at.no_block (16 * x)))))
 
-covered_grain : (f : Profile) (l : Whole) (g : ℕ) → Legal f l → IsCoveredByOne l g → has_bit (word_after l (free_word_at g)) (g % 64) ≡ not (is_covered (visible l) g)
+covered_grain : (f : Profile) (l : Whole) (g : ℕ) → Legal f l → IsCoveredByOne l g
+    → has_bit (word_after l (free_word_at g)) (g % 64) ≡ not (is_covered (visible l) g)
 covered_grain f l g legal at =
     let aligned = live_is_aligned f l legal at.address at.block at.lives in
     let e : 16 * (at.address / 16) ≡ at.address = omega arith in
@@ -49,11 +52,13 @@ covered_grain f l g legal at =
     (λ t. covers (live_in (visible l) (e t)) (e t) g) ∙ ap (λ o. covers o at.address g) at.lives ∙ at.covered in
     at.not_free ∙ sym (ap (λ b. not b) (some_of (g + 1) (at.address / 16) (λ x. covers (live_in (visible l) (16 * x)) (16 * x) g) (omega arith) here))
 
-free_or_covered : (f : Profile) (l : Whole) (g : ℕ) → Legal f l → NobodyHolds l → IsInOnePlace l g → has_bit (word_after l (free_word_at g)) (g % 64) ≡ not (is_covered (visible l) g)
+free_or_covered : (f : Profile) (l : Whole) (g : ℕ) → Legal f l → NobodyHolds l → IsInOnePlace l g
+    → has_bit (word_after l (free_word_at g)) (g % 64) ≡ not (is_covered (visible l) g)
 free_or_covered f l g legal rests (inl free) = free_grain l g free
 free_or_covered f l g legal rests (inr (inl held)) = absurd (false≢true (sym (rests.nobody held.actor g) ∙ held.holder held.actor ∙ eq-eqb held.actor held.actor refl))
 free_or_covered f l g legal rests (inr (inr covered)) = covered_grain f l g legal covered
 
+-- Where nobody holds a grain, each is free or covered by a live block.
 pub nobody_holds : (f : Profile) (l : Whole) → IsValid f → Legal f l → NobodyHolds l → AreFreeOrCovered f l
 nobody_holds f l valid legal rests = record { grain = λ g page. free_or_covered f l g legal rests (in_one_place f l valid legal g) }
 
@@ -66,6 +71,7 @@ deed_is_read : (o : Option Directory) (word : ℕ) → word ≡ word_of_deed o �
 deed_is_read None word is of = ap directory_read is
 deed_is_read (Some d) word is of = ap directory_read is ∙ read-deed_word_of d (of d refl)
 
+-- The deed word of a page reads as its deed by the events.
 pub deed_read_after : (f : Profile) (l : Whole) → IsValid f → Legal f l → (page : ℕ) → directory_read (word_after l (Word.Deed page)) ≡ deed_in (visible l) page
 deed_read_after f l valid legal page = deed_is_read (deed_in (visible l) page) (word_after l (Word.Deed page)) (deed_of f l legal page) (λ d is. directory_from_profile f d valid (directory_is_of f l legal page d is))
 
@@ -74,6 +80,7 @@ pub backed_after : (f : Profile) (l : Whole) → Legal f l → (page : ℕ) → 
 backed_after f l legal page = backed_agrees (backed_in (visible l) page) (word_after l (Word.Backed page)) (backed_of f l legal page)
 
 module _ (state : State) (l : Whole) (has : HasWords state l) (valid : IsValid (profile_of state)) (legal : Legal (profile_of state) l) where
+  -- The words of a state after a legal list are deed words of its directories.
   pub are_deed_words : AreDeedWords state
   are_deed_words = λ page of.
       deed_is_word (profile_of state) (deed_in (visible l) page) (word_in state (Word.Deed page)) (has.words (Word.Deed page) of ∙ deed_of (profile_of state) l legal page) (directory_is_of (profile_of state) l legal page)
@@ -83,7 +90,8 @@ module _ (state : State) (l : Whole) (has : HasWords state l) (valid : IsValid (
 
   -- ---- the marks
   -- the bit of a page in the vector of its machine's directory
-  offered_same : (page : ℕ) → IsPage (profile_of state) page → (o : Option Directory) → ((d : Directory) → o ≡ Some d → IsDirectoryOf (profile_of state) d) → offered_by state page o ≡ offered_after l page o
+  offered_same : (page : ℕ) → IsPage (profile_of state) page → (o : Option Directory) → ((d : Directory) → o ≡ Some d → IsDirectoryOf (profile_of state) d)
+      → offered_by state page o ≡ offered_after l page o
   offered_same page of None own = refl
   offered_same page of (Some d) own =
       let at = own d refl in
@@ -101,7 +109,8 @@ module _ (state : State) (l : Whole) (has : HasWords state l) (valid : IsValid (
       λ t. record { backed = backed t == 1; offered = offered t; parked = has_bit (parked t) (page % 64); hinted = has_bit (hinted t) (page % 64) }
 
   -- ---- the counts of a page
-  live_at : (page b : ℕ) → IsPage (profile_of state) page → b < 256 → is_live (word_in state (Word.Life page b)) ≡ has_block (live_in (visible l) (16 * (256 * page + b)))
+  live_at : (page b : ℕ) → IsPage (profile_of state) page → b < 256
+      → is_live (word_in state (Word.Life page b)) ≡ has_block (live_in (visible l) (16 * (256 * page + b)))
   live_at page b of small =
       let g : (256 * page + b) / 256 ≡ page = omega arith in
       let low : (256 * page + b) % 256 ≡ b = omega arith in
@@ -115,7 +124,8 @@ module _ (state : State) (l : Whole) (has : HasWords state l) (valid : IsValid (
 
   module _ (free : AreFreeOrCovered (profile_of state) l) (stamps : AreStamped (profile_of state) l) where
     -- the word has the bit of the grain 256 * page + b
-    free_at : (page b : ℕ) → IsPage (profile_of state) page → b < 256 → has_bit (word_in state (Word.Free page (b / 64))) (b % 64) ≡ not (is_covered (visible l) (256 * page + b))
+    free_at : (page b : ℕ) → IsPage (profile_of state) page → b < 256
+        → has_bit (word_in state (Word.Free page (b / 64))) (b % 64) ≡ not (is_covered (visible l) (256 * page + b))
     free_at page b of small = search arith
 
     free_same : (page : ℕ) → IsPage (profile_of state) page → free_counted_on state page ≡ uncovered_on (visible l) page
@@ -125,11 +135,13 @@ module _ (state : State) (l : Whole) (has : HasWords state l) (valid : IsValid (
     stamp_same page of = has.words (Word.Stamp page) of ∙ stamps.stamp page of
 
     -- ---- the lines
-    line_same : (page : ℕ) → IsPage (profile_of state) page → (o : Option Directory) → line_by_words state page o ≡ machine_page (visible l) page o (marks_after l page)
+    line_same : (page : ℕ) → IsPage (profile_of state) page → (o : Option Directory)
+        → line_by_words state page o ≡ machine_page (visible l) page o (marks_after l page)
     line_same page of None = refl
     line_same page of (Some d) = λ t. page_text page d (live_same page of t) (free_same page of t) (stamp_same page of t) (marks_are page of t)
 
-    page_same : (page : ℕ) → IsPage (profile_of state) page → page_by_words state page ≡ machine_page (visible l) page (deed_in (visible l) page) (marks_after l page)
+    page_same : (page : ℕ) → IsPage (profile_of state) page
+        → page_by_words state page ≡ machine_page (visible l) page (deed_in (visible l) page) (marks_after l page)
     page_same page of = ap (line_by_words state page) (deed_read page of) ∙ line_same page of (deed_in (visible l) page)
 
     pages_same : (n : ℕ) → n ≤ pages_of state → pages_by_words state n ≡ machine_pages (visible l) (marks_after l) n

@@ -18,5 +18,6 @@ event_showable : (f : Profile) (k : ℕ) (s : Step) (a : ℕ) (e : Event) → Is
 event_showable f k s a (Event.Deed j page d) of comes = (subst (IsStepOf f) comes.step.0 of).1.kind
 event_showable f k s a e of comes = tt
 
+-- Each event of steps of the region can be shown.
 pub steps_showable : (f : Profile) (k : ℕ) (steps : List Made) (v : View) → AreOfRegion f steps → AreShowable (events_by k v steps)
 steps_showable f k steps v of = each_event IsShowable (λ m before. IsStepOf f m.step) k v (λ m before epoch e of is. event_showable f k m.step m.answer e of (comes_of k epoch m.step m.answer e is)) steps of

@@ -23,7 +23,8 @@ pub record IsLifeWord (word : ℕ) (lives : Bool) (gives ends : ℕ) : Type 0 wh
 pub record AreTotalled (state : State) (es : List Event) : Type 0 where
   pub deed : (i : ℕ) → i < pages_of state → not (word_in state (Word.Deed (page_at i)) == 0) ≡ has_deed (deed_in es (page_at i))
   pub backed : (i : ℕ) → i < pages_of state → (word_in state (Word.Backed (page_at i)) == 1) ≡ backed_in es (page_at i)
-  pub life : (i : ℕ) → i < grains_in state → IsLifeWord (life_of_grain state i) (has_block (live_in es (address_at i))) (gives_in es (address_at i)) (ends_in es (address_at i))
+  pub life : (i : ℕ) → i < grains_in state
+      → IsLifeWord (life_of_grain state i) (has_block (live_in es (address_at i))) (gives_in es (address_at i)) (ends_in es (address_at i))
 
 -- ---- the totals
 deeds_totalled : (state : State) (es : List Event) → AreTotalled state es → deeds_counted state ≡ deeds_total (profile_of state) es
@@ -54,5 +55,6 @@ pub bare_life : (word gives ends : ℕ) → word ≡ ends → gives ≡ ends →
 bare_life word gives ends w g few = record { live = lt-leb (2 ^ 63) word (omega arith); turn = omega arith; given = omega arith }
 
 -- a live word has the number of blocks that ended before it
-pub live_life : (word gives ends grains : ℕ) → word ≡ live_word ends grains → gives ≡ ends + 1 → ends < 2 ^ 40 → grains < 2 ^ 23 → IsLifeWord word true gives ends
+pub live_life : (word gives ends grains : ℕ) → word ≡ live_word ends grains → gives ≡ ends + 1 → ends < 2 ^ 40 → grains < 2 ^ 23
+    → IsLifeWord word true gives ends
 live_life word gives ends grains w g few short = record { live = le-leb (2 ^ 63) word (omega arith); turn = omega arith; given = omega arith }

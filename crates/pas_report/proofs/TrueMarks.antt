@@ -29,7 +29,8 @@ module _ (f : Profile) (l : Whole) (valid : IsValid f) (legal : Legal f l) where
   word_is : (page : ℕ) (d : Directory) → deed_in (visible l) page ≡ Some d → word_after l (Word.Deed page) ≡ deed_word_of d
   word_is page d is = deed_of f l legal page ∙ ap word_of_deed is
 
-  same_directory : (page : ℕ) (d other : Directory) → deed_in (visible l) page ≡ Some d → IsDirectoryOf f other → word_after l (Word.Deed page) ≡ deed_word_of other → other ≡ d
+  same_directory : (page : ℕ) (d other : Directory) → deed_in (visible l) page ≡ Some d → IsDirectoryOf f other
+      → word_after l (Word.Deed page) ≡ deed_word_of other → other ≡ d
   same_directory page d other is of word = same_from_deed_word other d of.kind (directory_is_of f l legal page d is).kind (sym word ∙ word_is page d is)
 
   -- a page whose right is offered is marked so
@@ -37,13 +38,15 @@ module _ (f : Profile) (l : Whole) (valid : IsValid f) (legal : Legal f l) where
   marked_offered page d is offers = search (arith, eq-eqb, same_directory, offered_is)
 
   -- ---- the place of the right
-  place_shown : (page : ℕ) (d : Directory) → deed_in (visible l) page ≡ Some d → NobodyHasRights l → IsRightInOnePlace f l page → (marks_after l page).parked ≡ not ((marks_after l page).offered)
+  place_shown : (page : ℕ) (d : Directory) → deed_in (visible l) page ≡ Some d → NobodyHasRights l → IsRightInOnePlace f l page
+      → (marks_after l page).parked ≡ not ((marks_after l page).offered)
   place_shown page d is rests (inl none) = absurd (deed_word_of-positive d (sym (word_is page d is) ∙ none.no_deed))
   place_shown page d is rests (inr (inl one)) = absurd (false≢true (sym (rests.nobody one.actor page) ∙ one.holder one.actor ∙ eq-eqb one.actor one.actor refl))
   place_shown page d is rests (inr (inr (inl offers))) = only_first _ _ (marked_offered page d is offers) offers.not_parked
   place_shown page d is rests (inr (inr (inr parks))) = only_second _ _ (offered_is page d is ∙ parks.not_offered (number_of d)) parks.parked
 
-  with_deed : (page : ℕ) (o : Option Directory) → deed_in (visible l) page ≡ o → o ≢ None → NobodyHasRights l → (marks_after l page).parked ≡ not ((marks_after l page).offered)
+  with_deed : (page : ℕ) (o : Option Directory) → deed_in (visible l) page ≡ o → o ≢ None → NobodyHasRights l
+      → (marks_after l page).parked ≡ not ((marks_after l page).offered)
   with_deed page None is some rests = absurd (some refl)
   with_deed page (Some d) is some rests = place_shown page d is rests (right_in_one_place f l legal page)
 
@@ -53,10 +56,12 @@ module _ (f : Profile) (l : Whole) (valid : IsValid f) (legal : Legal f l) where
 
   -- ---- pages with room
   -- a grain that no live block covers is free, when nobody holds one: its bit is that of the grain 256 * page + b
-  free_bit : AreFreeOrCovered f l → (page b : ℕ) → IsPage f page → b < 256 → is_covered (visible l) (256 * page + b) ≡ false → has_bit (word_after l (Word.Free page (b / 64))) (b % 64) ≡ true
+  free_bit : AreFreeOrCovered f l → (page b : ℕ) → IsPage f page → b < 256 → is_covered (visible l) (256 * page + b) ≡ false
+      → has_bit (word_after l (Word.Free page (b / 64))) (b % 64) ≡ true
   free_bit free page b of small none = search arith
 
-  usable_free : AreFreeOrCovered f l → (page b : ℕ) → IsPage f page → (d : Directory) → deed_in (visible l) page ≡ Some d → b < 256 → usable_by_kind d.kind b ≡ true
+  usable_free : AreFreeOrCovered f l → (page b : ℕ) → IsPage f page → (d : Directory) → deed_in (visible l) page ≡ Some d → b < 256
+      → usable_by_kind d.kind b ≡ true
       → is_covered (visible l) (256 * page + b) ≡ false → IsUsableFree l page (b / 64) (b % 64)
   usable_free free page b of d is small usable none = search (arith, free_bit, deed_read_after)
 
@@ -67,7 +72,8 @@ module _ (f : Profile) (l : Whole) (valid : IsValid f) (legal : Legal f l) where
       (offered_at_rest f l legal clear page (b / 64) (b % 64) (omega arith) (λ z. deed_word_of-positive d (sym (word_is page d is) ∙ z)) (usable_free free page b of d is small usable none) (λ k. rests.nobody k page))
 
   -- EACH EMPTY PAGE that is backed is marked as hinted
-  pub empty_shown : AreFreeOrCovered f l → AllClear f l → (page : ℕ) → IsPage f page → backed_in (visible l) page ≡ true → ((g : ℕ) → g / 256 ≡ page → is_covered (visible l) g ≡ false) → (marks_after l page).hinted ≡ true
+  pub empty_shown : AreFreeOrCovered f l → AllClear f l → (page : ℕ) → IsPage f page → backed_in (visible l) page ≡ true
+      → ((g : ℕ) → g / 256 ≡ page → is_covered (visible l) g ≡ false) → (marks_after l page).hinted ≡ true
   empty_shown free clear page of backed none = search (arith, hinted_at_rest, backed_of)
 
   -- THE MARKS ARE TRUE once no actor has anything

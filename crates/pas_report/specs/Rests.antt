@@ -37,4 +37,5 @@ pub record AreTrueMarks (f : Profile) (l : Whole) : Type 0 where
   pub offered_or_parked : (page : ℕ) → deed_in (visible l) page ≢ None → (marks_after l page).parked ≡ not ((marks_after l page).offered)
   pub offered : (page : ℕ) → IsPage f page → (d : Directory) → deed_in (visible l) page ≡ Some d → (b : ℕ) → b < 256 → usable_by_kind d.kind b ≡ true
       → is_covered (visible l) (256 * page + b) ≡ false → (marks_after l page).offered ≡ true
-  pub hinted : (page : ℕ) → IsPage f page → backed_in (visible l) page ≡ true → ((g : ℕ) → g / 256 ≡ page → is_covered (visible l) g ≡ false) → (marks_after l page).hinted ≡ true
+  pub hinted : (page : ℕ) → IsPage f page → backed_in (visible l) page ≡ true → ((g : ℕ) → g / 256 ≡ page → is_covered (visible l) g ≡ false)
+      → (marks_after l page).hinted ≡ true

@@ -9,9 +9,11 @@ use Rattle.pas_steps.proofs.{Adding.adds_none, Adding.adds_step, Calls.does_on_p
 use Rattle.pas_rights.specs.Claims.{Claims}
 use Rattle.pas_rights.proofs.Orders.{gets, gets_none}
 
-claimed_right : (p : ℕ) (d : Directory) (a : ℕ) (got : Bool) (v : View) → got ≡ has_bit a (p % 64) → has_right (made (TakeRight p d) a ∷ v) p ≡ now (if got then Gained else Kept) (has_right v p)
+claimed_right : (p : ℕ) (d : Directory) (a : ℕ) (got : Bool) (v : View) → got ≡ has_bit a (p % 64)
+    → has_right (made (TakeRight p d) a ∷ v) p ≡ now (if got then Gained else Kept) (has_right v p)
 claimed_right p d a got v is = grind (arith, gets, gets_none)
 
+-- A take of a right claims the page exactly where its bit was set.
 pub claims : {σ σ' : Standing} (p : ℕ) (d : Directory) (a : ℕ) (got : Bool) → got ≡ has_bit a (p % 64) → Makes σ σ' (TakeRight p d) a → Claims p d σ σ' got
 claims {σ} p d a got is makes = record {
   answer = a;

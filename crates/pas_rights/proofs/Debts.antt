@@ -30,7 +30,8 @@ hint_kept p answers (suc n) v h = ends_none ((p == p) && not (answers n == all_o
 ended : (n w p deed : ℕ) (none owed : Bool) → n ≡ w → deed ≢ 0 → none ≡ true → (if (n == w) && (p == p) && not (deed == 0) && none then false else owed) ≡ false
 ended n w p deed none owed same some h = cc (eq-eqb n w same, same_page p, ne_eqb deed 0 some)
 
-check_looks : (p w : ℕ) (d : Directory) (answers : ℕ → ℕ) (n : ℕ) (v : View) → known_deed v p ≡ deed_word_of d → no_usable (deed_word_of d) w (answers w) ≡ true → w < n → owes_check (looks p answers n ++ v) p w ≡ false
+check_looks : (p w : ℕ) (d : Directory) (answers : ℕ → ℕ) (n : ℕ) (v : View) → known_deed v p ≡ deed_word_of d → no_usable (deed_word_of d) w (answers w) ≡ true
+    → w < n → owes_check (looks p answers n ++ v) p w ≡ false
 check_looks p w d answers zero v knows none lt = absurd (omega (arith, lt))
 check_looks p w d answers (suc n) v knows none lt =
     let before : View = looks p answers n ++ v in
@@ -62,7 +63,8 @@ hints_right : (p : ℕ) (all_free : Bool) (steps : List Made) (v : View) → Hin
 hints_right p all_free steps v h = grind arith
 
 -- the hint is settled where each grain was read as free, and wasn't owed otherwise
-hints_end : (f : Profile) (p : ℕ) (all_free : Bool) (steps : List Made) (v : View) → HintsWhere all_free p steps → Agreed f v steps → (all_free ≡ false → owes_hint v p ≡ false) → owes_hint (steps ++ v) p ≡ false
+hints_end : (f : Profile) (p : ℕ) (all_free : Bool) (steps : List Made) (v : View) → HintsWhere all_free p steps → Agreed f v steps
+    → (all_free ≡ false → owes_hint v p ≡ false) → owes_hint (steps ++ v) p ≡ false
 hints_end f p all_free steps v h agreed rest = grind (arith, hint_ends)
 
 -- ---- a page that is taken back and offered
@@ -76,17 +78,21 @@ reoffer_lacks : (p : ℕ) (d : Directory) (steps : List Made) (v : View) → Reo
 reoffer_lacks p d steps v e lacks = grind (arith, gets_none, gives)
 
 -- with the right the parked bit is read as 0
-reoffer_right : (f : Profile) (p : ℕ) (d : Directory) (steps : List Made) (v : View) → ReofferSteps p d steps → Agreed f v steps → has_right (steps ++ v) p ≡ has_right v p
+reoffer_right : (f : Profile) (p : ℕ) (d : Directory) (steps : List Made) (v : View) → ReofferSteps p d steps → Agreed f v steps
+    → has_right (steps ++ v) p ≡ has_right v p
 reoffer_right f p d steps v e agreed = grind (arith, gets_none, gives, cases_Bool, true≢false)
 
-lacks_after : (p : ℕ) (d : Directory) (usable : Bool) (steps : List Made) (v : View) → ReoffersWhere usable p d steps → has_right v p ≡ false → has_right (steps ++ v) p ≡ false
+lacks_after : (p : ℕ) (d : Directory) (usable : Bool) (steps : List Made) (v : View) → ReoffersWhere usable p d steps → has_right v p ≡ false
+    → has_right (steps ++ v) p ≡ false
 lacks_after p d usable steps v h lacks = grind (arith, reoffer_lacks)
 
 -- ---- the two ends of a leave, on the view after the looks
-after_reoffer : (p : ℕ) (d : Directory) (usable : Bool) (steps : List Made) (v : View) → ReoffersWhere usable p d steps → ((w : ℕ) → w < 4 → usable ≡ false → owes_check v p w ≡ false) → owes_hint v p ≡ false → OwesNothing p (steps ++ v)
+after_reoffer : (p : ℕ) (d : Directory) (usable : Bool) (steps : List Made) (v : View) → ReoffersWhere usable p d steps
+    → ((w : ℕ) → w < 4 → usable ≡ false → owes_check v p w ≡ false) → owes_hint v p ≡ false → OwesNothing p (steps ++ v)
 after_reoffer p d usable steps v h checks hint = grind (arith, reoffer_check, reoffer_hint)
 
-end_owes : (f : Profile) (p : ℕ) (d : Directory) (usable all_free : Bool) (steps : List Made) (v : View) → IsDirectory d → EndsLeave usable p d all_free steps → Agreed f v steps → known_deed v p ≡ deed_word_of d
+end_owes : (f : Profile) (p : ℕ) (d : Directory) (usable all_free : Bool) (steps : List Made) (v : View) → IsDirectory d → EndsLeave usable p d all_free steps
+    → Agreed f v steps → known_deed v p ≡ deed_word_of d
     → (usable ≡ false → all_free ≡ false) → (all_free ≡ false → owes_hint v p ≡ false) → OwesNothing p (steps ++ v)
 end_owes f p d true all_free steps v is h agreed knows used hint =
     search (arith, agreed_first, offered_on, hints_check, ends, hints_end)
@@ -96,21 +102,27 @@ end_owes f p d false all_free steps v is h agreed knows used hint =
     (λ w lt none. check_looks p w d (words h.later) 4 parked knows (no_usable_word d h.later is (MatchBool-at_false (HasUsable d h.later) (HasNoUsable d h.later) none h.usable_is) w lt) lt)
     (hint_kept p (words h.later) 4 parked (hint (used refl))))
 
-leave_used : (d : Directory) (free : Mask4) (usable all_free : Bool) → IsDirectory d → MatchBool usable (HasUsable d free) (HasNoUsable d free) → MatchBool all_free (IsAllFree free) (HasUsed free) → usable ≡ false → all_free ≡ false
+leave_used : (d : Directory) (free : Mask4) (usable all_free : Bool) → IsDirectory d → MatchBool usable (HasUsable d free) (HasNoUsable d free)
+    → MatchBool all_free (IsAllFree free) (HasUsed free) → usable ≡ false → all_free ≡ false
 leave_used d free usable all_free is usable_is all_free_is none = unusable_used d free all_free is (MatchBool-at_false (HasUsable d free) (HasNoUsable d free) none usable_is) all_free_is
 
-leave_hint : (p : ℕ) (free : Mask4) (all_free : Bool) (v : View) → MatchBool all_free (IsAllFree free) (HasUsed free) → all_free ≡ false → owes_hint (looks p (words free) 4 ++ v) p ≡ false
+leave_hint : (p : ℕ) (free : Mask4) (all_free : Bool) (v : View) → MatchBool all_free (IsAllFree free) (HasUsed free) → all_free ≡ false
+    → owes_hint (looks p (words free) 4 ++ v) p ≡ false
 leave_hint p free all_free v is none = let used = used_word free (MatchBool-at_false (IsAllFree free) (HasUsed free) none is) in hint_looks p used.0 (words free) 4 v used.2 used.1
 
-pub leave_owes : (f : Profile) (p : ℕ) (d : Directory) (steps : List Made) (v : View) → IsDirectory d → LeaveSteps p d steps → Agreed f v steps → known_deed v p ≡ deed_word_of d → OwesNothing p (steps ++ v)
+-- After a leave nothing is owed on the page.
+pub leave_owes : (f : Profile) (p : ℕ) (d : Directory) (steps : List Made) (v : View) → IsDirectory d → LeaveSteps p d steps → Agreed f v steps
+    → known_deed v p ≡ deed_word_of d → OwesNothing p (steps ++ v)
 leave_owes f p d steps v is h agreed knows = let looked = looks p (words h.free) 4 in subst (OwesNothing p) (sym (left_on p d steps v h))
     (end_owes f p d h.usable h.all_free h.after (looked ++ v) is h.ends (agreed_first f v h.after looked (subst (Agreed f v) h.steps_are agreed)) (deed_looks p p (words h.free) 4 v ∙ knows)
     (leave_used d h.free h.usable h.all_free is h.usable_is h.all_free_is) (leave_hint p h.free h.all_free v h.all_free_is))
 
-end_lacks : (p : ℕ) (d : Directory) (usable all_free : Bool) (steps : List Made) (v : View) → EndsLeave usable p d all_free steps → has_right (steps ++ v) p ≡ false
+end_lacks : (p : ℕ) (d : Directory) (usable all_free : Bool) (steps : List Made) (v : View) → EndsLeave usable p d all_free steps
+    → has_right (steps ++ v) p ≡ false
 end_lacks p d true all_free steps v h = ap (λ s. has_right s p) (offered_on p d all_free steps v h) ∙ hints_right p all_free h.after (made (Offer p d) h.offered ∷ v) h.hints ∙ gives p (ToOffer (number_of d)) (has_right v p) refl
 end_lacks p d false all_free steps v h = search (arith, parked_on, lacks_after, right_looks, gives)
 
+-- After a leave its actor hasn't the page's right.
 pub leave_lacks : (p : ℕ) (d : Directory) (steps : List Made) (v : View) → LeaveSteps p d steps → has_right (steps ++ v) p ≡ false
 leave_lacks p d steps v h = ap (λ s. has_right s p) (left_on p d steps v h) ∙ end_lacks p d h.usable h.all_free h.after (looks p (words h.free) 4 ++ v) h.ends
 
@@ -121,6 +133,7 @@ until_check p w used v h = grind (arith, check_kept, ends_none)
 until_hint : (p : ℕ) (used : Option Used) (v : View) → AreUsed used → is_free used ≡ false → owes_hint (looks_until p used ++ v) p ≡ false
 until_hint p used v are e = grind (arith, true≢false, hint_look)
 
+-- After a return nothing is owed on the page.
 pub return_owes : (f : Profile) (p : ℕ) (d : Directory) (steps : List Made) (v : View) → ReturnSteps p d steps → Agreed f v steps → OwesNothing p (steps ++ v)
 return_owes f p d steps v h agreed =
     let looked : View = looks_until p h.used ++ (h.first ++ v) in
@@ -131,7 +144,9 @@ return_owes f p d steps v h agreed =
       hint = hints_end f p (is_free h.used) h.after looked h.hints later (until_hint p h.used (h.first ++ v) h.are);
     }
 
-pub return_right : (f : Profile) (p : ℕ) (d : Directory) (steps : List Made) (v : View) → ReturnSteps p d steps → Agreed f v steps → has_right (steps ++ v) p ≡ has_right v p
+-- A return leaves the page's right where it was.
+pub return_right : (f : Profile) (p : ℕ) (d : Directory) (steps : List Made) (v : View) → ReturnSteps p d steps → Agreed f v steps
+    → has_right (steps ++ v) p ≡ has_right v p
 return_right f p d steps v h agreed =
     let all : Agreed f v (h.after ++ (looks_until p h.used ++ h.first)) = subst (Agreed f v) h.steps_are agreed in
     let first : Agreed f v h.first = agreed_later f v (looks_until p h.used) h.first (agreed_later f v h.after (looks_until p h.used ++ h.first) all) in

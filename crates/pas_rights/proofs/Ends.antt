@@ -24,7 +24,8 @@ pub may_still : (p : ℕ) (d : Directory) (free : Mask4) (v : View) → MayLeave
 may_still p d free v met = record { right = right_looks p p (words free) 4 v ∙ met.right; deed = deed_looks p p (words free) 4 v ∙ met.deed }
 
 -- steps of a return or a leave, with what they come to
-settles : (f : Profile) (p : ℕ) (r : Fate) (steps : List Made) (v : View) → OnlyReturns p steps → Agreed f v steps → has_right (steps ++ v) p ≡ now r (has_right v p) → OwesNothing p (steps ++ v) → Settles p r v (steps ++ v)
+settles : (f : Profile) (p : ℕ) (r : Fate) (steps : List Made) (v : View) → OnlyReturns p steps → Agreed f v steps
+    → has_right (steps ++ v) p ≡ now r (has_right v p) → OwesNothing p (steps ++ v) → Settles p r v (steps ++ v)
 settles f p r steps v only agreed right owes =
     let clear : is_unstamped v p ≡ false → examines v p ≡ false → IsClearOn p (steps ++ v) = λ stamped examined. record {
       stamped = unstamped_same returning refl p steps v (returns_are p steps only) ∙ stamped;
@@ -33,7 +34,8 @@ settles f p r steps v only agreed right owes =
     } in
     record { does = does_returns f p r Kept steps v only agreed right (λ is. clear is.stamped is.examined); owes = owes; clear = clear }
 
-clear_at : (p q : ℕ) (t : Bool) (v w : View) → (p == q) ≡ t → IsClearOn p w → ClearAfter (if t then Kept else Kept) q v w → ClearAfter (if t then Gained else Kept) q v w
+clear_at : (p q : ℕ) (t : Bool) (v w : View) → (p == q) ≡ t → IsClearOn p w → ClearAfter (if t then Kept else Kept) q v w
+    → ClearAfter (if t then Gained else Kept) q v w
 clear_at p q t v w e here h = grind (arith, eqb-true)
 
 -- a page that was neither unstamped nor examined is clear then
@@ -56,7 +58,8 @@ leaves {σ} {σ'} p d steps is adds order = record {
 }
 
 -- the looks, and the end that they call for
-pub leaves_by : {σ σ1 σ2 : Standing} (usable all_free : Bool) (p : ℕ) (d : Directory) (free : Mask4) → IsDirectory d → ReadsPage p σ σ1 free → MatchBool usable (HasUsable d free) (HasNoUsable d free) → MatchBool all_free (IsAllFree free) (HasUsed free)
+pub leaves_by : {σ σ1 σ2 : Standing} (usable all_free : Bool) (p : ℕ) (d : Directory) (free : Mask4) → IsDirectory d → ReadsPage p σ σ1 free
+    → MatchBool usable (HasUsable d free) (HasNoUsable d free) → MatchBool all_free (IsAllFree free) (HasUsed free)
     → (after : List Made) → Adds σ1 σ2 (MayLeave p d) after → EndsLeave usable p d all_free after → Leaves p d σ σ2
 leaves_by {σ} {σ1} {σ2} usable all_free p d free is reads usable_is all_free_is after adds ends =
     let first : Adds σ σ1 (MayLeave p d) (looks p (words free) 4) = adds_under reads (λ v l stood met. tt) in
@@ -64,11 +67,13 @@ leaves_by {σ} {σ1} {σ2} usable all_free p d free is reads usable_is all_free_
     record { free = free; usable = usable; usable_is = usable_is; all_free = all_free; all_free_is = all_free_is; after = after; ends = ends; steps_are = refl }
 
 -- the deed is known after the parking and the later looks
-pub knows_parked : (p : ℕ) (d : Directory) (k : ℕ) (later : Mask4) (v : View) → KnowsDeed p d v → KnowsDeed p d (looks p (words later) 4 ++ (made (Park p) k ∷ []) ++ v)
+pub knows_parked : (p : ℕ) (d : Directory) (k : ℕ) (later : Mask4) (v : View) → KnowsDeed p d v
+    → KnowsDeed p d (looks p (words later) 4 ++ (made (Park p) k ∷ []) ++ v)
 knows_parked p d k later v knows = ap (λ s. known_deed s p) (append_assoc (looks p (words later) 4) (made (Park p) k ∷ []) v) ∙ deed_looks p p (words later) 4 (made (Park p) k ∷ v) ∙ knows
 
 -- the steps after grains were put back
-pub returned_by : {σ σ1 σ2 σ3 : Standing} (p : ℕ) (d : Directory) (used : Option Used) → (r : ReoffersPage p d σ σ1) → (s : ReadsUntilUsed p σ1 σ2 used) → (after : List Made) → Adds σ2 σ3 AnyView after → HintsWhere (is_free used) p after → Returned p d σ σ3
+pub returned_by : {σ σ1 σ2 σ3 : Standing} (p : ℕ) (d : Directory) (used : Option Used) → (r : ReoffersPage p d σ σ1) → (s : ReadsUntilUsed p σ1 σ2 used)
+    → (after : List Made) → Adds σ2 σ3 AnyView after → HintsWhere (is_free used) p after → Returned p d σ σ3
 returned_by {σ} {σ1} {σ2} {σ3} p d used r s after adds hints =
     let steps = after ++ (looks_until p used ++ r.steps) in
     let order : ReturnSteps p d steps = record { first = r.steps; reoffers = r.order; used = used; are = s.are; after = after; hints = hints; steps_are = refl } in

@@ -17,11 +17,13 @@ use Rattle.pas_rights.specs.Gives.{in_piece, MayGive, block_of, give_steps, Gave
 
 -- ---- what may be given
 -- the page is known to bear the directory's blocks
-pub bears_by : {f : Profile} {v : View} (d : Directory) (page : ℕ) → IsDirectoryOf f d → KnowsDeed page d v → knows_backed v page ≡ true → is_unstamped v page ≡ false → KnowsBearing f v d.heap page
+pub bears_by : {f : Profile} {v : View} (d : Directory) (page : ℕ) → IsDirectoryOf f d → KnowsDeed page d v → knows_backed v page ≡ true
+    → is_unstamped v page ≡ false → KnowsBearing f v d.heap page
 bears_by d page of_profile deed backed stamped = record { backed = backed; directory = d; of_profile = of_profile; deed = deed; of_heap = refl; stamped = stamped }
 
 -- a run on one page
-pub may_give_on : {f : Profile} {v : View} (d : Directory) (page first n : ℕ) → IsDirectoryOf f d → first + n ≤ 256 → ((g : ℕ) → in_piece page first n g → holds v g ≡ true) → KnowsDeed page d v → knows_backed v page ≡ true → is_unstamped v page ≡ false
+pub may_give_on : {f : Profile} {v : View} (d : Directory) (page first n : ℕ) → IsDirectoryOf f d → first + n ≤ 256
+    → ((g : ℕ) → in_piece page first n g → holds v g ≡ true) → KnowsDeed page d v → knows_backed v page ≡ true → is_unstamped v page ≡ false
     → MayGive f d.heap page first n v
 may_give_on {f} {v} d page first n of_profile within held deed backed stamped = record {
   held = held;
@@ -38,19 +40,23 @@ pub block_is : (heap page first n word turn : ℕ) → turn ≡ turn_of word →
 block_is heap page first n word turn t = ap (λ x. record { name = record { address = record { 0 = page * 4096 + first * 16 }; turn = x }; room = n * 16; heap = heap }) t
 
 -- they are those of the run
-run_is : (heap page first n word g : ℕ) → in_run (grain_of (block_of heap page first n word).name) (length_of (block_of heap page first n word)) g ≡ in_run (page * 256 + first) n g
+run_is : (heap page first n word g : ℕ)
+    → in_run (grain_of (block_of heap page first n word).name) (length_of (block_of heap page first n word)) g ≡ in_run (page * 256 + first) n g
 run_is heap page first n word g =
     let at : (page * 4096 + first * 16) / 16 ≡ page * 256 + first = omega arith in let long : n * 16 / 16 ≡ n = omega arith in
     ap (λ x. in_run x (n * 16 / 16) g) at ∙ ap (λ x. in_run (page * 256 + first) x g) long
 
-pub covers : (heap page first n word : ℕ) (block : Block) → block ≡ block_of heap page first n word → (g : ℕ) → in_run (grain_of block.name) (length_of block) g ≡ in_run (page * 256 + first) n g
+-- The block of a run covers just the grains of the run.
+pub covers : (heap page first n word : ℕ) (block : Block) → block ≡ block_of heap page first n word → (g : ℕ)
+    → in_run (grain_of block.name) (length_of block) g ≡ in_run (page * 256 + first) n g
 covers heap page first n word block is g = ap (λ (b : Block). in_run (grain_of b.name) (length_of b) g) is ∙ run_is heap page first n word g
 
 module _ (heap page first n word : ℕ) where
   abbrev block : Block
   block = block_of heap page first n word
 
-  module _ {σ σ1 : Standing} (spare : ℕ) (of_region : IsPage σ.seat.profile page) (of_heap : heap < σ.seat.profile.heaps) (some : 1 ≤ n) (within : page * 256 + first + n ≤ 256 * (σ.seat.profile.pages + 1))
+  module _ {σ σ1 : Standing} (spare : ℕ) (of_region : IsPage σ.seat.profile page) (of_heap : heap < σ.seat.profile.heaps) (some : 1 ≤ n)
+      (within : page * 256 + first + n ≤ 256 * (σ.seat.profile.pages + 1))
       (spares : Spares σ spare) (limit : σ.seat.room < 2 ^ 32) (small : first < 256) (look : Makes σ σ1 (Look (Word.Life page first)) word) where
     abbrev f : Profile
     f = σ.seat.profile
@@ -87,13 +93,16 @@ module _ (heap page first n word : ℕ) where
     look_adds : Adds σ σ1 (MayGive f heap page first n) (made (Look (Word.Life page first)) word ∷ [])
     look_adds = adds_step {step = Look (Word.Life page first)} adds_none look (λ v l stood met. tt)
 
+    -- After the look at its life word, the block of a run may be given.
     pub can_give : (given : Block) → given ≡ block_of heap page first n word → CanCall σ (MayGive σ.seat.profile heap page first n) → CanMake σ1 (Give given)
     can_give given is can = subst (λ b. CanMake σ1 (Give b)) (sym is) (can_step {step = Give block} look_adds can of_the_region (λ v l stood met. may_give v met l stood))
 
+    -- After the look at a life word there is still room for the event of the give.
     pub room_to_give : {spare1 : ℕ} → Spares σ1 spare1 → 1 ≤ spare → CanCall σ (MayGive σ.seat.profile heap page first n) → 1 ≤ spare1
     room_to_give {spare1} spares1 one can = let now = spares can.view can.whole can.stood in room_left {spare = spare1} 1 look_adds can spares1 (omega (arith, now, one))
 
-    gave : (answer : ℕ) (v : View) → Agreed f v (give_steps page first block word answer) → GaveRun page first n block v (made (Give block) answer ∷ made (Look (Word.Life page first)) word ∷ v)
+    gave : (answer : ℕ) (v : View) → Agreed f v (give_steps page first block word answer)
+        → GaveRun page first n block v (made (Give block) answer ∷ made (Look (Word.Life page first)) word ∷ v)
     gave answer v agreed = record {
       does = does_as (freed (in_run (page * 256 + first) n) (λ q. false))
           (does_then (does_step f (Look (Word.Life page first)) word v refl agreed.1.0) (does_step f (Give block) answer (made (Look (Word.Life page first)) word ∷ v) refl agreed.0))
@@ -101,7 +110,9 @@ module _ (heap page first n word : ℕ) where
       turn = agreed.1.0.turn;
     }
 
-    pub gives_run : {σ2 : Standing} (answer : ℕ) (given : Block) → given ≡ block_of heap page first n word → Makes σ1 σ2 (Give given) answer → GivesRun heap page first n given σ σ2
+    -- A look at the life word, and then the give, give the run.
+    pub gives_run : {σ2 : Standing} (answer : ℕ) (given : Block) → given ≡ block_of heap page first n word → Makes σ1 σ2 (Give given) answer
+        → GivesRun heap page first n given σ σ2
     gives_run {σ2} answer given is give = subst (λ b. GivesRun heap page first n b σ σ2) (sym is) (record {
       word = word;
       answer = answer;

@@ -19,12 +19,15 @@ use Rattle.pas_rights.proofs.{Looks.looks_are, Looks.looks_few, Looks.looks_only
 pub until_only : (p : ℕ) (used : Option Used) → Only (LookFree ∷ []) (looks_until p used)
 until_only p used = grind (arith, looks_only)
 
+-- Looks up to the first used word leave each right where it was.
 pub right_until : (p q : ℕ) (used : Option Used) (v : View) → has_right (looks_until p used ++ v) q ≡ has_right v q
 right_until p q used v = rights_same (LookFree ∷ []) refl q (looks_until p used) v (until_only p used)
 
+-- Looks at free words leave each right where it was.
 pub right_looks : (p q : ℕ) (answers : ℕ → ℕ) (n : ℕ) (v : View) → has_right (looks p answers n ++ v) q ≡ has_right v q
 right_looks p q answers n v = rights_same (LookFree ∷ []) refl q (looks p answers n) v (looks_only p answers n)
 
+-- Looks at free words leave what is known of deeds as it was.
 pub deed_looks : (p q : ℕ) (answers : ℕ → ℕ) (n : ℕ) (v : View) → known_deed (looks p answers n ++ v) q ≡ known_deed v q
 deed_looks p q answers n v = deeds_same (LookFree ∷ []) refl q (looks p answers n) v (looks_only p answers n)
 
@@ -32,15 +35,21 @@ deed_looks p q answers n v = deeds_same (LookFree ∷ []) refl q (looks p answer
 pub same_page : (p : ℕ) → (p == p) ≡ true
 same_page p = eq-eqb p p refl
 
+-- What a step ends on its own page is off afterwards.
 pub ends : (p : ℕ) (before : Bool) → (if p == p then false else before) ≡ false
 ends p before = ap (λ t. if t then false else before) (same_page p)
 
-pub gets : (p : ℕ) (w : Way) (a : ℕ) (before : Bool) → had_after w before ≡ true → has_bit a (p % 64) ≡ true → had_after (if (p == p) && has_bit a (p % 64) then w else Rests) before ≡ true
+-- What a step does to its own page's right it does where it found the bit set.
+pub gets : (p : ℕ) (w : Way) (a : ℕ) (before : Bool) → had_after w before ≡ true → has_bit a (p % 64) ≡ true
+    → had_after (if (p == p) && has_bit a (p % 64) then w else Rests) before ≡ true
 gets p w a before got h = ap (λ t. had_after (if t && has_bit a (p % 64) then w else Rests) before) (same_page p) ∙ ap (λ t. had_after (if t then w else Rests) before) h ∙ got
 
-pub gets_none : (p : ℕ) (w : Way) (a : ℕ) (before : Bool) → has_bit a (p % 64) ≡ false → had_after (if (p == p) && has_bit a (p % 64) then w else Rests) before ≡ before
+-- A step that found its page's bit clear leaves the right as it was.
+pub gets_none : (p : ℕ) (w : Way) (a : ℕ) (before : Bool) → has_bit a (p % 64) ≡ false
+    → had_after (if (p == p) && has_bit a (p % 64) then w else Rests) before ≡ before
 gets_none p w a before h = ap (λ t. had_after (if t && has_bit a (p % 64) then w else Rests) before) (same_page p) ∙ ap (λ t. had_after (if t then w else Rests) before) h
 
+-- A step that gives its own page's right up leaves its actor without it.
 pub gives : (p : ℕ) (w : Way) (before : Bool) → had_after w before ≡ false → had_after (if p == p then w else Rests) before ≡ false
 gives p w before h = ap (λ t. had_after (if t then w else Rests) before) (same_page p) ∙ h
 
@@ -79,29 +88,38 @@ end_returns p d false all_free steps h = subst (OnlyReturns p) (sym h.steps_are)
     (returns_append p h.after (looks p (words h.later) 4 ++ (made (Park p) h.parked ∷ [])) (reoffers_return p d h.usable h.after h.reoffers)
     (returns_append p (looks p (words h.later) 4) (made (Park p) h.parked ∷ []) (looks_return p (words h.later) 4) (IsReturn.Parks, tt)))
 
+-- The steps of a leave only return grains to that page.
 pub leave_returns : (p : ℕ) (d : Directory) (steps : List Made) → LeaveSteps p d steps → OnlyReturns p steps
 leave_returns p d steps h = subst (OnlyReturns p) (sym h.steps_are)
     (returns_append p h.after (looks p (words h.free) 4) (end_returns p d h.usable h.all_free h.after h.ends) (looks_return p (words h.free) 4))
 
+-- The steps of a return only return grains to that page.
 pub return_returns : (p : ℕ) (d : Directory) (steps : List Made) → ReturnSteps p d steps → OnlyReturns p steps
 return_returns p d steps h = subst (OnlyReturns p) (sym h.steps_are)
     (returns_append p h.after (looks_until p h.used ++ h.first) (hints_return p (is_free h.used) h.after h.hints)
     (returns_append p (looks_until p h.used) h.first (until_return p h.used) (reoffer_returns p d h.first h.reoffers)))
 
 -- ---- the steps of a leave, on a view or on a list before them
-pub offered_on : (p : ℕ) (d : Directory) (all_free : Bool) (steps : List Made) (v : View) (h : OfferSteps p d all_free steps) → steps ++ v ≡ h.after ++ (made (Offer p d) h.offered ∷ v)
+pub offered_on : (p : ℕ) (d : Directory) (all_free : Bool) (steps : List Made) (v : View) (h : OfferSteps p d all_free steps)
+    → steps ++ v ≡ h.after ++ (made (Offer p d) h.offered ∷ v)
 offered_on p d all_free steps v h = ap (λ s. s ++ v) h.steps_are ∙ append_assoc h.after (made (Offer p d) h.offered ∷ []) v
 
-pub parked_on : (p : ℕ) (d : Directory) (steps : List Made) (v : View) (h : ParkSteps p d steps) → steps ++ v ≡ h.after ++ (looks p (words h.later) 4 ++ (made (Park p) h.parked ∷ v))
+-- The steps of a park stand in this order: the park, looks, and what follows.
+pub parked_on : (p : ℕ) (d : Directory) (steps : List Made) (v : View) (h : ParkSteps p d steps)
+    → steps ++ v ≡ h.after ++ (looks p (words h.later) 4 ++ (made (Park p) h.parked ∷ v))
 parked_on p d steps v h = ap (λ s. s ++ v) h.steps_are ∙ append_assoc h.after (looks p (words h.later) 4 ++ (made (Park p) h.parked ∷ [])) v ∙ ap (λ s. h.after ++ s) (append_assoc (looks p (words h.later) 4) (made (Park p) h.parked ∷ []) v)
 
+-- The steps of a leave stand in this order: looks, and what follows.
 pub left_on : (p : ℕ) (d : Directory) (steps : List Made) (v : View) (h : LeaveSteps p d steps) → steps ++ v ≡ h.after ++ (looks p (words h.free) 4 ++ v)
 left_on p d steps v h = ap (λ s. s ++ v) h.steps_are ∙ append_assoc h.after (looks p (words h.free) 4) v
 
-pub returned_on : (p : ℕ) (d : Directory) (steps : List Made) (v : View) (h : ReturnSteps p d steps) → steps ++ v ≡ h.after ++ (looks_until p h.used ++ (h.first ++ v))
+-- The steps of a return stand in this order: the page is offered again where it was parked, looks, and a hint.
+pub returned_on : (p : ℕ) (d : Directory) (steps : List Made) (v : View) (h : ReturnSteps p d steps)
+    → steps ++ v ≡ h.after ++ (looks_until p h.used ++ (h.first ++ v))
 returned_on p d steps v h = ap (λ s. s ++ v) h.steps_are ∙ append_assoc h.after (looks_until p h.used ++ h.first) v ∙ ap (λ s. h.after ++ s) (append_assoc (looks_until p h.used) h.first v)
 
-end_loses : (p : ℕ) (d : Directory) (usable all_free : Bool) (steps before : List Made) → AreLooks before → EndsLeave usable p d all_free steps → Once (LosesHere p) (steps ++ before)
+end_loses : (p : ℕ) (d : Directory) (usable all_free : Bool) (steps before : List Made) → AreLooks before → EndsLeave usable p d all_free steps
+    → Once (LosesHere p) (steps ++ before)
 end_loses p d true all_free steps before are h = subst (Once (LosesHere p)) (sym (offered_on p d all_free steps before h))
     (once_later (LosesHere p) h.after (made (Offer p d) h.offered ∷ before) (inl (GivesUp.Offers d, are)))
 end_loses p d false all_free steps before are h = subst (Once (LosesHere p)) (sym (parked_on p d steps before h))
@@ -124,12 +142,15 @@ reoffers_few p d usable steps h = grind (arith, reoffer_few)
 end_few : (p : ℕ) (d : Directory) (usable all_free : Bool) (steps : List Made) → EndsLeave usable p d all_free steps → length steps ≤ 7
 end_few p d usable all_free steps h = grind (arith, length-append, hints_few, reoffers_few)
 
+-- A leave makes at most eleven steps.
 pub leave_few : (p : ℕ) (d : Directory) (steps : List Made) → LeaveSteps p d steps → length steps ≤ 11
 leave_few p d steps h =
     omega (arith, ap length h.steps_are ∙ length-append h.after (looks p (words h.free) 4), end_few p d h.usable h.all_free h.after h.ends)
 
+-- Looks up to the first used word are at most four.
 pub until_few : (p : ℕ) (used : Option Used) → AreUsed used → length (looks_until p used) ≤ 4
 until_few p used are = grind (arith, looks_few)
 
+-- What follows a put makes at most eight steps.
 pub return_few : (p : ℕ) (d : Directory) (steps : List Made) → ReturnSteps p d steps → length steps ≤ 8
 return_few p d steps h = search (arith, length-append, hints_few, until_few, reoffer_few)

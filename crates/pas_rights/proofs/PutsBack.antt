@@ -31,10 +31,12 @@ hints_settle : (page : ℕ) (all_free : Bool) (steps : List Made) → HintsWhere
 hints_settle page all_free steps h = grind arith
 
 -- the parked bit of a page whose right the actor has is read as 0
-unparks_only : (f : Profile) (page : ℕ) (d : Directory) (steps : List Made) (v : View) → ReofferSteps page d steps → Agreed f v steps → has_right v page ≡ true → Only settling steps
+unparks_only : (f : Profile) (page : ℕ) (d : Directory) (steps : List Made) (v : View) → ReofferSteps page d steps → Agreed f v steps → has_right v page ≡ true
+    → Only settling steps
 unparks_only f page d steps v e agreed right = grind (arith, true≢false)
 
-return_keeps : (f : Profile) (page : ℕ) (d : Directory) (steps : List Made) (v : View) → ReturnSteps page d steps → Agreed f v steps → has_right v page ≡ true → KeepsRight page steps
+return_keeps : (f : Profile) (page : ℕ) (d : Directory) (steps : List Made) (v : View) → ReturnSteps page d steps → Agreed f v steps → has_right v page ≡ true
+    → KeepsRight page steps
 return_keeps f page d steps v h agreed right =
     let looked = looks_until page h.used in
     let all : Agreed f v (h.after ++ (looked ++ h.first)) = subst (Agreed f v) h.steps_are agreed in
@@ -46,13 +48,17 @@ return_keeps f page d steps v h agreed right =
 abbrev pub unparking : Kinds
 unparking = LookFree ∷ Unparking ∷ []
 
-unparks_alone : (f : Profile) (page : ℕ) (d : Directory) (steps : List Made) (v : View) → ReofferSteps page d steps → Agreed f v steps → has_right v page ≡ true → Only unparking steps
+unparks_alone : (f : Profile) (page : ℕ) (d : Directory) (steps : List Made) (v : View) → ReofferSteps page d steps → Agreed f v steps → has_right v page ≡ true
+    → Only unparking steps
 unparks_alone f page d steps v e agreed right = grind (arith, true≢false)
 
-hints_not : (f : Profile) (page g : ℕ) (used : Option Used) (v : View) (after : List Made) → HintsWhere (is_free used) page after → Agreed f v (looks_until page used) → g / 256 ≡ page → holds v g ≡ true → Only unparking after
+hints_not : (f : Profile) (page g : ℕ) (used : Option Used) (v : View) (after : List Made) → HintsWhere (is_free used) page after
+    → Agreed f v (looks_until page used) → g / 256 ≡ page → holds v g ≡ true → Only unparking after
 hints_not f page g used v after h agreed at held = grind (arith, true≢false, full_bit, looks_held)
 
-pub return_holds : (f : Profile) (page : ℕ) (d : Directory) (steps : List Made) (v : View) → ReturnSteps page d steps → Agreed f v steps → has_right v page ≡ true → (g : ℕ) → g / 256 ≡ page → holds v g ≡ true → Only unparking steps
+-- A return of a page all of whose grains its actor holds only takes it back from the parked ones.
+pub return_holds : (f : Profile) (page : ℕ) (d : Directory) (steps : List Made) (v : View) → ReturnSteps page d steps → Agreed f v steps
+    → has_right v page ≡ true → (g : ℕ) → g / 256 ≡ page → holds v g ≡ true → Only unparking steps
 return_holds f page d steps v h agreed right g at held =
     let looked = looks_until page h.used in
     let all : Agreed f v (h.after ++ (looked ++ h.first)) = subst (Agreed f v) h.steps_are agreed in
@@ -62,7 +68,8 @@ return_holds f page d steps v h agreed right g at held =
     subst (Only unparking) (sym h.steps_are) (only_both unparking h.after (looked ++ h.first) after (only_both unparking looked h.first (only_within (LookFree ∷ []) unparking looked refl (until_only page h.used)) first))
 
 -- ---- the page is clear again where it was
-clear_again : (t : Bool) (q : ℕ) (v u : View) → (t ≡ true → IsClearOn q v → IsClearOn q u) → ClearAfter (later (if t then Lost else Kept) (if t then Kept else Kept)) q v u → IsClearOn q v → IsClearOn q u
+clear_again : (t : Bool) (q : ℕ) (v u : View) → (t ≡ true → IsClearOn q v → IsClearOn q u)
+    → ClearAfter (later (if t then Lost else Kept) (if t then Kept else Kept)) q v u → IsClearOn q v → IsClearOn q u
 clear_again t q v u again h = grind arith
 
 -- a mask that has none
@@ -73,6 +80,7 @@ none_masked page mask g empty = and_right (page == g / 256) (is_set mask (g % 25
 both_on : (page : ℕ) (ys xs : List Made) → OnlyOn page ys → OnlyOn page xs → OnlyOn page (ys ++ xs)
 both_on page ys xs = always_both (λ m before. IsOnPage page m.step) (λ m before. IsOnPage page m.step) ys xs (λ m before h. h)
 
+-- An empty mask is put back without a step.
 pub puts_nothing : {σ : Standing} (page : ℕ) (d : Directory) (mask : Mask4) → IsEmpty mask → PutsAndReturns page d mask σ σ
 puts_nothing page d mask empty = record {
   steps = [];
@@ -86,7 +94,8 @@ puts_nothing page d mask empty = record {
 
 module _ {σ σ1 : Standing} (page : ℕ) (d : Directory) (mask : Mask4) (puts : PutsMask page mask σ σ1) where
   -- ---- the puts, for a caller that knows the deed
-  put_call : {B : View → Type 0} → ((v : View) → B v → MayPut page mask v) → ((v : View) → B v → KnowsDeed page d v) → Calls σ σ1 B (λ v w. Does (put (masked page mask) page) v w × KnowsDeed page d w) puts.steps
+  put_call : {B : View → Type 0} → ((v : View) → B v → MayPut page mask v) → ((v : View) → B v → KnowsDeed page d v)
+      → Calls σ σ1 B (λ v w. Does (put (masked page mask) page) v w × KnowsDeed page d w) puts.steps
   put_call may knows = call_knows page d (call_as (Does (put (masked page mask) page)) puts.calls may (λ v w met does. does)) knows
 
   -- what settles the page then has it clear again
@@ -94,7 +103,8 @@ module _ {σ σ1 : Standing} (page : ℕ) (d : Directory) (mask : Mask4) (puts :
   settled v w settles clear =
       settles.clear (unstamped_same (Putting ∷ []) refl page puts.steps v puts.kinds ∙ clear.stamped) (examines_same (Putting ∷ []) refl page puts.steps v puts.kinds ∙ clear.examined)
 
-  clear_after : {r : Fate} (v u : View) → Settles page r (puts.steps ++ v) u → (q : ℕ) → ClearAfter (later (if page == q then Lost else Kept) (if page == q then Kept else Kept)) q v u → IsClearOn q v → IsClearOn q u
+  clear_after : {r : Fate} (v u : View) → Settles page r (puts.steps ++ v) u → (q : ℕ)
+      → ClearAfter (later (if page == q then Lost else Kept) (if page == q then Kept else Kept)) q v u → IsClearOn q v → IsClearOn q u
   clear_after v u settles q = clear_again (page == q) q v u (λ e. subst (λ p. IsClearOn p v → IsClearOn p u) (eqb-true page q e) (settled v u settles))
 
   only_back : (ys : List Made) → Only returning ys → Only giving_back (ys ++ puts.steps)
@@ -104,6 +114,7 @@ module _ {σ σ1 : Standing} (page : ℕ) (d : Directory) (mask : Mask4) (puts :
   return_call : Calls σ σ1 (MayPutAndReturn page d mask) (λ v w. Does (put (masked page mask) page) v w × KnowsDeed page d w) puts.steps
   return_call = put_call (λ v met. met.puts) (λ v met. met.deed)
 
+  -- After its grains were put back, what follows puts may be done.
   pub may_return : CanCall σ (MayPutAndReturn page d mask) → CanCall σ1 (KnowsDeed page d)
   may_return can = next_call return_call can (λ v met after. after.1)
 
@@ -113,10 +124,12 @@ module _ {σ σ1 : Standing} (page : ℕ) (d : Directory) (mask : Mask4) (puts :
         (return_keeps σ.seat.profile page d ret.steps (puts.steps ++ v) ret.order (agreed_first σ.seat.profile v ret.steps puts.steps agreed) (rights_same (Putting ∷ []) refl page puts.steps v puts.kinds ∙ right))
         (keeps_by page (Putting ∷ []) puts.steps refl puts.kinds)
 
+    -- A put and what follows it give the grains back, and keep the right where it was.
     pub returned_call : Calls σ σ2 (MayPutAndReturn page d mask) (Does (given_back (masked page mask))) (ret.steps ++ puts.steps)
     returned_call = call_then (Does (given_back (masked page mask))) return_call ret.calls (λ v met after. after.1)
         (λ v met a b. does_as (given_back (masked page mask)) (does_then a.0 b.does) (λ g. inl refl) (λ q. kept_kept (page == q)) (clear_after v (ret.steps ++ (puts.steps ++ v)) b))
 
+    -- A mask with a grain was put back, and what follows done.
     pub puts_some : HasMember mask → PutsAndReturns page d mask σ σ2
     puts_some some = record {
       steps = ret.steps ++ puts.steps;
@@ -132,12 +145,15 @@ module _ {σ σ1 : Standing} (page : ℕ) (d : Directory) (mask : Mask4) (puts :
   leave_call : Calls σ σ1 (MayPutAndLeave page d (masked page mask)) (λ v w. Does (put (masked page mask) page) v w × KnowsDeed page d w) puts.steps
   leave_call = put_call (λ v met. record { held = met.held; stamped = met.clear.stamped }) (λ v met. met.deed)
 
-  may_leave : (v : View) → MayPutAndLeave page d (masked page mask) v → Does (put (masked page mask) page) v (puts.steps ++ v) × KnowsDeed page d (puts.steps ++ v) → MayLeave page d (puts.steps ++ v)
+  may_leave : (v : View) → MayPutAndLeave page d (masked page mask) v
+      → Does (put (masked page mask) page) v (puts.steps ++ v) × KnowsDeed page d (puts.steps ++ v) → MayLeave page d (puts.steps ++ v)
   may_leave v met after = record { right = after.0.right page ∙ met.right; deed = after.1 }
 
+  -- After its grains were put back, the page may be left.
   pub can_leave : CanCall σ (MayPutAndLeave page d (masked page mask)) → CanCall σ1 (MayLeave page d)
   can_leave can = next_call leave_call can may_leave
 
+  -- A mask that was put back, and a leave, put back and leave the page.
   pub puts_and_leaves : {σ2 : Standing} → Leaves page d σ1 σ2 → PutsAndLeaves page d mask σ σ2
   puts_and_leaves left = record {
     puts = puts.steps;

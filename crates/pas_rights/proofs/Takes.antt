@@ -68,7 +68,8 @@ module _ (page word mask a : ℕ) where
   word_known : (t : Bool) (g : ℕ) (v : View) → word ≢ g / 64 % 4 → known_free (one t ++ v) g ≡ known_free v g
   word_known t g v ne = grind (arith, ne_eqb)
 
-  word_shows : (t : Bool) (r : Readings) (v : View) → (mask == 0) ≡ t → mask ≢ 0 → has_right v page ≡ true → ((b : ℕ) → b < 64 → r (64 * word + b) ≡ has_bit a b) → ((b : ℕ) → b < 64 → holds v (page * 256 + (64 * word + b)) ≡ false)
+  word_shows : (t : Bool) (r : Readings) (v : View) → (mask == 0) ≡ t → mask ≢ 0 → has_right v page ≡ true
+      → ((b : ℕ) → b < 64 → r (64 * word + b) ≡ has_bit a b) → ((b : ℕ) → b < 64 → holds v (page * 256 + (64 * word + b)) ≡ false)
       → Since (ShowsHere page word r) (KeptHere page) (one t ++ v)
   word_shows true r v e some right bits none = absurd (some (eqb-true mask 0 e))
   word_shows false r v e some right bits none = inl (ReadsFree.Takes mask, right, λ b lt. bits b lt ∙ or_none (has_bit a b) (holds v (page * 256 + (64 * word + b))) (none b lt))
@@ -78,21 +79,28 @@ module _ (page : ℕ) (masks answers : ℕ → ℕ) where
   abbrev piece : ℕ → List Made
   piece word = word_take page word (masks word) (answers word)
 
-  pub takes_always : (P : Made → Type 0) → ((word : ℕ) → P (made (Take page word (masks word)) (answers word))) → (n : ℕ) → Always (λ m before. P m) (takes page masks answers n)
+  -- What is so of each take of a word is so of the takes of a page.
+  pub takes_always : (P : Made → Type 0) → ((word : ℕ) → P (made (Take page word (masks word)) (answers word))) → (n : ℕ)
+      → Always (λ m before. P m) (takes page masks answers n)
   takes_always P each = each_always P (λ word. word_take page word (masks word) (answers word)) (λ word. word_always P (masks word == 0) (made (Take page word (masks word)) (answers word)) (each word))
 
+  -- The takes of a page are takes alone.
   pub takes_only : (n : ℕ) → Only (Taking ∷ []) (takes page masks answers n)
   takes_only = takes_always (λ m. is_in (Taking ∷ []) (kind_of m.step) ≡ true) (λ word. refl)
 
+  -- The takes of a page are on that page.
   pub takes_on : (n : ℕ) → OnlyOn page (takes page masks answers n)
   takes_on = takes_always (λ m. IsOnPage page m.step) (λ word. IsOnPage.Takes word (masks word))
 
+  -- The takes of a page keep its right.
   pub takes_keep : (n : ℕ) → KeepsRight page (takes page masks answers n)
   takes_keep n = keeps_by page (Taking ∷ []) (takes page masks answers n) refl (takes_only n)
 
+  -- The takes of n words are at most n.
   pub takes_few : (n : ℕ) → length (takes page masks answers n) ≤ n
   takes_few = each_few (λ word. word_take page word (masks word) (answers word)) (λ word. word_few (masks word == 0) (made (Take page word (masks word)) (answers word)))
 
+  -- An actor that has a page's right has it after takes.
   pub takes_right : (n : ℕ) (v : View) → has_right v page ≡ true → has_right (takes page masks answers n ++ v) page ≡ true
   takes_right n v right = rights_same (Taking ∷ []) refl page (takes page masks answers n) v (takes_only n) ∙ right
 
@@ -112,7 +120,8 @@ module _ (page : ℕ) (masks answers : ℕ → ℕ) where
       ap (λ s. holds s g) (append_assoc (piece n) (takes page masks answers n) v) ∙ word_holds page n (masks n) (answers n) (masks n == 0) g (takes page masks answers n ++ v) refl
       ∙ ap (λ t. got_word page n (masks n) (answers n) g || t) (takes_hold n g v) ∙ or_move (got_word page n (masks n) (answers n) g) (got_below page masks answers n g) (holds v g) ∙ ap (λ t. t || holds v g) (got_more n g)
 
-  takes_do : (f : Profile) (n : ℕ) (v : View) → Agreed f v (takes page masks answers n) → Does (taken (got_below page masks answers n)) v (takes page masks answers n ++ v)
+  takes_do : (f : Profile) (n : ℕ) (v : View) → Agreed f v (takes page masks answers n)
+      → Does (taken (got_below page masks answers n)) v (takes page masks answers n ++ v)
   takes_do f zero v agreed = does_as (taken (got_below page masks answers 0)) (does_none v) (λ g. inl (ap (λ t. if t then Gained else Kept) (sym (none_below g)))) (λ q. refl) (λ q h. h)
   takes_do f (suc n) v agreed = let before = takes page masks answers n in
       subst (Does (taken (got_below page masks answers (suc n))) v) (sym (append_assoc (piece n) before v)) (does_as (taken (got_below page masks answers (suc n)))
@@ -124,7 +133,8 @@ module _ (page : ℕ) (masks answers : ℕ → ℕ) where
   known_takes (suc n) g v le = ap (λ s. known_free s g) (append_assoc (piece n) (takes page masks answers n) v)
       ∙ word_known page n (masks n) (answers n) (masks n == 0) g (takes page masks answers n ++ v) (λ e. omega (arith, le, e)) ∙ known_takes n g v (omega (arith, le))
 
-  module _ (f : Profile) (n : ℕ) (v : View) (agreed : Agreed f v (takes page masks answers n)) (g : ℕ) (at : g / 256 ≡ page) (lt : g / 64 % 4 < n) (some : masks (g / 64 % 4) ≢ 0) where
+  module _ (f : Profile) (n : ℕ) (v : View) (agreed : Agreed f v (takes page masks answers n)) (g : ℕ) (at : g / 256 ≡ page) (lt : g / 64 % 4 < n)
+      (some : masks (g / 64 % 4) ≢ 0) where
     abbrev w : ℕ
     w = g / 64 % 4
 
@@ -135,11 +145,13 @@ module _ (page : ℕ) (masks answers : ℕ → ℕ) where
     pub takes_held : holds v g ≡ true → has_bit (answers (g / 64 % 4)) (g % 64) ≡ false
     takes_held held = agrees_here.held g at refl (takes_hold w g v ∙ or_right (got_below page masks answers w g) (holds v g) held)
 
+    -- A grain that its actor knows to be free was free in its word's take.
     pub takes_free : known_free v g ≡ true → has_bit (answers (g / 64 % 4)) (g % 64) ≡ true
     takes_free known = agrees_here.free g at refl (known_takes w g v (omega arith) ∙ known)
 
   -- what they show, after steps that have the right of the page and hold none of its grains
-  pub takes_read : (r : Readings) → ((word b : ℕ) → b < 64 → r (64 * word + b) ≡ has_bit (answers word) b) → (before : List Made) → has_right before page ≡ true → ((g : ℕ) → g / 256 ≡ page → holds before g ≡ false)
+  pub takes_read : (r : Readings) → ((word b : ℕ) → b < 64 → r (64 * word + b) ≡ has_bit (answers word) b) → (before : List Made) → has_right before page ≡ true
+      → ((g : ℕ) → g / 256 ≡ page → holds before g ≡ false)
       → (n word : ℕ) → word < n → word < 4 → masks word ≢ 0 → Since (ShowsHere page word r) (KeptHere page) (takes page masks answers n ++ before)
   takes_read r bits before right none n word lt small some =
       words_read (ShowsHere page word r) page piece (λ w. keeps_by page (Taking ∷ []) (piece w) refl (word_always (λ m. is_in (Taking ∷ []) (kind_of m.step) ≡ true) (masks w == 0) (made (Take page w (masks w)) (answers w)) refl)) before right n word lt
@@ -164,7 +176,9 @@ module _ (page : ℕ) (mask answers got : Mask4) (got_is : (g : ℕ) → is_set 
   pub takes_got : (g : ℕ) → masked page got g ≡ true → holds (takes page (words mask) (words answers) 4) g ≡ true
   takes_got g is = ap (λ s. holds s g) (sym (append-nil (takes page (words mask) (words answers) 4))) ∙ takes_hold page (words mask) (words answers) 4 g [] ∙ ap (λ t. t || false) (got_all g ∙ is)
 
-  pub takes_get : (f : Profile) (v : View) → Agreed f v (takes page (words mask) (words answers) 4) → GetsGrains (masked page got) v (takes page (words mask) (words answers) 4 ++ v)
+  -- Takes of a mask get just those of its grains that were read as free.
+  pub takes_get : (f : Profile) (v : View) → Agreed f v (takes page (words mask) (words answers) 4)
+      → GetsGrains (masked page got) v (takes page (words mask) (words answers) 4 ++ v)
   takes_get f v agreed = record {
     does = does_as (taken (masked page got)) (takes_do page (words mask) (words answers) f 4 v agreed) (λ g. inl (ap (λ t. if t then Gained else Kept) (got_all g))) (λ q. refl) (λ q h. h);
     apart = λ g here.
@@ -174,7 +188,8 @@ module _ (page : ℕ) (mask answers got : Mask4) (got_is : (g : ℕ) → is_set 
   }
 
   -- all of the mask is got that is known as free
-  takes_all : (f : Profile) (v : View) → Agreed f v (takes page (words mask) (words answers) 4) → ((g : ℕ) → masked page mask g ≡ true → known_free v g ≡ true) → (g : ℕ) → masked page got g ≡ masked page mask g
+  takes_all : (f : Profile) (v : View) → Agreed f v (takes page (words mask) (words answers) 4) → ((g : ℕ) → masked page mask g ≡ true → known_free v g ≡ true)
+      → (g : ℕ) → masked page got g ≡ masked page mask g
   takes_all f v agreed known g = same_truth (masked page got g) (masked page mask g)
       (λ here. let at = and_parts (page == g / 256) (is_set got (g % 256)) here in and_from (page == g / 256) (is_set mask (g % 256)) at.0 (and_parts (is_set answers (g % 256)) (is_set mask (g % 256)) (sym (got_is (g % 256)) ∙ at.1)).1)
       (λ here. let at = and_parts (page == g / 256) (is_set mask (g % 256)) here in
@@ -186,7 +201,9 @@ pub record MayTakeAll (page : ℕ) (mask : Mask4) (v : View) : Type 0 where
   pub right : has_right v page ≡ true
   pub free : (g : ℕ) → masked page mask g ≡ true → known_free v g ≡ true
 
-pub takes_known : {σ σ1 : Standing} (page : ℕ) (mask got : Mask4) (took : TakesMask page mask σ σ1 got) → Calls σ σ1 (MayTakeAll page mask) (Does (taken (masked page mask))) (takes page (words mask) (words took.answers) 4)
+-- Takes of a mask whose grains are known to be free get all of them.
+pub takes_known : {σ σ1 : Standing} (page : ℕ) (mask got : Mask4) (took : TakesMask page mask σ σ1 got)
+    → Calls σ σ1 (MayTakeAll page mask) (Does (taken (masked page mask))) (takes page (words mask) (words took.answers) 4)
 takes_known {σ} page mask got took = record {
   adds = adds_under took.calls.adds (λ v l stood met. met.right);
   leads = record {

@@ -57,6 +57,7 @@ step_in f (t ∷ l) i d legal lt = elim (cases_eq i (length (in_order l))) [
       }
 ]
 
+-- Each step of a list that can be run is one at its place.
 pub step_at : (f : Profile) (steps : Steps) (i : ℕ) (d : ℕ × Step) → CanRun f steps → i < length steps → IsStepAt f steps i (get_or steps i d)
 step_at f steps i d can lt =
     subst (λ (xs : Steps). IsStepAt f xs i (get_or xs i d)) can.steps_are (step_in f can.whole i d can.legal (subst (λ (xs : Steps). i < length xs) (sym can.steps_are) lt))
@@ -69,9 +70,11 @@ at_actor f steps i x valid at =
     let same : at.triple.actor ≡ x.0 = ap (λ (y : ℕ × Step). y.0) at.made in
     omega (arith, few, threads, same)
 
+-- The numbers of a step of such a list fit their places.
 pub at_ranged : (f : Profile) (steps : Steps) (i : ℕ) (x : ℕ × Step) → IsValid f → IsStepAt f steps i x → IsRanged x.1
 at_ranged f steps i x valid at = subst (λ (y : ℕ × Step). IsRanged y.1) at.made (is_ranged f at.triple.made.step valid at.next.of_region)
 
+-- The word of a step of such a list is one of the region.
 pub at_word : (f : Profile) (steps : Steps) (i : ℕ) (x : ℕ × Step) → IsStepAt f steps i x → IsWordOf f (target x.1)
 at_word f steps i x at = subst (λ (y : ℕ × Step). IsWordOf f (target y.1)) at.made (target_of_region f (part at.triple.actor at.before) at.triple.made.step at.next.of_region at.next.allowed)
 
@@ -90,11 +93,14 @@ first_words : (state : State) → IsOpening state → IsAfter (profile_of state)
 first_words state opening [] legal is w of = opening w of
 first_words state opening (t ∷ l) legal is w of = absurd (not_empty l t is)
 
-first_epochs : (f : Profile) (epochs : List (Option ℕ)) → ((k : ℕ) → k < 17 → get_or epochs k None ≡ None) → (l : Whole) → Legal f l → in_order l ≡ [] → (k : ℕ) → k < 17 → get_or epochs k None ≡ known_epoch (part k l)
+first_epochs : (f : Profile) (epochs : List (Option ℕ)) → ((k : ℕ) → k < 17 → get_or epochs k None ≡ None) → (l : Whole) → Legal f l → in_order l ≡ [] → (k : ℕ)
+    → k < 17 → get_or epochs k None ≡ known_epoch (part k l)
 first_epochs f epochs none [] legal is k small = none k small
 first_epochs f epochs none (t ∷ l) legal is k small = absurd (not_empty l t is)
 
-pub so_far_first : (steps : Steps) (state : State) (epochs : List (Option ℕ)) → IsOpening state → length epochs ≡ 17 → ((k : ℕ) → k < 17 → get_or epochs k None ≡ None) → IsSoFar (profile_of state) steps 0 state epochs
+-- Before any step a state stands at the opening, with no epoch known.
+pub so_far_first : (steps : Steps) (state : State) (epochs : List (Option ℕ)) → IsOpening state → length epochs ≡ 17
+    → ((k : ℕ) → k < 17 → get_or epochs k None ≡ None) → IsSoFar (profile_of state) steps 0 state epochs
 so_far_first steps state epochs opening actors none = record { profile = refl; words = first_words state opening; actors = actors; epochs_are = first_epochs (profile_of state) epochs none }
 
 -- the list up to a step is the list before it, and the step
@@ -113,15 +119,18 @@ split steps i d l t lt is =
     }
 
 -- the words after the step
-value_next : (old new : State) (l : Whole) (t : Triple) (e : ℕ) (w : Word) → e ≡ epoch_of (part t.actor l) → word_in old (target t.made.step) ≡ word_after l (target t.made.step) → word_in old w ≡ word_after l w
+value_next : (old new : State) (l : Whole) (t : Triple) (e : ℕ) (w : Word) → e ≡ epoch_of (part t.actor l)
+    → word_in old (target t.made.step) ≡ word_after l (target t.made.step) → word_in old w ≡ word_after l w
     → (same : Bool) → same_word (target t.made.step) w ≡ same
-    → (if same then new_value e t.made.step (word_in old (target t.made.step)) else word_in old w) ≡ (if same then new_value (epoch_of (part t.actor l)) t.made.step (word_after l w) else word_after l w)
+    → (if same then new_value e t.made.step (word_in old (target t.made.step)) else word_in old w)
+      ≡ (if same then new_value (epoch_of (part t.actor l)) t.made.step (word_after l w) else word_after l w)
 value_next old new l t e w epoch target_is is true same = ap (λ (x : ℕ). new_value x t.made.step (word_in old (target t.made.step))) epoch
     ∙ ap (new_value (epoch_of (part t.actor l)) t.made.step) (target_is ∙ ap (word_after l) (same_word-true (target t.made.step) w same))
 value_next old new l t e w epoch target_is is false same = is
 
 -- the epochs after the step
-epoch_next : (l : Whole) (t : Triple) (epochs : List (Option ℕ)) (new : Option ℕ) (k : ℕ) → t.actor < length epochs → get_or epochs k None ≡ known_epoch (part k l)
+epoch_next : (l : Whole) (t : Triple) (epochs : List (Option ℕ)) (new : Option ℕ) (k : ℕ) → t.actor < length epochs
+    → get_or epochs k None ≡ known_epoch (part k l)
     → new ≡ epoch_after t.made.step t.made.answer (known_epoch (part t.actor l)) → (same : Bool) → (t.actor == k) ≡ same
     → get_or (set epochs t.actor new) k None ≡ known_epoch (if same then t.made ∷ part k l else part k l)
 epoch_next l t epochs new k small is new_is true same =
@@ -137,7 +146,8 @@ record IsStep (f : Profile) (old new : State) (epochs : List (Option ℕ)) (know
   known_is : get_or epochs x.0 None ≡ known
   stepped : IsStepped old new (or_zero known) x.1
 
-next_words : (f : Profile) (steps : Steps) (i : ℕ) (d : ℕ × Step) (old new : State) (epochs : List (Option ℕ)) (known : Option ℕ) → i < length steps → IsSoFar f steps i old epochs
+next_words : (f : Profile) (steps : Steps) (i : ℕ) (d : ℕ × Step) (old new : State) (epochs : List (Option ℕ)) (known : Option ℕ) → i < length steps
+    → IsSoFar f steps i old epochs
     → IsStep f old new epochs known (get_or steps i d) → IsAfter f (take (i + 1) steps) new
 next_words f steps i d old new epochs known lt far did [] legal is w of =
     let taken : length (take (i + 1) steps) ≡ i + 1 = length-take-le (i + 1) steps (omega (arith, lt)) in
@@ -151,9 +161,11 @@ next_words f steps i d old new epochs known lt far did (t ∷ l) legal is w of =
     here.stepped.words w (subst (λ (g : Profile). IsWordOf g w) (sym far.profile) of)
     ∙ value_next old new l t (or_zero known) w epoch at (far.words l legal.1 parts.before w of) (same_word (target t.made.step) w) refl
 
-next_epochs : (f : Profile) (steps : Steps) (i : ℕ) (d : ℕ × Step) (old new : State) (epochs : List (Option ℕ)) (known : Option ℕ) → i < length steps → IsSoFar f steps i old epochs
+next_epochs : (f : Profile) (steps : Steps) (i : ℕ) (d : ℕ × Step) (old new : State) (epochs : List (Option ℕ)) (known : Option ℕ) → i < length steps
+    → IsSoFar f steps i old epochs
     → IsStep f old new epochs known (get_or steps i d) → (l : Whole) → Legal f l → in_order l ≡ take (i + 1) steps → (k : ℕ) → k < 17
-    → get_or (set epochs (get_or steps i d).0 (epoch_after (get_or steps i d).1 (word_in old (target (get_or steps i d).1)) known)) k None ≡ known_epoch (part k l)
+    → get_or (set epochs (get_or steps i d).0 (epoch_after (get_or steps i d).1 (word_in old (target (get_or steps i d).1)) known)) k None
+      ≡ known_epoch (part k l)
 next_epochs f steps i d old new epochs known lt far did [] legal is k small =
     let taken : length (take (i + 1) steps) ≡ i + 1 = length-take-le (i + 1) steps (omega (arith, lt)) in
     let none : 0 ≡ length (take (i + 1) steps) = ap length is in
@@ -170,8 +182,11 @@ next_epochs f steps i d old new epochs known lt far did (t ∷ l) legal is k sma
     ∙ epoch_next l t epochs (epoch_after t.made.step (word_in old (target t.made.step)) known) k (omega (arith, actors, lower)) (far.epochs_are l legal.1 parts.before k small)
     (ap (λ (n : ℕ). epoch_after t.made.step n known) (at ∙ sym next.answer_is) ∙ ap (epoch_after t.made.step t.made.answer) kept) (t.actor == k) refl
 
-pub so_far_next : (f : Profile) (steps : Steps) (i : ℕ) (d : ℕ × Step) (old new : State) (epochs : List (Option ℕ)) (known told : Option ℕ) → IsValid f → CanRun f steps → i < length steps → IsSoFar f steps i old epochs
-    → get_or epochs (get_or steps i d).0 None ≡ known → IsStepped old new (or_zero known) (get_or steps i d).1 → told ≡ epoch_after (get_or steps i d).1 (word_in old (target (get_or steps i d).1)) known
+-- After one step more a state has the words of the list so far, and the epochs that are known.
+pub so_far_next : (f : Profile) (steps : Steps) (i : ℕ) (d : ℕ × Step) (old new : State) (epochs : List (Option ℕ)) (known told : Option ℕ) → IsValid f
+    → CanRun f steps → i < length steps → IsSoFar f steps i old epochs
+    → get_or epochs (get_or steps i d).0 None ≡ known → IsStepped old new (or_zero known) (get_or steps i d).1
+    → told ≡ epoch_after (get_or steps i d).1 (word_in old (target (get_or steps i d).1)) known
     → IsSoFar f steps (i + 1) new (set epochs (get_or steps i d).0 told)
 so_far_next f steps i d old new epochs known told valid can lt far known_is stepped told_is =
     let at : IsStepAt f steps i (get_or steps i d) = step_at f steps i d can lt in
@@ -184,5 +199,6 @@ so_far_next f steps i d old new epochs known told valid can lt far known_is step
     }
 
 -- ---- the end
-pub so_far_last : (f : Profile) (steps : Steps) (i : ℕ) (state : State) (epochs : List (Option ℕ)) → IsSoFar f steps i state epochs → take i steps ≡ steps → IsAfter f steps state
+pub so_far_last : (f : Profile) (steps : Steps) (i : ℕ) (state : State) (epochs : List (Option ℕ)) → IsSoFar f steps i state epochs → take i steps ≡ steps
+    → IsAfter f steps state
 so_far_last f steps i state epochs far all = subst (λ (xs : Steps). IsAfter f xs state) all far.words

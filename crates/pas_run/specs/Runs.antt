@@ -27,4 +27,5 @@ IsAfter f steps state = (l : Whole) → Legal f l → in_order l ≡ steps → (
 -- the state after one step of an actor that knows this epoch
 pub record IsStepped (old new : State) (epoch : ℕ) (step : Step) : Type 0 where
   pub profile : profile_of new ≡ profile_of old
-  pub words : (w : Word) → IsWordOf (profile_of old) w → word_in new w ≡ (if same_word (target step) w then new_value epoch step (word_in old (target step)) else word_in old w)
+  pub words : (w : Word) → IsWordOf (profile_of old) w
+      → word_in new w ≡ (if same_word (target step) w then new_value epoch step (word_in old (target step)) else word_in old w)

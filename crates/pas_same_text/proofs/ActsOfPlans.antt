@@ -56,13 +56,16 @@ module _ (plan : Plan) where
   abbrev KeepsIt : ℕ → Option ℕ → Type 0
   KeepsIt k o = MatchOption o (Unit {0}) (λ keeper. (keeper ≡ threads_of plan + k) × (plan.guard ≢ 0))
 
-  kept_own : (keeper : Option ℕ) (op : Op) → IsOwn op.actor → IsAdmittedWhat (region_of plan) op.what → ((k : ℕ) → keeper ≡ Some k → IsGuardedWhat (region_of plan) k op.what) → KeepsIt op.actor keeper → AreOwn (act_kept keeper op ∷ (Settles op.actor ∷ []))
+  kept_own : (keeper : Option ℕ) (op : Op) → IsOwn op.actor → IsAdmittedWhat (region_of plan) op.what
+      → ((k : ℕ) → keeper ≡ Some k → IsGuardedWhat (region_of plan) k op.what) → KeepsIt op.actor keeper → AreOwn (act_kept keeper op ∷ (Settles op.actor ∷ []))
   kept_own None op thread admitted guarded keeps = ((thread, admitted), ((thread, tt), tt))
   kept_own (Some keeper) op thread admitted guarded keeps =
       let among = keepers_among plan.guard (threads_of plan) op.actor keeps.1 thread.1 in
       ((((omega (arith, thread.0, keeps.0), omega (arith, keeps.0, among)), thread), (admitted, guarded keeper refl)), ((thread, tt), tt))
 
-  work_own : (idle : List ℕ) (op : Op) (work : Work) → AllByRecursion IsOwn idle → IsActorBy plan.profile work op.actor → IsAdmittedWhat (region_of plan) op.what → ((k : ℕ) → of_task keeper_of work ≡ Some k → IsGuardedWhat (region_of plan) k op.what) → KeepsIt op.actor (of_task keeper_of work) → AreOwn (acts_of_work idle op work)
+  work_own : (idle : List ℕ) (op : Op) (work : Work) → AllByRecursion IsOwn idle → IsActorBy plan.profile work op.actor
+      → IsAdmittedWhat (region_of plan) op.what → ((k : ℕ) → of_task keeper_of work ≡ Some k → IsGuardedWhat (region_of plan) k op.what)
+      → KeepsIt op.actor (of_task keeper_of work) → AreOwn (acts_of_work idle op work)
   work_own idle op work idles actor admitted guarded keeps = search (arith, kept_own, chore_own)
 
   -- ---- what is asked for: what the profile admits, its region does
@@ -82,7 +85,8 @@ module _ (plan : Plan) where
   abbrev IsLargeHere : Request → Type 0
   IsLargeHere r = route_in (region_of plan) r.size r.align ≡ Route.Large
 
-  task_large : (asked : List ℕ) (task : Task) → IsSoundTask plan.profile asked task → (k : ℕ) → keeper_of task ≡ Some k → MatchOption (request_of task) (Unit {0}) IsLargeHere
+  task_large : (asked : List ℕ) (task : Task) → IsSoundTask plan.profile asked task → (k : ℕ) → keeper_of task ≡ Some k
+      → MatchOption (request_of task) (Unit {0}) IsLargeHere
   task_large asked (Task.Request name heap size align) sound k is = cc
   task_large asked (Task.Guarded keeper name heap size align) sound k is = sym (large_for (region_of plan).classes size align sound.2)
   task_large asked (Task.Free name room) sound k is = tt
@@ -91,7 +95,8 @@ module _ (plan : Plan) where
   task_large asked Task.Flush sound k is = tt
   task_large asked Task.Stop sound k is = tt
 
-  work_large : (asked : List ℕ) (work : Work) → IsSoundWork plan.profile asked work → (k : ℕ) → of_task keeper_of work ≡ Some k → MatchOption (of_task request_of work) (Unit {0}) IsLargeHere
+  work_large : (asked : List ℕ) (work : Work) → IsSoundWork plan.profile asked work → (k : ℕ) → of_task keeper_of work ≡ Some k
+      → MatchOption (of_task request_of work) (Unit {0}) IsLargeHere
   work_large asked work sound k is = search (arith, task_large)
 
   -- ---- the acts of phases
@@ -154,6 +159,7 @@ plan_acts {text} {plan} is =
     let sound = every_plan is in
     phases_own plan (map ops_of plan.phases.phases.items) (own_ops plan [] (operations_of plan) sound.operations sound.keepers)
 
+-- The region that a plan of a text is replayed in is a valid profile.
 pub plan_region : {text : List ℕ} {plan : Plan} → IsPlanOf text plan → IsValid (region_of plan)
 plan_region {text} {plan} is =
     let sound = every_plan is in

@@ -40,17 +40,20 @@ module _ {X : Type 0} (test : X → Bool) where
   counted : (x : X) (xs : List X) (t : Bool) → test x ≡ t → count_by test (x ∷ xs) ≡ cond t 1 0 + count_by test xs
   counted x xs t e = sum_by-cons (λ y. cond (test y) 1 0) x xs ∙ ap (λ (u : Bool). cond u 1 0 + count_by test xs) e
 
-  kept_one : (x : X) (xs : List X) (t : Bool) → test x ≡ t → filter (λ y. not (test y)) (x ∷ xs) ≡ cond (not t) (x ∷ filter (λ y. not (test y)) xs) (filter (λ y. not (test y)) xs)
+  kept_one : (x : X) (xs : List X) (t : Bool) → test x ≡ t
+      → filter (λ y. not (test y)) (x ∷ xs) ≡ cond (not t) (x ∷ filter (λ y. not (test y)) xs) (filter (λ y. not (test y)) xs)
   kept_one x xs t e = ap (λ (u : Bool). cond (not u) (x ∷ filter (λ y. not (test y)) xs) (filter (λ y. not (test y)) xs)) e
 
-  kept_by : (x : X) (xs : List X) (t : Bool) → test x ≡ t → count_by test (x ∷ xs) ≡ 0 → (count_by test xs ≡ 0 → filter (λ y. not (test y)) xs ≡ xs) → filter (λ y. not (test y)) (x ∷ xs) ≡ x ∷ xs
+  kept_by : (x : X) (xs : List X) (t : Bool) → test x ≡ t → count_by test (x ∷ xs) ≡ 0 → (count_by test xs ≡ 0 → filter (λ y. not (test y)) xs ≡ xs)
+      → filter (λ y. not (test y)) (x ∷ xs) ≡ x ∷ xs
   kept_by x xs t e h more = search (arith, counted, kept_one)
 
   all_kept : (xs : List X) → count_by test xs ≡ 0 → filter (λ y. not (test y)) xs ≡ xs
   all_kept [] none = refl
   all_kept (x ∷ xs) none = kept_by x xs (test x) refl none (all_kept xs)
 
-  out_by : (y : X) (ys : List X) (x : X) (t : Bool) → test y ≡ t → find test (y ∷ ys) ≡ Some x → count_by test (y ∷ ys) ≤ 1 → (find test ys ≡ Some x → count_by test ys ≤ 1 → IsPermutation ys (x ∷ filter (λ z. not (test z)) ys))
+  out_by : (y : X) (ys : List X) (x : X) (t : Bool) → test y ≡ t → find test (y ∷ ys) ≡ Some x → count_by test (y ∷ ys) ≤ 1
+      → (find test ys ≡ Some x → count_by test ys ≤ 1 → IsPermutation ys (x ∷ filter (λ z. not (test z)) ys))
       → IsPermutation (y ∷ ys) (x ∷ filter (λ z. not (test z)) (y ∷ ys))
   out_by y ys x true e found one more = search (arith, counted, kept_one, all_kept)
   out_by y ys x false e found one more =
@@ -65,14 +68,16 @@ module _ {X : Type 0} (test : X → Bool) where
   taken_out (y ∷ ys) x found one = out_by y ys x (test y) refl found one (taken_out ys x)
 
 -- ---- the slots of a refill come
-module _ (f : Profile) (heap class : ℕ) (fewer : List Slots) (v : View) (of : IsDirectoryOf f (class_home f heap class)) (known : IsClass class) (none : local_for heap class fewer ≡ None) (rests : RestsWith f fewer v) where
+module _ (f : Profile) (heap class : ℕ) (fewer : List Slots) (v : View) (of : IsDirectoryOf f (class_home f heap class)) (known : IsClass class)
+    (none : local_for heap class fewer ≡ None) (rests : RestsWith f fewer v) where
   abbrev d : Directory
   d = class_home f heap class
 
   may : MaySearch d v
   may = record { rights = λ page deed. rests.rights page ∙ none_kept f v heap class page fewer of.kind deed rests.known none; clear = rests.clear }
 
-  refilled : (steps : List Made) (slots : Slots) → IsRefill (filling_in d class) f steps (Ok slots) → Agreed f v steps → RestsWith f (slots ∷ fewer) (steps ++ v)
+  refilled : (steps : List Made) (slots : Slots) → IsRefill (filling_in d class) f steps (Ok slots) → Agreed f v steps
+      → RestsWith f (slots ∷ fewer) (steps ++ v)
   refilled steps slots refill agreed =
       let gives = refill.outcome in
       let of_heap : slots.heap ≡ heap = ap (λ (e : Directory). e.heap) gives.home in
@@ -84,7 +89,8 @@ module _ (f : Profile) (heap class : ℕ) (fewer : List Slots) (v : View) (of : 
       (λ later page at. none_kept f (steps ++ v) heap class page fewer of.kind (subst (λ (q : ℕ). KnowsDeed q d (steps ++ v)) (eqb-true slots.page page at) gets.may_stop.deed) later none)
 
 -- ---- no local allocator keeps a page of a kind that no class has
-no_class_kept : (f : Profile) (v : View) (d : Directory) (page : ℕ) (slots : List Slots) → IsKind d.kind → ((shared : Bool) (class : ℕ) → kind_of_class shared class ≡ d.kind → ⊥) → KnowsDeed page d v → All (IsLocal f v) slots → any_keeps slots page ≡ false
+no_class_kept : (f : Profile) (v : View) (d : Directory) (page : ℕ) (slots : List Slots) → IsKind d.kind
+    → ((shared : Bool) (class : ℕ) → kind_of_class shared class ≡ d.kind → ⊥) → KnowsDeed page d v → All (IsLocal f v) slots → any_keeps slots page ≡ false
 no_class_kept f v d page [] kind other of all = refl
 no_class_kept f v d page (s ∷ slots) kind other of all =
     let own : IsLocal f v s = All-head (IsLocal f v) s slots all in
@@ -130,13 +136,15 @@ module _ (f : Profile) (k : ℕ) (r : Request) (p : Progress) (a : Answer) (w : 
     kind_is true = record { heap = admitted.of_profile; kind = tt; class = tt }
     kind_is false = record { heap = admitted.of_profile; kind = known; class = (class_suits f.classes r.size r.align class route).known }
 
-    cached_out : (slots : Slots) (fewer : List Slots) (early : List Made) → FindsCached r.heap class c.locals fewer slots early → RestsWith f (slots ∷ fewer) (early ++ v)
+    cached_out : (slots : Slots) (fewer : List Slots) (early : List Made) → FindsCached r.heap class c.locals fewer slots early
+        → RestsWith f (slots ∷ fewer) (early ++ v)
     cached_out slots fewer early finds =
         subst (λ (ms : List Made). RestsWith f (slots ∷ fewer) (ms ++ v)) (sym finds.no_steps)
         (subst (λ (ss : List Slots). RestsWith f (slots ∷ ss) v) (sym finds.fewer_are)
         (rests_reordered f c.locals (slots ∷ others_than r.heap class c.locals) (taken_out (is_for_slots r.heap class) c.locals slots finds.cached (rests.apart.one_each r.heap class)) v rests))
 
-    fetched : (slots : Slots) (fewer : List Slots) (early : List Made) → Legal f (triples k early ++ p.list) → Fetches (filling_in home class) f c.locals fewer early (Ok slots) → RestsWith f (slots ∷ fewer) (early ++ v)
+    fetched : (slots : Slots) (fewer : List Slots) (early : List Made) → Legal f (triples k early ++ p.list)
+        → Fetches (filling_in home class) f c.locals fewer early (Ok slots) → RestsWith f (slots ∷ fewer) (early ++ v)
     fetched slots fewer early stands fetch =
         let o : IsFetched f k r.heap class p w (Ok slots) fewer early =
         record {
@@ -159,14 +167,16 @@ module _ (f : Profile) (k : ℕ) (r : Request) (p : Progress) (a : Answer) (w : 
         refilled f r.heap class fewer (fetch.before ++ v) (kind_is (is_shared f r.heap)) known none mid fetch.searched slots fetch.refill (agreed_first f v fetch.searched fetch.before ok) in
         subst (λ (ms : List Made). RestsWith f (slots ∷ fewer) (ms ++ v)) (sym fetch.steps_are) (subst (RestsWith f (slots ∷ fewer)) (sym (append_assoc fetch.searched fetch.before v)) all)
 
-    obtained : (slots : Slots) (fewer : List Slots) (early : List Made) → Legal f (triples k early ++ p.list) → IsObtained (filling_in home class) f c.locals fewer early (Ok slots) → RestsWith f (slots ∷ fewer) (early ++ v)
+    obtained : (slots : Slots) (fewer : List Slots) (early : List Made) → Legal f (triples k early ++ p.list)
+        → IsObtained (filling_in home class) f c.locals fewer early (Ok slots) → RestsWith f (slots ∷ fewer) (early ++ v)
     obtained slots fewer early stands (inl cached) =
         let some : Ok slots ≡ Ok cached.0 = cached.1 in
         let is : slots ≡ cached.0 = cc in
         subst (λ (s : Slots). RestsWith f (s ∷ fewer) (early ++ v)) (sym is) (cached_out cached.0 fewer early cached.2)
     obtained slots fewer early stands (inr fetch) = fetched slots fewer early stands fetch
 
-    given_rests : (found : Result Slots NoRoom) (fewer locals' : List Slots) (given early : List Made) → a.steps ≡ given ++ early → IsObtained (filling_in home class) f c.locals fewer early found → IsAnsweredBy fewer locals' given found (Ok block)
+    given_rests : (found : Result Slots NoRoom) (fewer locals' : List Slots) (given early : List Made) → a.steps ≡ given ++ early
+        → IsObtained (filling_in home class) f c.locals fewer early found → IsAnsweredBy fewer locals' given found (Ok block)
         → RestsWith f locals' (a.steps ++ v)
     given_rests (Err why) fewer locals' given early steps_are how ends = absurd ends
     given_rests (Ok slots) fewer locals' given early steps_are how ends =
@@ -180,14 +190,16 @@ module _ (f : Profile) (k : ℕ) (r : Request) (p : Progress) (a : Answer) (w : 
         subst (λ (ss : List Slots). RestsWith f ss (a.steps ++ v)) (sym ends.2)
         (subst (λ (ms : List Made). RestsWith f (fewer ++ left ∷ []) (ms ++ v)) (sym steps_are) (subst (RestsWith f (fewer ++ left ∷ [])) (sym (append_assoc given early v)) at_end))
 
-    class_rests : ServesClass (filling_in (directory_for f r.heap r.size r.align) class) f c a.cache a.steps (Ok block) → RestsWith f a.cache.locals (a.steps ++ v)
+    class_rests : ServesClass (filling_in (directory_for f r.heap r.size r.align) class) f c a.cache a.steps (Ok block)
+        → RestsWith f a.cache.locals (a.steps ++ v)
     class_rests by_class =
         let home_is : directory_for f r.heap r.size r.align ≡ home = ap (λ (x : Route). let e : Directory = record { heap = r.heap; kind = kind_of_route (is_shared f r.heap) x } in e) route in
         let own : ServesClass (filling_in home class) f c a.cache a.steps (Ok block) = subst (λ (e : Directory). ServesClass (filling_in e class) f c a.cache a.steps (Ok block)) home_is by_class in
         given_rests own.locals.found own.locals.fewer a.cache.locals own.locals.given own.locals.before own.locals.steps_are own.locals.obtained own.locals.ends
 
   -- ---- of a bit-fit page
-  bitfit_rests : route_in f r.size r.align ≡ Route.Bitfit → ServesBitfit f (wanted_by f r) c a.cache a.steps (Ok block) → RestsWith f a.cache.locals (a.steps ++ v)
+  bitfit_rests : route_in f r.size r.align ≡ Route.Bitfit → ServesBitfit f (wanted_by f r) c a.cache a.steps (Ok block)
+      → RestsWith f a.cache.locals (a.steps ++ v)
   bitfit_rests route by_bitfit =
       let d : Directory = bitfit_directory r.heap in
       let home_is : directory_for f r.heap r.size r.align ≡ d = ap (λ (x : Route). let e : Directory = record { heap = r.heap; kind = kind_of_route (is_shared f r.heap) x } in e) route in
@@ -203,7 +215,8 @@ module _ (f : Profile) (k : ℕ) (r : Request) (p : Progress) (a : Answer) (w : 
       (λ q. refl) rests known rests.apart)
 
   -- ---- of whole pages
-  pages_rests : route_in f r.size r.align ≡ Route.Large → ServesPages f (wanted_by f r) a.found c a.cache a.steps (Ok block) → RestsWith f a.cache.locals (a.steps ++ v)
+  pages_rests : route_in f r.size r.align ≡ Route.Large → ServesPages f (wanted_by f r) a.found c a.cache a.steps (Ok block)
+      → RestsWith f a.cache.locals (a.steps ++ v)
   pages_rests route by_pages =
       let d : Directory = directory_for f r.heap r.size r.align in
       let home_is : large_of r.heap ≡ d = ap (λ (x : Route). let e : Directory = record { heap = r.heap; kind = kind_of_route (is_shared f r.heap) x } in e) (sym route) in
@@ -212,7 +225,8 @@ module _ (f : Profile) (k : ℕ) (r : Request) (p : Progress) (a : Answer) (w : 
       subst (λ (x : Cached). RestsWith f x.locals (a.steps ++ v)) (sym by_pages.cache)
       (subst (λ (ms : List Made). RestsWith f c.locals (ms ++ v)) (sym by_pages.steps_are) (by_outcome d find_it by_pages.tried by_pages.rest ok by_pages.outcome))
     where
-      by_outcome : (d : Directory) → MayFind d v → (tried later : List Made) → Agreed f v (later ++ tried) → IsServedNamed f d (pages_of (wanted_by f r)) a.found tried later (Ok block) ⊎ IsScanned f d (pages_of (wanted_by f r)) a.found tried later (Ok block)
+      by_outcome : (d : Directory) → MayFind d v → (tried later : List Made) → Agreed f v (later ++ tried)
+          → IsServedNamed f d (pages_of (wanted_by f r)) a.found tried later (Ok block) ⊎ IsScanned f d (pages_of (wanted_by f r)) a.found tried later (Ok block)
           → RestsWith f c.locals ((later ++ tried) ++ v)
       by_outcome d find_it tried later ok (inl named) = rests_kept f c.locals (later ++ tried) v (named.2.gave.from v find_it ok).does ok rests
       by_outcome d find_it tried later ok (inr scanned) =
@@ -221,7 +235,8 @@ module _ (f : Profile) (k : ℕ) (r : Request) (p : Progress) (a : Answer) (w : 
           subst (λ (ms : List Made). RestsWith f c.locals (ms ++ v)) (sym steps_are) (rests_kept f c.locals (scanned.after ++ (scanned.searched ++ tried)) v (scanned.outcome.gave.from v find_it all).does all rests)
 
   -- ---- of any
-  by_route : (route : Route) → route_in f r.size r.align ≡ route → ServesBy route f (wanted_by f r) a.found c a.cache a.steps (Ok block) → RestsWith f a.cache.locals (a.steps ++ v)
+  by_route : (route : Route) → route_in f r.size r.align ≡ route → ServesBy route f (wanted_by f r) a.found c a.cache a.steps (Ok block)
+      → RestsWith f a.cache.locals (a.steps ++ v)
   by_route (Route.Class class) is serves = class_rests class is serves
   by_route Route.Bitfit is serves = bitfit_rests is serves
   by_route Route.Large is serves = pages_rests is serves
@@ -230,8 +245,10 @@ module _ (f : Profile) (k : ℕ) (r : Request) (p : Progress) (a : Answer) (w : 
   log_kept : (route : Route) → ServesBy route f (wanted_by f r) a.found c a.cache a.steps (Ok block) → a.cache.log ≡ c.log
   log_kept route serves = grind arith
 
+  -- A request that was served leaves its thread at rest with the local allocators of the cache in its answer.
   pub served_rests : ServesBy (route_in f r.size r.align) f (wanted_by f r) a.found c a.cache a.steps (Ok block) → RestsWith f a.cache.locals (a.steps ++ v)
   served_rests serves = by_route (route_in f r.size r.align) refl serves
 
+  -- A request that was served leaves the log of its thread's cache as it was.
   pub served_log : ServesBy (route_in f r.size r.align) f (wanted_by f r) a.found c a.cache a.steps (Ok block) → a.cache.log ≡ c.log
   served_log serves = log_kept (route_in f r.size r.align) serves

@@ -47,14 +47,17 @@ carried_on threads f act p p' w indexes known many kept = record {
 }
 
 -- ---- several
-first_rest : (threads : ℕ) (f : Profile) (acts : List Act) (p p' : Progress) (is : Reaches f acts p p') → AllAtRest threads f acts p p' is → AreAtRest threads f p.caches p.books p.list
+first_rest : (threads : ℕ) (f : Profile) (acts : List Act) (p p' : Progress) (is : Reaches f acts p p') → AllAtRest threads f acts p p' is
+    → AreAtRest threads f p.caches p.books p.list
 first_rest threads f [] p p' is rests = rests
 first_rest threads f (act ∷ acts) p p' is rests = rests.0
 
 first_legal : (f : Profile) (acts : List Act) (p p' : Progress) → Reaches f acts p p' → Legal f p'.list → Legal f p.list
 first_legal f acts p p' is legal = was_so f (Legal f) (legal_before f) acts p p' is legal
 
-pub acts_carried : (threads : ℕ) (f : Profile) (acts : List Act) (p p' : Progress) (is : Reaches f acts p p') (w : World) (indexes : Indexes) → ArePlanned threads f acts → AreKnown threads f acts p p' is indexes → IsCarried threads f p w indexes
+-- What is so between two acts is so after several acts of a plan, of which all is known that a replay in order knows.
+pub acts_carried : (threads : ℕ) (f : Profile) (acts : List Act) (p p' : Progress) (is : Reaches f acts p p') (w : World) (indexes : Indexes)
+    → ArePlanned threads f acts → AreKnown threads f acts p p' is indexes → IsCarried threads f p w indexes
     → IsCarried threads f p' (each (acts_on f) acts w) (indexes_after_all f acts p p' is indexes)
 acts_carried threads f [] p p' is w indexes planned known carried = subst (λ (q : Progress). IsCarried threads f q w indexes) (sym is) carried
 acts_carried threads f (act ∷ acts) p p' is w indexes planned known carried =
@@ -137,11 +140,13 @@ own_told text plan whole records read is =
     told_by (threads_of plan) text plan whole records (omega arith) (omega (arith, actors)) read is
 
 -- .. so the text of the bytes, of which this is the plan, is what is written
-pub order_told : (bytes : List ℕ) (plan : Plan) (whole : Whole) (records : List Record) → IsPlanOf bytes plan → IsReplay InOrder plan whole records → order_text bytes ≡ Some (lines_of records ++ report_text (region_of plan) (visible whole) (marks_after whole))
+pub order_told : (bytes : List ℕ) (plan : Plan) (whole : Whole) (records : List Record) → IsPlanOf bytes plan → IsReplay InOrder plan whole records
+    → order_text bytes ≡ Some (lines_of records ++ report_text (region_of plan) (visible whole) (marks_after whole))
 order_told bytes plan whole records read is = bytes_told bytes plan read ∙ ap (λ (text : List ℕ). Some text) (own_told bytes plan whole records read is).text
 
 -- .. and of a plan without keepers, in the region of its replays, where its threads alone are actors
-pub replay_told : (text : List ℕ) (plan : Plan) (whole : Whole) (records : List Record) → IsPlanOf text plan → (is : IsReplay InOrder plan whole records) → keepers_of plan ≡ 0
+pub replay_told : (text : List ℕ) (plan : Plan) (whole : Whole) (records : List Record) → IsPlanOf text plan → (is : IsReplay InOrder plan whole records)
+    → keepers_of plan ≡ 0
     → IsTold plan whole records (replayed (region_of plan) (keepers_of plan) (phases_of plan))
 replay_told text plan whole records read is none =
     subst (λ (f : Profile). IsTold plan whole records (replayed f (keepers_of plan) (phases_of plan))) (region_same plan none)

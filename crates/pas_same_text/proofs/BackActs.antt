@@ -31,7 +31,8 @@ same_between f p k steps c names records b = record { legal = b.legal; rest = b.
 
 -- ---- a flush
 module _ (f : Profile) (k : ℕ) (p p' : Progress) (w : World) (usable : HasUsableBlocks p) (thread : IsThread f k) (listed : k ≤ length w.caches) where
-  flushed : (a : Answer) → IsFlushed k (p.caches k) a.cache a.steps → a.said ≡ None → a.names ≡ p.names → p' ≡ after_answer p k a → IsValid f → IsBetween f p → IsBetween f p' → IsSame f p w → IsSame f p' (flushes f k w)
+  flushed : (a : Answer) → IsFlushed k (p.caches k) a.cache a.steps → a.said ≡ None → a.names ≡ p.names → p' ≡ after_answer p k a → IsValid f → IsBetween f p
+      → IsBetween f p' → IsSame f p w → IsSame f p' (flushes f k w)
   flushed a is said names reached valid before after same =
       let rs : List Record = records_of (events_by k (part k p.list) a.steps) in
       let to : p' ≡ with_records (with_steps p k a.steps a.cache) (rs ++ []) =
@@ -41,20 +42,24 @@ module _ (f : Profile) (k : ℕ) (p p' : Progress) (w : World) (usable : HasUsab
       (flush_same f k p w a.steps a.cache valid thread listed before same usable is.empties is.cache there)
 
   -- ---- a stop, after which this is said
-  stopped_all : (steps : List Made) (c' : Cached) → IsStopped k (p.caches k) c' steps → IsValid f → IsBetween f p → IsBetween f (with_steps p k steps c') → IsSame f p w
+  stopped_all : (steps : List Made) (c' : Cached) → IsStopped k (p.caches k) c' steps → IsValid f → IsBetween f p → IsBetween f (with_steps p k steps c')
+      → IsSame f p w
       → IsSame f (with_records (with_steps p k steps c') (records_of (events_by k (part k p.list) steps))) (stops f k w)
   stopped_all steps c' is valid before after same =
       subst (λ (ms : List Made). IsSame f (with_records (with_steps p k ms c') (records_of (events_by k (part k p.list) ms))) (stops f k w)) (sym is.steps_are)
       (stop_same f k p w is.flushed is.stopped c' valid thread listed before same usable is.empties is.stops is.kinds is.silent is.cache
       (subst (λ (ms : List Made). IsBetween f (with_steps p k ms c')) is.steps_are after))
 
-  stopped_plain : (steps : List Made) (c' : Cached) → IsStopped k (p.caches k) c' steps → p' ≡ with_records (with_steps p k steps c') (records_of (events_by k (part k p.list) steps) ++ []) → IsValid f → IsBetween f p → IsBetween f p' → IsSame f p w → IsSame f p' (stops f k w)
+  stopped_plain : (steps : List Made) (c' : Cached) → IsStopped k (p.caches k) c' steps
+      → p' ≡ with_records (with_steps p k steps c') (records_of (events_by k (part k p.list) steps) ++ []) → IsValid f → IsBetween f p → IsBetween f p'
+      → IsSame f p w → IsSame f p' (stops f k w)
   stopped_plain steps c' is reached valid before after same =
       let rs : List Record = records_of (events_by k (part k p.list) steps) in
       let there : IsBetween f (with_steps p k steps c') = same_between f p k steps c' p.names (rs ++ []) (subst (IsBetween f) reached after) in
       rw (reached, append-nil rs) (stopped_all steps c' is valid before there same)
 
-  stopped_said : (steps : List Made) (c' : Cached) (r : Record) → IsStopped k (p.caches k) c' steps → p' ≡ after_stop p k steps c' (r ∷ []) → IsValid f → IsBetween f p → IsBetween f p' → IsSame f p w → IsSame f p' (says r (stops f k w))
+  stopped_said : (steps : List Made) (c' : Cached) (r : Record) → IsStopped k (p.caches k) c' steps → p' ≡ after_stop p k steps c' (r ∷ []) → IsValid f
+      → IsBetween f p → IsBetween f p' → IsSame f p w → IsSame f p' (says r (stops f k w))
   stopped_said steps c' r is reached valid before after same =
       let rs : List Record = records_of (events_by k (part k p.list) steps) in
       let q : Progress = with_steps p k steps c' in
@@ -62,11 +67,13 @@ module _ (f : Profile) (k : ℕ) (p p' : Progress) (w : World) (usable : HasUsab
       subst (λ (x : Progress). IsSame f x (says r (stops f k w))) (sym (reached ∙ ap (λ (xs : List Record). record q { records = xs }) (sym (append_assoc p.records rs (r ∷ [])))))
       (says_same f (with_records q rs) (stops f k w) r (stopped_all steps c' is valid before there same))
 
+-- A flush leads the text to the replay's state, where live blocks lie on usable grains.
 pub flush_act : (f : Profile) (line k : ℕ) → IsThread f k → StaysSameWhere HasUsableBlocks f (Act.Operates (record { line = line; actor = k; what = Flush }))
 flush_act f line k is p p' w usable taken =
     flushed f k p p' w usable is taken.listed taken.advances.0 taken.advances.1.0 taken.advances.1.1 taken.advances.1.2 taken.advances.2 taken.valid
     taken.before taken.after taken.same
 
+-- A thread's stop leads the text to the replay's state, where live blocks lie on usable grains.
 pub stop_act : (f : Profile) (line k : ℕ) → IsThread f k → StaysSameWhere HasUsableBlocks f (Act.Operates (record { line = line; actor = k; what = Stop }))
 stop_act f line k is p p' w usable taken =
     let a : Answer = taken.advances.0 in
@@ -74,18 +81,22 @@ stop_act f line k is p p' w usable taken =
     taken.advances.2 ∙ (ap (λ (s : Option TheSaid). after_with p k a.steps s a.names a.cache) taken.advances.1.1 ∙ ap (λ (ns : List Named). after_with p k a.steps None ns a.cache) taken.advances.1.2) in
     stopped_plain f k p p' w usable is taken.listed a.steps a.cache taken.advances.1.0 to taken.valid taken.before taken.after taken.same
 
+-- A thread's end at the close leads the text to the replay's state, where live blocks lie on usable grains.
 pub end_act : (f : Profile) (k : ℕ) → IsThread f k → StaysSameWhere HasUsableBlocks f (Act.Ends k)
 end_act f k is p p' w usable taken =
     stopped_plain f k p p' w usable is taken.listed taken.advances.0 taken.advances.1 taken.advances.2 taken.advances.3 taken.valid taken.before taken.after
     taken.same
 
 -- ---- a thread that is idle
-idle_test : (f : Profile) (k n : ℕ) (p : Progress) (w : World) → IsThread f k → IsSame f p w → nat_le ((cache_of w k).began + n) w.read ≡ nat_le ((p.caches k).idle_since + n) p.epoch
+idle_test : (f : Profile) (k n : ℕ) (p : Progress) (w : World) → IsThread f k → IsSame f p w
+    → nat_le ((cache_of w k).began + n) w.read ≡ nat_le ((p.caches k).idle_since + n) p.epoch
 idle_test f k n p w is same = ap (λ (b : ℕ). nat_le (b + n) w.read) (same.caches.each k is).began ∙ ap (λ (r : ℕ). nat_le ((p.caches k).idle_since + n) r) same.read
 
-idle_by : (f : Profile) (k n : ℕ) (w : World) (t : Bool) → nat_le ((cache_of w k).began + n) w.read ≡ t → stops_idle f k n w ≡ (if t then says (Record.Said 0 (Said.Stopped k)) (stops f k w) else w)
+idle_by : (f : Profile) (k n : ℕ) (w : World) (t : Bool) → nat_le ((cache_of w k).began + n) w.read ≡ t
+    → stops_idle f k n w ≡ (if t then says (Record.Said 0 (Said.Stopped k)) (stops f k w) else w)
 idle_by f k n w t e = ap (λ (u : Bool). if u then says (Record.Said 0 (Said.Stopped k)) (stops f k w) else w) e
 
+-- The stop of an idle thread leads the text to the replay's state, where live blocks lie on usable grains.
 pub idle_act : (f : Profile) (k n : ℕ) → IsThread f k → StaysSameWhere HasUsableBlocks f (Act.StopsIdle k n)
 idle_act f k n is p p' w usable taken = elim taken.advances [
   | inl h ↦
@@ -107,7 +118,8 @@ idle_act f k n is p p' w usable taken = elim taken.advances [
 
 -- ==== FREES INTO ANY LOG
 -- an actor that is at rest with a cache is so with an empty log
-rest_emptied : (f : Profile) (c c' : Cached) (noted : List EndedRun) (guards : List Guard) (v : View) → c'.locals ≡ c.locals → IsResting f c' guards v → IsResting f (record c { log = []; noted = noted }) guards v
+rest_emptied : (f : Profile) (c c' : Cached) (noted : List EndedRun) (guards : List Guard) (v : View) → c'.locals ≡ c.locals → IsResting f c' guards v
+    → IsResting f (record c { log = []; noted = noted }) guards v
 rest_emptied f c c' noted guards v is rest = search (arith, rest.locals, rest.few)
 
 module _ (f : Profile) (k : ℕ) (entry : Entry) (p : Progress) (w : World) (c' : Cached) (steps : List Made) (thread : IsThread f k)
@@ -125,7 +137,8 @@ module _ (f : Profile) (k : ℕ) (entry : Entry) (p : Progress) (w : World) (c' 
   both : EmptiesFull true k c.log logged.kept c.noted c'.noted steps
   both = subst (λ (t : Bool). EmptiesFull t k c.log logged.kept c.noted c'.noted steps) full logged.emptied
 
-  rest_at : (j : ℕ) (t : Bool) (guards : List Guard) (v : View) → IsResting f (if t then c' else p.caches j) guards v → IsResting f (if t then emptied else p.caches j) guards v
+  rest_at : (j : ℕ) (t : Bool) (guards : List Guard) (v : View) → IsResting f (if t then c' else p.caches j) guards v
+      → IsResting f (if t then emptied else p.caches j) guards v
   rest_at j t guards v rest = search (arith, rest_emptied)
 
   abbrev q : Progress
@@ -179,10 +192,12 @@ module _ (f : Profile) (k : ℕ) (entry : Entry) (p : Progress) (w : World) (c' 
 module _ (f : Profile) (k : ℕ) (entry : Entry) (p : Progress) (w : World) (c' : Cached) (steps : List Made) (thread : IsThread f k)
     (listed : k ≤ length w.caches) (valid : IsValid f) (before : IsBetween f p) (same : IsSame f p w) (usable : AreBlocksUsable (visible p.list))
     (after : IsBetween f (with_steps p k steps c')) where
-  by_room : (t : Bool) → nat_le 64 (length (p.caches k).log) ≡ t → TakesEntry f k (p.caches k) c' entry steps → IsSame f (after_with p k steps None p.names c') (frees f k entry w)
+  by_room : (t : Bool) → nat_le 64 (length (p.caches k).log) ≡ t → TakesEntry f k (p.caches k) c' entry steps
+      → IsSame f (after_with p k steps None p.names c') (frees f k entry w)
   by_room true e takes = full_same f k entry p w c' steps thread listed valid before same usable after e takes
   by_room false e takes = freed_same f k entry p w c' steps None thread listed same e (inl (takes, refl))
 
+  -- A free into any log, a full one too, leads the text to the replay's state.
   pub freed_any : (said : Option TheSaid) → IsFreed f k (p.caches k) c' entry steps said → IsSame f (after_with p k steps said p.names c') (frees f k entry w)
   freed_any said (inl t) = subst (λ (s : Option TheSaid). IsSame f (after_with p k steps s p.names c') (frees f k entry w)) (sym t.1) (by_room (nat_le 64 (length (p.caches k).log)) refl t.0)
   freed_any said (inr t) = subst (λ (s : Option TheSaid). IsSame f (after_with p k steps s p.names c') (frees f k entry w)) (sym t.2) (refused_same f k entry p w c' steps t.0 same t.1)
@@ -202,36 +217,47 @@ module _ (f : Profile) (k : ℕ) (p p' : Progress) (w : World) (thread : IsThrea
       subst (λ (q : Progress). IsSame f q (frees f k entry w)) (sym to)
       (freed_any f k entry p w a.cache a.steps thread listed valid before same usable there a.said freed)
 
-  named_by : (name : ℕ) (size : Option ℕ) (meant : Option (Option Block)) → IsFreedBy f k (p.caches k) a.cache name size meant a.steps a.said → IsSame f p' (frees_what f k name (room_noted size) meant w)
+  named_by : (name : ℕ) (size : Option ℕ) (meant : Option (Option Block)) → IsFreedBy f k (p.caches k) a.cache name size meant a.steps a.said
+      → IsSame f p' (frees_what f k name (room_noted size) meant w)
   named_by name size None freed = absurd freed
   named_by name size (Some None) freed = subst (λ (q : Progress). IsSame f q (says (Record.Said k (Said.Skipped name)) w)) (sym to) (skipped_same f k name p w a.cache a.steps a.said same freed.0 freed.1 freed.2)
   named_by name size (Some (Some block)) freed = entry_any (sized_entry block.name (room_noted size)) freed
 
-  name_any : (name : ℕ) (size : Option ℕ) → IsFreedBy f k (p.caches k) a.cache name size (standing_for p.names name) a.steps a.said → IsSame f p' (frees_named f k name (room_noted size) w)
+  name_any : (name : ℕ) (size : Option ℕ) → IsFreedBy f k (p.caches k) a.cache name size (standing_for p.names name) a.steps a.said
+      → IsSame f p' (frees_named f k name (room_noted size) w)
   name_any name size freed = subst (λ (ns : List Named). IsSame f p' (frees_what f k name (room_noted size) (standing_for ns name) w)) (sym same.names) (named_by name size (standing_for p.names name) freed)
 
-pub raw_act : (f : Profile) (line k : ℕ) (block : Name) → IsThread f k → StaysSameWhere HasUsableBlocks f (Act.Operates (record { line = line; actor = k; what = Raw block }))
+-- A free of a bare name leads the text to the replay's state, whatever the thread's log holds.
+pub raw_act : (f : Profile) (line k : ℕ) (block : Name) → IsThread f k
+    → StaysSameWhere HasUsableBlocks f (Act.Operates (record { line = line; actor = k; what = Raw block }))
 raw_act f line k block is p p' w usable taken =
     entry_any f k p p' w is taken.listed taken.valid taken.before taken.after taken.same usable taken.advances.0 taken.advances.1.1 taken.advances.2
     (entry_of block) taken.advances.1.0
 
-pub raw_sized_act : (f : Profile) (line k room : ℕ) (block : Name) → IsThread f k → StaysSameWhere HasUsableBlocks f (Act.Operates (record { line = line; actor = k; what = RawSized room block }))
+-- A free of a bare name with its room leads the text to the replay's state, whatever the thread's log holds.
+pub raw_sized_act : (f : Profile) (line k room : ℕ) (block : Name) → IsThread f k
+    → StaysSameWhere HasUsableBlocks f (Act.Operates (record { line = line; actor = k; what = RawSized room block }))
 raw_sized_act f line k room block is p p' w usable taken =
     entry_any f k p p' w is taken.listed taken.valid taken.before taken.after taken.same usable taken.advances.0 taken.advances.1.1 taken.advances.2
     (sized_entry block room) taken.advances.1.0
 
-pub free_act : (f : Profile) (line k name : ℕ) → IsThread f k → StaysSameWhere HasUsableBlocks f (Act.Operates (record { line = line; actor = k; what = Free name }))
+-- A free of a name of the trace leads the text to the replay's state, whatever the thread's log holds.
+pub free_act : (f : Profile) (line k name : ℕ) → IsThread f k
+    → StaysSameWhere HasUsableBlocks f (Act.Operates (record { line = line; actor = k; what = Free name }))
 free_act f line k name is p p' w usable taken =
     name_any f k p p' w is taken.listed taken.valid taken.before taken.after taken.same usable taken.advances.0 taken.advances.1.1 taken.advances.2 name None
     taken.advances.1.0
 
-pub free_sized_act : (f : Profile) (line k name room : ℕ) → IsThread f k → StaysSameWhere HasUsableBlocks f (Act.Operates (record { line = line; actor = k; what = FreeSized name room }))
+-- A free of a name of the trace with its room leads the text to the replay's state, whatever the log holds.
+pub free_sized_act : (f : Profile) (line k name room : ℕ) → IsThread f k
+    → StaysSameWhere HasUsableBlocks f (Act.Operates (record { line = line; actor = k; what = FreeSized name room }))
 free_sized_act f line k name room is p p' w usable taken =
     name_any f k p p' w is taken.listed taken.valid taken.before taken.after taken.same usable taken.advances.0 taken.advances.1.1 taken.advances.2 name
     (Some room) taken.advances.1.0
 
 -- ---- reallocations that do nothing
-named_same : (f : Profile) (k name : ℕ) (o : Option Block) (said : TheSaid) (p : Progress) (w : World) → IsSame f p w → IsSame f (after_with p k [] (Some said) (named name o ∷ p.names) (p.caches k)) (names_it name o (says (Record.Said k said) w))
+named_same : (f : Profile) (k name : ℕ) (o : Option Block) (said : TheSaid) (p : Progress) (w : World) → IsSame f p w
+    → IsSame f (after_with p k [] (Some said) (named name o ∷ p.names) (p.caches k)) (names_it name o (says (Record.Said k said) w))
 named_same f k name o said p w same =
     let to : IsSame f (after_with p k [] (Some said) p.names (p.caches k)) (says (Record.Said k said) w) = said_same f k said p w same in record {
       pages = pages_next f p.list p.list w (names_it name o (says (Record.Said k said) w)) same.pages (unchanged p.list) (record { events = refl; live = refl; hinted = refl; locals = refl; guards = refl });
@@ -243,7 +269,8 @@ named_same f k name o said p w same =
       read = to.read;
     }
 
-remade_as : (f : Profile) (k name : ℕ) (o : Option Block) (said : TheSaid) (p p' : Progress) (w : World) (a : Answer) → IsSame f p w → p' ≡ after_answer p k a → a.steps ≡ [] → a.cache ≡ p.caches k → a.said ≡ Some said → a.names ≡ named name o ∷ p.names
+remade_as : (f : Profile) (k name : ℕ) (o : Option Block) (said : TheSaid) (p p' : Progress) (w : World) (a : Answer) → IsSame f p w → p' ≡ after_answer p k a
+    → a.steps ≡ [] → a.cache ≡ p.caches k → a.said ≡ Some said → a.names ≡ named name o ∷ p.names
     → IsSame f p' (names_it name o (says (Record.Said k said) w))
 remade_as f k name o said p p' w a same reached steps cache is names =
     subst (λ (q : Progress). IsSame f q (names_it name o (says (Record.Said k said) w)))
@@ -256,7 +283,9 @@ IsIdleRemake size align None = Unit {0}
 IsIdleRemake size align (Some None) = Unit {0}
 IsIdleRemake size align (Some (Some old)) = suits old size align ≡ true
 
-pub remakes_idly : (f : Profile) (k name size align : ℕ) (meant : Option (Option Block)) (p p' : Progress) (w : World) (a : Answer) → IsIdleRemake size align meant → IsSame f p w → p' ≡ after_answer p k a
+-- A reallocation that makes no request, as the block is kept or its name was refused, leads the text to the replay's state.
+pub remakes_idly : (f : Profile) (k name size align : ℕ) (meant : Option (Option Block)) (p p' : Progress) (w : World) (a : Answer)
+    → IsIdleRemake size align meant → IsSame f p w → p' ≡ after_answer p k a
     → IsRemadeBy f k name size align meant (having p.names (part k p.list) (p.caches k)) a → IsSame f p' (remakes f k name size align meant w)
 remakes_idly f k name size align None p p' w a idle same reached h = absurd h
 remakes_idly f k name size align (Some None) p p' w a idle same reached h = remade_as f k name None (Said.Skipped name) p p' w a same reached h.0 h.1 h.2 h.3

@@ -15,17 +15,20 @@ use Rattle.pas_core.proofs.{Deeds.looked, Grains.one_holder, MachineRuns.agrees}
 use Rattle.pas_guard.specs.{Evidence.BackedReadHere, Raises.BacksNot, Seeks.LeftSince}
 
 -- ---- one step: only a back makes a page that isn't backed a backed one
-stays_bare : (e : ℕ) (s : Step) (page old : ℕ) → (s ≡ Back page → ⊥) → old ≡ 0 → (if same_word (target s) (Word.Backed page) then new_value e s old else old) ≡ 0
+stays_bare : (e : ℕ) (s : Step) (page old : ℕ) → (s ≡ Back page → ⊥) → old ≡ 0
+    → (if same_word (target s) (Word.Backed page) then new_value e s old else old) ≡ 0
 stays_bare e s page old not h = search (arith, cases_Bool, eqb-true)
 
 -- ---- steps of one actor
-pub bare_on : (f : Profile) (k page : ℕ) (xs : List Made) (l : Whole) → Legal f (triples k xs ++ l) → BacksNot page xs → word_after l (Word.Backed page) ≡ 0 → word_after (triples k xs ++ l) (Word.Backed page) ≡ 0
+pub bare_on : (f : Profile) (k page : ℕ) (xs : List Made) (l : Whole) → Legal f (triples k xs ++ l) → BacksNot page xs → word_after l (Word.Backed page) ≡ 0
+    → word_after (triples k xs ++ l) (Word.Backed page) ≡ 0
 bare_on f k page [] l legal backs zero = zero
 bare_on f k page (m ∷ xs) l legal backs zero =
     stays_bare (epoch_of (part k (triples k xs ++ l))) m.step page (word_after (triples k xs ++ l) (Word.Backed page)) backs.0 (bare_on f k page xs l legal.1 backs.1 zero)
 
 -- nobody backs a page all of whose grains another holds
-pub held_unbacked : (f : Profile) (k j page : ℕ) (xs : List Made) (l : Whole) → IsValid f → Legal f (triples k xs ++ l) → (k == j) ≡ false → ((g : ℕ) → g / 256 ≡ page → holds (part j l) g ≡ true) → BacksNot page xs
+pub held_unbacked : (f : Profile) (k j page : ℕ) (xs : List Made) (l : Whole) → IsValid f → Legal f (triples k xs ++ l) → (k == j) ≡ false
+    → ((g : ℕ) → g / 256 ≡ page → holds (part j l) g ≡ true) → BacksNot page xs
 held_unbacked f k j page [] l valid legal other held = tt
 held_unbacked f k j page (m ∷ xs) l valid legal other held = (
   λ e. (let may = subst (Allowed f (part k (triples k xs ++ l))) e legal.0.allowed in
@@ -36,7 +39,8 @@ held_unbacked f k j page (m ∷ xs) l valid legal other held = (
 )
 
 -- where the page was read as not backed, and left alone since
-pub bare_since : (f : Profile) (k page : ℕ) (v : View) (xs : List Made) (l : Whole) → Legal f (triples k xs ++ l) → Since (BackedReadHere v page 0) (LeftSince page) xs → word_after (triples k xs ++ l) (Word.Backed page) ≡ 0
+pub bare_since : (f : Profile) (k page : ℕ) (v : View) (xs : List Made) (l : Whole) → Legal f (triples k xs ++ l)
+    → Since (BackedReadHere v page 0) (LeftSince page) xs → word_after (triples k xs ++ l) (Word.Backed page) ≡ 0
 bare_since f k page v [] l legal since = absurd since
 bare_since f k page v (m ∷ xs) l legal (inl read) = search (arith, stays_bare)
 bare_since f k page v (m ∷ xs) l legal (inr later) =
@@ -46,8 +50,10 @@ bare_since f k page v (m ∷ xs) l legal (inr later) =
 none_backed : (b : Bool) → 0 ≡ word_of_backed b → b ≡ false
 none_backed b h = grind arith
 
+-- A page whose backed word is 0 isn't backed by the events of a legal list.
 pub bare_events : (f : Profile) (l : Whole) (page : ℕ) → IsValid f → Legal f l → word_after l (Word.Backed page) ≡ 0 → backed_in (visible l) page ≡ false
 bare_events f l page valid legal zero = none_backed (backed_in (visible l) page) (sym zero ∙ (agrees f l valid legal).backed page)
 
+-- A page that isn't backed by the events of a legal list has 0 in its backed word.
 pub bare_word : (f : Profile) (l : Whole) (page : ℕ) → IsValid f → Legal f l → backed_in (visible l) page ≡ false → word_after l (Word.Backed page) ≡ 0
 bare_word f l page valid legal none = (agrees f l valid legal).backed page ∙ ap word_of_backed none

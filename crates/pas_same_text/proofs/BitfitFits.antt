@@ -33,7 +33,8 @@ page_splits align is =
     eqb-true (256 / (align / 16) * (align / 16)) 256
     (or_last (nat_lt align 16) (4096 % align == 0) (256 / (align / 16) * (align / 16) == 256) (passes_at splits 4097 align splits_all (omega (arith, high))) (grind (arith, low)) (eq-eqb (4096 % align) 0 is.2))
 
-module _ (f : Profile) (p : Progress) (w : World) (valid : IsValid f) (between : IsBetween f p) (same : HasSame f p w) (room align : ℕ) (some : 1 ≤ room / 16) (is : IsAlignment align) where
+module _ (f : Profile) (p : Progress) (w : World) (valid : IsValid f) (between : IsBetween f p) (same : HasSame f p w) (room align : ℕ) (some : 1 ≤ room / 16)
+    (is : IsAlignment align) where
   abbrev n : ℕ
   n = room / 16
 
@@ -75,6 +76,7 @@ module _ (f : Profile) (p : Progress) (w : World) (valid : IsValid f) (between :
       let lt : g / step < 256 / step = div_below g step (256 / step) (omega (arith, is.0)) (omega (arith, whole, fits.within, some)) in
       in_spaced (test page) (256 / step) 0 step (g / step) lt (ap (test page) (omega (arith, times)) ∙ fits_test page g fits)
 
+  -- A run for a bit-fit request fits on an unguarded page in the text exactly where it does by the replay's free grains.
   pub bitfit_fits : FitsSame (NoneFits (run_for room align)) f p w (lowest_place w n step)
   bitfit_fits = record {
     none = λ page of unguarded none. false_from_ne_true (some_of (lowest_place w n step page)) (λ h.
@@ -83,12 +85,15 @@ module _ (f : Profile) (p : Progress) (w : World) (valid : IsValid f) (between :
     some = λ page of unguarded fits. some_is page ∙ by_test page fits (list_any (test page) (spaced 0 step (256 / step))) refl;
   }
     where
-      by_test : (page : ℕ) → (NoneFits (run_for room align) (free_of_page p.list page) → ⊥) → (t : Bool) → list_any (test page) (spaced 0 step (256 / step)) ≡ t → t ≡ true
+      by_test : (page : ℕ) → (NoneFits (run_for room align) (free_of_page p.list page) → ⊥) → (t : Bool) → list_any (test page) (spaced 0 step (256 / step)) ≡ t
+          → t ≡ true
       by_test page fits true e = refl
       by_test page fits false e = absurd (fits (λ g at. true≢false (sym (place_there page g at) ∙ e)))
 
   -- THE PLACE: where the lowest run among some readings is free, and what is free was read as free, it is the one of the text
-  pub lowest_is : (page first : ℕ) (r : Readings) → IsLowestFit (run_for room align) r first → ((b : ℕ) → b < 256 → free_of_page p.list page b ≡ true → r b ≡ true) → Fits (run_for room align) (free_of_page p.list page) first → lowest_place w n step page ≡ first ∷ []
+  pub lowest_is : (page first : ℕ) (r : Readings) → IsLowestFit (run_for room align) r first
+      → ((b : ℕ) → b < 256 → free_of_page p.list page b ≡ true → r b ≡ true) → Fits (run_for room align) (free_of_page p.list page) first
+      → lowest_place w n step page ≡ first ∷ []
   lowest_is page first r lowest more fits =
       let times : first / step * step ≡ first = let m = mod-add-div' first step in omega (arith, m, fits.aligned) in
       let whole : 256 / step * step ≡ 256 = page_splits align is in

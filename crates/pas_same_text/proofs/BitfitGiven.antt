@@ -55,10 +55,13 @@ not_hinted page (m ∷ xs) all (inl h) = let o = all.0 (subst (IsReturnOf page) 
 not_hinted page (m ∷ xs) all (inr h) = not_hinted page xs all.1 h
 
 -- one block more on another page covers no grain of this one
-pub one_more : (b : Block) (bs : List Block) (g : ℕ) (t : Bool) → in_run (grain_of b.name) (length_of b) g ≡ false → is_covered (if t then b ∷ bs else bs) g ≡ is_covered bs g
+pub one_more : (b : Block) (bs : List Block) (g : ℕ) (t : Bool) → in_run (grain_of b.name) (length_of b) g ≡ false
+    → is_covered (if t then b ∷ bs else bs) g ≡ is_covered bs g
 one_more b bs g t h = grind arith
 
-module _ (f : Profile) (k name heap size align : ℕ) (p p' : Progress) (w : World) (block : Block) (thread : IsThread f k) (admitted : IsAdmitted f size align heap) (route : route_in f size align ≡ Route.Bitfit) (valid : IsValid f) (before : IsBetween f p) (after : IsBetween f p') (same : IsSame f p w)
+module _ (f : Profile) (k name heap size align : ℕ) (p p' : Progress) (w : World) (block : Block) (thread : IsThread f k)
+    (admitted : IsAdmitted f size align heap) (route : route_in f size align ≡ Route.Bitfit) (valid : IsValid f) (before : IsBetween f p)
+    (after : IsBetween f p') (same : IsSame f p w)
     (a : Answer) (served : IsServed f k (record { name = name; heap = heap; size = size; align = align }) (having p.names (part k p.list) (p.caches k)) a) (reached : p' ≡ after_answer p k a) (is : served.answer ≡ Ok block) where
   abbrev c : Cached
   c = p.caches k
@@ -382,5 +385,6 @@ module _ (f : Profile) (k name heap size align : ℕ) (p p' : Progress) (w : Wor
     read = (shown_rest es w).read ∙ same.read;
   }
 
+  -- A bit-fit request that is served leads the text to the replay's state.
   pub bitfit_served : IsSame f p' (serves f k name heap (route_in f size align) bytes align w)
   bitfit_served = subst (λ (x : World). IsSame f p' x) (sym text) (subst (λ (y : Progress). IsSame f y v) (sym to) given_same)

@@ -27,7 +27,8 @@ use Rattle.pas_same_text.proofs.{RefusedRequests.refused_same, SearchedPages.fin
 use Rattle.pas_same_text.proofs.RestingPages.{open_unguarded, had_open, owned_is, no_word}
 
 -- ---- where no page serves in the replay, none does in the text
-module _ (no_fit : Readings → Type 0) (f : Profile) (d : Directory) (p : Progress) (w : World) (fits : ℕ → List ℕ) (legal : Legal f p.list) (of : IsDirectoryOf f d) (pages : ArePagesSame f p.list w) (same : FitsSame no_fit f p w fits) (none : HasNoFit no_fit f d p.list) where
+module _ (no_fit : Readings → Type 0) (f : Profile) (d : Directory) (p : Progress) (w : World) (fits : ℕ → List ℕ) (legal : Legal f p.list)
+    (of : IsDirectoryOf f d) (pages : ArePagesSame f p.list w) (same : FitsSame no_fit f p w fits) (none : HasNoFit no_fit f d p.list) where
   unserved : (q : ℕ) → 1 ≤ q → q < 1 + f.pages → (is_offered w d q && some_of (fits q)) ≡ false
   unserved q low high = false_from_ne_true (is_offered w d q && some_of (fits q)) (λ h. none.offered q record {
     of_region = (low, omega (arith, high));
@@ -41,13 +42,16 @@ module _ (no_fit : Readings → Type 0) (f : Profile) (d : Directory) (p : Progr
     no_deed = owned_is f p.list w legal pages.events q ∙ no_word (deed_in w.events q) h;
   })
 
+  -- Where no page serves in the replay, the text's search refuses, with its own reason.
   pub none_searched : searched f w d fits ≡ Err (refusal f w d)
   none_searched =
       ap (λ (o : Option ℕ). page_or o (page_or (find (is_unowned w) (page_numbers f)) (Err (refusal f w d)))) (find_none (λ q. is_offered w d q && some_of (fits q)) f.pages 1 unserved)
       ∙ ap (λ (o : Option ℕ). page_or o (Err (refusal f w d))) (find_none (is_unowned w) f.pages 1 owned)
 
 -- ---- the act
-module _ (f : Profile) (k name heap size align : ℕ) (p p' : Progress) (w : World) (room : NoRoom) (thread : IsThread f k) (admitted : IsAdmitted f size align heap) (route : route_in f size align ≡ Route.Bitfit) (valid : IsValid f) (before : IsBetween f p) (after : IsBetween f p') (same : IsSame f p w)
+module _ (f : Profile) (k name heap size align : ℕ) (p p' : Progress) (w : World) (room : NoRoom) (thread : IsThread f k)
+    (admitted : IsAdmitted f size align heap) (route : route_in f size align ≡ Route.Bitfit) (valid : IsValid f) (before : IsBetween f p)
+    (after : IsBetween f p') (same : IsSame f p w)
     (a : Answer) (served : IsServed f k (record { name = name; heap = heap; size = size; align = align }) (having p.names (part k p.list) (p.caches k)) a) (reached : p' ≡ after_answer p k a) (is : served.answer ≡ Err room) where
   abbrev c : Cached
   c = p.caches k
@@ -123,15 +127,19 @@ module _ (f : Profile) (k name heap size align : ℕ) (p p' : Progress) (w : Wor
       (subst (λ (q : Progress). IsSame f q (refuses k name (refusal f w d) w)) (sym to) (refused_same f k name p w d a.steps room valid thread of before there same searches quiet reason))
 
 -- ---- ANY BIT-FIT REQUEST
-module _ (f : Profile) (k name heap size align : ℕ) (p p' : Progress) (w : World) (thread : IsThread f k) (admitted : IsAdmitted f size align heap) (route : route_in f size align ≡ Route.Bitfit) (valid : IsValid f) (before : IsBetween f p) (after : IsBetween f p') (same : IsSame f p w)
+module _ (f : Profile) (k name heap size align : ℕ) (p p' : Progress) (w : World) (thread : IsThread f k) (admitted : IsAdmitted f size align heap)
+    (route : route_in f size align ≡ Route.Bitfit) (valid : IsValid f) (before : IsBetween f p) (after : IsBetween f p') (same : IsSame f p w)
     (a : Answer) (served : IsServed f k (record { name = name; heap = heap; size = size; align = align }) (having p.names (part k p.list) (p.caches k)) a) (reached : p' ≡ after_answer p k a) where
   answered : (answer : Result Block NoRoom) → served.answer ≡ answer → IsSame f p' (serves f k name heap (route_in f size align) (room_in f size align) align w)
   answered (Ok block) is = bitfit_served f k name heap size align p p' w block thread admitted route valid before after same a served reached is
   answered (Err room) is = bitfit_refused f k name heap size align p p' w room thread admitted route valid before after same a served reached is
 
+  -- A bit-fit request, served or refused, leads the text to the replay's state.
   pub bitfit_answered : IsSame f p' (serves f k name heap (route_in f size align) (room_in f size align) align w)
   bitfit_answered = answered served.answer refl
 
-pub bitfit_same : (f : Profile) (line k name heap size align : ℕ) → IsThread f k → IsAdmitted f size align heap → route_in f size align ≡ Route.Bitfit → StaysSame f (Act.Operates (record { line = line; actor = k; what = Alloc name heap size align }))
+-- An operation that makes a bit-fit request leads the text from the replay's state to the replay's state.
+pub bitfit_same : (f : Profile) (line k name heap size align : ℕ) → IsThread f k → IsAdmitted f size align heap → route_in f size align ≡ Route.Bitfit
+    → StaysSame f (Act.Operates (record { line = line; actor = k; what = Alloc name heap size align }))
 bitfit_same f line k name heap size align thread admitted route p p' w taken =
     bitfit_answered f k name heap size align p p' w thread admitted route taken.valid taken.before taken.after taken.same taken.advances.0 taken.advances.1 taken.advances.2

@@ -14,10 +14,12 @@ use Rattle.pas_same_text.specs.Same.{IsSameCache, AreSameCaches}
 abbrev pub all_locals : List Cache → List Local
 all_locals cs = flat_map (λ c. c.locals) cs
 
-many_at : (c : Cache) (cs : List Cache) (k : ℕ) (new : Cache) (t : Bool) → length (with_cache cs (k - 1) new) ≡ length cs → length (if t then new ∷ cs else c ∷ with_cache cs (k - 1) new) ≡ suc (length cs)
+many_at : (c : Cache) (cs : List Cache) (k : ℕ) (new : Cache) (t : Bool) → length (with_cache cs (k - 1) new) ≡ length cs
+    → length (if t then new ∷ cs else c ∷ with_cache cs (k - 1) new) ≡ suc (length cs)
 many_at c cs k new true e = refl
 many_at c cs k new false e = ap suc e
 
+-- A list of caches is as long as before once one of them became another.
 pub many_with : (cs : List Cache) (k : ℕ) (new : Cache) → length (with_cache cs k new) ≡ length cs
 many_with [] k new = refl
 many_with (c ∷ cs) k new = many_at c cs k new (k == 1) (many_with cs (k - 1) new)
@@ -28,6 +30,7 @@ own_at : (c : Cache) (cs : List Cache) (k : ℕ) (new : Cache) (t : Bool) → (k
 own_at c cs k new true e more = ap (λ (t : Bool). if t then new else cache_in cs (k - 1)) e
 own_at c cs k new false e more = ap (λ (t : Bool). if t then c else cache_in (with_cache cs (k - 1) new) (k - 1)) e ∙ more refl
 
+-- The cache that was put in a thread's place is what is found there.
 pub own_with : (cs : List Cache) (k : ℕ) (new : Cache) → 1 ≤ k → k ≤ length cs → cache_in (with_cache cs k new) k ≡ new
 own_with [] k new some few = absurd (omega arith)
 own_with (c ∷ cs) k new some few = own_at c cs k new (k == 1) refl (λ e.
@@ -35,7 +38,8 @@ own_with (c ∷ cs) k new some few = own_at c cs k new (k == 1) refl (λ e.
     own_with cs (k - 1) new (omega arith) (omega arith))
 
 -- ---- the others
-other_at : (c : Cache) (cs : List Cache) (j k : ℕ) (new : Cache) (t u : Bool) → (k == 1) ≡ t → (j == 1) ≡ u → j ≢ k → (u ≡ false → t ≡ false → cache_in (with_cache cs (k - 1) new) (j - 1) ≡ cache_in cs (j - 1))
+other_at : (c : Cache) (cs : List Cache) (j k : ℕ) (new : Cache) (t u : Bool) → (k == 1) ≡ t → (j == 1) ≡ u → j ≢ k
+    → (u ≡ false → t ≡ false → cache_in (with_cache cs (k - 1) new) (j - 1) ≡ cache_in cs (j - 1))
     → cache_in (if t then new ∷ cs else c ∷ with_cache cs (k - 1) new) j ≡ (if u then c else cache_in cs (j - 1))
 other_at c cs j k new t u e h ne more = search (arith, eqb-true)
 
@@ -53,6 +57,7 @@ locals_at : (c : Cache) (cs : List Cache) (k : ℕ) (new : Cache) (t : Bool) →
 locals_at c cs k new true e is more = ap (λ (ls : List Local). ls ++ all_locals cs) is
 locals_at c cs k new false e is more = ap (λ (ls : List Local). c.locals ++ ls) (more is)
 
+-- A cache with the same local allocators in a thread's place leaves the local allocators of all caches as they were.
 pub locals_with : (cs : List Cache) (k : ℕ) (new : Cache) → new.locals ≡ (cache_in cs k).locals → all_locals (with_cache cs k new) ≡ all_locals cs
 locals_with [] k new is = refl
 locals_with (c ∷ cs) k new is = locals_at c cs k new (k == 1) refl is (locals_with cs (k - 1) new)
@@ -70,6 +75,7 @@ each_with : (f : Profile) (caches : Caches) (own : List Cache) (j k : ℕ) (c : 
 each_with f caches own j k c new is of listed same new_same true e = search (arith, same_own, own_with, eqb-true)
 each_with f caches own j k c new is of listed same new_same false e = search (arith, eqb-false, same_other, other_with)
 
+-- The text's caches are the replay's again after one thread's cache changed to the same on both sides.
 pub same_with : (f : Profile) (caches : Caches) (own : List Cache) (k : ℕ) (c : Cached) (new : Cache) → IsThread f k → k ≤ length own
     → AreSameCaches f caches own → IsSameCache c new → AreSameCaches f (with_cached caches k c) (with_cache own k new)
 same_with f caches own k c new of listed same new_same = record {
@@ -81,6 +87,7 @@ same_with f caches own k c new of listed same new_same = record {
 kept_at : (caches : Caches) (j k : ℕ) (t : Bool) → (j == k) ≡ t → caches j ≡ (if t then caches k else caches j)
 kept_at caches j k t e = search (arith, eqb-true)
 
+-- The text's caches stay the replay's where a thread's cache is put back as it was.
 pub same_kept : (f : Profile) (caches : Caches) (own : List Cache) (k : ℕ) → AreSameCaches f caches own → AreSameCaches f (with_cached caches k (caches k)) own
 same_kept f caches own k same = search (arith, kept_at)
 
@@ -88,7 +95,9 @@ same_kept f caches own k same = search (arith, kept_at)
 pub again_at : (caches : Caches) (j k : ℕ) (c d : Cached) (t : Bool) → (if t then d else (if t then c else caches j)) ≡ (if t then d else caches j)
 again_at caches j k c d t = grind arith
 
-pub same_again : (f : Profile) (caches : Caches) (own : List Cache) (k : ℕ) (c d : Cached) → AreSameCaches f (with_cached (with_cached caches k c) k d) own → AreSameCaches f (with_cached caches k d) own
+-- Where a thread's cache was set twice in the replay, the last one alone counts for the text.
+pub same_again : (f : Profile) (caches : Caches) (own : List Cache) (k : ℕ) (c d : Cached) → AreSameCaches f (with_cached (with_cached caches k c) k d) own
+    → AreSameCaches f (with_cached caches k d) own
 same_again f caches own k c d same = search (arith, again_at)
 
 -- what is there is put there again
@@ -96,6 +105,7 @@ with_at : (c : Cache) (cs : List Cache) (k : ℕ) (t : Bool) → (k == 1) ≡ t 
     → with_cache (c ∷ cs) k (if t then c else cache_in cs (k - 1)) ≡ c ∷ cs
 with_at c cs k t e more = grind arith
 
+-- A list of caches in which a thread's own cache is put back is the same list.
 pub with_own : (cs : List Cache) (k : ℕ) → with_cache cs k (cache_in cs k) ≡ cs
 with_own [] k = refl
 with_own (c ∷ cs) k = with_at c cs k (k == 1) refl (λ e. with_own cs (k - 1))

@@ -43,7 +43,9 @@ room_same w w' d page free =
 abbrev pub block_of : ℕ → ℕ → ℕ → ℕ → Block
 block_of address turn room heap = record { name = record { address = record { 0 = address }; turn = turn }; room = room; heap = heap }
 
-pub block_same : (block : Block) (address turn room heap : ℕ) → address_of block.name ≡ address → block.name.turn ≡ turn → block.room ≡ room → block.heap ≡ heap → block ≡ block_of address turn room heap
+-- A block is known by its address, its turn, its room and its heap.
+pub block_same : (block : Block) (address turn room heap : ℕ) → address_of block.name ≡ address → block.name.turn ≡ turn → block.room ≡ room → block.heap ≡ heap
+    → block ≡ block_of address turn room heap
 block_same block address turn room heap a t r h =
     ap (λ (x : ℕ). block_of x block.name.turn block.room block.heap) a
     ∙ (ap (λ (x : ℕ). block_of address x block.room block.heap) t
@@ -82,7 +84,8 @@ pub record Given (f : Profile) (k name : ℕ) (p : Progress) (w : World) (s s' :
   heap : block.heap ≡ s.heap
   cache : c' ≡ record (p.caches k) { locals = others_than s.heap s.class (p.caches k).locals ++ s' ∷ [] }
 
-module _ (f : Profile) (k name : ℕ) (p : Progress) (w : World) (s s' : Slots) (l : Local) (n : ℕ) (more : List ℕ) (block : Block) (answer page start word : ℕ) (c' : Cached)
+module _ (f : Profile) (k name : ℕ) (p : Progress) (w : World) (s s' : Slots) (l : Local) (n : ℕ) (more : List ℕ) (block : Block) (answer page start word : ℕ)
+    (c' : Cached)
     (g : Given f k name p w s s' l n more block answer page start word c') where
   -- the lowest one goes
   given_slot : (n ≡ start) × IsSameLocal s' (record l { slots = more })
@@ -126,7 +129,8 @@ module _ (f : Profile) (k name : ℕ) (p : Progress) (w : World) (s s' : Slots) 
   open_kept : (d : Directory) (q : ℕ) → is_open to d q ≡ is_open w d q
   open_kept d q = ap (λ (t : Bool). not (is_guarded w q) && t) (room_same w to d q (free_kept q))
 
-  offered_kept : (q : ℕ) (d : Directory) → IsDirectoryOf f d → is_offered to d q ≡ eligible_bit (given_to p k name block answer page start word c').list (number_of d) q
+  offered_kept : (q : ℕ) (d : Directory) → IsDirectoryOf f d
+      → is_offered to d q ≡ eligible_bit (given_to p k name block answer page start word c').list (number_of d) q
   offered_kept q d of = same_truth (is_offered to d q) (eligible_bit (given_to p k name block answer page start word c').list (number_of d) q)
       (offered_bit f (given_to p k name block answer page start word c') to g.valid g.after has_same q d of)
       (λ h. bit_offered f (given_to p k name block answer page start word c') to g.valid g.after has_same q d of h (open_kept d q ∙ had_open w d q (g.same.pages.offered q d of ∙ h)))
@@ -149,20 +153,24 @@ pub record HasHead (xs : List ℕ) : Type 0 where
   pub more : List ℕ
   pub is : xs ≡ head ∷ more
 
+-- A list that has a number has a first one.
 pub head_of : (xs : List ℕ) (x : ℕ) → has_number xs x ≡ true → HasHead xs
 head_of [] x h = absurd (false≢true h)
 head_of (n ∷ more) x h = record { head = n; more = more; is = refl }
 
 -- what is found passes the test
-found_at : (heap class : ℕ) (x s : Slots) (rest : Option Slots) (t : Bool) → is_for_slots heap class x ≡ t → (rest ≡ Some s → is_for_slots heap class s ≡ true) → (if t then Some x else rest) ≡ Some s → is_for_slots heap class s ≡ true
+found_at : (heap class : ℕ) (x s : Slots) (rest : Option Slots) (t : Bool) → is_for_slots heap class x ≡ t → (rest ≡ Some s → is_for_slots heap class s ≡ true)
+    → (if t then Some x else rest) ≡ Some s → is_for_slots heap class s ≡ true
 found_at heap class x s rest t e later same = grind arith
 
+-- The local allocator that is found for a heap and class passes the test for them.
 pub found_passes : (heap class : ℕ) (slots : List Slots) (s : Slots) → local_for heap class slots ≡ Some s → is_for_slots heap class s ≡ true
 found_passes heap class [] s is = absurd (none-some s is)
 found_passes heap class (x ∷ slots) s is = found_at heap class x s (local_for heap class slots) (is_for_slots heap class x) refl (found_passes heap class slots s) is
 
 -- what the text does where it finds a local allocator with a slot
-served_text : (f : Profile) (k name heap class : ℕ) (w : World) (l : Local) (n : ℕ) (more : List ℕ) → find (is_for heap class) (locals_of w k) ≡ Some l → l.slots ≡ n ∷ more
+served_text : (f : Profile) (k name heap class : ℕ) (w : World) (l : Local) (n : ℕ) (more : List ℕ) → find (is_for heap class) (locals_of w k) ≡ Some l
+    → l.slots ≡ n ∷ more
     → serves_class f k name heap class w ≡ gives_first k name l (n ∷ more) w
 served_text f k name heap class w l n more is slots = cc
 
@@ -197,7 +205,8 @@ to_given f k name heap class p p' w s valid is listed between after same there m
     (given_same f k name p w s o.rest l h.head h.more o.block g.answer s.page g.start g.word o.cache given)
 
 -- ---- the act
-module _ (f : Profile) (k name heap class : ℕ) (p : Progress) (s : Slots) (there : local_for heap class (p.caches k).locals ≡ Some s) (member : HasMember s.starts) where
+module _ (f : Profile) (k name heap class : ℕ) (p : Progress) (s : Slots) (there : local_for heap class (p.caches k).locals ≡ Some s)
+    (member : HasMember s.starts) where
   -- the request doesn't fetch slots, since one is cached
   not_fetched : (d : Directory) (locals' : List Slots) (steps : List Made) → d.heap ≡ heap → IsTakenOut d.heap class (p.caches k).locals locals' steps → ⊥
   not_fetched d locals' steps of taken = search (arith, taken.left)
@@ -210,13 +219,15 @@ record Ends (fewer locals' : List Slots) (given : List Made) (slots : Slots) (an
   locals : locals' ≡ fewer ++ rest ∷ []
   is : answer ≡ Ok block
 
-ends_of : (fewer locals' : List Slots) (given : List Made) (found : Result Slots NoRoom) (answer : Result Block NoRoom) (slots : Slots) → found ≡ Ok slots → IsAnswered fewer locals' given found answer → Ends fewer locals' given slots answer
+ends_of : (fewer locals' : List Slots) (given : List Made) (found : Result Slots NoRoom) (answer : Result Block NoRoom) (slots : Slots) → found ≡ Ok slots
+    → IsAnswered fewer locals' given found answer → Ends fewer locals' given slots answer
 ends_of fewer locals' given found (Ok block) slots is e =
     let x : IsAnswered fewer locals' given (Ok slots) (Ok block) = subst (λ (r : Result Slots NoRoom). IsAnswered fewer locals' given r (Ok block)) is e in
     record { block = block; rest = x.0; gives = x.1; locals = x.2; is = refl }
 ends_of fewer locals' given found (Err room) slots is e = absurd (subst (λ (r : Result Slots NoRoom). IsAnswered fewer locals' given r (Err room)) is e)
 
-module _ (f : Profile) (k name heap size align class : ℕ) (p p' : Progress) (w : World) (s : Slots) (there : local_for heap class (p.caches k).locals ≡ Some s) (member : HasMember s.starts)
+module _ (f : Profile) (k name heap size align class : ℕ) (p p' : Progress) (w : World) (s : Slots) (there : local_for heap class (p.caches k).locals ≡ Some s)
+    (member : HasMember s.starts)
     (a : Answer) (served : IsServed f k (record { name = name; heap = heap; size = size; align = align }) (having p.names (part k p.list) (p.caches k)) a) (reached : p' ≡ after_answer p k a) where
   same_slots : (slots : Slots) → local_for heap class (p.caches k).locals ≡ Some slots → slots ≡ s
   same_slots slots is = ap or_else (sym is ∙ there)
@@ -226,13 +237,15 @@ module _ (f : Profile) (k name heap size align class : ℕ) (p p' : Progress) (w
       or_else (Some x) = x
 
   served_by : (sv : ServesClass (filling_in (directory_for f heap size align) class) f (p.caches k) a.cache a.steps served.answer)
-      → IsObtained (filling_in (directory_for f heap size align) class) f (p.caches k).locals sv.locals.fewer sv.locals.before sv.locals.found → Served f k name heap class p p' w s
+      → IsObtained (filling_in (directory_for f heap size align) class) f (p.caches k).locals sv.locals.fewer sv.locals.before sv.locals.found
+      → Served f k name heap class p p' w s
   served_by sv h = search (arith, not_fetched, ends_of, same_slots)
 
 -- ANY REQUEST OF A CLASS for which a slot is cached
 pub cached_answered : (f : Profile) (k name heap size align class : ℕ) (p p' : Progress) (w : World) → IsThread f k → k ≤ length w.caches
     → route_in f size align ≡ Route.Class class → IsValid f → IsBetween f p → IsBetween f p' → IsSame f p w → HasCachedSlot heap class k p
-    → (a : Answer) → IsServed f k (record { name = name; heap = heap; size = size; align = align }) (having p.names (part k p.list) (p.caches k)) a → p' ≡ after_answer p k a → IsSame f p' (serves f k name heap (route_in f size align) (room_in f size align) align w)
+    → (a : Answer) → IsServed f k (record { name = name; heap = heap; size = size; align = align }) (having p.names (part k p.list) (p.caches k)) a
+    → p' ≡ after_answer p k a → IsSame f p' (serves f k name heap (route_in f size align) (room_in f size align) align w)
 cached_answered f k name heap size align class p p' w is listed route valid before after same has a served reached =
     let sv : ServesClass (filling_in (directory_for f heap size align) class) f (p.caches k) a.cache a.steps served.answer =
     subst (λ (r : Route). ServesBy r f (wanted_for f heap size align) a.found (p.caches k) a.cache a.steps served.answer) route served.serves in
@@ -240,6 +253,7 @@ cached_answered f k name heap size align class p p' w is listed route valid befo
     subst (λ (r : Route). IsSame f p' (serves f k name heap r (room_in f size align) align w)) (sym route)
     (to_given f k name heap class p p' w has.0 valid is listed before after same has.1 has.2 o)
 
+-- A request of a class for which the cache has a slot leads the text to the replay's state.
 pub cached_same : (f : Profile) (line k name heap size align class : ℕ) → IsThread f k → route_in f size align ≡ Route.Class class
     → StaysSameWhere (HasCachedSlot heap class k) f (Act.Operates (record { line = line; actor = k; what = Alloc name heap size align }))
 cached_same f line k name heap size align class is route p p' w has taken =

@@ -48,6 +48,7 @@ module _ (f : Profile) (p : Progress) (w : World) (valid : IsValid f) (between :
       let next : (i + 1) * step ≡ i * step + step = ap (λ (x : ℕ). x * step) (omega arith) ∙ (one ∙ omega arith) in
       record { aligned = mul-mod_left i step; within = omega (arith, most, next) }
 
+  -- The start of a slot is a number of whole steps of its class, below the number of slots.
   pub slot_index : (s : ℕ) → IsSlotStart class s → (i : ℕ) × (i < slots_of class) × (i * step ≡ s)
   slot_index s slot =
       let times : s / step * step ≡ s = let m = mod-add-div' s step in omega (arith, m, slot.aligned) in
@@ -62,6 +63,7 @@ module _ (f : Profile) (p : Progress) (w : World) (valid : IsValid f) (between :
       let none : is_guarded w page ≡ false = read_unguarded page s (omega (arith, within, most, some)) (free s (omega arith) (omega (arith, some))) in
       each_all step s (is_free w page) (λ b low high. read_unless f p w valid between same page b (omega (arith, high, within, most)) none ∙ free b low high)
 
+  -- A place that the text's test passes on an unguarded page is one whose grains the replay reads as free.
   pub slot_free : (page s : ℕ) → IsSlotStart class s → is_guarded w page ≡ false → test page s ≡ true → AreFree (free_of_page p.list page) s step
   slot_free page s slot none tested b low high =
       let within = slot_end class s is slot in
@@ -72,6 +74,7 @@ module _ (f : Profile) (p : Progress) (w : World) (valid : IsValid f) (between :
       let o = slot_index s slot in
       in_spaced (test page) (slots_of class) 0 step o.0 o.1 (ap (test page) (omega (arith, o.2)) ∙ slot_tested page s slot free)
 
+  -- A slot of a class fits on an unguarded page in the text exactly where one does by the replay's free grains.
   pub class_fits : (shared : Bool) → FitsSame (NoSlot class) f p w (slots_for shared w class)
   class_fits shared = record {
     none = λ page of unguarded none. false_from_ne_true (some_of (slots_for shared w class page)) (λ h.

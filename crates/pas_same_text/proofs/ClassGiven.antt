@@ -43,7 +43,7 @@ use Rattle.pas_same_text.proofs.{FetchedClasses.may_fetch, FetchedClasses.keeps_
 use Rattle.pas_same_text.proofs.{FreeGrains.free_same, FreeGrains.free_unheld, LoggedFrees.after_with, MadePlace.all_left, ReadSlots.shared_row}
 use Rattle.pas_same_text.proofs.{OuterPages.guards_as, OuterPages.guarded_as, OuterPages.still_unguarded, SameLocals.others_same, SameLocals.last_same}
 use Rattle.pas_same_text.proofs.{SameLocals.slot_given, SearchedMarks.IsSearchedTo, SearchedMarks.hints_kept, SearchedMarks.offers_kept}
-use Rattle.pas_same_text.proofs.{SearchedPages.offered_chosen, SearchedPages.deed_chosen, SearchMarks.stays_free, StopSteps.ReadsRoom, StopSteps.leave_room}
+use Rattle.pas_same_text.proofs.{SearchedPages.offered_chosen, SearchedPages.deed_chosen, SearchMarks.free_or_held, StopSteps.ReadsRoom, StopSteps.leave_room}
 use Rattle.pas_same_text.proofs.{StopSteps.room_later, TakenSince.right_kept, TakenSince.exclusive_free, TakenSlots.all_taken, TakenSlots.row_taken}
 use Rattle.pas_same_text.proofs.{TakenSlots.slots_rise, RoomsRead.read_offered, RoomsRead.never_read}
 use Rattle.pas_same_text.proofs.CachedSlots.{block_same, text_block, text_locals, HasHead, head_of}
@@ -60,7 +60,8 @@ held_by_steps : (g : ℕ) (xs : List Made) (v : View) → holds v g ≡ false �
 held_by_steps g [] v none = none
 held_by_steps g (m ∷ xs) v none = ap (held_after (grain_move m.step m.answer g)) (held_by_steps g xs v none)
 
-module _ (f : Profile) (k name heap class : ℕ) (p : Progress) (w : World) (has : HasPlace f k heap class p w) (slots rest : Slots) (block : Block) (ys given : List Made) (refill : IsRefill (filling_in (class_home f heap class) class) f ys (Ok slots))
+module _ (f : Profile) (k name heap class : ℕ) (p : Progress) (w : World) (has : HasPlace f k heap class p w) (slots rest : Slots) (block : Block)
+    (ys given : List Made) (refill : IsRefill (filling_in (class_home f heap class) class) f ys (Ok slots))
     (gives : GivesSlot slots rest block given) (after : IsBetween f (fetched_to p k name (given ++ ys) rest block)) where
   abbrev c : Cached
   c = p.caches k
@@ -176,7 +177,8 @@ module _ (f : Profile) (k name heap class : ℕ) (p : Progress) (w : World) (has
   unguarded : is_guarded w page ≡ false
   unguarded = unguarded_by shared got.took
 
-  taken_by : (t : Bool) → took_in (kind_of_class t class) class page search slots.starts → (s : ℕ) → has_number (slots_for t w class page) s ≡ is_set slots.starts s
+  taken_by : (t : Bool) → took_in (kind_of_class t class) class page search slots.starts → (s : ℕ)
+      → has_number (slots_for t w class page) s ≡ is_set slots.starts s
   taken_by false took = all_taken f p w has.valid has.between old class has.known page slots.starts unguarded (exclusive_free f k l class page search slots.starts legal_search refill.searches marks took)
   taken_by true took = row_taken f p w has.valid has.between old class has.known page slots.starts unguarded (shared_row f k l class page search slots.starts legal_search refill.searches took)
 
@@ -329,7 +331,7 @@ module _ (f : Profile) (k name heap class : ℕ) (p : Progress) (w : World) (has
   free_later : (g : ℕ) → free_bit l g ≡ true → in_slots slots g ≡ false → free_bit q.list g ≡ true
   free_later g was outside =
       let none : holds own g ≡ false = free_unheld f l has.valid has.between.legal g was k in
-      let still : free_bit base g ≡ true = elim (or_cases (free_bit base g) (holds search g) (stays_free f k l g search legal_search lends was)) [
+      let still : free_bit base g ≡ true = elim (or_cases (free_bit base g) (holds search g) (free_or_held f k l g search legal_search lends was)) [
         | inl free ↦ free
         | inr held ↦ absurd (false≢true (sym (not_got g none outside) ∙ held))
       ] in
@@ -428,7 +430,8 @@ module _ (f : Profile) (k name heap class : ℕ) (p : Progress) (w : World) (has
       false≢true (sym (right_not_offered f q.list after.legal k (number_of e) page has_it) ∙ bit)
 
   -- the search kept the right of a shared page
-  read_with_right : (t : Bool) → t ≡ true → took_in (kind_of_class t class) class page search slots.starts → Once (λ m before. has_right before page ≡ true) search
+  read_with_right : (t : Bool) → t ≡ true → took_in (kind_of_class t class) class page search slots.starts
+      → Once (λ m before. has_right before page ≡ true) search
   read_with_right false never took = absurd (false≢true never)
   read_with_right true is took = once_right search (took.read 0 (omega arith))
     where
@@ -493,7 +496,9 @@ module _ (f : Profile) (k name heap class : ℕ) (p : Progress) (w : World) (has
   fetch_given = subst (IsSame f q) (sym text) fetched_same
 
 -- THE FETCH IS SERVED as the text says
-pub fetch_served : (f : Profile) (k name heap class : ℕ) (p : Progress) (w : World) → HasPlace f k heap class p w → (slots rest : Slots) (block : Block) (searched given : List Made)
+pub fetch_served : (f : Profile) (k name heap class : ℕ) (p : Progress) (w : World) → HasPlace f k heap class p w
+    → (slots rest : Slots) (block : Block) (searched given : List Made)
     → IsRefill (filling_in (class_home f heap class) class) f searched (Ok slots) → GivesSlot slots rest block given
-    → IsBetween f (fetched_to p k name (given ++ searched) rest block) → IsSame f (fetched_to p k name (given ++ searched) rest block) (fetches f k name heap class w)
+    → IsBetween f (fetched_to p k name (given ++ searched) rest block)
+    → IsSame f (fetched_to p k name (given ++ searched) rest block) (fetches f k name heap class w)
 fetch_served f k name heap class p w has slots rest block searched given refill gives after = fetch_given f k name heap class p w has slots rest block searched given refill gives after

@@ -34,7 +34,8 @@ module _ (f : Profile) (k name heap size align class : ℕ) (p p' : Progress) (w
   by_class = class_served_by f k name heap size align class p a route served
 
   -- ---- slots were fetched, and one of them is given
-  module _ (block : Block) (is : served.answer ≡ Ok block) (slots rest : Slots) (fewer : List Slots) (steps given : List Made) (steps_are : a.steps ≡ given ++ steps) (gives : GivesSlot slots rest block given) (cache : a.cache ≡ record c { locals = fewer ++ rest ∷ [] })
+  module _ (block : Block) (is : served.answer ≡ Ok block) (slots rest : Slots) (fewer : List Slots) (steps given : List Made)
+      (steps_are : a.steps ≡ given ++ steps) (gives : GivesSlot slots rest block given) (cache : a.cache ≡ record c { locals = fewer ++ rest ∷ [] })
       (o : IsFetched f k heap class p w (Ok slots) fewer steps) where
     abbrev p1 : Progress
     p1 = up_to p k o.fetch.before fewer
@@ -68,7 +69,8 @@ module _ (f : Profile) (k name heap size align class : ℕ) (p p' : Progress) (w
         (fetch_carried f k heap class p w (Ok slots) fewer steps o given None names new (fetches f k name heap class w1) ended))
 
   -- ---- a block was given
-  from_slots : (block : Block) → served.answer ≡ Ok block → (slots : Slots) (fewer : List Slots) (early given : List Made) → a.steps ≡ given ++ early → IsObtained (filling_in home class) f c.locals fewer early (Ok slots) → IsAnswered fewer a.cache.locals given (Ok slots) (Ok block) → IsSame f p' asked
+  from_slots : (block : Block) → served.answer ≡ Ok block → (slots : Slots) (fewer : List Slots) (early given : List Made) → a.steps ≡ given ++ early
+      → IsObtained (filling_in home class) f c.locals fewer early (Ok slots) → IsAnswered fewer a.cache.locals given (Ok slots) (Ok block) → IsSame f p' asked
   from_slots block is slots fewer early given steps_are (inl t) ends =
       cached_answered f k name heap size align class p p' w thread listed route valid before after same (t.0, t.2.cached, t.2.some) a served reached
   from_slots block is slots fewer early given steps_are (inr fetch) ends =
@@ -77,7 +79,9 @@ module _ (f : Profile) (k name heap size align class : ℕ) (p p' : Progress) (w
       (fetched_so f k name heap size align class p p' w thread listed admitted route valid before after same a served reached
       (Ok slots) fewer early given steps_are fetch))
 
-  from_found : (block : Block) → served.answer ≡ Ok block → (found : Result Slots NoRoom) (fewer : List Slots) (early given : List Made) → a.steps ≡ given ++ early → IsObtained (filling_in home class) f c.locals fewer early found → IsAnswered fewer a.cache.locals given found (Ok block) → IsSame f p' asked
+  from_found : (block : Block) → served.answer ≡ Ok block → (found : Result Slots NoRoom) (fewer : List Slots) (early given : List Made)
+      → a.steps ≡ given ++ early → IsObtained (filling_in home class) f c.locals fewer early found → IsAnswered fewer a.cache.locals given found (Ok block)
+      → IsSame f p' asked
   from_found block is (Ok slots) fewer early given steps_are how ends = from_slots block is slots fewer early given steps_are how ends
   from_found block is (Err why) fewer early given steps_are how ends = absurd ends
 
@@ -87,10 +91,13 @@ module _ (f : Profile) (k name heap size align class : ℕ) (p p' : Progress) (w
       (subst (IsAnswered by_class.locals.fewer a.cache.locals by_class.locals.given by_class.locals.found) is by_class.locals.ends)
   answered (Err room) is = class_refused f k name heap size align class p p' w thread listed admitted route valid before after same a served reached room is
 
+  -- A request of a class, served or refused, leads the text to the replay's state.
   pub class_answered : IsSame f p' (serves f k name heap (route_in f size align) (room_in f size align) align w)
   class_answered = answered served.answer refl
 
-pub class_same : (f : Profile) (line k name heap size align class : ℕ) → IsThread f k → IsAdmitted f size align heap → route_in f size align ≡ Route.Class class → StaysSame f (Act.Operates (record { line = line; actor = k; what = Alloc name heap size align }))
+-- An operation that makes a request of a class leads the text from the replay's state to the replay's state.
+pub class_same : (f : Profile) (line k name heap size align class : ℕ) → IsThread f k → IsAdmitted f size align heap → route_in f size align ≡ Route.Class class
+    → StaysSame f (Act.Operates (record { line = line; actor = k; what = Alloc name heap size align }))
 class_same f line k name heap size align class thread admitted route p p' w taken =
     class_answered f k name heap size align class p p' w thread taken.listed admitted route taken.valid taken.before taken.after taken.same taken.advances.0
     taken.advances.1 taken.advances.2

@@ -28,7 +28,8 @@ rejected_returns f k name why w = record {
 }
 
 -- ---- a block that ends
-module _ (f : Profile) (k : ℕ) (name : Name) (b : Live) (w : World) (run : Run f w.events) (live : w.live ≡ lives_in w.events) (lives : live_in w.events (address_of name) ≡ Some b) where
+module _ (f : Profile) (k : ℕ) (name : Name) (b : Live) (w : World) (run : Run f w.events) (live : w.live ≡ lives_in w.events)
+    (lives : live_in w.events (address_of name) ≡ Some b) where
   abbrev after : World
   after = notes k b.block (shows (Event.End k name w.epoch) w)
 
@@ -47,13 +48,15 @@ module _ (f : Profile) (k : ℕ) (name : Name) (b : Live) (w : World) (run : Run
   fewer page g h = search (arith, filtered_any, any_weaker, and_second, any_filtered)
 
   -- the block at the address is this one
-  no_other : (page g : ℕ) → IsPage f page → has_number (pages_of f b.block) page ≡ false → list_any (λ x. is_at (address_of name) x && has page g x) w.live ≡ true → ⊥
+  no_other : (page g : ℕ) → IsPage f page → has_number (pages_of f b.block) page ≡ false
+      → list_any (λ x. is_at (address_of name) x && has page g x) w.live ≡ true → ⊥
   no_other page g of none h =
       let o : LivesSo w.events (λ x. is_at (address_of name) x && has page g x) = lives_so f w.events (λ x. is_at (address_of name) x && has page g x) run (ap (list_any (λ x. is_at (address_of name) x && has page g x)) (sym live) ∙ h) in
       let at : address_of o.live.block.name ≡ address_of name = eqb-true (address_of o.live.block.name) (address_of name) (and_first (is_at (address_of name) o.live.block) (has page g o.live.block) o.so) in
       search (arith, and_first, and_second, has_filtered, page_there)
 
-  elsewhere : (page g : ℕ) → IsPage f page → has_number (pages_of f b.block) page ≡ false → is_covered (blocks_on w page) (256 * page + g) ≡ true → is_covered (blocks_on after page) (256 * page + g) ≡ true
+  elsewhere : (page g : ℕ) → IsPage f page → has_number (pages_of f b.block) page ≡ false → is_covered (blocks_on w page) (256 * page + g) ≡ true
+      → is_covered (blocks_on after page) (256 * page + g) ≡ true
   elsewhere page g of none h =
       let p : Block → Bool = λ x. in_run (grain_of x.name) (length_of x) (256 * page + g) in
       let meets : Block → Bool = λ x. meets_page (grain_of x.name) (length_of x) page in
@@ -70,6 +73,7 @@ module _ (f : Profile) (k : ℕ) (name : Name) (b : Live) (w : World) (run : Run
   freed_more false true c more h = absurd (false≢true (more refl))
   freed_more false false c more h = h
 
+  -- Where a block ends, its grains come back to its pages, and no other page changes.
   pub ended_returns : Returns f (pages_of f b.block) w (ends_block f k name b.block w)
   ended_returns = minded_last f (pages_of f b.block) w after
       (λ page h. page_within f page (filtered_has (meets_page (grain_of b.block.name) (length_of b.block)) (page_numbers f) page h).1)
@@ -82,8 +86,10 @@ module _ (f : Profile) (k : ℕ) (name : Name) (b : Live) (w : World) (run : Run
       ∙ ap (λ (t : Bool). not t && not (is_cached (locals_on w page) g)) (same_truth (is_covered (blocks_on after page) (256 * page + g)) (is_covered (blocks_on w page) (256 * page + g)) (fewer page g) (elsewhere page g of none)))
       refl
 
+  -- Where a block ends, the caches change in the noted runs of the ending thread alone.
   pub ended_caches : (ends_block f k name b.block w).caches ≡ with_cache w.caches k (record (cache_of w k) { noted = noted_then })
   ended_caches = (all_only_hints (pages_of f b.block) after).caches
 
+  -- Where a block ends, the local allocators of all caches stay as they were.
   pub ended_locals : all_locals (ends_block f k name b.block w).caches ≡ all_locals w.caches
   ended_locals = ap all_locals ended_caches ∙ locals_same

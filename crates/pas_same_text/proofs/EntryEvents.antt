@@ -23,7 +23,8 @@ block_of_live None = None
 block_of_live (Some b) = Some b.block
 
 module _ (a c : ℕ) where
-  out_one : (x : Block) (left : List Block) (rest : Option Block) (t u v : Bool) → is_at c x ≡ t → is_at a x ≡ u → (c == a) ≡ v → find (is_at a) left ≡ (if v then None else rest)
+  out_one : (x : Block) (left : List Block) (rest : Option Block) (t u v : Bool) → is_at c x ≡ t → is_at a x ≡ u → (c == a) ≡ v
+      → find (is_at a) left ≡ (if v then None else rest)
       → find (is_at a) (if not t then x ∷ left else left) ≡ (if v then None else (if u then Some x else rest))
   out_one x left rest t u v e h same is = search (arith, eqb-false, eqb-true)
 
@@ -34,11 +35,13 @@ module _ (a c : ℕ) where
   found_out [] = elim (c == a) as (λ (t : Bool). nothing ≡ (if t then nothing else nothing)) [ true ↦ refl | false ↦ refl ]
   found_out (x ∷ xs) = out_one x (filter (λ y. not (is_at c y)) xs) (find (is_at a) xs) (is_at c x) (is_at a x) (c == a) refl refl refl (found_out xs)
 
-given_found : (a k : ℕ) (block : Block) (rest : Option Block) (old : Option Live) (t : Bool) → rest ≡ block_of_live old → (if t then Some block else rest) ≡ block_of_live (if t then Some (record { actor = k; block = block }) else old)
+given_found : (a k : ℕ) (block : Block) (rest : Option Block) (old : Option Live) (t : Bool) → rest ≡ block_of_live old
+    → (if t then Some block else rest) ≡ block_of_live (if t then Some (record { actor = k; block = block }) else old)
 given_found a k block rest old true is = refl
 given_found a k block rest old false is = is
 
-ended_found : (rest : Option Block) (old : Option Live) (t : Bool) → rest ≡ block_of_live old → (if t then None else rest) ≡ block_of_live (if t then None else old)
+ended_found : (rest : Option Block) (old : Option Live) (t : Bool) → rest ≡ block_of_live old
+    → (if t then None else rest) ≡ block_of_live (if t then None else old)
 ended_found rest old true is = refl
 ended_found rest old false is = is
 
@@ -91,7 +94,8 @@ reason_none w name few = let t : nat_lt name.turn (ends_in w.events (address_of 
 turn_of_live : (f : Profile) (es : List Event) (a : ℕ) (b : Live) → Run f es → live_in es a ≡ Some b → b.block.name.turn ≡ ends_in es a
 turn_of_live f es a b run is = let counted : IsCounted (Some b) (gives_in es a) (ends_in es a) = subst (λ (o : Option Live). IsCounted o (gives_in es a) (ends_in es a)) is (all_counted f es run a) in counted.1
 
-lives_text : (f : Profile) (k : ℕ) (entry : Entry) (w : World) (b : Live) (t : Bool) → w.live ≡ lives_in w.events → live_in w.events (address_of entry.name) ≡ Some b → b.block.name.turn ≡ entry.name.turn → is_other_room entry b.block ≡ t
+lives_text : (f : Profile) (k : ℕ) (entry : Entry) (w : World) (b : Live) (t : Bool) → w.live ≡ lives_in w.events
+    → live_in w.events (address_of entry.name) ≡ Some b → b.block.name.turn ≡ entry.name.turn → is_other_room entry b.block ≡ t
     → ends f k entry w ≡ (if t then rejects k entry.name (Why.SizeDiffers entry.room) w else ends_block f k entry.name b.block w)
 lives_text f k entry w b t live is turn room = search (arith, block_here, eq-eqb)
 
@@ -100,6 +104,7 @@ as_shown : (e : Event) (w v x : World) → v ≡ x → IsShown e w x → IsShown
 as_shown e w v x is shown = subst (IsShown e w) (sym is) shown
 
 module _ (f : Profile) (k : ℕ) (entry : Entry) (w : World) (live : w.live ≡ lives_in w.events) where
+  -- A logged free whose refusal has this true reason is refused with it in the text.
   pub reject_text : (why : Why) → Run f w.events → IsReason w.events entry.name why → IsEntryReason entry why → ends f k entry w ≡ rejects k entry.name why w
   reject_text Why.Ended run past is =
       rejected f k entry w (live_in w.events (address_of entry.name)) live refl (λ b at.
@@ -111,20 +116,27 @@ module _ (f : Profile) (k : ℕ) (entry : Entry) (w : World) (live : w.live ≡ 
       let differs : not (o.block.block.room == entry.room) ≡ true = ap not (ne_eqb o.block.block.room entry.room (λ same. o.differs (same ∙ sym is.1))) in
       cc (lives_text f k entry w o.block true live o.lives o.turn_is (and_from (is_sized entry) (not (o.block.block.room == entry.room)) is.0 differs))
 
-  pub end_text : (b : Live) → live_in w.events (address_of entry.name) ≡ Some b → b.block.name.turn ≡ entry.name.turn → is_other_room entry b.block ≡ false → ends f k entry w ≡ ends_block f k entry.name b.block w
+  -- A logged free of a live block by its own name and room ends that block in the text.
+  pub end_text : (b : Live) → live_in w.events (address_of entry.name) ≡ Some b → b.block.name.turn ≡ entry.name.turn → is_other_room entry b.block ≡ false
+      → ends f k entry w ≡ ends_block f k entry.name b.block w
   end_text b lives turn room = lives_text f k entry w b false live lives turn room
 
-  pub reject_shown : (why : Why) → Run f w.events → IsReason w.events entry.name why → IsEntryReason entry why → IsShown (Event.Reject k entry.name why) w (ends f k entry w)
+  -- A logged free with a true reason to refuse it shows just that refusal.
+  pub reject_shown : (why : Why) → Run f w.events → IsReason w.events entry.name why → IsEntryReason entry why
+      → IsShown (Event.Reject k entry.name why) w (ends f k entry w)
   reject_shown why run reason is =
       as_shown (Event.Reject k entry.name why) w (ends f k entry w) (rejects k entry.name why w) (reject_text why run reason is) (shown_now (Event.Reject k entry.name why) w)
 
-  pub end_shown : (lives : IsLive w.events entry.name) → ((b : Live) → live_in w.events (address_of entry.name) ≡ Some b → is_other_room entry b.block ≡ false) → IsShown (Event.End k entry.name w.epoch) w (ends f k entry w)
+  -- A logged free of a live name with no other room shows just the end of that name.
+  pub end_shown : (lives : IsLive w.events entry.name) → ((b : Live) → live_in w.events (address_of entry.name) ≡ Some b → is_other_room entry b.block ≡ false)
+      → IsShown (Event.End k entry.name w.epoch) w (ends f k entry w)
   end_shown lives room =
       let e : Event = Event.End k entry.name w.epoch in
       let b : Live = lives.0 in
       as_shown e w (ends f k entry w) (ends_block f k entry.name b.block w) (end_text b lives.1 lives.2 (room b lives.1))
       (all_minded e w (notes k b.block (shows e w)) (pages_of f b.block) (noted_too e w (shows e w) k b.block (shown_now e w)))
 
+  -- A logged free shows in the text just the event that the machine allows it.
   pub entry_shown : (e : Event) → Run f (e ∷ w.events) → IsEntryEvent k entry w e → IsShown e w (ends f k entry w)
   entry_shown (Event.Deed j q d) run is = absurd is
   entry_shown (Event.Back j q) run is = absurd is

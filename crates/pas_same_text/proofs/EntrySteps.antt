@@ -94,12 +94,14 @@ end_in f false entry n is of = of
 whole_room : (f : Profile) (t : Bool) (entry : Entry) (n : ℕ) → t ≡ true → IsStepOf f (last_step t entry n) → entry.room % 16 ≡ 0
 whole_room f t entry n e of = search (arith, true≢false)
 
-idle_before : (t : Bool) (entry : Entry) (deed first guess : ℕ) (before : List Made) → TriesBy t entry first guess before → AreIdle (before ++ first_look entry.name deed)
+idle_before : (t : Bool) (entry : Entry) (deed first guess : ℕ) (before : List Made) → TriesBy t entry first guess before
+    → AreIdle (before ++ first_look entry.name deed)
 idle_before true entry deed first guess before tries = subst (λ s. AreIdle (s ++ first_look entry.name deed)) (sym tries.1) (idle_look entry.name deed)
 idle_before false entry deed first guess before tries = tries_idle entry.name deed first guess before tries
 
 -- a deed word is read as the directory that the machine has
-pub read_deed : (f : Profile) (valid : IsValid f) (o : Option Directory) → ((d : Directory) → o ≡ Some d → directory_read (deed_word_of d) ≡ Some d) → directory_read (word_of_deed o) ≡ o
+pub read_deed : (f : Profile) (valid : IsValid f) (o : Option Directory) → ((d : Directory) → o ≡ Some d → directory_read (deed_word_of d) ≡ Some d)
+    → directory_read (word_of_deed o) ≡ o
 read_deed f valid o is = grind arith
 
 -- the block that ended
@@ -111,7 +113,8 @@ pub record IsEndOfBlock (f : Profile) (l : Whole) (entry : Entry) (grains : ℕ)
   pub some : 1 ≤ grains
   pub room : is_other_room entry block.block ≡ false
 
-module _ (f : Profile) (k epoch : ℕ) (s : Settled) (piece : List Made) (l : Whole) (valid : IsValid f) (legal : Legal f (triples k piece ++ l)) (is : EntrySteps s piece) (known : epoch_of (part k l) ≡ epoch) where
+module _ (f : Profile) (k epoch : ℕ) (s : Settled) (piece : List Made) (l : Whole) (valid : IsValid f) (legal : Legal f (triples k piece ++ l))
+    (is : EntrySteps s piece) (known : epoch_of (part k l) ≡ epoch) where
   abbrev entry : Entry
   entry = s.entry
 
@@ -165,6 +168,7 @@ module _ (f : Profile) (k epoch : ℕ) (s : Settled) (piece : List Made) (l : Wh
       let same : b.block.room ≡ entry.room = omega (arith, long, whole, guessed sized, multiple) in
       ap (λ (t : Bool). is_sized entry && not t) (eq-eqb b.block.room entry.room same) ∙ and-false (is_sized entry)
 
+  -- An end that was answered by the live word of its turn and length ended the block that lives there, of just that length.
   pub found_block : e.answer ≡ live_word entry.name.turn e.guess → IsEndOfBlock f l entry e.guess
   found_block hit =
       let turn : entry.name.turn < 2 ^ 40 = omega (arith, within.2) in
@@ -187,7 +191,8 @@ module _ (f : Profile) (k epoch : ℕ) (s : Settled) (piece : List Made) (l : Wh
   abbrev last : EndsWith entry.name e.guess (last_step (is_sized entry) entry e.guess)
   last = last_ends (is_sized entry) entry e.guess guessed
 
-  end_event : (o : Outcome) → IsEndOf entry e.guess e.answer o → event_of k epoch (last_step (is_sized entry) entry e.guess) e.answer ≡ Some (event_for k epoch entry o)
+  end_event : (o : Outcome) → IsEndOf entry e.guess e.answer o
+      → event_of k epoch (last_step (is_sized entry) entry e.guess) e.answer ≡ Some (event_for k epoch entry o)
   end_event (Ended grains) h = last.event k epoch e.answer h.0
   end_event (Refused read) h =
       last_refused (is_sized entry) entry e.guess k epoch e.answer guessed h.0 (not_ended (is_sized entry) entry.name e.guess e.answer within.2 h.0)
@@ -207,9 +212,11 @@ module _ (f : Profile) (k epoch : ℕ) (s : Settled) (piece : List Made) (l : Wh
   ends_kinds : Only ending is.ends
   ends_kinds = subst (Only ending) (sym e.steps_are) (ap (is_in ending) last.kind, only_within trying ending first refl idle.kinds)
 
+  -- The steps for one logged free are of the ending kinds alone.
   pub entry_kinds : Only ending piece
   entry_kinds = subst (Only ending) (sym is.steps_are) (only_both ending is.after is.ends (only_within putting_back ending is.after refl (after_kinds s.outcome is.returns)) ends_kinds)
 
+  -- The steps for one logged free show one event, that of its outcome.
   pub entry_events : visible (triples k piece ++ l) ≡ event_for k epoch entry s.outcome ∷ visible l
   entry_events =
       visible_steps k piece l
@@ -223,6 +230,7 @@ module _ (f : Profile) (k epoch : ℕ) (s : Settled) (piece : List Made) (l : Wh
   ends_trying : Only trying is.ends
   ends_trying = subst (Only trying) (sym e.steps_are) (ap (is_in trying) last.kind, idle.kinds)
 
+  -- The steps for one logged free hint only pages that they read as backed and empty.
   pub entry_hints : Always HintsEmpty piece
   entry_hints = subst (Always HintsEmpty) (sym is.steps_are) (hints_both is.after is.ends (after_hints s.outcome is.returns) (hints_none trying is.ends refl ends_trying))
 
@@ -237,6 +245,7 @@ module _ (f : Profile) (k epoch : ℕ) (s : Settled) (piece : List Made) (l : Wh
   look_legal : Legal f (triples k (look ∷ []) ++ l)
   look_legal = legal_earlier f k e.before (look ∷ []) l ends_legal.1
 
+  -- The directory that the steps of an entry read is the deed of its name's page.
   pub read_directory : s.directory ≡ deed_in (visible l) (address_of entry.name / 4096)
   read_directory =
       let page : ℕ = address_of entry.name / 4096 in
@@ -251,5 +260,6 @@ by_turn entry read = elim (nat_lt entry.name.turn (turn_of read)) as (λ (t : Bo
 reason_sized : (t : Bool) (entry : Entry) (read : ℕ) → is_sized entry ≡ t → IsEntryReason entry (reason_by t entry read)
 reason_sized t entry read sized = search (arith, by_turn)
 
+-- The reason that a read life word gives is one that the entry may have.
 pub reason_is : (entry : Entry) (read : ℕ) → IsEntryReason entry (reason_for entry read)
 reason_is entry read = reason_sized (is_sized entry) entry read refl

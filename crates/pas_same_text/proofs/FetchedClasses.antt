@@ -63,7 +63,8 @@ pub record IsFetched (f : Profile) (k heap class : ℕ) (p : Progress) (w : Worl
   pub legal : Legal f (triples k steps ++ p.list)
 
 -- ---- lists of local allocators
-other_none : (heap class : ℕ) (s : Slots) (rest : List Slots) (t : Bool) → is_for_slots heap class s ≡ t → local_for heap class rest ≡ None → local_for heap class (if not t then s ∷ rest else rest) ≡ None
+other_none : (heap class : ℕ) (s : Slots) (rest : List Slots) (t : Bool) → is_for_slots heap class s ≡ t → local_for heap class rest ≡ None
+    → local_for heap class (if not t then s ∷ rest else rest) ≡ None
 other_none heap class s rest true e none = none
 other_none heap class s rest false e none = ap (λ (u : Bool). if u then Some s else local_for heap class rest) e ∙ none
 
@@ -80,14 +81,16 @@ none_here s found true none = absurd (let bad : Some s ≡ None = none in cc)
 none_here s found false none = refl
 
 -- where the first is stopped, there is none either of a heap and class of which there was none
-none_stopped : (heap class : ℕ) (kept fewer : List Slots) (stopped : List Made) (t : Bool) → StopsFirst t kept fewer stopped → local_for heap class kept ≡ None → local_for heap class fewer ≡ None
+none_stopped : (heap class : ℕ) (kept fewer : List Slots) (stopped : List Made) (t : Bool) → StopsFirst t kept fewer stopped → local_for heap class kept ≡ None
+    → local_for heap class fewer ≡ None
 none_stopped heap class kept fewer stopped t h x = search (arith, none_behind)
 
 -- .. and there is place for one more
 below_full : (n : ℕ) → nat_le 32 n ≡ false → n < 32
 below_full n e = grind (arith, nat_tests, e)
 
-few_stopped : (kept fewer : List Slots) (stopped : List Made) (t : Bool) → nat_le 32 (length kept) ≡ t → length kept ≤ 32 → StopsFirst t kept fewer stopped → length fewer < 32
+few_stopped : (kept fewer : List Slots) (stopped : List Made) (t : Bool) → nat_le 32 (length kept) ≡ t → length kept ≤ 32 → StopsFirst t kept fewer stopped
+    → length fewer < 32
 few_stopped kept fewer stopped t e le h = search (arith, below_full)
 
 -- a list in which no number stands has none
@@ -107,7 +110,9 @@ same_class false a b is = let both : Kind.Class a ≡ Kind.Class b = is in cc
 kept_for : (f : Profile) (heap class : ℕ) (s : Slots) → s.right ≡ true → home_of s ≡ class_home f heap class → is_for_slots heap class s ≡ true
 kept_for f heap class s right home = search (arith, same_class, eq-eqb)
 
-pub none_kept : (f : Profile) (v : View) (heap class : ℕ) (page : ℕ) (slots : List Slots) → IsKind (class_home f heap class).kind → KnowsDeed page (class_home f heap class) v → All (IsLocal f v) slots → local_for heap class slots ≡ None → any_keeps slots page ≡ false
+-- A page known to be of a class's home isn't kept by a cache that has no local allocator of the heap and class.
+pub none_kept : (f : Profile) (v : View) (heap class : ℕ) (page : ℕ) (slots : List Slots) → IsKind (class_home f heap class).kind
+    → KnowsDeed page (class_home f heap class) v → All (IsLocal f v) slots → local_for heap class slots ≡ None → any_keeps slots page ≡ false
 none_kept f v heap class page [] kind of all none = refl
 none_kept f v heap class page (s ∷ slots) kind of all none =
     let own : IsLocal f v s = All-head (IsLocal f v) s slots all in
@@ -115,11 +120,13 @@ none_kept f v heap class page (s ∷ slots) kind of all none =
     ap (λ (t : Bool). t || any_keeps slots page) lost
     ∙ none_kept f v heap class page slots kind of (All-tail (IsLocal f v) s slots all) (none_behind s (local_for heap class slots) (is_for_slots heap class s) none)
 
+-- A thread with place for a local allocator of the heap and class may search the pages of the class's home.
 pub may_fetch : (f : Profile) (k heap class : ℕ) (p : Progress) (w : World) → HasPlace f k heap class p w → MaySearch (class_home f heap class) (part k p.list)
 may_fetch f k heap class p w has = search (arith, none_kept)
 
 -- ---- place is made
-module _ (f : Profile) (k heap class : ℕ) (p : Progress) (w : World) (found : Result Slots NoRoom) (fewer : List Slots) (steps : List Made) (o : IsFetched f k heap class p w found fewer steps) where
+module _ (f : Profile) (k heap class : ℕ) (p : Progress) (w : World) (found : Result Slots NoRoom) (fewer : List Slots) (steps : List Made)
+    (o : IsFetched f k heap class p w found fewer steps) where
   abbrev c : Cached
   c = p.caches k
 
@@ -176,6 +183,7 @@ module _ (f : Profile) (k heap class : ℕ) (p : Progress) (w : World) (found : 
   many_placed None = same_many w (placed_by k None w) (first_up_keeps k (locals_of w k) w)
   many_placed (Some l) = same_many w (placed_by k (Some l) w) (given_up_keeps k l w)
 
+  -- Once place was made in a cache, it has place for a local allocator of the heap and class.
   pub place_fetched : HasPlace f k heap class p1 w1
   place_fetched = record {
     valid = o.valid;
@@ -208,7 +216,8 @@ module _ (f : Profile) (k heap class : ℕ) (p : Progress) (w : World) (found : 
     abbrev fetched_as : Option Local → World
     fetched_as x = fetches f k name heap class (placed_by k x w)
 
-    by_found : (x : Option Slots) → local_for heap class c.locals ≡ x → LeavesSpent x o.fetch.place.spent → served_as (find (is_for heap class) (locals_of w k)) ≡ fetched_as (find (is_for heap class) (locals_of w k))
+    by_found : (x : Option Slots) → local_for heap class c.locals ≡ x → LeavesSpent x o.fetch.place.spent
+        → served_as (find (is_for heap class) (locals_of w k)) ≡ fetched_as (find (is_for heap class) (locals_of w k))
     by_found None none left =
         let is = none_same heap class c.locals (locals_of w k) both_same none in
         ap served_as is ∙ ap fetched_as (sym is)
@@ -218,6 +227,7 @@ module _ (f : Profile) (k heap class : ℕ) (p : Progress) (w : World) (found : 
         let known = known_found (IsLocal f (part k p.list)) heap class c.locals s own.locals.known there in
         cc (no_slots s l found.same known left.0)
 
+    -- The text serves such a request of a class as a fetch from the state in which place was made.
     pub text_fetched : serves_class f k name heap class w ≡ fetches f k name heap class w1
     text_fetched = by_found (local_for heap class c.locals) refl o.fetch.place.taken.left
 
@@ -235,6 +245,7 @@ module _ (f : Profile) (k heap class : ℕ) (p : Progress) (w : World) (found : 
     list_is : q.list ≡ q1.list
     list_is = ap (λ (ms : List Made). triples k ms ++ p.list) steps_split ∙ sym (triples_append k (more ++ ys) xs p.list)
 
+    -- A replay that is between two acts is so too when told as a fetch after the place was made.
     pub fetch_between : IsBetween f q → IsBetween f q1
     fetch_between after = record {
       legal = subst (Legal f) list_is after.legal;
@@ -248,6 +259,7 @@ module _ (f : Profile) (k heap class : ℕ) (p : Progress) (w : World) (found : 
         ∙ (ap (λ (es : List Event). events_by k (xs ++ part k p.list) (more ++ ys) ++ es) (no_events releasing refl k (part k p.list) xs o.fetch.gives_back)
         ∙ (append-nil (events_by k (xs ++ part k p.list) (more ++ ys)) ∙ ap (λ (v : View). events_by k v (more ++ ys)) (sym (part_of_own k xs p.list)))))
 
+    -- A state of the text that is that of the fetch told by itself is that of the whole request.
     pub fetch_carried : (v : World) → IsSame f q1 v → IsSame f q v
     fetch_carried v ended = record {
       pages = subst (λ (l : Whole). ArePagesSame f l v) (sym list_is) ended.pages;

@@ -61,6 +61,7 @@ module _ (f : Profile) (k : ℕ) (p : Progress) (w : World) (steps : List Made) 
   text : flushes f k w ≡ each (ends f k) (reverse (map (λ (s : Settled). s.entry) h.settled)) (set_log k [] w)
   text = ap (λ (es : List Entry). each (ends f k) es (set_log k [] w)) ((same.caches.each k thread).log ∙ sym h.entries_are)
 
+  -- A flush in the text does for the entries of the log what its steps do in the replay, one by one.
   pub flush_to : IsFlushedTo f k h.epoch p.list w (p.caches k) p.caches h.settled steps (flushes f k w)
   flush_to =
       subst (λ (v : World). IsFlushedTo f k h.epoch p.list w (p.caches k) p.caches h.settled steps v) (sym text)
@@ -68,12 +69,14 @@ module _ (f : Profile) (k : ℕ) (p : Progress) (w : World) (steps : List Made) 
       (flushed_all f k h.epoch p.list w (p.caches k) p.caches valid thread listed now h.settled h.entries h.order all_legal
       (flushed_start f k h.epoch p.list w (p.caches k) p.caches valid thread listed now same.pages.events same.pages.live same.caches refl)))
 
+  -- A flush adds the events of its steps to the records, and nothing else.
   pub flush_records : (flushes f k w).records ≡ map Record.Event (events_by k (part k p.list) steps) ++ w.records
   flush_records = flush_to.records ∙ ap (λ (es : List Event). map Record.Event es ++ w.records) (sym (h.events (part k p.list)))
 
 -- ---- grains of ended blocks
 
-module _ (f : Profile) (p p' : Progress) (w v : World) (pages : List ℕ) (valid : IsValid f) (before : IsBetween f p) (after : IsBetween f p') (events : w.events ≡ visible p.list) (same : HasSame f p' v)
+module _ (f : Profile) (p p' : Progress) (w v : World) (pages : List ℕ) (valid : IsValid f) (before : IsBetween f p) (after : IsBetween f p')
+    (events : w.events ≡ visible p.list) (same : HasSame f p' v)
     (usable : AreBlocksUsable (visible p.list)) (fewer : OnlyFewer w.events v.events)
     (none_held : (j g : ℕ) → holds (part j p'.list) g ≡ true → holds (part j p.list) g ≡ true) where
   run : Run f w.events
@@ -100,7 +103,8 @@ module _ (f : Profile) (p p' : Progress) (w v : World) (pages : List ℕ) (valid
       (λ a b lives of_it. other o g m.of_run a b lives of_it) in
       open_from f p' v valid after same d q (g % 256) small may (ap (free_bit p'.list) whole ∙ free)
     where
-      other : (o : IsEndedOn w.events v.events pages q) (g : ℕ) → IsPartOf g o.address o.block → (a : ℕ) (b : Live) → live_in (visible p'.list) a ≡ Some b → IsPartOf g a b → ⊥
+      other : (o : IsEndedOn w.events v.events pages q) (g : ℕ) → IsPartOf g o.address o.block → (a : ℕ) (b : Live) → live_in (visible p'.list) a ≡ Some b
+          → IsPartOf g a b → ⊥
       other o g of_own a b lives of_it = by_address (o.address == a) refl
         where
           by_address : (t : Bool) → (o.address == a) ≡ t → ⊥
@@ -156,6 +160,7 @@ module _ (f : Profile) (k : ℕ) (p : Progress) (w : World) (steps : List Made) 
       page_of : (q : ℕ) → OffersPage q steps → IsPage f q
       page_of q offer = offered_of_region f k p.list q steps legal offer
 
+  -- A flush leads the text to the state of the replay after its steps, caches and records too.
   pub flush_same : IsSame f (with_records (with_steps p k steps c') (records_of (events_by k (part k p.list) steps))) v
   flush_same = record {
     pages = given_pages f k p.list (with_steps p k steps c') w v steps valid same.pages refl after flush_has given;

@@ -16,7 +16,8 @@ reason_named : (entry : Entry) (sized : Bool) (read : ℕ) → is_sized entry �
 reason_named entry sized read is h = search (arith, true≢false)
 
 -- whatever came of a free without a room, its event is one that the text knows
-entry_event : (k epoch : ℕ) (entry : Entry) (outcome : Outcome) (w : World) → is_sized entry ≡ false → w.epoch ≡ epoch → IsEntryEvent k entry w (event_for k epoch entry outcome)
+entry_event : (k epoch : ℕ) (entry : Entry) (outcome : Outcome) (w : World) → is_sized entry ≡ false → w.epoch ≡ epoch
+    → IsEntryEvent k entry w (event_for k epoch entry outcome)
 entry_event k epoch entry outcome w unsized now = search (arith, reason_named)
 
 -- ---- all
@@ -24,7 +25,9 @@ run_before : (f : Profile) (evs es : List Event) → Run f (onto evs es) → Run
 run_before f [] es run = run
 run_before f (e ∷ evs) es run = (run_before f evs (e ∷ es) run).1
 
-pub flush_shown : (f : Profile) (k epoch : ℕ) (entries : List Entry) (outcomes : List Outcome) (w : World) → HaveOutcomes entries outcomes → are_unsized entries ≡ true → w.live ≡ lives_in w.events → w.epoch ≡ epoch
+-- The entries of a log without rooms show their events in order, where the machine allows these.
+pub flush_shown : (f : Profile) (k epoch : ℕ) (entries : List Entry) (outcomes : List Outcome) (w : World) → HaveOutcomes entries outcomes
+    → are_unsized entries ≡ true → w.live ≡ lives_in w.events → w.epoch ≡ epoch
     → Run f (onto (events_of_flush k epoch entries outcomes) w.events) → HasShown (events_of_flush k epoch entries outcomes) w (each (ends f k) entries w)
 flush_shown f k epoch [] [] w pairs unsized live now run = record { events = refl; live = live; names = refl; epoch = refl }
 flush_shown f k epoch [] (o ∷ outcomes) w pairs unsized live now run = absurd pairs

@@ -48,7 +48,8 @@ flat_both : (h : Settled → List EndedRun) (xs : List Settled) (x : Settled) �
 flat_both h [] x = append-nil (h x)
 flat_both h (y ∷ xs) x = ap (λ (zs : List EndedRun). h y ++ zs) (flat_both h xs x) ∙ sym (append_assoc (h y) (flat_map h xs) (h x))
 
-noted_more : (es : List EndedRun) (s : Settled) (settled : List Settled) → noted_after es (s ∷ settled) ≡ noted_after es settled ++ take (64 - length (noted_after es settled)) (noted_for s)
+noted_more : (es : List EndedRun) (s : Settled) (settled : List Settled)
+    → noted_after es (s ∷ settled) ≡ noted_after es settled ++ take (64 - length (noted_after es settled)) (noted_for s)
 noted_more es s settled =
     let xs : List EndedRun = flat_map noted_for (reverse settled) in
     let n : ℕ = 64 - length es in
@@ -65,7 +66,8 @@ noted_start : (es : List EndedRun) → noted_after es [] ≡ es
 noted_start es = ap (λ (xs : List EndedRun). es ++ xs) (take_none (64 - length es)) ∙ append-nil es
 
 -- one run at most
-room_for : (noted : List EndedRun) (o : Option EndedRun) (t : Bool) → nat_lt (length noted) 64 ≡ t → (if t then noted ++ option_to_list o else noted) ≡ noted ++ take (64 - length noted) (option_to_list o)
+room_for : (noted : List EndedRun) (o : Option EndedRun) (t : Bool) → nat_lt (length noted) 64 ≡ t
+    → (if t then noted ++ option_to_list o else noted) ≡ noted ++ take (64 - length noted) (option_to_list o)
 room_for noted None true e = ap (λ (xs : List EndedRun). noted ++ xs) (sym (take_none (64 - length noted)))
 room_for noted (Some run) true e = let lt : length noted < 64 = grind (arith, nat_tests, e) in one (64 - length noted) (omega (arith, lt))
   where
@@ -148,7 +150,8 @@ pub record IsTakenBy (f : Profile) (k : ℕ) (s : Settled) (piece : List Made) (
 abbrev own_then : Settled → World → ℕ → Cache
 own_then s v k = record (cache_of v k) { noted = noted_of v k ++ take (64 - length (noted_of v k)) (noted_for s) }
 
-module _ (f : Profile) (k epoch : ℕ) (s : Settled) (piece : List Made) (l : Whole) (valid : IsValid f) (legal : Legal f (triples k piece ++ l)) (is : EntrySteps s piece) (known : epoch_of (part k l) ≡ epoch)
+module _ (f : Profile) (k epoch : ℕ) (s : Settled) (piece : List Made) (l : Whole) (valid : IsValid f) (legal : Legal f (triples k piece ++ l))
+    (is : EntrySteps s piece) (known : epoch_of (part k l) ≡ epoch)
     (v : World) (live : v.live ≡ lives_in v.events) (events : v.events ≡ visible l) (now : v.epoch ≡ epoch) where
   abbrev x : World
   x = ends f k s.entry v
@@ -260,7 +263,8 @@ module _ (f : Profile) (k epoch : ℕ) (s : Settled) (piece : List Made) (l : Wh
   taken_by (Refused read) outcome = (rejected_shown read outcome, rejected_taken read outcome)
 
 -- ---- the marks so far
-still_ended : (es fs gs : List Event) (ps qs : List ℕ) (q : ℕ) → ((a : ℕ) → live_in fs a ≡ None → live_in gs a ≡ None) → IsEndedOn es fs ps q → IsEndedOn es gs (ps ++ qs) q
+still_ended : (es fs gs : List Event) (ps qs : List ℕ) (q : ℕ) → ((a : ℕ) → live_in fs a ≡ None → live_in gs a ≡ None) → IsEndedOn es fs ps q
+    → IsEndedOn es gs (ps ++ qs) q
 still_ended es fs gs ps qs q stays o = record {
   address = o.address;
   block = o.block;
@@ -282,7 +286,8 @@ ended_since es fs gs ps qs q fewer o = record {
 
 module _ (f : Profile) (k epoch : ℕ) (l : Whole) (w : World) (c : Cached) (caches : Caches) (valid : IsValid f) (thread : IsThread f k)
     (listed : k ≤ length w.caches) (now : w.epoch ≡ epoch) where
-  next_flushed : (s : Settled) (settled : List Settled) (piece steps : List Made) (v : World) → Legal f (triples k piece ++ (triples k steps ++ l)) → EntrySteps s piece → IsFlushedTo f k epoch l w c caches settled steps v
+  next_flushed : (s : Settled) (settled : List Settled) (piece steps : List Made) (v : World) → Legal f (triples k piece ++ (triples k steps ++ l))
+      → EntrySteps s piece → IsFlushedTo f k epoch l w c caches settled steps v
       → IsFlushedTo f k epoch l w c caches (s ∷ settled) (piece ++ steps) (ends f k s.entry v)
   next_flushed s settled piece steps v legal is was =
       let before : Whole = triples k steps ++ l in
@@ -328,7 +333,9 @@ module _ (f : Profile) (k epoch : ℕ) (l : Whole) (w : World) (c : Cached) (cac
   abbrev look : Made
   look = made (Look Word.Epoch) epoch
 
-  pub flushed_start : w.events ≡ visible l → w.live ≡ lives_in w.events → AreSameCaches f caches w.caches → c ≡ caches k → IsFlushedTo f k epoch l w c caches [] (look ∷ []) (set_log k [] w)
+  -- At the start of a flush, when the log is taken and the epoch read, the text is that of the replay.
+  pub flushed_start : w.events ≡ visible l → w.live ≡ lives_in w.events → AreSameCaches f caches w.caches → c ≡ caches k
+      → IsFlushedTo f k epoch l w c caches [] (look ∷ []) (set_log k [] w)
   flushed_start events live same is =
       let own : IsSameCache c (cache_of w k) = subst (λ (d : Cached). IsSameCache d (cache_of w k)) (sym is) (same.each k thread) in
       let new : Cache = record (cache_of w k) { log = [] } in
@@ -354,7 +361,9 @@ module _ (f : Profile) (k epoch : ℕ) (l : Whole) (w : World) (c : Cached) (cac
         known = ap epoch_of (part_of_own k (look ∷ []) l);
       }
 
-  pub flushed_all : (settled : List Settled) (steps : List Made) → EntriesSteps settled steps → Legal f (triples k (steps ++ look ∷ []) ++ l) → IsFlushedTo f k epoch l w c caches [] (look ∷ []) (set_log k [] w)
+  -- A flush that settled these entries one by one took the text along with the replay.
+  pub flushed_all : (settled : List Settled) (steps : List Made) → EntriesSteps settled steps → Legal f (triples k (steps ++ look ∷ []) ++ l)
+      → IsFlushedTo f k epoch l w c caches [] (look ∷ []) (set_log k [] w)
       → IsFlushedTo f k epoch l w c caches settled (steps ++ look ∷ []) (each (ends f k) (reverse (map (λ s. s.entry) settled)) (set_log k [] w))
   flushed_all [] steps h legal start = subst (λ (ms : List Made). IsFlushedTo f k epoch l w c caches [] (ms ++ look ∷ []) (set_log k [] w)) (sym h) start
   flushed_all (s ∷ settled) steps h legal start =

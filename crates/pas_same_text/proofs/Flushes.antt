@@ -57,19 +57,23 @@ visible_steps k (m ∷ steps) l =
     ∙ with_append (event_of k (epoch_of (steps ++ part k l)) m.step m.answer) (events_by k (part k l) steps) (visible l))
 
 -- steps between others are legal where they were made
-pub legal_between : (f : Profile) (k : ℕ) (after steps before : List Made) (l : Whole) → Legal f (triples k (after ++ (steps ++ before)) ++ l) → Legal f (triples k steps ++ (triples k before ++ l))
+pub legal_between : (f : Profile) (k : ℕ) (after steps before : List Made) (l : Whole) → Legal f (triples k (after ++ (steps ++ before)) ++ l)
+    → Legal f (triples k steps ++ (triples k before ++ l))
 legal_between f k after steps before l legal = subst (Legal f) (sym (triples_append k steps before l)) (legal_earlier f k after (steps ++ before) l legal)
 
+-- Steps of kinds that make no event leave what a list shows as it was.
 pub unshown : (ks : Kinds) → apart ks showing ≡ true → (k : ℕ) (steps : List Made) (l : Whole) → Only ks steps → visible (triples k steps ++ l) ≡ visible l
 unshown ks w k steps l only = visible_steps k steps l ∙ ap (λ (es : List Event). es ++ visible l) (no_events ks w k (part k l) steps only)
 
 -- a block that steps gave lives after steps without events
-pub given_lives : (ks : Kinds) → apart ks showing ≡ true → (k : ℕ) (xs steps : List Made) (l : Whole) (block : Block) (es : List Event) → Only ks xs → events_by k (part k l) steps ≡ Event.Give k block ∷ es
+pub given_lives : (ks : Kinds) → apart ks showing ≡ true → (k : ℕ) (xs steps : List Made) (l : Whole) (block : Block) (es : List Event) → Only ks xs
+    → events_by k (part k l) steps ≡ Event.Give k block ∷ es
     → live_in (visible (triples k xs ++ (triples k steps ++ l))) (address_of block.name) ≡ Some (record { actor = k; block = block })
 given_lives ks w k xs steps l block es only given = search (arith, unshown, visible_steps)
 
 -- ---- A FLUSH
-module _ (f : Profile) (k : ℕ) (logged : List Entry) (noted noted' : List EndedRun) (steps : List Made) (l : Whole) (w : World) (is : IsFlushOf f k logged noted noted' steps l w) where
+module _ (f : Profile) (k : ℕ) (logged : List Entry) (noted noted' : List EndedRun) (steps : List Made) (l : Whole) (w : World)
+    (is : IsFlushOf f k logged noted noted' steps l w) where
   abbrev in_order : List Settled
   in_order = reverse is.empties.settled
 
@@ -107,11 +111,14 @@ module _ (f : Profile) (k : ℕ) (logged : List Entry) (noted noted' : List Ende
   flushed_is : flushes f k w ≡ each (ends f k) (entries_of in_order) (set_log k [] w)
   flushed_is = ap (λ (es : List Entry). each (ends f k) es (set_log k [] w)) (is.log ∙ logged_are)
 
+  -- After a flush the text's events are those that its steps show in the replay.
   pub flush_events : (flushes f k w).events ≡ visible (triples k steps ++ l)
   flush_events = ap (λ (v : World). v.events) flushed_is ∙ (text_shown.events ∙ sym all_shown)
 
+  -- After a flush the live blocks of the text are those that live by its events.
   pub flush_lives : (flushes f k w).live ≡ lives_in (flushes f k w).events
   flush_lives = subst (λ (v : World). v.live ≡ lives_in v.events) (sym flushed_is) text_shown.live
 
+  -- A flush leaves the epoch of the text as it was.
   pub flush_epoch : (flushes f k w).epoch ≡ w.epoch
   flush_epoch = ap (λ (v : World). v.epoch) flushed_is ∙ text_shown.epoch

@@ -20,6 +20,7 @@ pub record HaveSamePages (l l' : Whole) : Type 0 where
   pub hints : (page : ℕ) → empty_bit l' page ≡ empty_bit l page
   pub offers : (number page : ℕ) → eligible_bit l' number page ≡ eligible_bit l number page
 
+-- A list has the same events, hints and offers as itself.
 pub unchanged : (l : Whole) → HaveSamePages l l
 unchanged l = record { events = refl; hints = λ page. refl; offers = λ number page. refl }
 
@@ -30,6 +31,7 @@ look_word k a word w l = elim (same_word word w) as (λ (t : Bool). (if t then w
 looked_bit : (k a : ℕ) (word w : Word) (l : Whole) (b : ℕ) → has_bit (word_after (triple k (made (Look word) a) ∷ l) w) b ≡ has_bit (word_after l w) b
 looked_bit k a word w l b = ap (λ (n : ℕ). has_bit n b) (look_word k a word w l)
 
+-- A look leaves events, hints and offers as they were.
 pub look_pages : (k a : ℕ) (word : Word) (l : Whole) → HaveSamePages l (triple k (made (Look word) a) ∷ l)
 look_pages k a word l = search (arith, looked_bit)
 
@@ -53,6 +55,7 @@ offered_of events live locals guards d page = is_same d (deed_in events page) &&
 offered_is : (w : World) (d : Directory) (page : ℕ) → is_offered w d page ≡ offered_of w.events w.live (all_locals w.caches) w.guards d page
 offered_is w d page = refl
 
+-- States with the same events, blocks, local allocators and guards offer the same pages.
 pub offered_same : (w w' : World) (d : Directory) (page : ℕ) → HaveSameState w w' → is_offered w' d page ≡ is_offered w d page
 offered_same w w' d page same = search (arith, offered_is)
 

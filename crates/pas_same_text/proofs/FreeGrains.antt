@@ -53,7 +53,9 @@ free_unheld f l valid legal g free k = by_place (in_one_place f l valid legal g)
     by_place (inr (inl o)) = absurd (true≢false (sym free ∙ o.not_free))
     by_place (inr (inr o)) = absurd (true≢false (sym free ∙ o.not_free))
 
-pub free_uncovered : (f : Profile) (l : Whole) → IsValid f → Legal f l → (g : ℕ) → free_bit l g ≡ true → (address : ℕ) (b : Live) → live_in (visible l) address ≡ Some b → IsPartOf g address b → ⊥
+-- A grain whose free bit is set is no part of a live block.
+pub free_uncovered : (f : Profile) (l : Whole) → IsValid f → Legal f l → (g : ℕ) → free_bit l g ≡ true → (address : ℕ) (b : Live)
+    → live_in (visible l) address ≡ Some b → IsPartOf g address b → ⊥
 free_uncovered f l valid legal g free address b lives of = by_place (in_one_place f l valid legal g)
   where
     by_place : IsInOnePlace l g → ⊥
@@ -79,17 +81,21 @@ module _ (f : Profile) (p : Progress) (between : IsBetween f p) where
   pub cached_held : (k g : ℕ) → IsThread f k → any_covers (p.caches k).locals g ≡ true → holds (part k p.list) g ≡ true
   cached_held k g is h = (between.rest.working k is).locals.grains g ∙ or_left (any_covers (p.caches k).locals g) (is_outer (p.books k) (g / 256)) h
 
+  -- A keeper holds each grain of the outer pages of its guards.
   pub outer_held : (k g : ℕ) → is_outer (p.books k) (g / 256) ≡ true → holds (part k p.list) g ≡ true
   outer_held k g h = (between.rest.working k (outer_thread k (g / 256) h)).locals.grains g ∙ or_right (any_covers (p.caches k).locals g) (is_outer (p.books k) (g / 256)) h
 
+  -- A grain that an actor holds is of a slot that it caches or of an outer page of one of its guards.
   pub held_by : (k g : ℕ) → holds (part k p.list) g ≡ true → (any_covers (p.caches k).locals g ≡ true) ⊎ (is_outer (p.books k) (g / 256) ≡ true)
   held_by k g h = or_cases (any_covers (p.caches k).locals g) (is_outer (p.books k) (g / 256)) (sym ((between.rest.working k (holder_thread k g h)).locals.grains g) ∙ h)
 
+  -- No actor has both a cached slot and a guard.
   pub never_both : (k g page : ℕ) → any_covers (p.caches k).locals g ≡ true → is_outer (p.books k) page ≡ true → ⊥
   never_both k g page cached outer = search (arith, outer_thread, false≢true)
 
 -- a grain that is held after an act whose actor keeps no guard was held before, where its cache had it then
-pub held_still : (f : Profile) (p p' : Progress) → IsBetween f p → IsBetween f p' → p'.books ≡ p.books → (j g : ℕ) → (any_covers (p'.caches j).locals g ≡ true → any_covers (p.caches j).locals g ≡ true)
+pub held_still : (f : Profile) (p p' : Progress) → IsBetween f p → IsBetween f p' → p'.books ≡ p.books → (j g : ℕ)
+    → (any_covers (p'.caches j).locals g ≡ true → any_covers (p.caches j).locals g ≡ true)
     → holds (part j p'.list) g ≡ true → holds (part j p.list) g ≡ true
 held_still f p p' before after books j g fewer h = elim (held_by f p' after j g h) [
   | inl cached ↦ cached_held f p before j g (holder_thread f p' after j g h) (fewer cached)
@@ -110,7 +116,8 @@ module _ (f : Profile) (p : Progress) (w : World) (valid : IsValid f) (between :
   live_is : w.live ≡ lives_in (visible p.list)
   live_is = same.live ∙ ap lives_in same.events
 
-  covered_none : (page g : ℕ) → ((address : ℕ) (b : Live) → live_in (visible p.list) address ≡ Some b → IsPartOf g address b → ⊥) → is_covered (blocks_on w page) g ≡ false
+  covered_none : (page g : ℕ) → ((address : ℕ) (b : Live) → live_in (visible p.list) address ≡ Some b → IsPartOf g address b → ⊥)
+      → is_covered (blocks_on w page) g ≡ false
   covered_none page g none = false_from_ne_true (is_covered (blocks_on w page) g) (λ h.
       let both : list_any (λ x. meets_page (first_grain x.name) (length_of x) page && in_run (first_grain x.name) (length_of x) g) w.live ≡ true =
       any_filtered (λ x. in_run (first_grain x.name) (length_of x) g) (λ x. meets_page (first_grain x.name) (length_of x) page) w.live h in
@@ -121,7 +128,8 @@ module _ (f : Profile) (p : Progress) (w : World) (valid : IsValid f) (between :
       none o.address o.live o.lives
       (ap (λ (a : ℕ). in_run (a / 16) (length_of o.live.block) g) (sym o.at) ∙ and_second (meets_page (first_grain o.live.block.name) (length_of o.live.block) page) (in_run (first_grain o.live.block.name) (length_of o.live.block) g) o.so))
 
-  covered_some : (page g address : ℕ) (b : Live) → g / 256 ≡ page → live_in (visible p.list) address ≡ Some b → IsPartOf g address b → is_covered (blocks_on w page) g ≡ true
+  covered_some : (page g address : ℕ) (b : Live) → g / 256 ≡ page → live_in (visible p.list) address ≡ Some b → IsPartOf g address b
+      → is_covered (blocks_on w page) g ≡ true
   covered_some page g address b on lives is =
       let at : address_of b.block.name ≡ address = lives_where f (visible p.list) (runs f p.list valid between.legal) address b lives in
       let run : in_run (first_grain b.block.name) (length_of b.block) g ≡ true = ap (λ (a : ℕ). in_run (a / 16) (length_of b.block) g) at ∙ is in
@@ -132,11 +140,13 @@ module _ (f : Profile) (p : Progress) (w : World) (valid : IsValid f) (between :
       (ap (λ (t : Bool). t && in_run (first_grain b.block.name) (length_of b.block) g) meets ∙ run)))
 
   -- ---- caches
-  cache_grains : (k page b : ℕ) → b < 256 → IsThread f k → list_any (has_grain page b) (cache_in w.caches k).locals ≡ any_covers (p.caches k).locals (256 * page + b)
+  cache_grains : (k page b : ℕ) → b < 256 → IsThread f k
+      → list_any (has_grain page b) (cache_in w.caches k).locals ≡ any_covers (p.caches k).locals (256 * page + b)
   cache_grains k page b small is =
       grains_same f (part k p.list) (p.caches k).locals (cache_in w.caches k).locals page b small (same.caches.each k is).locals (between.rest.working k is).locals.known
 
-  cached_none : (page b : ℕ) → b < 256 → ((k : ℕ) → any_covers (p.caches k).locals (256 * page + b) ≡ true → IsThread f k → ⊥) → is_cached (locals_on w page) b ≡ false
+  cached_none : (page b : ℕ) → b < 256 → ((k : ℕ) → any_covers (p.caches k).locals (256 * page + b) ≡ true → IsThread f k → ⊥)
+      → is_cached (locals_on w page) b ≡ false
   cached_none page b small nobody = false_from_ne_true (is_cached (locals_on w page) b) (λ h.
       let o : IsOfCache w.caches (has_grain page b) = of_cache w.caches (has_grain page b) (cached_any w.caches page b h) in
       let is : IsThread f o.k = thread_in (length w.caches) o.k same.caches.few o.first o.last in
@@ -146,7 +156,8 @@ module _ (f : Profile) (p : Progress) (w : World) (valid : IsValid f) (between :
   cached_some k page b small is h = any_cached w.caches page b (in_all w.caches k (has_grain page b) (cache_grains k page b small is ∙ h))
 
   -- ---- guards: the grains of an outer page are its keeper's
-  pub guarded_held : (page b : ℕ) → b < 256 → is_guarded w page ≡ true → (k : ℕ) × (is_outer (p.books k) page ≡ true) × (holds (part k p.list) (256 * page + b) ≡ true)
+  pub guarded_held : (page b : ℕ) → b < 256 → is_guarded w page ≡ true
+      → (k : ℕ) × (is_outer (p.books k) page ≡ true) × (holds (part k p.list) (256 * page + b) ≡ true)
   guarded_held page b small h =
       let o = guarded_by p.books w same.guards page h in
       (o.0, o.1, outer_held f p between o.0 (256 * page + b) (ap (is_outer (p.books o.0)) (on_page page b small) ∙ o.1))
@@ -181,6 +192,7 @@ module _ (f : Profile) (p : Progress) (w : World) (valid : IsValid f) (between :
       let unguarded : is_guarded w page ≡ false = false_from_ne_true (is_guarded w page) (λ h. let o = guarded_held page b small h in false≢true (sym (covered.nobody o.0) ∙ o.2)) in
       cc (covered_some page (256 * page + b) covered.address covered.block (on_page page b small) covered.lives covered.covered)
 
+  -- A grain is free in the text exactly where its bit is set in the replay or a guard has its page.
   pub free_same : (page b : ℕ) → b < 256 → is_free w page b ≡ (free_bit p.list (256 * page + b) || is_guarded w page)
   free_same page b small = free_here page b small (in_one_place f p.list valid between.legal (256 * page + b))
 
@@ -188,12 +200,15 @@ module _ (f : Profile) (p : Progress) (w : World) (valid : IsValid f) (between :
   pub free_unless : (page b : ℕ) → b < 256 → is_guarded w page ≡ false → is_free w page b ≡ free_bit p.list (256 * page + b)
   free_unless page b small none = free_same page b small ∙ (ap (λ (t : Bool). free_bit p.list (256 * page + b) || t) none ∙ or-false (free_bit p.list (256 * page + b)))
 
+  -- On an unguarded page a grain is free in the text exactly where the replay reads it as free.
   pub read_unless : (page b : ℕ) → b < 256 → is_guarded w page ≡ false → is_free w page b ≡ free_of_page p.list page b
   read_unless page b small none = free_unless page b small none ∙ bit_read p.list page b
 
+  -- A grain whose bit is set in the replay is free in the text.
   pub bit_free : (page b : ℕ) → b < 256 → free_bit p.list (256 * page + b) ≡ true → is_free w page b ≡ true
   bit_free page b small bit = free_same page b small ∙ or_left (free_bit p.list (256 * page + b)) (is_guarded w page) bit
 
+  -- A page with a grain whose bit is set is no outer page of a guard.
   pub bit_unguarded : (page b : ℕ) → b < 256 → free_bit p.list (256 * page + b) ≡ true → is_guarded w page ≡ false
   bit_unguarded page b small bit =
       false_from_ne_true (is_guarded w page) (λ h. let o = guarded_held page b small h in false≢true (sym (free_unheld f p.list valid between.legal (256 * page + b) bit o.0) ∙ o.2))

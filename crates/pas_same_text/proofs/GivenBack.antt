@@ -26,7 +26,8 @@ each_more_at : (x y r s : Bool) → (x ≡ true → y ≡ true) → (r ≡ true 
 each_more_at x y r s first rest h = search (arith, false≢true)
 
 -- each number passes the one test that passes the other
-each_more : (n from : ℕ) (test other : ℕ → Bool) → ((b : ℕ) → from ≤ b → b < from + n → test b ≡ true → other b ≡ true) → each_of from n test ≡ true → each_of from n other ≡ true
+each_more : (n from : ℕ) (test other : ℕ → Bool) → ((b : ℕ) → from ≤ b → b < from + n → test b ≡ true → other b ≡ true) → each_of from n test ≡ true
+    → each_of from n other ≡ true
 unfolding each_of
 each_more zero from test other more h = refl
 each_more (suc n) from test other more h =
@@ -43,6 +44,7 @@ each_at (suc n) from b test h low high = elim (cases_eq from b) [
   | inr ne ↦ each_at n (from + 1) b test (and_second (test from) (each_of (from + 1) n test) h) (omega (arith, low, ne)) (omega (arith, high))
 ]
 
+-- A test that each of several numbers in a row passes holds of them all.
 pub each_all : (n from : ℕ) (test : ℕ → Bool) → ((b : ℕ) → from ≤ b → b < from + n → test b ≡ true) → each_of from n test ≡ true
 unfolding each_of
 each_all zero from test all = refl
@@ -55,9 +57,11 @@ free_with live locals page b = is_free_of (filter (λ x. meets_page (grain_of x.
 free_is : (w : World) (page b : ℕ) → is_free w page b ≡ free_with w.live (all_locals w.caches) page b
 free_is w page b = refl
 
+-- With the same live blocks and local allocators, the same grains of a page are free.
 pub free_kept : (w v : World) (page b : ℕ) → v.live ≡ w.live → all_locals v.caches ≡ all_locals w.caches → is_free v page b ≡ is_free w page b
 free_kept w v page b live locals = search (arith, free_is)
 
+-- A page with the same free grains is as empty as before.
 pub empty_kept : (w v : World) (page : ℕ) → ((b : ℕ) → b < 256 → is_free v page b ≡ is_free w page b) → is_empty v page ≡ is_empty w page
 empty_kept w v page same = each_same 256 0 (is_free v page) (is_free w page) (λ b low high. same b high)
 
@@ -97,6 +101,7 @@ more_hinted w page = record { events = refl; records = refl; live = refl; caches
 only_minds : (w : World) (page : ℕ) → OnlyHints w (minds page w)
 only_minds w page = only_if w (hints page w) w (backed_in w.events page && is_empty w page) (only_if w w (record w { hinted = page ∷ w.hinted }) (is_hinted w page) (no_hints w) (more_hinted w page)) (no_hints w)
 
+-- Minding several pages changes nothing of a state but hints.
 pub all_only_hints : (pages : List ℕ) (w : World) → OnlyHints w (each minds pages w)
 all_only_hints [] w = no_hints w
 all_only_hints (page ∷ pages) w = hints_then w (minds page w) (each minds pages (minds page w)) (only_minds w page) (all_only_hints pages (minds page w))
@@ -116,7 +121,9 @@ hinted_at page q old t h same e is = search (arith, eqb-true)
 hinted_minded : (w : World) (page q : ℕ) → is_hinted (minds page w) q ≡ (is_hinted w q || ((page == q) && is_idle w page))
 hinted_minded w page q = of_if (is_idle w page) (is_hinted w page) ∙ hinted_at page q w.hinted (is_idle w page) (is_hinted w page) (page == q) refl refl
   where
-    of_if : (t h : Bool) → is_hinted (if t then (if h then w else record w { hinted = page ∷ w.hinted }) else w) q ≡ list_any (λ p. p == q) (if t then (if h then w.hinted else page ∷ w.hinted) else w.hinted)
+    of_if : (t h : Bool)
+        → is_hinted (if t then (if h then w else record w { hinted = page ∷ w.hinted }) else w) q
+          ≡ list_any (λ p. p == q) (if t then (if h then w.hinted else page ∷ w.hinted) else w.hinted)
     of_if true true = refl
     of_if true false = refl
     of_if false h = refl
@@ -152,14 +159,17 @@ idle_grows f pages w v page r h = both (backed_in w.events page) (backed_in v.ev
     both true false e g same more h = absurd (true≢false same)
     both false y e g same more h = absurd (false≢true h)
 
-idle_same : (f : Profile) (pages : List ℕ) (w v : World) (page : ℕ) → Returns f pages w v → IsPage f page → has_number pages page ≡ false → is_idle v page ≡ is_idle w page
+idle_same : (f : Profile) (pages : List ℕ) (w v : World) (page : ℕ) → Returns f pages w v → IsPage f page → has_number pages page ≡ false
+    → is_idle v page ≡ is_idle w page
 idle_same f pages w v page r of none = search (arith, empty_kept)
 
+-- Nothing that came back to no page is a return that leaves the state as it is.
 pub returns_nothing : (f : Profile) (w : World) → Returns f [] w w
 returns_nothing f w = search (arith, false≢true)
 
 -- as far as nothing but what these tests read is the same
-pub returns_like : (f : Profile) (pages : List ℕ) (w v x : World) → Returns f pages w v → x.events ≡ v.events → x.live ≡ v.live → x.hinted ≡ v.hinted → all_locals x.caches ≡ all_locals v.caches → Returns f pages w x
+pub returns_like : (f : Profile) (pages : List ℕ) (w v x : World) → Returns f pages w v → x.events ≡ v.events → x.live ≡ v.live → x.hinted ≡ v.hinted
+    → all_locals x.caches ≡ all_locals v.caches → Returns f pages w x
 returns_like f pages w v x r events live hinted locals = search (arith, free_kept, empty_kept)
 
 -- ---- one after the other
@@ -175,6 +185,7 @@ settled_hint false true false b c grows same = ends b c (same refl refl)
     ends false c e = sym e
 settled_hint false false q b c grows same = refl
 
+-- A number is in two lists together where it is in one of them.
 pub has_both : (ps qs : List ℕ) (page : ℕ) → has_number (ps ++ qs) page ≡ (has_number ps page || has_number qs page)
 has_both ps qs page = list_any-append (λ m. m == page) ps qs
 
@@ -182,6 +193,7 @@ module _ (f : Profile) (ps qs : List ℕ) (w v x : World) (a : Returns f ps w v)
   within_both : (page : ℕ) → has_number (ps ++ qs) page ≡ true → IsPage f page
   within_both page h = search (arith, or_cases, has_both)
 
+  -- Two returns of grains one after the other are one return to the pages of both.
   pub returns_then : Returns f (ps ++ qs) w x
   returns_then = record {
     within = within_both;
@@ -192,8 +204,10 @@ module _ (f : Profile) (ps qs : List ℕ) (w v x : World) (a : Returns f ps w v)
   }
 
 -- ---- the pages that are minded at the end
-pub minded_last : (f : Profile) (pages : List ℕ) (w v : World) → ((page : ℕ) → has_number pages page ≡ true → IsPage f page) → ((page : ℕ) → backed_in v.events page ≡ backed_in w.events page)
-    → ((page b : ℕ) → b < 256 → is_free w page b ≡ true → is_free v page b ≡ true) → ((page b : ℕ) → IsPage f page → has_number pages page ≡ false → b < 256 → is_free v page b ≡ is_free w page b) → v.hinted ≡ w.hinted
+pub minded_last : (f : Profile) (pages : List ℕ) (w v : World) → ((page : ℕ) → has_number pages page ≡ true → IsPage f page)
+    → ((page : ℕ) → backed_in v.events page ≡ backed_in w.events page)
+    → ((page b : ℕ) → b < 256 → is_free w page b ≡ true → is_free v page b ≡ true)
+    → ((page b : ℕ) → IsPage f page → has_number pages page ≡ false → b < 256 → is_free v page b ≡ is_free w page b) → v.hinted ≡ w.hinted
     → Returns f pages w (each minds pages v)
 minded_last f pages w v within backed grows others hinted =
     search (arith, all_only_hints, free_kept, hinted_all, idle_kept)
@@ -213,8 +227,10 @@ numbers_have : (n from page : ℕ) → from ≤ page → page < from + n → has
 numbers_have zero from page low high = absurd (omega (arith, low, high))
 numbers_have (suc n) from page low high = have_at from page (has_number (numbers_from (from + 1) n) page) (from == page) refl (λ ne. numbers_have n (from + 1) page (omega (arith, low, ne)) (omega (arith, high)))
 
+-- A number among those of the region's pages is a page of the region.
 pub page_within : (f : Profile) (page : ℕ) → has_number (page_numbers f) page ≡ true → IsPage f page
 page_within f page h = let at = numbers_within f.pages 1 page h in (at.0, omega (arith, at.1))
 
+-- Each page of the region is among the numbers of its pages.
 pub page_there : (f : Profile) (page : ℕ) → IsPage f page → has_number (page_numbers f) page ≡ true
 page_there f page of = numbers_have f.pages 1 page of.0 (omega (arith, of.1))

@@ -32,19 +32,23 @@ room_from w d page b small usable free = ap not (false_from_ne_true (each_of 0 2
     false≢true (sym (ap not (and_from (usable_by_kind d.kind b) (is_free w page b) usable free)) ∙ each_at 256 0 b (λ x. not (usable_by_kind d.kind x && is_free w page x)) all (omega arith) small)))
 
 -- where free grains stay free, room stays
-room_grows : (w v : World) (d : Directory) (page : ℕ) → ((b : ℕ) → b < 256 → is_free w page b ≡ true → is_free v page b ≡ true) → has_room w d page ≡ true → has_room v d page ≡ true
+room_grows : (w v : World) (d : Directory) (page : ℕ) → ((b : ℕ) → b < 256 → is_free w page b ≡ true → is_free v page b ≡ true) → has_room w d page ≡ true
+    → has_room v d page ≡ true
 room_grows w v d page grows room =
     let o : Fails 0 256 (λ b. not (usable_by_kind d.kind b && is_free w page b)) = some_fails 256 0 (λ b. not (usable_by_kind d.kind b && is_free w page b)) (not-true (each_of 0 256 (λ b. not (usable_by_kind d.kind b && is_free w page b))) room) in
     let both : (usable_by_kind d.kind o.number && is_free w page o.number) ≡ true = not-false (usable_by_kind d.kind o.number && is_free w page o.number) o.fails in
     room_from v d page o.number o.high (and_first (usable_by_kind d.kind o.number) (is_free w page o.number) both)
     (grows o.number o.high (and_second (usable_by_kind d.kind o.number) (is_free w page o.number) both))
 
-pub open_grows : (w v : World) (d : Directory) (page : ℕ) → (is_guarded w page ≡ false → is_guarded v page ≡ false) → ((b : ℕ) → b < 256 → is_free w page b ≡ true → is_free v page b ≡ true) → is_open w d page ≡ true → is_open v d page ≡ true
+-- An open page stays open where its free grains stay free and it doesn't become guarded.
+pub open_grows : (w v : World) (d : Directory) (page : ℕ) → (is_guarded w page ≡ false → is_guarded v page ≡ false)
+    → ((b : ℕ) → b < 256 → is_free w page b ≡ true → is_free v page b ≡ true) → is_open w d page ≡ true → is_open v d page ≡ true
 open_grows w v d page unguarded grows h = is_opened v d page (unguarded (open_unguarded w d page h)) (room_grows w v d page grows (open_room w d page h))
 
 -- ---- grains of a legal list
 -- a grain of a live block is held by nobody
-pub covered_not_held : (f : Profile) (l : Whole) → IsValid f → Legal f l → (g address : ℕ) (b : Live) → live_in (visible l) address ≡ Some b → IsPartOf g address b → (k : ℕ) → holds (part k l) g ≡ true → ⊥
+pub covered_not_held : (f : Profile) (l : Whole) → IsValid f → Legal f l → (g address : ℕ) (b : Live) → live_in (visible l) address ≡ Some b
+    → IsPartOf g address b → (k : ℕ) → holds (part k l) g ≡ true → ⊥
 covered_not_held f l valid legal g address b lives of k held = by_place (in_one_place f l valid legal g)
   where
     by_place : IsInOnePlace l g → ⊥
@@ -53,7 +57,8 @@ covered_not_held f l valid legal g address b lives of k held = by_place (in_one_
     by_place (inr (inr covered)) = false≢true (sym (covered.nobody k) ∙ held)
 
 -- a grain that nobody holds and no live block has is free
-pub free_left : (f : Profile) (l : Whole) → IsValid f → Legal f l → (g : ℕ) → ((k : ℕ) → holds (part k l) g ≡ true → ⊥) → ((address : ℕ) (b : Live) → live_in (visible l) address ≡ Some b → IsPartOf g address b → ⊥) → free_bit l g ≡ true
+pub free_left : (f : Profile) (l : Whole) → IsValid f → Legal f l → (g : ℕ) → ((k : ℕ) → holds (part k l) g ≡ true → ⊥)
+    → ((address : ℕ) (b : Live) → live_in (visible l) address ≡ Some b → IsPartOf g address b → ⊥) → free_bit l g ≡ true
 free_left f l valid legal g nobody none = by_place (in_one_place f l valid legal g)
   where
     by_place : IsInOnePlace l g → free_bit l g ≡ true
@@ -87,6 +92,7 @@ module _ (f : Profile) (p : Progress) (w : World) (valid : IsValid f) (between :
             ap (free_bit p.list) (sym whole) ∙ (sym (free_unless f p w valid between same page (g % 256) small none) ∙ each_at 256 0 (g % 256) (is_free w page) empty (omega arith) small);
       }
 
+  -- A page that is backed and empty in the replay is idle in the text.
   pub page_idle : (page : ℕ) → IsEmptyBacked p.list page → is_idle w page ≡ true
   page_idle page e =
       let backed : backed_in (visible p.list) page ≡ true = one_backed (backed_in (visible p.list) page) (sym e.backed ∙ (agrees f p.list valid between.legal).backed page) in
@@ -109,7 +115,8 @@ pub record IsGivenBack (f : Profile) (k : ℕ) (l : Whole) (w : World) (steps : 
   pub rooms : (q : ℕ) (d : Directory) → IsDirectoryOf f d → is_of v d q ≡ true → OffersPage q steps → is_open v d q ≡ true
   pub guarded : (q : ℕ) → is_guarded w q ≡ false → is_guarded v q ≡ false
 
-module _ (f : Profile) (k : ℕ) (l : Whole) (p' : Progress) (w v : World) (steps : List Made) (valid : IsValid f) (was : ArePagesSame f l w) (list : p'.list ≡ triples k steps ++ l) (between : IsBetween f p') (same : HasSame f p' v)
+module _ (f : Profile) (k : ℕ) (l : Whole) (p' : Progress) (w v : World) (steps : List Made) (valid : IsValid f) (was : ArePagesSame f l w)
+    (list : p'.list ≡ triples k steps ++ l) (between : IsBetween f p') (same : HasSame f p' v)
     (given : IsGivenBack f k l w steps v) where
   legal : Legal f (triples k steps ++ l)
   legal = subst (Legal f) list between.legal
@@ -138,6 +145,7 @@ module _ (f : Profile) (k : ℕ) (l : Whole) (p' : Progress) (w v : World) (step
       at (inl old) = open_grows w v d page (given.guarded page) (λ b small h. given.returns.grows page b small h) (had_open w d page (was.offered page d of ∙ old))
       at (inr new) = given.rooms page d of (bit_tells f p' v valid between same page d of (right_in_one_place f p'.list between.legal page) bit).0 new
 
+  -- After an act that only gives back, the hints and offers of the text are those of the replay.
   pub given_pages : ArePagesSame f p'.list v
   given_pages = record {
     events = same.events;

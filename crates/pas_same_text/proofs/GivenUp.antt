@@ -29,7 +29,8 @@ no_longer : (c rest : ℕ) (t : Bool) → cond t 1 0 + c ≤ 0 → (t ≡ false)
 no_longer c rest true h = absurd (omega (arith, h))
 no_longer c rest false h = (refl, omega (arith, h))
 
-none_for : (heap class : ℕ) (slots : List Slots) (ls : List Local) → AreSameLocals slots ls → count_by (is_for_slots heap class) slots ≤ 0 → others heap class ls ≡ ls
+none_for : (heap class : ℕ) (slots : List Slots) (ls : List Local) → AreSameLocals slots ls → count_by (is_for_slots heap class) slots ≤ 0
+    → others heap class ls ≡ ls
 none_for heap class [] [] same none = refl
 none_for heap class [] (l ∷ ls) same none = absurd same
 none_for heap class (s ∷ slots) [] same none = absurd same
@@ -38,9 +39,10 @@ none_for heap class (s ∷ slots) (l ∷ ls) same none =
     ap (λ (t : Bool). if not t then l ∷ others heap class ls else others heap class ls) (for_same heap class s l same.0 ∙ at.0)
     ∙ ap (λ (xs : List Local). l ∷ xs) (none_for heap class slots ls same.1 at.1)
 
-pub own_counted : (c : ℕ) (t : Bool) → t ≡ true → cond t 1 0 + c ≤ 1 → c ≤ 0
-own_counted c true e h = omega (arith, h)
-own_counted c false e h = absurd (false≢true e)
+-- Where at most one is counted and this one is, no other is counted.
+pub no_other_counted : (c : ℕ) (t : Bool) → t ≡ true → cond t 1 0 + c ≤ 1 → c ≤ 0
+no_other_counted c true e h = omega (arith, h)
+no_other_counted c false e h = absurd (false≢true e)
 
 fewer_counted : (c : ℕ) (t : Bool) → cond t 1 0 + c ≤ 1 → c ≤ 1
 fewer_counted c true h = omega (arith, h)
@@ -49,12 +51,13 @@ fewer_counted c false h = omega (arith, h)
 for_own : (heap class : ℕ) (l : Local) → l.heap ≡ heap → l.class ≡ class → is_for heap class l ≡ true
 for_own heap class l h c = ap (λ (t : Bool). t && (l.class == class)) (eq-eqb l.heap heap h) ∙ eq-eqb l.class class c
 
+-- A cache with at most one local allocator of each heap and class has no two such in the text.
 pub unique_of : (slots : List Slots) (ls : List Local) → AreSameLocals slots ls → HasOneEach slots → AreUnique ls
 unique_of [] [] same one = tt
 unique_of [] (l ∷ ls) same one = absurd same
 unique_of (s ∷ slots) [] same one = absurd same
 unique_of (s ∷ slots) (l ∷ ls) same one = (
-  none_for l.heap l.class slots ls same.1 (own_counted (count_by (is_for_slots l.heap l.class) slots) (is_for_slots l.heap l.class s) (sym (for_same l.heap l.class s l same.0) ∙ for_own l.heap l.class l refl refl) (subst (λ (n : ℕ). n ≤ 1) (counted (is_for_slots l.heap l.class) s slots) (one l.heap l.class))),
+  none_for l.heap l.class slots ls same.1 (no_other_counted (count_by (is_for_slots l.heap l.class) slots) (is_for_slots l.heap l.class s) (sym (for_same l.heap l.class s l same.0) ∙ for_own l.heap l.class l refl refl) (subst (λ (n : ℕ). n ≤ 1) (counted (is_for_slots l.heap l.class) s slots) (one l.heap l.class))),
   unique_of slots ls same.1 (λ heap class. fewer_counted (count_by (is_for_slots heap class) slots) (is_for_slots heap class s) (subst (λ (n : ℕ). n ≤ 1) (counted (is_for_slots heap class) s slots) (one heap class))),
 )
 
@@ -62,30 +65,38 @@ others_rest : (l : Local) (ls : List Local) → AreUnique (l ∷ ls) → others 
 others_rest l ls unique = ap (λ (t : Bool). if not t then l ∷ others l.heap l.class ls else others l.heap l.class ls) (for_own l.heap l.class l refl refl) ∙ unique.0
 
 -- ---- a cache that has other local allocators
-swap_at : (x : Bool) (c new : List Local) (p : Local → Bool) (rest more : List Local) → (list_any p new ≡ true → list_any p c ≡ true) → (list_any p rest ≡ true → list_any p more ≡ true) → list_any p (new ++ rest) ≡ true → list_any p (c ++ more) ≡ true
+swap_at : (x : Bool) (c new : List Local) (p : Local → Bool) (rest more : List Local) → (list_any p new ≡ true → list_any p c ≡ true)
+    → (list_any p rest ≡ true → list_any p more ≡ true) → list_any p (new ++ rest) ≡ true → list_any p (c ++ more) ≡ true
 swap_at x c new p rest more one all h = list_any-append p c more ∙ weaker_at (list_any p new) (list_any p c) (list_any p rest) (list_any p more) one all (sym (list_any-append p new rest) ∙ h)
 
-given_at : (c : Cache) (cs : List Cache) (k : ℕ) (new : Cache) (p : Local → Bool) (t : Bool) → (list_any p new.locals ≡ true → list_any p (if t then c else cache_in cs (k - 1)).locals ≡ true)
-    → ((list_any p new.locals ≡ true → list_any p (cache_in cs (k - 1)).locals ≡ true) → list_any p (all_locals (with_cache cs (k - 1) new)) ≡ true → list_any p (all_locals cs) ≡ true)
+given_at : (c : Cache) (cs : List Cache) (k : ℕ) (new : Cache) (p : Local → Bool) (t : Bool)
+    → (list_any p new.locals ≡ true → list_any p (if t then c else cache_in cs (k - 1)).locals ≡ true)
+    → ((list_any p new.locals ≡ true → list_any p (cache_in cs (k - 1)).locals ≡ true) → list_any p (all_locals (with_cache cs (k - 1) new)) ≡ true
+        → list_any p (all_locals cs) ≡ true)
     → list_any p (all_locals (if t then new ∷ cs else c ∷ with_cache cs (k - 1) new)) ≡ true → list_any p (c.locals ++ all_locals cs) ≡ true
 given_at c cs k new p true one more h = swap_at true c.locals new.locals p (all_locals cs) (all_locals cs) one (λ e. e) h
 given_at c cs k new p false one more h = swap_at true c.locals c.locals p (all_locals (with_cache cs (k - 1) new)) (all_locals cs) (λ e. e) (more one) h
 
-any_with : (cs : List Cache) (k : ℕ) (new : Cache) (p : Local → Bool) → (list_any p new.locals ≡ true → list_any p (cache_in cs k).locals ≡ true) → list_any p (all_locals (with_cache cs k new)) ≡ true → list_any p (all_locals cs) ≡ true
+any_with : (cs : List Cache) (k : ℕ) (new : Cache) (p : Local → Bool) → (list_any p new.locals ≡ true → list_any p (cache_in cs k).locals ≡ true)
+    → list_any p (all_locals (with_cache cs k new)) ≡ true → list_any p (all_locals cs) ≡ true
 any_with [] k new p one h = h
 any_with (c ∷ cs) k new p one h = given_at c cs k new p (k == 1) one (λ less. any_with cs (k - 1) new p less) h
 
-taken_at : (c : Cache) (cs : List Cache) (k : ℕ) (new : Cache) (p : Local → Bool) (t : Bool) → (list_any p (if t then c else cache_in cs (k - 1)).locals ≡ true → list_any p new.locals ≡ true)
-    → ((list_any p (cache_in cs (k - 1)).locals ≡ true → list_any p new.locals ≡ true) → list_any p (all_locals cs) ≡ true → list_any p (all_locals (with_cache cs (k - 1) new)) ≡ true)
+taken_at : (c : Cache) (cs : List Cache) (k : ℕ) (new : Cache) (p : Local → Bool) (t : Bool)
+    → (list_any p (if t then c else cache_in cs (k - 1)).locals ≡ true → list_any p new.locals ≡ true)
+    → ((list_any p (cache_in cs (k - 1)).locals ≡ true → list_any p new.locals ≡ true) → list_any p (all_locals cs) ≡ true
+        → list_any p (all_locals (with_cache cs (k - 1) new)) ≡ true)
     → list_any p (c.locals ++ all_locals cs) ≡ true → list_any p (all_locals (if t then new ∷ cs else c ∷ with_cache cs (k - 1) new)) ≡ true
 taken_at c cs k new p true one more h = swap_at true new.locals c.locals p (all_locals cs) (all_locals cs) one (λ e. e) h
 taken_at c cs k new p false one more h = swap_at true c.locals c.locals p (all_locals cs) (all_locals (with_cache cs (k - 1) new)) (λ e. e) (more one) h
 
-with_any : (cs : List Cache) (k : ℕ) (new : Cache) (p : Local → Bool) → (list_any p (cache_in cs k).locals ≡ true → list_any p new.locals ≡ true) → list_any p (all_locals cs) ≡ true → list_any p (all_locals (with_cache cs k new)) ≡ true
+with_any : (cs : List Cache) (k : ℕ) (new : Cache) (p : Local → Bool) → (list_any p (cache_in cs k).locals ≡ true → list_any p new.locals ≡ true)
+    → list_any p (all_locals cs) ≡ true → list_any p (all_locals (with_cache cs k new)) ≡ true
 with_any [] k new p one h = h
 with_any (c ∷ cs) k new p one h = taken_at c cs k new p (k == 1) one (λ less. with_any cs (k - 1) new p less) h
 
-twice_at : (c : Cache) (cs : List Cache) (k : ℕ) (a b : Cache) (t : Bool) → (k == 1) ≡ t → (t ≡ false → with_cache (with_cache cs (k - 1) a) (k - 1) b ≡ with_cache cs (k - 1) b)
+twice_at : (c : Cache) (cs : List Cache) (k : ℕ) (a b : Cache) (t : Bool) → (k == 1) ≡ t
+    → (t ≡ false → with_cache (with_cache cs (k - 1) a) (k - 1) b ≡ with_cache cs (k - 1) b)
     → with_cache (if t then a ∷ cs else c ∷ with_cache cs (k - 1) a) k b ≡ (if t then b ∷ cs else c ∷ with_cache cs (k - 1) b)
 twice_at c cs k a b true e more = ap (λ (u : Bool). if u then b ∷ cs else a ∷ with_cache cs (k - 1) b) e
 twice_at c cs k a b false e more = ap (λ (u : Bool). if u then b ∷ with_cache cs (k - 1) a else c ∷ with_cache (with_cache cs (k - 1) a) (k - 1) b) e ∙ ap (λ (xs : List Cache). c ∷ xs) (more refl)
@@ -95,7 +106,8 @@ with_twice [] k a b = refl
 with_twice (c ∷ cs) k a b = twice_at c cs k a b (k == 1) refl (λ e. with_twice cs (k - 1) a b)
 
 -- ---- one local allocator goes
-module _ (f : Profile) (k : ℕ) (l : Local) (w : World) (page_of : IsPage f l.page) (less : (p : Local → Bool) → list_any p (others l.heap l.class (locals_of w k)) ≡ true → list_any p (locals_of w k) ≡ true)
+module _ (f : Profile) (k : ℕ) (l : Local) (w : World) (page_of : IsPage f l.page)
+    (less : (p : Local → Bool) → list_any p (others l.heap l.class (locals_of w k)) ≡ true → list_any p (locals_of w k) ≡ true)
     (rest : (p : Local → Bool) → p l ≡ false → list_any p (locals_of w k) ≡ true → list_any p (others l.heap l.class (locals_of w k)) ≡ true) where
   abbrev fewer : Cache
   fewer = record (cache_of w k) { locals = others l.heap l.class (locals_of w k) }
@@ -110,6 +122,7 @@ module _ (f : Profile) (k : ℕ) (l : Local) (w : World) (page_of : IsPage f l.p
   cached_other page b none h = any_cached without_one.caches page b
       (with_any w.caches k fewer (has_grain page b) (rest (has_grain page b) (ap (λ (t : Bool). t && list_any (λ s. in_run s (class_grains l.class) b) l.slots) none)) (cached_any w.caches page b h))
 
+  -- A local allocator that a thread gives up brings its grains back to its page alone.
   pub one_returns : Returns f (l.page ∷ []) w (gives_up k l w)
   one_returns = minded_last f (l.page ∷ []) w without_one
       (λ page h. subst (IsPage f) (eqb-true l.page page (or_none (l.page == page) h)) page_of)
@@ -131,7 +144,8 @@ pub record IsGivenUp (f : Profile) (k : ℕ) (ls : List Local) (w v : World) : T
   pub caches : v.caches ≡ with_cache w.caches k (record (cache_of w k) { locals = [] })
   pub returns : Returns f (map (λ l. l.page) ls) w v
 
-module _ (f : Profile) (k : ℕ) (l : Local) (ls : List Local) (w : World) (is : locals_of w k ≡ l ∷ ls) (unique : AreUnique (l ∷ ls)) (page_of : IsPage f l.page) where
+module _ (f : Profile) (k : ℕ) (l : Local) (ls : List Local) (w : World) (is : locals_of w k ≡ l ∷ ls) (unique : AreUnique (l ∷ ls)) (page_of : IsPage f l.page)
+    where
   abbrev new : Cache
   new = record (cache_of w k) { locals = others l.heap l.class (locals_of w k) }
 
@@ -173,7 +187,8 @@ abbrev pub AllOfRegion : Profile → List Local → Type 0
 AllOfRegion f [] = Unit {0}
 AllOfRegion f (l ∷ ls) = IsPage f l.page × AllOfRegion f ls
 
-each_up : (f : Profile) (k : ℕ) (ls : List Local) (w : World) → 1 ≤ k → k ≤ length w.caches → locals_of w k ≡ ls → AreUnique ls → AllOfRegion f ls → IsGivenUp f k ls w (each (gives_up k) ls w)
+each_up : (f : Profile) (k : ℕ) (ls : List Local) (w : World) → 1 ≤ k → k ≤ length w.caches → locals_of w k ≡ ls → AreUnique ls → AllOfRegion f ls
+    → IsGivenUp f k ls w (each (gives_up k) ls w)
 each_up f k [] w some few is unique pages = record {
   events = refl;
   records = refl;
@@ -192,5 +207,6 @@ each_up f k (l ∷ ls) w some few is unique pages =
     then_up f k l ls w is unique pages.0 some few (each (gives_up k) ls v) (each_up f k ls v some many (ap (λ (c : Cache). c.locals) own) unique.1 pages.1)
 
 -- all of them
-pub all_up : (f : Profile) (k : ℕ) (w : World) → 1 ≤ k → k ≤ length w.caches → AreUnique (locals_of w k) → AllOfRegion f (locals_of w k) → IsGivenUp f k (locals_of w k) w (gives_up_all k w)
+pub all_up : (f : Profile) (k : ℕ) (w : World) → 1 ≤ k → k ≤ length w.caches → AreUnique (locals_of w k) → AllOfRegion f (locals_of w k)
+    → IsGivenUp f k (locals_of w k) w (gives_up_all k w)
 all_up f k w some few unique pages = each_up f k (locals_of w k) w some few refl unique pages

@@ -21,24 +21,29 @@ use Rattle.pas_rights.proofs.Hints.{due_later}
 use Rattle.pas_same_text.proofs.Tests.{eqb_itself}
 
 -- ---- a word that steps of some kinds leave as it is said
-over : (Q : ℕ → Type 0) (x : Word) (ks ls : Kinds) → ((e : ℕ) (s : Step) (old : ℕ) → is_in ls (kind_of s) ≡ false → Q old → Q (if same_word (target s) x then new_value e s old else old)) → apart ks ls ≡ true
+over : (Q : ℕ → Type 0) (x : Word) (ks ls : Kinds)
+    → ((e : ℕ) (s : Step) (old : ℕ) → is_in ls (kind_of s) ≡ false → Q old → Q (if same_word (target s) x then new_value e s old else old)) → apart ks ls ≡ true
     → (k : ℕ) (xs : List Made) (l : Whole) → Only ks xs → Q (word_after l x) → Q (word_after (triples k xs ++ l) x)
 over Q x ks ls step w k [] l only h = h
 over Q x ks ls step w k (m ∷ xs) l only h =
     step (epoch_of (part k (triples k xs ++ l))) m.step (word_after (triples k xs ++ l) x) (in_apart ks ls (place_of (kind_of m.step)) w only.0) (over Q x ks ls step w k xs l only.1 h)
 
-backed_kept : (e : ℕ) (s : Step) (p old : ℕ) → is_in (Backing ∷ Unbacking ∷ []) (kind_of s) ≡ false → (if same_word (target s) (Word.Backed p) then new_value e s old else old) ≡ old
+backed_kept : (e : ℕ) (s : Step) (p old : ℕ) → is_in (Backing ∷ Unbacking ∷ []) (kind_of s) ≡ false
+    → (if same_word (target s) (Word.Backed p) then new_value e s old else old) ≡ old
 backed_kept e s p old is = search (arith, true≢false)
 
 -- where none backs a page or ends its backing, backed words stay
-pub backed_stays : (ks : Kinds) → apart ks (Backing ∷ Unbacking ∷ []) ≡ true → (k : ℕ) (xs : List Made) (l : Whole) (p : ℕ) → Only ks xs → word_after (triples k xs ++ l) (Word.Backed p) ≡ word_after l (Word.Backed p)
+pub backed_stays : (ks : Kinds) → apart ks (Backing ∷ Unbacking ∷ []) ≡ true → (k : ℕ) (xs : List Made) (l : Whole) (p : ℕ) → Only ks xs
+    → word_after (triples k xs ++ l) (Word.Backed p) ≡ word_after l (Word.Backed p)
 backed_stays ks apart k xs l p only = over (λ n. n ≡ word_after l (Word.Backed p)) (Word.Backed p) ks (Backing ∷ Unbacking ∷ []) (λ e s old other h. backed_kept e s p old other ∙ h) apart k xs l only refl
 
-hints_kept : (e : ℕ) (s : Step) (p old : ℕ) → is_in (Unhinting ∷ []) (kind_of s) ≡ false → has_bit old (p % 64) ≡ true → has_bit (if same_word (target s) (Word.Empty (p / 64)) then new_value e s old else old) (p % 64) ≡ true
+hints_kept : (e : ℕ) (s : Step) (p old : ℕ) → is_in (Unhinting ∷ []) (kind_of s) ≡ false → has_bit old (p % 64) ≡ true
+    → has_bit (if same_word (target s) (Word.Empty (p / 64)) then new_value e s old else old) (p % 64) ≡ true
 hints_kept e s p old is h = search (arith, page_bit-set, true≢false)
 
 -- where none takes a hint back, hinted pages stay hinted
-pub hinted_stays : (ks : Kinds) → apart ks (Unhinting ∷ []) ≡ true → (k : ℕ) (xs : List Made) (l : Whole) (p : ℕ) → Only ks xs → empty_bit l p ≡ true → empty_bit (triples k xs ++ l) p ≡ true
+pub hinted_stays : (ks : Kinds) → apart ks (Unhinting ∷ []) ≡ true → (k : ℕ) (xs : List Made) (l : Whole) (p : ℕ) → Only ks xs → empty_bit l p ≡ true
+    → empty_bit (triples k xs ++ l) p ≡ true
 hinted_stays ks apart k xs l p only h = over (λ n. has_bit n (p % 64) ≡ true) (Word.Empty (p / 64)) ks (Unhinting ∷ []) (λ e s old other was. hints_kept e s p old other was) apart k xs l only h
 
 -- ---- marks: hints and offers of a page
@@ -50,28 +55,33 @@ is_mark q s = false
 abbrev pub IsMarked : ℕ → List Made → Type 0
 IsMarked q = Once (λ m before. is_mark q m.step ≡ true)
 
+-- What is so of some step of two lists together is so of one in either.
 pub once_parts : (P : Made → Type 0) (ys xs : List Made) → Once (λ m before. P m) (ys ++ xs) → Once (λ m before. P m) ys ⊎ Once (λ m before. P m) xs
 once_parts P [] xs h = inr h
 once_parts P (y ∷ ys) xs (inl h) = inl (inl h)
 once_parts P (y ∷ ys) xs (inr h) = elim (once_parts P ys xs h) [ inl first ↦ inl (inr first) | inr later ↦ inr later ]
 
+-- A page that two lists of steps together mark is marked by either.
 pub marked_parts : (q : ℕ) (ys xs : List Made) → IsMarked q (ys ++ xs) → IsMarked q ys ⊎ IsMarked q xs
 marked_parts q ys xs h = once_parts (λ m. is_mark q m.step ≡ true) ys xs h
 
 mark_kind : (q : ℕ) (s : Step) → is_in (Hinting ∷ Offering ∷ []) (kind_of s) ≡ false → is_mark q s ≡ true → ⊥
 mark_kind q s out h = search (arith, true≢false, false≢true)
 
+-- Steps of kinds that neither hint nor offer mark no page.
 pub none_marked : (ks : Kinds) → apart ks (Hinting ∷ Offering ∷ []) ≡ true → (q : ℕ) (xs : List Made) → Only ks xs → IsMarked q xs → ⊥
 none_marked ks w q [] only h = h
 none_marked ks w q (m ∷ xs) only (inl h) = mark_kind q m.step (in_apart ks (Hinting ∷ Offering ∷ []) (place_of (kind_of m.step)) w only.0) h
 none_marked ks w q (m ∷ xs) only (inr h) = none_marked ks w q xs only.1 h
 
+-- A page marked by steps after others that mark none is marked by the later steps.
 pub marked_left : (ks : Kinds) → apart ks (Hinting ∷ Offering ∷ []) ≡ true → (q : ℕ) (ys xs : List Made) → Only ks xs → IsMarked q (ys ++ xs) → IsMarked q ys
 marked_left ks w q ys xs only h = elim (marked_parts q ys xs h) [ inl marked ↦ marked | inr later ↦ absurd (none_marked ks w q xs only later) ]
 
 return_mark : (p q : ℕ) (s : Step) → IsReturn p s → is_mark q s ≡ true → p ≡ q
 return_mark p q s h x = search (arith, false≢true, eqb-true)
 
+-- Steps that only return grains to one page mark no other page.
 pub returns_marked : (p q : ℕ) (xs : List Made) → OnlyReturns p xs → IsMarked q xs → p ≡ q
 returns_marked p q [] only h = absurd h
 returns_marked p q (m ∷ xs) only (inl h) = return_mark p q m.step only.0 h
@@ -81,7 +91,8 @@ returns_marked p q (m ∷ xs) only (inr h) = returns_marked p q xs only.1 h
 abbrev pub HintsPage : ℕ → List Made → Type 0
 HintsPage q = Once (λ m before. m.step ≡ Hint q)
 
-hint_one : (e : ℕ) (s : Step) (p old : ℕ) → has_bit (if same_word (target s) (Word.Empty (p / 64)) then new_value e s old else old) (p % 64) ≡ true → (has_bit old (p % 64) ≡ true) ⊎ (s ≡ Hint p)
+hint_one : (e : ℕ) (s : Step) (p old : ℕ) → has_bit (if same_word (target s) (Word.Empty (p / 64)) then new_value e s old else old) (p % 64) ≡ true
+    → (has_bit old (p % 64) ≡ true) ⊎ (s ≡ Hint p)
 hint_one e (Look x) p old h = inl (ap (λ n. has_bit n (p % 64)) (sym (looked (same_word x (Word.Empty (p / 64))) old)) ∙ h)
 hint_one e (Hint q) p old h = by_page (q == p) refl (sym (page_bit-set q p old true) ∙ h)
   where
@@ -106,17 +117,21 @@ hinted_by k (m ∷ xs) l p h = elim (hint_one (epoch_of (part k (triples k xs ++
 abbrev pub OffersPage : ℕ → List Made → Type 0
 OffersPage q = Once (λ m before. (d : Directory) × (m.step ≡ Offer q d))
 
-pub offer_one : (e : ℕ) (s : Step) (n p old : ℕ) → has_bit (if same_word (target s) (Word.Eligible n (p / 64)) then new_value e s old else old) (p % 64) ≡ true → (has_bit old (p % 64) ≡ true) ⊎ ((d : Directory) × (s ≡ Offer p d))
+-- After a step a page's offered bit was set before, or the step offered the page.
+pub offer_one : (e : ℕ) (s : Step) (n p old : ℕ) → has_bit (if same_word (target s) (Word.Eligible n (p / 64)) then new_value e s old else old) (p % 64) ≡ true
+    → (has_bit old (p % 64) ≡ true) ⊎ ((d : Directory) × (s ≡ Offer p d))
 offer_one e (Look x) n p old h = inl (ap (λ a. has_bit a (p % 64)) (sym (looked (same_word x (Word.Eligible n (p / 64))) old)) ∙ h)
 offer_one e (TakeRight q d) n p old h = by_page (number_of d == n) (q == p) (sym (page_bit-clear q p old (number_of d == n)) ∙ h)
   where
-    by_page : (x t : Bool) → (if x && t then false else has_bit old (p % 64)) ≡ true → (has_bit old (p % 64) ≡ true) ⊎ ((d' : Directory) × (TakeRight q d ≡ Offer p d'))
+    by_page : (x t : Bool) → (if x && t then false else has_bit old (p % 64)) ≡ true
+        → (has_bit old (p % 64) ≡ true) ⊎ ((d' : Directory) × (TakeRight q d ≡ Offer p d'))
     by_page true true set = absurd (false≢true set)
     by_page true false set = inl set
     by_page false t set = inl set
 offer_one e (Offer q d) n p old h = by_page (number_of d == n) (q == p) refl (sym (page_bit-set q p old (number_of d == n)) ∙ h)
   where
-    by_page : (x t : Bool) → (q == p) ≡ t → (if x && t then true else has_bit old (p % 64)) ≡ true → (has_bit old (p % 64) ≡ true) ⊎ ((d' : Directory) × (Offer q d ≡ Offer p d'))
+    by_page : (x t : Bool) → (q == p) ≡ t → (if x && t then true else has_bit old (p % 64)) ≡ true
+        → (has_bit old (p % 64) ≡ true) ⊎ ((d' : Directory) × (Offer q d ≡ Offer p d'))
     by_page true true same set = inr (d, ap (λ (x : ℕ). Offer x d) (eqb-true q p same))
     by_page true false same set = inl set
     by_page false t same set = inl set
@@ -130,11 +145,13 @@ offered_by k (m ∷ xs) l n p h = elim (offer_one (epoch_of (part k (triples k x
   | inr here ↦ inr (inl here)
 ]
 
+-- A page that steps hint is one that they mark.
 pub hint_marks : (q : ℕ) (xs : List Made) → HintsPage q xs → IsMarked q xs
 hint_marks q [] h = h
 hint_marks q (m ∷ xs) (inl h) = inl (ap (is_mark q) h ∙ eqb_itself q)
 hint_marks q (m ∷ xs) (inr h) = inr (hint_marks q xs h)
 
+-- A page that steps offer is one that they mark.
 pub offer_marks : (q : ℕ) (xs : List Made) → OffersPage q xs → IsMarked q xs
 offer_marks q [] h = h
 offer_marks q (m ∷ xs) (inl h) = inl (ap (is_mark q) h.1 ∙ eqb_itself q)
@@ -149,6 +166,7 @@ pub hints_none : (ks : Kinds) (xs : List Made) → apart ks (Hinting ∷ []) ≡
 hints_none ks [] out only = tt
 hints_none ks (m ∷ xs) out only = (hint_step m xs (in_apart ks (Hinting ∷ []) (place_of (kind_of m.step)) out only.0), hints_none ks xs out only.1)
 
+-- Steps that give duly hint only pages that they read as backed and empty.
 pub hints_of : (xs : List Made) → Always GivesDuly xs → Always HintsEmpty xs
 hints_of [] due = tt
 hints_of (m ∷ xs) due = (due.0.0, hints_of xs due.1)
@@ -157,6 +175,7 @@ pub record WasRead (page : ℕ) (xs : List Made) : Type 0 where
   pub backed : Once (ReadsBacked page) xs
   pub free : (word : ℕ) → word < 4 → Once (ReadsAllFree page word) xs
 
+-- A page that steps hint was read by them as backed, and all its free words as all ones.
 pub hint_read : (page : ℕ) (xs : List Made) → Always HintsEmpty xs → HintsPage page xs → WasRead page xs
 hint_read page [] hints h = absurd h
 hint_read page (m ∷ xs) hints (inr h) = let r = hint_read page xs hints.1 h in record { backed = inr r.backed; free = λ word small. inr (r.free word small) }
@@ -166,9 +185,11 @@ hint_read page (m ∷ xs) hints (inl h) =
       free = λ word small. inr (since_once (ReadsAllFree page word) (TakesNone page) xs (e.free word small));
     }
 
-module _ (ks : Kinds) (f : Profile) (k : ℕ) (l : Whole) (page : ℕ) (no_take : apart ks (Taking ∷ []) ≡ true) (no_back : apart ks (Backing ∷ Unbacking ∷ []) ≡ true) where
+module _ (ks : Kinds) (f : Profile) (k : ℕ) (l : Whole) (page : ℕ) (no_take : apart ks (Taking ∷ []) ≡ true)
+    (no_back : apart ks (Backing ∷ Unbacking ∷ []) ≡ true) where
   -- what was read as free is so still
-  free_read : (word b : ℕ) (xs : List Made) → Legal f (triples k xs ++ l) → Only ks xs → b < 64 → Once (ReadsAllFree page word) xs → has_bit (word_after (triples k xs ++ l) (Word.Free page word)) b ≡ true
+  free_read : (word b : ℕ) (xs : List Made) → Legal f (triples k xs ++ l) → Only ks xs → b < 64 → Once (ReadsAllFree page word) xs
+      → has_bit (word_after (triples k xs ++ l) (Word.Free page word)) b ≡ true
   free_read word b [] legal only small h = absurd h
   free_read word b (m ∷ xs) legal only small (inr h) = free_stays ks no_take k (m ∷ []) (triples k xs ++ l) page word b (only.0, tt) (free_read word b xs legal.1 only.1 small h)
   free_read word b (m ∷ xs) legal only small (inl h) =
@@ -181,7 +202,8 @@ module _ (ks : Kinds) (f : Profile) (k : ℕ) (l : Whole) (page : ℕ) (no_take 
   backed_read (m ∷ xs) legal only (inl h) = search (arith, backed_stays)
 
   -- A PAGE THAT WAS HINTED is backed and empty
-  pub hinted_empty : (xs : List Made) → Legal f (triples k xs ++ l) → Only ks xs → Always HintsEmpty xs → HintsPage page xs → IsEmptyBacked (triples k xs ++ l) page
+  pub hinted_empty : (xs : List Made) → Legal f (triples k xs ++ l) → Only ks xs → Always HintsEmpty xs → HintsPage page xs
+      → IsEmptyBacked (triples k xs ++ l) page
   hinted_empty xs legal only hints h = search (arith, hint_read, backed_read, free_read)
 
 -- a page that is offered is one of the region
@@ -191,8 +213,11 @@ offered_of_region f k l q (m ∷ xs) legal (inl h) = (subst (IsStepOf f) h.1 leg
 offered_of_region f k l q (m ∷ xs) legal (inr h) = offered_of_region f k l q xs legal.1 h
 
 -- ---- the epoch, where none makes a tick
-epoch_kept : (e : ℕ) (s : Step) (old : ℕ) → is_in (Ticking ∷ []) (kind_of s) ≡ false → (if same_word (target s) Word.Epoch then new_value e s old else old) ≡ old
+epoch_kept : (e : ℕ) (s : Step) (old : ℕ) → is_in (Ticking ∷ []) (kind_of s) ≡ false
+    → (if same_word (target s) Word.Epoch then new_value e s old else old) ≡ old
 epoch_kept e s old is = search (arith, true≢false)
 
-pub epoch_stays_by : (ks : Kinds) → apart ks (Ticking ∷ []) ≡ true → (k : ℕ) (xs : List Made) (l : Whole) → Only ks xs → word_after (triples k xs ++ l) Word.Epoch ≡ word_after l Word.Epoch
+-- Steps of kinds without a tick leave the epoch as it was.
+pub epoch_stays_by : (ks : Kinds) → apart ks (Ticking ∷ []) ≡ true → (k : ℕ) (xs : List Made) (l : Whole) → Only ks xs
+    → word_after (triples k xs ++ l) Word.Epoch ≡ word_after l Word.Epoch
 epoch_stays_by ks apart k xs l only = over (λ n. n ≡ word_after l Word.Epoch) Word.Epoch ks (Ticking ∷ []) (λ e s old other h. epoch_kept e s old other ∙ h) apart k xs l only refl

@@ -25,7 +25,7 @@ use Rattle.pas_same_text.proofs.{KeepersRest.book_finds, LowerActs.sweep_same, L
 use Rattle.pas_same_text.proofs.{PagesRequests.named_large, RaisedGuards.raised_same, ReadyPages.shown, RunEvents.deeded, RunEvents.deeds_of}
 use Rattle.pas_same_text.proofs.{SameIndexes.request_indexes, SameIndexes.all_lowered_keep, Seats.thread_of, Seats.keeper_of, StillIndexes.each_keeps}
 use Rattle.pas_same_text.proofs.{StillIndexes.backs_keep, StillIndexes.same_indexes, TriedRuns.sought_text, TriedRuns.missed_text}
-use Rattle.pas_same_text.proofs.SeatedActs.{own_book, other_book, swept, swept_between, raise_legal, raise_fits, lists, tried_between}
+use Rattle.pas_same_text.proofs.SeatedActs.{own_book, other_book, swept, swept_between, raise_legal, raise_fits, sweep_and_raise_are_the_try, tried_between}
 
 -- deeds change no index
 deeds_keep_indexes : (k : ℕ) (d : Directory) (qs : List ℕ) (w : World) → (shown (deeds_of k d qs) w).indexes ≡ w.indexes
@@ -103,7 +103,7 @@ module _ (threads : ℕ) (f : Profile) (keeper line k other name heap size align
     met = book_finds f heap h.left (part keeper pm.list) (raise_fits f keeper r p t valid keeps known.taken.before uncached h legal)
 
     lists_are : triples keeper t.steps ++ p.list ≡ triples keeper (rest ++ xs) ++ pm.list
-    lists_are = sym (lists f keeper r p t valid keeps known.taken.before uncached h legal) ∙ ap (λ (ms : List Made). triples keeper ms ++ pm.list) h.raise.steps_are
+    lists_are = sym (sweep_and_raise_are_the_try f keeper r p t valid keeps known.taken.before uncached h legal) ∙ ap (λ (ms : List Made). triples keeper ms ++ pm.list) h.raise.steps_are
 
     book_before : pm.books keeper ≡ h.left
     book_before = own_book p.books keeper h.left
@@ -119,7 +119,8 @@ module _ (threads : ℕ) (f : Profile) (keeper line k other name heap size align
     records_after = search (arith, append_assoc, events_same)
 
   -- ==== A GUARD WENT UP
-  module _ (steps : List Made) (records : List Record) (block : Block) (guards' : List BookGuard) (h : IsTried f keeper r (part keeper p.list) (p.books keeper) (record { steps = steps; records = records; block = Some block; guards = guards' }))
+  module _ (steps : List Made) (records : List Record) (block : Block) (guards' : List BookGuard)
+      (h : IsTried f keeper r (part keeper p.list) (p.books keeper) (record { steps = steps; records = records; block = Some block; guards = guards' }))
       (reached : p' ≡ after_giving (after_trying p keeper (record { steps = steps; records = records; block = Some block; guards = guards' })) name block) where
     abbrev t : Tried
     t = record { steps = steps; records = records; block = Some block; guards = guards' }
@@ -158,7 +159,8 @@ module _ (threads : ℕ) (f : Profile) (keeper line k other name heap size align
     )
 
   -- ==== NONE DID
-  module _ (steps : List Made) (records : List Record) (guards' : List BookGuard) (h : IsTried f keeper r (part keeper p.list) (p.books keeper) (record { steps = steps; records = records; block = None; guards = guards' }))
+  module _ (steps : List Made) (records : List Record) (guards' : List BookGuard)
+      (h : IsTried f keeper r (part keeper p.list) (p.books keeper) (record { steps = steps; records = records; block = None; guards = guards' }))
       (is : AnswersTried f op r None (after_trying p keeper (record { steps = steps; records = records; block = None; guards = guards' })) p') (named : TriedIsNamedBy f indexes op r None (after_trying p keeper (record { steps = steps; records = records; block = None; guards = guards' })) p' is) where
     abbrev none : Tried
     none = record { steps = steps; records = records; block = None; guards = guards' }
@@ -206,9 +208,13 @@ module _ (threads : ℕ) (f : Profile) (keeper line k other name heap size align
     )
 
   -- ==== EITHER
-  either_act : (steps : List Made) (records : List Record) (block : Option Block) (guards' : List BookGuard) → IsTried f keeper r (part keeper p.list) (p.books keeper) (record { steps = steps; records = records; block = block; guards = guards' })
-      → (is : AnswersTried f op r block (after_trying p keeper (record { steps = steps; records = records; block = block; guards = guards' })) p') → TriedIsNamedBy f indexes op r block (after_trying p keeper (record { steps = steps; records = records; block = block; guards = guards' })) p' is
-      → IsSame f p' (guards f keeper k (Some r) w) × ((guards f keeper k (Some r) w).indexes ≡ after_tried f op r block (after_trying p keeper (record { steps = steps; records = records; block = block; guards = guards' })) p' is indexes)
+  either_act : (steps : List Made) (records : List Record) (block : Option Block) (guards' : List BookGuard)
+      → IsTried f keeper r (part keeper p.list) (p.books keeper) (record { steps = steps; records = records; block = block; guards = guards' })
+      → (is : AnswersTried f op r block (after_trying p keeper (record { steps = steps; records = records; block = block; guards = guards' })) p')
+      → TriedIsNamedBy f indexes op r block (after_trying p keeper (record { steps = steps; records = records; block = block; guards = guards' })) p' is
+      → IsSame f p' (guards f keeper k (Some r) w)
+        × ((guards f keeper k (Some r) w).indexes
+            ≡ after_tried f op r block (after_trying p keeper (record { steps = steps; records = records; block = block; guards = guards' })) p' is indexes)
   either_act steps records (Some block) guards' h is named = up_act steps records block guards' h is
   either_act steps records None guards' h is named = down_act steps records guards' h is named
 
@@ -219,12 +225,14 @@ module _ (threads : ℕ) (f : Profile) (keeper line k other name heap size align
       record { same = both.0; indexes_are = both.1 }
 
 -- ---- THE ACT
-by_what : (threads : ℕ) (f : Profile) (keeper line k : ℕ) (what : What) → KeepsSame threads f (Act.Guards keeper (record { line = line; actor = k; what = what }))
+by_what : (threads : ℕ) (f : Profile) (keeper line k : ℕ) (what : What)
+    → KeepsSame threads f (Act.Guards keeper (record { line = line; actor = k; what = what }))
 by_what threads f keeper line k (What.Guarded other name heap size align) p p' w indexes known = guarded_kept threads f keeper line k other name heap size align p p' w indexes known
 by_what threads f keeper line k what p p' w indexes known = absurd (none_kept known.planned.1.1.0)
   where
     none_kept : None ≡ Some keeper → ⊥
     none_kept is = cc
 
+-- A guarded request leads the text to the replay's state, with its indexes.
 pub guards_keep : (threads : ℕ) (f : Profile) (keeper : ℕ) (op : Op) → KeepsSame threads f (Act.Guards keeper op)
 guards_keep threads f keeper op = by_what threads f keeper op.line op.actor op.what

@@ -53,7 +53,8 @@ fitted f c old left v w none rest fits = record {
     known_none ls is = subst (All (IsLocal f w)) (sym is) (All-nil (IsLocal f w))
 
 -- ---- a page of another keeper stays bare
-pub others_bare : (f : Profile) (p : Progress) (j k page : ℕ) (xs : List Made) → IsValid f → IsBetween f p → Legal f (triples j xs ++ p.list) → (j == k) ≡ false → is_outer (p.books k) page ≡ true → backed_in (visible (triples j xs ++ p.list)) page ≡ false
+pub others_bare : (f : Profile) (p : Progress) (j k page : ℕ) (xs : List Made) → IsValid f → IsBetween f p → Legal f (triples j xs ++ p.list) → (j == k) ≡ false
+    → is_outer (p.books k) page ≡ true → backed_in (visible (triples j xs ++ p.list)) page ≡ false
 others_bare f p j k page xs valid before legal other outer =
     bare_events f (triples j xs ++ p.list) page valid legal
     (bare_on f j page xs p.list legal
@@ -61,7 +62,8 @@ others_bare f p j k page xs valid before legal other outer =
     (bare_word f p.list page valid before.legal (before.rest.bare k page outer)))
 
 -- ==== A KEEPER whose steps these are has this book then
-module _ (f : Profile) (p : Progress) (keeper : ℕ) (books : Books) (steps : List Made) (left : List Guard) (valid : IsValid f) (is : IsThread f keeper) (before : IsBetween f p) (uncached : (p.caches keeper).locals ≡ []) (legal : Legal f (triples keeper steps ++ p.list))
+module _ (f : Profile) (p : Progress) (keeper : ℕ) (books : Books) (steps : List Made) (left : List Guard) (valid : IsValid f) (is : IsThread f keeper)
+    (before : IsBetween f p) (uncached : (p.caches keeper).locals ≡ []) (legal : Legal f (triples keeper steps ++ p.list))
     (own : books keeper ≡ left) (others : (j : ℕ) → (j == keeper) ≡ false → books j ≡ p.books j) (fits : FitsBook f left (steps ++ part keeper p.list)) (beside : Each IsBeside left)
     (bare : (page : ℕ) → is_outer left page ≡ true → word_after (triples keeper steps ++ p.list) (Word.Backed page) ≡ 0) where
   abbrev l : Whole
@@ -85,6 +87,7 @@ module _ (f : Profile) (p : Progress) (keeper : ℕ) (books : Books) (steps : Li
   not_scavenger : keeper ≡ 0 → ⊥
   not_scavenger zero = omega (arith, is.0, zero)
 
+  -- After its calls a keeper rests with the guards that are left, and all others rest as before.
   pub keeper_resting : AreResting f p.caches books l
   keeper_resting = record {
     working = λ j of. working j of (j == keeper) refl;
@@ -108,12 +111,16 @@ each_kept : (P : Guard → Type 0) (t : Guard → Bool) (gs : List Guard) → Ea
 each_kept P t [] all = tt
 each_kept P t (g ∷ gs) all = kept_at P g (filter t gs) (t g) all.0 (each_kept P t gs all.1)
 
-pub swept_beside : (f : Profile) (keeper : ℕ) (all : Bool) (p : Progress) (steps : List Made) (left : List Guard) (said : List Record) → IsValid f → IsBetween f p → Legal f (triples keeper steps ++ p.list) → SweepSteps f keeper all (p.books keeper) left said steps → Each IsBeside left
+-- The guards that a sweep leaves have their outer pages beside their blocks.
+pub swept_beside : (f : Profile) (keeper : ℕ) (all : Bool) (p : Progress) (steps : List Made) (left : List Guard) (said : List Record) → IsValid f
+    → IsBetween f p → Legal f (triples keeper steps ++ p.list) → SweepSteps f keeper all (p.books keeper) left said steps → Each IsBeside left
 swept_beside f keeper all p steps left said valid before legal sweep =
     let told : IsSwept all (visible p.list) keeper (p.books keeper) left said steps = swept_told f all (visible p.list) keeper valid (p.books keeper) left said steps p.list legal refl (before.rest.beside keeper) sweep.kinds sweep.swept in
     subst (Each IsBeside) (sym told.kept_is) (each_kept IsBeside (λ g. not (goes_down all (visible p.list) g)) (p.books keeper) (before.rest.beside keeper))
 
-pub swept_bare : (f : Profile) (keeper : ℕ) (all : Bool) (p : Progress) (steps : List Made) (left : List Guard) (said : List Record) → IsValid f → IsBetween f p → Legal f (triples keeper steps ++ p.list) → SweepSteps f keeper all (p.books keeper) left said steps
+-- The outer pages of the guards that a sweep leaves aren't backed.
+pub swept_bare : (f : Profile) (keeper : ℕ) (all : Bool) (p : Progress) (steps : List Made) (left : List Guard) (said : List Record) → IsValid f → IsBetween f p
+    → Legal f (triples keeper steps ++ p.list) → SweepSteps f keeper all (p.books keeper) left said steps
     → (page : ℕ) → is_outer left page ≡ true → word_after (triples keeper steps ++ p.list) (Word.Backed page) ≡ 0
 swept_bare f keeper all p steps left said valid before legal sweep page outer =
     let told : IsSwept all (visible p.list) keeper (p.books keeper) left said steps = swept_told f all (visible p.list) keeper valid (p.books keeper) left said steps p.list legal refl (before.rest.beside keeper) sweep.kinds sweep.swept in
@@ -135,15 +142,19 @@ backs_beside : (first end page : ℕ) (xs : List Made) → BacksIn first end xs 
 backs_beside first end page [] backs out = tt
 backs_beside first end page (m ∷ xs) backs out = (λ e. out (backs.0 page e), backs_beside first end page xs backs.1 out)
 
+-- A keeper that fits its book may search for a run of its heap's large pages.
 pub book_finds : (f : Profile) (heap : ℕ) (gs : List Guard) (v : View) → FitsBook f gs v → MayFind (large_of heap) v
 book_finds f heap gs v fits = record { lacks = λ page h. fits.rights page; clear = fits.clear }
 
-module _ (f : Profile) (keeper heap n : ℕ) (l : Whole) (guards guards' : List Guard) (valid : IsValid f) (fits : FitsBook f guards (part keeper l)) (beside : Each IsBeside guards) (bare : (page : ℕ) → is_outer guards page ≡ true → word_after l (Word.Backed page) ≡ 0) where
+module _ (f : Profile) (keeper heap n : ℕ) (l : Whole) (guards guards' : List Guard) (valid : IsValid f) (fits : FitsBook f guards (part keeper l))
+    (beside : Each IsBeside guards) (bare : (page : ℕ) → is_outer guards page ≡ true → word_after l (Word.Backed page) ≡ 0) where
+  -- After a raise each guard of the book has its outer pages beside its block.
   pub raised_beside : (answer : Option Block) (steps : List Made) → RaiseSteps f heap n guards guards' answer steps → Each IsBeside guards'
   raised_beside answer steps raise = search (arith, each_more)
 
   -- its own outer pages, from the search on
-  module _ (block : Block) (steps : List Made) (raise : RaiseSteps f heap n guards guards' (Some block) steps) (legal : Legal f (triples keeper steps ++ l)) where
+  module _ (block : Block) (steps : List Made) (raise : RaiseSteps f heap n guards guards' (Some block) steps) (legal : Legal f (triples keeper steps ++ l))
+      where
     abbrev r : IsRaised f (large_of heap) n guards guards' raise.searched raise.after block
     r = raise.outcome
 
@@ -159,13 +170,15 @@ module _ (f : Profile) (keeper heap n : ℕ) (l : Whole) (guards guards' : List 
         (backs_both page (give_steps (r.first + 1) 0 block r.word r.answer) r.backs (no_backs (Giving ∷ LookLife ∷ []) page (give_steps (r.first + 1) 0 block r.word r.answer) refl (refl, (refl, tt)))
         (backs_beside (r.first + 1) (r.first + 1 + n) page r.backs (raised_pages r) out)))
 
-    own_bare : (page : ℕ) → ((r.first + 1 ≤ page) × (page < r.first + 1 + n) → ⊥) → word_after (triples keeper raise.searched ++ l) (Word.Backed page) ≡ 0 → word_after (triples keeper steps ++ l) (Word.Backed page) ≡ 0
+    own_bare : (page : ℕ) → ((r.first + 1 ≤ page) × (page < r.first + 1 + n) → ⊥) → word_after (triples keeper raise.searched ++ l) (Word.Backed page) ≡ 0
+        → word_after (triples keeper steps ++ l) (Word.Backed page) ≡ 0
     own_bare page out zero =
         subst (λ (ms : List Made). word_after (triples keeper ms ++ l) (Word.Backed page) ≡ 0) (sym raise.steps_are)
         (subst (λ (m : Whole). word_after m (Word.Backed page) ≡ 0) (triples_append keeper raise.after raise.searched l)
         (bare_on f keeper page raise.after (triples keeper raise.searched ++ l) (subst (Legal f) (sym (triples_append keeper raise.after raise.searched l)) whole) (after_bare page out) zero))
 
-    read_bare : Since (BackedReadHere (part keeper l) r.first 0) (LeftSince r.first) raise.searched × Since (BackedReadHere (part keeper l) (r.first + n + 1) 0) (LeftSince (r.first + n + 1)) raise.searched
+    read_bare : Since (BackedReadHere (part keeper l) r.first 0) (LeftSince r.first) raise.searched
+        × Since (BackedReadHere (part keeper l) (r.first + n + 1) 0) (LeftSince (r.first + n + 1)) raise.searched
     read_bare = r.found.bare (part keeper l) (book_finds f heap guards (part keeper l) fits) (agreed_steps f keeper l raise.searched valid search_legal)
 
     guard_bare : (page : ℕ) → is_outer_of (guard_of r.first n block) page ≡ true → word_after (triples keeper steps ++ l) (Word.Backed page) ≡ 0
@@ -176,10 +189,13 @@ module _ (f : Profile) (keeper heap n : ℕ) (l : Whole) (guards guards' : List 
           (own_bare (r.first + n + 1) (λ out. omega (arith, out.1)) (bare_since f keeper (r.first + n + 1) (part keeper l) raise.searched l search_legal read_bare.1))
     ]
 
-  old_bare : (answer : Option Block) (steps : List Made) (raise : RaiseSteps f heap n guards guards' answer steps) → Legal f (triples keeper steps ++ l) → (page : ℕ) → is_outer guards page ≡ true → word_after (triples keeper steps ++ l) (Word.Backed page) ≡ 0
+  old_bare : (answer : Option Block) (steps : List Made) (raise : RaiseSteps f heap n guards guards' answer steps) → Legal f (triples keeper steps ++ l)
+      → (page : ℕ) → is_outer guards page ≡ true → word_after (triples keeper steps ++ l) (Word.Backed page) ≡ 0
   old_bare answer steps raise legal page outer = bare_on f keeper page steps l legal (raise.unbacked (part keeper l) fits (agreed_steps f keeper l steps valid legal) page outer) (bare page outer)
 
-  pub raised_bare : (answer : Option Block) (steps : List Made) → RaiseSteps f heap n guards guards' answer steps → Legal f (triples keeper steps ++ l) → (page : ℕ) → is_outer guards' page ≡ true → word_after (triples keeper steps ++ l) (Word.Backed page) ≡ 0
+  -- After a raise no outer page of a guard of the book is backed.
+  pub raised_bare : (answer : Option Block) (steps : List Made) → RaiseSteps f heap n guards guards' answer steps → Legal f (triples keeper steps ++ l)
+      → (page : ℕ) → is_outer guards' page ≡ true → word_after (triples keeper steps ++ l) (Word.Backed page) ≡ 0
   raised_bare None steps raise legal page outer = old_bare None steps raise legal page (ap (λ (gs : List Guard). is_outer gs page) (sym raise.outcome.same) ∙ outer)
   raised_bare (Some block) steps raise legal page outer =
       elim (outer_last guards (guard_of raise.outcome.first n block) page (ap (λ (gs : List Guard). is_outer gs page) (sym raise.outcome.raised) ∙ outer)) [

@@ -40,6 +40,7 @@ module _ (f : Profile) (p : Progress) (w : World) (valid : IsValid f) (between :
       let is : IsThread f o.k = (o.first, omega (arith, o.last, same.caches.few)) in
       (o.k, sym (cache_keeps o.k page is) ∙ o.so)
 
+  -- A page whose right some actor has is kept by a local allocator in the text.
   pub kept_by : (k page : ℕ) → has_right (part k p.list) page ≡ true → is_kept w page ≡ true
   kept_by k page h =
       let is : IsThread f k = righted_is f p w valid between same k page h in

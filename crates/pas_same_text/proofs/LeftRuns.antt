@@ -27,6 +27,7 @@ all_marked d P (x ∷ ps) q left all turn h = elim (marked_parts q turn.0 turn.1
   | inr before ↦ all_marked d P ps q turn.1 all.1 turn.3 before
 ]
 
+-- Each of n pages in a row from the first is in that run.
 pub all_in_run : (first n : ℕ) → AllByRecursion (IsInRun first n) (pages_from first n)
 all_in_run first zero = tt
 all_in_run first (suc n) = ((omega arith, omega arith), one_more first n (pages_from first n) (all_in_run first n))
@@ -35,6 +36,7 @@ all_in_run first (suc n) = ((omega arith, omega arith), one_more first n (pages_
     one_more first n [] all = tt
     one_more first n (x ∷ ps) all = let low = all.0.0 in ((low, omega (arith, all.0.1)), one_more first n ps all.1)
 
+-- Pages that are left one by one mark no page but those of their run.
 pub left_marked : (d : Directory) (first n q : ℕ) (left : List Made) → LeftInTurn d first n left → IsMarked q left → IsInRun first n q
 left_marked d first n q left turn h = all_marked d (IsInRun first n) (pages_from first n) q left (all_in_run first n) turn h
 

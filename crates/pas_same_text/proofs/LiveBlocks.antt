@@ -37,7 +37,8 @@ here k block es p some so =
     }
 
 -- a block that may be given begins where no other lives
-elsewhere : (f : Profile) (es : List Event) (block : Block) (p : Block → Bool) (o : LivesSo es p) → MayGive f es block → 0 < length_of block → address_of block.name ≢ o.address
+elsewhere : (f : Profile) (es : List Event) (block : Block) (p : Block → Bool) (o : LivesSo es p) → MayGive f es block → 0 < length_of block
+    → address_of block.name ≢ o.address
 elsewhere f es block p o may some same =
     let first : ℕ = o.address / 16 in
     let own : in_run (o.address / 16) (length_of o.live.block) first ≡ true = first_of_run first (length_of o.live.block) o.some in
@@ -46,7 +47,8 @@ elsewhere f es block p o may some same =
     let is : grain_of block.name ≡ first = ap (λ (a : ℕ). a / 16) same in
     true≢false (sym meets ∙ (ap (in_run (grain_of block.name) (length_of block)) is ∙ clear))
 
-there : (k : ℕ) (block : Block) (es : List Event) (p : Block → Bool) (o : LivesSo es p) → address_of block.name ≢ o.address → LivesSo (Event.Give k block ∷ es) p
+there : (k : ℕ) (block : Block) (es : List Event) (p : Block → Bool) (o : LivesSo es p) → address_of block.name ≢ o.address
+    → LivesSo (Event.Give k block ∷ es) p
 there k block es p o ne =
     let live : Live = record { actor = k; block = block } in
     record {
@@ -58,7 +60,8 @@ there k block es p o ne =
       so = o.so;
     }
 
-ended : (k : ℕ) (name : Name) (e : ℕ) (es : List Event) (p : Block → Bool) (o : LivesSo es (λ x. not (is_at (address_of name) x) && p x)) → LivesSo (Event.End k name e ∷ es) p
+ended : (k : ℕ) (name : Name) (e : ℕ) (es : List Event) (p : Block → Bool) (o : LivesSo es (λ x. not (is_at (address_of name) x) && p x))
+    → LivesSo (Event.End k name e ∷ es) p
 ended k name e es p o =
     let away : is_at (address_of name) o.live.block ≡ false = not-true (is_at (address_of name) o.live.block) (and_first (not (is_at (address_of name) o.live.block)) (p o.live.block) o.so) in
     let ne : address_of name ≢ o.address = λ same. eqb-false (address_of o.live.block.name) (address_of name) away (o.at ∙ sym same) in
@@ -75,7 +78,8 @@ ended k name e es p o =
 still : (e : Event) (es : List Event) (p : Block → Bool) (o : LivesSo es p) → live_in (e ∷ es) o.address ≡ live_in es o.address → LivesSo (e ∷ es) p
 still e es p o same = record { address = o.address; live = o.live; lives = same ∙ o.lives; at = o.at; some = o.some; so = o.so }
 
-given_one : (f : Profile) (k : ℕ) (block : Block) (es : List Event) (p : Block → Bool) → MayGive f es block → 0 < length_of block → (list_any p (lives_in es) ≡ true → LivesSo es p)
+given_one : (f : Profile) (k : ℕ) (block : Block) (es : List Event) (p : Block → Bool) → MayGive f es block → 0 < length_of block
+    → (list_any p (lives_in es) ≡ true → LivesSo es p)
     → (p block ≡ true) ⊎ (list_any p (lives_in es) ≡ true) → LivesSo (Event.Give k block ∷ es) p
 given_one f k block es p may some older (inl so) = here k block es p some so
 given_one f k block es p may some older (inr more) = let o = older more in there k block es p o (elsewhere f es block p o may some)
@@ -91,7 +95,8 @@ lives_so f (Event.End k name e ∷ es) p run h = ended k name e es p (lives_so f
 lives_so f (Event.Reject k name why ∷ es) p run h = still (Event.Reject k name why) es p (lives_so f es p run.1 h) refl
 
 -- ---- from the machine to the list
-given_listed : (t : Bool) (block : Block) (k : ℕ) (old : Option Live) (b : Live) (p : Block → Bool) (rest : Bool) → (if t then Some (record { actor = k; block = block }) else old) ≡ Some b
+given_listed : (t : Bool) (block : Block) (k : ℕ) (old : Option Live) (b : Live) (p : Block → Bool) (rest : Bool)
+    → (if t then Some (record { actor = k; block = block }) else old) ≡ Some b
     → (old ≡ Some b → rest ≡ true) → p b.block ≡ true → (p block || rest) ≡ true
 given_listed t block k old b p rest is older so = search (arith, same_Some, or_left)
 
@@ -99,7 +104,8 @@ ended_live : (t : Bool) (old : Option Live) (b : Live) → (if t then None else 
 ended_live t old b is = search (arith, none-some)
 
 -- a block that lives at its address is in the list
-pub lives_listed : (es : List Event) (address : ℕ) (b : Live) (p : Block → Bool) → live_in es address ≡ Some b → address_of b.block.name ≡ address → p b.block ≡ true → list_any p (lives_in es) ≡ true
+pub lives_listed : (es : List Event) (address : ℕ) (b : Live) (p : Block → Bool) → live_in es address ≡ Some b → address_of b.block.name ≡ address
+    → p b.block ≡ true → list_any p (lives_in es) ≡ true
 lives_listed [] address b p is at so = absurd (none-some b is)
 lives_listed (Event.Deed k q d ∷ es) address b p is at so = lives_listed es address b p is at so
 lives_listed (Event.Back k q ∷ es) address b p is at so = lives_listed es address b p is at so

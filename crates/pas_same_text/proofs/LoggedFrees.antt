@@ -25,7 +25,8 @@ abbrev pub after_with : Progress → ℕ → List Made → Option TheSaid → Li
 after_with p k steps said names c = with_records (record (with_steps p k steps c) { names = names }) (records_of (events_by k (part k p.list) steps) ++ said_by k said)
 
 -- ---- an answer without a step, which changes nothing but says something
-pub said_same : (f : Profile) (k : ℕ) (said : TheSaid) (p : Progress) (w : World) → IsSame f p w → IsSame f (after_with p k [] (Some said) p.names (p.caches k)) (says (Record.Said k said) w)
+pub said_same : (f : Profile) (k : ℕ) (said : TheSaid) (p : Progress) (w : World) → IsSame f p w
+    → IsSame f (after_with p k [] (Some said) p.names (p.caches k)) (says (Record.Said k said) w)
 said_same f k said p w same = record {
   pages = pages_next f p.list p.list w (says (Record.Said k said) w) same.pages (unchanged p.list) (record { events = refl; live = refl; hinted = refl; locals = refl; guards = refl });
   caches = same_kept f p.caches w.caches k same.caches;
@@ -77,20 +78,24 @@ page_outside pages a none = false_from_ne_true (nat_le 4096 a && nat_lt a (4096 
 abbrev freed_by : Profile → ℕ → Entry → World → Bool → Bool → World
 freed_by f k entry w inside aligned = if inside then (if aligned then logs f k entry w else refuses_free k entry.name FreeFault.Unaligned w) else refuses_free k entry.name FreeFault.Outside w
 
-pub freed_is : (f : Profile) (k : ℕ) (entry : Entry) (w : World) (inside aligned : Bool) → (nat_le 4096 (address_of entry.name) && nat_lt (address_of entry.name) (4096 * (f.pages + 1))) ≡ inside → (address_of entry.name % 16 == 0) ≡ aligned
+-- A free is answered in the text by whether its address is inside the region and aligned.
+pub freed_is : (f : Profile) (k : ℕ) (entry : Entry) (w : World) (inside aligned : Bool)
+    → (nat_le 4096 (address_of entry.name) && nat_lt (address_of entry.name) (4096 * (f.pages + 1))) ≡ inside → (address_of entry.name % 16 == 0) ≡ aligned
     → frees f k entry w ≡ freed_by f k entry w inside aligned
 freed_is f k entry w inside aligned e h =
     ap (λ (t : Bool). freed_by f k entry w t (address_of entry.name % 16 == 0)) e ∙ ap (λ (u : Bool). freed_by f k entry w inside u) h
 
 -- ---- the cache after it
-logged_cache : (f : Profile) (k : ℕ) (c c' : Cached) (entry : Entry) (steps : List Made) → nat_le 64 (length c.log) ≡ false → TakesEntry f k c c' entry steps → (steps ≡ []) × (c' ≡ with_entry c entry)
+logged_cache : (f : Profile) (k : ℕ) (c c' : Cached) (entry : Entry) (steps : List Made) → nat_le 64 (length c.log) ≡ false → TakesEntry f k c c' entry steps
+    → (steps ≡ []) × (c' ≡ with_entry c entry)
 logged_cache f k c c' entry steps room takes =
     let l : LogsEntry k c.log c'.log c.noted c'.noted entry steps = takes.logs in
     let kept : EmptiesFull false k c.log l.kept c.noted c'.noted steps = subst (λ (t : Bool). EmptiesFull t k c.log l.kept c.noted c'.noted steps) room l.emptied in
     let log : c'.log ≡ c.log ++ entry ∷ [] = l.log_is ∙ ap (λ (es : List Entry). es ++ entry ∷ []) kept.1 in
     (kept.0, takes.cache ∙ (ap (λ (es : List Entry). record c { log = es; noted = c'.noted }) log ∙ ap (λ (runs : List EndedRun). record c { log = c.log ++ entry ∷ []; noted = runs }) kept.2))
 
-room_is : (f : Profile) (k : ℕ) (entry : Entry) (p : Progress) (w : World) → IsThread f k → IsSame f p w → nat_le 64 (length (p.caches k).log) ≡ false → logs f k entry w ≡ adds k entry w
+room_is : (f : Profile) (k : ℕ) (entry : Entry) (p : Progress) (w : World) → IsThread f k → IsSame f p w → nat_le 64 (length (p.caches k).log) ≡ false
+    → logs f k entry w ≡ adds k entry w
 room_is f k entry p w is same room = search (arith, same.caches.each)
 
 -- ---- the free
@@ -104,17 +109,21 @@ logged_same f k entry p w c' steps is listed same room takes =
     freed_is f k entry w true true inside (eq-eqb (address_of entry.name % 16) 0 takes.region.aligned) ∙ room_is f k entry p w is same room in
     rw (text, to.0, to.1) (added_same f k entry p w is listed same)
 
-refused_text : (f : Profile) (k : ℕ) (entry : Entry) (w : World) (c c' : Cached) (steps : List Made) (fault : FreeFault) → RefusesName f c c' entry.name steps fault → frees f k entry w ≡ refuses_free k entry.name fault w
+refused_text : (f : Profile) (k : ℕ) (entry : Entry) (w : World) (c c' : Cached) (steps : List Made) (fault : FreeFault)
+    → RefusesName f c c' entry.name steps fault → frees f k entry w ≡ refuses_free k entry.name fault w
 refused_text f k entry w c c' steps Outside refuses = freed_is f k entry w false (address_of entry.name % 16 == 0) (page_outside f.pages (address_of entry.name) refuses.fault_is) refl
 refused_text f k entry w c c' steps Unaligned refuses =
     freed_is f k entry w true false (page_inside f.pages (address_of entry.name) refuses.fault_is.0.0 refuses.fault_is.0.1) (ne_eqb (address_of entry.name % 16) 0 refuses.fault_is.1)
 
+-- A free whose name can't be a block's is refused at once in the text as in the replay.
 pub refused_same : (f : Profile) (k : ℕ) (entry : Entry) (p : Progress) (w : World) (c' : Cached) (steps : List Made) (fault : FreeFault) → IsSame f p w
-    → RefusesName f (p.caches k) c' entry.name steps fault → IsSame f (after_with p k steps (Some (said_of_fault entry.name fault)) p.names c') (frees f k entry w)
+    → RefusesName f (p.caches k) c' entry.name steps fault
+    → IsSame f (after_with p k steps (Some (said_of_fault entry.name fault)) p.names c') (frees f k entry w)
 refused_same f k entry p w c' steps fault same refuses =
     let name : Name = entry.name in
     rw (refused_text f k entry w (p.caches k) c' steps fault refuses, refuses.no_steps, refuses.cache) (said_same f k (said_of_fault name fault) p w same)
 
+-- A free into a log with room leads the text to the replay's state.
 pub freed_same : (f : Profile) (k : ℕ) (entry : Entry) (p : Progress) (w : World) (c' : Cached) (steps : List Made) (said : Option TheSaid) → IsThread f k
     → k ≤ length w.caches → IsSame f p w → nat_le 64 (length (p.caches k).log) ≡ false
     → IsFreed f k (p.caches k) c' entry steps said → IsSame f (after_with p k steps said p.names c') (frees f k entry w)
@@ -133,16 +142,21 @@ entry_same f k entry p p' w a is listed same room freed names reached =
     rw (reached, names)
     (freed_same f k entry p w a.cache a.steps a.said is listed same test freed)
 
-pub raw_same : (f : Profile) (line k : ℕ) (block : Name) → IsThread f k → StaysSameWhere (HasLogRoom k) f (Act.Operates (record { line = line; actor = k; what = Raw block }))
+-- A free of a bare name into a log with room leads the text to the replay's state.
+pub raw_same : (f : Profile) (line k : ℕ) (block : Name) → IsThread f k
+    → StaysSameWhere (HasLogRoom k) f (Act.Operates (record { line = line; actor = k; what = Raw block }))
 raw_same f line k block is p p' w room taken =
     entry_same f k (entry_of block) p p' w taken.advances.0 is taken.listed taken.same room taken.advances.1.0 taken.advances.1.1 taken.advances.2
 
-pub raw_sized_same : (f : Profile) (line k room : ℕ) (block : Name) → IsThread f k → StaysSameWhere (HasLogRoom k) f (Act.Operates (record { line = line; actor = k; what = RawSized room block }))
+-- A free of a bare name with its room into a log with room leads the text to the replay's state.
+pub raw_sized_same : (f : Profile) (line k room : ℕ) (block : Name) → IsThread f k
+    → StaysSameWhere (HasLogRoom k) f (Act.Operates (record { line = line; actor = k; what = RawSized room block }))
 raw_sized_same f line k size block is p p' w room taken =
     entry_same f k (sized_entry block size) p p' w taken.advances.0 is taken.listed taken.same room taken.advances.1.0 taken.advances.1.1 taken.advances.2
 
 -- ---- a free by a name of the trace
-pub skipped_same : (f : Profile) (k name : ℕ) (p : Progress) (w : World) (c' : Cached) (steps : List Made) (said : Option TheSaid) → IsSame f p w → steps ≡ [] → c' ≡ p.caches k → said ≡ Some (Said.Skipped name)
+pub skipped_same : (f : Profile) (k name : ℕ) (p : Progress) (w : World) (c' : Cached) (steps : List Made) (said : Option TheSaid) → IsSame f p w → steps ≡ []
+    → c' ≡ p.caches k → said ≡ Some (Said.Skipped name)
     → IsSame f (after_with p k steps said p.names c') (says (Record.Said k (Said.Skipped name)) w)
 skipped_same f k name p w c' steps said same no_steps cache is =
     subst (λ (s : Option TheSaid). IsSame f (after_with p k steps s p.names c') (says (Record.Said k (Said.Skipped name)) w)) (sym is)
@@ -150,7 +164,8 @@ skipped_same f k name p w c' steps said same no_steps cache is =
 
 freed_named : (f : Profile) (k name : ℕ) (size : Option ℕ) (p : Progress) (w : World) (c' : Cached) (steps : List Made) (said : Option TheSaid)
     → IsThread f k → k ≤ length w.caches → IsSame f p w → nat_le 64 (length (p.caches k).log) ≡ false
-    → (meant : Option (Option Block)) → IsFreedBy f k (p.caches k) c' name size meant steps said → IsSame f (after_with p k steps said p.names c') (frees_what f k name (room_noted size) meant w)
+    → (meant : Option (Option Block)) → IsFreedBy f k (p.caches k) c' name size meant steps said
+    → IsSame f (after_with p k steps said p.names c') (frees_what f k name (room_noted size) meant w)
 freed_named f k name size p w c' steps said is listed same room None freed = absurd freed
 freed_named f k name size p w c' steps said is listed same room (Some None) freed = skipped_same f k name p w c' steps said same freed.0 freed.1 freed.2
 freed_named f k name size p w c' steps said is listed same room (Some (Some block)) freed =
@@ -161,10 +176,14 @@ by_name_same : (f : Profile) (k name : ℕ) (size : Option ℕ) (p p' : Progress
     → p' ≡ after_answer p k a → IsSame f p' (frees_named f k name (room_noted size) w)
 by_name_same f k name size p p' w a is listed same room freed names reached = search (arith, freed_named)
 
-pub named_same : (f : Profile) (line k name : ℕ) → IsThread f k → StaysSameWhere (HasLogRoom k) f (Act.Operates (record { line = line; actor = k; what = Free name }))
+-- A free of a name of the trace into a log with room leads the text to the replay's state.
+pub named_same : (f : Profile) (line k name : ℕ) → IsThread f k
+    → StaysSameWhere (HasLogRoom k) f (Act.Operates (record { line = line; actor = k; what = Free name }))
 named_same f line k name is p p' w room taken =
     by_name_same f k name None p p' w taken.advances.0 is taken.listed taken.same room taken.advances.1.0 taken.advances.1.1 taken.advances.2
 
-pub named_sized_same : (f : Profile) (line k name room : ℕ) → IsThread f k → StaysSameWhere (HasLogRoom k) f (Act.Operates (record { line = line; actor = k; what = FreeSized name room }))
+-- A free of a name of the trace with its room into a log with room leads the text to the replay's state.
+pub named_sized_same : (f : Profile) (line k name room : ℕ) → IsThread f k
+    → StaysSameWhere (HasLogRoom k) f (Act.Operates (record { line = line; actor = k; what = FreeSized name room }))
 named_sized_same f line k name size is p p' w room taken =
     by_name_same f k name (Some size) p p' w taken.advances.0 is taken.listed taken.same room taken.advances.1.0 taken.advances.1.1 taken.advances.2

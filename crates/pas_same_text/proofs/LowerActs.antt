@@ -37,11 +37,13 @@ abbrev pub swept_to : Progress → ℕ → List BookGuard → List Made → List
 swept_to p keeper left steps said = with_records (record p { books = with_book p.books keeper left; list = triples keeper steps ++ p.list }) said
 
 -- ---- guards of a book
-region_at : (f : Profile) (keeper : ℕ) (g : BookGuard) (fs : List BookGuard) (s : Bool) → IsGuardOf f g → AreOfRegion f (map (told_guard keeper) fs) → AreOfRegion f (map (told_guard keeper) (if s then g ∷ fs else fs))
+region_at : (f : Profile) (keeper : ℕ) (g : BookGuard) (fs : List BookGuard) (s : Bool) → IsGuardOf f g → AreOfRegion f (map (told_guard keeper) fs)
+    → AreOfRegion f (map (told_guard keeper) (if s then g ∷ fs else fs))
 region_at f keeper g fs true one rest = (one.low, one.high, rest)
 region_at f keeper g fs false one rest = rest
 
-region_of : (f : Profile) (keeper : ℕ) (t : BookGuard → Bool) (gs : List BookGuard) → Each (IsGuardOf f) gs → AreOfRegion f (map (told_guard keeper) (filter t gs))
+region_of : (f : Profile) (keeper : ℕ) (t : BookGuard → Bool) (gs : List BookGuard) → Each (IsGuardOf f) gs
+    → AreOfRegion f (map (told_guard keeper) (filter t gs))
 region_of f keeper t [] all = tt
 region_of f keeper t (g ∷ gs) all = region_at f keeper g (filter t gs) (t g) all.0 (region_of f keeper t gs all.1)
 
@@ -56,7 +58,8 @@ outer_deed v (g ∷ gs) page all h = elim (or_cases (is_outer_of g page) (is_out
   | inr later ↦ outer_deed v gs page all.1 later
 ]
 
-module _ (f : Profile) (keeper : ℕ) (all : Bool) (p : Progress) (w : World) (steps : List Made) (left : List BookGuard) (said : List Record) (valid : IsValid f) (is : IsThread f keeper) (before : IsBetween f p) (same : IsSame f p w)
+module _ (f : Profile) (keeper : ℕ) (all : Bool) (p : Progress) (w : World) (steps : List Made) (left : List BookGuard) (said : List Record) (valid : IsValid f)
+    (is : IsThread f keeper) (before : IsBetween f p) (same : IsSame f p w)
     (sweep : SweepSteps f keeper all (p.books keeper) left said steps) (after : IsBetween f (swept_to p keeper left steps said)) where
   abbrev p' : Progress
   p' = swept_to p keeper left steps said
@@ -166,6 +169,7 @@ module _ (f : Profile) (keeper : ℕ) (all : Bool) (p : Progress) (w : World) (s
     guarded = λ q none. lowered_unguarded f downs w v q lowered none;
   }
 
+  -- A keeper's sweep leads the text to the replay's state, with the same guards left.
   pub sweep_same : IsSame f p' v
   sweep_same = record {
     pages = given_pages f keeper p.list p' w v steps valid same.pages refl after has given;
@@ -182,20 +186,25 @@ all_pass : (gs : List BookGuard) → filter (λ g. true) gs ≡ gs
 all_pass [] = refl
 all_pass (g ∷ gs) = ap (λ (xs : List BookGuard). g ∷ xs) (all_pass gs)
 
-filtered_at : (keeper : ℕ) (g : BookGuard) (us : List Guard) (ts : List BookGuard) (b : Bool) → us ≡ map (told_guard keeper) ts → (if b then told_guard keeper g ∷ us else us) ≡ map (told_guard keeper) (if b then g ∷ ts else ts)
+filtered_at : (keeper : ℕ) (g : BookGuard) (us : List Guard) (ts : List BookGuard) (b : Bool) → us ≡ map (told_guard keeper) ts
+    → (if b then told_guard keeper g ∷ us else us) ≡ map (told_guard keeper) (if b then g ∷ ts else ts)
 filtered_at keeper g us ts true rest = ap (λ (xs : List Guard). told_guard keeper g ∷ xs) rest
 filtered_at keeper g us ts false rest = rest
 
-told_filtered : (keeper : ℕ) (t : BookGuard → Bool) (u : Guard → Bool) (gs : List BookGuard) → ((g : BookGuard) → u (told_guard keeper g) ≡ t g) → filter u (map (told_guard keeper) gs) ≡ map (told_guard keeper) (filter t gs)
+told_filtered : (keeper : ℕ) (t : BookGuard → Bool) (u : Guard → Bool) (gs : List BookGuard) → ((g : BookGuard) → u (told_guard keeper g) ≡ t g)
+    → filter u (map (told_guard keeper) gs) ≡ map (told_guard keeper) (filter t gs)
 told_filtered keeper t u [] same = refl
 told_filtered keeper t u (g ∷ gs) same =
     ap (λ (b : Bool). if b then told_guard keeper g ∷ filter u (map (told_guard keeper) gs) else filter u (map (told_guard keeper) gs)) (same g)
     ∙ filtered_at keeper g (filter u (map (told_guard keeper) gs)) (filter t gs) (t g) (told_filtered keeper t u gs same)
 
-pub ended_text : (f : Profile) (keeper : ℕ) (p : Progress) (w : World) → IsSame f p w → lowers_ended keeper w ≡ each lowers (map (told_guard keeper) (filter (goes_down false (visible p.list)) (p.books keeper))) w
+-- The guards whose blocks ended by the text are those of the book that go down by the events.
+pub ended_text : (f : Profile) (keeper : ℕ) (p : Progress) (w : World) → IsSame f p w
+    → lowers_ended keeper w ≡ each lowers (map (told_guard keeper) (filter (goes_down false (visible p.list)) (p.books keeper))) w
 ended_text f keeper p w same = search (arith, told_filtered)
 
-all_text : (f : Profile) (keeper : ℕ) (p : Progress) (w : World) → IsSame f p w → lowers_all keeper w ≡ each lowers (map (told_guard keeper) (filter (goes_down true (visible p.list)) (p.books keeper))) w
+all_text : (f : Profile) (keeper : ℕ) (p : Progress) (w : World) → IsSame f p w
+    → lowers_all keeper w ≡ each lowers (map (told_guard keeper) (filter (goes_down true (visible p.list)) (p.books keeper))) w
 all_text f keeper p w same = ap (λ (gs : List Guard). each lowers gs w) (same.guards.each keeper ∙ ap (map (told_guard keeper)) (sym (all_pass (p.books keeper))))
 
 -- ---- THE ACT at the close

@@ -81,6 +81,7 @@ module _ (f : Profile) (g : Guard) (w : World) (low : IsPage f g.low) (high : Is
     returns = returns_then f (g.low ∷ g.high ∷ []) (outer_pages downs) w (lowers g w) v one_returns more.returns;
   }
 
+-- Guards lowered one after the other give their outer pages back, and change nothing else but hints.
 pub all_lowered : (f : Profile) (downs : List Guard) (w : World) → AreOfRegion f downs → AreLowered f downs w (each lowers downs w)
 all_lowered f [] w of = record { events = refl; records = refl; live = refl; caches = refl; names = refl; epoch = refl; read = refl; guards = refl; returns = returns_nothing f w }
 all_lowered f (g ∷ downs) w of = lowered_then f g w of.0 of.1 downs (each lowers downs (lowers g w)) (all_lowered f downs (lowers g w) of.2)
@@ -92,7 +93,8 @@ said_reversed (g ∷ downs) rs ws is =
     sym (append_assoc rs (lowered_line g ∷ []) (map lowered_line downs)) ∙ said_reversed downs (rs ++ lowered_line g ∷ []) (lowered_line g ∷ ws) (records_next rs ws (lowered_line g) is)
 
 -- ---- no page becomes guarded
-fewer_at : (p : Guard → Bool) (g : Guard) (fs gs : List Guard) (t : Bool) → (list_any p fs ≡ true → list_any p gs ≡ true) → list_any p (if t then g ∷ fs else fs) ≡ true → (p g || list_any p gs) ≡ true
+fewer_at : (p : Guard → Bool) (g : Guard) (fs gs : List Guard) (t : Bool) → (list_any p fs ≡ true → list_any p gs ≡ true)
+    → list_any p (if t then g ∷ fs else fs) ≡ true → (p g || list_any p gs) ≡ true
 fewer_at p g fs gs t more h = search (arith, or_cases, or_left)
 
 fewer_any : (p q : Guard → Bool) (gs : List Guard) → list_any p (filter q gs) ≡ true → list_any p gs ≡ true
@@ -103,12 +105,15 @@ less_guarded : (downs gs : List Guard) (page : ℕ) → list_any (has_outer page
 less_guarded [] gs page h = h
 less_guarded (g ∷ downs) gs page h = fewer_any (has_outer page) (λ x. not (x.low == g.low)) gs (less_guarded downs (without g.low gs) page h)
 
-pub lowered_unguarded : (f : Profile) (downs : List Guard) (w v : World) (page : ℕ) → AreLowered f downs w v → is_guarded w page ≡ false → is_guarded v page ≡ false
+-- A page that no guard has stays so when guards are lowered.
+pub lowered_unguarded : (f : Profile) (downs : List Guard) (w v : World) (page : ℕ) → AreLowered f downs w v → is_guarded w page ≡ false
+    → is_guarded v page ≡ false
 lowered_unguarded f downs w v page lowered none = search (arith, false_from_ne_true, false≢true, less_guarded)
 
 -- ---- the guards of each keeper that are left
 -- two tests one after the other
-swapped_at : (p q : Guard → Bool) (g : Guard) (gs : List Guard) (s t : Bool) → p g ≡ s → q g ≡ t → filter p (filter q gs) ≡ filter q (filter p gs) → filter p (if t then g ∷ filter q gs else filter q gs) ≡ filter q (if s then g ∷ filter p gs else filter p gs)
+swapped_at : (p q : Guard → Bool) (g : Guard) (gs : List Guard) (s t : Bool) → p g ≡ s → q g ≡ t → filter p (filter q gs) ≡ filter q (filter p gs)
+    → filter p (if t then g ∷ filter q gs else filter q gs) ≡ filter q (if s then g ∷ filter p gs else filter p gs)
 swapped_at p q g gs s t e u rest = grind arith
 
 swapped : (p q : Guard → Bool) (gs : List Guard) → filter p (filter q gs) ≡ filter q (filter p gs)
@@ -131,7 +136,8 @@ none_lost k low (g ∷ gs) none = at (g.low == low) (g.high == low) (is_outer gs
     at false false r none rest = ap (λ (xs : List Guard). told_guard k g ∷ xs) (rest none)
 
 -- lows of other keepers' guards take none out
-pub others_stay : (k keeper : ℕ) (fallen gs : List BookGuard) → ((low : ℕ) → is_outer fallen low ≡ true → is_outer gs low ≡ false) → without_all (map (told_guard keeper) fallen) (map (told_guard k) gs) ≡ map (told_guard k) gs
+pub others_stay : (k keeper : ℕ) (fallen gs : List BookGuard) → ((low : ℕ) → is_outer fallen low ≡ true → is_outer gs low ≡ false)
+    → without_all (map (told_guard keeper) fallen) (map (told_guard k) gs) ≡ map (told_guard k) gs
 others_stay k keeper [] gs none = refl
 others_stay k keeper (g ∷ fallen) gs none =
     ap (without_all (map (told_guard keeper) fallen)) (none_lost k g.low gs (none g.low (or_left (is_outer_of g g.low) (is_outer fallen g.low) (or_left (g.low == g.low) (g.high == g.low) (eq-eqb g.low g.low refl)))))
@@ -139,9 +145,11 @@ others_stay k keeper (g ∷ fallen) gs none =
 
 -- ---- of the keeper itself: those are left that don't pass the test
 -- an outer page of some of them is one of all
-some_at : (g : BookGuard) (fs gs : List BookGuard) (page : ℕ) (s : Bool) → (is_outer fs page ≡ true → is_outer gs page ≡ true) → is_outer (if s then g ∷ fs else fs) page ≡ true → (is_outer_of g page || is_outer gs page) ≡ true
+some_at : (g : BookGuard) (fs gs : List BookGuard) (page : ℕ) (s : Bool) → (is_outer fs page ≡ true → is_outer gs page ≡ true)
+    → is_outer (if s then g ∷ fs else fs) page ≡ true → (is_outer_of g page || is_outer gs page) ≡ true
 some_at g fs gs page s more h = search (arith, or_cases, or_left)
 
+-- An outer page of some chosen guards of a book is one of the book.
 pub some_outer : (t : BookGuard → Bool) (gs : List BookGuard) (page : ℕ) → is_outer (filter t gs) page ≡ true → is_outer gs page ≡ true
 some_outer t [] page h = h
 some_outer t (g ∷ gs) page h = some_at g (filter t gs) gs page (t g) (some_outer t gs page) h
@@ -153,7 +161,9 @@ not_some t gs page none = false_from_ne_true (is_outer (filter t gs) page) (λ h
 first_apart : (g : BookGuard) (gs : List BookGuard) (page : ℕ) → AreApart (g ∷ gs) → is_outer_of g page ≡ true → is_outer gs page ≡ false
 first_apart g gs page apart h = search (arith, or_cases, eqb-true)
 
-split_at : (t : BookGuard → Bool) (g : BookGuard) (gs : List BookGuard) (page : ℕ) (s : Bool) → AreApart (g ∷ gs) → (is_outer (filter t gs) page ≡ true → is_outer (filter (λ x. not (t x)) gs) page ≡ false) → is_outer (if s then g ∷ filter t gs else filter t gs) page ≡ true
+split_at : (t : BookGuard → Bool) (g : BookGuard) (gs : List BookGuard) (page : ℕ) (s : Bool) → AreApart (g ∷ gs)
+    → (is_outer (filter t gs) page ≡ true → is_outer (filter (λ x. not (t x)) gs) page ≡ false)
+    → is_outer (if s then g ∷ filter t gs else filter t gs) page ≡ true
     → is_outer (if not s then g ∷ filter (λ x. not (t x)) gs else filter (λ x. not (t x)) gs) page ≡ false
 split_at t g gs page true apart more h = search (arith, or_cases, not_some, first_apart)
 split_at t g gs page false apart more h = false_from_ne_true (is_outer_of g page || is_outer (filter (λ x. not (t x)) gs) page) (λ both. elim (or_cases (is_outer_of g page) (is_outer (filter (λ x. not (t x)) gs) page) both) [
@@ -161,7 +171,9 @@ split_at t g gs page false apart more h = false_from_ne_true (is_outer_of g page
   | inr later ↦ false≢true (sym (more h) ∙ later)
 ])
 
-pub apart_split : (t : BookGuard → Bool) (gs : List BookGuard) (page : ℕ) → AreApart gs → is_outer (filter t gs) page ≡ true → is_outer (filter (λ g. not (t g)) gs) page ≡ false
+-- An outer page of the chosen guards of a book whose guards are apart is none of the others.
+pub apart_split : (t : BookGuard → Bool) (gs : List BookGuard) (page : ℕ) → AreApart gs → is_outer (filter t gs) page ≡ true
+    → is_outer (filter (λ g. not (t g)) gs) page ≡ false
 apart_split t [] page apart h = absurd (false≢true h)
 apart_split t (g ∷ gs) page apart h = split_at t g gs page (t g) apart (apart_split t gs page apart.2) h
 
@@ -169,24 +181,30 @@ apart_split t (g ∷ gs) page apart h = split_at t g gs page (t g) apart (apart_
 none_first : (g : BookGuard) (page : ℕ) (rest : Bool) → (is_outer_of g page || rest) ≡ false → ((g.low == page) ≡ false) × (rest ≡ false)
 none_first g page rest none = search (arith, or_parts)
 
-first_stays : (k keeper : ℕ) (g : BookGuard) (fallen : List BookGuard) (gs : List Guard) → is_outer fallen g.low ≡ false → without_all (map (told_guard keeper) fallen) (told_guard k g ∷ gs) ≡ told_guard k g ∷ without_all (map (told_guard keeper) fallen) gs
+first_stays : (k keeper : ℕ) (g : BookGuard) (fallen : List BookGuard) (gs : List Guard) → is_outer fallen g.low ≡ false
+    → without_all (map (told_guard keeper) fallen) (told_guard k g ∷ gs) ≡ told_guard k g ∷ without_all (map (told_guard keeper) fallen) gs
 first_stays k keeper g [] gs none = refl
 first_stays k keeper g (d ∷ fallen) gs none =
     let both = none_first d g.low (is_outer fallen g.low) none in
     ap (λ (t : Bool). without_all (map (told_guard keeper) fallen) (if not t then told_guard k g ∷ without d.low gs else without d.low gs)) (eqb_turned g.low d.low ∙ both.0)
     ∙ first_stays k keeper g fallen (without d.low gs) both.1
 
-own_at : (k : ℕ) (t : BookGuard → Bool) (g : BookGuard) (gs : List BookGuard) (s : Bool) → AreApart (g ∷ gs) → without_all (map (told_guard k) (filter t gs)) (map (told_guard k) gs) ≡ map (told_guard k) (filter (λ x. not (t x)) gs)
-    → without_all (map (told_guard k) (if s then g ∷ filter t gs else filter t gs)) (told_guard k g ∷ map (told_guard k) gs) ≡ map (told_guard k) (if not s then g ∷ filter (λ x. not (t x)) gs else filter (λ x. not (t x)) gs)
+own_at : (k : ℕ) (t : BookGuard → Bool) (g : BookGuard) (gs : List BookGuard) (s : Bool) → AreApart (g ∷ gs)
+    → without_all (map (told_guard k) (filter t gs)) (map (told_guard k) gs) ≡ map (told_guard k) (filter (λ x. not (t x)) gs)
+    → without_all (map (told_guard k) (if s then g ∷ filter t gs else filter t gs)) (told_guard k g ∷ map (told_guard k) gs)
+      ≡ map (told_guard k) (if not s then g ∷ filter (λ x. not (t x)) gs else filter (λ x. not (t x)) gs)
 own_at k t g gs true apart rest = search (arith, eq-eqb, none_lost)
 own_at k t g gs false apart rest = first_stays k k g (filter t gs) (map (told_guard k) gs) (not_some t gs g.low apart.0) ∙ ap (λ (xs : List Guard). told_guard k g ∷ xs) rest
 
-pub own_left : (k : ℕ) (t : BookGuard → Bool) (gs : List BookGuard) → AreApart gs → without_all (map (told_guard k) (filter t gs)) (map (told_guard k) gs) ≡ map (told_guard k) (filter (λ g. not (t g)) gs)
+-- Without the chosen guards of a book, the others of it are left in their order.
+pub own_left : (k : ℕ) (t : BookGuard → Bool) (gs : List BookGuard) → AreApart gs
+    → without_all (map (told_guard k) (filter t gs)) (map (told_guard k) gs) ≡ map (told_guard k) (filter (λ g. not (t g)) gs)
 own_left k t [] apart = refl
 own_left k t (g ∷ gs) apart = own_at k t g gs (t g) apart (own_left k t gs apart.2)
 
 -- ---- of all keepers, where these guards of one are lowered
-pub left_of : (books : ℕ → List BookGuard) (keeper k : ℕ) (fallen : List BookGuard) (gs : List Guard) → filter (λ g. g.keeper == k) gs ≡ map (told_guard k) (books k)
+pub left_of : (books : ℕ → List BookGuard) (keeper k : ℕ) (fallen : List BookGuard) (gs : List Guard)
+    → filter (λ g. g.keeper == k) gs ≡ map (told_guard k) (books k)
     → filter (λ g. g.keeper == k) (without_all (map (told_guard keeper) fallen) gs) ≡ without_all (map (told_guard keeper) fallen) (map (told_guard k) (books k))
 left_of books keeper k fallen gs is = swapped_all (λ g. g.keeper == k) (map (told_guard keeper) fallen) gs ∙ ap (without_all (map (told_guard keeper) fallen)) is
 

@@ -19,26 +19,32 @@ use Rattle.pas_answers.specs.Answers.{Progress}
 use Rattle.pas_one_text.specs.State.{Local, World, locals_of}
 use Rattle.pas_one_text.specs.Classes.{is_for, others, gives_up, gives_up_first, makes_place}
 use Rattle.pas_same_text.specs.{Same.IsSame, Same.AreSameLocals, Acts.IsBetween}
-use Rattle.pas_same_text.proofs.{CachedSlots.found_passes, CacheLists.same_kept, GivenUp.AreUnique, GivenUp.unique_of, GivenUp.own_counted, OneUp.up_to}
-use Rattle.pas_same_text.proofs.{OneUp.up_same, Tests.and_first, Tests.and_second}
+use Rattle.pas_same_text.proofs.{CachedSlots.found_passes, CacheLists.same_kept, GivenUp.AreUnique, GivenUp.unique_of, GivenUp.no_other_counted, OneUp.up_to}
+use Rattle.pas_same_text.proofs.{OneUp.given_up_same, Tests.and_first, Tests.and_second}
 use Rattle.pas_same_text.proofs.SameLocals.{Finds, for_same, found_same, others_same}
 
 -- ---- lists of local allocators
-none_next : (heap class : ℕ) (s : Slots) (l : Local) (rest : Option Slots) (other : Option Local) (t : Bool) → is_for_slots heap class s ≡ t → is_for heap class l ≡ is_for_slots heap class s → (rest ≡ None → other ≡ None) → (if t then Some s else rest) ≡ None → (if is_for heap class l then Some l else other) ≡ None
+none_next : (heap class : ℕ) (s : Slots) (l : Local) (rest : Option Slots) (other : Option Local) (t : Bool) → is_for_slots heap class s ≡ t
+    → is_for heap class l ≡ is_for_slots heap class s → (rest ≡ None → other ≡ None) → (if t then Some s else rest) ≡ None
+    → (if is_for heap class l then Some l else other) ≡ None
 none_next heap class s l rest other true e same more none = absurd (let bad : Some s ≡ None = none in cc)
 none_next heap class s l rest other false e same more none = ap (λ (t : Bool). if t then Some l else other) (same ∙ e) ∙ more none
 
-pub none_same : (heap class : ℕ) (slots : List Slots) (ls : List Local) → AreSameLocals slots ls → local_for heap class slots ≡ None → find (is_for heap class) ls ≡ None
+-- Where the replay's cache has no local allocator of a heap and class, the text's has none.
+pub none_same : (heap class : ℕ) (slots : List Slots) (ls : List Local) → AreSameLocals slots ls → local_for heap class slots ≡ None
+    → find (is_for heap class) ls ≡ None
 none_same heap class [] [] same none = refl
 none_same heap class [] (l ∷ ls) same none = absurd same
 none_same heap class (s ∷ slots) [] same none = absurd same
 none_same heap class (s ∷ slots) (l ∷ ls) same none =
     none_next heap class s l (local_for heap class slots) (find (is_for heap class) ls) (is_for_slots heap class s) refl (for_same heap class s l same.0) (none_same heap class slots ls same.1) none
 
-all_next : (heap class : ℕ) (s : Slots) (rest : List Slots) (found : Option Slots) (t : Bool) → (found ≡ None → others_than heap class rest ≡ rest) → (if t then Some s else found) ≡ None → (if not t then s ∷ others_than heap class rest else others_than heap class rest) ≡ s ∷ rest
+all_next : (heap class : ℕ) (s : Slots) (rest : List Slots) (found : Option Slots) (t : Bool) → (found ≡ None → others_than heap class rest ≡ rest)
+    → (if t then Some s else found) ≡ None → (if not t then s ∷ others_than heap class rest else others_than heap class rest) ≡ s ∷ rest
 all_next heap class s rest found true more none = absurd (let bad : Some s ≡ None = none in cc)
 all_next heap class s rest found false more none = ap (λ (xs : List Slots). s ∷ xs) (more none)
 
+-- A cache without a local allocator of a heap and class loses nothing when those of it are left out.
 pub all_left : (heap class : ℕ) (slots : List Slots) → local_for heap class slots ≡ None → others_than heap class slots ≡ slots
 all_left heap class [] none = refl
 all_left heap class (s ∷ slots) none = all_next heap class s slots (local_for heap class slots) (is_for_slots heap class s) (all_left heap class slots) none
@@ -47,11 +53,13 @@ most_next : (s : Slots) (xs ys : List Slots) (t : Bool) → length xs ≤ length
 most_next s xs ys true le = omega (arith, le)
 most_next s xs ys false le = omega (arith, le)
 
+-- Leaving out those of a heap and class makes no list of local allocators longer.
 pub most_left : (heap class : ℕ) (slots : List Slots) → length (others_than heap class slots) ≤ length slots
 most_left heap class [] = omega arith
 most_left heap class (s ∷ slots) = most_next s (others_than heap class slots) slots (not (is_for_slots heap class s)) (most_left heap class slots)
 
-fewer_next : (heap class : ℕ) (s x : Slots) (rest : List Slots) (found : Option Slots) (t : Bool) → length (others_than heap class rest) ≤ length rest → (found ≡ Some x → length (others_than heap class rest) < length rest) → (if t then Some s else found) ≡ Some x
+fewer_next : (heap class : ℕ) (s x : Slots) (rest : List Slots) (found : Option Slots) (t : Bool) → length (others_than heap class rest) ≤ length rest
+    → (found ≡ Some x → length (others_than heap class rest) < length rest) → (if t then Some s else found) ≡ Some x
     → length (if not t then s ∷ others_than heap class rest else others_than heap class rest) < length (s ∷ rest)
 fewer_next heap class s x rest found true most more is = omega (arith, most)
 fewer_next heap class s x rest found false most more is = let lt = more is in omega (arith, lt)
@@ -67,6 +75,7 @@ known_next : (P : Slots → Type 0) (s x : Slots) (found : Option Slots) (t : Bo
 known_next P s x found true this more is = subst P (same_Some s x is) this
 known_next P s x found false this more is = more is
 
+-- What is known of all local allocators is known of the one that is found.
 pub known_found : (P : Slots → Type 0) (heap class : ℕ) (slots : List Slots) (x : Slots) → All P slots → local_for heap class slots ≡ Some x → P x
 known_found P heap class [] x all is = absurd (none_found x is)
 known_found P heap class (s ∷ slots) x all is = known_next P s x (local_for heap class slots) (is_for_slots heap class s) (All-head P s slots all) (known_found P heap class slots x (All-tail P s slots all)) is
@@ -87,7 +96,7 @@ none_counted g (s ∷ slots) none = at (covers s g) (any_covers slots g) (count_
     at false rest n more le = more (omega (arith, le))
 
 first_apart : (g : ℕ) (s : Slots) (slots : List Slots) → count_by (λ x. covers x g) (s ∷ slots) ≤ 1 → covers s g ≡ true → any_covers slots g ≡ false
-first_apart g s slots one own = none_counted g slots (own_counted (count_by (λ x. covers x g) slots) (covers s g) own (subst (λ (n : ℕ). n ≤ 1) (sum_by-cons (λ x. cond (covers x g) 1 0) s slots) one))
+first_apart g s slots one own = none_counted g slots (no_other_counted (count_by (λ x. covers x g) slots) (covers s g) own (subst (λ (n : ℕ). n ≤ 1) (sum_by-cons (λ x. cond (covers x g) 1 0) s slots) one))
 
 -- ---- what the text does
 abbrev pub placed_by : ℕ → Option Local → World → World
@@ -101,7 +110,8 @@ unmoved f k p w same = record { pages = same.pages; caches = same_kept f p.cache
 module _ (f : Profile) (k : ℕ) (p : Progress) (w : World) (valid : IsValid f) (thread : IsThread f k) (listed : k ≤ length w.caches) (before : IsBetween f p)
     (same : IsSame f p w) where
   -- ---- the oldest goes where the cache is full
-  oldest_gone : (slots : List Slots) (ls : List Local) (fewer : List Slots) (steps : List Made) → (p.caches k).locals ≡ slots → locals_of w k ≡ ls → AreSameLocals slots ls → (t : Bool) → nat_le 32 (length slots) ≡ t → StopsFirst t slots fewer steps → Only releasing steps
+  oldest_gone : (slots : List Slots) (ls : List Local) (fewer : List Slots) (steps : List Made) → (p.caches k).locals ≡ slots → locals_of w k ≡ ls
+      → AreSameLocals slots ls → (t : Bool) → nat_le 32 (length slots) ≡ t → StopsFirst t slots fewer steps → Only releasing steps
       → IsBetween f (up_to p k steps fewer) → IsSame f (up_to p k steps fewer) (gives_up_first k ls w)
   oldest_gone [] [] fewer steps own text locals t full h kinds after =
       subst (λ (xs : List Slots). IsSame f (up_to p k steps xs) w) (own ∙ sym h.0) (subst (λ (ms : List Made). IsSame f (up_to p k ms (p.caches k).locals) w) (sym h.1) (unmoved f k p w same))
@@ -117,7 +127,7 @@ module _ (f : Profile) (k : ℕ) (p : Progress) (w : World) (valid : IsValid f) 
       let unique : AreUnique (l ∷ ls) = unique_of (s ∷ slots) (l ∷ ls) locals (subst (λ (xs : List Slots). (heap class : ℕ) → count_by (is_for_slots heap class) xs ≤ 1) own rest.apart.one_each) in
       let of_own : is_for l.heap l.class l ≡ true = ap (λ (u : Bool). u && (l.class == l.class)) (eq-eqb l.heap l.heap refl) ∙ eq-eqb l.class l.class refl in
       let left : others l.heap l.class (l ∷ ls) ≡ ls = ap (λ (u : Bool). if not u then l ∷ others l.heap l.class ls else others l.heap l.class ls) of_own ∙ unique.0 in
-      subst (λ (x : World). IsSame f (up_to p k steps fewer) x) (sym (ap (λ (u : Bool). if u then gives_up k l w else w) test)) (up_same f k p w s l fewer steps record {
+      subst (λ (x : World). IsSame f (up_to p k steps fewer) x) (sym (ap (λ (u : Bool). if u then gives_up k l w else w) test)) (given_up_same f k p w s l fewer steps record {
         valid = valid;
         thread = thread;
         listed = listed;
@@ -162,7 +172,8 @@ module _ (f : Profile) (k heap class : ℕ) (p : Progress) (w : World) (fewer : 
       (nat_le 32 (length c.locals)) refl stops (subst (Only releasing) is kinds) (subst (λ (ms : List Made). IsBetween f (up_to p k ms fewer)) is after))
 
   -- ---- there is one, which is spent
-  module _ (s : Slots) (is : local_for heap class c.locals ≡ Some s) (empty : IsEmpty s.starts) (leaves : LeavesWhere s.right s.page (home_of s) place.spent) where
+  module _ (s : Slots) (is : local_for heap class c.locals ≡ Some s) (empty : IsEmpty s.starts) (leaves : LeavesWhere s.right s.page (home_of s) place.spent)
+      where
     found : Finds s found_text
     found = found_same heap class c.locals (locals_of w k) s both_same is
 
@@ -212,7 +223,7 @@ module _ (f : Profile) (k heap class : ℕ) (p : Progress) (w : World) (fewer : 
     class_is = found.same.class ∙ of_class
 
     spent_gone : IsSame f (up_to p k steps fewer) (placed_by k found_text w)
-    spent_gone = subst (λ (x : Option Local). IsSame f (up_to p k steps fewer) (placed_by k x w)) (sym found.is) (up_same f k p w s found.local fewer steps record {
+    spent_gone = subst (λ (x : Option Local). IsSame f (up_to p k steps fewer) (placed_by k x w)) (sym found.is) (given_up_same f k p w s found.local fewer steps record {
       valid = valid;
       thread = thread;
       listed = listed;
@@ -233,5 +244,6 @@ module _ (f : Profile) (k heap class : ℕ) (p : Progress) (w : World) (fewer : 
   by_found : (x : Option Slots) → local_for heap class c.locals ≡ x → LeavesSpent x place.spent → IsSame f (up_to p k steps fewer) (placed_by k found_text w)
   by_found x is h = search (arith, none_gone, spent_gone)
 
+  -- Place that was made in a cache leads the text to the replay's state.
   pub place_made : IsSame f (up_to p k steps fewer) (placed_by k found_text w)
   place_made = by_found (local_for heap class c.locals) refl place.taken.left

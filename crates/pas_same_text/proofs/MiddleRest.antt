@@ -39,6 +39,7 @@ thread_book f c (g ∷ gs) v resting rest = absurd (elim resting.locals.one_kind
 rests_now : (f : Profile) (c c' : Cached) (gs : List Guard) (v v' : View) → IsResting f c gs v → AtRest f c v → AtRest f c' v' → IsResting f c' gs v'
 rests_now f c c' gs v v' resting rest now = subst (λ (xs : List Guard). IsResting f c' xs v') (sym (thread_book f c gs v resting rest)) (thread_rests f c' v' now)
 
+-- An actor that was at rest with its cache alone is so with the cache that it rests with later.
 pub at_rest_now : (f : Profile) (c c' : Cached) (gs : List Guard) (v v' : View) → IsResting f c gs v → AtRest f c v → IsResting f c' gs v' → AtRest f c' v'
 at_rest_now f c c' gs v v' resting rest now = thread_at_rest f c' v' (subst (λ (xs : List Guard). IsResting f c' xs v') (thread_book f c gs v resting rest) now)
 
@@ -47,7 +48,8 @@ pub cached_again : (caches : Caches) (k : ℕ) (c d : Cached) → with_cached (w
 cached_again caches k c d = λ i j. again_at caches j k c d (j == k) i
 
 -- ==== THREAD k went on by these steps, and rests with this cache then
-module _ (f : Profile) (p : Progress) (k : ℕ) (c' : Cached) (xs : List Made) (valid : IsValid f) (thread : IsThread f k) (before : IsBetween f p) (rest : AtRest f (p.caches k) (part k p.list)) (legal : Legal f (triples k xs ++ p.list)) (now : AtRest f c' (part k (triples k xs ++ p.list))) where
+module _ (f : Profile) (p : Progress) (k : ℕ) (c' : Cached) (xs : List Made) (valid : IsValid f) (thread : IsThread f k) (before : IsBetween f p)
+    (rest : AtRest f (p.caches k) (part k p.list)) (legal : Legal f (triples k xs ++ p.list)) (now : AtRest f c' (part k (triples k xs ++ p.list))) where
   abbrev l : Whole
   l = triples k xs ++ p.list
 
@@ -64,6 +66,7 @@ module _ (f : Profile) (p : Progress) (k : ℕ) (c' : Cached) (xs : List Made) (
       absurd (false≢true (sym (ap (λ (gs : List Guard). is_outer gs page) (subst (λ (i : ℕ). p.books i ≡ []) (eqb-true k j e) none)) ∙ outer))
   still_bare j page outer false e = others_bare f p k j page xs valid before legal e outer
 
+  -- Where a thread rests with another cache in the middle of its act, all actors rest.
   pub middle_rest : AreResting f (with_cached p.caches k c') p.books l
   middle_rest = record {
     working = λ j is. working j is (j == k) refl;

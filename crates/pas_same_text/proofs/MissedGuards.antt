@@ -43,13 +43,16 @@ older_listed s a q ps h = h
 newest_listed : (s : Step) (a q : ℕ) (e : Directory) (ps : List ℕ) → s ≡ Deed q e → a ≡ 0 → has_number (with_deed s a ps) q ≡ true
 newest_listed s a q e ps is zero = search (arith, eq-eqb, or_left)
 
-pub made_listed : (d : Directory) (mine : ℕ → Bool) (xs : List Made) → MadeOf d xs → ((q : ℕ) → has_number (deeded xs) q ≡ true → mine q ≡ true) → DeedsOn d mine xs
+-- Deeds of one directory whose pages are all of a set are deeds on that set.
+pub made_listed : (d : Directory) (mine : ℕ → Bool) (xs : List Made) → MadeOf d xs → ((q : ℕ) → has_number (deeded xs) q ≡ true → mine q ≡ true)
+    → DeedsOn d mine xs
 made_listed d mine [] made sub = tt
 made_listed d mine (m ∷ xs) made sub = (
   λ page e is zero. (made.0 page e is zero, sub page (newest_listed m.step m.answer page e (deeded xs) is zero)),
   made_listed d mine xs made.1 (λ q h. sub q (older_listed m.step m.answer q (deeded xs) h)),
 )
 
+-- What is so of all numbers of a list is so of each that it has.
 pub all_listed : (P : ℕ → Type 0) (qs : List ℕ) (q : ℕ) → AllByRecursion P qs → has_number qs q ≡ true → P q
 all_listed P [] q all h = absurd (false≢true h)
 all_listed P (x ∷ qs) q all h = elim (or_cases (x == q) (has_number qs q) h) [ inl here ↦ subst P (eqb-true x q here) all.0 | inr later ↦ all_listed P qs q all.1 later ]
@@ -59,18 +62,22 @@ pub deed_listed : (k : ℕ) (d : Directory) (q : ℕ) (qs : List ℕ) (es : List
 deed_listed k d q [] es h = absurd (false≢true h)
 deed_listed k d q (x ∷ qs) es h = at (x == q) h (deed_listed k d q qs es)
   where
-    at : (t : Bool) → (t || has_number qs q) ≡ true → (has_number qs q ≡ true → deed_in (deeds_of k d qs ++ es) q ≡ Some d) → (if t then Some d else deed_in (deeds_of k d qs ++ es) q) ≡ Some d
+    at : (t : Bool) → (t || has_number qs q) ≡ true → (has_number qs q ≡ true → deed_in (deeds_of k d qs ++ es) q ≡ Some d)
+        → (if t then Some d else deed_in (deeds_of k d qs ++ es) q) ≡ Some d
     at true h rest = refl
     at false h rest = rest h
 
+-- Deeds of other pages leave the deed of a page as it was.
 pub deed_unlisted : (k : ℕ) (d : Directory) (q : ℕ) (qs : List ℕ) (es : List Event) → has_number qs q ≡ false → deed_in (deeds_of k d qs ++ es) q ≡ deed_in es q
 deed_unlisted k d q [] es h = refl
 deed_unlisted k d q (x ∷ qs) es h = at (x == q) h (deed_unlisted k d q qs es)
   where
-    at : (t : Bool) → (t || has_number qs q) ≡ false → (has_number qs q ≡ false → deed_in (deeds_of k d qs ++ es) q ≡ deed_in es q) → (if t then Some d else deed_in (deeds_of k d qs ++ es) q) ≡ deed_in es q
+    at : (t : Bool) → (t || has_number qs q) ≡ false → (has_number qs q ≡ false → deed_in (deeds_of k d qs ++ es) q ≡ deed_in es q)
+        → (if t then Some d else deed_in (deeds_of k d qs ++ es) q) ≡ deed_in es q
     at true h rest = absurd (true≢false h)
     at false h rest = rest h
 
+-- Deeds leave the live block at each address as it was.
 pub live_listed : (k : ℕ) (d : Directory) (address : ℕ) (qs : List ℕ) (es : List Event) → live_in (deeds_of k d qs ++ es) address ≡ live_in es address
 live_listed k d address [] es = refl
 live_listed k d address (x ∷ qs) es = live_listed k d address qs es
@@ -82,7 +89,9 @@ pub record IsLeftFree (f : Profile) (p q : Progress) (page : ℕ) : Type 0 where
   pub outer : (j : ℕ) → is_outer (q.books j) page ≡ true → is_outer (p.books j) page ≡ true
   pub covered : (a : ℕ) (b : Live) → live_in (visible q.list) a ≡ Some b → IsPartOf (256 * page + 0) a b → live_in (visible p.list) a ≡ Some b
 
-module _ (f : Profile) (p q : Progress) (w v : World) (d : Directory) (valid : IsValid f) (between : IsBetween f p) (there : IsBetween f q) (now : HasSame f q v) (page : ℕ) (left : IsLeftFree f p q page) (free_before : free_bit p.list (256 * page + 0) ≡ true) (has_room : usable_by_kind d.kind 0 ≡ true)
+module _ (f : Profile) (p q : Progress) (w v : World) (d : Directory) (valid : IsValid f) (between : IsBetween f p) (there : IsBetween f q)
+    (now : HasSame f q v) (page : ℕ) (left : IsLeftFree f p q page) (free_before : free_bit p.list (256 * page + 0) ≡ true)
+    (has_room : usable_by_kind d.kind 0 ≡ true)
     (deed : deed_in v.events page ≡ Some d) where
   abbrev g : ℕ
   g = 256 * page + 0
@@ -102,6 +111,7 @@ module _ (f : Profile) (p q : Progress) (w v : World) (d : Directory) (valid : I
   free_now : free_bit q.list g ≡ true
   free_now = free_left f q.list valid there.legal g nobody (λ a b lives of. free_uncovered f p.list valid between.legal g free_before a b (left.covered a b lives of) of)
 
+  -- A page that got its deed and came into nobody's hands is offered in the text where its bit is set.
   pub left_offered : (e : Directory) → IsDirectoryOf f e → eligible_bit q.list (number_of e) page ≡ true → is_offered v e page ≡ true
   left_offered e of_e bit =
       let tells = bit_tells f q v valid there now page e of_e (right_in_one_place f q.list there.legal page) bit in
@@ -109,7 +119,8 @@ module _ (f : Profile) (p q : Progress) (w v : World) (d : Directory) (valid : I
       bit_offered f q v valid there now page e of_e bit (open_from f q v valid there now e page 0 (omega arith) (ap (λ (x : Directory). usable_by_kind x.kind 0) same ∙ has_room) free_now)
 
 -- ==== THE SEARCH THAT FOUND NONE
-module _ (f : Profile) (k heap n : ℕ) (p q : Progress) (w : World) (valid : IsValid f) (between : IsBetween f p) (same : IsSame f p w) (of : IsDirectoryOf f (large_of heap)) (xs : List Made) (legal : Legal f (triples k xs ++ p.list)) (kinds : Only seeking xs) (rise : DeedsRise xs)
+module _ (f : Profile) (k heap n : ℕ) (p q : Progress) (w : World) (valid : IsValid f) (between : IsBetween f p) (same : IsSame f p w)
+    (of : IsDirectoryOf f (large_of heap)) (xs : List Made) (legal : Legal f (triples k xs ++ p.list)) (kinds : Only seeking xs) (rise : DeedsRise xs)
     (due : Always ReturnsDuly xs) (met : MayFind (large_of heap) (part k p.list)) (found : SoughtNone f (large_of heap) n xs) (there : IsBetween f q) (list : q.list ≡ triples k xs ++ p.list) (caches : q.caches ≡ p.caches) (books : q.books ≡ p.books) (names : q.names ≡ p.names)
     (records : q.records ≡ p.records ++ records_of (events_by k (part k p.list) xs)) (epoch : q.epoch ≡ p.epoch) where
   abbrev l : Whole
@@ -183,6 +194,7 @@ module _ (f : Profile) (k heap n : ℕ) (p q : Progress) (w : World) (valid : Is
     own = own_offer;
   }
 
+  -- Where a keeper's search found no run, the text with the deeds that it made is the replay's state.
   pub missed_same : IsSame f q v
   missed_same = record {
     pages = search (arith, run_hints, run_to, run_offers);

@@ -19,7 +19,8 @@ use Rattle.pas_same_text.proofs.{Seats.thread_of, Seats.keeper_of}
 use Rattle.pas_same_text.proofs.SmallActs.{phase_same, close_same, wake_same, reading_same, tick_same, settling_same}
 
 -- ---- a request, by its route
-by_route : (f : Profile) (k : ℕ) (r : Request) (p : Progress) (a : Answer) (w : World) (route : Route) → route_in f r.size r.align ≡ route → IsAsked f k r p a w → AnswersSame f k r p a w
+by_route : (f : Profile) (k : ℕ) (r : Request) (p : Progress) (a : Answer) (w : World) (route : Route) → route_in f r.size r.align ≡ route → IsAsked f k r p a w
+    → AnswersSame f k r p a w
 by_route f k r p a w (Route.Class class) e asked =
     class_answered f k r.name r.heap r.size r.align class p (after_answer p k a) w asked.thread asked.listed asked.admitted e asked.valid asked.before
     asked.after asked.same a asked.served refl
@@ -28,11 +29,13 @@ by_route f k r p a w Route.Bitfit e asked =
 by_route f k r p a w Route.Large e asked =
     pages_answered f k r.name r.heap r.size r.align p (after_answer p k a) w asked.thread asked.admitted e asked.valid asked.before asked.after asked.same a asked.served refl (named_large f r w.indexes a.found e asked.named)
 
+-- A request of any route leads the text to the replay's state.
 pub request_same : (f : Profile) (k : ℕ) (r : Request) → RequestStaysSame f k r
 request_same f k r p a w asked = by_route f k r p a w (route_in f r.size r.align) refl asked
 
 -- ---- an operation, whose act is known of
-module _ (threads : ℕ) (f : Profile) (line k : ℕ) (what : What) (p p' : Progress) (w : World) (indexes : Indexes) (known : IsKnown threads f (Act.Operates (record { line = line; actor = k; what = what })) p p' w indexes) where
+module _ (threads : ℕ) (f : Profile) (line k : ℕ) (what : What) (p p' : Progress) (w : World) (indexes : Indexes)
+    (known : IsKnown threads f (Act.Operates (record { line = line; actor = k; what = what })) p p' w indexes) where
   thread : IsThread f k
   thread = thread_of threads f k known.planned.0 known.seated.few
 
@@ -49,7 +52,8 @@ module _ (threads : ℕ) (f : Profile) (line k : ℕ) (what : What) (p p' : Prog
   named_in_text r found named = subst (λ (ix : Indexes). IsNamedBy f ix (Some r) found) (sym known.indexes_are) named
 
   -- one that is a request
-  asked : (r : Request) → IsAdmitted f r.size r.align r.heap → IsServed f k r (having p.names (part k p.list) (p.caches k)) a → IsNamedBy f indexes (Some r) a.found → AnswersSame f k r p a w
+  asked : (r : Request) → IsAdmitted f r.size r.align r.heap → IsServed f k r (having p.names (part k p.list) (p.caches k)) a
+      → IsNamedBy f indexes (Some r) a.found → AnswersSame f k r p a w
   asked r admitted served named = request_same f k r p a w record {
     valid = known.taken.valid;
     thread = thread;
@@ -63,8 +67,10 @@ module _ (threads : ℕ) (f : Profile) (line k : ℕ) (what : What) (p p' : Prog
   }
 
   -- a reallocation. A block that is replaced is of some heap of the region
-  remade : (name old heap size align : ℕ) (meant : Option (Option Block)) → IsAdmitted f size align heap → IsRemadeBy f k name size align meant (having p.names (part k p.list) (p.caches k)) a
-      → IsNamedBy f indexes (request_made (What.Remake name old heap size align) (block_behind meant)) a.found → IsSame f p' (remakes f k name size align meant w)
+  remade : (name old heap size align : ℕ) (meant : Option (Option Block)) → IsAdmitted f size align heap
+      → IsRemadeBy f k name size align meant (having p.names (part k p.list) (p.caches k)) a
+      → IsNamedBy f indexes (request_made (What.Remake name old heap size align) (block_behind meant)) a.found
+      → IsSame f p' (remakes f k name size align meant w)
   remade name old heap size align None admitted is named = absurd is
   remade name old heap size align (Some None) admitted is named = remakes_idly f k name size align (Some None) p p' w a tt known.taken.same reached is
   remade name old heap size align (Some (Some block)) admitted (inl kept) named = remakes_idly f k name size align (Some (Some block)) p p' w a kept.suited known.taken.same reached (inl kept)

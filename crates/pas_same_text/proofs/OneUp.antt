@@ -51,7 +51,8 @@ pub record IsStopped (f : Profile) (k : ℕ) (p : Progress) (w : World) (s : Slo
   pub gone : (g : ℕ) → covers s g ≡ true → any_covers fewer g ≡ false
   pub after : IsBetween f (up_to p k steps fewer)
 
-module _ (f : Profile) (k : ℕ) (p : Progress) (w : World) (s : Slots) (l : Local) (fewer : List Slots) (steps : List Made) (o : IsStopped f k p w s l fewer steps) where
+module _ (f : Profile) (k : ℕ) (p : Progress) (w : World) (s : Slots) (l : Local) (fewer : List Slots) (steps : List Made)
+    (o : IsStopped f k p w s l fewer steps) where
   abbrev c : Cached
   c = p.caches k
 
@@ -96,7 +97,8 @@ module _ (f : Profile) (k : ℕ) (p : Progress) (w : World) (s : Slots) (l : Loc
   }
 
   -- ---- a grain of it is held by nobody then
-  cached_before : (j g : ℕ) (t : Bool) → (j == k) ≡ t → any_covers (if t then c1 else p.caches j).locals g ≡ true → covers s g ≡ true → ((j == k) ≡ false) × (any_covers (p.caches j).locals g ≡ true)
+  cached_before : (j g : ℕ) (t : Bool) → (j == k) ≡ t → any_covers (if t then c1 else p.caches j).locals g ≡ true → covers s g ≡ true
+      → ((j == k) ≡ false) × (any_covers (p.caches j).locals g ≡ true)
   cached_before j g t e held own = search (arith, false≢true)
 
   nobody : (j g : ℕ) → covers s g ≡ true → holds (part j p1.list) g ≡ true → ⊥
@@ -139,8 +141,9 @@ module _ (f : Profile) (k : ℕ) (p : Progress) (w : World) (s : Slots) (l : Loc
     guarded = λ q none. still_unguarded w v q (same_guards w v (given_up_keeps k l w)) none;
   }
 
-  pub up_same : IsSame f p1 v
-  up_same = record {
+  -- The text in which a stopped local allocator is given up is the replay's state after the stop.
+  pub given_up_same : IsSame f p1 v
+  given_up_same = record {
     pages = given_pages f k p.list p1 w v steps o.valid o.same.pages refl o.after has given;
     caches = has.caches;
     guards = has.guards;

@@ -33,14 +33,17 @@ module _ (books : Books) (w : World) (same : AreSameGuards books w.guards) where
       let own : list_any (has_outer page) (filter (λ g. g.keeper == o.0) w.guards) ≡ true = filtered_any (has_outer page) (λ g. g.keeper == o.0) w.guards o.1 in
       (o.0, sym (told_outer o.0 page (books o.0)) ∙ (ap (list_any (has_outer page)) (sym (same.each o.0)) ∙ own))
 
+  -- An outer page of a keeper's book is guarded in the text.
   pub outer_guarded : (k page : ℕ) → is_outer (books k) page ≡ true → is_guarded w page ≡ true
   outer_guarded k page h =
       any_weaker (λ g. (g.keeper == k) && has_outer page g) (has_outer page) w.guards (λ g both. and_second (g.keeper == k) (has_outer page g) both)
       (any_filtered (has_outer page) (λ g. g.keeper == k) w.guards (ap (list_any (has_outer page)) (same.each k) ∙ (told_outer k page (books k) ∙ h)))
 
+  -- An unguarded page of the text is no outer page of any book.
   pub not_outer : (k page : ℕ) → is_guarded w page ≡ false → is_outer (books k) page ≡ false
   not_outer k page none = false_from_ne_true (is_outer (books k) page) (λ h. false≢true (sym none ∙ outer_guarded k page h))
 
+  -- A page that is an outer one of no book is unguarded in the text.
   pub unguarded_by : (page : ℕ) → ((k : ℕ) → is_outer (books k) page ≡ false) → is_guarded w page ≡ false
   unguarded_by page none = false_from_ne_true (is_guarded w page) (λ h. let o = guarded_by page h in false≢true (sym (none o.0) ∙ o.1))
 
@@ -48,8 +51,10 @@ module _ (books : Books) (w : World) (same : AreSameGuards books w.guards) where
 pub guards_as : (books : Books) (w v : World) → v.guards ≡ w.guards → AreSameGuards books w.guards → AreSameGuards books v.guards
 guards_as books w v is same = subst (AreSameGuards books) (sym is) same
 
+-- With the same guards up, the same pages are guarded.
 pub guarded_as : (w v : World) (page : ℕ) → v.guards ≡ w.guards → is_guarded v page ≡ is_guarded w page
 guarded_as w v page is = ap (λ (gs : List Guard). list_any (has_outer page) gs) is
 
+-- With the same guards up, an unguarded page stays so.
 pub still_unguarded : (w v : World) (page : ℕ) → v.guards ≡ w.guards → is_guarded w page ≡ false → is_guarded v page ≡ false
 still_unguarded w v page is none = guarded_as w v page is ∙ none

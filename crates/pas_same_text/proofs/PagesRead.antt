@@ -27,20 +27,23 @@ use Rattle.pas_large.specs.Telling.{IsWholePage, IsUsablePage}
 use Rattle.pas_large.proofs.Outcomes.{MadeOf}
 use Rattle.pas_large.proofs.Told.{eligible_told, free_told, grain_bit, of_page, usable_free, clean_fresh, usable_clean, nowhere_else, none_read, lost_never}
 use Rattle.pas_same_text.specs.Words.{free_bit}
-use Rattle.pas_same_text.proofs.{GivingBack.offer_one, SearchMarks.stays_used, SearchMarks.stays_free}
+use Rattle.pas_same_text.proofs.{GivingBack.offer_one, SearchMarks.stays_used, SearchMarks.free_or_held}
 
 -- ---- what readings tell of words
 -- a bit of a free word as it was read
-bit_read : (l : Whole) (p word b : ℕ) (s : Step) (a : ℕ) → word < 4 → b < 64 → ReadsFree p word s → a ≡ word_after l (target s) → has_bit a b ≡ free_bit l (p * 256 + (64 * word + b))
+bit_read : (l : Whole) (p word b : ℕ) (s : Step) (a : ℕ) → word < 4 → b < 64 → ReadsFree p word s → a ≡ word_after l (target s)
+    → has_bit a b ≡ free_bit l (p * 256 + (64 * word + b))
 bit_read l p word b s a small lt reads is = ap (λ (n : ℕ). has_bit n b) (free_told l p word s a reads is) ∙ (grain_bit l p word b small lt ∙ of_page l p (64 * word + b))
 
 -- ---- DEEDS while one actor goes on
-deed_later : (k : ℕ) (l : Whole) (p : ℕ) (xs : List Made) → word_after l (Word.Deed p) ≢ 0 → word_after (triples k xs ++ l) (Word.Deed p) ≡ word_after l (Word.Deed p)
+deed_later : (k : ℕ) (l : Whole) (p : ℕ) (xs : List Made) → word_after l (Word.Deed p) ≢ 0
+    → word_after (triples k xs ++ l) (Word.Deed p) ≡ word_after l (Word.Deed p)
 deed_later k l p [] some = refl
 deed_later k l p (m ∷ xs) some = let e = deed_later k l p xs some in deed_kept (triples k xs ++ l) (triple k m) p (λ none. some (sym e ∙ none)) ∙ e
 
 -- where there is a deed none is made
-never_made : (f : Profile) (k : ℕ) (l : Whole) (p : ℕ) (xs : List Made) → Legal f (triples k xs ++ l) → word_after l (Word.Deed p) ≢ 0 → Always (MakesNoDeedHere p) xs
+never_made : (f : Profile) (k : ℕ) (l : Whole) (p : ℕ) (xs : List Made) → Legal f (triples k xs ++ l) → word_after l (Word.Deed p) ≢ 0
+    → Always (MakesNoDeedHere p) xs
 never_made f k l p [] legal some = tt
 never_made f k l p (m ∷ xs) legal some = (
   λ d is zero. some (sym (deed_later k l p xs some) ∙ (sym (legal.0.answer_is ∙ ap (λ (s : Step). word_after (triples k xs ++ l) (target s)) is) ∙ zero)),
@@ -49,17 +52,23 @@ never_made f k l p (m ∷ xs) legal some = (
 
 module _ (f : Profile) (k : ℕ) (l : Whole) (d : Directory) (p : ℕ) where
   -- a page without one gets none but of the directory, where no other is made
-  step_own : (w : Whole) (e : ℕ) (s : Step) (a : ℕ) → a ≡ word_after w (target s) → ((q : ℕ) (x : Directory) → s ≡ Deed q x → a ≡ 0 → x ≡ d) → word_after w (Word.Deed p) ≡ 0
-      → ((if same_word (target s) (Word.Deed p) then new_value e s (word_after w (Word.Deed p)) else word_after w (Word.Deed p)) ≡ 0) ⊎ ((if same_word (target s) (Word.Deed p) then new_value e s (word_after w (Word.Deed p)) else word_after w (Word.Deed p)) ≡ deed_word_of d)
+  step_own : (w : Whole) (e : ℕ) (s : Step) (a : ℕ) → a ≡ word_after w (target s) → ((q : ℕ) (x : Directory) → s ≡ Deed q x → a ≡ 0 → x ≡ d)
+      → word_after w (Word.Deed p) ≡ 0
+      → ((if same_word (target s) (Word.Deed p) then new_value e s (word_after w (Word.Deed p)) else word_after w (Word.Deed p)) ≡ 0)
+        ⊎ ((if same_word (target s) (Word.Deed p) then new_value e s (word_after w (Word.Deed p)) else word_after w (Word.Deed p)) ≡ deed_word_of d)
   step_own w e (Look x) a is made none = inl (looked (same_word x (Word.Deed p)) (word_after w (Word.Deed p)) ∙ none)
   step_own w e (Deed q x) a is made none = by_page (q == p) refl
     where
-      by_page : (t : Bool) → (q == p) ≡ t → ((if t then (if word_after w (Word.Deed p) == 0 then deed_word_of x else word_after w (Word.Deed p)) else word_after w (Word.Deed p)) ≡ 0) ⊎ ((if t then (if word_after w (Word.Deed p) == 0 then deed_word_of x else word_after w (Word.Deed p)) else word_after w (Word.Deed p)) ≡ deed_word_of d)
+      by_page : (t : Bool) → (q == p) ≡ t
+          → ((if t then (if word_after w (Word.Deed p) == 0 then deed_word_of x else word_after w (Word.Deed p)) else word_after w (Word.Deed p)) ≡ 0)
+            ⊎ ((if t then (if word_after w (Word.Deed p) == 0 then deed_word_of x else word_after w (Word.Deed p)) else word_after w (Word.Deed p))
+                ≡ deed_word_of d)
       by_page true at = inr (ap (λ (z : Bool). if z then deed_word_of x else word_after w (Word.Deed p)) (eq-eqb (word_after w (Word.Deed p)) 0 none) ∙ ap deed_word_of (made q x refl (is ∙ (ap (λ (y : ℕ). word_after w (Word.Deed y)) (eqb-true q p at) ∙ none))))
       by_page false at = inl none
   step_own w e s a is made none = inl none
 
-  deed_own : (xs : List Made) → Legal f (triples k xs ++ l) → MadeOf d xs → word_after l (Word.Deed p) ≡ 0 → (word_after (triples k xs ++ l) (Word.Deed p) ≡ 0) ⊎ (word_after (triples k xs ++ l) (Word.Deed p) ≡ deed_word_of d)
+  deed_own : (xs : List Made) → Legal f (triples k xs ++ l) → MadeOf d xs → word_after l (Word.Deed p) ≡ 0
+      → (word_after (triples k xs ++ l) (Word.Deed p) ≡ 0) ⊎ (word_after (triples k xs ++ l) (Word.Deed p) ≡ deed_word_of d)
   deed_own [] legal made none = inl none
   deed_own (m ∷ xs) legal made none = elim (deed_own xs legal.1 made.1 none) [
     | inl still ↦ step_own (triples k xs ++ l) (epoch_of (part k (triples k xs ++ l))) m.step m.answer legal.0.answer_is made.0 still
@@ -75,14 +84,18 @@ module _ (f : Profile) (k : ℕ) (l : Whole) (d : Directory) (p : ℕ) where
       deed_kept (triples k xs ++ l) (triple k m) p (λ none. deed_word_of-positive d (sym now ∙ none)) ∙ now
 
   -- ---- OFFERS: a page whose deed the search doesn't make, and that is offered or was got, was offered before
-  got_by : (w : Whole) (s : Step) (a : ℕ) → a ≡ word_after w (target s) → ((x : Directory) → s ≡ Deed p x → a ≡ 0 → ⊥) → GetsRight p s a → (n : ℕ) × (eligible_bit w n p ≡ true)
+  got_by : (w : Whole) (s : Step) (a : ℕ) → a ≡ word_after w (target s) → ((x : Directory) → s ≡ Deed p x → a ≡ 0 → ⊥) → GetsRight p s a
+      → (n : ℕ) × (eligible_bit w n p ≡ true)
   got_by w s a answer never (GetsRight.Claims x b set) = (number_of x, ap (λ (n : ℕ). has_bit n (p % 64)) (sym answer) ∙ set)
   got_by w s a answer never (GetsRight.Deeds x b zero) = absurd (never x refl zero)
 
-  pub offered_then : (xs : List Made) → Legal f (triples k xs ++ l) → Always ReturnsDuly xs → Always (MakesNoDeedHere p) xs → (Once (GetsHere p) xs → (n : ℕ) × (eligible_bit l n p ≡ true)) × ((m : ℕ) → eligible_bit (triples k xs ++ l) m p ≡ true → (n : ℕ) × (eligible_bit l n p ≡ true))
-  offered_then [] legal due never = (λ got. absurd got, λ n bit. (n, bit))
-  offered_then (m ∷ xs) legal due never =
-      let before = offered_then xs legal.1 due.1 never.1 in (
+  -- A page without a deed made here was offered before the search if the search got it, or if it is offered afterwards.
+  pub was_offered_before : (xs : List Made) → Legal f (triples k xs ++ l) → Always ReturnsDuly xs → Always (MakesNoDeedHere p) xs
+      → (Once (GetsHere p) xs → (n : ℕ) × (eligible_bit l n p ≡ true))
+        × ((m : ℕ) → eligible_bit (triples k xs ++ l) m p ≡ true → (n : ℕ) × (eligible_bit l n p ≡ true))
+  was_offered_before [] legal due never = (λ got. absurd got, λ n bit. (n, bit))
+  was_offered_before (m ∷ xs) legal due never =
+      let before = was_offered_before xs legal.1 due.1 never.1 in (
         search (arith, got_by),
         λ n bit. elim (offer_one (epoch_of (part k (triples k xs ++ l))) m.step n p (word_after (triples k xs ++ l) (Word.Eligible n (p / 64))) bit) [
           | inl was ↦ before.1 n was
@@ -91,16 +104,19 @@ module _ (f : Profile) (k : ℕ) (l : Whole) (d : Directory) (p : ℕ) where
       )
 
   -- the bit is that of the page's directory
-  own_number : (n : ℕ) → Legal f l → IsKind d.kind → word_after l (Word.Deed p) ≡ deed_word_of d → eligible_bit l n p ≡ true → eligible_bit l (number_of d) p ≡ true
+  own_number : (n : ℕ) → Legal f l → IsKind d.kind → word_after l (Word.Deed p) ≡ deed_word_of d → eligible_bit l n p ≡ true
+      → eligible_bit l (number_of d) p ≡ true
   own_number n legal kind deed bit = ap (λ (i : ℕ). eligible_bit l i p) (number_told d n kind (sym deed ∙ offered_has_deed f l legal n p bit)) ∙ bit
 
-  one_read : (xs : List Made) → Legal f (triples k xs ++ l) → Always ReturnsDuly xs → Always (MakesNoDeedHere p) xs → Once (OneHere d p) xs → (n : ℕ) × (eligible_bit l n p ≡ true)
+  one_read : (xs : List Made) → Legal f (triples k xs ++ l) → Always ReturnsDuly xs → Always (MakesNoDeedHere p) xs → Once (OneHere d p) xs
+      → (n : ℕ) × (eligible_bit l n p ≡ true)
   one_read [] legal due never h = absurd h
-  one_read (m ∷ xs) legal due never (inl h) = (offered_then xs legal.1 due.1 never.1).1 (number_of d) (sym (eligible_told (triples k xs ++ l) d p m.step m.answer h.0 legal.0.answer_is) ∙ h.1)
+  one_read (m ∷ xs) legal due never (inl h) = (was_offered_before xs legal.1 due.1 never.1).1 (number_of d) (sym (eligible_told (triples k xs ++ l) d p m.step m.answer h.0 legal.0.answer_is) ∙ h.1)
   one_read (m ∷ xs) legal due never (inr h) = one_read xs legal.1 due.1 never.1 h
 
   -- ---- GRAINS: what was read as free was so
-  whole_read : (word b : ℕ) → word < 4 → b < 64 → (xs : List Made) → Legal f (triples k xs ++ l) → LendsNone xs → Always ReturnsDuly xs → Once (WholeHere p word) xs → free_bit l (p * 256 + (64 * word + b)) ≡ true
+  whole_read : (word b : ℕ) → word < 4 → b < 64 → (xs : List Made) → Legal f (triples k xs ++ l) → LendsNone xs → Always ReturnsDuly xs
+      → Once (WholeHere p word) xs → free_bit l (p * 256 + (64 * word + b)) ≡ true
   whole_read word b small lt [] legal lends due h = absurd h
   whole_read word b small lt (m ∷ xs) legal lends due (inr h) = whole_read word b small lt xs legal.1 lends.1 due.1 h
   whole_read word b small lt (m ∷ xs) legal lends due (inl h) = by_bit (free_bit l (p * 256 + (64 * word + b))) refl
@@ -113,7 +129,8 @@ module _ (f : Profile) (k : ℕ) (l : Whole) (d : Directory) (p : ℕ) where
       by_bit false is = let used = stays_used f k l (p * 256 + (64 * word + b)) xs legal.1 lends.1 due.1 is in absurd (false≢true (sym (or_from (has_bit m.answer b) (holds xs (p * 256 + (64 * word + b))) (bit ∙ used.0) used.1) ∙ h.1 b lt))
 
   -- A PAGE THAT WAS READ AS USABLE was so before the search
-  pub usable_was : (xs : List Made) → IsKind d.kind → Legal f (triples k xs ++ l) → LendsNone xs → Always ReturnsDuly xs → ReadUsable d p xs → IsUsablePage d l p
+  pub usable_was : (xs : List Made) → IsKind d.kind → Legal f (triples k xs ++ l) → LendsNone xs → Always ReturnsDuly xs → ReadUsable d p xs
+      → IsUsablePage d l p
   usable_was xs kind legal lends due (inl bare) = inl (none_read f k l p xs legal bare)
   usable_was xs kind legal lends due (inr whole) = elim (cases_eq (word_after l (Word.Deed p)) 0) [
     | inl none ↦ inl none
@@ -134,7 +151,8 @@ module _ (f : Profile) (k : ℕ) (l : Whole) (d : Directory) (p : ℕ) where
 
 module _ (f : Profile) (k : ℕ) (l : Whole) (d : Directory) (p : ℕ) where
   module _ (kind : IsKind d.kind) (first : Legal f l) (lacks : has_right (part k l) p ≡ false) (usable : IsUsablePage d l p) where
-    deed_is : (xs : List Made) → Legal f (triples k xs ++ l) → MadeOf d xs → (word_after (triples k xs ++ l) (Word.Deed p) ≡ 0) ⊎ (word_after (triples k xs ++ l) (Word.Deed p) ≡ deed_word_of d)
+    deed_is : (xs : List Made) → Legal f (triples k xs ++ l) → MadeOf d xs
+        → (word_after (triples k xs ++ l) (Word.Deed p) ≡ 0) ⊎ (word_after (triples k xs ++ l) (Word.Deed p) ≡ deed_word_of d)
     deed_is xs legal made = elim usable [
       | inl none ↦ deed_own f k l d p xs legal made none
       | inr whole ↦ inr (deed_later k l p xs (λ none. deed_word_of-positive d (sym whole.deed ∙ none)) ∙ whole.deed)
@@ -158,7 +176,7 @@ module _ (f : Profile) (k : ℕ) (l : Whole) (d : Directory) (p : ℕ) where
         let small = h.1 in
         let g : ℕ = p * 256 + (64 * h.0 + b) in
         let bit : has_bit m.answer b ≡ free_bit (triples k xs ++ l) g = bit_read (triples k xs ++ l) p h.0 b m.step m.answer small lt h.2 legal.0.answer_is in
-        ap (λ (t : Bool). t || holds xs g) bit ∙ stays_free f k l g xs legal.1 lends (sym (of_page l p (64 * h.0 + b)) ∙ usable_free f d l p first usable (64 * h.0 + b) (omega (arith, small, lt))))
+        ap (λ (t : Bool). t || holds xs g) bit ∙ free_or_held f k l g xs legal.1 lends (sym (of_page l p (64 * h.0 + b)) ∙ usable_free f d l p first usable (64 * h.0 + b) (omega (arith, small, lt))))
 
     -- A PAGE THAT WAS USABLE before the search doesn't fail in it
     pub bad_never : (xs : List Made) → Legal f (triples k xs ++ l) → LendsNone xs → MadeOf d xs → Once (BadHere d p) xs → ⊥

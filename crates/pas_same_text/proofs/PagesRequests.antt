@@ -53,7 +53,8 @@ quiet_by ks out steps = always_map (λ m before. is_in ks (kind_of m.step) ≡ t
 no_deeds : (d : Directory) (first n : ℕ) (steps : List Made) → Only claiming_old steps → DeedsInRun d first n steps
 no_deeds d first n steps = always_map (λ m before. is_in claiming_old (kind_of m.step) ≡ true) _ steps (λ m before is page e same zero. absurd (true≢false (sym is ∙ ap (λ s. is_in claiming_old (kind_of s)) same)))
 
-module _ (f : Profile) (k : ℕ) (l : Whole) (d : Directory) (n : ℕ) (found : Option ℕ) (tried rest : List Made) (block : Block) (of : IsDirectoryOf f d) (old : Only claiming_old tried) (returns : Always ReturnsDuly tried) (legal : Legal f (triples k (rest ++ tried) ++ l)) (met : MayFind d (part k l)) where
+module _ (f : Profile) (k : ℕ) (l : Whole) (d : Directory) (n : ℕ) (found : Option ℕ) (tried rest : List Made) (block : Block) (of : IsDirectoryOf f d)
+    (old : Only claiming_old tried) (returns : Always ReturnsDuly tried) (legal : Legal f (triples k (rest ++ tried) ++ l)) (met : MayFind d (part k l)) where
   named_gave : (is : IsAllocatedNamed f d n found tried rest block) → GaveRun f d is.first n tried rest block
   named_gave is = record {
     kinds = only_within claiming_old finding tried refl old;
@@ -72,7 +73,8 @@ module _ (f : Profile) (k : ℕ) (l : Whole) (d : Directory) (n : ℕ) (found : 
     gave = is.gave;
   }
 
-  module _ (searched after : List Made) (kinds : Only finding searched) (due : Always ReturnsDuly searched) (rest_is : rest ≡ after ++ searched) (is : IsAllocatedLarge f d n (searched ++ tried) after block) where
+  module _ (searched after : List Made) (kinds : Only finding searched) (due : Always ReturnsDuly searched) (rest_is : rest ≡ after ++ searched)
+      (is : IsAllocatedLarge f d n (searched ++ tried) after block) where
     abbrev xs : List Made
     xs = searched ++ tried
 
@@ -110,7 +112,8 @@ module _ (f : Profile) (k : ℕ) (l : Whole) (d : Directory) (n : ℕ) (found : 
     }
 
 -- ---- THE REQUEST
-module _ (f : Profile) (k name heap size align : ℕ) (p p' : Progress) (w : World) (thread : IsThread f k) (admitted : IsAdmitted f size align heap) (route : route_in f size align ≡ Route.Large) (valid : IsValid f) (before : IsBetween f p) (after : IsBetween f p') (same : IsSame f p w)
+module _ (f : Profile) (k name heap size align : ℕ) (p p' : Progress) (w : World) (thread : IsThread f k) (admitted : IsAdmitted f size align heap)
+    (route : route_in f size align ≡ Route.Large) (valid : IsValid f) (before : IsBetween f p) (after : IsBetween f p') (same : IsSame f p w)
     (a : Answer) (served : IsServed f k (record { name = name; heap = heap; size = size; align = align }) (having p.names (part k p.list) (p.caches k)) a) (reached : p' ≡ after_answer p k a) (named_is : a.found ≡ found_in w.indexes heap (room_in f size align / 4096)) where
   abbrev c : Cached
   c = p.caches k
@@ -145,11 +148,13 @@ module _ (f : Profile) (k name heap size align : ℕ) (p p' : Progress) (w : Wor
   old : HasSame f p w
   old = record { events = same.pages.events; live = same.pages.live; caches = same.caches; guards = same.guards }
 
-  text_by : (o : Option ℕ) → run_or (named_run w heap n) (lowest_run f w heap n) ≡ o → serves f k name heap (route_in f size align) (room_in f size align) align w ≡ serves_run f k name heap n o u
+  text_by : (o : Option ℕ) → run_or (named_run w heap n) (lowest_run f w heap n) ≡ o
+      → serves f k name heap (route_in f size align) (room_in f size align) align w ≡ serves_run f k name heap n o u
   text_by o is = ap (λ (r : Route). serves f k name heap r (room_in f size align) align w) route ∙ ap (λ (x : Option ℕ). serves_run f k name heap n x u) is
 
   -- ---- the steps
-  by_own : (answer : Result Block NoRoom) → served.answer ≡ answer → ServesBy (route_in f size align) f (wanted_for f heap size align) a.found c a.cache a.steps answer
+  by_own : (answer : Result Block NoRoom) → served.answer ≡ answer
+      → ServesBy (route_in f size align) f (wanted_for f heap size align) a.found c a.cache a.steps answer
   by_own answer is = subst (λ (r : Result Block NoRoom). ServesBy (route_in f size align) f (wanted_for f heap size align) a.found c a.cache a.steps r) is served.serves
 
   by_pages : (answer : Result Block NoRoom) → served.answer ≡ answer → ServesPages f (wanted_for f heap size align) a.found c a.cache a.steps answer
@@ -187,7 +192,9 @@ module _ (f : Profile) (k name heap size align : ℕ) (p p' : Progress) (w : Wor
     by_door = goes_by_door f k l d n a.found pages.tried pages.rest valid of.kind pages.old pages.returns there.legal may answer outcome
 
   -- ---- served
-  served_same : (block : Block) (is : served.answer ≡ Ok block) (first : ℕ) (got after : List Made) → (by_pages (Ok block) is).rest ++ (by_pages (Ok block) is).tried ≡ after ++ got → GaveRun f d first n got after block → run_or (named_run w heap n) (lowest_run f w heap n) ≡ Some first
+  served_same : (block : Block) (is : served.answer ≡ Ok block) (first : ℕ) (got after : List Made)
+      → (by_pages (Ok block) is).rest ++ (by_pages (Ok block) is).tried ≡ after ++ got → GaveRun f d first n got after block
+      → run_or (named_run w heap n) (lowest_run f w heap n) ≡ Some first
       → IsSame f p' (serves f k name heap (route_in f size align) (room_in f size align) align w)
   served_same block is first got rest steps run chosen =
       let all : p' ≡ given_to p k name (rest ++ got) block = to (Ok block) is ∙ ap (λ (ms : List Made). given_to p k name ms block) steps in
@@ -197,7 +204,9 @@ module _ (f : Profile) (k name heap size align : ℕ) (p p' : Progress) (w : Wor
   run_named : (first : ℕ) → IsNamedWhole f d n l a.found first → named_run w heap n ≡ Some first
   run_named first whole = whole_named f p w valid before same.pages old heap of n first (subst (λ (o : Option ℕ). IsNamedWhole f d n l o first) named_is whole)
 
-  named_served : (block : Block) (is : served.answer ≡ Ok block) → IsServedNamed f d n a.found (by_pages (Ok block) is).tried (by_pages (Ok block) is).rest (Ok block) → IsSame f p' (serves f k name heap (route_in f size align) (room_in f size align) align w)
+  named_served : (block : Block) (is : served.answer ≡ Ok block)
+      → IsServedNamed f d n a.found (by_pages (Ok block) is).tried (by_pages (Ok block) is).rest (Ok block)
+      → IsSame f p' (serves f k name heap (route_in f size align) (room_in f size align) align w)
   named_served block is by =
       let pages = by_pages (Ok block) is in
       let one : by.0 ≡ block = let e = by.1 in cc in
@@ -210,7 +219,8 @@ module _ (f : Profile) (k name heap size align : ℕ) (p p' : Progress) (w : Wor
       (ap (λ (o : Option ℕ). run_or o (lowest_run f w heap n)) (run_named alloc.first whole))
 
   -- where another run was found, the one that was named wasn't whole
-  chosen_by : (block : Block) (is : served.answer ≡ Ok block) (first : ℕ) → address_of block.name ≡ first * 4096 → IsLowestRun f d n l first → (o : Option ℕ) → named_run w heap n ≡ o → run_or (named_run w heap n) (lowest_run f w heap n) ≡ Some first
+  chosen_by : (block : Block) (is : served.answer ≡ Ok block) (first : ℕ) → address_of block.name ≡ first * 4096 → IsLowestRun f d n l first → (o : Option ℕ)
+      → named_run w heap n ≡ o → run_or (named_run w heap n) (lowest_run f w heap n) ≡ Some first
   chosen_by block is first at lowest None none = ap (λ (o : Option ℕ). run_or o (lowest_run f w heap n)) none ∙ lowest_found f p w valid before same.pages old heap of n first some lowest
   chosen_by block is first at lowest (Some x) named =
       let whole : IsNamedWhole f d n l a.found x = subst (λ (o : Option ℕ). IsNamedWhole f d n l o x) (sym named_is) (named_whole f p w valid before same.pages old heap of n x some named) in
@@ -223,7 +233,9 @@ module _ (f : Profile) (k name heap size align : ℕ) (p p' : Progress) (w : Wor
       address_in (Ok b) = address_of b.name
       address_in (Err why) = 0
 
-  scanned_served : (block : Block) (is : served.answer ≡ Ok block) → IsScanned f d n a.found (by_pages (Ok block) is).tried (by_pages (Ok block) is).rest (Ok block) → IsSame f p' (serves f k name heap (route_in f size align) (room_in f size align) align w)
+  scanned_served : (block : Block) (is : served.answer ≡ Ok block)
+      → IsScanned f d n a.found (by_pages (Ok block) is).tried (by_pages (Ok block) is).rest (Ok block)
+      → IsSame f p' (serves f k name heap (route_in f size align) (room_in f size align) align w)
   scanned_served block is by =
       let pages = by_pages (Ok block) is in
       let legal : Legal f (triples k (pages.rest ++ pages.tried) ++ l) = (there (Ok block) is).legal in
@@ -240,7 +252,8 @@ module _ (f : Profile) (k name heap size align : ℕ) (p p' : Progress) (w : Wor
       let takes = (by_door (Err room) is).served x whole in
       absurd (let bad : Err room ≡ Ok takes.0 = takes.1 in cc)
 
-  refused_by : (room : NoRoom) (is : served.answer ≡ Err room) → IsScanned f d n a.found (by_pages (Err room) is).tried (by_pages (Err room) is).rest (Err room) → IsSame f p' (serves f k name heap (route_in f size align) (room_in f size align) align w)
+  refused_by : (room : NoRoom) (is : served.answer ≡ Err room) → IsScanned f d n a.found (by_pages (Err room) is).tried (by_pages (Err room) is).rest (Err room)
+      → IsSame f p' (serves f k name heap (route_in f size align) (room_in f size align) align w)
   refused_by room is by =
       let pages = by_pages (Err room) is in
       let steps : List Made = pages.rest ++ pages.tried in
@@ -263,17 +276,23 @@ module _ (f : Profile) (k name heap size align : ℕ) (p p' : Progress) (w : Wor
   answered (Ok block) is = elim (outcome (Ok block) is) [ inl by ↦ named_served block is by | inr by ↦ scanned_served block is by ]
   answered (Err room) is = elim (outcome (Err room) is) [ inl by ↦ absurd (let bad : Err room ≡ Ok by.0 = by.1 in cc) | inr by ↦ refused_by room is by ]
 
+  -- A request for whole pages, served or refused, leads the text to the replay's state.
   pub pages_answered : IsSame f p' (serves f k name heap (route_in f size align) (room_in f size align) align w)
   pages_answered = answered served.answer refl
 
 -- ---- THE ACT
 -- what indexes name for such a request
-pub named_large : (f : Profile) (r : Request) (indexes : Indexes) (found : Option ℕ) → route_in f r.size r.align ≡ Route.Large → IsNamedBy f indexes (Some r) found → found ≡ found_in indexes r.heap (room_in f r.size r.align / 4096)
+pub named_large : (f : Profile) (r : Request) (indexes : Indexes) (found : Option ℕ) → route_in f r.size r.align ≡ Route.Large
+    → IsNamedBy f indexes (Some r) found → found ≡ found_in indexes r.heap (room_in f r.size r.align / 4096)
 named_large f r indexes found route named = subst (λ (way : Route). IsNamed way (λ o. o ≡ found_in indexes r.heap (room_in f r.size r.align / 4096)) (Unit {0}) found) route named
 
-pub pages_same : (f : Profile) (line k name heap size align : ℕ) (indexes : Indexes) → IsThread f k → IsAdmitted f size align heap → route_in f size align ≡ Route.Large
-    → (p p' : Progress) (w : World) → w.indexes ≡ indexes → (taken : IsTaken f (Act.Operates (record { line = line; actor = k; what = Alloc name heap size align })) p p' w)
-    → ActIsNamedBy f indexes (Act.Operates (record { line = line; actor = k; what = Alloc name heap size align })) p p' taken.advances → IsSame f p' (acts_on f (Act.Operates (record { line = line; actor = k; what = Alloc name heap size align })) w)
+-- An operation that asks for whole pages, by the run that the index names, leads the text to the replay's state.
+pub pages_same : (f : Profile) (line k name heap size align : ℕ) (indexes : Indexes) → IsThread f k → IsAdmitted f size align heap
+    → route_in f size align ≡ Route.Large
+    → (p p' : Progress) (w : World) → w.indexes ≡ indexes
+    → (taken : IsTaken f (Act.Operates (record { line = line; actor = k; what = Alloc name heap size align })) p p' w)
+    → ActIsNamedBy f indexes (Act.Operates (record { line = line; actor = k; what = Alloc name heap size align })) p p' taken.advances
+    → IsSame f p' (acts_on f (Act.Operates (record { line = line; actor = k; what = Alloc name heap size align })) w)
 pages_same f line k name heap size align indexes thread admitted route p p' w are taken named =
     pages_answered f k name heap size align p p' w thread admitted route taken.valid taken.before taken.after taken.same taken.advances.0 taken.advances.1 taken.advances.2
     (named_large f (record { name = name; heap = heap; size = size; align = align }) indexes taken.advances.0.found route named ∙ ap (λ (ix : Indexes). found_in ix heap (room_in f size align / 4096)) (sym are))

@@ -45,7 +45,8 @@ turned_records ws rs r =
     ∙ (ap (λ (xs : List Record). reverse (r ∷ ws) ++ xs) (reverse-reverse rs)
     ∙ (ap (λ (xs : List Record). xs ++ rs) (reverse_onto ws r []) ∙ append_assoc (reverse ws) (r ∷ []) rs))
 
-module _ (f : Profile) (p : Progress) (w : World) (epoch : ℕ) (found : List (ℕ × Outcome)) (steps : List Made) (valid : IsValid f) (before : IsBetween f p) (same : IsSame f p w) (stamped : AreEndsStamped p.list)
+module _ (f : Profile) (p : Progress) (w : World) (epoch : ℕ) (found : List (ℕ × Outcome)) (steps : List Made) (valid : IsValid f) (before : IsBetween f p)
+    (same : IsSame f p w) (stamped : AreEndsStamped p.list)
     (order : PassSteps f 0 epoch found steps) (after : IsBetween f (after_pass p epoch found steps)) where
   abbrev l : Whole
   l = p.list

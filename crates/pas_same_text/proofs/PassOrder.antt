@@ -26,6 +26,7 @@ abbrev pub falling : (ℕ → Bool) → ℕ → List ℕ
 falling test zero = []
 falling test (suc n) = if test n then n ∷ falling test n else falling test n
 
+-- Of a falling list of numbers that pass a test, those from a bound on are left out where none of them passes.
 pub falling_skips : (test : ℕ → Bool) (m n : ℕ) → m ≤ n → ((q : ℕ) → m ≤ q → q < n → test q ≡ false) → falling test n ≡ falling test m
 falling_skips test m zero le none = let same : zero ≡ m = omega (arith, le) in ap (falling test) same
 falling_skips test m (suc n) le none = elim (cases_eq m (suc n)) [
@@ -47,6 +48,7 @@ rising_at : (xs : List ℕ) (n m : ℕ) (t : Bool) → m ≡ n → reverse xs ++
 rising_at xs n m true e = ap (λ (x : ℕ). reverse xs ++ x ∷ []) e ∙ sym (reverse_onto xs n [])
 rising_at xs n m false e = append-nil (reverse xs)
 
+-- The numbers up to n that pass a test are the falling ones in reverse, where 0 doesn't pass.
 pub rising : (test : ℕ → Bool) → test 0 ≡ false → (n : ℕ) → filter test (numbers_from 1 n) ≡ reverse (falling test (suc n))
 rising test none zero = ap (λ (t : Bool). reverse (if t then 0 ∷ [] else [])) (sym none)
 rising test none (suc n) =
@@ -66,10 +68,12 @@ pub record IsPast (f : Profile) (w : World) (l : Whole) (n : ℕ) (steps : List 
   pub idle : (q : ℕ) → q < n → empty_bit l q ≡ true → stays_hinted (outcome_of f w q) ≡ true → IsEmptyBacked l q
   pub offers : (q : ℕ) → OffersPage q steps → WasOffered f l q
 
-past_at : (f : Profile) (w : World) (l : Whole) (m n : ℕ) (steps : List Made) (found : List (ℕ × Outcome)) → m ≡ n → IsPast f w l m steps found → IsPast f w l n steps found
+past_at : (f : Profile) (w : World) (l : Whole) (m n : ℕ) (steps : List Made) (found : List (ℕ × Outcome)) → m ≡ n → IsPast f w l m steps found
+    → IsPast f w l n steps found
 past_at f w l m n steps found e h = subst (λ (x : ℕ). IsPast f w l x steps found) e h
 
-past_by : (f : Profile) (w : World) (l : Whole) (n : ℕ) (steps steps' : List Made) (found found' : List (ℕ × Outcome)) → steps ≡ steps' → found ≡ found' → IsPast f w l n steps found → IsPast f w l n steps' found'
+past_by : (f : Profile) (w : World) (l : Whole) (n : ℕ) (steps steps' : List Made) (found found' : List (ℕ × Outcome)) → steps ≡ steps' → found ≡ found'
+    → IsPast f w l n steps found → IsPast f w l n steps' found'
 past_by f w l n steps steps' found found' e g h = subst (λ (ms : List Made). IsPast f w l n ms found') e (subst (IsPast f w l n steps) g h)
 
 -- steps that spare a page don't offer it
@@ -93,10 +97,12 @@ no_first : (x : ℕ) (xs : List ℕ) → x ∷ xs ≡ [] → ⊥
 no_first x xs e = cc
 
 -- the pages of a word up to its n-th bit, where that is so
-pages_at : (word value n : ℕ) (t : Bool) → has_bit value n ≡ t → pages_set word value (suc n) ≡ (if t then (64 * word + n) ∷ pages_set word value n else pages_set word value n)
+pages_at : (word value n : ℕ) (t : Bool) → has_bit value n ≡ t
+    → pages_set word value (suc n) ≡ (if t then (64 * word + n) ∷ pages_set word value n else pages_set word value n)
 pages_at word value n t e = ap (λ (x : Bool). if x then (64 * word + n) ∷ pages_set word value n else pages_set word value n) e
 
-module _ (f : Profile) (p : Progress) (w : World) (valid : IsValid f) (between : IsBetween f p) (same : IsSame f p w) (stamped : AreEndsStamped p.list) (epoch : ℕ) (now : epoch ≡ w.epoch) where
+module _ (f : Profile) (p : Progress) (w : World) (valid : IsValid f) (between : IsBetween f p) (same : IsSame f p w) (stamped : AreEndsStamped p.list)
+    (epoch : ℕ) (now : epoch ≡ w.epoch) where
   abbrev l : Whole
   l = p.list
 
@@ -120,7 +126,8 @@ module _ (f : Profile) (p : Progress) (w : World) (valid : IsValid f) (between :
   }
 
   -- ---- one that was
-  past_tried : (n : ℕ) (o : Option Outcome) (piece steps : List Made) (found : List (ℕ × Outcome)) → hinted n ≡ true → TrySteps f.age epoch n o piece → Legal f (triples 0 (piece ++ steps) ++ l) → IsPast f w l n steps found → IsPast f w l (suc n) (piece ++ steps) (with_outcome n o found)
+  past_tried : (n : ℕ) (o : Option Outcome) (piece steps : List Made) (found : List (ℕ × Outcome)) → hinted n ≡ true → TrySteps f.age epoch n o piece
+      → Legal f (triples 0 (piece ++ steps) ++ l) → IsPast f w l n steps found → IsPast f w l (suc n) (piece ++ steps) (with_outcome n o found)
   past_tried n o piece steps found is tries legal h =
       let before : Whole = triples 0 steps ++ l in
       let onto = triples_append 0 piece steps l in
@@ -147,7 +154,8 @@ module _ (f : Profile) (p : Progress) (w : World) (valid : IsValid f) (between :
       }
 
   -- ---- a look at a word
-  past_look : (n : ℕ) (word value : ℕ) (steps : List Made) (found : List (ℕ × Outcome)) → IsPast f w l n steps found → IsPast f w l n (made (Look (Word.Empty word)) value ∷ steps) found
+  past_look : (n : ℕ) (word value : ℕ) (steps : List Made) (found : List (ℕ × Outcome)) → IsPast f w l n steps found
+      → IsPast f w l n (made (Look (Word.Empty word)) value ∷ steps) found
   past_look n word value steps found h = record {
     found_are = h.found_are;
     spared = λ q le. (refl, h.spared q le);
@@ -157,7 +165,8 @@ module _ (f : Profile) (p : Progress) (w : World) (valid : IsValid f) (between :
   }
 
   -- a word that is read has the hints with which the pass began, of pages that were spared so far
-  value_bit : (n value b : ℕ) (steps : List Made) → b < 64 → value ≡ word_after (triples 0 steps ++ l) (Word.Empty n) → Spares (64 * n + b) steps → has_bit value b ≡ hinted (64 * n + b)
+  value_bit : (n value b : ℕ) (steps : List Made) → b < 64 → value ≡ word_after (triples 0 steps ++ l) (Word.Empty n) → Spares (64 * n + b) steps
+      → has_bit value b ≡ hinted (64 * n + b)
   value_bit n value b steps lt is spares =
       let w' : Whole = triples 0 steps ++ l in
       let word : (64 * n + b) / 64 ≡ n = omega (arith, lt) in
@@ -165,8 +174,10 @@ module _ (f : Profile) (p : Progress) (w : World) (valid : IsValid f) (between :
       cc ((words_stay (64 * n + b) 0 steps l spares).hint)
 
   -- ==== the pages of one word, below its n-th bit
-  past_tries : (word value n : ℕ) (tries : List Tried) (steps base : List Made) (found : List (ℕ × Outcome)) → map (λ t. t.page) tries ≡ pages_set word value n → InTurn (TriedSteps f.age epoch) tries steps → Legal f (triples 0 (steps ++ base) ++ l)
-      → ((b : ℕ) → b < n → has_bit value b ≡ hinted (64 * word + b)) → IsPast f w l (64 * word) base found → IsPast f w l (64 * word + n) (steps ++ base) (outcomes_in tries ++ found)
+  past_tries : (word value n : ℕ) (tries : List Tried) (steps base : List Made) (found : List (ℕ × Outcome)) → map (λ t. t.page) tries ≡ pages_set word value n
+      → InTurn (TriedSteps f.age epoch) tries steps → Legal f (triples 0 (steps ++ base) ++ l)
+      → ((b : ℕ) → b < n → has_bit value b ≡ hinted (64 * word + b)) → IsPast f w l (64 * word) base found
+      → IsPast f w l (64 * word + n) (steps ++ base) (outcomes_in tries ++ found)
   past_tries word value zero [] steps base found pages order legal bits h =
       past_by f w l (64 * word + zero) base (steps ++ base) found found (ap (λ (ms : List Made). ms ++ base) (sym order)) refl (past_at f w l (64 * word) (64 * word + zero) base found (omega arith) h)
   past_tries word value zero (t ∷ tries) steps base found pages order legal bits h = absurd (no_first t.page (map (λ t. t.page) tries) pages)
@@ -201,7 +212,8 @@ module _ (f : Profile) (p : Progress) (w : World) (valid : IsValid f) (between :
   ]
 
   -- ==== the words below the n-th
-  past_words : (n : ℕ) (words : List WordRead) (steps base : List Made) → map (λ r. r.number) words ≡ numbers_below n → InTurn (WordSteps f.age epoch) words steps → Legal f (triples 0 (steps ++ base) ++ l) → IsPast f w l 0 base []
+  past_words : (n : ℕ) (words : List WordRead) (steps base : List Made) → map (λ r. r.number) words ≡ numbers_below n
+      → InTurn (WordSteps f.age epoch) words steps → Legal f (triples 0 (steps ++ base) ++ l) → IsPast f w l 0 base []
       → IsPast f w l (64 * n) (steps ++ base) (outcomes_in (all_tried words))
   past_words zero [] steps base numbers order legal h = past_by f w l 0 base (steps ++ base) [] [] (ap (λ (ms : List Made). ms ++ base) (sym order)) refl h
   past_words zero (r ∷ words) steps base numbers order legal h = absurd (no_first r.number (map (λ r. r.number) words) numbers)
@@ -237,6 +249,7 @@ module _ (f : Profile) (p : Progress) (w : World) (valid : IsValid f) (between :
   }
 
   -- THE WHOLE PASS
-  pub past_all : (words : List WordRead) (read : List Made) → map (λ r. r.number) words ≡ numbers_below (vector_words f.pages) → InTurn (WordSteps f.age epoch) words read → Legal f (triples 0 (read ++ (made (Look Word.Epoch) epoch ∷ [])) ++ l)
+  pub past_all : (words : List WordRead) (read : List Made) → map (λ r. r.number) words ≡ numbers_below (vector_words f.pages)
+      → InTurn (WordSteps f.age epoch) words read → Legal f (triples 0 (read ++ (made (Look Word.Epoch) epoch ∷ [])) ++ l)
       → IsPast f w l (64 * vector_words f.pages) (read ++ (made (Look Word.Epoch) epoch ∷ [])) (outcomes_in (all_tried words))
   past_all words read numbers order legal = past_words (vector_words f.pages) words read (made (Look Word.Epoch) epoch ∷ []) numbers order legal past_none

@@ -61,6 +61,7 @@ module _ (f : Profile) (p : Progress) (w : World) (valid : IsValid f) (between :
   abbrev IsFull : ℕ → Type 0
   IsFull page = (word : ℕ) → word < 4 → word_after p.list (Word.Free page word) ≡ all_ones
 
+  -- A state of the text that is the replay's has its events, live blocks, caches and guards.
   pub has_same : HasSame f p w
   has_same = record { events = same.pages.events; live = same.pages.live; caches = same.caches; guards = same.guards }
 
@@ -82,18 +83,21 @@ module _ (f : Profile) (p : Progress) (w : World) (valid : IsValid f) (between :
   unguarded page some = backed_unguarded f p w valid between has_same page
       (ap (λ (es : List Event). backed_in es page) (sym same.pages.events) ∙ was_backed (backed_in w.events page) (word_after l (Word.Backed page)) (backed_is page) some)
 
+  -- A page that is backed and whose free words are all ones is backed and empty.
   pub empty_backed : (page : ℕ) → IsBacked page → IsFull page → IsEmptyBacked l page
   empty_backed page some full = search (arith, backed_is, was_backed, full_bit)
 
   -- ---- in use
-  pub used_outcome : (page word : ℕ) → word < 4 → IsBacked page → ((v : ℕ) → v < word → word_after l (Word.Free page v) ≡ all_ones) → word_after l (Word.Free page word) ≢ all_ones
+  pub used_outcome : (page word : ℕ) → word < 4 → IsBacked page → ((v : ℕ) → v < word → word_after l (Word.Free page v) ≡ all_ones)
+      → word_after l (Word.Free page word) ≢ all_ones
       → outcome_of f w page ≡ Outcome.InUse word (word_after l (Word.Free page word))
   used_outcome page word few some full used =
       backed_outcome page (Some word) some (used_first f p w valid between has_same page word (unguarded page some) few full used)
       ∙ ap (λ (n : ℕ). Outcome.InUse word n) (value_is f p w valid between has_same page word (unguarded page some) few)
 
   -- ---- empty, and kept by a cache: it has room, and nobody offers it
-  kept_page : (page : ℕ) (d : Directory) → IsDirectoryOf f d → word_after l (Word.Deed page) ≡ deed_word_of d → IsFull page → eligible_bit l (number_of d) page ≡ false → is_kept w page ≡ true
+  kept_page : (page : ℕ) (d : Directory) → IsDirectoryOf f d → word_after l (Word.Deed page) ≡ deed_word_of d → IsFull page
+      → eligible_bit l (number_of d) page ≡ false → is_kept w page ≡ true
   kept_page page d of deed full none = by_kept (is_kept w page) refl
     where
       free_grain : IsUsableFree l page 0 0
@@ -107,25 +111,32 @@ module _ (f : Profile) (p : Progress) (w : World) (valid : IsValid f) (between :
           absurd (true≢false (sym (o.offered (number_of d) ∙ (ap (λ (x : Directory). number_of x == number_of d) is ∙ eq-eqb (number_of d) (number_of d) refl)) ∙ none))
 
   empty_outcome : (page : ℕ) (kept : Bool) → IsBacked page → IsFull page → is_kept w page ≡ kept
-      → outcome_of f w page ≡ (if kept then Outcome.NotOffered else (if nat_lt w.epoch (epoch_in w.events page + f.age) then Outcome.Young (epoch_in w.events page) else Outcome.Unbacked))
+      → outcome_of f w page
+        ≡ (if kept then Outcome.NotOffered else (if nat_lt w.epoch (epoch_in w.events page + f.age) then Outcome.Young (epoch_in w.events page) else Outcome.Unbacked))
   empty_outcome page kept some full is =
       backed_outcome page None some (used_none f p w valid between has_same page (unguarded page some) full)
       ∙ ap (λ (t : Bool). if t then Outcome.NotOffered else (if nat_lt w.epoch (epoch_in w.events page + f.age) then Outcome.Young (epoch_in w.events page) else Outcome.Unbacked)) is
 
-  pub kept_outcome : (page : ℕ) (d : Directory) → IsBacked page → IsDirectoryOf f d → word_after l (Word.Deed page) ≡ deed_word_of d → IsFull page → eligible_bit l (number_of d) page ≡ false → outcome_of f w page ≡ Outcome.NotOffered
+  -- A page that is backed and empty, and not offered by its directory, has the outcome not offered in the text.
+  pub kept_outcome : (page : ℕ) (d : Directory) → IsBacked page → IsDirectoryOf f d → word_after l (Word.Deed page) ≡ deed_word_of d → IsFull page
+      → eligible_bit l (number_of d) page ≡ false → outcome_of f w page ≡ Outcome.NotOffered
   kept_outcome page d some of deed full none = empty_outcome page true some full (kept_page page d of deed full none)
 
   -- ---- empty and offered: by its stamp
   not_kept : (page : ℕ) (d : Directory) → IsDirectoryOf f d → eligible_bit l (number_of d) page ≡ true → is_kept w page ≡ false
   not_kept page d of offered = (bit_tells f p w valid between has_same page d of (right_in_one_place f l between.legal page) offered).1
 
-  pub young_outcome : (page : ℕ) (d : Directory) → IsPage f page → IsBacked page → IsFull page → IsDirectoryOf f d → eligible_bit l (number_of d) page ≡ true → w.epoch < word_after l (Word.Stamp page) + f.age
+  -- An offered empty page whose stamp is too recent for the epoch has the outcome young in the text.
+  pub young_outcome : (page : ℕ) (d : Directory) → IsPage f page → IsBacked page → IsFull page → IsDirectoryOf f d → eligible_bit l (number_of d) page ≡ true
+      → w.epoch < word_after l (Word.Stamp page) + f.age
       → outcome_of f w page ≡ Outcome.Young (word_after l (Word.Stamp page))
   young_outcome page d of some full of_profile offered young =
       let at : word_after l (Word.Stamp page) ≡ epoch_in w.events page = stamp_is page of in
       cc (empty_outcome page false some full (not_kept page d of_profile offered), lt-ltb w.epoch (epoch_in w.events page + f.age) (omega (arith, young, at)))
 
-  pub old_outcome : (page : ℕ) (d : Directory) → IsPage f page → IsBacked page → IsFull page → IsDirectoryOf f d → eligible_bit l (number_of d) page ≡ true → word_after l (Word.Stamp page) + f.age ≤ w.epoch → outcome_of f w page ≡ Outcome.Unbacked
+  -- An offered empty page whose stamp is old enough for the epoch has the outcome unbacked in the text.
+  pub old_outcome : (page : ℕ) (d : Directory) → IsPage f page → IsBacked page → IsFull page → IsDirectoryOf f d → eligible_bit l (number_of d) page ≡ true
+      → word_after l (Word.Stamp page) + f.age ≤ w.epoch → outcome_of f w page ≡ Outcome.Unbacked
   old_outcome page d of some full of_profile offered old =
       let at : word_after l (Word.Stamp page) ≡ epoch_in w.events page = stamp_is page of in
       cc (empty_outcome page false some full (not_kept page d of_profile offered), le-ltb w.epoch (epoch_in w.events page + f.age) (omega (arith, old, at)))

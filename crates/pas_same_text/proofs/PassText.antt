@@ -89,7 +89,8 @@ come_judges : (page : ℕ) (o : Outcome) (w : World) (q : ℕ) → (page ≡ q �
 come_judges page o w q ne = search (arith, come_backed)
 
 -- ---- hints: the page loses its own where its outcome ends it
-hint_was : (page : ℕ) (stays : Bool) (hinted : List ℕ) (q : ℕ) → has_number (if stays then hinted else filter (λ p. not (p == page)) hinted) q ≡ true → has_number hinted q ≡ true
+hint_was : (page : ℕ) (stays : Bool) (hinted : List ℕ) (q : ℕ) → has_number (if stays then hinted else filter (λ p. not (p == page)) hinted) q ≡ true
+    → has_number hinted q ≡ true
 hint_was page true hinted q h = h
 hint_was page false hinted q h = (filtered_has (λ p. not (p == page)) hinted q h).1
 
@@ -97,7 +98,8 @@ hint_so : (page : ℕ) (stays : Bool) (hinted : List ℕ) → has_number (if sta
 hint_so page true hinted h = refl
 hint_so page false hinted h = absurd (true≢false (sym (filtered_has (λ p. not (p == page)) hinted page h).0 ∙ ap not (eq-eqb page page refl)))
 
-hint_still : (page : ℕ) (stays : Bool) (hinted : List ℕ) (q : ℕ) → has_number hinted q ≡ true → (page ≡ q → stays ≡ true) → has_number (if stays then hinted else filter (λ p. not (p == page)) hinted) q ≡ true
+hint_still : (page : ℕ) (stays : Bool) (hinted : List ℕ) (q : ℕ) → has_number hinted q ≡ true → (page ≡ q → stays ≡ true)
+    → has_number (if stays then hinted else filter (λ p. not (p == page)) hinted) q ≡ true
 hint_still page true hinted q h so = h
 hint_still page false hinted q h so = has_filtered (λ p. not (p == page)) hinted q (not_from_false (q == page) (ne_eqb q page (λ e. false≢true (so (sym e))))) h
 
@@ -111,7 +113,8 @@ pub record HasCome (out : ℕ → Outcome) (pages : List ℕ) (w v : World) : Ty
   pub hinted_so : (q : ℕ) → has_number pages q ≡ true → is_hinted v q ≡ true → stays_hinted (out q) ≡ true
   pub hinted_still : (q : ℕ) → is_hinted w q ≡ true → (has_number pages q ≡ true → stays_hinted (out q) ≡ true) → is_hinted v q ≡ true
 
-last_unback : (epoch page : ℕ) (o : Outcome) (pairs : List (ℕ × Outcome)) (es : List Event) → unbacks_in 0 epoch (reverse pairs) ++ (unback_of 0 epoch page o ++ es) ≡ unbacks_in 0 epoch (reverse (pair page o ∷ pairs)) ++ es
+last_unback : (epoch page : ℕ) (o : Outcome) (pairs : List (ℕ × Outcome)) (es : List Event)
+    → unbacks_in 0 epoch (reverse pairs) ++ (unback_of 0 epoch page o ++ es) ≡ unbacks_in 0 epoch (reverse (pair page o ∷ pairs)) ++ es
 last_unback epoch page o pairs es =
     sym (append_assoc (unbacks_in 0 epoch (reverse pairs)) (unback_of 0 epoch page o) es)
     ∙ ap (λ (xs : List Event). xs ++ es)
@@ -153,12 +156,14 @@ module _ (f : Profile) (w : World) (test : ℕ → Bool) where
   out q = outcome_of f w q
 
   one_examined : (v : World) (k : ℕ) (xs : List ℕ) (t : Bool) → outcome_of f v k ≡ out k
-      → each (examines f) xs (comes_to k (out k) v) ≡ each (λ q. comes_to q (out q)) xs (comes_to k (out k) v) → each (examines f) xs v ≡ each (λ q. comes_to q (out q)) xs v
+      → each (examines f) xs (comes_to k (out k) v) ≡ each (λ q. comes_to q (out q)) xs (comes_to k (out k) v)
+      → each (examines f) xs v ≡ each (λ q. comes_to q (out q)) xs v
       → each (examines f) (if t then k ∷ xs else xs) v ≡ each (λ q. comes_to q (out q)) (if t then k ∷ xs else xs) v
   one_examined v k xs true agree after before = ap (λ (o : Outcome). each (examines f) xs (comes_to k o v)) agree ∙ after
   one_examined v k xs false agree after before = before
 
-  all_examined : (n k : ℕ) (v : World) → ((q : ℕ) → k ≤ q → outcome_of f v q ≡ out q) → each (examines f) (filter test (numbers_from k n)) v ≡ each (λ q. comes_to q (out q)) (filter test (numbers_from k n)) v
+  all_examined : (n k : ℕ) (v : World) → ((q : ℕ) → k ≤ q → outcome_of f v q ≡ out q)
+      → each (examines f) (filter test (numbers_from k n)) v ≡ each (λ q. comes_to q (out q)) (filter test (numbers_from k n)) v
   all_examined zero k v agree = refl
   all_examined (suc n) k v agree =
       let x : World = comes_to k (out k) v in
@@ -167,7 +172,8 @@ module _ (f : Profile) (w : World) (test : ℕ → Bool) where
       (all_examined n (k + 1) v (λ q low. agree q (omega (arith, low))))
 
 -- A PASS
-pub pass_comes : (f : Profile) (w : World) → HasCome (outcome_of f w) (filter (is_hinted w) (page_numbers f)) (says (Record.Said 0 (Said.Pass w.epoch)) w) (passes f w)
+pub pass_comes : (f : Profile) (w : World)
+    → HasCome (outcome_of f w) (filter (is_hinted w) (page_numbers f)) (says (Record.Said 0 (Said.Pass w.epoch)) w) (passes f w)
 pass_comes f w =
     let v : World = says (Record.Said 0 (Said.Pass w.epoch)) w in
     subst (HasCome (outcome_of f w) (filter (is_hinted w) (page_numbers f)) v)

@@ -58,7 +58,8 @@ back_hints page d grains steps h = subst (Always HintsEmpty) (sym h.steps_are)
     (hints_both h.after h.puts (return_hints page d h.after h.returns) (hints_none (Putting ∷ []) h.puts refl (puts_kinds page grains 4 h.puts h.order))))
 
 -- a page without memory isn't read as backed
-not_read : (f : Profile) (k : ℕ) (l : Whole) (page : ℕ) (xs : List Made) → Legal f (triples k xs ++ l) → Only giving xs → word_after l (Word.Backed page) ≡ 0 → Once (ReadsBacked page) xs → ⊥
+not_read : (f : Profile) (k : ℕ) (l : Whole) (page : ℕ) (xs : List Made) → Legal f (triples k xs ++ l) → Only giving xs → word_after l (Word.Backed page) ≡ 0
+    → Once (ReadsBacked page) xs → ⊥
 not_read f k l page [] legal only none h = h
 not_read f k l page (m ∷ xs) legal only none (inr h) = not_read f k l page xs legal.1 only.1 none h
 not_read f k l page (m ∷ xs) legal only none (inl h) =
@@ -81,7 +82,8 @@ resting = Taking ∷ asking
 abbrev judging : Kinds
 judging = Unbacking ∷ LookStamp ∷ resting
 
-module _ (f : Profile) (p : Progress) (w : World) (valid : IsValid f) (between : IsBetween f p) (same : IsSame f p w) (stamped : AreEndsStamped p.list) (page epoch : ℕ) (of : IsPage f page) (now : epoch ≡ w.epoch) where
+module _ (f : Profile) (p : Progress) (w : World) (valid : IsValid f) (between : IsBetween f p) (same : IsSame f p w) (stamped : AreEndsStamped p.list)
+    (page epoch : ℕ) (of : IsPage f page) (now : epoch ≡ w.epoch) where
   abbrev l : Whole
   l = p.list
 
@@ -117,7 +119,8 @@ module _ (f : Profile) (p : Progress) (w : World) (valid : IsValid f) (between :
     without_right o steps h legal = absurd h
 
     -- ---- with the right
-    module _ (d : Directory) (used : Option Used) (grains : Mask4) (back after rest : List Made) (none : used ≡ None) (asked : IsAsked f before page d true) (only : Only resting rest) (puts : BackSteps page d grains back)
+    module _ (d : Directory) (used : Option Used) (grains : Mask4) (back after rest : List Made) (none : used ≡ None) (asked : IsAsked f before page d true)
+        (only : Only resting rest) (puts : BackSteps page d grains back)
         (legal : Legal f (triples 0 (back ++ (after ++ rest)) ++ before)) where
       middle : Legal f (triples 0 (after ++ rest) ++ before)
       middle = legal_earlier f 0 back (after ++ rest) before legal
@@ -135,7 +138,8 @@ module _ (f : Profile) (p : Progress) (w : World) (valid : IsValid f) (between :
       was_offered = record { directory = d; of_profile = asked.of_profile; offered = on_offer }
 
       -- after the page lost its memory it isn't hinted
-      unbacked_hint : (b stamp u : ℕ) → after ≡ made (Unback page) u ∷ made (Look (Word.Stamp page)) stamp ∷ made (Look (Word.Backed page)) b ∷ [] → HintsPage page (back ++ (after ++ rest)) → ⊥
+      unbacked_hint : (b stamp u : ℕ) → after ≡ made (Unback page) u ∷ made (Look (Word.Stamp page)) stamp ∷ made (Look (Word.Backed page)) b ∷ []
+          → HintsPage page (back ++ (after ++ rest)) → ⊥
       unbacked_hint b stamp u is hint = elim (once_parts (λ m. m.step ≡ Hint page) back (after ++ rest) hint) [
         | inl late ↦
             let low : Whole = triples 0 (made (Look (Word.Stamp page)) stamp ∷ made (Look (Word.Backed page)) b ∷ rest) ++ before in
@@ -204,9 +208,12 @@ cleared : (page a : ℕ) (before : Whole) → empty_bit (triple 0 (made (Unhint 
 cleared page a before =
     page_bit-clear page page (word_after before (Word.Empty (page / 64))) true ∙ ap (λ (t : Bool). if t then false else empty_bit before page) (eq-eqb page page refl)
 
-module _ (f : Profile) (p : Progress) (w : World) (valid : IsValid f) (between : IsBetween f p) (same : IsSame f p w) (stamped : AreEndsStamped p.list) (page epoch : ℕ) (now : epoch ≡ w.epoch) (hinted : empty_bit p.list page ≡ true)
+module _ (f : Profile) (p : Progress) (w : World) (valid : IsValid f) (between : IsBetween f p) (same : IsSame f p w) (stamped : AreEndsStamped p.list)
+    (page epoch : ℕ) (now : epoch ≡ w.epoch) (hinted : empty_bit p.list page ≡ true)
     (before : Whole) (spared : IsSpared page p.list before) where
-  pub tried : (o : Option Outcome) (steps : List Made) → TrySteps f.age epoch page o steps → Legal f (triples 0 steps ++ before) → IsTried f w p.list before page o steps
+  -- A page that a pass tries has the outcome of the text, and no hint afterwards where that ends it.
+  pub tried : (o : Option Outcome) (steps : List Made) → TrySteps f.age epoch page o steps → Legal f (triples 0 steps ++ before)
+      → IsTried f w p.list before page o steps
   tried None steps h legal = search (arith, true≢false)
   tried (Some outcome) steps h legal =
       let un : Made = made (Unhint page) h.0 in

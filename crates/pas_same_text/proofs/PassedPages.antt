@@ -67,7 +67,8 @@ beside : {A : Type 0} (x t : Bool) (new old : A) → t ≡ false → (if x && t 
 beside true t new old h = ap (λ (u : Bool). if u then new else old) h
 beside false t new old h = refl
 
-free_kept : (e : ℕ) (s : Step) (page word old : ℕ) → is_on page s ≡ false → (if same_word (target s) (Word.Free page word) then new_value e s old else old) ≡ old
+free_kept : (e : ℕ) (s : Step) (page word old : ℕ) → is_on page s ≡ false
+    → (if same_word (target s) (Word.Free page word) then new_value e s old else old) ≡ old
 free_kept e (Look x) page word old h = looked (same_word x (Word.Free page word)) old
 free_kept e (Take q j mask) page word old h = beside (j == word) (q == page) (bit_and old (bit_not w64 mask)) old h
 free_kept e (Put q j mask) page word old h = beside (j == word) (q == page) (bit_or old mask) old h
@@ -82,10 +83,12 @@ stamp_kept e s page old h = search (arith, looked)
 deed_kept : (e : ℕ) (s : Step) (page old : ℕ) → is_on page s ≡ false → (if same_word (target s) (Word.Deed page) then new_value e s old else old) ≡ old
 deed_kept e s page old h = search (arith, looked)
 
-offer_kept : (e : ℕ) (s : Step) (n page old : ℕ) → is_on page s ≡ false → has_bit (if same_word (target s) (Word.Eligible n (page / 64)) then new_value e s old else old) (page % 64) ≡ has_bit old (page % 64)
+offer_kept : (e : ℕ) (s : Step) (n page old : ℕ) → is_on page s ≡ false
+    → has_bit (if same_word (target s) (Word.Eligible n (page / 64)) then new_value e s old else old) (page % 64) ≡ has_bit old (page % 64)
 offer_kept e s n page old h = search (arith, looked, page_bit-clear, page_bit-set)
 
-hint_kept : (e : ℕ) (s : Step) (page old : ℕ) → is_on page s ≡ false → has_bit (if same_word (target s) (Word.Empty (page / 64)) then new_value e s old else old) (page % 64) ≡ has_bit old (page % 64)
+hint_kept : (e : ℕ) (s : Step) (page old : ℕ) → is_on page s ≡ false
+    → has_bit (if same_word (target s) (Word.Empty (page / 64)) then new_value e s old else old) (page % 64) ≡ has_bit old (page % 64)
 hint_kept e s page old h = search (arith, looked, page_bit-set, page_bit-clear)
 
 -- THE PAGE is as it was
@@ -178,6 +181,7 @@ module _ (page q : ℕ) (other : (q == page) ≡ false) where
       (spare_both page t.after rest (judged_spares age epoch t.used outcome t.after t.judged)
       (spare_both page (takes_until q t.used) h.asked (until_spares t.used) (asks_spare h.directory true h.asked h.asks))))
 
+  -- The steps of a pass that try one page spare every other page.
   pub try_spares : (age epoch : ℕ) (o : Option Outcome) (steps : List Made) → TrySteps age epoch q o steps → Spares page steps
   try_spares age epoch None steps h = subst (Spares page) (sym h.2) (other, tt)
   try_spares age epoch (Some outcome) steps h = subst (Spares page) (sym h.4) (spare_both page h.2 (made (Unhint q) h.0 ∷ []) (examine_spares age epoch outcome h.2 h.3) (other, tt))

@@ -26,6 +26,7 @@ all_and : (P Q : ℕ → Type 0) (qs : List ℕ) → AllByRecursion P qs → All
 all_and P Q [] ps rs = tt
 all_and P Q (q ∷ qs) ps rs = ((ps.0, rs.0), all_and P Q qs ps.1 rs.1)
 
+-- What is so of each of several pages holds of them in any weaker form.
 pub all_so : (P Q : ℕ → Type 0) (qs : List ℕ) → ((q : ℕ) → P q → Q q) → AllByRecursion P qs → AllByRecursion Q qs
 all_so P Q [] so all = tt
 all_so P Q (q ∷ qs) so all = (so q all.0, all_so P Q qs so all.1)
@@ -35,7 +36,8 @@ by_test P true xs ys one other = one refl
 by_test P false xs ys one other = other refl
 
 module _ (e : ℕ) where
-  split_at : (t : Bool) (q : ℕ) (qs : List ℕ) → above e qs ++ below e qs ≡ qs → (if t then [] else q ∷ above e qs) ++ (if t then q ∷ qs else below e qs) ≡ q ∷ qs
+  split_at : (t : Bool) (q : ℕ) (qs : List ℕ) → above e qs ++ below e qs ≡ qs
+      → (if t then [] else q ∷ above e qs) ++ (if t then q ∷ qs else below e qs) ≡ q ∷ qs
   split_at true q qs rest = refl
   split_at false q qs rest = ap (λ (xs : List ℕ). q ∷ xs) rest
 
@@ -43,6 +45,7 @@ module _ (e : ℕ) where
   split [] = refl
   split (q ∷ qs) = split_at (nat_lt q e) q qs (split qs)
 
+  -- What is so of all of some pages is so of those below a page.
   pub below_all : (P : ℕ → Type 0) (qs : List ℕ) → AllByRecursion P qs → AllByRecursion P (below e qs)
   below_all P [] all = tt
   below_all P (q ∷ qs) all = by_test (AllByRecursion P) (nat_lt q e) (q ∷ qs) (below e qs) (λ yes. all) (λ no. below_all P qs all.1)
@@ -119,7 +122,8 @@ pub record IsWalked (f : Profile) (keeper heap n : ℕ) (w : World) (made : List
   pub falls : AreFalling made
   pub run : Run f (deeds_of keeper (large_of heap) made ++ w.events)
   pub of_runs : AllByRecursion (λ q. (r : ℕ) × IsInRun r (n + 2) q × ((1 ≤ r) × (r < end) × (is_run f w heap (n + 2) r ≡ true))) made
-  pub all : (r : ℕ) → 1 ≤ r → r < end → is_run f w heap (n + 2) r ≡ true → (q : ℕ) → IsInRun r (n + 2) q → deed_in (deeds_of keeper (large_of heap) made ++ w.events) q ≢ None
+  pub all : (r : ℕ) → 1 ≤ r → r < end → is_run f w heap (n + 2) r ≡ true → (q : ℕ) → IsInRun r (n + 2) q
+      → deed_in (deeds_of keeper (large_of heap) made ++ w.events) q ≢ None
   pub still : (e r : ℕ) → is_run f (shown (deeds_of keeper (large_of heap) (below e made)) w) heap (n + 2) r ≡ is_run f w heap (n + 2) r
 
 module _ (f : Profile) (keeper k name heap n : ℕ) (w : World) (made : List ℕ) (end : ℕ) (is : IsWalked f keeper heap n w made end) where
@@ -157,7 +161,8 @@ module _ (f : Profile) (keeper k name heap n : ℕ) (w : World) (made : List ℕ
         (above_all e (λ q. (q < stop) × ((r : ℕ) × IsInRun r (n + 2) q × ((1 ≤ r) × (r < end) × (is_run f w heap (n + 2) r ≡ true)))) (below stop made)
         (all_and (λ q. q < stop) (λ q. (r : ℕ) × IsInRun r (n + 2) q × ((1 ≤ r) × (r < end) × (is_run f w heap (n + 2) r ≡ true))) (below stop made) (below_lt stop made is.falls) (below_all stop (λ q. (r : ℕ) × IsInRun r (n + 2) q × ((1 ≤ r) × (r < end) × (is_run f w heap (n + 2) r ≡ true))) made is.of_runs))))
       where
-        one : (q : ℕ) → (e ≤ q) × ((q < stop) × ((r : ℕ) × IsInRun r (n + 2) q × ((1 ≤ r) × (r < end) × (is_run f w heap (n + 2) r ≡ true)))) → IsInRun p (n + 2) q
+        one : (q : ℕ) → (e ≤ q) × ((q < stop) × ((r : ℕ) × IsInRun r (n + 2) q × ((1 ≤ r) × (r < end) × (is_run f w heap (n + 2) r ≡ true))))
+            → IsInRun p (n + 2) q
         one q h = elim (cases_lt q p) [
           | inl before ↦
               let here = h.1.1.1 in
@@ -186,15 +191,18 @@ module _ (f : Profile) (keeper k name heap n : ℕ) (w : World) (made : List ℕ
   after_one p ps usable bare tried not_tried = if usable then (if bare then raises keeper name heap p n tried else raises_from f keeper k name heap n ps tried) else raises_from f keeper k name heap n ps not_tried
 
   tried_one : (e p m : ℕ) (bare : Bool) → 1 ≤ p → p < end → IsUpTo e p → is_run f w heap (n + 2) p ≡ true → are_bare w p n ≡ bare
-      → raises_from f keeper k name heap n (numbers_from p (suc m)) (upto e) ≡ (if bare then raises keeper name heap p n (upto (p + (n + 2))) else raises_from f keeper k name heap n (numbers_from (p + 1) m) (upto (p + (n + 2))))
+      → raises_from f keeper k name heap n (numbers_from p (suc m)) (upto e)
+        ≡ (if bare then raises keeper name heap p n (upto (p + (n + 2))) else raises_from f keeper k name heap n (numbers_from (p + 1) m) (upto (p + (n + 2))))
   tried_one e p m bare low high up usable is_bare = search (arith, bare_still, deeds_step)
 
-  passed_one : (e p m : ℕ) → is_run f w heap (n + 2) p ≡ false → raises_from f keeper k name heap n (numbers_from p (suc m)) (upto e) ≡ raises_from f keeper k name heap n (numbers_from (p + 1) m) (upto e)
+  passed_one : (e p m : ℕ) → is_run f w heap (n + 2) p ≡ false
+      → raises_from f keeper k name heap n (numbers_from p (suc m)) (upto e) ≡ raises_from f keeper k name heap n (numbers_from (p + 1) m) (upto e)
   passed_one e p m none = ap (λ (t : Bool). after_one p (numbers_from (p + 1) m) t (are_bare (upto e) p n) (deeds_run keeper heap p (n + 2) (upto e)) (upto e)) (is.still e p ∙ none)
 
   -- a run that doesn't serve
   pass_by : (Result : World) (e p m : ℕ) → 1 ≤ p → p < end → IsUpTo e p → (is_run f w heap (n + 2) p ≡ true → are_bare w p n ≡ false)
-      → ((e : ℕ) → IsUpTo e (p + 1) → raises_from f keeper k name heap n (numbers_from (p + 1) m) (upto e) ≡ Result) → raises_from f keeper k name heap n (numbers_from p (suc m)) (upto e) ≡ Result
+      → ((e : ℕ) → IsUpTo e (p + 1) → raises_from f keeper k name heap n (numbers_from (p + 1) m) (upto e) ≡ Result)
+      → raises_from f keeper k name heap n (numbers_from p (suc m)) (upto e) ≡ Result
   pass_by Result e p m low high up backed rest = at (is_run f w heap (n + 2) p) refl
     where
       at : (t : Bool) → is_run f w heap (n + 2) p ≡ t → raises_from f keeper k name heap n (numbers_from p (suc m)) (upto e) ≡ Result
@@ -212,8 +220,10 @@ module _ (f : Profile) (keeper k name heap n : ℕ) (w : World) (made : List ℕ
   begun = ap (λ (qs : List ℕ). shown (deeds_of keeper d qs) w) (below_none made)
 
   -- ---- THE RUN THAT SERVES: the last one that is tried
-  module _ (first : ℕ) (last : end ≡ first + 1) (region : (1 ≤ first) × (first ≤ f.pages)) (usable : is_run f w heap (n + 2) first ≡ true) (bare : are_bare w first n ≡ true) (lower : (r : ℕ) → 1 ≤ r → r < first → is_run f w heap (n + 2) r ≡ true → are_bare w r n ≡ false) where
-    walk : (m p e : ℕ) → 1 ≤ p → p ≤ first → first < p + m → IsUpTo e p → raises_from f keeper k name heap n (numbers_from p m) (upto e) ≡ raises keeper name heap first n (upto (first + (n + 2)))
+  module _ (first : ℕ) (last : end ≡ first + 1) (region : (1 ≤ first) × (first ≤ f.pages)) (usable : is_run f w heap (n + 2) first ≡ true)
+      (bare : are_bare w first n ≡ true) (lower : (r : ℕ) → 1 ≤ r → r < first → is_run f w heap (n + 2) r ≡ true → are_bare w r n ≡ false) where
+    walk : (m p e : ℕ) → 1 ≤ p → p ≤ first → first < p + m → IsUpTo e p
+        → raises_from f keeper k name heap n (numbers_from p m) (upto e) ≡ raises keeper name heap first n (upto (first + (n + 2)))
     walk zero p e low le past up = absurd (omega (arith, le, past))
     walk (suc m) p e low le past up = elim (cases_eq p first) [
       | inl same ↦
@@ -226,6 +236,7 @@ module _ (f : Profile) (keeper k name heap n : ℕ) (w : World) (made : List ℕ
     all_below : AllByRecursion (λ q. q < first + (n + 2)) made
     all_below = search (arith, all_so)
 
+    -- Where a run of the walk serves, the text raises the guard there, with the deeds of the walk made.
     pub found_text : raises_from f keeper k name heap n (page_numbers f) w ≡ raises keeper name heap first n (shown (deeds_of keeper d made) w)
     found_text =
         let low = region.0 in
@@ -233,11 +244,13 @@ module _ (f : Profile) (keeper k name heap n : ℕ) (w : World) (made : List ℕ
 
   -- ---- NO RUN SERVES
   module _ (last : end ≡ f.pages + 1) (none : (r : ℕ) → 1 ≤ r → r < end → is_run f w heap (n + 2) r ≡ true → are_bare w r n ≡ false) where
-    through : (m p e : ℕ) → 1 ≤ p → p + m ≡ end → IsUpTo e p → raises_from f keeper k name heap n (numbers_from p m) (upto e) ≡ serves_pages f k name heap n (shown (deeds_of keeper d made) w)
+    through : (m p e : ℕ) → 1 ≤ p → p + m ≡ end → IsUpTo e p
+        → raises_from f keeper k name heap n (numbers_from p m) (upto e) ≡ serves_pages f k name heap n (shown (deeds_of keeper d made) w)
     through zero p e low at up = ap (serves_pages f k name heap n) (whole e (all_so (λ q. (r : ℕ) × IsInRun r (n + 2) q × ((1 ≤ r) × (r < end) × (is_run f w heap (n + 2) r ≡ true))) (λ q. q < e) made
         (λ q h. let past = up.past h.0 h.2.0 (omega (arith, h.2.1, at)) h.2.2 in omega (arith, h.1.1, past)) is.of_runs))
     through (suc m) p e low at up = pass_by (serves_pages f k name heap n (shown (deeds_of keeper d made) w)) e p m low (omega (arith, at)) up (none p low (omega (arith, at)))
         (λ e' up'. through m (p + 1) e' (omega arith) (omega (arith, at)) up')
 
+    -- Where no run of the walk serves, the text makes the request for whole pages, with the deeds of the walk made.
     pub none_text : raises_from f keeper k name heap n (page_numbers f) w ≡ serves_pages f k name heap n (shown (deeds_of keeper d made) w)
     none_text = ap (raises_from f keeper k name heap n (page_numbers f)) (sym begun) ∙ through f.pages 1 0 (omega arith) (omega (arith, last)) begin

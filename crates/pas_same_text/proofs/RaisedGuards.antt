@@ -48,21 +48,25 @@ use Rattle.pas_same_text.proofs.TriedRuns.{unowned_free, visible_mid, made_event
 
 -- ---- what backings of pages in turn leave as it is
 module _ (k : ℕ) where
-  one_gives : (t : Bool) (page a : ℕ) (xs es : List Event) → gives_in (with_event (if t then Some (Event.Back k page) else None) xs ++ es) a ≡ gives_in (xs ++ es) a
+  one_gives : (t : Bool) (page a : ℕ) (xs es : List Event)
+      → gives_in (with_event (if t then Some (Event.Back k page) else None) xs ++ es) a ≡ gives_in (xs ++ es) a
   one_gives true page a xs es = refl
   one_gives false page a xs es = refl
 
-  backs_give : (n first a : ℕ) (v : View) (steps : List Made) (es : List Event) → InTurn BackStep (pages_from first n) steps → gives_in (events_by k v steps ++ es) a ≡ gives_in es a
+  backs_give : (n first a : ℕ) (v : View) (steps : List Made) (es : List Event) → InTurn BackStep (pages_from first n) steps
+      → gives_in (events_by k v steps ++ es) a ≡ gives_in es a
   backs_give zero first a v steps es turn = ap (λ (ms : List Made). gives_in (events_by k v ms ++ es) a) turn
   backs_give (suc n) first a v steps es turn =
       ap (λ (ms : List Made). gives_in (events_by k v ms ++ es) a) (turn.4 ∙ ap (λ (ms : List Made). ms ++ turn.1) turn.2.1)
       ∙ (one_gives (turn.2.0 == 0) (first + n) a (events_by k v turn.1) es ∙ backs_give n first a v turn.1 es turn.3)
 
-  one_live : (t : Bool) (page a : ℕ) (xs es : List Event) → live_in (with_event (if t then Some (Event.Back k page) else None) xs ++ es) a ≡ live_in (xs ++ es) a
+  one_live : (t : Bool) (page a : ℕ) (xs es : List Event)
+      → live_in (with_event (if t then Some (Event.Back k page) else None) xs ++ es) a ≡ live_in (xs ++ es) a
   one_live true page a xs es = refl
   one_live false page a xs es = refl
 
-  backs_lives : (n first a : ℕ) (v : View) (steps : List Made) (es : List Event) → InTurn BackStep (pages_from first n) steps → live_in (events_by k v steps ++ es) a ≡ live_in es a
+  backs_lives : (n first a : ℕ) (v : View) (steps : List Made) (es : List Event) → InTurn BackStep (pages_from first n) steps
+      → live_in (events_by k v steps ++ es) a ≡ live_in es a
   backs_lives zero first a v steps es turn = ap (λ (ms : List Made). live_in (events_by k v ms ++ es) a) turn
   backs_lives (suc n) first a v steps es turn =
       ap (λ (ms : List Made). live_in (events_by k v ms ++ es) a) (turn.4 ∙ ap (λ (ms : List Made). ms ++ turn.1) turn.2.1)
@@ -73,7 +77,8 @@ filtered_last : (t : Guard → Bool) (gs : List Guard) (g : Guard) → filter t 
 filtered_last t [] g = refl
 filtered_last t (x ∷ gs) g = at (t x) (filtered_last t gs g)
   where
-    at : (b : Bool) → filter t (gs ++ g ∷ []) ≡ filter t gs ++ (if t g then g ∷ [] else []) → (if b then x ∷ filter t (gs ++ g ∷ []) else filter t (gs ++ g ∷ [])) ≡ (if b then x ∷ filter t gs else filter t gs) ++ (if t g then g ∷ [] else [])
+    at : (b : Bool) → filter t (gs ++ g ∷ []) ≡ filter t gs ++ (if t g then g ∷ [] else [])
+        → (if b then x ∷ filter t (gs ++ g ∷ []) else filter t (gs ++ g ∷ [])) ≡ (if b then x ∷ filter t gs else filter t gs) ++ (if t g then g ∷ [] else [])
     at true rest = ap (λ (xs : List Guard). x ∷ xs) rest
     at false rest = rest
 
@@ -99,7 +104,8 @@ first_read x [] h = absurd h
 first_read x (m ∷ xs) (inl h) = inl (h.0, h.1 0 (omega arith))
 first_read x (m ∷ xs) (inr h) = inr (first_read x xs h)
 
-module _ (f : Profile) (k name heap n : ℕ) (p q : Progress) (w : World) (valid : IsValid f) (between : IsBetween f p) (same : IsSame f p w) (of : IsDirectoryOf f (large_of heap)) (xs rest : List Made) (block : Block) (guards' : List BookGuard) (legal : Legal f (triples k xs ++ p.list))
+module _ (f : Profile) (k name heap n : ℕ) (p q : Progress) (w : World) (valid : IsValid f) (between : IsBetween f p) (same : IsSame f p w)
+    (of : IsDirectoryOf f (large_of heap)) (xs rest : List Made) (block : Block) (guards' : List BookGuard) (legal : Legal f (triples k xs ++ p.list))
     (kinds : Only seeking xs) (rise : DeedsRise xs) (due : Always ReturnsDuly xs) (met : MayFind (large_of heap) (part k p.list)) (run : IsRaised f (large_of heap) n (p.books k) guards' xs rest block) (there : IsBetween f q) (list : q.list ≡ triples k (rest ++ xs) ++ p.list)
     (caches : q.caches ≡ p.caches) (own_book : q.books k ≡ guards') (other_books : (j : ℕ) → (j == k) ≡ false → q.books j ≡ p.books j) (names : q.names ≡ named name (Some block) ∷ p.names)
     (records : q.records ≡ p.records ++ (records_of (events_by k (part k p.list) (rest ++ xs)) ++ Record.Said k (Said.Guarded run.first (run.first + n + 1) name) ∷ [])) (epoch : q.epoch ≡ p.epoch) where
@@ -363,7 +369,8 @@ module _ (f : Profile) (k name heap n : ℕ) (p q : Progress) (w : World) (valid
     covered = λ a b lives covers_it. by_address a b covers_it (address_of block.name == a) refl (ap (λ (evs : List Event). live_in evs a) (sym visible_are) ∙ lives);
   }
     where
-      by_address : (a : ℕ) (b : Live) → IsPartOf (256 * x + 0) a b → (t : Bool) → (address_of block.name == a) ≡ t → (if t then Some live else live_in (es ++ visible l) a) ≡ Some b → live_in (visible l) a ≡ Some b
+      by_address : (a : ℕ) (b : Live) → IsPartOf (256 * x + 0) a b → (t : Bool) → (address_of block.name == a) ≡ t
+          → (if t then Some live else live_in (es ++ visible l) a) ≡ Some b → live_in (visible l) a ≡ Some b
       by_address a b covers_it true e is = search (arith, eqb-true, covered_in)
       by_address a b covers_it false e is = sym (live_then a) ∙ is
 
@@ -434,5 +441,6 @@ module _ (f : Profile) (k name heap n : ℕ) (p q : Progress) (w : World) (valid
     read = (shown_rest es w).read ∙ (same.read ∙ sym epoch);
   }
 
+  -- Where a keeper's search found a run, the guard that the text raises there is the replay's state.
   pub raised_same : IsSame f q (raises k name heap first n tried)
   raised_same = subst (IsSame f q) (sym text) raised_here

@@ -23,7 +23,8 @@ free_slot_as class r fair same s free = let end = slot_within class s free.0 in 
 row_as : (Good Fair : ℕ → Type 0) (first step n s : ℕ) → ((x : ℕ) → Good x → Fair x) → IsInRow Good first step n s → IsInRow Fair first step n s
 row_as Good Fair first step n s fair row = (row.0, row.1, row.2, λ j le. fair (first + j * step) (row.3 j le))
 
-lowest_row_as : (class : ℕ) (r fair : Readings) (starts : Mask4) → ((b : ℕ) → b < 256 → r b ≡ fair b) → IsLowestRow class r starts → IsLowestRow class fair starts
+lowest_row_as : (class : ℕ) (r fair : Readings) (starts : Mask4) → ((b : ℕ) → b < 256 → r b ≡ fair b) → IsLowestRow class r starts
+    → IsLowestRow class fair starts
 lowest_row_as class r fair starts same row =
     let there = free_slot_as class r fair same in let back = free_slot_as class fair r (λ b small. sym (same b small)) in
     record {
@@ -36,7 +37,8 @@ lowest_row_as class r fair starts same row =
       );
     }
 
-module _ (f : Profile) (k : ℕ) (l : Whole) (class page : ℕ) (searched : List Made) (starts : Mask4) (legal : Legal f (triples k searched ++ l)) (searches : AreSearch searched) (took : TookChosen (rows class) page searched starts) where
+module _ (f : Profile) (k : ℕ) (l : Whole) (class page : ℕ) (searched : List Made) (starts : Mask4) (legal : Legal f (triples k searched ++ l))
+    (searches : AreSearch searched) (took : TookChosen (rows class) page searched starts) where
   lends : LendsNone searched
   lends = lends_none searching refl searched searches.kinds
 
@@ -49,5 +51,6 @@ module _ (f : Profile) (k : ℕ) (l : Whole) (class page : ℕ) (searched : List
       (λ read. of_page b ∙ shown_free f k l page b took.readings searched legal lends searches.returns small (took.read (b / 64) (omega (arith, small))) read)
       (λ free. free_shown f k l page b took.readings searched legal lends small (sym (of_page b) ∙ free) (took.read (b / 64) (omega (arith, small))))
 
+  -- What a search took of a shared page is the lowest row of slots by the grains free before the search.
   pub shared_row : IsLowestRow class (free_of_page l page) starts
   shared_row = lowest_row_as class took.readings (free_of_page l page) starts reading_is took.chosen

@@ -19,14 +19,17 @@ abbrev pub shown : List Event → World → World
 shown [] w = w
 shown (e ∷ es) w = shows e (shown es w)
 
+-- Events that are shown stand in front of the text's events.
 pub shown_events : (es : List Event) (w : World) → (shown es w).events ≡ es ++ w.events
 shown_events [] w = refl
 shown_events (e ∷ es) w = ap (λ (xs : List Event). e ∷ xs) (shown_events es w)
 
+-- Events that are shown stand in front of the text's records, each as its own record.
 pub shown_records : (es : List Event) (w : World) → (shown es w).records ≡ map Record.Event es ++ w.records
 shown_records [] w = refl
 shown_records (e ∷ es) w = ap (λ (rs : List Record). Record.Event e ∷ rs) (shown_records es w)
 
+-- The live blocks are those of the events, after events are shown as before.
 pub shown_lives : (es : List Event) (w : World) → w.live ≡ lives_in w.events → (shown es w).live ≡ lives_in (shown es w).events
 shown_lives [] w is = is
 shown_lives (e ∷ es) w is = ap (live_after e) (shown_lives es w is)
@@ -40,6 +43,7 @@ pub record HasRest (w v : World) : Type 0 where
   pub epoch : v.epoch ≡ w.epoch
   pub read : v.read ≡ w.read
 
+-- Events that are shown leave names, caches, guards, hints and the epochs as they were.
 pub shown_rest : (es : List Event) (w : World) → HasRest w (shown es w)
 shown_rest [] w = record { names = refl; caches = refl; guards = refl; hinted = refl; epoch = refl; read = refl }
 shown_rest (e ∷ es) w = let r = shown_rest es w in record { names = r.names; caches = r.caches; guards = r.guards; hinted = r.hinted; epoch = r.epoch; read = r.read }
@@ -56,7 +60,8 @@ AllAtPage k d page (e ∷ es) = IsAtPage k d page e × AllAtPage k d page es
 
 module _ (k : ℕ) (d : Directory) (page : ℕ) where
   -- those of a search are
-  next_at : (epoch a : ℕ) (s : Step) (o : Option Event) (es : List Event) → event_of k epoch s a ≡ o → (event_of k epoch s a ≡ None) ⊎ IsDeedOrBack d page s → AllAtPage k d page es → AllAtPage k d page (with_event o es)
+  next_at : (epoch a : ℕ) (s : Step) (o : Option Event) (es : List Event) → event_of k epoch s a ≡ o → (event_of k epoch s a ≡ None) ⊎ IsDeedOrBack d page s
+      → AllAtPage k d page es → AllAtPage k d page (with_event o es)
   next_at epoch a s None es is at all = all
   next_at epoch a s (Some e) es is (inl none) all = absurd (let bad : Some e ≡ None = sym is ∙ none in cc)
   next_at epoch a s (Some e) es is (inr own) all = (of_own s own is, all)
@@ -77,6 +82,7 @@ module _ (k : ℕ) (d : Directory) (page : ℕ) where
   quiet_or m epoch (inl quiet) = inl (quiet k epoch)
   quiet_or m epoch (inr own) = inr own
 
+  -- The events of steps at one page are deeds of the directory and backs of that page.
   pub search_at : (v : View) (xs : List Made) → EventsAt d page xs → AllAtPage k d page (events_by k v xs)
   search_at v [] at = tt
   search_at v (m ∷ xs) at =
@@ -113,9 +119,11 @@ module _ (k : ℕ) (d : Directory) (page : ℕ) where
       at e IsAtPage.Deeds may none = deed_there (deed_in (es ++ base) page) none
       at e IsAtPage.Backs may none = may.1 none
 
+  -- A page without a deed gets one in the text.
   pub unowned : (w : World) → deed_in w.events page ≡ None → deeds k d page w ≡ shows (Event.Deed k page d) w
   unowned w none = ap (λ (o : Option Directory). if is_none o then shows (Event.Deed k page d) w else w) none
 
+  -- A page that has a deed gets none in the text.
   pub owned : (w : World) → deed_in w.events page ≢ None → deeds k d page w ≡ w
   owned w some = at (deed_in w.events page) some
     where
@@ -133,7 +141,8 @@ module _ (k : ℕ) (d : Directory) (page : ℕ) where
   back_there : (es : List Event) → backed_in (Event.Back k page ∷ es) page ≡ false → ⊥
   back_there es none = true≢false (sym (ap (λ (t : Bool). if t then true else backed_in es page) (eq-eqb page page refl)) ∙ none)
 
-  deeded : (f : Profile) (es : List Event) (w : World) → AllAtPage k d page es → Run f (es ++ w.events) → deed_in (es ++ w.events) page ≢ None → backed_in (es ++ w.events) page ≡ false → deeds k d page w ≡ shown es w
+  deeded : (f : Profile) (es : List Event) (w : World) → AllAtPage k d page es → Run f (es ++ w.events) → deed_in (es ++ w.events) page ≢ None
+      → backed_in (es ++ w.events) page ≡ false → deeds k d page w ≡ shown es w
   deeded f [] w all run some none = owned w some
   deeded f (e ∷ es) w all run some none = at e all.0 run.0 none
     where
@@ -144,11 +153,13 @@ module _ (k : ℕ) (d : Directory) (page : ℕ) where
       at e IsAtPage.Backs may none = absurd (back_there (es ++ w.events) none)
 
   -- THE PAGE IS READY: it got a deed and memory exactly where it had none
-  readied : (f : Profile) (es : List Event) (w : World) → AllAtPage k d page es → Run f (es ++ w.events) → deed_in (es ++ w.events) page ≢ None → backed_in (es ++ w.events) page ≡ true → readies k d page w ≡ shown es w
+  readied : (f : Profile) (es : List Event) (w : World) → AllAtPage k d page es → Run f (es ++ w.events) → deed_in (es ++ w.events) page ≢ None
+      → backed_in (es ++ w.events) page ≡ true → readies k d page w ≡ shown es w
   readied f [] w all run some backed = ap (backs k page) (owned w some) ∙ was_backed w backed
   readied f (e ∷ es) w all run some backed = at e all.0 run.0 backed
     where
-      at : (e : Event) → IsAtPage k d page e → Admits f (es ++ w.events) e → backed_in (e ∷ (es ++ w.events)) page ≡ true → readies k d page w ≡ shown (e ∷ es) w
+      at : (e : Event) → IsAtPage k d page e → Admits f (es ++ w.events) e → backed_in (e ∷ (es ++ w.events)) page ≡ true
+          → readies k d page w ≡ shown (e ∷ es) w
       at e IsAtPage.Deeds may backed =
           let empty : es ≡ [] = none_before f es w.events all.1 run.1 may.2 in
           let none : deed_in w.events page ≡ None = ap (λ (xs : List Event). deed_in (xs ++ w.events) page) (sym empty) ∙ may.2 in
@@ -158,7 +169,9 @@ module _ (k : ℕ) (d : Directory) (page : ℕ) where
           ap (backs k page) (deeded f es w all.1 run.1 may.1 may.2) ∙ unbacked (shown es w) (ap (λ (xs : List Event). backed_in xs page) (shown_events es w) ∙ may.2)
 
   -- .. where a block of it was given
-  pub given_ready : (f : Profile) (es : List Event) (w : World) (giver : ℕ) (block : Block) (start : ℕ) → AllAtPage k d page es → Run f (Event.Give giver block ∷ (es ++ w.events)) → start < 256 → grain_of block.name ≡ 256 * page + start → 1 ≤ length_of block → readies k d page w ≡ shown es w
+  pub given_ready : (f : Profile) (es : List Event) (w : World) (giver : ℕ) (block : Block) (start : ℕ) → AllAtPage k d page es
+      → Run f (Event.Give giver block ∷ (es ++ w.events)) → start < 256 → grain_of block.name ≡ 256 * page + start → 1 ≤ length_of block
+      → readies k d page w ≡ shown es w
   given_ready f es w giver block start at run small grain some =
       let on : (256 * page + start) / 256 ≡ page = omega (arith, small) in
       let bears : Bears f (es ++ w.events) block.heap page =

@@ -15,7 +15,8 @@ use Rattle.pas_same_text.specs.{Same.HasSame, Acts.IsBetween}
 use Rattle.pas_same_text.proofs.{KeptPages.keeper, KeptPages.kept_by, RestingPages.deed_now, RestingPages.deed_from_word, SearchedPages.find_first}
 use Rattle.pas_same_text.proofs.{SearchedPages.find_none, Tests.and_first, Tests.and_second}
 
-module _ (f : Profile) (p : Progress) (w : World) (valid : IsValid f) (between : IsBetween f p) (same : HasSame f p w) (d : Directory) (of : IsDirectoryOf f d) where
+module _ (f : Profile) (p : Progress) (w : World) (valid : IsValid f) (between : IsBetween f p) (same : HasSame f p w) (d : Directory) (of : IsDirectoryOf f d)
+    where
   abbrev l : Whole
   l = p.list
 
@@ -47,6 +48,7 @@ module _ (f : Profile) (p : Progress) (w : World) (valid : IsValid f) (between :
         not_parked = right_not_parked f l between.legal k.0 q k.1;
       }
 
+  -- A refusal's reason that is true of the whole state of the replay is the one that the text says.
   pub refusal_told : (room : NoRoom) → IsTrueReason f d l room → refusal f w d ≡ room
   refusal_told NoRoom.NoSpace none = ap refusal_by (find_none is_held f.pages 1 (λ q low high. false_from_ne_true (is_held q) (λ h. none q (kept_hands q h))))
   refusal_told (NoRoom.Held page) held =

@@ -26,7 +26,8 @@ use Rattle.pas_same_text.proofs.{RefusedRequests.refused_to, RefusedRequests.ref
 use Rattle.pas_same_text.proofs.FetchedClasses.{HasPlace, IsFetched, with_place, may_fetch, place_fetched, text_fetched, fetch_between, fetch_carried}
 
 -- ---- the fetch as a request of its own
-module _ (f : Profile) (k name heap class : ℕ) (p : Progress) (w : World) (room : NoRoom) (steps : List Made) (has : HasPlace f k heap class p w) (refill : IsRefill (filling_in (class_home f heap class) class) f steps (Err room)) (after : IsBetween f (refused_to p k name steps room)) where
+module _ (f : Profile) (k name heap class : ℕ) (p : Progress) (w : World) (room : NoRoom) (steps : List Made) (has : HasPlace f k heap class p w)
+    (refill : IsRefill (filling_in (class_home f heap class) class) f steps (Err room)) (after : IsBetween f (refused_to p k name steps room)) where
   abbrev d : Directory
   d = class_home f heap class
 
@@ -54,20 +55,24 @@ module _ (f : Profile) (k name heap class : ℕ) (p : Progress) (w : World) (roo
   fetch_refused = subst (IsSame f (refused_to p k name steps room)) (sym text) (refused_same f k name p w d steps room has.valid has.thread has.directory has.between after has.same searches refused.quiet told.2)
 
 -- ---- the pages of a request of a class
-home_of_class : (f : Profile) (heap size align class : ℕ) → route_in f size align ≡ Route.Class class → (wanted_for f heap size align).directory ≡ class_home f heap class
+home_of_class : (f : Profile) (heap size align class : ℕ) → route_in f size align ≡ Route.Class class
+    → (wanted_for f heap size align).directory ≡ class_home f heap class
 home_of_class f heap size align class route = ap (λ (r : Route). let e : Directory = record { heap = heap; kind = kind_of_route (is_shared f heap) r } in e) route
 
-kind_is : (f : Profile) (heap size align class : ℕ) → IsAdmitted f size align heap → route_in f size align ≡ Route.Class class → IsClass class → (shared : Bool) → IsDirectoryOf f (record { heap = heap; kind = kind_of_route shared (Route.Class class) })
+kind_is : (f : Profile) (heap size align class : ℕ) → IsAdmitted f size align heap → route_in f size align ≡ Route.Class class → IsClass class → (shared : Bool)
+    → IsDirectoryOf f (record { heap = heap; kind = kind_of_route shared (Route.Class class) })
 kind_is f heap size align class admitted route known h = search (arith, class_suits)
 
 class_of_request : (f : Profile) (size align class : ℕ) → route_in f size align ≡ Route.Class class → IsClass class
 class_of_request f size align class route = class_known f.classes size align class (class_suits f.classes size align class route)
 
-class_directory_of : (f : Profile) (heap size align class : ℕ) → IsAdmitted f size align heap → route_in f size align ≡ Route.Class class → IsDirectoryOf f (class_home f heap class)
+class_directory_of : (f : Profile) (heap size align class : ℕ) → IsAdmitted f size align heap → route_in f size align ≡ Route.Class class
+    → IsDirectoryOf f (class_home f heap class)
 class_directory_of f heap size align class admitted route = kind_is f heap size align class admitted route (class_of_request f size align class route) (is_shared f heap)
 
 -- how the thread's cache serves it, in these pages
-pub class_served_by : (f : Profile) (k name heap size align class : ℕ) (p : Progress) (a : Answer) → route_in f size align ≡ Route.Class class → (served : IsServed f k (record { name = name; heap = heap; size = size; align = align }) (having p.names (part k p.list) (p.caches k)) a)
+pub class_served_by : (f : Profile) (k name heap size align class : ℕ) (p : Progress) (a : Answer) → route_in f size align ≡ Route.Class class
+    → (served : IsServed f k (record { name = name; heap = heap; size = size; align = align }) (having p.names (part k p.list) (p.caches k)) a)
     → ServesClass (filling_in (class_home f heap class) class) f (p.caches k) a.cache a.steps served.answer
 class_served_by f k name heap size align class p a route served = search (arith, home_of_class)
 
@@ -92,7 +97,8 @@ module _ (f : Profile) (k name heap size align class : ℕ) (p p' : Progress) (w
       legal_earlier f k given steps p.list (subst (λ (ms : List Made). Legal f (triples k ms ++ p.list)) steps_are all)
 
   -- slots were fetched, or none were found
-  pub fetched_so : (found : Result Slots NoRoom) (fewer : List Slots) (steps given : List Made) → a.steps ≡ given ++ steps → Fetches (filling_in home class) f c.locals fewer steps found → IsFetched f k heap class p w found fewer steps
+  pub fetched_so : (found : Result Slots NoRoom) (fewer : List Slots) (steps given : List Made) → a.steps ≡ given ++ steps
+      → Fetches (filling_in home class) f c.locals fewer steps found → IsFetched f k heap class p w found fewer steps
   fetched_so found fewer steps given steps_are fetch = search (arith, class_directory_of, class_of_request, legal_fetch)
 
   -- ---- none were found
@@ -115,12 +121,15 @@ module _ (f : Profile) (k name heap size align class : ℕ) (p p' : Progress) (w
     obtained fewer steps cache steps_are (inl cached) = absurd (let bad : Err room ≡ Ok cached.0 = cached.1 in cc)
     obtained fewer steps cache steps_are (inr fetch) = by_fetch fewer steps cache steps_are (fetched_so (Err room) fewer steps [] steps_are fetch)
 
-    ends_so : (found : Result Slots NoRoom) (fewer : List Slots) (early given : List Made) → a.steps ≡ given ++ early → IsObtained (filling_in home class) f c.locals fewer early found → IsAnswered fewer a.cache.locals given found (Err room) → IsSame f p' (serves_class f k name heap class w)
+    ends_so : (found : Result Slots NoRoom) (fewer : List Slots) (early given : List Made) → a.steps ≡ given ++ early
+        → IsObtained (filling_in home class) f c.locals fewer early found → IsAnswered fewer a.cache.locals given found (Err room)
+        → IsSame f p' (serves_class f k name heap class w)
     ends_so (Ok slots) fewer early given steps_are how ends = absurd ends
     ends_so (Err why) fewer early given steps_are how ends =
         obtained fewer early (by_class.cache ∙ ap (λ (ss : List Slots). record c { locals = ss }) ends.1) (steps_are ∙ ap (λ (ms : List Made). ms ++ early) ends.2)
         (subst (λ (r : NoRoom). IsObtained (filling_in home class) f c.locals fewer early (Err r)) (sym ends.0) how)
 
+    -- A request of a class that is refused leads the text to the replay's state.
     pub class_refused : IsSame f p' (serves f k name heap (route_in f size align) (room_in f size align) align w)
     class_refused = subst (λ (r : Route). IsSame f p' (serves f k name heap r (room_in f size align) align w)) (sym route)
         (ends_so by_class.locals.found by_class.locals.fewer by_class.locals.before by_class.locals.given by_class.locals.steps_are by_class.locals.obtained

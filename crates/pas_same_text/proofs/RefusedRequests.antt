@@ -25,7 +25,8 @@ quiet_at d page steps quiet = always_map (λ m before. IsQuiet m) (λ m before. 
 abbrev pub refused_to : Progress → ℕ → ℕ → List Made → NoRoom → Progress
 refused_to p k name steps room = after_with p k steps (Some (said_of_room name room)) (named name None ∷ p.names) (p.caches k)
 
-module _ (f : Profile) (k name : ℕ) (p : Progress) (w : World) (d : Directory) (steps : List Made) (room : NoRoom) (valid : IsValid f) (thread : IsThread f k) (of : IsDirectoryOf f d) (before : IsBetween f p) (after : IsBetween f (refused_to p k name steps room)) (same : IsSame f p w)
+module _ (f : Profile) (k name : ℕ) (p : Progress) (w : World) (d : Directory) (steps : List Made) (room : NoRoom) (valid : IsValid f) (thread : IsThread f k)
+    (of : IsDirectoryOf f d) (before : IsBetween f p) (after : IsBetween f (refused_to p k name steps room)) (same : IsSame f p w)
     (searches : AreSearch steps) (quiet : AreQuiet steps) (reason : IsTrueReason f d (refused_to p k name steps room).list room) where
   abbrev p' : Progress
   p' = refused_to p k name steps room
@@ -71,6 +72,7 @@ module _ (f : Profile) (k name : ℕ) (p : Progress) (w : World) (d : Directory)
   why : refusal f w d ≡ room
   why = refusal_told f p' v valid after now d of room reason
 
+  -- A request that is refused after a search leads the text to the replay's state, with its reason.
   pub refused_same : IsSame f p' (refuses k name (refusal f w d) w)
   refused_same = subst (λ (r : NoRoom). IsSame f p' (refuses k name r w)) (sym why) record {
     pages = record {

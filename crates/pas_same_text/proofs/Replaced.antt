@@ -34,7 +34,8 @@ last_standing : (name : ℕ) (o : Option Block) (names : List Named) → standin
 last_standing name o names = ap (λ (t : Bool). if t then Some o else standing_for names name) (eq-eqb name name refl)
 
 -- ---- between the request and the log all actors are at rest
-module _ (f : Profile) (k : ℕ) (r : Request) (old : Block) (p : Progress) (a : Answer) (w : World) (is : IsReplaced f k r old (having p.names (part k p.list) (p.caches k)) a)
+module _ (f : Profile) (k : ℕ) (r : Request) (old : Block) (p : Progress) (a : Answer) (w : World)
+    (is : IsReplaced f k r old (having p.names (part k p.list) (p.caches k)) a)
     (valid : IsValid f) (thread : IsThread f k) (listed : k ≤ length w.caches) (admitted : IsAdmitted f r.size r.align r.heap) (before : IsBetween f p)
     (after : IsBetween f (after_answer p k a)) (same : IsSame f p w) where
   abbrev came : Answer
@@ -52,10 +53,12 @@ module _ (f : Profile) (k : ℕ) (r : Request) (old : Block) (p : Progress) (a :
   at_end = at_rest_now f (p.caches k) a.cache (p.books k) (part k p.list) (part k (triples k a.steps ++ p.list)) (before.rest.working k thread) is.served.rest
       (subst (λ (c : Cached). IsResting f c (p.books k) (part k (triples k a.steps ++ p.list))) (same_own p.caches k a.cache) (after.rest.working k thread))
 
-  serves_by : (answer : Result Block NoRoom) → is.served.answer ≡ answer → ServesBy (route_in f r.size r.align) f (wanted_by f r) came.found (p.caches k) came.cache came.steps answer
+  serves_by : (answer : Result Block NoRoom) → is.served.answer ≡ answer
+      → ServesBy (route_in f r.size r.align) f (wanted_by f r) came.found (p.caches k) came.cache came.steps answer
   serves_by answer e = subst (λ (x : Result Block NoRoom). ServesBy (route_in f r.size r.align) f (wanted_by f r) came.found (p.caches k) came.cache came.steps x) e is.served.serves
 
-  own_rest : (answer : Result Block NoRoom) → is.served.answer ≡ answer → MatchResult answer (λ block. TakesEntry f k came.cache a.cache (entry_of old.name) is.freed) (λ room. (is.freed ≡ []) × (a.cache ≡ came.cache))
+  own_rest : (answer : Result Block NoRoom) → is.served.answer ≡ answer
+      → MatchResult answer (λ block. TakesEntry f k came.cache a.cache (entry_of old.name) is.freed) (λ room. (is.freed ≡ []) × (a.cache ≡ came.cache))
       → AtRest f came.cache (part k midway.list)
   own_rest (Err room) e none = search (arith, at_end)
   own_rest (Ok block) e takes =
@@ -74,7 +77,8 @@ module _ (f : Profile) (k : ℕ) (r : Request) (old : Block) (p : Progress) (a :
   middle = record { legal = legal; rest = middle_rest f p k came.cache came.steps valid thread before is.served.rest legal (own_rest is.served.answer refl is.logged) }
 
 -- ---- the act, with all that is known of its request
-module _ (f : Profile) (k : ℕ) (r : Request) (old : Block) (p : Progress) (a : Answer) (w : World) (heap_is : old.heap ≡ r.heap) (is : IsReplaced f k r old (having p.names (part k p.list) (p.caches k)) a) (asked : IsAsked f k r p is.placed w) (usable : HasUsableBlocks p)
+module _ (f : Profile) (k : ℕ) (r : Request) (old : Block) (p : Progress) (a : Answer) (w : World) (heap_is : old.heap ≡ r.heap)
+    (is : IsReplaced f k r old (having p.names (part k p.list) (p.caches k)) a) (asked : IsAsked f k r p is.placed w) (usable : HasUsableBlocks p)
     (at_request : AnswersSame f k r p is.placed w) (after : IsBetween f (after_answer p k a)) where
   abbrev placed : Answer
   placed = is.placed
@@ -108,7 +112,8 @@ module _ (f : Profile) (k : ℕ) (r : Request) (old : Block) (p : Progress) (a :
       (subst (λ (x : World). IsSame f q x) (sym (text_as None names_are)) at_request)
 
   -- ---- where it was served the old name is logged
-  module _ (block : Block) (names_are : placed.names ≡ named r.name (Some block) ∷ p.names) (silent : placed.said ≡ None) (takes : TakesEntry f k placed.cache a.cache (entry_of old.name) is.freed) where
+  module _ (block : Block) (names_are : placed.names ≡ named r.name (Some block) ∷ p.names) (silent : placed.said ≡ None)
+      (takes : TakesEntry f k placed.cache a.cache (entry_of old.name) is.freed) where
     abbrev end : Progress
     end = after_with q k is.freed None q.names a.cache
 
@@ -172,7 +177,9 @@ module _ (f : Profile) (k : ℕ) (r : Request) (old : Block) (p : Progress) (a :
         subst (λ (x : Progress). IsSame f x to) (sym end_is)
         (subst (λ (x : World). IsSame f end x) (sym (text_as (Some block) names_are ∙ sym text_logs)) logged)
 
-  by_answer : (answer : Result Block NoRoom) → is.served.answer ≡ answer → MatchResult answer (λ block. TakesEntry f k placed.cache a.cache (entry_of old.name) is.freed) (λ room. (is.freed ≡ []) × (a.cache ≡ placed.cache)) → IsSame f (after_answer p k a) to
+  by_answer : (answer : Result Block NoRoom) → is.served.answer ≡ answer
+      → MatchResult answer (λ block. TakesEntry f k placed.cache a.cache (entry_of old.name) is.freed) (λ room. (is.freed ≡ []) × (a.cache ≡ placed.cache))
+      → IsSame f (after_answer p k a) to
   by_answer answer e takes = search (arith, served_to, unserved)
 
   replaced_asked : IsSame f (after_answer p k a) to
@@ -181,7 +188,8 @@ module _ (f : Profile) (k : ℕ) (r : Request) (old : Block) (p : Progress) (a :
 -- ---- THE ACT, by what is known of it, and what its request comes to
 pub replaced_same : (f : Profile) (k : ℕ) (r : Request) (old : Block) (p : Progress) (a : Answer) (w : World) → old.heap ≡ r.heap → IsValid f → IsThread f k
     → k ≤ length w.caches → IsAdmitted f r.size r.align r.heap → IsBetween f p → IsBetween f (after_answer p k a)
-    → IsSame f p w → HasUsableBlocks p → (is : IsReplaced f k r old (having p.names (part k p.list) (p.caches k)) a) → IsNamedBy f w.indexes (Some r) is.placed.found → RequestStaysSame f k r
+    → IsSame f p w → HasUsableBlocks p → (is : IsReplaced f k r old (having p.names (part k p.list) (p.caches k)) a)
+    → IsNamedBy f w.indexes (Some r) is.placed.found → RequestStaysSame f k r
     → IsSame f (after_answer p k a) (replaces f k r.name old r.size r.align w)
 replaced_same f k r old p a w heap_is valid thread listed admitted before after same usable is named stays =
     let asked : IsAsked f k r p is.placed w = assumption (middle f k r old p a w is valid thread listed admitted before after same) in

@@ -32,6 +32,7 @@ fails_later from n test o =
     let high : o.number < from + 1 + n = o.high in
     record { number = o.number; low = omega (arith, low); high = omega (arith, high); fails = o.fails }
 
+-- A test that doesn't hold of all of several numbers fails on one of them.
 pub some_fails : (n from : ℕ) (test : ℕ → Bool) → each_of from n test ≡ false → Fails from n test
 unfolding each_of
 some_fails zero from test h = absurd (true≢false h)
@@ -45,14 +46,18 @@ some_fails (suc n) from test h = elim (and_cases (test from) (each_of (from + 1)
 pub no_word : (o : Option Directory) → is_none o ≡ true → word_of_deed o ≡ 0
 no_word o h = search (arith, false≢true)
 
+-- A page whose deed word is 0 has no deed.
 pub unowned_by : (o : Option Directory) → word_of_deed o ≡ 0 → is_none o ≡ true
 unowned_by o h = search (arith, deed_word_of-positive)
 
-pub owned_is : (f : Profile) (l : Whole) (w : World) → Legal f l → w.events ≡ visible l → (page : ℕ) → word_after l (Word.Deed page) ≡ word_of_deed (deed_in w.events page)
+-- A page's deed word is that of the deed that the text's events tell.
+pub owned_is : (f : Profile) (l : Whole) (w : World) → Legal f l → w.events ≡ visible l → (page : ℕ)
+    → word_after l (Word.Deed page) ≡ word_of_deed (deed_in w.events page)
 owned_is f l w legal events page = deed_of f l legal page ∙ ap (λ (es : List Event). word_of_deed (deed_in es page)) (sym events)
 
 -- an actor that knows the deed of a page knows its word
-pub word_known : (f : Profile) (l : Whole) → Legal f l → (k page : ℕ) (d : Directory) → known_deed (part k l) page ≡ deed_word_of d → word_after l (Word.Deed page) ≡ deed_word_of d
+pub word_known : (f : Profile) (l : Whole) → Legal f l → (k page : ℕ) (d : Directory) → known_deed (part k l) page ≡ deed_word_of d
+    → word_after l (Word.Deed page) ≡ deed_word_of d
 word_known f l legal k page d knows = sym (known_is (known_deed (part k l) page) (word_after l (Word.Deed page)) (deeds_known f l legal k page) (λ none. deed_word_of-positive d (sym knows ∙ none))) ∙ knows
 
 pub record IsDeedOf (o : Option Directory) (d : Directory) : Type 0 where
@@ -79,12 +84,15 @@ bit_at l page b small =
 abbrev pub is_open : World → Directory → ℕ → Bool
 is_open w d page = not (is_guarded w page) && has_room w d page
 
+-- An unguarded page with room for a directory is open to it.
 pub is_opened : (w : World) (d : Directory) (page : ℕ) → is_guarded w page ≡ false → has_room w d page ≡ true → is_open w d page ≡ true
 is_opened w d page none room = and_from (not (is_guarded w page)) (has_room w d page) (not_from_false (is_guarded w page) none) room
 
+-- A page that is open to a directory isn't guarded.
 pub open_unguarded : (w : World) (d : Directory) (page : ℕ) → is_open w d page ≡ true → is_guarded w page ≡ false
 open_unguarded w d page h = not-true (is_guarded w page) (and_first (not (is_guarded w page)) (has_room w d page) h)
 
+-- A page that is open to a directory has room for its blocks.
 pub open_room : (w : World) (d : Directory) (page : ℕ) → is_open w d page ≡ true → has_room w d page ≡ true
 open_room w d page h = and_second (not (is_guarded w page)) (has_room w d page) h
 
@@ -93,10 +101,12 @@ pub had_open : (w : World) (d : Directory) (page : ℕ) → is_offered w d page 
 had_open w d page h = and_second (not (is_kept w page)) (is_open w d page) (and_second (is_of w d page) (not (is_kept w page) && is_open w d page) h)
 
 module _ (f : Profile) (p : Progress) (w : World) (valid : IsValid f) (between : IsBetween f p) (same : HasSame f p w) where
+  -- Between two acts each actor of the region is clear.
   pub clear_of : (k : ℕ) → k ≤ f.threads → IsClear (part k p.list)
   clear_of zero le = between.rest.scavenger.clear
   clear_of (suc i) le = let some : 1 ≤ suc i = omega arith in (between.rest.working (suc i) (some, le)).locals.clear
 
+  -- A page of a directory in the text has that deed by the replay's events.
   pub deed_now : (page : ℕ) (d : Directory) → IsDirectoryOf f d → is_of w d page ≡ true → deed_in (visible p.list) page ≡ Some d
   deed_now page d of h =
       let o : IsDeedOf (deed_in w.events page) d = deed_told d (deed_in w.events page) h in
@@ -104,22 +114,27 @@ module _ (f : Profile) (p : Progress) (w : World) (valid : IsValid f) (between :
       let of_own : IsDirectoryOf f o.deed = directory_is_of f p.list between.legal page o.deed there in
       there ∙ ap (λ (x : Directory). Some x) (same_number o.deed d of_own.kind of.kind o.number)
 
+  -- A page with a deed by the replay's events has that directory's word.
   pub word_now : (page : ℕ) (d : Directory) → deed_in (visible p.list) page ≡ Some d → word_after p.list (Word.Deed page) ≡ deed_word_of d
   word_now page d is = deed_of f p.list between.legal page ∙ ap word_of_deed is
 
+  -- A grain of an unguarded page is free in the text exactly where its bit of the free word is set.
   pub free_at : (page b : ℕ) → b < 256 → is_guarded w page ≡ false → is_free w page b ≡ has_bit (word_after p.list (Word.Free page (b / 64))) (b % 64)
   free_at page b small none = free_unless f p w valid between same page b small none ∙ bit_at p.list page b small
 
-  usable_at : (page b : ℕ) (d : Directory) → b < 256 → IsDirectoryOf f d → word_after p.list (Word.Deed page) ≡ deed_word_of d → is_guarded w page ≡ false → usable_by_kind d.kind b ≡ true → is_free w page b ≡ true → IsUsableFree p.list page (b / 64) (b % 64)
+  usable_at : (page b : ℕ) (d : Directory) → b < 256 → IsDirectoryOf f d → word_after p.list (Word.Deed page) ≡ deed_word_of d → is_guarded w page ≡ false
+      → usable_by_kind d.kind b ≡ true → is_free w page b ≡ true → IsUsableFree p.list page (b / 64) (b % 64)
   usable_at page b d small of word none usable free = search (arith, free_at, read-deed_word_of, directory_from_profile)
 
   -- ---- A PAGE WITH ROOM that nobody keeps is offered
-  offered_where : (page b : ℕ) (d : Directory) → b < 256 → IsDirectoryOf f d → word_after p.list (Word.Deed page) ≡ deed_word_of d → is_kept w page ≡ false → IsUsableFree p.list page (b / 64) (b % 64) → eligible_bit p.list (number_of d) page ≡ true
+  offered_where : (page b : ℕ) (d : Directory) → b < 256 → IsDirectoryOf f d → word_after p.list (Word.Deed page) ≡ deed_word_of d → is_kept w page ≡ false
+      → IsUsableFree p.list page (b / 64) (b % 64) → eligible_bit p.list (number_of d) page ≡ true
   offered_where page b d small of word kept usable =
       let o : IsRightOffered f p.list page = offered_at_rest f p.list between.legal clear_of page (b / 64) (b % 64) (omega (arith, small)) (λ none. deed_word_of-positive d (sym word ∙ none)) usable (nobody_keeps f p w valid between same page kept) in
       let is : o.directory ≡ d = same_from_deed_word o.directory d o.of_profile.kind of.kind (sym o.deed ∙ word) in
       o.offered (number_of d) ∙ (ap (λ (x : Directory). number_of x == number_of d) is ∙ eq-eqb (number_of d) (number_of d) refl)
 
+  -- A page that the text offers has its bit in the directory's vector.
   pub offered_bit : (page : ℕ) (d : Directory) → IsDirectoryOf f d → is_offered w d page ≡ true → eligible_bit p.list (number_of d) page ≡ true
   offered_bit page d of h =
       let own : is_of w d page ≡ true = and_first (is_of w d page) (not (is_kept w page) && is_open w d page) h in
@@ -135,13 +150,16 @@ module _ (f : Profile) (p : Progress) (w : World) (valid : IsValid f) (between :
       (usable_at page o.number d small of word (open_unguarded w d page open_page) (and_first (usable_by_kind d.kind o.number) (is_free w page o.number) both) (and_second (usable_by_kind d.kind o.number) (is_free w page o.number) both))
 
   -- ---- AN OFFERED PAGE has a deed of its directory, and nobody keeps it
-  pub deed_from_word : (page : ℕ) (d : Directory) (o : Option Directory) → deed_in (visible p.list) page ≡ o → word_of_deed o ≡ deed_word_of d → IsKind d.kind → is_same d o ≡ true
+  pub deed_from_word : (page : ℕ) (d : Directory) (o : Option Directory) → deed_in (visible p.list) page ≡ o → word_of_deed o ≡ deed_word_of d → IsKind d.kind
+      → is_same d o ≡ true
   deed_from_word page d None at word is = absurd (deed_word_of-positive d (sym word))
   deed_from_word page d (Some e) at word is =
       let of_own : IsDirectoryOf f e = directory_is_of f p.list between.legal page e at in
       eq-eqb (number_of e) (number_of d) (ap number_of (same_from_deed_word e d of_own.kind is word))
 
-  pub bit_tells : (page : ℕ) (d : Directory) → IsDirectoryOf f d → IsRightInOnePlace f p.list page → eligible_bit p.list (number_of d) page ≡ true → (is_of w d page ≡ true) × (is_kept w page ≡ false)
+  -- A page whose offered bit is set is of that directory in the text, and nobody keeps it.
+  pub bit_tells : (page : ℕ) (d : Directory) → IsDirectoryOf f d → IsRightInOnePlace f p.list page → eligible_bit p.list (number_of d) page ≡ true
+      → (is_of w d page ≡ true) × (is_kept w page ≡ false)
   bit_tells page d of (inl none) h = absurd (false≢true (sym (none.not_offered (number_of d)) ∙ h))
   bit_tells page d of (inr (inl one)) h = absurd (false≢true (sym (one.not_offered (number_of d)) ∙ h))
   bit_tells page d of (inr (inr (inl o))) h =
@@ -153,7 +171,9 @@ module _ (f : Profile) (p : Progress) (w : World) (valid : IsValid f) (between :
       )
   bit_tells page d of (inr (inr (inr parked))) h = absurd (false≢true (sym (parked.not_offered (number_of d)) ∙ h))
 
-  pub bit_offered : (page : ℕ) (d : Directory) → IsDirectoryOf f d → eligible_bit p.list (number_of d) page ≡ true → is_open w d page ≡ true → is_offered w d page ≡ true
+  -- An open page whose offered bit is set is offered in the text.
+  pub bit_offered : (page : ℕ) (d : Directory) → IsDirectoryOf f d → eligible_bit p.list (number_of d) page ≡ true → is_open w d page ≡ true
+      → is_offered w d page ≡ true
   bit_offered page d of h open_page =
       let told = bit_tells page d of (right_in_one_place f p.list between.legal page) h in
       and_from (is_of w d page) (not (is_kept w page) && is_open w d page) told.0 (and_from (not (is_kept w page)) (is_open w d page) (not_from_false (is_kept w page) told.1) open_page)

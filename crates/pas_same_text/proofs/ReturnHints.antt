@@ -26,20 +26,24 @@ all_read page (suc n) word lt = elim (cases_eq word n) [
   | inr ne ↦ inr ((λ w mask same. cc), all_read page n word (omega (arith, lt, ne)))
 ]
 
-until_read : (page : ℕ) (used : Option Used) → is_free used ≡ true → (xs : List Made) (word : ℕ) → word < 4 → Since (ReadsAllFree page word) (TakesNone page) (looks_until page used ++ xs)
+until_read : (page : ℕ) (used : Option Used) → is_free used ≡ true → (xs : List Made) (word : ℕ) → word < 4
+    → Since (ReadsAllFree page word) (TakesNone page) (looks_until page used ++ xs)
 until_read page None free xs word lt = read_earlier (λ n. ReadsAllFree page word n []) (λ n. TakesNone page n []) (looks page ones 4) xs (all_read page 4 word lt)
 until_read page (Some used) free xs word lt = absurd (true≢false (sym free))
 
-hint_after : (page : ℕ) (steps xs : List Made) → HintSteps page steps → ((word : ℕ) → word < 4 → Since (ReadsAllFree page word) (TakesNone page) xs) → Always HintsEmpty xs → Always HintsEmpty (steps ++ xs)
+hint_after : (page : ℕ) (steps xs : List Made) → HintSteps page steps → ((word : ℕ) → word < 4 → Since (ReadsAllFree page word) (TakesNone page) xs)
+    → Always HintsEmpty xs → Always HintsEmpty (steps ++ xs)
 hint_after page steps xs word read rest = search (arith, hint_step)
 
-hints_where : (all_free : Bool) (page : ℕ) (steps xs : List Made) → HintsWhere all_free page steps → (all_free ≡ true → (word : ℕ) → word < 4 → Since (ReadsAllFree page word) (TakesNone page) xs) → Always HintsEmpty xs → Always HintsEmpty (steps ++ xs)
+hints_where : (all_free : Bool) (page : ℕ) (steps xs : List Made) → HintsWhere all_free page steps
+    → (all_free ≡ true → (word : ℕ) → word < 4 → Since (ReadsAllFree page word) (TakesNone page) xs) → Always HintsEmpty xs → Always HintsEmpty (steps ++ xs)
 hints_where all_free page steps xs h read rest = search (arith, hint_after)
 
 reoffer_only : (page : ℕ) (d : Directory) (steps : List Made) → ReofferSteps page d steps → Only (Unparking ∷ Offering ∷ []) steps
 reoffer_only page d steps (inl h) = subst (Only (Unparking ∷ Offering ∷ [])) (sym h.2) (refl, tt)
 reoffer_only page d steps (inr h) = subst (Only (Unparking ∷ Offering ∷ [])) (sym h.3) (refl, (refl, tt))
 
+-- What follows a return of grains hints no page but one that it read as backed and empty.
 pub return_hints : (page : ℕ) (d : Directory) (steps : List Made) → ReturnSteps page d steps → Always HintsEmpty steps
 return_hints page d steps h =
     let before = looks_until page h.used ++ h.first in

@@ -33,6 +33,7 @@ turn_first does (suc n) first w =
     let same : first + 1 + n ≡ first + suc n = omega arith in
     ap (does (first + 1 + n)) (turn_first does n first w) ∙ ap (λ (x : ℕ). does x (in_turn does first (suc n) w)) same
 
+-- What is done for each number of a run in a list is what is done for them in turn.
 pub each_in_turn : (does : ℕ → World → World) (n first : ℕ) (w : World) → each does (numbers_from first n) w ≡ in_turn does first n w
 each_in_turn does zero first w = refl
 each_in_turn does (suc n) first w = each_in_turn does n (first + 1) (does first w) ∙ turn_first does n first w
@@ -68,7 +69,8 @@ AllInRun first n = AllByRecursion (IsInRun first n)
 
 module _ (k : ℕ) (d : Directory) where
   -- what holds of each deed that was made holds of each such page
-  deeded_all : (P : ℕ → Type 0) (xs : List Made) → Always (λ m before. (page : ℕ) (e : Directory) → m.step ≡ Deed page e → m.answer ≡ 0 → P page) xs → AllByRecursion P (deeded xs)
+  deeded_all : (P : ℕ → Type 0) (xs : List Made) → Always (λ m before. (page : ℕ) (e : Directory) → m.step ≡ Deed page e → m.answer ≡ 0 → P page) xs
+      → AllByRecursion P (deeded xs)
   deeded_all P [] all = tt
   deeded_all P (m ∷ xs) all = one m.step m.answer all.0 (deeded_all P xs all.1)
     where
@@ -76,10 +78,12 @@ module _ (k : ℕ) (d : Directory) where
       by_answer true q ps is rest = (is refl, rest)
       by_answer false q ps is rest = rest
 
-      one : (s : Step) (a : ℕ) → ((page : ℕ) (e : Directory) → s ≡ Deed page e → a ≡ 0 → P page) → AllByRecursion P (deeded xs) → AllByRecursion P (with_deed s a (deeded xs))
+      one : (s : Step) (a : ℕ) → ((page : ℕ) (e : Directory) → s ≡ Deed page e → a ≡ 0 → P page) → AllByRecursion P (deeded xs)
+          → AllByRecursion P (with_deed s a (deeded xs))
       one (Deed q e) a is rest = by_answer (a == 0) q (deeded xs) (λ zero. is q e refl (eqb-true a 0 zero)) rest
       one s a is rest = rest
 
+  -- Deeds that rise in their order are of pages that fall in the list with the newest first.
   pub deeded_falls : (xs : List Made) → DeedsRise xs → AreFalling (deeded xs)
   deeded_falls [] rise = tt
   deeded_falls (m ∷ xs) rise = one m.step m.answer rise.0 (deeded_falls xs rise.1)
@@ -88,10 +92,12 @@ module _ (k : ℕ) (d : Directory) where
       by_answer true q below rest = (deeded_all (λ p. p < q) xs (below refl), rest)
       by_answer false q below rest = rest
 
-      one : (s : Step) (a : ℕ) → ((page : ℕ) (e : Directory) → s ≡ Deed page e → a ≡ 0 → DeedsBelow page xs) → AreFalling (deeded xs) → AreFalling (with_deed s a (deeded xs))
+      one : (s : Step) (a : ℕ) → ((page : ℕ) (e : Directory) → s ≡ Deed page e → a ≡ 0 → DeedsBelow page xs) → AreFalling (deeded xs)
+          → AreFalling (with_deed s a (deeded xs))
       one (Deed q e) a below rest = by_answer (a == 0) q (λ zero. below q e refl (eqb-true a 0 zero)) rest
       one s a below rest = rest
 
+  -- Deeds within a run are of pages of that run.
   pub deeded_within : (n first : ℕ) (xs : List Made) → DeedsInRun d first n xs → AllInRun first n (deeded xs)
   deeded_within n first xs within = deeded_all (IsInRun first n) xs (always_map _ (λ m before. (page : ℕ) (e : Directory) → m.step ≡ Deed page e → m.answer ≡ 0 → IsInRun first n page) xs (λ m before h page e same zero. (h page e same zero).1) within)
 
@@ -100,11 +106,13 @@ module _ (k : ℕ) (d : Directory) where
   deeded_events v [] kinds within = refl
   deeded_events v (m ∷ xs) kinds within = one m.step m.answer kinds.0 within.0 ∙ ap (λ (es : List Event). with_deeds k d m.step m.answer es) (deeded_events v xs kinds.1 within.1) ∙ same m.step m.answer
     where
-      by_answer : (t : Bool) (q : ℕ) (e : Directory) (es : List Event) → (t ≡ true → e ≡ d) → with_event (if t then Some (Event.Deed k q e) else None) es ≡ (if t then Event.Deed k q d ∷ es else es)
+      by_answer : (t : Bool) (q : ℕ) (e : Directory) (es : List Event) → (t ≡ true → e ≡ d)
+          → with_event (if t then Some (Event.Deed k q e) else None) es ≡ (if t then Event.Deed k q d ∷ es else es)
       by_answer true q e es is = ap (λ (x : Directory). Event.Deed k q x ∷ es) (is refl)
       by_answer false q e es is = refl
 
-      one : (s : Step) (a : ℕ) → is_in seeking (kind_of s) ≡ true → ((page : ℕ) (e : Directory) → s ≡ Deed page e → a ≡ 0 → e ≡ d) → with_event (event_of k (epoch_of (xs ++ v)) s a) (events_by k v xs) ≡ with_deeds k d s a (events_by k v xs)
+      one : (s : Step) (a : ℕ) → is_in seeking (kind_of s) ≡ true → ((page : ℕ) (e : Directory) → s ≡ Deed page e → a ≡ 0 → e ≡ d)
+          → with_event (event_of k (epoch_of (xs ++ v)) s a) (events_by k v xs) ≡ with_deeds k d s a (events_by k v xs)
       one (Deed q e) a is within = by_answer (a == 0) q e (events_by k v xs) (λ zero. within q e refl (eqb-true a 0 zero))
       one (Back q) a is within = absurd (true≢false (sym is))
       one (Give b) a is within = absurd (true≢false (sym is))
@@ -126,7 +134,8 @@ module _ (k : ℕ) (d : Directory) where
   deed_apart q p es ne = ap (λ (t : Bool). if t then Some d else deed_in es p) (ne_eqb q p ne)
 
   -- none is of a page outside of the run
-  pub deeds_beside : (n first p : ℕ) (ps : List ℕ) (es : List Event) → AllInRun first n ps → (IsInRun first n p → ⊥) → deed_in (deeds_of k d ps ++ es) p ≡ deed_in es p
+  pub deeds_beside : (n first p : ℕ) (ps : List ℕ) (es : List Event) → AllInRun first n ps → (IsInRun first n p → ⊥)
+      → deed_in (deeds_of k d ps ++ es) p ≡ deed_in es p
   deeds_beside n first p [] es within out = refl
   deeds_beside n first p (q ∷ ps) es within out = deed_apart q p (deeds_of k d ps ++ es) (λ same. out (subst (IsInRun first n) same within.0)) ∙ deeds_beside n first p ps es within.1 out
 
@@ -143,7 +152,8 @@ module _ (k : ℕ) (d : Directory) where
   none_within first (q ∷ ps) w within = absurd (omega (arith, within.0.0, within.0.1))
 
   -- THE DEEDS of a run: each of its pages has one then
-  pub deeds_in_turn : (f : Profile) (n first : ℕ) (ps : List ℕ) (w : World) → AreFalling ps → AllInRun first n ps → Run f (deeds_of k d ps ++ w.events) → ((p : ℕ) → IsInRun first n p → deed_in (deeds_of k d ps ++ w.events) p ≢ None) → in_turn (deeds k d) first n w ≡ shown (deeds_of k d ps) w
+  pub deeds_in_turn : (f : Profile) (n first : ℕ) (ps : List ℕ) (w : World) → AreFalling ps → AllInRun first n ps → Run f (deeds_of k d ps ++ w.events)
+      → ((p : ℕ) → IsInRun first n p → deed_in (deeds_of k d ps ++ w.events) p ≢ None) → in_turn (deeds k d) first n w ≡ shown (deeds_of k d ps) w
   deeds_in_turn f zero first ps w falls within run all = none_within first ps w within
   deeds_in_turn f (suc n) first [] w falls within run all =
       ap (deeds k d (first + n)) (deeds_in_turn f n first [] w tt tt run (λ p here. all p (here.0, omega (arith, here.1)))) ∙ owned k d (first + n) w (all (first + n) (omega arith, omega arith))
@@ -166,7 +176,8 @@ module _ (k : ℕ) (d : Directory) where
 
 -- ---- BACKINGS
 module _ (f : Profile) (k : ℕ) (l : Whole) (u : World) (legal_l : Legal f l) (same : u.events ≡ visible l) where
-  one_back : (page a : ℕ) (v : World) (b : Bool) → a ≡ word_of_backed b → backed_in v.events page ≡ b → backs k page v ≡ shown (with_event (if a == 0 then Some (Event.Back k page) else None) []) v
+  one_back : (page a : ℕ) (v : World) (b : Bool) → a ≡ word_of_backed b → backed_in v.events page ≡ b
+      → backs k page v ≡ shown (with_event (if a == 0 then Some (Event.Back k page) else None) []) v
   one_back page a v true is backed =
       ap (λ (t : Bool). if t then v else shows (Event.Back k page) v) backed ∙ ap (λ (x : ℕ). shown (with_event (if x == 0 then Some (Event.Back k page) else None) []) v) (sym is)
   one_back page a v false is backed =
@@ -177,7 +188,8 @@ module _ (f : Profile) (k : ℕ) (l : Whole) (u : World) (legal_l : Legal f l) (
   with_shown (Some e) es v = refl
 
   -- THE BACKINGS of a run
-  pub backs_in_turn : (n first : ℕ) (steps : List Made) → Legal f (triples k steps ++ l) → InTurn BackStep (pages_from first n) steps → in_turn (backs k) first n u ≡ shown (events_by k (part k l) steps) u
+  pub backs_in_turn : (n first : ℕ) (steps : List Made) → Legal f (triples k steps ++ l) → InTurn BackStep (pages_from first n) steps
+      → in_turn (backs k) first n u ≡ shown (events_by k (part k l) steps) u
   backs_in_turn zero first steps legal turn = ap (λ (ms : List Made). shown (events_by k (part k l) ms) u) (sym turn)
   backs_in_turn (suc n) first steps legal turn =
       let before : List Made = turn.1 in
@@ -194,7 +206,8 @@ module _ (f : Profile) (k : ℕ) (l : Whole) (u : World) (legal_l : Legal f l) (
       ∙ ap (λ (ms : List Made). shown (events_by k (part k l) ms) u) (sym is)))
 
 -- they change no deed
-pub backs_beside : (k n first p : ℕ) (v : View) (steps : List Made) (es : List Event) → InTurn BackStep (pages_from first n) steps → deed_in (events_by k v steps ++ es) p ≡ deed_in es p
+pub backs_beside : (k n first p : ℕ) (v : View) (steps : List Made) (es : List Event) → InTurn BackStep (pages_from first n) steps
+    → deed_in (events_by k v steps ++ es) p ≡ deed_in es p
 backs_beside k zero first p v steps es turn = ap (λ (ms : List Made). deed_in (events_by k v ms ++ es) p) turn
 backs_beside k (suc n) first p v steps es turn =
     ap (λ (ms : List Made). deed_in (events_by k v ms ++ es) p) (turn.4 ∙ ap (λ (ms : List Made). ms ++ turn.1) turn.2.1) ∙ (by_answer (turn.2.0 == 0) (events_by k v turn.1) ∙ backs_beside k n first p v turn.1 es turn.3)
@@ -208,7 +221,9 @@ pub deeds_live : (k : ℕ) (d : Directory) (ps : List ℕ) (w : World) → (show
 deeds_live k d [] w = refl
 deeds_live k d (p ∷ ps) w = deeds_live k d ps w
 
-pub backs_live : (k n first : ℕ) (v : View) (steps : List Made) (w : World) → InTurn BackStep (pages_from first n) steps → (shown (events_by k v steps) w).live ≡ w.live
+-- Backs of the pages of a run leave the live blocks of the text as they were.
+pub backs_live : (k n first : ℕ) (v : View) (steps : List Made) (w : World) → InTurn BackStep (pages_from first n) steps
+    → (shown (events_by k v steps) w).live ≡ w.live
 backs_live k zero first v steps w turn = ap (λ (ms : List Made). (shown (events_by k v ms) w).live) turn
 backs_live k (suc n) first v steps w turn =
     ap (λ (ms : List Made). (shown (events_by k v ms) w).live) (turn.4 ∙ ap (λ (ms : List Made). ms ++ turn.1) turn.2.1) ∙ (by_answer (turn.2.0 == 0) (events_by k v turn.1) ∙ backs_live k n first v turn.1 w turn.3)

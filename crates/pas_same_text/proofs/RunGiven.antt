@@ -73,7 +73,8 @@ given_to p k name steps block = after_with p k steps None (named name (Some bloc
 no_deed_there : (d : Directory) (o : Option Directory) → word_of_deed o ≡ deed_word_of d → o ≢ None
 no_deed_there d o word none = deed_word_of-positive d (sym word ∙ ap word_of_deed none)
 
-module _ (f : Profile) (k name heap first n : ℕ) (p : Progress) (u : World) (got rest : List Made) (block : Block) (valid : IsValid f) (thread : IsThread f k) (of : IsDirectoryOf f (large_of heap)) (some : 1 ≤ n) (before : IsBetween f p) (rest_now : AtRest f (p.caches k) (part k p.list)) (same : IsSame f p u)
+module _ (f : Profile) (k name heap first n : ℕ) (p : Progress) (u : World) (got rest : List Made) (block : Block) (valid : IsValid f) (thread : IsThread f k)
+    (of : IsDirectoryOf f (large_of heap)) (some : 1 ≤ n) (before : IsBetween f p) (rest_now : AtRest f (p.caches k) (part k p.list)) (same : IsSame f p u)
     (there : IsBetween f (given_to p k name (rest ++ got) block)) (run : GaveRun f (large_of heap) first n got rest block) where
   abbrev d : Directory
   d = large_of heap
@@ -253,7 +254,8 @@ module _ (f : Profile) (k name heap first n : ℕ) (p : Progress) (u : World) (g
   lives xs only = given_lives returning refl k xs (gave ++ (run.backs ++ got)) l block (events_by k own (run.backs ++ got)) only refl
 
   -- no look of the leave reads the first grain of a page of the run as free
-  taken : (x : ℕ) → IsInRun first n x → (xs : List Made) → Legal f (triples k xs ++ base) → Only returning xs → free_bit (triples k xs ++ base) (256 * x + 0) ≡ true → ⊥
+  taken : (x : ℕ) → IsInRun first n x → (xs : List Made) → Legal f (triples k xs ++ base) → Only returning xs
+      → free_bit (triples k xs ++ base) (256 * x + 0) ≡ true → ⊥
   taken x here xs legal only free = free_uncovered f (triples k xs ++ base) valid legal (256 * x + 0) free (address_of block.name) live (lives xs only) (covers x 0 here (omega arith))
 
   -- ---- marks
@@ -340,5 +342,6 @@ module _ (f : Profile) (k name heap first n : ℕ) (p : Progress) (u : World) (g
     read = (shown_rest es u).read ∙ same.read;
   }
 
+  -- A run of whole pages that was found and given leads the text to the replay's state.
   pub run_given : IsSame f q (gives_pages k name heap first n u)
   run_given = subst (λ (x : World). IsSame f q x) (sym text) given_same

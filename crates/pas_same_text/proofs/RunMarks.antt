@@ -20,7 +20,7 @@ use Rattle.pas_one_text.specs.State.{World}
 use Rattle.pas_one_text.specs.Pages.{is_free, is_hinted, is_guarded, is_offered}
 use Rattle.pas_same_text.specs.{Same.HasSame, Same.ArePagesSame, Acts.IsBetween}
 use Rattle.pas_same_text.proofs.GivingBack.{HintsPage, OffersPage, once_parts, backed_stays, hinted_stays, hinted_by, offered_by}
-use Rattle.pas_same_text.proofs.{PagesRead.offered_then, RestingPages.clear_of, RestingPages.offered_bit, SearchedMarks.offers_got, SearchedMarks.offered_still}
+use Rattle.pas_same_text.proofs.{PagesRead.was_offered_before, RestingPages.clear_of, RestingPages.offered_bit, SearchedMarks.offers_got, SearchedMarks.offered_still}
 use Rattle.pas_same_text.proofs.{SearchMarks.read_free}
 
 -- each deed that was made is of the directory, and of a page that is one of these
@@ -68,7 +68,8 @@ pub record IsRunTo (f : Profile) (k : ℕ) (p p' : Progress) (w v : World) (d : 
   pub guarded : (q : ℕ) → mine q ≡ false → is_guarded w q ≡ false → is_guarded v q ≡ false
   pub own : (q : ℕ) (e : Directory) → mine q ≡ true → IsDirectoryOf f e → eligible_bit p'.list (number_of e) q ≡ true → is_offered v e q ≡ true
 
-module _ (f : Profile) (k : ℕ) (p p' : Progress) (w v : World) (d : Directory) (mine : ℕ → Bool) (got after : List Made) (s : IsRunTo f k p p' w v d mine got after) where
+module _ (f : Profile) (k : ℕ) (p p' : Progress) (w v : World) (d : Directory) (mine : ℕ → Bool) (got after : List Made)
+    (s : IsRunTo f k p p' w v d mine got after) where
   abbrev l : Whole
   l = p.list
 
@@ -116,7 +117,7 @@ module _ (f : Profile) (k : ℕ) (p p' : Progress) (w v : World) (d : Directory)
       at (inl old) = (number_of e, old)
       at (inr new) = elim (once_parts (λ m. (x : Directory) × (m.step ≡ Offer q x)) after got new) [
         | inl later ↦ absurd (false≢true (sym out ∙ s.offers q later))
-        | inr early ↦ (offered_then f k l d q got legal_got s.returns (none_made q out)).0 (offers_got q got s.returns early)
+        | inr early ↦ (was_offered_before f k l d q got legal_got s.returns (none_made q out)).0 (offers_got q got s.returns early)
       ]
 
   -- .. and offered

@@ -26,7 +26,8 @@ module _ (f : Profile) (k : ℕ) (l : Whole) (d : Directory) (n : ℕ) (of : IsD
     | inr some ↦ by_word (known_is (known_deed (part k l) p) (word_after l (Word.Deed p)) (deeds_known f l legal k p) some) some usable
   ])
     where
-      by_word : known_deed (part k l) p ≡ word_after l (Word.Deed p) → (known_deed (part k l) p ≡ 0 → ⊥) → IsUsablePage d l p → (known_deed (part k l) p ≡ 0) ⊎ (known_deed (part k l) p ≡ deed_word_of d)
+      by_word : known_deed (part k l) p ≡ word_after l (Word.Deed p) → (known_deed (part k l) p ≡ 0 → ⊥) → IsUsablePage d l p
+          → (known_deed (part k l) p ≡ 0) ⊎ (known_deed (part k l) p ≡ deed_word_of d)
       by_word is some (inl none) = absurd (some (is ∙ none))
       by_word is some (inr whole) = inr (is ∙ whole.deed)
 
@@ -40,7 +41,8 @@ module _ (f : Profile) (k : ℕ) (l : Whole) (d : Directory) (n : ℕ) (of : IsD
       let usable : IsUsablePage d l page = usable_was f k l d page xs of.kind legal.1 lends.1 due.1 (h.0 page h.1.1) in
       lost_never f k l d page m xs of.kind legal lends (lacks_usable first page usable) usable h.1.2
 
-  module _ (xs : List Made) (legal : Legal f (triples k xs ++ l)) (kinds : Only finding xs) (due : Always ReturnsDuly xs) (first : ℕ) (found : FoundRun f d n xs first) where
+  module _ (xs : List Made) (legal : Legal f (triples k xs ++ l)) (kinds : Only finding xs) (due : Always ReturnsDuly xs) (first : ℕ)
+      (found : FoundRun f d n xs first) where
     lends : LendsNone xs
     lends = lends_none finding refl xs kinds
 
@@ -59,5 +61,6 @@ module _ (f : Profile) (k : ℕ) (l : Whole) (d : Directory) (n : ℕ) (of : IsD
           bad_never f k l d bad.0 of.kind before (lacks_usable before bad.0 here) here xs legal lends made_of bad.2;
     }
 
+    -- Each deed of a search that found a run is of a page of that run.
     pub deeds_in_run : DeedsInRun d first n xs
     deeds_in_run = search (arith, always_map, never_fails, lends)

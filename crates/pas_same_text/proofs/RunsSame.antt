@@ -20,13 +20,15 @@ use Rattle.pas_same_text.proofs.{Tests.and_first, Tests.and_second}
 use Rattle.pas_same_text.proofs.RestingPages.{open_unguarded, had_open, owned_is, no_word, unowned_by}
 
 -- the run that an index names, where it is whole
-whole_at : (w : World) (heap n x first : ℕ) (t : Bool) → each_of x n (is_whole w heap) ≡ t → (if t then Some x else None) ≡ Some first → (x ≡ first) × (each_of first n (is_whole w heap) ≡ true)
+whole_at : (w : World) (heap n x first : ℕ) (t : Bool) → each_of x n (is_whole w heap) ≡ t → (if t then Some x else None) ≡ Some first
+    → (x ≡ first) × (each_of first n (is_whole w heap) ≡ true)
 whole_at w heap n x first t is same = grind arith
 
 whole_of : (w : World) (heap n first : ℕ) (o : Option ℕ) → if_whole w heap n o ≡ Some first → (o ≡ Some first) × (each_of first n (is_whole w heap) ≡ true)
 whole_of w heap n first o same = search (arith, whole_at)
 
-module _ (f : Profile) (p : Progress) (w : World) (valid : IsValid f) (between : IsBetween f p) (pages : ArePagesSame f p.list w) (same : HasSame f p w) (heap : ℕ) (of : IsDirectoryOf f (large_of heap)) where
+module _ (f : Profile) (p : Progress) (w : World) (valid : IsValid f) (between : IsBetween f p) (pages : ArePagesSame f p.list w) (same : HasSame f p w)
+    (heap : ℕ) (of : IsDirectoryOf f (large_of heap)) where
   abbrev l : Whole
   l = p.list
 
@@ -44,15 +46,18 @@ module _ (f : Profile) (p : Progress) (w : World) (valid : IsValid f) (between :
         free = λ b small. sym (read_unless f p w valid between same page b small (open_unguarded w d page (had_open w d page (and_first (is_offered w d page) (is_empty w page) h)))) ∙ each_at 256 0 b (is_free w page) empty (omega arith) small;
       }
 
+  -- A whole page of the replay is whole in the text.
   pub page_whole : (page : ℕ) → IsWholePage d l page → is_whole w heap page ≡ true
   page_whole page whole = and_from (is_offered w d page) (is_empty w page) (pages.offered page d of ∙ whole.offered) (each_all 256 0 (is_free w page) (λ b low high. read_unless f p w valid between same page b high (open_unguarded w d page (had_open w d page (pages.offered page d of ∙ whole.offered))) ∙ whole.free b high))
 
+  -- A page that is usable in the text is usable in the replay.
   pub usable_page : (page : ℕ) → is_usable w heap page ≡ true → IsUsablePage d l page
   usable_page page h = elim (or_cases (is_unowned w page) (is_whole w heap page) h) [
     | inl none ↦ inl (owned_is f l w between.legal pages.events page ∙ no_word (deed_in w.events page) none)
     | inr whole ↦ inr (whole_page page whole)
   ]
 
+  -- A page that is usable in the replay is usable in the text.
   pub page_usable : (page : ℕ) → IsUsablePage d l page → is_usable w heap page ≡ true
   page_usable page (inl none) = or_left (is_unowned w page) (is_whole w heap page) (unowned_by (deed_in w.events page) (sym (owned_is f l w between.legal pages.events page) ∙ none))
   page_usable page (inr whole) = or_right (is_unowned w page) (is_whole w heap page) (page_whole page whole)
@@ -64,6 +69,7 @@ module _ (f : Profile) (p : Progress) (w : World) (valid : IsValid f) (between :
     λ page here. usable_page page (each_at n first page (is_usable w heap) (and_second (nat_le (first + n) (f.pages + 1)) (each_of first n (is_usable w heap)) h) here.0 here.1),
   )
 
+  -- A usable run of the replay is one of the text.
   pub usable_run : (n first : ℕ) → first + n ≤ f.pages + 1 → IsUsableRun d n l first → is_run f w heap n first ≡ true
   usable_run n first within usable =
       and_from (nat_le (first + n) (f.pages + 1)) (each_of first n (is_usable w heap)) (grind (arith, nat_tests, within)) (each_all n first (is_usable w heap) (λ page low high. page_usable page (usable page (low, high))))
@@ -75,6 +81,7 @@ module _ (f : Profile) (p : Progress) (w : World) (valid : IsValid f) (between :
       find_first (is_run f w heap n) f.pages 1 first low (omega (arith, high, some)) (usable_run n first high run.usable)
       (λ other above below. false_from_ne_true (is_run f w heap n other) (λ h. run.lowest other above below (run_usable n other h).1))
 
+  -- Where the replay has no usable run, the text finds no lowest run.
   pub none_lowest : (n : ℕ) → HasNoUsableRun f d n l → lowest_run f w heap n ≡ None
   none_lowest n none = find_none (is_run f w heap n) f.pages 1 (λ first low high. false_from_ne_true (is_run f w heap n first) (λ h. let run = run_usable n first h in none first low run.0 run.1))
 
@@ -82,6 +89,7 @@ module _ (f : Profile) (p : Progress) (w : World) (valid : IsValid f) (between :
   of_region : (page : ℕ) → is_whole w heap page ≡ true → IsPage f page
   of_region page h = deed_has_page f l between.legal page (λ none. deed_word_of-positive d (sym (whole_page page h).deed ∙ none))
 
+  -- The run that serves by the text's index is the named one, whole in the replay.
   pub named_whole : (n first : ℕ) → 1 ≤ n → named_run w heap n ≡ Some first → IsNamedWhole f d n l (named_first w heap n) first
   named_whole n first some h =
       let both = whole_of w heap n first (named_first w heap n) h in
@@ -91,6 +99,7 @@ module _ (f : Profile) (p : Progress) (w : World) (valid : IsValid f) (between :
       let low = lowest.0 in let high = last.1 in
       record { named = both.0; of_region = (low, omega (arith, high, some)); whole = λ page here. whole_page page (each page here.0 here.1) }
 
+  -- A named run that is whole in the replay serves in the text.
   pub whole_named : (n first : ℕ) → IsNamedWhole f d n l (named_first w heap n) first → named_run w heap n ≡ Some first
   whole_named n first run =
       ap (if_whole w heap n) run.named

@@ -23,7 +23,8 @@ use Rattle.pas_same_text.proofs.StillIndexes.{same_indexes, minds_keep, flushes_
 use Rattle.pas_same_text.proofs.StillIndexes.{places_keep, run_keeps, pass_keeps}
 
 -- a request takes out what was named for it
-pub request_indexes : (f : Profile) (k name heap : ℕ) (route : Route) (room align : ℕ) (w : World) → (serves f k name heap route room align w).indexes ≡ after_request route heap (room / 4096) w.indexes
+pub request_indexes : (f : Profile) (k name heap : ℕ) (route : Route) (room align : ℕ) (w : World)
+    → (serves f k name heap route room align w).indexes ≡ after_request route heap (room / 4096) w.indexes
 request_indexes f k name heap (Route.Class class) room align w =
     same_indexes w (serves f k name heap (Route.Class class) room align w) (class_keeps f k name heap class (find (is_for heap class) (locals_of w k)) w)
 request_indexes f k name heap Route.Bitfit room align w =
@@ -37,7 +38,8 @@ replaced_keeps f k old (Some None) w = refl
 replaced_keeps f k old None w = refl
 
 suited_indexes : (f : Profile) (k name size align : ℕ) (old : Block) (t : Bool) (w : World)
-    → (if t then keeps_block k name old w else replaces f k name old size align w).indexes ≡ after_operation f (unless_suited t (request_for old name size align)) w.indexes
+    → (if t then keeps_block k name old w else replaces f k name old size align w).indexes
+      ≡ after_operation f (unless_suited t (request_for old name size align)) w.indexes
 suited_indexes f k name size align old t w = search (arith, replaced_keeps, request_indexes)
 
 remake_indexes : (f : Profile) (k name old heap size align : ℕ) (meant : Option (Option Block)) (w : World)
@@ -68,12 +70,14 @@ noted_indexes (run ∷ runs) w = noted_indexes runs (indexes_run run w)
 lowered_keeps : (g : Guard) (w : World) → (lowers g w).indexes ≡ w.indexes
 lowered_keeps g w = search (arith, same_indexes, minds_keep)
 
+-- Guards that are lowered change no index.
 pub all_lowered_keep : (gs : List Guard) (w : World) → (each lowers gs w).indexes ≡ w.indexes
 all_lowered_keep [] w = refl
 all_lowered_keep (g ∷ gs) w = all_lowered_keep gs (lowers g w) ∙ lowered_keeps g w
 
 -- ---- AN ACT
-text_indexes : (f : Profile) (act : Act) (p p' : Progress) (w : World) → HandsOnOwn f act → (taken : IsTaken f act p p' w) → (acts_on f act w).indexes ≡ indexes_after f act p p' taken.advances w.indexes
+text_indexes : (f : Profile) (act : Act) (p p' : Progress) (w : World) → HandsOnOwn f act → (taken : IsTaken f act p p' w)
+    → (acts_on f act w).indexes ≡ indexes_after f act p p' taken.advances w.indexes
 text_indexes f (Act.MarksPhase n) p p' w own taken = refl
 text_indexes f Act.MarksClose p p' w own taken = refl
 text_indexes f (Act.Wakes k) p p' w own taken = refl
@@ -87,6 +91,7 @@ text_indexes f (Act.StopsIdle k n) p p' w own taken = same_indexes w (stops_idle
 text_indexes f (Act.Ends k) p p' w own taken = same_indexes w (stops f k w) (stops_keep f k w)
 text_indexes f (Act.Lowers keeper) p p' w own taken = all_lowered_keep (guards_of w keeper) w
 
+-- Each act that is no guarded request changes the indexes of the text as those of a replay.
 pub indexes_kept : (f : Profile) (act : Act) → KeepsIndexes f act
 indexes_kept f act p p' w indexes own taken is = text_indexes f act p p' w own taken ∙ ap (λ (ix : Indexes). indexes_after f act p p' taken.advances ix) is
 
@@ -95,5 +100,6 @@ none_yet : (n from : ℕ) → map (λ (h : ℕ). let none : List Span = [] in no
 none_yet zero from = refl
 none_yet (suc n) from = ap (λ (ix : Indexes). [] ∷ ix) (none_yet n (from + 1))
 
+-- The indexes of the opened region hold nothing, as those of a replay.
 pub start_indexes : (f : Profile) → (opened f).indexes ≡ no_ranges f.heaps
 start_indexes f = none_yet f.heaps 1

@@ -20,10 +20,13 @@ pub record Finds (s : Slots) (found : Option Local) : Type 0 where
   pub is : found ≡ Some local
   pub same : IsSameLocal s local
 
-found_one : (s x : Slots) (y : Local) (rest : Option Slots) (more : Option Local) (t : Bool) → IsSameLocal x y → (rest ≡ Some s → Finds s more) → (if t then Some x else rest) ≡ Some s → Finds s (if t then Some y else more)
+found_one : (s x : Slots) (y : Local) (rest : Option Slots) (more : Option Local) (t : Bool) → IsSameLocal x y → (rest ≡ Some s → Finds s more)
+    → (if t then Some x else rest) ≡ Some s → Finds s (if t then Some y else more)
 found_one s x y rest more t same later is = search (arith, same_Some)
 
-pub found_same : (heap class : ℕ) (slots : List Slots) (locals : List Local) (s : Slots) → AreSameLocals slots locals → local_for heap class slots ≡ Some s → Finds s (find (is_for heap class) locals)
+-- The local allocator that a replay finds for a heap and class is the one that the text finds.
+pub found_same : (heap class : ℕ) (slots : List Slots) (locals : List Local) (s : Slots) → AreSameLocals slots locals → local_for heap class slots ≡ Some s
+    → Finds s (find (is_for heap class) locals)
 found_same heap class [] [] s same is = absurd (none-some s is)
 found_same heap class [] (l ∷ locals) s same is = absurd same
 found_same heap class (x ∷ slots) [] s same is = absurd same
@@ -32,11 +35,14 @@ found_same heap class (x ∷ slots) (y ∷ locals) s same is =
     (found_one s x y (local_for heap class slots) (find (is_for heap class) locals) (is_for_slots heap class x) same.0 (found_same heap class slots locals s same.1) is)
 
 -- ---- taken out
-other_one : (x : Slots) (y : Local) (xs : List Slots) (ys : List Local) (t : Bool) → IsSameLocal x y → AreSameLocals xs ys → AreSameLocals (if not t then x ∷ xs else xs) (if not t then y ∷ ys else ys)
+other_one : (x : Slots) (y : Local) (xs : List Slots) (ys : List Local) (t : Bool) → IsSameLocal x y → AreSameLocals xs ys
+    → AreSameLocals (if not t then x ∷ xs else xs) (if not t then y ∷ ys else ys)
 other_one x y xs ys true same rest = rest
 other_one x y xs ys false same rest = (same, rest)
 
-pub others_same : (heap class : ℕ) (slots : List Slots) (locals : List Local) → AreSameLocals slots locals → AreSameLocals (others_than heap class slots) (others heap class locals)
+-- The local allocators of other heaps and classes are the same in the text and in the replay.
+pub others_same : (heap class : ℕ) (slots : List Slots) (locals : List Local) → AreSameLocals slots locals
+    → AreSameLocals (others_than heap class slots) (others heap class locals)
 others_same heap class [] [] same = tt
 others_same heap class [] (l ∷ locals) same = absurd same
 others_same heap class (x ∷ slots) [] same = absurd same
@@ -45,7 +51,8 @@ others_same heap class (x ∷ slots) (y ∷ locals) same =
     (other_one x y (others_than heap class slots) (others heap class locals) (is_for_slots heap class x) same.0 (others_same heap class slots locals same.1))
 
 -- ---- put at the end
-pub last_same : (slots : List Slots) (locals : List Local) (s : Slots) (l : Local) → AreSameLocals slots locals → IsSameLocal s l → AreSameLocals (slots ++ s ∷ []) (locals ++ l ∷ [])
+pub last_same : (slots : List Slots) (locals : List Local) (s : Slots) (l : Local) → AreSameLocals slots locals → IsSameLocal s l
+    → AreSameLocals (slots ++ s ∷ []) (locals ++ l ∷ [])
 last_same [] [] s l same one = (one, tt)
 last_same [] (y ∷ locals) s l same one = absurd same
 last_same (x ∷ slots) [] s l same one = absurd same
@@ -63,7 +70,8 @@ first_here : (n : ℕ) (more : List ℕ) → has_number (n ∷ more) n ≡ true
 first_here n more = or_left (n == n) (has_number more n) (eq-eqb n n refl)
 
 -- the head of the list is the lowest bit that is set
-head_lowest : (s : Slots) (n start : ℕ) (more : List ℕ) → ((g : ℕ) → has_number (n ∷ more) g ≡ is_set s.starts g) → IsRising (n ∷ more) → IsLowestSet s.starts 0 start → n ≡ start
+head_lowest : (s : Slots) (n start : ℕ) (more : List ℕ) → ((g : ℕ) → has_number (n ∷ more) g ≡ is_set s.starts g) → IsRising (n ∷ more)
+    → IsLowestSet s.starts 0 start → n ≡ start
 head_lowest s n start more slots rising lowest = elim (or_cases (n == start) (has_number more start) (slots start ∙ lowest.set)) [
   | inl here ↦ eqb-true n start here
   | inr later ↦
@@ -71,7 +79,8 @@ head_lowest s n start more slots rising lowest = elim (or_cases (n == start) (ha
       absurd (false≢true (sym (lowest.lowest n (omega arith) lt) ∙ (sym (slots n) ∙ first_here n more)))
 ]
 
-rest_at : (n g : ℕ) (more : List ℕ) (t : Bool) → (n == g) ≡ t → AllByRecursion (λ m. n < m) more → has_number more g ≡ (not (g == n) && (t || has_number more g))
+rest_at : (n g : ℕ) (more : List ℕ) (t : Bool) → (n == g) ≡ t → AllByRecursion (λ m. n < m) more
+    → has_number more g ≡ (not (g == n) && (t || has_number more g))
 rest_at n g more true e all =
     let is : n ≡ g = eqb-true n g e in
     let none : has_number more g ≡ false = false_from_ne_true (has_number more g) (λ h. let lt : n < g = above n g more all h in absurd (omega (arith, is, lt))) in
@@ -79,11 +88,13 @@ rest_at n g more true e all =
 rest_at n g more false e all = search (arith, eqb-false, ne_eqb)
 
 -- what is left without its head has the bits that are left without the lowest
-rest_same : (s s' : Slots) (n start : ℕ) (more : List ℕ) → ((g : ℕ) → has_number (n ∷ more) g ≡ is_set s.starts g) → IsRising (n ∷ more) → n ≡ start → IsWithoutSlot s s' start → (g : ℕ) → has_number more g ≡ is_set s'.starts g
+rest_same : (s s' : Slots) (n start : ℕ) (more : List ℕ) → ((g : ℕ) → has_number (n ∷ more) g ≡ is_set s.starts g) → IsRising (n ∷ more) → n ≡ start
+    → IsWithoutSlot s s' start → (g : ℕ) → has_number more g ≡ is_set s'.starts g
 rest_same s s' n start more slots rising is without g = search (arith, rest_at)
 
 -- its lowest slot is given: the text has it at the head, and the others are left
-pub slot_given : (s s' : Slots) (l : Local) (n start : ℕ) (more : List ℕ) → IsSameLocal s l → l.slots ≡ n ∷ more → IsLowestSet s.starts 0 start → IsWithoutSlot s s' start → (n ≡ start) × IsSameLocal s' (record l { slots = more })
+pub slot_given : (s s' : Slots) (l : Local) (n start : ℕ) (more : List ℕ) → IsSameLocal s l → l.slots ≡ n ∷ more → IsLowestSet s.starts 0 start
+    → IsWithoutSlot s s' start → (n ≡ start) × IsSameLocal s' (record l { slots = more })
 slot_given s s' l n start more same is lowest without =
     let bits : (x : ℕ) → has_number (n ∷ more) x ≡ is_set s.starts x = λ x. ap (λ (xs : List ℕ). has_number xs x) (sym is) ∙ same.slots x in
     let rising : IsRising (n ∷ more) = subst IsRising is same.rising in

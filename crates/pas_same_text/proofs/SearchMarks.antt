@@ -23,14 +23,18 @@ use Rattle.pas_same_text.specs.Words.{free_bit}
 use Rattle.pas_same_text.proofs.GivingBack.{HintsPage, offer_one}
 
 -- ---- A GRAIN THAT ISN'T FREE stays so: the steps put only what they took, and they took only what was free
-take_moves : (x y bit held : Bool) → (x ≡ true → y ≡ bit) → bit ≡ false → held ≡ false → (free_moved (if x && y then Gets else Stays) bit ≡ false) × (held_after (if x && y then Gets else Stays) held ≡ false)
+take_moves : (x y bit held : Bool) → (x ≡ true → y ≡ bit) → bit ≡ false → held ≡ false
+    → (free_moved (if x && y then Gets else Stays) bit ≡ false) × (held_after (if x && y then Gets else Stays) held ≡ false)
 take_moves x y bit held same used h = search (arith, true≢false)
 
-put_moves : (x bit held : Bool) → (x ≡ true → held ≡ true) → bit ≡ false → held ≡ false → (free_moved (if x then Puts else Stays) bit ≡ false) × (held_after (if x then Puts else Stays) held ≡ false)
+put_moves : (x bit held : Bool) → (x ≡ true → held ≡ true) → bit ≡ false → held ≡ false
+    → (free_moved (if x then Puts else Stays) bit ≡ false) × (held_after (if x then Puts else Stays) held ≡ false)
 put_moves x bit held took used h = search (arith, true≢false)
 
-step_moves : (s : Step) (a g : ℕ) (bit held : Bool) → is_in lending (kind_of s) ≡ false → ((page word mask : ℕ) → s ≡ Take page word mask → in_mask page word mask g ≡ true → has_bit a (g % 64) ≡ bit)
-    → ((page word mask : ℕ) → s ≡ Put page word mask → in_mask page word mask g ≡ true → held ≡ true) → bit ≡ false → held ≡ false → (free_moved (grain_move s a g) bit ≡ false) × (held_after (grain_move s a g) held ≡ false)
+step_moves : (s : Step) (a g : ℕ) (bit held : Bool) → is_in lending (kind_of s) ≡ false
+    → ((page word mask : ℕ) → s ≡ Take page word mask → in_mask page word mask g ≡ true → has_bit a (g % 64) ≡ bit)
+    → ((page word mask : ℕ) → s ≡ Put page word mask → in_mask page word mask g ≡ true → held ≡ true) → bit ≡ false → held ≡ false
+    → (free_moved (grain_move s a g) bit ≡ false) × (held_after (grain_move s a g) held ≡ false)
 step_moves s a g bit held lends reads took used word = search (arith, take_moves, put_moves, true≢false)
 
 mask_word : (page word mask g : ℕ) → in_mask page word mask g ≡ true → Word.Free page word ≡ free_word_at g
@@ -42,7 +46,9 @@ mask_word page word mask g h = at (word == g / 64 % 4) (page == g / 256) refl re
     at false t x y h = absurd (false≢true h)
 
 module _ (f : Profile) (k : ℕ) (l : Whole) where
-  pub stays_used : (g : ℕ) (xs : List Made) → Legal f (triples k xs ++ l) → LendsNone xs → Always ReturnsDuly xs → free_bit l g ≡ false → (free_bit (triples k xs ++ l) g ≡ false) × (holds xs g ≡ false)
+  -- A grain that isn't free stays so, and isn't got, by steps that give and end no block and put back only what they took.
+  pub stays_used : (g : ℕ) (xs : List Made) → Legal f (triples k xs ++ l) → LendsNone xs → Always ReturnsDuly xs → free_bit l g ≡ false
+      → (free_bit (triples k xs ++ l) g ≡ false) × (holds xs g ≡ false)
   stays_used g [] legal lends due used = (used, refl)
   stays_used g (m ∷ xs) legal lends due used =
       let before = stays_used g xs legal.1 lends.1 due.1 used in
@@ -52,7 +58,8 @@ module _ (f : Profile) (k : ℕ) (l : Whole) where
       (free_step f (triples k xs ++ l) (epoch_of (part k (triples k xs ++ l))) m.step m.answer g legal.0.of_region legal.0.answer_is ∙ moved.0, moved.1)
 
   -- ---- A GRAIN THAT WAS FREE before the search was read as free: it is free, or the call holds it
-  free_moves : (s : Step) (a g : ℕ) (bit held : Bool) → is_in lending (kind_of s) ≡ false → (bit || held) ≡ true → (free_moved (grain_move s a g) bit || held_after (grain_move s a g) held) ≡ true
+  free_moves : (s : Step) (a g : ℕ) (bit held : Bool) → is_in lending (kind_of s) ≡ false → (bit || held) ≡ true
+      → (free_moved (grain_move s a g) bit || held_after (grain_move s a g) held) ≡ true
   free_moves (Take page word mask) a g bit held lends h = at (in_mask page word mask g && has_bit a (g % 64))
     where
       at : (t : Bool) → (free_moved (if t then Gets else Stays) bit || held_after (if t then Gets else Stays) held) ≡ true
@@ -68,27 +75,33 @@ module _ (f : Profile) (k : ℕ) (l : Whole) where
   free_moves (EndSized name room) a g bit held lends h = absurd (true≢false lends)
   free_moves s a g bit held lends h = h
 
-  pub stays_free : (g : ℕ) (xs : List Made) → Legal f (triples k xs ++ l) → LendsNone xs → free_bit l g ≡ true → (free_bit (triples k xs ++ l) g || holds xs g) ≡ true
-  stays_free g [] legal lends free = ap (λ (t : Bool). t || false) free
-  stays_free g (m ∷ xs) legal lends free =
+  -- A grain that was free is free or held by its actor, after steps that give and end no block.
+  pub free_or_held : (g : ℕ) (xs : List Made) → Legal f (triples k xs ++ l) → LendsNone xs → free_bit l g ≡ true
+      → (free_bit (triples k xs ++ l) g || holds xs g) ≡ true
+  free_or_held g [] legal lends free = ap (λ (t : Bool). t || false) free
+  free_or_held g (m ∷ xs) legal lends free =
       ap (λ (t : Bool). t || held_after (grain_move m.step m.answer g) (holds xs g)) (free_step f (triples k xs ++ l) (epoch_of (part k (triples k xs ++ l))) m.step m.answer g legal.0.of_region legal.0.answer_is)
-      ∙ free_moves m.step m.answer g (free_bit (triples k xs ++ l) g) (holds xs g) lends.0 (stays_free g xs legal.1 lends.1 free)
+      ∙ free_moves m.step m.answer g (free_bit (triples k xs ++ l) g) (holds xs g) lends.0 (free_or_held g xs legal.1 lends.1 free)
 
   word_read : (page word : ℕ) (s : Step) (v : Whole) → ReadsFree page word s → word_after v (target s) ≡ word_after v (Word.Free page word)
   word_read page word s v ReadsFree.Looks = refl
   word_read page word s v (ReadsFree.Takes mask) = refl
 
   -- a reading is of the grain that is free at that moment, or that the call holds
-  shown_is : (page b : ℕ) (r : Readings) (m : Made) (xs : List Made) → Legal f (triples k (m ∷ xs) ++ l) → b < 256 → ShowsHere page (b / 64) r m xs → r b ≡ (free_bit (triples k xs ++ l) (page * 256 + b) || holds xs (page * 256 + b))
+  shown_is : (page b : ℕ) (r : Readings) (m : Made) (xs : List Made) → Legal f (triples k (m ∷ xs) ++ l) → b < 256 → ShowsHere page (b / 64) r m xs
+      → r b ≡ (free_bit (triples k xs ++ l) (page * 256 + b) || holds xs (page * 256 + b))
   shown_is page b r m xs legal small s = search (arith, word_read)
 
-  pub free_shown : (page b : ℕ) (r : Readings) (xs : List Made) → Legal f (triples k xs ++ l) → LendsNone xs → b < 256 → free_bit l (page * 256 + b) ≡ true → Once (ShowsHere page (b / 64) r) xs → r b ≡ true
+  -- A grain that was free is free in each reading of it by steps that give and end no block.
+  pub free_shown : (page b : ℕ) (r : Readings) (xs : List Made) → Legal f (triples k xs ++ l) → LendsNone xs → b < 256 → free_bit l (page * 256 + b) ≡ true
+      → Once (ShowsHere page (b / 64) r) xs → r b ≡ true
   free_shown page b r [] legal lends small free h = absurd h
   free_shown page b r (m ∷ xs) legal lends small free (inr h) = free_shown page b r xs legal.1 lends.1 small free h
-  free_shown page b r (m ∷ xs) legal lends small free (inl s) = shown_is page b r m xs legal small s ∙ stays_free (page * 256 + b) xs legal.1 lends.1 free
+  free_shown page b r (m ∷ xs) legal lends small free (inl s) = shown_is page b r m xs legal small s ∙ free_or_held (page * 256 + b) xs legal.1 lends.1 free
 
   -- .. and the other way round: what was read as free, or was the call's own, was free before the search
-  pub shown_free : (page b : ℕ) (r : Readings) (xs : List Made) → Legal f (triples k xs ++ l) → LendsNone xs → Always ReturnsDuly xs → b < 256 → Once (ShowsHere page (b / 64) r) xs → r b ≡ true → free_bit l (page * 256 + b) ≡ true
+  pub shown_free : (page b : ℕ) (r : Readings) (xs : List Made) → Legal f (triples k xs ++ l) → LendsNone xs → Always ReturnsDuly xs → b < 256
+      → Once (ShowsHere page (b / 64) r) xs → r b ≡ true → free_bit l (page * 256 + b) ≡ true
   shown_free page b r [] legal lends due small h read = absurd h
   shown_free page b r (m ∷ xs) legal lends due small (inr h) read = shown_free page b r xs legal.1 lends.1 due.1 small h read
   shown_free page b r (m ∷ xs) legal lends due small (inl s) read = by_bit (free_bit l (page * 256 + b)) refl
@@ -100,7 +113,8 @@ module _ (f : Profile) (k : ℕ) (l : Whole) where
           absurd (false≢true (sym (shown_is page b r m xs legal small s ∙ or_from (free_bit (triples k xs ++ l) (page * 256 + b)) (holds xs (page * 256 + b)) used.0 used.1) ∙ read))
 
   -- a grain that was read as free was so before the search
-  pub read_free : (page word b g : ℕ) (xs : List Made) → Legal f (triples k xs ++ l) → LendsNone xs → Always ReturnsDuly xs → b < 64 → free_word_at g ≡ Word.Free page word → g % 64 ≡ b → Once (ReadsAllFree page word) xs → free_bit l g ≡ true
+  pub read_free : (page word b g : ℕ) (xs : List Made) → Legal f (triples k xs ++ l) → LendsNone xs → Always ReturnsDuly xs → b < 64
+      → free_word_at g ≡ Word.Free page word → g % 64 ≡ b → Once (ReadsAllFree page word) xs → free_bit l g ≡ true
   read_free page word b g [] legal lends due small at bit h = absurd h
   read_free page word b g (m ∷ xs) legal lends due small at bit (inr h) = read_free page word b g xs legal.1 lends.1 due.1 small at bit h
   read_free page word b g (m ∷ xs) legal lends due small at bit (inl h) = by_bit (free_bit l g) refl
@@ -115,7 +129,8 @@ module _ (f : Profile) (k : ℕ) (l : Whole) where
       by_bit false is = absurd (false≢true (sym (stays_used g xs legal.1 lends.1 due.1 is).0 ∙ read))
 
   -- ---- THE BACKED WORD of another page than that one stays
-  other_event : (d : Directory) (page q : ℕ) (e : Option Event) (s : Step) (epoch a : ℕ) → page ≢ q → event_of k epoch s a ≡ e → (e ≡ None) ⊎ IsDeedOrBack d page s → (es : List Event) → backed_in (with_event e es) q ≡ backed_in es q
+  other_event : (d : Directory) (page q : ℕ) (e : Option Event) (s : Step) (epoch a : ℕ) → page ≢ q → event_of k epoch s a ≡ e
+      → (e ≡ None) ⊎ IsDeedOrBack d page s → (es : List Event) → backed_in (with_event e es) q ≡ backed_in es q
   other_event d page q None s epoch a ne is at es = refl
   other_event d page q (Some e) s epoch a ne is (inl none) es = absurd (let bad : Some e ≡ None = none in cc)
   other_event d page q (Some e) s epoch a ne is (inr own) es = of_own s own is
@@ -135,17 +150,20 @@ module _ (f : Profile) (k : ℕ) (l : Whole) where
       of_own s IsDeedOrBack.Deeds is = deed_event (a == 0) is
       of_own s IsDeedOrBack.Backs is = back_event (a == 0) is
 
-  quiet_or : (d : Directory) (page : ℕ) (m : Made) (epoch : ℕ) → IsQuiet m ⊎ IsDeedOrBack d page m.step → (event_of k epoch m.step m.answer ≡ None) ⊎ IsDeedOrBack d page m.step
+  quiet_or : (d : Directory) (page : ℕ) (m : Made) (epoch : ℕ) → IsQuiet m ⊎ IsDeedOrBack d page m.step
+      → (event_of k epoch m.step m.answer ≡ None) ⊎ IsDeedOrBack d page m.step
   quiet_or d page m epoch (inl quiet) = inl (quiet k epoch)
   quiet_or d page m epoch (inr own) = inr own
 
-  backed_same : (d : Directory) (page q : ℕ) (xs : List Made) → page ≢ q → EventsAt d page xs → backed_in (visible (triples k xs ++ l)) q ≡ backed_in (visible l) q
+  backed_same : (d : Directory) (page q : ℕ) (xs : List Made) → page ≢ q → EventsAt d page xs
+      → backed_in (visible (triples k xs ++ l)) q ≡ backed_in (visible l) q
   backed_same d page q [] ne at = refl
   backed_same d page q (m ∷ xs) ne at =
       let epoch : ℕ = epoch_of (part k (triples k xs ++ l)) in
       other_event d page q (event_of k epoch m.step m.answer) m.step epoch m.answer ne refl (quiet_or d page m epoch at.0) (visible (triples k xs ++ l)) ∙ backed_same d page q xs ne at.1
 
-  read_backed : (d : Directory) (page q : ℕ) (xs : List Made) → page ≢ q → Legal f (triples k xs ++ l) → Legal f l → EventsAt d page xs → Once (ReadsBacked q) xs → word_after l (Word.Backed q) ≡ 1
+  read_backed : (d : Directory) (page q : ℕ) (xs : List Made) → page ≢ q → Legal f (triples k xs ++ l) → Legal f l → EventsAt d page xs
+      → Once (ReadsBacked q) xs → word_after l (Word.Backed q) ≡ 1
   read_backed d page q [] ne legal first at h = absurd h
   read_backed d page q (m ∷ xs) ne legal first at (inr h) = read_backed d page q xs ne legal.1 first at.1 h
   read_backed d page q (m ∷ xs) ne legal first at (inl h) =
@@ -153,7 +171,8 @@ module _ (f : Profile) (k : ℕ) (l : Whole) where
       backed_of f l first q ∙ (ap word_of_backed (sym (backed_same d page q xs ne at.1)) ∙ (sym (backed_of f (triples k xs ++ l) legal.1 q) ∙ now))
 
   -- A PAGE THAT THE SEARCH HINTS was backed and empty before it
-  pub hint_was : (d : Directory) (page q : ℕ) (xs : List Made) → page ≢ q → Legal f (triples k xs ++ l) → Legal f l → LendsNone xs → Always ReturnsDuly xs → EventsAt d page xs → HintsPage q xs → IsEmptyBacked l q
+  pub hint_was : (d : Directory) (page q : ℕ) (xs : List Made) → page ≢ q → Legal f (triples k xs ++ l) → Legal f l → LendsNone xs → Always ReturnsDuly xs
+      → EventsAt d page xs → HintsPage q xs → IsEmptyBacked l q
   hint_was d page q [] ne legal first lends due at h = absurd h
   hint_was d page q (m ∷ xs) ne legal first lends due at (inr h) = hint_was d page q xs ne legal.1 first lends.1 due.1 at.1 h
   hint_was d page q (m ∷ xs) ne legal first lends due at (inl h) =
@@ -171,10 +190,14 @@ module _ (f : Profile) (k : ℕ) (l : Whole) where
       of_own s IsDeedOrBack.Deeds is = ne (let same : page ≡ q = cc in same)
       of_own s IsDeedOrBack.Backs is = let bad : Back page ≡ Deed q d' = is in cc
 
-  got_by : (d : Directory) (page q : ℕ) (w : Whole) (s : Step) (a epoch : ℕ) → page ≢ q → a ≡ word_after w (target s) → (event_of k epoch s a ≡ None) ⊎ IsDeedOrBack d page s → GetsRight q s a → (n : ℕ) × (eligible_bit w n q ≡ true)
+  got_by : (d : Directory) (page q : ℕ) (w : Whole) (s : Step) (a epoch : ℕ) → page ≢ q → a ≡ word_after w (target s)
+      → (event_of k epoch s a ≡ None) ⊎ IsDeedOrBack d page s → GetsRight q s a → (n : ℕ) × (eligible_bit w n q ≡ true)
   got_by d page q w s a epoch ne answer at h = search (arith, deed_quiet)
 
-  pub was_offered : (d : Directory) (page q : ℕ) (xs : List Made) → page ≢ q → Legal f (triples k xs ++ l) → Always ReturnsDuly xs → EventsAt d page xs → (Once (GetsHere q) xs → (n : ℕ) × (eligible_bit l n q ≡ true)) × ((m : ℕ) → eligible_bit (triples k xs ++ l) m q ≡ true → (n : ℕ) × (eligible_bit l n q ≡ true))
+  -- A page but the one served was offered before the search if the search got it, or if it is offered afterwards.
+  pub was_offered : (d : Directory) (page q : ℕ) (xs : List Made) → page ≢ q → Legal f (triples k xs ++ l) → Always ReturnsDuly xs → EventsAt d page xs
+      → (Once (GetsHere q) xs → (n : ℕ) × (eligible_bit l n q ≡ true))
+        × ((m : ℕ) → eligible_bit (triples k xs ++ l) m q ≡ true → (n : ℕ) × (eligible_bit l n q ≡ true))
   was_offered d page q [] ne legal due at = (λ got. absurd got, λ n bit. (n, bit))
   was_offered d page q (m ∷ xs) ne legal due at =
       let before = was_offered d page q xs ne legal.1 due.1 at.1 in
@@ -190,7 +213,8 @@ module _ (f : Profile) (k : ℕ) (l : Whole) where
       )
 
 -- the bit is that of the page's own directory
-pub own_bit : (f : Profile) (l : Whole) (d : Directory) (n q : ℕ) → Legal f l → IsDirectoryOf f d → deed_in (visible l) q ≡ Some d → eligible_bit l n q ≡ true → eligible_bit l (number_of d) q ≡ true
+pub own_bit : (f : Profile) (l : Whole) (d : Directory) (n q : ℕ) → Legal f l → IsDirectoryOf f d → deed_in (visible l) q ≡ Some d → eligible_bit l n q ≡ true
+    → eligible_bit l (number_of d) q ≡ true
 own_bit f l d n q legal of deed bit =
     let word : deed_word_of d ≡ deed_word_numbered n = sym (ap word_of_deed deed) ∙ (sym (deed_of f l legal q) ∙ offered_has_deed f l legal n q bit) in
     ap (λ (m : ℕ). eligible_bit l m q) (number_told d n of.kind word) ∙ bit

@@ -27,8 +27,10 @@ offers_got q (m ∷ xs) due (inl h) = inr (due.0.0 q (subst (IsReturnOf q) (sym 
 offers_got q (m ∷ xs) due (inr h) = inr (offers_got q xs due.1 h)
 
 -- a page is offered still where its deed is the same, it was offered by its bit, and its bit is set
-pub offered_still : (f : Profile) (l : Whole) (p' : Progress) (w v : World) → IsValid f → Legal f l → IsBetween f p' → ArePagesSame f l w → HasSame f p' v → (q : ℕ) (e : Directory) → IsDirectoryOf f e → deed_in v.events q ≡ deed_in w.events q
-    → (is_guarded w q ≡ false → is_guarded v q ≡ false) → ((b : ℕ) → b < 256 → is_free w q b ≡ true → is_free v q b ≡ true) → (i : ℕ) × (eligible_bit l i q ≡ true) → eligible_bit p'.list (number_of e) q ≡ true → is_offered v e q ≡ true
+pub offered_still : (f : Profile) (l : Whole) (p' : Progress) (w v : World) → IsValid f → Legal f l → IsBetween f p' → ArePagesSame f l w → HasSame f p' v
+    → (q : ℕ) (e : Directory) → IsDirectoryOf f e → deed_in v.events q ≡ deed_in w.events q
+    → (is_guarded w q ≡ false → is_guarded v q ≡ false) → ((b : ℕ) → b < 256 → is_free w q b ≡ true → is_free v q b ≡ true)
+    → (i : ℕ) × (eligible_bit l i q ≡ true) → eligible_bit p'.list (number_of e) q ≡ true → is_offered v e q ≡ true
 offered_still f l p' w v valid start between was now q e of deeds guarded free o bit =
     let told = bit_tells f p' v valid between now q e of (right_in_one_place f p'.list between.legal q) bit in
     let deed : deed_in (visible l) q ≡ Some e =
@@ -56,7 +58,8 @@ pub record IsSearchedTo (f : Profile) (k : ℕ) (p p' : Progress) (w v : World) 
   pub deeds : (q : ℕ) → page ≢ q → deed_in v.events q ≡ deed_in w.events q
   pub guarded : (q : ℕ) → page ≢ q → is_guarded w q ≡ false → is_guarded v q ≡ false
 
-module _ (f : Profile) (k : ℕ) (p p' : Progress) (w v : World) (d : Directory) (page : ℕ) (searched after : List Made) (s : IsSearchedTo f k p p' w v d page searched after) where
+module _ (f : Profile) (k : ℕ) (p p' : Progress) (w v : World) (d : Directory) (page : ℕ) (searched after : List Made)
+    (s : IsSearchedTo f k p p' w v d page searched after) where
   abbrev l : Whole
   l = p.list
 
@@ -115,7 +118,8 @@ module _ (f : Profile) (k : ℕ) (p p' : Progress) (w v : World) (d : Directory)
   offer_other q e ne of = same_truth (is_offered v e q) (eligible_bit p'.list (number_of e) q) (offered_bit f p' v s.valid s.between s.now q e of) (from_offer q e ne of)
 
   -- the offer of the one that serves is a premise too
-  pub offers_kept : ((e : Directory) → IsDirectoryOf f e → eligible_bit p'.list (number_of e) page ≡ true → is_offered v e page ≡ true) → (q : ℕ) (e : Directory) → IsDirectoryOf f e → is_offered v e q ≡ eligible_bit p'.list (number_of e) q
+  pub offers_kept : ((e : Directory) → IsDirectoryOf f e → eligible_bit p'.list (number_of e) page ≡ true → is_offered v e page ≡ true)
+      → (q : ℕ) (e : Directory) → IsDirectoryOf f e → is_offered v e q ≡ eligible_bit p'.list (number_of e) q
   offers_kept own q e of = same_truth (is_offered v e q) (eligible_bit p'.list (number_of e) q) (offered_bit f p' v s.valid s.between s.now q e of) (λ bit. elim (cases_eq page q) [
     | inl same ↦ subst (λ (x : ℕ). is_offered v e x ≡ true) same (own e of (subst (λ (x : ℕ). eligible_bit p'.list (number_of e) x ≡ true) (sym same) bit))
     | inr ne ↦ from_offer q e ne of bit

@@ -25,7 +25,9 @@ use Rattle.pas_same_text.proofs.RestingPages.{open_unguarded, had_open, owned_is
 first_at : (test : ℕ → Bool) (from : ℕ) (rest : Option ℕ) (t : Bool) → test from ≡ t → t ≡ false → (if test from then Some from else rest) ≡ rest
 first_at test from rest t e h = search (arith, true≢false)
 
-pub find_first : (test : ℕ → Bool) (n from page : ℕ) → from ≤ page → page < from + n → test page ≡ true → ((q : ℕ) → from ≤ q → q < page → test q ≡ false) → find test (numbers_from from n) ≡ Some page
+-- The first number that passes a test is found where none before it passes.
+pub find_first : (test : ℕ → Bool) (n from page : ℕ) → from ≤ page → page < from + n → test page ≡ true → ((q : ℕ) → from ≤ q → q < page → test q ≡ false)
+    → find test (numbers_from from n) ≡ Some page
 find_first test zero from page low high so before = absurd (omega (arith, low, high))
 find_first test (suc n) from page low high so before = elim (cases_eq from page) [
   | inl same ↦ ap (λ (t : Bool). if t then Some from else find test (numbers_from (from + 1) n)) (ap test same ∙ so) ∙ ap (λ (x : ℕ). Some x) same
@@ -33,6 +35,7 @@ find_first test (suc n) from page low high so before = elim (cases_eq from page)
       ∙ find_first test n (from + 1) page (omega (arith, low, ne)) (omega (arith, high)) so (λ q above below. before q (omega (arith, above)) below)
 ]
 
+-- Nothing is found where no number passes the test.
 pub find_none : (test : ℕ → Bool) (n from : ℕ) → ((q : ℕ) → from ≤ q → q < from + n → test q ≡ false) → find test (numbers_from from n) ≡ None
 find_none test zero from none = refl
 find_none test (suc n) from none =
@@ -93,7 +96,8 @@ module _ (no_fit : Readings → Type 0) (f : Profile) (d : Directory) (k : ℕ) 
   earlier : (m : Made) (steps : List Made) → IsSearch no_fit f d k p (m ∷ steps) w fits → IsSearch no_fit f d k p steps w fits
   earlier m steps s = record { valid = s.valid; directory = s.directory; fewer = s.fewer; legal = s.legal.1; lends_none = s.lends_none.1; rights = s.rights; pages = s.pages; fits_same = s.fits_same }
 
-  made_chosen : (page : ℕ) → IsPage f page → (m : Made) (steps : List Made) (s : IsSearch no_fit f d k p (m ∷ steps) w fits) → DeedMadeHere no_fit f d page m steps → searched f w d fits ≡ Ok page
+  made_chosen : (page : ℕ) → IsPage f page → (m : Made) (steps : List Made) (s : IsSearch no_fit f d k p (m ∷ steps) w fits)
+      → DeedMadeHere no_fit f d page m steps → searched f w d fits ≡ Ok page
   made_chosen page of m steps s h =
       let t : IsSearch no_fit f d k p steps w fits = earlier m steps s in
       let now : word_after (triples k steps ++ l) (Word.Deed page) ≡ 0 = sym (s.legal.0.answer_is ∙ ap (λ x. word_after (triples k steps ++ l) (target x)) h.deed) ∙ h.made in
@@ -104,10 +108,13 @@ module _ (no_fit : Readings → Type 0) (f : Profile) (d : Directory) (k : ℕ) 
       owned_by steps t (deed_in w.events q) (λ zero_word. deed_exit f k l q steps t.legal (h.lower q above below) (deed_quiet f k l q steps t.legal h.quiet ∙ (owned_is f l w (first steps t) t.pages.events q ∙ zero_word)))) in
       cc
 
-  deed_at : (page : ℕ) → IsPage f page → (steps : List Made) → IsSearch no_fit f d k p steps w fits → Once (DeedMadeHere no_fit f d page) steps → searched f w d fits ≡ Ok page
+  deed_at : (page : ℕ) → IsPage f page → (steps : List Made) → IsSearch no_fit f d k p steps w fits → Once (DeedMadeHere no_fit f d page) steps
+      → searched f w d fits ≡ Ok page
   deed_at page of [] s h = absurd h
   deed_at page of (m ∷ steps) s (inl h) = made_chosen page of m steps s h
   deed_at page of (m ∷ steps) s (inr h) = deed_at page of steps (earlier m steps s) h
 
-  pub deed_chosen : (page : ℕ) → IsPage f page → (steps : List Made) → IsSearch no_fit f d k p steps w fits → ByDeed no_fit f d page steps → searched f w d fits ≡ Ok page
+  -- The page that a search found by making its deed is the one that the text finds.
+  pub deed_chosen : (page : ℕ) → IsPage f page → (steps : List Made) → IsSearch no_fit f d k p steps w fits → ByDeed no_fit f d page steps
+      → searched f w d fits ≡ Ok page
   deed_chosen page of steps s by = deed_at page of steps s by.made_here

@@ -46,7 +46,8 @@ moved f Act.MarksClose p p' own is = subst (λ (q : Progress). IsMoved p q 0) (s
 moved f (Act.Ends k) p p' own is = subst (λ (q : Progress). IsMoved p q k) (sym is.3) (record { steps = is.0; list = refl; books = refl; others = λ j ne. ap (λ (t : Bool). if t then is.1 else p.caches j) ne })
 moved f (Act.Lowers keeper) p p' own is = absurd own
 
-seated_moved : (threads : ℕ) (f : Profile) (p p' : Progress) (j : ℕ) → IsValid f → IsBetween f p → Legal f p'.list → (IsKeeperOf threads f j → ⊥) → AreSeated threads f p → IsMoved p p' j → AreSeated threads f p'
+seated_moved : (threads : ℕ) (f : Profile) (p p' : Progress) (j : ℕ) → IsValid f → IsBetween f p → Legal f p'.list → (IsKeeperOf threads f j → ⊥)
+    → AreSeated threads f p → IsMoved p p' j → AreSeated threads f p'
 seated_moved threads f p p' j valid before legal works seated m = record {
   few = seated.few;
   unbooked = λ k other. ap (λ (bs : Books). bs k) m.books ∙ seated.unbooked k other;
@@ -64,16 +65,20 @@ seated_moved threads f p p' j valid before legal works seated m = record {
 pub own_book : (books : Books) (keeper : ℕ) (gs : List Guard) → with_book books keeper gs keeper ≡ gs
 own_book books keeper gs = ap (λ (t : Bool). if t then gs else books keeper) (eq-eqb keeper keeper refl)
 
+-- A keeper's new book leaves that of every other actor as it was.
 pub other_book : (books : Books) (keeper j : ℕ) (gs : List Guard) → (j == keeper) ≡ false → with_book books keeper gs j ≡ books j
 other_book books keeper j gs ne = ap (λ (t : Bool). if t then gs else books j) ne
 
 -- what holds where all rest, and keepers cache what they did
-seated_rest : (threads : ℕ) (f : Profile) (p : Progress) (keeper : ℕ) (gs : List Guard) (l : Whole) (names : Progress) → IsKeeperOf threads f keeper → AreSeated threads f p → names.caches ≡ p.caches → names.books ≡ with_book p.books keeper gs → names.list ≡ l
+seated_rest : (threads : ℕ) (f : Profile) (p : Progress) (keeper : ℕ) (gs : List Guard) (l : Whole) (names : Progress) → IsKeeperOf threads f keeper
+    → AreSeated threads f p → names.caches ≡ p.caches → names.books ≡ with_book p.books keeper gs → names.list ≡ l
     → AreResting f p.caches (with_book p.books keeper gs) l → AreSeated threads f names
 seated_rest threads f p keeper gs l q keeps seated caches books list rest = search (arith, other_book, ne_eqb)
 
 -- ---- the close
-module _ (threads : ℕ) (f : Profile) (keeper : ℕ) (p : Progress) (steps : List Made) (said : List Record) (valid : IsValid f) (keeps : IsKeeperOf threads f keeper) (before : IsBetween f p) (seated : AreSeated threads f p) (lowers : IsLowered f keeper (part keeper p.list) (p.books keeper) steps said)
+module _ (threads : ℕ) (f : Profile) (keeper : ℕ) (p : Progress) (steps : List Made) (said : List Record) (valid : IsValid f)
+    (keeps : IsKeeperOf threads f keeper) (before : IsBetween f p) (seated : AreSeated threads f p)
+    (lowers : IsLowered f keeper (part keeper p.list) (p.books keeper) steps said)
     (legal : Legal f (triples keeper steps ++ p.list)) where
   lowered_rest : AreResting f p.caches (with_book p.books keeper []) (triples keeper steps ++ p.list)
   lowered_rest = keeper_resting f p keeper (with_book p.books keeper []) steps [] valid (keeper_of threads f keeper keeps) before (ap (λ (c : Cached). c.locals) (seated.uncached keeper keeps)) legal
@@ -83,7 +88,9 @@ module _ (threads : ℕ) (f : Profile) (keeper : ℕ) (p : Progress) (steps : Li
   seated_lowered = seated_rest threads f p keeper [] (triples keeper steps ++ p.list) (after_lowering p keeper steps said) keeps seated refl refl refl lowered_rest
 
 -- ---- a keeper tried a guarded request
-module _ (f : Profile) (keeper : ℕ) (r : Request) (p : Progress) (t : Tried) (valid : IsValid f) (is : IsThread f keeper) (before : IsBetween f p) (uncached : (p.caches keeper).locals ≡ []) (h : IsTried f keeper r (part keeper p.list) (p.books keeper) t) (legal : Legal f (after_trying p keeper t).list) where
+module _ (f : Profile) (keeper : ℕ) (r : Request) (p : Progress) (t : Tried) (valid : IsValid f) (is : IsThread f keeper) (before : IsBetween f p)
+    (uncached : (p.caches keeper).locals ≡ []) (h : IsTried f keeper r (part keeper p.list) (p.books keeper) t) (legal : Legal f (after_trying p keeper t).list)
+    where
   whole : Legal f (triples keeper (h.raised ++ h.swept) ++ p.list)
   whole = subst (λ (ms : List Made). Legal f (triples keeper ms ++ p.list)) h.steps_are legal
 
@@ -103,6 +110,7 @@ module _ (f : Profile) (keeper : ℕ) (r : Request) (p : Progress) (t : Tried) (
   sweep_fits : FitsBook f h.left (h.swept ++ part keeper p.list)
   sweep_fits = h.sweep.fits.from (part keeper p.list) h.fits (agreed_steps f keeper p.list h.swept valid sweep_legal)
 
+  -- After a keeper's sweep all actors rest.
   pub swept_between : IsBetween f swept
   swept_between = record {
     legal = sweep_legal;
@@ -113,6 +121,7 @@ module _ (f : Profile) (keeper : ℕ) (r : Request) (p : Progress) (t : Tried) (
   pub raise_legal : Legal f (triples keeper h.raised ++ swept.list)
   raise_legal = subst (Legal f) (sym (triples_append keeper h.raised h.swept p.list)) whole
 
+  -- After its sweep a keeper fits the book that is left.
   pub raise_fits : FitsBook f h.left (part keeper swept.list)
   raise_fits = subst (FitsBook f h.left) (sym (part_of_own keeper h.swept p.list)) sweep_fits
 
@@ -123,12 +132,14 @@ module _ (f : Profile) (keeper : ℕ) (r : Request) (p : Progress) (t : Tried) (
       (raised_beside f keeper r.heap (pages_of (wanted_by f r)) swept.list h.left t.guards valid raise_fits sweep_beside sweep_bare t.block h.raised h.raise)
       (raised_bare f keeper r.heap (pages_of (wanted_by f r)) swept.list h.left t.guards valid raise_fits sweep_beside sweep_bare t.block h.raised h.raise raise_legal)
 
-  pub lists : triples keeper h.raised ++ swept.list ≡ triples keeper t.steps ++ p.list
-  lists = triples_append keeper h.raised h.swept p.list ∙ ap (λ (ms : List Made). triples keeper ms ++ p.list) (sym h.steps_are)
+  -- The steps of a raise behind those of its sweep are all the steps of the try.
+  pub sweep_and_raise_are_the_try : triples keeper h.raised ++ swept.list ≡ triples keeper t.steps ++ p.list
+  sweep_and_raise_are_the_try = triples_append keeper h.raised h.swept p.list ∙ ap (λ (ms : List Made). triples keeper ms ++ p.list) (sym h.steps_are)
 
   tried_rest : AreResting f p.caches (with_book p.books keeper t.guards) (triples keeper t.steps ++ p.list)
-  tried_rest = subst (AreResting f p.caches (with_book p.books keeper t.guards)) lists raise_rest
+  tried_rest = subst (AreResting f p.caches (with_book p.books keeper t.guards)) sweep_and_raise_are_the_try raise_rest
 
+  -- After a keeper tried a guarded request, all actors rest.
   pub tried_between : IsBetween f (after_trying p keeper t)
   tried_between = record { legal = legal; rest = tried_rest }
 
@@ -143,13 +154,15 @@ tried_legal f op r None p p' is legal = list_before f op p p' is legal
 thread_no_keeper : (threads : ℕ) (f : Profile) (k : ℕ) → IsThreadOf threads k → IsKeeperOf threads f k → ⊥
 thread_no_keeper threads f k own keeps = omega (arith, own.1, keeps.0)
 
-after_tried : (threads : ℕ) (f : Profile) (op : Op) (r : Request) (block : Option Block) (p p' : Progress) → IsValid f → IsThreadOf threads op.actor → IsBetween f p → AreSeated threads f p → AnswersTried f op r block p p' → Legal f p'.list → AreSeated threads f p'
+after_tried : (threads : ℕ) (f : Profile) (op : Op) (r : Request) (block : Option Block) (p p' : Progress) → IsValid f → IsThreadOf threads op.actor
+    → IsBetween f p → AreSeated threads f p → AnswersTried f op r block p p' → Legal f p'.list → AreSeated threads f p'
 after_tried threads f op r (Some block) p p' valid own before seated is legal =
     subst (AreSeated threads f) (sym is) (record { few = seated.few; unbooked = seated.unbooked; uncached = seated.uncached; beside = seated.beside; bare = seated.bare })
 after_tried threads f op r None p p' valid own before seated is legal =
     seated_moved threads f p p' op.actor valid before legal (thread_no_keeper threads f op.actor own) seated (moved f (Act.Operates op) p p' tt is)
 
-guarded_seats : (threads : ℕ) (f : Profile) (keeper : ℕ) (op : Op) (o : Option Request) (p p' : Progress) → IsValid f → IsKeeperOf threads f keeper → IsThreadOf threads op.actor → IsBetween f p → AreSeated threads f p → AnswersGuarded f keeper op o p p' → Legal f p'.list → AreSeated threads f p'
+guarded_seats : (threads : ℕ) (f : Profile) (keeper : ℕ) (op : Op) (o : Option Request) (p p' : Progress) → IsValid f → IsKeeperOf threads f keeper
+    → IsThreadOf threads op.actor → IsBetween f p → AreSeated threads f p → AnswersGuarded f keeper op o p p' → Legal f p'.list → AreSeated threads f p'
 guarded_seats threads f keeper op None p p' valid keeps own before seated is legal = absurd is
 guarded_seats threads f keeper op (Some r) p p' valid keeps own before seated is legal =
     let t : Tried = is.0 in
@@ -163,7 +176,9 @@ guarded_seats threads f keeper op (Some r) p p' valid keeps own before seated is
 zero_no_keeper : (threads : ℕ) (f : Profile) → IsKeeperOf threads f 0 → ⊥
 zero_no_keeper threads f keeps = omega (arith, keeps.0)
 
-pub seated_next : (threads : ℕ) (f : Profile) (act : Act) (p p' : Progress) → IsValid f → IsActOf threads f act → IsBetween f p → AreSeated threads f p → Advances f act p p' → Legal f p'.list → AreSeated threads f p'
+-- After each act only keepers have guards up, and cache nothing.
+pub seated_next : (threads : ℕ) (f : Profile) (act : Act) (p p' : Progress) → IsValid f → IsActOf threads f act → IsBetween f p → AreSeated threads f p
+    → Advances f act p p' → Legal f p'.list → AreSeated threads f p'
 seated_next threads f (Act.Operates op) p p' valid own before seated is legal = seated_moved threads f p p' op.actor valid before legal (thread_no_keeper threads f op.actor own) seated (moved f (Act.Operates op) p p' tt is)
 seated_next threads f (Act.Guards keeper op) p p' valid own before seated is legal = guarded_seats threads f keeper op (request_in op.what) p p' valid own.0 own.1 before seated is legal
 seated_next threads f (Act.Settles k) p p' valid own before seated is legal = seated_moved threads f p p' k valid before legal (thread_no_keeper threads f k own) seated (moved f (Act.Settles k) p p' tt is)

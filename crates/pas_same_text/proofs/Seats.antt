@@ -15,6 +15,7 @@ use Rattle.pas_same_text.specs.{Acts.IsResting, Acts.AreResting, Acts.IsBetween,
 pub thread_of : (threads : ℕ) (f : Profile) (k : ℕ) → IsThreadOf threads k → threads ≤ f.threads → IsThread f k
 thread_of threads f k own few = let low = own.0 in (low, omega (arith, own.1, few))
 
+-- A keeper is an actor of the region.
 pub keeper_of : (threads : ℕ) (f : Profile) (k : ℕ) → IsKeeperOf threads f k → IsThread f k
 keeper_of threads f k keeps = (omega (arith, keeps.0), keeps.1)
 
@@ -86,6 +87,7 @@ module _ (threads : ℕ) (f : Profile) (p : Progress) (rest : AreAtRest threads 
     scavenger = rest.scavenger;
   }
 
+  -- Where all threads and keepers are at rest, a legal replay is between two acts.
   pub between_from : Legal f p.list → IsBetween f p
   between_from legal = record { legal = legal; rest = resting_from }
 

@@ -40,11 +40,13 @@ module _ (s : Slots) (l : Local) (b : ℕ) (same : IsSameLocal s l) (is : IsClas
   slots_same : list_any (λ x. in_run x (class_grains l.class) b) l.slots ≡ is_set s.starts (start_of s.class b)
   slots_same = same_truth (list_any (λ x. in_run x (class_grains l.class) b) l.slots) (is_set s.starts (start_of s.class b)) slot_set set_slot
 
-grain_same : (s : Slots) (l : Local) (page b : ℕ) → b < 256 → IsSameLocal s l → IsClass s.class → AreStarts s.class s.starts → has_grain page b l ≡ covers s (256 * page + b)
+grain_same : (s : Slots) (l : Local) (page b : ℕ) → b < 256 → IsSameLocal s l → IsClass s.class → AreStarts s.class s.starts
+    → has_grain page b l ≡ covers s (256 * page + b)
 grain_same s l page b small same is starts = search (arith, slots_same, on_page)
 
 -- ---- those of a cache
-pub grains_same : (f : Profile) (v : View) (slots : List Slots) (locals : List Local) (page b : ℕ) → b < 256 → AreSameLocals slots locals → All (IsLocal f v) slots
+pub grains_same : (f : Profile) (v : View) (slots : List Slots) (locals : List Local) (page b : ℕ) → b < 256 → AreSameLocals slots locals
+    → All (IsLocal f v) slots
     → list_any (has_grain page b) locals ≡ any_covers slots (256 * page + b)
 grains_same f v [] [] page b small same known = refl
 grains_same f v [] (l ∷ locals) page b small same known = absurd same
@@ -64,7 +66,8 @@ pub record IsOfCache (cs : List Cache) (p : Local → Bool) : Type 0 where
 cache_next : (c : Cache) (cs : List Cache) (k : ℕ) → 1 ≤ k → cache_in (c ∷ cs) (k + 1) ≡ cache_in cs k
 cache_next c cs k some = search (arith, ne_eqb)
 
-of_cache_at : (c : Cache) (cs : List Cache) (p : Local → Bool) → (list_any p (all_locals cs) ≡ true → IsOfCache cs p) → (list_any p c.locals ≡ true) ⊎ (list_any p (all_locals cs) ≡ true) → IsOfCache (c ∷ cs) p
+of_cache_at : (c : Cache) (cs : List Cache) (p : Local → Bool) → (list_any p (all_locals cs) ≡ true → IsOfCache cs p)
+    → (list_any p c.locals ≡ true) ⊎ (list_any p (all_locals cs) ≡ true) → IsOfCache (c ∷ cs) p
 of_cache_at c cs p rest (inl so) = record { k = 1; first = omega arith; last = omega arith; so = so }
 of_cache_at c cs p rest (inr so) =
     let o = rest so in
@@ -72,23 +75,29 @@ of_cache_at c cs p rest (inr so) =
     let first : 1 ≤ o.k + 1 = omega arith in
     record { k = o.k + 1; first = first; last = last; so = ap (λ (x : Cache). list_any p x.locals) (cache_next c cs o.k o.first) ∙ o.so }
 
+-- A local allocator among those of all caches is one of some thread's cache.
 pub of_cache : (cs : List Cache) (p : Local → Bool) → list_any p (all_locals cs) ≡ true → IsOfCache cs p
 of_cache [] p h = absurd (false≢true h)
 of_cache (c ∷ cs) p h = of_cache_at c cs p (of_cache cs p) (or_cases (list_any p c.locals) (list_any p (all_locals cs)) (sym (list_any-append p c.locals (all_locals cs)) ∙ h))
 
-in_all_at : (c : Cache) (cs : List Cache) (k : ℕ) (p : Local → Bool) (t : Bool) → (k == 1) ≡ t → (t ≡ false → list_any p (cache_in cs (k - 1)).locals ≡ true → list_any p (all_locals cs) ≡ true)
+in_all_at : (c : Cache) (cs : List Cache) (k : ℕ) (p : Local → Bool) (t : Bool) → (k == 1) ≡ t
+    → (t ≡ false → list_any p (cache_in cs (k - 1)).locals ≡ true → list_any p (all_locals cs) ≡ true)
     → list_any p (if t then c else cache_in cs (k - 1)).locals ≡ true → list_any p (c.locals ++ all_locals cs) ≡ true
 in_all_at c cs k p true e rest so = list_any-append p c.locals (all_locals cs) ∙ or_left (list_any p c.locals) (list_any p (all_locals cs)) so
 in_all_at c cs k p false e rest so = list_any-append p c.locals (all_locals cs) ∙ or_right (list_any p c.locals) (list_any p (all_locals cs)) (rest refl so)
 
+-- A local allocator of a thread's cache is among those of all caches.
 pub in_all : (cs : List Cache) (k : ℕ) (p : Local → Bool) → list_any p (cache_in cs k).locals ≡ true → list_any p (all_locals cs) ≡ true
 in_all [] k p so = so
 in_all (c ∷ cs) k p so = in_all_at c cs k p (k == 1) refl (λ e. in_all cs (k - 1) p) so
 
 -- ---- of a page
 -- the caches have the grain of the page, where a local allocator in them does
-pub cached_any : (cs : List Cache) (page b : ℕ) → is_cached (filter (λ l. l.page == page) (all_locals cs)) b ≡ true → list_any (has_grain page b) (all_locals cs) ≡ true
+pub cached_any : (cs : List Cache) (page b : ℕ) → is_cached (filter (λ l. l.page == page) (all_locals cs)) b ≡ true
+    → list_any (has_grain page b) (all_locals cs) ≡ true
 cached_any cs page b h = any_filtered (λ l. list_any (λ s. in_run s (class_grains l.class) b) l.slots) (λ l. l.page == page) (all_locals cs) h
 
-pub any_cached : (cs : List Cache) (page b : ℕ) → list_any (has_grain page b) (all_locals cs) ≡ true → is_cached (filter (λ l. l.page == page) (all_locals cs)) b ≡ true
+-- A grain that some cache's slots have is cached on its page.
+pub any_cached : (cs : List Cache) (page b : ℕ) → list_any (has_grain page b) (all_locals cs) ≡ true
+    → is_cached (filter (λ l. l.page == page) (all_locals cs)) b ≡ true
 any_cached cs page b h = filtered_any (λ l. list_any (λ s. in_run s (class_grains l.class) b) l.slots) (λ l. l.page == page) (all_locals cs) h

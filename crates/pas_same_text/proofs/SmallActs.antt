@@ -36,6 +36,7 @@ says_same f p w r same = record {
 pub phase_same : (f : Profile) (n : ℕ) → StaysSame f (Act.MarksPhase n)
 phase_same f n p p' w taken = subst (λ (q : Progress). IsSame f q (says (Record.Phase n) w)) (sym taken.advances) (says_same f p w (Record.Phase n) taken.same)
 
+-- The mark of the close leads the text to the replay's state.
 pub close_same : (f : Profile) → StaysSame f Act.MarksClose
 close_same f p p' w taken = subst (λ (q : Progress). IsSame f q (says Record.Close w)) (sym taken.advances) (says_same f p w Record.Close taken.same)
 
@@ -65,6 +66,7 @@ wakes_to f k epoch p w is listed same legal =
       read = same.read;
     }
 
+-- A thread's reading of the epoch at a phase leads the text to the replay's state.
 pub wake_same : (f : Profile) (k : ℕ) → IsThread f k → StaysSame f (Act.Wakes k)
 wake_same f k is p p' w taken =
     let epoch : ℕ = taken.advances.0 in
@@ -72,9 +74,11 @@ wake_same f k is p p' w taken =
     subst (λ (q : Progress). IsSame f q (begins k w)) (sym taken.advances.1) (wakes_to f k epoch p w is taken.listed taken.same legal)
 
 -- ---- the scavenger reads the epoch
-reads_to : (f : Profile) (epoch : ℕ) (p : Progress) (w : World) → IsSame f p w → Legal f (after_reading p epoch).list → IsSame f (after_reading p epoch) (reads_epoch w)
+reads_to : (f : Profile) (epoch : ℕ) (p : Progress) (w : World) → IsSame f p w → Legal f (after_reading p epoch).list
+    → IsSame f (after_reading p epoch) (reads_epoch w)
 reads_to f epoch p w same legal = search (arith, pages_next, look_pages, look_word, read_now)
 
+-- The scavenger's reading of the epoch leads the text to the replay's state.
 pub reading_same : (f : Profile) → StaysSame f Act.ReadsEpoch
 reading_same f p p' w taken = search (arith, reads_to)
 
@@ -82,7 +86,8 @@ reading_same f p p' w taken = search (arith, reads_to)
 ticked : (f : Profile) (p : Progress) (asked answer : ℕ) → Legal f (triple 0 (made (Tick asked) answer) ∷ p.list) → answer ≡ word_after p.list TheWord.Epoch
 ticked f p asked answer legal = legal.0.answer_is
 
-ticks_to : (f : Profile) (asked answer : ℕ) (p : Progress) (w : World) → IsSame f p w → Legal f (after_tick p asked answer).list → IsSame f (after_tick p asked answer) (ticks asked w)
+ticks_to : (f : Profile) (asked answer : ℕ) (p : Progress) (w : World) → IsSame f p w → Legal f (after_tick p asked answer).list
+    → IsSame f (after_tick p asked answer) (ticks asked w)
 ticks_to f asked answer p w same legal =
     let now : answer ≡ w.epoch = ticked f p asked answer legal ∙ sym same.epoch in
     let line : Record = Record.Said 0 (Said.Tick (max w.epoch asked)) in
@@ -96,6 +101,7 @@ ticks_to f asked answer p w same legal =
       read = same.read;
     }
 
+-- A tick leads the text to the replay's state.
 pub tick_same : (f : Profile) (asked : ℕ) → StaysSame f (Act.Ticks asked)
 tick_same f asked p p' w taken =
     let answer : ℕ = taken.advances.0 in
@@ -118,6 +124,7 @@ handed_on f k p w is listed same =
     let new : Cache = record own { noted = [] } in
     search (arith, pages_next, unchanged, cache_state, same_with)
 
+-- What a thread hands on to the indexes leads the text to the replay's state.
 pub settling_same : (f : Profile) (k : ℕ) → IsThread f k → StaysSame f (Act.Settles k)
 settling_same f k is p p' w taken = subst (λ (q : Progress). IsSame f q (settles k w)) (sym taken.advances)
     (all_indexed f (after_settling p k) (noted_of w k) (set_noted k [] w) (handed_on f k p w is taken.listed taken.same))

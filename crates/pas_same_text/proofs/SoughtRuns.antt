@@ -61,11 +61,13 @@ module _ (f : Profile) (k heap n : ℕ) (l : Whole) (valid : IsValid f) (of : Is
         let high : IsPage f (first + n + 1) = deed_has_page f (triples k xs ++ l) legal (first + n + 1) (whole_deed (first + n + 1) (omega arith, omega arith)) in
         let a = low.0 in (a, omega (arith, high.1))
 
-  all_usable : (xs : List Made) → Legal f (triples k xs ++ l) → LendsNone xs → Always ReturnsDuly xs → (first : ℕ) → AllUsable d (n + 2) first xs → IsUsableRun d (n + 2) l first
+  all_usable : (xs : List Made) → Legal f (triples k xs ++ l) → LendsNone xs → Always ReturnsDuly xs → (first : ℕ) → AllUsable d (n + 2) first xs
+      → IsUsableRun d (n + 2) l first
   all_usable xs legal lends due first usable q here = usable_was f k l d q xs of.kind legal lends due (usable q here)
 
   -- a run that failed after its pages had been read as usable is one that was usable
-  outer_failed : (xs : List Made) → Legal f (triples k xs ++ l) → LendsNone xs → Always ReturnsDuly xs → (first : ℕ) → Once (OuterFailsHere (part k l) d n first) xs → IsRunOf f heap n l first
+  outer_failed : (xs : List Made) → Legal f (triples k xs ++ l) → LendsNone xs → Always ReturnsDuly xs → (first : ℕ)
+      → Once (OuterFailsHere (part k l) d n first) xs → IsRunOf f heap n l first
   outer_failed [] legal lends due first h = absurd h
   outer_failed (m ∷ xs) legal lends due first (inr h) = outer_failed xs legal.1 lends.1 due.1 first h
   outer_failed (m ∷ xs) legal lends due first (inl h) = record { of_region = whole_region xs legal.1 first h.1.0; usable = all_usable xs legal.1 lends.1 due.1 first h.0 }
@@ -74,15 +76,18 @@ module _ (f : Profile) (k heap n : ℕ) (l : Whole) (valid : IsValid f) (of : Is
     lends : LendsNone xs
     lends = lends_none seeking refl xs kinds
 
+    -- A run that failed in a keeper's search was a usable run of the region before it.
     pub failed_run : (first : ℕ) → HasFailedOnce (part k l) d n first xs → IsRunOf f heap n l first
     failed_run first (inl h) = absurd (never_fails f k l d (n + 2) of met first xs legal lends due h)
     failed_run first (inr h) = outer_failed xs legal lends due first h
 
+    -- A run of the region that was all read as usable was a usable run before the search.
     pub found_run : (first : ℕ) → (1 ≤ first) × (first + (n + 2) ≤ f.pages + 1) → AllUsable d (n + 2) first xs → IsRunOf f heap n l first
     found_run first region usable = record { of_region = region; usable = all_usable xs legal lends due first usable }
 
   -- ---- a usable run that served not had a backed outer page
-  outer_backed : (xs : List Made) → Legal f (triples k xs ++ l) → Only seeking xs → (first : ℕ) → Once (OuterBackedHere (part k l) n first) xs → IsBackedRun n l (triples k xs ++ l) first
+  outer_backed : (xs : List Made) → Legal f (triples k xs ++ l) → Only seeking xs → (first : ℕ) → Once (OuterBackedHere (part k l) n first) xs
+      → IsBackedRun n l (triples k xs ++ l) first
   outer_backed [] legal kinds first h = absurd h
   outer_backed (m ∷ xs) legal kinds first (inr h) = let b = outer_backed xs legal.1 kinds.1 first h in record { backed = b.backed; deeds = λ q here. later m xs q (b.deeds q here) }
     where
@@ -97,7 +102,9 @@ module _ (f : Profile) (k heap n : ℕ) (l : Whole) (valid : IsValid f) (of : Is
       read q is one =
           sym (backed_stays seeking refl k xs l q kinds.1) ∙ (sym (legal.0.answer_is ∙ ap (λ (s : Step). word_after (triples k xs ++ l) (target s)) is) ∙ one)
 
-  pub bad_run : (xs : List Made) → Legal f (triples k xs ++ l) → Only seeking xs → MadeOf d xs → (first : ℕ) → IsRunOf f heap n l first → IsBad (part k l) d n first xs → IsBackedRun n l (triples k xs ++ l) first
+  -- A run that a search found bad has a backed outer page, and each of its pages has a deed afterwards.
+  pub bad_run : (xs : List Made) → Legal f (triples k xs ++ l) → Only seeking xs → MadeOf d xs → (first : ℕ) → IsRunOf f heap n l first
+      → IsBad (part k l) d n first xs → IsBackedRun n l (triples k xs ++ l) first
   bad_run xs legal kinds made first run (inr h) = outer_backed xs legal kinds first h
   bad_run xs legal kinds made first run (inl bad) =
       let here : IsUsablePage d l bad.0 = run.usable bad.0 bad.1 in
@@ -106,15 +113,19 @@ module _ (f : Profile) (k heap n : ℕ) (l : Whole) (valid : IsValid f) (of : Is
 
   -- ---- THE DEEDS that were made, of pages that had none
   module _ (Chosen Good : ℕ → Type 0) (each : (first : ℕ) → Chosen first → Good first) where
-    by_answer : (t : Bool) (q : ℕ) (qs : List ℕ) → (t ≡ true → IsMadeOf n l Good q) → AllByRecursion (IsMadeOf n l Good) qs → AllByRecursion (IsMadeOf n l Good) (if t then q ∷ qs else qs)
+    by_answer : (t : Bool) (q : ℕ) (qs : List ℕ) → (t ≡ true → IsMadeOf n l Good q) → AllByRecursion (IsMadeOf n l Good) qs
+        → AllByRecursion (IsMadeOf n l Good) (if t then q ∷ qs else qs)
     by_answer true q qs is rest = (is refl, rest)
     by_answer false q qs is rest = rest
 
+    -- Each page that got its deed from a search had none before, and is of a chosen run.
     pub made_pages : (xs : List Made) → Legal f (triples k xs ++ l) → DeedsOf d (n + 2) Chosen xs → AllByRecursion (IsMadeOf n l Good) (deeded xs)
     made_pages [] legal deeds = tt
     made_pages (m ∷ xs) legal deeds = one m.step m.answer legal.0.answer_is deeds.0 (made_pages xs legal.1 deeds.1)
       where
-        one : (s : Step) (a : ℕ) → a ≡ word_after (triples k xs ++ l) (target s) → ((page : ℕ) (e : Directory) → s ≡ Deed page e → a ≡ 0 → (e ≡ d) × ((first : ℕ) × IsInRun first (n + 2) page × AllUsable d (n + 2) first xs × Chosen first))
+        one : (s : Step) (a : ℕ) → a ≡ word_after (triples k xs ++ l) (target s)
+            → ((page : ℕ) (e : Directory) → s ≡ Deed page e → a ≡ 0
+                → (e ≡ d) × ((first : ℕ) × IsInRun first (n + 2) page × AllUsable d (n + 2) first xs × Chosen first))
             → AllByRecursion (IsMadeOf n l Good) (deeded xs) → AllByRecursion (IsMadeOf n l Good) (with_deed s a (deeded xs))
         one (Deed q e) a answer is rest = by_answer (a == 0) q (deeded xs) (λ zero.
             let none : a ≡ 0 = eqb-true a 0 zero in

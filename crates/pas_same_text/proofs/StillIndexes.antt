@@ -31,9 +31,11 @@ Still = List (List Span) × List Guard × ℕ
 abbrev pub still : World → Still
 still w = (w.indexes, w.guards, length w.caches)
 
+-- With indexes and guards the same when taken together, the indexes are the same.
 pub same_indexes : (w v : World) → still v ≡ still w → v.indexes ≡ w.indexes
 same_indexes w v is = ap (λ (s : Still). s.0) is
 
+-- With indexes and guards the same when taken together, the guards that are up are the same.
 pub same_guards : (w v : World) → still v ≡ still w → v.guards ≡ w.guards
 same_guards w v is = ap (λ (s : Still). s.1) is
 
@@ -48,7 +50,9 @@ either : (t : Bool) (v u : World) (value : Still) → still v ≡ value → stil
 either true v u value one other = one
 either false v u value one other = other
 
-pub each_keeps : {A : Type 0} (does : A → World → World) (xs : List A) → ((x : A) (w : World) → still (does x w) ≡ still w) → (w : World) → still (each does xs w) ≡ still w
+-- What keeps indexes and guards each time keeps them when done for a whole list.
+pub each_keeps : {A : Type 0} (does : A → World → World) (xs : List A) → ((x : A) (w : World) → still (does x w) ≡ still w) → (w : World)
+    → still (each does xs w) ≡ still w
 each_keeps does [] keeps w = refl
 each_keeps does (x ∷ xs) keeps w = each_keeps does xs keeps (does x w) ∙ keeps x w
 
@@ -56,6 +60,7 @@ each_keeps does (x ∷ xs) keeps w = each_keeps does xs keeps (does x w) ∙ kee
 hints_keep : (page : ℕ) (w : World) → still (hints page w) ≡ still w
 hints_keep page w = either (is_hinted w page) w (record w { hinted = page ∷ w.hinted }) (still w) refl refl
 
+-- Minding a page keeps indexes and guards.
 pub minds_keep : (page : ℕ) (w : World) → still (minds page w) ≡ still w
 minds_keep page w = either (backed_in w.events page && is_empty w page) (hints page w) w (still w) (hints_keep page w) refl
 
@@ -72,6 +77,7 @@ effect_keeps f k entry lives w = search (arith, either, block_keeps)
 ends_keep : (f : Profile) (k : ℕ) (entry : Entry) (w : World) → still (ends f k entry w) ≡ still w
 ends_keep f k entry w = effect_keeps f k entry (block_at w (address_of entry.name)) w
 
+-- A flush keeps indexes and guards.
 pub flushes_keep : (f : Profile) (k : ℕ) (w : World) → still (flushes f k w) ≡ still w
 flushes_keep f k w = each_keeps (ends f k) (log_of w k) (ends_keep f k) (set_log k [] w) ∙ cache_keeps k (record (cache_of w k) { log = [] }) w
 
@@ -81,9 +87,11 @@ given_up_keeps k l w =
     minds_keep l.page (set_locals k (others l.heap l.class (locals_of w k)) w)
     ∙ cache_keeps k (record (cache_of w k) { locals = others l.heap l.class (locals_of w k) }) w
 
+-- A stop keeps indexes and guards.
 pub stops_keep : (f : Profile) (k : ℕ) (w : World) → still (stops f k w) ≡ still w
 stops_keep f k w = each_keeps (gives_up k) (locals_of (flushes f k w) k) (given_up_keeps k) (flushes f k w) ∙ flushes_keep f k w
 
+-- A stop where a thread is idle keeps indexes and guards, and so does none.
 pub idle_keeps : (f : Profile) (t : Bool) (k : ℕ) (w : World) → still (if t then says (Record.Said 0 (Said.Stopped k)) (stops f k w) else w) ≡ still w
 idle_keeps f t k w = either t (says (Record.Said 0 (Said.Stopped k)) (stops f k w)) w (still w) (stops_keep f k w) refl
 
@@ -94,9 +102,11 @@ logs_keep f k entry w =
     cache_keeps k (record (cache_of v k) { log = log_of v k ++ entry ∷ [] }) v
     ∙ either (nat_le 64 (length (log_of w k))) (flushes f k w) w (still w) (flushes_keep f k w) refl
 
+-- A free keeps indexes and guards.
 pub frees_keep : (f : Profile) (k : ℕ) (entry : Entry) (w : World) → still (frees f k entry w) ≡ still w
 frees_keep f k entry w = search (arith, either, logs_keep)
 
+-- A free by a name of the trace keeps indexes and guards, whatever the name stands for.
 pub what_keeps : (f : Profile) (k name room : ℕ) (meant : Option (Option Block)) (w : World) → still (frees_what f k name room meant w) ≡ still w
 what_keeps f k name room (Some (Some block)) w = frees_keep f k (sized_entry block.name room) w
 what_keeps f k name room (Some None) w = refl
@@ -106,6 +116,7 @@ what_keeps f k name room None w = refl
 pub deeds_keep : (k : ℕ) (d : Directory) (page : ℕ) (w : World) → still (deeds k d page w) ≡ still w
 deeds_keep k d page w = either (is_unowned w page) (shows (Event.Deed k page d) w) w (still w) refl refl
 
+-- A page that gets memory keeps indexes and guards.
 pub backs_keep : (k page : ℕ) (w : World) → still (backs k page w) ≡ still w
 backs_keep k page w = either (backed_in w.events page) w (shows (Event.Back k page) w) (still w) refl refl
 
@@ -125,6 +136,7 @@ fetches_keep f k name heap class w = page_keeps f k name heap class (searched f 
 pub first_up_keeps : (k : ℕ) (ls : List Local) (w : World) → still (gives_up_first k ls w) ≡ still w
 first_up_keeps k ls w = search (arith, either, given_up_keeps)
 
+-- A request of a class keeps indexes and guards.
 pub class_keeps : (f : Profile) (k name heap class : ℕ) (own : Option Local) (w : World) → still (serves_class_by f k name heap class own w) ≡ still w
 class_keeps f k name heap class None w = fetches_keep f k name heap class (makes_place k w) ∙ first_up_keeps k (locals_of w k) w
 class_keeps f k name heap class (Some l) w =
@@ -134,9 +146,11 @@ place_keeps : (k name heap room page : ℕ) (slots : List ℕ) (w : World) → s
 place_keeps k name heap room page [] w = refl
 place_keeps k name heap room page (s ∷ more) w = refl
 
+-- A bit-fit request keeps indexes and guards, served or refused.
 pub places_keep : (k name heap room align : ℕ) (found : Result ℕ NoRoom) (w : World) → still (places k name heap room align found w) ≡ still w
 places_keep k name heap room align found w = search (arith, place_keeps, readies_keep)
 
+-- A run of whole pages that is given, or refused, keeps indexes and guards.
 pub run_keeps : (f : Profile) (k name heap n : ℕ) (found : Option ℕ) (w : World) → still (serves_run f k name heap n found w) ≡ still w
 run_keeps f k name heap n found w = search (arith, each_keeps, backs_keep, deeds_keep)
 
@@ -148,5 +162,6 @@ outcome_keeps page Outcome.Unbacked w = refl
 outcome_keeps page Outcome.NotOffered w = refl
 outcome_keeps page (Outcome.Young stamp) w = refl
 
+-- A pass keeps indexes and guards.
 pub pass_keeps : (f : Profile) (w : World) → still (passes f w) ≡ still w
 pass_keeps f w = each_keeps (examines f) (filter (is_hinted w) (page_numbers f)) (λ page v. outcome_keeps page (outcome_of f v page) v) (says (Record.Said 0 (Said.Pass w.epoch)) w)

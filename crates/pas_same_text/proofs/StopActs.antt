@@ -48,7 +48,8 @@ all_of_region f v (s ∷ slots) [] same known = absurd same
 all_of_region f v (s ∷ slots) (l ∷ ls) same known = (subst (IsPage f) (sym same.0.page) (All-head (IsLocal f v) s slots known).page, all_of_region f v slots ls same.1 (All-tail (IsLocal f v) s slots known))
 
 -- the page of one that is marked is minded
-marked_minded : (q : ℕ) (steps : List Made) (slots : List Slots) (ls : List Local) → AreSameLocals slots ls → IsMarkedIn q steps slots → has_number (map (λ l. l.page) ls) q ≡ true
+marked_minded : (q : ℕ) (steps : List Made) (slots : List Slots) (ls : List Local) → AreSameLocals slots ls → IsMarkedIn q steps slots
+    → has_number (map (λ l. l.page) ls) q ≡ true
 marked_minded q steps slots [] same (IsMarkedIn.Here s rest o) = absurd same
 marked_minded q steps slots (l ∷ ls) same (IsMarkedIn.Here s rest o) = or_left (l.page == q) (has_number (map (λ x. x.page) ls) q) (eq-eqb l.page q (same.0.page ∙ o.page))
 marked_minded q steps slots [] same (IsMarkedIn.There s rest o) = absurd same
@@ -61,7 +62,8 @@ record IsOneOf (f : Profile) (v : View) (q : ℕ) (steps : List Made) (slots : L
   known : IsLocal f v own
   has : (g : ℕ) → covers own g ≡ true → any_covers slots g ≡ true
 
-one_of : (f : Profile) (v : View) (q : ℕ) (steps : List Made) (slots : List Slots) → All (IsLocal f v) slots → IsMarkedIn q steps slots → IsOneOf f v q steps slots
+one_of : (f : Profile) (v : View) (q : ℕ) (steps : List Made) (slots : List Slots) → All (IsLocal f v) slots → IsMarkedIn q steps slots
+    → IsOneOf f v q steps slots
 one_of f v q steps slots known (IsMarkedIn.Here s rest o) = record { own = s; marked = o; known = All-head (IsLocal f v) s rest known; has = λ g h. or_left (covers s g) (any_covers rest g) h }
 one_of f v q steps slots known (IsMarkedIn.There s rest o) =
     let r = one_of f v q steps rest (All-tail (IsLocal f v) s rest known) o in
@@ -72,7 +74,8 @@ slot_usable : (right : Bool) (class b : ℕ) → 1 ≤ class_grains class → Is
 slot_usable right class b h slot = grind arith
 
 -- slots whose page is of a directory in the text, after steps of their thread that give back, are at home there; that page is open where they had a slot whose grains are free now, or where room was read
-module _ (f : Profile) (k : ℕ) (p : Progress) (steps : List Made) (c' : Cached) (v : World) (valid : IsValid f) (before : IsBetween f p) (after : IsBetween f (with_steps p k steps c')) (has : HasSame f (with_steps p k steps c') v) (kinds : Only freeing steps)
+module _ (f : Profile) (k : ℕ) (p : Progress) (steps : List Made) (c' : Cached) (v : World) (valid : IsValid f) (before : IsBetween f p)
+    (after : IsBetween f (with_steps p k steps c')) (has : HasSame f (with_steps p k steps c') v) (kinds : Only freeing steps)
     (s : Slots) (known : IsLocal f (part k p.list) s) where
   abbrev ended : Progress
   ended = with_steps p k steps c'
@@ -83,7 +86,9 @@ module _ (f : Profile) (k : ℕ) (p : Progress) (steps : List Made) (c' : Cached
       let stays : word_after ended.list (Word.Deed q) ≡ word_after p.list (Word.Deed q) = deed_same freeing refl k steps p.list q kinds in
       same_from_deed_word d (home_of s) of.kind known.directory.kind (sym now ∙ (stays ∙ (ap (λ (x : ℕ). word_after p.list (Word.Deed x)) (sym page) ∙ word_known f p.list before.legal k s.page (home_of s) known.deed)))
 
-  pub slot_room : ((g : ℕ) → covers s g ≡ true → free_bit ended.list g ≡ true) → (q : ℕ) (d : Directory) → IsDirectoryOf f d → is_of v d q ≡ true → s.page ≡ q → HasMember s.starts → is_open v d q ≡ true
+  -- A page with a stopped slot whose grains are free then is open to its directory.
+  pub slot_room : ((g : ℕ) → covers s g ≡ true → free_bit ended.list g ≡ true) → (q : ℕ) (d : Directory) → IsDirectoryOf f d → is_of v d q ≡ true → s.page ≡ q
+      → HasMember s.starts → is_open v d q ≡ true
   slot_room free q d of is page m =
       let b : ℕ = m.0 in
       let small : b < 256 = m.1 in
@@ -97,6 +102,7 @@ module _ (f : Profile) (k : ℕ) (p : Progress) (steps : List Made) (c' : Cached
       cc (eq-eqb s.page (g / 256) (page ∙ sym at_page)) in
       open_from f ended v valid after has d q b small (ap (λ (x : Directory). usable_by_kind x.kind b) (home_is q d of is page) ∙ slot_usable s.right s.class b some slot) (free g covered)
 
+  -- A page of which a stop read room is open to its directory.
   pub read_room : (q : ℕ) (d : Directory) → IsDirectoryOf f d → is_of v d q ≡ true → s.page ≡ q → ReadsRoom q (home_of s) steps → is_open v d q ≡ true
   read_room q d of is page r = read_open f ended v valid after has freeing refl k p.list steps refl kinds q d (home_of s) (home_is q d of is page) r
 
@@ -185,7 +191,8 @@ module _ (f : Profile) (k : ℕ) (p : Progress) (w : World) (flushed stopped : L
       (λ j now. let is_own : j ≡ k = eqb-true j k (one_holder f p.list valid before.legal j k g (held_before j g now) held) in lets_go g (in_cache g covered) (subst (λ (i : ℕ). holds (part i p'.list) g ≡ true) is_own now))
       (λ a b lives of_it. covered_not_held f p.list valid before.legal g a b (lived f p p' w v to.pages valid before after same.pages.events has usable fewer held_before a b lives) of_it k held)
 
-  marked_room : (q : ℕ) (d : Directory) → IsDirectoryOf f d → is_of v d q ≡ true → (o : IsOneOf f (part k p.list) q stopped c.locals) → HasMember o.own.starts ⊎ ReadsRoom q (home_of o.own) stopped → is_open v d q ≡ true
+  marked_room : (q : ℕ) (d : Directory) → IsDirectoryOf f d → is_of v d q ≡ true → (o : IsOneOf f (part k p.list) q stopped c.locals)
+      → HasMember o.own.starts ⊎ ReadsRoom q (home_of o.own) stopped → is_open v d q ≡ true
   marked_room q d of is o (inl some) = slot_room f k p (stopped ++ flushed) c' v valid before after has all_kinds o.own o.known (slots_free o.own o.has) q d of is o.marked.page some
   marked_room q d of is o (inr read) = read_room f k p (stopped ++ flushed) c' v valid before after has all_kinds o.own o.known q d of is o.marked.page (room_earlier q (home_of o.own) stopped flushed read)
 
@@ -219,6 +226,7 @@ module _ (f : Profile) (k : ℕ) (p : Progress) (w : World) (flushed stopped : L
       ∙ (flush_records f k p w flushed c'.noted valid thread listed same flush_legal h
       ∙ ap (λ (es : List Event). map Record.Event es ++ w.records) (sym shown))
 
+  -- A flush and then a stop of all local allocators lead the text to the replay's state.
   pub stop_same : IsSame f (with_records p' (records_of (events_by k (part k p.list) (stopped ++ flushed)))) (stops f k w)
   stop_same = record {
     pages = given_pages f k p.list p' w v (stopped ++ flushed) valid same.pages refl after has given;

@@ -34,14 +34,17 @@ pub record ReadsRoom (page : ℕ) (d : Directory) (steps : List Made) : Type 0 w
   pub read : ReadsGrain page grain steps
 
 -- it is free still
-pub grain_read : (ks : Kinds) → apart ks (Taking ∷ []) ≡ true → (f : Profile) (k : ℕ) (l : Whole) (page g : ℕ) (xs : List Made) → Legal f (triples k xs ++ l) → Only ks xs → ReadsGrain page g xs → has_bit (word_after (triples k xs ++ l) (Word.Free page (g / 64))) (g % 64) ≡ true
+pub grain_read : (ks : Kinds) → apart ks (Taking ∷ []) ≡ true → (f : Profile) (k : ℕ) (l : Whole) (page g : ℕ) (xs : List Made) → Legal f (triples k xs ++ l)
+    → Only ks xs → ReadsGrain page g xs → has_bit (word_after (triples k xs ++ l) (Word.Free page (g / 64))) (g % 64) ≡ true
 grain_read ks no_take f k l page g [] legal only h = absurd h
 grain_read ks no_take f k l page g (m ∷ xs) legal only (inr h) = free_stays ks no_take k (m ∷ []) (triples k xs ++ l) page (g / 64) (g % 64) (only.0, tt) (grain_read ks no_take f k l page g xs legal.1 only.1 h)
 grain_read ks no_take f k l page g (m ∷ xs) legal only (inl h) = search (arith, free_stays)
 
+-- Room that was read of a page counts as read after later steps too.
 pub room_later : (page : ℕ) (d : Directory) (ys xs : List Made) → ReadsRoom page d xs → ReadsRoom page d (ys ++ xs)
 room_later page d ys xs r = record { grain = r.grain; small = r.small; usable = r.usable; read = once_later _ ys xs r.read }
 
+-- Room that later steps read of a page was read by these and those before them.
 pub room_earlier : (page : ℕ) (d : Directory) (ys xs : List Made) → ReadsRoom page d ys → ReadsRoom page d (ys ++ xs)
 room_earlier page d ys xs r = record { grain = r.grain; small = r.small; usable = r.usable; read = front page r.grain ys xs r.read }
   where
@@ -50,7 +53,8 @@ room_earlier page d ys xs r = record { grain = r.grain; small = r.small; usable 
     front page g (y ∷ ys) xs (inl h) = inl h
     front page g (y ∷ ys) xs (inr h) = inr (front page g ys xs h)
 
-look_at : (page : ℕ) (answers : ℕ → ℕ) (n word : ℕ) → word < n → Once (λ m before. (m.step ≡ Look (Word.Free page word)) × (m.answer ≡ answers word)) (looks page answers n)
+look_at : (page : ℕ) (answers : ℕ → ℕ) (n word : ℕ) → word < n
+    → Once (λ m before. (m.step ≡ Look (Word.Free page word)) × (m.answer ≡ answers word)) (looks page answers n)
 look_at page answers zero word lt = absurd (omega (arith, lt))
 look_at page answers (suc n) word lt = elim (cases_eq word n) [
   | inl e ↦ inl (ap (λ w. Look (Word.Free page w)) (sym e), ap answers (sym e))
@@ -76,7 +80,8 @@ reoffers_none : (usable : Bool) (page q : ℕ) (d : Directory) (steps : List Mad
 reoffers_none true page q d steps h marked = refl
 reoffers_none false page q d steps h marked = absurd (subst (IsMarked q) h marked)
 
-end_room : (usable all_free : Bool) (page q : ℕ) (d : Directory) (free : Mask4) (after : List Made) → MatchBool usable (HasUsable d free) (HasNoUsable d free) → EndsLeave usable page d all_free after → IsMarked q after → ReadsRoom page d (after ++ looks page (words free) 4)
+end_room : (usable all_free : Bool) (page q : ℕ) (d : Directory) (free : Mask4) (after : List Made) → MatchBool usable (HasUsable d free) (HasNoUsable d free)
+    → EndsLeave usable page d all_free after → IsMarked q after → ReadsRoom page d (after ++ looks page (words free) 4)
 end_room true all_free page q d free after u h marked = room_later page d after (looks page (words free) 4) (looks_room page d free u)
 end_room false all_free page q d free after none h marked =
     let park : List Made = made (Park page) h.parked ∷ [] in
@@ -89,6 +94,7 @@ end_room false all_free page q d free after none h marked =
       | inr rest ↦ search (arith, marked_parts, looks_offer_none, none_marked)
     ]
 
+-- Of a page that a leave marks, it read room.
 pub leave_room : (page q : ℕ) (d : Directory) (steps : List Made) → LeaveSteps page d steps → IsMarked q steps → ReadsRoom page d steps
 leave_room page q d steps h marked = elim (marked_parts q h.after (looks page (words h.free) 4) (subst (IsMarked q) h.steps_are marked)) [
   | inl first ↦ subst (ReadsRoom page d) (sym h.steps_are) (end_room h.usable h.all_free page q d h.free h.after h.usable_is h.ends first)
@@ -110,7 +116,8 @@ left_marked s false q steps h marked = absurd (subst (IsMarked q) h marked)
 has_member : (s : Slots) (mask : Mask4) → IsClass s.class → AreGrains s mask → HasMember mask → HasMember s.starts
 has_member s mask is grains m = let below = start_below s.class m.0 is in (start_of s.class m.0, omega (arith, below.0, m.1), sym (grains m.0 m.1) ∙ m.2)
 
-back_marked : (s : Slots) (mask : Mask4) (q : ℕ) (steps : List Made) → IsClass s.class → AreGrains s mask → BackSteps s.page (home_of s) mask steps → IsMarked q steps → IsMarkedBy s q steps
+back_marked : (s : Slots) (mask : Mask4) (q : ℕ) (steps : List Made) → IsClass s.class → AreGrains s mask → BackSteps s.page (home_of s) mask steps
+    → IsMarked q steps → IsMarkedBy s q steps
 back_marked s mask q steps is grains (inl h) marked = absurd (subst (IsMarked q) h.1 marked)
 back_marked s mask q steps is grains (inr h) marked = elim (marked_parts q h.2 h.1 (subst (IsMarked q) h.5 marked)) [
   | inl first ↦ record { page = returns_marked s.page q h.2 (return_returns s.page (home_of s) h.2 h.4) first; room = inl (has_member s mask is grains h.0) }
@@ -123,6 +130,7 @@ marked_later s q ys xs o = record { page = o.page; room = elim o.room [ inl some
 marked_earlier : (s : Slots) (q : ℕ) (ys xs : List Made) → IsMarkedBy s q ys → IsMarkedBy s q (ys ++ xs)
 marked_earlier s q ys xs o = record { page = o.page; room = elim o.room [ inl some ↦ inl some | inr r ↦ inr (room_earlier q (home_of s) ys xs r) ] }
 
+-- A page that the stop of one local allocator marks is its own, with a slot or with room that was read.
 pub one_marked : (s : Slots) (q : ℕ) (steps : List Made) → IsClass s.class → StopStepsAt (home_of s) s steps → IsMarked q steps → IsMarkedBy s q steps
 one_marked s q steps is h marked = subst (IsMarkedBy s q) (sym h.steps_are) (elim (marked_parts q h.left h.back (subst (IsMarked q) h.steps_are marked)) [
   | inl first ↦ marked_earlier s q h.left h.back (left_marked s s.right q h.left h.leaves first)
@@ -133,6 +141,7 @@ left_hints : (s : Slots) (right : Bool) (steps : List Made) → LeavesWhere righ
 left_hints s true steps h = hints_of steps (leave_due s.page (home_of s) steps h)
 left_hints s false steps h = subst (Always HintsEmpty) (sym h) tt
 
+-- The stop of one local allocator hints only pages that it read as backed and empty.
 pub one_hints : (s : Slots) (steps : List Made) → StopStepsAt (home_of s) s steps → Always HintsEmpty steps
 one_hints s steps h = subst (Always HintsEmpty) (sym h.steps_are) (hints_both h.left h.back (left_hints s s.right h.left h.leaves) (back_hints s.page (home_of s) h.mask h.back h.puts))
 
@@ -150,6 +159,7 @@ in_later : (q : ℕ) (ys xs : List Made) (slots : List Slots) → IsMarkedIn q x
 in_later q ys xs slots (IsMarkedIn.Here s rest o) = IsMarkedIn.Here s rest (marked_later s q ys xs o)
 in_later q ys xs slots (IsMarkedIn.There s rest o) = IsMarkedIn.There s rest (in_later q ys xs rest o)
 
+-- A page that the stop of several local allocators marks is marked by one of them.
 pub all_marked : (q : ℕ) (slots : List Slots) (steps : List Made) → AllClasses slots → StopsAll slots steps → IsMarked q steps → IsMarkedIn q steps slots
 all_marked q [] steps classes h marked = absurd (subst (IsMarked q) h marked)
 all_marked q (s ∷ rest) steps classes h marked = subst (λ (ms : List Made). IsMarkedIn q ms (s ∷ rest)) (sym h.4) (elim (marked_parts q h.0 h.1 (subst (IsMarked q) h.4 marked)) [
@@ -157,6 +167,7 @@ all_marked q (s ∷ rest) steps classes h marked = subst (λ (ms : List Made). I
   | inr later ↦ IsMarkedIn.There s rest (in_later q h.0 h.1 rest (all_marked q rest h.1 classes.1 h.3 later))
 ])
 
+-- The stop of several local allocators hints only pages that it read as backed and empty.
 pub all_hints : (slots : List Slots) (steps : List Made) → StopsAll slots steps → Always HintsEmpty steps
 all_hints [] steps h = subst (Always HintsEmpty) (sym h) tt
 all_hints (s ∷ rest) steps h = subst (Always HintsEmpty) (sym h.4) (hints_both h.0 h.1 (one_hints s h.0 h.2) (all_hints rest h.1 h.3))

@@ -37,6 +37,7 @@ back_page page d mask q steps (inr h) marked = elim (marked_parts q h.2 h.1 (sub
   | inr later ↦ absurd (none_marked (Putting ∷ []) refl q h.1 (puts_kinds page mask 4 h.1 h.3) later)
 ]
 
+-- Grains that are put back with what follows hint only pages that were read as backed and empty.
 pub back_hints : (page : ℕ) (d : Directory) (mask : Mask4) (steps : List Made) → BackSteps page d mask steps → Always HintsEmpty steps
 back_hints page d mask steps (inl h) = subst (Always HintsEmpty) (sym h.1) tt
 back_hints page d mask steps (inr h) = subst (Always HintsEmpty) (sym h.5) (hints_both h.2 h.1 (return_hints page d h.2 h.4) (hints_none (Putting ∷ []) h.1 refl (puts_kinds page mask 4 h.1 h.3)))
@@ -61,7 +62,8 @@ only_later ks [] xs only = only
 only_later ks (y ∷ ys) xs only = only_later ks ys xs only.1
 
 -- ---- the look at a life word
-look_true : (f : Profile) (k word : ℕ) (g : BookGuard) (l : Whole) → IsValid f → Legal f (triples k (life_look g word) ++ l) → IsBeside g → is_over g word ≡ nat_lt g.block.name.turn (ends_in (visible l) (address_of g.block.name))
+look_true : (f : Profile) (k word : ℕ) (g : BookGuard) (l : Whole) → IsValid f → Legal f (triples k (life_look g word) ++ l) → IsBeside g
+    → is_over g word ≡ nat_lt g.block.name.turn (ends_in (visible l) (address_of g.block.name))
 look_true f k word g l valid legal beside =
     let a : ℕ = address_of g.block.name in
     let begins : (g.low + 1) * 4096 ≡ a = beside.begins in
@@ -82,7 +84,8 @@ pub record IsSwept (all : Bool) (es : List Event) (keeper : ℕ) (guards kept : 
   pub hints : Always HintsEmpty steps
   pub marks : (q : ℕ) → IsMarked q steps → is_outer (filter (goes_down all es) guards) q ≡ true
 
-module _ (all : Bool) (es : List Event) (keeper : ℕ) (g : BookGuard) (gs kept after : List BookGuard) (said more : List Record) (word : ℕ) (first rest : List Made) (later : IsSwept all es keeper gs after more rest) where
+module _ (all : Bool) (es : List Event) (keeper : ℕ) (g : BookGuard) (gs kept after : List BookGuard) (said more : List Record) (word : ℕ)
+    (first rest : List Made) (later : IsSwept all es keeper gs after more rest) where
   abbrev look : List Made
   look = life_look g word
 
@@ -95,7 +98,8 @@ module _ (all : Bool) (es : List Event) (keeper : ℕ) (g : BookGuard) (gs kept 
   look_hints : Always HintsEmpty look
   look_hints = hints_none (LookLife ∷ []) look refl (refl, tt)
 
-  swept_one : (t : Bool) → goes_down all es g ≡ t → SweptOne t keeper g first kept after said more → IsSwept all es keeper (g ∷ gs) kept said (rest ++ (first ++ look))
+  swept_one : (t : Bool) → goes_down all es g ≡ t → SweptOne t keeper g first kept after said more
+      → IsSwept all es keeper (g ∷ gs) kept said (rest ++ (first ++ look))
   swept_one true e h = record {
     kept_is = h.1 ∙ (later.kept_is ∙ sym (ap (λ (b : Bool). if not b then g ∷ stay else stay) e));
     said_is = h.2 ∙ (ap (λ (rs : List Record). lowered_record keeper g ∷ rs) later.said_is ∙ sym (ap (λ (b : Bool). map lowered_line (map (told_guard keeper) (if b then g ∷ fall else fall))) e));
@@ -122,7 +126,9 @@ module _ (all : Bool) (es : List Event) (keeper : ℕ) (g : BookGuard) (gs kept 
   }
 
 module _ (f : Profile) (all : Bool) (es : List Event) (keeper : ℕ) (valid : IsValid f) where
-  pub swept_told : (guards kept : List BookGuard) (said : List Record) (steps : List Made) (l : Whole) → Legal f (triples keeper steps ++ l) → visible l ≡ es → Each IsBeside guards → Only sweeping steps → Swept all keeper guards kept said steps
+  -- A sweep lowers just the guards that go down by the events, and says so of each, in order.
+  pub swept_told : (guards kept : List BookGuard) (said : List Record) (steps : List Made) (l : Whole) → Legal f (triples keeper steps ++ l) → visible l ≡ es
+      → Each IsBeside guards → Only sweeping steps → Swept all keeper guards kept said steps
       → IsSwept all es keeper guards kept said steps
   swept_told [] kept said steps l legal same beside only h = search (arith, h.0, h.1, h.2)
   swept_told (g ∷ gs) kept said steps l legal same beside only h =

@@ -25,7 +25,7 @@ use Rattle.pas_search.specs.Kinds.{IsReturnOf, ReturnsDuly, AreSearch, KeepsMark
 use Rattle.pas_partial.specs.Rows.{IsFreeSlot}
 use Rattle.pas_segregated.specs.Takes.{TookSlots, slot_within, takes_after, takes_since}
 use Rattle.pas_same_text.specs.Words.{free_bit}
-use Rattle.pas_same_text.proofs.{SearchMarks.stays_used, SearchMarks.stays_free, Tests.and_first, Tests.and_second}
+use Rattle.pas_same_text.proofs.{SearchMarks.stays_used, SearchMarks.free_or_held, Tests.and_first, Tests.and_second}
 
 -- ---- the right of a page that is neither offered nor parked stays
 module _ (page : ℕ) where
@@ -64,7 +64,8 @@ module _ (f : Profile) (k page g : ℕ) (of : g / 256 ≡ page) (v ts before : L
   IsTakenAfter s a = (had_after (way s a page) (has_right v page) ≡ true) × (holds (takes_after page s a ts) g ≡ true)
 
   -- the right can't come to who has it
-  still_listed : (x : Way) (t u : Bool) → u ≡ t → Suits k (if t then x else Rests) o → (Suits k x o → is_with k o ≡ false) → IsTakenSo → holds (if u then [] else ts) g ≡ true
+  still_listed : (x : Way) (t u : Bool) → u ≡ t → Suits k (if t then x else Rests) o → (Suits k x o → is_with k o ≡ false) → IsTakenSo
+      → holds (if u then [] else ts) g ≡ true
   still_listed x t u same suits nobody so = search (arith, false≢true, true≢false)
 
   -- a take of the page is one of the list
@@ -78,7 +79,8 @@ module _ (f : Profile) (k page g : ℕ) (of : g / 256 ≡ page) (v ts before : L
   put_kept : (x held : Bool) → held_after (if x then Puts else Stays) held ≡ true → held ≡ true
   put_kept x held h = search (arith, false≢true)
 
-  took : (q word mask a : ℕ) → has_right v q ≡ true → (holds before g ≡ true → IsTakenSo) → (x : Bool) → (in_mask q word mask g && has_bit a (g % 64)) ≡ x → held_after (if x then Gets else Stays) (holds before g) ≡ true → IsTakenAfter (Take q word mask) a
+  took : (q word mask a : ℕ) → has_right v q ≡ true → (holds before g ≡ true → IsTakenSo) → (x : Bool) → (in_mask q word mask g && has_bit a (g % 64)) ≡ x
+      → held_after (if x then Gets else Stays) (holds before g) ≡ true → IsTakenAfter (Take q word mask) a
   took q word mask a allowed was true is h =
       let inside : in_mask q word mask g ≡ true = and_first (in_mask q word mask g) (has_bit a (g % 64)) is in
       let at : q ≡ page = eqb-true q (g / 256) (and_second (word == g / 64 % 4) (q == g / 256) (and_first ((word == g / 64 % 4) && (q == g / 256)) (has_bit mask (g % 64)) inside)) ∙ of in (
@@ -88,7 +90,8 @@ module _ (f : Profile) (k page g : ℕ) (of : g / 256 ≡ page) (v ts before : L
       )
   took q word mask a allowed was false is h = search (arith, in_list, got_or_held)
 
-  listed_step : (s : Step) (a : ℕ) → is_in lending (kind_of s) ≡ false → (IsReturnOf page s → s ≡ Unpark page) → Allowed f v s → Suits k (way s a page) o → (holds before g ≡ true → IsTakenSo) → held_after (grain_move s a g) (holds before g) ≡ true → IsTakenAfter s a
+  listed_step : (s : Step) (a : ℕ) → is_in lending (kind_of s) ≡ false → (IsReturnOf page s → s ≡ Unpark page) → Allowed f v s → Suits k (way s a page) o
+      → (holds before g ≡ true → IsTakenSo) → held_after (grain_move s a g) (holds before g) ≡ true → IsTakenAfter s a
   listed_step (Deed q d) a lends marks allowed suits was h = search (arith, right_stays, still_listed)
   listed_step (TakeRight q d) a lends marks allowed suits was h = search (arith, right_stays, still_listed)
   listed_step (Take q word mask) a lends marks allowed suits was h = took q word mask a allowed was (in_mask q word mask g && has_bit a (g % 64)) refl h
@@ -122,7 +125,8 @@ module _ (f : Profile) (k : ℕ) (l : Whole) (page g : ℕ) (of : g / 256 ≡ pa
   abbrev own : View
   own = part k l
 
-  taken_since : (xs : List Made) → Legal f (triples k xs ++ l) → LendsNone xs → Always (KeepsMarks page) xs → holds xs g ≡ true → (has_right (xs ++ own) page ≡ true) × (holds (takes_since page xs) g ≡ true)
+  taken_since : (xs : List Made) → Legal f (triples k xs ++ l) → LendsNone xs → Always (KeepsMarks page) xs → holds xs g ≡ true
+      → (has_right (xs ++ own) page ≡ true) × (holds (takes_since page xs) g ≡ true)
   taken_since [] legal lends marks h = absurd (false≢true h)
   taken_since (m ∷ xs) legal lends marks h =
       let w : Whole = triples k xs ++ l in
@@ -133,7 +137,8 @@ module _ (f : Profile) (k : ℕ) (l : Whole) (page g : ℕ) (of : g / 256 ≡ pa
 
   -- ---- a take that stands there, with those before it
   module _ (word mask a : ℕ) (rest : List Made) where
-    here_or_later : (C : Type 0) (s : Step) (b : ℕ) (since : List Made) → (s ≡ Take page word mask → b ≡ a → since ≡ rest → C) → ((ts : List Made) → since ≡ ts ++ made (Take page word mask) a ∷ rest → C)
+    here_or_later : (C : Type 0) (s : Step) (b : ℕ) (since : List Made) → (s ≡ Take page word mask → b ≡ a → since ≡ rest → C)
+        → ((ts : List Made) → since ≡ ts ++ made (Take page word mask) a ∷ rest → C)
         → (ts : List Made) → takes_after page s b since ≡ ts ++ made (Take page word mask) a ∷ rest → C
     here_or_later C (Deed q d) b since here later ts is = reset ((page == q) && (b == 0)) is
       where
@@ -154,7 +159,8 @@ module _ (f : Profile) (k : ℕ) (l : Whole) (page g : ℕ) (of : g / 256 ≡ pa
     here_or_later C s b since here later ts is = later ts is
 
     -- it read a grain as free exactly where that was free before the search, if the takes before it didn't get it
-    take_read : (xs : List Made) → Legal f (triples k xs ++ l) → LendsNone xs → Always ReturnsDuly xs → Always (KeepsMarks page) xs → Word.Free page word ≡ free_word_at g → holds rest g ≡ false
+    take_read : (xs : List Made) → Legal f (triples k xs ++ l) → LendsNone xs → Always ReturnsDuly xs → Always (KeepsMarks page) xs
+        → Word.Free page word ≡ free_word_at g → holds rest g ≡ false
         → (ts : List Made) → takes_since page xs ≡ ts ++ made (Take page word mask) a ∷ rest → has_bit a (g % 64) ≡ free_bit l g
     take_read [] legal lends due marks at none ts is = absurd (none_there ts (made (Take page word mask) a) rest is)
     take_read (m ∷ xs) legal lends due marks at none ts is =
@@ -168,7 +174,7 @@ module _ (f : Profile) (k : ℕ) (l : Whole) (page g : ℕ) (of : g / 256 ≡ pa
         not_held since = false_from_ne_true (holds xs g) (λ h. false≢true (sym none ∙ (ap (λ (ms : List Made). holds ms g) (sym since) ∙ (taken_since xs legal.1 lends.1 marks.1 h).1)))
 
         as_before : takes_since page xs ≡ rest → (t : Bool) → free_bit l g ≡ t → free_bit (triples k xs ++ l) g ≡ t
-        as_before since true free = elim (or_cases (free_bit (triples k xs ++ l) g) (holds xs g) (stays_free f k l g xs legal.1 lends.1 free)) [
+        as_before since true free = elim (or_cases (free_bit (triples k xs ++ l) g) (holds xs g) (free_or_held f k l g xs legal.1 lends.1 free)) [
           | inl still ↦ still
           | inr held ↦ absurd (false≢true (sym (not_held since) ∙ held))
         ]
@@ -179,7 +185,8 @@ one_taken : (page word mask a : ℕ) (rest : List Made) → mask ≢ 0 → word_
 one_taken page word mask a rest some = ap (λ (t : Bool). (if t then [] else made (Take page word mask) a ∷ []) ++ rest) (ne_eqb mask 0 some)
 
 -- a word of which some grain is asked for is taken, after those before it
-takes_split : (page : ℕ) (masks answers : ℕ → ℕ) (n word : ℕ) → word < n → masks word ≢ 0 → (ts : List Made) × (takes page masks answers n ≡ ts ++ made (Take page word (masks word)) (answers word) ∷ takes page masks answers word)
+takes_split : (page : ℕ) (masks answers : ℕ → ℕ) (n word : ℕ) → word < n → masks word ≢ 0
+    → (ts : List Made) × (takes page masks answers n ≡ ts ++ made (Take page word (masks word)) (answers word) ∷ takes page masks answers word)
 takes_split page masks answers zero word lt some = absurd (omega (arith, lt))
 takes_split page masks answers (suc n) word lt some = elim (cases_eq n word) [
   | inl same ↦ subst (λ (x : ℕ). (ts : List Made) × (takes page masks answers (suc n) ≡ ts ++ made (Take page x (masks x)) (answers x) ∷ takes page masks answers x)) same
@@ -191,7 +198,8 @@ takes_split page masks answers (suc n) word lt some = elim (cases_eq n word) [
 ]
 
 -- takes of lower words get no grain of this one
-lower_take : (page n mask a g : ℕ) (rest : List Made) → n < g / 64 % 4 → holds rest g ≡ false → (t : Bool) → holds ((if t then [] else made (Take page n mask) a ∷ []) ++ rest) g ≡ false
+lower_take : (page n mask a g : ℕ) (rest : List Made) → n < g / 64 % 4 → holds rest g ≡ false → (t : Bool)
+    → holds ((if t then [] else made (Take page n mask) a ∷ []) ++ rest) g ≡ false
 lower_take page n mask a g rest lt h x = search (arith, ne_eqb)
 
 takes_below : (page : ℕ) (masks answers : ℕ → ℕ) (n g : ℕ) → n ≤ g / 64 % 4 → holds (takes page masks answers n) g ≡ false
@@ -199,7 +207,8 @@ takes_below page masks answers zero g le = refl
 takes_below page masks answers (suc n) g le = lower_take page n (masks n) (answers n) g (takes page masks answers n) (omega (arith, le)) (takes_below page masks answers n g (omega (arith, le))) (masks n == 0)
 
 -- ---- THE SLOTS that a search took of an exclusive page are all that were free before it
-module _ (f : Profile) (k : ℕ) (l : Whole) (class page : ℕ) (searched : List Made) (starts : Mask4) (legal : Legal f (triples k searched ++ l)) (searches : AreSearch searched) (marks : Always (KeepsMarks page) searched) (took : TookSlots class page searched starts) where
+module _ (f : Profile) (k : ℕ) (l : Whole) (class page : ℕ) (searched : List Made) (starts : Mask4) (legal : Legal f (triples k searched ++ l))
+    (searches : AreSearch searched) (marks : Always (KeepsMarks page) searched) (took : TookSlots class page searched starts) where
   answer_is : (b : ℕ) → b < 256 → is_usable class b ≡ true → is_set took.answers b ≡ free_of_page l page b
   answer_is b small usable =
       let g : ℕ = page * 256 + b in
@@ -219,6 +228,7 @@ module _ (f : Profile) (k : ℕ) (l : Whole) (class page : ℕ) (searched : List
       let within = slot.within in let end = slot_within class s slot in
       answer_is b (omega (arith, end, high)) (lt-ltb b (usable_grains class) (omega (arith, within, high)))
 
+  -- What a search took of an exclusive page are its slots that were free before the search.
   pub exclusive_free : (s : ℕ) → IsTrue (is_set starts s) ↔ IsFreeSlot class (free_of_page l page) s
   exclusive_free s = (
     λ set. let both = (took.are s).0 set in (both.0, λ b low high. sym (slot_answer s b both.0 high) ∙ both.1 b low high),

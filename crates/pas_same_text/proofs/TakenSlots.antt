@@ -72,7 +72,8 @@ module _ (test : ℕ → Bool) (step : ℕ) (some : 1 ≤ step) where
   failing from n so = ap (λ (t : Bool). if t then from ∷ places (from + step) n else places (from + step) n) so
 
   -- the head of a row whose first place passes
-  row_passing : (m n next s : ℕ) → test next ≡ true → has_number (row_from next step (suc m) (places next (suc n))) s ≡ ((next == s) || has_number (row_from (next + step) step m (places (next + step) n)) s)
+  row_passing : (m n next s : ℕ) → test next ≡ true
+      → has_number (row_from next step (suc m) (places next (suc n))) s ≡ ((next == s) || has_number (row_from (next + step) step m (places (next + step) n)) s)
   row_passing m n next s so = ap (λ (xs : List ℕ). has_number xs s) (ap (row_from next step (suc m)) (passing next n so) ∙ row_head next step m (places (next + step) n))
 
   -- what stands in a row of m at most is in it by this, and the other way round
@@ -98,7 +99,8 @@ module _ (test : ℕ → Bool) (step : ℕ) (some : 1 ≤ step) where
       each_one i zero le rest so = ap test (first_place next) ∙ so
       each_one i (suc j) le rest so = ap test (sym (next_place next step j)) ∙ rest j (omega (arith, le))
 
-  row_has : (m n next i : ℕ) → i < m → i < n → ((j : ℕ) → j ≤ i → test (next + j * step) ≡ true) → has_number (row_from next step m (places next n)) (next + i * step) ≡ true
+  row_has : (m n next i : ℕ) → i < m → i < n → ((j : ℕ) → j ≤ i → test (next + j * step) ≡ true)
+      → has_number (row_from next step m (places next n)) (next + i * step) ≡ true
   row_has zero n next i few less all = absurd (omega (arith, few))
   row_has (suc m) zero next i few less all = absurd (omega (arith, less))
   row_has (suc m) (suc n) next zero few less all =
@@ -146,7 +148,8 @@ rising_first : (step : ℕ) (xs : List ℕ) → IsRising xs → IsRising (first_
 rising_first step xs rising = search (arith, rising_row)
 
 -- ---- THE SLOTS of the text are the bits of a mask
-module _ (f : Profile) (p : Progress) (w : World) (valid : IsValid f) (between : IsBetween f p) (same : HasSame f p w) (class : ℕ) (is : IsClass class) (page : ℕ) (starts : Mask4) (none : is_guarded w page ≡ false) where
+module _ (f : Profile) (p : Progress) (w : World) (valid : IsValid f) (between : IsBetween f p) (same : HasSame f p w) (class : ℕ) (is : IsClass class)
+    (page : ℕ) (starts : Mask4) (none : is_guarded w page ≡ false) where
   abbrev step : ℕ
   step = class_grains class
 
@@ -188,6 +191,7 @@ module _ (f : Profile) (p : Progress) (w : World) (valid : IsValid f) (between :
         let at : 0 + i.0 * step ≡ s = omega (arith, i.2) in
         has_filtered test (spaced 0 step count) s (tested s free) (ap (has_number (spaced 0 step count)) (sym at) ∙ place_there count 0 step i.0 i.1)
 
+    -- All slots that a search took of an exclusive page are those that the text takes of it.
     pub all_taken : (s : ℕ) → has_number (slots_for false w class page) s ≡ is_set starts s
     all_taken s = same_truth (has_number (free_slots w class page) s) (is_set starts s) (all_to s) (all_from s)
 
@@ -253,6 +257,7 @@ module _ (f : Profile) (p : Progress) (w : World) (valid : IsValid f) (between :
         let this : IsFree s = subst IsFree (sym o.2) (o.3 o.0 (omega arith)) in
         ap (has_number row_left) o.2 ∙ row_has test step some 4 left first o.0 o.1 (index_of o.0 s o.2 this) (λ j le. tested (first + j * step) (o.3 j le))
 
+    -- The row of slots that a search took of a shared page is that which the text takes of it.
     pub row_taken : (s : ℕ) → has_number (slots_for true w class page) s ≡ is_set starts s
     row_taken s = ap (λ (xs : List ℕ). has_number xs s) slots_are ∙ same_truth (has_number row_left s) (is_set starts s) (row_to s) (row_of s)
 

@@ -10,9 +10,11 @@ use Rattle.pas_same_text.specs.Same.{has_number}
 pub or_none : (x : Bool) {t : Bool} → (x || false) ≡ t → x ≡ t
 or_none x h = sym (or-false x) ∙ h
 
+-- A number equals itself by the test.
 pub eqb_itself : (n : ℕ) → (n == n) ≡ true
 eqb_itself n = eq-eqb n n refl
 
+-- Two numbers are equal by the test in either order.
 pub eqb_turned : (x y : ℕ) → (x == y) ≡ (y == x)
 eqb_turned x y = grind (arith, nat_tests)
 
@@ -29,14 +31,17 @@ pub or_more : (x y z : Bool) → (y ≡ true → z ≡ true) → (x || y) ≡ tr
 or_more true y z more h = refl
 or_more false y z more h = more h
 
+-- Of two tests that both hold, the first holds.
 pub and_first : (x y : Bool) → (x && y) ≡ true → x ≡ true
 and_first true y h = refl
 and_first false y h = h
 
+-- Of two tests that both hold, the second holds.
 pub and_second : (x y : Bool) → (x && y) ≡ true → y ≡ true
 and_second x y h = search (arith, false≢true)
 
-filtered_one : {X : Type 0} (p : X → Bool) (x : X) (ys : List X) (t rest : Bool) → (list_any p ys ≡ true → rest ≡ true) → list_any p (if t then x ∷ ys else ys) ≡ true → ((t && p x) || rest) ≡ true
+filtered_one : {X : Type 0} (p : X → Bool) (x : X) (ys : List X) (t rest : Bool) → (list_any p ys ≡ true → rest ≡ true)
+    → list_any p (if t then x ∷ ys else ys) ≡ true → ((t && p x) || rest) ≡ true
 filtered_one p x ys t rest more h = search (arith, or_more)
 
 -- one that is left passes both tests
@@ -44,9 +49,11 @@ pub any_filtered : {X : Type 0} (p q : X → Bool) (xs : List X) → list_any p 
 any_filtered p q [] h = h
 any_filtered p q (x ∷ xs) h = filtered_one p x (filter q xs) (q x) (list_any (λ y. q y && p y) xs) (any_filtered p q xs) h
 
-left_one : {X : Type 0} (p : X → Bool) (x : X) (ys : List X) (t rest : Bool) → (rest ≡ true → list_any p ys ≡ true) → ((t && p x) || rest) ≡ true → list_any p (if t then x ∷ ys else ys) ≡ true
+left_one : {X : Type 0} (p : X → Bool) (x : X) (ys : List X) (t rest : Bool) → (rest ≡ true → list_any p ys ≡ true) → ((t && p x) || rest) ≡ true
+    → list_any p (if t then x ∷ ys else ys) ≡ true
 left_one p x ys t rest more h = search (arith, or_more)
 
+-- Something that passes both tests passes one among those that pass the other.
 pub filtered_any : {X : Type 0} (p q : X → Bool) (xs : List X) → list_any (λ x. q x && p x) xs ≡ true → list_any p (filter q xs) ≡ true
 filtered_any p q [] h = h
 filtered_any p q (x ∷ xs) h = left_one p x (filter q xs) (q x) (list_any (λ y. q y && p y) xs) (filtered_any p q xs) h
@@ -62,6 +69,7 @@ found_at : (p : ℕ → Bool) (n : ℕ) (more : List ℕ) → (list_any p more �
 found_at p n more rest (inl so) = record { number = n; there = or_left (n == n) (has_number more n) (eqb_itself n); so = so }
 found_at p n more rest (inr so) = let o = rest so in record { number = o.number; there = or_right (n == o.number) (has_number more o.number) o.there; so = o.so }
 
+-- Where some number of a list passes a test, one of its numbers is found that does.
 pub found : (p : ℕ → Bool) (numbers : List ℕ) → list_any p numbers ≡ true → IsFound numbers p
 found p [] h = absurd (false≢true h)
 found p (n ∷ more) h = found_at p n more (found p more) (or_cases (p n) (list_any p more) h)
@@ -69,6 +77,7 @@ found p (n ∷ more) h = found_at p n more (found p more) (or_cases (p n) (list_
 passes_at : (p : ℕ → Bool) (n m : ℕ) (rest : Bool) → (n == m) ≡ true → p m ≡ true → (p n || rest) ≡ true
 passes_at p n m rest same so = or_left (p n) rest (ap p (eqb-true n m same) ∙ so)
 
+-- A number of a list that passes a test makes that some number does.
 pub passed : (p : ℕ → Bool) (numbers : List ℕ) (m : ℕ) → has_number numbers m ≡ true → p m ≡ true → list_any p numbers ≡ true
 passed p [] m h so = h
 passed p (n ∷ more) m h so = elim (or_cases (n == m) (has_number more m) h) [
@@ -80,6 +89,7 @@ passed p (n ∷ more) m h so = elim (or_cases (n == m) (has_number more m) h) [
 pub weaker_at : (x y r s : Bool) → (x ≡ true → y ≡ true) → (r ≡ true → s ≡ true) → (x || r) ≡ true → (y || s) ≡ true
 weaker_at x y r s here rest h = search (arith, false≢true)
 
+-- Where something passes a test, something passes each weaker one.
 pub any_weaker : {X : Type 0} (p q : X → Bool) (xs : List X) → ((x : X) → p x ≡ true → q x ≡ true) → list_any p xs ≡ true → list_any q xs ≡ true
 any_weaker p q [] more h = h
 any_weaker p q (x ∷ xs) more h = weaker_at (p x) (q x) (list_any p xs) (list_any q xs) (more x) (any_weaker p q xs more) h
@@ -91,7 +101,8 @@ split_at true false r s t rest h = rest h
 split_at false false r s t rest h = rest h
 
 -- one of which the first test is so, or one of which it isn't
-pub any_split : {X : Type 0} (a p : X → Bool) (xs : List X) → list_any p xs ≡ true → (list_any (λ x. a x && p x) xs ≡ true) ⊎ (list_any (λ x. not (a x) && p x) xs ≡ true)
+pub any_split : {X : Type 0} (a p : X → Bool) (xs : List X) → list_any p xs ≡ true
+    → (list_any (λ x. a x && p x) xs ≡ true) ⊎ (list_any (λ x. not (a x) && p x) xs ≡ true)
 any_split a p [] h = absurd (false≢true h)
 any_split a p (x ∷ xs) h = split_at (a x) (p x) (list_any p xs) (list_any (λ y. a y && p y) xs) (list_any (λ y. not (a y) && p y) xs) (any_split a p xs) h
 
@@ -102,5 +113,6 @@ filtered_has q xs n h =
     let is : o.number ≡ n = eqb-true o.number n (and_second (q o.number) (o.number == n) o.so) in
     (ap q (sym is) ∙ and_first (q o.number) (o.number == n) o.so, ap (has_number xs) (sym is) ∙ o.there)
 
+-- A number that passes a test stays in the list when the others are filtered out.
 pub has_filtered : (q : ℕ → Bool) (xs : List ℕ) (n : ℕ) → q n ≡ true → has_number xs n ≡ true → has_number (filter q xs) n ≡ true
 has_filtered q xs n so there = filtered_any (λ m. m == n) q xs (passed (λ m. q m && (m == n)) xs n there (ap (λ (t : Bool). t && (n == n)) so ∙ eq-eqb n n refl))

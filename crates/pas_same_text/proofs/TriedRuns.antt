@@ -37,13 +37,15 @@ use Rattle.pas_same_text.proofs.SoughtRuns.{IsRunOf, IsBackedRun, IsMadeOf, fail
 abbrev usable_in : Directory → Option Directory → World → ℕ → Bool
 usable_in d o w page = is_none o || ((is_same d o && (not (is_kept w page) && is_open w d page)) && is_empty w page)
 
-all_true : (d : Directory) (kept room empty : Bool) → kept ≡ false → room ≡ true → empty ≡ true → (false || (((number_of d == number_of d) && (not kept && room)) && empty)) ≡ true
+all_true : (d : Directory) (kept room empty : Bool) → kept ≡ false → room ≡ true → empty ≡ true
+    → (false || (((number_of d == number_of d) && (not kept && room)) && empty)) ≡ true
 all_true d kept room empty none some full = search (arith, eq-eqb)
 
 word_some : (o : Option Directory) → word_of_deed o ≢ 0 → o ≢ None
 word_some o some none = some (ap word_of_deed none)
 
-module _ (f : Profile) (k heap n : ℕ) (p : Progress) (w : World) (valid : IsValid f) (between : IsBetween f p) (same : IsSame f p w) (of : IsDirectoryOf f (large_of heap)) where
+module _ (f : Profile) (k heap n : ℕ) (p : Progress) (w : World) (valid : IsValid f) (between : IsBetween f p) (same : IsSame f p w)
+    (of : IsDirectoryOf f (large_of heap)) where
   abbrev l : Whole
   l = p.list
 
@@ -84,12 +86,17 @@ module _ (f : Profile) (k heap n : ℕ) (p : Progress) (w : World) (valid : IsVa
       ∙ (ap (λ (cs : List Cache). usable_in d o (record w { caches = cs; guards = (mine qs).guards }) page) r.caches ∙ ap (λ (gs : List Guard). usable_in d o (record w { guards = gs }) page) r.guards)
 
   -- the page got a deed, or its deed is as it was
-  deed_or : (page : ℕ) (qs : List ℕ) → AllByRecursion (λ q. word_after l (Word.Deed q) ≡ 0) qs → ((deed_in (deeds_of k d qs ++ w.events) page ≡ Some d) × (word_after l (Word.Deed page) ≡ 0)) ⊎ (deed_in (deeds_of k d qs ++ w.events) page ≡ deed_in w.events page)
+  deed_or : (page : ℕ) (qs : List ℕ) → AllByRecursion (λ q. word_after l (Word.Deed q) ≡ 0) qs
+      → ((deed_in (deeds_of k d qs ++ w.events) page ≡ Some d) × (word_after l (Word.Deed page) ≡ 0))
+        ⊎ (deed_in (deeds_of k d qs ++ w.events) page ≡ deed_in w.events page)
   deed_or page [] bare = inr refl
   deed_or page (q ∷ qs) bare = at (q == page) refl (deed_or page qs bare.1)
     where
-      at : (t : Bool) → (q == page) ≡ t → ((deed_in (deeds_of k d qs ++ w.events) page ≡ Some d) × (word_after l (Word.Deed page) ≡ 0)) ⊎ (deed_in (deeds_of k d qs ++ w.events) page ≡ deed_in w.events page)
-          → (((if t then Some d else deed_in (deeds_of k d qs ++ w.events) page) ≡ Some d) × (word_after l (Word.Deed page) ≡ 0)) ⊎ ((if t then Some d else deed_in (deeds_of k d qs ++ w.events) page) ≡ deed_in w.events page)
+      at : (t : Bool) → (q == page) ≡ t
+          → ((deed_in (deeds_of k d qs ++ w.events) page ≡ Some d) × (word_after l (Word.Deed page) ≡ 0))
+            ⊎ (deed_in (deeds_of k d qs ++ w.events) page ≡ deed_in w.events page)
+          → (((if t then Some d else deed_in (deeds_of k d qs ++ w.events) page) ≡ Some d) × (word_after l (Word.Deed page) ≡ 0))
+            ⊎ ((if t then Some d else deed_in (deeds_of k d qs ++ w.events) page) ≡ deed_in w.events page)
       at true e rest = inl (refl, ap (λ (x : ℕ). word_after l (Word.Deed x)) (sym (eqb-true q page e)) ∙ bare.0)
       at false e rest = rest
 
@@ -126,7 +133,8 @@ module _ (f : Profile) (k heap n : ℕ) (p : Progress) (w : World) (valid : IsVa
   ]
 
   -- ==== THE SEARCH, whose deeds are of pages of these runs below the end; each page of such a run has its deed then
-  module _ (xs : List Made) (legal : Legal f (triples k xs ++ l)) (kinds : Only seeking xs) (rise : DeedsRise xs) (due : Always ReturnsDuly xs) (met : MayFind d (part k l)) where
+  module _ (xs : List Made) (legal : Legal f (triples k xs ++ l)) (kinds : Only seeking xs) (rise : DeedsRise xs) (due : Always ReturnsDuly xs)
+      (met : MayFind d (part k l)) where
     abbrev mid : Whole
     mid = triples k xs ++ l
 
@@ -142,9 +150,11 @@ module _ (f : Profile) (k heap n : ℕ) (p : Progress) (w : World) (valid : IsVa
     made_by : (Chosen : ℕ → Type 0) → DeedsOf d (n + 2) Chosen xs → MadeOf d xs
     made_by Chosen deeds = always_map _ (λ m before. (x : ℕ) (e : Directory) → m.step ≡ Deed x e → m.answer ≡ 0 → e ≡ d) xs (λ m before h x e is zero. (h x e is zero).0) deeds
 
+    -- The events of a search that made deeds alone of a directory are those deeds.
     pub made_events : MadeOf d xs → events_by k (part k l) xs ≡ deeds_of k d made
     made_events of_heap = deeded_events k d (part k l) xs kinds of_heap
 
+    -- What a list shows after a search that made deeds alone of a directory are those deeds before the text's events.
     pub visible_mid : MadeOf d xs → visible mid ≡ deeds_of k d made ++ w.events
     visible_mid of_heap = visible_steps k xs l ∙ (ap (λ (es : List Event). es ++ visible l) (made_events of_heap) ∙ ap (λ (es : List Event). deeds_of k d made ++ es) (sym same.pages.events))
 
@@ -166,6 +176,7 @@ module _ (f : Profile) (k heap n : ℕ) (p : Progress) (w : World) (valid : IsVa
 
     -- ---- a run serves
     module _ (first : ℕ) (found : SoughtRun f d n xs first) where
+      -- A search that sought a run and found it made deeds of its directory alone.
       pub found_made : MadeOf d xs
       found_made = made_by (λ r. (r ≡ first) ⊎ ((r < first) × HasFailedOnce (part k l) d n r xs)) (found.deeds (part k l) met agreed)
 
@@ -197,7 +208,8 @@ module _ (f : Profile) (k heap n : ℕ) (p : Progress) (w : World) (valid : IsVa
         all = λ r run lt q here. by_place r run q here (r == first) refl (λ ne. omega (arith, lt, ne));
       }
         where
-          by_place : (r : ℕ) → IsRunOf f heap n l r → (q : ℕ) → IsInRun r (n + 2) q → (t : Bool) → (r == first) ≡ t → ((r ≡ first → ⊥) → r < first) → word_after mid (Word.Deed q) ≢ 0
+          by_place : (r : ℕ) → IsRunOf f heap n l r → (q : ℕ) → IsInRun r (n + 2) q → (t : Bool) → (r == first) ≡ t → ((r ≡ first → ⊥) → r < first)
+              → word_after mid (Word.Deed q) ≢ 0
           by_place r run q here true e lower = first_deeds q (subst (λ (x : ℕ). IsInRun x (n + 2) q) (eqb-true r first e) here)
           by_place r run q here false e lower = (lower_backed r (lower (eqb-false r first e)) run).deeds q here
 
@@ -222,6 +234,7 @@ module _ (f : Profile) (k heap n : ℕ) (p : Progress) (w : World) (valid : IsVa
 
     -- ---- none does
     module _ (found : SoughtNone f d n xs) where
+      -- A search that sought a run and found none made deeds of its directory alone.
       pub none_made : MadeOf d xs
       none_made = made_by (λ r. HasFailedOnce (part k l) d n r xs) (found.deeds (part k l) met agreed)
 
@@ -242,5 +255,6 @@ module _ (f : Profile) (k heap n : ℕ) (p : Progress) (w : World) (valid : IsVa
       pub missed_text : (j name : ℕ) → raises_from f k j name heap n (page_numbers f) w ≡ serves_pages f j name heap n (mine made)
       missed_text j name = none_text f k j name heap n w made (f.pages + 1) (walked (f.pages + 1) Failed of_runs_none) refl (λ r some lt h. not_bare mid r (none_backed r (run_of r some h)))
 
+      -- Each deed of a search that found no run is of a page of a usable run of the region.
       pub none_pages : AllByRecursion (IsMadeOf n l (λ r. IsRunOf f heap n l r × (r < f.pages + 1))) made
       none_pages = made_pages f k heap n l valid of met Failed (λ r. IsRunOf f heap n l r × (r < f.pages + 1)) of_runs_none.each xs legal of_runs_none.deeds

@@ -53,18 +53,21 @@ GivesUsably es (Event.Give k block) = IsUsableGive es block
 GivesUsably es (Event.End k name e) = Unit {0}
 GivesUsably es (Event.Reject k name why) = Unit {0}
 
-deed_usable : (f : Profile) (es : List Event) (p : ℕ) (d own : Directory) (address : ℕ) (b : Live) (g : ℕ) (t : Bool) → (p == g / 256) ≡ t → Run f es → deed_in es p ≡ None → live_in es address ≡ Some b → IsPartOf g address b
+deed_usable : (f : Profile) (es : List Event) (p : ℕ) (d own : Directory) (address : ℕ) (b : Live) (g : ℕ) (t : Bool) → (p == g / 256) ≡ t → Run f es
+    → deed_in es p ≡ None → live_in es address ≡ Some b → IsPartOf g address b
     → AreBlocksUsable es → (if t then Some d else deed_in es (g / 256)) ≡ Some own → usable_by_kind own.kind (g % 256) ≡ true
 deed_usable f es p d own address b g true e run none lives of usable is =
     let bears : Bears f es b.block.heap (g / 256) = all_borne f es run address b lives g of in
     absurd (none-some _ (sym none ∙ (ap (deed_in es) (eqb-true p (g / 256) e) ∙ bears.deed)))
 deed_usable f es p d own address b g false e run none lives of usable is = usable.usable address b lives g of own is
 
-ended_usable : (es : List Event) (own : Directory) (address : ℕ) (b : Live) (g : ℕ) (t : Bool) → (if t then None else live_in es address) ≡ Some b → IsPartOf g address b → AreBlocksUsable es → deed_in es (g / 256) ≡ Some own → usable_by_kind own.kind (g % 256) ≡ true
+ended_usable : (es : List Event) (own : Directory) (address : ℕ) (b : Live) (g : ℕ) (t : Bool) → (if t then None else live_in es address) ≡ Some b
+    → IsPartOf g address b → AreBlocksUsable es → deed_in es (g / 256) ≡ Some own → usable_by_kind own.kind (g % 256) ≡ true
 ended_usable es own address b g true lives of usable is = absurd (none-some b lives)
 ended_usable es own address b g false lives of usable is = usable.usable address b lives g of own is
 
-given_usable : (k : ℕ) (block : Block) (es : List Event) (own : Directory) (address : ℕ) (b : Live) (g : ℕ) (t : Bool) → (address_of block.name == address) ≡ t → (if t then Some (record { actor = k; block = block }) else live_in es address) ≡ Some b → IsPartOf g address b
+given_usable : (k : ℕ) (block : Block) (es : List Event) (own : Directory) (address : ℕ) (b : Live) (g : ℕ) (t : Bool) → (address_of block.name == address) ≡ t
+    → (if t then Some (record { actor = k; block = block }) else live_in es address) ≡ Some b → IsPartOf g address b
     → IsUsableGive es block → AreBlocksUsable es → deed_in es (g / 256) ≡ Some own → usable_by_kind own.kind (g % 256) ≡ true
 given_usable k block es own address b g t e lives of give usable is = search (arith, eqb-true)
 
@@ -96,7 +99,8 @@ all_usable f [] es run none usable = usable
 all_usable f (e ∷ evs) es run none usable = next_usable f e (evs ++ es) run (no_give (evs ++ es) e none.0) (all_usable f evs es run.1 none.1 usable)
 
 -- steps without a give, after a legal list
-steps_usable : (f : Profile) (k : ℕ) (steps : List Made) (l : Whole) → IsValid f → Legal f (triples k steps ++ l) → AreNoGives (events_by k (part k l) steps) → AreBlocksUsable (visible l) → AreBlocksUsable (visible (triples k steps ++ l))
+steps_usable : (f : Profile) (k : ℕ) (steps : List Made) (l : Whole) → IsValid f → Legal f (triples k steps ++ l) → AreNoGives (events_by k (part k l) steps)
+    → AreBlocksUsable (visible l) → AreBlocksUsable (visible (triples k steps ++ l))
 steps_usable f k steps l valid legal none usable =
     subst AreBlocksUsable (sym (visible_steps k steps l)) (all_usable f (events_by k (part k l) steps) (visible l) (subst (Run f) (visible_steps k steps l) (runs f (triples k steps ++ l) valid legal)) none usable)
 
@@ -109,17 +113,22 @@ shown_gives : (k epoch : ℕ) (settled : List Settled) → AreNoGives (map (show
 shown_gives k epoch [] = tt
 shown_gives k epoch (s ∷ settled) = (entry_gives k epoch s.entry s.outcome, shown_gives k epoch settled)
 
-flush_gives : (k : ℕ) (logged : List Entry) (noted noted' : List EndedRun) (steps : List Made) (v : View) → EmptiesLog k logged noted noted' steps → AreNoGives (events_by k v steps)
+flush_gives : (k : ℕ) (logged : List Entry) (noted noted' : List EndedRun) (steps : List Made) (v : View) → EmptiesLog k logged noted noted' steps
+    → AreNoGives (events_by k v steps)
 flush_gives k logged noted noted' steps v h = subst AreNoGives (sym (h.events v)) (shown_gives k h.epoch h.settled)
 
-full_gives : (full : Bool) (k : ℕ) (log kept : List Entry) (noted noted' : List EndedRun) (steps : List Made) (v : View) → EmptiesFull full k log kept noted noted' steps → AreNoGives (events_by k v steps)
+full_gives : (full : Bool) (k : ℕ) (log kept : List Entry) (noted noted' : List EndedRun) (steps : List Made) (v : View)
+    → EmptiesFull full k log kept noted noted' steps → AreNoGives (events_by k v steps)
 full_gives true k log kept noted noted' steps v h = flush_gives k log noted noted' steps v h.0
 full_gives false k log kept noted noted' steps v h = subst (λ (ms : List Made). AreNoGives (events_by k v ms)) (sym h.0) tt
 
-freed_gives : (f : Profile) (k : ℕ) (c c' : Cached) (entry : Entry) (steps : List Made) (said : Option Said) (v : View) → IsFreed f k c c' entry steps said → AreNoGives (events_by k v steps)
+freed_gives : (f : Profile) (k : ℕ) (c c' : Cached) (entry : Entry) (steps : List Made) (said : Option Said) (v : View) → IsFreed f k c c' entry steps said
+    → AreNoGives (events_by k v steps)
 freed_gives f k c c' entry steps said v h = search (arith, full_gives)
 
-named_gives : (f : Profile) (k : ℕ) (c c' : Cached) (name : ℕ) (size : Option ℕ) (meant : Option (Option Block)) (steps : List Made) (said : Option Said) (v : View) → IsFreedBy f k c c' name size meant steps said → AreNoGives (events_by k v steps)
+named_gives : (f : Profile) (k : ℕ) (c c' : Cached) (name : ℕ) (size : Option ℕ) (meant : Option (Option Block)) (steps : List Made) (said : Option Said)
+      (v : View)
+    → IsFreedBy f k c c' name size meant steps said → AreNoGives (events_by k v steps)
 named_gives f k c c' name size None steps said v freed = absurd freed
 named_gives f k c c' name size (Some None) steps said v freed = subst (λ (ms : List Made). AreNoGives (events_by k v ms)) (sym freed.0) tt
 named_gives f k c c' name size (Some (Some block)) steps said v freed = freed_gives f k c c' (entry_with block.name size) steps said v freed
@@ -158,10 +167,12 @@ all_deeds d [] all = tt
 all_deeds d (e ∷ es) all = (deed_none d e all.0, all_deeds d es all.1)
 
 -- where a block stands, its grains are such as its directory's blocks may cover
-slot_at : (class : ℕ) (shared : Bool) (block : Block) (g : ℕ) → IsClass class → IsInSlot class block → block.room ≡ class_size class → in_run (grain_of block.name) (length_of block) g ≡ true → usable_by_kind (kind_of_class shared class) (g % 256) ≡ true
+slot_at : (class : ℕ) (shared : Bool) (block : Block) (g : ℕ) → IsClass class → IsInSlot class block → block.room ≡ class_size class
+    → in_run (grain_of block.name) (length_of block) g ≡ true → usable_by_kind (kind_of_class shared class) (g % 256) ≡ true
 slot_at class shared block g is slot room of = search (arith, run_of)
 
-placed_usable : (f : Profile) (shared : Bool) (size align : ℕ) (route : Route) (block : Block) (g : ℕ) → route_in f size align ≡ route → IsPlaced route block → block.room ≡ room_in f size align → in_run (grain_of block.name) (length_of block) g ≡ true → usable_by_kind (kind_of_route shared route) (g % 256) ≡ true
+placed_usable : (f : Profile) (shared : Bool) (size align : ℕ) (route : Route) (block : Block) (g : ℕ) → route_in f size align ≡ route → IsPlaced route block
+    → block.room ≡ room_in f size align → in_run (grain_of block.name) (length_of block) g ≡ true → usable_by_kind (kind_of_route shared route) (g % 256) ≡ true
 placed_usable f shared size align route block g e placed room of = search (arith, slot_at)
 
 kind_known : (f : Profile) (shared : Bool) (size align : ℕ) (route : Route) → route_in f size align ≡ route → IsKind (kind_of_route shared route)
@@ -173,7 +184,8 @@ kind_known f shared size align Route.Large e = tt
 refusal_gives : (route : Route) (d : Directory) (es : List Event) → RefusalEnds route d es → AreNoGives es
 refusal_gives route d es h = search (arith, all_deeds)
 
-module _ (f : Profile) (k heap size align : ℕ) (l : Whole) (steps : List Made) (valid : IsValid f) (legal : Legal f (triples k steps ++ l)) (usable : AreBlocksUsable (visible l)) where
+module _ (f : Profile) (k heap size align : ℕ) (l : Whole) (steps : List Made) (valid : IsValid f) (legal : Legal f (triples k steps ++ l))
+    (usable : AreBlocksUsable (visible l)) where
   abbrev wanted : Wanted
   wanted = wanted_for f heap size align
 
@@ -199,10 +211,12 @@ module _ (f : Profile) (k heap size align : ℕ) (l : Whole) (steps : List Made)
   by_answer (Err room) ends = steps_usable f k steps l valid legal (refusal_gives wanted.route wanted.directory (events_by k (part k l) steps) ends) usable
 
 -- ---- a reallocation
-logged_gives : (f : Profile) (k : ℕ) (c c' : Cached) (entry : Entry) (freed : List Made) (v : View) (answer : Result Block NoRoom) → MatchResult answer (λ block. TakesEntry f k c c' entry freed) (λ room. (freed ≡ []) × (c' ≡ c)) → AreNoGives (events_by k v freed)
+logged_gives : (f : Profile) (k : ℕ) (c c' : Cached) (entry : Entry) (freed : List Made) (v : View) (answer : Result Block NoRoom)
+    → MatchResult answer (λ block. TakesEntry f k c c' entry freed) (λ room. (freed ≡ []) × (c' ≡ c)) → AreNoGives (events_by k v freed)
 logged_gives f k c c' entry freed v answer takes = search (arith, full_gives)
 
-replaced_usable : (f : Profile) (k : ℕ) (r : Request) (old : Block) (b : Having) (l : Whole) (a : Answer) → b.view ≡ part k l → IsValid f → Legal f (triples k a.steps ++ l) → IsReplaced f k r old b a → AreBlocksUsable (visible l) → AreBlocksUsable (visible (triples k a.steps ++ l))
+replaced_usable : (f : Profile) (k : ℕ) (r : Request) (old : Block) (b : Having) (l : Whole) (a : Answer) → b.view ≡ part k l → IsValid f
+    → Legal f (triples k a.steps ++ l) → IsReplaced f k r old b a → AreBlocksUsable (visible l) → AreBlocksUsable (visible (triples k a.steps ++ l))
 replaced_usable f k r old b l a view valid legal h usable =
     let whole : Legal f (triples k (h.freed ++ h.placed.steps) ++ l) = subst (λ (ms : List Made). Legal f (triples k ms ++ l)) h.steps_are legal in
     let first : Legal f (triples k h.placed.steps ++ l) = legal_earlier f k h.freed h.placed.steps l whole in
@@ -212,12 +226,14 @@ replaced_usable f k r old b l a view valid legal h usable =
     (steps_usable f k h.freed (triples k h.placed.steps ++ l) valid (subst (Legal f) (sym (triples_append k h.freed h.placed.steps l)) whole)
     (logged_gives f k h.placed.cache a.cache (entry_of old.name) h.freed (part k (triples k h.placed.steps ++ l)) h.served.answer h.logged) given)
 
-remade_usable : (f : Profile) (k name size align : ℕ) (meant : Option (Option Block)) (p : Progress) (a : Answer) → IsValid f → Legal f (triples k a.steps ++ p.list) → IsRemadeBy f k name size align meant (having p.names (part k p.list) (p.caches k)) a → HasUsableBlocks p
+remade_usable : (f : Profile) (k name size align : ℕ) (meant : Option (Option Block)) (p : Progress) (a : Answer) → IsValid f
+    → Legal f (triples k a.steps ++ p.list) → IsRemadeBy f k name size align meant (having p.names (part k p.list) (p.caches k)) a → HasUsableBlocks p
     → AreBlocksUsable (visible (triples k a.steps ++ p.list))
 remade_usable f k name size align meant p a valid legal h usable = search (arith, replaced_usable)
 
 -- ---- the acts
-operation_usable : (f : Profile) (k : ℕ) (what : What) (p : Progress) (a : Answer) → IsValid f → Legal f (triples k a.steps ++ p.list) → IsAnswered f k what (having p.names (part k p.list) (p.caches k)) a → HasUsableBlocks p → AreBlocksUsable (visible (triples k a.steps ++ p.list))
+operation_usable : (f : Profile) (k : ℕ) (what : What) (p : Progress) (a : Answer) → IsValid f → Legal f (triples k a.steps ++ p.list)
+    → IsAnswered f k what (having p.names (part k p.list) (p.caches k)) a → HasUsableBlocks p → AreBlocksUsable (visible (triples k a.steps ++ p.list))
 operation_usable f k (What.Alloc name heap size align) p a valid legal h usable = by_answer f k heap size align p.list a.steps valid legal usable h.answer h.ends
 operation_usable f k (What.Guarded keeper name heap size align) p a valid legal h usable = by_answer f k heap size align p.list a.steps valid legal usable h.answer h.ends
 operation_usable f k (What.Free name) p a valid legal h usable = steps_usable f k a.steps p.list valid legal (named_gives f k (p.caches k) a.cache name None (standing_for p.names name) a.steps a.said (part k p.list) h.0) usable
@@ -233,16 +249,19 @@ operation_usable f k (What.Idle n) p a valid legal h usable = absurd h
 
 -- ---- the acts of keepers
 -- a sweep makes no event
-sweep_usable : (f : Profile) (keeper : ℕ) (all : Bool) (guards guards' : List Guard) (said : List Record) (steps : List Made) (l : Whole) → IsValid f → Legal f (triples keeper steps ++ l) → SweepSteps f keeper all guards guards' said steps → AreBlocksUsable (visible l)
+sweep_usable : (f : Profile) (keeper : ℕ) (all : Bool) (guards guards' : List Guard) (said : List Record) (steps : List Made) (l : Whole) → IsValid f
+    → Legal f (triples keeper steps ++ l) → SweepSteps f keeper all guards guards' said steps → AreBlocksUsable (visible l)
     → AreBlocksUsable (visible (triples keeper steps ++ l))
 sweep_usable f keeper all guards guards' said steps l valid legal h usable = steps_usable f keeper steps l valid legal (subst AreNoGives (sym (no_events sweeping refl keeper (part keeper l) steps h.kinds)) tt) usable
 
 -- a raise gives its block as any request does, or makes deeds alone
-raise_usable : (f : Profile) (keeper : ℕ) (r : Request) (block : Option Block) (steps : List Made) (l : Whole) → IsValid f → Legal f (triples keeper steps ++ l) → TryEnds f keeper r (part keeper l) steps block → AreBlocksUsable (visible l) → AreBlocksUsable (visible (triples keeper steps ++ l))
+raise_usable : (f : Profile) (keeper : ℕ) (r : Request) (block : Option Block) (steps : List Made) (l : Whole) → IsValid f → Legal f (triples keeper steps ++ l)
+    → TryEnds f keeper r (part keeper l) steps block → AreBlocksUsable (visible l) → AreBlocksUsable (visible (triples keeper steps ++ l))
 raise_usable f keeper r None steps l valid legal ends usable = steps_usable f keeper steps l valid legal (all_deeds (wanted_by f r).directory (events_by keeper (part keeper l) steps) ends) usable
 raise_usable f keeper r (Some block) steps l valid legal given usable = by_answer f keeper r.heap r.size r.align l steps valid legal usable (Ok block) given
 
-tried_usable : (f : Profile) (keeper : ℕ) (r : Request) (l : Whole) (guards : List Guard) (t : Tried) → IsValid f → Legal f (triples keeper t.steps ++ l) → IsTried f keeper r (part keeper l) guards t → AreBlocksUsable (visible l) → AreBlocksUsable (visible (triples keeper t.steps ++ l))
+tried_usable : (f : Profile) (keeper : ℕ) (r : Request) (l : Whole) (guards : List Guard) (t : Tried) → IsValid f → Legal f (triples keeper t.steps ++ l)
+    → IsTried f keeper r (part keeper l) guards t → AreBlocksUsable (visible l) → AreBlocksUsable (visible (triples keeper t.steps ++ l))
 tried_usable f keeper r l guards t valid legal h usable =
     let whole : Legal f (triples keeper (h.raised ++ h.swept) ++ l) = subst (λ (ms : List Made). Legal f (triples keeper ms ++ l)) h.steps_are legal in
     let first : Legal f (triples keeper h.swept ++ l) = legal_earlier f keeper h.raised h.swept l whole in
@@ -252,10 +271,12 @@ tried_usable f keeper r l guards t valid legal h usable =
     (raise_usable f keeper r t.block h.raised (triples keeper h.swept ++ l) valid (subst (Legal f) (sym (triples_append keeper h.raised h.swept l)) whole) ends swept)
 
 -- what follows a try
-left_usable : (f : Profile) (op : Op) (r : Request) (block : Option Block) (p p' : Progress) → IsValid f → Legal f p'.list → AnswersTried f op r block p p' → HasUsableBlocks p → HasUsableBlocks p'
+left_usable : (f : Profile) (op : Op) (r : Request) (block : Option Block) (p p' : Progress) → IsValid f → Legal f p'.list → AnswersTried f op r block p p'
+    → HasUsableBlocks p → HasUsableBlocks p'
 left_usable f op r block p p' valid legal is usable = search (arith, operation_usable)
 
-guarded_usable : (f : Profile) (keeper : ℕ) (op : Op) (o : Option Request) (p p' : Progress) → IsValid f → Legal f p'.list → AnswersGuarded f keeper op o p p' → HasUsableBlocks p → HasUsableBlocks p'
+guarded_usable : (f : Profile) (keeper : ℕ) (op : Op) (o : Option Request) (p p' : Progress) → IsValid f → Legal f p'.list → AnswersGuarded f keeper op o p p'
+    → HasUsableBlocks p → HasUsableBlocks p'
 guarded_usable f keeper op None p p' valid legal is usable = absurd is
 guarded_usable f keeper op (Some r) p p' valid legal is usable =
     let midway : Progress = after_trying p keeper is.0 in
@@ -263,6 +284,7 @@ guarded_usable f keeper op (Some r) p p' valid legal is usable =
     let there : Legal f midway.list = pieces_back (Legal f) (legal_before f) on.0 midway.list (subst (Legal f) on.1 legal) in
     left_usable f op r is.0.block midway p' valid legal is.2 (tried_usable f keeper r p.list (p.books keeper) is.0 valid there is.1 usable)
 
+-- Each act leaves each live block on grains that blocks of its page's directory may cover.
 pub act_usable : (f : Profile) (act : Act) → KeepsUsable f act
 act_usable f (Act.MarksPhase n) p p' valid before after is usable = subst HasUsableBlocks (sym is) usable
 act_usable f Act.MarksClose p p' valid before after is usable = subst HasUsableBlocks (sym is) usable

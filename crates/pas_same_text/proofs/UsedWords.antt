@@ -25,7 +25,8 @@ added : (a b c d : ℕ) → c ≡ b + a → d ≡ c → a + b ≡ d
 added a b c d e g = omega (arith, e, g)
 
 -- the free grains of a word are the bits of this number
-bits_worth : (w : World) (page word value : ℕ) → ((b : ℕ) → b < 64 → is_free w page (64 * word + b) ≡ has_bit value b) → (n : ℕ) → n ≤ 64 → free_bits w page word n ≡ value % 2 ^ n
+bits_worth : (w : World) (page word value : ℕ) → ((b : ℕ) → b < 64 → is_free w page (64 * word + b) ≡ has_bit value b) → (n : ℕ) → n ≤ 64
+    → free_bits w page word n ≡ value % 2 ^ n
 unfolding free_bits
 bits_worth w page word value agree zero le = omega arith
 bits_worth w page word value agree (suc n) le =
@@ -64,7 +65,9 @@ module _ (f : Profile) (p : Progress) (w : World) (valid : IsValid f) (between :
   pub used_none : (page : ℕ) → is_guarded w page ≡ false → ((word : ℕ) → word < 4 → free_word page word ≡ all_ones) → used_word w page ≡ None
   used_none page none full = find_none (λ word. not (are_free w page (64 * word) 64)) 4 0 (λ word low high. ap not (full_free page word none high (full word high)))
 
-  pub used_first : (page word : ℕ) → is_guarded w page ≡ false → word < 4 → ((v : ℕ) → v < word → free_word page v ≡ all_ones) → free_word page word ≢ all_ones → used_word w page ≡ Some word
+  -- The first free word that isn't all ones is the used word that the text finds.
+  pub used_first : (page word : ℕ) → is_guarded w page ≡ false → word < 4 → ((v : ℕ) → v < word → free_word page v ≡ all_ones) → free_word page word ≢ all_ones
+      → used_word w page ≡ Some word
   used_first page word none few full used = find_first (λ v. not (are_free w page (64 * v) 64)) 4 0 word (omega arith) (omega (arith, few)) (ap not (used_free page word none few used))
       (λ v low lt. ap not (full_free page v none (omega (arith, lt, few)) (full v lt)))
 

@@ -26,9 +26,9 @@ pub many_numbers : (n from : ℕ) → length (map (λ k. no_cache) (numbers_from
 many_numbers zero from = refl
 many_numbers (suc n) from = ap suc (many_numbers n (from + 1))
 
-none_used : (n from k : ℕ) → cache_in (map (λ k. no_cache) (numbers_from from n)) k ≡ no_cache
-none_used zero from k = refl
-none_used (suc n) from k = by_place (k == 1) (cache_in (map (λ k. no_cache) (numbers_from (from + 1) n)) (k - 1)) (none_used n (from + 1) (k - 1))
+opening_caches_are_empty : (n from k : ℕ) → cache_in (map (λ k. no_cache) (numbers_from from n)) k ≡ no_cache
+opening_caches_are_empty zero from k = refl
+opening_caches_are_empty (suc n) from k = by_place (k == 1) (cache_in (map (λ k. no_cache) (numbers_from (from + 1) n)) (k - 1)) (opening_caches_are_empty n (from + 1) (k - 1))
   where
     by_place : (t : Bool) (rest : Cache) → rest ≡ no_cache → (if t then no_cache else rest) ≡ no_cache
     by_place true rest is = refl
@@ -42,12 +42,14 @@ module _ (f : Profile) (n : ℕ) (few : n ≤ f.threads) where
   start_caches : AreSameCaches f empty_caches first.caches
   start_caches = record {
     few = omega (arith, many_numbers n 1, few);
-    each = λ k is. subst (λ (c : Cache). IsSameCache empty_cache c) (sym (none_used n 1 k)) (record { locals = tt; log = refl; noted = refl; began = refl });
+    each = λ k is. subst (λ (c : Cache). IsSameCache empty_cache c) (sym (opening_caches_are_empty n 1 k)) (record { locals = tt; log = refl; noted = refl; began = refl });
   }
 
+  -- The text's opened region is the state of a replay that did nothing.
   pub start_same : IsSame f at_start first
   start_same = search (arith, none_of_zero, start_caches)
 
+-- Without events each live block lies on usable grains.
 pub start_usable : AreBlocksUsable []
 start_usable = record { usable = λ address b lives g of d is. absurd (none-some d is) }
 
@@ -96,5 +98,6 @@ module _ (f : Profile) (p : Progress) (w : World) (valid : IsValid f) (legal : L
   marks_same : (page : ℕ) → marks_of w page ≡ marks_after l page
   marks_same page = search (arith, offered_same, deed_is, parked_told)
 
+  -- The text of a state that is the replay's is what is written of the replay: its lines and its report.
   pub text_told : text_of f w ≡ lines_of p.records ++ report_text f (visible l) (marks_after l)
   text_told = search (arith, codes, pages_told, marks_same)

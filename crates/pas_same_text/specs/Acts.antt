@@ -90,7 +90,8 @@ StaysSameWhere Q f act = (p p' : Progress) (w : World) → Q p → IsTaken f act
 
 -- each grain of a live block is one that blocks of its page's directory may cover
 pub record AreBlocksUsable (es : List Event) : Type 0 where
-  pub usable : (address : ℕ) (b : Live) → live_in es address ≡ Some b → (g : ℕ) → IsPartOf g address b → (d : Directory) → deed_in es (g / 256) ≡ Some d → usable_by_kind d.kind (g % 256) ≡ true
+  pub usable : (address : ℕ) (b : Live) → live_in es address ≡ Some b → (g : ℕ) → IsPartOf g address b → (d : Directory) → deed_in es (g / 256) ≡ Some d
+      → usable_by_kind d.kind (g % 256) ≡ true
 
 abbrev pub HasUsableBlocks : Progress → Type 0
 HasUsableBlocks p = AreBlocksUsable (visible p.list)

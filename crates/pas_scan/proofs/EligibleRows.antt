@@ -23,7 +23,8 @@ use Rattle.pas_lanes.proofs.Rows.{none_past}
 -- ==== The set of marked pages.
 
 -- the word of the page got the page's bit
-pub marked_more : (words : List ℕ) (page n p : ℕ) → page / 64 < length words → (p / 64 ≡ page / 64 → is_in_word n p ≡ ((page == p) || is_in_word (get_or words (page / 64) 0) p))
+pub marked_more : (words : List ℕ) (page n p : ℕ) → page / 64 < length words
+    → (p / 64 ≡ page / 64 → is_in_word n p ≡ ((page == p) || is_in_word (get_or words (page / 64) 0) p))
     → is_marked (set words (page / 64) n) p ≡ ((page == p) || is_marked words p)
 marked_more words page n p within added = search (arith, cases_eq, get_or-set_same, get_or-set_other, ne_eqb)
 
@@ -33,13 +34,15 @@ zeros i = elim (cases_lt i 257) [
   | inr ge ↦ get_or_past (replicate 257 0) i 0 ge
 ]
 
+-- In a row of zeros no page is marked.
 pub marked_none : (p : ℕ) → is_marked (replicate 257 0) p ≡ false
 marked_none p = ap (λ n. has_bit n (p % 64)) (zeros (p / 64)) ∙ none_of_zero (p % 64)
 
 -- ==== Rows of eligible words: their looks in order, what each shows, and the lowest page that they show.
 
 -- ---- looks in order
-eligible_append : (number from : ℕ) (later earlier : List ℕ) → eligible_looks number (from + length earlier) later ++ eligible_looks number from earlier ≡ eligible_looks number from (later ++ earlier)
+eligible_append : (number from : ℕ) (later earlier : List ℕ)
+    → eligible_looks number (from + length earlier) later ++ eligible_looks number from earlier ≡ eligible_looks number from (later ++ earlier)
 eligible_append number from [] earlier = refl
 eligible_append number from (a ∷ more) earlier =
     let at : from + length earlier + length more ≡ from + length (more ++ earlier) = omega (arith, length-append more earlier) in
@@ -47,16 +50,20 @@ eligible_append number from (a ∷ more) earlier =
     ∙ ap (λ s. made (Look (Word.Eligible number (from + length (more ++ earlier)))) a ∷ s) (eligible_append number from more earlier)
 
 -- a row after the rows before it
-pub row_after : (number from block : ℕ) (ys xs : List Made) (later earlier : List ℕ) → from + length earlier ≡ block → ys ≡ eligible_looks number block later → xs ≡ eligible_looks number from earlier → ys ++ xs ≡ eligible_looks number from (later ++ earlier)
+pub row_after : (number from block : ℕ) (ys xs : List Made) (later earlier : List ℕ) → from + length earlier ≡ block → ys ≡ eligible_looks number block later
+    → xs ≡ eligible_looks number from earlier → ys ++ xs ≡ eligible_looks number from (later ++ earlier)
 row_after number from block ys xs later earlier at order_y order_x =
     ap (λ s. s ++ xs) order_y ∙ ap (λ s. eligible_looks number block later ++ s) order_x ∙ ap (λ j. eligible_looks number j later ++ eligible_looks number from earlier) (sym at) ∙ eligible_append number from later earlier
 
+-- There are as many looks at eligible words as answers.
 pub count_of : (number from n : ℕ) (steps : List Made) (answers : List ℕ) → steps ≡ eligible_looks number from answers → length answers ≡ n → length steps ≡ n
 count_of number from n steps answers order is = looks_count (λ j. Word.Eligible number j) from n steps answers order is
 
+-- Looks at eligible words are scans.
 pub scans_of : (number from : ℕ) (answers : List ℕ) (steps : List Made) → steps ≡ eligible_looks number from answers → OnlyScans steps
 scans_of number from answers steps order = looks_scan (λ j. Word.Eligible number j) from (λ j. IsScan.LooksEligible number j) steps answers order
 
+-- Looks at eligible words read each word once.
 pub single_of : (number from : ℕ) (answers : List ℕ) (steps : List Made) → steps ≡ eligible_looks number from answers → IsSingle steps
 single_of number from answers steps order = looks_single (λ j. Word.Eligible number j) from (λ i j e. cc) steps answers order
 
@@ -64,28 +71,36 @@ single_of number from answers steps order = looks_single (λ j. Word.Eligible nu
 pub zero_row : (word : ℕ) → slice_index (replicate 8 0) word ≡ 0
 zero_row word = elim (cases_lt word 8) [ inl lt ↦ get_or-replicate 8 word 0 0 lt | inr ge ↦ get_or_past (replicate 8 0) word 0 ge ]
 
-pub words_more : (number block word a : ℕ) (row : List ℕ) (steps : List Made) → block ≤ word → word < block + length row → ((b : ℕ) → block ≤ b → b < word → Once (WordReadHere number b (slice_index row (b - block))) steps)
-    → (b : ℕ) → block ≤ b → b < word + 1 → Once (WordReadHere number b (slice_index (slice_set row (word - block) a) (b - block))) (made (Look (Word.Eligible number word)) a ∷ steps)
+-- A word that was read, and noted in its row, is one more of those that the row has.
+pub words_more : (number block word a : ℕ) (row : List ℕ) (steps : List Made) → block ≤ word → word < block + length row
+    → ((b : ℕ) → block ≤ b → b < word → Once (WordReadHere number b (slice_index row (b - block))) steps)
+    → (b : ℕ) → block ≤ b → b < word + 1
+    → Once (WordReadHere number b (slice_index (slice_set row (word - block) a) (b - block))) (made (Look (Word.Eligible number word)) a ∷ steps)
 words_more number block word a row steps from room before b low high = search (arith, cases_lt, get_or-set_other, get_or-set_same)
 
-pub rest_more : (block word a : ℕ) (row : List ℕ) → block ≤ word → ((b : ℕ) → word ≤ b → slice_index row (b - block) ≡ 0) → (b : ℕ) → word + 1 ≤ b → slice_index (slice_set row (word - block) a) (b - block) ≡ 0
+-- The words of a row that aren't read yet are still 0.
+pub rest_more : (block word a : ℕ) (row : List ℕ) → block ≤ word → ((b : ℕ) → word ≤ b → slice_index row (b - block) ≡ 0) → (b : ℕ) → word + 1 ≤ b
+    → slice_index (slice_set row (word - block) a) (b - block) ≡ 0
 rest_more block word a row from rest b low = get_or-set_other row (word - block) (b - block) a 0 (λ e. absurd (omega (arith, e, low, from))) ∙ rest b (omega (arith, low))
 
 -- ---- what a reading of a word shows of its pages
-shown_as : (bit : Bool) (d : Directory) (p a : ℕ) (steps : List Made) → OnlyScans steps → Once (WordReadHere (number_of d) (p / 64) a) steps → has_bit a (p % 64) ≡ bit
+shown_as : (bit : Bool) (d : Directory) (p a : ℕ) (steps : List Made) → OnlyScans steps → Once (WordReadHere (number_of d) (p / 64) a) steps
+    → has_bit a (p % 64) ≡ bit
     → Once (λ m before. ReadsEligible d p m.step × (has_bit m.answer (p % 64) ≡ bit) × (has_right before p ≡ false)) steps
 shown_as bit d p a [] scans h is = absurd h
 shown_as bit d p a (m ∷ before) scans (inl h) is = inl (subst (λ s. ReadsEligible d p s) (sym h.0) (ReadsEligible.Looks (number_of d) (p / 64) refl refl), ap (λ n. has_bit n (p % 64)) h.1 ∙ is, scans_lack before p scans.1)
 shown_as bit d p a (m ∷ before) scans (inr h) is = inr (shown_as bit d p a before scans.1 h is)
 
 -- the answer agrees with the view before it
-word_agrees : (f : Profile) (v : View) (number block a : ℕ) (steps : List Made) → OnlyScans steps → Agreed f v steps → Once (WordReadHere number block a) steps → (before : List Made) × OnlyScans before × AgreesEligible f (before ++ v) number block a
+word_agrees : (f : Profile) (v : View) (number block a : ℕ) (steps : List Made) → OnlyScans steps → Agreed f v steps → Once (WordReadHere number block a) steps
+    → (before : List Made) × OnlyScans before × AgreesEligible f (before ++ v) number block a
 word_agrees f v number block a [] scans agreed h = absurd h
 word_agrees f v number block a (m ∷ before) scans agreed (inl h) = (before, scans.1, subst (λ n. Agrees f (before ++ v) (Look (Word.Eligible number block)) n) h.1 (subst (λ s. Agrees f (before ++ v) s m.answer) h.0 agreed.0))
 word_agrees f v number block a (m ∷ before) scans agreed (inr h) = word_agrees f v number block a before scans.1 agreed.1 h
 
 -- so a page that it shows is one of the region, of which the actor has no right
-one_page : (f : Profile) (v : View) (number page a : ℕ) (steps : List Made) → OnlyScans steps → Agreed f v steps → Once (WordReadHere number (page / 64) a) steps → has_bit a (page % 64) ≡ true → IsPage f page × (has_right v page ≡ false)
+one_page : (f : Profile) (v : View) (number page a : ℕ) (steps : List Made) → OnlyScans steps → Agreed f v steps
+    → Once (WordReadHere number (page / 64) a) steps → has_bit a (page % 64) ≡ true → IsPage f page × (has_right v page ≡ false)
 one_page f v number page a steps scans agreed h bit =
     let w = word_agrees f v number (page / 64) a steps scans agreed h in let whole : 64 * (page / 64) + page % 64 ≡ page = omega arith in (
       subst (IsPage f) whole (w.2.page (page % 64) (omega arith) bit),
@@ -96,7 +111,8 @@ one_page f v number page a steps scans agreed h bit =
 stays_so : (t : Bool) (deed known : ℕ) → known ≡ deed → (if t then deed else known) ≡ deed
 stays_so t deed known h = grind arith
 
-one_deed : (number page a from : ℕ) (answers : List ℕ) (v : View) → Once (WordReadHere number (page / 64) a) (eligible_looks number from answers) → has_bit a (page % 64) ≡ true → known_deed (eligible_looks number from answers ++ v) page ≡ deed_word_numbered number
+one_deed : (number page a from : ℕ) (answers : List ℕ) (v : View) → Once (WordReadHere number (page / 64) a) (eligible_looks number from answers)
+    → has_bit a (page % 64) ≡ true → known_deed (eligible_looks number from answers ++ v) page ≡ deed_word_numbered number
 one_deed number page a from [] v h bit = absurd h
 one_deed number page a from (b ∷ more) v (inl h) bit = cc (eq-eqb (page / 64) (page / 64) refl)
 one_deed number page a from (b ∷ more) v (inr h) bit =
@@ -108,11 +124,15 @@ shown_bit : (row : List ℕ) (block p : ℕ) → 64 * block ≤ p → shows_page
 shown_bit row block p low = search arith
 
 -- a page that a row shows has its word in it
-pub shown_within : (row : List ℕ) (block end p : ℕ) → ((b : ℕ) → end ≤ b → slice_index row (b - block) ≡ 0) → 64 * block ≤ p → shows_page row block p ≡ true → p < 64 * end
+pub shown_within : (row : List ℕ) (block end p : ℕ) → ((b : ℕ) → end ≤ b → slice_index row (b - block) ≡ 0) → 64 * block ≤ p → shows_page row block p ≡ true
+    → p < 64 * end
 shown_within row block end p rest low shown = search (arith, cases_lt, true≢false, shown_bit, none_of_zero)
 
-pub row_zeros : (d : Directory) (next block end stop : ℕ) (row : List ℕ) (steps : List Made) → OnlyScans steps → ((p : ℕ) → next ≤ p → p < 64 * block → Once (ZeroHere d p) steps)
-    → ((b : ℕ) → block ≤ b → b < end → Once (WordReadHere (number_of d) b (slice_index row (b - block))) steps) → ((p : ℕ) → next ≤ p → 64 * block ≤ p → p < stop → shows_page row block p ≡ false) → stop ≤ 64 * end
+-- A row that shows no page from the next one on read each as not offered.
+pub row_zeros : (d : Directory) (next block end stop : ℕ) (row : List ℕ) (steps : List Made) → OnlyScans steps
+    → ((p : ℕ) → next ≤ p → p < 64 * block → Once (ZeroHere d p) steps)
+    → ((b : ℕ) → block ≤ b → b < end → Once (WordReadHere (number_of d) b (slice_index row (b - block))) steps)
+    → ((p : ℕ) → next ≤ p → 64 * block ≤ p → p < stop → shows_page row block p ≡ false) → stop ≤ 64 * end
     → (p : ℕ) → next ≤ p → p < stop → Once (ZeroHere d p) steps
 row_zeros d next block end stop row steps scans before words none limit p low high = elim (cases_lt p (64 * block)) [
   | inl lt ↦ before p low lt
@@ -120,8 +140,10 @@ row_zeros d next block end stop row steps scans before words none limit p low hi
 ]
 
 -- the lowest page that a row shows, where the rows before it showed none
-pub row_one : (f : Profile) (d : Directory) (next from block end page : ℕ) (row answers : List ℕ) (steps : List Made) (v : View) → IsKind d.kind → Agreed f v steps → steps ≡ eligible_looks (number_of d) from answers
-    → ((p : ℕ) → next ≤ p → p < 64 * block → Once (ZeroHere d p) steps) → ((b : ℕ) → block ≤ b → b < end → Once (WordReadHere (number_of d) b (slice_index row (b - block))) steps)
+pub row_one : (f : Profile) (d : Directory) (next from block end page : ℕ) (row answers : List ℕ) (steps : List Made) (v : View) → IsKind d.kind
+    → Agreed f v steps → steps ≡ eligible_looks (number_of d) from answers
+    → ((p : ℕ) → next ≤ p → p < 64 * block → Once (ZeroHere d p) steps)
+    → ((b : ℕ) → block ≤ b → b < end → Once (WordReadHere (number_of d) b (slice_index row (b - block))) steps)
     → page < 64 * end → IsLowestShown row block next page → IsFirstOffered f d next steps page
 row_one f d next from block end page row answers steps v is agreed order before words within lowest =
     let a : ℕ = slice_index row (page / 64 - block) in
@@ -139,10 +161,14 @@ row_one f d next from block end page row answers steps v is agreed order before 
     }
 
 -- the readings of a row, with the steps before it
-pub words_later : (number block end : ℕ) (row : List ℕ) (ys xs : List Made) → ((b : ℕ) → block ≤ b → b < end → Once (WordReadHere number b (slice_index row (b - block))) ys) → (b : ℕ) → block ≤ b → b < end → Once (WordReadHere number b (slice_index row (b - block))) (ys ++ xs)
+pub words_later : (number block end : ℕ) (row : List ℕ) (ys xs : List Made)
+    → ((b : ℕ) → block ≤ b → b < end → Once (WordReadHere number b (slice_index row (b - block))) ys) → (b : ℕ) → block ≤ b → b < end
+    → Once (WordReadHere number b (slice_index row (b - block))) (ys ++ xs)
 words_later number block end row ys xs words b low high = once_earlier (WordReadHere number b (slice_index row (b - block))) (WordReadHere number b (slice_index row (b - block))) ys xs (λ m before h. h) (words b low high)
 
-pub zeros_later : (d : Directory) (next end : ℕ) (ys xs : List Made) → ((p : ℕ) → next ≤ p → p < end → Once (ZeroHere d p) xs) → (p : ℕ) → next ≤ p → p < end → Once (ZeroHere d p) (ys ++ xs)
+-- Pages that were read as not offered count so after later steps, too.
+pub zeros_later : (d : Directory) (next end : ℕ) (ys xs : List Made) → ((p : ℕ) → next ≤ p → p < end → Once (ZeroHere d p) xs) → (p : ℕ) → next ≤ p → p < end
+    → Once (ZeroHere d p) (ys ++ xs)
 zeros_later d next end ys xs zeros p low high = once_later (ZeroHere d p) ys xs (zeros p low high)
 
 -- ==== The pages from the next one on that a row shows: the bits of the pages below it, and the row without them.
@@ -154,10 +180,12 @@ low_bits block next low ones b is at h = elim (cases_lt b low) [
   | inr ge ↦ ap (λ n. has_bit n b) is ∙ is_zero (2 ^ low - 1) b (let some = pow_pos low in bit_at_above (2 ^ low - 1) low b (omega (arith, some)) ge) ∙ sym (le-ltb (64 * block + b) next (omega (arith, at, ge)))
 ]
 
+-- The ones below a place of a word are the number before its power of two.
 pub ones_below : (low : ℕ) → low < 64 → 1 * 2 ^ low % 2 ^ 64 - 1 ≡ 2 ^ low - 1
 ones_below low h = let small : 2 ^ low < 2 ^ 64 = pow-lt h in let same : 1 * 2 ^ low % 2 ^ 64 ≡ 2 ^ low = omega (arith, small) in ap (λ n. n - 1) same
 
-module _ (row : List ℕ) (block next below : ℕ) (long : length row ≡ 8) (from : next / 64 ≤ block) (fits : below < 2 ^ 64) (bits : (b : ℕ) → b < 64 → has_bit below b ≡ nat_lt (64 * block + b) next) where
+module _ (row : List ℕ) (block next below : ℕ) (long : length row ≡ 8) (from : next / 64 ≤ block) (fits : below < 2 ^ 64)
+    (bits : (b : ℕ) → b < 64 → has_bit below b ≡ nat_lt (64 * block + b) next) where
   -- the row of these bits
   abbrev pub lower : List ℕ
   lower = slice_set (replicate 8 0) 0 below
@@ -186,9 +214,11 @@ module _ (row : List ℕ) (block next below : ℕ) (long : length row ≡ 8) (fr
   unshown p low here none =
       cc (and-true (shows_page row block p), le-ltb (64 * block + (p - 64 * block)) next (omega (arith, low, here)), open_bit (p - 64 * block))
 
+  -- An open row that is empty shows no page.
   pub empty_none : IsEmpty open_row → ShowsNone row block next
   empty_none empty p low here = unshown p low here (empty (p - 64 * block))
 
+  -- The lowest number of an open row is the lowest page that it shows.
   pub lowest_shown : (n : ℕ) → IsLowestSet open_row n → IsLowestShown row block next (64 * block + n)
   lowest_shown n lowest =
       let both = and_parts (is_set row n) (not (nat_lt (64 * block + n) next)) (sym (open_bit n) ∙ lowest.set) in

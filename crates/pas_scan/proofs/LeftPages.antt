@@ -29,22 +29,27 @@ holds_own g (m ∷ ys) xs h = ap (held_after (grain_move m.step m.answer g)) (ho
 other_kind : (ks : Kinds) → apart ks righting ≡ true → (s t : Step) → is_in righting (kind_of t) ≡ true → is_in ks (kind_of s) ≡ true → s ≡ t → ⊥
 other_kind ks none s t rights is e = true≢false (sym (ap (λ x. is_in righting (kind_of x)) e ∙ rights) ∙ in_apart ks righting (place_of (kind_of s)) none is)
 
+-- Steps of kinds that get no right have none.
 pub lacks_by : (ks : Kinds) → apart ks righting ≡ true → (p : ℕ) (xs : List Made) → Only ks xs → has_right xs p ≡ false
 lacks_by ks none p xs only = sym (right_own p xs [] refl) ∙ rights_same ks none p xs [] only
 
+-- Steps of kinds that move no grain hold none.
 pub holds_none_by : (ks : Kinds) → apart ks moving ≡ true → (g : ℕ) (xs : List Made) → Only ks xs → holds xs g ≡ false
 holds_none_by ks none g xs only = sym (holds_own g xs [] refl) ∙ holds_same ks none g xs [] only
 
+-- Steps of kinds that neither get rights nor move grains leave a page alone.
 pub left_alone_by : (ks : Kinds) → apart ks righting ≡ true → apart ks moving ≡ true → (p : ℕ) (xs : List Made) → Only ks xs → LeftAlone p xs
 left_alone_by ks rights grains p xs only = search (arith, lacks_by, holds_none_by, always_map, other_kind)
 
 -- ---- readings
-pub since_earlier : (P Q R S : Made → List Made → Type 0) (ys xs : List Made) → ((m : Made) (before : List Made) → P m before → R m (before ++ xs)) → ((m : Made) (before : List Made) → Q m before → S m (before ++ xs)) → Since P Q ys → Since R S (ys ++ xs)
+pub since_earlier : (P Q R S : Made → List Made → Type 0) (ys xs : List Made) → ((m : Made) (before : List Made) → P m before → R m (before ++ xs))
+    → ((m : Made) (before : List Made) → Q m before → S m (before ++ xs)) → Since P Q ys → Since R S (ys ++ xs)
 since_earlier P Q R S [] xs first later h = absurd h
 since_earlier P Q R S (m ∷ ys) xs first later (inl h) = inl (first m ys h)
 since_earlier P Q R S (m ∷ ys) xs first later (inr h) = inr (later m ys h.0, since_earlier P Q R S ys xs first later h.1)
 
-own_grain : (page word b : ℕ) (ys xs : List Made) → LeftAlone page xs → word < 4 → b < 64 → holds (ys ++ xs) (page * 256 + (64 * word + b)) ≡ holds ys (page * 256 + (64 * word + b))
+own_grain : (page word b : ℕ) (ys xs : List Made) → LeftAlone page xs → word < 4 → b < 64
+    → holds (ys ++ xs) (page * 256 + (64 * word + b)) ≡ holds ys (page * 256 + (64 * word + b))
 own_grain page word b ys xs alone w lt = holds_own (page * 256 + (64 * word + b)) ys xs (alone.none (page * 256 + (64 * word + b)) (omega (arith, w, lt)))
 
 free_before : (page word a : ℕ) (ys xs : List Made) → LeftAlone page xs → word < 4 → IsAllFree page word a ys → IsAllFree page word a (ys ++ xs)
@@ -56,6 +61,7 @@ free_after page word a ys xs alone w free b lt = ap (λ t. has_bit a b || t) (sy
 one_before : (d : Directory) (p : ℕ) (xs : List Made) → LeftAlone p xs → (m : Made) (before : List Made) → OneHere d p m before → OneHere d p m (before ++ xs)
 one_before d p xs alone m before h = (h.0, h.1, right_own p before xs alone.right ∙ h.2)
 
+-- A page that was read as usable is so read behind steps that left it alone.
 pub usable_before : (d : Directory) (p : ℕ) (ys xs : List Made) → LeftAlone p xs → ReadUsable d p ys → ReadUsable d p (ys ++ xs)
 usable_before d p ys xs alone (inl bare) = inl (once_earlier (NoDeedHere p) (NoDeedHere p) ys xs (λ m before h. h) bare)
 usable_before d p ys xs alone (inr whole) = inr record {
@@ -68,7 +74,9 @@ fresh_before : (d : Directory) (p : ℕ) (ys xs : List Made) → LeftAlone p xs 
 fresh_before d p ys xs alone (inl none) = inl (always_both (ParksNotHere p) (ParksNotHere p) ys xs (λ m before h. h) none alone.parks)
 fresh_before d p ys xs alone (inr since) = inr (since_earlier (OneHere d p) (ParksNotHere p) (OneHere d p) (ParksNotHere p) ys xs (one_before d p xs alone) (λ m before h. h) since)
 
-pub unusable_here : (d : Directory) (p : ℕ) (xs : List Made) → LeftAlone p xs → (m : Made) (before : List Made) → UnusableHere d p m before → UnusableHere d p m (before ++ xs)
+-- A step that reads a page as not usable does so behind steps that left it alone.
+pub unusable_here : (d : Directory) (p : ℕ) (xs : List Made) → LeftAlone p xs → (m : Made) (before : List Made) → UnusableHere d p m before
+    → UnusableHere d p m (before ++ xs)
 unusable_here d p xs alone m before (inl other) = inl other
 unusable_here d p xs alone m before (inr (inl zero_read)) = inr (inl (
   ((zero_read.0.0.0, zero_read.0.0.1, right_own p before xs alone.right ∙ zero_read.0.0.2), fresh_before d p before xs alone zero_read.0.1),
@@ -76,6 +84,7 @@ unusable_here d p xs alone m before (inr (inl zero_read)) = inr (inl (
 ))
 unusable_here d p xs alone m before (inr (inr used)) = inr (inr (used.0, used.1, used.2, λ free. used.3 (free_after p used.0 m.answer before xs alone used.1 free)))
 
+-- A page that was once read as not usable is so read behind steps that left it alone.
 pub unusable_before : (d : Directory) (p : ℕ) (ys xs : List Made) → LeftAlone p xs → Once (UnusableHere d p) ys → Once (UnusableHere d p) (ys ++ xs)
 unusable_before d p ys xs alone h = once_earlier (UnusableHere d p) (UnusableHere d p) ys xs (unusable_here d p xs alone) h
 
@@ -83,6 +92,7 @@ unusable_before d p ys xs alone h = once_earlier (UnusableHere d p) (UnusableHer
 pub usable_later : (d : Directory) (p : ℕ) (ys xs : List Made) → ReadUsable d p xs → ReadUsable d p (ys ++ xs)
 usable_later d p ys xs e = grind (arith, once_later)
 
+-- A deed word that was read is read behind other steps, too.
 pub deed_before : (p : ℕ) (ys xs : List Made) → Once (DeedReadHere p) ys → Once (DeedReadHere p) (ys ++ xs)
 deed_before p ys xs h = once_earlier (DeedReadHere p) (DeedReadHere p) ys xs (λ m before h. h) h
 
@@ -104,27 +114,35 @@ unusable_later d n s ys xs h = (h.0, h.1, once_later (UnusableHere d h.0) ys xs 
 pub run_none : (d : Directory) (from next n length : ℕ) → from ≤ next → next < from + n → length ≡ next - from → RunSoFar d from next n next length []
 run_none d from next n length le some long = search arith
 
-deeds_more : (from page : ℕ) (ys xs : List Made) → ((p : ℕ) → from ≤ p → p < page → Once (DeedReadHere p) xs) → Once (DeedReadHere page) ys → (p : ℕ) → from ≤ p → p < page + 1 → Once (DeedReadHere p) (ys ++ xs)
+deeds_more : (from page : ℕ) (ys xs : List Made) → ((p : ℕ) → from ≤ p → p < page → Once (DeedReadHere p) xs) → Once (DeedReadHere page) ys → (p : ℕ) → from ≤ p
+    → p < page + 1 → Once (DeedReadHere p) (ys ++ xs)
 deeds_more from page ys xs before here p ge lt = search (arith, cases_lt, once_later, deed_before)
 
 -- one usable page more
-pages_more : (d : Directory) (next page length : ℕ) (ys xs : List Made) → LeftAlone page xs → ((p : ℕ) → page ≤ p + length → next ≤ p → p < page → ReadUsable d p xs) → ReadUsable d page ys → (p : ℕ) → page + 1 ≤ p + (length + 1) → next ≤ p → p < page + 1 → ReadUsable d p (ys ++ xs)
+pages_more : (d : Directory) (next page length : ℕ) (ys xs : List Made) → LeftAlone page xs
+    → ((p : ℕ) → page ≤ p + length → next ≤ p → p < page → ReadUsable d p xs) → ReadUsable d page ys → (p : ℕ) → page + 1 ≤ p + (length + 1) → next ≤ p
+    → p < page + 1 → ReadUsable d p (ys ++ xs)
 pages_more d next page length ys xs alone before here p ge le lt = elim (cases_lt p page) [
   | inl low ↦ usable_later d p ys xs (before p (omega (arith, ge)) le low)
   | inr high ↦ let same : page ≡ p = omega (arith, lt, high) in subst (λ q. ReadUsable d q (ys ++ xs)) same (usable_before d page ys xs alone here)
 ]
 
-lower_more : (d : Directory) (from n page length : ℕ) (ys xs : List Made) → ((s : ℕ) → from ≤ s → s + length < page → HasUnusable d n s xs) → (s : ℕ) → from ≤ s → s + (length + 1) < page + 1 → HasUnusable d n s (ys ++ xs)
+lower_more : (d : Directory) (from n page length : ℕ) (ys xs : List Made) → ((s : ℕ) → from ≤ s → s + length < page → HasUnusable d n s xs) → (s : ℕ) → from ≤ s
+    → s + (length + 1) < page + 1 → HasUnusable d n s (ys ++ xs)
 lower_more d from n page length ys xs before s ge lt = unusable_later d n s ys xs (before s ge (omega (arith, lt)))
 
 -- a page that isn't usable
-lower_bad : (d : Directory) (from n page length : ℕ) (ys xs : List Made) → LeftAlone page xs → length < n → ((s : ℕ) → from ≤ s → s + length < page → HasUnusable d n s xs) → Once (UnusableHere d page) ys → (s : ℕ) → from ≤ s → s + 0 < page + 1 → HasUnusable d n s (ys ++ xs)
+lower_bad : (d : Directory) (from n page length : ℕ) (ys xs : List Made) → LeftAlone page xs → length < n
+    → ((s : ℕ) → from ≤ s → s + length < page → HasUnusable d n s xs) → Once (UnusableHere d page) ys → (s : ℕ) → from ≤ s → s + 0 < page + 1
+    → HasUnusable d n s (ys ++ xs)
 lower_bad d from n page length ys xs alone short before here s ge lt = elim (cases_lt (s + length) page) [
   | inl low ↦ unusable_later d n s ys xs (before s ge low)
   | inr high ↦ (page, (omega (arith, lt), omega (arith, high, short)), unusable_before d page ys xs alone here)
 ]
 
-pub run_more : (d : Directory) (from next n page length : ℕ) (ys xs : List Made) (usable : Bool) → LeftAlone page xs → from ≤ page → RunSoFar d from next n page length xs → Once (DeedReadHere page) ys → MatchBool usable (ReadUsable d page ys) (Once (UnusableHere d page) ys)
+-- A page that was read as usable makes the run so far one longer, and one that wasn't ends it.
+pub run_more : (d : Directory) (from next n page length : ℕ) (ys xs : List Made) (usable : Bool) → LeftAlone page xs → from ≤ page
+    → RunSoFar d from next n page length xs → Once (DeedReadHere page) ys → MatchBool usable (ReadUsable d page ys) (Once (UnusableHere d page) ys)
     → (if usable then length + 1 else 0) ≢ n → RunSoFar d from next n (page + 1) (if usable then length + 1 else 0) (ys ++ xs)
 run_more d from next n page length ys xs true alone le so_far deed here ne = let short = so_far.short in let within = so_far.within in record {
   short = omega (arith, short, ne);
@@ -142,7 +160,8 @@ run_more d from next n page length ys xs false alone le so_far deed here ne = le
 }
 
 -- the run is long enough
-pub run_found : (f : Profile) (d : Directory) (from next n page length : ℕ) (ys xs : List Made) (usable : Bool) → 1 ≤ n → LeftAlone page xs → page ≤ f.pages → RunSoFar d from next n page length xs → Once (DeedReadHere page) ys → MatchBool usable (ReadUsable d page ys) (Once (UnusableHere d page) ys)
+pub run_found : (f : Profile) (d : Directory) (from next n page length : ℕ) (ys xs : List Made) (usable : Bool) → 1 ≤ n → LeftAlone page xs → page ≤ f.pages
+    → RunSoFar d from next n page length xs → Once (DeedReadHere page) ys → MatchBool usable (ReadUsable d page ys) (Once (UnusableHere d page) ys)
     → (if usable then length + 1 else 0) ≡ n → IsFirstRun f d from next n (ys ++ xs) (page + 1 - n)
 run_found f d from next n page length ys xs false some alone le so_far deed here e = absurd (omega (arith, some, e))
 run_found f d from next n page length ys xs true some alone le so_far deed here e = let within = so_far.within in record {
@@ -154,7 +173,8 @@ run_found f d from next n page length ys xs true some alone le so_far deed here 
 }
 
 -- no run is, since what was so up to the last page is so up to the end
-pub run_ended : (f : Profile) (d : Directory) (from next n page length : ℕ) (xs : List Made) → f.pages + 1 ≤ page → RunSoFar d from next n page length xs → HasNoRun f d from next n xs
+pub run_ended : (f : Profile) (d : Directory) (from next n page length : ℕ) (xs : List Made) → f.pages + 1 ≤ page → RunSoFar d from next n page length xs
+    → HasNoRun f d from next n xs
 run_ended f d from next n page length xs end so_far = search arith
 
 -- ==== The looks at one page, and what they show.
@@ -167,7 +187,8 @@ free_here page word m before h = (
   λ b lt. ap (λ n. has_bit n b || holds before (page * 256 + (64 * word + b))) h.1 ∙ ap (λ t. t || holds before (page * 256 + (64 * word + b))) (full_bit b lt),
 )
 
-used_not_free : (page word a : ℕ) (before : List Made) → a < 2 ^ 64 → a ≢ all_ones → ((b : ℕ) → b < 64 → holds before (page * 256 + (64 * word + b)) ≡ false) → IsAllFree page word a before → ⊥
+used_not_free : (page word a : ℕ) (before : List Made) → a < 2 ^ 64 → a ≢ all_ones → ((b : ℕ) → b < 64 → holds before (page * 256 + (64 * word + b)) ≡ false)
+    → IsAllFree page word a before → ⊥
 used_not_free page word a before small ne none free = ne (all_set a small (λ b lt. sym (or-false (has_bit a b)) ∙ ap (λ t. has_bit a b || t) (sym (none b lt)) ∙ free b lt))
 
 used_once : (page : ℕ) (ys : List Made) → Only page_looks ys → Once (UsedLookHere page) ys → Once (UsedHere page) ys
@@ -185,18 +206,22 @@ eligible_look d page a = made (Look (Word.Eligible (number_of d) (page / 64))) a
 abbrev pub two_looks : Directory → ℕ → ℕ → ℕ → List Made
 two_looks d page a e = eligible_look d page e ∷ deed_look page a ∷ []
 
+-- A look at a deed word reads it.
 pub deed_read : (page a : ℕ) → Once (DeedReadHere page) (deed_look page a ∷ [])
 deed_read page a = inl ReadsDeed.Looks
 
+-- A deed word that reads as 0 shows a usable page.
 pub bare : (d : Directory) (page a : ℕ) → a ≡ 0 → ReadUsable d page (deed_look page a ∷ [])
 bare d page a e = inl (inl (ReadsDeed.Looks, e))
 
+-- A deed word of another directory shows a page that isn't usable.
 pub other_deed : (d : Directory) (page a : ℕ) → a ≢ 0 → a ≢ deed_word_of d → Once (UnusableHere d page) (deed_look page a ∷ [])
 other_deed d page a some ne = inl (inl (ReadsDeed.Looks, some, ne))
 
 of_deed : (d : Directory) (page a : ℕ) → a ≡ deed_word_of d → Once (OfHere d page) (deed_look page a ∷ [])
 of_deed d page a e = inl (ReadsDeed.Looks, e)
 
+-- A page of the directory whose eligible bit was read as 0 isn't usable.
 pub not_offered : (d : Directory) (page a e : ℕ) → a ≡ deed_word_of d → has_bit e (page % 64) ≡ false → Once (UnusableHere d page) (two_looks d page a e)
 not_offered d page a e is bit = inl (inr (inl (((ReadsEligible.Looks (number_of d) (page / 64) refl refl, bit, refl), inl (λ h. cc, tt)), of_deed d page a is)))
 
@@ -204,7 +229,8 @@ all_looks : (d : Directory) (page a e : ℕ) (ys : List Made) → Only page_look
 all_looks d page a e ys only = only_both page_looks ys (two_looks d page a e) only (refl, (refl, tt))
 
 -- what the looks at the free words show after these
-offered_free : (d : Directory) (page a e : ℕ) (free : Bool) (ys : List Made) → Only page_looks ys → a ≡ deed_word_of d → has_bit e (page % 64) ≡ true → MatchBool free ((w : ℕ) → w < 4 → Once (FreeLookHere page w) ys) (Once (UsedLookHere page) ys)
+offered_free : (d : Directory) (page a e : ℕ) (free : Bool) (ys : List Made) → Only page_looks ys → a ≡ deed_word_of d → has_bit e (page % 64) ≡ true
+    → MatchBool free ((w : ℕ) → w < 4 → Once (FreeLookHere page w) ys) (Once (UsedLookHere page) ys)
     → MatchBool free (ReadUsable d page (ys ++ two_looks d page a e)) (Once (UnusableHere d page) (ys ++ two_looks d page a e))
 offered_free d page a e false ys are is bit used =
     once_map (UsedHere page) (UnusableHere d page) (ys ++ two_looks d page a e) (λ m before u. inr (inr u)) (used_once page (ys ++ two_looks d page a e) (all_looks d page a e ys are) (once_earlier (UsedLookHere page) (UsedLookHere page) ys (two_looks d page a e) (λ m before h. h) used))
@@ -217,11 +243,13 @@ offered_free d page a e true ys are is bit free =
     }
 
 -- ---- the looks at free words, one more
-pub free_more : (page word a : ℕ) (ys : List Made) → a ≡ all_ones → ((w : ℕ) → w < word → Once (FreeLookHere page w) ys) → (w : ℕ) → w < word + 1 → Once (FreeLookHere page w) (made (Look (Word.Free page word)) a ∷ ys)
+pub free_more : (page word a : ℕ) (ys : List Made) → a ≡ all_ones → ((w : ℕ) → w < word → Once (FreeLookHere page w) ys) → (w : ℕ) → w < word + 1
+    → Once (FreeLookHere page w) (made (Look (Word.Free page word)) a ∷ ys)
 free_more page word a ys e before w lt = search (arith, cases_lt)
 
 -- ---- all looks at a page that is of the directory and offered
-pub reads_by : {σ σ1 σ2 : Standing} (d : Directory) (page a e : ℕ) (free : Bool) → Adds σ σ1 AnyView (two_looks d page a e) → a ≡ deed_word_of d → has_bit e (page % 64) ≡ true → LooksFree page σ1 σ2 free → ReadsUsable d page σ σ2 free
+pub reads_by : {σ σ1 σ2 : Standing} (d : Directory) (page a e : ℕ) (free : Bool) → Adds σ σ1 AnyView (two_looks d page a e) → a ≡ deed_word_of d
+    → has_bit e (page % 64) ≡ true → LooksFree page σ1 σ2 free → ReadsUsable d page σ σ2 free
 reads_by d page a e free adds is bit h = record {
   steps = h.steps ++ two_looks d page a e;
   adds = adds_call adds h.adds (λ v l stood met. tt);

@@ -13,10 +13,12 @@ use Rattle.pas_scan.specs.{Rows.looks_from, Scan.IsFirstBare}
 scan_right : (s : Step) (a p : ℕ) (had : Bool) → IsScan s → right_after s a p had ≡ had
 scan_right s a p had step = grind arith
 
+-- Scans leave each right where it was.
 pub right_scans : (steps : List Made) (v : View) (p : ℕ) → OnlyScans steps → has_right (steps ++ v) p ≡ has_right v p
 right_scans [] v p h = refl
 right_scans (m ∷ more) v p h = scan_right m.step m.answer p (has_right (more ++ v) p) h.0 ∙ right_scans more v p h.1
 
+-- The steps of a scan by themselves have no right.
 pub scans_lack : (steps : List Made) (p : ℕ) → OnlyScans steps → has_right steps p ≡ false
 scans_lack [] p h = refl
 scans_lack (m ∷ more) p h = scan_right m.step m.answer p (has_right more p) h.0 ∙ scans_lack more p h.1
@@ -35,9 +37,11 @@ Below n = Always (λ m before. place_of m.step < n)
 abbrev pub From : ℕ → List Made → Type 0
 From n = Always (λ m before. n ≤ place_of m.step)
 
+-- Words below a number are below each greater one.
 pub below_more : (n k : ℕ) (steps : List Made) → n ≤ k → Below n steps → Below k steps
 below_more n k steps le = always_map (λ m before. place_of m.step < n) (λ m before. place_of m.step < k) steps (λ m before lt. omega (arith, lt, le))
 
+-- Two lists of looks at words below a number are so together.
 pub below_append : (n : ℕ) (ys xs : List Made) → Below n ys → Below n xs → Below n (ys ++ xs)
 below_append n ys xs = always_both (λ m before. place_of m.step < n) (λ m before. place_of m.step < n) ys xs (λ m before lt. lt)
 
@@ -64,13 +68,15 @@ single_append n (y ∷ ys) xs below later single before =
 -- ---- looks at words from a place on
 module _ (word : ℕ → TheWord) (from : ℕ) where
   -- one look more
-  pub looks_more : (n a : ℕ) (steps : List Made) (answers : List ℕ) → from + length answers ≡ n → steps ≡ looks_from word from answers → made (Look (word n)) a ∷ steps ≡ looks_from word from (a ∷ answers)
+  pub looks_more : (n a : ℕ) (steps : List Made) (answers : List ℕ) → from + length answers ≡ n → steps ≡ looks_from word from answers
+      → made (Look (word n)) a ∷ steps ≡ looks_from word from (a ∷ answers)
   looks_more n a steps answers at order = ap (λ j. made (Look (word j)) a ∷ steps) (sym at) ∙ ap (λ s. made (Look (word (from + length answers))) a ∷ s) order
 
   counted : (answers : List ℕ) → length (looks_from word from answers) ≡ length answers
   counted [] = refl
   counted (a ∷ more) = ap (λ k. suc k) (counted more)
 
+  -- There are as many looks at words in a row as answers.
   pub looks_count : (n : ℕ) (steps : List Made) (answers : List ℕ) → steps ≡ looks_from word from answers → length answers ≡ n → length steps ≡ n
   looks_count n steps answers order is = ap length order ∙ counted answers ∙ is
 
@@ -78,10 +84,12 @@ module _ (word : ℕ → TheWord) (from : ℕ) where
   scans are [] = tt
   scans are (a ∷ more) = (are (from + length more), scans are more)
 
+  -- Looks at words that are scans are scans.
   pub looks_scan : ((j : ℕ) → IsScan (Look (word j))) → (steps : List Made) (answers : List ℕ) → steps ≡ looks_from word from answers → OnlyScans steps
   looks_scan are steps answers order = subst OnlyScans (sym order) (scans are answers)
 
-  later_word : ((i j : ℕ) → Look (word i) ≡ Look (word j) → i ≡ j) → (n : ℕ) (answers : List ℕ) → from + length answers ≤ n → Once (λ m before. m.step ≡ Look (word n)) (looks_from word from answers) → ⊥
+  later_word : ((i j : ℕ) → Look (word i) ≡ Look (word j) → i ≡ j) → (n : ℕ) (answers : List ℕ) → from + length answers ≤ n
+      → Once (λ m before. m.step ≡ Look (word n)) (looks_from word from answers) → ⊥
   later_word other n [] le once = once
   later_word other n (a ∷ more) le (inl e) = let same = other (from + length more) n e in absurd (omega (arith, same, le))
   later_word other n (a ∷ more) le (inr once) = later_word other n more (omega (arith, le)) once
@@ -91,17 +99,21 @@ module _ (word : ℕ → TheWord) (from : ℕ) where
   singles other (a ∷ more) = (later_word other (from + length more) more (omega arith), singles other more)
 
   -- where each place has a word of its own
-  pub looks_single : ((i j : ℕ) → Look (word i) ≡ Look (word j) → i ≡ j) → (steps : List Made) (answers : List ℕ) → steps ≡ looks_from word from answers → IsSingle steps
+  pub looks_single : ((i j : ℕ) → Look (word i) ≡ Look (word j) → i ≡ j) → (steps : List Made) (answers : List ℕ) → steps ≡ looks_from word from answers
+      → IsSingle steps
   looks_single other steps answers order = subst IsSingle (sym order) (singles other answers)
 
 -- ---- deeds
-pub deed_more : (from page : ℕ) (steps : List Made) (a : ℕ) → ((p : ℕ) → from ≤ p → p < page → Once (DeedHere p) steps) → a ≢ 0 → (p : ℕ) → from ≤ p → p < page + 1 → Once (DeedHere p) (made (Look (Word.Deed page)) a ∷ steps)
+pub deed_more : (from page : ℕ) (steps : List Made) (a : ℕ) → ((p : ℕ) → from ≤ p → p < page → Once (DeedHere p) steps) → a ≢ 0 → (p : ℕ) → from ≤ p
+    → p < page + 1 → Once (DeedHere p) (made (Look (Word.Deed page)) a ∷ steps)
 deed_more from page steps a before ne p low high = elim (cases_lt p page) [
   | inl lt ↦ inr (before p low lt)
   | inr ge ↦ let same : page ≡ p = omega (arith, high, ge) in inl (subst (λ q. ReadsDeed p (Look (Word.Deed q))) (sym same) ReadsDeed.Looks, ne)
 ]
 
-pub first_none : (f : Profile) (from page a : ℕ) (steps : List Made) → 1 ≤ from → from ≤ page → page ≤ f.pages → a ≡ 0 → ((p : ℕ) → from ≤ p → p < page → Once (DeedHere p) steps) → IsFirstBare f from (made (Look (Word.Deed page)) a ∷ steps) page
+-- A deed word that reads as 0 after those of lower pages that don't is the first bare one.
+pub first_none : (f : Profile) (from page a : ℕ) (steps : List Made) → 1 ≤ from → from ≤ page → page ≤ f.pages → a ≡ 0
+    → ((p : ℕ) → from ≤ p → p < page → Once (DeedHere p) steps) → IsFirstBare f from (made (Look (Word.Deed page)) a ∷ steps) page
 first_none f from page a steps some low high z before = record {
   from_there = low;
   of_region = (omega (arith, some, low), high);

@@ -40,6 +40,7 @@ use Rattle.pas_profile.specs.Directories.{deed_word_of}
 
 -- ==== The grains that were taken, as a mask.
 
+-- The full mask has each grain of the four words.
 pub all_grains : (g : ℕ) → is_set full g ≡ nat_lt (g / 64) 4
 all_grains g = elim (cases_lt g 256) [
   | inl lt ↦ full_set g lt ∙ sym (lt-ltb (g / 64) 4 (omega (arith, lt)))
@@ -78,10 +79,12 @@ below page n g = search (arith, full_bit, both_order)
 one_take : (s p u b r : Bool) → u ≡ true → held_after (if ((s && p) && u) && b then Gets else Stays) (p && r) ≡ (p && (r || (s && b)))
 one_take s p u b r e = grind arith
 
+-- Takes of all grains of the first words of a page hold just those, where nothing was held before.
 pub takes_hold : (page n g : ℕ) (v : View) → holds v g ≡ false → holds (takes page ones ones n ++ v) g ≡ ((page == g / 256) && nat_lt (g % 256 / 64) n)
 takes_hold page n g v none = grains_held page ones ones n g v ∙ ap (λ t. got_below page ones ones n g || t) none ∙ or-false (got_below page ones ones n g) ∙ below page n g
 
-until_holds : (page : ℕ) (used : Option Used) (g : ℕ) (v : View) → holds v g ≡ false → holds (takes_until page used ++ v) g ≡ ((page == g / 256) && was_free used (g % 256))
+until_holds : (page : ℕ) (used : Option Used) (g : ℕ) (v : View) → holds v g ≡ false
+    → holds (takes_until page used ++ v) g ≡ ((page == g / 256) && was_free used (g % 256))
 until_holds page used g v none = grind (arith, takes_hold, one_take, full_bit)
 
 -- a take of all grains of a word ends the examination, whatever it read
@@ -95,8 +98,10 @@ takes_examined : (page : ℕ) (used : Option Used) (v : View) → examines (take
 takes_examined page used v = grind (arith, ended_by, ends_it)
 
 -- ---- from one state to the next
-at_over : {page : ℕ} {grains grains' : ℕ → Bool} {right right' : Bool} (ks : Kinds) → apart ks unstamping ≡ true → apart ks opening ≡ true → apart ks (Unhinting ∷ []) ≡ true → (steps : List Made) (v : View) → Only ks steps
-    → IsAt page grains right v → ((g : ℕ) → holds (steps ++ v) g ≡ grains' g) → ((q : ℕ) → has_right (steps ++ v) q ≡ (right' && (page == q))) → IsAt page grains' right' (steps ++ v)
+at_over : {page : ℕ} {grains grains' : ℕ → Bool} {right right' : Bool} (ks : Kinds) → apart ks unstamping ≡ true → apart ks opening ≡ true
+    → apart ks (Unhinting ∷ []) ≡ true → (steps : List Made) (v : View) → Only ks steps
+    → IsAt page grains right v → ((g : ℕ) → holds (steps ++ v) g ≡ grains' g) → ((q : ℕ) → has_right (steps ++ v) q ≡ (right' && (page == q)))
+    → IsAt page grains' right' (steps ++ v)
 at_over ks u o n steps v only at held rights = record {
   held = held;
   rights = rights;
@@ -109,13 +114,16 @@ at_over ks u o n steps v only at held rights = record {
 abbrev pub idle : Kinds
 idle = LookFree ∷ LookDeed ∷ LookBacked ∷ LookStamp ∷ Hinting ∷ Unbacking ∷ []
 
-at_idle : {page : ℕ} {grains : ℕ → Bool} {right : Bool} (steps : List Made) (v : View) → Only idle steps → IsAt page grains right v → IsAt page grains right (steps ++ v)
+at_idle : {page : ℕ} {grains : ℕ → Bool} {right : Bool} (steps : List Made) (v : View) → Only idle steps → IsAt page grains right v
+    → IsAt page grains right (steps ++ v)
 at_idle steps v only at = at_over idle refl refl refl steps v only at (λ g. holds_same idle refl g steps v only ∙ at.held g) (λ q. rights_same idle refl q steps v only ∙ at.rights q)
 
 got_right : (got here : Bool) → now (if here then (if got then Gained else Kept) else Kept) false ≡ (got && here)
 got_right got here = grind arith
 
-at_claim : (page : ℕ) (d : Directory) (a : ℕ) (got : Bool) (v : View) → Does (on_page page (if got then Gained else Kept) Kept) v (made (TakeRight page d) a ∷ v) → IsAt page none false v → IsAt page none got (made (TakeRight page d) a ∷ v)
+at_claim : (page : ℕ) (d : Directory) (a : ℕ) (got : Bool) (v : View)
+    → Does (on_page page (if got then Gained else Kept) Kept) v (made (TakeRight page d) a ∷ v) → IsAt page none false v
+    → IsAt page none got (made (TakeRight page d) a ∷ v)
 at_claim page d a got v does at = at_over (Claiming ∷ []) refl refl refl (made (TakeRight page d) a ∷ []) v (refl, tt) at (λ g. does.held g ∙ at.held g)
     (λ q. does.right q ∙ ap (now (if page == q then (if got then Gained else Kept) else Kept)) (at.rights q) ∙ got_right got (page == q))
 
@@ -145,11 +153,13 @@ is_clear {page} {v = v} at ended = record {
   };
 }
 
+-- An actor that is at a page with nothing, and examines it no longer, has nothing.
 pub rests : {page : ℕ} {v : View} → IsAt page none false v → examines v page ≡ false → HasNothing v
 rests at ended = record { grains = at.held; rights = at.rights; clear = is_clear at ended }
 
 -- the same grains in other words
-at_as : {page : ℕ} {grains : ℕ → Bool} (grains' : ℕ → Bool) {right : Bool} {v : View} → IsAt page grains right v → ((g : ℕ) → grains g ≡ grains' g) → IsAt page grains' right v
+at_as : {page : ℕ} {grains : ℕ → Bool} (grains' : ℕ → Bool) {right : Bool} {v : View} → IsAt page grains right v → ((g : ℕ) → grains g ≡ grains' g)
+    → IsAt page grains' right v
 at_as grains' at same = record { held = λ g. at.held g ∙ same g; rights = at.rights; stamped = at.stamped; owes = at.owes; examined = at.examined }
 
 -- ==== Whether a page may be unbacked, and what the judgement of a page leaves.
@@ -157,7 +167,8 @@ at_as grains' at same = record { held = λ g. at.held g ∙ same g; rights = at.
 abbrev pub two_looks : ℕ → ℕ → ℕ → List Made
 two_looks page b stamp = made (Look (Word.Stamp page)) stamp ∷ made (Look (Word.Backed page)) b ∷ []
 
-may_unback : (f : Profile) (page epoch b stamp : ℕ) (used : Option Used) (v : View) → used ≡ None → b ≢ 0 → stamp + f.age ≤ epoch → MayJudge page epoch used v → Agreed f v (two_looks page b stamp) → MayUnback f (two_looks page b stamp ++ v) page
+may_unback : (f : Profile) (page epoch b stamp : ℕ) (used : Option Used) (v : View) → used ≡ None → b ≢ 0 → stamp + f.age ≤ epoch → MayJudge page epoch used v
+    → Agreed f v (two_looks page b stamp) → MayUnback f (two_looks page b stamp ++ v) page
 may_unback f page epoch b stamp used v whole some old met agreed =
     let held = met.held whole in
     let one : (b == 1) ≡ true = eq-eqb b 1 (omega (arith, agreed.1.0.small, some)) in
@@ -175,14 +186,19 @@ may_unback f page epoch b stamp used v whole some old met agreed =
       old = subst (λ o. stamp + f.age ≤ or_zero o) (sym met.epoch_is) old;
     }
 
-module _ {σ σ1 σ2 : Standing} (page epoch b stamp : ℕ) (used : Option Used) (backed : Makes σ σ1 (Look (Word.Backed page)) b) (stamped : Makes σ1 σ2 (Look (Word.Stamp page)) stamp) where
+module _ {σ σ1 σ2 : Standing} (page epoch b stamp : ℕ) (used : Option Used) (backed : Makes σ σ1 (Look (Word.Backed page)) b)
+    (stamped : Makes σ1 σ2 (Look (Word.Stamp page)) stamp) where
+  -- The looks at the backed word and the stamp are those by which a page is judged.
   pub looked : Adds σ σ2 (MayJudge page epoch used) (two_looks page b stamp)
   looked = adds_step (adds_step adds_none backed (λ v l stood met. tt)) stamped (λ v l stood met. tt)
 
+  -- The age of the region is the same after the looks.
   pub age_is : (f : Profile) → f ≡ σ2.seat.profile → f.age ≡ σ.seat.profile.age
   age_is f is = ap (λ g. g.age) is ∙ ap (λ s. s.profile.age) looked.seat_is
 
-  pub allowed : (f : Profile) → f ≡ σ2.seat.profile → used ≡ None → b ≢ 0 → stamp + f.age ≤ epoch → (v : View) (l : _) → σ.stands v l → MayJudge page epoch used v → MayUnback σ.seat.profile (two_looks page b stamp ++ v) page
+  -- A page whose grains are all held, that is backed and whose stamp is old enough may be unbacked.
+  pub allowed : (f : Profile) → f ≡ σ2.seat.profile → used ≡ None → b ≢ 0 → stamp + f.age ≤ epoch → (v : View) (l : _) → σ.stands v l
+      → MayJudge page epoch used v → MayUnback σ.seat.profile (two_looks page b stamp ++ v) page
   allowed f is whole some old v l stood met = may_unback σ.seat.profile page epoch b stamp used v whole some (subst (λ a. stamp + a ≤ epoch) (age_is f is) old) met (looked.agreed v l stood met)
 
 -- ==== The steps for one page: their kinds, their number and their event.
@@ -208,6 +224,7 @@ sized_at {ks} {n} e a = subst (Sized ks n) (sym e) a
 first_sized : (page b : ℕ) (used : Option Used) → AreUsed used → Sized quiet 5 (first_looks page b used)
 first_sized page b used are = sized_both {m = 4} {n = 1} (sized_as quiet refl (sized (LookFree ∷ []) 4 (until_only page used) (until_few page used are))) (sized quiet 1 (refl, tt) (omega arith))
 
+-- What is asked of a page takes at most seven quiet steps.
 pub asks_sized : (page : ℕ) (d : Directory) (got : Bool) (steps : List Made) → AsksSteps page d got steps → Sized quiet 7 steps
 asks_sized page d got steps h = let first = first_sized page h.backed None tt in sized_at h.steps_are (sized quiet 7 (refl, (refl, first.only)) (omega (arith, first.few)))
 
@@ -232,6 +249,7 @@ takes_sized page used are = sized_as quiet refl (sized (Taking ∷ []) 4 (takes_
 judged_sized : (age epoch page : ℕ) (used : Option Used) (outcome : Outcome) (steps : List Made) → Judged age epoch page used outcome steps → Sized idle 3 steps
 judged_sized age epoch page used outcome steps h = grind (arith, sized_at, sized)
 
+-- The examination of a page takes at most 37 steps.
 pub examine_sized : (age epoch page : ℕ) (outcome : Outcome) (steps : List Made) → ExamineSteps age epoch page outcome steps → Sized examining 37 steps
 examine_sized age epoch page outcome steps (inl h) = let w = without_sized page outcome steps h in sized_as examining refl (sized quiet 37 w.only (omega (arith, w.few)))
 examine_sized age epoch page outcome steps (inr h) = let t = h.takes in
@@ -241,7 +259,8 @@ examine_sized age epoch page outcome steps (inr h) = let t = h.takes in
     (sized_as examining refl (asks_sized page h.directory true h.asked h.asks)))
 
 -- ---- the event
-judged_event : (k age epoch page : ℕ) (used : Option Used) (outcome : Outcome) (steps rest : List Made) (v : View) → Judged age epoch page used outcome steps → Only quiet rest → known_epoch v ≡ Some epoch → events_by k v (steps ++ rest) ≡ unback_of k epoch page outcome
+judged_event : (k age epoch page : ℕ) (used : Option Used) (outcome : Outcome) (steps rest : List Made) (v : View) → Judged age epoch page used outcome steps
+    → Only quiet rest → known_epoch v ≡ Some epoch → events_by k v (steps ++ rest) ≡ unback_of k epoch page outcome
 judged_event k age epoch page used (InUse w a) steps rest v h only known = ap (λ s. events_by k v (s ++ rest)) h.1 ∙ no_events quiet refl k v rest only
 judged_event k age epoch page used Bare steps rest v h only known = ap (λ s. events_by k v (s ++ rest)) h.1 ∙ no_events quiet refl k v (made (Look (Word.Backed page)) 0 ∷ rest) (refl, only)
 judged_event k age epoch page used (Young s) steps rest v h only known = ap (λ s. events_by k v (s ++ rest)) h.4 ∙ no_events quiet refl k v (two_looks page h.0 s ++ rest) (refl, (refl, only))
@@ -254,10 +273,13 @@ without_none : (k epoch page : ℕ) (outcome : Outcome) (steps : List Made) → 
 without_none k epoch page other steps h = grind arith
 
 -- the steps of an examination with the right, in order
-pub taken_on : (age epoch page : ℕ) (outcome : Outcome) (steps : List Made) (h : EndsWith age epoch page outcome steps) → steps ≡ h.takes.back ++ (h.takes.after ++ (takes_until page h.takes.used ++ h.asked))
+pub taken_on : (age epoch page : ℕ) (outcome : Outcome) (steps : List Made) (h : EndsWith age epoch page outcome steps)
+    → steps ≡ h.takes.back ++ (h.takes.after ++ (takes_until page h.takes.used ++ h.asked))
 taken_on age epoch page outcome steps h = search (arith, append_assoc)
 
-pub examine_event : (k age epoch page : ℕ) (outcome : Outcome) (steps : List Made) (v : View) → ExamineSteps age epoch page outcome steps → known_epoch v ≡ Some epoch → events_by k v steps ≡ unback_of k epoch page outcome
+-- The examination of a page makes one event where it was unbacked, and none otherwise.
+pub examine_event : (k age epoch page : ℕ) (outcome : Outcome) (steps : List Made) (v : View) → ExamineSteps age epoch page outcome steps
+    → known_epoch v ≡ Some epoch → events_by k v steps ≡ unback_of k epoch page outcome
 examine_event k age epoch page outcome steps v (inl h) known = no_events quiet refl k v steps (without_sized page outcome steps h).only ∙ sym (without_none k epoch page outcome steps h)
 examine_event k age epoch page outcome steps v (inr h) known =
     let t = h.takes in let rest = takes_until page t.used ++ h.asked in
@@ -275,6 +297,7 @@ may_put : (page : ℕ) (d : Directory) (grains : Mask4) (v : View) → MayPutBac
 may_put page d grains v met = record { deed = met.deed; puts = record { held = λ g here. met.at.held g ∙ here; stamped = met.at.stamped page } }
 
 module _ {σ σ1 : Standing} (page : ℕ) (d : Directory) (grains : Mask4) (puts : PutsMask page grains σ σ1) where
+  -- After its grains were put back, what follows puts may be done.
   pub may_return : CanCall σ (MayPutBack page d grains) → CanCall σ1 (KnowsDeed page d)
   may_return can = may_settle page d grains puts (record { view = can.view; whole = can.whole; stood = can.stood; met = may_put page d grains can.view can.met })
 
@@ -283,12 +306,16 @@ module _ {σ σ1 : Standing} (page : ℕ) (d : Directory) (grains : Mask4) (puts
     back_call : Calls σ σ2 (MayPutBack page d grains) (λ v w. Does (given_back (masked page grains)) v w × KnowsDeed page d w) (ret.steps ++ puts.steps)
     back_call = call_knows page d (call_as (Does (given_back (masked page grains))) (returned_call page d grains puts ret) (may_put page d grains) (λ v w met does. does)) (λ v met. met.deed)
 
-    may_leave : (v : View) → MayPutBack page d grains v → Does (given_back (masked page grains)) v ((ret.steps ++ puts.steps) ++ v) × KnowsDeed page d ((ret.steps ++ puts.steps) ++ v) → MayLeave page d ((ret.steps ++ puts.steps) ++ v)
+    may_leave : (v : View) → MayPutBack page d grains v
+        → Does (given_back (masked page grains)) v ((ret.steps ++ puts.steps) ++ v) × KnowsDeed page d ((ret.steps ++ puts.steps) ++ v)
+        → MayLeave page d ((ret.steps ++ puts.steps) ++ v)
     may_leave v met back = record { right = back.0.right page ∙ met.at.rights page ∙ same_page page; deed = back.1 }
 
+    -- After a return the page may be left.
     pub can_leave : CanCall σ (MayPutBack page d grains) → CanCall σ2 (MayLeave page d)
     can_leave can = next_call back_call can may_leave
 
+    -- Grains that were put back, a return and a leave put the page back.
     pub puts_back : {σ3 : Standing} → Leaves page d σ2 σ3 → PutsBack page d grains σ σ3
     puts_back leave = record {
       steps = leave.steps ++ (ret.steps ++ puts.steps);
@@ -304,7 +331,8 @@ module _ {σ σ1 : Standing} (page : ℕ) (d : Directory) (grains : Mask4) (puts
 
 -- ---- the calls
 -- steps that were added, with what they lead to
-pub call_by : {σ σ1 : Standing} {B C : View → Type 0} {R : View → View → Type 0} {xs : List Made} → Adds σ σ1 C xs → ((v : View) → B v → C v) → ((v : View) → B v → Agreed σ.seat.profile v xs → R v (xs ++ v)) → Calls σ σ1 B R xs
+pub call_by : {σ σ1 : Standing} {B C : View → Type 0} {R : View → View → Type 0} {xs : List Made} → Adds σ σ1 C xs → ((v : View) → B v → C v)
+    → ((v : View) → B v → Agreed σ.seat.profile v xs → R v (xs ++ v)) → Calls σ σ1 B R xs
 call_by adds under from = record { adds = adds_under adds (λ v l stood met. under v met); leads = record { from = from } }
 
 -- these grains were taken, and the page is no longer examined
@@ -313,7 +341,8 @@ pub record IsTaken (page epoch : ℕ) (grains : Mask4) (v : View) : Type 0 where
   pub ended : examines v page ≡ false
   pub epoch_is : known_epoch v ≡ Some epoch
 
-module _ {σ σ1 : Standing} (page : ℕ) (d : Directory) (epoch : ℕ) (used : Option Used) (grains : Mask4) (got : (g : ℕ) → is_set grains g ≡ was_free used g) (t : TakesUntilUsed page σ σ1 used) where
+module _ {σ σ1 : Standing} (page : ℕ) (d : Directory) (epoch : ℕ) (used : Option Used) (grains : Mask4) (got : (g : ℕ) → is_set grains g ≡ was_free used g)
+    (t : TakesUntilUsed page σ σ1 used) where
   is_taken : (v : View) → MayTake page d epoch v → IsTaken page epoch grains (takes_until page used ++ v)
   is_taken v met = record {
     at = at_as (masked page grains) (at_takes page used v met.at) (λ g. ap (λ x. (page == g / 256) && x) (sym (got (g % 256))));
@@ -321,12 +350,14 @@ module _ {σ σ1 : Standing} (page : ℕ) (d : Directory) (epoch : ℕ) (used : 
     epoch_is = epoch_same (Taking ∷ []) refl (takes_until page used) v (takes_are page used) ∙ met.epoch_is;
   }
 
+  -- Takes up to the first used word hold the grains that were read as free.
   pub took : Calls σ σ1 (MayTake page d epoch) (λ v w. IsTaken page epoch grains w) (takes_until page used)
   took = call_by t.adds (λ v met. met.at.rights page ∙ same_page page) (λ v met agreed. is_taken v met)
 
   may_judge : (v : View) → IsTaken page epoch grains v → MayJudge page epoch used v
   may_judge v is = search (arith, and_from, eq-eqb, lt-ltb)
 
+  -- After the takes the page may be judged.
   pub can_judge : CanCall σ (MayTake page d epoch) → CanCall σ1 (MayJudge page epoch used)
   can_judge can = next_call took can (λ v met is. may_judge (takes_until page used ++ v) is)
 
@@ -341,9 +372,11 @@ module _ {σ σ1 : Standing} (page : ℕ) (d : Directory) (epoch : ℕ) (used : 
         let both = call_then (λ v w. IsAt page (masked page grains) true w × (examines w page ≡ false)) took c (λ v met is. is) (λ v met is after. after) in
         call_as (λ v w. MayPutBack page d grains w) (call_knows page d both (λ v met. met.deed)) (λ v met. met) (λ v w met h. record { at = h.0.0; ended = h.0.1; deed = h.1 })
 
+    -- After the judgement all that was got may be put back.
     pub can_put : CanCall σ (MayTake page d epoch) → CanCall σ2 (MayPutBack page d grains)
     can_put can = next_call judged_call can (λ v met may. may)
 
+    -- A page that was taken, judged and put back has its outcome.
     pub takes_page : {σ3 : Standing} → PutsBack page d grains σ2 σ3 → TakesPage page d epoch σ σ3 outcome
     takes_page p = record {
       steps = p.steps ++ (j.steps ++ takes_until page used);
@@ -361,7 +394,8 @@ module _ {σ σ1 : Standing} (page : ℕ) (d : Directory) (epoch : ℕ) (used : 
       };
     }
 
-examined : {σ σ' : Standing} (page epoch : ℕ) (outcome : Outcome) (steps : List Made) → Calls σ σ' (MayExamine page epoch) (λ v w. HasNothing w) steps → ExamineSteps σ.seat.profile.age epoch page outcome steps → ExaminesPage page epoch σ σ' outcome
+examined : {σ σ' : Standing} (page epoch : ℕ) (outcome : Outcome) (steps : List Made) → Calls σ σ' (MayExamine page epoch) (λ v w. HasNothing w) steps
+    → ExamineSteps σ.seat.profile.age epoch page outcome steps → ExaminesPage page epoch σ σ' outcome
 examined {σ} page epoch outcome steps calls order = let age = σ.seat.profile.age in record {
   steps = steps;
   calls = calls;
@@ -381,6 +415,7 @@ looks_idle page used = only_within (LookFree ∷ []) idle (looks_until page used
 used_ends : (page : ℕ) (used : Used) (v : View) → IsUsed used → examines (looks_until page (Some used) ++ v) page ≡ false
 used_ends page used v is = ended_by page (not (used.value == all_ones)) (examines (looks page ones used.word ++ v) page) (ap not (ne_eqb used.value all_ones is.some))
 
+-- A page whose backed word reads as 0 is bare.
 pub bare_page : {σ σ1 : Standing} (page epoch b : ℕ) → Makes σ σ1 (Look (Word.Backed page)) b → b ≡ 0 → ExaminesPage page epoch σ σ1 Bare
 bare_page page epoch b makes zero = examined page epoch Bare (made (Look (Word.Backed page)) b ∷ [])
     (call_step (λ v w. HasNothing w) (call_none {R = λ v w. MayExamine page epoch w} (λ v met. met)) makes (λ v met is. tt) (λ v met is agrees. rests (at_idle (made (Look (Word.Backed page)) b ∷ []) v (refl, tt) met.at) (ended_by page (b == 0) (examines v page) (eq-eqb b 0 zero))))
@@ -395,6 +430,7 @@ module _ {σ σ1 : Standing} (page epoch b : ℕ) (some : b ≢ 0) (first : Make
   backed = call_step (λ v w. IsSeen page epoch w) (call_none {R = λ v w. MayExamine page epoch w} (λ v met. met)) first (λ v met is. tt)
       (λ v met is agrees. (still page epoch (made (Look (Word.Backed page)) b ∷ []) v (refl, tt) met, inl (same_page page, omega (arith, agrees.small, some))))
 
+  -- A page with a word that isn't all ones is in use.
   pub used_page : {σ2 : Standing} (used : Used) → ReadsUntilUsed page σ1 σ2 (Some used) → ExaminesPage page epoch σ σ2 (InUse used.word used.value)
   used_page {σ2} used l =
       let c : Calls σ1 σ2 (IsSeen page epoch) (λ v w. HasNothing w) (looks_until page (Some used))
@@ -409,33 +445,40 @@ module _ {σ σ1 : Standing} (page epoch b : ℕ) (some : b ≢ 0) (first : Make
         = call_by l.adds (λ v met. tt) (λ v is agreed. (still page epoch (looks_until page None) v (looks_idle page None) is.0, once_later _ (looks_until page None) v is.1)) in
         call_then (λ v w. IsSeen page epoch w) backed c (λ v met is. is) (λ v met is r. r)
 
+    -- A page whose words are all ones has its deed read next.
     pub can_read : CanCall σ (MayExamine page epoch) → CanCall σ2 (λ v. ReadBacked v page)
     can_read can = next_call seen can (λ v met is. is.1)
 
     module _ {σ3 : Standing} (d : Directory) (r : ReadsDirectory page σ2 σ3 d) where
-      known : Calls σ σ3 (MayExamine page epoch) (λ v w. MayExamine page epoch w × KnowsDeed page d w) (made (Look (Word.Deed page)) (deed_word_of d) ∷ first_looks page b None)
+      known : Calls σ σ3 (MayExamine page epoch) (λ v w. MayExamine page epoch w
+            × KnowsDeed page d w) (made (Look (Word.Deed page)) (deed_word_of d) ∷ first_looks page b None)
       known =
           let look = made (Look (Word.Deed page)) (deed_word_of d) ∷ [] in
           let c : Calls σ2 σ3 (IsSeen page epoch) (λ v w. MayExamine page epoch w × KnowsDeed page d w) look
           = call_by r.adds (λ v met. tt) (λ v is agreed. (still page epoch look v (refl, tt) is.0, ap (λ t. if t then deed_word_of d else known_deed v page) (same_page page))) in
           call_then (λ v w. MayExamine page epoch w × KnowsDeed page d w) seen c (λ v met is. is) (λ v met is r. r)
 
+      -- A page whose directory was read may be claimed.
       pub can_claim : CanCall σ (MayExamine page epoch) → CanCall σ3 (KnowsDeed page d)
       can_claim can = next_call known can (λ v met is. is.1)
 
       module _ {σ4 : Standing} (got : Bool) (cl : Claims page d σ3 σ4 got) where
+        -- The steps of an examination up to the claim.
         pub asking : List Made
         asking = made (TakeRight page d) cl.answer ∷ made (Look (Word.Deed page)) (deed_word_of d) ∷ first_looks page b None
 
+        -- After the claim its actor has the page's right exactly where it was got, and knows its deed.
         pub asked : Calls σ σ4 (MayExamine page epoch) (λ v w. IsAt page none got w × (known_epoch w ≡ Some epoch) × KnowsDeed page d w) asking
         unfolding asking
         asked = call_then (λ v w. IsAt page none got w × (known_epoch w ≡ Some epoch) × KnowsDeed page d w) known (call_knows page d cl.calls (λ v met. met)) (λ v met is. is.1)
             (λ v met is r. (at_claim page d cl.answer got (made (Look (Word.Deed page)) (deed_word_of d) ∷ (first_looks page b None ++ v)) r.0 is.0.at, is.0.epoch_is, r.1))
 
+        -- The looks and the claim are what is asked of a page.
         pub asks : AsksSteps page d got asking
         unfolding asking
         asks = record { backed = b; some = some; answer = cl.answer; got_is = cl.got_is; steps_are = refl }
 
+      -- A page whose claim failed, and which was hinted again, is not offered.
       pub page_not_offered : {σ4 σ5 : Standing} (cl : Claims page d σ3 σ4 false) (h : ℕ) → Makes σ4 σ5 (Hint page) h → ExaminesPage page epoch σ σ5 NotOffered
       page_not_offered cl h makes = examined page epoch NotOffered (made (Hint page) h ∷ asking false cl)
           (call_step (λ v w. HasNothing w) (asked false cl) makes (λ v met is. tt) (λ v met is agrees. rests (at_idle (made (Hint page) h ∷ []) (asking false cl ++ v) (refl, tt) is.0) (ends page (examines (asking false cl ++ v) page))))
@@ -445,9 +488,11 @@ module _ {σ σ1 : Standing} (page epoch b : ℕ) (some : b ≢ 0) (first : Make
         may_take : {v : View} → IsAt page none true v × (known_epoch v ≡ Some epoch) × KnowsDeed page d v → MayTake page d epoch v
         may_take is = record { at = is.0; epoch_is = is.1; deed = is.2 }
 
+        -- A page that was claimed may be taken.
         pub can_take : CanCall σ (MayExamine page epoch) → CanCall σ4 (MayTake page d epoch)
         can_take can = next_call (asked true cl) can (λ v met is. may_take is)
 
+        -- A page that was claimed and taken has the outcome of its judgement.
         pub page_taken : {σ5 : Standing} {outcome : Outcome} → TakesPage page d epoch σ4 σ5 outcome → ExaminesPage page epoch σ σ5 outcome
         page_taken {outcome = outcome} t = examined page epoch outcome (t.steps ++ asking true cl) (call_then (λ v w. HasNothing w) (asked true cl) t.calls (λ v met is. may_take is) (λ v met is r. r))
             (inr record { directory = d; asked = asking true cl; asks = asks true cl; after = t.steps; takes = subst (λ s. TakesSteps s.profile.age epoch page d outcome t.steps) (asked true cl).adds.seat_is t.order; steps_are = refl })
@@ -458,7 +503,9 @@ looks_hold page g used v = holds_same (LookFree ∷ []) refl g (looks_until page
 asks_none : (page : ℕ) (d : Directory) (steps : List Made) → AsksSteps page d true steps → (g : ℕ) → holds steps g ≡ false
 asks_none page d steps h g = ap (λ s. holds s g) h.steps_are ∙ looks_hold page g None (made (Look (Word.Backed page)) h.backed ∷ [])
 
-pub used_by_others : (age epoch page word value : ℕ) (steps : List Made) → ExamineSteps age epoch page (InUse word value) steps → (value ≢ all_ones) × Once (UsedByOthers page word value) steps
+-- A page in use had a word that isn't all ones, while none of its grains was held.
+pub used_by_others : (age epoch page word value : ℕ) (steps : List Made) → ExamineSteps age epoch page (InUse word value) steps
+    → (value ≢ all_ones) × Once (UsedByOthers page word value) steps
 used_by_others age epoch page word value steps (inl h) = let b = made (Look (Word.Backed page)) h.0 ∷ [] in (
   h.2.some,
   subst (Once (UsedByOthers page word value)) (sym h.3)
@@ -477,6 +524,7 @@ used_by_others age epoch page word value steps (inr h) =
           ))),
     )
 
+-- A page that was unbacked was held whole, with a stamp that is old enough.
 pub unbacked_when_old : (age epoch page : ℕ) (steps : List Made) → ExamineSteps age epoch page Unbacked steps → Once (UnbackedHere age epoch page) steps
 unbacked_when_old age epoch page steps (inl h) = absurd h
 unbacked_when_old age epoch page steps (inr h) =

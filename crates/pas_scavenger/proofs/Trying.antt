@@ -20,7 +20,9 @@ use Rattle.pas_scavenger.specs.Passes.{Tried, with_outcome, outcomes_in, pages_s
 use Rattle.pas_scavenger.specs.Passes.{all_tried, passing, Passes}
 use Rattle.pas_scavenger.proofs.Examinations.{at_unhint, rests, call_by}
 
-pub same_room : {σ σ' : Standing} {B : View → Type 0} {R : View → View → Type 0} {xs : List Made} (ks : Kinds) → apart ks showing ≡ true → (spare spare' : ℕ) → Calls σ σ' B R xs → (can : CanCall σ B) → Only ks xs → Spares σ spare → Spares σ' spare' → spare' ≡ spare
+-- A call of kinds that make no event leaves its room as it was.
+pub same_room : {σ σ' : Standing} {B : View → Type 0} {R : View → View → Type 0} {xs : List Made} (ks : Kinds) → apart ks showing ≡ true → (spare spare' : ℕ)
+    → Calls σ σ' B R xs → (can : CanCall σ B) → Only ks xs → Spares σ spare → Spares σ' spare' → spare' ≡ spare
 same_room {σ} {B = B} {xs = xs} ks w spare spare' c can only old new =
     let e = spare_falls {C = B} spare spare' 0 c.adds can old new (ap (λ (es : List Event). length es) (no_events ks w σ.seat.actor can.view xs only)) in omega (arith, e)
 
@@ -28,6 +30,7 @@ same_room {σ} {B = B} {xs = xs} ks w spare spare' c can only old new =
 with_append : (page : ℕ) (o : Option Outcome) (xs ys : List (ℕ × Outcome)) → with_outcome page o (xs ++ ys) ≡ with_outcome page o xs ++ ys
 with_append page o xs ys = grind arith
 
+-- The outcomes of two lists of tries are those of both, one after the other.
 pub outcomes_append : (xs ys : List Tried) → outcomes_in (xs ++ ys) ≡ outcomes_in xs ++ outcomes_in ys
 outcomes_append [] ys = refl
 outcomes_append (x ∷ xs) ys = ap (with_outcome x.page x.outcome) (outcomes_append xs ys) ∙ with_append x.page x.outcome (outcomes_in xs) (outcomes_in ys)
@@ -36,6 +39,7 @@ unbacks_append : (k epoch : ℕ) (xs ys : List (ℕ × Outcome)) → unbacks_in 
 unbacks_append k epoch [] ys = refl
 unbacks_append k epoch (x ∷ xs) ys = ap (λ es. unback_of k epoch x.0 x.1 ++ es) (unbacks_append k epoch xs ys) ∙ sym (append_assoc (unback_of k epoch x.0 x.1) (unbacks_in k epoch xs) (unbacks_in k epoch ys))
 
+-- A page's outcome makes at most one unback.
 pub one_unback : (k epoch page : ℕ) (o : Outcome) → length (unback_of k epoch page o) ≤ 1
 one_unback k epoch page other = grind arith
 
@@ -43,7 +47,8 @@ few_unbacks : (k epoch page : ℕ) (o : Option Outcome) → length (unbacks_in k
 few_unbacks k epoch page o = grind (arith, length-append, one_unback)
 
 -- ---- a look that leaves the actor ready
-pub looked_first : {σ σ1 : Standing} (epoch block a : ℕ) (before : List (ℕ × Outcome)) → Makes σ σ1 (Look (Word.Empty block)) a → Tries epoch [] σ σ1 before before (made (Look (Word.Empty block)) a ∷ [])
+pub looked_first : {σ σ1 : Standing} (epoch block a : ℕ) (before : List (ℕ × Outcome)) → Makes σ σ1 (Look (Word.Empty block)) a
+    → Tries epoch [] σ σ1 before before (made (Look (Word.Empty block)) a ∷ [])
 looked_first {σ} epoch block a before makes = record {
   calls = call_step (λ v w. IsReady epoch w) (call_none {R = λ v w. IsReady epoch w} (λ v met. met)) makes (λ v met is. tt)
       (λ v met is agrees. record { nothing = nothing_still (does_idly σ.seat.profile (LookEmpty ∷ []) refl (made (Look (Word.Empty block)) a ∷ []) v (refl, tt) (agrees, tt)) met.nothing; epoch_is = met.epoch_is });
@@ -53,7 +58,8 @@ looked_first {σ} epoch block a before makes = record {
 }
 
 -- ---- tries after tries
-pub tries_then : {σ σ1 σ2 : Standing} {epoch : ℕ} {earlier later : List Tried} {before middle after : List (ℕ × Outcome)} {xs ys : List Made} → Tries epoch earlier σ σ1 before middle xs → Tries epoch later σ1 σ2 middle after ys → Tries epoch (later ++ earlier) σ σ2 before after (ys ++ xs)
+pub tries_then : {σ σ1 σ2 : Standing} {epoch : ℕ} {earlier later : List Tried} {before middle after : List (ℕ × Outcome)} {xs ys : List Made}
+    → Tries epoch earlier σ σ1 before middle xs → Tries epoch later σ1 σ2 middle after ys → Tries epoch (later ++ earlier) σ σ2 before after (ys ++ xs)
 tries_then {σ} {epoch = epoch} {earlier} {later} {before} {middle} {after} {xs} {ys} a b = let k = σ.seat.actor in record {
   calls = call_then (λ v w. IsReady epoch w) a.calls b.calls (λ v met is. is) (λ v met is r. r);
   pairs = b.pairs ∙ ap (λ r. outcomes_in later ++ r) a.pairs ∙ sym (append_assoc (outcomes_in later) (outcomes_in earlier) (reverse before)) ∙ ap (λ r. r ++ reverse before) (sym (outcomes_append later earlier));
@@ -64,17 +70,23 @@ tries_then {σ} {epoch = epoch} {earlier} {later} {before} {middle} {after} {xs}
       cc (events_append k ys xs v, a.events v known, unbacks_append k epoch (outcomes_in later) (outcomes_in earlier), outcomes_append later earlier);
 }
 
-pub spare_by : {σ σ' : Standing} {epoch : ℕ} {tried : List Tried} {before after : List (ℕ × Outcome)} {steps : List Made} (spare spare' : ℕ) → Tries epoch tried σ σ' before after steps → CanCall σ (IsReady epoch) → Spares σ spare → Spares σ' spare' → spare' + length (unbacks_in σ.seat.actor epoch (outcomes_in tried)) ≡ spare
+-- Each unback of the tries takes up one event of the room.
+pub spare_by : {σ σ' : Standing} {epoch : ℕ} {tried : List Tried} {before after : List (ℕ × Outcome)} {steps : List Made} (spare spare' : ℕ)
+    → Tries epoch tried σ σ' before after steps → CanCall σ (IsReady epoch) → Spares σ spare → Spares σ' spare'
+    → spare' + length (unbacks_in σ.seat.actor epoch (outcomes_in tried)) ≡ spare
 spare_by {σ} {epoch = epoch} {tried} spare spare' t can old new = spare_falls {C = IsReady epoch} spare spare' (length (unbacks_in σ.seat.actor epoch (outcomes_in tried))) t.calls.adds can old new (ap (λ (es : List Event). length es) (t.events can.view can.met.epoch_is))
 
-pub spare_page : {σ σ' : Standing} {page epoch : ℕ} {before after : List (ℕ × Outcome)} (spare spare' : ℕ) → TriesPage page epoch σ σ' before after → CanCall σ (IsReady epoch) → Spares σ spare → Spares σ' spare' → spare ≤ spare' + 1
+-- A try of a page takes up at most one event of the room.
+pub spare_page : {σ σ' : Standing} {page epoch : ℕ} {before after : List (ℕ × Outcome)} (spare spare' : ℕ) → TriesPage page epoch σ σ' before after
+    → CanCall σ (IsReady epoch) → Spares σ spare → Spares σ' spare' → spare ≤ spare' + 1
 spare_page {σ} {page = page} {epoch} spare spare' t can old new = let e = spare_by spare spare' t.tries can old new in let few = few_unbacks σ.seat.actor epoch page t.outcome in omega (arith, e, few)
 
 one_more : (page : ℕ) (o : Option Outcome) → length (with_outcome page o []) ≤ 1
 one_more page o = grind arith
 
 -- at most one pair more
-pub one_pair : (page : ℕ) (o : Option Outcome) (before after : List (ℕ × Outcome)) → reverse after ≡ with_outcome page o [] ++ reverse before → length after ≤ length before + 1
+pub one_pair : (page : ℕ) (o : Option Outcome) (before after : List (ℕ × Outcome)) → reverse after ≡ with_outcome page o [] ++ reverse before
+    → length after ≤ length before + 1
 one_pair page o before after pairs = search (arith, length-reverse, length-append, one_more)
 
 -- ---- one page
@@ -86,9 +98,11 @@ module _ {σ σ1 : Standing} (page epoch a : ℕ) (makes : Makes σ σ1 (Unhint 
   unhinted = call_step (λ v w. MayExamine page epoch w) (call_none {R = λ v w. IsReady epoch w} (λ v met. met)) makes (λ v met is. tt)
       (λ v met is agrees. record { at = at_unhint page a v met.nothing; epoch_is = met.epoch_is })
 
+  -- A page whose hint was taken away may be examined.
   pub can_examine : CanCall σ (IsReady epoch) → CanCall σ1 (MayExamine page epoch)
   can_examine can = next_call unhinted can (λ v met may. may)
 
+  -- A page whose empty bit was 0 isn't tried, and has no outcome.
   pub tries_none : (before : List (ℕ × Outcome)) → has_bit a (page % 64) ≡ false → TriesPage page epoch σ σ1 before before
   tries_none before none = record {
     outcome = None;
@@ -104,7 +118,9 @@ module _ {σ σ1 : Standing} (page epoch a : ℕ) (makes : Makes σ σ1 (Unhint 
     few = omega arith;
   }
 
-  pub tries_some : {σ2 : Standing} {outcome : Outcome} (before after : List (ℕ × Outcome)) → has_bit a (page % 64) ≡ true → ExaminesPage page epoch σ1 σ2 outcome → after ≡ before ++ pair page outcome ∷ [] → TriesPage page epoch σ σ2 before after
+  -- A page whose empty bit was set is examined, and its outcome is the last one found.
+  pub tries_some : {σ2 : Standing} {outcome : Outcome} (before after : List (ℕ × Outcome)) → has_bit a (page % 64) ≡ true
+      → ExaminesPage page epoch σ1 σ2 outcome → after ≡ before ++ pair page outcome ∷ [] → TriesPage page epoch σ σ2 before after
   tries_some {σ2} {outcome} before after set x added =
       let unhint = made (Unhint page) a ∷ [] in
       let c : Calls σ1 σ2 (MayExamine page epoch) (λ v w. IsReady epoch w) x.steps
@@ -137,7 +153,9 @@ pub hinted_page : (f : Profile) (block value next page : ℕ) → AgreesEmpty f 
 hinted_page f block value next page agrees is = let here = is.here in let whole : 64 * block + page % 64 ≡ page = omega (arith, here) in
     subst (IsPage f) whole (agrees.page (page % 64) (omega arith) is.set)
 
-pub next_page : (number value next page : ℕ) → 64 * number ≤ next → IsLowestPage value number next page → pages_set number value (page + 1 - 64 * number) ≡ page ∷ pages_set number value (next - 64 * number)
+-- The pages set in a word up to the lowest found are that page and those before it.
+pub next_page : (number value next page : ℕ) → 64 * number ≤ next → IsLowestPage value number next page
+    → pages_set number value (page + 1 - 64 * number) ≡ page ∷ pages_set number value (next - 64 * number)
 next_page number value next page from is =
     let above = is.above in let here = is.here in
     let at : page + 1 - 64 * number ≡ suc (page % 64) = omega (arith, here) in
@@ -149,7 +167,9 @@ next_page number value next page from is =
     let p : (64 * number + b) % 64 ≡ b = omega (arith, high) in
     ap (has_bit value) (sym p) ∙ is.lowest (64 * number + b) (omega (arith, low, from)) (omega (arith, high)) (omega (arith, high, whole))))
 
-pub last_page : (number value next : ℕ) → 64 * number ≤ next → next ≤ 64 * number + 64 → HasNoPage value number next → pages_set number value 64 ≡ pages_set number value (next - 64 * number)
+-- Where no page is left in a word, all those set in it were tried.
+pub last_page : (number value next : ℕ) → 64 * number ≤ next → next ≤ 64 * number + 64 → HasNoPage value number next
+    → pages_set number value 64 ≡ pages_set number value (next - 64 * number)
 last_page number value next from to none = skip number value (next - 64 * number) 64 (omega (arith, to)) (λ b low high.
     let p : (64 * number + b) % 64 ≡ b = omega (arith, high) in
     ap (has_bit value) (sym p) ∙ none (64 * number + b) (omega (arith, low, from)) (omega (arith, high)))
@@ -166,14 +186,19 @@ module _ {σ σ1 : Standing} (epoch : ℕ) (makes : Makes σ σ1 (Look Word.Epoc
   read_epoch = call_step (λ v w. IsReady epoch w) (call_none {R = λ v w. HasNothing w} (λ v met. met)) makes (λ v met is. tt)
       (λ v met is agrees. record { nothing = nothing_still (does_idly σ.seat.profile (LookEpoch ∷ []) refl look v (refl, tt) (agrees, tt)) met; epoch_is = refl })
 
+  -- After the look at the epoch the tries may begin.
   pub is_ready : CanCall σ HasNothing → CanCall σ1 (IsReady epoch)
   is_ready can = next_call read_epoch can (λ v met is. is)
 
+  -- The look at the epoch leaves the room as it was.
   pub first_room : (spare spare' : ℕ) → CanCall σ HasNothing → Spares σ spare → Spares σ1 spare' → spare' ≡ spare
   first_room spare spare' can old new = let e = spare_falls {C = HasNothing} spare spare' 0 read_epoch.adds can old new refl in omega (arith, e)
 
-  pub passed : {σ2 : Standing} (words : List WordRead) (read : List Made) (found : List (ℕ × Outcome)) → map (λ w. w.number) words ≡ numbers_below (vector_words σ1.seat.profile.pages) → InTurn (WordSteps σ1.seat.profile.age epoch) words read
-      → Tries epoch (all_tried words) σ1 σ2 [] found read → length read ≤ vector_words σ1.seat.profile.pages + 38 * length (all_tried words) → Passes σ σ2 epoch found
+  -- The look at the epoch, and the tries of the pages of each word, are the pass.
+  pub passed : {σ2 : Standing} (words : List WordRead) (read : List Made) (found : List (ℕ × Outcome))
+      → map (λ w. w.number) words ≡ numbers_below (vector_words σ1.seat.profile.pages) → InTurn (WordSteps σ1.seat.profile.age epoch) words read
+      → Tries epoch (all_tried words) σ1 σ2 [] found read → length read ≤ vector_words σ1.seat.profile.pages + 38 * length (all_tried words)
+      → Passes σ σ2 epoch found
   passed words read found numbers order tries few =
       let k = σ.seat.actor in let same = makes.seat_is in
       let found_are : reverse found ≡ outcomes_in (all_tried words) = tries.pairs ∙ append-nil (outcomes_in (all_tried words)) in
@@ -193,5 +218,7 @@ module _ {σ σ1 : Standing} (epoch : ℕ) (makes : Makes σ σ1 (Look Word.Epoc
         calls = call_then (λ v w. HasNothing w) read_epoch tries.calls (λ v met is. is) (λ v met is r. r.nothing);
       }
 
-pub spare_pass : {σ σ' : Standing} {epoch : ℕ} {found : List (ℕ × Outcome)} (spare spare' : ℕ) → Passes σ σ' epoch found → CanCall σ HasNothing → Spares σ spare → Spares σ' spare' → spare' + length (unbacks_in σ.seat.actor epoch (reverse found)) ≡ spare
+-- Each unback of a pass takes up one event of the room.
+pub spare_pass : {σ σ' : Standing} {epoch : ℕ} {found : List (ℕ × Outcome)} (spare spare' : ℕ) → Passes σ σ' epoch found → CanCall σ HasNothing → Spares σ spare
+    → Spares σ' spare' → spare' + length (unbacks_in σ.seat.actor epoch (reverse found)) ≡ spare
 spare_pass {σ} {epoch = epoch} {found} spare spare' p can old new = spare_falls {C = HasNothing} spare spare' (length (unbacks_in σ.seat.actor epoch (reverse found))) p.calls.adds can old new (ap (λ (es : List Event). length es) (p.order.events can.view))

@@ -45,16 +45,19 @@ missing d p [] h lacks = absurd h
 missing d p (m ∷ more) (inl z) lacks = inl (inl z, lacks.0)
 missing d p (m ∷ more) (inr h) lacks = inr (lacks.0, missing d p more h lacks.1)
 
-held_here : (d : Directory) (p : ℕ) (ys xs : List Made) → AreVain ys → has_right xs p ≡ false → Once (ZeroHere d p) xs → Always (LacksAfter p) xs → Once (ParkedHere false p) ys → Once (HeldHere d p) (ys ++ xs)
+held_here : (d : Directory) (p : ℕ) (ys xs : List Made) → AreVain ys → has_right xs p ≡ false → Once (ZeroHere d p) xs → Always (LacksAfter p) xs
+    → Once (ParkedHere false p) ys → Once (HeldHere d p) (ys ++ xs)
 held_here d p [] xs vain none zero_read lacks h = absurd h
 held_here d p (m ∷ more) xs vain none zero_read lacks (inl k) =
     inl ((k.0, k.1, right_own p more xs none ∙ k.2), missing d p (more ++ xs) (once_later (ZeroHere d p) more xs zero_read) (vain_lacks p more xs vain.1 none lacks))
 held_here d p (m ∷ more) xs vain none zero_read lacks (inr h) = inr (held_here d p more xs vain.1 none zero_read lacks h)
 
-parked_later : (d : Directory) (p : ℕ) (ys xs : List Made) → has_right xs p ≡ false → Once (ZeroHere d p) xs → Once (ParkedHere true p) ys → Once (ParkedLater d p) (ys ++ xs)
+parked_later : (d : Directory) (p : ℕ) (ys xs : List Made) → has_right xs p ≡ false → Once (ZeroHere d p) xs → Once (ParkedHere true p) ys
+    → Once (ParkedLater d p) (ys ++ xs)
 parked_later d p ys xs none zero_read = once_earlier (ParkedHere true p) (ParkedLater d p) ys xs (λ m before k. ((k.0, k.1, right_own p before xs none ∙ k.2), inl (once_later (ZeroHere d p) before xs zero_read)))
 
-module _ {F : Type 0} (rule : Rule F) (f : Profile) (d : Directory) (marks : List ℕ) (ys xs : List Made) (scans : OnlyScans ys) (s : Searching rule.no_fit f d (f.pages + 1) marks xs) where
+module _ {F : Type 0} (rule : Rule F) (f : Profile) (d : Directory) (marks : List ℕ) (ys xs : List Made) (scans : OnlyScans ys)
+    (s : Searching rule.no_fit f d (f.pages + 1) marks xs) where
   vain : AreVain ys
   vain = reads_vain ys (looks_read ys (scans_look ys scans))
 
@@ -100,7 +103,8 @@ deed_read f v p (m ∷ xs) agreed (inr h) =
     let some = deed_read f v p xs agreed.1 h in λ e. some (sym (deed_stays f (m ∷ []) (xs ++ v) p (agreed.0, tt) some) ∙ e)
 
 -- ---- a page that was searched in no_fit_there was no fit at entry
-no_fit_there : {F : Type 0} (rule : Rule F) (f : Profile) (k : ℕ) (l : Whole) (d : Directory) (end : ℕ) (xs : List Made) → IsAntitone rule.no_fit → Legal f (triples k xs ++ l) → LendsNone xs → Searched rule.no_fit d end xs → (page : ℕ) → page < end → IsOfferedFit rule.no_fit f d l page → ⊥
+no_fit_there : {F : Type 0} (rule : Rule F) (f : Profile) (k : ℕ) (l : Whole) (d : Directory) (end : ℕ) (xs : List Made) → IsAntitone rule.no_fit
+    → Legal f (triples k xs ++ l) → LendsNone xs → Searched rule.no_fit d end xs → (page : ℕ) → page < end → IsOfferedFit rule.no_fit f d l page → ⊥
 no_fit_there rule f k l d end xs fewer legal searches searched page high fit =
     let first : Legal f l = legal_before f k xs l legal in
     elim (searched page fit.of_region.0 high) [
@@ -109,7 +113,8 @@ no_fit_there rule f k l d end xs fewer legal searches searched page high fit =
     ]
 
 -- ---- by a deed
-by_deed : {F : Type 0} (rule : Rule F) (f : Profile) (k : ℕ) (l : Whole) (d : Directory) (page : ℕ) (xs : List Made) → IsAntitone rule.no_fit → IsPage f page → Legal f (triples k xs ++ l) → LendsNone xs → Once (DeedMadeHere rule.no_fit f d page) xs → IsLowestBare rule.no_fit f d l page
+by_deed : {F : Type 0} (rule : Rule F) (f : Profile) (k : ℕ) (l : Whole) (d : Directory) (page : ℕ) (xs : List Made) → IsAntitone rule.no_fit → IsPage f page
+    → Legal f (triples k xs ++ l) → LendsNone xs → Once (DeedMadeHere rule.no_fit f d page) xs → IsLowestBare rule.no_fit f d l page
 by_deed rule f k l d page [] fewer is legal searches h = absurd h
 by_deed rule f k l d page (m ∷ xs) fewer is legal searches (inr h) = by_deed rule f k l d page xs fewer is legal.1 searches.1 h
 by_deed rule f k l d page (m ∷ xs) fewer is legal searches (inl h) = record {
@@ -118,7 +123,8 @@ by_deed rule f k l d page (m ∷ xs) fewer is legal searches (inl h) = record {
   lowest = λ other bare. not_below page other (λ lt. deed_exit f k l other xs legal.1 (h.lower other bare.of_region.0 lt) (deed_quiet f k l other xs legal.1 h.quiet ∙ bare.no_deed));
 }
 
-module _ {F : Type 0} (rule : Rule F) (f : Profile) (k : ℕ) (l : Whole) (d : Directory) (xs : List Made) (valid : IsValid f) (of : IsDirectoryOf f d) (fewer : IsAntitone rule.no_fit)
+module _ {F : Type 0} (rule : Rule F) (f : Profile) (k : ℕ) (l : Whole) (d : Directory) (xs : List Made) (valid : IsValid f) (of : IsDirectoryOf f d)
+    (fewer : IsAntitone rule.no_fit)
     (legal : Legal f (triples k xs ++ l)) (searches : LendsNone xs) (may : MaySearch d (part k l)) (agreed : Agreed f (part k l) xs) where
   abbrev w : Whole
   w = triples k xs ++ l
@@ -127,7 +133,8 @@ module _ {F : Type 0} (rule : Rule F) (f : Profile) (k : ℕ) (l : Whole) (d : D
   first = legal_before f k xs l legal
 
   -- a page that was chosen, and of which this was read with the right
-  pub could_serve : (p : ℕ) (kept : ℕ → Bool) → IsPage f p → FromOffered rule.no_fit d p xs ⊎ ByDeed rule.no_fit f d p xs → ShowsFit rule.no_fit kept f p (MaySearch d) xs xs → IsLowestOffered rule.no_fit f d l p ⊎ IsLowestBare rule.no_fit f d l p
+  pub could_serve : (p : ℕ) (kept : ℕ → Bool) → IsPage f p → FromOffered rule.no_fit d p xs ⊎ ByDeed rule.no_fit f d p xs
+      → ShowsFit rule.no_fit kept f p (MaySearch d) xs xs → IsLowestOffered rule.no_fit f d l p ⊎ IsLowestBare rule.no_fit f d l p
   could_serve p kept here choice shows = elim choice [
     | inl from ↦
         let read = one_told f k l d p xs legal from.offered in
@@ -205,7 +212,9 @@ module _ {F : Type 0} (rule : Rule F) (f : Profile) (k : ℕ) (l : Whole) (d : D
   reason NoSpace is = λ page hands. accounted_out NoSpace is page (is.answer (part k l) agreed page hands.of_region.0 (omega (arith, hands.of_region.1))) hands
   reason (Held p) is = (held_in_hands (Held p) is p is.answer, λ other lt hands. accounted_out (Held p) is other (is.answer.lower (part k l) agreed other hands.of_region.0 lt) hands)
 
-  pub all_told : (answer : Result (Served F) NoRoom) → MatchResult answer (IsServed rule f d xs) (IsRefused rule.no_fit f d xs) → IsTold (λ (s : Served F). s.page) rule.no_fit f d l w answer
+  -- The answer of a search, served or refused, is told of the states at entry and exit.
+  pub all_told : (answer : Result (Served F) NoRoom) → MatchResult answer (IsServed rule f d xs) (IsRefused rule.no_fit f d xs)
+      → IsTold (λ (s : Served F). s.page) rule.no_fit f d l w answer
   all_told (Ok served) h = could_serve served.page (rule.kept served.found) h.page h.choice h.shows
   all_told (Err room) h = (entry_none room h, exit_none room h, reason room h)
 
@@ -218,7 +227,9 @@ pub record Ends {F : Type 0} (rule : Rule F) (d : Directory) (desk desk' : Stand
   pub few : length steps ≤ search_steps rule.steps desk.seat.profile.pages
   pub outcome : MatchResult answer (IsServed rule desk.seat.profile d steps) (IsRefused rule.no_fit desk.seat.profile d steps)
 
-pub ends_offered : {F : Type 0} {rule : Rule F} {σ σ1 : Standing} {d' : Directory} (d : Directory) → d' ≡ d → {marks : List ℕ} {served : Served F} → SearchesOffered rule d' σ σ1 marks (Some served) → Ends rule d σ σ1 (Ok served)
+-- A search of offered pages that found one ends with it.
+pub ends_offered : {F : Type 0} {rule : Rule F} {σ σ1 : Standing} {d' : Directory} (d : Directory) → d' ≡ d → {marks : List ℕ} {served : Served F}
+    → SearchesOffered rule d' σ σ1 marks (Some served) → Ends rule d σ σ1 (Ok served)
 ends_offered {F} {rule} {σ} {σ1} d same {marks} {served} found = let offered : SearchesOffered rule d σ σ1 marks (Some served) = subst (λ x. SearchesOffered rule x σ σ1 marks (Some served)) same found in
     let o = offered.outcome in
     record { steps = offered.steps; adds = offered.adds; searches = offered.searches; few = omega (arith, offered.few); outcome = record { page = o.page; keeps = o.keeps; choice = inl o.choice; shows = o.shows; serves = o.serves; marks = o.marks; few = o.few; events = o.events } }
@@ -233,7 +244,8 @@ got_known f p [] v agreed got none = got
 got_known f p (m ∷ xs) v agreed (inl gets) none = got_here p m.step m.answer (known_deed (xs ++ v) p) gets none
 got_known f p (m ∷ xs) v agreed (inr got) none = let some = got_known f p xs v agreed.1 got in some (sym (deed_stays f (m ∷ []) (xs ++ v) p (agreed.0, tt) some) ∙ none)
 
-module _ {F : Type 0} (rule : Rule F) (f : Profile) (d : Directory) (marks : List ℕ) (os steps : List Made) (s : Searching rule.no_fit f d (f.pages + 1) marks os) (served : Served F) (bare : ServesBare rule f d steps served) where
+module _ {F : Type 0} (rule : Rule F) (f : Profile) (d : Directory) (marks : List ℕ) (os steps : List Made)
+    (s : Searching rule.no_fit f d (f.pages + 1) marks os) (served : Served F) (bare : ServesBare rule f d steps served) where
   abbrev m : Made
   m = made (Deed served.page d) 0
 
@@ -280,7 +292,8 @@ may_can can = record { view = can.view; whole = can.whole; stood = can.stood; me
 profile_kept : {σ σ' : Standing} {C : View → Type 0} {xs : List Made} → Adds σ σ' C xs → σ'.seat.profile ≡ σ.seat.profile
 profile_kept adds = ap (λ (s : Seat). s.profile) adds.seat_is
 
-module _ {F : Type 0} {rule : Rule F} {σ σ1 : Standing} {d' : Directory} (d : Directory) (same : d' ≡ d) {marks : List ℕ} (found : SearchesOffered rule d' σ σ1 marks None) where
+module _ {F : Type 0} {rule : Rule F} {σ σ1 : Standing} {d' : Directory} (d : Directory) (same : d' ≡ d) {marks : List ℕ}
+    (found : SearchesOffered rule d' σ σ1 marks None) where
   offered : SearchesOffered rule d σ σ1 marks None
   offered = subst (λ x. SearchesOffered rule x σ σ1 marks None) same found
 
@@ -296,6 +309,7 @@ module _ {F : Type 0} {rule : Rule F} {σ σ1 : Standing} {d' : Directory} (d : 
   pages_kept : σ1.seat.profile.pages ≡ f.pages
   pages_kept = ap (λ (x : Profile). x.pages) (profile_kept offered.adds)
 
+  -- A search of pages without a deed that found one ends with it.
   pub ends_bare : {σ2 : Standing} {served : Served F} → SearchesBare rule d σ1 σ2 (Some served) → Ends rule d σ σ2 (Ok served)
   ends_bare {served = served} bare = let found : ServesBare rule f d bare.steps served = subst (λ x. ServesBare rule x d bare.steps served) (profile_kept offered.adds) bare.outcome in record {
     steps = bare.steps ++ offered.steps;
@@ -309,6 +323,7 @@ module _ {F : Type 0} {rule : Rule F} {σ σ1 : Standing} {d' : Directory} (d : 
   last_within : (h : Profile) (ys : List Made) (room : NoRoom) → IsVerdict h marks d ys room → last_block h room ≤ h.pages / 64
   last_within h ys room all = grind arith
 
+  -- A search that found neither, and was judged, ends refused for that reason.
   pub ends_refused : {σ2 σ3 : Standing} (room : NoRoom) → SearchesBare rule d σ1 σ2 None → Judges marks d σ2 σ3 room → Ends rule d σ σ3 (Err room)
   ends_refused room bare judged =
       let verdict : IsVerdict f marks d judged.steps room = subst (λ x. IsVerdict x marks d judged.steps room) (profile_kept (bare_adds bare.adds)) judged.verdict in
@@ -326,12 +341,14 @@ module _ {F : Type 0} {rule : Rule F} {σ σ1 : Standing} {d' : Directory} (d : 
         outcome = refused rule f d marks judged.steps xs judged.scans s room verdict deeds;
       }
 
+  -- Once no page without a deed was found, the verdict may be asked for.
   pub verdict_can : {σ2 : Standing} → SearchesBare rule d σ1 σ2 None → CanCall σ (MaySearch d) → CanCall σ2 AnyView
   verdict_can bare can = can_call {C = MaySearch d} (bare_adds bare.adds) can (λ v l stood met. tt)
 
   -- what the search of pages without a deed asks: what was known of deeds is known still, and no event was made
   pub bare_can : {spare spare' : ℕ} → CanCall σ (SearchRoom σ.seat.profile d rule.events spare)
-      → ((v : View) (l : Whole) → σ.stands v l → spare + length (events_of σ.seat.actor v) ≡ σ.seat.room) → ((v : View) (l : Whole) → σ1.stands v l → spare' + length (events_of σ1.seat.actor v) ≡ σ1.seat.room)
+      → ((v : View) (l : Whole) → σ.stands v l → spare + length (events_of σ.seat.actor v) ≡ σ.seat.room)
+      → ((v : View) (l : Whole) → σ1.stands v l → spare' + length (events_of σ1.seat.actor v) ≡ σ1.seat.room)
       → CanCall σ1 (BareRoom σ1.seat.profile rule.events spare')
   bare_can {spare} {spare'} can law law' =
       let keep = λ (n : ℕ) (fits : n ≤ spare). room_kept {C = MaySearch d} n offered.adds (may_can can) offered.outcome.quiet law law' fits in
@@ -341,6 +358,8 @@ module _ {F : Type 0} {rule : Rule F} {σ σ1 : Standing} {d' : Directory} (d : 
       })
 
 -- ---- with what it says on a desk that tells the whole state
-pub searches_by : {F : Type 0} {rule : Rule F} {σ σ' : Standing} {answer : Result (Served F) NoRoom} (tells : Bool) (d : Directory) → IsValid σ.seat.profile → IsDirectoryOf σ.seat.profile d → IsAntitone rule.no_fit
-    → ((v : View) (l : Whole) → tells ≡ true → σ'.stands v l → Legal σ'.seat.profile l) → ((v : View) (l : Whole) → tells ≡ true → σ.stands v l → part σ.seat.actor l ≡ v) → Ends rule d σ σ' answer → Searches rule tells d σ σ' answer
+pub searches_by : {F : Type 0} {rule : Rule F} {σ σ' : Standing} {answer : Result (Served F) NoRoom} (tells : Bool) (d : Directory) → IsValid σ.seat.profile
+    → IsDirectoryOf σ.seat.profile d → IsAntitone rule.no_fit
+    → ((v : View) (l : Whole) → tells ≡ true → σ'.stands v l → Legal σ'.seat.profile l)
+    → ((v : View) (l : Whole) → tells ≡ true → σ.stands v l → part σ.seat.actor l ≡ v) → Ends rule d σ σ' answer → Searches rule tells d σ σ' answer
 searches_by {F} {rule} {σ} {σ'} {answer} tells d valid of fewer told parts ends = search (arith, all_told, legal_after, lends_none)

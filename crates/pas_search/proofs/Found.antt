@@ -17,7 +17,8 @@ pub record KeepsNew {Found : Type 0} (rule : Rule Found) (d : Directory) (served
   pub apart : (g : ℕ) → ((served.page == g / 256) && rule.kept served.found (g % 256)) ≡ true → holds v g ≡ false
 
 -- a page that was chosen, however it was
-pub finds_call : {Found : Type 0} (rule : Rule Found) (d : Directory) {Choice : List Made → Type 0} {σ σ1 : Standing} (served : Served Found) {steps : List Made}
+pub finds_call : {Found : Type 0} (rule : Rule Found) (d : Directory) {Choice : List Made → Type 0} {σ σ1 : Standing} (served : Served Found)
+    {steps : List Made}
     → Adds σ σ1 (MaySearch d) steps → Finds rule σ.seat.profile d Choice steps served → Calls σ σ1 (MaySearch d) (KeepsNew rule d served) steps
 finds_call rule d served adds finds = record {
   adds = adds;
@@ -31,7 +32,10 @@ finds_call rule d served adds finds = record {
   };
 }
 
-pub found_call : {Found : Type 0} (rule : Rule Found) (d : Directory) {tells : Bool} {σ σ1 : Standing} (served : Served Found) (searches : Searches rule tells d σ σ1 (Ok served)) → Calls σ σ1 (MaySearch d) (KeepsNew rule d served) searches.steps
+-- A page that a search found is a new one of its actor.
+pub found_call : {Found : Type 0} (rule : Rule Found) (d : Directory) {tells : Bool} {σ σ1 : Standing} (served : Served Found)
+      (searches : Searches rule tells d σ σ1 (Ok served))
+    → Calls σ σ1 (MaySearch d) (KeepsNew rule d served) searches.steps
 found_call rule d served searches = finds_call rule d served searches.adds searches.outcome
 
 -- ---- the page is left
@@ -42,5 +46,7 @@ with_right grains page right = record { grains = grains; rights = λ q. if page 
 lost_later : (t : Bool) → later (if t then Gained else Kept) (if t then Lost else Kept) ≡ (if t then Lost else Kept)
 lost_later t = grind arith
 
-pub left_after : {v w u : View} (grains : ℕ → Fate) (page : ℕ) → Does (with_right grains page Gained) v w → Does (on_page page Lost Kept) w u → Does (with_right grains page Lost) v u
+-- A page that was got with some grains, and left, is the actor's no longer.
+pub left_after : {v w u : View} (grains : ℕ → Fate) (page : ℕ) → Does (with_right grains page Gained) v w → Does (on_page page Lost Kept) w u
+    → Does (with_right grains page Lost) v u
 left_after {v} {w} {u} grains page a b = does_as (with_right grains page Lost) (does_then a b) (λ g. inl refl) (λ q. lost_later (page == q)) (λ q h. subst (λ t. ClearAfter t q v u) (kept_kept (page == q)) h)

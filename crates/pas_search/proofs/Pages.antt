@@ -24,11 +24,13 @@ use Rattle.pas_search.specs.Kinds.{serving, KeepsMarks, IsQuiet, AreQuiet}
 use Rattle.pas_search.specs.Serving.{Rule, MayServe, HoldsNone, GotBefore, right_of, Keeps, ReadsNoneHeld, ServesPage}
 use Rattle.pas_search.proofs.ForBackEnds.{unfit_left}
 
+-- Takes and puts of grains make no event.
 pub quiet_by : (steps : List Made) → Only taking_grains steps → AreQuiet steps
 quiet_by steps = always_map (λ m before. is_in taking_grains (kind_of m.step) ≡ true) (λ m before. IsQuiet m) steps (λ m before is k e. no_event k e m.step m.answer (in_apart taking_grains showing (place_of (kind_of m.step)) refl is))
 
 -- the right of a page that the actor has is kept
-right_kept : (page q : ℕ) (t : Bool) (v w : View) → (page == q) ≡ t → has_right v page ≡ true → has_right w q ≡ has_right v q → has_right w q ≡ now (if t then Gained else Kept) (has_right v q)
+right_kept : (page q : ℕ) (t : Bool) (v w : View) → (page == q) ≡ t → has_right v page ≡ true → has_right w q ≡ has_right v q
+    → has_right w q ≡ now (if t then Gained else Kept) (has_right v q)
 right_kept page q t v w e right same = grind (arith, eqb-true)
 
 -- the grain, a number of the region, is of the page and one of these of it
@@ -48,19 +50,23 @@ pub record Prepares (page : ℕ) (d : Directory) (r : Readings) (kept : ℕ → 
   pub due : Always GivesDuly steps
   pub marks : (b : ℕ) × (b < 256) × (kept b ≡ true) → Always (KeepsMarks page) steps
 
-module _ {Found : Type 0} (rule : Rule Found) (page : ℕ) (d : Directory) (r : Readings) (kept : ℕ → Bool) {σ σ1 : Standing} (p : Prepares page d r kept σ σ1) where
+module _ {Found : Type 0} (rule : Rule Found) (page : ℕ) (d : Directory) (r : Readings) (kept : ℕ → Bool) {σ σ1 : Standing} (p : Prepares page d r kept σ σ1)
+    where
   -- the grains are got, and the deed is known still
   prepared : Calls σ σ1 (MayServe page d) (λ v w. Does (taken (on_page page kept)) v w × KnowsDeed page d w) p.steps
   prepared = call_knows page d p.calls (λ v met. met.deed)
 
-  may_leave : (v : View) → MayServe page d v → Does (taken (on_page page kept)) v (p.steps ++ v) × KnowsDeed page d (p.steps ++ v) → MayLeave page d (p.steps ++ v)
+  may_leave : (v : View) → MayServe page d v → Does (taken (on_page page kept)) v (p.steps ++ v) × KnowsDeed page d (p.steps ++ v)
+      → MayLeave page d (p.steps ++ v)
   may_leave v met after = record { right = after.0.right page ∙ met.right; deed = after.1 }
 
+  -- A page that was prepared may be left.
   pub can_leave : CanCall σ (MayServe page d) → CanCall σ1 (MayLeave page d)
   can_leave can = next_call prepared can may_leave
 
   -- ---- nothing fits, and nothing is held
-  module _ (none : (b : ℕ) → b < 256 → kept b ≡ false) (unfit : rule.no_fit r) (empty : (before : List Made) → GotBefore page before → HoldsNone page (p.steps ++ before))
+  module _ (none : (b : ℕ) → b < 256 → kept b ≡ false) (unfit : rule.no_fit r)
+      (empty : (before : List Made) → GotBefore page before → HoldsNone page (p.steps ++ before))
       (not_free : (v : View) → MayServe page d v → Agreed σ.seat.profile v p.steps → ((g : ℕ) → g / 256 ≡ page → known_free v g ≡ true) → ⊥) (short : length p.steps + 11 ≤ rule.steps) {σ2 : Standing} (left : Leaves page d σ1 σ2) where
     none_on : (g : ℕ) → on_page page kept g ≡ false
     none_on g = and_right (page == g / 256) (kept (g % 256)) (none (g % 256) (omega arith))
@@ -72,6 +78,7 @@ module _ {Found : Type 0} (rule : Rule Found) (page : ℕ) (d : Directory) (r : 
     left_kinds : Only taking_grains (left.steps ++ p.steps)
     left_kinds = only_both taking_grains left.steps p.steps (only_within returning taking_grains left.steps refl (returns_are page left.steps left.returns)) p.kinds
 
+    -- A page of which nothing is kept, as nothing fits, was left.
     pub leaves_page : ServesPage rule page d σ σ2 None
     leaves_page = record {
       steps = left.steps ++ p.steps;
@@ -101,13 +108,16 @@ module _ {Found : Type 0} (rule : Rule Found) (page : ℕ) (d : Directory) (r : 
     first_held : (v w : View) → Does (taken (on_page page kept)) v w → holds w (page * 256 + some.0) ≡ true
     first_held v w does = search (arith, and_from, eq-eqb)
 
-    may_back : (v : View) → MayServe page d v → Does (taken (on_page page kept)) v (p.steps ++ v) × KnowsDeed page d (p.steps ++ v) → Allowed σ.seat.profile (p.steps ++ v) (Back page)
+    may_back : (v : View) → MayServe page d v → Does (taken (on_page page kept)) v (p.steps ++ v) × KnowsDeed page d (p.steps ++ v)
+        → Allowed σ.seat.profile (p.steps ++ v) (Back page)
     may_back v met after = ((page * 256 + some.0, omega (arith, some.1), first_held v (p.steps ++ v) after.0), λ z. deed_word_of-positive d (sym after.1 ∙ z))
 
+    -- A page of which something is kept may be backed.
     pub can_back : CanCall σ (MayServe page d) → IsPage σ.seat.profile page → CanMake σ1 (Back page)
     can_back can of = next_step prepared can of may_back
 
-    module _ (found : Found) (same : (b : ℕ) → b < 256 → kept b ≡ rule.kept found b) (keeps_right : rule.keeps_right found ≡ true) {σ2 : Standing} (a : ℕ) (back : Makes σ1 σ2 (Back page) a) where
+    module _ (found : Found) (same : (b : ℕ) → b < 256 → kept b ≡ rule.kept found b) (keeps_right : rule.keeps_right found ≡ true) {σ2 : Standing} (a : ℕ)
+        (back : Makes σ1 σ2 (Back page) a) where
       abbrev all : List Made
       all = made (Back page) a ∷ p.steps
 
@@ -120,10 +130,14 @@ module _ {Found : Type 0} (rule : Rule Found) (page : ℕ) (d : Directory) (r : 
             backed = search (arith, and_from, eq-eqb, any_from, first_held);
           })
 
-      pub once_read : (before : List Made) → GotBefore page before → (word : ℕ) → word < 4 → Once (ShowsHere page word r) ((made (Back page) a ∷ p.steps) ++ before)
+      -- Each free word of a page was once read as its readings show.
+      pub once_read : (before : List Made) → GotBefore page before → (word : ℕ) → word < 4
+          → Once (ShowsHere page word r) ((made (Back page) a ∷ p.steps) ++ before)
       once_read before got word lt = inr (since_once (ShowsHere page word r) (KeptHere page) (p.steps ++ before) (p.read before got word lt))
 
-      pub keeps_page : (rule.no_fit r → ⊥) → ((b : ℕ) → b < 256 → kept b ≡ true → r b ≡ true) → ((before : List Made) → GotBefore page before → rule.serves page ((made (Back page) a ∷ p.steps) ++ before) found)
+      -- A page of which something is kept was backed, and serves.
+      pub keeps_page : (rule.no_fit r → ⊥) → ((b : ℕ) → b < 256 → kept b ≡ true → r b ≡ true)
+          → ((before : List Made) → GotBefore page before → rule.serves page ((made (Back page) a ∷ p.steps) ++ before) found)
           → 1 ≤ rule.events → length p.steps + 1 ≤ rule.steps → ServesPage rule page d σ σ2 (Some found)
       keeps_page fits took serves one short = record {
         steps = all;

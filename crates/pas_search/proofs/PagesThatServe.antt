@@ -29,7 +29,7 @@ use Rattle.pas_rights.specs.{Puts.PutsHere, PutsBack.GivesDuly}
 use Rattle.pas_search.proofs.{Returns.duly_on, Returns.never_returned, ForBackEnds.events_quiet, ForBackEnds.room_after, ForBackEnds.room_kept}
 use Rattle.pas_steps.proofs.Kept.{right_on, holds_on_page, knows_still, scans_look, looks_read}
 use Rattle.pas_steps.proofs.Adding.{adds_call, can_call, agreed_first, agreed_later, adds_step}
-use Rattle.pas_core.proofs.OneActor.{no_deed_event}
+use Rattle.pas_core.proofs.OneActor.{no_event_fails_test}
 use Rattle.pas_steps.proofs.Evidence.{zero_before, deed_known, deed_before, unknown}
 
 -- ---- kinds
@@ -54,15 +54,17 @@ serves_events d p (m ∷ ys) xs only rest = (serve_event d p m.step m.answer onl
 
 -- ---- deeds
 quiet_deed : (s : Step) (a : ℕ) → IsQuiet (made s a) → makes_deed s a ≡ false
-quiet_deed (Deed q d) a h = no_deed_event (a == 0) (Event.Deed 0 q d) (h 0 0)
+quiet_deed (Deed q d) a h = no_event_fails_test (a == 0) (Event.Deed 0 q d) (h 0 0)
 quiet_deed s a h = refl
 
 no_deed : (s : Step) (a : ℕ) → is_in (Deeding ∷ []) (kind_of s) ≡ false → makes_deed s a ≡ false
 no_deed s a h = grind (arith, true≢false)
 
+-- The steps of a back end make no deed.
 pub deeds_serves : (ys xs : List Made) → Only serving ys → deeds_made (ys ++ xs) ≡ deeds_made xs
 deeds_serves = same_over deeds_made (Deeding ∷ []) serving (λ m before h. ap (λ t. if t then suc (deeds_made before) else deeds_made before) (no_deed m.step m.answer h)) refl
 
+-- Steps that make no event make no deed.
 pub no_deeds : (ys : List Made) → AreQuiet ys → deeds_made ys ≡ 0
 no_deeds [] h = refl
 no_deeds (m ∷ more) h = ap (λ t. if t then suc (deeds_made more) else deeds_made more) (quiet_deed m.step m.answer h.0) ∙ no_deeds more h.1
@@ -96,7 +98,8 @@ look_rights word a = record { grains = λ x. refl; rights = λ q. refl; opens = 
 abbrev pub gained : Bool → ℕ → ℕ → Fate
 gained got p q = if got && (p == q) then Gained else Kept
 
-gets_way : (here bit got : Bool) (w : Way) → way_fate w ≡ Gained → (here ≡ true → bit ≡ got) → way_fate (if here && bit then w else Way.Rests) ≡ (if got && here then Gained else Kept)
+gets_way : (here bit got : Bool) (w : Way) → way_fate w ≡ Gained → (here ≡ true → bit ≡ got)
+    → way_fate (if here && bit then w else Way.Rests) ≡ (if got && here then Gained else Kept)
 gets_way here bit got w h same = grind arith
 
 deed_rights : (p : ℕ) (d : Directory) (a : ℕ) (got : Bool) → (a == 0) ≡ got → Rights (gained got p) (made (Deed p d) a)
@@ -120,6 +123,7 @@ AreVain = Always (λ m before. IsVain m)
 read_vain : (s : Step) (a : ℕ) → IsRead s a → IsVain (made s a)
 read_vain s a e = grind (arith, look_rights, deed_rights, ne_eqb)
 
+-- Reads alone are steps that a search makes in vain.
 pub reads_vain : (steps : List Made) → OnlyReads steps → AreVain steps
 reads_vain steps = always_map (λ m before. IsRead m.step m.answer) (λ m before. IsVain m) steps (λ m before is. read_vain m.step m.answer is)
 
@@ -138,6 +142,7 @@ vain_holds x (m ∷ more) v vain = holds_then (λ q. Kept) m (more ++ v) x vain.
 vain_untouched : (p : ℕ) (ys xs : List Made) → AreVain ys → IsUntouched p xs → IsUntouched p (ys ++ xs)
 vain_untouched p ys xs vain h = record { right = vain_right p ys xs vain ∙ h.right; none = λ g at. vain_holds g ys xs vain ∙ h.none g at }
 
+-- Steps in vain get no right that wasn't there.
 pub vain_lacks : (p : ℕ) (ys xs : List Made) → AreVain ys → has_right xs p ≡ false → Always (LacksAfter p) xs → Always (LacksAfter p) (ys ++ xs)
 vain_lacks p [] xs vain none all = all
 vain_lacks p (m ∷ more) xs vain none all = (vain_right p (m ∷ more) xs vain ∙ none, vain_lacks p more xs vain.1 none all)
@@ -155,23 +160,27 @@ returns_none fates m before h = (
   ),
 )
 
+-- Steps in vain before a search are a search with it.
 pub vain_search : (ys xs : List Made) → AreVain ys → AreSearch xs → AreSearch (ys ++ xs)
 vain_search ys xs vain are = record {
   kinds = always_both (λ m before. IsVain m) (λ m before. is_in searching (kind_of m.step) ≡ true) ys xs (λ m before h. h.rights.kind) vain are.kinds;
   returns = always_both (λ m before. IsVain m) ReturnsDuly ys xs (λ m before h. returns_none (λ q. Kept) m (before ++ xs) h.rights) vain are.returns;
 }
 
-offered_before : (d : Directory) (p : ℕ) (ys xs : List Made) → AreVain ys → has_right xs p ≡ false → Always (LacksAfter p) xs → Once (OneHere d p) ys → Once (OfferedHere d p) (ys ++ xs)
+offered_before : (d : Directory) (p : ℕ) (ys xs : List Made) → AreVain ys → has_right xs p ≡ false → Always (LacksAfter p) xs → Once (OneHere d p) ys
+    → Once (OfferedHere d p) (ys ++ xs)
 offered_before d p [] xs vain none lacks h = absurd h
 offered_before d p (m ∷ more) xs vain none lacks (inl z) = inl ((z.0, z.1, right_own p more xs none ∙ z.2), vain_lacks p more xs vain.1 none lacks)
 offered_before d p (m ∷ more) xs vain none lacks (inr h) = inr (offered_before d p more xs vain.1 none lacks h)
 
 module _ {F : Type 0} (rule : Rule F) (f : Profile) (d : Directory) (next : ℕ) (marks : List ℕ) where
+  -- What a search has passed by so far was searched.
   pub searched : (steps : List Made) → Searching rule.no_fit f d next marks steps → Searched rule.no_fit d next steps
   searched steps s p low high = search (arith, cases_Bool)
 
   -- steps that changed nothing, where the pages from `next` to below `end` were read as 0
-  zeros_searching : (end : ℕ) (ys xs : List Made) → AreVain ys → Searching rule.no_fit f d next marks xs → ((p : ℕ) → next ≤ p → p < end → Once (ZeroHere d p) (ys ++ xs)) → Searching rule.no_fit f d end marks (ys ++ xs)
+  zeros_searching : (end : ℕ) (ys xs : List Made) → AreVain ys → Searching rule.no_fit f d next marks xs
+      → ((p : ℕ) → next ≤ p → p < end → Once (ZeroHere d p) (ys ++ xs)) → Searching rule.no_fit f d end marks (ys ++ xs)
   zeros_searching end ys xs vain s zeros = record {
     still = leads_then (Does nothing) s.still (vain_leads f ys vain) (λ v w met a. tt) (λ v w u a b. does_then a b);
     searches = vain_search ys xs vain s.searches;
@@ -182,14 +191,17 @@ module _ {F : Type 0} (rule : Rule F) (f : Profile) (d : Directory) (next : ℕ)
     lacked = λ p m. vain_lacks p ys xs vain (s.untouched p).right (s.lacked p m);
   }
 
+  -- Steps in vain leave a search where it is.
   pub vain_searching : (ys xs : List Made) → AreVain ys → Searching rule.no_fit f d next marks xs → Searching rule.no_fit f d next marks (ys ++ xs)
   vain_searching ys xs vain s = zeros_searching next ys xs vain s (λ p low high. absurd (omega (arith, low, high)))
 
 -- ---- effects, one after the other
-got_first : (t keeps : Bool) → later (if t then Gained else Kept) (if t then (if keeps then Gained else Lost) else Kept) ≡ (if t then (if keeps then Gained else Lost) else Kept)
+got_first : (t keeps : Bool)
+    → later (if t then Gained else Kept) (if t then (if keeps then Gained else Lost) else Kept) ≡ (if t then (if keeps then Gained else Lost) else Kept)
 got_first t keeps = grind arith
 
-got_served : {F : Type 0} (rule : Rule F) (page : ℕ) (found : F) {v w u : View} → Does (right_of page Gained) v w → Does (served rule page found) w u → Does (served rule page found) v u
+got_served : {F : Type 0} (rule : Rule F) (page : ℕ) (found : F) {v w u : View} → Does (right_of page Gained) v w → Does (served rule page found) w u
+    → Does (served rule page found) v u
 got_served rule page found a b = does_as (served rule page found) (does_then a b) (λ x. inl (kept_first ((served rule page found).grains x))) (λ q. got_first (page == q) (rule.keeps_right found)) (λ q h. h)
 
 pub got_left : (page : ℕ) {v w u : View} → has_right v page ≡ false → Does (right_of page Gained) v w → Does (right_of page Lost) w u → Does nothing v u
@@ -214,10 +226,13 @@ module _ (f : Profile) (d : Directory) (page : ℕ) (m : Made) (ws : List Made) 
   pub got_before : IsUntouched page ws → GotBefore page (m ∷ ws)
   got_before h = record { right = got_right ws; got = inl gets; none = λ g at. holds_then (λ q. if page == q then Gained else Kept) m ws g turns ∙ h.none g at; newest = gets }
 
+  -- A step that gets a page's right is one of a search.
   pub got_search : AreSearch ws → AreSearch (m ∷ ws)
   got_search are = record { kinds = (turns.kind, are.kinds); returns = (returns_none (λ q. if page == q then Gained else Kept) m ws turns, are.returns) }
 
-  pub ready : {B : View → Type 0} → ((v : View) → B v → IsClear v) → Leads f B (Does nothing) ws → ((v : View) → Agreed f v (m ∷ ws) → KnowsDeed page d (m ∷ (ws ++ v))) → Leads f B (IsReady page d) (m ∷ ws)
+  -- A page whose right was got by the newest step is ready to serve.
+  pub ready : {B : View → Type 0} → ((v : View) → B v → IsClear v) → Leads f B (Does nothing) ws
+      → ((v : View) → Agreed f v (m ∷ ws) → KnowsDeed page d (m ∷ (ws ++ v))) → Leads f B (IsReady page d) (m ∷ ws)
   ready clear still deed = record {
     from = λ v met agreed.
         let got : Does (right_of page Gained) v (m ∷ (ws ++ v)) = does_after_nothing (right_of page Gained) (still.from v met agreed.1) (does_rights f (λ q. if page == q then Gained else Kept) m (ws ++ v) turns agreed.0) in
@@ -226,8 +241,11 @@ module _ (f : Profile) (d : Directory) (page : ℕ) (m : Made) (ws : List Made) 
 
   -- ---- the back end's steps
   module _ {F : Type 0} (rule : Rule F) (zs : List Made) (ready : Leads f (MaySearch d) (IsReady page d) (m ∷ ws)) (untouched : IsUntouched page ws) where
-    pub finds : (found : F) (Choice : List Made → Type 0) → ServeSteps rule f page d zs (Some found) → IsPage f page → Choice (zs ++ (m ∷ ws)) → FewEvents f d rule.events (zs ++ (m ∷ ws)) → IsQuiet m ⊎ IsDeedOrBack d page m.step → AreQuiet ws
-        → AreSearch ws → ((v : View) → Agreed f v (m ∷ ws) → Once (GetsHere page) ws → ⊥) → Finds rule f d Choice (zs ++ (m ∷ ws)) (record { page = page; found = found })
+    -- A back end that kept something of a ready page finds it.
+    pub finds : (found : F) (Choice : List Made → Type 0) → ServeSteps rule f page d zs (Some found) → IsPage f page → Choice (zs ++ (m ∷ ws))
+        → FewEvents f d rule.events (zs ++ (m ∷ ws)) → IsQuiet m ⊎ IsDeedOrBack d page m.step → AreQuiet ws
+        → AreSearch ws → ((v : View) → Agreed f v (m ∷ ws) → Once (GetsHere page) ws → ⊥)
+        → Finds rule f d Choice (zs ++ (m ∷ ws)) (record { page = page; found = found })
     finds found Choice serve is choice few event quiet are never =
         let shows = serve.outcome.shows (m ∷ ws) (got_before untouched) in
         let kept : Leads f (MayServe page d) (λ w u. Keeps rule page found w u × KnowsDeed page d u) zs = record { from = λ w may agreed. (serve.outcome.keeps.from w may agreed, knows_still f d page zs w agreed may.deed) } in
@@ -261,20 +279,23 @@ unfolding offered_steps
 offered_grows each words le = let more = mul-le-mul_right (each + words + 1) le in omega (arith, le, more)
 
 -- from the search from `next` on, which finds the page, to that from the page after it
-pub offered_further : (each words : ℕ) {next page end : ℕ} → 1 ≤ page → next ≤ page → end ≤ page / 64 + words → offered_steps each words (next - 1) + (end - next / 64) + (each + 1) ≤ offered_steps each words page
+pub offered_further : (each words : ℕ) {next page end : ℕ} → 1 ≤ page → next ≤ page → end ≤ page / 64 + words
+    → offered_steps each words (next - 1) + (end - next / 64) + (each + 1) ≤ offered_steps each words page
 unfolding offered_steps
 offered_further each words {next} {page} {end} some le within =
     let more : suc (next - 1) * (each + words + 1) ≤ page * (each + words + 1) = mul-le-mul_right (each + words + 1) (omega (arith, some, le)) in omega (arith, some, le, within, more, suc-mul (next - 1) (each + words + 1))
 
 -- the search goes on from the page after this one
-few_past : (each page : ℕ) (f : Profile) (steps : List Made) → length steps ≤ offered_steps each (row_words f.pages) page → length steps ≤ offered_steps each (row_words f.pages) (page + 1 - 1)
+few_past : (each page : ℕ) (f : Profile) (steps : List Made) → length steps ≤ offered_steps each (row_words f.pages) page
+    → length steps ≤ offered_steps each (row_words f.pages) (page + 1 - 1)
 few_past each page f steps few = let same : page ≡ page + 1 - 1 = omega arith in subst (λ n. length steps ≤ offered_steps each (row_words f.pages) n) same few
 
 pub row_within : (f : Profile) (page : ℕ) → page ≤ f.pages → row_end f page ≤ page / 64 + row_words f.pages
 row_within f page le = omega (arith, le)
 
 -- ---- an offered page
-module _ {F : Type 0} (rule : Rule F) (f : Profile) (d : Directory) (page : ℕ) (marks : List ℕ) (m : Made) (ws zs : List Made) (gets : GetsRight page m.step m.answer) (quiet : IsQuiet m) (on_m : OnlyOn page (m ∷ [])) (on : OnlyOn page zs)
+module _ {F : Type 0} (rule : Rule F) (f : Profile) (d : Directory) (page : ℕ) (marks : List ℕ) (m : Made) (ws zs : List Made)
+    (gets : GetsRight page m.step m.answer) (quiet : IsQuiet m) (on_m : OnlyOn page (m ∷ [])) (on : OnlyOn page zs)
     (ready : Leads f (MaySearch d) (IsReady page d) (m ∷ ws)) (s : Searching rule.no_fit f d page marks ws) where
   others_lack : (p : ℕ) → p ≢ page → is_marked marks p ≡ false → Always (LacksAfter p) (zs ++ (m ∷ ws))
   others_lack p ne mark =
@@ -288,7 +309,8 @@ module _ {F : Type 0} (rule : Rule F) (f : Profile) (d : Directory) (page : ℕ)
   }
 
   -- it serves
-  from_offered : (found : F) → ServeSteps rule f page d zs (Some found) → IsPage f page → is_marked marks page ≡ false → Once (OfferedHere d page) ws → Finds rule f d (FromOffered rule.no_fit d page) (zs ++ (m ∷ ws)) (record { page = page; found = found })
+  from_offered : (found : F) → ServeSteps rule f page d zs (Some found) → IsPage f page → is_marked marks page ≡ false → Once (OfferedHere d page) ws
+      → Finds rule f d (FromOffered rule.no_fit d page) (zs ++ (m ∷ ws)) (record { page = page; found = found })
   from_offered found serve is unmarked offered = finds f d page m ws gets rule zs ready (s.untouched page) found (FromOffered rule.no_fit d page) serve is
       (record {
         offered = once_later (OfferedHere d page) zs (m ∷ ws) (inr offered);
@@ -302,7 +324,8 @@ module _ {F : Type 0} (rule : Rule F) (f : Profile) (d : Directory) (page : ℕ)
       (inl quiet) s.quiet s.searches (λ v agreed. never_got page ws (s.lacked page unmarked))
 
   -- it was left
-  goes_on : (marks' : List ℕ) → ((p : ℕ) → is_marked marks' p ≡ ((page == p) || is_marked marks p)) → ServeSteps rule f page d zs None → ((v : View) → MaySearch d v → Agreed f v ws → has_right v page ≡ false) → ((p : ℕ) → page ≤ p → is_marked marks p ≡ false)
+  goes_on : (marks' : List ℕ) → ((p : ℕ) → is_marked marks' p ≡ ((page == p) || is_marked marks p)) → ServeSteps rule f page d zs None
+      → ((v : View) → MaySearch d v → Agreed f v ws → has_right v page ≡ false) → ((p : ℕ) → page ≤ p → is_marked marks p ≡ false)
       → page ≤ f.pages → length (zs ++ (m ∷ ws)) ≤ offered_steps rule.steps (row_words f.pages) page → GoesOn rule f d (page + 1) marks' (zs ++ (m ∷ ws))
   goes_on marks' more serve lacked rest within few =
       let left = serve.outcome in let got = got_before f d page m ws gets (s.untouched page) in
@@ -350,7 +373,8 @@ module _ {F : Type 0} {rule : Rule F} {σ0 σ : Standing} {d : Directory} {next 
       record { steps = earlier; adds = tries.adds; searches = tries.goes.searching.searches; few = let last : next - 1 ≡ f.pages = omega (arith, end) in subst (λ n. length earlier ≤ offered_steps rule.steps (row_words f.pages) n) last tries.goes.few; outcome = subst (λ n. Searching rule.no_fit f d n marks earlier) end tries.goes.searching }
 
   -- no page is offered any more
-  pub none_offered : {σ1 : Standing} {d' : Directory} → d' ≡ d → {next' : ℕ} → 1 ≤ next → next ≤ f.pages → FindsOffered d' next σ σ1 next' None → SearchesOffered rule d σ0 σ1 marks None
+  pub none_offered : {σ1 : Standing} {d' : Directory} → d' ≡ d → {next' : ℕ} → 1 ≤ next → next ≤ f.pages → FindsOffered d' next σ σ1 next' None
+      → SearchesOffered rule d σ0 σ1 marks None
   none_offered {σ1} same {next'} some low found =
       let find : FindsOffered d next σ σ1 next' None = subst (λ x. FindsOffered x next σ σ1 next' None) same found in
       let pages : σ.seat.profile.pages ≡ f.pages = ap (λ (s : Seat). s.profile.pages) tries.adds.seat_is in
@@ -359,6 +383,7 @@ module _ {F : Type 0} {rule : Rule F} {σ0 σ : Standing} {d : Directory} {next 
       record { steps = find.steps ++ earlier; adds = adds_call {D = AnyView} tries.adds find.adds (λ v l stood met. tt); searches = s.searches; few = let all = offered_further rule.steps (row_words f.pages) {end = f.pages / 64 + 1} (omega (arith, some, low)) low (omega arith) in omega (arith, tries.goes.few, find.count, pages, all, length-append find.steps earlier); outcome = s }
 
   module _ {σ1 : Standing} {d' : Directory} (same : d' ≡ d) {next' page : ℕ} (found : FindsOffered d' next σ σ1 next' (Some page)) where
+    -- What was found offered is found by the search's own directory.
     pub find : FindsOffered d next σ σ1 next' (Some page)
     find = subst (λ x. FindsOffered x next σ σ1 next' (Some page)) same found
 
@@ -377,6 +402,7 @@ module _ {F : Type 0} {rule : Rule F} {σ0 σ : Standing} {d : Directory} {next 
     rest_at : (p : ℕ) → page ≤ p → is_marked marks p ≡ false
     rest_at p low = tries.goes.rest p (omega (arith, first.from_next, low))
 
+    -- The next page to be looked at is the one behind that which was found.
     pub further : next' ≡ page + 1
     further = find.outcome.0
 
@@ -386,6 +412,7 @@ module _ {F : Type 0} {rule : Rule F} {σ0 σ : Standing} {d : Directory} {next 
     lacked : (v : View) → MaySearch d v → Agreed f v looked → has_right v page ≡ false
     lacked v met agreed = sym ((tries.goes.searching.still.from v met (agreed_later f v find.steps earlier agreed)).right page) ∙ first.lacks (earlier ++ v) (agreed_first f v find.steps earlier agreed)
 
+    -- A page that was found offered may be claimed.
     pub claim_can : CanCall σ0 (MaySearch d) → CanCall σ1 (KnowsDeed page d)
     claim_can can = can_call {C = MaySearch d} (adds_call {D = AnyView} tries.adds find.adds (λ v l stood met. tt)) can (λ v l stood met. deed_at v)
 
@@ -400,9 +427,11 @@ module _ {F : Type 0} {rule : Rule F} {σ0 σ : Standing} {d : Directory} {next 
           let further = offered_further rule.steps (row_words f.pages) {end = row_end f page} first.of_region.0 first.from_next (row_within f page first.of_region.1) in
           omega (arith, tries.goes.few, counted, further, short, length-append ys claimed, length-append find.steps earlier)
 
+      -- The search so far, with the claim of the page that was found, is one call.
       pub claim_adds : Adds σ0 σ2 (MaySearch d) claimed
       claim_adds = adds_call {D = KnowsDeed page d} (adds_call {D = AnyView} tries.adds find.adds (λ v l stood met. tt)) claim (λ v l stood met. deed_at v)
 
+      -- The search so far, with the claim, makes no event.
       pub claim_quiet : AreQuiet claimed
       claim_quiet = (λ k e. refl, at_page.quiet)
 
@@ -424,6 +453,7 @@ module _ {F : Type 0} {rule : Rule F} {σ0 σ : Standing} {d : Directory} {next 
         got : Leads f (MaySearch d) (IsReady page d) claimed
         got = ready f d page (made (TakeRight page d) a) looked (GetsRight.Claims d a bit) (λ v met. met.clear) at_page.still (λ v agreed. knows_still f d page (made (TakeRight page d) a ∷ []) (looked ++ v) (agreed.0, tt) (deed_at v))
 
+        -- A page that was claimed may serve.
         pub serve_can : CanCall σ0 (MaySearch d) → CanCall σ2 (MayServe page d)
         serve_can can = can_call {C = MaySearch d} claim_adds can (λ v l stood met. (got.from v met (claim_adds.agreed v l stood met)).may)
 
@@ -434,7 +464,9 @@ module _ {F : Type 0} {rule : Rule F} {σ0 σ : Standing} {d : Directory} {next 
           serve_adds : (answer : Option F) (serve : ServesPage rule page d σ2 σ3 answer) → Adds σ0 σ3 (MaySearch d) (serve.steps ++ claimed)
           serve_adds answer serve = adds_call {D = MayServe page d} claim_adds serve.adds (λ v l stood met. (got.from v met (claim_adds.agreed v l stood met)).may)
 
-          pub found_there : (marks' : List ℕ) {found : F} → ServesPage rule page d σ2 σ3 (Some found) → SearchesOffered rule d σ0 σ3 marks' (Some (record { page = page; found = found }))
+          -- A claimed page that serves is what the search of offered pages found.
+          pub found_there : (marks' : List ℕ) {found : F} → ServesPage rule page d σ2 σ3 (Some found)
+              → SearchesOffered rule d σ0 σ3 marks' (Some (record { page = page; found = found }))
           found_there marks' {found} serve = let s = at_page in record {
             steps = serve.steps ++ claimed;
             adds = serve_adds (Some found) serve;
@@ -444,13 +476,16 @@ module _ {F : Type 0} {rule : Rule F} {σ0 σ : Standing} {d : Directory} {next 
                 (offered_before d page find.steps earlier vain (tries.goes.searching.untouched page).right (tries.goes.searching.lacked page (rest_at page (omega arith))) first.one);
           }
 
-          pub left_tries : {k : ℕ} → k ≡ page + 1 → (marks' : List ℕ) → ((p : ℕ) → is_marked marks' p ≡ ((page == p) || is_marked marks p)) → (serve : ServesPage rule page d σ2 σ3 None) → TriesPages rule d k marks' σ0 σ3
+          -- A claimed page that was left is tried, and the search goes on behind it.
+          pub left_tries : {k : ℕ} → k ≡ page + 1 → (marks' : List ℕ) → ((p : ℕ) → is_marked marks' p ≡ ((page == p) || is_marked marks p))
+              → (serve : ServesPage rule page d σ2 σ3 None) → TriesPages rule d k marks' σ0 σ3
           left_tries is marks' more serve = record { steps = serve.steps ++ claimed; adds = serve_adds None serve; goes = subst (λ j. GoesOn rule f d j marks' (serve.steps ++ claimed)) (sym is) (goes_on rule f d page marks (made (TakeRight page d) a) looked serve.steps (GetsRight.Claims d a bit) (λ k e. refl) (IsOnPage.Claims d, tt) serve.serves.only.on got at_page marks' more (serve_at None serve) lacked rest_at first.of_region.1 (few_after serve.steps serve.serves.short)) }
 
 -- ---- a deed that was made
 deed_frees : (p : ℕ) (d : Directory) (a : ℕ) (v : View) (g : ℕ) → a ≡ 0 → g / 256 ≡ p → known_free (made (Deed p d) a ∷ v) g ≡ true
 deed_frees p d a v g e at = ap (λ t. if t && (a == 0) then true else known_free v g) (eq-eqb p (g / 256) (sym at)) ∙ ap (λ t. if t then true else known_free v g) (eq-eqb a 0 e)
 
+-- Who has room for a page without a deed is clear.
 pub clear_can : {σ : Standing} {f : Profile} {n spare : ℕ} → CanCall σ (BareRoom f n spare) → CanCall σ IsClear
 clear_can can = record { view = can.view; whole = can.whole; stood = can.stood; met = can.met.clear }
 
@@ -480,6 +515,7 @@ module _ {σ0 σ : Standing} (d : Directory) {from : ℕ} (passes : PassesDeeds 
   pub all_bare : {F : Type 0} {rule : Rule F} → region.pages < from → SearchesBare rule d σ0 σ None
   all_bare past = record { steps = xs; adds = passes.adds; few = omega (arith, passes.few, passes.within); outcome = (passes.reads, λ p low high. passes.deeds p low (omega (arith, past, high))) }
 
+  -- Where no page without a deed was found, the search of such pages has none.
   pub none_bare : {F : Type 0} {rule : Rule F} {σ1 : Standing} → FindsBare from σ σ1 None → SearchesBare rule d σ0 σ1 None
   none_bare find =
       let pages : σ.seat.profile.pages ≡ region.pages = ap (λ (s : Seat). s.profile.pages) passes.adds.seat_is in let deeds = more_deeds (region.pages + 1) find.steps (λ p low high. find.outcome p low (omega (arith, high, pages))) in
@@ -505,19 +541,23 @@ module _ {σ0 σ : Standing} (d : Directory) {from : ℕ} (passes : PassesDeeds 
     of_region = subst (λ (s : Seat). IsPage s.profile page) passes.adds.seat_is find.outcome.of_region
 
     -- there is room for the event of its deed
-    module _ {n spare : ℕ} (can : CanCall σ0 (BareRoom region n spare)) (law : (v : View) (l : Whole) → σ0.stands v l → spare + length (events_of σ0.seat.actor v) ≡ σ0.seat.room) where
+    module _ {n spare : ℕ} (can : CanCall σ0 (BareRoom region n spare))
+        (law : (v : View) (l : Whole) → σ0.stands v l → spare + length (events_of σ0.seat.actor v) ≡ σ0.seat.room) where
       wide : n + 1 ≤ spare
       wide = search (arith, unknown, reads_adds, once_earlier, of_region)
 
+      -- There is room for the event of the deed.
       pub deed_room : {spare' : ℕ} → ((v : View) (l : Whole) → σ1.stands v l → spare' + length (events_of σ1.seat.actor v) ≡ σ1.seat.room) → 1 ≤ spare'
       deed_room law' = room_kept {C = IsClear} 1 reads_adds (clear_can can) (vain_quiet read (reads_vain read found_reads)) law law' (omega (arith, wide))
 
       -- and for those of the back end
-      pub serve_room : {σ2 : Standing} {spare' : ℕ} {a : ℕ} → Adds σ0 σ2 IsClear (tried a) → ((v : View) (l : Whole) → σ2.stands v l → spare' + length (events_of σ2.seat.actor v) ≡ σ2.seat.room) → n ≤ spare'
+      pub serve_room : {σ2 : Standing} {spare' : ℕ} {a : ℕ} → Adds σ0 σ2 IsClear (tried a)
+          → ((v : View) (l : Whole) → σ2.stands v l → spare' + length (events_of σ2.seat.actor v) ≡ σ2.seat.room) → n ≤ spare'
       serve_room {a = a} deed_adds law' = room_after {C = IsClear} n 1 deed_adds (clear_can can) (λ k v.
           let none = ap length (events_quiet k v read (vain_quiet read (reads_vain read found_reads))) in let more = with_few (event_of k (epoch_of (read ++ v)) (Deed page d) a) (events_by k v read) in omega (arith, none, more)) law law' wide
 
     module _ {σ2 : Standing} {a : ℕ} (makes : Makes σ1 σ2 (Deed page d) a) where
+      -- The search so far, with the deed that was tried, is one call.
       pub deed_adds : Adds σ0 σ2 IsClear (tried a)
       deed_adds = adds_step {C = IsClear} {step = Deed page d} reads_adds makes (λ v l stood met. tt)
 
@@ -534,6 +574,7 @@ module _ {σ0 σ : Standing} (d : Directory) {from : ℕ} (passes : PassesDeeds 
         | inr ge ↦ let same : page ≡ p = omega (arith, high, ge) in inl (subst (λ q. ReadsDeed q (Deed page d)) same (ReadsDeed.Deeds d), ne)
       ]
 
+      -- A deed that came too late passes its page.
       pub lost_passes : a ≢ 0 → PassesDeeds (page + 1) σ0 σ2
       lost_passes ne = record { steps = tried a; adds = deed_adds; reads = lost_reads ne; deeds = lost_deeds ne; within = omega (arith, of_region.1); few = let most = few_tried [] in omega (arith, most) }
 
@@ -542,6 +583,7 @@ module _ {σ0 σ : Standing} (d : Directory) {from : ℕ} (passes : PassesDeeds 
         deed_got : Leads region IsClear (IsReady page d) (tried a)
         deed_got = ready region d page (made (Deed page d) a) read (GetsRight.Deeds d a made_it) (λ v clear. clear) (leads_as (vain_leads region read (reads_vain read found_reads)) (λ v clear. tt) (λ v w clear does. does)) (λ v agreed. deed_known page d a (read ++ v) made_it)
 
+        -- A page whose deed was made may serve.
         pub deed_can : CanCall σ0 IsClear → CanCall σ2 (MayServe page d)
         deed_can can = can_call {C = IsClear} deed_adds can (λ v l stood met. (deed_got.from v met (deed_adds.agreed v l stood met)).may)
 
@@ -553,6 +595,7 @@ module _ {σ0 σ : Standing} (d : Directory) {from : ℕ} (passes : PassesDeeds 
               let may : MayServe page d v = (deed_got.from can.view can.met (deed_adds.agreed can.view can.whole can.stood can.met)).may in
               serve.serves.outcome.not_free v may (serve.adds.agreed v _ (deed_adds.added can.view can.whole can.stood can.met) may) (λ g at. deed_frees page d a (read ++ can.view) g made_it at)
 
+          -- A page whose deed was made, and which serves, is what the search of such pages found.
           pub served_bare : {found : F} → ServesPage rule page d σ2 σ3 (Some found) → SearchesBare rule d σ0 σ3 (Some (record { page = page; found = found }))
           served_bare {found} serve = record {
             steps = serve.steps ++ (tried a);

@@ -13,6 +13,7 @@ use Rattle.pas_search.specs.Kinds.{IsReturnOf, ReturnsGot, ReturnsDuly, KeepsMar
 duly_later : (m : Made) (before xs : List Made) → ReturnsDuly m before → ReturnsDuly m (before ++ xs)
 duly_later m before xs h = (λ page is. once_earlier (GetsHere page) (GetsHere page) before xs (λ n b gets. gets) (h.0 page is), due_later m before xs h.1)
 
+-- Two lists of steps that return duly do so together.
 pub duly_both : (ys xs : List Made) → Always ReturnsDuly ys → Always ReturnsDuly xs → Always ReturnsDuly (ys ++ xs)
 duly_both ys xs = always_both ReturnsDuly ReturnsDuly ys xs (λ m before h. duly_later m before xs h)
 
@@ -31,6 +32,7 @@ pub duly_none : (ks : Kinds) (steps : List Made) → apart ks turning_back ≡ t
 duly_none ks steps out due only =
     always_pair ReturnsGot GivesDuly steps (always_map (λ m before. is_in ks (kind_of m.step) ≡ true) ReturnsGot steps (λ m before is page returns. absurd (no_return ks page m.step out is returns)) only) (due_none ks steps due only)
 
+-- Steps of kinds that turn no page back keep its marks.
 pub keeps_marks : (ks : Kinds) (page : ℕ) (steps : List Made) → apart ks turning_back ≡ true → Only ks steps → Always (KeepsMarks page) steps
 keeps_marks ks page steps out = always_map (λ m before. is_in ks (kind_of m.step) ≡ true) (KeepsMarks page) steps (λ m before is returns. absurd (no_return ks page m.step out is returns))
 
@@ -43,10 +45,12 @@ abbrev pub ReturnsIn : (ℕ → Bool) → List Made → Type 0
 ReturnsIn pages = Always (λ m before. (page : ℕ) → IsReturnOf page m.step → pages page ≡ true)
 
 -- pages that were got before
-pub duly_in : (pages : ℕ → Bool) (ys xs : List Made) → ReturnsIn pages ys → Always GivesDuly (ys ++ xs) → ((p : ℕ) → pages p ≡ true → Once (GetsHere p) xs) → Always ReturnsDuly xs → Always ReturnsDuly (ys ++ xs)
+pub duly_in : (pages : ℕ → Bool) (ys xs : List Made) → ReturnsIn pages ys → Always GivesDuly (ys ++ xs) → ((p : ℕ) → pages p ≡ true → Once (GetsHere p) xs)
+    → Always ReturnsDuly xs → Always ReturnsDuly (ys ++ xs)
 duly_in pages [] xs within due got all = all
 duly_in pages (y ∷ ys) xs within due got all = ((λ q is. once_later (GetsHere q) ys xs (got q (within.0 q is)), due.0), duly_in pages ys xs within.1 due.1 got all)
 
+-- Steps on a page that the call got, which give duly, return duly.
 pub duly_on : (p : ℕ) (ys xs : List Made) → OnlyOn p ys → Always GivesDuly ys → Once (GetsHere p) xs → Always ReturnsDuly xs → Always ReturnsDuly (ys ++ xs)
 duly_on p [] xs on due got all = all
 duly_on p (y ∷ ys) xs on due got all =
@@ -61,6 +65,8 @@ never_returned p (m ∷ xs) never all = (λ is. absurd (never (inr (all.0.0 p is
 unparks : (page : ℕ) (s : Step) → is_in unparking (kind_of s) ≡ true → IsReturnOf page s → s ≡ Unpark page
 unparks page s is e = grind (arith, true≢false)
 
-pub marks_after : (page : ℕ) (ys xs : List Made) → Only unparking ys → Once (PutsHere page) xs → Always (KeepsMarks page) xs → Always (KeepsMarks page) (ys ++ xs)
+-- Steps that take a page back after grains were put on it keep its marks.
+pub marks_after : (page : ℕ) (ys xs : List Made) → Only unparking ys → Once (PutsHere page) xs → Always (KeepsMarks page) xs
+    → Always (KeepsMarks page) (ys ++ xs)
 marks_after page [] xs only put all = all
 marks_after page (y ∷ ys) xs only put all = ((λ is. (unparks page y.step only.0 is, once_later (PutsHere page) ys xs put)), marks_after page ys xs only.1 put all)

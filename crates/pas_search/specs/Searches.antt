@@ -132,7 +132,8 @@ pub record Searches {F : Type 0} (rule : Rule F) (tells : Bool) (d : Directory) 
   pub searches : AreSearch steps
   pub few : length steps ≤ search_steps rule.steps desk.seat.profile.pages
   pub outcome : MatchResult answer (IsServed rule desk.seat.profile d steps) (IsRefused rule.no_fit desk.seat.profile d steps)
-  pub told : tells ≡ true → (v : View) (l : Whole) → desk.stands v l → MaySearch d v → IsTold (λ (s : Served F). s.page) rule.no_fit desk.seat.profile d l (triples desk.seat.actor steps ++ l) answer
+  pub told : tells ≡ true → (v : View) (l : Whole) → desk.stands v l → MaySearch d v
+      → IsTold (λ (s : Served F). s.page) rule.no_fit desk.seat.profile d l (triples desk.seat.actor steps ++ l) answer
 
 -- ---- the search of offered pages
 -- So far: of the pages below `next` those that are marked didn't fit, and each other's bit was read as 0. The call has no right of them,

@@ -29,24 +29,30 @@ not_counted : (page : ℕ) (s : Step) (a : ℕ) (before : List Made) → is_in c
 not_counted page (Look word) a before h = refl
 not_counted page s a before h = cc
 
-pub back_count : (page : ℕ) (steps before : List Made) → Only giving_back steps → takes_since page (steps ++ before) ≡ takes_since page before
-back_count page = same_over (takes_since page) counted giving_back (λ m before h. not_counted page m.step m.answer (takes_since page before) h) refl
+-- Steps that give back leave the takes of a page as they were.
+pub takes_kept_by_giving_back : (page : ℕ) (steps before : List Made) → Only giving_back steps → takes_since page (steps ++ before) ≡ takes_since page before
+takes_kept_by_giving_back page = same_over (takes_since page) counted giving_back (λ m before h. not_counted page m.step m.answer (takes_since page before) h) refl
 
 -- takes of the page are counted
-word_count : (page word mask a : ℕ) (t : Bool) (before : List Made) → takes_since page ((if t then [] else made (Take page word mask) a ∷ []) ++ before) ≡ (if t then [] else made (Take page word mask) a ∷ []) ++ takes_since page before
+word_count : (page word mask a : ℕ) (t : Bool) (before : List Made)
+    → takes_since page ((if t then [] else made (Take page word mask) a ∷ []) ++ before)
+      ≡ (if t then [] else made (Take page word mask) a ∷ []) ++ takes_since page before
 word_count page word mask a true before = refl
 word_count page word mask a false before = ap (λ t. if t then made (Take page word mask) a ∷ takes_since page before else takes_since page before) (eq-eqb page page refl)
 
-pub takes_count : (page : ℕ) (masks answers : ℕ → ℕ) (n : ℕ) (before : List Made) → takes_since page before ≡ [] → takes_since page (takes page masks answers n ++ before) ≡ takes page masks answers n
-takes_count page masks answers zero before none = none
-takes_count page masks answers (suc n) before none = let here = word_take page n (masks n) (answers n) in let rest = takes page masks answers n in
-    ap (takes_since page) (append_assoc here rest before) ∙ word_count page n (masks n) (answers n) (masks n == 0) (rest ++ before) ∙ ap (λ ts. here ++ ts) (takes_count page masks answers n before none)
+-- Takes that come first on a page are all its takes since its right was got.
+pub takes_are_all_since : (page : ℕ) (masks answers : ℕ → ℕ) (n : ℕ) (before : List Made) → takes_since page before ≡ []
+    → takes_since page (takes page masks answers n ++ before) ≡ takes page masks answers n
+takes_are_all_since page masks answers zero before none = none
+takes_are_all_since page masks answers (suc n) before none = let here = word_take page n (masks n) (answers n) in let rest = takes page masks answers n in
+    ap (takes_since page) (append_assoc here rest before) ∙ word_count page n (masks n) (answers n) (masks n == 0) (rest ++ before) ∙ ap (λ ts. here ++ ts) (takes_are_all_since page masks answers n before none)
 
 -- none was made when the right was just got
 got_none : (page : ℕ) (s : Step) (a : ℕ) (before : List Made) → GetsRight page s a → takes_after page s a before ≡ []
 got_none page s a before (GetsRight.Claims d b set) = ap (λ t. if t then [] else before) (and_from (page == page) (has_bit b (page % 64)) (eq-eqb page page refl) set)
 got_none page s a before (GetsRight.Deeds d b e) = ap (λ t. if t then [] else before) (and_from (page == page) (b == 0) (eq-eqb page page refl) (eq-eqb b 0 e))
 
+-- A page that was just got has no takes yet.
 pub none_yet : (page : ℕ) (before : List Made) → IsJustGot page before → takes_since page before ≡ []
 none_yet page [] newest = absurd newest
 none_yet page (m ∷ more) newest = got_none page m.step m.answer (takes_since page more) newest
@@ -59,6 +65,7 @@ not_got : (s : Step) (a g : ℕ) (had : Bool) → is_in getting (kind_of s) ≡ 
 not_got (Put q w m) a g had h none = cond_both (in_mask q w m g) Puts Stays (λ m. held_after m had ≡ false) (λ put. refl) (λ other. none)
 not_got s a g had h none = cc
 
+-- Steps that give back hold no grain more.
 pub back_holds : (g : ℕ) (steps : List Made) (v : View) → Only giving_back steps → holds v g ≡ false → holds (steps ++ v) g ≡ false
 back_holds g = holds_over (λ v. holds v g ≡ false) getting giving_back (λ m v h none. not_got m.step m.answer g (holds v g) h none) refl
 
@@ -79,6 +86,7 @@ module _ (d : Directory) (slots : Slots) (mask : Mask4) (are : AreGrains slots m
   may_put_back : (v : View) → MayStopAt d slots v → MayPutAndReturn slots.page d mask v
   may_put_back v met = record { deed = met.deed; puts = record { held = λ g here. met.held g (sym (same_grains g) ∙ here); stamped = (met.clear.on slots.page).stamped } }
 
+  -- The grains of slots that may be stopped may be put back.
   pub can_put_back : {σ : Standing} → CanCall σ (MayStopAt d slots) → CanCall σ (MayPutAndReturn slots.page d mask)
   can_put_back can = record { view = can.view; whole = can.whole; stood = can.stood; met = may_put_back can.view can.met }
 
@@ -88,6 +96,7 @@ module _ (d : Directory) (slots : Slots) (mask : Mask4) (are : AreGrains slots m
     back_call = call_knows slots.page d (call_as (Does (given_back (in_slots slots))) back.calls may_put_back
         (λ v w met does. does_as (given_back (in_slots slots)) does (λ g. inl (ap (λ t. if t then Lost else Kept) (same_grains g))) (λ q. refl) (λ q h. h))) (λ v met. met.deed)
 
+    -- Slots without a right that were put back are stopped.
     pub stops_without : slots.right ≡ false → StopsAt d slots σ σ1
     stops_without none = record {
       steps = back.steps;
@@ -100,12 +109,15 @@ module _ (d : Directory) (slots : Slots) (mask : Mask4) (are : AreGrains slots m
     }
 
     -- the page was left
-    may_leave : slots.right ≡ true → (v w : View) → MayStopAt d slots v → Does (given_back (in_slots slots)) v w × KnowsDeed slots.page d w → MayLeave slots.page d w
+    may_leave : slots.right ≡ true → (v w : View) → MayStopAt d slots v → Does (given_back (in_slots slots)) v w × KnowsDeed slots.page d w
+        → MayLeave slots.page d w
     may_leave has v w met after = record { right = after.0.right slots.page ∙ met.right has; deed = after.1 }
 
+    -- The page of slots with its right may be left once they are put back.
     pub can_leave : slots.right ≡ true → CanCall σ (MayStopAt d slots) → CanCall σ1 (MayLeave slots.page d)
     can_leave has can = next_call back_call can (λ v met after. may_leave has v (back.steps ++ v) met after)
 
+    -- Slots with a right that were put back, and whose page was left, are stopped.
     pub stops_with : {σ2 : Standing} → slots.right ≡ true → Leaves slots.page d σ1 σ2 → StopsAt d slots σ σ2
     stops_with has left = record {
       steps = left.steps ++ back.steps;

@@ -54,9 +54,11 @@ module _ (class page : ℕ) (d : Directory) (is : IsClass class) (starts : Mask4
     first_slot_is : IsSlotStart class some.0
     first_slot_is = ((took.are some.0).0 some.2).0
 
+    -- Slots that were taken have some grain of the page.
     pub some_grain : (b : ℕ) × (b < 256) × (in_starts class starts b ≡ true)
     some_grain = let more = class_grains_positive class is in (some.0, some.1, ap (is_set starts) (start_at class some.0 some.0 first_slot_is (omega arith) (omega (arith, more))) ∙ some.2)
 
+    -- A page whose slots were taken, and which was backed, serves and keeps them.
     pub keeps_slots : {σ2 : Standing} (a : ℕ) → Makes σ1 σ2 (Back page) a → ServesPage (exclusive class) page d σ σ2 (Some starts)
     keeps_slots a back = keeps_page (exclusive class) page d (is_set took.answers) (in_starts class starts) prepared some_grain starts (λ b lt. refl) refl a back
         (λ none. none some.0 first_slot_is ((took.are some.0).0 some.2).1)
@@ -65,7 +67,8 @@ module _ (class page : ℕ) (d : Directory) (is : IsClass class) (starts : Mask4
         (omega arith) (omega (arith, took.few))
 
 -- ---- what a search found
-module _ (heap class : ℕ) {tells : Bool} {σ σ' : Standing} (served : Served Mask4) (searches : Searches (exclusive class) tells (class_directory heap class) σ σ' (Ok served)) where
+module _ (heap class : ℕ) {tells : Bool} {σ σ' : Standing} (served : Served Mask4)
+    (searches : Searches (exclusive class) tells (class_directory heap class) σ σ' (Ok served)) where
   gets_slots : Leads σ.seat.profile (MaySearch (class_directory heap class)) (GetsSlots (class_directory heap class) (record { page = served.page; heap = heap; class = class; starts = served.found; right = true })) searches.steps
   gets_slots = leads_as (found_call (exclusive class) (class_directory heap class) served searches).leads (λ v met. met) (λ v w met kept. let does = kept.found.keeps.does in record {
     does = record { held = does.held; right = does.right; clear = does.clear; backed = does.backed };
@@ -79,6 +82,7 @@ module _ (heap class : ℕ) {tells : Bool} {σ σ' : Standing} (served : Served 
     };
   })
 
+  -- Slots that a search of exclusive pages found are a refill with the page's right.
   pub refills_ok : Refills (exclusive_slots heap class) tells σ σ' (Ok (record { page = served.page; heap = heap; class = class; starts = served.found; right = true }))
   refills_ok = record {
     searched = searches.steps;
@@ -106,5 +110,7 @@ module _ (heap class : ℕ) {tells : Bool} {σ σ' : Standing} (served : Served 
     told = searches.told;
   }
 
-pub refills_err : (heap class : ℕ) {tells : Bool} {σ σ' : Standing} (room : NoRoom) → Searches (exclusive class) tells (class_directory heap class) σ σ' (Err room) → Refills (exclusive_slots heap class) tells σ σ' (Err room)
+-- A search of exclusive pages that was refused is a refused refill.
+pub refills_err : (heap class : ℕ) {tells : Bool} {σ σ' : Standing} (room : NoRoom)
+    → Searches (exclusive class) tells (class_directory heap class) σ σ' (Err room) → Refills (exclusive_slots heap class) tells σ σ' (Err room)
 refills_err heap class room searches = record { searched = searches.steps; searches = searches.searches; few = searches.few; after = []; adds = searches.adds; outcome = (searches.outcome, refl); told = searches.told }

@@ -31,7 +31,9 @@ agrees table default class = agree_below (λ g. has_bit (slice_index (get_or tab
 abbrev pub row : List (List ℕ) → List ℕ → ℕ → Mask4
 row table default class = record { 0 = get_or table class default }
 
-pub table_bits : (table : List (List ℕ)) (default : List ℕ) → of_each_class (agrees table default) ≡ true → of_each_class (λ class. length (get_or table class default) == 4) ≡ true
+-- The rows of a table that agrees with the classes are the starts of their slots.
+pub table_bits : (table : List (List ℕ)) (default : List ℕ) → of_each_class (agrees table default) ≡ true
+    → of_each_class (λ class. length (get_or table class default) == 4) ≡ true
     → (class : ℕ) → IsClass class → (g : ℕ) → is_set (row table default class) g ≡ is_start class g
 table_bits table default computed sized class is g = elim (cases_lt g 256) [
   | inl lt ↦ agree_below_at (λ g. has_bit (slice_index (get_or table class default) (g / 64)) (g % 64)) (is_start class) 256 g (class_passes (agrees table default) computed class is) lt
@@ -39,7 +41,8 @@ table_bits table default computed sized class is g = elim (cases_lt g 256) [
 ]
 
 -- ---- whole slots
-pub whole_is : (class : ℕ) (mask begins starts whole : Mask4) → ((g : ℕ) → IsTrue (is_set begins g) ↔ AreSet mask g (class_grains class)) → ((g : ℕ) → is_set starts g ≡ is_start class g) → ((g : ℕ) → is_set whole g ≡ (is_set begins g && is_set starts g))
+pub whole_is : (class : ℕ) (mask begins starts whole : Mask4) → ((g : ℕ) → IsTrue (is_set begins g) ↔ AreSet mask g (class_grains class))
+    → ((g : ℕ) → is_set starts g ≡ is_start class g) → ((g : ℕ) → is_set whole g ≡ (is_set begins g && is_set starts g))
     → (g : ℕ) → IsTrue (is_set whole g) ↔ (IsSlotStart class g × AreSet mask g (class_grains class))
 whole_is class mask begins starts whole runs all joined g = (
   λ h. let parts = and_parts (is_set begins g) (is_set starts g) (sym (joined g) ∙ h) in (start_is class g (sym (all g) ∙ parts.1), (runs g).0 parts.0),
@@ -57,13 +60,16 @@ start_at class s g slot low high =
     let same : g / class_grains class * class_grains class ≡ s / class_grains class * class_grains class = ap (λ n. n * class_grains class) place.0 in
     omega (arith, same, first, aligned)
 
+-- A grain lies in the slot that covers it.
 pub start_below : (class g : ℕ) → IsClass class → (start_of class g ≤ g) × (g < start_of class g + class_grains class)
 start_below class g is =
     let some = class_grains_positive class is in let whole = div-add-mod' g (class_grains class) in
     let inside : g % class_grains class < class_grains class = mod-lt g (omega (arith, some)) in
     (omega (arith, whole), omega (arith, whole, inside))
 
-pub covered_is : (class : ℕ) (starts near : Mask4) → IsClass class → length near.0 ≡ 4 → AreStarts class starts → ((g : ℕ) → g < 256 → IsTrue (is_set near g) ↔ IsNear starts g (class_grains class)) → (g : ℕ) → is_set near g ≡ is_set starts (start_of class g)
+-- A mask near the starts of slots covers just their grains.
+pub covered_is : (class : ℕ) (starts near : Mask4) → IsClass class → length near.0 ≡ 4 → AreStarts class starts
+    → ((g : ℕ) → g < 256 → IsTrue (is_set near g) ↔ IsNear starts g (class_grains class)) → (g : ℕ) → is_set near g ≡ is_set starts (start_of class g)
 covered_is class starts near is long all spread g = elim (cases_lt g 256) [
   | inl lt ↦ same_truth (is_set near g) (is_set starts (start_of class g))
       (λ h. let found = (spread g lt).0 h in ap (is_set starts) (start_at class found.0 g (all found.0 found.3) found.1 found.2) ∙ found.3)

@@ -27,14 +27,17 @@ use Rattle.pas_search.proofs.Returns.{keeps_marks, marks_after}
 use Rattle.pas_segregated.specs.Masks.{start_of}
 use Rattle.pas_segregated.specs.Takes.{AreUsable, AreFreeSlots, IsRest, in_starts, slots_on, takes_since, TakesSlots}
 use Rattle.pas_segregated.proofs.Starts.{start_at, start_below}
-use Rattle.pas_segregated.proofs.GivenUp.{back_count, takes_count, none_yet, back_holds, same_after}
+use Rattle.pas_segregated.proofs.GivenUp.{takes_kept_by_giving_back, takes_are_all_since, none_yet, back_holds, same_after}
 
-pub rest_is : (class : ℕ) (got starts kept others rest : Mask4) → ((g : ℕ) → is_set kept g ≡ is_set starts (start_of class g)) → ((g : ℕ) → g < 256 → is_set others g ≡ not (is_set kept g)) → ((g : ℕ) → is_set rest g ≡ (is_set got g && is_set others g))
+-- What was got without the grains of the kept slots is the rest.
+pub rest_is : (class : ℕ) (got starts kept others rest : Mask4) → ((g : ℕ) → is_set kept g ≡ is_set starts (start_of class g))
+    → ((g : ℕ) → g < 256 → is_set others g ≡ not (is_set kept g)) → ((g : ℕ) → is_set rest g ≡ (is_set got g && is_set others g))
     → IsRest class got starts rest
 rest_is class got starts kept others rest covers other both g lt = both g ∙ ap (λ t. is_set got g && t) (other g lt ∙ ap not (covers g))
 
 -- what was got and not put back stays got; what was put back wasn't held before
-kept_fate : (t k r held : Bool) → (t ≡ true → held ≡ false) → (k ≡ true → t ≡ true) → r ≡ (t && not k) → SameGrain (later (if t then Gained else Kept) (if r then Lost else Kept)) (if k then Gained else Kept) held
+kept_fate : (t k r held : Bool) → (t ≡ true → held ≡ false) → (k ≡ true → t ≡ true) → r ≡ (t && not k)
+    → SameGrain (later (if t then Gained else Kept) (if r then Lost else Kept)) (if k then Gained else Kept) held
 kept_fate true true r held none got is = inl (ap (λ x. later Gained (if x then Lost else Kept)) is)
 kept_fate true false r held none got is = inr (none refl, ap (λ x. now (later Gained (if x then Lost else Kept)) false) is)
 kept_fate false true r held none got is = let z : false ≡ true = got refl in cc
@@ -49,7 +52,8 @@ slot_in : (class s g : ℕ) → IsClass class → IsSlotStart class s → g < s 
 slot_in class s g is slot lt = let most = usable_grains_le class is in omega (arith, slot.within, lt, most)
 
 -- ---- the whole call
-module _ (class page : ℕ) (d : Directory) (is : IsClass class) {σ σ1 : Standing} (usable starts got rest : Mask4) (usable_are : AreUsable class usable) (took : TakesMask page usable σ σ1 got) (whole : AreFreeSlots class (is_set got) starts) (rests : IsRest class got starts rest) where
+module _ (class page : ℕ) (d : Directory) (is : IsClass class) {σ σ1 : Standing} (usable starts got rest : Mask4) (usable_are : AreUsable class usable)
+    (took : TakesMask page usable σ σ1 got) (whole : AreFreeSlots class (is_set got) starts) (rests : IsRest class got starts rest) where
   abbrev first : List Made
   first = takes page (words usable) (words took.answers) 4
 
@@ -99,6 +103,7 @@ module _ (class page : ℕ) (d : Directory) (is : IsClass class) {σ σ1 : Stand
     };
   }
 
+  -- The rest of a page's grains may be put back.
   pub can_put_back : CanCall σ (MayServe page d) → CanCall σ1 (MayPutAndReturn page d rest)
   can_put_back can = next_call first_call can may_put_back
 
@@ -144,7 +149,8 @@ module _ (class page : ℕ) (d : Directory) (is : IsClass class) {σ σ1 : Stand
     first_marks : Always (KeepsMarks page) first
     first_marks = keeps_marks (Taking ∷ []) page first refl (takes_only page (words usable) (words took.answers) 4)
 
-    module _ (some : HasMember starts) (others : HasMember rest) (puts after : List Made) (order : PutsBelow page rest 4 puts) (ret : ReturnSteps page d after) (same : back.steps ≡ after ++ puts) where
+    module _ (some : HasMember starts) (others : HasMember rest) (puts after : List Made) (order : PutsBelow page rest 4 puts) (ret : ReturnSteps page d after)
+        (same : back.steps ≡ after ++ puts) where
       all_same : back.steps ++ first ≡ after ++ (puts ++ first)
       all_same = ap (λ s. s ++ first) same ∙ append_assoc after puts first
 
@@ -178,6 +184,7 @@ module _ (class page : ℕ) (d : Directory) (is : IsClass class) {σ σ1 : Stand
       | inr h ↦ return_marks some h.0 h.1 h.2 h.3 h.4 h.5
     ]
 
+    -- A page of which whole slots were taken and the rest put back has just those slots.
     pub takes_slots : TakesSlots class page d σ σ2 starts
     takes_slots = record {
       steps = back.steps ++ first;
@@ -207,7 +214,7 @@ module _ (class page : ℕ) (d : Directory) (is : IsClass class) {σ σ1 : Stand
       keeps = always_both (λ m before. GivesUp page m.step → ⊥) (λ m before. GivesUp page m.step → ⊥) back.steps first (λ m before h. h) back_keeps (takes_keep page (words usable) (words took.answers) 4);
       due = back_due page d rest first (λ g here. takes_got page usable took.answers got took.got_is g (rest_got g here)) (due_none (Taking ∷ []) first refl (takes_only page (words usable) (words took.answers) 4)) back.steps back.order;
       marks = marks_kept;
-      takes = λ before newest. ap (takes_since page) (append_assoc back.steps first before) ∙ back_count page back.steps (first ++ before) back.kinds ∙ takes_count page (words usable) (words took.answers) 4 before (none_yet page before newest);
+      takes = λ before newest. ap (takes_since page) (append_assoc back.steps first before) ∙ takes_kept_by_giving_back page back.steps (first ++ before) back.kinds ∙ takes_are_all_since page (words usable) (words took.answers) 4 before (none_yet page before newest);
       read = λ before met w lt. subst (Since (ShowsHere page w (is_set took.answers)) (KeptHere page)) (sym (append_assoc back.steps first before))
           (since_kept (ShowsHere page w (is_set took.answers)) page back.steps (first ++ before) back_keeps (takes_right page (words usable) (words took.answers) 4 before met.right)
           (takes_read page (words usable) (words took.answers) (is_set took.answers) (λ word b small. at_word took.answers word b small) before met.right met.none 4 w lt lt (some_word w lt)));

@@ -96,7 +96,8 @@ pub record TakesSlots (class page : ℕ) (d : Directory) (desk desk' : Standing)
   pub due : Always GivesDuly steps
   pub marks : HasMember starts → Always (KeepsMarks page) steps
   pub takes : (before : List Made) → IsJustGot page before → takes_since page (steps ++ before) ≡ takes page (words usable) (words answers) 4
-  pub read : (before : List Made) → GotBefore page before → (word : ℕ) → word < 4 → Since (ShowsHere page word (is_set answers)) (KeptHere page) (steps ++ before)
+  pub read : (before : List Made) → GotBefore page before → (word : ℕ) → word < 4
+      → Since (ShowsHere page word (is_set answers)) (KeptHere page) (steps ++ before)
   pub none : (before : List Made) → HoldsNone page before → IsEmpty starts → HoldsNone page (steps ++ before)
 
 -- a slot ends on its page. From 20 on a number is of no class, and its slots would have no grain

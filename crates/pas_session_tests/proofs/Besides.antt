@@ -26,7 +26,8 @@ pub opens_beside : {desk : PlainDesk} {pass : PlainPass} {room : ℕ} → Opens 
 opens_beside o = record { view = []; whole = []; stood = o.stood; rests = o.rests; other = o.other }
 
 -- ---- the steps of the one actor leave the other at rest
-pub still_beside : {d d' : PlainDesk} {pass : PlainPass} {B : View → Type 0} → Brings (standing_of d) (standing_of d') AnyView B → Beside d pass → Beside d' pass
+pub still_beside : {d d' : PlainDesk} {pass : PlainPass} {B : View → Type 0} → Brings (standing_of d) (standing_of d') AnyView B → Beside d pass
+    → Beside d' pass
 still_beside {d} {d'} {pass} {B} brought beside =
     let same : actor_of d'.pass ≡ actor_of d.pass = ap (λ (s : Seat). s.actor) brought.calls.adds.seat_is in
     let of : profile_of d'.region ≡ profile_of d.region = ap (λ (s : Seat). s.profile) brought.calls.adds.seat_is in
@@ -39,7 +40,8 @@ still_beside {d} {d'} {pass} {B} brought beside =
       other = λ e. beside.other (sym same ∙ e);
     }
 
-module _ {d d' : PlainDesk} {B : View → Type 0} (taken : Steps (standing_of d) (standing_of d') B) (pass : PlainPass) (v : View) (l : Whole) (stood : DeskStands d v l) (met : B v) (rests : PassStands (profile_of (region_of d)) pass l) (other : actor_of (pass_of d) ≢ actor_of pass) where
+module _ {d d' : PlainDesk} {B : View → Type 0} (taken : Steps (standing_of d) (standing_of d') B) (pass : PlainPass) (v : View) (l : Whole)
+    (stood : DeskStands d v l) (met : B v) (rests : PassStands (profile_of (region_of d)) pass l) (other : actor_of (pass_of d) ≢ actor_of pass) where
   same_actor : actor_of (pass_of d') ≡ actor_of (pass_of d)
   same_actor = ap (λ (s : Seat). s.actor) taken.adds.seat_is
 
@@ -47,6 +49,7 @@ module _ {d d' : PlainDesk} {B : View → Type 0} (taken : Steps (standing_of d)
   rests_then = subst (λ (f : Profile). PassStands f pass (triples (actor_of (pass_of d)) taken.steps ++ l)) (sym (ap (λ (s : Seat). s.profile) taken.adds.seat_is))
       (pass_rests (profile_of (region_of d)) pass (actor_of (pass_of d)) taken.steps l other rests)
 
+  -- After a call at a desk the other actor's pass still rests beside it.
   pub beside_then : Beside d' pass
   beside_then = record {
     view = taken.steps ++ v;
@@ -56,6 +59,7 @@ module _ {d d' : PlainDesk} {B : View → Type 0} (taken : Steps (standing_of d)
     other = λ e. other (sym same_actor ∙ e);
   }
 
+  -- After a call of the first actor, one that made no step yet waits beside it with its room.
   pub waits_then : {room : ℕ} → part (actor_of pass) l ≡ [] → room_of_pass (pass_of d) ≡ room → room_of_pass pass ≡ room → Waits d' pass room
   waits_then {room} none room_of room_of_other = record {
     view = taken.steps ++ v;
@@ -70,7 +74,8 @@ module _ {d d' : PlainDesk} {B : View → Type 0} (taken : Steps (standing_of d)
 
 -- ---- the other actor takes the seat
 -- it made no step yet
-pub seated_then : {desk : PlainDesk} {pass : PlainPass} {room : ℕ} (w : Waits desk pass room) (next : PlainDesk) → region_of next ≡ region_of desk → pass_of next ≡ pass → DeskStands next [] w.whole
+pub seated_then : {desk : PlainDesk} {pass : PlainPass} {room : ℕ} (w : Waits desk pass room) (next : PlainDesk) → region_of next ≡ region_of desk
+    → pass_of next ≡ pass → DeskStands next [] w.whole
 seated_then {desk} {pass} {room} w next region seat = record {
   region = subst (λ (r : PlainRegion). RegionStands r w.whole) (sym region) w.stood.region;
   pass = subst (λ (p : PlainPass). PassStands (profile_of (region_of next)) p w.whole) (sym seat) (subst (λ (r : PlainRegion). PassStands (profile_of r) pass w.whole) (sym region) w.rests);
@@ -78,9 +83,12 @@ seated_then {desk} {pass} {room} w next region seat = record {
 }
 
 -- the one that rose is at rest beside it
-pub rests_beside : {desk : PlainDesk} {pass : PlainPass} {room : ℕ} (w : Waits desk pass room) (next : PlainDesk) (risen : PlainPass) → region_of next ≡ region_of desk → risen ≡ pass_of desk → PassStands (profile_of (region_of next)) risen w.whole
+pub rests_beside : {desk : PlainDesk} {pass : PlainPass} {room : ℕ} (w : Waits desk pass room) (next : PlainDesk) (risen : PlainPass)
+    → region_of next ≡ region_of desk → risen ≡ pass_of desk → PassStands (profile_of (region_of next)) risen w.whole
 rests_beside {desk} {pass} {room} w next risen region same =
     subst (λ (p : PlainPass). PassStands (profile_of (region_of next)) p w.whole) (sym same) (subst (λ (r : PlainRegion). PassStands (profile_of r) (pass_of desk) w.whole) (sym region) w.stood.pass)
 
-pub others_then : {desk : PlainDesk} {pass : PlainPass} {room : ℕ} (w : Waits desk pass room) (next : PlainDesk) (risen : PlainPass) → pass_of next ≡ pass → risen ≡ pass_of desk → actor_of (pass_of next) ≢ actor_of risen
+-- Where two actors change places, the one that rises is another one than the one that sits.
+pub others_then : {desk : PlainDesk} {pass : PlainPass} {room : ℕ} (w : Waits desk pass room) (next : PlainDesk) (risen : PlainPass) → pass_of next ≡ pass
+    → risen ≡ pass_of desk → actor_of (pass_of next) ≢ actor_of risen
 others_then w next risen seat same e = w.other (sym (ap actor_of same) ∙ (sym e ∙ ap actor_of seat))

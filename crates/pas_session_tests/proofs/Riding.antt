@@ -18,9 +18,11 @@ use Rattle.pas_session_tests.proofs.Stormed.{fresh}
 pub rests_first : {d : PlainDesk} {p : PlainPass} {room : ℕ} {c : Cached} → Opens d p room → c.locals ≡ [] → c.log ≡ [] → RestsBeside d p c
 rests_first {d} {p} {room} {c} opens locals log = record { view = []; whole = []; stands = fresh refl refl opens; rest = rests_empty (profile_of (region_of d)) c [] locals log nothing_yet }
 
+-- An actor that rests beside another one may go on errands.
 pub may_go_beside : {d : PlainDesk} {p : PlainPass} {c : Cached} → RestsBeside d p c → CanCall (standing_of d) (AtRest (profile_of (region_of d)) c)
 may_go_beside {d} {p} b = record { view = b.view; whole = b.whole; stood = own_stands d p b.view b.whole b.stands; met = b.rest }
 
+-- An actor that went on an errand rests beside the other one with the cache that it has then.
 pub rests_then : {d d' : PlainDesk} {p : PlainPass} {c c' : Cached} → RestsBeside d p c → Borrows c c' (standing_of d) (standing_of d') → RestsBeside d' p c'
 rests_then {d} {d'} {p} {c} {c'} b goes =
     let f : Profile = profile_of (region_of d) in

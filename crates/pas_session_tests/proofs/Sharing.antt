@@ -9,8 +9,10 @@ use Rattle.pas_shared.specs.declared.desk.SharedDesk.{SharedDesk}
 use Rattle.pas_steps.proofs.Nothing.{nothing_yet}
 
 -- a request may be made of an empty cache at a region of one page, with room for four events more
-pub can_borrow : (desk : SharedDesk) (c : Cached) → view_of desk.pass ≡ [] → (seat_of desk.pass).room ≡ 16 → (seat_of desk.pass).profile.pages ≡ 1 → ((f : Profile) (v : View) → HasNothing v → AtRest f c v)
-    → CanCall (standing_of desk) (λ v. AtRest (seat_of desk.pass).profile c v × (5 + unknown_pages (seat_of desk.pass).profile v ≤ room_of_notes desk.pass.notes - length (events_noted desk.pass.notes)))
+pub can_borrow : (desk : SharedDesk) (c : Cached) → view_of desk.pass ≡ [] → (seat_of desk.pass).room ≡ 16 → (seat_of desk.pass).profile.pages ≡ 1
+    → ((f : Profile) (v : View) → HasNothing v → AtRest f c v)
+    → CanCall (standing_of desk) (λ v. AtRest (seat_of desk.pass).profile c v
+        × (5 + unknown_pages (seat_of desk.pass).profile v ≤ room_of_notes desk.pass.notes - length (events_noted desk.pass.notes)))
 can_borrow desk c none room pages rest =
     let view = view_of desk.pass in
     let k = (seat_of desk.pass).actor in

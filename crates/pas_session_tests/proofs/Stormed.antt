@@ -19,21 +19,28 @@ use Rattle.pas_trials.specs.Borrowing.{Borrows, RestsWithRoom}
 use Rattle.pas_session_tests.specs.Seated.{RestsBeside, two_threads}
 
 -- an actor that made no step may make requests
-pub may_begin_alone : {d : PlainDesk} {c : Cached} (n spare : ℕ) → DeskStands d [] [] → ((f : Profile) (v : View) → HasNothing v → AtRest f c v) → n + (profile_of (region_of d)).pages ≤ spare → CanCall (standing_of d) (RestsWithRoom (profile_of (region_of d)) c n spare)
+pub may_begin_alone : {d : PlainDesk} {c : Cached} (n spare : ℕ) → DeskStands d [] [] → ((f : Profile) (v : View) → HasNothing v → AtRest f c v)
+    → n + (profile_of (region_of d)).pages ≤ spare → CanCall (standing_of d) (RestsWithRoom (profile_of (region_of d)) c n spare)
 may_begin_alone {d} n spare stood rests room =
     let f : Profile = profile_of (region_of d) in
     let few : unknown_pages f [] ≤ f.pages = few_below f.pages [] in
     record { view = []; whole = []; stood = stood; met = (rests f [] nothing_yet, omega (arith, few, room)) }
 
-pub may_begin : {d : PlainDesk} {p : PlainPass} {room : ℕ} {c : Cached} (n spare : ℕ) → Opens d p room → ((f : Profile) (v : View) → HasNothing v → AtRest f c v) → n + (profile_of (region_of d)).pages ≤ spare → CanCall (standing_of d) (RestsWithRoom (profile_of (region_of d)) c n spare)
+-- An actor that has nothing may begin a storm with its empty cache.
+pub may_begin : {d : PlainDesk} {p : PlainPass} {room : ℕ} {c : Cached} (n spare : ℕ) → Opens d p room
+    → ((f : Profile) (v : View) → HasNothing v → AtRest f c v) → n + (profile_of (region_of d)).pages ≤ spare
+    → CanCall (standing_of d) (RestsWithRoom (profile_of (region_of d)) c n spare)
 may_begin n spare opens rests room = may_begin_alone n spare opens.stood rests room
 
 -- where there is room for so many events more, there is for fewer
-pub fewer : {σ : Standing} {c : Cached} {n spare : ℕ} (m : ℕ) → m ≤ n → CanCall σ (λ v. AtRest σ.seat.profile c v × (n + unknown_pages σ.seat.profile v ≤ spare)) → CanCall σ (λ v. AtRest σ.seat.profile c v × (m + unknown_pages σ.seat.profile v ≤ spare))
+pub fewer : {σ : Standing} {c : Cached} {n spare : ℕ} (m : ℕ) → m ≤ n
+    → CanCall σ (λ v. AtRest σ.seat.profile c v × (n + unknown_pages σ.seat.profile v ≤ spare))
+    → CanCall σ (λ v. AtRest σ.seat.profile c v × (m + unknown_pages σ.seat.profile v ≤ spare))
 fewer m less can = record { view = can.view; whole = can.whole; stood = can.stood; met = (can.met.0, omega (arith, can.met.1, less)) }
 
 -- once it made them it rests beside the other one
-pub rests_beside : {d d' : PlainDesk} {p : PlainPass} {room : ℕ} {c c' : Cached} → Opens d p room → ((f : Profile) (v : View) → HasNothing v → AtRest f c v) → Borrows c c' (standing_of d) (standing_of d') → RestsBeside d' p c'
+pub rests_beside : {d d' : PlainDesk} {p : PlainPass} {room : ℕ} {c c' : Cached} → Opens d p room → ((f : Profile) (v : View) → HasNothing v → AtRest f c v)
+    → Borrows c c' (standing_of d) (standing_of d') → RestsBeside d' p c'
 rests_beside {d} {d'} {p} {room} {c} {c'} opens rests borrows =
     let f : Profile = profile_of (region_of d) in
     let k : ℕ = actor_of (pass_of d) in
@@ -58,12 +65,14 @@ rests_beside {d} {d'} {p} {room} {c} {c'} opens rests borrows =
     }
 
 -- ---- region and pass of the desk
-parted : {d : PlainDesk} {p : PlainPass} {c : Cached} {r : PlainRegion} {own : PlainPass} → r ≡ region_of d → own ≡ pass_of d → (b : RestsBeside d p c) → StormStands r own p b.view b.whole
+parted : {d : PlainDesk} {p : PlainPass} {c : Cached} {r : PlainRegion} {own : PlainPass} → r ≡ region_of d → own ≡ pass_of d → (b : RestsBeside d p c)
+    → StormStands r own p b.view b.whole
 parted {d} {p} {c} {r} {own} region pass b =
     subst (λ (x : PlainRegion). StormStands x own p b.view b.whole) (sym region) (subst (λ (x : PlainPass). StormStands (region_of d) x p b.view b.whole) (sym pass) b.stands)
 
 -- the storm's desk may stop the cache
-pub may_stop : {σ : Standing} {d : PlainDesk} {p : PlainPass} {c : Cached} {r : PlainRegion} {own : PlainPass} → r ≡ region_of d → own ≡ pass_of d → (b : RestsBeside d p c) → σ.seat ≡ seat_for r own
+pub may_stop : {σ : Standing} {d : PlainDesk} {p : PlainPass} {c : Cached} {r : PlainRegion} {own : PlainPass} → r ≡ region_of d → own ≡ pass_of d
+    → (b : RestsBeside d p c) → σ.seat ≡ seat_for r own
     → ((v : View) (w l : Whole) → StormStands r own p v w → σ.stands v l) → CanCall σ (AtRest σ.seat.profile c)
 may_stop {c = c} region pass b seat stands = record {
   view = b.view;
@@ -73,7 +82,8 @@ may_stop {c = c} region pass b seat stands = record {
 }
 
 -- ---- nobody made a step yet
-pub fresh : {d : PlainDesk} {p : PlainPass} {room : ℕ} {r : PlainRegion} {own : PlainPass} → r ≡ region_of d → own ≡ pass_of d → Opens d p room → StormStands r own p [] []
+pub fresh : {d : PlainDesk} {p : PlainPass} {room : ℕ} {r : PlainRegion} {own : PlainPass} → r ≡ region_of d → own ≡ pass_of d → Opens d p room
+    → StormStands r own p [] []
 fresh {d} {p} {r = r} {own} region pass opens =
     let begun : StormStands (region_of d) (pass_of d) p [] [] = record { region_stands = opens.stood.region; own_part = opens.stood.pass; foreign_part = opens.rests; other = λ e. opens.other (sym e); part_is = refl; nothing = nothing_yet } in
     subst (λ (x : PlainRegion). StormStands x own p [] []) (sym region) (subst (λ (x : PlainPass). StormStands (region_of d) x p [] []) (sym pass) begun)
@@ -83,13 +93,15 @@ pub of_heap : (f : Profile) (class : ℕ) → class < 16 → f ≡ two_threads 1
 of_heap f class small of = let heaps : f.heaps ≡ 1 = ap (λ (g : Profile). g.heaps) of in let classes : f.classes ≡ 16 = ap (λ (g : Profile). g.classes) of in record { heap = omega (arith, heaps); kind = omega (arith, small); class = omega (arith, classes, small) }
 
 -- and may refill a class
-pub may_refill : {σ : Standing} {d : PlainDesk} {p : PlainPass} {room : ℕ} {r : PlainRegion} {own : PlainPass} (class spare : ℕ) → r ≡ region_of d → own ≡ pass_of d → Opens d p room → 2 ≤ spare
+pub may_refill : {σ : Standing} {d : PlainDesk} {p : PlainPass} {room : ℕ} {r : PlainRegion} {own : PlainPass} (class spare : ℕ) → r ≡ region_of d
+    → own ≡ pass_of d → Opens d p room → 2 ≤ spare
     → ((v : View) (w l : Whole) → StormStands r own p v w → σ.stands v l) → CanCall σ (SearchRoom σ.seat.profile (class_directory 0 class) 1 spare)
 may_refill class spare region pass opens two stands =
     record { view = []; whole = []; stood = stands [] [] [] (fresh region pass opens); met = record { may = may_search (class_directory 0 class); room = (omega (arith, two), inr (omega (arith, two))) } }
 
 -- there is room for all events
-pub room_left : {d : PlainDesk} {p : PlainPass} {room : ℕ} {own : PlainPass} → own ≡ pass_of d → Opens d p room → room_of_pass own - length (events_shown own) ≡ room
+pub room_left : {d : PlainDesk} {p : PlainPass} {room : ℕ} {own : PlainPass} → own ≡ pass_of d → Opens d p room
+    → room_of_pass own - length (events_shown own) ≡ room
 room_left {d} {room = room} pass opens =
     let none : length (events_shown (pass_of d)) ≡ 0 = ap length opens.stood.pass.shown in
     let whole : room_of_pass (pass_of d) - length (events_shown (pass_of d)) ≡ room = omega (arith, none, opens.room_of) in

@@ -26,6 +26,7 @@ nobody_there : (k : ℕ) (v : View) → HasRow (empty_row ∷ []) k v → ⊥
 nobody_there k v (inl h) = true≢false (sym h.0)
 nobody_there k v (inr h) = h
 
+-- A bench that enters a region has no row.
 pub lays_out : (f : Profile) (slots i : ℕ) → Enters (Holds f) slots i (λ n w. IsEmptyBench (w, []))
 lays_out f slots i s h len fits = (
   Benched (empty_row ∷ []),
@@ -69,7 +70,8 @@ pub among_only : (test : ℕ → Bool) (ns : List ℕ) (k : ℕ) → among (only
 among_only test [] k h = absurd (true≢false (sym h))
 among_only test (n ∷ ns) k h = at (among_only test ns k) (test n) refl
   where
-    first : (among (only test ns) k ≡ true → (among ns k ≡ true) × (test k ≡ true)) → test n ≡ true → among (n ∷ only test ns) k ≡ true → (b : Bool) → eqb n k ≡ b → (among (n ∷ ns) k ≡ true) × (test k ≡ true)
+    first : (among (only test ns) k ≡ true → (among ns k ≡ true) × (test k ≡ true)) → test n ≡ true → among (n ∷ only test ns) k ≡ true → (b : Bool)
+        → eqb n k ≡ b → (among (n ∷ ns) k ≡ true) × (test k ≡ true)
     first again its h true e = (among_first n k ns e, ap test (sym (eqb-true n k e)) ∙ its)
     first again its h false e = let rest = again (sym (among_rest n k (only test ns) e) ∙ h) in (among_more n k ns rest.0, rest.1)
 
@@ -77,6 +79,7 @@ among_only test (n ∷ ns) k h = at (among_only test ns k) (test n) refl
     at again true e = first again e (sym (ap (λ (b : Bool). among (if b then n ∷ only test ns else only test ns) k) e) ∙ h) (eqb n k) refl
     at again false e = let rest = again (sym (ap (λ (b : Bool). among (if b then n ∷ only test ns else only test ns) k) e) ∙ h) in (among_more n k ns rest.0, rest.1)
 
+-- An actor that passes a test is among the picked ones.
 pub among_picked : (test : ℕ → Bool) (ns : List ℕ) (k : ℕ) → among ns k ≡ true → test k ≡ true → among (only test ns) k ≡ true
 among_picked test [] k h its = absurd (true≢false (sym h))
 among_picked test (n ∷ ns) k h its = at (among_picked test ns k) (test n) refl
@@ -108,7 +111,8 @@ row_of_fewer test r l none h = record {
   made_is = no_steps_by_fewer (among (only test r.actors)) (among r.actors) h.since (λ k its. (among_only test r.actors k its).0) (h.made_is ∙ ap steps_of none) ∙ sym (ap steps_of none);
 }
 
-gives : (f : Profile) (id : ℕ) (test : ℕ → Bool) (r : Row) → r.made ≡ [] → Splits (Holds f) id (Benched (r ∷ [])) (Benched (row_of_only (isnt test) r ∷ [])) (Benched (row_of_only test r ∷ []))
+gives : (f : Profile) (id : ℕ) (test : ℕ → Bool) (r : Row) → r.made ≡ []
+    → Splits (Holds f) id (Benched (r ∷ [])) (Benched (row_of_only (isnt test) r ∷ [])) (Benched (row_of_only test r ∷ []))
 gives f id test r none s h there = record {
   whole = h.whole;
   legal = h.legal;
@@ -155,7 +159,8 @@ gives f id test r none s h there = record {
     went i b x z (inl p) = (moved b p.0 ∙ sym z, (own b (among_only test r.actors b p.0).0).1 ∙ p.1)
     went i b x z (inr p) = absurd p
 
-    kept : (i : ℕ) (y : Roster) (b : ℕ) (x : View) → Names y b x → ((i ≡ id) × (stays ≡ y)) ⊎ ((i ≢ id) × (get_elem? s.views i ≡ some y)) → (seat_number b ≡ i) × (h.own b ≡ x)
+    kept : (i : ℕ) (y : Roster) (b : ℕ) (x : View) → Names y b x → ((i ≡ id) × (stays ≡ y)) ⊎ ((i ≢ id) × (get_elem? s.views i ≡ some y))
+        → (seat_number b ≡ i) × (h.own b ≡ x)
     kept i y b x named (inl t) = stayed i b x t.0 (subst (λ (z : Roster). Names z b x) (sym t.1) named)
     kept i y b x named (inr t) =
         let old = h.named i y b x t.1 named in
@@ -168,7 +173,8 @@ gives f id test r none s h there = record {
         (at_end (set s.views id stays) goes y i e)
 
 -- ---- one gets a seat for itself
-leaves : (f : Profile) (id k : ℕ) (r : Row) → r.made ≡ [] → among r.actors k ≡ true → Splits (Holds f) id (Benched (r ∷ [])) (Benched (row_of_only (isnt (only_this k)) r ∷ [])) (alone k (made_in r k))
+leaves : (f : Profile) (id k : ℕ) (r : Row) → r.made ≡ [] → among r.actors k ≡ true
+    → Splits (Holds f) id (Benched (r ∷ [])) (Benched (row_of_only (isnt (only_this k)) r ∷ [])) (alone k (made_in r k))
 leaves f id a r none sits s h there = record {
   whole = h.whole;
   legal = h.legal;
@@ -214,7 +220,8 @@ leaves f id a r none sits s h there = record {
     went i b x z (inl p) = (moved b p.0 ∙ sym z, subst (λ (c : ℕ). h.own c ≡ x) p.0 ((own a sits).1 ∙ p.1))
     went i b x z (inr p) = absurd p
 
-    kept : (i : ℕ) (y : Roster) (b : ℕ) (x : View) → Names y b x → ((i ≡ id) × (stays ≡ y)) ⊎ ((i ≢ id) × (get_elem? s.views i ≡ some y)) → (seat_number b ≡ i) × (h.own b ≡ x)
+    kept : (i : ℕ) (y : Roster) (b : ℕ) (x : View) → Names y b x → ((i ≡ id) × (stays ≡ y)) ⊎ ((i ≢ id) × (get_elem? s.views i ≡ some y))
+        → (seat_number b ≡ i) × (h.own b ≡ x)
     kept i y b x named (inl t) = stayed i b x t.0 (subst (λ (z : Roster). Names z b x) (sym t.1) named)
     kept i y b x named (inr t) =
         let old = h.named i y b x t.1 named in
@@ -286,23 +293,30 @@ settles f slots id i rs s h len there fits = (
         (at_set s.views id j now u e)
 
 -- ---- at a seat that is known by an equation
-pub gives_as : (f : Profile) (id : ℕ) (test : ℕ → Bool) (me : Me (Unit {0}) Roster) (r : Row) → me ≡ (Benched (rows_in me.0), []) → rows_in me.0 ≡ r ∷ [] → r.made ≡ [] → Splits (Holds f) id me.0 (left_of test me.0) (picked_of test me.0)
+pub gives_as : (f : Profile) (id : ℕ) (test : ℕ → Bool) (me : Me (Unit {0}) Roster) (r : Row) → me ≡ (Benched (rows_in me.0), []) → rows_in me.0 ≡ r ∷ []
+    → r.made ≡ [] → Splits (Holds f) id me.0 (left_of test me.0) (picked_of test me.0)
 gives_as f id test me r benched is none =
     subst (λ (m : Me (Unit {0}) Roster). Splits (Holds f) id m.0 (left_of test m.0) (picked_of test m.0)) (sym (benched ∙ ap (λ (rs : List Row). (Benched rs, [])) is)) (gives f id test r none)
 
-pub settles_as : (f : Profile) (slots id i : ℕ) (me : Me (Unit {0}) Roster) → me ≡ (Benched (rows_in me.0), []) → Allows (Holds f) slots id me i (λ n. n) (λ n after. SettlesAll me after)
+-- A look of a bench makes one row of all its rows, however the bench is written.
+pub settles_as : (f : Profile) (slots id i : ℕ) (me : Me (Unit {0}) Roster) → me ≡ (Benched (rows_in me.0), [])
+    → Allows (Holds f) slots id me i (λ n. n) (λ n after. SettlesAll me after)
 settles_as f slots id i me benched = subst (λ (m : Me (Unit {0}) Roster). Allows (Holds f) slots id m i (λ n. n) (λ n after. SettlesAll m after)) (sym benched) (settles f slots id i (rows_in me.0))
 
 -- ---- a step at it
 pub benched_is : (me : Me (Unit {0}) Roster) (rs : List Row) → me ≡ (Benched rs, []) → me ≡ (Benched (rows_in me.0), [])
 benched_is me rs is = subst (λ (m : Me (Unit {0}) Roster). m ≡ (Benched (rows_in m.0), [])) (sym is) refl
 
+-- A bench of one row is that row, however it is written.
 pub one_row : (me : Me (Unit {0}) Roster) (r : Row) → me ≡ (Benched (rows_in me.0), []) → rows_in me.0 ≡ r ∷ [] → me ≡ (Benched (r ∷ []), [])
 one_row me r benched is = benched ∙ ap (λ (rs : List Row). (Benched rs, [])) is
 
-pub row_stepped : (me now : Me (Unit {0}) Roster) (k : ℕ) (m : Made) (r : Row) → me ≡ (Benched (r ∷ []), []) → now ≡ (with_made k m me.0, []) → now ≡ (Benched (row_with k m r ∷ []), [])
+-- A step at a bench of one row is that row with the step.
+pub row_stepped : (me now : Me (Unit {0}) Roster) (k : ℕ) (m : Made) (r : Row) → me ≡ (Benched (r ∷ []), []) → now ≡ (with_made k m me.0, [])
+    → now ≡ (Benched (row_with k m r ∷ []), [])
 row_stepped me now k m r was is = is ∙ ap (λ (n : Me (Unit {0}) Roster). (with_made k m n.0, [])) was
 
+-- A member of a row sits in the same row, however it is written.
 pub sits_as : (r s : Row) (member : Member) → s ≡ r → SitsInRow r member → SitsInRow s member
 sits_as r s member is sits = subst (λ (q : Row). SitsInRow q member) (sym is) sits
 
@@ -333,11 +347,14 @@ cut (t ∷ a) b (s ∷ c) d e many = λ i. (first (e i) t ∷ cut a b c d (λ j.
     rest (x ∷ xs) = xs
 
 -- what its actors did in such a list since it was like that is what the row names, in its order
-pub row_since : (r : Row) (since l : Whole) → StandsOver r (since ++ l) → ((k : ℕ) → among r.actors k ≡ true → part k l ≡ part k (steps_of r.base)) → steps_by (among r.actors) since ≡ steps_of r.made
+pub row_since : (r : Row) (since l : Whole) → StandsOver r (since ++ l) → ((k : ℕ) → among r.actors k ≡ true → part k l ≡ part k (steps_of r.base))
+    → steps_by (among r.actors) since ≡ steps_of r.made
 row_since r since l h same =
     cut _ _ _ _ (sym (steps_by_both (among r.actors) since l) ∙ h.order) (as_many_steps (among r.actors) l h.before (λ k its. same k its ∙ sym (h.parts k its)))
 
-pub leaves_as : (f : Profile) (id k : ℕ) (me : Me (Unit {0}) Roster) (r : Row) → me ≡ (Benched (rows_in me.0), []) → rows_in me.0 ≡ r ∷ [] → r.made ≡ [] → among r.actors k ≡ true → Splits (Holds f) id me.0 (left_of (only_this k) me.0) (leaver_of k me.0)
+-- A member of a fresh row may leave it.
+pub leaves_as : (f : Profile) (id k : ℕ) (me : Me (Unit {0}) Roster) (r : Row) → me ≡ (Benched (rows_in me.0), []) → rows_in me.0 ≡ r ∷ [] → r.made ≡ []
+    → among r.actors k ≡ true → Splits (Holds f) id me.0 (left_of (only_this k) me.0) (leaver_of k me.0)
 leaves_as f id k me r benched is none sits =
     subst (λ (m : Me (Unit {0}) Roster). Splits (Holds f) id m.0 (left_of (only_this k) m.0) (leaver_of k m.0)) (sym (benched ∙ ap (λ (rs : List Row). (Benched rs, [])) is)) (leaves f id k r none sits)
 
@@ -350,5 +367,6 @@ part_both k (t ∷ l) m = at (part_both k l m) (eqb t.actor k) refl
     at again true e = ap (λ (b : Bool). if b then t.made ∷ part k (l ++ m) else part k (l ++ m)) e ∙ (ap (λ (v : View). t.made ∷ v) again ∙ sym (ap (λ (b : Bool). (if b then t.made ∷ part k l else part k l) ++ part k m) e))
     at again false e = ap (λ (b : Bool). if b then t.made ∷ part k (l ++ m) else part k (l ++ m)) e ∙ (again ∙ sym (ap (λ (b : Bool). (if b then t.made ∷ part k l else part k l) ++ part k m) e))
 
+-- A row that stands over a list says of each actor what the list tells.
 pub row_tells : (r : Row) (l : Whole) (k : ℕ) → StandsOver r l → among r.actors k ≡ true → part k l ≡ made_in r k
 row_tells r l k h its = search (arith, part_of_chosen, part_both)

@@ -12,14 +12,18 @@ pub some_word : (region : SharedRegion) → 0 < region.table.shared.table_id.wor
 some_word region = omega (arith, region.keyed.1)
 
 -- ---- the seat of a ledger
-pub splits_last_as : (f : Profile) (id : ℕ) (me : Me (Unit {0}) Roster) (es : List (List Entry)) (p : Part) (ps : List Part) → me ≡ (Settled es (p ∷ ps), []) → Splits (Holds f) id me.0 (all_but_last me.0) (last_alone me.0)
+pub splits_last_as : (f : Profile) (id : ℕ) (me : Me (Unit {0}) Roster) (es : List (List Entry)) (p : Part) (ps : List Part) → me ≡ (Settled es (p ∷ ps), [])
+    → Splits (Holds f) id me.0 (all_but_last me.0) (last_alone me.0)
 splits_last_as f id me es p ps is = subst (λ (m : Me (Unit {0}) Roster). Splits (Holds f) id m.0 (all_but_last m.0) (last_alone m.0)) (sym is) (splits_last f id es p ps)
 
-pub looks_as : (f : Profile) (slots id i : ℕ) (me : Me (Unit {0}) Roster) (es : List (List Entry)) (ps : List Part) → me ≡ (Settled es ps, []) → Allows (Holds f) slots id me i (λ n. n) (λ n after. SeesAll me after)
+-- A look of a ledger sees all steps so far, with those that it saw before as first ones.
+pub looks_as : (f : Profile) (slots id i : ℕ) (me : Me (Unit {0}) Roster) (es : List (List Entry)) (ps : List Part) → me ≡ (Settled es ps, [])
+    → Allows (Holds f) slots id me i (λ n. n) (λ n after. SeesAll me after)
 looks_as f slots id i me es ps is = subst (λ (m : Me (Unit {0}) Roster). Allows (Holds f) slots id m i (λ n. n) (λ n after. SeesAll m after)) (sym is) (looks f slots id i es ps)
 
 -- it took this actor in last
-pub took_last : (me : Me (Unit {0}) Roster) (p : Part) (ps : List Part) → me ≡ (Settled (looks_in me.0) (parts_in me.0), []) → parts_in me.0 ≡ p ∷ ps → me ≡ (Settled (looks_in me.0) (p ∷ ps), [])
+pub took_last : (me : Me (Unit {0}) Roster) (p : Part) (ps : List Part) → me ≡ (Settled (looks_in me.0) (parts_in me.0), []) → parts_in me.0 ≡ p ∷ ps
+    → me ≡ (Settled (looks_in me.0) (p ∷ ps), [])
 took_last me p ps is last = is ∙ ap (λ (qs : List Part). (Settled (looks_in me.0) qs, [])) last
 
 -- what it saw at the looks before are the first of the steps that it saw at this one
@@ -27,7 +31,8 @@ pub saw_each : (me now : Me (Unit {0}) Roster) → SeesAll me now → AreEarlier
 saw_each me now sees = subst (λ (m : Me (Unit {0}) Roster). AreEarlier (looks_in me.0) (seen_in m.0)) (sym sees.after_is) sees.earlier
 
 -- it names the one actor that it took in
-pub took_alone : (me own now : Me (Unit {0}) Roster) (k : ℕ) (v : View) → me ≡ (Settled (looks_in me.0) (parts_in me.0), []) → parts_in me.0 ≡ [] → own.0 ≡ alone k v → now.0 ≡ joined me.0 own.0
+pub took_alone : (me own now : Me (Unit {0}) Roster) (k : ℕ) (v : View) → me ≡ (Settled (looks_in me.0) (parts_in me.0), []) → parts_in me.0 ≡ []
+    → own.0 ≡ alone k v → now.0 ≡ joined me.0 own.0
     → parts_in now.0 ≡ record { actor = k; made = v } ∷ []
 took_alone me own now k v is none its new =
     let was : me.0 ≡ Settled (looks_in me.0) [] = ap (λ (m : Me (Unit {0}) Roster). m.0) is ∙ ap (λ (ps : List Part). Settled (looks_in me.0) ps) none in

@@ -11,6 +11,7 @@ all_more {A = A} P xs ys x is all new = subst (λ (zs : List A). All P zs) (sym 
 pub first_is : {A : Type 0} (P : A → Type 0) (xs : List A) (x : A) (rest : List A) → xs ≡ x ∷ rest → All P xs → P x
 first_is {A = A} P xs x rest is all = subst (λ (ys : List A). All P ys) is all 0 x (omega arith)
 
+-- What is so of all of a list is so of those without its first.
 pub others_are : {A : Type 0} (P : A → Type 0) (xs : List A) (x : A) (rest : List A) → xs ≡ x ∷ rest → All P xs → All P rest
 others_are {A = A} P xs x rest is all k d lt = subst (λ (ys : List A). All P ys) is all (suc k) d (omega (arith, lt))
 

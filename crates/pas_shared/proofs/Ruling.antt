@@ -36,6 +36,7 @@ use Rattle.pas_shared.specs.Passes.{view_of, seat_of, IsNamed, AreWordsOf}
 
 -- ==== Every legal list is good.
 
+-- After every legal list what a region keeps is so.
 pub good : (f : Profile) (l : Whole) → IsValid f → Legal f l → IsGood f l
 good f l valid legal = record {
   place = in_one_place f l valid legal;
@@ -63,6 +64,7 @@ earlier_run : (f : Profile) (later es : List Event) → Run f (later ++ es) → 
 earlier_run f [] es run = run
 earlier_run f (e ∷ later) es run = earlier_run f later es run.1
 
+-- In no legal list was a page unbacked before all ends on it were old enough.
 pub none_is_early : (f : Profile) (l : Whole) → IsValid f → Legal f l → NoneIsEarly f (visible l)
 none_is_early f l valid legal k page epoch later earlier is = (earlier_run f later (Event.Unback k page epoch ∷ earlier) (subst (Run f) is (runs f l valid legal))).0.3
 
@@ -88,7 +90,8 @@ view_with own k m l b is = ⊎_elim here there (cases_eq b k)
 abbrev IsNamedAt : (ℕ → View) → (ℕ → ℕ) → ℕ → Roster → Type 0
 IsNamedAt own seat_number id u = (b : ℕ) (x : View) → Names u b x → (seat_number b ≡ id) × (own b ≡ x)
 
-named_with : (own : ℕ → View) (seat_number : ℕ → ℕ) (id k : ℕ) (v : View) (m : Made) (u : Roster) → SitsFor u k v → IsNamedAt own seat_number id u → IsNamedAt (with_step k m own) seat_number id (with_made k m u)
+named_with : (own : ℕ → View) (seat_number : ℕ → ℕ) (id k : ℕ) (v : View) (m : Made) (u : Roster) → SitsFor u k v → IsNamedAt own seat_number id u
+    → IsNamedAt (with_step k m own) seat_number id (with_made k m u)
 named_with own seat_number id k v m u (inl is) h = subst (λ (y : Roster). IsNamedAt (with_step k m own) seat_number id (with_made k m y)) (sym is) now
   where
     its : (seat_number k ≡ id) × (own k ≡ v)
@@ -106,7 +109,8 @@ named_with own seat_number id k v m u (inr (r, is, sits)) h = subst (λ (y : Ros
     now b x (inl p) = ((its b p.0).0, view_with own k m (steps_of r.made ++ steps_of r.base) b (its b p.0).1 ∙ p.1)
     now b x (inr p) = absurd p
 
-grows : (own : ℕ → View) (seat_number : ℕ → ℕ) (rosters : List Roster) (id k : ℕ) (v : View) (m : Made) (u : Roster) → AreNamed own seat_number rosters → get_elem? rosters id ≡ some u → SitsFor u k v → AreNamed (with_step k m own) seat_number (set rosters id (with_made k m u))
+grows : (own : ℕ → View) (seat_number : ℕ → ℕ) (rosters : List Roster) (id k : ℕ) (v : View) (m : Made) (u : Roster) → AreNamed own seat_number rosters
+    → get_elem? rosters id ≡ some u → SitsFor u k v → AreNamed (with_step k m own) seat_number (set rosters id (with_made k m u))
 grows own seat_number rosters id k v m u h at sits i y b x e named = ⊎_elim
     (λ (t : (i ≡ id) × (with_made k m u ≡ y)). let now = named_with own seat_number id k v m u sits (λ c z. h id u c z at) b x (subst (λ (z : Roster). Names z b x) (sym t.1) named) in (now.0 ∙ sym t.0, now.1))
     (λ (t : (i ≢ id) × (get_elem? rosters i ≡ some y)). there t.0 (h i y b x t.1 named))
@@ -120,7 +124,8 @@ pub know_set : (P : Roster → Type 0) (rosters : List Roster) (id : ℕ) (w : R
 know_set P rosters id w all new i u e = ⊎_elim (λ (t : (i ≡ id) × (w ≡ u)). subst P t.1 new) (λ (t : (i ≢ id) × (get_elem? rosters i ≡ some u)). all i u t.1) (at_set rosters id i w u e)
 
 -- .. where it is so anew of all but the one that changed
-know_others : (P Q : Roster → Type 0) (rosters : List Roster) (id : ℕ) (w : Roster) → ((i : ℕ) (u : Roster) → i ≢ id → get_elem? rosters i ≡ some u → P u → Q u) → AllKnow P rosters → Q w → AllKnow Q (set rosters id w)
+know_others : (P Q : Roster → Type 0) (rosters : List Roster) (id : ℕ) (w : Roster) → ((i : ℕ) (u : Roster) → i ≢ id → get_elem? rosters i ≡ some u → P u → Q u)
+    → AllKnow P rosters → Q w → AllKnow Q (set rosters id w)
 know_others P Q rosters id w still all new i u e = ⊎_elim (λ (t : (i ≡ id) × (w ≡ u)). subst Q t.1 new) (λ (t : (i ≢ id) × (get_elem? rosters i ≡ some u)). still i u t.0 t.1 (all i u t.1)) (at_set rosters id i w u e)
 
 abbrev pub Apart : Roster → Type 0
@@ -129,6 +134,7 @@ Apart u = AreApart (parts_in u)
 abbrev pub SawOf : Whole → Roster → Type 0
 SawOf l u = AreEarlier (looks_in u) l
 
+-- What saw nothing saw the first steps of each list.
 pub nothing_seen : (l : Whole) → AreEarlier [] l
 nothing_seen l = tt
 
@@ -153,6 +159,7 @@ abbrev pub entries_for : Whole → List Entry
 entries_for [] = []
 entries_for (t ∷ l) = record { actor = t.actor; made = t.made } ∷ entries_for l
 
+-- The steps of a list's entries are the list.
 pub entries_same : (l : Whole) → steps_of (entries_for l) ≡ l
 entries_same [] = refl
 entries_same (t ∷ l) = ap (λ (m : Whole). t ∷ m) (entries_same l)
@@ -195,7 +202,8 @@ rows_with_step : (l : Whole) (k : ℕ) (v : View) (m : Made) (u : Roster) → Si
 rows_with_step l k v m u h i = grind (arith, row_grown)
 
 -- ---- a step
-adds : (f : Profile) (slots id k : ℕ) (v : View) (s : Step) (i : ℕ) (g : ℕ → ℕ) (u : Roster) → SitsFor u k v → IsAskedOf f k v s → i ≡ index_of f.pages (target s) → ((n : ℕ) → new_value (epoch_of v) s n ≡ g n)
+adds : (f : Profile) (slots id k : ℕ) (v : View) (s : Step) (i : ℕ) (g : ℕ → ℕ) (u : Roster) → SitsFor u k v → IsAskedOf f k v s
+    → i ≡ index_of f.pages (target s) → ((n : ℕ) → new_value (epoch_of v) s n ≡ g n)
     → Allows (Holds f) slots id (u, []) i g (IsAdded f u k v s)
 adds f slots id k v s i g u sits asked at same t h len there fits =
     let n : ℕ = slice_index t.words i in
@@ -252,7 +260,8 @@ adds_if_kept f slots id k v s i u sits asked at t h len there fits = ⊎_elim ke
     )
 
 -- ---- a call: what the table asks of it, at a seat and a key that are known by equations
-at_call : {f key : Profile} {here there : TableId} {m slots id k : ℕ} {v : View} {i : ℕ} {u : Roster} {me : Me (Unit {0}) Roster} (s : Step) (g : ℕ → ℕ) (told : ℕ → Me (Unit {0}) Roster → Type 0)
+at_call : {f key : Profile} {here there : TableId} {m slots id k : ℕ} {v : View} {i : ℕ} {u : Roster} {me : Me (Unit {0}) Roster} (s : Step) (g : ℕ → ℕ)
+    (told : ℕ → Me (Unit {0}) Roster → Type 0)
     → (here ≡ there) × (key ≡ f) × (m ≡ words_of f.pages f.heaps)
     → me ≡ (u, []) → IsAskedOf f k v s → i ≡ index_of f.pages (target s)
     → Allows (Holds f) slots id (u, []) i g told
@@ -260,7 +269,8 @@ at_call : {f key : Profile} {here there : TableId} {m slots id k : ℕ} {v : Vie
 at_call {f = f} {m = m} {slots = slots} {id = id} {v = v} {i = i} s g told place seated asked at allows = search (arith, index_lt, target_of_region)
 
 -- for the step that a match has shown to be s
-pub may_make : {f key : Profile} {here there : TableId} {m slots id k : ℕ} {v : View} {u : Roster} {chosen step s : Step} {i e : ℕ} {g : ℕ → ℕ} {me : Me (Unit {0}) Roster}
+pub may_make : {f key : Profile} {here there : TableId} {m slots id k : ℕ} {v : View} {u : Roster} {chosen step s : Step} {i e : ℕ} {g : ℕ → ℕ}
+    {me : Me (Unit {0}) Roster}
     → (here ≡ there) × (key ≡ f) × (m ≡ words_of f.pages f.heaps)
     → (me ≡ (u, [])) × SitsFor u k v × (chosen ≡ step) × IsAskedOf f k v step
     → (i ≡ index_of f.pages (target step)) × (e ≡ epoch_of v)
@@ -281,7 +291,8 @@ pub may_look_first : {f key : Profile} {here there : TableId} {m slots id k : �
 may_look_first {f = f} {slots = slots} {id = id} {k = k} {v = v} {u = u} {s = s} {i = i} place asked at = at_call s (λ n. n) (IsAddedIfKept f u k v s) place asked.0 asked.2 at (adds_if_kept f slots id k v s i u asked.1 asked.2 at)
 
 -- for the exchange after such a load, which found a word that the change alters
-pub may_change : {f key : Profile} {here there : TableId} {m slots id k : ℕ} {v : View} {u : Roster} {s : Step} {i n : ℕ} {g : ℕ → ℕ} {me : Me (Unit {0}) Roster} (change : Change)
+pub may_change : {f key : Profile} {here there : TableId} {m slots id k : ℕ} {v : View} {u : Roster} {s : Step} {i n : ℕ} {g : ℕ → ℕ}
+    {me : Me (Unit {0}) Roster} (change : Change)
     → (here ≡ there) × (key ≡ f) × (m ≡ words_of f.pages f.heaps)
     → SitsFor u k v × IsAskedOf f k v s → i ≡ index_of f.pages (target s) → Makes v s change
     → IsAddedIfKept f u k v s n me → changed change n ≢ n
@@ -290,6 +301,7 @@ pub may_change : {f key : Profile} {here there : TableId} {m slots id k : ℕ} {
 may_change {n = n} change place asked at makes looked altered new =
     may_make place (looked.changed (λ same. altered (sym (makes n) ∙ same)), asked.0, refl, asked.1) (at, refl) refl (λ x. makes x ∙ new x)
 
+-- A choice of two values is the same by either name.
 pub either_if : (b : Bool) (x y : ℕ) → (if b then x else y) ≡ either b x y
 either_if true x y = refl
 either_if false x y = refl
@@ -301,13 +313,16 @@ at_end [] a b (suc j) e = absurd (some-ne-none b (sym e))
 at_end (x ∷ xs) a b zero e = inl e
 at_end (x ∷ xs) a b (suc j) e = ⊎_elim inl (λ (t : (j ≡ length xs) × (a ≡ b)). inr (ap suc t.0, t.1)) (at_end xs a b j e)
 
+-- One more roster that is so makes all of them so.
 pub know_end : (P : Roster → Type 0) (rosters : List Roster) (w : Roster) → AllKnow P rosters → P w → AllKnow P (rosters ++ w ∷ [])
 know_end P rosters w all new i u e = ⊎_elim (λ was. all i u was) (λ (t : (i ≡ length rosters) × (w ≡ u)). subst P t.1 new) (at_end rosters w u i e)
 
 -- .. of the one whose view is cut in two, and of the new one
-pub know_split : (P : Roster → Type 0) (rosters : List Roster) (id : ℕ) (left right : Roster) → AllKnow P rosters → P left → P right → AllKnow P (set rosters id left ++ right ∷ [])
+pub know_split : (P : Roster → Type 0) (rosters : List Roster) (id : ℕ) (left right : Roster) → AllKnow P rosters → P left → P right
+    → AllKnow P (set rosters id left ++ right ∷ [])
 know_split P rosters id left right all one other = know_end P (set rosters id left) right (know_set P rosters id left all one) other
 
+-- The first of the actors that nobody used may be taken away.
 pub splits : (f : Profile) (id n : ℕ) → Splits (Holds f) id (Unused n) (all_but_first (Unused n)) (first_alone (Unused n))
 splits f id n s h there = record {
   whole = h.whole;
@@ -337,7 +352,8 @@ splits f id n s h there = record {
     own : h.seat_number n ≡ id
     own = (h.named id (Unused n) n [] there (omega arith, refl)).0
 
-    kept : (i : ℕ) (u : Roster) (b : ℕ) (x : View) → Names u b x → ((i ≡ id) × (Unused (n + 1) ≡ u)) ⊎ ((i ≢ id) × (get_elem? s.views i ≡ some u)) → (seat_number b ≡ i) × (h.own b ≡ x)
+    kept : (i : ℕ) (u : Roster) (b : ℕ) (x : View) → Names u b x → ((i ≡ id) × (Unused (n + 1) ≡ u)) ⊎ ((i ≢ id) × (get_elem? s.views i ≡ some u))
+        → (seat_number b ≡ i) × (h.own b ≡ x)
     kept i u b x named (inl t) =
         let q : (n + 1 ≤ b) × (x ≡ []) = subst (λ (y : Roster). Names y b x) (sym t.1) named in
         let le = q.0 in
@@ -380,7 +396,8 @@ among_one n k h = at (n == k) refl h
     at false e h = absurd (true≢false (sym h ∙ ap (λ (b : Bool). if b then true else false) e))
 
 -- a row of one actor names it alone
-row_of_one : (p : Part) (k : ℕ) (v : View) → SitsIn (record { actors = p.actor ∷ []; made = entries_by p.actor p.made; base = [] }) k v → (p.actor ≡ k) × (p.made ≡ v)
+row_of_one : (p : Part) (k : ℕ) (v : View) → SitsIn (record { actors = p.actor ∷ []; made = entries_by p.actor p.made; base = [] }) k v
+    → (p.actor ≡ k) × (p.made ≡ v)
 row_of_one p k v sits = search (arith, among_one, entries_are, part_of_own, append-nil)
 
 rows_of_parts : (ps : List Part) (k : ℕ) (v : View) → HasRow (rows_of ps) k v → HasPart ps k v
@@ -456,6 +473,7 @@ rows_joined (Unused n) (Settled es qs) l one other own = other
 rows_joined (Unused n) (Benched qs) l one other own = other
 rows_joined _ _ l one other own = tt
 
+-- Two rosters that are joined are one of both, and nothing is left.
 pub joins : (f : Profile) (id : ℕ) (u : Roster) (other : ℕ) (w : Roster) → Joins (Holds f) id u other w (joined u w) (Listed [])
 joins f id u other w s h here apart there = record {
   whole = h.whole;
@@ -492,7 +510,8 @@ joins f id u other w s h here apart there = record {
     both i b x z (inl named) = let old = h.named id u b x here named in (as_was b i (λ e. apart (sym e ∙ z)) (old.0 ∙ sym z), old.1)
     both i b x z (inr named) = let old = h.named other w b x theirs named in (moved b old.0 ∙ sym z, old.1)
 
-    kept : (i : ℕ) (y : Roster) (b : ℕ) (x : View) → i ≢ other → Names y b x → ((i ≡ id) × (joined u w ≡ y)) ⊎ ((i ≢ id) × (get_elem? s.views i ≡ some y)) → (seat_number b ≡ i) × (h.own b ≡ x)
+    kept : (i : ℕ) (y : Roster) (b : ℕ) (x : View) → i ≢ other → Names y b x → ((i ≡ id) × (joined u w ≡ y)) ⊎ ((i ≢ id) × (get_elem? s.views i ≡ some y))
+        → (seat_number b ≡ i) × (h.own b ≡ x)
     kept i y b x ne named (inl t) = both i b x t.0 (names_either u w b x (subst (λ (z : Roster). Names z b x) (sym t.1) named))
     kept i y b x ne named (inr t) = let old = h.named i y b x t.1 named in (as_was b i ne old.0, old.1)
 
@@ -515,6 +534,7 @@ taken_in : (u : Roster) (n : ℕ) (w : View) → IsNoBench u → HasPart (parts_
 taken_in (Benched rs) n w list = absurd list
 taken_in _ n w list = inl (refl, refl)
 
+-- A roster that is no bench is none with one actor more.
 pub no_bench_still : (u : Roster) (n : ℕ) (w : View) → IsNoBench u → IsNoBench (joined u (alone n w))
 no_bench_still (Benched rs) n w list = list
 no_bench_still _ n w list = tt
@@ -525,7 +545,8 @@ seen_still (Unused m) n w = refl
 seen_still _ n w = refl
 
 -- one more pass
-pub takes_in : (u : Roster) (me : Me (Unit {0}) Roster) (p : SharedPass) (rest : List SharedPass) → IsNoBench u → me ≡ (joined u p.place.seat.me.0, []) → All (IsNamed u) rest → All (IsNamed me.0) (p ∷ rest)
+pub takes_in : (u : Roster) (me : Me (Unit {0}) Roster) (p : SharedPass) (rest : List SharedPass) → IsNoBench u → me ≡ (joined u p.place.seat.me.0, [])
+    → All (IsNamed u) rest → All (IsNamed me.0) (p ∷ rest)
 takes_in u me p rest list is h = search (arith, taken_in)
 
 names_shown : (u : Roster) (k : ℕ) (v : View) → HasPart (parts_in u) k v → Names u k v
@@ -545,7 +566,9 @@ ends f u state passes left named = (
 )
 
 -- the table at the end held the rule
-pub left_by : (f key : Profile) (id : ℕ) (u : Roster) (words : List ℕ) (slots : List (Unit {0})) (state : State) → key ≡ f → Final (Seen (Holds key) id u) words slots → profile_of state ≡ f → ((w : Word) → IsWordOf f w → word_in state w ≡ slice_index words (index_of f.pages w)) → IsLeftBy f u state
+pub left_by : (f key : Profile) (id : ℕ) (u : Roster) (words : List ℕ) (slots : List (Unit {0})) (state : State) → key ≡ f
+    → Final (Seen (Holds key) id u) words slots → profile_of state ≡ f → ((w : Word) → IsWordOf f w → word_in state w ≡ slice_index words (index_of f.pages w))
+    → IsLeftBy f u state
 left_by f key id u words slots state known (s, h, words_are, homes, there) profiled values = record {
   profile = profiled;
   words = words;
@@ -556,6 +579,7 @@ left_by f key id u words slots state known (s, h, words_are, homes, there) profi
   values = values;
 }
 
+-- An element that is at a place is the one that is read there.
 pub read_at : (xs : List ℕ) (i a d : ℕ) → get_elem? xs i ≡ some a → get_or xs i d ≡ a
 read_at [] i a d e = absurd (some-ne-none a (sym e))
 read_at (x ∷ xs) zero a d e = some-injective x a e
@@ -615,7 +639,8 @@ splits_all f id u s h there = record {
     as_was : (b i : ℕ) → i ≢ id → h.seat_number b ≡ i → seat_number b ≡ i
     as_was b i ne e = ap (λ c. if c then k else h.seat_number b) (ne_eqb (h.seat_number b) id (λ z. ne (sym e ∙ z))) ∙ e
 
-    kept : (i : ℕ) (y : Roster) (b : ℕ) (x : View) → Names y b x → ((i ≡ id) × (Listed [] ≡ y)) ⊎ ((i ≢ id) × (get_elem? s.views i ≡ some y)) → (seat_number b ≡ i) × (h.own b ≡ x)
+    kept : (i : ℕ) (y : Roster) (b : ℕ) (x : View) → Names y b x → ((i ≡ id) × (Listed [] ≡ y)) ⊎ ((i ≢ id) × (get_elem? s.views i ≡ some y))
+        → (seat_number b ≡ i) × (h.own b ≡ x)
     kept i y b x named (inl t) = absurd (subst (λ (z : Roster). Names z b x) (sym t.1) named)
     kept i y b x named (inr t) = let old = h.named i y b x t.1 named in (as_was b i t.0 old.0, old.1)
 
@@ -629,7 +654,8 @@ splits_all f id u s h there = record {
         (at_end (set s.views id (Listed [])) u y i e)
 
 -- ---- the actor that was taken in last gets one
-pub splits_last : (f : Profile) (id : ℕ) (es : List (List Entry)) (p : Part) (ps : List Part) → Splits (Holds f) id (Settled es (p ∷ ps)) (Settled es ps) (Listed (p ∷ []))
+pub splits_last : (f : Profile) (id : ℕ) (es : List (List Entry)) (p : Part) (ps : List Part)
+    → Splits (Holds f) id (Settled es (p ∷ ps)) (Settled es ps) (Listed (p ∷ []))
 splits_last f id es p ps s h there = record {
   whole = h.whole;
   legal = h.legal;
@@ -658,7 +684,8 @@ splits_last f id es p ps s h there = record {
     own : (h.seat_number p.actor ≡ id) × (h.own p.actor ≡ p.made)
     own = h.named id (Settled es (p ∷ ps)) p.actor p.made there (inl (refl, refl))
 
-    kept : (i : ℕ) (y : Roster) (b : ℕ) (x : View) → Names y b x → ((i ≡ id) × (Settled es ps ≡ y)) ⊎ ((i ≢ id) × (get_elem? s.views i ≡ some y)) → (seat_number b ≡ i) × (h.own b ≡ x)
+    kept : (i : ℕ) (y : Roster) (b : ℕ) (x : View) → Names y b x → ((i ≡ id) × (Settled es ps ≡ y)) ⊎ ((i ≢ id) × (get_elem? s.views i ≡ some y))
+        → (seat_number b ≡ i) × (h.own b ≡ x)
     kept i y b x named (inl t) =
         let has : HasPart ps b x = subst (λ (z : Roster). Names z b x) (sym t.1) named in
         let old = h.named id (Settled es (p ∷ ps)) b x there (inr has) in
@@ -678,7 +705,8 @@ splits_last f id es p ps s h there = record {
         (at_end (set s.views id (Settled es ps)) (Listed (p ∷ [])) y i e)
 
 -- ---- a look
-pub looks : (f : Profile) (slots id i : ℕ) (es : List (List Entry)) (ps : List Part) → Allows (Holds f) slots id (Settled es ps, []) i (λ n. n) (λ n me. SeesAll (Settled es ps, []) me)
+pub looks : (f : Profile) (slots id i : ℕ) (es : List (List Entry)) (ps : List Part)
+    → Allows (Holds f) slots id (Settled es ps, []) i (λ n. n) (λ n me. SeesAll (Settled es ps, []) me)
 looks f slots id i es ps s h len there fits = (
   now,
   keeps,

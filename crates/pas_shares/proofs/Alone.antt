@@ -53,7 +53,8 @@ wakes_held : (ops : List Op) (k : ℕ) (js : List ℕ) → AllByRecursion (λ (o
 wakes_held ops k [] own = tt
 wakes_held ops k (j ∷ js) own = at (wakes_held ops k js own) (is_active ops j) refl
   where
-    at : AreHeldBy itself k (map Wakes (filter (is_active ops) js)) → (b : Bool) → is_active ops j ≡ b → AreHeldBy itself k (map Wakes (if b then j ∷ filter (is_active ops) js else filter (is_active ops) js))
+    at : AreHeldBy itself k (map Wakes (filter (is_active ops) js)) → (b : Bool) → is_active ops j ≡ b
+        → AreHeldBy itself k (map Wakes (if b then j ∷ filter (is_active ops) js else filter (is_active ops) js))
     at rest true on = (active_is ops k j own on, rest)
     at rest false off = rest
 
@@ -65,7 +66,8 @@ all_held : (owner : Owners) (k : ℕ) (acts : List Act) → AreInHand owner acts
 all_held owner k [] hands of = tt
 all_held owner k (act ∷ acts) hands of = (held_of owner k act hands.0 of.0, all_held owner k acts hands.1 of.1)
 
-phase_held : (f : Profile) (asked : List ℕ) (ops : List Op) → AreSound f asked ops → AreKeptBehind f.threads ops → AreOfOneActor ops → AllByRecursion IsOneHanded (phase_stages f.threads ops)
+phase_held : (f : Profile) (asked : List ℕ) (ops : List Op) → AreSound f asked ops → AreKeptBehind f.threads ops → AreOfOneActor ops
+    → AllByRecursion IsOneHanded (phase_stages f.threads ops)
 phase_held f asked ops sound kept one =
     let k = one.actor in
     let owner = owner_in f.threads ops in
@@ -82,7 +84,8 @@ sound_back : (f : Profile) (asked : List ℕ) (xs ys : List Op) → AreSound f a
 sound_back f asked [] ys sound = sound
 sound_back f asked (x ∷ xs) ys sound = sound_back f (asked_after x.what asked) xs ys sound.2
 
-behind_one : (threads actor guard : ℕ) (o : Option ℕ) → MatchOption o (Unit {0}) (λ keeper. (keeper ≡ threads + actor) × (guard ≢ 0)) → MatchOption o (Unit {0}) (λ keeper. keeper ≡ threads + actor)
+behind_one : (threads actor guard : ℕ) (o : Option ℕ) → MatchOption o (Unit {0}) (λ keeper. (keeper ≡ threads + actor) × (guard ≢ 0))
+    → MatchOption o (Unit {0}) (λ keeper. keeper ≡ threads + actor)
 behind_one threads actor guard o h = grind arith
 
 kept_front : (f : Profile) (guard : ℕ) (xs ys : List Op) → AreKept f guard (xs ++ ys) → AreKeptBehind f.threads xs
@@ -93,7 +96,8 @@ kept_back : (f : Profile) (guard : ℕ) (xs ys : List Op) → AreKept f guard (x
 kept_back f guard [] ys kept = kept
 kept_back f guard (x ∷ xs) ys kept = kept_back f guard xs ys kept.1
 
-later_held : (f : Profile) (guard keepers n : ℕ) (asked : List ℕ) (phases : List (List Op)) → AreSound f asked (all_ops phases) → AreKept f guard (all_ops phases) → AllByRecursion AreOfOneActor phases
+later_held : (f : Profile) (guard keepers n : ℕ) (asked : List ℕ) (phases : List (List Op)) → AreSound f asked (all_ops phases)
+    → AreKept f guard (all_ops phases) → AllByRecursion AreOfOneActor phases
     → AllByRecursion IsOneHanded (stages_from f.threads keepers n phases)
 later_held f guard keepers n asked [] sound kept one = close_held f.threads keepers
 later_held f guard keepers n asked (p ∷ ps) sound kept one =
@@ -102,13 +106,15 @@ later_held f guard keepers n asked (p ∷ ps) sound kept one =
     ((0, (tt, tt)), all_both IsOneHanded (phase_stages f.threads p) (stages_from f.threads keepers (n + 1) ps) this later)
 
 -- the first phase has no mark
-all_phases_held : (f : Profile) (guard keepers : ℕ) (phases : List (List Op)) → AreSound f [] (all_ops phases) → AreKept f guard (all_ops phases) → AllByRecursion AreOfOneActor phases → AllByRecursion IsOneHanded (stages_of f.threads keepers phases)
+all_phases_held : (f : Profile) (guard keepers : ℕ) (phases : List (List Op)) → AreSound f [] (all_ops phases) → AreKept f guard (all_ops phases)
+    → AllByRecursion AreOfOneActor phases → AllByRecursion IsOneHanded (stages_of f.threads keepers phases)
 all_phases_held f guard keepers [] sound kept one = close_held f.threads keepers
 all_phases_held f guard keepers (p ∷ ps) sound kept one =
     let this = phase_held f [] p (sound_front f [] p (all_ops ps) sound) (kept_front f guard p (all_ops ps) kept) one.0 in
     let later = later_held f guard keepers 2 (asked_by [] p) ps (sound_back f [] p (all_ops ps) sound) (kept_back f guard p (all_ops ps) kept) one.1 in
     all_both IsOneHanded (phase_stages f.threads p) (stages_from f.threads keepers 2 ps) this later
 
+-- Where one actor alone has operations in a phase, the list is in the order of the acts.
 pub alone_in_order : AloneIsInOrder
 alone_in_order text plan way whole records is one replay =
     let sound = every_plan is in

@@ -12,6 +12,7 @@ gathers threads since (Record.Event e ∷ said) rest spoken = gathers threads (s
 gathers threads since (Record.Said k s ∷ said) rest spoken = gathers threads (since ++ Record.Said k s ∷ []) said rest spoken.1 ∙ ap (λ (rs : List Record). by_phases threads rs rest) (append_assoc since (Record.Said k s ∷ []) said)
 gathers threads since _ rest spoken = absurd (false≢true spoken.0.1)
 
+-- The records of phases are arranged as those of each phase, one after the other.
 pub are_arranged : ArePhasesArranged
 are_arranged threads said spoken = (
   λ n more. gathers threads [] said (Record.Phase n ∷ more) spoken,

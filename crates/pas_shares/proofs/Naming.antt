@@ -17,13 +17,16 @@ use Rattle.pas_shares.specs.Shares.{AreAmong, IsRequestOf}
 none_some : {b : Option Block} {A : Type 0} → None ≡ Some b → A
 none_some bad = absurd (cc)
 
-both_more : (t : Bool) (block : Option Block) (few many : Option (Option Block)) (b : Option Block) → (few ≡ Some b → many ≡ Some b) → (if t then Some block else few) ≡ Some b → (if t then Some block else many) ≡ Some b
+both_more : (t : Bool) (block : Option Block) (few many : Option (Option Block)) (b : Option Block) → (few ≡ Some b → many ≡ Some b)
+    → (if t then Some block else few) ≡ Some b → (if t then Some block else many) ≡ Some b
 both_more t block few many b h i = grind arith
 
-new_here : (name n : ℕ) (block : Option Block) (names : List Named) (b : Option Block) → standing_for names name ≡ None → standing_for names n ≡ Some b → (if name == n then Some block else standing_for names n) ≡ Some b
+new_here : (name n : ℕ) (block : Option Block) (names : List Named) (b : Option Block) → standing_for names name ≡ None → standing_for names n ≡ Some b
+    → (if name == n then Some block else standing_for names n) ≡ Some b
 new_here name n block names b none is = search (arith, cases_eq, none_some, ne_eqb)
 
-asked_more : (t : Bool) (block : Option Block) (o : Option (Option Block)) (old : Bool) → (old ≡ false → o ≡ None) → t || old ≡ false → (if t then Some block else o) ≡ None
+asked_more : (t : Bool) (block : Option Block) (o : Option (Option Block)) (old : Bool) → (old ≡ false → o ≡ None) → t || old ≡ false
+    → (if t then Some block else o) ≡ None
 asked_more t block o old h i = grind arith
 
 -- the same answer by all names
@@ -40,7 +43,8 @@ freed_same : (f : Profile) (k : ℕ) (c c1 : Cached) (name : ℕ) (room : Option
 freed_same f k c c1 name room o many steps said h i = grind arith
 
 keeps_names : (f : Profile) (k : ℕ) (what : What) (asked : List ℕ) (few names : List Named) (v : View) (c : Cached) (a : Answer)
-    → a.names ≡ few → AreAmong few names → OnlyAsked (asked_after what asked) names → IsAnswered f k what (having names v c) (answer_of a.steps a.said a.found names a.cache) → Retold f k what asked names v c a
+    → a.names ≡ few → AreAmong few names → OnlyAsked (asked_after what asked) names
+    → IsAnswered f k what (having names v c) (answer_of a.steps a.said a.found names a.cache) → Retold f k what asked names v c a
 keeps_names f k what asked few names v c a same among only answered = record {
   after = names;
   answered = answered;
@@ -51,8 +55,10 @@ keeps_names f k what asked few names v c a same among only answered = record {
 }
 
 -- .. a reallocation
-remade_same : (f : Profile) (k name size align : ℕ) (o many : Option (Option Block)) (few names : List Named) (v : View) (c : Cached) (a : Answer) → ((b : Option Block) → o ≡ Some b → many ≡ Some b) → IsRemadeBy f k name size align o (having few v c) a
-    → (came : Option Block) × (a.names ≡ named name came ∷ few) × IsRemadeBy f k name size align many (having names v c) (answer_of a.steps a.said a.found (named name came ∷ names) a.cache)
+remade_same : (f : Profile) (k name size align : ℕ) (o many : Option (Option Block)) (few names : List Named) (v : View) (c : Cached) (a : Answer)
+    → ((b : Option Block) → o ≡ Some b → many ≡ Some b) → IsRemadeBy f k name size align o (having few v c) a
+    → (came : Option Block) × (a.names ≡ named name came ∷ few)
+      × IsRemadeBy f k name size align many (having names v c) (answer_of a.steps a.said a.found (named name came ∷ names) a.cache)
 remade_same f k name size align None many few names v c a sub is = absurd is
 remade_same f k name size align (Some None) many few names v c a sub is = (
   None,
@@ -84,8 +90,10 @@ remade_same f k name size align (Some (Some old)) many few names v c a sub (inr 
     )
 
 -- an operation that asks for a new name
-asks_name : (f : Profile) (k : ℕ) (what : What) (asked : List ℕ) (few names : List Named) (v : View) (c : Cached) (a : Answer) (name : ℕ) (block : Option Block) → asked_after what asked ≡ name ∷ asked → ((n : ℕ) → name ≡ n → IsRequestOf n what)
-    → is_asked asked name ≡ false → AreAmong few names → OnlyAsked asked names → a.names ≡ named name block ∷ few → IsAnswered f k what (having names v c) (answer_of a.steps a.said a.found (named name block ∷ names) a.cache) → Retold f k what asked names v c a
+asks_name : (f : Profile) (k : ℕ) (what : What) (asked : List ℕ) (few names : List Named) (v : View) (c : Cached) (a : Answer) (name : ℕ) (block : Option Block)
+    → asked_after what asked ≡ name ∷ asked → ((n : ℕ) → name ≡ n → IsRequestOf n what)
+    → is_asked asked name ≡ false → AreAmong few names → OnlyAsked asked names → a.names ≡ named name block ∷ few
+    → IsAnswered f k what (having names v c) (answer_of a.steps a.said a.found (named name block ∷ names) a.cache) → Retold f k what asked names v c a
 asks_name f k what asked few names v c a name block asks request new among only same answered = record {
   after = named name block ∷ names;
   answered = answered;
@@ -102,9 +110,12 @@ pub record IsNamedNew (asked : List ℕ) (few names : List Named) (name : ℕ) (
   pub only_asked : OnlyAsked (name ∷ asked) (named name block ∷ names)
   pub same_names : (n : ℕ) → name ≢ n → standing_for (named name block ∷ names) n ≡ standing_for names n
 
-pub names_new : (asked : List ℕ) (few names : List Named) (name : ℕ) (block : Option Block) → is_asked asked name ≡ false → AreAmong few names → OnlyAsked asked names → IsNamedNew asked few names name block
+-- A name that nobody asked for yet is a new one to a worker and to all.
+pub names_new : (asked : List ℕ) (few names : List Named) (name : ℕ) (block : Option Block) → is_asked asked name ≡ false → AreAmong few names
+    → OnlyAsked asked names → IsNamedNew asked few names name block
 names_new asked few names name block new among only = search (arith, both_more, new_here, asked_more, ne_eqb)
 
+-- An answer by what a worker knows of names is one by what all know.
 pub retold : (f : Profile) (limit k : ℕ) (what : What) (asked : List ℕ) (few names : List Named) (v : View) (c : Cached) (a : Answer)
     → AreAmong few names → OnlyAsked asked names → IsFitWhat f limit asked what → IsAnswered f k what (having few v c) a → Retold f k what asked names v c a
 retold f limit k (Alloc name heap size align) asked few names v c a among only fit answered = search (arith, asks_name)

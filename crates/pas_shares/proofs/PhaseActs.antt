@@ -21,6 +21,7 @@ OwnThemselves owner ops = AllByRecursion (λ op. owner op.actor ≡ op.actor) op
 pub own_thread : (threads k : ℕ) → k ≤ threads → thread_in threads k ≡ k
 own_thread threads k most = ap (λ (t : Bool). if t then k else k - threads) (le-leb k threads most)
 
+-- The thread of a keeper is the one whose guards it keeps.
 pub kept_thread : (threads k : ℕ) → 1 ≤ k → thread_in threads (threads + k) ≡ k
 kept_thread threads k some = search (arith, lt-leb)
 
@@ -29,7 +30,8 @@ pub owner_of : (threads : ℕ) (ops : List Op) (j k : ℕ) → thread_in threads
 owner_of threads ops j k is = ap (λ (i : ℕ). if is_active ops i then i else 0) is
 
 -- those that are active among some are so among all
-all_own : (threads : ℕ) (all ops : List Op) → ((k : ℕ) → is_active ops k ≡ true → is_active all k ≡ true) → ((k : ℕ) → is_active ops k ≡ true → k ≤ threads) → OwnThemselves (owner_in threads all) ops
+all_own : (threads : ℕ) (all ops : List Op) → ((k : ℕ) → is_active ops k ≡ true → is_active all k ≡ true) → ((k : ℕ) → is_active ops k ≡ true → k ≤ threads)
+    → OwnThemselves (owner_in threads all) ops
 all_own threads all [] within most = tt
 all_own threads all (op ∷ ops) within most =
     let here = or_left (op.actor == op.actor) (is_active ops op.actor) (eq-eqb op.actor op.actor refl) in (
@@ -37,6 +39,7 @@ all_own threads all (op ∷ ops) within most =
       all_own threads all ops (λ k is. within k (or_right (op.actor == k) (is_active ops k) is)) (λ k is. most k (or_right (op.actor == k) (is_active ops k) is)),
     )
 
+-- A choice between 0 and 0 is 0, whatever the test.
 pub zero_own : (t : Bool) → ◌≡◌ {A = ℕ} (if t then 0 else 0) 0
 zero_own true = refl
 zero_own false = refl
@@ -45,6 +48,7 @@ zero_own false = refl
 work_within : (f : Profile) (work : Work) (k : ℕ) → IsActorBy f work k → k ≤ f.threads
 work_within f work k h = grind arith
 
+-- An actor with an operation in a sound phase is one of the threads.
 pub active_within : (f : Profile) (asked : List ℕ) (ops : List Op) (k : ℕ) → AreSound f asked ops → is_active ops k ≡ true → k ≤ f.threads
 active_within f asked [] k sound on = absurd (false≢true on)
 active_within f asked (op ∷ ops) k sound on = elim (cases_eq op.actor k) [
@@ -62,7 +66,8 @@ by_both owner w (x ∷ xs) ys = if_both (owner (actor_of_act x) == w) x (acts_by
 
 -- ---- each act of an operation
 -- the acts of these are so, where those are
-all_of : {A B : Type 0} (P : B → Type 0) (Q : A → Type 0) (to : A → B) (xs : List A) → ((x : A) → Q x → P (to x)) → AllByRecursion Q xs → AllByRecursion P (map to xs)
+all_of : {A B : Type 0} (P : B → Type 0) (Q : A → Type 0) (to : A → B) (xs : List A) → ((x : A) → Q x → P (to x)) → AllByRecursion Q xs
+    → AllByRecursion P (map to xs)
 all_of P Q to [] one all = tt
 all_of P Q to (x ∷ xs) one all = (one x all.0, all_of P Q to xs one all.1)
 
@@ -71,13 +76,15 @@ all_any [] = tt
 all_any (x ∷ xs) = (tt, all_any xs)
 
 -- so are those of a chore, where those of the scavenger are, and the stops of the idle threads
-all_of_chore : (P : Act → Type 0) (Q : ℕ → Type 0) (idle : List ℕ) (chore : Chore) → ((epoch : ℕ) → P (Ticks epoch)) → P MakesPass → P ReadsEpoch → ((k n : ℕ) → Q k → P (StopsIdle k n)) → AllByRecursion Q idle → AllByRecursion P (acts_of_chore idle chore)
+all_of_chore : (P : Act → Type 0) (Q : ℕ → Type 0) (idle : List ℕ) (chore : Chore) → ((epoch : ℕ) → P (Ticks epoch)) → P MakesPass → P ReadsEpoch
+    → ((k n : ℕ) → Q k → P (StopsIdle k n)) → AllByRecursion Q idle → AllByRecursion P (acts_of_chore idle chore)
 all_of_chore P Q idle (Chore.Tick epoch) ticks pass reads stops all = (ticks epoch, tt)
 all_of_chore P Q idle Chore.Pass ticks pass reads stops all = (pass, tt)
 all_of_chore P Q idle (Chore.Idle n) ticks pass reads stops all = (reads, all_of P Q (λ k. StopsIdle k n) idle (λ k is. stops k n is) all)
 
 -- .. by what is so of each operation besides
-module _ (f : Profile) (P : Act → Type 0) (Q : Op → Type 0) (idle : List ℕ) (each : (op : Op) → IsActorBy f (work_of op.what) op.actor → Q op → AllByRecursion P (acts_of_op idle op)) where
+module _ (f : Profile) (P : Act → Type 0) (Q : Op → Type 0) (idle : List ℕ)
+    (each : (op : Op) → IsActorBy f (work_of op.what) op.actor → Q op → AllByRecursion P (acts_of_op idle op)) where
   all_of_kept : (asked : List ℕ) (ops : List Op) → AreSound f asked ops → AllByRecursion Q ops → AllByRecursion P (acts_of_ops idle ops)
   all_of_kept asked [] sound kept = tt
   all_of_kept asked (op ∷ ops) sound kept = all_both P (acts_of_op idle op) (acts_of_ops idle ops) (each op sound.0 kept.0) (all_of_kept (asked_after op.what asked) ops sound.2 kept.1)
@@ -94,7 +101,9 @@ work_is_of f idle op (Work.Own task) of = kept_is_of (keeper_of task) op
 work_is_of f idle op (Work.Chore chore) of =
     all_of_chore (λ act. actor_of_act act ≡ op.actor) (λ k. Unit {0}) idle chore (λ epoch. sym of) (sym of) (sym of) (λ k n is. sym of) (all_any idle)
 
-pub are_of : (f : Profile) (j : ℕ) (idle : List ℕ) (asked : List ℕ) (ops : List Op) → AreSound f asked ops → AllByRecursion (λ (op : Op). op.actor ≡ j) ops → AreOf j (acts_of_ops idle ops)
+-- The acts of operations of one actor are of that actor.
+pub are_of : (f : Profile) (j : ℕ) (idle : List ℕ) (asked : List ℕ) (ops : List Op) → AreSound f asked ops → AllByRecursion (λ (op : Op). op.actor ≡ j) ops
+    → AreOf j (acts_of_ops idle ops)
 are_of f j idle asked ops sound own =
     all_of_kept f (λ act. actor_of_act act ≡ j) (λ op. op.actor ≡ j) idle (λ op of is. subst (λ (i : ℕ). AreOf i (acts_of_op idle op)) is (work_is_of f idle op (work_of op.what) of)) asked ops sound own
 
@@ -130,9 +139,11 @@ module _ (f : Profile) (owner : Owners) (k : ℕ) (idle : List ℕ) (whole : Lis
 
 -- no operation of a thread is a chore
 own_next : (f : Profile) (k : ℕ) (idle : List ℕ) (op : Op) (work : Work) (rest : List Act) → 1 ≤ k → IsActorBy f work op.actor
-    → (if op.actor == k then act_kept (of_task keeper_of work) op ∷ (Settles op.actor ∷ rest) else rest) ≡ (if op.actor == k then acts_of_work idle op work ++ rest else rest)
+    → (if op.actor == k then act_kept (of_task keeper_of work) op ∷ (Settles op.actor ∷ rest) else rest)
+      ≡ (if op.actor == k then acts_of_work idle op work ++ rest else rest)
 own_next f k idle op work rest h i = grind (arith, ne_eqb)
 
+-- An actor without an operation has no act of its own.
 pub none_own : (k : ℕ) (ops : List Op) → is_active ops k ≡ false → own_acts k ops ≡ []
 none_own k [] is = refl
 none_own k (op ∷ ops) is =
@@ -144,29 +155,35 @@ none_own k (op ∷ ops) is =
 abbrev AreIdle : Owners → List ℕ → Type 0
 AreIdle owner ks = AllByRecursion (λ k. owner k ≡ owner 0) ks
 
-kept_in_hand : (owner : Owners) (keeper : Option ℕ) (op : Op) → MatchOption keeper (Unit {0}) (λ k. owner k ≡ owner op.actor) → AreInHand owner (act_kept keeper op ∷ (Settles op.actor ∷ []))
+kept_in_hand : (owner : Owners) (keeper : Option ℕ) (op : Op) → MatchOption keeper (Unit {0}) (λ k. owner k ≡ owner op.actor)
+    → AreInHand owner (act_kept keeper op ∷ (Settles op.actor ∷ []))
 kept_in_hand owner keeper op h = grind arith
 
-hands_one : (owner : Owners) (idle : List ℕ) (op : Op) (work : Work) → MatchOption (of_task keeper_of work) (Unit {0}) (λ k. owner k ≡ owner op.actor) → AreIdle owner idle → AreInHand owner (acts_of_work idle op work)
+hands_one : (owner : Owners) (idle : List ℕ) (op : Op) (work : Work) → MatchOption (of_task keeper_of work) (Unit {0}) (λ k. owner k ≡ owner op.actor)
+    → AreIdle owner idle → AreInHand owner (acts_of_work idle op work)
 hands_one owner idle op (Work.Own task) own all = kept_in_hand owner (keeper_of task) op own
 hands_one owner idle op (Work.Chore chore) own all = all_of_chore (IsInHand owner) (λ k. owner k ≡ owner 0) idle chore (λ epoch. tt) tt tt (λ k n is. is) all
 
 -- a keeper is in the hands of its thread's worker
-kept_owned : (f : Profile) (threads : ℕ) (ops : List Op) (op : Op) (work : Work) (o : Option ℕ) → of_task keeper_of work ≡ o → IsActorBy f work op.actor → op.actor ≤ threads → MatchOption o (Unit {0}) (λ keeper. keeper ≡ threads + op.actor)
+kept_owned : (f : Profile) (threads : ℕ) (ops : List Op) (op : Op) (work : Work) (o : Option ℕ) → of_task keeper_of work ≡ o → IsActorBy f work op.actor
+    → op.actor ≤ threads → MatchOption o (Unit {0}) (λ keeper. keeper ≡ threads + op.actor)
     → MatchOption o (Unit {0}) (λ k. owner_in threads ops k ≡ owner_in threads ops op.actor)
 kept_owned f threads ops op work o h i j m = grind (arith, owner_of, kept_thread, own_thread)
 
-idle_one : (threads : ℕ) (ops : List Op) (k : ℕ) (t : Bool) (rest : List ℕ) → k ≤ threads → is_active ops k ≡ t → AreIdle (owner_in threads ops) rest → AreIdle (owner_in threads ops) (if not t then k ∷ rest else rest)
+idle_one : (threads : ℕ) (ops : List Op) (k : ℕ) (t : Bool) (rest : List ℕ) → k ≤ threads → is_active ops k ≡ t → AreIdle (owner_in threads ops) rest
+    → AreIdle (owner_in threads ops) (if not t then k ∷ rest else rest)
 idle_one threads ops k t rest h i j = grind (arith, owner_of, own_thread, zero_own)
 
 -- so many numbers from k on are below the next one
-are_idle : (threads : ℕ) (ops : List Op) (k n : ℕ) → k + n ≤ threads + 1 → AreIdle (owner_in threads ops) (filter (λ k. not (is_active ops k)) (numbers_from k n))
+are_idle : (threads : ℕ) (ops : List Op) (k n : ℕ) → k + n ≤ threads + 1
+    → AreIdle (owner_in threads ops) (filter (λ k. not (is_active ops k)) (numbers_from k n))
 are_idle threads ops k zero within = tt
 are_idle threads ops k (suc n) within =
     idle_one threads ops k (is_active ops k) (filter (λ k. not (is_active ops k)) (numbers_from (k + 1) n)) (omega (arith, within)) refl (are_idle threads ops (k + 1) n (omega (arith, within)))
 
 -- each operation is active among all
-actors_within : (threads : ℕ) (all ops : List Op) → ((k : ℕ) → is_active ops k ≡ true → is_active all k ≡ true) → ((k : ℕ) → is_active all k ≡ true → k ≤ threads) → AllByRecursion (λ (op : Op). op.actor ≤ threads) ops
+actors_within : (threads : ℕ) (all ops : List Op) → ((k : ℕ) → is_active ops k ≡ true → is_active all k ≡ true)
+    → ((k : ℕ) → is_active all k ≡ true → k ≤ threads) → AllByRecursion (λ (op : Op). op.actor ≤ threads) ops
 actors_within threads all [] within most = tt
 actors_within threads all (op ∷ ops) within most = (
   most op.actor (within op.actor (or_left (op.actor == op.actor) (is_active ops op.actor) (eq-eqb op.actor op.actor refl))),
@@ -178,6 +195,7 @@ both_kept : (threads : ℕ) (ops : List Op) → AreKeptBehind threads ops → Al
 both_kept threads [] kept most = tt
 both_kept threads (op ∷ ops) kept most = ((most.0, kept.0), both_kept threads ops kept.1 most.1)
 
+-- The acts of a phase are shared among its workers: each act is in one's hands.
 pub acts_are_shared : ActsAreShared
 acts_are_shared f threads asked ops sound kept most =
     let idle = idle_threads threads ops in

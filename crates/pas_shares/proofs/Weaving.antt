@@ -37,7 +37,8 @@ pub record IsWovenOne (f : Profile) (owner : Owners) (act : Act) (asked : List �
   pub only_asked : OnlyAsked (asked_after_act act asked) next.names
   pub same_names : (n : ℕ) → (Asks n act → ⊥) → standing_for next.names n ≡ standing_for p.names n
 
-operates_one : (f : Profile) (owner : Owners) (limit : ℕ) (asked : List ℕ) (op : Op) (p before after : Progress) → IsFitWhat f limit asked op.what → OnlyAsked asked p.names
+operates_one : (f : Profile) (owner : Owners) (limit : ℕ) (asked : List ℕ) (op : Op) (p before after : Progress) → IsFitWhat f limit asked op.what
+    → OnlyAsked asked p.names
     → IsShareOf owner (owner op.actor) before p → Advances f (Operates op) before after → IsWovenOne f owner (Operates op) asked p after
 operates_one f owner limit asked op p before after fit only share did =
     let k = op.actor in
@@ -64,8 +65,10 @@ operates_one f owner limit asked op p before after fit only share did =
 
 -- An act that changes no name: its worker comes to `mine` by it, all come to `next`, and `said` is added to the records.
 woven_by : {f : Profile} {owner : Owners} {asked : List ℕ} {act : Act} {p after mine : Progress} (next : Progress) (said : List Record)
-    → OnlyAsked (asked_after_act act asked) next.names → next.names ≡ p.names → next.records ≡ p.records ++ said → AreSpoken said → after ≡ mine → IsShareOf owner (owner (actor_of_act act)) mine next
-    → ((x : ℕ) (other : Progress) → owner (actor_of_act act) ≢ x → IsShareOf owner x other p → IsShareOf owner x other next) → Advances f act p next → IsWovenOne f owner act asked p after
+    → OnlyAsked (asked_after_act act asked) next.names → next.names ≡ p.names → next.records ≡ p.records ++ said → AreSpoken said → after ≡ mine
+    → IsShareOf owner (owner (actor_of_act act)) mine next
+    → ((x : ℕ) (other : Progress) → owner (actor_of_act act) ≢ x → IsShareOf owner x other p → IsShareOf owner x other next) → Advances f act p next
+    → IsWovenOne f owner act asked p after
 woven_by {f} {owner} {asked} {act} {p} {after} {mine} next said only names records spoken is share beside advances = record {
   next = next;
   advances = advances;
@@ -79,8 +82,11 @@ woven_by {f} {owner} {asked} {act} {p} {after} {mine} next said only names recor
 }
 
 -- ---- a stop, which says so much besides
-stops_one : (f : Profile) (owner : Owners) (asked : List ℕ) (act : Act) (k j : ℕ) (p before after : Progress) (steps : List Made) (c : Cached) (more : List Record) → owner k ≡ owner (actor_of_act act) → owner j ≡ owner (actor_of_act act)
-    → EachOf j more → OnlyAsked (asked_after_act act asked) p.names → IsShareOf owner (owner (actor_of_act act)) before p → IsStopped k (before.caches k) c steps → after ≡ after_stop before k steps c more
+stops_one : (f : Profile) (owner : Owners) (asked : List ℕ) (act : Act) (k j : ℕ) (p before after : Progress) (steps : List Made) (c : Cached)
+      (more : List Record)
+    → owner k ≡ owner (actor_of_act act) → owner j ≡ owner (actor_of_act act)
+    → EachOf j more → OnlyAsked (asked_after_act act asked) p.names → IsShareOf owner (owner (actor_of_act act)) before p
+    → IsStopped k (before.caches k) c steps → after ≡ after_stop before k steps c more
     → (IsStopped k (p.caches k) c steps → Advances f act p (after_stop p k steps c more)) → IsWovenOne f owner act asked p after
 stops_one f owner asked act k j p before after steps c more mine said_mine each only share did is advances =
     let v = share.parts k mine in
@@ -97,7 +103,8 @@ stops_one f owner asked act k j p before after steps c more mine said_mine each 
 idle_same : (owner : Owners) (w k n : ℕ) (own p : Progress) → owner k ≡ w → owner 0 ≡ w → IsShareOf owner w own p → IsIdleFor own k n ≡ IsIdleFor p k n
 idle_same owner w k n own p mine scavenger share = ap (λ (c : Cached). c.idle_since + n ≤ own.epoch) (share.caches k mine) ∙ ap (λ (e : ℕ). (p.caches k).idle_since + n ≤ e) (share.epoch scavenger)
 
-idle_one : (f : Profile) (owner : Owners) (asked : List ℕ) (k n : ℕ) (p before after : Progress) → owner k ≡ owner 0 → OnlyAsked asked p.names → IsShareOf owner (owner 0) before p → Advances f (StopsIdle k n) before after → IsWovenOne f owner (StopsIdle k n) asked p after
+idle_one : (f : Profile) (owner : Owners) (asked : List ℕ) (k n : ℕ) (p before after : Progress) → owner k ≡ owner 0 → OnlyAsked asked p.names
+    → IsShareOf owner (owner 0) before p → Advances f (StopsIdle k n) before after → IsWovenOne f owner (StopsIdle k n) asked p after
 idle_one f owner asked k n p before after mine only share did =
     let same = idle_same owner (owner 0) k n before p mine refl share in
     elim did [
@@ -107,7 +114,8 @@ idle_one f owner asked k n p before after mine only share did =
 
 -- ---- a guarded request: its keeper's piece, and what follows it
 -- an operation that makes a request asks for a new name, and for no other
-new_request : (f : Profile) (limit : ℕ) (asked : List ℕ) (what : What) (r : Request) → request_in what ≡ Some r → IsFitWhat f limit asked what → is_asked asked r.name ≡ false
+new_request : (f : Profile) (limit : ℕ) (asked : List ℕ) (what : What) (r : Request) → request_in what ≡ Some r → IsFitWhat f limit asked what
+    → is_asked asked r.name ≡ false
 new_request f limit asked what r h i = grind arith
 
 asks_this : (what : What) (r : Request) (n : ℕ) → request_in what ≡ Some r → r.name ≡ n → IsRequestOf n what
@@ -118,7 +126,8 @@ record TriedOne (owner : Owners) (w : ℕ) (p own : Progress) (keeper : ℕ) (t 
   share : IsShareOf owner w (after_trying own keeper t) (after_trying p keeper t)
   beside : (x : ℕ) (other : Progress) → w ≢ x → IsShareOf owner x other p → IsShareOf owner x other (after_trying p keeper t)
 
-tried_one : (owner : Owners) (w : ℕ) (p own : Progress) (keeper : ℕ) (t : Tried) → owner keeper ≡ w → EachOf keeper t.records → IsShareOf owner w own p → TriedOne owner w p own keeper t
+tried_one : (owner : Owners) (w : ℕ) (p own : Progress) (keeper : ℕ) (t : Tried) → owner keeper ≡ w → EachOf keeper t.records → IsShareOf owner w own p
+    → TriedOne owner w p own keeper t
 tried_one owner w p own keeper t mine each share = record {
   share = share_records t.records (share_book keeper t.guards (share_list keeper t.steps share));
   beside = λ x other ne theirs.
@@ -126,10 +135,12 @@ tried_one owner w p own keeper t mine each share = record {
       beside_records t.records (elsewhere owner x keeper t.records each away) (beside_book keeper t.guards away (beside_list keeper t.steps away theirs));
 }
 
-module _ (f : Profile) (owner : Owners) (limit : ℕ) (asked : List ℕ) (keeper : ℕ) (op : Op) (p before after : Progress) (fit : IsFitWhat f limit asked op.what) (mine : owner keeper ≡ owner op.actor) (only : OnlyAsked asked p.names)
+module _ (f : Profile) (owner : Owners) (limit : ℕ) (asked : List ℕ) (keeper : ℕ) (op : Op) (p before after : Progress) (fit : IsFitWhat f limit asked op.what)
+    (mine : owner keeper ≡ owner op.actor) (only : OnlyAsked asked p.names)
     (share : IsShareOf owner (owner op.actor) before p) where
   -- what comes after it, where the keeper gave a block, and where it gave none
-  followed : (r : Request) (t : Tried) (block : Option Block) → request_in op.what ≡ Some r → t.block ≡ block → IsTried f keeper r (part keeper p.list) (p.books keeper) t → EachOf keeper t.records
+  followed : (r : Request) (t : Tried) (block : Option Block) → request_in op.what ≡ Some r → t.block ≡ block
+      → IsTried f keeper r (part keeper p.list) (p.books keeper) t → EachOf keeper t.records
       → AnswersTried f op r block (after_trying before keeper t) after → IsWovenOne f owner (Guards keeper op) asked p after
   followed r t (Some block) asks given is each did =
       let one = tried_one owner (owner op.actor) p before keeper t mine each share in
@@ -164,16 +175,19 @@ module _ (f : Profile) (owner : Owners) (limit : ℕ) (asked : List ℕ) (keeper
   guarded : (o : Option Request) → request_in op.what ≡ o → AnswersGuarded f keeper op o before after → IsWovenOne f owner (Guards keeper op) asked p after
   guarded o h i = grind (arith, followed, try_each)
 
-guards_one : (f : Profile) (owner : Owners) (limit : ℕ) (asked : List ℕ) (keeper : ℕ) (op : Op) (p before after : Progress) → IsFitWhat f limit asked op.what → owner keeper ≡ owner op.actor → OnlyAsked asked p.names
+guards_one : (f : Profile) (owner : Owners) (limit : ℕ) (asked : List ℕ) (keeper : ℕ) (op : Op) (p before after : Progress) → IsFitWhat f limit asked op.what
+    → owner keeper ≡ owner op.actor → OnlyAsked asked p.names
     → IsShareOf owner (owner op.actor) before p → Advances f (Guards keeper op) before after → IsWovenOne f owner (Guards keeper op) asked p after
 guards_one f owner limit asked keeper op p before after fit mine only share did = guarded f owner limit asked keeper op p before after fit mine only share (request_in op.what) refl did
 
 -- ---- any act
 -- what of the fitness of all acts is that of the others after the first
-rest_fit : (f : Profile) (limit : ℕ) (asked : List ℕ) (act : Act) (acts : List Act) → AreFit f limit asked (act ∷ acts) → AreFit f limit (asked_after_act act asked) acts
+rest_fit : (f : Profile) (limit : ℕ) (asked : List ℕ) (act : Act) (acts : List Act) → AreFit f limit asked (act ∷ acts)
+    → AreFit f limit (asked_after_act act asked) acts
 rest_fit f limit asked act acts h = grind arith
 
-woven_one : (f : Profile) (owner : Owners) (limit : ℕ) (asked : List ℕ) (act : Act) (acts : List Act) (p before after : Progress) → AreFit f limit asked (act ∷ acts) → IsInHand owner act → OnlyAsked asked p.names
+woven_one : (f : Profile) (owner : Owners) (limit : ℕ) (asked : List ℕ) (act : Act) (acts : List Act) (p before after : Progress)
+    → AreFit f limit asked (act ∷ acts) → IsInHand owner act → OnlyAsked asked p.names
     → IsShareOf owner (owner (actor_of_act act)) before p → Advances f act before after → IsWovenOne f owner act asked p after
 woven_one f owner limit asked (Operates op) acts p before after fit hand only share did = operates_one f owner limit asked op p before after fit.1 only share did
 woven_one f owner limit asked (Guards keeper op) acts p before after fit hand only share did = guards_one f owner limit asked keeper op p before after fit.3 hand only share did
@@ -217,6 +231,7 @@ woven_one f owner limit asked _ acts p before after fit hand only share did = ab
 at : (ℕ → Progress) → ℕ → Progress → ℕ → Progress
 at own w q x = if x == w then q else own x
 
+-- What the workers of a phase did, each for itself, is woven into the order of the acts.
 pub weave : (f : Profile) (owner : Owners) (limit : ℕ) (asked : List ℕ) (acts : List Act) (p : Progress) (before after : ℕ → Progress)
     → AreFit f limit asked acts → AreInHand owner acts → OnlyAsked asked p.names → ((w : ℕ) → IsShareOf owner w (before w) p)
     → ((w : ℕ) → Reaches f (acts_by owner w acts) (before w) (after w)) → IsWoven f owner acts asked p after

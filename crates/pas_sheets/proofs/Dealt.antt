@@ -35,7 +35,9 @@ pub round_is : (sheets : List Sheet) (round : List Record) → length round ≤ 
 round_is sheets round few filled = texts_are sheets round filled ∙ ap lines_of (take_all (length sheets * 2048) round few)
 
 -- what is cut out of a round is a part
-pub part_is : (round : List Record) (place start size : ℕ) → start ≡ min (length round) (place * 2048) → size ≡ min (length (take (length round - start) (drop start round))) 2048 → take size (take (length round - start) (drop start round)) ≡ part_of round place
+pub part_is : (round : List Record) (place start size : ℕ) → start ≡ min (length round) (place * 2048)
+    → size ≡ min (length (take (length round - start) (drop start round))) 2048
+    → take size (take (length round - start) (drop start round)) ≡ part_of round place
 part_is round place start size start_is size_is =
     let rest : List Record = take (length round - start) (drop start round) in
     let start' : start ≡ min (place * 2048) (length round) = omega arith in
@@ -43,22 +45,27 @@ part_is round place start size start_is size_is =
     let all : rest ≡ drop (place * 2048) round = take_rest round start ∙ ap (λ n. drop n round) start' ∙ drop_min (place * 2048) round in
     ap (λ n. take n rest) size' ∙ take_min 2048 rest ∙ ap (λ (rs : List Record). take 2048 rs) all
 
+-- A sheet's part of a round has at most 2,048 records.
 pub part_short : (round : List Record) (place : ℕ) → length (part_of round place) ≤ 2048
 part_short round place = omega (arith, length-take 2048 (drop (place * 2048) round))
 
 -- the first round's lines, before those of the others
-pub first_round : (records first others : List Record) (text : List ℕ) → records ≡ first ++ others → text ≡ lines_of first → text ++ lines_of others ≡ lines_of records
+pub first_round : (records first others : List Record) (text : List ℕ) → records ≡ first ++ others → text ≡ lines_of first
+    → text ++ lines_of others ≡ lines_of records
 first_round records first others text is text_is = ap (λ (t : List ℕ). t ++ lines_of others) text_is ∙ sym (lines_append first others) ∙ ap lines_of (sym is)
 
 -- the lines of one round more, where a text was written and another holds the round's before
-pub next_round : (records rest round more : List Record) (text held next : List ℕ) → rest ≡ round ++ more → next ≡ lines_of round → text ++ (held ++ lines_of rest) ≡ lines_of records → (text ++ held) ++ (next ++ lines_of more) ≡ lines_of records
+pub next_round : (records rest round more : List Record) (text held next : List ℕ) → rest ≡ round ++ more → next ≡ lines_of round
+    → text ++ (held ++ lines_of rest) ≡ lines_of records → (text ++ held) ++ (next ++ lines_of more) ≡ lines_of records
 next_round records rest round more text held next rest_is next_is before = cc (lines_append round more, append_assoc text held (lines_of rest))
 
+-- Records that can be shown can be shown behind a round of them.
 pub shown_after : (rest round more : List Record) → rest ≡ round ++ more → All CanShow rest → All CanShow more
 shown_after rest round more is shown =
     let more_is : drop (length round) rest ≡ more = ap (λ (rs : List Record). drop (length round) rs) is ∙ drop_at round more (length round) refl in
     subst (λ (rs : List Record). All CanShow rs) more_is (All-drop CanShow (length round) rest shown)
 
+-- Records that can be shown can be shown in their first round.
 pub shown_before : (rest round more : List Record) → rest ≡ round ++ more → All CanShow rest → All CanShow round
 shown_before rest round more is shown =
     let round_is : take (length round) rest ≡ round = ap (λ (rs : List Record). take (length round) rs) is ∙ take_at round more (length round) refl in

@@ -19,8 +19,10 @@ agreed_append f v (m ∷ ys) xs more before = (subst (λ w. Agrees f w m.step m.
 pub adds_none : {σ : Standing} {C : View → Type 0} → Adds σ σ C []
 adds_none = record { seat_is = refl; added = λ v l stood met. stood; agreed = λ v l stood met. tt }
 
+-- A step that is allowed after a call makes the call one step longer.
 pub adds_step : {σ σ' σ'' : Standing} {C : View → Type 0} {xs : List Made} {step : Step} {a : ℕ}
-    → Adds σ σ' C xs → Makes σ' σ'' step a → ((v : View) (l : Whole) → σ.stands v l → C v → Allowed σ.seat.profile (xs ++ v) step) → Adds σ σ'' C (made step a ∷ xs)
+    → Adds σ σ' C xs → Makes σ' σ'' step a → ((v : View) (l : Whole) → σ.stands v l → C v → Allowed σ.seat.profile (xs ++ v) step)
+    → Adds σ σ'' C (made step a ∷ xs)
 adds_step {σ} {σ'} {σ''} {C} {xs} {step} {a} before makes allowed =
     let may : (v : View) (l : Whole) → σ.stands v l → C v → Allowed σ'.seat.profile (xs ++ v) step = λ v l stood met. subst (λ s. Allowed s.profile (xs ++ v) step) (sym before.seat_is) (allowed v l stood met) in
     record {
@@ -30,17 +32,20 @@ adds_step {σ} {σ'} {σ''} {C} {xs} {step} {a} before makes allowed =
       agreed = λ v l stood met. (subst (λ s. Agrees s.profile (xs ++ v) step a) before.seat_is (makes.agrees (xs ++ v) (triples σ.seat.actor xs ++ l) (before.added v l stood met) (may v l stood met)), before.agreed v l stood met);
     }
 
+-- A call after another one, whose condition holds then, is one call with it.
 pub adds_call : {σ σ' σ'' : Standing} {C D : View → Type 0} {xs ys : List Made}
     → Adds σ σ' C xs → Adds σ' σ'' D ys → ((v : View) (l : Whole) → σ.stands v l → C v → D (xs ++ v)) → Adds σ σ'' C (ys ++ xs)
 adds_call {σ} {σ'} {σ''} {C} {D} {xs} {ys} before call meets = search (arith, append_assoc, triples_append, agreed_append)
 
 -- under a condition that says more
-pub adds_under : {σ σ' : Standing} {C D : View → Type 0} {xs : List Made} → Adds σ σ' C xs → ((v : View) (l : Whole) → σ.stands v l → D v → C v) → Adds σ σ' D xs
+pub adds_under : {σ σ' : Standing} {C D : View → Type 0} {xs : List Made} → Adds σ σ' C xs → ((v : View) (l : Whole) → σ.stands v l → D v → C v)
+    → Adds σ σ' D xs
 adds_under adds under = record { seat_is = adds.seat_is; added = λ v l stood met. adds.added v l stood (under v l stood met); agreed = λ v l stood met. adds.agreed v l stood (under v l stood met) }
 
 -- ---- what may come next
 pub can_step : {σ σ' : Standing} {C : View → Type 0} {xs : List Made} {step : Step}
-    → Adds σ σ' C xs → CanCall σ C → IsStepOf σ.seat.profile step → ((v : View) (l : Whole) → σ.stands v l → C v → Allowed σ.seat.profile (xs ++ v) step) → CanMake σ' step
+    → Adds σ σ' C xs → CanCall σ C → IsStepOf σ.seat.profile step → ((v : View) (l : Whole) → σ.stands v l → C v → Allowed σ.seat.profile (xs ++ v) step)
+    → CanMake σ' step
 can_step {σ} {σ'} {C} {xs} {step} before can of_region allowed = record {
   of_region = subst (λ s. IsStepOf s.profile step) (sym before.seat_is) of_region;
   view = xs ++ can.view;
@@ -49,6 +54,7 @@ can_step {σ} {σ'} {C} {xs} {step} before can of_region allowed = record {
   allowed = subst (λ s. Allowed s.profile (xs ++ can.view) step) (sym before.seat_is) (allowed can.view can.whole can.stood can.met);
 }
 
+-- After a call a desk can call what asks for what holds then.
 pub can_call : {σ σ' : Standing} {C D : View → Type 0} {xs : List Made}
     → Adds σ σ' C xs → CanCall σ C → ((v : View) (l : Whole) → σ.stands v l → C v → D (xs ++ v)) → CanCall σ' D
 can_call {σ} {σ'} {C} {D} {xs} before can meets = record {
@@ -63,12 +69,15 @@ can_call {σ} {σ'} {C} {D} {xs} before can meets = record {
 abbrev pub Tells : Standing → Type 0
 Tells σ = (v : View) (l : Whole) → σ.stands v l → Legal σ.seat.profile l
 
-pub legal_after : {σ σ' : Standing} {C : View → Type 0} {xs : List Made} → Adds σ σ' C xs → Tells σ' → (v : View) (l : Whole) → σ.stands v l → C v → Legal σ.seat.profile (triples σ.seat.actor xs ++ l)
+-- After a call a desk that tells the whole state has a legal list.
+pub legal_after : {σ σ' : Standing} {C : View → Type 0} {xs : List Made} → Adds σ σ' C xs → Tells σ' → (v : View) (l : Whole) → σ.stands v l → C v
+    → Legal σ.seat.profile (triples σ.seat.actor xs ++ l)
 legal_after {σ} {σ'} {C} {xs} adds tells v l stood met = subst (λ s. Legal s.profile (triples σ.seat.actor xs ++ l)) adds.seat_is (tells (xs ++ v) (triples σ.seat.actor xs ++ l) (adds.added v l stood met))
 
 -- ---- room for events
 -- a desk that has room for n more events after these steps has so much to spare
-pub room_left : {σ σ' : Standing} {C : View → Type 0} {xs : List Made} {spare : ℕ} (n : ℕ) → Adds σ σ' C xs → (can : CanCall σ C) → ((v : View) (l : Whole) → σ'.stands v l → spare + length (events_of σ'.seat.actor v) ≡ σ'.seat.room)
+pub room_left : {σ σ' : Standing} {C : View → Type 0} {xs : List Made} {spare : ℕ} (n : ℕ) → Adds σ σ' C xs → (can : CanCall σ C)
+    → ((v : View) (l : Whole) → σ'.stands v l → spare + length (events_of σ'.seat.actor v) ≡ σ'.seat.room)
     → length (events_of σ.seat.actor (xs ++ can.view)) + n ≤ σ.seat.room → n ≤ spare
 room_left {σ} {σ'} {C} {xs} {spare} n adds can spares fits =
     let law : spare + length (events_of σ.seat.actor (xs ++ can.view)) ≡ σ.seat.room
@@ -80,6 +89,7 @@ pub agreed_first : (f : Profile) (v : View) (ys xs : List Made) → Agreed f v (
 agreed_first f v [] xs all = tt
 agreed_first f v (y ∷ ys) xs all = (subst (λ w. Agrees f w y.step y.answer) (append_assoc ys xs v) all.0, agreed_first f v ys xs all.1)
 
+-- What agrees with all steps of a call agrees with the earlier ones.
 pub agreed_later : (f : Profile) (v : View) (ys xs : List Made) → Agreed f v (ys ++ xs) → Agreed f v xs
 agreed_later f v [] xs all = all
 agreed_later f v (y ∷ ys) xs all = agreed_later f v ys xs all.1

@@ -24,11 +24,14 @@ use Rattle.pas_steps.specs.Kinds.{Parking}
 pub leads_none : {f : Profile} {B : View → Type 0} {R : View → View → Type 0} → ((v : View) → B v → R v v) → Leads f B R []
 leads_none r = record { from = λ v met agreed. r v met }
 
+-- What steps lead to, and then others from there, the two lead to together.
 pub leads_then : {f : Profile} {B C : View → Type 0} {R S : View → View → Type 0} {ys xs : List Made} (T : View → View → Type 0)
     → Leads f B R xs → Leads f C S ys → ((v w : View) → B v → R v w → C w) → ((v w u : View) → R v w → S w u → T v u) → Leads f B T (ys ++ xs)
 leads_then {f} {ys = ys} {xs = xs} T first second meets both = search (arith, agreed_later, append_assoc, agreed_first)
 
-pub leads_as : {f : Profile} {B C : View → Type 0} {R S : View → View → Type 0} {xs : List Made} → Leads f B R xs → ((v : View) → C v → B v) → ((v w : View) → C v → R v w → S v w) → Leads f C S xs
+-- What steps lead to is so under a stronger condition and for a weaker end.
+pub leads_as : {f : Profile} {B C : View → Type 0} {R S : View → View → Type 0} {xs : List Made} → Leads f B R xs → ((v : View) → C v → B v)
+    → ((v w : View) → C v → R v w → S v w) → Leads f C S xs
 leads_as {xs = xs} leads under more = record { from = λ v met agreed. more v (xs ++ v) met (leads.from v (under v met) agreed) }
 
 -- at another desk of the same seat
@@ -52,6 +55,7 @@ clear_kept a page v w u first next = grind arith
 clear_later : (a b : Fate) (page : ℕ) (v w u : View) → ClearAfter a page v w → ClearAfter b page w u → ClearAfter (later a b) page v u
 clear_later a b page v w u first next = grind (arith, clear_kept)
 
+-- Two effects one after the other are their effect together.
 pub does_then : {d e : Effect} {v w u : View} → Does d v w → Does e w u → Does (and_then d e) v u
 does_then {d} {e} {v} {w} {u} a b = search (arith, now_later, clear_later, kept_both)
 
@@ -66,10 +70,13 @@ same_held a b held e = grind arith
 was_kept : (a b : Fate) (held : Bool) → SameGrain a b held → b ≡ Kept → held ≡ true → a ≡ Kept
 was_kept a b held e kept h = grind (arith, true≢false)
 
-pub does_as : {d : Effect} {v w : View} (e : Effect) → Does d v w → ((x : ℕ) → SameGrain (d.grains x) (e.grains x) (holds v x)) → ((page : ℕ) → d.rights page ≡ e.rights page)
+-- An effect is another one where it does the same to each grain, each right and each page that is clear.
+pub does_as : {d : Effect} {v w : View} (e : Effect) → Does d v w → ((x : ℕ) → SameGrain (d.grains x) (e.grains x) (holds v x))
+    → ((page : ℕ) → d.rights page ≡ e.rights page)
     → ((page : ℕ) → ClearAfter (d.clears page) page v w → ClearAfter (e.clears page) page v w) → Does e v w
 does_as {d} {v} {w} e does grains rights clears = search (arith, same_held, was_kept)
 
+-- A thing that was kept first has what becomes of it later.
 pub kept_first : (b : Fate) → later Kept b ≡ b
 kept_first s = grind arith
 
@@ -88,6 +95,7 @@ fate_is s had = grind arith
 had_is : (w : Way) (had : Bool) → had_after w had ≡ now (way_fate w) had
 had_is w had = grind arith
 
+-- What a step does to a right is what its fate says.
 pub right_is : (s : Step) (a p : ℕ) (had : Bool) → right_after s a p had ≡ now (right_fate s a p) had
 right_is s a p had = had_is (way s a p) had
 
@@ -111,7 +119,9 @@ examined_shut s a p was shut h = h
 unexamined : (s : Step) (a p : ℕ) (was : Bool) → is_in (Unhinting ∷ []) (kind_of s) ≡ false → was ≡ false → examined_after s a p was ≡ false
 unexamined s a p was other h = grind (arith, look_hint, hint_shut, ends_none, true≢false)
 
-pub unexamined_over : (ks : Kinds) → apart ks (Unhinting ∷ []) ≡ true → (p : ℕ) (steps : List Made) (v : View) → Only ks steps → examines v p ≡ false → examines (steps ++ v) p ≡ false
+-- Steps of kinds that clear no hint leave a page unexamined that was.
+pub unexamined_over : (ks : Kinds) → apart ks (Unhinting ∷ []) ≡ true → (p : ℕ) (steps : List Made) (v : View) → Only ks steps → examines v p ≡ false
+    → examines (steps ++ v) p ≡ false
 unexamined_over ks w p = holds_over (λ v. examines v p ≡ false) (Unhinting ∷ []) ks (λ m v other h. unexamined m.step m.answer p (examines v p) other h) w
 
 clear_shut : (s : Step) (a p : ℕ) (v : View) → opens s a p ≡ false → IsClearOn p v → IsClearOn p (made s a ∷ v)
@@ -140,7 +150,8 @@ stays_by s h = grind arith
 no_unback : (s : Step) (page : ℕ) → is_in unbacking (kind_of s) ≡ false → unbacks s page ≡ false
 no_unback s page h = grind (arith, true≢false)
 
-bears_step : (f : Profile) (s : Step) (a x : ℕ) (v : View) → Agrees f v s a → is_in unbacking (kind_of s) ≡ false → grain_move s a x ≡ Stays → Bears v x → Bears (made s a ∷ v) x
+bears_step : (f : Profile) (s : Step) (a x : ℕ) (v : View) → Agrees f v s a → is_in unbacking (kind_of s) ≡ false → grain_move s a x ≡ Stays → Bears v x
+    → Bears (made s a ∷ v) x
 bears_step f s a x v agrees keeps stays bears =
     let at : x / 256 * 256 + x % 256 ≡ x = omega arith in
     record {
@@ -164,23 +175,29 @@ look_keeps word = grind arith
 does_idle : (f : Profile) (s : Step) (a : ℕ) (v : View) → is_in changing (kind_of s) ≡ false → Agrees f v s a → Does nothing v (made s a ∷ v)
 does_idle f s a v h agrees = grind (arith, does_step, look_keeps, true≢false)
 
-pub does_idly : (f : Profile) (ks : Kinds) → apart ks changing ≡ true → (steps : List Made) (v : View) → Only ks steps → Agreed f v steps → Does nothing v (steps ++ v)
+-- Steps of kinds that change nothing do nothing.
+pub does_idly : (f : Profile) (ks : Kinds) → apart ks changing ≡ true → (steps : List Made) (v : View) → Only ks steps → Agreed f v steps
+    → Does nothing v (steps ++ v)
 does_idly f ks w [] v only agreed = does_none v
 does_idly f ks w (m ∷ more) v only agreed = does_then (does_idly f ks w more v only.1 agreed.1) (does_idle f m.step m.answer (more ++ v) (in_apart ks changing (place_of (kind_of m.step)) w only.0) agreed.0)
 
+-- Steps of kinds that change nothing lead to where nothing was done.
 pub leads_idly : (f : Profile) (ks : Kinds) → apart ks changing ≡ true → (steps : List Made) → Only ks steps → Leads f AnyView (Does nothing) steps
 leads_idly f ks w steps only = record { from = λ v met agreed. does_idly f ks w steps v only agreed }
 
 -- ---- steps on one page that move no grain: its right, and whether it is clear, are told
-bears_over : (f : Profile) (x : ℕ) (ks : Kinds) → apart ks moving ≡ true → apart ks unbacking ≡ true → (steps : List Made) (v : View) → Only ks steps → Agreed f v steps → Bears v x → Bears (steps ++ v) x
+bears_over : (f : Profile) (x : ℕ) (ks : Kinds) → apart ks moving ≡ true → apart ks unbacking ≡ true → (steps : List Made) (v : View) → Only ks steps
+    → Agreed f v steps → Bears v x → Bears (steps ++ v) x
 bears_over f x ks w k [] v only agreed bears = bears
 bears_over f x ks w k (m ∷ more) v only agreed bears =
     bears_step f m.step m.answer x (more ++ v) agreed.0 (in_apart ks unbacking (place_of (kind_of m.step)) k only.0) (grain_same m.step m.answer x (in_apart ks moving (place_of (kind_of m.step)) w only.0)) (bears_over f x ks w k more v only.1 agreed.1 bears)
 
-right_at : (p q : ℕ) (t : Bool) (r : Fate) (v w : View) → (p == q) ≡ t → has_right w p ≡ now r (has_right v p) → (q ≢ p → has_right w q ≡ has_right v q) → has_right w q ≡ now (if t then r else Kept) (has_right v q)
+right_at : (p q : ℕ) (t : Bool) (r : Fate) (v w : View) → (p == q) ≡ t → has_right w p ≡ now r (has_right v p) → (q ≢ p → has_right w q ≡ has_right v q)
+    → has_right w q ≡ now (if t then r else Kept) (has_right v q)
 right_at p q t r v w e here there = grind (arith, eqb-true, true≢false, eq-eqb)
 
-clear_at : (p q : ℕ) (t : Bool) (c : Fate) (v w : View) → (p == q) ≡ t → ClearAfter c p v w → (q ≢ p → IsClearOn q v → IsClearOn q w) → ClearAfter (if t then c else Kept) q v w
+clear_at : (p q : ℕ) (t : Bool) (c : Fate) (v w : View) → (p == q) ≡ t → ClearAfter c p v w → (q ≢ p → IsClearOn q v → IsClearOn q w)
+    → ClearAfter (if t then c else Kept) q v w
 clear_at p q t c v w e here there = grind (arith, eqb-true, true≢false, eq-eqb)
 
 -- steps on one page open no other
@@ -191,7 +208,9 @@ clear_over : (p q : ℕ) (steps : List Made) (v : View) → OnlyOn p steps → q
 clear_over p q [] v on ne is = is
 clear_over p q (m ∷ more) v on ne is = clear_shut m.step m.answer q (more ++ v) (on_opens p q m.step m.answer on.0 ne) (clear_over p q more v on.1 ne is)
 
-pub does_on_page : (f : Profile) (p : ℕ) (r c : Fate) (ks : Kinds) → apart ks moving ≡ true → apart ks unbacking ≡ true → (steps : List Made) (v : View) → Only ks steps → OnlyOn p steps → Agreed f v steps → has_right (steps ++ v) p ≡ now r (has_right v p) → ClearAfter c p v (steps ++ v)
+-- Steps on one page, of kinds that move no grain and unback nothing, do to it what they do to its right and its debts.
+pub does_on_page : (f : Profile) (p : ℕ) (r c : Fate) (ks : Kinds) → apart ks moving ≡ true → apart ks unbacking ≡ true → (steps : List Made) (v : View)
+    → Only ks steps → OnlyOn p steps → Agreed f v steps → has_right (steps ++ v) p ≡ now r (has_right v p) → ClearAfter c p v (steps ++ v)
     → Does (on_page p r c) v (steps ++ v)
 does_on_page f p r c ks w k steps v only on agreed right clear =
     record {
@@ -204,11 +223,13 @@ does_on_page f p r c ks w k steps v only on agreed right clear =
 return_kind : (p : ℕ) (s : Step) → IsReturn p s → is_in returning (kind_of s) ≡ true
 return_kind p s is = grind arith
 
+-- Steps that only return grains to a page are of the returning kinds.
 pub returns_are : (p : ℕ) (steps : List Made) → OnlyReturns p steps → Only returning steps
 returns_are p steps = always_map (λ m before. IsReturn p m.step) (λ m before. is_in returning (kind_of m.step) ≡ true) steps (λ m before is. return_kind p m.step is)
 
 -- steps of a return or a leave
-pub does_returns : (f : Profile) (p : ℕ) (r c : Fate) (steps : List Made) (v : View) → OnlyReturns p steps → Agreed f v steps → has_right (steps ++ v) p ≡ now r (has_right v p) → ClearAfter c p v (steps ++ v) → Does (on_page p r c) v (steps ++ v)
+pub does_returns : (f : Profile) (p : ℕ) (r c : Fate) (steps : List Made) (v : View) → OnlyReturns p steps → Agreed f v steps
+    → has_right (steps ++ v) p ≡ now r (has_right v p) → ClearAfter c p v (steps ++ v) → Does (on_page p r c) v (steps ++ v)
 does_returns f p r c steps v only agreed right clear = does_on_page f p r c returning refl refl steps v (returns_are p steps only) (returns_on p steps only) agreed right clear
 
 -- ---- an end
@@ -216,9 +237,11 @@ does_returns f p r c steps v only agreed right clear = does_on_page f p r c retu
 abbrev pub end_effect : Bool → ℕ → ℕ → Effect
 end_effect ended g n = record { grains = λ x. grain_fate (if ended && in_run g n x then Ends g else Stays); rights = λ page. Kept; clears = λ page. if ended && meets_page g n page then Lost else Kept }
 
-end_does : (f : Profile) (name : Name) (guess a : ℕ) (t : Bool) (v : View) → (a == live_word name.turn guess) ≡ t → Agrees f v (End name guess) a → Does (end_effect t (grain_of name) guess) v (made (End name guess) a ∷ v)
+end_does : (f : Profile) (name : Name) (guess a : ℕ) (t : Bool) (v : View) → (a == live_word name.turn guess) ≡ t → Agrees f v (End name guess) a
+    → Does (end_effect t (grain_of name) guess) v (made (End name guess) a ∷ v)
 end_does f name guess a t v e agrees = subst (λ x. Does (end_effect x (grain_of name) guess) v (made (End name guess) a ∷ v)) e (does_step f (End name guess) a v refl agrees)
 
+-- An end whose answer isn't the live word does nothing.
 pub end_fails : (f : Profile) (name : Name) (guess a : ℕ) → a ≢ live_word name.turn guess → Leads f AnyView (Does nothing) (made (End name guess) a ∷ [])
 end_fails f name guess a ne = record { from = λ v met agreed. end_does f name guess a false v (ne_eqb a (live_word name.turn guess) ne) agreed.0 }
 
@@ -227,11 +250,14 @@ pub record EndsBlock (g n : ℕ) (v w : View) : Type 0 where
   pub does : Does (end_effect true g n) v w
   pub apart : (x : ℕ) → in_run g n x ≡ true → holds v x ≡ false
 
-pub end_succeeds : (f : Profile) (name : Name) (guess a : ℕ) → a ≡ live_word name.turn guess → Leads f AnyView (EndsBlock (grain_of name) guess) (made (End name guess) a ∷ [])
+-- An end whose answer is the live word ends that block.
+pub end_succeeds : (f : Profile) (name : Name) (guess a : ℕ) → a ≡ live_word name.turn guess
+    → Leads f AnyView (EndsBlock (grain_of name) guess) (made (End name guess) a ∷ [])
 end_succeeds f name guess a live = record { from = λ v met agreed. record { does = end_does f name guess a true v (eq-eqb a (live_word name.turn guess) live) agreed.0; apart = agreed.0.apart live } }
 
 -- ---- two calls that leave all as it was
-pub nothing_then : {f : Profile} {ys xs : List Made} → Leads f AnyView (Does nothing) xs → Leads f AnyView (Does nothing) ys → Leads f AnyView (Does nothing) (ys ++ xs)
+pub nothing_then : {f : Profile} {ys xs : List Made} → Leads f AnyView (Does nothing) xs → Leads f AnyView (Does nothing) ys
+    → Leads f AnyView (Does nothing) (ys ++ xs)
 nothing_then a b = leads_then (Does nothing) a b (λ v w met d. tt) (λ v w u d e. does_then d e)
 
 -- ---- a put
@@ -239,14 +265,19 @@ pub leads_put : (f : Profile) (page word mask a : ℕ) → Leads f AnyView (Does
 leads_put f page word mask a = record { from = λ v met agreed. does_as (put (in_mask page word mask) page) (does_step f (Put page word mask) a v refl agreed.0) (λ x. inl (ap_if grain_fate (in_mask page word mask x) Puts Stays)) (λ q. refl) (λ q h. h) }
 
 -- ---- an end whose grains were put back leaves all as it was, since none of them was held
-back_grain : (t held : Bool) (g : ℕ) → (t ≡ true → held ≡ false) → SameGrain (later (grain_fate (if t then Ends g else Stays)) (if t then Lost else Kept)) Kept held
+back_grain : (t held : Bool) (g : ℕ) → (t ≡ true → held ≡ false)
+    → SameGrain (later (grain_fate (if t then Ends g else Stays)) (if t then Lost else Kept)) Kept held
 back_grain t held g none = grind arith
 
-back_clear : (t u : Bool) (page : ℕ) (v w : View) → (t ≡ true → u ≡ true) → ClearAfter (later (if t then Lost else Kept) (if u then Gained else Kept)) page v w → IsClearOn page v → IsClearOn page w
+back_clear : (t u : Bool) (page : ℕ) (v w : View) → (t ≡ true → u ≡ true) → ClearAfter (later (if t then Lost else Kept) (if u then Gained else Kept)) page v w
+    → IsClearOn page v → IsClearOn page w
 back_clear t u page v w covers h is = grind (arith, true≢false)
 
-pub ends_back : {v w u : View} (g n : ℕ) (pages : ℕ → Bool) → EndsBlock g n v w → Does (freed (in_run g n) pages) w u → ((page : ℕ) → meets_page g n page ≡ true → pages page ≡ true) → Does nothing v u
+-- A block that was ended, and whose grains were given back on each page, leaves nothing changed.
+pub ends_back : {v w u : View} (g n : ℕ) (pages : ℕ → Bool) → EndsBlock g n v w → Does (freed (in_run g n) pages) w u
+    → ((page : ℕ) → meets_page g n page ≡ true → pages page ≡ true) → Does nothing v u
 ends_back {v} {w} {u} g n pages e b covers = does_as nothing (does_then e.does b) (λ x. back_grain (in_run g n x) (holds v x) g (e.apart x)) (λ page. refl) (λ page. back_clear (meets_page g n page) (pages page) page v u (covers page))
 
+-- An end after steps that do nothing ends the block from the view before.
 pub end_later : {v w u : View} (g n : ℕ) → Does nothing v w → EndsBlock g n w u → EndsBlock g n v u
 end_later g n d e = record { does = does_after_nothing (end_effect true g n) d e.does; apart = λ x inside. sym (d.held x) ∙ e.apart x inside }

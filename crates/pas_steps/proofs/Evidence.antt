@@ -12,6 +12,7 @@ use Rattle.pas_steps.proofs.{Frames.right_own, Kept.deed_stays, Past.once_earlie
 read_unknown : (f : Profile) (v : View) (p : ℕ) (s : Step) (a : ℕ) → ReadsDeed p s → Agrees f v s a → a ≡ 0 → known_deed v p ≢ 0 → ⊥
 read_unknown f v p s a e agrees z known = grind arith
 
+-- A page that was once read as without a deed isn't known to have one.
 pub unknown : (f : Profile) (v : View) (p : ℕ) (xs : List Made) → Agreed f v xs → Once (NoDeedHere p) xs → known_deed v p ≢ 0 → ⊥
 unknown f v p [] agreed h known = h
 unknown f v p (m ∷ more) agreed (inr h) known = unknown f v p more agreed.1 h known
@@ -25,5 +26,6 @@ deed_known p d a v e = ap (λ t. if t then (if a == 0 then deed_word_of d else a
 pub deed_before : (p : ℕ) (ys xs : List Made) → Once (DeedHere p) ys → Once (DeedHere p) (ys ++ xs)
 deed_before p ys xs = once_earlier (DeedHere p) (DeedHere p) ys xs (λ m before z. z)
 
+-- A page that later steps read as not offered was so read behind steps that lack its right.
 pub zero_before : (d : Directory) (p : ℕ) (ys xs : List Made) → has_right xs p ≡ false → Once (ZeroHere d p) ys → Once (ZeroHere d p) (ys ++ xs)
 zero_before d p ys xs none = once_earlier (ZeroHere d p) (ZeroHere d p) ys xs (λ m before z. (z.0, z.1, right_own p before xs none ∙ z.2))

@@ -23,6 +23,7 @@ events_append k (y ∷ ys) xs v =
     ∙ ap (with_event (event_of k (epoch_of (ys ++ (xs ++ v))) y.step y.answer)) (events_append k ys xs v)
     ∙ with_append (event_of k (epoch_of (ys ++ (xs ++ v))) y.step y.answer) (events_by k (xs ++ v) ys) (events_by k v xs)
 
+-- The events of steps after a view are those of the steps and those of the view.
 pub events_split : (k : ℕ) (xs : List Made) (v : View) → events_of k (xs ++ v) ≡ events_by k v xs ++ events_of k v
 events_split k [] v = refl
 events_split k (m ∷ xs) v = ap (with_event (event_of k (epoch_of (xs ++ v)) m.step m.answer)) (events_split k xs v) ∙ with_append (event_of k (epoch_of (xs ++ v)) m.step m.answer) (events_by k v xs) (events_of k v)
@@ -30,6 +31,7 @@ events_split k (m ∷ xs) v = ap (with_event (event_of k (epoch_of (xs ++ v)) m.
 with_le : (o : Option Event) (es : List Event) (n : ℕ) → n ≤ length es → n ≤ length (with_event o es)
 with_le o es n h = grind arith
 
+-- A step makes the events at most one more.
 pub with_few : (o : Option Event) (es : List Event) → length (with_event o es) ≤ length es + 1
 with_few o es = grind arith
 
@@ -56,6 +58,7 @@ right_stays (Park q) a p had keeps h = gone q p (q == p) had ToParked refl (λ e
 right_stays (Unpark q) a p had keeps h = moves_to ((q == p) && has_bit a (p % 64)) had FromParked refl h
 right_stays s a p had keeps h = h
 
+-- A right that its actor had stays its own through steps that keep it.
 pub rights_stay : (xs : List Made) (v : View) (p : ℕ) → KeepsRight p xs → has_right v p ≡ true → has_right (xs ++ v) p ≡ true
 rights_stay [] v p keeps h = h
 rights_stay (m ∷ xs) v p keeps h = right_stays m.step m.answer p (has_right (xs ++ v) p) keeps.0 (rights_stay xs v p keeps.1 h)
@@ -69,10 +72,12 @@ right_own p (y ∷ ys) xs h = ap (had_after (way y.step y.answer p)) (right_own 
 more_right : (w : Way) (own had : Bool) → (own ≡ true → had ≡ true) → had_after w own ≡ true → had_after w had ≡ true
 more_right s own had more h = grind arith
 
+-- A right that the steps of a call have is had after them.
 pub right_of_own : (p : ℕ) (xs : List Made) (v : View) → has_right xs p ≡ true → has_right (xs ++ v) p ≡ true
 right_of_own p [] v h = absurd (true≢false (sym h))
 right_of_own p (m ∷ xs) v h = more_right (way m.step m.answer p) (has_right xs p) (has_right (xs ++ v) p) (right_of_own p xs v) h
 
+-- Steps that never have a right lack it afterwards.
 pub lacks_now : (p : ℕ) (xs : List Made) → Always (λ m before. has_right (m ∷ before) p ≡ false) xs → has_right xs p ≡ false
 lacks_now p [] h = refl
 lacks_now p (m ∷ more) h = h.0

@@ -28,6 +28,7 @@ unless t u x y h = ap (λ s. if s && u then x else y) h
 on_way : (p q : ℕ) (s : Step) (a : ℕ) → IsOnPage p s → q ≢ p → way s a q ≡ Rests
 on_way p q s a step ne = grind (arith, unless, other, cond-false)
 
+-- Steps on one page leave the right of every other where it was.
 pub right_on : (p q : ℕ) (steps : List Made) (v : View) → OnlyOn p steps → q ≢ p → has_right (steps ++ v) q ≡ has_right v q
 right_on p q [] v h ne = refl
 right_on p q (m ∷ more) v h ne = ap (λ w. had_after w (has_right (more ++ v) q)) (on_way p q m.step m.answer h.0 ne) ∙ right_on p q more v h.1 ne
@@ -35,9 +36,11 @@ right_on p q (m ∷ more) v h ne = ap (λ w. had_after w (has_right (more ++ v) 
 outside : (w p mask g : ℕ) → (p == g / 256) ≡ false → in_mask p w mask g ≡ false
 outside w p mask g h = ap (λ t. (w == g / 64 % 4) && t && has_bit mask (g % 64)) h ∙ ap (λ t. t && has_bit mask (g % 64)) (and_right (w == g / 64 % 4) false refl)
 
+-- A step on one page moves no grain of another.
 pub on_grain : (p : ℕ) (s : Step) (a g : ℕ) → IsOnPage p s → g / 256 ≢ p → grain_move s a g ≡ Stays
 on_grain p s a g step ne = grind (arith, unless, outside, other, cond-false)
 
+-- Steps on one page hold no other grains than before.
 pub holds_on_page : (p g : ℕ) (steps : List Made) (v : View) → OnlyOn p steps → g / 256 ≢ p → holds (steps ++ v) g ≡ holds v g
 holds_on_page p g [] v h ne = refl
 holds_on_page p g (m ∷ more) v h ne = ap (λ x. held_after x (holds (more ++ v) g)) (on_grain p m.step m.answer g h.0 ne) ∙ holds_on_page p g more v h.1 ne
@@ -46,6 +49,7 @@ holds_on_page p g (m ∷ more) v h ne = ap (λ x. held_after x (holds (more ++ v
 pub look_check : (word : Word) (a q w deed : ℕ) (right owed : Bool) → owed ≡ false → check_after (Look word) a q w right deed owed ≡ false
 look_check s a q w deed right owed h = grind (arith, ends_none)
 
+-- A look leaves the hint of a page as it was, where none was owed.
 pub look_hint : (word : Word) (a q : ℕ) (owed : Bool) → owed ≡ false → hint_after (Look word) a q owed ≡ false
 look_hint s a q owed h = grind (arith, ends_none)
 
@@ -64,12 +68,14 @@ told_here known a word t z h e k = grind (arith, nat_tests)
 told_bit : {A : Type 0} (known word : A) (t : Bool) → (t ≡ true → word ≡ known) → (if t then word else known) ≡ known
 told_bit known word t h = grind arith
 
-look_deed : (f : Profile) (v : View) (word : Word) (a p : ℕ) → Agrees f v (Look word) a → known_deed v p ≢ 0 → deed_after_look word a p (known_deed v p) ≡ known_deed v p
+look_deed : (f : Profile) (v : View) (word : Word) (a p : ℕ) → Agrees f v (Look word) a → known_deed v p ≢ 0
+    → deed_after_look word a p (known_deed v p) ≡ known_deed v p
 look_deed f v s a p agrees ne = grind (arith, told_bit, eqb-true, and_parts)
 
 deed_same : (f : Profile) (v : View) (s : Step) (a p : ℕ) → Agrees f v s a → known_deed v p ≢ 0 → deed_after s a p (known_deed v p) ≡ known_deed v p
 deed_same f v s a p agrees ne = grind (arith, look_deed, told_here, eqb-true)
 
+-- A known deed stays known.
 pub deed_stays : (f : Profile) (steps : List Made) (v : View) (p : ℕ) → Agreed f v steps → known_deed v p ≢ 0 → known_deed (steps ++ v) p ≡ known_deed v p
 deed_stays f [] v p agreed ne = refl
 deed_stays f (m ∷ more) v p agreed ne =
@@ -77,7 +83,8 @@ deed_stays f (m ∷ more) v p agreed ne =
     deed_same f (more ++ v) m.step m.answer p agreed.0 (λ z. ne (sym before ∙ z)) ∙ before
 
 -- so does that a page is of a directory
-pub knows_still : (f : Profile) (d : Directory) (page : ℕ) (steps : List Made) (v : View) → Agreed f v steps → KnowsDeed page d v → KnowsDeed page d (steps ++ v)
+pub knows_still : (f : Profile) (d : Directory) (page : ℕ) (steps : List Made) (v : View) → Agreed f v steps → KnowsDeed page d v
+    → KnowsDeed page d (steps ++ v)
 knows_still f d page steps v agreed known = deed_stays f steps v page agreed (λ z. deed_word_of-positive d (sym known ∙ z)) ∙ known
 
 -- ---- what is on a page
@@ -89,12 +96,14 @@ return_on p s IsReturn.Parks = IsOnPage.Parks
 return_on p s IsReturn.Unparks = IsOnPage.Unparks
 return_on p s IsReturn.Hints = IsOnPage.Hints
 
+-- Steps that only return grains to a page are on that page.
 pub returns_on : (p : ℕ) (steps : List Made) → OnlyReturns p steps → OnlyOn p steps
 returns_on p steps = always_map (λ m before. IsReturn p m.step) (λ m before. IsOnPage p m.step) steps (λ m before. return_on p m.step)
 
 scan_look : (s : Step) → IsScan s → IsLook s
 scan_look s is = grind arith
 
+-- Steps that are scans are looks.
 pub scans_look : (steps : List Made) → OnlyScans steps → AreLooks steps
 scans_look [] h = tt
 scans_look (m ∷ more) h = (scan_look m.step h.0, scans_look more h.1)
@@ -104,6 +113,7 @@ look_read : (s : Step) (a : ℕ) → IsLook s → IsRead s a
 look_read (Look word) a h = IsRead.Looks word a
 look_read s a h = absurd h
 
+-- Steps that are looks are reads.
 pub looks_read : (steps : List Made) → AreLooks steps → OnlyReads steps
 looks_read [] h = tt
 looks_read (m ∷ more) h = (look_read m.step m.answer h.0, looks_read more h.1)
@@ -111,6 +121,7 @@ looks_read (m ∷ more) h = (look_read m.step m.answer h.0, looks_read more h.1)
 read_way : (s : Step) (a q : ℕ) → IsRead s a → way s a q ≡ Rests
 read_way s a q e = grind (arith, ne_eqb, and_right)
 
+-- Reads leave each right where it was.
 pub right_reads : (q : ℕ) (steps : List Made) (v : View) → OnlyReads steps → has_right (steps ++ v) q ≡ has_right v q
 right_reads q [] v h = refl
 right_reads q (m ∷ more) v h = ap (λ w. had_after w (has_right (more ++ v) q)) (read_way m.step m.answer q h.0) ∙ right_reads q more v h.1
@@ -122,9 +133,11 @@ any_decides : (n : ℕ) (p : ℕ → Bool) → Decides (any_below n p) ((i : ℕ
 unfolding any_below
 any_decides n p = Decides-below_or p (λ i. p i ≡ true) (λ n. any_below n p) (λ i. (λ h. h, λ h. h)) refl (λ n. refl) n
 
+-- Where some number below a bound passes a test, one does.
 pub any_one : (n : ℕ) (p : ℕ → Bool) → any_below n p ≡ true → (i : ℕ) × (i < n) × (p i ≡ true)
 any_one n p h = (any_decides n p).0 h
 
+-- A number below a bound that passes a test makes that some does.
 pub any_from : (n : ℕ) (p : ℕ → Bool) (i : ℕ) → i < n → p i ≡ true → any_below n p ≡ true
 any_from n p i lt h = (any_decides n p).1 (i, lt, h)
 
@@ -132,19 +145,23 @@ any_from n p i lt h = (any_decides n p).1 (i, lt, h)
 one_read : (a : ℕ) (t known : Bool) → (t ≡ true → a ≡ 1) → known ≡ true → (if t then a == 1 else known) ≡ true
 one_read a t known h e = grind (arith, nat_tests)
 
-look_backed : (f : Profile) (v : View) (w : Word) (a q : ℕ) → Agrees f v (Look w) a → knows_backed v q ≡ true → backed_after_look w a q (knows_backed v q) ≡ true
+look_backed : (f : Profile) (v : View) (w : Word) (a q : ℕ) → Agrees f v (Look w) a → knows_backed v q ≡ true
+    → backed_after_look w a q (knows_backed v q) ≡ true
 look_backed f v s a q agrees h = grind (arith, one_read, eqb-true)
 
-still_backed : (f : Profile) (v : View) (s : Step) (a q : ℕ) → Agrees f v s a → unbacks s q ≡ false → knows_backed v q ≡ true → backed_after s a q (knows_backed v q) ≡ true
+still_backed : (f : Profile) (v : View) (s : Step) (a q : ℕ) → Agrees f v s a → unbacks s q ≡ false → knows_backed v q ≡ true
+    → backed_after s a q (knows_backed v q) ≡ true
 still_backed f v s a q agrees keep h = grind (arith, look_backed, stays_set)
 
 -- ---- all steps
-still_held : (x : ℕ) (steps : List Made) (v : View) → Always (λ m before. grain_move m.step m.answer x ≡ Stays) steps → holds v x ≡ true → holds (steps ++ v) x ≡ true
+still_held : (x : ℕ) (steps : List Made) (v : View) → Always (λ m before. grain_move m.step m.answer x ≡ Stays) steps → holds v x ≡ true
+    → holds (steps ++ v) x ≡ true
 still_held x [] v stays h = h
 still_held x (m ∷ more) v stays h = ap (λ t. held_after t (holds (more ++ v) x)) stays.0 ∙ still_held x more v stays.1 h
 
 -- grain b of the page is held, and no step moves it
-pub backed_with : (f : Profile) (q b : ℕ) (steps : List Made) (v : View) → b < 256 → Agreed f v steps → Always (λ m before. unbacks m.step q ≡ false) steps → Always (λ m before. grain_move m.step m.answer (q * 256 + b) ≡ Stays) steps → holds v (q * 256 + b) ≡ true → knows_backed v q ≡ true
+pub backed_with : (f : Profile) (q b : ℕ) (steps : List Made) (v : View) → b < 256 → Agreed f v steps → Always (λ m before. unbacks m.step q ≡ false) steps
+    → Always (λ m before. grain_move m.step m.answer (q * 256 + b) ≡ Stays) steps → holds v (q * 256 + b) ≡ true → knows_backed v q ≡ true
     → knows_backed (steps ++ v) q ≡ true
 backed_with f q b [] v lt agreed keep stays held h = h
 backed_with f q b (m ∷ more) v lt agreed keep stays held h =
@@ -152,6 +169,7 @@ backed_with f q b (m ∷ more) v lt agreed keep stays held h =
     and_from (backed_after m.step m.answer q (knows_backed (more ++ v) q)) (holds_on (m ∷ more ++ v) q) (still_backed f (more ++ v) m.step m.answer q agreed.0 keep.0 before)
     (any_from 256 (λ i. holds (m ∷ more ++ v) (q * 256 + i)) b lt (still_held (q * 256 + b) (m ∷ more) v stays held))
 
+-- A page that is known as backed has a grain that its actor holds.
 pub backed_holds : (v : View) (q : ℕ) → knows_backed v q ≡ true → holds_on v q ≡ true
 backed_holds [] q h = absurd (true≢false (sym h))
 backed_holds (m ∷ v) q h = (and_parts (backed_after m.step m.answer q (knows_backed v q)) (holds_on (m ∷ v) q) h).1

@@ -21,8 +21,10 @@ part_of_others j k (m ∷ steps) l other =
     ∙ part_of_others j k steps l other
 
 -- what holds of an actor's part holds after every legal list, where each step leaves it so for its own actor and for each other one
-pub each_part : (f : Profile) (P : Whole → ℕ → View → Type 0) → ((k : ℕ) → P [] k []) → ((t : Triple) (l : Whole) → Legal f (t ∷ l) → P l t.actor (part t.actor l) → P (t ∷ l) t.actor (t.made ∷ part t.actor l))
-    → ((t : Triple) (l : Whole) (k : ℕ) → Legal f (t ∷ l) → (t.actor == k) ≡ false → P l k (part k l) → P (t ∷ l) k (part k l)) → (l : Whole) → Legal f l → (k : ℕ) → P l k (part k l)
+pub each_part : (f : Profile) (P : Whole → ℕ → View → Type 0) → ((k : ℕ) → P [] k [])
+    → ((t : Triple) (l : Whole) → Legal f (t ∷ l) → P l t.actor (part t.actor l) → P (t ∷ l) t.actor (t.made ∷ part t.actor l))
+    → ((t : Triple) (l : Whole) (k : ℕ) → Legal f (t ∷ l) → (t.actor == k) ≡ false → P l k (part k l) → P (t ∷ l) k (part k l)) → (l : Whole) → Legal f l
+    → (k : ℕ) → P l k (part k l)
 each_part f P none own other [] legal k = none k
 each_part f P none own other (t ∷ l) legal k =
     let before : (j : ℕ) → P l j (part j l) = each_part f P none own other l legal.1 in

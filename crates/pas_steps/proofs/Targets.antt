@@ -14,6 +14,7 @@ use Rattle.pas_profile.proofs.{Codecs.number_lt, Places.same_word-true, Places.i
 grains_fit : (first room pages : ℕ) → pages ≤ 16384 → 4096 ≤ first → first + room ≤ 4096 * (pages + 1) → room / 16 < 2 ^ 23
 grains_fit first room pages few low high = omega arith
 
+-- A length of at most the grains of a region is below 2^23.
 pub guess_fits : (guess pages : ℕ) → pages ≤ 16384 → guess ≤ 256 * pages → guess < 2 ^ 23
 guess_fits guess pages few high = omega arith
 
@@ -26,7 +27,8 @@ is_ranged f s valid of = grind (arith, heap_fits, grains_fit, guess_fits)
 
 -- ==== The word of a step of a region is one of the region.
 
-given_page : (first room pages : ℕ) → 4096 ≤ first → first + room ≤ 4096 * (pages + 1) → 0 < room → (1 ≤ first / 16 / 256) × (first / 16 / 256 ≤ pages) × (first / 16 % 256 < 256)
+given_page : (first room pages : ℕ) → 4096 ≤ first → first + room ≤ 4096 * (pages + 1) → 0 < room
+    → (1 ≤ first / 16 / 256) × (first / 16 / 256 ≤ pages) × (first / 16 % 256 < 256)
 given_page first room pages low high some = (omega arith, omega arith, omega arith)
 
 ended_page : (first pages : ℕ) → 1 ≤ first / 4096 → first / 4096 ≤ pages → (1 ≤ first / 16 / 256) × (first / 16 / 256 ≤ pages) × (first / 16 % 256 < 256)
@@ -56,8 +58,10 @@ target_of_region f v s of allowed = of
 -- ==== The words of a state after a write of one.
 
 -- a word's value after the write of another one's
-pub place_written : (pages heaps : ℕ) (words : List ℕ) (x w : Word) (n : ℕ) → length words ≡ words_of pages heaps → IsWordIn pages heaps x → IsWordIn pages heaps w
-    → (same : Bool) → same_word x w ≡ same → slice_index (slice_set words (index_of pages x) n) (index_of pages w) ≡ (if same then n else slice_index words (index_of pages w))
+pub place_written : (pages heaps : ℕ) (words : List ℕ) (x w : Word) (n : ℕ) → length words ≡ words_of pages heaps → IsWordIn pages heaps x
+    → IsWordIn pages heaps w
+    → (same : Bool) → same_word x w ≡ same
+    → slice_index (slice_set words (index_of pages x) n) (index_of pages w) ≡ (if same then n else slice_index words (index_of pages w))
 place_written pages heaps words x w n sized hx hw true e = search (arith, index_lt, same_word-true, get_or-set_same)
 place_written pages heaps words x w n sized hx hw false e =
     get_or-set_other words (index_of pages x) (index_of pages w) n 0 (λ same. other_place pages heaps x w hx hw e (sym same))

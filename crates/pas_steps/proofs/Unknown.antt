@@ -20,10 +20,12 @@ unknown_kept f (suc n) steps v agreed =
     let here = no_more (known_deed (steps ++ v) (suc n)) (known_deed v (suc n)) _ _ refl refl (λ ne z. ne (sym (deed_stays f steps v (suc n) agreed ne) ∙ z)) in
     omega (arith, here, unknown_kept f n steps v agreed)
 
-pub unknown_stays : (f : Profile) (steps : List Made) (v : View) → Agreed f v steps → unknown_pages f (steps ++ v) ≤ unknown_pages f v
-unknown_stays f steps v agreed = unknown_kept f f.pages steps v agreed
+-- After steps no more pages have a deed that isn't known.
+pub unknown_no_more : (f : Profile) (steps : List Made) (v : View) → Agreed f v steps → unknown_pages f (steps ++ v) ≤ unknown_pages f v
+unknown_no_more f steps v agreed = unknown_kept f f.pages steps v agreed
 
-unknown_fewer : (f : Profile) (n page : ℕ) (steps : List Made) (v : View) → Agreed f v steps → known_deed v page ≡ 0 → known_deed (steps ++ v) page ≢ 0 → 1 ≤ page → page ≤ n → unknown_below n (steps ++ v) + 1 ≤ unknown_below n v
+unknown_fewer : (f : Profile) (n page : ℕ) (steps : List Made) (v : View) → Agreed f v steps → known_deed v page ≡ 0 → known_deed (steps ++ v) page ≢ 0
+    → 1 ≤ page → page ≤ n → unknown_below n (steps ++ v) + 1 ≤ unknown_below n v
 unknown_fewer f zero page steps v agreed was now low high = absurd (omega (arith, low, high))
 unknown_fewer f (suc n) page steps v agreed was now low high = elim (cases_eq page (suc n)) [
   | inl e ↦ search (arith, ne_eqb, unknown_kept)
@@ -33,7 +35,9 @@ unknown_fewer f (suc n) page steps v agreed was now low high = elim (cases_eq pa
       omega (arith, here, below)
 ]
 
-pub unknown_less : (f : Profile) (page : ℕ) (steps : List Made) (v : View) → Agreed f v steps → IsPage f page → known_deed v page ≡ 0 → known_deed (steps ++ v) page ≢ 0 → unknown_pages f (steps ++ v) + 1 ≤ unknown_pages f v
+-- A deed that is known by now makes the unknown pages one fewer.
+pub unknown_less : (f : Profile) (page : ℕ) (steps : List Made) (v : View) → Agreed f v steps → IsPage f page → known_deed v page ≡ 0
+    → known_deed (steps ++ v) page ≢ 0 → unknown_pages f (steps ++ v) + 1 ≤ unknown_pages f v
 unknown_less f page steps v agreed is was now = unknown_fewer f f.pages page steps v agreed was now is.0 is.1
 
 none_below : (f : Profile) (n : ℕ) (v : View) → KnowsAllDeeds f v → n ≤ f.pages → unknown_below n v ≡ 0
@@ -42,6 +46,7 @@ none_below f (suc n) v all le =
     let below = none_below f n v all (omega (arith, le)) in
     omega (arith, ap one_if (ne_eqb (known_deed v (suc n)) 0 (all (suc n) (omega arith, le))), below)
 
+-- Where all deeds are known, no page is unknown.
 pub none_unknown : (f : Profile) (v : View) → KnowsAllDeeds f v → unknown_pages f v ≡ 0
 none_unknown f v all = none_below f f.pages v all (omega arith)
 
@@ -66,5 +71,6 @@ has_room f n spare v fits = (
 pub all_known : (f : Profile) (steps : List Made) (v : View) → Agreed f v steps → KnowsAllDeeds f v → KnowsAllDeeds f (steps ++ v)
 all_known f steps v agreed all p is z = all p is (sym (deed_stays f steps v p agreed (all p is)) ∙ z)
 
+-- Room that is left for the unknown pages is left after steps, too.
 pub room_after : (f : Profile) (n spare : ℕ) (steps : List Made) (v : View) → Agreed f v steps → HasRoom f n spare v → HasRoom f n spare (steps ++ v)
 room_after f n spare steps v agreed h = (h.0, elim h.1 [ inl all ↦ inl (all_known f steps v agreed all) | inr more ↦ inr more ])

@@ -39,7 +39,8 @@ pub record CanMake (desk : Standing) (step : Step) : Type 0 where
 -- answer agrees with that view.
 pub record Makes (desk desk' : Standing) (step : Step) (answer : ℕ) : Type 0 where
   pub seat_is : desk'.seat ≡ desk.seat
-  pub added : (v : View) (l : Whole) → desk.stands v l → Allowed desk.seat.profile v step → desk'.stands (made step answer ∷ v) (triple desk.seat.actor (made step answer) ∷ l)
+  pub added : (v : View) (l : Whole) → desk.stands v l → Allowed desk.seat.profile v step
+      → desk'.stands (made step answer ∷ v) (triple desk.seat.actor (made step answer) ∷ l)
   pub agrees : (v : View) (l : Whole) → desk.stands v l → Allowed desk.seat.profile v step → Agrees desk.seat.profile v step answer
 
 -- the condition of a call that asks nothing of the view

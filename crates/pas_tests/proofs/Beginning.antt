@@ -17,11 +17,14 @@ fits_empty : (f : Profile) → FitsBook f [] []
 fits_empty f = record { apart = tt; of_region = tt; knows = tt; held = λ g. refl; rights = λ page. refl; clear = nothing_yet.clear }
 
 -- the storm's desk has the seat of the region's own actor
-pub seat_profile : (σ : Standing) {region : PlainRegion} {own foreign : PlainPass} → Begins region own foreign 12 4000 → σ.seat ≡ seat_for region own → σ.seat.profile ≡ guarded_region 12
+pub seat_profile : (σ : Standing) {region : PlainRegion} {own foreign : PlainPass} → Begins region own foreign 12 4000 → σ.seat ≡ seat_for region own
+    → σ.seat.profile ≡ guarded_region 12
 seat_profile σ begins seat = ap (λ (s : Seat). s.profile) seat ∙ begins.profile
 
+-- The keeper of a new region may begin its work there, with a book of four places.
 pub may_begin : (σ : Standing) {region : PlainRegion} {own foreign : PlainPass} → Begins region own foreign 12 4000 → σ.seat ≡ seat_for region own
-    → {spare : ℕ} (book : GuardBook) (out : Records) → guards_in book ≡ [] → size_of_book book ≡ 4 → records_in out ≡ [] → room_of out ≡ 200 → spare ≡ room_of_pass own - length (events_shown own)
+    → {spare : ℕ} (book : GuardBook) (out : Records) → guards_in book ≡ [] → size_of_book book ≡ 4 → records_in out ≡ [] → room_of out ≡ 200
+    → spare ≡ room_of_pass own - length (events_shown own)
     → ((v : View) (w l : Whole) → StormStands region own foreign v w → σ.stands v l) → CanCall σ (MayKeep σ.seat.profile book out 4 spare)
 may_begin σ {region} {own} {foreign} begins seat {spare} book out empty size none room spare_is stands =
     let shown : length (events_shown own) ≡ 0 = ap length begins.stands.own_part.shown in

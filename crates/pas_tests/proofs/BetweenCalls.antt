@@ -8,7 +8,7 @@ use Rattle.pas_steps.specs.{Calls.nothing, Calls.Does, Events.events_by, Views.V
 use Rattle.pas_steps.specs.Desks.{Seat, Standing, AnyView, CanCall, Makes, made, triples}
 use Rattle.pas_steps.specs.declared.step.{Made.Made, Step.TheVariants.Look}
 use Rattle.pas_steps.proofs.{Apart.no_events, Apart.only_both, Called.call_none, Called.call_then, Called.call_idly, Calls.does_none, Calls.does_then}
-use Rattle.pas_steps.proofs.{Kept.knows_still, SpareRoom.Spares, SpareRoom.spare_falls, Unknown.unknown_stays}
+use Rattle.pas_steps.proofs.{Kept.knows_still, SpareRoom.Spares, SpareRoom.spare_falls, Unknown.unknown_no_more}
 use Rattle.pas_report.specs.Rooms.{records_in, Records}
 use Rattle.pas_report.specs.declared.record.Record.{Record}
 use Rattle.pas_trace.specs.declared.item.Request.{Request}
@@ -25,6 +25,7 @@ use Rattle.pas_tests.specs.Kept.{MayKeep, Looked}
 pub looked_none : {σ : Standing} → Looked σ σ
 looked_none = record { steps = []; calls = call_none (λ v met. does_none v); kinds = tt }
 
+-- Two looks at the backed words of a guard's pages are looks alone.
 pub looked_two : {σ σ1 σ2 : Standing} (low high a b : ℕ) → Makes σ σ1 (Look (Word.Backed low)) a → Makes σ1 σ2 (Look (Word.Backed high)) b → Looked σ σ2
 unfolding looked_none
 looked_two {σ} low high a b first second =
@@ -35,6 +36,7 @@ looked_two {σ} low high a b first second =
       kinds = (refl, (refl, tt));
     }
 
+-- Looks after looks are looks alone.
 pub looked_both : {σ σ1 σ2 : Standing} → Looked σ σ1 → Looked σ1 σ2 → Looked σ σ2
 looked_both one two = record {
   steps = two.steps ++ one.steps;
@@ -42,6 +44,7 @@ looked_both one two = record {
   kinds = only_both backed_looks two.steps one.steps two.kinds one.kinds;
 }
 
+-- After looks alone a keeper that fits its book can make a step that asks nothing.
 pub can_look : {σ σ' : Standing} {guards : List Guard} → Looked σ σ' → CanCall σ (FitsBook σ.seat.profile guards) → CanCall σ' AnyView
 can_look {σ} looked can = record { view = looked.steps ++ can.view; whole = triples σ.seat.actor looked.steps ++ can.whole; stood = looked.calls.adds.added can.view can.whole can.stood tt; met = tt }
 
@@ -49,12 +52,15 @@ can_look {σ} looked can = record { view = looked.steps ++ can.view; whole = tri
 abbrev pub no_guard : Guard
 no_guard = record { low = 0; high = 0; block = record { name = record { address = record { 0 = 0 }; turn = 0 }; room = 0; heap = 0 } }
 
-each_at : (P : Guard → Type 0) (guards : List Guard) (place : ℕ) (default : Guard) → Each P guards → place < length guards → P (slice_index_or guards place default)
+each_at : (P : Guard → Type 0) (guards : List Guard) (place : ℕ) (default : Guard) → Each P guards → place < length guards
+    → P (slice_index_or guards place default)
 each_at P [] place default all lt = absurd (omega (arith, lt))
 each_at P (guard ∷ guards) zero default all lt = all.0
 each_at P (guard ∷ guards) (suc place) default all lt = each_at P guards place default all.1 (omega (arith, lt))
 
-pub its_pages : {σ σ' : Standing} {guards : List Guard} → Looked σ σ' → CanCall σ (FitsBook σ.seat.profile guards) → (place : ℕ) (read : Guard) (default : Guard) → read ≡ slice_index_or guards place default → place < length guards → IsGuardOf σ'.seat.profile read
+-- A guard of the book is one of the region after the looks, too.
+pub its_pages : {σ σ' : Standing} {guards : List Guard} → Looked σ σ' → CanCall σ (FitsBook σ.seat.profile guards)
+    → (place : ℕ) (read : Guard) (default : Guard) → read ≡ slice_index_or guards place default → place < length guards → IsGuardOf σ'.seat.profile read
 its_pages {σ} {σ'} {guards} looked can place read default is lt =
     subst (λ (s : Seat). IsGuardOf s.profile read) (sym looked.calls.adds.seat_is) (subst (IsGuardOf σ.seat.profile) (sym is) (each_at (IsGuardOf σ.seat.profile) guards place default can.met.of_region lt))
 
@@ -63,7 +69,8 @@ each_map : (P Q : Guard → Type 0) (guards : List Guard) → ((guard : Guard) �
 each_map P Q [] more all = tt
 each_map P Q (guard ∷ guards) more all = (more guard all.0, each_map P Q guards more all.1)
 
-fits_still : (f : Profile) (guards : List Guard) (v w : View) → FitsBook f guards v → Does nothing v w → ((p : ℕ) (d : Directory) → KnowsDeed p d v → KnowsDeed p d w) → FitsBook f guards w
+fits_still : (f : Profile) (guards : List Guard) (v w : View) → FitsBook f guards v → Does nothing v w
+    → ((p : ℕ) (d : Directory) → KnowsDeed p d v → KnowsDeed p d w) → FitsBook f guards w
 fits_still f guards v w fits still knows = record {
   apart = fits.apart;
   of_region = fits.of_region;
@@ -73,7 +80,9 @@ fits_still f guards v w fits still knows = record {
   clear = record { on = λ page. still.clear page (fits.clear.on page) };
 }
 
-pub keeps_after_looks : {σ σ' : Standing} {book : GuardBook} {out : Records} {spare spare' : ℕ} (n : ℕ) → CanCall σ (MayKeep σ.seat.profile book out n spare) → Looked σ σ' → Spares σ spare → Spares σ' spare' → CanCall σ' (MayKeep σ'.seat.profile book out n spare')
+-- After looks alone a keeper may still keep its guards.
+pub keeps_after_looks : {σ σ' : Standing} {book : GuardBook} {out : Records} {spare spare' : ℕ} (n : ℕ) → CanCall σ (MayKeep σ.seat.profile book out n spare)
+    → Looked σ σ' → Spares σ spare → Spares σ' spare' → CanCall σ' (MayKeep σ'.seat.profile book out n spare')
 keeps_after_looks {σ} {σ'} {book} {out} {spare} {spare'} n can looked law law' =
     let f = σ.seat.profile in
     let v = can.view in
@@ -81,7 +90,7 @@ keeps_after_looks {σ} {σ'} {book} {out} {spare} {spare'} n can looked law law'
     let agreed = looked.calls.adds.agreed v can.whole can.stood tt in
     let none = ap (λ (es : List Event). length es) (no_events backed_looks refl σ.seat.actor v xs looked.kinds) in
     let left = spare_falls {C = AnyView} spare spare' 0 looked.calls.adds (record { view = v; whole = can.whole; stood = can.stood; met = tt }) law law' none in
-    let unknown = unknown_stays f xs v agreed in
+    let unknown = unknown_no_more f xs v agreed in
     let room = can.met.room in
     let records = can.met.records in
     record {
@@ -100,10 +109,14 @@ keeps_after_looks {σ} {σ'} {book} {out} {spare} {spare'} n can looked law law'
 pub admits_page : (f : Profile) → 1 ≤ f.pages → 1 ≤ f.heaps → IsAdmitted f 4096 16 0
 admits_page f pages heaps = record { within = omega (arith, pages); aligned = (omega arith, omega arith, refl); of_profile = omega (arith, heaps) }
 
-pub can_fit : {σ : Standing} {book : GuardBook} {out : Records} {n spare : ℕ} → CanCall σ (MayKeep σ.seat.profile book out n spare) → CanCall σ (FitsBook σ.seat.profile (guards_in book))
+-- A keeper that may keep its guards fits its book.
+pub can_fit : {σ : Standing} {book : GuardBook} {out : Records} {n spare : ℕ} → CanCall σ (MayKeep σ.seat.profile book out n spare)
+    → CanCall σ (FitsBook σ.seat.profile (guards_in book))
 can_fit can = record { view = can.view; whole = can.whole; stood = can.stood; met = can.met.fits }
 
-pub can_try : {σ : Standing} {book : GuardBook} {out : Records} {spare : ℕ} (n m : ℕ) → n ≡ m + 1 → CanCall σ (MayKeep σ.seat.profile book out n spare) → CanCall σ (MayTry σ.seat.profile book 4096 spare out)
+-- A keeper with place for guarded requests may try one.
+pub can_try : {σ : Standing} {book : GuardBook} {out : Records} {spare : ℕ} (n m : ℕ) → n ≡ m + 1 → CanCall σ (MayKeep σ.seat.profile book out n spare)
+    → CanCall σ (MayTry σ.seat.profile book 4096 spare out)
 can_try n m is can =
     let places = can.met.places in
     let room = can.met.room in
@@ -115,7 +128,8 @@ few_try : (block : Option Block) → cost_of_try 4096 block ≤ 4
 few_try None = omega arith
 few_try (Some block) = omega arith
 
-more_up : (f : Profile) (d : Directory) (k : ℕ) (guards guards' : List Guard) (answer : Option Block) (searched after : List Made) → MatchOption answer (IsNotRaised f d k guards guards' searched after) (IsRaised f d k guards guards' searched after)
+more_up : (f : Profile) (d : Directory) (k : ℕ) (guards guards' : List Guard) (answer : Option Block) (searched after : List Made)
+    → MatchOption answer (IsNotRaised f d k guards guards' searched after) (IsRaised f d k guards guards' searched after)
     → length guards' ≤ length guards + 1
 more_up f d k guards guards' None searched after is = let same = ap (λ (gs : List Guard). length gs) is.same in omega (arith, same)
 more_up f d k guards guards' (Some block) searched after is =
@@ -130,8 +144,11 @@ one_more f k r v guards t is =
     let more = more_up f (large_directory r.heap) (pages_of (wanted_by f r)) is.left t.guards t.block is.raise.searched is.raise.after is.raise.outcome in
     omega (arith, fewer, more)
 
-pub keeps_after_try : {σ σ' : Standing} {book book' : GuardBook} {out out' : Records} {spare spare' : ℕ} {block : Option Block} (name n m : ℕ) → n ≡ m + 1 → CanCall σ (MayKeep σ.seat.profile book out n spare)
-    → TriesRequest (record { name = name; heap = 0; size = 4096; align = 16 }) book book' out out' σ σ' block → Spares σ spare → Spares σ' spare' → CanCall σ' (MayKeep σ'.seat.profile book' out' m spare')
+-- After a try a keeper may keep its guards, with one request fewer to come.
+pub keeps_after_try : {σ σ' : Standing} {book book' : GuardBook} {out out' : Records} {spare spare' : ℕ} {block : Option Block} (name n m : ℕ) → n ≡ m + 1
+    → CanCall σ (MayKeep σ.seat.profile book out n spare)
+    → TriesRequest (record { name = name; heap = 0; size = 4096; align = 16 }) book book' out out' σ σ' block → Spares σ spare → Spares σ' spare'
+    → CanCall σ' (MayKeep σ'.seat.profile book' out' m spare')
 unfolding can_fit
 keeps_after_try {σ} {σ'} {book} {book'} {out} {out'} {spare} {spare'} {block} name n m is can t law law' =
     let f = σ.seat.profile in
@@ -162,12 +179,15 @@ keeps_after_try {σ} {σ'} {book} {book'} {out} {out'} {spare} {spare'} {block} 
     }
 
 -- ---- the close
-pub can_lower : {σ : Standing} {book : GuardBook} {out : Records} {spare : ℕ} (n : ℕ) → CanCall σ (MayKeep σ.seat.profile book out n spare) → CanCall σ (MayLowerAll σ.seat.profile book out)
+pub can_lower : {σ : Standing} {book : GuardBook} {out : Records} {spare : ℕ} (n : ℕ) → CanCall σ (MayKeep σ.seat.profile book out n spare)
+    → CanCall σ (MayLowerAll σ.seat.profile book out)
 can_lower n can =
     let records = can.met.records in
     record { view = can.view; whole = can.whole; stood = can.stood; met = record { fits = can.met.fits; records = omega (arith, records) } }
 
-pub nothing_up : {σ σ' : Standing} {book book' : GuardBook} {out out' : Records} {n spare : ℕ} → CanCall σ (MayKeep σ.seat.profile book out n spare) → LowersAll book book' out out' σ σ' → CanCall σ' (FitsBook σ'.seat.profile [])
+-- After a keeper lowered all, it fits an empty book.
+pub nothing_up : {σ σ' : Standing} {book book' : GuardBook} {out out' : Records} {n spare : ℕ} → CanCall σ (MayKeep σ.seat.profile book out n spare)
+    → LowersAll book book' out out' σ σ' → CanCall σ' (FitsBook σ'.seat.profile [])
 nothing_up {σ} {book' = book'} can t =
     let v = can.view in
     let fits = can.met.fits in

@@ -26,6 +26,7 @@ row_part r l k is its =
     ap (part k) is.goes_on ∙ (part_both k is.since (steps_of r.base)
     ∙ (ap (λ (v : View). v ++ part k (steps_of r.base)) (sym (part_of_chosen (among r.actors) k is.since its) ∙ ap (part k) is.made_is) ∙ sym (part_both k (steps_of r.made) (steps_of r.base))))
 
+-- An actor's row says of it what a list tells of which the rows are rows.
 pub rows_part : (rs : List Row) (l : Whole) (k : ℕ) (v : View) → AreRowsOf rs l → HasRow rs k v → part k l ≡ v
 rows_part [] l k v are has = absurd has
 rows_part (r ∷ rs) l k v are (inl sits) = row_part r l k are.0 sits.0 ∙ sits.1
@@ -65,11 +66,13 @@ has_seat pass rs =
     let v = view_of pass in
     inl (ap (λ (b : Bool). if b then true else false) (eq-eqb k k refl), ap (λ (l : Whole). part k (l ++ [])) (entries_are k v) ∙ (part_of_own k v [] ∙ append-nil v))
 
+-- A member has the seat of the pass with which it sat down.
 pub member_seat : {pass : SharedPass} {member : Member} → IsMemberOf pass member → seat_of_member member ≡ seat_of pass
 member_seat m = λ i. record { actor = m.actor i; profile = m.profile i; room = room_of_notes (m.notes i) }
 
 -- .. and in one row with the others, once the bench looked
-pub sat : {region : SharedRegion} (b now : Bench) (pass : SharedPass) (member : Member) → IsPassOf region pass → IsMemberOf pass member → IsBenchOf region now → HasLooked (rows_on b) (rows_on now)
+pub sat : {region : SharedRegion} (b now : Bench) (pass : SharedPass) (member : Member) → IsPassOf region pass → IsMemberOf pass member → IsBenchOf region now
+    → HasLooked (rows_on b) (rows_on now)
     → HasRow (rows_on b) pass.place.actor (view_of pass) → IsSeated region now pass member
 sat {region} b now pass member of m bench looked has =
     let k = pass.place.actor in
@@ -91,7 +94,8 @@ sat {region} b now pass member of m bench looked has =
     }
 
 -- what is so of a desk at which an actor sits is so of another one that it has for it
-pub sits_as : {f : Profile} {k : ℕ} {Rest : View → Type 0} {σ τ : Standing} {l : Whole} {need : ℕ} → τ.seat ≡ σ.seat → (σ.stands (part k l) l → τ.stands (part k l) l) → Sits f k Rest σ l need → Sits f k Rest τ l need
+pub sits_as : {f : Profile} {k : ℕ} {Rest : View → Type 0} {σ τ : Standing} {l : Whole} {need : ℕ} → τ.seat ≡ σ.seat
+    → (σ.stands (part k l) l → τ.stands (part k l) l) → Sits f k Rest σ l need → Sits f k Rest τ l need
 sits_as {k = k} {l = l} {need} seat to s = record {
   actor = ap (λ (t : Seat). t.actor) seat ∙ s.actor;
   profile = ap (λ (t : Seat). t.profile) seat ∙ s.profile;
@@ -101,7 +105,8 @@ sits_as {k = k} {l = l} {need} seat to s = record {
 }
 
 -- .. and what was done there is so of it
-pub calls_as : {σ σ' τ τ' : Standing} {Before : View → Type 0} {Change : View → View → Type 0} {steps : List Made} → τ.seat ≡ σ.seat → τ'.seat ≡ σ'.seat → ((v : View) (l : Whole) → τ.stands v l → σ.stands v l)
+pub calls_as : {σ σ' τ τ' : Standing} {Before : View → Type 0} {Change : View → View → Type 0} {steps : List Made} → τ.seat ≡ σ.seat → τ'.seat ≡ σ'.seat
+    → ((v : View) (l : Whole) → τ.stands v l → σ.stands v l)
     → ((v : View) (l : Whole) → σ'.stands v l → τ'.stands v l) → Calls σ σ' Before Change steps → Calls τ τ' Before Change steps
 calls_as {σ} {σ'} {τ} {τ'} {Before} {Change} {steps} one two from to calls = record {
   adds = record {
@@ -123,11 +128,13 @@ looked_made b now k one looked its =
       ap (λ (r : Row). made_in r k) row_is ∙ row_part (row_on b) (steps_of looked.base) k rows.0 its,
     )
 
+-- After a look on a bench its rows are one fresh row.
 pub looked_fresh : {old new : List Row} → HasLooked old new → IsFreshRow new
 looked_fresh {old} looked = record { actors = all_actors old; base = looked.base; is = looked.is }
 
 -- a member that sat there does so still
-pub still_sits : (b now : Bench) (member : Member) → rows_on b ≡ row_on b ∷ [] → HasLooked (rows_on b) (rows_on now) → SitsInRow (row_on b) member → SitsInRow (first_row (rows_on now)) member
+pub still_sits : (b now : Bench) (member : Member) → rows_on b ≡ row_on b ∷ [] → HasLooked (rows_on b) (rows_on now) → SitsInRow (row_on b) member
+    → SitsInRow (first_row (rows_on now)) member
 still_sits b now member one looked sits =
     let both = looked_made b now member.actor one looked sits.among_them in
     record { among_them = both.0; noted = subst (λ (v : View). AreNotesOf member.actor v member.notes) (sym both.1) sits.noted }
@@ -140,7 +147,9 @@ left_fresh test {rs} fresh = record { actors = (first_row (rows_of_only test (re
 pub left_made : (test : ℕ → Bool) {rs : List Row} (k : ℕ) → IsFreshRow rs → made_in (first_row (rows_of_only test rs)) k ≡ made_in (first_row rs) k
 left_made test {rs} k fresh = ap (λ (qs : List Row). made_in (first_row (rows_of_only test qs)) k) fresh.is ∙ sym (ap (λ (qs : List Row). made_in (first_row qs) k) fresh.is)
 
-pub left_sits : {rs : List Row} (j : ℕ) (member : Member) → IsFreshRow rs → member.actor ≢ j → SitsInRow (first_row rs) member → SitsInRow (first_row (rows_of_only (isnt (only_this j)) rs)) member
+-- A member of a fresh row still sits in it after another actor left.
+pub left_sits : {rs : List Row} (j : ℕ) (member : Member) → IsFreshRow rs → member.actor ≢ j → SitsInRow (first_row rs) member
+    → SitsInRow (first_row (rows_of_only (isnt (only_this j)) rs)) member
 left_sits {rs} j member fresh other sits =
     let k = member.actor in
     let test = isnt (only_this j) in
@@ -153,7 +162,8 @@ left_sits {rs} j member fresh other sits =
 
 -- ---- what the bench saw
 -- of a row that stands beside the list that was told the steps stand in the same order in the list that the bench saw at its last look
-pub keeps_order : (r : Row) (base : List Entry) (made told told' : Whole) → IsRowOf r (steps_of base) → told' ≡ made ++ told → StandsOver r told' → ((k : ℕ) → among r.actors k ≡ true → part k told ≡ part k (steps_of r.base))
+pub keeps_order : (r : Row) (base : List Entry) (made told told' : Whole) → IsRowOf r (steps_of base) → told' ≡ made ++ told → StandsOver r told'
+    → ((k : ℕ) → among r.actors k ≡ true → part k told ≡ part k (steps_of r.base))
     → KeepsOrder (among r.actors) told told' (steps_of base)
 keeps_order r base made told told' is grown over same = record {
   made = made;

@@ -38,7 +38,8 @@ use Rattle.pas_threads.proofs.PhaseSums.{owed_less, kept_less, own_all, all_paid
 
 -- ---- another progress
 -- the scavenger rests at each progress of which it has the same part
-scavenger_rests : {region : SharedRegion} {f : Profile} {scavenger : Scavenger} {later : ℕ} {p q : Progress} → part 0 q.list ≡ part 0 p.list → ScavengerRests region f scavenger later p → ScavengerRests region f scavenger later q
+scavenger_rests : {region : SharedRegion} {f : Profile} {scavenger : Scavenger} {later : ℕ} {p q : Progress} → part 0 q.list ≡ part 0 p.list
+    → ScavengerRests region f scavenger later p → ScavengerRests region f scavenger later q
 scavenger_rests {region} {f} {scavenger} {later} {p} {q} same at = record {
   has = at.has;
   at = record {
@@ -63,7 +64,8 @@ names_at {f} {ops} {book} {p} {q} same at = record {
 }
 
 -- ---- more records
-team_at_records : {region : SharedRegion} {s : Session} {phases : List (List Op)} {team : Team} {p : Progress} (more : List Record) → TeamAt region s phases team p → TeamAt region s phases team (with_records p more)
+team_at_records : {region : SharedRegion} {s : Session} {phases : List (List Op)} {team : Team} {p : Progress} (more : List Record)
+    → TeamAt region s phases team p → TeamAt region s phases team (with_records p more)
 unfolding names_at
 team_at_records more at = record {
   many = at.many;
@@ -83,7 +85,8 @@ team_at_records more at = record {
 }
 
 -- a mark took the room for one
-room_after_mark : (s : Session) (phases : List (List Op)) (marks : ℕ) (workers : List Worker) (out out' : Records) (p : Progress) (mark : Record) → records_in out' ≡ records_in out ++ mark ∷ [] → room_of out' ≡ room_of out
+room_after_mark : (s : Session) (phases : List (List Op)) (marks : ℕ) (workers : List Worker) (out out' : Records) (p : Progress) (mark : Record)
+    → records_in out' ≡ records_in out ++ mark ∷ [] → room_of out' ≡ room_of out
     → HasRoom s phases (marks + 1) workers out p → HasRoom s phases marks workers out' (with_records p (mark ∷ []))
 room_after_mark s phases marks workers out out' p mark pushed size room =
     let grown = ap (λ (rs : List Record). length rs) pushed in
@@ -94,7 +97,8 @@ room_after_mark s phases marks workers out out' p mark pushed size room =
     omega (arith, grown, one, same, kept, size, room)
 
 -- .. and no mark took none
-room_without_mark : (s : Session) (phases : List (List Op)) (marks : ℕ) (workers : List Worker) (out : Records) (p : Progress) → HasRoom s phases (marks + 1) workers out p → HasRoom s phases marks workers out p
+room_without_mark : (s : Session) (phases : List (List Op)) (marks : ℕ) (workers : List Worker) (out : Records) (p : Progress)
+    → HasRoom s phases (marks + 1) workers out p → HasRoom s phases marks workers out p
 room_without_mark s phases marks workers out p room = omega (arith, room)
 
 -- ---- no records
@@ -121,7 +125,8 @@ none_written s is written_is = record {
 abbrev StaysBehind : ℕ → Record → Type 0
 StaysBehind threads mark = (said more : List Record) → AreSpoken said → arranged OnThreads threads (said ++ mark ∷ more) ≡ by_actors 0 (threads + 1) said ++ mark ∷ arranged OnThreads threads more
 
-marked_by : {s : Session} {records written : List Record} (mark : Record) → StaysBehind s.profile.threads mark → AreWritten s records written → AreMarked s (records ++ mark ∷ []) (written ++ mark ∷ [])
+marked_by : {s : Session} {records written : List Record} (mark : Record) → StaysBehind s.profile.threads mark → AreWritten s records written
+    → AreMarked s (records ++ mark ∷ []) (written ++ mark ∷ [])
 marked_by {s} {records} {written} mark behind so more =
     let threads = s.profile.threads in
     let after = arranged OnThreads threads more in
@@ -135,14 +140,17 @@ marked_by {s} {records} {written} mark behind so more =
     ∙ ap (λ (ws : List Record). ws ++ mark ∷ after) (sym so.written_are)
     ∙ sym (append_assoc written (mark ∷ []) after)
 
-phase_marked : {s : Session} {records written : List Record} (n : ℕ) → AreWritten s records written → AreMarked s (records ++ Record.Phase n ∷ []) (written ++ Record.Phase n ∷ [])
+phase_marked : {s : Session} {records written : List Record} (n : ℕ) → AreWritten s records written
+    → AreMarked s (records ++ Record.Phase n ∷ []) (written ++ Record.Phase n ∷ [])
 phase_marked {s} n so = marked_by (Record.Phase n) (λ said more spoken. (are_arranged s.profile.threads said spoken).0 n more) so
 
-close_marked : {s : Session} {records written : List Record} → AreWritten s records written → AreMarked s (records ++ Record.Close ∷ []) (written ++ Record.Close ∷ [])
+close_marked : {s : Session} {records written : List Record} → AreWritten s records written
+    → AreMarked s (records ++ Record.Close ∷ []) (written ++ Record.Close ∷ [])
 close_marked {s} so = marked_by Record.Close (λ said more spoken. (are_arranged s.profile.threads said spoken).1 more) so
 
 -- where another text of the records was written
-as_marked : (s : Session) (records : List Record) {written written' : List Record} → written' ≡ written → AreMarked s records written → AreMarked s records written'
+as_marked : (s : Session) (records : List Record) {written written' : List Record} → written' ≡ written → AreMarked s records written
+    → AreMarked s records written'
 as_marked s records same so = subst (λ (ws : List Record). AreMarked s records ws) (sym same) so
 
 -- ---- the end
@@ -178,13 +186,15 @@ module _ {region : SharedRegion} {s : Session} {team : Team} {p : Progress} (sto
       let keeper = s.threads + suc i in
       kept_still (did.turns.told i d lt).keeper (did.turns.leaves.parts keeper (λ j less same. omega (arith, less, same, at.many))) (ap (λ (books : Books). books keeper) did.turns.leaves.books) (at.kept i d lt)
 
+  -- Once all threads are stopped at the close, each keeper may lower its guards.
   pub may_lower : MayLower region f s.threads s.keepers stopped between
   may_lower = record {
     guarded = guarded_alike team.threads.items stopped many (λ i d lt. alike_same (get_or team.threads.items i d).keeper (get_or stopped i d).keeper (did.turns.told i d lt).keeper) at.guarded;
     each = λ i d lt. let rests = kept_between i d (omega (arith, lt, many)) in (rests.of, rests.waits);
   }
 
-  module _ (written : List Record) (lowered : List Worker) (low : LoweredAll region f s.threads s.keepers stopped lowered between) (same : length lowered ≡ length stopped) where
+  module _ (written : List Record) (lowered : List Worker) (low : LoweredAll region f s.threads s.keepers stopped lowered between)
+      (same : length lowered ≡ length stopped) where
     abbrev all : List Record
     all = did.turns.came.said ++ low.said
 
@@ -229,7 +239,8 @@ module _ {region : SharedRegion} {s : Session} {team : Team} {p : Progress} (sto
         (is, append_cancel_left between.records low.said [] (sym low.records_are ∙ ap (λ (q : Progress). q.records) is ∙ sym (append-nil between.records)))
 
     -- nobody past the keepers did anything
-    past : (k : ℕ) → s.threads + s.keepers < k → AreGuarded s.keepers team.threads.items → (part k reached.list ≡ part k between.list) × (records_by k low.said ≡ [])
+    past : (k : ℕ) → s.threads + s.keepers < k → AreGuarded s.keepers team.threads.items
+        → (part k reached.list ≡ part k between.list) × (records_by k low.said ≡ [])
     past k far (inl keepers) =
         let other : (j : ℕ) → j < length stopped → s.threads + suc j ≢ k = λ j lt is. omega (arith, far, keepers.0, lt, is, many) in
         (low.parts k other, low.silent k other)
@@ -248,7 +259,8 @@ module _ {region : SharedRegion} {s : Session} {team : Team} {p : Progress} (sto
     none_of_scavenger = of_both 0 ∙ ap (λ (rs : List Record). rs ++ records_by 0 low.said) did.none ∙ low.silent 0 (apart 0 (omega arith))
 
     -- what they owed pays for what they said
-    said_few : length (by_actors 1 s.threads all) + length (by_actors (s.threads + 1) s.threads all) ≤ owed_by f p s.threads + owed_by_keepers f s.threads team.threads.items p s.threads
+    said_few : length (by_actors 1 s.threads all) + length (by_actors (s.threads + 1) s.threads all)
+        ≤ owed_by f p s.threads + owed_by_keepers f s.threads team.threads.items p s.threads
     said_few =
         let paid = all_paid f (planned s) s.threads [] all team.threads.items [] p reached s.threads (λ i lt.
         let less : i < length team.threads.items = omega (arith, lt, at.many) in
@@ -269,12 +281,14 @@ module _ {region : SharedRegion} {s : Session} {team : Team} {p : Progress} (sto
         omega (arith, paid, none)
 
     -- there is room for what they said
-    pub room_at_close : {room : ℕ} → length written + (owed_by f p s.threads + owed_by_keepers f s.threads team.threads.items p s.threads + 0 + 0) ≤ room → length written + length (said_by_all lowered) ≤ room
+    pub room_at_close : {room : ℕ} → length written + (owed_by f p s.threads + owed_by_keepers f s.threads team.threads.items p s.threads + 0 + 0) ≤ room
+        → length written + length (said_by_all lowered) ≤ room
     room_at_close {room} fits =
         let size = ap (λ (rs : List Record). length rs) said_are in
         omega (arith, fits, said_few, size)
 
-    module _ (gathered : List Worker) (g : (i : ℕ) (d : Worker) → i < length lowered → IsGathered (get_or lowered i d) (get_or gathered i d)) (same1 : length gathered ≡ length lowered) where
+    module _ (gathered : List Worker) (g : (i : ℕ) (d : Worker) → i < length lowered → IsGathered (get_or lowered i d) (get_or gathered i d))
+        (same1 : length gathered ≡ length lowered) where
       guarded_then : AreGuarded s.keepers gathered
       guarded_then = guarded_alike team.threads.items gathered (same1 ∙ same ∙ many) (λ i d lt.
           let within : i < length stopped = omega (arith, lt, many) in
@@ -286,7 +300,10 @@ module _ {region : SharedRegion} {s : Session} {team : Team} {p : Progress} (sto
       kept_are : said_by_keepers gathered ≡ by_actors (s.threads + 1) s.keepers all
       kept_are = kept_in_order s.threads gathered all guarded_then (λ i d lt. ap said_by_keeper (g i d (omega (arith, lt, same1))).keeper ∙ kept_by_one i d (omega (arith, lt, same1, same, many)))
 
-      pub room_for_keepers : {room : ℕ} (out : List Record) → out ≡ written ++ said_by_all lowered → length written + (owed_by f p s.threads + owed_by_keepers f s.threads team.threads.items p s.threads + 0 + 0) ≤ room → length out + length (said_by_keepers gathered) ≤ room
+      -- There is room for what the keepers say at the close behind what was written before it.
+      pub room_for_keepers : {room : ℕ} (out : List Record) → out ≡ written ++ said_by_all lowered
+          → length written + (owed_by f p s.threads + owed_by_keepers f s.threads team.threads.items p s.threads + 0 + 0) ≤ room
+          → length out + length (said_by_keepers gathered) ≤ room
       room_for_keepers {room} out added fits =
           let own = ap (λ (rs : List Record). length rs) said_are in
           let all_kept = ap (λ (rs : List Record). length rs) kept_are in
@@ -296,7 +313,8 @@ module _ {region : SharedRegion} {s : Session} {team : Team} {p : Progress} (sto
           let sum = length-append written (said_by_all lowered) in
           omega (arith, fits, said_few, own, all_kept, most, count, long, sum)
 
-      written_so : {written' : List Record} → AreMarked s p.records written → written' ≡ (written ++ said_by_all lowered) ++ said_by_keepers gathered → AreWritten s reached.records written'
+      written_so : {written' : List Record} → AreMarked s p.records written → written' ≡ (written ++ said_by_all lowered) ++ said_by_keepers gathered
+          → AreWritten s reached.records written'
       written_so {written'} marked added = record {
         before = p.records;
         before_written = written;
@@ -310,7 +328,8 @@ module _ {region : SharedRegion} {s : Session} {team : Team} {p : Progress} (sto
             (sym (by_all s.threads s.keepers f.threads all at.fits silent ∙ ap (λ (rs : List Record). rs ++ (by_actors 1 s.threads all ++ by_actors (s.threads + 1) s.keepers all)) none_of_scavenger));
       }
 
-      module _ (kept : List Worker) (h : (i : ℕ) (d : Worker) → i < length gathered → IsKeptGathered (get_or gathered i d) (get_or kept i d)) (same2 : length kept ≡ length gathered) where
+      module _ (kept : List Worker) (h : (i : ℕ) (d : Worker) → i < length gathered → IsKeptGathered (get_or gathered i d) (get_or kept i d))
+          (same2 : length kept ≡ length gathered) where
         sized : length kept ≡ length team.threads.items
         sized = same2 ∙ same1 ∙ same ∙ many
 
@@ -360,8 +379,11 @@ module _ {region : SharedRegion} {s : Session} {team : Team} {p : Progress} (sto
         guarded_last : AreGuarded s.keepers kept
         guarded_last = guarded_alike gathered kept same2 (λ i d lt. alike_said (get_or gathered i d).keeper (get_or kept i d).keeper (h i d lt).keeper) guarded_then
 
-        pub has_closed : (after : Team) → after.threads.items ≡ kept → after.scavenger ≡ team.scavenger → after.book ≡ team.book → HasPlaces s.threads after → {written' : List Record} → AreMarked s p.records written
-            → written' ≡ (written ++ said_by_all lowered) ++ said_by_keepers gathered → {first last_seen : Whole} → WentBy s (one_by_one (map Ends (numbers_from 1 s.threads) ++ map Lowers (numbers_from (s.threads + 1) s.keepers))) p reached first last_seen
+        -- The close is done once threads are stopped, guards are lowered and all that was said is gathered.
+        pub has_closed : (after : Team) → after.threads.items ≡ kept → after.scavenger ≡ team.scavenger → after.book ≡ team.book → HasPlaces s.threads after
+            → {written' : List Record} → AreMarked s p.records written
+            → written' ≡ (written ++ said_by_all lowered) ++ said_by_keepers gathered → {first last_seen : Whole}
+            → WentBy s (one_by_one (map Ends (numbers_from 1 s.threads) ++ map Lowers (numbers_from (s.threads + 1) s.keepers))) p reached first last_seen
             → CloseDone region s after written' first last_seen p
         has_closed after threads scavenger book places {written'} marked added went =
             let has_all : AreClosed region s kept reached = record { workers = workers_rest; guarded = guarded_last; kept = keepers_rest; empty = caches_empty; low = keepers_low } in
@@ -408,12 +430,14 @@ left_stages threads keepers zero phases some = absurd (omega (arith, some))
 left_stages threads keepers (suc n) phases some = refl
 
 -- the first phase, which has no mark, and another one
-first_stages : (threads keepers n : ℕ) (phase : List Op) (phases : List (List Op)) → n ≡ 0 → stages_left threads keepers n (phase ∷ phases) ≡ phase_stages threads phase ++ stages_left threads keepers (n + 1) phases
+first_stages : (threads keepers n : ℕ) (phase : List Op) (phases : List (List Op)) → n ≡ 0
+    → stages_left threads keepers n (phase ∷ phases) ≡ phase_stages threads phase ++ stages_left threads keepers (n + 1) phases
 first_stages threads keepers zero phase phases is = refl
 first_stages threads keepers (suc n) phase phases is = absurd (omega (arith, is))
 
 other_stages : (threads keepers n : ℕ) (phase : List Op) (phases : List (List Op)) → 1 ≤ n
-    → stages_left threads keepers n (phase ∷ phases) ≡ stage (MarksPhase (n + 1) ∷ []) itself ∷ (phase_stages threads phase ++ stages_left threads keepers (n + 1) phases)
+    → stages_left threads keepers n (phase ∷ phases)
+      ≡ stage (MarksPhase (n + 1) ∷ []) itself ∷ (phase_stages threads phase ++ stages_left threads keepers (n + 1) phases)
 other_stages threads keepers n phase phases some =
     left_stages threads keepers n (phase ∷ phases) some
     ∙ ap (λ (ss : List Stage). stage (MarksPhase (n + 1) ∷ []) itself ∷ (phase_stages threads phase ++ ss)) (sym (left_stages threads keepers (n + 1) phases (omega arith)))
@@ -421,11 +445,13 @@ other_stages threads keepers n phase phases some =
 -- What follows these acts from p on, by these stages, is a replay of all. A list of these actors that begins with these steps is in phases, if it is in what follows.
 pub record Leads (s : Session) (all : List (List Op)) (acts : List Act) (stages : List Stage) (p : Progress) (so_far : Whole) : Type 0 where
   pub reaches : (q : Progress) → Reaches s.profile acts p q → Reaches s.profile (acts_of s.threads s.keepers all) at_start q
-  pub in_phases : (whole : Whole) → IsEarlier so_far whole → IsOfActors s whole → (q : Progress) (is : Reaches s.profile acts p q) → AreInPhases s.profile acts p q is whole → AreInPhases s.profile (acts_of s.threads s.keepers all) at_start q (reaches q is) whole
+  pub in_phases : (whole : Whole) → IsEarlier so_far whole → IsOfActors s whole → (q : Progress) (is : Reaches s.profile acts p q)
+      → AreInPhases s.profile acts p q is whole → AreInPhases s.profile (acts_of s.threads s.keepers all) at_start q (reaches q is) whole
   pub by_stages : (q : Progress) (l : Whole) → WentBy s stages p q so_far l → WentBy s (stages_of s.threads s.keepers all) at_start q [] l
 
 -- by these acts and stages, which are those told otherwise
-leads_as : {s : Session} {all : List (List Op)} {acts acts' : List Act} {stages stages' : List Stage} {p : Progress} {so_far : Whole} → acts ≡ acts' → stages ≡ stages' → Leads s all acts stages p so_far → Leads s all acts' stages' p so_far
+leads_as : {s : Session} {all : List (List Op)} {acts acts' : List Act} {stages stages' : List Stage} {p : Progress} {so_far : Whole} → acts ≡ acts'
+    → stages ≡ stages' → Leads s all acts stages p so_far → Leads s all acts' stages' p so_far
 leads_as {s} {all} {acts} {acts'} {stages} {stages'} {p} {so_far} one two leads = subst (λ (ss : List Stage). Leads s all acts' ss p so_far) two (subst (λ (xs : List Act). Leads s all xs stages p so_far) one leads)
 
 -- After n phases of all: these are left. There is room for a mark before each of them, and for that of the close. Before the first phase there is no
@@ -439,7 +465,9 @@ pub record AfterPhases (region : SharedRegion) (s : Session) (all : List (List O
   pub leads : Leads s all (acts_left s.threads s.keepers n left) (stages_left s.threads s.keepers n left) p so_far
   pub stand : StandSo s so_far p.list
 
-pub no_phase : {region : SharedRegion} {s : Session} {all : List (List Op)} {team : Team} {so_far : Whole} {out : Records} {marks : ℕ} → so_far ≡ [] → records_in out ≡ [] → marks ≡ length all + 1 → TeamAt region s all team at_start → HasRoom s all marks team.threads.items out at_start
+-- Before any phase of a replay its team, its records and its ledger stand at the start.
+pub no_phase : {region : SharedRegion} {s : Session} {all : List (List Op)} {team : Team} {so_far : Whole} {out : Records} {marks : ℕ} → so_far ≡ []
+    → records_in out ≡ [] → marks ≡ length all + 1 → TeamAt region s all team at_start → HasRoom s all marks team.threads.items out at_start
     → AfterPhases region s all 0 all team so_far out
 no_phase {region} {s} {all} {team} {so_far} {out} {marks} nothing empty is at room = record {
   p = at_start;
@@ -456,13 +484,18 @@ no_phase {region} {s} {all} {team} {so_far} {out} {marks} nothing empty is at ro
 }
 
 -- what is left begins with the next phase, or is nothing
-pub as_next : {region : SharedRegion} {s : Session} {all : List (List Op)} {team : Team} {so_far : Whole} {out : Records} (phases : List Phase) (i : ℕ) (item : Phase) (ops : List Op) → i < length phases → item ≡ slice_index_or phases i item → ops ≡ ops_of item
-    → AfterPhases region s all i (map ops_of (drop i phases)) team so_far out → AfterPhases region s all i (ops ∷ map ops_of (drop (i + 1) phases)) team so_far out
+pub as_next : {region : SharedRegion} {s : Session} {all : List (List Op)} {team : Team} {so_far : Whole} {out : Records} (phases : List Phase) (i : ℕ)
+      (item : Phase) (ops : List Op)
+    → i < length phases → item ≡ slice_index_or phases i item → ops ≡ ops_of item
+    → AfterPhases region s all i (map ops_of (drop i phases)) team so_far out
+    → AfterPhases region s all i (ops ∷ map ops_of (drop (i + 1) phases)) team so_far out
 as_next {region} {s} {all} {team} {so_far} {out} phases i item ops lt is same so =
     let first : ops_of (slice_index_or phases i item) ≡ ops = ap ops_of (sym is) ∙ sym same in
     subst (λ (left : List (List Op)). AfterPhases region s all i left team so_far out) (ap (λ (ps : List Phase). map ops_of ps) (drop_more phases i item lt) ∙ ap (λ (os : List Op). os ∷ map ops_of (drop (i + 1) phases)) first) so
 
-pub as_last : {region : SharedRegion} {s : Session} {all : List (List Op)} {team : Team} {so_far : Whole} {out : Records} (phases : List Phase) (i : ℕ) → length phases ≤ i → AfterPhases region s all i (map ops_of (drop i phases)) team so_far out → AfterPhases region s all i [] team so_far out
+-- After the last phase no operations are left.
+pub as_last : {region : SharedRegion} {s : Session} {all : List (List Op)} {team : Team} {so_far : Whole} {out : Records} (phases : List Phase) (i : ℕ)
+    → length phases ≤ i → AfterPhases region s all i (map ops_of (drop i phases)) team so_far out → AfterPhases region s all i [] team so_far out
 as_last {region} {s} {all} {team} {so_far} {out} phases i le so = subst (λ (left : List (List Op)). AfterPhases region s all i left team so_far out) (ap (λ (ps : List Phase). map ops_of ps) (drop_of_length-le phases le)) so
 
 -- ---- a phase
@@ -473,14 +506,17 @@ pub record BeforePhase (region : SharedRegion) (s : Session) (all : List (List O
   pub leads : Leads s all (phase_acts s.threads ops ++ acts_left s.threads s.keepers (n + 1) rest) (phase_stages s.threads ops ++ stages_left s.threads s.keepers (n + 1) rest) p so_far
   pub stand : StandSo s so_far p.list
 
-module _ {region : SharedRegion} {s : Session} {all : List (List Op)} {n : ℕ} {ops : List Op} {rest : List (List Op)} {team : Team} {so_far : Whole} {out : Records} (so : AfterPhases region s all n (ops ∷ rest) team so_far out) where
-  one_more : (out' : Records) (q : Progress) → HasRoom s (ops ∷ rest) (length (ops ∷ rest) + 1) team.threads.items out' q → HasRoom s (ops ∷ rest) (length rest + 1 + 1) team.threads.items out' q
+module _ {region : SharedRegion} {s : Session} {all : List (List Op)} {n : ℕ} {ops : List Op} {rest : List (List Op)} {team : Team} {so_far : Whole}
+    {out : Records} (so : AfterPhases region s all n (ops ∷ rest) team so_far out) where
+  one_more : (out' : Records) (q : Progress) → HasRoom s (ops ∷ rest) (length (ops ∷ rest) + 1) team.threads.items out' q
+      → HasRoom s (ops ∷ rest) (length rest + 1 + 1) team.threads.items out' q
   one_more out' q room = subst (λ (m : ℕ). HasRoom s (ops ∷ rest) m team.threads.items out' q) (let e : length (ops ∷ rest) + 1 ≡ length rest + 1 + 1 = omega arith in e) room
 
   -- there is room for a mark
   pub spare_for_mark : length (records_in out) < room_of out
   spare_for_mark = omega (arith, so.room)
 
+  -- The first phase begins where the replay stands, without a mark.
   pub first_begins : n ≡ 0 → BeforePhase region s all n ops rest team so_far out
   first_begins is = record {
     p = so.p;
@@ -489,7 +525,9 @@ module _ {region : SharedRegion} {s : Session} {all : List (List Op)} {n : ℕ} 
     stand = so.stand;
   }
 
-  pub other_begins : {out' : Records} → 1 ≤ n → records_in out' ≡ records_in out ++ Record.Phase (n + 1) ∷ [] → room_of out' ≡ room_of out → BeforePhase region s all n ops rest team so_far out'
+  -- Each later phase begins once its mark is among the records.
+  pub other_begins : {out' : Records} → 1 ≤ n → records_in out' ≡ records_in out ++ Record.Phase (n + 1) ∷ [] → room_of out' ≡ room_of out
+      → BeforePhase region s all n ops rest team so_far out'
   other_begins {out'} some pushed size =
       let after = with_records so.p (Record.Phase (n + 1) ∷ []) in
       let all_led = leads_as (other_phase s.threads s.keepers n ops rest some) (other_stages s.threads s.keepers n ops rest some) so.leads in
@@ -509,7 +547,9 @@ module _ {region : SharedRegion} {s : Session} {all : List (List Op)} {n : ℕ} 
         stand = so.stand;
       }
 
-pub phase_ends : {region : SharedRegion} {s : Session} {all : List (List Op)} {n : ℕ} {ops : List Op} {rest : List (List Op)} {team team' : Team} {so_far so_far' : Whole} {out out' : Records} (so : BeforePhase region s all n ops rest team so_far out)
+-- A phase that was done leaves the replay where the phases after it come next.
+pub phase_ends : {region : SharedRegion} {s : Session} {all : List (List Op)} {n : ℕ} {ops : List Op} {rest : List (List Op)} {team team' : Team}
+    {so_far so_far' : Whole} {out out' : Records} (so : BeforePhase region s all n ops rest team so_far out)
     → PhaseDone region s ops rest (length rest + 1) team' out out' so_far so_far' so.p → AfterPhases region s all (n + 1) rest team' so_far' out'
 phase_ends {region} {s} {all} {n} {ops} {rest} {team} {team'} {so_far} {so_far'} {out} {out'} so did = record {
   p = did.reached;
@@ -538,11 +578,15 @@ pub record BeforeClose (region : SharedRegion) (s : Session) (all : List (List O
   pub leads : Leads s all (map Ends (numbers_from 1 s.threads) ++ map Lowers (numbers_from (s.threads + 1) s.keepers)) (one_by_one (map Ends (numbers_from 1 s.threads) ++ map Lowers (numbers_from (s.threads + 1) s.keepers))) p so_far
   pub stand : StandSo s so_far p.list
 
-module _ {region : SharedRegion} {s : Session} {all : List (List Op)} {n : ℕ} {team : Team} {so_far : Whole} {out : Records} (so : AfterPhases region s all n [] team so_far out) where
+module _ {region : SharedRegion} {s : Session} {all : List (List Op)} {n : ℕ} {team : Team} {so_far : Whole} {out : Records}
+    (so : AfterPhases region s all n [] team so_far out) where
+  -- Before the close there is room for one record more.
   pub spare_for_close : length (records_in out) < room_of out
   spare_for_close = omega (arith, so.room)
 
-  pub close_begins : {out' : Records} → records_in out' ≡ records_in out ++ Record.Close ∷ [] → room_of out' ≡ room_of out → BeforeClose region s all team so_far out'
+  -- The close begins once its mark is among the records.
+  pub close_begins : {out' : Records} → records_in out' ≡ records_in out ++ Record.Close ∷ [] → room_of out' ≡ room_of out
+      → BeforeClose region s all team so_far out'
   close_begins {out'} pushed size = let after = with_records so.p (Record.Close ∷ []) in let all_led = leads_as (close_left s.threads s.keepers n) (close_stages s.threads s.keepers n) so.leads in record {
     p = with_records so.p (Record.Close ∷ []);
     team_at = team_at_records (Record.Close ∷ []) so.team_at;
@@ -557,7 +601,10 @@ module _ {region : SharedRegion} {s : Session} {all : List (List Op)} {n : ℕ} 
     stand = so.stand;
   }
 
-pub close_ends : {region : SharedRegion} {s : Session} {all : List (List Op)} {team team' : Team} {so_far so_far' : Whole} {out : Records} {written : List Record} (so : BeforeClose region s all team so_far out) → CloseDone region s team' written so_far so_far' so.p → HasReplayed region s all so_far' team' written
+-- A close that was done ends the replay: all phases were replayed.
+pub close_ends : {region : SharedRegion} {s : Session} {all : List (List Op)} {team team' : Team} {so_far so_far' : Whole} {out : Records}
+      {written : List Record} (so : BeforeClose region s all team so_far out)
+    → CloseDone region s team' written so_far so_far' so.p → HasReplayed region s all so_far' team' written
 close_ends {region} {s} {all} {team} {team'} {so_far} {so_far'} {out} {written} so did = record {
   end = did.reached;
   answers = so.leads.reaches did.reached did.reaches;

@@ -39,8 +39,11 @@ told_one true k = omega arith
 told_one false k = omega arith
 
 -- ---- the next of the lent threads
-stops : {h : BenchHome} {s : Shift} {acts : List Act} {bench bench' : Bench} {old now : List Worker} {out out1 out2 : Records} {p : Progress} (n i : ℕ) (d w : Worker) → length old ≡ length s.idle → (so : StoppedLent h s acts bench old now out out1 i p) → i < length old → length now ≡ length old
-    → StopsLent h s.profile (number_in s i) n bench bench' (get_or now i d) w out1 out2 (s.lends i) so.did.turns.came.reached → StoppedLent h s (acts ++ (StopsIdle (number_in s i) n ∷ [])) bench' old (set now i w) out out2 (i + 1) p
+stops : {h : BenchHome} {s : Shift} {acts : List Act} {bench bench' : Bench} {old now : List Worker} {out out1 out2 : Records} {p : Progress} (n i : ℕ)
+      (d w : Worker)
+    → length old ≡ length s.idle → (so : StoppedLent h s acts bench old now out out1 i p) → i < length old → length now ≡ length old
+    → StopsLent h s.profile (number_in s i) n bench bench' (get_or now i d) w out1 out2 (s.lends i) so.did.turns.came.reached
+    → StoppedLent h s (acts ++ (StopsIdle (number_in s i) n ∷ [])) bench' old (set now i w) out out2 (i + 1) p
 stops {h} {s} {acts} {bench} {bench'} {old} {now} {out} {out1} {out2} {p} n i d w size so lt many t =
     let k = number_in s i in
     let x = t.does in
@@ -66,15 +69,22 @@ stops {h} {s} {acts} {bench} {bench'} {old} {now} {out} {out1} {out2} {p} n i d 
 abbrev pub StopsSoFar : BenchHome → Shift → ℕ → Bench → List Worker → List Worker → Records → Records → ℕ → Progress → Type 0
 StopsSoFar h s n bench old now out out1 i p = SoFar (idle_stops n s.idle) (idle_stops n (drop i s.idle)) (λ acts. StoppedLent h s acts bench old now out out1 i p)
 
-pub stops_begin : {h : BenchHome} {s : Shift} {desk : BenchDesk} {lent : List Worker} {out : Records} {p : Progress} (n : ℕ) → IsDeskAt h desk p → AreBeside (SitsLent h.region h.row.actors s) s lent p → StopsSoFar h s n desk.place.bench lent lent out out 0 p
+-- Before the first idle thread is stopped, the stops so far are none.
+pub stops_begin : {h : BenchHome} {s : Shift} {desk : BenchDesk} {lent : List Worker} {out : Records} {p : Progress} (n : ℕ) → IsDeskAt h desk p
+    → AreBeside (SitsLent h.region h.row.actors s) s lent p → StopsSoFar h s n desk.place.bench lent lent out out 0 p
 stops_begin n there at = at_first (record { did = record { turns = no_turn at.each; told = pushed_none refl; few = omega arith }; over = there.over })
 
-pub stops_go_on : {h : BenchHome} {s : Shift} {bench bench' : Bench} {old now : List Worker} {out out1 out2 : Records} {p : Progress} (n i : ℕ) (d w : Worker) → length old ≡ length s.idle → (so : StopsSoFar h s n bench old now out out1 i p) → i < length old → length now ≡ length old
-    → StopsLent h s.profile (number_in s i) n bench bench' (get_or now i d) w out1 out2 (s.lends i) so.done.did.turns.came.reached → StopsSoFar h s n bench' old (set now i w) out out2 (i + 1) p
+-- After one more lent thread was stopped where it was idle long enough, the stops so far are one more.
+pub stops_go_on : {h : BenchHome} {s : Shift} {bench bench' : Bench} {old now : List Worker} {out out1 out2 : Records} {p : Progress} (n i : ℕ) (d w : Worker)
+    → length old ≡ length s.idle → (so : StopsSoFar h s n bench old now out out1 i p) → i < length old → length now ≡ length old
+    → StopsLent h s.profile (number_in s i) n bench bench' (get_or now i d) w out1 out2 (s.lends i) so.done.did.turns.came.reached
+    → StopsSoFar h s n bench' old (set now i w) out out2 (i + 1) p
 stops_go_on {s = s} n i d w size so lt many t =
     goes_on (StopsIdle (number_in s i) n ∷ []) (ap (λ (ks : List ℕ). idle_stops n ks) (drop_more s.idle i 0 (omega (arith, lt, size)))) so (stops n i d w size so.done lt many t)
 
-pub stops_end : {h : BenchHome} {s : Shift} {bench : Bench} {old now : List Worker} {out out1 : Records} {p : Progress} (n i : ℕ) → length old ≡ length s.idle → length old ≤ i → i ≤ length old → StopsSoFar h s n bench old now out out1 i p
+-- Once each lent worker had its turn, all the stops of the idle threads were done.
+pub stops_end : {h : BenchHome} {s : Shift} {bench : Bench} {old now : List Worker} {out out1 : Records} {p : Progress} (n i : ℕ) → length old ≡ length s.idle
+    → length old ≤ i → i ≤ length old → StopsSoFar h s n bench old now out out1 i p
     → StoppedLent h s (idle_stops n s.idle) bench old now out out1 (length old) p
 stops_end {h} {s} {bench} {old} {now} {out} {out1} {p} n i size le ge so =
     let count : i ≡ length old = omega (arith, le, ge) in
@@ -82,10 +92,12 @@ stops_end {h} {s} {bench} {old} {now} {out} {out1} {p} n i size le ge so =
 
 -- ---- the scavenger's own act
 -- there is room for it, beside the acts that are left
-pub room_for_act : {f : Profile} {act : Act} {next : List Act} {σ : Standing} {places : ℕ} {out : Records} {later : Later} {p : Progress} → unbacks_of_act f act ≤ cost_of_act f act → ScavengerAt f (act ∷ next) σ places out later p → HasRoomAt f σ out (for_act f act (and_left f next later)) p
+pub room_for_act : {f : Profile} {act : Act} {next : List Act} {σ : Standing} {places : ℕ} {out : Records} {later : Later} {p : Progress}
+    → unbacks_of_act f act ≤ cost_of_act f act → ScavengerAt f (act ∷ next) σ places out later p → HasRoomAt f σ out (for_act f act (and_left f next later)) p
 room_for_act less at = let spare = at.stands.spare in record { sits = sits_for at.stands.sits (omega (arith, less)); spare = omega (arith, spare) }
 
-module _ {Lends : ℕ → Worker → Progress → Type 0} {s : Shift} {act : Act} {next : List Act} {σ σ' : Standing} {places : ℕ} {out out' : Records} {lent : List Worker} {p : Progress}
+module _ {Lends : ℕ → Worker → Progress → Type 0} {s : Shift} {act : Act} {next : List Act} {σ σ' : Standing} {places : ℕ} {out out' : Records}
+    {lent : List Worker} {p : Progress}
     (stays : Stays (number_in s) Lends) (at : CrewStands Lends s (act ∷ next) (crew σ lent places out) p) (did : ScavengerActs s.profile act σ σ' out out' (and_left s.profile next s.own) p) where
   -- it leaves the lent threads where they are
   pub still_lent : AreBeside Lends s lent did.reached
@@ -110,6 +122,7 @@ module _ {Lends : ℕ → Worker → Progress → Type 0} {s : Shift} {act : Act
   leaves_alone : (k : ℕ) → 0 ≢ k → TookNoPart k did.says.said p did.reached
   leaves_alone k some = record { part_is = ap (λ (l : Whole). part k l) did.moves.list_is ∙ part_of_others k 0 did.moves.steps p.list some; silent = none_by k 0 did.says.said did.says.each some }
 
+  -- An act of the scavenger alone is one that its crew did, the lent threads being as they were.
   pub did_alone : {places' : ℕ} → places' ≡ places → CrewDoes Lends s (act ∷ []) next (crew σ lent places out) (crew σ' lent places' out') p
   did_alone same = record { came = came; stands = record { stands = record { stands = did.stands; has_places = same ∙ at.stands.has_places }; lent = still_lent }; told = own_told; lent = lent_told; books = did.books; others = λ k some other. leaves_alone k some }
 
@@ -119,13 +132,16 @@ costs_stops f n [] next = omega arith
 costs_stops f n (k ∷ idle) next = let rest = costs_stops f n idle next in omega (arith, rest)
 
 -- the scavenger, whose desk the lent threads used, sits there as it did
-stood_still : (desk : BenchDesk) {σ : Standing} {l m : Whole} → (standing_at desk).seat ≡ σ.seat → StandsOver (row_on desk.place.bench) m → StandsStill σ (standing_at desk) l m
+stood_still : (desk : BenchDesk) {σ : Standing} {l m : Whole} → (standing_at desk).seat ≡ σ.seat → StandsOver (row_on desk.place.bench) m
+    → StandsStill σ (standing_at desk) l m
 stood_still desk {σ} {l} {m} seat over = record {
   seat_is = seat;
   stands = λ at same. (sym (row_tells (row_on desk.place.bench) m desk.place.member.actor over desk.place.sits.among_them), over);
 }
 
-pub did_idle : {h : BenchHome} {s : Shift} {next : List Act} {σ σ' : Standing} {places : ℕ} {out out' : Records} {old new : List Worker} {p : Progress} (n : ℕ) (desk : BenchDesk) (at : CrewSits h s (ReadsEpoch ∷ (idle_stops n s.idle ++ next)) (crew σ old places out) p)
+-- The scavenger's reading of the epoch and the stops of the idle threads are acts that its crew did.
+pub did_idle : {h : BenchHome} {s : Shift} {next : List Act} {σ σ' : Standing} {places : ℕ} {out out' : Records} {old new : List Worker} {p : Progress} (n : ℕ)
+    (desk : BenchDesk) (at : CrewSits h s (ReadsEpoch ∷ (idle_stops n s.idle ++ next)) (crew σ old places out) p)
     (read : ScavengerActs s.profile ReadsEpoch σ σ' out out (and_left s.profile (idle_stops n s.idle ++ next) s.own) p) → (standing_at desk).seat ≡ σ'.seat → length new ≡ length old → StoppedLent h s (idle_stops n s.idle) desk.place.bench old new out out' (length old) read.reached
     → CrewActs h s (ReadsEpoch ∷ idle_stops n s.idle) next (crew σ old places out) (crew (standing_at desk) new places out') p
 did_idle {h} {s} {next} {σ} {σ'} {places} {out} {out'} {old} {new} {p} n desk at read seat size stopped =
@@ -155,10 +171,13 @@ did_idle {h} {s} {next} {σ} {σ'} {places} {out} {out'} {old} {new} {p} n desk 
     }
 
 -- ---- the acts written otherwise
-pub as_acts : {Lends : ℕ → Worker → Progress → Type 0} {s : Shift} {acts acts' : List Act} {has : Crew} {p : Progress} (next : List Act) → acts ≡ acts' → CrewStands Lends s (acts ++ next) has p → CrewStands Lends s (acts' ++ next) has p
+pub as_acts : {Lends : ℕ → Worker → Progress → Type 0} {s : Shift} {acts acts' : List Act} {has : Crew} {p : Progress} (next : List Act) → acts ≡ acts'
+    → CrewStands Lends s (acts ++ next) has p → CrewStands Lends s (acts' ++ next) has p
 as_acts {Lends} {s} {has = has} {p} next is at = subst (λ (xs : List Act). CrewStands Lends s (xs ++ next) has p) is at
 
-pub to_acts : {Lends : ℕ → Worker → Progress → Type 0} {s : Shift} {acts acts' next : List Act} {has has' : Crew} {p : Progress} → acts ≡ acts' → CrewDoes Lends s acts' next has has' p → CrewDoes Lends s acts next has has' p
+-- What a crew did for some acts it did for the same acts otherwise written.
+pub to_acts : {Lends : ℕ → Worker → Progress → Type 0} {s : Shift} {acts acts' next : List Act} {has has' : Crew} {p : Progress} → acts ≡ acts'
+    → CrewDoes Lends s acts' next has has' p → CrewDoes Lends s acts next has has' p
 to_acts {Lends} {s} {next = next} {has} {has'} {p} is did = subst (λ (xs : List Act). CrewDoes Lends s xs next has has' p) (sym is) did
 
 -- ---- which operation comes next
@@ -175,19 +194,24 @@ not_first f (Work.Own task) k of not same = omega (arith, of.0, same)
 not_first f (Work.Chore chore) k of not same = not chore refl
 
 -- by what it asks for: a chore is the scavenger's, and all else is a thread's
-module _ (f : Profile) (asked : List ℕ) (ops : List Op) (i : ℕ) (d : Op) (sound : AreSound f asked ops) (lt : i < length ops) (work : Work) (asks : work ≡ work_of (get_or ops i d).what) where
+module _ (f : Profile) (asked : List ℕ) (ops : List Op) (i : ℕ) (d : Op) (sound : AreSound f asked ops) (lt : i < length ops) (work : Work)
+    (asks : work ≡ work_of (get_or ops i d).what) where
   of_actor : IsActorBy f work (get_or ops i d).actor
   of_actor = subst (λ (w : Work). IsActorBy f w (get_or ops i d).actor) (sym asks) (sound_at f asked ops i d sound lt).0
 
+  -- The chore of an operation of a sound phase is sound.
   pub chore_sound : (chore : Chore) → work ≡ Work.Chore chore → IsSoundWork f [] (Work.Chore chore)
   chore_sound chore is = let one = (sound_at f asked ops i d sound lt).1 in subst (λ (w : Work). IsSoundWork f one.0 w) (sym asks ∙ is) one.1
 
-  pub next_acts : (idle : List ℕ) (chore : Chore) → work ≡ Work.Chore chore → scavenger_acts idle (drop i ops) ≡ acts_of_chore idle chore ++ scavenger_acts idle (drop (i + 1) ops)
+  -- The acts of the scavenger from an operation on are those of its chore and of the later operations.
+  pub next_acts : (idle : List ℕ) (chore : Chore) → work ≡ Work.Chore chore
+      → scavenger_acts idle (drop i ops) ≡ acts_of_chore idle chore ++ scavenger_acts idle (drop (i + 1) ops)
   next_acts idle chore is = ap (λ (xs : List Op). scavenger_acts idle xs) (drop_more ops i d lt)
       ∙ ap (λ (t : Bool). if t then acts_of_op idle (get_or ops i d) ++ scavenger_acts idle (drop (i + 1) ops) else scavenger_acts idle (drop (i + 1) ops))
       (eq-eqb (get_or ops i d).actor 0 (subst (λ (w : Work). IsActorBy f w (get_or ops i d).actor) is of_actor))
       ∙ ap (λ (w : Work). acts_of_work idle (get_or ops i d) w ++ scavenger_acts idle (drop (i + 1) ops)) (sym asks ∙ is)
 
+  -- An operation that is no chore adds nothing to the acts of the scavenger.
   pub skip_acts : (idle : List ℕ) → ((chore : Chore) → work ≡ Work.Chore chore → ⊥) → scavenger_acts idle (drop i ops) ≡ scavenger_acts idle (drop (i + 1) ops)
   skip_acts idle not = ap (λ (xs : List Op). scavenger_acts idle xs) (drop_more ops i d lt)
       ∙ ap (λ (t : Bool). if t then acts_of_op idle (get_or ops i d) ++ scavenger_acts idle (drop (i + 1) ops) else scavenger_acts idle (drop (i + 1) ops))
@@ -197,16 +221,22 @@ module _ (f : Profile) (asked : List ℕ) (ops : List Op) (i : ℕ) (d : Op) (so
 abbrev pub CrewSoFar : (ℕ → Worker → Progress → Type 0) → Shift → List Op → ℕ → Crew → Crew → Progress → Type 0
 CrewSoFar Lends s ops i has0 has p = SoFar (scavenger_acts s.idle ops) (scavenger_acts s.idle (drop i ops)) (λ acts. CrewDoes Lends s acts (scavenger_acts s.idle (drop i ops)) has0 has p)
 
-pub crew_begins : {Lends : ℕ → Worker → Progress → Type 0} {s : Shift} (ops : List Op) {has : Crew} {p : Progress} → CrewStands Lends s (scavenger_acts s.idle ops) has p → CrewSoFar Lends s ops 0 has has p
+-- Before the first operation of a phase its crew did no acts.
+pub crew_begins : {Lends : ℕ → Worker → Progress → Type 0} {s : Shift} (ops : List Op) {has : Crew} {p : Progress}
+    → CrewStands Lends s (scavenger_acts s.idle ops) has p → CrewSoFar Lends s ops 0 has has p
 crew_begins {s = s} ops {has} {p} at = at_first (record { came = came_none s.profile p; stands = at; told = pushed_none refl; lent = λ i d lt. told_none refl; books = refl; others = λ k some other. record { part_is = refl; silent = refl } })
 
 -- the next one is this chore
 module _ {Lends : ℕ → Worker → Progress → Type 0} {s : Shift} (ops : List Op) (i : ℕ) {has0 has : Crew} {p : Progress} (chore : Chore)
     (next : scavenger_acts s.idle (drop i ops) ≡ acts_of_chore s.idle chore ++ scavenger_acts s.idle (drop (i + 1) ops)) (so : CrewSoFar Lends s ops i has0 has p) where
+  -- Before a chore the crew stands where its acts come next.
   pub crew_before : CrewStands Lends s (acts_of_chore s.idle chore ++ scavenger_acts s.idle (drop (i + 1) ops)) has so.done.came.reached
   crew_before = subst (λ (acts : List Act). CrewStands Lends s acts has so.done.came.reached) next so.done.stands
 
-  pub crew_goes_on : {has' : Crew} → length has0.lent ≡ length s.idle → CrewDoes Lends s (acts_of_chore s.idle chore) (scavenger_acts s.idle (drop (i + 1) ops)) has has' so.done.came.reached → CrewSoFar Lends s ops (i + 1) has0 has' p
+  -- After a chore the crew did all acts of the operations up to it.
+  pub crew_goes_on : {has' : Crew} → length has0.lent ≡ length s.idle
+      → CrewDoes Lends s (acts_of_chore s.idle chore) (scavenger_acts s.idle (drop (i + 1) ops)) has has' so.done.came.reached
+      → CrewSoFar Lends s ops (i + 1) has0 has' p
   crew_goes_on {has'} many did =
       let one = so.done in
       goes_on (acts_of_chore s.idle chore) next so
@@ -219,11 +249,16 @@ module _ {Lends : ℕ → Worker → Progress → Type 0} {s : Shift} (ops : Lis
         others = λ k some other. no_part_both (one.others k some other) (did.others k some other);
       })
 
-pub crew_skips : {Lends : ℕ → Worker → Progress → Type 0} {s : Shift} (ops : List Op) (i : ℕ) {has0 has : Crew} {p : Progress} → scavenger_acts s.idle (drop i ops) ≡ scavenger_acts s.idle (drop (i + 1) ops) → CrewSoFar Lends s ops i has0 has p → CrewSoFar Lends s ops (i + 1) has0 has p
+-- After an operation of a thread the crew did all acts of the operations up to it, since none is its own.
+pub crew_skips : {Lends : ℕ → Worker → Progress → Type 0} {s : Shift} (ops : List Op) (i : ℕ) {has0 has : Crew} {p : Progress}
+    → scavenger_acts s.idle (drop i ops) ≡ scavenger_acts s.idle (drop (i + 1) ops) → CrewSoFar Lends s ops i has0 has p
+    → CrewSoFar Lends s ops (i + 1) has0 has p
 crew_skips {Lends} {s} ops i {has0} {has} {p} same so =
     subst (λ (left : List Act). SoFar (scavenger_acts s.idle ops) left (λ acts. CrewDoes Lends s acts left has0 has p)) same so
 
-pub crew_ends : {Lends : ℕ → Worker → Progress → Type 0} {s : Shift} (ops : List Op) {i : ℕ} {has0 has : Crew} {p : Progress} → length ops ≤ i → CrewSoFar Lends s ops i has0 has p → CrewDoes Lends s (scavenger_acts s.idle ops) [] has0 has p
+-- Once all operations were passed, the crew did all the scavenger's acts of the phase.
+pub crew_ends : {Lends : ℕ → Worker → Progress → Type 0} {s : Shift} (ops : List Op) {i : ℕ} {has0 has : Crew} {p : Progress} → length ops ≤ i
+    → CrewSoFar Lends s ops i has0 has p → CrewDoes Lends s (scavenger_acts s.idle ops) [] has0 has p
 crew_ends {Lends} {s} ops {i} {has0} {has} {p} le so =
     let none : scavenger_acts s.idle (drop i ops) ≡ [] = ap (λ (xs : List Op). scavenger_acts s.idle xs) (drop_of_length-le ops le) in
     subst (λ (left : List Act). CrewDoes Lends s (scavenger_acts s.idle ops) left has0 has p) none (at_last none so)

@@ -21,7 +21,8 @@ use Rattle.pas_threads.proofs.Staging.{went_none, went_both, went_alone, one_by_
 use Rattle.pas_threads.proofs.TakingTurns.{SoFar, at_first, goes_on, at_last, set_each, ends_from, ends_begin, ends}
 
 -- ---- all actors stand after turns of the threads
-pub turns_stand : {region : SharedRegion} {s : Session} {slot : Option SharedPass} {acts : List Act} {old now : List Worker} {later : ℕ → ℕ} {o p : Progress} → ActorsStand region s slot old p.list → (turns : TookTurns s.profile suc (IsDue region s.profile later o) acts old now p) → length now ≡ length old
+pub turns_stand : {region : SharedRegion} {s : Session} {slot : Option SharedPass} {acts : List Act} {old now : List Worker} {later : ℕ → ℕ} {o p : Progress}
+    → ActorsStand region s slot old p.list → (turns : TookTurns s.profile suc (IsDue region s.profile later o) acts old now p) → length now ≡ length old
     → ActorsStand region s slot now turns.came.reached.list
 turns_stand {region} {s} {slot} {acts} {old} {now} {later} {o} {p} at turns many =
     let threads = at.many in
@@ -39,7 +40,8 @@ turns_stand {region} {s} {slot} {acts} {old} {now} {later} {o} {p} at turns many
     }
 
 -- ---- .. and after the sweep of a keeper
-module _ {region : SharedRegion} {s : Session} {slot : Option SharedPass} {now : List Worker} {p : Progress} (i : ℕ) (d w : Worker) (keeper after : Keeper) (at : ActorsStand region s slot now p.list) (lt : i < length now) (before : (get_or now i d).keeper ≡ Some keeper)
+module _ {region : SharedRegion} {s : Session} {slot : Option SharedPass} {now : List Worker} {p : Progress} (i : ℕ) (d w : Worker) (keeper after : Keeper)
+    (at : ActorsStand region s slot now p.list) (lt : i < length now) (before : (get_or now i d).keeper ≡ Some keeper)
     (but : IsButKeeper (get_or now i d) w) (lowered : w.keeper ≡ Some after) (did : KeeperLowered region s.profile (s.threads + suc i) keeper after no_more p) where
   abbrev k : ℕ
   k = s.threads + suc i
@@ -58,6 +60,7 @@ module _ {region : SharedRegion} {s : Session} {slot : Option SharedPass} {now :
   its_own : (e : Worker) (x : Keeper) → w.keeper ≡ Some x → PassStands region k did.did.reached.list (Some x.pass)
   its_own e x is = subst (λ (y : Keeper). PassStands region k did.did.reached.list (Some y.pass)) (same_Some after x (sym lowered ∙ is)) (record { pass = after.pass; present = refl; of = did.of; actor = did.did.stands.sits.actor; made = did.did.stands.sits.stood })
 
+  -- After a keeper lowered its guards, all actors stand, each with the steps that the list has of it.
   pub lowered_stands : ActorsStand region s slot (set now i w) did.did.reached.list
   lowered_stands =
       let all = all_have at.guarded in
@@ -81,19 +84,25 @@ module _ {region : SharedRegion} {s : Session} {slot : Option SharedPass} {now :
 abbrev pub StopsSoFar : SharedRegion → Session → Option SharedPass → ℕ → List Worker → List Worker → (ℕ → ℕ) → Whole → Whole → Progress → Type 0
 StopsSoFar region s slot i old now later before after p = SoFar (ends_from 0 (length old)) (ends_from i (length old)) (λ acts. StoppedSo region s slot acts i old now later before after p)
 
-pub stops_begin : {region : SharedRegion} {s : Session} {slot : Option SharedPass} {old : List Worker} {later : ℕ → ℕ} {before : Whole} {p : Progress} → AreResting region s.profile old later p → ActorsStand region s slot old p.list → StandSo s before p.list → StopsSoFar region s slot 0 old old later before before p
+-- Before any thread is stopped at the close, the stops so far are none.
+pub stops_begin : {region : SharedRegion} {s : Session} {slot : Option SharedPass} {old : List Worker} {later : ℕ → ℕ} {before : Whole} {p : Progress}
+    → AreResting region s.profile old later p → ActorsStand region s slot old p.list → StandSo s before p.list
+    → StopsSoFar region s slot 0 old old later before before p
 stops_begin {s = s} rest stand stood = at_first (record { stopped = ends_begin rest; stand = stand; went = went_none s stood stand.nobody })
 
-module _ {region : SharedRegion} {s : Session} {slot : Option SharedPass} {acts : List Act} {old now : List Worker} {later : ℕ → ℕ} {before after : Whole} {p : Progress} (i : ℕ) (d w : Worker) (so : StoppedSo region s slot acts i old now later before after p) (first : ActorsStand region s slot old p.list)
+module _ {region : SharedRegion} {s : Session} {slot : Option SharedPass} {acts : List Act} {old now : List Worker} {later : ℕ → ℕ} {before after : Whole}
+    {p : Progress} (i : ℕ) (d w : Worker) (so : StoppedSo region s slot acts i old now later before after p) (first : ActorsStand region s slot old p.list)
     (lt : i < length old) (many : length now ≡ length old) (t : Turn region s.profile (suc i) (Ends (suc i)) [] (get_or now i d) w (evenly (later (suc i))) so.stopped.turns.came.reached) (none : (cached w.cache).locals ≡ []) where
   abbrev next_stopped : Stopped region s.profile (acts ++ (Ends (suc i) ∷ [])) (suc i) old (set now i w) later p
   next_stopped = ends i d w so.stopped lt many t none
 
+  -- After a thread was stopped at the close, all actors stand, each with the steps that the list has of it.
   pub next_stands : ActorsStand region s slot (set now i w) t.did.does.reached.list
   next_stands = turns_stand first next_stopped.turns (length-set now i w ∙ many)
 
   -- once the ledger is settled
-  pub stops_next : {settled : Whole} → IsEarlier after settled → StandSo s settled t.did.does.reached.list → StoppedSo region s slot (acts ++ (Ends (suc i) ∷ [])) (suc i) old (set now i w) later before settled p
+  pub stops_next : {settled : Whole} → IsEarlier after settled → StandSo s settled t.did.does.reached.list
+      → StoppedSo region s slot (acts ++ (Ends (suc i) ∷ [])) (suc i) old (set now i w) later before settled p
   stops_next {settled} earlier stood = record {
     stopped = next_stopped;
     stand = next_stands;
@@ -101,14 +110,21 @@ module _ {region : SharedRegion} {s : Session} {slot : Option SharedPass} {acts 
         (went_both (one_by_one acts) (one_by_one (Ends (suc i) ∷ [])) so.went (went_alone s (Ends (suc i) ∷ []) t.did.does.reaches earlier so.stand.nobody next_stands.nobody so.went.stand stood));
   }
 
-pub stops_go_on : {region : SharedRegion} {s : Session} {slot : Option SharedPass} {old now now' : List Worker} {later : ℕ → ℕ} {before after settled : Whole} {p : Progress} (i : ℕ) (so : StopsSoFar region s slot i old now later before after p) → i < length old
-    → StoppedSo region s slot (so.acts ++ (Ends (suc i) ∷ [])) (suc i) old now' later before settled p → StopsSoFar region s slot (i + 1) old now' later before settled p
+-- After one more thread was stopped and the ledger settled, the stops so far are one more.
+pub stops_go_on : {region : SharedRegion} {s : Session} {slot : Option SharedPass} {old now now' : List Worker} {later : ℕ → ℕ} {before after settled : Whole}
+      {p : Progress} (i : ℕ) (so : StopsSoFar region s slot i old now later before after p)
+    → i < length old
+    → StoppedSo region s slot (so.acts ++ (Ends (suc i) ∷ [])) (suc i) old now' later before settled p
+    → StopsSoFar region s slot (i + 1) old now' later before settled p
 stops_go_on {region} {s} {slot} {old} {now} {now'} {later} {before} {after} {settled} {p} i so lt next =
     let n = length old in
     goes_on (Ends (i + 1) ∷ []) (ap (λ (ks : List ℕ). map Ends ks) (number_next (i + 1) (n - i) (n - (i + 1)) (omega (arith, lt)))) so
     (subst (λ (m : ℕ). StoppedSo region s slot (so.acts ++ (Ends m ∷ [])) m old now' later before settled p) (let is : suc i ≡ i + 1 = omega arith in is) next)
 
-pub stops_end : {region : SharedRegion} {s : Session} {slot : Option SharedPass} {old now : List Worker} {later : ℕ → ℕ} {before after : Whole} {p : Progress} (i : ℕ) → length old ≤ i → i ≤ length old → StopsSoFar region s slot i old now later before after p
+-- Once each worker had its turn, all threads are stopped.
+pub stops_end : {region : SharedRegion} {s : Session} {slot : Option SharedPass} {old now : List Worker} {later : ℕ → ℕ} {before after : Whole} {p : Progress}
+      (i : ℕ)
+    → length old ≤ i → i ≤ length old → StopsSoFar region s slot i old now later before after p
     → StoppedSo region s slot (map Ends (numbers_from 1 (length old))) (length old) old now later before after p
 stops_end {region} {s} {slot} {old} {now} {later} {before} {after} {p} i le ge so =
     let n = length old in
@@ -121,11 +137,16 @@ stops_end {region} {s} {slot} {old} {now} {later} {before} {after} {p} i le ge s
 abbrev pub LowersSoFar : SharedRegion → Session → Option SharedPass → ℕ → List Worker → List Worker → Whole → Whole → Progress → Type 0
 LowersSoFar region s slot i old now before after p = SoFar (lowers_from s.threads s.keepers 0) (lowers_from s.threads s.keepers i) (λ acts. LoweredSo region s slot acts i old now before after p)
 
-pub lowers_begin : {region : SharedRegion} {s : Session} {slot : Option SharedPass} {old : List Worker} {before : Whole} {p : Progress} → MayLower region s.profile s.threads s.keepers old p → ActorsStand region s slot old p.list → StandSo s before p.list → LowersSoFar region s slot 0 old old before before p
+-- Before any keeper lowers its guards at the close, those lowered so far are none.
+pub lowers_begin : {region : SharedRegion} {s : Session} {slot : Option SharedPass} {old : List Worker} {before : Whole} {p : Progress}
+    → MayLower region s.profile s.threads s.keepers old p → ActorsStand region s slot old p.list → StandSo s before p.list
+    → LowersSoFar region s slot 0 old old before before p
 lowers_begin {s = s} may stand stood = at_first (record { lowered = lower_begins may; stand = stand; went = went_none s stood stand.nobody })
 
 -- a worker without a keeper: there is no keeper at all
-pub lowers_pass : {region : SharedRegion} {s : Session} {slot : Option SharedPass} {old now : List Worker} {before after : Whole} {p : Progress} (i : ℕ) (d w : Worker) → MayLower region s.profile s.threads s.keepers old p → i < length old → length now ≡ length old → (get_or now i d).keeper ≡ None → w ≡ get_or now i d
+pub lowers_pass : {region : SharedRegion} {s : Session} {slot : Option SharedPass} {old now : List Worker} {before after : Whole} {p : Progress} (i : ℕ)
+      (d w : Worker)
+    → MayLower region s.profile s.threads s.keepers old p → i < length old → length now ≡ length old → (get_or now i d).keeper ≡ None → w ≡ get_or now i d
     → LowersSoFar region s slot i old now before after p → LowersSoFar region s slot (i + 1) old (set now i w) before after p
 lowers_pass {region} {s} {slot} {old} {now} {before} {after} {p} i d w may lt many none same so =
     let x = so.done.lowered in
@@ -138,15 +159,19 @@ lowers_pass {region} {s} {slot} {old} {now} {before} {after} {p} i d w may lt ma
       done = record { lowered = lower_passes i d lt many none x; stand = so.done.stand; went = so.done.went };
     })
 
-module _ {region : SharedRegion} {s : Session} {slot : Option SharedPass} {old now : List Worker} {before after : Whole} {p : Progress} (i : ℕ) (d w : Worker) (keeper low : Keeper) (so : LowersSoFar region s slot i old now before after p) (lt : i < length old) (many : length now ≡ length old)
+module _ {region : SharedRegion} {s : Session} {slot : Option SharedPass} {old now : List Worker} {before after : Whole} {p : Progress} (i : ℕ) (d w : Worker)
+    (keeper low : Keeper) (so : LowersSoFar region s slot i old now before after p) (lt : i < length old) (many : length now ≡ length old)
     (had : (get_or now i d).keeper ≡ Some keeper) (but : IsButKeeper (get_or now i d) w) (lowered : w.keeper ≡ Some low) (did : KeeperLowered region s.profile (s.threads + suc i) keeper low no_more so.done.lowered.reached) where
   abbrev keeper_at : ℕ
   keeper_at = s.threads + suc i
 
+  -- After one more keeper's sweep all actors stand, each with the steps that the list has of it.
   pub sweep_stands : ActorsStand region s slot (set now i w) did.did.reached.list
   sweep_stands = lowered_stands i d w keeper low so.done.stand (omega (arith, lt, many)) had but lowered did
 
-  pub lowers_go_on : {settled : Whole} → MayLower region s.profile s.threads s.keepers old p → IsEarlier after settled → StandSo s settled did.did.reached.list → LowersSoFar region s slot (i + 1) old (set now i w) before settled p
+  -- After one more sweep, behind which the ledger was settled, the keepers that lowered so far are one more.
+  pub lowers_go_on : {settled : Whole} → MayLower region s.profile s.threads s.keepers old p → IsEarlier after settled → StandSo s settled did.did.reached.list
+      → LowersSoFar region s slot (i + 1) old (set now i w) before settled p
   lowers_go_on {settled} may earlier stood =
       let x = so.done.lowered in
       let all = has_all old i d keeper lt may.guarded (ap (λ (v : Worker). v.keeper) (sym (x.left i d (omega arith) lt)) ∙ had) in
@@ -158,7 +183,9 @@ module _ {region : SharedRegion} {s : Session} {slot : Option SharedPass} {old n
       } in
       goes_on (Lowers keeper_at ∷ []) (lower_next s.threads s.keepers i (omega (arith, lt, all))) so next
 
-pub lowers_end : {region : SharedRegion} {s : Session} {slot : Option SharedPass} {old now : List Worker} {before after : Whole} {p : Progress} (i : ℕ) → MayLower region s.profile s.threads s.keepers old p → length old ≤ i → i ≤ length old → LowersSoFar region s slot i old now before after p
+-- Once each worker had its turn, all keepers have lowered their guards.
+pub lowers_end : {region : SharedRegion} {s : Session} {slot : Option SharedPass} {old now : List Worker} {before after : Whole} {p : Progress} (i : ℕ)
+    → MayLower region s.profile s.threads s.keepers old p → length old ≤ i → i ≤ length old → LowersSoFar region s slot i old now before after p
     → LoweredSo region s slot (map Lowers (numbers_from (s.threads + 1) s.keepers)) (length old) old now before after p
 lowers_end {region} {s} {slot} {old} {now} {before} {after} {p} i may le ge so =
     let threads = s.threads in

@@ -88,23 +88,28 @@ crew_among {s} {actors} crew k = both_true (among actors k) (crew_in s.idle k)
 
 -- ---- a worker on the bench
 -- it stands for what it noted, whatever others do
-still_among : (region : SharedRegion) (actors : List ℕ) (member : Member) (l m : Whole) → StandsStill (standing_among region actors member) (standing_among region actors member) l m
+still_among : (region : SharedRegion) (actors : List ℕ) (member : Member) (l m : Whole)
+    → StandsStill (standing_among region actors member) (standing_among region actors member) l m
 still_among region actors member l m = record { seat_is = refl; stands = λ at same. subst (λ (v : View). SitsAmong region actors member v) (sym same) at }
 
+-- A lent worker on a bench stays as it stands where others act and it takes no part.
 pub lent_stays : (region : SharedRegion) (actors : List ℕ) (s : Shift) → Stays (number_in s) (SitsLent region actors s)
 lent_stays region actors s i w q r parts caches names at = record { member = at.member; present = at.present; rests = rests_still (still_among region actors at.member q.list r.list) parts caches at.rests }
 
 -- .. at another desk with the same seat, where that one stands too
-rests_as : {f : Profile} {k : ℕ} {σ τ : Standing} {c : Cached} {out : Records} {later : Later} {p : Progress} → τ.seat ≡ σ.seat → (σ.stands (part k p.list) p.list → τ.stands (part k p.list) p.list) → RestsAt f k σ c out later p → RestsAt f k τ c out later p
+rests_as : {f : Profile} {k : ℕ} {σ τ : Standing} {c : Cached} {out : Records} {later : Later} {p : Progress} → τ.seat ≡ σ.seat
+    → (σ.stands (part k p.list) p.list → τ.stands (part k p.list) p.list) → RestsAt f k σ c out later p → RestsAt f k τ c out later p
 rests_as seat to at = record { sits = sits_as seat to at.sits; cache = at.cache; spare = at.spare }
 
 -- .. of a worker with the same cache and records
-same_worker : {f : Profile} {k : ℕ} {σ : Standing} {old new : Worker} {later : Later} {p : Progress} → IsButPlace old new → RestsAt f k σ (cached old.cache) old.out later p → RestsAt f k σ (cached new.cache) new.out later p
+same_worker : {f : Profile} {k : ℕ} {σ : Standing} {old new : Worker} {later : Later} {p : Progress} → IsButPlace old new
+    → RestsAt f k σ (cached old.cache) old.out later p → RestsAt f k σ (cached new.cache) new.out later p
 same_worker {f} {k} {σ} {old} {new} {later} {p} but at =
     subst (λ (rs : Records). RestsAt f k σ (cached new.cache) rs later p) (sym but.out) (subst (λ (c : Cached). RestsAt f k σ c old.out later p) (ap cached (sym but.cache)) at)
 
 -- among more actors
-sits_wider : {region : SharedRegion} {one more : List ℕ} {f : Profile} {k : ℕ} {worker : Worker} {later : Later} {p : Progress} → ((j : ℕ) → among one j ≡ true → among more j ≡ true) → WorkerSits region one f k worker later p → WorkerSits region more f k worker later p
+sits_wider : {region : SharedRegion} {one more : List ℕ} {f : Profile} {k : ℕ} {worker : Worker} {later : Later} {p : Progress}
+    → ((j : ℕ) → among one j ≡ true → among more j ≡ true) → WorkerSits region one f k worker later p → WorkerSits region more f k worker later p
 sits_wider wider at = record {
   member = at.member;
   present = at.present;
@@ -117,7 +122,8 @@ noted_by : {pass : SharedPass} {member : Member} {v : View} → IsMemberOf pass 
 noted_by {pass} {member} {v} is view =
     subst (λ (n : Notes). AreNotesOf member.actor v n) (sym is.notes) (subst (λ (j : ℕ). AreNotesOf j v pass.notes) (sym is.actor) (subst (λ (w : View). AreNotesOf pass.place.actor w pass.notes) view pass.noted))
 
-sits_down : {region : SharedRegion} {f : Profile} {k : ℕ} {old new : Worker} {rows rows' : List Row} {later : Later} {p : Progress} → WorkerHas region f k old later p → HasSeat region old new rows rows' → WorkerSits region (all_actors rows') f k new later p
+sits_down : {region : SharedRegion} {f : Profile} {k : ℕ} {old new : Worker} {rows rows' : List Row} {later : Later} {p : Progress}
+    → WorkerHas region f k old later p → HasSeat region old new rows rows' → WorkerSits region (all_actors rows') f k new later p
 sits_down {region} {f} {k} {old} {new} {rows} {rows'} {later} {p} was seat =
     let pass = seat.has.pass in
     let member = seat.member in
@@ -134,7 +140,8 @@ sits_down {region} {f} {k} {old} {new} {rows} {rows'} {later} {p} was seat =
     }
 
 -- the rows with one more say what the list tells, too
-tell_more : (pass : SharedPass) (rows rows' : List Row) (l : Whole) → rows' ≡ rows_of (part_of pass ∷ []) ++ rows → view_of pass ≡ part pass.place.actor l → TellAs rows l → TellAs rows' l
+tell_more : (pass : SharedPass) (rows rows' : List Row) (l : Whole) → rows' ≡ rows_of (part_of pass ∷ []) ++ rows → view_of pass ≡ part pass.place.actor l
+    → TellAs rows l → TellAs rows' l
 tell_more pass rows rows' l is view tell k its = subst (λ (rs : List Row). HasRow rs k (part k l)) (sym is) (⊎_elim
     (λ (same : pass.place.actor ≡ k). subst (λ (j : ℕ). HasRow (rows_of (part_of pass ∷ []) ++ rows) j (part j l)) same (subst (λ (v : View). HasRow (rows_of (part_of pass ∷ []) ++ rows) pass.place.actor v) view (has_seat pass rows)))
     (λ more. inr (tell k more))
@@ -142,16 +149,20 @@ tell_more pass rows rows' l is view tell k its = subst (λ (rs : List Row). HasR
 
 -- the first ones sat down, up to this place
 pub record SeatedSoFar (region : SharedRegion) (s : Shift) (i : ℕ) (old now : List Worker) (rows : List Row) (p : Progress) : Type 0 where
-  pub each : (j : ℕ) (d : Worker) → j < i → j < length old → SitsLent region (all_actors rows) s j (get_or now j d) p × IsButPlace (get_or old j d) (get_or now j d)
+  pub each : (j : ℕ) (d : Worker) → j < i → j < length old
+      → SitsLent region (all_actors rows) s j (get_or now j d) p × IsButPlace (get_or old j d) (get_or now j d)
   pub left : (j : ℕ) (d : Worker) → i ≤ j → get_or now j d ≡ get_or old j d
   pub crew : AreOfCrew s 0 i (all_actors rows)
   pub tell : TellAs rows p.list
 
-pub seats_begin : {region : SharedRegion} {s : Shift} (old : List Worker) {rows : List Row} {p : Progress} → AreOfCrew s 0 0 (all_actors rows) → TellAs rows p.list → SeatedSoFar region s 0 old old rows p
+-- Before any lent worker sits down, the rows are those of the scavenger alone.
+pub seats_begin : {region : SharedRegion} {s : Shift} (old : List Worker) {rows : List Row} {p : Progress} → AreOfCrew s 0 0 (all_actors rows)
+    → TellAs rows p.list → SeatedSoFar region s 0 old old rows p
 seats_begin old crew tell = record { each = λ j d less within. absurd (omega (arith, less)); left = λ j d from. refl; crew = crew; tell = tell }
 
 -- the next one has its pass still
-pub seats_next : {region : SharedRegion} {s : Shift} {i : ℕ} {old now : List Worker} {rows : List Row} {p : Progress} (d : Worker) → i < length old → AreLent region s old p → SeatedSoFar region s i old now rows p → IsLent region s i (get_or now i d) p
+pub seats_next : {region : SharedRegion} {s : Shift} {i : ℕ} {old now : List Worker} {rows : List Row} {p : Progress} (d : Worker) → i < length old
+    → AreLent region s old p → SeatedSoFar region s i old now rows p → IsLent region s i (get_or now i d) p
 seats_next {region} {s} {i} {old} {now} {rows} {p} d lt lent so = subst (λ (w : Worker). IsLent region s i w p) (sym (so.left i d (omega arith))) (lent.each i d lt)
 
 crew_more : {s : Shift} {i : ℕ} {actors : List ℕ} (a : ℕ) → a ≡ number_in s i → AreOfCrew s 0 i actors → AreOfCrew s 0 (i + 1) (a ∷ actors)
@@ -170,7 +181,9 @@ crew_more {s} {i} {actors} a is crew = record {
     cases_at : (j : ℕ) → (j ≡ i) ⊎ (j ≢ i)
     cases_at j = cases_eq j i
 
-pub seats_go_on : {region : SharedRegion} {s : Shift} {i : ℕ} {old now : List Worker} {rows rows' : List Row} {p : Progress} (d w : Worker) → i < length old → length now ≡ length old → AreLent region s old p → SeatedSoFar region s i old now rows p → HasSeat region (get_or now i d) w rows rows'
+-- After one more lent worker sat down with its pass, one more sits on the bench.
+pub seats_go_on : {region : SharedRegion} {s : Shift} {i : ℕ} {old now : List Worker} {rows rows' : List Row} {p : Progress} (d w : Worker) → i < length old
+    → length now ≡ length old → AreLent region s old p → SeatedSoFar region s i old now rows p → HasSeat region (get_or now i d) w rows rows'
     → SeatedSoFar region s (i + 1) old (set now i w) rows' p
 seats_go_on {region} {s} {i} {old} {now} {rows} {rows'} {p} d w lt many lent so seat =
     let was = seats_next d lt lent so in
@@ -189,7 +202,9 @@ seats_go_on {region} {s} {i} {old} {now} {rows} {rows'} {p} d w lt many lent so 
       tell = tell_more seat.has.pass rows rows' p.list seat.rows_are (rests.sits.stood ∙ ap (λ (k : ℕ). part k p.list) (sym actor)) so.tell;
     }
 
-pub seats_end : {region : SharedRegion} {s : Shift} {i : ℕ} {old now : List Worker} {rows : List Row} {p : Progress} → length old ≤ i → i ≤ length old → length now ≡ length old → AreLent region s old p → SeatedSoFar region s i old now rows p → AreSeated region s old now rows p
+-- Once each lent worker had its turn, all sit on the bench beside the scavenger.
+pub seats_end : {region : SharedRegion} {s : Shift} {i : ℕ} {old now : List Worker} {rows : List Row} {p : Progress} → length old ≤ i → i ≤ length old
+    → length now ≡ length old → AreLent region s old p → SeatedSoFar region s i old now rows p → AreSeated region s old now rows p
 seats_end {region} {s} {i} {old} {now} {rows} {p} le ge many lent so =
     let size : i ≡ length s.idle = omega (arith, le, ge, lent.many) in
     record {
@@ -204,10 +219,13 @@ seats_end {region} {s} {i} {old} {now} {rows} {p} le ge many lent so =
 at_home : {h : BenchHome} (desk : BenchDesk) → home_at desk ≡ h → (k : ℕ) → among (row_on desk.place.bench).actors k ≡ among h.row.actors k
 at_home desk home k = ap (λ (g : BenchHome). among g.row.actors k) home
 
-tells_of : {h : BenchHome} {desk : BenchDesk} {p : Progress} → IsDeskAt h desk p → (k : ℕ) → among (row_on desk.place.bench).actors k ≡ true → part k p.list ≡ made_in (row_on desk.place.bench) k
+tells_of : {h : BenchHome} {desk : BenchDesk} {p : Progress} → IsDeskAt h desk p → (k : ℕ) → among (row_on desk.place.bench).actors k ≡ true
+    → part k p.list ≡ made_in (row_on desk.place.bench) k
 tells_of {desk = desk} {p} at k its = row_tells (row_on desk.place.bench) p.list k at.over its
 
-pub may_sit : {h : BenchHome} {desk : BenchDesk} {f : Profile} {k : ℕ} {worker : Worker} {later : Later} {p : Progress} → IsDeskAt h desk p → (w : WorkerSits h.region h.row.actors f k worker later p) → MaySitOn desk.region.now desk.place.bench w.member
+-- A lent worker that sits on the bench may sit down at its desk.
+pub may_sit : {h : BenchHome} {desk : BenchDesk} {f : Profile} {k : ℕ} {worker : Worker} {later : Later} {p : Progress} → IsDeskAt h desk p
+    → (w : WorkerSits h.region h.row.actors f k worker later p) → MaySitOn desk.region.now desk.place.bench w.member
 may_sit {h} {desk} {f} {k} {worker} {later} {p} at w =
     let member = w.member in
     let stood = w.rests.sits.stood in
@@ -221,28 +239,37 @@ may_sit {h} {desk} {f} {k} {worker} {later} {p} at w =
     }
 
 -- there it rests as it did
-rests_there : {h : BenchHome} {desk : BenchDesk} {f : Profile} {k : ℕ} {worker : Worker} {later : Later} {p : Progress} → IsDeskAt h desk p → (w : WorkerSits h.region h.row.actors f k worker later p)
+rests_there : {h : BenchHome} {desk : BenchDesk} {f : Profile} {k : ℕ} {worker : Worker} {later : Later} {p : Progress} → IsDeskAt h desk p
+    → (w : WorkerSits h.region h.row.actors f k worker later p)
     → RestsAt f k (standing_on desk.place.bench w.member) (cached worker.cache) worker.out later p
 rests_there {h} {desk} {f} {k} {worker} {later} {p} at w =
     rests_as refl (λ stood. (sym (tells_of at w.member.actor (at_home desk at.home w.member.actor ∙ stood.among_them)) ∙ ap (λ (j : ℕ). part j p.list) w.rests.sits.actor, at.over)) w.rests
 
 -- what is so of the bench and the member is so of the desk
-pub at_desk : (At : Standing → Type 0) (desk : BenchDesk) {bench : Bench} {member : Member} → desk.place.bench ≡ bench → desk.place.member ≡ member → At (standing_on bench member) → At (standing_at desk)
+pub at_desk : (At : Standing → Type 0) (desk : BenchDesk) {bench : Bench} {member : Member} → desk.place.bench ≡ bench → desk.place.member ≡ member
+    → At (standing_on bench member) → At (standing_at desk)
 at_desk At desk {bench} {member} b m at = subst (λ (x : Bench). At (standing_on x desk.place.member)) (sym b) (subst (λ (y : Member). At (standing_on bench y)) (sym m) at)
 
-pub from_desk : (At : Standing → Type 0) (desk : BenchDesk) {bench : Bench} {member : Member} → desk.place.bench ≡ bench → desk.place.member ≡ member → At (standing_at desk) → At (standing_on bench member)
+-- What holds at a desk holds of its bench and member, by whatever names these are called.
+pub from_desk : (At : Standing → Type 0) (desk : BenchDesk) {bench : Bench} {member : Member} → desk.place.bench ≡ bench → desk.place.member ≡ member
+    → At (standing_at desk) → At (standing_on bench member)
 from_desk At desk {bench} {member} b m at = subst (λ (y : Member). At (standing_on bench y)) m (subst (λ (x : Bench). At (standing_on x desk.place.member)) b at)
 
-pub rests_at : {h : BenchHome} {desk : BenchDesk} {f : Profile} {k : ℕ} {worker : Worker} {later : Later} {p : Progress} (now : BenchDesk) {member : Member} → worker.member ≡ Some member → now.place.bench ≡ desk.place.bench → now.place.member ≡ member → IsDeskAt h desk p
+-- A lent worker that has the desk rests there with its cache.
+pub rests_at : {h : BenchHome} {desk : BenchDesk} {f : Profile} {k : ℕ} {worker : Worker} {later : Later} {p : Progress} (now : BenchDesk) {member : Member}
+    → worker.member ≡ Some member → now.place.bench ≡ desk.place.bench → now.place.member ≡ member → IsDeskAt h desk p
     → WorkerSits h.region h.row.actors f k worker later p → RestsAt f k (standing_at now) (cached worker.cache) worker.out later p
 rests_at {desk = desk} {f} {k} {worker} {later} {p} now is b m at w =
     at_desk (λ σ. RestsAt f k σ (cached worker.cache) worker.out later p) now b (m ∙ same_Some _ _ (sym is ∙ w.present)) (rests_there at w)
 
+-- A desk whose bench and region are as before has the same home.
 pub home_moved : (desk now : BenchDesk) → now.region.now ≡ desk.region.now → now.place.bench ≡ desk.place.bench → home_at now ≡ home_at desk
 home_moved desk now region bench = ap (λ (r : SharedRegion). home_of r (row_on now.place.bench)) region ∙ ap (λ (b : Bench). home_of desk.region.now (row_on b)) bench
 
 -- the one that made way for it may take its place again
-pub may_again : {h : BenchHome} {desk : BenchDesk} {p : Progress} (mid : BenchDesk) (q : Progress) (risen : Member) → risen ≡ desk.place.member → IsDeskAt h desk p → home_at mid ≡ h → StandsOver (row_on mid.place.bench) q.list → part desk.place.member.actor q.list ≡ part desk.place.member.actor p.list
+pub may_again : {h : BenchHome} {desk : BenchDesk} {p : Progress} (mid : BenchDesk) (q : Progress) (risen : Member) → risen ≡ desk.place.member
+    → IsDeskAt h desk p → home_at mid ≡ h → StandsOver (row_on mid.place.bench) q.list
+    → part desk.place.member.actor q.list ≡ part desk.place.member.actor p.list
     → MaySitOn mid.region.now mid.place.bench risen
 may_again {h} {desk} {p} mid q risen is at home over same =
     let member = desk.place.member in
@@ -258,7 +285,9 @@ may_again {h} {desk} {p} mid q risen is at home over same =
     }
 
 -- a worker that sat at the desk sits on the bench beside it
-sits_beside : {h : BenchHome} (mid : BenchDesk) {f : Profile} {k : ℕ} {worker : Worker} {later : Later} {q : Progress} → home_at mid ≡ h → worker.member ≡ Some mid.place.member → RestsAt f k (standing_at mid) (cached worker.cache) worker.out later q → WorkerSits h.region h.row.actors f k worker later q
+sits_beside : {h : BenchHome} (mid : BenchDesk) {f : Profile} {k : ℕ} {worker : Worker} {later : Later} {q : Progress} → home_at mid ≡ h
+    → worker.member ≡ Some mid.place.member → RestsAt f k (standing_at mid) (cached worker.cache) worker.out later q
+    → WorkerSits h.region h.row.actors f k worker later q
 sits_beside {h} mid {f} {k} {worker} {later} {q} home is at = record {
   member = mid.place.member;
   present = is;
@@ -270,9 +299,13 @@ sits_beside {h} mid {f} {k} {worker} {later} {q} home is at = record {
 }
 
 -- the lent worker took its place there (`sat`), was stopped (`mid`), and gave the place back (`left`)
-pub was_stopped : {h : BenchHome} {f : Profile} {k n : ℕ} {bench bench' : Bench} {old new : Worker} {out out' : Records} {later : Later} {p : Progress} (sat mid : BenchDesk) → sat.place.bench ≡ bench → home_at mid ≡ h → bench' ≡ mid.place.bench
+pub was_stopped : {h : BenchHome} {f : Profile} {k n : ℕ} {bench bench' : Bench} {old new : Worker} {out out' : Records} {later : Later} {p : Progress}
+      (sat mid : BenchDesk)
+    → sat.place.bench ≡ bench → home_at mid ≡ h → bench' ≡ mid.place.bench
     → new.member ≡ Some mid.place.member → new.requests ≡ old.requests → new.keeper ≡ old.keeper
-    → ((stopped : Bool) × ThreadActs f k (StopsIdle k n ∷ []) [] (told_if stopped k) (here (standing_at sat) (cached old.cache) old.out) (here (standing_at mid) (cached new.cache) new.out) later p × Pushed 0 (told_if stopped k) out out')
+    → ((stopped : Bool)
+        × ThreadActs f k (StopsIdle k n ∷ []) [] (told_if stopped k) (here (standing_at sat) (cached old.cache) old.out) (here (standing_at mid) (cached new.cache) new.out) later p
+        × Pushed 0 (told_if stopped k) out out')
     → StopsLent h f k n bench bench' old new out out' later p
 was_stopped {h} {f} {k} {n} {bench} {bench'} {old} {new} {out} {out'} {later} {p} sat mid b home b2 present requests keeper did =
     let at_mid : StopsLent h f k n sat.place.bench mid.place.bench old new out out' later p = record {
@@ -290,9 +323,12 @@ was_stopped {h} {f} {k} {n} {bench} {bench'} {old} {new} {out} {out'} {later} {p
 
 -- ---- a turn at the desk
 -- the worker at this place acted, and the others stand as they did
-abbrev pub acts_in_turn : {f : Profile} {number : ℕ → ℕ} {Stands : ℕ → Worker → Progress → Type 0} {acts : List Act} {act : Act} {told : List Record} {old now : List Worker} {later : Later} {p : Progress} {σ τ : Standing} → Stays number Stands → AreDistinct number (length old) → EachOf 0 told
+abbrev pub acts_in_turn : {f : Profile} {number : ℕ → ℕ} {Stands : ℕ → Worker → Progress → Type 0} {acts : List Act} {act : Act} {told : List Record}
+      {old now : List Worker} {later : Later} {p : Progress} {σ τ : Standing}
+    → Stays number Stands → AreDistinct number (length old) → EachOf 0 told
     → (i : ℕ) (d w : Worker) → i < length old → length now ≡ length old → (so : TookTurns f number Stands acts old now p)
-    → (x : ThreadActs f (number i) (act ∷ []) [] told (here σ (cached (get_or now i d).cache) (get_or now i d).out) (here τ (cached w.cache) w.out) later so.came.reached) → w.requests ≡ (get_or now i d).requests → w.keeper ≡ (get_or now i d).keeper → Stands i w x.reached
+    → (x : ThreadActs f (number i) (act ∷ []) [] told (here σ (cached (get_or now i d).cache) (get_or now i d).out) (here τ (cached w.cache) w.out) later so.came.reached)
+    → w.requests ≡ (get_or now i d).requests → w.keeper ≡ (get_or now i d).keeper → Stands i w x.reached
     → TookTurns f number Stands (acts ++ (act ∷ [])) old (set now i w) p
 acts_in_turn {f} {number} {Stands} {act = act} {told} {old} {now} stays apart theirs i d w lt many so x requests keeper stands =
     let k = number i in
@@ -322,7 +358,8 @@ acts_in_turn {f} {number} {Stands} {act = act} {told} {old} {now} stays apart th
     }
 
 -- ---- all sat down
-module _ {region : SharedRegion} {s : Shift} {old new : List Worker} {p : Progress} {rows : List Row} (bench : Bench) (looked : HasLooked rows (rows_on bench)) (all : AreSeated region s old new rows p) where
+module _ {region : SharedRegion} {s : Shift} {old new : List Worker} {p : Progress} {rows : List Row} (bench : Bench) (looked : HasLooked rows (rows_on bench))
+    (all : AreSeated region s old new rows p) where
   row_is : row_on bench ≡ record { actors = all_actors rows; made = []; base = looked.base }
   row_is = ap first_row looked.is
 
@@ -330,14 +367,17 @@ module _ {region : SharedRegion} {s : Shift} {old new : List Worker} {p : Progre
   saw : (k : ℕ) → among (all_actors rows) k ≡ true → part k (steps_of looked.base) ≡ part k p.list
   saw k its = rows_part rows (steps_of looked.base) k (part k p.list) looked.rows (all.tell k its)
 
+  -- After the look, the row on the bench has of each of its actors what the list tells.
   pub made_seen : (k : ℕ) → among (all_actors rows) k ≡ true → made_in (row_on bench) k ≡ part k p.list
   made_seen k its = ap (λ (r : Row). made_in r k) row_is ∙ saw k its
 
+  -- After the look, the actors of the row are those of all rows before it.
   pub is_among : (k : ℕ) → among (row_on bench).actors k ≡ among (all_actors rows) k
   is_among k = ap (λ (r : Row). among r.actors k) row_is
 
   -- so the scavenger may sit down at the desk
-  pub first_sits : {pass : SharedPass} {member : Member} → IsPassOf region pass → IsMemberOf pass member → IsBenchOf region bench → pass.place.actor ≡ 0 → view_of pass ≡ part 0 p.list → MaySitOn region bench member
+  pub first_sits : {pass : SharedPass} {member : Member} → IsPassOf region pass → IsMemberOf pass member → IsBenchOf region bench → pass.place.actor ≡ 0
+      → view_of pass ≡ part 0 p.list → MaySitOn region bench member
   first_sits {pass} {member} of is at scavenger view =
       let own : among (all_actors rows) member.actor ≡ true = subst (λ (j : ℕ). among (all_actors rows) j ≡ true) (sym (is.actor ∙ scavenger)) all.crew.own in
       let made : view_of pass ≡ made_in (row_on bench) member.actor = view ∙ ap (λ (j : ℕ). part j p.list) (sym (is.actor ∙ scavenger)) ∙ sym (made_seen member.actor own) in
@@ -352,7 +392,8 @@ module _ {region : SharedRegion} {s : Shift} {old new : List Worker} {p : Progre
       }
 
 -- the scavenger sits there alone at first
-pub first_crew : {s : Shift} {rows rows0 : List Row} (pass : SharedPass) → rows ≡ rows_of (part_of pass ∷ []) ++ rows0 → rows0 ≡ empty_row ∷ [] → pass.place.actor ≡ 0 → AreOfCrew s 0 0 (all_actors rows)
+pub first_crew : {s : Shift} {rows rows0 : List Row} (pass : SharedPass) → rows ≡ rows_of (part_of pass ∷ []) ++ rows0 → rows0 ≡ empty_row ∷ []
+    → pass.place.actor ≡ 0 → AreOfCrew s 0 0 (all_actors rows)
 first_crew {s} {rows} {rows0} pass is none scavenger =
     let actors : all_actors rows ≡ pass.place.actor ∷ [] = ap (λ (rs : List Row). all_actors rs) is ∙ ap (λ (rs : List Row). all_actors (rows_of (part_of pass ∷ []) ++ rs)) none in
     subst (λ (ks : List ℕ). AreOfCrew s 0 0 ks) (sym actors) record {
@@ -361,12 +402,15 @@ first_crew {s} {rows} {rows0} pass is none scavenger =
       only = λ k its. inl (⊎_elim (λ same. sym same ∙ scavenger) (λ (more : among [] k ≡ true). absurd (true≢false (sym more))) (among_cases pass.place.actor k [] its));
     }
 
-pub first_tell : {rows rows0 : List Row} (l : Whole) (pass : SharedPass) → rows ≡ rows_of (part_of pass ∷ []) ++ rows0 → rows0 ≡ empty_row ∷ [] → pass.place.actor ≡ 0 → view_of pass ≡ part 0 l → TellAs rows l
+-- The row of the scavenger's pass, with an empty one behind, tells of its actor what the list does.
+pub first_tell : {rows rows0 : List Row} (l : Whole) (pass : SharedPass) → rows ≡ rows_of (part_of pass ∷ []) ++ rows0 → rows0 ≡ empty_row ∷ []
+    → pass.place.actor ≡ 0 → view_of pass ≡ part 0 l → TellAs rows l
 first_tell {rows} {rows0} l pass is none scavenger view =
     tell_more pass rows0 rows l is (view ∙ ap (λ (k : ℕ). part k l) (sym scavenger)) (λ k its. absurd (true≢false (sym its ∙ ap (λ (rs : List Row). among (all_actors rs) k) none)))
 
 -- .. with the lent threads beside it
-pub all_sat : {region : SharedRegion} {s : Shift} {old new : List Worker} {p : Progress} {rows : List Row} {pass : SharedPass} (desk : BenchDesk) → HasLooked rows (rows_on desk.place.bench) → AreSeated region s old new rows p → IsMemberOf pass desk.place.member → pass.place.actor ≡ 0
+pub all_sat : {region : SharedRegion} {s : Shift} {old new : List Worker} {p : Progress} {rows : List Row} {pass : SharedPass} (desk : BenchDesk)
+    → HasLooked rows (rows_on desk.place.bench) → AreSeated region s old new rows p → IsMemberOf pass desk.place.member → pass.place.actor ≡ 0
     → CrewSat region s pass desk old new p
 all_sat {region} {s} {old} {new} {p} {rows} {pass} desk looked all is scavenger =
     let bench = desk.place.bench in
@@ -411,10 +455,13 @@ pub record LeftSoFar (region : SharedRegion) (s : Shift) (all : List ℕ) (base 
   pub crew : AreOfCrew s i (length s.idle) actors
   pub within : (k : ℕ) → among actors k ≡ true → among all k ≡ true
 
-pub leaves_begin : {region : SharedRegion} {s : Shift} {all : List ℕ} {base : List Entry} (old : List Worker) {rows : List Row} {p : Progress} → MayLeaveAll region s old all base rows p → LeftSoFar region s all base 0 old old rows p
+-- Before any lent worker leaves, all still sit on the bench.
+pub leaves_begin : {region : SharedRegion} {s : Shift} {all : List ℕ} {base : List Entry} (old : List Worker) {rows : List Row} {p : Progress}
+    → MayLeaveAll region s old all base rows p → LeftSoFar region s all base 0 old old rows p
 leaves_begin {all = all} old may = record { each = λ j d less within. absurd (omega (arith, less)); left = λ j d from. refl; actors = all; fresh = may.fresh; crew = may.crew; within = λ k its. its }
 
-module _ {region : SharedRegion} {s : Shift} {all : List ℕ} {base : List Entry} {i : ℕ} {old now : List Worker} {rows0 rows : List Row} {p : Progress} (d : Worker) (lt : i < length old) (may : MayLeaveAll region s old all base rows0 p)
+module _ {region : SharedRegion} {s : Shift} {all : List ℕ} {base : List Entry} {i : ℕ} {old now : List Worker} {rows0 rows : List Row} {p : Progress}
+    (d : Worker) (lt : i < length old) (may : MayLeaveAll region s old all base rows0 p)
     (so : LeftSoFar region s all base i old now rows p) where
   -- the next one sits there still
   next_sits : SitsLent region all s i (get_or now i d) p
@@ -427,6 +474,7 @@ module _ {region : SharedRegion} {s : Shift} {all : List ℕ} {base : List Entry
   row_says : (member : Member) → member.actor ≡ number_in s i → made_in (first_row rows) member.actor ≡ part (number_in s i) p.list
   row_says member actor = ap (λ (rs : List Row). made_in (first_row rs) member.actor) so.fresh ∙ may.tell member.actor (so.within member.actor (is_there member actor)) ∙ ap (λ (j : ℕ). part j p.list) actor
 
+  -- While others have left, the next lent worker may leave the bench.
   pub leaves_next : MayLeave region rows (get_or now i d)
   leaves_next =
       let member = next_sits.member in
@@ -451,7 +499,9 @@ module _ {region : SharedRegion} {s : Shift} {all : List ℕ} {base : List Entry
       let rests = subst (λ (m : Member). RestsAt s.profile (number_in s i) (standing_among region all m) (cached (get_or now i d).cache) (get_or now i d).out (s.lends i) p) same next_sits.rests in
       record { has = left.has; rests = same_worker left.but (rests_as left.is.seat (λ stood. left.is.view ∙ row_says member rests.sits.actor) rests) }
 
-  pub leaves_go_on : (w : Worker) {rows' : List Row} → length now ≡ length old → HasLeave region (get_or now i d) w rows rows' → LeftSoFar region s all base (i + 1) old (set now i w) rows' p
+  -- After one more lent worker left with its pass, one more has left.
+  pub leaves_go_on : (w : Worker) {rows' : List Row} → length now ≡ length old → HasLeave region (get_or now i d) w rows rows'
+      → LeftSoFar region s all base (i + 1) old (set now i w) rows' p
   leaves_go_on w {rows'} many left =
       let a = left.may.member.actor in
       let test = isnt (only_this a) in
@@ -480,10 +530,13 @@ module _ {region : SharedRegion} {s : Shift} {all : List ℕ} {base : List Entry
       }
 
 -- whichever member it is called
-pub member_leaves : {region : SharedRegion} {rows : List Row} {worker : Worker} (member : Member) → worker.member ≡ Some member → MayLeave region rows worker → (member.profile ≡ region.profile) × SitsInRow (first_row rows) member
+pub member_leaves : {region : SharedRegion} {rows : List Row} {worker : Worker} (member : Member) → worker.member ≡ Some member → MayLeave region rows worker
+    → (member.profile ≡ region.profile) × SitsInRow (first_row rows) member
 member_leaves {region} {rows} member is may = subst (λ (m : Member). (m.profile ≡ region.profile) × SitsInRow (first_row rows) m) (same_Some _ _ (sym may.present ∙ is)) (may.profile, may.sits)
 
-pub leaves_end : {region : SharedRegion} {s : Shift} {all : List ℕ} {base : List Entry} {i : ℕ} {old now : List Worker} {rows0 rows : List Row} {p : Progress} → length old ≤ i → length now ≡ length old → MayLeaveAll region s old all base rows0 p → LeftSoFar region s all base i old now rows p
+-- Once each lent worker had its turn, only the scavenger still sits on the bench.
+pub leaves_end : {region : SharedRegion} {s : Shift} {all : List ℕ} {base : List Entry} {i : ℕ} {old now : List Worker} {rows0 rows : List Row} {p : Progress}
+    → length old ≤ i → length now ≡ length old → MayLeaveAll region s old all base rows0 p → LeftSoFar region s all base i old now rows p
     → HaveLeave region s old now base rows p
 leaves_end le many may so =
     let size = may.lent.many in
@@ -506,7 +559,8 @@ module _ {region : SharedRegion} {s : Shift} {lent : List Worker} {p : Progress}
   row_seen bench looked = (subst (λ (rs : List Row). AreRowsOf rs (steps_of looked.base)) desk.place.one looked.rows).0
 
   -- all may leave then
-  pub all_may_leave : (bench : Bench) (looked : HasLooked (rows_on desk.place.bench) (rows_on bench)) → MayLeaveAll region s lent row.actors looked.base (rows_on bench) p
+  pub all_may_leave : (bench : Bench) (looked : HasLooked (rows_on desk.place.bench) (rows_on bench))
+      → MayLeaveAll region s lent row.actors looked.base (rows_on bench) p
   all_may_leave bench looked =
       let same : all_actors (rows_on desk.place.bench) ≡ row.actors = ap (λ (rs : List Row). all_actors rs) desk.place.one ∙ append-nil row.actors in
       record {
@@ -517,20 +571,25 @@ module _ {region : SharedRegion} {s : Shift} {lent : List Worker} {p : Progress}
       }
 
   -- and at last the scavenger
-  module _ (bench left : Bench) {now : List Worker} (looked : HasLooked (rows_on desk.place.bench) (rows_on bench)) (have : HaveLeave region s lent now looked.base (rows_on left) p) where
+  module _ (bench left : Bench) {now : List Worker} (looked : HasLooked (rows_on desk.place.bench) (rows_on bench))
+      (have : HaveLeave region s lent now looked.base (rows_on left) p) where
     own_made : made_in (first_row (rows_on left)) desk.place.member.actor ≡ made_in row desk.place.member.actor
     own_made = ap (λ (rs : List Row). made_in (first_row rs) desk.place.member.actor) have.fresh ∙ row_part row (steps_of looked.base) desk.place.member.actor (row_seen bench looked) desk.place.sits.among_them
 
+    -- The scavenger still sits in the row once all that were lent left it.
     pub own_sits : SitsInRow (first_row (rows_on left)) desk.place.member
     own_sits = record {
       among_them = ap (λ (rs : List Row). among (first_row rs).actors desk.place.member.actor) have.fresh ∙ subst (λ (j : ℕ). among have.actors j ≡ true) (sym may.own) have.own;
       noted = subst (λ (v : View). AreNotesOf desk.place.member.actor v desk.place.member.notes) (sym own_made) desk.place.sits.noted;
     }
 
+    -- The row is fresh once all that were lent left it.
     pub fresh_row : IsFreshRow (rows_on left)
     fresh_row = record { actors = have.actors; base = looked.base; is = have.fresh }
 
-    pub all_rose : {end : Bench} {pass : SharedPass} → IsBenchOf region end → IsPassOf region pass → seat_of pass ≡ seat_of_member desk.place.member → view_of pass ≡ made_in (first_row (rows_on left)) desk.place.member.actor
+    -- The whole crew rose once the scavenger left, too: all have passes with what they made.
+    pub all_rose : {end : Bench} {pass : SharedPass} → IsBenchOf region end → IsPassOf region pass → seat_of pass ≡ seat_of_member desk.place.member
+        → view_of pass ≡ made_in (first_row (rows_on left)) desk.place.member.actor
         → rows_on end ≡ rows_of_only (isnt (only_this desk.place.member.actor)) (rows_on left) → CrewRose region s desk pass end lent now p
     all_rose {end} {pass} of pass_of seat view rows =
         let test = isnt (only_this desk.place.member.actor) in
@@ -547,7 +606,9 @@ module _ {region : SharedRegion} {s : Shift} {lent : List Worker} {p : Progress}
 
 -- ---- from pass to pass
 -- the crew on its bench
-pub crew_sits : {region : SharedRegion} {s : Shift} {acts : List Act} {pass : SharedPass} {old new : List Worker} {places : ℕ} {out : Records} {p : Progress} (desk : BenchDesk) → desk.region.now ≡ region → CrewAt region s acts (crew (standing_of_pass pass) old places out) p
+pub crew_sits : {region : SharedRegion} {s : Shift} {acts : List Act} {pass : SharedPass} {old new : List Worker} {places : ℕ} {out : Records} {p : Progress}
+      (desk : BenchDesk)
+    → desk.region.now ≡ region → CrewAt region s acts (crew (standing_of_pass pass) old places out) p
     → CrewSat region s pass desk old new p → CrewSits (home_at desk) s acts (crew (standing_at desk) new places out) p
 crew_sits {s = s} {new = new} {p = p} desk is at sat = record {
   stands = record {
@@ -567,11 +628,13 @@ told_between {k} {said} one told two = record {
   keeper = two.keeper ∙ (told.keeper ∙ one.keeper);
 }
 
-module _ {region : SharedRegion} {s : Shift} {acts : List Act} {pass : SharedPass} {lent sat1 sat2 : List Worker} {places places' : ℕ} {out out' : Records} {p : Progress} (desk now : BenchDesk) (is : desk.region.now ≡ region) (home : home_at now ≡ home_at desk)
+module _ {region : SharedRegion} {s : Shift} {acts : List Act} {pass : SharedPass} {lent sat1 sat2 : List Worker} {places places' : ℕ} {out out' : Records}
+    {p : Progress} (desk now : BenchDesk) (is : desk.region.now ≡ region) (home : home_at now ≡ home_at desk)
     (sat : CrewSat region s pass desk lent sat1 p) (did : CrewActs (home_at desk) s acts [] (crew (standing_at desk) sat1 places out) (crew (standing_at now) sat2 places' out') p) where
   actors_same : (row_on now.place.bench).actors ≡ (row_on desk.place.bench).actors
   actors_same = ap (λ (h : BenchHome). h.row.actors) home
 
+  -- After its acts the crew may rise from the bench.
   pub crew_may_rise : CrewMayRise region s now sat2 did.came.reached
   crew_may_rise =
       let sits = did.stands.stands.stands.sits in
@@ -583,7 +646,9 @@ module _ {region : SharedRegion} {s : Shift} {acts : List Act} {pass : SharedPas
         crew = subst (λ (ks : List ℕ). AreOfCrew s 0 (length s.idle) ks) (sym actors_same) sat.crew;
       }
 
-  pub crew_left : {after : SharedPass} {bench : Bench} {new : List Worker} → length sat1 ≡ length lent → length sat2 ≡ length sat1 → CrewRose region s now after bench sat2 new did.came.reached
+  -- A crew that sat down, acted and rose did its acts with passes, and left a bench that saw in which order.
+  pub crew_left : {after : SharedPass} {bench : Bench} {new : List Worker} → length sat1 ≡ length lent → length sat2 ≡ length sat1
+      → CrewRose region s now after bench sat2 new did.came.reached
       → CrewHasLeft region s acts after bench (crew (standing_of_pass pass) lent places out) (crew (standing_of_pass after) new places' out') p
   crew_left {after} {bench} {new} many more rose =
       let row = row_on now.place.bench in

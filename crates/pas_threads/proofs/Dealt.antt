@@ -29,6 +29,7 @@ module _ {A : Type 0} (chosen : ℕ → Bool) where
   many_if true x ys n is = omega (arith, is)
   many_if false x ys n is = is
 
+  -- There are as many picked things of a list as chosen numbers among its places.
   pub picked_many : (k : ℕ) (xs : List A) → length (picked chosen k xs) ≡ count_of chosen k (length xs)
   picked_many k [] = refl
   picked_many k (x ∷ xs) = many_if (chosen k) x (picked chosen (k + 1) xs) (count_of chosen (k + 1) (length xs)) (picked_many (k + 1) xs)
@@ -43,12 +44,14 @@ module _ {A : Type 0} (chosen : ℕ → Bool) where
   picked_more k (x ∷ xs) y = more_if (chosen k) x (picked chosen (k + 1) xs) (if chosen (k + suc (length xs)) then y ∷ [] else []) (picked chosen (k + 1) (xs ++ y ∷ []))
       (picked_more (k + 1) xs y ∙ ap (λ (n : ℕ). picked chosen (k + 1) xs ++ (if chosen n then y ∷ [] else [])) (let is : k + 1 + length xs ≡ k + suc (length xs) = omega arith in is))
 
-  at_if : (b : Bool) (x : A) (ys : List A) (r : ℕ) (d y : A) → (r < length ys) × (get_or ys r d ≡ y) → ((if b then suc r else r) < length (if b then x ∷ ys else ys)) × (get_or (if b then x ∷ ys else ys) (if b then suc r else r) d ≡ y)
+  at_if : (b : Bool) (x : A) (ys : List A) (r : ℕ) (d y : A) → (r < length ys) × (get_or ys r d ≡ y)
+      → ((if b then suc r else r) < length (if b then x ∷ ys else ys)) × (get_or (if b then x ∷ ys else ys) (if b then suc r else r) d ≡ y)
   at_if true x ys r d y at = (omega (arith, at.0), at.1)
   at_if false x ys r d y at = at
 
   -- what belongs to a number that is chosen stands behind all that is picked before it
-  pub picked_at : (k : ℕ) (xs : List A) (i : ℕ) (d : A) → i < length xs → chosen (k + i) ≡ true → (count_of chosen k i < length (picked chosen k xs)) × (get_or (picked chosen k xs) (count_of chosen k i) d ≡ get_or xs i d)
+  pub picked_at : (k : ℕ) (xs : List A) (i : ℕ) (d : A) → i < length xs → chosen (k + i) ≡ true
+      → (count_of chosen k i < length (picked chosen k xs)) × (get_or (picked chosen k xs) (count_of chosen k i) d ≡ get_or xs i d)
   picked_at k [] i d bad on = absurd (omega (arith, bad))
   picked_at k (x ∷ xs) zero d lt on = subst (λ (ys : List A). (0 < length ys) × (get_or ys 0 d ≡ x)) (sym (first_in k x xs (ap chosen (let is : k ≡ k + 0 = omega arith in is) ∙ on))) (omega arith, refl)
   picked_at k (x ∷ xs) (suc i) d lt on = at_if (chosen k) x (picked chosen (k + 1) xs) (count_of chosen (k + 1) i) d (get_or xs i d)
@@ -62,7 +65,9 @@ module _ {A B : Type 0} (R : A → B → Type 0) (chosen : ℕ → Bool) (a : A)
   pairs_if true x y xs ys one rest (suc r) d lt = rest r d (omega (arith, lt))
   pairs_if false x y xs ys one rest r d lt = rest r d lt
 
-  pub picked_pairs : (k : ℕ) (xs : List A) (ys : List B) → length xs ≡ length ys → ((i : ℕ) (d : B) → i < length ys → chosen (k + i) ≡ true → R (get_or xs i a) (get_or ys i d))
+  -- What relates two lists place by place at chosen numbers relates what is picked of them.
+  pub picked_pairs : (k : ℕ) (xs : List A) (ys : List B) → length xs ≡ length ys
+      → ((i : ℕ) (d : B) → i < length ys → chosen (k + i) ≡ true → R (get_or xs i a) (get_or ys i d))
       → (r : ℕ) (d : B) → r < length (picked chosen k ys) → R (get_or (picked chosen k xs) r a) (get_or (picked chosen k ys) r d)
   picked_pairs k xs [] same each r d bad = absurd (omega (arith, bad))
   picked_pairs k [] (y ∷ ys) bad each r d lt = absurd (omega (arith, bad))
@@ -74,6 +79,7 @@ most_if : (t : Bool) (m n : ℕ) → m ≤ n → (if t then suc m else m) ≤ su
 most_if true m n le = omega (arith, le)
 most_if false m n le = omega (arith, le)
 
+-- There are no more chosen numbers among n than n.
 pub count_most : (chosen : ℕ → Bool) (k n : ℕ) → count_of chosen k n ≤ n
 count_most chosen k zero = omega arith
 count_most chosen k (suc n) = most_if (chosen k) (count_of chosen (k + 1) n) n (count_most chosen (k + 1) n)
@@ -84,6 +90,7 @@ number_at k zero i bad = absurd (omega (arith, bad))
 number_at k (suc n) zero lt = let is : k ≡ k + 0 = omega arith in is
 number_at k (suc n) (suc i) lt = number_at (k + 1) n i (omega (arith, lt)) ∙ (let is : k + 1 + i ≡ k + suc i = omega arith in is)
 
+-- So many numbers from one on are a list of just that length.
 pub numbers_many : (k n : ℕ) → length (numbers_from k n) ≡ n
 numbers_many k zero = refl
 numbers_many k (suc n) = ap suc (numbers_many (k + 1) n)
@@ -93,7 +100,8 @@ filter_picked chosen k zero = refl
 filter_picked chosen k (suc n) = ap (λ (js : List ℕ). if chosen k then k ∷ js else js) (filter_picked chosen (k + 1) n)
 
 -- those that are idle are those whose workers are lent
-pub idle_picked : (awake : Mask4) (ops : List Op) (threads : ℕ) → ((k : ℕ) → is_set awake k ≡ is_active ops k) → idle_threads threads ops ≡ picked (is_out awake) 1 (numbers_from 1 threads)
+pub idle_picked : (awake : Mask4) (ops : List Op) (threads : ℕ) → ((k : ℕ) → is_set awake k ≡ is_active ops k)
+    → idle_threads threads ops ≡ picked (is_out awake) 1 (numbers_from 1 threads)
 idle_picked awake ops threads same = threads_alike (λ k. not (is_active ops k)) (is_out awake) threads (λ k. ap not (sym (same k))) ∙ filter_picked (is_out awake) 1 threads
 
 -- numbers that rise, from k on and below m
@@ -131,25 +139,30 @@ module _ (threads : ℕ) (ops : List Op) where
   idle_rise : AreRising 1 (threads + 1) (idle_threads threads ops)
   idle_rise = rising (λ k. not (is_active ops k)) 1 threads (threads + 1) (omega arith)
 
+  -- The idle threads of a phase are distinct, and none is the scavenger.
   pub idle_distinct : AreDistinct (λ i. get_or (idle_threads threads ops) i 0) (length (idle_threads threads ops))
   idle_distinct = record {
     threads = λ i lt same. (let low = (rise_within 1 (threads + 1) (idle_threads threads ops) i idle_rise lt).0 in omega (arith, low, same));
     apart = λ i j lt lt' ne. rise_apart 1 (threads + 1) (idle_threads threads ops) i j idle_rise lt lt' ne;
   }
 
+  -- Each idle thread of a phase is one of the region's threads.
   pub idle_within : (i : ℕ) → i < length (idle_threads threads ops) → get_or (idle_threads threads ops) i 0 ≤ threads
   idle_within i lt = let most = (rise_within 1 (threads + 1) (idle_threads threads ops) i idle_rise lt).1 in omega (arith, most)
 
 -- ---- dealing
 -- this pile and what is picked of those that are left are all
 module _ (chosen : ℕ → Bool) (k : ℕ) (pile left : List Worker) {all : List Worker} (so : pile ++ picked chosen k left ≡ all) where
+  -- A worker whose number is chosen goes from those that are left to the end of the pile.
   pub pile_grows : (w : Worker) (left' : List Worker) → chosen k ≡ true → left ≡ w ∷ left' → (pile ++ w ∷ []) ++ picked chosen (k + 1) left' ≡ all
   pile_grows w left' on is =
       append_assoc pile (w ∷ []) (picked chosen (k + 1) left') ∙ ap (λ (ws : List Worker). pile ++ ws) (sym (ap (λ (ws : List Worker). picked chosen k ws) is ∙ first_in chosen k w left' on)) ∙ so
 
+  -- A worker whose number isn't chosen leaves the pile as it is.
   pub pile_stays : (w : Worker) (left' : List Worker) → chosen k ≡ false → left ≡ w ∷ left' → pile ++ picked chosen (k + 1) left' ≡ all
   pile_stays w left' off is = ap (λ (ws : List Worker). pile ++ ws) (sym (ap (λ (ws : List Worker). picked chosen k ws) is ∙ first_out chosen k w left' off)) ∙ so
 
+  -- Once no worker is left, the pile is all of them.
   pub pile_whole : left ≡ [] → pile ≡ all
   pile_whole none = sym (append-nil pile) ∙ ap (λ (ws : List Worker). pile ++ picked chosen k ws) (sym none) ∙ so
 
@@ -178,7 +191,8 @@ record IsPile (chosen : ℕ → Bool) (left : ℕ) (all back rest : List Worker)
 
 module _ {chosen : ℕ → Bool} {left : ℕ} {all back : List Worker} where
   -- one more is back: the first of the rest, where it is chosen
-  rest_takes : (rest : List Worker) → chosen (1 + length back) ≡ true → IsPile chosen (suc left) all back rest → (w : Worker) × (others : List Worker) × (rest ≡ w ∷ others) × IsPile chosen left all (back ++ w ∷ []) others
+  rest_takes : (rest : List Worker) → chosen (1 + length back) ≡ true → IsPile chosen (suc left) all back rest
+      → (w : Worker) × (others : List Worker) × (rest ≡ w ∷ others) × IsPile chosen left all (back ++ w ∷ []) others
   rest_takes [] on pile =
       let none = pile.many ∙ ap (λ (b : Bool). if b then suc (count_of chosen (1 + length back + 1) left) else count_of chosen (1 + length back + 1) left) on in
       absurd (omega (arith, none))
@@ -195,7 +209,8 @@ module _ {chosen : ℕ → Bool} {left : ℕ} {all back : List Worker} where
       )
 
   -- .. and none of them, where it isn't
-  rest_stays : {rest : List Worker} (w : Worker) → chosen (1 + length back) ≡ false → IsPile chosen (suc left) all back rest → IsPile chosen left all (back ++ w ∷ []) rest
+  rest_stays : {rest : List Worker} (w : Worker) → chosen (1 + length back) ≡ false → IsPile chosen (suc left) all back rest
+      → IsPile chosen left all (back ++ w ∷ []) rest
   rest_stays {rest} w off pile =
       let same = pile.many ∙ ap (λ (b : Bool). if b then suc (count_of chosen (1 + length back + 1) left) else count_of chosen (1 + length back + 1) left) off in
       let next = ap (λ (k : ℕ). count_of chosen k left) (let long = length-append back (w ∷ []) in let is : 1 + length (back ++ w ∷ []) ≡ 1 + length back + 1 = omega (arith, long) in is) in
@@ -215,7 +230,9 @@ pub record SoTaken (mask : Mask4) (left : ℕ) (all_hands : List Hand) (all_lent
   inside : IsPile (is_in mask) left all_own threads own
   outside : IsPile (is_out mask) left all_lent threads rest
 
-pub none_taken : {mask : Mask4} {count : ℕ} {all_hands hands : List Hand} {all_lent threads lent : List Worker} → threads ≡ [] → hands ≡ reverse all_hands → lent ≡ reverse all_lent → AreSized mask count all_hands all_lent
+-- Before any worker is taken back, all hands and all lent workers wait, in reverse order.
+pub none_taken : {mask : Mask4} {count : ℕ} {all_hands hands : List Hand} {all_lent threads lent : List Worker} → threads ≡ [] → hands ≡ reverse all_hands
+    → lent ≡ reverse all_lent → AreSized mask count all_hands all_lent
     → SoTaken mask count all_hands all_lent threads hands lent
 none_taken {mask} {count} {all_hands} {hands} {all_lent} {threads} {lent} none hands_are lent_are sized =
     subst (λ (ws : List Worker). SoTaken mask count all_hands all_lent ws hands lent) (sym none) record {
@@ -229,14 +246,17 @@ none_taken {mask} {count} {all_hands} {hands} {all_lent} {threads} {lent} none h
       outside = record { whole = refl; many = sized.3 };
     }
 
-module _ {mask : Mask4} {left : ℕ} {all_hands hands : List Hand} {all_lent threads lent : List Worker} (so : SoTaken mask (suc left) all_hands all_lent threads hands lent) where
+module _ {mask : Mask4} {left : ℕ} {all_hands hands : List Hand} {all_lent threads lent : List Worker}
+    (so : SoTaken mask (suc left) all_hands all_lent threads hands lent) where
   -- the next is the last of the hands
   pub some_in : is_set mask (1 + length threads) ≡ true → (front : List Hand) × (w : Worker) × (hands ≡ front ++ Thread w ∷ [])
   some_in on =
       let n = rest_takes so.own on so.inside in
       (reverse (map Thread n.1), n.0, so.hands_are ∙ ap (λ (ws : List Worker). reverse (map Thread ws)) n.2 ∙ reverse-append (Thread n.0 ∷ []) (map Thread n.1))
 
-  pub taken_in : {hands' : List Hand} {lent' threads' : List Worker} (w : Worker) → is_set mask (1 + length threads) ≡ true → hands ≡ hands' ++ Thread w ∷ [] → lent' ≡ lent → threads' ≡ threads ++ w ∷ [] → SoTaken mask left all_hands all_lent threads' hands' lent'
+  -- A worker whose number is in the mask is taken back from the hands.
+  pub taken_in : {hands' : List Hand} {lent' threads' : List Worker} (w : Worker) → is_set mask (1 + length threads) ≡ true → hands ≡ hands' ++ Thread w ∷ []
+      → lent' ≡ lent → threads' ≡ threads ++ w ∷ [] → SoTaken mask left all_hands all_lent threads' hands' lent'
   taken_in {hands'} {lent'} {threads'} w on popped same pushed =
       let n = rest_takes so.own on so.inside in
       let turned = sym popped ∙ so.hands_are ∙ ap (λ (ws : List Worker). reverse (map Thread ws)) n.2 ∙ reverse-append (Thread n.0 ∷ []) (map Thread n.1) in
@@ -260,7 +280,9 @@ module _ {mask : Mask4} {left : ℕ} {all_hands hands : List Hand} {all_lent thr
       let long = ap (λ (ws : List Worker). length ws) (so.lent_are ∙ ap (λ (ws : List Worker). reverse ws) n.2 ∙ reverse-append (n.0 ∷ []) n.1) ∙ length-append (reverse n.1) (n.0 ∷ []) in
       omega (arith, long)
 
-  pub taken_out : {hands' : List Hand} {lent' threads' : List Worker} (w : Worker) → is_set mask (1 + length threads) ≡ false → lent ≡ lent' ++ w ∷ [] → hands' ≡ hands → threads' ≡ threads ++ w ∷ [] → SoTaken mask left all_hands all_lent threads' hands' lent'
+  -- A worker whose number isn't in the mask is taken back from those that were lent.
+  pub taken_out : {hands' : List Hand} {lent' threads' : List Worker} (w : Worker) → is_set mask (1 + length threads) ≡ false → lent ≡ lent' ++ w ∷ []
+      → hands' ≡ hands → threads' ≡ threads ++ w ∷ [] → SoTaken mask left all_hands all_lent threads' hands' lent'
   taken_out {hands'} {lent'} {threads'} w off popped same pushed =
       let n = rest_takes so.rest (not_from_false (is_set mask (1 + length threads)) off) so.outside in
       let turned = sym popped ∙ so.lent_are ∙ ap (λ (ws : List Worker). reverse ws) n.2 ∙ reverse-append (n.0 ∷ []) n.1 in
@@ -277,7 +299,8 @@ module _ {mask : Mask4} {left : ℕ} {all_hands hands : List Hand} {all_lent thr
       }
 
 -- all are back
-pub all_taken : {mask : Mask4} {left : ℕ} {all_hands hands : List Hand} {all_lent threads lent : List Worker} → SoTaken mask left all_hands all_lent threads hands lent → left ≡ 0 → AreDealt mask threads all_hands all_lent × (hands ≡ []) × (lent ≡ [])
+pub all_taken : {mask : Mask4} {left : ℕ} {all_hands hands : List Hand} {all_lent threads lent : List Worker}
+    → SoTaken mask left all_hands all_lent threads hands lent → left ≡ 0 → AreDealt mask threads all_hands all_lent × (hands ≡ []) × (lent ≡ [])
 all_taken {mask} {threads = threads} so none =
     let own = nil_from_length so.own (so.inside.many ∙ ap (λ (n : ℕ). count_of (is_in mask) (1 + length threads) n) none) in
     let rest = nil_from_length so.rest (so.outside.many ∙ ap (λ (n : ℕ). count_of (is_out mask) (1 + length threads) n) none) in (
@@ -289,6 +312,7 @@ all_taken {mask} {threads = threads} so none =
       so.lent_are ∙ ap (λ (ws : List Worker). reverse ws) rest,
     )
 
+-- A place within a list of workers has a worker.
 pub some_worker : (ws : List Worker) (i : ℕ) → i < length ws → Worker
 some_worker [] i bad = absurd (omega (arith, bad))
 some_worker (w ∷ ws) i lt = w
@@ -306,17 +330,21 @@ module _ {region : SharedRegion} {book : NameBook} {ops : List Op} where
   pub threads_may : (own : List Worker) {hands : List Hand} → hands ≡ map Thread own → All (MayDoPhase region book ops) own → All (MayAct region book ops) hands
   threads_may own is may = All-same (MayAct region book ops) _ (map Thread own) is (All-map (MayAct region book ops) Thread own may)
 
-  pub all_may : (own : List Worker) (s : TheScavenger) {hands : List Hand} → hands ≡ map Thread own ++ Scavenger s ∷ [] → All (MayDoPhase region book ops) own → MayScavenge region ops s → All (MayAct region book ops) hands
+  -- Where each thread's worker and the scavenger may do their operations, each hand may.
+  pub all_may : (own : List Worker) (s : TheScavenger) {hands : List Hand} → hands ≡ map Thread own ++ Scavenger s ∷ [] → All (MayDoPhase region book ops) own
+      → MayScavenge region ops s → All (MayAct region book ops) hands
   all_may own s is may scavenges = All-same (MayAct region book ops) _ (map Thread own ++ Scavenger s ∷ []) is (All-push (MayAct region book ops) (map Thread own) (Scavenger s) (All-map (MayAct region book ops) Thread own may) scavenges)
 
   -- ---- after
-  first_too : (w w' : Worker) (own after : List Worker) → DidPhase region book ops w w' → ((i : ℕ) (d : Worker) → i < length own → DidPhase region book ops (get_or own i d) (get_or after i d))
+  first_too : (w w' : Worker) (own after : List Worker) → DidPhase region book ops w w'
+      → ((i : ℕ) (d : Worker) → i < length own → DidPhase region book ops (get_or own i d) (get_or after i d))
       → (i : ℕ) (d : Worker) → i < length (w ∷ own) → DidPhase region book ops (get_or (w ∷ own) i d) (get_or (w' ∷ after) i d)
   first_too w w' own after did rest zero d lt = did
   first_too w w' own after did rest (suc i) d lt = rest i d (omega (arith, lt))
 
   -- a thread's hand is one still
-  one_more : (w w' : Worker) (own : List Worker) (hands : List Hand) → DidPhase region book ops w w' → DidEach region book ops own hands → DidEach region book ops (w ∷ own) (Thread w' ∷ hands)
+  one_more : (w w' : Worker) (own : List Worker) (hands : List Hand) → DidPhase region book ops w w' → DidEach region book ops own hands
+      → DidEach region book ops (w ∷ own) (Thread w' ∷ hands)
   one_more w w' own hands did rest = record {
     after = w' ∷ rest.after;
     hands_are = ap (λ (hs : List Hand). Thread w' ∷ hs) rest.hands_are;
@@ -328,14 +356,20 @@ module _ {region : SharedRegion} {book : NameBook} {ops : List Op} where
   no_hands [] none = record { after = []; hands_are = refl; many = refl; each = λ i d bad. absurd (omega (arith, bad)) }
   no_hands (h ∷ hands) bad = absurd (omega (arith, bad))
 
-  pub threads_did : (own : List Worker) (hands : List Hand) → length hands ≡ length (map Thread own) → ((i : ℕ) (d : Hand) → i < length (map Thread own) → DidAct region book ops (get_or (map Thread own) i d) (get_or hands i d)) → DidEach region book ops own hands
+  -- Where each hand did its operations, each thread's worker did those of its phase.
+  pub threads_did : (own : List Worker) (hands : List Hand) → length hands ≡ length (map Thread own)
+      → ((i : ℕ) (d : Hand) → i < length (map Thread own) → DidAct region book ops (get_or (map Thread own) i d) (get_or hands i d))
+      → DidEach region book ops own hands
   threads_did [] hands many did = no_hands hands many
   threads_did (w ∷ own) [] many did = absurd (omega (arith, many))
   threads_did (w ∷ own) (Thread w' ∷ hands) many did = one_more w w' own hands (did 0 (Thread w) (omega arith)) (threads_did own hands (omega (arith, many)) (λ i d lt. did (suc i) d (omega (arith, lt))))
   threads_did (w ∷ own) (Scavenger s ∷ hands) many did = absurd (did 0 (Thread w) (omega arith))
 
+  -- Where each hand did its operations, all threads' workers and the scavenger did theirs.
   pub all_did : (own : List Worker) (s : TheScavenger) (hands : List Hand) → length hands ≡ length (map Thread own ++ Scavenger s ∷ [])
-      → ((i : ℕ) (d : Hand) → i < length (map Thread own ++ Scavenger s ∷ []) → DidAct region book ops (get_or (map Thread own ++ Scavenger s ∷ []) i d) (get_or hands i d)) → AllDid region book ops own s hands
+      → ((i : ℕ) (d : Hand) → i < length (map Thread own ++ Scavenger s ∷ [])
+          → DidAct region book ops (get_or (map Thread own ++ Scavenger s ∷ []) i d) (get_or hands i d))
+      → AllDid region book ops own s hands
   all_did [] s [] many did = absurd (omega (arith, many))
   all_did [] s (Thread w ∷ hands) many did = absurd (did 0 (Scavenger s) (omega arith))
   all_did [] s (Scavenger s' ∷ []) many did = record { threads = []; scavenger = s'; hands_are = refl; each = no_hands [] refl; did = did 0 (Scavenger s) (omega arith) }
@@ -353,9 +387,11 @@ module _ {region : SharedRegion} {book : NameBook} {ops : List Op} where
       }
 
 -- what each hand did, where the hands before it are these
-pub each_from : (region : SharedRegion) (book : NameBook) (ops : List Op) {hands hands0 : List Hand} (after : List Hand) → hands ≡ hands0 → ((i : ℕ) (d : Hand) → i < length hands → DidAct region book ops (get_or hands i d) (get_or after i d))
+pub each_from : (region : SharedRegion) (book : NameBook) (ops : List Op) {hands hands0 : List Hand} (after : List Hand) → hands ≡ hands0
+    → ((i : ℕ) (d : Hand) → i < length hands → DidAct region book ops (get_or hands i d) (get_or after i d))
     → (i : ℕ) (d : Hand) → i < length hands0 → DidAct region book ops (get_or hands0 i d) (get_or after i d)
 each_from region book ops {hands} {hands0} after is did = subst (λ (hs : List Hand). (i : ℕ) (d : Hand) → i < length hs → DidAct region book ops (get_or hs i d) (get_or after i d)) is did
 
+-- Two hands that are one scavenger's are the same scavenger.
 pub same_scavenger : {s t : TheScavenger} → Scavenger s ≡ Scavenger t → s ≡ t
 same_scavenger {s} {t} is = ap (λ (h : Hand). elim h [ Thread w ↦ s | Scavenger x ↦ x ]) is

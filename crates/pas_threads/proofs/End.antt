@@ -32,9 +32,11 @@ use Rattle.pas_threads.proofs.{Dealt.some_worker, Keepers.stands_for, Staging.no
 abbrev pub IsBack : Worker → Type 0
 IsBack worker = (pass : SharedPass) × (worker.pass ≡ Some pass)
 
+-- Where all passes are back, the scavenger has its pass.
 pub first_back : (team : Team) → AreAllBack team → (pass : SharedPass) × (team.scavenger.pass ≡ Some pass)
 first_back team back = back 0 None (omega arith)
 
+-- Where all passes are back, each worker has its pass.
 pub others_back : (team : Team) → AreAllBack team → All IsBack team.threads.items
 others_back team back i d lt =
     let own = map (λ (w : Worker). w.pass) team.threads.items in
@@ -62,7 +64,8 @@ record IsOwn (region : SharedRegion) (l : Whole) (k : ℕ) (pass : SharedPass) :
   part_is : view_of pass ≡ part k l
 
 -- the pass at a slot is the one that it has
-own_at : (region : SharedRegion) (l : Whole) (k : ℕ) (slot : Option SharedPass) (has : HasPass region slot) (pass : SharedPass) → slot ≡ Some pass → (seat_of has.pass).actor ≡ k → view_of has.pass ≡ part k l → IsOwn region l k pass
+own_at : (region : SharedRegion) (l : Whole) (k : ℕ) (slot : Option SharedPass) (has : HasPass region slot) (pass : SharedPass) → slot ≡ Some pass
+    → (seat_of has.pass).actor ≡ k → view_of has.pass ≡ part k l → IsOwn region l k pass
 own_at region l k slot has pass at actor is =
     subst (IsOwn region l k) (same_Some has.pass pass (sym has.present ∙ at)) (record { of_region = has.of; actor = actor; part_is = is })
 
@@ -83,7 +86,8 @@ a_pass (w ∷ ws) all =
     let rest = a_pass ws (λ i d lt. all (suc i) d (omega (arith, lt))) in
     omega (arith, one, rest)
 
-pass_at : (workers : List Worker) (i : ℕ) (d : Worker) (keeper : Keeper) → ((j : ℕ) (e : Worker) → j < length workers → HasKeeper (get_or workers j e)) → i < length workers → (get_or workers i d).keeper ≡ Some keeper → get_or (kept_passes workers) i None ≡ Some keeper.pass
+pass_at : (workers : List Worker) (i : ℕ) (d : Worker) (keeper : Keeper) → ((j : ℕ) (e : Worker) → j < length workers → HasKeeper (get_or workers j e))
+    → i < length workers → (get_or workers i d).keeper ≡ Some keeper → get_or (kept_passes workers) i None ≡ Some keeper.pass
 pass_at [] i d keeper all lt is = absurd (omega (arith, lt))
 pass_at (w ∷ ws) zero d keeper all lt is = ap (λ (o : Option Keeper). get_or (kept_pass o ++ kept_passes ws) 0 None) is
 pass_at (w ∷ ws) (suc i) d keeper all lt is =
@@ -113,6 +117,7 @@ module _ {region : SharedRegion} {s : Session} {team : Team} {end : Progress} (s
   all_back = All-cons IsBackAt team.scavenger.pass (own_passes ++ kept_passes team.threads.items) (stands.scavenger.has.pass, stands.scavenger.has.present)
       (All-append IsBackAt own_passes (kept_passes team.threads.items) (All-map IsBackAt (λ (w : Worker). w.pass) team.threads.items (λ i d lt. let has = (stands.workers i d lt).here.has in (has.pass, has.present))) (kept_back team.threads.items))
 
+  -- A team has a slot for the pass of each thread, each keeper and the scavenger.
   pub all_slots : length (slots_of team) ≡ s.threads + s.keepers + 1
   all_slots =
       let to = length-map team.threads.items (λ (w : Worker). w.pass) in
@@ -140,7 +145,8 @@ module _ {region : SharedRegion} {s : Session} {team : Team} {end : Progress} (s
         own_at region end.list (suc i) (get_or team.threads.items i w).pass rests.here.has (get_or passes (suc i) d) at rests.here.rests.sits.actor rests.here.rests.sits.stood
 
     -- (for a keeper, which has its pass at its place behind the threads)
-    own_keeper : (j : ℕ) (d : SharedPass) → s.threads + suc j < length passes → j < s.keepers → AreGuarded s.keepers team.threads.items → IsOwn region end.list (s.threads + suc j) (get_or passes (s.threads + suc j) d)
+    own_keeper : (j : ℕ) (d : SharedPass) → s.threads + suc j < length passes → j < s.keepers → AreGuarded s.keepers team.threads.items
+        → IsOwn region end.list (s.threads + suc j) (get_or passes (s.threads + suc j) d)
     own_keeper j d lt kept (inr none) = absurd (omega (arith, none.0, kept))
     own_keeper j d lt kept (inl all) =
         let workers = team.threads.items in
@@ -168,11 +174,13 @@ module _ {region : SharedRegion} {s : Session} {team : Team} {end : Progress} (s
               subst (λ (k : ℕ). IsOwn region end.list k (get_or passes k d)) place (own_keeper (i - s.threads) d (omega (arith, place, lt)) (omega (arith, past, lt, all)) stands.guarded)
         ]
 
+    -- The passes in the slots of a team at the end are all of its region.
     pub all_of_region : All (IsPassOf region) passes
     all_of_region k d lt = (own k d lt).of_region
 
     -- the list of the closed region has of each actor the same part as that of the pieces
-    same_parts : (whole : Whole) → s.profile.threads ≤ s.threads + s.keepers → Legal s.profile whole → All (λ pass. part (seat_of pass).actor whole ≡ view_of pass) passes → (k : ℕ) → part k whole ≡ part k end.list
+    same_parts : (whole : Whole) → s.profile.threads ≤ s.threads + s.keepers → Legal s.profile whole
+        → All (λ pass. part (seat_of pass).actor whole ≡ view_of pass) passes → (k : ℕ) → part k whole ≡ part k end.list
     same_parts whole every legal parts k = elim (cases_lt (s.threads + s.keepers) k) [
       | inl past ↦ nobody_past s.profile whole k (omega (arith, past, every)) legal ∙ sym (stands.nobody k past)
       | inr within ↦
@@ -183,7 +191,8 @@ module _ {region : SharedRegion} {s : Session} {team : Team} {end : Progress} (s
     ]
 
   -- at the end all actors have nothing, where no cache has a local allocator and no guard is up
-  thread_bare : ((i : ℕ) (d : Worker) → i < length team.threads.items → (cached (get_or team.threads.items i d).cache).locals ≡ []) → (i : ℕ) → i < s.threads → HasNothing (part (suc i) end.list)
+  thread_bare : ((i : ℕ) (d : Worker) → i < length team.threads.items → (cached (get_or team.threads.items i d).cache).locals ≡ []) → (i : ℕ) → i < s.threads
+      → HasNothing (part (suc i) end.list)
   thread_bare empty i lt =
       let below : i < length team.threads.items = omega (arith, lt, stands.many) in
       let d = some_worker team.threads.items i below in
@@ -191,7 +200,8 @@ module _ {region : SharedRegion} {s : Session} {team : Team} {end : Progress} (s
       let none = no_slots (cached (get_or team.threads.items i d).cache).locals (empty i d below) in
       record { grains = λ g. rest.locals.grains g ∙ (none g).0; rights = λ page. rest.locals.rights page ∙ (none page).1; clear = rest.locals.clear }
 
-  keeper_bare : ((i : ℕ) (d : Worker) → i < length team.threads.items → IsLow (get_or team.threads.items i d).keeper) → (j : ℕ) → j < s.keepers → AreGuarded s.keepers team.threads.items → HasNothing (part (s.threads + suc j) end.list)
+  keeper_bare : ((i : ℕ) (d : Worker) → i < length team.threads.items → IsLow (get_or team.threads.items i d).keeper) → (j : ℕ) → j < s.keepers
+      → AreGuarded s.keepers team.threads.items → HasNothing (part (s.threads + suc j) end.list)
   keeper_bare low j lt (inr none) = absurd (omega (arith, none.0, lt))
   keeper_bare low j lt (inl all) =
       let workers = team.threads.items in
@@ -204,7 +214,8 @@ module _ {region : SharedRegion} {s : Session} {team : Team} {end : Progress} (s
       let none = subst (λ (o : Option Keeper). IsLow o) has.1 (low j w below) in
       record { grains = λ g. fits.held g ∙ ap (λ (gs : List Guard). is_outer gs (g / 256)) none; rights = fits.rights; clear = fits.clear }
 
-  bare_at : ((i : ℕ) (d : Worker) → i < length team.threads.items → (cached (get_or team.threads.items i d).cache).locals ≡ []) → ((i : ℕ) (d : Worker) → i < length team.threads.items → IsLow (get_or team.threads.items i d).keeper) → (k : ℕ) → HasNothing (part k end.list)
+  bare_at : ((i : ℕ) (d : Worker) → i < length team.threads.items → (cached (get_or team.threads.items i d).cache).locals ≡ [])
+      → ((i : ℕ) (d : Worker) → i < length team.threads.items → IsLow (get_or team.threads.items i d).keeper) → (k : ℕ) → HasNothing (part k end.list)
   bare_at empty low zero = stands.scavenger.at.stands.sits.rest
   bare_at empty low (suc i) = elim (cases_lt i s.threads) [
     | inl within ↦ thread_bare empty i within
@@ -216,8 +227,11 @@ module _ {region : SharedRegion} {s : Session} {team : Team} {end : Progress} (s
     ]
   ]
 
-pub shows : {plan : Plan} {region : SharedRegion} {so_far : Whole} {team : Team} (passes : List SharedPass) {written : List Record} {state : State} → IsValid (region_of plan) → AreOfThreads (threads_of plan) (acts_of_plan plan) → region.profile ≡ region_of plan
-    → HasReplayed region (session_of plan) (phases_of plan) so_far team written → map (λ (pass : SharedPass). Some pass) passes ≡ slots_of team → EndsAfter region.profile so_far passes state → Shows OnThreads plan written state
+-- A whole replay on threads, whose region was closed by all its passes, is what the plan's replay shows.
+pub shows : {plan : Plan} {region : SharedRegion} {so_far : Whole} {team : Team} (passes : List SharedPass) {written : List Record} {state : State}
+    → IsValid (region_of plan) → AreOfThreads (threads_of plan) (acts_of_plan plan) → region.profile ≡ region_of plan
+    → HasReplayed region (session_of plan) (phases_of plan) so_far team written → map (λ (pass : SharedPass). Some pass) passes ≡ slots_of team
+    → EndsAfter region.profile so_far passes state → Shows OnThreads plan written state
 shows {plan} {region} {so_far} {team} passes {written} {state} valid threads of_profile replayed back ends =
     let closed = subst (λ (f : Profile). EndsAfter f so_far passes state) of_profile ends in
     let after = closed.ends.after in
@@ -236,6 +250,7 @@ shows {plan} {region} {so_far} {team} passes {written} {state} valid threads of_
     }
 
 -- the plan as the replay was handed it
-pub replayed_so : (plan : Plan) {region : SharedRegion} {so_far : Whole} {team : Team} {written : List Record} (slice : List Phase) → slice ≡ the_phases plan.phases → HasReplayed region (session_of plan) (map ops_of slice) so_far team written
+pub replayed_so : (plan : Plan) {region : SharedRegion} {so_far : Whole} {team : Team} {written : List Record} (slice : List Phase)
+    → slice ≡ the_phases plan.phases → HasReplayed region (session_of plan) (map ops_of slice) so_far team written
     → HasReplayed region (session_of plan) (phases_of plan) so_far team written
 replayed_so plan {region} {so_far} {team} {written} slice is replayed = subst (λ (ps : List Phase). HasReplayed region (session_of plan) (map ops_of ps) so_far team written) is replayed

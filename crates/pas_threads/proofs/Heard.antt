@@ -11,22 +11,27 @@ use Rattle.pas_threads.specs.Performing.{Round, ThreadDone, ScavengerDone, HaveA
 use Rattle.pas_threads.specs.Settling.{SawMore, HasHeard, HasBench, IsButBench}
 use Rattle.pas_threads.specs.declared.{phases.Team.Team, scavenger.Scavenger.Scavenger, workers.Worker.Worker}
 
-pub bench_left : {region : SharedRegion} {slot : Option Bench} {chosen : ℕ → Bool} {told told' : Whole} → HasLeft region slot chosen told told' → HasBench region slot
+-- A bench was left in its slot, of the same region.
+pub bench_left : {region : SharedRegion} {slot : Option Bench} {chosen : ℕ → Bool} {told told' : Whole} → HasLeft region slot chosen told told'
+    → HasBench region slot
 bench_left left = record { bench = left.bench; present = left.present; of = left.of }
 
 -- .. so it heard the order in which its actors made their steps
-heard_order : {region : SharedRegion} {ledger : Ledger} {slot : Option Bench} {chosen : ℕ → Bool} {told told' : Whole} → HasLeft region slot chosen told told' → HasHeard ledger slot → HeardOrder ledger chosen told told'
+heard_order : {region : SharedRegion} {ledger : Ledger} {slot : Option Bench} {chosen : ℕ → Bool} {told told' : Whole} → HasLeft region slot chosen told told'
+    → HasHeard ledger slot → HeardOrder ledger chosen told told'
 heard_order left heard = record {
   base = left.base;
   order = left.order;
   first = λ l begins. (subst (λ (rs : List Row). AreEarlier (bases_in rs) l) left.rows (heard left.bench left.present l begins)).0;
 }
 
+-- A ledger that saw more has heard of each bench of which it heard before.
 pub heard_still : (old new : Ledger) {slot : Option Bench} → SawMore old new → HasHeard old slot → HasHeard new slot
 heard_still old new saw heard bench is l begins = heard bench is l (saw l begins)
 
 -- nothing that a thread did is about its bench
-thread_but : {region : SharedRegion} {r : Round} {k : ℕ} {old new new' : Worker} {said : List Record} {q : Progress} → IsButBench new new' → ThreadDone region r k old new said q → ThreadDone region r k old new' said q
+thread_but : {region : SharedRegion} {r : Round} {k : ℕ} {old new new' : Worker} {said : List Record} {q : Progress} → IsButBench new new'
+    → ThreadDone region r k old new said q → ThreadDone region r k old new' said q
 thread_but {region} {r} {k} {old} {new} {new'} {said} {q} same done =
     subst (λ (w : Worker). ThreadDone region r k old w said q) (sym same) (record {
       stands = record { has = done.stands.has; rests = done.stands.rests };
@@ -45,9 +50,13 @@ thread_but {region} {r} {k} {old} {new} {new'} {said} {q} same done =
 abbrev pub scavenger_with : Scavenger → Option Bench → Scavenger
 scavenger_with v bench = record { pass = v.pass; outcomes = v.outcomes; out = v.out; lent = v.lent; bench = bench }
 
+-- Once the ledger heard of each bench that was left, all operations of the phase are done in an order that it knows.
 pub is_heard : {region : SharedRegion} {ledger : Ledger} {r : Round} {old new : Team} (new' : Team) (freed : Option Bench) (acted : HaveActed region r old new)
-    → ((i : ℕ) (d : Worker) → i < length new.threads.items → IsButBench (get_or new.threads.items i d) (get_or new'.threads.items i d)) → length new'.threads.items ≡ length new.threads.items → new'.scavenger ≡ scavenger_with new.scavenger freed → new'.book ≡ new.book → HasPlaces r.threads new'
-    → ((i : ℕ) (d : Worker) → i < length new.threads.items → is_active r.ops (suc i) ≡ true → HasHeard ledger (get_or new.threads.items i d).bench) → (is_active r.ops 0 ≡ true → HasHeard ledger new.scavenger.bench) → IsHeard region ledger r old new'
+    → ((i : ℕ) (d : Worker) → i < length new.threads.items → IsButBench (get_or new.threads.items i d) (get_or new'.threads.items i d))
+    → length new'.threads.items ≡ length new.threads.items → new'.scavenger ≡ scavenger_with new.scavenger freed → new'.book ≡ new.book
+    → HasPlaces r.threads new'
+    → ((i : ℕ) (d : Worker) → i < length new.threads.items → is_active r.ops (suc i) ≡ true → HasHeard ledger (get_or new.threads.items i d).bench)
+    → (is_active r.ops 0 ≡ true → HasHeard ledger new.scavenger.bench) → IsHeard region ledger r old new'
 is_heard {region} {ledger} {r} {old} {new} new' freed acted same many scavenger book places threads own = record {
   done = record {
     pieces = λ w.

@@ -28,11 +28,13 @@ pub record HeardSoFar (awake : Mask4) (i : ℕ) (old now : List Worker) (first l
   pub same : (j : ℕ) (d : Worker) → j < length old → IsButBench (get_or old j d) (get_or now j d)
   pub left : (j : ℕ) (d : Worker) → i ≤ j → get_or now j d ≡ get_or old j d
 
+-- Before any bench the ledger heard of none.
 pub hears_first : (awake : Mask4) (old : List Worker) (ledger : Ledger) → HeardSoFar awake 0 old old ledger ledger
 hears_first awake old ledger = record { saw = λ l first. first; heard = λ j d less. absurd (omega (arith, less)); same = λ j d lt. refl; left = λ j d le. refl }
 
 -- .. and of the next one, too
-pub hears_next : {awake : Mask4} {i : ℕ} {old now : List Worker} {first ledger ledger' : Ledger} (d : Worker) (gone : Option Bench) → i < length old → length now ≡ length old → HeardSoFar awake i old now first ledger → SawMore ledger ledger' → HasHeard ledger' (get_or now i d).bench
+pub hears_next : {awake : Mask4} {i : ℕ} {old now : List Worker} {first ledger ledger' : Ledger} (d : Worker) (gone : Option Bench) → i < length old
+    → length now ≡ length old → HeardSoFar awake i old now first ledger → SawMore ledger ledger' → HasHeard ledger' (get_or now i d).bench
     → HeardSoFar awake (i + 1) old (set now i (with_bench (get_or now i d) gone)) first ledger'
 hears_next {awake} {i} {old} {now} {first} {ledger} {ledger'} d gone lt many so saw heard = record {
   saw = λ l begins. so.saw l (saw l begins);
@@ -48,7 +50,8 @@ hears_next {awake} {i} {old} {now} {first} {ledger} {ledger'} d gone lt many so 
 }
 
 -- .. where that one is none of the mask
-pub hears_pass : {awake : Mask4} {i : ℕ} {old now : List Worker} {first ledger : Ledger} → is_set awake (i + 1) ≡ false → HeardSoFar awake i old now first ledger → HeardSoFar awake (i + 1) old now first ledger
+pub hears_pass : {awake : Mask4} {i : ℕ} {old now : List Worker} {first ledger : Ledger} → is_set awake (i + 1) ≡ false
+    → HeardSoFar awake i old now first ledger → HeardSoFar awake (i + 1) old now first ledger
 hears_pass {awake} {i} {old} off so = record {
   saw = so.saw;
   heard = λ j e less within on. elim (cases_eq j i) [
@@ -60,7 +63,8 @@ hears_pass {awake} {i} {old} off so = record {
 }
 
 -- the next one has its bench still
-pub bench_next : {region : SharedRegion} {awake : Mask4} {i : ℕ} {old now : List Worker} {first ledger : Ledger} (d : Worker) → i < length old → HeardSoFar awake i old now first ledger → is_set awake (i + 1) ≡ true
+pub bench_next : {region : SharedRegion} {awake : Mask4} {i : ℕ} {old now : List Worker} {first ledger : Ledger} (d : Worker) → i < length old
+    → HeardSoFar awake i old now first ledger → is_set awake (i + 1) ≡ true
     → ((j : ℕ) (e : Worker) → j < length old → is_set awake (suc j) ≡ true → HasBench region (get_or old j e).bench) → HasBench region (get_or now i d).bench
 bench_next {region} {awake} {i} d lt so on has =
     subst (λ (w : Worker). HasBench region w.bench) (sym (so.left i d (omega arith))) (has i d lt (ap (λ (k : ℕ). is_set awake k) (let is : suc i ≡ i + 1 = omega arith in is) ∙ on))

@@ -73,6 +73,7 @@ owned_active threads ops k w is = elim (cases_Bool (is_active ops (thread_in thr
 past_threads : (threads k : ℕ) → threads < k → thread_in threads k ≡ k - threads
 past_threads threads k past = ap (λ (b : Bool). if b then k else k - threads) (lt-leb k threads past)
 
+-- An actor in the hands of a thread's worker is that thread or its keeper.
 pub in_pair : (threads : ℕ) (ops : List Op) (k w : ℕ) → owner_in threads ops k ≡ suc w → (k ≡ suc w) ⊎ (k ≡ threads + suc w)
 in_pair threads ops k w is = elim (cases_lt threads k) [
   | inl past ↦ inr (let thread = sym (past_threads threads k past) ∙ owned_active threads ops k w is in omega (arith, thread, past))
@@ -84,7 +85,9 @@ its_keeper : (actor k : ℕ) (o : Option Keeper) → among (keeper_actors actor 
 its_keeper actor k None its = absurd (true≢false (sym its))
 its_keeper actor k (Some keeper) its = elim (among_either actor k [] its) [ inl is ↦ sym is | inr none ↦ absurd (true≢false (sym none)) ]
 
-pub pair_within : (threads : ℕ) (ops : List Op) (i : ℕ) (o : Option Keeper) → suc i ≤ threads → is_active ops (suc i) ≡ true → (k : ℕ) → pair_in threads (suc i) o k ≡ true → owner_in threads ops k ≡ suc i
+-- The actors of a worker with an operation in the phase are all in its hands.
+pub pair_within : (threads : ℕ) (ops : List Op) (i : ℕ) (o : Option Keeper) → suc i ≤ threads → is_active ops (suc i) ≡ true → (k : ℕ)
+    → pair_in threads (suc i) o k ≡ true → owner_in threads ops k ≡ suc i
 pair_within threads ops i o most on k its =
     let own : owner_in threads ops (suc i) ≡ suc i = owner_of threads ops (suc i) (suc i) (own_thread threads (suc i) most) ∙ ap (λ (b : Bool). if b then suc i else 0) on in
     elim (among_either (suc i) k (keeper_actors (threads + suc i) o) its) [
@@ -96,6 +99,7 @@ pair_within threads ops i o most on k its =
 pub pair_has : (threads i : ℕ) (o : Option Keeper) → pair_in threads (suc i) o (suc i) ≡ true
 pair_has threads i o = first_among (suc i) (keeper_actors (threads + suc i) o)
 
+-- A worker's pair has the keeper behind its thread, or there is no keeper.
 pub pair_keeps : (threads i : ℕ) (o : Option Keeper) → (pair_in threads (suc i) o (threads + suc i) ≡ true) ⊎ (o ≡ None)
 pair_keeps threads i None = inr refl
 pair_keeps threads i (Some keeper) = inl (among_more (suc i) (threads + suc i) ((threads + suc i) ∷ []) (first_among (threads + suc i) []))
@@ -107,6 +111,7 @@ in_crew threads ops (suc i) is most =
     let off = (owned_by threads ops (suc i) (is_active ops (suc i)) refl (omega arith) most).0 is in
     among_more 0 (suc i) (idle_threads threads ops) (chosen_among (λ k. not (is_active ops k)) (suc i) 1 threads (ap not off) (omega arith) (omega (arith, most)))
 
+-- The actors of the scavenger's crew are all in its hands.
 pub crew_within : (threads : ℕ) (ops : List Op) (k : ℕ) → owner_in threads ops 0 ≡ 0 → crew_in (idle_threads threads ops) k ≡ true → owner_in threads ops k ≡ 0
 crew_within threads ops k none its = elim (among_either 0 k (idle_threads threads ops) its) [
   | inl is ↦ ap (λ (j : ℕ). owner_in threads ops j) (sym is) ∙ none

@@ -36,6 +36,7 @@ at_no_mark (MarksPhase n) So none = absurd none
 at_no_mark MarksClose So none = absurd none
 at_no_mark act So none = tt
 
+-- Acts without a mark stand at no mark of a phase, whatever the list.
 pub unmarked : (f : Profile) (acts : List Act) (p q : Progress) (is : Reaches f acts p q) (whole : Whole) → AreUnmarked acts → AreInPhases f acts p q is whole
 unmarked f [] p q is whole none = tt
 unmarked f (act ∷ acts) p q is whole none = (at_no_mark act (StandFirst p.list whole) none.0, unmarked f acts is.0 q is.2 whole none.1)
@@ -58,14 +59,17 @@ unmarked_ops : (idle : List ℕ) (ops : List Op) → AreUnmarked (acts_of_ops id
 unmarked_ops idle [] = tt
 unmarked_ops idle (op ∷ ops) = all_both HasNoMark (acts_of_work idle op (work_of op.what)) (acts_of_ops idle ops) (unmarked_work idle op (work_of op.what)) (unmarked_ops idle ops)
 
+-- The acts of one phase have no mark among them.
 pub phase_unmarked : (threads : ℕ) (ops : List Op) → AreUnmarked (phase_acts threads ops)
 phase_unmarked threads ops = all_both HasNoMark (map Wakes (active_threads threads ops)) (acts_of_ops (idle_threads threads ops) ops) (unmarked_each Wakes (λ k. tt) (active_threads threads ops)) (unmarked_ops (idle_threads threads ops) ops)
 
+-- The acts of the close behind its mark have none among them.
 pub close_unmarked : (threads keepers : ℕ) → AreUnmarked (map Ends (numbers_from 1 threads) ++ map Lowers (numbers_from (threads + 1) keepers))
 close_unmarked threads keepers = all_both HasNoMark (map Ends (numbers_from 1 threads)) (map Lowers (numbers_from (threads + 1) keepers)) (unmarked_each Ends (λ k. tt) (numbers_from 1 threads)) (unmarked_each Lowers (λ k. tt) (numbers_from (threads + 1) keepers))
 
 -- ---- acts after one another
-pub in_both : (f : Profile) (xs ys : List Act) (p q r : Progress) (one : Reaches f xs p q) (two : Reaches f ys q r) (whole : Whole) → AreInPhases f xs p q one whole → AreInPhases f ys q r two whole → AreInPhases f (xs ++ ys) p r (reach_both f xs ys p q r one two) whole
+pub in_both : (f : Profile) (xs ys : List Act) (p q r : Progress) (one : Reaches f xs p q) (two : Reaches f ys q r) (whole : Whole)
+    → AreInPhases f xs p q one whole → AreInPhases f ys q r two whole → AreInPhases f (xs ++ ys) p r (reach_both f xs ys p q r one two) whole
 in_both f [] ys p q r one two whole first second = (subst (λ (s : Progress). (is : Reaches f ys s r) × AreInPhases f ys s r is whole) one (two, second)).1
 in_both f (x ∷ xs) ys p q r one two whole first second = (first.0, in_both f xs ys one.0 q r one.2 two whole first.1 second)
 
@@ -84,18 +88,22 @@ none_first k (t ∷ since) l is = none_first k since l (none_more (t.actor == k)
 
 -- ---- all actors at rest
 -- where an actor has the same part it stands
-pub still_at : {region : SharedRegion} {k : ℕ} {l l' : Whole} {slot : Option SharedPass} → part k l' ≡ part k l → PassStands region k l slot → PassStands region k l' slot
+pub still_at : {region : SharedRegion} {k : ℕ} {l l' : Whole} {slot : Option SharedPass} → part k l' ≡ part k l → PassStands region k l slot
+    → PassStands region k l' slot
 still_at same at = record { pass = at.pass; present = at.present; of = at.of; actor = at.actor; made = at.made ∙ sym same }
 
 -- with this pass
-pub stands_with : {region : SharedRegion} {k : ℕ} {l : Whole} {slot : Option SharedPass} (pass : SharedPass) → slot ≡ Some pass → PassStands region k l slot → IsPassOf region pass × ((seat_of pass).actor ≡ k) × (view_of pass ≡ part k l)
+pub stands_with : {region : SharedRegion} {k : ℕ} {l : Whole} {slot : Option SharedPass} (pass : SharedPass) → slot ≡ Some pass → PassStands region k l slot
+    → IsPassOf region pass × ((seat_of pass).actor ≡ k) × (view_of pass ≡ part k l)
 stands_with {region} {k} {l} pass is at = subst (λ (x : SharedPass). IsPassOf region x × ((seat_of x).actor ≡ k) × (view_of x ≡ part k l)) (same_Some at.pass pass (sym at.present ∙ is)) (at.of, at.actor, at.made)
 
 -- a list that has the steps of an actor's pass has its part
-pub stands_so : {region : SharedRegion} {k : ℕ} {told : Whole} {slot : Option SharedPass} (l : Whole) (pass : SharedPass) → slot ≡ Some pass → PassStands region k told slot → StandsIn l pass → part k l ≡ part k told
+pub stands_so : {region : SharedRegion} {k : ℕ} {told : Whole} {slot : Option SharedPass} (l : Whole) (pass : SharedPass) → slot ≡ Some pass
+    → PassStands region k told slot → StandsIn l pass → part k l ≡ part k told
 stands_so l pass is at stands = let its = stands_with pass is at in ap (λ (n : ℕ). part n l) (sym its.1) ∙ stands ∙ its.2
 
-module _ {region : SharedRegion} {s : Session} {slot : Option SharedPass} {workers : List Worker} {told : Whole} (at : ActorsStand region s slot workers told) where
+module _ {region : SharedRegion} {s : Session} {slot : Option SharedPass} {workers : List Worker} {told : Whole} (at : ActorsStand region s slot workers told)
+    where
   -- all their passes are of the region
   pub thread_back : (i : ℕ) (d : Worker) → i < length workers → HasPass region (get_or workers i d).pass
   thread_back i d lt = let here = at.threads i d lt in record { pass = here.pass; present = here.present; of = here.of }
@@ -104,11 +112,13 @@ module _ {region : SharedRegion} {s : Session} {slot : Option SharedPass} {worke
   of_region None each = tt
   of_region (Some keeper) each = each keeper refl
 
+  -- The keeper of each worker has a pass of the region where all actors stand.
   pub keeper_back : (i : ℕ) (d : Worker) → i < length workers → IsKeeperOf region (get_or workers i d).keeper
   keeper_back i d lt = of_region (get_or workers i d).keeper (λ keeper is. (stands_with keeper.pass refl (at.keepers i d keeper lt is)).0)
 
   -- a list that has the steps of all passes has the part of each actor
-  module _ (l : Whole) (scavenger : (pass : SharedPass) → slot ≡ Some pass → StandsIn l pass) (threads : (i : ℕ) (d : Worker) (pass : SharedPass) → i < length workers → (get_or workers i d).pass ≡ Some pass → StandsIn l pass)
+  module _ (l : Whole) (scavenger : (pass : SharedPass) → slot ≡ Some pass → StandsIn l pass)
+      (threads : (i : ℕ) (d : Worker) (pass : SharedPass) → i < length workers → (get_or workers i d).pass ≡ Some pass → StandsIn l pass)
       (keepers : (i : ℕ) (d : Worker) (keeper : Keeper) → i < length workers → (get_or workers i d).keeper ≡ Some keeper → StandsIn l keeper.pass) where
     stand_thread : (i : ℕ) → i < s.threads → part (suc i) l ≡ part (suc i) told
     stand_thread i lt =
@@ -125,6 +135,7 @@ module _ {region : SharedRegion} {s : Session} {slot : Option SharedPass} {worke
         let has = all.1 j w below in
         stands_so l has.0.pass refl (at.keepers j w has.0 below has.1) (keepers j w has.0 below has.1)
 
+    -- A list in which each pass stands has of all actors what is told of them.
     pub all_stand : StandSo s l told
     all_stand zero le = stands_so l at.scavenger.pass at.scavenger.present at.scavenger (scavenger at.scavenger.pass at.scavenger.present)
     all_stand (suc i) le = elim (cases_lt i s.threads) [
@@ -135,7 +146,8 @@ module _ {region : SharedRegion} {s : Session} {slot : Option SharedPass} {worke
     ]
 
 -- a team at rest stands so
-pub team_stands : {region : SharedRegion} {s : Session} {phases : List (List Op)} {team : Team} {p : Progress} → TeamAt region s phases team p → ActorsStand region s team.scavenger.pass team.threads.items p.list
+pub team_stands : {region : SharedRegion} {s : Session} {phases : List (List Op)} {team : Team} {p : Progress} → TeamAt region s phases team p
+    → ActorsStand region s team.scavenger.pass team.threads.items p.list
 team_stands {region} {s} {phases} {team} {p} at = record {
   many = at.many;
   guarded = at.guarded;
@@ -150,7 +162,8 @@ team_stands {region} {s} {phases} {team} {p} at = record {
 }
 
 -- they are the first steps of each list of these actors that begins with it
-pub stand_first : {region : SharedRegion} {s : Session} {phases : List (List Op)} {team : Team} {p : Progress} → TeamAt region s phases team p → (l whole : Whole) → StandSo s l p.list
+pub stand_first : {region : SharedRegion} {s : Session} {phases : List (List Op)} {team : Team} {p : Progress} → TeamAt region s phases team p
+    → (l whole : Whole) → StandSo s l p.list
     → IsEarlier l whole → IsOfActors s whole → StandFirst p.list whole
 stand_first {region} {s} {phases} {team} {p} at l whole stands first of = record {
   since = first.0;

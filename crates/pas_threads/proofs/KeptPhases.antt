@@ -32,21 +32,25 @@ alike_itself : (o : Option Keeper) → AreAlike o o
 alike_itself None = tt
 alike_itself (Some keeper) = tt
 
+-- Keepers of which one is the other with more said are alike: both or neither is there.
 pub alike_pushed : (k : ℕ) (said : List Record) (old new : Option Keeper) → KeptPushed k said (kept_by_worker old) (kept_by_worker new) → AreAlike old new
 alike_pushed k said None None pushed = tt
 alike_pushed k said None (Some new) pushed = pushed
 alike_pushed k said (Some old) None pushed = pushed
 alike_pushed k said (Some old) (Some new) pushed = tt
 
+-- Keepers of which one is the other after it was gathered are alike.
 pub alike_said : (old new : Option Keeper) → HasSaid old new → AreAlike old new
 alike_said None None said = tt
 alike_said None (Some new) said = said
 alike_said (Some old) None said = said
 alike_said (Some old) (Some new) said = tt
 
+-- A keeper that is as it was is alike to itself.
 pub alike_same : (old new : Option Keeper) → new ≡ old → AreAlike old new
 alike_same old new same = subst (λ (o : Option Keeper). AreAlike old o) (sym same) (alike_itself old)
 
+-- Keepers that are alike to the same one are alike.
 pub alike_both : (a b c : Option Keeper) → AreAlike a b → AreAlike b c → AreAlike a c
 alike_both None None None one two = tt
 alike_both None None (Some c) one two = two
@@ -65,12 +69,15 @@ none_alike None None alike none = refl
 none_alike None (Some new) alike none = absurd alike
 none_alike (Some old) new alike none = absurd (let bad : Some old ≡ None = none in cc)
 
-pub guarded_alike : {keepers : ℕ} (old new : List Worker) → length new ≡ length old → ((i : ℕ) (d : Worker) → i < length old → AreAlike (get_or old i d).keeper (get_or new i d).keeper) → AreGuarded keepers old → AreGuarded keepers new
+-- Workers whose keepers are alike are guarded where the others were.
+pub guarded_alike : {keepers : ℕ} (old new : List Worker) → length new ≡ length old
+    → ((i : ℕ) (d : Worker) → i < length old → AreAlike (get_or old i d).keeper (get_or new i d).keeper) → AreGuarded keepers old → AreGuarded keepers new
 guarded_alike old new many alike (inl all) = inl (all.0 ∙ sym many, λ i d lt. let here : i < length old = omega (arith, lt, many) in has_alike (get_or old i d).keeper (get_or new i d).keeper (alike i d here) (all.1 i d here))
 guarded_alike old new many alike (inr none) = inr (none.0, λ i d lt. let here : i < length old = omega (arith, lt, many) in none_alike (get_or old i d).keeper (get_or new i d).keeper (alike i d here) (none.1 i d here))
 
 -- ---- what it said in all
-pub said_then : (k : ℕ) (said : List Record) (old new : Option Keeper) → KeptPushed k said (kept_by_worker old) (kept_by_worker new) → IsSilent old → said_by_keeper new ≡ records_by k said
+pub said_then : (k : ℕ) (said : List Record) (old new : Option Keeper) → KeptPushed k said (kept_by_worker old) (kept_by_worker new) → IsSilent old
+    → said_by_keeper new ≡ records_by k said
 said_then k said None None pushed silent = sym pushed
 said_then k said None (Some new) pushed silent = absurd pushed
 said_then k said (Some old) None pushed silent = absurd pushed
@@ -83,17 +90,20 @@ will_gathered k ys (Some old) None said will = absurd said
 will_gathered k ys (Some old) (Some new) said will = will
 
 -- ---- before the phase: it waits for the requests of the phase, with room for the others
-pub kept_waits : {region : SharedRegion} {f : Profile} {keeper : ℕ} (k : ℕ) (ops left : List Op) (o : Option Keeper) {p : Progress} → KeeperRests region f keeper (own_acts k (ops ++ left)) o p
+pub kept_waits : {region : SharedRegion} {f : Profile} {keeper : ℕ} (k : ℕ) (ops left : List Op) (o : Option Keeper) {p : Progress}
+    → KeeperRests region f keeper (own_acts k (ops ++ left)) o p
     → KeeperWaits f keeper (own_acts k ops) (kept_by_worker o) (for_guards (own_acts k left) no_more) p
 kept_waits {f = f} {keeper} k ops left o {p} rests =
     waits_front f keeper (own_acts k ops) (own_acts k left) (kept_by_worker o) no_more p (subst (λ (acts : List Act). KeeperWaits f keeper acts (kept_by_worker o) no_more p) (own_acts_both k ops left) rests.waits)
 
-kept_will : {region : SharedRegion} {f : Profile} {keeper : ℕ} (k : ℕ) (ops left : List Op) (o : Option Keeper) {p : Progress} → KeeperRests region f keeper (own_acts k (ops ++ left)) o p → WillWait keeper (own_acts k left) (kept_by_worker o)
+kept_will : {region : SharedRegion} {f : Profile} {keeper : ℕ} (k : ℕ) (ops left : List Op) (o : Option Keeper) {p : Progress}
+    → KeeperRests region f keeper (own_acts k (ops ++ left)) o p → WillWait keeper (own_acts k left) (kept_by_worker o)
 kept_will {f = f} {keeper} k ops left o {p} rests =
     will_wait f keeper (own_acts k ops) (own_acts k left) (kept_by_worker o) no_more p (subst (λ (acts : List Act). KeeperWaits f keeper acts (kept_by_worker o) no_more p) (own_acts_both k ops left) rests.waits)
 
 -- .. at another progress at which it has the same in hand
-pub kept_still : {region : SharedRegion} {f : Profile} {keeper : ℕ} {acts : List Act} {old new : Option Keeper} {p q : Progress} → new ≡ old → part keeper q.list ≡ part keeper p.list → q.books keeper ≡ p.books keeper
+pub kept_still : {region : SharedRegion} {f : Profile} {keeper : ℕ} {acts : List Act} {old new : Option Keeper} {p q : Progress} → new ≡ old
+    → part keeper q.list ≡ part keeper p.list → q.books keeper ≡ p.books keeper
     → KeeperRests region f keeper acts old p → KeeperRests region f keeper acts new q
 kept_still {region} {f} {keeper} {acts} {old} {new} {p} {q} same parts books rests = subst (λ (o : Option Keeper). KeeperRests region f keeper acts o q) (sym same) record {
   of = rests.of;
@@ -102,12 +112,14 @@ kept_still {region} {f} {keeper} {acts} {old} {new} {p} {q} same parts books res
 }
 
 -- ---- after the phase
-module _ {region : SharedRegion} {r : Round} {k : ℕ} {old new : Worker} {said : List Record} {own : Progress} (left : List Op) (reached : Progress) (rests : KeeperRests region r.profile (r.threads + k) (own_acts k (r.ops ++ left)) old.keeper r.start)
+module _ {region : SharedRegion} {r : Round} {k : ℕ} {old new : Worker} {said : List Record} {own : Progress} (left : List Op) (reached : Progress)
+    (rests : KeeperRests region r.profile (r.threads + k) (own_acts k (r.ops ++ left)) old.keeper r.start)
     (done : ThreadDone region r k old new said own) (parts : part (r.threads + k) own.list ≡ part (r.threads + k) reached.list) (books : own.books (r.threads + k) ≡ reached.books (r.threads + k))
     (more : r.more k ≡ for_guards (own_acts k left) no_more) where
   abbrev keeper : ℕ
   keeper = r.threads + k
 
+  -- What a worker's keeper said in the phase are its own records of what was said.
   pub kept_said : said_by_keeper new.keeper ≡ records_by keeper said
   kept_said = said_then keeper said old.keeper new.keeper done.kept_told rests.silent
 
@@ -116,6 +128,7 @@ module _ {region : SharedRegion} {r : Round} {k : ℕ} {old new : Worker} {said 
     abbrev last : HasSaid new.keeper emptied.keeper
     last = subst (λ (o : Option Keeper). HasSaid new.keeper o) (sym e.keeper) (subst (λ (o : Option Keeper). HasSaid o kept.keeper) g.keeper h.keeper)
 
+    -- After a phase and its gathering a keeper rests with room for the guarded requests left.
     pub kept_rests : KeeperRests region r.profile keeper (own_acts k left) emptied.keeper reached
     kept_rests = record {
       of = of_gathered region new.keeper emptied.keeper last done.of;
@@ -126,9 +139,11 @@ module _ {region : SharedRegion} {r : Round} {k : ℕ} {old new : Worker} {said 
       silent = silent_gathered new.keeper emptied.keeper last;
     }
 
+    -- After a phase and its gathering a worker has a keeper exactly where it had one.
     pub kept_alike : AreAlike old.keeper emptied.keeper
     kept_alike = alike_both old.keeper new.keeper emptied.keeper (alike_pushed keeper said old.keeper new.keeper done.kept_told) (alike_said new.keeper emptied.keeper last)
 
+    -- After the gathering a keeper owes what it owed at the end of the phase.
     pub kept_owes : owed_kept r.profile keeper emptied.keeper reached ≡ owed_kept r.profile keeper new.keeper reached
     kept_owes = owed_gathered r.profile keeper new.keeper emptied.keeper reached last
 
@@ -137,7 +152,8 @@ pushed_nothing k said NoKeeper pushed = pushed
 pushed_nothing k said (OneKeeper new) pushed = absurd pushed
 
 -- where there is no keeper, that actor took no part
-pub kept_nobody : {region : SharedRegion} {r : Round} {k : ℕ} {old new : Worker} {said : List Record} {own : Progress} → ThreadDone region r k old new said own → old.keeper ≡ None → (part (r.threads + k) own.list ≡ part (r.threads + k) r.start.list) × (records_by (r.threads + k) said ≡ [])
+pub kept_nobody : {region : SharedRegion} {r : Round} {k : ℕ} {old new : Worker} {said : List Record} {own : Progress} → ThreadDone region r k old new said own
+    → old.keeper ≡ None → (part (r.threads + k) own.list ≡ part (r.threads + k) r.start.list) × (records_by (r.threads + k) said ≡ [])
 kept_nobody {r = r} {k} {old} {new} {said} {own} done none = (
   subst (λ (o : Option Keeper). KeptStill (r.threads + k) (kept_by_worker o) r.start own) none done.still,
   pushed_nothing (r.threads + k) said (kept_by_worker new.keeper) (subst (λ (o : Option Keeper). KeptPushed (r.threads + k) said (kept_by_worker o) (kept_by_worker new.keeper)) none done.kept_told),

@@ -30,7 +30,8 @@ two_least size = elim (cases_lt 2048 size) [
   | inr within ↦ let cost = small_cost size within in omega (arith, cost)
 ]
 
-paid_one : (t : Bool) (what : What) (guards events : ℕ) → 2 * guards ≤ events → 2 * ((if t then one_guarded (keeper_in what) else 0) + guards) ≤ (if t then kept_of_work (work_of what) else 0) + events
+paid_one : (t : Bool) (what : What) (guards events : ℕ) → 2 * guards ≤ events
+    → 2 * ((if t then one_guarded (keeper_in what) else 0) + guards) ≤ (if t then kept_of_work (work_of what) else 0) + events
 paid_one true (What.Guarded keeper name heap size align) guards events le = let cost = two_least size in omega (arith, cost, le)
 paid_one true what guards events le = omega (arith, le)
 paid_one false what guards events le = omega (arith, le)
@@ -52,7 +53,8 @@ guards_said f k [] = omega arith
 guards_said f k (op ∷ ops) = said_one f (op.actor == k) op.what (guarded_of k ops) (kept_records k ops) (records_of_ops f ops) (guards_said f k ops)
 
 -- so twice its bound suffices for it, and where that can't be counted in 32 bits, what can be counted does
-pub keeper_room : {text : List ℕ} {plan : Plan} (i room : ℕ) → IsPlanOf text plan → i < keepers_of plan → plan.total < 2 ^ 32 → room ≡ min (slice_index (bounds_of plan.bounds) (threads_of plan + suc i) * 2) (2 ^ 32 - 1)
+pub keeper_room : {text : List ℕ} {plan : Plan} (i room : ℕ) → IsPlanOf text plan → i < keepers_of plan → plan.total < 2 ^ 32
+    → room ≡ min (slice_index (bounds_of plan.bounds) (threads_of plan + suc i) * 2) (2 ^ 32 - 1)
     → slice_index (bounds_of plan.bounds) (threads_of plan + suc i) + 2 * guarded_of (suc i) (operations_of plan) ≤ room
 keeper_room {text} {plan} i room read lt few is =
     let sound = every_plan read in
@@ -83,7 +85,9 @@ rooms_more plan room after n x is many enough have i lt = subst (λ (rs : List �
 ])
 
 -- ---- their passes and books
-pub keepers_more : (bounds : List ℕ) (i n : ℕ) (passes : List SharedPass) (books : List GuardBook) (keepers : List Keeper) (pass : SharedPass) (book : GuardBook) (keeper : Keeper) → AreKeepers bounds i passes books keepers → n ≡ i + length keepers
+pub keepers_more : (bounds : List ℕ) (i n : ℕ) (passes : List SharedPass) (books : List GuardBook) (keepers : List Keeper) (pass : SharedPass)
+      (book : GuardBook) (keeper : Keeper)
+    → AreKeepers bounds i passes books keepers → n ≡ i + length keepers
     → IsKeeperWith pass book (slice_index bounds n) keeper → AreKeepers bounds i (passes ++ pass ∷ []) (books ++ book ∷ []) (keepers ++ keeper ∷ [])
 keepers_more bounds i n [] [] [] pass book keeper are at new = (subst (λ (m : ℕ). IsKeeperWith pass book (slice_index bounds m) keeper) (omega (arith, at)) new, tt)
 keepers_more bounds i n [] [] (k ∷ keepers) pass book keeper are at new = absurd are
@@ -92,7 +96,9 @@ keepers_more bounds i n (p ∷ passes) [] keepers pass book keeper are at new = 
 keepers_more bounds i n (p ∷ passes) (b ∷ books) [] pass book keeper are at new = absurd are
 keepers_more bounds i n (p ∷ passes) (b ∷ books) (k ∷ keepers) pass book keeper are at new = (are.0, keepers_more bounds (i + 1) n passes books keepers pass book keeper are.1 (omega (arith, at)) new)
 
-pub keepers_many : (bounds : List ℕ) (i : ℕ) (passes : List SharedPass) (books : List GuardBook) (keepers : List Keeper) → AreKeepers bounds i passes books keepers → length keepers ≡ length passes
+-- There are as many keepers as passes for them.
+pub keepers_many : (bounds : List ℕ) (i : ℕ) (passes : List SharedPass) (books : List GuardBook) (keepers : List Keeper)
+    → AreKeepers bounds i passes books keepers → length keepers ≡ length passes
 keepers_many bounds i [] [] [] are = refl
 keepers_many bounds i [] [] (k ∷ keepers) are = absurd are
 keepers_many bounds i [] (b ∷ books) keepers are = absurd are
@@ -100,7 +106,9 @@ keepers_many bounds i (p ∷ passes) [] keepers are = absurd are
 keepers_many bounds i (p ∷ passes) (b ∷ books) [] are = absurd are
 keepers_many bounds i (p ∷ passes) (b ∷ books) (k ∷ keepers) are = ap suc (keepers_many bounds (i + 1) passes books keepers are.1)
 
-keeper_with : (bounds : List ℕ) (i : ℕ) (passes : List SharedPass) (books : List GuardBook) (keepers : List Keeper) (j : ℕ) (p : SharedPass) (b : GuardBook) (k : Keeper) → AreKeepers bounds i passes books keepers → j < length passes
+keeper_with : (bounds : List ℕ) (i : ℕ) (passes : List SharedPass) (books : List GuardBook) (keepers : List Keeper) (j : ℕ) (p : SharedPass) (b : GuardBook)
+      (k : Keeper)
+    → AreKeepers bounds i passes books keepers → j < length passes
     → IsKeeperWith (get_or passes j p) (get_or books j b) (slice_index bounds (i + j)) (get_or keepers j k)
 keeper_with bounds i [] books keepers j p b k are lt = absurd (let bad : j < 0 = lt in omega (arith, bad))
 keeper_with bounds i (pass ∷ passes) [] keepers j p b k are lt = absurd are
@@ -121,7 +129,9 @@ equipped_but pass bound old new but has = record {
   records = subst (λ (r : Records). bound ≤ room_of r) (sym but.out) has.records;
 }
 
-equipped_still : (bounds : List ℕ) (k : ℕ) (passes : List SharedPass) (old new : List Worker) → length new ≡ length old → ((i : ℕ) (d : Worker) → i < length old → IsButKeeper (get_or old i d) (get_or new i d)) → AreEquipped bounds k passes old → AreEquipped bounds k passes new
+equipped_still : (bounds : List ℕ) (k : ℕ) (passes : List SharedPass) (old new : List Worker) → length new ≡ length old
+    → ((i : ℕ) (d : Worker) → i < length old → IsButKeeper (get_or old i d) (get_or new i d)) → AreEquipped bounds k passes old
+    → AreEquipped bounds k passes new
 equipped_still bounds k [] [] [] many but are = tt
 equipped_still bounds k [] [] (w ∷ new) many but are = absurd (let bad : suc (length new) ≡ 0 = many in omega (arith, bad))
 equipped_still bounds k [] (v ∷ old) new many but are = absurd are
@@ -158,11 +168,14 @@ but_keepers {old} {new} {keepers} are i d = elim (cases_lt i (length keepers)) [
   | inr ge ↦ but_same (get_or old i d) (get_or new i d) (are.others i d ge)
 ]
 
-pub equipped_with : (bounds : List ℕ) (k : ℕ) (passes : List SharedPass) {old new : List Worker} {keepers : List Keeper} → AreGiven old new keepers → AreEquipped bounds k passes old → AreEquipped bounds k passes new
+-- Workers that were given keepers are equipped as they were before.
+pub equipped_with : (bounds : List ℕ) (k : ℕ) (passes : List SharedPass) {old new : List Worker} {keepers : List Keeper} → AreGiven old new keepers
+    → AreEquipped bounds k passes old → AreEquipped bounds k passes new
 equipped_with bounds k passes {old} {new} {keepers} are have = equipped_still bounds k passes old new are.many (λ i d lt. but_keepers are i d) have
 
 -- all workers of a guarded plan have a keeper, and none of another one
-guarded_so : (plan : Plan) {old new : List Worker} {keepers : List Keeper} → AreGiven old new keepers → length keepers ≡ keepers_of plan → length old ≡ threads_of plan → All IsAlone old → AreGuarded (keepers_of plan) new
+guarded_so : (plan : Plan) {old new : List Worker} {keepers : List Keeper} → AreGiven old new keepers → length keepers ≡ keepers_of plan
+    → length old ≡ threads_of plan → All IsAlone old → AreGuarded (keepers_of plan) new
 guarded_so plan {old} {new} {keepers} are count threads alone =
     elim (cases_eq plan.guard 0) [
       | inl is ↦
@@ -179,7 +192,9 @@ guarded_so plan {old} {new} {keepers} are count threads alone =
           )
     ]
 
-pub have_keepers : (plan : Plan) (kept : List SharedPass) (books : List GuardBook) {old new : List Worker} {keepers : List Keeper} (room : List ℕ) → AreGiven old new keepers → AreKeepers room 0 kept books keepers → AreBooks plan books → length kept ≡ keepers_of plan
+-- The workers of a guarded plan have the keepers of the plan, each with its pass, its empty book and room.
+pub have_keepers : (plan : Plan) (kept : List SharedPass) (books : List GuardBook) {old new : List Worker} {keepers : List Keeper} (room : List ℕ)
+    → AreGiven old new keepers → AreKeepers room 0 kept books keepers → AreBooks plan books → length kept ≡ keepers_of plan
     → length old ≡ threads_of plan → All IsAlone old → ((i : ℕ) → i < keepers_of plan → HasRoomForKeeper plan room i) → HaveKeepers plan kept new
 have_keepers plan kept books {old} {new} {keepers} room are having made size threads alone enough =
     let same = keepers_many room 0 kept books keepers having in
@@ -215,12 +230,14 @@ alone_at [] i d alone lt = absurd (let bad : i < 0 = lt in omega (arith, bad))
 alone_at (w ∷ workers) zero d alone lt = alone.0
 alone_at (w ∷ workers) (suc i) d alone lt = alone_at workers i d alone.1 (omega (arith, lt))
 
+-- Workers each of which has no keeper are all alone.
 pub all_alone : (workers : List Worker) → AllByRecursion IsAlone workers → All IsAlone workers
 all_alone workers alone = λ i d lt. alone_at workers i d alone lt
 
 -- ---- giving them
 -- with one worker more that has its keeper
-pub first_given : (old now : List Worker) (keepers given rest : List Keeper) (place : ℕ) (w : Worker) (keeper : Keeper) → given ++ keeper ∷ rest ≡ keepers → length given ≡ place → place < length now
+pub first_given : (old now : List Worker) (keepers given rest : List Keeper) (place : ℕ) (w : Worker) (keeper : Keeper) → given ++ keeper ∷ rest ≡ keepers
+    → length given ≡ place → place < length now
     → ((d : Worker) → w ≡ with_keeper (get_or now place d) (Some keeper)) → ((d : Worker) → get_or now place d ≡ get_or old place d)
     → ((i : ℕ) (d : Worker) (e : Keeper) → i < place → get_or now i d ≡ with_keeper (get_or old i d) (Some (get_or keepers i e)))
     → (i : ℕ) (d : Worker) (e : Keeper) → i < place + 1 → get_or (set now place w) i d ≡ with_keeper (get_or old i d) (Some (get_or keepers i e))

@@ -30,12 +30,16 @@ use Rattle.pas_acts.proofs.{Noting.asks, Noting.asks_more, NamesBefore.sound_fro
 
 -- ---- all workers, one after the other
 -- a request of these has the name, and what it came to is the same whatever else is said; or none has it
-either_if : (t : Bool) (b : Option Block) (s : Bool) (o : Option (Option Block)) → ((s ≡ true) × ((x y : Option Block) → came_to o x ≡ came_to o y)) ⊎ ((s ≡ false) × (o ≡ None))
-    → ((t || s ≡ true) × ((x y : Option Block) → came_to (if t then Some b else o) x ≡ came_to (if t then Some b else o) y)) ⊎ ((t || s ≡ false) × ((if t then Some b else o) ≡ None))
+either_if : (t : Bool) (b : Option Block) (s : Bool) (o : Option (Option Block))
+    → ((s ≡ true) × ((x y : Option Block) → came_to o x ≡ came_to o y)) ⊎ ((s ≡ false) × (o ≡ None))
+    → ((t || s ≡ true) × ((x y : Option Block) → came_to (if t then Some b else o) x ≡ came_to (if t then Some b else o) y))
+      ⊎ ((t || s ≡ false) × ((if t then Some b else o) ≡ None))
 either_if true b s o rest = inl (refl, λ x y. refl)
 either_if false b s o rest = rest
 
-has_or_not : (rs : List Named) (n : ℕ) → ((is_asked (names_of rs) n ≡ true) × ((x y : Option Block) → came_to (standing_for rs n) x ≡ came_to (standing_for rs n) y)) ⊎ ((is_asked (names_of rs) n ≡ false) × (standing_for rs n ≡ None))
+has_or_not : (rs : List Named) (n : ℕ)
+    → ((is_asked (names_of rs) n ≡ true) × ((x y : Option Block) → came_to (standing_for rs n) x ≡ came_to (standing_for rs n) y))
+      ⊎ ((is_asked (names_of rs) n ≡ false) × (standing_for rs n ≡ None))
 has_or_not [] n = inr (refl, refl)
 has_or_not (r ∷ rs) n = either_if (r.name == n) r.block (is_asked (names_of rs) n) (standing_for rs n) (has_or_not rs n)
 
@@ -45,7 +49,9 @@ TakenUpTo before after workers many n =
     ((i : ℕ) × (i < many) × ((d : Worker) → HasRequest (get_or workers i d) n × (block_named after.names n ≡ known_in before (get_or workers i d).requests n)))
     ⊎ (((i : ℕ) (d : Worker) → i < many → HasRequest (get_or workers i d) n → ⊥) × (block_named after.names n ≡ block_named before.names n))
 
-pub taken_more : (before now after : NameBook) (workers : List Worker) (i n : ℕ) (w : Worker) → i < length workers → ((d : Worker) → w ≡ get_or workers i d) → block_named after.names n ≡ known_in now w.requests n
+-- A name of one worker's requests that the book took is taken of one worker more.
+pub taken_more : (before now after : NameBook) (workers : List Worker) (i n : ℕ) (w : Worker) → i < length workers → ((d : Worker) → w ≡ get_or workers i d)
+    → block_named after.names n ≡ known_in now w.requests n
     → TakenUpTo before now workers i n → TakenUpTo before after workers (i + 1) n
 taken_more before now after workers i n w lt is takes so = elim (has_or_not (requests_in w.requests) n) [
   | inl has ↦ inl (
@@ -71,8 +77,11 @@ taken_more before now after workers i n w lt is takes so = elim (has_or_not (req
 abbrev pub with_requests : Worker → Requests → Worker
 with_requests w rs = record { pass = w.pass; cache = w.cache; requests = rs; out = w.out; keeper = w.keeper; member = w.member; bench = w.bench }
 
-pub emptied_more : (old now : List Worker) (i : ℕ) (e : Worker) (rs : Requests) → i < length now → get_or now i e ≡ get_or old i e → i < length old → requests_in rs ≡ [] → room_for rs ≡ room_for (get_or now i e).requests
-    → ((j : ℕ) (d : Worker) → j < i → IsEmptied (get_or old j d) (get_or now j d)) → (j : ℕ) (d : Worker) → j < i + 1 → IsEmptied (get_or old j d) (get_or (set now i (with_requests (get_or now i e) rs)) j d)
+-- The worker whose requests were taken is emptied, as those before it.
+pub emptied_more : (old now : List Worker) (i : ℕ) (e : Worker) (rs : Requests) → i < length now → get_or now i e ≡ get_or old i e → i < length old
+    → requests_in rs ≡ [] → room_for rs ≡ room_for (get_or now i e).requests
+    → ((j : ℕ) (d : Worker) → j < i → IsEmptied (get_or old j d) (get_or now j d)) → (j : ℕ) (d : Worker) → j < i + 1
+    → IsEmptied (get_or old j d) (get_or (set now i (with_requests (get_or now i e) rs)) j d)
 emptied_more old now i e rs lt left lt' none room so j d low =
     let was = left ∙ get_or_default old i e d lt' in
     set_each (λ (m : ℕ) (w : Worker). IsEmptied (get_or old m d) w) now i (with_requests (get_or now i e) rs) d j lt
@@ -98,14 +107,16 @@ kept_acts [] asked n is = is
 kept_acts (act ∷ acts) asked n is = kept_acts acts (asked_after_act act asked) n (kept_after (operation_in act) asked n is)
 
 -- the names that acts ask for were asked for after them
-new_with : (request : Option Request) (asked ns : List ℕ) (n : ℕ) → is_asked (asked_with request [] ++ ns) n ≡ true → (is_asked (asked_with request asked) n ≡ true) ⊎ (is_asked ns n ≡ true)
+new_with : (request : Option Request) (asked ns : List ℕ) (n : ℕ) → is_asked (asked_with request [] ++ ns) n ≡ true
+    → (is_asked (asked_with request asked) n ≡ true) ⊎ (is_asked ns n ≡ true)
 new_with None asked ns n is = inr is
 new_with (Some r) asked ns n is = elim (or_cases (r.name == n) (is_asked ns n) is) [
   | inl here ↦ inl (ap (λ (t : Bool). t || is_asked asked n) here)
   | inr later ↦ inr later
 ]
 
-new_after : (o : Option Op) (asked ns : List ℕ) (n : ℕ) → is_asked (asked_after_operation o [] ++ ns) n ≡ true → (is_asked (asked_after_operation o asked) n ≡ true) ⊎ (is_asked ns n ≡ true)
+new_after : (o : Option Op) (asked ns : List ℕ) (n : ℕ) → is_asked (asked_after_operation o [] ++ ns) n ≡ true
+    → (is_asked (asked_after_operation o asked) n ≡ true) ⊎ (is_asked ns n ≡ true)
 new_after None asked ns n is = inr is
 new_after (Some op) asked ns n is = new_with (request_in op.what) asked ns n is
 
@@ -135,7 +146,8 @@ operation_kept : (o : Option ℕ) (op : Op) → operation_in (act_kept o op) ≡
 operation_kept None op = refl
 operation_kept (Some keeper) op = refl
 
-after_work : (idle : List ℕ) (op : Op) (work : Work) (asked : List ℕ) → work_of op.what ≡ work → asked_after_acts (acts_of_work idle op work) asked ≡ asked_with (of_task request_of work) asked
+after_work : (idle : List ℕ) (op : Op) (work : Work) (asked : List ℕ) → work_of op.what ≡ work
+    → asked_after_acts (acts_of_work idle op work) asked ≡ asked_with (of_task request_of work) asked
 after_work idle op (Work.Own task) asked is = ap (λ (o : Option Op). asked_after_operation o asked) (operation_kept (keeper_of task) op) ∙ ap (λ (w : Work). asked_with (of_task request_of w) asked) is
 after_work idle op (Work.Chore chore) asked is = after_chore idle chore asked
 
@@ -183,7 +195,8 @@ back_asked : (ms ns : List ℕ) (n : ℕ) → is_asked ns n ≡ true → is_aske
 back_asked [] ns n is = is
 back_asked (m ∷ ms) ns n is = or_right (m == n) (is_asked (ms ++ ns) n) (back_asked ms ns n is)
 
-none_ask : (f : Profile) (n : ℕ) (idle asked : List ℕ) (ops : List Op) → AreSound f asked ops → ((k : ℕ) → 1 ≤ k → is_asked (asks k ops) n ≡ true → ⊥) → NoneAsks n (acts_of_ops idle ops)
+none_ask : (f : Profile) (n : ℕ) (idle asked : List ℕ) (ops : List Op) → AreSound f asked ops → ((k : ℕ) → 1 ≤ k → is_asked (asks k ops) n ≡ true → ⊥)
+    → NoneAsks n (acts_of_ops idle ops)
 none_ask f n idle asked [] sound none = tt
 none_ask f n idle asked (op ∷ ops) sound none =
     let first = λ (k : ℕ). if op.actor == k then name_asked op.what else [] in
@@ -205,7 +218,8 @@ active_asks k [] n is = absurd (false≢true is)
 active_asks k (op ∷ ops) n is = active_if (op.actor == k) (is_active ops k) (name_asked op.what) (asks k ops) n (active_asks k ops n) (ap (λ (ns : List ℕ). is_asked ns n) (sym (asks_more k op ops)) ∙ is)
 
 -- ---- what a worker hands over
-pub hands_over : {f : Profile} {phase : List Op} {book : NameBook} {k keeper : ℕ} {σ σ' : Standing} {kept kept' : Keeping} {later : Later} {more : LaterKept} {p : Progress} (old new : Worker) (names : List Named)
+pub hands_over : {f : Profile} {phase : List Op} {book : NameBook} {k keeper : ℕ} {σ σ' : Standing} {kept kept' : Keeping} {later : Later} {more : LaterKept}
+    {p : Progress} (old new : Worker) (names : List Named)
     → (did : PairWorks f k keeper (own_acts k phase) [] σ σ' (kept_by book old) (kept_by book new) kept kept' later more p)
     → requests_in old.requests ≡ [] → AreAmong did.reached.names names → HandsOver f phase book k new names
 hands_over {f} {phase} {book} {k} {p = p} old new names did none among =
@@ -221,20 +235,23 @@ hands_over {f} {phase} {book} {k} {p = p} old new names did none among =
     }
 
 -- a worker with no operation in the phase hands over nothing
-pub hands_nothing : {f : Profile} {phase : List Op} {book : NameBook} {k : ℕ} (worker : Worker) (names : List Named) → requests_in worker.requests ≡ [] → own_acts k phase ≡ [] → HandsOver f phase book k worker names
+pub hands_nothing : {f : Profile} {phase : List Op} {book : NameBook} {k : ℕ} (worker : Worker) (names : List Named) → requests_in worker.requests ≡ []
+    → own_acts k phase ≡ [] → HandsOver f phase book k worker names
 hands_nothing {f} {phase} {book} {k} worker names none idle = record {
   noted = ap names_of none ∙ ap names_asked (sym idle);
   says = λ n has. absurd (false≢true (ap (λ (rs : List Named). is_asked (names_of rs) n) (sym none) ∙ has));
 }
 
 -- the names of its requests are below the limit
-within_if : (t : Bool) (limit : ℕ) (what : What) (ns : List ℕ) → IsBelow limit what → AreWithin limit ns → AreWithin limit ((if t then name_asked what else []) ++ ns)
+within_if : (t : Bool) (limit : ℕ) (what : What) (ns : List ℕ) → IsBelow limit what → AreWithin limit ns
+    → AreWithin limit ((if t then name_asked what else []) ++ ns)
 within_if true limit (Alloc name heap size align) ns below within = (below, within)
 within_if true limit (Guarded keeper name heap size align) ns below within = (below, within)
 within_if true limit (Remake name old heap size align) ns below within = (below, within)
 within_if true limit what ns below within = within
 within_if false limit what ns below within = within
 
+-- The names for which a thread asks in a phase are below the bound of all names of the phase.
 pub names_within : (limit k : ℕ) (phase : List Op) → AreBelow limit phase → AreWithin limit (names_asked (own_acts k phase))
 names_within limit k [] below = tt
 names_within limit k (op ∷ ops) below = subst (AreWithin limit) (sym (asks_more k op ops)) (within_if (op.actor == k) limit op.what (asks k ops) below.0 (names_within limit k ops below.1))
@@ -242,7 +259,8 @@ names_within limit k (op ∷ ops) below = subst (AreWithin limit) (sym (asks_mor
 -- ---- after a phase
 
 -- Each worker handed over, and each thread with an operation in the phase has one.
-module _ {f : Profile} {book : NameBook} {p q : Progress} {own : ℕ → Progress} (threads : ℕ) (phase rest : List Op) (book1 book2 : NameBook) (numbers : List ℕ) (workers : List Worker) (at : NamesAt f (phase ++ rest) book p) (are : q.names ≡ p.names)
+module _ {f : Profile} {book : NameBook} {p q : Progress} {own : ℕ → Progress} (threads : ℕ) (phase rest : List Op) (book1 book2 : NameBook) (numbers : List ℕ)
+    (workers : List Worker) (at : NamesAt f (phase ++ rest) book p) (are : q.names ≡ p.names)
     (woven : IsWoven f (owner_in threads phase) (acts_of_ops (idle_threads threads phase) phase) at.asked q own) (noted : book1.names ≡ book.names)
     (each : (i : ℕ) (d : Worker) → i < length workers → HandsOver f phase book1 (get_or numbers i 0) (get_or workers i d) woven.reached.names)
     (all : (k : ℕ) → 1 ≤ k → is_active phase k ≡ true → (i : ℕ) × (i < length workers) × (get_or numbers i 0 ≡ k)) (taken : HasTaken book1 book2 workers) where
@@ -283,6 +301,7 @@ module _ {f : Profile} {book : NameBook} {p q : Progress} {own : ℕ → Progres
   asked_is : asked_after_acts (acts_of_ops (idle_threads threads phase) phase) at.asked ≡ asked_by at.asked phase
   asked_is = after_ops (idle_threads threads phase) phase at.asked
 
+  -- After a phase the book says of each name what it stands for in the woven replay.
   pub names_after : names_held book2.names ≡ names_held book1.names → NamesAt f rest book2 woven.reached
   names_after held = record {
     asked = asked_by at.asked phase;

@@ -33,13 +33,17 @@ use Rattle.pas_threads.proofs.{NamesOfPhases.hands_over, NamesOfPhases.hands_not
 use Rattle.pas_threads.proofs.Dealt.{picked_many, picked_at, picked_pairs, number_at, numbers_many, idle_picked, idle_distinct, idle_within, some_worker}
 
 -- a thread none of whose acts is left has its pass, and rests with it
-has_left : {region : SharedRegion} {book : NameBook} {f : Profile} {k : ℕ} {worker : Worker} {later : Later} {p : Progress} → WorkerAt region book f k [] worker later p → WorkerHas region f k worker later p
+has_left : {region : SharedRegion} {book : NameBook} {f : Profile} {k : ℕ} {worker : Worker} {later : Later} {p : Progress}
+    → WorkerAt region book f k [] worker later p → WorkerHas region f k worker later p
 has_left at = let spare = at.stands.spare in record { has = at.has; rests = record { sits = sits_for at.stands.sits (omega arith); cache = at.stands.cache; spare = omega (arith, spare) } }
 
 -- ---- a thread with an operation
 -- what the two said, with what they owe then, is paid for by what they owed and the acts
-pair_paid : {region : SharedRegion} (r : Round) (k : ℕ) (old new : Worker) (at : PairStands region r.book r.profile r.threads k (own_acts k r.ops) old (r.later k) (r.more k) r.start) → 1 ≤ r.threads
-    → (did : PairDid region r.book r.profile r.threads k (own_acts k r.ops) old new (r.later k) (r.more k) r.start) → PaysFor r k old new did.did.does.said did.did.does.reached
+pair_paid : {region : SharedRegion} (r : Round) (k : ℕ) (old new : Worker)
+      (at : PairStands region r.book r.profile r.threads k (own_acts k r.ops) old (r.later k) (r.more k) r.start)
+    → 1 ≤ r.threads
+    → (did : PairDid region r.book r.profile r.threads k (own_acts k r.ops) old new (r.later k) (r.more k) r.start)
+    → PaysFor r k old new did.did.does.said did.did.does.reached
 pair_paid r k old new at some did =
     let w = did.did.does in
     let keeper = r.threads + k in
@@ -51,8 +55,11 @@ pair_paid r k old new at some did =
     let kept_then = owed_same f keeper new.keeper w.reached in
     inl (omega (arith, both, own_before, own_then, kept_before, kept_then, w.paid))
 
-active_done : {region : SharedRegion} {r : Round} (k : ℕ) (old new : Worker) → PairStands region r.book r.profile r.threads k (own_acts k r.ops) old (r.later k) (r.more k) r.start → 1 ≤ r.threads → DidPhase region r.book r.ops old new
-    → (own : Came r.profile (own_acts k r.ops) r.start) × ThreadDone region r k old new own.said own.reached × HasLeft region new.bench (pair_in r.threads k old.keeper) r.start.list own.reached.list
+active_done : {region : SharedRegion} {r : Round} (k : ℕ) (old new : Worker)
+    → PairStands region r.book r.profile r.threads k (own_acts k r.ops) old (r.later k) (r.more k) r.start → 1 ≤ r.threads
+    → DidPhase region r.book r.ops old new
+    → (own : Came r.profile (own_acts k r.ops) r.start) × ThreadDone region r k old new own.said own.reached
+      × HasLeft region new.bench (pair_in r.threads k old.keeper) r.start.list own.reached.list
 active_done {r = r} k old new at some phase =
     let both = phase.did r.profile r.threads k (r.later k) (r.more k) r.start some at in
     let did = both.did in
@@ -75,13 +82,16 @@ active_done {r = r} k old new at some phase =
 
 -- ---- a thread without one
 -- its requests stay, of which there is none
-idle_noted : (k : ℕ) (ops : List Op) (old new : Worker) → is_active ops k ≡ false → new.requests ≡ old.requests → names_of (requests_in new.requests) ≡ names_of (requests_in old.requests) ++ names_asked (own_acts k ops)
+idle_noted : (k : ℕ) (ops : List Op) (old new : Worker) → is_active ops k ≡ false → new.requests ≡ old.requests
+    → names_of (requests_in new.requests) ≡ names_of (requests_in old.requests) ++ names_asked (own_acts k ops)
 idle_noted k ops old new off same =
     ap (λ (rs : Requests). names_of (requests_in rs)) same
     ∙ sym (ap (λ (acts : List Act). names_of (requests_in old.requests) ++ names_asked acts) (none_own k ops off) ∙ append-nil (names_of (requests_in old.requests)))
 
 -- while the scavenger does nothing, nothing comes of it
-idle_stayed : {region : SharedRegion} {r : Round} (k : ℕ) (old new : Worker) → is_active r.ops k ≡ false → PairStands region r.book r.profile r.threads k (own_acts k r.ops) old (r.later k) (r.more k) r.start → new ≡ old → ThreadDone region r k old new [] r.start
+idle_stayed : {region : SharedRegion} {r : Round} (k : ℕ) (old new : Worker) → is_active r.ops k ≡ false
+    → PairStands region r.book r.profile r.threads k (own_acts k r.ops) old (r.later k) (r.more k) r.start → new ≡ old
+    → ThreadDone region r k old new [] r.start
 idle_stayed {region} {r} k old new off at same =
     let none = none_own k r.ops off in
     let kept = kept_by_worker old.keeper in
@@ -109,9 +119,11 @@ shift_of r = record {
 }
 
 -- .. and it is lent to the scavenger, with which it stands at this rank. Its keeper does nothing
-lent_done : {region : SharedRegion} {r : Round} {acts : List Act} {has has' : Crew} (k n : ℕ) (old new : Worker) → 1 ≤ k → is_active r.ops k ≡ false → PairStands region r.book r.profile r.threads k (own_acts k r.ops) old (r.later k) (r.more k) r.start
+lent_done : {region : SharedRegion} {r : Round} {acts : List Act} {has has' : Crew} (k n : ℕ) (old new : Worker) → 1 ≤ k → is_active r.ops k ≡ false
+    → PairStands region r.book r.profile r.threads k (own_acts k r.ops) old (r.later k) (r.more k) r.start
     → (did : CrewDid region (shift_of r) acts [] has has' r.start)
-    → n < length has.lent → n < length has'.lent → get_or (idle_in r) n 0 ≡ k → ((d : Worker) → get_or has.lent n d ≡ old) → ((d : Worker) → get_or has'.lent n d ≡ new) → ThreadDone region r k old new did.came.said did.came.reached
+    → n < length has.lent → n < length has'.lent → get_or (idle_in r) n 0 ≡ k → ((d : Worker) → get_or has.lent n d ≡ old)
+    → ((d : Worker) → get_or has'.lent n d ≡ new) → ThreadDone region r k old new did.came.said did.came.reached
 lent_done {region} {r} {acts} {has} {has'} k n old new some off stood did lt lt' number was is =
     let q = did.came.reached in
     let said = did.came.said in
@@ -137,7 +149,8 @@ lent_done {region} {r} {acts} {has} {has'} k n old new some off stood did lt lt'
     }
 
 -- ---- the scavenger
-scavenger_done : {region : SharedRegion} (r : Round) {acts : List Act} (old new : Scavenger) (did : Did region old.pass new.pass (λ σ σ'. CrewDid region (shift_of r) acts [] (crew_of σ old) (crew_of σ' new) r.start))
+scavenger_done : {region : SharedRegion} (r : Round) {acts : List Act} (old new : Scavenger)
+    (did : Did region old.pass new.pass (λ σ σ'. CrewDid region (shift_of r) acts [] (crew_of σ old) (crew_of σ' new) r.start))
     → ScavengerDone region r old new did.does.came.said did.does.came.reached
 scavenger_done r old new did = (
   did.after,
@@ -157,7 +170,9 @@ none_scavenged idle (op ∷ ops) off =
 own_hands : (threads : ℕ) (ops : List Op) (k : ℕ) → k ≤ threads → owner_in threads ops k ≡ (if is_active ops k then k else 0)
 own_hands threads ops k most = ap (λ (t : Bool). if is_active ops (if t then k else k - threads) then (if t then k else k - threads) else 0) (le-leb k threads most)
 
-pub owned_by : (threads : ℕ) (ops : List Op) (k : ℕ) (t : Bool) → is_active ops k ≡ t → 1 ≤ k → k ≤ threads → (owner_in threads ops k ≡ 0 → is_active ops k ≡ false) × ((w : ℕ) → owner_in threads ops k ≡ w → 1 ≤ w → (k ≡ w) × (is_active ops k ≡ true))
+-- A thread in the scavenger's hands has no operation, and one in a worker's hands is that worker's own, with one.
+pub owned_by : (threads : ℕ) (ops : List Op) (k : ℕ) (t : Bool) → is_active ops k ≡ t → 1 ≤ k → k ≤ threads
+    → (owner_in threads ops k ≡ 0 → is_active ops k ≡ false) × ((w : ℕ) → owner_in threads ops k ≡ w → 1 ≤ w → (k ≡ w) × (is_active ops k ≡ true))
 owned_by threads ops k true is some most =
     let own : owner_in threads ops k ≡ k = own_hands threads ops k most ∙ ap (λ (t : Bool). if t then k else 0) is in
     (λ none. absurd (omega (arith, own, none, some)), λ w whose one. (sym own ∙ whose, is))
@@ -186,7 +201,8 @@ none_in_hand owner w (act ∷ acts) none =
 abbrev came_as : {f : Profile} {acts acts' : List Act} {p : Progress} → acts' ≡ acts → Came f acts p → Came f acts' p
 came_as {f} {p = p} is own = record { reached = own.reached; reaches = subst (λ (acts : List Act). Reaches f acts p own.reached) (sym is) own.reaches; said = own.said; records_are = own.records_are }
 
-module _ {region : SharedRegion} {r : Round} {team : Team} (ready : IsReady region r team) (awake : Mask4) (same : (k : ℕ) → is_set awake k ≡ is_active r.ops k) where
+module _ {region : SharedRegion} {r : Round} {team : Team} (ready : IsReady region r team) (awake : Mask4) (same : (k : ℕ) → is_set awake k ≡ is_active r.ops k)
+    where
   abbrev pub inside : List Worker
   inside = picked (is_in awake) 1 team.threads.items
 
@@ -234,7 +250,9 @@ module _ {region : SharedRegion} {r : Round} {team : Team} (ready : IsReady regi
       subst (λ (k : ℕ). WorkerHas region r.profile k (get_or team.threads.items i e) (r.later k) r.start) number
       (has_left (subst (λ (acts : List Act). WorkerAt region r.book r.profile (suc i) acts (get_or team.threads.items i e) (r.later (suc i)) r.start) none (ready.workers i e less).thread))) j d lt)
 
-  pub may_scavenge : (scavenger : Scavenger) → scavenger.pass ≡ team.scavenger.pass → scavenger.outcomes ≡ team.scavenger.outcomes → scavenger.out ≡ team.scavenger.out → scavenger.lent.items ≡ outside
+  -- The scavenger with the idle threads lent to it stands before its operations of the phase.
+  pub may_scavenge : (scavenger : Scavenger) → scavenger.pass ≡ team.scavenger.pass → scavenger.outcomes ≡ team.scavenger.outcomes
+      → scavenger.out ≡ team.scavenger.out → scavenger.lent.items ≡ outside
       → ScavengerStands region (shift_of r) (scavenger_acts (idle_in r) r.ops) scavenger r.start
   may_scavenge scavenger pass outcomes out lent_is =
       let has = ready.scavenger.has in
@@ -248,7 +266,8 @@ module _ {region : SharedRegion} {r : Round} {team : Team} (ready : IsReady regi
       }
 
   -- ---- the scavenger's operations, where it has one
-  module _ (scav0 scav1 : Scavenger) (stands : ScavengerStands region (shift_of r) (scavenger_acts (idle_in r) r.ops) scav0 r.start) (lent_is : scav0.lent.items ≡ outside)
+  module _ (scav0 scav1 : Scavenger) (stands : ScavengerStands region (shift_of r) (scavenger_acts (idle_in r) r.ops) scav0 r.start)
+      (lent_is : scav0.lent.items ≡ outside)
       (did : is_active r.ops 0 ≡ true → DidScavenge region r.ops scav0 scav1) (stayed : is_active r.ops 0 ≡ false → scav1 ≡ scav0) where
     -- as many are lent after them
     pub lent_same : length scav1.lent.items ≡ length outside
@@ -273,7 +292,8 @@ module _ {region : SharedRegion} {r : Round} {team : Team} (ready : IsReady regi
       PieceOf w = PieceLeft region r team.threads.items new scav0 scav1 w
 
       -- nobody's
-      nobody_piece : (i : ℕ) → is_active r.ops (suc i) ≡ false → acts_by (owner_in r.threads r.ops) (suc i) (acts_of_ops (idle_in r) r.ops) ≡ [] → PieceOf (suc i)
+      nobody_piece : (i : ℕ) → is_active r.ops (suc i) ≡ false → acts_by (owner_in r.threads r.ops) (suc i) (acts_of_ops (idle_in r) r.ops) ≡ []
+          → PieceOf (suc i)
       nobody_piece i off none = record {
         piece = record {
           own = came_as none (came_none r.profile r.start);
@@ -336,7 +356,8 @@ module _ {region : SharedRegion} {r : Round} {team : Team} (ready : IsReady regi
           ap (λ (ks : List ℕ). get_or ks (rank j) 0) idle_are ∙ (picked_at (is_out awake) 1 (numbers_from 1 r.threads) j 0 (omega (arith, lt, many, numbers)) (not_from_false (is_set awake (1 + j)) (its_bit j ∙ off))).1
           ∙ number_at 1 r.threads j (omega (arith, lt, many)) ∙ (let one : 1 + j ≡ suc j = omega arith in one)
 
-      lent_at : (all lent : List Worker) → lent ≡ picked (is_out awake) 1 all → (j : ℕ) (d : Worker) → j < length all → is_active r.ops (suc j) ≡ false → (rank j < length lent) × ((e : Worker) → get_or lent (rank j) e ≡ get_or all j d)
+      lent_at : (all lent : List Worker) → lent ≡ picked (is_out awake) 1 all → (j : ℕ) (d : Worker) → j < length all → is_active r.ops (suc j) ≡ false
+          → (rank j < length lent) × ((e : Worker) → get_or lent (rank j) e ≡ get_or all j d)
       lent_at all lent is j d lt off =
           let out = not_from_false (is_set awake (1 + j)) (its_bit j ∙ off) in (
             subst (λ (ws : List Worker). rank j < length ws) (sym is) (picked_at (is_out awake) 1 all j d lt out).0,
@@ -386,6 +407,7 @@ module _ {region : SharedRegion} {r : Round} {team : Team} (ready : IsReady regi
             crew_left = λ is on. absurd (true≢false (sym on ∙ off));
           }
 
+      -- Each worker's piece is done: what it did for all actors in its hands.
       pub piece : (w : ℕ) → PieceOf w
       piece zero = elim (cases_Bool (is_active r.ops 0)) [
         | inl on ↦ scavenger_piece on

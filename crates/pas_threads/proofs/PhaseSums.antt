@@ -65,7 +65,9 @@ all_scavenged : (f : Profile) (idle : List ℕ) (ops : List Op) → length idle 
 all_scavenged f idle [] few = omega arith
 all_scavenged f idle (op ∷ ops) few = scavenger_if (op.actor == 0) f idle op (scavenger_acts idle ops) (own_records f 0 ops) few (all_scavenged f idle ops few)
 
-pub scavenger_costs : (f : Profile) (threads : ℕ) (idle : List ℕ) (ops : List Op) → length idle ≤ threads → costs_of f (scavenger_acts idle ops) ≤ own_records (record f { threads = threads }) 0 ops
+-- What the scavenger's acts of a phase cost is at most the records that its operations are counted for.
+pub scavenger_costs : (f : Profile) (threads : ℕ) (idle : List ℕ) (ops : List Op) → length idle ≤ threads
+    → costs_of f (scavenger_acts idle ops) ≤ own_records (record f { threads = threads }) 0 ops
 scavenger_costs f threads idle ops few =
     let all = all_scavenged (record f { threads = threads }) idle ops few in
     let same = costs_alike f threads (scavenger_acts idle ops) in
@@ -156,6 +158,7 @@ all_paid f planned threads ops said old new p q (suc n) few =
     let behind = by_last (threads + 1) n said in
     omega (arith, rest, this, same, kept, last, behind)
 
+-- Where each thread owes at most what it owed, all together do.
 pub owed_less : (f : Profile) (p q : Progress) (n : ℕ) → ((i : ℕ) → i < n → owed_at f (suc i) q ≤ owed_at f (suc i) p) → owed_by f q n ≤ owed_by f p n
 owed_less f p q zero less = omega arith
 owed_less f p q (suc n) less =
@@ -163,7 +166,9 @@ owed_less f p q (suc n) less =
     let this = less n (omega arith) in
     omega (arith, rest, this)
 
-pub kept_less : (f : Profile) (threads : ℕ) (old new : List Worker) (p q : Progress) (n : ℕ) → ((i : ℕ) → i < n → owed_kept f (threads + suc i) (keeper_at new i) q ≤ owed_kept f (threads + suc i) (keeper_at old i) p)
+-- Where each keeper owes at most what it owed, all together do.
+pub kept_less : (f : Profile) (threads : ℕ) (old new : List Worker) (p q : Progress) (n : ℕ)
+    → ((i : ℕ) → i < n → owed_kept f (threads + suc i) (keeper_at new i) q ≤ owed_kept f (threads + suc i) (keeper_at old i) p)
     → owed_by_keepers f threads new q n ≤ owed_by_keepers f threads old p n
 kept_less f threads old new p q zero less = omega arith
 kept_less f threads old new p q (suc n) less =
@@ -172,7 +177,9 @@ kept_less f threads old new p q (suc n) less =
     omega (arith, rest, this)
 
 -- ---- workers that said what is theirs
-pub said_in_order : (says : Worker → List Record) (k : ℕ) (workers : List Worker) (said : List Record) → ((i : ℕ) (d : Worker) → i < length workers → says (get_or workers i d) ≡ records_by (k + i) said) → said_by says workers ≡ by_actors k (length workers) said
+pub said_in_order : (says : Worker → List Record) (k : ℕ) (workers : List Worker) (said : List Record)
+    → ((i : ℕ) (d : Worker) → i < length workers → says (get_or workers i d) ≡ records_by (k + i) said)
+    → said_by says workers ≡ by_actors k (length workers) said
 said_in_order says k [] said each = refl
 said_in_order says k (w ∷ ws) said each =
     let same : k + 0 ≡ k = omega arith in
@@ -185,7 +192,8 @@ none_said [] none = refl
 none_said (w ∷ ws) none = ap (λ (o : Option Keeper). said_by_keeper o ++ said_by_keepers ws) (none 0 w (omega arith)) ∙ none_said ws (λ i d lt. none (suc i) d (omega (arith, lt)))
 
 -- .. for their keepers, of which there may be none
-pub kept_in_order : (threads : ℕ) {keepers : ℕ} (workers : List Worker) (said : List Record) → AreGuarded keepers workers → ((i : ℕ) (d : Worker) → i < length workers → said_kept (get_or workers i d) ≡ records_by (threads + suc i) said)
+pub kept_in_order : (threads : ℕ) {keepers : ℕ} (workers : List Worker) (said : List Record) → AreGuarded keepers workers
+    → ((i : ℕ) (d : Worker) → i < length workers → said_kept (get_or workers i d) ≡ records_by (threads + suc i) said)
     → said_by_keepers workers ≡ by_actors (threads + 1) keepers said
 kept_in_order threads workers said (inl all) each =
     said_in_order said_kept (threads + 1) workers said (λ i d lt. each i d lt ∙ ap (λ (j : ℕ). records_by j said) (let is : threads + suc i ≡ threads + 1 + i = omega arith in is))
@@ -193,7 +201,8 @@ kept_in_order threads workers said (inl all) each =
 kept_in_order threads workers said (inr none) each = none_said workers none.1 ∙ ap (λ (n : ℕ). by_actors (threads + 1) n said) (sym none.0)
 
 -- what the keepers said is not more than what so many actors behind the threads said
-pub kept_few : (threads : ℕ) {keepers : ℕ} (workers : List Worker) (said : List Record) → AreGuarded keepers workers → length (by_actors (threads + 1) keepers said) ≤ length (by_actors (threads + 1) (length workers) said)
+pub kept_few : (threads : ℕ) {keepers : ℕ} (workers : List Worker) (said : List Record) → AreGuarded keepers workers
+    → length (by_actors (threads + 1) keepers said) ≤ length (by_actors (threads + 1) (length workers) said)
 kept_few threads workers said (inl all) = let same = ap (λ (n : ℕ). length (by_actors (threads + 1) n said)) all.0 in omega (arith, same)
 kept_few threads workers said (inr none) = let same = ap (λ (n : ℕ). length (by_actors (threads + 1) n said)) none.0 in omega (arith, same)
 

@@ -93,13 +93,16 @@ active_back k [] left on = on
 active_back k (op ∷ ops) left on = or_right (op.actor == k) (is_active (ops ++ left) k) (active_back k ops left on)
 
 -- ---- a thread
-module _ {region : SharedRegion} {f : Profile} {k : ℕ} {worker : Worker} {q : Progress} (g : Profile) (ops left : List Op) (rests : WorkerRests region f k worker (own_records g k (ops ++ left)) q) where
+module _ {region : SharedRegion} {f : Profile} {k : ℕ} {worker : Worker} {q : Progress} (g : Profile) (ops left : List Op)
+    (rests : WorkerRests region f k worker (own_records g k (ops ++ left)) q) where
   owed_is : owed_at f k q ≡ owed_events f (cached worker.cache) (part k q.list)
   owed_is = ap (λ (c : Cached). owed_events f c (part k q.list)) rests.here.rests.cache
 
   -- its acts cost no more than was set apart for them
-  worker_ready : {book : NameBook} {p : Progress} (book1 : NameBook) (later : Later) (at : NamesAt f (ops ++ left) book p) → 1 ≤ k → FreesItsOwn k at.asked ops → book1.names ≡ book.names → ArePlaced book1 0 (names_asked (own_acts k ops)) → q.names ≡ p.names
-      → later.events ≡ own_records g k left → later.records ≡ room_of worker.out - (owed_at f k q + own_costs_of k (own_acts k ops)) → WorkerAt region book1 f k (own_acts k ops) worker later q
+  worker_ready : {book : NameBook} {p : Progress} (book1 : NameBook) (later : Later) (at : NamesAt f (ops ++ left) book p) → 1 ≤ k → FreesItsOwn k at.asked ops
+      → book1.names ≡ book.names → ArePlaced book1 0 (names_asked (own_acts k ops)) → q.names ≡ p.names
+      → later.events ≡ own_records g k left → later.records ≡ room_of worker.out - (owed_at f k q + own_costs_of k (own_acts k ops))
+      → WorkerAt region book1 f k (own_acts k ops) worker later q
   worker_ready {book} {p} book1 later at some frees same placed are events records =
       let few = own_costs g k ops in
       let both = own_both g k ops left in
@@ -116,8 +119,11 @@ module _ {region : SharedRegion} {f : Profile} {k : ℕ} {worker : Worker} {q : 
       }
 
 -- ---- the scavenger
-scavenger_ready : {region : SharedRegion} (s : Session) (book : NameBook) {scavenger : Scavenger} {p q : Progress} (ops left : List Op) (later : ℕ → Later) → ScavengerRests region s.profile scavenger (own_records (planned s) 0 (ops ++ left)) p → part 0 q.list ≡ part 0 p.list
-    → (later 0).events ≡ own_records (planned s) 0 left → (later 0).records ≡ room_of scavenger.out - costs_of s.profile (scavenger_acts (idle_threads s.threads ops) ops) → ScavengerHas region (round s book ops later (more_beside left) q) scavenger
+scavenger_ready : {region : SharedRegion} (s : Session) (book : NameBook) {scavenger : Scavenger} {p q : Progress} (ops left : List Op) (later : ℕ → Later)
+    → ScavengerRests region s.profile scavenger (own_records (planned s) 0 (ops ++ left)) p → part 0 q.list ≡ part 0 p.list
+    → (later 0).events ≡ own_records (planned s) 0 left
+    → (later 0).records ≡ room_of scavenger.out - costs_of s.profile (scavenger_acts (idle_threads s.threads ops) ops)
+    → ScavengerHas region (round s book ops later (more_beside left) q) scavenger
 scavenger_ready s book ops left later rests parts events records =
     let f = s.profile in
     let idle = idle_few s.threads ops in
@@ -143,17 +149,24 @@ abbrev AreKept : SharedRegion → Session → List Op → List (List Op) → Lis
 AreKept region s ops rest workers q = (i : ℕ) (d : Worker) → i < length workers → KeeperRests region s.profile (s.threads + suc i) (own_acts (suc i) (all_ops (ops ∷ rest))) (get_or workers i d).keeper q
 
 -- .. once the threads read the epoch, too
-woke_kept : {region : SharedRegion} {s : Session} (awake : Mask4) {team : Team} {p : Progress} (ops : List Op) (rest : List (List Op)) (now : List Worker) (at : TeamAt region s (ops ∷ rest) team p) → length now ≡ length team.threads.items
-    → (woke : WokeAll region s.profile awake team.threads.items now (λ k. own_records (planned s) k (all_ops (ops ∷ rest))) p) → AreKept region s ops rest now woke.turns.came.reached
+woke_kept : {region : SharedRegion} {s : Session} (awake : Mask4) {team : Team} {p : Progress} (ops : List Op) (rest : List (List Op)) (now : List Worker)
+      (at : TeamAt region s (ops ∷ rest) team p)
+    → length now ≡ length team.threads.items
+    → (woke : WokeAll region s.profile awake team.threads.items now (λ k. own_records (planned s) k (all_ops (ops ∷ rest))) p)
+    → AreKept region s ops rest now woke.turns.came.reached
 woke_kept {s = s} awake {team} ops rest now at many woke i d lt =
     let here : i < length team.threads.items = omega (arith, lt, many) in
     let count = at.many in
     let keeper = s.threads + suc i in
     kept_still (woke.turns.told i d here).keeper (woke.turns.leaves.parts keeper (λ j less same. omega (arith, less, same, count))) (ap (λ (books : Books). books keeper) woke.turns.leaves.books) (at.kept i d here)
 
-team_ready : {region : SharedRegion} {s : Session} (awake : Mask4) {team : Team} {p : Progress} (ops : List Op) (rest : List (List Op)) (team1 : Team) (at : TeamAt region s (ops ∷ rest) team p)
-    → (woke : WokeAll region s.profile awake team.threads.items team1.threads.items (λ k. own_records (planned s) k (all_ops (ops ∷ rest))) p) → AreResting region s.profile team1.threads.items (λ k. own_records (planned s) k (all_ops (ops ∷ rest))) woke.turns.came.reached
-    → AreKept region s ops rest team1.threads.items woke.turns.came.reached → length team1.threads.items ≡ length team.threads.items → team1.scavenger ≡ team.scavenger → team1.book.names ≡ team.book.names → ((k : ℕ) → ArePlaced team1.book 0 (names_asked (own_acts k ops))) → HasPlaces s.threads team1
+team_ready : {region : SharedRegion} {s : Session} (awake : Mask4) {team : Team} {p : Progress} (ops : List Op) (rest : List (List Op)) (team1 : Team)
+    (at : TeamAt region s (ops ∷ rest) team p)
+    → (woke : WokeAll region s.profile awake team.threads.items team1.threads.items (λ k. own_records (planned s) k (all_ops (ops ∷ rest))) p)
+    → AreResting region s.profile team1.threads.items (λ k. own_records (planned s) k (all_ops (ops ∷ rest))) woke.turns.came.reached
+    → AreKept region s ops rest team1.threads.items woke.turns.came.reached → length team1.threads.items ≡ length team.threads.items
+    → team1.scavenger ≡ team.scavenger → team1.book.names ≡ team.book.names → ((k : ℕ) → ArePlaced team1.book 0 (names_asked (own_acts k ops)))
+    → HasPlaces s.threads team1
     → IsReady region (round_of s ops rest team1 woke.turns.came.reached) team1
 team_ready {region} {s} awake {team} {p} ops rest team1 at woke rests kept many scavenger names placed places =
     let f = s.profile in
@@ -193,8 +206,11 @@ pub record HasBegun (region : SharedRegion) (s : Session) (awake : Mask4) (ops :
   pub ready : IsReady region (round_of s ops rest team1 woke.turns.came.reached) team1
 
 -- (`given` are the team's workers, as they are handed to what wakes them, and `now` what they are afterwards)
-pub has_begun : {region : SharedRegion} {s : Session} {awake : Mask4} {team : Team} {p : Progress} {given now : List Worker} (ops : List Op) (rest : List (List Op)) (team1 : Team) → TeamAt region s (ops ∷ rest) team p → given ≡ team.threads.items
-    → ((g : Profile) (later : ℕ → ℕ) (o : Progress) → AreResting region g given later o → WokeAll region g awake given now later o) → length now ≡ length given → team1.threads.items ≡ now → team1.scavenger ≡ team.scavenger → HasPlaces s.threads team1
+pub has_begun : {region : SharedRegion} {s : Session} {awake : Mask4} {team : Team} {p : Progress} {given now : List Worker} (ops : List Op)
+      (rest : List (List Op)) (team1 : Team)
+    → TeamAt region s (ops ∷ rest) team p → given ≡ team.threads.items
+    → ((g : Profile) (later : ℕ → ℕ) (o : Progress) → AreResting region g given later o → WokeAll region g awake given now later o) → length now ≡ length given
+    → team1.threads.items ≡ now → team1.scavenger ≡ team.scavenger → HasPlaces s.threads team1
     → team1.book.names ≡ team.book.names → ((k : ℕ) → ArePlaced team1.book 0 (names_asked (own_acts k ops))) → HasBegun region s awake ops rest team team1 p
 has_begun {region} {s} {awake} {team} {p} {given} {now} ops rest team1 at value wakes many new same places names placed =
     let later : ℕ → ℕ = λ k. own_records (planned s) k (all_ops (ops ∷ rest)) in
@@ -221,22 +237,30 @@ abbrev pub settled_team : Team → List Worker → List Worker → Scavenger →
 settled_team team now again scavenger book = record team { threads = with_items (with_items team.threads now) again; scavenger = scavenger; book = book }
 
 -- (`given` are the team's workers, as they are handed to what wakes them, `now` what they are afterwards, and so `given2` and `again` for what settles the ledger)
-pub begun_as : {region : SharedRegion} {s : Session} {awake : Mask4} {team : Team} {p : Progress} {given now given2 again : List Worker} {scavenger : Scavenger} {book : NameBook} (ops : List Op) (rest : List (List Op)) → TeamAt region s (ops ∷ rest) team p → given ≡ team.threads.items → length given ≡ team.threads.len
-    → ((g : Profile) (later : ℕ → ℕ) (o : Progress) → AreResting region g given later o → WokeAll region g awake given now later o) → length now ≡ length given → given2 ≡ (with_items team.threads now).items → length given2 ≡ team.threads.len → again ≡ given2 → scavenger ≡ team.scavenger
-    → book.names ≡ team.book.names → ((k : ℕ) → ArePlaced book 0 (names_asked (own_acts k ops))) → HasBegun region s awake ops rest team (settled_team team now again scavenger book) p
+pub begun_as : {region : SharedRegion} {s : Session} {awake : Mask4} {team : Team} {p : Progress} {given now given2 again : List Worker} {scavenger : Scavenger}
+      {book : NameBook} (ops : List Op) (rest : List (List Op))
+    → TeamAt region s (ops ∷ rest) team p → given ≡ team.threads.items → length given ≡ team.threads.len
+    → ((g : Profile) (later : ℕ → ℕ) (o : Progress) → AreResting region g given later o → WokeAll region g awake given now later o) → length now ≡ length given
+    → given2 ≡ (with_items team.threads now).items → length given2 ≡ team.threads.len → again ≡ given2 → scavenger ≡ team.scavenger
+    → book.names ≡ team.book.names → ((k : ℕ) → ArePlaced book 0 (names_asked (own_acts k ops)))
+    → HasBegun region s awake ops rest team (settled_team team now again scavenger book) p
 begun_as {region} {s} {awake} {team} {p} {given} {now} {given2} {again} {scavenger} {book} ops rest at value len wakes many value2 len2 same same_scavenger names placed =
     let items = with_items_is (with_items team.threads now) again (ap (λ (ws : List Worker). length ws) same ∙ len2) ∙ same ∙ value2 ∙ with_items_is team.threads now (many ∙ len) in
     has_begun ops rest (settled_team team now again scavenger book) at value wakes many items same_scavenger
     (record { workers = at.places.workers; hands = at.places.hands; lent = subst (λ (v : Scavenger). s.threads ≤ vec_capacity v.lent) (sym same_scavenger) at.places.lent; free = at.places.free }) names placed
 
 -- all actors stand then
-pub begun_stands : {region : SharedRegion} {s : Session} {awake : Mask4} {team team1 : Team} {p : Progress} (ops : List Op) (rest : List (List Op)) → TeamAt region s (ops ∷ rest) team p → (begun : HasBegun region s awake ops rest team team1 p)
+pub begun_stands : {region : SharedRegion} {s : Session} {awake : Mask4} {team team1 : Team} {p : Progress} (ops : List Op) (rest : List (List Op))
+    → TeamAt region s (ops ∷ rest) team p → (begun : HasBegun region s awake ops rest team team1 p)
     → ActorsStand region s team.scavenger.pass team1.threads.items begun.woke.turns.came.reached.list
 begun_stands ops rest at begun = turns_stand (team_stands at) begun.woke.turns begun.many
 
 -- .. as they are handed to what settles the ledger
-pub woke_stands : {region : SharedRegion} {s : Session} (awake : Mask4) {team : Team} {p : Progress} {given now : List Worker} (ops : List Op) (rest : List (List Op)) → TeamAt region s (ops ∷ rest) team p → given ≡ team.threads.items
-    → ((g : Profile) (later : ℕ → ℕ) (o : Progress) → AreResting region g given later o → WokeAll region g awake given now later o) → length now ≡ length given → (l : Whole) × ActorsStand region s team.scavenger.pass now l
+pub woke_stands : {region : SharedRegion} {s : Session} (awake : Mask4) {team : Team} {p : Progress} {given now : List Worker} (ops : List Op)
+      (rest : List (List Op))
+    → TeamAt region s (ops ∷ rest) team p → given ≡ team.threads.items
+    → ((g : Profile) (later : ℕ → ℕ) (o : Progress) → AreResting region g given later o → WokeAll region g awake given now later o) → length now ≡ length given
+    → (l : Whole) × ActorsStand region s team.scavenger.pass now l
 woke_stands {region} {s} awake {team} {p} {given} {now} ops rest at value wakes many =
     let later : ℕ → ℕ = λ k. own_records (planned s) k (all_ops (ops ∷ rest)) in
     let woke = subst (λ (ws : List Worker). WokeAll region s.profile awake ws now later p) value (wakes s.profile later p (subst (λ (ws : List Worker). AreResting region s.profile ws later p) (sym value) at.workers)) in
@@ -247,8 +271,10 @@ whole_share : (owner : Owners) (w : ℕ) (p : Progress) → IsShareOf owner w p 
 whole_share owner w p = record { steps = refl; parts = λ k is. refl; caches = λ k is. refl; books = λ k is. refl; records = λ k is. refl; epoch = λ is. refl; names = λ n block is. is }
 
 -- all acts were answered, if each worker answered its own
-phase_woven : {f : Profile} {book : NameBook} {p : Progress} (threads : ℕ) (ops left : List Op) (at : NamesAt f (ops ++ left) book p) → AreKeptBehind threads ops → ((k : ℕ) → is_active ops k ≡ true → k ≤ threads) → (q : Progress) (own : ℕ → Progress) → q.names ≡ p.names
-    → ((w : ℕ) → Reaches f (acts_by (owner_in threads ops) w (acts_of_ops (idle_threads threads ops) ops)) q (own w)) → IsWoven f (owner_in threads ops) (acts_of_ops (idle_threads threads ops) ops) at.asked q own
+phase_woven : {f : Profile} {book : NameBook} {p : Progress} (threads : ℕ) (ops left : List Op) (at : NamesAt f (ops ++ left) book p)
+    → AreKeptBehind threads ops → ((k : ℕ) → is_active ops k ≡ true → k ≤ threads) → (q : Progress) (own : ℕ → Progress) → q.names ≡ p.names
+    → ((w : ℕ) → Reaches f (acts_by (owner_in threads ops) w (acts_of_ops (idle_threads threads ops) ops)) q (own w))
+    → IsWoven f (owner_in threads ops) (acts_of_ops (idle_threads threads ops) ops) at.asked q own
 phase_woven {f} {book} {p} threads ops left at behind within q own same reaches =
     let limit = names_held book.names in
     let acts = acts_of_ops (idle_threads threads ops) ops in
@@ -258,7 +284,8 @@ phase_woven {f} {book} {p} threads ops left at behind within q own same reaches 
     (subst (λ (names : List Named). OnlyAsked at.asked names) (sym same) at.only) (λ w. whole_share owner w q) reaches
 
 -- what an actor said for itself is what it said in all, where its records are the same
-said_alike : {f : Profile} {acts : List Act} {q : Progress} (k : ℕ) (own : Came f acts q) (said : List Record) (reached : Progress) → records_by k own.reached.records ≡ records_by k reached.records → reached.records ≡ q.records ++ said → records_by k own.said ≡ records_by k said
+said_alike : {f : Profile} {acts : List Act} {q : Progress} (k : ℕ) (own : Came f acts q) (said : List Record) (reached : Progress)
+    → records_by k own.reached.records ≡ records_by k reached.records → reached.records ≡ q.records ++ said → records_by k own.said ≡ records_by k said
 said_alike {q = q} k own said reached records records_are =
     append_cancel_left (records_by k q.records) _ _ (sym (ap (λ (rs : List Record). records_by k rs) own.records_are ∙ said_both k q.records own.said) ∙ records ∙ ap (λ (rs : List Record). records_by k rs) records_are ∙ said_both k q.records said)
 
@@ -267,7 +294,8 @@ abbrev planned_in : Round → Profile
 planned_in r = record r.profile { threads = r.threads }
 
 -- ---- a thread
-module _ {region : SharedRegion} {r : Round} {k : ℕ} {acts : List Act} {old new : Worker} (left : List Op) (said : List Record) (reached : Progress) (rests : WorkerRests region r.profile k old (own_records (planned_in r) k (r.ops ++ left)) r.start)
+module _ {region : SharedRegion} {r : Round} {k : ℕ} {acts : List Act} {old new : Worker} (left : List Op) (said : List Record) (reached : Progress)
+    (rests : WorkerRests region r.profile k old (own_records (planned_in r) k (r.ops ++ left)) r.start)
     (own : Came r.profile acts r.start) (done : ThreadDone region r k old new own.said own.reached) (parts : part k own.reached.list ≡ part k reached.list) (caches : own.reached.caches k ≡ reached.caches k) (records : records_by k own.reached.records ≡ records_by k reached.records)
     (records_are : reached.records ≡ r.start.records ++ said) (events : (r.later k).events ≡ own_records (planned_in r) k left) (spare : (r.later k).records ≡ room_of old.out - (owed_at r.profile k r.start + own_costs_of k (own_acts k r.ops))) where
   has_said : records_in new.out ≡ records_by k said
@@ -292,7 +320,8 @@ module _ {region : SharedRegion} {r : Round} {k : ℕ} {acts : List Act} {old ne
       omega (arith, told, owed_before, owed_then, has_then.rests.spare, done.told.room, rests.here.rests.spare, cost, both, spare)
 
   -- .. and of its keeper, whichever of the two took part
-  module _ (kept_parts : part (r.threads + k) own.reached.list ≡ part (r.threads + k) reached.list) (kept_records : records_by (r.threads + k) own.reached.records ≡ records_by (r.threads + k) reached.records) where
+  module _ (kept_parts : part (r.threads + k) own.reached.list ≡ part (r.threads + k) reached.list)
+      (kept_records : records_by (r.threads + k) own.reached.records ≡ records_by (r.threads + k) reached.records) where
     pair_paid : length (records_by k said) + length (records_by (r.threads + k) said) + (owed_at r.profile k reached + owed_kept r.profile (r.threads + k) new.keeper reached)
         ≤ owed_at r.profile k r.start + owed_kept r.profile (r.threads + k) old.keeper r.start + own_records (planned_in r) k r.ops
     pair_paid =
@@ -310,7 +339,8 @@ module _ {region : SharedRegion} {r : Round} {k : ℕ} {acts : List Act} {old ne
         ]
 
   -- once what it said is gathered and its requests were taken over, it rests
-  rests_after : {gathered kept emptied : Worker} → IsGathered new gathered → IsKeptGathered gathered kept → IsEmptied kept emptied → WorkerRests region r.profile k emptied (own_records (planned_in r) k left) reached
+  rests_after : {gathered kept emptied : Worker} → IsGathered new gathered → IsKeptGathered gathered kept → IsEmptied kept emptied
+      → WorkerRests region r.profile k emptied (own_records (planned_in r) k left) reached
   rests_after {gathered} {kept} {emptied} g h e =
       let room : room_of emptied.out ≡ room_of old.out = ap room_of (e.out ∙ h.but.out) ∙ g.room ∙ done.told.room in
       let noted : room_for emptied.requests ≡ room_for old.requests = e.room ∙ ap room_for (h.but.requests ∙ g.requests) ∙ done.room_noted in
@@ -322,7 +352,8 @@ module _ {region : SharedRegion} {r : Round} {k : ℕ} {acts : List Act} {old ne
       rests_clear has_then (e.pass ∙ h.but.pass ∙ g.pass) (e.cache ∙ h.but.cache ∙ g.cache) (ap records_in (e.out ∙ h.but.out) ∙ g.none) (omega (arith, events)) (omega (arith, room, paid, before, had, both)) e.empty (omega (arith, noted, asked, both))
 
 -- what it hands over is about its requests
-handed : {f : Profile} {ops : List Op} {book : NameBook} {k : ℕ} {new gathered : Worker} {names : List Named} → gathered.requests ≡ new.requests → HandsOver f ops book k new names → HandsOver f ops book k gathered names
+handed : {f : Profile} {ops : List Op} {book : NameBook} {k : ℕ} {new gathered : Worker} {names : List Named} → gathered.requests ≡ new.requests
+    → HandsOver f ops book k new names → HandsOver f ops book k gathered names
 handed {f} {ops} {book} {k} {new} {gathered} {names} same over = record {
   noted = ap (λ (rs : Requests). names_of (requests_in rs)) same ∙ over.noted;
   says = λ n has.
@@ -331,7 +362,8 @@ handed {f} {ops} {book} {k} {new} {gathered} {names} same over = record {
 }
 
 -- ---- the scavenger
-module _ {region : SharedRegion} (r : Round) {acts : List Act} (old new : Scavenger) {p : Progress} (left : List Op) (said : List Record) (reached : Progress) (rests : ScavengerRests region r.profile old (own_records (planned_in r) 0 (r.ops ++ left)) p)
+module _ {region : SharedRegion} (r : Round) {acts : List Act} (old new : Scavenger) {p : Progress} (left : List Op) (said : List Record) (reached : Progress)
+    (rests : ScavengerRests region r.profile old (own_records (planned_in r) 0 (r.ops ++ left)) p)
     (own : Came r.profile acts r.start) (done : ScavengerDone region r old new own.said own.reached) (parts : part 0 own.reached.list ≡ part 0 reached.list) (records : records_by 0 own.reached.records ≡ records_by 0 reached.records)
     (records_are : reached.records ≡ r.start.records ++ said) (events : (r.later 0).events ≡ own_records (planned_in r) 0 left) (spare : (r.later 0).records ≡ room_of old.out - costs_of r.profile (scavenger_acts (idle_in r) r.ops)) where
   scavenger_said : records_in new.out ≡ records_by 0 said
@@ -345,7 +377,8 @@ module _ {region : SharedRegion} (r : Round) {acts : List Act} (old new : Scaven
       let both = own_both (planned_in r) 0 r.ops left in
       omega (arith, told, done.1.stands.spare, done.2.room, rests.at.stands.spare, cost, both, spare)
 
-  scavenger_after : (after : Scavenger) → after.pass ≡ new.pass → after.outcomes ≡ new.outcomes → after.lent.items ≡ [] → records_in after.out ≡ [] → room_of after.out ≡ room_of new.out → ScavengerRests region r.profile after (own_records (planned_in r) 0 left) reached
+  scavenger_after : (after : Scavenger) → after.pass ≡ new.pass → after.outcomes ≡ new.outcomes → after.lent.items ≡ [] → records_in after.out ≡ []
+      → room_of after.out ≡ room_of new.out → ScavengerRests region r.profile after (own_records (planned_in r) 0 left) reached
   scavenger_after after pass outcomes none empty size =
       let both = own_both (planned_in r) 0 r.ops left in
       let nothing = ap (λ (rs : List Record). length rs) empty in
@@ -363,7 +396,8 @@ module _ {region : SharedRegion} (r : Round) {acts : List Act} (old new : Scaven
       }
 
   -- nobody past the threads made a step or said anything, whom the scavenger's worker has in hand
-  nobody_after : (k : ℕ) → r.threads < k → part k own.reached.list ≡ part k reached.list → records_by k own.reached.records ≡ records_by k reached.records → TookNoPart k said r.start reached
+  nobody_after : (k : ℕ) → r.threads < k → part k own.reached.list ≡ part k reached.list → records_by k own.reached.records ≡ records_by k reached.records
+      → TookNoPart k said r.start reached
   nobody_after k far parts_k records_k = record { part_is = sym parts_k ∙ (done.3 k far).part_is; silent = sym (said_alike k own said reached records_k records_are) ∙ (done.3 k far).silent }
 
 -- the scavenger is in its own hands
@@ -374,7 +408,8 @@ in_four : (a b c d : List Record) → ((a ++ b) ++ c) ++ d ≡ a ++ (b ++ (c ++ 
 in_four a b c d = append_assoc (a ++ b) c d ∙ append_assoc a b (c ++ d)
 
 -- ---- the team, once all hands did their operations
-module _ {region : SharedRegion} {s : Session} {awake : Mask4} {team team1 team2 : Team} {p : Progress} (ops : List Op) (rest : List (List Op)) (at : TeamAt region s (ops ∷ rest) team p) (begun : HasBegun region s awake ops rest team team1 p)
+module _ {region : SharedRegion} {s : Session} {awake : Mask4} {team team1 team2 : Team} {p : Progress} (ops : List Op) (rest : List (List Op))
+    (at : TeamAt region s (ops ∷ rest) team p) (begun : HasBegun region s awake ops rest team team1 p)
     (done : IsDone region (round_of s ops rest team1 begun.woke.turns.came.reached) team1 team2) where
   abbrev f : Profile
   f = s.profile
@@ -388,6 +423,7 @@ module _ {region : SharedRegion} {s : Session} {awake : Mask4} {team team1 team2
   abbrev round_is : Round
   round_is = round_of s ops rest team1 start
 
+  -- What the workers of a phase did, each for itself, is woven into the acts of the phase in the text's order.
   pub woven : IsWoven f (owner_in s.threads ops) (acts_of_ops (idle_threads s.threads ops) ops) at.names.asked start (λ w. (done.pieces w).own.reached)
   woven = phase_woven s.threads ops left at.names begun.ready.behind begun.ready.within start (λ w. (done.pieces w).own.reached) begun.woke.turns.leaves.names (λ w. (done.pieces w).own.reaches)
 
@@ -412,7 +448,8 @@ module _ {region : SharedRegion} {s : Session} {awake : Mask4} {team team1 team2
     with_it : owner_in s.threads ops keeper ≡ w
     with_it = kept_hands s.threads ops i (omega (arith, counted_first, lt))
 
-    room_set : (later_beside s ops left team1 start (suc i)).records ≡ room_of (get_or team1.threads.items i d).out - (owed_at f (suc i) start + own_costs_of (suc i) (own_acts (suc i) ops))
+    room_set : (later_beside s ops left team1 start (suc i)).records
+        ≡ room_of (get_or team1.threads.items i d).out - (owed_at f (suc i) start + own_costs_of (suc i) (own_acts (suc i) ops))
     room_set = ap (λ (n : ℕ). n - (owed_at f (suc i) start + own_costs_of (suc i) (own_acts (suc i) ops))) (room_is team1.threads.items i d lt)
 
     thread_done : ThreadDone region round_is (suc i) (get_or team1.threads.items i d) (get_or team2.threads.items i d) (done.pieces w).own.said (done.pieces w).own.reached
@@ -436,7 +473,8 @@ module _ {region : SharedRegion} {s : Session} {awake : Mask4} {team team1 team2
         kept_said {r = round_is} left reached (begun.kept i d lt) thread_done (share.parts keeper with_it) (share.books keeper with_it) refl ∙ said_alike keeper (done.pieces w).own said reached (share.records keeper with_it) woven.records_are
 
     -- once what both said is gathered, the keeper rests too
-    module _ {gathered kept emptied : Worker} (g : IsGathered (get_or team2.threads.items i d) gathered) (h : IsKeptGathered gathered kept) (e : IsEmptied kept emptied) where
+    module _ {gathered kept emptied : Worker} (g : IsGathered (get_or team2.threads.items i d) gathered) (h : IsKeptGathered gathered kept)
+        (e : IsEmptied kept emptied) where
       keeper_rests : KeeperRests region f keeper (own_acts (suc i) left) emptied.keeper reached
       keeper_rests =
           let share = woven.shares w in
@@ -459,7 +497,8 @@ module _ {region : SharedRegion} {s : Session} {awake : Mask4} {team team1 team2
         let away = kept_nobody {r = round_is} thread_done none in
         record { part_is = sym (share.parts keeper with_it) ∙ away.0; silent = sym (said_alike keeper (done.pieces w).own said reached (share.records keeper with_it) woven.records_are) ∙ away.1 }
 
-    thread_rests : {gathered kept emptied : Worker} → IsGathered (get_or team2.threads.items i d) gathered → IsKeptGathered gathered kept → IsEmptied kept emptied → WorkerRests region f (suc i) emptied (own_records (planned s) (suc i) left) reached
+    thread_rests : {gathered kept emptied : Worker} → IsGathered (get_or team2.threads.items i d) gathered → IsKeptGathered gathered kept
+        → IsEmptied kept emptied → WorkerRests region f (suc i) emptied (own_records (planned s) (suc i) left) reached
     thread_rests g h e =
         let share = woven.shares w in
         rests_after {r = round_is} left said reached (begun.rests i d lt) (done.pieces w).own thread_done (share.parts (suc i) refl) (share.caches (suc i) refl) (share.records (suc i) refl) woven.records_are refl room_set g h e
@@ -491,7 +530,8 @@ module _ {region : SharedRegion} {s : Session} {awake : Mask4} {team team1 team2
       scavenger_paid round_is team1.scavenger team2.scavenger left said reached own_rests (done.pieces 0).own scavenged (share.parts 0 own) (share.records 0 own) woven.records_are refl refl
 
   -- nobody past the threads and the keepers has an operation, nor a part in the phase
-  nobody_kept : (i : ℕ) (d : Worker) → i < length team1.threads.items → s.threads + s.keepers < s.threads + suc i → AreGuarded s.keepers team1.threads.items → TookNoPart (s.threads + suc i) said start reached
+  nobody_kept : (i : ℕ) (d : Worker) → i < length team1.threads.items → s.threads + s.keepers < s.threads + suc i → AreGuarded s.keepers team1.threads.items
+      → TookNoPart (s.threads + suc i) said start reached
   nobody_kept i d lt far (inl all) = absurd (omega (arith, all.0, far, lt))
   nobody_kept i d lt far (inr none) = keeper_away i d lt (none.1 i d lt)
 
@@ -520,7 +560,9 @@ module _ {region : SharedRegion} {s : Session} {awake : Mask4} {team team1 team2
       ∙ ap (λ (n : ℕ). by_actors 1 n said) (done.many ∙ counted)
 
   -- what a thread and its keeper owed before the phase
-  began_with : (i : ℕ) → i < s.threads → (owed_at f (suc i) start ≤ owed_at f (suc i) p) × (owed_kept f (s.threads + suc i) (keeper_at team1.threads.items i) start ≡ owed_kept f (s.threads + suc i) (keeper_at team.threads.items i) p)
+  began_with : (i : ℕ) → i < s.threads
+      → (owed_at f (suc i) start ≤ owed_at f (suc i) p)
+        × (owed_kept f (s.threads + suc i) (keeper_at team1.threads.items i) start ≡ owed_kept f (s.threads + suc i) (keeper_at team.threads.items i) p)
   began_with i lt =
       let many = at.many in
       let less : i < length team.threads.items = omega (arith, lt, many) in
@@ -549,7 +591,9 @@ module _ {region : SharedRegion} {s : Session} {awake : Mask4} {team team1 team2
       omega (arith, threads, own, owed, kept, told_few)
 
   -- ---- the workers, once what they said for their threads is gathered, and then what they said for their keepers
-  module _ (gathered : List Worker) (g : (i : ℕ) (d : Worker) → i < length team2.threads.items → IsGathered (get_or team2.threads.items i d) (get_or gathered i d)) (size : length gathered ≡ length team2.threads.items) where
+  module _ (gathered : List Worker)
+      (g : (i : ℕ) (d : Worker) → i < length team2.threads.items → IsGathered (get_or team2.threads.items i d) (get_or gathered i d))
+      (size : length gathered ≡ length team2.threads.items) where
     sized : length gathered ≡ length team1.threads.items
     sized = size ∙ done.many
 
@@ -569,7 +613,8 @@ module _ {region : SharedRegion} {s : Session} {awake : Mask4} {team team1 team2
         let same = ap (λ (n : ℕ). length (by_actors (s.threads + 1) n said)) (sized ∙ counted) in
         omega (arith, all, few, same)
 
-    module _ (kept : List Worker) (h : (i : ℕ) (d : Worker) → i < length gathered → IsKeptGathered (get_or gathered i d) (get_or kept i d)) (size2 : length kept ≡ length gathered) where
+    module _ (kept : List Worker) (h : (i : ℕ) (d : Worker) → i < length gathered → IsKeptGathered (get_or gathered i d) (get_or kept i d))
+        (size2 : length kept ≡ length gathered) where
       sized_kept : length kept ≡ length team1.threads.items
       sized_kept = size2 ∙ sized
 
@@ -578,6 +623,7 @@ module _ {region : SharedRegion} {s : Session} {awake : Mask4} {team team1 team2
           let here : i < length team1.threads.items = omega (arith, lt, sized_kept) in
           handed ((h i d (omega (arith, lt, size2))).but.requests ∙ (g i d (omega (arith, lt, size, size2))).requests) ((thread_done i d here).hands_over (begun.rests i d here).asked reached.names (woven.shares (owner_in s.threads ops (suc i))).names)
 
+      -- The names that each worker asked for are ones that the book holds, so it may take them.
       pub may_take : All (IsWithin (names_held team2.book.names)) kept
       may_take i d lt =
           let limit : names_held team.book.names ≡ names_held team2.book.names = ap names_held (sym (ap (λ (b : NameBook). b.names) done.book ∙ begun.names)) in
@@ -586,7 +632,8 @@ module _ {region : SharedRegion} {s : Session} {awake : Mask4} {team team1 team2
                 (subst (AreWithin (names_held team.book.names)) (sym (hands i d lt).noted) (names_within (names_held team.book.names) (suc i) ops (below_front (names_held team.book.names) ops left at.names.below)));
           }
 
-      module _ (team3 : Team) (emptied : (i : ℕ) (d : Worker) → i < length kept → IsEmptied (get_or kept i d) (get_or team3.threads.items i d)) (size3 : length team3.threads.items ≡ length kept) where
+      module _ (team3 : Team) (emptied : (i : ℕ) (d : Worker) → i < length kept → IsEmptied (get_or kept i d) (get_or team3.threads.items i d))
+          (size3 : length team3.threads.items ≡ length kept) where
         -- each keeper owes what it did before it was gathered
         kept_owed : owed_by_keepers f s.threads team3.threads.items reached s.threads ≤ owed_by_keepers f s.threads team2.threads.items reached s.threads
         kept_owed = kept_less f s.threads team2.threads.items team3.threads.items reached reached s.threads (λ i lt.
@@ -599,7 +646,8 @@ module _ {region : SharedRegion} {s : Session} {awake : Mask4} {team team1 team2
             let same = keeper_owes i d less (g i d (omega (arith, less, many))) (h i d (omega (arith, here, size2))) (emptied i d here) in
             omega (arith, after, before, same))
 
-        team_after : HasTaken team2.book team3.book kept → names_held team3.book.names ≡ names_held team2.book.names → ScavengerRests region f team3.scavenger (own_records (planned s) 0 left) reached → HasPlaces s.threads team3 → TeamAt region s rest team3 reached
+        team_after : HasTaken team2.book team3.book kept → names_held team3.book.names ≡ names_held team2.book.names
+            → ScavengerRests region f team3.scavenger (own_records (planned s) 0 left) reached → HasPlaces s.threads team3 → TeamAt region s rest team3 reached
         team_after taken held scavenger places =
             let count = counted in
             let within = sized_kept in
@@ -640,6 +688,7 @@ module _ {region : SharedRegion} {s : Session} {awake : Mask4} {team team1 team2
 
   -- ---- the records
   module _ (marks : ℕ) (out : Records) (room : HasRoom s (ops ∷ rest) marks team.threads.items out p) where
+    -- There is room for what the scavenger said in the phase behind the records.
     pub may_append : length (records_in out) + length (records_in team2.scavenger.out) ≤ room_of out
     may_append =
         let own = ap (λ (rs : List Record). length rs) told in
@@ -654,13 +703,16 @@ module _ {region : SharedRegion} {s : Session} {awake : Mask4} {team team1 team2
           let own = ap (λ (rs : List Record). length rs) told in
           omega (arith, both, sum, own)
 
+      -- There is room for what all threads said in the phase behind that.
       pub may_gather : length (records_in out1) + length (said_by_all team2.threads.items) ≤ room_of out1
       may_gather =
           let all = ap (λ (rs : List Record). length rs) all_said in
           let both = records_both (planned s) ops left in
           omega (arith, counted_own, all, paid, both, room, same)
 
-      module _ (gathered : List Worker) (g : (i : ℕ) (d : Worker) → i < length team2.threads.items → IsGathered (get_or team2.threads.items i d) (get_or gathered i d)) (size : length gathered ≡ length team2.threads.items)
+      module _ (gathered : List Worker)
+          (g : (i : ℕ) (d : Worker) → i < length team2.threads.items → IsGathered (get_or team2.threads.items i d) (get_or gathered i d))
+          (size : length gathered ≡ length team2.threads.items)
           (out2 : Records) (added2 : records_in out2 ≡ records_in out1 ++ said_by_all team2.threads.items) (same2 : room_of out2 ≡ room_of out1) where
         counted_all : length (records_in out2) ≡ length (records_in out) + length (records_by 0 said) + length (by_actors 1 s.threads said)
         counted_all =
@@ -669,15 +721,18 @@ module _ {region : SharedRegion} {s : Session} {awake : Mask4} {team team1 team2
             let all = ap (λ (rs : List Record). length rs) all_said in
             omega (arith, counted_own, now, sum, all)
 
+        -- There is room for what all keepers said in the phase behind that.
         pub may_gather_kept : length (records_in out2) + length (said_by_keepers gathered) ≤ room_of out2
         may_gather_kept =
             let few = kept_most gathered g size in
             let both = records_both (planned s) ops left in
             omega (arith, counted_all, few, paid, both, room, same, same2)
 
-        module _ (kept : List Worker) (h : (i : ℕ) (d : Worker) → i < length gathered → IsKeptGathered (get_or gathered i d) (get_or kept i d)) (size2 : length kept ≡ length gathered)
+        module _ (kept : List Worker) (h : (i : ℕ) (d : Worker) → i < length gathered → IsKeptGathered (get_or gathered i d) (get_or kept i d))
+            (size2 : length kept ≡ length gathered)
             (out3 : Records) (added3 : records_in out3 ≡ records_in out2 ++ said_by_keepers gathered) (same3 : room_of out3 ≡ room_of out2) where
-          room_left : (team3 : Team) → ((i : ℕ) (d : Worker) → i < length kept → IsEmptied (get_or kept i d) (get_or team3.threads.items i d)) → length team3.threads.items ≡ length kept → HasRoom s rest marks team3.threads.items out3 reached
+          room_left : (team3 : Team) → ((i : ℕ) (d : Worker) → i < length kept → IsEmptied (get_or kept i d) (get_or team3.threads.items i d))
+              → length team3.threads.items ≡ length kept → HasRoom s rest marks team3.threads.items out3 reached
           room_left team3 emptied size3 =
               let now = ap (λ (rs : List Record). length rs) added3 in
               let sum = length-append (records_in out2) (said_by_keepers gathered) in
@@ -709,7 +764,8 @@ module _ {region : SharedRegion} {s : Session} {awake : Mask4} {team team1 team2
       reach_both f (map Wakes (active_threads s.threads ops)) (acts_of_ops (idle_threads s.threads ops) ops) p start reached (subst (λ (ks : List ℕ). Reaches f (map Wakes ks) p start) wakes begun.woke.turns.came.reaches) woven.reaches
 
 -- ---- the stages of the phase
-module _ {region : SharedRegion} {s : Session} {awake : Mask4} {team team1 team2 : Team} {p : Progress} (ops : List Op) (rest : List (List Op)) (at : TeamAt region s (ops ∷ rest) team p) (begun : HasBegun region s awake ops rest team team1 p)
+module _ {region : SharedRegion} {s : Session} {awake : Mask4} {team team1 team2 : Team} {p : Progress} (ops : List Op) (rest : List (List Op))
+    (at : TeamAt region s (ops ∷ rest) team p) (begun : HasBegun region s awake ops rest team team1 p)
     {ledger : Ledger} (heard : IsHeard region ledger (round_of s ops rest team1 begun.woke.turns.came.reached) team1 team2) where
   abbrev begin_at : Progress
   begin_at = begun.woke.turns.came.reached
@@ -740,7 +796,8 @@ module _ {region : SharedRegion} {s : Session} {awake : Mask4} {team team1 team2
   in_its_hands w k its = eqb-true (owner k) w its
 
   -- what each worker's actors did is sorted
-  module _ (since before made : Whole) (told : end_at.list ≡ made ++ begin_at.list) (behind : (k : ℕ) → part k before ≡ part k begin_at.list) (all : (k : ℕ) → part k (since ++ before) ≡ part k end_at.list) (each : AreEarlier (looks_of ledger) (since ++ before)) where
+  module _ (since before made : Whole) (told : end_at.list ≡ made ++ begin_at.list) (behind : (k : ℕ) → part k before ≡ part k begin_at.list)
+      (all : (k : ℕ) → part k (since ++ before) ≡ part k end_at.list) (each : AreEarlier (looks_of ledger) (since ++ before)) where
     all_told : (k : ℕ) → part k (since ++ before) ≡ part k (made ++ begin_at.list)
     all_told k = all k ∙ ap (λ (l : Whole). part k l) told
 
@@ -748,7 +805,8 @@ module _ {region : SharedRegion} {s : Session} {awake : Mask4} {team team1 team2
     idle_sorted w off = sorted_still (in_hands owner w) since before made begin_at.list behind all_told
         (λ k its. ap (λ (l : Whole). part k l) (sym told) ∙ sym (own_part w k (in_its_hands w k its)) ∙ ap (λ (l : Whole). part k l) ((heard.done.pieces w).still off))
 
-    busy_sorted : (w : ℕ) (sat : ℕ → Bool) → HeardOrder ledger sat begin_at.list (own_list w) → ((k : ℕ) → sat k ≡ true → owner k ≡ w) → ((k : ℕ) → owner k ≡ w → (sat k ≡ true) ⊎ (part k (own_list w) ≡ part k begin_at.list))
+    busy_sorted : (w : ℕ) (sat : ℕ → Bool) → HeardOrder ledger sat begin_at.list (own_list w) → ((k : ℕ) → sat k ≡ true → owner k ≡ w)
+        → ((k : ℕ) → owner k ≡ w → (sat k ≡ true) ⊎ (part k (own_list w) ≡ part k begin_at.list))
         → steps_by (in_hands owner w) since ≡ steps_by (in_hands owner w) made
     busy_sorted w sat order within others = sorted_seen (in_hands owner w) since before made begin_at.list behind all_told sat (own_list w) (steps_of order.base) order.order (order.first (since ++ before) each)
         (λ k its. eq-eqb (owner k) w (within k its)) (own_order w ∙ ap (λ (l : Whole). steps_by (in_hands owner w) l) told) (λ k its. own_part w k (in_its_hands w k its) ∙ ap (λ (l : Whole). part k l) told)
@@ -771,7 +829,8 @@ module _ {region : SharedRegion} {s : Session} {awake : Mask4} {team team1 team2
           ]
         ]
 
-    thread_sorted : (i : ℕ) → i < length team1.threads.items → is_active ops (suc i) ≡ true → steps_by (in_hands owner (suc i)) since ≡ steps_by (in_hands owner (suc i)) made
+    thread_sorted : (i : ℕ) → i < length team1.threads.items → is_active ops (suc i) ≡ true
+        → steps_by (in_hands owner (suc i)) since ≡ steps_by (in_hands owner (suc i)) made
     thread_sorted i lt on =
         let d = some_worker team1.threads.items i lt in
         let o = (get_or team1.threads.items i d).keeper in
@@ -795,7 +854,8 @@ module _ {region : SharedRegion} {s : Session} {awake : Mask4} {team team1 team2
     ]
 
   -- its threads read the epoch, and then its operations were performed: where the ledger was settled between both and after them
-  pub phase_went : ((k : ℕ) → is_set awake k ≡ is_active ops k) → {before mid after : Whole} → IsEarlier before mid → IsEarlier mid after → StandSo s before p.list → StandSo s mid begin_at.list → StandSo s after end_at.list → AreEarlier (looks_of ledger) after
+  pub phase_went : ((k : ℕ) → is_set awake k ≡ is_active ops k) → {before mid after : Whole} → IsEarlier before mid → IsEarlier mid after
+      → StandSo s before p.list → StandSo s mid begin_at.list → StandSo s after end_at.list → AreEarlier (looks_of ledger) after
       → WentBy s (phase_stages s.threads ops) p end_at before after
   phase_went alike {before} {mid} {after} first second stood midway stand each =
       let f = s.profile in
@@ -821,8 +881,11 @@ pub record WereGathered (old mid new : List Worker) (out out' out'' : Records) :
   pub many_kept : length new ≡ length mid
 
 -- what was gathered of these workers was gathered of those that they are
-pub gathered_from : (says : Worker → List Record) (Is : Worker → Worker → Type 0) {given old : List Worker} (new : List Worker) (before : List Record) {after : List Record} → given ≡ old → after ≡ before ++ said_by says given → ((i : ℕ) (d : Worker) → i < length given → Is (get_or given i d) (get_or new i d))
-    → length new ≡ length given → (after ≡ before ++ said_by says old) × ((i : ℕ) (d : Worker) → i < length old → Is (get_or old i d) (get_or new i d)) × (length new ≡ length old)
+pub gathered_from : (says : Worker → List Record) (Is : Worker → Worker → Type 0) {given old : List Worker} (new : List Worker) (before : List Record)
+      {after : List Record}
+    → given ≡ old → after ≡ before ++ said_by says given → ((i : ℕ) (d : Worker) → i < length given → Is (get_or given i d) (get_or new i d))
+    → length new ≡ length given
+    → (after ≡ before ++ said_by says old) × ((i : ℕ) (d : Worker) → i < length old → Is (get_or old i d) (get_or new i d)) × (length new ≡ length old)
 gathered_from says Is {given} {old} new before {after} value added each many =
     subst (λ (ws : List Worker). (after ≡ before ++ said_by says ws) × ((i : ℕ) (d : Worker) → i < length ws → Is (get_or ws i d) (get_or new i d)) × (length new ≡ length ws)) value (added, each, many)
 
@@ -834,7 +897,9 @@ pub record WereTaken (old new : List Worker) (book book' : NameBook) : Type 0 wh
   pub many : length new ≡ length old
 
 -- the team stands where the whole phase came to
-pub phase_team : {region : SharedRegion} {s : Session} {awake : Mask4} {team team1 team2 : Team} {p : Progress} {out1 out2 out3 : Records} {gathered kept last : List Worker} (ops : List Op) (rest : List (List Op)) (at : TeamAt region s (ops ∷ rest) team p) (begun : HasBegun region s awake ops rest team team1 p)
+pub phase_team : {region : SharedRegion} {s : Session} {awake : Mask4} {team team1 team2 : Team} {p : Progress} {out1 out2 out3 : Records}
+    {gathered kept last : List Worker} (ops : List Op) (rest : List (List Op)) (at : TeamAt region s (ops ∷ rest) team p)
+    (begun : HasBegun region s awake ops rest team team1 p)
     (done : IsDone region (round_of s ops rest team1 begun.woke.turns.came.reached) team1 team2) → WereGathered team2.threads.items gathered kept out1 out2 out3 → (team3 : Team) → WereTaken kept last team2.book team3.book → team3.threads.items ≡ last
     → team3.scavenger.pass ≡ team2.scavenger.pass → team3.scavenger.outcomes ≡ team2.scavenger.outcomes → team3.scavenger.lent.items ≡ [] → records_in team3.scavenger.out ≡ [] → room_of team3.scavenger.out ≡ room_of team2.scavenger.out
     → HasPlaces s.threads team3 → TeamAt region s rest team3 (reached ops rest at begun done)
@@ -847,7 +912,9 @@ phase_team {s = s} {team1 = team1} {team2} {gathered = gathered} {kept} ops rest
     in
     team_after ops rest at begun done gathered g.each g.many kept g.each_kept g.many_kept team3 taken.each taken.many taken.taken taken.held scavenger places
 
-pub phase_done : {region : SharedRegion} {s : Session} {awake : Mask4} {team team1 team2 : Team} {p : Progress} {marks : ℕ} {out out1 out2 out3 : Records} {gathered kept last : List Worker} (ops : List Op) (rest : List (List Op)) (at : PhaseAt region s ops rest marks team out p)
+-- A phase whose operations are all done, gathered and taken is done, with the team before the phases left.
+pub phase_done : {region : SharedRegion} {s : Session} {awake : Mask4} {team team1 team2 : Team} {p : Progress} {marks : ℕ} {out out1 out2 out3 : Records}
+    {gathered kept last : List Worker} (ops : List Op) (rest : List (List Op)) (at : PhaseAt region s ops rest marks team out p)
     (begun : HasBegun region s awake ops rest team team1 p) (done : IsDone region (round_of s ops rest team1 begun.woke.turns.came.reached) team1 team2) → ((k : ℕ) → is_set awake k ≡ is_active ops k)
     → records_in out1 ≡ records_in out ++ records_in team2.scavenger.out → room_of out1 ≡ room_of out → WereGathered team2.threads.items gathered kept out1 out2 out3 → (team3 : Team) → WereTaken kept last team2.book team3.book → team3.threads.items ≡ last
     → team3.scavenger.pass ≡ team2.scavenger.pass → team3.scavenger.outcomes ≡ team2.scavenger.outcomes → team3.scavenger.lent.items ≡ [] → records_in team3.scavenger.out ≡ [] → room_of team3.scavenger.out ≡ room_of team2.scavenger.out

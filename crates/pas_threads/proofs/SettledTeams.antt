@@ -11,12 +11,14 @@ use Rattle.pas_threads.specs.{Hands.HasPass, Kits.with_keeper, Settling.Settled,
 use Rattle.pas_threads.specs.declared.{keeper.Keeper.Keeper, workers.Worker.Worker}
 
 -- the actor that was taken in is the last one, once the ledger was settled with it
-pub gives : (region : SharedRegion) (pass : SharedPass) (rest : Rest) (old taken settled : Ledger) → IsPassOf region pass → IsRestOf pass rest → actors_in taken ≡ part_of pass ∷ actors_in old → Settled taken settled
+pub gives : (region : SharedRegion) (pass : SharedPass) (rest : Rest) (old taken settled : Ledger) → IsPassOf region pass → IsRestOf pass rest
+    → actors_in taken ≡ part_of pass ∷ actors_in old → Settled taken settled
     → (x : SharedPass) × (more : List Part) × IsPassOf region x × IsRestOf x rest × (actors_in settled ≡ part_of x ∷ more)
 gives region pass rest old taken settled of is took so = (pass, actors_in old, of, is, so.actors ∙ took)
 
 -- so the ledger was settled with it
-pub settled_with : (pass : SharedPass) (old taken settled back : Ledger) → IsSameLedger old taken → actors_in taken ≡ part_of pass ∷ actors_in old → Settled taken settled → IsSameLedger settled back → actors_in back ≡ actors_in old
+pub settled_with : (pass : SharedPass) (old taken settled back : Ledger) → IsSameLedger old taken → actors_in taken ≡ part_of pass ∷ actors_in old
+    → Settled taken settled → IsSameLedger settled back → actors_in back ≡ actors_in old
     → Settled old back × StandsIn (so_far back) pass
 settled_with pass old taken settled back same took so after left = (
   record {
@@ -43,7 +45,8 @@ abbrev pub with_pass : Worker → Option SharedPass → Worker
 with_pass w pass = record { pass = pass; cache = w.cache; requests = w.requests; out = w.out; keeper = w.keeper; member = w.member; bench = w.bench }
 
 -- with what was taken out of the worker at this place the workers are as they were
-pub keeper_back : (ws now : List Worker) (at : ℕ) (e d : Worker) (gone keeper : Option Keeper) → at < length ws → now ≡ set ws at (with_keeper (get_or ws at e) gone) → keeper ≡ (get_or ws at e).keeper → set now at (with_keeper (get_or now at d) keeper) ≡ ws
+pub keeper_back : (ws now : List Worker) (at : ℕ) (e d : Worker) (gone keeper : Option Keeper) → at < length ws
+    → now ≡ set ws at (with_keeper (get_or ws at e) gone) → keeper ≡ (get_or ws at e).keeper → set now at (with_keeper (get_or now at d) keeper) ≡ ws
 keeper_back ws now at e d gone keeper lt is back =
     let w = get_or ws at e in
     let mid = with_keeper w gone in
@@ -51,7 +54,9 @@ keeper_back ws now at e d gone keeper lt is back =
     ap (λ (v : Worker). set now at (with_keeper v keeper)) here ∙ ap (λ (vs : List Worker). set vs at (with_keeper w keeper)) is ∙ set_twice ws at mid (with_keeper w keeper)
     ∙ ap (λ (o : Option Keeper). set ws at (with_keeper w o)) back ∙ set-get_or ws at e
 
-pub pass_back : (ws now : List Worker) (at : ℕ) (e d : Worker) (gone pass : Option SharedPass) → at < length ws → now ≡ set ws at (with_pass (get_or ws at e) gone) → pass ≡ (get_or ws at e).pass → set now at (with_pass (get_or now at d) pass) ≡ ws
+-- A pass that was put back into its worker's place leaves all workers as they were.
+pub pass_back : (ws now : List Worker) (at : ℕ) (e d : Worker) (gone pass : Option SharedPass) → at < length ws
+    → now ≡ set ws at (with_pass (get_or ws at e) gone) → pass ≡ (get_or ws at e).pass → set now at (with_pass (get_or now at d) pass) ≡ ws
 pass_back ws now at e d gone pass lt is back =
     let w = get_or ws at e in
     let mid = with_pass w gone in
@@ -60,7 +65,8 @@ pass_back ws now at e d gone pass lt is back =
     ∙ ap (λ (o : Option SharedPass). set ws at (with_pass w o)) back ∙ set-get_or ws at e
 
 -- a worker without its pass has its keeper, and the others are as they were
-pub kept_at : (ws : List Worker) (at i : ℕ) (mid e d : Worker) → at < length ws → mid.keeper ≡ (get_or ws at e).keeper → i < length ws → (get_or (set ws at mid) i d).keeper ≡ (get_or ws i d).keeper
+pub kept_at : (ws : List Worker) (at i : ℕ) (mid e d : Worker) → at < length ws → mid.keeper ≡ (get_or ws at e).keeper → i < length ws
+    → (get_or (set ws at mid) i d).keeper ≡ (get_or ws i d).keeper
 kept_at ws at i mid e d lt same less = elim (cases_eq i at) [
   | inl is ↦
       ap (λ (j : ℕ). (get_or (set ws at mid) j d).keeper) is ∙ ap (λ (w : Worker). w.keeper) (get_or-set_same ws at mid d lt) ∙ same
@@ -69,7 +75,9 @@ kept_at ws at i mid e d lt same less = elim (cases_eq i at) [
 ]
 
 -- .. or later ones have theirs
-pub passes_at : {region : SharedRegion} (ws : List Worker) (at : ℕ) (mid : Worker) → ((i : ℕ) (d : Worker) → at ≤ i → i < length ws → HasPass region (get_or ws i d).pass) → (i : ℕ) (d : Worker) → at + 1 ≤ i → i < length (set ws at mid) → HasPass region (get_or (set ws at mid) i d).pass
+pub passes_at : {region : SharedRegion} (ws : List Worker) (at : ℕ) (mid : Worker)
+    → ((i : ℕ) (d : Worker) → at ≤ i → i < length ws → HasPass region (get_or ws i d).pass) → (i : ℕ) (d : Worker) → at + 1 ≤ i → i < length (set ws at mid)
+    → HasPass region (get_or (set ws at mid) i d).pass
 passes_at {region} ws at mid all i d le lt =
     let size = length-set ws at mid in
     subst (λ (w : Worker). HasPass region w.pass) (sym (get_or-set_other ws at i mid d (λ same. omega (arith, same, le)))) (all i d (omega (arith, le)) (omega (arith, lt, size)))

@@ -85,6 +85,7 @@ nothing_since {before} {after} earlier same =
 pub went_none : (s : Session) {p : Progress} {l : Whole} → StandSo s l p.list → IsOfActors s p.list → WentBy s [] p p l l
 went_none s stand nobody = record { earlier = ([], refl); stand = stand; nobody = nobody; by_stages = λ of. (refl, refl) }
 
+-- Acts that went by stages, and then others that did, went by the stages of both.
 pub went_both : {s : Session} (xs ys : List Stage) {p q r : Progress} {a b c : Whole} → WentBy s xs p q a b → WentBy s ys q r b c → WentBy s (xs ++ ys) p r a c
 went_both {s} xs ys {p} {q} {r} {a} {b} {c} one two = record {
   earlier = earlier_both one.earlier two.earlier;
@@ -94,7 +95,8 @@ went_both {s} xs ys {p} {q} {r} {a} {b} {c} one two = record {
 }
 
 -- a look at which nothing new was seen
-pub went_still : {s : Session} (xs : List Stage) {p q : Progress} {a b c : Whole} → WentBy s xs p q a b → IsEarlier b c → StandSo s c q.list → WentBy s xs p q a c
+pub went_still : {s : Session} (xs : List Stage) {p q : Progress} {a b c : Whole} → WentBy s xs p q a b → IsEarlier b c → StandSo s c q.list
+    → WentBy s xs p q a c
 went_still {s} xs {p} {q} {a} {b} {c} went earlier stand = record {
   earlier = earlier_both went.earlier earlier;
   stand = stand;
@@ -110,7 +112,9 @@ went_still {s} xs {p} {q} {a} {b} {c} went earlier stand = record {
 sorted_alone : (since made : Whole) → ((k : ℕ) → part k since ≡ part k made) → AreSorted itself since made
 sorted_alone since made same w = steps_by_one (in_hands itself w) w since (λ j. refl) ∙ ap (λ (v : View). triples w v) (same w) ∙ sym (steps_by_one (in_hands itself w) w made (λ j. refl))
 
-pub went_alone : (s : Session) (acts : List Act) {p q : Progress} {before after : Whole} → Reaches s.profile acts p q → IsEarlier before after → IsOfActors s p.list → IsOfActors s q.list → StandSo s before p.list → StandSo s after q.list
+-- Acts in order, behind which the ledger is settled, went by one stage of their own.
+pub went_alone : (s : Session) (acts : List Act) {p q : Progress} {before after : Whole} → Reaches s.profile acts p q → IsEarlier before after
+    → IsOfActors s p.list → IsOfActors s q.list → StandSo s before p.list → StandSo s after q.list
     → WentBy s (stage acts itself ∷ []) p q before after
 went_alone s acts {p} {q} {before} {after} reaches earlier none nobody stood stand = record {
   earlier = earlier;
@@ -124,14 +128,17 @@ went_alone s acts {p} {q} {before} {after} reaches earlier none nobody stood sta
 }
 
 -- .. a mark, at which nothing is done
-pub went_mark : (s : Session) (acts : List Act) {p q : Progress} {l : Whole} → Reaches s.profile acts p q → q.list ≡ p.list → IsOfActors s p.list → StandSo s l p.list → WentBy s (stage acts itself ∷ []) p q l l
+pub went_mark : (s : Session) (acts : List Act) {p q : Progress} {l : Whole} → Reaches s.profile acts p q → q.list ≡ p.list → IsOfActors s p.list
+    → StandSo s l p.list → WentBy s (stage acts itself ∷ []) p q l l
 went_mark s acts {p} {q} {l} reaches same none stood = went_alone s acts reaches ([], refl) none (subst (IsOfActors s) (sym same) none) stood (subst (StandSo s l) (sym same) stood)
 
+-- Two lists of acts one by one are the stages of both, one after the other.
 pub one_by_one_both : (xs ys : List Act) → one_by_one (xs ++ ys) ≡ one_by_one xs ++ one_by_one ys
 one_by_one_both xs ys = map-append (λ (act : Act). stage (act ∷ []) itself) xs ys
 
 -- a stage in which a worker has several actors in hand, where each worker's steps are sorted
-pub went_sorted : (s : Session) (acts : List Act) (owner : Owners) {p q : Progress} {before after : Whole} → Reaches s.profile acts p q → (earlier : IsEarlier before after) → IsOfActors s q.list → StandSo s after q.list
+pub went_sorted : (s : Session) (acts : List Act) (owner : Owners) {p q : Progress} {before after : Whole} → Reaches s.profile acts p q
+    → (earlier : IsEarlier before after) → IsOfActors s q.list → StandSo s after q.list
     → ((made : Whole) → q.list ≡ made ++ p.list → IsOfActors s after → AreSorted owner earlier.0 made) → WentBy s (stage acts owner ∷ []) p q before after
 went_sorted s acts owner {p} {q} {before} {after} reaches earlier nobody stand sorted = record {
   earlier = earlier;
@@ -152,7 +159,8 @@ steps_by_but one other (t ∷ l) alike =
     ap (λ (b : Bool). if b then t ∷ steps_by one l else steps_by one l) same ∙ ap (λ (m : Whole). if other t.actor then t ∷ m else m) again
 
 -- what these actors did is sorted: in the list of all it stands in front of `before`, and it is told of in front of `told`
-module _ (chosen : ℕ → Bool) (since before made told : Whole) (behind : (k : ℕ) → part k before ≡ part k told) (all : (k : ℕ) → part k (since ++ before) ≡ part k (made ++ told)) where
+module _ (chosen : ℕ → Bool) (since before made told : Whole) (behind : (k : ℕ) → part k before ≡ part k told)
+    (all : (k : ℕ) → part k (since ++ before) ≡ part k (made ++ told)) where
   -- they did nothing
   pub sorted_still : ((k : ℕ) → chosen k ≡ true → part k (made ++ told) ≡ part k told) → steps_by chosen since ≡ steps_by chosen made
   sorted_still still =
@@ -160,7 +168,8 @@ module _ (chosen : ℕ → Bool) (since before made told : Whole) (behind : (k :
       ∙ sym (no_steps_by chosen made (λ k its. front_none k made told (still k its)))
 
   -- a bench, at which some of them sat and the others did nothing, saw in which order they did it
-  module _ (sat : ℕ → Bool) (own seen : Whole) (keeps : KeepsOrder sat told own seen) (first : IsEarlier seen (since ++ before)) (within : Within sat chosen) (shared : steps_by chosen own ≡ steps_by chosen (made ++ told))
+  module _ (sat : ℕ → Bool) (own seen : Whole) (keeps : KeepsOrder sat told own seen) (first : IsEarlier seen (since ++ before)) (within : Within sat chosen)
+      (shared : steps_by chosen own ≡ steps_by chosen (made ++ told))
       (parts : (k : ℕ) → chosen k ≡ true → part k own ≡ part k (made ++ told)) (others : (k : ℕ) → chosen k ≡ true → (sat k ≡ true) ⊎ (part k own ≡ part k told)) where
     -- each one's new steps are those that the bench saw
     new_parts : (k : ℕ) → sat k ≡ true → part k keeps.since ≡ part k keeps.made
@@ -193,6 +202,7 @@ module _ (chosen : ℕ → Bool) (since before made told : Whole) (behind : (k :
       | inr off ↦ elim (cases_Bool (sat k)) [ inl its ↦ absurd (true≢false (sym (within k its) ∙ off)) | inr out ↦ inl (off ∙ sym out) ]
     ]
 
+    -- The steps of a worker's actors stand in the list of all in the order in which they are told.
     pub sorted_seen : steps_by chosen since ≡ steps_by chosen made
     sorted_seen =
         steps_by_but chosen sat since (differ since (λ k still on. front_none k since before (all k ∙ sym (parts k on) ∙ still ∙ sym (behind k))))

@@ -23,7 +23,7 @@ use Rattle.pas_shared.specs.declared.{pass.SharedPass.SharedPass, region.SharedR
 use Rattle.pas_answers.specs.{Calls.owed_events, Names.names_held}
 use Rattle.pas_answers.specs.Replays.{at_start, phases_of, region_of, threads_of, keepers_of}
 use Rattle.pas_plans.specs.{Keepers.one_guarded, Keepers.guarded_of, Parts.AreRooms}
-use Rattle.pas_plans.proofs.{KeeperActs.is_guarded, NameLimits.below_all, Nothing.nothing, Nothing.nothing_owed, PlanFacts.plan_threads, PlanFacts.plan_above}
+use Rattle.pas_plans.proofs.{KeeperActs.is_guarded, NameLimits.below_all, Nothing.nothing, Nothing.pages_owed_at_first, PlanFacts.plan_threads, PlanFacts.plan_above}
 use Rattle.pas_plans.proofs.{PlanFacts.wider_sound}
 use Rattle.pas_shares.specs.Shares.{AreKeptBehind}
 use Rattle.pas_shares.proofs.PhaseActs.{active_within}
@@ -37,14 +37,17 @@ use Rattle.pas_threads.specs.declared.{keeper.Keeper.Keeper, kit.SharedKit.Share
 use Rattle.pas_threads.proofs.{Dealt.some_worker, Keepers.keeper_is, TakingTurns.set_each}
 
 -- ---- equipping
-pub equipped_more : (bounds : List ℕ) (k n : ℕ) (passes : List SharedPass) (workers : List Worker) (pass : SharedPass) (worker : Worker) → AreEquipped bounds k passes workers → n ≡ k + length workers
+pub equipped_more : (bounds : List ℕ) (k n : ℕ) (passes : List SharedPass) (workers : List Worker) (pass : SharedPass) (worker : Worker)
+    → AreEquipped bounds k passes workers → n ≡ k + length workers
     → IsEquipped pass (slice_index bounds n) worker → AreEquipped bounds k (passes ++ pass ∷ []) (workers ++ worker ∷ [])
 equipped_more bounds k n [] [] pass worker are at new = (subst (λ (m : ℕ). IsEquipped pass (slice_index bounds m) worker) (omega (arith, at)) new, tt)
 equipped_more bounds k n [] (w ∷ workers) pass worker are at new = absurd are
 equipped_more bounds k n (p ∷ passes) [] pass worker are at new = absurd are
 equipped_more bounds k n (p ∷ passes) (w ∷ workers) pass worker are at new = (are.0, equipped_more bounds (k + 1) n passes workers pass worker are.1 (omega (arith, at)) new)
 
-pub equipped_many : (bounds : List ℕ) (k : ℕ) (passes : List SharedPass) (workers : List Worker) → AreEquipped bounds k passes workers → length workers ≡ length passes
+-- As many workers are equipped as there are passes for them.
+pub equipped_many : (bounds : List ℕ) (k : ℕ) (passes : List SharedPass) (workers : List Worker) → AreEquipped bounds k passes workers
+    → length workers ≡ length passes
 equipped_many bounds k [] [] are = refl
 equipped_many bounds k [] (w ∷ workers) are = absurd are
 equipped_many bounds k (p ∷ passes) [] are = absurd are
@@ -52,7 +55,8 @@ equipped_many bounds k (p ∷ passes) (w ∷ workers) are = ap suc (equipped_man
 
 -- ---- rooms that move
 -- a room of the same size without an event, in the place of one of these
-pub one_moved : (sizes : ℕ → Option ℕ) (count : ℕ) (rooms : List EventRoom) (i : ℕ) (old new : EventRoom) → i < length rooms → old ≡ get_or rooms i old → size_of_room new ≡ size_of_room old → shown new ≡ []
+pub one_moved : (sizes : ℕ → Option ℕ) (count : ℕ) (rooms : List EventRoom) (i : ℕ) (old new : EventRoom) → i < length rooms → old ≡ get_or rooms i old
+    → size_of_room new ≡ size_of_room old → shown new ≡ []
     → AreRooms sizes count rooms → AreRooms sizes count (set rooms i new)
 one_moved sizes count rooms i old new lt is size none are = record {
   many = length-set rooms i new ∙ are.many;
@@ -63,7 +67,8 @@ one_moved sizes count rooms i old new lt is size none are = record {
 
 -- ---- the kit
 -- the passes of a region that was just opened are new
-pub fresh_new : (region : SharedRegion) (bounds : List ℕ) (k : ℕ) (rooms : List EventRoom) (passes : List SharedPass) → AreFresh region.table.shared.table_id region.profile k rooms passes
+pub fresh_new : (region : SharedRegion) (bounds : List ℕ) (k : ℕ) (rooms : List EventRoom) (passes : List SharedPass)
+    → AreFresh region.table.shared.table_id region.profile k rooms passes
     → ((i : ℕ) (d : EventRoom) → i < length rooms → size_of_room (slice_index_or rooms i d) ≡ slice_index bounds (k + i)) → AreNew region bounds k passes
 fresh_new region bounds k [] [] fresh sizes = tt
 fresh_new region bounds k [] (pass ∷ passes) fresh sizes = absurd fresh
@@ -80,7 +85,9 @@ first_taken [] rest first some is left = absurd (omega (arith, some))
 first_taken {A} (x ∷ xs) rest first some is left = ap (λ (y : A). y ∷ xs) (sym is) ∙ ap (λ (ys : List A). first ∷ ys) (sym left)
 
 -- ---- the guarded requests of a thread
-tried_one : (threads k : ℕ) (guard : ℕ) (o : Option ℕ) (op : Op) (acts : List Act) → op.actor ≡ k → MatchOption o (Unit {0}) (λ keeper. (keeper ≡ threads + op.actor) × (guard ≢ 0)) → AreTriedBy (threads + k) acts → AreTriedBy (threads + k) (act_kept o op ∷ (Settles op.actor ∷ acts))
+tried_one : (threads k : ℕ) (guard : ℕ) (o : Option ℕ) (op : Op) (acts : List Act) → op.actor ≡ k
+    → MatchOption o (Unit {0}) (λ keeper. (keeper ≡ threads + op.actor) × (guard ≢ 0)) → AreTriedBy (threads + k) acts
+    → AreTriedBy (threads + k) (act_kept o op ∷ (Settles op.actor ∷ acts))
 tried_one threads k guard None op acts mine kept rest = (tt, (tt, rest))
 tried_one threads k guard (Some keeper) op acts mine kept rest = (kept.0 ∙ ap (λ (n : ℕ). threads + n) mine, (tt, rest))
 
@@ -96,7 +103,9 @@ tried_own f guard k (op ∷ ops) kept =
     ]
 
 -- .. and without a guard line there is none
-unguarded_one : (t : Bool) (threads guard : ℕ) (o : Option ℕ) (op : Op) (acts : List Act) → guard ≡ 0 → MatchOption o (Unit {0}) (λ keeper. (keeper ≡ threads + op.actor) × (guard ≢ 0)) → AreUnguarded acts → AreUnguarded (if t then act_kept o op ∷ (Settles op.actor ∷ acts) else acts)
+unguarded_one : (t : Bool) (threads guard : ℕ) (o : Option ℕ) (op : Op) (acts : List Act) → guard ≡ 0
+    → MatchOption o (Unit {0}) (λ keeper. (keeper ≡ threads + op.actor) × (guard ≢ 0)) → AreUnguarded acts
+    → AreUnguarded (if t then act_kept o op ∷ (Settles op.actor ∷ acts) else acts)
 unguarded_one true threads guard None op acts none kept rest = (tt, (tt, rest))
 unguarded_one true threads guard (Some keeper) op acts none kept rest = absurd (kept.1 none)
 unguarded_one false threads guard o op acts none kept rest = rest
@@ -105,7 +114,8 @@ unguarded_own : (f : Profile) (guard k : ℕ) (ops : List Op) → guard ≡ 0 �
 unguarded_own f guard k [] none kept = tt
 unguarded_own f guard k (op ∷ ops) none kept = unguarded_one (op.actor == k) f.threads guard (keeper_in op.what) op (own_acts k ops) none kept.0 (unguarded_own f guard k ops none kept.1)
 
-behind_one : (threads guard actor : ℕ) (o : Option ℕ) → MatchOption o (Unit {0}) (λ keeper. (keeper ≡ threads + actor) × (guard ≢ 0)) → MatchOption o (Unit {0}) (λ keeper. keeper ≡ threads + actor)
+behind_one : (threads guard actor : ℕ) (o : Option ℕ) → MatchOption o (Unit {0}) (λ keeper. (keeper ≡ threads + actor) × (guard ≢ 0))
+    → MatchOption o (Unit {0}) (λ keeper. keeper ≡ threads + actor)
 behind_one threads guard actor None kept = tt
 behind_one threads guard actor (Some keeper) kept = kept.0
 
@@ -145,10 +155,11 @@ first_pass (pass ∷ passes) some = pass
 
 -- ---- the start
 -- a thread that made no step is at rest
-starts_at : (region : SharedRegion) (f : Profile) (k bound later : ℕ) (pass : SharedPass) (worker : Worker) → region.profile ≡ f → f.pages + later ≤ bound → IsNew region k bound pass → IsEquipped pass bound worker
+starts_at : (region : SharedRegion) (f : Profile) (k bound later : ℕ) (pass : SharedPass) (worker : Worker) → region.profile ≡ f → f.pages + later ≤ bound
+    → IsNew region k bound pass → IsEquipped pass bound worker
     → WorkerRests region f k worker later at_start
 starts_at region f k bound later pass worker of_profile within unused has =
-    let owed : owed_events f (cached worker.cache) [] ≡ f.pages = ap (λ (c : Cached). owed_events f c []) has.cache ∙ nothing_owed f in
+    let owed : owed_events f (cached worker.cache) [] ≡ f.pages = ap (λ (c : Cached). owed_events f c []) has.cache ∙ pages_owed_at_first f in
     let room = unused.room in
     let requests = has.requests in
     let none = ap (λ (rs : List Record). length rs) has.said in
@@ -172,8 +183,10 @@ starts_at region f k bound later pass worker of_profile within unused has =
       requests = omega (arith, requests, within);
     }
 
-all_start : (region : SharedRegion) (f : Profile) (bounds : List ℕ) (k : ℕ) (later : ℕ → ℕ) (passes : List SharedPass) (workers : List Worker) → region.profile ≡ f → AreNew region bounds k passes → AreEquipped bounds k passes workers
-    → ((i : ℕ) → i < length workers → f.pages + later (k + i) ≤ slice_index bounds (k + i)) → (i : ℕ) (d : Worker) → i < length workers → WorkerRests region f (k + i) (get_or workers i d) (later (k + i)) at_start
+all_start : (region : SharedRegion) (f : Profile) (bounds : List ℕ) (k : ℕ) (later : ℕ → ℕ) (passes : List SharedPass) (workers : List Worker)
+    → region.profile ≡ f → AreNew region bounds k passes → AreEquipped bounds k passes workers
+    → ((i : ℕ) → i < length workers → f.pages + later (k + i) ≤ slice_index bounds (k + i)) → (i : ℕ) (d : Worker) → i < length workers
+    → WorkerRests region f (k + i) (get_or workers i d) (later (k + i)) at_start
 all_start region f bounds k later [] [] of_profile unused have within i d bad = absurd (omega (arith, bad))
 all_start region f bounds k later [] (w ∷ workers) of_profile unused have within i d lt = absurd have
 all_start region f bounds k later (p ∷ passes) [] of_profile unused have within i d lt = absurd have
@@ -184,7 +197,8 @@ all_start region f bounds k later (p ∷ passes) (w ∷ workers) of_profile unus
     subst (λ (n : ℕ). WorkerRests region f n (get_or workers i d) (later n) at_start) (omega arith)
     (all_start region f bounds (k + 1) later passes workers of_profile unused.1 have.1 (λ j le. subst (λ (n : ℕ). f.pages + later n ≤ slice_index bounds n) (omega arith) (within (suc j) (omega (arith, le)))) i d (omega (arith, lt)))
 
-scavenger_starts : (region : SharedRegion) (f : Profile) (bound later : ℕ) (pass : SharedPass) (scavenger : Scavenger) → region.profile ≡ f → later ≤ bound → IsNew region 0 bound pass → IsSupplied f pass bound scavenger
+scavenger_starts : (region : SharedRegion) (f : Profile) (bound later : ℕ) (pass : SharedPass) (scavenger : Scavenger) → region.profile ≡ f → later ≤ bound
+    → IsNew region 0 bound pass → IsSupplied f pass bound scavenger
     → ScavengerRests region f scavenger later at_start
 scavenger_starts region f bound later pass scavenger of_profile within unused ready =
     let room = unused.room in
@@ -205,7 +219,7 @@ scavenger_starts region f bound later pass scavenger of_profile within unused re
 owed_start : (f : Profile) (n : ℕ) → owed_by f at_start n ≡ n * f.pages
 owed_start f zero = omega arith
 owed_start f (suc n) =
-    let this = nothing_owed f in
+    let this = pages_owed_at_first f in
     let rest = owed_start f n in
     let more = suc-mul n f.pages in
     omega (arith, this, rest, more)
@@ -219,19 +233,23 @@ some_new : (region : SharedRegion) (bounds : List ℕ) (k : ℕ) (xs ys : List S
 some_new region bounds k [] ys unused = tt
 some_new region bounds k (x ∷ xs) ys unused = (unused.0, some_new region bounds (k + 1) xs ys unused.1)
 
-others_new : (region : SharedRegion) (bounds : List ℕ) (k : ℕ) (xs ys : List SharedPass) → AreNew region bounds k (xs ++ ys) → AreNew region bounds (k + length xs) ys
+others_new : (region : SharedRegion) (bounds : List ℕ) (k : ℕ) (xs ys : List SharedPass) → AreNew region bounds k (xs ++ ys)
+    → AreNew region bounds (k + length xs) ys
 others_new region bounds k [] ys unused = subst (λ (n : ℕ). AreNew region bounds n ys) (let is : k ≡ k + 0 = omega arith in is) unused
 others_new region bounds k (x ∷ xs) ys unused = subst (λ (n : ℕ). AreNew region bounds n ys) (let is : k + 1 + length xs ≡ k + suc (length xs) = omega arith in is) (others_new region bounds (k + 1) xs ys unused.1)
 
-new_at : (region : SharedRegion) (bounds : List ℕ) (k : ℕ) (passes : List SharedPass) (i : ℕ) (d : SharedPass) → i < length passes → AreNew region bounds k passes → IsNew region (k + i) (slice_index bounds (k + i)) (slice_index_or passes i d)
+new_at : (region : SharedRegion) (bounds : List ℕ) (k : ℕ) (passes : List SharedPass) (i : ℕ) (d : SharedPass) → i < length passes
+    → AreNew region bounds k passes → IsNew region (k + i) (slice_index bounds (k + i)) (slice_index_or passes i d)
 new_at region bounds k [] i d lt unused = absurd (omega (arith, lt))
 new_at region bounds k (pass ∷ passes) zero d lt unused = subst (λ (n : ℕ). IsNew region n (slice_index bounds n) pass) (let is : k ≡ k + 0 = omega arith in is) unused.0
 new_at region bounds k (pass ∷ passes) (suc i) d lt unused =
     subst (λ (n : ℕ). IsNew region n (slice_index bounds n) (slice_index_or passes i d)) (let is : k + 1 + i ≡ k + suc i = omega arith in is) (new_at region bounds (k + 1) passes i d (omega (arith, lt)) unused.1)
 
 -- a keeper that made no step waits for all guarded requests of its thread
-keeper_starts : (region : SharedRegion) (plan : Plan) (k : ℕ) (pass : SharedPass) (o : Option Keeper) → region.profile ≡ region_of plan → AreTriedBy (threads_of plan + k) (own_acts k (all_ops (phases_of plan)))
-    → (region_of plan).pages + kept_records k (all_ops (phases_of plan)) ≤ slice_index (bounds_of plan.bounds) (threads_of plan + k) → IsNew region (threads_of plan + k) (slice_index (bounds_of plan.bounds) (threads_of plan + k)) pass → IsKeeperFor plan k pass o
+keeper_starts : (region : SharedRegion) (plan : Plan) (k : ℕ) (pass : SharedPass) (o : Option Keeper) → region.profile ≡ region_of plan
+    → AreTriedBy (threads_of plan + k) (own_acts k (all_ops (phases_of plan)))
+    → (region_of plan).pages + kept_records k (all_ops (phases_of plan)) ≤ slice_index (bounds_of plan.bounds) (threads_of plan + k)
+    → IsNew region (threads_of plan + k) (slice_index (bounds_of plan.bounds) (threads_of plan + k)) pass → IsKeeperFor plan k pass o
     → KeeperRests region (region_of plan) (threads_of plan + k) (own_acts k (all_ops (phases_of plan))) o at_start
 keeper_starts region plan k pass o of_profile tried within unused has =
     let f = region_of plan in
@@ -240,7 +258,7 @@ keeper_starts region plan k pass o of_profile tried within unused has =
     let there = has.there in
     let counted = guards_own k ops in
     let events = counted.0 in
-    let owed = nothing_owed f in
+    let owed = pages_owed_at_first f in
     let room = unused.room in
     let spare = has.records in
     let places = has.places in
@@ -261,7 +279,8 @@ keeper_starts region plan k pass o of_profile tried within unused has =
     }
 
 -- each keeper of the plan rests, if it has some
-kept_start : {text : List ℕ} {plan : Plan} {kit : SharedKit} → IsPlanOf text plan → IsKitOf plan kit → AreGuarded (keepers_of plan) kit.team.threads.items → length kit.team.threads.items ≡ threads_of plan → (i : ℕ) (d : Worker) → i < length kit.team.threads.items
+kept_start : {text : List ℕ} {plan : Plan} {kit : SharedKit} → IsPlanOf text plan → IsKitOf plan kit → AreGuarded (keepers_of plan) kit.team.threads.items
+    → length kit.team.threads.items ≡ threads_of plan → (i : ℕ) (d : Worker) → i < length kit.team.threads.items
     → KeeperRests kit.region (region_of plan) (threads_of plan + suc i) (own_acts (suc i) (all_ops (phases_of plan))) (get_or kit.team.threads.items i d).keeper at_start
 kept_start {text} {plan} {kit} read made (inl all) many i d lt =
     let plans = every_plan read in
@@ -280,7 +299,8 @@ kept_start {text} {plan} {kit} read made (inr none) many i d lt =
     subst (λ (o : Option Keeper). KeeperRests kit.region (region_of plan) (threads_of plan + suc i) (own_acts (suc i) (all_ops (phases_of plan))) o at_start) (sym (none.1 i d lt))
     (record { of = tt; waits = unguarded_own plan.profile plan.guard (suc i) (all_ops (phases_of plan)) zero_of plans.keepers; silent = tt })
 
-start : {text : List ℕ} {plan : Plan} {kit : SharedKit} → IsPlanOf text plan → IsKitOf plan kit → TeamAt kit.region (session_of plan) (phases_of plan) kit.team at_start
+start : {text : List ℕ} {plan : Plan} {kit : SharedKit} → IsPlanOf text plan → IsKitOf plan kit
+    → TeamAt kit.region (session_of plan) (phases_of plan) kit.team at_start
 unfolding names_at_start
 start {text} {plan} {kit} read made =
     let f = region_of plan in
@@ -320,7 +340,8 @@ both_pages (suc n) m pages =
     omega (arith, rest, one, two)
 
 -- each keeper owes a deed of each page
-owed_first : (f : Profile) (threads : ℕ) (workers : List Worker) (n : ℕ) → ((i : ℕ) → i < n → owed_kept f (threads + suc i) (keeper_at workers i) at_start ≤ f.pages) → owed_by_keepers f threads workers at_start n ≤ n * f.pages
+owed_first : (f : Profile) (threads : ℕ) (workers : List Worker) (n : ℕ)
+    → ((i : ℕ) → i < n → owed_kept f (threads + suc i) (keeper_at workers i) at_start ≤ f.pages) → owed_by_keepers f threads workers at_start n ≤ n * f.pages
 owed_first f threads workers zero few = omega arith
 owed_first f threads workers (suc n) few =
     let this = few n (omega arith) in
@@ -328,7 +349,8 @@ owed_first f threads workers (suc n) few =
     let more = suc-mul n f.pages in
     omega (arith, this, rest, more)
 
-none_owed : (f : Profile) (threads : ℕ) (workers : List Worker) (n : ℕ) → n ≤ length workers → ((i : ℕ) (d : Worker) → i < length workers → (get_or workers i d).keeper ≡ None) → owed_by_keepers f threads workers at_start n ≡ 0
+none_owed : (f : Profile) (threads : ℕ) (workers : List Worker) (n : ℕ) → n ≤ length workers
+    → ((i : ℕ) (d : Worker) → i < length workers → (get_or workers i d).keeper ≡ None) → owed_by_keepers f threads workers at_start n ≡ 0
 none_owed f threads workers zero le none = refl
 none_owed f threads workers (suc n) le none =
     let lt : n < length workers = omega (arith, le) in
@@ -337,15 +359,17 @@ none_owed f threads workers (suc n) le none =
     let rest = none_owed f threads workers n (omega (arith, le)) none in
     omega (arith, this, rest)
 
-owed_one : (plan : Plan) (k actor : ℕ) (pass : SharedPass) (o : Option Keeper) → IsKeeperFor plan k pass o → owed_kept (region_of plan) actor o at_start ≤ (region_of plan).pages
+owed_one : (plan : Plan) (k actor : ℕ) (pass : SharedPass) (o : Option Keeper) → IsKeeperFor plan k pass o
+    → owed_kept (region_of plan) actor o at_start ≤ (region_of plan).pages
 owed_one plan k actor pass o has =
     let f = region_of plan in
-    let owed = nothing_owed f in
+    let owed = pages_owed_at_first f in
     let up = ap (λ (gs : List Guard). length gs) has.empty in
     let same = ap (λ (x : Option Keeper). owed_kept f actor x at_start) has.present in
     omega (arith, owed, up, same)
 
-kept_owed : {plan : Plan} {kit : SharedKit} → IsKitOf plan kit → AreGuarded (keepers_of plan) kit.team.threads.items → length kit.team.threads.items ≡ threads_of plan
+kept_owed : {plan : Plan} {kit : SharedKit} → IsKitOf plan kit → AreGuarded (keepers_of plan) kit.team.threads.items
+    → length kit.team.threads.items ≡ threads_of plan
     → owed_by_keepers (region_of plan) (threads_of plan) kit.team.threads.items at_start (threads_of plan) ≤ keepers_of plan * (region_of plan).pages
 kept_owed {plan} {kit} made (inl all) many =
     let workers = kit.team.threads.items in
@@ -363,7 +387,8 @@ kept_owed {plan} {kit} made (inr none) many =
     let nothing = none_owed (region_of plan) (threads_of plan) kit.team.threads.items (threads_of plan) (omega (arith, many)) none.1 in
     omega (arith, nothing)
 
-start_room : {text : List ℕ} {plan : Plan} {kit : SharedKit} (out : Records) → IsPlanOf text plan → IsKitOf plan kit → records_in out ≡ [] → plan.total + length (phases_of plan) + 1 ≤ room_of out
+start_room : {text : List ℕ} {plan : Plan} {kit : SharedKit} (out : Records) → IsPlanOf text plan → IsKitOf plan kit → records_in out ≡ []
+    → plan.total + length (phases_of plan) + 1 ≤ room_of out
     → HasRoom (session_of plan) (phases_of plan) (length (the_phases plan.phases) + 1) kit.team.threads.items out at_start
 start_room {text} {plan} {kit} out read made empty room =
     let owed = owed_start (region_of plan) (threads_of plan) in
@@ -377,7 +402,9 @@ start_room {text} {plan} {kit} out read made empty room =
     omega (arith, owed, kept, total, actors, sum, none, room, many)
 
 -- the plan as the replay is handed it
-pub handed : {text : List ℕ} {plan : Plan} {kit : SharedKit} (out : Records) (slice : List Phase) → IsPlanOf text plan → IsKitOf plan kit → slice ≡ the_phases plan.phases → records_in out ≡ [] → plan.total + length (phases_of plan) + 1 ≤ room_of out
-    → TeamAt kit.region (session_of plan) (map ops_of slice) kit.team at_start × HasRoom (session_of plan) (map ops_of slice) (length slice + 1) kit.team.threads.items out at_start
+pub handed : {text : List ℕ} {plan : Plan} {kit : SharedKit} (out : Records) (slice : List Phase) → IsPlanOf text plan → IsKitOf plan kit
+    → slice ≡ the_phases plan.phases → records_in out ≡ [] → plan.total + length (phases_of plan) + 1 ≤ room_of out
+    → TeamAt kit.region (session_of plan) (map ops_of slice) kit.team at_start
+      × HasRoom (session_of plan) (map ops_of slice) (length slice + 1) kit.team.threads.items out at_start
 handed {text} {plan} {kit} out slice read made is empty room =
     subst (λ (ps : List Phase). TeamAt kit.region (session_of plan) (map ops_of ps) kit.team at_start × HasRoom (session_of plan) (map ops_of ps) (length ps + 1) kit.team.threads.items out at_start) (sym is) (start read made, start_room out read made empty room)

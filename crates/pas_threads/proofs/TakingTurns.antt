@@ -36,9 +36,11 @@ came_both {f} {xs} {ys} {p} one two = record {
   records_are = two.records_are ∙ ap (λ (rs : List Record). rs ++ two.said) one.records_are ∙ append_assoc p.records one.said two.said;
 }
 
+-- An actor that said nothing of it leaves its records as they were.
 pub pushed_none : {k : ℕ} {said : List Record} {out : Records} → records_by k said ≡ [] → Pushed k said out out
 pushed_none {k} {said} {out} none = record { added = sym (append-nil (records_in out)) ∙ ap (λ (rs : List Record). records_in out ++ rs) (sym none); room = refl }
 
+-- What an actor said of two parts, one after the other, came to the end of its records.
 pub pushed_both : {k : ℕ} {xs ys : List Record} {a b c : Records} → Pushed k xs a b → Pushed k ys b c → Pushed k (xs ++ ys) a c
 pushed_both {k} {xs} {ys} {a} {b} {c} one two = record {
   added = two.added ∙ ap (λ (rs : List Record). rs ++ records_by k ys) one.added ∙ append_assoc (records_in a) (records_by k xs) (records_by k ys)
@@ -46,12 +48,15 @@ pushed_both {k} {xs} {ys} {a} {b} {c} one two = record {
   room = two.room ∙ one.room;
 }
 
+-- A worker of whose thread nothing is said is as it was.
 pub told_none : {k : ℕ} {said : List Record} {w : Worker} → records_by k said ≡ [] → Told k said w w
 told_none none = record { out = pushed_none none; requests = refl; keeper = refl }
 
+-- What a worker's thread said of two parts came to the end of its records.
 pub told_both : {k : ℕ} {xs ys : List Record} {a b c : Worker} → Told k xs a b → Told k ys b c → Told k (xs ++ ys) a c
 told_both one two = record { out = pushed_both one.out two.out; requests = two.requests ∙ one.requests; keeper = two.keeper ∙ one.keeper }
 
+-- An actor that took part in neither of two parts took no part in both.
 pub no_part_both : {k : ℕ} {xs ys : List Record} {p q r : Progress} → TookNoPart k xs p q → TookNoPart k ys q r → TookNoPart k (xs ++ ys) p r
 no_part_both {k} {xs} {ys} one two = record { part_is = two.part_is ∙ one.part_is; silent = records_both k xs ys ∙ ap (λ (rs : List Record). rs ++ records_by k ys) one.silent ∙ two.silent }
 
@@ -62,10 +67,13 @@ pub record SoFar (all left : List Act) (Done : List Act → Type 0) : Type 0 whe
   pub whole : acts ++ left ≡ all
   pub done : Done acts
 
+-- Before the first act all acts are left.
 pub at_first : {all : List Act} {Done : List Act → Type 0} → Done [] → SoFar all all Done
 at_first did = record { acts = []; whole = refl; done = did }
 
-pub goes_on : {all left rest : List Act} {Done Done' : List Act → Type 0} (head : List Act) → left ≡ head ++ rest → (so : SoFar all left Done) → Done' (so.acts ++ head) → SoFar all rest Done'
+-- After some acts of those left, what was done is one part more.
+pub goes_on : {all left rest : List Act} {Done Done' : List Act → Type 0} (head : List Act) → left ≡ head ++ rest → (so : SoFar all left Done)
+    → Done' (so.acts ++ head) → SoFar all rest Done'
 goes_on {all} {left} {rest} head is so did = record {
   acts = so.acts ++ head;
   whole = append_assoc so.acts head rest ∙ ap (λ (acts : List Act). so.acts ++ acts) (sym is) ∙ so.whole;
@@ -75,11 +83,13 @@ goes_on {all} {left} {rest} head is so did = record {
 passes_on : {all left rest : List Act} {Done : List Act → Type 0} → left ≡ rest → SoFar all left Done → SoFar all rest Done
 passes_on is so = record { acts = so.acts; whole = ap (λ (acts : List Act). so.acts ++ acts) (sym is) ∙ so.whole; done = so.done }
 
+-- Once no act is left, all are done.
 pub at_last : {all left : List Act} {Done : List Act → Type 0} → left ≡ [] → SoFar all left Done → Done all
 at_last {Done = Done} none so = subst Done (sym (append-nil so.acts) ∙ ap (λ (acts : List Act). so.acts ++ acts) (sym none) ∙ so.whole) so.done
 
 -- ---- one of the row becomes another
-pub set_each : {A : Type 0} (Is : ℕ → A → Type 0) (now : List A) (i : ℕ) (w e : A) (j : ℕ) → i < length now → Is i w → (j ≢ i → Is j (get_or now j e)) → Is j (get_or (set now i w) j e)
+pub set_each : {A : Type 0} (Is : ℕ → A → Type 0) (now : List A) (i : ℕ) (w e : A) (j : ℕ) → i < length now → Is i w → (j ≢ i → Is j (get_or now j e))
+    → Is j (get_or (set now i w) j e)
 set_each {A} Is now i w e j lt this others = elim (cases_eq j i) [
   | inl same ↦ subst (λ (x : A). Is j x) (sym (get_or-set_at now i j w e same lt)) (subst (λ (m : ℕ). Is m w) (sym same) this)
   | inr other ↦ subst (λ (x : A). Is j x) (sym (get_or-set_other now i j w e other)) (others other)
@@ -90,24 +100,31 @@ set_each {A} Is now i w e j lt this others = elim (cases_eq j i) [
 abbrev pub Stays : (ℕ → ℕ) → (ℕ → Worker → Progress → Type 0) → Type 0
 Stays number Stands = (i : ℕ) (w : Worker) (q r : Progress) → part (number i) r.list ≡ part (number i) q.list → r.caches (number i) ≡ q.caches (number i) → r.names ≡ q.names → Stands i w q → Stands i w r
 
-abbrev pub no_turn : {f : Profile} {number : ℕ → ℕ} {Stands : ℕ → Worker → Progress → Type 0} {old : List Worker} {p : Progress} → ((i : ℕ) (d : Worker) → i < length old → Stands i (get_or old i d) p) → TookTurns f number Stands [] old old p
+abbrev pub no_turn : {f : Profile} {number : ℕ → ℕ} {Stands : ℕ → Worker → Progress → Type 0} {old : List Worker} {p : Progress}
+    → ((i : ℕ) (d : Worker) → i < length old → Stands i (get_or old i d) p) → TookTurns f number Stands [] old old p
 no_turn {f} {number} {Stands} {old} {p} at = record { came = came_none f p; stand = at; told = λ i d lt. told_none refl; leaves = record { parts = λ k other. refl; silent = λ k some other. refl; names = refl; books = refl; epoch = refl } }
 
 -- those of thread k and then of the scavenger, by actor
 pub by_own : (k : ℕ) (mine told : List Record) → EachOf k mine → EachOf 0 told → 0 ≢ k → records_by k (mine ++ told) ≡ mine
 by_own k mine told one two ne = records_both k mine told ∙ ap (λ (xs : List Record). xs ++ records_by k told) (all_by k mine one) ∙ ap (λ (xs : List Record). mine ++ xs) (none_by k 0 told two ne) ∙ append-nil mine
 
+-- What a thread says adds nothing to the records of the scavenger.
 pub by_scavenger : (k : ℕ) (mine told : List Record) → EachOf k mine → 0 ≢ k → records_by 0 (mine ++ told) ≡ records_by 0 told
 by_scavenger k mine told one ne = records_both 0 mine told ∙ ap (λ (xs : List Record). xs ++ records_by 0 told) (none_by 0 k mine one (λ is. ne (sym is)))
 
+-- What one thread and the scavenger say has nothing of another actor.
 pub by_other : (j k : ℕ) (mine told : List Record) → EachOf k mine → EachOf 0 told → k ≢ j → 0 ≢ j → records_by j (mine ++ told) ≡ []
 by_other j k mine told one two ne zero = records_both j mine told ∙ ap (λ (xs : List Record). xs ++ records_by j told) (none_by j k mine one ne) ∙ none_by j 0 told two zero
 
-abbrev pub by_turn : {region : SharedRegion} {f : Profile} {k : ℕ} {act : Act} {told : List Record} {old new : Worker} {later : Later} {p : Progress} → Turn region f k act told old new later p → Came f (act ∷ []) p
+abbrev pub by_turn : {region : SharedRegion} {f : Profile} {k : ℕ} {act : Act} {told : List Record} {old new : Worker} {later : Later} {p : Progress}
+    → Turn region f k act told old new later p → Came f (act ∷ []) p
 by_turn {told = told} t = record { reached = t.did.does.reached; reaches = t.did.does.reaches; said = t.did.does.own ++ told; records_are = t.did.does.records_are }
 
-abbrev pub takes_turn : {region : SharedRegion} {f : Profile} {number : ℕ → ℕ} {Stands : ℕ → Worker → Progress → Type 0} {acts : List Act} {act : Act} {told : List Record} {old now : List Worker} {later : Later} {p : Progress} → Stays number Stands → AreDistinct number (length old) → EachOf 0 told
-    → (i : ℕ) (d w : Worker) → i < length old → length now ≡ length old → (so : TookTurns f number Stands acts old now p) → (t : Turn region f (number i) act told (get_or now i d) w later so.came.reached) → Stands i w t.did.does.reached
+abbrev pub takes_turn : {region : SharedRegion} {f : Profile} {number : ℕ → ℕ} {Stands : ℕ → Worker → Progress → Type 0} {acts : List Act} {act : Act}
+      {told : List Record} {old now : List Worker} {later : Later} {p : Progress}
+    → Stays number Stands → AreDistinct number (length old) → EachOf 0 told
+    → (i : ℕ) (d w : Worker) → i < length old → length now ≡ length old → (so : TookTurns f number Stands acts old now p)
+    → (t : Turn region f (number i) act told (get_or now i d) w later so.came.reached) → Stands i w t.did.does.reached
     → TookTurns f number Stands (acts ++ (act ∷ [])) old (set now i w) p
 takes_turn {number = number} {Stands} {told = told} {old} {now} stays apart theirs i d w lt many so t stands =
     let x = t.did.does in
@@ -143,11 +160,13 @@ pub pass_still : (pass : SharedPass) {l m : Whole} → StandsStill (standing_of_
 pass_still pass = record { seat_is = refl; stands = λ stood same. stood ∙ sym same }
 
 -- it rests at each progress at which it has the same in hand, and owes the same
-pub same_rests : {region : SharedRegion} {f : Profile} {k later : ℕ} {worker : Worker} {p q : Progress} → part k q.list ≡ part k p.list → q.caches k ≡ p.caches k → WorkerRests region f k worker later p → WorkerRests region f k worker later q
+pub same_rests : {region : SharedRegion} {f : Profile} {k later : ℕ} {worker : Worker} {p q : Progress} → part k q.list ≡ part k p.list
+    → q.caches k ≡ p.caches k → WorkerRests region f k worker later p → WorkerRests region f k worker later q
 same_rests parts caches at = record { here = record { has = at.here.has; rests = rests_still (pass_still at.here.has.pass) parts caches at.here.rests }; said = at.said; asked = at.asked; requests = at.requests }
 
 -- what it said is gathered, and its requests were taken over: it rests with room for less, where that and what it owes fit
-pub rests_clear : {region : SharedRegion} {f : Profile} {k n : ℕ} {later : Later} {w new : Worker} {p : Progress} → WorkerHas region f k w later p → new.pass ≡ w.pass → new.cache ≡ w.cache → records_in new.out ≡ [] → n ≤ later.events
+pub rests_clear : {region : SharedRegion} {f : Profile} {k n : ℕ} {later : Later} {w new : Worker} {p : Progress} → WorkerHas region f k w later p
+    → new.pass ≡ w.pass → new.cache ≡ w.cache → records_in new.out ≡ [] → n ≤ later.events
     → owed_at f k p + n ≤ room_of new.out → requests_in new.requests ≡ [] → n ≤ room_for new.requests → WorkerRests region f k new n p
 rests_clear {region} {f} {k} {n} {later} {w} {new} {p} at pass cache none events spare asked requests =
     let same : cached w.cache ≡ cached new.cache = ap cached (sym cache) in
@@ -167,25 +186,32 @@ rests_clear {region} {f} {k} {n} {later} {w} {new} {p} at pass cache none events
       requests = requests;
     }
 
+-- A thread with the same part of the list and the same cache owes the same.
 pub same_owed : (f : Profile) (p q : Progress) (k : ℕ) → part k q.list ≡ part k p.list → q.caches k ≡ p.caches k → owed_at f k q ≡ owed_at f k p
 same_owed f p q k parts caches = ap (λ (v : View). owed_events f (q.caches k) v) parts ∙ ap (λ (c : Cached). owed_events f c (part k p.list)) caches
 
+-- A thread's worker that takes no part in what others do is due as it was.
 pub due_stays : {region : SharedRegion} {f : Profile} {later : ℕ → ℕ} {p : Progress} → Stays suc (IsDue region f later p)
 due_stays {region} {f} {later} {p} i w q r parts caches names at =
     let same = same_owed f q r (suc i) parts caches in
     let paid = at.paid in
     record { here = record { has = at.here.has; rests = rests_still (pass_still at.here.has.pass) parts caches at.here.rests }; paid = omega (arith, same, paid) }
 
+-- The threads at the places of a row are distinct.
 pub threads_distinct : (places : ℕ) → AreDistinct suc places
 threads_distinct places = record { threads = λ i lt same. omega (arith, same); apart = λ i j low high ne same. ne (omega (arith, same)) }
 
 -- before the first turn
-pub none_took : {region : SharedRegion} {f : Profile} (old : List Worker) {later : ℕ → ℕ} {p : Progress} → AreResting region f old later p → (i : ℕ) (d : Worker) → i < length old → IsDue region f later p i (get_or old i d) p
+pub none_took : {region : SharedRegion} {f : Profile} (old : List Worker) {later : ℕ → ℕ} {p : Progress} → AreResting region f old later p
+    → (i : ℕ) (d : Worker) → i < length old → IsDue region f later p i (get_or old i d) p
 none_took old at i d lt = let none = ap (λ (rs : List Record). length rs) (at i d lt).said in record { here = (at i d lt).here; paid = omega (arith, none) }
 
 -- the next worker takes its turn, by an act that costs it nothing
-abbrev turn_taken : {region : SharedRegion} {f : Profile} {acts : List Act} {act : Act} {old now : List Worker} {later : ℕ → ℕ} {p : Progress} (i : ℕ) (d w : Worker) → own_cost_of_act (suc i) act ≡ 0 → i < length old → length now ≡ length old
-    → (so : TookTurns f suc (IsDue region f later p) acts old now p) → Turn region f (suc i) act [] (get_or now i d) w (evenly (later (suc i))) so.came.reached → TookTurns f suc (IsDue region f later p) (acts ++ (act ∷ [])) old (set now i w) p
+abbrev turn_taken : {region : SharedRegion} {f : Profile} {acts : List Act} {act : Act} {old now : List Worker} {later : ℕ → ℕ} {p : Progress} (i : ℕ)
+      (d w : Worker)
+    → own_cost_of_act (suc i) act ≡ 0 → i < length old → length now ≡ length old
+    → (so : TookTurns f suc (IsDue region f later p) acts old now p) → Turn region f (suc i) act [] (get_or now i d) w (evenly (later (suc i))) so.came.reached
+    → TookTurns f suc (IsDue region f later p) (acts ++ (act ∷ [])) old (set now i w) p
 turn_taken {f = f} {old = old} {now} i d w free lt many so t =
     let k = suc i in
     let x = t.did.does in
@@ -203,23 +229,35 @@ abbrev pub WokeSoFar : SharedRegion → Profile → Mask4 → ℕ → List Worke
 WokeSoFar region f awake i old now later p =
     SoFar (acts_there Wakes (is_set awake) 0 (length old) []) (acts_there Wakes (is_set awake) i (length old) []) (λ acts. Woke region f acts old now later p)
 
-pub wakes_begin : (awake : Mask4) {region : SharedRegion} {f : Profile} {old : List Worker} {later : ℕ → ℕ} {p : Progress} → AreResting region f old later p → WokeSoFar region f awake 0 old old later p
+-- Before any thread reads the epoch, none has.
+pub wakes_begin : (awake : Mask4) {region : SharedRegion} {f : Profile} {old : List Worker} {later : ℕ → ℕ} {p : Progress} → AreResting region f old later p
+    → WokeSoFar region f awake 0 old old later p
 wakes_begin awake {old = old} at = at_first (record { turns = no_turn (none_took old at); silent = refl })
 
-wakes : {region : SharedRegion} {f : Profile} {acts : List Act} {old now : List Worker} {later : ℕ → ℕ} {p : Progress} (i : ℕ) (d w : Worker) (so : Woke region f acts old now later p) → i < length old → length now ≡ length old
-    → (t : Turn region f (suc i) (Wakes (suc i)) [] (get_or now i d) w (evenly (later (suc i))) so.turns.came.reached) → t.did.does.own ≡ [] → Woke region f (acts ++ (Wakes (suc i) ∷ [])) old (set now i w) later p
+wakes : {region : SharedRegion} {f : Profile} {acts : List Act} {old now : List Worker} {later : ℕ → ℕ} {p : Progress} (i : ℕ) (d w : Worker)
+      (so : Woke region f acts old now later p)
+    → i < length old → length now ≡ length old
+    → (t : Turn region f (suc i) (Wakes (suc i)) [] (get_or now i d) w (evenly (later (suc i))) so.turns.came.reached) → t.did.does.own ≡ []
+    → Woke region f (acts ++ (Wakes (suc i) ∷ [])) old (set now i w) later p
 wakes i d w so lt many t none = record { turns = turn_taken i d w refl lt many so.turns t; silent = ap (λ (rs : List Record). so.turns.came.said ++ (rs ++ [])) none ∙ append-nil so.turns.came.said ∙ so.silent }
 
-pub wakes_go_on : (awake : Mask4) {region : SharedRegion} {f : Profile} {old now : List Worker} {later : ℕ → ℕ} {p : Progress} (i : ℕ) (d w : Worker) → is_set awake (i + 1) ≡ true → (so : WokeSoFar region f awake i old now later p) → i < length old → length now ≡ length old
-    → (t : Turn region f (suc i) (Wakes (suc i)) [] (get_or now i d) w (evenly (later (suc i))) so.done.turns.came.reached) → t.did.does.own ≡ [] → WokeSoFar region f awake (i + 1) old (set now i w) later p
+-- After one more thread of the mask read the epoch, one more did.
+pub wakes_go_on : (awake : Mask4) {region : SharedRegion} {f : Profile} {old now : List Worker} {later : ℕ → ℕ} {p : Progress} (i : ℕ) (d w : Worker)
+    → is_set awake (i + 1) ≡ true → (so : WokeSoFar region f awake i old now later p) → i < length old → length now ≡ length old
+    → (t : Turn region f (suc i) (Wakes (suc i)) [] (get_or now i d) w (evenly (later (suc i))) so.done.turns.came.reached) → t.did.does.own ≡ []
+    → WokeSoFar region f awake (i + 1) old (set now i w) later p
 wakes_go_on awake {region} {f} {old} {now} {later} {p} i d w on so lt many t none =
     goes_on (Wakes (i + 1) ∷ []) (next_chosen Wakes (is_set awake) i (length old) [] lt on) so
     (subst (λ (m : ℕ). Woke region f (so.acts ++ (Wakes m ∷ [])) old (set now i w) later p) (let is : suc i ≡ i + 1 = omega arith in is) (wakes i d w so.done lt many t none))
 
-pub wakes_pass : (awake : Mask4) {region : SharedRegion} {f : Profile} {old now : List Worker} {later : ℕ → ℕ} {p : Progress} (i : ℕ) → is_set awake (i + 1) ≡ false → i < length old → WokeSoFar region f awake i old now later p → WokeSoFar region f awake (i + 1) old now later p
+-- A thread that isn't in the mask is passed over.
+pub wakes_pass : (awake : Mask4) {region : SharedRegion} {f : Profile} {old now : List Worker} {later : ℕ → ℕ} {p : Progress} (i : ℕ)
+    → is_set awake (i + 1) ≡ false → i < length old → WokeSoFar region f awake i old now later p → WokeSoFar region f awake (i + 1) old now later p
 wakes_pass awake {old = old} i off lt so = passes_on (next_passed Wakes (is_set awake) i (length old) [] lt off) so
 
-pub wakes_end : (awake : Mask4) {region : SharedRegion} {f : Profile} {old now : List Worker} {later : ℕ → ℕ} {p : Progress} (i : ℕ) → length old ≤ i → WokeSoFar region f awake i old now later p → WokeAll region f awake old now later p
+-- Once each place was passed, all threads of the mask have read the epoch.
+pub wakes_end : (awake : Mask4) {region : SharedRegion} {f : Profile} {old now : List Worker} {later : ℕ → ℕ} {p : Progress} (i : ℕ) → length old ≤ i
+    → WokeSoFar region f awake i old now later p → WokeAll region f awake old now later p
 wakes_end awake {region} {f} {old} {now} {later} {p} i le so =
     let n = length old in
     let all : acts_there Wakes (is_set awake) 0 n [] ≡ map Wakes (awake_in awake n) =
@@ -228,7 +266,8 @@ wakes_end awake {region} {f} {old} {now} {later} {p} i le so =
     subst (λ (acts : List Act). Woke region f acts old now later p) all (at_last (none_left Wakes (is_set awake) i n [] le) so)
 
 -- they rest again
-pub woke_rest : {region : SharedRegion} {f : Profile} {acts : List Act} {old now : List Worker} {later : ℕ → ℕ} {p : Progress} → length now ≡ length old → AreResting region f old later p → (woke : Woke region f acts old now later p) → AreResting region f now later woke.turns.came.reached
+pub woke_rest : {region : SharedRegion} {f : Profile} {acts : List Act} {old now : List Worker} {later : ℕ → ℕ} {p : Progress} → length now ≡ length old
+    → AreResting region f old later p → (woke : Woke region f acts old now later p) → AreResting region f now later woke.turns.came.reached
 woke_rest {old = old} {now} many at woke i d lt =
     let less : i < length old = omega (arith, lt, many) in
     let was = at i d less in
@@ -246,11 +285,15 @@ woke_rest {old = old} {now} many at woke i d lt =
 abbrev pub ends_from : ℕ → ℕ → List Act
 ends_from i n = map Ends (numbers_from (i + 1) (n - i))
 
-abbrev pub ends_begin : {region : SharedRegion} {f : Profile} {old : List Worker} {later : ℕ → ℕ} {p : Progress} → AreResting region f old later p → Stopped region f [] 0 old old later p
+abbrev pub ends_begin : {region : SharedRegion} {f : Profile} {old : List Worker} {later : ℕ → ℕ} {p : Progress} → AreResting region f old later p
+    → Stopped region f [] 0 old old later p
 ends_begin {old = old} at = record { turns = no_turn (none_took old at); spoken = tt; none = refl; empty = λ j d less. absurd (omega (arith, less)) }
 
-abbrev pub ends : {region : SharedRegion} {f : Profile} {acts : List Act} {old now : List Worker} {later : ℕ → ℕ} {p : Progress} (i : ℕ) (d w : Worker) (so : Stopped region f acts i old now later p) → i < length old → length now ≡ length old
-    → Turn region f (suc i) (Ends (suc i)) [] (get_or now i d) w (evenly (later (suc i))) so.turns.came.reached → (cached w.cache).locals ≡ [] → Stopped region f (acts ++ (Ends (suc i) ∷ [])) (suc i) old (set now i w) later p
+abbrev pub ends : {region : SharedRegion} {f : Profile} {acts : List Act} {old now : List Worker} {later : ℕ → ℕ} {p : Progress} (i : ℕ) (d w : Worker)
+      (so : Stopped region f acts i old now later p)
+    → i < length old → length now ≡ length old
+    → Turn region f (suc i) (Ends (suc i)) [] (get_or now i d) w (evenly (later (suc i))) so.turns.came.reached → (cached w.cache).locals ≡ []
+    → Stopped region f (acts ++ (Ends (suc i) ∷ [])) (suc i) old (set now i w) later p
 ends {now = now} i d w so lt many t none =
     let x = t.did.does in
     record {
@@ -268,16 +311,20 @@ pub record AreGathered (says : Worker → List Record) (Is : Worker → Worker �
   pub left : (j : ℕ) (d : Worker) → i ≤ j → get_or now j d ≡ get_or old j d
 
 module _ (says : Worker → List Record) (Is : Worker → Worker → Type 0) where
+  -- Before anything is gathered, the records are as they were.
   pub gather_begins : (old : List Worker) (before : List Record) → AreGathered says Is 0 old old before before
   gather_begins old before = record { said_are = refl; done = λ j d less within. absurd (omega (arith, less)); left = λ j d from. refl }
 
   -- what the worker at this place says comes first of what is left
-  next_said : (i : ℕ) (old now : List Worker) (before said : List Record) (d : Worker) → i < length old → AreGathered says Is i old now before said → said ++ (says (get_or now i d) ++ said_by says (drop (i + 1) old)) ≡ before ++ said_by says old
+  next_said : (i : ℕ) (old now : List Worker) (before said : List Record) (d : Worker) → i < length old → AreGathered says Is i old now before said
+      → said ++ (says (get_or now i d) ++ said_by says (drop (i + 1) old)) ≡ before ++ said_by says old
   next_said i old now before said d lt so =
       ap (λ (w : Worker). said ++ (says w ++ said_by says (drop (i + 1) old))) (so.left i d (omega arith))
       ∙ ap (λ (ws : List Worker). said ++ said_by says ws) (sym (drop_more old i d lt)) ∙ so.said_are
 
-  pub gather_goes_on : {i : ℕ} {old now : List Worker} {before said said' : List Record} (d w : Worker) → i < length old → length now ≡ length old → AreGathered says Is i old now before said
+  -- After one more worker what it said stands behind the records.
+  pub gather_goes_on : {i : ℕ} {old now : List Worker} {before said said' : List Record} (d w : Worker) → i < length old → length now ≡ length old
+      → AreGathered says Is i old now before said
       → said' ≡ said ++ says (get_or now i d) → Is (get_or now i d) w → AreGathered says Is (i + 1) old (set now i w) before said'
   gather_goes_on {i} {old} {now} {before} {said} {said'} d w lt many so added one = record {
     said_are = ap (λ (rs : List Record). rs ++ said_by says (drop (i + 1) old)) added ∙ append_assoc said (says (get_or now i d)) (said_by says (drop (i + 1) old)) ∙ next_said i old now before said d lt so;
@@ -287,7 +334,8 @@ module _ (says : Worker → List Record) (Is : Worker → Worker → Type 0) whe
   }
 
   -- there is room for what the next one says, where there is for all
-  pub next_fits : (i : ℕ) (old now : List Worker) (before said : List Record) (d : Worker) {room : ℕ} → i < length old → AreGathered says Is i old now before said → length before + length (said_by says old) ≤ room → length said + length (says (get_or now i d)) ≤ room
+  pub next_fits : (i : ℕ) (old now : List Worker) (before said : List Record) (d : Worker) {room : ℕ} → i < length old
+      → AreGathered says Is i old now before said → length before + length (said_by says old) ≤ room → length said + length (says (get_or now i d)) ≤ room
   next_fits i old now before said d lt so fits =
       let mine = says (get_or now i d) in
       let rest = said_by says (drop (i + 1) old) in
@@ -297,6 +345,8 @@ module _ (says : Worker → List Record) (Is : Worker → Worker → Type 0) whe
       let three = length-append before (said_by says old) in
       omega (arith, all, one, two, three, fits)
 
-  pub gather_ends : {i : ℕ} {old now : List Worker} {before said : List Record} → length old ≤ i → AreGathered says Is i old now before said → said ≡ before ++ said_by says old
+  -- Once each worker had its turn, all that they said stands behind the records.
+  pub gather_ends : {i : ℕ} {old now : List Worker} {before said : List Record} → length old ≤ i → AreGathered says Is i old now before said
+      → said ≡ before ++ said_by says old
   gather_ends {i} {old} {now} {before} {said} le so =
       sym (append-nil said) ∙ ap (λ (ws : List Worker). said ++ said_by says ws) (sym (drop_of_length-le old le)) ∙ so.said_are

@@ -61,7 +61,8 @@ pub record PairDid (region : SharedRegion) (book : NameBook) (f : Profile) (thre
 
 -- the worker's acts of its operations in a phase were done, wherever the replay stood
 pub record DidPhase (region : SharedRegion) (book : NameBook) (ops : List Op) (old new : Worker) : Type 0 where
-  pub did : (f : Profile) (threads k : ℕ) (later : Later) (more : LaterKept) (p : Progress) → 1 ≤ threads → PairStands region book f threads k (own_acts k ops) old later more p
+  pub did : (f : Profile) (threads k : ℕ) (later : Later) (more : LaterKept) (p : Progress) → 1 ≤ threads
+      → PairStands region book f threads k (own_acts k ops) old later more p
       → PairDid region book f threads k (own_acts k ops) old new later more p
 
 -- the operations of this worker's thread in the phase can be done
@@ -161,4 +162,5 @@ LoweredAll region f threads keepers old new p = Lowered region f threads (map Lo
 -- before that: each keeper stands with its pass
 pub record MayLower (region : SharedRegion) (f : Profile) (threads keepers : ℕ) (workers : List Worker) (p : Progress) : Type 0 where
   pub guarded : AreGuarded keepers workers
-  pub each : (j : ℕ) (d : Worker) → j < length workers → IsKeeperOf region (get_or workers j d).keeper × KeeperWaits f (threads + suc j) [] (kept_by_worker (get_or workers j d).keeper) no_more p
+  pub each : (j : ℕ) (d : Worker) → j < length workers
+      → IsKeeperOf region (get_or workers j d).keeper × KeeperWaits f (threads + suc j) [] (kept_by_worker (get_or workers j d).keeper) no_more p

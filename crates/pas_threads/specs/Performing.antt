@@ -54,7 +54,8 @@ pub record IsReady (region : SharedRegion) (r : Round) (team : Team) : Type 0 wh
   pub behind : AreKeptBehind r.threads r.ops
   pub many : length team.threads.items ≡ r.threads
   pub few : r.threads < 32
-  pub workers : (i : ℕ) (d : Worker) → i < length team.threads.items → PairStands region r.book r.profile r.threads (suc i) (own_acts (suc i) r.ops) (get_or team.threads.items i d) (r.later (suc i)) (r.more (suc i)) r.start
+  pub workers : (i : ℕ) (d : Worker) → i < length team.threads.items
+      → PairStands region r.book r.profile r.threads (suc i) (own_acts (suc i) r.ops) (get_or team.threads.items i d) (r.later (suc i)) (r.more (suc i)) r.start
   pub scavenger : ScavengerHas region r team.scavenger
   pub places : HasPlaces r.threads team
 
@@ -90,14 +91,16 @@ ScavengerDone region r old new said q =
 -- what worker w did, for all actors in its hands; one without an operation did nothing
 pub record Piece (region : SharedRegion) (r : Round) (old new : List Worker) (before after : Scavenger) (w : ℕ) : Type 0 where
   pub own : Came r.profile (acts_by (owner_in r.threads r.ops) w (acts_of_ops (idle_in r) r.ops)) r.start
-  pub threads : (i : ℕ) (d : Worker) → i < length old → owner_in r.threads r.ops (suc i) ≡ w → ThreadDone region r (suc i) (get_or old i d) (get_or new i d) own.said own.reached
+  pub threads : (i : ℕ) (d : Worker) → i < length old → owner_in r.threads r.ops (suc i) ≡ w
+      → ThreadDone region r (suc i) (get_or old i d) (get_or new i d) own.said own.reached
   pub scavenger : w ≡ 0 → ScavengerDone region r before after own.said own.reached
   pub still : is_active r.ops w ≡ false → own.reached.list ≡ r.start.list
 
 -- .. and the bench that it left
 pub record PieceLeft (region : SharedRegion) (r : Round) (old new : List Worker) (before after : Scavenger) (w : ℕ) : Type 0 where
   pub piece : Piece region r old new before after w
-  pub left : (i : ℕ) (d : Worker) → w ≡ suc i → i < length old → is_active r.ops w ≡ true → HasLeft region (get_or new i d).bench (pair_in r.threads w (get_or old i d).keeper) r.start.list piece.own.reached.list
+  pub left : (i : ℕ) (d : Worker) → w ≡ suc i → i < length old → is_active r.ops w ≡ true
+      → HasLeft region (get_or new i d).bench (pair_in r.threads w (get_or old i d).keeper) r.start.list piece.own.reached.list
   pub crew_left : w ≡ 0 → is_active r.ops w ≡ true → HasLeft region after.bench (crew_in (idle_in r)) r.start.list piece.own.reached.list
 
 -- all hands did their operations, each for itself, and left their benches

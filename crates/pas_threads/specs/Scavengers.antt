@@ -41,5 +41,6 @@ pub record ScavengerDid (region : SharedRegion) (s : Shift) (acts : List Act) (o
 
 -- they were done, wherever the replay stood, and it has its pass again
 pub record DidScavenge (region : SharedRegion) (ops : List Op) (old new : Scavenger) : Type 0 where
-  pub did : (s : Shift) (asked : List ℕ) (p : Progress) → AreSound s.profile asked ops → ScavengerStands region s (scavenger_acts s.idle ops) old p → ScavengerDid region s (scavenger_acts s.idle ops) old new p
+  pub did : (s : Shift) (asked : List ℕ) (p : Progress) → AreSound s.profile asked ops → ScavengerStands region s (scavenger_acts s.idle ops) old p
+      → ScavengerDid region s (scavenger_acts s.idle ops) old new p
   pub places : vec_capacity new.lent ≡ vec_capacity old.lent

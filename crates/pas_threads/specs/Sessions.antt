@@ -76,7 +76,8 @@ pub record TeamAt (region : SharedRegion) (s : Session) (phases : List (List Op)
   pub behind : AreKeptBehind s.threads (all_ops phases)
   pub workers : AreResting region s.profile team.threads.items (λ k. own_records (planned s) k (all_ops phases)) p
   pub guarded : AreGuarded s.keepers team.threads.items
-  pub kept : (i : ℕ) (d : Worker) → i < length team.threads.items → KeeperRests region s.profile (s.threads + suc i) (own_acts (suc i) (all_ops phases)) (get_or team.threads.items i d).keeper p
+  pub kept : (i : ℕ) (d : Worker) → i < length team.threads.items
+      → KeeperRests region s.profile (s.threads + suc i) (own_acts (suc i) (all_ops phases)) (get_or team.threads.items i d).keeper p
   pub scavenger : ScavengerRests region s.profile team.scavenger (own_records (planned s) 0 (all_ops phases)) p
   pub nobody : (k : ℕ) → s.threads + s.keepers < k → part k p.list ≡ []
   pub names : NamesAt s.profile (all_ops phases) team.book p
@@ -162,7 +163,8 @@ pub record HasReplayed (region : SharedRegion) (s : Session) (phases : List (Lis
   pub answers : Reaches s.profile (acts_of s.threads s.keepers phases) at_start end
   pub stands : TeamAt region s [] team end
   pub went : WentBy s (stages_of s.threads s.keepers phases) at_start end [] so_far
-  pub in_phases : (whole : Whole) → IsEarlier so_far whole → IsOfActors s whole → AreInPhases s.profile (acts_of s.threads s.keepers phases) at_start end answers whole
+  pub in_phases : (whole : Whole) → IsEarlier so_far whole → IsOfActors s whole
+      → AreInPhases s.profile (acts_of s.threads s.keepers phases) at_start end answers whole
   pub written_are : written ≡ arranged OnThreads s.profile.threads end.records
   pub empty : (i : ℕ) (d : Worker) → i < length team.threads.items → (cached (get_or team.threads.items i d).cache).locals ≡ []
   pub low : (i : ℕ) (d : Worker) → i < length team.threads.items → IsLow (get_or team.threads.items i d).keeper

@@ -38,7 +38,8 @@ pub record ActorsStand (region : SharedRegion) (s : Session) (slot : Option Shar
   pub guarded : AreGuarded s.keepers workers
   pub scavenger : PassStands region 0 l slot
   pub threads : (i : ℕ) (d : Worker) → i < length workers → PassStands region (suc i) l (get_or workers i d).pass
-  pub keepers : (i : ℕ) (d : Worker) (keeper : Keeper) → i < length workers → (get_or workers i d).keeper ≡ Some keeper → PassStands region (s.threads + suc i) l (Some keeper.pass)
+  pub keepers : (i : ℕ) (d : Worker) (keeper : Keeper) → i < length workers → (get_or workers i d).keeper ≡ Some keeper
+      → PassStands region (s.threads + suc i) l (Some keeper.pass)
   pub nobody : IsOfActors s l
 
 -- ---- hearing

@@ -35,4 +35,5 @@ pub record IsEmptied (old new : Worker) : Type 0 where
 -- The worker of thread k made all requests of its operations in the phase, and what each came to is what its name stands for.
 pub record HandsOver (f : Profile) (phase : List Op) (book : NameBook) (k : ℕ) (worker : Worker) (names : List Named) : Type 0 where
   pub noted : names_of (requests_in worker.requests) ≡ names_asked (own_acts k phase)
-  pub says : (n : ℕ) → HasRequest worker n → (block : Option Block) × (standing_for names n ≡ Some block) × (known_in book worker.requests n ≡ block) × MayStand f block
+  pub says : (n : ℕ) → HasRequest worker n
+      → (block : Option Block) × (standing_for names n ≡ Some block) × (known_in book worker.requests n ≡ block) × MayStand f block

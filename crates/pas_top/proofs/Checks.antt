@@ -44,10 +44,12 @@ judgement_check (Judged v) = verdict_check v
 judgement_check (Faulty fault) = inl (inr (inl refl))
 
 -- ---- what a judgement of the whole input, and one too long, come to
-judgement_comes : (bytes : List ℕ) (judgement : Judgement) → length bytes ≤ most_bytes → IsJudgement bytes judgement → ChecksTo bytes (judgement_status judgement) (judgement_text judgement)
+judgement_comes : (bytes : List ℕ) (judgement : Judgement) → length bytes ≤ most_bytes → IsJudgement bytes judgement
+    → ChecksTo bytes (judgement_status judgement) (judgement_text judgement)
 judgement_comes bytes (Judged v) short is = inl (record { short = short; verdict = v; judged = is; status_is = refl; text_is = refl })
 judgement_comes bytes (Faulty fault) short is = inr (inl (refl, record { short = short; fault = fault; first = is; text_is = refl }))
 
+-- What is told of a judgement and of the input's length is what a call for a check tells.
 pub tells_judgement : (rest held held' : Option (List ℕ)) (faults faults' result : ℕ) (read : List ℕ) (judgement : Judgement) → IsJudgement read judgement
     → ((bytes : List ℕ) → rest ≡ Some bytes → (read ≡ bytes) × (length bytes ≤ most_bytes))
     → Tells held held' faults faults' (judgement_text judgement) (judgement_status judgement) result → TellsCheck rest held held' faults faults' result
@@ -65,17 +67,20 @@ comes_long bytes status text long (inl has) = absurd (omega (arith, long, has.sh
 comes_long bytes status text long (inr (inl (one, mis))) = absurd (omega (arith, long, mis.short))
 comes_long bytes status text long (inr (inr (six, is))) = six
 
-comes_faulty : (bytes : List ℕ) (status : ℕ) (text : List ℕ) → length bytes ≤ most_bytes → (fault : TraceFault) → parsed (trace_in bytes) ≡ Err fault → ChecksTo bytes status text → status ≡ 1
+comes_faulty : (bytes : List ℕ) (status : ℕ) (text : List ℕ) → length bytes ≤ most_bytes → (fault : TraceFault) → parsed (trace_in bytes) ≡ Err fault
+    → ChecksTo bytes status text → status ≡ 1
 comes_faulty bytes status text short fault first (inl has) = absurd (other_read (trace_in bytes) fault has.judged.plan first has.judged.read)
 comes_faulty bytes status text short fault first (inr (inl (one, mis))) = one
 comes_faulty bytes status text short fault first (inr (inr (six, is))) = absurd (omega (arith, is.long, short))
 
-comes_judged : (bytes : List ℕ) (status : ℕ) (text : List ℕ) → length bytes ≤ most_bytes → (verdict : Verdict) → IsJudged bytes verdict → ChecksTo bytes status text → status ≡ verdict_status verdict
+comes_judged : (bytes : List ℕ) (status : ℕ) (text : List ℕ) → length bytes ≤ most_bytes → (verdict : Verdict) → IsJudged bytes verdict
+    → ChecksTo bytes status text → status ≡ verdict_status verdict
 comes_judged bytes status text short verdict judged (inl has) = has.status_is ∙ ap verdict_status (one_judged bytes has.verdict verdict has.judged judged)
 comes_judged bytes status text short verdict judged (inr (inl (one, mis))) = absurd (other_read (trace_in bytes) mis.fault judged.plan mis.first judged.read)
 comes_judged bytes status text short verdict judged (inr (inr (six, is))) = absurd (omega (arith, is.long, short))
 
-comes_verdict : (bytes : List ℕ) (status : ℕ) (text : List ℕ) → length bytes ≤ most_bytes → (plan : Plan) → IsPlanOf (trace_in bytes) plan → ChecksTo bytes status text → (v : Verdict) × (status ≡ verdict_status v)
+comes_verdict : (bytes : List ℕ) (status : ℕ) (text : List ℕ) → length bytes ≤ most_bytes → (plan : Plan) → IsPlanOf (trace_in bytes) plan
+    → ChecksTo bytes status text → (v : Verdict) × (status ≡ verdict_status v)
 comes_verdict bytes status text short plan read (inl has) = (has.verdict, has.status_is)
 comes_verdict bytes status text short plan read (inr (inl (one, mis))) = absurd (other_read (trace_in bytes) mis.fault plan mis.first read)
 comes_verdict bytes status text short plan read (inr (inr (six, is))) = absurd (omega (arith, is.long, short))
@@ -119,16 +124,20 @@ writing_other r (inr (inr (inr (inl e)))) other = not_other 6 r e (inl (inr (inr
 writing_other r (inr (inr (inr (inr e)))) other = not_other 8 r e (inr refl) other
 
 -- a status that was told isn't that of memory, nor that of a read that failed
-told_other : (rest held held' : Option (List ℕ)) (faults faults' result : ℕ) → TellsCheck rest held held' faults faults' result → (result ≡ 3) ⊎ (result ≡ 5) → ⊥
+told_other : (rest held held' : Option (List ℕ)) (faults faults' result : ℕ) → TellsCheck rest held held' faults faults' result → (result ≡ 3) ⊎ (result ≡ 5)
+    → ⊥
 told_other rest held held' faults faults' result t other = elim (answered held held' faults faults' t.text t.status result t.tells) [
   | inl is ↦ not_other t.status result is t.status_is other
   | inr four ↦ four_alone result four other
 ]
 
-check_output : (words : List (List ℕ)) (rest held held' : Option (List ℕ)) (faults faults' result : ℕ) (t : TellsCheck rest held held' faults faults' result) → IsChecking words → IsOutput words rest t.status t.text
+check_output : (words : List (List ℕ)) (rest held held' : Option (List ℕ)) (faults faults' result : ℕ) (t : TellsCheck rest held held' faults faults' result)
+    → IsChecking words → IsOutput words rest t.status t.text
 check_output words rest held held' faults faults' result t asked = inr (inr (inl (record { asked = asked; status_is = t.status_is; comes = t.comes })))
 
-module _ (rest rest' held held' : Option (List ℕ)) (misses misses' faults faults' result : ℕ) (ends : EndsCheck rest rest' misses misses' held held' faults faults' result) where
+module _ (rest rest' held held' : Option (List ℕ)) (misses misses' faults faults' result : ℕ)
+    (ends : EndsCheck rest rest' misses misses' held held' faults faults' result) where
+  -- A call for a check ends with a status.
   pub ended_status : IsStatus result
   ended_status = elim ends [
     | inl five ↦ inr (inr (inr five))
@@ -141,6 +150,7 @@ module _ (rest rest' held held' : Option (List ℕ)) (misses misses' faults faul
     ]
   ]
 
+  -- A call for a check that ended with a status of writing wrote what its words ask for.
   pub ended_written : (words : List (List ℕ)) → IsChecking words → IsWriting result → IsWritten words rest held held' result
   ended_written words asked wrote = elim ends [
     | inl five ↦ absurd (writing_other result wrote (inr five))
@@ -150,6 +160,7 @@ module _ (rest rest' held held' : Option (List ℕ)) (misses misses' faults faul
     ]
   ]
 
+  -- A check that ended with status 3 has failed to read.
   pub ended_failed : result ≡ 3 → HasFailed rest rest' misses misses'
   ended_failed three = elim ends [
     | inl five ↦ absurd (omega (arith, three, five))
@@ -159,6 +170,7 @@ module _ (rest rest' held held' : Option (List ℕ)) (misses misses' faults faul
     ]
   ]
 
+  -- A check that ended with status 4 was cut off.
   pub ended_cut_off : (words : List (List ℕ)) → IsChecking words → result ≡ 4 → IsCutOff words rest held held' faults faults'
   ended_cut_off words asked four = elim ends [
     | inl five ↦ absurd (four_alone result four (inr five))
@@ -168,6 +180,7 @@ module _ (rest rest' held held' : Option (List ℕ)) (misses misses' faults faul
     ]
   ]
 
+  -- A check that wasn't cut off left the sink's faults as they were, where it did so when it failed.
   pub ended_sound : ((result ≡ 3) ⊎ (result ≡ 5) → faults' ≡ faults) → (result ≡ 4 → ⊥) → faults' ≡ faults
   ended_sound unheard other = elim ends [
     | inl five ↦ unheard (inr five)
@@ -192,17 +205,23 @@ module _ (rest rest' held held' : Option (List ℕ)) (misses misses' faults faul
       ]
     ]
 
+    -- A check of too long an input ends with status 6, or with 3, 4 or 5.
     pub ended_long : most_bytes < length bytes → (result ≡ 6) ⊎ (result ≡ 3) ⊎ (result ≡ 4) ⊎ (result ≡ 5)
     ended_long long = by_cause result bytes (result ≡ 6) came (λ status text is comes. is ∙ comes_long bytes status text long comes)
 
-    pub ended_mistraced : length bytes ≤ most_bytes → (fault : TraceFault) → parsed (trace_in bytes) ≡ Err fault → (result ≡ 1) ⊎ (result ≡ 3) ⊎ (result ≡ 4) ⊎ (result ≡ 5)
+    -- A check of a trace with a fault ends with status 1, or with 3, 4 or 5.
+    pub ended_mistraced : length bytes ≤ most_bytes → (fault : TraceFault) → parsed (trace_in bytes) ≡ Err fault
+        → (result ≡ 1) ⊎ (result ≡ 3) ⊎ (result ≡ 4) ⊎ (result ≡ 5)
     ended_mistraced short fault first = by_cause result bytes (result ≡ 1) came (λ status text is comes. is ∙ comes_faulty bytes status text short fault first comes)
 
-    pub ended_judged : length bytes ≤ most_bytes → (verdict : Verdict) → IsJudged bytes verdict → (result ≡ verdict_status verdict) ⊎ (result ≡ 3) ⊎ (result ≡ 4) ⊎ (result ≡ 5)
+    -- A check of an input that can be judged ends with the verdict's status, or with 3, 4 or 5.
+    pub ended_judged : length bytes ≤ most_bytes → (verdict : Verdict) → IsJudged bytes verdict
+        → (result ≡ verdict_status verdict) ⊎ (result ≡ 3) ⊎ (result ≡ 4) ⊎ (result ≡ 5)
     ended_judged short verdict judged = by_cause result bytes (result ≡ verdict_status verdict) came (λ status text is comes. is ∙ comes_judged bytes status text short verdict judged comes)
 
     -- .. where neither failed
-    pub ended_checked : length bytes ≤ most_bytes → (plan : Plan) → IsPlanOf (trace_in bytes) plan → (Rose misses misses' → ⊥) → (Rose faults faults' → ⊥) → (result ≡ 0) ⊎ (result ≡ 8) ⊎ (result ≡ 5)
+    pub ended_checked : length bytes ≤ most_bytes → (plan : Plan) → IsPlanOf (trace_in bytes) plan → (Rose misses misses' → ⊥) → (Rose faults faults' → ⊥)
+        → (result ≡ 0) ⊎ (result ≡ 8) ⊎ (result ≡ 5)
     ended_checked short plan read never unfailed = elim ends [
       | inl five ↦ inr (inr five)
       | inr more ↦ elim more [

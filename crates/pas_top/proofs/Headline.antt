@@ -22,7 +22,8 @@ use Rattle.pas_top.proofs.OneText.{alone_of, text_by}
 use Rattle.pas_telling.specs.declared.outcome.Outcome.{Outcome, TheVariants.Replayed, TheVariants.Faulty}
 
 -- ---- the state after a replay is a region at rest
-module _ {bytes : List ℕ} {way : Way} {plan : Plan} {records : List Record} {state : State} (read : IsPlanOf bytes plan) (shows : Shows way plan records state) where
+module _ {bytes : List ℕ} {way : Way} {plan : Plan} {records : List Record} {state : State} (read : IsPlanOf bytes plan) (shows : Shows way plan records state)
+    where
   has_words : HasWords state shows.whole
   has_words = record { words = λ w of. shows.words w (subst (λ (f : Profile). IsWordOf f w) shows.profile of) }
 
@@ -62,7 +63,8 @@ pub can_write : (way : Way) (bytes : List ℕ) (outcome : Outcome) → IsOutcome
 can_write way bytes (Replayed records state) replay = can_show replay.read replay.shown.shows
 can_write way bytes (Faulty fault) first = tt
 
-comes_to : (way : Way) (bytes : List ℕ) (outcome : Outcome) → length bytes ≤ most_bytes → IsOutcome way bytes outcome → ComesTo way bytes (outcome_status outcome) (outcome_text outcome)
+comes_to : (way : Way) (bytes : List ℕ) (outcome : Outcome) → length bytes ≤ most_bytes → IsOutcome way bytes outcome
+    → ComesTo way bytes (outcome_status outcome) (outcome_text outcome)
 comes_to way bytes (Replayed records state) short replay =
     let text : List ℕ = shown_text (records_in records) state in
     let replayed : IsReplayed way bytes text = shown_replayed replay.read replay.shown.shows in
@@ -70,6 +72,7 @@ comes_to way bytes (Replayed records state) short replay =
     inl (refl, record { short = short; replayed = replayed; told = text_by way bytes text replayed alone })
 comes_to way bytes (Faulty fault) short first = inr (inl (refl, record { short = short; fault = fault; first = first; text_is = refl }))
 
+-- The status of an outcome is never 4.
 pub status_not_four : (outcome : Outcome) → outcome_status outcome ≡ 4 → ⊥
 status_not_four (Replayed records state) four = omega (arith, four)
 status_not_four (Faulty fault) four = omega (arith, four)
@@ -80,7 +83,8 @@ replay_status (Faulty fault) = inr (inl refl)
 
 -- the output of a call whose input was read whole
 pub outcome_output : (words : List (List ℕ)) (told : Option (List ℕ)) (read : List ℕ) (manner : Manner) (outcome : Outcome) → IsReplaying manner words
-    → ((bytes : List ℕ) → told ≡ Some bytes → (read ≡ bytes) × (length bytes ≤ most_bytes)) → IsOutcome (way_of manner) read outcome → IsOutput words told (outcome_status outcome) (outcome_text outcome)
+    → ((bytes : List ℕ) → told ≡ Some bytes → (read ≡ bytes) × (length bytes ≤ most_bytes)) → IsOutcome (way_of manner) read outcome
+    → IsOutput words told (outcome_status outcome) (outcome_text outcome)
 outcome_output words told read manner outcome asked whole is = inr (inl (record {
   manner = manner;
   asked = asked;
@@ -89,7 +93,8 @@ outcome_output words told read manner outcome asked whole is = inr (inl (record 
 }))
 
 -- the output of a call whose input was too long
-pub too_long_output : (words : List (List ℕ)) (told : Option (List ℕ)) (manner : Manner) → IsReplaying manner words → ((bytes : List ℕ) → told ≡ Some bytes → most_bytes < length bytes) → IsOutput words told 6 too_long_text
+pub too_long_output : (words : List (List ℕ)) (told : Option (List ℕ)) (manner : Manner) → IsReplaying manner words
+    → ((bytes : List ℕ) → told ≡ Some bytes → most_bytes < length bytes) → IsOutput words told 6 too_long_text
 too_long_output words told manner asked long = inr (inl (record {
   manner = manner;
   asked = asked;

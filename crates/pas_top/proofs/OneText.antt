@@ -28,6 +28,7 @@ text_told bytes text is =
 same_ok : {x y : Parsed} → ◌≡◌ {A = Result Parsed TraceFault} (Ok x) (Ok y) → x ≡ y
 same_ok is = cc
 
+-- Each plan of bytes that are of one thread is a plan of one thread.
 pub alone_of : (bytes : List ℕ) (plan : Plan) → IsPlanOf bytes plan → IsOfOne bytes → IsOfOneThread plan
 alone_of bytes plan is (other, read, one) =
     let same : ◌≡◌ {A = Parsed} record { header = read.header; items = read.items } record { header = is.header; items = is.items } = same_ok (sym read.read ∙ is.read) in
@@ -49,6 +50,7 @@ text_by OnThreads bytes text is alone = λ one. text_told bytes text (alone one)
 abbrev by_state : ℕ → Profile → World → Option (List ℕ)
 by_state ops f w = Some (summary_of_world ops f w)
 
+-- The summary that is written of a replayed generated trace is that of its numbers.
 pub summary_told : (seed ops threads pages : ℕ) (text : List ℕ) → IsSummarized seed ops threads pages text → IsSummaryOf seed ops threads pages text
 summary_told seed ops threads pages text is =
     let bytes : List ℕ = trace_text seed ops threads pages in
@@ -77,12 +79,15 @@ transcript_told bytes text (inl (zero_is, is)) = is.told
 transcript_told bytes text (inr (inl (one, is))) = absurd (omega (arith, one))
 transcript_told bytes text (inr (inr (six, is))) = absurd (omega (arith, six))
 
-output_told : (words : List (List ℕ)) (told : Option (List ℕ)) (text : List ℕ) → IsReplaying Manner.InOrder words → IsOutput words told 0 text → (bytes : List ℕ) → told ≡ Some bytes → IsTextOf bytes text
+output_told : (words : List (List ℕ)) (told : Option (List ℕ)) (text : List ℕ) → IsReplaying Manner.InOrder words → IsOutput words told 0 text
+    → (bytes : List ℕ) → told ≡ Some bytes → IsTextOf bytes text
 output_told words told text asked (inl (none, two, is)) bytes tells = absurd (omega (arith, two))
 output_told words told text asked (inr (inl is)) bytes tells = transcript_told bytes text (subst (λ (way : Way). ComesTo way bytes 0 text) (in_order is.manner words asked is.asked) (is.comes bytes tells))
 output_told words told text asked (inr (inr (inl is))) bytes tells = absurd (no_check words asked is.asked)
 output_told words told text asked (inr (inr (inr is))) bytes tells = absurd (no_gen words is.seed is.ops is.threads is.pages asked is.asked)
 
-pub written_told : (words : List (List ℕ)) (told before after : Option (List ℕ)) (status : ℕ) → IsReplaying Manner.InOrder words → IsWritten words told before after status → (bytes : List ℕ) → told ≡ Some bytes → status ≡ 0 → WritesTextOf bytes before after
+-- A replay in the order of the text that ended with status 0 wrote the text of its bytes.
+pub written_told : (words : List (List ℕ)) (told before after : Option (List ℕ)) (status : ℕ) → IsReplaying Manner.InOrder words
+    → IsWritten words told before after status → (bytes : List ℕ) → told ≡ Some bytes → status ≡ 0 → WritesTextOf bytes before after
 written_told words told before after status asked is bytes tells zero_is =
     (is.text, output_told words told is.text asked (subst (λ (s : ℕ). IsOutput words told s is.text) zero_is is.output) bytes tells, is.written)

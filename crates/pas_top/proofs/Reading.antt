@@ -11,7 +11,8 @@ pub read_plan : (bytes text : List ℕ) (read : Result Plan ReadFault) (plan : P
 read_plan bytes text read plan same is reading = subst (λ b. IsPlanOf b plan) same (subst (IsReading text) is reading)
 
 -- what was told is what the replay in the named manner came to
-pub outcome_as : {S E : Type 0} (manner named : Manner) (bytes : List ℕ) (told made : Result (Outcome × S) E) (outcome : Outcome) (spent : S) → manner ≡ named → told ≡ made → told ≡ Ok (outcome, spent)
+pub outcome_as : {S E : Type 0} (manner named : Manner) (bytes : List ℕ) (told made : Result (Outcome × S) E) (outcome : Outcome) (spent : S) → manner ≡ named
+    → told ≡ made → told ≡ Ok (outcome, spent)
     → IfOk made (λ t. IsOutcome (way_of named) bytes t.0) → IsOutcome (way_of manner) bytes outcome
 outcome_as {S} {E} manner named bytes told made outcome spent is same ok shown =
     let IsOf : Result (Outcome × S) E → Type 0 = λ r. IfOk r (λ t. IsOutcome (way_of named) bytes t.0) in

@@ -14,7 +14,8 @@ use Rattle.pas_top.proofs.Headline.{totals_are}
 use Rattle.pas_top.proofs.Statuses.{not_quiet, not_four, written, cut_off, sound}
 
 -- ---- the summary
-pub summarized : (seed ops threads pages : ℕ) (bytes : List ℕ) (records : List Record) (state : State) (text : List ℕ) → IsShowing InOrder bytes records state → bytes ≡ trace_text seed ops threads pages
+pub summarized : (seed ops threads pages : ℕ) (bytes : List ℕ) (records : List Record) (state : State) (text : List ℕ) → IsShowing InOrder bytes records state
+    → bytes ≡ trace_text seed ops threads pages
     → text ≡ summary_text ops records (totals_by_words state) → IsSummarized seed ops threads pages text
 summarized seed ops threads pages bytes records state text is from text_is = record {
   plan = is.plan;
@@ -29,7 +30,9 @@ summarized seed ops threads pages bytes records state text is from text_is = rec
 gen_not_four : (seed ops threads pages status : ℕ) (text : List ℕ) → GenComesTo seed ops threads pages status text → status ≡ 4 → ⊥
 gen_not_four seed ops threads pages status text comes four = let zero : status ≡ 0 = comes.0 in omega (arith, zero, four)
 
-pub gen_cut_off : (words : List (List ℕ)) (told before after : Option (List ℕ)) (faults faults' : ℕ) (seed ops threads pages answer : ℕ) → IsGen words seed ops threads pages
+-- The writing of a generated trace that ended with status 4 was cut off.
+pub gen_cut_off : (words : List (List ℕ)) (told before after : Option (List ℕ)) (faults faults' : ℕ) (seed ops threads pages answer : ℕ)
+    → IsGen words seed ops threads pages
     → Generates before after faults faults' seed ops threads pages answer → answer ≡ 4 → IsCutOff words told before after faults faults'
 gen_cut_off words told before after faults faults' seed ops threads pages answer asked generates four = elim generates [
   | inl five ↦ absurd (omega (arith, five, four))
@@ -37,7 +40,9 @@ gen_cut_off words told before after faults faults' seed ops threads pages answer
       (inr (inr (inr (record { seed = seed; ops = ops; threads = threads; pages = pages; asked = asked; comes = comes })))) (gen_not_four seed ops threads pages status text comes) four
 ]
 
-pub gen_written : (words : List (List ℕ)) (told before after : Option (List ℕ)) (faults faults' : ℕ) (seed ops threads pages answer : ℕ) → IsGen words seed ops threads pages
+-- The writing of a generated trace, that isn't cut off, is written whole.
+pub gen_written : (words : List (List ℕ)) (told before after : Option (List ℕ)) (faults faults' : ℕ) (seed ops threads pages answer : ℕ)
+    → IsGen words seed ops threads pages
     → Generates before after faults faults' seed ops threads pages answer → IsWriting answer → IsWritten words told before after answer
 gen_written words told before after faults faults' seed ops threads pages answer asked generates writing = elim generates [
   | inl five ↦ absurd (not_quiet 5 answer (omega arith) (omega arith) writing five)
@@ -46,7 +51,8 @@ gen_written words told before after faults faults' seed ops threads pages answer
 ]
 
 -- the sink counted a fault in no other case
-pub gen_sound : (before after : Option (List ℕ)) (faults faults' : ℕ) (seed ops threads pages answer : ℕ) → Generates before after faults faults' seed ops threads pages answer → (answer ≡ 5 → faults' ≡ faults)
+pub gen_sound : (before after : Option (List ℕ)) (faults faults' : ℕ) (seed ops threads pages answer : ℕ)
+    → Generates before after faults faults' seed ops threads pages answer → (answer ≡ 5 → faults' ≡ faults)
     → (answer ≡ 4 → ⊥) → faults' ≡ faults
 gen_sound before after faults faults' seed ops threads pages answer generates unheard whole = elim generates [
   | inl five ↦ unheard five
@@ -54,7 +60,8 @@ gen_sound before after faults faults' seed ops threads pages answer generates un
 ]
 
 -- ---- a call whose sink didn't fail
-pub gen_summed : (before after : Option (List ℕ)) (faults faults' : ℕ) (seed ops threads pages answer : ℕ) → Generates before after faults faults' seed ops threads pages answer → (Rose faults faults' → ⊥) → (answer ≡ 0) ⊎ (answer ≡ 5)
+pub gen_summed : (before after : Option (List ℕ)) (faults faults' : ℕ) (seed ops threads pages answer : ℕ)
+    → Generates before after faults faults' seed ops threads pages answer → (Rose faults faults' → ⊥) → (answer ≡ 0) ⊎ (answer ≡ 5)
 gen_summed before after faults faults' seed ops threads pages answer generates never = elim generates [
   | inl five ↦ inr five
   | inr (status, text, comes, tells) ↦ elim tells [ inl whole ↦ inl (whole.0 ∙ comes.0) | inr cut ↦ absurd (never cut.1) ]

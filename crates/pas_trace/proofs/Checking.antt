@@ -11,7 +11,8 @@ use Rattle.pas_trace.specs.declared.{item.Item.TheVariants.Scavenges, item.Wish.
 
 -- ---- the tables tell what the checks ask
 -- the bound with an operation; its cost goes by the `guard` line before it, and it is none itself
-pub bound-after : (r : Reader) (items : List Item) (i : Item) → guard_after i (guard_in items) ≡ guard_in items → Tells r items → r.counts.bound + cost_of r.header.profile r.samples.guard i ≡ record_bound r.header.profile (i ∷ items)
+pub bound-after : (r : Reader) (items : List Item) (i : Item) → guard_after i (guard_in items) ≡ guard_in items → Tells r items
+    → r.counts.bound + cost_of r.header.profile r.samples.guard i ≡ record_bound r.header.profile (i ∷ items)
 bound-after r items i none t = search arith
 
 few-same : (r : Reader) (items : List Item) (i : Item) → guard_after i (guard_in items) ≡ guard_in items → Tells r items
@@ -47,11 +48,14 @@ checks-same r items (Guards n) h = search (arith, h.started, h.samples.guard)
 checks-same r items i h = refl
 
 -- ---- what a line says
-pub says-item : (r : Reader) (items : List Item) (line : List ℕ) (i : Item) → Tells r items → Ok i ≡ item_of_line r.header.version r.started line → first_failed (told_checks r i) ≡ None
+pub says-item : (r : Reader) (items : List Item) (line : List ℕ) (i : Item) → Tells r items → Ok i ≡ item_of_line r.header.version r.started line
+    → first_failed (told_checks r i) ≡ None
     → (line_says r.header items line ≡ Ok i) × (reason_of r.header.profile items i ≡ None)
 says-item r items line i h e none = search (arith, checks-same)
 
-pub says-reason : (r : Reader) (items : List Item) (line : List ℕ) (i : Item) (why : Reason) → Tells r items → Ok i ≡ item_of_line r.header.version r.started line → first_failed (told_checks r i) ≡ Some why
+-- A line whose item fails a check by what the reader keeps says that reason.
+pub says-reason : (r : Reader) (items : List Item) (line : List ℕ) (i : Item) (why : Reason) → Tells r items
+    → Ok i ≡ item_of_line r.header.version r.started line → first_failed (told_checks r i) ≡ Some why
     → line_says r.header items line ≡ Err why
 says-reason r items line i why h e some = search (arith, checks-same)
 
@@ -61,9 +65,12 @@ passed-then [] ds e = refl
 passed-then ((true, r) ∷ cs) ds e = passed-then cs ds e
 passed-then ((false, r) ∷ cs) ds e = absurd (cc)
 
+-- A request whose other checks passed is checked by its cost alone.
 pub request-checked : (r : Reader) (t : ℕ) (q : Request) (result : Result ℕ Reason)
-    → is_thread r.header.profile t ≡ true → nat_lt q.heap r.header.profile.heaps ≡ true → first_failed (sizing_told r q.size q.align) ≡ None → not (has_owner r q.name) ≡ true
-    → IsChecked (first_failed (few_told r (cost_of_request r.samples.guard q.size))) (cost_of_request r.samples.guard q.size) result → IsChecked (reason_told r t (asking q)) (cost_of_request r.samples.guard q.size) result
+    → is_thread r.header.profile t ≡ true → nat_lt q.heap r.header.profile.heaps ≡ true → first_failed (sizing_told r q.size q.align) ≡ None
+    → not (has_owner r q.name) ≡ true
+    → IsChecked (first_failed (few_told r (cost_of_request r.samples.guard q.size))) (cost_of_request r.samples.guard q.size) result
+    → IsChecked (reason_told r t (asking q)) (cost_of_request r.samples.guard q.size) result
 request-checked r t q result thread heap sized fresh few = search (arith, passed-then)
 
 -- ---- the checks of a `guard` line, one after the other

@@ -5,7 +5,8 @@ use Rattle.std.proofs.lemmas.List.{take_more, drop_more, take_rest}
 use Rattle.pas_trace.specs.Texts.{put_first, pieces, without_empty_end, lines_of}
 use Rattle.pas_trace.proofs.Splits.{pieces-at, pieces-some, end-cons}
 
-split-append : (t : Bool) (b : ℕ) (ps qs : List (List ℕ)) → ((q : List ℕ) × (rs : List (List ℕ)) × (ps ≡ q ∷ rs)) → (if t then [] ∷ (ps ++ qs) else put_first b (ps ++ qs)) ≡ (if t then [] ∷ ps else put_first b ps) ++ qs
+split-append : (t : Bool) (b : ℕ) (ps qs : List (List ℕ)) → ((q : List ℕ) × (rs : List (List ℕ)) × (ps ≡ q ∷ rs))
+    → (if t then [] ∷ (ps ++ qs) else put_first b (ps ++ qs)) ≡ (if t then [] ∷ ps else put_first b ps) ++ qs
 split-append true b ps qs some = refl
 split-append false b ps qs some = ap (λ xs. put_first b (xs ++ qs)) some.2 ∙ sym (ap (λ xs. put_first b xs ++ qs) some.2)
 
@@ -36,6 +37,7 @@ lines-cut bs n lt found =
     ap lines_of whole ∙ lines-append (take n bs) after ∙ ap (λ (t : List ℕ). lines_of t ++ lines_of after) (sym front)
 
 -- .. that is the first from a place on
-pub lines-from : (bs : List ℕ) (p n : ℕ) → n ≤ length (take (length bs - p) (drop p bs)) → (n < length (take (length bs - p) (drop p bs)) → get_or (take (length bs - p) (drop p bs)) n 0 ≡ 10)
+pub lines-from : (bs : List ℕ) (p n : ℕ) → n ≤ length (take (length bs - p) (drop p bs))
+    → (n < length (take (length bs - p) (drop p bs)) → get_or (take (length bs - p) (drop p bs)) n 0 ≡ 10)
     → p ≤ length bs → p + n ≢ length bs → lines_of bs ≡ lines_of (take (p + n + 1) bs) ++ lines_of (drop (p + n + 1) bs)
 lines-from bs p n within ended le ne = search (arith, take_rest, length-drop, get_or-drop, lines-cut)

@@ -16,15 +16,19 @@ if-false : (x y : Bool) (o : Option ℕ) → y ≡ false → (if x && y then o e
 if-false true y o e = rw e refl
 if-false false y o e = refl
 
+-- A byte from 48 to 57 is a digit.
 pub digit-is : (b : ℕ) → 48 ≤ b → b ≤ 57 → is_digit b ≡ true
 digit-is b lo hi = and_from (nat_le 48 b) (nat_le b 57) (le-leb 48 b lo) (le-leb b 57 hi)
 
+-- One digit more makes the value ten times as large, and adds the digit.
 pub value-step : (v b : ℕ) (bs : List ℕ) → 48 ≤ b → b ≤ 57 → value_after v (b ∷ bs) ≡ value_after (10 * v + (b - 48)) bs
 value-step v b bs lo hi = let e : is_digit b ≡ true = digit-is b lo hi in rw e refl
 
+-- Digits whose value comes to 2^64 or more are no number.
 pub value-large : (v b : ℕ) (bs : List ℕ) → 18446744073709551616 ≤ 10 * v + (b - 48) → value_after v (b ∷ bs) ≡ None
 value-large v b bs ge = search (arith, if-false, le-ltb, value-grows)
 
+-- A value below 2^64 without a digit left is that value.
 pub value-end : (v : ℕ) → v < 18446744073709551616 → value_after v [] ≡ Some v
 value-end v lt = grind arith
 
@@ -33,6 +37,7 @@ pub digits-add : (ds : List ℕ) (d : ℕ) → all_digits ds ≡ true → is_dig
 digits-add [] d e digit = and_from (is_digit d) true digit refl
 digits-add (b ∷ ds) d e digit = let p = and_parts (is_digit b) (all_digits ds) e in and_from (is_digit b) (all_digits (ds ++ d ∷ [])) p.0 (digits-add ds d p.1 digit)
 
+-- A digit at the end makes the value of digits ten times as large, and is added.
 pub value-add : (n : ℕ) (ds : List ℕ) (d : ℕ) → value_from n (ds ++ d ∷ []) ≡ 10 * value_from n ds + (d - 48)
 value-add n [] d = refl
 value-add n (b ∷ ds) d = value-add (10 * n + (b - 48)) ds d
@@ -41,9 +46,11 @@ value-add n (b ∷ ds) d = value-add (10 * n + (b - 48)) ds d
 abbrev pub hex_after : ℕ → List ℕ → Option ℕ
 hex_after v bs = if all_hex bs then Some (hex_from v bs) else None
 
+-- One hexadecimal digit more makes the value sixteen times as large, and adds the digit.
 pub hex-step : (v b : ℕ) (bs : List ℕ) → is_hex b ≡ true → hex_after v (b ∷ bs) ≡ hex_after (16 * v + hex_value b) bs
 hex-step v b bs e = rw e refl
 
+-- A byte that is no hexadecimal digit makes the value none.
 pub hex-stop : (v b : ℕ) (bs : List ℕ) → is_hex b ≡ false → hex_after v (b ∷ bs) ≡ None
 hex-stop v b bs e = rw e refl
 
@@ -55,6 +62,7 @@ none-tested : (t : Bool) (x : ℕ) → None ≡ (if t then Some x else None) →
 none-tested true x e = cc
 none-tested false x e = refl
 
+-- A byte that reads as no hexadecimal digit is none.
 pub hex-none : (b : ℕ) → None ≡ (if is_hex b then Some (hex_value b) else None) → is_hex b ≡ false
 hex-none b e = none-tested (is_hex b) (hex_value b) e
 
@@ -62,6 +70,7 @@ some-tested : (t : Bool) (x y : ℕ) → Some y ≡ (if t then Some x else None)
 some-tested true x y e = (refl, cc)
 some-tested false x y e = cc
 
+-- A byte that reads as a hexadecimal digit is one, of that value, at most 15.
 pub hex-digit : (b d : ℕ) → Some d ≡ (if is_hex b then Some (hex_value b) else None) → (is_hex b ≡ true) × (d ≡ hex_value b) × (d ≤ 15)
 hex-digit b d e = search (arith, some-tested, hex-small)
 
@@ -70,9 +79,11 @@ pub hex-room : (v i : ℕ) → v < 16 ^ i → i ≤ 7 → v < 268435456
 hex-room v i lt le =
     let p : 16 ^ i ≤ 16 ^ 7 = pow-le-pow_right (omega arith) le in omega (arith, lt, p)
 
+-- One hexadecimal digit more of a number gives a number of one digit more.
 pub hex-more : (v d i : ℕ) → v < 16 ^ i → d ≤ 15 → 16 * v + d < 16 ^ (i + 1)
 hex-more v d i lt le = omega (arith, pow_more 16 i, lt, le)
 
+-- A number of at most eight hexadecimal digits is below 2^32.
 pub hex-bound : (v i : ℕ) → v < 16 ^ i → i ≤ 8 → v < 4294967296
 hex-bound v i lt le =
     let p : 16 ^ i ≤ 16 ^ 8 = pow-le-pow_right (omega arith) le in omega (arith, lt, p)

@@ -29,7 +29,8 @@ frees_both k asked [] ys a b = b
 frees_both k asked (x ∷ xs) ys a b = (a.0, frees_both k (own_after k asked x) xs ys a.1 b)
 
 -- ---- the last phase after others
-frees_last : (asked : List ℕ) (front : List (List Op)) (last : List Op) → FreeTheirOwn asked front → ((k : ℕ) → FreesItsOwn k (asked_by asked (all_ops front)) last) → FreeTheirOwn asked (front ++ last ∷ [])
+frees_last : (asked : List ℕ) (front : List (List Op)) (last : List Op) → FreeTheirOwn asked front
+    → ((k : ℕ) → FreesItsOwn k (asked_by asked (all_ops front)) last) → FreeTheirOwn asked (front ++ last ∷ [])
 frees_last asked [] last fronts frees = (frees, tt)
 frees_last asked (p ∷ ps) last fronts frees =
     (fronts.0, frees_last (asked_by asked p) ps last fronts.1 (λ k. subst (λ now. FreesItsOwn k now last) (asked_both asked p (all_ops ps)) (frees k)))
@@ -74,7 +75,8 @@ chore_frees : (c : Chore) → freed_in (what_of_chore c) ≡ None
 chore_frees (Chore.Tick e) = refl
 chore_frees c = refl
 
-item_frees : (f : Profile) (i : Item) (earlier : List Item) (own : ℕ → List ℕ) → reason_of f earlier i ≡ None → HaveOwn own earlier → (k : ℕ) → FreesItsOwn k (own k) (new_ops f i earlier)
+item_frees : (f : Profile) (i : Item) (earlier : List Item) (own : ℕ → List ℕ) → reason_of f earlier i ≡ None → HaveOwn own earlier → (k : ℕ)
+    → FreesItsOwn k (own k) (new_ops f i earlier)
 item_frees f (Operates t w) earlier own passed have k = search (arith, own_passed, held_both, wish_frees)
 item_frees f (Scavenges c) earlier own passed have k = (λ who. subst (λ o. MatchOption o (Unit {0}) (λ n. is_asked (own k) n ≡ true)) (sym (chore_frees c)) tt, tt)
 item_frees f i earlier own passed have k = tt
@@ -85,7 +87,8 @@ either_same true asked n is = is
 either_same false asked n is = is
 
 -- an operation of thread t: of a name that it makes, what another thread may free is no other than before
-own_made : (f : Profile) (heaps : ℕ → ℕ) (keeper : Option ℕ) (new mine : Bool) (w : Wish) (n : ℕ) (asked : List ℕ) → is_name (name_made w) n ≡ new → (new ≡ true → mine ≡ true) → (new ≡ false → is_asked asked n ≡ true)
+own_made : (f : Profile) (heaps : ℕ → ℕ) (keeper : Option ℕ) (new mine : Bool) (w : Wish) (n : ℕ) (asked : List ℕ) → is_name (name_made w) n ≡ new
+    → (new ≡ true → mine ≡ true) → (new ≡ false → is_asked asked n ≡ true)
     → is_asked (if mine then asked_after (what_wished f heaps keeper w) asked else asked) n ≡ true
 own_made f heaps keeper true true w n asked is own old = asks_for f heaps keeper w asked n ∙ ap (λ b. b || is_asked asked n) is
 own_made f heaps keeper true false w n asked is own old = absurd (false≢true (own refl))
@@ -96,13 +99,16 @@ only_left : (t : Bool) → t || false ≡ true → t ≡ true
 only_left true is = refl
 only_left false is = absurd (cc)
 
-wish_own : (f : Profile) (heaps : ℕ → ℕ) (keeper : Option ℕ) (new named now : Bool) (t thread k : ℕ) (w : Wish) (n : ℕ) (asked : List ℕ) → is_name (name_made w) n ≡ new → new || named ≡ true → ((k == (if new then t else thread)) || not (new || now)) ≡ true
-    → (named ≡ true → ((k == thread) || not now) ≡ true → is_asked asked n ≡ true) → is_asked (if t == k then asked_after (what_wished f heaps keeper w) asked else asked) n ≡ true
+wish_own : (f : Profile) (heaps : ℕ → ℕ) (keeper : Option ℕ) (new named now : Bool) (t thread k : ℕ) (w : Wish) (n : ℕ) (asked : List ℕ)
+    → is_name (name_made w) n ≡ new → new || named ≡ true → ((k == (if new then t else thread)) || not (new || now)) ≡ true
+    → (named ≡ true → ((k == thread) || not now) ≡ true → is_asked asked n ≡ true)
+    → is_asked (if t == k then asked_after (what_wished f heaps keeper w) asked else asked) n ≡ true
 wish_own f heaps keeper true named now t thread k w n asked is known may old =
     own_made f heaps keeper true (t == k) w n asked is (λ yes. eq-eqb t k (sym (eqb-true k t (only_left (k == t) may)))) (λ no. absurd (cc))
 wish_own f heaps keeper false named now t thread k w n asked is known may old = own_made f heaps keeper false (t == k) w n asked is (λ yes. absurd (cc)) (λ no. old known may)
 
-item_own : (f : Profile) (i : Item) (earlier : List Item) (own : ℕ → List ℕ) → is_phase i ≡ false → HaveOwn own earlier → HaveOwn (λ k. own_by k (own k) (new_ops f i earlier)) (i ∷ earlier)
+item_own : (f : Profile) (i : Item) (earlier : List Item) (own : ℕ → List ℕ) → is_phase i ≡ false → HaveOwn own earlier
+    → HaveOwn (λ k. own_by k (own k) (new_ops f i earlier)) (i ∷ earlier)
 item_own f (Operates t w) earlier own other have k n may =
     wish_own f (heap_of earlier) (keeper_for f earlier (Operates t w)) (is_name (name_made w) n) (is_named earlier n) (is_named_now earlier n) t (thread_of earlier n) k w n (own k) refl may.0 may.1 (λ known free. have k n (known, free))
 item_own f (Scavenges c) earlier own other have k n may =
@@ -111,7 +117,8 @@ item_own f NextPhase earlier own other have k n may = absurd (cc)
 item_own f i earlier own other have k n may = have k n may
 
 -- ---- item by item
-item_behind : (f : Profile) (i : Item) (earlier : List Item) (front : List (List Op)) (last : List Op) → is_phase i ≡ false → phases_in f earlier ≡ front ++ last ∷ []
+item_behind : (f : Profile) (i : Item) (earlier : List Item) (front : List (List Op)) (last : List Op) → is_phase i ≡ false
+    → phases_in f earlier ≡ front ++ last ∷ []
     → phases_in f (i ∷ earlier) ≡ front ++ (last ++ new_ops f i earlier) ∷ []
 item_behind f Blank earlier front last other same = same ∙ ap (λ ops. front ++ ops ∷ []) (sym (append-nil last))
 item_behind f (Shares h) earlier front last other same = same ∙ ap (λ ops. front ++ ops ∷ []) (sym (append-nil last))
@@ -156,6 +163,7 @@ after_all : (f : Profile) (items : List Item) → AreChecked f items → HasLast
 after_all f [] checked = record { front = []; last = []; same = refl; fronts = tt; names = λ n. refl; frees = λ k. tt; own = λ k n may. may.0 }
 after_all f (i ∷ earlier) checked = after_item f i earlier checked.0.passes (after_all f earlier checked.1)
 
+-- In each phase of every plan, the names that a thread frees were asked for by itself or before the phase.
 pub every_phase : {text : List ℕ} {plan : Plan} → IsPlanOf text plan → FreeTheirOwn [] (map ops_of (phases_of plan.phases))
 every_phase {text} {plan} is =
     let at = after_all is.header.profile is.items (parts_of text is.header is.items is.read).checked in

@@ -12,6 +12,7 @@ use Rattle.pas_trace.proofs.{Telling.bound-keeper}
 use Rattle.pas_trace.proofs.OperationsOfItems.{ops_in, following, all_below, all_records, all_own, all_scavenger, exact_records, exact_own, all_kept}
 use Rattle.pas_trace.proofs.OperationsOfItems.{all_keepers, phases_within}
 
+-- There are as many bounds as actors.
 pub bounds_count : (f : Profile) (items : List Item) (n : ℕ) → length (bounds_upto f items n) ≡ n
 bounds_count f items zero = refl
 bounds_count f items (suc n) = omega (arith, bounds_count f items n, length-append (bounds_upto f items n) (bound_of f items n ∷ []))
@@ -36,7 +37,8 @@ among : (none : Bool) (threads : ℕ) → threads ≤ (if none then threads else
 among true threads = omega arith
 among false threads = omega arith
 
-of_one : (f g guard place : ℕ) (o : Option ℕ) → f ≡ g → MatchOption o (Unit {0}) (λ keeper. (keeper ≡ g + place) × (guard ≢ 0)) → MatchOption o (Unit {0}) (λ keeper. (keeper ≡ f + place) × (guard ≢ 0))
+of_one : (f g guard place : ℕ) (o : Option ℕ) → f ≡ g → MatchOption o (Unit {0}) (λ keeper. (keeper ≡ g + place) × (guard ≢ 0))
+    → MatchOption o (Unit {0}) (λ keeper. (keeper ≡ f + place) × (guard ≢ 0))
 of_one f g guard place None same kept = tt
 of_one f g guard place (Some keeper) same kept = (kept.0 ∙ ap (λ n. n + place) (sym same), kept.1)
 
@@ -44,12 +46,14 @@ of_threads : (f g : Profile) (guard : ℕ) (ops : List Op) → f.threads ≡ g.t
 of_threads f g guard [] same kept = tt
 of_threads f g guard (op ∷ ops) same kept = (of_one f.threads g.threads guard op.actor (keeper_in op.what) same kept.0, of_threads f g guard ops same kept.1)
 
-keepers_of : (f g : Profile) (guard other : ℕ) (ops others : List Op) → f.threads ≡ g.threads → guard ≡ other → ops ≡ others → AreKept g other others → AreKept f guard ops
+keepers_of : (f g : Profile) (guard other : ℕ) (ops others : List Op) → f.threads ≡ g.threads → guard ≡ other → ops ≡ others → AreKept g other others
+    → AreKept f guard ops
 keepers_of f g guard other ops others threads same is kept =
     subst (λ (os : List Op). AreKept f guard os) (sym is) (subst (λ (n : ℕ). AreKept f n others) (sym same) (of_threads f g other others threads kept))
 
 -- there are 16 at most beside the scavenger
-few_actors : (f : Profile) (i : Item) (earlier : List Item) → reason_of f earlier i ≡ None → f.threads ≤ 16 → actors_by (guard_in earlier) f.threads ≤ 16 → actors_by (guard_in (i ∷ earlier)) f.threads ≤ 16
+few_actors : (f : Profile) (i : Item) (earlier : List Item) → reason_of f earlier i ≡ None → f.threads ≤ 16 → actors_by (guard_in earlier) f.threads ≤ 16
+    → actors_by (guard_in (i ∷ earlier)) f.threads ≤ 16
 few_actors f (Guards None) earlier passed threads few = few
 few_actors f (Guards (Some n)) earlier passed threads few = guarded_few (n == 0) f.threads threads (guard_passed f earlier (Some n) passed).few
 few_actors f i earlier passed threads few = few
@@ -62,9 +66,11 @@ actors_few f (i ∷ earlier) checked threads = few_actors f i earlier checked.0.
 pub threads_among : (guard threads : ℕ) → threads ≤ actors_by guard threads
 threads_among guard threads = among (guard == 0) threads
 
+-- The keeper of each thread of a guarded plan is among its actors.
 pub keepers_among : (guard threads k : ℕ) → guard ≢ 0 → k ≤ threads → threads + k ≤ actors_by guard threads
 keepers_among guard threads k some within = subst (λ (b : Bool). threads + k ≤ (if b then threads else 2 * threads)) (sym (ne_eqb guard 0 some)) (omega (arith, within))
 
+-- The plan of every text is sound.
 pub every_plan : {text : List ℕ} {plan : Plan} → IsPlanOf text plan → IsSound text plan
 every_plan {text} {plan} is =
     let all = parts_of text is.header is.items is.read in

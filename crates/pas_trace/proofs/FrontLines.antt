@@ -17,6 +17,7 @@ pub record AreDigits (text : List ℕ) (count value : ℕ) : Type 0 where
   pub value_is : value ≡ value_from 0 (take count text)
   pub small : value < 10 ^ count
 
+-- One digit more at the front of a text is one of its digits, and makes their value ten times as large and the digit.
 pub digits-more : (text : List ℕ) (count value : ℕ) → AreDigits text count value → count < length text → 48 ≤ get_or text count 0 → get_or text count 0 ≤ 57
     → AreDigits text (count + 1) (10 * value + (get_or text count 0 - 48))
 digits-more text count value so_far within lo hi =
@@ -30,10 +31,12 @@ digits-more text count value so_far within lo hi =
       small = omega (arith, pow_more 10 count, small, hi);
     }
 
+-- A number of at most 17 digits is below 10^17.
 pub digits-room : (count value : ℕ) → value < 10 ^ count → count ≤ 17 → value < 100000000000000000
 digits-room count value small few =
     let most : 10 ^ count ≤ 10 ^ 17 = pow-le-pow_right (omega arith) few in omega (arith, small, most)
 
+-- A number of at most 18 digits is below 10^18.
 pub digits-small : (count value : ℕ) → value < 10 ^ count → count ≤ 18 → value < 1000000000000000000
 digits-small count value small few =
     let most : 10 ^ count ≤ 10 ^ 18 = pow-le-pow_right (omega arith) few in omega (arith, small, most)
@@ -44,8 +47,10 @@ decimal-from [] digits some head = absurd (omega arith)
 decimal-from (b ∷ []) digits some head = (and_parts (is_digit b) true digits).0
 decimal-from (b ∷ c ∷ bs) digits some head = search (arith, and_parts, and_from, le-leb)
 
-number-found : (text : List ℕ) (count value end : ℕ) → all_digits (take count text) ≡ true → value ≡ value_from 0 (take count text) → value < 1000000000000000000
-    → 0 < count → count < length text → get_or text count 0 ≡ end → (1 < count → get_or text 0 0 ≢ 48) → BeginsWith text value end (take (length text - (count + 1)) (drop (count + 1) text))
+number-found : (text : List ℕ) (count value end : ℕ) → all_digits (take count text) ≡ true → value ≡ value_from 0 (take count text)
+    → value < 1000000000000000000
+    → 0 < count → count < length text → get_or text count 0 ≡ end → (1 < count → get_or text 0 0 ≢ 48)
+    → BeginsWith text value end (take (length text - (count + 1)) (drop (count + 1) text))
 number-found text count value end digits is small some within ended head =
     let w = take count text in
     let long : length w ≡ count = length-take-le count text (omega arith) in
@@ -61,7 +66,8 @@ number-found text count value end digits is small some within ended head =
     }
 
 -- .. of one digit
-pub one-found : (text : List ℕ) (end : ℕ) → 2 ≤ length text → get_or text 1 0 ≡ end → 48 ≤ get_or text 0 0 → get_or text 0 0 ≤ 57 → BeginsWith text (get_or text 0 0 - 48) end (take (length text - 2) (drop 2 text))
+pub one-found : (text : List ℕ) (end : ℕ) → 2 ≤ length text → get_or text 1 0 ≡ end → 48 ≤ get_or text 0 0 → get_or text 0 0 ≤ 57
+    → BeginsWith text (get_or text 0 0 - 48) end (take (length text - 2) (drop 2 text))
 one-found [] end two ended lo hi = absurd (omega arith)
 one-found (x ∷ []) end two ended lo hi = absurd (omega arith)
 one-found (x ∷ y ∷ rest) end two ended lo hi =
@@ -69,7 +75,8 @@ one-found (x ∷ y ∷ rest) end two ended lo hi =
     number-found (x ∷ y ∷ rest) 1 (x - 48) end (and_from (is_digit x) true (digit-is x lo hi) refl) value (omega arith) (omega arith) (omega arith) ended (λ many. absurd (omega arith))
 
 -- .. of two digits
-pub two-found : (text : List ℕ) (end : ℕ) → 3 ≤ length text → get_or text 2 0 ≡ end → 49 ≤ get_or text 0 0 → get_or text 0 0 ≤ 57 → 48 ≤ get_or text 1 0 → get_or text 1 0 ≤ 57
+pub two-found : (text : List ℕ) (end : ℕ) → 3 ≤ length text → get_or text 2 0 ≡ end → 49 ≤ get_or text 0 0 → get_or text 0 0 ≤ 57 → 48 ≤ get_or text 1 0
+    → get_or text 1 0 ≤ 57
     → BeginsWith text (10 * (get_or text 0 0 - 48) + (get_or text 1 0 - 48)) end (take (length text - 3) (drop 3 text))
 two-found [] end three ended lo hi low high = absurd (omega arith)
 two-found (x ∷ []) end three ended lo hi low high = absurd (omega arith)
@@ -92,7 +99,8 @@ line-end text n rest b = record {
   words_are = ap without_empty (pieces-only 32 b.word (digits-lack 32 b.word (omega arith) b.digits)) ∙ keeps b.word [] (number-some b.word n b.number);
 }
 
-word-more : (text w after : List ℕ) (words : List (List ℕ)) (rest : List ℕ) → text ≡ w ++ 32 ∷ after → Lacks 10 w → Lacks 32 w → 0 < length w → IsLine after words rest → IsLine text (w ∷ words) rest
+word-more : (text w after : List ℕ) (words : List (List ℕ)) (rest : List ℕ) → text ≡ w ++ 32 ∷ after → Lacks 10 w → Lacks 32 w → 0 < length w
+    → IsLine after words rest → IsLine text (w ∷ words) rest
 word-more text w after words rest is whole one some l = record {
   line = w ++ 32 ∷ l.line;
   text_is = is ∙ ap (λ (t : List ℕ). w ++ 32 ∷ t) l.text_is ∙ sym (append_assoc w (32 ∷ l.line) (10 ∷ rest));
@@ -100,7 +108,8 @@ word-more text w after words rest is whole one some l = record {
   words_are = ap without_empty (pieces-until 32 w l.line one) ∙ keeps w (pieces 32 l.line) some ∙ ap (λ ws. w ∷ ws) l.words_are;
 }
 
-line-more : (text : List ℕ) (n : ℕ) (after : List ℕ) (words : List (List ℕ)) (rest : List ℕ) (b : BeginsWith text n 32 after) → IsLine after words rest → IsLine text (b.word ∷ words) rest
+line-more : (text : List ℕ) (n : ℕ) (after : List ℕ) (words : List (List ℕ)) (rest : List ℕ) (b : BeginsWith text n 32 after) → IsLine after words rest
+    → IsLine text (b.word ∷ words) rest
 line-more text n after words rest b l =
     word-more text b.word after words rest b.text_is (digits-lack 10 b.word (omega arith) b.digits) (digits-lack 32 b.word (omega arith) b.digits) (number-some b.word n b.number) l
 
@@ -122,7 +131,9 @@ line-says version b text words rest item big l says =
 name-fits : (w : List ℕ) (n : ℕ) → number_of w ≡ Some n → 1 ≤ n → n ≤ 1000000 → trace_name w ≡ Some n
 name-fits w n e lo hi = search (arith, lt-ltb, le-leb)
 
-pub allocation-first : (version : ℕ) (text t1 t2 t3 t4 rest : List ℕ) (t n h s a : ℕ) → BeginsWith text t 32 t1 → BeginsWith t1 n 32 t2 → BeginsWith t2 h 32 t3 → BeginsWith t3 s 32 t4 → BeginsWith t4 a 10 rest → 1 ≤ n → n ≤ 1000000
+-- A text that begins with the words of an allocation, up to a line feed, says it in its first line.
+pub allocation-first : (version : ℕ) (text t1 t2 t3 t4 rest : List ℕ) (t n h s a : ℕ) → BeginsWith text t 32 t1 → BeginsWith t1 n 32 t2 → BeginsWith t2 h 32 t3
+    → BeginsWith t3 s 32 t4 → BeginsWith t4 a 10 rest → 1 ≤ n → n ≤ 1000000
     → FirstSays version (97 ∷ 32 ∷ text) (Operates t (Asks n h s a)) rest
 allocation-first version text t1 t2 t3 t4 rest t n h s a b1 b2 b3 b4 b5 lo hi =
     let named = name-fits b2.word n b2.number lo hi in
@@ -130,7 +141,9 @@ allocation-first version text t1 t2 t3 t4 rest t n h s a b1 b2 b3 b4 b5 lo hi =
     (line-more text t t1 _ rest b1 (line-more t1 n t2 _ rest b2 (line-more t2 h t3 _ rest b3 (line-more t3 s t4 _ rest b4 (line-end t4 a rest b5)))))
     (λ started i. item5 (λ t n h s a. Operates t (Asks n h s a)) (b1.number i) (named i) (b3.number i) (b4.number i) (b5.number i))
 
-pub free-first : (version : ℕ) (text t1 rest : List ℕ) (t n : ℕ) → BeginsWith text t 32 t1 → BeginsWith t1 n 10 rest → 1 ≤ n → n ≤ 1000000 → FirstSays version (102 ∷ 32 ∷ text) (Operates t (Frees n)) rest
+-- A text that begins with the words of a free, up to a line feed, says it in its first line.
+pub free-first : (version : ℕ) (text t1 rest : List ℕ) (t n : ℕ) → BeginsWith text t 32 t1 → BeginsWith t1 n 10 rest → 1 ≤ n → n ≤ 1000000
+    → FirstSays version (102 ∷ 32 ∷ text) (Operates t (Frees n)) rest
 free-first version text t1 rest t n b1 b2 lo hi =
     let named = name-fits b2.word n b2.number lo hi in
     line-says version 102 text (b1.word ∷ b2.word ∷ []) rest _ (omega arith) (line-more text t t1 _ rest b1 (line-end t1 n rest b2)) (λ started i. item2 (λ t n. Operates t (Frees n)) (b1.number i) (named i))

@@ -8,16 +8,19 @@ use Rattle.pas_trace.specs.{Texts.words_of, Numbers.number_of, Items.same_bytes}
 use Rattle.pas_trace.specs.Reasons.{within, most_pages, classes_of, header_with, header_for, header_of_words, header_of}
 use Rattle.pas_trace.proofs.PassedChecks.{if_some}
 
+-- Four or five words are no header.
 pub short4 : (a b c d : List ℕ) (ws : List (List ℕ)) → length ws < 2 → header_of_words (a ∷ b ∷ c ∷ d ∷ ws) ≡ None
 short4 a b c d [] lt = refl
 short4 a b c d (x ∷ []) lt = refl
 short4 a b c d (x ∷ y ∷ ws) lt = absurd (omega arith)
 
+-- Six or seven words are no header.
 pub short6 : (a b c d e f : List ℕ) (ws : List (List ℕ)) → length ws < 2 → header_of_words (a ∷ b ∷ c ∷ d ∷ e ∷ f ∷ ws) ≡ None
 short6 a b c d e f [] lt = refl
 short6 a b c d e f (x ∷ []) lt = refl
 short6 a b c d e f (x ∷ y ∷ ws) lt = absurd (omega arith)
 
+-- Eight or nine words are no header.
 pub short8 : (a b c d e f g h : List ℕ) (ws : List (List ℕ)) → length ws < 2 → header_of_words (a ∷ b ∷ c ∷ d ∷ e ∷ f ∷ g ∷ h ∷ ws) ≡ None
 short8 a b c d e f g h [] lt = refl
 short8 a b c d e f g h (x ∷ []) lt = refl
@@ -37,7 +40,8 @@ region_fits : (large : Bool) (p : ℕ) → p ≤ (if large then 16384 else 4096)
 region_fits true p le = (refl, le)
 region_fits false p le = (le-leb p 4096 le, omega (arith, le))
 
-numbers_valid : (version : ℕ) (p t h a : Option ℕ) (f : Header) → Within 1 (most_pages version) p → Within 1 16 t → Within 1 32 h → Within 1 1000000 a → header_with version p t h a ≡ Some f → IsValid f.profile
+numbers_valid : (version : ℕ) (p t h a : Option ℕ) (f : Header) → Within 1 (most_pages version) p → Within 1 16 t → Within 1 32 h → Within 1 1000000 a
+    → header_with version p t h a ≡ Some f → IsValid f.profile
 numbers_valid version None t h a f ps ts hs es e = absurd (cc)
 numbers_valid version (Some p) None h a f ps ts hs es e = absurd (cc)
 numbers_valid version (Some p) (Some t) None a f ps ts hs es e = absurd (cc)
@@ -64,5 +68,6 @@ words_valid (a ∷ b ∷ c ∷ d ∷ g ∷ h ∷ i ∷ j ∷ k ∷ m ∷ []) f e
 words_valid (a ∷ b ∷ c ∷ d ∷ g ∷ h ∷ i ∷ j ∷ k ∷ m ∷ n ∷ ws) f e = no_header f e
 words_valid s f e = no_header f e
 
+-- The region of a line that is a header is a valid profile.
 pub header_valid : (line : List ℕ) (f : Header) → header_of line ≡ Some f → IsValid f.profile
 header_valid line f is = words_valid (words_of line) f is

@@ -39,7 +39,8 @@ first_of_three : (make : ℕ → ℕ → ℕ → Item) (a b c : Option ℕ) → 
 first_of_three make None b c all = tt
 first_of_three make (Some a) b c all = range2 (make a) b c (λ y z is. all a y z refl)
 
-range5 : (make : ℕ → ℕ → ℕ → ℕ → ℕ → Item) (a b c d e : Option ℕ) → ((v w x y z : ℕ) → c ≡ Some x → IsInRange (make v w x y z)) → IfOk (item5 make a b c d e) IsInRange
+range5 : (make : ℕ → ℕ → ℕ → ℕ → ℕ → Item) (a b c d e : Option ℕ) → ((v w x y z : ℕ) → c ≡ Some x → IsInRange (make v w x y z))
+    → IfOk (item5 make a b c d e) IsInRange
 range5 make None b c d e all = tt
 range5 make (Some a) None c d e all = tt
 range5 make (Some a) (Some b) c d e all = first_of_three (make a b) c d e (all a b)
@@ -73,6 +74,7 @@ words_range : (version : ℕ) (started : Bool) (ws : List (List ℕ)) → IfOk (
 words_range version started [] = tt
 words_range version started (w ∷ more) = if_range (has_since version (since w)) _ _ (count_range started w more) tt
 
+-- The numbers of the item that a line says are within the ranges of their places.
 pub line_range : (version : ℕ) (started : Bool) (line : List ℕ) → IfOk (item_of_line version started line) IsInRange
 line_range version started [] = tt
 line_range version started (b ∷ bs) = if_range (b == 35) _ _ tt (words_range version started (words_of (b ∷ bs)))

@@ -13,11 +13,13 @@ use Rattle.pas_trace.proofs.Reading.{SoFar, at-first, left-is, after-taken, take
 
 -- ---- what a line says after an operation it says anywhere
 shared-anywhere : (is : Bool) (started : Bool) (shares other : Result Item Reason) (item : Item)
-    → (if is then (if true then Err Reason.BadWord else shares) else other) ≡ Ok item → (if is then (if started then Err Reason.BadWord else shares) else other) ≡ Ok item
+    → (if is then (if true then Err Reason.BadWord else shares) else other) ≡ Ok item
+    → (if is then (if started then Err Reason.BadWord else shares) else other) ≡ Ok item
 shared-anywhere true started shares other item e = absurd (cc)
 shared-anywhere false started shares other item e = e
 
-count-anywhere : (started : Bool) (w : List ℕ) (more : List (List ℕ)) (item : Item) → item_by_count true w more ≡ Ok item → item_by_count started w more ≡ Ok item
+count-anywhere : (started : Bool) (w : List ℕ) (more : List (List ℕ)) (item : Item) → item_by_count true w more ≡ Ok item
+    → item_by_count started w more ≡ Ok item
 count-anywhere started w [] item e = e
 count-anywhere started w (a ∷ []) item e = shared-anywhere (same_bytes w (codes "shared")) started (item1 Shares (plain a)) _ item e
 count-anywhere started w (a ∷ b ∷ []) item e = e
@@ -26,20 +28,25 @@ count-anywhere started w (a ∷ b ∷ c ∷ d ∷ []) item e = e
 count-anywhere started w (a ∷ b ∷ c ∷ d ∷ f ∷ []) item e = e
 count-anywhere started w (a ∷ b ∷ c ∷ d ∷ f ∷ g ∷ more) item e = e
 
-since-anywhere : (is : Bool) (one other : Result Item Reason) (why : Reason) (item : Item) → (one ≡ Ok item → other ≡ Ok item) → (if is then one else Err why) ≡ Ok item → (if is then other else Err why) ≡ Ok item
+since-anywhere : (is : Bool) (one other : Result Item Reason) (why : Reason) (item : Item) → (one ≡ Ok item → other ≡ Ok item)
+    → (if is then one else Err why) ≡ Ok item → (if is then other else Err why) ≡ Ok item
 since-anywhere true one other why item h e = h e
 since-anywhere false one other why item h e = absurd (cc)
 
-words-anywhere : (version : ℕ) (started : Bool) (words : List (List ℕ)) (item : Item) → item_of_words version true words ≡ Ok item → item_of_words version started words ≡ Ok item
+words-anywhere : (version : ℕ) (started : Bool) (words : List (List ℕ)) (item : Item) → item_of_words version true words ≡ Ok item
+    → item_of_words version started words ≡ Ok item
 words-anywhere version started [] item e = e
 words-anywhere version started (w ∷ more) item e =
     since-anywhere (has_since version (since w)) (item_by_count true w more) (item_by_count started w more) Reason.BadWord item (count-anywhere started w more item) e
 
-comment-anywhere : (is : Bool) (blank one other : Result Item Reason) (item : Item) → (one ≡ Ok item → other ≡ Ok item) → (if is then blank else one) ≡ Ok item → (if is then blank else other) ≡ Ok item
+comment-anywhere : (is : Bool) (blank one other : Result Item Reason) (item : Item) → (one ≡ Ok item → other ≡ Ok item) → (if is then blank else one) ≡ Ok item
+    → (if is then blank else other) ≡ Ok item
 comment-anywhere true blank one other item h e = e
 comment-anywhere false blank one other item h e = h e
 
-pub says-anywhere : (version : ℕ) (started : Bool) (line : List ℕ) (item : Item) → item_of_line version true line ≡ Ok item → item_of_line version started line ≡ Ok item
+-- A line that says an item after the first operation says it before, too.
+pub says-anywhere : (version : ℕ) (started : Bool) (line : List ℕ) (item : Item) → item_of_line version true line ≡ Ok item
+    → item_of_line version started line ≡ Ok item
 says-anywhere version started [] item e = e
 says-anywhere version started (b ∷ bs) item e =
     comment-anywhere (b == 35) _ (item_of_words version true (words_of (b ∷ bs))) (item_of_words version started (words_of (b ∷ bs))) item (words-anywhere version started (words_of (b ∷ bs)) item) e
@@ -49,12 +56,15 @@ pub lexed-none : (version : ℕ) (text : List ℕ) → AreLexed version text [] 
 lexed-none version text = record { lines = []; cut = refl; say = λ started. refl; few = omega arith }
 
 -- readers of one header lex alike
-pub lexed-now : (old now : Reader) (text : List ℕ) (items others : List Item) (left : List ℕ) → now.header ≡ old.header → items ≡ others → AreLexed old.header.version text items left
+pub lexed-now : (old now : Reader) (text : List ℕ) (items others : List Item) (left : List ℕ) → now.header ≡ old.header → items ≡ others
+    → AreLexed old.header.version text items left
     → AreLexed now.header.version text others left
 lexed-now old now text items others left same is lexed =
     subst (λ (h : Header). AreLexed h.version text others left) (sym same) (subst (λ (xs : List Item). AreLexed old.header.version text xs left) is lexed)
 
-pub lexed-more : (version : ℕ) (text left after : List ℕ) (items : List Item) (item : Item) → AreLexed version text items left → FirstSays version left item after → AreLexed version text (items ++ item ∷ []) after
+-- A text whose next line says an item by itself is read one line further.
+pub lexed-more : (version : ℕ) (text left after : List ℕ) (items : List Item) (item : Item) → AreLexed version text items left
+    → FirstSays version left item after → AreLexed version text (items ++ item ∷ []) after
 lexed-more version text left after items item h f =
     record {
       lines = h.lines ++ f.line ∷ [];
@@ -86,22 +96,29 @@ first-of version (line ∷ rest) item items say = record { line = line; rest = r
 abbrev pub Takes : Reader → Item → Reader → Result (Unit {0}) ReadFault → Type 0
 Takes now item new result = (told : List Item) (line : List ℕ) → Tells now told → item_of_line now.header.version now.started line ≡ Ok item → IsTaken now told line new result
 
-said-now : (old now : Reader) → now.header ≡ old.header → (line : List ℕ) (item : Item) → item_of_line old.header.version now.started line ≡ Ok item → item_of_line now.header.version now.started line ≡ Ok item
+said-now : (old now : Reader) → now.header ≡ old.header → (line : List ℕ) (item : Item) → item_of_line old.header.version now.started line ≡ Ok item
+    → item_of_line now.header.version now.started line ≡ Ok item
 said-now old now same line item says = subst (λ (h : Header). item_of_line h.version now.started line ≡ Ok item) (sym same) says
 
-pub further-more : (old now new : Reader) (start : List Item) (lines : List (List ℕ)) (item : Item) (items : List Item) → Further old start lines now (item ∷ items) → Takes now item new (Ok tt) → Further old start lines new items
+-- After an item was taken, the reader is one item further.
+pub further-more : (old now new : Reader) (start : List Item) (lines : List (List ℕ)) (item : Item) (items : List Item)
+    → Further old start lines now (item ∷ items) → Takes now item new (Ok tt) → Further old start lines new items
 further-more old now new start lines item items h takes =
     let f = first-of old.header.version h.left item items h.say in
     let far = left-is old now start lines h.left (f.line ∷ f.rest) f.is h.far in
     record { left = f.rest; far = after-taken old now new start lines f.line f.rest far (takes far.items f.line far.tells (said-now old now far.header f.line item (f.says now.started))); say = f.say }
 
-pub further-line : (old now new : Reader) (start : List Item) (lines : List (List ℕ)) (item : Item) (items : List Item) → Further old start lines now (item ∷ items) → Takes now item new (Ok tt) → new.line ≡ now.line + 1
+-- An item that was taken makes the reader's line number one more.
+pub further-line : (old now new : Reader) (start : List Item) (lines : List (List ℕ)) (item : Item) (items : List Item)
+    → Further old start lines now (item ∷ items) → Takes now item new (Ok tt) → new.line ≡ now.line + 1
 further-line old now new start lines item items h takes =
     let f = first-of old.header.version h.left item items h.say in
     let t = takes h.far.items f.line h.far.tells (said-now old now h.far.header f.line item (f.says now.started)) in
     t.4
 
-pub further-fault : (old now new : Reader) (start : List Item) (lines : List (List ℕ)) (item : Item) (items : List Item) (fault : ReadFault) → Further old start lines now (item ∷ items) → Takes now item new (Err fault) → AreTaken old start lines new (Err fault)
+-- An item with a fault ends the taking with that fault.
+pub further-fault : (old now new : Reader) (start : List Item) (lines : List (List ℕ)) (item : Item) (items : List Item) (fault : ReadFault)
+    → Further old start lines now (item ∷ items) → Takes now item new (Err fault) → AreTaken old start lines new (Err fault)
 further-fault old now new start lines item items fault h takes =
     let f = first-of old.header.version h.left item items h.say in
     let far = left-is old now start lines h.left (f.line ∷ f.rest) f.is h.far in
@@ -111,6 +128,7 @@ none-left : (version : ℕ) (left : List (List ℕ)) → Say version left [] →
 none-left version [] say = refl
 none-left version (line ∷ left) say = let e = say true in absurd (cc)
 
+-- Where no item is left, all lines are taken.
 pub further-end : (old now : Reader) (start : List Item) (lines : List (List ℕ)) → Further old start lines now [] → AreTaken old start lines now (Ok tt)
 further-end old now start lines h = at-end old now start lines h.left h.far (none-left old.header.version h.left h.say)
 
@@ -131,11 +149,14 @@ after-fault : (n : ℕ) (says : Result Item Reason) (some more : Item → Result
 after-fault n (Ok i) some more fault h e = h i e
 after-fault n (Err r) some more fault h e = e
 
-items-fault : (f : Header) (n : ℕ) (told : List Item) (xs ys : List (List ℕ)) (fault : TraceFault) → items_from f n told xs ≡ Err fault → items_from f n told (xs ++ ys) ≡ Err fault
+items-fault : (f : Header) (n : ℕ) (told : List Item) (xs ys : List (List ℕ)) (fault : TraceFault) → items_from f n told xs ≡ Err fault
+    → items_from f n told (xs ++ ys) ≡ Err fault
 items-fault f n told [] ys fault e = absurd (cc)
 items-fault f n told (x ∷ xs) ys fault e = after-fault n (line_says f told x) _ _ fault (λ i. items-fault f (n + 1) (i ∷ told) xs ys fault) e
 
-pub after-lines : (old now new : Reader) (start : List Item) (lines xs ys : List (List ℕ)) (far : SoFar old start lines now (xs ++ ys)) → AreTaken now far.items xs new (Ok tt) → SoFar old start lines new ys
+-- After more lines were taken, the reader is these further.
+pub after-lines : (old now new : Reader) (start : List Item) (lines xs ys : List (List ℕ)) (far : SoFar old start lines now (xs ++ ys))
+    → AreTaken now far.items xs new (Ok tt) → SoFar old start lines new ys
 after-lines old now new start lines xs ys far t =
     let line : now.line ≡ line_of_newest far.items = far.tells.line in
     let line' : new.line ≡ line_of_newest t.0 = t.2.line in
@@ -148,29 +169,38 @@ after-lines old now new start lines xs ys far t =
       same = far.same ∙ ap (λ n. items_from old.header (n + 1) far.items (xs ++ ys)) line ∙ items-more old.header far.items xs ys t.0 taken ∙ ap (λ n. items_from old.header (n + 1) t.0 ys) (sym line');
     }
 
-pub lines-fault : (old now new : Reader) (start : List Item) (lines xs ys : List (List ℕ)) (fault : ReadFault) (far : SoFar old start lines now (xs ++ ys)) → AreTaken now far.items xs new (Err fault) → AreTaken old start lines new (Err fault)
+-- Lines with a fault end the taking of all lines with that fault.
+pub lines-fault : (old now new : Reader) (start : List Item) (lines xs ys : List (List ℕ)) (fault : ReadFault) (far : SoFar old start lines now (xs ++ ys))
+    → AreTaken now far.items xs new (Err fault) → AreTaken old start lines new (Err fault)
 lines-fault old now new start lines xs ys (Trace fault) far t =
     far.same ∙ items-fault old.header (now.line + 1) far.items xs ys fault (ap (λ (f : Header). items_from f (now.line + 1) far.items xs) (sym far.header) ∙ t)
 lines-fault old now new start lines xs ys NoMemory far t = tt
 
 -- .. and those that are left
-pub all-read : (old now new : Reader) (start : List Item) (lines left : List (List ℕ)) (result : Result (Unit {0}) ReadFault) (far : SoFar old start lines now left) → AreTaken now far.items left new result → AreTaken old start lines new result
+pub all-read : (old now new : Reader) (start : List Item) (lines left : List (List ℕ)) (result : Result (Unit {0}) ReadFault)
+      (far : SoFar old start lines now left)
+    → AreTaken now far.items left new result → AreTaken old start lines new result
 all-read old now new start lines left (Ok done) far t = (t.0, far.same ∙ ap (λ (f : Header). items_from f (now.line + 1) far.items left) (sym far.header) ∙ t.1, t.2, t.3 ∙ far.header)
 all-read old now new start lines left (Err (Trace fault)) far t = far.same ∙ ap (λ (f : Header). items_from f (now.line + 1) far.items left) (sym far.header) ∙ t
 all-read old now new start lines left (Err NoMemory) far t = tt
 
 -- ---- a text of which some lines were taken apart
-pub lexed-far : (old now : Reader) (start : List Item) (text : List ℕ) (items : List Item) (left : List ℕ) → (lexed : AreLexed old.header.version text items left) → Tells old start → AreTaken old start lexed.lines now (Ok tt)
+pub lexed-far : (old now : Reader) (start : List Item) (text : List ℕ) (items : List Item) (left : List ℕ)
+    → (lexed : AreLexed old.header.version text items left) → Tells old start → AreTaken old start lexed.lines now (Ok tt)
     → SoFar old start (lines_of text) now (lines_of left)
 lexed-far old now start text items left lexed t taken =
     after-lines old old now start (lines_of text) lexed.lines (lines_of left) (left-is old old start (lines_of text) (lines_of text) (lexed.lines ++ lines_of left) lexed.cut (at-first old start (lines_of text) t)) taken
 
-pub lexed-read : (old now new : Reader) (start : List Item) (text : List ℕ) (items : List Item) (left : List ℕ) (result : Result (Unit {0}) ReadFault) → (lexed : AreLexed old.header.version text items left) → Tells old start
+-- A text whose first lines were taken is read as what is left of it is read then.
+pub lexed-read : (old now new : Reader) (start : List Item) (text : List ℕ) (items : List Item) (left : List ℕ) (result : Result (Unit {0}) ReadFault)
+    → (lexed : AreLexed old.header.version text items left) → Tells old start
     → AreTaken old start lexed.lines now (Ok tt) → ((told : List Item) → Tells now told → IsRead now told left new result) → IsRead old start text new result
 lexed-read old now new start text items left result lexed t taken read =
     let far = lexed-far old now start text items left lexed t taken in all-read old now new start (lines_of text) (lines_of left) result far (read far.items far.tells)
 
-pub lexed-fault : (old new : Reader) (start : List Item) (text : List ℕ) (items : List Item) (left : List ℕ) (fault : ReadFault) → (lexed : AreLexed old.header.version text items left) → Tells old start
+-- A text whose first lines have a fault is read with that fault.
+pub lexed-fault : (old new : Reader) (start : List Item) (text : List ℕ) (items : List Item) (left : List ℕ) (fault : ReadFault)
+    → (lexed : AreLexed old.header.version text items left) → Tells old start
     → AreTaken old start lexed.lines new (Err fault) → IsRead old start text new (Err fault)
 lexed-fault old new start text items left fault lexed t taken =
     lines-fault old old new start (lines_of text) lexed.lines (lines_of left) fault (left-is old old start (lines_of text) (lines_of text) (lexed.lines ++ lines_of left) lexed.cut (at-first old start (lines_of text) t)) taken
@@ -180,6 +210,7 @@ pub at-ok : (result : Result (Unit {0}) ReadFault) (P : Type 0) → OnOk result 
 at-ok (Ok done) P h e = h
 at-ok (Err fault) P h e = absurd (cc)
 
+-- A list of length 0 is empty.
 pub none-of : (xs : List ℕ) → length xs ≡ 0 → xs ≡ []
 none-of [] e = refl
 none-of (x ∷ xs) e = absurd (omega arith)

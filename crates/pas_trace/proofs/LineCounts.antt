@@ -17,5 +17,6 @@ ends_few ([] ∷ []) = omega arith
 ends_few ((b ∷ bs) ∷ []) = omega arith
 ends_few (p ∷ q ∷ ps) = omega (arith, ends_few (q ∷ ps))
 
+-- A text has at most one line more than bytes.
 pub lines_few : (text : List ℕ) → length (lines_of text) ≤ length text + 1
 lines_few text = omega (arith, ends_few (pieces 10 text), pieces_few 10 text)

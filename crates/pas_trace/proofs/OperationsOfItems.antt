@@ -39,6 +39,7 @@ all_add op [] = refl
 all_add op (p ∷ []) = append-nil (p ++ op ∷ []) ∙ ap (λ ops. ops ++ op ∷ []) (sym (append-nil p))
 all_add op (p ∷ q ∷ phases) = ap (λ ops. p ++ ops) (all_add op (q ∷ phases)) ∙ sym (append_assoc p (all_ops (q ∷ phases)) (op ∷ []))
 
+-- The operations of one item more stand behind those of the items before.
 pub ops_next : (f : Profile) (i : Item) (earlier : List Item) → ops_in f (i ∷ earlier) ≡ ops_in f earlier ++ new_ops f i earlier
 ops_next f Blank earlier = sym (append-nil (ops_in f earlier))
 ops_next f (Shares h) earlier = sym (append-nil (ops_in f earlier))
@@ -66,12 +67,14 @@ sharing f shared = record f { shared = shared }
 abbrev HaveHeaps : Profile → List Item → Type 0
 HaveHeaps f items = (n : ℕ) → is_named items n ≡ true → heap_of items n < f.heaps
 
-made_heap : (f : Profile) (t : ℕ) (w : Wish) (earlier : List Item) (n : ℕ) → is_name (name_made w) n ≡ true → reason_of f earlier (Operates t w) ≡ None → HaveHeaps f earlier → heap_made (heap_of earlier) w < f.heaps
+made_heap : (f : Profile) (t : ℕ) (w : Wish) (earlier : List Item) (n : ℕ) → is_name (name_made w) n ≡ true → reason_of f earlier (Operates t w) ≡ None
+    → HaveHeaps f earlier → heap_made (heap_of earlier) w < f.heaps
 made_heap f t (Asks m h s a) earlier n is passed homes = ltb-true h f.heaps (own_passed f earlier t (Asks m h s a) passed).heap
 made_heap f t (Remakes m o s a) earlier n is passed homes = homes o (own_passed f earlier t (Remakes m o s a) passed).known
 made_heap f t w earlier n is passed homes = absurd (cc)
 
-name_heap : (here : Bool) (f : Profile) (i : Item) (earlier : List Item) (n : ℕ) → makes i n ≡ here → (here ≡ true → heap_of_item (heap_of earlier) i < f.heaps) → HaveHeaps f earlier → is_named (i ∷ earlier) n ≡ true → heap_of (i ∷ earlier) n < f.heaps
+name_heap : (here : Bool) (f : Profile) (i : Item) (earlier : List Item) (n : ℕ) → makes i n ≡ here → (here ≡ true → heap_of_item (heap_of earlier) i < f.heaps)
+    → HaveHeaps f earlier → is_named (i ∷ earlier) n ≡ true → heap_of (i ∷ earlier) n < f.heaps
 name_heap true f i earlier n is made homes known = subst (λ h. h < f.heaps) (sym (ap (λ b. if b then heap_of_item (heap_of earlier) i else heap_of earlier n) is)) (made refl)
 name_heap false f i earlier n is made homes known =
     subst (λ h. h < f.heaps) (sym (ap (λ b. if b then heap_of_item (heap_of earlier) i else heap_of earlier n) is)) (homes n (sym (ap (λ b. b || is_named earlier n) is) ∙ known))
@@ -89,12 +92,14 @@ large_size : (size : ℕ) → is_large size ≡ true → 2048 < size
 large_size size large = leb-false size 2048 (is_not (nat_le size 2048) large)
 
 -- a request that is guarded, or isn't
-request_sound : (f : Profile) (t n h s a : ℕ) (guarded : Bool) (line : ℕ) (asked : List ℕ) → IsThread f t → IsAdmitted f s a h → is_asked asked n ≡ false → (guarded ≡ true → 2048 < s)
+request_sound : (f : Profile) (t n h s a : ℕ) (guarded : Bool) (line : ℕ) (asked : List ℕ) → IsThread f t → IsAdmitted f s a h → is_asked asked n ≡ false
+    → (guarded ≡ true → 2048 < s)
     → AreSound f asked (operation line t (request_kept (if guarded then Some (f.threads + t) else None) n h s a) ∷ [])
 request_sound f t n h s a true line asked thread admitted fresh large = (thread, (admitted, fresh, large refl), tt)
 request_sound f t n h s a false line asked thread admitted fresh large = (thread, (admitted, fresh), tt)
 
-item_sound : (f : Profile) (shared : ℕ) (i : Item) (earlier : List Item) (asked : List ℕ) → reason_of f earlier i ≡ None → IsInRange i → AreNames asked earlier → IsValid f → HaveHeaps f earlier → AreSound (sharing f shared) asked (new_ops f i earlier)
+item_sound : (f : Profile) (shared : ℕ) (i : Item) (earlier : List Item) (asked : List ℕ) → reason_of f earlier i ≡ None → IsInRange i → AreNames asked earlier
+    → IsValid f → HaveHeaps f earlier → AreSound (sharing f shared) asked (new_ops f i earlier)
 item_sound f shared (Operates t (Asks n h s a)) earlier asked passed range names valid homes =
     let held = own_passed f earlier t (Asks n h s a) passed in
     let size = leb-true s (4096 * f.pages) held.size in
@@ -122,16 +127,20 @@ item_sound f shared (Scavenges (Chore.Idle n)) earlier asked passed range names 
 item_sound f shared i earlier asked passed range names valid homes = tt
 
 -- what an operation of a thread, and a chore, ask for
-pub asks_for : (f : Profile) (heaps : ℕ → ℕ) (keeper : Option ℕ) (w : Wish) (asked : List ℕ) (n : ℕ) → is_asked (asked_after (what_wished f heaps keeper w) asked) n ≡ (is_name (name_made w) n || is_asked asked n)
+pub asks_for : (f : Profile) (heaps : ℕ → ℕ) (keeper : Option ℕ) (w : Wish) (asked : List ℕ) (n : ℕ)
+    → is_asked (asked_after (what_wished f heaps keeper w) asked) n ≡ (is_name (name_made w) n || is_asked asked n)
 asks_for f heaps None (Asks m h s a) asked n = refl
 asks_for f heaps (Some keeper) (Asks m h s a) asked n = refl
 asks_for f heaps keeper w asked n = refl
 
+-- A chore asks for no name of the trace.
 pub asks_none : (c : Chore) (asked : List ℕ) → asked_after (what_of_chore c) asked ≡ asked
 asks_none (Chore.Tick e) asked = refl
 asks_none c asked = refl
 
-pub item_names : (f : Profile) (i : Item) (earlier : List Item) (asked : List ℕ) → AreNames asked earlier → AreNames (asked_by asked (new_ops f i earlier)) (i ∷ earlier)
+-- The names that operations asked for are those of their items, with one item more, too.
+pub item_names : (f : Profile) (i : Item) (earlier : List Item) (asked : List ℕ) → AreNames asked earlier
+    → AreNames (asked_by asked (new_ops f i earlier)) (i ∷ earlier)
 item_names f (Operates t w) earlier asked names m = asks_for f (heap_of earlier) (keeper_for f earlier (Operates t w)) w asked m ∙ ap (λ b. is_name (name_made w) m || b) (names m)
 item_names f (Scavenges c) earlier asked names m = ap (λ now. is_asked now m) (asks_none c asked) ∙ names m
 item_names f i earlier asked names m = names m
@@ -140,6 +149,7 @@ pub record AreFollowing (f : Profile) (shared : ℕ) (items : List Item) : Type 
   pub sound : AreSound (sharing f shared) [] (ops_in f items)
   pub names : AreNames (asked_by [] (ops_in f items)) items
 
+-- The operations of items that passed their checks follow one another soundly.
 pub following : (f : Profile) (shared : ℕ) (items : List Item) → IsValid f → AreChecked f items → AreFollowing f shared items
 following f shared [] valid checked = record { sound = tt; names = λ n. refl }
 following f shared (i ∷ earlier) valid checked =
@@ -164,10 +174,12 @@ kept_by : (asked : List ℕ) (ops : List Op) (n : ℕ) → is_asked asked n ≡ 
 kept_by asked [] n is = is
 kept_by asked (op ∷ ops) n is = kept_by (asked_after op.what asked) ops n (kept_with (request_in op.what) asked n is)
 
-below_one : (limit : ℕ) (request : Option Request) (asked : List ℕ) (ops : List Op) → ((n : ℕ) → is_asked (asked_by (asked_with request asked) ops) n ≡ true → n < limit) → MatchOption request (Unit {0}) (λ r. r.name < limit)
+below_one : (limit : ℕ) (request : Option Request) (asked : List ℕ) (ops : List Op)
+    → ((n : ℕ) → is_asked (asked_by (asked_with request asked) ops) n ≡ true → n < limit) → MatchOption request (Unit {0}) (λ r. r.name < limit)
 below_one limit None asked ops all = tt
 below_one limit (Some r) asked ops all = all r.name (kept_by (r.name ∷ asked) ops r.name (ap (λ t. t || is_asked asked r.name) (eq-eqb r.name r.name refl)))
 
+-- Operations whose names are all below a limit are below it.
 pub all_below : (limit : ℕ) (asked : List ℕ) (ops : List Op) → ((n : ℕ) → is_asked (asked_by asked ops) n ≡ true → n < limit) → AreBelow limit ops
 all_below limit asked [] all = tt
 all_below limit asked (op ∷ ops) all = (below_one limit (request_in op.what) asked ops all, all_below limit (asked_after op.what asked) ops all)
@@ -177,6 +189,7 @@ pub records_both : (f : Profile) (xs ys : List Op) → records_of_ops f (xs ++ y
 records_both f [] ys = omega arith
 records_both f (x ∷ xs) ys = omega (arith, records_both f xs ys)
 
+-- What a thread's operations may make of records is counted over both of two lists.
 pub own_both : (f : Profile) (k : ℕ) (xs ys : List Op) → own_records f k (xs ++ ys) ≡ own_records f k xs + own_records f k ys
 own_both f k [] ys = omega arith
 own_both f k (x ∷ xs) ys = omega (arith, own_both f k xs ys)
@@ -206,7 +219,8 @@ chore_records : (f : Profile) (shared : ℕ) (c : Chore) → records_of_what (sh
 chore_records f shared (Chore.Tick e) = refl
 chore_records f shared c = refl
 
-item_records : (f : Profile) (shared : ℕ) (i : Item) (earlier : List Item) → records_of_ops (sharing f shared) (new_ops f i earlier) ≤ cost_of f (guard_in earlier) i
+item_records : (f : Profile) (shared : ℕ) (i : Item) (earlier : List Item)
+    → records_of_ops (sharing f shared) (new_ops f i earlier) ≤ cost_of f (guard_in earlier) i
 item_records f shared (Operates t w) earlier = omega (arith, wish_records f shared (heap_of earlier) earlier t w)
 item_records f shared (Scavenges c) earlier = omega (arith, chore_records f shared c)
 item_records f shared i earlier = omega arith
@@ -215,7 +229,8 @@ if_le : (t : Bool) (m n : ℕ) → m ≤ n → (if t then m else 0) + 0 ≤ (if 
 if_le true m n le = omega (arith, le)
 if_le false m n le = omega arith
 
-item_own : (f : Profile) (shared k : ℕ) (i : Item) (earlier : List Item) → own_records (sharing f shared) k (new_ops f i earlier) ≤ (if actor_of i == k then cost_of f (guard_in earlier) i else 0)
+item_own : (f : Profile) (shared k : ℕ) (i : Item) (earlier : List Item)
+    → own_records (sharing f shared) k (new_ops f i earlier) ≤ (if actor_of i == k then cost_of f (guard_in earlier) i else 0)
 item_own f shared k (Operates t w) earlier =
     if_le (t == k) (records_of_what (sharing f shared) (what_wished f (heap_of earlier) (keeper_for f earlier (Operates t w)) w)) (cost_of_wish (guard_in earlier) w) (wish_records f shared (heap_of earlier) earlier t w)
 item_own f shared k (Scavenges c) earlier =
@@ -223,7 +238,8 @@ item_own f shared k (Scavenges c) earlier =
 item_own f shared k i earlier = omega arith
 
 -- .. those of the scavenger are exact
-item_scavenger : (f : Profile) (shared : ℕ) (i : Item) (earlier : List Item) → reason_of f earlier i ≡ None → own_records (sharing f shared) 0 (new_ops f i earlier) ≡ (if actor_of i == 0 then cost_of f (guard_in earlier) i else 0)
+item_scavenger : (f : Profile) (shared : ℕ) (i : Item) (earlier : List Item) → reason_of f earlier i ≡ None
+    → own_records (sharing f shared) 0 (new_ops f i earlier) ≡ (if actor_of i == 0 then cost_of f (guard_in earlier) i else 0)
 item_scavenger f shared (Operates t w) earlier passed = search (arith, own_passed, ne_eqb)
 item_scavenger f shared (Scavenges c) earlier passed = omega (arith, chore_records f shared c)
 item_scavenger f shared i earlier passed = refl
@@ -232,6 +248,7 @@ own_more : (t : Bool) (own cost : ℕ) → own + (if t then cost else 0) ≡ (if
 own_more true own cost = refl
 own_more false own cost = omega arith
 
+-- The operations of items may make at most as many records as the items.
 pub all_records : (f : Profile) (shared : ℕ) (items : List Item) → records_of_ops (sharing f shared) (ops_in f items) ≤ costs_of f items
 all_records f shared [] = omega arith
 all_records f shared (i ∷ earlier) =
@@ -239,6 +256,7 @@ all_records f shared (i ∷ earlier) =
     let both = ap (records_of_ops g) (ops_next f i earlier) ∙ records_both g (ops_in f earlier) (new_ops f i earlier) in
     omega (arith, both, item_records f shared i earlier, all_records f shared earlier)
 
+-- An actor's operations may make at most as many records as its items.
 pub all_own : (f : Profile) (shared k : ℕ) (items : List Item) → own_records (sharing f shared) k (ops_in f items) ≤ own_costs f k items
 all_own f shared k [] = omega arith
 all_own f shared k (i ∷ earlier) =
@@ -247,7 +265,9 @@ all_own f shared k (i ∷ earlier) =
     let more = own_more (actor_of i == k) (own_costs f k earlier) (cost_of f (guard_in earlier) i) in
     omega (arith, both, more, item_own f shared k i earlier, all_own f shared k earlier)
 
-pub all_scavenger : (f : Profile) (shared : ℕ) (items : List Item) → AreChecked f items → own_records (sharing f shared) 0 (ops_in f items) ≡ own_costs f 0 items
+-- The scavenger's operations may make just as many records as its items.
+pub all_scavenger : (f : Profile) (shared : ℕ) (items : List Item) → AreChecked f items
+    → own_records (sharing f shared) 0 (ops_in f items) ≡ own_costs f 0 items
 all_scavenger f shared [] checked = refl
 all_scavenger f shared (i ∷ earlier) checked =
     let g = sharing f shared in
@@ -266,7 +286,8 @@ wish_exact f shared heaps earlier t (Asks n h s a) none =
 wish_exact f shared heaps earlier t (Remakes n o s a) none = ap (λ cost. cost + 1) (unguarded_cost (guard_in earlier) s none)
 wish_exact f shared heaps earlier t w none = refl
 
-item_exact : (f : Profile) (shared : ℕ) (i : Item) (earlier : List Item) → guard_in earlier ≡ 0 → records_of_ops (sharing f shared) (new_ops f i earlier) ≡ cost_of f (guard_in earlier) i
+item_exact : (f : Profile) (shared : ℕ) (i : Item) (earlier : List Item) → guard_in earlier ≡ 0
+    → records_of_ops (sharing f shared) (new_ops f i earlier) ≡ cost_of f (guard_in earlier) i
 item_exact f shared (Operates t w) earlier none = omega (arith, wish_exact f shared (heap_of earlier) earlier t w none)
 item_exact f shared (Scavenges c) earlier none = omega (arith, chore_records f shared c)
 item_exact f shared i earlier none = refl
@@ -275,7 +296,8 @@ if_same : (t : Bool) (n : ℕ) → n ≡ (if t then n else n)
 if_same true n = refl
 if_same false n = refl
 
-own_exactly : (f : Profile) (shared k : ℕ) (i : Item) (earlier : List Item) → guard_in earlier ≡ 0 → own_records (sharing f shared) k (new_ops f i earlier) ≡ (if actor_of i == k then cost_of f (guard_in earlier) i else 0)
+own_exactly : (f : Profile) (shared k : ℕ) (i : Item) (earlier : List Item) → guard_in earlier ≡ 0
+    → own_records (sharing f shared) k (new_ops f i earlier) ≡ (if actor_of i == k then cost_of f (guard_in earlier) i else 0)
 own_exactly f shared k (Operates t w) earlier none = ap (λ n. (if t == k then n else 0) + 0) (wish_exact f shared (heap_of earlier) earlier t w none) ∙ omega arith
 own_exactly f shared k (Scavenges c) earlier none = ap (λ n. (if 0 == k then n else 0) + 0) (chore_records f shared c) ∙ omega arith
 own_exactly f shared k i earlier none = if_same (0 == k) 0
@@ -284,7 +306,9 @@ none_before : (f : Profile) (i : Item) (earlier : List Item) → reason_of f ear
 none_before f (Guards n) earlier passed none = (guard_passed f earlier n passed).single
 none_before f i earlier passed none = none
 
-pub exact_records : (f : Profile) (shared : ℕ) (items : List Item) → AreChecked f items → guard_in items ≡ 0 → records_of_ops (sharing f shared) (ops_in f items) ≡ costs_of f items
+-- Without a guard, operations may make just as many records as their items.
+pub exact_records : (f : Profile) (shared : ℕ) (items : List Item) → AreChecked f items → guard_in items ≡ 0
+    → records_of_ops (sharing f shared) (ops_in f items) ≡ costs_of f items
 exact_records f shared [] checked none = refl
 exact_records f shared (i ∷ earlier) checked none =
     let g = sharing f shared in
@@ -292,7 +316,9 @@ exact_records f shared (i ∷ earlier) checked none =
     let both = ap (records_of_ops g) (ops_next f i earlier) ∙ records_both g (ops_in f earlier) (new_ops f i earlier) in
     omega (arith, both, item_exact f shared i earlier before, exact_records f shared earlier checked.1 before)
 
-pub exact_own : (f : Profile) (shared k : ℕ) (items : List Item) → AreChecked f items → guard_in items ≡ 0 → own_records (sharing f shared) k (ops_in f items) ≡ own_costs f k items
+-- Without a guard, an actor's operations may make just as many records as its items.
+pub exact_own : (f : Profile) (shared k : ℕ) (items : List Item) → AreChecked f items → guard_in items ≡ 0
+    → own_records (sharing f shared) k (ops_in f items) ≡ own_costs f k items
 exact_own f shared k [] checked none = refl
 exact_own f shared k (i ∷ earlier) checked none =
     let g = sharing f shared in
@@ -311,17 +337,20 @@ none_or true = refl
 none_or false = refl
 
 kept_one : (f : Profile) (guarded mine : Bool) (line t k n h s a : ℕ) → (t == k) ≡ mine
-    → kept_records k (operation line t (request_kept (if guarded then Some (f.threads + t) else None) n h s a) ∷ []) ≡ (if guarded && mine then cost_of_size s else 0)
+    → kept_records k (operation line t (request_kept (if guarded then Some (f.threads + t) else None) n h s a) ∷ [])
+      ≡ (if guarded && mine then cost_of_size s else 0)
 kept_one f true mine line t k n h s a is = ap (λ b. (if b then cost_of_size s else 0) + 0) is ∙ omega arith
 kept_one f false mine line t k n h s a is = ap (λ b. (if b then 0 else 0) + 0) is ∙ none_or mine
 
-item_kept : (f : Profile) (k : ℕ) (i : Item) (earlier : List Item) → kept_records k (new_ops f i earlier) ≡ (if is_guarded earlier i && (actor_of i == k) then cost_of f 0 i else 0)
+item_kept : (f : Profile) (k : ℕ) (i : Item) (earlier : List Item)
+    → kept_records k (new_ops f i earlier) ≡ (if is_guarded earlier i && (actor_of i == k) then cost_of f 0 i else 0)
 item_kept f k (Operates t (Asks n h s a)) earlier = kept_one f (is_guarded earlier (Operates t (Asks n h s a))) (t == k) (line_of_newest (Operates t (Asks n h s a) ∷ earlier)) t k n h s a refl
 item_kept f k (Operates t w) earlier = none_or (t == k)
 item_kept f k (Scavenges (Chore.Tick e)) earlier = none_or (0 == k)
 item_kept f k (Scavenges c) earlier = none_or (0 == k)
 item_kept f k i earlier = refl
 
+-- A keeper's operations may make just as many records as its items.
 pub all_kept : (f : Profile) (k : ℕ) (items : List Item) → kept_records k (ops_in f items) ≡ kept_costs f k items
 all_kept f k [] = refl
 all_kept f k (i ∷ earlier) =
@@ -330,7 +359,8 @@ all_kept f k (i ∷ earlier) =
     omega (arith, both, more, item_kept f k i earlier, all_kept f k earlier)
 
 -- each guarded request after a `guard` line has the keeper of its thread
-one_kept : (f : Profile) (guard : ℕ) (guarded : Bool) (line t n h s a : ℕ) → (guarded ≡ true → guard ≢ 0) → AreKept f guard (operation line t (request_kept (if guarded then Some (f.threads + t) else None) n h s a) ∷ [])
+one_kept : (f : Profile) (guard : ℕ) (guarded : Bool) (line t n h s a : ℕ) → (guarded ≡ true → guard ≢ 0)
+    → AreKept f guard (operation line t (request_kept (if guarded then Some (f.threads + t) else None) n h s a) ∷ [])
 one_kept f guard true line t n h s a some = ((refl, some refl), tt)
 one_kept f guard false line t n h s a some = (tt, tt)
 
@@ -347,7 +377,8 @@ item_keepers f (Scavenges c) earlier = (tt, tt)
 item_keepers f i earlier = tt
 
 -- a `guard` line stands before them all
-kept_so : (guard other place : ℕ) (o : Option ℕ) → (guard ≢ 0 → other ≢ 0) → MatchOption o (Unit {0}) (λ keeper. (keeper ≡ place) × (guard ≢ 0)) → MatchOption o (Unit {0}) (λ keeper. (keeper ≡ place) × (other ≢ 0))
+kept_so : (guard other place : ℕ) (o : Option ℕ) → (guard ≢ 0 → other ≢ 0) → MatchOption o (Unit {0}) (λ keeper. (keeper ≡ place) × (guard ≢ 0))
+    → MatchOption o (Unit {0}) (λ keeper. (keeper ≡ place) × (other ≢ 0))
 kept_so guard other place None more kept = tt
 kept_so guard other place (Some keeper) more kept = (kept.0, more kept.1)
 
@@ -362,6 +393,7 @@ guard_more f i earlier passed some = some
 item_guard : (f : Profile) (i : Item) (earlier : List Item) → reason_of f earlier i ≡ None → AreKept f (guard_in (i ∷ earlier)) (new_ops f i earlier)
 item_guard f i earlier passed = same_guard f (guard_in earlier) (guard_in (i ∷ earlier)) (new_ops f i earlier) (guard_more f i earlier passed) (item_keepers f i earlier)
 
+-- The guarded requests of items that passed their checks are kept by their threads' keepers.
 pub all_keepers : (f : Profile) (items : List Item) → AreChecked f items → AreKept f (guard_in items) (ops_in f items)
 all_keepers f [] checked = tt
 all_keepers f (i ∷ earlier) checked =
@@ -376,13 +408,15 @@ add_few op [] = omega arith
 add_few op (p ∷ []) = omega arith
 add_few op (p ∷ q ∷ phases) = omega (arith, add_few op (q ∷ phases))
 
-after_few : (f : Profile) (heaps : ℕ → ℕ) (keeper : Option ℕ) (i : Item) (line : ℕ) (phases : List (List Op)) → length (phases_after f heaps keeper i line phases) ≤ length phases + 1
+after_few : (f : Profile) (heaps : ℕ → ℕ) (keeper : Option ℕ) (i : Item) (line : ℕ) (phases : List (List Op))
+    → length (phases_after f heaps keeper i line phases) ≤ length phases + 1
 after_few f heaps keeper Blank line phases = omega arith
 after_few f heaps keeper (Shares h) line phases = omega arith
 after_few f heaps keeper (Guards n) line phases = omega arith
 after_few f heaps keeper NextPhase line phases = omega (arith, length-append phases ([] ∷ []))
 after_few f heaps keeper i line phases = add_few _ phases
 
+-- There is at most one phase more than items.
 pub phases_within : (f : Profile) (items : List Item) → length (phases_in f items) ≤ length items + 1
 phases_within f [] = omega arith
 phases_within f (i ∷ earlier) = omega (arith, after_few f (heap_of earlier) (keeper_for f earlier i) i (line_of_newest (i ∷ earlier)) (phases_in f earlier), phases_within f earlier)

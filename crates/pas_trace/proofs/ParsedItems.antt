@@ -31,14 +31,18 @@ record AreRead (f : Profile) (items : List Item) (most : ℕ) : Type 0 where
   checked : AreChecked f items
   few : length items ≤ most
 
-next_read : (h : Header) (number : ℕ) (earlier items : List Item) (line : List ℕ) (lines : List (List ℕ)) (r : Result Item Reason) → line_says h earlier line ≡ r
+next_read : (h : Header) (number : ℕ) (earlier items : List Item) (line : List ℕ) (lines : List (List ℕ)) (r : Result Item Reason)
+    → line_says h earlier line ≡ r
     → after_item number r (λ i. items_from h (number + 1) (i ∷ earlier) lines) ≡ Ok items
-    → ((i : Item) → AreChecked h.profile (i ∷ earlier) → items_from h (number + 1) (i ∷ earlier) lines ≡ Ok items → AreRead h.profile items (length (i ∷ earlier) + length lines)) → AreChecked h.profile earlier
+    → ((i : Item) → AreChecked h.profile (i ∷ earlier) → items_from h (number + 1) (i ∷ earlier) lines ≡ Ok items
+        → AreRead h.profile items (length (i ∷ earlier) + length lines))
+    → AreChecked h.profile earlier
     → AreRead h.profile items (length earlier + length (line ∷ lines))
 next_read h number earlier items line lines (Err r) is e more before = absurd (cc)
 next_read h number earlier items line lines (Ok i) is e more before = search (arith, passed, line_range)
 
-all_read : (h : Header) (number : ℕ) (earlier items : List Item) (lines : List (List ℕ)) → AreChecked h.profile earlier → items_from h number earlier lines ≡ Ok items → AreRead h.profile items (length earlier + length lines)
+all_read : (h : Header) (number : ℕ) (earlier items : List Item) (lines : List (List ℕ)) → AreChecked h.profile earlier
+    → items_from h number earlier lines ≡ Ok items → AreRead h.profile items (length earlier + length lines)
 all_read h number earlier items [] before e = record { checked = subst (AreChecked h.profile) (ok_is e) before; few = let n = ap (λ is. length is) (ok_is e) in omega (arith, n) }
 all_read h number earlier items (line ∷ lines) before e =
     next_read h number earlier items line lines (line_says h earlier line) refl e (λ i next rest. all_read h (number + 1) (i ∷ earlier) items lines next rest) before
@@ -52,7 +56,8 @@ pub record AreParts (header : Header) (items : List Item) (lines : ℕ) : Type 0
   pub checked : AreChecked header.profile items
   pub few : length items + 1 ≤ lines
 
-of_items : (f header : Header) (items : List Item) (lines : List (List ℕ)) (r : Result (List Item) TraceFault) → IsValid f.profile → items_from f 2 [] lines ≡ r → with_items f r ≡ Ok (parts header items) → AreParts header items (length lines + 1)
+of_items : (f header : Header) (items : List Item) (lines : List (List ℕ)) (r : Result (List Item) TraceFault) → IsValid f.profile → items_from f 2 [] lines ≡ r
+    → with_items f r ≡ Ok (parts header items) → AreParts header items (length lines + 1)
 of_items f header items lines (Err fault) valid is e = absurd (cc)
 of_items f header items lines (Ok js) valid is e =
     let same = ok_is e in
@@ -61,7 +66,8 @@ of_items f header items lines (Ok js) valid is e =
     let few = read.few in
     record { valid = subst (λ (g : Header). IsValid g.profile) header_is valid; checked = subst (λ (g : Header). AreChecked g.profile items) header_is read.checked; few = omega (arith, few) }
 
-of_header : (line : List ℕ) (o : Option Header) (header : Header) (items : List Item) (lines : List (List ℕ)) → header_of line ≡ o → with_header o lines ≡ Ok (parts header items) → AreParts header items (length lines + 1)
+of_header : (line : List ℕ) (o : Option Header) (header : Header) (items : List Item) (lines : List (List ℕ)) → header_of line ≡ o
+    → with_header o lines ≡ Ok (parts header items) → AreParts header items (length lines + 1)
 of_header line None header items lines is e = absurd (cc)
 of_header line (Some f) header items lines is e = of_items f header items lines (items_from f 2 [] lines) (header_valid line f is) refl e
 
@@ -72,5 +78,6 @@ of_lines (line ∷ lines) header items e =
     let few = p.few in
     record { valid = p.valid; checked = p.checked; few = omega (arith, few) }
 
+-- The items of a text that was parsed passed their checks, and are no more than its lines after the first.
 pub parts_of : (text : List ℕ) (header : Header) (items : List Item) → parsed text ≡ Ok (parts header items) → AreParts header items (length (lines_of text))
 parts_of text header items e = of_lines (lines_of text) header items e

@@ -23,6 +23,7 @@ all_hold : (cs : List (Bool × Reason)) → first_failed cs ≡ None → AreHeld
 all_hold [] e = tt
 all_hold (c ∷ cs) e = let p = first_holds c.0 c.1 cs e in (p.0, all_hold cs p.1)
 
+-- Each check of an item that passed holds.
 pub passes : (f : Profile) (items : List Item) (i : Item) → reason_of f items i ≡ None → AreHeld (checks_of f items i)
 passes f items i e = all_hold (checks_of f items i) e
 
@@ -30,13 +31,16 @@ passes f items i e = all_hold (checks_of f items i) e
 thread_within : (f : Profile) (t : ℕ) → is_thread f t ≡ true → IsThread f t
 thread_within f t e = let p = and_parts (nat_le 1 t) (nat_le t f.threads) e in (leb-true _ _ p.0, leb-true _ _ p.1)
 
+-- A number that tests as an alignment is one.
 pub aligns : (a : ℕ) → is_alignment a ≡ true → IsAlignment a
 aligns a e = search (arith, and_parts)
 
+-- What tests as not so is false.
 pub is_not : (t : Bool) → not t ≡ true → t ≡ false
 is_not true e = absurd (cc)
 is_not false e = refl
 
+-- A choice that has something has it because its test holds.
 pub if_some : {A : Type 0} (t : Bool) (o : Option A) (x : A) → (if t then o else None) ≡ Some x → (t ≡ true) × (o ≡ Some x)
 if_some true o x e = (refl, e)
 if_some false o x e = absurd (cc)
@@ -59,6 +63,7 @@ pub record OwnPassed (f : Profile) (items : List Item) (t : ℕ) (w : Wish) : Ty
   pub free : holds_of (may_free items t) (name_freed w) ≡ true
   pub counts : FineCounts f items (Operates t w)
 
+-- A thread's operation that passed its checks passed each of its own.
 pub own_passed : (f : Profile) (items : List Item) (t : ℕ) (w : Wish) → reason_of f items (Operates t w) ≡ None → OwnPassed f items t w
 own_passed f items t w e =
     let held = passes f items (Operates t w) e in
@@ -71,6 +76,7 @@ pub record GuardPassed (f : Profile) (items : List Item) (n : Option ℕ) : Type
   pub number : is_guard_number n ≡ true
   pub few : f.threads ≤ 8
 
+-- A guard item that passed its checks passed each of its own.
 pub guard_passed : (f : Profile) (items : List Item) (n : Option ℕ) → reason_of f items (Guards n) ≡ None → GuardPassed f items n
 guard_passed f items n e = search (arith, passes, and_parts)
 
@@ -79,13 +85,15 @@ pub actor_within : (f : Profile) (items : List Item) (i : Item) → reason_of f 
 actor_within f items (Operates t w) e = (own_passed f items t w e).thread.1
 actor_within f items i e = omega arith
 
+-- An operation that passed its checks keeps all counts within their bounds.
 pub counts_within : (f : Profile) (items : List Item) (i : Item) → is_operation i ≡ true → reason_of f items i ≡ None → FineCounts f items i
 counts_within f items (Operates t w) o e = (own_passed f items t w e).counts
 counts_within f items (Scavenges c) o e = counts_fit f items (Scavenges c) (passes f items (Scavenges c) e)
 counts_within f items i o e = absurd (cc)
 
 -- ---- tests of a value that may be there
-pub held_both : {A : Type 0} (o : Option A) (test other : A → Bool) (P : A → Type 0) → ((x : A) → test x ≡ true → other x ≡ true → P x) → holds_of test o ≡ true → holds_of other o ≡ true → MatchOption o (Unit {0}) P
+pub held_both : {A : Type 0} (o : Option A) (test other : A → Bool) (P : A → Type 0) → ((x : A) → test x ≡ true → other x ≡ true → P x) → holds_of test o ≡ true
+    → holds_of other o ≡ true → MatchOption o (Unit {0}) P
 held_both None test other P all a b = tt
 held_both (Some x) test other P all a b = all x a b
 
@@ -98,5 +106,6 @@ fit_sizing f valid s size align =
     let le = leb-true s.size (4096 * f.pages) size in
     record { small = omega (arith, valid.pages, le); within = omega (arith, le); aligned = aligns s.align align }
 
+-- What a thread wishes by an item that passed its checks fits a valid profile.
 pub all_fit : (f : Profile) (items : List Item) (t : ℕ) (w : Wish) → IsValid f → OwnPassed f items t w → IsFit f w
 all_fit f items t w valid p = search (arith, held_both, small_heap, fit_sizing)

@@ -16,7 +16,10 @@ pub record SoFar (old : Reader) (start : List Item) (lines : List (List ℕ)) (n
 abbrev pub at-first : (r : Reader) (start : List Item) (lines : List (List ℕ)) → Tells r start → SoFar r start lines r lines
 at-first r start lines t = record { items = start; tells = t; header = refl; same = refl }
 
-pub after-taken : (old now new : Reader) (start : List Item) (lines : List (List ℕ)) (line : List ℕ) (left : List (List ℕ)) (far : SoFar old start lines now (line ∷ left)) → IsTaken now far.items line new (Ok tt) → SoFar old start lines new left
+-- After a line was taken, the reader is one line further.
+pub after-taken : (old now new : Reader) (start : List Item) (lines : List (List ℕ)) (line : List ℕ) (left : List (List ℕ))
+      (far : SoFar old start lines now (line ∷ left))
+    → IsTaken now far.items line new (Ok tt) → SoFar old start lines new left
 after-taken old now new start lines line left far t =
     let i = t.0 in
     let says : line_says old.header far.items line ≡ Ok i = ap (λ (f : Header). line_says f far.items line) (sym far.header) ∙ t.1 in
@@ -29,19 +32,25 @@ after-taken old now new start lines line left far t =
     }
 
 -- the line with the fault is the first of those that are left
-pub taken-fault : (old now new : Reader) (start : List Item) (lines : List (List ℕ)) (line : List ℕ) (left : List (List ℕ)) (fault : ReadFault) (far : SoFar old start lines now (line ∷ left)) → IsTaken now far.items line new (Err fault) → AreTaken old start lines new (Err fault)
+pub taken-fault : (old now new : Reader) (start : List Item) (lines : List (List ℕ)) (line : List ℕ) (left : List (List ℕ)) (fault : ReadFault)
+      (far : SoFar old start lines now (line ∷ left))
+    → IsTaken now far.items line new (Err fault) → AreTaken old start lines new (Err fault)
 taken-fault old now new start lines line left (Trace fault) far t = search arith
 taken-fault old now new start lines line left NoMemory far t = tt
 
-pub at-end : (old now : Reader) (start : List Item) (lines left : List (List ℕ)) → SoFar old start lines now left → left ≡ [] → AreTaken old start lines now (Ok tt)
+-- Where no line is left, all lines are taken.
+pub at-end : (old now : Reader) (start : List Item) (lines left : List (List ℕ)) → SoFar old start lines now left → left ≡ []
+    → AreTaken old start lines now (Ok tt)
 at-end old now start lines left far none = (far.items, far.same ∙ ap (items_from old.header (now.line + 1) far.items) none, far.tells, far.header)
 
 -- ---- the first line of a text
-abbrev pub left-is : (old now : Reader) (start : List Item) (lines left other : List (List ℕ)) → left ≡ other → SoFar old start lines now left → SoFar old start lines now other
+abbrev pub left-is : (old now : Reader) (start : List Item) (lines left other : List (List ℕ)) → left ≡ other → SoFar old start lines now left
+    → SoFar old start lines now other
 left-is old now start lines left other e far = record { items = far.items; tells = far.tells; header = far.header; same = far.same ∙ ap (items_from old.header (now.line + 1) far.items) e }
 
 -- ---- from the text
-parsed-items : (text line rest : List ℕ) (f : Header) → lines_of text ≡ line ∷ lines_of rest → header_of line ≡ Some f → parsed text ≡ with_items f (items_from f 2 [] (lines_of rest))
+parsed-items : (text line rest : List ℕ) (f : Header) → lines_of text ≡ line ∷ lines_of rest → header_of line ≡ Some f
+    → parsed text ≡ with_items f (items_from f 2 [] (lines_of rest))
 parsed-items text line rest f e h = ap parsed_lines e ∙ ap (λ header. with_header header (lines_of rest)) h
 
 -- ---- and to the plan
@@ -63,19 +72,23 @@ planned text line rest f all plan e h i p = record {
 from-second : (r : Reader) (rest : List ℕ) → Tells r [] → items_from r.header 2 [] (lines_of rest) ≡ items_from r.header (r.line + 1) [] (lines_of rest)
 from-second r rest t = ap (λ n. items_from r.header n [] (lines_of rest)) (sym (ap (λ n. n + 1) t.line))
 
+-- A text that was read without a fault has the plan of its items.
 pub read-planned : (text rest : List ℕ) (r new : Reader) (plan : Plan) → IsBegun text r rest → IsRead r [] rest new (Ok tt)
     → ((items : List Item) → Tells new items → IsPlanned new.header items plan) → IsPlanOf text plan
 read-planned text rest r new plan b h made =
     planned text b.line rest r.header h.0 plan b.cut b.header (from-second r rest b.tells ∙ h.1) (subst (λ (g : Header). IsPlanned g h.0 plan) h.3 (made h.0 h.2))
 
-pub read-failed : (text rest : List ℕ) (r new : Reader) (fault : ReadFault) → IsBegun text r rest → IsRead r [] rest new (Err fault) → IsReading text (Err fault)
+-- A text that was read with a fault has that as its first.
+pub read-failed : (text rest : List ℕ) (r new : Reader) (fault : ReadFault) → IsBegun text r rest → IsRead r [] rest new (Err fault)
+    → IsReading text (Err fault)
 read-failed text rest r new (Trace fault) b h = parsed-items text b.line rest r.header b.cut b.header ∙ ap (with_items r.header) (from-second r rest b.tells ∙ h)
 read-failed text rest r new NoMemory b h = tt
 
 -- .. which may want memory
 pub planned-reading : (text : List ℕ) (reader : Reader) (result : Result Plan ReadFault)
     → ((plan : Plan) → ((items : List Item) → Tells reader items → IsPlanned reader.header items plan) → IsPlanOf text plan)
-    → MatchResult result (λ plan. (items : List Item) → Tells reader items → IsPlanned reader.header items plan) (λ fault. fault ≡ NoMemory) → IsReading text result
+    → MatchResult result (λ plan. (items : List Item) → Tells reader items → IsPlanned reader.header items plan) (λ fault. fault ≡ NoMemory)
+    → IsReading text result
 planned-reading text reader (Ok plan) is h = is plan h
 planned-reading text reader (Err NoMemory) is h = tt
 planned-reading text reader (Err (Trace fault)) is h = absurd (cc)

@@ -9,11 +9,13 @@ use Rattle.pas_trace.specs.EveryPlan.{IsRoomNamed}
 abbrev IsRoomWithin : ℕ → ℕ → Type 0
 IsRoomWithin pages room = (room % 16 ≡ 0) × (16 ≤ room) × (room ≤ 4096 * pages)
 
-room_within : (pages classes size align : ℕ) (route : Route) → IsRouteOf classes size align route → 1 ≤ pages → size ≤ pages * 4096 → IsRoomWithin pages (room_by route (max size 1))
+room_within : (pages classes size align : ℕ) (route : Route) → IsRouteOf classes size align route → 1 ≤ pages → size ≤ pages * 4096
+    → IsRoomWithin pages (room_by route (max size 1))
 room_within pages classes size align (Class class) is some within =
     search (arith, class_known, class_size-grains, class_grains_le, class_grains_positive)
 room_within pages classes size align Bitfit is some within = (omega arith, omega arith, omega (arith, is.0, some))
 room_within pages classes size align Large is some within = (omega arith, omega arith, omega (arith, within, some))
 
+-- The room that a free names, of a size within the region, is of whole grains, at least one, and at most the region.
 pub room_named : (f : Profile) (size align : ℕ) → IsValid f → size ≤ f.pages * 4096 → IsRoomNamed f (Some (room_in f size align))
 room_named f size align valid within = search (arith, room_within, route_is)

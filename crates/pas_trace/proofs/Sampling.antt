@@ -12,7 +12,8 @@ use Rattle.pas_trace.specs.declared.{reader.Reader.Reader, samples.Samples.Sampl
 use Rattle.pas_trace.proofs.{Costs.least_cost, Gathering.get_or-written}
 
 -- ---- a count that is raised in one place
-raised : (here : Bool) (xs : List ℕ) (t k more n : ℕ) → t < length xs → (t == k) ≡ here → get_or xs k 0 ≡ n → get_or (set xs t (get_or xs t 0 + more)) k 0 ≡ (if here then n + more else n)
+raised : (here : Bool) (xs : List ℕ) (t k more n : ℕ) → t < length xs → (t == k) ≡ here → get_or xs k 0 ≡ n
+    → get_or (set xs t (get_or xs t 0 + more)) k 0 ≡ (if here then n + more else n)
 raised here xs t k more n lt is told = search (arith, cases_eq, eq-eqb, get_or-written, ne_eqb)
 
 raised_where : (on : Bool) (xs : List ℕ) (t k more n : ℕ) → t < length xs → get_or xs k 0 ≡ n
@@ -30,18 +31,23 @@ module _ (f : Profile) (s : Samples) (items : List Item) (told : TellsSamples f 
   guarded_same : (t : ℕ) (w : Wish) → t < 17 → (asks_pages w && samples_next s t) ≡ is_guarded items (Operates t w)
   guarded_same t w lt = ap (λ n. asks_pages w && is_sampled s.guard (n + 1)) (told.larges t lt) ∙ ap (λ g. asks_pages w && is_sampled g (large_requests t items + 1)) told.guard
 
+  -- After a wish was sampled, the samples tell of the items with this one more.
   pub sampled : (new : Samples) (t : ℕ) (w : Wish) → t < 17 → IsSampled s new t (asks_pages w) (cost_of_wish 0 w) → TellsSamples f new (Operates t w ∷ items)
   sampled new t w lt h = search (arith, width_where, raised_where, guarded_same)
 
-pub keeper_same : (r : Reader) (items : List Item) (t : ℕ) (w : Wish) → Tells r items → t < 17 → keeper_told r t w ≡ keeper_for r.header.profile items (Operates t w)
+-- The keeper of a wish by what the reader keeps is that by the items before.
+pub keeper_same : (r : Reader) (items : List Item) (t : ℕ) (w : Wish) → Tells r items → t < 17
+    → keeper_told r t w ≡ keeper_for r.header.profile items (Operates t w)
 keeper_same r items t w told lt = ap (λ on. if on then Some (r.header.profile.threads + t) else None) (guarded_same r.header.profile r.samples items told.samples t w lt)
 
 -- what is no operation of a thread is no request
-pub unsampled : (f : Profile) (s : Samples) (i : Item) (items : List Item) → is_large_request i ≡ false → ((guard : ℕ) → guard_after i guard ≡ guard) → TellsSamples f s items → TellsSamples f s (i ∷ items)
+pub unsampled : (f : Profile) (s : Samples) (i : Item) (items : List Item) → is_large_request i ≡ false → ((guard : ℕ) → guard_after i guard ≡ guard)
+    → TellsSamples f s items → TellsSamples f s (i ∷ items)
 unsampled f s i items none same told = search arith
 
 -- ---- one request is counted
-pub sampled_small : (s : Samples) (t size : ℕ) → size ≤ 2048 → (false ≡ (is_large size && samples_next s t)) × IsSampled s s t (is_large size) (cost_of_size size)
+pub sampled_small : (s : Samples) (t size : ℕ) → size ≤ 2048
+    → (false ≡ (is_large size && samples_next s t)) × IsSampled s s t (is_large size) (cost_of_size size)
 sampled_small s t size within = search (arith, le-leb)
 
 -- ---- the counts are small
@@ -49,7 +55,8 @@ large_is : (i : Item) → is_large_request i ≡ true → is_operation i ≡ tru
 large_is (Operates t w) is = refl
 large_is i is = absurd (cc)
 
-one_more : (large mine operates : Bool) (n m : ℕ) → (large ≡ true → operates ≡ true) → n ≤ m → (if large && mine then n + 1 else n) ≤ (if operates then m + 1 else m)
+one_more : (large mine operates : Bool) (n m : ℕ) → (large ≡ true → operates ≡ true) → n ≤ m
+    → (if large && mine then n + 1 else n) ≤ (if operates then m + 1 else m)
 one_more true true true n m is le = omega (arith, le)
 one_more true true false n m is le = absurd (let bad = is refl in cc)
 one_more true false true n m is le = omega (arith, le)
@@ -57,6 +64,7 @@ one_more true false false n m is le = le
 one_more false mine true n m is le = omega (arith, le)
 one_more false mine false n m is le = le
 
+-- A thread has no more requests for whole pages than there are operations.
 pub few_larges : (t : ℕ) (items : List Item) → large_requests t items ≤ operations_in items
 few_larges t [] = omega arith
 few_larges t (i ∷ items) = one_more (is_large_request i) (actor_of i == t) (is_operation i) (large_requests t items) (operations_in items) (large_is i) (few_larges t items)

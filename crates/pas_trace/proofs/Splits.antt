@@ -8,9 +8,11 @@ use Rattle.pas_trace.specs.Texts.{put_first, pieces, without_empty_end, lines_of
 abbrev pub NoneBefore : ℕ → List ℕ → ℕ → Type 0
 NoneBefore s bytes n = (k : ℕ) → k < n → get_or bytes k 0 ≢ s
 
+-- A text that begins with the parting byte begins with an empty piece.
 pub pieces-at : (s b : ℕ) (bs : List ℕ) → b ≡ s → pieces s (b ∷ bs) ≡ [] ∷ pieces s bs
 pieces-at s b bs e = let t : (b == s) ≡ true = eq-eqb b s e in rw t refl
 
+-- A first byte that doesn't part belongs to the first piece.
 pub pieces-off : (s b : ℕ) (bs : List ℕ) → b ≢ s → pieces s (b ∷ bs) ≡ put_first b (pieces s bs)
 pieces-off s b bs e = let t : (b == s) ≡ false = ne_eqb b s e in rw t refl
 
@@ -39,6 +41,7 @@ if-some : (t : Bool) (x y : List (List ℕ)) → ((q : List ℕ) × (qs : List (
 if-some true x y hx hy = hx
 if-some false x y hx hy = hy
 
+-- There is at least one piece of each text.
 pub pieces-some : (s : ℕ) (bs : List ℕ) → (q : List ℕ) × (qs : List (List ℕ)) × (pieces s bs ≡ q ∷ qs)
 pieces-some s [] = ([], [], refl)
 pieces-some s (b ∷ bs) = if-some (b == s) ([] ∷ pieces s bs) (put_first b (pieces s bs)) ([], pieces s bs, refl) (put_first-some b (pieces s bs))
@@ -48,6 +51,7 @@ pub end-cons : (p q : List ℕ) (qs : List (List ℕ)) → without_empty_end (p 
 end-cons [] q qs = refl
 end-cons (b ∷ bs) q qs = refl
 
+-- An empty end that falls away leaves the pieces before it as they are.
 pub end-after : (p : List ℕ) (s : ℕ) (bs : List ℕ) → without_empty_end (p ∷ pieces s bs) ≡ p ∷ without_empty_end (pieces s bs)
 end-after p s bs =
     let some = pieces-some s bs in
@@ -64,9 +68,11 @@ lines-last (b ∷ bs) some none = ap without_empty_end (pieces-whole 10 (b ∷ b
 abbrev pub IsCut : List ℕ → List ℕ → List ℕ → Type 0
 IsCut text line rest = (lines_of text ≡ line ∷ lines_of rest) × (length rest < length text)
 
+-- A text without a line feed is cut into itself and nothing.
 pub cut-last : (bs : List ℕ) (n : ℕ) → 0 < length bs → NoneBefore 10 bs n → n ≡ length bs → IsCut bs bs (take (length bs - n) (drop n bs))
 cut-last bs n some none e = search (arith, take_rest, drop-length, lines-last)
 
+-- A text with a first line feed is cut there into its first line and the rest.
 pub cut-found : (bs : List ℕ) (n : ℕ) → NoneBefore 10 bs n → n ≤ length bs → (n < length bs → get_or bs n 0 ≡ 10) → n ≢ length bs
     → IsCut bs (take n bs) (take (length bs - (n + 1)) (drop (n + 1) bs))
 cut-found bs n none le ended ne = search (arith, take_rest, lines-found, length-drop)
@@ -79,6 +85,7 @@ words-skip (b ∷ bs) (suc n) spaces le =
     ap without_empty (pieces-at 32 b bs (spaces zero (omega arith)))
     ∙ words-skip bs n (λ k h. spaces (suc k) (omega (arith, h))) (omega (arith, le))
 
+-- A word of some bytes stays where empty ones fall away.
 pub keeps : (bs : List ℕ) (ps : List (List ℕ)) → 0 < length bs → without_empty (bs ∷ ps) ≡ bs ∷ without_empty ps
 keeps [] ps some = absurd (omega arith)
 keeps (b ∷ bs) ps some = refl
@@ -104,6 +111,7 @@ pub record FromWord (bs word : List ℕ) : Type 0 where
   pub some : 0 < length word
   pub head : get_or word 0 0 ≢ 32
 
+-- The first word of a text begins where its spaces end.
 pub from_word : (bs : List ℕ) (n : ℕ) → ((k : ℕ) → k < n → get_or bs k 0 ≡ 32) → n ≤ length bs → (n < length bs → get_or bs n 0 ≢ 32) → n ≢ length bs
     → FromWord bs (take (length bs - n) (drop n bs))
 from_word bs n spaces le ended ne =
@@ -113,6 +121,7 @@ from_word bs n spaces le ended ne =
     let some : 0 < length (drop n bs) = omega (arith, length-drop n bs, lt) in
     subst (λ w. FromWord bs w) (sym r) (record { words = words-skip bs n spaces le; some = some; head = head })
 
+-- Where no space follows a word, it ends with the text.
 pub word-last : (bs w : List ℕ) (n : ℕ) → FromWord bs w → NoneBefore 32 w n → n ≡ length w → words_of bs ≡ w ∷ words_of (take (length w - n) (drop n w))
 word-last bs w n from none e = search (arith, take_rest, drop-length, words-last)
 
@@ -120,6 +129,7 @@ some-before : (w : List ℕ) (n : ℕ) → get_or w 0 0 ≢ 32 → get_or w n 0 
 some-before w zero head e = absurd (head e)
 some-before w (suc n) head e = omega arith
 
+-- A word ends before the first space after it, and the other words follow.
 pub word-found : (bs w : List ℕ) (n : ℕ) → FromWord bs w → NoneBefore 32 w n → n ≤ length w → (n < length w → get_or w n 0 ≡ 32) → n ≢ length w
     → words_of bs ≡ take n w ∷ words_of (take (length w - (n + 1)) (drop (n + 1) w))
 word-found bs w n from none le ended ne = search (arith, take_rest, some-before, words-found)

@@ -31,19 +31,24 @@ own_costs-le f k (i ∷ items) =
     let cost = cost_of f (guard_in items) i in
     if-le (actor_of i == k) (own_costs f k items + cost) (own_costs f k items) (costs_of f items + cost) (omega (arith, h)) (omega (arith, h))
 
+-- The cost of each actor is within the bound that the reader keeps.
 pub cost-within : (r : Reader) (items : List Item) (k : ℕ) → Tells r items → k < 17 → get_or r.counts.costs k 0 ≤ r.counts.bound
 cost-within r items k t lt =
     omega (arith, t.costs k lt, t.bound, own_costs-le r.header.profile k items)
 
+-- What each keeper may say is within the bound that the reader keeps.
 pub kept-within : (r : Reader) (items : List Item) (k : ℕ) → Tells r items → k < 17 → get_or r.samples.kept k 0 ≤ r.counts.bound
 kept-within r items k t lt =
     omega (arith, t.samples.kept k lt, t.bound, few_kept r.header.profile k items)
 
 -- a request of the thread may be counted
-pub can-sample : (r : Reader) (items : List Item) (i : Item) (actor : ℕ) → Tells r items → FineCounts r.header.profile items i → actor ≤ 16 → CanSample r.samples actor
+pub can-sample : (r : Reader) (items : List Item) (i : Item) (actor : ℕ) → Tells r items → FineCounts r.header.profile items i → actor ≤ 16
+    → CanSample r.samples actor
 can-sample r items i actor t fine le = search (arith, kept-within, few_larges)
 
-pub ready : (r : Reader) (items : List Item) (i : Item) (actor cost : ℕ) → ((guard : ℕ) → guard_after i guard ≡ guard) → Tells r items → FineCounts r.header.profile items i → actor ≤ 16 → cost ≡ cost_of r.header.profile r.samples.guard i → IsReady r.counts actor cost
+-- An operation whose counts are fine may be counted for its actor.
+pub ready : (r : Reader) (items : List Item) (i : Item) (actor cost : ℕ) → ((guard : ℕ) → guard_after i guard ≡ guard) → Tells r items
+    → FineCounts r.header.profile items i → actor ≤ 16 → cost ≡ cost_of r.header.profile r.samples.guard i → IsReady r.counts actor cost
 ready r items i actor cost same t fine le e = search (arith, bound-after, cost-within)
 
 -- ---- names
@@ -57,14 +62,17 @@ heap-by-same heaps others (Some h) freed same = refl
 heap-by-same heaps others None None same = refl
 heap-by-same heaps others None (Some old) same = same old
 
-what-same : (f : Profile) (heaps others : ℕ → ℕ) (keeper : Option ℕ) (w : Wish) → ((n : ℕ) → heaps n ≡ others n) → what_wished f heaps keeper w ≡ what_wished f others keeper w
+what-same : (f : Profile) (heaps others : ℕ → ℕ) (keeper : Option ℕ) (w : Wish) → ((n : ℕ) → heaps n ≡ others n)
+    → what_wished f heaps keeper w ≡ what_wished f others keeper w
 what-same f heaps others keeper (Remakes n o s a) same = ap (λ heap. Remake n o heap s a) (same o)
 what-same f heaps others keeper w same = refl
 
-taken-here : (t heap p : ℕ) (w : Wish) (items : List Item) (n : ℕ) → heap_made (heap_of items) w ≡ heap → 1 ≤ t → is_name (name_made w) n ≡ true → NameTold (record { thread = t; heap = heap; phase = p }) p (Operates t w ∷ items) n
+taken-here : (t heap p : ℕ) (w : Wish) (items : List Item) (n : ℕ) → heap_made (heap_of items) w ≡ heap → 1 ≤ t → is_name (name_made w) n ≡ true
+    → NameTold (record { thread = t; heap = heap; phase = p }) p (Operates t w ∷ items) n
 taken-here t heap p w items n home least e = search (arith, ne_eqb, eq-eqb)
 
-taken-by : (here : Bool) (t heap p : ℕ) (w : Wish) (items : List Item) (o o' : Owner) (n : ℕ) → heap_made (heap_of items) w ≡ heap → is_name (name_made w) n ≡ here → 1 ≤ t → o' ≡ (if here then record { thread = t; heap = heap; phase = p } else o) → NameTold o p items n
+taken-by : (here : Bool) (t heap p : ℕ) (w : Wish) (items : List Item) (o o' : Owner) (n : ℕ) → heap_made (heap_of items) w ≡ heap
+    → is_name (name_made w) n ≡ here → 1 ≤ t → o' ≡ (if here then record { thread = t; heap = heap; phase = p } else o) → NameTold o p items n
     → NameTold o' p (Operates t w ∷ items) n
 taken-by true t heap p w items o o' n home is least e told = subst (λ (x : Owner). NameTold x p (Operates t w ∷ items) n) (sym e) (taken-here t heap p w items n home least is)
 taken-by false t heap p w items o o' n home is least e told = subst (λ (x : Owner). NameTold x p (Operates t w ∷ items) n) (sym e) (kept-name (Operates t w) items o p n refl is told)
@@ -79,7 +87,8 @@ pub record IsOperation (f : Profile) (heaps : ℕ → ℕ) (keeper : Option ℕ)
   pub costs : cost_of f guard i ≡ cost
   pub phases : (line : ℕ) (ps : List (List Op)) → phases_after f heaps keeper i line ps ≡ add_last (Some (operation line actor what)) ps
 
-cost-added : (f : Profile) (i : Item) (items : List Item) (costs : List ℕ) (actor cost k : ℕ) → actor < length costs → actor_of i ≡ actor → cost_of f (guard_in items) i ≡ cost
+cost-added : (f : Profile) (i : Item) (items : List Item) (costs : List ℕ) (actor cost k : ℕ) → actor < length costs → actor_of i ≡ actor
+    → cost_of f (guard_in items) i ≡ cost
     → get_or costs k 0 ≡ own_costs f k items → get_or (set costs actor (get_or costs actor 0 + cost)) k 0 ≡ own_costs f k (i ∷ items)
 cost-added f i items costs actor cost k lt is_actor is_cost told = search (arith, cases_eq, eq-eqb, get_or-written, ne_eqb)
 
@@ -111,7 +120,8 @@ small_thread old items t w told e =
     omega (arith, actor_within old.header.profile items (Operates t w) e, told.header.threads)
 
 added : (old new : Reader) (names : Names) (samples : Samples) (i : Item) (actor : ℕ) (what : What) (cost : ℕ)
-    → ((items : List Item) → Tells old items → reason_of old.header.profile items i ≡ None → IsOperation old.header.profile (heap_of items) (keeper_for old.header.profile items i) old.samples.guard i actor what cost)
+    → ((items : List Item) → Tells old items → reason_of old.header.profile items i ≡ None
+        → IsOperation old.header.profile (heap_of items) (keeper_for old.header.profile items i) old.samples.guard i actor what cost)
     → NamesAfter old names i → SamplesAfter old samples i
     → IsCounted (record old { line = old.line + 1; names = names; samples = samples }) new actor what cost → IsAdded old new i
 added old new names samples i actor what cost op after sampling h = record {
@@ -125,7 +135,9 @@ added old new names samples i actor what cost op after sampling h = record {
       operated old new names samples items i actor what cost t (op items t e) can (after items t e) (sampling items t e) h;
 }
 
-pub added_wish : (old new : Reader) (t : ℕ) (w : Wish) → IsOperated (record old { line = old.line + 1 }) new t w (cost_of_wish old.samples.guard w) → IsAdded old new (Operates t w)
+-- A thread's operation that was counted is added to what the reader keeps.
+pub added_wish : (old new : Reader) (t : ℕ) (w : Wish) → IsOperated (record old { line = old.line + 1 }) new t w (cost_of_wish old.samples.guard w)
+    → IsAdded old new (Operates t w)
 added_wish old new t w h =
     let f = old.header.profile in
     let cost = cost_of_wish old.samples.guard w in
@@ -142,7 +154,9 @@ added_wish old new t w h =
     added old new h.names h.samples (Operates t w) t what cost op (names-taken old h.names t w h.given)
     (λ items told e. sampled f old.samples items told.samples h.samples t w (small_thread old items t w told e) h.sampled) h.counted
 
-pub added_chore : (old new : Reader) (c : Chore) → IsCounted (record old { line = old.line + 1 }) new 0 (what_of_chore c) (records_of_chore old.header.profile c) → IsAdded old new (Scavenges c)
+-- A chore that was counted is added to what the reader keeps.
+pub added_chore : (old new : Reader) (c : Chore)
+    → IsCounted (record old { line = old.line + 1 }) new 0 (what_of_chore c) (records_of_chore old.header.profile c) → IsAdded old new (Scavenges c)
 added_chore old new c h =
     let f = old.header.profile in
     let cost = records_of_chore f c in
@@ -209,17 +223,22 @@ numbered old new n h = record {
       };
 }
 
-pub added_guard : (old new : Reader) (n : Option ℕ) → is_guard_number n ≡ true → IsGuarding (record old { line = old.line + 1 }) new n → IsAdded old new (Guards n)
+-- A guard's number that was noted is added to what the reader keeps.
+pub added_guard : (old new : Reader) (n : Option ℕ) → is_guard_number n ≡ true → IsGuarding (record old { line = old.line + 1 }) new n
+    → IsAdded old new (Guards n)
 added_guard old new None number h = absurd (cc)
 added_guard old new (Some n) number h = numbered old new n h
 
 -- ---- bounds
-pub bounds-more : (f : Profile) (items : List Item) (k bound : ℕ) (bounds more : List ℕ) → bounds ≡ bounds_upto f items k → bound ≡ bound_of f items k → more ≡ bounds ++ bound ∷ [] → more ≡ bounds_upto f items (k + 1)
+pub bounds-more : (f : Profile) (items : List Item) (k bound : ℕ) (bounds more : List ℕ) → bounds ≡ bounds_upto f items k → bound ≡ bound_of f items k
+    → more ≡ bounds ++ bound ∷ [] → more ≡ bounds_upto f items (k + 1)
 bounds-more f items k bound bounds more e b m = m ∙ ap (λ xs. xs ++ bound ∷ []) e ∙ ap (λ n. bounds_upto f items k ++ n ∷ []) b ∙ sym (ap (λ n. bounds_upto f items n) (add-one k))
 
+-- The bound of a thread is its cost and the region's pages.
 pub bound-thread : (f : Profile) (items : List Item) (k : ℕ) → 1 ≤ k → k ≤ f.threads → f.pages + own_costs f k items ≡ bound_of f items k
 bound-thread f items k some within = search (arith, ne_eqb, le-leb)
 
+-- The bound of a keeper is what it may say and the region's pages.
 pub bound-keeper : (f : Profile) (items : List Item) (k : ℕ) → 1 ≤ k → f.pages + kept_costs f k items ≡ bound_of f items (f.threads + k)
 bound-keeper f items k some = search (arith, ne_eqb, lt-leb)
 
@@ -227,5 +246,6 @@ bound-keeper f items k some = search (arith, ne_eqb, lt-leb)
 pub all-plain : (f : Profile) (items : List Item) → guard_in items ≡ 0 → bounds_upto f items (f.threads + 1) ≡ all_bounds f items
 all-plain f items none = ap (λ guard. bounds_upto f items (actors_by guard f.threads + 1)) (sym none)
 
+-- In a guarded trace the bounds are those of the threads and of as many keepers.
 pub all-guarded : (f : Profile) (items : List Item) → guard_in items ≢ 0 → bounds_upto f items (f.threads + (f.threads + 1)) ≡ all_bounds f items
 all-guarded f items some = search (arith, ne_eqb)

@@ -9,6 +9,7 @@ pub number_next : (k n m : ℕ) → n ≡ m + 1 → numbers_from k n ≡ k ∷ n
 number_next k zero m is = absurd (omega (arith, is))
 number_next k (suc n) m is = ap (λ (x : ℕ). k ∷ numbers_from (k + 1) x) (omega (arith, is))
 
+-- A list of no numbers, from whichever on, is empty.
 pub number_last : (k n : ℕ) → n ≡ 0 → numbers_from k n ≡ []
 number_last k zero is = refl
 number_last k (suc n) is = absurd (omega (arith, is))
@@ -33,12 +34,15 @@ module _ (to : ℕ → Act) (chosen : ℕ → Bool) (i n : ℕ) (more : List Act
   abbrev pub acts_past : List Act
   acts_past = map to (filter chosen (numbers_from (i + 1 + 1) (n - (i + 1)))) ++ more
 
+  -- The acts from a thread on that is chosen are its own and those of the threads past it.
   pub next_chosen : i < n → chosen (i + 1) ≡ true → acts_there ≡ to (i + 1) ∷ acts_past
   next_chosen lt on = ap (λ (ks : List ℕ). map to ks ++ more) (chosen_next {on = true} chosen (i + 1) (n - i) (n - (i + 1)) (omega (arith, lt)) on)
 
+  -- The acts from a thread on that isn't chosen are those of the threads past it.
   pub next_passed : i < n → chosen (i + 1) ≡ false → acts_there ≡ acts_past
   next_passed lt off = ap (λ (ks : List ℕ). map to ks ++ more) (chosen_next {on = false} chosen (i + 1) (n - i) (n - (i + 1)) (omega (arith, lt)) off)
 
+  -- Past the last thread no act of theirs is left.
   pub none_left : n ≤ i → acts_there ≡ more
   none_left le = ap (λ (ks : List ℕ). map to (filter chosen ks) ++ more) (number_last (i + 1) (n - i) (omega (arith, le)))
 
@@ -49,15 +53,18 @@ module _ (to : ℕ → Act) (chosen : ℕ → Bool) (i n : ℕ) (more : List Act
       rest : List ℕ
       rest = filter chosen (numbers_from (i + 1 + 1) (n - (i + 1)))
 
-      apart : (on : Bool) → chosen (i + 1) ≡ on → map to (filter chosen ((i + 1) ∷ numbers_from (i + 1 + 1) (n - (i + 1)))) ++ more ≡ map to (filter chosen ((i + 1) ∷ [])) ++ acts_past
+      apart : (on : Bool) → chosen (i + 1) ≡ on
+          → map to (filter chosen ((i + 1) ∷ numbers_from (i + 1 + 1) (n - (i + 1)))) ++ more ≡ map to (filter chosen ((i + 1) ∷ [])) ++ acts_past
       apart true on = (λ t. map to (if on t then (i + 1) ∷ rest else rest) ++ more) ∙ (λ t. map to (if sym on t then (i + 1) ∷ [] else []) ++ (map to rest ++ more))
       apart false off = (λ t. map to (if off t then (i + 1) ∷ rest else rest) ++ more) ∙ (λ t. map to (if sym off t then (i + 1) ∷ [] else []) ++ (map to rest ++ more))
 
 -- .. of all threads
 module _ (to : ℕ → Act) (i n : ℕ) (more : List Act) where
+  -- The acts of actors from one on are its own and those of the actors past it.
   pub next_number : i < n → map to (numbers_from (i + 1) (n - i)) ++ more ≡ to (i + 1) ∷ (map to (numbers_from (i + 1 + 1) (n - (i + 1))) ++ more)
   next_number lt = ap (λ (ks : List ℕ). map to ks ++ more) (number_next (i + 1) (n - i) (n - (i + 1)) (omega (arith, lt)))
 
+  -- Past the last actor no act of theirs is left.
   pub no_number : n ≤ i → map to (numbers_from (i + 1) (n - i)) ++ more ≡ more
   no_number le = ap (λ (ks : List ℕ). map to ks ++ more) (number_last (i + 1) (n - i) (omega (arith, le)))
 
@@ -67,5 +74,6 @@ chosen_alike p q same [] = refl
 chosen_alike p q same (k ∷ ks) =
     ap (λ (b : Bool). if b then k ∷ filter p ks else filter p ks) (same k) ∙ ap (λ (xs : List ℕ). if q k then k ∷ xs else xs) (chosen_alike p q same ks)
 
+-- Two tests that agree choose the same threads.
 pub threads_alike : (p q : ℕ → Bool) (threads : ℕ) → ((k : ℕ) → p k ≡ q k) → threads_where p threads ≡ threads_where q threads
 threads_alike p q threads same = chosen_alike p q same (numbers_from 1 threads)

@@ -134,8 +134,11 @@ pub record IsSound (text : List ℕ) (plan : Plan) : Type 0 where
   pub keepers : AreKept plan.profile plan.guard (operations_of plan)
   pub count : length (bounds_of plan.bounds) ≡ actors_by plan.guard plan.profile.threads + 1
   pub scavenger : slice_index (bounds_of plan.bounds) 0 ≡ own_records plan.profile 0 (operations_of plan)
-  pub own : (k : ℕ) → 1 ≤ k → k ≤ plan.profile.threads → plan.profile.pages + own_records plan.profile k (operations_of plan) ≤ slice_index (bounds_of plan.bounds) k
-  pub exact_own : plan.guard ≡ 0 → (k : ℕ) → 1 ≤ k → k ≤ plan.profile.threads → slice_index (bounds_of plan.bounds) k ≡ plan.profile.pages + own_records plan.profile k (operations_of plan)
-  pub kept : (k : ℕ) → plan.guard ≢ 0 → 1 ≤ k → k ≤ plan.profile.threads → slice_index (bounds_of plan.bounds) (plan.profile.threads + k) ≡ plan.profile.pages + kept_records k (operations_of plan)
+  pub own : (k : ℕ) → 1 ≤ k → k ≤ plan.profile.threads
+      → plan.profile.pages + own_records plan.profile k (operations_of plan) ≤ slice_index (bounds_of plan.bounds) k
+  pub exact_own : plan.guard ≡ 0 → (k : ℕ) → 1 ≤ k → k ≤ plan.profile.threads
+      → slice_index (bounds_of plan.bounds) k ≡ plan.profile.pages + own_records plan.profile k (operations_of plan)
+  pub kept : (k : ℕ) → plan.guard ≢ 0 → 1 ≤ k → k ≤ plan.profile.threads
+      → slice_index (bounds_of plan.bounds) (plan.profile.threads + k) ≡ plan.profile.pages + kept_records k (operations_of plan)
   pub total : actors_by plan.guard plan.profile.threads * plan.profile.pages + records_of_ops plan.profile (operations_of plan) ≤ plan.total
   pub exact_total : plan.guard ≡ 0 → plan.total ≡ plan.profile.threads * plan.profile.pages + records_of_ops plan.profile (operations_of plan)

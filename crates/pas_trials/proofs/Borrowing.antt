@@ -12,14 +12,19 @@ pub record BorrowsSoFar (c0 c : Cached) (σ0 σ : Standing) (n spare : ℕ) : Ty
   pub borrows : Borrows c0 c σ0 σ
   pub room : CanCall σ (HasBudget σ.seat.profile c n spare)
 
-pub none_yet : {σ : Standing} {c : Cached} {n m spare : ℕ} → m ≡ n → CanCall σ (λ v. AtRest σ.seat.profile c v × (n + unknown_pages σ.seat.profile v ≤ spare)) → BorrowsSoFar c c σ σ m spare
+-- Before any request the budget is as it was.
+pub none_yet : {σ : Standing} {c : Cached} {n m spare : ℕ} → m ≡ n → CanCall σ (λ v. AtRest σ.seat.profile c v × (n + unknown_pages σ.seat.profile v ≤ spare))
+    → BorrowsSoFar c c σ σ m spare
 none_yet same can = let room = can.met.1 in record {
   borrows = record { steps = []; rests = call_none (λ v rest. rest); log = refl };
   room = record { view = can.view; whole = can.whole; stood = can.stood; met = record { rest = can.met.0; room = omega (arith, same, room) } };
 }
 
-pub one_more : {σ0 σ σ' : Standing} {c0 c c' : Cached} {wanted : Wanted} {tells : Bool} {answer : Result Block NoRoom} {n m spare spare' : ℕ} → n ≡ m + 2 → BorrowsSoFar c0 c σ0 σ n spare → Allocates wanted tells c c' σ σ' answer
-    → ((v : View) (l : Whole) → σ.stands v l → spare + length (events_of σ.seat.actor v) ≡ σ.seat.room) → ((v : View) (l : Whole) → σ'.stands v l → spare' + length (events_of σ'.seat.actor v) ≡ σ'.seat.room) → BorrowsSoFar c0 c' σ0 σ' m spare'
+-- After one more request the budget is two smaller.
+pub one_more : {σ0 σ σ' : Standing} {c0 c c' : Cached} {wanted : Wanted} {tells : Bool} {answer : Result Block NoRoom} {n m spare spare' : ℕ} → n ≡ m + 2
+    → BorrowsSoFar c0 c σ0 σ n spare → Allocates wanted tells c c' σ σ' answer
+    → ((v : View) (l : Whole) → σ.stands v l → spare + length (events_of σ.seat.actor v) ≡ σ.seat.room)
+    → ((v : View) (l : Whole) → σ'.stands v l → spare' + length (events_of σ'.seat.actor v) ≡ σ'.seat.room) → BorrowsSoFar c0 c' σ0 σ' m spare'
 one_more {σ0} {σ} {σ'} {c0} {c} {c'} {wanted} {answer = answer} {n} {m} {spare} two so h law law' =
     let same : σ.seat ≡ σ0.seat = so.borrows.rests.adds.seat_is in
     record {

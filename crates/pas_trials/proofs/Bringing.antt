@@ -19,5 +19,6 @@ deed_gives p d a v e = subst (λ x. MayLeave p d (made (Deed p d) x ∷ v)) (sym
 pub look_reads : (p a : ℕ) (v : View) → known_deed (made (Look (Word.Deed p)) a ∷ v) p ≡ a
 look_reads p a v = ap (λ t. if t then a else known_deed v p) (same_page p)
 
+-- A look at a deed word that reads as a directory's tells that the page is of it.
 pub look_tells : (p : ℕ) (d : Directory) (a : ℕ) (v : View) → a ≡ deed_word_of d → KnowsDeed p d (made (Look (Word.Deed p)) a ∷ v)
 look_tells p d a v e = look_reads p a v ∙ e

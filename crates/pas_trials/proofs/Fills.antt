@@ -9,8 +9,11 @@ use Rattle.pas_segregated.specs.Stops.{class_directory, directory_of, MayStopAt,
 use Rattle.pas_segregated.specs.declared.slots.Slots.{Slots}
 
 -- what a refill gave may be stopped
-pub given_directory : {f : Profile} {heap class : ℕ} {searched after : List Made} {slots : Slots} → GivesSlots (exclusive_slots heap class) f searched after slots → directory_of slots ≡ class_directory heap class
+pub given_directory : {f : Profile} {heap class : ℕ} {searched after : List Made} {slots : Slots}
+    → GivesSlots (exclusive_slots heap class) f searched after slots → directory_of slots ≡ class_directory heap class
 given_directory {heap = heap} {slots = slots} gives = ap (λ h. class_directory h slots.class) (ap (λ d. d.heap) gives.home) ∙ ap (class_directory heap) gives.class_is
 
-pub may_stop_then : {f : Profile} {heap class : ℕ} {searched after : List Made} {slots : Slots} → GivesSlots (exclusive_slots heap class) f searched after slots → (v : View) → MaySearch (class_directory heap class) v → Agreed f v (after ++ searched) → MayStop slots ((after ++ searched) ++ v)
+-- Slots that a refill gave may be stopped.
+pub may_stop_then : {f : Profile} {heap class : ℕ} {searched after : List Made} {slots : Slots} → GivesSlots (exclusive_slots heap class) f searched after slots
+    → (v : View) → MaySearch (class_directory heap class) v → Agreed f v (after ++ searched) → MayStop slots ((after ++ searched) ++ v)
 may_stop_then {searched = searched} {after = after} {slots = slots} gives v may agreed = subst (λ x. MayStopAt x slots ((after ++ searched) ++ v)) (sym (given_directory gives)) (gives.gets.from v may agreed).may_stop

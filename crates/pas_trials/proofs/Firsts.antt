@@ -15,7 +15,9 @@ may_search d v is = subst (λ (w : View). MaySearch d w) (sym is) record { right
 pub no_events : (pass : SharedPass) → view_of pass ≡ [] → length (events_noted pass.notes) ≡ 0
 no_events pass none = ap length (pass.noted.shown ∙ ap (λ (v : View). reverse (events_of (seat_of pass).actor v)) none)
 
-pub can_search : (desk : SharedDesk) (d : Directory) → view_of desk.pass ≡ [] → (seat_of desk.pass).room ≡ 2 → CanCall (standing_of desk) (SearchRoom (seat_of desk.pass).profile d 1 (room_of_notes desk.pass.notes - length (events_noted desk.pass.notes)))
+-- A pass that did nothing may search, with room for two events.
+pub can_search : (desk : SharedDesk) (d : Directory) → view_of desk.pass ≡ [] → (seat_of desk.pass).room ≡ 2
+    → CanCall (standing_of desk) (SearchRoom (seat_of desk.pass).profile d 1 (room_of_notes desk.pass.notes - length (events_noted desk.pass.notes)))
 can_search desk d none room =
     let view = view_of desk.pass in
     let empty = no_events desk.pass none in

@@ -4,17 +4,22 @@ use Rattle.pas_profile.specs.declared.{directory.Directory.Directory, event.NoRo
 use Rattle.pas_steps.specs.{Desks.Standing, Past.Once, Evidence.DeedHere}
 use Rattle.pas_scan.specs.Scan.{NoneOffered, IsFirstOffered, FindsOffered, IsFirstBare, FindsBare, IsVerdict, Judges}
 
-pub offered_found : {σ σ' : Standing} {d' : Directory} {n n' : ℕ} (o : Option ℕ) (f : Profile) (d : Directory) → σ.seat.profile ≡ f → d' ≡ d → n ≡ 1 → (h : FindsOffered d' n σ σ' n' o)
+-- The page that a search of offered pages found, or none, is the first one that was read so.
+pub offered_found : {σ σ' : Standing} {d' : Directory} {n n' : ℕ} (o : Option ℕ) (f : Profile) (d : Directory) → σ.seat.profile ≡ f → d' ≡ d → n ≡ 1
+    → (h : FindsOffered d' n σ σ' n' o)
     → MatchOption o (NoneOffered f d 1 h.steps) (IsFirstOffered f d 1 h.steps)
 offered_found {σ} {σ'} {d'} {n} {n'} None f d ef ed en h =
     subst (λ (x : ℕ). NoneOffered f d x h.steps) en (subst (λ (x : Directory). NoneOffered f x n h.steps) ed (subst (λ (x : Profile). NoneOffered x d' n h.steps) ef h.outcome.1))
 offered_found {σ} {σ'} {d'} {n} {n'} (Some p) f d ef ed en h =
     subst (λ (x : ℕ). IsFirstOffered f d x h.steps p) en (subst (λ (x : Directory). IsFirstOffered f x n h.steps p) ed (subst (λ (x : Profile). IsFirstOffered x d' n h.steps p) ef h.outcome.1))
 
+-- The page that a search of pages without a deed found, or none, is the first one that was read so.
 pub bare_found : {σ σ' : Standing} {from : ℕ} {o : Option ℕ} (f : Profile) → σ.seat.profile ≡ f → (h : FindsBare from σ σ' o)
     → MatchOption o ((p : ℕ) → from ≤ p → p ≤ f.pages → Once (DeedHere p) h.steps) (IsFirstBare f from h.steps)
 bare_found {σ} {σ'} {from} {o} f ef h = subst (λ (x : Profile). MatchOption o ((p : ℕ) → from ≤ p → p ≤ x.pages → Once (DeedHere p) h.steps) (IsFirstBare x from h.steps)) ef h.outcome
 
-pub verdict_found : {σ σ' : Standing} {marks : List ℕ} {d' : Directory} {answer : NoRoom} (f : Profile) (d : Directory) → σ.seat.profile ≡ f → d' ≡ d → (h : Judges marks d' σ σ' answer) → IsVerdict f marks d h.steps answer
+-- The verdict that was found is one of the marks and the readings.
+pub verdict_found : {σ σ' : Standing} {marks : List ℕ} {d' : Directory} {answer : NoRoom} (f : Profile) (d : Directory) → σ.seat.profile ≡ f → d' ≡ d
+    → (h : Judges marks d' σ σ' answer) → IsVerdict f marks d h.steps answer
 verdict_found {σ} {σ'} {marks} {d'} {answer} f d ef ed h =
     subst (λ (x : Directory). IsVerdict f marks x h.steps answer) ed (subst (λ (x : Profile). IsVerdict x marks d' h.steps answer) ef h.verdict)

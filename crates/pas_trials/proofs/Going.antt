@@ -23,25 +23,33 @@ at_most_one false = omega arith
 few_here : (deed : ℕ) → unknown_here deed ≤ 1
 few_here deed = at_most_one (deed == 0)
 
+-- There are no more unknown pages below a bound than pages.
 pub few_below : (n : ℕ) (v : View) → unknown_below n v ≤ n
 few_below zero v = omega arith
 few_below (suc n) v = let here = few_here (known_deed v (suc n)) in let below = few_below n v in omega (arith, here, below)
 
-pub room_for_slot : {σ : Standing} {c : Cached} {spare : ℕ} → 70 ≤ spare → σ.seat.profile.pages ≤ 30 → CanCall σ (AtRest σ.seat.profile c) → CanCall σ (MayAllocate σ.seat.profile c spare)
+-- An actor at rest with enough room may allocate a slot.
+pub room_for_slot : {σ : Standing} {c : Cached} {spare : ℕ} → 70 ≤ spare → σ.seat.profile.pages ≤ 30 → CanCall σ (AtRest σ.seat.profile c)
+    → CanCall σ (MayAllocate σ.seat.profile c spare)
 room_for_slot {σ} {c} {spare} room few can =
     let unknown = few_below σ.seat.profile.pages can.view in
     record { view = can.view; whole = can.whole; stood = can.stood; met = record { rest = can.met; room = has_room σ.seat.profile 2 spare can.view (omega (arith, unknown, few, room)) } }
 
-pub room_for_pages : {σ : Standing} {c : Cached} {spare : ℕ} (n : ℕ) → 70 ≤ spare → σ.seat.profile.pages ≤ 30 → n ≤ σ.seat.profile.pages → CanCall σ (AtRest σ.seat.profile c) → CanCall σ (MayAllocatePages σ.seat.profile c n spare)
+-- An actor at rest with enough room may allocate pages.
+pub room_for_pages : {σ : Standing} {c : Cached} {spare : ℕ} (n : ℕ) → 70 ≤ spare → σ.seat.profile.pages ≤ 30 → n ≤ σ.seat.profile.pages
+    → CanCall σ (AtRest σ.seat.profile c) → CanCall σ (MayAllocatePages σ.seat.profile c n spare)
 room_for_pages {σ} {c} {spare} n room few within can =
     let unknown = few_below σ.seat.profile.pages can.view in
     record { view = can.view; whole = can.whole; stood = can.stood; met = record { rest = can.met; room = omega (arith, unknown, few, room, within) } }
 
 -- ---- requests
-pub slot_asked : {σ σ' : Standing} {c c' : Cached} {wanted : Wanted} {tells : Bool} {answer : Result Block NoRoom} → Allocates wanted tells c c' σ σ' answer → Borrows c c' σ σ'
+pub slot_asked : {σ σ' : Standing} {c c' : Cached} {wanted : Wanted} {tells : Bool} {answer : Result Block NoRoom} → Allocates wanted tells c c' σ σ' answer
+    → Borrows c c' σ σ'
 slot_asked {σ} {σ'} {c} {c'} {wanted} {tells} {answer} h = record { steps = h.steps; rests = h.calls; log = log_kept σ.seat.profile wanted None c c' h.steps answer wanted.route h.change }
 
-pub pages_asked : {σ σ' : Standing} {c c' : Cached} {wanted : Wanted} {found : Option ℕ} {tells : Bool} {answer : Result Block NoRoom} → AllocatesPages wanted found tells c c' σ σ' answer → Borrows c c' σ σ'
+-- A request for pages that was asked is an errand.
+pub pages_asked : {σ σ' : Standing} {c c' : Cached} {wanted : Wanted} {found : Option ℕ} {tells : Bool} {answer : Result Block NoRoom}
+    → AllocatesPages wanted found tells c c' σ σ' answer → Borrows c c' σ σ'
 pages_asked {σ} {σ'} {c} {c'} {wanted} {found} {tells} {answer} h = record { steps = h.steps; rests = h.calls; log = log_kept σ.seat.profile wanted found c c' h.steps answer wanted.route h.change }
 
 -- ---- a flush of another log than that of the cache
@@ -63,7 +71,8 @@ log_flushed {σ} c h = let f : Profile = σ.seat.profile in record {
 }
 
 -- ---- a stop, and what an actor with an empty cache does then
-pub stopped_then : {σ σ1 σ2 : Standing} {c c' : Cached} {steps : List Made} → c.log ≡ [] → StopsCache c c' σ σ1 → Calls σ1 σ2 HasNothing (λ v w. HasNothing w) steps → Borrows c c' σ σ2
+pub stopped_then : {σ σ1 σ2 : Standing} {c c' : Cached} {steps : List Made} → c.log ≡ [] → StopsCache c c' σ σ1
+    → Calls σ1 σ2 HasNothing (λ v w. HasNothing w) steps → Borrows c c' σ σ2
 stopped_then {σ} {σ1} {σ2} {c} {c'} {steps} log h quiet = let f : Profile = σ.seat.profile in record {
   steps = steps ++ (h.stopped ++ h.flushed);
   rests = call_then (λ v w. AtRest f c' w) h.calls quiet (λ v rest done. done.1)
@@ -71,6 +80,7 @@ stopped_then {σ} {σ1} {σ2} {c} {c'} {steps} log h quiet = let f : Profile = �
   log = ap (λ (x : Cached). x.log) h.cache ∙ sym log;
 }
 
+-- A tick leaves an actor that has nothing with nothing.
 pub ticked : {σ σ' : Standing} (epoch t : ℕ) → Makes σ σ' (Tick epoch) t → Calls σ σ' HasNothing (λ v w. HasNothing w) (made (Tick epoch) t ∷ [])
 ticked {σ} epoch t makes = call_step (λ v w. HasNothing w) (call_none {R = λ v w. HasNothing w} (λ v met. met)) makes (λ v met is. tt)
     (λ v met is agrees. nothing_still (does_idly σ.seat.profile (Ticking ∷ []) refl (made (Tick epoch) t ∷ []) v (refl, tt) (agrees, tt)) met)
@@ -83,6 +93,7 @@ module _ {σ σ1 : Standing} {c c1 : Cached} (locals : c.locals ≡ []) (log : c
   rests_then : (v : View) → AtRest σ.seat.profile c1 v → AtRest σ1.seat.profile c1 v
   rests_then v rest = subst (λ (s : Seat). AtRest s.profile c1 v) (sym goes.rests.adds.seat_is) rest
 
+  -- An errand of an actor that had nothing, and the stop of its cache, are a visit.
   pub visited : {σ2 : Standing} {c2 : Cached} → StopsCache c1 c2 σ1 σ2 → Acts σ σ2
   visited stops = record {
     steps = (stops.stopped ++ stops.flushed) ++ goes.steps;

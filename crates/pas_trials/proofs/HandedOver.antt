@@ -35,7 +35,8 @@ events_all k [] = refl
 events_all k (m ∷ xs) = ap (with_event (event_of k (epoch_of (xs ++ [])) m.step m.answer)) (events_all k xs)
 
 -- ---- the one that asks
-pub can_ask : (desk : SharedDesk) (c : Cached) → view_of desk.pass ≡ [] → (seat_of desk.pass).room ≡ 3 → ((f : Profile) (v : View) → HasNothing v → AtRest f c v)
+pub can_ask : (desk : SharedDesk) (c : Cached) → view_of desk.pass ≡ [] → (seat_of desk.pass).room ≡ 3
+    → ((f : Profile) (v : View) → HasNothing v → AtRest f c v)
     → CanCall (standing_of desk) (MayAllocate (seat_of desk.pass).profile c (room_of_notes desk.pass.notes - length (events_noted desk.pass.notes)))
 can_ask desk c none room rest =
     let f = (seat_of desk.pass).profile in
@@ -52,6 +53,7 @@ some_grains classes size align (Route.Class class) is = let whole = class_size_w
 some_grains classes size align Route.Bitfit is = omega arith
 some_grains classes size align Route.Large is = omega arith
 
+-- A block that one actor allocated, and whose past it told, is a gift.
 pub gift_of : (region : SharedRegion) (c c' : Cached) (tells : Bool) (d d' : SharedDesk) (pass : SharedPass) (gift : Gift) (block : Block)
     → view_of d.pass ≡ [] → (seat_of d.pass).actor ≡ 1 → (seat_of d.pass).profile ≡ region.profile → ((f : Profile) (v : View) → HasNothing v → AtRest f c v)
     → Allocates (wanted_for (seat_of d.pass).profile 0 64 16) tells c c' (standing_of d) (standing_of d') (Ok block)
@@ -176,12 +178,14 @@ no_ends : (d : Directory) (es : List Event) (a : ℕ) → AllByRecursion (IsPrep
 no_ends d [] a all = refl
 no_ends d (e ∷ es) a all = no_end d e es a all.0 ∙ no_ends d es a all.1
 
-refuses_not : (ended : Bool) (es : List Event) (name : Name) → ends_in es (address_of name) ≡ 0 → IsLive es name → IsReason es name (if ended then Why.Ended else Why.NoBlock) → ⊥
+refuses_not : (ended : Bool) (es : List Event) (name : Name) → ends_in es (address_of name) ≡ 0 → IsLive es name
+    → IsReason es name (if ended then Why.Ended else Why.NoBlock) → ⊥
 refuses_not true es name none live reason = omega (arith, none, reason)
 refuses_not false es name none live reason = reason.1 live
 
 is_end : (f : Profile) (block : Block) (d : Directory) (before : List Event) (epoch : ℕ) (outcome : Outcome) → AllByRecursion (IsPreparing d) before
-    → Run f (event_for 2 epoch (entry_of block.name) outcome ∷ Event.Give 1 block ∷ before) → event_for 2 epoch (entry_of block.name) outcome ≡ Event.End 2 block.name epoch
+    → Run f (event_for 2 epoch (entry_of block.name) outcome ∷ Event.Give 1 block ∷ before)
+    → event_for 2 epoch (entry_of block.name) outcome ≡ Event.End 2 block.name epoch
 is_end f block d before epoch (Ended grains) prepared run = refl
 is_end f block d before epoch (Refused read) prepared run =
     let a = address_of block.name in
@@ -190,10 +194,12 @@ is_end f block d before epoch (Refused read) prepared run =
 
 -- ==== The session.
 
-handed_over : (f : Profile) (l first second : Whole) (v w : View) (block : Block) (name : Name) (d : Directory) (before : List Event) (epoch : ℕ) (outcome : Outcome)
+handed_over : (f : Profile) (l first second : Whole) (v w : View) (block : Block) (name : Name) (d : Directory) (before : List Event) (epoch : ℕ)
+    (outcome : Outcome)
     → IsValid f → Legal f l → f.threads ≡ 2 → IsEarlier first second → IsEarlier second l → HasOwn 1 v first → HasOwn 2 [] second
     → part 0 l ≡ [] → part 1 l ≡ v → part 2 l ≡ w
-    → block.name ≡ name → events_of 1 v ≡ Event.Give 1 block ∷ before → AllByRecursion (IsPreparing d) before → events_of 2 w ≡ event_for 2 epoch (entry_of name) outcome ∷ []
+    → block.name ≡ name → events_of 1 v ≡ Event.Give 1 block ∷ before → AllByRecursion (IsPreparing d) before
+    → events_of 2 w ≡ event_for 2 epoch (entry_of name) outcome ∷ []
     → event_for 2 epoch (entry_of name) outcome ≡ Event.End 2 name epoch
 handed_over f l first second v w block name d before epoch outcome valid legal threads told_before taken own fresh none one two name_is gave prepared ended =
     let later : Whole = taken.0 in
@@ -215,9 +221,12 @@ handed_over f l first second v w block name d before epoch outcome valid legal t
     ap visible whole_is ∙ (shown_lone 2 w second fresh ∙ (λ i. (ended ∙ ap (λ (n : Name). event_for 2 epoch (entry_of n) outcome ∷ []) (sym name_is)) i ++ first_events i)) in
     subst (λ (n : Name). event_for 2 epoch (entry_of n) outcome ≡ Event.End 2 n epoch) name_is (is_end f block d before epoch outcome prepared (subst (Run f) all (runs f l valid legal)))
 
+-- A gift that the second actor freed was handed over.
 pub is_handed_over : (region : SharedRegion) (gift : Gift) (scavenger giver taker : SharedPass) (past : Past) (state : State) (event : Option Event)
-    → region.profile.threads ≡ 2 → IsFirst region 0 3 scavenger → IsOfActor region 1 giver → IsOfActor region 2 taker → IsGiftOf region giver gift → HasFreed region gift taker past
-    → EndsAfter region.profile (told past) (scavenger ∷ giver ∷ taker ∷ []) state → ((e : Event) (more : List Event) → events_noted taker.notes ≡ e ∷ more → event ≡ Some e)
+    → region.profile.threads ≡ 2 → IsFirst region 0 3 scavenger → IsOfActor region 1 giver → IsOfActor region 2 taker → IsGiftOf region giver gift
+    → HasFreed region gift taker past
+    → EndsAfter region.profile (told past) (scavenger ∷ giver ∷ taker ∷ []) state
+    → ((e : Event) (more : List Event) → events_noted taker.notes ≡ e ∷ more → event ≡ Some e)
     → IsHandedOver record { name = gift.name; event = event }
 is_handed_over region gift scavenger giver taker past state event threads idle one two given free ends tells =
     let after = ends.ends.after in

@@ -7,7 +7,8 @@ use Rattle.pas_cache.specs.{Caches.Cached, Caches.AtRest, Calls.Allocates, Calls
 use Rattle.pas_cache.proofs.FlushesAndFrees.{rests_empty}
 use Rattle.pas_plain.specs.Storms.{Acts}
 
-module _ {σ σ1 : Standing} {c c1 : Cached} {wanted : Wanted} {tells : Bool} {answer : Result Block NoRoom} (locals : c.locals ≡ []) (log : c.log ≡ []) (borrows : Allocates wanted tells c c1 σ σ1 answer) where
+module _ {σ σ1 : Standing} {c c1 : Cached} {wanted : Wanted} {tells : Bool} {answer : Result Block NoRoom} (locals : c.locals ≡ []) (log : c.log ≡ [])
+    (borrows : Allocates wanted tells c c1 σ σ1 answer) where
   from_nothing : Calls σ σ1 HasNothing (λ v w. AtRest σ.seat.profile c1 w) borrows.steps
   from_nothing = call_as (λ v w. AtRest σ.seat.profile c1 w) borrows.calls (λ v none. rests_empty σ.seat.profile c v locals log none) (λ v w none rest. rest)
 

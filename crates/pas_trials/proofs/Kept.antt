@@ -5,7 +5,8 @@ use Rattle.pas_bits.specs.Masks.{is_set, AreApart}
 use Rattle.pas_bits.specs.declared.mask.Mask4.{Mask4}
 use Rattle.pas_bits.proofs.Words.{none_past}
 
-module _ (free usable : Mask4) (is_free is_usable : ℕ → Bool) (Offered : Type 0) (frees : (g : ℕ) → g < 256 → is_set free g ≡ is_free g) (usables : (g : ℕ) → g < 256 → is_set usable g ≡ is_usable g) (four : length usable.0 ≡ 4) where
+module _ (free usable : Mask4) (is_free is_usable : ℕ → Bool) (Offered : Type 0) (frees : (g : ℕ) → g < 256 → is_set free g ≡ is_free g)
+    (usables : (g : ℕ) → g < 256 → is_set usable g ≡ is_usable g) (four : length usable.0 ≡ 4) where
   -- where no usable grain is free nothing is asked
   pub kept_full : AreApart free usable → (g : ℕ) → g < 256 → is_usable g ≡ true → is_free g ≡ true → Offered
   kept_full apart g lt may there = absurd (true≢false (sym there ∙ sym (frees g lt) ∙ apart g (usables g lt ∙ may)))

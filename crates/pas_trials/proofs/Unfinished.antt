@@ -15,7 +15,9 @@ pub parking_owes : ParkingOwes
 parking_owes page n a answers v owes =
     true≢false (sym (ap (λ t. if t then true else owes_check (looks page answers n ++ v) page 0) (eq-eqb page page refl)) ∙ owes.checks 0 (omega arith))
 
-pub parked_with_room : (f : Profile) (l : Whole) → Legal f l → (page word bit : ℕ) → word < 4 → parked_bit l page ≡ true → IsUsableFree l page word bit → (IsRightOffered f l page → ⊥) × (AllClear f l → ⊥)
+-- A parked page with a usable free grain isn't offered, and its actors aren't all clear.
+pub parked_with_room : (f : Profile) (l : Whole) → Legal f l → (page word bit : ℕ) → word < 4 → parked_bit l page ≡ true → IsUsableFree l page word bit
+    → (IsRightOffered f l page → ⊥) × (AllClear f l → ⊥)
 parked_with_room f l legal page word bit small parked free = (
   λ offered. true≢false (sym parked ∙ offered.not_parked),
   λ clear.
@@ -39,8 +41,10 @@ backed : (same owed : Bool) → (if same && false then false else owed) ≡ owed
 backed true owed = refl
 backed false owed = refl
 
+-- An actor that owes a page's hint still does after looks alone that showed it as backed and empty.
 pub looking_owes : LookingOwes
 looking_owes page n v owed owes = true≢false (sym (backed (page == page) (owes_hint (looks page ones n ++ v) page) ∙ looked page n v owed) ∙ owes.hint)
 
+-- Where a page is backed and empty but its empty bit is clear, not all actors are clear.
 pub empty_unhinted : (f : Profile) (l : Whole) → IsValid f → Legal f l → (page : ℕ) → IsEmptyBacked l page → empty_bit l page ≡ false → AllClear f l → ⊥
 empty_unhinted f l valid legal page empty unhinted clear = true≢false (sym (hinted_at_rest f l valid legal clear page empty) ∙ unhinted)

@@ -19,7 +19,9 @@ one_word : (words : List (Bor (List ℕ))) (d : Bor (List ℕ)) → 1 ≤ length
 one_word (word ∷ []) d some few = refl
 one_word _ d some few = absurd (omega arith)
 
-pub manner_words : (words : List (Bor (List ℕ))) (d : Bor (List ℕ)) → 1 ≤ length words → length words < 2 → (manner : Manner) → (get_or words 0 d).now ≡ word_of manner → IsReplaying manner (texts_of words)
+-- The word of a manner alone asks for a replay in that manner.
+pub manner_words : (words : List (Bor (List ℕ))) (d : Bor (List ℕ)) → 1 ≤ length words → length words < 2 → (manner : Manner)
+    → (get_or words 0 d).now ≡ word_of manner → IsReplaying manner (texts_of words)
 manner_words words d some few manner is = one_word words d some few ∙ ap (λ (x : List ℕ). x ∷ []) is
 
 -- two lists of one word, and one of five
@@ -29,10 +31,14 @@ not_one a b c d e x h = cc
 same_word : (a b : List ℕ) → a ∷ [] ≡ b ∷ [] → a ≡ b
 same_word a b h = cc
 
-pub check_words : (words : List (Bor (List ℕ))) (d : Bor (List ℕ)) (r : Bool) → 1 ≤ length words → length words < 2 → r ≡ pointwise nat_eq (get_or words 0 d).now (codes "check") → IsTrue r → IsChecking (texts_of words)
+-- The word check alone asks for a check.
+pub check_words : (words : List (Bor (List ℕ))) (d : Bor (List ℕ)) (r : Bool) → 1 ≤ length words → length words < 2
+    → r ≡ pointwise nat_eq (get_or words 0 d).now (codes "check") → IsTrue r → IsChecking (texts_of words)
 check_words words d r some few is t = one_word words d some few ∙ ap (λ (x : List ℕ). x ∷ []) (is_text (get_or words 0 d).now (codes "check") r is t)
 
-pub not_one_of : (words : List (Bor (List ℕ))) (d : Bor (List ℕ)) → 1 ≤ length words → length words < 2 → ((get_or words 0 d).now ≡ codes "check" → ⊥) → ((manner : Manner) → (get_or words 0 d).now ≡ word_of manner → ⊥)
+-- One word that is neither a manner's nor check isn't accepted.
+pub not_one_of : (words : List (Bor (List ℕ))) (d : Bor (List ℕ)) → 1 ≤ length words → length words < 2 → ((get_or words 0 d).now ≡ codes "check" → ⊥)
+    → ((manner : Manner) → (get_or words 0 d).now ≡ word_of manner → ⊥)
     → IsAccepted (texts_of words) → ⊥
 not_one_of words d h i j k m = grind (arith, same_word, one_word, not_one)
 
@@ -42,8 +48,12 @@ five_words : (words : List (Bor (List ℕ))) (d0 d1 d2 d3 d4 : Bor (List ℕ)) �
 five_words (a ∷ b ∷ c ∷ d ∷ e ∷ []) d0 d1 d2 d3 d4 some few = refl
 five_words _ d0 d1 d2 d3 d4 some few = absurd (omega arith)
 
-pub gen_words : (words : List (Bor (List ℕ))) (d0 d1 d2 d3 d4 : Bor (List ℕ)) (r : Bool) → 5 ≤ length words → length words < 6 → r ≡ pointwise nat_eq (get_or words 0 d0).now (codes "gen") → IsTrue r
-    → (seed ops threads pages : ℕ) → IsNumbers (get_or words 1 d1).now (get_or words 2 d2).now (get_or words 3 d3).now (get_or words 4 d4).now seed ops threads pages → IsGen (texts_of words) seed ops threads pages
+-- The words of a generated trace ask for it by its numbers.
+pub gen_words : (words : List (Bor (List ℕ))) (d0 d1 d2 d3 d4 : Bor (List ℕ)) (r : Bool) → 5 ≤ length words → length words < 6
+    → r ≡ pointwise nat_eq (get_or words 0 d0).now (codes "gen") → IsTrue r
+    → (seed ops threads pages : ℕ)
+    → IsNumbers (get_or words 1 d1).now (get_or words 2 d2).now (get_or words 3 d3).now (get_or words 4 d4).now seed ops threads pages
+    → IsGen (texts_of words) seed ops threads pages
 gen_words words d0 d1 d2 d3 d4 r some few is t seed ops threads pages numbers = record {
   s = (get_or words 1 d1).now;
   o = (get_or words 2 d2).now;
@@ -57,8 +67,11 @@ gen_words words d0 d1 d2 d3 d4 r some few is t seed ops threads pages numbers = 
 same_words : (a b c d e a' b' c' d' e' : List ℕ) → a ∷ b ∷ c ∷ d ∷ e ∷ [] ≡ a' ∷ b' ∷ c' ∷ d' ∷ e' ∷ [] → (b ≡ b') × (c ≡ c') × (d ≡ d') × (e ≡ e')
 same_words a b c d e a' b' c' d' e' h = (cc, cc, cc, cc)
 
+-- Five words that are no numbers of a generated trace aren't accepted.
 pub not_gen : (words : List (Bor (List ℕ))) (d1 d2 d3 d4 : Bor (List ℕ)) → 5 ≤ length words → length words < 6
-    → ((seed ops threads pages : ℕ) → IsNumbers (get_or words 1 d1).now (get_or words 2 d2).now (get_or words 3 d3).now (get_or words 4 d4).now seed ops threads pages → ⊥) → IsAccepted (texts_of words) → ⊥
+    → ((seed ops threads pages : ℕ)
+        → IsNumbers (get_or words 1 d1).now (get_or words 2 d2).now (get_or words 3 d3).now (get_or words 4 d4).now seed ops threads pages → ⊥)
+    → IsAccepted (texts_of words) → ⊥
 not_gen words d1 d2 d3 d4 some few never (inl (manner, is)) = not_one _ _ _ _ _ (word_of manner) (sym (five_words words d1 d1 d2 d3 d4 some few) ∙ is)
 not_gen words d1 d2 d3 d4 some few never (inr (inl is)) = not_one _ _ _ _ _ (codes "check") (sym (five_words words d1 d1 d2 d3 d4 some few) ∙ is)
 not_gen words d1 d2 d3 d4 some few never (inr (inr (seed, ops, threads, pages, is))) =

@@ -8,7 +8,8 @@ use Rattle.pas_check.proofs.Actings.{asks_taken, nothing_begun, of_profile}
 use Rattle.pas_check.proofs.acting.operate_plain.Goals as goal
 
 -- an operation of the scavenger
-chore_begun : (f : Profile) (s : Stand) (k : ℕ) (what : What) → ((e : ℕ) × (what ≡ Tick e)) ⊎ ((what ≡ Pass) ⊎ ((n : ℕ) × (what ≡ Idle n))) → begun_what f s k what ≡ s
+chore_begun : (f : Profile) (s : Stand) (k : ℕ) (what : What) → ((e : ℕ) × (what ≡ Tick e)) ⊎ ((what ≡ Pass) ⊎ ((n : ℕ) × (what ≡ Idle n)))
+    → begun_what f s k what ≡ s
 chore_begun f s k what (inl is) = ap (λ (w : What). begun_what f s k w) is.1
 chore_begun f s k what (inr (inl is)) = ap (λ (w : What). begun_what f s k w) is
 chore_begun f s k what (inr (inr is)) = ap (λ (w : What). begun_what f s k w) is.1

@@ -4,7 +4,7 @@ use Rattle.pas_machine.specs.Machines.{profile_of}
 use Rattle.pas_trace.specs.{Acts.acts_from, Acts.close_acts, EveryPlan.all_ops, Plans.ops_of}
 use Rattle.pas_trace.specs.declared.plan.{Op.Op, Phase.Phase}
 use Rattle.pas_check.specs.{Checks.ArePlanned, Checks.TakenTo, Checks.threads_in, Tables.names_held}
-use Rattle.pas_check.proofs.Phases.{first_amiss, first_on, phases_there, planned_as, rest_is}
+use Rattle.pas_check.proofs.Phases.{first_amiss, first_on, phases_there, planned_as, phases_behind_first}
 use Rattle.pas_check.proofs.checking.take_phases.Goals as goal
 
 pub take_phase-requires-clause-planned : goal.take_phase-requires-clause-planned
@@ -21,7 +21,7 @@ take_later-requires-clause-planned c =
     let d = c.index-phases-0.result in
     let some : 0 < length c.args.phases.now = omega arith in
     let mid = c.take_phase.new.judge in
-    subst (λ (ps : List Phase). ArePlanned (profile_of mid.machine) (names_held mid.names) (all_ops (map ops_of ps))) (sym (rest_is c.args.phases.now))
+    subst (λ (ps : List Phase). ArePlanned (profile_of mid.machine) (names_held mid.names) (all_ops (map ops_of ps))) (sym (phases_behind_first c.args.phases.now))
     (planned_as old mid (all_ops (map ops_of (drop 1 c.args.phases.now))) c.if-not-take_phase.ensures.sized
     (phases_there (profile_of old.machine) (names_held old.names) c.args.phases.now 0 d some c.requires.planned).1)
 
@@ -35,7 +35,7 @@ returns-clause-taken c keepers =
     first_on keepers c.args.text.now c.args.judge.now c.args.cursor.now c.args.phases.now c.index-phases-0.result c.as_slice.result.now some
     (c.as_slice.ensures ∙ ap ops_of c.index-phases-0.is)
     mid new at to c.take_later.result (ap (λ (f : Profile). f.threads) c.if-not-take_phase.ensures.sized.profile) c.if-not-take_phase.ensures.taken
-    (rw (rest_is c.args.phases.now) at (c.take_later.ensures.taken keepers))
+    (rw (phases_behind_first c.args.phases.now) at (c.take_later.ensures.taken keepers))
 
 pub returns-then-not-take_phase-clause-taken : goal.returns-then-not-take_phase-clause-taken
 returns-then-not-take_phase-clause-taken c keepers =

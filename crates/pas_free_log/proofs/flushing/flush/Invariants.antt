@@ -19,7 +19,8 @@ invariant-loop-entry g l = let D = g.D.Desk in record {
   order : EntriesSteps settled entries;
   calls : Calls (D.standing l.fn.desk) (D.standing l.desk) IsClear (Does nothing) (entries ++ made (Look Word.Epoch) epoch ∷ []);
   kinds : Only ending entries;
-  events : (v : View) → epoch_of v ≡ epoch → events_by (D.standing l.fn.desk).seat.actor v entries ≡ map (shown_for (D.standing l.fn.desk).seat.actor epoch) settled;
+  events : (v : View) → epoch_of v ≡ epoch
+      → events_by (D.standing l.fn.desk).seat.actor v entries ≡ map (shown_for (D.standing l.fn.desk).seat.actor epoch) settled;
   stamps : (v : View) → epoch_of v ≡ epoch → stamps_by v entries ≡ flat_map (stamps_for epoch) settled;
   spare : D.spare_of l.desk + l.entry-index ≡ D.spare_of l.fn.desk;
   home : D.home l.desk ≡ D.home l.fn.desk;

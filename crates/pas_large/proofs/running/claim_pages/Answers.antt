@@ -1,10 +1,10 @@
 use Rattle.std.proofs.Common.{◌≤◌, ◌+◌, refl, ◌∙◌, subst, sym, arith}
 use Rattle.pas_large.specs.Claims.{ClaimsPages}
-use Rattle.pas_large.proofs.Claims.{pages_none, may_claim, rest_call, room_after, won_turn, lost_turn, broken_turn}
+use Rattle.pas_large.proofs.Claims.{none_claimed, may_claim, rest_call, room_after, won_turn, lost_turn, broken_turn}
 use Rattle.pas_large.proofs.running.claim_pages.Goals as goal
 
 pub loop-page-init : goal.loop-page-init
-loop-page-init g c = record { below = pages_none c.args.deeds c.args.directory c.args.first; home = refl }
+loop-page-init g c = record { below = none_claimed c.args.deeds c.args.directory c.args.first; home = refl }
 
 pub claim_lowest-requires-clause-region : goal.claim_lowest-requires-clause-region
 claim_lowest-requires-clause-region g c = subst (λ s. c.args.end ≤ s.profile.pages + 1) (sym c.loop-page.invariant.below.so_far.adds.seat_is) c.requires.region

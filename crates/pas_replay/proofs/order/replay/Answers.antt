@@ -34,7 +34,8 @@ push-requires g c =
     omega (arith, spare)
 
 -- what is there before a phase: its acts begin with its mark from the second one on, and then its threads wake
-module _ (g : Over) (c : After-active-awake g) (r : Replay) (is : r.acts ≡ acts_of r.threads r.keepers (map ops_of c.args.phases.now)) (so0 : SoFar r r.acts (hand_of c.args.region c.args.actors.now c.args.names.now c.args.out.now)) where
+module _ (g : Over) (c : After-active-awake g) (r : Replay) (is : r.acts ≡ acts_of r.threads r.keepers (map ops_of c.args.phases.now))
+    (so0 : SoFar r r.acts (hand_of c.args.region c.args.actors.now c.args.names.now c.args.out.now)) where
   -- the acts of the phases after this one
   abbrev later : List Act
   later = acts_left r.threads r.keepers (c.loop-phase.phase-index + 1) (map ops_of (drop (c.loop-phase.phase-index + 1) c.args.phases.now))
@@ -90,7 +91,8 @@ push-requires-2 g c =
     let spare = (as_acts (last_phase so0.0.threads so0.0.keepers c.args.phases.now c.loop-phase.phase-index c.loop-phase-test.false) (c.loop-phase.invariant.far so0.0 so0.1 so0.2)).1.1.spare in
     omega (arith, spare)
 
-module _ (g : Over) (c : After-push-2 g) (r : Replay) (is : r.acts ≡ acts_of r.threads r.keepers (map ops_of c.args.phases.now)) (so0 : SoFar r r.acts (hand_of c.args.region c.args.actors.now c.args.names.now c.args.out.now)) where
+module _ (g : Over) (c : After-push-2 g) (r : Replay) (is : r.acts ≡ acts_of r.threads r.keepers (map ops_of c.args.phases.now))
+    (so0 : SoFar r r.acts (hand_of c.args.region c.args.actors.now c.args.names.now c.args.out.now)) where
   -- the last sweeps are left then
   abbrev sweeps : List Act
   sweeps = map Lowers (numbers_from (r.threads + 1) r.keepers)

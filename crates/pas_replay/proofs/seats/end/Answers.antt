@@ -1,10 +1,10 @@
 use Rattle.std.proofs.Common.{refl, sym, arith, append-nil}
 use Rattle.pas_report.specs.Rooms.{records_in}
-use Rattle.pas_replay.proofs.{Turning.may_take, ByActors.rests_now, ByActors.act_turn}
+use Rattle.pas_replay.proofs.{Turning.may_take_seat, ByActors.rests_now, ByActors.act_turn}
 use Rattle.pas_replay.proofs.seats.end.Goals as goal
 
 pub take_seat-requires : goal.take_seat-requires
-take_seat-requires c = let so = c.requires.so_far.1.2 in may_take c.args.desk.now c.args.actors.now c.args.actor (omega (arith, c.requires.thread)) so.0 so.1.1
+take_seat-requires c = let so = c.requires.so_far.1.2 in may_take_seat c.args.desk.now c.args.actors.now c.args.actor (omega (arith, c.requires.thread)) so.0 so.1.1
 
 pub end-requires : goal.end-requires
 end-requires c =

@@ -1,11 +1,11 @@
 use Rattle.std.proofs.Common.{◌≡◌, ◌+◌, refl, arith}
-use Rattle.pas_replay.proofs.{Turning.may_take, Keepers.keeper_closes, Keepers.lower_turn}
+use Rattle.pas_replay.proofs.{Turning.may_take_seat, Keepers.keeper_closes, Keepers.lower_turn}
 use Rattle.pas_replay.proofs.seats.lower.Goals as goal
 
 pub take_seat-requires : goal.take_seat-requires
 take_seat-requires c =
     let so = c.requires.so_far.1.2 in
-    may_take c.args.desk.now c.args.actors.now c.args.keeper (omega (arith, c.requires.keeper, c.requires.thread)) so.0 so.1.1
+    may_take_seat c.args.desk.now c.args.actors.now c.args.keeper (omega (arith, c.requires.keeper, c.requires.thread)) so.0 so.1.1
 
 pub lower_all-requires : goal.lower_all-requires
 lower_all-requires c =

@@ -3,11 +3,11 @@ use Rattle.pas_trace.specs.declared.plan.What.{What}
 use Rattle.pas_profile.specs.declared.profile.Profile.{Profile}
 use Rattle.pas_answers.specs.{Calls.Tells, Calls.MayStand, Fit.IsFitWhat, Names.block_named, Names.names_held}
 use Rattle.pas_answers.proofs.Kept.{freed_task, named_task}
-use Rattle.pas_replay.proofs.{Turning.may_take, ByActors.may_operate, ByActors.operate_turn, Doors.written_back}
+use Rattle.pas_replay.proofs.{Turning.may_take_seat, ByActors.may_operate, ByActors.operate_turn, Doors.written_back}
 use Rattle.pas_replay.proofs.seats.operate.Goals as goal
 
 pub take_seat-requires : goal.take_seat-requires
-take_seat-requires g c = let so = c.requires.so_far.3.2 in may_take c.args.desk.now c.args.actors.now c.args.actor (omega (arith, c.requires.thread)) so.0 so.1.1
+take_seat-requires g c = let so = c.requires.so_far.3.2 in may_take_seat c.args.desk.now c.args.actors.now c.args.actor (omega (arith, c.requires.thread)) so.0 so.1.1
 
 pub operate_by-came-requires : goal.operate_by-came-requires
 operate_by-came-requires g c =

@@ -1,10 +1,10 @@
 use Rattle.std.proofs.Common.{◌∙◌, refl, ap, sym, arith}
 use Rattle.pas_profile.specs.declared.profile.Profile.{Profile}
-use Rattle.pas_replay.proofs.Turning.{may_take, sat_down, scavenger_now, scavenger_turn}
+use Rattle.pas_replay.proofs.Turning.{may_take_seat, sat_down, scavenger_now, scavenger_turn}
 use Rattle.pas_replay.proofs.seats.pass.Goals as goal
 
 pub take_seat-requires : goal.take_seat-requires
-take_seat-requires c = let so = c.requires.so_far.1.2 in may_take c.args.desk.now c.args.actors.now 0 (omega arith) so.0 so.1.1
+take_seat-requires c = let so = c.requires.so_far.1.2 in may_take_seat c.args.desk.now c.args.actors.now 0 (omega arith) so.0 so.1.1
 
 pub pass-requires-clause-stands : goal.pass-requires-clause-stands
 pass-requires-clause-stands c =

@@ -1,5 +1,5 @@
 use Rattle.std.proofs.Common.{arith}
-use Rattle.pas_replay.proofs.Turning.{may_take}
+use Rattle.pas_replay.proofs.Turning.{may_take_seat}
 use Rattle.pas_replay.proofs.Keepers.{asks_keeper, its_place, has_tried_by, keeper_may, left_turn, gave_turn}
 use Rattle.pas_replay.proofs.seats.try_by.Goals as goal
 
@@ -8,7 +8,7 @@ take_seat-requires c =
     let so0 = c.requires.so_far in
     let at = so0.4.2.1.1 in
     let place = its_place c.args.request.keeper c.args.actor so0.1 at in
-    may_take c.args.desk.now c.args.actors.now c.args.request.keeper (omega (arith, place.0, place.2, at.many)) so0.4.2.0 at
+    may_take_seat c.args.desk.now c.args.actors.now c.args.request.keeper (omega (arith, place.0, place.2, at.many)) so0.4.2.0 at
 
 pub try_guarded-requires-clause-stands : goal.try_guarded-requires-clause-stands
 try_guarded-requires-clause-stands c =

@@ -7,7 +7,8 @@ use Rattle.pas_trials.specs.Filling.{Steps}
 use Rattle.pas_session_tests.proofs.Besides.{may_search, beside_then, waits_then, seated_then, rests_beside, others_then}
 use Rattle.pas_session_tests.proofs.bestfit_tests.two_requests.Goals as goal
 
-steps_of : {heap bytes : ℕ} {tells : Bool} {σ σ' : Standing} {answer : Result Block NoRoom} → Allocates heap bytes tells σ σ' answer → Steps σ σ' (MaySearch (bestfit_directory heap))
+steps_of : {heap bytes : ℕ} {tells : Bool} {σ σ' : Standing} {answer : Result Block NoRoom} → Allocates heap bytes tells σ σ' answer
+    → Steps σ σ' (MaySearch (bestfit_directory heap))
 steps_of allocates = record { steps = allocates.by_run.after ++ allocates.by_run.searched; adds = allocates.by_run.adds }
 
 pub change-desk-requires : goal.change-desk-requires

@@ -9,5 +9,6 @@ abbrev pub invariant-loop-class : goal.invariant-loop-class
 invariant-loop-class g l = record {
   exclusive : has_bit (g.D.Desk.standing l.desk).seat.profile.shared 0 ≡ false;
   none_logged : (cached l.cache).log ≡ [];
-  can : CanCall (g.D.Desk.standing l.desk) (λ v. AtRest (g.D.Desk.standing l.desk).seat.profile (cached l.cache) v × (10 * (20 - l.class) + unknown_pages (g.D.Desk.standing l.desk).seat.profile v ≤ g.D.Desk.spare_of l.desk));
+  can : CanCall (g.D.Desk.standing l.desk) (λ v. AtRest (g.D.Desk.standing l.desk).seat.profile (cached l.cache) v
+        × (10 * (20 - l.class) + unknown_pages (g.D.Desk.standing l.desk).seat.profile v ≤ g.D.Desk.spare_of l.desk));
 }

@@ -127,13 +127,16 @@ Goes d d' s a = Makes (standing_of d) (standing_of d') s a
 x2 : {k a1 a2 : ℕ} {d d' d'' : PlainDesk} → Walk k d [] → Goes d d' (Deed 1 directory) a1 → Goes d' d'' (Deed 2 directory) a2 → Walk k d'' (v2 a1 a2)
 x2 x m1 m2 = next (next x m1 tt) m2 tt
 
-x4 : {k a1 a2 a3 a4 : ℕ} {d d' d'' : PlainDesk} → Walk k d (v2 a1 a2) → Goes d d' (Take 1 3 (2 ^ 63)) a3 → Goes d' d'' (Take 2 0 1) a4 → Walk k d'' (v4 a1 a2 a3 a4)
+x4 : {k a1 a2 a3 a4 : ℕ} {d d' d'' : PlainDesk} → Walk k d (v2 a1 a2) → Goes d d' (Take 1 3 (2 ^ 63)) a3 → Goes d' d'' (Take 2 0 1) a4
+    → Walk k d'' (v4 a1 a2 a3 a4)
 x4 x m3 m4 = let y = next x m3 (take_first x) in next y m4 (take_second y)
 
-x6 : {k a1 a2 a3 a4 a5 a6 : ℕ} {d d' d'' : PlainDesk} → Walk k d (v4 a1 a2 a3 a4) → Goes d d' (Back 1) a5 → Goes d' d'' (Back 2) a6 → Walk k d'' (v6 a1 a2 a3 a4 a5 a6)
+x6 : {k a1 a2 a3 a4 a5 a6 : ℕ} {d d' d'' : PlainDesk} → Walk k d (v4 a1 a2 a3 a4) → Goes d d' (Back 1) a5 → Goes d' d'' (Back 2) a6
+    → Walk k d'' (v6 a1 a2 a3 a4 a5 a6)
 x6 x m5 m6 = let y = next x m5 (back_first x) in next y m6 (back_second y)
 
-x8 : {k a1 a2 a3 a4 a5 a6 a7 a8 : ℕ} {d d' d'' : PlainDesk} → Walk k d (v6 a1 a2 a3 a4 a5 a6) → Goes d d' (Look (Word.Life 1 255)) a7 → Goes d' d'' (Give block) a8
+x8 : {k a1 a2 a3 a4 a5 a6 a7 a8 : ℕ} {d d' d'' : PlainDesk} → Walk k d (v6 a1 a2 a3 a4 a5 a6) → Goes d d' (Look (Word.Life 1 255)) a7
+    → Goes d' d'' (Give block) a8
     → Walk k d'' (made (Give block) a8 ∷ v7 a1 a2 a3 a4 a5 a6 a7)
 x8 x m7 m8 = let y = next x m7 tt in next y m8 (give_both y)
 

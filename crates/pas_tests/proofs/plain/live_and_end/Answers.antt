@@ -98,7 +98,8 @@ x2 x m1 m2 = next (next x m1 tt) m2 tt
 x3 : {k a1 a2 a3 : ℕ} {d d' : PlainDesk} → Walk k d (v2 a1 a2) → Goes d d' (Take 1 0 1) a3 → Walk k d' (v3 a1 a2 a3)
 x3 x m = next x m (may_take x)
 
-x5 : {k a1 a2 a3 a4 a5 : ℕ} {d d' d'' : PlainDesk} → Walk k d (v3 a1 a2 a3) → Goes d d' (Back 1) a4 → Goes d' d'' (Look (Word.Life 1 0)) a5 → Walk k d'' (v5 a1 a2 a3 a4 a5)
+x5 : {k a1 a2 a3 a4 a5 : ℕ} {d d' d'' : PlainDesk} → Walk k d (v3 a1 a2 a3) → Goes d d' (Back 1) a4 → Goes d' d'' (Look (Word.Life 1 0)) a5
+    → Walk k d'' (v5 a1 a2 a3 a4 a5)
 x5 x m4 m5 = next (next x m4 (may_back x)) m5 tt
 
 x6 : {k a1 a2 a3 a4 a5 a6 : ℕ} {d d' : PlainDesk} → Walk k d (v5 a1 a2 a3 a4 a5) → Goes d d' (Give block) a6 → Walk k d' (v6 a1 a2 a3 a4 a5 a6)

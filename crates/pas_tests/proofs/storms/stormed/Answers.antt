@@ -17,7 +17,8 @@ front_of P (x ∷ xs) y all zero d h = all zero d (omega arith)
 front_of P (x ∷ xs) y all (suc k) d h = front_of P xs y (λ j e g. all (suc j) e (omega (arith, g))) k d (omega (arith, h))
 
 -- region and passes of which nobody made a step
-fresh : (f : Profile) (region : PlainRegion) (passes rest first : List PlainPass) (own foreign : PlainPass) → profile_of region ≡ f → RegionStands region [] → All (λ pass. PassStands f pass []) passes → passes ≡ rest ++ foreign ∷ [] → rest ≡ first ++ own ∷ []
+fresh : (f : Profile) (region : PlainRegion) (passes rest first : List PlainPass) (own foreign : PlainPass) → profile_of region ≡ f → RegionStands region []
+    → All (λ pass. PassStands f pass []) passes → passes ≡ rest ++ foreign ∷ [] → rest ≡ first ++ own ∷ []
     → actor_of foreign ≢ actor_of own → StormStands region own foreign [] []
 fresh f region passes rest first own foreign of stands all last before other =
     let P : PlainPass → Type 0 = λ pass. PassStands (profile_of region) pass [] in

@@ -6,7 +6,9 @@ use Rattle.pas_threads.proofs.dealing.deal.Given as goal
 
 abbrev pub invariant-loop-worker : goal.invariant-loop-worker
 invariant-loop-worker l = record {
-  inside : (own : List Worker) × (l.hands.items ≡ map Thread own) × (own ++ picked (is_in l.awake) (l.actor + 1) (reverse l.threads.items) ≡ picked (is_in l.awake) 1 l.fn.threads.items);
+  inside :
+      (own : List Worker) × (l.hands.items ≡ map Thread own)
+        × (own ++ picked (is_in l.awake) (l.actor + 1) (reverse l.threads.items) ≡ picked (is_in l.awake) 1 l.fn.threads.items);
   outside : l.lent.items ++ picked (is_out l.awake) (l.actor + 1) (reverse l.threads.items) ≡ picked (is_out l.awake) 1 l.fn.threads.items;
   count : l.actor + length l.threads.items ≡ length l.fn.threads.items;
   in_hands : length l.hands.items ≤ l.actor;

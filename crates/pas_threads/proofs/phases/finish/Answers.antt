@@ -18,10 +18,12 @@ use Rattle.pas_threads.proofs.BetweenPhases.{may_lower, room_at_close, room_for_
 use Rattle.pas_threads.proofs.phases.finish.Goals as goal
 
 -- the threads rest, where they are lent to be stopped
-rest : {region : SharedRegion} {s : Session} {team : Team} {p : Progress} (ws : List Worker) → ws ≡ team.threads.items → TeamAt region s [] team p → AreResting region s.profile ws (λ k. own_records (planned s) k (all_ops [])) p
+rest : {region : SharedRegion} {s : Session} {team : Team} {p : Progress} (ws : List Worker) → ws ≡ team.threads.items → TeamAt region s [] team p
+    → AreResting region s.profile ws (λ k. own_records (planned s) k (all_ops [])) p
 rest {region} {s} {team} {p} ws value at = subst (λ (us : List Worker). AreResting region s.profile us (λ k. own_records (planned s) k (all_ops [])) p) (sym value) at.workers
 
-stand : {region : SharedRegion} {s : Session} {team : Team} {p : Progress} (ws : List Worker) → ws ≡ team.threads.items → TeamAt region s [] team p → ActorsStand region s team.scavenger.pass ws p.list
+stand : {region : SharedRegion} {s : Session} {team : Team} {p : Progress} (ws : List Worker) → ws ≡ team.threads.items → TeamAt region s [] team p
+    → ActorsStand region s team.scavenger.pass ws p.list
 stand {region} {s} {team} {p} ws value at = subst (λ (us : List Worker). ActorsStand region s team.scavenger.pass us p.list) (sym value) (team_stands at)
 
 module _ (c : After-deref_mut-2) where
@@ -39,10 +41,12 @@ module _ (c : After-deref_mut-2) where
   again : c.deref_mut-2.result.now ≡ c.stop_all.new.threads
   again = c.deref_mut-2.ensures.value ∙ with_items_is c.args.team.threads c.stop_all.new.threads (c.stop_all.ensures.many ∙ c.deref_mut.ensures.len)
 
-  may : (s : Session) (p : Progress) (at : TeamAt c.args.region.now s [] c.args.team p) (stood : StandSo s (so_far c.args.ledger.now) p.list) → MayLower c.args.region.now s.profile s.threads s.keepers c.deref_mut-2.result.now (stopped s p at stood).stopped.turns.came.reached
+  may : (s : Session) (p : Progress) (at : TeamAt c.args.region.now s [] c.args.team p) (stood : StandSo s (so_far c.args.ledger.now) p.list)
+      → MayLower c.args.region.now s.profile s.threads s.keepers c.deref_mut-2.result.now (stopped s p at stood).stopped.turns.came.reached
   may s p at stood = subst (λ (ws : List Worker). MayLower c.args.region.now s.profile s.threads s.keepers ws (stopped s p at stood).stopped.turns.came.reached) (sym again) (may_lower c.stop_all.new.threads at (stopped s p at stood).stopped many)
 
-  then_stand : (s : Session) (p : Progress) (at : TeamAt c.args.region.now s [] c.args.team p) (stood : StandSo s (so_far c.args.ledger.now) p.list) → ActorsStand c.args.region.now s c.stop_all.new.scavenger.pass c.deref_mut-2.result.now (stopped s p at stood).stopped.turns.came.reached.list
+  then_stand : (s : Session) (p : Progress) (at : TeamAt c.args.region.now s [] c.args.team p) (stood : StandSo s (so_far c.args.ledger.now) p.list)
+      → ActorsStand c.args.region.now s c.stop_all.new.scavenger.pass c.deref_mut-2.result.now (stopped s p at stood).stopped.turns.came.reached.list
   then_stand s p at stood =
       subst (λ (v : Scavenger). ActorsStand c.args.region.now s v.pass c.deref_mut-2.result.now (stopped s p at stood).stopped.turns.came.reached.list) (sym c.stop_all.ensures.scavenger)
       (subst (λ (ws : List Worker). ActorsStand c.args.region.now s c.args.team.scavenger.pass ws (stopped s p at stood).stopped.turns.came.reached.list) (sym again) (stopped s p at stood).stand)
@@ -59,12 +63,14 @@ lower_all-requires-clause-may c =
     (m.0, (stopped d m.0 m.1 m.2 m.5).stopped.turns.came.reached, may d m.0 m.1 m.2 m.5, then_stand d m.0 m.1 m.2 m.5, (stopped d m.0 m.1 m.2 m.5).went.stand)
 
 -- the keepers lowered their guards, where the threads stood after their stops
-lowered_from : {region : SharedRegion} {s : Session} {slot : Option SharedPass} {given stopped now : List Worker} {before after : Whole} {q : Progress} → given ≡ stopped → LoweredSo region s slot (map Lowers (numbers_from (s.threads + 1) s.keepers)) (length given) given now before after q
+lowered_from : {region : SharedRegion} {s : Session} {slot : Option SharedPass} {given stopped now : List Worker} {before after : Whole} {q : Progress}
+    → given ≡ stopped → LoweredSo region s slot (map Lowers (numbers_from (s.threads + 1) s.keepers)) (length given) given now before after q
     → LoweredSo region s slot (map Lowers (numbers_from (s.threads + 1) s.keepers)) (length stopped) stopped now before after q
 lowered_from {region} {s} {slot} {given} {stopped} {now} {before} {after} {q} is low = subst (λ (ws : List Worker). LoweredSo region s slot (map Lowers (numbers_from (s.threads + 1) s.keepers)) (length ws) ws now before after q) is low
 
 -- both are the stages of the close
-close_went : {s : Session} {threads : ℕ} {p q r : Progress} {a b d : Whole} → threads ≡ s.threads → WentBy s (one_by_one (map Ends (numbers_from 1 threads))) p q a b → WentBy s (one_by_one (map Lowers (numbers_from (s.threads + 1) s.keepers))) q r b d
+close_went : {s : Session} {threads : ℕ} {p q r : Progress} {a b d : Whole} → threads ≡ s.threads
+    → WentBy s (one_by_one (map Ends (numbers_from 1 threads))) p q a b → WentBy s (one_by_one (map Lowers (numbers_from (s.threads + 1) s.keepers))) q r b d
     → WentBy s (one_by_one (map Ends (numbers_from 1 s.threads) ++ map Lowers (numbers_from (s.threads + 1) s.keepers))) p r a d
 close_went {s} {threads} {p} {q} {r} {a} {b} {d} many one two =
     let ends = map Ends (numbers_from 1 s.threads) in

@@ -27,7 +27,8 @@ push-requires g c =
     spare_for_mark (as_next c.args.phases.now c.loop-phase.phase-index item (ops_of item) c.loop-phase-test.true c.phase-item.is refl (c.loop-phase.invariant.far st.0 st.1 st.2))
 
 -- before the operations of a phase: its mark was written from the second one on
-module _ (g : Over) (c : After-as_slice g) (s : Session) (at : TeamAt c.args.region.now s (map ops_of c.args.phases.now) c.args.team at_start) (room : HasRoom s (map ops_of c.args.phases.now) (length c.args.phases.now + 1) c.args.team.threads.items c.args.out.now at_start) where
+module _ (g : Over) (c : After-as_slice g) (s : Session) (at : TeamAt c.args.region.now s (map ops_of c.args.phases.now) c.args.team at_start)
+    (room : HasRoom s (map ops_of c.args.phases.now) (length c.args.phases.now + 1) c.args.team.threads.items c.args.out.now at_start) where
   abbrev rest : List (List Op)
   rest = map ops_of (drop (c.loop-phase.phase-index + 1) c.args.phases.now)
 
@@ -68,7 +69,8 @@ push-requires-2 g c =
     spare_for_close (as_last c.args.phases.now c.loop-phase.phase-index c.loop-phase-test.false (c.loop-phase.invariant.far st.0 st.1 st.2))
 
 -- before the stops: the mark of the close was written
-closing : (g : Over) (c : After-push-2 g) (s : Session) → TeamAt c.args.region.now s (map ops_of c.args.phases.now) c.args.team at_start → HasRoom s (map ops_of c.args.phases.now) (length c.args.phases.now + 1) c.args.team.threads.items c.args.out.now at_start
+closing : (g : Over) (c : After-push-2 g) (s : Session) → TeamAt c.args.region.now s (map ops_of c.args.phases.now) c.args.team at_start
+    → HasRoom s (map ops_of c.args.phases.now) (length c.args.phases.now + 1) c.args.team.threads.items c.args.out.now at_start
     → BeforeClose c.args.region.now s (map ops_of c.args.phases.now) c.loop-phase.team (so_far c.loop-phase.ledger) c.push-2.new.self
 closing g c s at room = close_begins (as_last c.args.phases.now c.loop-phase.phase-index c.loop-phase-test.false (c.loop-phase.invariant.far s at room)) c.push-2.ensures.added c.push-2.ensures.size
 

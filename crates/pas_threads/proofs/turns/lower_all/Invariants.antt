@@ -10,6 +10,7 @@ abbrev pub invariant-loop-index : goal.invariant-loop-index
 invariant-loop-index l = record {
   of : IsLedgerOf l.region l.ledger;
   same : l.scavenger ≡ l.fn.scavenger;
-  low : (s : Session) (p : Progress) → MayLower l.region s.profile s.threads s.keepers l.fn.threads p → ActorsStand l.region s l.fn.scavenger.pass l.fn.threads p.list → StandSo s (so_far l.fn.ledger) p.list
+  low : (s : Session) (p : Progress) → MayLower l.region s.profile s.threads s.keepers l.fn.threads p
+      → ActorsStand l.region s l.fn.scavenger.pass l.fn.threads p.list → StandSo s (so_far l.fn.ledger) p.list
       → LowersSoFar l.region s l.fn.scavenger.pass l.index l.fn.threads l.threads (so_far l.fn.ledger) (so_far l.ledger) p;
 }

@@ -10,6 +10,7 @@ abbrev pub invariant-loop-index : goal.invariant-loop-index
 invariant-loop-index l = record {
   of : IsLedgerOf l.region l.ledger;
   same : l.scavenger ≡ l.fn.scavenger;
-  rests : (s : Session) (later : ℕ → ℕ) (p : Progress) → AreResting l.region s.profile l.fn.threads later p → ActorsStand l.region s l.fn.scavenger.pass l.fn.threads p.list → StandSo s (so_far l.fn.ledger) p.list
+  rests : (s : Session) (later : ℕ → ℕ) (p : Progress) → AreResting l.region s.profile l.fn.threads later p
+      → ActorsStand l.region s l.fn.scavenger.pass l.fn.threads p.list → StandSo s (so_far l.fn.ledger) p.list
       → StopsSoFar l.region s l.fn.scavenger.pass l.index l.fn.threads l.threads later (so_far l.fn.ledger) (so_far l.ledger) p;
 }

@@ -8,5 +8,6 @@ use Rattle.pas_threads.proofs.turns.wake_all.Given as goal
 
 abbrev pub invariant-loop-index : goal.invariant-loop-index
 invariant-loop-index l = record {
-  far : (f : Profile) (later : ℕ → ℕ) (p : Progress) → AreResting l.region f l.fn.threads later p → WokeSoFar l.region f l.awake l.index l.fn.threads l.threads later p;
+  far : (f : Profile) (later : ℕ → ℕ) (p : Progress) → AreResting l.region f l.fn.threads later p
+      → WokeSoFar l.region f l.awake l.index l.fn.threads l.threads later p;
 }

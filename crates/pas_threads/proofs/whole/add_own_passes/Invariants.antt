@@ -5,7 +5,8 @@ use Rattle.pas_threads.proofs.whole.add_own_passes.Given as goal
 
 abbrev pub invariant-loop-place : goal.invariant-loop-place
 invariant-loop-place l = record {
-  added : map Some l.passes.items ++ map (λ (w : Worker). w.pass) (drop l.place l.fn.workers) ≡ map Some l.fn.passes.items ++ map (λ (w : Worker). w.pass) l.fn.workers;
+  added : map Some l.passes.items ++ map (λ (w : Worker). w.pass) (drop l.place l.fn.workers)
+      ≡ map Some l.fn.passes.items ++ map (λ (w : Worker). w.pass) l.fn.workers;
   places : vec_capacity l.passes ≡ vec_capacity l.fn.passes;
   many : length l.workers ≡ length l.fn.workers;
   left : (i : ℕ) (d : Worker) → l.place ≤ i → get_or l.workers i d ≡ get_or l.fn.workers i d;

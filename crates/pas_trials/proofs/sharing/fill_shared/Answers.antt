@@ -10,10 +10,13 @@ use Rattle.pas_steps.proofs.Adding.{adds_call, can_call}
 use Rattle.pas_partial.specs.Refills.{shared_directory, shared_slots}
 use Rattle.pas_trials.proofs.sharing.fill_shared.Goals as goal
 
-home_given : {f : Profile} {heap class : ℕ} {searched after : List Made} {slots : Slots} → GivesSlots (shared_slots heap class) f searched after slots → shared_directory slots.heap ≡ shared_directory heap
+home_given : {f : Profile} {heap class : ℕ} {searched after : List Made} {slots : Slots} → GivesSlots (shared_slots heap class) f searched after slots
+    → shared_directory slots.heap ≡ shared_directory heap
 home_given gives = ap (λ d. shared_directory d.heap) gives.home
 
-may_stop_then : {f : Profile} {heap class : ℕ} {searched after : List Made} {slots : Slots} → GivesSlots (shared_slots heap class) f searched after slots → (v : View) → MaySearch (shared_directory heap) v → Agreed f v (after ++ searched) → MayStopAt (shared_directory slots.heap) slots ((after ++ searched) ++ v)
+may_stop_then : {f : Profile} {heap class : ℕ} {searched after : List Made} {slots : Slots} → GivesSlots (shared_slots heap class) f searched after slots
+    → (v : View) → MaySearch (shared_directory heap) v → Agreed f v (after ++ searched)
+    → MayStopAt (shared_directory slots.heap) slots ((after ++ searched) ++ v)
 may_stop_then {searched = searched} {after = after} {slots = slots} gives v may agreed = subst (λ d. MayStopAt d slots ((after ++ searched) ++ v)) (sym (home_given gives)) (gives.gets.from v may agreed).may_stop
 
 pub stop_where-requires-clause-directory : goal.stop_where-requires-clause-directory

@@ -14,13 +14,16 @@ use Rattle.pas_rights.proofs.Orders.{same_page}
 use Rattle.pas_trials.proofs.wanting.ask.Goals as goal
 
 -- the deed word that was read is the directory's
-knows : {σ σ' : Standing} {p a : ℕ} (d : Directory) → Makes σ σ' (Look (Word.Deed p)) a → a ≡ deed_word_of d → Calls σ σ' AnyView (λ v w. KnowsDeed p d w) (made (Look (Word.Deed p)) a ∷ [])
+knows : {σ σ' : Standing} {p a : ℕ} (d : Directory) → Makes σ σ' (Look (Word.Deed p)) a → a ≡ deed_word_of d
+    → Calls σ σ' AnyView (λ v w. KnowsDeed p d w) (made (Look (Word.Deed p)) a ∷ [])
 knows {p = p} {a = a} d makes same = call_step (λ v w. KnowsDeed p d w) (call_none {R = λ v w. AnyView w} (λ v met. tt)) makes (λ v met b. tt) (λ v met b agrees. look_tells p d a v same)
 
-claim_gets : (p : ℕ) (got : Bool) (v w : View) → got ≡ true → has_right w p ≡ now (if p == p then (if got then Gained else Kept) else Kept) (has_right v p) → has_right w p ≡ true
+claim_gets : (p : ℕ) (got : Bool) (v w : View) → got ≡ true → has_right w p ≡ now (if p == p then (if got then Gained else Kept) else Kept) (has_right v p)
+    → has_right w p ≡ true
 claim_gets p got v w is e = e ∙ ap (λ t. now (if t then (if got then Gained else Kept) else Kept) (has_right v p)) (same_page p) ∙ ap (λ t. now (if t then Gained else Kept) (has_right v p)) is
 
-claimed : {σ σ' : Standing} {got : Bool} (p : ℕ) (d : Directory) (h : Claims p d σ σ' got) → Calls σ σ' (λ v. KnowsDeed p d v) (λ v w. Answered (Some got) p d w) (made (TakeRight p d) h.answer ∷ [])
+claimed : {σ σ' : Standing} {got : Bool} (p : ℕ) (d : Directory) (h : Claims p d σ σ' got)
+    → Calls σ σ' (λ v. KnowsDeed p d v) (λ v w. Answered (Some got) p d w) (made (TakeRight p d) h.answer ∷ [])
 claimed {σ} {got = got} p d h = record {
   adds = h.calls.adds;
   leads = record {

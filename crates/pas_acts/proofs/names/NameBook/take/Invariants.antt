@@ -7,6 +7,7 @@ use Rattle.pas_acts.proofs.names.NameBook.take.Given as goal
 abbrev pub invariant-loop-done : goal.invariant-loop-done
 invariant-loop-done l = record {
   count : l.count ≡ length l.fn.requests.items;
-  names : (n : ℕ) → block_named l.self.names n ≡ came_to (standing_for (map named_of (drop (l.count - l.done) l.fn.requests.items)) n) (block_named l.fn.self.names n);
+  names : (n : ℕ)
+      → block_named l.self.names n ≡ came_to (standing_for (map named_of (drop (l.count - l.done) l.fn.requests.items)) n) (block_named l.fn.self.names n);
   room : names_held l.self.names ≡ names_held l.fn.self.names;
 }

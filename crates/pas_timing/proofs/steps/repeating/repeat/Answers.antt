@@ -7,7 +7,8 @@ use Rattle.pas_timing.proofs.steps.repeating.repeat.Goals as goal
 can_make : (desk : Standing) (step : Step) → CanCall desk AnyView → IsFreeToMake desk.seat.profile step → CanMake desk step
 can_make desk step can free = record { of_region = free.of_region; view = can.view; whole = can.whole; stood = can.stood; allowed = free.allowed can.view }
 
-can_again : (desk desk' : Standing) (step : Step) (answer : ℕ) → CanCall desk AnyView → IsFreeToMake desk.seat.profile step → Makes desk desk' step answer → CanCall desk' AnyView
+can_again : (desk desk' : Standing) (step : Step) (answer : ℕ) → CanCall desk AnyView → IsFreeToMake desk.seat.profile step → Makes desk desk' step answer
+    → CanCall desk' AnyView
 can_again desk desk' step answer can free makes = record {
   view = made step answer ∷ can.view;
   whole = triple desk.seat.actor (made step answer) ∷ can.whole;

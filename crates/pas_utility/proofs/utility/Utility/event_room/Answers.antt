@@ -5,7 +5,8 @@ use Rattle.pas_utility.specs.Parts.{size_left, events_left}
 use Rattle.pas_utility.proofs.utility.Utility.event_room.Goals as goal
 
 -- the room that was there is handed out
-handed : (there room : Option EventRoom) → events_left there ≡ 0 → room ≡ there → MatchOption room (size_left there ≡ None) (λ r. (size_left there ≡ Some (size_of_room r)) × (shown r ≡ []))
+handed : (there room : Option EventRoom) → events_left there ≡ 0 → room ≡ there
+    → MatchOption room (size_left there ≡ None) (λ r. (size_left there ≡ Some (size_of_room r)) × (shown r ≡ []))
 handed there None empty is = ap size_left (sym is)
 handed there (Some room) empty is = (ap size_left (sym is), nil_from_length (shown room) (ap events_left is ∙ empty))
 
