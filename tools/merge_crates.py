@@ -7,9 +7,10 @@ proofs/Lib.antt; the READMEs stand one after the other, to be made one by hand. 
 new one. A module's path stays what it was but for the crate, and so do the folders of its proofs.
 
 Over all crates and edits `Rattle.FROM.` becomes `Rattle.INTO.`, and `FROM::` becomes `INTO::`, or `crate::` in INTO
-itself; paths of files in documents and scripts follow. crates.txt gets one line, at the place of the last of them, with
-what each named, the highest first; where others name them, INTO stands once. Then tools/fold_imports.py and `rt fmt`
-lay the files out, and what still names a FROM is told, line by line: it is prose, and mended by hand.
+itself, and what a block of `use` lines brings from there is one line; paths of files in documents and scripts follow.
+crates.txt gets one line, at the first of their places behind all that they need, with what each named, the highest
+first; where others name them, INTO stands once. Then tools/fold_imports.py and `rt fmt` lay the files out, and what
+still names a FROM is told, line by line: it is prose, and mended by hand.
 
 The tool stops, writes nothing and says which, where two files, modules or names that a root passes on would be one,
 where a lemma file would have a module's name, where a crate has more than the files above, or options in crates.txt,
@@ -38,6 +39,7 @@ MODULE = re.compile(r"(?:pub(?:\(crate\))? )?mod (\w+);?")
 PASSED_ON = re.compile(r"pub use (?P<path>[\w:]+)::(?:\{(?P<names>[^{}*]*)\}|(?P<name>\w+(?: as \w+)?));", re.S)
 ROW = re.compile(r"(?P<name>\w+)(?P<options>[^:]*):(?P<needs>.*)")
 EDITED = re.compile(r"(?m)^file: *(\S+)$")
+BROUGHT = re.compile(r"(?P<head> *(?:pub(?:\([\w ]+\))? )?use )(?P<path>\w+)::(?:\{(?P<names>[\w\s,]*)\}|(?P<name>\w+));")
 
 
 class Refused(Exception):
@@ -166,8 +168,9 @@ def merged_list(text: str, into: str, merged: list[str]) -> str:
     if missing:
         raise Refused(f"crates.txt has no {missing[0]}")
     own = [rows[it] for it in merged if it in rows]
-    place = max(at for at, _ in own)
     union = list(dict.fromkeys(it for _, found in own for it in found["needs"].split() if it not in merged))
+    needed = max((rows[it][0] for it in union if it in rows), default=-1)
+    place = min(at for at, _ in own if at > needed)
     # The highest storey first, and what isn't of this tree last.
     union.sort(key=lambda it: -rows[it][0] if it in rows else 1)
     after = []
@@ -179,11 +182,41 @@ def merged_list(text: str, into: str, merged: list[str]) -> str:
             after += [f"{into}: {' '.join(union)}".rstrip()] if at == place else []
             continue
         if found and (needs := found["needs"].split()) and not set(needs).isdisjoint(merged):
-            if at < place:
+            # A line may stand before what it needs; what stood behind all of it is to stand so still.
+            if max(rows[it][0] for it in needs if it in merged and it in rows) < at < place:
                 raise Refused(f"{found['name']} needs {into}, and stands below it in crates.txt")
             told = dict.fromkeys(into if it in merged else it for it in needs)
             line = f"{found['name']}{found['options']}: {' '.join(told)}"
         after.append(line)
+    return "".join(f"{line}\n" for line in after)
+
+
+def brought_once(text: str, path: str) -> str:
+    """The code, where the `use` lines of a block bring what they bring from this path by one line."""
+    lines, after, block = text.splitlines(), [], []
+
+    def end_block() -> None:
+        parts = [BROUGHT.fullmatch(" ".join(it.split("\n"))) for it in block]
+        same = [it["head"] if it and it["path"] == path else None for it in parts]
+        for at, (line, part, head) in enumerate(zip(block, parts, same)):
+            if head is None or same.count(head) == 1:
+                after.append(line)
+            elif head not in same[:at]:
+                its = (it["names"] or it["name"] for it, its_head in zip(parts, same) if its_head == head)
+                names = sorted({name.strip() for it in its for name in it.split(",")} - {""})
+                after.append(f"{head}{path}::{{{', '.join(names)}}};")
+        block.clear()
+
+    rest = iter(lines)
+    for line in rest:
+        if not re.match(r" *(?:pub(?:\([\w ]+\))? )?use ", line):
+            end_block()
+            after.append(line)
+            continue
+        while ";" not in line:
+            line += f"\n{next(rest)}"
+        block.append(line)
+    end_block()
     return "".join(f"{line}\n" for line in after)
 
 
@@ -199,9 +232,11 @@ class Names:
         self.file = re.compile(rf"\b(?:{gone})/(?=(?:src|specs|proofs|must-fail|README)\b)")
         self.gone = re.compile(rf"\b(?:{gone})\b")
 
-    def in_code(self, text: str, is_own: bool) -> str:
-        text = self.module.sub(f"Rattle.{self.into}.", text)
-        return self.path.sub("crate::" if is_own else f"{self.into}::", text)
+    def in_code(self, text: str, is_own: bool, suffix: str) -> str:
+        after = self.path.sub("crate::" if is_own else f"{self.into}::", text)
+        if after != text and suffix == ".rt":
+            after = brought_once(after, "crate" if is_own else self.into)
+        return self.module.sub(f"Rattle.{self.into}.", after)
 
     def in_prose(self, text: str) -> str:
         return self.file.sub(f"{self.into}/", text)
@@ -246,14 +281,14 @@ def merge(top: Path, into: str, sources: list[str]) -> Merge:
         for name, text in its.items():
             check_edit(f"edits/{crate}/{name}", text)
             own[f"edits/{into}/{name}"] = text
-    written = {top / name: names.in_code(text, is_own=True) for name, text in own.items()}
+    written = {top / name: names.in_code(text, True, Path(name).suffix) for name, text in own.items()}
     listed = top / "crates.txt"
     written[listed] = merged_list(listed.read_text(encoding="utf-8"), into, merged)
     folders = [top / part / it for part in ("crates", "edits") for it in merged]
     for path in files_of(top):
         if path not in written and not any(it in path.parents for it in folders) and (text := text_of(path)):
             is_code = path.suffix in CODE
-            after = names.in_code(text, is_own=False) if is_code else names.in_prose(text)
+            after = names.in_code(text, False, path.suffix) if is_code else names.in_prose(text)
             if after != text:
                 written[path] = after
     written[top / "crates" / into / README] = names.in_prose(own[f"crates/{into}/{README}"])
@@ -296,7 +331,7 @@ TREE = {
     "crates/two/out/kept": "what rt made",
     "crates/three/src/lib.rt": "//! Three.\n#![tactic(auto)]\n\nmod c;\n",
     "crates/three/src/c.rt": "use low::y;\n",
-    "crates/top/src/lib.rt": "use one::alpha;\nuse two::gamma;\n#[tactic(auto, using(two::proofs::B::x))]\n",
+    "crates/top/src/lib.rt": "use one::{alpha,\n    beta};\nuse low::z;\nuse two::gamma;\n#[tactic(auto, using(two::proofs::B::x))]\n",
     "edits/two/more.edit": "file: proofs/b_of/Answers.antt\nold: use Rattle.two.proofs.B.{x}\nnew: y\n",
 }
 MERGED = {
@@ -314,7 +349,7 @@ MERGED = {
     "crates/one/proofs/Lib.antt": "mod B\n",
     "crates/one/proofs/b_of/Answers.antt": "use Rattle.one.proofs.B.{x}\n",
     "crates/one/must-fail/less.edit": TREE["crates/two/must-fail/less.edit"],
-    "crates/top/src/lib.rt": "use one::alpha;\nuse one::gamma;\n#[tactic(auto, using(one::proofs::B::x))]\n",
+    "crates/top/src/lib.rt": "use one::{alpha, beta, gamma};\nuse low::z;\n#[tactic(auto, using(one::proofs::B::x))]\n",
     "edits/one/more.edit": "file: proofs/b_of/Answers.antt\nold: use Rattle.one.proofs.B.{x}\nnew: y\n",
 }
 # What stops it, by a change of the tree, and what it says then.
@@ -362,6 +397,10 @@ def self_check() -> None:
         assert found["crates.txt"] == listed, found["crates.txt"]
         assert found["crates/new/src/b.rt"] == MERGED["crates/one/src/b.rt"].replace(".one.", ".new.")
         assert not any(it.startswith(("crates/one/", "crates/two/", "edits/two/")) for it in found)
+    odd = merged_list("odd: one\none:\ntwo: one\n", "one", ["one", "two"])
+    assert odd == "odd: one\none:\n", odd
+    early = merged_list("low:\none: low\nmid: one\ntwo: one low\n", "one", ["one", "two"])
+    assert early == "low:\none: low\nmid: one\n", early
     for changed, wanted in STOPS:
         with tempfile.TemporaryDirectory() as room:
             try:

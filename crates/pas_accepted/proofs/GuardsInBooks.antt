@@ -71,15 +71,15 @@ mapped_filter g t (x ∷ xs) = mapped_if (t (g x)) g x (filter (λ y. t (g y)) x
 
 -- ---- a sweep of one keeper
 module _ (es : List Event) (keeper : ℕ) (all : Bool) (guards : List Known) (book : List Guard) (told : guards_of keeper guards ≡ map (raised_by keeper) book)
-    where
-  -- those that go down are those of his book
-  pub going_told : filter (goes_down es keeper all) guards ≡ map (raised_by keeper) (going es all book)
-  going_told =
-      simp (both_tests, told, mapped_filter)
+  where
+    -- those that go down are those of his book
+    pub going_told : filter (goes_down es keeper all) guards ≡ map (raised_by keeper) (going es all book)
+    going_told =
+        simp (both_tests, told, mapped_filter)
 
-  staying_told : guards_of keeper (filter (λ guard. not (goes_down es keeper all guard)) guards) ≡ map (raised_by keeper) (staying es all book)
-  staying_told =
-      simp (rest_tests, told, mapped_filter)
+    staying_told : guards_of keeper (filter (λ guard. not (goes_down es keeper all guard)) guards) ≡ map (raised_by keeper) (staying es all book)
+    staying_told =
+        simp (rest_tests, told, mapped_filter)
 
 -- those of the others stay
 others_told : (es : List Event) (keeper j : ℕ) (all : Bool) (guards : List Known) → j ≢ keeper

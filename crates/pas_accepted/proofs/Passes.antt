@@ -7,12 +7,11 @@ use Rattle.pas_core.proofs.OneActor.{legal_earlier}
 use Rattle.pas_steps.specs.Desks.{made, triples}
 use Rattle.pas_steps.specs.Lists.{Legal, Whole, part, visible}
 use Rattle.pas_steps.specs.declared.step.{Made.Made, Step.TheVariants.Look}
-use Rattle.pas_passes.specs.Records.{record_of, records_of_pass}
+use Rattle.pas_answers.specs.{PassRecords.record_of, PassRecords.records_of_pass, Answers.Progress, Answers.after_pass}
 use Rattle.pas_report.specs.Lines.{line_of}
 use Rattle.pas_report.specs.declared.record.{Record.Record, Said.Said}
 use Rattle.pas_scavenger.specs.Passes.{PassSteps, all_tried, outcomes_in, passing}
 use Rattle.pas_trace.specs.Acts.{MakesPass}
-use Rattle.pas_answers.specs.Answers.{Progress, after_pass}
 use Rattle.pas_answers.proofs.{Consequences.tidy_piece, Tidy.look_tidy, Tidy.tidy_over}
 use Rattle.pas_check.specs.States.{Does, Examines, Stand, Task, Writes, with_due}
 use Rattle.pas_check.proofs.Ticks.{epoch_kept}

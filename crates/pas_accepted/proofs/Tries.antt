@@ -10,7 +10,7 @@ use Rattle.pas_steps.specs.{Desks.made, Desks.triple, Desks.triples, InTurn.InTu
 use Rattle.pas_steps.specs.Lists.{Legal, Whole, part, visible}
 use Rattle.pas_steps.specs.declared.step.{Made.Made, Step.TheVariants.Look, Step.TheVariants.Unhint}
 use Rattle.pas_steps.proofs.{Apart.epoch_same, Apart.only_both, Apart.only_within, Parts.part_of_own}
-use Rattle.pas_passes.specs.Records.{record_of}
+use Rattle.pas_answers.specs.PassRecords.{record_of}
 use Rattle.pas_report.specs.Lines.{line_of}
 use Rattle.pas_report.specs.declared.record.Record.{Record}
 use Rattle.pas_scavenger.specs.Pages.{examining, unback_of}

@@ -44,7 +44,7 @@ fit_at {what = what} may = (may.limit, may.asked, subst (λ (g : Profile). IsFit
 
 -- An operation that may be done may be answered by its thread's cache.
 pub may_answer : {f : Profile} {k : ℕ} {what : What} {meant : Option Block} {σ : Standing} {c : Cached} {out : Records} {later : Later} {p : Progress}
-      (spare : ℕ)
+    (spare : ℕ)
     → Spares σ spare → MayOperate f k what meant (here σ c out) later p
     → CanCall σ (MayAnswer σ.seat.profile c what spare out)
 may_answer {f} {k} {what} {meant} {σ} {c} {out} {later} {p} spare fits may =
@@ -127,11 +127,11 @@ module _ {Door : Type 0} (Answers : Door → Door → ℕ → ℕ → Option ℕ
 
   -- An operation that was answered, and whose noted runs were handed on, is done, and goes through its door.
   pub has_operated : {f : Profile} {op : Op} {what : What} {meant came : Option Block} {σ σ' : Standing} {c c1 c' : Cached} {out out' : Records} {later : Later}
-        {p : Progress}
+      {p : Progress}
       → op.what ≡ what → MayOperate f op.actor op.what meant (here σ c out) later p
       → AnswersAsking what meant came c c1 out out' σ σ' → c' ≡ settled c1 → SettlesEach HandsOn c1.noted next door'
       → (did : ThreadActs f op.actor (Operates op ∷ (Settles op.actor ∷ [])) (named_by op.what came) [] (here σ c out) (here σ' c' out') later p)
-        × GoesThrough Answers HandsOn f op p did.reached did.reaches door door'
+      × GoesThrough Answers HandsOn f op p did.reached did.reaches door door'
   has_operated {f} {op} {what} {meant} {came} {σ} {σ'} {c} {c1} {c'} {out} {out'} {later} {p} asks may answers is handed =
       let k = op.actor in
       let both : AnswersAsking op.what meant came c c1 out out' σ σ' = subst (λ (w : What). AnswersAsking w meant came c c1 out out' σ σ') (sym asks) answers in

@@ -9,10 +9,10 @@ use Rattle.pas_steps.proofs.SpareRoom.{Spares}
 use Rattle.pas_scavenger.specs.Passes.{PassSteps}
 use Rattle.pas_report.specs.Rooms.{records_in, room_of, Records}
 use Rattle.pas_report.specs.declared.record.{Record.Record, Said.Said}
-use Rattle.pas_passes.specs.{Answers.AnswersTick, Answers.AnswersPass, Records.record_of, Records.records_of_pass}
+use Rattle.pas_answers.specs.{TicksAndPasses.AnswersTick, TicksAndPasses.AnswersPass, PassRecords.record_of, PassRecords.records_of_pass, Fit.cost_of_act}
+use Rattle.pas_answers.specs.{Fit.unbacks_of_act}
 use Rattle.pas_trace.specs.Acts.{Act, Ticks, MakesPass, ReadsEpoch}
 use Rattle.pas_answers.specs.Answers.{Progress, after_tick, after_pass, after_reading, epoch_look}
-use Rattle.pas_answers.specs.Fit.{cost_of_act, unbacks_of_act}
 use Rattle.pas_answers.proofs.{OwnRecords.pass_of, SingleActs.few_unbacks, SingleActs.reads}
 use Rattle.pas_acts.specs.{Works.Later, Works.Sits, Turns.Moves, Turns.Says, AtDesks.HasRoomAt, AtDesks.for_act, AtDesks.ScavengerActs}
 use Rattle.pas_acts.proofs.Alone.{sits_after}

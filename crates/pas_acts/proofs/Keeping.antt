@@ -98,7 +98,7 @@ few_guards f keeper r v guards t is = omega (arith, swept_count, one_more)
 
 -- A request that a keeper tried at its desk is one that it tried in the replay.
 pub has_tried : {f : Profile} {k : ℕ} {σ σ' : Standing} {book book' : GuardBook} {out out' : Records} {p : Progress} {block : Option Block} (later : LaterKept)
-      (r : Request)
+    (r : Request)
     → At f k σ book out (and_try r.size later) p → TriesRequest r book book' out out' σ σ' block → MayStand σ.seat.profile block
     → KeeperTries f k r block (keeper_has σ book out) (keeper_has σ' book' out') later p
 has_tried {f} {k} {σ} {σ'} {book} {book'} {out} {out'} {p} {block} later r at did given =

@@ -128,7 +128,7 @@ module _ {f : Profile} {ops : List Op} {book : NameBook} {p : Progress} {names :
 
 -- A thread of the phase knows its names once they are noted.
 pub names_before : {f : Profile} {book : NameBook} {p : Progress} {names : List Named} (k : ℕ) (phase rest : List Op) (book1 : NameBook) (requests : Requests)
-      (at : NamesAt f (phase ++ rest) book p)
+    (at : NamesAt f (phase ++ rest) book p)
     → 1 ≤ k → FreesItsOwn k at.asked phase → book1.names ≡ book.names
     → ArePlaced book1 0 (names_asked (own_acts k phase)) → requests_in requests ≡ [] → own_costs_of k (own_acts k phase) ≤ room_for requests → names ≡ p.names
     → KnowsNames f (own_acts k phase) (table book1 requests) names

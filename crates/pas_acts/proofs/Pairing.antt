@@ -84,7 +84,7 @@ owes_same f _ _ l m v stands = absurd stands
 
 -- an act of the thread alone
 alone_acts : {f : Profile} {k : ℕ} {acts : List Act} {came : List Named} {old new : Here} {later : Later} {p : Progress} (keeper : ℕ) (kept kept' : Keeping)
-      (more : LaterKept)
+    (more : LaterKept)
     → k ≢ keeper → KeeperWaits f keeper [] kept more p
     → (did : ThreadActs f k acts came [] old new later p) → KeptStands kept kept' p.list did.reached.list
     → PairActs f k keeper acts came old new kept kept' later more p
@@ -212,7 +212,7 @@ its_keeper {keeper = keeper} more op rest k is waits = let same : k ≡ keeper =
 
 -- before it
 pub may_try_task : (f : Profile) (keeper limit : ℕ) (asked : List ℕ) (more : LaterKept) (p : Progress) (task : Task) (op : Op) (rest : List Act)
-      (kept : Keeping)
+    (kept : Keeping)
     → op.what ≡ what_of task → IsFitWhat f limit asked op.what
     → KeeperWaits f keeper (act_kept (keeper_in op.what) op ∷ rest) kept more p → MayTryTask f keeper task kept (for_guards rest more) p
 may_try_task f keeper limit asked more p (Task.Guarded k name heap size align) op rest NoKeeper asks fit waits = absurd (subst (λ (o : Option ℕ). IsUnguarded (act_kept o op)) (kept_by op (Task.Guarded k name heap size align) asks) waits.0)
@@ -224,13 +224,13 @@ may_try_task f keeper limit asked more p task op rest kept asks fit waits = tt
 
 -- after it, where the keeper gave a block
 pub pair_given : {f : Profile} {keeper : ℕ} {p : Progress} {σ σ' : Standing} {c c' : Cached} {out : Records} {later : Later} (b : Block) (more : LaterKept)
-      (task : Task) (op : Op) (rest : List Act) (kept kept' : Keeping)
+    (task : Task) (op : Op) (rest : List Act) (kept kept' : Keeping)
     → op.what ≡ what_of task → (keeper_of task ≡ None → Some b ≡ None)
     → op.actor ≢ keeper → KeeperWaits f keeper (act_kept (keeper_in op.what) op ∷ rest) kept more p
     → TriesTask f keeper task (Some b) σ σ' kept kept' (for_guards rest more) p → RestsAt f op.actor σ c out (and_for (cost_of_what op.what) later) p
     → c' ≡ settled c
     → PairActs f op.actor keeper (head_acts op) (named_by op.what (Some b)) (here σ c out) (here σ' c' out) kept kept' later (for_guards rest more) p
-      × MayStand f (Some b)
+    × MayStand f (Some b)
 pair_given b more (Task.Guarded k name heap size align) op rest (OneKeeper h) (OneKeeper h') asks guarded apart waits tries at done =
     (given_acts op apart (ap (λ (w : What). request_in w) asks) (its_keeper more op rest k (kept_by op (Task.Guarded k name heap size align) asks) waits) tries.0 b refl (ap (λ (w : What). cost_of_what w) asks) tries.1 at done, tries.0.given)
 pair_given b more (Task.Guarded k name heap size align) op rest _ _ asks guarded apart waits tries at done = absurd tries
@@ -243,7 +243,7 @@ waits_past f keeper more p op rest NoKeeper waits = tt
 waits_past f keeper more p op rest (OneKeeper has) waits = (tt, waits.1)
 
 may_still : {f : Profile} {k : ℕ} {what : What} {meant : Option Block} {σ σ' : Standing} {c : Cached} {out : Records} {later : Later} {p : Progress}
-      (q : Progress)
+    (q : Progress)
     → StandsStill σ σ' p.list q.list → part k q.list ≡ part k p.list → q.caches k ≡ p.caches k → q.names ≡ p.names
     → MayOperate f k what meant (here σ c out) later p → MayOperate f k what meant (here σ' c out) later q
 may_still {what = what} {meant = meant} q stays parts caches names may = record {
@@ -258,7 +258,7 @@ may_still {what = what} {meant = meant} q stays parts caches names may = record 
 
 -- the thread may do the task then, from where the keeper's try led
 pub may_next : {f : Profile} {k keeper : ℕ} {p : Progress} {σ σ' : Standing} {c : Cached} {out : Records} {what : What} {meant : Option Block} {later : Later}
-      (more : LaterKept) (task : Task) (kept kept' : Keeping)
+    (more : LaterKept) (task : Task) (kept kept' : Keeping)
     → (keeper_of task ≡ None → (σ' ≡ σ) × (kept' ≡ kept)) → k ≢ keeper
     → TriesTask f keeper task None σ σ' kept kept' more p → MayOperate f k what meant (here σ c out) later p
     → (q : Progress) × MayOperate f k what meant (here σ' c out) later q
@@ -274,12 +274,12 @@ Law desk desk' kept kept' = (l m : Whole) → StandsAt desk l → StandsAt desk'
 
 -- What a keeper tried, and its thread did after it, is the operation of the pair.
 pub pair_left : {f : Profile} {keeper : ℕ} {p : Progress} {σ σ' : Standing} {c : Cached} {out : Records} {new : Here} {later : Later} {meant : Option Block}
-      (came : Option Block) (more : LaterKept) (task : Task) (op : Op) (rest : List Act) (kept kept' kept'' : Keeping)
+    (came : Option Block) (more : LaterKept) (task : Task) (op : Op) (rest : List Act) (kept kept' kept'' : Keeping)
     → op.what ≡ what_of task
     → (keeper_of task ≡ None → (σ' ≡ σ) × (kept' ≡ kept)) → op.actor ≢ keeper → KeeperWaits f keeper (act_kept (keeper_in op.what) op ∷ rest) kept more p
     → TriesTask f keeper task None σ σ' kept kept' (for_guards rest more) p → MayOperate f op.actor op.what meant (here σ c out) later p
     → ((q : Progress) → MayOperate f op.actor op.what meant (here σ' c out) later q
-        → ThreadActs f op.actor (Operates op ∷ (Settles op.actor ∷ [])) (named_by op.what came) [] (here σ' c out) new later q)
+    → ThreadActs f op.actor (Operates op ∷ (Settles op.actor ∷ [])) (named_by op.what came) [] (here σ' c out) new later q)
     → Law σ' new.desk kept' kept''
     → PairActs f op.actor keeper (head_acts op) (named_by op.what came) (here σ c out) new kept kept'' later (for_guards rest more) p
 pair_left came more (Task.Guarded k name heap size align) op rest NoKeeper kept' kept'' asks same apart waits tries may does law = absurd tries

@@ -42,7 +42,7 @@ with_acts k next later = record { events = own_costs_of k next + later.events; r
 
 -- it rests, with room for them
 thread_rests : {f : Profile} {k : ℕ} {acts : List Act} {σ : Standing} {c : Cached} {known : Table} {out : Records} {later : Later} {p : Progress} (cost : ℕ)
-      (next : List Act)
+    (next : List Act)
     → own_costs_of k acts ≡ cost + own_costs_of k next → ThreadAt f k acts σ (keeps c known out) later p
     → RestsAt f k σ c out (and_for cost (with_acts k next later)) p
 thread_rests cost next same at = let spare = at.spare in record { sits = sits_for at.sits (omega (arith, same)); cache = at.cache; spare = omega (arith, spare, same) }
@@ -68,7 +68,7 @@ no_chore f limit asked fit is = subst (λ (w : Work). IsFitWork f limit asked w)
 
 -- A thread before an operation may do it, for what its name stands for.
 pub may_operate : {f : Profile} {next : List Act} {σ : Standing} {c : Cached} {known : Table} {out : Records} {later : Later} {p : Progress} {what : What}
-      {meant : Option Block} (op : Op)
+    {meant : Option Block} (op : Op)
     → op.what ≡ what → Before f op next σ (keeps c known out) later p → meant ≡ freed_by (known_in known.book known.requests) what
     → MayOperate f op.actor op.what meant (here σ c out) (with_acts op.actor next later) p
 may_operate {f} {next} {σ} {c} {known} {out} {later} {p} op asks at freed = let is = freed ∙ ap (freed_by (known_in known.book known.requests)) (sym asks) in record {
@@ -141,7 +141,7 @@ waits_next f keeper more p said op next kept kept' q h i j = grind arith
 
 -- An operation that thread and keeper did, and whose request was noted, is work of the pair.
 pub operated : {f : Profile} {keeper : ℕ} {next : List Act} {σ σ' : Standing} {c c' : Cached} {known known' : Table} {what : What} {came : Option Block}
-      {out out' : Records} {kept kept' : Keeping} {later : Later} {more : LaterKept} {p : Progress} (op : Op)
+    {out out' : Records} {kept kept' : Keeping} {later : Later} {more : LaterKept} {p : Progress} (op : Op)
     → op.what ≡ what
     → PairAt f op.actor keeper (head_acts op ++ next) σ (keeps c known out) kept later more p
     → PairActs f op.actor keeper (head_acts op) (named_by op.what came) (here σ c out) (here σ' c' out') kept kept' (with_acts op.actor next later) (for_guards next more) p
@@ -185,7 +185,7 @@ still_both : (keeper : ℕ) (xs : List Record) (k0 k1 : Keeping) (p q r : Progre
 still_both keeper xs k0 k1 p q r h i j = grind arith
 
 works_both : {f : Profile} {k keeper : ℕ} {xs ys mid next : List Act} {σ0 σ σ' : Standing} {h0 h h' : Keeps} {k0 k1 k2 : Keeping} {later : Later}
-      {more : LaterKept} {p : Progress}
+    {more : LaterKept} {p : Progress}
     → (one : PairWorks f k keeper xs mid σ0 σ h0 h k0 k1 later more p)
     → PairWorks f k keeper ys next σ σ' h h' k1 k2 later more one.reached → PairWorks f k keeper (xs ++ ys) next σ0 σ' h0 h' k0 k2 later more p
 works_both {f} {k} {keeper} {xs} {ys} {mid} {next} {σ0} {σ} {σ'} {h0} {h} {h'} {k0} {k1} {k2} {later} {more} {p} one two =
@@ -247,14 +247,14 @@ begins ops kept at = ([], refl, works_none kept at)
 
 -- the operation is the thread's: it stands before it
 pub stands_before : {f : Profile} {k keeper : ℕ} (ops : List Op) {i : ℕ} {σ0 σ : Standing} {h0 h : Keeps} {k0 k1 : Keeping} {later : Later} {more : LaterKept}
-      {p : Progress} (d : Op)
+    {p : Progress} (d : Op)
     → i < length ops → (get_or ops i d).actor ≡ k → (so : SoFar f k keeper ops i σ0 σ h0 h k0 k1 later more p)
     → PairAt f (get_or ops i d).actor keeper (head_acts (get_or ops i d) ++ own_acts k (drop (i + 1) ops)) σ h k1 later more so.2.reached
 stands_before {f} {k} {keeper} ops {i} {σ0} {σ} {h0} {h} {k0} {k1} {later} {more} {p} d lt is so = search (arith, own_next)
 
 -- After its own operation a pair did one more.
 pub goes_on : {f : Profile} {k keeper : ℕ} (ops : List Op) {i : ℕ} {σ0 σ σ' : Standing} {h0 h h' : Keeps} {k0 k1 k2 : Keeping} {later : Later}
-      {more : LaterKept} {p : Progress} (d : Op)
+    {more : LaterKept} {p : Progress} (d : Op)
     → i < length ops → (get_or ops i d).actor ≡ k → (so : SoFar f k keeper ops i σ0 σ h0 h k0 k1 later more p)
     → PairWorks f (get_or ops i d).actor keeper (head_acts (get_or ops i d)) (own_acts k (drop (i + 1) ops)) σ σ' h h' k1 k2 later more so.2.reached
     → SoFar f k keeper ops (i + 1) σ0 σ' h0 h' k0 k2 later more p
@@ -266,7 +266,7 @@ goes_on {f} {k} {keeper} ops {i} {σ0} {σ} {σ'} {h0} {h} {h'} {k0} {k1} {k2} {
 
 -- An operation of another actor is skipped.
 pub skips : {f : Profile} {k keeper : ℕ} (ops : List Op) {i : ℕ} {σ0 σ : Standing} {h0 h : Keeps} {k0 k1 : Keeping} {later : Later} {more : LaterKept}
-      {p : Progress} (d : Op)
+    {p : Progress} (d : Op)
     → i < length ops → ((get_or ops i d).actor ≡ k → ⊥) → SoFar f k keeper ops i σ0 σ h0 h k0 k1 later more p
     → SoFar f k keeper ops (i + 1) σ0 σ h0 h k0 k1 later more p
 skips {f} {k} {keeper} ops {i} {σ0} {σ} {h0} {h} {k0} {k1} {later} {more} {p} d lt other so =
@@ -274,7 +274,7 @@ skips {f} {k} {keeper} ops {i} {σ0} {σ} {h0} {h} {k0} {k1} {later} {more} {p} 
 
 -- Once all operations of a phase were passed, a pair did all of its own.
 pub ends : {f : Profile} {k keeper : ℕ} (ops : List Op) {i : ℕ} {σ0 σ : Standing} {h0 h : Keeps} {k0 k1 : Keeping} {later : Later} {more : LaterKept}
-      {p : Progress}
+    {p : Progress}
     → length ops ≤ i → SoFar f k keeper ops i σ0 σ h0 h k0 k1 later more p
     → PairWorks f k keeper (own_acts k ops) [] σ0 σ h0 h k0 k1 later more p
 ends {f} {k} {keeper} ops {i} {σ0} {σ} {h0} {h} {k0} {k1} {later} {more} {p} le so =

@@ -4,3 +4,9 @@ pub mod Turns
 pub mod AtDesks
 pub mod Keepers
 pub mod Pairs
+pub mod Parts
+pub mod Awake
+pub mod PlanKeepers
+pub mod Tries
+pub mod Shares
+pub mod AloneInOrder

@@ -77,7 +77,7 @@ pub fn tick<D: Desk>(desk: &mut D, epoch: u64, out: &mut Records)
         → ScavengerActs f (Ticks epoch) (D.standing desk.old) (D.standing desk.new) out.old out.new later p }
     ensures home { D.home desk.new ≡ D.home desk.old }
 {
-    pas_passes::tick(desk, epoch, out);
+    pas_answers::tick(desk, epoch, out);
 }
 
 /// Makes a pass over the pages that are hinted as empty. One record, and one for each outcome, of which there are at most as many as pages.
@@ -89,7 +89,7 @@ pub fn pass<D: Desk>(desk: &mut D, outcomes: &mut Outcomes, out: &mut Records)
     ensures places { places_of outcomes.new ≡ places_of outcomes.old }
     ensures home { D.home desk.new ≡ D.home desk.old }
 {
-    pas_passes::pass(desk, outcomes, out);
+    pas_answers::pass(desk, outcomes, out);
 }
 
 /// Reads the epoch, for an idle operation. One step.

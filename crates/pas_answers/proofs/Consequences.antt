@@ -15,12 +15,11 @@ use Rattle.pas_trace.specs.declared.{plan.Plan.Plan, item.Request.Request, plan.
 use Rattle.pas_report.specs.declared.record.{Record.Record, Said.Said}
 use Rattle.pas_cache.specs.Caches.{Cached}
 use Rattle.pas_scavenger.specs.Passes.{passing}
-use Rattle.pas_passes.specs.Records.{records_of_pass}
+use Rattle.pas_answers.specs.{PassRecords.records_of_pass, Guarding.after_trying, Phases.AreInPhases, Stages.GoByStages, Indexes.GoByIndexes}
+use Rattle.pas_answers.specs.{Refusals.AreRefusalsTrue, Fit.AreOfThreads, Rests.RestBetween}
 use Rattle.pas_trace.specs.Acts.{Act, Operates, Guards, Settles, Ticks, MakesPass, ReadsEpoch, StopsIdle, MarksPhase, Wakes, MarksClose, Ends, Lowers}
 use Rattle.pas_answers.specs.Answers.{Progress, having, records_of, said_by, stopped, epoch_look, IsStopped, after_stop}
 use Rattle.pas_trace.specs.Asked.{request_in}
-use Rattle.pas_answers.specs.{Guarding.after_trying, Phases.AreInPhases, Stages.GoByStages, Indexes.GoByIndexes, Refusals.AreRefusalsTrue, Fit.AreOfThreads}
-use Rattle.pas_answers.specs.{Rests.RestBetween}
 use Rattle.pas_answers.specs.Reaching.{AnswersOp, AnswersTried, AnswersGuarded, Advances, Reaches}
 use Rattle.pas_answers.specs.Replays.{at_start, acts_of_plan, threads_of, keepers_of, phases_of, stages_of_plan, IsReplay, region_of}
 use Rattle.pas_answers.specs.Ways.{Way, InOrder, OnThreads, IsOneOrder, arranged}

@@ -82,7 +82,7 @@ missed_few (Some first) n = omega arith
 
 -- A keeper's try and its thread's own request after it make at most as many steps as a guarded request may.
 pub whole_short : {σ σ' : Standing} {tells : Bool} {found : Option ℕ} {c c' : Cached} {answer : Result Block NoRoom} (keeper : ℕ) (r : Request) (v : View)
-      (guards : List Guard) (t : Tried)
+    (guards : List Guard) (t : Tried)
     → IsTried σ.seat.profile keeper r v guards t
     → (call : AllocatesPages (wanted_by σ.seat.profile r) found tells c c' σ σ' answer)
     → length t.steps + length call.steps ≤ guarded_steps σ.seat.profile r guards

@@ -18,3 +18,5 @@ pub mod Tries
 mod OwnCalls
 pub mod Consequences
 pub mod SingleActs
+mod PassShown
+mod TicksAndPasses

@@ -5,8 +5,8 @@ use Rattle.pas_profile.specs.declared.{event.Event.Event, event.Outcome.Outcome,
 use Rattle.pas_steps.specs.{Events.events_by, Events.actor_of, Views.View}
 use Rattle.pas_steps.specs.declared.step.Made.{Made}
 use Rattle.pas_report.specs.declared.record.{Record.Record, Said.Said}
-use Rattle.pas_passes.specs.Records.{record_of, records_of_pass}
-use Rattle.pas_answers.specs.{Answers.records_of, Answers.said_by, Answers.wanted_by, Guarding.said_of_guard, Guarding.Tried, Guarding.IsTried}
+use Rattle.pas_answers.specs.{PassRecords.record_of, PassRecords.records_of_pass, Answers.records_of, Answers.said_by, Answers.wanted_by}
+use Rattle.pas_answers.specs.{Guarding.said_of_guard, Guarding.Tried, Guarding.IsTried}
 use Rattle.pas_trace.specs.declared.item.Request.{Request}
 use Rattle.pas_cache.specs.Serves.{pages_of}
 use Rattle.pas_guard.specs.Sweeps.{is_over, SweptOne, Swept}

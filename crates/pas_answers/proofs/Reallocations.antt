@@ -182,7 +182,7 @@ DoesTask σ σ' task meant came c c' said Answers Same = (did : PerformsMeant (w
 
 -- A reallocation of the block that a name stands for performs what the task means.
 pub performs_move : {σ σ' : Standing} {task : Task} {name n heap size align : ℕ} {meant came : Option Block} {old : Block} {said : Option Said} (c c' : Cached)
-      (Answers : ℕ → ℕ → Option ℕ → Type 0) (Same : Type 0)
+    (Answers : ℕ → ℕ → Option ℕ → Type 0) (Same : Type 0)
     → task ≡ Task.Remake name n heap size align → meant ≡ Some old
     → DoesTask σ σ' (Task.Remake name n heap size align) (Some old) came c c' said Answers Same → DoesTask σ σ' task meant came c c' said Answers Same
 performs_move {σ} {σ'} {task} {name} {n} {heap} {size} {align} {meant} {came} {old} {said} c c' Answers Same is named did =
@@ -190,7 +190,7 @@ performs_move {σ} {σ'} {task} {name} {n} {heap} {size} {align} {meant} {came} 
 
 -- its own request was refused
 pub performs_no_move : {σ : Standing} {task : Task} {name n heap size align : ℕ} {meant : Option Block} (c : Cached) (Answers : ℕ → ℕ → Option ℕ → Type 0)
-      (Same : Type 0)
+    (Same : Type 0)
     → task ≡ Task.Remake name n heap size align → meant ≡ None → Same
     → DoesTask σ σ task meant None c c (Some (Said.Skipped name)) Answers Same
 performs_no_move {σ} {task} {name} {n} {heap} {size} {align} {meant} c Answers Same is named same =

@@ -44,7 +44,7 @@ can_rest {σ} c what spare out can = record { view = can.view; whole = can.whole
 -- ---- the records
 -- there is room for the events, and for what is said besides
 pub records_fit : {σ σ' : Standing} {said : Option Said} {c' : Cached} (what : What) (meant came : Option Block) (c : Cached) (spare : ℕ) (out : Records)
-      (old new : List Event)
+    (old new : List Event)
     → (can : CanCall σ (MayAnswer σ.seat.profile c what spare out))
     → PerformsMeant what meant came c c' σ σ' said → IsShown σ old → IsShown σ' new
     → length (records_in out) + length (drop (length old) new) + length (said_by σ.seat.actor said) ≤ room_of out
@@ -66,7 +66,7 @@ said_fits {said} k out pushed events message is fits added same =
 
 -- nothing is said besides
 pub answers_silent : {σ σ' : Standing} {said : Option Said} (Named : Option ℕ → Type 0) (what : What) (meant came : Option Block) (c c' : Cached)
-      (out out' : Records) (old new : List Event)
+    (out out' : Records) (old new : List Event)
     → said ≡ None
     → (performs : PerformsMeant what meant came c c' σ σ' said) → Named performs.found → IsShown σ old → IsShown σ' new
     → records_in out' ≡ records_in out ++ map Record.Event (drop (length old) new) → room_of out' ≡ room_of out
@@ -84,7 +84,7 @@ answers_silent {σ} {σ'} {said} Named what meant came c c' out out' old new is 
 
 -- this is said besides
 pub answers_said : {σ σ' : Standing} {said : Option Said} (Named : Option ℕ → Type 0) (what : What) (meant came : Option Block) (c c' : Cached)
-      (out pushed out' : Records) (old new : List Event) (message : Said) (actor : ℕ)
+    (out pushed out' : Records) (old new : List Event) (message : Said) (actor : ℕ)
     → said ≡ Some message → actor ≡ σ'.seat.actor
     → (performs : PerformsMeant what meant came c c' σ σ' said) → Named performs.found → IsShown σ old → IsShown σ' new
     → records_in pushed ≡ records_in out ++ map Record.Event (drop (length old) new) → room_of pushed ≡ room_of out

@@ -212,7 +212,7 @@ module _ (σ σ' : Standing) (c c' : Cached) (name heap size align : ℕ) (found
   pub performs_request : (answer : Result Block NoRoom) (meant : Option Block) (Answers : ℕ → ℕ → Option ℕ → Type 0) (Same : Type 0) → Served answer
       → IsNamed (route_in σ.seat.profile size align) (Answers heap ((size + 4096 - 1) / 4096)) Same found
       → (did : PerformsMeant (Alloc name heap size align) meant (block_of answer) c c' σ σ' (said_of_request name answer))
-        × IsNamedFor σ.seat.profile Answers Same (request_made (Alloc name heap size align) meant) did.found
+      × IsNamedFor σ.seat.profile Answers Same (request_made (Alloc name heap size align) meant) did.found
   performs_request answer meant Answers Same call named = (
     record {
       steps = call.steps;
@@ -238,9 +238,9 @@ can_unguarded {σ} {task} {keeper} {name} {heap} {size} {align} c spare is can =
 pub guarded_performs : {σ σ' : Standing} {c c' : Cached} {name heap size align : ℕ} {meant came : Option Block} {said : Option Said}
     (Answers : ℕ → ℕ → Option ℕ → Type 0) (Same : Type 0) (keeper : ℕ)
     → (did : PerformsMeant (Alloc name heap size align) meant came c c' σ σ' said)
-      × IsNamedFor σ.seat.profile Answers Same (request_made (Alloc name heap size align) meant) did.found
+    × IsNamedFor σ.seat.profile Answers Same (request_made (Alloc name heap size align) meant) did.found
     → (did : PerformsMeant (Guarded keeper name heap size align) meant came c c' σ σ' said)
-      × IsNamedFor σ.seat.profile Answers Same (request_made (Guarded keeper name heap size align) meant) did.found
+    × IsNamedFor σ.seat.profile Answers Same (request_made (Guarded keeper name heap size align) meant) did.found
 guarded_performs Answers Same keeper is =
     let did = is.0 in
     (record { steps = did.steps; found = did.found; calls = did.calls; few = λ v rest agreed. let few = did.few v rest agreed in omega (arith, few); answered = did.answered; others = did.others }, is.1)

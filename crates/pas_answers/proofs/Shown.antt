@@ -8,8 +8,7 @@ use Rattle.pas_steps.specs.declared.step.Made.{Made}
 use Rattle.pas_report.specs.Lines.{CanShow}
 use Rattle.pas_report.specs.declared.record.{Record.Record, Said.Said}
 use Rattle.pas_report.proofs.Showable.{AreOfRegion, steps_showable}
-use Rattle.pas_passes.specs.Records.{record_of, records_of_pass}
-use Rattle.pas_answers.specs.Answers.{records_of, said_by}
+use Rattle.pas_answers.specs.{PassRecords.record_of, PassRecords.records_of_pass, Answers.records_of, Answers.said_by}
 use Rattle.pas_profile.proofs.Lists.{all_both}
 use Rattle.pas_answers.proofs.OwnRecords.{piece_events, piece_all, outcomes_all}
 use Rattle.pas_answers.specs.Ways.{Way, InOrder, OnThreads, is_of, records_by, by_actors, by_phases, arranged}

@@ -19,7 +19,7 @@ use Rattle.pas_cache.specs.{Calls.RefusesName}
 use Rattle.pas_cache.specs.Serves.{Wanted, wanted_for, ServesRequest, IsPreparing, IsPlaced, IsDeedOf}
 use Rattle.pas_free_log.specs.declared.log.Entry.{Entry}
 use Rattle.pas_free_log.specs.Logs.{entry_of, sized_entry}
-use Rattle.pas_passes.specs.Records.{records_of_pass}
+use Rattle.pas_answers.specs.PassRecords.{records_of_pass}
 use Rattle.pas_guard.specs.declared.book.Guard.{Guard}
 
 -- ---- what the caches hold, by thread
@@ -166,7 +166,7 @@ pub record IsReplaced (f : Profile) (k : ℕ) (r : Request) (old : Block) (befor
   pub served : IsServed f k r before placed
   pub freed : List Made
   pub logged : MatchResult served.answer (λ block. TakesEntry f k placed.cache after.cache (entry_of old.name) freed) (λ room. (freed ≡ [])
-        × (after.cache ≡ placed.cache))
+      × (after.cache ≡ placed.cache))
   pub steps_are : after.steps ≡ freed ++ placed.steps
   pub said_is : after.said ≡ placed.said
   pub found_is : after.found ≡ placed.found

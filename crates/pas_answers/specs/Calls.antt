@@ -101,7 +101,7 @@ pub record PerformsMeant (what : What) (meant came : Option Block) (c c' : Cache
   pub calls : Rests c c' desk desk' steps
   pub few : (v : View) → AtRest desk.seat.profile c v → Agreed desk.seat.profile v steps
       → length (events_by desk.seat.actor v steps) + length (said_by desk.seat.actor said) + owed_events desk.seat.profile c' (steps ++ v)
-        ≤ cost_of_what what + owed_events desk.seat.profile c v
+      ≤ cost_of_what what + owed_events desk.seat.profile c v
   pub answered : (v : View) (l : Whole) → desk.stands v l → AtRest desk.seat.profile c v → (names : List Named) → IsMeant names what meant → IsKnown names what
       → IsAnswered desk.seat.profile desk.seat.actor what (having names v c) (answer_of steps said found (named_by what came ++ names) c')
   pub others : named_by what came ≡ [] → came ≡ None
@@ -119,7 +119,7 @@ pub record Serves (cost : ℕ) (wanted : Wanted) (found : Option ℕ) (c c' : Ca
   pub kinds : Only allocating steps
   pub few : MakesAtMost desk.seat.profile (AtRest desk.seat.profile c) (events_for cost answer) steps
   pub outcome : MatchResult answer (IsBlockFor desk.seat.profile wanted (AtRest desk.seat.profile c) steps) (λ room. (k : ℕ) (v : View)
-        → RefusalEnds wanted.route wanted.directory (events_by k v steps))
+      → RefusalEnds wanted.route wanted.directory (events_by k v steps))
   pub log_is : c'.log ≡ c.log
 
 -- a free by name and turn, and by the room that it names, if any
@@ -128,7 +128,7 @@ pub record FreesOne (entry : Entry) (c c' : Cached) (desk desk' : Standing) (sai
   pub calls : Rests c c' desk desk' steps
   pub few : (v : View) → AtRest desk.seat.profile c v → Agreed desk.seat.profile v steps
       → length (events_by desk.seat.actor v steps) + length (said_by desk.seat.actor said) + owed_events desk.seat.profile c' (steps ++ v)
-        ≤ 1 + owed_events desk.seat.profile c v
+      ≤ 1 + owed_events desk.seat.profile c v
   pub freed : IsFreed desk.seat.profile desk.seat.actor c c' entry steps said
 
 -- .. and there is room for its records

@@ -13,3 +13,5 @@ pub mod Fit
 pub mod Names
 pub mod Calls
 pub mod Moves
+pub mod PassRecords
+pub mod TicksAndPasses

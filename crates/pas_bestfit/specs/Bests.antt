@@ -3,7 +3,7 @@ use Rattle.std.specs.Prelude.{ℕ, ◌+◌, ◌<◌, ◌≤◌, ◌≡◌, ◌�
 use Rattle.std.proofs.Common.{arith}
 use Rattle.pas_bits.specs.Runs.{AreFree, IsFreeRun}
 use Rattle.pas_bits.specs.declared.free_runs.FreeRun.{FreeRun}
-use Rattle.pas_choice.specs.Placements.{Placement, IsPlacement}
+use Rattle.pas_search.specs.Placements.{Placement, IsPlacement}
 use Rattle.pas_profile.specs.declared.directory.Kind.{Kind}
 use Rattle.pas_steps.specs.Evidence.{Readings}
 use Rattle.pas_bestfit.specs.declared.best.Best.{Best}

@@ -2,9 +2,8 @@
 use Rattle.std.specs.Prelude.{ℕ, ◌+◌, ◌*◌, ◌<◌, ◌≤◌, ◌≡◌, Bool, Option, None, Some, MatchOption, Result, MatchResult}
 use Rattle.std.proofs.Common.{arith, sym, ◌∙◌}
 use Rattle.pas_bits.specs.Runs.{IsFreeRun}
-use Rattle.pas_choice.specs.{ByRank.AllocatesByRank, Placements.placed, Placements.run_from}
+use Rattle.pas_search.specs.{ByRank.AllocatesByRank, Placements.placed, Placements.run_from, Ranks.Measure, Ranks.IsOfGrains}
 use Rattle.pas_profile.specs.declared.{event.NoRoom.NoRoom, name.Block.Block}
-use Rattle.pas_search.specs.Ranks.{Measure, IsOfGrains}
 use Rattle.pas_steps.specs.{Desks.Standing, Evidence.Readings}
 use Rattle.pas_bestfit.specs.{Allocates.bestfit_directory, Allocates.grains_for, Bests.HasNoRun, Bests.best_fit}
 

@@ -3,7 +3,7 @@ ghost use Rattle.std.specs.Prelude.{MatchBool};
 ghost use Rattle.pas_bestfit.specs.Bests.{IsPreferred, best_fit, is_best_fit};
 
 use pas_bits::{FreeRun, Mask4};
-use pas_choice::Placing;
+use pas_search::Placing;
 
 /// How many grains a block has, 1 to 256.
 #[derive(Clone, Copy, PartialEq, Eq)]

@@ -3,8 +3,7 @@ ghost use Rattle.std.specs.Prelude.{◌≤◌};
 
 use crate::best::Best;
 use pas_bits::Mask4;
-use pas_choice::Placing;
-use pas_search::Ranking;
+use pas_search::{Placing, Ranking};
 
 /// Runs of 10, 5, 5 and 6 free grains.
 fn some_runs() -> Mask4 {

@@ -7,10 +7,9 @@ ghost use Rattle.pas_bestfit.specs.{Allocates.bestfit_directory, Region.Allocate
 
 use crate::best::Best;
 use pas_bits::Mask4;
-use pas_choice::{ByChoice, ByPlacement, Placing, alloc_best};
 use pas_profile::limits::GRAIN_BYTES;
 use pas_profile::{Block, Directory, Kind, NoRoom};
-use pas_search::Ranking;
+use pas_search::{ByChoice, ByPlacement, Placing, Ranking, alloc_best};
 use pas_steps::Desk;
 
 impl Ranking for Best {

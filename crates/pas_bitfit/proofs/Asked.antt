@@ -4,7 +4,7 @@ use Rattle.pas_profile.specs.Classes.{IsAlignment}
 use Rattle.pas_profile.specs.declared.{directory.Directory.Directory, event.NoRoom.NoRoom, name.Block.Block, profile.Profile.Profile}
 use Rattle.pas_steps.specs.Desks.{Standing}
 use Rattle.pas_steps.specs.declared.step.Made.{Made}
-use Rattle.pas_choice.specs.Allocates.{IsGiven, AllocatesRun}
+use Rattle.pas_search.specs.Allocates.{IsGiven, AllocatesRun}
 use Rattle.pas_bitfit.specs.{Allocates.bitfit_directory, Allocates.run_for, Allocates.IsOfRequest, Runs.IsWanted, Runs.runs, Runs.run_at}
 use Rattle.pas_bitfit.proofs.Aligned.{stands_aligned}
 

@@ -4,7 +4,7 @@ use Rattle.pas_profile.specs.Blocks.{address_of}
 use Rattle.pas_profile.specs.declared.{directory.Directory.Directory, directory.Kind.Kind, event.NoRoom.NoRoom, name.Block.Block, profile.Profile.Profile}
 use Rattle.pas_steps.specs.Desks.{Standing}
 use Rattle.pas_steps.specs.declared.step.Made.{Made}
-use Rattle.pas_choice.specs.Allocates.{IsGiven, AllocatesRun}
+use Rattle.pas_search.specs.Allocates.{IsGiven, AllocatesRun}
 use Rattle.pas_bitfit.specs.Runs.{runs, run_at}
 use Rattle.pas_bitfit.specs.declared.wanted.Wanted.{Wanted}
 

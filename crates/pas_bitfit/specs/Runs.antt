@@ -4,9 +4,9 @@ use Rattle.std.proofs.Common.{arith}
 use Rattle.pas_bits.specs.Runs.{AreFree}
 use Rattle.pas_profile.specs.declared.directory.Kind.{Kind}
 use Rattle.pas_steps.specs.Evidence.{Readings, IsAntitone}
-use Rattle.pas_choice.specs.Choices.{Choice}
-use Rattle.pas_choice.specs.Placements.{Placement, IsPlacement, placed, run_from}
-use Rattle.pas_choice.specs.declared.choosing.Run.{Run}
+use Rattle.pas_search.specs.Choices.{Choice}
+use Rattle.pas_search.specs.Placements.{Placement, IsPlacement, placed, run_from}
+use Rattle.pas_search.specs.declared.choosing.Run.{Run}
 use Rattle.pas_bitfit.specs.declared.wanted.Wanted.{Wanted}
 
 pub record IsWanted (wanted : Wanted) : Type 0 where

@@ -119,7 +119,7 @@ moved_up_is mask a b c d by some few wa wb wc wd g h =
 pub words_are : (op : ℕ → ℕ → ℕ) (bit : Bool → Bool → Bool) → ((m n b : ℕ) → has_bit (op m n) b ≡ bit (has_bit m b) (has_bit n b)) → bit false false ≡ false
     → (m n : Mask4) → length m.0 ≡ 4 → length n.0 ≡ 4 → (g : ℕ)
     → is_set (four (op (slice_index m.0 0) (slice_index n.0 0)) (op (slice_index m.0 1) (slice_index n.0 1)) (op (slice_index m.0 2) (slice_index n.0 2)) (op (slice_index m.0 3) (slice_index n.0 3))) g
-      ≡ bit (is_set m g) (is_set n g)
+    ≡ bit (is_set m g) (is_set n g)
 words_are op bit bits none m n long_m long_n g =
     let word = λ (w x : ℕ) (h : x < 64). bits (slice_index m.0 w) (slice_index n.0 w) x ∙ ap (λ t. bit t (has_bit (slice_index n.0 w) x)) (sym (at_word m w x h)) ∙ ap (bit (is_set m (64 * w + x))) (sym (at_word n w x h)) in
     let at = λ (w : ℕ). op (slice_index m.0 w) (slice_index n.0 w) in

@@ -55,7 +55,7 @@ set_page q p old x t h = grind (arith, bit_of_or, block_bit, set_cases, other_bl
 -- the page's bit after the bit of page q was cleared, or set, where x says that the vector is the same
 pub page_bit-clear : (q p old : ℕ) (x : Bool)
     → has_bit (if x && (q / 64 == p / 64) then bit_and old (bit_not w64 (page_mask q)) else old) (p % 64)
-      ≡ (if x && (q == p) then false else has_bit old (p % 64))
+    ≡ (if x && (q == p) then false else has_bit old (p % 64))
 page_bit-clear q p old x = clear_page q p old x (q / 64 == p / 64) refl
 
 -- A page's bit in a word with the mask of one is set for that page, and is as before for others.

@@ -112,7 +112,7 @@ one_cleared n k = bit_and n (2 ^ 64 - 1 - 1 * 2 ^ k % 2 ^ 64)
 -- After one grain was set, a mask's bits are that one and those before.
 pub after_set : (words : List ℕ) (grain : ℕ) → length words ≡ 4 → grain < 256 → (g : ℕ)
     → has_bit (slice_index (slice_set words (grain / 64) (one_set (slice_index words (grain / 64)) (grain % 64))) (g / 64)) (g % 64)
-      ≡ ((g == grain) || has_bit (slice_index words (g / 64)) (g % 64))
+    ≡ ((g == grain) || has_bit (slice_index words (g / 64)) (g % 64))
 after_set words grain long h g = elim (cases_eq (g / 64) (grain / 64)) [
   | inl word ↦ replaced_same words (grain / 64) (one_set (slice_index words (grain / 64)) (grain % 64)) (g / 64) (g % 64) (omega (arith, long, h)) word
       ∙ elim (cases_eq (g % 64) (grain % 64)) [
@@ -127,7 +127,7 @@ after_set words grain long h g = elim (cases_eq (g / 64) (grain / 64)) [
 -- After one grain was cleared, a mask's bits are those before but that one.
 pub after_clear : (words : List ℕ) (grain : ℕ) → length words ≡ 4 → grain < 256 → (g : ℕ)
     → has_bit (slice_index (slice_set words (grain / 64) (one_cleared (slice_index words (grain / 64)) (grain % 64))) (g / 64)) (g % 64)
-      ≡ (not (g == grain) && has_bit (slice_index words (g / 64)) (g % 64))
+    ≡ (not (g == grain) && has_bit (slice_index words (g / 64)) (g % 64))
 after_clear words grain long h g = elim (cases_eq (g / 64) (grain / 64)) [
   | inl word ↦ replaced_same words (grain / 64) (one_cleared (slice_index words (grain / 64)) (grain % 64)) (g / 64) (g % 64) (omega (arith, long, h)) word
       ∙ elim (cases_eq (g % 64) (grain % 64)) [
@@ -150,7 +150,7 @@ other_bits mask word b fits h = bit_of_not (slice_index mask.0 word) b (fits wor
 -- A mask of the complements of words has just the bits that aren't set.
 pub after_complement : (mask : Mask4) → WordsFit mask → (g : ℕ) → g < 256
     → has_bit (slice_index ((2 ^ 64 - 1 - slice_index mask.0 0) ∷ (2 ^ 64 - 1 - slice_index mask.0 1) ∷ (2 ^ 64 - 1 - slice_index mask.0 2) ∷ (2 ^ 64 - 1 - slice_index mask.0 3) ∷ []) (g / 64)) (g % 64)
-      ≡ not (is_set mask g)
+    ≡ not (is_set mask g)
 after_complement mask fits g h =
     four_words (2 ^ 64 - 1 - slice_index mask.0 0) (2 ^ 64 - 1 - slice_index mask.0 1) (2 ^ 64 - 1 - slice_index mask.0 2) (2 ^ 64 - 1 - slice_index mask.0 3) (λ x. not (is_set mask x))
     (λ x lt. other_bits mask 0 x fits lt) (λ x lt. other_bits mask 1 x fits lt) (λ x lt. other_bits mask 2 x fits lt) (λ x lt. other_bits mask 3 x fits lt) g h

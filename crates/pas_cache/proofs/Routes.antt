@@ -21,10 +21,9 @@ use Rattle.pas_steps.proofs.Adding.{agreed_later, adds_under, agreed_first, adds
 use Rattle.pas_steps.proofs.{Apart.only_both, Apart.only_within, Apart.events_same, Calls.returns_are, Frames.events_append, Past.always_pair}
 use Rattle.pas_steps.proofs.{Unknown.unknown_no_more, Events.ComesOf, Events.comes_of, Events.each_event}
 use Rattle.pas_search.proofs.ForBackEnds.{events_quiet}
-use Rattle.pas_search.specs.{Kinds.searching, Serving.right_of, Telling.IsTold}
+use Rattle.pas_search.specs.{Kinds.searching, Serving.right_of, Telling.IsTold, Allocates.GaveBlock, Allocates.IsGiven}
 use Rattle.pas_search.specs.Searches.{MaySearch, IsRefused, SearchRoom, search_steps}
 use Rattle.pas_segregated.specs.declared.slots.Slots.{Slots}
-use Rattle.pas_choice.specs.Allocates.{GaveBlock, IsGiven}
 use Rattle.pas_bitfit.specs.Allocates.{bitfit_directory, run_for, IsOfRequest, IsAllocated, Allocates}
 use Rattle.pas_bitfit.specs.Runs.{NoneFits, runs, run_at}
 use Rattle.pas_rights.specs.Gives.{give_steps}
@@ -65,7 +64,7 @@ large_size classes size align e = (subst (IsRouteOf classes size align) e (route
 -- ==== A request goes by its route.
 -- Both facts are at the way, which is the route.
 pub goes : {σ σ' : Standing} {Answers : Option ℕ → Type 0} {Same : Type 0} {wanted : Wanted} {tells : Bool} {c c' : Cached} {answer : Result Block NoRoom}
-      (way : Route) (found : Option ℕ)
+    (way : Route) (found : Option ℕ)
     → wanted.route ≡ way → IsNamed way Answers Same found
     → AllocatesBy way wanted found tells c c' σ σ' answer → AllocatesRequest Answers Same wanted tells c c' σ σ' answer
 goes {σ} {σ'} {Answers} {Same} {wanted} {tells} {c} {c'} {answer} way found route named it = search arith
@@ -184,7 +183,7 @@ bitfit_told f heap room align locals entry exit answer told = grind arith
 -- ---- of a cache
 with_request : (f : Profile) (heap room align : ℕ) (searched after : List Made) (answer : Result Block NoRoom)
     → MatchResult answer (IsGiven (runs (run_for room align)) (run_at (run_for room align)) f (bitfit_directory heap) searched after) (λ why. IsRefused (NoneFits (run_for room align)) f (bitfit_directory heap) searched why
-        × (after ≡ []))
+    × (after ≡ []))
     → MatchResult answer (IsOfRequest room align) (λ why. Unit {0}) → BitfitEnds f heap room align searched after answer
 with_request f heap room align searched after answer given fits = grind arith
 

@@ -10,12 +10,11 @@ use Rattle.pas_bits.specs.{Runs.in_run, Masks.HasMember}
 use Rattle.pas_steps.specs.{Views.View, Views.KnowsDeed, Events.events_by, Agreement.Agreed, Lists.Whole, Evidence.Readings, Evidence.IsAntitone, Calls.Leads}
 use Rattle.pas_steps.specs.{Kinds.Only, Past.Always, Unknown.unknown_pages}
 use Rattle.pas_steps.specs.declared.step.Made.{Made}
-use Rattle.pas_search.specs.{Kinds.AreSearch, Kinds.ReturnsDuly, Searches.search_steps, Searches.IsRefused, Telling.IsTrueReason}
+use Rattle.pas_search.specs.{Kinds.AreSearch, Kinds.ReturnsDuly, Searches.search_steps, Searches.IsRefused, Telling.IsTrueReason, Choices.TookChosen}
 use Rattle.pas_core.specs.Fits.{HasNoFit}
 use Rattle.pas_cache.specs.{Kinds.releasing, Locals.local_for, Locals.others_than, Locals.RestsWith, Caches.Cached, Changes.GivesSlot, Changes.IsTakenOut}
 use Rattle.pas_cache.specs.{Changes.IsShortened}
 use Rattle.pas_segregated.specs.{Takes.NoSlot, Takes.TookSlots, Refills.Filling, Refills.GivesSlots}
-use Rattle.pas_choice.specs.Choices.{TookChosen}
 use Rattle.pas_partial.specs.Rows.{rows}
 use Rattle.pas_large.specs.{Allocates.IsServedNamed, Allocates.IsScanned, Pages.claiming_old}
 use Rattle.pas_bitfit.specs.{Allocates.run_for, Allocates.IsAllocated, Runs.NoneFits}
@@ -52,7 +51,7 @@ pub record ServesBitfit (f : Profile) (wanted : Wanted) (c c' : Cached) (steps :
   pub searches : AreSearch searched
   pub after : List Made
   pub outcome : MatchResult answer (IsAllocated f wanted.directory wanted.room wanted.align searched after) (λ room. IsRefused (NoneFits (run_for wanted.room wanted.align)) f wanted.directory searched room
-        × (after ≡ []))
+      × (after ≡ []))
   pub steps_are : steps ≡ after ++ searched
 
 -- ---- a request for whole pages

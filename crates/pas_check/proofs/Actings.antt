@@ -60,7 +60,7 @@ module _ (f : Profile) (text : List ℕ) (old : Judge) (from : Cursor) (act : Ac
   -- it has one line
   act_of_line : (new : Judge) (to : Cursor) (item : Record)
       → ((s : Stand) (ts : List Task) → IsNext f old s from act ts
-          → ((begun_act f s act).due ≡ Writes item ∷ []) × Stands f new (with_due (after_task f s (Does act) ts) []) from)
+      → ((begun_act f s act).due ≡ Writes item ∷ []) × Stands f new (with_due (after_task f s (Does act) ts) []) from)
       → (is : Bool) → ((s : Stand) (more : List Due) → s.due ≡ Writes item ∷ more → IsLed f text s from (with_due s more) to is)
       → ActTaken f text old from new to act is
   act_of_line new to item begun is led = λ s ts next.

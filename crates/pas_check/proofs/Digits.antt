@@ -6,7 +6,7 @@ use Rattle.std.proofs.lemmas.{Bool.and_parts, Bool.Decides.nat_tests, Grind.pow_
 use Rattle.std.proofs.Math.Nat.{pow-le-pow_right, pow-suc, div-add-mod, div-div-eq-div-mul, mul-add, mul_comm, mul_assoc, mul_left_comm}
 use Rattle.pas_trace.specs.Numbers.{is_digit, all_digits, value_from, hex_value}
 use Rattle.pas_trace.proofs.Digits.{digit-is}
-use Rattle.pas_generated.proofs.Digits.{are-digits}
+use Rattle.pas_generate.proofs.Digits.{are-digits}
 use Rattle.pas_report.specs.Lines.{hex_digit, hex_digits}
 use Rattle.pas_check.specs.Readings.{digits_after, past_digits, number_at, hex_after, small, of_u8, of_u32}
 

@@ -180,7 +180,7 @@ module _ (f : Profile) (text : List ℕ) (old : Judge) (from : Cursor) (w : Want
       pub tried_gives : (machine : Machine) (new : Judge) (at to : Cursor) (block : Block) (is : Bool) → profile_of machine ≡ profile_of old.machine
           → TrialTaken old.machine machine text from at keeper w (Gives block)
           → ((t : Stand) → Stands f (record old { machine = machine }) t at
-              → IsCarried f text (raising (has_sides f block) (with_name t w.name (Some block)) keeper w.name block []) at new to is)
+          → IsCarried f text (raising (has_sides f block) (with_name t w.name (Some block)) keeper w.name block []) at new to is)
           → IsCarried f text s from new to is
       tried_gives machine new at to block is profile taken carried =
           let b = taken s k r [] trying_there in
@@ -205,7 +205,7 @@ module _ (f : Profile) (text : List ℕ) (old : Judge) (from : Cursor) (keeper n
   pub raised : has_sides (profile_of old.machine) block ≡ true → (guards : Vec Guard) → guards.items ≡ old.guards.items ++ guard_of keeper block ∷ []
       → (to : Cursor) (is : Bool)
       → ((s : Stand) (more : List Due) → s.due ≡ Writes (Record.Said keeper (Said.Guarded (page_below block) (page_above block) name)) ∷ more
-          → IsLed f text s from (with_due s more) to is)
+      → IsLed f text s from (with_due s more) to is)
       → (s : Stand) → Stands f old s from → IsCarried f text (raised_from s) from (record old { names = names; guards = guards }) to is
   raised sides guards added to is led s stands =
       let new : Judge = record old { names = names; guards = guards } in

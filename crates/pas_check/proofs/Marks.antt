@@ -26,53 +26,53 @@ all_lines (b ∷ bs) = elim (cases_eq b 10) [
 -- ---- the line from place p on, which is n bytes long
 module _ (input : List ℕ) (p n : ℕ)
     (cut : lines_in (take (length input - p) (drop p input))
-        ≡ take n (take (length input - p) (drop p input)) ∷ lines_in (drop n (take (length input - p) (drop p input))))
-    where
-  line : List ℕ
-  line = take n (drop p input)
+    ≡ take n (take (length input - p) (drop p input)) ∷ lines_in (drop n (take (length input - p) (drop p input))))
+  where
+    line : List ℕ
+    line = take n (drop p input)
 
-  more : List ℕ
-  more = drop (p + n) input
+    more : List ℕ
+    more = drop (p + n) input
 
-  lines_are : lines_in (drop p input) ≡ line ∷ lines_in more
-  unfolding line more
-  lines_are =
-      ap lines_in (sym (take_rest input p)) ∙ cut
-      ∙ (λ i. take n (take_rest input p i) ∷ lines_in (drop n (take_rest input p i)))
-      ∙ ap (λ (bs : List ℕ). take n (drop p input) ∷ lines_in bs) (drop-drop n p input)
+    lines_are : lines_in (drop p input) ≡ line ∷ lines_in more
+    unfolding line more
+    lines_are =
+        ap lines_in (sym (take_rest input p)) ∙ cut
+        ∙ (λ i. take n (take_rest input p i) ∷ lines_in (drop n (take_rest input p i)))
+        ∙ ap (λ (bs : List ℕ). take n (drop p input) ∷ lines_in bs) (drop-drop n p input)
 
-  line_is : take (p + n - p) (drop p input) ≡ line
-  unfolding line
-  line_is = ap (λ (m : ℕ). take m (drop p input)) (omega arith)
+    line_is : take (p + n - p) (drop p input) ≡ line
+    unfolding line
+    line_is = ap (λ (m : ℕ). take m (drop p input)) (omega arith)
 
-  marked : is_mark (take (p + n - p) (drop p input)) ≡ true → is_mark line ≡ true
-  marked is = ap is_mark (sym line_is) ∙ is
+    marked : is_mark (take (p + n - p) (drop p input)) ≡ true → is_mark line ≡ true
+    marked is = ap is_mark (sym line_is) ∙ is
 
-  unmarked : is_mark (take (p + n - p) (drop p input)) ≡ false → is_mark line ≡ false
-  unmarked is = ap is_mark (sym line_is) ∙ is
+    unmarked : is_mark (take (p + n - p) (drop p input)) ≡ false → is_mark line ≡ false
+    unmarked is = ap is_mark (sym line_is) ∙ is
 
-  -- behind the mark the transcript begins
-  pub past_mark : is_mark (take (p + n - p) (drop p input)) ≡ true → transcript_in (drop p input) ≡ take (length input - (p + n)) (drop (p + n) input)
-  unfolding more
-  past_mark is =
-      ap (λ (ls : List (List ℕ)). concat (after_mark ls)) lines_are
-      ∙ ap (λ (t : Bool). concat (if t then lines_in more else after_mark (lines_in more))) (marked is)
-      ∙ all_lines more ∙ sym (take_rest input (p + n))
+    -- behind the mark the transcript begins
+    pub past_mark : is_mark (take (p + n - p) (drop p input)) ≡ true → transcript_in (drop p input) ≡ take (length input - (p + n)) (drop (p + n) input)
+    unfolding more
+    past_mark is =
+        ap (λ (ls : List (List ℕ)). concat (after_mark ls)) lines_are
+        ∙ ap (λ (t : Bool). concat (if t then lines_in more else after_mark (lines_in more))) (marked is)
+        ∙ all_lines more ∙ sym (take_rest input (p + n))
 
-  -- another line belongs to the trace
-  pub past_line : is_mark (take (p + n - p) (drop p input)) ≡ false → trace_in input ≡ take p input ++ trace_in (drop p input)
-      → trace_in input ≡ take (p + n) input ++ trace_in (drop (p + n) input)
-  unfolding line more
-  past_line is so_far =
-      so_far
-      ∙ ap (λ (ls : List (List ℕ)). take p input ++ concat (before_mark ls)) lines_are
-      ∙ ap (λ (t : Bool). take p input ++ concat (if t then [] else line ∷ before_mark (lines_in more))) (unmarked is)
-      ∙ sym (append_assoc (take p input) line (trace_in more))
-      ∙ ap (λ (bs : List ℕ). bs ++ trace_in more) (sym (take-add p n input))
+    -- another line belongs to the trace
+    pub past_line : is_mark (take (p + n - p) (drop p input)) ≡ false → trace_in input ≡ take p input ++ trace_in (drop p input)
+        → trace_in input ≡ take (p + n) input ++ trace_in (drop (p + n) input)
+    unfolding line more
+    past_line is so_far =
+        so_far
+        ∙ ap (λ (ls : List (List ℕ)). take p input ++ concat (before_mark ls)) lines_are
+        ∙ ap (λ (t : Bool). take p input ++ concat (if t then [] else line ∷ before_mark (lines_in more))) (unmarked is)
+        ∙ sym (append_assoc (take p input) line (trace_in more))
+        ∙ ap (λ (bs : List ℕ). bs ++ trace_in more) (sym (take-add p n input))
 
-  -- The transcript of an input is the same after a first line that isn't the mark.
-  pub same_rest : is_mark (take (p + n - p) (drop p input)) ≡ false → transcript_in (drop p input) ≡ transcript_in (drop (p + n) input)
-  unfolding more
-  same_rest is =
-      ap (λ (ls : List (List ℕ)). concat (after_mark ls)) lines_are
-      ∙ ap (λ (t : Bool). concat (if t then lines_in more else after_mark (lines_in more))) (unmarked is)
+    -- The transcript of an input is the same after a first line that isn't the mark.
+    pub same_rest : is_mark (take (p + n - p) (drop p input)) ≡ false → transcript_in (drop p input) ≡ transcript_in (drop (p + n) input)
+    unfolding more
+    same_rest is =
+        ap (λ (ls : List (List ℕ)). concat (after_mark ls)) lines_are
+        ∙ ap (λ (t : Bool). concat (if t then lines_in more else after_mark (lines_in more))) (unmarked is)

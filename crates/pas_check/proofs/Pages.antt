@@ -114,7 +114,7 @@ module _ (s : Stand) (shown : Shown) (tells : TellsPage s.events shown) where
 
 -- the same, whatever the page's number and directory are called
 pub page_led : (f : Profile) (text : List ℕ) (s : Stand) (shown : Shown) (page : ℕ) (d : Directory) (old new : Cursor) (more : List Due) (line : List ℕ)
-      (is : Bool)
+    (is : Bool)
     → TellsPage s.events shown
     → shown.page ≡ page → shown.directory ≡ d → s.due ≡ Shows page d ∷ more → new.lines ≡ old.lines + 1 → lines_from text old ≡ line ∷ lines_from text new
     → IsWithin text new

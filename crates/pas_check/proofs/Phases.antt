@@ -96,7 +96,7 @@ phases_there f limit phases i d lt planned =
 -- The acts from a phase on are its mark, its own acts and those from the next phase on.
 pub phase_at : (threads keepers n : ℕ) (phases : List Phase) (i : ℕ) (d : Phase) → i < length phases
     → acts_from threads keepers n (map ops_of (drop i phases))
-      ≡ MarksPhase n ∷ (phase_acts threads (ops_of (get_or phases i d)) ++ acts_from threads keepers (n + 1) (map ops_of (drop (i + 1) phases)))
+    ≡ MarksPhase n ∷ (phase_acts threads (ops_of (get_or phases i d)) ++ acts_from threads keepers (n + 1) (map ops_of (drop (i + 1) phases)))
 phase_at threads keepers n phases i d lt = ap (λ (ps : List Phase). acts_from threads keepers n (map ops_of ps)) (drop_more phases i d lt)
 
 first_phase : (threads keepers : ℕ) (phases : List Phase) (d : Phase) → 0 < length phases

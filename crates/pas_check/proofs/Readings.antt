@@ -5,7 +5,7 @@ use Rattle.pas_profile.specs.{Classes.IsClass, Classes.class_size, Requests.kind
 use Rattle.pas_profile.proofs.Sizes.{class_passes, class_size_le}
 use Rattle.std.proofs.lemmas.Bool.{and_parts, false≢true, Decides.nat_tests}
 use Rattle.pas_trace.specs.Numbers.{is_digit, all_digits}
-use Rattle.pas_generated.proofs.Digits.{are-digits}
+use Rattle.pas_generate.proofs.Digits.{are-digits}
 use Rattle.pas_profile.specs.declared.{directory.Kind.Kind, directory.Directory.Directory, name.Name.Name, name.Block.Block, event.Event.Event, event.Why.Why}
 use Rattle.pas_report.specs.declared.record.{Said.Said, Record.Record}
 use Rattle.pas_report.specs.Lines.{hex_digits, kind_text, name_text, line_of, line_of_event, line_of_answer, CanShow}
@@ -51,7 +51,7 @@ directory_is d heap kind = search (arith, u8_back, past_number, kind_is)
 -- ---- events
 deed_is : (k page : ℕ) (d : Directory) → FitsEvent (Event.Deed k page d)
     → deed_at k (codes " deed page " ++ (decimal page ++ (codes " heap " ++ (decimal d.heap ++ (codes " " ++ (kind_text d.kind ++ codes "\n"))))))
-      ≡ Event.Deed k page d
+    ≡ Event.Deed k page d
 deed_is k page d fits = search (arith, u32_back, past_number, directory_is)
 
 back_is : (k page : ℕ) → page < 2 ^ 32 → back_at k (codes " back page " ++ (decimal page ++ codes "\n")) ≡ Event.Back k page
@@ -63,7 +63,7 @@ unback_is k page epoch fits small = search (arith, u32_back, past_number, number
 
 give_is : (k : ℕ) (block : Block) → FitsBlock block
     → give_at k (codes " give" ++ (name_text block.name ++ (codes " room " ++ (decimal block.room ++ (codes " heap " ++ (decimal block.heap ++ codes "\n"))))))
-      ≡ Event.Give k block
+    ≡ Event.Give k block
 give_is k block fits =
     let last : List ℕ = codes "heap " ++ (decimal block.heap ++ codes "\n") in
     let rest : List ℕ = codes "room " ++ (decimal block.room ++ 32 ∷ last) in
@@ -79,7 +79,7 @@ freed_is k name epoch fits small = search (arith, past_is, name_is, number_back)
 
 size_differs_is : (k : ℕ) (name : Name) (room : ℕ) → FitsName name → room < 2 ^ 32
     → size_differs_at k (codes " size-differs" ++ (name_text name ++ (codes " asked " ++ (decimal room ++ codes "\n"))))
-      ≡ Event.Reject k name (Why.SizeDiffers room)
+    ≡ Event.Reject k name (Why.SizeDiffers room)
 size_differs_is k name room fits small = search (arith, past_is, name_is, u32_back)
 
 -- ---- answers
@@ -93,7 +93,7 @@ young_is page stamp fits small = search (arith, u32_back, past_number, number_ba
 
 in_use_is : (page word value : ℕ) → page < 2 ^ 32 → word < 2 ^ 8 → value < 2 ^ 64
     → in_use_at (codes " in-use page " ++ (decimal page ++ (codes " word " ++ (decimal word ++ (codes " value 0x" ++ (hex_digits 16 value ++ codes "\n"))))))
-      ≡ Said.InUse page word value
+    ≡ Said.InUse page word value
 in_use_is page word value fits few small =
     let last : List ℕ = codes "value 0x" ++ (hex_digits 16 value ++ codes "\n") in
     let rest : List ℕ = codes "word " ++ (decimal word ++ 32 ∷ last) in
@@ -109,7 +109,7 @@ kept_is block name fits small = search (arith, past_is, name_is, u32_back)
 
 guarded_is : (low high name : ℕ) → low < 2 ^ 32 → high < 2 ^ 32 → name < 2 ^ 32
     → guarded_at (codes " guarded " ++ (decimal low ++ (codes " " ++ (decimal high ++ (codes " name " ++ (decimal name ++ codes "\n"))))))
-      ≡ Said.Guarded low high name
+    ≡ Said.Guarded low high name
 guarded_is low high name fits few small = search (arith, past_number, u32_back)
 
 lowered_is : (low high : ℕ) → low < 2 ^ 32 → high < 2 ^ 32

@@ -133,7 +133,7 @@ module _ (old : Machine) (text : List ℕ) (from : Cursor) (keeper : ℕ) (w : W
       not_kept : (stood new : Machine) → PreparingTaken mid stood keeper w.directory line false → GiveTaken stood new keeper w line None
           → (s : Stand) (k : ℕ) (r : Request) (more : List Due) (asked : IsTrying old s from keeper k w r more) (next : Stand)
           → TakesKeeping (profile_of old) (t s k r more asked) keeper k r backed more line next
-            ⊎ TakesGuarded (profile_of old) (t s k r more asked) keeper r more line next
+          ⊎ TakesGuarded (profile_of old) (t s k r more asked) keeper r more line next
           → ⊥
       not_kept stood new none given s k r more asked next (inl x) =
           let u = t s k r more asked in

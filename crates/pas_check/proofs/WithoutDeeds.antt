@@ -72,7 +72,7 @@ module _ (n : ℕ) (all : n ≡ 256) (es : List Event) where
 
   live_more_of : (k : ℕ)
       → count_below (256 * (k + 1)) (λ i. has_block (live_in es (address_at i)))
-        ≡ count_below (256 * k) (λ i. has_block (live_in es (address_at i))) + live_on es (k + 1)
+      ≡ count_below (256 * k) (λ i. has_block (live_in es (address_at i))) + live_on es (k + 1)
   live_more_of k =
       let p : ℕ → Bool = λ i. has_block (live_in es (address_at i)) in
       let e : 256 * (k + 1) ≡ 256 * k + n = omega (arith, all) in
@@ -100,7 +100,7 @@ none_live es = none_live_of 256 refl es
 -- ---- the blocks of the region, one page more
 pub live_more : (es : List Event) (k : ℕ)
     → count_below (256 * (k + 1)) (λ i. has_block (live_in es (address_at i)))
-      ≡ count_below (256 * k) (λ i. has_block (live_in es (address_at i))) + live_on es (k + 1)
+    ≡ count_below (256 * k) (λ i. has_block (live_in es (address_at i))) + live_on es (k + 1)
 live_more es = live_more_of 256 refl es
 
 -- The blocks that were given on the pages up to one are those on the pages before it and its own.

@@ -117,7 +117,7 @@ deed_agrees x z k q d p old a es xe is ze h = grind (arith, eqb-true)
 
 deed_step : (l : Whole) (k e : ℕ) (s : Step) (a p : ℕ) → a ≡ word_after l (target s) → word_after l (Word.Deed p) ≡ word_of_deed (deed_in (visible l) p)
     → (if same_word (target s) (Word.Deed p) then new_value e s (word_after l (Word.Deed p)) else word_after l (Word.Deed p))
-      ≡ word_of_deed (deed_in (with_event (event_of k e s a) (visible l)) p)
+    ≡ word_of_deed (deed_in (with_event (event_of k e s a) (visible l)) p)
 deed_step l k e (Look word) a p is h = looked (same_word word (Word.Deed p)) (word_after l (Word.Deed p)) ∙ h
 deed_step l k e (Deed q d) a p is h = deed_agrees (q == p) (a == 0) k q d p (word_after l (Word.Deed p)) a (visible l) refl (λ t. is ∙ ap (λ n. word_after l (Word.Deed n)) (eqb-true q p t)) refl h
 deed_step l k e (Back q) a p is h = h ∙ ap word_of_deed (sym (event_if (λ x. deed_in x p ≡ deed_in (visible l) p) (a == 0) (Event.Back k q) (visible l) refl refl))
@@ -171,7 +171,7 @@ unback_agrees x old was h = grind arith
 
 back_step : (l : Whole) (k e : ℕ) (s : Step) (a p : ℕ) → a ≡ word_after l (target s) → word_after l (Word.Backed p) ≡ word_of_backed (backed_in (visible l) p)
     → (if same_word (target s) (Word.Backed p) then new_value e s (word_after l (Word.Backed p)) else word_after l (Word.Backed p))
-      ≡ word_of_backed (backed_in (with_event (event_of k e s a) (visible l)) p)
+    ≡ word_of_backed (backed_in (with_event (event_of k e s a) (visible l)) p)
 back_step l k e (Look word) a p is h = looked (same_word word (Word.Backed p)) (word_after l (Word.Backed p)) ∙ h
 back_step l k e (Deed q d) a p is h = h ∙ ap word_of_backed (sym (event_if (λ x. backed_in x p ≡ backed_in (visible l) p) (a == 0) (Event.Deed k q d) (visible l) refl refl))
 back_step l k e (Back q) a p is h = back_agrees (q == p) (a == 0) k q p (word_after l (Word.Backed p)) a (visible l) refl (λ t. is ∙ ap (λ n. word_after l (Word.Backed n)) (eqb-true q p t)) refl h

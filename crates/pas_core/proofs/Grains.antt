@@ -107,7 +107,7 @@ rests_free t was m h = cond_both t m Stays (λ x. was ≡ free_moved x was) (λ 
 -- what a step does to the bit of a grain
 pub free_step : (f : Profile) (l : Whole) (e : ℕ) (s : Step) (a g : ℕ) → IsStepOf f s → a ≡ word_after l (target s)
     → has_bit (if same_word (target s) (free_word_at g) then new_value e s (word_after l (free_word_at g)) else word_after l (free_word_at g)) (g % 64)
-      ≡ free_moved (grain_move s a g) (has_bit (word_after l (free_word_at g)) (g % 64))
+    ≡ free_moved (grain_move s a g) (has_bit (word_after l (free_word_at g)) (g % 64))
 free_step f l e (Look word) a g of is = ap (λ n. has_bit n (g % 64)) (looked (same_word word (free_word_at g)) (word_after l (free_word_at g)))
 free_step f l e (Take page word mask) a g of is = take_free ((word == g / 64 % 4) && (page == g / 256)) (word_after l (free_word_at g)) a mask (g % 64) (λ h. is ∙ free_same l page word g h) of.2 (omega arith)
 free_step f l e (Put page word mask) a g of is = put_free ((word == g / 64 % 4) && (page == g / 256)) (word_after l (free_word_at g)) mask (g % 64)
@@ -151,7 +151,7 @@ end_covers x c b g turn n old a e ht hn same z is r run = grind (arith, covers_e
 covered_step : (f : Profile) (l : Whole) (k e : ℕ) (s : Step) (a g b : ℕ) → IsValid f → ((g : ℕ) → IsPlacedOnce l g) → IsStepOf f s → Allowed f (part k l) s
     → a ≡ word_after l (target s)
     → covers (if same_word (target s) (life_word_at b) then new_value e s (word_after l (life_word_at b)) else word_after l (life_word_at b)) b g
-      ≡ covered_moved (grain_move s a g) b (covers (word_after l (life_word_at b)) b g)
+    ≡ covered_moved (grain_move s a g) b (covers (word_after l (life_word_at b)) b g)
 covered_step f l k e (Look word) a g b valid placed of allowed is = ap (λ n. covers n b g) (looked (same_word word (life_word_at b)) (word_after l (life_word_at b)))
 covered_step f l k e (Take page word mask) a g b valid placed of allowed is = rests_covered (in_mask page word mask g && has_bit a (g % 64)) (covers (word_after l (life_word_at b)) b g) Gets b refl
 covered_step f l k e (Put page word mask) a g b valid placed of allowed is = rests_covered (in_mask page word mask g) (covers (word_after l (life_word_at b)) b g) Puts b refl

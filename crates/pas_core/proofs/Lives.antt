@@ -50,7 +50,7 @@ word_is l a c g is x = is ∙ ap (λ b. word_after l (life_word_at b)) (eqb-true
 life_rests : (f : Profile) (l : Whole) (k e : ℕ) (s : Step) (a g : ℕ) → IsStepOf f s → Allowed f (part k l) s → a ≡ word_after l (target s)
     → is_still (grain_move s a g) ≡ true
     → (if same_word (target s) (life_word_at g) then new_value e s (word_after l (life_word_at g)) else word_after l (life_word_at g))
-      ≡ word_after l (life_word_at g)
+    ≡ word_after l (life_word_at g)
 life_rests f l k e (Look word) a g of allowed is still = looked (same_word word (life_word_at g)) (word_after l (life_word_at g))
 life_rests f l k e (Give block) a g of allowed is still =
     as_test (same_word (life_word_at (grain_of block.name)) (life_word_at g)) (grain_of block.name == g) (λ w. w ≡ word_after l (life_word_at g)) (live_word block.name.turn (length_of block)) (word_after l (life_word_at g)) (life_same (grain_of block.name) g)

@@ -40,7 +40,7 @@ agreed_steps f k l (m ∷ xs) valid legal = (agrees_next f (triples k xs ++ l) k
 value_next : (f : Profile) (words : List ℕ) (l : Whole) (w : Word) (e k : ℕ) (s : Step) (n : ℕ) → n ≡ slice_index words (index_of f.pages (target s))
     → slice_index words (index_of f.pages w) ≡ word_after l w → e ≡ epoch_of (part k l) → (same : Bool) → same_word (target s) w ≡ same
     → (if same then new_value e s n else slice_index words (index_of f.pages w))
-      ≡ (if same then new_value (epoch_of (part k l)) s (word_after l w) else word_after l w)
+    ≡ (if same then new_value (epoch_of (part k l)) s (word_after l w) else word_after l w)
 value_next f words l w e k s n is ends ep same h = grind (arith, same_word-true)
 
 -- the place of the step's word has its new value, for an actor that knows this epoch

@@ -487,7 +487,7 @@ ends_by : {σ σ1 : Standing} (entry : Entry) (outcome : Outcome) (directory : O
     → directory ≡ directory_read deed → TriesBy (is_sized entry) entry (guess_by (directory_read deed)) guess before
     → Adds σ σ1 KnowsEpoch (made (last_step (is_sized entry) entry guess) a ∷ before ++ first_look entry.name deed) → CanCall σ KnowsEpoch
     → ((v : View) → AgreesEnd σ.seat.profile (before ++ first_look entry.name deed ++ v) entry.name guess a
-        → IsEndOf entry guess a outcome × IsOfRegion σ.seat.profile entry.name outcome)
+    → IsEndOf entry guess a outcome × IsOfRegion σ.seat.profile entry.name outcome)
     → EndsOne entry σ σ1 outcome directory
 ends_by {σ} entry outcome directory deed guess a before tells tries adds can told =
     let last = last_ends (is_sized entry) entry guess (guess_is (is_sized entry) entry (guess_by (directory_read deed)) guess before tries) in
@@ -506,7 +506,7 @@ pub ends_named : {σ σ1 σ2 : Standing} (name : Name) (outcome : Outcome) (dire
     → Makes σ1 σ2 (End name guess) a
     → CanCall σ KnowsEpoch
     → ((v : View) → AgreesEnd σ.seat.profile (before ++ first_look name deed ++ v) name guess a
-        → IsEndOf (entry_of name) guess a outcome × IsOfRegion σ.seat.profile name outcome)
+    → IsEndOf (entry_of name) guess a outcome × IsOfRegion σ.seat.profile name outcome)
     → EndsOne (entry_of name) σ σ2 outcome directory
 ends_named name outcome directory deed guess a before tells tries adds makes = ends_by (entry_of name) outcome directory deed guess a before tells tries (tried name deed (guess_by (directory_read deed)) guess a before tries adds makes)
 
@@ -515,7 +515,7 @@ pub ends_by_room : {σ σ1 σ2 : Standing} (entry : Entry) (outcome : Outcome) (
     → directory ≡ directory_read deed → Adds σ σ1 KnowsEpoch (first_look entry.name deed) → Makes σ1 σ2 (EndSized entry.name entry.room) a
     → CanCall σ KnowsEpoch
     → ((v : View) → AgreesEnd σ.seat.profile (first_look entry.name deed ++ v) entry.name (entry.room / 16) a
-        → IsEndOf entry (entry.room / 16) a outcome × IsOfRegion σ.seat.profile entry.name outcome)
+    → IsEndOf entry (entry.room / 16) a outcome × IsOfRegion σ.seat.profile entry.name outcome)
     → EndsOne entry σ σ2 outcome directory
 ends_by_room {σ} {σ2 = σ2} entry outcome directory deed a sized tells adds makes can told =
     ends_by entry outcome directory deed (entry.room / 16) a [] tells (subst (λ t. TriesBy t entry (guess_by (directory_read deed)) (entry.room / 16) []) (sym sized) (refl, refl))

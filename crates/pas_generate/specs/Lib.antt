@@ -3,3 +3,4 @@ pub mod Requests
 pub mod Operations
 pub mod Lines
 pub mod Traces
+pub mod Meant

@@ -1,7 +1,7 @@
-//! Traces that are made by a small generator of random numbers: large jobs that are the same each time.
-//!
-//! The generator draws from a linear congruential sequence. Half of its operations allocate, and the others free one of
-//! the blocks that are left; every thousandth makes a pass and begins a phase, and the one before it ticks.
+//! Traces that are made by a small generator of random numbers: large jobs that are the same each time, and are read
+//! without a fault. The generator draws from a linear congruential sequence. Half of its operations allocate, and the
+//! others free one of the blocks that are left; every thousandth makes a pass and begins a phase, and the one before it
+//! ticks.
 #![tactic(auto)]
 
 mod draws;

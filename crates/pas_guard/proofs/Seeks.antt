@@ -725,8 +725,8 @@ looks_low low high a some makes = record { steps = look_at low a ∷ []; adds = 
 
 two_reads : (low high a b : ℕ) → a ≡ 0 → (bare : Bool) → (b == 0) ≡ bare
     → MatchBool bare (Once (ZeroBackedHere low) (look_at high b ∷ look_at low a ∷ [])
-        × Once (ZeroBackedHere high) (look_at high b ∷ look_at low a ∷ [])) (Once (SomeBackedHere low) (look_at high b ∷ look_at low a ∷ [])
-          ⊎ Once (SomeBackedHere high) (look_at high b ∷ look_at low a ∷ []))
+    × Once (ZeroBackedHere high) (look_at high b ∷ look_at low a ∷ [])) (Once (SomeBackedHere low) (look_at high b ∷ look_at low a ∷ [])
+    ⊎ Once (SomeBackedHere high) (look_at high b ∷ look_at low a ∷ []))
 two_reads low high a b bare h is = search (arith, eqb-true, true≢false, eq-eqb)
 
 -- The backed words of both outer pages show whether the run can be guarded, where the low one is 0.

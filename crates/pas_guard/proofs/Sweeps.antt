@@ -164,7 +164,7 @@ no_rest kept (g ∷ rest) le = absurd (let n = length-append kept (g ∷ rest) i
 
 -- Once all guards that are up were looked over, the book is swept.
 pub swept_all : {σ σ1 : Standing} (all : Bool) (guards up : List Guard) (place : ℕ) (said said' : List Record)
-      (so : SweptSoFar all guards up place said said' σ σ1)
+    (so : SweptSoFar all guards up place said said' σ σ1)
     → length up ≤ place → Sweeps all guards up said said' σ σ1
 swept_all {σ} all guards up place said said' so le =
     let none = no_rest so.kept so.rest (let e = ap (λ (xs : List Guard). length xs) so.up in omega (arith, e, so.at, le)) in

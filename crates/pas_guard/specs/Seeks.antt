@@ -27,7 +27,7 @@ pub record LooksBacked (low high : ℕ) (desk desk' : Standing) (bare : Bool) : 
   pub kinds : Only backed_looks steps
   pub few : length steps ≤ 2
   pub outcome : MatchBool bare (Once (ZeroBackedHere low) steps
-        × Once (ZeroBackedHere high) steps) (Once (SomeBackedHere low) steps ⊎ Once (SomeBackedHere high) steps)
+      × Once (ZeroBackedHere high) steps) (Once (SomeBackedHere low) steps ⊎ Once (SomeBackedHere high) steps)
 
 -- ---- the search
 -- a later step moves no grain of the page and doesn't back it

@@ -183,7 +183,7 @@ named_whole {σ} d n first found claim valid kind v l own met agreed legal =
 
 -- A named run that was claimed and then given allocates a large block.
 pub serves_named : {σ σ1 σ2 : Standing} (heap n first : ℕ) (found : Option ℕ) (tells : Bool)
-      (claim : ClaimsNamed (large_directory heap) n found σ σ1 (Some first)) (block : Block)
+    (claim : ClaimsNamed (large_directory heap) n found σ σ1 (Some first)) (block : Block)
     → IsValid σ.seat.profile → (tells ≡ true → Tells σ2)
     → (tells ≡ true → (v : View) (l : Whole) → σ.stands v l → part σ.seat.actor l ≡ v) → GivesRun (large_directory heap) first n block σ1 σ2
     → AllocatesLarge heap n found tells σ σ2 (Ok block)

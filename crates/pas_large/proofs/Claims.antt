@@ -393,7 +393,7 @@ left_none d first = record {
 
 module _ {σ σ1 : Standing} (d : Directory) (first end page : ℕ) (low : first ≤ page) (high : page < end) (so_far : Releases d first page σ σ1) where
   known : Calls σ σ1 (HasPages d first end) (λ v w. Does (of_pages (in_span first page) Lost) v w
-        × ((p : ℕ) → in_span first end p ≡ true → KnowsDeed p d w)) so_far.steps
+      × ((p : ℕ) → in_span first end p ≡ true → KnowsDeed p d w)) so_far.steps
   known = call_knowing d (in_span first end) (pages_call d first page end (omega (arith, high)) so_far.calls) (λ v met. met.deeds)
 
   leave_may : (v : View) → HasPages d first end v

@@ -131,7 +131,7 @@ module _ (d : Directory) (page : ℕ) (got : Mask4) {σ σ1 : Standing} (taken :
     -- what was got is lost again
     again : (t had : Bool) → (t ≡ true → had ≡ false)
         → (later (if t then Gained else Kept) (if t then Lost else Kept) ≡ Kept)
-          ⊎ ((had ≡ false) × (now (later (if t then Gained else Kept) (if t then Lost else Kept)) false ≡ false))
+        ⊎ ((had ≡ false) × (now (later (if t then Gained else Kept) (if t then Lost else Kept)) false ≡ false))
     again t had none = grind arith
 
     left_call : Calls σ σ2 (MayServe page d) (Does (right_of page Lost)) ((back.after ++ back.puts) ++ ts)
@@ -216,7 +216,7 @@ module _ {σ σ1 : Standing} (deeds : Bool) (d : Directory) (page a : ℕ) (m : 
       → (got ≡ false → (x : Directory) → m.step ≡ Deed page x → m.answer ≡ 0 → ⊥)
       → (got ≡ false → deeds ≡ false → LostRightHere d page m (deed_look page a ∷ []))
       → (got ≡ false → (before : List Made) (v : View) → LeftAlone page before → ReadUsable d page before → Agreed σ.seat.profile v (pair ++ before)
-          → LostHere d page m (deed_look page a ∷ before))
+      → LostHere d page m (deed_look page a ∷ before))
       → MatchBool got (GetsRightOf σ.seat.profile d page pair) (LosesRightOf deeds σ.seat.profile d page pair)
   pair_outcome true right known gets undeeded missed lost = record {
     leads = record { from = λ v met agreed. let does = pair_does Gained v agreed (right v) in record { does = does; may = record { right = right v; deed = known refl v agreed; clear = does.clear page (met.clear.on page) } } };

@@ -84,25 +84,25 @@ pub of_page : (l : Whole) (page b : ℕ) → free_of_page l page b ≡ has_bit (
 of_page l page b = let bit : b % 64 ≡ (page * 256 + b) % 64 = omega arith in ap (λ n. has_bit (word_after l (free_word_at (page * 256 + b))) n) bit
 
 module _ (f : Profile) (k : ℕ) (l : Whole) (d : Directory) (p : ℕ) (steps : List Made) (legal : Legal f (triples k steps ++ l)) (only : Only looking steps)
-    where
-  of_told : Once (OfHere d p) steps → word_after l (Word.Deed p) ≡ deed_word_of d
-  of_told = once_of (OfHere d p) f k l (word_after l (Word.Deed p) ≡ deed_word_of d) steps legal only (λ m before t ok looks x. sym (deed_told l p m.step m.answer x.0 t.is) ∙ x.1)
+  where
+    of_told : Once (OfHere d p) steps → word_after l (Word.Deed p) ≡ deed_word_of d
+    of_told = once_of (OfHere d p) f k l (word_after l (Word.Deed p) ≡ deed_word_of d) steps legal only (λ m before t ok looks x. sym (deed_told l p m.step m.answer x.0 t.is) ∙ x.1)
 
-  none_told : Once (NoDeedHere p) steps → word_after l (Word.Deed p) ≡ 0
-  none_told = once_of (NoDeedHere p) f k l (word_after l (Word.Deed p) ≡ 0) steps legal only (λ m before t ok looks x. sym (deed_told l p m.step m.answer x.0 t.is) ∙ x.1)
+    none_told : Once (NoDeedHere p) steps → word_after l (Word.Deed p) ≡ 0
+    none_told = once_of (NoDeedHere p) f k l (word_after l (Word.Deed p) ≡ 0) steps legal only (λ m before t ok looks x. sym (deed_told l p m.step m.answer x.0 t.is) ∙ x.1)
 
-  one_told : Once (OneHere d p) steps → eligible_bit l (number_of d) p ≡ true
-  one_told = once_of (OneHere d p) f k l (eligible_bit l (number_of d) p ≡ true) steps legal only (λ m before t ok looks x. sym (eligible_told l d p m.step m.answer x.0 t.is) ∙ x.1)
+    one_told : Once (OneHere d p) steps → eligible_bit l (number_of d) p ≡ true
+    one_told = once_of (OneHere d p) f k l (eligible_bit l (number_of d) p ≡ true) steps legal only (λ m before t ok looks x. sym (eligible_told l d p m.step m.answer x.0 t.is) ∙ x.1)
 
-  whole_told : (word b : ℕ) → word < 4 → b < 64 → Once (WholeHere p word) steps → free_of_page l p (64 * word + b) ≡ true
-  whole_told word b small lt = once_of (WholeHere p word) f k l (free_of_page l p (64 * word + b) ≡ true) steps legal only
-      (λ m before t ok looks x. sym (grain_bit l p word b small lt) ∙ ap (λ n. has_bit n b) (sym (free_told l p word m.step m.answer x.0 t.is))
-      ∙ sym (ap (λ t. has_bit m.answer b || t) (holds_none_by looking refl (p * 256 + (64 * word + b)) before looks) ∙ or-false (has_bit m.answer b)) ∙ x.1 b lt)
+    whole_told : (word b : ℕ) → word < 4 → b < 64 → Once (WholeHere p word) steps → free_of_page l p (64 * word + b) ≡ true
+    whole_told word b small lt = once_of (WholeHere p word) f k l (free_of_page l p (64 * word + b) ≡ true) steps legal only
+        (λ m before t ok looks x. sym (grain_bit l p word b small lt) ∙ ap (λ n. has_bit n b) (sym (free_told l p word m.step m.answer x.0 t.is))
+        ∙ sym (ap (λ t. has_bit m.answer b || t) (holds_none_by looking refl (p * 256 + (64 * word + b)) before looks) ∙ or-false (has_bit m.answer b)) ∙ x.1 b lt)
 
-  -- A page that looks alone read as usable is usable.
-  pub usable_told : ReadUsable d p steps → IsUsablePage d l p
-  usable_told (inl bare) = inl (none_told bare)
-  usable_told (inr whole) = search (arith, of_told, one_told, whole_told)
+    -- A page that looks alone read as usable is usable.
+    pub usable_told : ReadUsable d p steps → IsUsablePage d l p
+    usable_told (inl bare) = inl (none_told bare)
+    usable_told (inr whole) = search (arith, of_told, one_told, whole_told)
 
 -- all grains of a usable page are free
 pub usable_free : (f : Profile) (d : Directory) (l : Whole) (p : ℕ) → Legal f l → IsUsablePage d l p → (b : ℕ) → b < 256 → free_of_page l p b ≡ true

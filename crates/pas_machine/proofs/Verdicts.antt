@@ -577,7 +577,7 @@ pub give_made : (f : Profile) (pages : List Page) (places : List Place) (covered
     → ((k : ℕ) (es : List Event) → Shows f pages places covered es → IsVerdict f es (Event.Give k block) None) → (k : ℕ) (es : List Event)
     → Shows f pages places covered es
     → Admits f es (Event.Give k block)
-      × Shows f pages (set places first (record { lives = true; heap = block.heap; room = block.room; gives = p.gives + 1 })) covered' (Event.Give k block ∷ es)
+    × Shows f pages (set places first (record { lives = true; heap = block.heap; room = block.room; gives = p.gives + 1 })) covered' (Event.Give k block ∷ es)
 give_made f pages places covered covered' len first n block p e e' inside same sized read marked below above none k es shows =
     let may : Admits f es (Event.Give k block) = admits_of f es (Event.Give k block) (none k es shows) in
     let at = place_at f pages places covered es shows block inside len same sized p (rw e at read) in
@@ -674,7 +674,7 @@ end_shows f pages pages' places covered covered' es shows k name epoch place blo
 
 -- An end that is admitted, noted at its place, its grains and its pages, makes tables that show it.
 pub end_made : (f : Profile) (pages pages' : List Page) (places : List Place) (covered covered' : List Bool) (len first n : ℕ) (name : Name) (epoch : ℕ)
-      (block : Block) (p : Place)
+    (block : Block) (p : Place)
     → first ≡ grain_of name → n ≡ length_of block → IsPlace f (address_of name)
     → len ≡ length places → len ≡ grains_of f → p ≡ get_or places first p → IsEach first (first + n) (λ x. get_or covered' x false ≡ false)
     → ((y : ℕ) → y < first → get_or covered' y false ≡ get_or covered y false) → ((y : ℕ) → first + n ≤ y → get_or covered' y false ≡ get_or covered y false)

@@ -11,7 +11,7 @@ use Rattle.pas_profile.specs.Classes.{IsClass, class_grains, IsSlotStart}
 use Rattle.pas_profile.proofs.ClassFacts.{class_grains_positive, first_slot, slot_end, slot_lt}
 use Rattle.pas_segregated.specs.{Masks.start_of, Masks.AreStarts, Takes.NoSlot, Takes.AreFreeSlots}
 use Rattle.pas_segregated.proofs.Starts.{start_at, start_below}
-use Rattle.pas_choice.specs.Choices.{IsUnfit, IsChosen}
+use Rattle.pas_search.specs.Choices.{IsUnfit, IsChosen}
 
 -- ==== A row of slots, longer by one place each time.
 

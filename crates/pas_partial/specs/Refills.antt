@@ -2,7 +2,7 @@
 use Rattle.std.specs.Prelude.{ℕ}
 use Rattle.pas_profile.specs.declared.directory.{Directory.Directory, Kind.Kind}
 use Rattle.pas_segregated.specs.{Refills.Filling, Takes.NoSlot}
-use Rattle.pas_choice.specs.Choices.{TookChosen}
+use Rattle.pas_search.specs.Choices.{TookChosen}
 use Rattle.pas_partial.specs.Rows.{rows}
 
 -- the shared pages of a heap

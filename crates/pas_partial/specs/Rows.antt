@@ -5,9 +5,8 @@ use Rattle.pas_profile.specs.declared.directory.Kind.{Kind}
 use Rattle.pas_bits.specs.declared.mask.Mask4.{Mask4}
 use Rattle.pas_bits.specs.{Masks.is_set, Runs.AreFree}
 use Rattle.pas_steps.specs.Evidence.{Readings}
-use Rattle.pas_search.specs.Serving.{Rule}
+use Rattle.pas_search.specs.{Serving.Rule, Choices.Choice, Choices.choosing}
 use Rattle.pas_segregated.specs.Takes.{NoSlot, in_starts}
-use Rattle.pas_choice.specs.Choices.{Choice, choosing}
 
 -- s is one of the first n places from the first on, each so much after the one before it, and Good holds of all of them up to s
 abbrev pub IsInRow : (ℕ → Type 0) → ℕ → ℕ → ℕ → ℕ → Type 0

@@ -1,9 +1,9 @@
 //! What a request chooses of a shared page.
 use crate::row::row_from;
 use pas_bits::Mask4;
-use pas_choice::{Choosing, Chosen};
 use pas_profile::classes::class_size;
 use pas_profile::limits::GRAIN_BYTES;
+use pas_search::{Choosing, Chosen};
 use pas_segregated::{covered, whole_slots};
 
 /// Shared pages, as a class sees them.

@@ -7,10 +7,9 @@ ghost use Rattle.pas_segregated.specs.Refills.{Refills};
 ghost use Rattle.pas_partial.specs.Refills.{shared_directory, shared_slots};
 
 use crate::partial::Partial;
-use pas_choice::ByChoice;
 use pas_profile::{Directory, Kind, NoRoom};
 use pas_rights::leave;
-use pas_search::find_page;
+use pas_search::{ByChoice, find_page};
 use pas_segregated::Slots;
 use pas_steps::Desk;
 

@@ -4,12 +4,12 @@ use Rattle.std.proofs.Common.{subst, slice_index}
 use Rattle.pas_profile.specs.{Rooms.shown, Rooms.EventRoom, Layouts.index_of, Profiles.IsWordOf}
 use Rattle.pas_profile.specs.declared.profile.Profile.{Profile}
 use Rattle.pas_steps.specs.{Events.events_of, Events.event_of, Lists.Whole, Lists.part, Lists.Legal, Allowed.Allowed, Allowed.IsStepOf, Agreement.Agrees}
-use Rattle.pas_steps.specs.{Calls.nothing, Calls.Does, Calls.Calls, Clear.IsClear, Clear.HasNothing, Effects.target}
+use Rattle.pas_steps.specs.{Calls.nothing, Calls.Does, Calls.Calls, Clear.IsClear, Clear.HasNothing, Effects.target, Noted.IsNoted}
 use Rattle.pas_steps.specs.Views.{known_epoch, View, epoch_of, or_zero}
 use Rattle.pas_steps.specs.Desks.{triples, Seat, Standing, made, triple, CanMake, Makes}
 use Rattle.pas_steps.specs.declared.step.{Made.Made, Step.Step}
 use Rattle.pas_steps.proofs.{Parts.part_of_others, Parts.part_of_own, Frames.with_few, Called.call_none, Called.call_step, Calls.does_idly}
-use Rattle.pas_steps.proofs.{Nothing.nothing_still, Nothing.calls_rest, Targets.target_of_region}
+use Rattle.pas_steps.proofs.{Nothing.nothing_still, Nothing.calls_rest, Targets.target_of_region, Noting.notes_next}
 use Rattle.pas_plain.specs.Plain.{actor_of, PassStands, pass_for, passes_from, profile_of, room_of_pass, events_shown, RegionStands, epoch_known, IsExchanged}
 use Rattle.pas_plain.specs.declared.{pass.PlainPass.PlainPass, region.PlainRegion.PlainRegion, desk.PlainDesk.PlainDesk}
 use Rattle.pas_steps.specs.Kinds.{Kinds, kind_of, is_in, apart, changing}
@@ -18,8 +18,6 @@ use Rattle.pas_plain.specs.Storms.{Acts, StormStands, seat_for, storm_of, own_st
 use Rattle.std.proofs.lemmas.List.{length-reverse}
 use Rattle.pas_core.specs.WordLists.{AreWordsAfter}
 use Rattle.pas_core.proofs.Nexts.{legal_next, agrees_next, words_next}
-use Rattle.pas_region.specs.Noted.{IsNoted}
-use Rattle.pas_region.proofs.Noting.{notes_next}
 
 -- ==== Passes that stand: at the opening, and at rest while another actor steps.
 

@@ -5,7 +5,7 @@ use Rattle.pas_profile.specs.declared.{event.Event.Event, profile.Profile.Profil
 use Rattle.pas_steps.specs.{Effects.target, Effects.new_value, Events.events_of, Views.known_epoch}
 use Rattle.pas_steps.specs.Lists.{Whole, part, word_after, Legal}
 use Rattle.pas_steps.specs.declared.step.Step.{Step}
-use Rattle.pas_region.specs.Noted.{events_noted, room_of_notes, count_of_notes, epoch_noted, notes_for}
+use Rattle.pas_steps.specs.Noted.{events_noted, room_of_notes, count_of_notes, epoch_noted, notes_for}
 use Rattle.pas_plain.specs.declared.{region.PlainRegion.PlainRegion, pass.PlainPass.PlainPass}
 
 -- ---- regions

@@ -1,9 +1,8 @@
 -- What a plain desk stands for, and which passes are a region's own.
 use Rattle.std.specs.Prelude.{ℕ, ◌≡◌, ◌≢◌, List, [], All}
-use Rattle.pas_steps.specs.{Views.View, Views.or_zero, Lists.Whole, Lists.part, Desks.Seat, Desks.Standing}
+use Rattle.pas_steps.specs.{Views.View, Views.or_zero, Lists.Whole, Lists.part, Desks.Seat, Desks.Standing, Noted.IsNoted}
 use Rattle.pas_steps.specs.declared.step.Step.{Step}
 use Rattle.pas_plain.specs.Plain.{profile_of, RegionStands, actor_of, room_of_pass, epoch_known, PassStands, IsExchanged}
-use Rattle.pas_region.specs.Noted.{IsNoted}
 use Rattle.pas_plain.specs.declared.{region.PlainRegion.PlainRegion, pass.PlainPass.PlainPass, desk.PlainDesk.PlainDesk}
 
 -- ---- desks

@@ -3,8 +3,7 @@ ghost use Rattle.std.specs.Prelude.{◌≡◌, ◌≤◌, ◌+◌, length, vec_l
 ghost use Rattle.pas_plain.specs.Plain.{passes_from};
 
 use pas_profile::{Event, EventRoom, NoMemory};
-use pas_region::Notes;
-use pas_steps::Step;
+use pas_steps::{Notes, Step};
 use std::alloc::Global;
 
 /// What an actor keeps while it isn't at the region: what it noted of its own steps.
@@ -15,8 +14,7 @@ pub struct PlainPass {
 }
 
 impl PlainPass {
-    ghost use Rattle.pas_steps.specs.{Events.wants, Ranges.IsRanged, Views.or_zero};
-    ghost use Rattle.pas_region.specs.Noted.{IsNoted};
+    ghost use Rattle.pas_steps.specs.{Events.wants, Ranges.IsRanged, Views.or_zero, Noted.IsNoted};
     ghost use Rattle.pas_plain.specs.Plain.{pass_for, actor_of, events_shown, room_of_pass, count_of_pass, epoch_known};
 
     /// The pass of an actor that made no step.

@@ -3,9 +3,8 @@ ghost use Rattle.std.specs.Prelude.{◌≡◌, ◌<◌, vec_len, length, slice_i
 ghost use Rattle.pas_profile.specs.{Profiles.IsValid, Layouts.words_of};
 
 use pas_profile::{Layout, NoMemory, Profile};
-use pas_region::opening_words;
 use pas_steps::effect::{new_value, target};
-use pas_steps::{State, Step};
+use pas_steps::{State, Step, opening_words};
 use std::alloc::Global;
 
 /// A region whose words stand in one vector. One actor works at it at a time.

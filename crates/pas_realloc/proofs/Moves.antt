@@ -75,7 +75,7 @@ kept Answers Same wanted old size align c suited same = record { steps = []; cal
 
 -- A block that doesn't suit, and for which the request was refused, isn't moved.
 pub refused : {σ σ1 : Standing} (Answers : Option ℕ → Type 0) (Same : Type 0) (wanted : Wanted) (found : Option ℕ) (old : Block) (size align : ℕ)
-      (c c1 : Cached) (room : NoRoom)
+    (c c1 : Cached) (room : NoRoom)
     → suits old size align ≡ false → IsNamed wanted.route Answers Same found → Serves (cost_of_size size) wanted found c c1 σ σ1 (Err room)
     → Moves Answers Same wanted old size align c c1 σ σ1 (Err room)
 refused Answers Same wanted found old size align c c1 room unsuited named s = record { steps = s.steps; calls = s.calls; moved = record { unsuited = unsuited; found = found; named = named; serves = s.change; kinds = s.kinds; few = s.few; ends = s.outcome; same_log = s.log_is } }
@@ -85,7 +85,7 @@ full_log n e = le-leb 64 n (omega (arith, e))
 
 -- After the request there is room for the events of a full log, which its free empties.
 pub room_to_free : {σ σ1 : Standing} {Answers : Option ℕ → Type 0} {Same : Type 0} {tells : Bool} (heap size align spare spare1 : ℕ) (c c1 : Cached)
-      (block : Block)
+    (block : Block)
     → AllocatesRequest Answers Same (wanted_for σ.seat.profile heap size align) tells c c1 σ σ1 (Ok block)
     → CanCall σ (MayMove σ.seat.profile (wanted_for σ.seat.profile heap size align) c spare) → Spares σ spare → Spares σ1 spare1 → length c1.log ≡ 64
     → 64 ≤ spare1
@@ -115,7 +115,7 @@ no_fault f name Unaligned region fault = fault.1 region.aligned
 
 -- A block that doesn't suit, for which another was given and the old name freed, is replaced.
 pub replaced : {σ σ1 σ2 : Standing} (Answers : Option ℕ → Type 0) (Same : Type 0) (wanted : Wanted) (found : Option ℕ) (old : Block) (size align : ℕ)
-      (c c1 c2 : Cached) (block : Block)
+    (c c1 c2 : Cached) (block : Block)
     → suits old size align ≡ false → IsNamed wanted.route Answers Same found → (s : Serves (cost_of_size size) wanted found c c1 σ σ1 (Ok block))
     → Frees (entry_of old.name) c1 c2 σ1 σ2 (Ok tt) → Moves Answers Same wanted old size align c c2 σ σ2 (Ok (New block))
 replaced {σ} {σ1} {σ2} Answers Same wanted found old size align c c1 c2 block unsuited named s free =

@@ -12,9 +12,9 @@ use Rattle.pas_large.specs.Doors.{Indexes}
 use Rattle.pas_plain.specs.declared.pass.PlainPass.{PlainPass}
 use Rattle.pas_bits.specs.Masks.{is_set}
 use Rattle.pas_bits.specs.declared.mask.Mask4.{Mask4}
-use Rattle.pas_plans.specs.Awake.{awake_in, idle_in}
+use Rattle.pas_acts.specs.Awake.{awake_in, idle_in}
 use Rattle.pas_replay.specs.Sessions.{own_events, ActorStands, Replay, Hand, GoesBy, IsAt, SoFar}
-use Rattle.pas_plans.proofs.ActsLeft.{number_next, number_last, threads_alike}
+use Rattle.pas_acts.proofs.ActsLeft.{number_next, number_last, threads_alike}
 use Rattle.pas_replay.proofs.{Going.all_rest, Threads.still_places, Threads.owed_kept}
 use Rattle.pas_replay.proofs.Turning.{AsksNoIndex, less_events, less_tries, other_stands}
 

@@ -28,7 +28,7 @@ use Rattle.pas_replay.proofs.Turning.{hand, AsksNoIndex, thread_now, later_for, 
 
 -- ---- an act of a thread for which no name stands: it wakes, it is stopped where it is idle, it ends
 pub rests_now : {r : Replay} {more : List Act} {act : Act} {desk desk1 : PlainDesk} {passes passes1 : Slots} {caches : List ThreadCache}
-      {books : List GuardBook} {places : ℕ} {indexes : Indexes} {table : Names} {out : Records} {p : Progress} (k extra : ℕ) (there : ThreadCache)
+    {books : List GuardBook} {places : ℕ} {indexes : Indexes} {table : Names} {out : Records} {p : Progress} (k extra : ℕ) (there : ThreadCache)
     → 1 ≤ k → k ≤ length caches → own_cost_of_act k act ≡ 0
     → cost_of_act r.profile act ≡ extra → TakesSeat desk desk1 passes passes1 k → there ≡ get_or caches (k - 1) there
     → IsAt r (act ∷ more) (hand desk passes caches books places indexes table out) p
@@ -60,8 +60,8 @@ set_stands f false came old new is now before = subst (MayStand f) (sym is) befo
 
 -- ---- an operation of thread k, which asks for `what`
 pub may_operate : {r : Replay} {more : List Act} {op : Op} {what : What} {desk desk1 : PlainDesk} {passes passes1 : Slots} {caches : List ThreadCache}
-      {books : List GuardBook} {places : ℕ} {indexes : Indexes} {table : Names} {out : Records} {p : Progress} {meant : Option Block} (k : ℕ)
-      (there : ThreadCache)
+    {books : List GuardBook} {places : ℕ} {indexes : Indexes} {table : Names} {out : Records} {p : Progress} {meant : Option Block} (k : ℕ)
+    (there : ThreadCache)
     → op.actor ≡ k → op.what ≡ what → 1 ≤ k → k ≤ length caches
     → TakesSeat desk desk1 passes passes1 k → there ≡ get_or caches (k - 1) there → meant ≡ freed_by (block_named table) what
     → IsAt r (Operates op ∷ (Settles op.actor ∷ more)) (hand desk passes caches books places indexes table out) p

@@ -48,10 +48,10 @@ module _ {Door : Type 0} (Kept : Door → Door → Type 0) (held : Door → Inde
 
     -- the acts of an operation by such a door are acts by what it holds
     pub went_through : (together : (a b c : Door) → Kept a b → Kept b c → Kept a c) (f : Profile) (op : Op) (p q : Progress)
-          (is : Reaches f (Operates op ∷ (Settles op.actor ∷ [])) p q) (before after : Door)
+        (is : Reaches f (Operates op ∷ (Settles op.actor ∷ [])) p q) (before after : Door)
         → GoesThrough Answers HandsOn f op p q is before after
         → AllAreNamedBy f (held before) (Operates op ∷ (Settles op.actor ∷ [])) p q is × Kept before after
-          × (held after ≡ indexes_after_all f (Operates op ∷ (Settles op.actor ∷ [])) p q is (held before))
+        × (held after ≡ indexes_after_all f (Operates op ∷ (Settles op.actor ∷ [])) p q is (held before))
     went_through together f op p q is before after (next, named, settled) =
         let asked = asked_for f (request_by p.names op.what) is.1.0.found before next named in
         let later = handed together (is.0.caches op.actor).noted next after settled in
@@ -80,7 +80,7 @@ noted_back {indexes} {indexes'} items many runs is same noted =
 
 -- .. so of an operation
 pub written_back : {f : Profile} {k : ℕ} {op : Op} {indexes indexes' : Indexes} {came : List Named} {old new : Here} {later : Later} {p : Progress}
-      (items : Indexes) (many : ℕ)
+    (items : Indexes) (many : ℕ)
     → indexes ≡ items → length indexes ≡ many → ActsByIndexes f k op indexes indexes' came old new later p
     → ActsByIndexes f k op items (take many (indexes' ++ drop (length indexes') items)) came old new later p
 written_back {f} {k} {op} {indexes} {indexes'} {p = p} items many is same acts =

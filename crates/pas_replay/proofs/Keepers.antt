@@ -25,9 +25,8 @@ use Rattle.pas_answers.specs.Indexes.{request_by, with_noted, after_operation, a
 use Rattle.pas_answers.specs.{Keeping.owed_by_keeper, Keeping.cost_of_try, Reaching.AnswersTried, Reaching.AnswersGuarded, Rests.AreAtRest}
 use Rattle.pas_answers.specs.declared.names.Names.{Names}
 use Rattle.pas_answers.proofs.{KnownNames.known_more, SingleActs.its_cache, SingleActs.other_cache, SingleActs.if_same}
-use Rattle.pas_plans.specs.Tries.{tries_of, AreKeptFor}
+use Rattle.pas_acts.specs.{Tries.tries_of, Tries.AreKeptFor, Works.Sits, Turns.Moves}
 use Rattle.pas_acts.specs.Keepers.{keeper_has, LaterKept, and_try, KeeperAt, KeeperTries, KeeperLowers}
-use Rattle.pas_acts.specs.{Works.Sits, Turns.Moves}
 use Rattle.pas_acts.proofs.{AtDesk.sits_for, AtDesk.settled_rest, Keeping.other_book}
 use Rattle.pas_replay.specs.declared.seats.Guarded.{Guarded}
 use Rattle.pas_replay.specs.Sessions.{Slots, IsTaken, TakesSeat, task_of, asked_by, Session, session, SoFarAt, HasTried, rests_as, rests, owes_as, owes}
@@ -76,7 +75,7 @@ keeper_now {r} {acts} {desk0} {desk} {passes0} {passes} {caches} {books} {places
 
 -- .. where its last sweep comes next, which costs nothing
 pub keeper_closes : {r : Replay} {more : List Act} {desk0 desk : PlainDesk} {passes0 passes : Slots} {caches : List ThreadCache} {books : List GuardBook}
-      {places : ℕ} {indexes : Indexes} {table : Names} {out : Records} {p : Progress} (k i : ℕ) (there : GuardBook)
+    {places : ℕ} {indexes : Indexes} {table : Names} {out : Records} {p : Progress} (k i : ℕ) (there : GuardBook)
     → k ≡ r.threads + i → 1 ≤ i → i ≤ length books → TakesSeat desk0 desk passes0 passes k
     → there ≡ get_or books (i - 1) there → IsAt r (Lowers k ∷ more) (hand desk0 passes0 caches books places indexes table out) p
     → KeeperAt r.profile k (keeper_has (standing_of desk) there out) (later_kept r k p more) p
@@ -134,7 +133,7 @@ module _ {r : Replay} {acts more : List Act} {desk0 desk desk' : PlainDesk} {pas
 
 -- the keeper had its turn, after which `more` acts are left
 keeper_turn : {r : Replay} {acts more : List Act} {desk0 desk desk' : PlainDesk} {passes0 passes : Slots} {caches : List ThreadCache} {books : List GuardBook}
-      {places : ℕ} {indexes indexes' : Indexes} {table table' : Names} {out out' : Records} {p q : Progress} (k i : ℕ) (there book : GuardBook)
+    {places : ℕ} {indexes indexes' : Indexes} {table table' : Names} {out out' : Records} {p q : Progress} (k i : ℕ) (there book : GuardBook)
     → k ≡ r.threads + i → 1 ≤ i → i ≤ length books
     → TakesSeat desk0 desk passes0 passes k → there ≡ get_or books (i - 1) there → IsAt r acts (hand desk0 passes0 caches books places indexes table out) p
     → KeeperTurned r k acts more there book desk desk' p q
@@ -169,7 +168,7 @@ keeper_turn {r} {acts} {more} {caches = caches} {books} {p = p} {q} (suc j) i th
 
 -- ---- it lowers all its guards, as the replay closes
 pub lower_turn : {r : Replay} {more : List Act} {desk0 desk desk' : PlainDesk} {passes0 passes : Slots} {caches : List ThreadCache} {books : List GuardBook}
-      {places : ℕ} {indexes : Indexes} {table : Names} {out out' : Records} {p : Progress} (k i : ℕ) (there book : GuardBook)
+    {places : ℕ} {indexes : Indexes} {table : Names} {out out' : Records} {p : Progress} (k i : ℕ) (there book : GuardBook)
     → k ≡ r.threads + i → 1 ≤ i → i ≤ length books → TakesSeat desk0 desk passes0 passes k
     → there ≡ get_or books (i - 1) there → IsAt r (Lowers k ∷ more) (hand desk0 passes0 caches books places indexes table out) p
     → (did : KeeperLowers r.profile k (keeper_has (standing_of desk) there out) (keeper_has (standing_of desk') book out') (later_kept r k p more) p)
@@ -213,7 +212,7 @@ left_to_thread threads f keeper op request p indexes more t before tried asks no
 
 -- .. and where it gave one, its name stands for the block
 done_by_keeper : (threads : ℕ) (f : Profile) (keeper : ℕ) (op : Op) (request : Request) (p : Progress) (block : Block) (indexes : Indexes) (more : List Act)
-      (t : Tried)
+    (t : Tried)
     → AreAtRest threads f p.caches p.books p.list → IsTried f keeper request (part keeper p.list) (p.books keeper) t → request_in op.what ≡ Some request
     → t.block ≡ Some block
     → (s : Progress) → GoesBy threads f indexes more (after_giving (after_trying p keeper t) request.name block) s
@@ -251,16 +250,16 @@ its_place k i mine at =
 -- what it came to, by whether it gave a block
 pub has_tried_by : (op : Op) (k : ℕ) (before after : Session) (result : Option Block)
     → (result ≡ None → (r : Replay) (more : List Act) → SoFarAt r (Guards k op ∷ (Settles op.actor ∷ more)) before
-        → SoFarAt r (Operates op ∷ (Settles op.actor ∷ more)) after)
+    → SoFarAt r (Operates op ∷ (Settles op.actor ∷ more)) after)
     → ((block : Block) → result ≡ Some block → (r : Replay) (more : List Act) (table : Names) → HasNamed op (Some block) before.table table
-        → SoFarAt r (Guards k op ∷ (Settles op.actor ∷ more)) before → SoFarAt r (Settles op.actor ∷ more) (session after.desk after.actors table after.out))
+    → SoFarAt r (Guards k op ∷ (Settles op.actor ∷ more)) before → SoFarAt r (Settles op.actor ∷ more) (session after.desk after.actors table after.out))
     → HasTried op k result before after
 has_tried_by op k before after None left gave = left refl
 has_tried_by op k before after (Some block) left gave = gave block refl
 
 -- before it does
 pub keeper_may : {r : Replay} {more : List Act} {op : Op} {request : Request} {desk0 desk : PlainDesk} {passes0 passes : Slots} {caches : List ThreadCache}
-      {books : List GuardBook} {places : ℕ} {indexes : Indexes} {table : Names} {out : Records} {p : Progress} (k i : ℕ) (there : GuardBook)
+    {books : List GuardBook} {places : ℕ} {indexes : Indexes} {table : Names} {out : Records} {p : Progress} (k i : ℕ) (there : GuardBook)
     → AsksKeeper k i op request → k ≡ r.threads + i → 1 ≤ i
     → i ≤ length books → TakesSeat desk0 desk passes0 passes k → there ≡ get_or books (i - 1) there
     → IsAt r (Guards k op ∷ more) (hand desk0 passes0 caches books places indexes table out) p
@@ -273,14 +272,14 @@ keeper_may {r} {more} {op} {request} {p = p} k i there asks place some most seat
 
 -- where it gave no block
 pub left_turn : {r : Replay} {more : List Act} {op : Op} {request : Request} {desk0 desk desk' : PlainDesk} {passes0 passes : Slots} {caches : List ThreadCache}
-      {books : List GuardBook} {places : ℕ} {indexes : Indexes} {table : Names} {out out' : Records} {p : Progress} {result : Option Block} (k i : ℕ)
-      (there book : GuardBook)
+    {books : List GuardBook} {places : ℕ} {indexes : Indexes} {table : Names} {out out' : Records} {p : Progress} {result : Option Block} (k i : ℕ)
+    (there book : GuardBook)
     → result ≡ None → AsksKeeper k i op request → k ≡ r.threads + i
     → 1 ≤ i → i ≤ length books → TakesSeat desk0 desk passes0 passes k → there ≡ get_or books (i - 1) there
     → IsAt r (Guards k op ∷ more) (hand desk0 passes0 caches books places indexes table out) p
     → (did : KeeperTries r.profile k request result (keeper_has (standing_of desk) there out) (keeper_has (standing_of desk') book out') (later_kept r k p more) p)
     → IsTaken desk' passes
-      × IsAt r (Operates op ∷ more) (hand desk' passes caches (set books (i - 1) book) places indexes table out') (after_trying p k did.tried)
+    × IsAt r (Operates op ∷ more) (hand desk' passes caches (set books (i - 1) book) places indexes table out') (after_trying p k did.tried)
 left_turn {r} {more} {op} {request} {desk0} {desk} {desk'} {indexes = indexes} {table} {out} {out'} {p} {result} k i there book none asks place some most seat is at did =
     let f = r.profile in
     let q = after_trying p k did.tried in
@@ -311,7 +310,7 @@ pub gave_turn : {r : Replay} {more : List Act} {op : Op} {request : Request} {de
     → (did : KeeperTries r.profile k request result (keeper_has (standing_of desk) there out) (keeper_has (standing_of desk') book out') (later_kept r k p more) p)
     → HasNamed op (Some block) table table'
     → IsTaken desk' passes
-      × IsAt r more (hand desk' passes caches (set books (i - 1) book) places indexes table' out') (after_giving (after_trying p k did.tried) request.name block)
+    × IsAt r more (hand desk' passes caches (set books (i - 1) book) places indexes table' out') (after_giving (after_trying p k did.tried) request.name block)
 gave_turn {r} {more} {op} {request} {desk0} {desk} {desk'} {indexes = indexes} {table} {out} {out'} {p} {result} {block} k i there book table' gave asks place some most seat is at did named =
     let f = r.profile in
     let midway = after_trying p k did.tried in

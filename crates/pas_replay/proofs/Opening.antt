@@ -7,7 +7,7 @@ use Rattle.pas_trace.specs.Plans.{bounds_of}
 use Rattle.pas_trace.specs.declared.plan.Plan.{Plan}
 use Rattle.pas_plain.specs.Plain.{PassStands, pass_for, passes_from}
 use Rattle.pas_plain.specs.declared.pass.PlainPass.{PlainPass}
-use Rattle.pas_plans.specs.Parts.{AreRooms}
+use Rattle.pas_acts.specs.Parts.{AreRooms}
 use Rattle.pas_replay.specs.{Kits.IsFresh, Sessions.pass_in}
 use Rattle.pas_answers.specs.Replays.{region_of}
 

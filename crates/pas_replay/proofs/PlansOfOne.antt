@@ -13,7 +13,7 @@ use Rattle.pas_trace.specs.Acts.{Act, Operates, Guards, Ticks, MakesPass, ReadsE
 use Rattle.pas_trace.specs.Acts.{acts_of_work, acts_of_op, acts_of_ops, phase_acts, acts_from, acts_of}
 use Rattle.pas_answers.specs.Replays.{phases_of, threads_of, keepers_of, acts_of_plan}
 use Rattle.pas_replay.specs.OneThread.{IsOfOneThread}
-use Rattle.pas_plans.proofs.{ActsOfPlan.ArePlanned, ActsOfPlan.all_front, ActsOfPlan.all_back, PlanFacts.plan_planned}
+use Rattle.pas_acts.proofs.{ActsOfPlan.ArePlanned, ActsOfPlan.all_front, ActsOfPlan.all_back, PlanFacts.plan_planned}
 
 -- ---- operations of thread 1
 abbrev pub IsOfOne : Op → Type 0

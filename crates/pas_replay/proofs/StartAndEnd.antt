@@ -30,9 +30,10 @@ use Rattle.pas_replay.specs.Sessions.{SoFar, owed_by}
 use Rattle.pas_replay.specs.declared.{kit.PlainKit.PlainKit, seats.Actors.Actors}
 use Rattle.pas_replay.proofs.Going.{all_rest}
 use Rattle.pas_trace.proofs.Keepers.{plan_actors}
-use Rattle.pas_plans.specs.Keepers.{guarded_of}
-use Rattle.pas_plans.proofs.PlanFacts.{plan_operate, plan_fit, plan_own, plan_scavenger, plan_total}
-use Rattle.pas_plans.proofs.{KeeperActs.plan_kept_own, KeeperActs.plan_tries, KeeperActs.plan_keeps, Nothing.pages_owed_at_first, Nothing.nothing, Nothing.no_slots}
+use Rattle.pas_acts.specs.PlanKeepers.{guarded_of}
+use Rattle.pas_acts.proofs.PlanFacts.{plan_operate, plan_fit, plan_own, plan_scavenger, plan_total}
+use Rattle.pas_acts.proofs.{KeeperActs.plan_kept_own, KeeperActs.plan_tries, KeeperActs.plan_keeps, Nothing.pages_owed_at_first, Nothing.nothing}
+use Rattle.pas_acts.proofs.{Nothing.no_slots}
 
 -- an actor that made no step, which rests
 starts_at : (plan : Plan) (k need : ℕ) (slot : Option PlainPass) (Rest : View → Type 0) → Rest [] → need ≤ slice_index (bounds_of plan.bounds) k

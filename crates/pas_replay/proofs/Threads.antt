@@ -10,7 +10,7 @@ use Rattle.pas_guard.specs.Books.{guards_in, size_of_book}
 use Rattle.pas_guard.specs.declared.book.GuardBook.{GuardBook}
 use Rattle.pas_trace.specs.Acts.{Act}
 use Rattle.pas_answers.specs.{Answers.Caches, Answers.Books, Answers.Progress, Calls.owed_events, Keeping.owed_by_keeper}
-use Rattle.pas_plans.specs.Tries.{tries_of}
+use Rattle.pas_acts.specs.Tries.{tries_of}
 use Rattle.pas_replay.specs.Sessions.{AreCaches, HaveBooks, HavePlaces, records_owed_as, owed_of, owed_by}
 
 -- ---- what their caches hold

@@ -24,8 +24,7 @@ use Rattle.pas_large.specs.Doors.{Indexes}
 use Rattle.pas_answers.specs.Indexes.{indexes_after, indexes_after_all, ActIsNamedBy, AllAreNamedBy}
 use Rattle.pas_answers.specs.declared.names.Names.{Names}
 use Rattle.pas_answers.proofs.SingleActs.{sum_both}
-use Rattle.pas_plans.specs.Tries.{tries_of_act, tries_of, AreKeptFor}
-use Rattle.pas_acts.specs.{Works.Later, Works.Sits, Turns.RestsAt, Turns.Moves}
+use Rattle.pas_acts.specs.{Tries.tries_of_act, Tries.tries_of, Tries.AreKeptFor, Works.Later, Works.Sits, Turns.RestsAt, Turns.Moves}
 use Rattle.pas_acts.specs.AtDesks.{here, and_for, ThreadActs, for_act, HasRoomAt, ScavengerActs}
 use Rattle.pas_acts.proofs.AtDesk.{sits_for}
 use Rattle.pas_replay.specs.Sessions.{Slots, pass_in, risen, IsTaken, MaySit, MayTakeSeat, TakesSeat, SeatStands, rests_as, rests, owes_as, owes, own_events}
@@ -63,7 +62,7 @@ hand desk passes caches books places indexes table out = record { region = regio
 
 -- .. is what was in hand before it sat down
 pub sat_down : {r : Replay} {acts : List Act} {desk desk' : PlainDesk} {passes passes' : Slots} {k : ℕ} {caches : List ThreadCache} {books : List GuardBook}
-      {places : ℕ} {indexes : Indexes} {table : Names} {out : Records} {p : Progress}
+    {places : ℕ} {indexes : Indexes} {table : Names} {out : Records} {p : Progress}
     → TakesSeat desk desk' passes passes' k
     → IsAt r acts (hand desk passes caches books places indexes table out) p → IsAt r acts (hand desk' passes' caches books places indexes table out) p
 sat_down {r} {acts} {desk} {desk'} {passes} {passes'} {k} {caches} {books} {places} {indexes} {table} {out} {p} seat at =
@@ -236,7 +235,7 @@ later_for r k p more extra =
 
 -- it rests at the desk, with room for acts of this cost
 pub thread_now : {r : Replay} {acts : List Act} {desk0 desk : PlainDesk} {passes0 passes : Slots} {caches : List ThreadCache} {books : List GuardBook}
-      {places : ℕ} {indexes : Indexes} {table : Names} {out : Records} {p : Progress} {c : Cached} (k cost extra : ℕ) (more : List Act)
+    {places : ℕ} {indexes : Indexes} {table : Names} {out : Records} {p : Progress} {c : Cached} (k cost extra : ℕ) (more : List Act)
     → 1 ≤ k → k ≤ length caches → TakesSeat desk0 desk passes0 passes k
     → p.caches k ≡ c → own_costs_of k acts ≡ cost + own_costs_of k more → costs_of r.profile acts ≡ cost + (extra + costs_of r.profile more)
     → IsAt r acts (hand desk0 passes0 caches books places indexes table out) p
@@ -310,7 +309,7 @@ later_of r p more = record { events = unbacks_of r.profile more; records = owed_
 
 -- The scavenger that took its seat has room for its act that comes next.
 pub scavenger_now : {r : Replay} {more : List Act} {act : Act} {desk0 desk : PlainDesk} {passes0 passes : Slots} {caches : List ThreadCache}
-      {books : List GuardBook} {places : ℕ} {indexes : Indexes} {table : Names} {out : Records} {p : Progress}
+    {books : List GuardBook} {places : ℕ} {indexes : Indexes} {table : Names} {out : Records} {p : Progress}
     → TakesSeat desk0 desk passes0 passes 0
     → IsAt r (act ∷ more) (hand desk0 passes0 caches books places indexes table out) p
     → HasRoomAt r.profile (standing_of desk) out (for_act r.profile act (later_of r p more)) p
@@ -318,7 +317,7 @@ scavenger_now seat at = let spare = at.spare in record { sits = sits_for (sits_n
 
 -- The scavenger that took its seat and did an act leaves the replay where the acts after it come next.
 pub scavenger_turn : {r : Replay} {more : List Act} {act : Act} {desk0 desk desk' : PlainDesk} {passes0 passes : Slots} {caches : List ThreadCache}
-      {books : List GuardBook} {places places' : ℕ} {indexes : Indexes} {table : Names} {out out' : Records} {p : Progress}
+    {books : List GuardBook} {places places' : ℕ} {indexes : Indexes} {table : Names} {out out' : Records} {p : Progress}
     → TakesSeat desk0 desk passes0 passes 0
     → ((limit : ℕ) (asked : List ℕ) → AreFit r.profile limit asked (act ∷ more) → AreFit r.profile limit asked more) → AsksNoIndex r.profile act
     → IsAt r (act ∷ more) (hand desk0 passes0 caches books places indexes table out) p

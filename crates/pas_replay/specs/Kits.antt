@@ -10,7 +10,7 @@ use Rattle.pas_answers.specs.Replays.{phases_of, region_of, threads_of, keepers_
 use Rattle.pas_replay.specs.declared.kit.PlainKit.{PlainKit}
 use Rattle.pas_utility.specs.Outcomes.{places_of}
 use Rattle.pas_replay.specs.Sessions.{pass_in, Replay}
-use Rattle.pas_plans.specs.{Parts.AreUnused, Keepers.AreBooks}
+use Rattle.pas_acts.specs.{Parts.AreUnused, PlanKeepers.AreBooks}
 
 -- an actor that did nothing yet: its pass has room for its bound
 pub record IsFresh (plan : Plan) (k : ℕ) (slot : Option PlainPass) : Type 0 where

@@ -20,7 +20,7 @@ use Rattle.pas_answers.specs.Answers.{Progress, Named, Caches, Books}
 use Rattle.pas_answers.specs.Calls.{Tells, MayStand, AllMayStand, AreKnown, named_by, owed_events}
 use Rattle.pas_answers.specs.Fit.{AreFit, AreOfThreads, costs_of, own_costs_of, kept_costs_of, unbacks_of}
 use Rattle.pas_large.specs.Doors.{Indexes, no_ranges}
-use Rattle.pas_plans.specs.Tries.{tries_of, AreKeptFor}
+use Rattle.pas_acts.specs.Tries.{tries_of, AreKeptFor}
 use Rattle.pas_answers.specs.declared.names.Names.{Names}
 use Rattle.pas_replay.specs.declared.seats.{Actors.Actors, Guarded.Guarded}
 

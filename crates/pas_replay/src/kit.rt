@@ -9,11 +9,11 @@ ghost use Rattle.pas_replay.specs.Kits.{IsKitOf};
 
 use crate::order::replay;
 use crate::seats::Actors;
+use pas_acts::{books_for, caches_for, outcomes_from, region_of, rooms_of};
 use pas_answers::Remake;
 use pas_answers::names::Names;
 use pas_large_index::LargeIndex;
 use pas_plain::{PlainPass, PlainRegion, close};
-use pas_plans::{books_for, caches_for, outcomes_from, region_of, rooms_of};
 use pas_profile::NoMemory;
 use pas_report::Records;
 use pas_steps::State;

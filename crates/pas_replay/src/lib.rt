@@ -8,5 +8,5 @@ mod seats;
 
 pub use alone::{by_one_thread, is_of_one_thread};
 pub use kit::{PlainKit, in_order};
+pub use pas_acts::records_for;
 pub use pas_answers::Remake;
-pub use pas_plans::records_for;

@@ -5,7 +5,7 @@ ghost use Rattle.pas_trace.specs.declared.plan.Op.{Op as TheOp};
 ghost use Rattle.pas_answers.specs.Calls.{what_of};
 ghost use Rattle.pas_trace.specs.Acts.{Act, act_kept, Settles, Wakes, ReadsEpoch, Ends, Lowers, numbers_from, idle_stops, acts_of_op, acts_of_ops, acts_of};
 ghost use Rattle.pas_replay.specs.Sessions.{Replay, SoFar, SoFarAt, AreEmpty, AreLowered, MayGoOn, GoesOn, Replays, hand_of, session};
-ghost use Rattle.pas_plans.specs.Awake.{awake_in, idle_in};
+ghost use Rattle.pas_acts.specs.Awake.{awake_in, idle_in};
 ghost use Rattle.pas_report.specs.Rooms.{Records as TheRecords};
 ghost use Rattle.pas_answers.specs.declared.names.Names.{Names as TheNames};
 
@@ -13,12 +13,12 @@ use crate::seats::{
     Actors, Guarded, end, guard, lower, operate, pass, read_epoch, rise, sit, stop_if_idle, tick,
     wake,
 };
+use pas_acts::active;
 use pas_acts::at_desk::SCAVENGER;
 use pas_answers::Remake;
 use pas_answers::names::Names;
 use pas_bits::Mask4;
 use pas_plain::{PlainDesk, PlainRegion};
-use pas_plans::active;
 use pas_report::{Record, Records};
 use pas_trace::{Chore, Op, Phase, Task, What, Work};
 

@@ -8,3 +8,5 @@ pub mod Pieces
 pub mod ReportOfWords
 pub mod TrueMarks
 pub mod Showable
+mod Dealt
+mod Written

@@ -5,3 +5,4 @@ pub mod Counts
 pub mod Rooms
 pub mod Pieces
 pub mod Rests
+pub mod Texts

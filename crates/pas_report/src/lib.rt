@@ -1,7 +1,8 @@
-//! The text of what a replay says, and the report of a state.
+//! The text of what a replay says, its lines made by one thread or by several at once, and the report of a state.
 #![tactic(auto)]
 
 mod counts;
+mod filling;
 pub mod laws;
 pub mod lines;
 pub mod marking;
@@ -9,8 +10,10 @@ pub mod pages;
 pub mod record;
 pub mod records;
 pub mod reports;
+mod sheets;
 pub mod text;
 pub mod transcript;
+mod writing;
 
 pub use lines::{event_line, push_record, record_line, said_line};
 pub use marking::{Marks, page_marks};
@@ -18,5 +21,7 @@ pub use pages::{page_line, shown_page, shown_totals, total_line};
 pub use record::{Record, Said};
 pub use records::{Records, room_for_replay};
 pub use reports::{has_deed_words, report};
+pub use sheets::Sheets;
 pub use text::{LINE_BYTES, Line};
 pub use transcript::write_lines;
+pub use writing::write_lines_on;

@@ -106,15 +106,15 @@ leave_due page d steps h = subst (Always GivesDuly) (sym h.steps_are) (end_due h
 
 -- grains that are held are put back, and what follows that
 module _ (page : ℕ) (d : Directory) (mask : Mask4) (xs : List Made) (held : (g : ℕ) → masked page mask g ≡ true → holds xs g ≡ true) (all : Always GivesDuly xs)
-    where
-  put_first : (after puts : List Made) → Always GivesDuly after → PutsBelow page mask 4 puts → Always GivesDuly ((after ++ puts) ++ xs)
-  put_first after puts due order = subst (Always GivesDuly) (sym (append_assoc after puts xs)) (due_both after (puts ++ xs) due (puts_due page mask puts xs order held all))
+  where
+    put_first : (after puts : List Made) → Always GivesDuly after → PutsBelow page mask 4 puts → Always GivesDuly ((after ++ puts) ++ xs)
+    put_first after puts due order = subst (Always GivesDuly) (sym (append_assoc after puts xs)) (due_both after (puts ++ xs) due (puts_due page mask puts xs order held all))
 
-  -- Grains that the call holds are put back, and the page left, duly.
-  pub put_and_leave_due : {σ σ' : Standing} (h : PutsAndLeaves page d mask σ σ') → Always GivesDuly ((h.after ++ h.puts) ++ xs)
-  put_and_leave_due h = put_first h.after h.puts (leave_due page d h.after h.order) h.put_order
+    -- Grains that the call holds are put back, and the page left, duly.
+    pub put_and_leave_due : {σ σ' : Standing} (h : PutsAndLeaves page d mask σ σ') → Always GivesDuly ((h.after ++ h.puts) ++ xs)
+    put_and_leave_due h = put_first h.after h.puts (leave_due page d h.after h.order) h.put_order
 
-  -- Grains that the call holds are put back, with what follows, duly.
-  pub back_due : (steps : List Made) → BackSteps page d mask steps → Always GivesDuly (steps ++ xs)
-  back_due steps (inl h) = subst (λ s. Always GivesDuly (s ++ xs)) (sym h.1) all
-  back_due steps (inr h) = subst (λ s. Always GivesDuly (s ++ xs)) (sym h.5) (put_first h.2 h.1 (return_due page d h.2 h.4) h.3)
+    -- Grains that the call holds are put back, with what follows, duly.
+    pub back_due : (steps : List Made) → BackSteps page d mask steps → Always GivesDuly (steps ++ xs)
+    back_due steps (inl h) = subst (λ s. Always GivesDuly (s ++ xs)) (sym h.1) all
+    back_due steps (inr h) = subst (λ s. Always GivesDuly (s ++ xs)) (sym h.5) (put_first h.2 h.1 (return_due page d h.2 h.4) h.3)

@@ -15,8 +15,7 @@ use Rattle.pas_steps.specs.{Views.known_deed}
 use Rattle.pas_steps.specs.declared.step.Made.{Made}
 use Rattle.pas_steps.proofs.Adding.{agreed_first, agreed_later}
 use Rattle.pas_core.proofs.{Nexts.agreed_steps, OneActor.legal_earlier}
-use Rattle.pas_search.specs.{Searches.MaySearch, Serving.right_of}
-use Rattle.pas_choice.specs.Allocates.{GaveBlock}
+use Rattle.pas_search.specs.{Searches.MaySearch, Serving.right_of, Allocates.GaveBlock}
 use Rattle.pas_bitfit.specs.Allocates.{bitfit_directory, IsAllocated}
 use Rattle.pas_large.specs.{Allocates.IsServedNamed, Allocates.IsScanned, Finds.MayFind}
 use Rattle.pas_segregated.specs.{Refills.GetsSlots, Stops.home_of}

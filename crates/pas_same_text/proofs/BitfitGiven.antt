@@ -23,8 +23,7 @@ use Rattle.pas_core.proofs.{MachineRuns.runs, Nexts.agreed_steps, Rights.right_n
 use Rattle.pas_core.proofs.OneActor.{LendsNone, lends_none, legal_earlier, fit_entry}
 use Rattle.pas_rights.specs.Gives.{give_steps}
 use Rattle.pas_rights.proofs.{Hints.leave_due, Orders.leave_returns}
-use Rattle.pas_search.specs.{Kinds.IsReturnOf, Kinds.KeepsMarks, Kinds.searching, Searches.MaySearch}
-use Rattle.pas_choice.specs.Allocates.{IsGiven}
+use Rattle.pas_search.specs.{Kinds.IsReturnOf, Kinds.KeepsMarks, Kinds.searching, Searches.MaySearch, Allocates.IsGiven}
 use Rattle.pas_bitfit.specs.Allocates.{run_for}
 use Rattle.pas_bitfit.specs.Runs.{Fits, NoneFits, IsLowestFit, fewer_runs, run_at, runs as run_choice}
 use Rattle.pas_cache.specs.{Contents.Cached, Kinds.allocating, Serves.ServesBitfit, Serves.ServesBy, Serves.wanted_for}

@@ -123,7 +123,7 @@ hinted_minded w page q = of_if (is_idle w page) (is_hinted w page) ∙ hinted_at
   where
     of_if : (t h : Bool)
         → is_hinted (if t then (if h then w else record w { hinted = page ∷ w.hinted }) else w) q
-          ≡ list_any (λ p. p == q) (if t then (if h then w.hinted else page ∷ w.hinted) else w.hinted)
+        ≡ list_any (λ p. p == q) (if t then (if h then w.hinted else page ∷ w.hinted) else w.hinted)
     of_if true true = refl
     of_if true false = refl
     of_if false h = refl

@@ -72,7 +72,7 @@ swap_at x c new p rest more one all h = list_any-append p c more ∙ weaker_at (
 given_at : (c : Cache) (cs : List Cache) (k : ℕ) (new : Cache) (p : Local → Bool) (t : Bool)
     → (list_any p new.locals ≡ true → list_any p (if t then c else cache_in cs (k - 1)).locals ≡ true)
     → ((list_any p new.locals ≡ true → list_any p (cache_in cs (k - 1)).locals ≡ true) → list_any p (all_locals (with_cache cs (k - 1) new)) ≡ true
-        → list_any p (all_locals cs) ≡ true)
+    → list_any p (all_locals cs) ≡ true)
     → list_any p (all_locals (if t then new ∷ cs else c ∷ with_cache cs (k - 1) new)) ≡ true → list_any p (c.locals ++ all_locals cs) ≡ true
 given_at c cs k new p true one more h = swap_at true c.locals new.locals p (all_locals cs) (all_locals cs) one (λ e. e) h
 given_at c cs k new p false one more h = swap_at true c.locals c.locals p (all_locals (with_cache cs (k - 1) new)) (all_locals cs) (λ e. e) (more one) h
@@ -85,7 +85,7 @@ any_with (c ∷ cs) k new p one h = given_at c cs k new p (k == 1) one (λ less.
 taken_at : (c : Cache) (cs : List Cache) (k : ℕ) (new : Cache) (p : Local → Bool) (t : Bool)
     → (list_any p (if t then c else cache_in cs (k - 1)).locals ≡ true → list_any p new.locals ≡ true)
     → ((list_any p (cache_in cs (k - 1)).locals ≡ true → list_any p new.locals ≡ true) → list_any p (all_locals cs) ≡ true
-        → list_any p (all_locals (with_cache cs (k - 1) new)) ≡ true)
+    → list_any p (all_locals (with_cache cs (k - 1) new)) ≡ true)
     → list_any p (c.locals ++ all_locals cs) ≡ true → list_any p (all_locals (if t then new ∷ cs else c ∷ with_cache cs (k - 1) new)) ≡ true
 taken_at c cs k new p true one more h = swap_at true new.locals c.locals p (all_locals cs) (all_locals cs) one (λ e. e) h
 taken_at c cs k new p false one more h = swap_at true c.locals c.locals p (all_locals cs) (all_locals (with_cache cs (k - 1) new)) (λ e. e) (more one) h
@@ -145,43 +145,43 @@ pub record IsGivenUp (f : Profile) (k : ℕ) (ls : List Local) (w v : World) : T
   pub returns : Returns f (map (λ l. l.page) ls) w v
 
 module _ (f : Profile) (k : ℕ) (l : Local) (ls : List Local) (w : World) (is : locals_of w k ≡ l ∷ ls) (unique : AreUnique (l ∷ ls)) (page_of : IsPage f l.page)
-    where
-  abbrev new : Cache
-  new = record (cache_of w k) { locals = others l.heap l.class (locals_of w k) }
+  where
+    abbrev new : Cache
+    new = record (cache_of w k) { locals = others l.heap l.class (locals_of w k) }
 
-  abbrev bare : World
-  bare = set_locals k (others l.heap l.class (locals_of w k)) w
+    abbrev bare : World
+    bare = set_locals k (others l.heap l.class (locals_of w k)) w
 
-  left : others l.heap l.class (locals_of w k) ≡ ls
-  left = ap (others l.heap l.class) is ∙ others_rest l ls unique
+    left : others l.heap l.class (locals_of w k) ≡ ls
+    left = ap (others l.heap l.class) is ∙ others_rest l ls unique
 
-  any_left : (p : Local → Bool) → list_any p new.locals ≡ true → list_any p (locals_of w k) ≡ true
-  any_left p h = ap (list_any p) is ∙ or_right (p l) (list_any p ls) (ap (list_any p) (sym left) ∙ h)
+    any_left : (p : Local → Bool) → list_any p new.locals ≡ true → list_any p (locals_of w k) ≡ true
+    any_left p h = ap (list_any p) is ∙ or_right (p l) (list_any p ls) (ap (list_any p) (sym left) ∙ h)
 
-  any_other : (p : Local → Bool) → p l ≡ false → list_any p (locals_of w k) ≡ true → list_any p new.locals ≡ true
-  any_other p none h = ap (list_any p) left ∙ (ap (λ (t : Bool). t || list_any p ls) (sym none) ∙ (ap (list_any p) (sym is) ∙ h))
+    any_other : (p : Local → Bool) → p l ≡ false → list_any p (locals_of w k) ≡ true → list_any p new.locals ≡ true
+    any_other p none h = ap (list_any p) left ∙ (ap (λ (t : Bool). t || list_any p ls) (sym none) ∙ (ap (list_any p) (sym is) ∙ h))
 
-  abbrev pub gone : World
-  gone = gives_up k l w
+    abbrev pub gone : World
+    gone = gives_up k l w
 
-  only : OnlyHints bare gone
-  only = all_only_hints (l.page ∷ []) bare
+    only : OnlyHints bare gone
+    only = all_only_hints (l.page ∷ []) bare
 
-  own_gone : 1 ≤ k → k ≤ length w.caches → cache_of gone k ≡ record (cache_of w k) { locals = ls }
-  own_gone some few = ap (λ (cs : List Cache). cache_in cs k) only.caches ∙ (own_with w.caches k new some few ∙ ap (λ (xs : List Local). record (cache_of w k) { locals = xs }) left)
+    own_gone : 1 ≤ k → k ≤ length w.caches → cache_of gone k ≡ record (cache_of w k) { locals = ls }
+    own_gone some few = ap (λ (cs : List Cache). cache_in cs k) only.caches ∙ (own_with w.caches k new some few ∙ ap (λ (xs : List Local). record (cache_of w k) { locals = xs }) left)
 
-  then_up : 1 ≤ k → k ≤ length w.caches → (v : World) → IsGivenUp f k ls gone v → IsGivenUp f k (l ∷ ls) w v
-  then_up some few v up = record {
-    events = up.events ∙ only.events;
-    records = up.records ∙ only.records;
-    live = up.live ∙ only.live;
-    indexes = up.indexes ∙ only.indexes;
-    names = up.names ∙ only.names;
-    epoch = up.epoch ∙ only.epoch;
-    read = up.read ∙ only.read;
-    caches = search (arith, own_gone, with_twice);
-    returns = returns_then f (l.page ∷ []) (map (λ x. x.page) ls) w gone v (one_returns f k l w page_of any_left any_other) up.returns;
-  }
+    then_up : 1 ≤ k → k ≤ length w.caches → (v : World) → IsGivenUp f k ls gone v → IsGivenUp f k (l ∷ ls) w v
+    then_up some few v up = record {
+      events = up.events ∙ only.events;
+      records = up.records ∙ only.records;
+      live = up.live ∙ only.live;
+      indexes = up.indexes ∙ only.indexes;
+      names = up.names ∙ only.names;
+      epoch = up.epoch ∙ only.epoch;
+      read = up.read ∙ only.read;
+      caches = search (arith, own_gone, with_twice);
+      returns = returns_then f (l.page ∷ []) (map (λ x. x.page) ls) w gone v (one_returns f k l w page_of any_left any_other) up.returns;
+    }
 
 abbrev pub AllOfRegion : Profile → List Local → Type 0
 AllOfRegion f [] = Unit {0}

@@ -213,8 +213,8 @@ module _ (threads : ℕ) (f : Profile) (keeper line k other name heap size align
       → (is : AnswersTried f op r block (after_trying p keeper (record { steps = steps; records = records; block = block; guards = guards' })) p')
       → TriedIsNamedBy f indexes op r block (after_trying p keeper (record { steps = steps; records = records; block = block; guards = guards' })) p' is
       → IsSame f p' (guards f keeper k (Some r) w)
-        × ((guards f keeper k (Some r) w).indexes
-            ≡ after_tried f op r block (after_trying p keeper (record { steps = steps; records = records; block = block; guards = guards' })) p' is indexes)
+      × ((guards f keeper k (Some r) w).indexes
+      ≡ after_tried f op r block (after_trying p keeper (record { steps = steps; records = records; block = block; guards = guards' })) p' is indexes)
   either_act steps records (Some block) guards' h is named = up_act steps records block guards' h is
   either_act steps records None guards' h is named = down_act steps records guards' h is named
 

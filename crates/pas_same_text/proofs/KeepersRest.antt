@@ -154,40 +154,40 @@ module _ (f : Profile) (keeper heap n : ℕ) (l : Whole) (guards guards' : List 
 
   -- its own outer pages, from the search on
   module _ (block : Block) (steps : List Made) (raise : RaiseSteps f heap n guards guards' (Some block) steps) (legal : Legal f (triples keeper steps ++ l))
-      where
-    abbrev r : IsRaised f (large_of heap) n guards guards' raise.searched raise.after block
-    r = raise.outcome
+    where
+      abbrev r : IsRaised f (large_of heap) n guards guards' raise.searched raise.after block
+      r = raise.outcome
 
-    whole : Legal f (triples keeper (raise.after ++ raise.searched) ++ l)
-    whole = subst (λ (ms : List Made). Legal f (triples keeper ms ++ l)) raise.steps_are legal
+      whole : Legal f (triples keeper (raise.after ++ raise.searched) ++ l)
+      whole = subst (λ (ms : List Made). Legal f (triples keeper ms ++ l)) raise.steps_are legal
 
-    search_legal : Legal f (triples keeper raise.searched ++ l)
-    search_legal = legal_earlier f keeper raise.after raise.searched l whole
+      search_legal : Legal f (triples keeper raise.searched ++ l)
+      search_legal = legal_earlier f keeper raise.after raise.searched l whole
 
-    after_bare : (page : ℕ) → ((r.first + 1 ≤ page) × (page < r.first + 1 + n) → ⊥) → BacksNot page raise.after
-    after_bare page out = subst (BacksNot page) (sym r.after_is)
-        (backs_both page r.left (give_steps (r.first + 1) 0 block r.word r.answer ++ r.backs) (no_backs returning page r.left refl (raised_leaves r))
-        (backs_both page (give_steps (r.first + 1) 0 block r.word r.answer) r.backs (no_backs (Giving ∷ LookLife ∷ []) page (give_steps (r.first + 1) 0 block r.word r.answer) refl (refl, (refl, tt)))
-        (backs_beside (r.first + 1) (r.first + 1 + n) page r.backs (raised_pages r) out)))
+      after_bare : (page : ℕ) → ((r.first + 1 ≤ page) × (page < r.first + 1 + n) → ⊥) → BacksNot page raise.after
+      after_bare page out = subst (BacksNot page) (sym r.after_is)
+          (backs_both page r.left (give_steps (r.first + 1) 0 block r.word r.answer ++ r.backs) (no_backs returning page r.left refl (raised_leaves r))
+          (backs_both page (give_steps (r.first + 1) 0 block r.word r.answer) r.backs (no_backs (Giving ∷ LookLife ∷ []) page (give_steps (r.first + 1) 0 block r.word r.answer) refl (refl, (refl, tt)))
+          (backs_beside (r.first + 1) (r.first + 1 + n) page r.backs (raised_pages r) out)))
 
-    own_bare : (page : ℕ) → ((r.first + 1 ≤ page) × (page < r.first + 1 + n) → ⊥) → word_after (triples keeper raise.searched ++ l) (Word.Backed page) ≡ 0
-        → word_after (triples keeper steps ++ l) (Word.Backed page) ≡ 0
-    own_bare page out zero =
-        subst (λ (ms : List Made). word_after (triples keeper ms ++ l) (Word.Backed page) ≡ 0) (sym raise.steps_are)
-        (subst (λ (m : Whole). word_after m (Word.Backed page) ≡ 0) (triples_append keeper raise.after raise.searched l)
-        (bare_on f keeper page raise.after (triples keeper raise.searched ++ l) (subst (Legal f) (sym (triples_append keeper raise.after raise.searched l)) whole) (after_bare page out) zero))
+      own_bare : (page : ℕ) → ((r.first + 1 ≤ page) × (page < r.first + 1 + n) → ⊥) → word_after (triples keeper raise.searched ++ l) (Word.Backed page) ≡ 0
+          → word_after (triples keeper steps ++ l) (Word.Backed page) ≡ 0
+      own_bare page out zero =
+          subst (λ (ms : List Made). word_after (triples keeper ms ++ l) (Word.Backed page) ≡ 0) (sym raise.steps_are)
+          (subst (λ (m : Whole). word_after m (Word.Backed page) ≡ 0) (triples_append keeper raise.after raise.searched l)
+          (bare_on f keeper page raise.after (triples keeper raise.searched ++ l) (subst (Legal f) (sym (triples_append keeper raise.after raise.searched l)) whole) (after_bare page out) zero))
 
-    read_bare : Since (BackedReadHere (part keeper l) r.first 0) (LeftSince r.first) raise.searched
-        × Since (BackedReadHere (part keeper l) (r.first + n + 1) 0) (LeftSince (r.first + n + 1)) raise.searched
-    read_bare = r.found.bare (part keeper l) (book_finds f heap guards (part keeper l) fits) (agreed_steps f keeper l raise.searched valid search_legal)
+      read_bare : Since (BackedReadHere (part keeper l) r.first 0) (LeftSince r.first) raise.searched
+          × Since (BackedReadHere (part keeper l) (r.first + n + 1) 0) (LeftSince (r.first + n + 1)) raise.searched
+      read_bare = r.found.bare (part keeper l) (book_finds f heap guards (part keeper l) fits) (agreed_steps f keeper l raise.searched valid search_legal)
 
-    guard_bare : (page : ℕ) → is_outer_of (guard_of r.first n block) page ≡ true → word_after (triples keeper steps ++ l) (Word.Backed page) ≡ 0
-    guard_bare page outer = elim (or_cases (r.first == page) (r.first + n + 1 == page) outer) [
-      | inl low ↦ subst (λ (q : ℕ). word_after (triples keeper steps ++ l) (Word.Backed q) ≡ 0) (eqb-true r.first page low)
-          (own_bare r.first (λ out. omega (arith, out.0)) (bare_since f keeper r.first (part keeper l) raise.searched l search_legal read_bare.0))
-      | inr high ↦ subst (λ (q : ℕ). word_after (triples keeper steps ++ l) (Word.Backed q) ≡ 0) (eqb-true (r.first + n + 1) page high)
-          (own_bare (r.first + n + 1) (λ out. omega (arith, out.1)) (bare_since f keeper (r.first + n + 1) (part keeper l) raise.searched l search_legal read_bare.1))
-    ]
+      guard_bare : (page : ℕ) → is_outer_of (guard_of r.first n block) page ≡ true → word_after (triples keeper steps ++ l) (Word.Backed page) ≡ 0
+      guard_bare page outer = elim (or_cases (r.first == page) (r.first + n + 1 == page) outer) [
+        | inl low ↦ subst (λ (q : ℕ). word_after (triples keeper steps ++ l) (Word.Backed q) ≡ 0) (eqb-true r.first page low)
+            (own_bare r.first (λ out. omega (arith, out.0)) (bare_since f keeper r.first (part keeper l) raise.searched l search_legal read_bare.0))
+        | inr high ↦ subst (λ (q : ℕ). word_after (triples keeper steps ++ l) (Word.Backed q) ≡ 0) (eqb-true (r.first + n + 1) page high)
+            (own_bare (r.first + n + 1) (λ out. omega (arith, out.1)) (bare_since f keeper (r.first + n + 1) (part keeper l) raise.searched l search_legal read_bare.1))
+      ]
 
   old_bare : (answer : Option Block) (steps : List Made) (raise : RaiseSteps f heap n guards guards' answer steps) → Legal f (triples keeper steps ++ l)
       → (page : ℕ) → is_outer guards page ≡ true → word_after (triples keeper steps ++ l) (Word.Backed page) ≡ 0

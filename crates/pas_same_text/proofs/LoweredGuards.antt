@@ -192,7 +192,7 @@ first_stays k keeper g (d ∷ fallen) gs none =
 own_at : (k : ℕ) (t : BookGuard → Bool) (g : BookGuard) (gs : List BookGuard) (s : Bool) → AreApart (g ∷ gs)
     → without_all (map (told_guard k) (filter t gs)) (map (told_guard k) gs) ≡ map (told_guard k) (filter (λ x. not (t x)) gs)
     → without_all (map (told_guard k) (if s then g ∷ filter t gs else filter t gs)) (told_guard k g ∷ map (told_guard k) gs)
-      ≡ map (told_guard k) (if not s then g ∷ filter (λ x. not (t x)) gs else filter (λ x. not (t x)) gs)
+    ≡ map (told_guard k) (if not s then g ∷ filter (λ x. not (t x)) gs else filter (λ x. not (t x)) gs)
 own_at k t g gs true apart rest = search (arith, eq-eqb, none_lost)
 own_at k t g gs false apart rest = first_stays k k g (filter t gs) (map (told_guard k) gs) (not_some t gs g.low apart.0) ∙ ap (λ (xs : List Guard). told_guard k g ∷ xs) rest
 

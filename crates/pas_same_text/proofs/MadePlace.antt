@@ -173,73 +173,73 @@ module _ (f : Profile) (k heap class : ℕ) (p : Progress) (w : World) (fewer : 
 
   -- ---- there is one, which is spent
   module _ (s : Slots) (is : local_for heap class c.locals ≡ Some s) (empty : IsEmpty s.starts) (leaves : LeavesWhere s.right s.page (home_of s) place.spent)
-      where
-    found : Finds s found_text
-    found = found_same heap class c.locals (locals_of w k) s both_same is
+    where
+      found : Finds s found_text
+      found = found_same heap class c.locals (locals_of w k) s both_same is
 
-    passes : is_for_slots heap class s ≡ true
-    passes = found_passes heap class c.locals s is
+      passes : is_for_slots heap class s ≡ true
+      passes = found_passes heap class c.locals s is
 
-    of_heap : s.heap ≡ heap
-    of_heap = eqb-true s.heap heap (and_first (s.heap == heap) (s.class == class) passes)
+      of_heap : s.heap ≡ heap
+      of_heap = eqb-true s.heap heap (and_first (s.heap == heap) (s.class == class) passes)
 
-    of_class : s.class ≡ class
-    of_class = eqb-true s.class class (and_second (s.heap == heap) (s.class == class) passes)
+      of_class : s.class ≡ class
+      of_class = eqb-true s.class class (and_second (s.heap == heap) (s.class == class) passes)
 
-    left_over : (fewer ≡ place.kept) × (place.stopped ≡ [])
-    left_over =
-        let less = fewer_left heap class c.locals s is in
-        let long = ap (λ (xs : List Slots). length xs) place.taken.others in
-        let lt : length place.kept < 32 = omega (arith, (before.rest.working k thread).few, less, long) in
-        stops_none place.kept fewer place.stopped (nat_le 32 (length place.kept)) (grind (arith, nat_tests, lt)) place.shortened.first
+      left_over : (fewer ≡ place.kept) × (place.stopped ≡ [])
+      left_over =
+          let less = fewer_left heap class c.locals s is in
+          let long = ap (λ (xs : List Slots). length xs) place.taken.others in
+          let lt : length place.kept < 32 = omega (arith, (before.rest.working k thread).few, less, long) in
+          stops_none place.kept fewer place.stopped (nat_le 32 (length place.kept)) (grind (arith, nat_tests, lt)) place.shortened.first
 
-    steps_are : steps ≡ place.spent
-    steps_are = place.steps_are ∙ ap (λ (ms : List Made). ms ++ place.spent) left_over.1
+      steps_are : steps ≡ place.spent
+      steps_are = place.steps_are ∙ ap (λ (ms : List Made). ms ++ place.spent) left_over.1
 
-    known : IsLocal f (part k p.list) s
-    known = known_found (IsLocal f (part k p.list)) heap class c.locals s (before.rest.working k thread).locals.known is
+      known : IsLocal f (part k p.list) s
+      known = known_found (IsLocal f (part k p.list)) heap class c.locals s (before.rest.working k thread).locals.known is
 
-    start_small : (b : ℕ) → b < 256 → start_of s.class b < 256
-    start_small b small = let low = (start_below s.class b known.class).0 in omega (arith, low, small)
+      start_small : (b : ℕ) → b < 256 → start_of s.class b < 256
+      start_small b small = let low = (start_below s.class b known.class).0 in omega (arith, low, small)
 
-    order : StopStepsAt (home_of s) s steps
-    order = subst (StopStepsAt (home_of s) s) (sym steps_are) (record {
-      mask = s.starts;
-      grains = λ g small. empty g small ∙ sym (empty (start_of s.class g) (start_small g small));
-      back = [];
-      puts = inl (empty, refl);
-      left = place.spent;
-      leaves = leaves;
-      steps_are = sym (append-nil place.spent);
-    })
+      order : StopStepsAt (home_of s) s steps
+      order = subst (StopStepsAt (home_of s) s) (sym steps_are) (record {
+        mask = s.starts;
+        grains = λ g small. empty g small ∙ sym (empty (start_of s.class g) (start_small g small));
+        back = [];
+        puts = inl (empty, refl);
+        left = place.spent;
+        leaves = leaves;
+        steps_are = sym (append-nil place.spent);
+      })
 
-    never : (g : ℕ) → covers s g ≡ true → ⊥
-    never g h = true≢false (sym (and_second (s.page == g / 256) (is_set s.starts (start_of s.class (g % 256))) h) ∙ empty (start_of s.class (g % 256)) (start_small (g % 256) (omega arith)))
+      never : (g : ℕ) → covers s g ≡ true → ⊥
+      never g h = true≢false (sym (and_second (s.page == g / 256) (is_set s.starts (start_of s.class (g % 256))) h) ∙ empty (start_of s.class (g % 256)) (start_small (g % 256) (omega arith)))
 
-    heap_is : found.local.heap ≡ heap
-    heap_is = found.same.heap ∙ of_heap
+      heap_is : found.local.heap ≡ heap
+      heap_is = found.same.heap ∙ of_heap
 
-    class_is : found.local.class ≡ class
-    class_is = found.same.class ∙ of_class
+      class_is : found.local.class ≡ class
+      class_is = found.same.class ∙ of_class
 
-    spent_gone : IsSame f (up_to p k steps fewer) (placed_by k found_text w)
-    spent_gone = subst (λ (x : Option Local). IsSame f (up_to p k steps fewer) (placed_by k x w)) (sym found.is) (given_up_same f k p w s found.local fewer steps record {
-      valid = valid;
-      thread = thread;
-      listed = listed;
-      before = before;
-      same = same;
-      order = order;
-      kinds = kinds;
-      local = found.same;
-      found = ap (λ (h : ℕ). find (is_for h found.local.class) (locals_of w k)) heap_is ∙ (ap (λ (x : ℕ). find (is_for heap x) (locals_of w k)) class_is ∙ found.is);
-      known = known;
-      in_cache = λ g h. absurd (never g h);
-      fewer_same = subst (λ (xs : List Slots). AreSameLocals xs (others found.local.heap found.local.class (locals_of w k))) (sym (left_over.0 ∙ place.taken.others))
-          (subst (AreSameLocals (others_than heap class c.locals)) (sym (ap (λ (h : ℕ). others h found.local.class (locals_of w k)) heap_is ∙ ap (λ (x : ℕ). others heap x (locals_of w k)) class_is)) (others_same heap class c.locals (locals_of w k) both_same));
-      gone = λ g h. absurd (never g h);
-      after = after;
-    })
+      spent_gone : IsSame f (up_to p k steps fewer) (placed_by k found_text w)
+      spent_gone = subst (λ (x : Option Local). IsSame f (up_to p k steps fewer) (placed_by k x w)) (sym found.is) (given_up_same f k p w s found.local fewer steps record {
+        valid = valid;
+        thread = thread;
+        listed = listed;
+        before = before;
+        same = same;
+        order = order;
+        kinds = kinds;
+        local = found.same;
+        found = ap (λ (h : ℕ). find (is_for h found.local.class) (locals_of w k)) heap_is ∙ (ap (λ (x : ℕ). find (is_for heap x) (locals_of w k)) class_is ∙ found.is);
+        known = known;
+        in_cache = λ g h. absurd (never g h);
+        fewer_same = subst (λ (xs : List Slots). AreSameLocals xs (others found.local.heap found.local.class (locals_of w k))) (sym (left_over.0 ∙ place.taken.others))
+            (subst (AreSameLocals (others_than heap class c.locals)) (sym (ap (λ (h : ℕ). others h found.local.class (locals_of w k)) heap_is ∙ ap (λ (x : ℕ). others heap x (locals_of w k)) class_is)) (others_same heap class c.locals (locals_of w k) both_same));
+        gone = λ g h. absurd (never g h);
+        after = after;
+      })
 
   by_found : (x : Option Slots) → local_for heap class c.locals ≡ x → LeavesSpent x place.spent → IsSame f (up_to p k steps fewer) (placed_by k found_text w)
   by_found x is h = search (arith, none_gone, spent_gone)

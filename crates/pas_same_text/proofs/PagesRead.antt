@@ -55,14 +55,14 @@ module _ (f : Profile) (k : ℕ) (l : Whole) (d : Directory) (p : ℕ) where
   step_own : (w : Whole) (e : ℕ) (s : Step) (a : ℕ) → a ≡ word_after w (target s) → ((q : ℕ) (x : Directory) → s ≡ Deed q x → a ≡ 0 → x ≡ d)
       → word_after w (Word.Deed p) ≡ 0
       → ((if same_word (target s) (Word.Deed p) then new_value e s (word_after w (Word.Deed p)) else word_after w (Word.Deed p)) ≡ 0)
-        ⊎ ((if same_word (target s) (Word.Deed p) then new_value e s (word_after w (Word.Deed p)) else word_after w (Word.Deed p)) ≡ deed_word_of d)
+      ⊎ ((if same_word (target s) (Word.Deed p) then new_value e s (word_after w (Word.Deed p)) else word_after w (Word.Deed p)) ≡ deed_word_of d)
   step_own w e (Look x) a is made none = inl (looked (same_word x (Word.Deed p)) (word_after w (Word.Deed p)) ∙ none)
   step_own w e (Deed q x) a is made none = by_page (q == p) refl
     where
       by_page : (t : Bool) → (q == p) ≡ t
           → ((if t then (if word_after w (Word.Deed p) == 0 then deed_word_of x else word_after w (Word.Deed p)) else word_after w (Word.Deed p)) ≡ 0)
-            ⊎ ((if t then (if word_after w (Word.Deed p) == 0 then deed_word_of x else word_after w (Word.Deed p)) else word_after w (Word.Deed p))
-                ≡ deed_word_of d)
+          ⊎ ((if t then (if word_after w (Word.Deed p) == 0 then deed_word_of x else word_after w (Word.Deed p)) else word_after w (Word.Deed p))
+          ≡ deed_word_of d)
       by_page true at = inr (ap (λ (z : Bool). if z then deed_word_of x else word_after w (Word.Deed p)) (eq-eqb (word_after w (Word.Deed p)) 0 none) ∙ ap deed_word_of (made q x refl (is ∙ (ap (λ (y : ℕ). word_after w (Word.Deed y)) (eqb-true q p at) ∙ none))))
       by_page false at = inl none
   step_own w e s a is made none = inl none
@@ -92,7 +92,7 @@ module _ (f : Profile) (k : ℕ) (l : Whole) (d : Directory) (p : ℕ) where
   -- A page without a deed made here was offered before the search if the search got it, or if it is offered afterwards.
   pub was_offered_before : (xs : List Made) → Legal f (triples k xs ++ l) → Always ReturnsDuly xs → Always (MakesNoDeedHere p) xs
       → (Once (GetsHere p) xs → (n : ℕ) × (eligible_bit l n p ≡ true))
-        × ((m : ℕ) → eligible_bit (triples k xs ++ l) m p ≡ true → (n : ℕ) × (eligible_bit l n p ≡ true))
+      × ((m : ℕ) → eligible_bit (triples k xs ++ l) m p ≡ true → (n : ℕ) × (eligible_bit l n p ≡ true))
   was_offered_before [] legal due never = (λ got. absurd got, λ n bit. (n, bit))
   was_offered_before (m ∷ xs) legal due never =
       let before = was_offered_before xs legal.1 due.1 never.1 in (

@@ -16,10 +16,9 @@ use Rattle.pas_steps.proofs.Sets.{same_truth}
 use Rattle.pas_core.specs.Rights.{empty_bit, eligible_bit}
 use Rattle.pas_core.proofs.{OneActor.legal_earlier, OneActor.deed_same, OneActor.offered_deed, Rights.hinted_page}
 use Rattle.pas_scavenger.specs.Passes.{outcomes_in, all_tried, passing, unbacks_in, PassSteps}
-use Rattle.pas_passes.specs.Records.{record_of}
+use Rattle.pas_answers.specs.{PassRecords.record_of, Answers.Progress, Answers.after_pass}
 use Rattle.pas_report.specs.declared.record.{Record.Record, Said.Said}
 use Rattle.pas_trace.specs.Acts.{Act}
-use Rattle.pas_answers.specs.Answers.{Progress, after_pass}
 use Rattle.pas_one_text.specs.{State.World, State.says, Order.acts_on, Passes.outcome_of, Passes.passes}
 use Rattle.pas_one_text.specs.Pages.{page_numbers, is_free, is_empty, is_hinted, is_offered}
 use Rattle.pas_same_text.specs.Same.{IsSame, HasSame, AreSameCaches, has_number}

@@ -112,7 +112,7 @@ module _ (f : Profile) (p : Progress) (w : World) (valid : IsValid f) (between :
 
   empty_outcome : (page : ℕ) (kept : Bool) → IsBacked page → IsFull page → is_kept w page ≡ kept
       → outcome_of f w page
-        ≡ (if kept then Outcome.NotOffered else (if nat_lt w.epoch (epoch_in w.events page + f.age) then Outcome.Young (epoch_in w.events page) else Outcome.Unbacked))
+      ≡ (if kept then Outcome.NotOffered else (if nat_lt w.epoch (epoch_in w.events page + f.age) then Outcome.Young (epoch_in w.events page) else Outcome.Unbacked))
   empty_outcome page kept some full is =
       backed_outcome page None some (used_none f p w valid between has_same page (unguarded page some) full)
       ∙ ap (λ (t : Bool). if t then Outcome.NotOffered else (if nat_lt w.epoch (epoch_in w.events page + f.age) then Outcome.Young (epoch_in w.events page) else Outcome.Unbacked)) is

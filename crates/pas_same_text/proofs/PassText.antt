@@ -7,7 +7,7 @@ use Rattle.std.specs.List.{find, filter, list_any}
 use Rattle.pas_profile.specs.declared.{event.Event.Event, event.Outcome.Outcome, profile.Profile.Profile}
 use Rattle.pas_machine.specs.State.{backed_in, epoch_in}
 use Rattle.pas_scavenger.specs.{Pages.unback_of, Passes.unbacks_in}
-use Rattle.pas_passes.specs.Records.{record_of}
+use Rattle.pas_answers.specs.PassRecords.{record_of}
 use Rattle.pas_report.specs.declared.record.{Record.Record, Said.Said}
 use Rattle.pas_trace.specs.Acts.{numbers_from}
 use Rattle.pas_one_text.specs.State.{Cache, World, each, says}

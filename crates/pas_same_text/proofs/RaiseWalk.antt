@@ -192,7 +192,7 @@ module _ (f : Profile) (keeper k name heap n : ℕ) (w : World) (made : List ℕ
 
   tried_one : (e p m : ℕ) (bare : Bool) → 1 ≤ p → p < end → IsUpTo e p → is_run f w heap (n + 2) p ≡ true → are_bare w p n ≡ bare
       → raises_from f keeper k name heap n (numbers_from p (suc m)) (upto e)
-        ≡ (if bare then raises keeper name heap p n (upto (p + (n + 2))) else raises_from f keeper k name heap n (numbers_from (p + 1) m) (upto (p + (n + 2))))
+      ≡ (if bare then raises keeper name heap p n (upto (p + (n + 2))) else raises_from f keeper k name heap n (numbers_from (p + 1) m) (upto (p + (n + 2))))
   tried_one e p m bare low high up usable is_bare = search (arith, bare_still, deeds_step)
 
   passed_one : (e p m : ℕ) → is_run f w heap (n + 2) p ≡ false

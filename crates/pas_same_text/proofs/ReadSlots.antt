@@ -9,9 +9,8 @@ use Rattle.pas_steps.specs.declared.step.Made.{Made}
 use Rattle.pas_steps.proofs.Sets.{same_truth}
 use Rattle.pas_core.specs.Rights.{free_of_page}
 use Rattle.pas_core.proofs.OneActor.{LendsNone, lends_none}
-use Rattle.pas_choice.specs.Choices.{TookChosen}
+use Rattle.pas_search.specs.{Choices.TookChosen, Kinds.AreSearch, Kinds.searching}
 use Rattle.pas_partial.specs.Rows.{IsInRow, IsFreeSlot, IsLowestRow, rows}
-use Rattle.pas_search.specs.Kinds.{AreSearch, searching}
 use Rattle.pas_segregated.specs.Takes.{slot_within}
 use Rattle.pas_same_text.specs.Words.{free_bit}
 use Rattle.pas_same_text.proofs.SearchMarks.{free_shown, shown_free}

@@ -16,41 +16,41 @@ use Rattle.pas_same_text.proofs.{KeptPages.keeper, KeptPages.kept_by, RestingPag
 use Rattle.pas_same_text.proofs.{SearchedPages.find_none, Tests.and_first, Tests.and_second}
 
 module _ (f : Profile) (p : Progress) (w : World) (valid : IsValid f) (between : IsBetween f p) (same : HasSame f p w) (d : Directory) (of : IsDirectoryOf f d)
-    where
-  abbrev l : Whole
-  l = p.list
+  where
+    abbrev l : Whole
+    l = p.list
 
-  abbrev is_held : ℕ → Bool
-  is_held q = is_of w d q && is_kept w q
+    abbrev is_held : ℕ → Bool
+    is_held q = is_of w d q && is_kept w q
 
-  -- a page of the directory that is neither offered nor parked is kept, and one that is kept is so
-  hands_kept : (q : ℕ) → IsInHands f d l q → is_held q ≡ true
-  hands_kept q h = and_from (is_of w d q) (is_kept w q) own (by_place (right_in_one_place f l between.legal q))
-    where
-      own : is_of w d q ≡ true
-      own = ap (λ (es : List Event). is_same d (deed_in es q)) same.events ∙ deed_from_word f p w valid between same q d (deed_in (visible l) q) refl (sym (deed_of f l between.legal q) ∙ h.of_directory) of.kind
+    -- a page of the directory that is neither offered nor parked is kept, and one that is kept is so
+    hands_kept : (q : ℕ) → IsInHands f d l q → is_held q ≡ true
+    hands_kept q h = and_from (is_of w d q) (is_kept w q) own (by_place (right_in_one_place f l between.legal q))
+      where
+        own : is_of w d q ≡ true
+        own = ap (λ (es : List Event). is_same d (deed_in es q)) same.events ∙ deed_from_word f p w valid between same q d (deed_in (visible l) q) refl (sym (deed_of f l between.legal q) ∙ h.of_directory) of.kind
 
-      by_place : IsRightInOnePlace f l q → is_kept w q ≡ true
-      by_place (inl none) = absurd (deed_word_of-positive d (sym h.of_directory ∙ none.no_deed))
-      by_place (inr (inl one)) = kept_by f p w valid between same one.actor q (one.holder one.actor ∙ eq-eqb one.actor one.actor refl)
-      by_place (inr (inr (inl o))) = search (arith, same_from_deed_word, true≢false, eq-eqb)
-      by_place (inr (inr (inr parks))) = absurd (true≢false (sym parks.parked ∙ h.not_parked))
+        by_place : IsRightInOnePlace f l q → is_kept w q ≡ true
+        by_place (inl none) = absurd (deed_word_of-positive d (sym h.of_directory ∙ none.no_deed))
+        by_place (inr (inl one)) = kept_by f p w valid between same one.actor q (one.holder one.actor ∙ eq-eqb one.actor one.actor refl)
+        by_place (inr (inr (inl o))) = search (arith, same_from_deed_word, true≢false, eq-eqb)
+        by_place (inr (inr (inr parks))) = absurd (true≢false (sym parks.parked ∙ h.not_parked))
 
-  kept_hands : (q : ℕ) → is_held q ≡ true → IsInHands f d l q
-  kept_hands q h =
-      let deed : deed_in (visible l) q ≡ Some d = deed_now f p w valid between same q d of (and_first (is_of w d q) (is_kept w q) h) in
-      let word : word_after l (Word.Deed q) ≡ deed_word_of d = deed_of f l between.legal q ∙ ap word_of_deed deed in
-      let k = keeper f p w valid between same q (and_second (is_of w d q) (is_kept w q) h) in
-      record {
-        of_region = deed_has_page f l between.legal q (λ none. deed_word_of-positive d (sym word ∙ none));
-        of_directory = word;
-        not_offered = right_not_offered f l between.legal k.0 (number_of d) q k.1;
-        not_parked = right_not_parked f l between.legal k.0 q k.1;
-      }
+    kept_hands : (q : ℕ) → is_held q ≡ true → IsInHands f d l q
+    kept_hands q h =
+        let deed : deed_in (visible l) q ≡ Some d = deed_now f p w valid between same q d of (and_first (is_of w d q) (is_kept w q) h) in
+        let word : word_after l (Word.Deed q) ≡ deed_word_of d = deed_of f l between.legal q ∙ ap word_of_deed deed in
+        let k = keeper f p w valid between same q (and_second (is_of w d q) (is_kept w q) h) in
+        record {
+          of_region = deed_has_page f l between.legal q (λ none. deed_word_of-positive d (sym word ∙ none));
+          of_directory = word;
+          not_offered = right_not_offered f l between.legal k.0 (number_of d) q k.1;
+          not_parked = right_not_parked f l between.legal k.0 q k.1;
+        }
 
-  -- A refusal's reason that is true of the whole state of the replay is the one that the text says.
-  pub refusal_told : (room : NoRoom) → IsTrueReason f d l room → refusal f w d ≡ room
-  refusal_told NoRoom.NoSpace none = ap refusal_by (find_none is_held f.pages 1 (λ q low high. false_from_ne_true (is_held q) (λ h. none q (kept_hands q h))))
-  refusal_told (NoRoom.Held page) held =
-      let low = held.0.of_region.0 in let high = held.0.of_region.1 in
-      ap refusal_by (find_first is_held f.pages 1 page low (omega (arith, high)) (hands_kept page held.0) (λ q above below. false_from_ne_true (is_held q) (λ h. held.1 q below (kept_hands q h))))
+    -- A refusal's reason that is true of the whole state of the replay is the one that the text says.
+    pub refusal_told : (room : NoRoom) → IsTrueReason f d l room → refusal f w d ≡ room
+    refusal_told NoRoom.NoSpace none = ap refusal_by (find_none is_held f.pages 1 (λ q low high. false_from_ne_true (is_held q) (λ h. none q (kept_hands q h))))
+    refusal_told (NoRoom.Held page) held =
+        let low = held.0.of_region.0 in let high = held.0.of_region.1 in
+        ap refusal_by (find_first is_held f.pages 1 page low (omega (arith, high)) (hands_kept page held.0) (λ q above below. false_from_ne_true (is_held q) (λ h. held.1 q below (kept_hands q h))))

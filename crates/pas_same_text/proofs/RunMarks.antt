@@ -20,8 +20,8 @@ use Rattle.pas_one_text.specs.State.{World}
 use Rattle.pas_one_text.specs.Pages.{is_free, is_hinted, is_guarded, is_offered}
 use Rattle.pas_same_text.specs.{Same.HasSame, Same.ArePagesSame, Acts.IsBetween}
 use Rattle.pas_same_text.proofs.GivingBack.{HintsPage, OffersPage, once_parts, backed_stays, hinted_stays, hinted_by, offered_by}
-use Rattle.pas_same_text.proofs.{PagesRead.was_offered_before, RestingPages.clear_of, RestingPages.offered_bit, SearchedMarks.offers_got, SearchedMarks.offered_still}
-use Rattle.pas_same_text.proofs.{SearchMarks.read_free}
+use Rattle.pas_same_text.proofs.{PagesRead.was_offered_before, RestingPages.clear_of, RestingPages.offered_bit, SearchedMarks.offers_got}
+use Rattle.pas_same_text.proofs.{SearchedMarks.offered_still, SearchMarks.read_free}
 
 -- each deed that was made is of the directory, and of a page that is one of these
 abbrev pub DeedsOn : Directory → (ℕ → Bool) → List Made → Type 0

@@ -39,7 +39,7 @@ replaced_keeps f k old None w = refl
 
 suited_indexes : (f : Profile) (k name size align : ℕ) (old : Block) (t : Bool) (w : World)
     → (if t then keeps_block k name old w else replaces f k name old size align w).indexes
-      ≡ after_operation f (unless_suited t (request_for old name size align)) w.indexes
+    ≡ after_operation f (unless_suited t (request_for old name size align)) w.indexes
 suited_indexes f k name size align old t w = search (arith, replaced_keeps, request_indexes)
 
 remake_indexes : (f : Profile) (k name old heap size align : ℕ) (meant : Option (Option Block)) (w : World)

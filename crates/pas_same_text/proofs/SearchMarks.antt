@@ -197,7 +197,7 @@ module _ (f : Profile) (k : ℕ) (l : Whole) where
   -- A page but the one served was offered before the search if the search got it, or if it is offered afterwards.
   pub was_offered : (d : Directory) (page q : ℕ) (xs : List Made) → page ≢ q → Legal f (triples k xs ++ l) → Always ReturnsDuly xs → EventsAt d page xs
       → (Once (GetsHere q) xs → (n : ℕ) × (eligible_bit l n q ≡ true))
-        × ((m : ℕ) → eligible_bit (triples k xs ++ l) m q ≡ true → (n : ℕ) × (eligible_bit l n q ≡ true))
+      × ((m : ℕ) → eligible_bit (triples k xs ++ l) m q ≡ true → (n : ℕ) × (eligible_bit l n q ≡ true))
   was_offered d page q [] ne legal due at = (λ got. absurd got, λ n bit. (n, bit))
   was_offered d page q (m ∷ xs) ne legal due at =
       let before = was_offered d page q xs ne legal.1 due.1 at.1 in

@@ -90,58 +90,58 @@ module _ (threads : ℕ) (f : Profile) (keeper : ℕ) (p : Progress) (steps : Li
 -- ---- a keeper tried a guarded request
 module _ (f : Profile) (keeper : ℕ) (r : Request) (p : Progress) (t : Tried) (valid : IsValid f) (is : IsThread f keeper) (before : IsBetween f p)
     (uncached : (p.caches keeper).locals ≡ []) (h : IsTried f keeper r (part keeper p.list) (p.books keeper) t) (legal : Legal f (after_trying p keeper t).list)
-    where
-  whole : Legal f (triples keeper (h.raised ++ h.swept) ++ p.list)
-  whole = subst (λ (ms : List Made). Legal f (triples keeper ms ++ p.list)) h.steps_are legal
+  where
+    whole : Legal f (triples keeper (h.raised ++ h.swept) ++ p.list)
+    whole = subst (λ (ms : List Made). Legal f (triples keeper ms ++ p.list)) h.steps_are legal
 
-  sweep_legal : Legal f (triples keeper h.swept ++ p.list)
-  sweep_legal = legal_earlier f keeper h.raised h.swept p.list whole
+    sweep_legal : Legal f (triples keeper h.swept ++ p.list)
+    sweep_legal = legal_earlier f keeper h.raised h.swept p.list whole
 
-  -- after the sweep
-  abbrev pub swept : Progress
-  swept = swept_to p keeper h.left h.swept h.lowered
+    -- after the sweep
+    abbrev pub swept : Progress
+    swept = swept_to p keeper h.left h.swept h.lowered
 
-  sweep_bare : (page : ℕ) → is_outer h.left page ≡ true → word_after swept.list (Word.Backed page) ≡ 0
-  sweep_bare page outer = swept_bare f keeper false p h.swept h.left h.lowered valid before sweep_legal h.sweep page outer
+    sweep_bare : (page : ℕ) → is_outer h.left page ≡ true → word_after swept.list (Word.Backed page) ≡ 0
+    sweep_bare page outer = swept_bare f keeper false p h.swept h.left h.lowered valid before sweep_legal h.sweep page outer
 
-  sweep_beside : Each IsBeside h.left
-  sweep_beside = swept_beside f keeper false p h.swept h.left h.lowered valid before sweep_legal h.sweep
+    sweep_beside : Each IsBeside h.left
+    sweep_beside = swept_beside f keeper false p h.swept h.left h.lowered valid before sweep_legal h.sweep
 
-  sweep_fits : FitsBook f h.left (h.swept ++ part keeper p.list)
-  sweep_fits = h.sweep.fits.from (part keeper p.list) h.fits (agreed_steps f keeper p.list h.swept valid sweep_legal)
+    sweep_fits : FitsBook f h.left (h.swept ++ part keeper p.list)
+    sweep_fits = h.sweep.fits.from (part keeper p.list) h.fits (agreed_steps f keeper p.list h.swept valid sweep_legal)
 
-  -- After a keeper's sweep all actors rest.
-  pub swept_between : IsBetween f swept
-  swept_between = record {
-    legal = sweep_legal;
-    rest = keeper_resting f p keeper (with_book p.books keeper h.left) h.swept h.left valid is before uncached sweep_legal (own_book p.books keeper h.left) (λ j ne. other_book p.books keeper j h.left ne) sweep_fits sweep_beside sweep_bare;
-  }
+    -- After a keeper's sweep all actors rest.
+    pub swept_between : IsBetween f swept
+    swept_between = record {
+      legal = sweep_legal;
+      rest = keeper_resting f p keeper (with_book p.books keeper h.left) h.swept h.left valid is before uncached sweep_legal (own_book p.books keeper h.left) (λ j ne. other_book p.books keeper j h.left ne) sweep_fits sweep_beside sweep_bare;
+    }
 
-  -- after the raise
-  pub raise_legal : Legal f (triples keeper h.raised ++ swept.list)
-  raise_legal = subst (Legal f) (sym (triples_append keeper h.raised h.swept p.list)) whole
+    -- after the raise
+    pub raise_legal : Legal f (triples keeper h.raised ++ swept.list)
+    raise_legal = subst (Legal f) (sym (triples_append keeper h.raised h.swept p.list)) whole
 
-  -- After its sweep a keeper fits the book that is left.
-  pub raise_fits : FitsBook f h.left (part keeper swept.list)
-  raise_fits = subst (FitsBook f h.left) (sym (part_of_own keeper h.swept p.list)) sweep_fits
+    -- After its sweep a keeper fits the book that is left.
+    pub raise_fits : FitsBook f h.left (part keeper swept.list)
+    raise_fits = subst (FitsBook f h.left) (sym (part_of_own keeper h.swept p.list)) sweep_fits
 
-  raise_rest : AreResting f p.caches (with_book p.books keeper t.guards) (triples keeper h.raised ++ swept.list)
-  raise_rest = keeper_resting f swept keeper (with_book p.books keeper t.guards) h.raised t.guards valid is swept_between uncached raise_legal (own_book p.books keeper t.guards)
-      (λ j ne. other_book p.books keeper j t.guards ne ∙ sym (other_book p.books keeper j h.left ne))
-      (h.raise.fits.from (part keeper swept.list) raise_fits (agreed_steps f keeper swept.list h.raised valid raise_legal))
-      (raised_beside f keeper r.heap (pages_of (wanted_by f r)) swept.list h.left t.guards valid raise_fits sweep_beside sweep_bare t.block h.raised h.raise)
-      (raised_bare f keeper r.heap (pages_of (wanted_by f r)) swept.list h.left t.guards valid raise_fits sweep_beside sweep_bare t.block h.raised h.raise raise_legal)
+    raise_rest : AreResting f p.caches (with_book p.books keeper t.guards) (triples keeper h.raised ++ swept.list)
+    raise_rest = keeper_resting f swept keeper (with_book p.books keeper t.guards) h.raised t.guards valid is swept_between uncached raise_legal (own_book p.books keeper t.guards)
+        (λ j ne. other_book p.books keeper j t.guards ne ∙ sym (other_book p.books keeper j h.left ne))
+        (h.raise.fits.from (part keeper swept.list) raise_fits (agreed_steps f keeper swept.list h.raised valid raise_legal))
+        (raised_beside f keeper r.heap (pages_of (wanted_by f r)) swept.list h.left t.guards valid raise_fits sweep_beside sweep_bare t.block h.raised h.raise)
+        (raised_bare f keeper r.heap (pages_of (wanted_by f r)) swept.list h.left t.guards valid raise_fits sweep_beside sweep_bare t.block h.raised h.raise raise_legal)
 
-  -- The steps of a raise behind those of its sweep are all the steps of the try.
-  pub sweep_and_raise_are_the_try : triples keeper h.raised ++ swept.list ≡ triples keeper t.steps ++ p.list
-  sweep_and_raise_are_the_try = triples_append keeper h.raised h.swept p.list ∙ ap (λ (ms : List Made). triples keeper ms ++ p.list) (sym h.steps_are)
+    -- The steps of a raise behind those of its sweep are all the steps of the try.
+    pub sweep_and_raise_are_the_try : triples keeper h.raised ++ swept.list ≡ triples keeper t.steps ++ p.list
+    sweep_and_raise_are_the_try = triples_append keeper h.raised h.swept p.list ∙ ap (λ (ms : List Made). triples keeper ms ++ p.list) (sym h.steps_are)
 
-  tried_rest : AreResting f p.caches (with_book p.books keeper t.guards) (triples keeper t.steps ++ p.list)
-  tried_rest = subst (AreResting f p.caches (with_book p.books keeper t.guards)) sweep_and_raise_are_the_try raise_rest
+    tried_rest : AreResting f p.caches (with_book p.books keeper t.guards) (triples keeper t.steps ++ p.list)
+    tried_rest = subst (AreResting f p.caches (with_book p.books keeper t.guards)) sweep_and_raise_are_the_try raise_rest
 
-  -- After a keeper tried a guarded request, all actors rest.
-  pub tried_between : IsBetween f (after_trying p keeper t)
-  tried_between = record { legal = legal; rest = tried_rest }
+    -- After a keeper tried a guarded request, all actors rest.
+    pub tried_between : IsBetween f (after_trying p keeper t)
+    tried_between = record { legal = legal; rest = tried_rest }
 
 -- ==== ANY ACT
 list_before : (f : Profile) (op : Op) (p p' : Progress) → AnswersOp f op p p' → Legal f p'.list → Legal f p.list

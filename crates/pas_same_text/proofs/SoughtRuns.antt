@@ -125,7 +125,7 @@ module _ (f : Profile) (k heap n : ℕ) (l : Whole) (valid : IsValid f) (of : Is
       where
         one : (s : Step) (a : ℕ) → a ≡ word_after (triples k xs ++ l) (target s)
             → ((page : ℕ) (e : Directory) → s ≡ Deed page e → a ≡ 0
-                → (e ≡ d) × ((first : ℕ) × IsInRun first (n + 2) page × AllUsable d (n + 2) first xs × Chosen first))
+            → (e ≡ d) × ((first : ℕ) × IsInRun first (n + 2) page × AllUsable d (n + 2) first xs × Chosen first))
             → AllByRecursion (IsMadeOf n l Good) (deeded xs) → AllByRecursion (IsMadeOf n l Good) (with_deed s a (deeded xs))
         one (Deed q e) a answer is rest = by_answer (a == 0) q (deeded xs) (λ zero.
             let none : a ≡ 0 = eqb-true a 0 zero in

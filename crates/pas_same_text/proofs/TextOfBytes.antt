@@ -20,7 +20,7 @@ module _ {A : Type 0} (tells : Profile → World → A) where
   -- The replay of the text is that of its plan, in whose region the threads alone are actors.
   pub replay_told : (bytes : List ℕ) (plan : Plan) (is : IsPlanOf bytes plan)
       → (let p : Parsed = record { header = is.header; items = is.items } in tells (text_region p) (replay_of p))
-        ≡ tells plan.profile (replayed plan.profile (keepers_of plan) (phases_of plan))
+      ≡ tells plan.profile (replayed plan.profile (keepers_of plan) (phases_of plan))
   replay_told bytes plan is =
       let f : Profile = record is.header.profile { shared = shared_in is.items } in
       let keepers : (if guard_in is.items == 0 then 0 else is.header.profile.threads) ≡ keepers_of plan =
@@ -31,7 +31,7 @@ module _ {A : Type 0} (tells : Profile → World → A) where
   -- .. and where there are no keepers, in the region of the plan's replays
   unguarded_told : (bytes : List ℕ) (plan : Plan) (is : IsPlanOf bytes plan) → keepers_of plan ≡ 0
       → (let p : Parsed = record { header = is.header; items = is.items } in tells (text_region p) (replay_of p))
-        ≡ tells (region_of plan) (replayed (region_of plan) (keepers_of plan) (phases_of plan))
+      ≡ tells (region_of plan) (replayed (region_of plan) (keepers_of plan) (phases_of plan))
   unguarded_told bytes plan is none = replay_told bytes plan is ∙ ap (λ (f : Profile). by_parts f (keepers_of plan) (phases_of plan)) (region_same plan none)
 
 abbrev its_text : Profile → World → Option (List ℕ)

@@ -88,15 +88,15 @@ module _ (f : Profile) (k heap n : ℕ) (p : Progress) (w : World) (valid : IsVa
   -- the page got a deed, or its deed is as it was
   deed_or : (page : ℕ) (qs : List ℕ) → AllByRecursion (λ q. word_after l (Word.Deed q) ≡ 0) qs
       → ((deed_in (deeds_of k d qs ++ w.events) page ≡ Some d) × (word_after l (Word.Deed page) ≡ 0))
-        ⊎ (deed_in (deeds_of k d qs ++ w.events) page ≡ deed_in w.events page)
+      ⊎ (deed_in (deeds_of k d qs ++ w.events) page ≡ deed_in w.events page)
   deed_or page [] bare = inr refl
   deed_or page (q ∷ qs) bare = at (q == page) refl (deed_or page qs bare.1)
     where
       at : (t : Bool) → (q == page) ≡ t
           → ((deed_in (deeds_of k d qs ++ w.events) page ≡ Some d) × (word_after l (Word.Deed page) ≡ 0))
-            ⊎ (deed_in (deeds_of k d qs ++ w.events) page ≡ deed_in w.events page)
+          ⊎ (deed_in (deeds_of k d qs ++ w.events) page ≡ deed_in w.events page)
           → (((if t then Some d else deed_in (deeds_of k d qs ++ w.events) page) ≡ Some d) × (word_after l (Word.Deed page) ≡ 0))
-            ⊎ ((if t then Some d else deed_in (deeds_of k d qs ++ w.events) page) ≡ deed_in w.events page)
+          ⊎ ((if t then Some d else deed_in (deeds_of k d qs ++ w.events) page) ≡ deed_in w.events page)
       at true e rest = inl (refl, ap (λ (x : ℕ). word_after l (Word.Deed x)) (sym (eqb-true q page e)) ∙ bare.0)
       at false e rest = rest
 

@@ -127,7 +127,7 @@ freed_gives : (f : Profile) (k : ℕ) (c c' : Cached) (entry : Entry) (steps : L
 freed_gives f k c c' entry steps said v h = search (arith, full_gives)
 
 named_gives : (f : Profile) (k : ℕ) (c c' : Cached) (name : ℕ) (size : Option ℕ) (meant : Option (Option Block)) (steps : List Made) (said : Option Said)
-      (v : View)
+    (v : View)
     → IsFreedBy f k c c' name size meant steps said → AreNoGives (events_by k v steps)
 named_gives f k c c' name size None steps said v freed = absurd freed
 named_gives f k c c' name size (Some None) steps said v freed = subst (λ (ms : List Made). AreNoGives (events_by k v ms)) (sym freed.0) tt

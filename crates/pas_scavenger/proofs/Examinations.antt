@@ -451,7 +451,7 @@ module _ {σ σ1 : Standing} (page epoch b : ℕ) (some : b ≢ 0) (first : Make
 
     module _ {σ3 : Standing} (d : Directory) (r : ReadsDirectory page σ2 σ3 d) where
       known : Calls σ σ3 (MayExamine page epoch) (λ v w. MayExamine page epoch w
-            × KnowsDeed page d w) (made (Look (Word.Deed page)) (deed_word_of d) ∷ first_looks page b None)
+          × KnowsDeed page d w) (made (Look (Word.Deed page)) (deed_word_of d) ∷ first_looks page b None)
       known =
           let look = made (Look (Word.Deed page)) (deed_word_of d) ∷ [] in
           let c : Calls σ2 σ3 (IsSeen page epoch) (λ v w. MayExamine page epoch w × KnowsDeed page d w) look

@@ -34,7 +34,7 @@ finds_call rule d served adds finds = record {
 
 -- A page that a search found is a new one of its actor.
 pub found_call : {Found : Type 0} (rule : Rule Found) (d : Directory) {tells : Bool} {σ σ1 : Standing} (served : Served Found)
-      (searches : Searches rule tells d σ σ1 (Ok served))
+    (searches : Searches rule tells d σ σ1 (Ok served))
     → Calls σ σ1 (MaySearch d) (KeepsNew rule d served) searches.steps
 found_call rule d served searches = finds_call rule d served searches.adds searches.outcome
 

@@ -8,3 +8,8 @@ mod Surveyed
 mod BestOffered
 pub mod TheBestPage
 pub mod Alone
+mod Parts
+mod Allocated
+mod Placed
+pub mod RunAlone
+pub mod Sessions

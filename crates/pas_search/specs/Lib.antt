@@ -4,3 +4,7 @@ pub mod Searches
 pub mod Telling
 pub mod Alone
 pub mod Ranks
+pub mod Choices
+pub mod Allocates
+pub mod ByRank
+pub mod Placements

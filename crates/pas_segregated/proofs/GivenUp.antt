@@ -36,7 +36,7 @@ takes_kept_by_giving_back page = same_over (takes_since page) counted giving_bac
 -- takes of the page are counted
 word_count : (page word mask a : ℕ) (t : Bool) (before : List Made)
     → takes_since page ((if t then [] else made (Take page word mask) a ∷ []) ++ before)
-      ≡ (if t then [] else made (Take page word mask) a ∷ []) ++ takes_since page before
+    ≡ (if t then [] else made (Take page word mask) a ∷ []) ++ takes_since page before
 word_count page word mask a true before = refl
 word_count page word mask a false before = ap (λ t. if t then made (Take page word mask) a ∷ takes_since page before else takes_since page before) (eq-eqb page page refl)
 

@@ -2,11 +2,10 @@
 use Rattle.std.specs.Prelude.{◌≡◌, ℕ, true, List, [], ◌∷◌, ◌++◌}
 use Rattle.pas_profile.specs.Profiles.{IsWordOf}
 use Rattle.pas_profile.specs.declared.{profile.Profile.Profile, word.Word.Word}
-use Rattle.pas_steps.specs.{Views.View, Desks.Seat, Desks.Standing, States.profile_of as the_profile_of, States.word_in}
+use Rattle.pas_steps.specs.{Views.View, Desks.Seat, Desks.Standing, States.profile_of as the_profile_of, States.word_in, Noted.AreNotesOf, Noted.room_of_notes}
 use Rattle.pas_steps.specs.Lists.{Whole, Legal, part, word_after}
 use Rattle.pas_steps.specs.declared.state.State.{State}
 use Rattle.pas_core.specs.Orders.{steps_by}
-use Rattle.pas_region.specs.Noted.{AreNotesOf, room_of_notes}
 use Rattle.pas_shared.specs.Ruled.{among, made_in, rows_in, all_actors, steps_of, AreRowsOf}
 use Rattle.pas_shared.specs.declared.{rule.Entry.Entry, rule.Row.Row, region.SharedRegion.SharedRegion, pass.SharedPass.SharedPass, bench.Bench.Bench}
 use Rattle.pas_shared.specs.declared.{bench.Member.Member, bench_desk.BenchHome.BenchHome}

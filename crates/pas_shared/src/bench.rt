@@ -12,7 +12,7 @@ use crate::pass::{ActorSeat, SharedPass};
 use crate::region::SharedRegion;
 use crate::rule::{JoinsBoth, Leaves, Picks, Settles, SplitsPicked, Stands, TableSeat};
 use pas_profile::{Event, Profile};
-use pas_region::Notes;
+use pas_steps::Notes;
 use std::marker::Brand;
 
 /// A seat of several actors. It has no bytes.
@@ -33,7 +33,7 @@ pub struct Member {
 }
 
 impl Member {
-    ghost use Rattle.pas_region.specs.Noted.{events_noted};
+    ghost use Rattle.pas_steps.specs.Noted.{events_noted};
     ghost use Rattle.pas_shared.specs.Benches.{seat_of_member};
 
     /// The actor.

@@ -9,7 +9,7 @@ use crate::pass::{ActorSeat, SharedPass};
 use crate::region::SharedRegion;
 use crate::rule::{Arrives, JoinsBoth, Looks, SplitsAll, SplitsLast, TableSeat};
 use pas_profile::Profile;
-use pas_region::Notes;
+use pas_steps::Notes;
 
 /// The first steps of all actors at a region, up to the last look, and the actors that it took in since. It has no bytes.
 #[derive(Drop)]

@@ -10,7 +10,7 @@ use crate::region::{Opening, SharedRegion};
 use crate::rule::{SplitsFirst, TableSeat, TableWords};
 use atomic_table::Table;
 use pas_profile::{EventRoom, Layout, NoMemory, Profile};
-use pas_region::{Notes, opening_words};
+use pas_steps::{Notes, opening_words};
 use std::alloc::Global;
 
 /// A seat for the first actor that has none.

@@ -1,16 +1,15 @@
 //! The passes of the actors.
 ghost use Rattle.std.specs.Prelude.{◌≡◌, ◌+◌, ◌≤◌, [], ◌∷◌, length};
 ghost use Rattle.pas_profile.specs.Profiles.{IsValid};
-ghost use Rattle.pas_region.specs.Noted.{AreNotesOf, events_noted, count_of_notes, room_of_notes};
+ghost use Rattle.pas_steps.specs.Noted.{AreNotesOf, events_noted, count_of_notes, room_of_notes};
 ghost use Rattle.pas_shared.specs.Ruled.{alone, view_in};
 
 use crate::exchange::exchange;
 use crate::region::SharedRegion;
 use crate::rule::TableSeat;
 use pas_profile::{Event, Profile};
-use pas_region::Notes;
-use pas_steps::Step;
 use pas_steps::effect::target;
+use pas_steps::{Notes, Step};
 use std::marker::Brand;
 
 /// A seat of the table that names one actor.

@@ -16,3 +16,5 @@ pub mod Unknown
 pub mod SpareRoom
 pub mod ReadDeeds
 pub mod Evidence
+mod Running
+pub mod Noting

@@ -15,3 +15,5 @@ pub mod Evidence
 pub mod Kinds
 pub mod Calls
 pub mod Unknown
+pub mod Runs
+pub mod Noted

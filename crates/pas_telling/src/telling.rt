@@ -5,6 +5,7 @@ ghost use Rattle.pas_report.specs.Rooms.{records_in};
 ghost use Rattle.pas_telling.specs.Faults.{fault_text, reason_text};
 ghost use Rattle.pas_telling.specs.Outcomes.{IsShown, IsWritable, outcome_status, outcome_text, shown_text};
 
+use crate::manner::Manner;
 use crate::outcome::Outcome;
 use crate::settling::write_and_settle;
 use pas_io::whole::write_all;
@@ -13,7 +14,6 @@ use pas_report::text::push_field;
 use pas_report::{Line, Records, report, write_lines};
 use pas_steps::State;
 use pas_trace::{Reason, TraceFault};
-use pas_words::Manner;
 use std::alloc::Global;
 use std::thread::Threads;
 

@@ -1,13 +1,12 @@
 -- Actors on a bench: they sit down with their passes, stand still while another one acts, and leave.
 use Rattle.std.proofs.Common.{◌≡◌, ◌≢◌, ◌==◌, ℕ, Bool, true, false, if◌then◌else◌, inl, inr, List, [], ◌∷◌, ◌++◌, length, refl, ap, sym, ◌∙◌, subst, append-nil}
 use Rattle.std.proofs.Common.{eq-eqb, ne_eqb, true≢false, ◌+◌, ◌≤◌}
-use Rattle.pas_steps.specs.{Agreement.Agreed, Calls.Calls, Calls.Leads, Events.events_of, Lists.Whole, Lists.part, Views.View}
+use Rattle.pas_steps.specs.{Agreement.Agreed, Calls.Calls, Calls.Leads, Events.events_of, Lists.Whole, Lists.part, Views.View, Noted.AreNotesOf}
+use Rattle.pas_steps.specs.{Noted.room_of_notes}
 use Rattle.pas_steps.specs.Desks.{Seat, Standing, triple, triples}
-use Rattle.pas_steps.specs.declared.step.Made.{Made}
+use Rattle.pas_steps.specs.declared.{step.Made.Made, notes.Notes.Notes}
 use Rattle.pas_steps.proofs.Parts.{part_of_own}
 use Rattle.pas_profile.specs.declared.profile.Profile.{Profile}
-use Rattle.pas_region.specs.Noted.{AreNotesOf, room_of_notes}
-use Rattle.pas_region.specs.declared.notes.Notes.{Notes}
 use Rattle.pas_core.proofs.Choosing.{part_of_chosen}
 use Rattle.pas_shared.specs.Ruled.{among, made_in, SitsIn, HasRow, entries_by, rows_of, rows_of_only, isnt, only_this, all_actors, steps_of, IsRowOf, AreRowsOf}
 use Rattle.pas_shared.specs.Benches.{rows_on, first_row, row_on, made_by, seat_of_member, IsBenchOf, IsMemberOf, IsFreshRow, HasLooked, SitsInRow, MaySitOn}

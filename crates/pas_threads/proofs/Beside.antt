@@ -27,7 +27,7 @@ pub keeper_beside : {region : SharedRegion} {b : Bench} {m : Member} {f : Profil
 keeper_beside may at = record { sits = sits_as refl (λ stood. (may, stood.0, stood.1)) at.sits; book = at.book; spare = at.spare; places = at.places }
 
 abbrev pub tries_beside : {region now : SharedRegion} {b c : Bench} {m n : Member} {f : Profile} {k : ℕ} {r : Request} {block : Option Block}
-      {book book' : GuardBook} {out out' : Records} {later : LaterKept} {p : Progress}
+    {book book' : GuardBook} {out out' : Records} {later : LaterKept} {p : Progress}
     → MaySitOn now c n
     → KeeperTries f k r block (keeper_has (standing_on b m) book out) (keeper_has (standing_on c n) book' out') later p
     → KeeperTries f k r block (keeper_has (standing_beside region b m) book out) (keeper_has (standing_beside now c n) book' out') later p

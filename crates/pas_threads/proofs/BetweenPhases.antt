@@ -19,11 +19,10 @@ use Rattle.pas_answers.specs.{Reaching.Reaches, Replays.at_start, Phases.AreInPh
 use Rattle.pas_answers.specs.Stages.{itself, Stage, stage, one_by_one, phase_stages, stages_from, stages_of}
 use Rattle.pas_answers.specs.Ways.{OnThreads, AreSpoken, by_actors, arranged, records_by}
 use Rattle.pas_answers.proofs.{OwnRecords.records_both as said_both, OwnRecords.spoken_both, Reached.reach_both}
-use Rattle.pas_plans.proofs.ActsLeft.{acts_left, close_left, first_phase, other_phase}
-use Rattle.pas_shares.proofs.Arranging.{are_arranged}
+use Rattle.pas_acts.proofs.ActsLeft.{acts_left, close_left, first_phase, other_phase}
+use Rattle.pas_acts.proofs.{Arranging.are_arranged, Alone.rests_still, Alone.sits_still}
 use Rattle.pas_acts.specs.NameBooks.{NamesAt, requests_in, room_for, Requests}
 use Rattle.pas_acts.specs.declared.names.NameBook.{NameBook}
-use Rattle.pas_acts.proofs.Alone.{rests_still, sits_still}
 use Rattle.pas_threads.specs.Pairs.{no_more, KeeperRests, said_by_keeper, owed_kept, keeper_at, owed_by_keepers, AreGuarded, IsLow, MayLower, LoweredAll}
 use Rattle.pas_threads.specs.Sessions.{planned, Session, evenly, WorkerHas, ScavengerRests, TeamAt, HasPlaces, HasRoom, AreMarked, AreWritten, AreResting}
 use Rattle.pas_threads.specs.Sessions.{CloseDone, owed_by, PhaseAt, PhaseDone, HasReplayed, IsOfActors, StandSo, WentBy}
@@ -437,7 +436,7 @@ first_stages threads keepers (suc n) phase phases is = absurd (omega (arith, is)
 
 other_stages : (threads keepers n : ℕ) (phase : List Op) (phases : List (List Op)) → 1 ≤ n
     → stages_left threads keepers n (phase ∷ phases)
-      ≡ stage (MarksPhase (n + 1) ∷ []) itself ∷ (phase_stages threads phase ++ stages_left threads keepers (n + 1) phases)
+    ≡ stage (MarksPhase (n + 1) ∷ []) itself ∷ (phase_stages threads phase ++ stages_left threads keepers (n + 1) phases)
 other_stages threads keepers n phase phases some =
     left_stages threads keepers n (phase ∷ phases) some
     ∙ ap (λ (ss : List Stage). stage (MarksPhase (n + 1) ∷ []) itself ∷ (phase_stages threads phase ++ ss)) (sym (left_stages threads keepers (n + 1) phases (omega arith)))
@@ -485,7 +484,7 @@ no_phase {region} {s} {all} {team} {so_far} {out} {marks} nothing empty is at ro
 
 -- what is left begins with the next phase, or is nothing
 pub as_next : {region : SharedRegion} {s : Session} {all : List (List Op)} {team : Team} {so_far : Whole} {out : Records} (phases : List Phase) (i : ℕ)
-      (item : Phase) (ops : List Op)
+    (item : Phase) (ops : List Op)
     → i < length phases → item ≡ slice_index_or phases i item → ops ≡ ops_of item
     → AfterPhases region s all i (map ops_of (drop i phases)) team so_far out
     → AfterPhases region s all i (ops ∷ map ops_of (drop (i + 1) phases)) team so_far out
@@ -603,7 +602,7 @@ module _ {region : SharedRegion} {s : Session} {all : List (List Op)} {n : ℕ} 
 
 -- A close that was done ends the replay: all phases were replayed.
 pub close_ends : {region : SharedRegion} {s : Session} {all : List (List Op)} {team team' : Team} {so_far so_far' : Whole} {out : Records}
-      {written : List Record} (so : BeforeClose region s all team so_far out)
+    {written : List Record} (so : BeforeClose region s all team so_far out)
     → CloseDone region s team' written so_far so_far' so.p → HasReplayed region s all so_far' team' written
 close_ends {region} {s} {all} {team} {team'} {so_far} {so_far'} {out} {written} so did = record {
   end = did.reached;

@@ -40,7 +40,7 @@ told_one false k = omega arith
 
 -- ---- the next of the lent threads
 stops : {h : BenchHome} {s : Shift} {acts : List Act} {bench bench' : Bench} {old now : List Worker} {out out1 out2 : Records} {p : Progress} (n i : ℕ)
-      (d w : Worker)
+    (d w : Worker)
     → length old ≡ length s.idle → (so : StoppedLent h s acts bench old now out out1 i p) → i < length old → length now ≡ length old
     → StopsLent h s.profile (number_in s i) n bench bench' (get_or now i d) w out1 out2 (s.lends i) so.did.turns.came.reached
     → StoppedLent h s (acts ++ (StopsIdle (number_in s i) n ∷ [])) bench' old (set now i w) out out2 (i + 1) p

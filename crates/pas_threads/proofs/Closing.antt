@@ -9,7 +9,7 @@ use Rattle.pas_cache.specs.Caches.{cached}
 use Rattle.pas_shared.specs.Ruled.{IsEarlier}
 use Rattle.pas_shared.specs.declared.{region.SharedRegion.SharedRegion, pass.SharedPass.SharedPass}
 use Rattle.pas_answers.specs.{Answers.Progress, Stages.Stage, Stages.one_by_one}
-use Rattle.pas_plans.proofs.ActsLeft.{number_next, number_last}
+use Rattle.pas_acts.proofs.ActsLeft.{number_next, number_last}
 use Rattle.pas_threads.specs.Pairs.{no_more, HasKeeper, AreGuarded, IsButKeeper, KeeperLowered, MayLower}
 use Rattle.pas_threads.specs.Sessions.{Session, evenly, AreResting, StandSo, WentBy}
 use Rattle.pas_threads.specs.Settling.{PassStands, ActorsStand, StoppedSo, LoweredSo}
@@ -112,7 +112,7 @@ module _ {region : SharedRegion} {s : Session} {slot : Option SharedPass} {acts 
 
 -- After one more thread was stopped and the ledger settled, the stops so far are one more.
 pub stops_go_on : {region : SharedRegion} {s : Session} {slot : Option SharedPass} {old now now' : List Worker} {later : ℕ → ℕ} {before after settled : Whole}
-      {p : Progress} (i : ℕ) (so : StopsSoFar region s slot i old now later before after p)
+    {p : Progress} (i : ℕ) (so : StopsSoFar region s slot i old now later before after p)
     → i < length old
     → StoppedSo region s slot (so.acts ++ (Ends (suc i) ∷ [])) (suc i) old now' later before settled p
     → StopsSoFar region s slot (i + 1) old now' later before settled p
@@ -123,7 +123,7 @@ stops_go_on {region} {s} {slot} {old} {now} {now'} {later} {before} {after} {set
 
 -- Once each worker had its turn, all threads are stopped.
 pub stops_end : {region : SharedRegion} {s : Session} {slot : Option SharedPass} {old now : List Worker} {later : ℕ → ℕ} {before after : Whole} {p : Progress}
-      (i : ℕ)
+    (i : ℕ)
     → length old ≤ i → i ≤ length old → StopsSoFar region s slot i old now later before after p
     → StoppedSo region s slot (map Ends (numbers_from 1 (length old))) (length old) old now later before after p
 stops_end {region} {s} {slot} {old} {now} {later} {before} {after} {p} i le ge so =
@@ -145,7 +145,7 @@ lowers_begin {s = s} may stand stood = at_first (record { lowered = lower_begins
 
 -- a worker without a keeper: there is no keeper at all
 pub lowers_pass : {region : SharedRegion} {s : Session} {slot : Option SharedPass} {old now : List Worker} {before after : Whole} {p : Progress} (i : ℕ)
-      (d w : Worker)
+    (d w : Worker)
     → MayLower region s.profile s.threads s.keepers old p → i < length old → length now ≡ length old → (get_or now i d).keeper ≡ None → w ≡ get_or now i d
     → LowersSoFar region s slot i old now before after p → LowersSoFar region s slot (i + 1) old (set now i w) before after p
 lowers_pass {region} {s} {slot} {old} {now} {before} {after} {p} i d w may lt many none same so =

@@ -3,10 +3,9 @@ use Rattle.std.proofs.Common.{◌≡◌, ◌≢◌, ◌==◌, ◌⊎◌, inl, in
 use Rattle.std.proofs.Common.{get_or, Some, refl, ap, sym, ◌∙◌, subst, arith, true≢false, eqb-true, eq-eqb, ne_eqb, zero, suc, append-nil, get_or-set_other}
 use Rattle.std.proofs.lemmas.{Bool.cases_eq, Option.same_Some, List.get_or_default}
 use Rattle.pas_profile.specs.declared.profile.Profile.{Profile}
-use Rattle.pas_region.specs.Noted.{AreNotesOf}
-use Rattle.pas_region.specs.declared.notes.Notes.{Notes}
+use Rattle.pas_steps.specs.{Noted.AreNotesOf, Desks.Standing, Lists.Whole, Lists.part, Views.View}
+use Rattle.pas_steps.specs.declared.notes.Notes.{Notes}
 use Rattle.pas_report.specs.Rooms.{Records, records_in, room_of}
-use Rattle.pas_steps.specs.{Desks.Standing, Lists.Whole, Lists.part, Views.View}
 use Rattle.pas_cache.specs.Caches.{Cached, cached}
 use Rattle.pas_core.proofs.Choosing.{steps_by_same}
 use Rattle.pas_shared.specs.Ruled.{among, made_in, all_actors, HasRow, only, only_this, isnt, rows_of, rows_of_only, steps_of, IsRowOf, AreRowsOf}
@@ -300,12 +299,12 @@ sits_beside {h} mid {f} {k} {worker} {later} {q} home is at = record {
 
 -- the lent worker took its place there (`sat`), was stopped (`mid`), and gave the place back (`left`)
 pub was_stopped : {h : BenchHome} {f : Profile} {k n : ℕ} {bench bench' : Bench} {old new : Worker} {out out' : Records} {later : Later} {p : Progress}
-      (sat mid : BenchDesk)
+    (sat mid : BenchDesk)
     → sat.place.bench ≡ bench → home_at mid ≡ h → bench' ≡ mid.place.bench
     → new.member ≡ Some mid.place.member → new.requests ≡ old.requests → new.keeper ≡ old.keeper
     → ((stopped : Bool)
-        × ThreadActs f k (StopsIdle k n ∷ []) [] (told_if stopped k) (here (standing_at sat) (cached old.cache) old.out) (here (standing_at mid) (cached new.cache) new.out) later p
-        × Pushed 0 (told_if stopped k) out out')
+    × ThreadActs f k (StopsIdle k n ∷ []) [] (told_if stopped k) (here (standing_at sat) (cached old.cache) old.out) (here (standing_at mid) (cached new.cache) new.out) later p
+    × Pushed 0 (told_if stopped k) out out')
     → StopsLent h f k n bench bench' old new out out' later p
 was_stopped {h} {f} {k} {n} {bench} {bench'} {old} {new} {out} {out'} {later} {p} sat mid b home b2 present requests keeper did =
     let at_mid : StopsLent h f k n sat.place.bench mid.place.bench old new out out' later p = record {
@@ -324,7 +323,7 @@ was_stopped {h} {f} {k} {n} {bench} {bench'} {old} {new} {out} {out'} {later} {p
 -- ---- a turn at the desk
 -- the worker at this place acted, and the others stand as they did
 abbrev pub acts_in_turn : {f : Profile} {number : ℕ → ℕ} {Stands : ℕ → Worker → Progress → Type 0} {acts : List Act} {act : Act} {told : List Record}
-      {old now : List Worker} {later : Later} {p : Progress} {σ τ : Standing}
+    {old now : List Worker} {later : Later} {p : Progress} {σ τ : Standing}
     → Stays number Stands → AreDistinct number (length old) → EachOf 0 told
     → (i : ℕ) (d w : Worker) → i < length old → length now ≡ length old → (so : TookTurns f number Stands acts old now p)
     → (x : ThreadActs f (number i) (act ∷ []) [] told (here σ (cached (get_or now i d).cache) (get_or now i d).out) (here τ (cached w.cache) w.out) later so.came.reached)
@@ -607,7 +606,7 @@ module _ {region : SharedRegion} {s : Shift} {lent : List Worker} {p : Progress}
 -- ---- from pass to pass
 -- the crew on its bench
 pub crew_sits : {region : SharedRegion} {s : Shift} {acts : List Act} {pass : SharedPass} {old new : List Worker} {places : ℕ} {out : Records} {p : Progress}
-      (desk : BenchDesk)
+    (desk : BenchDesk)
     → desk.region.now ≡ region → CrewAt region s acts (crew (standing_of_pass pass) old places out) p
     → CrewSat region s pass desk old new p → CrewSits (home_at desk) s acts (crew (standing_at desk) new places out) p
 crew_sits {s = s} {new = new} {p = p} desk is at sat = record {

@@ -8,7 +8,7 @@ use Rattle.pas_bits.specs.Masks.{is_set}
 use Rattle.pas_bits.specs.declared.mask.Mask4.{Mask4}
 use Rattle.pas_trace.specs.declared.plan.Op.{Op}
 use Rattle.pas_trace.specs.Acts.{is_active, numbers_from, idle_threads}
-use Rattle.pas_plans.proofs.ActsLeft.{threads_alike}
+use Rattle.pas_acts.proofs.ActsLeft.{threads_alike}
 use Rattle.pas_threads.specs.Dealing.{picked, count_of, is_in, is_out, AreDealt, AreSized}
 use Rattle.pas_threads.specs.{Turns.AreDistinct, Pairs.MayDoPhase, Pairs.DidPhase, Scavengers.MayScavenge, Scavengers.DidScavenge, Acting.MayAct, Acting.DidAct}
 use Rattle.pas_threads.specs.{Acting.DidEach}
@@ -368,7 +368,7 @@ module _ {region : SharedRegion} {book : NameBook} {ops : List Op} where
   -- Where each hand did its operations, all threads' workers and the scavenger did theirs.
   pub all_did : (own : List Worker) (s : TheScavenger) (hands : List Hand) → length hands ≡ length (map Thread own ++ Scavenger s ∷ [])
       → ((i : ℕ) (d : Hand) → i < length (map Thread own ++ Scavenger s ∷ [])
-          → DidAct region book ops (get_or (map Thread own ++ Scavenger s ∷ []) i d) (get_or hands i d))
+      → DidAct region book ops (get_or (map Thread own ++ Scavenger s ∷ []) i d) (get_or hands i d))
       → AllDid region book ops own s hands
   all_did [] s [] many did = absurd (omega (arith, many))
   all_did [] s (Thread w ∷ hands) many did = absurd (did 0 (Scavenger s) (omega arith))

@@ -103,47 +103,47 @@ pub stands_so : {region : SharedRegion} {k : ℕ} {told : Whole} {slot : Option 
 stands_so l pass is at stands = let its = stands_with pass is at in ap (λ (n : ℕ). part n l) (sym its.1) ∙ stands ∙ its.2
 
 module _ {region : SharedRegion} {s : Session} {slot : Option SharedPass} {workers : List Worker} {told : Whole} (at : ActorsStand region s slot workers told)
-    where
-  -- all their passes are of the region
-  pub thread_back : (i : ℕ) (d : Worker) → i < length workers → HasPass region (get_or workers i d).pass
-  thread_back i d lt = let here = at.threads i d lt in record { pass = here.pass; present = here.present; of = here.of }
+  where
+    -- all their passes are of the region
+    pub thread_back : (i : ℕ) (d : Worker) → i < length workers → HasPass region (get_or workers i d).pass
+    thread_back i d lt = let here = at.threads i d lt in record { pass = here.pass; present = here.present; of = here.of }
 
-  of_region : (o : Option Keeper) → ((keeper : Keeper) → o ≡ Some keeper → IsPassOf region keeper.pass) → IsKeeperOf region o
-  of_region None each = tt
-  of_region (Some keeper) each = each keeper refl
+    of_region : (o : Option Keeper) → ((keeper : Keeper) → o ≡ Some keeper → IsPassOf region keeper.pass) → IsKeeperOf region o
+    of_region None each = tt
+    of_region (Some keeper) each = each keeper refl
 
-  -- The keeper of each worker has a pass of the region where all actors stand.
-  pub keeper_back : (i : ℕ) (d : Worker) → i < length workers → IsKeeperOf region (get_or workers i d).keeper
-  keeper_back i d lt = of_region (get_or workers i d).keeper (λ keeper is. (stands_with keeper.pass refl (at.keepers i d keeper lt is)).0)
+    -- The keeper of each worker has a pass of the region where all actors stand.
+    pub keeper_back : (i : ℕ) (d : Worker) → i < length workers → IsKeeperOf region (get_or workers i d).keeper
+    keeper_back i d lt = of_region (get_or workers i d).keeper (λ keeper is. (stands_with keeper.pass refl (at.keepers i d keeper lt is)).0)
 
-  -- a list that has the steps of all passes has the part of each actor
-  module _ (l : Whole) (scavenger : (pass : SharedPass) → slot ≡ Some pass → StandsIn l pass)
-      (threads : (i : ℕ) (d : Worker) (pass : SharedPass) → i < length workers → (get_or workers i d).pass ≡ Some pass → StandsIn l pass)
-      (keepers : (i : ℕ) (d : Worker) (keeper : Keeper) → i < length workers → (get_or workers i d).keeper ≡ Some keeper → StandsIn l keeper.pass) where
-    stand_thread : (i : ℕ) → i < s.threads → part (suc i) l ≡ part (suc i) told
-    stand_thread i lt =
-        let below : i < length workers = omega (arith, lt, at.many) in
-        let d = some_worker workers i below in
-        let here = at.threads i d below in
-        stands_so l here.pass here.present here (threads i d here.pass below here.present)
+    -- a list that has the steps of all passes has the part of each actor
+    module _ (l : Whole) (scavenger : (pass : SharedPass) → slot ≡ Some pass → StandsIn l pass)
+        (threads : (i : ℕ) (d : Worker) (pass : SharedPass) → i < length workers → (get_or workers i d).pass ≡ Some pass → StandsIn l pass)
+        (keepers : (i : ℕ) (d : Worker) (keeper : Keeper) → i < length workers → (get_or workers i d).keeper ≡ Some keeper → StandsIn l keeper.pass) where
+      stand_thread : (i : ℕ) → i < s.threads → part (suc i) l ≡ part (suc i) told
+      stand_thread i lt =
+          let below : i < length workers = omega (arith, lt, at.many) in
+          let d = some_worker workers i below in
+          let here = at.threads i d below in
+          stands_so l here.pass here.present here (threads i d here.pass below here.present)
 
-    stand_keeper : (j : ℕ) → j < s.keepers → AreGuarded s.keepers workers → part (s.threads + suc j) l ≡ part (s.threads + suc j) told
-    stand_keeper j lt (inr none) = absurd (omega (arith, none.0, lt))
-    stand_keeper j lt (inl all) =
-        let below : j < length workers = omega (arith, lt, all.0) in
-        let w = some_worker workers j below in
-        let has = all.1 j w below in
-        stands_so l has.0.pass refl (at.keepers j w has.0 below has.1) (keepers j w has.0 below has.1)
+      stand_keeper : (j : ℕ) → j < s.keepers → AreGuarded s.keepers workers → part (s.threads + suc j) l ≡ part (s.threads + suc j) told
+      stand_keeper j lt (inr none) = absurd (omega (arith, none.0, lt))
+      stand_keeper j lt (inl all) =
+          let below : j < length workers = omega (arith, lt, all.0) in
+          let w = some_worker workers j below in
+          let has = all.1 j w below in
+          stands_so l has.0.pass refl (at.keepers j w has.0 below has.1) (keepers j w has.0 below has.1)
 
-    -- A list in which each pass stands has of all actors what is told of them.
-    pub all_stand : StandSo s l told
-    all_stand zero le = stands_so l at.scavenger.pass at.scavenger.present at.scavenger (scavenger at.scavenger.pass at.scavenger.present)
-    all_stand (suc i) le = elim (cases_lt i s.threads) [
-      | inl within ↦ stand_thread i within
-      | inr past ↦
-          let place : s.threads + suc (i - s.threads) ≡ suc i = omega (arith, past) in
-          subst (λ (k : ℕ). part k l ≡ part k told) place (stand_keeper (i - s.threads) (omega (arith, past, le)) at.guarded)
-    ]
+      -- A list in which each pass stands has of all actors what is told of them.
+      pub all_stand : StandSo s l told
+      all_stand zero le = stands_so l at.scavenger.pass at.scavenger.present at.scavenger (scavenger at.scavenger.pass at.scavenger.present)
+      all_stand (suc i) le = elim (cases_lt i s.threads) [
+        | inl within ↦ stand_thread i within
+        | inr past ↦
+            let place : s.threads + suc (i - s.threads) ≡ suc i = omega (arith, past) in
+            subst (λ (k : ℕ). part k l ≡ part k told) place (stand_keeper (i - s.threads) (omega (arith, past, le)) at.guarded)
+      ]
 
 -- a team at rest stands so
 pub team_stands : {region : SharedRegion} {s : Session} {phases : List (List Op)} {team : Team} {p : Progress} → TeamAt region s phases team p

@@ -20,8 +20,7 @@ use Rattle.pas_answers.proofs.Reached.{reach_both}
 use Rattle.pas_acts.specs.Keepers.{LaterKept, Keeping, NoKeeper, OneKeeper, KeeperAt, KeeperLowers, HasStill, keeper_has}
 use Rattle.pas_acts.specs.Pairs.{for_guard, for_guards, IsTriedBy, AreTriedBy, IsUnguarded, AreUnguarded, KeeperWaits, EachOfTwo, KeptPushed, KeptStill}
 use Rattle.pas_acts.specs.Pairs.{owed_of}
-use Rattle.pas_acts.proofs.Keeping.{keeper_still}
-use Rattle.pas_plans.proofs.{ActsLeft.number_next, ActsLeft.number_last, ActsOfPlan.all_front, ActsOfPlan.all_back}
+use Rattle.pas_acts.proofs.{Keeping.keeper_still, ActsLeft.number_next, ActsLeft.number_last, ActsOfPlan.all_front, ActsOfPlan.all_back}
 use Rattle.pas_threads.specs.{Hands.standing_of_pass, Turns.HasSaid}
 use Rattle.pas_threads.specs.Pairs.{kept_by_worker, IsKeeperOf, IsSilent, no_more, owed_kept, keeper_at, AreGuarded, IsLow, IsButKeeper, KeptSo, Lowered}
 use Rattle.pas_threads.specs.Pairs.{MayLower, KeeperStands, KeeperLowered}
@@ -31,7 +30,7 @@ use Rattle.pas_threads.proofs.TakingTurns.{set_each, pass_still}
 -- ---- the acts of a thread
 own_if : (t : Bool) (op : Op) (xs ys : List Act)
     → (if t then act_kept (keeper_in op.what) op ∷ (Settles op.actor ∷ (xs ++ ys)) else xs ++ ys)
-      ≡ (if t then act_kept (keeper_in op.what) op ∷ (Settles op.actor ∷ xs) else xs) ++ ys
+    ≡ (if t then act_kept (keeper_in op.what) op ∷ (Settles op.actor ∷ xs) else xs) ++ ys
 own_if true op xs ys = refl
 own_if false op xs ys = refl
 

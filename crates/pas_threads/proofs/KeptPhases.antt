@@ -7,8 +7,8 @@ use Rattle.pas_shared.specs.declared.region.SharedRegion.{SharedRegion}
 use Rattle.pas_trace.specs.Acts.{Act, own_acts}
 use Rattle.pas_trace.specs.declared.plan.Op.{Op}
 use Rattle.pas_answers.specs.{Answers.Progress, Ways.records_by}
-use Rattle.pas_shares.specs.Shares.{owner_in}
-use Rattle.pas_shares.proofs.PhaseActs.{own_thread, kept_thread, owner_of}
+use Rattle.pas_acts.specs.Shares.{owner_in}
+use Rattle.pas_acts.proofs.PhaseActs.{own_thread, kept_thread, owner_of}
 use Rattle.pas_acts.specs.Keepers.{Keeping, NoKeeper, OneKeeper, LaterKept}
 use Rattle.pas_acts.specs.Pairs.{for_guards, KeeperWaits, KeptPushed, KeptStill}
 use Rattle.pas_threads.specs.Pairs.{kept_by_worker, IsSilent, no_more, KeeperRests, said_by_keeper, owed_kept, AreGuarded}

@@ -16,9 +16,8 @@ use Rattle.pas_guard.specs.declared.book.GuardBook.{GuardBook}
 use Rattle.pas_cache.specs.Caches.{cached}
 use Rattle.pas_shared.specs.declared.pass.SharedPass.{SharedPass}
 use Rattle.pas_answers.specs.Replays.{threads_of, keepers_of}
-use Rattle.pas_plans.specs.Keepers.{one_guarded, guarded_of, AreBooks}
-use Rattle.pas_plans.proofs.KeeperActs.{is_guarded}
-use Rattle.pas_acts.specs.NameBooks.{requests_in, room_for, Requests}
+use Rattle.pas_acts.specs.{PlanKeepers.one_guarded, PlanKeepers.guarded_of, PlanKeepers.AreBooks, NameBooks.requests_in, NameBooks.room_for, NameBooks.Requests}
+use Rattle.pas_acts.proofs.KeeperActs.{is_guarded}
 use Rattle.pas_threads.specs.Kits.{IsEquipped, AreEquipped, IsKeeperWith, AreKeepers, IsAlone, HasRoomForKeeper, HaveKeepers, with_keeper}
 use Rattle.pas_threads.specs.Pairs.{AreGuarded, IsButKeeper}
 use Rattle.pas_threads.specs.declared.{keeper.Keeper.Keeper, workers.Worker.Worker}
@@ -86,7 +85,7 @@ rooms_more plan room after n x is many enough have i lt = subst (λ (rs : List �
 
 -- ---- their passes and books
 pub keepers_more : (bounds : List ℕ) (i n : ℕ) (passes : List SharedPass) (books : List GuardBook) (keepers : List Keeper) (pass : SharedPass)
-      (book : GuardBook) (keeper : Keeper)
+    (book : GuardBook) (keeper : Keeper)
     → AreKeepers bounds i passes books keepers → n ≡ i + length keepers
     → IsKeeperWith pass book (slice_index bounds n) keeper → AreKeepers bounds i (passes ++ pass ∷ []) (books ++ book ∷ []) (keepers ++ keeper ∷ [])
 keepers_more bounds i n [] [] [] pass book keeper are at new = (subst (λ (m : ℕ). IsKeeperWith pass book (slice_index bounds m) keeper) (omega (arith, at)) new, tt)
@@ -107,7 +106,7 @@ keepers_many bounds i (p ∷ passes) (b ∷ books) [] are = absurd are
 keepers_many bounds i (p ∷ passes) (b ∷ books) (k ∷ keepers) are = ap suc (keepers_many bounds (i + 1) passes books keepers are.1)
 
 keeper_with : (bounds : List ℕ) (i : ℕ) (passes : List SharedPass) (books : List GuardBook) (keepers : List Keeper) (j : ℕ) (p : SharedPass) (b : GuardBook)
-      (k : Keeper)
+    (k : Keeper)
     → AreKeepers bounds i passes books keepers → j < length passes
     → IsKeeperWith (get_or passes j p) (get_or books j b) (slice_index bounds (i + j)) (get_or keepers j k)
 keeper_with bounds i [] books keepers j p b k are lt = absurd (let bad : j < 0 = lt in omega (arith, bad))

@@ -21,25 +21,24 @@ use Rattle.pas_trace.specs.Acts.{acts_of_op, acts_of_ops, own_acts}
 use Rattle.pas_answers.specs.Calls.{block_behind, MayStand, AreKnown, OnlyAsked}
 use Rattle.pas_answers.specs.declared.names.Names.{Names}
 use Rattle.pas_trace.proofs.OperationsOfItems.{kept_with}
-use Rattle.pas_plans.proofs.ActsOfPlan.{all_back, back_below}
-use Rattle.pas_shares.specs.Shares.{owner_in, IsWoven, AreAmong, IsRequestOf, NoneAsks, asked_after_act, asked_after_acts}
+use Rattle.pas_acts.proofs.{ActsOfPlan.all_back, ActsOfPlan.back_below, KnownAfter.are_known, Noting.asks, Noting.asks_more, NamesBefore.sound_front}
+use Rattle.pas_acts.proofs.{NamesBefore.sound_back}
+use Rattle.pas_acts.specs.Shares.{owner_in, IsWoven, AreAmong, IsRequestOf, NoneAsks, asked_after_act, asked_after_acts}
 use Rattle.pas_acts.specs.{Works.Later, Keepers.Keeping, Keepers.LaterKept, Pairs.PairWorks}
 use Rattle.pas_threads.specs.Hands.{kept_by}
-use Rattle.pas_shares.proofs.KnownAfter.{are_known}
-use Rattle.pas_acts.proofs.{Noting.asks, Noting.asks_more, NamesBefore.sound_front, NamesBefore.sound_back}
 
 -- ---- all workers, one after the other
 -- a request of these has the name, and what it came to is the same whatever else is said; or none has it
 either_if : (t : Bool) (b : Option Block) (s : Bool) (o : Option (Option Block))
     → ((s ≡ true) × ((x y : Option Block) → came_to o x ≡ came_to o y)) ⊎ ((s ≡ false) × (o ≡ None))
     → ((t || s ≡ true) × ((x y : Option Block) → came_to (if t then Some b else o) x ≡ came_to (if t then Some b else o) y))
-      ⊎ ((t || s ≡ false) × ((if t then Some b else o) ≡ None))
+    ⊎ ((t || s ≡ false) × ((if t then Some b else o) ≡ None))
 either_if true b s o rest = inl (refl, λ x y. refl)
 either_if false b s o rest = rest
 
 has_or_not : (rs : List Named) (n : ℕ)
     → ((is_asked (names_of rs) n ≡ true) × ((x y : Option Block) → came_to (standing_for rs n) x ≡ came_to (standing_for rs n) y))
-      ⊎ ((is_asked (names_of rs) n ≡ false) × (standing_for rs n ≡ None))
+    ⊎ ((is_asked (names_of rs) n ≡ false) × (standing_for rs n ≡ None))
 has_or_not [] n = inr (refl, refl)
 has_or_not (r ∷ rs) n = either_if (r.name == n) r.block (is_asked (names_of rs) n) (standing_for rs n) (has_or_not rs n)
 

@@ -225,7 +225,7 @@ module _ (region : SharedRegion) (bench looked : Bench) (member : Member) (seate
 -- ---- after their acts
 -- there is a keeper still, or there is none
 same_keeper : (f : Profile) (j : ℕ) (acts : List Act) (said : List Record) (more more' : LaterKept) (p q : Progress) (region now : SharedRegion) (b c : Bench)
-      (s t : Option Seated)
+    (s t : Option Seated)
     → KeptPushed j said (kept_seated region b s) (kept_seated now c t)
     → KeeperWaits f j acts (kept_seated region b s) more p → KeeperWaits f j [] (kept_seated now c t) more' q → seated_actors t ≡ seated_actors s
 same_keeper f j acts said more more' p q region now b c None None pushed was is = refl
@@ -244,7 +244,7 @@ keeper_apart f j k more p region b a None is apart waits = tt
 keeper_apart f j k more p region b a (Some s) is apart waits = λ same. apart (sym is ∙ (sym same ∙ waits.1.sits.actor))
 
 keeper_is : (f : Profile) (j : ℕ) (acts : List Act) (more : LaterKept) (p : Progress) (region : SharedRegion) (b : Bench) (o : Option Keeper)
-      (s : Option Seated)
+    (s : Option Seated)
     → SitsBeside region b o s → KeeperWaits f j acts (kept_by_worker o) more p
     → seated_actors s ≡ keeper_actors j o
 keeper_is f j acts more p region b None None sits waits = refl
@@ -378,7 +378,7 @@ module _ (region : SharedRegion) (book : NameBook) (worker : Worker) (ops : List
     module _ (left : Bench) (own : SharedPass) (risen : Option Keeper) (rose : PairRose region after.place.bench after.place.member there left own risen) where
       back :
           (v : PairWorks f k (threads + k) (own_acts k ops) [] (standing_of_pass pass) (standing_of_pass own) (kept_by book worker) has (kept_by_worker keeper) (kept_by_worker risen) later more p)
-            × (v.reached ≡ mine.reached)
+          × (v.reached ≡ mine.reached)
       back = works_back region desk.region.now after.region.now desk.place.bench after.place.bench own after.place.member f k (threads + k) (own_acts k ops) (standing_of_pass pass) (standing_on desk.place.bench desk.place.member) (kept_by book worker) has
           later more p rose.thread keeper seated there risen sits.beside rose.beside mine
 

@@ -25,16 +25,14 @@ use Rattle.pas_utility.specs.Outcomes.{places_of}
 use Rattle.pas_answers.specs.{Answers.Books, Answers.Progress, Answers.Named, Calls.owed_events, Calls.OnlyAsked, Fit.costs_of, Fit.own_costs_of, Fit.AreFit}
 use Rattle.pas_answers.specs.{Names.names_held, Reaching.Reaches, Ways.records_by, Ways.by_actors}
 use Rattle.pas_answers.proofs.{OwnRecords.records_both as said_both, Reached.reach_both}
-use Rattle.pas_plans.specs.Awake.{awake_in}
-use Rattle.pas_plans.proofs.ActsOfPlan.{all_front, all_back, idle_few, ops_fit}
-use Rattle.pas_plans.proofs.ActsLeft.{threads_alike}
-use Rattle.pas_shares.specs.Shares.{Owners, acts_by, owner_in, thread_in, AreKeptBehind, IsShareOf, IsWoven}
-use Rattle.pas_shares.proofs.PhaseActs.{acts_are_shared, zero_own, own_thread, kept_thread, owner_of}
-use Rattle.pas_shares.proofs.Weaving.{weave}
-use Rattle.pas_acts.specs.{Keepers.LaterKept, Pairs.for_guards, Works.Later}
+use Rattle.pas_acts.specs.{Awake.awake_in, Keepers.LaterKept, Pairs.for_guards, Works.Later}
+use Rattle.pas_acts.proofs.ActsOfPlan.{all_front, all_back, idle_few, ops_fit}
+use Rattle.pas_acts.proofs.{ActsLeft.threads_alike, Weaving.weave, Alone.rests_still, Alone.sits_still, AtDesk.sits_for, NamesBefore.names_before}
+use Rattle.pas_acts.proofs.{NamesBefore.sound_front, NamesBefore.below_front}
+use Rattle.pas_acts.specs.Shares.{Owners, acts_by, owner_in, thread_in, AreKeptBehind, IsShareOf, IsWoven}
+use Rattle.pas_acts.proofs.PhaseActs.{acts_are_shared, zero_own, own_thread, kept_thread, owner_of}
 use Rattle.pas_acts.specs.NameBooks.{NamesAt, ArePlaced, names_asked, requests_in, room_for, names_of, known_in, Requests, AreWithin}
 use Rattle.pas_acts.specs.declared.names.NameBook.{NameBook}
-use Rattle.pas_acts.proofs.{Alone.rests_still, Alone.sits_still, AtDesk.sits_for, NamesBefore.names_before, NamesBefore.sound_front, NamesBefore.below_front}
 use Rattle.pas_threads.specs.{Hands.WorkerAt, Left.pair_in, Left.crew_in, Settling.ActorsStand}
 use Rattle.pas_threads.specs.Pairs.{no_more, KeeperRests, said_by_keeper, owed_kept, keeper_at, owed_by_keepers, AreGuarded}
 use Rattle.pas_threads.specs.Performing.{Round, round, idle_in, ScavengerHas, IsReady, ThreadDone, ScavengerDone, IsDone, HeardOrder, IsHeard}
@@ -150,7 +148,7 @@ AreKept region s ops rest workers q = (i : ℕ) (d : Worker) → i < length work
 
 -- .. once the threads read the epoch, too
 woke_kept : {region : SharedRegion} {s : Session} (awake : Mask4) {team : Team} {p : Progress} (ops : List Op) (rest : List (List Op)) (now : List Worker)
-      (at : TeamAt region s (ops ∷ rest) team p)
+    (at : TeamAt region s (ops ∷ rest) team p)
     → length now ≡ length team.threads.items
     → (woke : WokeAll region s.profile awake team.threads.items now (λ k. own_records (planned s) k (all_ops (ops ∷ rest))) p)
     → AreKept region s ops rest now woke.turns.came.reached
@@ -207,7 +205,7 @@ pub record HasBegun (region : SharedRegion) (s : Session) (awake : Mask4) (ops :
 
 -- (`given` are the team's workers, as they are handed to what wakes them, and `now` what they are afterwards)
 pub has_begun : {region : SharedRegion} {s : Session} {awake : Mask4} {team : Team} {p : Progress} {given now : List Worker} (ops : List Op)
-      (rest : List (List Op)) (team1 : Team)
+    (rest : List (List Op)) (team1 : Team)
     → TeamAt region s (ops ∷ rest) team p → given ≡ team.threads.items
     → ((g : Profile) (later : ℕ → ℕ) (o : Progress) → AreResting region g given later o → WokeAll region g awake given now later o) → length now ≡ length given
     → team1.threads.items ≡ now → team1.scavenger ≡ team.scavenger → HasPlaces s.threads team1
@@ -238,7 +236,7 @@ settled_team team now again scavenger book = record team { threads = with_items 
 
 -- (`given` are the team's workers, as they are handed to what wakes them, `now` what they are afterwards, and so `given2` and `again` for what settles the ledger)
 pub begun_as : {region : SharedRegion} {s : Session} {awake : Mask4} {team : Team} {p : Progress} {given now given2 again : List Worker} {scavenger : Scavenger}
-      {book : NameBook} (ops : List Op) (rest : List (List Op))
+    {book : NameBook} (ops : List Op) (rest : List (List Op))
     → TeamAt region s (ops ∷ rest) team p → given ≡ team.threads.items → length given ≡ team.threads.len
     → ((g : Profile) (later : ℕ → ℕ) (o : Progress) → AreResting region g given later o → WokeAll region g awake given now later o) → length now ≡ length given
     → given2 ≡ (with_items team.threads now).items → length given2 ≡ team.threads.len → again ≡ given2 → scavenger ≡ team.scavenger
@@ -257,7 +255,7 @@ begun_stands ops rest at begun = turns_stand (team_stands at) begun.woke.turns b
 
 -- .. as they are handed to what settles the ledger
 pub woke_stands : {region : SharedRegion} {s : Session} (awake : Mask4) {team : Team} {p : Progress} {given now : List Worker} (ops : List Op)
-      (rest : List (List Op))
+    (rest : List (List Op))
     → TeamAt region s (ops ∷ rest) team p → given ≡ team.threads.items
     → ((g : Profile) (later : ℕ → ℕ) (o : Progress) → AreResting region g given later o → WokeAll region g awake given now later o) → length now ≡ length given
     → (l : Whole) × ActorsStand region s team.scavenger.pass now l
@@ -562,7 +560,7 @@ module _ {region : SharedRegion} {s : Session} {awake : Mask4} {team team1 team2
   -- what a thread and its keeper owed before the phase
   began_with : (i : ℕ) → i < s.threads
       → (owed_at f (suc i) start ≤ owed_at f (suc i) p)
-        × (owed_kept f (s.threads + suc i) (keeper_at team1.threads.items i) start ≡ owed_kept f (s.threads + suc i) (keeper_at team.threads.items i) p)
+      × (owed_kept f (s.threads + suc i) (keeper_at team1.threads.items i) start ≡ owed_kept f (s.threads + suc i) (keeper_at team.threads.items i) p)
   began_with i lt =
       let many = at.many in
       let less : i < length team.threads.items = omega (arith, lt, many) in
@@ -882,7 +880,7 @@ pub record WereGathered (old mid new : List Worker) (out out' out'' : Records) :
 
 -- what was gathered of these workers was gathered of those that they are
 pub gathered_from : (says : Worker → List Record) (Is : Worker → Worker → Type 0) {given old : List Worker} (new : List Worker) (before : List Record)
-      {after : List Record}
+    {after : List Record}
     → given ≡ old → after ≡ before ++ said_by says given → ((i : ℕ) (d : Worker) → i < length given → Is (get_or given i d) (get_or new i d))
     → length new ≡ length given
     → (after ≡ before ++ said_by says old) × ((i : ℕ) (d : Worker) → i < length old → Is (get_or old i d) (get_or new i d)) × (length new ≡ length old)

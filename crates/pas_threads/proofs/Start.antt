@@ -22,13 +22,10 @@ use Rattle.pas_shared.specs.Passes.{AreFresh, IsPassOf}
 use Rattle.pas_shared.specs.declared.{pass.SharedPass.SharedPass, region.SharedRegion.SharedRegion}
 use Rattle.pas_answers.specs.{Calls.owed_events, Names.names_held}
 use Rattle.pas_answers.specs.Replays.{at_start, phases_of, region_of, threads_of, keepers_of}
-use Rattle.pas_plans.specs.{Keepers.one_guarded, Keepers.guarded_of, Parts.AreRooms}
-use Rattle.pas_plans.proofs.{KeeperActs.is_guarded, NameLimits.below_all, Nothing.nothing, Nothing.pages_owed_at_first, PlanFacts.plan_threads, PlanFacts.plan_above}
-use Rattle.pas_plans.proofs.{PlanFacts.wider_sound}
-use Rattle.pas_shares.specs.Shares.{AreKeptBehind}
-use Rattle.pas_shares.proofs.PhaseActs.{active_within}
-use Rattle.pas_acts.specs.{Keepers.LaterKept, Keepers.KeeperAt, Keepers.keeper_has, Pairs.for_guards, Pairs.AreTriedBy, Pairs.AreUnguarded}
-use Rattle.pas_acts.proofs.NamesBefore.{names_at_start}
+use Rattle.pas_acts.specs.{PlanKeepers.one_guarded, PlanKeepers.guarded_of, Parts.AreRooms, Shares.AreKeptBehind, Keepers.LaterKept, Keepers.KeeperAt}
+use Rattle.pas_acts.specs.{Keepers.keeper_has, Pairs.for_guards, Pairs.AreTriedBy, Pairs.AreUnguarded}
+use Rattle.pas_acts.proofs.{KeeperActs.is_guarded, NameLimits.below_all, Nothing.nothing, Nothing.pages_owed_at_first, PlanFacts.plan_threads}
+use Rattle.pas_acts.proofs.{PlanFacts.plan_above, PlanFacts.wider_sound, PhaseActs.active_within, NamesBefore.names_at_start}
 use Rattle.pas_threads.specs.Hands.{standing_of_pass}
 use Rattle.pas_threads.specs.Kits.{IsEquipped, AreEquipped, IsNew, AreNew, IsSupplied, IsKeeperFor, IsKitOf}
 use Rattle.pas_threads.specs.Pairs.{no_more, KeeperRests, owed_kept, keeper_at, owed_by_keepers, AreGuarded}
@@ -405,6 +402,6 @@ start_room {text} {plan} {kit} out read made empty room =
 pub handed : {text : List ℕ} {plan : Plan} {kit : SharedKit} (out : Records) (slice : List Phase) → IsPlanOf text plan → IsKitOf plan kit
     → slice ≡ the_phases plan.phases → records_in out ≡ [] → plan.total + length (phases_of plan) + 1 ≤ room_of out
     → TeamAt kit.region (session_of plan) (map ops_of slice) kit.team at_start
-      × HasRoom (session_of plan) (map ops_of slice) (length slice + 1) kit.team.threads.items out at_start
+    × HasRoom (session_of plan) (map ops_of slice) (length slice + 1) kit.team.threads.items out at_start
 handed {text} {plan} {kit} out slice read made is empty room =
     subst (λ (ps : List Phase). TeamAt kit.region (session_of plan) (map ops_of ps) kit.team at_start × HasRoom (session_of plan) (map ops_of ps) (length ps + 1) kit.team.threads.items out at_start) (sym is) (start read made, start_room out read made empty room)

@@ -9,7 +9,7 @@ use Rattle.pas_report.specs.declared.record.Record.{Record}
 use Rattle.pas_trace.specs.Acts.{Act, Wakes, Ends, numbers_from}
 use Rattle.pas_answers.specs.{Answers.Progress, Ways.EachOf, Ways.records_by, Calls.owed_events, Fit.own_cost_of_act}
 use Rattle.pas_answers.proofs.OwnRecords.{records_both, none_by, all_by, spoken_piece, spoken_both}
-use Rattle.pas_acts.specs.{Keepers.StandsStill, Works.Later, Works.Sits, NameBooks.requests_in, NameBooks.room_for}
+use Rattle.pas_acts.specs.{Keepers.StandsStill, Works.Later, Works.Sits, NameBooks.requests_in, NameBooks.room_for, Awake.awake_in}
 use Rattle.pas_acts.proofs.{AtDesk.leaves_rest, AtDesk.sits_for, Alone.rests_still}
 use Rattle.pas_shared.specs.declared.{region.SharedRegion.SharedRegion, pass.SharedPass.SharedPass}
 use Rattle.pas_answers.proofs.Reached.{reach_both}
@@ -19,8 +19,7 @@ use Rattle.std.specs.List.{filter}
 use Rattle.pas_bits.specs.Masks.{is_set}
 use Rattle.pas_bits.specs.declared.mask.Mask4.{Mask4}
 use Rattle.pas_cache.specs.Caches.{Cached, cached, AtRest}
-use Rattle.pas_plans.specs.Awake.{awake_in}
-use Rattle.pas_plans.proofs.ActsLeft.{acts_there, next_chosen, next_passed, none_left}
+use Rattle.pas_acts.proofs.ActsLeft.{acts_there, next_chosen, next_passed, none_left}
 use Rattle.pas_threads.specs.Hands.{standing_of_pass}
 use Rattle.pas_threads.specs.Sessions.{evenly, WorkerHas, WorkerRests, AreResting}
 
@@ -121,7 +120,7 @@ abbrev pub by_turn : {region : SharedRegion} {f : Profile} {k : ℕ} {act : Act}
 by_turn {told = told} t = record { reached = t.did.does.reached; reaches = t.did.does.reaches; said = t.did.does.own ++ told; records_are = t.did.does.records_are }
 
 abbrev pub takes_turn : {region : SharedRegion} {f : Profile} {number : ℕ → ℕ} {Stands : ℕ → Worker → Progress → Type 0} {acts : List Act} {act : Act}
-      {told : List Record} {old now : List Worker} {later : Later} {p : Progress}
+    {told : List Record} {old now : List Worker} {later : Later} {p : Progress}
     → Stays number Stands → AreDistinct number (length old) → EachOf 0 told
     → (i : ℕ) (d w : Worker) → i < length old → length now ≡ length old → (so : TookTurns f number Stands acts old now p)
     → (t : Turn region f (number i) act told (get_or now i d) w later so.came.reached) → Stands i w t.did.does.reached
@@ -208,7 +207,7 @@ none_took old at i d lt = let none = ap (λ (rs : List Record). length rs) (at i
 
 -- the next worker takes its turn, by an act that costs it nothing
 abbrev turn_taken : {region : SharedRegion} {f : Profile} {acts : List Act} {act : Act} {old now : List Worker} {later : ℕ → ℕ} {p : Progress} (i : ℕ)
-      (d w : Worker)
+    (d w : Worker)
     → own_cost_of_act (suc i) act ≡ 0 → i < length old → length now ≡ length old
     → (so : TookTurns f suc (IsDue region f later p) acts old now p) → Turn region f (suc i) act [] (get_or now i d) w (evenly (later (suc i))) so.came.reached
     → TookTurns f suc (IsDue region f later p) (acts ++ (act ∷ [])) old (set now i w) p
@@ -235,7 +234,7 @@ pub wakes_begin : (awake : Mask4) {region : SharedRegion} {f : Profile} {old : L
 wakes_begin awake {old = old} at = at_first (record { turns = no_turn (none_took old at); silent = refl })
 
 wakes : {region : SharedRegion} {f : Profile} {acts : List Act} {old now : List Worker} {later : ℕ → ℕ} {p : Progress} (i : ℕ) (d w : Worker)
-      (so : Woke region f acts old now later p)
+    (so : Woke region f acts old now later p)
     → i < length old → length now ≡ length old
     → (t : Turn region f (suc i) (Wakes (suc i)) [] (get_or now i d) w (evenly (later (suc i))) so.turns.came.reached) → t.did.does.own ≡ []
     → Woke region f (acts ++ (Wakes (suc i) ∷ [])) old (set now i w) later p
@@ -290,7 +289,7 @@ abbrev pub ends_begin : {region : SharedRegion} {f : Profile} {old : List Worker
 ends_begin {old = old} at = record { turns = no_turn (none_took old at); spoken = tt; none = refl; empty = λ j d less. absurd (omega (arith, less)) }
 
 abbrev pub ends : {region : SharedRegion} {f : Profile} {acts : List Act} {old now : List Worker} {later : ℕ → ℕ} {p : Progress} (i : ℕ) (d w : Worker)
-      (so : Stopped region f acts i old now later p)
+    (so : Stopped region f acts i old now later p)
     → i < length old → length now ≡ length old
     → Turn region f (suc i) (Ends (suc i)) [] (get_or now i d) w (evenly (later (suc i))) so.turns.came.reached → (cached w.cache).locals ≡ []
     → Stopped region f (acts ++ (Ends (suc i) ∷ [])) (suc i) old (set now i w) later p

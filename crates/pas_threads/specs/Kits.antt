@@ -13,8 +13,7 @@ use Rattle.pas_answers.specs.{Fit.AllBelow, Names.block_named, Names.names_held}
 use Rattle.pas_answers.specs.Replays.{phases_of, region_of, threads_of, keepers_of, empty_cache}
 use Rattle.pas_guard.specs.Books.{guards_in, size_of_book}
 use Rattle.pas_guard.specs.declared.book.GuardBook.{GuardBook}
-use Rattle.pas_plans.specs.Keepers.{guarded_of}
-use Rattle.pas_acts.specs.NameBooks.{requests_in, room_for}
+use Rattle.pas_acts.specs.{PlanKeepers.guarded_of, NameBooks.requests_in, NameBooks.room_for}
 use Rattle.pas_threads.specs.{Pairs.AreGuarded, Sessions.HasPlaces}
 use Rattle.pas_acts.specs.declared.names.NameBook.{NameBook}
 use Rattle.pas_threads.specs.declared.{keeper.Keeper.Keeper, workers.Worker.Worker, scavenger.Scavenger.Scavenger, phases.Team.Team, kit.SharedKit.SharedKit}

@@ -1,10 +1,9 @@
 -- The threads that are lent to the scavenger's worker in a phase in which they are idle: on its bench, and with their passes before and after.
 use Rattle.std.specs.Prelude.{ℕ, ◌<◌, ◌≤◌, ◌≡◌, ◌⊎◌, Bool, true, List, [], ◌∷◌, ◌++◌, Some, length, get_or}
 use Rattle.pas_profile.specs.declared.profile.Profile.{Profile}
-use Rattle.pas_steps.specs.{Desks.Standing, Lists.Whole, Lists.part, Views.View}
+use Rattle.pas_steps.specs.{Desks.Standing, Lists.Whole, Lists.part, Views.View, Noted.AreNotesOf}
 use Rattle.pas_cache.specs.Caches.{cached}
 use Rattle.pas_report.specs.Rooms.{Records}
-use Rattle.pas_region.specs.Noted.{AreNotesOf}
 use Rattle.pas_shared.specs.Ledgers.{part_of}
 use Rattle.pas_shared.specs.Ruled.{among, all_actors, HasRow, rows_of, rows_of_only, isnt, only_this, steps_of}
 use Rattle.pas_shared.specs.Benches.{row_on, first_row, home_of, seat_of_member, standing_on, IsFreshRow, IsMemberOf, SitsInRow, StandsOver}

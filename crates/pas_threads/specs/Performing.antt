@@ -10,7 +10,7 @@ use Rattle.pas_shared.specs.{Ledgers.looks_of, Ruled.steps_of, Ruled.IsEarlier, 
 use Rattle.pas_shared.specs.declared.{ledger.Ledger.Ledger, region.SharedRegion.SharedRegion, rule.Entry.Entry}
 use Rattle.pas_trace.specs.Acts.{is_active, acts_of_ops, idle_threads, own_acts, scavenger_acts}
 use Rattle.pas_answers.specs.{Answers.Named, Answers.Progress, Fit.own_costs_of, Ways.records_by}
-use Rattle.pas_shares.specs.Shares.{AreAmong, AreKeptBehind, owner_in, acts_by}
+use Rattle.pas_acts.specs.Shares.{AreAmong, AreKeptBehind, owner_in, acts_by}
 use Rattle.pas_acts.specs.NameBooks.{requests_in, room_for, names_of, names_asked}
 use Rattle.pas_threads.specs.Left.{pair_in, crew_in, HasLeft, KeepsOrder}
 use Rattle.pas_threads.specs.{Taken.HandsOver, Hands.standing_of_pass, Hands.HasPass, Hands.ScavengerAt, Sessions.Session, Sessions.WorkerHas}

@@ -14,8 +14,7 @@ use Rattle.pas_trace.specs.Acts.{Ends, Lowers, is_active, numbers_from, own_acts
 use Rattle.pas_answers.specs.{Replays.at_start, Answers.Progress, Calls.owed_events, Reaching.Reaches, Phases.AreInPhases}
 use Rattle.pas_answers.specs.Stages.{Stage, one_by_one, phase_stages, stages_of, GoByStages}
 use Rattle.pas_answers.specs.Ways.{OnThreads, arranged, by_actors, AreSpoken}
-use Rattle.pas_shares.specs.Shares.{AreKeptBehind}
-use Rattle.pas_acts.specs.{Works.Later, Turns.RestsAt, NameBooks.NamesAt, NameBooks.requests_in, NameBooks.room_for}
+use Rattle.pas_acts.specs.{Shares.AreKeptBehind, Works.Later, Turns.RestsAt, NameBooks.NamesAt, NameBooks.requests_in, NameBooks.room_for}
 use Rattle.pas_threads.specs.Hands.{standing_of_pass, HasPass, ScavengerAt}
 use Rattle.pas_threads.specs.Pairs.{KeeperRests, AreGuarded, owed_by_keepers, IsLow}
 use Rattle.pas_threads.specs.declared.{workers.Worker.Worker, scavenger.Scavenger.Scavenger, phases.Team.Team}

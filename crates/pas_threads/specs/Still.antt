@@ -2,8 +2,7 @@
 -- definitions, where the code can cite it.
 use Rattle.std.specs.Prelude.{◌≡◌, ℕ, true, [], ◌∷◌, Option, Some, None}
 use Rattle.std.proofs.Common.{refl, ap, sym, ◌∙◌, subst}
-use Rattle.pas_steps.specs.{Lists.Whole, Lists.part, Views.View}
-use Rattle.pas_region.specs.Noted.{AreNotesOf}
+use Rattle.pas_steps.specs.{Lists.Whole, Lists.part, Views.View, Noted.AreNotesOf}
 use Rattle.pas_shared.specs.Ruled.{among, made_in}
 use Rattle.pas_shared.specs.Benches.{rows_on, row_on, home_of, standing_on, IsBenchOf, StandsOver}
 use Rattle.pas_shared.specs.declared.{bench.Bench.Bench, bench.Member.Member, bench_desk.BenchDesk.BenchDesk, bench_desk.BenchHome.BenchHome}

@@ -9,8 +9,7 @@ use Rattle.pas_cache.specs.Caches.{cached}
 use Rattle.pas_shared.specs.declared.region.SharedRegion.{SharedRegion}
 use Rattle.pas_trace.specs.Acts.{Act, Wakes, Ends, numbers_from}
 use Rattle.pas_answers.specs.{Answers.Progress, Calls.owed_events, Ways.AreSpoken, Ways.records_by, Reaching.Reaches}
-use Rattle.pas_plans.specs.Awake.{awake_in}
-use Rattle.pas_acts.specs.{AtDesks.here, AtDesks.ThreadActs, Works.Later}
+use Rattle.pas_acts.specs.{Awake.awake_in, AtDesks.here, AtDesks.ThreadActs, Works.Later}
 use Rattle.pas_threads.specs.{Hands.Did, Sessions.evenly, Sessions.WorkerHas, Pairs.said_by_keeper, Pairs.IsButKeeper}
 use Rattle.pas_threads.specs.declared.{keeper.Keeper.Keeper, workers.Worker.Worker}
 

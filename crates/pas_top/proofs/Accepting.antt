@@ -2,7 +2,7 @@
 use Rattle.std.proofs.Common.{◌≡◌, ℕ, List, sym, subst}
 use Rattle.pas_trace.specs.Plans.{IsPlanOf}
 use Rattle.pas_trace.specs.declared.plan.Plan.{Plan}
-use Rattle.pas_plans.proofs.PlanFacts.{plan_valid}
+use Rattle.pas_acts.proofs.PlanFacts.{plan_valid}
 use Rattle.pas_answers.specs.Ways.{InOrder}
 use Rattle.pas_check.specs.Accepted.{IsAccepted, IsVerdict}
 use Rattle.pas_check.specs.declared.verdict.Verdict.{Verdict, TheVariants.Yes}

@@ -7,7 +7,7 @@ use Rattle.pas_check.specs.declared.verdict.Verdict.{Verdict, TheVariants.Yes, T
 use Rattle.pas_check.proofs.Verdicts.{one_verdict}
 use Rattle.pas_accepted.proofs.OnePlan.{same_verdict}
 use Rattle.pas_io.specs.Told.{Rose, Tells}
-use Rattle.pas_words.specs.Words.{IsChecking}
+use Rattle.pas_telling.specs.Words.{IsChecking}
 use Rattle.pas_top.specs.Checked.{EndsCheck, TellsCheck}
 use Rattle.pas_top.specs.Judgements.{IsJudged, IsJudgement, judgement_status, judgement_text, verdict_status}
 use Rattle.pas_top.specs.Outputs.{most_bytes, ChecksTo, HasFailed, IsCheckStatus, IsCutOff, IsOutput, IsStatus, IsWriting, IsWritten}

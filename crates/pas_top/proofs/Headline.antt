@@ -12,51 +12,50 @@ use Rattle.pas_report.specs.{Rests.AreStamped, Rests.HasWords, Rooms.records_in}
 use Rattle.pas_report.specs.declared.record.Record.{Record}
 use Rattle.pas_report.proofs.{Agreeing.line_agrees, ReportOfWords.are_deed_words, ReportOfWords.nobody_holds, ReportOfWords.report_agrees}
 use Rattle.pas_answers.specs.{Replays.Shows, Ways.Way, Ways.InOrder}
-use Rattle.pas_plans.proofs.PlanFacts.{plan_valid}
+use Rattle.pas_acts.proofs.PlanFacts.{plan_valid}
 use Rattle.pas_answers.proofs.Consequences.{can_be_shown}
-use Rattle.pas_words.specs.declared.manner.Manner.{Manner}
+use Rattle.pas_telling.specs.declared.{manner.Manner.Manner, outcome.Outcome.Outcome, outcome.Outcome.TheVariants.Replayed, outcome.Outcome.TheVariants.Faulty}
 use Rattle.pas_top.specs.{Manners.way_of, OneText.IsOfOne, Outcomes.IsOutcome}
 use Rattle.pas_telling.specs.Outcomes.{IsShown, IsWritable, outcome_status, outcome_text, shown_text}
 use Rattle.pas_top.specs.Outputs.{most_bytes, too_long_text, ComesTo, IsReplaying, IsReplayStatus, IsOutput, IsReplayed}
 use Rattle.pas_top.proofs.OneText.{alone_of, text_by}
-use Rattle.pas_telling.specs.declared.outcome.Outcome.{Outcome, TheVariants.Replayed, TheVariants.Faulty}
 
 -- ---- the state after a replay is a region at rest
 module _ {bytes : List ℕ} {way : Way} {plan : Plan} {records : List Record} {state : State} (read : IsPlanOf bytes plan) (shows : Shows way plan records state)
-    where
-  has_words : HasWords state shows.whole
-  has_words = record { words = λ w of. shows.words w (subst (λ (f : Profile). IsWordOf f w) shows.profile of) }
+  where
+    has_words : HasWords state shows.whole
+    has_words = record { words = λ w of. shows.words w (subst (λ (f : Profile). IsWordOf f w) shows.profile of) }
 
-  valid_state : IsValid (profile_of state)
-  valid_state = subst IsValid (sym shows.profile) (plan_valid read)
+    valid_state : IsValid (profile_of state)
+    valid_state = subst IsValid (sym shows.profile) (plan_valid read)
 
-  legal_state : Legal (profile_of state) shows.whole
-  legal_state = subst (λ (f : Profile). Legal f shows.whole) (sym shows.profile) shows.replay.legal
+    legal_state : Legal (profile_of state) shows.whole
+    legal_state = subst (λ (f : Profile). Legal f shows.whole) (sym shows.profile) shows.replay.legal
 
-  can_show : IsShown records state
-  can_show = record { lines = can_be_shown shows.replay; deeds = are_deed_words state shows.whole has_words valid_state legal_state }
+    can_show : IsShown records state
+    can_show = record { lines = can_be_shown shows.replay; deeds = are_deed_words state shows.whole has_words valid_state legal_state }
 
-  report_is : report_by_words state ≡ report_text plan.profile (visible shows.whole) (marks_after shows.whole)
-  report_is =
-      report_agrees state shows.whole has_words valid_state legal_state
-      (nobody_holds (profile_of state) shows.whole valid_state legal_state (record { nobody = λ k g. (shows.replay.nothing k).grains g }))
-      (subst (λ (f : Profile). AreStamped f shows.whole) (sym shows.profile) shows.replay.stamps)
-      ∙ ap (λ (f : Profile). report_text f (visible shows.whole) (marks_after shows.whole)) shows.profile
+    report_is : report_by_words state ≡ report_text plan.profile (visible shows.whole) (marks_after shows.whole)
+    report_is =
+        report_agrees state shows.whole has_words valid_state legal_state
+        (nobody_holds (profile_of state) shows.whole valid_state legal_state (record { nobody = λ k g. (shows.replay.nothing k).grains g }))
+        (subst (λ (f : Profile). AreStamped f shows.whole) (sym shows.profile) shows.replay.stamps)
+        ∙ ap (λ (f : Profile). report_text f (visible shows.whole) (marks_after shows.whole)) shows.profile
 
-  -- the totals of a summary are the machine's
-  pub totals_are : totals_by_words state ≡ total_line plan.profile (visible shows.whole)
-  totals_are = line_agrees state shows.whole has_words (agrees (profile_of state) shows.whole valid_state legal_state) ∙ ap (λ (f : Profile). total_line f (visible shows.whole)) shows.profile
+    -- the totals of a summary are the machine's
+    pub totals_are : totals_by_words state ≡ total_line plan.profile (visible shows.whole)
+    totals_are = line_agrees state shows.whole has_words (agrees (profile_of state) shows.whole valid_state legal_state) ∙ ap (λ (f : Profile). total_line f (visible shows.whole)) shows.profile
 
-  -- WHAT EITHER WAY SHOWS is what is written
-  shown_replayed : IsReplayed way bytes (shown_text records state)
-  shown_replayed = record {
-    plan = plan;
-    read = read;
-    whole = shows.whole;
-    records = records;
-    replay = shows.replay;
-    text_is = ap (λ (t : List ℕ). lines_of records ++ t) report_is;
-  }
+    -- WHAT EITHER WAY SHOWS is what is written
+    shown_replayed : IsReplayed way bytes (shown_text records state)
+    shown_replayed = record {
+      plan = plan;
+      read = read;
+      whole = shows.whole;
+      records = records;
+      replay = shows.replay;
+      text_is = ap (λ (t : List ℕ). lines_of records ++ t) report_is;
+    }
 
 -- ---- what an input comes to
 pub can_write : (way : Way) (bytes : List ℕ) (outcome : Outcome) → IsOutcome way bytes outcome → IsWritable outcome

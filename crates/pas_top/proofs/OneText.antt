@@ -16,7 +16,7 @@ use Rattle.pas_telling.specs.Summaries.{summary_text}
 use Rattle.pas_top.specs.{Generating.IsSummarized, Manners.way_of}
 use Rattle.pas_top.specs.OneText.{IsTextOf, WritesTextOf, IsOfOne, IsTextBy, summary_of_world, summary_for, IsSummaryOf}
 use Rattle.pas_top.specs.Outputs.{ComesTo, IsReplaying, IsChecking, IsGen, IsOutput, IsReplayed, IsWritten}
-use Rattle.pas_words.specs.declared.manner.Manner.{Manner}
+use Rattle.pas_telling.specs.declared.manner.Manner.{Manner}
 
 -- ---- the text
 text_told : (bytes text : List ℕ) → IsReplayed InOrder bytes text → IsTextOf bytes text

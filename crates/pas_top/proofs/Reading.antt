@@ -2,8 +2,7 @@
 use Rattle.std.proofs.Common.{◌≡◌, List, Result, Ok, sym, ◌∙◌, subst, ℕ, IfOk}
 use Rattle.pas_trace.specs.Plans.{IsPlanOf, IsReading}
 use Rattle.pas_trace.specs.declared.{plan.Plan.Plan, fault.ReadFault.ReadFault}
-use Rattle.pas_words.specs.declared.manner.Manner.{Manner}
-use Rattle.pas_telling.specs.declared.outcome.Outcome.{Outcome}
+use Rattle.pas_telling.specs.declared.{manner.Manner.Manner, outcome.Outcome.Outcome}
 use Rattle.pas_top.specs.{Manners.way_of, Outcomes.IsOutcome}
 
 -- a plan that was read is that of the bytes

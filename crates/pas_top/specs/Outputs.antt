@@ -12,8 +12,8 @@ use Rattle.pas_io.specs.{Inputs.Takes, Told.Rose, Told.Writes, Told.WritesFront}
 use Rattle.pas_telling.specs.Faults.{fault_text}
 use Rattle.pas_top.specs.{Generating.IsSummarized, Judgements.IsJudged, Judgements.verdict_status, Judgements.verdict_text, Manners.way_of, OneText.IsTextBy}
 use Rattle.pas_top.specs.{OneText.IsSummaryOf}
-use Rattle.pas_words.specs.declared.manner.Manner.{Manner}
-pub use Rattle.pas_words.specs.Words.{texts_of, IsReplaying, IsChecking, ReadsInput, IsGen, IsAccepted}
+use Rattle.pas_telling.specs.declared.manner.Manner.{Manner}
+pub use Rattle.pas_telling.specs.Words.{texts_of, IsReplaying, IsChecking, ReadsInput, IsGen, IsAccepted}
 
 -- the most bytes of an input
 abbrev pub most_bytes : ℕ

@@ -3,12 +3,11 @@ ghost use Rattle.std.specs.Prelude.{◌≡◌};
 ghost use Rattle.pas_top.specs.Generated.{Generates};
 
 use crate::outcome::outcome_in_order;
+use pas_generate::laws::generated_texts_are_read;
 use pas_generate::trace_of;
-use pas_generated::laws::generated_texts_are_read;
 use pas_io::Sink;
 use pas_profile::NoMemory;
-use pas_telling::{Outcome, summary_of, tell};
-use pas_words::Job;
+use pas_telling::{Job, Outcome, summary_of, tell};
 use std::alloc::Global;
 
 /// Generates the trace of the job, replays it in the order of its text, and writes the summary. The status is 0, or 4 where

@@ -10,7 +10,7 @@ mod outcome;
 mod remaking;
 
 pub use main_call::pas_main;
-pub use pas_words::manner;
+pub use pas_telling::manner;
 pub use remaking::Reallocation;
 
 const USAGE: &str = "usage: pas order | pas run | pas check | pas gen SEED OPS THREADS PAGES\n";

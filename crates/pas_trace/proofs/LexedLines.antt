@@ -178,7 +178,7 @@ lines-fault old now new start lines xs ys NoMemory far t = tt
 
 -- .. and those that are left
 pub all-read : (old now new : Reader) (start : List Item) (lines left : List (List ℕ)) (result : Result (Unit {0}) ReadFault)
-      (far : SoFar old start lines now left)
+    (far : SoFar old start lines now left)
     → AreTaken now far.items left new result → AreTaken old start lines new result
 all-read old now new start lines left (Ok done) far t = (t.0, far.same ∙ ap (λ (f : Header). items_from f (now.line + 1) far.items left) (sym far.header) ∙ t.1, t.2, t.3 ∙ far.header)
 all-read old now new start lines left (Err (Trace fault)) far t = far.same ∙ ap (λ (f : Header). items_from f (now.line + 1) far.items left) (sym far.header) ∙ t

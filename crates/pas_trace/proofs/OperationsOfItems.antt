@@ -338,7 +338,7 @@ none_or false = refl
 
 kept_one : (f : Profile) (guarded mine : Bool) (line t k n h s a : ℕ) → (t == k) ≡ mine
     → kept_records k (operation line t (request_kept (if guarded then Some (f.threads + t) else None) n h s a) ∷ [])
-      ≡ (if guarded && mine then cost_of_size s else 0)
+    ≡ (if guarded && mine then cost_of_size s else 0)
 kept_one f true mine line t k n h s a is = ap (λ b. (if b then cost_of_size s else 0) + 0) is ∙ omega arith
 kept_one f false mine line t k n h s a is = ap (λ b. (if b then 0 else 0) + 0) is ∙ none_or mine
 

@@ -35,7 +35,7 @@ next_read : (h : Header) (number : ℕ) (earlier items : List Item) (line : List
     → line_says h earlier line ≡ r
     → after_item number r (λ i. items_from h (number + 1) (i ∷ earlier) lines) ≡ Ok items
     → ((i : Item) → AreChecked h.profile (i ∷ earlier) → items_from h (number + 1) (i ∷ earlier) lines ≡ Ok items
-        → AreRead h.profile items (length (i ∷ earlier) + length lines))
+    → AreRead h.profile items (length (i ∷ earlier) + length lines))
     → AreChecked h.profile earlier
     → AreRead h.profile items (length earlier + length (line ∷ lines))
 next_read h number earlier items line lines (Err r) is e more before = absurd (cc)

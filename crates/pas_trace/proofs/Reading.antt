@@ -18,7 +18,7 @@ at-first r start lines t = record { items = start; tells = t; header = refl; sam
 
 -- After a line was taken, the reader is one line further.
 pub after-taken : (old now new : Reader) (start : List Item) (lines : List (List ℕ)) (line : List ℕ) (left : List (List ℕ))
-      (far : SoFar old start lines now (line ∷ left))
+    (far : SoFar old start lines now (line ∷ left))
     → IsTaken now far.items line new (Ok tt) → SoFar old start lines new left
 after-taken old now new start lines line left far t =
     let i = t.0 in
@@ -33,7 +33,7 @@ after-taken old now new start lines line left far t =
 
 -- the line with the fault is the first of those that are left
 pub taken-fault : (old now new : Reader) (start : List Item) (lines : List (List ℕ)) (line : List ℕ) (left : List (List ℕ)) (fault : ReadFault)
-      (far : SoFar old start lines now (line ∷ left))
+    (far : SoFar old start lines now (line ∷ left))
     → IsTaken now far.items line new (Err fault) → AreTaken old start lines new (Err fault)
 taken-fault old now new start lines line left (Trace fault) far t = search arith
 taken-fault old now new start lines line left NoMemory far t = tt

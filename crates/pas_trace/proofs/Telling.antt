@@ -121,7 +121,7 @@ small_thread old items t w told e =
 
 added : (old new : Reader) (names : Names) (samples : Samples) (i : Item) (actor : ℕ) (what : What) (cost : ℕ)
     → ((items : List Item) → Tells old items → reason_of old.header.profile items i ≡ None
-        → IsOperation old.header.profile (heap_of items) (keeper_for old.header.profile items i) old.samples.guard i actor what cost)
+    → IsOperation old.header.profile (heap_of items) (keeper_for old.header.profile items i) old.samples.guard i actor what cost)
     → NamesAfter old names i → SamplesAfter old samples i
     → IsCounted (record old { line = old.line + 1; names = names; samples = samples }) new actor what cost → IsAdded old new i
 added old new names samples i actor what cost op after sampling h = record {

@@ -1,10 +1,9 @@
 -- The first call of an actor.
 use Rattle.std.proofs.Common.{◌≡◌, ◌-◌, [], length, reverse, inr, refl, ap, sym, ◌∙◌, subst, arith}
 use Rattle.pas_profile.specs.declared.directory.Directory.{Directory}
-use Rattle.pas_steps.specs.{Events.events_of, Views.View, Desks.CanCall}
+use Rattle.pas_steps.specs.{Events.events_of, Views.View, Desks.CanCall, Noted.events_noted, Noted.room_of_notes}
 use Rattle.pas_steps.proofs.Nothing.{nothing_yet}
 use Rattle.pas_search.specs.Searches.{MaySearch, SearchRoom}
-use Rattle.pas_region.specs.Noted.{events_noted, room_of_notes}
 use Rattle.pas_shared.specs.Passes.{view_of, seat_of, standing_of}
 use Rattle.pas_shared.specs.declared.{pass.SharedPass.SharedPass, desk.SharedDesk.SharedDesk}
 

@@ -9,9 +9,8 @@ use Rattle.pas_profile.specs.{Routes.room_by, Routes.IsRouteOf}
 use Rattle.pas_profile.specs.declared.{directory.Directory.Directory, directory.Route.Route, event.Event.Event, event.Why.Why, name.Block.Block, name.Name.Name}
 use Rattle.pas_profile.specs.declared.{profile.Profile.Profile}
 use Rattle.pas_profile.proofs.ClassFacts.{route_is, class_known, class_size_whole}
-use Rattle.pas_region.specs.Noted.{events_noted, room_of_notes}
+use Rattle.pas_steps.specs.{Noted.events_noted, Noted.room_of_notes, Clear.HasNothing, Views.View, Views.epoch_of}
 use Rattle.pas_machine.specs.{Machine.Run, Machine.IsLive, Machine.IsReason, State.live_in, State.ends_in}
-use Rattle.pas_steps.specs.{Clear.HasNothing, Views.View, Views.epoch_of}
 use Rattle.pas_steps.specs.Desks.{Seat, CanCall, triple, triples}
 use Rattle.pas_steps.specs.Events.{event_of, events_of, events_by, with_event}
 use Rattle.pas_steps.specs.Lists.{Triple, Whole, Legal, part, visible}

@@ -1,8 +1,7 @@
 //! A block that one actor hands another, with its past.
 ghost use Rattle.std.specs.Prelude.{ℕ, ◌≡◌, ◌≤◌, ◌∷◌, Some, List, IfOk, IfSome};
 ghost use Rattle.pas_profile.specs.declared.{event.Event.Event as TheEvent, profile.Profile.Profile as TheProfile};
-ghost use Rattle.pas_region.specs.Noted.{events_noted};
-ghost use Rattle.pas_steps.specs.{Clear.HasNothing, Views.View};
+ghost use Rattle.pas_steps.specs.{Noted.events_noted, Clear.HasNothing, Views.View};
 ghost use Rattle.pas_cache.specs.Caches.{cached, AtRest};
 ghost use Rattle.pas_shared.specs.Passes.{profile_of};
 ghost use Rattle.pas_trials.specs.Handing.{IsFirst, IsOfActor, IsGiftOf, HasFreed, IsHandedOver};

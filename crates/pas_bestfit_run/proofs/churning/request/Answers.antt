@@ -1,4 +1,4 @@
-use Rattle.pas_choice.proofs.Sessions.{can_ask, bitfit_of_first}
+use Rattle.pas_search.proofs.Sessions.{can_ask, bitfit_of_first}
 use Rattle.pas_bestfit_run.proofs.churning.request.Goals as goal
 
 pub alloc-requires-clause-directory : goal.alloc-requires-clause-directory

@@ -4,7 +4,7 @@ use Rattle.pas_plain.specs.Plain.{profile_of, PassStands}
 use Rattle.pas_plain.specs.declared.pass.PlainPass.{PlainPass}
 use Rattle.pas_trace.specs.{Acts.acts_of, Plans.ops_of}
 use Rattle.pas_trace.specs.declared.plan.Phase.{Phase}
-use Rattle.pas_plans.proofs.PlanFacts.{plan_phases, plan_valid, plan_operate, plan_fit}
+use Rattle.pas_acts.proofs.PlanFacts.{plan_phases, plan_valid, plan_operate, plan_fit}
 use Rattle.pas_trace.proofs.Keepers.{keepers_few}
 use Rattle.pas_answers.specs.{Names.names_held, Replays.threads_of, Replays.keepers_of}
 use Rattle.pas_replay.specs.Kits.{replay_of}

@@ -1,7 +1,7 @@
 use Rattle.std.proofs.Common.{◌∙◌, List, drop_of_length-le, ap}
 use Rattle.pas_trace.specs.declared.plan.Op.{Op}
 use Rattle.pas_trace.specs.Acts.{acts_of_ops}
-use Rattle.pas_plans.specs.Awake.{idle_in}
+use Rattle.pas_acts.specs.Awake.{idle_in}
 use Rattle.pas_replay.proofs.ActsInOrder.{as_first, at_next}
 use Rattle.pas_replay.proofs.order.perform_all.Goals as goal
 

@@ -1,7 +1,7 @@
 -- the operations so far are done
 use Rattle.std.proofs.Common.{◌≡◌, ◌++◌, List, drop, length}
 use Rattle.pas_trace.specs.Acts.{Act, acts_of_ops}
-use Rattle.pas_plans.specs.Awake.{idle_in}
+use Rattle.pas_acts.specs.Awake.{idle_in}
 use Rattle.pas_replay.specs.Sessions.{Replay, SoFarAt, session}
 use Rattle.pas_replay.proofs.order.perform_all.Given as goal
 

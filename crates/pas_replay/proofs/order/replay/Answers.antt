@@ -5,9 +5,9 @@ use Rattle.pas_report.specs.Rooms.{records_in}
 use Rattle.pas_report.specs.declared.record.Record.{Record}
 use Rattle.pas_trace.specs.Acts.{Act, Wakes, Ends, Lowers, acts_of, acts_of_ops, numbers_from}
 use Rattle.pas_replay.specs.Sessions.{Replay, SoFar, SoFarAt, hand_of, session}
-use Rattle.pas_plans.specs.Awake.{awake_in, idle_in}
+use Rattle.pas_acts.specs.Awake.{awake_in, idle_in}
 use Rattle.pas_replay.proofs.{Turning.may_sit, order.replay.Given.Over}
-use Rattle.pas_plans.proofs.ActsLeft.{acts_left, next_phase, first_phase, other_phase, last_phase}
+use Rattle.pas_acts.proofs.ActsLeft.{acts_left, next_phase, first_phase, other_phase, last_phase}
 use Rattle.pas_replay.proofs.ActsInOrder.{as_acts, as_hand, as_first, after_mark, wakes_first}
 use Rattle.pas_replay.proofs.order.replay.Goals as goal
 use Rattle.pas_replay.proofs.order.replay.Goals.{then-number-gt-UNMARKED, else-number-gt-UNMARKED, After-active-awake, After-push-2}

@@ -2,7 +2,7 @@
 use Rattle.std.proofs.Common.{◌≡◌, drop, length, map}
 use Rattle.pas_trace.specs.{Plans.ops_of, Acts.acts_of}
 use Rattle.pas_replay.specs.Sessions.{Replay, SoFar, SoFarAt, hand_of, session}
-use Rattle.pas_plans.proofs.ActsLeft.{acts_left}
+use Rattle.pas_acts.proofs.ActsLeft.{acts_left}
 use Rattle.pas_replay.proofs.order.replay.Given as goal
 
 abbrev pub invariant-loop-phase : goal.invariant-loop-phase

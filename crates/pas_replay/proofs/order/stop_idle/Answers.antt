@@ -4,9 +4,9 @@ use Rattle.pas_bits.specs.Masks.{is_set}
 use Rattle.pas_trace.specs.Acts.{Act, ReadsEpoch, StopsIdle, numbers_from, idle_stops}
 use Rattle.pas_answers.specs.declared.names.Names.{Names}
 use Rattle.pas_replay.specs.Sessions.{Replay, SoFarAt, session}
-use Rattle.pas_plans.specs.Awake.{idle_in}
+use Rattle.pas_acts.specs.Awake.{idle_in}
 use Rattle.pas_replay.proofs.{ActsInOrder.as_read, order.stop_idle.Goals.then-not-get, order.stop_idle.Goals.else-not-get}
-use Rattle.pas_plans.proofs.ActsLeft.{next_chosen, next_passed, none_left}
+use Rattle.pas_acts.proofs.ActsLeft.{next_chosen, next_passed, none_left}
 use Rattle.pas_replay.proofs.order.stop_idle.Goals as goal
 
 pub read_epoch-epoch-requires : goal.read_epoch-epoch-requires

@@ -4,7 +4,7 @@ use Rattle.std.specs.List.{filter}
 use Rattle.pas_bits.specs.Masks.{is_set}
 use Rattle.pas_trace.specs.Acts.{Act, ReadsEpoch, numbers_from, idle_stops}
 use Rattle.pas_answers.specs.declared.names.Names.{Names}
-use Rattle.pas_plans.specs.Awake.{idle_in}
+use Rattle.pas_acts.specs.Awake.{idle_in}
 use Rattle.pas_replay.specs.Sessions.{Replay, SoFarAt, HasRead, session}
 use Rattle.pas_replay.proofs.order.stop_idle.Given as goal
 

@@ -2,11 +2,11 @@ use Rattle.std.proofs.Common.{◌≡◌, ◌∙◌, ◌+◌, ◌++◌, true, fal
 use Rattle.pas_bits.specs.Masks.{is_set}
 use Rattle.pas_report.specs.Rooms.{Records}
 use Rattle.pas_trace.specs.Acts.{Act, Wakes}
-use Rattle.pas_plans.specs.Awake.{awake_in}
+use Rattle.pas_acts.specs.Awake.{awake_in}
 use Rattle.pas_replay.specs.Sessions.{Replay, SoFarAt, session}
 use Rattle.pas_answers.specs.declared.names.Names.{Names}
 use Rattle.pas_replay.proofs.{ActsInOrder.as_acts, order.wake_all.Goals.then-get, order.wake_all.Goals.else-get}
-use Rattle.pas_plans.proofs.ActsLeft.{next_chosen, next_passed, none_left}
+use Rattle.pas_acts.proofs.ActsLeft.{next_chosen, next_passed, none_left}
 use Rattle.pas_replay.proofs.order.wake_all.Goals as goal
 
 pub wake-requires-clause-thread : goal.wake-requires-clause-thread

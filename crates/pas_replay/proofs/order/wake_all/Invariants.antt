@@ -4,7 +4,7 @@ use Rattle.std.specs.List.{filter}
 use Rattle.pas_bits.specs.Masks.{is_set}
 use Rattle.pas_report.specs.Rooms.{Records}
 use Rattle.pas_trace.specs.Acts.{Act, Wakes, numbers_from}
-use Rattle.pas_plans.specs.Awake.{awake_in}
+use Rattle.pas_acts.specs.Awake.{awake_in}
 use Rattle.pas_replay.specs.Sessions.{Replay, SoFarAt, session}
 use Rattle.pas_answers.specs.declared.names.Names.{Names}
 use Rattle.pas_replay.proofs.order.wake_all.Given as goal

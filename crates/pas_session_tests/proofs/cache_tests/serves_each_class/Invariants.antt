@@ -10,5 +10,5 @@ invariant-loop-class g l = record {
   exclusive : has_bit (g.D.Desk.standing l.desk).seat.profile.shared 0 ≡ false;
   none_logged : (cached l.cache).log ≡ [];
   can : CanCall (g.D.Desk.standing l.desk) (λ v. AtRest (g.D.Desk.standing l.desk).seat.profile (cached l.cache) v
-        × (10 * (20 - l.class) + unknown_pages (g.D.Desk.standing l.desk).seat.profile v ≤ g.D.Desk.spare_of l.desk));
+      × (10 * (20 - l.class) + unknown_pages (g.D.Desk.standing l.desk).seat.profile v ≤ g.D.Desk.spare_of l.desk));
 }

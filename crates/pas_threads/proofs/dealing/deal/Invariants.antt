@@ -8,7 +8,7 @@ abbrev pub invariant-loop-worker : goal.invariant-loop-worker
 invariant-loop-worker l = record {
   inside :
       (own : List Worker) × (l.hands.items ≡ map Thread own)
-        × (own ++ picked (is_in l.awake) (l.actor + 1) (reverse l.threads.items) ≡ picked (is_in l.awake) 1 l.fn.threads.items);
+      × (own ++ picked (is_in l.awake) (l.actor + 1) (reverse l.threads.items) ≡ picked (is_in l.awake) 1 l.fn.threads.items);
   outside : l.lent.items ++ picked (is_out l.awake) (l.actor + 1) (reverse l.threads.items) ≡ picked (is_out l.awake) 1 l.fn.threads.items;
   count : l.actor + length l.threads.items ≡ length l.fn.threads.items;
   in_hands : length l.hands.items ≤ l.actor;

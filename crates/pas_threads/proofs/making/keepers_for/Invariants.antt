@@ -9,7 +9,7 @@ abbrev pub invariant-loop-pass : goal.invariant-loop-pass
 invariant-loop-pass l = record {
   some : (passes : List SharedPass) ×
       (books : List GuardBook) × (passes ++ l.pass-iterator.rest.items ≡ l.fn.passes.items) × (books ++ l.books.items ≡ l.fn.books.items)
-        × AreKeepers l.room 0 passes books l.keepers.items;
+      × AreKeepers l.room 0 passes books l.keepers.items;
   books_left : length l.books.items ≡ length l.pass-iterator.rest.items;
   many : length l.keepers.items + length l.pass-iterator.rest.items ≡ length l.fn.passes.items;
   reserved : length l.fn.passes.items ≤ vec_capacity l.keepers;

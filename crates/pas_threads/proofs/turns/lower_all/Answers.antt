@@ -13,10 +13,10 @@ use Rattle.pas_threads.proofs.turns.lower_all.Goals as goal
 
 -- what the sweep of the worker at this place did, if it has a keeper
 did : {region : SharedRegion} {s : Session} {slot : Option SharedPass} {old now : List Worker} {before after : Whole} {p : Progress} {low : Keeper} (i : ℕ)
-      (d : Worker) (keeper : Keeper) (so : LowersSoFar region s slot i old now before after p)
+    (d : Worker) (keeper : Keeper) (so : LowersSoFar region s slot i old now before after p)
     → i < length old → (get_or now i d).keeper ≡ Some keeper
     → ((f : Profile) (actor : ℕ) (later : LaterKept) (q : Progress) → KeeperStands region f actor keeper later q
-        → KeeperLowered region f actor keeper low later q)
+    → KeeperLowered region f actor keeper low later q)
     → KeeperLowered region s.profile (s.threads + suc i) keeper low no_more so.done.lowered.reached
 did {s = s} {now = now} i d keeper so lt is lowers = let had = so.done.lowered.each i d lt in lowers s.profile (s.threads + suc i) no_more so.done.lowered.reached (stands_for (get_or now i d).keeper keeper is had.of had.waits)
 

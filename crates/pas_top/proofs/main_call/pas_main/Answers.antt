@@ -1,7 +1,6 @@
 use Rattle.std.proofs.Common.{rules, refl, ap, subst, inl, arith}
 use Rattle.pas_io.specs.Inputs.{IsInput}
-use Rattle.pas_telling.specs.Outcomes.{outcome_status, outcome_text}
-use Rattle.pas_words.specs.Calls.{IsCall, IsMisread}
+use Rattle.pas_telling.specs.{Outcomes.outcome_status, Outcomes.outcome_text, Calls.IsCall, Calls.IsMisread}
 use Rattle.pas_top.specs.{Manners.way_of, Outcomes.IsOutcome}
 use Rattle.pas_top.proofs.Summing.{gen_written, gen_cut_off, gen_sound, gen_summed}
 use Rattle.pas_top.specs.Outputs.{IsReplaying, IsChecking, IsAccepted, most_bytes, texts_of, usage_text, too_long_text}

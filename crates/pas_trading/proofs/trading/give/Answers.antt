@@ -1,6 +1,6 @@
 use Rattle.std.proofs.Common.{sym, subst}
 use Rattle.pas_steps.specs.{Clear.HasNothing, Desks.CanCall}
-use Rattle.pas_choice.proofs.Sessions.{can_ask, bitfit_of_first}
+use Rattle.pas_search.proofs.Sessions.{can_ask, bitfit_of_first}
 use Rattle.pas_shared.specs.declared.pass.SharedPass.{SharedPass}
 use Rattle.pas_trading.specs.Trades.{standing_at}
 use Rattle.pas_trading.proofs.trading.give.Goals as goal

@@ -6,7 +6,7 @@ use Rattle.pas_plain.specs.declared.pass.PlainPass.{PlainPass}
 use Rattle.pas_utility.specs.Pools.{room_of}
 use Rattle.pas_answers.specs.{Fit.AllBelow, Replays.phases_of}
 use Rattle.pas_replay.proofs.Opening.{passes_count, fresh_actor}
-use Rattle.pas_plans.proofs.PlanFacts.{plan_bounds, plan_below, plan_threads}
+use Rattle.pas_acts.proofs.PlanFacts.{plan_bounds, plan_below, plan_threads}
 use Rattle.pas_replay.proofs.kit.PlainKit.try_new.Goals as goal
 
 pub try_new-requires : goal.try_new-requires

@@ -1,9 +1,8 @@
 use Rattle.std.proofs.Common.{◌≡◌, inr, [], ◌∷◌, refl, sym, ap, ◌∙◌, subst}
 use Rattle.pas_profile.specs.Layouts.{words_of, index_of}
 use Rattle.pas_profile.specs.declared.profile.Profile.{Profile}
-use Rattle.pas_steps.specs.{Agreement.Agrees, Desks.made, Views.or_zero}
-use Rattle.pas_region.specs.Noted.{AreNotesOf}
-use Rattle.pas_region.proofs.Noting.{notes_next}
+use Rattle.pas_steps.specs.{Agreement.Agrees, Desks.made, Views.or_zero, Noted.AreNotesOf}
+use Rattle.pas_steps.proofs.Noting.{notes_next}
 use Rattle.pas_shared.specs.{Ruled.IsAskedOf, Ruled.rows_in, Ruled.row_with, Benches.row_on, Benches.first_row, Benches.made_by}
 use Rattle.pas_shared.proofs.Benching.{benched_is, one_row, row_stepped, made_next, sits_as}
 use Rattle.pas_shared.proofs.bench_desk.BenchPlace.make.Goals as goal

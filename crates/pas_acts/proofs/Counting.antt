@@ -1,0 +1,107 @@
+-- How many guarded requests operations have, and the books of their keepers.
+use Rattle.std.proofs.Common.{◌≡◌, ℕ, zero, suc, ◌+◌, ◌<◌, ◌≤◌, ◌==◌, Bool, true, false, if◌then◌else◌, List, [], ◌∷◌, ◌++◌, map, length, drop, get_or}
+use Rattle.std.proofs.Common.{slice_index_or, inl, inr, Result, ap, ◌∙◌, arith, length-append, IfOk, eq-eqb, ne_eqb}
+use Rattle.std.specs.{List.AllByRecursion, Global.Vec}
+use Rattle.std.proofs.lemmas.{Bool.cases_lt, List.drop_more, List.get_or_append_left}
+use Rattle.pas_profile.specs.declared.profile.Profile.{Profile}
+use Rattle.pas_trace.specs.Asked.{work_of, of_task, keeper_of, keeper_in}
+use Rattle.pas_trace.specs.EveryPlan.{all_ops, IsActorBy, records_of_work, records_of_what, records_of_ops}
+use Rattle.pas_trace.specs.Plans.{ops_of}
+use Rattle.pas_trace.specs.declared.plan.{Op.Op, Phase.Phase, Work.Work}
+use Rattle.pas_guard.specs.Books.{guards_in, size_of_book}
+use Rattle.pas_guard.specs.declared.book.GuardBook.{GuardBook}
+use Rattle.pas_acts.specs.PlanKeepers.{one_guarded, guarded_of, AreBooksFor}
+use Rattle.pas_acts.proofs.{ActsOfPlan.ArePlanned, ActsOfPlan.all_front, ActsOfPlan.all_back, Making.at_end}
+
+-- ---- counts
+abbrev guards_of : ℕ → Op → ℕ
+guards_of k op = if op.actor == k then one_guarded (keeper_in op.what) else 0
+
+guarded_both : (k : ℕ) (xs ys : List Op) → guarded_of k (xs ++ ys) ≡ guarded_of k xs + guarded_of k ys
+guarded_both k [] ys = omega arith
+guarded_both k (x ∷ xs) ys = let rest = guarded_both k xs ys in omega (arith, rest)
+
+-- with one operation more
+pub guarded_next : (k : ℕ) (ops : List Op) (i : ℕ) (d : Op) → i < length ops
+    → guarded_of k (drop i ops) ≡ guards_of k (get_or ops i d) + guarded_of k (drop (i + 1) ops)
+guarded_next k ops i d lt = ap (λ (xs : List Op). guarded_of k xs) (drop_more ops i d lt)
+
+-- .. and of phases with one phase more
+pub phases_next : (k : ℕ) (phases : List Phase) (i : ℕ) (item : Phase) → i < length phases → item ≡ slice_index_or phases i item
+    → guarded_of k (all_ops (map ops_of (drop i phases))) ≡ guarded_of k (ops_of item) + guarded_of k (all_ops (map ops_of (drop (i + 1) phases)))
+phases_next k phases i item lt is = cc (drop_more phases i item lt, guarded_both k (ops_of item) (all_ops (map ops_of (drop (i + 1) phases))))
+
+-- so many more of one actor
+pub count_more : (a k more : ℕ) (counts : ℕ → ℕ) → (if a == k then counts a + more else counts k) ≡ counts k + (if a == k then more else 0)
+count_more a k more counts = search (arith, eq-eqb, ne_eqb)
+
+-- ---- each costs its plan a record at least
+few_work : (f : Profile) (work : Work) → one_guarded (of_task keeper_of work) ≤ records_of_work f work
+few_work f work = grind arith
+
+few_if : (t : Bool) (a b : ℕ) → a ≤ b → (if t then a else 0) ≤ b
+few_if true a b le = le
+few_if false a b le = omega arith
+
+-- Operations have no more guarded requests than they may make records.
+pub guarded_few : (f : Profile) (k : ℕ) (ops : List Op) → guarded_of k ops ≤ records_of_ops f ops
+guarded_few f k [] = omega arith
+guarded_few f k (op ∷ ops) =
+    let one = few_if (op.actor == k) (one_guarded (keeper_in op.what)) (records_of_what f op.what) (few_work f (work_of op.what)) in
+    omega (arith, one, guarded_few f k ops)
+
+-- ---- actors
+within_work : (f : Profile) (work : Work) (k : ℕ) → f.threads ≤ 16 → IsActorBy f work k → k < 17
+within_work f work k h i = grind arith
+
+-- The actor of each planned operation is below 17.
+pub actors_within : (f : Profile) (ops : List Op) → f.threads ≤ 16 → ArePlanned f ops → AllByRecursion (λ (op : Op). op.actor < 17) ops
+actors_within f [] few all = tt
+actors_within f (op ∷ ops) few all = (within_work f (work_of op.what) op.actor few all.0, actors_within f ops few all.1)
+
+-- What is so of each of a list is so of the one at a place.
+pub all_at : {A : Type 0} (P : A → Type 0) (xs : List A) (i : ℕ) (d : A) → AllByRecursion P xs → i < length xs → P (get_or xs i d)
+all_at P [] i d all lt = absurd (let bad : i < 0 = lt in omega (arith, bad))
+all_at P (x ∷ xs) zero d all lt = all.0
+all_at P (x ∷ xs) (suc i) d all lt = all_at P xs i d all.1 (omega (arith, lt))
+
+-- what is so of all operations is so of those of a phase
+pub phase_at : (P : Op → Type 0) (phases : List Phase) (i : ℕ) (d : Phase) → AllByRecursion P (all_ops (map ops_of phases)) → i < length phases
+    → AllByRecursion P (ops_of (get_or phases i d))
+phase_at P [] i d all lt = absurd (let bad : i < 0 = lt in omega (arith, bad))
+phase_at P (p ∷ phases) zero d all lt = all_front P (ops_of p) (all_ops (map ops_of phases)) all
+phase_at P (p ∷ phases) (suc i) d all lt = phase_at P phases i d (all_back P (ops_of p) (all_ops (map ops_of phases)) all) (omega (arith, lt))
+
+-- ---- books
+pub no_books : (places : ℕ → ℕ) (books : List GuardBook) → books ≡ [] → AreBooksFor 0 places books
+no_books places books none = record { many = ap (λ (bs : List GuardBook). length bs) none; empty = λ i d bad. absurd (omega (arith, bad)); places = λ i d bad. absurd (omega (arith, bad)) }
+
+-- An empty book with enough places for the next keeper makes the books one more.
+pub next_book : {many : ℕ} {places : ℕ → ℕ} {books : List GuardBook} (after : List GuardBook) (book : GuardBook) → after ≡ books ++ book ∷ []
+    → guards_in book ≡ [] → size_of_book book ≡ places (many + 1) → AreBooksFor many places books → AreBooksFor (many + 1) places after
+next_book {many} {places} {books} after book is empty size made =
+    let count = made.many in
+    let same = ap (λ (bs : List GuardBook). length bs) is in
+    record {
+      many = omega (arith, count, length-append books (book ∷ []), same);
+      empty = λ i d lt. elim (cases_lt i many) [
+        | inl below ↦ ap (λ (bs : List GuardBook). guards_in (slice_index_or bs i d)) is ∙ ap guards_in (get_or_append_left books (book ∷ []) d i (omega (arith, below, count))) ∙ made.empty i d below
+        | inr ge ↦ ap (λ (bs : List GuardBook). guards_in (slice_index_or bs i d)) is ∙ ap guards_in (at_end books book d i (omega (arith, lt, ge, count))) ∙ empty
+      ];
+      places = λ i d lt. elim (cases_lt i many) [
+        | inl below ↦ ap (λ (bs : List GuardBook). size_of_book (slice_index_or bs i d)) is ∙ ap size_of_book (get_or_append_left books (book ∷ []) d i (omega (arith, below, count))) ∙ made.places i d below
+        | inr ge ↦
+            let last : many ≡ i = omega (arith, lt, ge) in
+            ap (λ (bs : List GuardBook). size_of_book (slice_index_or bs i d)) is ∙ ap size_of_book (at_end books book d i (omega (arith, lt, ge, count))) ∙ size ∙ ap (λ (n : ℕ). places (n + 1)) last
+      ];
+    }
+
+-- with other numbers that are the same
+pub same_books : {many many' : ℕ} {places places' : ℕ → ℕ} {books : List GuardBook} → many ≡ many' → ((k : ℕ) → places k ≡ places' k)
+    → AreBooksFor many places books → AreBooksFor many' places' books
+same_books {many} {many'} {places} {places'} {books} same alike made = search (arith, made.many, made.empty, made.places)
+
+-- Books that were made for keepers are for as many keepers with the same places, otherwise counted.
+pub books_in : {many many' : ℕ} {places places' : ℕ → ℕ} {E : Type 0} (made : Result (Vec GuardBook) E) → many ≡ many' → ((k : ℕ) → places k ≡ places' k)
+    → IfOk made (λ books. AreBooksFor many places books.items) → IfOk made (λ books. AreBooksFor many' places' books.items)
+books_in made same alike is = search (arith, same_books)

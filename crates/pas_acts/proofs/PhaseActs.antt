@@ -1,0 +1,212 @@
+-- The acts of a phase are shared among its workers.
+use Rattle.std.proofs.Common.{◌≡◌, ℕ, zero, suc, ◌+◌, ◌-◌, ◌≤◌, ◌==◌, ◌||◌, not, Option, Bool, true, false, if◌then◌else◌, inl, inr, List, [], ◌∷◌, ◌++◌, map}
+use Rattle.std.proofs.Common.{refl, ap, sym, subst, ◌∙◌, arith, MatchOption, eq-eqb, ne_eqb, le-leb}
+use Rattle.std.specs.List.{AllByRecursion, filter}
+use Rattle.std.proofs.lemmas.Bool.{lt-leb, false≢true, cases_eq, or_left, or_right, or_parts}
+use Rattle.pas_profile.specs.declared.profile.Profile.{Profile}
+use Rattle.pas_profile.proofs.Lists.{all_both}
+use Rattle.pas_trace.specs.Asked.{work_of, of_task, keeper_of, keeper_in}
+use Rattle.pas_trace.specs.EveryPlan.{AreSound, IsActorBy, asked_after}
+use Rattle.pas_trace.specs.declared.plan.{Chore.Chore, Work.Work, Op.Op}
+use Rattle.pas_trace.specs.Acts.{Act, Settles, Ticks, MakesPass, ReadsEpoch, StopsIdle, is_active, numbers_from, idle_threads, acts_of_chore, acts_of_work}
+use Rattle.pas_trace.specs.Acts.{acts_of_op, acts_of_ops, own_acts, scavenger_acts, act_kept}
+use Rattle.pas_acts.specs.Shares.{Owners, actor_of_act, IsInHand, AreInHand, acts_by, thread_in, owner_in, AreKeptBehind, ActsAreShared}
+
+-- ---- who owns whom
+-- each operation's actor is its own worker
+abbrev OwnThemselves : Owners → List Op → Type 0
+OwnThemselves owner ops = AllByRecursion (λ op. owner op.actor ≡ op.actor) ops
+
+-- a thread stands for itself, and a keeper for the thread behind which it stands
+pub own_thread : (threads k : ℕ) → k ≤ threads → thread_in threads k ≡ k
+own_thread threads k most = ap (λ (t : Bool). if t then k else k - threads) (le-leb k threads most)
+
+-- The thread of a keeper is the one whose guards it keeps.
+pub kept_thread : (threads k : ℕ) → 1 ≤ k → thread_in threads (threads + k) ≡ k
+kept_thread threads k some = search (arith, lt-leb)
+
+-- a thread is owned by itself where it is active, and by the scavenger elsewhere, and so is its keeper
+pub owner_of : (threads : ℕ) (ops : List Op) (j k : ℕ) → thread_in threads j ≡ k → owner_in threads ops j ≡ (if is_active ops k then k else 0)
+owner_of threads ops j k is = ap (λ (i : ℕ). if is_active ops i then i else 0) is
+
+-- those that are active among some are so among all
+all_own : (threads : ℕ) (all ops : List Op) → ((k : ℕ) → is_active ops k ≡ true → is_active all k ≡ true) → ((k : ℕ) → is_active ops k ≡ true → k ≤ threads)
+    → OwnThemselves (owner_in threads all) ops
+all_own threads all [] within most = tt
+all_own threads all (op ∷ ops) within most =
+    let here = or_left (op.actor == op.actor) (is_active ops op.actor) (eq-eqb op.actor op.actor refl) in (
+      owner_of threads all op.actor op.actor (own_thread threads op.actor (most op.actor here)) ∙ ap (λ (t : Bool). if t then op.actor else 0) (within op.actor here),
+      all_own threads all ops (λ k is. within k (or_right (op.actor == k) (is_active ops k) is)) (λ k is. most k (or_right (op.actor == k) (is_active ops k) is)),
+    )
+
+-- A choice between 0 and 0 is 0, whatever the test.
+pub zero_own : (t : Bool) → ◌≡◌ {A = ℕ} (if t then 0 else 0) 0
+zero_own true = refl
+zero_own false = refl
+
+-- who is active is a thread of the region, or the scavenger
+work_within : (f : Profile) (work : Work) (k : ℕ) → IsActorBy f work k → k ≤ f.threads
+work_within f work k h = grind arith
+
+-- An actor with an operation in a sound phase is one of the threads.
+pub active_within : (f : Profile) (asked : List ℕ) (ops : List Op) (k : ℕ) → AreSound f asked ops → is_active ops k ≡ true → k ≤ f.threads
+active_within f asked [] k sound on = absurd (false≢true on)
+active_within f asked (op ∷ ops) k sound on = elim (cases_eq op.actor k) [
+  | inl is ↦ let within = work_within f (work_of op.what) op.actor sound.0 in omega (arith, within, is)
+  | inr other ↦ active_within f (asked_after op.what asked) ops k sound.2 (sym (ap (λ (t : Bool). t || is_active ops k) (ne_eqb op.actor k other)) ∙ on)
+]
+
+-- ---- the acts of one worker
+if_both : (t : Bool) (act : Act) (xs ys zs : List Act) → zs ≡ xs ++ ys → (if t then act ∷ zs else zs) ≡ (if t then act ∷ xs else xs) ++ ys
+if_both t act xs ys zs h = grind arith
+
+by_both : (owner : Owners) (w : ℕ) (xs ys : List Act) → acts_by owner w (xs ++ ys) ≡ acts_by owner w xs ++ acts_by owner w ys
+by_both owner w [] ys = refl
+by_both owner w (x ∷ xs) ys = if_both (owner (actor_of_act x) == w) x (acts_by owner w xs) (acts_by owner w ys) (acts_by owner w (xs ++ ys)) (by_both owner w xs ys)
+
+-- ---- each act of an operation
+-- the acts of these are so, where those are
+all_of : {A B : Type 0} (P : B → Type 0) (Q : A → Type 0) (to : A → B) (xs : List A) → ((x : A) → Q x → P (to x)) → AllByRecursion Q xs
+    → AllByRecursion P (map to xs)
+all_of P Q to [] one all = tt
+all_of P Q to (x ∷ xs) one all = (one x all.0, all_of P Q to xs one all.1)
+
+all_any : {A : Type 0} (xs : List A) → AllByRecursion (λ x. Unit {0}) xs
+all_any [] = tt
+all_any (x ∷ xs) = (tt, all_any xs)
+
+-- so are those of a chore, where those of the scavenger are, and the stops of the idle threads
+all_of_chore : (P : Act → Type 0) (Q : ℕ → Type 0) (idle : List ℕ) (chore : Chore) → ((epoch : ℕ) → P (Ticks epoch)) → P MakesPass → P ReadsEpoch
+    → ((k n : ℕ) → Q k → P (StopsIdle k n)) → AllByRecursion Q idle → AllByRecursion P (acts_of_chore idle chore)
+all_of_chore P Q idle (Chore.Tick epoch) ticks pass reads stops all = (ticks epoch, tt)
+all_of_chore P Q idle Chore.Pass ticks pass reads stops all = (pass, tt)
+all_of_chore P Q idle (Chore.Idle n) ticks pass reads stops all = (reads, all_of P Q (λ k. StopsIdle k n) idle (λ k is. stops k n is) all)
+
+-- .. by what is so of each operation besides
+module _ (f : Profile) (P : Act → Type 0) (Q : Op → Type 0) (idle : List ℕ)
+    (each : (op : Op) → IsActorBy f (work_of op.what) op.actor → Q op → AllByRecursion P (acts_of_op idle op)) where
+  all_of_kept : (asked : List ℕ) (ops : List Op) → AreSound f asked ops → AllByRecursion Q ops → AllByRecursion P (acts_of_ops idle ops)
+  all_of_kept asked [] sound kept = tt
+  all_of_kept asked (op ∷ ops) sound kept = all_both P (acts_of_op idle op) (acts_of_ops idle ops) (each op sound.0 kept.0) (all_of_kept (asked_after op.what asked) ops sound.2 kept.1)
+
+-- the maker of each of these acts is actor j
+abbrev pub AreOf : ℕ → List Act → Type 0
+AreOf j acts = AllByRecursion (λ act. actor_of_act act ≡ j) acts
+
+kept_is_of : (keeper : Option ℕ) (op : Op) → AreOf op.actor (act_kept keeper op ∷ (Settles op.actor ∷ []))
+kept_is_of keeper op = grind arith
+
+work_is_of : (f : Profile) (idle : List ℕ) (op : Op) (work : Work) → IsActorBy f work op.actor → AreOf op.actor (acts_of_work idle op work)
+work_is_of f idle op (Work.Own task) of = kept_is_of (keeper_of task) op
+work_is_of f idle op (Work.Chore chore) of =
+    all_of_chore (λ act. actor_of_act act ≡ op.actor) (λ k. Unit {0}) idle chore (λ epoch. sym of) (sym of) (sym of) (λ k n is. sym of) (all_any idle)
+
+-- The acts of operations of one actor are of that actor.
+pub are_of : (f : Profile) (j : ℕ) (idle : List ℕ) (asked : List ℕ) (ops : List Op) → AreSound f asked ops → AllByRecursion (λ (op : Op). op.actor ≡ j) ops
+    → AreOf j (acts_of_ops idle ops)
+are_of f j idle asked ops sound own =
+    all_of_kept f (λ act. actor_of_act act ≡ j) (λ op. op.actor ≡ j) idle (λ op of is. subst (λ (i : ℕ). AreOf i (acts_of_op idle op)) is (work_is_of f idle op (work_of op.what) of)) asked ops sound own
+
+none_if : (t : Bool) → ◌≡◌ {A = List Act} [] (if t then [] else [])
+none_if true = refl
+none_if false = refl
+
+one_if : (t : Bool) (act : Act) (acts : List Act) → (if t then act ∷ (if t then acts else []) else (if t then acts else [])) ≡ (if t then act ∷ acts else [])
+one_if true act acts = refl
+one_if false act acts = refl
+
+-- acts of an actor that is its own worker are that worker's, and nobody else's
+all_or_none : (owner : Owners) (j k : ℕ) (acts : List Act) → owner j ≡ j → AreOf j acts → acts_by owner k acts ≡ (if j == k then acts else [])
+all_or_none owner j k [] own of = none_if (j == k)
+all_or_none owner j k (act ∷ acts) own of =
+    ap (λ (i : ℕ). if i == k then act ∷ acts_by owner k acts else acts_by owner k acts) (ap owner of.0 ∙ own)
+    ∙ ap (λ (more : List Act). if j == k then act ∷ more else more) (all_or_none owner j k acts own of.1) ∙ one_if (j == k) act acts
+
+then_others : (t : Bool) (acts rest : List Act) → (if t then acts else []) ++ rest ≡ (if t then acts ++ rest else rest)
+then_others true acts rest = refl
+then_others false acts rest = refl
+
+-- The acts of worker k are `whole` of the operations, where that has the acts of each operation of actor k.
+module _ (f : Profile) (owner : Owners) (k : ℕ) (idle : List ℕ) (whole : List Op → List Act) (none : whole [] ≡ [])
+    (next : (op : Op) (ops : List Op) → IsActorBy f (work_of op.what) op.actor → whole (op ∷ ops) ≡ (if op.actor == k then acts_of_op idle op ++ whole ops else whole ops)) where
+  of_ops : (asked : List ℕ) (ops : List Op) → OwnThemselves owner ops → AreSound f asked ops → acts_by owner k (acts_of_ops idle ops) ≡ whole ops
+  of_ops asked [] own sound = sym none
+  of_ops asked (op ∷ ops) own sound =
+      by_both owner k (acts_of_op idle op) (acts_of_ops idle ops)
+      ∙ ap (λ (acts : List Act). acts ++ acts_by owner k (acts_of_ops idle ops)) (all_or_none owner op.actor k (acts_of_op idle op) own.0 (work_is_of f idle op (work_of op.what) sound.0))
+      ∙ ap (λ (acts : List Act). (if op.actor == k then acts_of_op idle op else []) ++ acts) (of_ops (asked_after op.what asked) ops own.1 sound.2)
+      ∙ then_others (op.actor == k) (acts_of_op idle op) (whole ops) ∙ sym (next op ops sound.0)
+
+-- no operation of a thread is a chore
+own_next : (f : Profile) (k : ℕ) (idle : List ℕ) (op : Op) (work : Work) (rest : List Act) → 1 ≤ k → IsActorBy f work op.actor
+    → (if op.actor == k then act_kept (of_task keeper_of work) op ∷ (Settles op.actor ∷ rest) else rest)
+    ≡ (if op.actor == k then acts_of_work idle op work ++ rest else rest)
+own_next f k idle op work rest h i = grind (arith, ne_eqb)
+
+-- An actor without an operation has no act of its own.
+pub none_own : (k : ℕ) (ops : List Op) → is_active ops k ≡ false → own_acts k ops ≡ []
+none_own k [] is = refl
+none_own k (op ∷ ops) is =
+    let both = or_parts (op.actor == k) (is_active ops k) is in
+    ap (λ (t : Bool). if t then act_kept (keeper_in op.what) op ∷ (Settles op.actor ∷ own_acts k ops) else own_acts k ops) both.0 ∙ none_own k ops both.1
+
+-- ---- all is in hand
+-- each of these is in the scavenger's hands
+abbrev AreIdle : Owners → List ℕ → Type 0
+AreIdle owner ks = AllByRecursion (λ k. owner k ≡ owner 0) ks
+
+kept_in_hand : (owner : Owners) (keeper : Option ℕ) (op : Op) → MatchOption keeper (Unit {0}) (λ k. owner k ≡ owner op.actor)
+    → AreInHand owner (act_kept keeper op ∷ (Settles op.actor ∷ []))
+kept_in_hand owner keeper op h = grind arith
+
+hands_one : (owner : Owners) (idle : List ℕ) (op : Op) (work : Work) → MatchOption (of_task keeper_of work) (Unit {0}) (λ k. owner k ≡ owner op.actor)
+    → AreIdle owner idle → AreInHand owner (acts_of_work idle op work)
+hands_one owner idle op (Work.Own task) own all = kept_in_hand owner (keeper_of task) op own
+hands_one owner idle op (Work.Chore chore) own all = all_of_chore (IsInHand owner) (λ k. owner k ≡ owner 0) idle chore (λ epoch. tt) tt tt (λ k n is. is) all
+
+-- a keeper is in the hands of its thread's worker
+kept_owned : (f : Profile) (threads : ℕ) (ops : List Op) (op : Op) (work : Work) (o : Option ℕ) → of_task keeper_of work ≡ o → IsActorBy f work op.actor
+    → op.actor ≤ threads → MatchOption o (Unit {0}) (λ keeper. keeper ≡ threads + op.actor)
+    → MatchOption o (Unit {0}) (λ k. owner_in threads ops k ≡ owner_in threads ops op.actor)
+kept_owned f threads ops op work o h i j m = grind (arith, owner_of, kept_thread, own_thread)
+
+idle_one : (threads : ℕ) (ops : List Op) (k : ℕ) (t : Bool) (rest : List ℕ) → k ≤ threads → is_active ops k ≡ t → AreIdle (owner_in threads ops) rest
+    → AreIdle (owner_in threads ops) (if not t then k ∷ rest else rest)
+idle_one threads ops k t rest h i j = grind (arith, owner_of, own_thread, zero_own)
+
+-- so many numbers from k on are below the next one
+are_idle : (threads : ℕ) (ops : List Op) (k n : ℕ) → k + n ≤ threads + 1
+    → AreIdle (owner_in threads ops) (filter (λ k. not (is_active ops k)) (numbers_from k n))
+are_idle threads ops k zero within = tt
+are_idle threads ops k (suc n) within =
+    idle_one threads ops k (is_active ops k) (filter (λ k. not (is_active ops k)) (numbers_from (k + 1) n)) (omega (arith, within)) refl (are_idle threads ops (k + 1) n (omega (arith, within)))
+
+-- each operation is active among all
+actors_within : (threads : ℕ) (all ops : List Op) → ((k : ℕ) → is_active ops k ≡ true → is_active all k ≡ true)
+    → ((k : ℕ) → is_active all k ≡ true → k ≤ threads) → AllByRecursion (λ (op : Op). op.actor ≤ threads) ops
+actors_within threads all [] within most = tt
+actors_within threads all (op ∷ ops) within most = (
+  most op.actor (within op.actor (or_left (op.actor == op.actor) (is_active ops op.actor) (eq-eqb op.actor op.actor refl))),
+  actors_within threads all ops (λ k is. within k (or_right (op.actor == k) (is_active ops k) is)) most,
+)
+
+both_kept : (threads : ℕ) (ops : List Op) → AreKeptBehind threads ops → AllByRecursion (λ (op : Op). op.actor ≤ threads) ops
+    → AllByRecursion (λ (op : Op). (op.actor ≤ threads) × MatchOption (keeper_in op.what) (Unit {0}) (λ keeper. keeper ≡ threads + op.actor)) ops
+both_kept threads [] kept most = tt
+both_kept threads (op ∷ ops) kept most = ((most.0, kept.0), both_kept threads ops kept.1 most.1)
+
+-- The acts of a phase are shared among its workers: each act is in one's hands.
+pub acts_are_shared : ActsAreShared
+acts_are_shared f threads asked ops sound kept most =
+    let idle = idle_threads threads ops in
+    let owner = owner_in threads ops in
+    let own = all_own threads ops ops (λ k is. is) most in
+    let of_thread : (k : ℕ) → 1 ≤ k → acts_by owner k (acts_of_ops idle ops) ≡ own_acts k ops = λ k some.
+    of_ops f owner k idle (own_acts k) refl (λ op rest of. own_next f k idle op (work_of op.what) (own_acts k rest) some of) asked ops own sound in (
+      all_of_kept f (IsInHand owner) (λ (op : Op). (op.actor ≤ threads) × MatchOption (keeper_in op.what) (Unit {0}) (λ keeper. keeper ≡ threads + op.actor)) idle
+          (λ op of here. hands_one owner idle op (work_of op.what) (kept_owned f threads ops op (work_of op.what) (keeper_in op.what) refl of here.0 here.1) (are_idle threads ops 1 threads (omega arith)))
+          asked ops sound (both_kept threads ops kept (actors_within threads ops ops (λ k is. is) most)),
+      λ k some within active. of_thread k some,
+      λ k some within inactive. of_thread k some ∙ none_own k ops inactive,
+      of_ops f owner 0 idle (scavenger_acts idle) refl (λ op rest of. refl) asked ops own sound,
+    )

@@ -1,0 +1,268 @@
+-- What workers did, each for itself, is put into the order of the acts.
+use Rattle.std.proofs.Common.{arith, ◌≡◌, ◌≢◌, ℕ, ◌+◌, ◌==◌, ◌≤◌, Bool, true, false, Option, None, Some, if◌then◌else◌, inl, inr, List, [], ◌∷◌, ◌++◌}
+use Rattle.std.proofs.Common.{append_assoc, max, refl, ap, sym, ◌∙◌, subst, IsSomeAnd, append-nil, eq-eqb, ne_eqb}
+use Rattle.std.proofs.lemmas.Bool.{cases_eq}
+use Rattle.pas_profile.specs.declared.{profile.Profile.Profile, name.Block.Block}
+use Rattle.pas_steps.specs.{Events.events_by, Views.View, Lists.part, Desks.made}
+use Rattle.pas_steps.specs.declared.step.{Made.Made, Step.Step}
+use Rattle.pas_trace.specs.declared.{plan.Op.Op, item.Request.Request, plan.What.What}
+use Rattle.pas_report.specs.declared.record.{Record.Record, Said.Said}
+use Rattle.pas_cache.specs.Caches.{Cached}
+use Rattle.pas_answers.specs.{PassRecords.records_of_pass, Fit.AreFit, Fit.IsFitWhat, Ways.EachOf, Ways.AreSpoken, Calls.OnlyAsked}
+use Rattle.pas_trace.specs.Acts.{Act, Operates, Guards, Settles, Ticks, MakesPass, ReadsEpoch, StopsIdle, Wakes, Ends, Lowers}
+use Rattle.pas_answers.specs.Answers.{Named, named, having, answer_of, standing_for, IsAnswered, IsStopped, Progress, with_records, with_steps, after_answer}
+use Rattle.pas_answers.specs.Answers.{after_settling, after_wake, after_reading, after_tick, after_pass, after_stop, stopped, epoch_look, begun, settled}
+use Rattle.pas_answers.specs.Answers.{IsIdleFor, records_of, said_by}
+use Rattle.pas_answers.proofs.OwnRecords.{events_of_piece, pass_of, piece_of, spoken_piece, spoken_both, swept_each, try_each}
+use Rattle.pas_trace.specs.{Asked.request_in, EveryPlan.asked_with, EveryPlan.is_asked}
+use Rattle.pas_guard.specs.declared.book.Guard.{Guard}
+use Rattle.pas_answers.specs.Guarding.{Tried, IsTried, after_trying, after_giving, IsLowered, after_lowering}
+use Rattle.pas_answers.specs.Reaching.{AnswersTried, AnswersGuarded, Advances, Reaches}
+use Rattle.pas_acts.specs.Shares.{Owners, actor_of_act, IsInHand, AreInHand, acts_by, Asks, IsRequestOf, asked_after_act, IsShareOf, IsWoven}
+use Rattle.pas_acts.proofs.Naming.{retold, names_new}
+use Rattle.pas_acts.proofs.Sharing.{by_names, by_epochs, share_list, share_cache, share_book, share_records, beside_list, beside_cache, beside_book}
+use Rattle.pas_acts.proofs.Sharing.{beside_records, elsewhere, elsewhere_both}
+
+-- ---- one act
+-- An act that was answered from a share on is answered from all on. Its worker has its share of what came of it, and each other worker the one that it had.
+pub record IsWovenOne (f : Profile) (owner : Owners) (act : Act) (asked : List ℕ) (p own : Progress) : Type 0 where
+  pub next : Progress
+  pub advances : Advances f act p next
+  pub share : IsShareOf owner (owner (actor_of_act act)) own next
+  pub beside : (x : ℕ) (other : Progress) → owner (actor_of_act act) ≢ x → IsShareOf owner x other p → IsShareOf owner x other next
+  pub said : List Record
+  pub records_are : next.records ≡ p.records ++ said
+  pub spoken : AreSpoken said
+  pub only_asked : OnlyAsked (asked_after_act act asked) next.names
+  pub same_names : (n : ℕ) → (Asks n act → ⊥) → standing_for next.names n ≡ standing_for p.names n
+
+operates_one : (f : Profile) (owner : Owners) (limit : ℕ) (asked : List ℕ) (op : Op) (p before after : Progress) → IsFitWhat f limit asked op.what
+    → OnlyAsked asked p.names
+    → IsShareOf owner (owner op.actor) before p → Advances f (Operates op) before after → IsWovenOne f owner (Operates op) asked p after
+operates_one f owner limit asked op p before after fit only share did =
+    let k = op.actor in
+    let a = did.0 in
+    let v = share.parts k refl in
+    let c = share.caches k refl in
+    let here : IsAnswered f k op.what (having before.names (part k p.list) (p.caches k)) a = subst (λ (d : Cached). IsAnswered f k op.what (having before.names (part k p.list) d) a) c (subst (λ (u : View). IsAnswered f k op.what (having before.names u (before.caches k)) a) v did.1) in
+    let again = retold f limit k op.what asked before.names p.names (part k p.list) (p.caches k) a share.names only fit here in
+    let b = answer_of a.steps a.said a.found again.after a.cache in
+    let piece = records_of (events_by k (part k p.list) a.steps) ++ said_by k a.said in
+    let each = piece_of k (part k p.list) a.steps a.said in
+    let same : after ≡ with_records (record (with_steps before k a.steps a.cache) { names = a.names }) piece = did.2 ∙ ap (λ (u : View). with_records (record (with_steps before k a.steps a.cache) { names = a.names }) (records_of (events_by k u a.steps) ++ said_by k a.said)) v in
+    record {
+      next = after_answer p k b;
+      advances = (b, again.answered, refl);
+      share = subst (λ (q : Progress). IsShareOf owner (owner k) q (after_answer p k b)) (sym same) (share_records piece (by_names (share_cache k a.cache a.cache refl (share_list k a.steps share)) a.names again.after again.own));
+      beside = λ x o other theirs. beside_records piece (elsewhere owner x k piece each other) (by_names (beside_cache k a.cache other (beside_list k a.steps other theirs)) o.names again.after (again.others o.names theirs.names));
+      said = piece;
+      records_are = refl;
+      spoken = spoken_piece k piece each;
+      only_asked = again.only_asked;
+      same_names = again.same_names;
+    }
+
+-- An act that changes no name: its worker comes to `mine` by it, all come to `next`, and `said` is added to the records.
+woven_by : {f : Profile} {owner : Owners} {asked : List ℕ} {act : Act} {p after mine : Progress} (next : Progress) (said : List Record)
+    → OnlyAsked (asked_after_act act asked) next.names → next.names ≡ p.names → next.records ≡ p.records ++ said → AreSpoken said → after ≡ mine
+    → IsShareOf owner (owner (actor_of_act act)) mine next
+    → ((x : ℕ) (other : Progress) → owner (actor_of_act act) ≢ x → IsShareOf owner x other p → IsShareOf owner x other next) → Advances f act p next
+    → IsWovenOne f owner act asked p after
+woven_by {f} {owner} {asked} {act} {p} {after} {mine} next said only names records spoken is share beside advances = record {
+  next = next;
+  advances = advances;
+  share = subst (λ (q : Progress). IsShareOf owner (owner (actor_of_act act)) q next) (sym is) share;
+  beside = beside;
+  said = said;
+  records_are = records;
+  spoken = spoken;
+  only_asked = only;
+  same_names = λ n none. ap (λ (ns : List Named). standing_for ns n) names;
+}
+
+-- ---- a stop, which says so much besides
+stops_one : (f : Profile) (owner : Owners) (asked : List ℕ) (act : Act) (k j : ℕ) (p before after : Progress) (steps : List Made) (c : Cached)
+    (more : List Record)
+    → owner k ≡ owner (actor_of_act act) → owner j ≡ owner (actor_of_act act)
+    → EachOf j more → OnlyAsked (asked_after_act act asked) p.names → IsShareOf owner (owner (actor_of_act act)) before p
+    → IsStopped k (before.caches k) c steps → after ≡ after_stop before k steps c more
+    → (IsStopped k (p.caches k) c steps → Advances f act p (after_stop p k steps c more)) → IsWovenOne f owner act asked p after
+stops_one f owner asked act k j p before after steps c more mine said_mine each only share did is advances =
+    let v = share.parts k mine in
+    let events = records_of (events_by k (part k p.list) steps) in
+    let own = events_of_piece k (part k p.list) steps in
+    let same : after ≡ with_records (with_steps before k steps c) (events ++ more) = is ∙ ap (λ (u : View). with_records (with_steps before k steps c) (records_of (events_by k u steps) ++ more)) v in
+    woven_by (after_stop p k steps c more) (events ++ more) only refl refl (spoken_both events more (spoken_piece k events own) (spoken_piece j more each)) same (share_records (events ++ more) (share_cache k c c refl (share_list k steps share)))
+    (λ x o other theirs.
+    let ne : owner k ≢ x = λ is. other (sym mine ∙ is) in
+    let away = elsewhere_both owner x events more (elsewhere owner x k events own ne) (elsewhere owner x j more each (λ is. other (sym said_mine ∙ is))) in
+    beside_records (events ++ more) away (beside_cache k c ne (beside_list k steps ne theirs)))
+    (advances (subst (λ (d : Cached). IsStopped k d c steps) (share.caches k mine) did))
+
+idle_same : (owner : Owners) (w k n : ℕ) (own p : Progress) → owner k ≡ w → owner 0 ≡ w → IsShareOf owner w own p → IsIdleFor own k n ≡ IsIdleFor p k n
+idle_same owner w k n own p mine scavenger share = ap (λ (c : Cached). c.idle_since + n ≤ own.epoch) (share.caches k mine) ∙ ap (λ (e : ℕ). (p.caches k).idle_since + n ≤ e) (share.epoch scavenger)
+
+idle_one : (f : Profile) (owner : Owners) (asked : List ℕ) (k n : ℕ) (p before after : Progress) → owner k ≡ owner 0 → OnlyAsked asked p.names
+    → IsShareOf owner (owner 0) before p → Advances f (StopsIdle k n) before after → IsWovenOne f owner (StopsIdle k n) asked p after
+idle_one f owner asked k n p before after mine only share did =
+    let same = idle_same owner (owner 0) k n before p mine refl share in
+    elim did [
+      | inl so ↦ stops_one f owner asked (StopsIdle k n) k 0 p before after so.1 so.2 (stopped k) mine refl (λ j. refl, tt) only share so.3 so.4 (λ is. inl (subst (λ (A : Type 0). A) same so.0, so.1, so.2, is, refl))
+      | inr not_so ↦ woven_by p [] only refl (sym (append-nil p.records)) tt not_so.1 share (λ x o other theirs. theirs) (inr (λ idle. not_so.0 (subst (λ (A : Type 0). A) (sym same) idle), refl))
+    ]
+
+-- ---- a guarded request: its keeper's piece, and what follows it
+-- an operation that makes a request asks for a new name, and for no other
+new_request : (f : Profile) (limit : ℕ) (asked : List ℕ) (what : What) (r : Request) → request_in what ≡ Some r → IsFitWhat f limit asked what
+    → is_asked asked r.name ≡ false
+new_request f limit asked what r h i = grind arith
+
+asks_this : (what : What) (r : Request) (n : ℕ) → request_in what ≡ Some r → r.name ≡ n → IsRequestOf n what
+asks_this what r n asks same = subst (λ (o : Option Request). IsSomeAnd o (λ q. q.name ≡ n)) (sym asks) same
+
+-- The worker's own progress after the try is its share of that of all; each other worker has its share as before.
+record TriedOne (owner : Owners) (w : ℕ) (p own : Progress) (keeper : ℕ) (t : Tried) : Type 0 where
+  share : IsShareOf owner w (after_trying own keeper t) (after_trying p keeper t)
+  beside : (x : ℕ) (other : Progress) → w ≢ x → IsShareOf owner x other p → IsShareOf owner x other (after_trying p keeper t)
+
+tried_one : (owner : Owners) (w : ℕ) (p own : Progress) (keeper : ℕ) (t : Tried) → owner keeper ≡ w → EachOf keeper t.records → IsShareOf owner w own p
+    → TriedOne owner w p own keeper t
+tried_one owner w p own keeper t mine each share = record {
+  share = share_records t.records (share_book keeper t.guards (share_list keeper t.steps share));
+  beside = λ x other ne theirs.
+      let away : owner keeper ≢ x = λ is. ne (sym mine ∙ is) in
+      beside_records t.records (elsewhere owner x keeper t.records each away) (beside_book keeper t.guards away (beside_list keeper t.steps away theirs));
+}
+
+module _ (f : Profile) (owner : Owners) (limit : ℕ) (asked : List ℕ) (keeper : ℕ) (op : Op) (p before after : Progress) (fit : IsFitWhat f limit asked op.what)
+    (mine : owner keeper ≡ owner op.actor) (only : OnlyAsked asked p.names)
+    (share : IsShareOf owner (owner op.actor) before p) where
+  -- what comes after it, where the keeper gave a block, and where it gave none
+  followed : (r : Request) (t : Tried) (block : Option Block) → request_in op.what ≡ Some r → t.block ≡ block
+      → IsTried f keeper r (part keeper p.list) (p.books keeper) t → EachOf keeper t.records
+      → AnswersTried f op r block (after_trying before keeper t) after → IsWovenOne f owner (Guards keeper op) asked p after
+  followed r t (Some block) asks given is each did =
+      let one = tried_one owner (owner op.actor) p before keeper t mine each share in
+      let next = after_giving (after_trying p keeper t) r.name block in
+      let new = names_new asked before.names p.names r.name (Some block) (new_request f limit asked op.what r asks fit) share.names only in
+      record {
+        next = next;
+        advances = subst (λ (o : Option Request). AnswersGuarded f keeper op o p next) (sym asks) (t, is, subst (λ (b : Option Block). AnswersTried f op r b (after_trying p keeper t) next) (sym given) refl);
+        share = subst (λ (q : Progress). IsShareOf owner (owner op.actor) q next) (sym did) (by_names one.share (named r.name (Some block) ∷ before.names) (named r.name (Some block) ∷ p.names) new.own);
+        beside = λ x o other theirs. by_names (one.beside x o other theirs) o.names (named r.name (Some block) ∷ p.names) (new.others o.names theirs.names);
+        said = t.records;
+        records_are = refl;
+        spoken = spoken_piece keeper t.records each;
+        only_asked = subst (λ (ns : List ℕ). OnlyAsked ns (named r.name (Some block) ∷ p.names)) (sym (ap (λ (o : Option Request). asked_with o asked) asks)) new.only_asked;
+        same_names = λ n none. new.same_names n (λ same. none (asks_this op.what r n asks same));
+      }
+  followed r t None asks given is each did =
+      let one = tried_one owner (owner op.actor) p before keeper t mine each share in
+      let late = operates_one f owner limit asked op (after_trying p keeper t) (after_trying before keeper t) after fit only one.share did in
+      record {
+        next = late.next;
+        advances = subst (λ (o : Option Request). AnswersGuarded f keeper op o p late.next) (sym asks) (t, is, subst (λ (b : Option Block). AnswersTried f op r b (after_trying p keeper t) late.next) (sym given) late.advances);
+        share = late.share;
+        beside = λ x o other theirs. late.beside x o other (one.beside x o other theirs);
+        said = t.records ++ late.said;
+        records_are = late.records_are ∙ append_assoc p.records t.records late.said;
+        spoken = spoken_both t.records late.said (spoken_piece keeper t.records each) late.spoken;
+        only_asked = late.only_asked;
+        same_names = λ n none. late.same_names n none;
+      }
+
+  guarded : (o : Option Request) → request_in op.what ≡ o → AnswersGuarded f keeper op o before after → IsWovenOne f owner (Guards keeper op) asked p after
+  guarded o h i = grind (arith, followed, try_each)
+
+guards_one : (f : Profile) (owner : Owners) (limit : ℕ) (asked : List ℕ) (keeper : ℕ) (op : Op) (p before after : Progress) → IsFitWhat f limit asked op.what
+    → owner keeper ≡ owner op.actor → OnlyAsked asked p.names
+    → IsShareOf owner (owner op.actor) before p → Advances f (Guards keeper op) before after → IsWovenOne f owner (Guards keeper op) asked p after
+guards_one f owner limit asked keeper op p before after fit mine only share did = guarded f owner limit asked keeper op p before after fit mine only share (request_in op.what) refl did
+
+-- ---- any act
+-- what of the fitness of all acts is that of the others after the first
+rest_fit : (f : Profile) (limit : ℕ) (asked : List ℕ) (act : Act) (acts : List Act) → AreFit f limit asked (act ∷ acts)
+    → AreFit f limit (asked_after_act act asked) acts
+rest_fit f limit asked act acts h = grind arith
+
+woven_one : (f : Profile) (owner : Owners) (limit : ℕ) (asked : List ℕ) (act : Act) (acts : List Act) (p before after : Progress)
+    → AreFit f limit asked (act ∷ acts) → IsInHand owner act → OnlyAsked asked p.names
+    → IsShareOf owner (owner (actor_of_act act)) before p → Advances f act before after → IsWovenOne f owner act asked p after
+woven_one f owner limit asked (Operates op) acts p before after fit hand only share did = operates_one f owner limit asked op p before after fit.1 only share did
+woven_one f owner limit asked (Guards keeper op) acts p before after fit hand only share did = guards_one f owner limit asked keeper op p before after fit.3 hand only share did
+woven_one f owner limit asked (Settles k) acts p before after fit hand only share did =
+    let same = ap settled (share.caches k refl) in
+    woven_by (after_settling p k) [] only refl (sym (append-nil p.records)) tt did (share_cache k (settled (before.caches k)) (settled (p.caches k)) same share) (λ x o other theirs. beside_cache k (settled (p.caches k)) other theirs) refl
+woven_one f owner limit asked (Ticks asked_for) acts p before after fit hand only share did =
+    let e = did.0 in
+    let steps : List Made = made (Step.Tick asked_for) e ∷ [] in
+    let rs : List Record = Record.Said 0 (Said.Tick (max e asked_for)) ∷ [] in
+    let each : EachOf 0 rs = (λ k. refl, tt) in
+    woven_by (after_tick p asked_for e) rs only refl refl (spoken_piece 0 rs each) did.1 (share_records rs (share_list 0 steps share)) (λ x o other theirs. beside_records rs (elsewhere owner x 0 rs each other) (beside_list 0 steps other theirs)) (e, refl)
+woven_one f owner limit asked MakesPass acts p before after fit hand only share did =
+    let steps = did.2 in
+    let rs = records_of_pass 0 did.0 did.1 in
+    let each = pass_of 0 did.0 did.1 in
+    woven_by (after_pass p did.0 did.1 steps) rs only refl refl (spoken_piece 0 rs each) did.4 (share_records rs (share_list 0 steps share)) (λ x o other theirs. beside_records rs (elsewhere owner x 0 rs each other) (beside_list 0 steps other theirs)) (did.0, did.1, steps, did.3, refl)
+woven_one f owner limit asked ReadsEpoch acts p before after fit hand only share did =
+    let e = did.0 in
+    let look = epoch_look e in
+    woven_by (after_reading p e) [] only refl (sym (append-nil p.records)) tt did.1 (by_epochs (share_list 0 look share) e e (λ is. refl)) (λ x o other theirs. by_epochs (beside_list 0 look other theirs) o.epoch e (λ is. absurd (other is))) (e, refl)
+woven_one f owner limit asked (StopsIdle k n) acts p before after fit hand only share did = idle_one f owner asked k n p before after hand only share did
+woven_one f owner limit asked (Wakes k) acts p before after fit hand only share did =
+    let e = did.0 in
+    let c = begun (p.caches k) e in
+    let same = ap (λ (d : Cached). begun d e) (share.caches k refl) in
+    woven_by (after_wake p k e) [] only refl (sym (append-nil p.records)) tt did.1 (share_cache k (begun (before.caches k) e) c same (share_list k (epoch_look e) share)) (λ x o other theirs. beside_cache k c other (beside_list k (epoch_look e) other theirs)) (e, refl)
+woven_one f owner limit asked (Lowers keeper) acts p before after fit hand only share did =
+    let steps = did.0 in
+    let said = did.1 in
+    let here : IsLowered f keeper (part keeper p.list) (p.books keeper) steps said =
+    subst (λ (gs : List Guard). IsLowered f keeper (part keeper p.list) gs steps said) (share.books keeper refl) (subst (λ (v : View). IsLowered f keeper v (before.books keeper) steps said) (share.parts keeper refl) did.2) in
+    let each = swept_each true keeper (p.books keeper) [] said steps here.sweep.swept in
+    woven_by (after_lowering p keeper steps said) said only refl refl (spoken_piece keeper said each) did.3 (share_records said (share_book keeper [] (share_list keeper steps share)))
+    (λ x o other theirs. beside_records said (elsewhere owner x keeper said each other) (beside_book keeper [] other (beside_list keeper steps other theirs))) (steps, said, here, refl)
+woven_one f owner limit asked (Ends k) acts p before after fit hand only share did = stops_one f owner asked (Ends k) k k p before after did.0 did.1 [] refl refl tt only share did.2 did.3 (λ so. (did.0, did.1, so, refl))
+woven_one f owner limit asked _ acts p before after fit hand only share did = absurd hand
+
+-- ---- all acts
+-- the progress of worker w is another now
+at : (ℕ → Progress) → ℕ → Progress → ℕ → Progress
+at own w q x = if x == w then q else own x
+
+-- What the workers of a phase did, each for itself, is woven into the order of the acts.
+pub weave : (f : Profile) (owner : Owners) (limit : ℕ) (asked : List ℕ) (acts : List Act) (p : Progress) (before after : ℕ → Progress)
+    → AreFit f limit asked acts → AreInHand owner acts → OnlyAsked asked p.names → ((w : ℕ) → IsShareOf owner w (before w) p)
+    → ((w : ℕ) → Reaches f (acts_by owner w acts) (before w) (after w)) → IsWoven f owner acts asked p after
+unfolding at
+weave f owner limit asked [] p before after fit hands only shares own = record {
+  reached = p;
+  reaches = refl;
+  shares = λ w. subst (λ (q : Progress). IsShareOf owner w q p) (sym (own w)) (shares w);
+  said = [];
+  records_are = sym (append-nil p.records);
+  spoken = tt;
+  only_asked = only;
+  same_names = λ n none. refl;
+}
+weave f owner limit asked (act ∷ acts) p before after fit hands only shares own =
+    let w = owner (actor_of_act act) in
+    let mine : Reaches f (act ∷ acts_by owner w acts) (before w) (after w) = subst (λ (t : Bool). Reaches f (if t then act ∷ acts_by owner w acts else acts_by owner w acts) (before w) (after w)) (eq-eqb w w refl) (own w) in
+    let one = woven_one f owner limit asked act acts p (before w) mine.0 fit hands.0 only (shares w) mine.1 in
+    let now = at before w mine.0 in
+    let shares1 : (x : ℕ) → IsShareOf owner x (now x) one.next = λ x. elim (cases_eq x w) [
+      | inl same ↦ subst (λ (t : Bool). IsShareOf owner x (if t then mine.0 else before x) one.next) (sym (eq-eqb x w same)) (subst (λ (y : ℕ). IsShareOf owner y mine.0 one.next) (sym same) one.share)
+      | inr other ↦ subst (λ (t : Bool). IsShareOf owner x (if t then mine.0 else before x) one.next) (sym (ne_eqb x w other)) (one.beside x (before x) (λ is. other (sym is)) (shares x))
+    ] in
+    let own1 : (x : ℕ) → Reaches f (acts_by owner x acts) (now x) (after x) = search (arith, cases_eq, eq-eqb, ne_eqb) in
+    let rest = weave f owner limit (asked_after_act act asked) acts one.next now after (rest_fit f limit asked act acts fit) hands.1 one.only_asked shares1 own1 in
+    record {
+      reached = rest.reached;
+      reaches = (one.next, one.advances, rest.reaches);
+      shares = rest.shares;
+      said = one.said ++ rest.said;
+      records_are = rest.records_are ∙ ap (λ (rs : List Record). rs ++ rest.said) one.records_are ∙ append_assoc p.records one.said rest.said;
+      spoken = spoken_both one.said rest.said one.spoken rest.spoken;
+      only_asked = rest.only_asked;
+      same_names = λ n none. rest.same_names n none.1 ∙ one.same_names n none.0;
+    }

@@ -1,0 +1,5 @@
+use Rattle.pas_acts.proofs.AloneInOrder.{alone_in_order}
+use Rattle.pas_acts.proofs.laws.alone.Goals as goal
+
+pub returns : goal.returns
+returns c = alone_in_order

@@ -1,5 +1,0 @@
-mod Parts
-mod Allocated
-mod Placed
-pub mod Alone
-pub mod Sessions

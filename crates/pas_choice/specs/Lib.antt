@@ -1,4 +1,0 @@
-pub mod Choices
-pub mod Allocates
-pub mod ByRank
-pub mod Placements

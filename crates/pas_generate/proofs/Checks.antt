@@ -1,0 +1,83 @@
+-- The checks of generated items hold.
+use Rattle.std.proofs.Common.{◌≡◌, ◌⊎◌, ℕ, ◌+◌, ◌*◌, ◌/◌, ◌<◌, ◌≤◌, ◌==◌, nat_le, Bool, true, false, not, ◌||◌, if◌then◌else◌, List, [], ◌∷◌, length, None}
+use Rattle.std.proofs.Common.{Some, inl, inr, refl, ap, ◌∙◌, arith, le-leb, lt-ltb}
+use Rattle.std.proofs.{Math.Nat.mul-le-mul, lemmas.Bool.and_from, lemmas.Bool.cases_lt}
+use Rattle.pas_trace.specs.Reasons.{first_failed, is_thread, is_alignment, is_named, is_named_now, thread_of, operations_in, guard_after, guard_in}
+use Rattle.pas_trace.specs.Reasons.{cost_of_size, cost_of, costs_of, record_bound, few_enough, checks_of, reason_of}
+use Rattle.pas_trace.specs.declared.{fault.Reason.Reason, item.Item.Item, item.Item.TheVariants.Operates, item.Item.TheVariants.Scavenges}
+use Rattle.pas_trace.specs.declared.{item.Wish.TheVariants.Asks, item.Wish.TheVariants.Frees, plan.Chore.Chore}
+use Rattle.pas_trace.proofs.{Costs.small_cost, Costs.large_cost, PassedChecks.AreHeld}
+use Rattle.pas_generate.specs.{Traces.IsJob, Meant.region}
+
+none-failed : (cs : List (Bool × Reason)) → AreHeld cs → first_failed cs ≡ None
+none-failed [] h = refl
+none-failed (c ∷ cs) h = ap (λ (t : Bool). if t then first_failed cs else Some c.1) h.0 ∙ none-failed cs h.1
+
+-- ---- the counts
+-- after so many operations there are so many, with few records: three for each of them, and one for each page at a pass. No operation has more than
+-- two lines, and none is guarded
+pub record Counted (pages threads n : ℕ) (items : List Item) : Type 0 where
+  pub operations : operations_in items ≡ n
+  pub unguarded : guard_in items ≡ 0
+  pub costs : costs_of (region pages threads) items ≤ 3 * n + 4096 * (n / 1000)
+  pub lines : length items ≤ 2 * n + 1
+
+-- A request of at most 8,192 bytes may make three records at most.
+pub request-cost : (size : ℕ) → size ≤ 8192 → cost_of_size size ≤ 3
+request-cost size within = elim (cases_lt 2048 size) [
+  | inl beyond ↦ omega (arith, large_cost size beyond, within)
+  | inr few ↦ omega (arith, small_cost size few)
+]
+
+few : (ops threads pages n : ℕ) (items : List Item) (i : Item) → IsJob ops threads pages → n < ops → ((guard : ℕ) → guard_after i guard ≡ guard)
+    → Counted pages threads n items → cost_of (region pages threads) 0 i ≤ 4097
+    → AreHeld (few_enough (operations_in items) (record_bound (region pages threads) (i ∷ items)))
+few ops threads pages n items i job more same counted small = search (arith, mul-le-mul, lt-ltb, le-leb)
+
+-- ---- ticks and passes
+pub tick-fine : (ops threads pages n : ℕ) (items : List Item) (epoch : ℕ) → IsJob ops threads pages → n < ops → Counted pages threads n items
+    → reason_of (region pages threads) items (Scavenges (Chore.Tick epoch)) ≡ None
+tick-fine ops threads pages n items epoch job more counted =
+    none-failed (checks_of (region pages threads) items (Scavenges (Chore.Tick epoch))) (few ops threads pages n items (Scavenges (Chore.Tick epoch)) job more (λ guard. refl) counted (omega arith))
+
+-- A pass of a generated trace passes its checks.
+pub pass-fine : (ops threads pages n : ℕ) (items : List Item) → IsJob ops threads pages → n < ops → Counted pages threads n items
+    → reason_of (region pages threads) items (Scavenges Chore.Pass) ≡ None
+pass-fine ops threads pages n items job more counted =
+    none-failed (checks_of (region pages threads) items (Scavenges Chore.Pass)) (few ops threads pages n items (Scavenges Chore.Pass) job more (λ guard. refl) counted (omega (arith, job.pages_most)))
+
+-- ---- allocations
+thread-fine : (pages threads t : ℕ) → 1 ≤ t → t ≤ threads → is_thread (region pages threads) t ≡ true
+thread-fine pages threads t lo hi = and_from (nat_le 1 t) (nat_le t threads) (le-leb 1 t lo) (le-leb t threads hi)
+
+align-fine : (a : ℕ) → (a ≡ 16) ⊎ ((a ≡ 32) ⊎ (a ≡ 64)) → is_alignment a ≡ true
+align-fine a (inl e) = ap is_alignment e
+align-fine a (inr (inl e)) = ap is_alignment e
+align-fine a (inr (inr e)) = ap is_alignment e
+
+-- the thread and the request are of the region, and no item has the name
+pub record IsRequested (threads t name heap size align : ℕ) (items : List Item) : Type 0 where
+  pub some_thread : 1 ≤ t
+  pub thread_within : t ≤ threads
+  pub known_heap : heap < 6
+  pub small : size ≤ 8192
+  pub aligned : (align ≡ 16) ⊎ ((align ≡ 32) ⊎ (align ≡ 64))
+  pub fresh : is_named items name ≡ false
+
+-- An allocation of a generated trace passes its checks.
+pub allocation-fine : (ops threads pages n : ℕ) (items : List Item) (t name heap size align : ℕ) → IsJob ops threads pages → n < ops
+    → Counted pages threads n items → IsRequested threads t name heap size align items
+    → reason_of (region pages threads) items (Operates t (Asks name heap size align)) ≡ None
+allocation-fine ops threads pages n items t name heap size align job more counted r =
+    let cost : cost_of_size size ≤ 3 = request-cost size r.small in
+    let within : size ≤ 4096 * pages = omega (arith, r.small, job.two_pages) in
+    none-failed (checks_of (region pages threads) items (Operates t (Asks name heap size align))) (
+      thread-fine pages threads t r.some_thread r.thread_within,
+      search (arith, lt-ltb, le-leb, align-fine, few),
+    )
+
+-- ---- frees
+pub free-fine : (ops threads pages n : ℕ) (items : List Item) (t name : ℕ) → IsJob ops threads pages → n < ops → Counted pages threads n items → 1 ≤ t
+    → t ≤ threads → is_named items name ≡ true
+    → ((t == thread_of items name) || not (is_named_now items name)) ≡ true → reason_of (region pages threads) items (Operates t (Frees name)) ≡ None
+free-fine ops threads pages n items t name job more counted lo hi named early = search (arith, none-failed, thread-fine, few)

@@ -1,4 +1,0 @@
-//! That generated traces are read without a fault.
-#![tactic(auto)]
-
-pub mod laws;

@@ -1,8 +1,0 @@
--- the threads of the operations so far
-use Rattle.std.proofs.Common.{◌≡◌, ◌||◌, ℕ, drop}
-use Rattle.pas_bits.specs.Masks.{is_set}
-use Rattle.pas_trace.specs.Acts.{is_active}
-use Rattle.pas_plans.proofs.awake.active.Given as goal
-
-abbrev pub invariant-loop-op : goal.invariant-loop-op
-invariant-loop-op l = record { threads : (k : ℕ) → (is_set l.threads k || is_active (drop l.op-index l.ops) k) ≡ is_active l.ops k }

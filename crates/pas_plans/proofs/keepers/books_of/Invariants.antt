@@ -1,7 +1,0 @@
--- the keepers so far have their books
-use Rattle.std.proofs.Common.{◌≤◌, slice_index_or, vec_capacity}
-use Rattle.pas_plans.specs.Keepers.{AreBooksFor}
-use Rattle.pas_plans.proofs.keepers.books_of.Given as goal
-
-abbrev pub invariant-loop-below : goal.invariant-loop-below
-invariant-loop-below l = record { made : AreBooksFor l.below (λ k. slice_index_or l.places k 0) l.books.items; reserved : l.keepers ≤ vec_capacity l.books }

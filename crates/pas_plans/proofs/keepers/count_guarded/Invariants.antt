@@ -1,7 +1,0 @@
--- the guarded requests of the operations so far are counted
-use Rattle.std.proofs.Common.{◌≡◌, ◌+◌, ℕ, drop, slice_index_or}
-use Rattle.pas_plans.specs.Keepers.{guarded_of}
-use Rattle.pas_plans.proofs.keepers.count_guarded.Given as goal
-
-abbrev pub invariant-loop-op : goal.invariant-loop-op
-invariant-loop-op l = record { counts : (k : ℕ) → slice_index_or l.counts k 0 + guarded_of k (drop l.op-index l.ops) ≡ slice_index_or l.fn.counts k 0 + guarded_of k l.ops }

@@ -1,8 +1,0 @@
--- the guarded requests of the phases so far are counted
-use Rattle.std.proofs.Common.{◌≡◌, ◌+◌, ℕ, drop, map, slice_index_or}
-use Rattle.pas_trace.specs.{EveryPlan.all_ops, EveryPlan.operations_of, Plans.ops_of}
-use Rattle.pas_plans.specs.Keepers.{guarded_of}
-use Rattle.pas_plans.proofs.keepers.guarded_by_thread.Given as goal
-
-abbrev pub invariant-loop-phase : goal.invariant-loop-phase
-invariant-loop-phase l = record { counts : (k : ℕ) → slice_index_or l.counts k 0 + guarded_of k (all_ops (map ops_of (drop l.phase-index l.phase-items))) ≡ guarded_of k (operations_of l.plan) }

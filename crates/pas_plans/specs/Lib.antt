@@ -1,4 +1,0 @@
-pub mod Parts
-pub mod Awake
-pub mod Keepers
-pub mod Tries

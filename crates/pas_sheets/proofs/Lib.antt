@@ -1,2 +1,0 @@
-mod Dealt
-mod Written

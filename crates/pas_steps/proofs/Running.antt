@@ -1,0 +1,204 @@
+-- A state is stepped along a list as the list's words are.
+use Rattle.std.proofs.Common.{◌≡◌, ℕ, ◌+◌, ◌<◌, ◌≤◌, ◌==◌, Bool, true, false, if◌then◌else◌, List, [], ◌∷◌, length, get_or, set, take, Option, None, refl, ap}
+use Rattle.std.proofs.Common.{sym, ◌∙◌, subst, arith, inl, inr, eqb-true, length-append, length-set, length-take-le, take_at, take-take, get_or-take}
+use Rattle.std.proofs.Common.{get_or-set_same, get_or-set_other}
+use Rattle.std.proofs.lemmas.{Bool.eqb-false, Bool.cases_eq, List.take-append-le, List.get_or_at, List.get_or_append_left}
+use Rattle.pas_profile.specs.{Layouts.same_word, Profiles.IsValid, Profiles.IsWordOf}
+use Rattle.pas_profile.specs.declared.{profile.Profile.Profile, word.Word.Word}
+use Rattle.pas_profile.proofs.Places.{same_word-true}
+use Rattle.pas_steps.specs.{Effects.target, Effects.new_value, Ranges.IsRanged, States.profile_of, States.word_in}
+use Rattle.pas_steps.specs.Views.{epoch_after, known_epoch, or_zero, epoch_of}
+use Rattle.pas_steps.specs.Lists.{Triple, Whole, part, word_after, IsNext, Legal}
+use Rattle.pas_steps.specs.declared.{state.State.State, step.Step.Step}
+use Rattle.pas_steps.proofs.Targets.{is_ranged, target_of_region}
+use Rattle.pas_steps.specs.Runs.{in_order, CanRun, IsOpening, IsAfter, IsStepped}
+
+-- ---- lists in order
+abbrev Steps : Type 0
+Steps = List (ℕ × Step)
+
+abbrev made_by : Triple → ℕ × Step
+made_by t = (t.actor, t.made.step)
+
+-- the step at this place of the order, and the list before it
+pub record IsStepAt (f : Profile) (steps : Steps) (i : ℕ) (x : ℕ × Step) : Type 0 where
+  pub before : Whole
+  pub legal : Legal f before
+  pub steps_are : in_order before ≡ take i steps
+  pub triple : Triple
+  pub next : IsNext f before triple
+  pub made : made_by triple ≡ x
+
+length_next : (l : Whole) (t : Triple) → length (in_order (t ∷ l)) ≡ length (in_order l) + 1
+length_next l t = length-append (in_order l) (made_by t ∷ []) ∙ omega arith
+
+step_in : (f : Profile) (l : Whole) (i : ℕ) (d : ℕ × Step) → Legal f l → i < length (in_order l) → IsStepAt f (in_order l) i (get_or (in_order l) i d)
+step_in f [] i d legal lt = absurd (omega (arith, lt))
+step_in f (t ∷ l) i d legal lt = elim (cases_eq i (length (in_order l))) [
+  | inl e ↦ record {
+    before = l;
+    legal = legal.1;
+    steps_are = sym (take_at (in_order l) (made_by t ∷ []) i (sym e));
+    triple = t;
+    next = legal.0;
+    made = sym (get_or_at (in_order l) (made_by t) [] d i (sym e));
+  }
+  | inr ne ↦
+      let more : length (in_order (t ∷ l)) ≡ length (in_order l) + 1 = length_next l t in
+      let less : i < length (in_order l) = omega (arith, lt, ne, more) in
+      let found : IsStepAt f (in_order l) i (get_or (in_order l) i d) = step_in f l i d legal.1 less in
+      record {
+        before = found.before;
+        legal = found.legal;
+        steps_are = found.steps_are ∙ sym (take-append-le i (in_order l) (made_by t ∷ []) (omega (arith, less)));
+        triple = found.triple;
+        next = found.next;
+        made = found.made ∙ sym (get_or_append_left (in_order l) (made_by t ∷ []) d i less);
+      }
+]
+
+-- Each step of a list that can be run is one at its place.
+pub step_at : (f : Profile) (steps : Steps) (i : ℕ) (d : ℕ × Step) → CanRun f steps → i < length steps → IsStepAt f steps i (get_or steps i d)
+step_at f steps i d can lt =
+    subst (λ (xs : Steps). IsStepAt f xs i (get_or xs i d)) can.steps_are (step_in f can.whole i d can.legal (subst (λ (xs : Steps). i < length xs) (sym can.steps_are) lt))
+
+-- what the step may rely on
+pub at_actor : (f : Profile) (steps : Steps) (i : ℕ) (x : ℕ × Step) → IsValid f → IsStepAt f steps i x → x.0 < 17
+at_actor f steps i x valid at =
+    let few : at.triple.actor ≤ f.threads = at.next.actor in
+    let threads : f.threads ≤ 16 = valid.threads in
+    let same : at.triple.actor ≡ x.0 = ap (λ (y : ℕ × Step). y.0) at.made in
+    omega (arith, few, threads, same)
+
+-- The numbers of a step of such a list fit their places.
+pub at_ranged : (f : Profile) (steps : Steps) (i : ℕ) (x : ℕ × Step) → IsValid f → IsStepAt f steps i x → IsRanged x.1
+at_ranged f steps i x valid at = subst (λ (y : ℕ × Step). IsRanged y.1) at.made (is_ranged f at.triple.made.step valid at.next.of_region)
+
+-- The word of a step of such a list is one of the region.
+pub at_word : (f : Profile) (steps : Steps) (i : ℕ) (x : ℕ × Step) → IsStepAt f steps i x → IsWordOf f (target x.1)
+at_word f steps i x at = subst (λ (y : ℕ × Step). IsWordOf f (target y.1)) at.made (target_of_region f (part at.triple.actor at.before) at.triple.made.step at.next.of_region at.next.allowed)
+
+-- ---- the loop
+-- after the first i steps the words are those of the list so far, and of each actor the epoch is kept
+pub record IsSoFar (f : Profile) (steps : Steps) (i : ℕ) (state : State) (epochs : List (Option ℕ)) : Type 0 where
+  pub profile : profile_of state ≡ f
+  pub words : IsAfter f (take i steps) state
+  pub actors : length epochs ≡ 17
+  pub epochs_are : (l : Whole) → Legal f l → in_order l ≡ take i steps → (k : ℕ) → k < 17 → get_or epochs k None ≡ known_epoch (part k l)
+
+not_empty : (l : Whole) (t : Triple) → in_order (t ∷ l) ≡ [] → ⊥
+not_empty l t h = let more : length (in_order (t ∷ l)) ≡ length (in_order l) + 1 = length_next l t in let none : length (in_order (t ∷ l)) ≡ 0 = ap length h in absurd (omega (arith, more, none))
+
+first_words : (state : State) → IsOpening state → IsAfter (profile_of state) [] state
+first_words state opening [] legal is w of = opening w of
+first_words state opening (t ∷ l) legal is w of = absurd (not_empty l t is)
+
+first_epochs : (f : Profile) (epochs : List (Option ℕ)) → ((k : ℕ) → k < 17 → get_or epochs k None ≡ None) → (l : Whole) → Legal f l → in_order l ≡ [] → (k : ℕ)
+    → k < 17 → get_or epochs k None ≡ known_epoch (part k l)
+first_epochs f epochs none [] legal is k small = none k small
+first_epochs f epochs none (t ∷ l) legal is k small = absurd (not_empty l t is)
+
+-- Before any step a state stands at the opening, with no epoch known.
+pub so_far_first : (steps : Steps) (state : State) (epochs : List (Option ℕ)) → IsOpening state → length epochs ≡ 17
+    → ((k : ℕ) → k < 17 → get_or epochs k None ≡ None) → IsSoFar (profile_of state) steps 0 state epochs
+so_far_first steps state epochs opening actors none = record { profile = refl; words = first_words state opening; actors = actors; epochs_are = first_epochs (profile_of state) epochs none }
+
+-- the list up to a step is the list before it, and the step
+record IsSplit (steps : Steps) (i : ℕ) (d : ℕ × Step) (l : Whole) (t : Triple) : Type 0 where
+  before : in_order l ≡ take i steps
+  made : made_by t ≡ get_or steps i d
+
+split : (steps : Steps) (i : ℕ) (d : ℕ × Step) (l : Whole) (t : Triple) → i < length steps → in_order (t ∷ l) ≡ take (i + 1) steps → IsSplit steps i d l t
+split steps i d l t lt is =
+    let more : length (in_order (t ∷ l)) ≡ length (in_order l) + 1 = length_next l t in
+    let taken : length (take (i + 1) steps) ≡ i + 1 = length-take-le (i + 1) steps (omega (arith, lt)) in
+    let long : length (in_order l) ≡ i = omega (arith, more, taken, ap length is) in
+    record {
+      before = sym (take_at (in_order l) (made_by t ∷ []) i long) ∙ ap (take i) is ∙ take-take i (i + 1) steps (omega arith);
+      made = sym (get_or_at (in_order l) (made_by t) [] d i long) ∙ ap (λ (xs : Steps). get_or xs i d) is ∙ get_or-take (i + 1) steps i d (omega arith);
+    }
+
+-- the words after the step
+value_next : (old new : State) (l : Whole) (t : Triple) (e : ℕ) (w : Word) → e ≡ epoch_of (part t.actor l)
+    → word_in old (target t.made.step) ≡ word_after l (target t.made.step) → word_in old w ≡ word_after l w
+    → (same : Bool) → same_word (target t.made.step) w ≡ same
+    → (if same then new_value e t.made.step (word_in old (target t.made.step)) else word_in old w)
+    ≡ (if same then new_value (epoch_of (part t.actor l)) t.made.step (word_after l w) else word_after l w)
+value_next old new l t e w epoch target_is is true same = ap (λ (x : ℕ). new_value x t.made.step (word_in old (target t.made.step))) epoch
+    ∙ ap (new_value (epoch_of (part t.actor l)) t.made.step) (target_is ∙ ap (word_after l) (same_word-true (target t.made.step) w same))
+value_next old new l t e w epoch target_is is false same = is
+
+-- the epochs after the step
+epoch_next : (l : Whole) (t : Triple) (epochs : List (Option ℕ)) (new : Option ℕ) (k : ℕ) → t.actor < length epochs
+    → get_or epochs k None ≡ known_epoch (part k l)
+    → new ≡ epoch_after t.made.step t.made.answer (known_epoch (part t.actor l)) → (same : Bool) → (t.actor == k) ≡ same
+    → get_or (set epochs t.actor new) k None ≡ known_epoch (if same then t.made ∷ part k l else part k l)
+epoch_next l t epochs new k small is new_is true same =
+    let e : t.actor ≡ k = eqb-true t.actor k same in
+    ap (λ (i : ℕ). get_or (set epochs t.actor new) i None) (sym e) ∙ get_or-set_same epochs t.actor new None small ∙ new_is
+    ∙ ap (λ (i : ℕ). epoch_after t.made.step t.made.answer (known_epoch (part i l))) e
+epoch_next l t epochs new k small is new_is false same = get_or-set_other epochs t.actor k new None (λ e. eqb-false t.actor k same (sym e)) ∙ is
+
+-- what the step of the loop did, told of the step that the list has there
+record IsStep (f : Profile) (old new : State) (epochs : List (Option ℕ)) (known : Option ℕ) (x : ℕ × Step) : Type 0 where
+  of_region : IsWordOf f (target x.1)
+  actor : x.0 < 17
+  known_is : get_or epochs x.0 None ≡ known
+  stepped : IsStepped old new (or_zero known) x.1
+
+next_words : (f : Profile) (steps : Steps) (i : ℕ) (d : ℕ × Step) (old new : State) (epochs : List (Option ℕ)) (known : Option ℕ) → i < length steps
+    → IsSoFar f steps i old epochs
+    → IsStep f old new epochs known (get_or steps i d) → IsAfter f (take (i + 1) steps) new
+next_words f steps i d old new epochs known lt far did [] legal is w of =
+    let taken : length (take (i + 1) steps) ≡ i + 1 = length-take-le (i + 1) steps (omega (arith, lt)) in
+    let none : 0 ≡ length (take (i + 1) steps) = ap length is in
+    absurd (omega (arith, taken, none))
+next_words f steps i d old new epochs known lt far did (t ∷ l) legal is w of =
+    let parts : IsSplit steps i d l t = split steps i d l t lt is in
+    let here : IsStep f old new epochs known (made_by t) = subst (IsStep f old new epochs known) (sym parts.made) did in
+    let at : word_in old (target t.made.step) ≡ word_after l (target t.made.step) = far.words l legal.1 parts.before (target t.made.step) here.of_region in
+    let epoch : or_zero known ≡ epoch_of (part t.actor l) = ap or_zero (sym here.known_is ∙ far.epochs_are l legal.1 parts.before t.actor here.actor) in
+    here.stepped.words w (subst (λ (g : Profile). IsWordOf g w) (sym far.profile) of)
+    ∙ value_next old new l t (or_zero known) w epoch at (far.words l legal.1 parts.before w of) (same_word (target t.made.step) w) refl
+
+next_epochs : (f : Profile) (steps : Steps) (i : ℕ) (d : ℕ × Step) (old new : State) (epochs : List (Option ℕ)) (known : Option ℕ) → i < length steps
+    → IsSoFar f steps i old epochs
+    → IsStep f old new epochs known (get_or steps i d) → (l : Whole) → Legal f l → in_order l ≡ take (i + 1) steps → (k : ℕ) → k < 17
+    → get_or (set epochs (get_or steps i d).0 (epoch_after (get_or steps i d).1 (word_in old (target (get_or steps i d).1)) known)) k None
+    ≡ known_epoch (part k l)
+next_epochs f steps i d old new epochs known lt far did [] legal is k small =
+    let taken : length (take (i + 1) steps) ≡ i + 1 = length-take-le (i + 1) steps (omega (arith, lt)) in
+    let none : 0 ≡ length (take (i + 1) steps) = ap length is in
+    absurd (omega (arith, taken, none))
+next_epochs f steps i d old new epochs known lt far did (t ∷ l) legal is k small =
+    let parts : IsSplit steps i d l t = split steps i d l t lt is in
+    let here : IsStep f old new epochs known (made_by t) = subst (IsStep f old new epochs known) (sym parts.made) did in
+    let at : word_in old (target t.made.step) ≡ word_after l (target t.made.step) = far.words l legal.1 parts.before (target t.made.step) here.of_region in
+    let kept : known ≡ known_epoch (part t.actor l) = sym here.known_is ∙ far.epochs_are l legal.1 parts.before t.actor here.actor in
+    let next : IsNext f l t = legal.0 in
+    let actors : length epochs ≡ 17 = far.actors in
+    let lower : t.actor < 17 = here.actor in
+    ap (λ (x : ℕ × Step). get_or (set epochs x.0 (epoch_after x.1 (word_in old (target x.1)) known)) k None) (sym parts.made)
+    ∙ epoch_next l t epochs (epoch_after t.made.step (word_in old (target t.made.step)) known) k (omega (arith, actors, lower)) (far.epochs_are l legal.1 parts.before k small)
+    (ap (λ (n : ℕ). epoch_after t.made.step n known) (at ∙ sym next.answer_is) ∙ ap (epoch_after t.made.step t.made.answer) kept) (t.actor == k) refl
+
+-- After one step more a state has the words of the list so far, and the epochs that are known.
+pub so_far_next : (f : Profile) (steps : Steps) (i : ℕ) (d : ℕ × Step) (old new : State) (epochs : List (Option ℕ)) (known told : Option ℕ) → IsValid f
+    → CanRun f steps → i < length steps → IsSoFar f steps i old epochs
+    → get_or epochs (get_or steps i d).0 None ≡ known → IsStepped old new (or_zero known) (get_or steps i d).1
+    → told ≡ epoch_after (get_or steps i d).1 (word_in old (target (get_or steps i d).1)) known
+    → IsSoFar f steps (i + 1) new (set epochs (get_or steps i d).0 told)
+so_far_next f steps i d old new epochs known told valid can lt far known_is stepped told_is =
+    let at : IsStepAt f steps i (get_or steps i d) = step_at f steps i d can lt in
+    let did : IsStep f old new epochs known (get_or steps i d) = record { of_region = at_word f steps i (get_or steps i d) at; actor = at_actor f steps i (get_or steps i d) valid at; known_is = known_is; stepped = stepped } in
+    record {
+      profile = stepped.profile ∙ far.profile;
+      words = next_words f steps i d old new epochs known lt far did;
+      actors = length-set epochs (get_or steps i d).0 told ∙ far.actors;
+      epochs_are = λ l legal is k small. ap (λ (o : Option ℕ). get_or (set epochs (get_or steps i d).0 o) k None) told_is ∙ next_epochs f steps i d old new epochs known lt far did l legal is k small;
+    }
+
+-- ---- the end
+pub so_far_last : (f : Profile) (steps : Steps) (i : ℕ) (state : State) (epochs : List (Option ℕ)) → IsSoFar f steps i state epochs → take i steps ≡ steps
+    → IsAfter f steps state
+so_far_last f steps i state epochs far all = subst (λ (xs : Steps). IsAfter f xs state) all far.words

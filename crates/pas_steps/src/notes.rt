@@ -1,0 +1,93 @@
+//! What an actor notes of its own steps.
+ghost use Rattle.std.specs.Prelude.{◌≡◌, ◌≤◌, ◌+◌, ◌++◌, ◌<◌, ◌^◌, length};
+ghost use Rattle.std.specs.Option.{option_to_list};
+ghost use Rattle.pas_profile.specs.Rooms.{shown, size_of_room};
+
+use crate::effect::{epoch_after, event_of};
+use crate::step::Step;
+use pas_profile::{Event, EventRoom};
+
+/// An actor's events, in a room that was made for them, the number of its steps (which stays at 2^64 - 1 once it is there), and the
+/// newest epoch that it read. So it never needs the list of its steps.
+#[derive(Drop)]
+pub struct Notes {
+    room: EventRoom,
+    count: u64,
+    epoch: Option<u64>,
+}
+
+/// Adds the event, if there is one.
+#[inline]
+fn record(room: &mut EventRoom, event: Option<Event>)
+    requires { length (shown room.old) + length (option_to_list event) ≤ size_of_room room.old }
+    ensures added { shown room.new ≡ shown room.old ++ option_to_list event }
+    ensures size { size_of_room room.new ≡ size_of_room room.old }
+{
+    if let Some(event) = event {
+        room.push(event);
+    }
+}
+
+impl Notes {
+    ghost use Rattle.pas_steps.specs.{Events.wants, Ranges.IsRanged, Views.or_zero};
+    ghost use Rattle.pas_steps.specs.Noted.{notes_for, IsNoted, events_noted, room_of_notes, count_of_notes, epoch_noted};
+
+    /// Those of an actor that made no step.
+    pub fn new(room: EventRoom) -> Notes
+        ensures { result ≡ notes_for room }
+    {
+        Notes {
+            room,
+            count: 0,
+            epoch: None,
+        }
+    }
+
+    /// The number of steps made, which stays at 2^64 - 1 once it is there.
+    #[inline]
+    pub fn count(&self) -> u64
+        ensures { result ≡ count_of_notes self.now }
+    {
+        self.count
+    }
+
+    /// All events made, the oldest first.
+    #[inline]
+    pub fn shown(&self) -> &[Event]
+        ensures { result.now ≡ events_noted self.now }
+    {
+        self.room.as_slice()
+    }
+
+    /// For how many more events there is room.
+    #[inline]
+    pub fn spare(&self) -> u32
+        ensures { result + length (events_noted self.now) ≡ room_of_notes self.now }
+    {
+        self.room.spare()
+    }
+
+    /// The newest epoch that the actor read, 0 where it read none.
+    #[inline]
+    pub fn epoch(&self) -> u64
+        ensures { result ≡ or_zero (epoch_noted self.now) }
+    {
+        match self.epoch {
+            Some(epoch) => epoch,
+            None => 0,
+        }
+    }
+
+    /// Notes a step that the actor made, and its event. The caller leaves room for the event.
+    #[inline(always)]
+    pub fn note(&mut self, actor: u8, step: Step, answer: u64)
+        requires ranged { IsRanged step }
+        requires room { length (events_noted self.old) + wants step ≤ room_of_notes self.old }
+        ensures { IsNoted self.old self.new actor step answer }
+    {
+        let event = event_of(actor, self.epoch(), step, answer);
+        record(&mut self.room, event);
+        self.count = self.count.saturating_add(1);
+        self.epoch = epoch_after(step, answer, self.epoch);
+    }
+}
