@@ -47,7 +47,7 @@ taken_given true false held e none = absurd (true≢false e)
 taken_given false true held e none = absurd (true≢false (sym e))
 taken_given false false held e none = inl refl
 
-abbrev may_search : {σ : Standing} {d : Directory} {n spare : ℕ} → CanCall σ (SearchRoom σ.seat.profile d n spare) → CanCall σ (MaySearch d)
+abbrev pub may_search : {σ : Standing} {d : Directory} {n spare : ℕ} → CanCall σ (SearchRoom σ.seat.profile d n spare) → CanCall σ (MaySearch d)
 may_search can = record { view = can.view; whole = can.whole; stood = can.stood; met = can.met.may }
 
 module _ {Found : Type 0} (choice : Choice Found) (run : Found → Run)
