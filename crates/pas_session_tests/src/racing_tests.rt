@@ -6,9 +6,9 @@ use crate::shared_seating::opened_for_two;
 use pas_bits::Mask4;
 use pas_profile::*;
 use pas_segregated::Slots;
-use pas_shared::close;
+use pas_shared::{close, into_passes};
 use pas_steps::State;
-use pas_trials::{race, rise, workers_of};
+use pas_trials::{race, workers_of};
 use std::test::Fail;
 
 /// The free words of page 1, its deed word and its backed word.
@@ -56,7 +56,7 @@ fn one_of_two_threads_gets_the_page(rt: HostRuntime) -> Result<(), Fail> {
     let passes = vec![in rt.alloc(); first, second]?;
     let mut workers = workers_of(rt.alloc(), &region, passes)?;
     race(&rt, &region, &mut workers);
-    let (passes, answers) = rise(rt.alloc(), &region, workers)?;
+    let (passes, answers) = into_passes(rt.alloc(), &region, workers)?;
     assert!(rt; one_has_all(&answers));
     let state = close(region, passes);
     assert!(rt; values(&state) == [0, 0, 0, 0, 65536, 1]);

@@ -1,5 +1,5 @@
 -- Elements that move from one list to another.
-use Rattle.std.proofs.Common.{◌≡◌, suc, List, [], ◌∷◌, ◌++◌, refl, sym, subst, arith}
+use Rattle.std.proofs.Common.{◌≡◌, ◌∙◌, suc, List, [], ◌∷◌, ◌++◌, map, refl, ap, sym, subst, arith, append_assoc}
 use Rattle.std.specs.List.{All}
 use Rattle.std.proofs.lemmas.List.Elements.{All-append, All-cons, All-nil}
 
@@ -24,3 +24,10 @@ last_is {A = A} P xs ys x is all = parted ys (subst (λ (zs : List A). All P zs)
     parted (y ∷ ys) all =
         let rest = parted ys (others_are P (y ∷ (ys ++ x ∷ [])) y (ys ++ x ∷ []) refl all) in
         (All-cons P y ys (first_is P (y ∷ (ys ++ x ∷ [])) y (ys ++ x ∷ []) refl all) rest.0, rest.1)
+
+-- What was made of the first goes from what is left to the end of what was made.
+pub first_moves : {A B : Type 0} (f : A → B) (made more : List B) (xs rest : List A) (x : A) (all : List B)
+    → xs ≡ x ∷ rest → more ≡ made ++ f x ∷ [] → made ++ map f xs ≡ all → more ++ map f rest ≡ all
+first_moves {A = A} {B = B} f made more xs rest x all is one so =
+    ap (λ (ys : List B). ys ++ map f rest) one ∙ append_assoc made (f x ∷ []) (map f rest)
+    ∙ sym (ap (λ (ys : List A). made ++ map f ys) is) ∙ so

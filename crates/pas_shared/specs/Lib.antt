@@ -5,3 +5,4 @@ pub mod Ledgers
 pub mod Pasts
 pub mod Benches
 pub mod Left
+pub mod Workers

@@ -19,6 +19,7 @@ pub mod past_laws;
 pub mod region;
 pub mod rule;
 pub mod seating;
+pub mod workers;
 
 pub use bench::{Bench, Member};
 pub use bench_desk::{BenchDesk, BenchHome};
@@ -30,3 +31,4 @@ pub use past::Past;
 pub use region::{Opening, SharedRegion};
 pub use rule::Picks;
 pub use seating::opened_with_room;
+pub use workers::{Job, Worker, into_passes, seat_all};

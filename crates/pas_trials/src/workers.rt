@@ -1,20 +1,19 @@
 //! Threads in a storm at one shared region, each with a cache of its own.
 ghost use Rattle.std.specs.Prelude.{◌≡◌, ◌≤◌, All, IfOk};
 ghost use Rattle.pas_utility.specs.Pools.{threads_of};
-ghost use Rattle.pas_shared.specs.Passes.{IsPassOf, IsFreshPass};
-ghost use Rattle.pas_trials.specs.SharedStorms.{IsReadyForStorm, HasPass};
+ghost use Rattle.pas_shared.specs.{Passes.IsPassOf, Passes.IsFreshPass, Workers.HasPass};
+ghost use Rattle.pas_trials.specs.SharedStorms.{IsReadyForStorm, MayTakeTurns};
 
 use crate::shared_storm::Storm;
 use pas_cache::ThreadCache;
-use pas_shared::{SharedPass, SharedRegion};
+use pas_shared::{Job, SharedDesk, SharedPass, SharedRegion, Worker, into_passes, seat_all};
 use pas_utility::Utility;
 use std::alloc::{AllocError, Global};
-use std::thread::{Threads, for_each_mut};
+use std::thread::Threads;
 
-/// A thread's pass while it doesn't sit at the region, its cache, and its storm.
+/// A thread's cache, and its storm.
 #[derive(Drop)]
-pub struct StormWorker {
-    pub pass: Option<SharedPass>,
+pub struct StormWork {
     pub cache: ThreadCache,
     pub storm: Storm,
     /// Whether the cache was stopped at the end.
@@ -31,7 +30,7 @@ pub fn storm_workers(
     threads: u8,
     events: u32,
     sizes: [u32; 3],
-) -> Result<Vec<StormWorker>, AllocError>
+) -> Result<Vec<Worker<StormWork>>, AllocError>
     requires threads { threads_of utility.old ≡ threads }
     requires passes { All (IsFreshPass region.now events) passes.items }
     ensures { IfOk result (λ workers. All (IsReadyForStorm region.now events) workers.items) }
@@ -47,27 +46,33 @@ pub fn storm_workers(
         let Some(seat) = utility.cache_seat(actor) else {
             continue;
         };
-        workers.push(StormWorker {
-            pass: Some(pass),
+        let work = StormWork {
             cache: ThreadCache::new(seat),
             storm: Storm::new(actor as u64, sizes),
             stopped: false,
+        };
+        workers.push(Worker {
+            pass: Some(pass),
+            work,
         })?;
     }
     Ok(workers)
 }
 
-/// The thread sits down, makes so many turns, and rises.
-fn work(region: &SharedRegion, worker: &mut StormWorker, events: u32, turns: u64)
-    requires { IsReadyForStorm region.now events worker.old }
-    ensures { HasPass region.now worker.new }
-{
-    if let Some(pass) = worker.pass.take() {
-        let mut desk = region.desk(pass);
-        worker.stopped = worker
-            .storm
-            .run(&mut desk, &mut worker.cache, events as usize, turns);
-        worker.pass = Some(desk.into_pass());
+/// So many turns of each thread, in a room for so many events.
+struct Turns {
+    events: u32,
+    turns: u64,
+}
+
+impl Job<StormWork> for Turns {
+    ghost may = { λ job region work pass. MayTakeTurns job.events region work pass };
+
+    ghost did = { λ job region work pass after left. ⊤ };
+
+    fn perform(&self, work: &mut StormWork, desk: &mut SharedDesk<'_>) {
+        let room = self.events as usize;
+        work.stopped = work.storm.run(desk, &mut work.cache, room, self.turns);
     }
 }
 
@@ -75,19 +80,14 @@ fn work(region: &SharedRegion, worker: &mut StormWorker, events: u32, turns: u64
 pub fn run_storm<R: Threads + Sync>(
     rt: &R,
     region: &SharedRegion,
-    workers: &mut Vec<StormWorker>,
+    workers: &mut Vec<Worker<StormWork>>,
     events: u32,
     turns: u64,
 )
     requires { All (IsReadyForStorm region.now events) workers.old.items }
     ensures { All (HasPass region.now) workers.new.items }
 {
-    for_each_mut(
-        rt,
-        workers,
-        16,
-        &|_, worker| work(region, worker, events, turns),
-    );
+    seat_all(rt, region, workers, &Turns { events, turns }, 16);
 }
 
 /// What the threads of a storm did, all together.
@@ -103,32 +103,23 @@ pub struct Total {
 pub fn gather(
     alloc: Global,
     region: &SharedRegion,
-    workers: Vec<StormWorker>,
+    workers: Vec<Worker<StormWork>>,
 ) -> Result<(Vec<SharedPass>, Total), AllocError>
     requires { All (HasPass region.now) workers.items }
     ensures { IfOk result (λ r. All (IsPassOf region.now) r.0.items) }
 {
-    let _ = region;
-    let mut passes = Vec::new(alloc);
+    let (passes, works) = into_passes(alloc, region, workers)?;
     let mut total = Total {
         steps: 0,
         served: 0,
         events: 0,
         stopped: 0,
     };
-    for worker in workers {
-        let StormWorker {
-            pass,
-            cache: _,
-            storm,
-            stopped,
-        } = worker;
-        let pass = pass.unwrap();
+    for (pass, work) in passes.iter().zip(works.iter()) {
         total.steps = total.steps.saturating_add(pass.count());
-        total.served = total.served.saturating_add(storm.served);
+        total.served = total.served.saturating_add(work.storm.served);
         total.events = total.events.saturating_add(pass.shown().len() as u64);
-        total.stopped = total.stopped.saturating_add(stopped as u64);
-        passes.push(pass)?;
+        total.stopped = total.stopped.saturating_add(work.stopped as u64);
     }
     Ok((passes, total))
 }

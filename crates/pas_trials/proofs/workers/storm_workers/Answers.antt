@@ -24,5 +24,6 @@ loop-pass-preserved c =
     record {
       threads = c.cache_seat.ensures.threads ∙ inv.threads;
       rest = others_are (IsFreshPass region events) _ _ _ is inv.rest;
-      ready = all_more (IsReadyForStorm region events) _ _ _ c.in_ok-push.ensures.items inv.ready (record { has_pass = refl; pass = fresh; rest = c.new.ensures.rest });
+      ready = all_more (IsReadyForStorm region events) _ _ _ c.in_ok-push.ensures.items inv.ready
+          (record { has_pass = refl; of_region = fresh.of_region; may = record { fresh = fresh; rest = c.new.ensures.rest } });
     }
