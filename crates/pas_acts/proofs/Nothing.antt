@@ -1,7 +1,7 @@
 -- What an actor that did nothing yet has and owes, and one without a local allocator.
 use Rattle.std.proofs.Common.{◌≡◌, ℕ, zero, suc, false, List, [], refl, ap, arith}
 use Rattle.pas_profile.specs.declared.profile.Profile.{Profile}
-use Rattle.pas_steps.specs.{Clear.HasNothing, Unknown.unknown_below}
+use Rattle.pas_steps.specs.Unknown.{unknown_below}
 use Rattle.pas_cache.specs.Locals.{any_covers, any_keeps}
 use Rattle.pas_segregated.specs.declared.slots.Slots.{Slots}
 use Rattle.pas_answers.specs.{Calls.owed_events, Replays.empty_cache}
@@ -13,10 +13,6 @@ unknown_all (suc n) = let rest = unknown_all n in omega (arith, rest)
 -- An actor that did nothing owes as many events as the region has pages.
 pub pages_owed_at_first : (f : Profile) → owed_events f empty_cache [] ≡ f.pages
 pages_owed_at_first f = let all = unknown_all f.pages in omega (arith, all)
-
--- An actor that did nothing has nothing.
-pub nothing : HasNothing []
-nothing = record { grains = λ g. refl; rights = λ page. refl; clear = record { on = λ page. record { stamped = refl; owes = record { checks = λ word lt. refl; hint = refl }; examined = refl } } }
 
 -- A cache without local allocators covers no grain and keeps no page.
 pub no_slots : (locals : List Slots) → locals ≡ [] → (g : ℕ) → (any_covers locals g ≡ false) × (any_keeps locals g ≡ false)

@@ -32,8 +32,8 @@ use Rattle.pas_replay.proofs.Going.{all_rest}
 use Rattle.pas_trace.proofs.Keepers.{plan_actors}
 use Rattle.pas_acts.specs.PlanKeepers.{guarded_of}
 use Rattle.pas_acts.proofs.PlanFacts.{plan_operate, plan_fit, plan_own, plan_scavenger, plan_total}
-use Rattle.pas_acts.proofs.{KeeperActs.plan_kept_own, KeeperActs.plan_tries, KeeperActs.plan_keeps, Nothing.pages_owed_at_first, Nothing.nothing}
-use Rattle.pas_acts.proofs.{Nothing.no_slots}
+use Rattle.pas_steps.proofs.Nothing.{nothing_yet}
+use Rattle.pas_acts.proofs.{KeeperActs.plan_kept_own, KeeperActs.plan_tries, KeeperActs.plan_keeps, Nothing.pages_owed_at_first, Nothing.no_slots}
 
 -- an actor that made no step, which rests
 starts_at : (plan : Plan) (k need : ℕ) (slot : Option PlainPass) (Rest : View → Type 0) → Rest [] → need ≤ slice_index (bounds_of plan.bounds) k
@@ -48,7 +48,7 @@ StartsAs kind plan k slot =
 
 actor_starts : {text : List ℕ} {plan : Plan} {kit : PlainKit} → IsPlanOf text plan → IsKitOf plan kit → (k : ℕ) → k ≤ (region_of plan).threads
     → ActorStands (threads_of plan) (region_of plan) k at_start (pass_in kit.actors.passes.items k) (acts_of_plan plan)
-actor_starts {text} {plan} {kit} read made zero le = let bound = plan_scavenger read in starts_at plan 0 _ (pass_in kit.actors.passes.items 0) HasNothing nothing (omega (arith, bound)) (made.fresh 0 (omega arith))
+actor_starts {text} {plan} {kit} read made zero le = let bound = plan_scavenger read in starts_at plan 0 _ (pass_in kit.actors.passes.items 0) HasNothing nothing_yet (omega (arith, bound)) (made.fresh 0 (omega arith))
 actor_starts {text} {plan} {kit} read made (suc i) le =
     let f = region_of plan in
     let k = suc i in
@@ -59,12 +59,12 @@ actor_starts {text} {plan} {kit} read made (suc i) le =
       | inl past ↦
           let own = plan_kept_own read k past le in
           let starts : StartsAs false plan k slot =
-          starts_at plan k (unknown_pages f [] + kept_costs_of k (acts_of_plan plan)) slot (FitsBook f []) (record { apart = tt; of_region = tt; knows = tt; held = nothing.grains; rights = nothing.rights; clear = nothing.clear }) (omega (arith, own, owed)) fresh in
+          starts_at plan k (unknown_pages f [] + kept_costs_of k (acts_of_plan plan)) slot (FitsBook f []) (record { apart = tt; of_region = tt; knows = tt; held = nothing_yet.grains; rights = nothing_yet.rights; clear = nothing_yet.clear }) (omega (arith, own, owed)) fresh in
           subst (λ (kind : Bool). StartsAs kind plan k slot) (sym (lt-leb k (threads_of plan) past)) starts
       | inr within ↦
           let own = plan_own read k (omega arith) (omega (arith, within)) in
           let starts : StartsAs true plan k slot =
-          starts_at plan k (owed_events f empty_cache [] + own_costs_of k (acts_of_plan plan)) slot (AtRest f empty_cache) (rests_empty f empty_cache [] refl refl nothing) (omega (arith, own, owed)) fresh in
+          starts_at plan k (owed_events f empty_cache [] + own_costs_of k (acts_of_plan plan)) slot (AtRest f empty_cache) (rests_empty f empty_cache [] refl refl nothing_yet) (omega (arith, own, owed)) fresh in
           subst (λ (kind : Bool). StartsAs kind plan k slot) (sym (le-leb k (threads_of plan) (omega (arith, within)))) starts
     ]
 
@@ -164,7 +164,7 @@ module _ {r : Replay} {h : Hand} (so : SoFar r [] h) (empty : AreEmpty h.caches)
   ]
 
   bare_at : (k : ℕ) → HasNothing (part k so.0.list)
-  bare_at k = elim (cases_lt (r.threads + r.keepers) k) [ inl past ↦ subst HasNothing (sym (so.1.nobody k past)) nothing | inr within ↦ bare k (omega (arith, within)) ]
+  bare_at k = elim (cases_lt (r.threads + r.keepers) k) [ inl past ↦ subst HasNothing (sym (so.1.nobody k past)) nothing_yet | inr within ↦ bare k (omega (arith, within)) ]
 
 -- A replay without acts left, whose actors have nothing, shows its plan by the words of its region.
 pub shows : {plan : Plan} {region : PlainRegion} (actors : Actors) (table : Names) {out : Records} {state : State} (limit : ℕ) → IsValid (region_of plan)

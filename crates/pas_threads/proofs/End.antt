@@ -19,7 +19,8 @@ use Rattle.pas_answers.specs.{Answers.Progress, Fit.AreOfThreads, Ways.OnThreads
 use Rattle.pas_answers.specs.Replays.{phases_of, region_of, threads_of, acts_of_plan, at_start, Shows}
 use Rattle.pas_answers.proofs.Consequences.{replays}
 use Rattle.pas_trace.proofs.Keepers.{plan_actors}
-use Rattle.pas_acts.proofs.Nothing.{nothing, no_slots}
+use Rattle.pas_acts.proofs.Nothing.{no_slots}
+use Rattle.pas_steps.proofs.Nothing.{nothing_yet}
 use Rattle.pas_threads.specs.Hands.{HasPass}
 use Rattle.pas_threads.specs.Sessions.{Session, TeamAt, IsOfActors, HasReplayed}
 use Rattle.pas_threads.specs.Kits.{AreAllBack, slots_of, kept_pass, kept_passes}
@@ -223,7 +224,7 @@ module _ {region : SharedRegion} {s : Session} {team : Team} {end : Progress} (s
       | inl kept ↦
           let place : s.threads + suc (i - s.threads) ≡ suc i = omega (arith, past) in
           subst (λ (k : ℕ). HasNothing (part k end.list)) place (keeper_bare low (i - s.threads) (omega (arith, past, kept)) stands.guarded)
-      | inr far ↦ subst HasNothing (sym (stands.nobody (suc i) (omega (arith, far)))) nothing
+      | inr far ↦ subst HasNothing (sym (stands.nobody (suc i) (omega (arith, far)))) nothing_yet
     ]
   ]
 

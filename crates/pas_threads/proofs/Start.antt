@@ -24,8 +24,9 @@ use Rattle.pas_answers.specs.{Calls.owed_events, Names.names_held}
 use Rattle.pas_answers.specs.Replays.{at_start, phases_of, region_of, threads_of, keepers_of}
 use Rattle.pas_acts.specs.{PlanKeepers.one_guarded, PlanKeepers.guarded_of, Parts.AreRooms, Shares.AreKeptBehind, Keepers.LaterKept, Keepers.KeeperAt}
 use Rattle.pas_acts.specs.{Keepers.keeper_has, Pairs.for_guards, Pairs.AreTriedBy, Pairs.AreUnguarded}
-use Rattle.pas_acts.proofs.{KeeperActs.is_guarded, NameLimits.below_all, Nothing.nothing, Nothing.pages_owed_at_first, PlanFacts.plan_threads}
-use Rattle.pas_acts.proofs.{PlanFacts.plan_above, PlanFacts.wider_sound, PhaseActs.active_within, NamesBefore.names_at_start}
+use Rattle.pas_acts.proofs.{KeeperActs.is_guarded, NameLimits.below_all, Nothing.pages_owed_at_first, PlanFacts.plan_threads, PlanFacts.plan_above}
+use Rattle.pas_acts.proofs.{PlanFacts.wider_sound, PhaseActs.active_within, NamesBefore.names_at_start}
+use Rattle.pas_steps.proofs.Nothing.{nothing_yet}
 use Rattle.pas_threads.specs.Hands.{standing_of_pass}
 use Rattle.pas_threads.specs.Kits.{IsEquipped, AreEquipped, IsNew, AreNew, IsSupplied, IsKeeperFor, IsKitOf}
 use Rattle.pas_threads.specs.Pairs.{no_more, KeeperRests, owed_kept, keeper_at, owed_by_keepers, AreGuarded}
@@ -168,7 +169,7 @@ starts_at region f k bound later pass worker of_profile within unused has =
             actor = unused.actor;
             profile = unused.of_region.1 ∙ of_profile;
             stood = unused.no_step;
-            rest = rests_empty f (cached worker.cache) [] (ap (λ (c : Cached). c.locals) has.cache) (ap (λ (c : Cached). c.log) has.cache) nothing;
+            rest = rests_empty f (cached worker.cache) [] (ap (λ (c : Cached). c.locals) has.cache) (ap (λ (c : Cached). c.log) has.cache) nothing_yet;
             room = omega (arith, owed, room, within);
           };
           cache = sym has.cache;
@@ -204,7 +205,7 @@ scavenger_starts region f bound later pass scavenger of_profile within unused re
       has = record { pass = pass; present = ready.present; of = unused.of_region };
       at = record {
         stands = record {
-          sits = record { actor = unused.actor; profile = unused.of_region.1 ∙ of_profile; stood = unused.no_step; rest = nothing; room = omega (arith, room, within) };
+          sits = record { actor = unused.actor; profile = unused.of_region.1 ∙ of_profile; stood = unused.no_step; rest = nothing_yet; room = omega (arith, room, within) };
           spare = omega (arith, none, ready.records, within);
         };
         has_places = ready.places;
@@ -262,7 +263,7 @@ keeper_starts region plan k pass o of_profile tried within unused has =
     let none = ap (λ (rs : List Record). length rs) has.said in
     let up = ap (λ (gs : List Guard). length gs) has.empty in
     let fits : FitsBook f (guards_in there.book) [] =
-    subst (λ (gs : List Guard). FitsBook f gs []) (sym has.empty) (record { apart = tt; of_region = tt; knows = tt; held = nothing.grains; rights = nothing.rights; clear = nothing.clear }) in
+    subst (λ (gs : List Guard). FitsBook f gs []) (sym has.empty) (record { apart = tt; of_region = tt; knows = tt; held = nothing_yet.grains; rights = nothing_yet.rights; clear = nothing_yet.clear }) in
     let at : KeeperAt f actor (keeper_has (standing_of_pass pass) there.book there.out) (for_guards (own_acts k ops) no_more) at_start = record {
       sits = record { actor = unused.actor; profile = unused.of_region.1 ∙ of_profile; stood = unused.no_step; rest = fits; room = omega (arith, room, within, events, owed) };
       book = sym has.empty;
