@@ -33,6 +33,7 @@ pub fn workers_of(
 }
 
 /// Each worker takes the slots of a page of the smallest class, and keeps them.
+#[derive(Drop)]
 pub struct RefillFirst;
 
 impl Job<Answer> for RefillFirst {

@@ -1,5 +1,5 @@
 //! Threads in a storm at one shared region, each with a cache of its own.
-ghost use Rattle.std.specs.Prelude.{◌≡◌, ◌≤◌, All, IfOk};
+ghost use Rattle.std.specs.Prelude.{◌≡◌, ◌≤◌, ⊤, All, IfOk};
 ghost use Rattle.pas_utility.specs.Pools.{threads_of};
 ghost use Rattle.pas_shared.specs.{Passes.IsPassOf, Passes.IsFreshPass, Workers.HasPass};
 ghost use Rattle.pas_trials.specs.SharedStorms.{IsReadyForStorm, MayTakeTurns};
@@ -60,6 +60,7 @@ pub fn storm_workers(
 }
 
 /// So many turns of each thread, in a room for so many events.
+#[derive(Drop)]
 struct Turns {
     events: u32,
     turns: u64,

@@ -10,5 +10,5 @@ loop-pass-preserved c =
     let inv = c.loop-pass.invariant in
     let is = c.in-Some.ensures.steps.0 in
     let fresh = first_is (IsFreshPass region 2) _ _ _ is inv.0 in
-    let ready = record { has_pass = refl; of_region = fresh.of_region; may = fresh } in
-    (others_are (IsFreshPass region 2) _ _ _ is inv.0, all_more (IsReadyForRace region) _ _ _ c.in_ok-push.ensures.items inv.1 ready)
+    let more = all_more (IsReadyForRace region) _ _ _ c.in_ok-push.ensures.items inv.1 (record { has_pass = refl; of_region = fresh.of_region; may = fresh }) in
+    (others_are (IsFreshPass region 2) _ _ _ is inv.0, more)

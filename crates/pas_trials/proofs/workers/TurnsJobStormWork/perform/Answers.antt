@@ -3,10 +3,10 @@ use Rattle.pas_steps.specs.Views.{View}
 use Rattle.pas_steps.proofs.Nothing.{nothing_yet}
 use Rattle.pas_cache.specs.Caches.{cached, AtRest}
 use Rattle.pas_shared.specs.Passes.{view_of, seat_of}
-use Rattle.pas_trials.proofs.workers.TurnsJob.perform.Goals as goal
+use Rattle.pas_trials.proofs.workers.TurnsJobStormWork.perform.Goals as goal
 
-pub run-requires : goal.run-requires
-run-requires c =
+pub run-work-requires : goal.run-work-requires
+run-work-requires c =
     let may = c.requires.may in
     let pass = c.args.desk.now.pass in
     let f = (seat_of pass).profile in
