@@ -1,4 +1,4 @@
--- The keeper of a new region may begin.
+-- Two actors at a new region are in a storm, and the keeper of one may begin.
 use Rattle.std.proofs.Common.{◌≡◌, ℕ, ◌-◌, ◌≤◌, List, [], length, refl, ap, sym, ◌∙◌, subst, arith}
 use Rattle.pas_profile.specs.declared.profile.Profile.{Profile}
 use Rattle.pas_steps.specs.{Desks.Seat, Desks.Standing, Desks.CanCall, Lists.Whole, Unknown.unknown_pages, Views.View}
@@ -8,9 +8,24 @@ use Rattle.pas_report.specs.Rooms.{records_in, room_of, Records}
 use Rattle.pas_report.specs.declared.record.Record.{Record}
 use Rattle.pas_guard.specs.Books.{FitsBook, guards_in, size_of_book}
 use Rattle.pas_guard.specs.declared.book.{Guard.Guard, GuardBook.GuardBook}
-use Rattle.pas_plain.specs.{Plain.events_shown, Plain.room_of_pass, Storms.StormStands, Storms.seat_for}
-use Rattle.pas_plain.specs.declared.{pass.PlainPass.PlainPass, region.PlainRegion.PlainRegion}
+use Rattle.pas_plain.specs.{Plain.events_shown, Plain.room_of_pass, Seats.region_of, Seats.pass_of, Seats.Opens, Storms.StormStands, Storms.seat_for}
+use Rattle.pas_plain.specs.declared.{desk.PlainDesk.PlainDesk, pass.PlainPass.PlainPass, region.PlainRegion.PlainRegion}
 use Rattle.pas_tests.specs.Kept.{guarded_region, Begins, MayKeep}
+
+-- Once the actor at the desk of a new region has risen, the region and both passes stand for a storm.
+pub storm_stands : {desk : PlainDesk} {region : PlainRegion} {own foreign : PlainPass} {room : ℕ} → Opens desk foreign room → region ≡ region_of desk
+    → own ≡ pass_of desk → StormStands region own foreign [] []
+storm_stands {desk} {region} {own} {foreign} opens at of =
+    let begun : StormStands (region_of desk) (pass_of desk) foreign [] [] = record {
+      region_stands = opens.stood.region;
+      own_part = opens.stood.pass;
+      foreign_part = opens.rests;
+      other = λ same. opens.other (sym same);
+      part_is = refl;
+      nothing = nothing_yet;
+    } in
+    subst (λ (r : PlainRegion). StormStands r own foreign [] []) (sym at)
+    (subst (λ (p : PlainPass). StormStands (region_of desk) p foreign [] []) (sym of) begun)
 
 -- an actor that made no step fits an empty book
 fits_empty : (f : Profile) → FitsBook f [] []

@@ -8,8 +8,8 @@ ghost use Rattle.pas_tests.specs.Kept.{guarded_region, Begins};
 
 use crate::keeping::keep;
 use pas_guard::GuardBook;
-use pas_plain::{PlainPass, PlainRegion, close};
-use pas_profile::{Block, Event, EventRoom, NoMemory, Profile};
+use pas_plain::{PlainPass, PlainRegion, beside, close};
+use pas_profile::{Block, Event, NoMemory, Profile};
 use pas_report::{Record, Records, Said};
 use pas_steps::State;
 use pas_trials::{Fault, Guest, Hands, Visit, judge};
@@ -60,18 +60,9 @@ fn profile() -> Profile
 fn opened(alloc: Global) -> Result<(PlainRegion, PlainPass, PlainPass), Fail>
     ensures begins { IfOk result (λ opened. Begins opened.0 opened.1 opened.2 12 4000) }
 {
-    let mut rooms = Vec::new(alloc);
-    rooms.push(EventRoom::try_new(alloc, 0)?)?;
-    rooms.push(EventRoom::try_new(alloc, EVENTS)?)?;
-    rooms.push(EventRoom::try_new(alloc, EVENTS)?)?;
-    let (region, mut passes) = PlainRegion::try_new(alloc, profile(), rooms)?;
-    let Some(second) = passes.pop() else {
-        return Err(NoMemory.into());
-    };
-    let Some(first) = passes.pop() else {
-        return Err(NoMemory.into());
-    };
-    Ok((region, first, second))
+    let (desk, foreign) = beside(alloc, profile(), EVENTS)?;
+    let (region, own) = desk.into_parts();
+    Ok((region, own, foreign))
 }
 
 /// The intruder, actor 2, with these visits.
