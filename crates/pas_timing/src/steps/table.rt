@@ -1,14 +1,14 @@
 //! The table of what was measured: processor time, since the clock on the wall also counts what others do on the machine.
 ghost use Rattle.std.specs.Prelude.{◌≡◌, ◌≤◌, ◌<◌, All, IfOk};
 ghost use Rattle.pas_steps.specs.Desks.{AnyView, CanCall};
-ghost use Rattle.pas_shared.specs.Passes.{IsFreshPass};
-ghost use Rattle.pas_timing.specs.Repeats.{IsReady};
+ghost use Rattle.pas_shared.specs.Passes.{profile_of, IsFreshPass};
+ghost use Rattle.pas_timing.specs.Repeats.{bench_profile, IsReadyToTake};
 
 use crate::steps::bare;
 use crate::steps::opened::{THREADS, plain, shared};
 use crate::steps::repeating::{Kind, repeat};
-use crate::steps::sharing::{Worker, work_at_once};
-use pas_shared::{SharedPass, SharedRegion};
+use crate::steps::sharing::Takes;
+use pas_shared::{SharedPass, SharedRegion, Worker, seat_all};
 use pas_steps::Desk;
 use pas_trials::{gather, run_storm, storm_workers};
 use pas_utility::Utility;
@@ -118,10 +118,11 @@ fn workers_of(
     passes: Vec<SharedPass>,
     threads: usize,
     spread: bool,
-) -> io::Result<Vec<Worker>>
+) -> io::Result<Vec<Worker<u32>>>
     requires threads { threads ≤ 4 }
+    requires profile { profile_of region.now ≡ bench_profile }
     requires passes { All (IsFreshPass region.now 1) passes.items }
-    ensures { IfOk result (λ workers. All (IsReady region.now) workers.items) }
+    ensures { IfOk result (λ workers. All (IsReadyToTake region.now) workers.items) }
 {
     let _ = region;
     let mut workers = Vec::new(alloc);
@@ -130,7 +131,7 @@ fn workers_of(
         if number < threads {
             workers.push(Worker {
                 pass: Some(pass),
-                page: page_of(number as u32, spread),
+                work: page_of(number as u32, spread),
             })?;
         }
     }
@@ -152,8 +153,9 @@ fn of_threads<R: CpuClock + Threads + Sync>(
         return Err(ErrorKind::OutOfMemory.into());
     };
     let mut workers = workers_of(alloc, &region, passes, threads, spread)?;
+    let job = Takes { rounds };
     let start = rt.process_cpu_time()?;
-    work_at_once(rt, &region, &mut workers, rounds);
+    seat_all(rt, &region, &mut workers, &job, THREADS as usize);
     since(rt, start, rounds.saturating_mul(threads as u64).max(1), 0)
 }
 

@@ -6,7 +6,7 @@ use Rattle.pas_steps.specs.Views.{View}
 use Rattle.pas_steps.proofs.Called.{next_call}
 use Rattle.pas_shared.specs.Passes.{view_of}
 use Rattle.pas_trials.specs.Trials.{MayLeaveIf}
-use Rattle.pas_timing.proofs.steps.sharing.work.Goals as goal
+use Rattle.pas_timing.proofs.steps.sharing.TakesJobU32.perform.Goals as goal
 
 may_leave : (got : Bool) (page : ℕ) (d : Directory) (v : View) → got ≡ true → MayLeaveIf got page d v → MayLeave page d v
 may_leave true page d v is may = may
@@ -14,4 +14,4 @@ may_leave false page d v is may = absurd (false≢true is)
 
 pub take_often-requires-clause-can : goal.take_often-requires-clause-can
 take_often-requires-clause-can c =
-    next_call c.occupy.ensures.brings.calls (record { view = view_of c.desk-desk.result.pass; whole = []; stood = refl; met = tt }) (λ v met b. may_leave _ _ _ _ c.if-occupy.true b)
+    next_call c.occupy.ensures.brings.calls (record { view = view_of c.args.desk.now.pass; whole = []; stood = refl; met = tt }) (λ v met b. may_leave _ _ _ _ c.if-occupy.true b)
