@@ -230,11 +230,17 @@ pub pair_given : {f : Profile} {keeper : ℕ} {p : Progress} {σ σ' : Standing}
     → TriesTask f keeper task (Some b) σ σ' kept kept' (for_guards rest more) p → RestsAt f op.actor σ c out (and_for (cost_of_what op.what) later) p
     → c' ≡ settled c
     → PairActs f op.actor keeper (head_acts op) (named_by op.what (Some b)) (here σ c out) (here σ' c' out) kept kept' later (for_guards rest more) p
-    × MayStand f (Some b)
 pair_given b more (Task.Guarded k name heap size align) op rest (OneKeeper h) (OneKeeper h') asks guarded apart waits tries at done =
-    (given_acts op apart (ap (λ (w : What). request_in w) asks) (its_keeper more op rest k (kept_by op (Task.Guarded k name heap size align) asks) waits) tries.0 b refl (ap (λ (w : What). cost_of_what w) asks) tries.1 at done, tries.0.given)
+    given_acts op apart (ap (λ (w : What). request_in w) asks) (its_keeper more op rest k (kept_by op (Task.Guarded k name heap size align) asks) waits) tries.0 b refl (ap (λ (w : What). cost_of_what w) asks) tries.1 at done
 pair_given b more (Task.Guarded k name heap size align) op rest _ _ asks guarded apart waits tries at done = absurd tries
 pair_given b more task op rest kept kept' asks guarded apart waits tries at done = absurd (let bad = guarded refl in cc)
+
+-- The block that the keeper gave may stand for a name.
+pub given_stands : (f : Profile) (keeper : ℕ) (σ σ' : Standing) (more : LaterKept) (p : Progress) (b : Block) (task : Task) (kept kept' : Keeping)
+    → (keeper_of task ≡ None → Some b ≡ None) → TriesTask f keeper task (Some b) σ σ' kept kept' more p → MayStand f (Some b)
+given_stands f keeper σ σ' more p b (Task.Guarded k name heap size align) (OneKeeper h) (OneKeeper h') guarded tries = tries.0.given
+given_stands f keeper σ σ' more p b (Task.Guarded k name heap size align) _ _ guarded tries = absurd tries
+given_stands f keeper σ σ' more p b task kept kept' guarded tries = absurd (let bad = guarded refl in cc)
 
 -- .. and where it gave none, or the task is no guarded request: the thread does it
 waits_past : (f : Profile) (keeper : ℕ) (more : LaterKept) (p : Progress) (op : Op) (rest : List Act) (kept : Keeping)

@@ -2,7 +2,7 @@
 ghost use Rattle.std.specs.Prelude.{◌≡◌, ◌<◌, ℕ};
 ghost use Rattle.pas_profile.specs.Profiles.{IsAdmitted};
 ghost use Rattle.pas_profile.specs.declared.profile.Profile.{Profile as TheProfile};
-ghost use Rattle.pas_answers.specs.Answers.{Progress};
+ghost use Rattle.pas_answers.specs.{Answers.Progress, Calls.MayStand};
 ghost use Rattle.pas_acts.specs.Keepers.{keeper_has, LaterKept, and_try, KeeperAt, KeeperTries, KeeperLowers};
 
 use pas_guard::GuardBook;
@@ -26,6 +26,7 @@ pub fn try_guarded<D: Desk>(
     requires stands { (f : TheProfile) × (k : ℕ) × (later : LaterKept) × (p : Progress) × KeeperAt f k (keeper_has (D.standing desk.old) book.old out.old) (and_try size later) p }
     ensures tries { (f : TheProfile) (k : ℕ) (later : LaterKept) (p : Progress) → KeeperAt f k (keeper_has (D.standing desk.old) book.old out.old) (and_try size later) p
         → KeeperTries f k (record { name = name; heap = heap; size = size; align = align }) result (keeper_has (D.standing desk.old) book.old out.old) (keeper_has (D.standing desk.new) book.new out.new) later p }
+    ensures stands { MayStand (D.standing desk.old).seat.profile result }
     ensures home { D.home desk.new ≡ D.home desk.old }
 {
     pas_answers::try_guarded(desk, book, name, heap, size, align, out)

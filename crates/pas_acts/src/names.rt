@@ -7,7 +7,7 @@ use pas_profile::{Block, NoMemory, Room};
 use pas_trace::{Op, What};
 use std::alloc::Global;
 
-/// A request of a thread: its name, and what it came to. 32 bytes.
+/// A request of a thread: its name, and what it came to. 16 bytes.
 #[derive(Clone, Copy, Drop)]
 pub struct Request {
     name: u32,
@@ -18,7 +18,7 @@ pub struct Request {
 pub type Requests = Room<Request>;
 
 /// What the names stood for when the phase began, and for each name that is asked for in the phase its place among those that its thread asks for in
-/// it. All threads of a phase share it. 28 bytes a name.
+/// it. All threads of a phase share it. 16 bytes a name.
 #[derive(Drop)]
 pub struct NameBook {
     names: Names,
@@ -55,12 +55,13 @@ impl Counts {
 
 impl Request {
     ghost use Rattle.std.specs.Prelude.{◌≡◌, map};
-    ghost use Rattle.pas_answers.specs.Answers.{named};
+    ghost use Rattle.pas_answers.specs.{Answers.named, Names.MayPack};
     ghost use Rattle.pas_acts.specs.NameBooks.{named_of, request_at};
 
     /// The request of this name, which came to this block.
     #[inline]
     pub fn of(name: u32, block: Option<Block>) -> Request
+        requires { MayPack block }
         ensures { named_of result ≡ named name block }
     {
         Request {
@@ -141,7 +142,7 @@ impl NameBook {
         ensures block { (n : ℕ) → block_named self.new.names n ≡ (if name == n then block_in meaning else block_named self.old.names n) }
         ensures room { names_held self.new.names ≡ names_held self.old.names }
     {
-        self.names.set(name, meaning.block());
+        self.names.set_meaning(name, meaning);
     }
 
     /// The name that an operation asks for, if any.

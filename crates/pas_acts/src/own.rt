@@ -3,7 +3,7 @@ ghost use Rattle.std.specs.Prelude.{◌≡◌, ◌≢◌, ◌+◌, ◌<◌, ◌�
 ghost use Rattle.pas_profile.specs.declared.profile.Profile.{Profile as TheProfile};
 ghost use Rattle.pas_cache.specs.Caches.{cached};
 ghost use Rattle.pas_trace.specs.{Asked.request_of, Asked.freed_of, Asked.keeper_of, Acts.Act, Acts.own_acts};
-ghost use Rattle.pas_answers.specs.{Answers.Progress, Calls.what_of, Calls.named_with};
+ghost use Rattle.pas_answers.specs.{Answers.Progress, Calls.what_of, Calls.named_with, Names.MayPack};
 ghost use Rattle.pas_acts.specs.NameBooks.{requests_in, room_for, names_of, name_asked, ArePlaced, known_in, table};
 ghost use Rattle.pas_acts.specs.{Works.keeps, Works.Later, Keepers.LaterKept, Keepers.StandsAt};
 ghost use Rattle.pas_acts.specs.Pairs.{head_acts, MayTryTask, TriesTask, PairAt, PairWorks};
@@ -36,7 +36,8 @@ fn freed(book: &NameBook, requests: &Requests, task: Task) -> Option<Block>
 /// Keeps what the name that the task asked for came to.
 #[inline(always)]
 fn keep(requests: &mut Requests, task: Task, came: Option<Block>)
-    requires { length (requests_in requests.old) + length (name_asked (what_of task)) ≤ room_for requests.old }
+    requires room { length (requests_in requests.old) + length (name_asked (what_of task)) ≤ room_for requests.old }
+    requires packs { MayPack came }
     ensures kept { requests_in requests.new ≡ requests_in requests.old ++ named_with (request_of task) came }
     ensures room { room_for requests.new ≡ room_for requests.old }
 {

@@ -3,6 +3,7 @@ mod Frees
 pub mod Requests
 mod Reallocations
 pub mod Kept
+pub mod Meanings
 mod Records
 pub mod OwnRecords
 pub mod KnownNames

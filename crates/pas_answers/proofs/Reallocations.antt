@@ -1,7 +1,7 @@
 -- What a reallocation promises.
 use Rattle.std.proofs.Common.{◌≡◌, ℕ, ◌+◌, ◌<◌, ◌≤◌, ◌++◌, Bool, true, false, if◌then◌else◌, List, [], ◌∷◌, length, Option, Some, None, Result, Ok, Err, inl}
 use Rattle.std.proofs.Common.{inr, refl, ap, sym, ◌∙◌, subst, arith, length-append, append_assoc, nat_le, ◌-◌, ◌/◌, leb-true}
-use Rattle.pas_profile.specs.Profiles.{IsAdmitted}
+use Rattle.pas_profile.specs.Profiles.{IsValid, IsAdmitted}
 use Rattle.pas_profile.specs.declared.{event.NoRoom.NoRoom, name.Block.Block, profile.Profile.Profile}
 use Rattle.pas_steps.specs.declared.step.Made.{Made}
 use Rattle.pas_steps.specs.{Views.View, Agreement.Agreed, Events.events_by, Desks.Standing, Desks.CanCall}
@@ -166,14 +166,14 @@ module _ (σ σ' : Standing) (c c' : Cached) (name n heap size align : ℕ) (old
       )
 
   -- the new block may be freed or reallocated
-  pub new_stands : (spare : ℕ) (block : Block) → IsAdmitted σ.seat.profile size align old.heap
+  pub new_stands : (spare : ℕ) (block : Block) → IsValid σ.seat.profile → IsAdmitted σ.seat.profile size align old.heap
       → CanCall σ (MayPerform σ.seat.profile c (Remake name n heap size align) spare) → {answer : Result Moved NoRoom} → answer ≡ Ok (New block) → CameTo answer
       → MayStand σ.seat.profile (Some block)
-  new_stands spare block admitted can came m0 =
+  new_stands spare block valid admitted can came m0 =
       let m : CameTo (Ok (New block)) = subst CameTo came m0 in
       let is = m.moved in
       let agreed = subst (Agreed f can.view) is.steps_are (m.calls.adds.agreed can.view can.whole can.stood can.met.rest) in
-      block_stands f c old.heap size align is.placed block can.view admitted can.met.rest (agreed_later f can.view is.freed is.placed agreed) is.block_for
+      block_stands f c old.heap size align is.placed block can.view valid admitted can.met.rest (agreed_later f can.view is.freed is.placed agreed) is.block_for
 
 -- ---- by the task
 -- what is promised of it

@@ -21,8 +21,8 @@ use Rattle.pas_steps.specs.{Unknown.unknown_pages}
 use Rattle.pas_steps.specs.Lists.{Whole, part, word_after, visible, Legal}
 use Rattle.pas_trace.specs.declared.{item.Request.Request, plan.What.TheVariants.Alloc, plan.What.TheVariants.Guarded, plan.Task.Task}
 use Rattle.pas_cache.specs.Caches.{Cached, AtRest}
-use Rattle.pas_trace.specs.Reasons.{cost_of_size}
-use Rattle.pas_trace.proofs.Costs.{small_cost, large_cost, some_cost}
+use Rattle.pas_trace.specs.{Reasons.cost_of_size, EveryPlan.IsRoomNamed}
+use Rattle.pas_trace.proofs.{Costs.small_cost, Costs.large_cost, Costs.some_cost, Rooms.room_named}
 use Rattle.pas_cache.specs.Calls.{Allocates, AllocatesPages, most_events, IsNamed, MayRequestBy, MayRequest, AllocatesBy, AllocatesRequest}
 use Rattle.pas_cache.proofs.Budget.{log_kept}
 use Rattle.pas_cache.specs.Serves.{IsSmallRoute, Wanted, wanted_for, pages_of, IsBlockFor, IsDeedOf, IsSilent, MakesFew, MakesAtMost, MakesDeedsOf}
@@ -156,26 +156,27 @@ sixteenth a align is at =
     ap (λ n. n % 16) (bytes ∙ ap (λ n. a / align * n) (sym whole) ∙ sym (mul_assoc (a / align) (align / 16) 16)) ∙ mul-mod_left (a / align * (align / 16)) 16
 
 -- a block that was given may be freed or reallocated
-pub block_stands : (f : Profile) (c : Cached) (heap size align : ℕ) (steps : List Made) (block : Block) (v : View) → IsAdmitted f size align heap → AtRest f c v
-    → Agreed f v steps → IsBlockFor f (wanted_for f heap size align) (AtRest f c) steps block → MayStand f (Some block)
-block_stands f c heap size align steps block v admitted rest agreed of =
+pub block_stands : (f : Profile) (c : Cached) (heap size align : ℕ) (steps : List Made) (block : Block) (v : View) → IsValid f → IsAdmitted f size align heap
+    → AtRest f c v → Agreed f v steps → IsBlockFor f (wanted_for f heap size align) (AtRest f c) steps block → MayStand f (Some block)
+block_stands f c heap size align steps block v valid admitted rest agreed of =
     let some = some_grains f.classes size align (route_in f size align) (route_is f.classes size align) in
     let room = ap (λ n. n / 16) of.room in
     let page = of.of_region (grain_of block.name) (first_of_run (grain_of block.name) (length_of block) (omega (arith, some, room))) in
     let same : grain_of block.name / 256 ≡ address_of block.name / 4096 = omega arith in
     λ b is. subst (IsBlockOf f) (same_Some _ _ is) record {
       region = record { page = subst (IsPage f) same page; aligned = sixteenth (address_of block.name) align admitted.aligned of.aligned };
+      room = subst (λ n. IsRoomNamed f (Some n)) (sym of.room) (room_named f size align valid admitted.within);
       heap = omega (arith, of.of_heap, admitted.of_profile);
       turn = omega (arith, of.turn.from v rest agreed);
     }
 
 -- The block of a request that was served may stand for its name in the region.
 pub given_stands : {σ σ' : Standing} {found : Option ℕ} (c c' : Cached) (name heap size align spare : ℕ) (block : Block)
-    → IsAdmitted σ.seat.profile size align heap
+    → IsValid σ.seat.profile → IsAdmitted σ.seat.profile size align heap
     → CanCall σ (MayPerform σ.seat.profile c (Alloc name heap size align) spare)
     → Serves (cost_of_size size) (wanted_for σ.seat.profile heap size align) found c c' σ σ' (Ok block) → MayStand σ.seat.profile (Some block)
-given_stands {σ} c c' name heap size align spare block admitted can call =
-    block_stands σ.seat.profile c heap size align call.steps block can.view admitted can.met.rest (call.calls.adds.agreed can.view can.whole can.stood can.met.rest) call.outcome
+given_stands {σ} c c' name heap size align spare block valid admitted can call =
+    block_stands σ.seat.profile c heap size align call.steps block can.view valid admitted can.met.rest (call.calls.adds.agreed can.view can.whole can.stood can.met.rest) call.outcome
 
 -- what is known of its give, by one view
 pub is_given : (f : Profile) (k : ℕ) (w : Wanted) (c : Cached) (steps : List Made) (block : Block) (v : View) → AtRest f c v → Agreed f v steps

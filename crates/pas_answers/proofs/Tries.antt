@@ -165,8 +165,8 @@ module _ (f : Profile) (heap n : ℕ) (guards guards' : List Guard) (steps : Lis
     page_is : address_of block.name ≡ (up.first + 1) * 4096
     page_is = ap (λ (b : Block). address_of b.name) up.block_is
 
-    block_of_region : (v : View) → heap < f.heaps → Agreed f v steps → IsBlockOf f block
-    block_of_region v of agreed = search (arith, turn_small, page_is)
+    block_of_region : (v : View) → heap < f.heaps → 1 ≤ n → n ≤ f.pages → Agreed f v steps → IsBlockOf f block
+    block_of_region v of some within agreed = search (arith, turn_small, page_is)
 
     -- the pages of the block are known to have the directory as their deed
     deeds_known : (v : View) → FitsBook f guards v → Agreed f v steps → (g : ℕ) → in_run (grain_of block.name) (length_of block) g ≡ true
@@ -351,13 +351,15 @@ module _ {σ σ1 σ2 : Standing} (r : Request) (book book1 book2 : GuardBook) (o
   after_sweep can = next_call (sweep_call s) can (λ v met here. subst (λ (x : Seat). FitsBook x.profile guards1 (s.steps ++ v)) (sym s.adds.seat_is) here)
 
   -- After a raise a desk has shown no fewer events than before it.
-  pub more_shown : (old new : List Event) → IsShown σ1 old → IsShown σ2 new → CanCall σ (FitsBook f (guards_in book)) → length old ≤ length new
-  more_shown old new before after can = shown_longer u.adds old new before after (after_sweep can)
+  pub more_shown : {gone : ℕ} (old new : List Event) → IsShown gone σ1 old → IsShown gone σ2 new → CanCall σ (FitsBook f (guards_in book))
+      → length old ≤ length new
+  more_shown {gone} old new before after can = shown_longer u.adds old new before after (after_sweep can)
 
   -- the events that are shown more are those of the raise
-  shown_of : (old new : List Event) → IsShown σ1 old → IsShown σ2 new → (v : View) (l : Whole) → σ.stands v l → FitsBook f (guards_in book) v
+  shown_of : {gone : ℕ} (old new : List Event) → IsShown gone σ1 old → IsShown gone σ2 new → (v : View) (l : Whole) → σ.stands v l
+      → FitsBook f (guards_in book) v
       → drop (length old) new ≡ reverse (events_by k (s.steps ++ v) u.steps)
-  shown_of old new before after v l stood met =
+  shown_of {gone} old new before after v l stood met =
       let here = fits_then v met (s.adds.agreed v l stood met) in
       shown_new u.adds old new before after (s.steps ++ v) (triples k s.steps ++ l) (s.adds.added v l stood met) (subst (λ (x : Seat). FitsBook x.profile guards1 (s.steps ++ v)) (sym s.adds.seat_is) here)
       ∙ ap (λ (x : Seat). reverse (events_by x.actor (s.steps ++ v) u.steps)) s.adds.seat_is
@@ -366,9 +368,9 @@ module _ {σ σ1 σ2 : Standing} (r : Request) (book book1 book2 : GuardBook) (o
   both_agreed v l stood met = both_call.adds.agreed v l stood met
 
   -- there is room for what is said
-  pub told_fits : (spare : ℕ) (old new : List Event) → IsShown σ1 old → IsShown σ2 new → CanCall σ (MayTry f book r.size spare out)
+  pub told_fits : {gone : ℕ} (spare : ℕ) (old new : List Event) → IsShown gone σ1 old → IsShown gone σ2 new → CanCall σ (MayTry f book r.size spare out)
       → length (records_in out1) + length (drop (length old) new) + 1 ≤ room_of out
-  told_fits spare old new before after can =
+  told_fits {gone} spare old new before after can =
       let v = can.view in
       let es = events_by k (s.steps ++ v) u.steps in
       let shown = ap (λ (xs : List Event). length xs) (shown_of old new before after v can.whole can.stood can.met.fits) ∙ length-reverse es in
@@ -379,13 +381,15 @@ module _ {σ σ1 σ2 : Standing} (r : Request) (book book1 book2 : GuardBook) (o
 
   -- ---- the answer
   -- the block that was given may be freed
-  stands_by : (a : Option Block) (v : View) → r.heap < f.heaps → RaiseSteps f r.heap n guards1 guards2 a u.steps → Agreed f v u.steps → MayStand f a
-  stands_by None v of raise agreed = λ block same. absurd (let bad : None ≡ Some block = same in cc)
-  stands_by (Some block) v of raise agreed = λ b same. subst (IsBlockOf f) (same_Some _ _ same) (block_of_region f r.heap n guards1 guards2 u.steps block raise v of agreed)
+  stands_by : (a : Option Block) (v : View) → r.heap < f.heaps → r.size ≤ f.pages * 4096 → RaiseSteps f r.heap n guards1 guards2 a u.steps → Agreed f v u.steps
+      → MayStand f a
+  stands_by None v of within raise agreed = λ block same. absurd (let bad : None ≡ Some block = same in cc)
+  stands_by (Some block) v of within raise agreed = λ b same.
+      subst (IsBlockOf f) (same_Some _ _ same) (block_of_region f r.heap n guards1 guards2 u.steps block raise v of (omega (arith, is, large)) (omega (arith, is, within)) agreed)
 
   -- The block of a raise may stand for its name in the region.
-  pub given_stands : r.heap < f.heaps → CanCall σ (FitsBook f (guards_in book)) → MayStand f answer
-  given_stands of can = stands_by answer (s.steps ++ can.view) of raise_so (agreed_first f can.view u.steps s.steps (both_agreed can.view can.whole can.stood can.met))
+  pub given_stands : r.heap < f.heaps → r.size ≤ f.pages * 4096 → CanCall σ (FitsBook f (guards_in book)) → MayStand f answer
+  given_stands of within can = stands_by answer (s.steps ++ can.view) of within raise_so (agreed_first f can.view u.steps s.steps (both_agreed can.view can.whole can.stood can.met))
 
   -- what is said of the guard that went up, if any
   pub said_some : (block : Block) (actor : ℕ) (message : Said) → actor ≡ σ2.seat.actor
@@ -398,21 +402,22 @@ module _ {σ σ1 σ2 : Standing} (r : Request) (book book1 book2 : GuardBook) (o
   said_none rs none = sym (ap (λ (a : Option Block). rs ++ said_of_guard k r.name (pages_of (wanted_by f r)) a) none ∙ append-nil rs)
 
   -- the keeper's records, in the order in which they came
-  told_are : (out2 out3 : Records) (old new : List Event) → IsShown σ1 old → IsShown σ2 new
+  told_are : {gone : ℕ} (out2 out3 : Records) (old new : List Event) → IsShown gone σ1 old → IsShown gone σ2 new
       → records_in out2 ≡ records_in out1 ++ map Record.Event (drop (length old) new)
       → records_in out3 ≡ records_in out2 ++ said_of_guard k r.name (pages_of (wanted_by f r)) answer → (v : View) (l : Whole) → σ.stands v l
       → FitsBook f (guards_in book) v → records_in out3 ≡ records_in out ++ told v
-  told_are out2 out3 old new before after events last v l stood met = search (arith, shown_of, append_assoc)
+  told_are {gone} out2 out3 old new before after events last v l stood met =
+      let shown = shown_of old new before after v l stood met in search (arith, shown, append_assoc)
 
   short : length steps ≤ try_steps f r (guards_in book)
   short = search (arith, count_wanted, raise_so, length-append)
 
   -- A sweep and a raise after it, with what is said of both, are a keeper's try of a request.
-  pub tries : (out2 out3 : Records) (old new : List Event) → IsAlignment r.align → IsShown σ1 old → IsShown σ2 new
+  pub tries : {gone : ℕ} (out2 out3 : Records) (old new : List Event) → IsAlignment r.align → IsShown gone σ1 old → IsShown gone σ2 new
       → records_in out2 ≡ records_in out1 ++ map Record.Event (drop (length old) new)
       → records_in out3 ≡ records_in out2 ++ said_of_guard k r.name (pages_of (wanted_by f r)) answer → room_of out3 ≡ room_of out
       → size_of_book book2 ≡ size_of_book book → TriesRequest r book book2 out out3 σ σ2 answer
-  tries out2 out3 old new alignment before after events last room size = record {
+  tries {gone} out2 out3 old new alignment before after events last room size = record {
     steps = steps;
     calls = both_call;
     short = short;

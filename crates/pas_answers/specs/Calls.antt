@@ -4,7 +4,7 @@ use Rattle.std.specs.Prelude.{Result, Ok, Err, MatchResult}
 use Rattle.pas_profile.specs.declared.{profile.Profile.Profile, event.NoRoom.NoRoom, name.Block.Block}
 use Rattle.pas_steps.specs.{Views.View, Agreement.Agreed, Events.events_by, Lists.Whole, Desks.Standing, Kinds.Only, Unknown.unknown_pages}
 use Rattle.pas_steps.specs.declared.step.Made.{Made}
-use Rattle.pas_trace.specs.{Asked.request_in, Asked.freed_in, EveryPlan.is_asked}
+use Rattle.pas_trace.specs.{Asked.request_in, Asked.freed_in, EveryPlan.is_asked, EveryPlan.IsRoomNamed}
 use Rattle.pas_trace.specs.declared.{plan.What.What, plan.Task.Task, item.Request.Request}
 use Rattle.pas_trace.specs.declared.plan.What.TheVariants.{Alloc, Guarded, Free, FreeSized, Raw, RawSized, Remake, Flush, Stop}
 use Rattle.pas_report.specs.Rooms.{records_in, room_of, Records}
@@ -38,10 +38,11 @@ block_behind (Some block) = block
 abbrev pub Tells : Names → List Named → Type 0
 Tells table names = (n : ℕ) → block_named table n ≡ block_behind (standing_for names n)
 
--- A block as one may be freed or replaced: its address is a multiple of 16 on a page of the region, its heap is one of the region's, and its turn has a
--- next one.
+-- A block as one may be freed or replaced: its address is a multiple of 16 on a page of the region, its room is one that a free may name, its heap is one of
+-- the region's, and its turn has a next one.
 pub record IsBlockOf (f : Profile) (block : Block) : Type 0 where
   pub region : IsInRegion f block.name
+  pub room : IsRoomNamed f (Some block.room)
   pub heap : block.heap < f.heaps
   pub turn : block.name.turn < 2 ^ 40 - 1
 

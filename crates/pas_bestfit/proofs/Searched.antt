@@ -91,12 +91,13 @@ none_fits r n from some none no_more g within free =
     ]
 
 -- ---- the block
+-- it has the room of n grains
+pub room_of : {tells : Bool} {σ σ' : Standing} (heap n : ℕ) (answer : Result Block NoRoom) → GivesBest heap n tells σ σ' answer
+    → MatchResult answer (λ block. block.room ≡ n * 16) (λ why. Unit {0})
+room_of heap n (Ok block) a = a.outcome.room_is
+room_of heap n (Err why) a = tt
+
 pub allocated : {tells : Bool} {σ σ' : Standing} (heap bytes n : ℕ) (answer : Result Block NoRoom) → n ≡ grains_for bytes
     → GivesBest heap n tells σ σ' answer → Allocates heap bytes tells σ σ' answer
 allocated {tells} {σ} {σ'} heap bytes n answer is run =
-    let by_run = subst (λ n. GivesBest heap n tells σ σ' answer) is run in record { by_run = by_run; room_is = room_of answer by_run }
-  where
-    room_of : (answer : Result Block NoRoom) → GivesBest heap (grains_for bytes) tells σ σ' answer
-        → MatchResult answer (λ block. block.room ≡ grains_for bytes * 16) (λ why. Unit {0})
-    room_of (Ok block) a = a.outcome.room_is
-    room_of (Err why) a = tt
+    let by_run = subst (λ n. GivesBest heap n tells σ σ' answer) is run in record { by_run = by_run; room_is = room_of heap (grains_for bytes) answer by_run }

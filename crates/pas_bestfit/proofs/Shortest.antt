@@ -1,12 +1,12 @@
 -- The rank of a page, and the block of the best page.
-use Rattle.std.proofs.Common.{◌≡◌, ℕ, ◌+◌, ◌-◌, ◌*◌, ◌≤◌, Ok, Err, Result, MatchResult, Bool, inl, inr, sym, ◌∙◌, subst, arith, true≢false}
+use Rattle.std.proofs.Common.{◌≡◌, ℕ, ◌+◌, ◌-◌, ◌*◌, ◌≤◌, Result, MatchResult, Bool, inl, inr, sym, ◌∙◌, subst, arith, true≢false}
 use Rattle.std.proofs.lemmas.Bool.{cases_lt}
 use Rattle.pas_bits.specs.declared.mask.Mask4.{Mask4}
 use Rattle.pas_bits.specs.Masks.{is_set, IsRunEnd}
 use Rattle.pas_profile.specs.declared.{event.NoRoom.NoRoom, name.Block.Block}
 use Rattle.pas_steps.specs.Desks.{Standing}
-use Rattle.pas_bestfit.specs.{Allocates.grains_for, Allocates.GivesBest, Bests.IsBestFit, Bests.IsNoBetter, Region.AllocatesInRegion, Region.GivesInRegion}
-use Rattle.pas_bestfit.specs.{Region.IsShortest}
+use Rattle.pas_bestfit.specs.{Allocates.grains_for, Bests.IsBestFit, Bests.IsNoBetter, Region.AllocatesInRegion, Region.GivesInRegion, Region.IsShortest}
+use Rattle.pas_bestfit.proofs.Searched.{room_of}
 
 -- a run ends where the first clear bit comes
 length_of : (mask : Mask4) (grains g end : ℕ) (fit : IsBestFit grains (is_set mask) g) → IsRunEnd mask g end → end ≡ g + fit.length
@@ -30,11 +30,6 @@ shortest mask grains g end fit ends = let at = length_of mask grains g end fit e
     (record { first = g; run = fit.run; enough = fit.enough; shortest = λ h m run enough. no_shorter g fit.length h m (fit.best h m run enough) })
 
 -- ---- the block
-room_of : {tells : Bool} {σ σ' : Standing} (heap n : ℕ) (answer : Result Block NoRoom) → GivesBest heap n tells σ σ' answer
-    → MatchResult answer (λ block. block.room ≡ n * 16) (λ why. Unit {0})
-room_of heap n (Ok block) a = a.outcome.room_is
-room_of heap n (Err why) a = tt
-
 pub in_region : {tells : Bool} {σ σ' : Standing} (heap bytes n : ℕ) (answer : Result Block NoRoom) → n ≡ grains_for bytes
     → GivesInRegion heap n tells σ σ' answer
     → AllocatesInRegion heap bytes tells σ σ' answer

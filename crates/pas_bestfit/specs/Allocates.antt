@@ -1,6 +1,6 @@
 -- The allocation of a block at the best place.
 use Rattle.std.specs.Prelude.{ℕ, ◌+◌, ◌*◌, ◌/◌, ◌≡◌, max, Bool, Result, MatchResult}
-use Rattle.pas_search.specs.{Allocates.AllocatesRun, Placements.placed, Placements.run_from}
+use Rattle.pas_search.specs.{Allocates.AllocatesRun, Placements.placed}
 use Rattle.pas_profile.specs.declared.{directory.Directory.Directory, directory.Kind.Kind, event.NoRoom.NoRoom, name.Block.Block}
 use Rattle.pas_steps.specs.Desks.{Standing}
 use Rattle.pas_bestfit.specs.Bests.{best_fit}
@@ -15,7 +15,7 @@ grains_for bytes = max 1 ((bytes + 15) / 16)
 
 -- the pages were searched for the best run, and the first grains of the one on the page that was found were given
 abbrev pub GivesBest : ℕ → ℕ → Bool → Standing → Standing → Result Block NoRoom → Type 0
-GivesBest heap n = AllocatesRun (placed (best_fit (record { grains = n }))) (run_from (best_fit (record { grains = n }))) (bestfit_directory heap)
+GivesBest heap n = AllocatesRun (placed (best_fit (record { grains = n }))) (best_fit (record { grains = n })).run (bestfit_directory heap)
 
 -- they hold the bytes that were asked for
 pub record Allocates (heap bytes : ℕ) (tells : Bool) (desk desk' : Standing) (answer : Result Block NoRoom) : Type 0 where

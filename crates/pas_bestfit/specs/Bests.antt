@@ -3,7 +3,7 @@ use Rattle.std.specs.Prelude.{ℕ, ◌+◌, ◌<◌, ◌≤◌, ◌≡◌, ◌�
 use Rattle.std.proofs.Common.{arith}
 use Rattle.pas_bits.specs.Runs.{AreFree, IsFreeRun}
 use Rattle.pas_bits.specs.declared.free_runs.FreeRun.{FreeRun}
-use Rattle.pas_search.specs.Placements.{Placement, IsPlacement}
+use Rattle.pas_search.specs.Placements.{Placement, IsPlacement, run_of}
 use Rattle.pas_profile.specs.declared.directory.Kind.{Kind}
 use Rattle.pas_steps.specs.Evidence.{Readings}
 use Rattle.pas_bestfit.specs.declared.best.Best.{Best}
@@ -31,17 +31,17 @@ pub record IsBestFit (grains : ℕ) (r : Readings) (g : ℕ) : Type 0 where
 abbrev pub IsPreferred : FreeRun → ℕ → Option FreeRun → Type 0
 IsPreferred run grains best = (grains ≤ run.length) × MatchOption best (Unit {0}) (λ b. IsBetter run.length b.length)
 
--- of a bit-fit page the first grains of the best run are chosen
+-- of a bit-fit page the first n grains of the best run are chosen, which is told by where it begins
 abbrev pub best_fit : Best → Placement
-best_fit best = let n = best.grains in record { asked = (1 ≤ n) × (n ≤ 256); kind = Kind.Bitfit; grains = n; no_fit = HasNoRun n; chosen = IsBestFit n }
+best_fit best = let n = best.grains in
+    record { asked = (1 ≤ n) × (n ≤ 256); kind = Kind.Bitfit; no_fit = HasNoRun n; Found = ℕ; chosen = IsBestFit n; run = run_of n }
 
 pub is_best_fit : (best : Best) → IsPlacement (best_fit best)
 is_best_fit best = record {
-  some = λ asked. asked.0;
   empty = λ asked none. none 0 (omega (arith, asked.1)) (λ x low high. refl);
   fewer = λ r fewer less none g within free. none g within (λ x low high. less x (omega (arith, within, high)) (free x low high));
   is_fit = λ r g asked fit. let most = fit.run.within in let enough = fit.enough in
       let within : g + best.grains ≤ 256 = omega (arith, most, enough) in
       let free : AreFree r g best.grains = λ x low high. fit.run.free x low (omega (arith, high, enough)) in
-      record { within = within; free = free; fits = λ none. none g within free };
+      record { some = asked.0; within = within; free = free; fits = λ none. none g within free };
 }

@@ -2,7 +2,7 @@
 use Rattle.std.specs.Prelude.{ℕ, ◌+◌, ◌*◌, ◌<◌, ◌≤◌, ◌≡◌, Bool, Option, None, Some, MatchOption, Result, MatchResult}
 use Rattle.std.proofs.Common.{arith, sym, ◌∙◌}
 use Rattle.pas_bits.specs.Runs.{IsFreeRun}
-use Rattle.pas_search.specs.{ByRank.AllocatesByRank, Placements.placed, Placements.run_from, Ranks.Measure, Ranks.IsOfGrains}
+use Rattle.pas_search.specs.{ByRank.AllocatesByRank, Placements.placed, Ranks.Measure, Ranks.IsOfGrains}
 use Rattle.pas_profile.specs.declared.{event.NoRoom.NoRoom, name.Block.Block}
 use Rattle.pas_steps.specs.{Desks.Standing, Evidence.Readings}
 use Rattle.pas_bestfit.specs.{Allocates.bestfit_directory, Allocates.grains_for, Bests.HasNoRun, Bests.best_fit}
@@ -43,7 +43,7 @@ of_grains grains = λ r same rank eq is. same_rank grains r same rank eq is
 -- ---- the allocation
 -- the first n grains of the best run of the page that is ranked best were given, or the try of it came to nothing and the lowest page was searched
 abbrev pub GivesInRegion : ℕ → ℕ → Bool → Standing → Standing → Result Block NoRoom → Type 0
-GivesInRegion heap n = AllocatesByRank (placed (best_fit (record { grains = n }))) (run_from (best_fit (record { grains = n }))) (by_length n)
+GivesInRegion heap n = AllocatesByRank (placed (best_fit (record { grains = n }))) (best_fit (record { grains = n })).run (by_length n)
     (bestfit_directory heap)
 
 -- as many grains as hold the bytes

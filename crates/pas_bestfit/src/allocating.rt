@@ -8,7 +8,7 @@ ghost use Rattle.pas_bestfit.specs.Allocates.{bestfit_directory, Allocates};
 use crate::best::Best;
 use pas_profile::limits::GRAIN_BYTES;
 use pas_profile::{Block, Directory, Kind, NoRoom};
-use pas_search::{ByChoice, ByPlacement};
+use pas_search::ByPlacement;
 use pas_steps::Desk;
 
 /// A block of the heap for so many bytes, 0 to 4,096: at the start of the shortest free run that holds them, the lowest among equals, of the lowest
@@ -31,5 +31,5 @@ pub fn alloc<D: Desk>(desk: &mut D, heap: u8, size: u32) -> Result<Block, NoRoom
         kind: Kind::Bitfit,
     };
     let grains = size.div_ceil(GRAIN_BYTES).max(1) as u16;
-    pas_search::alloc(&ByChoice(ByPlacement(Best { grains })), desk, directory)
+    pas_search::alloc(&ByPlacement(Best { grains }), desk, directory)
 }

@@ -3,7 +3,7 @@ ghost use Rattle.std.specs.Prelude.{MatchBool};
 ghost use Rattle.pas_bestfit.specs.Bests.{IsPreferred, best_fit, is_best_fit};
 
 use pas_bits::{FreeRun, Mask4};
-use pas_search::Placing;
+use pas_search::{Placing, Run};
 
 /// How many grains a block has, 1 to 256.
 #[derive(Clone, Copy, PartialEq, Eq)]
@@ -21,12 +21,8 @@ fn is_preferred(run: FreeRun, grains: u16, best: Option<FreeRun>) -> bool
 impl Placing for Best {
     ghost placement = { λ best. best_fit best };
 
-    fn grains(&self) -> u16 {
-        self.grains
-    }
-
-    /// The first grain of the shortest free run that is long enough, the lowest among equals. Asks for the next run once for each free run.
-    fn first(&self, free: &Mask4) -> Option<u8> {
+    /// The first grains of the shortest free run that is long enough, the lowest among equals. Asks for the next run once for each free run.
+    fn place(&self, free: &Mask4) -> Option<Run> {
         let mut best = None;
         let mut from = 0;
         while let Some(run) = free.next_run(from) {
@@ -35,7 +31,10 @@ impl Placing for Best {
             }
             from = run.first as u16 + run.length;
         }
-        Some(best?.first)
+        Some(Run {
+            first: best?.first,
+            grains: self.grains,
+        })
     }
 
     ghost is_placement = { λ best. is_best_fit best };

@@ -17,7 +17,8 @@ fn some_runs() -> Mask4 {
 fn first_for(grains: u16) -> Option<u8>
     requires { (1 ≤ grains) × (grains ≤ 256) }
 {
-    Best { grains }.first(&some_runs())
+    let run = Best { grains }.place(&some_runs())?;
+    Some(run.first)
 }
 
 #[test]

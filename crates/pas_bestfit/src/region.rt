@@ -9,7 +9,7 @@ use crate::best::Best;
 use pas_bits::Mask4;
 use pas_profile::limits::GRAIN_BYTES;
 use pas_profile::{Block, Directory, Kind, NoRoom};
-use pas_search::{ByChoice, ByPlacement, Placing, Ranking, alloc_best};
+use pas_search::{ByPlacement, Placing, Ranking, alloc_best};
 use pas_steps::Desk;
 
 impl Ranking for Best {
@@ -22,7 +22,7 @@ impl Ranking for Best {
 
     /// The length of the page's shortest free run that is long enough.
     fn rank(&self, free: &Mask4) -> Option<u32> {
-        let first = self.first(free)? as u16;
+        let first = self.place(free)?.first as u16;
         let end = free.run_end(first);
         Some((end - first) as u32)
     }
@@ -50,5 +50,5 @@ pub fn alloc_in_region<D: Desk>(desk: &mut D, heap: u8, size: u32) -> Result<Blo
     let best = Best {
         grains: size.div_ceil(GRAIN_BYTES).max(1) as u16,
     };
-    alloc_best(&ByChoice(ByPlacement(best)), &best, desk, directory)
+    alloc_best(&ByPlacement(best), &best, desk, directory)
 }

@@ -1,10 +1,9 @@
 -- A block of the room and the alignment that were asked for.
-use Rattle.std.proofs.Common.{◌≡◌, ℕ, ◌%◌, ◌≤◌, Bool, List, Ok, Err, Result, ap, ◌∙◌, arith, MatchResult}
+use Rattle.std.proofs.Common.{◌≡◌, ℕ, ◌%◌, ◌≤◌, Bool, Ok, Err, Result, ap, ◌∙◌, arith, MatchResult}
 use Rattle.pas_profile.specs.Classes.{IsAlignment}
-use Rattle.pas_profile.specs.declared.{directory.Directory.Directory, event.NoRoom.NoRoom, name.Block.Block, profile.Profile.Profile}
+use Rattle.pas_profile.specs.declared.{event.NoRoom.NoRoom, name.Block.Block}
 use Rattle.pas_steps.specs.Desks.{Standing}
-use Rattle.pas_steps.specs.declared.step.Made.{Made}
-use Rattle.pas_search.specs.Allocates.{IsGiven, AllocatesRun}
+use Rattle.pas_search.specs.Allocates.{AllocatesRun}
 use Rattle.pas_bitfit.specs.{Allocates.bitfit_directory, Allocates.run_for, Allocates.IsOfRequest, Runs.IsWanted, Runs.runs, Runs.run_at}
 use Rattle.pas_bitfit.proofs.Aligned.{stands_aligned}
 
@@ -12,17 +11,12 @@ use Rattle.pas_bitfit.proofs.Aligned.{stands_aligned}
 pub is_wanted : (room align : ℕ) → (16 ≤ room) × (room ≤ 2048) × (room % 16 ≡ 0) → IsAlignment align → IsWanted (run_for room align)
 is_wanted room align sized is = record { grains = (omega (arith, sized.0), omega (arith, sized.1)); align = (omega (arith, is.0), omega (arith, is.1)) }
 
-module _ (room align : ℕ) (sized : (16 ≤ room) × (room ≤ 2048) × (room % 16 ≡ 0)) (alignment : IsAlignment align) where
-  of_request : (f : Profile) (d : Directory) (searched after : List Made) (block : Block)
-      → IsGiven (runs (run_for room align)) (run_at (run_for room align)) f d searched after block → IsOfRequest room align block
-  of_request f d searched after block is = record {
-    room_is = is.room_is ∙ omega (arith, sized.2);
-    aligned = ap (λ a. a % align) is.address_is ∙ stands_aligned is.page is.found align alignment is.served.serves.chosen.this.aligned;
-  }
-
-  -- The block of a run that was allocated for a room and an alignment has both.
-  pub answer_of_request : {tells : Bool} {σ σ' : Standing} (heap : ℕ) (answer : Result Block NoRoom)
-      → AllocatesRun (runs (run_for room align)) (run_at (run_for room align)) (bitfit_directory heap) tells σ σ' answer
-      → MatchResult answer (IsOfRequest room align) (λ why. Unit {0})
-  answer_of_request {σ = σ} heap (Ok block) a = of_request σ.seat.profile (bitfit_directory heap) a.searched a.after block a.outcome
-  answer_of_request heap (Err why) a = tt
+-- The block of a run that was allocated for a room and an alignment has both.
+pub answer_of_request : (room align : ℕ) → (16 ≤ room) × (room ≤ 2048) × (room % 16 ≡ 0) → IsAlignment align → {tells : Bool} {σ σ' : Standing} (heap : ℕ)
+    (answer : Result Block NoRoom) → AllocatesRun (runs (run_for room align)) (run_at (run_for room align)) (bitfit_directory heap) tells σ σ' answer
+    → MatchResult answer (IsOfRequest room align) (λ why. Unit {0})
+answer_of_request room align sized alignment heap (Ok block) a = let is = a.outcome in record {
+  room_is = is.room_is ∙ omega (arith, sized.2);
+  aligned = ap (λ a. a % align) is.address_is ∙ stands_aligned is.page is.found align alignment is.served.serves.chosen.this.aligned;
+}
+answer_of_request room align sized alignment heap (Err why) a = tt

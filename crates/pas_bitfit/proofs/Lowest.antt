@@ -1,22 +1,26 @@
 -- The lowest place of a mask as the lowest run that fits.
-use Rattle.std.proofs.Common.{ℕ, Option, None, Some, MatchOption, arith, sym, ◌∙◌, true≢false}
+use Rattle.std.proofs.Common.{ℕ, refl, arith, sym, ◌∙◌, true≢false}
 use Rattle.pas_lanes.specs.Rows.{IsEmpty}
 use Rattle.pas_bits.specs.declared.mask.Mask4.{Mask4}
-use Rattle.pas_bits.specs.Masks.{is_set, IsPlace, HasNoPlace, IsLowestPlace}
-use Rattle.pas_bitfit.specs.Runs.{IsWanted, Fits, NoneFits, IsLowestFit}
+use Rattle.pas_bits.specs.Masks.{is_set, IsPlace, IsLowestPlace}
+use Rattle.pas_search.specs.Placements.{IsPlaced}
+use Rattle.pas_bitfit.specs.Runs.{IsWanted, Fits, NoneFits, lowest_run, run_at}
 use Rattle.pas_bitfit.specs.declared.wanted.Wanted.{Wanted}
 
 module _ (wanted : Wanted) (free : Mask4) where
-  place_of : (g : ℕ) → Fits wanted (is_set free) g → IsPlace free wanted.grains wanted.align 256 g
+  -- a run that fits is a place of the mask
+  pub place_of : (g : ℕ) → Fits wanted (is_set free) g → IsPlace free wanted.grains wanted.align 256 g
   place_of g fits = record { aligned = fits.aligned; within = fits.within; set = fits.free }
 
   -- The lowest place of a mask is the lowest run that fits.
-  pub lowest_fits : (found : Option ℕ) → MatchOption found (HasNoPlace free wanted.grains wanted.align 256) (IsLowestPlace free wanted.grains wanted.align 256)
-      → MatchOption found (NoneFits wanted (is_set free)) (IsLowestFit wanted (is_set free))
-  lowest_fits None none = λ g fits. none g (place_of g fits)
-  lowest_fits (Some first) lowest = record {
-    this = record { aligned = lowest.place.aligned; within = lowest.place.within; free = lowest.place.set };
-    lowest = λ h lt fits. lowest.lowest h lt (place_of h fits);
+  pub lowest_fits : (first : ℕ) → IsLowestPlace free wanted.grains wanted.align 256 first → IsPlaced (lowest_run wanted) (is_set free) (run_at wanted first)
+  lowest_fits first lowest = record {
+    found = first;
+    chosen = record {
+      this = record { aligned = lowest.place.aligned; within = lowest.place.within; free = lowest.place.set };
+      lowest = λ h lt fits. lowest.lowest h lt (place_of h fits);
+    };
+    run_is = refl;
   }
 
   -- no grain is free

@@ -5,8 +5,8 @@ use Rattle.pas_bits.specs.Runs.{AreFree}
 use Rattle.pas_profile.specs.declared.directory.Kind.{Kind}
 use Rattle.pas_steps.specs.Evidence.{Readings, IsAntitone}
 use Rattle.pas_search.specs.Choices.{Choice}
-use Rattle.pas_search.specs.Placements.{Placement, IsPlacement, placed, run_from}
-use Rattle.pas_search.specs.declared.choosing.Run.{Run}
+use Rattle.pas_search.specs.Placements.{Placement, IsPlacement, placed, run_of}
+use Rattle.pas_search.specs.declared.placing.Run.{Run}
 use Rattle.pas_bitfit.specs.declared.wanted.Wanted.{Wanted}
 
 pub record IsWanted (wanted : Wanted) : Type 0 where
@@ -35,28 +35,21 @@ fewer_runs wanted r fewer less none g fits = none g record {
   free = λ x low high. less x (omega (arith, high, fits.within)) (fits.free x low high);
 }
 
--- of a bit-fit page just the lowest run that fits is chosen
+-- of a bit-fit page just the lowest run that fits is chosen, by its first grain
 abbrev pub lowest_run : Wanted → Placement
-lowest_run wanted = record {
-  asked = IsWanted wanted;
-  kind = Kind.Bitfit;
-  grains = wanted.grains;
-  no_fit = NoneFits wanted;
-  chosen = IsLowestFit wanted;
-}
+lowest_run wanted =
+    record { asked = IsWanted wanted; kind = Kind.Bitfit; no_fit = NoneFits wanted; Found = ℕ; chosen = IsLowestFit wanted; run = run_of wanted.grains }
 
 pub is_lowest_run : (wanted : Wanted) → IsPlacement (lowest_run wanted)
 is_lowest_run wanted = record {
-  some = λ is. is.grains.0;
   empty = λ is none. none 0 (record { aligned = grind arith; within = omega (arith, is.grains.1); free = λ x low high. refl });
   fewer = fewer_runs wanted;
-  is_fit = λ r first is fit. record { within = fit.this.within; free = fit.this.free; fits = λ none. none first fit.this };
+  is_fit = λ r first is fit. record { some = is.grains.0; within = fit.this.within; free = fit.this.free; fits = λ none. none first fit.this };
 }
 
--- it is chosen by its first grain
 abbrev pub runs : Wanted → Choice ℕ
 runs wanted = placed (lowest_run wanted)
 
 -- the run from this grain on
 abbrev pub run_at : Wanted → ℕ → Run
-run_at wanted = run_from (lowest_run wanted)
+run_at wanted = (lowest_run wanted).run

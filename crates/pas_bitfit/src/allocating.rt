@@ -8,7 +8,7 @@ ghost use Rattle.pas_bitfit.specs.Allocates.{bitfit_directory, Allocates};
 use crate::wanted::Wanted;
 use pas_profile::limits::GRAIN_BYTES;
 use pas_profile::{Block, Directory, Kind, NoRoom};
-use pas_search::{ByChoice, ByPlacement};
+use pas_search::ByPlacement;
 use pas_steps::Desk;
 
 /// A block of so many bytes at a multiple of the alignment: at the lowest place of the lowest offered bit-fit page of the heap where it fits,
@@ -36,5 +36,5 @@ pub fn alloc<D: Desk>(desk: &mut D, heap: u8, room: u32, align: u32) -> Result<B
         grains: (room / GRAIN_BYTES) as u16,
         align: (align / GRAIN_BYTES) as u16,
     };
-    pas_search::alloc(&ByChoice(ByPlacement(wanted)), desk, directory)
+    pas_search::alloc(&ByPlacement(wanted), desk, directory)
 }

@@ -1,7 +1,7 @@
 //! The lowest run of free grains that fits.
 use pas_bits::Mask4;
 use pas_lanes::all_zero;
-use pas_search::Placing;
+use pas_search::{Placing, Run};
 
 /// The run of free grains that a request wants: so many, 1 to 256, of which the first is a multiple of the alignment, 1 to 256 grains.
 #[derive(Clone, Copy, PartialEq, Eq)]
@@ -15,16 +15,16 @@ impl Placing for Wanted {
 
     ghost placement = { λ wanted. lowest_run wanted };
 
-    fn grains(&self) -> u16 {
-        self.grains
-    }
-
-    /// The first grain of the lowest run that fits. Looks at most twice at the four words for each run of free grains, and once where none is free.
-    fn first(&self, free: &Mask4) -> Option<u8> {
+    /// The lowest run that fits. Looks at most twice at the four words for each run of free grains, and once where none is free.
+    fn place(&self, free: &Mask4) -> Option<Run> {
         if all_zero(&free.0) {
             return None;
         }
-        free.first_run(self.grains, self.align)
+        let first = free.first_run(self.grains, self.align)?;
+        Some(Run {
+            first,
+            grains: self.grains,
+        })
     }
 
     ghost is_placement = { λ wanted. is_lowest_run wanted };

@@ -1,134 +1,139 @@
--- Rows of slots, and the lowest that is free.
-use Rattle.std.proofs.Common.{◌≡◌, ℕ, zero, suc, ◌+◌, ◌-◌, ◌*◌, ◌<◌, ◌≤◌, ◌↔◌, IsTrue, nat_le, Bool, true, ◌&&◌, ◌||◌, ap, sym, ◌∙◌, subst, arith, inl, inr}
-use Rattle.std.proofs.Common.{◌⊎◌, true≢false, leb-true, le-leb}
-use Rattle.std.proofs.Math.Nat.{suc-mul, zero-mul}
-use Rattle.std.proofs.lemmas.Bool.{and_from, and_parts, or_cases, cases_lt}
-use Rattle.pas_bits.specs.{Runs.in_run, Masks.is_set, Masks.AreClear, Masks.IsLowestSet}
+-- The lowest row of slots, as a run of grains and by the slots' first grains.
+use Rattle.std.proofs.Common.{◌≡◌, ℕ, ◌+◌, ◌-◌, ◌*◌, ◌/◌, ◌%◌, ◌<◌, ◌≤◌, min, true, refl, ap, sym, ◌∙◌, subst, arith, inl, inr, leb, leb-true, true≢false}
+use Rattle.std.proofs.Common.{div-add-mod'}
+use Rattle.std.proofs.Math.Nat.{add-mul, mod-lt, add-mul-mod_self_right, mul-le-mul_right, suc-mul}
+use Rattle.std.proofs.lemmas.{Bool.cases_lt, Nat.le-div}
+use Rattle.pas_bits.specs.{Masks.is_set, Masks.IsLowestPlace, Masks.IsRunEnd, Runs.in_run}
 use Rattle.pas_bits.proofs.Runs.{run_of, to_run}
 use Rattle.pas_bits.specs.declared.mask.Mask4.{Mask4}
-use Rattle.pas_partial.specs.Rows.{IsInRow, IsFreeSlot, rows}
-use Rattle.pas_profile.specs.Classes.{IsClass, class_grains, IsSlotStart}
-use Rattle.pas_profile.proofs.ClassFacts.{class_grains_positive, first_slot, slot_end, slot_lt}
-use Rattle.pas_segregated.specs.{Masks.start_of, Masks.AreStarts, Takes.NoSlot, Takes.AreFreeSlots}
+use Rattle.pas_partial.specs.Rows.{IsInRow, IsFreeSlot, IsLowestRow, IsLowestRun, lowest_rows}
+use Rattle.pas_profile.specs.Classes.{IsClass, class_grains, slots_of, usable_grains}
+use Rattle.pas_profile.proofs.{Sizes.class_passes, ClassFacts.class_grains_positive, ClassFacts.slot_end}
+use Rattle.pas_segregated.specs.{Masks.start_of, Takes.AreFreeSlots, Takes.in_starts}
 use Rattle.pas_segregated.proofs.Starts.{start_at, start_below}
-use Rattle.pas_search.specs.Choices.{IsUnfit, IsChosen}
+use Rattle.pas_steps.proofs.Sets.{same_truth}
+use Rattle.pas_steps.specs.Evidence.{Readings}
+use Rattle.pas_search.specs.Placements.{IsPlaced}
+use Rattle.pas_search.specs.declared.placing.Run.{Run}
 
--- ==== A row of slots, longer by one place each time.
+-- ---- where slots end
+-- after the slots of a page less is left of it than a slot
+past_usable : (class : ℕ) → IsClass class → 256 < usable_grains class + class_grains class
+past_usable class is = leb-true _ _ (class_passes (λ c. leb 257 (usable_grains c + class_grains c)) refl class is)
 
--- the row is that of these places
-abbrev pub AreRow : Mask4 → ℕ → ℕ → ℕ → Mask4 → Type 0
-AreRow mask first step n row = (s : ℕ) → IsTrue (is_set row s) ↔ IsInRow (λ x. is_set mask x ≡ true) first step n s
+-- so places of slots that end on the page end within its slots
+ends_usable : (class n first : ℕ) → IsClass class → first % class_grains class ≡ 0 → first + n * class_grains class ≤ 256
+    → first + n * class_grains class ≤ usable_grains class
+ends_usable class n first is aligned within =
+    let k = class_grains class in let a = first / k in
+    let place = div-add-mod' first k in let past = past_usable class is in
+    elim (cases_lt (slots_of class) (a + n)) [
+      | inl more ↦
+          let le = mul-le-mul_right k more in let next = suc-mul (slots_of class) k in let sum = add-mul a n k in
+          absurd (omega (arith, le, next, sum, place, aligned, past, within))
+      | inr few ↦ let le = mul-le-mul_right k few in let sum = add-mul a n k in omega (arith, le, sum, place, aligned)
+    ]
 
--- under what says less
-row_as : (Good Fair : ℕ → Type 0) (first step n s : ℕ) → ((x : ℕ) → Good x → Fair x) → IsInRow Good first step n s → IsInRow Fair first step n s
-row_as Good Fair first step n s fair row = (row.0, row.1, row.2, λ j le. fair (first + j * step) (row.3 j le))
+-- ---- the row in a mask of free grains
+-- The run from the lowest free slot to where the free grains end, of four slots at most, is the lowest row.
+pub placed_row : (class : ℕ) → IsClass class → (free : Mask4) (first end slots : ℕ) → IsLowestPlace free (class_grains class) (class_grains class) 256 first
+    → IsRunEnd free first end → slots ≡ min ((end - first) / class_grains class) 4
+    → IsPlaced (lowest_rows class) (is_set free) (record { first = first; grains = slots * class_grains class })
+placed_row class is free first end slots lowest ends slots_is =
+    let k = class_grains class in let q = (end - first) / k in
+    let some = class_grains_positive class is in let place = lowest.place in
+    let whole = div-add-mod' (end - first) k in let rest : (end - first) % k < k = mod-lt (end - first) (omega (arith, some)) in
+    -- no grain of a slot is where the free ones end
+    let free_to : (s : ℕ) → first ≤ s → s ≤ end → s + k ≤ 256 → ((x : ℕ) → s ≤ x → x < s + k → is_set free x ≡ true) → s + k ≤ end
+    = λ s low at within set. elim (cases_lt end (s + k)) [
+      | inl short ↦ absurd (true≢false (sym (set end at short) ∙ ends.clear (omega (arith, short, within))))
+      | inr long ↦ long
+    ] in
+    let one : 1 ≤ q = le-div 1 (end - first) k (omega (arith, some)) (omega (arith, free_to first (omega arith) ends.above place.within place.set)) in
+    let few : slots ≤ 4 = omega (arith, slots_is) in
+    let less : slots * k ≤ q * k = mul-le-mul_right k (omega (arith, slots_is)) in
+    let inside : first + slots * k ≤ end = omega (arith, less, whole, ends.above) in
+    record {
+      found = record { first = first; grains = slots * k };
+      chosen = record {
+        slots = slots;
+        few = (omega (arith, slots_is, one), few);
+        grains = refl;
+        start = record { aligned = place.aligned; within = omega (arith, ends_usable class 1 first is place.aligned (omega (arith, place.within))) };
+        within = ends_usable class slots first is place.aligned (omega (arith, inside, ends.within));
+        free = λ x low high. ends.set x low (omega (arith, high, inside));
+        lowest = λ s lt slot. lowest.lowest s lt (record { aligned = slot.0.aligned; within = slot_end class s is slot.0; set = slot.1 });
+        last = λ few slot.
+            let all : slots ≡ q = omega (arith, slots_is, few) in let same : slots * k ≡ q * k = ap (λ n. n * k) all in
+            let far = free_to (first + slots * k) (omega arith) inside (slot_end class (first + slots * k) is slot.0) slot.1 in
+            omega (arith, far, same, whole, rest);
+      };
+      run_is = refl;
+    }
 
--- the last place of a row is good
-pub row_last : (Good : ℕ → Type 0) (first step n s : ℕ) → IsInRow Good first step n s → Good s
-row_last Good first step n s row = subst Good (sym row.2) (row.3 row.0 (omega arith))
+-- ---- the row as a mask
+module _ (class : ℕ) (is : IsClass class) (r : Readings) (run : Run) (lowest : IsLowestRun class r run) (starts : Mask4)
+    (are : AreFreeSlots class (in_run run.first run.grains) starts) where
+  abbrev k : ℕ
+  k = class_grains class
 
--- its first place
-pub row_first : (Good : ℕ → Type 0) (first step n : ℕ) → 1 ≤ n → Good first → IsInRow Good first step n first
-row_first Good first step n some good = (
-  0,
-  omega (arith, some),
-  let z = zero-mul step in omega (arith, z),
-  λ j le.
-      let none : j ≡ 0 = omega (arith, le) in let z : j * step ≡ 0 = ap (λ i. i * step) none ∙ zero-mul step in subst Good (omega (arith, z)) good,
-)
+  -- the i-th slot lies in the run
+  inside : (i : ℕ) → i < lowest.slots → run.first + i * k + k ≤ run.first + run.grains
+  inside i lt = let le = mul-le-mul_right k lt in let next = suc-mul i k in omega (arith, le, next, lowest.grains)
 
--- A set bit of a mask by itself is a row of one.
-pub row_one : (mask row : Mask4) (first step : ℕ) → is_set mask first ≡ true → ((s : ℕ) → is_set row s ≡ in_run first 1 s) → AreRow mask first step 1 row
-row_one mask row first step good run s = (
-  λ h. let at = run_of first 1 s (sym (run s) ∙ h) in let low = at.0 in let high = at.1 in
-      let e : first ≡ s = omega (arith, low, high) in subst (IsInRow (λ x. is_set mask x ≡ true) first step 1) e (row_first (λ x. is_set mask x ≡ true) first step 1 (omega arith) good),
-  λ here.
-      let e = here.2 in let none : here.0 ≡ 0 = omega (arith, here.1) in let z : here.0 * step ≡ 0 = ap (λ i. i * step) none ∙ zero-mul step in
-      run s ∙ to_run first 1 s (omega (arith, e, z)) (omega (arith, e, z)),
-)
-
-either_true : (x y : Bool) → (x ≡ true) ⊎ (y ≡ true) → (x || y) ≡ true
-either_true x y h = grind arith
-
-module _ (mask row moved joined more : Mask4) (first step n : ℕ) (some : 1 ≤ n) (within : (s : ℕ) → is_set mask s ≡ true → s < 256)
-    (moved_is : (s : ℕ) → s < 256 → is_set moved s ≡ (nat_le step s && is_set row (s - step)))
-    (joined_is : (s : ℕ) → is_set joined s ≡ (is_set moved s && is_set mask s)) (more_is : (s : ℕ) → is_set more s ≡ (is_set row s || is_set joined s)) (row_is : AreRow mask first step n row) where
-  abbrev Good : ℕ → Type 0
-  Good x = is_set mask x ≡ true
-
-  -- a place after the row
-  after : (s : ℕ) → is_set mask s ≡ true → is_set moved s ≡ true → IsInRow Good first step (n + 1) s
-  after s good h =
-      let at = and_parts (nat_le step s) (is_set row (s - step)) (sym (moved_is s (within s good)) ∙ h) in let le = leb-true step s at.0 in
-      let before = (row_is (s - step)).0 at.1 in let i = before.0 in let lt = before.1 in let e = before.2 in let next = suc-mul i step in
-      let place : s ≡ first + suc i * step = omega (arith, le, e, next) in (
-        suc i,
-        omega (arith, lt),
-        place,
-        λ j le. elim (cases_lt j (suc i)) [
-          | inl lower ↦ before.3 j (omega (arith, lower))
-          | inr last ↦ let same : suc i ≡ j = omega (arith, le, last) in subst (λ k. Good (first + k * step)) same (subst Good place good)
-        ],
-      )
-
-  -- and each place of the longer row is one of the row, or after it
-  before : (s i : ℕ) → i < n + 1 → s ≡ first + i * step → ((j : ℕ) → j ≤ i → Good (first + j * step)) → (is_set row s ≡ true) ⊎ (is_set moved s ≡ true)
-  before s zero lt e good = inl ((row_is s).1 (0, omega (arith, some), e, good))
-  before s (suc i) lt e good =
-      let next = suc-mul i step in let last : Good s = subst Good (sym e) (good (suc i) (omega arith)) in
-      inr (moved_is s (within s last) ∙ and_from (nat_le step s) (is_set row (s - step)) (le-leb step s (omega (arith, e, next))) ((row_is (s - step)).1 (i, omega (arith, lt), omega (arith, e, next), λ j le. good j (omega (arith, le)))))
-
-  -- A row that is moved on, cut to the free ones and joined to itself is a row of one more.
-  pub row_more : AreRow mask first step (n + 1) more
-  row_more s = (
-    λ h. elim (or_cases (is_set row s) (is_set joined s) (sym (more_is s) ∙ h)) [
-      | inl had ↦ let was = (row_is s).0 had in (was.0, omega (arith, was.1), was.2, was.3)
-      | inr new ↦ let at = and_parts (is_set moved s) (is_set mask s) (sym (joined_is s) ∙ new) in after s at.1 at.0
-    ],
-    λ here. more_is s ∙ either_true (is_set row s) (is_set joined s) (elim (before s here.0 here.1 here.2 here.3) [
-      | inl had ↦ inl had
-      | inr new ↦ inr (joined_is s ∙ and_from (is_set moved s) (is_set mask s) new (row_last Good first step (n + 1) s here))
-    ]),
+  slot : (i : ℕ) → i < lowest.slots → IsFreeSlot class r (run.first + i * k)
+  slot i lt = let end = inside i lt in (
+    record { aligned = add-mul-mod_self_right run.first i k ∙ lowest.start.aligned; within = omega (arith, end, lowest.within) },
+    λ x low high. lowest.free x (omega (arith, low)) (omega (arith, high, end)),
   )
 
--- ==== The free slots of a class in a mask: the lowest of them, and its row.
+  has_slot : (i : ℕ) → i < lowest.slots → is_set starts (run.first + i * k) ≡ true
+  has_slot i lt = let end = inside i lt in
+      (are (run.first + i * k)).1 ((slot i lt).0, λ x low high. to_run run.first run.grains x (omega (arith, low)) (omega (arith, high, end)))
 
-module _ (class : ℕ) (free slots : Mask4) (is : IsClass class) (whole : AreFreeSlots class (is_set free) slots) where
-  -- A page without a free slot of the class fits no row.
-  pub none_fits : AreClear slots 0 256 → IsUnfit (rows class) (is_set free)
-  none_fits clear =
-      let none : NoSlot class (is_set free) = λ s slot all. true≢false (sym ((whole s).1 (slot, all)) ∙ clear s (omega arith) (slot_lt class s is slot)) in
-      let end = slot_end class 0 is (first_slot class is) in
-      record { none = none; used = λ all. none 0 (first_slot class is) (λ x low high. all x (omega (arith, high, end))) }
+  pub first_set : is_set starts run.first ≡ true
+  first_set = let none : run.first + 0 * k ≡ run.first = omega arith in subst (λ x. is_set starts x ≡ true) none (has_slot 0 lowest.few.0)
 
-  module _ (first : ℕ) (starts : Mask4) (lowest : IsLowestSet slots 0 first) (row : AreRow slots first (class_grains class) 4 starts) where
-    -- The row that begins at the lowest free slot is of starts of slots.
-    pub are_starts : AreStarts class starts
-    are_starts s set = ((whole s).0 (row_last (λ x. is_set slots x ≡ true) first (class_grains class) 4 s ((row s).0 set))).0
+  -- a grain of the run is one of its i-th slot
+  slot_of : (b : ℕ) → in_run run.first run.grains b ≡ true
+      → (i : ℕ) × (i < lowest.slots) × (run.first + i * k ≤ b) × (b < run.first + i * k + k)
+  slot_of b here =
+      let at = run_of run.first run.grains b here in let i = (b - run.first) / k in
+      let whole = div-add-mod' (b - run.first) k in let some = class_grains_positive class is in let rest : (b - run.first) % k < k = mod-lt (b - run.first) (omega (arith, some)) in (
+        i,
+        elim (cases_lt i lowest.slots) [
+          | inl lt ↦ lt
+          | inr le ↦ let more = mul-le-mul_right k le in absurd (omega (arith, more, whole, at.0, at.1, lowest.grains))
+        ],
+        omega (arith, whole, at.0),
+        omega (arith, whole, rest, at.0),
+      )
 
-    -- The row that begins at the lowest free slot is the one that is chosen.
-    pub lowest_row : (grains : Mask4) → ((g : ℕ) → is_set grains g ≡ is_set starts (start_of class g)) → IsChosen (rows class) (is_set free) starts grains
-    lowest_row grains covered =
-        let first_free = (whole first).0 lowest.set in let some = class_grains_positive class is in
-        record {
-          chosen = record {
-            first = first;
-            free = first_free;
-            lowest = λ s lt both. true≢false (sym ((whole s).1 both) ∙ lowest.lowest s (omega arith) lt);
-            are = λ s. (
-              λ set. row_as (λ x. is_set slots x ≡ true) (IsFreeSlot class (is_set free)) first (class_grains class) 4 s (λ x. (whole x).0) ((row s).0 set),
-              λ here. (row s).1 (row_as (IsFreeSlot class (is_set free)) (λ x. is_set slots x ≡ true) first (class_grains class) 4 s (λ x. (whole x).1) here),
-            );
-          };
-          fits = λ none. none first first_free.0 first_free.1;
-          within = λ b lt kept.
-              let at = start_below class b is in
-              let s = start_of class b in
-              ((whole s).0 (row_last (λ x. is_set slots x ≡ true) first (class_grains class) 4 s ((row s).0 kept))).1 b at.0 at.1;
-          some = (
-            first,
-            lowest.within,
-            ap (is_set starts) (start_at class first first first_free.0 (omega arith) (omega (arith, some))) ∙ (row first).1 (row_first (λ x. is_set slots x ≡ true) first (class_grains class) 4 (omega arith) lowest.set),
-          );
-          exactly = λ b lt. covered b;
-        }
+  -- The slots of the run have just its grains.
+  pub covered : (b : ℕ) → b < 256 → in_run run.first run.grains b ≡ in_starts class starts b
+  covered b lt = same_truth (in_run run.first run.grains b) (in_starts class starts b)
+      (λ here. let at = slot_of b here in ap (is_set starts) (start_at class (run.first + at.0 * k) b (slot at.0 at.1).0 at.2 at.3) ∙ has_slot at.0 at.1)
+      (λ set. let below = start_below class b is in ((are (start_of class b)).0 set).1 b below.0 below.1)
+
+  to_row : (s : ℕ) → is_set starts s ≡ true → IsInRow (IsFreeSlot class r) run.first k 4 s
+  to_row s set =
+      let both = (are s).0 set in let some = class_grains_positive class is in
+      let at = slot_of s (both.1 s (omega arith) (omega (arith, some))) in
+      let same : start_of class s ≡ run.first + at.0 * k = start_at class (run.first + at.0 * k) s (slot at.0 at.1).0 at.2 at.3 in
+      let own : start_of class s ≡ s = start_at class s s both.0 (omega arith) (omega (arith, some)) in
+      (at.0, omega (arith, at.1, lowest.few.1), sym own ∙ same, λ j le. slot j (omega (arith, le, at.1)))
+
+  from_row : (s : ℕ) → IsInRow (IsFreeSlot class r) run.first k 4 s → is_set starts s ≡ true
+  from_row s here = elim (cases_lt here.0 lowest.slots) [
+    | inl lt ↦ subst (λ x. is_set starts x ≡ true) (sym here.2) (has_slot here.0 lt)
+    | inr le ↦ absurd (lowest.last (omega (arith, le, here.1)) (subst (λ n. IsFreeSlot class r (run.first + n)) (sym lowest.grains) (here.3 lowest.slots le)))
+  ]
+
+  -- The slots of the lowest run are the lowest row.
+  pub lowest_row : IsLowestRow class r starts
+  lowest_row = record {
+    first = run.first;
+    free = (lowest.start, λ x low high. (slot 0 lowest.few.0).1 x (omega (arith, low)) (omega (arith, high)));
+    lowest = lowest.lowest;
+    are = λ s. (to_row s, from_row s);
+  }

@@ -4,7 +4,6 @@
 pub mod laws;
 mod partial;
 mod refilling;
-mod row;
 mod stopping;
 
 pub use partial::Partial;

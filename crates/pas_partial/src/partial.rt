@@ -1,10 +1,11 @@
-//! What a request chooses of a shared page.
-use crate::row::row_from;
+//! What a request takes of a shared page.
 use pas_bits::Mask4;
 use pas_profile::classes::class_size;
 use pas_profile::limits::GRAIN_BYTES;
-use pas_search::{Choosing, Chosen};
-use pas_segregated::{covered, whole_slots};
+use pas_search::{Placing, Run};
+
+/// How many slots of a page are taken at once at most.
+const MOST_SLOTS: u16 = 4;
 
 /// Shared pages, as a class sees them.
 #[derive(Clone, Copy, PartialEq, Eq)]
@@ -12,26 +13,23 @@ pub struct Partial {
     pub class: u8,
 }
 
-impl Choosing for Partial {
-    ghost use Rattle.pas_segregated.specs.Takes.{fewer_slots};
-    ghost use Rattle.pas_partial.specs.Rows.{rows};
+impl Placing for Partial {
+    ghost use Rattle.pas_partial.specs.Rows.{lowest_rows, are_lowest_rows};
 
-    type Found = Mask4;
+    ghost placement = { λ partial. lowest_rows partial.class };
 
-    ghost choice = { λ partial. rows partial.class };
-
-    /// The lowest free slot, and the three after it as far as they are free without a break, by their first grains. Moves the mask
-    /// at most fifteen times.
-    fn choose(&self, free: &Mask4) -> Option<Chosen<Mask4>> {
-        let slots = whole_slots(free, self.class);
-        let first = slots.first_set_from(0)?;
-        let grains = (class_size(self.class) / GRAIN_BYTES) as u8;
-        let starts = row_from(slots, first, grains);
-        Some(Chosen {
-            found: starts,
-            grains: covered(&starts, self.class),
+    /// The lowest free slot, and the three after it as far as they are free without a break. Looks at most twice at the four words for each run of free
+    /// grains, and once more.
+    fn place(&self, free: &Mask4) -> Option<Run> {
+        let grains = (class_size(self.class) / GRAIN_BYTES) as u16;
+        let first = free.first_run(grains, grains)?;
+        let end = free.run_end(first as u16);
+        let slots = ((end - first as u16) / grains).min(MOST_SLOTS);
+        Some(Run {
+            first,
+            grains: slots * grains,
         })
     }
 
-    ghost fewer = { λ partial. fewer_slots partial.class };
+    ghost is_placement = { λ partial. are_lowest_rows partial.class };
 }

@@ -7,10 +7,11 @@ ghost use Rattle.pas_segregated.specs.Refills.{Refills};
 ghost use Rattle.pas_partial.specs.Refills.{shared_directory, shared_slots};
 
 use crate::partial::Partial;
+use pas_bits::Mask4;
 use pas_profile::{Directory, Kind, NoRoom};
 use pas_rights::leave;
-use pas_search::{ByChoice, find_page};
-use pas_segregated::Slots;
+use pas_search::{ByPlacement, find_page};
+use pas_segregated::{Slots, whole_slots};
 use pas_steps::Desk;
 
 /// The lowest free slot of the class on the lowest offered shared page of the heap that has one, or on the lowest page without a deed, and the
@@ -30,14 +31,16 @@ pub fn refill<D: Desk>(desk: &mut D, heap: u8, class: u8) -> Result<Slots, NoRoo
         heap,
         kind: Kind::Shared,
     };
-    match find_page(&ByChoice(Partial { class }), desk, directory) {
+    match find_page(&ByPlacement(Partial { class }), desk, directory) {
         Ok(served) => {
+            let row = Mask4::run(served.found.first, served.found.grains);
+            let starts = whole_slots(&row, class);
             leave(desk, served.page, directory);
             Ok(Slots {
                 page: served.page,
                 heap,
                 class,
-                starts: served.found,
+                starts,
                 right: false,
             })
         }

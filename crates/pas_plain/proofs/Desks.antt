@@ -1,29 +1,30 @@
 -- Desks at a plain region, and their passes.
-use Rattle.std.proofs.Common.{◌≡◌, ◌≢◌, ℕ, zero, suc, ◌+◌, ◌-◌, ◌^◌, ◌≤◌, min, All, List, [], ◌∷◌, ◌++◌, length, reverse, refl, ap, sym, ◌∙◌, arith, true}
-use Rattle.std.proofs.Common.{subst, slice_index}
-use Rattle.pas_profile.specs.{Rooms.shown, Rooms.EventRoom, Layouts.index_of, Profiles.IsWordOf}
-use Rattle.pas_profile.specs.declared.profile.Profile.{Profile}
-use Rattle.pas_steps.specs.{Events.events_of, Events.event_of, Lists.Whole, Lists.part, Lists.Legal, Allowed.Allowed, Allowed.IsStepOf, Agreement.Agrees}
-use Rattle.pas_steps.specs.{Calls.nothing, Calls.Does, Calls.Calls, Clear.IsClear, Clear.HasNothing, Effects.target, Noted.IsNoted}
-use Rattle.pas_steps.specs.Views.{known_epoch, View, epoch_of, or_zero}
+use Rattle.std.proofs.Common.{◌≡◌, ◌≢◌, ℕ, zero, suc, ◌+◌, ◌-◌, ◌^◌, ◌≤◌, min, All, List, [], ◌∷◌, ◌++◌, length, refl, ap, sym, ◌∙◌, arith, true, subst, Bool}
+use Rattle.std.proofs.Common.{if◌then◌else◌, length-append, append-nil}
+use Rattle.pas_profile.specs.{Rooms.shown, Rooms.EventRoom, Layouts.same_word, Profiles.IsWordOf}
+use Rattle.pas_profile.specs.declared.{profile.Profile.Profile, word.Word.Word, event.Event.Event}
+use Rattle.pas_profile.proofs.Places.{same_word-true}
+use Rattle.pas_steps.specs.{Events.events_of, Events.event_of, Allowed.Allowed, Allowed.IsStepOf, Agreement.Agrees, Calls.nothing, Calls.Does, Calls.Calls}
+use Rattle.pas_steps.specs.{Clear.IsClear, Clear.HasNothing, Effects.target, Effects.new_value, Noted.IsNoted, Noted.ShowsRest}
+use Rattle.pas_steps.specs.Lists.{Whole, part, word_after, Legal}
+use Rattle.pas_steps.specs.Views.{known_epoch, View, epoch_of, or_zero, epoch_after}
 use Rattle.pas_steps.specs.Desks.{triples, Seat, Standing, made, triple, CanMake, Makes}
 use Rattle.pas_steps.specs.declared.step.{Made.Made, Step.Step}
 use Rattle.pas_steps.proofs.{Parts.part_of_others, Parts.part_of_own, Frames.with_few, Called.call_none, Called.call_step, Calls.does_idly}
-use Rattle.pas_steps.proofs.{Nothing.nothing_still, Nothing.calls_rest, Targets.target_of_region, Noting.notes_next}
-use Rattle.pas_plain.specs.Plain.{actor_of, PassStands, pass_for, passes_from, profile_of, room_of_pass, events_shown, RegionStands, epoch_known, IsExchanged}
+use Rattle.pas_steps.proofs.{Nothing.nothing_still, Nothing.calls_rest, Targets.target_of_region, Noting.rest_noted, Noting.count_next}
+use Rattle.pas_plain.specs.Plain.{actor_of, count_of_pass, Forgets, PassStands, pass_for, passes_from, profile_of, room_of_pass, events_shown, forgotten_by}
+use Rattle.pas_plain.specs.Plain.{spare_in, RegionStands, epoch_known, IsExchanged}
 use Rattle.pas_plain.specs.declared.{pass.PlainPass.PlainPass, region.PlainRegion.PlainRegion, desk.PlainDesk.PlainDesk}
 use Rattle.pas_steps.specs.Kinds.{Kinds, kind_of, is_in, apart, changing}
-use Rattle.pas_plain.specs.Seats.{region_of, pass_of, DeskStands, standing_of, IsChanged}
+use Rattle.pas_plain.specs.Seats.{region_of, pass_of, DeskStands, standing_of, spare_of_room, IsChanged}
 use Rattle.pas_plain.specs.Storms.{Acts, StormStands, seat_for, storm_of, own_stands}
-use Rattle.std.proofs.lemmas.List.{length-reverse}
-use Rattle.pas_core.specs.WordLists.{AreWordsAfter}
-use Rattle.pas_core.proofs.Nexts.{legal_next, agrees_next, words_next}
+use Rattle.pas_core.proofs.Nexts.{legal_next, agrees_next}
 
 -- ==== Passes that stand: at the opening, and at rest while another actor steps.
 
 -- ---- at the opening
 pub fresh_stands : (f : Profile) (k : ℕ) (room : EventRoom) → k ≤ f.threads → shown room ≡ [] → PassStands f (pass_for k room) []
-fresh_stands f k room actor empty = record { actor = actor; shown = empty; count = refl; epoch = refl }
+fresh_stands f k room actor empty = record { actor = actor; shown = record { gone = []; many = refl; all = empty }; count = refl; epoch = refl }
 
 -- Passes for rooms of which nothing is shown stand for actors that did nothing.
 pub passes_stand : (f : Profile) (n : ℕ) (rooms : List EventRoom) → n + length rooms ≤ f.threads + 1 → All (λ room. shown room ≡ []) rooms
@@ -41,7 +42,7 @@ pass_rests f pass k steps l other stands =
     let same : part j l ≡ part j (triples k steps ++ l) = sym (part_of_others j k steps l other) in
     record {
       actor = stands.actor;
-      shown = stands.shown ∙ ap (λ v. reverse (events_of j v)) same;
+      shown = subst (λ v. ShowsRest (forgotten_by pass) (events_shown pass) (events_of j v)) same stands.shown;
       count = stands.count ∙ ap (λ v. min (length v) (2 ^ 64 - 1)) same;
       epoch = stands.epoch ∙ ap known_epoch same;
     }
@@ -205,11 +206,11 @@ events_few k (m ∷ v) = omega (arith, with_few (event_of k (epoch_of v) m.step 
 
 -- there is room for n events after so few steps
 pub spare : {f : Profile} {room k : ℕ} {d : PlainDesk} {v : View} (n : ℕ) → At f room k d v → length v + n ≤ room
-    → n ≤ room_of_pass d.pass - length (events_shown d.pass)
-spare {d = d} {v = v} n at few =
+    → n ≤ spare_in d.pass
+spare {k = k} {d = d} {v = v} n at few =
     let j = actor_of d.pass in
-    let e : length (events_shown d.pass) ≡ length (events_of j v) = ap length at.stood.pass.shown ∙ length-reverse _ ∙ ap (λ x. length (events_of j x)) at.stood.part_is in
-    omega (arith, e, events_few j v, at.of_room, few)
+    let left = spare_of_room d v (triples k v) at.stood in
+    omega (arith, left, events_few j v, at.of_room, few)
 
 -- ==== A region, a pass and a desk after a step.
 
@@ -219,36 +220,41 @@ own_part k m l = part_of_own k (m ∷ []) l
 
 -- ---- the pass
 pass_next : (f : Profile) (old new : PlainPass) (s : Step) (a : ℕ) (l : Whole) → PassStands f old l → actor_of new ≡ actor_of old
+    → forgotten_by new ≡ forgotten_by old
     → IsNoted old.notes new.notes (actor_of old) s a → PassStands f new (triple (actor_of old) (made s a) ∷ l)
-pass_next f old new s a l stands same noted =
+pass_next f old new s a l stands same gone noted =
     let k = actor_of old in
     let next = triple k (made s a) ∷ l in
     let here : k ≡ actor_of new = sym same in
     let own = sym (own_part k (made s a) l) in
-    let notes = notes_next old.notes new.notes k s a (part k l) (record { shown = stands.shown; count = stands.count; epoch = stands.epoch }) noted in
+    let rest = rest_noted (forgotten_by old) old.notes new.notes k s a (part k l) stands.shown stands.epoch noted in
+    let count = count_next (count_of_pass old) (count_of_pass new) (length (part k l)) (length (made s a ∷ part k l)) (omega arith) noted.count stands.count in
     record {
       actor = subst (λ (x : ℕ). x ≤ f.threads) here stands.actor;
-      shown = notes.shown ∙ ap (λ v. reverse (events_of k v)) own ∙ ap (λ (x : ℕ). reverse (events_of x (part x next))) here;
-      count = notes.count ∙ ap (λ v. min (length v) (2 ^ 64 - 1)) own ∙ ap (λ (x : ℕ). min (length (part x next)) (2 ^ 64 - 1)) here;
-      epoch = notes.epoch ∙ ap known_epoch own ∙ ap (λ (x : ℕ). known_epoch (part x next)) here;
+      shown =
+          subst (λ (n : ℕ). ShowsRest n (events_shown new) (events_of (actor_of new) (part (actor_of new) next))) (sym gone)
+          (subst (λ (x : ℕ). ShowsRest (forgotten_by old) (events_shown new) (events_of x (part x next))) here
+          (subst (λ v. ShowsRest (forgotten_by old) (events_shown new) (events_of k v)) own rest));
+      count = count ∙ ap (λ v. min (length v) (2 ^ 64 - 1)) own ∙ ap (λ (x : ℕ). min (length (part x next)) (2 ^ 64 - 1)) here;
+      epoch = noted.epoch ∙ ap (epoch_after s a) stands.epoch ∙ ap known_epoch own ∙ ap (λ (x : ℕ). known_epoch (part x next)) here;
     }
 
 -- ---- the region
-are_words_after : (r : PlainRegion) (l : Whole) → RegionStands r l → AreWordsAfter (profile_of r) r.words.items l
-are_words_after r l stands = record { sized = omega (arith, r.sized, r.words.ok.0); values = stands.ends }
+-- a word after the step, which wrote its own word
+word_next : (l : Whole) (w : Word) (e k : ℕ) (s : Step) (n old : ℕ) → n ≡ word_after l (target s) → old ≡ word_after l w → e ≡ epoch_of (part k l)
+    → (same : Bool) → same_word (target s) w ≡ same
+    → (if same then new_value e s n else old) ≡ (if same then new_value (epoch_of (part k l)) s (word_after l w) else word_after l w)
+word_next l w e k s n old is was ep same h = grind (arith, same_word-true)
 
 region_next : (old new : PlainRegion) (e : ℕ) (s : Step) (a : ℕ) (l : Whole) (k : ℕ) → RegionStands old l → IsExchanged old new e s a → e ≡ epoch_of (part k l)
     → IsWordOf (profile_of old) (target s)
     → Legal (profile_of old) (triple k (made s a) ∷ l) → RegionStands new (triple k (made s a) ∷ l)
 region_next old new e s a l k stands changed ep of legal =
-    let f = profile_of old in
-    let after = words_next f old.words.items l e k s a (are_words_after old l stands) of changed.answer_is ep in
     record {
       legal = subst (λ (g : Profile). Legal g (triple k (made s a) ∷ l)) (sym changed.profile) legal;
       ends = λ w hw.
-          ap (λ (g : Profile). slice_index new.words.items (index_of g.pages w)) changed.profile
-          ∙ ap (λ (ws : List ℕ). slice_index ws (index_of f.pages w)) changed.words
-          ∙ after.values w (subst (λ (g : Profile). IsWordOf g w) changed.profile hw);
+          let here = subst (λ (g : Profile). IsWordOf g w) changed.profile hw in
+          changed.words w here ∙ word_next l w e k s a _ (changed.answer_is ∙ stands.ends (target s) of) (stands.ends w here) ep _ refl;
     }
 
 -- ---- the desk
@@ -268,7 +274,7 @@ desk_next d new s a of changed v l stood allowed =
     let legal = legal_next f l k v s a stood.region.legal stood.pass.actor stood.part_is of allowed (changed.region.answer_is ∙ stood.region.ends (target s) of_word) in
     record {
       region = region_next d.region new.region (or_zero (epoch_known d.pass)) s a l k stood.region changed.region (ap or_zero stood.pass.epoch) of_word legal;
-      pass = subst (λ (g : Profile). PassStands g new.pass (triple k (made s a) ∷ l)) (sym changed.region.profile) (pass_next f d.pass new.pass s a l stood.pass changed.actor changed.pass);
+      pass = subst (λ (g : Profile). PassStands g new.pass (triple k (made s a) ∷ l)) (sym changed.region.profile) (pass_next f d.pass new.pass s a l stood.pass changed.actor changed.forgotten changed.pass);
       part_is = ap (λ (x : ℕ). part x (triple k (made s a) ∷ l)) changed.actor ∙ own_part k (made s a) l ∙ ap (λ x. made s a ∷ x) stood.part_is;
     }
 
@@ -283,3 +289,45 @@ plain_makes d new s a of changed =
       agrees = λ v l stood allowed.
           agrees_next f l k v s a d.region.valid stood.region.legal stood.part_is of (changed.region.answer_is ∙ stood.region.ends (target s) (target_of_region f v s of allowed));
     }
+
+-- ---- a pass whose room is emptied
+-- What was shown is gone then, after what was gone before.
+gone_too : (n m : ℕ) (shown empty es : List Event) → m ≡ n + length shown → empty ≡ [] → ShowsRest n shown es → ShowsRest m empty es
+gone_too n m shown empty es more none rest = record {
+  gone = rest.gone ++ shown;
+  many = length-append rest.gone shown ∙ ap (λ (x : ℕ). x + length shown) rest.many ∙ sym more;
+  all = ap (λ xs. (rest.gone ++ shown) ++ xs) none ∙ append-nil (rest.gone ++ shown) ∙ rest.all;
+}
+
+-- A pass that forgot what it showed stands as before.
+pub forgets : (old new : PlainPass) → actor_of new ≡ actor_of old → events_shown new ≡ [] → forgotten_by new ≡ forgotten_by old + length (events_shown old)
+    → room_of_pass new ≡ room_of_pass old → count_of_pass new ≡ count_of_pass old → epoch_known new ≡ epoch_known old → Forgets old new
+forgets old new actor empty forgotten room count epoch =
+    let none = ap length empty in
+    record {
+      actor = actor;
+      empty = empty;
+      forgotten = forgotten;
+      room = room;
+      spare = omega (arith, none, forgotten, room);
+      count = count;
+      stands = λ f l stands.
+          let k = actor_of old in
+          record {
+            actor = subst (λ (x : ℕ). x ≤ f.threads) (sym actor) stands.actor;
+            shown =
+                subst (λ (x : ℕ). ShowsRest (forgotten_by new) (events_shown new) (events_of x (part x l))) (sym actor)
+                (gone_too (forgotten_by old) (forgotten_by new) (events_shown old) (events_shown new) (events_of k (part k l)) forgotten empty stands.shown);
+            count = count ∙ stands.count ∙ ap (λ (x : ℕ). min (length (part x l)) (2 ^ 64 - 1)) (sym actor);
+            epoch = epoch ∙ stands.epoch ∙ ap (λ (x : ℕ). known_epoch (part x l)) (sym actor);
+          };
+    }
+
+-- .. and so does its desk.
+pub desk_forgets : (old new : PlainDesk) → region_of new ≡ region_of old → Forgets (pass_of old) (pass_of new) → (v : View) (l : Whole)
+    → DeskStands old v l → DeskStands new v l
+desk_forgets old new region pass v l stood = record {
+  region = subst (λ (r : PlainRegion). RegionStands r l) (sym region) stood.region;
+  pass = subst (λ (r : PlainRegion). PassStands (profile_of r) (pass_of new) l) (sym region) (pass.stands (profile_of (region_of old)) l stood.pass);
+  part_is = ap (λ (k : ℕ). part k l) pass.actor ∙ stood.part_is;
+}

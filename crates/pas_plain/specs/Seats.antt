@@ -1,8 +1,11 @@
 -- What a plain desk stands for, and which passes are a region's own.
-use Rattle.std.specs.Prelude.{ℕ, ◌≡◌, ◌≢◌, List, [], All}
-use Rattle.pas_steps.specs.{Views.View, Views.or_zero, Lists.Whole, Lists.part, Desks.Seat, Desks.Standing, Noted.IsNoted}
+use Rattle.std.specs.Prelude.{ℕ, ◌≡◌, ◌≢◌, ◌+◌, List, [], All, length}
+use Rattle.std.proofs.Common.{ap, sym, ◌∙◌, subst}
+use Rattle.std.proofs.Math.Nat.{sub-add_cancel}
+use Rattle.pas_steps.specs.{Views.View, Views.or_zero, Lists.Whole, Lists.part, Events.events_of, Desks.Seat, Desks.Standing, Noted.IsNoted, Noted.ShowsRest}
+use Rattle.pas_steps.proofs.Noting.{rest_length}
 use Rattle.pas_steps.specs.declared.step.Step.{Step}
-use Rattle.pas_plain.specs.Plain.{profile_of, RegionStands, actor_of, room_of_pass, epoch_known, PassStands, IsExchanged}
+use Rattle.pas_plain.specs.Plain.{profile_of, RegionStands, actor_of, events_shown, forgotten_by, spare_in, room_of_pass, epoch_known, PassStands, IsExchanged}
 use Rattle.pas_plain.specs.declared.{region.PlainRegion.PlainRegion, pass.PlainPass.PlainPass, desk.PlainDesk.PlainDesk}
 
 -- ---- desks
@@ -21,6 +24,19 @@ pub record DeskStands (desk : PlainDesk) (v : View) (l : Whole) : Type 0 where
   pub pass : PassStands (profile_of desk.region) desk.pass l
   pub part_is : part (actor_of desk.pass) l ≡ v
 
+-- the events that it shows are those of the view, after as many as were forgotten ..
+pub shows_rest : (desk : PlainDesk) (v : View) (l : Whole) → DeskStands desk v l
+    → ShowsRest (forgotten_by desk.pass) (events_shown desk.pass) (events_of (actor_of desk.pass) v)
+shows_rest desk v l stood =
+    subst (λ x. ShowsRest (forgotten_by desk.pass) (events_shown desk.pass) (events_of (actor_of desk.pass) x)) stood.part_is stood.pass.shown
+
+-- .. and what is left of the room is what they don't take
+pub spare_of_room : (desk : PlainDesk) (v : View) (l : Whole) → DeskStands desk v l
+    → spare_in desk.pass + length (events_of (actor_of desk.pass) v) ≡ room_of_pass desk.pass
+spare_of_room desk v l stood =
+    ap (λ n. spare_in desk.pass + n) (sym (rest_length (shows_rest desk v l stood)))
+    ∙ sub-add_cancel {n = room_of_pass desk.pass} {m = forgotten_by desk.pass + length (events_shown desk.pass)} desk.pass.within
+
 abbrev pub standing_of : PlainDesk → Standing
 standing_of desk = record { seat = seat_of desk; stands = DeskStands desk }
 
@@ -28,6 +44,7 @@ standing_of desk = record { seat = seat_of desk; stands = DeskStands desk }
 pub record IsChanged (old new : PlainDesk) (step : Step) (answer : ℕ) : Type 0 where
   pub region : IsExchanged old.region new.region (or_zero (epoch_known old.pass)) step answer
   pub actor : actor_of new.pass ≡ actor_of old.pass
+  pub forgotten : forgotten_by new.pass ≡ forgotten_by old.pass
   pub pass : IsNoted old.pass.notes new.pass.notes (actor_of old.pass) step answer
 
 -- ---- passes of a region: region and passes stand for one list

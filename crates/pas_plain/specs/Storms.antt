@@ -1,11 +1,10 @@
 -- Two actors at one plain region, of whom one acts between the steps of the other.
-use Rattle.std.specs.Prelude.{◌+◌, ◌-◌, ◌^◌, ◌≡◌, ◌≢◌, List, length, min, reverse}
-use Rattle.std.proofs.Common.{ap, sym, ◌∙◌}
-use Rattle.std.proofs.{Math.Nat.sub-add_cancel, lemmas.List.length-reverse}
-use Rattle.pas_steps.specs.{Calls.Calls, Clear.HasNothing, Desks.Seat, Desks.Standing, Events.events_of, Lists.Whole, Lists.part, Views.View}
+use Rattle.std.specs.Prelude.{◌+◌, ◌-◌, ◌^◌, ◌≡◌, ◌≢◌, List, length, min}
+use Rattle.std.proofs.Common.{ap, ◌∙◌}
+use Rattle.pas_steps.specs.{Calls.Calls, Clear.HasNothing, Desks.Seat, Desks.Standing, Events.events_of, Lists.Whole, Lists.part, Noted.ShowsRest, Views.View}
 use Rattle.pas_steps.specs.declared.step.Made.{Made}
-use Rattle.pas_plain.specs.Plain.{profile_of, RegionStands, actor_of, events_shown, room_of_pass, count_of_pass, PassStands}
-use Rattle.pas_plain.specs.Seats.{region_of, pass_of, seat_of, DeskStands}
+use Rattle.pas_plain.specs.Plain.{profile_of, RegionStands, actor_of, events_shown, forgotten_by, spare_in, room_of_pass, count_of_pass, PassStands}
+use Rattle.pas_plain.specs.Seats.{region_of, pass_of, seat_of, DeskStands, shows_rest, spare_of_room}
 use Rattle.pas_plain.specs.declared.{region.PlainRegion.PlainRegion, pass.PlainPass.PlainPass, desk.PlainDesk.PlainDesk}
 
 -- an actor that had nothing and was clear made these steps, after which it has nothing and is clear again
@@ -47,16 +46,13 @@ abbrev pub own_stands : (desk : PlainDesk) (foreign : PlainPass) (v : View) (l :
 own_stands desk foreign v l stood = record { region = stood.region_stands; pass = stood.own_part; part_is = stood.part_is }
 
 pub shown_own : (desk : PlainDesk) (foreign : PlainPass) (v : View) (l : Whole) → StormStands (region_of desk) (pass_of desk) foreign v l
-    → events_shown (pass_of desk) ≡ reverse (events_of (actor_of (pass_of desk)) v)
-shown_own desk foreign v l stood = stood.own_part.shown ∙ ap (λ x. reverse (events_of (actor_of (pass_of desk)) x)) stood.part_is
+    → ShowsRest (forgotten_by (pass_of desk)) (events_shown (pass_of desk)) (events_of (actor_of (pass_of desk)) v)
+shown_own desk foreign v l stood = shows_rest desk v l (own_stands desk foreign v l stood)
 
 pub counted_own : (desk : PlainDesk) (foreign : PlainPass) (v : View) (l : Whole) → StormStands (region_of desk) (pass_of desk) foreign v l
     → count_of_pass (pass_of desk) ≡ min (length v) (2 ^ 64 - 1)
 counted_own desk foreign v l stood = stood.own_part.count ∙ ap (λ x. min (length x) (2 ^ 64 - 1)) stood.part_is
 
 pub spare_own : (desk : PlainDesk) (foreign : PlainPass) (v : View) (l : Whole) → StormStands (region_of desk) (pass_of desk) foreign v l
-    → room_of_pass (pass_of desk) - length (events_shown (pass_of desk)) + length (events_of (actor_of (pass_of desk)) v) ≡ room_of_pass (pass_of desk)
-spare_own desk foreign v l stood =
-    let shown = ap length (shown_own desk foreign v l stood) ∙ length-reverse (events_of (actor_of (pass_of desk)) v) in
-    ap (λ n. room_of_pass (pass_of desk) - length (events_shown (pass_of desk)) + n) (sym shown)
-    ∙ sub-add_cancel {n = room_of_pass (pass_of desk)} {m = length (events_shown (pass_of desk))} (pass_of desk).notes.room.within
+    → spare_in (pass_of desk) + length (events_of (actor_of (pass_of desk)) v) ≡ room_of_pass (pass_of desk)
+spare_own desk foreign v l stood = spare_of_room desk v l (own_stands desk foreign v l stood)

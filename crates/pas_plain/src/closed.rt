@@ -45,6 +45,8 @@ impl<D: Desk> Desk for Closed<D> {
 
     ghost home = { λ closed. D.home closed.desk };
 
+    ghost forgotten = { λ home. D.forgotten home };
+
     ghost tells = { false };
 
     ghost standing = { λ closed. one_side (D.standing closed.desk) };

@@ -31,10 +31,10 @@ impl PlainRegion {
 }
 
 impl PlainDesk {
-    ghost use Rattle.std.specs.Prelude.{◌+◌, ◌≤◌, length};
+    ghost use Rattle.std.specs.Prelude.{◌≤◌};
     ghost use Rattle.pas_profile.specs.Profiles.{IsWordOf};
     ghost use Rattle.pas_steps.specs.{Effects.target, Events.wants, Ranges.IsRanged};
-    ghost use Rattle.pas_plain.specs.{Plain.events_shown, Plain.room_of_pass, Seats.IsChanged};
+    ghost use Rattle.pas_plain.specs.{Plain.spare_in, Plain.count_of_pass, Plain.Forgets, Seats.IsChanged, Seats.seat_of};
 
     /// Lets the actor rise: the region, and the actor's pass.
     #[inline]
@@ -68,11 +68,24 @@ impl PlainDesk {
         swap(&mut self.pass, pass);
     }
 
+    /// Forgets the events that are shown, so that the actor's room is empty. There is room for as many more as before, and the desk stands
+    /// for all for which it stood.
+    #[inline(always)]
+    pub fn forget(&mut self)
+        ensures region { region_of self.new ≡ region_of self.old }
+        ensures pass { Forgets (pass_of self.old) (pass_of self.new) }
+        ensures seat { seat_of self.new ≡ seat_of self.old }
+        ensures count { count_of_pass (pass_of self.new) ≡ count_of_pass (pass_of self.old) }
+        ensures stands { (v : View) (l : Whole) → DeskStands self.old v l → DeskStands self.new v l }
+    {
+        self.pass.forget();
+    }
+
     #[inline(always)]
     fn change(&mut self, step: Step) -> u64
         requires of_region { IsWordOf (profile_of self.old.region) (target step) }
         requires ranged { IsRanged step }
-        requires room { length (events_shown self.old.pass) + wants step ≤ room_of_pass self.old.pass }
+        requires room { wants step ≤ spare_in self.old.pass }
         ensures { IsChanged self.old self.new step result }
     {
         let answer = self.region.exchange(self.pass.epoch(), step);
@@ -82,21 +95,22 @@ impl PlainDesk {
 }
 
 impl Desk for PlainDesk {
-    ghost use Rattle.std.specs.Prelude.{◌+◌, ◌-◌, ◌^◌, true, length, min, reverse};
-    ghost use Rattle.std.proofs.Common.{ap, sym, ◌∙◌};
-    ghost use Rattle.std.proofs.{lemmas.List.length-reverse, Math.Nat.sub-add_cancel};
-    ghost use Rattle.pas_steps.specs.Events.{events_of};
-    ghost use Rattle.pas_plain.specs.{Plain.events_shown, Plain.room_of_pass, Plain.count_of_pass, Seats.standing_of};
+    ghost use Rattle.std.specs.Prelude.{◌-◌, ◌^◌, true, length, min};
+    ghost use Rattle.std.proofs.Common.{ap, ◌∙◌};
+    ghost use Rattle.pas_plain.specs.Plain.{events_shown, forgotten_by, spare_in, count_of_pass};
+    ghost use Rattle.pas_plain.specs.Seats.{standing_of, shows_rest, spare_of_room};
 
-    type Home = ();
+    type Home = u32;
 
-    ghost home = { λ desk. tt };
+    ghost home = { λ desk. forgotten_by desk.pass };
+
+    ghost forgotten = { λ n. n };
 
     ghost tells = { true };
 
     ghost standing = { standing_of };
 
-    ghost spare_of = { λ desk. room_of_pass desk.pass - length (events_shown desk.pass) };
+    ghost spare_of = { λ desk. spare_in desk.pass };
 
     ghost shown_of = { λ desk. events_shown desk.pass };
 
@@ -131,9 +145,9 @@ impl Desk for PlainDesk {
 
     ghost limited = { λ desk. desk.pass.notes.room.limited };
 
-    ghost shows = { λ desk v l stood. stood.pass.shown ∙ ap (λ v. reverse (events_of (actor_of desk.pass) v)) stood.part_is };
+    ghost shows = { shows_rest };
 
-    ghost spares = { λ desk v l stood. ap (λ n. room_of_pass desk.pass - length (events_shown desk.pass) + n) (sym (ap length (stood.pass.shown ∙ ap (λ v. reverse (events_of (actor_of desk.pass) v)) stood.part_is) ∙ length-reverse (events_of (actor_of desk.pass) v))) ∙ sub-add_cancel {n = room_of_pass desk.pass} {m = length (events_shown desk.pass)} desk.pass.notes.room.within };
+    ghost spares = { spare_of_room };
 
     ghost counts = { λ desk v l stood. stood.pass.count ∙ ap (λ v. min (length v) (2 ^ 64 - 1)) stood.part_is };
 

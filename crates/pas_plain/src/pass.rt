@@ -1,21 +1,23 @@
 //! The passes of the actors.
-ghost use Rattle.std.specs.Prelude.{◌≡◌, ◌≤◌, ◌+◌, length, vec_len, IfOk};
-ghost use Rattle.pas_plain.specs.Plain.{passes_from};
+ghost use Rattle.std.specs.Prelude.{◌≡◌, ◌≤◌, ◌+◌, length};
+ghost use Rattle.pas_steps.specs.Noted.{events_noted, room_of_notes};
 
-use pas_profile::{Event, EventRoom, NoMemory};
+use pas_profile::{Event, EventRoom};
 use pas_steps::{Notes, Step};
-use std::alloc::Global;
 
-/// What an actor keeps while it isn't at the region: what it noted of its own steps.
+/// What an actor keeps while it isn't at the region: what it noted of its own steps, and how many of its events were forgotten. The room
+/// was made for these too.
 #[derive(Drop)]
 pub struct PlainPass {
     actor: u8,
     notes: Notes,
+    forgotten: u32,
+    ghost within: { forgotten + length (events_noted notes) ≤ room_of_notes notes },
 }
 
 impl PlainPass {
     ghost use Rattle.pas_steps.specs.{Events.wants, Ranges.IsRanged, Views.or_zero, Noted.IsNoted};
-    ghost use Rattle.pas_plain.specs.Plain.{pass_for, actor_of, events_shown, room_of_pass, count_of_pass, epoch_known};
+    ghost use Rattle.pas_plain.specs.Plain.{pass_for, actor_of, events_shown, forgotten_by, spare_in, count_of_pass, epoch_known, Forgets};
 
     /// The pass of an actor that made no step.
     pub(crate) fn new(actor: u8, room: EventRoom) -> PlainPass
@@ -24,6 +26,7 @@ impl PlainPass {
         PlainPass {
             actor,
             notes: Notes::new(room),
+            forgotten: 0,
         }
     }
 
@@ -43,7 +46,7 @@ impl PlainPass {
         self.notes.count()
     }
 
-    /// All events made, in order.
+    /// All events made, in order, but for those that were forgotten.
     #[inline]
     pub fn shown(&self) -> &[Event]
         ensures { result.now ≡ events_shown self.now }
@@ -53,9 +56,17 @@ impl PlainPass {
 
     /// For how many more events there is room.
     pub(crate) fn spare(&self) -> u32
-        ensures { result + length (events_shown self.now) ≡ room_of_pass self.now }
+        ensures { result ≡ spare_in self.now }
     {
-        self.notes.spare()
+        self.notes.spare() - self.forgotten
+    }
+
+    /// Forgets the events, so that the room is empty.
+    #[inline(always)]
+    pub(crate) fn forget(&mut self)
+        ensures { Forgets self.old self.new }
+    {
+        self.forgotten += self.notes.forget();
     }
 
     /// The newest epoch that the actor read, 0 where it read none.
@@ -70,25 +81,11 @@ impl PlainPass {
     #[inline(always)]
     pub(crate) fn note(&mut self, step: Step, answer: u64)
         requires ranged { IsRanged step }
-        requires room { length (events_shown self.old) + wants step ≤ room_of_pass self.old }
+        requires room { wants step ≤ spare_in self.old }
         ensures actor { actor_of self.new ≡ actor_of self.old }
+        ensures forgotten { forgotten_by self.new ≡ forgotten_by self.old }
         ensures noted { IsNoted self.old.notes self.new.notes (actor_of self.old) step answer }
     {
         self.notes.note(self.actor, step, answer);
     }
-}
-
-/// A pass for each actor, from 0 on, with the rooms in their order.
-pub(crate) fn passes_for(alloc: Global, rooms: Vec<EventRoom>) -> Result<Vec<PlainPass>, NoMemory>
-    requires { vec_len rooms ≤ 256 }
-    ensures { IfOk result (λ passes. passes.items ≡ passes_from 0 rooms.items) }
-{
-    let Ok(mut passes) = Vec::with_capacity(alloc, rooms.len()) else {
-        return Err(NoMemory);
-    };
-    for room in rooms {
-        let actor = passes.len() as u8;
-        passes.push_reserved(PlainPass::new(actor, room));
-    }
-    Ok(passes)
 }

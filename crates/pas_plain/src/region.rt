@@ -1,31 +1,20 @@
-//! A region whose words stand in one vector.
-ghost use Rattle.std.specs.Prelude.{◌≡◌, ◌<◌, vec_len, length, slice_index};
-ghost use Rattle.pas_profile.specs.{Profiles.IsValid, Layouts.words_of};
+//! A region at which one actor works at a time.
+ghost use Rattle.std.specs.Prelude.{◌≡◌};
+ghost use Rattle.pas_profile.specs.Profiles.{IsValid};
 
 use pas_profile::{Layout, NoMemory, Profile};
 use pas_steps::effect::{new_value, target};
-use pas_steps::{State, Step, opening_words};
+use pas_steps::{PagedWords, State, Step};
 use std::alloc::Global;
 
-/// A region whose words stand in one vector. One actor works at it at a time.
+/// A region whose words stand in memory page by page, as they are written. One actor works at it at a time.
 #[derive(Drop)]
 pub struct PlainRegion {
     profile: Profile,
-    layout: Layout,
-    words: Vec<u64>,
+    words: PagedWords,
     ghost valid: { IsValid profile },
-    ghost pages: { layout.pages ≡ profile.pages },
-    ghost heaps: { layout.heaps ≡ profile.heaps },
-    ghost sized: { vec_len words ≡ words_of profile.pages profile.heaps },
-}
-
-/// A word by its place.
-#[inline]
-fn load(words: &[u64], at: usize) -> u64
-    requires { at < length words.now }
-    ensures { result ≡ slice_index words.now at }
-{
-    words[at]
+    ghost pages: { words.layout.pages ≡ profile.pages },
+    ghost heaps: { words.layout.heaps ≡ profile.heaps },
 }
 
 impl PlainRegion {
@@ -41,21 +30,16 @@ impl PlainRegion {
         ensures profile { IfOk result (λ region. profile_of region ≡ profile) }
         ensures opening { IfOk result (λ region. RegionStands region []) }
     {
-        let layout = Layout::new(&profile);
-        let words = opening_words(alloc, &layout)?;
-        Ok(PlainRegion {
-            profile,
-            layout,
-            words,
-        })
+        let words = PagedWords::opened(alloc, Layout::new(&profile))?;
+        Ok(PlainRegion { profile, words })
     }
 
-    /// The state of the region. It keeps the region's own vector.
+    /// The state of the region. It keeps the region's own vectors.
     pub(crate) fn into_state(self) -> State
         ensures profile { the_profile_of result ≡ profile_of self }
         ensures words { (w : Word) → word_in result w ≡ word_at self w }
     {
-        State::of_words(self.profile, self.words)
+        State::of_paged(self.profile, self.words)
     }
 
     /// The profile of the region.
@@ -73,9 +57,9 @@ impl PlainRegion {
         requires ranged { IsRanged step }
         ensures { IsExchanged self.old self.new epoch step result }
     {
-        let at = self.layout.index(target(step));
-        let old = load(&self.words, at);
-        self.words[at] = new_value(epoch, step, old);
+        let word = target(step);
+        let old = self.words.get(word);
+        self.words.set(word, new_value(epoch, step, old));
         old
     }
 }

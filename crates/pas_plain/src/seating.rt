@@ -1,7 +1,7 @@
 //! One or two actors at a plain region that nobody used yet.
-ghost use Rattle.std.specs.Prelude.{◌≡◌, ◌-◌, [], IfOk, length};
+ghost use Rattle.std.specs.Prelude.{◌≡◌, [], IfOk};
 ghost use Rattle.pas_profile.specs.Profiles.{IsValid};
-ghost use Rattle.pas_plain.specs.Plain.{profile_of, actor_of, events_shown, room_of_pass};
+ghost use Rattle.pas_plain.specs.Plain.{profile_of, actor_of, spare_in, room_of_pass};
 ghost use Rattle.pas_plain.specs.Seats.{DeskStands, Opens, region_of, pass_of};
 
 use crate::desk::PlainDesk;
@@ -45,7 +45,7 @@ pub fn beside(
     requires threads { profile.threads ≡ 2 }
     ensures opens { IfOk result (λ opened. Opens opened.0 opened.1 events) }
     ensures profile { IfOk result (λ opened. profile_of (region_of opened.0) ≡ profile) }
-    ensures room { IfOk result (λ opened. room_of_pass (pass_of opened.0) - length (events_shown (pass_of opened.0)) ≡ events) }
+    ensures room { IfOk result (λ opened. spare_in (pass_of opened.0) ≡ events) }
 {
     let Ok(mut rooms) = Vec::with_capacity(alloc, 3) else {
         return Err(NoMemory);

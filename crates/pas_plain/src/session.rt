@@ -1,15 +1,30 @@
 //! How a region is opened for all its actors, and how it is closed.
-ghost use Rattle.std.specs.Prelude.{◌≡◌, ◌+◌, All, IfOk, [], vec_len};
+ghost use Rattle.std.specs.Prelude.{◌≡◌, ◌≤◌, ◌+◌, All, IfOk, [], vec_len};
 ghost use Rattle.pas_profile.specs.{Profiles.IsValid, Profiles.IsWordOf, Rooms.shown};
 ghost use Rattle.pas_steps.specs.{Lists.Whole, Lists.word_after, States.profile_of as the_profile_of, States.word_in};
 ghost use Rattle.pas_plain.specs.Plain.{profile_of, RegionStands, PassStands, passes_from};
 ghost use Rattle.pas_plain.specs.Seats.{ArePassesOf};
 
-use crate::pass::{PlainPass, passes_for};
+use crate::pass::PlainPass;
 use crate::region::PlainRegion;
 use pas_profile::{EventRoom, NoMemory, Profile, Word};
 use pas_steps::State;
 use std::alloc::Global;
+
+/// A pass for each actor, from 0 on, with the rooms in their order.
+pub(crate) fn passes_for(alloc: Global, rooms: Vec<EventRoom>) -> Result<Vec<PlainPass>, NoMemory>
+    requires { vec_len rooms ≤ 256 }
+    ensures { IfOk result (λ passes. passes.items ≡ passes_from 0 rooms.items) }
+{
+    let Ok(mut passes) = Vec::with_capacity(alloc, rooms.len()) else {
+        return Err(NoMemory);
+    };
+    for room in rooms {
+        let actor = passes.len() as u8;
+        passes.push_reserved(PlainPass::new(actor, room));
+    }
+    Ok(passes)
+}
 
 impl PlainRegion {
     /// A region that nobody used yet, and the passes of its actors: that of the scavenger, which is actor 0, and those of the

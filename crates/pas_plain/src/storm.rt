@@ -42,15 +42,14 @@ pub struct StormDesk<I> {
 }
 
 impl PlainRegion {
-    ghost use Rattle.std.specs.Prelude.{◌-◌, length};
-    ghost use Rattle.pas_plain.specs.Plain.{events_shown, room_of_pass};
+    ghost use Rattle.pas_plain.specs.Plain.{spare_in};
 
     /// Seats the actor of the own pass, and lets the intruder act for that of the foreign pass before each of its steps. The two passes
     /// are of this region and of different actors, and the foreign actor has nothing and is clear.
     pub fn storm<I: Intruder>(self, own: PlainPass, foreign: PlainPass, intruder: I) -> StormDesk<I>
         requires { MayStorm self own foreign }
         ensures seat { (⟦<StormDesk<I> as Desk>⟧.standing result).seat ≡ seat_for self own }
-        ensures spare { ⟦<StormDesk<I> as Desk>⟧.spare_of result ≡ room_of_pass own - length (events_shown own) }
+        ensures spare { ⟦<StormDesk<I> as Desk>⟧.spare_of result ≡ spare_in own }
         ensures stands { (v : View) (w l : Whole) → StormStands self own foreign v w → (⟦<StormDesk<I> as Desk>⟧.standing result).stands v l }
     {
         let desk = self.desk(own);
@@ -101,11 +100,14 @@ impl<I: Intruder> StormDesk<I> {
 impl<I: Intruder> Desk for StormDesk<I> {
     ghost use Rattle.std.specs.Prelude.{false};
     ghost use Rattle.std.proofs.lemmas.Bool.{false≢true};
+    ghost use Rattle.pas_plain.specs.Plain.{forgotten_by};
     ghost use Rattle.pas_plain.specs.Storms.{storm_of, shown_own, spare_own, counted_own};
 
-    type Home = ();
+    type Home = u32;
 
-    ghost home = { λ storm. tt };
+    ghost home = { λ storm. forgotten_by (pass_of storm.desk) };
+
+    ghost forgotten = { λ n. n };
 
     ghost tells = { false };
 

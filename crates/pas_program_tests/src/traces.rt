@@ -18,18 +18,15 @@ pub const MOST_BYTES: usize = 16_777_216;
 
 pub const TRACE: &str = "pas 1 pages 4 threads 1 heaps 1 age 2\na 1 1 0 24 16\nf 1 1\n";
 
-pub const TRANSCRIPT: &str =
-    "1 deed page 1 heap 0 class 32\n1 back page 1\n1 give 0x00001000 turn 0 room 32 heap 0\nclose\n1 freed 0x00001000 turn 0 epoch 0\nreport\npage 1 heap 0 class 32 live 0 free 256 stamp 0 marks backed+offered+hinted\ntotal deeds 1 backed 1 live 0 given 1 ended 1\n";
-
 /// Adds words, a number and words.
-pub fn push(text: &mut Vec<u8>, before: &str, number: u32, after: &str) -> Result<(), AllocError> {
+fn push(text: &mut Vec<u8>, before: &str, number: u32, after: &str) -> Result<(), AllocError> {
     text.extend_from_slice(before.as_bytes())?;
     text.extend_from_slice(Buffer::new().format(number).as_bytes())?;
     text.extend_from_slice(after.as_bytes())
 }
 
-/// Requests of so many bytes, one after the other.
-pub fn asking(alloc: Global, pages: u32, requests: u32, size: u32) -> Result<Vec<u8>, AllocError> {
+/// Requests of so many bytes, one after the other, and then the frees of all.
+pub fn filling(alloc: Global, pages: u32, requests: u32, size: u32) -> Result<Vec<u8>, AllocError> {
     let mut text = Vec::new(alloc);
     push(
         &mut text,
@@ -41,30 +38,10 @@ pub fn asking(alloc: Global, pages: u32, requests: u32, size: u32) -> Result<Vec
         push(&mut text, "a 1 ", before + 1, " 0 ")?;
         push(&mut text, "", size, " 16\n")?;
     }
-    Ok(text)
-}
-
-/// Requests of so many bytes, one after the other, and then the frees of all.
-pub fn filling(alloc: Global, pages: u32, requests: u32, size: u32) -> Result<Vec<u8>, AllocError> {
-    let mut text = asking(alloc, pages, requests, size)?;
     for before in 0..requests {
         push(&mut text, "f 1 ", before + 1, "\n")?;
     }
     Ok(text)
-}
-
-/// A trace of one thread with a second one, which does nothing.
-pub fn of_two_threads(alloc: Global, text: &[u8]) -> Result<Vec<u8>, AllocError> {
-    let mut changed = Vec::from_slice(alloc, text)?;
-    for place in 0..text.len() {
-        if text[place..].starts_with(b" threads 1 ".as_slice()) {
-            if let Some(digit) = changed.get_mut(place.saturating_add(9)) {
-                *digit = b'2';
-            }
-            return Ok(changed);
-        }
-    }
-    Ok(changed)
 }
 
 /// The records of the trace's replay in the order of its text, and the region's state after it.

@@ -20,29 +20,29 @@ use Rattle.pas_answers.proofs.{Kept.meant_by, Kept.meant_stands, KnownNames.know
 use Rattle.pas_acts.specs.Turns.{RestsAt}
 use Rattle.pas_acts.specs.AtDesks.{here, and_for, MayOperate, ThreadActs}
 use Rattle.pas_acts.proofs.AtDesk.{rests_for}
-use Rattle.pas_replay.specs.Sessions.{Hand, Slots, IsTaken, TakesSeat, Replay, HasNames, IsAt, SoFar}
+use Rattle.pas_replay.specs.Sessions.{Hand, Slots, IsTaken, TakesSeat, Replay, Left, HasNames, IsAt, SoFar, upon}
 use Rattle.pas_replay.proofs.{Threads.there_is, Going.rest_one, Going.rest_two}
 use Rattle.pas_large.specs.Doors.{Indexes}
 use Rattle.pas_replay.specs.Operating.{ActsByIndexes}
 use Rattle.pas_replay.proofs.Turning.{hand, AsksNoIndex, thread_now, later_for, thread_turn}
 
 -- ---- an act of a thread for which no name stands: it wakes, it is stopped where it is idle, it ends
-pub rests_now : {r : Replay} {more : List Act} {act : Act} {desk desk1 : PlainDesk} {passes passes1 : Slots} {caches : List ThreadCache}
-    {books : List GuardBook} {places : ℕ} {indexes : Indexes} {table : Names} {out : Records} {p : Progress} (k extra : ℕ) (there : ThreadCache)
+pub rests_now : {r : Replay} {act : Act} {desk desk1 : PlainDesk} {passes passes1 : Slots} {caches : List ThreadCache}
+    {books : List GuardBook} {places : ℕ} {indexes : Indexes} {table : Names} {out : Records} {p : Progress} (k extra : ℕ) (there : ThreadCache) (more : Left)
     → 1 ≤ k → k ≤ length caches → own_cost_of_act k act ≡ 0
     → cost_of_act r.profile act ≡ extra → TakesSeat desk desk1 passes passes1 k → there ≡ get_or caches (k - 1) there
-    → IsAt r (act ∷ more) (hand desk passes caches books places indexes table out) p
+    → IsAt r (upon r (act ∷ []) more) (hand desk passes caches books places indexes table out) p
     → RestsAt r.profile k (standing_of desk1) (cached there) out (later_for r k p more extra) p
-rests_now {more = more} {caches = caches} {p = p} k extra there some within own cost seat is at =
+rests_now {caches = caches} {p = p} k extra there more some within own cost seat is at =
     rests_for (thread_now k 0 extra more some within seat (there_is p.caches caches k there some within at.caches_are is) (omega (arith, own)) (omega (arith, cost)) at) (omega arith) (omega arith)
 
 -- An act that a thread did at its seat takes the replay on, with all others standing as before.
-pub act_turn : {r : Replay} {more : List Act} {act : Act} {desk desk1 desk2 : PlainDesk} {passes passes1 : Slots} {caches : List ThreadCache}
+pub act_turn : {r : Replay} {more : Left} {act : Act} {desk desk1 desk2 : PlainDesk} {passes passes1 : Slots} {caches : List ThreadCache}
     {books : List GuardBook} {places : ℕ} {indexes : Indexes} {table : Names} {out out1 out2 : Records} {p : Progress} {told : List Record} {extra : ℕ} (k : ℕ)
     (there cache : ThreadCache)
-    → 1 ≤ k → k ≤ length caches → ((limit : ℕ) (asked : List ℕ) → AreFit r.profile limit asked (act ∷ more) → AreFit r.profile limit asked more)
+    → 1 ≤ k → k ≤ length caches → ((limit : ℕ) (asked : List ℕ) → AreFit r.profile limit asked (act ∷ more.acts) → AreFit r.profile limit asked more.acts)
     → AsksNoIndex r.profile act → TakesSeat desk desk1 passes passes1 k → there ≡ get_or caches (k - 1) there
-    → IsAt r (act ∷ more) (hand desk passes caches books places indexes table out) p
+    → IsAt r (upon r (act ∷ []) more) (hand desk passes caches books places indexes table out) p
     → (did : ThreadActs r.profile k (act ∷ []) [] told (here (standing_of desk1) (cached there) out) (here (standing_of desk2) (cached cache) out1) (later_for r k p more extra) p)
     → length told ≤ extra
     → records_in out2 ≡ records_in out1 ++ told → room_of out2 ≡ room_of out1
@@ -51,7 +51,7 @@ act_turn {r} {more} {act} {caches = caches} {indexes = indexes} {table = table} 
     let names = at.names in
     let asked = asks indexes p did.reaches.0 did.reaches.1 in
     thread_turn k cache some within seat (there_is p.caches caches k there some within at.caches_are is) at did (asked.1, tt) (sym asked.0) (rest_one r.threads r.profile act p did.reached did.reaches)
-    (subst (λ (ns : List Named). HasNames r.profile more table ns) (sym did.names) record { asked = names.asked; fit = fit (names_held table) names.asked names.fit; tells = names.tells; stand = names.stand; known = names.known }) at.operate.1 at.keep.1 few added room
+    (subst (λ (ns : List Named). HasNames r.profile more.acts table ns) (sym did.names) record { asked = names.asked; fit = fit (names_held table) names.asked names.fit; tells = names.tells; stand = names.stand; known = names.known }) at.operate.1 at.keep.1 few added room
 
 -- what a name stands for once another or itself was set
 pub set_stands : (f : Profile) (t : Bool) (came old new : Option Block) → new ≡ (if t then came else old) → MayStand f came → MayStand f old → MayStand f new
@@ -59,14 +59,14 @@ set_stands f true came old new is now before = subst (MayStand f) (sym is) now
 set_stands f false came old new is now before = subst (MayStand f) (sym is) before
 
 -- ---- an operation of thread k, which asks for `what`
-pub may_operate : {r : Replay} {more : List Act} {op : Op} {what : What} {desk desk1 : PlainDesk} {passes passes1 : Slots} {caches : List ThreadCache}
+pub may_operate : {r : Replay} {op : Op} {what : What} {desk desk1 : PlainDesk} {passes passes1 : Slots} {caches : List ThreadCache}
     {books : List GuardBook} {places : ℕ} {indexes : Indexes} {table : Names} {out : Records} {p : Progress} {meant : Option Block} (k : ℕ)
-    (there : ThreadCache)
+    (there : ThreadCache) (more : Left)
     → op.actor ≡ k → op.what ≡ what → 1 ≤ k → k ≤ length caches
     → TakesSeat desk desk1 passes passes1 k → there ≡ get_or caches (k - 1) there → meant ≡ freed_by (block_named table) what
-    → IsAt r (Operates op ∷ (Settles op.actor ∷ more)) (hand desk passes caches books places indexes table out) p
+    → IsAt r (upon r (Operates op ∷ (Settles op.actor ∷ [])) more) (hand desk passes caches books places indexes table out) p
     → MayOperate r.profile op.actor op.what meant (here (standing_of desk1) (cached there) out) (later_for r op.actor p more 0) p
-may_operate {r} {more} {op} {desk1 = desk1} {caches = caches} {table = table} {out} {p} k there mine asks some within seat is means at =
+may_operate {r} {op} {desk1 = desk1} {caches = caches} {table = table} {out} {p} k there more mine asks some within seat is means at =
     let cost = if_same (op.actor == k) (cost_of_what op.what) (eq-eqb op.actor k mine) in
     let meaning = means ∙ ap (λ (w : What). freed_by (block_named table) w) (sym asks) in
     record {
@@ -81,11 +81,11 @@ may_operate {r} {more} {op} {desk1 = desk1} {caches = caches} {table = table} {o
     }
 
 -- An operation that a thread did at its seat takes the replay on, by what the indexes name.
-pub operate_turn : {r : Replay} {more : List Act} {op : Op} {what : What} {desk desk1 desk2 : PlainDesk} {passes passes1 : Slots} {caches : List ThreadCache}
+pub operate_turn : {r : Replay} {more : Left} {op : Op} {what : What} {desk desk1 desk2 : PlainDesk} {passes passes1 : Slots} {caches : List ThreadCache}
     {books : List GuardBook} {places : ℕ} {indexes indexes' : Indexes} {table table' : Names} {out out' : Records} {p : Progress} (k : ℕ) (came : Option Block)
     (there cache : ThreadCache)
     → op.actor ≡ k → op.what ≡ what → 1 ≤ k → k ≤ length caches → TakesSeat desk desk1 passes passes1 k → there ≡ get_or caches (k - 1) there
-    → IsAt r (Operates op ∷ (Settles op.actor ∷ more)) (hand desk passes caches books places indexes table out) p
+    → IsAt r (upon r (Operates op ∷ (Settles op.actor ∷ [])) more) (hand desk passes caches books places indexes table out) p
     → ActsByIndexes r.profile op.actor op indexes indexes' (named_by op.what came) (here (standing_of desk1) (cached there) out) (here (standing_of desk2) (cached cache) out') (later_for r op.actor p more 0) p
     → names_held table' ≡ names_held table → Tells table' (named_by what came ++ p.names) → AllMayStand r.profile table'
     → IsTaken desk2 passes1 × SoFar r more (hand desk2 passes1 (set caches (k - 1) cache) books places indexes' table' out')
@@ -94,9 +94,9 @@ operate_turn {r} {more} {op} {desk1 = desk1} {desk2} {caches = caches} {indexes 
     let all = subst (λ (j : ℕ). ActsByIndexes r.profile j op indexes indexes' (named_by op.what came) (here (standing_of desk1) (cached there) out) (here (standing_of desk2) (cached cache) out') (later_for r j p more 0) p) mine acted in
     let did = all.did in
     let so = thread_turn k cache some within seat (there_is p.caches caches k there some within at.caches_are is) at did all.named all.left (rest_two r.threads r.profile op p did.reached did.reaches)
-    (subst (λ (ns : List Named). HasNames r.profile more table' ns) (sym did.names) record {
+    (subst (λ (ns : List Named). HasNames r.profile more.acts table' ns) (sym did.names) record {
       asked = asked_after op.what names.asked;
-      fit = subst (λ (limit : ℕ). AreFit r.profile limit (asked_after op.what names.asked) more) (sym held) names.fit.2;
+      fit = subst (λ (limit : ℕ). AreFit r.profile limit (asked_after op.what names.asked) more.acts) (sym held) names.fit.2;
       tells = subst (λ (w : What). Tells table' (named_by w came ++ p.names)) (sym asks) tells;
       stand = stand;
       known = known_more op.what came names.asked p.names names.known;
@@ -119,9 +119,9 @@ pub kept_as : (op : Op) {keeper keeper' : Option ℕ} → keeper ≡ keeper'
 kept_as op is = ap (λ (o : Option ℕ). act_kept o op ∷ (Settles op.actor ∷ [])) is
 
 -- whose they are
-pub own_actor : (keeper : Option ℕ) (op : Op) {r : Replay} {more : List Act} {h : Hand} → SoFar r (act_kept keeper op ∷ (Settles op.actor ∷ more)) h
+pub own_actor : (keeper : Option ℕ) (op : Op) {r : Replay} (more : Left) {h : Hand} → SoFar r (upon r (act_kept keeper op ∷ (Settles op.actor ∷ [])) more) h
     → (1 ≤ op.actor) × (op.actor ≤ r.threads)
-own_actor keeper op i = grind arith
+own_actor keeper op more i = grind arith
 
 -- The acts of an operation that is a chore are those of the chore.
 pub acts_as_chore : (idle : List ℕ) (op : Op) {work : Work} {chore chore' : Chore} → work ≡ work_of op.what → work ≡ Work.Chore chore → chore ≡ chore'

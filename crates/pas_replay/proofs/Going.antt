@@ -10,7 +10,7 @@ use Rattle.pas_trace.specs.Acts.{Act, Operates, Settles}
 use Rattle.pas_trace.specs.declared.plan.Op.{Op}
 use Rattle.pas_answers.specs.{Answers.Progress, Answers.settled, Answers.after_settling, Indexes.indexes_after, Indexes.indexes_after_all}
 use Rattle.pas_answers.specs.{Indexes.AllAreNamedBy, Reaching.Reaches, Rests.AreAtRest, Rests.AllAtRest}
-use Rattle.pas_replay.specs.Sessions.{rests_as, rests, Replay, Hand, IsAt, GoesBy}
+use Rattle.pas_replay.specs.Sessions.{rests_as, rests, Replay, Left, Hand, IsAt, GoesBy}
 
 -- ---- at rest
 rests_of_thread : (threads : ℕ) (f : Profile) (p : Progress) (k : ℕ) (v : View) → (1 ≤ k) × (k ≤ threads) → rests threads f p k v → AtRest f (p.caches k) v
@@ -22,7 +22,7 @@ rests_of_keeper threads f p zero v past rest = absurd (omega (arith, past))
 rests_of_keeper threads f p (suc i) v past rest = subst (λ (kind : Bool). rests_as kind f (p.caches (suc i)) (p.books (suc i)) v) (lt-leb (suc i) threads past) rest
 
 -- all are, wherever a replay has come
-pub all_rest : {r : Replay} {acts : List Act} {h : Hand} {p : Progress} → IsAt r acts h p → AreAtRest r.threads r.profile p.caches p.books p.list
+pub all_rest : {r : Replay} {left : Left} {h : Hand} {p : Progress} → IsAt r left h p → AreAtRest r.threads r.profile p.caches p.books p.list
 all_rest {r} {p = p} at = search (arith, rests_of_thread, rests_of_keeper)
 
 -- .. before the first of the acts

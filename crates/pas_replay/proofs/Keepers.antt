@@ -3,7 +3,7 @@ use Rattle.std.proofs.Common.{◌≡◌, ◌≢◌, ℕ, zero, suc, ◌+◌, ◌
 use Rattle.std.proofs.Common.{Some, None, refl, ap, sym, ◌∙◌, subst, arith, length-append, eq-eqb, length-set}
 use Rattle.std.proofs.lemmas.Bool.{cases_eq, lt-leb}
 use Rattle.pas_profile.specs.declared.{profile.Profile.Profile, name.Block.Block}
-use Rattle.pas_steps.specs.{Lists.part, Unknown.unknown_pages, Views.View}
+use Rattle.pas_steps.specs.{Lists.Legal, Lists.part, Unknown.unknown_pages, Views.View}
 use Rattle.pas_plain.specs.Seats.{standing_of}
 use Rattle.pas_plain.specs.declared.{desk.PlainDesk.PlainDesk, pass.PlainPass.PlainPass}
 use Rattle.pas_report.specs.Rooms.{records_in, room_of, Records}
@@ -19,7 +19,7 @@ use Rattle.pas_trace.specs.{Asked.request_in, EveryPlan.asked_after, Reasons.cos
 use Rattle.pas_trace.specs.declared.{item.Request.Request, plan.Op.Op}
 use Rattle.pas_answers.specs.Answers.{Named, Progress, Caches, settled, after_settling}
 use Rattle.pas_answers.specs.Calls.{Tells, MayStand, AreKnown, what_of, named_with}
-use Rattle.pas_answers.specs.Fit.{AreFit, AreOfThreads, cost_of_what, costs_of, kept_cost_of, kept_costs_of}
+use Rattle.pas_answers.specs.Fit.{AreFit, AreOfThreads, cost_of_what, kept_cost_of, kept_costs_of}
 use Rattle.pas_answers.specs.Guarding.{Tried, IsTried, after_trying, after_giving}
 use Rattle.pas_answers.specs.Indexes.{request_by, with_noted, after_operation, after_tried, after_guarded, TriedIsNamedBy, GuardedIsNamedBy, AllAreNamedBy}
 use Rattle.pas_answers.specs.{Keeping.owed_by_keeper, Keeping.cost_of_try, Reaching.AnswersTried, Reaching.AnswersGuarded, Rests.AreAtRest}
@@ -30,18 +30,20 @@ use Rattle.pas_acts.specs.Keepers.{keeper_has, LaterKept, and_try, KeeperAt, Kee
 use Rattle.pas_acts.proofs.{AtDesk.sits_for, AtDesk.settled_rest, Keeping.other_book}
 use Rattle.pas_replay.specs.declared.seats.Guarded.{Guarded}
 use Rattle.pas_replay.specs.Sessions.{Slots, IsTaken, TakesSeat, task_of, asked_by, Session, session, SoFarAt, HasTried, rests_as, rests, owes_as, owes}
-use Rattle.pas_replay.specs.Sessions.{own_events, ActorStands, records_owed_as, owed_of, owed_by, AreCaches, Replay, Hand, HasNames, IsAt, GoesBy, HasNamed}
+use Rattle.pas_replay.specs.Sessions.{own_events, ActorStands, records_owed_as, owed_of, owed_by, AreCaches, Replay, Left, Hand, HasNames, IsAt, GoesBy}
+use Rattle.pas_replay.specs.Sessions.{HasNamed, upon}
 use Rattle.pas_replay.proofs.Going.{all_rest, rest_first, rest_one, goes_both}
 use Rattle.pas_replay.proofs.Threads.{OthersKept, there_is, set_caches, book_is, place_is, set_books, set_places, still_places, owed_moves, owed_at}
 use Rattle.pas_replay.proofs.Threads.{keeper_owes}
-use Rattle.pas_replay.proofs.Turning.{hand, SitsAs, MovesAs, sits_now, turn, kept_by_moves, either_less, less_events, less_tries}
+use Rattle.pas_replay.proofs.Showing.{EachShown, acts_shown, tried_shown}
+use Rattle.pas_replay.proofs.Turning.{hand, SitsAs, MovesAs, sits_now, turn, kept_by_moves, either_less, less_events, less_tries, said_more}
 
 -- for how much there is room besides, when keeper k has its turn: for what the acts that are left ask of it, what the others owe, and what all of them cost
-abbrev pub later_kept : Replay → ℕ → Progress → List Act → LaterKept
+abbrev pub later_kept : Replay → ℕ → Progress → Left → LaterKept
 later_kept r k p more = record {
-  events = kept_costs_of k more;
-  records = (owed_by r.threads r.profile p (r.threads + r.keepers) - owed_of r.threads r.profile p k) + costs_of r.profile more;
-  guards = tries_of k more;
+  events = kept_costs_of k more.acts;
+  records = (owed_by r.threads r.profile p (r.threads + r.keepers) - owed_of r.threads r.profile p k) + more.room;
+  guards = tries_of k more.acts;
 }
 
 -- .. and for so much more
@@ -50,36 +52,36 @@ and_kept events records guards later = record { events = events + later.events; 
 
 -- ---- the keeper of the thread at place i sits at the desk
 -- where the acts cost it so much, and all records so many, and it tries so many requests among them
-keeper_now : {r : Replay} {acts : List Act} {desk0 desk : PlainDesk} {passes0 passes : Slots} {caches : List ThreadCache} {books : List GuardBook} {places : ℕ}
-    {indexes : Indexes} {table : Names} {out : Records} {p : Progress} (k i : ℕ) (there : GuardBook) (events records guards : ℕ) (more : List Act)
+keeper_now : {r : Replay} {left : Left} {desk0 desk : PlainDesk} {passes0 passes : Slots} {caches : List ThreadCache} {books : List GuardBook} {places : ℕ}
+    {indexes : Indexes} {table : Names} {out : Records} {p : Progress} (k i : ℕ) (there : GuardBook) (events records guards : ℕ) (more : Left)
     → k ≡ r.threads + i → 1 ≤ i → i ≤ length books → TakesSeat desk0 desk passes0 passes k → there ≡ get_or books (i - 1) there
-    → kept_costs_of k acts ≡ events + kept_costs_of k more → costs_of r.profile acts ≡ records + costs_of r.profile more
-    → tries_of k acts ≡ guards + tries_of k more
-    → IsAt r acts (hand desk0 passes0 caches books places indexes table out) p
+    → kept_costs_of k left.acts ≡ events + kept_costs_of k more.acts → left.room ≡ records + more.room
+    → tries_of k left.acts ≡ guards + tries_of k more.acts
+    → IsAt r left (hand desk0 passes0 caches books places indexes table out) p
     → KeeperAt r.profile k (keeper_has (standing_of desk) there out) (and_kept events records guards (later_kept r k p more)) p
 keeper_now zero i there events records guards more place some most seat is own all tried at = absurd (omega (arith, place, some))
-keeper_now {r} {acts} {desk0} {desk} {passes0} {passes} {caches} {books} {places} {indexes} {table} {out} {p} (suc j) i there events records guards more place some most seat is own all tried at =
+keeper_now {r} {left} {desk0} {desk} {passes0} {passes} {caches} {books} {places} {indexes} {table} {out} {p} (suc j) i there events records guards more place some most seat is own all tried at =
     let f = r.profile in
     let k = suc j in
     let v = part k p.list in
     let within : k ≤ r.threads + r.keepers = omega (arith, place, most, at.kept) in
     let past : r.threads < k = omega (arith, place, some) in
-    let sits = subst (λ (kind : Bool). SitsAs kind r k desk acts p) (lt-leb k r.threads past) (sits_now k within seat at) in
+    let sits = subst (λ (kind : Bool). SitsAs kind r k desk left.acts p) (lt-leb k r.threads past) (sits_now k within seat at) in
     let book : p.books k ≡ guards_in there = ap p.books place ∙ book_is r.threads p.books books i there some most at.books_are is in
     let least = owed_at r.threads f p k (r.threads + r.keepers) (omega (arith, past)) within in
     let mine = keeper_owes r.threads f p k past ∙ ap (λ (gs : List Guard). owed_by_keeper f gs v) book in
-    let room = place_is r.threads books acts i there some most at.books_have is in
-    let tries = ap (λ (m : ℕ). tries_of m acts) place in
+    let room = place_is r.threads books left.acts i there some most at.books_have is in
+    let tries = ap (λ (m : ℕ). tries_of m left.acts) place in
     -- its seat and its book are those; there is room for what it owes, within what all owe, and for what the acts ask
     search arith
 
 -- .. where its last sweep comes next, which costs nothing
-pub keeper_closes : {r : Replay} {more : List Act} {desk0 desk : PlainDesk} {passes0 passes : Slots} {caches : List ThreadCache} {books : List GuardBook}
-    {places : ℕ} {indexes : Indexes} {table : Names} {out : Records} {p : Progress} (k i : ℕ) (there : GuardBook)
+pub keeper_closes : {r : Replay} {desk0 desk : PlainDesk} {passes0 passes : Slots} {caches : List ThreadCache} {books : List GuardBook}
+    {places : ℕ} {indexes : Indexes} {table : Names} {out : Records} {p : Progress} (k i : ℕ) (there : GuardBook) (more : Left)
     → k ≡ r.threads + i → 1 ≤ i → i ≤ length books → TakesSeat desk0 desk passes0 passes k
-    → there ≡ get_or books (i - 1) there → IsAt r (Lowers k ∷ more) (hand desk0 passes0 caches books places indexes table out) p
+    → there ≡ get_or books (i - 1) there → IsAt r (upon r (Lowers k ∷ []) more) (hand desk0 passes0 caches books places indexes table out) p
     → KeeperAt r.profile k (keeper_has (standing_of desk) there out) (later_kept r k p more) p
-keeper_closes {r} {more} {p = p} k i there place some most seat is at =
+keeper_closes {r} {p = p} k i there more place some most seat is at =
     let now = keeper_now k i there 0 0 0 more place some most seat is (omega arith) (omega arith) (omega arith) at in
     record { sits = sits_for now.sits (omega arith); book = now.book; spare = omega (arith, now.spare); places = omega (arith, now.places) }
 
@@ -95,10 +97,11 @@ pub record KeeperTurned (r : Replay) (k : ℕ) (acts more : List Act) (there boo
   pub free : (j : ℕ) → own_events r.threads r.profile j more ≤ own_events r.threads r.profile j acts
   pub tries : (j : ℕ) → tries_of j more ≤ tries_of j acts
 
-module _ {r : Replay} {acts more : List Act} {desk0 desk desk' : PlainDesk} {passes0 passes : Slots} {caches : List ThreadCache} {books : List GuardBook}
+module _ {r : Replay} {left : Left} {more : List Act} {desk0 desk desk' : PlainDesk} {passes0 passes : Slots} {caches : List ThreadCache}
+    {books : List GuardBook}
     {places : ℕ} {indexes : Indexes} {table : Names} {out : Records} {p q : Progress} (k i : ℕ) (there book : GuardBook) (place : k ≡ r.threads + i)
     (some : 1 ≤ i) (most : i ≤ length books)
-    (seat : TakesSeat desk0 desk passes0 passes k) (is : there ≡ get_or books (i - 1) there) (at : IsAt r acts (hand desk0 passes0 caches books places indexes table out) p) (x : KeeperTurned r k acts more there book desk desk' p q) where
+    (seat : TakesSeat desk0 desk passes0 passes k) (is : there ≡ get_or books (i - 1) there) (at : IsAt r left (hand desk0 passes0 caches books places indexes table out) p) (x : KeeperTurned r k left.acts more there book desk desk' p q) where
   past : r.threads < k
   past = omega (arith, place, some)
 
@@ -132,20 +135,23 @@ module _ {r : Replay} {acts more : List Act} {desk0 desk desk' : PlainDesk} {pas
   sits_so = search (arith, lt-leb)
 
 -- the keeper had its turn, after which `more` acts are left
-keeper_turn : {r : Replay} {acts more : List Act} {desk0 desk desk' : PlainDesk} {passes0 passes : Slots} {caches : List ThreadCache} {books : List GuardBook}
+keeper_turn : {r : Replay} {left more : Left} {desk0 desk desk' : PlainDesk} {passes0 passes : Slots} {caches : List ThreadCache} {books : List GuardBook}
     {places : ℕ} {indexes indexes' : Indexes} {table table' : Names} {out out' : Records} {p q : Progress} (k i : ℕ) (there book : GuardBook)
     → k ≡ r.threads + i → 1 ≤ i → i ≤ length books
-    → TakesSeat desk0 desk passes0 passes k → there ≡ get_or books (i - 1) there → IsAt r acts (hand desk0 passes0 caches books places indexes table out) p
-    → KeeperTurned r k acts more there book desk desk' p q
-    → ((s : Progress) → GoesBy r.threads r.profile indexes' more q s → GoesBy r.threads r.profile indexes acts p s) → HasNames r.profile more table' q.names
-    → AreOfThreads r.threads more → AreKeptFor r.threads r.keepers more → records_in out' ≡ q.records
-    → length (records_in out') + (owed_by r.threads r.profile q (r.threads + r.keepers) + costs_of r.profile more) ≤ room_of out'
+    → TakesSeat desk0 desk passes0 passes k → there ≡ get_or books (i - 1) there → IsAt r left (hand desk0 passes0 caches books places indexes table out) p
+    → KeeperTurned r k left.acts more.acts there book desk desk' p q
+    → (Legal r.profile q.list → EachShown p.records → EachShown q.records)
+    → ((s : Progress) → GoesBy r.threads r.profile indexes' more.acts q s → GoesBy r.threads r.profile indexes left.acts p s)
+    → HasNames r.profile more.acts table' q.names
+    → AreOfThreads r.threads more.acts → AreKeptFor r.threads r.keepers more.acts → r.told ++ records_in out' ≡ q.records → room_of out' ≡ room_of out
+    → length (records_in out') + (owed_by r.threads r.profile q (r.threads + r.keepers) + more.room) ≤ room_of out'
     → IsTaken desk' passes × IsAt r more (hand desk' passes caches (set books (i - 1) book) places indexes' table' out') q
-keeper_turn zero i there book place some most seat is at x reaches names operate keep written spare = absurd (omega (arith, place, some))
-keeper_turn {r} {acts} {more} {caches = caches} {books} {p = p} {q} (suc j) i there book place some most seat is at x reaches names operate keep written spare =
+keeper_turn zero i there book place some most seat is at x shows reaches names operate keep written sized spare = absurd (omega (arith, place, some))
+keeper_turn {r} {left} {more} {caches = caches} {books} {p = p} {q} (suc j) i there book place some most seat is at x shows reaches names operate keep written sized spare =
     let f = r.profile in
     let k = suc j in
     turn k (within k i there book place some most seat is at x) seat at record {
+      shows = shows;
       reaches = reaches;
       moves = moves_so k i there book place some most seat is at x;
       sits = sits_so k i there book place some most seat is at x;
@@ -161,38 +167,41 @@ keeper_turn {r} {acts} {more} {caches = caches} {books} {p = p} {q} (suc j) i th
       names = names;
       caches_are = subst (λ (cs : Caches). AreCaches cs caches) (sym x.caches) at.caches_are;
       books_are = set_books r.threads books i book some most (ap q.books (sym place) ∙ x.book_is) (λ m ne. x.books m (λ e. ne (e ∙ place))) at.books_are;
-      books_have = set_places r.threads books i book acts more some most (subst (λ (m : ℕ). length (guards_in book) + tries_of m more ≤ size_of_book book) place x.place) x.tries at.books_have;
+      books_have = set_places r.threads books i book left.acts more.acts some most (subst (λ (m : ℕ). length (guards_in book) + tries_of m more.acts ≤ size_of_book book) place x.place) x.tries at.books_have;
       records_are = written;
+      size = sized ∙ at.size;
       spare = spare;
     }
 
 -- ---- it lowers all its guards, as the replay closes
-pub lower_turn : {r : Replay} {more : List Act} {desk0 desk desk' : PlainDesk} {passes0 passes : Slots} {caches : List ThreadCache} {books : List GuardBook}
+pub lower_turn : {r : Replay} {more : Left} {desk0 desk desk' : PlainDesk} {passes0 passes : Slots} {caches : List ThreadCache} {books : List GuardBook}
     {places : ℕ} {indexes : Indexes} {table : Names} {out out' : Records} {p : Progress} (k i : ℕ) (there book : GuardBook)
     → k ≡ r.threads + i → 1 ≤ i → i ≤ length books → TakesSeat desk0 desk passes0 passes k
-    → there ≡ get_or books (i - 1) there → IsAt r (Lowers k ∷ more) (hand desk0 passes0 caches books places indexes table out) p
+    → there ≡ get_or books (i - 1) there → IsAt r (upon r (Lowers k ∷ []) more) (hand desk0 passes0 caches books places indexes table out) p
     → (did : KeeperLowers r.profile k (keeper_has (standing_of desk) there out) (keeper_has (standing_of desk') book out') (later_kept r k p more) p)
     → IsTaken desk' passes × IsAt r more (hand desk' passes caches (set books (i - 1) book) places indexes table out') did.reached
 lower_turn {r} {more} {desk0} {desk} {desk'} {indexes = indexes} {table} {out} {out'} {p} k i there book place some most seat is at did =
     let f = r.profile in
     let q = did.reached in
     let names = at.names in
-    let turned : KeeperTurned r k (Lowers k ∷ more) more there book desk desk' p q = record {
+    let turned : KeeperTurned r k (Lowers k ∷ more.acts) more.acts there book desk desk' p q = record {
       moves = subst (λ (gs : List Guard). Moves k (FitsBook f (guards_in there)) (FitsBook f gs) (standing_of desk) (standing_of desk') p q) (sym did.none) did.moves;
       sits = did.stands.sits;
       book_is = did.stands.book;
       place = did.stands.places;
       caches = did.caches;
       books = did.books;
-      free = less_events r.threads f (Lowers k ∷ []) more;
-      tries = less_tries (Lowers k ∷ []) more;
+      free = less_events r.threads f (Lowers k ∷ []) more.acts;
+      tries = less_tries (Lowers k ∷ []) more.acts;
     } in
     let then_owed = owed_then k i there book place some most seat is at turned in
     let least = owed_least k i there book place some most seat is at turned in
     let mine = keeper_was k i there book place some most seat is at turned in
-    keeper_turn k i there book place some most seat is at turned (λ s rest. goes_both r.threads f indexes (Lowers k ∷ []) more p q s did.reaches (tt, tt) (rest_one r.threads f (Lowers k) p q did.reaches (all_rest at) (rest_first r.threads f more q s rest.0.0 rest.1)) rest)
-    (subst (λ (ns : List Named). HasNames f more table ns) (sym did.names) record { asked = names.asked; fit = names.fit; tells = names.tells; stand = names.stand; known = names.known }) at.operate.1 at.keep.1
-    (did.pushed ∙ ap (λ (rs : List Record). rs ++ did.said) at.records_are ∙ sym did.records_are) (omega (arith, then_owed, least, mine, did.stands.spare))
+    keeper_turn k i there book place some most seat is at turned (acts_shown f (Lowers k ∷ []) p q did.reaches)
+    (λ s rest. goes_both r.threads f indexes (Lowers k ∷ []) more.acts p q s did.reaches (tt, tt) (rest_one r.threads f (Lowers k) p q did.reaches (all_rest at) (rest_first r.threads f more.acts q s rest.0.0 rest.1)) rest)
+    (subst (λ (ns : List Named). HasNames f more.acts table ns) (sym did.names) record { asked = names.asked; fit = names.fit; tells = names.tells; stand = names.stand; known = names.known }) at.operate.1 at.keep.1
+    (said_more r.told (records_in out) (records_in out') p.records did.said at.records_are did.pushed ∙ sym did.records_are) did.room
+    (omega (arith, then_owed, least, mine, did.stands.spare))
 
 -- ---- it tries a guarded request
 -- where its keeper gave no block, its thread answers it from there on as any request
@@ -242,71 +251,73 @@ pub asks_keeper : {op : Op} (request : Guarded) (i : ℕ) → op.actor ≡ i →
 asks_keeper request i mine is = record { request_is = ap request_in is; cost = ap cost_of_what is; actor = mine }
 
 -- it is the one of the keepers that has the thread's place
-pub its_place : {r : Replay} {more : List Act} {op : Op} {h : Hand} {p : Progress} (k i : ℕ) → op.actor ≡ i → IsAt r (Guards k op ∷ more) h p
+pub its_place : {r : Replay} {op : Op} {h : Hand} {p : Progress} (k i : ℕ) (more : Left) → op.actor ≡ i → IsAt r (upon r (Guards k op ∷ []) more) h p
     → (k ≡ r.threads + i) × (1 ≤ i) × (i ≤ length h.books)
-its_place k i mine at =
+its_place k i more mine at =
     (omega (arith, at.keep.0.0, mine), omega (arith, mine, at.names.fit.2.0), omega (arith, mine, at.keep.0.1, at.kept))
 
 -- what it came to, by whether it gave a block
 pub has_tried_by : (op : Op) (k : ℕ) (before after : Session) (result : Option Block)
-    → (result ≡ None → (r : Replay) (more : List Act) → SoFarAt r (Guards k op ∷ (Settles op.actor ∷ more)) before
-    → SoFarAt r (Operates op ∷ (Settles op.actor ∷ more)) after)
-    → ((block : Block) → result ≡ Some block → (r : Replay) (more : List Act) (table : Names) → HasNamed op (Some block) before.table table
-    → SoFarAt r (Guards k op ∷ (Settles op.actor ∷ more)) before → SoFarAt r (Settles op.actor ∷ more) (session after.desk after.actors table after.out))
+    → (result ≡ None → (r : Replay) (more : Left) → SoFarAt r (upon r (Guards k op ∷ (Settles op.actor ∷ [])) more) before
+    → SoFarAt r (upon r (Operates op ∷ (Settles op.actor ∷ [])) more) after)
+    → ((block : Block) → result ≡ Some block → (r : Replay) (more : Left) (table : Names) → HasNamed op (Some block) before.table table
+    → SoFarAt r (upon r (Guards k op ∷ (Settles op.actor ∷ [])) more) before
+    → SoFarAt r (upon r (Settles op.actor ∷ []) more) (session after.desk after.actors table after.out))
     → HasTried op k result before after
 has_tried_by op k before after None left gave = left refl
 has_tried_by op k before after (Some block) left gave = gave block refl
 
 -- before it does
-pub keeper_may : {r : Replay} {more : List Act} {op : Op} {request : Request} {desk0 desk : PlainDesk} {passes0 passes : Slots} {caches : List ThreadCache}
-    {books : List GuardBook} {places : ℕ} {indexes : Indexes} {table : Names} {out : Records} {p : Progress} (k i : ℕ) (there : GuardBook)
+pub keeper_may : {r : Replay} {op : Op} {request : Request} {desk0 desk : PlainDesk} {passes0 passes : Slots} {caches : List ThreadCache}
+    {books : List GuardBook} {places : ℕ} {indexes : Indexes} {table : Names} {out : Records} {p : Progress} (k i : ℕ) (there : GuardBook) (more : Left)
     → AsksKeeper k i op request → k ≡ r.threads + i → 1 ≤ i
     → i ≤ length books → TakesSeat desk0 desk passes0 passes k → there ≡ get_or books (i - 1) there
-    → IsAt r (Guards k op ∷ more) (hand desk0 passes0 caches books places indexes table out) p
+    → IsAt r (upon r (Guards k op ∷ []) more) (hand desk0 passes0 caches books places indexes table out) p
     → KeeperAt r.profile k (keeper_has (standing_of desk) there out) (and_try request.size (later_kept r k p more)) p
-keeper_may {r} {more} {op} {request} {p = p} k i there asks place some most seat is at =
+keeper_may {r} {op} {request} {p = p} k i there more asks place some most seat is at =
     let cost = asks.cost in
     let own = if_same (k == k) (kept_cost_of (request_in op.what)) (eq-eqb k k refl) ∙ ap kept_cost_of asks.request_is in
     let one = if_same (k == k) 1 (eq-eqb k k refl) in
     keeper_now k i there (cost_of_size request.size) (cost_of_size request.size + 2) 1 more place some most seat is (omega (arith, own)) (omega (arith, cost)) (omega (arith, one)) at
 
 -- where it gave no block
-pub left_turn : {r : Replay} {more : List Act} {op : Op} {request : Request} {desk0 desk desk' : PlainDesk} {passes0 passes : Slots} {caches : List ThreadCache}
+pub left_turn : {r : Replay} {op : Op} {request : Request} {desk0 desk desk' : PlainDesk} {passes0 passes : Slots} {caches : List ThreadCache}
     {books : List GuardBook} {places : ℕ} {indexes : Indexes} {table : Names} {out out' : Records} {p : Progress} {result : Option Block} (k i : ℕ)
-    (there book : GuardBook)
+    (there book : GuardBook) (more : Left)
     → result ≡ None → AsksKeeper k i op request → k ≡ r.threads + i
     → 1 ≤ i → i ≤ length books → TakesSeat desk0 desk passes0 passes k → there ≡ get_or books (i - 1) there
-    → IsAt r (Guards k op ∷ more) (hand desk0 passes0 caches books places indexes table out) p
+    → IsAt r (upon r (Guards k op ∷ []) more) (hand desk0 passes0 caches books places indexes table out) p
     → (did : KeeperTries r.profile k request result (keeper_has (standing_of desk) there out) (keeper_has (standing_of desk') book out') (later_kept r k p more) p)
     → IsTaken desk' passes
-    × IsAt r (Operates op ∷ more) (hand desk' passes caches (set books (i - 1) book) places indexes table out') (after_trying p k did.tried)
-left_turn {r} {more} {op} {request} {desk0} {desk} {desk'} {indexes = indexes} {table} {out} {out'} {p} {result} k i there book none asks place some most seat is at did =
+    × IsAt r (upon r (Operates op ∷ []) more) (hand desk' passes caches (set books (i - 1) book) places indexes table out') (after_trying p k did.tried)
+left_turn {r} {op} {request} {desk0} {desk} {desk'} {indexes = indexes} {table} {out} {out'} {p} {result} k i there book more none asks place some most seat is at did =
     let f = r.profile in
     let q = after_trying p k did.tried in
     let names = at.names in
-    let turned : KeeperTurned r k (Guards k op ∷ more) (Operates op ∷ more) there book desk desk' p q = record {
+    let turned : KeeperTurned r k (Guards k op ∷ more.acts) (Operates op ∷ more.acts) there book desk desk' p q = record {
       moves = did.moves;
       sits = sits_for did.stands.sits (omega arith);
       book_is = did.stands.book;
       place = omega (arith, did.stands.places);
       caches = refl;
       books = λ j ne. other_book p.books k j did.tried.guards ne;
-      free = thread_events r.threads f k op more;
+      free = thread_events r.threads f k op more.acts;
       tries = λ j. omega arith;
     } in
     let change = owed_then k i there book place some most seat is at turned in
     let cost = ap (λ (b : Option Block). cost_of_try request.size b) none in
     let longer = ap (λ (rs : List Record). length rs) did.pushed ∙ length-append (records_in out) did.tried.records in
-    keeper_turn k i there book place some most seat is at turned (λ s rest. left_to_thread r.threads f k op request p indexes more did.tried (all_rest at) did.is asks.request_is (did.block_is ∙ none) s rest)
+    keeper_turn k i there book place some most seat is at turned (tried_shown f k request p did.tried did.is)
+    (λ s rest. left_to_thread r.threads f k op request p indexes more.acts did.tried (all_rest at) did.is asks.request_is (did.block_is ∙ none) s rest)
     (record { asked = names.asked; fit = (names.fit.2, names.fit.3, names.fit.4); tells = names.tells; stand = names.stand; known = names.known }) at.operate (tt, at.keep.1)
-    (did.pushed ∙ ap (λ (rs : List Record). rs ++ did.tried.records) at.records_are) (omega (arith, change, did.paid, cost, longer, did.room, at.spare))
+    (said_more r.told (records_in out) (records_in out') p.records did.tried.records at.records_are did.pushed) did.room (omega (arith, change, did.paid, cost, longer, did.room, at.spare))
 
 -- where it gave this block, once the table has it
-pub gave_turn : {r : Replay} {more : List Act} {op : Op} {request : Request} {desk0 desk desk' : PlainDesk} {passes0 passes : Slots} {caches : List ThreadCache}
+pub gave_turn : {r : Replay} {more : Left} {op : Op} {request : Request} {desk0 desk desk' : PlainDesk} {passes0 passes : Slots} {caches : List ThreadCache}
     {books : List GuardBook} {places : ℕ} {indexes : Indexes} {table : Names} {out out' : Records} {p : Progress} {result : Option Block} {block : Block}
     (k i : ℕ) (there book : GuardBook) (table' : Names)
     → result ≡ Some block → AsksKeeper k i op request → k ≡ r.threads + i → 1 ≤ i → i ≤ length books → TakesSeat desk0 desk passes0 passes k
-    → there ≡ get_or books (i - 1) there → IsAt r (Guards k op ∷ more) (hand desk0 passes0 caches books places indexes table out) p
+    → there ≡ get_or books (i - 1) there → IsAt r (upon r (Guards k op ∷ []) more) (hand desk0 passes0 caches books places indexes table out) p
     → (did : KeeperTries r.profile k request result (keeper_has (standing_of desk) there out) (keeper_has (standing_of desk') book out') (later_kept r k p more) p)
     → HasNamed op (Some block) table table'
     → IsTaken desk' passes
@@ -316,28 +327,29 @@ gave_turn {r} {more} {op} {request} {desk0} {desk} {desk'} {indexes = indexes} {
     let midway = after_trying p k did.tried in
     let q = after_giving midway request.name block in
     let names = at.names in
-    let turned : KeeperTurned r k (Guards k op ∷ more) more there book desk desk' p q = record {
+    let turned : KeeperTurned r k (Guards k op ∷ more.acts) more.acts there book desk desk' p q = record {
       moves = record { steps = did.moves.steps; list_is = did.moves.list_is; calls = did.moves.calls };
       sits = did.stands.sits;
       book_is = did.stands.book;
       place = did.stands.places;
       caches = refl;
       books = λ j ne. other_book p.books k j did.tried.guards ne;
-      free = less_events r.threads f (Guards k op ∷ []) more;
-      tries = less_tries (Guards k op ∷ []) more;
+      free = less_events r.threads f (Guards k op ∷ []) more.acts;
+      tries = less_tries (Guards k op ∷ []) more.acts;
     } in
     let change = owed_then k i there book place some most seat is at turned in
     let least = owed_least k i there book place some most seat is at turned in
     let mine = keeper_was k i there book place some most seat is at turned in
-    keeper_turn k i there book place some most seat is at turned (λ s rest. done_by_keeper r.threads f k op request p block indexes more did.tried (all_rest at) did.is asks.request_is (did.block_is ∙ gave) s rest)
+    keeper_turn k i there book place some most seat is at turned (tried_shown f k request p did.tried did.is)
+    (λ s rest. done_by_keeper r.threads f k op request p block indexes more.acts did.tried (all_rest at) did.is asks.request_is (did.block_is ∙ gave) s rest)
     (record {
       asked = asked_after op.what names.asked;
-      fit = subst (λ (limit : ℕ). AreFit f limit (asked_after op.what names.asked) more) (sym named.held) names.fit.4;
+      fit = subst (λ (limit : ℕ). AreFit f limit (asked_after op.what names.asked) more.acts) (sym named.held) names.fit.4;
       tells = subst (λ (o : Option Request). Tells table' (named_with o (Some block) ++ p.names)) asks.request_is (named.tells p.names names.tells);
       stand = named.stand f names.stand (subst (λ (b : Option Block). MayStand f b) gave did.given);
       known = subst (λ (o : Option Request). AreKnown (asked_after op.what names.asked) (named_with o (Some block) ++ p.names)) asks.request_is (known_more op.what (Some block) names.asked p.names names.known);
     }) at.operate.1 at.keep.1
-    (did.pushed ∙ ap (λ (rs : List Record). rs ++ did.tried.records) at.records_are) (omega (arith, change, least, mine, did.stands.spare))
+    (said_more r.told (records_in out) (records_in out') p.records did.tried.records at.records_are did.pushed) did.room (omega (arith, change, least, mine, did.stands.spare))
 
 -- ---- what is left then: the runs that its thread's cache noted are handed on, whoever sits at the desk
 settled_as : (f : Profile) (kind : Bool) (c : Cached) (guards : List Guard) (v : View) → rests_as kind f c guards v → rests_as kind f (settled c) guards v
@@ -382,8 +394,8 @@ module _ (threads : ℕ) (f : Profile) (p : Progress) (k : ℕ) where
       record { pass = st.pass; present = st.present; actor = st.actor; stands = st.stands; rest = rests_then j (part j p.list) st.rest; room = omega (arith, room, owed, free) }
 
 -- What a thread's cache noted and hands on takes the replay on, with the runs added to the indexes.
-pub settle_turn : {r : Replay} {more : List Act} {h : Hand} {p : Progress} (k : ℕ) (there cache : ThreadCache) → 1 ≤ k → k ≤ length h.caches
-    → there ≡ get_or h.caches (k - 1) there → cached cache ≡ settled (cached there) → IsAt r (Settles k ∷ more) h p
+pub settle_turn : {r : Replay} {more : Left} {h : Hand} {p : Progress} (k : ℕ) (there cache : ThreadCache) → 1 ≤ k → k ≤ length h.caches
+    → there ≡ get_or h.caches (k - 1) there → cached cache ≡ settled (cached there) → IsAt r (upon r (Settles k ∷ []) more) h p
     → IsAt r more (record h { caches = set h.caches (k - 1) cache; indexes = with_noted h.indexes (cached there).noted }) (after_settling p k)
 settle_turn {r} {more} {h} {p} k there cache some most is now at =
     let f = r.profile in
@@ -401,15 +413,17 @@ settle_turn {r} {more} {h} {p} k there cache some most is now at =
       keep = at.keep.1;
       places = at.places;
       stands = at.stands;
-      each = λ j le. stands_then r.threads f p k more (at.each j le);
+      each = λ j le. stands_then r.threads f p k more.acts (at.each j le);
       nobody = at.nobody;
       names = record { asked = names.asked; fit = names.fit; tells = names.tells; stand = names.stand; known = names.known };
       caches_are = set_caches h.caches k cache some most (its_cache p.caches k (settled (p.caches k)) ∙ ap settled was ∙ sym now) (λ j ne. other_cache p.caches k j (settled (p.caches k)) ne) at.caches_are;
       books_are = at.books_are;
-      books_have = still_places r.threads h.books (Settles k ∷ more) more (less_tries (Settles k ∷ []) more) at.books_have;
+      books_have = still_places r.threads h.books (Settles k ∷ more.acts) more.acts (less_tries (Settles k ∷ []) more.acts) at.books_have;
       records_are = at.records_are;
+      shown = at.shown;
+      size = at.size;
       spare = omega (arith, at.spare, owed);
       answers = λ s rest.
-          let left = subst (λ (runs : List EndedRun). GoesBy r.threads f (with_noted h.indexes runs) more q s) (ap (λ (c : Cached). c.noted) (sym was)) rest in
+          let left = subst (λ (runs : List EndedRun). GoesBy r.threads f (with_noted h.indexes runs) more.acts q s) (ap (λ (c : Cached). c.noted) (sym was)) rest in
           at.answers s (((q, refl, left.0.0), (tt, left.0.1)), (all_rest at, left.1));
     }

@@ -10,3 +10,6 @@ mod StartAndEnd
 mod PlansOfOne
 mod RecordsOfOne
 mod Doors
+mod Showing
+mod Owed
+mod HandedOn

@@ -1,14 +1,14 @@
 -- How a replay starts, and what it shows at its end.
-use Rattle.std.proofs.Common.{◌≡◌, ℕ, zero, suc, ◌+◌, ◌-◌, ◌*◌, ◌/◌, ◌<◌, ◌≤◌, nat_le, Bool, true, false, if◌then◌else◌, inl, inr, List, [], ◌∷◌, length}
+use Rattle.std.proofs.Common.{◌≡◌, ℕ, zero, suc, ◌+◌, ◌-◌, ◌*◌, ◌/◌, ◌<◌, ◌≤◌, nat_le, Bool, true, false, if◌then◌else◌, inl, inr, List, [], ◌∷◌, ◌++◌, length}
 use Rattle.std.proofs.Common.{Option, Some, None, refl, ap, sym, ◌∙◌, subst, arith, slice_index, le-leb}
-use Rattle.std.proofs.{lemmas.Bool.cases_lt, lemmas.Bool.lt-leb, Math.Nat.suc-mul}
+use Rattle.std.proofs.{lemmas.Bool.cases_lt, lemmas.Bool.lt-leb, Math.Nat.suc-mul, lemmas.Nat.mul-le}
 use Rattle.pas_profile.specs.Profiles.{IsValid, IsWordOf}
 use Rattle.pas_profile.specs.declared.{profile.Profile.Profile, word.Word.Word}
 use Rattle.pas_steps.specs.{Clear.HasNothing, States.profile_of as the_profile_of, States.word_in, Unknown.unknown_pages, Views.View}
 use Rattle.pas_steps.specs.Lists.{Whole, part, word_after, Legal}
 use Rattle.pas_steps.specs.declared.state.State.{State}
-use Rattle.pas_trace.specs.{EveryPlan.operations_of, Plans.IsPlanOf, Plans.bounds_of}
-use Rattle.pas_trace.specs.declared.plan.Plan.{Plan}
+use Rattle.pas_trace.specs.{EveryPlan.operations_of, Plans.IsPlanOf, Plans.bounds_of, Acts.acts_of}
+use Rattle.pas_trace.specs.declared.plan.{Plan.Plan, Op.Op}
 use Rattle.pas_plain.specs.Plain.{profile_of, RegionStands}
 use Rattle.pas_plain.specs.declared.{pass.PlainPass.PlainPass, region.PlainRegion.PlainRegion}
 use Rattle.pas_report.specs.Rooms.{records_in, room_of, Records}
@@ -25,8 +25,9 @@ use Rattle.pas_answers.proofs.{Consequences.replays, Reached.in_phases, Staged.p
 use Rattle.pas_large.specs.Doors.{Indexes}
 use Rattle.pas_answers.specs.declared.names.Names.{Names}
 use Rattle.pas_replay.specs.Kits.{IsFresh, IsKitOf, replay_of}
-use Rattle.pas_replay.specs.Sessions.{pass_in, SeatStands, rests_as, owes_as, ActorStands, records_owed_as, AreEmpty, AreLowered, Replay, Hand, hand_of, GoesBy}
-use Rattle.pas_replay.specs.Sessions.{SoFar, owed_by}
+use Rattle.pas_replay.specs.Sessions.{pass_in, SeatStands, rests_as, owes_as, ActorStands, records_owed_as, AreEmpty, AreLowered, Replay, Left, Hand, hand_of}
+use Rattle.pas_replay.specs.Sessions.{GoesBy, SoFar, owed_by, telling}
+use Rattle.pas_replay.specs.Taking.{room_for_taker, room_between, left_between, FewWait, Begins}
 use Rattle.pas_replay.specs.declared.{kit.PlainKit.PlainKit, seats.Actors.Actors}
 use Rattle.pas_replay.proofs.Going.{all_rest}
 use Rattle.pas_trace.proofs.Keepers.{plan_actors}
@@ -80,48 +81,70 @@ owed_start threads f (suc n) =
     let more = suc-mul n f.pages in
     omega (arith, this, rest, more)
 
+-- the room suffices for all that the actors owe at first, and for what is to come between two operations
+suffices : (waits : Option ℕ) {text : List ℕ} (plan : Plan) (room : ℕ) → IsPlanOf text plan → room_for_taker waits plan ≤ room
+    → (region_of plan).threads * (region_of plan).pages + room_between waits (region_of plan) (acts_of_plan plan) ≤ room
+suffices None plan room read enough = let total = plan_total read in omega (arith, total, enough)
+suffices (Some most) plan room read enough =
+    let f = region_of plan in
+    let each : f.threads * f.pages ≤ f.threads * (f.pages + 64) = mul-le f.threads f.pages f.threads (f.pages + 64) (omega arith) (omega arith) in
+    omega (arith, each, enough)
+
+few_at_first : (waits : Option ℕ) (plan : Plan) (out : Records) → records_in out ≡ [] → room_for_taker waits plan ≤ room_of out
+    → FewWait waits (replay_of plan (room_of out)) out
+few_at_first None plan out empty enough = tt
+few_at_first (Some most) plan out empty enough = let none = ap (λ (rs : List Record). length rs) empty in (omega (arith, none), enough)
+
 -- A replay starts at the kit of its plan, with nothing said and all its acts to come.
-pub start : {text : List ℕ} {plan : Plan} {kit : PlainKit} {out : Records} → IsPlanOf text plan → IsKitOf plan kit → records_in out ≡ []
-    → plan.total + length (phases_of plan) + 1 ≤ room_of out → SoFar (replay_of plan) (replay_of plan).acts (hand_of kit.region kit.actors kit.names out)
-start {text} {plan} {kit} {out} read made empty room =
+pub start : (waits : Option ℕ) {text : List ℕ} {plan : Plan} {kit : PlainKit} {out : Records} {phases : List (List Op)} → phases ≡ phases_of plan
+    → IsPlanOf text plan
+    → IsKitOf plan kit → records_in out ≡ [] → room_for_taker waits plan ≤ room_of out
+    → Begins waits phases (replay_of plan (room_of out)) (hand_of kit.region kit.actors kit.names out)
+start waits {text} {plan} {kit} {out} phases read made empty room =
     let actors = plan_actors plan in
     let owed = owed_start (threads_of plan) (region_of plan) (threads_of plan + keepers_of plan) in
     let pages = ap (λ (n : ℕ). n * (region_of plan).pages) actors in
-    let total = plan_total read in
+    let enough = suffices waits plan (room_of out) read room in
     let none = ap (λ (rs : List Record). length rs) empty in (
-      at_start,
-      record {
-        profile_is = made.profile;
-        actors = made.actors;
-        many = made.unused.many;
-        kept = made.books.many;
-        threads = omega (arith, actors);
-        operate = plan_operate read;
-        keep = plan_keeps read;
-        places = made.places;
-        stands = made.opening;
-        each = λ k le. actor_starts read made k le;
-        nobody = λ k past. refl;
-        names = record {
-          asked = [];
-          fit = plan_fit read (names_held kit.names) made.names;
-          tells = made.no_name;
-          stand = λ n block is. absurd (let bad : None ≡ Some block = sym (made.no_name n) ∙ is in cc);
-          known = λ n is. absurd (let bad : false ≡ true = is in cc);
-        };
-        caches_are = λ i d lt. sym (made.unused.each i d (omega (arith, lt, made.unused.many)));
-        books_are = λ i d lt. sym (made.books.empty i d (omega (arith, lt, made.books.many)));
-        books_have = λ i d lt.
-            let none = ap (λ (gs : List Guard). length gs) (made.books.empty i d (omega (arith, lt, made.books.many))) in
-            let places = made.books.places i d (omega (arith, lt, made.books.many)) in
-            let next : i + 1 ≡ suc i = omega arith in
-            let guarded = ap (λ (k : ℕ). guarded_of k (operations_of plan)) next in
-            let tries = plan_tries read (suc i) in
-            omega (arith, none, places, guarded, tries);
-        records_are = empty;
-        spare = omega (arith, owed, pages, total, none, room);
-        answers = λ q goes. subst (λ (ix : Indexes). GoesBy (threads_of plan) (region_of plan) ix (acts_of_plan plan) at_start q) made.indexes goes;
-      },
+      ap (λ (ps : List (List Op)). acts_of (threads_of plan) (keepers_of plan) ps) (sym phases),
+      (
+        at_start,
+        record {
+          profile_is = made.profile;
+          actors = made.actors;
+          many = made.unused.many;
+          kept = made.books.many;
+          threads = omega (arith, actors);
+          operate = plan_operate read;
+          keep = plan_keeps read;
+          places = made.places;
+          stands = made.opening;
+          each = λ k le. actor_starts read made k le;
+          nobody = λ k past. refl;
+          names = record {
+            asked = [];
+            fit = plan_fit read (names_held kit.names) made.names;
+            tells = made.no_name;
+            stand = λ n block is. absurd (let bad : None ≡ Some block = sym (made.no_name n) ∙ is in cc);
+            known = λ n is. absurd (let bad : false ≡ true = is in cc);
+          };
+          caches_are = λ i d lt. sym (made.unused.each i d (omega (arith, lt, made.unused.many)));
+          books_are = λ i d lt. sym (made.books.empty i d (omega (arith, lt, made.books.many)));
+          books_have = λ i d lt.
+              let none = ap (λ (gs : List Guard). length gs) (made.books.empty i d (omega (arith, lt, made.books.many))) in
+              let places = made.books.places i d (omega (arith, lt, made.books.many)) in
+              let next : i + 1 ≡ suc i = omega arith in
+              let guarded = ap (λ (k : ℕ). guarded_of k (operations_of plan)) next in
+              let tries = plan_tries read (suc i) in
+              omega (arith, none, places, guarded, tries);
+          records_are = empty;
+          shown = tt;
+          size = refl;
+          spare = omega (arith, owed, pages, enough, none);
+          answers = λ q goes. subst (λ (ix : Indexes). GoesBy (threads_of plan) (region_of plan) ix (acts_of_plan plan) at_start q) made.indexes goes;
+        },
+      ),
+      few_at_first waits plan out empty room,
     )
 
 some_cache : (caches : List ThreadCache) → 1 ≤ length caches → ThreadCache
@@ -131,7 +154,7 @@ some_book : (books : List GuardBook) → 1 ≤ length books → GuardBook
 some_book [] bad = absurd (omega (arith, bad))
 some_book (book ∷ books) some = book
 
-module _ {r : Replay} {h : Hand} (so : SoFar r [] h) (empty : AreEmpty h.caches) (lowered : AreLowered h.books) where
+module _ {r : Replay} {left : Left} {h : Hand} (so : SoFar r left h) (empty : AreEmpty h.caches) (lowered : AreLowered h.books) where
   -- a thread has no local allocator, and a keeper no guard
   bare_thread : (i : ℕ) → suc i ≤ r.threads → HasNothing (part (suc i) so.0.list)
   bare_thread i most =
@@ -167,13 +190,16 @@ module _ {r : Replay} {h : Hand} (so : SoFar r [] h) (empty : AreEmpty h.caches)
   bare_at k = elim (cases_lt (r.threads + r.keepers) k) [ inl past ↦ subst HasNothing (sym (so.1.nobody k past)) nothing_yet | inr within ↦ bare k (omega (arith, within)) ]
 
 -- A replay without acts left, whose actors have nothing, shows its plan by the words of its region.
-pub shows : {plan : Plan} {region : PlainRegion} (actors : Actors) (table : Names) {out : Records} {state : State} (limit : ℕ) → IsValid (region_of plan)
+pub shows : (waits : Option ℕ) (told : List Record) (room : ℕ) {plan : Plan} {region : PlainRegion} (actors : Actors) (table : Names) {out : Records}
+    {state : State} (limit : ℕ)
+    → IsValid (region_of plan)
     → AreOfThreads (threads_of plan) (acts_of_plan plan) → AreFit (region_of plan) limit [] (acts_of_plan plan)
-    → SoFar (replay_of plan) [] (hand_of region actors table out) → AreEmpty actors.caches.items → AreLowered actors.books.items
+    → SoFar (telling (replay_of plan room) told) (left_between waits (replay_of plan room) []) (hand_of region actors table out) → AreEmpty actors.caches.items
+    → AreLowered actors.books.items
     → the_profile_of state ≡ profile_of region
     → ((l : Whole) → RegionStands region l → (w : Word) → IsWordOf (profile_of region) w → word_in state w ≡ word_after l w)
-    → Shows InOrder plan (records_in out) state
-shows {plan} {region} actors table {out} {state} limit valid threads fit so empty lowered profile words =
+    → Shows InOrder plan (told ++ records_in out) state
+shows waits told room {plan} {region} actors table {out} {state} limit valid threads fit so empty lowered profile words =
     let p = so.0 in
     let at = so.1 in
     let legal = subst (λ (f : Profile). Legal f p.list) at.profile_is at.stands.legal in
@@ -181,7 +207,7 @@ shows {plan} {region} actors table {out} {state} limit valid threads fit so empt
     let answers = all.0.0 in
     record {
       whole = p.list;
-      replay = replays InOrder plan p p.list (records_in out) valid answers refl (in_phases (region_of plan) (acts_of_plan plan) at_start p answers p.list ([], refl)) (plan_by_one_list plan p answers) at.records_are legal (bare_at so empty lowered)
+      replay = replays InOrder plan p p.list (told ++ records_in out) valid answers refl (in_phases (region_of plan) (acts_of_plan plan) at_start p answers p.list ([], refl)) (plan_by_one_list plan p answers) at.records_are legal (bare_at so empty lowered)
           (all_refuse (region_of plan) limit [] (acts_of_plan plan) at_start p valid fit legal answers)
           ((all.0.1, all_take (region_of plan) (acts_of_plan plan) at_start p valid legal answers), all.1) threads;
       profile = profile ∙ at.profile_is;

@@ -3,7 +3,7 @@ use Rattle.std.proofs.Common.{◌≡◌, ◌≢◌, ℕ, zero, suc, ◌+◌, ◌
 use Rattle.std.proofs.Common.{Some, ap, sym, ◌∙◌, subst, arith, length-append, append_assoc, le-leb, length-set}
 use Rattle.std.proofs.lemmas.{Bool.cases_eq, Option.same_Some}
 use Rattle.pas_profile.specs.declared.profile.Profile.{Profile}
-use Rattle.pas_steps.specs.{Events.events_of, Views.View, Lists.Whole, Lists.part, Desks.triples}
+use Rattle.pas_steps.specs.{Events.events_of, Views.View, Lists.Whole, Lists.Legal, Lists.part, Desks.triples}
 use Rattle.pas_steps.specs.declared.step.Made.{Made}
 use Rattle.pas_steps.proofs.Parts.{part_of_others}
 use Rattle.pas_plain.specs.Plain.{profile_of, actor_of, RegionStands, PassStands}
@@ -18,8 +18,7 @@ use Rattle.pas_cache.specs.declared.cache.ThreadCache.{ThreadCache}
 use Rattle.pas_trace.specs.Acts.{Act}
 use Rattle.pas_answers.specs.{Answers.Progress, Answers.Named, Answers.Caches, Calls.owed_events, Names.names_held, Reaching.Advances, Rests.AreAtRest}
 use Rattle.pas_answers.specs.{Rests.AllAtRest}
-use Rattle.pas_answers.specs.Fit.{AreFit, AreOfThreads, sum_over, costs_of, own_cost_of_act, own_costs_of, kept_cost_of_act, kept_costs_of, unbacks_of_act}
-use Rattle.pas_answers.specs.Fit.{unbacks_of}
+use Rattle.pas_answers.specs.Fit.{AreFit, AreOfThreads, sum_over, own_cost_of_act, own_costs_of, kept_cost_of_act, kept_costs_of, unbacks_of_act, unbacks_of}
 use Rattle.pas_large.specs.Doors.{Indexes}
 use Rattle.pas_answers.specs.Indexes.{indexes_after, indexes_after_all, ActIsNamedBy, AllAreNamedBy}
 use Rattle.pas_answers.specs.declared.names.Names.{Names}
@@ -27,10 +26,11 @@ use Rattle.pas_answers.proofs.SingleActs.{sum_both}
 use Rattle.pas_acts.specs.{Tries.tries_of_act, Tries.tries_of, Tries.AreKeptFor, Works.Later, Works.Sits, Turns.RestsAt, Turns.Moves}
 use Rattle.pas_acts.specs.AtDesks.{here, and_for, ThreadActs, for_act, HasRoomAt, ScavengerActs}
 use Rattle.pas_acts.proofs.AtDesk.{sits_for}
-use Rattle.pas_replay.specs.Sessions.{Slots, pass_in, risen, IsTaken, MaySit, MayTakeSeat, TakesSeat, SeatStands, rests_as, rests, owes_as, owes, own_events}
-use Rattle.pas_replay.specs.Sessions.{ActorStands, owed_by, AreCaches, HaveBooks, HavePlaces, Replay, Hand, hand_at, HasNames, IsAt, GoesBy}
+use Rattle.pas_replay.specs.Sessions.{Slots, pass_in, risen, IsTaken, MaySit, MayTakeSeat, IsInPlace, TakesSeat, SeatStands, rests_as, rests, owes_as, owes}
+use Rattle.pas_replay.specs.Sessions.{own_events, ActorStands, owed_by, AreCaches, HaveBooks, HavePlaces, Replay, Hand, hand_at, HasNames, IsAt, GoesBy, Left}
+use Rattle.pas_replay.specs.Sessions.{upon}
 use Rattle.pas_replay.specs.declared.seats.Actors.{Actors}
-use Rattle.pas_replay.proofs.Turns.{risen_length, put_there, put_elsewhere}
+use Rattle.pas_replay.proofs.{Turns.risen_length, Turns.put_there, Turns.put_elsewhere, Showing.EachShown, Showing.acts_shown}
 use Rattle.pas_replay.proofs.Going.{all_rest, rest_first, rest_one, goes_both}
 use Rattle.pas_replay.proofs.Threads.{OthersKept, set_caches, still_places, owed_kept, owed_moves, owed_at, thread_owes}
 
@@ -45,8 +45,8 @@ may_sit {l = l} of stands st = record {
 }
 
 -- Between two acts each actor of the replay may take the seat at the desk.
-pub may_take_seat : {r : Replay} {acts : List Act} {table : Names} {out : Records} {p : Progress} (desk : PlainDesk) (actors : Actors) (k : ℕ)
-    → k ≤ length actors.caches.items + length actors.books.items → IsTaken desk actors.passes.items → IsAt r acts (hand_at desk actors table out) p
+pub may_take_seat : {r : Replay} {left : Left} {table : Names} {out : Records} {p : Progress} (desk : PlainDesk) (actors : Actors) (k : ℕ)
+    → k ≤ length actors.caches.items + length actors.books.items → IsTaken desk actors.passes.items → IsAt r left (hand_at desk actors table out) p
     → MayTakeSeat desk actors.passes.items k
 may_take_seat desk actors k within taken at =
     let sized = risen_length desk actors.passes.items in
@@ -60,20 +60,56 @@ may_take_seat desk actors k within taken at =
 abbrev pub hand : PlainDesk → Slots → List ThreadCache → List GuardBook → ℕ → Indexes → Names → Records → Hand
 hand desk passes caches books places indexes table out = record { region = region_of desk; passes = risen desk passes; caches = caches; books = books; places = places; indexes = indexes; table = table; out = out }
 
+-- An actor stands with a pass in the place of its own.
+stands_in : {f : Profile} {k : ℕ} {Rest : View → Type 0} {slot slot' : Option PlainPass} {l : Whole} {need : ℕ} → IsInPlace slot slot'
+    → SeatStands f k Rest slot l need → SeatStands f k Rest slot' l need
+stands_in {f} {k} {l = l} {need = need} in_place st =
+    let there = in_place st.pass st.present in
+    record {
+      pass = there.0;
+      present = there.1;
+      actor = there.2.actor ∙ st.actor;
+      stands = there.2.stands f l st.stands;
+      rest = st.rest;
+      room = subst (λ (n : ℕ). length (events_of k (part k l)) + need ≤ n) (sym there.2.room) st.room;
+    }
+
 -- .. is what was in hand before it sat down
-pub sat_down : {r : Replay} {acts : List Act} {desk desk' : PlainDesk} {passes passes' : Slots} {k : ℕ} {caches : List ThreadCache} {books : List GuardBook}
+pub sat_down : {r : Replay} {left : Left} {desk desk' : PlainDesk} {passes passes' : Slots} {k : ℕ} {caches : List ThreadCache} {books : List GuardBook}
     {places : ℕ} {indexes : Indexes} {table : Names} {out : Records} {p : Progress}
     → TakesSeat desk desk' passes passes' k
-    → IsAt r acts (hand desk passes caches books places indexes table out) p → IsAt r acts (hand desk' passes' caches books places indexes table out) p
-sat_down {r} {acts} {desk} {desk'} {passes} {passes'} {k} {caches} {books} {places} {indexes} {table} {out} {p} seat at =
-    rw (seat.passes_are, seat.region_is) at
+    → IsAt r left (hand desk passes caches books places indexes table out) p → IsAt r left (hand desk' passes' caches books places indexes table out) p
+sat_down {r} {left} {desk} {desk'} {passes} {passes'} {k} {caches} {books} {places} {indexes} {table} {out} {p} seat at =
+    let region = sym seat.region_is in
+    record {
+      profile_is = ap profile_of seat.region_is ∙ at.profile_is;
+      actors = seat.as_many ∙ at.actors;
+      many = at.many;
+      kept = at.kept;
+      threads = at.threads;
+      operate = at.operate;
+      keep = at.keep;
+      places = at.places;
+      stands = subst (λ (g : PlainRegion). RegionStands g p.list) region at.stands;
+      each = λ j most. stands_in (seat.in_place j) (at.each j most);
+      nobody = at.nobody;
+      names = at.names;
+      caches_are = at.caches_are;
+      books_are = at.books_are;
+      books_have = at.books_have;
+      records_are = at.records_are;
+      shown = at.shown;
+      size = at.size;
+      spare = at.spare;
+      answers = at.answers;
+    }
 
 -- ---- at the desk
-module _ {r : Replay} {acts : List Act} {desk0 desk : PlainDesk} {passes0 passes : Slots} {caches : List ThreadCache} {books : List GuardBook} {places : ℕ}
+module _ {r : Replay} {left : Left} {desk0 desk : PlainDesk} {passes0 passes : Slots} {caches : List ThreadCache} {books : List GuardBook} {places : ℕ}
     {indexes : Indexes} {table : Names} {out : Records} {p : Progress} (k : ℕ) (within : k ≤ r.threads + r.keepers)
     (seat : TakesSeat desk0 desk passes0 passes k)
-    (before : IsAt r acts (hand desk0 passes0 caches books places indexes table out) p) where
-  at : IsAt r acts (hand desk passes caches books places indexes table out) p
+    (before : IsAt r left (hand desk0 passes0 caches books places indexes table out) p) where
+  at : IsAt r left (hand desk passes caches books places indexes table out) p
   at = sat_down seat before
 
   le : k ≤ r.profile.threads
@@ -89,7 +125,7 @@ module _ {r : Replay} {acts : List Act} {desk0 desk : PlainDesk} {passes0 passes
   stood_now = search (arith, its_pass)
 
   -- An actor that took its seat sits at the desk as it rested, with room for its acts.
-  pub sits_now : Sits r.profile k (rests r.threads r.profile p k) (standing_of desk) p.list (owes r.threads r.profile p k (part k p.list) + own_events r.threads r.profile k acts)
+  pub sits_now : Sits r.profile k (rests r.threads r.profile p k) (standing_of desk) p.list (owes r.threads r.profile p k (part k p.list) + own_events r.threads r.profile k left.acts)
   sits_now = search (arith, stood_now, its_pass)
 
 -- ---- the others
@@ -135,6 +171,10 @@ less_events threads f first more (suc i) =
 pub less_tries : (first more : List Act) (j : ℕ) → tries_of j more ≤ tries_of j (first ++ more)
 less_tries first more j = behind (tries_of_act j) first more
 
+-- What is said comes behind what was said before, handed on or not.
+pub said_more : (told waiting waiting' before said : List Record) → told ++ waiting ≡ before → waiting' ≡ waiting ++ said → told ++ waiting' ≡ before ++ said
+said_more told waiting waiting' before said is pushed = ap (λ (rs : List Record). told ++ rs) pushed ∙ sym (append_assoc told waiting said) ∙ ap (λ (rs : List Record). rs ++ said) is
+
 -- ---- acts that ask no index for a run and change none
 abbrev pub AsksNoIndex : Profile → Act → Type 0
 AsksNoIndex f act = (indexes : Indexes) (p : Progress) → ((q : Progress) (is : Advances f act p q) → (indexes_after f act p q is indexes ≡ indexes) × ActIsNamedBy f indexes act p q is)
@@ -142,6 +182,7 @@ AsksNoIndex f act = (indexes : Indexes) (p : Progress) → ((q : Progress) (is :
 -- ---- the turn
 -- Actor k did acts at the desk, after which `more` are left: it came from p to q. It sits there again, and the acts cost others nothing.
 pub record Turned (r : Replay) (k : ℕ) (acts more : List Act) (indexes indexes' : Indexes) (desk desk' : PlainDesk) (p q : Progress) : Type 0 where
+  pub shows : Legal r.profile q.list → EachShown p.records → EachShown q.records
   pub reaches : (s : Progress) → GoesBy r.threads r.profile indexes' more q s → GoesBy r.threads r.profile indexes acts p s
   pub moves : Moves k (rests r.threads r.profile p k) (rests r.threads r.profile q k) (standing_of desk) (standing_of desk') p q
   pub sits : Sits r.profile k (rests r.threads r.profile q k) (standing_of desk') q.list (owes r.threads r.profile q k (part k q.list) + own_events r.threads r.profile k more)
@@ -149,28 +190,30 @@ pub record Turned (r : Replay) (k : ℕ) (acts more : List Act) (indexes indexes
   pub free : (j : ℕ) → j ≢ k → own_events r.threads r.profile j more ≤ own_events r.threads r.profile j acts
 
 -- what the actors of the replay have in hand beside desk and passes
-pub record HaveInHand (r : Replay) (more : List Act) (caches : List ThreadCache) (books : List GuardBook) (places : ℕ) (table : Names) (out : Records) (q : Progress) : Type 0 where
+pub record HaveInHand (r : Replay) (more : Left) (caches : List ThreadCache) (books : List GuardBook) (places : ℕ) (table : Names) (out : Records) (q : Progress) : Type 0 where
   pub many : length caches ≡ r.threads
   pub kept : length books ≡ r.keepers
-  pub operate : AreOfThreads r.threads more
-  pub keep : AreKeptFor r.threads r.keepers more
+  pub operate : AreOfThreads r.threads more.acts
+  pub keep : AreKeptFor r.threads r.keepers more.acts
   pub room : places ≡ r.profile.pages
-  pub names : HasNames r.profile more table q.names
+  pub names : HasNames r.profile more.acts table q.names
   pub caches_are : AreCaches q.caches caches
   pub books_are : HaveBooks r.threads q.books books
-  pub books_have : HavePlaces r.threads books more
-  pub records_are : records_in out ≡ q.records
-  pub spare : length (records_in out) + (owed_by r.threads r.profile q (r.threads + r.keepers) + costs_of r.profile more) ≤ room_of out
+  pub books_have : HavePlaces r.threads books more.acts
+  pub records_are : r.told ++ records_in out ≡ q.records
+  pub size : room_of out ≡ r.room
+  pub spare : length (records_in out) + (owed_by r.threads r.profile q (r.threads + r.keepers) + more.room) ≤ room_of out
 
-module _ {r : Replay} {acts more : List Act} {desk0 desk desk' : PlainDesk} {passes0 passes : Slots} {caches caches' : List ThreadCache}
+module _ {r : Replay} {left more : Left} {desk0 desk desk' : PlainDesk} {passes0 passes : Slots} {caches caches' : List ThreadCache}
     {books books' : List GuardBook} {places places' : ℕ} {indexes indexes' : Indexes} {table table' : Names} {out out' : Records} {p q : Progress} (k : ℕ)
     (within : k ≤ r.threads + r.keepers)
-    (seat : TakesSeat desk0 desk passes0 passes k) (before : IsAt r acts (hand desk0 passes0 caches books places indexes table out) p) (x : Turned r k acts more indexes indexes' desk desk' p q) (have : HaveInHand r more caches' books' places' table' out' q) where
+    (seat : TakesSeat desk0 desk passes0 passes k) (before : IsAt r left (hand desk0 passes0 caches books places indexes table out) p)
+    (x : Turned r k left.acts more.acts indexes indexes' desk desk' p q) (have : HaveInHand r more caches' books' places' table' out' q) where
   stood_then : DeskStands desk' (x.moves.steps ++ part k p.list) q.list
   stood_then = subst (λ (l : Whole). DeskStands desk' (x.moves.steps ++ part k p.list) l) (ap (λ (m : ℕ). triples m x.moves.steps ++ p.list) seat.actor_is ∙ sym x.moves.list_is)
       (x.moves.calls.adds.added (part k p.list) p.list (stood_now k within seat before) (before.each k (le k within seat before)).rest)
 
-  this_stands : ActorStands r.threads r.profile k q (pass_in (risen desk' passes) k) more
+  this_stands : ActorStands r.threads r.profile k q (pass_in (risen desk' passes) k) more.acts
   this_stands = record {
     pass = pass_of desk';
     present = ap (λ (m : ℕ). pass_in (set passes m (Some (pass_of desk'))) k) x.sits.actor ∙ put_there passes k (Some (pass_of desk')) (has_place k within seat before);
@@ -180,9 +223,9 @@ module _ {r : Replay} {acts more : List Act} {desk0 desk desk' : PlainDesk} {pas
     room = x.sits.room;
   }
 
-  same_slot : (j : ℕ) → j ≢ k → pass_in (risen desk' passes) j ≡ pass_in (risen desk0 passes0) j
+  same_slot : (j : ℕ) → j ≢ k → pass_in (risen desk' passes) j ≡ pass_in (risen desk passes) j
   same_slot j ne = put_elsewhere passes (actor_of (pass_of desk')) j (Some (pass_of desk')) (λ (e : j ≡ actor_of (pass_of desk')). ne (e ∙ x.sits.actor))
-      ∙ sym (put_elsewhere passes (actor_of (pass_of desk)) j (Some (pass_of desk)) (λ (e : j ≡ actor_of (pass_of desk)). ne (e ∙ seat.actor_is))) ∙ ap (λ (ps : Slots). pass_in ps j) seat.passes_are
+      ∙ sym (put_elsewhere passes (actor_of (pass_of desk)) j (Some (pass_of desk)) (λ (e : j ≡ actor_of (pass_of desk)). ne (e ∙ seat.actor_is)))
 
   -- An actor that took its seat and did its acts leaves the replay where the acts after them come next.
   pub turn : IsTaken desk' passes × IsAt r more (hand desk' passes caches' books' places' indexes' table' out') q
@@ -190,7 +233,7 @@ module _ {r : Replay} {acts more : List Act} {desk0 desk desk' : PlainDesk} {pas
     let lt = has_place k within seat before in omega (arith, x.sits.actor, lt),
     record {
       profile_is = x.sits.profile;
-      actors = risen_length desk' passes ∙ sym (risen_length desk passes) ∙ ap (λ (ps : Slots). length ps) seat.passes_are ∙ before.actors;
+      actors = risen_length desk' passes ∙ sym (risen_length desk passes) ∙ (at k within seat before).actors;
       many = have.many;
       kept = have.kept;
       threads = before.threads;
@@ -199,8 +242,8 @@ module _ {r : Replay} {acts more : List Act} {desk0 desk desk' : PlainDesk} {pas
       places = have.room;
       stands = stood_then.region;
       each = λ j most. elim (cases_eq j k) [
-        | inl same ↦ subst (λ (m : ℕ). ActorStands r.threads r.profile m q (pass_in (risen desk' passes) m) more) (sym same) this_stands
-        | inr other ↦ other_stands r.threads r.profile p q acts more x.moves.steps (λ (e : k ≡ j). other (sym e)) x.moves.list_is (x.kept.caches j other) (x.kept.books j other) (same_slot j other) (x.free j other) (before.each j most)
+        | inl same ↦ subst (λ (m : ℕ). ActorStands r.threads r.profile m q (pass_in (risen desk' passes) m) more.acts) (sym same) this_stands
+        | inr other ↦ other_stands r.threads r.profile p q left.acts more.acts x.moves.steps (λ (e : k ≡ j). other (sym e)) x.moves.list_is (x.kept.caches j other) (x.kept.books j other) (same_slot j other) (x.free j other) ((at k within seat before).each j most)
       ];
       nobody = λ j past. ap (λ (l : Whole). part j l) x.moves.list_is ∙ part_of_others j k x.moves.steps p.list (λ (e : k ≡ j). omega (arith, e, within, past)) ∙ before.nobody j past;
       names = have.names;
@@ -208,6 +251,8 @@ module _ {r : Replay} {acts more : List Act} {desk0 desk desk' : PlainDesk} {pas
       books_are = have.books_are;
       books_have = have.books_have;
       records_are = have.records_are;
+      shown = x.shows (subst (λ (f : Profile). Legal f q.list) x.sits.profile stood_then.region.legal) before.shown;
+      size = have.size;
       spare = have.spare;
       answers = λ s rest. before.answers s (x.reaches s rest);
     },
@@ -229,37 +274,37 @@ MovesAs kind r k desk desk' p q = Moves k (rests_as kind r.profile (p.caches k) 
 
 -- ---- the turn of a thread
 -- for how much there is room besides: for the acts that are left, what the others owe, and what is said besides
-abbrev pub later_for : Replay → ℕ → Progress → List Act → ℕ → Later
+abbrev pub later_for : Replay → ℕ → Progress → Left → ℕ → Later
 later_for r k p more extra =
-    record { events = own_costs_of k more; records = (owed_by r.threads r.profile p (r.threads + r.keepers) - owed_events r.profile (p.caches k) (part k p.list)) + (costs_of r.profile more + extra) }
+    record { events = own_costs_of k more.acts; records = (owed_by r.threads r.profile p (r.threads + r.keepers) - owed_events r.profile (p.caches k) (part k p.list)) + (more.room + extra) }
 
 -- it rests at the desk, with room for acts of this cost
-pub thread_now : {r : Replay} {acts : List Act} {desk0 desk : PlainDesk} {passes0 passes : Slots} {caches : List ThreadCache} {books : List GuardBook}
-    {places : ℕ} {indexes : Indexes} {table : Names} {out : Records} {p : Progress} {c : Cached} (k cost extra : ℕ) (more : List Act)
+pub thread_now : {r : Replay} {left : Left} {desk0 desk : PlainDesk} {passes0 passes : Slots} {caches : List ThreadCache} {books : List GuardBook}
+    {places : ℕ} {indexes : Indexes} {table : Names} {out : Records} {p : Progress} {c : Cached} (k cost extra : ℕ) (more : Left)
     → 1 ≤ k → k ≤ length caches → TakesSeat desk0 desk passes0 passes k
-    → p.caches k ≡ c → own_costs_of k acts ≡ cost + own_costs_of k more → costs_of r.profile acts ≡ cost + (extra + costs_of r.profile more)
-    → IsAt r acts (hand desk0 passes0 caches books places indexes table out) p
+    → p.caches k ≡ c → own_costs_of k left.acts ≡ cost + own_costs_of k more.acts → left.room ≡ cost + (extra + more.room)
+    → IsAt r left (hand desk0 passes0 caches books places indexes table out) p
     → RestsAt r.profile k (standing_of desk) c out (and_for cost (later_for r k p more extra)) p
 thread_now zero cost extra more some most seat cache own costs at = absurd (omega (arith, some))
-thread_now {r} {acts} {desk0} {desk} {passes0} {passes} {p = p} {c} (suc i) cost extra more some most seat cache own costs at =
+thread_now {r} {left} {desk0} {desk} {passes0} {passes} {p = p} {c} (suc i) cost extra more some most seat cache own costs at =
     let f = r.profile in
     let k = suc i in
     let within : k ≤ r.threads = omega (arith, most, at.many) in
     let least = owed_at r.threads f p k (r.threads + r.keepers) some (omega (arith, within)) in
     let mine = thread_owes r.threads f p k within in
     let owed = ap (λ (d : Cached). owed_events f d (part k p.list)) cache in
-    let sits = subst (λ (kind : Bool). SitsAs kind r k desk acts p) (le-leb k r.threads within) (sits_now k (omega (arith, within)) seat at) in
+    let sits = subst (λ (kind : Bool). SitsAs kind r k desk left.acts p) (le-leb k r.threads within) (sits_now k (omega (arith, within)) seat at) in
     -- its seat and its cache are those; there is room for what it owes, within what all owe, and for what the acts ask
     search arith
 
 -- A thread that took its seat and did its acts leaves the replay where the acts after them come next.
-pub thread_turn : {r : Replay} {first more : List Act} {desk0 desk desk' : PlainDesk} {passes0 passes : Slots} {caches : List ThreadCache}
+pub thread_turn : {r : Replay} {first : List Act} {more : Left} {desk0 desk desk' : PlainDesk} {passes0 passes : Slots} {caches : List ThreadCache}
     {books : List GuardBook} {places : ℕ} {indexes indexes' : Indexes} {table table' : Names} {out out1 out2 : Records} {p : Progress} {c : Cached}
     {came : List Named} {told : List Record} {extra : ℕ}
-    (k : ℕ) (cache : ThreadCache) → 1 ≤ k → k ≤ length caches → TakesSeat desk0 desk passes0 passes k → p.caches k ≡ c → IsAt r (first ++ more) (hand desk0 passes0 caches books places indexes table out) p
+    (k : ℕ) (cache : ThreadCache) → 1 ≤ k → k ≤ length caches → TakesSeat desk0 desk passes0 passes k → p.caches k ≡ c → IsAt r (upon r first more) (hand desk0 passes0 caches books places indexes table out) p
     → (did : ThreadActs r.profile k first came told (here (standing_of desk) c out) (here (standing_of desk') (cached cache) out1) (later_for r k p more extra) p) → AllAreNamedBy r.profile indexes first p did.reached did.reaches → indexes' ≡ indexes_after_all r.profile first p did.reached did.reaches indexes
     → (AreAtRest r.threads r.profile p.caches p.books p.list → AreAtRest r.threads r.profile did.reached.caches did.reached.books did.reached.list → AllAtRest r.threads r.profile first p did.reached did.reaches)
-    → HasNames r.profile more table' did.reached.names → AreOfThreads r.threads more → AreKeptFor r.threads r.keepers more → length told ≤ extra → records_in out2 ≡ records_in out1 ++ told → room_of out2 ≡ room_of out1
+    → HasNames r.profile more.acts table' did.reached.names → AreOfThreads r.threads more.acts → AreKeptFor r.threads r.keepers more.acts → length told ≤ extra → records_in out2 ≡ records_in out1 ++ told → room_of out2 ≡ room_of out1
     → IsTaken desk' passes × IsAt r more (hand desk' passes (set caches (k - 1) cache) books places indexes' table' out2) did.reached
 thread_turn zero cache some most seat was at did named after rested names operate keep few added room = absurd (omega (arith, some))
 thread_turn {r} {first} {more} {desk0} {desk} {desk'} {passes0} {passes} {caches} {books} {places} {indexes} {indexes'} {table} {table'} {out} {out1} {out2} {p} {c} {came} {told} {extra} (suc i) cache some most seat was at did named after rested names operate keep few added room =
@@ -273,8 +318,8 @@ thread_turn {r} {first} {more} {desk0} {desk} {desk'} {passes0} {passes} {caches
     let moves0 : Moves k (AtRest f (p.caches k)) (AtRest f (q.caches k)) (standing_of desk) (standing_of desk') p q =
     subst (λ (d : Cached). Moves k (AtRest f d) (AtRest f (q.caches k)) (standing_of desk) (standing_of desk') p q) (sym was) (subst (λ (d : Cached). Moves k (AtRest f c) (AtRest f d) (standing_of desk) (standing_of desk') p q) (sym now) did.moves) in
     let moves = subst (λ (b : Bool). MovesAs b r k desk desk' p q) kind moves0 in
-    let sits0 = subst (λ (d : Cached). Sits f k (AtRest f d) (standing_of desk') q.list (owed_events f d (part k q.list) + own_costs_of k more)) (sym now) did.stands.sits in
-    let sits = subst (λ (b : Bool). SitsAs b r k desk' more q) kind sits0 in
+    let sits0 = subst (λ (d : Cached). Sits f k (AtRest f d) (standing_of desk') q.list (owed_events f d (part k q.list) + own_costs_of k more.acts)) (sym now) did.stands.sits in
+    let sits = subst (λ (b : Bool). SitsAs b r k desk' more.acts q) kind sits0 in
     let kept : OthersKept k p q = kept_by_moves moves0 did.caches (λ j ne. ap (λ (bs : ℕ → List Guard). bs j) did.books) in
     let change = owed_moves r.threads f p q k kept (r.threads + r.keepers) some all in
     let least = owed_at r.threads f p k (r.threads + r.keepers) some all in
@@ -283,11 +328,12 @@ thread_turn {r} {first} {more} {desk0} {desk} {desk'} {passes0} {passes} {caches
     let owed = ap (λ (d : Cached). owed_events f d (part k q.list)) now in
     let longer = ap (λ (rs : List Record). length rs) added ∙ length-append (records_in out1) told in
     turn k all seat at record {
-      reaches = λ s rest. goes_both r.threads f indexes first more p q s did.reaches named (rested (all_rest at) (rest_first r.threads f more q s rest.0.0 rest.1)) (subst (λ (ix : Indexes). GoesBy r.threads f ix more q s) after rest);
+      shows = acts_shown f first p q did.reaches;
+      reaches = λ s rest. goes_both r.threads f indexes first more.acts p q s did.reaches named (rested (all_rest at) (rest_first r.threads f more.acts q s rest.0.0 rest.1)) (subst (λ (ix : Indexes). GoesBy r.threads f ix more.acts q s) after rest);
       moves = moves;
       sits = sits;
       kept = kept;
-      free = λ j ne. less_events r.threads f first more j;
+      free = λ j ne. less_events r.threads f first more.acts j;
     }
     record {
       many = length-set caches (k - 1) cache ∙ at.many;
@@ -298,29 +344,30 @@ thread_turn {r} {first} {more} {desk0} {desk} {desk'} {passes0} {passes} {caches
       names = names;
       caches_are = set_caches caches k cache some most now did.caches at.caches_are;
       books_are = subst (λ (bs : ℕ → List Guard). HaveBooks r.threads bs books) (sym did.books) at.books_are;
-      books_have = still_places r.threads books (first ++ more) more (less_tries first more) at.books_have;
-      records_are = added ∙ ap (λ (rs : List Record). rs ++ told) (did.pushed ∙ ap (λ (rs : List Record). rs ++ did.own) at.records_are) ∙ append_assoc p.records did.own told ∙ sym did.records_are;
+      books_have = still_places r.threads books (first ++ more.acts) more.acts (less_tries first more.acts) at.books_have;
+      records_are = said_more r.told (records_in out) (records_in out2) p.records (did.own ++ told) at.records_are (added ∙ ap (λ (rs : List Record). rs ++ told) did.pushed ∙ append_assoc (records_in out) did.own told) ∙ sym did.records_are;
+      size = room ∙ did.room ∙ at.size;
       spare = omega (arith, change, least, mine, then_mine, owed, longer, did.stands.spare, few, room);
     }
 
 -- ---- the turn of the scavenger
-abbrev pub later_of : Replay → Progress → List Act → Later
-later_of r p more = record { events = unbacks_of r.profile more; records = owed_by r.threads r.profile p (r.threads + r.keepers) + costs_of r.profile more }
+abbrev pub later_of : Replay → Progress → Left → Later
+later_of r p more = record { events = unbacks_of r.profile more.acts; records = owed_by r.threads r.profile p (r.threads + r.keepers) + more.room }
 
 -- The scavenger that took its seat has room for its act that comes next.
-pub scavenger_now : {r : Replay} {more : List Act} {act : Act} {desk0 desk : PlainDesk} {passes0 passes : Slots} {caches : List ThreadCache}
+pub scavenger_now : {r : Replay} {act : Act} {desk0 desk : PlainDesk} {passes0 passes : Slots} {caches : List ThreadCache}
     {books : List GuardBook} {places : ℕ} {indexes : Indexes} {table : Names} {out : Records} {p : Progress}
-    → TakesSeat desk0 desk passes0 passes 0
-    → IsAt r (act ∷ more) (hand desk0 passes0 caches books places indexes table out) p
+    (more : Left) → TakesSeat desk0 desk passes0 passes 0
+    → IsAt r (upon r (act ∷ []) more) (hand desk0 passes0 caches books places indexes table out) p
     → HasRoomAt r.profile (standing_of desk) out (for_act r.profile act (later_of r p more)) p
-scavenger_now seat at = let spare = at.spare in record { sits = sits_for (sits_now 0 (omega arith) seat at) (omega arith); spare = omega (arith, spare) }
+scavenger_now more seat at = let spare = at.spare in record { sits = sits_for (sits_now 0 (omega arith) seat at) (omega arith); spare = omega (arith, spare) }
 
 -- The scavenger that took its seat and did an act leaves the replay where the acts after it come next.
-pub scavenger_turn : {r : Replay} {more : List Act} {act : Act} {desk0 desk desk' : PlainDesk} {passes0 passes : Slots} {caches : List ThreadCache}
+pub scavenger_turn : {r : Replay} {more : Left} {act : Act} {desk0 desk desk' : PlainDesk} {passes0 passes : Slots} {caches : List ThreadCache}
     {books : List GuardBook} {places places' : ℕ} {indexes : Indexes} {table : Names} {out out' : Records} {p : Progress}
     → TakesSeat desk0 desk passes0 passes 0
-    → ((limit : ℕ) (asked : List ℕ) → AreFit r.profile limit asked (act ∷ more) → AreFit r.profile limit asked more) → AsksNoIndex r.profile act
-    → IsAt r (act ∷ more) (hand desk0 passes0 caches books places indexes table out) p
+    → ((limit : ℕ) (asked : List ℕ) → AreFit r.profile limit asked (act ∷ more.acts) → AreFit r.profile limit asked more.acts) → AsksNoIndex r.profile act
+    → IsAt r (upon r (act ∷ []) more) (hand desk0 passes0 caches books places indexes table out) p
     → (did : ScavengerActs r.profile act (standing_of desk) (standing_of desk') out out' (later_of r p more) p) → places' ≡ places
     → IsTaken desk' passes × IsAt r more (hand desk' passes caches books places' indexes table out') did.reached
 scavenger_turn {r} {more} {act} {desk0} {desk} {desk'} {passes0} {passes} {caches} {books} {places} {places'} {indexes} {table} {out} {out'} {p} seat fit asks at did same =
@@ -331,12 +378,13 @@ scavenger_turn {r} {more} {act} {desk0} {desk} {desk'} {passes0} {passes} {cache
     let owed = owed_kept r.threads f p q 0 kept (r.threads + r.keepers) (λ j low high e. omega (arith, low, e)) in
     let asked = asks indexes p did.reaches.0 did.reaches.1 in
     turn 0 (omega arith) seat at record {
-      reaches = λ s rest. goes_both r.threads f indexes (act ∷ []) more p q s did.reaches (asked.1, tt) (rest_one r.threads f act p q did.reaches (all_rest at) (rest_first r.threads f more q s rest.0.0 rest.1))
-          (subst (λ (ix : Indexes). GoesBy r.threads f ix more q s) (sym asked.0) rest);
+      shows = acts_shown f (act ∷ []) p q did.reaches;
+      reaches = λ s rest. goes_both r.threads f indexes (act ∷ []) more.acts p q s did.reaches (asked.1, tt) (rest_one r.threads f act p q did.reaches (all_rest at) (rest_first r.threads f more.acts q s rest.0.0 rest.1))
+          (subst (λ (ix : Indexes). GoesBy r.threads f ix more.acts q s) (sym asked.0) rest);
       moves = did.moves;
       sits = sits_for did.stands.sits (omega arith);
       kept = kept;
-      free = λ j ne. less_events r.threads f (act ∷ []) more j;
+      free = λ j ne. less_events r.threads f (act ∷ []) more.acts j;
     }
     record {
       many = at.many;
@@ -344,10 +392,11 @@ scavenger_turn {r} {more} {act} {desk0} {desk} {desk'} {passes0} {passes} {cache
       operate = at.operate.1;
       keep = at.keep.1;
       room = same ∙ at.places;
-      names = subst (λ (ns : List Named). HasNames f more table ns) (sym did.names) record { asked = names.asked; fit = fit (names_held table) names.asked names.fit; tells = names.tells; stand = names.stand; known = names.known };
+      names = subst (λ (ns : List Named). HasNames f more.acts table ns) (sym did.names) record { asked = names.asked; fit = fit (names_held table) names.asked names.fit; tells = names.tells; stand = names.stand; known = names.known };
       caches_are = subst (λ (cs : Caches). AreCaches cs caches) (sym did.caches) at.caches_are;
       books_are = subst (λ (bs : ℕ → List Guard). HaveBooks r.threads bs books) (sym did.books) at.books_are;
-      books_have = still_places r.threads books (act ∷ more) more (less_tries (act ∷ []) more) at.books_have;
-      records_are = did.says.pushed ∙ ap (λ (rs : List Record). rs ++ did.says.said) at.records_are ∙ sym did.says.records_are;
+      books_have = still_places r.threads books (act ∷ more.acts) more.acts (less_tries (act ∷ []) more.acts) at.books_have;
+      records_are = said_more r.told (records_in out) (records_in out') p.records did.says.said at.records_are did.says.pushed ∙ sym did.says.records_are;
+      size = did.says.room ∙ at.size;
       spare = omega (arith, owed, did.stands.spare);
     }

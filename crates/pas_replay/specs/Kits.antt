@@ -34,6 +34,6 @@ pub record IsKitOf (plan : Plan) (kit : PlainKit) : Type 0 where
   pub names : AllBelow (names_held kit.names) (phases_of plan)
   pub none_left : kit.passes.items ≡ []
 
--- the replay of the plan
-abbrev pub replay_of : Plan → Replay
-replay_of plan = record { profile = region_of plan; threads = threads_of plan; keepers = keepers_of plan; acts = acts_of_plan plan }
+-- the replay of the plan, with room for so many records, before any was handed on
+abbrev pub replay_of : Plan → ℕ → Replay
+replay_of plan room = record { profile = region_of plan; threads = threads_of plan; keepers = keepers_of plan; acts = acts_of_plan plan; room = room; told = [] }

@@ -2,3 +2,4 @@ pub mod Sessions
 pub mod Kits
 pub mod OneThread
 pub mod Operating
+pub mod Taking

@@ -7,18 +7,20 @@ use Rattle.pas_steps.specs.{Clear.HasNothing, Events.events_of, Lists.Whole, Lis
 use Rattle.pas_plain.specs.Plain.{profile_of, actor_of, room_of_pass, RegionStands, PassStands}
 use Rattle.pas_plain.specs.Seats.{region_of, pass_of, IsPassOf}
 use Rattle.pas_plain.specs.declared.{region.PlainRegion.PlainRegion, pass.PlainPass.PlainPass, desk.PlainDesk.PlainDesk}
-use Rattle.pas_report.specs.Rooms.{records_in, room_of, Records}
+use Rattle.std.specs.List.{AllByRecursion}
+use Rattle.pas_report.specs.{Lines.CanShow, Rooms.records_in, Rooms.room_of, Rooms.Records}
+use Rattle.pas_report.specs.declared.record.Record.{Record}
 use Rattle.pas_guard.specs.Books.{FitsBook, guards_in, size_of_book}
 use Rattle.pas_guard.specs.declared.book.{Guard.Guard, GuardBook.GuardBook}
 use Rattle.pas_answers.specs.{Keeping.owed_by_keeper, Names.names_held, Indexes.ReachesBy, Rests.AllAtRest, Replays.at_start}
 use Rattle.pas_cache.specs.Caches.{Cached, cached, AtRest}
 use Rattle.pas_cache.specs.declared.cache.ThreadCache.{ThreadCache}
 use Rattle.pas_utility.specs.Outcomes.{places_of}
-use Rattle.pas_trace.specs.Acts.{Act, Operates, Guards, Settles, acts_of}
+use Rattle.pas_trace.specs.Acts.{Act, Operates, Guards, Settles}
 use Rattle.pas_trace.specs.declared.{plan.Op.Op, item.Request.Request, plan.Task.Task}
 use Rattle.pas_answers.specs.Answers.{Progress, Named, Caches, Books}
 use Rattle.pas_answers.specs.Calls.{Tells, MayStand, AllMayStand, AreKnown, named_by, owed_events}
-use Rattle.pas_answers.specs.Fit.{AreFit, AreOfThreads, costs_of, own_costs_of, kept_costs_of, unbacks_of}
+use Rattle.pas_answers.specs.Fit.{AreFit, AreOfThreads, cost_of_act, own_costs_of, kept_costs_of, unbacks_of}
 use Rattle.pas_large.specs.Doors.{Indexes, no_ranges}
 use Rattle.pas_acts.specs.Tries.{tries_of, AreKeptFor}
 use Rattle.pas_answers.specs.declared.names.Names.{Names}
@@ -54,10 +56,27 @@ pub record MayTakeSeat (desk : PlainDesk) (passes : Slots) (k : ℕ) : Type 0 wh
   pub own : MaySit (region_of desk) (pass_in (risen desk passes) k) k
 
 -- it sat down there: nothing else changed
-pub record TakesSeat (desk desk' : PlainDesk) (passes passes' : Slots) (k : ℕ) : Type 0 where
+pub record ChangesSeats (desk desk' : PlainDesk) (passes passes' : Slots) (k : ℕ) : Type 0 where
   pub region_is : region_of desk' ≡ region_of desk
   pub actor_is : actor_of (pass_of desk') ≡ k
   pub passes_are : risen desk' passes' ≡ risen desk passes
+
+-- a pass of the same actor, with the same room, which stands for all for which the other one stood
+pub record StandsIn (old new : PlainPass) : Type 0 where
+  pub actor : actor_of new ≡ actor_of old
+  pub room : room_of_pass new ≡ room_of_pass old
+  pub stands : (f : Profile) (l : Whole) → PassStands f old l → PassStands f new l
+
+-- where the one slot has a pass, the other has one in its place
+abbrev pub IsInPlace : Option PlainPass → Option PlainPass → Type 0
+IsInPlace slot slot' = (pass : PlainPass) → slot ≡ Some pass → (pass' : PlainPass) × (slot' ≡ Some pass') × StandsIn pass pass'
+
+-- it sat down there, and may have forgotten what it had shown
+pub record TakesSeat (desk desk' : PlainDesk) (passes passes' : Slots) (k : ℕ) : Type 0 where
+  pub region_is : region_of desk' ≡ region_of desk
+  pub actor_is : actor_of (pass_of desk') ≡ k
+  pub as_many : length (risen desk' passes') ≡ length (risen desk passes)
+  pub in_place : (j : ℕ) → IsInPlace (pass_in (risen desk passes) j) (pass_in (risen desk' passes') j)
 
 -- ---- all actors
 -- Actor k has its pass, which stands for the list, at whose end its part is so. There is room for `need` events more.
@@ -131,12 +150,32 @@ abbrev pub AreEmpty : List ThreadCache → Type 0
 AreEmpty list = (i : ℕ) (d : ThreadCache) → i < length list → (cached (slice_index_or list i d)).locals ≡ []
 
 -- ---- the replay goes on
--- a replay: the profile of its region, how many threads and keepers it has, and all its acts
+-- a replay: the profile of its region, how many threads and keepers it has, and all its acts; for how many records there is room, and which were handed on
 pub record Replay : Type 0 where
   pub profile : Profile
   pub threads : ℕ
   pub keepers : ℕ
   pub acts : List Act
+  pub room : ℕ
+  pub told : List Record
+
+-- .. once these were handed on, too
+abbrev pub telling : Replay → List Record → Replay
+telling r told = record r { told = r.told ++ told }
+
+-- what is left of a replay: its acts, and for how many records there is room beside those that are owed
+pub record Left : Type 0 where
+  pub acts : List Act
+  pub room : ℕ
+
+-- what these acts cost, and so many records more
+abbrev pub costs_and : Profile → List Act → ℕ → ℕ
+costs_and f [] more = more
+costs_and f (act ∷ acts) more = cost_of_act f act + costs_and f acts more
+
+-- these acts, for which there is room, and then what is left behind them
+abbrev pub upon : Replay → List Act → Left → Left
+upon r acts more = record { acts = acts ++ more.acts; room = costs_and r.profile acts more.room }
 
 -- what a replay has in hand between two acts
 pub record Hand : Type 0 where
@@ -189,33 +228,32 @@ GoesBy threads f indexes acts p q = (is : ReachesBy f indexes acts p q) × AllAt
 
 -- These acts of the replay are left, and it came as far as p: wherever they take it from here so, all of its acts take it from the start, where the indexes held
 -- nothing. Each actor of the region stands. There is a cache for each thread, and a book for each keeper. The threads and keepers are actors of the region,
--- those operations are theirs, and beside them only the scavenger made steps. There is room for what the acts may make.
-pub record IsAt (r : Replay) (acts : List Act) (h : Hand) (p : Progress) : Type 0 where
+-- those operations are theirs, and beside them only the scavenger made steps. The records are those that were handed on, and then those that wait; each can be shown. There
+-- is room for those that are owed, and for so many more.
+pub record IsAt (r : Replay) (left : Left) (h : Hand) (p : Progress) : Type 0 where
   pub profile_is : profile_of h.region ≡ r.profile
   pub actors : length h.passes ≡ r.profile.threads + 1
   pub many : length h.caches ≡ r.threads
   pub kept : length h.books ≡ r.keepers
   pub threads : r.threads + r.keepers ≤ r.profile.threads
-  pub operate : AreOfThreads r.threads acts
-  pub keep : AreKeptFor r.threads r.keepers acts
+  pub operate : AreOfThreads r.threads left.acts
+  pub keep : AreKeptFor r.threads r.keepers left.acts
   pub places : h.places ≡ r.profile.pages
   pub stands : RegionStands h.region p.list
-  pub each : (k : ℕ) → k ≤ r.profile.threads → ActorStands r.threads r.profile k p (pass_in h.passes k) acts
+  pub each : (k : ℕ) → k ≤ r.profile.threads → ActorStands r.threads r.profile k p (pass_in h.passes k) left.acts
   pub nobody : (k : ℕ) → r.threads + r.keepers < k → part k p.list ≡ []
-  pub names : HasNames r.profile acts h.table p.names
+  pub names : HasNames r.profile left.acts h.table p.names
   pub caches_are : AreCaches p.caches h.caches
   pub books_are : HaveBooks r.threads p.books h.books
-  pub books_have : HavePlaces r.threads h.books acts
-  pub records_are : records_in h.out ≡ p.records
-  pub spare : length (records_in h.out) + (owed_by r.threads r.profile p (r.threads + r.keepers) + costs_of r.profile acts) ≤ room_of h.out
-  pub answers : (q : Progress) → GoesBy r.threads r.profile h.indexes acts p q → GoesBy r.threads r.profile (no_ranges r.profile.heaps) r.acts at_start q
+  pub books_have : HavePlaces r.threads h.books left.acts
+  pub records_are : r.told ++ records_in h.out ≡ p.records
+  pub shown : AllByRecursion CanShow p.records
+  pub size : room_of h.out ≡ r.room
+  pub spare : length (records_in h.out) + (owed_by r.threads r.profile p (r.threads + r.keepers) + left.room) ≤ room_of h.out
+  pub answers : (q : Progress) → GoesBy r.threads r.profile h.indexes left.acts p q → GoesBy r.threads r.profile (no_ranges r.profile.heaps) r.acts at_start q
 
-abbrev pub SoFar : Replay → List Act → Hand → Type 0
-SoFar r acts h = (p : Progress) × IsAt r acts h p
-
--- the whole replay of these phases
-abbrev pub Replays : List (List Op) → Hand → Hand → Type 0
-Replays phases before after = (r : Replay) → r.acts ≡ acts_of r.threads r.keepers phases → SoFar r r.acts before → SoFar r [] after
+abbrev pub SoFar : Replay → Left → Hand → Type 0
+SoFar r left h = (p : Progress) × IsAt r left h p
 
 -- ---- at the desk
 -- what a replay has in hand while an actor sits there
@@ -229,16 +267,16 @@ abbrev pub session : PlainDesk → Actors → Names → Records → Session
 session desk actors table out = record { desk = desk; actors = actors; table = table; out = out }
 
 -- that actor has a place among the passes
-abbrev pub SoFarAt : Replay → List Act → Session → Type 0
-SoFarAt r acts s = IsTaken s.desk s.actors.passes.items × SoFar r acts (hand_at s.desk s.actors s.table s.out)
+abbrev pub SoFarAt : Replay → Left → Session → Type 0
+SoFarAt r left s = IsTaken s.desk s.actors.passes.items × SoFar r left (hand_at s.desk s.actors s.table s.out)
 
 -- in some replay these acts come next, which go by its number of threads
 abbrev pub MayGoOn : (ℕ → List Act) → Session → Type 0
-MayGoOn acts s = (r : Replay) × (more : List Act) × SoFarAt r (acts r.threads ++ more) s
+MayGoOn acts s = (r : Replay) × (more : Left) × SoFarAt r (upon r (acts r.threads) more) s
 
 -- in each replay in which these acts come next, those after them are left afterwards
 abbrev pub GoesOn : (ℕ → List Act) → Session → Session → Type 0
-GoesOn acts before after = (r : Replay) (more : List Act) → SoFarAt r (acts r.threads ++ more) before → SoFarAt r more after
+GoesOn acts before after = (r : Replay) (more : Left) → SoFarAt r (upon r (acts r.threads) more) before → SoFarAt r more after
 
 -- ---- a guarded request, whose keeper tries it first
 -- the task that asks for it
@@ -258,17 +296,17 @@ pub record HasNamed (op : Op) (came : Option Block) (before after : Names) : Typ
 -- Where it gave no block, the operation is left to its thread, as any. Where it gave one, nothing but what the cache noted is left of it, once its name stands
 -- for the block.
 abbrev pub HasTried : Op → ℕ → Option Block → Session → Session → Type 0
-HasTried op keeper None before after = (r : Replay) (more : List Act)
-    → SoFarAt r (Guards keeper op ∷ (Settles op.actor ∷ more)) before → SoFarAt r (Operates op ∷ (Settles op.actor ∷ more)) after
-HasTried op keeper (Some block) before after = (r : Replay) (more : List Act) (table : Names) → HasNamed op (Some block) before.table table
-    → SoFarAt r (Guards keeper op ∷ (Settles op.actor ∷ more)) before → SoFarAt r (Settles op.actor ∷ more) (session after.desk after.actors table after.out)
+HasTried op keeper None before after = (r : Replay) (more : Left)
+    → SoFarAt r (upon r (Guards keeper op ∷ (Settles op.actor ∷ [])) more) before → SoFarAt r (upon r (Operates op ∷ (Settles op.actor ∷ [])) more) after
+HasTried op keeper (Some block) before after = (r : Replay) (more : Left) (table : Names) → HasNamed op (Some block) before.table table
+    → SoFarAt r (upon r (Guards keeper op ∷ (Settles op.actor ∷ [])) more) before → SoFarAt r (upon r (Settles op.actor ∷ []) more) (session after.desk after.actors table after.out)
 
 -- ---- the same, where the scavenger read this epoch last for an idle operation
-abbrev pub HasRead : ℕ → Replay → List Act → Session → Type 0
-HasRead epoch r acts s = IsTaken s.desk s.actors.passes.items × (p : Progress) × IsAt r acts (hand_at s.desk s.actors s.table s.out) p × (p.epoch ≡ epoch)
+abbrev pub HasRead : ℕ → Replay → Left → Session → Type 0
+HasRead epoch r left s = IsTaken s.desk s.actors.passes.items × (p : Progress) × IsAt r left (hand_at s.desk s.actors s.table s.out) p × (p.epoch ≡ epoch)
 
 abbrev pub MayGoOnAt : ℕ → List Act → Session → Type 0
-MayGoOnAt epoch acts s = (r : Replay) × (more : List Act) × HasRead epoch r (acts ++ more) s
+MayGoOnAt epoch acts s = (r : Replay) × (more : Left) × HasRead epoch r (upon r acts more) s
 
 abbrev pub GoesOnAt : ℕ → List Act → Session → Session → Type 0
-GoesOnAt epoch acts before after = (r : Replay) (more : List Act) → HasRead epoch r (acts ++ more) before → HasRead epoch r more after
+GoesOnAt epoch acts before after = (r : Replay) (more : Left) → HasRead epoch r (upon r acts more) before → HasRead epoch r more after

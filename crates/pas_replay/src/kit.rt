@@ -1,14 +1,16 @@
 //! All that a replay needs, and the replay.
 
-ghost use Rattle.std.specs.Prelude.{◌≡◌, ◌≤◌, ◌<◌, ◌+◌, ℕ, List, IfOk, Some, [], length, map};
+ghost use Rattle.std.specs.Prelude.{◌≡◌, ◌≤◌, ◌<◌, ◌+◌, ◌++◌, ℕ, List, IfOk, Some, [], length, map};
 ghost use Rattle.pas_trace.specs.Plans.{IsPlanOf};
 ghost use Rattle.pas_report.specs.Rooms.{records_in, room_of};
+ghost use Rattle.pas_report.specs.declared.record.Record.{Record as TheRecord};
 ghost use Rattle.pas_answers.specs.{Replays.phases_of, Replays.Shows, Ways.InOrder};
 ghost use Rattle.pas_large.specs.Doors.{no_ranges};
-ghost use Rattle.pas_replay.specs.Kits.{IsKitOf};
+ghost use Rattle.pas_replay.specs.{Kits.IsKitOf, Taking.room_for_taker};
 
 use crate::order::replay;
 use crate::seats::Actors;
+use crate::taking::{Keeps, Takes};
 use pas_acts::{books_for, caches_for, outcomes_from, region_of, rooms_of};
 use pas_answers::Remake;
 use pas_answers::names::Names;
@@ -103,6 +105,24 @@ pub fn in_order<M: Remake>(plan: &Plan, kit: PlainKit, remake: &M, out: &mut Rec
     requires room { plan.now.total + length (phases_of plan.now) + 1 ≤ room_of out.old }
     ensures { Shows InOrder plan.now (records_in out.new) result }
 {
+    in_order_to(plan, kit, remake, out, &mut Keeps)
+}
+
+/// The same, while the taker takes what was said, after each operation: `out` has room for what waits, and keeps at the end what the taker left. What it took, and
+/// then what waits, is what `in_order` says. Takes no memory.
+pub fn in_order_to<M: Remake, T: Takes>(
+    plan: &Plan,
+    kit: PlainKit,
+    remake: &M,
+    out: &mut Records,
+    taker: &mut T,
+) -> State
+    requires plan { (text : List ℕ) × (length text ≤ 16777216) × IsPlanOf text plan.now }
+    requires kit { IsKitOf plan.now kit }
+    requires empty { records_in out.old ≡ [] }
+    requires room { room_for_taker T.waits plan.now ≤ room_of out.old }
+    ensures { (told : List TheRecord) × T.took taker.old taker.new told × Shows InOrder plan.now (told ++ records_in out.new) result }
+{
     let PlainKit {
         region,
         mut actors,
@@ -116,6 +136,7 @@ pub fn in_order<M: Remake>(plan: &Plan, kit: PlainKit, remake: &M, out: &mut Rec
         remake,
         plan.phases.as_slice(),
         out,
+        taker,
     );
     close(region, passes)
 }

@@ -1,10 +1,11 @@
 //! The phases of a plan in order, and the close.
-ghost use Rattle.std.specs.Prelude.{◌≡◌, ◌+◌, ◌<◌, ◌≤◌, ◌^◌, ◌++◌, List, map, length, [], ◌∷◌};
+ghost use Rattle.std.specs.Prelude.{◌≡◌, ◌+◌, ◌<◌, ◌≤◌, ◌^◌, map, length, [], ◌∷◌};
 ghost use Rattle.pas_trace.specs.{Asked.keeper_of, Plans.ops_of};
 ghost use Rattle.pas_trace.specs.declared.plan.Op.{Op as TheOp};
 ghost use Rattle.pas_answers.specs.Calls.{what_of};
-ghost use Rattle.pas_trace.specs.Acts.{Act, act_kept, Settles, Wakes, ReadsEpoch, Ends, Lowers, numbers_from, idle_stops, acts_of_op, acts_of_ops, acts_of};
-ghost use Rattle.pas_replay.specs.Sessions.{Replay, SoFar, SoFarAt, AreEmpty, AreLowered, MayGoOn, GoesOn, Replays, hand_of, session};
+ghost use Rattle.pas_trace.specs.Acts.{act_kept, Settles, Wakes, ReadsEpoch, Ends, Lowers, numbers_from, idle_stops, acts_of_op, acts_of_ops};
+ghost use Rattle.pas_replay.specs.Sessions.{Replay, Left, SoFarAt, AreEmpty, AreLowered, MayGoOn, GoesOn, hand_of, session, upon};
+ghost use Rattle.pas_replay.specs.Taking.{MayHandOn, HandsOn, Begins, Replays};
 ghost use Rattle.pas_acts.specs.Awake.{awake_in, idle_in};
 ghost use Rattle.pas_report.specs.Rooms.{Records as TheRecords};
 ghost use Rattle.pas_answers.specs.declared.names.Names.{Names as TheNames};
@@ -13,6 +14,7 @@ use crate::seats::{
     Actors, Guarded, end, guard, lower, operate, pass, read_epoch, rise, sit, stop_if_idle, tick,
     wake,
 };
+use crate::taking::Takes;
 use pas_acts::active;
 use pas_acts::at_desk::SCAVENGER;
 use pas_answers::Remake;
@@ -156,8 +158,8 @@ fn perform_by_kind<M: Remake>(
     }
 }
 
-/// Performs the operations of a phase in order.
-fn perform_all<M: Remake>(
+/// Performs the operations of a phase in order. After each the taker may take what was said.
+fn perform_all<M: Remake, T: Takes>(
     desk: &mut PlainDesk,
     actors: &mut Actors,
     names: &mut Names,
@@ -165,14 +167,17 @@ fn perform_all<M: Remake>(
     awake: Mask4,
     ops: &[Op],
     out: &mut Records,
+    taker: &mut T,
 )
     requires few { length actors.old.caches.items < 32 }
-    requires so_far { MayGoOn (λ n. acts_of_ops (idle_in awake n) ops.now) (session desk.old actors.old names.old out.old) }
+    requires so_far { MayHandOn T.waits (λ n. acts_of_ops (idle_in awake n) ops.now) (session desk.old actors.old names.old out.old) }
     ensures threads { length actors.new.caches.items ≡ length actors.old.caches.items }
-    ensures so_far { GoesOn (λ n. acts_of_ops (idle_in awake n) ops.now) (session desk.old actors.old names.old out.old) (session desk.new actors.new names.new out.new) }
+    ensures so_far { HandsOn T.waits (T.took taker.old taker.new) (λ n. acts_of_ops (idle_in awake n) ops.now)
+        (session desk.old actors.old names.old out.old) (session desk.new actors.new names.new out.new) }
 {
     for op in ops {
         perform_by_kind(desk, actors, names, remaker, awake, op, out);
+        taker.take(out);
     }
 }
 
@@ -193,11 +198,11 @@ fn stop_all(desk: &mut PlainDesk, actors: &mut Actors, out: &mut Records)
 fn lower_all(desk: &mut PlainDesk, actors: &mut Actors, out: &mut Records)
     requires few { length actors.old.caches.items < 32 }
     requires books { length actors.old.books.items ≤ length actors.old.caches.items }
-    requires so_far { (table : TheNames) × (r : Replay) × (more : List Act)
-        × SoFarAt r (map Lowers (numbers_from (r.threads + 1) r.keepers) ++ more) (session desk.old actors.old table out.old) }
+    requires so_far { (table : TheNames) × (r : Replay) × (more : Left)
+        × SoFarAt r (upon r (map Lowers (numbers_from (r.threads + 1) r.keepers)) more) (session desk.old actors.old table out.old) }
     ensures caches { actors.new.caches ≡ actors.old.caches }
-    ensures so_far { (table : TheNames) (r : Replay) (more : List Act)
-        → SoFarAt r (map Lowers (numbers_from (r.threads + 1) r.keepers) ++ more) (session desk.old actors.old table out.old) → SoFarAt r more (session desk.new actors.new table out.new) }
+    ensures so_far { (table : TheNames) (r : Replay) (more : Left)
+        → SoFarAt r (upon r (map Lowers (numbers_from (r.threads + 1) r.keepers)) more) (session desk.old actors.old table out.old) → SoFarAt r more (session desk.new actors.new table out.new) }
     ensures lowered { AreLowered actors.new.books.items }
 {
     let threads = actors.caches.len() as u8;
@@ -208,20 +213,21 @@ fn lower_all(desk: &mut PlainDesk, actors: &mut Actors, out: &mut Records)
 }
 
 /// Performs the phases in order, with a mark before each from the second on, and closes: a mark, the stop of each thread, and the last sweep of each keeper.
-/// The region stays at one desk, at which the actors take turns.
-pub(crate) fn replay<M: Remake>(
+/// The region stays at one desk, at which the actors take turns. The taker may take what was said after each mark and each operation.
+pub(crate) fn replay<M: Remake, T: Takes>(
     region: PlainRegion,
     actors: &mut Actors,
     names: &mut Names,
     remaker: &M,
     phases: &[Phase],
     out: &mut Records,
+    taker: &mut T,
 ) -> PlainRegion
     requires phases { length phases.now < 2 ^ 32 }
     requires few { length actors.old.caches.items < 32 }
     requires books { length actors.old.books.items ≤ length actors.old.caches.items }
-    requires so_far { (r : Replay) × (r.acts ≡ acts_of r.threads r.keepers (map ops_of phases.now)) × SoFar r r.acts (hand_of region actors.old names.old out.old) }
-    ensures so_far { Replays (map ops_of phases.now) (hand_of region actors.old names.old out.old) (hand_of result actors.new names.new out.new) }
+    requires so_far { (r : Replay) × Begins T.waits (map ops_of phases.now) r (hand_of region actors.old names.old out.old) }
+    ensures so_far { Replays T.waits (T.took taker.old taker.new) (map ops_of phases.now) (hand_of region actors.old names.old out.old) (hand_of result actors.new names.new out.new) }
     ensures empty { AreEmpty actors.new.caches.items }
     ensures lowered { AreLowered actors.new.books.items }
 {
@@ -233,6 +239,7 @@ pub(crate) fn replay<M: Remake>(
             out.push(Record::Phase(number));
         }
         let awake = active(phase.as_slice());
+        taker.take(out);
         wake_all(&mut desk, actors, awake);
         perform_all(
             &mut desk,
@@ -242,6 +249,7 @@ pub(crate) fn replay<M: Remake>(
             awake,
             phase.as_slice(),
             out,
+            taker,
         );
     }
     out.push(Record::Close);

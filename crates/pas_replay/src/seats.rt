@@ -9,15 +9,16 @@ ghost use Rattle.pas_guard.specs.Books.{guards_in};
 ghost use Rattle.pas_guard.specs.declared.book.GuardBook.{GuardBook as TheBook};
 ghost use Rattle.pas_report.specs.Rooms.{Records as TheRecords};
 ghost use Rattle.pas_trace.specs.Asked.{request_of, freed_of, keeper_of};
-ghost use Rattle.pas_trace.specs.Acts.{Act, Operates, Guards, Settles, Ticks, MakesPass, ReadsEpoch, StopsIdle, Wakes, Ends, Lowers};
+ghost use Rattle.pas_trace.specs.Acts.{Operates, Guards, Settles, Ticks, MakesPass, ReadsEpoch, StopsIdle, Wakes, Ends, Lowers};
 ghost use Rattle.pas_answers.specs.{Answers.Named, Answers.Progress, Answers.settled, Indexes.with_noted, Fit.IsFitWhat, Names.block_named, Names.names_held};
+ghost use Rattle.pas_answers.specs.{Names.MayPack};
 ghost use Rattle.pas_acts.specs.{Works.Later, AtDesks.here, AtDesks.MayOperate};
 ghost use Rattle.pas_replay.specs.Operating.{ActsByIndexes};
 ghost use Rattle.pas_answers.specs.Calls.{what_of, Tells, MayStand, AllMayStand, named_with, named_by};
 ghost use Rattle.pas_trace.specs.declared.plan.Op.{Op as TheOp};
 ghost use Rattle.pas_answers.specs.declared.names.Names.{Names as TheNames};
-ghost use Rattle.pas_replay.specs.Sessions.{Replay, pass_in, hand_of, hand_at, session, IsTaken, MaySit, MayTakeSeat, TakesSeat, SoFarAt, MayGoOn, GoesOn};
-ghost use Rattle.pas_replay.specs.Sessions.{HasRead, MayGoOnAt, GoesOnAt, task_of, HasTried};
+ghost use Rattle.pas_replay.specs.Sessions.{Replay, pass_in, hand_of, hand_at, session, IsTaken, MaySit, MayTakeSeat, ChangesSeats, TakesSeat, SoFarAt};
+ghost use Rattle.pas_replay.specs.Sessions.{MayGoOn, GoesOn, HasRead, MayGoOnAt, GoesOnAt, task_of, HasTried, Left, upon};
 
 use pas_acts::at_desk::SCAVENGER;
 use pas_acts::{at_desk, keepers, turns};
@@ -77,7 +78,8 @@ pub(crate) fn rise(desk: PlainDesk, actors: &mut Actors) -> PlainRegion
     region
 }
 
-/// The actor of this number sits down at the desk, where it doesn't sit there. The one that sits there rises then.
+/// The actor of this number sits down at the desk, where it doesn't sit there. The one that sits there rises then. What the actor showed in its last act
+/// is forgotten, so that no room ever holds more than the events of one act.
 #[inline(always)]
 fn take_seat(desk: &mut PlainDesk, passes: &mut Vec<Option<PlainPass>>, actor: u8)
     requires { MayTakeSeat desk.old passes.old.items actor }
@@ -86,6 +88,7 @@ fn take_seat(desk: &mut PlainDesk, passes: &mut Vec<Option<PlainPass>>, actor: u
     if desk.actor() != actor {
         change_seats(desk, passes, actor);
     }
+    desk.forget();
 }
 
 /// The actor of this number sits down at the desk in the place of the one that sits there.
@@ -93,7 +96,7 @@ fn take_seat(desk: &mut PlainDesk, passes: &mut Vec<Option<PlainPass>>, actor: u
 fn change_seats(desk: &mut PlainDesk, passes: &mut Vec<Option<PlainPass>>, actor: u8)
     requires other { actor_of (pass_of desk.old) ≢ actor }
     requires may { MayTakeSeat desk.old passes.old.items actor }
-    ensures { TakesSeat desk.old desk.new passes.old.items passes.new.items actor }
+    ensures { ChangesSeats desk.old desk.new passes.old.items passes.new.items actor }
 {
     let Some(pass) = passes[actor as usize].take() else {
         unreachable!();
@@ -119,6 +122,7 @@ fn freed(names: &Names, task: Task) -> Option<Block>
 #[inline(always)]
 fn keep(names: &mut Names, task: Task, came: Option<Block>)
     requires fit { (f : TheProfile) × (asked : List ℕ) × IsFitWhat f (names_held names.old) asked (what_of task) }
+    requires packs { MayPack came }
     ensures tells { (known : List Named) → Tells names.old known → Tells names.new (named_with (request_of task) came ++ known) }
     ensures stand { (f : TheProfile) → AllMayStand f names.old → MayStand f came → AllMayStand f names.new }
     ensures held { names_held names.new ≡ names_held names.old }
@@ -251,6 +255,7 @@ fn try_by(
     ensures threads { length actors.new.caches.items ≡ length actors.old.caches.items }
     ensures tried { (op : TheOp) (table : TheNames) → op.actor ≡ actor → op.what ≡ what_of (task_of request)
         → HasTried op request.keeper result (session desk.old actors.old table out.old) (session desk.new actors.new table out.new) }
+    ensures packs { MayPack result }
 {
     take_seat(desk, &mut actors.passes, request.keeper);
     let book = &mut actors.books[actor as usize - 1];
@@ -393,7 +398,7 @@ pub(crate) fn pass(desk: &mut PlainDesk, actors: &mut Actors, out: &mut Records)
 pub(crate) fn read_epoch(desk: &mut PlainDesk, actors: &mut Actors) -> u64
     requires so_far { (table : TheNames) × (out : TheRecords) × MayGoOn (λ n. ReadsEpoch ∷ []) (session desk.old actors.old table out) }
     ensures threads { length actors.new.caches.items ≡ length actors.old.caches.items }
-    ensures so_far { (table : TheNames) (out : TheRecords) (r : Replay) (more : List Act) → SoFarAt r (ReadsEpoch ∷ more) (session desk.old actors.old table out) → HasRead result r more (session desk.new actors.new table out) }
+    ensures so_far { (table : TheNames) (out : TheRecords) (r : Replay) (more : Left) → SoFarAt r (upon r (ReadsEpoch ∷ []) more) (session desk.old actors.old table out) → HasRead result r more (session desk.new actors.new table out) }
 {
     take_seat(desk, &mut actors.passes, SCAVENGER);
     at_desk::read_epoch(desk)

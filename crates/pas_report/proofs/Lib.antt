@@ -3,6 +3,7 @@ mod Decimals
 pub mod Counting
 pub mod MarkBits
 mod Totals
+mod Unused
 pub mod Agreeing
 pub mod Pieces
 pub mod ReportOfWords

@@ -87,14 +87,14 @@ fn with_page(state: &State, before: u32, blocks: Blocks) -> Blocks
     Blocks { live, ended }
 }
 
-/// The blocks of a region. It reads the life word of each grain once.
+/// The blocks of a region. It reads the life word of each grain of the used pages once.
 pub(crate) fn count_blocks(state: &State) -> Blocks
     ensures live { result.live ≡ live_counted state.now }
     ensures ended { result.ended ≡ ended_counted state.now }
     ensures fit { result.ended + result.live < 2 ^ 63 }
 {
     let mut blocks = Blocks { live: 0, ended: 0 };
-    for before in 0..state.profile().pages {
+    for before in 0..state.used_pages() {
         blocks = with_page(state, before, blocks);
     }
     blocks

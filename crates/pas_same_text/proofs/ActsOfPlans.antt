@@ -12,7 +12,7 @@ use Rattle.pas_trace.specs.Asked.{work_of, of_task, request_of, request_in, keep
 use Rattle.pas_trace.specs.EveryPlan.{all_ops, asked_after, operations_of, IsActorBy, IsActorOf, IsSoundTask, IsSoundWork, AreSound, AreKept}
 use Rattle.pas_trace.specs.Plans.{IsPlanOf, ops_of}
 use Rattle.pas_trace.specs.declared.{item.Request.Request, plan.Chore.Chore, plan.Op.Op, plan.Plan.Plan, plan.Task.Task, plan.Work.Work}
-use Rattle.pas_trace.proofs.{EveryPlan.every_plan, EveryPlan.keepers_among, EveryPlan.threads_among, Keepers.plan_actors}
+use Rattle.pas_trace.proofs.{EveryPlan.every_plan, EveryPlan.keepers_among, Keepers.plan_actors}
 use Rattle.pas_same_text.specs.Known.{IsAdmittedWhat, IsGuardedWhat, IsPlanned, ArePlanned}
 use Rattle.pas_same_text.specs.Seats.{IsThreadOf, IsKeeperOf}
 

@@ -3,13 +3,12 @@ use Rattle.std.proofs.Common.{length, ◌≡◌, ℕ, ◌+◌, ◌≤◌, ◌==�
 use Rattle.std.proofs.Common.{inl, inr, refl, ap, sym, ◌∙◌, subst, append_assoc, arith, eqb-true}
 use Rattle.std.specs.List.{find, filter, count_by, Sorted.IsPermutation}
 use Rattle.std.proofs.lemmas.{Bool.false_from_ne_true, List.Elements.All-head, List.Elements.All-tail, List.Sums.sum_by-cons}
-use Rattle.std.proofs.lemmas.List.Sorted.{IsPermutation-refl, IsPermutation-cons, IsPermutation-trans, IsPermutation-middle, IsPermutation-sym}
-use Rattle.std.proofs.lemmas.List.Sorted.{IsPermutation-to_front}
-use Rattle.pas_profile.specs.{Classes.IsClass, Directories.IsKind, Directories.deed_word_of, Profiles.IsValid, Profiles.IsAdmitted, Profiles.IsDirectoryOf}
+use Rattle.std.proofs.lemmas.List.Sorted.{IsPermutation-cons, IsPermutation-trans, IsPermutation-middle, IsPermutation-sym, IsPermutation-to_front}
+use Rattle.pas_profile.specs.{Classes.IsClass, Directories.IsKind, Profiles.IsValid, Profiles.IsAdmitted, Profiles.IsDirectoryOf}
 use Rattle.pas_profile.specs.Requests.{route_in, is_shared, kind_of_class, kind_of_route, class_home, directory_for}
 use Rattle.pas_profile.specs.declared.{directory.Directory.Directory, directory.Kind.Kind, directory.Route.Route, event.NoRoom.NoRoom, name.Block.Block}
 use Rattle.pas_profile.specs.declared.{profile.Profile.Profile}
-use Rattle.pas_profile.proofs.{ClassFacts.class_suits, ClassFacts.class_known, Codecs.same_from_deed_word}
+use Rattle.pas_profile.proofs.Codecs.{same_from_deed_word}
 use Rattle.pas_steps.specs.{Agreement.Agreed, Calls.Kept, Calls.Lost, Calls.now, Desks.triples, Lists.part, Lists.Legal, Views.View, Views.KnowsDeed}
 use Rattle.pas_steps.specs.{Views.known_deed}
 use Rattle.pas_steps.specs.declared.step.Made.{Made}
@@ -31,7 +30,7 @@ use Rattle.pas_trace.specs.declared.item.Request.{Request}
 use Rattle.pas_answers.specs.Answers.{Progress, Answer, wanted_by}
 use Rattle.pas_one_text.specs.{State.World, Runs.large_of}
 use Rattle.pas_same_text.specs.{Same.IsSame, Acts.IsBetween}
-use Rattle.pas_same_text.proofs.{CacheLists.same_own, OneUp.up_to, Tests.and_second}
+use Rattle.pas_same_text.proofs.{CacheLists.same_own, OneUp.up_to, Tests.and_second, RefusedClasses.class_directory_of, RefusedClasses.class_of_request}
 use Rattle.pas_same_text.proofs.FetchedClasses.{HasPlace, IsFetched, none_kept, place_fetched, keeps_unshared}
 
 -- ---- the one that passes a test is taken out of a list
@@ -128,13 +127,6 @@ module _ (f : Profile) (k : ℕ) (r : Request) (p : Progress) (a : Answer) (w : 
     abbrev home : Directory
     home = class_home f r.heap class
 
-    known : IsClass class
-    known = class_known f.classes r.size r.align class (class_suits f.classes r.size r.align class route)
-
-    kind_is : (shared : Bool) → IsDirectoryOf f (record { heap = r.heap; kind = kind_of_class shared class })
-    kind_is true = record { heap = admitted.of_profile; kind = tt; class = tt }
-    kind_is false = record { heap = admitted.of_profile; kind = known; class = (class_suits f.classes r.size r.align class route).known }
-
     cached_out : (slots : Slots) (fewer : List Slots) (early : List Made) → FindsCached r.heap class c.locals fewer slots early
         → RestsWith f (slots ∷ fewer) (early ++ v)
     cached_out slots fewer early finds =
@@ -150,8 +142,8 @@ module _ (f : Profile) (k : ℕ) (r : Request) (p : Progress) (a : Answer) (w : 
           valid = valid;
           thread = thread;
           listed = listed;
-          directory = kind_is (is_shared f r.heap);
-          known = known;
+          directory = class_directory_of f r.heap r.size r.align class admitted route;
+          known = class_of_request f r.size r.align class route;
           before = before;
           rest = rest;
           same = same;
@@ -163,7 +155,7 @@ module _ (f : Profile) (k : ℕ) (r : Request) (p : Progress) (a : Answer) (w : 
         let ok : Agreed f v (fetch.searched ++ fetch.before) = subst (Agreed f v) fetch.steps_are (agreed_steps f k p.list early valid stands) in
         let mid : RestsWith f fewer (fetch.before ++ v) = fetch.rests.from v rests (agreed_later f v fetch.searched fetch.before ok) in
         let all : RestsWith f (slots ∷ fewer) (fetch.searched ++ (fetch.before ++ v)) =
-        refilled f r.heap class fewer (fetch.before ++ v) (kind_is (is_shared f r.heap)) known none mid fetch.searched slots fetch.refill (agreed_first f v fetch.searched fetch.before ok) in
+        refilled f r.heap class fewer (fetch.before ++ v) o.directory o.known none mid fetch.searched slots fetch.refill (agreed_first f v fetch.searched fetch.before ok) in
         subst (λ (ms : List Made). RestsWith f (slots ∷ fewer) (ms ++ v)) (sym fetch.steps_are) (subst (RestsWith f (slots ∷ fewer)) (sym (append_assoc fetch.searched fetch.before v)) all)
 
     obtained : (slots : Slots) (fewer : List Slots) (early : List Made) → Legal f (triples k early ++ p.list)

@@ -1,16 +1,15 @@
 -- THE ACTS THAT GIVE BACK: flushes, stops, stops of idle threads, the close, and frees into any log.
-use Rattle.std.proofs.Common.{◌≡◌, ℕ, ◌+◌, ◌%◌, ◌≤◌, ◌==◌, nat_le, Bool, true, false, if◌then◌else◌, List, [], ◌∷◌, ◌++◌, length, Option, None, Some, inl, inr}
-use Rattle.std.proofs.Common.{refl, ap, sym, ◌∙◌, subst, append_assoc, arith, append-nil, eq-eqb}
-use Rattle.std.proofs.lemmas.{Bool.false≢true, Bool.Decides.nat_tests, List.Elements.All-nil}
-use Rattle.pas_profile.specs.{Blocks.address_of, Profiles.IsValid}
+use Rattle.std.proofs.Common.{◌≡◌, ℕ, ◌+◌, ◌≤◌, ◌==◌, nat_le, Bool, true, false, if◌then◌else◌, List, [], ◌∷◌, ◌++◌, length, Option, None, Some, inl, inr, refl}
+use Rattle.std.proofs.Common.{ap, sym, ◌∙◌, subst, append_assoc, arith, append-nil, eq-eqb}
+use Rattle.std.proofs.lemmas.Bool.{false≢true, Decides.nat_tests}
+use Rattle.pas_profile.specs.Profiles.{IsValid}
 use Rattle.pas_profile.specs.declared.{name.Block.Block, name.Name.Name, profile.Profile.Profile}
 use Rattle.pas_steps.specs.{Events.events_by, Lists.part, Lists.visible, Views.View}
 use Rattle.pas_steps.specs.declared.step.Made.{Made}
-use Rattle.pas_free_log.specs.{Conditions.IsEntryOf, Logs.entry_of, Logs.sized_entry}
+use Rattle.pas_free_log.specs.Logs.{entry_of, sized_entry}
 use Rattle.pas_free_log.specs.declared.{log.Entry.Entry, noting.EndedRun.EndedRun}
 use Rattle.pas_cache.specs.{Calls.TakesEntry, Changes.LogsEntry, Changes.EmptiesFull, Contents.Cached}
 use Rattle.pas_guard.specs.declared.book.Guard.{Guard}
-use Rattle.pas_segregated.specs.declared.slots.Slots.{Slots}
 use Rattle.pas_report.specs.declared.record.{Record.Record, Said.Said as TheSaid, Said.Said}
 use Rattle.pas_trace.specs.{Acts.Act, EveryPlan.IsThread}
 use Rattle.pas_trace.specs.declared.plan.What.TheVariants.{Free, FreeSized, Raw, RawSized, Flush, Stop}
@@ -20,9 +19,10 @@ use Rattle.pas_one_text.specs.State.{World, Cache, cache_of, set_cache, log_of, 
 use Rattle.pas_one_text.specs.{Order.keeps_block, Order.replaces, Order.remakes, Passes.stops_idle}
 use Rattle.pas_one_text.specs.Frees.{adds, frees, frees_what, frees_named, flushes, stops}
 use Rattle.pas_same_text.specs.Same.{IsSame, IsSameCache}
-use Rattle.pas_same_text.specs.Acts.{HasBoth, IsResting, IsBetween, AreBlocksUsable, HasUsableBlocks, StaysSameWhere}
-use Rattle.pas_same_text.proofs.{CacheLists.same_own, CacheLists.same_with, CacheLists.same_again, FlushActs.flush_same, Frames.unchanged, Frames.pages_next}
-use Rattle.pas_same_text.proofs.{SmallActs.says_same, SmallActs.cache_state, StopActs.stop_same, StillIndexes.same_many, StillIndexes.flushes_keep}
+use Rattle.pas_same_text.specs.Acts.{IsResting, IsBetween, AreBlocksUsable, HasUsableBlocks, StaysSameWhere}
+use Rattle.pas_same_text.proofs.{CacheLists.same_own, CacheLists.same_with, CacheLists.same_again, FlushActs.flush_same, StopActs.stop_same}
+use Rattle.pas_same_text.proofs.{StillIndexes.same_many, StillIndexes.flushes_keep}
+use Rattle.pas_same_text.proofs.SmallActs.{unchanged, pages_next, says_same, cache_state}
 use Rattle.pas_same_text.proofs.LoggedFrees.{after_with, said_same, page_inside, freed_is, refused_same, skipped_same, freed_same}
 
 -- ---- a replay of the same list, with the same caches

@@ -2,29 +2,29 @@
 use Rattle.std.proofs.Common.{◌≡◌, ℕ, ◌+◌, ◌/◌, ◌<◌, ◌≤◌, false, ◌&&◌, List, ◌∷◌, ◌++◌, Option, None, Some, Result, Ok, Err, refl, ap, sym, ◌∙◌, subst, arith}
 use Rattle.std.proofs.lemmas.Bool.{false≢true, false_from_ne_true}
 use Rattle.std.specs.List.{find}
-use Rattle.pas_profile.specs.Profiles.{IsValid, IsAdmitted, IsDirectoryOf}
+use Rattle.pas_profile.specs.Profiles.{IsAdmitted, IsDirectoryOf}
 use Rattle.pas_profile.specs.Requests.{route_in, room_in, is_shared, kind_of_route, directory_for}
 use Rattle.pas_profile.specs.declared.{directory.Directory.Directory, directory.Route.Route, event.NoRoom.NoRoom, name.Block.Block, profile.Profile.Profile}
 use Rattle.pas_machine.specs.State.{deed_in}
-use Rattle.pas_steps.specs.{Desks.triples, Evidence.Readings, Lists.part, Lists.Legal}
+use Rattle.pas_steps.specs.{Desks.triples, Evidence.Readings, Lists.Legal}
 use Rattle.pas_steps.specs.declared.step.Made.{Made}
 use Rattle.pas_core.specs.Fits.{HasNoFit}
 use Rattle.pas_bitfit.specs.{Allocates.run_for, Runs.NoneFits}
 use Rattle.pas_search.specs.{Kinds.AreSearch, Kinds.AreQuiet, Telling.IsTrueReason}
 use Rattle.pas_cache.specs.{Contents.Cached, Refusals.IsTrulyRefusedBy}
-use Rattle.pas_cache.specs.Serves.{ServesBitfit, ServesBy, IsTrueRefusal, no_fit_by, wanted_for}
+use Rattle.pas_cache.specs.Serves.{ServesBitfit, IsTrueRefusal, no_fit_by, wanted_for}
 use Rattle.pas_cache.proofs.{Alone.truly_refused, Routes.bitfit_room}
-use Rattle.pas_report.specs.declared.record.Said.{Said as TheSaid}
 use Rattle.pas_trace.specs.{Acts.Act, EveryPlan.IsThread}
 use Rattle.pas_trace.specs.declared.plan.What.TheVariants.{Alloc}
-use Rattle.pas_answers.specs.Answers.{Progress, Named, named, Answer, having, IsServed, after_answer, said_of_room, said_of_request, block_of as block_answered}
+use Rattle.pas_answers.specs.Answers.{Progress, named, Answer, after_answer, said_of_room}
 use Rattle.pas_one_text.specs.{State.World, Pages.page_numbers, Pages.is_unowned, Pages.is_offered, Runs.bitfit_of, Runs.lowest_place, Runs.places}
 use Rattle.pas_one_text.specs.{Order.serves}
 use Rattle.pas_one_text.specs.Searches.{some_of, page_or, refusal, refuses, searched}
 use Rattle.pas_same_text.specs.{Same.IsSame, Same.HasSame, Same.ArePagesSame, Acts.IsBetween, Acts.StaysSame, Searched.FitsSame}
 use Rattle.pas_same_text.proofs.{BitfitFits.bitfit_fits, BitfitGiven.bitfit_served, LoggedFrees.after_with, RefusedRequests.refused_to}
-use Rattle.pas_same_text.proofs.{RefusedRequests.refused_same, SearchedPages.find_none, Tests.and_first, Tests.and_second}
+use Rattle.pas_same_text.proofs.{RefusedRequests.refused_same, SearchedPages.find_none, Tests.and_first, Tests.and_second, Pieces.has_same}
 use Rattle.pas_same_text.proofs.RestingPages.{open_unguarded, had_open, owned_is, no_word}
+use Rattle.pas_same_text.proofs.Asked.{HasAsked, answer_reached, by_route, request_taken}
 
 -- ---- where no page serves in the replay, none does in the text
 module _ (no_fit : Readings → Type 0) (f : Profile) (d : Directory) (p : Progress) (w : World) (fits : ℕ → List ℕ) (legal : Legal f p.list)
@@ -49,10 +49,9 @@ module _ (no_fit : Readings → Type 0) (f : Profile) (d : Directory) (p : Progr
       ∙ ap (λ (o : Option ℕ). page_or o (Err (refusal f w d))) (find_none (is_unowned w) f.pages 1 owned)
 
 -- ---- the act
-module _ (f : Profile) (k name heap size align : ℕ) (p p' : Progress) (w : World) (room : NoRoom) (thread : IsThread f k)
-    (admitted : IsAdmitted f size align heap) (route : route_in f size align ≡ Route.Bitfit) (valid : IsValid f) (before : IsBetween f p)
-    (after : IsBetween f p') (same : IsSame f p w)
-    (a : Answer) (served : IsServed f k (record { name = name; heap = heap; size = size; align = align }) (having p.names (part k p.list) (p.caches k)) a) (reached : p' ≡ after_answer p k a) (is : served.answer ≡ Err room) where
+module _ (f : Profile) (k name heap size align : ℕ) (p : Progress) (a : Answer) (w : World) (room : NoRoom)
+    (admitted : IsAdmitted f size align heap) (route : route_in f size align ≡ Route.Bitfit)
+    (asked : HasAsked f k (record { name = name; heap = heap; size = size; align = align }) p a w) (is : asked.served.answer ≡ Err room) where
   abbrev c : Cached
   c = p.caches k
 
@@ -68,14 +67,8 @@ module _ (f : Profile) (k name heap size align : ℕ) (p p' : Progress) (w : Wor
   of : IsDirectoryOf f d
   of = record { heap = admitted.of_profile; kind = tt; class = tt }
 
-  abbrev RefusedBy : Route → Type 0
-  RefusedBy r = ServesBy r f (wanted_for f heap size align) a.found c a.cache a.steps (Err room)
-
-  by_own : RefusedBy (route_in f size align)
-  by_own = subst (λ (r : Result Block NoRoom). ServesBy (route_in f size align) f (wanted_for f heap size align) a.found c a.cache a.steps r) is served.serves
-
   bitfit : ServesBitfit f (wanted_for f heap size align) c a.cache a.steps (Err room)
-  bitfit = subst RefusedBy route by_own
+  bitfit = by_route asked (Err room) is Route.Bitfit route
 
   steps_are : a.steps ≡ bitfit.searched
   steps_are = bitfit.steps_are ∙ ap (λ (ms : List Made). ms ++ bitfit.searched) bitfit.outcome.1
@@ -86,22 +79,16 @@ module _ (f : Profile) (k name heap size align : ℕ) (p p' : Progress) (w : Wor
   quiet : AreQuiet a.steps
   quiet = subst AreQuiet (sym steps_are) bitfit.outcome.0.quiet
 
-  to : p' ≡ refused_to p k name a.steps room
-  to =
-      let said : a.said ≡ Some (said_of_room name room) = served.said_is ∙ ap (said_of_request name) is in
-      let names : a.names ≡ named name None ∷ p.names = served.names_are ∙ ap (λ (r : Result Block NoRoom). named name (block_answered r) ∷ p.names) is in
-      reached
-      ∙ (ap (λ (x : Option TheSaid). after_with p k a.steps x a.names a.cache) said
-      ∙ (ap (λ (ns : List Named). after_with p k a.steps (Some (said_of_room name room)) ns a.cache) names
-      ∙ ap (λ (x : Cached). after_with p k a.steps (Some (said_of_room name room)) (named name None ∷ p.names) x) bitfit.cache))
+  to : after_answer p k a ≡ refused_to p k name a.steps room
+  to = answer_reached asked (Err room) is ∙ ap (λ (x : Cached). after_with p k a.steps (Some (said_of_room name room)) (named name None ∷ p.names) x) bitfit.cache
 
   there : IsBetween f (refused_to p k name a.steps room)
-  there = subst (IsBetween f) to after
+  there = subst (IsBetween f) to asked.after
 
   -- nothing could serve before, and the reason is true after
   truly : IsTrueRefusal f (wanted_for f heap size align) c.locals p.list (triples k a.steps ++ p.list) room
   truly = subst (λ (r : Route). IsTrulyRefusedBy r f (wanted_for f heap size align) c.locals p.list (triples k a.steps ++ p.list) room) route
-      (truly_refused f heap size align k a.found c a.cache p.list a.steps room valid admitted served.rest there.legal by_own)
+      (truly_refused f heap size align k a.found c a.cache p.list a.steps room asked.valid admitted asked.served.rest there.legal (by_route asked (Err room) is (route_in f size align) refl))
 
   reason : IsTrueReason f d (triples k a.steps ++ p.list) room
   reason = subst (λ (e : Directory). IsTrueReason f e (triples k a.steps ++ p.list) room) home truly.reason
@@ -110,36 +97,36 @@ module _ (f : Profile) (k name heap size align : ℕ) (p p' : Progress) (w : Wor
   unfit = subst (λ (e : Directory). HasNoFit (NoneFits (run_for bytes align)) f e p.list) home (subst (λ (r : Route). HasNoFit (no_fit_by r bytes align) f (directory_for f heap size align) p.list) route truly.entry_fit)
 
   old : HasSame f p w
-  old = record { events = same.pages.events; live = same.pages.live; caches = same.caches; guards = same.guards }
+  old = has_same asked.same
 
   some : 1 ≤ bytes / 16
   some = let low = (bitfit_room f.classes size align route).0 in omega (arith, low)
 
   found : searched f w d (lowest_place w (bytes / 16) (align / 16)) ≡ Err (refusal f w d)
-  found = none_searched (NoneFits (run_for bytes align)) f d p w (lowest_place w (bytes / 16) (align / 16)) before.legal of same.pages (bitfit_fits f p w valid before old bytes align some admitted.aligned) unfit
+  found = none_searched (NoneFits (run_for bytes align)) f d p w (lowest_place w (bytes / 16) (align / 16)) asked.before.legal of asked.same.pages (bitfit_fits f p w asked.valid asked.before old bytes align some admitted.aligned) unfit
 
   text : serves f k name heap (route_in f size align) bytes align w ≡ refuses k name (refusal f w d) w
   text = ap (λ (r : Route). serves f k name heap r bytes align w) route ∙ ap (λ (r : Result ℕ NoRoom). places k name heap bytes align r w) found
 
-  bitfit_refused : IsSame f p' (serves f k name heap (route_in f size align) bytes align w)
+  bitfit_refused : IsSame f (after_answer p k a) (serves f k name heap (route_in f size align) bytes align w)
   bitfit_refused =
-      subst (λ (x : World). IsSame f p' x) (sym text)
-      (subst (λ (q : Progress). IsSame f q (refuses k name (refusal f w d) w)) (sym to) (refused_same f k name p w d a.steps room valid thread of before there same searches quiet reason))
+      subst (λ (x : World). IsSame f (after_answer p k a) x) (sym text)
+      (subst (λ (q : Progress). IsSame f q (refuses k name (refusal f w d) w)) (sym to) (refused_same f k name p w d a.steps room asked.valid asked.thread of asked.before there asked.same searches quiet reason))
 
 -- ---- ANY BIT-FIT REQUEST
-module _ (f : Profile) (k name heap size align : ℕ) (p p' : Progress) (w : World) (thread : IsThread f k) (admitted : IsAdmitted f size align heap)
-    (route : route_in f size align ≡ Route.Bitfit) (valid : IsValid f) (before : IsBetween f p) (after : IsBetween f p') (same : IsSame f p w)
-    (a : Answer) (served : IsServed f k (record { name = name; heap = heap; size = size; align = align }) (having p.names (part k p.list) (p.caches k)) a) (reached : p' ≡ after_answer p k a) where
-  answered : (answer : Result Block NoRoom) → served.answer ≡ answer → IsSame f p' (serves f k name heap (route_in f size align) (room_in f size align) align w)
-  answered (Ok block) is = bitfit_served f k name heap size align p p' w block thread admitted route valid before after same a served reached is
-  answered (Err room) is = bitfit_refused f k name heap size align p p' w room thread admitted route valid before after same a served reached is
+module _ (f : Profile) (k name heap size align : ℕ) (p : Progress) (a : Answer) (w : World) (admitted : IsAdmitted f size align heap)
+    (route : route_in f size align ≡ Route.Bitfit) (asked : HasAsked f k (record { name = name; heap = heap; size = size; align = align }) p a w) where
+  answered : (answer : Result Block NoRoom) → asked.served.answer ≡ answer
+      → IsSame f (after_answer p k a) (serves f k name heap (route_in f size align) (room_in f size align) align w)
+  answered (Ok block) is = bitfit_served f k name heap size align p a w block admitted route asked is
+  answered (Err room) is = bitfit_refused f k name heap size align p a w room admitted route asked is
 
   -- A bit-fit request, served or refused, leads the text to the replay's state.
-  pub bitfit_answered : IsSame f p' (serves f k name heap (route_in f size align) (room_in f size align) align w)
-  bitfit_answered = answered served.answer refl
+  pub bitfit_answered : IsSame f (after_answer p k a) (serves f k name heap (route_in f size align) (room_in f size align) align w)
+  bitfit_answered = answered asked.served.answer refl
 
 -- An operation that makes a bit-fit request leads the text from the replay's state to the replay's state.
 pub bitfit_same : (f : Profile) (line k name heap size align : ℕ) → IsThread f k → IsAdmitted f size align heap → route_in f size align ≡ Route.Bitfit
     → StaysSame f (Act.Operates (record { line = line; actor = k; what = Alloc name heap size align }))
 bitfit_same f line k name heap size align thread admitted route p p' w taken =
-    bitfit_answered f k name heap size align p p' w thread admitted route taken.valid taken.before taken.after taken.same taken.advances.0 taken.advances.1 taken.advances.2
+    request_taken f line k name heap size align thread p p' w taken (bitfit_answered f k name heap size align p taken.advances.0 w admitted route)

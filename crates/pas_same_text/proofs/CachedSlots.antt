@@ -1,7 +1,7 @@
 -- A request of a class for which the thread's cache has a slot.
-use Rattle.std.proofs.Common.{◌≤◌, length, ◌≡◌, ℕ, ◌+◌, ◌*◌, ◌<◌, ◌==◌, Bool, true, false, not, ◌&&◌, if◌then◌else◌, List, [], ◌∷◌, ◌++◌, Option, None, Some}
-use Rattle.std.proofs.Common.{Result, Ok, Err, inl, inr, refl, ap, sym, ◌∙◌, subst, arith, append-nil, eqb-true}
-use Rattle.std.proofs.lemmas.{Bool.false≢true, Option.same_Some, Option.none-some}
+use Rattle.std.proofs.Common.{◌≤◌, length, ◌≡◌, ℕ, ◌+◌, ◌*◌, ◌<◌, ◌==◌, Bool, true, not, ◌&&◌, if◌then◌else◌, List, [], ◌∷◌, ◌++◌, Option, None, Some, Result}
+use Rattle.std.proofs.Common.{Ok, Err, refl, ap, sym, ◌∙◌, subst, arith, eqb-true}
+use Rattle.std.proofs.lemmas.{Bool.false≢true, Option.none-some}
 use Rattle.std.specs.List.{find}
 use Rattle.pas_bits.specs.Masks.{HasMember, IsLowestSet}
 use Rattle.pas_profile.specs.{Blocks.address_of, Classes.class_size, Directories.number_of, Profiles.IsValid, Profiles.IsDirectoryOf, Requests.route_in}
@@ -14,23 +14,23 @@ use Rattle.pas_steps.specs.declared.step.{Made.Made, Step.TheVariants.Look, Step
 use Rattle.pas_core.specs.Rights.{eligible_bit}
 use Rattle.pas_core.proofs.MachineRuns.{runs}
 use Rattle.pas_segregated.specs.declared.slots.Slots.{Slots}
-use Rattle.pas_cache.specs.Changes.{GivesSlot, IsWithoutSlot, IsTakenOut, LeavesSpent}
-use Rattle.pas_cache.specs.{Contents.Cached, Locals.local_for, Locals.others_than, Locals.is_for as is_for_slots}
-use Rattle.pas_cache.specs.Serves.{ServesClass, ServesBy, IsObtained, IsAnswered, filling_in, wanted_for}
-use Rattle.pas_report.specs.declared.record.{Record.Record, Said.Said as TheSaid}
+use Rattle.pas_cache.specs.{Changes.GivesSlot, Changes.IsWithoutSlot, Changes.IsTakenOut, Contents.Cached, Locals.local_for, Locals.others_than}
+use Rattle.pas_cache.specs.{Locals.is_for as is_for_slots}
+use Rattle.pas_cache.specs.Serves.{ServesClass, IsObtained, IsAnswered, filling_in}
+use Rattle.pas_report.specs.declared.record.Record.{Record}
 use Rattle.pas_trace.specs.{EveryPlan.IsThread, Acts.Act}
 use Rattle.pas_trace.specs.declared.plan.What.TheVariants.{Alloc}
-use Rattle.pas_answers.specs.Answers.{Progress, Named, named, Answer, having, IsServed, after_answer, said_of_request, block_of as block_answered}
+use Rattle.pas_answers.specs.Answers.{Progress, Named, named, Answer, having, IsServed, after_answer}
 use Rattle.pas_one_text.specs.State.{Local, World, cache_of, locals_of}
-use Rattle.pas_one_text.specs.Classes.{is_for, others, gives_first, gives_up, fetches, serves_class, serves_class_by}
+use Rattle.pas_one_text.specs.Classes.{is_for, others, gives_first, serves_class}
 use Rattle.pas_one_text.specs.Pages.{is_free, is_guarded, has_room, is_offered}
-use Rattle.pas_one_text.specs.{Searches.some_of, Searches.address_on, Order.serves}
+use Rattle.pas_one_text.specs.{Searches.address_on, Order.serves}
 use Rattle.pas_same_text.specs.Same.{IsSame, HasSame, IsSameCache, IsSameLocal, AreSameLocals, has_number}
 use Rattle.pas_same_text.specs.Acts.{IsBetween, StaysSameWhere, HasCachedSlot}
-use Rattle.pas_same_text.proofs.{CacheLists.same_with, FreeGrains.free_same, GivenBack.each_same, LoggedFrees.after_with, SmallActs.records_next}
-use Rattle.pas_same_text.proofs.{Tests.and_first, Tests.and_second}
+use Rattle.pas_same_text.proofs.CacheLists.{same_with, Finds, found_same, others_same, last_same, slot_given}
+use Rattle.pas_same_text.proofs.{FreeGrains.free_same, GivenBack.each_same, LoggedFrees.after_with, SmallActs.records_next, Tests.and_first, Tests.and_second}
+use Rattle.pas_same_text.proofs.{Asked.HasAsked, Asked.by_route, Asked.request_taken}
 use Rattle.pas_same_text.proofs.RestingPages.{is_open, had_open, bit_offered, offered_bit}
-use Rattle.pas_same_text.proofs.SameLocals.{Finds, found_same, others_same, last_same, slot_given}
 use Rattle.pas_steps.proofs.Sets.{same_truth}
 
 -- a page has room where it had, if its grains are free where they were
@@ -242,20 +242,18 @@ module _ (f : Profile) (k name heap size align class : ℕ) (p p' : Progress) (w
   served_by sv h = search (arith, not_fetched, ends_of, same_slots)
 
 -- ANY REQUEST OF A CLASS for which a slot is cached
-pub cached_answered : (f : Profile) (k name heap size align class : ℕ) (p p' : Progress) (w : World) → IsThread f k → k ≤ length w.caches
-    → route_in f size align ≡ Route.Class class → IsValid f → IsBetween f p → IsBetween f p' → IsSame f p w → HasCachedSlot heap class k p
-    → (a : Answer) → IsServed f k (record { name = name; heap = heap; size = size; align = align }) (having p.names (part k p.list) (p.caches k)) a
-    → p' ≡ after_answer p k a → IsSame f p' (serves f k name heap (route_in f size align) (room_in f size align) align w)
-cached_answered f k name heap size align class p p' w is listed route valid before after same has a served reached =
-    let sv : ServesClass (filling_in (directory_for f heap size align) class) f (p.caches k) a.cache a.steps served.answer =
-    subst (λ (r : Route). ServesBy r f (wanted_for f heap size align) a.found (p.caches k) a.cache a.steps served.answer) route served.serves in
-    let o : Served f k name heap class p p' w has.0 = served_by f k name heap size align class p p' w has.0 has.1 has.2 a served reached sv sv.locals.obtained in
-    subst (λ (r : Route). IsSame f p' (serves f k name heap r (room_in f size align) align w)) (sym route)
-    (to_given f k name heap class p p' w has.0 valid is listed before after same has.1 has.2 o)
+pub cached_answered : (f : Profile) (k name heap size align class : ℕ) (p : Progress) (a : Answer) (w : World) → k ≤ length w.caches
+    → route_in f size align ≡ Route.Class class → HasCachedSlot heap class k p
+    → HasAsked f k (record { name = name; heap = heap; size = size; align = align }) p a w
+    → IsSame f (after_answer p k a) (serves f k name heap (route_in f size align) (room_in f size align) align w)
+cached_answered f k name heap size align class p a w listed route has asked =
+    let sv : ServesClass (filling_in (directory_for f heap size align) class) f (p.caches k) a.cache a.steps asked.served.answer = by_route asked asked.served.answer refl (Route.Class class) route in
+    let o : Served f k name heap class p (after_answer p k a) w has.0 = served_by f k name heap size align class p (after_answer p k a) w has.0 has.1 has.2 a asked.served refl sv sv.locals.obtained in
+    subst (λ (r : Route). IsSame f (after_answer p k a) (serves f k name heap r (room_in f size align) align w)) (sym route)
+    (to_given f k name heap class p (after_answer p k a) w has.0 asked.valid asked.thread listed asked.before asked.after asked.same has.1 has.2 o)
 
 -- A request of a class for which the cache has a slot leads the text to the replay's state.
 pub cached_same : (f : Profile) (line k name heap size align class : ℕ) → IsThread f k → route_in f size align ≡ Route.Class class
     → StaysSameWhere (HasCachedSlot heap class k) f (Act.Operates (record { line = line; actor = k; what = Alloc name heap size align }))
 cached_same f line k name heap size align class is route p p' w has taken =
-    cached_answered f k name heap size align class p p' w is taken.listed route taken.valid taken.before taken.after taken.same has taken.advances.0
-    taken.advances.1 taken.advances.2
+    request_taken f line k name heap size align is p p' w taken (cached_answered f k name heap size align class p taken.advances.0 w taken.listed route has)

@@ -14,7 +14,7 @@ use Rattle.pas_one_text.specs.{State.World, Pages.is_free, Pages.are_free, Pages
 use Rattle.pas_one_text.specs.Classes.{spaced, free_slots, first_row, slots_for}
 use Rattle.pas_same_text.specs.{Same.HasSame, Acts.IsBetween, Searched.FitsSame}
 use Rattle.pas_same_text.proofs.{FreeGrains.bit_unguarded, FreeGrains.bit_read, FreeGrains.read_unless, GivenBack.each_at, GivenBack.each_all}
-use Rattle.pas_same_text.proofs.{SpacedPlaces.some_filtered, SpacedPlaces.in_spaced, SpacedPlaces.from_spaced}
+use Rattle.pas_same_text.proofs.{BitfitFits.some_filtered, BitfitFits.in_spaced, BitfitFits.from_spaced}
 
 -- the first few are some where some are
 some_row : (step : ℕ) (xs : List ℕ) → some_of (first_row step xs) ≡ some_of xs

@@ -1,7 +1,7 @@
 -- What the text does where a block ends: its grains come back to its pages, and no other page changes.
-use Rattle.std.proofs.Common.{arith, ◌≡◌, ℕ, ◌+◌, ◌*◌, ◌==◌, nat_lt, Bool, true, false, not, ◌&&◌, if◌then◌else◌, List, [], ◌∷◌, ◌++◌, length, Some, inl, inr}
-use Rattle.std.proofs.Common.{refl, ap, sym, ◌∙◌, eqb-true}
-use Rattle.std.proofs.{lemmas.Bool.false≢true, lemmas.Option.same_Some, Math.Bool.or-false}
+use Rattle.std.proofs.Common.{arith, ◌≡◌, ℕ, ◌+◌, ◌*◌, ◌==◌, nat_lt, Bool, true, false, not, ◌&&◌, if◌then◌else◌, List, [], ◌++◌, length, Some, inl, inr, refl}
+use Rattle.std.proofs.Common.{ap, sym, ◌∙◌, eqb-true}
+use Rattle.std.proofs.{lemmas.Bool.false≢true, Math.Bool.or-false}
 use Rattle.std.specs.List.{list_any, filter}
 use Rattle.pas_bits.specs.Runs.{in_run, meets_page}
 use Rattle.pas_profile.specs.{Blocks.address_of, Blocks.grain_of, Blocks.length_of, Profiles.IsPage}
@@ -13,7 +13,7 @@ use Rattle.pas_one_text.specs.State.{Local, World, is_at, shows, cache_of, noted
 use Rattle.pas_one_text.specs.{Indexes.notes, Indexes.run_of, Frees.pages_of, Frees.ends_block, Frees.rejects}
 use Rattle.pas_one_text.specs.Pages.{is_covered, is_cached, is_hinted, blocks_on, locals_on, page_numbers}
 use Rattle.pas_same_text.specs.Same.{lives_in, has_number}
-use Rattle.pas_same_text.proofs.{CacheLists.all_locals, CacheLists.locals_with, LiveBlocks.LivesSo, LiveBlocks.lives_so}
+use Rattle.pas_same_text.proofs.{CacheLists.all_locals, CacheLists.locals_with, Holders.LivesSo, Holders.lives_so}
 use Rattle.pas_same_text.proofs.GivenBack.{Returns, minded_last, page_within, page_there, all_only_hints}
 use Rattle.pas_same_text.proofs.Tests.{and_first, and_second, any_filtered, filtered_any, any_weaker, any_split, filtered_has, has_filtered}
 

@@ -1,38 +1,77 @@
--- One logged free by its steps: the event that they make, the block that ended, and what is noted, marked and hinted.
-use Rattle.std.proofs.Common.{◌≡◌, ℕ, zero, suc, ◌+◌, ◌*◌, ◌/◌, ◌%◌, ◌^◌, ◌<◌, ◌≤◌, ◌==◌, nat_lt, Bool, true, false, not, ◌&&◌, if◌then◌else◌, List, [], ◌∷◌}
-use Rattle.std.proofs.Common.{◌++◌, Option, None, Some, inl, inr, refl, ap, sym, ◌∙◌, subst, arith, eq-eqb, true≢false}
-use Rattle.std.proofs.Math.Bool.{and-false}
-use Rattle.pas_answers.proofs.Tidy.{first_page}
+-- What follows a return of grains hints no page but one that it read as backed and empty.
+use Rattle.std.proofs.Common.{◌≡◌, ℕ, zero, suc, ◌<◌, true, Bool, List, [], ◌∷◌, ◌++◌, Option, None, Some, inl, inr, refl, ap, sym, subst, arith, true≢false}
+use Rattle.std.proofs.Common.{◌+◌, ◌*◌, ◌/◌, ◌%◌, ◌^◌, ◌≤◌, ◌==◌, nat_lt, false, not, ◌&&◌, if◌then◌else◌, ◌∙◌, eq-eqb}
+use Rattle.std.proofs.{lemmas.Bool.cases_eq, Math.Bool.and-false}
 use Rattle.pas_large.proofs.Left.{hints_both}
+use Rattle.pas_bits.proofs.{Words.full_bit, Runs.to_meet}
+use Rattle.pas_profile.specs.declared.{directory.Directory.Directory, word.Word.Word, event.Event.Event, event.Why.Why, name.Name.Name, profile.Profile.Profile}
+use Rattle.pas_steps.specs.{Past.Always, Past.Since, Allowed.IsStepOf, Allowed.IsEndIn, Desks.made, Desks.triples, Effects.target, Effects.life_word_at}
+use Rattle.pas_steps.specs.{Events.event_of, Events.events_by, Events.with_event, Views.epoch_of, Views.or_zero}
+use Rattle.pas_steps.specs.Kinds.{LookFree, Unparking, Offering, Only, kind_of, is_in, LookDeed, Putting, Stamping, returning}
+use Rattle.pas_steps.specs.declared.step.{Made.Made, Step.TheVariants.Look, Step.TheVariants.Stamp}
+use Rattle.pas_rights.specs.Looks.{looks, looks_until, is_free, HintSteps, HintsWhere, ReadsAllFree, TakesNone, HintsEmpty}
+use Rattle.pas_rights.specs.{Returns.ReofferSteps, Returns.ReturnSteps, Words.ones}
+use Rattle.pas_rights.specs.declared.reading.Used.{Used}
+use Rattle.pas_rights.proofs.{Orders.until_only, Orders.return_returns, Puts.puts_kinds}
+use Rattle.pas_same_text.proofs.GivingBack.{hint_step, hints_none, IsMarked, marked_parts, none_marked, returns_marked}
+use Rattle.pas_answers.proofs.Tidy.{first_page}
 use Rattle.pas_bits.specs.Runs.{meets_page}
-use Rattle.pas_bits.proofs.Runs.{to_meet}
 use Rattle.pas_profile.specs.{Blocks.address_of, Blocks.grain_of, Blocks.length_of, Directories.directory_read, Directories.deed_word_of, Lives.live_word}
-use Rattle.pas_profile.specs.{Lives.is_live, Lives.turn_of, Profiles.IsValid}
-use Rattle.pas_profile.specs.declared.{directory.Directory.Directory, event.Event.Event, event.Why.Why, name.Name.Name, profile.Profile.Profile, word.Word.Word}
+use Rattle.pas_profile.specs.{Lives.turn_of, Profiles.IsValid}
 use Rattle.pas_profile.proofs.Codecs.{read-deed_word_of, directory_from_profile}
 use Rattle.pas_machine.specs.State.{Live, live_in, deed_in, gives_in, ends_in}
-use Rattle.pas_steps.specs.{Allowed.IsStepOf, Allowed.IsEndIn, Desks.made, Desks.triples, Effects.target, Effects.life_word_at, Events.event_of}
-use Rattle.pas_steps.specs.{Events.events_by, Events.with_event, Past.Always, Views.epoch_of, Views.or_zero}
-use Rattle.pas_steps.specs.Kinds.{Only, kind_of, is_in, LookDeed, Putting, Stamping, returning}
 use Rattle.pas_steps.specs.Lists.{Whole, part, word_after, visible, Legal}
-use Rattle.pas_steps.specs.declared.step.{Made.Made, Step.TheVariants.Look, Step.TheVariants.Stamp}
 use Rattle.pas_steps.proofs.Apart.{only_both, only_within, epoch_same, events_same}
 use Rattle.pas_steps.proofs.{Calls.returns_are, Past.in_turn_always}
 use Rattle.pas_core.specs.Good.{IsLifeOf, IsLifeOfLive, word_of_deed}
 use Rattle.pas_core.proofs.{Deeds.deed_of, Deeds.directory_is_of, Lives.life_of, Lives.block_of_word, OneActor.legal_earlier}
-use Rattle.pas_rights.specs.Looks.{HintsEmpty}
-use Rattle.pas_rights.proofs.{Orders.return_returns, Puts.puts_kinds}
-use Rattle.pas_free_log.specs.Endings.{guess_by, TriesBy, last_step, IsEndOf, EndSteps, reason_by, reason_for}
+use Rattle.pas_free_log.specs.Endings.{guess_by, TriesBy, last_step, IsEndOf, reason_by, reason_for}
 use Rattle.pas_free_log.specs.Flushes.{Settled, EntrySteps, AfterEnd, event_for}
-use Rattle.pas_free_log.specs.{Frames.ending, Frames.putting_back, Logs.is_sized, Stamps.page_count, Stamps.pages_from}
+use Rattle.pas_free_log.specs.{Frames.ending, Frames.putting_back, Logs.is_sized, Stamps.pages_from}
 use Rattle.pas_free_log.specs.Returns.{PageSteps, PagesSteps, RunSteps, first_on, count_on}
 use Rattle.pas_free_log.specs.declared.{ending.Outcome.Outcome, ending.Outcome.TheVariants.Ended, ending.Outcome.TheVariants.Refused, log.Entry.Entry}
 use Rattle.pas_free_log.proofs.OneEntry.{first_look, trying, AreIdle, idle_look, tries_idle, EndsWith, last_ends, last_refused, guess_is, not_ended, count_some}
 use Rattle.pas_one_text.specs.Frees.{is_other_room}
 use Rattle.pas_same_text.specs.Entries.{IsEntryReason}
-use Rattle.pas_same_text.proofs.{Flushes.visible_steps, ReturnHints.return_hints}
-use Rattle.pas_same_text.proofs.GivingBack.{IsMarked, marked_parts, none_marked, returns_marked, hints_none}
+use Rattle.pas_same_text.proofs.Flushes.{visible_steps}
 
+read_earlier : (P Q : Made → Type 0) (ys xs : List Made) → Since (λ m before. P m) (λ m before. Q m) ys → Since (λ m before. P m) (λ m before. Q m) (ys ++ xs)
+read_earlier P Q [] xs h = absurd h
+read_earlier P Q (y ∷ ys) xs (inl h) = inl h
+read_earlier P Q (y ∷ ys) xs (inr h) = inr (h.0, read_earlier P Q ys xs h.1)
+
+all_read : (page : ℕ) (n word : ℕ) → word < n → Since (ReadsAllFree page word) (TakesNone page) (looks page ones n)
+all_read page zero word lt = absurd (omega (arith, lt))
+all_read page (suc n) word lt = elim (cases_eq word n) [
+  | inl e ↦ inl (ap (λ w. Look (Word.Free page w)) (sym e), λ b small. full_bit b small)
+  | inr ne ↦ inr ((λ w mask same. cc), all_read page n word (omega (arith, lt, ne)))
+]
+
+until_read : (page : ℕ) (used : Option Used) → is_free used ≡ true → (xs : List Made) (word : ℕ) → word < 4
+    → Since (ReadsAllFree page word) (TakesNone page) (looks_until page used ++ xs)
+until_read page None free xs word lt = read_earlier (λ n. ReadsAllFree page word n []) (λ n. TakesNone page n []) (looks page ones 4) xs (all_read page 4 word lt)
+until_read page (Some used) free xs word lt = absurd (true≢false (sym free))
+
+hint_after : (page : ℕ) (steps xs : List Made) → HintSteps page steps → ((word : ℕ) → word < 4 → Since (ReadsAllFree page word) (TakesNone page) xs)
+    → Always HintsEmpty xs → Always HintsEmpty (steps ++ xs)
+hint_after page steps xs word read rest = search (arith, hint_step)
+
+hints_where : (all_free : Bool) (page : ℕ) (steps xs : List Made) → HintsWhere all_free page steps
+    → (all_free ≡ true → (word : ℕ) → word < 4 → Since (ReadsAllFree page word) (TakesNone page) xs) → Always HintsEmpty xs → Always HintsEmpty (steps ++ xs)
+hints_where all_free page steps xs h read rest = search (arith, hint_after)
+
+reoffer_only : (page : ℕ) (d : Directory) (steps : List Made) → ReofferSteps page d steps → Only (Unparking ∷ Offering ∷ []) steps
+reoffer_only page d steps (inl h) = subst (Only (Unparking ∷ Offering ∷ [])) (sym h.2) (refl, tt)
+reoffer_only page d steps (inr h) = subst (Only (Unparking ∷ Offering ∷ [])) (sym h.3) (refl, (refl, tt))
+
+-- What follows a return of grains hints no page but one that it read as backed and empty.
+pub return_hints : (page : ℕ) (d : Directory) (steps : List Made) → ReturnSteps page d steps → Always HintsEmpty steps
+return_hints page d steps h =
+    let before = looks_until page h.used ++ h.first in
+    let rest = hints_both (looks_until page h.used) h.first (hints_none (LookFree ∷ []) (looks_until page h.used) refl (until_only page h.used)) (hints_none (Unparking ∷ Offering ∷ []) h.first refl (reoffer_only page d h.first h.reoffers)) in
+    subst (Always HintsEmpty) (sym h.steps_are) (hints_where (is_free h.used) page h.after before h.hints (λ free. until_read page h.used free h.first) rest)
+
+-- ==== One logged free by its steps: the event that they make, the block that ended, and what is noted, marked and hinted.
 -- ---- the pages of a block that ended
 page_kinds : (g n : ℕ) (steps : List Made) → PageSteps g n steps → Only putting_back steps
 page_kinds g n steps h = subst (Only putting_back) (sym h.steps_are)
@@ -115,45 +154,39 @@ pub record IsEndOfBlock (f : Profile) (l : Whole) (entry : Entry) (grains : ℕ)
 
 module _ (f : Profile) (k epoch : ℕ) (s : Settled) (piece : List Made) (l : Whole) (valid : IsValid f) (legal : Legal f (triples k piece ++ l))
     (is : EntrySteps s piece) (known : epoch_of (part k l) ≡ epoch) where
-  abbrev entry : Entry
-  entry = s.entry
-
-  abbrev e : EndSteps s.entry s.outcome is.ends
-  e = is.order
-
   abbrev look : Made
-  look = made (Look (Word.Deed (address_of entry.name / 4096))) e.deed
+  look = made (Look (Word.Deed (address_of s.entry.name / 4096))) is.order.deed
 
   abbrev first : List Made
-  first = e.before ++ first_look entry.name e.deed
+  first = is.order.before ++ first_look s.entry.name is.order.deed
 
   idle : AreIdle first
-  idle = idle_before (is_sized entry) entry e.deed (guess_by (directory_read e.deed)) e.guess e.before e.tries
+  idle = idle_before (is_sized s.entry) s.entry is.order.deed (guess_by (directory_read is.order.deed)) is.order.guess is.order.before is.order.tries
 
-  guessed : is_sized entry ≡ true → e.guess ≡ entry.room / 16
-  guessed = guess_is (is_sized entry) entry (guess_by (directory_read e.deed)) e.guess e.before e.tries
+  guessed : is_sized s.entry ≡ true → is.order.guess ≡ s.entry.room / 16
+  guessed = guess_is (is_sized s.entry) s.entry (guess_by (directory_read is.order.deed)) is.order.guess is.order.before is.order.tries
 
-  ends_legal : Legal f (triples k (made (last_step (is_sized entry) entry e.guess) e.answer ∷ first) ++ l)
-  ends_legal = subst (λ (ms : List Made). Legal f (triples k ms ++ l)) e.steps_are (legal_earlier f k is.after is.ends l (subst (λ (ms : List Made). Legal f (triples k ms ++ l)) is.steps_are legal))
+  ends_legal : Legal f (triples k (made (last_step (is_sized s.entry) s.entry is.order.guess) is.order.answer ∷ first) ++ l)
+  ends_legal = subst (λ (ms : List Made). Legal f (triples k ms ++ l)) is.order.steps_are (legal_earlier f k is.after is.ends l (subst (λ (ms : List Made). Legal f (triples k ms ++ l)) is.steps_are legal))
 
   abbrev lm : Whole
   lm = triples k first ++ l
 
-  answer_is : e.answer ≡ word_after lm (life_word_at (grain_of entry.name))
-  answer_is = ends_legal.0.answer_is ∙ ap (word_after lm) (target_last (is_sized entry) entry e.guess)
+  answer_is : is.order.answer ≡ word_after lm (life_word_at (grain_of s.entry.name))
+  answer_is = ends_legal.0.answer_is ∙ ap (word_after lm) (target_last (is_sized s.entry) s.entry is.order.guess)
 
-  within : IsEndIn f entry.name e.guess
-  within = end_in f (is_sized entry) entry e.guess guessed ends_legal.0.of_region
+  within : IsEndIn f s.entry.name is.order.guess
+  within = end_in f (is_sized s.entry) s.entry is.order.guess guessed ends_legal.0.of_region
 
   same_events : visible lm ≡ visible l
   same_events = visible_steps k first l ∙ ap (λ (es : List Event). es ++ visible l) (idle.events k (part k l))
 
   -- ---- the block
-  place : 16 * grain_of entry.name ≡ address_of entry.name
+  place : 16 * grain_of s.entry.name ≡ address_of s.entry.name
   place = omega (arith, within.1)
 
   abbrev g : ℕ
-  g = grain_of entry.name
+  g = grain_of s.entry.name
 
   abbrev word : ℕ
   word = word_after lm (life_word_at g)
@@ -161,74 +194,74 @@ module _ (f : Profile) (k epoch : ℕ) (s : Settled) (piece : List Made) (l : Wh
   life : IsLifeOf f g word (live_in (visible lm) (16 * g)) (gives_in (visible lm) (16 * g)) (ends_in (visible lm) (16 * g))
   life = life_of f lm valid ends_legal.1 g
 
-  room_at : (b : Live) → length_of b.block ≡ e.guess → b.block.room % 16 ≡ 0 → (t : Bool) → is_sized entry ≡ t → is_other_room entry b.block ≡ false
-  room_at b long whole false sized = ap (λ (t : Bool). t && not (b.block.room == entry.room)) sized
+  room_at : (b : Live) → length_of b.block ≡ is.order.guess → b.block.room % 16 ≡ 0 → (t : Bool) → is_sized s.entry ≡ t → is_other_room s.entry b.block ≡ false
+  room_at b long whole false sized = ap (λ (t : Bool). t && not (b.block.room == s.entry.room)) sized
   room_at b long whole true sized =
-      let multiple = whole_room f (is_sized entry) entry e.guess sized ends_legal.0.of_region in
-      let same : b.block.room ≡ entry.room = omega (arith, long, whole, guessed sized, multiple) in
-      ap (λ (t : Bool). is_sized entry && not t) (eq-eqb b.block.room entry.room same) ∙ and-false (is_sized entry)
+      let multiple = whole_room f (is_sized s.entry) s.entry is.order.guess sized ends_legal.0.of_region in
+      let same : b.block.room ≡ s.entry.room = omega (arith, long, whole, guessed sized, multiple) in
+      ap (λ (t : Bool). is_sized s.entry && not t) (eq-eqb b.block.room s.entry.room same) ∙ and-false (is_sized s.entry)
 
   -- An end that was answered by the live word of its turn and length ended the block that lives there, of just that length.
-  pub found_block : e.answer ≡ live_word entry.name.turn e.guess → IsEndOfBlock f l entry e.guess
+  pub found_block : is.order.answer ≡ live_word s.entry.name.turn is.order.guess → IsEndOfBlock f l s.entry is.order.guess
   found_block hit =
-      let turn : entry.name.turn < 2 ^ 40 = omega (arith, within.2) in
-      let o = block_of_word f g word (live_in (visible lm) (16 * g)) (gives_in (visible lm) (16 * g)) (ends_in (visible lm) (16 * g)) entry.name.turn e.guess life turn (sym answer_is ∙ hit) in
+      let turn : s.entry.name.turn < 2 ^ 40 = omega (arith, within.2) in
+      let o = block_of_word f g word (live_in (visible lm) (16 * g)) (gives_in (visible lm) (16 * g)) (ends_in (visible lm) (16 * g)) s.entry.name.turn is.order.guess life turn (sym answer_is ∙ hit) in
       let b : Live = o.0 in
       let alive : IsLifeOfLive f g word b (gives_in (visible lm) (16 * g)) (ends_in (visible lm) (16 * g)) = subst (λ (x : Option Live). IsLifeOf f g word x (gives_in (visible lm) (16 * g)) (ends_in (visible lm) (16 * g))) o.1 life in
-      let same : live_word entry.name.turn e.guess ≡ live_word (ends_in (visible lm) (16 * g)) (length_of b.block) = sym hit ∙ (answer_is ∙ alive.word_is) in
-      let long : length_of b.block ≡ e.guess = omega (arith, same, o.3) in
-      let some : 1 ≤ e.guess = within.3 in
+      let same : live_word s.entry.name.turn is.order.guess ≡ live_word (ends_in (visible lm) (16 * g)) (length_of b.block) = sym hit ∙ (answer_is ∙ alive.word_is) in
+      let long : length_of b.block ≡ is.order.guess = omega (arith, same, o.3) in
+      let some : 1 ≤ is.order.guess = within.3 in
       record {
         block = b;
         lives = ap (λ (a : ℕ). live_in (visible l) a) (sym place) ∙ (ap (λ (es : List Event). live_in es (16 * g)) (sym same_events) ∙ o.1);
         turn = o.2;
         long = long;
         some = some;
-        room = room_at b long alive.whole (is_sized entry) refl;
+        room = room_at b long alive.whole (is_sized s.entry) refl;
       }
 
   -- ---- its event
-  abbrev last : EndsWith entry.name e.guess (last_step (is_sized entry) entry e.guess)
-  last = last_ends (is_sized entry) entry e.guess guessed
+  abbrev last : EndsWith s.entry.name is.order.guess (last_step (is_sized s.entry) s.entry is.order.guess)
+  last = last_ends (is_sized s.entry) s.entry is.order.guess guessed
 
-  end_event : (o : Outcome) → IsEndOf entry e.guess e.answer o
-      → event_of k epoch (last_step (is_sized entry) entry e.guess) e.answer ≡ Some (event_for k epoch entry o)
-  end_event (Ended grains) h = last.event k epoch e.answer h.0
+  end_event : (o : Outcome) → IsEndOf s.entry is.order.guess is.order.answer o
+      → event_of k epoch (last_step (is_sized s.entry) s.entry is.order.guess) is.order.answer ≡ Some (event_for k epoch s.entry o)
+  end_event (Ended grains) h = last.event k epoch is.order.answer h.0
   end_event (Refused read) h =
-      last_refused (is_sized entry) entry e.guess k epoch e.answer guessed h.0 (not_ended (is_sized entry) entry.name e.guess e.answer within.2 h.0)
-      ∙ ap (λ (n : ℕ). Some (Event.Reject k entry.name (reason_for entry n))) (sym h.1)
+      last_refused (is_sized s.entry) s.entry is.order.guess k epoch is.order.answer guessed h.0 (not_ended (is_sized s.entry) s.entry.name is.order.guess is.order.answer within.2 h.0)
+      ∙ ap (λ (n : ℕ). Some (Event.Reject k s.entry.name (reason_for s.entry n))) (sym h.1)
 
-  ends_event : events_by k (part k l) is.ends ≡ event_for k epoch entry s.outcome ∷ []
+  ends_event : events_by k (part k l) is.ends ≡ event_for k epoch s.entry s.outcome ∷ []
   ends_event =
-      ap (events_by k (part k l)) e.steps_are
-      ∙ (ap (λ (o : Option ℕ). with_event (event_of k (or_zero o) (last_step (is_sized entry) entry e.guess) e.answer) (events_by k (part k l) first)) (epoch_same trying refl first (part k l) idle.kinds)
-      ∙ (ap (λ (n : ℕ). with_event (event_of k n (last_step (is_sized entry) entry e.guess) e.answer) (events_by k (part k l) first)) known
-      ∙ (ap (λ (o : Option Event). with_event o (events_by k (part k l) first)) (end_event s.outcome e.comes_to)
-      ∙ ap (λ (es : List Event). event_for k epoch entry s.outcome ∷ es) (idle.events k (part k l)))))
+      ap (events_by k (part k l)) is.order.steps_are
+      ∙ (ap (λ (o : Option ℕ). with_event (event_of k (or_zero o) (last_step (is_sized s.entry) s.entry is.order.guess) is.order.answer) (events_by k (part k l) first)) (epoch_same trying refl first (part k l) idle.kinds)
+      ∙ (ap (λ (n : ℕ). with_event (event_of k n (last_step (is_sized s.entry) s.entry is.order.guess) is.order.answer) (events_by k (part k l) first)) known
+      ∙ (ap (λ (o : Option Event). with_event o (events_by k (part k l) first)) (end_event s.outcome is.order.comes_to)
+      ∙ ap (λ (es : List Event). event_for k epoch s.entry s.outcome ∷ es) (idle.events k (part k l)))))
 
-  after_kinds : (o : Outcome) → AfterEnd entry.name o is.after → Only putting_back is.after
+  after_kinds : (o : Outcome) → AfterEnd s.entry.name o is.after → Only putting_back is.after
   after_kinds o h = search (arith, run_kinds)
 
   ends_kinds : Only ending is.ends
-  ends_kinds = subst (Only ending) (sym e.steps_are) (ap (is_in ending) last.kind, only_within trying ending first refl idle.kinds)
+  ends_kinds = subst (Only ending) (sym is.order.steps_are) (ap (is_in ending) last.kind, only_within trying ending first refl idle.kinds)
 
   -- The steps for one logged free are of the ending kinds alone.
   pub entry_kinds : Only ending piece
   entry_kinds = subst (Only ending) (sym is.steps_are) (only_both ending is.after is.ends (only_within putting_back ending is.after refl (after_kinds s.outcome is.returns)) ends_kinds)
 
   -- The steps for one logged free show one event, that of its outcome.
-  pub entry_events : visible (triples k piece ++ l) ≡ event_for k epoch entry s.outcome ∷ visible l
+  pub entry_events : visible (triples k piece ++ l) ≡ event_for k epoch s.entry s.outcome ∷ visible l
   entry_events =
       visible_steps k piece l
       ∙ ap (λ (es : List Event). es ++ visible l)
       (ap (events_by k (part k l)) is.steps_are ∙ (events_same putting_back refl k (part k l) is.after is.ends (after_kinds s.outcome is.returns) ∙ ends_event))
 
   -- ---- its hints
-  after_hints : (o : Outcome) → AfterEnd entry.name o is.after → Always HintsEmpty is.after
+  after_hints : (o : Outcome) → AfterEnd s.entry.name o is.after → Always HintsEmpty is.after
   after_hints o h = search (arith, run_hints)
 
   ends_trying : Only trying is.ends
-  ends_trying = subst (Only trying) (sym e.steps_are) (ap (is_in trying) last.kind, idle.kinds)
+  ends_trying = subst (Only trying) (sym is.order.steps_are) (ap (is_in trying) last.kind, idle.kinds)
 
   -- The steps for one logged free hint only pages that they read as backed and empty.
   pub entry_hints : Always HintsEmpty piece
@@ -243,12 +276,12 @@ module _ (f : Profile) (k epoch : ℕ) (s : Settled) (piece : List Made) (l : Wh
 
   -- ---- the directory that was read
   look_legal : Legal f (triples k (look ∷ []) ++ l)
-  look_legal = legal_earlier f k e.before (look ∷ []) l ends_legal.1
+  look_legal = legal_earlier f k is.order.before (look ∷ []) l ends_legal.1
 
   -- The directory that the steps of an entry read is the deed of its name's page.
-  pub read_directory : s.directory ≡ deed_in (visible l) (address_of entry.name / 4096)
+  pub read_directory : s.directory ≡ deed_in (visible l) (address_of s.entry.name / 4096)
   read_directory =
-      let page : ℕ = address_of entry.name / 4096 in
+      let page : ℕ = address_of s.entry.name / 4096 in
       is.directory
       ∙ (ap directory_read (look_legal.0.answer_is ∙ deed_of f l look_legal.1 page)
       ∙ read_deed f valid (deed_in (visible l) page) (λ d at. read-deed_word_of d (directory_from_profile f d valid (directory_is_of f l look_legal.1 page d at))))

@@ -1,16 +1,15 @@
 -- SLOTS OF A CLASS ARE FETCHED for a request, whatever is found: place is made for a local allocator, in the text too, and from there on the fetch is a request of
 -- its own.
-use Rattle.std.proofs.Common.{◌≡◌, ℕ, ◌≤◌, ◌<◌, ◌==◌, nat_le, Bool, true, false, not, ◌&&◌, ◌||◌, if◌then◌else◌, List, [], ◌∷◌, ◌++◌, length, All, Option, None}
-use Rattle.std.proofs.Common.{Some, Result, refl, ap, sym, ◌∙◌, subst, append-nil, append_assoc, arith, true≢false, eq-eqb, eqb-true}
+use Rattle.std.proofs.Common.{◌≡◌, ℕ, ◌≤◌, ◌<◌, nat_le, Bool, true, false, not, ◌||◌, if◌then◌else◌, List, [], ◌∷◌, ◌++◌, length, All, Option, None, Some}
+use Rattle.std.proofs.Common.{Result, refl, ap, sym, ◌∙◌, subst, append-nil, append_assoc, arith, true≢false, eq-eqb, eqb-true}
 use Rattle.std.proofs.lemmas.{Bool.false_from_ne_true, Bool.Decides.nat_tests, List.Elements.All-head, List.Elements.All-tail}
 use Rattle.std.specs.List.{find}
 use Rattle.pas_bits.specs.Masks.{is_set, IsEmpty}
 use Rattle.pas_profile.specs.{Classes.IsClass, Classes.IsSlotStart, Directories.IsKind, Profiles.IsValid, Profiles.IsDirectoryOf, Requests.class_home}
-use Rattle.pas_profile.specs.{Requests.is_shared, Requests.kind_of_class}
-use Rattle.pas_profile.specs.declared.{directory.Directory.Directory, directory.Kind.Kind, event.Event.Event, event.NoRoom.NoRoom, profile.Profile.Profile}
-use Rattle.pas_profile.specs.declared.{word.Word.Word}
-use Rattle.pas_profile.proofs.{ClassFacts.class_grains_positive, ClassFacts.usable_grains_le, Codecs.same_from_deed_word}
-use Rattle.pas_steps.specs.{Desks.triples, Events.events_by, Views.View, Views.KnowsDeed, Views.known_deed}
+use Rattle.pas_profile.specs.{Requests.kind_of_class}
+use Rattle.pas_profile.specs.declared.{directory.Kind.Kind, event.Event.Event, event.NoRoom.NoRoom, profile.Profile.Profile, word.Word.Word}
+use Rattle.pas_profile.proofs.ClassFacts.{class_grains_positive, usable_grains_le}
+use Rattle.pas_steps.specs.{Desks.triples, Events.events_by, Views.View, Views.KnowsDeed}
 use Rattle.pas_steps.specs.Lists.{Whole, part, word_after, Legal}
 use Rattle.pas_steps.specs.declared.step.Made.{Made}
 use Rattle.pas_steps.proofs.{Adding.triples_append, Apart.no_events, Frames.events_append, Parts.part_of_own}
@@ -24,11 +23,11 @@ use Rattle.pas_report.specs.declared.record.Said.{Said as TheSaid}
 use Rattle.pas_trace.specs.EveryPlan.{IsThread}
 use Rattle.pas_answers.specs.Answers.{Progress, Named, records_of, said_by, Caches}
 use Rattle.pas_one_text.specs.{State.Local, State.World, State.locals_of, Searches.some_of}
-use Rattle.pas_one_text.specs.Classes.{is_for, fetches, gives_first, gives_up, serves_class_by, serves_class}
+use Rattle.pas_one_text.specs.Classes.{is_for, fetches, serves_class_by, serves_class}
 use Rattle.pas_same_text.specs.Same.{IsSame, IsSameLocal, AreSameLocals, ArePagesSame, has_number}
 use Rattle.pas_same_text.specs.Acts.{AreResting, IsBetween}
-use Rattle.pas_same_text.proofs.{CacheLists.same_own, CacheLists.same_again, LoggedFrees.after_with, MiddleRest.cached_again, MiddleRest.middle_rest}
-use Rattle.pas_same_text.proofs.{OneUp.up_to, SameLocals.Finds, SameLocals.found_same, Tests.and_first, Tests.and_second, StillIndexes.same_many}
+use Rattle.pas_same_text.proofs.CacheLists.{same_own, same_again, Finds, found_same}
+use Rattle.pas_same_text.proofs.{LoggedFrees.after_with, SeatedActs.cached_again, SeatedActs.middle_rest, OneUp.up_to, StillIndexes.same_many}
 use Rattle.pas_same_text.proofs.{StillIndexes.given_up_keeps, StillIndexes.first_up_keeps}
 use Rattle.pas_same_text.proofs.MadePlace.{placed_by, place_made, none_same, most_left, known_found}
 

@@ -1,7 +1,7 @@
 -- FLUSHES as acts: all entries of a log take effect.
 use Rattle.std.proofs.Common.{◌≤◌, length, ◌≡◌, ℕ, ◌+◌, ◌*◌, ◌/◌, ◌%◌, ◌<◌, ◌==◌, Bool, true, false, if◌then◌else◌, List, [], ◌∷◌, ◌++◌, map, reverse, Some}
 use Rattle.std.proofs.Common.{refl, ap, sym, ◌∙◌, subst, arith, true≢false, eqb-true}
-use Rattle.std.proofs.lemmas.{Bool.eqb-false, Grind.reverse_onto, List.reverse-append, Option.none-some}
+use Rattle.std.proofs.lemmas.{Bool.eqb-false, Grind.reverse_onto, List.reverse-append}
 use Rattle.pas_bits.proofs.Runs.{IsMet, met}
 use Rattle.pas_profile.specs.{Blocks.length_of, Profiles.IsValid, Profiles.IsPage, Profiles.IsDirectoryOf}
 use Rattle.pas_profile.specs.declared.{directory.Directory.Directory, event.Event.Event, profile.Profile.Profile, word.Word.Word}
@@ -21,7 +21,7 @@ use Rattle.pas_answers.specs.Answers.{Progress, records_of, with_steps, with_rec
 use Rattle.pas_one_text.specs.{State.World, State.each, State.set_log, Frees.ends, Frees.flushes, Pages.is_of}
 use Rattle.pas_same_text.specs.{Same.IsSame, Same.HasSame, Same.AreSameCaches, Acts.IsBetween, Acts.AreBlocksUsable, Words.free_bit}
 use Rattle.pas_same_text.proofs.FlushedLogs.{IsFlushedTo, IsEndedOn, OnlyFewer, flushed_start, flushed_all}
-use Rattle.pas_same_text.proofs.{FreeGrains.held_still, OuterPages.guards_as, OuterPages.still_unguarded, RestingPages.is_open, RestingPages.deed_now}
+use Rattle.pas_same_text.proofs.{FreeGrains.held_still, Holders.guards_as, Holders.still_unguarded, RestingPages.is_open, RestingPages.deed_now}
 use Rattle.pas_same_text.proofs.{StillIndexes.same_guards, StillIndexes.flushes_keep}
 use Rattle.pas_same_text.proofs.GivenPages.{IsGivenBack, open_from, covered_not_held, free_left, given_pages}
 use Rattle.pas_same_text.proofs.GivingBack.{OffersPage, hint_marks, offer_marks, offered_of_region, epoch_stays_by}

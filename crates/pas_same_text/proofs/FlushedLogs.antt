@@ -10,13 +10,13 @@ use Rattle.pas_profile.specs.{Blocks.address_of, Blocks.grain_of, Blocks.length_
 use Rattle.pas_profile.specs.declared.{directory.Directory.Directory, event.Event.Event, name.Name.Name, profile.Profile.Profile, word.Word.Word}
 use Rattle.pas_machine.specs.{Machine.Run, State.Live, State.live_in, State.deed_in}
 use Rattle.pas_machine.proofs.LiveBlocks.{lives_where}
-use Rattle.pas_steps.specs.{Desks.made, Desks.triples, Kinds.Only, Kinds.LookEpoch, Past.Always, Views.epoch_of, Views.or_zero}
+use Rattle.pas_steps.specs.{Desks.made, Desks.triples, Kinds.Only, Kinds.LookEpoch, Past.Always, Views.epoch_of}
 use Rattle.pas_steps.specs.Lists.{Whole, part, visible, Legal}
 use Rattle.pas_steps.specs.declared.step.{Made.Made, Step.TheVariants.Look}
 use Rattle.pas_steps.proofs.{Adding.triples_append, Apart.only_both, Apart.only_within, Apart.epoch_same, Parts.part_of_own}
 use Rattle.pas_core.proofs.{MachineRuns.runs, OneActor.legal_earlier}
 use Rattle.pas_rights.specs.Looks.{HintsEmpty}
-use Rattle.pas_free_log.specs.{Endings.IsEndOf, Endings.reason_for, Frames.ending, Frames.freeing, Noted.large_run, Noted.noted_by}
+use Rattle.pas_free_log.specs.{Endings.IsEndOf, Endings.reason_for, Frames.ending, Frames.freeing, Noted.large_run}
 use Rattle.pas_free_log.specs.Flushes.{Settled, EntrySteps, EntriesSteps, AfterEnd, event_for, shown_for, noted_for, noted_after}
 use Rattle.pas_free_log.specs.declared.{ending.Outcome.Outcome, ending.Outcome.TheVariants.Ended, ending.Outcome.TheVariants.Refused, log.Entry.Entry}
 use Rattle.pas_free_log.specs.declared.{noting.EndedRun.EndedRun}
@@ -170,54 +170,52 @@ module _ (f : Profile) (k epoch : ℕ) (s : Settled) (piece : List Made) (l : Wh
     found : IsEndOfBlock f l s.entry is.order.guess
     found = found_block f k epoch s piece l valid legal is known came.0
 
-    abbrev b : Live
-    b = found.block
-
-    lives : live_in v.events (address_of s.entry.name) ≡ Some b
+    lives : live_in v.events (address_of s.entry.name) ≡ Some found.block
     lives = ap (λ (es : List Event). live_in es (address_of s.entry.name)) events ∙ found.lives
 
-    at : address_of b.block.name ≡ address_of s.entry.name
-    at = lives_where f v.events run (address_of s.entry.name) b lives
+    at : address_of found.block.block.name ≡ address_of s.entry.name
+    at = lives_where f v.events run (address_of s.entry.name) found.block lives
 
-    named : b.block.name ≡ s.entry.name
-    named = name_same b.block.name s.entry.name at found.turn
+    named : found.block.block.name ≡ s.entry.name
+    named = name_same found.block.block.name s.entry.name at found.turn
 
-    long : length_of b.block ≡ grains
+    long : length_of found.block.block ≡ grains
     long = found.long ∙ sym came.1
 
     abbrev y : World
-    y = ends_block f k s.entry.name b.block v
+    y = ends_block f k s.entry.name found.block.block v
 
     text : x ≡ y
-    text = end_text f k s.entry v live b lives found.turn found.room
+    text = end_text f k s.entry v live found.block lives found.turn found.room
 
     ended_shown : IsShown (Event.End k s.entry.name epoch) v x
     ended_shown = subst (λ (e : ℕ). IsShown (Event.End k s.entry.name e) v x) now
-        (end_shown f k s.entry v live (b, lives, found.turn) (λ b' there. subst (λ (c : Live). is_other_room s.entry c.block ≡ false) (same_Some b b' (sym lives ∙ there)) found.room))
+        (end_shown f k s.entry v live (found.block, lives, found.turn) (λ b' there. subst (λ (c : Live). is_other_room s.entry c.block ≡ false) (same_Some found.block b' (sym lives ∙ there)) found.room))
 
-    run_same : large_run b.block.name (length_of b.block) (deed_in v.events (address_of b.block.name / 4096)) ≡ large_run s.entry.name grains s.directory
+    run_same : large_run found.block.block.name (length_of found.block.block) (deed_in v.events (address_of found.block.block.name / 4096))
+        ≡ large_run s.entry.name grains s.directory
     run_same =
-        ap (λ (n : Name). large_run n (length_of b.block) (deed_in v.events (address_of n / 4096))) named
+        ap (λ (n : Name). large_run n (length_of found.block.block) (deed_in v.events (address_of n / 4096))) named
         ∙ (ap (λ (m : ℕ). large_run s.entry.name m (deed_in v.events (address_of s.entry.name / 4096))) long
         ∙ ap (λ (d : Option Directory). large_run s.entry.name grains d) (ap (λ (es : List Event). deed_in es (address_of s.entry.name / 4096)) events ∙ sym (read_directory f k epoch s piece l valid legal is known)))
 
-    noted_same : noted_then f k s.entry.name b v run live lives ≡ noted_of v k ++ take (64 - length (noted_of v k)) (noted_for s)
+    noted_same : noted_then f k s.entry.name found.block v run live lives ≡ noted_of v k ++ take (64 - length (noted_of v k)) (noted_for s)
     noted_same = search (arith, room_for, run_same)
 
-    marked : (q : ℕ) → IsPage f q → IsMarked q piece → IsEndedOn v.events y.events (pages_of f b.block) q
+    marked : (q : ℕ) → IsPage f q → IsMarked q piece → IsEndedOn v.events y.events (pages_of f found.block.block) q
     marked q of mark =
         let after : IsMarked q is.after = after_marked f k epoch s piece l valid legal is known q mark in
         let returns : AfterEnd s.entry.name (Ended grains) is.after = subst (λ (o : Outcome). AfterEnd s.entry.name o is.after) outcome is.returns in
         let some : 1 ≤ grains = subst (λ (m : ℕ). 1 ≤ m) (sym came.1) found.some in
         let met : meets_page (grain_of s.entry.name) grains q ≡ true = block_marked (grain_of s.entry.name) grains q is.after some returns after in
-        let own : meets_page (grain_of s.entry.name) (length_of b.block) q ≡ true = ap (λ (m : ℕ). meets_page (grain_of s.entry.name) m q) long ∙ met in
+        let own : meets_page (grain_of s.entry.name) (length_of found.block.block) q ≡ true = ap (λ (m : ℕ). meets_page (grain_of s.entry.name) m q) long ∙ met in
         record {
           address = address_of s.entry.name;
-          block = b;
+          block = found.block;
           lived = lives;
           gone = ap (λ (es : List Event). live_in es (address_of s.entry.name)) (ap (λ (w : World). w.events) (sym text) ∙ ended_shown.events) ∙ ended_none;
           met = own;
-          minded = has_filtered (meets_page (grain_of b.block.name) (length_of b.block)) (page_numbers f) q (ap (λ (n : Name). meets_page (grain_of n) (length_of b.block) q) named ∙ own) (page_there f q of);
+          minded = has_filtered (meets_page (grain_of found.block.block.name) (length_of found.block.block)) (page_numbers f) q (ap (λ (n : Name). meets_page (grain_of n) (length_of found.block.block) q) named ∙ own) (page_there f q of);
         }
       where
         ended_none : live_in (Event.End k s.entry.name epoch ∷ v.events) (address_of s.entry.name) ≡ None
@@ -225,10 +223,10 @@ module _ (f : Profile) (k epoch : ℕ) (s : Settled) (piece : List Made) (l : Wh
 
     ended_taken : IsTakenBy f k s piece v x (own_then s v k)
     ended_taken = subst (λ (w : World). IsTakenBy f k s piece v w (own_then s v k)) (sym text) (record {
-      pages = pages_of f b.block;
-      returns = ended_returns f k s.entry.name b v run live lives;
-      locals = ended_locals f k s.entry.name b v run live lives;
-      caches = ended_caches f k s.entry.name b v run live lives ∙ ap (λ (ns : List EndedRun). with_cache v.caches k (record (cache_of v k) { noted = ns })) noted_same;
+      pages = pages_of f found.block.block;
+      returns = ended_returns f k s.entry.name found.block v run live lives;
+      locals = ended_locals f k s.entry.name found.block v run live lives;
+      caches = ended_caches f k s.entry.name found.block v run live lives ∙ ap (λ (ns : List EndedRun). with_cache v.caches k (record (cache_of v k) { noted = ns })) noted_same;
       marks = marked;
     })
 

@@ -1,23 +1,56 @@
--- The events of a flush, by its steps and in the text.
-use Rattle.std.proofs.Common.{arith, ◌≡◌, ℕ, true, List, [], ◌∷◌, ◌++◌, map, reverse, refl, ap, sym, ◌∙◌, subst, append_assoc, Some, if◌then◌else◌, Bool}
-use Rattle.std.proofs.lemmas.{Grind.reverse_onto, List.reverse-reverse}
+-- What a flush shows: one event for each logged free, in the order of the log.
+use Rattle.std.proofs.Common.{arith, ◌≡◌, ℕ, Bool, true, false, not, List, [], ◌∷◌, refl, ap, sym, ◌∙◌, subst, true≢false, ◌++◌, map, reverse, append_assoc}
+use Rattle.std.proofs.lemmas.{Bool.not-true, Grind.reverse_onto, List.reverse-reverse}
+use Rattle.pas_profile.specs.declared.{event.Event.Event, profile.Profile.Profile, word.Word.Word}
+use Rattle.pas_machine.specs.Machine.{Run}
+use Rattle.pas_free_log.specs.{Endings.reason_by, Flushes.event_for, Logs.is_sized, Flushes.Settled, Flushes.shown_for}
+use Rattle.pas_free_log.specs.declared.{ending.Outcome.Outcome, log.Entry.Entry, noting.EndedRun.EndedRun}
+use Rattle.pas_one_text.specs.State.{World, each, live_after, set_log}
+use Rattle.pas_one_text.specs.Frees.{ends, flushes}
+use Rattle.pas_same_text.specs.Entries.{IsShown, IsEntryReason, IsEntryEvent, HaveOutcomes, are_unsized, onto, events_of_flush, HasShown, IsFlushOf}
+use Rattle.pas_same_text.specs.Same.{lives_in}
+use Rattle.pas_same_text.proofs.{EntryEvents.entry_shown, Tests.and_first, Tests.and_second}
 use Rattle.pas_guard.proofs.Keepers.{older_legal}
-use Rattle.pas_profile.specs.declared.{event.Event.Event, profile.Profile.Profile, word.Word.Word, name.Block.Block}
-use Rattle.pas_profile.specs.Blocks.{address_of}
-use Rattle.pas_machine.specs.{Machine.Run, State.live_in}
 use Rattle.pas_steps.specs.{Desks.made, Desks.triple, Desks.triples, Events.event_of, Events.events_by, Events.with_event, Views.View, Views.epoch_of}
 use Rattle.pas_steps.specs.Lists.{Whole, part, visible, Legal}
 use Rattle.pas_steps.specs.declared.step.{Made.Made, Step.TheVariants.Look}
 use Rattle.pas_steps.specs.Kinds.{Kinds, Only, apart, showing}
 use Rattle.pas_steps.proofs.{Adding.triples_append, Frames.with_append, Parts.part_of_own, Apart.no_events}
 use Rattle.pas_core.proofs.{MachineRuns.runs, OneActor.legal_earlier}
-use Rattle.pas_free_log.specs.Flushes.{Settled, shown_for}
-use Rattle.pas_free_log.specs.declared.{ending.Outcome.Outcome, log.Entry.Entry, noting.EndedRun.EndedRun}
-use Rattle.pas_one_text.specs.{State.World, State.each, State.set_log, Frees.ends, Frees.flushes}
-use Rattle.pas_same_text.specs.Entries.{HaveOutcomes, events_of_flush, are_unsized, onto, HasShown, IsFlushOf}
-use Rattle.pas_same_text.specs.Same.{lives_in}
-use Rattle.pas_same_text.proofs.{FlushEvents.flush_shown, Tests.eqb_itself}
 
+-- ---- one
+reason_named : (entry : Entry) (sized : Bool) (read : ℕ) → is_sized entry ≡ sized → sized ≡ false → IsEntryReason entry (reason_by sized entry read)
+reason_named entry sized read is h = search (arith, true≢false)
+
+-- whatever came of a free without a room, its event is one that the text knows
+entry_event : (k epoch : ℕ) (entry : Entry) (outcome : Outcome) (w : World) → is_sized entry ≡ false → w.epoch ≡ epoch
+    → IsEntryEvent k entry w (event_for k epoch entry outcome)
+entry_event k epoch entry outcome w unsized now = search (arith, reason_named)
+
+-- ---- all
+run_before : (f : Profile) (evs es : List Event) → Run f (onto evs es) → Run f es
+run_before f [] es run = run
+run_before f (e ∷ evs) es run = (run_before f evs (e ∷ es) run).1
+
+-- The entries of a log without rooms show their events in order, where the machine allows these.
+pub flush_shown : (f : Profile) (k epoch : ℕ) (entries : List Entry) (outcomes : List Outcome) (w : World) → HaveOutcomes entries outcomes
+    → are_unsized entries ≡ true → w.live ≡ lives_in w.events → w.epoch ≡ epoch
+    → Run f (onto (events_of_flush k epoch entries outcomes) w.events) → HasShown (events_of_flush k epoch entries outcomes) w (each (ends f k) entries w)
+flush_shown f k epoch [] [] w pairs unsized live now run = record { events = refl; live = live; names = refl; epoch = refl }
+flush_shown f k epoch [] (o ∷ outcomes) w pairs unsized live now run = absurd pairs
+flush_shown f k epoch (entry ∷ entries) [] w pairs unsized live now run = absurd pairs
+flush_shown f k epoch (entry ∷ entries) (o ∷ outcomes) w pairs unsized live now run =
+    let e : Event = event_for k epoch entry o in
+    let evs : List Event = events_of_flush k epoch entries outcomes in
+    let own : is_sized entry ≡ false = not-true (is_sized entry) (and_first (not (is_sized entry)) (are_unsized entries) unsized) in
+    let rest : are_unsized entries ≡ true = and_second (not (is_sized entry)) (are_unsized entries) unsized in
+    let v : World = ends f k entry w in
+    let one : IsShown e w v = entry_shown f k entry w live e (run_before f evs (e ∷ w.events) run) (entry_event k epoch entry o w own now) in
+    let alive : v.live ≡ lives_in v.events = one.live ∙ (ap (live_after e) live ∙ ap lives_in (sym one.events)) in
+    let more : HasShown evs v (each (ends f k) entries v) = flush_shown f k epoch entries outcomes v pairs rest alive (one.epoch ∙ now) (subst (λ (es : List Event). Run f (onto evs es)) (sym one.events) run) in
+    assumption (more.events ∙ ap (onto evs) one.events, more.names ∙ one.names, more.epoch ∙ one.epoch)
+
+-- ==== The events of a flush, by its steps and in the text.
 -- ---- lists
 onto_is : (xs es : List Event) → onto xs es ≡ reverse xs ++ es
 onto_is [] es = refl
@@ -64,12 +97,6 @@ legal_between f k after steps before l legal = subst (Legal f) (sym (triples_app
 -- Steps of kinds that make no event leave what a list shows as it was.
 pub unshown : (ks : Kinds) → apart ks showing ≡ true → (k : ℕ) (steps : List Made) (l : Whole) → Only ks steps → visible (triples k steps ++ l) ≡ visible l
 unshown ks w k steps l only = visible_steps k steps l ∙ ap (λ (es : List Event). es ++ visible l) (no_events ks w k (part k l) steps only)
-
--- a block that steps gave lives after steps without events
-pub given_lives : (ks : Kinds) → apart ks showing ≡ true → (k : ℕ) (xs steps : List Made) (l : Whole) (block : Block) (es : List Event) → Only ks xs
-    → events_by k (part k l) steps ≡ Event.Give k block ∷ es
-    → live_in (visible (triples k xs ++ (triples k steps ++ l))) (address_of block.name) ≡ Some (record { actor = k; block = block })
-given_lives ks w k xs steps l block es only given = search (arith, unshown, visible_steps)
 
 -- ---- A FLUSH
 module _ (f : Profile) (k : ℕ) (logged : List Entry) (noted noted' : List EndedRun) (steps : List Made) (l : Whole) (w : World)

@@ -1,32 +1,34 @@
 -- A grain is free in the text exactly where its bit is set or a guard has its page, and a page is kept exactly where an actor has its right: whenever all
 -- actors are at rest.
 use Rattle.std.proofs.Common.{◌≡◌, ℕ, ◌+◌, ◌*◌, ◌/◌, ◌<◌, ◌≤◌, ◌≢◌, Bool, true, false, not, ◌&&◌, ◌||◌, List, length, Some, ◌⊎◌, inl, inr, refl, ap, sym, ◌∙◌}
-use Rattle.std.proofs.Common.{subst, arith, ◌%◌, eq-eqb, eqb-true, true≢false}
+use Rattle.std.proofs.Common.{subst, arith, ◌%◌, eq-eqb, eqb-true, true≢false, ◌==◌, [], ◌∷◌}
 use Rattle.std.proofs.lemmas.Bool.{false≢true, or_cases, or_left, or_right, false_from_ne_true, cases_lt}
 use Rattle.std.specs.List.{list_any}
-use Rattle.std.proofs.Math.Bool.{and-false, or-false}
-use Rattle.pas_bits.specs.{Runs.in_run, Runs.meets_page, Bits.has_bit}
+use Rattle.std.proofs.Math.Bool.{and-false, or-false, and_comm}
+use Rattle.pas_bits.specs.Runs.{in_run, meets_page}
 use Rattle.pas_bits.proofs.Runs.{run_meets}
 use Rattle.pas_profile.specs.{Blocks.address_of, Blocks.length_of, Blocks.grain_of as first_grain, Profiles.IsValid}
 use Rattle.pas_profile.specs.declared.{name.Block.Block, profile.Profile.Profile}
 use Rattle.pas_machine.specs.State.{Live, live_in}
 use Rattle.pas_machine.proofs.LiveBlocks.{lives_where}
-use Rattle.pas_steps.specs.Lists.{part, visible, word_after, Whole, Legal}
-use Rattle.pas_steps.specs.{Views.View, Views.holds, Views.has_right, Effects.free_word_at}
-use Rattle.pas_core.specs.{Good.IsPartOf, Good.IsInOnePlace, Rights.free_of_page}
+use Rattle.pas_steps.specs.Lists.{part, visible, Whole, Legal}
+use Rattle.pas_steps.specs.Views.{View, holds, has_right}
+use Rattle.pas_core.specs.{Good.IsPartOf, Good.IsInOnePlace, Rights.free_of_page, Rights.NobodyHasRight}
 use Rattle.pas_core.proofs.{MachineRuns.runs, MachineRuns.in_one_place, Offers.no_other_actor}
-use Rattle.pas_segregated.specs.declared.slots.Slots.{Slots}
-use Rattle.pas_cache.specs.Locals.{any_covers}
+use Rattle.pas_cache.specs.Locals.{any_covers, any_keeps, keeps_right}
 use Rattle.pas_guard.specs.Books.{is_outer}
 use Rattle.pas_guard.specs.declared.book.Guard.{Guard as BookGuard}
 use Rattle.pas_trace.specs.EveryPlan.{IsThread}
 use Rattle.pas_answers.specs.Answers.{Books, Progress}
-use Rattle.pas_one_text.specs.State.{World, cache_in}
-use Rattle.pas_one_text.specs.Pages.{is_free, is_covered, is_cached, is_guarded, blocks_on, locals_on}
-use Rattle.pas_same_text.specs.{Same.HasSame, Same.lives_in, Acts.IsBetween, Words.free_bit}
-use Rattle.pas_same_text.proofs.{LiveBlocks.LivesSo, LiveBlocks.lives_so, LiveBlocks.lives_listed, OuterPages.guarded_by, OuterPages.outer_guarded}
+use Rattle.pas_one_text.specs.State.{World, cache_in, Local}
+use Rattle.pas_one_text.specs.Pages.{is_free, is_covered, is_cached, is_guarded, blocks_on, locals_on, is_kept}
+use Rattle.pas_same_text.specs.Same.{HasSame, lives_in, IsSameLocal, AreSameLocals}
+use Rattle.pas_same_text.specs.{Acts.IsBetween, Words.free_bit}
+use Rattle.pas_same_text.proofs.Holders.{LivesSo, lives_so, lives_listed, guarded_by, outer_guarded}
+use Rattle.pas_same_text.proofs.CacheLists.{all_locals}
 use Rattle.pas_same_text.proofs.Slots.{has_grain, grains_same, IsOfCache, of_cache, in_all, cached_any, any_cached}
 use Rattle.pas_same_text.proofs.Tests.{and_second, any_filtered, filtered_any, on_page}
+use Rattle.pas_segregated.specs.declared.slots.Slots.{Slots}
 
 -- ---- actors
 -- an actor that is neither the scavenger nor past the last thread is a thread
@@ -212,3 +214,39 @@ module _ (f : Profile) (p : Progress) (w : World) (valid : IsValid f) (between :
   pub bit_unguarded : (page b : ℕ) → b < 256 → free_bit p.list (256 * page + b) ≡ true → is_guarded w page ≡ false
   bit_unguarded page b small bit =
       false_from_ne_true (is_guarded w page) (λ h. let o = guarded_held page b small h in false≢true (sym (free_unheld f p.list valid between.legal (256 * page + b) bit o.0) ∙ o.2))
+
+-- ==== Which pages the caches keep, in the text and in a replay.
+-- a local allocator that keeps the page
+abbrev keeps_page : ℕ → Local → Bool
+keeps_page page l = (l.page == page) && l.keeps
+
+one_kept : (s : Slots) (l : Local) (page : ℕ) → IsSameLocal s l → keeps_page page l ≡ keeps_right s page
+one_kept s l page same = ap (λ (q : ℕ). (q == page) && l.keeps) same.page ∙ (ap (λ (t : Bool). (s.page == page) && t) same.keeps ∙ and_comm (s.page == page) s.right)
+
+all_kept : (slots : List Slots) (locals : List Local) (page : ℕ) → AreSameLocals slots locals → list_any (keeps_page page) locals ≡ any_keeps slots page
+all_kept [] [] page same = refl
+all_kept [] (l ∷ locals) page same = absurd same
+all_kept (s ∷ slots) [] page same = absurd same
+all_kept (s ∷ slots) (l ∷ locals) page same =
+    ap (λ (t : Bool). t || list_any (keeps_page page) locals) (one_kept s l page same.0) ∙ ap (λ (t : Bool). keeps_right s page || t) (all_kept slots locals page same.1)
+
+module _ (f : Profile) (p : Progress) (w : World) (valid : IsValid f) (between : IsBetween f p) (same : HasSame f p w) where
+  cache_keeps : (k page : ℕ) → IsThread f k → list_any (keeps_page page) (cache_in w.caches k).locals ≡ has_right (part k p.list) page
+  cache_keeps k page is = all_kept (p.caches k).locals (cache_in w.caches k).locals page (same.caches.each k is).locals ∙ sym ((between.rest.working k is).locals.rights page)
+
+  -- a page that is kept is in some thread's hands
+  pub keeper : (page : ℕ) → is_kept w page ≡ true → (k : ℕ) × (has_right (part k p.list) page ≡ true)
+  keeper page h =
+      let o : IsOfCache w.caches (keeps_page page) = of_cache w.caches (keeps_page page) (any_filtered (λ l. l.keeps) (λ l. l.page == page) (all_locals w.caches) h) in
+      let is : IsThread f o.k = (o.first, omega (arith, o.last, same.caches.few)) in
+      (o.k, sym (cache_keeps o.k page is) ∙ o.so)
+
+  -- A page whose right some actor has is kept by a local allocator in the text.
+  pub kept_by : (k page : ℕ) → has_right (part k p.list) page ≡ true → is_kept w page ≡ true
+  kept_by k page h =
+      let is : IsThread f k = righted_is f p w valid between same k page h in
+      filtered_any (λ l. l.keeps) (λ l. l.page == page) (all_locals w.caches) (in_all w.caches k (keeps_page page) (cache_keeps k page is ∙ h))
+
+  -- a page that isn't kept is in nobody's hands
+  pub nobody_keeps : (page : ℕ) → is_kept w page ≡ false → NobodyHasRight p.list page
+  nobody_keeps page h k = false_from_ne_true (has_right (part k p.list) page) (λ has. false≢true (sym h ∙ kept_by k page has))

@@ -2,11 +2,11 @@
 use Rattle.std.proofs.Common.{◌≡◌, ℕ, zero, suc, ◌+◌, ◌<◌, ◌≤◌, ◌≢◌, ◌==◌, Bool, true, false, ◌&&◌, ◌||◌, if◌then◌else◌, List, [], ◌∷◌, ◌++◌, inl, inr, refl}
 use Rattle.std.proofs.Common.{ap, sym, ◌∙◌, arith, true≢false, eqb-true, eq-eqb}
 use Rattle.std.proofs.lemmas.Bool.{false≢true, or_cases, cases_eq, and_from, or_parts}
-use Rattle.std.proofs.{lemmas.List.Folds.list_any-append, Math.Bool.or-true, Math.Bool.or-false}
+use Rattle.std.proofs.{lemmas.List.Folds.list_any-append, Math.Bool.or-false}
 use Rattle.std.specs.List.{list_any, filter}
 use Rattle.pas_bits.specs.Runs.{meets_page}
 use Rattle.pas_profile.specs.{Blocks.grain_of, Blocks.length_of, Profiles.IsPage}
-use Rattle.pas_profile.specs.declared.{name.Block.Block, profile.Profile.Profile, event.Event.Event}
+use Rattle.pas_profile.specs.declared.{name.Block.Block, profile.Profile.Profile}
 use Rattle.pas_machine.specs.State.{backed_in}
 use Rattle.pas_trace.specs.Acts.{numbers_from}
 use Rattle.pas_one_text.specs.State.{Local, World, each}

@@ -13,9 +13,9 @@ use Rattle.pas_one_text.specs.State.{Local, Cache, World, each, cache_in, cache_
 use Rattle.pas_one_text.specs.{Classes.is_for, Classes.others, Classes.gives_up, Frees.gives_up_all}
 use Rattle.pas_one_text.specs.Pages.{is_covered, is_cached, blocks_on, locals_on}
 use Rattle.pas_same_text.specs.Same.{AreSameLocals}
-use Rattle.pas_same_text.proofs.CacheLists.{all_locals, own_with, many_with, with_own}
+use Rattle.pas_same_text.proofs.CacheLists.{all_locals, own_with, many_with, with_own, for_same}
 use Rattle.pas_same_text.proofs.GivenBack.{Returns, OnlyHints, minded_last, all_only_hints, returns_nothing, returns_then}
-use Rattle.pas_same_text.proofs.{SameLocals.for_same, Slots.has_grain, Slots.cached_any, Slots.any_cached, Tests.or_none, Tests.and_more, Tests.weaker_at}
+use Rattle.pas_same_text.proofs.{Slots.has_grain, Slots.cached_any, Slots.any_cached, Tests.or_none, Tests.and_more, Tests.weaker_at}
 
 -- ---- one local allocator of a heap and class
 abbrev pub AreUnique : List Local → Type 0

@@ -6,18 +6,17 @@ use Rattle.pas_bits.specs.Bits.{has_bit}
 use Rattle.pas_bits.proofs.PageVectors.{page_bit-set, page_bit-clear}
 use Rattle.pas_profile.specs.{Directories.number_of, Layouts.same_word, Profiles.IsPage}
 use Rattle.pas_profile.specs.declared.{directory.Directory.Directory, profile.Profile.Profile, word.Word.Word}
-use Rattle.pas_steps.specs.{Allowed.IsStepOf, Desks.triples, Effects.target, Effects.new_value, Effects.free_word_at, Frames.OnlyReturns, Frames.IsReturn}
-use Rattle.pas_steps.specs.{Past.Once, Past.Always, Views.epoch_of}
+use Rattle.pas_steps.specs.{Allowed.IsStepOf, Desks.triples, Effects.target, Effects.new_value, Frames.OnlyReturns, Frames.IsReturn, Past.Once, Past.Always}
+use Rattle.pas_steps.specs.{Views.epoch_of}
 use Rattle.pas_steps.specs.Kinds.{Kinds, kind_of, place_of, is_in, apart, Only, Taking, Backing, Unbacking, Hinting, Unhinting, Offering, Ticking}
 use Rattle.pas_steps.specs.Lists.{Whole, part, word_after, Legal}
 use Rattle.pas_steps.specs.declared.step.{Made.Made, Step.Step}
-use Rattle.pas_steps.specs.declared.step.Step.TheVariants.{Look, Back, Put, TakeRight, Offer, Hint, Tick, Unback, Unhint}
-use Rattle.pas_steps.proofs.{Apart.in_apart, Past.since_once, Flags.stays_set}
+use Rattle.pas_steps.specs.declared.step.Step.TheVariants.{Look, TakeRight, Offer, Hint, Unhint}
+use Rattle.pas_steps.proofs.{Apart.in_apart, Past.since_once, Past.always_map}
 use Rattle.pas_core.specs.{Rights.empty_bit, Rights.eligible_bit, Hints.IsEmptyBacked}
 use Rattle.pas_core.proofs.{Deeds.looked, OneActor.free_stays}
 use Rattle.pas_rights.specs.Looks.{ReadsBacked, ReadsAllFree, TakesNone, ReadsEmpty, HintsEmpty}
 use Rattle.pas_rights.specs.PutsBack.{GivesDuly}
-use Rattle.pas_rights.proofs.Hints.{due_later}
 use Rattle.pas_same_text.proofs.Tests.{eqb_itself}
 
 -- ---- a word that steps of some kinds leave as it is said
@@ -168,8 +167,7 @@ hints_none ks (m ∷ xs) out only = (hint_step m xs (in_apart ks (Hinting ∷ []
 
 -- Steps that give duly hint only pages that they read as backed and empty.
 pub hints_of : (xs : List Made) → Always GivesDuly xs → Always HintsEmpty xs
-hints_of [] due = tt
-hints_of (m ∷ xs) due = (due.0.0, hints_of xs due.1)
+hints_of xs due = always_map GivesDuly HintsEmpty xs (λ m before h. h.0) due
 
 pub record WasRead (page : ℕ) (xs : List Made) : Type 0 where
   pub backed : Once (ReadsBacked page) xs
@@ -187,8 +185,8 @@ hint_read page (m ∷ xs) hints (inl h) =
 
 module _ (ks : Kinds) (f : Profile) (k : ℕ) (l : Whole) (page : ℕ) (no_take : apart ks (Taking ∷ []) ≡ true)
     (no_back : apart ks (Backing ∷ Unbacking ∷ []) ≡ true) where
-  -- what was read as free is so still
-  free_read : (word b : ℕ) (xs : List Made) → Legal f (triples k xs ++ l) → Only ks xs → b < 64 → Once (ReadsAllFree page word) xs
+  -- What was read as free is so still.
+  pub free_read : (word b : ℕ) (xs : List Made) → Legal f (triples k xs ++ l) → Only ks xs → b < 64 → Once (ReadsAllFree page word) xs
       → has_bit (word_after (triples k xs ++ l) (Word.Free page word)) b ≡ true
   free_read word b [] legal only small h = absurd h
   free_read word b (m ∷ xs) legal only small (inr h) = free_stays ks no_take k (m ∷ []) (triples k xs ++ l) page word b (only.0, tt) (free_read word b xs legal.1 only.1 small h)

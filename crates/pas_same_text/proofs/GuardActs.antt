@@ -9,7 +9,7 @@ use Rattle.pas_steps.specs.declared.step.Made.{Made}
 use Rattle.pas_steps.proofs.Parts.{part_of_own}
 use Rattle.pas_core.proofs.OneActor.{legal_before, legal_earlier}
 use Rattle.pas_cache.specs.Contents.{Cached}
-use Rattle.pas_large.specs.{Doors.Indexes, Doors.found_in, Finds.MayFind}
+use Rattle.pas_large.specs.Doors.{Indexes, found_in}
 use Rattle.pas_guard.specs.Raises.{IsRaised, IsNotRaised}
 use Rattle.pas_guard.specs.declared.book.Guard.{Guard as BookGuard}
 use Rattle.pas_report.specs.declared.record.{Record.Record, Said.Said}
@@ -24,7 +24,7 @@ use Rattle.pas_same_text.specs.{Same.IsSame, Acts.IsBetween, Known.IsKnown, Know
 use Rattle.pas_same_text.proofs.{KeepersRest.book_finds, LowerActs.sweep_same, LowerActs.ended_text, MissedGuards.missed_same, PagesRequests.pages_answered}
 use Rattle.pas_same_text.proofs.{PagesRequests.named_large, RaisedGuards.raised_same, ReadyPages.shown, RunEvents.deeded, RunEvents.deeds_of}
 use Rattle.pas_same_text.proofs.{SameIndexes.request_indexes, SameIndexes.all_lowered_keep, Seats.thread_of, Seats.keeper_of, StillIndexes.each_keeps}
-use Rattle.pas_same_text.proofs.{StillIndexes.backs_keep, StillIndexes.same_indexes, TriedRuns.sought_text, TriedRuns.missed_text}
+use Rattle.pas_same_text.proofs.{StillIndexes.backs_keep, StillIndexes.same_indexes, TriedRuns.sought_text, TriedRuns.missed_text, TriedRuns.IsSought}
 use Rattle.pas_same_text.proofs.SeatedActs.{own_book, other_book, swept, swept_between, raise_legal, raise_fits, sweep_and_raise_are_the_try, tried_between}
 
 -- deeds change no index
@@ -84,25 +84,26 @@ module _ (threads : ℕ) (f : Profile) (keeper line k other name heap size align
     abbrev xs : List Made
     xs = h.raise.searched
 
-    abbrev rest : List Made
-    rest = h.raise.after
-
     between : IsBetween f pm
     between = swept_between f keeper r p t valid keeps known.taken.before uncached h legal
 
-    same_m : IsSame f pm wm
-    same_m = subst (IsSame f pm) (sym (ended_text f keeper p w known.taken.same)) (sweep_same f keeper false p w h.swept h.left h.lowered valid keeps known.taken.before known.taken.same h.sweep between)
-
-    legal_raise : Legal f (triples keeper (rest ++ xs) ++ pm.list)
+    legal_raise : Legal f (triples keeper (h.raise.after ++ xs) ++ pm.list)
     legal_raise = subst (λ (ms : List Made). Legal f (triples keeper ms ++ pm.list)) h.raise.steps_are (raise_legal f keeper r p t valid keeps known.taken.before uncached h legal)
 
-    legal_search : Legal f (triples keeper xs ++ pm.list)
-    legal_search = legal_earlier f keeper rest xs pm.list legal_raise
+    sought : IsSought f keeper heap n pm wm xs
+    sought = record {
+      valid = valid;
+      between = between;
+      same = subst (IsSame f pm) (sym (ended_text f keeper p w known.taken.same)) (sweep_same f keeper false p w h.swept h.left h.lowered valid keeps known.taken.before known.taken.same h.sweep between);
+      of = of;
+      legal = legal_earlier f keeper h.raise.after xs pm.list legal_raise;
+      kinds = h.raise.kinds;
+      rise = h.raise.rise;
+      due = h.raise.returns;
+      met = book_finds f heap h.left (part keeper pm.list) (raise_fits f keeper r p t valid keeps known.taken.before uncached h legal);
+    }
 
-    met : MayFind d (part keeper pm.list)
-    met = book_finds f heap h.left (part keeper pm.list) (raise_fits f keeper r p t valid keeps known.taken.before uncached h legal)
-
-    lists_are : triples keeper t.steps ++ p.list ≡ triples keeper (rest ++ xs) ++ pm.list
+    lists_are : triples keeper t.steps ++ p.list ≡ triples keeper (h.raise.after ++ xs) ++ pm.list
     lists_are = sym (sweep_and_raise_are_the_try f keeper r p t valid keeps known.taken.before uncached h legal) ∙ ap (λ (ms : List Made). triples keeper ms ++ pm.list) h.raise.steps_are
 
     book_before : pm.books keeper ≡ h.left
@@ -110,10 +111,10 @@ module _ (threads : ℕ) (f : Profile) (keeper line k other name heap size align
 
     -- the records after those of the sweep
     abbrev own_events : List Event
-    own_events = events_by keeper (part keeper pm.list) (rest ++ xs)
+    own_events = events_by keeper (part keeper pm.list) (h.raise.after ++ xs)
 
     events_same : events_by keeper (h.swept ++ part keeper p.list) h.raised ≡ own_events
-    events_same = ap (events_by keeper (h.swept ++ part keeper p.list)) h.raise.steps_are ∙ ap (λ (v : View). events_by keeper v (rest ++ xs)) (sym (part_of_own keeper h.swept p.list))
+    events_same = ap (events_by keeper (h.swept ++ part keeper p.list)) h.raise.steps_are ∙ ap (λ (v : View). events_by keeper v (h.raise.after ++ xs)) (sym (part_of_own keeper h.swept p.list))
 
     records_after : p.records ++ t.records ≡ pm.records ++ (records_of own_events ++ said_of_guard keeper name n t.block)
     records_after = search (arith, append_assoc, events_same)
@@ -145,12 +146,12 @@ module _ (threads : ℕ) (f : Profile) (keeper line k other name heap size align
         ap (λ (x : ℕ). Record.Said keeper (Said.Guarded x (address_of block.name / 4096 + n) name) ∷ []) low ∙ ap (λ (x : ℕ). Record.Said keeper (Said.Guarded run.first x name) ∷ []) high
 
     up_same : IsSame f q (raises keeper name heap run.first n (shown (deeds_of keeper d (deeded h.raise.searched)) wm))
-    up_same = raised_same f keeper name heap n before q wm valid (between t h there.legal) (same_m t h there.legal) of h.raise.searched h.raise.after block guards' (legal_search t h there.legal) h.raise.kinds h.raise.rise h.raise.returns (met t h there.legal) run there
+    up_same = raised_same name (sought t h there.legal) run there
         (lists_are t h there.legal) refl (own_book p.books keeper guards') (λ j ne. other_book p.books keeper j guards' ne ∙ sym (other_book p.books keeper j h.left ne)) refl
         (records_after t h there.legal ∙ ap (λ (rs : List Record). before.records ++ (records_of (own_events t h there.legal) ++ rs)) said_is) refl
 
     up_text : guards f keeper k (Some r) w ≡ raises keeper name heap run.first n (shown (deeds_of keeper d (deeded h.raise.searched)) wm)
-    up_text = sought_text f keeper heap n before wm valid (between t h there.legal) (same_m t h there.legal) of h.raise.searched (legal_search t h there.legal) h.raise.kinds h.raise.rise h.raise.returns (met t h there.legal) run.first run.found k name
+    up_text = sought_text (sought t h there.legal) run.first run.found k name
 
     up_act : IsSame f p' (guards f keeper k (Some r) w) × ((guards f keeper k (Some r) w).indexes ≡ indexes)
     up_act = (
@@ -187,13 +188,13 @@ module _ (threads : ℕ) (f : Profile) (keeper line k other name heap size align
     searched_all = ap (λ (ms : List Made). ms ++ h.raise.searched) missed.nothing
 
     same_left : IsSame f left tried
-    same_left = missed_same f keeper heap n after_sweep left wm valid (between none h legal_left) (same_m none h legal_left) of h.raise.searched (legal_search none h legal_left) h.raise.kinds h.raise.rise h.raise.returns (met none h legal_left) missed.found left_between
+    same_left = missed_same (sought none h legal_left) missed.found left_between
         (lists_are none h legal_left ∙ ap (λ (ms : List Made). triples keeper ms ++ after_sweep.list) searched_all) refl (ap (with_book p.books keeper) missed.same) refl
         (records_after none h legal_left ∙ ap (λ (rs : List Record). after_sweep.records ++ rs) (append-nil (records_of (own_events none h legal_left)) ∙ ap (λ (ms : List Made). records_of (events_by keeper (part keeper after_sweep.list) ms)) searched_all)) refl
 
     down_text : guards f keeper k (Some r) w ≡ serves f k name heap (route_in f size align) (room_in f size align) align tried
     down_text =
-        missed_text f keeper heap n after_sweep wm valid (between none h legal_left) (same_m none h legal_left) of h.raise.searched (legal_search none h legal_left) h.raise.kinds h.raise.rise h.raise.returns (met none h legal_left) missed.found k name
+        missed_text (sought none h legal_left) missed.found k name
         ∙ ap (λ (way : Route). serves f k name heap way (room_in f size align) align tried) (sym route)
 
     tried_indexes : tried.indexes ≡ indexes
@@ -202,8 +203,9 @@ module _ (threads : ℕ) (f : Profile) (keeper line k other name heap size align
     down_act : IsSame f p' (guards f keeper k (Some r) w) × ((guards f keeper k (Some r) w).indexes ≡ after_tried f op r None left p' is indexes)
     down_act = (
       subst (λ (x : World). IsSame f p' x) (sym down_text)
-          (pages_answered f k name heap size align left p' tried thread admitted route valid left_between known.taken.after same_left is.0 is.1 is.2
-          (named_large f r indexes is.0.found route named ∙ ap (λ (ix : Indexes). found_in ix heap n) (sym tried_indexes))),
+          (subst (λ (x : Progress). IsSame f x (serves f k name heap (route_in f size align) (room_in f size align) align tried)) (sym is.2)
+          (pages_answered f k name heap size align left is.0 tried admitted route (record { valid = valid; thread = thread; before = left_between; after = subst (IsBetween f) is.2 known.taken.after; same = same_left; served = is.1 })
+          (named_large f r indexes is.0.found route named ∙ ap (λ (ix : Indexes). found_in ix heap n) (sym tried_indexes)))),
       ap (λ (x : World). x.indexes) down_text ∙ (request_indexes f k name heap (route_in f size align) (room_in f size align) align tried ∙ ap (λ (ix : Indexes). after_request (route_in f size align) heap n ix) tried_indexes),
     )
 

@@ -1,35 +1,82 @@
--- A KEEPER RESTS after its calls, and so do all others.
-use Rattle.std.proofs.Common.{◌≡◌, ℕ, ◌+◌, ◌/◌, ◌<◌, ◌≤◌, ◌==◌, Bool, true, false, not, ◌||◌, if◌then◌else◌, List, [], ◌∷◌, ◌++◌, Option, None, Some, ◌⊎◌, inl}
-use Rattle.std.proofs.Common.{inr, refl, ap, sym, ◌∙◌, subst, arith, eqb-true, All}
-use Rattle.std.proofs.lemmas.{Bool.eqb-false, Bool.or_cases, Bool.or_right, List.Elements.All-nil}
+-- OUTER PAGES STAY BARE: whom nothing lets back a page, and what a keeper does that raises a guard.
+use Rattle.std.proofs.Common.{◌≡◌, ℕ, ◌/◌, ◌==◌, Bool, true, false, if◌then◌else◌, List, [], ◌∷◌, ◌++◌, inl, inr, ap, sym, ◌∙◌, subst, arith, true≢false}
+use Rattle.std.proofs.Common.{eqb-true, eq-eqb, ◌+◌, ◌<◌, ◌≤◌, not, ◌||◌, Option, None, Some, ◌⊎◌, refl, All}
+use Rattle.std.proofs.lemmas.Bool.{cases_Bool, eqb-false, or_cases, or_right}
+use Rattle.pas_profile.specs.{Layouts.same_word, Profiles.IsValid}
+use Rattle.pas_profile.specs.declared.{profile.Profile.Profile, word.Word.Word, name.Block.Block}
+use Rattle.pas_machine.specs.State.{backed_in}
+use Rattle.pas_steps.specs.{Allowed.Allowed, Desks.triples, Effects.target, Effects.new_value, Past.Since, Views.View, Views.holds, Views.epoch_of}
+use Rattle.pas_steps.specs.{Clear.HasNothing, Kinds.Giving, Kinds.LookLife, Kinds.returning}
+use Rattle.pas_steps.specs.Lists.{Whole, part, word_after, visible, Legal}
+use Rattle.pas_steps.specs.declared.step.{Made.Made, Step.Step, Step.TheVariants.Back}
+use Rattle.pas_steps.proofs.{Parts.part_of_others, Parts.part_of_own, Adding.triples_append, Past.always_map}
+use Rattle.pas_core.specs.Good.{word_of_backed}
+use Rattle.pas_core.proofs.{Grains.one_holder, MachineRuns.agrees, Nexts.agreed_steps, OneActor.legal_earlier}
+use Rattle.pas_guard.specs.{Evidence.BackedReadHere, Seeks.LeftSince, Keepers.IsBeside, Sweeps.sweeping, Sweeps.SweepSteps, Raises.BacksNot, Raises.guard_of}
+use Rattle.pas_guard.specs.{Raises.RaiseSteps}
+use Rattle.std.proofs.lemmas.List.Elements.{All-nil}
 use Rattle.std.specs.List.{filter}
 use Rattle.pas_guard.proofs.{Raises.no_backs, Raises.each_more, Raises.backs_both, Raised.raised_pages, Raised.raised_leaves}
-use Rattle.pas_profile.specs.{Blocks.address_of, Profiles.IsValid}
-use Rattle.pas_profile.specs.declared.{name.Block.Block, profile.Profile.Profile, word.Word.Word}
-use Rattle.pas_machine.specs.State.{backed_in}
-use Rattle.pas_steps.specs.{Clear.HasNothing, Desks.triples, Kinds.Giving, Kinds.LookLife, Kinds.returning, Past.Since, Views.View}
-use Rattle.pas_steps.specs.Lists.{Whole, part, word_after, visible, Legal}
-use Rattle.pas_steps.specs.declared.step.Made.{Made}
-use Rattle.pas_steps.proofs.{Parts.part_of_own, Parts.part_of_others, Adding.triples_append}
-use Rattle.pas_core.proofs.{Nexts.agreed_steps, OneActor.legal_earlier}
 use Rattle.pas_cache.specs.{Contents.Cached, Locals.any_covers, Locals.any_keeps, Locals.IsLocal}
 use Rattle.pas_segregated.specs.declared.slots.Slots.{Slots}
 use Rattle.pas_rights.specs.Gives.{give_steps}
 use Rattle.pas_large.specs.Finds.{MayFind}
 use Rattle.pas_large.proofs.InOrder.{BacksIn}
 use Rattle.pas_guard.specs.Books.{is_outer_of, is_outer, Each, FitsBook}
-use Rattle.pas_guard.specs.{Evidence.BackedReadHere, Keepers.IsBeside, Seeks.LeftSince, Sweeps.sweeping, Sweeps.SweepSteps}
-use Rattle.pas_guard.specs.Raises.{guard_of, BacksNot, IsRaised, RaiseSteps}
 use Rattle.pas_guard.specs.declared.book.Guard.{Guard}
 use Rattle.pas_report.specs.declared.record.Record.{Record}
 use Rattle.pas_trace.specs.EveryPlan.{IsThread}
 use Rattle.pas_answers.specs.Answers.{Books, Progress}
 use Rattle.pas_one_text.specs.Runs.{large_of}
 use Rattle.pas_same_text.specs.Acts.{IsResting, AreResting, IsBetween}
-use Rattle.pas_same_text.proofs.BarePages.{bare_on, held_unbacked, bare_since, bare_events, bare_word}
 use Rattle.pas_same_text.proofs.{FreeGrains.outer_held, LoweredGuards.some_outer, SweptGuards.IsSwept, SweptGuards.swept_told, SweptGuards.goes_down}
 use Rattle.pas_same_text.proofs.{Tests.or_none, Tests.eqb_turned}
 
+-- ---- one step: only a back makes a page that isn't backed a backed one
+stays_bare : (e : ℕ) (s : Step) (page old : ℕ) → (s ≡ Back page → ⊥) → old ≡ 0
+    → (if same_word (target s) (Word.Backed page) then new_value e s old else old) ≡ 0
+stays_bare e s page old not h = search (arith, cases_Bool, eqb-true)
+
+-- ---- steps of one actor
+pub bare_on : (f : Profile) (k page : ℕ) (xs : List Made) (l : Whole) → Legal f (triples k xs ++ l) → BacksNot page xs → word_after l (Word.Backed page) ≡ 0
+    → word_after (triples k xs ++ l) (Word.Backed page) ≡ 0
+bare_on f k page [] l legal backs zero = zero
+bare_on f k page (m ∷ xs) l legal backs zero =
+    stays_bare (epoch_of (part k (triples k xs ++ l))) m.step page (word_after (triples k xs ++ l) (Word.Backed page)) backs.0 (bare_on f k page xs l legal.1 backs.1 zero)
+
+-- nobody backs a page all of whose grains another holds
+pub held_unbacked : (f : Profile) (k j page : ℕ) (xs : List Made) (l : Whole) → IsValid f → Legal f (triples k xs ++ l) → (k == j) ≡ false
+    → ((g : ℕ) → g / 256 ≡ page → holds (part j l) g ≡ true) → BacksNot page xs
+held_unbacked f k j page [] l valid legal other held = tt
+held_unbacked f k j page (m ∷ xs) l valid legal other held = (
+  λ e. (let may = subst (Allowed f (part k (triples k xs ++ l))) e legal.0.allowed in
+      let on = may.0 in
+      let its : holds (part j (triples k xs ++ l)) on.0 ≡ true = ap (λ (v : View). holds v on.0) (part_of_others j k xs l (λ same. true≢false (sym (eq-eqb k j same) ∙ other))) ∙ held on.0 on.1 in
+      true≢false (sym (one_holder f (triples k xs ++ l) valid legal.1 k j on.0 on.2 its) ∙ other)),
+  held_unbacked f k j page xs l valid legal.1 other held,
+)
+
+-- where the page was read as not backed, and left alone since
+pub bare_since : (f : Profile) (k page : ℕ) (v : View) (xs : List Made) (l : Whole) → Legal f (triples k xs ++ l)
+    → Since (BackedReadHere v page 0) (LeftSince page) xs → word_after (triples k xs ++ l) (Word.Backed page) ≡ 0
+bare_since f k page v [] l legal since = absurd since
+bare_since f k page v (m ∷ xs) l legal (inl read) = search (arith, stays_bare)
+bare_since f k page v (m ∷ xs) l legal (inr later) =
+    stays_bare (epoch_of (part k (triples k xs ++ l))) m.step page (word_after (triples k xs ++ l) (Word.Backed page)) later.0.unbacked (bare_since f k page v xs l legal.1 later.1)
+
+-- ---- words and events
+none_backed : (b : Bool) → 0 ≡ word_of_backed b → b ≡ false
+none_backed b h = grind arith
+
+-- A page whose backed word is 0 isn't backed by the events of a legal list.
+pub bare_events : (f : Profile) (l : Whole) (page : ℕ) → IsValid f → Legal f l → word_after l (Word.Backed page) ≡ 0 → backed_in (visible l) page ≡ false
+bare_events f l page valid legal zero = none_backed (backed_in (visible l) page) (sym zero ∙ (agrees f l valid legal).backed page)
+
+-- A page that isn't backed by the events of a legal list has 0 in its backed word.
+pub bare_word : (f : Profile) (l : Whole) (page : ℕ) → IsValid f → Legal f l → backed_in (visible l) page ≡ false → word_after l (Word.Backed page) ≡ 0
+bare_word f l page valid legal none = (agrees f l valid legal).backed page ∙ ap word_of_backed none
+
+-- ==== A KEEPER RESTS after its calls, and so do all others.
 -- ---- an actor without slots rests with its book
 fitted : (f : Profile) (c : Cached) (old left : List Guard) (v w : View) → c.locals ≡ [] → IsResting f c old v → FitsBook f left w → IsResting f c left w
 fitted f c old left v w none rest fits = record {
@@ -139,8 +186,7 @@ outer_last (x ∷ gs) g page h = elim (or_cases (is_outer_of x page) (is_outer (
 ]
 
 backs_beside : (first end page : ℕ) (xs : List Made) → BacksIn first end xs → ((first ≤ page) × (page < end) → ⊥) → BacksNot page xs
-backs_beside first end page [] backs out = tt
-backs_beside first end page (m ∷ xs) backs out = (λ e. out (backs.0 page e), backs_beside first end page xs backs.1 out)
+backs_beside first end page xs backs out = always_map _ (λ m before. m.step ≡ Back page → ⊥) xs (λ m before h e. out (h page e)) backs
 
 -- A keeper that fits its book may search for a run of its heap's large pages.
 pub book_finds : (f : Profile) (heap : ℕ) (gs : List Guard) (v : View) → FitsBook f gs v → MayFind (large_of heap) v
@@ -155,38 +201,36 @@ module _ (f : Profile) (keeper heap n : ℕ) (l : Whole) (guards guards' : List 
   -- its own outer pages, from the search on
   module _ (block : Block) (steps : List Made) (raise : RaiseSteps f heap n guards guards' (Some block) steps) (legal : Legal f (triples keeper steps ++ l))
     where
-      abbrev r : IsRaised f (large_of heap) n guards guards' raise.searched raise.after block
-      r = raise.outcome
-
       whole : Legal f (triples keeper (raise.after ++ raise.searched) ++ l)
       whole = subst (λ (ms : List Made). Legal f (triples keeper ms ++ l)) raise.steps_are legal
 
       search_legal : Legal f (triples keeper raise.searched ++ l)
       search_legal = legal_earlier f keeper raise.after raise.searched l whole
 
-      after_bare : (page : ℕ) → ((r.first + 1 ≤ page) × (page < r.first + 1 + n) → ⊥) → BacksNot page raise.after
-      after_bare page out = subst (BacksNot page) (sym r.after_is)
-          (backs_both page r.left (give_steps (r.first + 1) 0 block r.word r.answer ++ r.backs) (no_backs returning page r.left refl (raised_leaves r))
-          (backs_both page (give_steps (r.first + 1) 0 block r.word r.answer) r.backs (no_backs (Giving ∷ LookLife ∷ []) page (give_steps (r.first + 1) 0 block r.word r.answer) refl (refl, (refl, tt)))
-          (backs_beside (r.first + 1) (r.first + 1 + n) page r.backs (raised_pages r) out)))
+      after_bare : (page : ℕ) → ((raise.outcome.first + 1 ≤ page) × (page < raise.outcome.first + 1 + n) → ⊥) → BacksNot page raise.after
+      after_bare page out = subst (BacksNot page) (sym raise.outcome.after_is)
+          (backs_both page raise.outcome.left (give_steps (raise.outcome.first + 1) 0 block raise.outcome.word raise.outcome.answer ++ raise.outcome.backs) (no_backs returning page raise.outcome.left refl (raised_leaves raise.outcome))
+          (backs_both page (give_steps (raise.outcome.first + 1) 0 block raise.outcome.word raise.outcome.answer) raise.outcome.backs (no_backs (Giving ∷ LookLife ∷ []) page (give_steps (raise.outcome.first + 1) 0 block raise.outcome.word raise.outcome.answer) refl (refl, (refl, tt)))
+          (backs_beside (raise.outcome.first + 1) (raise.outcome.first + 1 + n) page raise.outcome.backs (raised_pages raise.outcome) out)))
 
-      own_bare : (page : ℕ) → ((r.first + 1 ≤ page) × (page < r.first + 1 + n) → ⊥) → word_after (triples keeper raise.searched ++ l) (Word.Backed page) ≡ 0
+      own_bare : (page : ℕ) → ((raise.outcome.first + 1 ≤ page) × (page < raise.outcome.first + 1 + n) → ⊥)
+          → word_after (triples keeper raise.searched ++ l) (Word.Backed page) ≡ 0
           → word_after (triples keeper steps ++ l) (Word.Backed page) ≡ 0
       own_bare page out zero =
           subst (λ (ms : List Made). word_after (triples keeper ms ++ l) (Word.Backed page) ≡ 0) (sym raise.steps_are)
           (subst (λ (m : Whole). word_after m (Word.Backed page) ≡ 0) (triples_append keeper raise.after raise.searched l)
           (bare_on f keeper page raise.after (triples keeper raise.searched ++ l) (subst (Legal f) (sym (triples_append keeper raise.after raise.searched l)) whole) (after_bare page out) zero))
 
-      read_bare : Since (BackedReadHere (part keeper l) r.first 0) (LeftSince r.first) raise.searched
-          × Since (BackedReadHere (part keeper l) (r.first + n + 1) 0) (LeftSince (r.first + n + 1)) raise.searched
-      read_bare = r.found.bare (part keeper l) (book_finds f heap guards (part keeper l) fits) (agreed_steps f keeper l raise.searched valid search_legal)
+      read_bare : Since (BackedReadHere (part keeper l) raise.outcome.first 0) (LeftSince raise.outcome.first) raise.searched
+          × Since (BackedReadHere (part keeper l) (raise.outcome.first + n + 1) 0) (LeftSince (raise.outcome.first + n + 1)) raise.searched
+      read_bare = raise.outcome.found.bare (part keeper l) (book_finds f heap guards (part keeper l) fits) (agreed_steps f keeper l raise.searched valid search_legal)
 
-      guard_bare : (page : ℕ) → is_outer_of (guard_of r.first n block) page ≡ true → word_after (triples keeper steps ++ l) (Word.Backed page) ≡ 0
-      guard_bare page outer = elim (or_cases (r.first == page) (r.first + n + 1 == page) outer) [
-        | inl low ↦ subst (λ (q : ℕ). word_after (triples keeper steps ++ l) (Word.Backed q) ≡ 0) (eqb-true r.first page low)
-            (own_bare r.first (λ out. omega (arith, out.0)) (bare_since f keeper r.first (part keeper l) raise.searched l search_legal read_bare.0))
-        | inr high ↦ subst (λ (q : ℕ). word_after (triples keeper steps ++ l) (Word.Backed q) ≡ 0) (eqb-true (r.first + n + 1) page high)
-            (own_bare (r.first + n + 1) (λ out. omega (arith, out.1)) (bare_since f keeper (r.first + n + 1) (part keeper l) raise.searched l search_legal read_bare.1))
+      guard_bare : (page : ℕ) → is_outer_of (guard_of raise.outcome.first n block) page ≡ true → word_after (triples keeper steps ++ l) (Word.Backed page) ≡ 0
+      guard_bare page outer = elim (or_cases (raise.outcome.first == page) (raise.outcome.first + n + 1 == page) outer) [
+        | inl low ↦ subst (λ (q : ℕ). word_after (triples keeper steps ++ l) (Word.Backed q) ≡ 0) (eqb-true raise.outcome.first page low)
+            (own_bare raise.outcome.first (λ out. omega (arith, out.0)) (bare_since f keeper raise.outcome.first (part keeper l) raise.searched l search_legal read_bare.0))
+        | inr high ↦ subst (λ (q : ℕ). word_after (triples keeper steps ++ l) (Word.Backed q) ≡ 0) (eqb-true (raise.outcome.first + n + 1) page high)
+            (own_bare (raise.outcome.first + n + 1) (λ out. omega (arith, out.1)) (bare_since f keeper (raise.outcome.first + n + 1) (part keeper l) raise.searched l search_legal read_bare.1))
       ]
 
   old_bare : (answer : Option Block) (steps : List Made) (raise : RaiseSteps f heap n guards guards' answer steps) → Legal f (triples keeper steps ++ l)

@@ -1,12 +1,12 @@
 -- GUARDS GO DOWN: a sweep of a keeper, in the replay and in the text.
-use Rattle.std.proofs.Common.{◌≡◌, ◌≢◌, ℕ, ◌+◌, ◌*◌, ◌/◌, ◌==◌, nat_lt, Bool, true, false, if◌then◌else◌, List, [], ◌∷◌, ◌++◌, map, reverse, Some, inl, inr}
-use Rattle.std.proofs.Common.{refl, ap, sym, ◌∙◌, subst, arith, eqb-true}
+use Rattle.std.proofs.Common.{◌≡◌, ◌≢◌, ℕ, ◌+◌, ◌*◌, ◌/◌, ◌==◌, Bool, true, false, if◌then◌else◌, List, [], ◌∷◌, ◌++◌, map, reverse, Some, inl, inr, refl, ap}
+use Rattle.std.proofs.Common.{sym, ◌∙◌, subst, arith, eqb-true}
 use Rattle.std.proofs.lemmas.Bool.{false≢true, eqb-false, or_cases, false_from_ne_true}
 use Rattle.std.specs.List.{filter}
-use Rattle.pas_profile.specs.{Blocks.address_of, Directories.deed_word_of, Profiles.IsValid, Profiles.IsDirectoryOf}
+use Rattle.pas_profile.specs.{Directories.deed_word_of, Profiles.IsValid, Profiles.IsDirectoryOf}
 use Rattle.pas_profile.specs.declared.{directory.Directory.Directory, event.Event.Event, profile.Profile.Profile, word.Word.Word}
 use Rattle.pas_profile.proofs.Codecs.{same_from_deed_word}
-use Rattle.pas_machine.specs.State.{live_in, deed_in, ends_in}
+use Rattle.pas_machine.specs.State.{live_in, deed_in}
 use Rattle.pas_steps.specs.Desks.{triples}
 use Rattle.pas_steps.specs.Lists.{part, word_after, visible, Legal}
 use Rattle.pas_steps.specs.Views.{View, holds, KnowsDeed, usable_by_kind}
@@ -21,8 +21,7 @@ use Rattle.pas_guard.specs.Sweeps.{sweeping, SweepSteps}
 use Rattle.pas_guard.specs.declared.book.Guard.{Guard as BookGuard}
 use Rattle.pas_trace.specs.{Acts.Act, EveryPlan.IsThread}
 use Rattle.pas_answers.specs.{Answers.Progress, Answers.with_book, Answers.with_records, Guarding.after_lowering}
-use Rattle.pas_one_text.specs.{State.Guard, State.World, State.each, Pages.is_of, Runs.large_of}
-use Rattle.pas_one_text.specs.Guards.{is_over, lowers, lowers_ended, lowers_all}
+use Rattle.pas_one_text.specs.{State.Guard, State.World, State.each, Pages.is_of, Runs.large_of, Guards.lowers, Guards.lowers_ended, Guards.lowers_all}
 use Rattle.pas_same_text.specs.Same.{told_guard, IsSame, HasSame, AreSameCaches, lives_in}
 use Rattle.pas_same_text.specs.{Acts.IsBetween, Acts.StaysSame, Words.free_bit}
 use Rattle.pas_same_text.proofs.{Flushes.unshown, GivingBack.hint_marks, GivingBack.offer_marks, GivingBack.epoch_stays_by, RestingPages.is_open}

@@ -1,6 +1,6 @@
 -- GUARDS ARE LOWERED in the text: their outer pages are anybody's again, and nothing else changes but hints.
 use Rattle.std.proofs.Common.{arith, ◌≡◌, ℕ, ◌==◌, Bool, true, false, not, ◌||◌, if◌then◌else◌, List, [], ◌∷◌, ◌++◌, map, reverse, inl, inr, refl, ap, sym, ◌∙◌}
-use Rattle.std.proofs.Common.{subst, append_assoc, append-nil, true≢false, eq-eqb, eqb-true}
+use Rattle.std.proofs.Common.{append_assoc, append-nil, true≢false, eq-eqb, eqb-true}
 use Rattle.std.proofs.lemmas.Bool.{false≢true, or_cases, or_left, or_right, false_from_ne_true, or_parts}
 use Rattle.std.specs.List.{list_any, filter}
 use Rattle.pas_profile.specs.Profiles.{IsPage}
@@ -11,8 +11,7 @@ use Rattle.pas_guard.specs.declared.book.Guard.{Guard as BookGuard}
 use Rattle.pas_one_text.specs.{State.Guard, State.World, State.each, Pages.is_guarded, Pages.minds, Guards.without_guard, Guards.lowers}
 use Rattle.pas_same_text.specs.Same.{told_guard, has_number}
 use Rattle.pas_same_text.proofs.GivenBack.{Returns, OnlyHints, returns_nothing, returns_then, returns_like, minded_last, all_only_hints}
-use Rattle.pas_same_text.proofs.{OuterPages.has_outer, SmallActs.records_next, StillIndexes.same_guards, StillIndexes.minds_keep, Tests.or_none}
-use Rattle.pas_same_text.proofs.{Tests.eqb_turned}
+use Rattle.pas_same_text.proofs.{Holders.has_outer, SmallActs.records_next, StillIndexes.same_guards, StillIndexes.minds_keep, Tests.eqb_turned}
 
 -- ---- which pages come back, what is said, and which guards are left
 abbrev pub outer_pages : List Guard → List ℕ

@@ -19,9 +19,9 @@ use Rattle.pas_answers.specs.Answers.{Progress}
 use Rattle.pas_one_text.specs.State.{Local, World, locals_of}
 use Rattle.pas_one_text.specs.Classes.{is_for, others, gives_up, gives_up_first, makes_place}
 use Rattle.pas_same_text.specs.{Same.IsSame, Same.AreSameLocals, Acts.IsBetween}
-use Rattle.pas_same_text.proofs.{CachedSlots.found_passes, CacheLists.same_kept, GivenUp.AreUnique, GivenUp.unique_of, GivenUp.no_other_counted, OneUp.up_to}
-use Rattle.pas_same_text.proofs.{OneUp.given_up_same, Tests.and_first, Tests.and_second}
-use Rattle.pas_same_text.proofs.SameLocals.{Finds, for_same, found_same, others_same}
+use Rattle.pas_same_text.proofs.{CachedSlots.found_passes, GivenUp.AreUnique, GivenUp.unique_of, GivenUp.no_other_counted, OneUp.up_to, OneUp.given_up_same}
+use Rattle.pas_same_text.proofs.{Tests.and_first, Tests.and_second}
+use Rattle.pas_same_text.proofs.CacheLists.{same_kept, Finds, for_same, found_same, others_same}
 
 -- ---- lists of local allocators
 none_next : (heap class : ℕ) (s : Slots) (l : Local) (rest : Option Slots) (other : Option Local) (t : Bool) → is_for_slots heap class s ≡ t

@@ -1,35 +1,33 @@
 -- NO GUARD GOES UP: the search of a keeper found no run. The pages whose deeds it made are free then, and offered; all else is as it was.
-use Rattle.std.proofs.Common.{◌≡◌, ℕ, ◌+◌, ◌*◌, ◌/◌, ◌<◌, ◌==◌, Bool, true, false, ◌||◌, if◌then◌else◌, List, [], ◌∷◌, ◌++◌, Some, inl, inr, refl, ap, sym, ◌∙◌}
-use Rattle.std.proofs.Common.{subst, arith, true≢false, eq-eqb, eqb-true}
-use Rattle.std.proofs.lemmas.Bool.{false≢true, or_cases, or_left, or_right}
+use Rattle.std.proofs.Common.{◌≡◌, ℕ, ◌+◌, ◌*◌, ◌<◌, ◌==◌, Bool, true, false, ◌||◌, if◌then◌else◌, List, [], ◌∷◌, ◌++◌, Some, inl, inr, refl, ap, sym, ◌∙◌}
+use Rattle.std.proofs.Common.{subst, arith, eq-eqb, eqb-true}
+use Rattle.std.proofs.lemmas.Bool.{false≢true, or_cases, or_left, or_right, false_from_ne_true}
 use Rattle.std.proofs.lemmas.Option.{same_Some}
 use Rattle.std.specs.List.{AllByRecursion}
 use Rattle.pas_profile.specs.{Directories.number_of, Profiles.IsValid, Profiles.IsDirectoryOf}
-use Rattle.pas_profile.specs.declared.{directory.Directory.Directory, event.Event.Event, name.Block.Block, profile.Profile.Profile, word.Word.Word}
-use Rattle.pas_machine.specs.State.{Live, live_in, deed_in}
-use Rattle.pas_steps.specs.{Desks.triples, Events.events_by, Kinds.Only, Past.Always, Views.holds, Views.usable_by_kind}
-use Rattle.pas_steps.specs.Lists.{Whole, part, word_after, visible, Legal}
+use Rattle.pas_profile.specs.declared.{directory.Directory.Directory, event.Event.Event, profile.Profile.Profile, word.Word.Word}
+use Rattle.pas_machine.specs.State.{live_in, deed_in}
+use Rattle.pas_steps.specs.{Desks.triples, Events.events_by, Kinds.Only, Past.Always, Views.usable_by_kind}
+use Rattle.pas_steps.specs.Lists.{Whole, part, word_after, visible}
 use Rattle.pas_steps.specs.declared.step.{Made.Made, Step.Step, Step.TheVariants.Deed}
 use Rattle.pas_steps.proofs.Apart.{only_within}
-use Rattle.pas_core.specs.{Good.IsPartOf, Rights.eligible_bit}
-use Rattle.pas_core.proofs.Rights.{right_in_one_place}
-use Rattle.pas_search.specs.Kinds.{ReturnsDuly}
+use Rattle.pas_core.specs.Rights.{eligible_bit}
+use Rattle.pas_core.proofs.{Rights.right_in_one_place, OneActor.LendsNone, OneActor.lends_none}
 use Rattle.pas_cache.specs.{Kinds.allocating, Locals.any_covers}
-use Rattle.pas_large.specs.{Evidence.DeedsRise, Finds.MayFind}
 use Rattle.pas_large.proofs.Outcomes.{MadeOf}
 use Rattle.pas_guard.specs.{Books.is_outer, Seeks.seeking, Seeks.SoughtNone}
 use Rattle.pas_answers.specs.Answers.{Caches, Books, Progress, records_of}
-use Rattle.pas_one_text.specs.{State.World, State.Cache, Pages.is_free, Pages.is_offered, Runs.large_of}
-use Rattle.pas_same_text.specs.Same.{has_number, IsSame, HasSame, AreSameCaches, AreSameGuards}
-use Rattle.pas_same_text.specs.{Acts.IsBetween, Words.free_bit}
-use Rattle.pas_same_text.proofs.{FlushActs.events_recorded, GivenPages.open_from, GivenPages.free_left, GivingBack.epoch_stays_by, OuterPages.still_unguarded}
-use Rattle.pas_same_text.proofs.{RestingPages.deed_now, RestingPages.bit_tells, RestingPages.bit_offered, SoughtRuns.held_deed, SoughtRuns.IsRunOf}
-use Rattle.pas_same_text.proofs.{SoughtRuns.IsMadeOf}
-use Rattle.pas_same_text.proofs.FreeGrains.{holder_thread, cached_held, outer_held, held_by, free_uncovered}
+use Rattle.pas_one_text.specs.{State.World, Pages.is_offered, Runs.large_of}
+use Rattle.pas_same_text.specs.{Same.has_number, Same.IsSame, Same.HasSame, Acts.IsBetween, Words.free_bit}
+use Rattle.pas_same_text.proofs.{FlushActs.events_recorded, GivenPages.open_from, GivingBack.epoch_stays_by, RestingPages.deed_now, RestingPages.bit_tells}
+use Rattle.pas_same_text.proofs.{RestingPages.bit_offered, SoughtRuns.IsRunOf, SoughtRuns.IsMadeOf, SearchMarks.seeks_unbacked, RunEvents.with_deed}
+use Rattle.pas_same_text.proofs.{RunEvents.deeded, RunEvents.deeds_of}
+use Rattle.pas_same_text.proofs.Pieces.{IsPiece, UsesOnly, free_kept, hinted_before, piece_pages}
 use Rattle.pas_same_text.proofs.ReadyPages.{shown, shown_events, shown_records, shown_lives, shown_rest}
-use Rattle.pas_same_text.proofs.RunEvents.{with_deed, deeded, deeds_of, deeds_live}
-use Rattle.pas_same_text.proofs.RunMarks.{DeedsOn, IsRunTo, run_hints, run_offers}
-use Rattle.pas_same_text.proofs.TriedRuns.{unowned_free, visible_mid, made_events, none_made, none_pages}
+use Rattle.pas_same_text.proofs.TriedRuns.{unowned_free, visible_mid, made_events, none_made, none_pages, IsSought}
+use Rattle.pas_same_text.proofs.GivenBlocks.{AreReadying, made_ready, ready_deeds, ready_lives}
+use Rattle.pas_scan.specs.Usable.{MakesNoDeedHere}
+use Rattle.pas_profile.proofs.Lists.{all_map}
 
 -- ---- the pages whose deeds were made
 older_listed : (s : Step) (a q : ℕ) (ps : List ℕ) → has_number ps q ≡ true → has_number (with_deed s a ps) q ≡ true
@@ -43,14 +41,18 @@ older_listed s a q ps h = h
 newest_listed : (s : Step) (a q : ℕ) (e : Directory) (ps : List ℕ) → s ≡ Deed q e → a ≡ 0 → has_number (with_deed s a ps) q ≡ true
 newest_listed s a q e ps is zero = search (arith, eq-eqb, or_left)
 
--- Deeds of one directory whose pages are all of a set are deeds on that set.
-pub made_listed : (d : Directory) (mine : ℕ → Bool) (xs : List Made) → MadeOf d xs → ((q : ℕ) → has_number (deeded xs) q ≡ true → mine q ≡ true)
-    → DeedsOn d mine xs
-made_listed d mine [] made sub = tt
-made_listed d mine (m ∷ xs) made sub = (
-  λ page e is zero. (made.0 page e is zero, sub page (newest_listed m.step m.answer page e (deeded xs) is zero)),
-  made_listed d mine xs made.1 (λ q h. sub q (older_listed m.step m.answer q (deeded xs) h)),
+-- A page that isn't listed got no deed.
+pub unlisted_bare : (q : ℕ) (xs : List Made) → has_number (deeded xs) q ≡ false → Always (MakesNoDeedHere q) xs
+unlisted_bare q [] out = tt
+unlisted_bare q (m ∷ xs) out = (
+  λ e is zero. false≢true (sym out ∙ newest_listed m.step m.answer q e (deeded xs) is zero),
+  unlisted_bare q xs (false_from_ne_true (has_number (deeded xs) q) (λ h. false≢true (sym out ∙ older_listed m.step m.answer q (deeded xs) h))),
 )
+
+-- Each page of a list is listed.
+pub each_listed : (qs : List ℕ) → AllByRecursion (λ x. has_number qs x ≡ true) qs
+each_listed [] = tt
+each_listed (x ∷ qs) = (or_left (x == x) (has_number qs x) (eq-eqb x x refl), all_map (λ y. has_number qs y ≡ true) (λ y. has_number (x ∷ qs) y ≡ true) qs (λ y h. or_right (x == y) (has_number qs y) h) (each_listed qs))
 
 -- What is so of all numbers of a list is so of each that it has.
 pub all_listed : (P : ℕ → Type 0) (qs : List ℕ) (q : ℕ) → AllByRecursion P qs → has_number qs q ≡ true → P q
@@ -67,65 +69,19 @@ deed_listed k d q (x ∷ qs) es h = at (x == q) h (deed_listed k d q qs es)
     at true h rest = refl
     at false h rest = rest h
 
--- Deeds of other pages leave the deed of a page as it was.
-pub deed_unlisted : (k : ℕ) (d : Directory) (q : ℕ) (qs : List ℕ) (es : List Event) → has_number qs q ≡ false → deed_in (deeds_of k d qs ++ es) q ≡ deed_in es q
-deed_unlisted k d q [] es h = refl
-deed_unlisted k d q (x ∷ qs) es h = at (x == q) h (deed_unlisted k d q qs es)
-  where
-    at : (t : Bool) → (t || has_number qs q) ≡ false → (has_number qs q ≡ false → deed_in (deeds_of k d qs ++ es) q ≡ deed_in es q)
-        → (if t then Some d else deed_in (deeds_of k d qs ++ es) q) ≡ deed_in es q
-    at true h rest = absurd (true≢false h)
-    at false h rest = rest h
-
--- Deeds leave the live block at each address as it was.
-pub live_listed : (k : ℕ) (d : Directory) (address : ℕ) (qs : List ℕ) (es : List Event) → live_in (deeds_of k d qs ++ es) address ≡ live_in es address
-live_listed k d address [] es = refl
-live_listed k d address (x ∷ qs) es = live_listed k d address qs es
-
--- ==== A PAGE THAT GOT ITS DEED and came into nobody's hands is offered where its bit is set
-pub record IsLeftFree (f : Profile) (p q : Progress) (page : ℕ) : Type 0 where
-  pub bare : word_after p.list (Word.Deed page) ≡ 0
-  pub caches : q.caches ≡ p.caches
-  pub outer : (j : ℕ) → is_outer (q.books j) page ≡ true → is_outer (p.books j) page ≡ true
-  pub covered : (a : ℕ) (b : Live) → live_in (visible q.list) a ≡ Some b → IsPartOf (256 * page + 0) a b → live_in (visible p.list) a ≡ Some b
-
-module _ (f : Profile) (p q : Progress) (w v : World) (d : Directory) (valid : IsValid f) (between : IsBetween f p) (there : IsBetween f q)
-    (now : HasSame f q v) (page : ℕ) (left : IsLeftFree f p q page) (free_before : free_bit p.list (256 * page + 0) ≡ true)
-    (has_room : usable_by_kind d.kind 0 ≡ true)
-    (deed : deed_in v.events page ≡ Some d) where
-  abbrev g : ℕ
-  g = 256 * page + 0
-
-  on : (256 * page + 0) / 256 ≡ page
-  on = omega arith
-
-  never_held : (j : ℕ) → holds (part j p.list) g ≡ true → ⊥
-  never_held j held = held_deed f p.list j g valid between.legal held (ap (λ (x : ℕ). word_after p.list (Word.Deed x)) on ∙ left.bare)
-
-  nobody : (j : ℕ) → holds (part j q.list) g ≡ true → ⊥
-  nobody j held = elim (held_by f q there j g held) [
-    | inl cached ↦ never_held j (cached_held f p between j g (holder_thread f q there j g held) (ap (λ (cs : Caches). any_covers (cs j).locals g) (sym left.caches) ∙ cached))
-    | inr outer ↦ never_held j (outer_held f p between j g (ap (is_outer (p.books j)) on ∙ left.outer j (ap (is_outer (q.books j)) (sym on) ∙ outer)))
-  ]
-
-  free_now : free_bit q.list g ≡ true
-  free_now = free_left f q.list valid there.legal g nobody (λ a b lives of. free_uncovered f p.list valid between.legal g free_before a b (left.covered a b lives of) of)
-
-  -- A page that got its deed and came into nobody's hands is offered in the text where its bit is set.
-  pub left_offered : (e : Directory) → IsDirectoryOf f e → eligible_bit q.list (number_of e) page ≡ true → is_offered v e page ≡ true
-  left_offered e of_e bit =
-      let tells = bit_tells f q v valid there now page e of_e (right_in_one_place f q.list there.legal page) bit in
-      let same : e ≡ d = same_Some e d (sym (deed_now f q v valid there now page e of_e tells.0) ∙ (ap (λ (es : List Event). deed_in es page) (sym now.events) ∙ deed)) in
-      bit_offered f q v valid there now page e of_e bit (open_from f q v valid there now e page 0 (omega arith) (ap (λ (x : Directory). usable_by_kind x.kind 0) same ∙ has_room) free_now)
+-- ==== A PAGE THAT GOT ITS DEED and came into nobody's hands is offered in the text where its bit is set.
+pub left_free : (f : Profile) (q : Progress) (v : World) (d : Directory) → IsValid f → IsBetween f q → HasSame f q v → (page : ℕ)
+    → free_bit q.list (256 * page + 0) ≡ true → usable_by_kind d.kind 0 ≡ true → deed_in v.events page ≡ Some d → (e : Directory) → IsDirectoryOf f e
+    → eligible_bit q.list (number_of e) page ≡ true → is_offered v e page ≡ true
+left_free f q v d valid there now page free has_room deed e of_e bit =
+    let tells = bit_tells f q v valid there now page e of_e (right_in_one_place f q.list there.legal page) bit in
+    let same : e ≡ d = same_Some e d (sym (deed_now f q v valid there now page e of_e tells.0) ∙ (ap (λ (es : List Event). deed_in es page) (sym now.events) ∙ deed)) in
+    bit_offered f q v valid there now page e of_e bit (open_from f q v valid there now e page 0 (omega arith) (ap (λ (x : Directory). usable_by_kind x.kind 0) same ∙ has_room) free)
 
 -- ==== THE SEARCH THAT FOUND NONE
-module _ (f : Profile) (k heap n : ℕ) (p q : Progress) (w : World) (valid : IsValid f) (between : IsBetween f p) (same : IsSame f p w)
-    (of : IsDirectoryOf f (large_of heap)) (xs : List Made) (legal : Legal f (triples k xs ++ p.list)) (kinds : Only seeking xs) (rise : DeedsRise xs)
-    (due : Always ReturnsDuly xs) (met : MayFind (large_of heap) (part k p.list)) (found : SoughtNone f (large_of heap) n xs) (there : IsBetween f q) (list : q.list ≡ triples k xs ++ p.list) (caches : q.caches ≡ p.caches) (books : q.books ≡ p.books) (names : q.names ≡ p.names)
+module _ {f : Profile} {k heap n : ℕ} {p q : Progress} {w : World} {xs : List Made} (s : IsSought f k heap n p w xs) (found : SoughtNone f (large_of heap) n xs)
+    (there : IsBetween f q) (list : q.list ≡ triples k xs ++ p.list) (caches : q.caches ≡ p.caches) (books : q.books ≡ p.books) (names : q.names ≡ p.names)
     (records : q.records ≡ p.records ++ records_of (events_by k (part k p.list) xs)) (epoch : q.epoch ≡ p.epoch) where
-  abbrev l : Whole
-  l = p.list
-
   abbrev d : Directory
   d = large_of heap
 
@@ -139,69 +95,68 @@ module _ (f : Profile) (k heap n : ℕ) (p q : Progress) (w : World) (valid : Is
   v = shown ds w
 
   made_of : MadeOf d xs
-  made_of = none_made f k heap n p w valid between same of xs legal kinds rise due met found
+  made_of = none_made s found
 
   shown_is : visible q.list ≡ ds ++ w.events
-  shown_is = ap visible list ∙ visible_mid f k heap n p w valid between same of xs legal kinds rise due met made_of
-
-  old : HasSame f p w
-  old = record { events = same.pages.events; live = same.pages.live; caches = same.caches; guards = same.guards }
+  shown_is = ap visible list ∙ visible_mid s made_of
 
   now : HasSame f q v
   now = search (arith, shown_events, shown_is, shown_lives, shown_rest)
 
-  free_same : (x b : ℕ) → is_free v x b ≡ is_free w x b
-  free_same x b = ap (λ (bs : List Block). is_free (record w { live = bs; caches = v.caches }) x b) (deeds_live k d made w) ∙ ap (λ (cs : List Cache). is_free (record w { caches = cs }) x b) (shown_rest ds w).caches
+  ready : AreReadying k d (has_number made) ds
+  ready = made_ready k d (has_number made) made (each_listed made)
 
-  page_of : (x : ℕ) → has_number made x ≡ true → IsMadeOf n l (λ r. IsRunOf f heap n l r × (r < f.pages + 1)) x
-  page_of x h = all_listed (IsMadeOf n l (λ r. IsRunOf f heap n l r × (r < f.pages + 1))) made x (none_pages f k heap n p w valid between same of xs legal kinds rise due met found) h
-
-  left_free : (x : ℕ) → has_number made x ≡ true → IsLeftFree f p q x
-  left_free x h = record {
-    bare = (page_of x h).bare;
-    caches = caches;
-    outer = λ j outer. ap (λ (bs : Books). is_outer (bs j) x) (sym books) ∙ outer;
-    covered = λ a b lives covers. sym (ap (λ (es : List Event). live_in es a) shown_is ∙ (live_listed k d a made w.events ∙ ap (λ (es : List Event). live_in es a) same.pages.events)) ∙ lives;
+  -- nothing was used
+  uses : (mine : ℕ → Bool) → UsesOnly p q mine
+  uses mine = record {
+    cached = λ j g h. inl (ap (λ (cs : Caches). any_covers (cs j).locals g) (sym caches) ∙ h);
+    outer = λ j x h. inl (ap (λ (bs : Books). is_outer (bs j) x) (sym books) ∙ h);
+    live = λ a b h. inl (ap (λ (es : List Event). live_in es a) (sym s.same.pages.events) ∙ (sym (ap (λ (es : List Event). live_in es a) shown_is ∙ ready_lives k d (has_number made) ds w.events a ready) ∙ h));
   }
 
+  page_of : (x : ℕ) → has_number made x ≡ true → IsMadeOf n p.list (λ r. IsRunOf f heap n p.list r × (r < f.pages + 1)) x
+  page_of x h = all_listed (IsMadeOf n p.list (λ r. IsRunOf f heap n p.list r × (r < f.pages + 1))) made x (none_pages s found) h
+
   own_offer : (x : ℕ) (e : Directory) → has_number made x ≡ true → IsDirectoryOf f e → eligible_bit q.list (number_of e) x ≡ true → is_offered v e x ≡ true
-  own_offer x e h of_e bit =
-      left_offered f p q w v d valid between there now x (left_free x h) (unowned_free f k heap n p w valid between same of x 0 (page_of x h).bare (omega arith)) refl
-      (ap (λ (es : List Event). deed_in es x) (shown_events ds w) ∙ deed_listed k d x made w.events h) e of_e bit
+  own_offer x e h = left_free f q v d s.valid there now x
+      (free_kept s.valid s.between there (uses (λ y. false)) (256 * x + 0) refl (unowned_free s x 0 (page_of x h).bare (omega arith))) refl
+      (ap (λ (es : List Event). deed_in es x) (shown_events ds w) ∙ deed_listed k d x made w.events h) e
 
   all_kinds : Only allocating xs
-  all_kinds = only_within seeking allocating xs refl kinds
+  all_kinds = only_within seeking allocating xs refl s.kinds
 
-  run_to : IsRunTo f k p q w v d (has_number made) xs []
-  run_to = record {
-    valid = valid;
-    before = between;
+  lends : LendsNone xs
+  lends = lends_none seeking refl xs s.kinds
+
+  piece : IsPiece f k p q w v (has_number made) xs []
+  piece = record {
+    valid = s.valid;
+    before = s.between;
     between = there;
-    was = same.pages;
-    old = old;
+    same = s.same;
     now = now;
     list = list;
-    kinds = kinds;
-    returns = due;
-    deeds_in = made_listed d (has_number made) xs made_of (λ x h. h);
-    all_kinds = all_kinds;
+    kinds = all_kinds;
+    lends = lends;
+    returns = s.due;
+    uses = uses (has_number made);
+    bare = λ x out. unlisted_bare x xs out;
+    unbacked = λ x out. seeks_unbacked k x xs s.kinds;
+    deeds = λ x out. ap (λ (es : List Event). deed_in es x) (shown_events ds w) ∙ ready_deeds k d (has_number made) ds w.events x out ready;
     hinted = (shown_rest ds w).hinted;
-    hints = λ x h. h;
-    offers = λ x h. absurd h;
-    free = λ x b out small h. free_same x b ∙ h;
-    deeds = λ x out. ap (λ (es : List Event). deed_in es x) (shown_events ds w) ∙ deed_unlisted k d x made w.events out;
-    guarded = λ x out none. still_unguarded w v x (shown_rest ds w).guards none;
-    own = own_offer;
+    marks = λ x h. absurd h;
+    own_hint = λ x here h. hinted_before k s.valid s.between s.same xs s.legal lends s.due x (seeks_unbacked k x xs s.kinds) h;
+    own_offer = own_offer;
   }
 
   -- Where a keeper's search found no run, the text with the deeds that it made is the replay's state.
   pub missed_same : IsSame f q v
   missed_same = record {
-    pages = search (arith, run_hints, run_to, run_offers);
+    pages = piece_pages piece;
     caches = now.caches;
     guards = now.guards;
-    names = (shown_rest ds w).names ∙ (same.names ∙ sym names);
-    records = records ∙ (ap (λ (es : List Event). p.records ++ records_of es) (made_events f k heap n p w valid between same of xs legal kinds rise due met made_of) ∙ events_recorded p.records w.records v.records ds same.records (shown_records ds w));
-    epoch = (shown_rest ds w).epoch ∙ (same.epoch ∙ sym (ap (λ (m : Whole). word_after m Word.Epoch) list ∙ epoch_stays_by allocating refl k xs l all_kinds));
-    read = (shown_rest ds w).read ∙ (same.read ∙ sym epoch);
+    names = (shown_rest ds w).names ∙ (s.same.names ∙ sym names);
+    records = records ∙ (ap (λ (es : List Event). p.records ++ records_of es) (made_events s made_of) ∙ events_recorded p.records w.records v.records ds s.same.records (shown_records ds w));
+    epoch = (shown_rest ds w).epoch ∙ (s.same.epoch ∙ sym (ap (λ (m : Whole). word_after m Word.Epoch) list ∙ epoch_stays_by allocating refl k xs p.list all_kinds));
+    read = (shown_rest ds w).read ∙ (s.same.read ∙ sym epoch);
   }

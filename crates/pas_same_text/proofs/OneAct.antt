@@ -13,7 +13,7 @@ use Rattle.pas_one_text.specs.Order.{keeps_block, replaces, remakes, acts_on}
 use Rattle.pas_same_text.specs.{Same.IsSame, Acts.IsBetween, Acts.HandsOnOwn, Known.IsKnown, Known.KeepsSame, Seats.IsActOf, Requests.IsAsked}
 use Rattle.pas_same_text.specs.{Requests.AnswersSame, Requests.RequestStaysSame}
 use Rattle.pas_same_text.proofs.BackActs.{flush_act, stop_act, end_act, idle_act, raw_act, raw_sized_act, free_act, free_sized_act, remakes_idly}
-use Rattle.pas_same_text.proofs.{BitfitRequests.bitfit_answered, ClassRequests.class_answered, GuardActs.guards_keep, LowerActs.lower_act}
+use Rattle.pas_same_text.proofs.{Asked.has_asked, BitfitRequests.bitfit_answered, ClassRequests.class_answered, GuardActs.guards_keep, LowerActs.lower_act}
 use Rattle.pas_same_text.proofs.{PagesRequests.pages_answered, PagesRequests.named_large, PassActs.pass_same, Replaced.replaced_same, SameIndexes.indexes_kept}
 use Rattle.pas_same_text.proofs.{Seats.thread_of, Seats.keeper_of}
 use Rattle.pas_same_text.proofs.SmallActs.{phase_same, close_same, wake_same, reading_same, tick_same, settling_same}
@@ -21,13 +21,9 @@ use Rattle.pas_same_text.proofs.SmallActs.{phase_same, close_same, wake_same, re
 -- ---- a request, by its route
 by_route : (f : Profile) (k : ℕ) (r : Request) (p : Progress) (a : Answer) (w : World) (route : Route) → route_in f r.size r.align ≡ route → IsAsked f k r p a w
     → AnswersSame f k r p a w
-by_route f k r p a w (Route.Class class) e asked =
-    class_answered f k r.name r.heap r.size r.align class p (after_answer p k a) w asked.thread asked.listed asked.admitted e asked.valid asked.before
-    asked.after asked.same a asked.served refl
-by_route f k r p a w Route.Bitfit e asked =
-    bitfit_answered f k r.name r.heap r.size r.align p (after_answer p k a) w asked.thread asked.admitted e asked.valid asked.before asked.after asked.same a asked.served refl
-by_route f k r p a w Route.Large e asked =
-    pages_answered f k r.name r.heap r.size r.align p (after_answer p k a) w asked.thread asked.admitted e asked.valid asked.before asked.after asked.same a asked.served refl (named_large f r w.indexes a.found e asked.named)
+by_route f k r p a w (Route.Class class) e asked = class_answered f k r.name r.heap r.size r.align class p a w asked.listed asked.admitted e (has_asked asked)
+by_route f k r p a w Route.Bitfit e asked = bitfit_answered f k r.name r.heap r.size r.align p a w asked.admitted e (has_asked asked)
+by_route f k r p a w Route.Large e asked = pages_answered f k r.name r.heap r.size r.align p a w asked.admitted e (has_asked asked) (named_large f r w.indexes a.found e asked.named)
 
 -- A request of any route leads the text to the replay's state.
 pub request_same : (f : Profile) (k : ℕ) (r : Request) → RequestStaysSame f k r

@@ -1,10 +1,16 @@
--- ONE LOCAL ALLOCATOR OF A CACHE IS STOPPED, or left where it has no slot: the text gives it up.
-use Rattle.std.proofs.Common.{◌≤◌, length, arith, ◌≡◌, ℕ, ◌/◌, ◌==◌, Bool, true, false, ◌||◌, if◌then◌else◌, List, [], ◌∷◌, ◌++◌, reverse, Some, inl, inr, refl}
-use Rattle.std.proofs.Common.{ap, sym, ◌∙◌, subst, append-nil, eq-eqb, eqb-true}
-use Rattle.std.proofs.lemmas.Bool.{false≢true}
-use Rattle.std.specs.List.{find}
-use Rattle.pas_profile.specs.Profiles.{IsValid, IsPage, IsDirectoryOf}
-use Rattle.pas_profile.specs.declared.{directory.Directory.Directory, event.Event.Event, profile.Profile.Profile}
+-- ONE LOCAL ALLOCATOR GOES, in the text alone: wherever it stands in its cache.
+use Rattle.std.proofs.Common.{arith, ◌≡◌, ℕ, Bool, true, false, not, ◌||◌, if◌then◌else◌, List, [], ◌∷◌, Some, refl, eqb-true, ◌≤◌, length, ◌/◌, ◌==◌, ◌++◌}
+use Rattle.std.proofs.Common.{reverse, inl, inr, ap, sym, ◌∙◌, subst, append-nil, eq-eqb}
+use Rattle.std.proofs.lemmas.Bool.{false≢true, or_right}
+use Rattle.std.specs.List.{list_any, find}
+use Rattle.pas_profile.specs.Profiles.{IsPage, IsValid, IsDirectoryOf}
+use Rattle.pas_profile.specs.declared.{profile.Profile.Profile, directory.Directory.Directory, event.Event.Event}
+use Rattle.pas_one_text.specs.State.{Local, Cache, World, cache_of, locals_of, set_locals}
+use Rattle.pas_one_text.specs.{Classes.is_for, Classes.others, Classes.gives_up, Pages.is_of}
+use Rattle.pas_same_text.proofs.{GivenBack.Returns, GivenBack.OnlyHints, GivenBack.all_only_hints, GivenUp.AreUnique, GivenUp.one_returns, Tests.or_more}
+use Rattle.pas_same_text.proofs.{CacheLists.same_with, Flushes.visible_steps, GivenUp.unique_of, Holders.guards_as, Holders.still_unguarded}
+use Rattle.pas_same_text.proofs.{RestingPages.is_open, StillIndexes.same_guards, StillIndexes.given_up_keeps, StopActs.slot_room, StopActs.read_room}
+use Rattle.pas_same_text.proofs.{StopSteps.IsMarkedBy, StopSteps.one_marked, StopSteps.one_hints}
 use Rattle.pas_machine.specs.State.{live_in}
 use Rattle.pas_steps.specs.{Events.events_by, Kinds.Only, Lists.part, Lists.visible, Views.holds}
 use Rattle.pas_steps.specs.declared.step.Made.{Made}
@@ -17,18 +23,54 @@ use Rattle.pas_cache.specs.{Contents.Cached, Kinds.releasing, Locals.IsLocal, Lo
 use Rattle.pas_trace.specs.EveryPlan.{IsThread}
 use Rattle.pas_answers.specs.Answers.{Progress, with_steps, with_cache as with_cached}
 use Rattle.pas_guard.specs.Books.{is_outer}
-use Rattle.pas_one_text.specs.{State.Local, State.World, State.locals_of, Pages.is_of, Classes.is_for, Classes.others, Classes.gives_up}
 use Rattle.pas_report.specs.declared.record.Record.{Record}
 use Rattle.pas_same_text.specs.Same.{IsSame, HasSame, IsSameCache, IsSameLocal, AreSameLocals, AreSameCaches, lives_in}
 use Rattle.pas_same_text.specs.{Acts.IsBetween, Words.free_bit}
-use Rattle.pas_same_text.proofs.{CacheLists.same_with, Flushes.visible_steps, GivenUp.AreUnique, GivenUp.unique_of, GoneLocals.left, GoneLocals.gone_returns}
-use Rattle.pas_same_text.proofs.{GoneLocals.gone_only, OuterPages.guards_as, OuterPages.still_unguarded, RestingPages.is_open, StillIndexes.same_guards}
-use Rattle.pas_same_text.proofs.{StillIndexes.given_up_keeps, StopActs.slot_room, StopActs.read_room, StopSteps.IsMarkedBy, StopSteps.one_marked}
-use Rattle.pas_same_text.proofs.{StopSteps.one_hints}
 use Rattle.pas_same_text.proofs.FreeGrains.{cached_held, outer_held, held_by, never_both, holder_thread}
 use Rattle.pas_same_text.proofs.GivenPages.{IsGivenBack, covered_not_held, free_left, given_pages}
 use Rattle.pas_same_text.proofs.GivingBack.{IsMarked, hint_marks, offer_marks, epoch_stays_by}
 
+-- ---- the others of a cache
+less_next : (p : Local → Bool) (x : Local) (ys : List Local) (t rest : Bool) → (list_any p ys ≡ true → rest ≡ true)
+    → list_any p (if t then x ∷ ys else ys) ≡ true → (p x || rest) ≡ true
+less_next p x ys true rest more h = or_more (p x) (list_any p ys) rest more h
+less_next p x ys false rest more h = or_right (p x) rest (more h)
+
+any_less : (p : Local → Bool) (heap class : ℕ) (ls : List Local) → list_any p (others heap class ls) ≡ true → list_any p ls ≡ true
+any_less p heap class [] h = h
+any_less p heap class (x ∷ xs) h = less_next p x (others heap class xs) (not (is_for heap class x)) (list_any p xs) (any_less p heap class xs) h
+
+-- .. are all but the one that is found
+other_next : (p : Local → Bool) (heap class : ℕ) (x l : Local) (xs : List Local) (t : Bool) → is_for heap class x ≡ t → others x.heap x.class xs ≡ xs
+    → (if t then Some x else find (is_for heap class) xs) ≡ Some l → p l ≡ false
+    → (find (is_for heap class) xs ≡ Some l → list_any p xs ≡ true → list_any p (others heap class xs) ≡ true) → (p x || list_any p xs) ≡ true
+    → list_any p (if not t then x ∷ others heap class xs else others heap class xs) ≡ true
+other_next p heap class x l xs t e rest found h more y = search (arith, eqb-true)
+
+any_other : (p : Local → Bool) (heap class : ℕ) (l : Local) (ls : List Local) → AreUnique ls → find (is_for heap class) ls ≡ Some l → p l ≡ false
+    → list_any p ls ≡ true → list_any p (others heap class ls) ≡ true
+any_other p heap class l [] unique found none h = absurd (false≢true h)
+any_other p heap class l (x ∷ xs) unique found none h =
+    other_next p heap class x l xs (is_for heap class x) refl unique.0 found none (λ later any. any_other p heap class l xs unique.1 later none any) h
+
+-- ---- it goes
+module _ (f : Profile) (k : ℕ) (l : Local) (w : World) (unique : AreUnique (locals_of w k)) (found : find (is_for l.heap l.class) (locals_of w k) ≡ Some l)
+    (page_of : IsPage f l.page) where
+  abbrev pub left : Cache
+  left = record (cache_of w k) { locals = others l.heap l.class (locals_of w k) }
+
+  abbrev bare : World
+  bare = set_locals k (others l.heap l.class (locals_of w k)) w
+
+  -- Where a local allocator goes, wherever in its cache, its grains come back to its page alone.
+  pub gone_returns : Returns f (l.page ∷ []) w (gives_up k l w)
+  gone_returns = one_returns f k l w page_of (λ p h. any_less p l.heap l.class (locals_of w k) h) (λ p none h. any_other p l.heap l.class l (locals_of w k) unique found none h)
+
+  -- A local allocator that goes changes, beside its cache, hints alone.
+  pub gone_only : OnlyHints bare (gives_up k l w)
+  gone_only = all_only_hints (l.page ∷ []) bare
+
+-- ==== ONE LOCAL ALLOCATOR OF A CACHE IS STOPPED, or left where it has no slot: the text gives it up.
 -- the replay after its steps, with the local allocators that are left
 abbrev pub up_to : Progress → ℕ → List Made → List Slots → Progress
 up_to p k steps fewer = with_steps p k steps (record (p.caches k) { locals = fewer })

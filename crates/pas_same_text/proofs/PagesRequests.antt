@@ -2,34 +2,33 @@
 use Rattle.std.proofs.Common.{◌≡◌, ℕ, ◌*◌, ◌/◌, ◌≤◌, true, List, ◌∷◌, ◌++◌, Option, None, Some, Result, Ok, Err, ◌⊎◌, inl, inr, refl, ap, sym, ◌∙◌, subst}
 use Rattle.std.proofs.Common.{arith, append_assoc, true≢false}
 use Rattle.pas_large.proofs.{Lifted.find_again, Allocates.holds_whole, Allocates.scans_only, Alone.goes_by_door, Alone.refused_alone, Pages.rise_none}
-use Rattle.pas_large.proofs.{Pages.knew_before}
-use Rattle.pas_profile.specs.{Blocks.address_of, Profiles.IsValid, Profiles.IsAdmitted, Profiles.IsDirectoryOf}
+use Rattle.pas_profile.specs.{Blocks.address_of, Profiles.IsAdmitted, Profiles.IsDirectoryOf}
 use Rattle.pas_profile.specs.Requests.{route_in, room_in, is_shared, kind_of_route, directory_for}
 use Rattle.pas_profile.specs.declared.{directory.Directory.Directory, directory.Route.Route, event.NoRoom.NoRoom, name.Block.Block, profile.Profile.Profile}
-use Rattle.pas_steps.specs.{Agreement.Agreed, Calls.nothing, Calls.Does, Desks.triples, Lists.Whole, Lists.part, Lists.Legal, Past.Always, Views.View}
+use Rattle.pas_steps.specs.{Desks.triples, Lists.Whole, Lists.part, Lists.Legal, Past.Always}
 use Rattle.pas_steps.specs.Kinds.{Kinds, Only, kind_of, place_of, is_in, apart, showing, looking}
 use Rattle.pas_steps.specs.declared.step.Made.{Made}
-use Rattle.pas_steps.proofs.{Adding.triples_append, Calls.still_clear, Parts.part_of_own, Past.always_both, Past.always_map}
+use Rattle.pas_steps.proofs.{Adding.triples_append, Parts.part_of_own, Past.always_both, Past.always_map}
 use Rattle.pas_steps.proofs.Apart.{in_apart, no_event, only_both, only_within}
 use Rattle.pas_core.proofs.{Nexts.agreed_steps, OneActor.legal_earlier}
-use Rattle.pas_search.specs.Kinds.{AreSearch, AreQuiet, IsQuiet, ReturnsDuly, searching}
+use Rattle.pas_search.specs.Kinds.{AreSearch, AreQuiet, IsQuiet, ReturnsDuly}
 use Rattle.pas_search.proofs.Returns.{duly_both, duly_none}
 use Rattle.pas_large.specs.Allocates.{IsAllocatedLarge, IsAllocatedNamed, IsServedNamed, IsScanned}
 use Rattle.pas_large.specs.{Alone.GoesByDoor, Doors.Indexes, Doors.found_in, Finds.MayFind, Finds.finding, Pages.claiming_old, Telling.IsLowestRun}
 use Rattle.pas_large.specs.{Telling.IsNamedWhole}
-use Rattle.pas_cache.specs.{Contents.Cached, Serves.ServesPages, Serves.ServesBy, Serves.wanted_for, Calls.IsNamed}
+use Rattle.pas_cache.specs.{Contents.Cached, Serves.ServesPages, Serves.wanted_for, Calls.IsNamed}
 use Rattle.pas_cache.proofs.Routes.{large_size, pages_asked, may_find}
-use Rattle.pas_report.specs.declared.record.Said.{Said as TheSaid}
 use Rattle.pas_trace.specs.{Acts.Act, EveryPlan.IsThread}
 use Rattle.pas_trace.specs.declared.{item.Request.Request, plan.What.TheVariants.Alloc}
-use Rattle.pas_answers.specs.Answers.{Progress, Named, named, Answer, having, IsServed, after_answer, said_of_request, block_of as block_answered}
+use Rattle.pas_answers.specs.Answers.{Progress, named, Answer, after_answer, said_of_request, block_of as block_answered}
 use Rattle.pas_answers.specs.Indexes.{IsNamedBy, ActIsNamedBy}
-use Rattle.pas_one_text.specs.{State.World, Indexes.loses_named, Searches.refusal, Searches.refuses, Order.serves, Order.acts_on}
-use Rattle.pas_one_text.specs.Runs.{large_of, named_run, lowest_run, run_or, serves_run, gives_pages}
+use Rattle.pas_one_text.specs.{State.World, Indexes.loses_named, Order.serves, Order.acts_on}
+use Rattle.pas_one_text.specs.Runs.{large_of, named_run, lowest_run, run_or, serves_run}
 use Rattle.pas_same_text.specs.{Same.IsSame, Same.HasSame, Acts.IsBetween, Acts.IsTaken}
 use Rattle.pas_same_text.proofs.{LoggedFrees.after_with, RefusedRequests.refused_to, RefusedRequests.refused_same, RunGiven.GaveRun, RunGiven.given_to}
-use Rattle.pas_same_text.proofs.{RunGiven.run_given, RunsFound.DeedsInRun, RunsFound.lowest_alone, RunsFound.deeds_in_run}
-use Rattle.pas_same_text.proofs.RunsSame.{lowest_found, none_lowest, named_whole, whole_named}
+use Rattle.pas_same_text.proofs.{RunGiven.run_given, RunsFound.DeedsInRun, RunsFound.lowest_alone, RunsFound.deeds_in_run, Pieces.has_same}
+use Rattle.pas_same_text.proofs.SearchedPages.{lowest_found, none_lowest, named_whole, whole_named}
+use Rattle.pas_same_text.proofs.Asked.{HasAsked, answer_reached, by_route, request_taken}
 
 -- ---- the indexes are no part of what is the same
 loses_same : (f : Profile) (p : Progress) (w : World) (heap n : ℕ) → IsSame f p w → IsSame f p (loses_named heap n w)
@@ -112,14 +111,10 @@ module _ (f : Profile) (k : ℕ) (l : Whole) (d : Directory) (n : ℕ) (found : 
     }
 
 -- ---- THE REQUEST
-module _ (f : Profile) (k name heap size align : ℕ) (p p' : Progress) (w : World) (thread : IsThread f k) (admitted : IsAdmitted f size align heap)
-    (route : route_in f size align ≡ Route.Large) (valid : IsValid f) (before : IsBetween f p) (after : IsBetween f p') (same : IsSame f p w)
-    (a : Answer) (served : IsServed f k (record { name = name; heap = heap; size = size; align = align }) (having p.names (part k p.list) (p.caches k)) a) (reached : p' ≡ after_answer p k a) (named_is : a.found ≡ found_in w.indexes heap (room_in f size align / 4096)) where
+module _ (f : Profile) (k name heap size align : ℕ) (p : Progress) (a : Answer) (w : World) (admitted : IsAdmitted f size align heap)
+    (route : route_in f size align ≡ Route.Large) (asked : HasAsked f k (record { name = name; heap = heap; size = size; align = align }) p a w) (named_is : a.found ≡ found_in w.indexes heap (room_in f size align / 4096)) where
   abbrev c : Cached
   c = p.caches k
-
-  abbrev l : Whole
-  l = p.list
 
   abbrev d : Directory
   d = large_of heap
@@ -139,31 +134,27 @@ module _ (f : Profile) (k name heap size align : ℕ) (p p' : Progress) (w : Wor
   some : 1 ≤ n
   some = let more = large_size f.classes size align route in let asked = pages_asked f size align route in omega (arith, more, asked)
 
-  may : MayFind d (part k l)
-  may = may_find f (part k l) heap c.locals served.rest.locals
+  may : MayFind d (part k p.list)
+  may = may_find f (part k p.list) heap c.locals asked.served.rest.locals
 
   same_u : IsSame f p u
-  same_u = loses_same f p w heap n same
+  same_u = loses_same f p w heap n asked.same
 
   old : HasSame f p w
-  old = record { events = same.pages.events; live = same.pages.live; caches = same.caches; guards = same.guards }
+  old = has_same asked.same
 
   text_by : (o : Option ℕ) → run_or (named_run w heap n) (lowest_run f w heap n) ≡ o
       → serves f k name heap (route_in f size align) (room_in f size align) align w ≡ serves_run f k name heap n o u
   text_by o is = ap (λ (r : Route). serves f k name heap r (room_in f size align) align w) route ∙ ap (λ (x : Option ℕ). serves_run f k name heap n x u) is
 
   -- ---- the steps
-  by_own : (answer : Result Block NoRoom) → served.answer ≡ answer
-      → ServesBy (route_in f size align) f (wanted_for f heap size align) a.found c a.cache a.steps answer
-  by_own answer is = subst (λ (r : Result Block NoRoom). ServesBy (route_in f size align) f (wanted_for f heap size align) a.found c a.cache a.steps r) is served.serves
-
-  by_pages : (answer : Result Block NoRoom) → served.answer ≡ answer → ServesPages f (wanted_for f heap size align) a.found c a.cache a.steps answer
-  by_pages answer is = subst (λ (r : Route). ServesBy r f (wanted_for f heap size align) a.found c a.cache a.steps answer) route (by_own answer is)
+  by_pages : (answer : Result Block NoRoom) → asked.served.answer ≡ answer → ServesPages f (wanted_for f heap size align) a.found c a.cache a.steps answer
+  by_pages answer is = by_route asked answer is Route.Large route
 
   abbrev Outcome : List Made → List Made → Result Block NoRoom → Type 0
   Outcome tried rest answer = IsServedNamed f d n a.found tried rest answer ⊎ IsScanned f d n a.found tried rest answer
 
-  module _ (answer : Result Block NoRoom) (is : served.answer ≡ answer) where
+  module _ (answer : Result Block NoRoom) (is : asked.served.answer ≡ answer) where
     abbrev pages : ServesPages f (wanted_for f heap size align) a.found c a.cache a.steps answer
     pages = by_pages answer is
 
@@ -174,56 +165,53 @@ module _ (f : Profile) (k name heap size align : ℕ) (p p' : Progress) (w : Wor
     abbrev reached_with : Progress
     reached_with = after_with p k (pages.rest ++ pages.tried) (said_of_request name answer) (named name (block_answered answer) ∷ p.names) c
 
-    to : p' ≡ reached_with
+    to : after_answer p k a ≡ reached_with
     to =
-        let said : a.said ≡ said_of_request name answer = served.said_is ∙ ap (said_of_request name) is in
-        let names : a.names ≡ named name (block_answered answer) ∷ p.names = served.names_are ∙ ap (λ (r : Result Block NoRoom). named name (block_answered r) ∷ p.names) is in
-        reached
-        ∙ (ap (λ (x : Option TheSaid). after_with p k a.steps x a.names a.cache) said
-        ∙ (ap (λ (ns : List Named). after_with p k a.steps (said_of_request name answer) ns a.cache) names
+        answer_reached asked answer is
         ∙ (ap (λ (x : Cached). after_with p k a.steps (said_of_request name answer) (named name (block_answered answer) ∷ p.names) x) pages.cache
-        ∙ ap (λ (ms : List Made). after_with p k ms (said_of_request name answer) (named name (block_answered answer) ∷ p.names) c) pages.steps_are)))
+        ∙ ap (λ (ms : List Made). after_with p k ms (said_of_request name answer) (named name (block_answered answer) ∷ p.names) c) pages.steps_are)
 
     there : IsBetween f reached_with
-    there = subst (IsBetween f) to after
+    there = subst (IsBetween f) to asked.after
 
     -- the run that was named serves where it was whole
-    by_door : GoesByDoor f d n a.found l (pages.rest ++ pages.tried) answer
-    by_door = goes_by_door f k l d n a.found pages.tried pages.rest valid of.kind pages.old pages.returns there.legal may answer outcome
+    by_door : GoesByDoor f d n a.found p.list (pages.rest ++ pages.tried) answer
+    by_door = goes_by_door f k p.list d n a.found pages.tried pages.rest asked.valid of.kind pages.old pages.returns there.legal may answer outcome
 
   -- ---- served
-  served_same : (block : Block) (is : served.answer ≡ Ok block) (first : ℕ) (got after : List Made)
+  served_same : (block : Block) (is : asked.served.answer ≡ Ok block) (first : ℕ) (got after : List Made)
       → (by_pages (Ok block) is).rest ++ (by_pages (Ok block) is).tried ≡ after ++ got → GaveRun f d first n got after block
       → run_or (named_run w heap n) (lowest_run f w heap n) ≡ Some first
-      → IsSame f p' (serves f k name heap (route_in f size align) (room_in f size align) align w)
+      → IsSame f (after_answer p k a) (serves f k name heap (route_in f size align) (room_in f size align) align w)
   served_same block is first got rest steps run chosen =
-      let all : p' ≡ given_to p k name (rest ++ got) block = to (Ok block) is ∙ ap (λ (ms : List Made). given_to p k name ms block) steps in
+      let all : after_answer p k a ≡ given_to p k name (rest ++ got) block = to (Ok block) is ∙ ap (λ (ms : List Made). given_to p k name ms block) steps in
       rw (text_by (Some first) chosen, all)
-      (run_given f k name heap first n p u got rest block valid thread of some before served.rest same_u (subst (IsBetween f) all after) run)
+      (run_given f k name heap first n p u got rest block asked.valid asked.thread of some asked.before asked.served.rest same_u (subst (IsBetween f) all asked.after) run)
 
-  run_named : (first : ℕ) → IsNamedWhole f d n l a.found first → named_run w heap n ≡ Some first
-  run_named first whole = whole_named f p w valid before same.pages old heap of n first (subst (λ (o : Option ℕ). IsNamedWhole f d n l o first) named_is whole)
+  run_named : (first : ℕ) → IsNamedWhole f d n p.list a.found first → named_run w heap n ≡ Some first
+  run_named first whole = whole_named f p w asked.valid asked.before asked.same.pages old heap of n first (subst (λ (o : Option ℕ). IsNamedWhole f d n p.list o first) named_is whole)
 
-  named_served : (block : Block) (is : served.answer ≡ Ok block)
+  named_served : (block : Block) (is : asked.served.answer ≡ Ok block)
       → IsServedNamed f d n a.found (by_pages (Ok block) is).tried (by_pages (Ok block) is).rest (Ok block)
-      → IsSame f p' (serves f k name heap (route_in f size align) (room_in f size align) align w)
+      → IsSame f (after_answer p k a) (serves f k name heap (route_in f size align) (room_in f size align) align w)
   named_served block is by =
       let pages = by_pages (Ok block) is in
       let one : by.0 ≡ block = let e = by.1 in cc in
       let alloc : IsAllocatedNamed f d n a.found pages.tried pages.rest block = subst (λ (b : Block). IsAllocatedNamed f d n a.found pages.tried pages.rest b) one by.2 in
-      let legal : Legal f (triples k (pages.rest ++ pages.tried) ++ l) = (there (Ok block) is).legal in
-      let legal_tried : Legal f (triples k pages.tried ++ l) = legal_earlier f k pages.rest pages.tried l legal in
-      let whole : IsNamedWhole f d n l a.found alloc.first =
-      holds_whole f k l d n alloc.first a.found pages.tried valid of.kind may legal_tried pages.old pages.returns (alloc.holds_it.got.from (part k l) may (agreed_steps f k l pages.tried valid legal_tried)) alloc.holds_it in
-      served_same block is alloc.first pages.tried pages.rest refl (named_gave f k l d n a.found pages.tried pages.rest block of pages.old pages.returns legal may alloc)
+      let legal : Legal f (triples k (pages.rest ++ pages.tried) ++ p.list) = (there (Ok block) is).legal in
+      let legal_tried : Legal f (triples k pages.tried ++ p.list) = legal_earlier f k pages.rest pages.tried p.list legal in
+      let whole : IsNamedWhole f d n p.list a.found alloc.first =
+      holds_whole f k p.list d n alloc.first a.found pages.tried asked.valid of.kind may legal_tried pages.old pages.returns (alloc.holds_it.got.from (part k p.list) may (agreed_steps f k p.list pages.tried asked.valid legal_tried)) alloc.holds_it in
+      served_same block is alloc.first pages.tried pages.rest refl (named_gave f k p.list d n a.found pages.tried pages.rest block of pages.old pages.returns legal may alloc)
       (ap (λ (o : Option ℕ). run_or o (lowest_run f w heap n)) (run_named alloc.first whole))
 
   -- where another run was found, the one that was named wasn't whole
-  chosen_by : (block : Block) (is : served.answer ≡ Ok block) (first : ℕ) → address_of block.name ≡ first * 4096 → IsLowestRun f d n l first → (o : Option ℕ)
+  chosen_by : (block : Block) (is : asked.served.answer ≡ Ok block) (first : ℕ) → address_of block.name ≡ first * 4096 → IsLowestRun f d n p.list first
+      → (o : Option ℕ)
       → named_run w heap n ≡ o → run_or (named_run w heap n) (lowest_run f w heap n) ≡ Some first
-  chosen_by block is first at lowest None none = ap (λ (o : Option ℕ). run_or o (lowest_run f w heap n)) none ∙ lowest_found f p w valid before same.pages old heap of n first some lowest
+  chosen_by block is first at lowest None none = ap (λ (o : Option ℕ). run_or o (lowest_run f w heap n)) none ∙ lowest_found f p w asked.valid asked.before asked.same.pages old heap of n first some lowest
   chosen_by block is first at lowest (Some x) named =
-      let whole : IsNamedWhole f d n l a.found x = subst (λ (o : Option ℕ). IsNamedWhole f d n l o x) (sym named_is) (named_whole f p w valid before same.pages old heap of n x some named) in
+      let whole : IsNamedWhole f d n p.list a.found x = subst (λ (o : Option ℕ). IsNamedWhole f d n p.list o x) (sym named_is) (named_whole f p w asked.valid asked.before asked.same.pages old heap of n x some named) in
       let takes = (by_door (Ok block) is).served x whole in
       let there_too : address_of block.name ≡ x * 4096 = ap address_in takes.1 ∙ takes.2 in
       let one : x ≡ first = omega (arith, at, there_too) in
@@ -233,52 +221,54 @@ module _ (f : Profile) (k name heap size align : ℕ) (p p' : Progress) (w : Wor
       address_in (Ok b) = address_of b.name
       address_in (Err why) = 0
 
-  scanned_served : (block : Block) (is : served.answer ≡ Ok block)
+  scanned_served : (block : Block) (is : asked.served.answer ≡ Ok block)
       → IsScanned f d n a.found (by_pages (Ok block) is).tried (by_pages (Ok block) is).rest (Ok block)
-      → IsSame f p' (serves f k name heap (route_in f size align) (room_in f size align) align w)
+      → IsSame f (after_answer p k a) (serves f k name heap (route_in f size align) (room_in f size align) align w)
   scanned_served block is by =
       let pages = by_pages (Ok block) is in
-      let legal : Legal f (triples k (pages.rest ++ pages.tried) ++ l) = (there (Ok block) is).legal in
-      let run = scanned_gave f k l d n a.found pages.tried pages.rest block of pages.old pages.returns legal may by.searched by.after by.kinds by.returns by.rest_is by.outcome in
-      let lowest = scanned_lowest f k l d n a.found pages.tried pages.rest block of pages.old pages.returns legal may by.searched by.after by.kinds by.returns by.rest_is by.outcome in
+      let legal : Legal f (triples k (pages.rest ++ pages.tried) ++ p.list) = (there (Ok block) is).legal in
+      let run = scanned_gave f k p.list d n a.found pages.tried pages.rest block of pages.old pages.returns legal may by.searched by.after by.kinds by.returns by.rest_is by.outcome in
+      let lowest = scanned_lowest f k p.list d n a.found pages.tried pages.rest block of pages.old pages.returns legal may by.searched by.after by.kinds by.returns by.rest_is by.outcome in
       served_same block is by.outcome.first (by.searched ++ pages.tried) by.after (ap (λ (ms : List Made). ms ++ pages.tried) by.rest_is ∙ append_assoc by.after by.searched pages.tried) run
       (chosen_by block is by.outcome.first (ap (λ (b : Block). address_of b.name) by.outcome.block_is) lowest (named_run w heap n) refl)
 
   -- ---- refused
-  no_named : (room : NoRoom) (is : served.answer ≡ Err room) → (o : Option ℕ) → named_run w heap n ≡ o → o ≡ None
+  no_named : (room : NoRoom) (is : asked.served.answer ≡ Err room) → (o : Option ℕ) → named_run w heap n ≡ o → o ≡ None
   no_named room is None named = refl
   no_named room is (Some x) named =
-      let whole : IsNamedWhole f d n l a.found x = subst (λ (o : Option ℕ). IsNamedWhole f d n l o x) (sym named_is) (named_whole f p w valid before same.pages old heap of n x some named) in
+      let whole : IsNamedWhole f d n p.list a.found x = subst (λ (o : Option ℕ). IsNamedWhole f d n p.list o x) (sym named_is) (named_whole f p w asked.valid asked.before asked.same.pages old heap of n x some named) in
       let takes = (by_door (Err room) is).served x whole in
       absurd (let bad : Err room ≡ Ok takes.0 = takes.1 in cc)
 
-  refused_by : (room : NoRoom) (is : served.answer ≡ Err room) → IsScanned f d n a.found (by_pages (Err room) is).tried (by_pages (Err room) is).rest (Err room)
-      → IsSame f p' (serves f k name heap (route_in f size align) (room_in f size align) align w)
+  refused_by : (room : NoRoom) (is : asked.served.answer ≡ Err room)
+      → IsScanned f d n a.found (by_pages (Err room) is).tried (by_pages (Err room) is).rest (Err room)
+      → IsSame f (after_answer p k a) (serves f k name heap (route_in f size align) (room_in f size align) align w)
   refused_by room is by =
       let pages = by_pages (Err room) is in
       let steps : List Made = pages.rest ++ pages.tried in
       let now : IsBetween f (refused_to p k name steps room) = there (Err room) is in
-      let told = refused_alone f k l d n a.found pages.tried pages.rest valid of.kind pages.old pages.returns now.legal may room (inr by) in
-      let mid : Whole = triples k pages.tried ++ l in
-      let legal_tried : Legal f mid = legal_earlier f k pages.rest pages.tried l now.legal in
+      let told = refused_alone f k p.list d n a.found pages.tried pages.rest asked.valid of.kind pages.old pages.returns now.legal may room (inr by) in
+      let mid : Whole = triples k pages.tried ++ p.list in
+      let legal_tried : Legal f mid = legal_earlier f k pages.rest pages.tried p.list now.legal in
       let legal_searched : Legal f (triples k by.searched ++ mid) =
-      legal_earlier f k by.after by.searched mid (subst (λ (ms : List Made). Legal f (triples k ms ++ mid)) by.rest_is (subst (Legal f) (sym (triples_append k pages.rest pages.tried l)) now.legal)) in
-      let again : MayFind d (part k mid) = subst (MayFind d) (sym (part_of_own k pages.tried l)) (find_again f d (part k l) pages.tried may (agreed_steps f k l pages.tried valid legal_tried) (by.misses.still.from (part k l) may (agreed_steps f k l pages.tried valid legal_tried))) in
+      legal_earlier f k by.after by.searched mid (subst (λ (ms : List Made). Legal f (triples k ms ++ mid)) by.rest_is (subst (Legal f) (sym (triples_append k pages.rest pages.tried p.list)) now.legal)) in
+      let again : MayFind d (part k mid) = subst (MayFind d) (sym (part_of_own k pages.tried p.list)) (find_again f d (part k p.list) pages.tried may (agreed_steps f k p.list pages.tried asked.valid legal_tried) (by.misses.still.from (part k p.list) may (agreed_steps f k p.list pages.tried asked.valid legal_tried))) in
       let looked : Only looking pages.rest = subst (Only looking) (sym by.rest_is) (only_both looking by.after by.searched (scans_only by.after by.own.scans) (by.looked room refl k mid legal_searched again)) in
       let searches : AreSearch steps = search (arith, only_both, only_within, duly_both, duly_none) in
       let quiet : AreQuiet steps = always_both (λ m before. IsQuiet m) (λ m before. IsQuiet m) pages.rest pages.tried (λ m before h. h) (quiet_by looking refl pages.rest looked) (quiet_by claiming_old refl pages.tried pages.old) in
       let none : run_or (named_run w heap n) (lowest_run f w heap n) ≡ None =
-      ap (λ (o : Option ℕ). run_or o (lowest_run f w heap n)) (no_named room is (named_run w heap n) refl) ∙ none_lowest f p w valid before same.pages old heap of n told.before in
-      rw (text_by None none, to (Err room) is) (refused_same f k name p u d steps room valid thread of before now same_u searches quiet told.reason)
+      ap (λ (o : Option ℕ). run_or o (lowest_run f w heap n)) (no_named room is (named_run w heap n) refl) ∙ none_lowest f p w asked.valid asked.before asked.same.pages old heap of n told.before in
+      rw (text_by None none, to (Err room) is) (refused_same f k name p u d steps room asked.valid asked.thread of asked.before now same_u searches quiet told.reason)
 
   -- ---- any
-  answered : (answer : Result Block NoRoom) → served.answer ≡ answer → IsSame f p' (serves f k name heap (route_in f size align) (room_in f size align) align w)
+  answered : (answer : Result Block NoRoom) → asked.served.answer ≡ answer
+      → IsSame f (after_answer p k a) (serves f k name heap (route_in f size align) (room_in f size align) align w)
   answered (Ok block) is = elim (outcome (Ok block) is) [ inl by ↦ named_served block is by | inr by ↦ scanned_served block is by ]
   answered (Err room) is = elim (outcome (Err room) is) [ inl by ↦ absurd (let bad : Err room ≡ Ok by.0 = by.1 in cc) | inr by ↦ refused_by room is by ]
 
   -- A request for whole pages, served or refused, leads the text to the replay's state.
-  pub pages_answered : IsSame f p' (serves f k name heap (route_in f size align) (room_in f size align) align w)
-  pages_answered = answered served.answer refl
+  pub pages_answered : IsSame f (after_answer p k a) (serves f k name heap (route_in f size align) (room_in f size align) align w)
+  pages_answered = answered asked.served.answer refl
 
 -- ---- THE ACT
 -- what indexes name for such a request
@@ -294,5 +284,5 @@ pub pages_same : (f : Profile) (line k name heap size align : ℕ) (indexes : In
     → ActIsNamedBy f indexes (Act.Operates (record { line = line; actor = k; what = Alloc name heap size align })) p p' taken.advances
     → IsSame f p' (acts_on f (Act.Operates (record { line = line; actor = k; what = Alloc name heap size align })) w)
 pages_same f line k name heap size align indexes thread admitted route p p' w are taken named =
-    pages_answered f k name heap size align p p' w thread admitted route taken.valid taken.before taken.after taken.same taken.advances.0 taken.advances.1 taken.advances.2
-    (named_large f (record { name = name; heap = heap; size = size; align = align }) indexes taken.advances.0.found route named ∙ ap (λ (ix : Indexes). found_in ix heap (room_in f size align / 4096)) (sym are))
+    request_taken f line k name heap size align thread p p' w taken (λ asked. pages_answered f k name heap size align p taken.advances.0 w admitted route asked
+    (named_large f (record { name = name; heap = heap; size = size; align = align }) indexes taken.advances.0.found route named ∙ ap (λ (ix : Indexes). found_in ix heap (room_in f size align / 4096)) (sym are)))

@@ -10,7 +10,7 @@ use Rattle.pas_profile.specs.declared.{directory.Directory.Directory, event.Even
 use Rattle.pas_profile.proofs.Codecs.{same_from_deed_word}
 use Rattle.pas_machine.specs.State.{backed_in}
 use Rattle.pas_steps.specs.Desks.{made, triples}
-use Rattle.pas_steps.specs.Lists.{Whole, part, word_after, visible, Legal}
+use Rattle.pas_steps.specs.Lists.{part, word_after, visible, Legal}
 use Rattle.pas_steps.specs.declared.step.{Made.Made, Step.TheVariants.Look}
 use Rattle.pas_steps.proofs.Sets.{same_truth}
 use Rattle.pas_core.specs.Rights.{empty_bit, eligible_bit}
@@ -25,7 +25,7 @@ use Rattle.pas_same_text.specs.Same.{IsSame, HasSame, AreSameCaches, has_number}
 use Rattle.pas_same_text.specs.Acts.{IsBetween, IsTaken, AreEndsStamped}
 use Rattle.pas_same_text.proofs.{CacheLists.all_locals, Flushes.visible_steps, GivenPages.open_grows, GivenPages.page_idle, GivenPages.idle_hinted}
 use Rattle.pas_same_text.proofs.{GivingBack.OffersPage, GivingBack.offered_by, GivingBack.epoch_stays_by, PassText.HasCome, PassText.pass_comes}
-use Rattle.pas_same_text.proofs.{OuterPages.guards_as, OuterPages.still_unguarded, Tests.has_filtered}
+use Rattle.pas_same_text.proofs.{Holders.guards_as, Holders.still_unguarded, Tests.has_filtered}
 use Rattle.pas_same_text.proofs.GivenBack.{free_kept, empty_kept, is_idle, page_there}
 use Rattle.pas_same_text.proofs.PassOrder.{IsPast, falling, falling_skips, rising, past_all}
 use Rattle.pas_same_text.proofs.PassOutcomes.{WasOffered, pair, stays_hinted, has_same}
@@ -47,9 +47,6 @@ turned_records ws rs r =
 module _ (f : Profile) (p : Progress) (w : World) (epoch : ℕ) (found : List (ℕ × Outcome)) (steps : List Made) (valid : IsValid f) (before : IsBetween f p)
     (same : IsSame f p w) (stamped : AreEndsStamped p.list)
     (order : PassSteps f 0 epoch found steps) (after : IsBetween f (after_pass p epoch found steps)) where
-  abbrev l : Whole
-  l = p.list
-
   abbrev p' : Progress
   p' = after_pass p epoch found steps
 
@@ -74,13 +71,13 @@ module _ (f : Profile) (p : Progress) (w : World) (epoch : ℕ) (found : List (�
   was : HasSame f p w
   was = has_same f p w valid before same stamped
 
-  whole : Legal f (triples 0 (order.read ++ look) ++ l)
-  whole = subst (λ (ms : List Made). Legal f (triples 0 ms ++ l)) order.steps_are after.legal
+  whole : Legal f (triples 0 (order.read ++ look) ++ p.list)
+  whole = subst (λ (ms : List Made). Legal f (triples 0 ms ++ p.list)) order.steps_are after.legal
 
   now : epoch ≡ w.epoch
-  now = let first : Legal f (triples 0 look ++ l) = legal_earlier f 0 order.read look l whole in first.0.answer_is ∙ sym same.epoch
+  now = let first : Legal f (triples 0 look ++ p.list) = legal_earlier f 0 order.read look p.list whole in first.0.answer_is ∙ sym same.epoch
 
-  past : IsPast f w l bound (order.read ++ look) (outcomes_in (all_tried order.words))
+  past : IsPast f w p.list bound (order.read ++ look) (outcomes_in (all_tried order.words))
   past = past_all f p w valid before same stamped epoch now order.words order.read order.numbers_are order.order whole
 
   come : HasCome (outcome_of f w) pages (says (Record.Said 0 (Said.Pass w.epoch)) w) v
@@ -91,10 +88,10 @@ module _ (f : Profile) (p : Progress) (w : World) (epoch : ℕ) (found : List (�
   below q of = omega (arith, of.1)
 
   none_past : (q : ℕ) → suc f.pages ≤ q → hinted q ≡ false
-  none_past q low = false_from_ne_true (hinted q) (λ bit. let high = (hinted_page f l before.legal q bit).1 in omega (arith, high, low))
+  none_past q low = false_from_ne_true (hinted q) (λ bit. let high = (hinted_page f p.list before.legal q bit).1 in omega (arith, high, low))
 
   none_first : hinted 0 ≡ false
-  none_first = false_from_ne_true (hinted 0) (λ bit. let low = (hinted_page f l before.legal 0 bit).0 in omega (arith, low))
+  none_first = false_from_ne_true (hinted 0) (λ bit. let low = (hinted_page f p.list before.legal 0 bit).0 in omega (arith, low))
 
   pages_are : pages ≡ reverse (falling hinted bound)
   pages_are =
@@ -114,7 +111,7 @@ module _ (f : Profile) (p : Progress) (w : World) (epoch : ℕ) (found : List (�
       ∙ (ap (λ (ps : List (ℕ × Outcome)). unbacks_in 0 w.epoch (reverse ps) ++ w.events) (sym found_are)
       ∙ (ap (λ (e : ℕ). unbacks_in 0 e (reverse found) ++ w.events) (sym now)
       ∙ (ap (λ (es : List Event). unbacks_in 0 epoch (reverse found) ++ es) same.pages.events
-      ∙ (ap (λ (es : List Event). es ++ visible l) (sym (order.events (part 0 l))) ∙ sym (visible_steps 0 steps l)))))
+      ∙ (ap (λ (es : List Event). es ++ visible p.list) (sym (order.events (part 0 p.list))) ∙ sym (visible_steps 0 steps p.list)))))
 
   has : HasSame f p' v
   has = record {
@@ -132,7 +129,7 @@ module _ (f : Profile) (p : Progress) (w : World) (epoch : ℕ) (found : List (�
   to_bit q h =
       let old : is_hinted w q ≡ true = come.hinted_was q h in
       let bit : hinted q ≡ true = sym (same.pages.hinted q) ∙ old in
-      let of : IsPage f q = hinted_page f l before.legal q bit in
+      let of : IsPage f q = hinted_page f p.list before.legal q bit in
       let there : has_number pages q ≡ true = has_filtered (is_hinted w) (page_numbers f) q old (page_there f q of) in
       let stays : stays_hinted (outcome_of f w q) ≡ true = come.hinted_so q there h in
       let idle : is_idle w q ≡ true = page_idle f p w valid before was q (past.idle q (below q of) bit stays) in
@@ -147,22 +144,22 @@ module _ (f : Profile) (p : Progress) (w : World) (epoch : ℕ) (found : List (�
         let of : IsPage f q = hinted_page f p'.list after.legal q bit in
         let gone : (hinted q ≡ true → stays_hinted (outcome_of f w q) ≡ false) = λ old. false_from_ne_true (stays_hinted (outcome_of f w q)) (λ stays.
         false≢true (sym none ∙ come.hinted_still q (same.pages.hinted q ∙ old) (λ there. stays))) in
-        let clear : empty_bit p'.list q ≡ false = ap (λ (ms : List Made). empty_bit (triples 0 ms ++ l) q) order.steps_are ∙ past.bits q (below q of) gone in
+        let clear : empty_bit p'.list q ≡ false = ap (λ (ms : List Made). empty_bit (triples 0 ms ++ p.list) q) order.steps_are ∙ past.bits q (below q of) gone in
         absurd (false≢true (sym clear ∙ bit))
   ]
 
   -- ---- offers
-  was_open : (q : ℕ) (d : Directory) → IsDirectoryOf f d → eligible_bit l (number_of d) q ≡ true → is_open v d q ≡ true
+  was_open : (q : ℕ) (d : Directory) → IsDirectoryOf f d → eligible_bit p.list (number_of d) q ≡ true → is_open v d q ≡ true
   was_open q d of bit = open_grows w v d q (still_unguarded w v q come.left.guards) (λ b small h. free_is q b ∙ h) (had_open w d q (same.pages.offered q d of ∙ bit))
 
   from_offer : (q : ℕ) (d : Directory) → IsDirectoryOf f d → eligible_bit p'.list (number_of d) q ≡ true → is_offered v d q ≡ true
-  from_offer q d of bit = bit_offered f p' v valid after has q d of bit (elim (offered_by 0 steps l (number_of d) q bit) [
+  from_offer q d of bit = bit_offered f p' v valid after has q d of bit (elim (offered_by 0 steps p.list (number_of d) q bit) [
     | inl old ↦ was_open q d of old
     | inr offer ↦
-        let o : WasOffered f l q = past.offers q (subst (OffersPage q) order.steps_are offer) in
-        let word : word_after p'.list (Word.Deed q) ≡ word_after l (Word.Deed q) = deed_same passing refl 0 steps l q order.kinds in
+        let o : WasOffered f p.list q = past.offers q (subst (OffersPage q) order.steps_are offer) in
+        let word : word_after p'.list (Word.Deed q) ≡ word_after p.list (Word.Deed q) = deed_same passing refl 0 steps p.list q order.kinds in
         let is : o.directory ≡ d = same_from_deed_word o.directory d o.of_profile.kind of.kind
-        (sym (offered_deed f l o.directory q o.of_profile before.legal o.offered) ∙ (sym word ∙ offered_deed f p'.list d q of after.legal bit)) in
+        (sym (offered_deed f p.list o.directory q o.of_profile before.legal o.offered) ∙ (sym word ∙ offered_deed f p'.list d q of after.legal bit)) in
         subst (λ (e : Directory). is_open v e q ≡ true) is (was_open q o.directory o.of_profile o.offered)
   ])
 
@@ -190,7 +187,7 @@ module _ (f : Profile) (p : Progress) (w : World) (epoch : ℕ) (found : List (�
     guards = has.guards;
     names = come.left.names ∙ same.names;
     records = lines;
-    epoch = come.left.epoch ∙ (same.epoch ∙ sym (epoch_stays_by passing refl 0 steps l order.kinds));
+    epoch = come.left.epoch ∙ (same.epoch ∙ sym (epoch_stays_by passing refl 0 steps p.list order.kinds));
     read = come.left.read ∙ same.read;
   }
 

@@ -17,7 +17,7 @@ use Rattle.pas_trace.specs.Acts.{numbers_from}
 use Rattle.pas_answers.specs.Answers.{Progress}
 use Rattle.pas_one_text.specs.{State.World, Passes.outcome_of}
 use Rattle.pas_same_text.specs.{Same.IsSame, Acts.IsBetween, Acts.AreEndsStamped}
-use Rattle.pas_same_text.proofs.{Frames.look_word, GivingBack.OffersPage, GivingBack.once_parts, PassOutcomes.WasOffered, PassOutcomes.pair}
+use Rattle.pas_same_text.proofs.{SmallActs.look_word, GivingBack.OffersPage, GivingBack.once_parts, PassOutcomes.WasOffered, PassOutcomes.pair}
 use Rattle.pas_same_text.proofs.{PassOutcomes.stays_hinted, PassTries.IsTried, PassTries.tried}
 use Rattle.pas_same_text.proofs.PassedPages.{is_on, Spares, words_stay, spare_both, try_spares}
 
@@ -103,9 +103,6 @@ pages_at word value n t e = ap (λ (x : Bool). if x then (64 * word + n) ∷ pag
 
 module _ (f : Profile) (p : Progress) (w : World) (valid : IsValid f) (between : IsBetween f p) (same : IsSame f p w) (stamped : AreEndsStamped p.list)
     (epoch : ℕ) (now : epoch ≡ w.epoch) where
-  abbrev l : Whole
-  l = p.list
-
   abbrev hinted : ℕ → Bool
   hinted q = empty_bit p.list q
 
@@ -113,12 +110,13 @@ module _ (f : Profile) (p : Progress) (w : World) (valid : IsValid f) (between :
   told q = pair q (outcome_of f w q)
 
   -- ---- a page that wasn't hinted
-  past_other : (n : ℕ) (steps : List Made) (found : List (ℕ × Outcome)) → hinted n ≡ false → IsPast f w l n steps found → IsPast f w l (suc n) steps found
+  past_other : (n : ℕ) (steps : List Made) (found : List (ℕ × Outcome)) → hinted n ≡ false → IsPast f w p.list n steps found
+      → IsPast f w p.list (suc n) steps found
   past_other n steps found none h = record {
     found_are = h.found_are ∙ ap (λ (t : Bool). map told (if t then n ∷ falling hinted n else falling hinted n)) (sym none);
     spared = λ q le. h.spared q (omega (arith, le));
     bits = λ q lt gone. elim (cases_eq q n) [
-      | inl e ↦ ap (λ (x : ℕ). empty_bit (triples 0 steps ++ l) x) e ∙ ((words_stay n 0 steps l (h.spared n (omega arith))).hint ∙ none)
+      | inl e ↦ ap (λ (x : ℕ). empty_bit (triples 0 steps ++ p.list) x) e ∙ ((words_stay n 0 steps p.list (h.spared n (omega arith))).hint ∙ none)
       | inr ne ↦ h.bits q (omega (arith, lt, ne)) gone
     ];
     idle = search (arith, true≢false);
@@ -127,26 +125,26 @@ module _ (f : Profile) (p : Progress) (w : World) (valid : IsValid f) (between :
 
   -- ---- one that was
   past_tried : (n : ℕ) (o : Option Outcome) (piece steps : List Made) (found : List (ℕ × Outcome)) → hinted n ≡ true → TrySteps f.age epoch n o piece
-      → Legal f (triples 0 (piece ++ steps) ++ l) → IsPast f w l n steps found → IsPast f w l (suc n) (piece ++ steps) (with_outcome n o found)
+      → Legal f (triples 0 (piece ++ steps) ++ p.list) → IsPast f w p.list n steps found → IsPast f w p.list (suc n) (piece ++ steps) (with_outcome n o found)
   past_tried n o piece steps found is tries legal h =
-      let before : Whole = triples 0 steps ++ l in
-      let onto = triples_append 0 piece steps l in
-      let x : IsTried f w l before n o piece = tried f p w valid between same stamped n epoch now is before (words_stay n 0 steps l (h.spared n (omega arith))) o piece tries (subst (Legal f) (sym onto) legal) in
+      let before : Whole = triples 0 steps ++ p.list in
+      let onto = triples_append 0 piece steps p.list in
+      let x : IsTried f w p.list before n o piece = tried f p w valid between same stamped n epoch now is before (words_stay n 0 steps p.list (h.spared n (omega arith))) o piece tries (subst (Legal f) (sym onto) legal) in
       let beside : ((q : ℕ) → (n ≡ q → ⊥) → Spares q piece) = λ q ne. try_spares q n (ne_eqb n q ne) f.age epoch o piece tries in
       record {
         found_are = cc;
         spared = λ q le. spare_both q piece steps (beside q (λ e. absurd (omega (arith, e, le)))) (h.spared q (omega (arith, le)));
         bits = λ q lt gone. ap (λ (m : Whole). empty_bit m q) (sym onto) ∙ elim (cases_eq q n) [
-          | inl e ↦ ap (λ (y : ℕ). empty_bit (triples 0 piece ++ before) y) e ∙ x.bit (ap (λ (y : ℕ). stays_hinted (outcome_of f w y)) (sym e) ∙ gone (ap (λ (y : ℕ). empty_bit l y) e ∙ is))
+          | inl e ↦ ap (λ (y : ℕ). empty_bit (triples 0 piece ++ before) y) e ∙ x.bit (ap (λ (y : ℕ). stays_hinted (outcome_of f w y)) (sym e) ∙ gone (ap (λ (y : ℕ). empty_bit p.list y) e ∙ is))
           | inr ne ↦ (words_stay q 0 piece before (beside q (λ e. ne (sym e)))).hint ∙ h.bits q (omega (arith, lt, ne)) gone
         ];
         idle = λ q lt bit stays. elim (cases_eq q n) [
-          | inl e ↦ subst (IsEmptyBacked l) (sym e) (x.idle (ap (λ (y : ℕ). stays_hinted (outcome_of f w y)) (sym e) ∙ stays))
+          | inl e ↦ subst (IsEmptyBacked p.list) (sym e) (x.idle (ap (λ (y : ℕ). stays_hinted (outcome_of f w y)) (sym e) ∙ stays))
           | inr ne ↦ h.idle q (omega (arith, lt, ne)) bit stays
         ];
         offers = λ q offer. elim (once_parts (λ m. (d : Directory) × (m.step ≡ Offer q d)) piece steps offer) [
           | inl here ↦ elim (cases_eq q n) [
-            | inl e ↦ subst (WasOffered f l) (sym e) (x.offers (subst (λ (y : ℕ). OffersPage y piece) e here))
+            | inl e ↦ subst (WasOffered f p.list) (sym e) (x.offers (subst (λ (y : ℕ). OffersPage y piece) e here))
             | inr ne ↦ absurd (spared_offer q piece (beside q (λ e. ne (sym e))) here)
           ]
           | inr earlier ↦ h.offers q earlier
@@ -154,39 +152,39 @@ module _ (f : Profile) (p : Progress) (w : World) (valid : IsValid f) (between :
       }
 
   -- ---- a look at a word
-  past_look : (n : ℕ) (word value : ℕ) (steps : List Made) (found : List (ℕ × Outcome)) → IsPast f w l n steps found
-      → IsPast f w l n (made (Look (Word.Empty word)) value ∷ steps) found
+  past_look : (n : ℕ) (word value : ℕ) (steps : List Made) (found : List (ℕ × Outcome)) → IsPast f w p.list n steps found
+      → IsPast f w p.list n (made (Look (Word.Empty word)) value ∷ steps) found
   past_look n word value steps found h = record {
     found_are = h.found_are;
     spared = λ q le. (refl, h.spared q le);
-    bits = λ q lt gone. ap (λ (a : ℕ). has_bit a (q % 64)) (look_word 0 value (Word.Empty word) (Word.Empty (q / 64)) (triples 0 steps ++ l)) ∙ h.bits q lt gone;
+    bits = λ q lt gone. ap (λ (a : ℕ). has_bit a (q % 64)) (look_word 0 value (Word.Empty word) (Word.Empty (q / 64)) (triples 0 steps ++ p.list)) ∙ h.bits q lt gone;
     idle = h.idle;
     offers = λ q offer. elim offer [ inl bad ↦ absurd (let e : Look (Word.Empty word) ≡ Offer q bad.0 = bad.1 in cc) | inr earlier ↦ h.offers q earlier ];
   }
 
   -- a word that is read has the hints with which the pass began, of pages that were spared so far
-  value_bit : (n value b : ℕ) (steps : List Made) → b < 64 → value ≡ word_after (triples 0 steps ++ l) (Word.Empty n) → Spares (64 * n + b) steps
+  value_bit : (n value b : ℕ) (steps : List Made) → b < 64 → value ≡ word_after (triples 0 steps ++ p.list) (Word.Empty n) → Spares (64 * n + b) steps
       → has_bit value b ≡ hinted (64 * n + b)
   value_bit n value b steps lt is spares =
-      let w' : Whole = triples 0 steps ++ l in
+      let w' : Whole = triples 0 steps ++ p.list in
       let word : (64 * n + b) / 64 ≡ n = omega (arith, lt) in
       let place : (64 * n + b) % 64 ≡ b = omega (arith, lt) in
-      cc ((words_stay (64 * n + b) 0 steps l spares).hint)
+      cc ((words_stay (64 * n + b) 0 steps p.list spares).hint)
 
   -- ==== the pages of one word, below its n-th bit
   past_tries : (word value n : ℕ) (tries : List Tried) (steps base : List Made) (found : List (ℕ × Outcome)) → map (λ t. t.page) tries ≡ pages_set word value n
-      → InTurn (TriedSteps f.age epoch) tries steps → Legal f (triples 0 (steps ++ base) ++ l)
-      → ((b : ℕ) → b < n → has_bit value b ≡ hinted (64 * word + b)) → IsPast f w l (64 * word) base found
-      → IsPast f w l (64 * word + n) (steps ++ base) (outcomes_in tries ++ found)
+      → InTurn (TriedSteps f.age epoch) tries steps → Legal f (triples 0 (steps ++ base) ++ p.list)
+      → ((b : ℕ) → b < n → has_bit value b ≡ hinted (64 * word + b)) → IsPast f w p.list (64 * word) base found
+      → IsPast f w p.list (64 * word + n) (steps ++ base) (outcomes_in tries ++ found)
   past_tries word value zero [] steps base found pages order legal bits h =
-      past_by f w l (64 * word + zero) base (steps ++ base) found found (ap (λ (ms : List Made). ms ++ base) (sym order)) refl (past_at f w l (64 * word) (64 * word + zero) base found (omega arith) h)
+      past_by f w p.list (64 * word + zero) base (steps ++ base) found found (ap (λ (ms : List Made). ms ++ base) (sym order)) refl (past_at f w p.list (64 * word) (64 * word + zero) base found (omega arith) h)
   past_tries word value zero (t ∷ tries) steps base found pages order legal bits h = absurd (no_first t.page (map (λ t. t.page) tries) pages)
   past_tries word value (suc n) [] steps base found pages order legal bits h = elim (cases_Bool (has_bit value n)) [
     | inl set ↦ absurd (no_first (64 * word + n) (pages_set word value n) (sym (pages ∙ pages_at word value n true set)))
     | inr clear ↦
         let page : ℕ = 64 * word + n in
-        let before : IsPast f w l page (steps ++ base) found = past_tries word value n [] steps base found (pages ∙ pages_at word value n false clear) order legal (λ b lt. bits b (omega (arith, lt))) h in
-        past_at f w l (suc page) (64 * word + suc n) (steps ++ base) found (omega arith) (past_other page (steps ++ base) found (sym (bits n (omega arith)) ∙ clear) before)
+        let before : IsPast f w p.list page (steps ++ base) found = past_tries word value n [] steps base found (pages ∙ pages_at word value n false clear) order legal (λ b lt. bits b (omega (arith, lt))) h in
+        past_at f w p.list (suc page) (64 * word + suc n) (steps ++ base) found (omega arith) (past_other page (steps ++ base) found (sym (bits n (omega arith)) ∙ clear) before)
   ]
   past_tries word value (suc n) (t ∷ earlier) steps base found pages order legal bits h = elim (cases_Bool (has_bit value n)) [
     | inl set ↦
@@ -197,25 +195,25 @@ module _ (f : Profile) (p : Progress) (w : World) (valid : IsValid f) (between :
         let rest : List Made = order.1 ++ base in
         let pairs : List (ℕ × Outcome) = outcomes_in earlier ++ found in
         let cut : steps ++ base ≡ order.0 ++ rest = ap (λ (ms : List Made). ms ++ base) order.4 ∙ append_assoc order.0 order.1 base in
-        let whole : Legal f (triples 0 (order.0 ++ rest) ++ l) = subst (λ (ms : List Made). Legal f (triples 0 ms ++ l)) cut legal in
-        let before : IsPast f w l page rest pairs = past_tries word value n earlier order.1 base found fewer order.3 (legal_earlier f 0 order.0 rest l whole) (λ b lt. bits b (omega (arith, lt))) h in
+        let whole : Legal f (triples 0 (order.0 ++ rest) ++ p.list) = subst (λ (ms : List Made). Legal f (triples 0 ms ++ p.list)) cut legal in
+        let before : IsPast f w p.list page rest pairs = past_tries word value n earlier order.1 base found fewer order.3 (legal_earlier f 0 order.0 rest p.list whole) (λ b lt. bits b (omega (arith, lt))) h in
         let tries : TrySteps f.age epoch page t.outcome order.0 = subst (λ (q : ℕ). TrySteps f.age epoch q t.outcome order.0) here order.2 in
-        let done : IsPast f w l (suc page) (order.0 ++ rest) (with_outcome page t.outcome pairs) = past_tried page t.outcome order.0 rest pairs (sym (bits n (omega arith)) ∙ set) tries whole before in
+        let done : IsPast f w p.list (suc page) (order.0 ++ rest) (with_outcome page t.outcome pairs) = past_tried page t.outcome order.0 rest pairs (sym (bits n (omega arith)) ∙ set) tries whole before in
         let told_are : outcomes_in (t ∷ earlier) ++ found ≡ with_outcome page t.outcome pairs = first_outcome t.page t.outcome (outcomes_in earlier) found ∙ ap (λ (q : ℕ). with_outcome q t.outcome pairs) here in
-        past_at f w l (suc page) (64 * word + suc n) (steps ++ base) (outcomes_in (t ∷ earlier) ++ found) (omega arith)
-        (past_by f w l (suc page) (order.0 ++ rest) (steps ++ base) (with_outcome page t.outcome pairs) (outcomes_in (t ∷ earlier) ++ found) (sym cut) (sym told_are) done)
+        past_at f w p.list (suc page) (64 * word + suc n) (steps ++ base) (outcomes_in (t ∷ earlier) ++ found) (omega arith)
+        (past_by f w p.list (suc page) (order.0 ++ rest) (steps ++ base) (with_outcome page t.outcome pairs) (outcomes_in (t ∷ earlier) ++ found) (sym cut) (sym told_are) done)
     | inr clear ↦
         let page : ℕ = 64 * word + n in
         let pairs : List (ℕ × Outcome) = outcomes_in (t ∷ earlier) ++ found in
-        let before : IsPast f w l page (steps ++ base) pairs = past_tries word value n (t ∷ earlier) steps base found (pages ∙ pages_at word value n false clear) order legal (λ b lt. bits b (omega (arith, lt))) h in
-        past_at f w l (suc page) (64 * word + suc n) (steps ++ base) pairs (omega arith) (past_other page (steps ++ base) pairs (sym (bits n (omega arith)) ∙ clear) before)
+        let before : IsPast f w p.list page (steps ++ base) pairs = past_tries word value n (t ∷ earlier) steps base found (pages ∙ pages_at word value n false clear) order legal (λ b lt. bits b (omega (arith, lt))) h in
+        past_at f w p.list (suc page) (64 * word + suc n) (steps ++ base) pairs (omega arith) (past_other page (steps ++ base) pairs (sym (bits n (omega arith)) ∙ clear) before)
   ]
 
   -- ==== the words below the n-th
   past_words : (n : ℕ) (words : List WordRead) (steps base : List Made) → map (λ r. r.number) words ≡ numbers_below n
-      → InTurn (WordSteps f.age epoch) words steps → Legal f (triples 0 (steps ++ base) ++ l) → IsPast f w l 0 base []
-      → IsPast f w l (64 * n) (steps ++ base) (outcomes_in (all_tried words))
-  past_words zero [] steps base numbers order legal h = past_by f w l 0 base (steps ++ base) [] [] (ap (λ (ms : List Made). ms ++ base) (sym order)) refl h
+      → InTurn (WordSteps f.age epoch) words steps → Legal f (triples 0 (steps ++ base) ++ p.list) → IsPast f w p.list 0 base []
+      → IsPast f w p.list (64 * n) (steps ++ base) (outcomes_in (all_tried words))
+  past_words zero [] steps base numbers order legal h = past_by f w p.list 0 base (steps ++ base) [] [] (ap (λ (ms : List Made). ms ++ base) (sym order)) refl h
   past_words zero (r ∷ words) steps base numbers order legal h = absurd (no_first r.number (map (λ r. r.number) words) numbers)
   past_words (suc n) [] steps base numbers order legal h = absurd (no_first n (numbers_below n) (sym numbers))
   past_words (suc n) (r ∷ words) steps base numbers order legal h =
@@ -228,18 +226,18 @@ module _ (f : Profile) (p : Progress) (w : World) (valid : IsValid f) (between :
       let piece : order.0 ≡ read.after ++ (look ∷ []) = read.steps_are ∙ ap (λ (x : ℕ). read.after ++ (made (Look (Word.Empty x)) r.value ∷ [])) here in
       let cut : steps ++ base ≡ read.after ++ (look ∷ rest) =
       ap (λ (ms : List Made). ms ++ base) (order.4 ∙ ap (λ (ms : List Made). ms ++ order.1) piece) ∙ (append_assoc (read.after ++ (look ∷ [])) order.1 base ∙ append_assoc read.after (look ∷ []) rest) in
-      let whole : Legal f (triples 0 (read.after ++ (look ∷ rest)) ++ l) = subst (λ (ms : List Made). Legal f (triples 0 ms ++ l)) cut legal in
-      let begun : Legal f (triples 0 (look ∷ rest) ++ l) = legal_earlier f 0 read.after (look ∷ rest) l whole in
-      let before : IsPast f w l (64 * n) rest pairs = past_words n words order.1 base fewer order.3 begun.1 h in
+      let whole : Legal f (triples 0 (read.after ++ (look ∷ rest)) ++ p.list) = subst (λ (ms : List Made). Legal f (triples 0 ms ++ p.list)) cut legal in
+      let begun : Legal f (triples 0 (look ∷ rest) ++ p.list) = legal_earlier f 0 read.after (look ∷ rest) p.list whole in
+      let before : IsPast f w p.list (64 * n) rest pairs = past_words n words order.1 base fewer order.3 begun.1 h in
       let bits : ((b : ℕ) → b < 64 → has_bit r.value b ≡ hinted (64 * n + b)) = λ b lt. value_bit n r.value b rest lt begun.0.answer_is (before.spared (64 * n + b) (omega arith)) in
       let pages : map (λ t. t.page) r.tried ≡ pages_set n r.value 64 = read.pages_are ∙ ap (λ (x : ℕ). pages_set x r.value 64) here in
-      let done : IsPast f w l (64 * n + 64) (read.after ++ (look ∷ rest)) (outcomes_in r.tried ++ pairs) =
+      let done : IsPast f w p.list (64 * n + 64) (read.after ++ (look ∷ rest)) (outcomes_in r.tried ++ pairs) =
       past_tries n r.value 64 r.tried read.after (look ∷ rest) pairs pages read.tries whole bits (past_look (64 * n) n r.value rest pairs before) in
-      past_at f w l (64 * n + 64) (64 * suc n) (steps ++ base) (outcomes_in (all_tried (r ∷ words))) (omega arith)
-      (past_by f w l (64 * n + 64) (read.after ++ (look ∷ rest)) (steps ++ base) (outcomes_in r.tried ++ pairs) (outcomes_in (all_tried (r ∷ words))) (sym cut) (sym (outcomes_append r.tried (all_tried words))) done)
+      past_at f w p.list (64 * n + 64) (64 * suc n) (steps ++ base) (outcomes_in (all_tried (r ∷ words))) (omega arith)
+      (past_by f w p.list (64 * n + 64) (read.after ++ (look ∷ rest)) (steps ++ base) (outcomes_in r.tried ++ pairs) (outcomes_in (all_tried (r ∷ words))) (sym cut) (sym (outcomes_append r.tried (all_tried words))) done)
 
   -- before the first word: the epoch is read
-  past_none : IsPast f w l 0 (made (Look Word.Epoch) epoch ∷ []) []
+  past_none : IsPast f w p.list 0 (made (Look Word.Epoch) epoch ∷ []) []
   past_none = record {
     found_are = refl;
     spared = λ q le. (refl, tt);
@@ -250,6 +248,6 @@ module _ (f : Profile) (p : Progress) (w : World) (valid : IsValid f) (between :
 
   -- THE WHOLE PASS
   pub past_all : (words : List WordRead) (read : List Made) → map (λ r. r.number) words ≡ numbers_below (vector_words f.pages)
-      → InTurn (WordSteps f.age epoch) words read → Legal f (triples 0 (read ++ (made (Look Word.Epoch) epoch ∷ [])) ++ l)
-      → IsPast f w l (64 * vector_words f.pages) (read ++ (made (Look Word.Epoch) epoch ∷ [])) (outcomes_in (all_tried words))
+      → InTurn (WordSteps f.age epoch) words read → Legal f (triples 0 (read ++ (made (Look Word.Epoch) epoch ∷ [])) ++ p.list)
+      → IsPast f w p.list (64 * vector_words f.pages) (read ++ (made (Look Word.Epoch) epoch ∷ [])) (outcomes_in (all_tried words))
   past_all words read numbers order legal = past_words (vector_words f.pages) words read (made (Look Word.Epoch) epoch ∷ []) numbers order legal past_none

@@ -1,24 +1,21 @@
 -- WHAT A PASS READS, where no other actor makes a step: looks change no word, and before grains are taken the words of a page are those that were looked at.
-use Rattle.std.proofs.Common.{◌≡◌, ◌≢◌, ℕ, zero, suc, ◌/◌, ◌%◌, ◌<◌, ◌≤◌, ◌==◌, bit_and, Bool, true, false, ◌&&◌, if◌then◌else◌, List, [], ◌∷◌, ◌++◌, Option}
-use Rattle.std.proofs.Common.{None, Some, inl, inr, refl, ap, sym, ◌∙◌, subst, arith, true≢false, ne_eqb, w64}
-use Rattle.std.proofs.lemmas.Bool.{false≢true, cases_eq}
+use Rattle.std.proofs.Common.{◌≡◌, ◌≢◌, ℕ, zero, suc, ◌<◌, ◌≤◌, ◌==◌, bit_and, Bool, true, false, ◌&&◌, if◌then◌else◌, List, [], ◌∷◌, ◌++◌, Option, None, inl}
+use Rattle.std.proofs.Common.{inr, refl, ap, sym, ◌∙◌, subst, arith, true≢false, ne_eqb, w64}
+use Rattle.std.proofs.lemmas.Bool.{cases_eq}
 use Rattle.std.specs.Int.{bit_not}
 use Rattle.pas_large.proofs.Told.{looks_same}
-use Rattle.pas_bits.specs.Bits.{has_bit}
 use Rattle.pas_profile.specs.{Directories.number_of, Directories.deed_word_of, Layouts.same_word, Profiles.IsDirectoryOf}
 use Rattle.pas_profile.specs.declared.{directory.Directory.Directory, profile.Profile.Profile, word.Word.Word}
 use Rattle.pas_steps.specs.{Desks.made, Desks.triples, Effects.target, Effects.new_value, Views.epoch_of, Views.all_ones}
 use Rattle.pas_steps.specs.Kinds.{Kinds, kind_of, place_of, is_in, apart, looking, Only, LookFree, LookDeed, LookBacked, Taking, Putting, Claiming, Stamping}
 use Rattle.pas_steps.specs.Lists.{Whole, part, word_after, Legal}
-use Rattle.pas_steps.specs.declared.step.{Made.Made, Step.Step}
-use Rattle.pas_steps.specs.declared.step.Step.TheVariants.{Look, Take, Put, TakeRight, Stamp}
+use Rattle.pas_steps.specs.declared.step.{Made.Made, Step.Step, Step.TheVariants.Look}
 use Rattle.pas_steps.proofs.Apart.{in_apart, only_both, only_within}
 use Rattle.pas_core.specs.Rights.{eligible_bit}
-use Rattle.pas_core.proofs.{Deeds.looked, OneActor.legal_earlier}
 use Rattle.pas_rights.specs.{Looks.looks, Looks.looks_until, Looks.AreUsed, Takes.takes, Words.ones}
 use Rattle.pas_rights.specs.declared.reading.Used.{Used}
 use Rattle.pas_rights.proofs.{Looks.looks_only, Orders.until_only}
-use Rattle.pas_scavenger.specs.{Pages.first_looks, Pages.AsksSteps, Readings.takes_until}
+use Rattle.pas_scavenger.specs.{Pages.AsksSteps, Readings.takes_until}
 use Rattle.pas_same_text.proofs.PassedPages.{first_only}
 
 -- ---- looks change no word

@@ -1,7 +1,7 @@
 -- A PASS IN THE TEXT: each page has the outcome that it had when the pass began, and what comes of all of them.
-use Rattle.std.proofs.Common.{◌≡◌, ℕ, zero, suc, ◌+◌, ◌*◌, ◌^◌, ◌≤◌, ◌==◌, nat_lt, Bool, true, false, not, if◌then◌else◌, List, [], ◌∷◌, ◌++◌, map, reverse}
-use Rattle.std.proofs.Common.{append_assoc, append-nil, Option, None, Some, inl, inr, refl, ap, sym, ◌∙◌, subst, arith, true≢false, eq-eqb, eqb-true, ne_eqb}
-use Rattle.std.proofs.lemmas.Bool.{false≢true, or_cases, or_left, or_right, not_from_false}
+use Rattle.std.proofs.Common.{◌≡◌, ℕ, zero, suc, ◌+◌, ◌*◌, ◌^◌, ◌≤◌, ◌==◌, Bool, true, false, not, if◌then◌else◌, List, [], ◌∷◌, ◌++◌, map, reverse}
+use Rattle.std.proofs.Common.{append_assoc, append-nil, Option, None, Some, refl, ap, sym, ◌∙◌, subst, arith, true≢false, eq-eqb, eqb-true, ne_eqb}
+use Rattle.std.proofs.lemmas.Bool.{false≢true, or_cases, or_left, not_from_false}
 use Rattle.std.proofs.lemmas.{Grind.reverse_onto, List.Concat.flat_map-append}
 use Rattle.std.specs.List.{find, filter, list_any}
 use Rattle.pas_profile.specs.declared.{event.Event.Event, event.Outcome.Outcome, profile.Profile.Profile}
@@ -11,11 +11,11 @@ use Rattle.pas_answers.specs.PassRecords.{record_of}
 use Rattle.pas_report.specs.declared.record.{Record.Record, Said.Said}
 use Rattle.pas_trace.specs.Acts.{numbers_from}
 use Rattle.pas_one_text.specs.State.{Cache, World, each, says}
-use Rattle.pas_one_text.specs.Pages.{page_numbers, is_free, are_free, is_kept, is_hinted}
+use Rattle.pas_one_text.specs.Pages.{page_numbers, is_free, is_kept, is_hinted}
 use Rattle.pas_one_text.specs.Passes.{used_word, free_bits, outcome_backed, outcome_of, comes_to, examines, passes}
 use Rattle.pas_same_text.specs.Same.{has_number, lives_in}
-use Rattle.pas_same_text.proofs.{CacheLists.all_locals, GivenBack.each_same, GivenBack.free_kept, PassOutcomes.pair, PassOutcomes.stays_hinted}
-use Rattle.pas_same_text.proofs.{Tests.filtered_has, Tests.has_filtered}
+use Rattle.pas_same_text.proofs.{CacheLists.all_locals, GivenBack.free_kept, PassOutcomes.pair, PassOutcomes.stays_hinted, Tests.filtered_has}
+use Rattle.pas_same_text.proofs.{Tests.has_filtered}
 
 -- ---- what the outcome of a page rests on
 bits_same : (w v : World) (page word : ℕ) → ((b : ℕ) → is_free v page b ≡ is_free w page b) → (n : ℕ) → free_bits v page word n ≡ free_bits w page word n

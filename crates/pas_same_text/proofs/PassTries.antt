@@ -1,9 +1,8 @@
 -- WHAT COMES OF A PAGE THAT IS TRIED: its outcome is that of the text, and where that ends its hint, it has none afterwards.
-use Rattle.std.proofs.Common.{◌≡◌, ◌≢◌, ℕ, ◌+◌, ◌/◌, ◌%◌, ◌<◌, ◌≤◌, Bool, true, false, if◌then◌else◌, List, [], ◌∷◌, ◌++◌, Option, None, Some, inl, inr, refl}
-use Rattle.std.proofs.Common.{ap, sym, ◌∙◌, subst, arith, true≢false, eq-eqb}
+use Rattle.std.proofs.Common.{◌≡◌, ◌≢◌, ℕ, ◌+◌, ◌/◌, ◌<◌, ◌≤◌, Bool, true, false, if◌then◌else◌, List, [], ◌∷◌, ◌++◌, Option, None, Some, inl, inr, refl, ap}
+use Rattle.std.proofs.Common.{sym, ◌∙◌, subst, arith, true≢false, eq-eqb}
 use Rattle.std.proofs.lemmas.Bool.{false≢true, false_from_ne_true}
 use Rattle.pas_large.proofs.{Told.looks_same, Left.hints_both}
-use Rattle.pas_bits.specs.Bits.{has_bit}
 use Rattle.pas_bits.specs.declared.mask.Mask4.{Mask4}
 use Rattle.pas_bits.proofs.PageVectors.{page_bit-clear}
 use Rattle.pas_profile.specs.{Directories.number_of, Profiles.IsValid, Profiles.IsPage}
@@ -30,7 +29,7 @@ use Rattle.pas_same_text.specs.{Same.IsSame, Acts.IsBetween, Acts.AreEndsStamped
 use Rattle.pas_same_text.proofs.GivingBack.{HintsPage, OffersPage, WasRead, backed_stays, hinted_by, hint_read, hints_none, hints_of, once_parts}
 use Rattle.pas_same_text.proofs.PassOutcomes.{WasOffered, stays_hinted, bare_outcome, used_outcome, kept_outcome, young_outcome, old_outcome, empty_backed}
 use Rattle.pas_same_text.proofs.PassReadings.{frees_stay, stamps_stay, looks_told, IsAsked, asking, asks_only, asks_told, none_used}
-use Rattle.pas_same_text.proofs.{PassedPages.AreWordsKept, PassedPages.IsSpared, PassedPages.first_only, ReturnHints.return_hints}
+use Rattle.pas_same_text.proofs.{PassedPages.AreWordsKept, PassedPages.IsSpared, PassedPages.first_only, EntrySteps.return_hints}
 
 -- ---- steps of some kinds hint no page, or offer none
 none_hints : (ks : Kinds) → apart ks (Hinting ∷ []) ≡ true → (page : ℕ) (xs : List Made) → Only ks xs → HintsPage page xs → ⊥
@@ -84,13 +83,10 @@ judging = Unbacking ∷ LookStamp ∷ resting
 
 module _ (f : Profile) (p : Progress) (w : World) (valid : IsValid f) (between : IsBetween f p) (same : IsSame f p w) (stamped : AreEndsStamped p.list)
     (page epoch : ℕ) (of : IsPage f page) (now : epoch ≡ w.epoch) where
-  abbrev l : Whole
-  l = p.list
-
   -- it begins after this list, which left the page's words as they were
   module _ (before : Whole) (kept : AreWordsKept page p.list before) where
     -- ---- the right isn't asked for, or not got
-    without_right : (o : Outcome) (steps : List Made) → EndsWithout page o steps → Legal f (triples 0 steps ++ before) → IsExamined f w l page o steps
+    without_right : (o : Outcome) (steps : List Made) → EndsWithout page o steps → Legal f (triples 0 steps ++ before) → IsExamined f w p.list page o steps
     without_right Outcome.Bare steps h legal = search (arith, bare_outcome, false≢true, none_hints, none_offers)
     without_right (Outcome.InUse word value) steps h legal =
         let back : Made = made (Look (Word.Backed page)) h.0 in
@@ -98,7 +94,7 @@ module _ (f : Profile) (p : Progress) (w : World) (valid : IsValid f) (between :
         let whole : Legal f (triples 0 (first_looks page h.0 used) ++ before) = subst (λ (ms : List Made). Legal f (triples 0 ms ++ before)) h.3 legal in
         let begun : Legal f (triples 0 (back ∷ []) ++ before) = legal_earlier f 0 (looks_until page used) (back ∷ []) before whole in
         let all : Only looking (first_looks page h.0 used) = first_only page h.0 used in
-        let read : value ≡ word_after l (Word.Free page word) = whole.0.answer_is ∙ (looks_same 0 (looks page ones word ++ (back ∷ [])) before (Word.Free page word) all.1 ∙ kept.free word) in
+        let read : value ≡ word_after p.list (Word.Free page word) = whole.0.answer_is ∙ (looks_same 0 (looks page ones word ++ (back ∷ [])) before (Word.Free page word) all.1 ∙ kept.free word) in
         let only : Only looking steps = subst (Only looking) (sym h.3) all in
         record {
           is = used_outcome f p w valid between same stamped page word h.2.within (λ none. h.1 (begun.0.answer_is ∙ (kept.backed ∙ none)))
@@ -112,8 +108,8 @@ module _ (f : Profile) (p : Progress) (w : World) (valid : IsValid f) (between :
         let d : Directory = h.0 in
         let whole : Legal f (triples 0 (made (Hint page) h.1 ∷ h.2) ++ before) = subst (λ (ms : List Made). Legal f (triples 0 ms ++ before)) h.4 legal in
         let a : IsAsked f before page d false = asks_told f 0 before page d false h.2 h.3 whole.1 in
-        let some : word_after l (Word.Backed page) ≢ 0 = λ none. a.backed (kept.backed ∙ none) in
-        let full : ((word : ℕ) → word < 4 → word_after l (Word.Free page word) ≡ all_ones) = λ word small. sym (kept.free word) ∙ a.full word small in
+        let some : word_after p.list (Word.Backed page) ≢ 0 = λ none. a.backed (kept.backed ∙ none) in
+        let full : ((word : ℕ) → word < 4 → word_after p.list (Word.Free page word) ≡ all_ones) = λ word small. sym (kept.free word) ∙ a.full word small in
         let only : Only (Hinting ∷ asking) steps = subst (Only (Hinting ∷ asking)) (sym h.4) (refl, only_within asking (Hinting ∷ asking) h.2 refl (asks_only page d false h.2 h.3)) in
         search (arith, kept_outcome, empty_backed, true≢false, none_offers)
     without_right o steps h legal = absurd h
@@ -125,16 +121,16 @@ module _ (f : Profile) (p : Progress) (w : World) (valid : IsValid f) (between :
       middle : Legal f (triples 0 (after ++ rest) ++ before)
       middle = legal_earlier f 0 back (after ++ rest) before legal
 
-      some_backed : word_after l (Word.Backed page) ≢ 0
+      some_backed : word_after p.list (Word.Backed page) ≢ 0
       some_backed zero = asked.backed (kept.backed ∙ zero)
 
-      all_full : (word : ℕ) → word < 4 → word_after l (Word.Free page word) ≡ all_ones
+      all_full : (word : ℕ) → word < 4 → word_after p.list (Word.Free page word) ≡ all_ones
       all_full word small = sym (kept.free word) ∙ asked.full word small
 
-      on_offer : eligible_bit l (number_of d) page ≡ true
+      on_offer : eligible_bit p.list (number_of d) page ≡ true
       on_offer = sym (kept.offer (number_of d)) ∙ asked.offered
 
-      was_offered : WasOffered f l page
+      was_offered : WasOffered f p.list page
       was_offered = record { directory = d; of_profile = asked.of_profile; offered = on_offer }
 
       -- after the page lost its memory it isn't hinted
@@ -151,14 +147,14 @@ module _ (f : Profile) (p : Progress) (w : World) (valid : IsValid f) (between :
         | inr early ↦ none_hints judging refl page (after ++ rest) (only_both judging after rest (subst (Only judging) (sym is) (refl, (refl, (refl, tt)))) (only_within resting judging rest refl only)) early
       ]
 
-      judged : (o : Outcome) → Judged f.age epoch page used o after → IsExamined f w l page o (back ++ (after ++ rest))
+      judged : (o : Outcome) → Judged f.age epoch page used o after → IsExamined f w p.list page o (back ++ (after ++ rest))
       judged (Outcome.InUse word value) h = absurd (let bad : None ≡ Some (used_at word value) = sym none ∙ h.0 in cc)
       judged Outcome.Bare h =
           let look : Legal f (triples 0 (made (Look (Word.Backed page)) 0 ∷ rest) ++ before) = subst (λ (ms : List Made). Legal f (triples 0 (ms ++ rest) ++ before)) h.1 middle in
           absurd (asked.backed (sym (look.0.answer_is ∙ backed_stays resting refl 0 rest before page only)))
       judged (Outcome.Young stamp) h =
           let look : Legal f (triples 0 (made (Look (Word.Stamp page)) stamp ∷ made (Look (Word.Backed page)) h.0 ∷ rest) ++ before) = subst (λ (ms : List Made). Legal f (triples 0 (ms ++ rest) ++ before)) h.4 middle in
-          let read : stamp ≡ word_after l (Word.Stamp page) = look.0.answer_is ∙ (stamps_stay resting refl 0 (made (Look (Word.Backed page)) h.0 ∷ rest) before page (refl, only) ∙ kept.stamp) in
+          let read : stamp ≡ word_after p.list (Word.Stamp page) = look.0.answer_is ∙ (stamps_stay resting refl 0 (made (Look (Word.Backed page)) h.0 ∷ rest) before page (refl, only) ∙ kept.stamp) in
           let young : epoch < stamp + f.age = h.3 in
           record {
             is = young_outcome f p w valid between same stamped page d of some_backed all_full asked.of_profile on_offer (omega (arith, young, now, read)) ∙ ap (λ (n : ℕ). Outcome.Young n) (sym read);
@@ -168,7 +164,7 @@ module _ (f : Profile) (p : Progress) (w : World) (valid : IsValid f) (between :
           }
       judged Outcome.Unbacked h =
           let look : Legal f (triples 0 (made (Unback page) h.2 ∷ made (Look (Word.Stamp page)) h.1 ∷ made (Look (Word.Backed page)) h.0 ∷ rest) ++ before) = subst (λ (ms : List Made). Legal f (triples 0 (ms ++ rest) ++ before)) h.6 middle in
-          let read : h.1 ≡ word_after l (Word.Stamp page) = look.1.0.answer_is ∙ (stamps_stay resting refl 0 (made (Look (Word.Backed page)) h.0 ∷ rest) before page (refl, only) ∙ kept.stamp) in
+          let read : h.1 ≡ word_after p.list (Word.Stamp page) = look.1.0.answer_is ∙ (stamps_stay resting refl 0 (made (Look (Word.Backed page)) h.0 ∷ rest) before page (refl, only) ∙ kept.stamp) in
           let old : h.1 + f.age ≤ epoch = h.5 in
           record {
             is = old_outcome f p w valid between same stamped page d of some_backed all_full asked.of_profile on_offer (omega (arith, old, now, read));
@@ -178,7 +174,8 @@ module _ (f : Profile) (p : Progress) (w : World) (valid : IsValid f) (between :
           }
       judged Outcome.NotOffered h = absurd h
 
-    with_right : (o : Outcome) (steps : List Made) → EndsWith f.age epoch page o steps → Legal f (triples 0 steps ++ before) → IsExamined f w l page o steps
+    with_right : (o : Outcome) (steps : List Made) → EndsWith f.age epoch page o steps → Legal f (triples 0 steps ++ before)
+        → IsExamined f w p.list page o steps
     with_right o steps h legal =
         let t = h.takes in
         let rest : List Made = takes_until page t.used ++ h.asked in
@@ -189,9 +186,10 @@ module _ (f : Profile) (p : Progress) (w : World) (valid : IsValid f) (between :
         let asks : Only asking h.asked = asks_only page h.directory true h.asked h.asks in
         let none : t.used ≡ None = none_used f 0 before page t.used h.asked t.are (λ word small. frees_stay asking refl 0 h.asked before page word asks ∙ asked.full word small) low in
         let only : Only resting rest = only_both resting (takes_until page t.used) h.asked (only_within (Taking ∷ []) resting (takes_until page t.used) refl (takes_are page t.used)) (only_within asking resting h.asked refl asks) in
-        subst (IsExamined f w l page o) (sym whole) (judged h.directory t.used t.grains t.back t.after rest none asked only t.puts all o t.judged)
+        subst (IsExamined f w p.list page o) (sym whole) (judged h.directory t.used t.grains t.back t.after rest none asked only t.puts all o t.judged)
 
-    examined : (o : Outcome) (steps : List Made) → ExamineSteps f.age epoch page o steps → Legal f (triples 0 steps ++ before) → IsExamined f w l page o steps
+    examined : (o : Outcome) (steps : List Made) → ExamineSteps f.age epoch page o steps → Legal f (triples 0 steps ++ before)
+        → IsExamined f w p.list page o steps
     examined o steps (inl h) legal = without_right o steps h legal
     examined o steps (inr h) legal = with_right o steps h legal
 

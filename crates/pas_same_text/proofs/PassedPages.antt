@@ -1,12 +1,12 @@
 -- WHAT A PASS LEAVES of the pages that it doesn't examine: steps on other pages leave a page's words, and its bits of the page vectors.
-use Rattle.std.proofs.Common.{arith, ◌≡◌, ℕ, ◌/◌, ◌%◌, ◌==◌, max, bit_and, bit_or, Bool, true, false, ◌&&◌, if◌then◌else◌, List, [], ◌∷◌, ◌++◌, Option, None}
-use Rattle.std.proofs.Common.{Some, slice_index, inl, inr, refl, ap, sym, ◌∙◌, subst, w64}
+use Rattle.std.proofs.Common.{arith, ◌≡◌, ℕ, ◌/◌, ◌%◌, ◌==◌, bit_and, bit_or, Bool, true, false, ◌&&◌, if◌then◌else◌, List, [], ◌∷◌, ◌++◌, Option, None, Some}
+use Rattle.std.proofs.Common.{slice_index, inl, inr, refl, ap, sym, ◌∙◌, subst, w64}
 use Rattle.std.proofs.lemmas.Bool.{false≢true}
 use Rattle.std.specs.Int.{bit_not}
 use Rattle.pas_bits.specs.Bits.{has_bit}
 use Rattle.pas_bits.specs.declared.mask.Mask4.{Mask4}
 use Rattle.pas_bits.proofs.PageVectors.{page_bit-set, page_bit-clear}
-use Rattle.pas_profile.specs.{Blocks.grain_of, Directories.number_of, Directories.deed_word_of, Layouts.same_word}
+use Rattle.pas_profile.specs.{Blocks.grain_of, Layouts.same_word}
 use Rattle.pas_profile.specs.declared.{directory.Directory.Directory, event.Outcome.Outcome, word.Word.Word}
 use Rattle.pas_steps.specs.{Desks.made, Desks.triples, Effects.target, Effects.new_value, Frames.IsReturn, Frames.OnlyReturns, InTurn.numbers_below}
 use Rattle.pas_steps.specs.{Lists.Whole, Lists.part, Lists.word_after, Past.Always, Views.epoch_of}

@@ -1,6 +1,6 @@
 -- THE RUNS THAT A KEEPER TRIES, in the text: one after the other from the lowest up, all pages of each that is usable get deeds, until one serves.
-use Rattle.std.proofs.Common.{◌≡◌, ◌≢◌, ℕ, zero, suc, ◌+◌, ◌<◌, ◌≤◌, nat_lt, Bool, true, false, not, ◌&&◌, if◌then◌else◌, List, [], ◌∷◌, ◌++◌, None, Some, inl}
-use Rattle.std.proofs.Common.{inr, refl, ap, sym, ◌∙◌, subst, arith, append_assoc, true≢false, ne_eqb, lt-ltb, ltb-true}
+use Rattle.std.proofs.Common.{◌≡◌, ◌≢◌, ℕ, zero, suc, ◌+◌, ◌<◌, ◌≤◌, nat_lt, Bool, true, false, if◌then◌else◌, List, [], ◌∷◌, ◌++◌, None, Some, inl, inr, refl}
+use Rattle.std.proofs.Common.{ap, sym, ◌∙◌, subst, arith, append_assoc, true≢false, ne_eqb, lt-ltb, ltb-true}
 use Rattle.std.proofs.lemmas.{Bool.cases_eq, Bool.cases_lt, Bool.Decides.nat_tests, List.map-append}
 use Rattle.std.specs.List.{AllByRecursion}
 use Rattle.pas_profile.specs.declared.{directory.Directory.Directory, event.Event.Event, profile.Profile.Profile}
@@ -11,6 +11,7 @@ use Rattle.pas_one_text.specs.{State.World, Pages.page_numbers, Searches.deeds, 
 use Rattle.pas_one_text.specs.Runs.{large_of, is_run, deeds_run, serves_pages}
 use Rattle.pas_same_text.proofs.ReadyPages.{shown, shown_events}
 use Rattle.pas_same_text.proofs.RunEvents.{each_in_turn, shown_both, deeds_of, AreFalling, AllInRun, deeds_in_turn}
+use Rattle.pas_profile.proofs.Lists.{all_map}
 
 -- ==== PAGES FROM THE HIGHEST DOWN: those below a page, and the others
 abbrev pub below : ℕ → List ℕ → List ℕ
@@ -25,11 +26,6 @@ above e (q ∷ qs) = if nat_lt q e then [] else q ∷ above e qs
 all_and : (P Q : ℕ → Type 0) (qs : List ℕ) → AllByRecursion P qs → AllByRecursion Q qs → AllByRecursion (λ q. P q × Q q) qs
 all_and P Q [] ps rs = tt
 all_and P Q (q ∷ qs) ps rs = ((ps.0, rs.0), all_and P Q qs ps.1 rs.1)
-
--- What is so of each of several pages holds of them in any weaker form.
-pub all_so : (P Q : ℕ → Type 0) (qs : List ℕ) → ((q : ℕ) → P q → Q q) → AllByRecursion P qs → AllByRecursion Q qs
-all_so P Q [] so all = tt
-all_so P Q (q ∷ qs) so all = (so q all.0, all_so P Q qs so all.1)
 
 by_test : (P : List ℕ → Type 0) (t : Bool) (xs ys : List ℕ) → (t ≡ true → P xs) → (t ≡ false → P ys) → P (if t then xs else ys)
 by_test P true xs ys one other = one refl
@@ -65,7 +61,7 @@ module _ (e : ℕ) where
   below_lt : (qs : List ℕ) → AreFalling qs → AllByRecursion (λ q. q < e) (below e qs)
   below_lt [] falls = tt
   below_lt (q ∷ qs) falls = by_test (AllByRecursion (λ x. x < e)) (nat_lt q e) (q ∷ qs) (below e qs)
-      (λ yes. let lt = ltb-true q e yes in (lt, all_so (λ x. x < q) (λ x. x < e) qs (λ x less. omega (arith, less, lt)) falls.0))
+      (λ yes. let lt = ltb-true q e yes in (lt, all_map (λ x. x < q) (λ x. x < e) qs (λ x less. omega (arith, less, lt)) falls.0))
       (λ no. below_lt qs falls.1)
 
   not_lt : (q : ℕ) → nat_lt q e ≡ false → e ≤ q
@@ -156,7 +152,7 @@ module _ (f : Profile) (keeper k name heap n : ℕ) (w : World) (made : List ℕ
     events = search (arith, shown_events, both_deeds, parts)
 
     within : AllInRun p (n + 2) upper
-    within = all_so (λ q. (e ≤ q) × ((q < stop) × ((r : ℕ) × IsInRun r (n + 2) q × ((1 ≤ r) × (r < end) × (is_run f w heap (n + 2) r ≡ true))))) (IsInRun p (n + 2)) upper one
+    within = all_map (λ q. (e ≤ q) × ((q < stop) × ((r : ℕ) × IsInRun r (n + 2) q × ((1 ≤ r) × (r < end) × (is_run f w heap (n + 2) r ≡ true))))) (IsInRun p (n + 2)) upper one
         (all_and (λ q. e ≤ q) (λ q. (q < stop) × ((r : ℕ) × IsInRun r (n + 2) q × ((1 ≤ r) × (r < end) × (is_run f w heap (n + 2) r ≡ true)))) upper (above_ge e (below stop made))
         (above_all e (λ q. (q < stop) × ((r : ℕ) × IsInRun r (n + 2) q × ((1 ≤ r) × (r < end) × (is_run f w heap (n + 2) r ≡ true)))) (below stop made)
         (all_and (λ q. q < stop) (λ q. (r : ℕ) × IsInRun r (n + 2) q × ((1 ≤ r) × (r < end) × (is_run f w heap (n + 2) r ≡ true))) (below stop made) (below_lt stop made is.falls) (below_all stop (λ q. (r : ℕ) × IsInRun r (n + 2) q × ((1 ≤ r) × (r < end) × (is_run f w heap (n + 2) r ≡ true))) made is.of_runs))))
@@ -234,7 +230,7 @@ module _ (f : Profile) (keeper k name heap n : ℕ) (w : World) (made : List ℕ
     ]
 
     all_below : AllByRecursion (λ q. q < first + (n + 2)) made
-    all_below = search (arith, all_so)
+    all_below = search (arith, all_map)
 
     -- Where a run of the walk serves, the text raises the guard there, with the deeds of the walk made.
     pub found_text : raises_from f keeper k name heap n (page_numbers f) w ≡ raises keeper name heap first n (shown (deeds_of keeper d made) w)
@@ -246,7 +242,7 @@ module _ (f : Profile) (keeper k name heap n : ℕ) (w : World) (made : List ℕ
   module _ (last : end ≡ f.pages + 1) (none : (r : ℕ) → 1 ≤ r → r < end → is_run f w heap (n + 2) r ≡ true → are_bare w r n ≡ false) where
     through : (m p e : ℕ) → 1 ≤ p → p + m ≡ end → IsUpTo e p
         → raises_from f keeper k name heap n (numbers_from p m) (upto e) ≡ serves_pages f k name heap n (shown (deeds_of keeper d made) w)
-    through zero p e low at up = ap (serves_pages f k name heap n) (whole e (all_so (λ q. (r : ℕ) × IsInRun r (n + 2) q × ((1 ≤ r) × (r < end) × (is_run f w heap (n + 2) r ≡ true))) (λ q. q < e) made
+    through zero p e low at up = ap (serves_pages f k name heap n) (whole e (all_map (λ q. (r : ℕ) × IsInRun r (n + 2) q × ((1 ≤ r) × (r < end) × (is_run f w heap (n + 2) r ≡ true))) (λ q. q < e) made
         (λ q h. let past = up.past h.0 h.2.0 (omega (arith, h.2.1, at)) h.2.2 in omega (arith, h.1.1, past)) is.of_runs))
     through (suc m) p e low at up = pass_by (serves_pages f k name heap n (shown (deeds_of keeper d made) w)) e p m low (omega (arith, at)) up (none p low (omega (arith, at)))
         (λ e' up'. through m (p + 1) e' (omega arith) (omega (arith, at)) up')

@@ -1,7 +1,7 @@
 -- A PAGE IS MADE READY for a block: the events of a search before a give are those of the text, by the machine's rules alone.
 use Rattle.std.proofs.Common.{◌≡◌, ◌≢◌, ℕ, ◌==◌, Bool, true, false, if◌then◌else◌, List, [], ◌∷◌, ◌++◌, map, Option, None, Some, ◌⊎◌, inl, inr, refl, ap, sym}
-use Rattle.std.proofs.Common.{◌∙◌, subst, ◌+◌, ◌*◌, ◌/◌, ◌<◌, ◌≤◌, arith, true≢false, eq-eqb, eqb-true}
-use Rattle.std.proofs.lemmas.{Bool.false_from_ne_true, Option.same_Some, Option.none-some}
+use Rattle.std.proofs.Common.{◌∙◌, subst, ◌+◌, ◌*◌, ◌/◌, ◌<◌, ◌≤◌, arith, true≢false, eq-eqb}
+use Rattle.std.proofs.lemmas.Option.{same_Some, none-some}
 use Rattle.pas_profile.specs.declared.{directory.Directory.Directory, event.Event.Event, profile.Profile.Profile, name.Block.Block}
 use Rattle.pas_profile.specs.Blocks.{grain_of, length_of}
 use Rattle.pas_machine.specs.{Machine.Admits, Machine.Run, Machine.Bears, State.deed_in, State.backed_in}
@@ -88,24 +88,6 @@ module _ (k : ℕ) (d : Directory) (page : ℕ) where
   search_at v (m ∷ xs) at =
       let epoch : ℕ = epoch_of (xs ++ v) in
       next_at epoch m.answer m.step (event_of k epoch m.step m.answer) (events_by k v xs) refl (quiet_or m epoch at.0) (search_at v xs at.1)
-
-  -- they give and end no block
-  pub same_live : (es : List Event) (w : World) → AllAtPage k d page es → (shown es w).live ≡ w.live
-  same_live [] w all = refl
-  same_live (e ∷ es) w all = at e all.0 ∙ same_live es w all.1
-    where
-      at : (e : Event) → IsAtPage k d page e → live_after e (shown es w).live ≡ (shown es w).live
-      at e IsAtPage.Deeds = refl
-      at e IsAtPage.Backs = refl
-
-  -- they leave the other pages' deeds
-  pub deed_beside : (q : ℕ) (es base : List Event) → page ≢ q → AllAtPage k d page es → deed_in (es ++ base) q ≡ deed_in base q
-  deed_beside q [] base ne all = refl
-  deed_beside q (e ∷ es) base ne all = at e all.0 ∙ deed_beside q es base ne all.1
-    where
-      at : (e : Event) → IsAtPage k d page e → deed_in (e ∷ (es ++ base)) q ≡ deed_in (es ++ base) q
-      at e IsAtPage.Deeds = ap (λ (t : Bool). if t then Some d else deed_in (es ++ base) q) (false_from_ne_true (page == q) (λ same. ne (eqb-true page q same)))
-      at e IsAtPage.Backs = refl
 
   -- ---- none but those that are due
   deed_there : (o : Option Directory) → (if page == page then Some d else o) ≡ None → ⊥

@@ -1,11 +1,10 @@
 -- A REQUEST OF A CLASS THAT IS REFUSED: place is made for a local allocator, and then no page serves, in the text either.
-use Rattle.std.proofs.Common.{◌≤◌, length, arith, ◌≡◌, ℕ, Bool, true, false, List, [], ◌∷◌, ◌++◌, Option, None, Some, Result, Ok, Err, inl, inr, ap, sym, ◌∙◌}
-use Rattle.std.proofs.Common.{subst}
-use Rattle.pas_profile.specs.{Profiles.IsValid, Profiles.IsAdmitted, Profiles.IsDirectoryOf, Classes.IsClass}
+use Rattle.std.proofs.Common.{◌≤◌, length, arith, ◌≡◌, ℕ, Bool, List, [], ◌∷◌, ◌++◌, Option, None, Some, Result, Ok, Err, inl, inr, ap, sym, ◌∙◌, subst, refl}
+use Rattle.pas_profile.specs.{Profiles.IsAdmitted, Profiles.IsDirectoryOf, Classes.IsClass}
 use Rattle.pas_profile.specs.Requests.{class_home, is_shared, kind_of_route, route_in, room_in}
-use Rattle.pas_profile.specs.declared.{directory.Directory.Directory, directory.Route.Route, event.NoRoom.NoRoom, name.Block.Block, profile.Profile.Profile}
+use Rattle.pas_profile.specs.declared.{directory.Directory.Directory, directory.Route.Route, event.NoRoom.NoRoom, profile.Profile.Profile}
 use Rattle.pas_profile.proofs.ClassFacts.{class_known, class_suits}
-use Rattle.pas_steps.specs.{Desks.triples, Lists.part, Lists.Legal}
+use Rattle.pas_steps.specs.{Desks.triples, Lists.Legal}
 use Rattle.pas_steps.specs.declared.step.Made.{Made}
 use Rattle.pas_core.specs.Fits.{HasNoFit}
 use Rattle.pas_core.proofs.OneActor.{legal_earlier}
@@ -14,15 +13,14 @@ use Rattle.pas_search.proofs.Alone.{refused_told}
 use Rattle.pas_segregated.specs.Takes.{NoSlot, fewer_slots}
 use Rattle.pas_segregated.specs.declared.slots.Slots.{Slots}
 use Rattle.pas_cache.specs.Contents.{Cached}
-use Rattle.pas_cache.specs.Serves.{wanted_for, filling_in, IsRefill, Fetches, IsObtained, IsAnswered, ServesClass, ServesBy}
+use Rattle.pas_cache.specs.Serves.{wanted_for, filling_in, IsRefill, Fetches, IsObtained, IsAnswered, ServesClass}
 use Rattle.pas_report.specs.declared.record.Said.{Said as TheSaid}
-use Rattle.pas_trace.specs.EveryPlan.{IsThread}
-use Rattle.pas_answers.specs.Answers.{Progress, Named, named, Answer, having, IsServed, after_answer, said_of_room, said_of_request, block_of as block_answered}
+use Rattle.pas_answers.specs.Answers.{Progress, Named, named, Answer, after_answer, said_of_room}
 use Rattle.pas_one_text.specs.{State.World, Searches.refusal, Searches.refuses, Order.serves}
 use Rattle.pas_one_text.specs.Classes.{slots_for, takes_page, fetches, serves_class}
 use Rattle.pas_same_text.specs.{Same.IsSame, Same.HasSame, Acts.IsBetween}
 use Rattle.pas_same_text.proofs.{BitfitRequests.none_searched, CacheLists.same_own, ClassFits.class_fits, LoggedFrees.after_with, OneUp.up_to}
-use Rattle.pas_same_text.proofs.{RefusedRequests.refused_to, RefusedRequests.refused_same}
+use Rattle.pas_same_text.proofs.{RefusedRequests.refused_to, RefusedRequests.refused_same, Asked.HasAsked, Asked.answer_reached, Asked.by_route}
 use Rattle.pas_same_text.proofs.FetchedClasses.{HasPlace, IsFetched, with_place, may_fetch, place_fetched, text_fetched, fetch_between, fetch_carried}
 
 -- ---- the fetch as a request of its own
@@ -63,74 +61,85 @@ kind_is : (f : Profile) (heap size align class : ℕ) → IsAdmitted f size alig
     → IsDirectoryOf f (record { heap = heap; kind = kind_of_route shared (Route.Class class) })
 kind_is f heap size align class admitted route known h = search (arith, class_suits)
 
-class_of_request : (f : Profile) (size align class : ℕ) → route_in f size align ≡ Route.Class class → IsClass class
+-- A request's class is one of the classes.
+pub class_of_request : (f : Profile) (size align class : ℕ) → route_in f size align ≡ Route.Class class → IsClass class
 class_of_request f size align class route = class_known f.classes size align class (class_suits f.classes size align class route)
 
-class_directory_of : (f : Profile) (heap size align class : ℕ) → IsAdmitted f size align heap → route_in f size align ≡ Route.Class class
+-- The directory of a request of a class is one of the region.
+pub class_directory_of : (f : Profile) (heap size align class : ℕ) → IsAdmitted f size align heap → route_in f size align ≡ Route.Class class
     → IsDirectoryOf f (class_home f heap class)
 class_directory_of f heap size align class admitted route = kind_is f heap size align class admitted route (class_of_request f size align class route) (is_shared f heap)
 
--- how the thread's cache serves it, in these pages
-pub class_served_by : (f : Profile) (k name heap size align class : ℕ) (p : Progress) (a : Answer) → route_in f size align ≡ Route.Class class
-    → (served : IsServed f k (record { name = name; heap = heap; size = size; align = align }) (having p.names (part k p.list) (p.caches k)) a)
-    → ServesClass (filling_in (class_home f heap class) class) f (p.caches k) a.cache a.steps served.answer
-class_served_by f k name heap size align class p a route served = search (arith, home_of_class)
+-- How the thread's cache serves it, in these pages.
+pub class_served_by : (f : Profile) (k name heap size align class : ℕ) (p : Progress) (a : Answer) (w : World) → route_in f size align ≡ Route.Class class
+    → (asked : HasAsked f k (record { name = name; heap = heap; size = size; align = align }) p a w)
+    → ServesClass (filling_in (class_home f heap class) class) f (p.caches k) a.cache a.steps asked.served.answer
+class_served_by f k name heap size align class p a w route asked =
+    subst (λ (e : Directory). ServesClass (filling_in e class) f (p.caches k) a.cache a.steps asked.served.answer) (home_of_class f heap size align class route)
+    (by_route asked asked.served.answer refl (Route.Class class) route)
 
 -- ---- the request
-module _ (f : Profile) (k name heap size align class : ℕ) (p p' : Progress) (w : World) (thread : IsThread f k) (listed : k ≤ length w.caches)
-    (admitted : IsAdmitted f size align heap) (route : route_in f size align ≡ Route.Class class) (valid : IsValid f) (before : IsBetween f p)
-    (after : IsBetween f p') (same : IsSame f p w)
-    (a : Answer) (served : IsServed f k (record { name = name; heap = heap; size = size; align = align }) (having p.names (part k p.list) (p.caches k)) a) (reached : p' ≡ after_answer p k a) where
+module _ (f : Profile) (k name heap size align class : ℕ) (p : Progress) (a : Answer) (w : World) (listed : k ≤ length w.caches)
+    (admitted : IsAdmitted f size align heap) (route : route_in f size align ≡ Route.Class class) (asked : HasAsked f k (record { name = name; heap = heap; size = size; align = align }) p a w) where
   abbrev c : Cached
   c = p.caches k
 
   abbrev home : Directory
   home = class_home f heap class
 
-  by_class : ServesClass (filling_in home class) f c a.cache a.steps served.answer
-  by_class = class_served_by f k name heap size align class p a route served
+  by_class : ServesClass (filling_in home class) f c a.cache a.steps asked.served.answer
+  by_class = class_served_by f k name heap size align class p a w route asked
 
   -- what was made before the last of its steps came onto a legal list
   legal_fetch : (given steps : List Made) → a.steps ≡ given ++ steps → Legal f (triples k steps ++ p.list)
-  legal_fetch given steps steps_are =
-      let all : Legal f (triples k a.steps ++ p.list) = subst (λ (x : Progress). Legal f x.list) reached after.legal in
-      legal_earlier f k given steps p.list (subst (λ (ms : List Made). Legal f (triples k ms ++ p.list)) steps_are all)
+  legal_fetch given steps steps_are = legal_earlier f k given steps p.list (subst (λ (ms : List Made). Legal f (triples k ms ++ p.list)) steps_are asked.after.legal)
 
   -- slots were fetched, or none were found
   pub fetched_so : (found : Result Slots NoRoom) (fewer : List Slots) (steps given : List Made) → a.steps ≡ given ++ steps
       → Fetches (filling_in home class) f c.locals fewer steps found → IsFetched f k heap class p w found fewer steps
-  fetched_so found fewer steps given steps_are fetch = search (arith, class_directory_of, class_of_request, legal_fetch)
+  fetched_so found fewer steps given steps_are fetch = record {
+    valid = asked.valid;
+    thread = asked.thread;
+    listed = listed;
+    directory = class_directory_of f heap size align class admitted route;
+    known = class_of_request f size align class route;
+    before = asked.before;
+    rest = asked.served.rest;
+    same = asked.same;
+    fetch = fetch;
+    legal = legal_fetch given steps steps_are;
+  }
 
   -- ---- none were found
-  module _ (room : NoRoom) (is : served.answer ≡ Err room) where
-    by_fetch : (fewer : List Slots) (steps : List Made) → a.cache ≡ record c { locals = fewer } → a.steps ≡ steps → IsFetched f k heap class p w (Err room) fewer steps → IsSame f p' (serves_class f k name heap class w)
+  module _ (room : NoRoom) (is : asked.served.answer ≡ Err room) where
+    by_fetch : (fewer : List Slots) (steps : List Made) → a.cache ≡ record c { locals = fewer } → a.steps ≡ steps → IsFetched f k heap class p w (Err room) fewer steps → IsSame f (after_answer p k a) (serves_class f k name heap class w)
     by_fetch fewer steps cache steps_are o =
         let p1 : Progress = up_to p k o.fetch.before fewer in
         let w1 : World = with_place k heap class w in
         let said : Option TheSaid = Some (said_of_room name room) in
         let names : List Named = named name None ∷ p.names in
-        let to : p' ≡ after_with p k steps said names (p1.caches k) =
-        cc (same_own p.caches k (record c { locals = fewer })) in
-        let end : IsBetween f (refused_to p1 k name o.fetch.searched room) = fetch_between f k heap class p w (Err room) fewer steps o [] said names (p1.caches k) (subst (IsBetween f) to after) in
+        let to : after_answer p k a ≡ after_with p k steps said names (p1.caches k) =
+        answer_reached asked (Err room) is ∙ cc (same_own p.caches k (record c { locals = fewer })) in
+        let end : IsBetween f (refused_to p1 k name o.fetch.searched room) = fetch_between f k heap class p w (Err room) fewer steps o [] said names (p1.caches k) (subst (IsBetween f) to asked.after) in
         let ended : IsSame f (refused_to p1 k name o.fetch.searched room) (fetches f k name heap class w1) =
         fetch_refused f k name heap class p1 w1 room o.fetch.searched (place_fetched f k heap class p w (Err room) fewer steps o) o.fetch.refill end in
         rw (text_fetched f k heap class p w (Err room) fewer steps o name, to)
         (fetch_carried f k heap class p w (Err room) fewer steps o [] said names (p1.caches k) (fetches f k name heap class w1) ended)
 
-    obtained : (fewer : List Slots) (steps : List Made) → a.cache ≡ record c { locals = fewer } → a.steps ≡ steps → IsObtained (filling_in home class) f c.locals fewer steps (Err room) → IsSame f p' (serves_class f k name heap class w)
+    obtained : (fewer : List Slots) (steps : List Made) → a.cache ≡ record c { locals = fewer } → a.steps ≡ steps → IsObtained (filling_in home class) f c.locals fewer steps (Err room) → IsSame f (after_answer p k a) (serves_class f k name heap class w)
     obtained fewer steps cache steps_are (inl cached) = absurd (let bad : Err room ≡ Ok cached.0 = cached.1 in cc)
     obtained fewer steps cache steps_are (inr fetch) = by_fetch fewer steps cache steps_are (fetched_so (Err room) fewer steps [] steps_are fetch)
 
     ends_so : (found : Result Slots NoRoom) (fewer : List Slots) (early given : List Made) → a.steps ≡ given ++ early
         → IsObtained (filling_in home class) f c.locals fewer early found → IsAnswered fewer a.cache.locals given found (Err room)
-        → IsSame f p' (serves_class f k name heap class w)
+        → IsSame f (after_answer p k a) (serves_class f k name heap class w)
     ends_so (Ok slots) fewer early given steps_are how ends = absurd ends
     ends_so (Err why) fewer early given steps_are how ends =
         obtained fewer early (by_class.cache ∙ ap (λ (ss : List Slots). record c { locals = ss }) ends.1) (steps_are ∙ ap (λ (ms : List Made). ms ++ early) ends.2)
         (subst (λ (r : NoRoom). IsObtained (filling_in home class) f c.locals fewer early (Err r)) (sym ends.0) how)
 
     -- A request of a class that is refused leads the text to the replay's state.
-    pub class_refused : IsSame f p' (serves f k name heap (route_in f size align) (room_in f size align) align w)
-    class_refused = subst (λ (r : Route). IsSame f p' (serves f k name heap r (room_in f size align) align w)) (sym route)
+    pub class_refused : IsSame f (after_answer p k a) (serves f k name heap (route_in f size align) (room_in f size align) align w)
+    class_refused = subst (λ (r : Route). IsSame f (after_answer p k a) (serves f k name heap r (room_in f size align) align w)) (sym route)
         (ends_so by_class.locals.found by_class.locals.fewer by_class.locals.before by_class.locals.given by_class.locals.steps_are by_class.locals.obtained
         (subst (IsAnswered by_class.locals.fewer a.cache.locals by_class.locals.given by_class.locals.found) is by_class.locals.ends))

@@ -15,15 +15,15 @@ use Rattle.pas_segregated.specs.declared.slots.Slots.{Slots}
 use Rattle.pas_report.specs.declared.record.{Record.Record, Said.Said as TheSaid}
 use Rattle.pas_trace.specs.{Acts.Act, EveryPlan.IsThread}
 use Rattle.pas_trace.specs.declared.{item.Request.Request, plan.What.TheVariants.Alloc}
-use Rattle.pas_answers.specs.Answers.{Caches, Progress, Named, named, standing_for, Answer, having, IsReplaced, wanted_by, records_of, said_by, said_of_request}
-use Rattle.pas_answers.specs.Answers.{with_steps, after_answer, block_of as block_answered}
+use Rattle.pas_answers.specs.Answers.{Caches, Progress, Named, named, standing_for, Answer, having, IsReplaced, wanted_by, records_of, said_by, with_steps}
+use Rattle.pas_answers.specs.Answers.{after_answer}
 use Rattle.pas_answers.specs.Indexes.{IsNamedBy}
 use Rattle.pas_one_text.specs.{State.World, Frees.logs, Frees.frees, Order.serves, Order.logs_replaced, Order.replaces}
 use Rattle.pas_same_text.specs.{Same.IsSame, Acts.IsResting, Acts.IsBetween, Acts.HasUsableBlocks, Requests.IsAsked, Requests.AnswersSame}
 use Rattle.pas_same_text.specs.{Requests.RequestStaysSame}
-use Rattle.pas_same_text.proofs.{AfterRequests.served_rests, AfterRequests.served_log, BackActs.freed_any, CacheLists.same_own, MiddleRest.cached_again}
-use Rattle.pas_same_text.proofs.{MiddleRest.at_rest_now, MiddleRest.middle_rest, LoggedFrees.after_with, LoggedFrees.page_inside, LoggedFrees.freed_is}
-use Rattle.pas_same_text.proofs.{UsableBlocks.act_usable, ManyCaches.serves_many}
+use Rattle.pas_same_text.proofs.{AfterRequests.served_rests, AfterRequests.served_log, BackActs.freed_any, CacheLists.same_own, SeatedActs.cached_again}
+use Rattle.pas_same_text.proofs.{SeatedActs.at_rest_now, SeatedActs.middle_rest, LoggedFrees.after_with, LoggedFrees.page_inside, LoggedFrees.freed_is}
+use Rattle.pas_same_text.proofs.{UsableBlocks.act_usable, SameIndexes.serves_many}
 
 -- ---- records of steps that follow others
 records_both : (later earlier : List Event) → records_of (later ++ earlier) ≡ records_of earlier ++ records_of later
@@ -38,15 +38,12 @@ module _ (f : Profile) (k : ℕ) (r : Request) (old : Block) (p : Progress) (a :
     (is : IsReplaced f k r old (having p.names (part k p.list) (p.caches k)) a)
     (valid : IsValid f) (thread : IsThread f k) (listed : k ≤ length w.caches) (admitted : IsAdmitted f r.size r.align r.heap) (before : IsBetween f p)
     (after : IsBetween f (after_answer p k a)) (same : IsSame f p w) where
-  abbrev came : Answer
-  came = is.placed
-
   -- the replay after the request
   abbrev midway : Progress
-  midway = after_answer p k came
+  midway = after_answer p k is.placed
 
   legal : Legal f midway.list
-  legal = legal_earlier f k is.freed came.steps p.list (subst (λ (ms : List Made). Legal f (triples k ms ++ p.list)) is.steps_are after.legal)
+  legal = legal_earlier f k is.freed is.placed.steps p.list (subst (λ (ms : List Made). Legal f (triples k ms ++ p.list)) is.steps_are after.legal)
 
   -- the thread at the end of the act
   at_end : AtRest f a.cache (part k (triples k a.steps ++ p.list))
@@ -54,37 +51,34 @@ module _ (f : Profile) (k : ℕ) (r : Request) (old : Block) (p : Progress) (a :
       (subst (λ (c : Cached). IsResting f c (p.books k) (part k (triples k a.steps ++ p.list))) (same_own p.caches k a.cache) (after.rest.working k thread))
 
   serves_by : (answer : Result Block NoRoom) → is.served.answer ≡ answer
-      → ServesBy (route_in f r.size r.align) f (wanted_by f r) came.found (p.caches k) came.cache came.steps answer
-  serves_by answer e = subst (λ (x : Result Block NoRoom). ServesBy (route_in f r.size r.align) f (wanted_by f r) came.found (p.caches k) came.cache came.steps x) e is.served.serves
+      → ServesBy (route_in f r.size r.align) f (wanted_by f r) is.placed.found (p.caches k) is.placed.cache is.placed.steps answer
+  serves_by answer e = subst (λ (x : Result Block NoRoom). ServesBy (route_in f r.size r.align) f (wanted_by f r) is.placed.found (p.caches k) is.placed.cache is.placed.steps x) e is.served.serves
 
   own_rest : (answer : Result Block NoRoom) → is.served.answer ≡ answer
-      → MatchResult answer (λ block. TakesEntry f k came.cache a.cache (entry_of old.name) is.freed) (λ room. (is.freed ≡ []) × (a.cache ≡ came.cache))
-      → AtRest f came.cache (part k midway.list)
+      → MatchResult answer (λ block. TakesEntry f k is.placed.cache a.cache (entry_of old.name) is.freed) (λ room. (is.freed ≡ []) × (a.cache ≡ is.placed.cache))
+      → AtRest f is.placed.cache (part k midway.list)
   own_rest (Err room) e none = search (arith, at_end)
   own_rest (Ok block) e takes =
       let serves_it = serves_by (Ok block) e in
-      let log : came.cache.log ≡ (p.caches k).log = served_log f k r p came w block valid thread listed admitted before same is.served.rest legal serves_it in
-      let kept : a.cache.locals ≡ came.cache.locals = ap (λ (c : Cached). c.locals) takes.cache in
+      let log : is.placed.cache.log ≡ (p.caches k).log = served_log f k r p is.placed w block valid thread listed admitted before same is.served.rest legal serves_it in
+      let kept : a.cache.locals ≡ is.placed.cache.locals = ap (λ (c : Cached). c.locals) takes.cache in
       record {
-        locals = subst (RestsWith f came.cache.locals) (sym (part_of_own k came.steps p.list))
-            (served_rests f k r p came w block valid thread listed admitted before same is.served.rest legal serves_it);
+        locals = subst (RestsWith f is.placed.cache.locals) (sym (part_of_own k is.placed.steps p.list))
+            (served_rests f k r p is.placed w block valid thread listed admitted before same is.served.rest legal serves_it);
         few = subst (λ (ls : List Slots). length ls ≤ 32) kept at_end.few;
         entries = subst (All (IsEntryOf f)) (sym log) is.served.rest.entries;
         few_entries = subst (λ (es : List Entry). length es ≤ 64) (sym log) is.served.rest.few_entries;
       }
 
   middle : IsBetween f midway
-  middle = record { legal = legal; rest = middle_rest f p k came.cache came.steps valid thread before is.served.rest legal (own_rest is.served.answer refl is.logged) }
+  middle = record { legal = legal; rest = middle_rest f p k is.placed.cache is.placed.steps valid thread before is.served.rest legal (own_rest is.served.answer refl is.logged) }
 
 -- ---- the act, with all that is known of its request
 module _ (f : Profile) (k : ℕ) (r : Request) (old : Block) (p : Progress) (a : Answer) (w : World) (heap_is : old.heap ≡ r.heap)
     (is : IsReplaced f k r old (having p.names (part k p.list) (p.caches k)) a) (asked : IsAsked f k r p is.placed w) (usable : HasUsableBlocks p)
     (at_request : AnswersSame f k r p is.placed w) (after : IsBetween f (after_answer p k a)) where
-  abbrev placed : Answer
-  placed = is.placed
-
   abbrev q : Progress
-  q = after_answer p k placed
+  q = after_answer p k is.placed
 
   abbrev v : World
   v = serves f k r.name r.heap (route_in f r.size r.align) (room_in f r.size r.align) r.align w
@@ -95,25 +89,25 @@ module _ (f : Profile) (k : ℕ) (r : Request) (old : Block) (p : Progress) (a :
   text : to ≡ logs_replaced f k old (standing_for v.names r.name) v
   text = ap (λ (h : ℕ). let u : World = serves f k r.name h (route_in f r.size r.align) (room_in f r.size r.align) r.align w in logs_replaced f k old (standing_for u.names r.name) u) heap_is
 
-  text_as : (o : Option Block) → placed.names ≡ named r.name o ∷ p.names → to ≡ logs_replaced f k old (Some o) v
+  text_as : (o : Option Block) → is.placed.names ≡ named r.name o ∷ p.names → to ≡ logs_replaced f k old (Some o) v
   text_as o names_are = text ∙ ap (λ (x : Option (Option Block)). logs_replaced f k old x v) (ap (λ (ns : List Named). standing_for ns r.name) (at_request.names ∙ names_are) ∙ last_standing r.name o p.names)
 
   -- ---- where it was refused nothing follows
-  unserved_to : a.steps ≡ placed.steps → a.cache ≡ placed.cache → after_answer p k a ≡ q
+  unserved_to : a.steps ≡ is.placed.steps → a.cache ≡ is.placed.cache → after_answer p k a ≡ q
   unserved_to steps cache =
       ap (λ (ms : List Made). after_with p k ms a.said a.names a.cache) steps
-      ∙ (ap (λ (c : Cached). after_with p k placed.steps a.said a.names c) cache
-      ∙ (ap (λ (s : Option TheSaid). after_with p k placed.steps s a.names placed.cache) is.said_is
-      ∙ ap (λ (ns : List Named). after_with p k placed.steps placed.said ns placed.cache) is.names_are))
+      ∙ (ap (λ (c : Cached). after_with p k is.placed.steps a.said a.names c) cache
+      ∙ (ap (λ (s : Option TheSaid). after_with p k is.placed.steps s a.names is.placed.cache) is.said_is
+      ∙ ap (λ (ns : List Named). after_with p k is.placed.steps is.placed.said ns is.placed.cache) is.names_are))
 
-  unserved : placed.names ≡ named r.name None ∷ p.names → is.freed ≡ [] → a.cache ≡ placed.cache → IsSame f (after_answer p k a) to
+  unserved : is.placed.names ≡ named r.name None ∷ p.names → is.freed ≡ [] → a.cache ≡ is.placed.cache → IsSame f (after_answer p k a) to
   unserved names_are none cache =
-      subst (λ (x : Progress). IsSame f x to) (sym (unserved_to (is.steps_are ∙ ap (λ (ms : List Made). ms ++ placed.steps) none) cache))
+      subst (λ (x : Progress). IsSame f x to) (sym (unserved_to (is.steps_are ∙ ap (λ (ms : List Made). ms ++ is.placed.steps) none) cache))
       (subst (λ (x : World). IsSame f q x) (sym (text_as None names_are)) at_request)
 
   -- ---- where it was served the old name is logged
-  module _ (block : Block) (names_are : placed.names ≡ named r.name (Some block) ∷ p.names) (silent : placed.said ≡ None)
-      (takes : TakesEntry f k placed.cache a.cache (entry_of old.name) is.freed) where
+  module _ (block : Block) (names_are : is.placed.names ≡ named r.name (Some block) ∷ p.names) (silent : is.placed.said ≡ None)
+      (takes : TakesEntry f k is.placed.cache a.cache (entry_of old.name) is.freed) where
     abbrev end : Progress
     end = after_with q k is.freed None q.names a.cache
 
@@ -122,18 +116,18 @@ module _ (f : Profile) (k : ℕ) (r : Request) (old : Block) (p : Progress) (a :
 
     -- the events of the request, and those of a flush after it
     abbrev given : List Event
-    given = events_by k own placed.steps
+    given = events_by k own is.placed.steps
 
     abbrev flushed : List Event
     flushed = events_by k (part k q.list) is.freed
 
     list_is : triples k a.steps ++ p.list ≡ end.list
-    list_is = ap (λ (ms : List Made). triples k ms ++ p.list) is.steps_are ∙ sym (triples_append k is.freed placed.steps p.list)
+    list_is = ap (λ (ms : List Made). triples k ms ++ p.list) is.steps_are ∙ sym (triples_append k is.freed is.placed.steps p.list)
 
     events_are : events_by k own a.steps ≡ flushed ++ given
     events_are =
         ap (events_by k own) is.steps_are
-        ∙ (events_append k is.freed placed.steps own ∙ ap (λ (u : View). events_by k u is.freed ++ given) (sym (part_of_own k placed.steps p.list)))
+        ∙ (events_append k is.freed is.placed.steps own ∙ ap (λ (u : View). events_by k u is.freed ++ given) (sym (part_of_own k is.placed.steps p.list)))
 
     records_are : p.records ++ (records_of (events_by k own a.steps) ++ said_by k a.said) ≡ end.records
     records_are =
@@ -150,7 +144,7 @@ module _ (f : Profile) (k : ℕ) (r : Request) (old : Block) (p : Progress) (a :
         ap (λ (l : Whole). let x : Progress = record (after_answer p k a) { list = l } in x) list_is
         ∙ (ap (λ (rs : List Record). let x : Progress = record (after_answer p k a) { list = end.list; records = rs } in x) records_are
         ∙ (ap (λ (ns : List Named). let x : Progress = record (after_answer p k a) { names = ns; list = end.list; records = end.records } in x) is.names_are
-        ∙ ap (λ (cs : Caches). let x : Progress = record (after_answer p k a) { names = q.names; caches = cs; list = end.list; records = end.records } in x) (sym (cached_again p.caches k placed.cache a.cache))))
+        ∙ ap (λ (cs : Caches). let x : Progress = record (after_answer p k a) { names = q.names; caches = cs; list = end.list; records = end.records } in x) (sym (cached_again p.caches k is.placed.cache a.cache))))
 
     between_end : IsBetween f (with_steps q k is.freed a.cache)
     between_end = let b : IsBetween f end = subst (IsBetween f) end_is after in record { legal = b.legal; rest = b.rest }
@@ -158,7 +152,7 @@ module _ (f : Profile) (k : ℕ) (r : Request) (old : Block) (p : Progress) (a :
     -- each live block still lies on usable grains, as after the request as an act of its own
     usable_then : HasUsableBlocks q
     usable_then =
-        act_usable f (Act.Operates (record { line = 0; actor = k; what = Alloc r.name r.heap r.size r.align })) p q asked.valid asked.before asked.after (placed, asked.served, refl) usable
+        act_usable f (Act.Operates (record { line = 0; actor = k; what = Alloc r.name r.heap r.size r.align })) p q asked.valid asked.before asked.after (is.placed, asked.served, refl) usable
 
     listed_then : k ≤ length v.caches
     listed_then = omega (arith, asked.listed, serves_many f k r.name r.heap (route_in f r.size r.align) (room_in f r.size r.align) r.align w)
@@ -166,7 +160,7 @@ module _ (f : Profile) (k : ℕ) (r : Request) (old : Block) (p : Progress) (a :
     logged : IsSame f end (frees f k (entry_of old.name) v)
     logged =
         freed_any f k (entry_of old.name) q v a.cache is.freed asked.thread listed_then asked.valid asked.after at_request usable_then between_end None
-        (inl (subst (λ (c : Cached). TakesEntry f k c a.cache (entry_of old.name) is.freed) (sym (same_own p.caches k placed.cache)) takes, refl))
+        (inl (subst (λ (c : Cached). TakesEntry f k c a.cache (entry_of old.name) is.freed) (sym (same_own p.caches k is.placed.cache)) takes, refl))
 
     text_logs : frees f k (entry_of old.name) v ≡ logs f k (entry_of old.name) v
     text_logs =
@@ -178,7 +172,7 @@ module _ (f : Profile) (k : ℕ) (r : Request) (old : Block) (p : Progress) (a :
         (subst (λ (x : World). IsSame f end x) (sym (text_as (Some block) names_are ∙ sym text_logs)) logged)
 
   by_answer : (answer : Result Block NoRoom) → is.served.answer ≡ answer
-      → MatchResult answer (λ block. TakesEntry f k placed.cache a.cache (entry_of old.name) is.freed) (λ room. (is.freed ≡ []) × (a.cache ≡ placed.cache))
+      → MatchResult answer (λ block. TakesEntry f k is.placed.cache a.cache (entry_of old.name) is.freed) (λ room. (is.freed ≡ []) × (a.cache ≡ is.placed.cache))
       → IsSame f (after_answer p k a) to
   by_answer answer e takes = search (arith, served_to, unserved)
 

@@ -3,12 +3,12 @@ use Rattle.std.proofs.Common.{◌≡◌, ℕ, zero, suc, ◌+◌, ◌*◌, ◌/�
 use Rattle.std.proofs.Common.{sym, ◌∙◌, arith, eq-eqb, eqb-true, true≢false}
 use Rattle.std.proofs.lemmas.Bool.{false≢true, and_cases, and_from, not_from_false, false_from_ne_true, not-true, not-false}
 use Rattle.pas_bits.specs.Bits.{has_bit}
-use Rattle.pas_profile.specs.Directories.{number_of, deed_word_of, deed_word_numbered, directory_read, IsKind}
+use Rattle.pas_profile.specs.Directories.{number_of, deed_word_of, deed_word_numbered, IsKind}
 use Rattle.pas_profile.specs.Profiles.{IsValid, IsDirectoryOf}
 use Rattle.pas_profile.specs.declared.{directory.Directory.Directory, event.Event.Event, profile.Profile.Profile, word.Word.Word}
 use Rattle.pas_profile.proofs.Codecs.{numbered, deed_word_of-positive, read-deed_word_of, directory_from_profile, same_from_deed_word}
 use Rattle.pas_machine.specs.State.{deed_in}
-use Rattle.pas_steps.specs.{Clear.IsClear, Views.usable_by, Views.usable_by_kind, Views.known_deed}
+use Rattle.pas_steps.specs.{Clear.IsClear, Views.usable_by_kind, Views.known_deed}
 use Rattle.pas_steps.specs.Lists.{Whole, part, word_after, visible, Legal}
 use Rattle.pas_core.specs.Good.{word_of_deed}
 use Rattle.pas_core.specs.Rights.{eligible_bit, IsUsableFree, IsRightOffered, IsRightInOnePlace}
@@ -17,7 +17,7 @@ use Rattle.pas_answers.specs.Answers.{Progress}
 use Rattle.pas_one_text.specs.State.{World}
 use Rattle.pas_one_text.specs.Pages.{each_of, is_same, is_of, is_kept, is_guarded, is_free, has_room, is_offered, is_none}
 use Rattle.pas_same_text.specs.{Same.HasSame, Acts.IsBetween, Words.free_bit}
-use Rattle.pas_same_text.proofs.{FreeGrains.free_unless, KeptPages.keeper, KeptPages.nobody_keeps, Tests.and_first, Tests.and_second}
+use Rattle.pas_same_text.proofs.{FreeGrains.free_unless, FreeGrains.keeper, FreeGrains.nobody_keeps, Tests.and_first, Tests.and_second}
 
 -- ---- tests of numbers that follow each other
 pub record Fails (from n : ℕ) (test : ℕ → Bool) : Type 0 where

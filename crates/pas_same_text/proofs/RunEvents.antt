@@ -21,6 +21,7 @@ use Rattle.pas_trace.specs.Acts.{numbers_from}
 use Rattle.pas_one_text.specs.{State.World, State.shows, State.each, Searches.deeds, Searches.backs}
 use Rattle.pas_same_text.proofs.{Flushes.visible_steps, RunsFound.DeedsInRun}
 use Rattle.pas_same_text.proofs.ReadyPages.{shown, shown_events, unowned, owned}
+use Rattle.pas_profile.proofs.Lists.{all_map}
 
 -- ---- pages of a run, one by one from the first
 abbrev pub in_turn : (ℕ → World → World) → ℕ → ℕ → World → World
@@ -133,19 +134,9 @@ module _ (k : ℕ) (d : Directory) where
   deed_apart : (q p : ℕ) (es : List Event) → q ≢ p → deed_in (Event.Deed k q d ∷ es) p ≡ deed_in es p
   deed_apart q p es ne = ap (λ (t : Bool). if t then Some d else deed_in es p) (ne_eqb q p ne)
 
-  -- none is of a page outside of the run
-  pub deeds_beside : (n first p : ℕ) (ps : List ℕ) (es : List Event) → AllInRun first n ps → (IsInRun first n p → ⊥)
-      → deed_in (deeds_of k d ps ++ es) p ≡ deed_in es p
-  deeds_beside n first p [] es within out = refl
-  deeds_beside n first p (q ∷ ps) es within out = deed_apart q p (deeds_of k d ps ++ es) (λ same. out (subst (IsInRun first n) same within.0)) ∙ deeds_beside n first p ps es within.1 out
-
   fewer_in_run : (n first : ℕ) (ps : List ℕ) → AllInRun first (suc n) ps → AllByRecursion (λ q. q < first + n) ps → AllInRun first n ps
   fewer_in_run n first [] within below = tt
   fewer_in_run n first (q ∷ ps) within below = ((within.0.0, below.0), fewer_in_run n first ps within.1 below.1)
-
-  lower_still : (p q : ℕ) (ps : List ℕ) → q < p → AllByRecursion (λ x. x < q) ps → AllByRecursion (λ x. x < p) ps
-  lower_still p q [] lt below = tt
-  lower_still p q (x ∷ ps) lt below = (omega (arith, below.0, lt), lower_still p q ps lt below.1)
 
   none_within : (first : ℕ) (ps : List ℕ) (w : World) → AllInRun first 0 ps → w ≡ shown (deeds_of k d ps) w
   none_within first [] w within = refl
@@ -167,7 +158,7 @@ module _ (k : ℕ) (d : Directory) where
         ap (deeds k d (first + n)) rest ∙ (ap (λ (y : ℕ). deeds k d y (shown (deeds_of k d ps) w)) (sym same) ∙ unowned k d q (shown (deeds_of k d ps) w) bare)
     | inr ne ↦
         let under : q < first + n = omega (arith, within.0.1, ne) in
-        let lower : AllByRecursion (λ x. x < first + n) (q ∷ ps) = (under, lower_still (first + n) q ps under falls.0) in
+        let lower : AllByRecursion (λ x. x < first + n) (q ∷ ps) = (under, all_map (λ x. x < q) (λ x. x < first + n) ps (λ x h. omega (arith, h, under)) falls.0) in
         let rest : in_turn (deeds k d) first n w ≡ shown (deeds_of k d (q ∷ ps)) w =
         deeds_in_turn f n first (q ∷ ps) w falls (fewer_in_run n first (q ∷ ps) within lower) run (λ p here. all p (here.0, omega (arith, here.1))) in
         let has : deed_in (shown (deeds_of k d (q ∷ ps)) w).events (first + n) ≢ None = λ none. all (first + n) (omega arith, omega arith) (ap (λ (es : List Event). deed_in es (first + n)) (sym (shown_events (deeds_of k d (q ∷ ps)) w)) ∙ none) in
@@ -205,29 +196,7 @@ module _ (f : Profile) (k : ℕ) (l : Whole) (u : World) (legal_l : Legal f l) (
       ∙ (with_shown (if a == 0 then Some (Event.Back k page) else None) es u
       ∙ ap (λ (ms : List Made). shown (events_by k (part k l) ms) u) (sym is)))
 
--- they change no deed
-pub backs_beside : (k n first p : ℕ) (v : View) (steps : List Made) (es : List Event) → InTurn BackStep (pages_from first n) steps
-    → deed_in (events_by k v steps ++ es) p ≡ deed_in es p
-backs_beside k zero first p v steps es turn = ap (λ (ms : List Made). deed_in (events_by k v ms ++ es) p) turn
-backs_beside k (suc n) first p v steps es turn =
-    ap (λ (ms : List Made). deed_in (events_by k v ms ++ es) p) (turn.4 ∙ ap (λ (ms : List Made). ms ++ turn.1) turn.2.1) ∙ (by_answer (turn.2.0 == 0) (events_by k v turn.1) ∙ backs_beside k n first p v turn.1 es turn.3)
-  where
-    by_answer : (t : Bool) (xs : List Event) → deed_in (with_event (if t then Some (Event.Back k (first + n)) else None) xs ++ es) p ≡ deed_in (xs ++ es) p
-    by_answer true xs = refl
-    by_answer false xs = refl
-
 -- neither begins nor ends a block
 pub deeds_live : (k : ℕ) (d : Directory) (ps : List ℕ) (w : World) → (shown (deeds_of k d ps) w).live ≡ w.live
 deeds_live k d [] w = refl
 deeds_live k d (p ∷ ps) w = deeds_live k d ps w
-
--- Backs of the pages of a run leave the live blocks of the text as they were.
-pub backs_live : (k n first : ℕ) (v : View) (steps : List Made) (w : World) → InTurn BackStep (pages_from first n) steps
-    → (shown (events_by k v steps) w).live ≡ w.live
-backs_live k zero first v steps w turn = ap (λ (ms : List Made). (shown (events_by k v ms) w).live) turn
-backs_live k (suc n) first v steps w turn =
-    ap (λ (ms : List Made). (shown (events_by k v ms) w).live) (turn.4 ∙ ap (λ (ms : List Made). ms ++ turn.1) turn.2.1) ∙ (by_answer (turn.2.0 == 0) (events_by k v turn.1) ∙ backs_live k n first v turn.1 w turn.3)
-  where
-    by_answer : (t : Bool) (xs : List Event) → (shown (with_event (if t then Some (Event.Back k (first + n)) else None) xs) w).live ≡ (shown xs w).live
-    by_answer true xs = refl
-    by_answer false xs = refl

@@ -1,26 +1,28 @@
 -- WHAT A SEARCH DOES to hints and offers, where no other actor makes a step: it hints no page but one that was hinted, and offers none but one that was
 -- offered; the page on which it may make a deed, and which it may back, is apart.
+use Rattle.pas_steps.specs.declared.step.Step.TheVariants.{Unback, Deed, Back, Take, Put, Give, End, EndSized}
 use Rattle.std.proofs.Common.{◌≡◌, ◌≢◌, ℕ, ◌+◌, ◌*◌, ◌/◌, ◌%◌, ◌<◌, ◌==◌, Bool, true, false, ◌&&◌, ◌||◌, if◌then◌else◌, List, [], ◌∷◌, ◌++◌, Option, None, Some}
-use Rattle.std.proofs.Common.{◌⊎◌, inl, inr, refl, ap, sym, ◌∙◌, subst, arith, true≢false, eqb-true}
-use Rattle.std.proofs.lemmas.{Bool.false≢true, Bool.or_from, Bool.false_from_ne_true, Option.same_Some}
+use Rattle.std.proofs.Common.{◌⊎◌, inl, inr, refl, ap, sym, ◌∙◌, subst, arith, true≢false, eqb-true, ne_eqb}
+use Rattle.std.proofs.lemmas.{Bool.false≢true, Bool.or_from, Option.same_Some}
 use Rattle.pas_bits.specs.Bits.{has_bit}
 use Rattle.pas_profile.specs.{Directories.number_of, Directories.deed_word_of, Directories.deed_word_numbered, Profiles.IsDirectoryOf}
 use Rattle.pas_profile.specs.declared.{directory.Directory.Directory, event.Event.Event, profile.Profile.Profile, word.Word.Word}
 use Rattle.pas_machine.specs.State.{backed_in, deed_in}
-use Rattle.pas_steps.specs.{Desks.triples, Effects.target, Effects.in_mask, Effects.free_word_at, Events.event_of, Events.with_event, Kinds.kind_of}
-use Rattle.pas_steps.specs.{Kinds.is_in, Kinds.lending, Past.Once, Past.Always}
+use Rattle.pas_steps.specs.{Desks.triples, Effects.target, Effects.in_mask, Effects.free_word_at, Events.event_of, Events.with_event, Past.Once, Past.Always}
+use Rattle.pas_steps.specs.Kinds.{kind_of, is_in, lending, Only}
 use Rattle.pas_steps.specs.Evidence.{Readings, ReadsFree, ShowsHere, GetsRight, GetsHere}
 use Rattle.pas_steps.specs.Lists.{Whole, part, word_after, visible, Legal}
 use Rattle.pas_steps.specs.Views.{Stays, Gets, Puts, grain_move, held_after, holds, epoch_of}
 use Rattle.pas_steps.specs.declared.step.{Made.Made, Step.Step}
-use Rattle.pas_steps.specs.declared.step.Step.TheVariants.{Deed, Back, Take, Put, Give, End, EndSized}
-use Rattle.pas_steps.proofs.Past.{since_once}
+use Rattle.pas_steps.proofs.Past.{since_once, always_map}
 use Rattle.pas_core.specs.{Good.word_of_deed, Good.word_of_backed, Hints.IsEmptyBacked, Rights.eligible_bit}
 use Rattle.pas_core.proofs.{Deeds.deed_of, Deeds.number_told, Deeds.backed_of, Grains.free_moved, Grains.free_step, OneActor.LendsNone, Rights.offered_has_deed}
 use Rattle.pas_rights.specs.Looks.{ReadsBacked, ReadsAllFree, TakesNone, ReadsEmpty}
 use Rattle.pas_search.specs.Kinds.{IsReturnOf, ReturnsDuly, IsQuiet, IsDeedOrBack, EventsAt}
 use Rattle.pas_same_text.specs.Words.{free_bit}
 use Rattle.pas_same_text.proofs.GivingBack.{HintsPage, offer_one}
+use Rattle.pas_scan.specs.Usable.{MakesNoDeedHere}
+use Rattle.pas_guard.specs.Seeks.{seeking}
 
 -- ---- A GRAIN THAT ISN'T FREE stays so: the steps put only what they took, and they took only what was free
 take_moves : (x y bit held : Bool) → (x ≡ true → y ≡ bit) → bit ≡ false → held ≡ false
@@ -128,22 +130,24 @@ module _ (f : Profile) (k : ℕ) (l : Whole) where
       by_bit true is = is
       by_bit false is = absurd (false≢true (sym (stays_used g xs legal.1 lends.1 due.1 is).0 ∙ read))
 
-  -- ---- THE BACKED WORD of another page than that one stays
+-- ---- steps that back no page but one, and make no deed but of it
+-- whatever it answers, the step doesn't back the page
+abbrev pub KeepsBacked : ℕ → ℕ → Made → List Made → Type 0
+KeepsBacked k q m before = (epoch : ℕ) (es : List Event) → backed_in (with_event (event_of k epoch m.step m.answer) es) q ≡ backed_in es q
+
+module _ (k : ℕ) where
   other_event : (d : Directory) (page q : ℕ) (e : Option Event) (s : Step) (epoch a : ℕ) → page ≢ q → event_of k epoch s a ≡ e
       → (e ≡ None) ⊎ IsDeedOrBack d page s → (es : List Event) → backed_in (with_event e es) q ≡ backed_in es q
   other_event d page q None s epoch a ne is at es = refl
   other_event d page q (Some e) s epoch a ne is (inl none) es = absurd (let bad : Some e ≡ None = none in cc)
   other_event d page q (Some e) s epoch a ne is (inr own) es = of_own s own is
     where
-      other_back : page ≢ q → (page == q) ≡ false
-      other_back ne = false_from_ne_true (page == q) (λ same. ne (eqb-true page q same))
-
       deed_event : (t : Bool) → (if t then Some (Event.Deed k page d) else None) ≡ Some e → backed_in (e ∷ es) q ≡ backed_in es q
       deed_event true is = subst (λ (x : Event). backed_in (x ∷ es) q ≡ backed_in es q) (same_Some (Event.Deed k page d) e is) refl
       deed_event false is = absurd (let bad : None ≡ Some e = is in cc)
 
       back_event : (t : Bool) → (if t then Some (Event.Back k page) else None) ≡ Some e → backed_in (e ∷ es) q ≡ backed_in es q
-      back_event true is = subst (λ (x : Event). backed_in (x ∷ es) q ≡ backed_in es q) (same_Some (Event.Back k page) e is) (ap (λ (t : Bool). if t then true else backed_in es q) (other_back ne))
+      back_event true is = subst (λ (x : Event). backed_in (x ∷ es) q ≡ backed_in es q) (same_Some (Event.Back k page) e is) (ap (λ (t : Bool). if t then true else backed_in es q) (ne_eqb page q ne))
       back_event false is = absurd (let bad : None ≡ Some e = is in cc)
 
       of_own : (s : Step) → IsDeedOrBack d page s → event_of k epoch s a ≡ Some e → backed_in (e ∷ es) q ≡ backed_in es q
@@ -155,33 +159,29 @@ module _ (f : Profile) (k : ℕ) (l : Whole) where
   quiet_or d page m epoch (inl quiet) = inl (quiet k epoch)
   quiet_or d page m epoch (inr own) = inr own
 
-  backed_same : (d : Directory) (page q : ℕ) (xs : List Made) → page ≢ q → EventsAt d page xs
-      → backed_in (visible (triples k xs ++ l)) q ≡ backed_in (visible l) q
-  backed_same d page q [] ne at = refl
-  backed_same d page q (m ∷ xs) ne at =
-      let epoch : ℕ = epoch_of (part k (triples k xs ++ l)) in
-      other_event d page q (event_of k epoch m.step m.answer) m.step epoch m.answer ne refl (quiet_or d page m epoch at.0) (visible (triples k xs ++ l)) ∙ backed_same d page q xs ne at.1
+  -- Steps whose events are at one page back no other.
+  pub at_unbacked : (d : Directory) (page q : ℕ) (xs : List Made) → page ≢ q → EventsAt d page xs → Always (KeepsBacked k q) xs
+  at_unbacked d page q xs ne = always_map _ (KeepsBacked k q) xs (λ m before at epoch es. other_event d page q (event_of k epoch m.step m.answer) m.step epoch m.answer ne refl (quiet_or d page m epoch at) es)
 
-  read_backed : (d : Directory) (page q : ℕ) (xs : List Made) → page ≢ q → Legal f (triples k xs ++ l) → Legal f l → EventsAt d page xs
-      → Once (ReadsBacked q) xs → word_after l (Word.Backed q) ≡ 1
-  read_backed d page q [] ne legal first at h = absurd h
-  read_backed d page q (m ∷ xs) ne legal first at (inr h) = read_backed d page q xs ne legal.1 first at.1 h
-  read_backed d page q (m ∷ xs) ne legal first at (inl h) =
-      let now : word_after (triples k xs ++ l) (Word.Backed q) ≡ 1 = sym (legal.0.answer_is ∙ ap (λ (s : Step). word_after (triples k xs ++ l) (target s)) h.0) ∙ h.1 in
-      backed_of f l first q ∙ (ap word_of_backed (sym (backed_same d page q xs ne at.1)) ∙ (sym (backed_of f (triples k xs ++ l) legal.1 q) ∙ now))
+  -- Steps of a search for whole pages back none.
+  pub seeks_unbacked : (q : ℕ) (xs : List Made) → Only seeking xs → Always (KeepsBacked k q) xs
+  seeks_unbacked q [] kinds = tt
+  seeks_unbacked q (m ∷ xs) kinds = (λ epoch es. one m.step m.answer epoch es kinds.0, seeks_unbacked q xs kinds.1)
+    where
+      made_or : (t : Bool) (x : ℕ) (e : Directory) (es : List Event)
+          → backed_in (with_event (if t then Some (Event.Deed k x e) else None) es) q ≡ backed_in es q
+      made_or true x e es = refl
+      made_or false x e es = refl
 
-  -- A PAGE THAT THE SEARCH HINTS was backed and empty before it
-  pub hint_was : (d : Directory) (page q : ℕ) (xs : List Made) → page ≢ q → Legal f (triples k xs ++ l) → Legal f l → LendsNone xs → Always ReturnsDuly xs
-      → EventsAt d page xs → HintsPage q xs → IsEmptyBacked l q
-  hint_was d page q [] ne legal first lends due at h = absurd h
-  hint_was d page q (m ∷ xs) ne legal first lends due at (inr h) = hint_was d page q xs ne legal.1 first lends.1 due.1 at.1 h
-  hint_was d page q (m ∷ xs) ne legal first lends due at (inl h) =
-      let e : ReadsEmpty q xs = due.0.1.0 q h in record {
-        backed = read_backed d page q xs ne legal.1 first at.1 (since_once (ReadsBacked q) (TakesNone q) xs e.backed);
-        free = λ g of. read_free q (g / 64 % 4) (g % 64) g xs legal.1 lends.1 due.1 (omega arith) (ap (λ (p : ℕ). Word.Free p (g / 64 % 4)) of) refl (since_once (ReadsAllFree q (g / 64 % 4)) (TakesNone q) xs (e.free (g / 64 % 4) (omega arith)));
-      }
+      one : (s : Step) (a epoch : ℕ) (es : List Event) → is_in seeking (kind_of s) ≡ true → backed_in (with_event (event_of k epoch s a) es) q ≡ backed_in es q
+      one (Deed x e) a epoch es is = made_or (a == 0) x e es
+      one (Back x) a epoch es is = absurd (true≢false (sym is))
+      one (Give b) a epoch es is = absurd (true≢false (sym is))
+      one (End b g) a epoch es is = absurd (true≢false (sym is))
+      one (EndSized b r) a epoch es is = absurd (true≢false (sym is))
+      one (Unback x) a epoch es is = absurd (true≢false (sym is))
+      one s a epoch es is = refl
 
-  -- ---- A PAGE THAT THE SEARCH OFFERS, or whose right it got by a claim, was offered before it
   deed_quiet : (d d' : Directory) (page q a epoch : ℕ) → page ≢ q → a ≡ 0 → (event_of k epoch (Deed q d') a ≡ None) ⊎ IsDeedOrBack d page (Deed q d') → ⊥
   deed_quiet d d' page q a epoch ne zero (inl none) = let bad : Some (Event.Deed k q d') ≡ None = sym (ap (λ (n : ℕ). if n == 0 then Some (Event.Deed k q d') else None) zero) ∙ none in cc
   deed_quiet d d' page q a epoch ne zero (inr own) = of_own (Deed q d') own refl
@@ -190,25 +190,52 @@ module _ (f : Profile) (k : ℕ) (l : Whole) where
       of_own s IsDeedOrBack.Deeds is = ne (let same : page ≡ q = cc in same)
       of_own s IsDeedOrBack.Backs is = let bad : Back page ≡ Deed q d' = is in cc
 
-  got_by : (d : Directory) (page q : ℕ) (w : Whole) (s : Step) (a epoch : ℕ) → page ≢ q → a ≡ word_after w (target s)
-      → (event_of k epoch s a ≡ None) ⊎ IsDeedOrBack d page s → GetsRight q s a → (n : ℕ) × (eligible_bit w n q ≡ true)
-  got_by d page q w s a epoch ne answer at h = search (arith, deed_quiet)
+  -- They make no deed of another.
+  pub at_bare : (d : Directory) (page q : ℕ) (xs : List Made) → page ≢ q → EventsAt d page xs → Always (MakesNoDeedHere q) xs
+  at_bare d page q xs ne = always_map _ (MakesNoDeedHere q) xs (λ m before at d' is zero.
+      deed_quiet d d' page q m.answer 0 ne zero (subst (λ (s : Step). (event_of k 0 s m.answer ≡ None) ⊎ IsDeedOrBack d page s) is (quiet_or d page m 0 at)))
 
-  -- A page but the one served was offered before the search if the search got it, or if it is offered afterwards.
-  pub was_offered : (d : Directory) (page q : ℕ) (xs : List Made) → page ≢ q → Legal f (triples k xs ++ l) → Always ReturnsDuly xs → EventsAt d page xs
-      → (Once (GetsHere q) xs → (n : ℕ) × (eligible_bit l n q ≡ true))
-      × ((m : ℕ) → eligible_bit (triples k xs ++ l) m q ≡ true → (n : ℕ) × (eligible_bit l n q ≡ true))
-  was_offered d page q [] ne legal due at = (λ got. absurd got, λ n bit. (n, bit))
-  was_offered d page q (m ∷ xs) ne legal due at =
-      let before = was_offered d page q xs ne legal.1 due.1 at.1 in
-      let epoch : ℕ = epoch_of (part k (triples k xs ++ l)) in (
-        λ got. elim got [
-          | inl here ↦ let o = got_by d page q (triples k xs ++ l) m.step m.answer epoch ne legal.0.answer_is (quiet_or d page m epoch at.0) here in before.1 o.0 o.1
-          | inr later ↦ before.0 later
-        ],
-        λ n bit. elim (offer_one epoch m.step n q (word_after (triples k xs ++ l) (Word.Eligible n (q / 64))) bit) [
+module _ (f : Profile) (k : ℕ) (l : Whole) where
+  backed_same : (q : ℕ) (xs : List Made) → Always (KeepsBacked k q) xs → backed_in (visible (triples k xs ++ l)) q ≡ backed_in (visible l) q
+  backed_same q [] keeps = refl
+  backed_same q (m ∷ xs) keeps = keeps.0 (epoch_of (part k (triples k xs ++ l))) (visible (triples k xs ++ l)) ∙ backed_same q xs keeps.1
+
+  read_backed : (q : ℕ) (xs : List Made) → Legal f (triples k xs ++ l) → Legal f l → Always (KeepsBacked k q) xs → Once (ReadsBacked q) xs
+      → word_after l (Word.Backed q) ≡ 1
+  read_backed q [] legal first keeps h = absurd h
+  read_backed q (m ∷ xs) legal first keeps (inr h) = read_backed q xs legal.1 first keeps.1 h
+  read_backed q (m ∷ xs) legal first keeps (inl h) =
+      let now : word_after (triples k xs ++ l) (Word.Backed q) ≡ 1 = sym (legal.0.answer_is ∙ ap (λ (s : Step). word_after (triples k xs ++ l) (target s)) h.0) ∙ h.1 in
+      backed_of f l first q ∙ (ap word_of_backed (sym (backed_same q xs keeps.1)) ∙ (sym (backed_of f (triples k xs ++ l) legal.1 q) ∙ now))
+
+  -- A PAGE THAT THE SEARCH HINTS was backed and empty before it
+  pub hint_was : (q : ℕ) (xs : List Made) → Legal f (triples k xs ++ l) → Legal f l → LendsNone xs → Always ReturnsDuly xs → Always (KeepsBacked k q) xs
+      → HintsPage q xs → IsEmptyBacked l q
+  hint_was q [] legal first lends due keeps h = absurd h
+  hint_was q (m ∷ xs) legal first lends due keeps (inr h) = hint_was q xs legal.1 first lends.1 due.1 keeps.1 h
+  hint_was q (m ∷ xs) legal first lends due keeps (inl h) =
+      let e : ReadsEmpty q xs = due.0.1.0 q h in record {
+        backed = read_backed q xs legal.1 first keeps.1 (since_once (ReadsBacked q) (TakesNone q) xs e.backed);
+        free = λ g of. read_free f k l q (g / 64 % 4) (g % 64) g xs legal.1 lends.1 due.1 (omega arith) (ap (λ (p : ℕ). Word.Free p (g / 64 % 4)) of) refl (since_once (ReadsAllFree q (g / 64 % 4)) (TakesNone q) xs (e.free (g / 64 % 4) (omega arith)));
+      }
+
+  -- ---- OFFERS: a page whose deed the search doesn't make, and that is offered or was got, was offered before
+  got_by : (p : ℕ) (w : Whole) (s : Step) (a : ℕ) → a ≡ word_after w (target s) → ((x : Directory) → s ≡ Deed p x → a ≡ 0 → ⊥) → GetsRight p s a
+      → (n : ℕ) × (eligible_bit w n p ≡ true)
+  got_by p w s a answer never (GetsRight.Claims x b set) = (number_of x, ap (λ (n : ℕ). has_bit n (p % 64)) (sym answer) ∙ set)
+  got_by p w s a answer never (GetsRight.Deeds x b zero) = absurd (never x refl zero)
+
+  -- A page without a deed made here was offered before the search if the search got it, or if it is offered afterwards.
+  pub was_offered_before : (p : ℕ) (xs : List Made) → Legal f (triples k xs ++ l) → Always ReturnsDuly xs → Always (MakesNoDeedHere p) xs
+      → (Once (GetsHere p) xs → (n : ℕ) × (eligible_bit l n p ≡ true))
+      × ((m : ℕ) → eligible_bit (triples k xs ++ l) m p ≡ true → (n : ℕ) × (eligible_bit l n p ≡ true))
+  was_offered_before p [] legal due never = (λ got. absurd got, λ n bit. (n, bit))
+  was_offered_before p (m ∷ xs) legal due never =
+      let before = was_offered_before p xs legal.1 due.1 never.1 in (
+        search (arith, got_by),
+        λ n bit. elim (offer_one (epoch_of (part k (triples k xs ++ l))) m.step n p (word_after (triples k xs ++ l) (Word.Eligible n (p / 64))) bit) [
           | inl was ↦ before.1 n was
-          | inr o ↦ before.0 (due.0.0 q (subst (IsReturnOf q) (sym o.1) (IsReturnOf.Offers o.0)))
+          | inr o ↦ before.0 (due.0.0 p (subst (IsReturnOf p) (sym o.1) (IsReturnOf.Offers o.0)))
         ],
       )
 

@@ -1,25 +1,31 @@
 -- THE PAGE that a search finds is the one that the text finds.
-use Rattle.std.proofs.Common.{◌≡◌, ◌≢◌, ℕ, zero, suc, ◌+◌, ◌<◌, ◌≤◌, Bool, true, false, ◌&&◌, if◌then◌else◌, List, [], ◌∷◌, ◌++◌, Option, None, Some, Ok, Err}
-use Rattle.std.proofs.Common.{inl, inr, refl, ap, sym, ◌∙◌, arith, true≢false}
-use Rattle.std.proofs.{lemmas.Bool.cases_Bool, lemmas.Bool.cases_eq, Math.Bool.and-false}
-use Rattle.std.specs.List.{find}
-use Rattle.pas_profile.specs.{Directories.number_of, Profiles.IsPage}
+use Rattle.std.proofs.Common.{◌≡◌, ℕ, ◌+◌, ◌-◌, ◌<◌, ◌≤◌, nat_le, Bool, true, if◌then◌else◌, Option, None, Some, inl, inr, ap, sym, ◌∙◌, arith, ◌≢◌, zero, suc}
+use Rattle.std.proofs.Common.{false, ◌&&◌, List, [], ◌∷◌, ◌++◌, Ok, Err, refl, true≢false}
+use Rattle.std.proofs.lemmas.Bool.{or_cases, or_left, or_right, and_from, false_from_ne_true, cases_Bool, cases_eq}
+use Rattle.std.proofs.lemmas.Bool.Decides.{nat_tests}
+use Rattle.pas_profile.specs.{Directories.number_of, Profiles.IsValid, Profiles.IsPage, Profiles.IsDirectoryOf}
 use Rattle.pas_profile.specs.declared.{directory.Directory.Directory, profile.Profile.Profile, word.Word.Word}
+use Rattle.pas_profile.proofs.Codecs.{deed_word_of-positive}
 use Rattle.pas_machine.specs.State.{deed_in}
-use Rattle.pas_steps.specs.{Desks.triples, Effects.target, Evidence.Readings, Evidence.Searched, Past.Once, Views.has_right}
-use Rattle.pas_steps.specs.Lists.{Whole, part, word_after, Legal}
+use Rattle.pas_steps.specs.{Lists.part, Lists.word_after, Lists.Legal, Desks.triples, Effects.target, Evidence.Readings, Evidence.Searched, Past.Once}
+use Rattle.pas_steps.specs.{Views.has_right}
+use Rattle.pas_core.specs.{Rights.eligible_bit, Good.word_of_deed, Rights.free_of_page}
+use Rattle.pas_core.proofs.Deeds.{deed_has_page}
+use Rattle.pas_core.proofs.OneActor.{offered_deed, unfit_entry, deed_quiet, deed_exit, deed_none, spot_same, zero_told, one_told, entry_lacks, legal_before}
+use Rattle.pas_large.specs.Telling.{IsWholePage, IsUsablePage, IsUsableRun, HasNoUsableRun, IsLowestRun, IsNamedWhole}
+use Rattle.pas_answers.specs.Answers.{Progress}
+use Rattle.pas_one_text.specs.{State.World, Indexes.named_first}
+use Rattle.pas_one_text.specs.Pages.{each_of, is_unowned, is_free, is_empty, is_offered, page_numbers, is_none}
+use Rattle.pas_one_text.specs.Runs.{large_of, is_whole, is_usable, if_whole, named_run, is_run, lowest_run}
+use Rattle.pas_same_text.specs.{Same.HasSame, Same.ArePagesSame, Acts.IsBetween, Searched.IsSearch}
+use Rattle.pas_same_text.proofs.{FreeGrains.read_unless, GivenBack.each_at, GivenBack.each_all, Tests.and_first, Tests.and_second}
+use Rattle.pas_same_text.proofs.RestingPages.{open_unguarded, had_open, owned_is, no_word, unowned_by}
+use Rattle.std.specs.List.{find}
 use Rattle.pas_steps.specs.declared.step.Made.{Made}
-use Rattle.pas_core.specs.{Good.word_of_deed, Rights.eligible_bit, Rights.free_of_page}
-use Rattle.pas_core.proofs.OneActor.{unfit_entry, deed_quiet, deed_exit, deed_none, spot_same, zero_told, one_told, entry_lacks, legal_before, offered_deed}
-use Rattle.pas_core.proofs.Rights.{is_offered, spot_of, spotted, right_not_offered}
+use Rattle.pas_core.proofs.Rights.{is_offered as spot_offered, spot_of, spotted, right_not_offered}
 use Rattle.pas_search.specs.Searches.{FromOffered, ByDeed, DeedMadeHere}
 use Rattle.pas_trace.specs.Acts.{numbers_from}
-use Rattle.pas_answers.specs.Answers.{Progress}
-use Rattle.pas_one_text.specs.State.{World}
-use Rattle.pas_one_text.specs.Pages.{page_numbers, is_none, is_unowned, is_offered as is_offered_text}
 use Rattle.pas_one_text.specs.Searches.{some_of, page_or, refusal, searched}
-use Rattle.pas_same_text.specs.Searched.{IsSearch}
-use Rattle.pas_same_text.proofs.RestingPages.{open_unguarded, had_open, owned_is, unowned_by}
 
 -- ---- the first number that passes a test
 first_at : (test : ℕ → Bool) (from : ℕ) (rest : Option ℕ) (t : Bool) → test from ≡ t → t ≡ false → (if test from then Some from else rest) ≡ rest
@@ -43,44 +49,41 @@ find_none test (suc n) from none =
     ∙ find_none test n (from + 1) (λ q low high. none q (omega (arith, low)) (omega (arith, high)))
 
 module _ (no_fit : Readings → Type 0) (f : Profile) (d : Directory) (k : ℕ) (p : Progress) (w : World) (fits : ℕ → List ℕ) where
-  abbrev l : Whole
-  l = p.list
-
   -- the page would serve
   abbrev serves : ℕ → Bool
-  serves q = is_offered_text w d q && some_of (fits q)
+  serves q = is_offered w d q && some_of (fits q)
 
   module _ (steps : List Made) (s : IsSearch no_fit f d k p steps w fits) where
-    first : Legal f l
-    first = legal_before f k steps l s.legal
+    first : Legal f p.list
+    first = legal_before f k steps p.list s.legal
 
-    bit_is : (q : ℕ) → eligible_bit l (number_of d) q ≡ is_offered (number_of d) (spot_of l q)
-    bit_is q = (spotted f l first q).eligible (number_of d)
+    bit_is : (q : ℕ) → eligible_bit p.list (number_of d) q ≡ spot_offered (number_of d) (spot_of p.list q)
+    bit_is q = (spotted f p.list first q).eligible (number_of d)
 
     -- a page on which it doesn't fit doesn't serve; where a guard has it, it isn't offered
-    unfit_over : (q : ℕ) → IsPage f q → no_fit (free_of_page l q) → (t : Bool) → is_offered_text w d q ≡ t → serves q ≡ false
+    unfit_over : (q : ℕ) → IsPage f q → no_fit (free_of_page p.list q) → (t : Bool) → is_offered w d q ≡ t → serves q ≡ false
     unfit_over q of unfit h offered = search (arith, open_unguarded, had_open)
 
     -- a page that didn't fit or was read as not offered serves in the text neither
     passed_over : (q end : ℕ) → IsPage f q → q < end → Searched no_fit d end steps → serves q ≡ false
     passed_over q end of lt all = elim (all q of.0 lt) [
-      | inl unfit ↦ unfit_over q of (unfit_entry no_fit f k l q steps s.fewer s.legal s.lends_none unfit) (is_offered_text w d q) refl
+      | inl unfit ↦ unfit_over q of (unfit_entry no_fit f k p.list q steps s.fewer s.legal s.lends_none unfit) (is_offered w d q) refl
       | inr zero_read ↦
-          let bit : eligible_bit l (number_of d) q ≡ false = elim (cases_Bool (has_right (part k l) q)) [
-            | inl has ↦ right_not_offered f l first k (number_of d) q has
-            | inr lacks ↦ bit_is q ∙ zero_told f k l d q steps s.legal lacks zero_read.0 zero_read.1
+          let bit : eligible_bit p.list (number_of d) q ≡ false = elim (cases_Bool (has_right (part k p.list) q)) [
+            | inl has ↦ right_not_offered f p.list first k (number_of d) q has
+            | inr lacks ↦ bit_is q ∙ zero_told f k p.list d q steps s.legal lacks zero_read.0 zero_read.1
           ] in
           ap (λ (t : Bool). t && some_of (fits q)) (s.pages.offered q d s.directory ∙ bit)
     ]
 
     -- ---- an offered page
-    pub offered_chosen : (page : ℕ) → IsPage f page → FromOffered no_fit d page steps → (no_fit (free_of_page l page) → ⊥) → searched f w d fits ≡ Ok page
+    pub offered_chosen : (page : ℕ) → IsPage f page → FromOffered no_fit d page steps → (no_fit (free_of_page p.list page) → ⊥) → searched f w d fits ≡ Ok page
     offered_chosen page of from fit =
-        let read = one_told f k l d page steps s.legal from.offered in
-        let lacks : has_right (part k l) page ≡ false = entry_lacks f k l d page read.0 s.valid first (s.rights page) (offered_deed f (triples k read.0 ++ l) d page s.directory read.1 read.3) in
-        let bit : eligible_bit l (number_of d) page ≡ true =
-        bit_is page ∙ (ap (is_offered (number_of d)) (sym (spot_same f k l page read.0 read.1 lacks read.2)) ∙ (sym ((spotted f (triples k read.0 ++ l) read.1 page).eligible (number_of d)) ∙ read.3)) in
-        let offered : is_offered_text w d page ≡ true = s.pages.offered page d s.directory ∙ bit in
+        let read = one_told f k p.list d page steps s.legal from.offered in
+        let lacks : has_right (part k p.list) page ≡ false = entry_lacks f k p.list d page read.0 s.valid first (s.rights page) (offered_deed f (triples k read.0 ++ p.list) d page s.directory read.1 read.3) in
+        let bit : eligible_bit p.list (number_of d) page ≡ true =
+        bit_is page ∙ (ap (spot_offered (number_of d)) (sym (spot_same f k p.list page read.0 read.1 lacks read.2)) ∙ (sym ((spotted f (triples k read.0 ++ p.list) read.1 page).eligible (number_of d)) ∙ read.3)) in
+        let offered : is_offered w d page ≡ true = s.pages.offered page d s.directory ∙ bit in
         let here : serves page ≡ true = ap (λ (t : Bool). t && some_of (fits page)) offered ∙ s.fits_same.some page of (open_unguarded w d page (had_open w d page offered)) fit in
         let low = of.0 in let high = of.1 in
         let found : find serves (page_numbers f) ≡ Some page =
@@ -100,12 +103,12 @@ module _ (no_fit : Readings → Type 0) (f : Profile) (d : Directory) (k : ℕ) 
       → DeedMadeHere no_fit f d page m steps → searched f w d fits ≡ Ok page
   made_chosen page of m steps s h =
       let t : IsSearch no_fit f d k p steps w fits = earlier m steps s in
-      let now : word_after (triples k steps ++ l) (Word.Deed page) ≡ 0 = sym (s.legal.0.answer_is ∙ ap (λ x. word_after (triples k steps ++ l) (target x)) h.deed) ∙ h.made in
-      let bare : is_unowned w page ≡ true = unowned_by (deed_in w.events page) (sym (owned_is f l w (first steps t) t.pages.events page) ∙ deed_none k l page steps now) in
+      let now : word_after (triples k steps ++ p.list) (Word.Deed page) ≡ 0 = sym (s.legal.0.answer_is ∙ ap (λ x. word_after (triples k steps ++ p.list) (target x)) h.deed) ∙ h.made in
+      let bare : is_unowned w page ≡ true = unowned_by (deed_in w.events page) (sym (owned_is f p.list w (first steps t) t.pages.events page) ∙ deed_none k p.list page steps now) in
       let low = of.0 in let high = of.1 in
       let none : find serves (page_numbers f) ≡ None = find_none serves f.pages 1 (λ q above below. passed_over steps t q (f.pages + 1) (above, omega (arith, below)) (omega (arith, below)) h.searched) in
       let found : find (is_unowned w) (page_numbers f) ≡ Some page = find_first (is_unowned w) f.pages 1 page low (omega (arith, high)) bare (λ q above below.
-      owned_by steps t (deed_in w.events q) (λ zero_word. deed_exit f k l q steps t.legal (h.lower q above below) (deed_quiet f k l q steps t.legal h.quiet ∙ (owned_is f l w (first steps t) t.pages.events q ∙ zero_word)))) in
+      owned_by steps t (deed_in w.events q) (λ zero_word. deed_exit f k p.list q steps t.legal (h.lower q above below) (deed_quiet f k p.list q steps t.legal h.quiet ∙ (owned_is f p.list w (first steps t) t.pages.events q ∙ zero_word)))) in
       cc
 
   deed_at : (page : ℕ) → IsPage f page → (steps : List Made) → IsSearch no_fit f d k p steps w fits → Once (DeedMadeHere no_fit f d page) steps
@@ -118,3 +121,87 @@ module _ (no_fit : Readings → Type 0) (f : Profile) (d : Directory) (k : ℕ) 
   pub deed_chosen : (page : ℕ) → IsPage f page → (steps : List Made) → IsSearch no_fit f d k p steps w fits → ByDeed no_fit f d page steps
       → searched f w d fits ≡ Ok page
   deed_chosen page of steps s by = deed_at page of steps s by.made_here
+
+-- ==== WHICH PAGES MAY BE ONE OF A RUN, and which run the text gives: those of a replay, whenever all actors are at rest.
+-- the run that an index names, where it is whole
+whole_at : (w : World) (heap n x first : ℕ) (t : Bool) → each_of x n (is_whole w heap) ≡ t → (if t then Some x else None) ≡ Some first
+    → (x ≡ first) × (each_of first n (is_whole w heap) ≡ true)
+whole_at w heap n x first t is same = grind arith
+
+whole_of : (w : World) (heap n first : ℕ) (o : Option ℕ) → if_whole w heap n o ≡ Some first → (o ≡ Some first) × (each_of first n (is_whole w heap) ≡ true)
+whole_of w heap n first o same = search (arith, whole_at)
+
+module _ (f : Profile) (p : Progress) (w : World) (valid : IsValid f) (between : IsBetween f p) (pages : ArePagesSame f p.list w) (same : HasSame f p w)
+    (heap : ℕ) (of : IsDirectoryOf f (large_of heap)) where
+  abbrev d : Directory
+  d = large_of heap
+
+  -- ---- ONE PAGE
+  pub whole_page : (page : ℕ) → is_whole w heap page ≡ true → IsWholePage d p.list page
+  whole_page page h =
+      let empty : is_empty w page ≡ true = and_second (is_offered w d page) (is_empty w page) h in
+      let bit : eligible_bit p.list (number_of d) page ≡ true = sym (pages.offered page d of) ∙ and_first (is_offered w d page) (is_empty w page) h in
+      record {
+        deed = offered_deed f p.list d page of between.legal bit;
+        offered = bit;
+        free = λ b small. sym (read_unless f p w valid between same page b small (open_unguarded w d page (had_open w d page (and_first (is_offered w d page) (is_empty w page) h)))) ∙ each_at 256 0 b (is_free w page) empty (omega arith) small;
+      }
+
+  -- A whole page of the replay is whole in the text.
+  pub page_whole : (page : ℕ) → IsWholePage d p.list page → is_whole w heap page ≡ true
+  page_whole page whole = and_from (is_offered w d page) (is_empty w page) (pages.offered page d of ∙ whole.offered) (each_all 256 0 (is_free w page) (λ b low high. read_unless f p w valid between same page b high (open_unguarded w d page (had_open w d page (pages.offered page d of ∙ whole.offered))) ∙ whole.free b high))
+
+  -- A page that is usable in the text is usable in the replay.
+  pub usable_page : (page : ℕ) → is_usable w heap page ≡ true → IsUsablePage d p.list page
+  usable_page page h = elim (or_cases (is_unowned w page) (is_whole w heap page) h) [
+    | inl none ↦ inl (owned_is f p.list w between.legal pages.events page ∙ no_word (deed_in w.events page) none)
+    | inr whole ↦ inr (whole_page page whole)
+  ]
+
+  -- A page that is usable in the replay is usable in the text.
+  pub page_usable : (page : ℕ) → IsUsablePage d p.list page → is_usable w heap page ≡ true
+  page_usable page (inl none) = or_left (is_unowned w page) (is_whole w heap page) (unowned_by (deed_in w.events page) (sym (owned_is f p.list w between.legal pages.events page) ∙ none))
+  page_usable page (inr whole) = or_right (is_unowned w page) (is_whole w heap page) (page_whole page whole)
+
+  -- ---- A RUN
+  pub run_usable : (n first : ℕ) → is_run f w heap n first ≡ true → (first + n ≤ f.pages + 1) × IsUsableRun d n p.list first
+  run_usable n first h = (
+    let t = and_first (nat_le (first + n) (f.pages + 1)) (each_of first n (is_usable w heap)) h in grind (arith, nat_tests, t),
+    λ page here. usable_page page (each_at n first page (is_usable w heap) (and_second (nat_le (first + n) (f.pages + 1)) (each_of first n (is_usable w heap)) h) here.0 here.1),
+  )
+
+  -- A usable run of the replay is one of the text.
+  pub usable_run : (n first : ℕ) → first + n ≤ f.pages + 1 → IsUsableRun d n p.list first → is_run f w heap n first ≡ true
+  usable_run n first within usable =
+      and_from (nat_le (first + n) (f.pages + 1)) (each_of first n (is_usable w heap)) (grind (arith, nat_tests, within)) (each_all n first (is_usable w heap) (λ page low high. page_usable page (usable page (low, high))))
+
+  -- THE LOWEST RUN is that of the text, which finds none where there is none
+  pub lowest_found : (n first : ℕ) → 1 ≤ n → IsLowestRun f d n p.list first → lowest_run f w heap n ≡ Some first
+  lowest_found n first some run =
+      let low = run.of_region.0 in let high = run.of_region.1 in
+      find_first (is_run f w heap n) f.pages 1 first low (omega (arith, high, some)) (usable_run n first high run.usable)
+      (λ other above below. false_from_ne_true (is_run f w heap n other) (λ h. run.lowest other above below (run_usable n other h).1))
+
+  -- Where the replay has no usable run, the text finds no lowest run.
+  pub none_lowest : (n : ℕ) → HasNoUsableRun f d n p.list → lowest_run f w heap n ≡ None
+  none_lowest n none = find_none (is_run f w heap n) f.pages 1 (λ first low high. false_from_ne_true (is_run f w heap n first) (λ h. let run = run_usable n first h in none first low run.0 run.1))
+
+  -- ---- THE RUN THAT IS NAMED
+  of_region : (page : ℕ) → is_whole w heap page ≡ true → IsPage f page
+  of_region page h = deed_has_page f p.list between.legal page (λ none. deed_word_of-positive d (sym (whole_page page h).deed ∙ none))
+
+  -- The run that serves by the text's index is the named one, whole in the replay.
+  pub named_whole : (n first : ℕ) → 1 ≤ n → named_run w heap n ≡ Some first → IsNamedWhole f d n p.list (named_first w heap n) first
+  named_whole n first some h =
+      let both = whole_of w heap n first (named_first w heap n) h in
+      let each : (page : ℕ) → first ≤ page → page < first + n → is_whole w heap page ≡ true = λ page low high. each_at n first page (is_whole w heap) both.1 low high in
+      let lowest : IsPage f first = of_region first (each first (omega arith) (omega (arith, some))) in
+      let last : IsPage f (first + n - 1) = of_region (first + n - 1) (each (first + n - 1) (omega (arith, some)) (omega (arith, some))) in
+      let low = lowest.0 in let high = last.1 in
+      record { named = both.0; of_region = (low, omega (arith, high, some)); whole = λ page here. whole_page page (each page here.0 here.1) }
+
+  -- A named run that is whole in the replay serves in the text.
+  pub whole_named : (n first : ℕ) → IsNamedWhole f d n p.list (named_first w heap n) first → named_run w heap n ≡ Some first
+  whole_named n first run =
+      ap (if_whole w heap n) run.named
+      ∙ ap (λ (t : Bool). if t then Some first else None) (each_all n first (is_whole w heap) (λ page low high. page_whole page (run.whole page (low, high))))

@@ -1,5 +1,5 @@
 -- WHERE THREADS AND KEEPERS ARE AT REST with their caches and books, all actors of the region rest.
-use Rattle.std.proofs.Common.{◌≡◌, ℕ, ◌<◌, ◌≤◌, List, [], ◌⊎◌, inl, inr, refl, sym, ◌∙◌, subst, arith}
+use Rattle.std.proofs.Common.{ℕ, ◌<◌, ◌≤◌, List, [], ◌⊎◌, inl, inr, refl, sym, ◌∙◌, subst, arith}
 use Rattle.std.proofs.{lemmas.Bool.cases_lt, lemmas.List.Elements.All-nil, Math.Bool.or-false}
 use Rattle.pas_profile.specs.declared.profile.Profile.{Profile}
 use Rattle.pas_steps.specs.{Lists.part, Lists.Legal, Views.View}

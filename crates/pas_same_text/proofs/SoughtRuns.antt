@@ -18,8 +18,8 @@ use Rattle.pas_large.proofs.Outcomes.{MadeOf}
 use Rattle.pas_guard.specs.Evidence.{HoldsRunWhole, OuterBackedHere, IsBad, OuterFailsHere, HasFailedOnce}
 use Rattle.pas_guard.specs.Seeks.{seeking}
 use Rattle.pas_one_text.specs.Runs.{large_of}
-use Rattle.pas_same_text.proofs.{GivingBack.backed_stays, PagesRead.usable_was, PagesRead.bad_never, RunEvents.with_deed, RunEvents.deeded}
-use Rattle.pas_same_text.proofs.{RunsFound.lacks_usable, RunsFound.never_fails, FreeGrains.free_unheld}
+use Rattle.pas_same_text.proofs.{GivingBack.backed_stays, RunEvents.with_deed, RunEvents.deeded, FreeGrains.free_unheld}
+use Rattle.pas_same_text.proofs.RunsFound.{usable_was, bad_never, lacks_usable, never_fails}
 
 -- a page one of whose grains an actor holds has a deed
 pub held_deed : (f : Profile) (l : Whole) (k g : ℕ) → IsValid f → Legal f l → holds (part k l) g ≡ true → word_after l (Word.Deed (g / 256)) ≢ 0

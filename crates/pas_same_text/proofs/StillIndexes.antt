@@ -1,24 +1,21 @@
 -- WHAT STAYS IN THE TEXT: what changes no index and no guard, and how many caches there are.
-use Rattle.std.proofs.Common.{arith, ◌≡◌, ℕ, ◌+◌, ◌*◌, ◌%◌, ◌/◌, ◌==◌, nat_le, nat_lt, Bool, true, false, ◌&&◌, if◌then◌else◌, List, [], ◌∷◌, ◌++◌, length}
-use Rattle.std.proofs.Common.{Option, None, Some, Result, Ok, Err, refl, ap, ◌∙◌}
+use Rattle.std.proofs.Common.{arith, ◌≡◌, ℕ, nat_le, nat_lt, Bool, true, false, ◌&&◌, if◌then◌else◌, List, [], ◌∷◌, ◌++◌, length, Option, None, Some, Result}
+use Rattle.std.proofs.Common.{refl, ap, ◌∙◌}
 use Rattle.pas_profile.specs.{Blocks.address_of, Requests.class_home, Requests.is_shared}
-use Rattle.pas_profile.specs.declared.{directory.Directory.Directory, event.Event.Event, event.FreeFault.FreeFault, event.NoRoom.NoRoom, event.Outcome.Outcome}
-use Rattle.pas_profile.specs.declared.{event.Why.Why, name.Block.Block, name.Name.Name, profile.Profile.Profile}
+use Rattle.pas_profile.specs.declared.{directory.Directory.Directory, event.Event.Event, event.NoRoom.NoRoom, event.Outcome.Outcome, name.Block.Block}
+use Rattle.pas_profile.specs.declared.{name.Name.Name, profile.Profile.Profile}
 use Rattle.pas_machine.specs.State.{backed_in}
 use Rattle.pas_large_index.specs.declared.span.Span.{Span}
 use Rattle.pas_free_log.specs.Logs.{sized_entry}
 use Rattle.pas_free_log.specs.declared.log.Entry.{Entry}
 use Rattle.pas_report.specs.declared.record.{Record.Record, Said.Said}
-use Rattle.pas_trace.specs.Acts.{numbers_from}
 use Rattle.pas_one_text.specs.State.{World, Cache, Guard, Local, each, shows, says, block_at, cache_of, locals_of, log_of, noted_of, set_cache, set_log}
 use Rattle.pas_one_text.specs.State.{set_locals}
 use Rattle.pas_one_text.specs.Pages.{page_numbers, is_empty, is_unowned, is_hinted, hints, minds}
 use Rattle.pas_one_text.specs.Searches.{some_of, searched, deeds, backs, readies}
-use Rattle.pas_one_text.specs.Indexes.{run_of, notes}
-use Rattle.pas_one_text.specs.Classes.{slots_for, gives_up, gives_up_first, gives_first, local_on, takes_page, fetches, makes_place, serves_class_by, others}
-use Rattle.pas_one_text.specs.Runs.{bitfit_of, large_of, lowest_place, gives_place, places, serves_run}
-use Rattle.pas_one_text.specs.Frees.{pages_of, reason, is_other_room, ends_block, rejects, ends_if, takes_effect, ends, flushes, stops, logs, refuses_free}
-use Rattle.pas_one_text.specs.Frees.{frees, frees_what}
+use Rattle.pas_one_text.specs.{Indexes.run_of, Indexes.notes, Runs.gives_place, Runs.places, Runs.serves_run}
+use Rattle.pas_one_text.specs.Classes.{slots_for, gives_up, gives_up_first, gives_first, takes_page, fetches, makes_place, serves_class_by, others}
+use Rattle.pas_one_text.specs.Frees.{pages_of, ends_block, takes_effect, ends, flushes, stops, logs, frees, frees_what}
 use Rattle.pas_one_text.specs.Passes.{outcome_of, comes_to, examines, passes}
 use Rattle.std.specs.List.{filter}
 use Rattle.pas_same_text.proofs.CacheLists.{many_with}

@@ -1,11 +1,11 @@
 -- STOPS: a flush, and then all local allocators of the cache go.
-use Rattle.std.proofs.Common.{length, ◌≡◌, ℕ, ◌+◌, ◌*◌, ◌/◌, ◌%◌, ◌<◌, ◌≤◌, ◌==◌, Bool, true, false, not, ◌&&◌, if◌then◌else◌, List, [], ◌∷◌, ◌++◌, map, ◌⊎◌}
-use Rattle.std.proofs.Common.{inl, inr, refl, ap, sym, ◌∙◌, subst, arith, All, eq-eqb, eqb-true}
-use Rattle.std.proofs.lemmas.{Bool.false≢true, Bool.or_left, Bool.or_right, Bool.Decides.nat_tests, List.Elements.All-head, List.Elements.All-tail}
+use Rattle.std.proofs.Common.{length, ◌≡◌, ℕ, ◌+◌, ◌*◌, ◌/◌, ◌%◌, ◌<◌, ◌≤◌, ◌==◌, Bool, true, false, not, if◌then◌else◌, List, [], ◌∷◌, ◌++◌, map, ◌⊎◌, inl}
+use Rattle.std.proofs.Common.{inr, refl, ap, sym, ◌∙◌, subst, arith, All, eq-eqb, eqb-true}
+use Rattle.std.proofs.lemmas.{Bool.false≢true, Bool.or_left, Bool.or_right, List.Elements.All-head, List.Elements.All-tail}
 use Rattle.pas_large.proofs.Left.{hints_both}
-use Rattle.pas_bits.specs.Masks.{is_set, HasMember}
-use Rattle.pas_profile.specs.{Classes.class_grains, Classes.usable_grains, Classes.IsSlotStart, Directories.deed_word_of, Profiles.IsValid, Profiles.IsPage}
-use Rattle.pas_profile.specs.{Profiles.IsDirectoryOf, Requests.kind_of_class}
+use Rattle.pas_bits.specs.Masks.{HasMember}
+use Rattle.pas_profile.specs.{Classes.class_grains, Classes.IsSlotStart, Directories.deed_word_of, Profiles.IsValid, Profiles.IsPage, Profiles.IsDirectoryOf}
+use Rattle.pas_profile.specs.{Requests.kind_of_class}
 use Rattle.pas_profile.specs.declared.{directory.Directory.Directory, event.Event.Event, profile.Profile.Profile, word.Word.Word}
 use Rattle.pas_profile.proofs.{ClassFacts.class_grains_positive, Codecs.same_from_deed_word}
 use Rattle.pas_steps.specs.{Desks.triples, Events.events_by, Kinds.Only, Views.View, Views.holds, Views.usable_by_kind}
@@ -26,8 +26,8 @@ use Rattle.pas_one_text.specs.{Frees.flushes, Frees.gives_up_all, Frees.stops, P
 use Rattle.pas_same_text.specs.Same.{IsSame, HasSame, IsSameCache, AreSameLocals, AreSameCaches, lives_in, has_number}
 use Rattle.pas_same_text.specs.{Acts.IsBetween, Acts.AreBlocksUsable, Words.free_bit}
 use Rattle.pas_same_text.proofs.{CacheLists.same_own, CacheLists.same_with, CacheLists.same_again, FlushedLogs.IsFlushedTo, FlushedLogs.IsEndedOn}
-use Rattle.pas_same_text.proofs.{FlushedLogs.OnlyFewer, Flushes.visible_steps, GivenBack.returns_then, GivenBack.has_both, OuterPages.guards_as}
-use Rattle.pas_same_text.proofs.{OuterPages.still_unguarded, StillIndexes.same_guards, StillIndexes.stops_keep, RoomsRead.read_open}
+use Rattle.pas_same_text.proofs.{FlushedLogs.OnlyFewer, Flushes.visible_steps, GivenBack.returns_then, GivenBack.has_both, Holders.guards_as}
+use Rattle.pas_same_text.proofs.{Holders.still_unguarded, StillIndexes.same_guards, StillIndexes.stops_keep, LeftPages.read_open}
 use Rattle.pas_same_text.proofs.FlushActs.{flush_to, flush_records, events_recorded, ended_room, lived}
 use Rattle.pas_same_text.proofs.FreeGrains.{cached_held, held_by, never_both, held_still}
 use Rattle.pas_same_text.proofs.GivenPages.{IsGivenBack, open_from, covered_not_held, free_left, given_pages}

@@ -2,14 +2,14 @@
 use Rattle.std.proofs.Common.{◌≡◌, ℕ, zero, suc, ◌/◌, ◌%◌, ◌<◌, Bool, true, false, List, [], ◌∷◌, ◌++◌, ◌⊎◌, inl, inr, refl, ap, sym, ◌∙◌, subst, arith}
 use Rattle.std.proofs.Common.{MatchBool, true≢false}
 use Rattle.std.proofs.lemmas.Bool.{cases_eq}
-use Rattle.pas_same_text.proofs.{SweptGuards.back_hints, ReturnHints.return_hints}
+use Rattle.pas_same_text.proofs.SweptGuards.{back_hints}
 use Rattle.pas_large.proofs.Left.{hints_both}
 use Rattle.pas_bits.specs.{Bits.has_bit, Masks.HasMember}
 use Rattle.pas_bits.specs.declared.mask.Mask4.{Mask4}
 use Rattle.pas_profile.specs.Classes.{IsClass}
 use Rattle.pas_profile.specs.declared.{directory.Directory.Directory, profile.Profile.Profile, word.Word.Word}
-use Rattle.pas_steps.specs.{Desks.made, Desks.triples, Effects.target, Lists.Whole, Lists.word_after, Lists.Legal, Past.Once, Past.Always, Views.usable_by_kind}
-use Rattle.pas_steps.specs.Kinds.{Kinds, Only, apart, Taking, LookFree, Putting, Parking}
+use Rattle.pas_steps.specs.{Desks.made, Desks.triples, Lists.Whole, Lists.word_after, Lists.Legal, Past.Once, Past.Always, Views.usable_by_kind}
+use Rattle.pas_steps.specs.Kinds.{Kinds, Only, apart, Taking, LookFree, Putting}
 use Rattle.pas_steps.specs.declared.step.{Made.Made, Step.TheVariants.Look, Step.TheVariants.Park}
 use Rattle.pas_steps.proofs.Past.{once_later}
 use Rattle.pas_core.proofs.OneActor.{free_stays}
@@ -21,7 +21,7 @@ use Rattle.pas_segregated.specs.Stops.{home_of, StopStepsAt, LeavesWhere, AreGra
 use Rattle.pas_segregated.specs.declared.slots.Slots.{Slots}
 use Rattle.pas_segregated.proofs.Starts.{start_below}
 use Rattle.pas_cache.specs.Changes.{StopsAll}
-use Rattle.pas_same_text.proofs.GivingBack.{IsMarked, marked_parts, none_marked, returns_marked, hints_none, hints_of}
+use Rattle.pas_same_text.proofs.GivingBack.{IsMarked, marked_parts, none_marked, returns_marked, hints_of}
 
 -- ---- a grain that blocks of the directory may cover was read as free
 abbrev pub ReadsGrain : ℕ → ℕ → List Made → Type 0

@@ -22,7 +22,7 @@ use Rattle.pas_guard.specs.{Books.is_outer_of, Books.is_outer, Books.Each, Keepe
 use Rattle.pas_guard.specs.Sweeps.{is_over, life_look, lowered_record, SweptOne, Swept, sweeping}
 use Rattle.pas_guard.specs.declared.book.Guard.{Guard as BookGuard}
 use Rattle.pas_same_text.specs.Same.{told_guard}
-use Rattle.pas_same_text.proofs.{Flushes.unshown, LoweredGuards.lowered_line, ReturnHints.return_hints}
+use Rattle.pas_same_text.proofs.{Flushes.unshown, LoweredGuards.lowered_line, EntrySteps.return_hints}
 use Rattle.pas_same_text.proofs.GivingBack.{IsMarked, marked_parts, none_marked, returns_marked, hints_none}
 
 -- the guard goes down: all do, or its block has ended by these events

@@ -1,32 +1,74 @@
--- WHAT A SEARCH TOOK of a page that it keeps: since it got the page's right, if it holds any of its grains. So its takes since then read just the grains as free that
--- were free before the search.
-use Rattle.std.proofs.Common.{◌≡◌, ◌≢◌, ℕ, zero, suc, ◌+◌, ◌*◌, ◌/◌, ◌%◌, ◌<◌, ◌≤◌, ◌==◌, Bool, true, false, ◌&&◌, if◌then◌else◌, List, [], ◌∷◌, ◌++◌, IsTrue}
-use Rattle.std.proofs.Common.{◌↔◌, inl, inr, refl, ap, sym, ◌∙◌, subst, append_assoc, arith, true≢false, eq-eqb, eqb-true, ne_eqb, lt-ltb}
-use Rattle.std.proofs.lemmas.Bool.{false≢true, cases_eq, or_cases, false_from_ne_true}
+-- THE SLOTS that a search took of a shared page are the lowest free one and those behind it without a break, as it was before the search.
+use Rattle.std.proofs.Common.{◌≡◌, ℕ, ◌+◌, ◌*◌, ◌/◌, ◌%◌, ◌<◌, List, ◌++◌, refl, ap, sym, ◌∙◌, arith, ◌≢◌, zero, suc, ◌≤◌, ◌==◌, Bool, true, false, ◌&&◌}
+use Rattle.std.proofs.Common.{if◌then◌else◌, [], ◌∷◌, IsTrue, ◌↔◌, inl, inr, subst, append_assoc, true≢false, eq-eqb, eqb-true, ne_eqb, lt-ltb}
 use Rattle.pas_bits.specs.{Bits.has_bit, Masks.is_set}
 use Rattle.pas_bits.specs.declared.mask.Mask4.{Mask4}
-use Rattle.pas_bits.proofs.Words.{none_of_zero}
 use Rattle.pas_profile.specs.Classes.{class_grains, usable_grains, is_usable, IsSlotStart}
-use Rattle.pas_profile.specs.Directories.{number_of}
 use Rattle.pas_profile.specs.declared.{profile.Profile.Profile, word.Word.Word}
-use Rattle.pas_steps.specs.{Allowed.Allowed, Desks.made, Desks.triples, Effects.target, Effects.in_mask, Effects.free_word_at, Kinds.kind_of, Kinds.is_in}
-use Rattle.pas_steps.specs.{Kinds.lending, Past.Once, Past.Always}
-use Rattle.pas_steps.specs.Lists.{Whole, part, word_after, Legal}
-use Rattle.pas_steps.specs.Views.{View, Gets, Puts, Stays, grain_move, held_after, holds, Way, Rests, ByDeed, FromOffer, FromParked, ToOffer, ToParked, way}
-use Rattle.pas_steps.specs.Views.{had_after, has_right}
+use Rattle.pas_steps.specs.{Desks.triples, Effects.free_word_at, Evidence.Readings, Allowed.Allowed, Desks.made, Effects.target, Effects.in_mask, Kinds.kind_of}
+use Rattle.pas_steps.specs.{Kinds.is_in, Kinds.lending, Past.Once, Past.Always}
+use Rattle.pas_steps.specs.Lists.{Whole, word_after, Legal, part}
 use Rattle.pas_steps.specs.declared.step.{Made.Made, Step.Step}
-use Rattle.pas_steps.specs.declared.step.Step.TheVariants.{Deed, Take, Put, Give, End, EndSized, TakeRight, Offer, Park, Unpark}
-use Rattle.pas_steps.proofs.Parts.{part_of_own}
+use Rattle.pas_steps.proofs.{Sets.same_truth, Parts.part_of_own}
 use Rattle.pas_core.specs.Rights.{free_of_page}
 use Rattle.pas_core.proofs.OneActor.{LendsNone, lends_none}
+use Rattle.pas_search.specs.Choices.{TookChosen}
+use Rattle.pas_search.specs.Kinds.{AreSearch, searching, IsReturnOf, ReturnsDuly, KeepsMarks}
+use Rattle.pas_partial.specs.Rows.{IsInRow, IsFreeSlot, IsLowestRow, rows}
+use Rattle.pas_segregated.specs.Takes.{slot_within, TookSlots, takes_after, takes_since}
+use Rattle.pas_same_text.specs.Words.{free_bit}
+use Rattle.pas_same_text.proofs.SearchMarks.{free_shown, shown_free, stays_used, free_or_held}
+use Rattle.std.proofs.lemmas.Bool.{false≢true, cases_eq, or_cases, false_from_ne_true}
+use Rattle.pas_bits.proofs.Words.{none_of_zero}
+use Rattle.pas_profile.specs.Directories.{number_of}
+use Rattle.pas_steps.specs.Views.{View, Gets, Puts, Stays, grain_move, held_after, holds, Way, Rests, ByDeed, FromOffer, FromParked, ToOffer, ToParked, way}
+use Rattle.pas_steps.specs.Views.{had_after, has_right}
+use Rattle.pas_steps.specs.declared.step.Step.TheVariants.{Deed, Take, Put, Give, End, EndSized, TakeRight, Offer, Park, Unpark}
 use Rattle.pas_core.proofs.Rights.{Spot, is_with, spot_of, Suits, IsSpotted, step_suits, spotted}
 use Rattle.pas_rights.specs.{Takes.takes, Takes.word_take, Words.words}
-use Rattle.pas_search.specs.Kinds.{IsReturnOf, ReturnsDuly, AreSearch, KeepsMarks, searching}
-use Rattle.pas_partial.specs.Rows.{IsFreeSlot}
-use Rattle.pas_segregated.specs.Takes.{TookSlots, slot_within, takes_after, takes_since}
-use Rattle.pas_same_text.specs.Words.{free_bit}
-use Rattle.pas_same_text.proofs.{SearchMarks.stays_used, SearchMarks.free_or_held, Tests.and_first, Tests.and_second}
+use Rattle.pas_same_text.proofs.Tests.{and_first, and_second}
 
+-- ---- the same readings show the same slots and rows
+free_slot_as : (class : ℕ) (r fair : Readings) → ((b : ℕ) → b < 256 → r b ≡ fair b) → (s : ℕ) → IsFreeSlot class r s → IsFreeSlot class fair s
+free_slot_as class r fair same s free = let end = slot_within class s free.0 in (free.0, λ b low high. sym (same b (omega (arith, end, high))) ∙ free.1 b low high)
+
+row_as : (Good Fair : ℕ → Type 0) (first step n s : ℕ) → ((x : ℕ) → Good x → Fair x) → IsInRow Good first step n s → IsInRow Fair first step n s
+row_as Good Fair first step n s fair row = (row.0, row.1, row.2, λ j le. fair (first + j * step) (row.3 j le))
+
+lowest_row_as : (class : ℕ) (r fair : Readings) (starts : Mask4) → ((b : ℕ) → b < 256 → r b ≡ fair b) → IsLowestRow class r starts
+    → IsLowestRow class fair starts
+lowest_row_as class r fair starts same row =
+    let there = free_slot_as class r fair same in let back = free_slot_as class fair r (λ b small. sym (same b small)) in
+    record {
+      first = row.first;
+      free = there row.first row.free;
+      lowest = λ s lt free. row.lowest s lt (back s free);
+      are = λ s. (
+        λ set. row_as (IsFreeSlot class r) (IsFreeSlot class fair) row.first (class_grains class) 4 s there ((row.are s).0 set),
+        λ here. (row.are s).1 (row_as (IsFreeSlot class fair) (IsFreeSlot class r) row.first (class_grains class) 4 s back here),
+      );
+    }
+
+module _ (f : Profile) (k : ℕ) (l : Whole) (class page : ℕ) (searched : List Made) (starts : Mask4) (legal : Legal f (triples k searched ++ l))
+    (searches : AreSearch searched) (took : TookChosen (rows class) page searched starts) where
+  lends_nothing : LendsNone searched
+  lends_nothing = lends_none searching refl searched searches.kinds
+
+  of_page : (b : ℕ) → free_of_page l page b ≡ free_bit l (page * 256 + b)
+  of_page b = let bit : b % 64 ≡ (page * 256 + b) % 64 = omega arith in ap (has_bit (word_after l (free_word_at (page * 256 + b)))) bit
+
+  -- what was read is what was free
+  reading_is : (b : ℕ) → b < 256 → took.readings b ≡ free_of_page l page b
+  reading_is b small = same_truth (took.readings b) (free_of_page l page b)
+      (λ read. of_page b ∙ shown_free f k l page b took.readings searched legal lends_nothing searches.returns small (took.read (b / 64) (omega (arith, small))) read)
+      (λ free. free_shown f k l page b took.readings searched legal lends_nothing small (sym (of_page b) ∙ free) (took.read (b / 64) (omega (arith, small))))
+
+  -- What a search took of a shared page is the lowest row of slots by the grains free before the search.
+  pub shared_row : IsLowestRow class (free_of_page l page) starts
+  shared_row = lowest_row_as class took.readings (free_of_page l page) starts reading_is took.chosen
+
+-- ==== WHAT A SEARCH TOOK of a page that it keeps: since it got the page's right, if it holds any of its grains. So its takes since then read just the grains as free that
+-- were free before the search.
 -- ---- the right of a page that is neither offered nor parked stays
 module _ (page : ℕ) where
   kept_right : (x : Way) (t had : Bool) → (t ≡ true → ⊥) → had ≡ true → had_after (if t then x else Rests) had ≡ true

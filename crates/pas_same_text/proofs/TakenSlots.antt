@@ -18,7 +18,7 @@ use Rattle.pas_one_text.specs.{State.World, Pages.are_free, Pages.is_guarded}
 use Rattle.pas_one_text.specs.Classes.{spaced, free_slots, row_from, first_row, slots_for}
 use Rattle.pas_same_text.specs.{Same.HasSame, Same.IsRising, Same.has_number, Acts.IsBetween}
 use Rattle.pas_same_text.proofs.ClassFits.{slot_there, slot_index, slot_tested, slot_free}
-use Rattle.pas_same_text.proofs.{SpacedPlaces.in_spaced, SpacedPlaces.from_spaced, SpacedPlaces.next_place, Tests.filtered_has, Tests.has_filtered}
+use Rattle.pas_same_text.proofs.{BitfitFits.in_spaced, BitfitFits.from_spaced, BitfitFits.next_place, Tests.filtered_has, Tests.has_filtered}
 
 -- ---- places that follow each other at a step, and pass a test
 -- they rise
@@ -197,17 +197,14 @@ module _ (f : Profile) (p : Progress) (w : World) (valid : IsValid f) (between :
 
   -- ---- of a shared page
   module _ (row : IsLowestRow class (free_of_page p.list page) starts) where
-    abbrev first : ℕ
-    first = row.first
-
     abbrev index : ℕ
-    index = (slot_index f p w valid between same class is first row.free.0).0
+    index = (slot_index f p w valid between same class is row.first row.free.0).0
 
     below : index < count
-    below = (slot_index f p w valid between same class is first row.free.0).1
+    below = (slot_index f p w valid between same class is row.first row.free.0).1
 
-    at_first : index * step ≡ first
-    at_first = (slot_index f p w valid between same class is first row.free.0).2
+    at_first : index * step ≡ row.first
+    at_first = (slot_index f p w valid between same class is row.first row.free.0).2
 
     abbrev left : ℕ
     left = count - index
@@ -221,18 +218,18 @@ module _ (f : Profile) (p : Progress) (w : World) (valid : IsValid f) (between :
         let m = suc-mul j step in
         row.lowest (j * step) (omega (arith, next, m, at_first, some)) (free_at j (omega (arith, lt, below)) (ap test (sym at) ∙ so)))
 
-    slots_are : slots_for true w class page ≡ row_from first step 4 (filter test (spaced first step left))
+    slots_are : slots_for true w class page ≡ row_from row.first step 4 (filter test (spaced row.first step left))
     slots_are =
         let few = below in
-        let place : 0 + index * step ≡ first = omega (arith, at_first) in
+        let place : 0 + index * step ≡ row.first = omega (arith, at_first) in
         ap (first_row step) (skipped test step some index count left 0 (omega (arith, few)) none_before ∙ ap (λ (x : ℕ). filter test (spaced x step left)) place)
-        ∙ first_row_is test step some first left (omega (arith, few)) (tested first row.free)
+        ∙ first_row_is test step some row.first left (omega (arith, few)) (tested row.first row.free)
 
     -- the i-th slot behind it
-    behind : (i : ℕ) → first + i * step ≡ (index + i) * step
+    behind : (i : ℕ) → row.first + i * step ≡ (index + i) * step
     behind i = let sum = add-mul index i step in omega (arith, at_first, sum)
 
-    index_of : (i s : ℕ) → s ≡ first + i * step → IsFree s → i < left
+    index_of : (i s : ℕ) → s ≡ row.first + i * step → IsFree s → i < left
     index_of i s at free =
         let o = slot_index f p w valid between same class is s free.0 in
         let same_place : o.0 * step ≡ (index + i) * step = o.2 ∙ (at ∙ behind i) in
@@ -243,11 +240,11 @@ module _ (f : Profile) (p : Progress) (w : World) (valid : IsValid f) (between :
         same_times a b e = sym (mul-div_cancel a some) ∙ (ap (λ (x : ℕ). x / step) e ∙ mul-div_cancel b some)
 
     abbrev row_left : List ℕ
-    row_left = row_from first step 4 (filter test (spaced first step left))
+    row_left = row_from row.first step 4 (filter test (spaced row.first step left))
 
     row_to : (s : ℕ) → has_number row_left s ≡ true → is_set starts s ≡ true
     row_to s h =
-        let o = in_row test step some 4 left first s h in
+        let o = in_row test step some 4 left row.first s h in
         let few = below in
         (row.are s).1 (o.0, o.1, o.3, λ j le. subst IsFree (sym (behind j)) (free_at (index + j) (omega (arith, le, o.2, few)) (ap test (sym (behind j)) ∙ o.4 j le)))
 
@@ -255,7 +252,7 @@ module _ (f : Profile) (p : Progress) (w : World) (valid : IsValid f) (between :
     row_of s set =
         let o = (row.are s).0 set in
         let this : IsFree s = subst IsFree (sym o.2) (o.3 o.0 (omega arith)) in
-        ap (has_number row_left) o.2 ∙ row_has test step some 4 left first o.0 o.1 (index_of o.0 s o.2 this) (λ j le. tested (first + j * step) (o.3 j le))
+        ap (has_number row_left) o.2 ∙ row_has test step some 4 left row.first o.0 o.1 (index_of o.0 s o.2 this) (λ j le. tested (row.first + j * step) (o.3 j le))
 
     -- The row of slots that a search took of a shared page is that which the text takes of it.
     pub row_taken : (s : ℕ) → has_number (slots_for true w class page) s ≡ is_set starts s

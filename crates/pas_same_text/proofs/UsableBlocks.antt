@@ -1,18 +1,17 @@
 -- Each act leaves each live block on grains that blocks of its page's directory may cover.
-use Rattle.std.proofs.Common.{◌≡◌, ℕ, ◌/◌, ◌%◌, ◌<◌, ◌==◌, nat_le, max, Bool, true, false, if◌then◌else◌, List, [], ◌∷◌, ◌++◌, length, map, reverse, Option}
-use Rattle.std.proofs.Common.{None, Some, Result, Ok, Err, MatchResult, inl, inr, refl, ap, sym, ◌∙◌, subst, arith, eqb-true}
-use Rattle.std.proofs.lemmas.{Bool.Decides.nat_tests, Option.same_Some, Option.none-some}
+use Rattle.pas_profile.specs.declared.event.Outcome.TheVariants as TheOutcome
+use Rattle.std.proofs.Common.{◌≡◌, ℕ, ◌/◌, ◌%◌, ◌==◌, Bool, true, false, if◌then◌else◌, List, [], ◌∷◌, ◌++◌, map, Option, None, Some, Result, Ok, Err}
+use Rattle.std.proofs.Common.{MatchResult, inl, inr, refl, ap, sym, ◌∙◌, subst, arith, eqb-true}
+use Rattle.std.proofs.lemmas.Option.{none-some}
 use Rattle.std.specs.List.{AllByRecursion}
 use Rattle.pas_bits.specs.Runs.{in_run}
 use Rattle.pas_bits.proofs.Runs.{run_of}
 use Rattle.pas_profile.specs.{Blocks.address_of, Blocks.grain_of, Blocks.length_of, Directories.IsKind, Directories.deed_word_of, Profiles.IsValid}
-use Rattle.pas_profile.specs.{Routes.room_by}
-use Rattle.pas_profile.specs.Classes.{class_size, class_grains, usable_grains, IsClass}
+use Rattle.pas_profile.specs.{Classes.class_size, Classes.IsClass}
 use Rattle.pas_profile.specs.Requests.{is_shared, kind_of_class, kind_of_route, route_in, room_in}
 use Rattle.pas_profile.specs.declared.{directory.Directory.Directory, directory.Route.Route, event.Event.Event, event.NoRoom.NoRoom, event.Outcome.Outcome}
 use Rattle.pas_profile.specs.declared.{name.Block.Block, profile.Profile.Profile, word.Word.Word}
-use Rattle.pas_profile.specs.declared.event.Outcome.TheVariants as TheOutcome
-use Rattle.pas_profile.proofs.{ClassFacts.usable_grains_le, ClassFacts.class_suits, ClassFacts.class_known, Codecs.same_from_deed_word}
+use Rattle.pas_profile.proofs.{ClassFacts.class_suits, ClassFacts.class_known, Codecs.same_from_deed_word, Lists.all_both, Lists.all_map}
 use Rattle.pas_machine.specs.{Machine.Run, Machine.Bears, State.Live, State.live_in, State.deed_in}
 use Rattle.pas_machine.proofs.LiveBlocks.{all_borne}
 use Rattle.pas_steps.specs.{Desks.triples, Events.events_by, Views.View, Views.known_deed, Views.usable_by_kind}
@@ -33,7 +32,7 @@ use Rattle.pas_guard.specs.declared.book.Guard.{Guard}
 use Rattle.pas_trace.specs.{Acts.Act, Asked.request_in}
 use Rattle.pas_trace.specs.declared.{item.Request.Request, plan.Op.Op, plan.What.What}
 use Rattle.pas_answers.specs.Answers.{Progress, Having, Answer, having, IsGiven, RefusalEnds, RequestEnds, IsFreed, IsFreedBy, IsStopped, IsAnswered}
-use Rattle.pas_answers.specs.Answers.{IsRemadeBy, IsReplaced, request_for, standing_for, entry_with, wanted_by}
+use Rattle.pas_answers.specs.Answers.{IsRemadeBy, IsReplaced, standing_for, entry_with, wanted_by}
 use Rattle.pas_answers.specs.Guarding.{Tried, IsTried, TryEnds, after_trying}
 use Rattle.pas_answers.specs.Reaching.{AnswersTried, AnswersGuarded}
 use Rattle.pas_answers.proofs.Reached.{tried_on, pieces_back}
@@ -142,29 +141,17 @@ one_unback : (k epoch page : ℕ) (o : Outcome) → AreNoGives (unback_of k epoc
 one_unback k epoch page TheOutcome.Unbacked = (tt, tt)
 one_unback k epoch page o = tt
 
-both_none : (xs ys : List Event) → AreNoGives xs → AreNoGives ys → AreNoGives (xs ++ ys)
-both_none [] ys a b = b
-both_none (x ∷ xs) ys a b = (a.0, both_none xs ys a.1 b)
-
 unbacks_give : (k epoch : ℕ) (pairs : List (ℕ × Outcome)) → AreNoGives (unbacks_in k epoch pairs)
 unbacks_give k epoch [] = tt
-unbacks_give k epoch (p ∷ pairs) = both_none (unback_of k epoch p.0 p.1) (unbacks_in k epoch pairs) (one_unback k epoch p.0 p.1) (unbacks_give k epoch pairs)
+unbacks_give k epoch (p ∷ pairs) = all_both IsNoGive (unback_of k epoch p.0 p.1) (unbacks_in k epoch pairs) (one_unback k epoch p.0 p.1) (unbacks_give k epoch pairs)
 
 -- ---- a request
 preparing_none : (d : Directory) (e : Event) → IsPreparing d e → IsNoGive e
 preparing_none d e (IsPreparing.Deeds k page) = tt
 preparing_none d e (IsPreparing.Backs k page) = tt
 
-all_preparing : (d : Directory) (es : List Event) → AllByRecursion (IsPreparing d) es → AreNoGives es
-all_preparing d [] all = tt
-all_preparing d (e ∷ es) all = (preparing_none d e all.0, all_preparing d es all.1)
-
 deed_none : (d : Directory) (e : Event) → IsDeedOf d e → IsNoGive e
 deed_none d e (IsDeedOf.Deeds k page) = tt
-
-all_deeds : (d : Directory) (es : List Event) → AllByRecursion (IsDeedOf d) es → AreNoGives es
-all_deeds d [] all = tt
-all_deeds d (e ∷ es) all = (deed_none d e all.0, all_deeds d es all.1)
 
 -- where a block stands, its grains are such as its directory's blocks may cover
 slot_at : (class : ℕ) (shared : Bool) (block : Block) (g : ℕ) → IsClass class → IsInSlot class block → block.room ≡ class_size class
@@ -182,7 +169,7 @@ kind_known f shared size align Route.Bitfit e = tt
 kind_known f shared size align Route.Large e = tt
 
 refusal_gives : (route : Route) (d : Directory) (es : List Event) → RefusalEnds route d es → AreNoGives es
-refusal_gives route d es h = search (arith, all_deeds)
+refusal_gives route d es h = search (arith, all_map, deed_none)
 
 module _ (f : Profile) (k heap size align : ℕ) (l : Whole) (steps : List Made) (valid : IsValid f) (legal : Legal f (triples k steps ++ l))
     (usable : AreBlocksUsable (visible l)) where
@@ -207,7 +194,7 @@ module _ (f : Profile) (k heap size align : ℕ) (l : Whole) (steps : List Made)
       let shown : visible whole ≡ Event.Give k block ∷ (given.before ++ visible l) = visible_steps k steps l ∙ ap (λ (es : List Event). es ++ visible l) given.events in
       let run : Run f (Event.Give k block ∷ (given.before ++ visible l)) = subst (Run f) shown (runs f whole valid legal) in
       subst AreBlocksUsable (sym shown)
-      (next_usable f (Event.Give k block) (given.before ++ visible l) run (give_usable block given) (all_usable f given.before (visible l) run.1 (all_preparing wanted.directory given.before given.prepared) usable))
+      (next_usable f (Event.Give k block) (given.before ++ visible l) run (give_usable block given) (all_usable f given.before (visible l) run.1 (all_map (IsPreparing wanted.directory) IsNoGive given.before (preparing_none wanted.directory) given.prepared) usable))
   by_answer (Err room) ends = steps_usable f k steps l valid legal (refusal_gives wanted.route wanted.directory (events_by k (part k l) steps) ends) usable
 
 -- ---- a reallocation
@@ -257,7 +244,7 @@ sweep_usable f keeper all guards guards' said steps l valid legal h usable = ste
 -- a raise gives its block as any request does, or makes deeds alone
 raise_usable : (f : Profile) (keeper : ℕ) (r : Request) (block : Option Block) (steps : List Made) (l : Whole) → IsValid f → Legal f (triples keeper steps ++ l)
     → TryEnds f keeper r (part keeper l) steps block → AreBlocksUsable (visible l) → AreBlocksUsable (visible (triples keeper steps ++ l))
-raise_usable f keeper r None steps l valid legal ends usable = steps_usable f keeper steps l valid legal (all_deeds (wanted_by f r).directory (events_by keeper (part keeper l) steps) ends) usable
+raise_usable f keeper r None steps l valid legal ends usable = steps_usable f keeper steps l valid legal (all_map (IsDeedOf (wanted_by f r).directory) IsNoGive (events_by keeper (part keeper l) steps) (deed_none (wanted_by f r).directory) ends) usable
 raise_usable f keeper r (Some block) steps l valid legal given usable = by_answer f keeper r.heap r.size r.align l steps valid legal usable (Ok block) given
 
 tried_usable : (f : Profile) (keeper : ℕ) (r : Request) (l : Whole) (guards : List Guard) (t : Tried) → IsValid f → Legal f (triples keeper t.steps ++ l)

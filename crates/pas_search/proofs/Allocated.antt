@@ -12,19 +12,20 @@ use Rattle.pas_rights.specs.Leaves.{MayLeave, Leaves}
 use Rattle.pas_rights.proofs.Gives.{may_give_on, covers}
 use Rattle.pas_steps.specs.Calls.{Calls, Kept, Gained, Lost, now, later, Does}
 use Rattle.pas_steps.specs.Desks.{Seat, Standing, Adds, CanCall, triples}
-use Rattle.pas_steps.specs.{Unknown.HasRoom, Events.events_of, Events.events_by, Evidence.Readings, Kinds.returning}
+use Rattle.pas_steps.specs.{Unknown.HasRoom, Events.events_of, Events.events_by, Kinds.returning}
 use Rattle.pas_steps.specs.Views.{View, holds, has_right, KnowsDeed}
 use Rattle.pas_steps.specs.declared.step.Made.{Made}
 use Rattle.pas_steps.proofs.{Adding.room_left, Apart.events_same, Calls.does_as, Calls.does_then, Calls.returns_are, Frames.events_split, Sets.same_truth}
 use Rattle.pas_steps.proofs.{SpareRoom.Spares}
 use Rattle.pas_steps.proofs.Called.{call_as, call_knows, call_then, next_call}
-use Rattle.pas_search.specs.{Kinds.deeds_made, Serving.right_of, Telling.IsLowestOffered, Telling.IsLowestBare, Telling.IsTold, ByRank.GivesRunOf}
-use Rattle.pas_search.specs.{ByRank.AllocatesByRank, Choices.Choice, Choices.choosing}
+use Rattle.pas_search.specs.{Kinds.deeds_made, Serving.right_of, Telling.IsLowestOffered, Telling.IsLowestBare, Telling.IsTold, ByRank.AllocatesByRank}
+use Rattle.pas_search.specs.Placements.{Placement, IsPlacement, IsFit, placed, by_run, placing}
 use Rattle.pas_search.specs.Searches.{MaySearch, SearchRoom, FromOffered, ByDeed, Finds, IsRefused, search_steps, Searches}
-use Rattle.pas_search.specs.Ranks.{Measure, RankRoom, TriesBest, IsBestOffered}
-use Rattle.pas_search.proofs.{TheBestPage.falls_back, TheBestPage.adds_then, TheBestPage.stood_then, Found.KeepsNew, Found.finds_call, Found.left_after}
-use Rattle.pas_search.specs.declared.{serving.Served.Served, choosing.Run.Run}
-use Rattle.pas_search.specs.Allocates.{IsRunOf, GaveBlock, IsGiven, AllocatesRun}
+use Rattle.pas_search.specs.Ranks.{Measure, RankRoom, TriesBest, FromSurvey, IsBestOffered}
+use Rattle.pas_search.proofs.{TheBestPage.falls_back, TheBestPage.adds_then, TheBestPage.stood_then, Placed.placed_fits}
+use Rattle.pas_search.proofs.Found.{KeepsNew, finds_call, finds_as, left_after}
+use Rattle.pas_search.specs.declared.{serving.Served.Served, placing.Run.Run}
+use Rattle.pas_search.specs.Allocates.{GaveBlock, GivesFound, IsGiven, AllocatesRun}
 
 room_for_one : (f : Profile) (spare : ℕ) (v : View) → HasRoom f 2 spare v → HasRoom f 1 spare v
 room_for_one f spare v room = (omega (arith, room.0), elim room.1 [ inl all ↦ inl all | inr more ↦ inr (omega (arith, more)) ])
@@ -50,29 +51,28 @@ taken_given false false held e none = inl refl
 abbrev pub may_search : {σ : Standing} {d : Directory} {n spare : ℕ} → CanCall σ (SearchRoom σ.seat.profile d n spare) → CanCall σ (MaySearch d)
 may_search can = record { view = can.view; whole = can.whole; stood = can.stood; met = can.met.may }
 
-module _ {Found : Type 0} (choice : Choice Found) (run : Found → Run)
-    (law : (readings : Readings) (found : Found) → choice.asked → choice.chosen readings found → IsRunOf (choice.kept found) (run found)) (asked : choice.asked)
-    (d : Directory) {Chosen : List Made → Type 0} {σ σ1 : Standing} (of_profile : IsDirectoryOf σ.seat.profile d) (served : Served Found) {xs : List Made} (adds : Adds σ σ1 (MaySearch d) xs)
-    (finds : Finds (choosing choice) σ.seat.profile d Chosen xs served) (r : Run) (r_is : r ≡ run served.found) where
-  -- What a search found by a choice is its run.
-  pub is_run : IsRunOf (choice.kept served.found) r
-  is_run = subst (IsRunOf (choice.kept served.found)) (sym r_is) (law finds.serves.readings served.found asked finds.serves.chosen)
-
-  abbrev f : Profile
-  f = σ.seat.profile
-
+module _ (p : Placement) (is : IsPlacement p) (asked : p.asked) (d : Directory) {So : List Made → Type 0} {σ σ1 : Standing}
+    (of_profile : IsDirectoryOf σ.seat.profile d) (served : Served Run) {xs : List Made} (adds : Adds σ σ1 (MaySearch d) xs)
+    (finds : Finds (placing p) σ.seat.profile d So xs served) where
   abbrev page : ℕ
   page = served.page
 
+  abbrev run : Run
+  run = served.found
+
   abbrev first : ℕ
-  first = r.first
+  first = run.first
 
   abbrev n : ℕ
-  n = r.grains
+  n = run.grains
+
+  -- What a search found by a placement is a run on its page.
+  pub is_run : IsFit p.no_fit finds.serves.readings served.found
+  is_run = placed_fits p is asked finds.serves.readings run finds.serves.chosen
 
   -- the run's grains, by their numbers in the region
-  in_region : (g : ℕ) → ((page == g / 256) && choice.kept served.found (g % 256)) ≡ in_run (page * 256 + first) n g
-  in_region g = ap (λ t. (page == g / 256) && t) (is_run.are (g % 256) (omega arith)) ∙ same_truth ((page == g / 256) && in_run first n (g % 256)) (in_run (page * 256 + first) n g)
+  in_region : (g : ℕ) → ((page == g / 256) && in_run first n (g % 256)) ≡ in_run (page * 256 + first) n g
+  in_region g = same_truth ((page == g / 256) && in_run first n (g % 256)) (in_run (page * 256 + first) n g)
       (λ h.
       let parts = and_parts (page == g / 256) (in_run first n (g % 256)) h in
       let at = eqb-true page (g / 256) parts.0 in let x = run_of first n (g % 256) parts.1 in let low = x.0 in let high = x.1 in
@@ -82,20 +82,21 @@ module _ {Found : Type 0} (choice : Choice Found) (run : Found → Run)
       and_from (page == g / 256) (in_run first n (g % 256)) (eq-eqb page (g / 256) (omega (arith, low, high, w)))
       (to_run first n (g % 256) (omega (arith, low, high, w)) (omega (arith, low, high, w))))
 
-  new_call : Calls σ σ1 (MaySearch d) (KeepsNew (choosing choice) d served) xs
-  new_call = finds_call (choosing choice) d served adds finds
+  new_call : Calls σ σ1 (MaySearch d) (KeepsNew (placing p) d served) xs
+  new_call = finds_call (placing p) d served adds finds
 
-  may_give : (v : View) → MaySearch d v → KeepsNew (choosing choice) d served v (xs ++ v) → MayGive σ1.seat.profile d.heap page first n (xs ++ v)
+  may_give : (v : View) → MaySearch d v → KeepsNew (placing p) d served v (xs ++ v) → MayGive σ1.seat.profile d.heap page first n (xs ++ v)
   may_give v met kept = let clear = kept.found.keeps.does.clear page (met.clear.on page) in
       may_give_on d page first n (subst (λ s. IsDirectoryOf s.profile d) (sym adds.seat_is) of_profile) is_run.within
       (λ g inside. kept.found.keeps.does.held g ∙ ap (λ t. now (if t then Gained else Kept) (holds v g)) (in_region g ∙ inside)) kept.found.deed kept.found.keeps.backed clear.stamped
 
   -- The run that a search found lies within the region.
-  pub run_within : served.page * 256 + r.first + r.grains ≤ 256 * (σ1.seat.profile.pages + 1)
+  pub run_within : served.page * 256 + served.found.first + served.found.grains ≤ 256 * (σ1.seat.profile.pages + 1)
   run_within = let of : IsPage σ1.seat.profile page = subst (λ s. IsPage s.profile page) (sym adds.seat_is) finds.page in omega (arith, of.1, is_run.within)
 
   -- The block of the run that a search found may be given.
-  pub can_give : {spare : ℕ} → CanCall σ (SearchRoom σ.seat.profile d 2 spare) → CanCall σ1 (MayGive σ1.seat.profile d.heap served.page r.first r.grains)
+  pub can_give : {spare : ℕ} → CanCall σ (SearchRoom σ.seat.profile d 2 spare)
+      → CanCall σ1 (MayGive σ1.seat.profile d.heap served.page served.found.first served.found.grains)
   can_give can = next_call new_call (may_search can) may_give
 
   -- After the search there is room for the event of the give.
@@ -114,7 +115,7 @@ module _ {Found : Type 0} (choice : Choice Found) (run : Found → Run)
       ] in
       room_left {spare = spare1} 1 adds sought law' (omega (arith, now, split, fits))
 
-  module _ {σ2 : Standing} (block : Block) (gives : GivesRun d.heap served.page r.first r.grains block σ1 σ2) where
+  module _ {σ2 : Standing} (block : Block) (gives : GivesRun d.heap served.page served.found.first served.found.grains block σ1 σ2) where
     abbrev given : List Made
     given = give_steps page first block gives.word gives.answer
 
@@ -131,7 +132,7 @@ module _ {Found : Type 0} (choice : Choice Found) (run : Found → Run)
     gave_call = call_then (λ v w. Gave v w × KnowsDeed page d w) new_call give_call (λ v met kept. (may_give v met kept, kept.found.deed)) (λ v met kept gave. (
       record {
         does = does_as (right_of page Gained) (does_then kept.found.keeps.does gave.0.does)
-            (λ g. taken_given ((page == g / 256) && choice.kept served.found (g % 256)) (in_run (page * 256 + first) n g) (holds v g) (in_region g) (kept.apart g)) (λ q. refl) (λ q h. h);
+            (λ g. taken_given ((page == g / 256) && in_run first n (g % 256)) (in_run (page * 256 + first) n g) (holds v g) (in_region g) (kept.apart g)) (λ q. refl) (λ q h. h);
         apart = λ g inside. kept.apart g (in_region g ∙ sym (covers d.heap page first n gives.word block gives.block_is g) ∙ inside);
         turn = gave.0.turn;
       },
@@ -161,74 +162,61 @@ module _ {Found : Type 0} (choice : Choice Found) (run : Found → Run)
       pub page_is : address_of block.name / 4096 ≡ served.page
       page_is = ap (λ (b : Block). address_of b.name / 4096) gives.block_is ∙ omega (arith, is_run.within, is_run.some)
 
-      block_as : block ≡ block_of d.heap page (run served.found).first (run served.found).grains gives.word
-      block_as = gives.block_is ∙ ap (λ (x : Run). block_of d.heap page x.first x.grains gives.word) r_is
-
-      pub given_adds : Adds σ σ3 (MaySearch d) ((left.steps ++ give_steps served.page r.first block gives.word gives.answer) ++ xs)
+      pub given_adds : Adds σ σ3 (MaySearch d) ((left.steps ++ give_steps served.page served.found.first block gives.word gives.answer) ++ xs)
       given_adds = whole_call.adds
 
-      pub given_run : GivesRunOf σ.seat.profile d served.page (run served.found) xs (left.steps ++ give_steps served.page r.first block gives.word gives.answer) block
-      given_run = record {
-        word = gives.word;
-        answer = gives.answer;
-        left = left.steps;
-        after_is = ap (λ (x : Run). left.steps ++ give_steps page x.first block gives.word gives.answer) r_is;
-        leaves = left.order;
-        few = let sum = length-append left.steps given in omega (arith, sum, left.few);
-        block_is = block_as;
-        address_is = ap (λ (b : Block). address_of b.name) block_as;
-        room_is = ap (λ (b : Block). b.room) block_as;
-        gave = whole_call.leads;
-        events = λ k v. ap (events_by k v) (append_assoc left.steps given xs) ∙ events_same returning refl k v left.steps (given ++ xs) (returns_are page left.steps left.returns);
-      }
+      -- The block of the run was given, where the page was chosen so.
+      pub given_run : (How : ℕ → List Made → Type 0) → How served.page xs
+          → GivesFound (placed p) p.run σ.seat.profile d How xs (left.steps ++ give_steps served.page served.found.first block gives.word gives.answer) block
+      given_run How chosen =
+          let it = finds.serves.chosen in
+          let block_as : block ≡ block_of d.heap page (p.run it.found).first (p.run it.found).grains gives.word
+          = gives.block_is ∙ ap (λ (x : Run). block_of d.heap page x.first x.grains gives.word) it.run_is in
+          record {
+            page = page;
+            found = it.found;
+            served = finds_as (by_run p) p.chosen (λ found. in_run (p.run found).first (p.run found).grains) page run it.found (λ g lt. ap (λ (x : Run). in_run x.first x.grains g) it.run_is) finds it.chosen chosen;
+            word = gives.word;
+            answer = gives.answer;
+            left = left.steps;
+            after_is = ap (λ (x : Run). left.steps ++ give_steps page x.first block gives.word gives.answer) it.run_is;
+            leaves = left.order;
+            few = let sum = length-append left.steps given in omega (arith, sum, left.few);
+            block_is = block_as;
+            address_is = ap (λ (b : Block). address_of b.name) block_as;
+            room_is = ap (λ (b : Block). b.room) block_as;
+            gave = whole_call.leads;
+            events = λ k v. ap (events_by k v) (append_assoc left.steps given xs) ∙ events_same returning refl k v left.steps (given ++ xs) (returns_are page left.steps left.returns);
+          }
 
 -- ---- by a search
-abbrev pub IsLaw : {Found : Type 0} → Choice Found → (Found → Run) → Type 0
-IsLaw {Found} choice run = (readings : Readings) (found : Found) → choice.asked → choice.chosen readings found → IsRunOf (choice.kept found) (run found)
-
-pub one_deed : {Found : Type 0} (choice : Choice Found) (d : Directory) {tells : Bool} {σ σ1 : Standing} (served : Served Found)
-    (searches : Searches (choosing choice) tells d σ σ1 (Ok served)) → deeds_made searches.steps ≤ 1
-one_deed choice d {σ = σ} served searches = let f : Profile = σ.seat.profile in let xs : List Made = searches.steps in
-    few_deeds (deeds_made xs) (λ (c : FromOffered choice.no_fit d served.page xs). c.no_deed)
-    (λ (c : ByDeed choice.no_fit f d served.page xs). c.one_deed) searches.outcome.choice
+pub one_deed : (p : Placement) (d : Directory) {tells : Bool} {σ σ1 : Standing} (served : Served Run)
+    (searches : Searches (placing p) tells d σ σ1 (Ok served)) → deeds_made searches.steps ≤ 1
+one_deed p d {σ = σ} served searches = let f : Profile = σ.seat.profile in let xs : List Made = searches.steps in
+    few_deeds (deeds_made xs) (λ (c : FromOffered p.no_fit d served.page xs). c.no_deed)
+    (λ (c : ByDeed p.no_fit f d served.page xs). c.one_deed) searches.outcome.choice
 
 -- A run that was found, given and left is allocated.
-pub allocates : {Found : Type 0} (choice : Choice Found) (run : Found → Run) (law : IsLaw choice run) (asked : choice.asked) (d : Directory) {tells : Bool}
-    {σ σ1 σ2 σ3 : Standing} (of_profile : IsDirectoryOf σ.seat.profile d) (served : Served Found)
-    (searches : Searches (choosing choice) tells d σ σ1 (Ok served)) (r : Run) (r_is : r ≡ run served.found) (block : Block)
-    → GivesRun d.heap served.page r.first r.grains block σ1 σ2 → Leaves served.page d σ2 σ3
-    → AllocatesRun choice run d tells σ σ3 (Ok block)
-allocates choice run law asked d {σ = σ} of_profile served searches r r_is block gives left =
-    let given = given_run choice run law asked d of_profile served searches.adds searches.outcome r r_is block gives left in record {
-      searched = searches.steps;
-      searches = searches.searches;
-      few = searches.few;
-      after = left.steps ++ give_steps served.page r.first block gives.word gives.answer;
-      adds = given_adds choice run law asked d of_profile served searches.adds searches.outcome r r_is block gives left;
-      outcome = record {
-        page = served.page;
-        found = served.found;
-        served = searches.outcome;
-        word = given.word;
-        answer = given.answer;
-        left = given.left;
-        after_is = given.after_is;
-        leaves = given.leaves;
-        few = given.few;
-        block_is = given.block_is;
-        address_is = given.address_is;
-        room_is = given.room_is;
-        gave = given.gave;
-        events = given.events;
-      };
-      told = λ t v l stood met. subst (λ q. IsLowestOffered choice.no_fit σ.seat.profile d l q ⊎ IsLowestBare choice.no_fit σ.seat.profile d l q)
-          (sym (page_is choice run law asked d of_profile served searches.adds searches.outcome r r_is block gives left)) (searches.told t v l stood met);
-    }
+pub allocates : (p : Placement) (is : IsPlacement p) (asked : p.asked) (d : Directory) {tells : Bool}
+    {σ σ1 σ2 σ3 : Standing} (of_profile : IsDirectoryOf σ.seat.profile d) (served : Served Run)
+    (searches : Searches (placing p) tells d σ σ1 (Ok served)) (block : Block)
+    → GivesRun d.heap served.page served.found.first served.found.grains block σ1 σ2 → Leaves served.page d σ2 σ3
+    → AllocatesRun (placed p) p.run d tells σ σ3 (Ok block)
+allocates p is asked d {σ = σ} of_profile served searches block gives left = record {
+  searched = searches.steps;
+  searches = searches.searches;
+  few = searches.few;
+  after = left.steps ++ give_steps served.page served.found.first block gives.word gives.answer;
+  adds = given_adds p is asked d of_profile served searches.adds searches.outcome block gives left;
+  outcome = given_run p is asked d of_profile served searches.adds searches.outcome block gives left (λ page call. FromOffered p.no_fit d page call ⊎ ByDeed p.no_fit σ.seat.profile d page call) searches.outcome.choice;
+  told = λ t v l stood met. subst (λ q. IsLowestOffered p.no_fit σ.seat.profile d l q ⊎ IsLowestBare p.no_fit σ.seat.profile d l q)
+      (sym (page_is p is asked d of_profile served searches.adds searches.outcome block gives left)) (searches.told t v l stood met);
+}
 
 -- A search that was refused allocates nothing, for its reason.
-pub refuses : {Found : Type 0} (choice : Choice Found) (run : Found → Run) (d : Directory) {tells : Bool} {σ σ1 : Standing} (why : NoRoom)
-    → Searches (choosing choice) tells d σ σ1 (Err why) → AllocatesRun choice run d tells σ σ1 (Err why)
-refuses choice run d why searches = record { searched = searches.steps; searches = searches.searches; few = searches.few; after = []; adds = searches.adds; outcome = (searches.outcome, refl); told = searches.told }
+pub refuses : (p : Placement) (d : Directory) {tells : Bool} {σ σ1 : Standing} (why : NoRoom)
+    → Searches (placing p) tells d σ σ1 (Err why) → AllocatesRun (placed p) p.run d tells σ σ1 (Err why)
+refuses p d why searches = record { searched = searches.steps; searches = searches.searches; few = searches.few; after = []; adds = searches.adds; outcome = (searches.outcome, refl); told = searches.told }
 
 -- ---- by a rule over pages
 pub room_to_try : {σ : Standing} {f : Profile} {d : Directory} {spare : ℕ} → CanCall σ (RankRoom f d 2 spare) → CanCall σ (RankRoom f d 1 spare)
@@ -238,45 +226,42 @@ room_to_try {f = f} {spare = spare} can =
 pub room_to_use : {σ : Standing} {f : Profile} {d : Directory} {n spare : ℕ} → CanCall σ (RankRoom f d n spare) → CanCall σ (SearchRoom f d n spare)
 room_to_use can = record { view = can.view; whole = can.whole; stood = can.stood; met = record { may = can.met.may.may; room = can.met.room } }
 
-pub no_deed : {Found : Type 0} (choice : Choice Found) (d : Directory) {ranks : Measure} {tells : Bool} {σ σ1 : Standing} (served : Served Found)
-    (tries : TriesBest (choosing choice) ranks tells d σ σ1 (Some served)) → deeds_made tries.steps ≤ 1
-no_deed choice d served tries = let none = tries.outcome.choice.no_deed in omega (arith, none)
+pub no_deed : (p : Placement) (d : Directory) {ranks : Measure} {tells : Bool} {σ σ1 : Standing} (served : Served Run)
+    (tries : TriesBest (placing p) ranks tells d σ σ1 (Some served)) → deeds_made tries.steps ≤ 1
+no_deed p d served tries = let none = tries.outcome.choice.no_deed in omega (arith, none)
 
-pub allocates_best : {Found : Type 0} (choice : Choice Found) (run : Found → Run) (law : IsLaw choice run) (asked : choice.asked) (d : Directory)
+pub allocates_best : (p : Placement) (is : IsPlacement p) (asked : p.asked) (d : Directory)
     {ranks : Measure} {tells : Bool} {σ σ1 σ2 σ3 : Standing} (of_profile : IsDirectoryOf σ.seat.profile d)
-    (served : Served Found) (tries : TriesBest (choosing choice) ranks tells d σ σ1 (Some served)) (r : Run) (r_is : r ≡ run served.found) (block : Block)
-    → GivesRun d.heap served.page r.first r.grains block σ1 σ2 → Leaves served.page d σ2 σ3
-    → AllocatesByRank choice run ranks d tells σ σ3 (Ok block)
-allocates_best choice run law asked d {ranks} {σ = σ} of_profile served tries r r_is block gives left = inl (
+    (served : Served Run) (tries : TriesBest (placing p) ranks tells d σ σ1 (Some served)) (block : Block)
+    → GivesRun d.heap served.page served.found.first served.found.grains block σ1 σ2 → Leaves served.page d σ2 σ3
+    → AllocatesByRank (placed p) p.run ranks d tells σ σ3 (Ok block)
+allocates_best p is asked d {ranks} {σ = σ} of_profile served tries block gives left = inl (
   block,
   refl,
   record {
     searched = tries.steps;
     searches = tries.searches;
     few = tries.few;
-    after = left.steps ++ give_steps served.page r.first block gives.word gives.answer;
-    adds = given_adds choice run law asked d of_profile served tries.adds tries.outcome r r_is block gives left;
-    page = served.page;
-    found = served.found;
-    served = tries.outcome;
-    given = given_run choice run law asked d of_profile served tries.adds tries.outcome r r_is block gives left;
-    told = λ t v l stood met. subst (IsBestOffered choice.no_fit σ.seat.profile ranks d l)
-        (sym (page_is choice run law asked d of_profile served tries.adds tries.outcome r r_is block gives left)) (tries.told t v l stood met);
+    after = left.steps ++ give_steps served.page served.found.first block gives.word gives.answer;
+    adds = given_adds p is asked d of_profile served tries.adds tries.outcome block gives left;
+    given = given_run p is asked d of_profile served tries.adds tries.outcome block gives left (FromSurvey σ.seat.profile ranks d) tries.outcome.choice;
+    told = λ t v l stood met. subst (IsBestOffered p.no_fit σ.seat.profile ranks d l)
+        (sym (page_is p is asked d of_profile served tries.adds tries.outcome block gives left)) (tries.told t v l stood met);
   },
 )
 
 -- where the try came to nothing
-pub allocates_then : {Found : Type 0} (choice : Choice Found) (run : Found → Run) (d : Directory) {ranks : Measure} {tells : Bool} {σ σ1 σ2 : Standing}
-    {answer : Result Block NoRoom}
-    → TriesBest (choosing choice) ranks tells d σ σ1 None → AllocatesRun choice run d tells σ1 σ2 answer → AllocatesByRank choice run ranks d tells σ σ2 answer
-allocates_then choice run d {answer = answer} tries a = let seat_is = tries.adds.seat_is in inr (falls_back tries (record {
+pub allocates_then : (p : Placement) (d : Directory) {ranks : Measure} {tells : Bool} {σ σ1 σ2 : Standing} {answer : Result Block NoRoom}
+    → TriesBest (placing p) ranks tells d σ σ1 None → AllocatesRun (placed p) p.run d tells σ1 σ2 answer
+    → AllocatesByRank (placed p) p.run ranks d tells σ σ2 answer
+allocates_then p d {answer = answer} tries a = let seat_is = tries.adds.seat_is in inr (falls_back tries (record {
   searched = a.searched;
   searches = a.searches;
   few = subst (λ (seat : Seat). length a.searched ≤ search_steps 15 seat.profile.pages) seat_is a.few;
   after = a.after;
   adds = adds_then tries a.adds;
-  outcome = subst (λ (seat : Seat). MatchResult answer (IsGiven choice run seat.profile d a.searched a.after)
-      (λ why. IsRefused choice.no_fit seat.profile d a.searched why × (a.after ≡ []))) seat_is a.outcome;
-  told = λ t v l b met. subst (λ (seat : Seat). IsTold (λ (block : Block). address_of block.name / 4096) choice.no_fit seat.profile d l
+  outcome = subst (λ (seat : Seat). MatchResult answer (IsGiven (placed p) p.run seat.profile d a.searched a.after)
+      (λ why. IsRefused p.no_fit seat.profile d a.searched why × (a.after ≡ []))) seat_is a.outcome;
+  told = λ t v l b met. subst (λ (seat : Seat). IsTold (λ (block : Block). address_of block.name / 4096) p.no_fit seat.profile d l
       (triples seat.actor (a.after ++ a.searched) ++ l) answer) seat_is (a.told t v l (stood_then tries v l b) met);
 }))

@@ -1,13 +1,14 @@
 -- For callers of a search: what it found, and the page that is left at once.
-use Rattle.std.proofs.Common.{◌≡◌, ℕ, ◌/◌, ◌%◌, ◌==◌, Bool, true, false, ◌&&◌, if◌then◌else◌, List, Ok, refl, sym, ◌∙◌, subst, arith, inl, true≢false, eqb-true}
+use Rattle.std.proofs.Common.{◌≡◌, ℕ, ◌/◌, ◌%◌, ◌<◌, ◌==◌, Bool, true, false, ◌&&◌, if◌then◌else◌, List, [], ◌∷◌, Ok, refl, ap, sym, ◌∙◌, subst, arith, inl}
+use Rattle.std.proofs.Common.{inr, true≢false, eqb-true}
 use Rattle.std.proofs.lemmas.Bool.{and_parts, false_from_ne_true}
-use Rattle.pas_profile.specs.declared.directory.Directory.{Directory}
+use Rattle.pas_profile.specs.declared.{directory.Directory.Directory, profile.Profile.Profile}
 use Rattle.pas_steps.specs.Calls.{Calls, Fate, Kept, Gained, Lost, later, ClearAfter, Effect, on_page, Does}
 use Rattle.pas_steps.specs.declared.step.Made.{Made}
-use Rattle.pas_steps.specs.{Desks.Adds, Desks.Standing, Views.View, Views.holds}
+use Rattle.pas_steps.specs.{Desks.Adds, Desks.Standing, Evidence.Readings, Evidence.GetsHere, Past.Since, Views.View, Views.holds}
 use Rattle.pas_steps.proofs.{Calls.does_as, Calls.does_then, Sets.kept_kept}
 use Rattle.pas_search.specs.Searches.{MaySearch, KeepsFound, Finds, Searches}
-use Rattle.pas_search.specs.Serving.{Rule}
+use Rattle.pas_search.specs.{Serving.Rule, Serving.served, Allocates.served_by, Choices.Choice, Choices.TakesKept, Choices.choosing}
 use Rattle.pas_search.specs.declared.serving.Served.{Served}
 
 -- ---- what was found
@@ -37,6 +38,49 @@ pub found_call : {Found : Type 0} (rule : Rule Found) (d : Directory) {tells : B
     (searches : Searches rule tells d σ σ1 (Ok served))
     → Calls σ σ1 (MaySearch d) (KeepsNew rule d served) searches.steps
 found_call rule d served searches = finds_call rule d served searches.adds searches.outcome
+
+-- ---- what was found, named otherwise
+-- the same choice, by what has other names
+abbrev pub named : {A B : Type 0} → Choice A → (Readings → B → Type 0) → (B → ℕ → Bool) → Choice B
+named choice chosen kept = record { asked = choice.asked; kind = choice.kind; no_fit = choice.no_fit; chosen = chosen; kept = kept }
+
+module _ {A B : Type 0} (choice : Choice A) (chosen : Readings → B → Type 0) (kept : B → ℕ → Bool) (page : ℕ) (a : A) (b : B)
+    (same : (g : ℕ) → g < 256 → choice.kept a g ≡ kept b g) where
+  takes_as : (steps : List Made) → Since (GetsHere page) (λ m before. TakesKept (choice.kept a) page m) steps
+      → Since (GetsHere page) (λ m before. TakesKept (kept b) page m) steps
+  takes_as [] none = none
+  takes_as (m ∷ steps) (inl got) = inl got
+  takes_as (m ∷ steps) (inr so) = inr ((λ word mask g is here. sym (same (g % 256) (omega arith)) ∙ so.0 word mask g is here), takes_as steps so.1)
+
+  -- What was found is what has the same grains, where that was chosen by the same readings.
+  pub finds_as : {f : Profile} {d : Directory} {So How : List Made → Type 0} {steps : List Made}
+      → (finds : Finds (choosing choice) f d So steps (served_by page a)) → chosen finds.serves.readings b → How steps
+      → Finds (choosing (named choice chosen kept)) f d How steps (served_by page b)
+  finds_as {steps = steps} finds this how = record {
+    page = finds.page;
+    keeps = record {
+      from = λ v met agreed. let was = finds.keeps.from v met agreed in record {
+        keeps = record {
+          does = does_as (served (choosing (named choice chosen kept)) page b) was.keeps.does
+              (λ g. inl (ap (λ t. if (page == g / 256) && t then Gained else Kept) (same (g % 256) (omega arith)))) (λ q. refl) (λ q h. h);
+          backed = was.keeps.backed;
+        };
+        deed = was.deed;
+      };
+    };
+    choice = how;
+    shows = record {
+      readings = finds.shows.readings;
+      fits = finds.shows.fits;
+      took = λ g lt kept. finds.shows.took g lt (same g lt ∙ kept);
+      read = finds.shows.read;
+      held = finds.shows.held;
+    };
+    serves = record { readings = finds.serves.readings; read = finds.serves.read; chosen = this; takes = takes_as steps finds.serves.takes };
+    marks = finds.marks;
+    few = finds.few;
+    events = finds.events;
+  }
 
 -- ---- the page is left
 -- what became of the grains, and of the page's right

@@ -6,7 +6,7 @@ use Rattle.pas_steps.specs.{Desks.Standing, Desks.triples, Evidence.IsAntitone, 
 use Rattle.pas_steps.specs.declared.step.Made.{Made}
 use Rattle.pas_search.specs.{Alone.FindsWhatThereIs, Searches.MaySearch, Searches.IsRefused, Allocates.IsGiven, Allocates.AllocatesRun, Choices.Choice}
 use Rattle.pas_search.proofs.Alone.{IsFoundOrRefused, found_before}
-use Rattle.pas_search.specs.declared.choosing.Run.{Run}
+use Rattle.pas_search.specs.declared.placing.Run.{Run}
 
 found_or_refused : {Found : Type 0} (choice : Choice Found) (run : Found → Run) (f : Profile) (d : Directory) (searched after : List Made)
     (answer : Result Block NoRoom)

@@ -5,12 +5,12 @@ use Rattle.pas_profile.specs.Profiles.{IsDirectoryOf, IsValid}
 use Rattle.pas_profile.specs.declared.{directory.Directory.Directory, directory.Kind.TheVariants.Bitfit, event.Event.Event, event.NoRoom.NoRoom}
 use Rattle.pas_profile.specs.declared.{name.Block.Block, profile.Profile.Profile}
 use Rattle.pas_steps.specs.{Agreement.Agreed, Clear.HasNothing, Desks.Standing, Desks.CanCall, Events.events_by, Views.View, Views.has_right}
-use Rattle.pas_steps.specs.Calls.{Calls, Kept, Lost, now, Does}
+use Rattle.pas_steps.specs.Calls.{Kept, Lost, now, Does}
 use Rattle.pas_steps.specs.declared.step.Made.{Made}
 use Rattle.pas_steps.proofs.{Adding.adds_under, Adding.agreed_later, Nothing.can_go_on, Nothing.nothing_still, SpareRoom.Spares, SpareRoom.spare_falls}
 use Rattle.pas_search.specs.{Kinds.deeds_made, Searches.MaySearch, Searches.SearchRoom, Serving.right_of, Allocates.AllocatesRun, Choices.Choice}
 use Rattle.pas_search.proofs.ForBackEnds.{events_quiet}
-use Rattle.pas_search.specs.declared.choosing.Run.{Run}
+use Rattle.pas_search.specs.declared.placing.Run.{Run}
 
 -- ---- before a request
 may_search : (d : Directory) (v : View) → HasNothing v → MaySearch d v

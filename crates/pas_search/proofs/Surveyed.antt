@@ -1,6 +1,6 @@
 -- What a survey read of the pages so far, and which one it found best.
-use Rattle.std.proofs.Common.{◌≡◌, ℕ, zero, suc, ◌+◌, ◌-◌, ◌*◌, ◌/◌, ◌<◌, ◌≤◌, Bool, true, false, List, [], ◌∷◌, ◌++◌, length, Option, None, Some, refl, ap}
-use Rattle.std.proofs.Common.{sym, ◌∙◌, subst, arith, inl, inr, append_assoc, append-nil, length-append, nat_le, if◌then◌else◌, true≢false, le-leb, leb-true}
+use Rattle.std.proofs.Common.{◌≡◌, ℕ, zero, suc, ◌+◌, ◌-◌, ◌*◌, ◌/◌, ◌<◌, ◌≤◌, false, List, [], ◌∷◌, ◌++◌, length, Option, None, Some, refl, ap, sym, ◌∙◌}
+use Rattle.std.proofs.Common.{subst, arith, inl, inr, append_assoc, append-nil, length-append}
 use Rattle.std.proofs.lemmas.Bool.{cases_lt, cases_eq}
 use Rattle.pas_bits.specs.{Bits.has_bit, Masks.is_set}
 use Rattle.pas_bits.specs.declared.mask.Mask4.{Mask4}
@@ -17,12 +17,9 @@ use Rattle.pas_steps.specs.declared.step.Made.{Made}
 use Rattle.pas_steps.proofs.Adding.{adds_none, adds_call, agreed_first, agreed_later}
 use Rattle.pas_steps.proofs.Kept.{knows_still, looks_read, right_reads, scans_look}
 use Rattle.pas_steps.proofs.{Evidence.zero_before, Frames.right_own, Past.once_later, Past.once_earlier}
-use Rattle.pas_search.specs.Ranks.{Measure, SeenHere, IsRanked, IsSeen, AllSeen, HasNone, IsNoBetter, IsBestBelow, IsSurvey, better_of, survey_steps, Surveys}
+use Rattle.pas_search.specs.Ranks.{Measure, SeenHere, IsRanked, IsSeen, AllSeen, HasNone, IsNoBetter, IsBestBelow, IsSurvey, IsBetterOf, survey_steps, Surveys}
 use Rattle.pas_search.specs.declared.surveying.Best.{Best}
 use Rattle.pas_search.proofs.PagesThatServe.{offered_further, row_within}
-
-not_le : (a b : ℕ) → nat_le a b ≡ false → b < a
-not_le a b e = elim (cases_lt b a) [ inl lt ↦ lt | inr le ↦ absurd (true≢false (sym (le-leb a b le) ∙ e)) ]
 
 -- ---- looks
 pub looks_both : (ys xs : List Made) → AreLooks ys → AreLooks xs → AreLooks (ys ++ xs)
@@ -135,21 +132,21 @@ module _ (ranks : Measure) (d : Directory) where
         lacks = old.lacks;
       }
 
-      choose : (best : Best) (rank : ℕ) (t : Bool) → nat_le best.rank rank ≡ t → IsRanked ranks d page (Some rank) xs → IsBestBelow f ranks d page best xs
-          → IsSurvey f ranks d (page + 1) xs (if t then Some best else Some (record { page = page; rank = rank }))
-      choose best rank true e is old =
-          let low : best.rank ≤ rank = leb-true best.rank rank e in
-          old_best best (Some rank) is (λ n same. let here : rank ≡ n = cc in omega (arith, low, here)) old
-      choose best rank false e is old =
-          let less : rank < best.rank = not_le best.rank rank e in
-          new_best rank (IsNoBetter best.page best.rank) (λ p other n holds same. let no = holds n same in omega (arith, less, no.0)) is old.others
-
-      pub best_more : (best : Option Best) (rank : Option ℕ) → IsRanked ranks d page rank xs → IsSurvey f ranks d page xs best
-          → IsSurvey f ranks d (page + 1) xs (better_of best page rank)
-      best_more None None is all = all_more HasNone HasNone page None xs (λ p other lt holds. holds) is refl all
-      best_more (Some best) None is old = old_best best None is (λ n e. absurd cc) old
-      best_more None (Some rank) is all = new_best rank HasNone (λ p other n holds e. absurd cc) is all
-      best_more (Some best) (Some rank) is old = choose best rank (nat_le best.rank rank) refl is old
+      pub best_more : (best : Option Best) (rank : Option ℕ) (better : Option Best) → IsBetterOf best page rank better → IsRanked ranks d page rank xs
+          → IsSurvey f ranks d page xs best → IsSurvey f ranks d (page + 1) xs better
+      best_more None None better so is all =
+          subst (IsSurvey f ranks d (page + 1) xs) (sym (so.old (λ n e. absurd cc))) (all_more HasNone HasNone page None xs (λ p other lt holds. holds) is refl all)
+      best_more (Some best) None better so is old =
+          subst (IsSurvey f ranks d (page + 1) xs) (sym (so.old (λ n e. absurd cc))) (old_best best None is (λ n e. absurd cc) old)
+      best_more None (Some rank) better so is all =
+          subst (IsSurvey f ranks d (page + 1) xs) (sym (so.new rank refl tt)) (new_best rank HasNone (λ p other n holds e. absurd cc) is all)
+      best_more (Some best) (Some rank) better so is old = elim (cases_lt rank best.rank) [
+        | inl less ↦ subst (IsSurvey f ranks d (page + 1) xs) (sym (so.new rank refl less))
+            (new_best rank (IsNoBetter best.page best.rank) (λ p other n holds same. let no = holds n same in omega (arith, less, no.0)) is old.others)
+        | inr low ↦
+            let no_less : (n : ℕ) → Some rank ≡ Some n → best.rank ≤ n = λ n same. let here : rank ≡ n = cc in omega (arith, low, here) in
+            subst (IsSurvey f ranks d (page + 1) xs) (sym (so.old (λ n same less. let no = no_less n same in omega (arith, no, less)))) (old_best best (Some rank) is no_less old)
+      ]
 
 -- ---- the survey so far
 pub record SurveysTo (ranks : Measure) (d : Directory) (next : ℕ) (best : Option Best) (desk desk' : Standing) : Type 0 where
@@ -240,7 +237,7 @@ module _ {ranks : Measure} {d : Directory} {next : ℕ} {best : Option Best} {σ
           (best_later ranks d f next page best find.steps earlier first.from_next
           (λ p low high. zero_before d p find.steps earlier (looks_lack p earlier surveys.looks) (first.lower p low high)) surveys.outcome)
 
-      pub page_surveyed : {best' : Option Best} → best' ≡ better_of best page rank → SurveysTo ranks d next' best' σ0 σ2
+      pub page_surveyed : {best' : Option Best} → IsBetterOf best page rank best' → SurveysTo ranks d next' best' σ0 σ2
       page_surveyed {best'} is =
           let counted : length find.steps ≡ words_to f next page = subst
           (λ (s : Seat). length find.steps ≡ words_to s.profile next page) surveys.adds.seat_is find.count in
@@ -253,12 +250,12 @@ module _ {ranks : Measure} {d : Directory} {next : ℕ} {best : Option Best} {σ
             within = omega (arith, next_is, first.of_region.1);
             few = subst (λ n. length (ys ++ looked) ≤ survey_steps (row_words f.pages) n) past
                 (omega (arith, surveys.few, counted, further, short, length-append ys looked, length-append find.steps earlier));
-            outcome = subst (λ n. IsSurvey f ranks d n (ys ++ looked) best') (sym next_is) (subst (IsSurvey f ranks d (page + 1) (ys ++ looked)) (sym is)
+            outcome = subst (λ n. IsSurvey f ranks d n (ys ++ looked) best') (sym next_is)
                 (best_more ranks d f page (ys ++ looked) first.of_region
                 (λ v agreed. subst (KnowsDeed page d) (sym (append_assoc ys looked v))
                 (knows_still f d page ys (looked ++ v) (agreed_first f v ys looked agreed)
                 (subst (KnowsDeed page d) (sym (append_assoc find.steps earlier v)) (first.deed (earlier ++ v)))))
                 (λ v agreed. sym (right_reads page earlier v (looks_read earlier surveys.looks))
                 ∙ first.lacks (earlier ++ v) (agreed_first f v find.steps earlier (agreed_later f v ys looked agreed)))
-                best rank (page_ranked ranks d page free rank looked ranked offered) at_page));
+                best rank best' is (page_ranked ranks d page free rank looked ranked offered) at_page);
           }

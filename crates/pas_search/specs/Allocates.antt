@@ -1,5 +1,5 @@
 -- A run of grains that was chosen is given as a block.
-use Rattle.std.specs.Prelude.{ℕ, ◌+◌, ◌*◌, ◌/◌, ◌^◌, ◌<◌, ◌≤◌, ◌≡◌, Bool, true, false, List, [], ◌∷◌, ◌++◌, length, Result, MatchResult}
+use Rattle.std.specs.Prelude.{ℕ, ◌+◌, ◌*◌, ◌/◌, ◌^◌, ◌<◌, ◌≤◌, ◌≡◌, ◌⊎◌, Bool, true, false, List, [], ◌∷◌, ◌++◌, length, Result, MatchResult}
 use Rattle.pas_bits.specs.Runs.{in_run}
 use Rattle.pas_profile.specs.Blocks.{address_of, grain_of, length_of}
 use Rattle.pas_profile.specs.declared.{directory.Directory.Directory, event.Event.Event, event.NoRoom.NoRoom, name.Block.Block, profile.Profile.Profile}
@@ -8,14 +8,8 @@ use Rattle.pas_steps.specs.{Calls.Leads, Calls.Lost, Calls.Does, Desks.Standing,
 use Rattle.pas_steps.specs.{Views.holds, Views.KnowsDeed}
 use Rattle.pas_steps.specs.declared.step.Made.{Made}
 use Rattle.pas_search.specs.{Kinds.AreSearch, Serving.right_of, Telling.IsTold, Choices.Choice, Choices.choosing}
-use Rattle.pas_search.specs.Searches.{search_steps, MaySearch, IsServed, IsRefused}
-use Rattle.pas_search.specs.declared.{serving.Served.Served, choosing.Run.Run}
-
--- the run is on a page, and has just these grains of it
-pub record IsRunOf (kept : ℕ → Bool) (run : Run) : Type 0 where
-  pub some : 1 ≤ run.grains
-  pub within : run.first + run.grains ≤ 256
-  pub are : (b : ℕ) → b < 256 → kept b ≡ in_run run.first run.grains b
+use Rattle.pas_search.specs.Searches.{search_steps, MaySearch, FromOffered, ByDeed, Finds, IsRefused}
+use Rattle.pas_search.specs.declared.{serving.Served.Served, placing.Run.Run}
 
 abbrev pub served_by : {Found : Type 0} → ℕ → Found → Served Found
 served_by page found = record { page = page; found = found }
@@ -27,12 +21,13 @@ pub record GaveBlock (page : ℕ) (d : Directory) (block : Block) (v w : View) :
   pub deed : KnowsDeed page d w
   pub turn : block.name.turn < 2 ^ 37
 
--- The search found the page and what is chosen of it. Then the block of the run was given, so many bytes at the run's address, and after that the
+-- The search found the page so, and what is chosen of it. Then the block of the run was given, so many bytes at the run's address, and after that the
 -- page was left: at most 13 steps, and no event but the give.
-pub record IsGiven {Found : Type 0} (choice : Choice Found) (run : Found → Run) (f : Profile) (d : Directory) (searched after : List Made) (block : Block) : Type 0 where
+pub record GivesFound {Found : Type 0} (choice : Choice Found) (run : Found → Run) (f : Profile) (d : Directory) (So : ℕ → List Made → Type 0)
+    (searched after : List Made) (block : Block) : Type 0 where
   pub page : ℕ
   pub found : Found
-  pub served : IsServed (choosing choice) f d searched (served_by page found)
+  pub served : Finds (choosing choice) f d (So page) searched (served_by page found)
   pub word : ℕ
   pub answer : ℕ
   pub left : List Made
@@ -44,6 +39,10 @@ pub record IsGiven {Found : Type 0} (choice : Choice Found) (run : Found → Run
   pub room_is : block.room ≡ (run found).grains * 16
   pub gave : Leads f (MaySearch d) (GaveBlock page d block) (after ++ searched)
   pub events : (k : ℕ) (v : View) → events_by k v (after ++ searched) ≡ Event.Give k block ∷ events_by k v searched
+
+-- the page is the lowest offered one that fits, or the lowest without a deed
+abbrev pub IsGiven : {Found : Type 0} → Choice Found → (Found → Run) → Profile → Directory → List Made → List Made → Block → Type 0
+IsGiven choice run f d = GivesFound choice run f d (λ page call. FromOffered choice.no_fit d page call ⊎ ByDeed choice.no_fit f d page call)
 
 -- The pages of the directory were searched. A block was given, or the search was refused and no step followed. The answer is true of the states at
 -- entry and at exit where the desk tells them. The steps of the search are at most those of one whose turn of a page takes 15.

@@ -1,6 +1,5 @@
 -- A search that takes the page which a rule ranks best.
-use Rattle.std.specs.Prelude.{ℕ, ◌+◌, ◌%◌, ◌*◌, ◌<◌, ◌≤◌, ◌≡◌, ◌⊎◌, nat_le, Bool, true, false, if◌then◌else◌, List, ◌∷◌, ◌++◌, length, Option, None, Some}
-use Rattle.std.specs.Prelude.{MatchOption, Result, Ok}
+use Rattle.std.specs.Prelude.{ℕ, ◌+◌, ◌%◌, ◌*◌, ◌<◌, ◌≤◌, ◌≡◌, ◌⊎◌, Bool, true, false, List, ◌∷◌, ◌++◌, length, Option, None, Some, MatchOption, Result, Ok}
 use Rattle.pas_bits.specs.Bits.{has_bit}
 use Rattle.pas_profile.specs.{Directories.number_of, Profiles.IsPage}
 use Rattle.pas_profile.specs.declared.{directory.Directory.Directory, event.NoRoom.NoRoom, profile.Profile.Profile, word.Word.Word}
@@ -78,11 +77,14 @@ pub record IsBestBelow (f : Profile) (ranks : Measure) (d : Directory) (end : �
 abbrev pub IsSurvey : Profile → Measure → Directory → ℕ → List Made → Option Best → Type 0
 IsSurvey f ranks d end steps best = MatchOption best (AllSeen ranks d end HasNone steps) (λ found. IsBestBelow f ranks d end found steps)
 
--- the better one of the best page so far and a higher page with this rank, or none
-abbrev pub better_of : Option Best → ℕ → Option ℕ → Option Best
-better_of best page None = best
-better_of None page (Some rank) = Some (record { page = page; rank = rank })
-better_of (Some best) page (Some rank) = if nat_le best.rank rank then Some best else Some (record { page = page; rank = rank })
+-- the rank is lower than that of the best page so far, if there is one
+abbrev pub IsLower : ℕ → Option Best → Type 0
+IsLower n best = MatchOption best (Unit {0}) (λ old. n < old.rank)
+
+-- the better one of the best page so far and a higher page: that of the lower rank, and the first one among equals
+pub record IsBetterOf (best : Option Best) (page : ℕ) (rank : Option ℕ) (better : Option Best) : Type 0 where
+  pub new : (n : ℕ) → rank ≡ Some n → IsLower n best → better ≡ Some (record { page = page; rank = n })
+  pub old : ((n : ℕ) → rank ≡ Some n → IsLower n best → ⊥) → better ≡ best
 
 -- ---- the survey
 -- of the pages up to this one: a look at each eligible word, and for each page those at the words of its row, which may be looked at again, and four looks

@@ -1,8 +1,8 @@
 //! The survey of a directory: which of its offered pages is ranked best.
-ghost use Rattle.std.specs.Prelude.{◌≡◌};
+ghost use Rattle.std.specs.Prelude.{◌≡◌, MatchBool};
 ghost use Rattle.pas_profile.specs.Profiles.{IsDirectoryOf};
 ghost use Rattle.pas_steps.specs.Desks.{AnyView, CanCall};
-ghost use Rattle.pas_search.specs.Ranks.{better_of, Surveys};
+ghost use Rattle.pas_search.specs.Ranks.{IsLower, IsBetterOf, Surveys};
 
 use crate::ranking::Ranking;
 use pas_profile::Directory;
@@ -17,14 +17,24 @@ pub struct Best {
     pub rank: u32,
 }
 
+/// Whether the rank is lower than that of the best page so far, if there is one.
+fn is_lower(rank: u32, best: Option<Best>) -> bool
+    ensures { MatchBool result (IsLower rank best) (IsLower rank best → ⊥) }
+{
+    best.is_none_or(|best| rank < best.rank)
+}
+
 /// The better one of the best page so far and a page that is higher. Of equals it is the lower one.
 fn better(best: Option<Best>, page: u32, rank: Option<u32>) -> Option<Best>
-    ensures { result ≡ better_of best page rank }
+    ensures { IsBetterOf best page rank result }
 {
-    match (best, rank) {
-        (_, None) => best,
-        (Some(old), Some(rank)) if old.rank <= rank => best,
-        (_, Some(rank)) => Some(Best { page, rank }),
+    let Some(rank) = rank else {
+        return best;
+    };
+    if is_lower(rank, best) {
+        Some(Best { page, rank })
+    } else {
+        best
     }
 }
 

@@ -1,14 +1,14 @@
 -- Two actors that sit at one plain region after each other: a desk, and the pass of the other one at rest.
-use Rattle.std.proofs.Common.{◌≡◌, ◌≢◌, ℕ, [], ◌++◌, refl, ap, sym, ◌∙◌, subst}
+use Rattle.std.proofs.Common.{◌≡◌, ◌≢◌, ℕ, ◌<◌, [], ◌++◌, refl, ap, sym, ◌∙◌, subst, inr, arith}
 use Rattle.pas_profile.specs.declared.{directory.Directory.Directory, profile.Profile.Profile}
-use Rattle.pas_steps.specs.Desks.{Seat, Standing, triples, AnyView}
+use Rattle.pas_steps.specs.Desks.{Seat, Standing, CanCall, triples, AnyView}
 use Rattle.pas_steps.specs.{Lists.Whole, Lists.part, Views.View}
-use Rattle.pas_steps.proofs.Parts.{part_of_others}
-use Rattle.pas_plain.specs.Plain.{profile_of, actor_of, room_of_pass, RegionStands, PassStands}
-use Rattle.pas_plain.specs.Seats.{region_of, pass_of, standing_of, DeskStands, Opens}
+use Rattle.pas_steps.proofs.{Noting.rest_length, Parts.part_of_others}
+use Rattle.pas_plain.specs.Plain.{profile_of, actor_of, room_of_pass, spare_in, RegionStands, PassStands}
+use Rattle.pas_plain.specs.Seats.{region_of, pass_of, standing_of, shows_rest, DeskStands, Opens}
 use Rattle.pas_plain.specs.declared.{desk.PlainDesk.PlainDesk, pass.PlainPass.PlainPass, region.PlainRegion.PlainRegion}
 use Rattle.pas_plain.proofs.Desks.{pass_rests}
-use Rattle.pas_search.specs.Searches.{MaySearch}
+use Rattle.pas_search.specs.Searches.{MaySearch, SearchRoom}
 use Rattle.pas_trials.specs.{Trials.Beside, Trials.Brings, Trials.Wants, Filling.Steps}
 use Rattle.pas_trials.specs.declared.wanting.Findings.{Findings}
 use Rattle.pas_session_tests.specs.Seated.{Waits}
@@ -81,6 +81,26 @@ seated_then {desk} {pass} {room} w next region seat = record {
   pass = subst (λ (p : PlainPass). PassStands (profile_of (region_of next)) p w.whole) (sym seat) (subst (λ (r : PlainRegion). PassStands (profile_of r) pass w.whole) (sym region) w.rests);
   part_is = ap (λ (p : PlainPass). part (actor_of p) w.whole) seat ∙ w.none;
 }
+
+-- .. so all of its room is left
+pub whole_room : {desk : PlainDesk} {pass : PlainPass} {room : ℕ} (w : Waits desk pass room) (next : PlainDesk) → region_of next ≡ region_of desk
+    → pass_of next ≡ pass → spare_in (pass_of next) ≡ room
+whole_room w next region seat =
+    let none = rest_length (shows_rest next [] w.whole (seated_then w next region seat)) in
+    let room = ap (λ (p : PlainPass). room_of_pass p) seat ∙ w.room_of_other in
+    omega (arith, none, room)
+
+-- .. and it may search where that is more than is asked
+pub seated_may_search : {desk : PlainDesk} {pass : PlainPass} {room : ℕ} (w : Waits desk pass room) (next : PlainDesk) → region_of next ≡ region_of desk
+    → pass_of next ≡ pass → (d : Directory) (n : ℕ) → n < room → CanCall (standing_of next) (SearchRoom (profile_of (region_of next)) d n (spare_in (pass_of next)))
+seated_may_search w next region seat d n fits =
+    let whole = whole_room w next region seat in
+    record {
+      view = [];
+      whole = w.whole;
+      stood = seated_then w next region seat;
+      met = record { may = may_search d; room = (omega (arith, whole, fits), inr (omega (arith, whole, fits))) };
+    }
 
 -- the one that rose is at rest beside it
 pub rests_beside : {desk : PlainDesk} {pass : PlainPass} {room : ℕ} (w : Waits desk pass room) (next : PlainDesk) (risen : PlainPass)

@@ -12,11 +12,11 @@ use Rattle.pas_plain.specs.declared.{desk.PlainDesk.PlainDesk, pass.PlainPass.Pl
 use Rattle.pas_plain.proofs.Desks.{pass_rests}
 use Rattle.pas_trials.specs.{Borrowing.Borrows, Filling.Steps}
 use Rattle.pas_session_tests.specs.Seated.{RestsBeside}
-use Rattle.pas_session_tests.proofs.Stormed.{fresh}
+use Rattle.pas_trials.proofs.Opened.{storm_stands}
 
 -- ---- before the storm
 pub rests_first : {d : PlainDesk} {p : PlainPass} {room : ℕ} {c : Cached} → Opens d p room → c.locals ≡ [] → c.log ≡ [] → RestsBeside d p c
-rests_first {d} {p} {room} {c} opens locals log = record { view = []; whole = []; stands = fresh refl refl opens; rest = rests_empty (profile_of (region_of d)) c [] locals log nothing_yet }
+rests_first {d} {p} {room} {c} opens locals log = record { view = []; whole = []; stands = storm_stands opens refl refl; rest = rests_empty (profile_of (region_of d)) c [] locals log nothing_yet }
 
 -- An actor that rests beside another one may go on errands.
 pub may_go_beside : {d : PlainDesk} {p : PlainPass} {c : Cached} → RestsBeside d p c → CanCall (standing_of d) (AtRest (profile_of (region_of d)) c)

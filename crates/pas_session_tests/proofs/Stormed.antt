@@ -1,18 +1,18 @@
 -- A stop of a cache among the steps of another actor.
-use Rattle.std.proofs.Common.{◌≡◌, ℕ, ◌+◌, ◌-◌, ◌<◌, ◌≤◌, [], ◌++◌, length, refl, ap, sym, ◌∙◌, subst, inr, arith}
+use Rattle.std.proofs.Common.{◌≡◌, ℕ, ◌+◌, ◌<◌, ◌≤◌, [], ◌++◌, refl, ap, sym, ◌∙◌, subst, inr, arith}
 use Rattle.pas_profile.specs.Profiles.{IsDirectoryOf}
 use Rattle.pas_profile.specs.declared.profile.Profile.{Profile}
 use Rattle.pas_steps.specs.{Clear.HasNothing, Lists.Whole, Unknown.unknown_pages, Views.View}
 use Rattle.pas_steps.specs.Desks.{Seat, Standing, CanCall, triples}
-use Rattle.pas_steps.proofs.{Nothing.nothing_yet, Parts.part_of_others}
+use Rattle.pas_steps.proofs.{Nothing.nothing_yet, Parts.part_of_others, Noting.rest_length}
 use Rattle.pas_cache.specs.Caches.{Cached, AtRest}
-use Rattle.pas_plain.specs.Plain.{profile_of, actor_of, events_shown, room_of_pass, PassStands}
+use Rattle.pas_plain.specs.Plain.{profile_of, actor_of, spare_in, PassStands}
 use Rattle.pas_plain.specs.Seats.{region_of, pass_of, DeskStands, Opens, standing_of}
 use Rattle.pas_plain.specs.Storms.{StormStands, seat_for}
 use Rattle.pas_plain.specs.declared.{desk.PlainDesk.PlainDesk, pass.PlainPass.PlainPass, region.PlainRegion.PlainRegion}
 use Rattle.pas_plain.proofs.Desks.{pass_rests}
 use Rattle.pas_search.specs.Searches.{SearchRoom}
-use Rattle.pas_trials.proofs.Going.{few_below}
+use Rattle.pas_trials.proofs.{Going.few_below, Opened.storm_stands}
 use Rattle.pas_segregated.specs.Stops.{class_directory}
 use Rattle.pas_session_tests.proofs.Besides.{may_search}
 use Rattle.pas_trials.specs.Borrowing.{Borrows, RestsWithRoom}
@@ -82,12 +82,6 @@ may_stop {c = c} region pass b seat stands = record {
 }
 
 -- ---- nobody made a step yet
-pub fresh : {d : PlainDesk} {p : PlainPass} {room : ℕ} {r : PlainRegion} {own : PlainPass} → r ≡ region_of d → own ≡ pass_of d → Opens d p room
-    → StormStands r own p [] []
-fresh {d} {p} {r = r} {own} region pass opens =
-    let begun : StormStands (region_of d) (pass_of d) p [] [] = record { region_stands = opens.stood.region; own_part = opens.stood.pass; foreign_part = opens.rests; other = λ e. opens.other (sym e); part_is = refl; nothing = nothing_yet } in
-    subst (λ (x : PlainRegion). StormStands x own p [] []) (sym region) (subst (λ (x : PlainPass). StormStands (region_of d) x p [] []) (sym pass) begun)
-
 -- a desk of two threads has the directories of heap 0
 pub of_heap : (f : Profile) (class : ℕ) → class < 16 → f ≡ two_threads 1 → IsDirectoryOf f (class_directory 0 class)
 of_heap f class small of = let heaps : f.heaps ≡ 1 = ap (λ (g : Profile). g.heaps) of in let classes : f.classes ≡ 16 = ap (λ (g : Profile). g.classes) of in record { heap = omega (arith, heaps); kind = omega (arith, small); class = omega (arith, classes, small) }
@@ -97,12 +91,12 @@ pub may_refill : {σ : Standing} {d : PlainDesk} {p : PlainPass} {room : ℕ} {r
     → own ≡ pass_of d → Opens d p room → 2 ≤ spare
     → ((v : View) (w l : Whole) → StormStands r own p v w → σ.stands v l) → CanCall σ (SearchRoom σ.seat.profile (class_directory 0 class) 1 spare)
 may_refill class spare region pass opens two stands =
-    record { view = []; whole = []; stood = stands [] [] [] (fresh region pass opens); met = record { may = may_search (class_directory 0 class); room = (omega (arith, two), inr (omega (arith, two))) } }
+    record { view = []; whole = []; stood = stands [] [] [] (storm_stands opens region pass); met = record { may = may_search (class_directory 0 class); room = (omega (arith, two), inr (omega (arith, two))) } }
 
 -- there is room for all events
 pub room_left : {d : PlainDesk} {p : PlainPass} {room : ℕ} {own : PlainPass} → own ≡ pass_of d → Opens d p room
-    → room_of_pass own - length (events_shown own) ≡ room
+    → spare_in own ≡ room
 room_left {d} {room = room} pass opens =
-    let none : length (events_shown (pass_of d)) ≡ 0 = ap length opens.stood.pass.shown in
-    let whole : room_of_pass (pass_of d) - length (events_shown (pass_of d)) ≡ room = omega (arith, none, opens.room_of) in
-    ap (λ (x : PlainPass). room_of_pass x - length (events_shown x)) pass ∙ whole
+    let none = rest_length opens.stood.pass.shown in
+    let whole : spare_in (pass_of d) ≡ room = omega (arith, none, opens.room_of) in
+    ap spare_in pass ∙ whole

@@ -1,7 +1,7 @@
 //! A block over two pages, whose name is logged twice.
-ghost use Rattle.std.specs.Prelude.{◌≡◌, ◌-◌, ◌≤◌, ◌∷◌, [], IfOk, length};
+ghost use Rattle.std.specs.Prelude.{◌≡◌, ◌≤◌, ◌∷◌, [], IfOk};
 ghost use Rattle.pas_steps.specs.{Desks.CanCall, Lists.Whole, States.profile_of as the_profile_of, Views.View, Clear.IsClear};
-ghost use Rattle.pas_plain.specs.Plain.{profile_of, events_shown, room_of_pass};
+ghost use Rattle.pas_plain.specs.Plain.{profile_of, spare_in, room_of_pass};
 ghost use Rattle.pas_plain.specs.Seats.{DeskStands, region_of, pass_of, standing_of};
 ghost use Rattle.pas_free_log.specs.Logs.{entries_in, entry_of};
 
@@ -52,7 +52,7 @@ fn give(desk: &mut PlainDesk)
     requires room { room_of_pass (pass_of desk.old) ≡ 16 }
     ensures clear { CanCall (standing_of desk.new) IsClear }
     ensures profile { profile_of (region_of desk.new) ≡ PROFILE }
-    ensures room { 3 ≤ room_of_pass (pass_of desk.new) - length (events_shown (pass_of desk.new)) }
+    ensures room { 3 ≤ spare_in (pass_of desk.new) }
 {
     desk.deed(1, DIRECTORY);
     desk.deed(2, DIRECTORY);

@@ -1,8 +1,9 @@
 //! A storm: an errand of actor 1 among the visits of actor 2, and what is found afterwards.
-ghost use Rattle.std.specs.Prelude.{◌≡◌, ◌≤◌, [], true, length, IfOk};
+ghost use Rattle.std.specs.Prelude.{◌≡◌, ◌≤◌, [], true, IfOk};
 ghost use Rattle.pas_steps.specs.{Desks.CanCall, Lists.Whole, States.profile_of as the_profile_of, Views.View};
 ghost use Rattle.pas_cache.specs.Caches.{AtRest};
-ghost use Rattle.pas_plain.specs.{Plain.profile_of, Plain.room_of_pass, Plain.events_shown, Seats.region_of, Seats.pass_of, Storms.StormStands};
+ghost use Rattle.pas_plain.specs.Plain.{profile_of, room_of_pass, forgotten_by, spare_in};
+ghost use Rattle.pas_plain.specs.{Seats.region_of, Seats.pass_of, Storms.StormStands};
 ghost use Rattle.pas_trials.specs.{Filling.Steps, Storms.cache_of};
 ghost use Rattle.pas_session_tests.specs.Seated.{RestsBeside, stormy};
 
@@ -78,10 +79,11 @@ fn hands_for(alloc: Global, pages: u32, thread: u8) -> Result<Hands, Fail>
 fn prepare(desk: &mut PlainDesk, foreign: &PlainPass, hands: &mut Hands, errands: &[Errand]) -> bool
     requires rest { RestsBeside desk.old foreign.now (cache_of hands.old) }
     requires room { room_of_pass (pass_of desk.old) ≡ 1000 }
+    requires all { forgotten_by (pass_of desk.old) ≡ 0 }
     ensures rest { RestsBeside desk.new foreign.now (cache_of hands.new) }
     ensures room { room_of_pass (pass_of desk.new) ≡ 1000 }
     ensures profile { profile_of (region_of desk.new) ≡ profile_of (region_of desk.old) }
-    ensures few { result ≡ true → length (events_shown (pass_of desk.new)) ≤ 900 }
+    ensures spare { result ≡ true → 100 ≤ spare_in (pass_of desk.new) }
 {
     for errand in errands {
         if desk.shown().len() > 900 {
@@ -113,7 +115,7 @@ fn ride(
 ) -> Calm
     requires rest { RestsBeside desk foreign (cache_of hands.old) }
     requires room { room_of_pass (pass_of desk) ≡ 1000 }
-    requires few { length (events_shown (pass_of desk)) ≤ 900 }
+    requires spare { 100 ≤ spare_in (pass_of desk) }
     ensures storm { (v : View) × (l : Whole) × StormStands result.region result.own result.foreign v l }
     ensures profile { profile_of result.region ≡ profile_of (region_of desk) }
 {

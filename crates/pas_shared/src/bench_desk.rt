@@ -125,8 +125,8 @@ impl<'a> BenchDesk<'a> {
 }
 
 impl<'a> Desk for BenchDesk<'a> {
-    ghost use Rattle.std.specs.Prelude.{◌+◌, ◌-◌, ◌^◌, false, length, min, reverse};
-    ghost use Rattle.std.proofs.Common.{ap, sym, ◌∙◌};
+    ghost use Rattle.std.specs.Prelude.{◌+◌, ◌-◌, ◌^◌, false, [], length, min, reverse};
+    ghost use Rattle.std.proofs.Common.{refl, ap, sym, ◌∙◌};
     ghost use Rattle.std.proofs.{lemmas.Bool.false≢true, lemmas.List.length-reverse, Math.Nat.sub-add_cancel};
     ghost use Rattle.pas_steps.specs.{Events.events_of, Noted.events_noted, Noted.room_of_notes, Noted.count_of_notes};
     ghost use Rattle.pas_shared.specs.Benches.{home_of, standing_on};
@@ -134,6 +134,8 @@ impl<'a> Desk for BenchDesk<'a> {
     type Home = BenchHome;
 
     ghost home = { λ desk. home_of desk.region.now (row_on desk.place.bench) };
+
+    ghost forgotten = { λ home. 0 };
 
     ghost tells = { false };
 
@@ -174,7 +176,7 @@ impl<'a> Desk for BenchDesk<'a> {
 
     ghost limited = { λ desk. desk.place.member.notes.room.limited };
 
-    ghost shows = { λ desk v l stood. desk.place.sits.noted.shown ∙ ap (λ v. reverse (events_of desk.place.member.actor v)) stood.0 };
+    ghost shows = { λ desk v l stood. record { gone = []; many = refl; all = desk.place.sits.noted.shown ∙ ap (λ v. reverse (events_of desk.place.member.actor v)) stood.0 } };
 
     ghost spares = { λ desk v l stood. ap (λ n. room_of_notes desk.place.member.notes - length (events_noted desk.place.member.notes) + n) (sym (ap length (desk.place.sits.noted.shown ∙ ap (λ v. reverse (events_of desk.place.member.actor v)) stood.0) ∙ length-reverse (events_of desk.place.member.actor v))) ∙ sub-add_cancel {n = room_of_notes desk.place.member.notes} {m = length (events_noted desk.place.member.notes)} desk.place.member.notes.room.within };
 

@@ -43,8 +43,8 @@ impl<'a> SharedDesk<'a> {
 }
 
 impl<'a> Desk for SharedDesk<'a> {
-    ghost use Rattle.std.specs.Prelude.{◌+◌, ◌-◌, ◌^◌, false, length, min, reverse};
-    ghost use Rattle.std.proofs.Common.{ap, sym, ◌∙◌};
+    ghost use Rattle.std.specs.Prelude.{◌+◌, ◌-◌, ◌^◌, false, [], length, min, reverse};
+    ghost use Rattle.std.proofs.Common.{refl, ap, sym, ◌∙◌};
     ghost use Rattle.std.proofs.{lemmas.Bool.false≢true, lemmas.List.length-reverse, Math.Nat.sub-add_cancel};
     ghost use Rattle.pas_steps.specs.{Events.events_of, Noted.events_noted, Noted.room_of_notes, Noted.count_of_notes};
     ghost use Rattle.pas_shared.specs.Passes.{standing_of, seat_of};
@@ -52,6 +52,8 @@ impl<'a> Desk for SharedDesk<'a> {
     type Home = SharedRegion;
 
     ghost home = { λ desk. desk.region.now };
+
+    ghost forgotten = { λ region. 0 };
 
     ghost tells = { false };
 
@@ -92,7 +94,7 @@ impl<'a> Desk for SharedDesk<'a> {
 
     ghost limited = { λ desk. desk.pass.notes.room.limited };
 
-    ghost shows = { λ desk v l stood. desk.pass.noted.shown ∙ ap (λ v. reverse (events_of (seat_of desk.pass).actor v)) stood };
+    ghost shows = { λ desk v l stood. record { gone = []; many = refl; all = desk.pass.noted.shown ∙ ap (λ v. reverse (events_of (seat_of desk.pass).actor v)) stood } };
 
     ghost spares = { λ desk v l stood. ap (λ n. room_of_notes desk.pass.notes - length (events_noted desk.pass.notes) + n) (sym (ap length (desk.pass.noted.shown ∙ ap (λ v. reverse (events_of (seat_of desk.pass).actor v)) stood) ∙ length-reverse (events_of (seat_of desk.pass).actor v))) ∙ sub-add_cancel {n = room_of_notes desk.pass.notes} {m = length (events_noted desk.pass.notes)} desk.pass.notes.room.within };
 

@@ -18,3 +18,4 @@ pub mod ReadDeeds
 pub mod Evidence
 mod Running
 pub mod Noting
+mod OnPages

@@ -9,6 +9,8 @@ pub mod Past
 pub mod InTurn
 pub mod Frames
 pub mod Ranges
+pub mod Paged
+pub mod Keeping
 pub mod States
 pub mod Clear
 pub mod Evidence

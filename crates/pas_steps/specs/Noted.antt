@@ -24,6 +24,12 @@ epoch_noted notes = notes.epoch
 abbrev pub notes_for : EventRoom → Notes
 notes_for room = record { room = room; count = 0; epoch = None }
 
+-- Of these events, the newest first, the first n that were made are gone: they and what is shown, one after the other, are all of them, in order.
+pub record ShowsRest (n : ℕ) (shown events : List Event) : Type 0 where
+  pub gone : List Event
+  pub many : length gone ≡ n
+  pub all : gone ++ shown ≡ reverse events
+
 -- the notes are those of the steps of this actor's view: its events, how many steps they are, and the newest epoch that it read
 pub record AreNotesOf (actor : ℕ) (v : View) (notes : Notes) : Type 0 where
   pub shown : events_noted notes ≡ reverse (events_of actor v)

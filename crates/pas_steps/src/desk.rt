@@ -1,8 +1,9 @@
 //! One actor's place at a region.
-ghost use Rattle.std.specs.Prelude.{◌≡◌, ◌+◌, ◌-◌, ◌^◌, ◌<◌, ◌≤◌, Bool, ℕ, true, min, length, List, reverse};
+ghost use Rattle.std.specs.Prelude.{◌≡◌, ◌+◌, ◌-◌, ◌^◌, ◌<◌, ◌≤◌, Bool, ℕ, true, min, length, List};
 ghost use Rattle.pas_profile.specs.declared.event.Event.{Event};
 ghost use Rattle.pas_profile.specs.Profiles.{IsValid};
 ghost use Rattle.pas_steps.specs.{Views.View, Events.events_of, Events.wants, Lists.Whole, Lists.Legal, Lists.part, Desks.Standing, Desks.CanMake, Desks.Makes};
+ghost use Rattle.pas_steps.specs.{Noted.ShowsRest};
 
 use crate::step::Step;
 use pas_profile::{Block, Directory, Event, Name, Profile, Word};
@@ -12,11 +13,14 @@ use pas_profile::{Block, Directory, Event, Name, Profile, Word};
 /// No step method refuses. Each asks that some view for which the desk stands allows the step, and that there is room for the
 /// event that the step may make. A desk stores no list of its steps.
 pub trait Desk {
-    /// What tells one region from another of the same profile.
+    /// What tells one region from another of the same profile, and what was forgotten at it.
     type Home;
 
-    /// The region. No step changes it.
+    /// The region, and what was forgotten. No step changes it.
     ghost home: { Self → Self.Home };
+
+    /// How many of the actor's events were shown once, and are no longer.
+    ghost forgotten: { Self.Home → ℕ };
 
     /// Whether the desk tells the whole state. It does only where no other desk runs beside it.
     ghost tells: { Bool };
@@ -27,7 +31,7 @@ pub trait Desk {
     /// For how many more events there is room.
     ghost spare_of: { Self → ℕ };
 
-    /// The events so far, the oldest first.
+    /// The events so far that weren't forgotten, the oldest first.
     ghost shown_of: { Self → List Event };
 
     /// How many steps were made.
@@ -43,7 +47,7 @@ pub trait Desk {
     fn count(&self) -> u64
         ensures { result ≡ count_of self.now };
 
-    /// All events made, in order.
+    /// All events made, in order, but for those that were forgotten.
     fn shown(&self) -> &[Event]
         ensures { result.now ≡ shown_of self.now };
 
@@ -55,7 +59,7 @@ pub trait Desk {
         ensures home { home self.new ≡ home self.old };
 
     /// Loads any word.
-    #[inline]
+    #[inline(always)]
     fn look(&mut self, word: Word) -> u64
         requires can { CanMake (standing self.old) (Step.Look word) }
         requires room { wants (Step.Look word) ≤ spare_of self.old }
@@ -249,8 +253,9 @@ pub trait Desk {
     /// one more event.
     ghost limited: { (d : Self) → (standing d).seat.room < 2 ^ 32 };
 
-    /// The events shown are those of each view for which the desk stands.
-    ghost shows: { (d : Self) (v : View) (l : Whole) → (standing d).stands v l → shown_of d ≡ reverse (events_of (standing d).seat.actor v) };
+    /// What was forgotten and what is shown, one after the other, are the events of each view for which the desk stands, in order.
+    ghost shows: { (d : Self) (v : View) (l : Whole) → (standing d).stands v l
+        → ShowsRest (forgotten (home d)) (shown_of d) (events_of (standing d).seat.actor v) };
 
     /// The events of a view and the room that is left make up the whole room.
     ghost spares: { (d : Self) (v : View) (l : Whole) → (standing d).stands v l → spare_of d + length (events_of (standing d).seat.actor v) ≡ (standing d).seat.room };

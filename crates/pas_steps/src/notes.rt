@@ -1,5 +1,5 @@
 //! What an actor notes of its own steps.
-ghost use Rattle.std.specs.Prelude.{◌≡◌, ◌≤◌, ◌+◌, ◌++◌, ◌<◌, ◌^◌, length};
+ghost use Rattle.std.specs.Prelude.{◌≡◌, ◌≤◌, ◌+◌, ◌++◌, ◌<◌, ◌^◌, [], length};
 ghost use Rattle.std.specs.Option.{option_to_list};
 ghost use Rattle.pas_profile.specs.Rooms.{shown, size_of_room};
 
@@ -51,7 +51,7 @@ impl Notes {
         self.count
     }
 
-    /// All events made, the oldest first.
+    /// The events in the room, the oldest first: all that were made since they were last forgotten.
     #[inline]
     pub fn shown(&self) -> &[Event]
         ensures { result.now ≡ events_noted self.now }
@@ -76,6 +76,20 @@ impl Notes {
             Some(epoch) => epoch,
             None => 0,
         }
+    }
+
+    /// Empties the room, and says how many events it held.
+    #[inline]
+    pub fn forget(&mut self) -> u32
+        ensures events { result ≡ length (events_noted self.old) }
+        ensures empty { events_noted self.new ≡ [] }
+        ensures room { room_of_notes self.new ≡ room_of_notes self.old }
+        ensures count { count_of_notes self.new ≡ count_of_notes self.old }
+        ensures epoch { epoch_noted self.new ≡ epoch_noted self.old }
+    {
+        let events = self.room.as_slice().len() as u32;
+        self.room.clear();
+        events
     }
 
     /// Notes a step that the actor made, and its event. The caller leaves room for the event.

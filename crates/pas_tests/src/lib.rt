@@ -33,8 +33,6 @@ mod pools;
 #[cfg(test)]
 mod report;
 #[cfg(test)]
-mod rounds;
-#[cfg(test)]
 mod sheets;
 #[cfg(test)]
 mod storming;
@@ -42,10 +40,6 @@ mod storming;
 mod storms;
 #[cfg(test)]
 mod traces;
-#[cfg(test)]
-mod verdicts;
-#[cfg(test)]
-mod versions;
 #[cfg(test)]
 mod visiting;
 #[cfg(test)]

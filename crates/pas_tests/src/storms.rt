@@ -39,25 +39,13 @@ impl Intruder for Ticker {
     }
 }
 
-/// Actor 1 at a region that nobody used yet, while actor 2, with room for so many events, raises the epoch before this
-/// own step.
+/// Actor 1 at a region that nobody used yet, while actor 2 raises the epoch before this own step. Each has room for so
+/// many events.
 fn stormed(alloc: Global, at: u64, events: u32) -> Result<StormDesk<Ticker>, Fail>
     ensures stands { IfOk result (λ storm. (l : Whole) → (⟦<StormDesk<Ticker> as Desk>⟧.standing storm).stands [] l) }
 {
-    let mut rooms = Vec::new(alloc);
-    rooms.push(EventRoom::try_new(alloc, 0)?)?;
-    rooms.push(EventRoom::try_new(alloc, 0)?)?;
-    rooms.push(EventRoom::try_new(alloc, events)?)?;
-    let (region, mut passes) = PlainRegion::try_new(alloc, PROFILE, rooms)?;
-    let Some(foreign) = passes.pop() else {
-        return Err(NoMemory.into());
-    };
-    let Some(own) = passes.pop() else {
-        return Err(NoMemory.into());
-    };
-    if foreign.actor() == own.actor() {
-        return Err(NoMemory.into());
-    }
+    let (desk, foreign) = beside(alloc, PROFILE, events)?;
+    let (region, own) = desk.into_parts();
     let ticker = Ticker {
         at,
         calls: 0,

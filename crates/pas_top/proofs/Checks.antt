@@ -29,7 +29,7 @@ writing s r is (inl (inr (inl one))) = inr (inl (is ∙ one))
 writing s r is (inl (inr (inr six))) = inr (inr (inr (inl (is ∙ six))))
 writing s r is (inr eight) = inr (inr (inr (inr (is ∙ eight))))
 
-never_four : (s : ℕ) → IsCheckStatus s → s ≡ 4 → ⊥
+pub never_four : (s : ℕ) → IsCheckStatus s → s ≡ 4 → ⊥
 never_four s (inl (inl is)) four = omega (arith, is, four)
 never_four s (inl (inr (inl is))) four = omega (arith, is, four)
 never_four s (inl (inr (inr is))) four = omega (arith, is, four)

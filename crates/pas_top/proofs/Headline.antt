@@ -32,7 +32,8 @@ module _ {bytes : List ℕ} {way : Way} {plan : Plan} {records : List Record} {s
     legal_state : Legal (profile_of state) shows.whole
     legal_state = subst (λ (f : Profile). Legal f shows.whole) (sym shows.profile) shows.replay.legal
 
-    can_show : IsShown records state
+    -- what was said can be written, and the report of the words
+    pub can_show : IsShown records state
     can_show = record { lines = can_be_shown shows.replay; deeds = are_deed_words state shows.whole has_words valid_state legal_state }
 
     report_is : report_by_words state ≡ report_text plan.profile (visible shows.whole) (marks_after shows.whole)
@@ -71,6 +72,15 @@ comes_to way bytes (Replayed records state) short replay =
     inl (refl, record { short = short; replayed = replayed; told = text_by way bytes text replayed alone })
 comes_to way bytes (Faulty fault) short first = inr (inl (refl, record { short = short; fault = fault; first = first; text_is = refl }))
 
+-- What a replay in the order of the text shows is what its bytes come to.
+pub order_comes : (bytes : List ℕ) (plan : Plan) (records : List Record) (state : State) → length bytes ≤ most_bytes → IsPlanOf bytes plan
+    → Shows InOrder plan records state
+    → ComesTo InOrder bytes 0 (shown_text records state)
+order_comes bytes plan records state short read shows =
+    let text : List ℕ = shown_text records state in
+    let replayed : IsReplayed InOrder bytes text = shown_replayed read shows in
+    inl (refl, record { short = short; replayed = replayed; told = text_by InOrder bytes text replayed (λ one. replayed) })
+
 -- The status of an outcome is never 4.
 pub status_not_four : (outcome : Outcome) → outcome_status outcome ≡ 4 → ⊥
 status_not_four (Replayed records state) four = omega (arith, four)
@@ -89,6 +99,17 @@ outcome_output words told read manner outcome asked whole is = inr (inl (record 
   asked = asked;
   status_is = replay_status outcome;
   comes = λ bytes tells. let input = whole bytes tells in comes_to (way_of manner) bytes outcome input.1 (subst (λ (t : List ℕ). IsOutcome (way_of manner) t outcome) input.0 is);
+}))
+
+-- the output of `order`
+pub order_output : (words : List (List ℕ)) (told : Option (List ℕ)) (read : List ℕ) (status : ℕ) (text : List ℕ) → IsReplaying Manner.InOrder words
+    → ((bytes : List ℕ) → told ≡ Some bytes → (read ≡ bytes) × (length bytes ≤ most_bytes)) → IsReplayStatus status → ComesTo InOrder read status text
+    → IsOutput words told status text
+order_output words told read status text asked whole status_is comes = inr (inl (record {
+  manner = Manner.InOrder;
+  asked = asked;
+  status_is = status_is;
+  comes = λ bytes tells. subst (λ (t : List ℕ). ComesTo InOrder t status text) (whole bytes tells).0 comes;
 }))
 
 -- the output of a call whose input was too long

@@ -5,3 +5,4 @@ mod Summing
 mod Accepting
 mod Reading
 mod OneText
+mod Ordering

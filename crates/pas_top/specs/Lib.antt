@@ -6,3 +6,5 @@ pub mod Outputs
 pub mod Checked
 pub mod Generated
 pub mod Outcomes
+pub mod Wrote
+pub mod Ordered

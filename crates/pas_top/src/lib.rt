@@ -4,6 +4,7 @@
 mod generating;
 mod judging;
 pub mod laws;
+mod line_writer;
 pub mod main_call;
 mod opening;
 mod outcome;

@@ -13,7 +13,7 @@ ghost use Rattle.pas_top.specs.Outputs.{HasFailed, IsCutOff};
 
 use crate::generating::generate;
 use crate::judging::check_input;
-use crate::outcome::{replayed_in_order, replayed_on_threads, tell_outcome};
+use crate::outcome::{order, replayed_on_threads, tell_outcome};
 use crate::{TOO_LONG, USAGE};
 use pas_io::whole::{Input, Stop, read_all};
 use pas_io::{Sink, Source};
@@ -41,7 +41,7 @@ use std::thread::Threads;
 ///
 /// A fault of the source brings 3 and one of the sink 4: with any other status its count is as before. With `order`, `run` and `check` the source was read to
 /// its end where the status is 0, 1 or 8. No read is made after one that met the end, and at most 16,777,217 bytes are taken. Nothing is written before the replay or
-/// the check has ended.
+/// the check has ended, but for the lines of `order`: they are written as they come, once all input is read and all memory is taken.
 ///
 /// Of its calls `replayed_on_threads` alone may wait, so with other words than `run` each of them returns. Time, of which no clause speaks, is at most in proportion to
 /// operations times pages, beside the bytes that come in and go out.
@@ -106,12 +106,11 @@ pub fn pas_main<R: Threads + Wait + Sync, S: Source, K: Sink>(
         Err(Stop::Fault) => return 3,
         Err(Stop::Memory) => return 5,
     };
-    let replayed = match manner {
-        Manner::InOrder => replayed_in_order(alloc, bytes),
-        Manner::OnThreads => replayed_on_threads(rt, alloc, bytes),
-    };
-    match replayed {
-        Ok((outcome, spent)) => tell_outcome(rt, alloc, manner, sink, outcome, spent),
-        Err(_) => 5,
+    match manner {
+        Manner::InOrder => order(alloc, bytes, sink),
+        Manner::OnThreads => match replayed_on_threads(rt, alloc, bytes) {
+            Ok((outcome, spent)) => tell_outcome(rt, alloc, manner, sink, outcome, spent),
+            Err(_) => 5,
+        },
     }
 }

@@ -1,20 +1,25 @@
 //! What an input comes to.
-ghost use Rattle.std.specs.Prelude.{◌≡◌, ◌≤◌, ◌+◌, ℕ, List, [], IfOk, length};
+ghost use Rattle.std.specs.Prelude.{◌≡◌, ◌≤◌, ◌+◌, ℕ, List, [], Some, IfOk, length};
 ghost use Rattle.pas_trace.specs.Plans.{IsPlanOf};
 ghost use Rattle.pas_report.specs.Rooms.{records_in, room_of};
 ghost use Rattle.pas_answers.specs.{Replays.phases_of, Replays.Shows, Ways.InOrder, Ways.OnThreads};
 ghost use Rattle.pas_io.specs.Told.{Tells};
 ghost use Rattle.pas_telling.specs.Outcomes.{IsWritable, outcome_text, outcome_status};
-ghost use Rattle.pas_top.specs.Outcomes.{IsOutcome, ShowsBy};
+ghost use Rattle.pas_replay.specs.{Kits.IsKitOf, Taking.room_for_taker};
+ghost use Rattle.pas_top.specs.{Ordered.Orders, Ordered.TellsLines, Ordered.TellsReplay, Outcomes.IsOutcome, Outcomes.ShowsBy};
 
+use crate::line_writer::{LineWriter, WAITING};
 use crate::opening::{kit_of, read_for_threads};
 use crate::remaking::Reallocation;
-use pas_io::Sink;
+use pas_io::{Failed, Sink};
 use pas_profile::NoMemory;
-use pas_replay::{PlainKit, by_one_thread, in_order, is_of_one_thread, records_for};
-use pas_report::Records;
+use pas_replay::{
+    PlainKit, by_one_thread, in_order, in_order_to, is_of_one_thread, records_for,
+    records_for_taker,
+};
+use pas_report::{Records, report};
 use pas_steps::State;
-use pas_telling::{Manner, Outcome};
+use pas_telling::{Manner, Outcome, fault_line, tell};
 use pas_threads::{Ahead, OpenGate, Rooms, on_threads_with_rooms};
 use pas_trace::{Plan, ReadFault, read_trace};
 use std::alloc::Global;
@@ -28,32 +33,70 @@ pub(crate) struct Spent {
     _rooms: Option<Rooms>,
 }
 
-/// Reads the bytes, lets them go, and replays the trace that they are in the order of its text. It starts no thread and waits for nobody. What the replay
-/// leaves comes beside its outcome. NoMemory comes before the replay begins, or not at all.
-pub(crate) fn replayed_in_order(
-    alloc: Global,
-    bytes: Vec<u8>,
-) -> Result<(Outcome, Option<Spent>), NoMemory>
+/// Reads the bytes, lets them go, replays the trace that they are in the order of its text, and writes the lines of what was said as they come, and then the
+/// report; or writes the first fault. It starts no thread and waits for nobody. The status is 5 where memory was wanting: all is taken before anything is written.
+pub(crate) fn order<K: Sink>(alloc: Global, bytes: Vec<u8>, sink: &mut K) -> u8
     requires { length bytes.items ≤ 16777216 }
-    ensures { IfOk result (λ told. IsOutcome InOrder bytes.items told.0) }
+    ensures told { Orders bytes.items (K.held sink.old) (K.held sink.new) (K.faults sink.old) (K.faults sink.new) result }
+    ensures memory { result ≡ 5 → sink.new ≡ sink.old }
 {
     let read = read_trace(alloc, &bytes);
     drop(bytes);
     let plan = match read {
         Ok(plan) => plan,
-        Err(ReadFault::Trace(fault)) => return Ok((Outcome::Faulty(fault), None)),
-        Err(ReadFault::NoMemory) => return Err(NoMemory),
+        Err(ReadFault::Trace(fault)) => return tell(sink, fault_line(fault).as_str(), 1),
+        Err(ReadFault::NoMemory) => return 5,
     };
-    let mut records = records_for(alloc, &plan)?;
-    let state = replay_in_order(alloc, &plan, &mut records)?;
-    let spent = Spent {
-        _plan: plan,
-        _rooms: None,
+    let Ok(waiting) = records_for_taker(alloc, &plan, WAITING) else {
+        return 5;
     };
-    Ok((Outcome::Replayed(records, state), Some(spent)))
+    let Ok(kit) = PlainKit::try_new(alloc, &plan) else {
+        return 5;
+    };
+    write_in_order(&plan, kit, waiting, sink)
 }
 
-/// The same on threads. What the replay needs is made while the bytes are read.
+/// Replays the plan in the order of its text, and writes the lines of what was said as they come, and then the report. Takes no memory.
+fn write_in_order<K: Sink>(plan: &Plan, kit: PlainKit, waiting: Records, sink: &mut K) -> u8
+    requires plan { (text : List ℕ) × (length text ≤ 16777216) × IsPlanOf text plan.now }
+    requires kit { IsKitOf plan.now kit }
+    requires empty { records_in waiting ≡ [] }
+    requires room { room_for_taker (Some 1023) plan.now ≤ room_of waiting }
+    ensures { TellsReplay plan.now (K.held sink.old) (K.held sink.new) (K.faults sink.old) (K.faults sink.new) result }
+{
+    let (state, failed) = write_lines_in_order(plan, kit, waiting, sink);
+    if failed {
+        return 4;
+    }
+    match report(&state, sink) {
+        Ok(()) => 0,
+        Err(Failed) => 4,
+    }
+}
+
+/// Replays the plan in the order of its text to its end, and writes the lines of what was said as they come, until a write fails. Answers the region's state
+/// afterwards, and whether a write failed.
+fn write_lines_in_order<K: Sink>(
+    plan: &Plan,
+    kit: PlainKit,
+    mut waiting: Records,
+    sink: &mut K,
+) -> (State, bool)
+    requires plan { (text : List ℕ) × (length text ≤ 16777216) × IsPlanOf text plan.now }
+    requires kit { IsKitOf plan.now kit }
+    requires empty { records_in waiting ≡ [] }
+    requires room { room_for_taker (Some 1023) plan.now ≤ room_of waiting }
+    ensures { TellsLines plan.now (K.held sink.old) (K.held sink.new) (K.faults sink.old) (K.faults sink.new) result.0 result.1 }
+{
+    let mut writer = LineWriter::new(sink);
+    let state = in_order_to(plan, kit, &Reallocation, &mut waiting, &mut writer);
+    writer.write(&mut waiting);
+    let failed = writer.has_failed();
+    (state, failed)
+}
+
+/// Reads the bytes, lets them go, and replays the trace that they are on threads. What the replay needs is made while the bytes are read. What the replay leaves
+/// comes beside its outcome. NoMemory comes before the replay begins, or not at all.
 pub(crate) fn replayed_on_threads<R: Threads + Wait + Sync>(
     rt: &R,
     alloc: Global,
@@ -78,18 +121,21 @@ pub(crate) fn replayed_on_threads<R: Threads + Wait + Sync>(
     Ok((Outcome::Replayed(records, state), Some(spent)))
 }
 
-/// What the bytes come to in the order of their text. What the replay leaves beside it is let go.
+/// Reads the bytes, lets them go, and replays the trace that they are in the order of its text. NoMemory comes before the replay begins, or not at all.
 pub(crate) fn outcome_in_order(alloc: Global, bytes: Vec<u8>) -> Result<Outcome, NoMemory>
     requires { length bytes.items ≤ 16777216 }
     ensures { IfOk result (IsOutcome InOrder bytes.items) }
 {
-    match replayed_in_order(alloc, bytes) {
-        Ok((outcome, spent)) => {
-            drop(spent);
-            Ok(outcome)
-        }
-        Err(NoMemory) => Err(NoMemory),
-    }
+    let read = read_trace(alloc, &bytes);
+    drop(bytes);
+    let plan = match read {
+        Ok(plan) => plan,
+        Err(ReadFault::Trace(fault)) => return Ok(Outcome::Faulty(fault)),
+        Err(ReadFault::NoMemory) => return Err(NoMemory),
+    };
+    let mut records = records_for(alloc, &plan)?;
+    let state = replay_in_order(alloc, &plan, &mut records)?;
+    Ok(Outcome::Replayed(records, state))
 }
 
 /// Writes what an input comes to, as `pas_telling` does. What its replay left is let go meanwhile.

@@ -3,7 +3,7 @@ use Rattle.std.proofs.Common.{◌≡◌, ℕ, ◌+◌, ◌*◌, nat_lt, nat_le, 
 use Rattle.std.proofs.Common.{arith}
 use Rattle.pas_trace.specs.Wishes.{heap_in, sizing_in, name_made, name_freed, holds_of, asking}
 use Rattle.pas_trace.specs.Reasons.{first_failed, is_thread, is_alignment, guard_after, guard_in, cost_of, cost_of_request, cost_of_wish, record_bound}
-use Rattle.pas_trace.specs.Reasons.{few_enough, may_free, checks_of, reason_of, operations_in, is_named, line_says, started}
+use Rattle.pas_trace.specs.Reasons.{few_enough, may_free, checks_of, reason_of, operations_in, is_named, line_says}
 use Rattle.pas_trace.specs.Items.{item_of_line}
 use Rattle.pas_trace.specs.Told.{few_told, sizing_told, told_checks, reason_told, has_owner, may_free_told, IsChecked, Tells}
 use Rattle.pas_trace.specs.declared.{fault.Reason.Reason, item.Request.Request, item.Item.Item, item.Item.TheVariants.Guards, item.Item.TheVariants.Operates}

@@ -166,6 +166,7 @@ after-lines old now new start lines xs ys far t =
       items = t.0;
       tells = t.2;
       header = t.3 ∙ far.header;
+      scripting = t.4 ∙ far.scripting;
       same = far.same ∙ ap (λ n. items_from old.header (n + 1) far.items (xs ++ ys)) line ∙ items-more old.header far.items xs ys t.0 taken ∙ ap (λ n. items_from old.header (n + 1) t.0 ys) (sym line');
     }
 
@@ -180,7 +181,7 @@ lines-fault old now new start lines xs ys NoMemory far t = tt
 pub all-read : (old now new : Reader) (start : List Item) (lines left : List (List ℕ)) (result : Result (Unit {0}) ReadFault)
     (far : SoFar old start lines now left)
     → AreTaken now far.items left new result → AreTaken old start lines new result
-all-read old now new start lines left (Ok done) far t = (t.0, far.same ∙ ap (λ (f : Header). items_from f (now.line + 1) far.items left) (sym far.header) ∙ t.1, t.2, t.3 ∙ far.header)
+all-read old now new start lines left (Ok done) far t = (t.0, far.same ∙ ap (λ (f : Header). items_from f (now.line + 1) far.items left) (sym far.header) ∙ t.1, t.2, t.3 ∙ far.header, t.4 ∙ far.scripting)
 all-read old now new start lines left (Err (Trace fault)) far t = far.same ∙ ap (λ (f : Header). items_from f (now.line + 1) far.items left) (sym far.header) ∙ t
 all-read old now new start lines left (Err NoMemory) far t = tt
 

@@ -3,6 +3,8 @@ pub mod WordLines
 mod FrontLines
 pub mod Digits
 mod Gathering
+mod Coding
+mod Scripting
 pub mod Costs
 mod Sampling
 mod Checking
@@ -15,7 +17,7 @@ mod Cutting
 mod LexedLines
 mod LineCounts
 mod ItemRanges
-mod Rooms
+pub mod Rooms
 mod ParsedItems
 pub mod OperationsOfItems
 pub mod EveryPlan

@@ -1,19 +1,21 @@
 -- What the reader keeps after each item.
-use Rattle.std.proofs.Common.{◌≡◌, ◌≢◌, ℕ, ◌+◌, ◌<◌, ◌≤◌, ◌==◌, Bool, true, false, ◌||◌, ◌*◌, ◌-◌, nat_le, if◌then◌else◌, List, [], ◌∷◌, ◌++◌, length, get_or}
-use Rattle.std.proofs.Common.{set, Option, None, Some, refl, sym, ap, subst, ◌∙◌, arith, add-one, eq-eqb, ne_eqb, leb-true, le-leb}
+use Rattle.std.proofs.Common.{◌≡◌, ◌≢◌, ℕ, ◌+◌, ◌<◌, ◌≤◌, ◌==◌, Bool, true, false, ◌||◌, ◌*◌, nat_le, if◌then◌else◌, List, [], ◌∷◌, ◌++◌, length, get_or, set}
+use Rattle.std.proofs.Common.{Option, None, Some, refl, sym, ap, subst, ◌∙◌, arith, add-one, eq-eqb, ne_eqb, leb-true, le-leb, rules}
 use Rattle.std.proofs.{Math.ListN.length-set, lemmas.Bool.cases_eq, lemmas.Bool.lt-leb, lemmas.Bool.and_parts, lemmas.Nat.mul-le}
 use Rattle.pas_profile.specs.Profiles.{IsValid}
 use Rattle.pas_profile.specs.declared.profile.Profile.{Profile}
-use Rattle.pas_trace.specs.declared.{header.Header.Header, item.Item.Item, item.Item.TheVariants.Guards, item.Item.TheVariants.Operates}
-use Rattle.pas_trace.specs.declared.{item.Item.TheVariants.Scavenges, item.Wish.Wish, item.Wish.TheVariants.Remakes, names.Owner.Owner, names.Names.Names}
+use Rattle.pas_trace.specs.declared.{header.Header.Header, item.Item.Item, item.Wish.Wish, item.Wish.TheVariants.Remakes, names.Owner.Owner, names.Names.Names}
 use Rattle.pas_trace.specs.declared.{plan.Chore.Chore, plan.Op.Op, plan.What.What, plan.What.TheVariants.Remake, reader.Reader.Reader, samples.Samples.Samples}
+use Rattle.pas_trace.specs.declared.{gathered.Gathered.Gathered}
+use Rattle.pas_trace.specs.declared.item.Item.TheVariants.{Guards, Operates, Scavenges, NextPhase}
 use Rattle.pas_trace.specs.Wishes.{heap_in, name_made, name_freed, heap_by, heap_made, is_name}
 use Rattle.pas_trace.specs.Reasons.{is_guard_number, guard_after, guard_in, actors_by, cost_of, costs_of, cost_of_wish, records_of_chore, record_bound}
 use Rattle.pas_trace.specs.Reasons.{reason_of, is_operation, is_phase, actor_of, makes, heap_of, started}
 use Rattle.pas_trace.specs.Plans.{shared_by, phases_after, phases_in, own_costs, kept_costs, keeper_for, bound_of, bounds_upto, all_bounds, operation}
-use Rattle.pas_trace.specs.Plans.{what_wished, what_of_chore, add_last}
+use Rattle.pas_trace.specs.Plans.{what_wished, what_of_chore, add_last, line_of_newest}
 use Rattle.pas_trace.specs.Told.{owner_in, heap_told, keeper_told, Tells, TellsSamples, NameTold, IsReady, CanSample, IsCounted, IsOperated, IsGuarding}
-use Rattle.pas_trace.specs.Told.{IsAdded}
+use Rattle.pas_trace.specs.Told.{IsAdded, IsNextPhase}
+use Rattle.pas_trace.specs.Gathering.{HasGathered, Gathers, is_scripting}
 use Rattle.pas_trace.proofs.{Checking.bound-after, Gathering.get_or-written}
 use Rattle.pas_trace.proofs.PassedChecks.{FineCounts, own_passed, guard_passed, actor_within, counts_within}
 use Rattle.pas_trace.proofs.Sampling.{sampled, unsampled, keeper_same, few_larges, few_kept}
@@ -92,11 +94,25 @@ cost-added : (f : Profile) (i : Item) (items : List Item) (costs : List ℕ) (ac
     → get_or costs k 0 ≡ own_costs f k items → get_or (set costs actor (get_or costs actor 0 + cost)) k 0 ≡ own_costs f k (i ∷ items)
 cost-added f i items costs actor cost k lt is_actor is_cost told = search (arith, cases_eq, eq-eqb, get_or-written, ne_eqb)
 
+-- an operation is gathered behind those of the items before
+gathered-more : (old new : Reader) (items : List Item) (i : Item) (actor : ℕ) (what : What) (cost : ℕ) → Tells old items
+    → IsOperation old.header.profile (heap_of items) (keeper_for old.header.profile items i) old.samples.guard i actor what cost
+    → new.header ≡ old.header → Gathers (add_last (Some (operation (old.line + 1) actor what))) old.gathered new.gathered
+    → HasGathered (phases_in new.header.profile (i ∷ items)) new.gathered
+gathered-more old new items i actor what cost t op header h =
+    let f = old.header.profile in
+    let line : old.line + 1 ≡ line_of_newest (i ∷ items) = ap (λ n. n + 1) t.line in
+    let is : phases_in new.header.profile (i ∷ items) ≡ add_last (Some (operation (old.line + 1) actor what)) (phases_in f items) =
+    ap (λ (g : Header). phases_in g.profile (i ∷ items)) header ∙ op.phases (line_of_newest (i ∷ items)) (phases_in f items)
+    ∙ ap (λ n. add_last (Some (operation n actor what)) (phases_in f items)) (sym line) in
+    subst (λ (ps : List (List Op)). HasGathered ps new.gathered) (sym is) (h.phases (phases_in f items) t.phases)
+
 operated : (old new : Reader) (names : Names) (samples : Samples) (items : List Item) (i : Item) (actor : ℕ) (what : What) (cost : ℕ) → Tells old items
     → IsOperation old.header.profile (heap_of items) (keeper_for old.header.profile items i) old.samples.guard i actor what cost
     → IsReady old.counts actor cost → ((n : ℕ) → NameTold (owner_in names n) old.phase (i ∷ items) n) → TellsSamples old.header.profile samples (i ∷ items)
-    → IsCounted (record old { line = old.line + 1; names = names; samples = samples }) new actor what cost → Tells new (i ∷ items)
-operated old new names samples items i actor what cost t op can told sampling h =
+    → IsCounted (record old { line = old.line + 1; names = names; samples = samples }) new actor what cost
+    → HasGathered (phases_in new.header.profile (i ∷ items)) new.gathered → Tells new (i ∷ items)
+operated old new names samples items i actor what cost t op can told sampling h gathered =
     search (arith, bound-after, length-set, cost-added)
 
 -- what the names hold after an item
@@ -126,13 +142,15 @@ added : (old new : Reader) (names : Names) (samples : Samples) (i : Item) (actor
     → IsCounted (record old { line = old.line + 1; names = names; samples = samples }) new actor what cost → IsAdded old new i
 added old new names samples i actor what cost op after sampling h = record {
   header = h.header;
+  scripting = h.gathers.scripting;
   line = h.line;
   tells = λ items t e.
       let most = actor_within old.header.profile items i e in
       let threads : old.header.profile.threads ≤ 16 = t.header.threads in
       let is : actor_of i ≡ actor = (op items t e).thread in
       let can = ready old items i actor cost (op items t e).same_guard t (counts_within old.header.profile items i (op items t e).operates e) (omega (arith, most, threads, is)) (sym (op items t e).costs) in
-      operated old new names samples items i actor what cost t (op items t e) can (after items t e) (sampling items t e) h;
+      operated old new names samples items i actor what cost t (op items t e) can (after items t e) (sampling items t e) h
+      (gathered-more old new items i actor what cost t (op items t e) h.header h.gathers);
 }
 
 -- A thread's operation that was counted is added to what the reader keeps.
@@ -164,6 +182,20 @@ added_chore old new c h =
     record { operates = refl; same_phase = refl; same_guard = λ g. refl; marks = λ m. refl; thread = refl; costs = refl; phases = λ line ps. refl } in
     added old new old.names old.samples (Scavenges c) 0 (what_of_chore c) cost op (names-kept old c) (λ items told e. unsampled f old.samples (Scavenges c) items refl (λ g. refl) told.samples) h
 
+-- ---- a phase begins
+phased : (old new : Reader) (items : List Item) → Tells old items → IsNextPhase (record old { line = old.line + 1 }) new
+    → HasGathered (phases_in new.header.profile (NextPhase ∷ items)) new.gathered → Tells new (NextPhase ∷ items)
+phased old new items t h gathered = search rules
+
+-- A phase that was begun is added to what the reader keeps.
+pub added_phase : (old new : Reader) → IsNextPhase (record old { line = old.line + 1 }) new → IsAdded old new NextPhase
+added_phase old new h = record {
+  header = h.header;
+  scripting = h.gathers.scripting;
+  line = h.line;
+  tells = λ items t e. phased old new items t h (subst (λ (g : Header). HasGathered (phases_in g.profile (NextPhase ∷ items)) new.gathered) (sym h.header) (h.gathers.phases (phases_in old.header.profile items) t.phases));
+}
+
 -- ---- a `guard` line stands before all operations
 or_none : (s t u : Bool) → s || t || u ≡ false → (s ≡ false) × (u ≡ false)
 or_none false false false is = (refl, refl)
@@ -189,6 +221,7 @@ free-cost false n = refl
 numbered : (old new : Reader) (n : ℕ) → IsGuarding (record old { line = old.line + 1 }) new (Some n) → IsAdded old new (Guards (Some n))
 numbered old new n h = record {
   header = h.header;
+  scripting = ap is_scripting h.gathered;
   line = h.line;
   tells = λ items t e.
       let f = old.header.profile in
@@ -219,7 +252,8 @@ numbered old new n h = record {
         width = ap length h.costs ∙ t.width;
         costs = λ k lt. ap (λ xs. get_or xs k 0) h.costs ∙ t.costs k lt ∙ free-cost (0 == k) (own_costs f k items) ∙ ap (λ (g : Header). own_costs g.profile k (Guards (Some n) ∷ items)) (sym h.header);
         samples = search arith;
-        phases = h.phases ∙ t.phases ∙ ap (λ (g : Header). phases_in g.profile (Guards (Some n) ∷ items)) (sym h.header);
+        phases = subst (λ (g : Gathered). HasGathered (phases_in new.header.profile (Guards (Some n) ∷ items)) g) (sym h.gathered)
+            (subst (λ (g : Header). HasGathered (phases_in g.profile items) old.gathered) (sym h.header) t.phases);
       };
 }
 

@@ -5,6 +5,9 @@ pub mod Items
 pub mod FirstLines
 pub mod Reasons
 pub mod Plans
+pub mod Codes
+pub mod Scripts
+pub mod Gathering
 pub mod Told
 pub mod Lexed
 pub mod Asked

@@ -2,27 +2,31 @@
 use Rattle.std.specs.Prelude.{if◌then◌else◌, ℕ, ◌+◌, ◌*◌, ◌==◌, ◌≡◌, ◌≤◌, ◌<◌, nat_lt, nat_le, Bool, true, not, ◌&&◌, ◌||◌, List, [], ◌∷◌, ◌++◌, map, length}
 use Rattle.std.specs.Prelude.{Option, None, Some, Result, Ok, Err, slice_index, slice_index_or, slice_set}
 use Rattle.pas_profile.specs.Profiles.{IsValid}
-use Rattle.pas_trace.specs.declared.{header.Header.Header, fault.Reason.Reason, item.Item.Item, item.Wish.Wish, reader.Reader.Reader, plan.Op.Op}
-use Rattle.pas_trace.specs.declared.{plan.What.What, plan.Plan.Plan, fault.ReadFault.ReadFault, fault.ReadFault.TheVariants.Trace}
-use Rattle.pas_trace.specs.declared.{fault.ReadFault.TheVariants.NoMemory, counts.Counts.Counts, names.Owner.Owner, names.Names.Names}
-use Rattle.pas_trace.specs.declared.{gathered.Gathered.Gathered, samples.Samples.Samples}
+use Rattle.pas_trace.specs.declared.{header.Header.Header, fault.Reason.Reason, item.Item.Item, item.Wish.Wish, reader.Reader.Reader, plan.What.What}
+use Rattle.pas_trace.specs.declared.{plan.Plan.Plan, fault.ReadFault.ReadFault, fault.ReadFault.TheVariants.Trace, fault.ReadFault.TheVariants.NoMemory}
+use Rattle.pas_trace.specs.declared.{counts.Counts.Counts, names.Owner.Owner, names.Names.Names, outline.Outline.Outline, samples.Samples.Samples}
+use Rattle.pas_trace.specs.declared.{script.Script.Script}
+use Rattle.pas_trace.specs.{Gathering.HasGathered, Gathering.Gathers, Gathering.is_scripting, Scripts.coded_ops, Scripts.coded_phases, Scripts.without_lines}
+use Rattle.pas_trace.specs.{Texts.lines_of}
 use Rattle.pas_trace.specs.Wishes.{name_made, heap_made, asks_pages, is_name}
 use Rattle.pas_trace.specs.Reasons.{header_of, first_failed, is_thread, is_alignment, few_enough, own_checks, guard_checks, guard_with, guard_in}
 use Rattle.pas_trace.specs.Reasons.{large_requests, is_sampled, cost_of_wish, records_of_chore, started, operations_in, is_named, is_named_now, thread_of}
 use Rattle.pas_trace.specs.Reasons.{heap_of, record_bound, line_says, reason_of}
 use Rattle.pas_trace.specs.declared.item.Item.TheVariants.{Blank, Shares, Guards, NextPhase, Operates, Scavenges}
-use Rattle.pas_trace.specs.Texts.{lines_of}
 use Rattle.pas_trace.specs.Plans.{ops_of, phases_of, bounds_of, phases_in, shared_in, line_of_newest, own_costs, kept_costs, all_bounds, AreNamedBelow}
 use Rattle.pas_trace.specs.Plans.{add_last, operation, what_wished, fault_at, items_from}
 use Rattle.pas_profile.specs.declared.profile.Profile.{Profile}
 
+-- what a plan and a script have beside their phases
+abbrev pub outline_of : Plan → Outline
+outline_of plan = record { version = plan.version; profile = plan.profile; guard = plan.guard; bounds = plan.bounds; total = plan.total; names_limit = plan.names_limit }
+
+abbrev pub outline_in : Script → Outline
+outline_in script = record { version = script.version; profile = script.profile; guard = script.guard; bounds = script.bounds; total = script.total; names_limit = script.names_limit }
+
 -- the owner that the names give a name
 abbrev pub owner_in : Names → ℕ → Owner
 owner_in names name = slice_index_or names.owners.items name record { thread = 0; heap = 0; phase = 0 }
-
--- the phases that were gathered, in order
-abbrev pub gathered_phases : Gathered → List (List Op)
-gathered_phases gathered = map ops_of gathered.done.items ++ gathered.present.items ∷ []
 
 -- the heap of each name
 abbrev pub heap_told : Reader → ℕ → ℕ
@@ -102,7 +106,7 @@ pub record Tells (r : Reader) (items : List Item) : Type 0 where
   pub width : length r.counts.costs ≡ 17
   pub costs : (k : ℕ) → k < 17 → slice_index r.counts.costs k ≡ own_costs r.header.profile k items
   pub samples : TellsSamples r.header.profile r.samples items
-  pub phases : gathered_phases r.gathered ≡ phases_in r.header.profile items
+  pub phases : HasGathered (phases_in r.header.profile items) r.gathered
 
 -- an operation of the actor may be counted
 pub record IsReady (counts : Counts) (actor cost : ℕ) : Type 0 where
@@ -151,7 +155,7 @@ pub record IsCounted (old new : Reader) (actor : ℕ) (what : What) (cost : ℕ)
   pub operations : new.counts.operations ≡ old.counts.operations + 1
   pub bound : new.counts.bound ≡ old.counts.bound + cost
   pub costs : new.counts.costs ≡ slice_set old.counts.costs actor (slice_index old.counts.costs actor + cost)
-  pub phases : gathered_phases new.gathered ≡ add_last (Some (operation old.line actor what)) (gathered_phases old.gathered)
+  pub gathers : Gathers (add_last (Some (operation old.line actor what))) old.gathered new.gathered
 
 -- .. the name that it makes was given to its thread, and a request for whole pages was counted
 pub record IsOperated (old new : Reader) (actor : ℕ) (wish : Wish) (cost : ℕ) : Type 0 where
@@ -171,7 +175,7 @@ pub record IsNextPhase (old new : Reader) : Type 0 where
   pub names : (n : ℕ) → owner_in new.names n ≡ owner_in old.names n
   pub samples : new.samples ≡ old.samples
   pub counts : new.counts ≡ old.counts
-  pub phases : gathered_phases new.gathered ≡ gathered_phases old.gathered ++ [] ∷ []
+  pub gathers : Gathers (λ phases. phases ++ [] ∷ []) old.gathered new.gathered
 
 -- from now on of each thread's requests for whole pages one in so many is guarded
 pub record IsGuarding (old new : Reader) (number : Option ℕ) : Type 0 where
@@ -185,17 +189,19 @@ pub record IsGuarding (old new : Reader) (number : Option ℕ) : Type 0 where
   pub operations : new.counts.operations ≡ old.counts.operations
   pub bound : new.counts.bound ≡ old.counts.bound + old.header.profile.threads * old.header.profile.pages
   pub costs : new.counts.costs ≡ old.counts.costs
-  pub phases : gathered_phases new.gathered ≡ gathered_phases old.gathered
+  pub gathered : new.gathered ≡ old.gathered
 
 -- an item was added
 pub record IsAdded (old new : Reader) (item : Item) : Type 0 where
   pub header : new.header ≡ old.header
+  pub scripting : is_scripting new.gathered ≡ is_scripting old.gathered
   pub line : new.line ≡ old.line + 1
   pub tells : (items : List Item) → Tells old items → reason_of old.header.profile items item ≡ None → Tells new (item ∷ items)
 
 -- the next line was taken after these items, or has this fault
 abbrev pub IsTaken : Reader → List Item → List ℕ → Reader → Result (Unit {0}) ReadFault → Type 0
 IsTaken old items line new (Ok done) = (i : Item) × (line_says old.header items line ≡ Ok i) × Tells new (i ∷ items) × (new.header ≡ old.header) × (new.line ≡ old.line + 1)
+    × (is_scripting new.gathered ≡ is_scripting old.gathered)
 IsTaken old items line new (Err (Trace fault)) = (r : Reason) × (line_says old.header items line ≡ Err r) × (fault ≡ fault_at (old.line + 1) r)
 IsTaken old items line new (Err NoMemory) = Unit {0}
 
@@ -209,6 +215,7 @@ pub record IsFirstTaken (old : Reader) (items : List Item) (text rest : List ℕ
 -- lines were taken after these items, or have this fault
 abbrev pub AreTaken : Reader → List Item → List (List ℕ) → Reader → Result (Unit {0}) ReadFault → Type 0
 AreTaken old items lines new (Ok done) = (all : List Item) × (items_from old.header (old.line + 1) items lines ≡ Ok all) × Tells new all × (new.header ≡ old.header)
+    × (is_scripting new.gathered ≡ is_scripting old.gathered)
 AreTaken old items lines new (Err (Trace fault)) = items_from old.header (old.line + 1) items lines ≡ Err fault
 AreTaken old items lines new (Err NoMemory) = Unit {0}
 
@@ -216,20 +223,30 @@ AreTaken old items lines new (Err NoMemory) = Unit {0}
 abbrev pub IsRead : Reader → List Item → List ℕ → Reader → Result (Unit {0}) ReadFault → Type 0
 IsRead old items text new result = AreTaken old items (lines_of text) new result
 
--- the reader has read the header of the text, and this text is left
-pub record IsBegun (text : List ℕ) (r : Reader) (rest : List ℕ) : Type 0 where
+-- the reader, which gathers for a script or for a plan, has read the header of the text, and this text is left
+pub record IsBegun (for_script : Bool) (text : List ℕ) (r : Reader) (rest : List ℕ) : Type 0 where
   pub line : List ℕ
   pub cut : lines_of text ≡ line ∷ lines_of rest
   pub shorter : length rest < length text
   pub header : header_of line ≡ Some r.header
   pub tells : Tells r []
+  pub gathers : is_scripting r.gathered ≡ for_script
+
+-- what a plan of a header and items has beside its phases
+pub record IsOutlined (header : Header) (items : List Item) (outline : Outline) : Type 0 where
+  pub version : outline.version ≡ header.version
+  pub profile : outline.profile ≡ record header.profile { shared = shared_in items }
+  pub guard : outline.guard ≡ guard_in items
+  pub bounds : bounds_of outline.bounds ≡ all_bounds header.profile items
+  pub total : outline.total ≡ record_bound header.profile items
+  pub names : AreNamedBelow outline.names_limit items
 
 -- the plan of a header and items
 pub record IsPlanned (header : Header) (items : List Item) (plan : Plan) : Type 0 where
-  pub version : plan.version ≡ header.version
-  pub profile : plan.profile ≡ record header.profile { shared = shared_in items }
-  pub guard : plan.guard ≡ guard_in items
+  pub outline : IsOutlined header items (outline_of plan)
   pub phases : map ops_of (phases_of plan.phases) ≡ phases_in header.profile items
-  pub bounds : bounds_of plan.bounds ≡ all_bounds header.profile items
-  pub total : plan.total ≡ record_bound header.profile items
-  pub names : AreNamedBelow plan.names_limit items
+
+-- .. and their script
+pub record IsScripted (header : Header) (items : List Item) (script : Script) : Type 0 where
+  pub outline : IsOutlined header items (outline_in script)
+  pub phases : map coded_ops (coded_phases script.phases) ≡ without_lines (phases_in header.profile items)

@@ -1,14 +1,15 @@
 //! The reader: what it keeps of the lines before, and how it takes a line.
-ghost use Rattle.std.specs.Prelude.{◌≡◌, ◌<◌, ◌≤◌, ◌+◌, ◌∷◌, ◌^◌, [], ℕ, List, Some, None, Ok, Err, OnOk, IfOk, MatchOption, MatchResult, true, if◌then◌else◌};
-ghost use Rattle.std.specs.Prelude.{length};
+ghost use Rattle.std.specs.Prelude.{◌≡◌, ◌<◌, ◌≤◌, ◌+◌, ◌∷◌, ◌^◌, [], ℕ, List, Some, None, Ok, Err, OnOk, IfOk, MatchOption, MatchResult, true, false};
+ghost use Rattle.std.specs.Prelude.{if◌then◌else◌, length};
 ghost use Rattle.pas_profile.specs.Profiles.{IsValid};
 ghost use Rattle.pas_trace.specs.Reasons.{reason_of, cost_of, cost_of_request, cost_of_wish, guard_checks, is_guard_number, records_of_chore, started};
 ghost use Rattle.pas_trace.specs.Reasons.{is_thread, first_failed};
-ghost use Rattle.pas_trace.specs.{Items.item_of_line, Wishes.asking, Wishes.IsFit, Texts.lines_of, Lexed.Say, Lexed.AreLexed};
+ghost use Rattle.pas_trace.specs.{Items.item_of_line, Wishes.asking, Wishes.IsFit, Texts.lines_of, Lexed.Say, Lexed.AreLexed, Gathering.HasGathered};
+ghost use Rattle.pas_trace.specs.{Gathering.is_scripting, Scripts.IsScripting};
 ghost use Rattle.pas_trace.specs.Plans.{IsReading, bounds_of, bounds_upto, all_bounds, request_kept, fault_at};
 ghost use Rattle.pas_trace.specs.Told.{Tells, IsReady, CanSample, IsCounted, IsOperated, IsNextPhase, IsGuarding, IsAdded, IsTaken, IsFirstTaken, AreTaken};
-ghost use Rattle.pas_trace.specs.Told.{IsRead, IsBegun, IsPlanned, IsChecked, AreTested, few_told, thread_told, sizing_told, freed_told, told_checks};
-ghost use Rattle.pas_trace.specs.Told.{reason_told};
+ghost use Rattle.pas_trace.specs.Told.{IsRead, IsBegun, IsOutlined, IsPlanned, IsScripted, IsChecked, AreTested, few_told, thread_told, sizing_told};
+ghost use Rattle.pas_trace.specs.Told.{freed_told, told_checks, reason_told};
 ghost use Rattle.pas_trace.specs.declared.item.{Item.Item, Wish.Wish};
 
 use crate::counts::{Counts, MOST_OPERATIONS, MOST_RECORDS};
@@ -20,9 +21,11 @@ use crate::item::{Item, Request, Wish};
 use crate::items::read_item;
 use crate::lines::next_line;
 use crate::names::{Names, Owner};
+use crate::outline::Outline;
 use crate::plan::{Bounds, Chore, Op, Plan, What};
-use crate::requests::{cost_of_request, is_aligning};
+use crate::requests::{cost_of_request, is_aligning, request_kept};
 use crate::samples::Samples;
+use crate::script::Script;
 use pas_profile::limits::PAGE_BYTES;
 use pas_profile::{Address, Name, Profile};
 use std::alloc::{AllocError, Global};
@@ -54,10 +57,12 @@ pub struct Reader {
 
 impl Reader {
     /// A reader that has read the header.
-    fn new(alloc: Global, header: Header) -> Reader
-        requires { IsValid header.profile }
+    fn new(alloc: Global, header: Header, gathered: Gathered) -> Reader
+        requires valid { IsValid header.profile }
+        requires first { HasGathered ([] ∷ []) gathered }
         ensures tells { Tells result [] }
         ensures header { result.header ≡ header }
+        ensures gathered { result.gathered ≡ gathered }
     {
         Reader {
             alloc,
@@ -69,7 +74,7 @@ impl Reader {
             names: Names::new(alloc),
             samples: Samples::new(),
             counts: Counts::new(&header.profile),
-            gathered: Gathered::new(alloc),
+            gathered,
         }
     }
 
@@ -644,10 +649,11 @@ impl Reader {
         Ok(Bounds { bounds })
     }
 
-    /// The plan of the lines.
-    fn finish(self) -> Result<Plan, AllocError>
+    /// What a plan of the lines has beside its phases, and what was gathered of these.
+    fn finish(self) -> Result<(Outline, Gathered), AllocError>
         requires { (items : List Item) × Tells self items }
-        ensures { IfOk result (λ plan. (items : List Item) → Tells self items → IsPlanned self.header items plan) }
+        ensures outline { IfOk result (λ p. (items : List Item) → Tells self items → IsOutlined self.header items p.0) }
+        ensures gathered { IfOk result (λ p. p.1 ≡ self.gathered) }
     {
         let bounds = self.bounds()?;
         let names_limit = self.names.limit();
@@ -660,24 +666,63 @@ impl Reader {
             ..
         } = self;
         let Header { version, profile } = header;
-        Ok(Plan {
+        let outline = Outline {
             version,
             profile: Profile { shared, ..profile },
             guard: samples.guard,
-            phases: gathered.finish()?,
             bounds,
             total: counts.bound,
             names_limit,
-        })
+        };
+        Ok((outline, gathered))
+    }
+
+    /// The plan of the lines.
+    fn finish_plan(self) -> Result<Plan, AllocError>
+        requires tells { (items : List Item) × Tells self items }
+        requires gathers { is_scripting self.gathered ≡ false }
+        ensures { IfOk result (λ plan. (items : List Item) → Tells self items → IsPlanned self.header items plan) }
+    {
+        let (outline, gathered) = self.finish()?;
+        let Gathered::Whole(whole) = gathered else {
+            unreachable!();
+        };
+        Ok(outline.plan(whole.finish()?))
+    }
+
+    /// The script of the lines.
+    fn finish_script(self) -> Result<Script, AllocError>
+        requires tells { (items : List Item) × Tells self items }
+        requires gathers { is_scripting self.gathered ≡ true }
+        ensures { IfOk result (λ script. (items : List Item) → Tells self items → IsScripted self.header items script) }
+    {
+        let (outline, gathered) = self.finish()?;
+        let Gathered::Coded(coded) = gathered else {
+            unreachable!();
+        };
+        Ok(outline.script(coded.finish()?))
     }
 
     /// The plan of the lines, or that memory was wanting.
     pub(crate) fn planned(self) -> Result<Plan, ReadFault>
-        requires { (items : List Item) × Tells self items }
+        requires tells { (items : List Item) × Tells self items }
+        requires gathers { is_scripting self.gathered ≡ false }
         ensures { MatchResult result (λ plan. (items : List Item) → Tells self items → IsPlanned self.header items plan) (λ fault. fault ≡ ReadFault.NoMemory) }
     {
-        match self.finish() {
+        match self.finish_plan() {
             Ok(plan) => Ok(plan),
+            Err(AllocError) => Err(ReadFault::NoMemory),
+        }
+    }
+
+    /// .. and their script
+    fn scripted(self) -> Result<Script, ReadFault>
+        requires tells { (items : List Item) × Tells self items }
+        requires gathers { is_scripting self.gathered ≡ true }
+        ensures { MatchResult result (λ script. (items : List Item) → Tells self items → IsScripted self.header items script) (λ fault. fault ≡ ReadFault.NoMemory) }
+    {
+        match self.finish_script() {
+            Ok(script) => Ok(script),
             Err(AllocError) => Err(ReadFault::NoMemory),
         }
     }
@@ -693,38 +738,21 @@ fn is_guard_number(number: Option<u64>) -> bool
     }
 }
 
-/// A request in a plan, whose guard the keeper keeps, if it is guarded.
-#[inline(always)]
-fn request_kept(guarded: bool, keeper: u8, name: u32, heap: u8, size: u32, align: u32) -> What
-    ensures { result ≡ request_kept (if guarded then Some keeper else None) name heap size align }
-{
-    if guarded {
-        What::Guarded {
-            keeper,
-            name,
-            heap,
-            size,
-            align,
-        }
-    } else {
-        What::Alloc {
-            name,
-            heap,
-            size,
-            align,
-        }
-    }
-}
-
 /// The fault of a text whose first line is no header.
 const NO_HEADER: ReadFault = ReadFault::Trace(TraceFault {
     line: 1,
     reason: Reason::BadHeader,
 });
 
-/// A reader that has read the header of a text, and the text after the first line. BadHeader where that line is no header.
-pub(crate) fn begun(alloc: Global, text: &[u8]) -> Result<(Reader, &[u8]), ReadFault>
-    ensures { MatchResult result (λ p. IsBegun text.now p.0 p.1.now) (λ fault. IsReading text.now (Err fault)) }
+/// A reader that has read the header of a text and gathers for what is given, a plan or a script, and the text after the first line. BadHeader where
+/// that line is no header.
+pub(crate) fn begun(
+    alloc: Global,
+    text: &[u8],
+    gathered: Gathered,
+) -> Result<(Reader, &[u8]), ReadFault>
+    requires { HasGathered ([] ∷ []) gathered }
+    ensures { MatchResult result (λ p. IsBegun (is_scripting gathered) text.now p.0 p.1.now) (λ fault. IsReading text.now (Err fault)) }
 {
     let Some((line, rest)) = next_line(text) else {
         return Err(NO_HEADER);
@@ -732,7 +760,7 @@ pub(crate) fn begun(alloc: Global, text: &[u8]) -> Result<(Reader, &[u8]), ReadF
     let Some(header) = read_header(line) else {
         return Err(NO_HEADER);
     };
-    Ok((Reader::new(alloc, header), rest))
+    Ok((Reader::new(alloc, header, gathered), rest))
 }
 
 /// The plan of a text of at most 16 MiB, or the fault of its lowest faulty line. NoMemory only where an allocation fails.
@@ -741,7 +769,17 @@ pub fn read_trace(alloc: Global, text: &[u8]) -> Result<Plan, ReadFault>
     requires { length text.now ≤ 16777216 }
     ensures { IsReading text.now result }
 {
-    let (mut reader, rest) = begun(alloc, text)?;
+    let (mut reader, rest) = begun(alloc, text, Gathered::for_plan(alloc))?;
     reader.read_lines(rest)?;
     reader.planned()
+}
+
+/// The script of a text of at most 16 MiB, with the faults of `read_trace`. One pass over the bytes, in linear time.
+pub fn read_script(alloc: Global, text: &[u8]) -> Result<Script, ReadFault>
+    requires { length text.now ≤ 16777216 }
+    ensures { IsScripting text.now result }
+{
+    let (mut reader, rest) = begun(alloc, text, Gathered::for_script(alloc))?;
+    reader.read_lines(rest)?;
+    reader.scripted()
 }

@@ -1,7 +1,8 @@
-//! Alignments of requests, and how many records a request may make.
-ghost use Rattle.std.specs.Prelude.{◌≡◌, ◌≤◌, ◌^◌};
-ghost use Rattle.pas_trace.specs.Reasons.{cost_of_size, cost_of_request, is_alignment};
+//! Requests: their alignments, how many records one may make, and what it is in a plan.
+ghost use Rattle.std.specs.Prelude.{◌≡◌, ◌≤◌, ◌^◌, if◌then◌else◌, Some, None};
+ghost use Rattle.pas_trace.specs.{Reasons.cost_of_size, Reasons.cost_of_request, Reasons.is_alignment, Plans.request_kept};
 
+use crate::plan::What;
 use pas_profile::limits::{GRAIN_BYTES, MOST_BITFIT, PAGE_BYTES};
 
 /// Whether the alignment is a power of two from 16 to 4,096: a divisor of 4,096 is a power of two.
@@ -41,4 +42,34 @@ pub(crate) fn cost_of_request(guard: u32, size: u32) -> u32
         return plain;
     }
     plain + 2
+}
+
+/// A request in a plan, whose guard the keeper keeps, if it is guarded.
+#[inline(always)]
+pub(crate) fn request_kept(
+    guarded: bool,
+    keeper: u8,
+    name: u32,
+    heap: u8,
+    size: u32,
+    align: u32,
+) -> What
+    ensures { result ≡ request_kept (if guarded then Some keeper else None) name heap size align }
+{
+    if guarded {
+        What::Guarded {
+            keeper,
+            name,
+            heap,
+            size,
+            align,
+        }
+    } else {
+        What::Alloc {
+            name,
+            heap,
+            size,
+            align,
+        }
+    }
 }

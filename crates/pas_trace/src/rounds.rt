@@ -4,6 +4,7 @@ ghost use Rattle.pas_trace.specs.{Lexed.AreLexed, Plans.IsReading, Texts.lines_o
 ghost use Rattle.pas_trace.specs.declared.item.Item.{Item};
 
 use crate::fault::ReadFault;
+use crate::gathered::Gathered;
 use crate::item::Item;
 use crate::lexing::lex;
 use crate::pieces::piece_length;
@@ -116,7 +117,7 @@ pub fn read_trace_on<R: Threads + Sync>(
     ) else {
         return read_trace(alloc, text);
     };
-    let (mut reader, rest) = begun(alloc, text)?;
+    let (mut reader, rest) = begun(alloc, text, Gathered::for_plan(alloc))?;
     read_pieces(rt, &mut reader, rest, &mut full, &mut next)?;
     reader.planned()
 }

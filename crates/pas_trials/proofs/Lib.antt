@@ -11,5 +11,6 @@ pub mod Going
 mod Kept
 mod Unfinished
 pub mod Firsts
+pub mod Opened
 mod HandedOver
 mod Working

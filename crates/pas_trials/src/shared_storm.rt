@@ -26,9 +26,10 @@ fn next(numbers: u64) -> u64 {
         .wrapping_add(1442695040888963407)
 }
 
-/// Whether there is room for so many more events, in a room for `room` in all.
+/// Whether there is room for so many more events, in a room for `room` in all, at a desk that forgot none.
 pub fn has_room<D: Desk>(desk: &D, cache: &ThreadCache, room: usize, events: usize) -> bool
-    requires { IsWorking (D.standing desk.now) (cached cache.now) room }
+    requires working { IsWorking (D.standing desk.now) (cached cache.now) room }
+    requires whole { D.forgotten (D.home desk.now) ≡ 0 }
     ensures { result ≡ true → events ≤ D.spare_of desk.now }
 {
     let _ = cache;
@@ -45,6 +46,7 @@ pub fn ask_once<D: Desk>(
 ) -> Option<Name>
     requires size { size ≤ 2048 }
     requires working { IsWorking (D.standing desk.old) (cached cache.old) room }
+    requires whole { D.forgotten (D.home desk.old) ≡ 0 }
     ensures working { IsWorking (D.standing desk.new) (cached cache.new) room }
     ensures home { D.home desk.new ≡ D.home desk.old }
 {
@@ -60,6 +62,7 @@ pub fn ask_once<D: Desk>(
 /// One free, where the name is one that can be freed and there is room for the events of a full log.
 pub fn free_once<D: Desk>(desk: &mut D, cache: &mut ThreadCache, room: usize, name: Name)
     requires working { IsWorking (D.standing desk.old) (cached cache.old) room }
+    requires whole { D.forgotten (D.home desk.old) ≡ 0 }
     ensures working { IsWorking (D.standing desk.new) (cached cache.new) room }
     ensures home { D.home desk.new ≡ D.home desk.old }
 {
@@ -71,6 +74,7 @@ pub fn free_once<D: Desk>(desk: &mut D, cache: &mut ThreadCache, room: usize, na
 /// Stops the cache, where there is room for the events of a full log. Whether it was stopped.
 pub fn stop_once<D: Desk>(desk: &mut D, cache: &mut ThreadCache, room: usize) -> bool
     requires working { IsWorking (D.standing desk.old) (cached cache.old) room }
+    requires whole { D.forgotten (D.home desk.old) ≡ 0 }
     ensures working { IsWorking (D.standing desk.new) (cached cache.new) room }
     ensures home { D.home desk.new ≡ D.home desk.old }
 {
@@ -96,6 +100,7 @@ impl Storm {
     /// Frees one of the blocks, or asks for one in its place, of one of the sizes. Now and then the cache is stopped instead.
     fn turn<D: Desk>(&mut self, desk: &mut D, cache: &mut ThreadCache, room: usize)
         requires working { IsWorking (D.standing desk.old) (cached cache.old) room }
+        requires whole { D.forgotten (D.home desk.old) ≡ 0 }
         ensures working { IsWorking (D.standing desk.new) (cached cache.new) room }
         ensures home { D.home desk.new ≡ D.home desk.old }
     {
@@ -123,6 +128,7 @@ impl Storm {
     /// Frees all blocks and stops the cache. Whether it was stopped.
     fn end<D: Desk>(&mut self, desk: &mut D, cache: &mut ThreadCache, room: usize) -> bool
         requires working { IsWorking (D.standing desk.old) (cached cache.old) room }
+        requires whole { D.forgotten (D.home desk.old) ≡ 0 }
         ensures working { IsWorking (D.standing desk.new) (cached cache.new) room }
         ensures home { D.home desk.new ≡ D.home desk.old }
     {
@@ -143,6 +149,7 @@ impl Storm {
         turns: u64,
     ) -> bool
         requires working { IsWorking (D.standing desk.old) (cached cache.old) room }
+        requires whole { D.forgotten (D.home desk.old) ≡ 0 }
         ensures home { D.home desk.new ≡ D.home desk.old }
     {
         for _turn in 0..turns {

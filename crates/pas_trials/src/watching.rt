@@ -54,6 +54,8 @@ impl<D: Desk> Desk for Watched<D> {
 
     ghost home = { λ watched. D.home watched.desk };
 
+    ghost forgotten = { λ home. D.forgotten home };
+
     ghost tells = { D.tells };
 
     ghost standing = { λ watched. D.standing watched.desk };

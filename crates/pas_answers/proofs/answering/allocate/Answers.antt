@@ -16,7 +16,7 @@ returns-in-Ok-clause-performs g c = λ meant.
     (serves (cached c.args.cache.now) (cached c.serve.new.self) c.args.heap c.args.size c.args.align r) r.named
 
 pub returns-in-Ok-clause-stands : goal.returns-in-Ok-clause-stands
-returns-in-Ok-clause-stands g c = given_stands (cached c.args.cache.now) (cached c.serve.new.self) c.args.name c.args.heap c.args.size c.args.align (g.D.Desk.spare_of c.args.desk.now) c.in-Ok.block c.requires.admitted c.requires.can
+returns-in-Ok-clause-stands g c = given_stands (cached c.args.cache.now) (cached c.serve.new.self) c.args.name c.args.heap c.args.size c.args.align (g.D.Desk.spare_of c.args.desk.now) c.in-Ok.block (g.met.D.Desk.valid c.args.desk.now) c.requires.admitted c.requires.can
     (serves (cached c.args.cache.now) (cached c.serve.new.self) c.args.heap c.args.size c.args.align c.in-Ok.ensures.allocates)
 
 pub returns-in-Err-clause-performs : goal.returns-in-Err-clause-performs

@@ -1,34 +1,34 @@
-use Rattle.std.proofs.Common.{◌≡◌, ◌∙◌, arith, length, drop}
+use Rattle.std.proofs.Common.{◌≡◌, refl, ap, arith, length, drop}
 use Rattle.pas_cache.specs.Caches.{cached}
 use Rattle.pas_answers.specs.{Calls.what_of, Indexes.IsNamedFor, Indexes.request_made}
-use Rattle.pas_answers.proofs.Records.{can_rest, shown_longer, records_fit, said_fits, answers_silent, answers_said}
+use Rattle.pas_answers.proofs.Records.{can_rest, is_shown, shown_longer, records_fit, said_fits, answers_silent, answers_said}
 use Rattle.pas_answers.proofs.answering.answer_meant.Goals as goal
 
 pub push_events-requires-clause-within : goal.push_events-requires-clause-within
 push_events-requires-clause-within g c = shown_longer c.perform-came.ensures.performs.0.calls.adds c.shown-before.result.now c.shown.result.now
-    (λ v l stood. c.shown-before.ensures ∙ g.met.D.Desk.shows c.args.desk.now v l stood) (λ v l stood. c.shown.ensures ∙ g.met.D.Desk.shows c.perform-came.new.desk v l stood)
+    (is_shown (g.D.Desk.standing c.args.desk.now) c.shown-before.ensures refl (g.met.D.Desk.shows c.args.desk.now)) (is_shown (g.D.Desk.standing c.perform-came.new.desk) c.shown.ensures (ap g.D.Desk.forgotten c.perform-came.ensures.home) (g.met.D.Desk.shows c.perform-came.new.desk))
     (can_rest (cached c.args.cache.now) (what_of c.args.task) (g.D.Desk.spare_of c.args.desk.now) c.args.out.now c.requires.can)
 
 pub push_events-requires-clause-room : goal.push_events-requires-clause-room
 push_events-requires-clause-room g c =
     let fits = records_fit (what_of c.args.task) c.args.meant c.perform-came.result.0 (cached c.args.cache.now) (g.D.Desk.spare_of c.args.desk.now) c.args.out.now c.shown-before.result.now c.shown.result.now c.requires.can c.perform-came.ensures.performs.0
-    (λ v l stood. c.shown-before.ensures ∙ g.met.D.Desk.shows c.args.desk.now v l stood) (λ v l stood. c.shown.ensures ∙ g.met.D.Desk.shows c.perform-came.new.desk v l stood) in
+    (is_shown (g.D.Desk.standing c.args.desk.now) c.shown-before.ensures refl (g.met.D.Desk.shows c.args.desk.now)) (is_shown (g.D.Desk.standing c.perform-came.new.desk) c.shown.ensures (ap g.D.Desk.forgotten c.perform-came.ensures.home) (g.met.D.Desk.shows c.perform-came.new.desk)) in
     omega (arith, fits)
 
 pub push-requires : goal.push-requires
 push-requires g c = said_fits (g.D.Desk.standing c.args.desk.now).seat.actor c.args.out.now c.push_events.new.out (drop (length c.shown-before.result.now) c.shown.result.now) c.in-Some.said c.in-Some.is
     (records_fit (what_of c.args.task) c.args.meant c.perform-came.result.0 (cached c.args.cache.now) (g.D.Desk.spare_of c.args.desk.now) c.args.out.now c.shown-before.result.now c.shown.result.now c.requires.can c.perform-came.ensures.performs.0
-    (λ v l stood. c.shown-before.ensures ∙ g.met.D.Desk.shows c.args.desk.now v l stood) (λ v l stood. c.shown.ensures ∙ g.met.D.Desk.shows c.perform-came.new.desk v l stood))
+    (is_shown (g.D.Desk.standing c.args.desk.now) c.shown-before.ensures refl (g.met.D.Desk.shows c.args.desk.now)) (is_shown (g.D.Desk.standing c.perform-came.new.desk) c.shown.ensures (ap g.D.Desk.forgotten c.perform-came.ensures.home) (g.met.D.Desk.shows c.perform-came.new.desk)))
     c.push_events.ensures.added c.push_events.ensures.room
 
 pub returns-in-Some-clause-answers : goal.returns-in-Some-clause-answers
 returns-in-Some-clause-answers g c = answers_said (λ found. IsNamedFor (g.D.Desk.standing c.args.desk.now).seat.profile (g.O.Door.answers c.args.door.now c.perform-came.new.door) (c.perform-came.new.door ≡ c.args.door.now) (request_made (what_of c.args.task) c.args.meant) found) (what_of c.args.task) c.args.meant c.perform-came.result.0 (cached c.args.cache.now) (cached c.perform-came.new.cache) c.args.out.now c.push_events.new.out c.push.new.self c.shown-before.result.now c.shown.result.now
     c.in-Some.said c.actor.result c.in-Some.is c.actor.ensures c.perform-came.ensures.performs.0 c.perform-came.ensures.performs.1
-    (λ v l stood. c.shown-before.ensures ∙ g.met.D.Desk.shows c.args.desk.now v l stood) (λ v l stood. c.shown.ensures ∙ g.met.D.Desk.shows c.perform-came.new.desk v l stood)
+    (is_shown (g.D.Desk.standing c.args.desk.now) c.shown-before.ensures refl (g.met.D.Desk.shows c.args.desk.now)) (is_shown (g.D.Desk.standing c.perform-came.new.desk) c.shown.ensures (ap g.D.Desk.forgotten c.perform-came.ensures.home) (g.met.D.Desk.shows c.perform-came.new.desk))
     c.push_events.ensures.added c.push_events.ensures.room c.push.ensures.added c.push.ensures.size
 
 pub returns-in_default-clause-answers : goal.returns-in_default-clause-answers
 returns-in_default-clause-answers g c = answers_silent (λ found. IsNamedFor (g.D.Desk.standing c.args.desk.now).seat.profile (g.O.Door.answers c.args.door.now c.perform-came.new.door) (c.perform-came.new.door ≡ c.args.door.now) (request_made (what_of c.args.task) c.args.meant) found) (what_of c.args.task) c.args.meant c.perform-came.result.0 (cached c.args.cache.now) (cached c.perform-came.new.cache) c.args.out.now c.push_events.new.out c.shown-before.result.now c.shown.result.now
     c.in_default.is c.perform-came.ensures.performs.0 c.perform-came.ensures.performs.1
-    (λ v l stood. c.shown-before.ensures ∙ g.met.D.Desk.shows c.args.desk.now v l stood) (λ v l stood. c.shown.ensures ∙ g.met.D.Desk.shows c.perform-came.new.desk v l stood)
+    (is_shown (g.D.Desk.standing c.args.desk.now) c.shown-before.ensures refl (g.met.D.Desk.shows c.args.desk.now)) (is_shown (g.D.Desk.standing c.perform-came.new.desk) c.shown.ensures (ap g.D.Desk.forgotten c.perform-came.ensures.home) (g.met.D.Desk.shows c.perform-came.new.desk))
     c.push_events.ensures.added c.push_events.ensures.room

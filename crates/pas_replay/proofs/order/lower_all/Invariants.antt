@@ -1,17 +1,17 @@
 -- the keepers so far lowered their guards
-use Rattle.std.proofs.Common.{◌≡◌, ◌+◌, ◌-◌, ◌<◌, ◌++◌, ℕ, List, [], get_or, map}
+use Rattle.std.proofs.Common.{◌≡◌, ◌+◌, ◌-◌, ◌<◌, ℕ, [], get_or, map}
 use Rattle.pas_guard.specs.Books.{guards_in}
 use Rattle.pas_guard.specs.declared.book.GuardBook.{GuardBook}
-use Rattle.pas_trace.specs.Acts.{Act, Lowers, numbers_from}
+use Rattle.pas_trace.specs.Acts.{Lowers, numbers_from}
 use Rattle.pas_answers.specs.declared.names.Names.{Names}
-use Rattle.pas_replay.specs.Sessions.{Replay, SoFarAt, session}
+use Rattle.pas_replay.specs.Sessions.{Replay, Left, SoFarAt, session, upon}
 use Rattle.pas_replay.proofs.order.lower_all.Given as goal
 
 abbrev pub invariant-loop-index : goal.invariant-loop-index
 invariant-loop-index l = record {
-  far : (table : Names) (r : Replay) (more : List Act)
-      → SoFarAt r (map Lowers (numbers_from (r.threads + 1) r.keepers) ++ more) (session l.fn.desk l.fn.actors table l.fn.out)
-      → SoFarAt r (map Lowers (numbers_from (r.threads + (l.index + 1)) (r.keepers - l.index)) ++ more) (session l.desk l.actors table l.out);
+  far : (table : Names) (r : Replay) (more : Left)
+      → SoFarAt r (upon r (map Lowers (numbers_from (r.threads + 1) r.keepers)) more) (session l.fn.desk l.fn.actors table l.fn.out)
+      → SoFarAt r (upon r (map Lowers (numbers_from (r.threads + (l.index + 1)) (r.keepers - l.index))) more) (session l.desk l.actors table l.out);
   caches : l.actors.caches ≡ l.fn.actors.caches;
   lowered : (j : ℕ) (d : GuardBook) → j < l.index → guards_in (get_or l.actors.books.items j d) ≡ [];
 }

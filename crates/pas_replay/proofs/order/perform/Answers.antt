@@ -28,7 +28,7 @@ own-requires g c =
     let so0 = c.requires.so_far in
     let so = as_first so0.1 (acts_as_own (idle_in c.args.awake so0.0.threads) c.args.op c.work.ensures c.in-Own.is) so0.2 in
     let asks = own_what c.args.op.what c.in-Own.task (sym c.work.ensures ∙ c.in-Own.is) in
-    let of = own_actor (keeper_of c.in-Own.task) c.args.op so.1 in
+    let of = own_actor (keeper_of c.in-Own.task) c.args.op so0.1 so.1 in
     record { some = of.0; thread = subst (λ (n : ℕ). c.args.op.actor ≤ n) (sym so.1.1.many) of.1; so_far = (c.args.op, refl, asks, (so0.0, so0.1, so)) }
 
 pub returns-in-Own-clause-so_far : goal.returns-in-Own-clause-so_far

@@ -1,18 +1,18 @@
 -- the threads so far read the epoch where they are active
-use Rattle.std.proofs.Common.{◌≡◌, ◌+◌, ◌-◌, ◌++◌, List, length, map}
+use Rattle.std.proofs.Common.{◌≡◌, ◌+◌, ◌-◌, length, map}
 use Rattle.std.specs.List.{filter}
 use Rattle.pas_bits.specs.Masks.{is_set}
 use Rattle.pas_report.specs.Rooms.{Records}
-use Rattle.pas_trace.specs.Acts.{Act, Wakes, numbers_from}
+use Rattle.pas_trace.specs.Acts.{Wakes, numbers_from}
 use Rattle.pas_acts.specs.Awake.{awake_in}
-use Rattle.pas_replay.specs.Sessions.{Replay, SoFarAt, session}
+use Rattle.pas_replay.specs.Sessions.{Replay, Left, SoFarAt, session, upon}
 use Rattle.pas_answers.specs.declared.names.Names.{Names}
 use Rattle.pas_replay.proofs.order.wake_all.Given as goal
 
 abbrev pub invariant-loop-index : goal.invariant-loop-index
 invariant-loop-index l = record {
-  far : (r : Replay) (more : List Act) (table : Names) (out : Records)
-      → SoFarAt r (map Wakes (awake_in l.awake r.threads) ++ more) (session l.fn.desk l.fn.actors table out)
-      → SoFarAt r (map Wakes (filter (is_set l.awake) (numbers_from (l.index + 1) (r.threads - l.index))) ++ more) (session l.desk l.actors table out);
+  far : (r : Replay) (more : Left) (table : Names) (out : Records)
+      → SoFarAt r (upon r (map Wakes (awake_in l.awake r.threads)) more) (session l.fn.desk l.fn.actors table out)
+      → SoFarAt r (upon r (map Wakes (filter (is_set l.awake) (numbers_from (l.index + 1) (r.threads - l.index)))) more) (session l.desk l.actors table out);
   threads : length l.actors.caches.items ≡ length l.fn.actors.caches.items;
 }

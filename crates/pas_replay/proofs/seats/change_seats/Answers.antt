@@ -2,8 +2,8 @@ use Rattle.std.proofs.Common.{None, Some, ap, sym, ◌∙◌, subst, set}
 use Rattle.std.proofs.lemmas.{List.get_or_default, Option.same_Some}
 use Rattle.pas_plain.specs.Plain.{actor_of}
 use Rattle.pas_plain.specs.declared.pass.PlainPass.{PlainPass}
-use Rattle.pas_replay.specs.Sessions.{TakesSeat}
-use Rattle.pas_replay.proofs.Turns.{pass_there, seat_taken}
+use Rattle.pas_replay.specs.Sessions.{ChangesSeats}
+use Rattle.pas_replay.proofs.Turns.{pass_there, seats_changed}
 use Rattle.pas_replay.proofs.seats.change_seats.Goals as goal
 
 pub returns : goal.returns
@@ -13,5 +13,5 @@ returns c =
     let may = c.requires.may in
     let has = sym (c.take.ensures.value ∙ c.index_mut.ensures.value ∙ get_or_default passes k c.index_mut.result.now None may.place) ∙ c.in-Some.is in
     let own = same_Some _ _ (sym has ∙ pass_there c.args.desk.now passes k c.requires.other may) in
-    subst (λ (p : PlainPass). TakesSeat c.args.desk.now c.replace-risen.new.self passes (set (set passes k c.take.new.self) c.actor-place.result (Some p)) k) (sym c.replace-risen.ensures.risen)
-    (seat_taken k c.actor-place.result c.take.new.self c.actor-place.ensures c.requires.other has (ap actor_of own ∙ may.own.actor_is) c.replace-risen.ensures.region c.replace-risen.ensures.pass)
+    subst (λ (p : PlainPass). ChangesSeats c.args.desk.now c.replace-risen.new.self passes (set (set passes k c.take.new.self) c.actor-place.result (Some p)) k) (sym c.replace-risen.ensures.risen)
+    (seats_changed k c.actor-place.result c.take.new.self c.actor-place.ensures c.requires.other has (ap actor_of own ∙ may.own.actor_is) c.replace-risen.ensures.region c.replace-risen.ensures.pass)

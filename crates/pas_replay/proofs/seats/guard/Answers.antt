@@ -1,17 +1,20 @@
-use Rattle.std.proofs.Common.{◌∙◌, ◌++◌, ◌∷◌, ℕ, Option, Some, ap, sym, subst}
+use Rattle.std.proofs.Common.{◌∙◌, ◌++◌, [], ◌∷◌, ℕ, Option, Some, ap, sym, subst}
 use Rattle.pas_trace.specs.{Acts.Settles, Asked.request_of, Asked.request_in}
 use Rattle.pas_trace.specs.declared.{item.Request.Request, plan.What.What}
-use Rattle.pas_answers.specs.{Calls.Tells, Calls.what_of, Calls.named_with, Fit.IsFitWhat, Names.names_held}
+use Rattle.pas_answers.specs.{Calls.Tells, Calls.what_of, Calls.named_with, Fit.IsFitWhat, Names.names_held, Names.MayPack}
 use Rattle.pas_replay.specs.Sessions.{HasNamed}
-use Rattle.pas_replay.proofs.ActsInOrder.{as_acts}
+use Rattle.pas_replay.proofs.ActsInOrder.{as_first}
 use Rattle.pas_replay.proofs.seats.guard.Goals as goal
 
-pub keep-requires : goal.keep-requires
-keep-requires g c =
+pub keep-requires-clause-fit : goal.keep-requires-clause-fit
+keep-requires-clause-fit g c =
     let so0 = c.requires.so_far in
     let f = so0.3.0.profile in
     let names = so0.3.2.1.1.names in
-    record { fit = (f, names.asked, subst (λ (w : What). IsFitWhat f (names_held c.args.names.now) names.asked w) (so0.2 ∙ ap what_of (sym c.task.ensures)) names.fit.3) }
+    (f, names.asked, subst (λ (w : What). IsFitWhat f (names_held c.args.names.now) names.asked w) (so0.2 ∙ ap what_of (sym c.task.ensures)) names.fit.3)
+
+pub keep-requires-clause-packs : goal.keep-requires-clause-packs
+keep-requires-clause-packs g c = subst MayPack c.in-Some.is c.try_by.ensures.packs
 
 pub operate-requires-clause-so_far : goal.operate-requires-clause-so_far
 operate-requires-clause-so_far g c =
@@ -26,7 +29,7 @@ returns-in-Some-clause-so_far g c op mine is r more so =
       tells = λ known tells. subst (λ (o : Option Request). Tells c.keep.new.names (named_with o (Some c.in-Some.block) ++ known)) asks (c.keep.ensures.tells known tells);
       stand = c.keep.ensures.stand;
     } in
-    c.settle.ensures.so_far c.try_by.new.desk c.keep.new.names c.try_by.new.out r more (as_acts (ap (λ (k : ℕ). Settles k ∷ more) mine) (c.in-Some.ensures.tried op c.args.names.now mine is r more c.keep.new.names named so))
+    c.settle.ensures.so_far c.try_by.new.desk c.keep.new.names c.try_by.new.out r more (as_first more (ap (λ (k : ℕ). Settles k ∷ []) mine) (c.in-Some.ensures.tried op c.args.names.now mine is r more c.keep.new.names named so))
 
 pub returns-in-None-clause-so_far : goal.returns-in-None-clause-so_far
 returns-in-None-clause-so_far g c op mine is r more so =

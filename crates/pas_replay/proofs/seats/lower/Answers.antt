@@ -13,7 +13,7 @@ lower_all-requires c =
     let so = so0.2.1 in
     let many = so.1.many in
     let place = c.requires.keeper in
-    record { stands = (so0.0.profile, c.args.keeper, _, so.0, keeper_closes c.args.keeper c.args.actor c.index_mut-book.result.now (omega (arith, place, many)) c.requires.some c.requires.thread c.take_seat.ensures c.index_mut-book.ensures.value so.1) }
+    record { stands = (so0.0.profile, c.args.keeper, _, so.0, keeper_closes c.args.keeper c.args.actor c.index_mut-book.result.now so0.1 (omega (arith, place, many)) c.requires.some c.requires.thread c.take_seat.ensures c.index_mut-book.ensures.value so.1) }
 
 pub returns-clause-book : goal.returns-clause-book
 returns-clause-book c =
@@ -21,12 +21,12 @@ returns-clause-book c =
     let so = so0.2.1 in
     let many = so.1.many in
     let place = c.requires.keeper in
-    let did = c.lower_all.ensures.lowers so0.0.profile c.args.keeper _ so.0 (keeper_closes c.args.keeper c.args.actor c.index_mut-book.result.now (omega (arith, place, many)) c.requires.some c.requires.thread c.take_seat.ensures c.index_mut-book.ensures.value so.1) in
+    let did = c.lower_all.ensures.lowers so0.0.profile c.args.keeper _ so.0 (keeper_closes c.args.keeper c.args.actor c.index_mut-book.result.now so0.1 (omega (arith, place, many)) c.requires.some c.requires.thread c.take_seat.ensures c.index_mut-book.ensures.value so.1) in
     (c.lower_all.new.book, refl, did.none)
 
 pub returns-clause-so_far : goal.returns-clause-so_far
 returns-clause-so_far c table r more (taken, (p, at)) =
     let place : c.args.keeper ≡ r.threads + c.args.actor = omega (arith, c.requires.keeper, at.many) in
-    let did = c.lower_all.ensures.lowers r.profile c.args.keeper _ p (keeper_closes c.args.keeper c.args.actor c.index_mut-book.result.now place c.requires.some c.requires.thread c.take_seat.ensures c.index_mut-book.ensures.value at) in
+    let did = c.lower_all.ensures.lowers r.profile c.args.keeper _ p (keeper_closes c.args.keeper c.args.actor c.index_mut-book.result.now more place c.requires.some c.requires.thread c.take_seat.ensures c.index_mut-book.ensures.value at) in
     let so = lower_turn c.args.keeper c.args.actor c.index_mut-book.result.now c.lower_all.new.book place c.requires.some c.requires.thread c.take_seat.ensures c.index_mut-book.ensures.value at did in
     (so.0, (did.reached, so.1))

@@ -2,7 +2,7 @@ use Rattle.std.proofs.Common.{◌-◌, ◌++◌, ◌∙◌, subst, arith, length
 use Rattle.pas_trace.specs.declared.plan.What.{What}
 use Rattle.pas_profile.specs.declared.profile.Profile.{Profile}
 use Rattle.pas_answers.specs.{Calls.Tells, Calls.MayStand, Fit.IsFitWhat, Names.block_named, Names.names_held}
-use Rattle.pas_answers.proofs.Kept.{freed_task, named_task}
+use Rattle.pas_answers.proofs.{Kept.freed_task, Kept.named_task, Meanings.may_pack}
 use Rattle.pas_replay.proofs.{Turning.may_take_seat, ByActors.may_operate, ByActors.operate_turn, Doors.written_back}
 use Rattle.pas_replay.proofs.seats.operate.Goals as goal
 
@@ -13,20 +13,23 @@ pub operate_by-came-requires : goal.operate_by-came-requires
 operate_by-came-requires g c =
     let so0 = c.requires.so_far in
     let so = so0.3.2.1 in
-    record { stands = (so0.3.0.profile, so0.0, _, so.0, so0.2, may_operate c.args.actor c.index_mut-cache.result.now so0.1 so0.2 c.requires.some c.requires.thread c.take_seat.ensures c.index_mut-cache.ensures.value (c.freed-meant.ensures ∙ freed_task (block_named c.args.names.now) c.args.task) so.1) }
+    record { stands = (so0.3.0.profile, so0.0, _, so.0, so0.2, may_operate c.args.actor c.index_mut-cache.result.now so0.3.1 so0.1 so0.2 c.requires.some c.requires.thread c.take_seat.ensures c.index_mut-cache.ensures.value (c.freed-meant.ensures ∙ freed_task (block_named c.args.names.now) c.args.task) so.1) }
 
-pub keep-requires : goal.keep-requires
-keep-requires g c =
+pub keep-requires-clause-fit : goal.keep-requires-clause-fit
+keep-requires-clause-fit g c =
     let so0 = c.requires.so_far in
     let names = so0.3.2.1.1.names in
-    record { fit = (so0.3.0.profile, names.asked, subst (λ (w : What). IsFitWhat so0.3.0.profile (names_held c.args.names.now) names.asked w) so0.2 names.fit.1) }
+    (so0.3.0.profile, names.asked, subst (λ (w : What). IsFitWhat so0.3.0.profile (names_held c.args.names.now) names.asked w) so0.2 names.fit.1)
+
+pub keep-requires-clause-packs : goal.keep-requires-clause-packs
+keep-requires-clause-packs g c = may_pack _ c.operate_by-came.result c.take_seat.new.desk.region.valid c.operate_by-came.ensures.stands
 
 pub returns-clause-threads : goal.returns-clause-threads
 returns-clause-threads g c = length-set c.args.actors.now.caches.items (c.args.actor - 1) c.operate_by-came.new.cache
 
 pub returns-clause-so_far : goal.returns-clause-so_far
 returns-clause-so_far g c op mine asks r more (taken, (p, at)) =
-    let may = may_operate c.args.actor c.index_mut-cache.result.now mine asks c.requires.some c.requires.thread c.take_seat.ensures c.index_mut-cache.ensures.value (c.freed-meant.ensures ∙ freed_task (block_named c.args.names.now) c.args.task) at in
+    let may = may_operate c.args.actor c.index_mut-cache.result.now more mine asks c.requires.some c.requires.thread c.take_seat.ensures c.index_mut-cache.ensures.value (c.freed-meant.ensures ∙ freed_task (block_named c.args.names.now) c.args.task) at in
     let did = c.operate_by-came.ensures.operates r.profile op _ p asks may in
     let came = subst (λ (f : Profile). MayStand f c.operate_by-came.result) may.rests.sits.profile c.operate_by-came.ensures.stands in
     let acts = written_back c.args.actors.now.indexes.items c.args.actors.now.indexes.len c.deref_mut.ensures.value c.deref_mut.ensures.len did in

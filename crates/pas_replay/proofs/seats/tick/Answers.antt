@@ -11,10 +11,10 @@ tick-requires-clause-epoch c = c.requires.so_far.1.2.1.1.names.fit.0
 pub tick-requires-clause-stands : goal.tick-requires-clause-stands
 tick-requires-clause-stands c =
     let so0 = c.requires.so_far.1 in
-    (so0.0.profile, _, so0.2.1.0, scavenger_now c.take_seat.ensures so0.2.1.1)
+    (so0.0.profile, _, so0.2.1.0, scavenger_now so0.1 c.take_seat.ensures so0.2.1.1)
 
 pub returns-clause-so_far : goal.returns-clause-so_far
 returns-clause-so_far c table r more (taken, (p, at)) =
-    let did = c.tick.ensures.ticks r.profile _ p (scavenger_now c.take_seat.ensures at) in
+    let did = c.tick.ensures.ticks r.profile _ p (scavenger_now more c.take_seat.ensures at) in
     let so = scavenger_turn c.take_seat.ensures (λ limit asked fit. fit.1) (λ indexes p q is. (refl, tt)) at did refl in
     (so.0, (did.reached, so.1))

@@ -10,13 +10,13 @@ pub begin-requires : goal.begin-requires
 begin-requires c =
     let so0 = c.requires.so_far in
     let so = so0.2.2.1 in
-    record { rests = (so0.2.0.profile, c.args.actor, so0.1, _, so.0, rests_now c.args.actor 0 c.index_mut-cache.result.now c.requires.some c.requires.thread refl refl c.take_seat.ensures c.index_mut-cache.ensures.value so.1) }
+    record { rests = (so0.2.0.profile, c.args.actor, so0.1, _, so.0, rests_now c.args.actor 0 c.index_mut-cache.result.now so0.2.1 c.requires.some c.requires.thread refl refl c.take_seat.ensures c.index_mut-cache.ensures.value so.1) }
 
 pub returns-clause-threads : goal.returns-clause-threads
 returns-clause-threads c = length-set c.args.actors.now.caches.items (c.args.actor - 1) c.begin.new.cache
 
 pub returns-clause-so_far : goal.returns-clause-so_far
 returns-clause-so_far c table out r more (taken, (p, at)) =
-    let did = (c.begin.ensures.begins r.profile c.args.actor out _ p (rests_now c.args.actor 0 c.index_mut-cache.result.now c.requires.some c.requires.thread refl refl c.take_seat.ensures c.index_mut-cache.ensures.value at)).0 in
+    let did = (c.begin.ensures.begins r.profile c.args.actor out _ p (rests_now c.args.actor 0 c.index_mut-cache.result.now more c.requires.some c.requires.thread refl refl c.take_seat.ensures c.index_mut-cache.ensures.value at)).0 in
     let so = act_turn c.args.actor c.index_mut-cache.result.now c.begin.new.cache c.requires.some c.requires.thread (λ limit asked fit. fit) (λ indexes p q is. (refl, tt)) c.take_seat.ensures c.index_mut-cache.ensures.value at did (omega arith) (sym (append-nil (records_in out))) refl in
     (so.0, (did.reached, so.1))

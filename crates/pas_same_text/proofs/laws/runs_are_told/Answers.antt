@@ -1,5 +1,5 @@
 -- Runs of pages.
-use Rattle.pas_same_text.proofs.RunsSame.{whole_page, page_whole, usable_page, page_usable, lowest_found, none_lowest, named_whole, whole_named}
+use Rattle.pas_same_text.proofs.SearchedPages.{whole_page, page_whole, usable_page, page_usable, lowest_found, none_lowest, named_whole, whole_named}
 use Rattle.pas_same_text.proofs.laws.runs_are_told.Goals as goal
 
 pub returns-clause-whole : goal.returns-clause-whole

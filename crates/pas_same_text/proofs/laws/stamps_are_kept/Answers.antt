@@ -1,6 +1,6 @@
 -- Stamps between acts.
 use Rattle.std.proofs.Common.{refl}
-use Rattle.pas_same_text.proofs.Stamped.{stamped_kept, stamps_told}
+use Rattle.pas_same_text.proofs.SeatedActs.{stamped_kept, stamps_told}
 use Rattle.pas_same_text.proofs.laws.stamps_are_kept.Goals as goal
 
 pub returns-clause-start : goal.returns-clause-start

@@ -1,5 +1,5 @@
 -- States of the text beside words and views.
-use Rattle.pas_same_text.proofs.{FreeGrains.free_same, KeptPages.keeper, KeptPages.kept_by, RestingPages.is_opened, RestingPages.offered_bit}
+use Rattle.pas_same_text.proofs.{FreeGrains.free_same, FreeGrains.keeper, FreeGrains.kept_by, RestingPages.is_opened, RestingPages.offered_bit}
 use Rattle.pas_same_text.proofs.{RestingPages.bit_offered}
 use Rattle.pas_same_text.proofs.laws.states_are_told.Goals as goal
 

@@ -1,5 +1,5 @@
 -- The text of a state.
-use Rattle.pas_same_text.proofs.WholeText.{text_told}
+use Rattle.pas_same_text.proofs.AllActs.{text_told}
 use Rattle.pas_same_text.proofs.laws.texts_are_told.Goals as goal
 
 pub returns : goal.returns

@@ -7,25 +7,38 @@ pub find_page-requires-clause-can : goal.find_page-requires-clause-can
 find_page-requires-clause-can g c = room_to_search c.requires.can
 
 pub give-block-requires-clause-some : goal.give-block-requires-clause-some
-give-block-requires-clause-some g c = (is_run (g.C.Choosing.choice c.args.pages.now.0) (g.C.ChoosingRun.run c.args.pages.now.0) (g.met.C.ChoosingRun.is_run c.args.pages.now.0) c.requires.suits.0 c.args.directory c.requires.directory c.in-Ok.served c.in-Ok.ensures.searches.adds c.in-Ok.ensures.searches.outcome c.run-run.result c.run-run.ensures).some
+give-block-requires-clause-some g c = let searches = c.in-Ok.ensures.searches in
+    (is_run (g.P.Placing.placement c.args.pages.now.0) (g.met.P.Placing.is_placement c.args.pages.now.0) c.requires.suits.0 c.args.directory
+    c.requires.directory c.in-Ok.served searches.adds searches.outcome).some
 
 pub give-block-requires-clause-within : goal.give-block-requires-clause-within
-give-block-requires-clause-within g c = run_within (g.C.Choosing.choice c.args.pages.now.0) (g.C.ChoosingRun.run c.args.pages.now.0) (g.met.C.ChoosingRun.is_run c.args.pages.now.0) c.requires.suits.0 c.args.directory c.requires.directory c.in-Ok.served c.in-Ok.ensures.searches.adds c.in-Ok.ensures.searches.outcome c.run-run.result c.run-run.ensures
+give-block-requires-clause-within g c = let searches = c.in-Ok.ensures.searches in
+    run_within (g.P.Placing.placement c.args.pages.now.0) (g.met.P.Placing.is_placement c.args.pages.now.0) c.requires.suits.0 c.args.directory
+    c.requires.directory c.in-Ok.served searches.adds searches.outcome
 
 pub give-block-requires-clause-can : goal.give-block-requires-clause-can
-give-block-requires-clause-can g c = can_give (g.C.Choosing.choice c.args.pages.now.0) (g.C.ChoosingRun.run c.args.pages.now.0) (g.met.C.ChoosingRun.is_run c.args.pages.now.0) c.requires.suits.0 c.args.directory c.requires.directory c.in-Ok.served c.in-Ok.ensures.searches.adds c.in-Ok.ensures.searches.outcome c.run-run.result c.run-run.ensures c.requires.can
+give-block-requires-clause-can g c = let searches = c.in-Ok.ensures.searches in
+    can_give (g.P.Placing.placement c.args.pages.now.0) (g.met.P.Placing.is_placement c.args.pages.now.0) c.requires.suits.0 c.args.directory
+    c.requires.directory c.in-Ok.served searches.adds searches.outcome c.requires.can
 
 pub give-block-requires-clause-room : goal.give-block-requires-clause-room
-give-block-requires-clause-room g c = room_to_give (g.C.Choosing.choice c.args.pages.now.0) (g.C.ChoosingRun.run c.args.pages.now.0) (g.met.C.ChoosingRun.is_run c.args.pages.now.0) c.requires.suits.0 c.args.directory c.requires.directory c.in-Ok.served c.in-Ok.ensures.searches.adds c.in-Ok.ensures.searches.outcome c.run-run.result c.run-run.ensures (one_deed (g.C.Choosing.choice c.args.pages.now.0) c.args.directory c.in-Ok.served c.in-Ok.ensures.searches) (g.met.D.Desk.spares c.args.desk.now) (g.met.D.Desk.spares c.find_page.new.desk) c.requires.can
+give-block-requires-clause-room g c = let searches = c.in-Ok.ensures.searches in let p = g.P.Placing.placement c.args.pages.now.0 in
+    room_to_give p (g.met.P.Placing.is_placement c.args.pages.now.0) c.requires.suits.0 c.args.directory c.requires.directory c.in-Ok.served
+    searches.adds searches.outcome (one_deed p c.args.directory c.in-Ok.served searches) (g.met.D.Desk.spares c.args.desk.now)
+    (g.met.D.Desk.spares c.find_page.new.desk) c.requires.can
 
 pub leave-requires-clause-can : goal.leave-requires-clause-can
-leave-requires-clause-can g c = can_leave (g.C.Choosing.choice c.args.pages.now.0) (g.C.ChoosingRun.run c.args.pages.now.0) (g.met.C.ChoosingRun.is_run c.args.pages.now.0) c.requires.suits.0 c.args.directory c.requires.directory c.in-Ok.served c.in-Ok.ensures.searches.adds c.in-Ok.ensures.searches.outcome c.run-run.result c.run-run.ensures c.give-block.result c.give-block.ensures.gives c.requires.can
+leave-requires-clause-can g c = let searches = c.in-Ok.ensures.searches in
+    can_leave (g.P.Placing.placement c.args.pages.now.0) (g.met.P.Placing.is_placement c.args.pages.now.0) c.requires.suits.0 c.args.directory
+    c.requires.directory c.in-Ok.served searches.adds searches.outcome c.give-block.result c.give-block.ensures.gives c.requires.can
 
 pub returns-in-Ok-clause-allocates : goal.returns-in-Ok-clause-allocates
-returns-in-Ok-clause-allocates g c = allocates (g.C.Choosing.choice c.args.pages.now.0) (g.C.ChoosingRun.run c.args.pages.now.0) (g.met.C.ChoosingRun.is_run c.args.pages.now.0) c.requires.suits.0 c.args.directory c.requires.directory c.in-Ok.served c.in-Ok.ensures.searches c.run-run.result c.run-run.ensures c.give-block.result c.give-block.ensures.gives c.leave.ensures.leaves
+returns-in-Ok-clause-allocates g c =
+    allocates (g.P.Placing.placement c.args.pages.now.0) (g.met.P.Placing.is_placement c.args.pages.now.0) c.requires.suits.0 c.args.directory
+    c.requires.directory c.in-Ok.served c.in-Ok.ensures.searches c.give-block.result c.give-block.ensures.gives c.leave.ensures.leaves
 
 pub returns-in-Err-clause-allocates : goal.returns-in-Err-clause-allocates
-returns-in-Err-clause-allocates g c = refuses (g.C.Choosing.choice c.args.pages.now.0) (g.C.ChoosingRun.run c.args.pages.now.0) c.args.directory c.in-Err.room c.in-Err.ensures.searches
+returns-in-Err-clause-allocates g c = refuses (g.P.Placing.placement c.args.pages.now.0) c.args.directory c.in-Err.room c.in-Err.ensures.searches
 
 pub returns-in-Ok-clause-rests : goal.returns-in-Ok-clause-rests
 returns-in-Ok-clause-rests g c can = can_ask_again c.args.directory (Ok _) (returns-in-Ok-clause-allocates g c) can

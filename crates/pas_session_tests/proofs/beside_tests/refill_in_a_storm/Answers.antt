@@ -2,12 +2,12 @@ use Rattle.std.proofs.Common.{[], ◌++◌, ap, ◌∙◌, arith}
 use Rattle.pas_plain.specs.{Plain.profile_of, Storms.storm_of}
 use Rattle.pas_segregated.specs.Stops.{class_directory}
 use Rattle.pas_steps.specs.Desks.{Seat}
-use Rattle.pas_session_tests.proofs.Besides.{may_search}
-use Rattle.pas_session_tests.proofs.Stormed.{fresh, of_heap, room_left, may_refill}
+use Rattle.pas_session_tests.proofs.{Besides.may_search, Stormed.of_heap, Stormed.room_left, Stormed.may_refill}
+use Rattle.pas_trials.proofs.Opened.{storm_stands}
 use Rattle.pas_session_tests.proofs.beside_tests.refill_in_a_storm.Goals as goal
 
 pub storm-storm-requires : goal.storm-storm-requires
-storm-storm-requires c = let parts = c.into_parts-region.ensures in record { view = []; whole = []; stands = fresh parts.region parts.pass c.requires.opens }
+storm-storm-requires c = let parts = c.into_parts-region.ensures in record { view = []; whole = []; stands = storm_stands c.requires.opens parts.region parts.pass }
 
 pub fill-requires : goal.fill-requires
 fill-requires c =
@@ -24,7 +24,7 @@ fill-requires c =
 pub returns-clause-storm : goal.returns-clause-storm
 returns-clause-storm c =
     let parts = c.into_parts-region.ensures in
-    let begun = c.storm-storm.ensures.stands [] [] [] (fresh parts.region parts.pass c.requires.opens) in
+    let begun = c.storm-storm.ensures.stands [] [] [] (storm_stands c.requires.opens parts.region parts.pass) in
     let filled = c.fill.ensures.steps in
     let after = c.into_parts-region-2.ensures.stands (filled.steps ++ []) [] (filled.adds.added [] [] begun (may_search (class_directory 0 1))) in
     (filled.steps ++ [], after.0, after.1)

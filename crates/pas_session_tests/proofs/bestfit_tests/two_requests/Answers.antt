@@ -1,10 +1,10 @@
-use Rattle.std.proofs.Common.{ℕ, [], ◌++◌, refl, Bool, Result}
+use Rattle.std.proofs.Common.{ℕ, [], ◌++◌, refl, Bool, Result, arith}
 use Rattle.pas_bestfit.specs.Allocates.{bestfit_directory, Allocates}
 use Rattle.pas_profile.specs.declared.{event.NoRoom.NoRoom, name.Block.Block}
 use Rattle.pas_search.specs.Searches.{MaySearch}
 use Rattle.pas_steps.specs.Desks.{Standing}
 use Rattle.pas_trials.specs.Filling.{Steps}
-use Rattle.pas_session_tests.proofs.Besides.{may_search, beside_then, waits_then, seated_then, rests_beside, others_then}
+use Rattle.pas_session_tests.proofs.Besides.{may_search, seated_may_search, beside_then, waits_then, seated_then, rests_beside, others_then}
 use Rattle.pas_session_tests.proofs.bestfit_tests.two_requests.Goals as goal
 
 steps_of : {heap bytes : ℕ} {tells : Bool} {σ σ' : Standing} {answer : Result Block NoRoom} → Allocates heap bytes tells σ σ' answer
@@ -14,6 +14,12 @@ steps_of allocates = record { steps = allocates.by_run.after ++ allocates.by_run
 pub change-desk-requires : goal.change-desk-requires
 change-desk-requires c = let o = c.in_ok-desk.ensures.opens in
     beside_then (steps_of c.alloc-first.ensures.allocates) c.in_ok-desk.pass [] [] o.stood (may_search (bestfit_directory 0)) o.rests o.other
+
+pub alloc-second-requires-clause-can : goal.alloc-second-requires-clause-can
+alloc-second-requires-clause-can c =
+    let o = c.in_ok-desk.ensures.opens in let d = bestfit_directory 0 in
+    let w = waits_then (steps_of c.alloc-first.ensures.allocates) c.in_ok-desk.pass [] [] o.stood (may_search d) o.rests o.other refl o.room_of o.room_of_other in
+    seated_may_search w c.change-desk.result.0 c.change-desk.ensures.region c.change-desk.ensures.seated d 2 (omega arith)
 
 pub close_both-requires : goal.close_both-requires
 close_both-requires c =

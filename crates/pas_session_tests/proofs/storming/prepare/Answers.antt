@@ -10,5 +10,6 @@ pub loop-errand-preserved : goal.loop-errand-preserved
 loop-errand-preserved c = let goes = c.go.ensures.goes in record {
   rest = rests_then c.loop-errand.invariant.rest goes;
   room = ap (λ (s : Seat). s.room) goes.rests.adds.seat_is ∙ c.loop-errand.invariant.room;
+  all = c.go.ensures.home ∙ c.loop-errand.invariant.all;
   profile = ap (λ (s : Seat). s.profile) goes.rests.adds.seat_is ∙ c.loop-errand.invariant.profile;
 }

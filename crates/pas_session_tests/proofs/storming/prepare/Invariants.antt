@@ -1,5 +1,5 @@
 use Rattle.std.proofs.Common.{◌≡◌}
-use Rattle.pas_plain.specs.{Plain.profile_of, Plain.room_of_pass, Seats.region_of, Seats.pass_of}
+use Rattle.pas_plain.specs.{Plain.profile_of, Plain.room_of_pass, Plain.forgotten_by, Seats.region_of, Seats.pass_of}
 use Rattle.pas_session_tests.specs.Seated.{RestsBeside}
 use Rattle.pas_trials.specs.Storms.{cache_of}
 use Rattle.pas_session_tests.proofs.storming.prepare.Given as goal
@@ -9,5 +9,6 @@ abbrev pub invariant-loop-errand : goal.invariant-loop-errand
 invariant-loop-errand l = record {
   rest : RestsBeside l.desk l.foreign (cache_of l.hands);
   room : room_of_pass (pass_of l.desk) ≡ 1000;
+  all : forgotten_by (pass_of l.desk) ≡ 0;
   profile : profile_of (region_of l.desk) ≡ profile_of (region_of l.initial.desk);
 }

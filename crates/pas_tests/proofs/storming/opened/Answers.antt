@@ -1,6 +1,6 @@
 use Rattle.std.proofs.Common.{ap, ◌∙◌}
 use Rattle.pas_plain.specs.Plain.{profile_of, room_of_pass}
-use Rattle.pas_tests.proofs.Beginning.{storm_stands}
+use Rattle.pas_trials.proofs.Opened.{storm_stands}
 use Rattle.pas_tests.proofs.storming.opened.Goals as goal
 
 pub returns : goal.returns

@@ -1,14 +1,15 @@
 use Rattle.std.proofs.Common.{rules, refl, ap, subst, inl, arith}
 use Rattle.pas_io.specs.Inputs.{IsInput}
 use Rattle.pas_telling.specs.{Outcomes.outcome_status, Outcomes.outcome_text, Calls.IsCall, Calls.IsMisread}
-use Rattle.pas_top.specs.{Manners.way_of, Outcomes.IsOutcome}
+use Rattle.pas_telling.specs.declared.manner.Manner.{Manner}
+use Rattle.pas_answers.specs.Ways.{OnThreads}
 use Rattle.pas_top.proofs.Summing.{gen_written, gen_cut_off, gen_sound, gen_summed}
-use Rattle.pas_top.specs.Outputs.{IsReplaying, IsChecking, IsAccepted, most_bytes, texts_of, usage_text, too_long_text}
-use Rattle.pas_top.proofs.Statuses.{cut_off, not_four, nothing_left, sound, written}
+use Rattle.pas_top.specs.Outputs.{IsReplaying, IsChecking, IsAccepted, IsOutput, most_bytes, texts_of, usage_text, too_long_text}
+use Rattle.pas_top.proofs.Statuses.{cut_off, not_four, sound, written}
 use Rattle.pas_top.proofs.Checks.{ended_status, ended_written, ended_failed, ended_cut_off, ended_sound, ended_long, ended_mistraced, ended_judged}
 use Rattle.pas_top.proofs.Checks.{ended_checked}
 use Rattle.pas_top.proofs.Headline.{can_write, outcome_output, too_long_output, status_not_four}
-use Rattle.pas_top.proofs.{OneText.written_told, Reading.outcome_as, main_call.pas_main.Goals.in-InOrder, main_call.pas_main.Goals.in-OnThreads}
+use Rattle.pas_top.proofs.{OneText.written_told, Ordering.order_written, Ordering.order_cut_off}
 use Rattle.pas_top.proofs.main_call.pas_main.Given as given
 use Rattle.pas_top.proofs.main_call.pas_main.Goals as goal
 
@@ -31,44 +32,44 @@ returns-in-Ok-TooLong-clause-sink_failed g c =
     cut_off _ _ _ _ _ _ too_long_text 6 c.tell-in-Ok-TooLong.result c.tell-in-Ok-TooLong.ensures
     (too_long_output _ _ _ asked (λ bytes told. let input = subst (IsInput most_bytes bytes) c.in-Ok-TooLong.field-0-is (c.in-Ok-TooLong.ensures.input bytes told) in input)) (λ e. omega (arith, e))
 
-pub tell_outcome-requires : goal.tell_outcome-requires
-tell_outcome-requires g c =
-    let is : IsOutcome (way_of c.in-Ok-Replay.manner) c.in-Ok-Whole.bytes.items c.in-Ok.outcome = elim c.match-manner.branch [
-      | in-InOrder w ↦ outcome_as _ _ _ _ _ _ _ w.in-InOrder.is w.replayed-is c.in-Ok.is w.replayed_in_order-replayed.ensures
-      | in-OnThreads w ↦ outcome_as _ _ _ _ _ _ _ w.in-OnThreads.is w.replayed-is c.in-Ok.is w.replayed_on_threads-replayed.ensures
-    ] in
-    let can = can_write (way_of c.in-Ok-Replay.manner) c.in-Ok-Whole.bytes.items c.in-Ok.outcome is in
-    search (rules, can)
+-- ---- a replay in the order of the text
+asked_in_order : (g : given.Over) (c : goal.After-order g) → IsReplaying Manner.InOrder (texts_of c.args.words.now)
+asked_in_order g c =
+    subst (λ (m : Manner). IsReplaying m (texts_of c.args.words.now)) c.in-InOrder.is (subst (IsCall (texts_of c.args.words.now)) c.in-Ok-Replay.field-0-is c.in-Ok-Replay.ensures.call)
 
--- what the input came to, whichever way it was replayed
-outcome_is : (g : given.Over) (c : goal.After-tell_outcome g) → IsOutcome (way_of c.in-Ok-Replay.manner) c.in-Ok-Whole.bytes.items c.in-Ok.outcome
-outcome_is g c =
-    elim c.match-manner.branch [
-      | in-InOrder w ↦ outcome_as _ _ _ _ _ _ _ w.in-InOrder.is w.replayed-is c.in-Ok.is w.replayed_in_order-replayed.ensures
-      | in-OnThreads w ↦ outcome_as _ _ _ _ _ _ _ w.in-OnThreads.is w.replayed-is c.in-Ok.is w.replayed_on_threads-replayed.ensures
-    ]
+pub returns-in-InOrder-clause-written : goal.returns-in-InOrder-clause-written
+returns-in-InOrder-clause-written g c writing = order_written c.order.ensures.told (texts_of c.args.words.now) (g.S.Source.rest c.args.source.now) (asked_in_order g c)
+    (λ bytes told. let input = subst (IsInput most_bytes bytes) c.in-Ok-Whole.field-0-is (c.in-Ok-Whole.ensures.input bytes told) in input) writing
+
+pub returns-in-InOrder-clause-text : goal.returns-in-InOrder-clause-text
+returns-in-InOrder-clause-text g c asked bytes told zero = written_told (texts_of c.args.words.now) (g.S.Source.rest c.args.source.now) _ _ c.order.result asked (returns-in-InOrder-clause-written g c (inl zero)) bytes told zero
+
+pub returns-in-InOrder-clause-sink_failed : goal.returns-in-InOrder-clause-sink_failed
+returns-in-InOrder-clause-sink_failed g c four = order_cut_off c.order.ensures.told (texts_of c.args.words.now) (g.S.Source.rest c.args.source.now) (asked_in_order g c)
+    (λ bytes told. let input = subst (IsInput most_bytes bytes) c.in-Ok-Whole.field-0-is (c.in-Ok-Whole.ensures.input bytes told) in input) four
+
+-- ---- a replay on threads
+pub tell_outcome-requires-after_bounds : goal.tell_outcome-requires-after_bounds
+tell_outcome-requires-after_bounds g c = let can = can_write OnThreads c.in-Ok-Whole.bytes.items c.in-Ok.outcome c.in-Ok.ensures in search (rules, can)
+
+output_on_threads : (g : given.Over) (c : goal.After-tell_outcome g)
+    → IsOutput (texts_of c.args.words.now) (g.S.Source.rest c.args.source.now) (outcome_status c.in-Ok.outcome) (outcome_text c.in-Ok.outcome)
+output_on_threads g c =
+    let asked : IsReplaying Manner.OnThreads (texts_of c.args.words.now) =
+    subst (λ (m : Manner). IsReplaying m (texts_of c.args.words.now)) c.in-OnThreads.is (subst (IsCall (texts_of c.args.words.now)) c.in-Ok-Replay.field-0-is c.in-Ok-Replay.ensures.call) in
+    outcome_output (texts_of c.args.words.now) (g.S.Source.rest c.args.source.now) c.in-Ok-Whole.bytes.items Manner.OnThreads c.in-Ok.outcome asked
+    (λ bytes told. let input = subst (IsInput most_bytes bytes) c.in-Ok-Whole.field-0-is (c.in-Ok-Whole.ensures.input bytes told) in input)
+    c.in-Ok.ensures
 
 pub returns-in-Ok-clause-written : goal.returns-in-Ok-clause-written
-returns-in-Ok-clause-written g c = λ writing.
-    let asked : IsReplaying c.in-Ok-Replay.manner (texts_of c.args.words.now) = subst (IsCall (texts_of c.args.words.now)) c.in-Ok-Replay.field-0-is c.in-Ok-Replay.ensures.call in
-    written _ _ _ _ _ _ (outcome_text c.in-Ok.outcome) (outcome_status c.in-Ok.outcome) c.tell_outcome.result c.tell_outcome.ensures
-    (outcome_output (texts_of c.args.words.now) (g.S.Source.rest c.args.source.now) c.in-Ok-Whole.bytes.items c.in-Ok-Replay.manner c.in-Ok.outcome asked
-    (λ bytes told. let input = subst (IsInput most_bytes bytes) c.in-Ok-Whole.field-0-is (c.in-Ok-Whole.ensures.input bytes told) in input)
-    (outcome_is g c))
-    (not_four c.tell_outcome.result writing)
-
-pub returns-in-Ok-clause-text : goal.returns-in-Ok-clause-text
-returns-in-Ok-clause-text g c asked bytes told zero = written_told (texts_of c.args.words.now) (g.S.Source.rest c.args.source.now) _ _ c.tell_outcome.result asked (returns-in-Ok-clause-written g c (inl zero)) bytes told zero
+returns-in-Ok-clause-written g c writing = written _ _ _ _ _ _ (outcome_text c.in-Ok.outcome) (outcome_status c.in-Ok.outcome) c.tell_outcome.result c.tell_outcome.ensures
+    (output_on_threads g c) (not_four c.tell_outcome.result writing)
 
 pub returns-in-Ok-clause-sink_failed : goal.returns-in-Ok-clause-sink_failed
 returns-in-Ok-clause-sink_failed g c =
-    let asked : IsReplaying c.in-Ok-Replay.manner (texts_of c.args.words.now) = subst (IsCall (texts_of c.args.words.now)) c.in-Ok-Replay.field-0-is c.in-Ok-Replay.ensures.call in
-    cut_off _ _ _ _ _ _ (outcome_text c.in-Ok.outcome) (outcome_status c.in-Ok.outcome) c.tell_outcome.result c.tell_outcome.ensures
-    (outcome_output (texts_of c.args.words.now) (g.S.Source.rest c.args.source.now) c.in-Ok-Whole.bytes.items c.in-Ok-Replay.manner c.in-Ok.outcome asked
-    (λ bytes told. let input = subst (IsInput most_bytes bytes) c.in-Ok-Whole.field-0-is (c.in-Ok-Whole.ensures.input bytes told) in input)
-    (outcome_is g c))
-    (status_not_four c.in-Ok.outcome)
+    cut_off _ _ _ _ _ _ (outcome_text c.in-Ok.outcome) (outcome_status c.in-Ok.outcome) c.tell_outcome.result c.tell_outcome.ensures (output_on_threads g c) (status_not_four c.in-Ok.outcome)
 
+-- ---- a summary
 pub returns-in-Ok-Gen-clause-summed : goal.returns-in-Ok-Gen-clause-summed
 returns-in-Ok-Gen-clause-summed g c seed ops threads pages asked never = gen_summed _ _ _ _ _ _ _ _ c.generate.result c.generate.ensures.told never
 
@@ -80,12 +81,6 @@ returns-in-Err-Usage-clause-sink_sound g c whole = sound _ _ _ _ usage_text 2 c.
 
 pub returns-in-Ok-TooLong-clause-sink_sound : goal.returns-in-Ok-TooLong-clause-sink_sound
 returns-in-Ok-TooLong-clause-sink_sound g c whole = sound _ _ _ _ too_long_text 6 c.tell-in-Ok-TooLong.result c.tell-in-Ok-TooLong.ensures whole
-
-pub returns-in-Ok-clause-sink_sound : goal.returns-in-Ok-clause-sink_sound
-returns-in-Ok-clause-sink_sound g c whole = sound _ _ _ _ (outcome_text c.in-Ok.outcome) (outcome_status c.in-Ok.outcome) c.tell_outcome.result c.tell_outcome.ensures whole
-
-pub returns-in-Ok-clause-ended : goal.returns-in-Ok-clause-ended
-returns-in-Ok-clause-ended g c reads bytes told either = nothing_left _ _ _ c.in-Ok-Whole.field-0-is (c.in-Ok-Whole.ensures.ended bytes told)
 
 -- ---- a check
 pub returns-in-Ok-Check-clause-status : goal.returns-in-Ok-Check-clause-status

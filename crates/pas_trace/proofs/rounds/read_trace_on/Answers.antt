@@ -1,4 +1,4 @@
-use Rattle.std.proofs.Common.{[]}
+use Rattle.std.proofs.Common.{[], ◌∙◌}
 use Rattle.std.proofs.lemmas.Result.{err_from_is_err_and}
 use Rattle.pas_trace.proofs.Reading.{read-planned, read-failed, planned-reading}
 use Rattle.pas_trace.proofs.rounds.read_trace_on.Goals as goal
@@ -7,15 +7,21 @@ pub returns-in_err-read_pieces : goal.returns-in_err-read_pieces
 returns-in_err-read_pieces g c =
     let p = err_from_is_err_and c.from_residual-in_err-read_pieces.result c.from_residual-in_err-read_pieces.ensures.1 in
     let b = c.in_ok-reader.ensures in
-    rw (p.1, p.2) (read-failed c.args.text.now c.in_ok-reader.rest.now c.in_ok-reader.reader c.read_pieces.new.reader _ b (c.in_err-read_pieces.ensures [] b.tells))
+    rw (p.1, p.2) (read-failed _ c.args.text.now c.in_ok-reader.rest.now c.in_ok-reader.reader c.read_pieces.new.reader _ b (c.in_err-read_pieces.ensures [] b.tells))
 
-pub planned-requires : goal.planned-requires
-planned-requires g c =
+pub planned-requires-clause-tells : goal.planned-requires-clause-tells
+planned-requires-clause-tells g c =
     let h = c.in_ok-read_pieces.ensures [] c.in_ok-reader.ensures.tells in
     (h.0, h.2)
+
+pub planned-requires-clause-gathers : goal.planned-requires-clause-gathers
+planned-requires-clause-gathers g c =
+    let b = c.in_ok-reader.ensures in
+    let h = c.in_ok-read_pieces.ensures [] b.tells in
+    h.4 ∙ b.gathers ∙ c.for_plan.ensures.scripting
 
 pub returns : goal.returns
 returns g c =
     let b = c.in_ok-reader.ensures in
     let h = c.in_ok-read_pieces.ensures [] b.tells in
-    planned-reading c.args.text.now c.read_pieces.new.reader c.planned.result (λ plan made. read-planned c.args.text.now c.in_ok-reader.rest.now c.in_ok-reader.reader c.read_pieces.new.reader plan b h made) c.planned.ensures
+    planned-reading c.args.text.now c.read_pieces.new.reader c.planned.result (λ plan made. read-planned _ c.args.text.now c.in_ok-reader.rest.now c.in_ok-reader.reader c.read_pieces.new.reader plan b h (made h.0 h.2)) c.planned.ensures

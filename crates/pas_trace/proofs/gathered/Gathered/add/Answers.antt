@@ -1,6 +1,6 @@
-use Rattle.std.proofs.Common.{arith, []}
-use Rattle.pas_trace.proofs.Gathering.{add_last-end}
+use Rattle.std.proofs.lemmas.Result.{on_ok_weaker}
+use Rattle.pas_trace.proofs.Gathering.{coded-added}
 use Rattle.pas_trace.proofs.gathered.Gathered.add.Goals as goal
 
-pub returns : goal.returns
-returns c = search (arith, add_last-end, c.push_reserved.ensures.items, c.reserve.ensures.items)
+pub returns-in-Coded : goal.returns-in-Coded
+returns-in-Coded c = on_ok_weaker c.add-in-Coded.result (coded-added c.args.op c.args.self.now c.in-Coded.coded c.add-in-Coded.new.self c.in-Coded.is) c.add-in-Coded.ensures

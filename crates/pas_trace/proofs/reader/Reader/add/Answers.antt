@@ -1,7 +1,8 @@
-use Rattle.std.proofs.Common.{ap, arith}
+use Rattle.std.proofs.Common.{ap, sym, subst, arith}
 use Rattle.std.proofs.lemmas.Result.{on_ok_weaker}
-use Rattle.pas_trace.specs.Reasons.{actor_of, guard_after, is_operation}
-use Rattle.pas_trace.proofs.Telling.{added_wish, added_chore, added_guard}
+use Rattle.pas_trace.specs.{Reasons.actor_of, Reasons.guard_after, Reasons.is_operation, Told.IsAdded}
+use Rattle.pas_trace.specs.declared.item.Item.{Item}
+use Rattle.pas_trace.proofs.Telling.{added_wish, added_chore, added_phase, added_guard}
 use Rattle.pas_trace.proofs.Adding.{small_actor, small_heap, ready_for, sample_for, guard_for, fit_for}
 use Rattle.pas_trace.proofs.reader.Reader.add.Goals as goal
 
@@ -43,10 +44,16 @@ returns-in-Operates c = search (arith, on_ok_weaker, added_wish, c.operate.ensur
 pub returns-in-Scavenges : goal.returns-in-Scavenges
 returns-in-Scavenges c = search (arith, on_ok_weaker, added_chore, c.what.ensures, c.count.ensures)
 
+pub returns-in-NextPhase : goal.returns-in-NextPhase
+returns-in-NextPhase c = search (arith, on_ok_weaker, added_phase, c.next_phase.ensures)
+
 pub begin_guarding-requires-clause-number : goal.begin_guarding-requires-clause-number
 begin_guarding-requires-clause-number c =
     let p = c.requires.tells in
     guard_for c.args.self.now p.0 c.args.item p.1 p.2 c.in-Guards.number c.in-Guards.is
 
 pub returns-in-Guards : goal.returns-in-Guards
-returns-in-Guards c = search (arith, added_guard, guard_for, c.begin_guarding.ensures)
+returns-in-Guards c =
+    let p = c.requires.tells in
+    let number = guard_for c.args.self.now p.0 c.args.item p.1 p.2 c.in-Guards.number c.in-Guards.is in
+    subst (λ (i : Item). IsAdded c.args.self.now c.begin_guarding.new.self i) (sym c.in-Guards.is) (added_guard c.args.self.now c.begin_guarding.new.self c.in-Guards.number number c.begin_guarding.ensures)

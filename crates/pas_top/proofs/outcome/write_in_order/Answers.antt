@@ -1,0 +1,14 @@
+use Rattle.pas_top.proofs.{Headline.can_show, Ordering.cut_in_lines, Ordering.report_told, Ordering.cut_in_report}
+use Rattle.pas_top.proofs.outcome.write_in_order.Goals as goal
+
+pub returns-then-failed : goal.returns-then-failed
+returns-then-failed g c = cut_in_lines c.write_lines_in_order-state.ensures c.if-failed.true
+
+pub report-requires : goal.report-requires
+report-requires g c = (can_show c.requires.plan.2 c.write_lines_in_order-state.ensures.shows).deeds
+
+pub returns-in-Ok : goal.returns-in-Ok
+returns-in-Ok g c = report_told c.write_lines_in_order-state.ensures c.if-failed.false c.in-Ok.ensures.whole c.in-Ok.ensures.sound
+
+pub returns : goal.returns
+returns g c = cut_in_report c.write_lines_in_order-state.ensures c.if-failed.false c.in-Err.ensures.front c.in-Err.ensures.failed

@@ -1,0 +1,21 @@
+use Rattle.std.proofs.Common.{◌≡◌, ◌+◌, ℕ, false, List, Option, None, Some, MatchOption, inl, inr, sym, ◌∙◌, subst, arith, true≢false}
+use Rattle.std.specs.Option.{is_some}
+use Rattle.std.proofs.lemmas.Bool.{cases_eq}
+use Rattle.pas_profile.specs.declared.name.Block.{Block}
+use Rattle.pas_steps.specs.declared.state.State.{State}
+use Rattle.pas_trials.specs.Judging.{IsSoundPage, HasFault}
+use Rattle.pas_trials.specs.declared.judging.Fault.{Fault}
+use Rattle.pas_trials.proofs.judging.judge.Goals as goal
+
+-- A page without a fault is sound.
+sound : (state : State) (live : List Block) (page : ℕ) (found : Option Fault) → is_some found ≡ false
+    → MatchOption found (IsSoundPage state live page) (HasFault state live page) → IsSoundPage state live page
+sound state live page None none met = met
+sound state live page (Some fault) none met = absurd (true≢false none)
+
+pub loop-before-preserved : goal.loop-before-preserved
+loop-before-preserved c page some within = elim (cases_eq page (c.loop-before.before + 1)) [
+  | inl same ↦ subst (λ n. IsSoundPage c.args.state.now c.args.live.now n) (sym same)
+      (sound c.args.state.now c.args.live.now _ c.judge_page-fault.result (sym c.is_some.ensures ∙ c.if-is_some.false) c.judge_page-fault.ensures)
+  | inr other ↦ c.loop-before.invariant page some (omega (arith, within, other))
+]
