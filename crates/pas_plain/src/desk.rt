@@ -6,7 +6,7 @@ ghost use Rattle.pas_plain.specs.Seats.{region_of, pass_of, IsPassOf, DeskStands
 
 use crate::pass::PlainPass;
 use crate::region::PlainRegion;
-use pas_profile::{Event, Profile};
+use pas_profile::{Block, Event, Name, Profile, Word};
 use pas_steps::{Desk, Step};
 use std::mem::{replace, swap};
 
@@ -34,6 +34,7 @@ impl PlainDesk {
     ghost use Rattle.std.specs.Prelude.{◌≤◌};
     ghost use Rattle.pas_profile.specs.Profiles.{IsWordOf};
     ghost use Rattle.pas_steps.specs.{Effects.target, Events.wants, Ranges.IsRanged};
+    ghost use Rattle.pas_steps.specs.declared.step.Step.{Step as TheStep};
     ghost use Rattle.pas_plain.specs.{Plain.spare_in, Plain.count_of_pass, Plain.Forgets, Seats.IsChanged, Seats.seat_of};
 
     /// Lets the actor rise: the region, and the actor's pass.
@@ -92,6 +93,17 @@ impl PlainDesk {
         self.pass.note(step, answer);
         answer
     }
+
+    /// A look changes no word, so that it needs no exchange.
+    #[inline(always)]
+    fn read(&mut self, word: Word) -> u64
+        requires of_region { IsWordOf (profile_of self.old.region) word }
+        ensures { IsChanged self.old self.new (TheStep.Look word) result }
+    {
+        let answer = self.region.word(word);
+        self.pass.note(Step::Look { word }, answer);
+        answer
+    }
 }
 
 impl Desk for PlainDesk {
@@ -139,6 +151,21 @@ impl Desk for PlainDesk {
     #[inline(always)]
     fn make(&mut self, step: Step) -> u64 {
         self.change(step)
+    }
+
+    #[inline(always)]
+    fn look(&mut self, word: Word) -> u64 {
+        self.read(word)
+    }
+
+    #[inline(always)]
+    fn give(&mut self, block: Block) -> u64 {
+        self.change(Step::Give { block })
+    }
+
+    #[inline(always)]
+    fn end(&mut self, name: Name, guess: u32) -> u64 {
+        self.change(Step::End { name, guess })
     }
 
     ghost valid = { λ desk. desk.region.valid };

@@ -1,4 +1,4 @@
-//! A region whose words stand in one vector, and the desk of an actor that works at it alone.
+//! A region whose pages get their words in memory as they are written, and the desk of an actor that works at it alone.
 //!
 //! The actors take turns: `PlainRegion::desk` seats one at the region, and `PlainDesk::into_parts` lets it rise again. Since no
 //! other desk runs beside it, a plain desk tells the whole state.

@@ -2,7 +2,7 @@
 ghost use Rattle.std.specs.Prelude.{◌≡◌};
 ghost use Rattle.pas_profile.specs.Profiles.{IsValid};
 
-use pas_profile::{Layout, NoMemory, Profile};
+use pas_profile::{Layout, NoMemory, Profile, Word};
 use pas_steps::effect::{new_value, target};
 use pas_steps::{PagedWords, State, Step};
 use std::alloc::Global;
@@ -21,7 +21,7 @@ impl PlainRegion {
     ghost use Rattle.pas_profile.specs.Profiles.{IsWordOf};
     ghost use Rattle.pas_steps.specs.{Effects.target as target_word, Ranges.IsRanged, States.profile_of as the_profile_of, States.word_in};
     ghost use Rattle.std.specs.Prelude.{IfOk, []};
-    ghost use Rattle.pas_profile.specs.declared.word.Word.{Word};
+    ghost use Rattle.pas_profile.specs.declared.word.Word.{Word as TheWord};
     ghost use Rattle.pas_plain.specs.Plain.{profile_of, word_at, RegionStands, IsExchanged};
 
     /// A region that nobody used yet.
@@ -37,7 +37,7 @@ impl PlainRegion {
     /// The state of the region. It keeps the region's own vectors.
     pub(crate) fn into_state(self) -> State
         ensures profile { the_profile_of result ≡ profile_of self }
-        ensures words { (w : Word) → word_in result w ≡ word_at self w }
+        ensures words { (w : TheWord) → word_in result w ≡ word_at self w }
     {
         State::of_paged(self.profile, self.words)
     }
@@ -48,6 +48,15 @@ impl PlainRegion {
         ensures { result.now ≡ profile_of self.now }
     {
         &self.profile
+    }
+
+    /// The value of a word.
+    #[inline(always)]
+    pub(crate) fn word(&self, word: Word) -> u64
+        requires { IsWordOf (profile_of self.now) word }
+        ensures { result ≡ word_at self.now word }
+    {
+        self.words.get(word)
     }
 
     /// Puts the new value of the step's word in the place of the old one, for an actor that knows this epoch.

@@ -22,6 +22,6 @@ pub use record::{Record, Said};
 pub use records::{Records, room_for_replay};
 pub use reports::{has_deed_words, report};
 pub use sheets::Sheets;
-pub use text::{LINE_BYTES, Line};
-pub use transcript::write_lines;
+pub use text::{LINE_BYTES, Line, Lines};
+pub use transcript::{write_lines, write_lines_by};
 pub use writing::write_lines_on;

@@ -16,7 +16,7 @@ pub const LINE_BYTES: usize = 128;
 pub type Line = ArrayString<LINE_BYTES>;
 
 /// Lines that wait to be written together.
-pub(crate) type Lines = ArrayString<65536>;
+pub type Lines = ArrayString<65536>;
 
 /// A number that lines show: of at most 64 bits, and without a sign.
 pub trait Number: Integer {

@@ -12,7 +12,6 @@ use pas_io::{Failed, Sink};
 
 /// Writes the line of each record, in order, some 64 KB at a time. It takes no memory. After a failure some first part of the lines was
 /// written.
-#[inline(never)]
 pub fn write_lines<K: Sink>(records: &[Record], sink: &mut K) -> Result<(), Failed>
     requires { All CanShow records.now }
     ensures whole { OnOk result (Writes (K.held sink.old) (K.held sink.new) (lines_of records.now)) }
@@ -22,9 +21,23 @@ pub fn write_lines<K: Sink>(records: &[Record], sink: &mut K) -> Result<(), Fail
     ensures count { K.faults sink.old ≤ K.faults sink.new }
 {
     let mut lines = Lines::new();
+    write_lines_by(&mut lines, records, sink)
+}
+
+/// The same by the lines of the caller, who writes more than once: they are emptied first, and what they hold in the end says nothing.
+#[inline(never)]
+pub fn write_lines_by<K: Sink>(lines: &mut Lines, records: &[Record], sink: &mut K) -> Result<(), Failed>
+    requires { All CanShow records.now }
+    ensures whole { OnOk result (Writes (K.held sink.old) (K.held sink.new) (lines_of records.now)) }
+    ensures front { OnErr result (WritesFront (K.held sink.old) (K.held sink.new) (lines_of records.now)) }
+    ensures sound { OnOk result (K.faults sink.new ≡ K.faults sink.old) }
+    ensures failed { OnErr result (Rose (K.faults sink.old) (K.faults sink.new)) }
+    ensures count { K.faults sink.old ≤ K.faults sink.new }
+{
+    lines.clear();
     for item in records {
-        make_room(sink, &mut lines)?;
-        push_record(&mut lines, item);
+        make_room(sink, lines)?;
+        push_record(lines, item);
     }
     write_all(sink, lines.as_str().as_bytes())
 }

@@ -5,7 +5,7 @@ ghost use Rattle.pas_top.specs.Wrote.{Wrote};
 
 use pas_io::{Failed, Sink};
 use pas_replay::Takes;
-use pas_report::{Records, write_lines};
+use pas_report::{Lines, Records, write_lines_by};
 
 /// As many records wait at most between two operations; where there are more, their lines are written.
 pub(crate) const WAITING: u32 = 1023;
@@ -15,6 +15,8 @@ pub(crate) const WAITING: u32 = 1023;
 pub(crate) struct LineWriter<'a, K> {
     sink: &'a mut K,
     failed: bool,
+    /// Kept from one write to the next, since to clear new ones takes longer than a short round of lines.
+    lines: Lines,
 }
 
 impl<'a, K: Sink> LineWriter<'a, K> {
@@ -26,6 +28,7 @@ impl<'a, K: Sink> LineWriter<'a, K> {
         LineWriter {
             sink,
             failed: false,
+            lines: Lines::new(),
         }
     }
 
@@ -39,7 +42,7 @@ impl<'a, K: Sink> LineWriter<'a, K> {
         ensures size { room_of waiting.new ≡ room_of waiting.old }
     {
         if !self.failed {
-            match write_lines(waiting.as_slice(), self.sink) {
+            match write_lines_by(&mut self.lines, waiting.as_slice(), self.sink) {
                 Ok(()) => {}
                 Err(Failed) => self.failed = true,
             }

@@ -1,6 +1,6 @@
 use Rattle.std.proofs.Common.{◌≡◌, ◌++◌, ℕ, List, drop}
 use Rattle.pas_report.specs.{Lines.lines_of, Pieces.IsPutOut}
-use Rattle.pas_report.proofs.transcript.write_lines.Given as goal
+use Rattle.pas_report.proofs.transcript.write_lines_by.Given as goal
 
 -- the lines of the records before this one were put out
 abbrev pub invariant-loop-item : goal.invariant-loop-item

@@ -5,7 +5,7 @@ use Rattle.pas_report.specs.{Lines.line_of, Lines.lines_of, Pieces.IsPutOut}
 use Rattle.pas_profile.specs.declared.{event.Event.Event, directory.Kind.Kind}
 use Rattle.pas_report.specs.declared.record.Record.{Record}
 use Rattle.pas_report.proofs.Pieces.{front_out, front_longer, put_more}
-use Rattle.pas_report.proofs.transcript.write_lines.Goals as goal
+use Rattle.pas_report.proofs.transcript.write_lines_by.Goals as goal
 
 -- what a look past the end of the records would tell
 abbrev past_end : Record
