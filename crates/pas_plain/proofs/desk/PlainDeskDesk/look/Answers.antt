@@ -1,0 +1,6 @@
+use Rattle.pas_steps.specs.declared.step.Step.{Step}
+use Rattle.pas_plain.proofs.Desks.{plain_makes}
+use Rattle.pas_plain.proofs.desk.PlainDeskDesk.look.Goals as goal
+
+pub returns-clause-makes : goal.returns-clause-makes
+returns-clause-makes c = plain_makes c.args.self.now c.read.new.self (Step.Look c.args.word) c.read.result c.requires.can.of_region c.read.ensures
