@@ -6,7 +6,7 @@ use Rattle.pas_profile.specs.Profiles.{vector_words, IsWordIn}
 use Rattle.pas_profile.specs.Layouts.{opening, same_word, word_minor, word_major}
 use Rattle.pas_profile.specs.declared.word.{Layout.Layout, Word.Word}
 use Rattle.pas_profile.proofs.Places.{same_word-true}
-use Rattle.pas_steps.specs.{Paged.opening_page, Paged.value_in, States.IsUnusedAbove, Keeping.kept_value, States.profile_of}
+use Rattle.pas_steps.specs.{Paged.no_lives, Paged.opening_page, Paged.value_in, States.IsUnusedAbove, Keeping.kept_value, States.profile_of}
 use Rattle.pas_steps.specs.declared.{state.Kept.Kept, state.State.State, paged.PageWords.PageWords, paged.PagedWords.PagedWords}
 
 -- ---- at the opening
@@ -19,49 +19,53 @@ all_zero : (words : List ℕ) (n i : ℕ) → words ≡ replicate n 0 → slice_
 all_zero words n i e = ap (λ (ws : List ℕ). slice_index ws i) e ∙ zero_at n i
 
 -- no page stands in memory yet
-pub none_open : (words : PagedWords) (n v e : ℕ) → words.epoch ≡ 0 → words.pages.items ≡ [] → words.deeds.items ≡ replicate n 0
+pub none_open : (words : PagedWords) (n v e : ℕ) → words.epoch ≡ 0 → words.pages.items ≡ [] → words.lives.items ≡ [] → words.deeds.items ≡ replicate n 0
     → words.parked.items ≡ replicate v 0
     → words.empty.items ≡ replicate v 0 → words.eligible.items ≡ replicate e 0 → (w : Word) → IsWordIn words.layout.pages words.layout.heaps w
     → value_in words w ≡ opening w
-none_open words n v e epoch none deeds parked empty eligible Word.Epoch of = epoch
-none_open words n v e epoch none deeds parked empty eligible (Word.Free p number) of =
+none_open words n v e epoch none no_life deeds parked empty eligible Word.Epoch of = epoch
+none_open words n v e epoch none no_life deeds parked empty eligible (Word.Free p number) of =
     ap (λ (ws : List PageWords). slice_index (get_or ws (p - 1) opening_page).free number) none ∙ get_or-replicate 4 number (2 ^ 64 - 1) 0 of.2
-none_open words n v e epoch none deeds parked empty eligible (Word.Life p grain) of =
-    ap (λ (ws : List PageWords). slice_index (get_or ws (p - 1) opening_page).lives grain) none ∙ zero_at 256 grain
-none_open words n v e epoch none deeds parked empty eligible (Word.Deed p) of = all_zero words.deeds.items n (p - 1) deeds
-none_open words n v e epoch none deeds parked empty eligible (Word.Backed p) of = ap (λ (ws : List PageWords). (get_or ws (p - 1) opening_page).backed) none
-none_open words n v e epoch none deeds parked empty eligible (Word.Stamp p) of = ap (λ (ws : List PageWords). (get_or ws (p - 1) opening_page).stamp) none
-none_open words n v e epoch none deeds parked empty eligible (Word.Parked j) of = all_zero words.parked.items v j parked
-none_open words n v e epoch none deeds parked empty eligible (Word.Empty j) of = all_zero words.empty.items v j empty
-none_open words n v e epoch none deeds parked empty eligible (Word.Eligible d j) of = all_zero words.eligible.items e (d * vector_words words.layout.pages + j) eligible
+none_open words n v e epoch none no_life deeds parked empty eligible (Word.Life p grain) of =
+    ap (λ (ws : List (List ℕ)). slice_index (get_or ws (p - 1) no_lives) grain) no_life ∙ zero_at 256 grain
+none_open words n v e epoch none no_life deeds parked empty eligible (Word.Deed p) of = all_zero words.deeds.items n (p - 1) deeds
+none_open words n v e epoch none no_life deeds parked empty eligible (Word.Backed p) of = ap (λ (ws : List PageWords). (get_or ws (p - 1) opening_page).backed) none
+none_open words n v e epoch none no_life deeds parked empty eligible (Word.Stamp p) of = ap (λ (ws : List PageWords). (get_or ws (p - 1) opening_page).stamp) none
+none_open words n v e epoch none no_life deeds parked empty eligible (Word.Parked j) of = all_zero words.parked.items v j parked
+none_open words n v e epoch none no_life deeds parked empty eligible (Word.Empty j) of = all_zero words.empty.items v j empty
+none_open words n v e epoch none no_life deeds parked empty eligible (Word.Eligible d j) of = all_zero words.eligible.items e (d * vector_words words.layout.pages + j) eligible
 
 -- ---- as more pages come
-pub past_page : (pages : List PageWords) (i : ℕ) → length pages ≤ i → get_or pages i opening_page ≡ opening_page
-past_page [] i past = refl
-past_page (page ∷ pages) zero past = absurd (omega (arith, past))
-past_page (page ∷ pages) (suc i) past = past_page pages i (omega (arith, past))
+pub past_all : {A : Type 0} (all : List A) (i : ℕ) (opening : A) → length all ≤ i → get_or all i opening ≡ opening
+past_all [] i opening past = refl
+past_all (a ∷ all) zero opening past = absurd (omega (arith, past))
+past_all (a ∷ all) (suc i) opening past = past_all all i opening (omega (arith, past))
 
 -- the words of a page that doesn't stand in memory
 pub life_past : (words : PagedWords) (page grain : ℕ) → length words.pages.items ≤ page - 1 → value_in words (Word.Life page grain) ≡ 0
 life_past words page grain past =
-    ap (λ (p : PageWords). slice_index p.lives grain) (past_page words.pages.items (page - 1) past) ∙ zero_at 256 grain
+    let few : length words.lives.items ≤ page - 1 = omega (arith, past, words.with_lives, words.lives.ok.0, words.pages.ok.0) in
+    ap (λ (lives : List ℕ). slice_index lives grain) (past_all words.lives.items (page - 1) no_lives few) ∙ zero_at 256 grain
 
 pub backed_past : (words : PagedWords) (page : ℕ) → length words.pages.items ≤ page - 1 → value_in words (Word.Backed page) ≡ 0
-backed_past words page past = ap (λ (p : PageWords). p.backed) (past_page words.pages.items (page - 1) past)
+backed_past words page past = ap (λ (p : PageWords). p.backed) (past_all words.pages.items (page - 1) opening_page past)
 
-one_more : (pages : List PageWords) (i : ℕ) → get_or (pages ++ opening_page ∷ []) i opening_page ≡ get_or pages i opening_page
-one_more [] zero = refl
-one_more [] (suc i) = refl
-one_more (page ∷ pages) zero = refl
-one_more (page ∷ pages) (suc i) = one_more pages i
+one_more : {A : Type 0} (all : List A) (i : ℕ) (opening : A) → get_or (all ++ opening ∷ []) i opening ≡ get_or all i opening
+one_more [] zero opening = refl
+one_more [] (suc i) opening = refl
+one_more (a ∷ all) zero opening = refl
+one_more (a ∷ all) (suc i) opening = one_more all i opening
 
 -- a page more that nobody used yet
 pub opened_one : (old new : PagedWords) → new.layout ≡ old.layout → new.epoch ≡ old.epoch → new.pages.items ≡ old.pages.items ++ opening_page ∷ []
+    → new.lives.items ≡ old.lives.items ++ no_lives ∷ []
     → new.deeds ≡ old.deeds → new.parked ≡ old.parked → new.empty ≡ old.empty → new.eligible ≡ old.eligible → (w : Word) → value_in new w ≡ value_in old w
-opened_one old new layout epoch pages deeds parked empty eligible w =
+opened_one old new layout epoch pages lives deeds parked empty eligible w =
     let same : (i : ℕ) → get_or new.pages.items i opening_page ≡ get_or old.pages.items i opening_page =
-    λ i. ap (λ (ps : List PageWords). get_or ps i opening_page) pages ∙ one_more old.pages.items i in
-    grind (arith, same)
+    λ i. ap (λ (ps : List PageWords). get_or ps i opening_page) pages ∙ one_more old.pages.items i opening_page in
+    let same_lives : (i : ℕ) → get_or new.lives.items i no_lives ≡ get_or old.lives.items i no_lives =
+    λ i. ap (λ (ls : List (List ℕ)). get_or ls i no_lives) lives ∙ one_more old.lives.items i no_lives in
+    grind (arith, same, same_lives)
 
 -- ---- after a write
 -- of the value that the word has
@@ -89,14 +93,14 @@ in_row row v heaps d j b i n sized few low low' false e =
     cc)
 
 pub eligible_written : (old new : PagedWords) (d j n : ℕ) → IsWordIn old.layout.pages old.layout.heaps (Word.Eligible d j)
-    → new.layout ≡ old.layout → new.epoch ≡ old.epoch → new.pages ≡ old.pages → new.deeds ≡ old.deeds → new.parked ≡ old.parked → new.empty ≡ old.empty
+    → new.layout ≡ old.layout → new.epoch ≡ old.epoch → new.pages ≡ old.pages → new.lives ≡ old.lives → new.deeds ≡ old.deeds → new.parked ≡ old.parked → new.empty ≡ old.empty
     → new.eligible.items ≡ slice_set old.eligible.items (d * vector_words old.layout.pages + j) n
     → (w : Word) → IsWordIn old.layout.pages old.layout.heaps w → value_in new w ≡ (if same_word (Word.Eligible d j) w then n else value_in old w)
-eligible_written old new d j n of layout epoch pages deeds parked empty eligible (Word.Eligible b i) of' =
+eligible_written old new d j n of layout epoch pages lives deeds parked empty eligible (Word.Eligible b i) of' =
     ap (λ (l : Layout). slice_index new.eligible.items (b * vector_words l.pages + i)) layout
     ∙ ap (λ (row : List ℕ). slice_index row (b * vector_words old.layout.pages + i)) eligible
     ∙ in_row old.eligible.items (vector_words old.layout.pages) old.layout.heaps d j b i n (omega (arith, old.eligible_sized, old.eligible.ok.0)) of.0 of.1 of'.1 _ refl
-eligible_written old new d j n of layout epoch pages deeds parked empty eligible w of' = grind arith
+eligible_written old new d j n of layout epoch pages lives deeds parked empty eligible w of' = grind arith
 
 -- ---- a region at rest
 -- nobody wrote to the words of a page that doesn't stand in memory

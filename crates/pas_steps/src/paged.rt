@@ -5,11 +5,10 @@ ghost use Rattle.pas_profile.specs.Profiles.{vector_words};
 use pas_profile::{Layout, NoMemory, Word};
 use std::alloc::Global;
 
-/// The words of one page but for its deed.
+/// The words of one page but for its deed and its life words. A search reads those of many pages, so they stand close together.
 #[derive(Clone, Copy, Drop)]
 pub struct PageWords {
     pub(crate) free: [u64; 4],
-    pub(crate) lives: [u64; 256],
     pub(crate) backed: u64,
     pub(crate) stamp: u64,
 }
@@ -17,10 +16,12 @@ pub struct PageWords {
 /// Those of a page that nobody used yet.
 const OPENING: PageWords = PageWords {
     free: [u64::MAX; 4],
-    lives: [0; 256],
     backed: 0,
     stamp: 0,
 };
+
+/// The life words of a page that nobody used yet.
+const NO_LIVES: [u64; 256] = [0; 256];
 
 /// The words of a region, one by one. Those of a page stand in memory from the first write of one of them, or of one of a higher page, to another
 /// value than that of the opening. Room for all is reserved when the region is opened, so that a write takes no memory.
@@ -28,8 +29,9 @@ const OPENING: PageWords = PageWords {
 pub struct PagedWords {
     layout: Layout,
     epoch: u64,
-    /// Those of the lowest pages.
+    /// Those of the lowest pages, and their life words.
     pages: Vec<PageWords>,
+    lives: Vec<[u64; 256]>,
     deeds: Vec<u64>,
     parked: Vec<u64>,
     empty: Vec<u64>,
@@ -37,6 +39,8 @@ pub struct PagedWords {
     eligible: Vec<u64>,
     ghost within: { vec_len pages ≤ layout.pages },
     ghost reserved: { layout.pages ≤ vec_capacity pages },
+    ghost with_lives: { vec_len lives ≡ vec_len pages },
+    ghost lives_reserved: { layout.pages ≤ vec_capacity lives },
     ghost deeds_sized: { vec_len deeds ≡ layout.pages },
     ghost parked_sized: { vec_len parked ≡ vector_words layout.pages },
     ghost empty_sized: { vec_len empty ≡ vector_words layout.pages },
@@ -70,10 +74,14 @@ impl PagedWords {
         let Ok(pages) = Vec::with_capacity(alloc, count) else {
             return Err(NoMemory);
         };
+        let Ok(lives) = Vec::with_capacity(alloc, count) else {
+            return Err(NoMemory);
+        };
         Ok(PagedWords {
             layout,
             epoch: 0,
             pages,
+            lives,
             deeds: zeros(alloc, count)?,
             parked: zeros(alloc, vector)?,
             empty: zeros(alloc, vector)?,
@@ -94,8 +102,8 @@ impl PagedWords {
                 Some(words) => words.free[number as usize],
                 None => u64::MAX,
             },
-            Word::Life(page, grain) => match self.pages.get(page as usize - 1) {
-                Some(words) => words.lives[grain as usize],
+            Word::Life(page, grain) => match self.lives.get(page as usize - 1) {
+                Some(lives) => lives[grain as usize],
                 None => 0,
             },
             Word::Deed(page) => self.deeds[page as usize - 1],
@@ -131,6 +139,7 @@ impl PagedWords {
     {
         while self.pages.len() < page as usize {
             self.pages.push_reserved(OPENING);
+            self.lives.push_reserved(NO_LIVES);
         }
     }
 
@@ -152,7 +161,7 @@ impl PagedWords {
             }
             Word::Life(page, grain) => {
                 if self.is_open_for(page, value, 0) {
-                    self.pages[page as usize - 1].lives[grain as usize] = value;
+                    self.lives[page as usize - 1][grain as usize] = value;
                 }
             }
             Word::Deed(page) => self.deeds[page as usize - 1] = value,
