@@ -19,6 +19,7 @@ use pas_steps::Desk;
 use pas_trace::Task;
 
 /// Adds the events from this place on to the records, in their order.
+#[inline(always)]
 pub(crate) fn push_events(shown: &[Event], before: usize, out: &mut Records)
     requires within { before ≤ length shown.now }
     requires room { length (records_in out.old) + length (drop before shown.now) ≤ room_of out.old }

@@ -137,7 +137,7 @@ impl Names {
     }
 
     /// What the name stands for.
-    #[inline]
+    #[inline(always)]
     pub fn get(&self, name: u32) -> Option<Block>
         ensures { result ≡ block_named self.now name }
     {

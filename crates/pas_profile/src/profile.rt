@@ -57,6 +57,7 @@ impl Profile {
 
     /// The route of a request of the region, by its classes. At most 20 steps.
     #[tactic(auto, using(crate::proofs::Sizes::count_of))]
+    #[inline(always)]
     pub fn route(&self, size: u32, align: u32) -> Route
         requires valid { IsValid self.now }
         requires align { IsAlignment align }

@@ -61,7 +61,7 @@ impl Whole {
 
 impl Coded {
     /// Adds an operation to the present phase.
-    #[inline(always)]
+    #[inline(never)]
     fn add(&mut self, op: Op) -> Result<(), AllocError>
         ensures { OnOk result (scripted_phases self.new ≡ add_last (Some (unlined op)) (scripted_phases self.old)) }
     {
