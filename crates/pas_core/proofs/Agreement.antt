@@ -1,6 +1,6 @@
 -- The answer of each legal step agrees with its actor's view, since what an actor read once is so for good.
-use Rattle.std.proofs.Common.{ℕ, ◌==◌, List, [], ◌∷◌, inl, inr, ◌≡◌, ◌≢◌, ◌+◌, ◌*◌, ◌/◌, ◌<◌, ◌≤◌, Bool, true, false, ◌&&◌, Some, refl, ap, sym, ◌∙◌, subst}
-use Rattle.std.proofs.Common.{arith, ◌^◌, if◌then◌else◌, Option, None, ◌%◌, eqb-true, leb-true}
+use Rattle.std.proofs.Common.{ℕ, ◌==◌, List, [], ◌∷◌, ◌≡◌, ◌≢◌, ◌+◌, ◌*◌, ◌/◌, ◌<◌, ◌≤◌, Bool, true, false, ◌&&◌, Some, refl, ap, sym, ◌∙◌, subst, arith, ◌^◌}
+use Rattle.std.proofs.Common.{if◌then◌else◌, Option, None, ◌%◌, eqb-true, leb-true}
 use Rattle.pas_profile.specs.declared.{profile.Profile.Profile, directory.Directory.Directory, name.Name.Name, word.Word.Word, name.Block.Block}
 use Rattle.pas_profile.specs.declared.{event.Event.Event}
 use Rattle.pas_steps.specs.{Past.Once, Effects.life_word_at, Effects.target, Effects.free_word_at, Allowed.IsStepOf, Events.event_of, Events.with_event}
@@ -13,9 +13,9 @@ use Rattle.pas_profile.proofs.Codecs.{deed_word_of-positive, is_live-live_word, 
 use Rattle.pas_bits.specs.{Runs.in_run, Runs.meets_page, Bits.has_bit}
 use Rattle.pas_machine.specs.State.{Live, live_in, deed_in, backed_in, gives_in, ends_in}
 use Rattle.pas_machine.specs.Machine.{Bears, Run}
-use Rattle.pas_steps.specs.Views.{ends_on, EndedOn, EndedOnBoth, epoch_of, reads_life, IsLiveRead, ReadLive, reads_backed, ReadBacked, holds, known_deed}
-use Rattle.pas_steps.specs.Agreement.{heap_recorded, IsDeedWord, AgreesDeed, AgreesFree, AgreesLife, AgreesEnd, AgreesBacked, AgreesParked, AgreesEmpty}
-use Rattle.pas_steps.specs.Agreement.{AgreesEligible, AgreesEpoch, AgreesStamp, Agrees}
+use Rattle.pas_steps.specs.Views.{ends_on, EndedOn, EndedOnBoth, epoch_of, reads_life, IsLiveRead, ReadLive, reads_backed, ReadBacked, holds}
+use Rattle.pas_steps.specs.Agreement.{heap_recorded, AgreesDeed, AgreesFree, AgreesLife, AgreesEnd, AgreesBacked, AgreesParked, AgreesEmpty, AgreesEligible}
+use Rattle.pas_steps.specs.Agreement.{AgreesEpoch, AgreesStamp, Agrees}
 use Rattle.pas_steps.specs.declared.step.Step.TheVariants.{End, EndSized, Look, Back, Give, Unback, Deed, Take, Put, TakeRight, Offer, Park, Unpark, Stamp}
 use Rattle.pas_steps.specs.declared.step.Step.TheVariants.{Hint, Unhint}
 use Rattle.pas_core.specs.Good.{word_of_deed, IsLifeOf, Held, is_free, is_covered_by, covers, IsPlacedOnce}
@@ -37,8 +37,7 @@ since_once : (f : Profile) (k : ℕ) (P : Made → List Made → Type 0) (Q : Wh
     → ((t : Triple) (l : Whole) → Legal f (t ∷ l) → P t.made (part k l) → Q l) → ((t : Triple) (l : Whole) → Legal f (t ∷ l) → Q l → Q (t ∷ l))
     → (l : Whole) → Legal f l → Once P (part k l) → Q l
 since_once f k P Q told kept [] legal h = absurd h
-since_once f k P Q told kept (t ∷ l) legal h =
-    let old = since_once f k P Q told kept l legal.1 in kept t l legal (cond_both (t.actor == k) (t.made ∷ part k l) (part k l) (λ v. Once P v → Q l) (λ own once. elim once [ inl now ↦ told t l legal now | inr earlier ↦ old earlier ]) (λ other. old) h)
+since_once f k P Q told kept (t ∷ l) legal h = search (arith, cond_both, since_once f k P Q told kept l legal.1)
 
 -- ==== The pages of a block that an actor ended: they have deeds, all of one heap, and lie in the region.
 
@@ -146,9 +145,7 @@ some_deed o h = grind (arith, deed_word_of-positive)
 
 -- the deed word of a page whose backed word is 1
 backed_has_deed : (f : Profile) (l : Whole) → IsValid f → Legal f l → (p : ℕ) → word_after l (Word.Backed p) ≡ 1 → word_after l (Word.Deed p) ≢ 0
-backed_has_deed f l valid legal p h =
-    let some : word_of_deed (deed_in (visible l) p) ≢ 0 = some_deed (deed_in (visible l) p) (backed_deed f (visible l) (runs f l valid legal) p (one_backed (backed_in (visible l) p) (sym h ∙ backed_of f l legal p))) in
-    λ z. some (sym (deed_of f l legal p) ∙ z)
+backed_has_deed f l valid legal p h = search (arith, some_deed, backed_deed, runs, one_backed, backed_of, deed_of)
 
 -- ---- a page that was read as backed
 backed_word : (l : Whole) (a q p : ℕ) → a ≡ word_after l (Word.Backed q) → (q == p) ≡ true → a ≡ word_after l (Word.Backed p)
@@ -179,20 +176,7 @@ record WasThere (l : Whole) (g turn grains : ℕ) : Type 0 where
 there : (f : Profile) (l : Whole) (g word turn grains gives ends : ℕ) (live : Option Live) → live_in (visible l) (16 * g) ≡ live
     → gives_in (visible l) (16 * g) ≡ gives → IsLifeOf f g word live gives ends
     → is_live word ≡ true → turn_of word ≡ turn → grains_of word ≡ grains → WasThere l g turn grains
-there f l g word turn grains gives ends None is gave life alive t n = let big : 2 ^ 63 ≤ word = leb-true (2 ^ 63) word alive in absurd (omega (arith, life.word_is, life.few, big))
-there f l g word turn grains gives ends (Some b) is gave life alive t n =
-    let w = life.word_is in let few = life.few in let short = life.short in let own = life.turn in let one = life.gives_are in
-    let at : address_of b.block.name ≡ 16 * g = life.address in
-    record {
-      block = b.block;
-      address = at;
-      turn_is = own ∙ omega (arith, w, few, t);
-      grains_are = omega (arith, w, few, short, n);
-      given = record {
-        earlier = subst (λ x. b.block.name.turn < gives_in (visible l) x) (sym at) (omega (arith, own, one, gave));
-        same = λ b' live turn. let e : Some b ≡ Some b' = sym is ∙ ap (live_in (visible l)) (sym at) ∙ live in ap (λ (x : Live). x.block) (sym (same_Some b b' e));
-      };
-    }
+there f l g word turn grains gives ends live is gave life alive t n = search (arith, leb-true, same_Some)
 
 event_kept : (f : Profile) (o : Option Event) (es : List Event) (block : Block) → Run f (with_event o es) → WasGiven es block → WasGiven (with_event o es) block
 event_kept f o es block run given = grind (arith, one_more)
@@ -234,13 +218,7 @@ held_place l k g at h = is_held_by-true k at.place (sym (at.held k) ∙ h)
 
 -- ---- deed words, free words and backed words
 deed_agrees : (f : Profile) (l : Whole) → IsValid f → Legal f l → (k page a : ℕ) → a ≡ word_after l (Word.Deed page) → AgreesDeed f (part k l) page a
-deed_agrees f l valid legal k page a is = record {
-  a_deed = subst (IsDeedWord f) (sym is) (deed_words f l legal page);
-  known = λ ne. is ∙ sym (known_is (known_deed (part k l) page) (word_after l (Word.Deed page)) (deeds_known f l legal k page) ne);
-  backed = λ read z. read_backed f l valid legal k page read (sym is ∙ z);
-  ended = λ end z. ended_has_deed f l valid legal k page end (sym is ∙ z);
-  heap = search (arith, ended_has_heap, known_is, deeds_known);
-}
+deed_agrees f l valid legal k page a is = search (arith, deed_words, known_is, deeds_known, read_backed, ended_has_deed, ended_has_heap)
 
 word_at : (l : Whole) (page word a g : ℕ) → a ≡ word_after l (Word.Free page word) → g / 256 ≡ page → g / 64 % 4 ≡ word → a ≡ word_after l (free_word_at g)
 word_at l page word a g is p w = is ∙ ap (λ x. word_after l (Word.Free x word)) (sym p) ∙ ap (λ x. word_after l (Word.Free (g / 256) x)) (sym w)

@@ -1,7 +1,7 @@
 -- The steps of some actors in a list of those of all.
-use Rattle.std.proofs.Common.{ℕ, Bool, true, false, if◌then◌else◌, ◌≡◌, ◌==◌, List, [], ◌∷◌, ◌++◌, length, refl, sym, ap, ◌∙◌, arith, suc, subst, eqb-true}
-use Rattle.std.proofs.Common.{eq-eqb, ne_eqb, true≢false}
-use Rattle.pas_steps.specs.{Desks.triple, Desks.triples, Lists.Triple, Lists.Whole, Lists.part}
+use Rattle.std.proofs.Common.{ℕ, Bool, true, false, if◌then◌else◌, ◌≡◌, ◌==◌, List, [], ◌∷◌, ◌++◌, length, refl, sym, ap, ◌∙◌, arith, suc, eqb-true, eq-eqb}
+use Rattle.std.proofs.Common.{ne_eqb, true≢false}
+use Rattle.pas_steps.specs.{Desks.triples, Lists.Triple, Lists.Whole, Lists.part}
 use Rattle.pas_steps.specs.declared.step.Made.{Made}
 use Rattle.pas_core.specs.Orders.{steps_by}
 
@@ -20,7 +20,7 @@ steps_by_both chosen (t ∷ l) m = at (steps_by_both chosen l m) (chosen t.actor
   where
     at : steps_by chosen (l ++ m) ≡ steps_by chosen l ++ steps_by chosen m → (b : Bool) → chosen t.actor ≡ b
         → steps_by chosen (t ∷ (l ++ m)) ≡ steps_by chosen (t ∷ l) ++ steps_by chosen m
-    at again true e = step_taken chosen t (l ++ m) e ∙ (ap (λ (k : Whole). t ∷ k) again ∙ sym (ap (λ (k : Whole). k ++ steps_by chosen m) (step_taken chosen t l e)))
+    at again true e = search (arith, step_taken)
     at again false e = step_passed chosen t (l ++ m) e ∙ (again ∙ sym (ap (λ (k : Whole). k ++ steps_by chosen m) (step_passed chosen t l e)))
 
 -- ---- the part of a chosen actor
@@ -72,7 +72,7 @@ no_steps_by_fewer fewer more l within none = sym (steps_by_fewer fewer more l wi
 -- the same actors, by another test
 pub steps_by_same : (one other : ℕ → Bool) (l : Whole) → ((k : ℕ) → one k ≡ other k) → steps_by one l ≡ steps_by other l
 steps_by_same one other [] same = refl
-steps_by_same one other (t ∷ l) same = ap (λ (b : Bool). if b then t ∷ steps_by one l else steps_by one l) (same t.actor) ∙ ap (λ (m : Whole). if other t.actor then t ∷ m else m) (steps_by_same one other l same)
+steps_by_same one other (t ∷ l) same = search (arith, steps_by_same one other l same)
 
 -- ---- one actor, and all that made a step
 cons_not_nil : {x : Made} {xs : List Made} → x ∷ xs ≡ [] → ⊥
@@ -85,8 +85,7 @@ steps_by_one chosen k (t ∷ l) just = at (steps_by_one chosen k l just) (t.acto
   where
     at : steps_by chosen l ≡ triples k (part k l) → (b : Bool) → (t.actor == k) ≡ b → steps_by chosen (t ∷ l) ≡ triples k (part k (t ∷ l))
     at again true e =
-        let its : t ≡ triple k t.made = ap (λ (j : ℕ). triple j t.made) (eqb-true t.actor k e) in
-        step_taken chosen t l (just t.actor ∙ e) ∙ (ap (λ (m : Whole). t ∷ m) again ∙ (ap (λ (s : Triple). s ∷ triples k (part k l)) its ∙ sym (ap (triples k) (ap (λ (b : Bool). if b then t.made ∷ part k l else part k l) e))))
+        search (arith, eqb-true, step_taken)
     at again false e = step_passed chosen t l (just t.actor ∙ e) ∙ (again ∙ sym (ap (triples k) (part_without k t l e)))
 
 tail_same : {x y : Made} {xs ys : List Made} → x ∷ xs ≡ y ∷ ys → xs ≡ ys
@@ -163,8 +162,8 @@ one_fewer chosen k (t ∷ l) m v its h = at (one_fewer chosen k l m v its) (t.ac
 
     at : (part k l ≡ m ∷ v → length (steps_by chosen l) ≡ suc (length (steps_by chosen (without k l)))) → (b : Bool) → (t.actor == k) ≡ b
         → length (steps_by chosen (t ∷ l)) ≡ suc (length (steps_by chosen (without k (t ∷ l))))
-    at again true e = ap length (step_taken chosen t l (ap chosen (eqb-true t.actor k e) ∙ its)) ∙ sym (ap suc (ap (λ n. length (steps_by chosen n)) (without_at k t l true e)))
-    at again false e = other (again (sym (part_at k t l false e) ∙ h)) (chosen t.actor) refl ∙ sym (ap suc (ap (λ n. length (steps_by chosen n)) (without_at k t l false e)))
+    at again true e = search (arith, step_taken, eqb-true, without_at)
+    at again false e = search (arith, part_at, without_at)
 
 -- Actors whose parts of a list are empty made no steps in it.
 pub no_steps_by : (chosen : ℕ → Bool) (l : Whole) → ((k : ℕ) → chosen k ≡ true → part k l ≡ []) → steps_by chosen l ≡ []
@@ -195,7 +194,7 @@ as_many_steps chosen (t ∷ l) m same = at (as_many_steps chosen l) (chosen t.ac
     here = part_at k t l true (eq-eqb k k refl)
 
     taken : chosen k ≡ true → (j : ℕ) → chosen j ≡ true → (b : Bool) → (j == k) ≡ b → part j l ≡ part j (without k m)
-    taken its j chose true e = subst (λ (i : ℕ). part i l ≡ part i (without k m)) (sym (eqb-true j k e)) (sym (part_of_rest k m t.made (part k l) (sym (same k its) ∙ here)))
+    taken its j chose true e = search (arith, eqb-true, part_of_rest)
     taken its j chose false e = sym (part_without j t l (not_so e)) ∙ (same j chose ∙ sym (part_of_others_left k j m e))
       where
         not_so : (j == k) ≡ false → (k == j) ≡ false

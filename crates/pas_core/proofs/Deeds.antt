@@ -1,17 +1,16 @@
 -- Deed words and backed words: what of them stays, of which directories and pages they are, and that they are those of the machine.
-use Rattle.std.proofs.Common.{◌≡◌, ◌≢◌, ℕ, ◌==◌, Bool, true, false, if◌then◌else◌, [], ◌∷◌, refl, ap, sym, ◌∙◌, arith, ◌⊎◌, inl, inr, not, ◌&&◌, List, Option}
-use Rattle.std.proofs.Common.{Some, None, bit_or, ◌/◌, eqb-true, ne_eqb}
+use Rattle.std.proofs.Common.{◌≡◌, ◌≢◌, ℕ, ◌==◌, Bool, true, false, if◌then◌else◌, [], ◌∷◌, refl, ap, sym, ◌∙◌, arith, ◌⊎◌, not, List, Option, Some, None}
+use Rattle.std.proofs.Common.{bit_or, eqb-true, ne_eqb}
 use Rattle.std.proofs.lemmas.{Bool.cases_eq, Bool.cond_both, Option.same_Some, Bool.Decides.nat_tests}
 use Rattle.pas_profile.specs.Directories.{IsKind, number_of, deed_word_of, deed_word_numbered}
-use Rattle.pas_profile.specs.{Layouts.same_word, Profiles.IsPage, Profiles.IsDirectoryOf, Lives.live_word, Lives.is_live, Lives.turn_of}
+use Rattle.pas_profile.specs.{Layouts.same_word, Profiles.IsPage, Profiles.IsDirectoryOf}
 use Rattle.pas_profile.specs.declared.{profile.Profile.Profile, directory.Directory.Directory, word.Word.Word, event.Event.Event}
 use Rattle.pas_profile.proofs.Codecs.{kind_number_lt}
-use Rattle.pas_steps.specs.{Effects.target, Effects.new_value, Views.epoch_of, Allowed.IsStepOf, Agreement.IsDeedWord}
-use Rattle.pas_steps.specs.Lists.{Triple, Whole, part, word_after, IsNext, Legal, visible}
+use Rattle.pas_steps.specs.{Effects.target, Effects.new_value, Views.epoch_of, Allowed.IsStepOf, Agreement.IsDeedWord, Events.event_of, Events.with_event}
+use Rattle.pas_steps.specs.Lists.{Triple, Whole, part, word_after, Legal, visible}
 use Rattle.pas_steps.specs.declared.step.Step.{Step}
-use Rattle.pas_steps.specs.declared.step.Step.TheVariants.{Look, Deed, Back, End, EndSized, Unback}
+use Rattle.pas_steps.specs.declared.step.Step.TheVariants.{Deed, Back, End, EndSized}
 use Rattle.pas_machine.specs.State.{deed_in, backed_in}
-use Rattle.pas_steps.specs.Events.{event_of, with_event, reason_of, sized_reason}
 use Rattle.pas_core.specs.Good.{word_of_deed, word_of_backed}
 
 -- ==== A deed stays once it is written, it is that of a directory of the profile, and its page is one.
@@ -55,11 +54,11 @@ deed_at l a q p is t = is ∙ ap (λ n. word_after l (Word.Deed n)) (eqb-true q 
 
 -- a deed word that is written stays
 pub deed_kept : (l : Whole) (t : Triple) (p : ℕ) → word_after l (Word.Deed p) ≢ 0 → word_after (t ∷ l) (Word.Deed p) ≡ word_after l (Word.Deed p)
-deed_kept l t p ne = sym (known_is (word_after l (Word.Deed p)) (word_after (t ∷ l) (Word.Deed p)) (word_stays (epoch_of (part t.actor l)) t.made.step p (word_after l (Word.Deed p)) (word_after l (Word.Deed p)) (inr refl)) ne)
+deed_kept l t p ne = search (arith, known_is, word_stays)
 
 -- where there is no deed there was none
 pub deed_was_none : (l : Whole) (t : Triple) (p : ℕ) → word_after (t ∷ l) (Word.Deed p) ≡ 0 → word_after l (Word.Deed p) ≡ 0
-deed_was_none l t p gone = elim (word_stays (epoch_of (part t.actor l)) t.made.step p (word_after l (Word.Deed p)) (word_after l (Word.Deed p)) (inr refl)) [ inl z ↦ z | inr e ↦ e ∙ gone ]
+deed_was_none l t p gone = search (arith, word_stays)
 
 -- ---- each deed word is that of a directory of the profile
 deed_written : (f : Profile) (x z : Bool) (d : Directory) (old : ℕ) → IsDirectoryOf f d → IsDeedWord f old
@@ -72,9 +71,7 @@ deed_word_next f e s p old of h = grind (arith, looked, deed_written)
 -- The deed word of each page in a legal list is 0 or that of a directory of the profile.
 pub deed_words : (f : Profile) (l : Whole) → Legal f l → (p : ℕ) → IsDeedWord f (word_after l (Word.Deed p))
 deed_words f [] legal p = λ ne. absurd (ne refl)
-deed_words f (t ∷ l) legal p =
-    let next : IsNext f l t = legal.0 in
-    deed_word_next f (epoch_of (part t.actor l)) t.made.step p (word_after l (Word.Deed p)) next.of_region (deed_words f l legal.1 p)
+deed_words f (t ∷ l) legal p = search (arith, deed_word_next, deed_words f l legal.1 p)
 
 -- ---- only pages have deeds
 page_if : (f : Profile) (x : Bool) (q p new old : ℕ) → (q == p) ≡ x → IsPage f q → (old ≢ 0 → IsPage f p) → (if x then new else old) ≢ 0 → IsPage f p
@@ -86,9 +83,7 @@ deed_page_next f e s p old of h ne = grind (arith, looked, page_if)
 -- what has a deed is a page of the profile
 pub deed_has_page : (f : Profile) (l : Whole) → Legal f l → (p : ℕ) → word_after l (Word.Deed p) ≢ 0 → IsPage f p
 deed_has_page f [] legal p ne = absurd (ne refl)
-deed_has_page f (t ∷ l) legal p ne =
-    let next : IsNext f l t = legal.0 in
-    deed_page_next f (epoch_of (part t.actor l)) t.made.step p (word_after l (Word.Deed p)) next.of_region (deed_has_page f l legal.1 p) ne
+deed_has_page f (t ∷ l) legal p ne = search (arith, deed_page_next, deed_has_page f l legal.1 p)
 
 -- ---- the numbers of directories
 pub numbered_ne : (n : ℕ) → deed_word_numbered n ≢ 0
@@ -118,12 +113,7 @@ deed_agrees x z k q d p old a es xe is ze h = grind (arith, eqb-true)
 deed_step : (l : Whole) (k e : ℕ) (s : Step) (a p : ℕ) → a ≡ word_after l (target s) → word_after l (Word.Deed p) ≡ word_of_deed (deed_in (visible l) p)
     → (if same_word (target s) (Word.Deed p) then new_value e s (word_after l (Word.Deed p)) else word_after l (Word.Deed p))
     ≡ word_of_deed (deed_in (with_event (event_of k e s a) (visible l)) p)
-deed_step l k e (Look word) a p is h = looked (same_word word (Word.Deed p)) (word_after l (Word.Deed p)) ∙ h
-deed_step l k e (Deed q d) a p is h = deed_agrees (q == p) (a == 0) k q d p (word_after l (Word.Deed p)) a (visible l) refl (λ t. is ∙ ap (λ n. word_after l (Word.Deed n)) (eqb-true q p t)) refl h
-deed_step l k e (Back q) a p is h = h ∙ ap word_of_deed (sym (event_if (λ x. deed_in x p ≡ deed_in (visible l) p) (a == 0) (Event.Back k q) (visible l) refl refl))
-deed_step l k e (End name guess) a p is h = h ∙ ap word_of_deed (sym (end_event_cases (λ x. deed_in x p ≡ deed_in (visible l) p) (a == live_word name.turn guess) (is_live a && (turn_of a == name.turn)) (Event.End k name e) (Event.Reject k name (reason_of name a)) (visible l) (λ hit. refl) refl refl))
-deed_step l k e (EndSized name room) a p is h = h ∙ ap word_of_deed (sym (end_event_cases (λ x. deed_in x p ≡ deed_in (visible l) p) (a == live_word name.turn (room / 16)) false (Event.End k name e) (Event.Reject k name (sized_reason name room a)) (visible l) (λ hit. refl) refl refl))
-deed_step l k e s a p is h = h
+deed_step l k e s a p is h = search (arith, deed_agrees, eqb-true, event_if, end_event_cases)
 
 -- the deed word of a page records the machine's directory
 pub deed_of : (f : Profile) (l : Whole) → Legal f l → (p : ℕ) → word_after l (Word.Deed p) ≡ word_of_deed (deed_in (visible l) p)
@@ -145,14 +135,14 @@ directory_if f z k q d es of rest p d' is = grind (arith, one_directory)
 directory_step : (f : Profile) (k e : ℕ) (s : Step) (a : ℕ) (es : List Event) → IsStepOf f s → AreOf f es → AreOf f (with_event (event_of k e s a) es)
 directory_step f k e (Deed q d) a es of rest = directory_if f (a == 0) k q d es of.1 rest
 directory_step f k e (Back q) a es of rest = λ p d is. rest p d (sym (event_if (λ x. deed_in x p ≡ deed_in es p) (a == 0) (Event.Back k q) es refl refl) ∙ is)
-directory_step f k e (End name guess) a es of rest = λ p d is. rest p d (sym (end_event_cases (λ x. deed_in x p ≡ deed_in es p) (a == live_word name.turn guess) (is_live a && (turn_of a == name.turn)) (Event.End k name e) (Event.Reject k name (reason_of name a)) es (λ hit. refl) refl refl) ∙ is)
-directory_step f k e (EndSized name room) a es of rest = λ p d is. rest p d (sym (end_event_cases (λ x. deed_in x p ≡ deed_in es p) (a == live_word name.turn (room / 16)) false (Event.End k name e) (Event.Reject k name (sized_reason name room a)) es (λ hit. refl) refl refl) ∙ is)
+directory_step f k e (End name guess) a es of rest = search (arith, end_event_cases)
+directory_step f k e (EndSized name room) a es of rest = search (arith, end_event_cases)
 directory_step f k e s a es of rest = rest
 
 -- A page's deed by the events of a legal list is a directory of the profile.
 pub directory_is_of : (f : Profile) (l : Whole) → Legal f l → (p : ℕ) (d : Directory) → deed_in (visible l) p ≡ Some d → IsDirectoryOf f d
 directory_is_of f [] legal p d is = cc
-directory_is_of f (t ∷ l) legal p d is = directory_step f t.actor (epoch_of (part t.actor l)) t.made.step t.made.answer (visible l) legal.0.of_region (directory_is_of f l legal.1) p d is
+directory_is_of f (t ∷ l) legal p d is = search (arith, directory_step, directory_is_of f l legal.1)
 
 -- ---- backed pages
 or_one : (b : Bool) (old : ℕ) → old ≡ word_of_backed b → bit_or old 1 ≡ 1
@@ -172,13 +162,7 @@ unback_agrees x old was h = grind arith
 back_step : (l : Whole) (k e : ℕ) (s : Step) (a p : ℕ) → a ≡ word_after l (target s) → word_after l (Word.Backed p) ≡ word_of_backed (backed_in (visible l) p)
     → (if same_word (target s) (Word.Backed p) then new_value e s (word_after l (Word.Backed p)) else word_after l (Word.Backed p))
     ≡ word_of_backed (backed_in (with_event (event_of k e s a) (visible l)) p)
-back_step l k e (Look word) a p is h = looked (same_word word (Word.Backed p)) (word_after l (Word.Backed p)) ∙ h
-back_step l k e (Deed q d) a p is h = h ∙ ap word_of_backed (sym (event_if (λ x. backed_in x p ≡ backed_in (visible l) p) (a == 0) (Event.Deed k q d) (visible l) refl refl))
-back_step l k e (Back q) a p is h = back_agrees (q == p) (a == 0) k q p (word_after l (Word.Backed p)) a (visible l) refl (λ t. is ∙ ap (λ n. word_after l (Word.Backed n)) (eqb-true q p t)) refl h
-back_step l k e (End name guess) a p is h = h ∙ ap word_of_backed (sym (end_event_cases (λ x. backed_in x p ≡ backed_in (visible l) p) (a == live_word name.turn guess) (is_live a && (turn_of a == name.turn)) (Event.End k name e) (Event.Reject k name (reason_of name a)) (visible l) (λ hit. refl) refl refl))
-back_step l k e (EndSized name room) a p is h = h ∙ ap word_of_backed (sym (end_event_cases (λ x. backed_in x p ≡ backed_in (visible l) p) (a == live_word name.turn (room / 16)) false (Event.End k name e) (Event.Reject k name (sized_reason name room a)) (visible l) (λ hit. refl) refl refl))
-back_step l k e (Unback q) a p is h = unback_agrees (q == p) (word_after l (Word.Backed p)) (backed_in (visible l) p) h
-back_step l k e s a p is h = h
+back_step l k e s a p is h = search (arith, event_if, back_agrees, eqb-true, end_event_cases, unback_agrees)
 
 -- the backed word of a page says whether the machine has it backed
 pub backed_of : (f : Profile) (l : Whole) → Legal f l → (p : ℕ) → word_after l (Word.Backed p) ≡ word_of_backed (backed_in (visible l) p)

@@ -108,13 +108,7 @@ rests_free t was m h = cond_both t m Stays (λ x. was ≡ free_moved x was) (λ 
 pub free_step : (f : Profile) (l : Whole) (e : ℕ) (s : Step) (a g : ℕ) → IsStepOf f s → a ≡ word_after l (target s)
     → has_bit (if same_word (target s) (free_word_at g) then new_value e s (word_after l (free_word_at g)) else word_after l (free_word_at g)) (g % 64)
     ≡ free_moved (grain_move s a g) (has_bit (word_after l (free_word_at g)) (g % 64))
-free_step f l e (Look word) a g of is = ap (λ n. has_bit n (g % 64)) (looked (same_word word (free_word_at g)) (word_after l (free_word_at g)))
-free_step f l e (Take page word mask) a g of is = take_free ((word == g / 64 % 4) && (page == g / 256)) (word_after l (free_word_at g)) a mask (g % 64) (λ h. is ∙ free_same l page word g h) of.2 (omega arith)
-free_step f l e (Put page word mask) a g of is = put_free ((word == g / 64 % 4) && (page == g / 256)) (word_after l (free_word_at g)) mask (g % 64)
-free_step f l e (Give block) a g of is = rests_free (in_run (grain_of block.name) (length_of block) g) (has_bit (word_after l (free_word_at g)) (g % 64)) (Gives (grain_of block.name)) refl
-free_step f l e (End name guess) a g of is = rests_free ((a == live_word name.turn guess) && in_run (grain_of name) guess g) (has_bit (word_after l (free_word_at g)) (g % 64)) (Ends (grain_of name)) refl
-free_step f l e (EndSized name room) a g of is = rests_free ((a == live_word name.turn (room / 16)) && in_run (grain_of name) (room / 16) g) (has_bit (word_after l (free_word_at g)) (g % 64)) (Ends (grain_of name)) refl
-free_step f l e s a g of is = refl
+free_step f l e s a g of is = search (arith, take_free, free_same, put_free, rests_free)
 
 -- ---- the life words
 pub covers_live : (turn n b g : ℕ) → turn < 2 ^ 40 → n < 2 ^ 23 → covers (live_word turn n) b g ≡ in_run b n g
@@ -174,15 +168,9 @@ pub step_fits : (f : Profile) (l : Whole) (k : ℕ) (s : Step) (a g : ℕ) (at :
     → a ≡ word_after l (target s) → Fits k (grain_move s a g) at.place
 step_fits f l k (Take page word mask) a g at valid of allowed is = search (arith, fits_if, and_parts, is_free-true, free_same)
 step_fits f l k (Put page word mask) a g at valid of allowed is = fits_if k Puts at.place (in_mask page word mask g) (λ h. is_held_by-true k at.place (sym (at.held k) ∙ allowed.held g h))
-step_fits f l k (Give block) a g at valid of allowed is = fits_if k (Gives (grain_of block.name)) at.place (in_run (grain_of block.name) (length_of block) g) (λ h. is_held_by-true k at.place (sym (at.held k) ∙ allowed.held g h))
-step_fits f l k (End name guess) a g at valid of allowed is = fits_if k (Ends (grain_of name)) at.place ((a == live_word name.turn guess) && in_run (grain_of name) guess g) (λ h.
-    let parts = and_parts (a == live_word name.turn guess) (in_run (grain_of name) guess g) h in
-    is_covered_by-true (grain_of name) at.place (sym (at.covered (grain_of name)) ∙ ap (λ w. covers w (grain_of name) g) (sym is ∙ eqb-true a (live_word name.turn guess) parts.0)
-    ∙ covers_live name.turn guess (grain_of name) g (omega (arith, of.2)) (guess_fits guess f.pages valid.pages of.4) ∙ parts.1))
-step_fits f l k (EndSized name room) a g at valid of allowed is = fits_if k (Ends (grain_of name)) at.place ((a == live_word name.turn (room / 16)) && in_run (grain_of name) (room / 16) g) (λ h.
-    let parts = and_parts (a == live_word name.turn (room / 16)) (in_run (grain_of name) (room / 16) g) h in
-    is_covered_by-true (grain_of name) at.place (sym (at.covered (grain_of name)) ∙ ap (λ w. covers w (grain_of name) g) (sym is ∙ eqb-true a (live_word name.turn (room / 16)) parts.0)
-    ∙ covers_live name.turn (room / 16) (grain_of name) g (omega (arith, of.0.2)) (guess_fits (room / 16) f.pages valid.pages of.0.4) ∙ parts.1))
+step_fits f l k (Give block) a g at valid of allowed is = search (arith, fits_if, is_held_by-true)
+step_fits f l k (End name guess) a g at valid of allowed is = search (arith, fits_if, and_parts, is_covered_by-true, eqb-true, covers_live, guess_fits)
+step_fits f l k (EndSized name room) a g at valid of allowed is = search (arith, fits_if, and_parts, is_covered_by-true, eqb-true, covers_live, guess_fits)
 step_fits f l k s a g at valid of allowed is = tt
 
 -- ---- the induction

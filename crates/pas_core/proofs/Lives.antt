@@ -51,17 +51,7 @@ life_rests : (f : Profile) (l : Whole) (k e : ℕ) (s : Step) (a g : ℕ) → Is
     → is_still (grain_move s a g) ≡ true
     → (if same_word (target s) (life_word_at g) then new_value e s (word_after l (life_word_at g)) else word_after l (life_word_at g))
     ≡ word_after l (life_word_at g)
-life_rests f l k e (Look word) a g of allowed is still = looked (same_word word (life_word_at g)) (word_after l (life_word_at g))
-life_rests f l k e (Give block) a g of allowed is still =
-    as_test (same_word (life_word_at (grain_of block.name)) (life_word_at g)) (grain_of block.name == g) (λ w. w ≡ word_after l (life_word_at g)) (live_word block.name.turn (length_of block)) (word_after l (life_word_at g)) (life_same (grain_of block.name) g)
-    (give_rests (grain_of block.name == g) (in_run (grain_of block.name) (length_of block) g) (grain_of block.name) g (length_of block) (word_after l (life_word_at g)) (live_word block.name.turn (length_of block)) refl (some_grain block.room allowed.whole allowed.some) refl still)
-life_rests f l k e (End name guess) a g of allowed is still =
-    as_test (same_word (life_word_at (grain_of name)) (life_word_at g)) (grain_of name == g) (λ w. w ≡ word_after l (life_word_at g)) (if word_after l (life_word_at g) == live_word name.turn guess then name.turn + 1 else word_after l (life_word_at g)) (word_after l (life_word_at g)) (life_same (grain_of name) g)
-    (end_rests (grain_of name == g) (a == live_word name.turn guess) (in_run (grain_of name) guess g) (grain_of name) g guess (word_after l (life_word_at g)) name.turn a refl (word_is l a (grain_of name) g is) of.3 refl refl still)
-life_rests f l k e (EndSized name room) a g of allowed is still =
-    as_test (same_word (life_word_at (grain_of name)) (life_word_at g)) (grain_of name == g) (λ w. w ≡ word_after l (life_word_at g)) (if word_after l (life_word_at g) == live_word name.turn (room / 16) then name.turn + 1 else word_after l (life_word_at g)) (word_after l (life_word_at g)) (life_same (grain_of name) g)
-    (end_rests (grain_of name == g) (a == live_word name.turn (room / 16)) (in_run (grain_of name) (room / 16) g) (grain_of name) g (room / 16) (word_after l (life_word_at g)) name.turn a refl (word_is l a (grain_of name) g is) of.0.3 refl refl still)
-life_rests f l k e s a g of allowed is still = refl
+life_rests f l k e s a g of allowed is still = search (arith, as_test, life_same, give_rests, some_grain, end_rests)
 
 -- ---- what is known of a life word
 pub look_is : (l : Whole) (s : Step) (a g : ℕ) → a ≡ word_after l (target s) → looks_at_life s g ≡ true → a ≡ word_after l (life_word_at g)
@@ -161,13 +151,7 @@ life_step f l k e (Look word) a g valid of allowed is dead tells h = subst (λ x
 life_step f l k e (Deed page directory) a g valid of allowed is dead tells h = event_if (λ x. LifeIn f g (word_after l (life_word_at g)) x (16 * g)) (a == 0) (Event.Deed k page directory) (visible l) h h
 life_step f l k e (Back page) a g valid of allowed is dead tells h = event_if (λ x. LifeIn f g (word_after l (life_word_at g)) x (16 * g)) (a == 0) (Event.Back k page) (visible l) h h
 life_step f l k e (Give block) a g valid of allowed is dead tells h =
-    let here : (address_of block.name == 16 * g) ≡ true → (grain_of block.name == g) ≡ true = λ x. sym (address_same (address_of block.name) g allowed.aligned) ∙ x in
-    let held : (grain_of block.name == g) ≡ true → holds (part k l) g ≡ true = λ x. ap (holds (part k l)) (sym (eqb-true (grain_of block.name) g x)) ∙ allowed.held (grain_of block.name) (first_of_run (grain_of block.name) (length_of block) (some_grain block.room allowed.whole allowed.some)) in
-    let turn : (grain_of block.name == g) ≡ true → block.name.turn ≡ ends_in (visible l) (16 * g) = search (arith, eqb-true, turn_is) in
-    as_test (same_word (life_word_at (grain_of block.name)) (life_word_at g)) (address_of block.name == 16 * g) (λ w. LifeIn f g w (Event.Give k block ∷ visible l) (16 * g)) (live_word block.name.turn (length_of block)) (word_after l (life_word_at g))
-    (life_same (grain_of block.name) g ∙ sym (address_same (address_of block.name) g allowed.aligned))
-    (give_life (address_of block.name == 16 * g) f g (word_after l (life_word_at g)) k block (live_in (visible l) (16 * g)) (gives_in (visible l) (16 * g)) (ends_in (visible l) (16 * g)) h (λ x. dead (held (here x)))
-    (λ x. new_at f l k block g (ends_in (visible l) (16 * g)) valid of allowed (turn (here x)) (here x)))
+    search (arith, address_same, eqb-true, first_of_run, some_grain, turn_is, as_test, life_same, give_life, new_at)
 life_step f l k e (End name guess) a g valid of allowed is dead tells h =
     as_test (same_word (life_word_at (grain_of name)) (life_word_at g)) (address_of name == 16 * g) (λ w. LifeIn f g w (with_event (end_event k e name guess a) (visible l)) (16 * g)) (if word_after l (life_word_at g) == live_word name.turn guess then name.turn + 1 else word_after l (life_word_at g)) (word_after l (life_word_at g))
     (life_same (grain_of name) g ∙ sym (address_same (address_of name) g of.1))
@@ -223,23 +207,13 @@ bare_ended x address live gives ends e h = grind (arith, false≢true)
 
 bare_step : (f : Profile) (v : View) (k e : ℕ) (s : Step) (a : ℕ) (es : List Event) (address : ℕ) → IsStepOf f s → Allowed f v s → address % 16 ≢ 0
     → BareIn es address → BareIn (with_event (event_of k e s a) es) address
-bare_step f v k e (Deed page directory) a es address of allowed un h = event_if (λ x. BareIn x address) (a == 0) (Event.Deed k page directory) es h h
-bare_step f v k e (Back page) a es address of allowed un h = event_if (λ x. BareIn x address) (a == 0) (Event.Back k page) es h h
-bare_step f v k e (Give block) a es address of allowed un h =
-    bare_give (address_of block.name == address) k block address (live_in es address) (gives_in es address) (ends_in es address) (other_address (address_of block.name) address allowed.aligned un (address_of block.name == address) refl) h
-bare_step f v k e (End name guess) a es address of allowed un h =
-    end_event_cases (λ x. BareIn x address) (a == live_word name.turn guess) (is_live a && (turn_of a == name.turn)) (Event.End k name e) (Event.Reject k name (reason_of name a)) es
-    (λ hit. bare_ended (address_of name == address) address (live_in es address) (gives_in es address) (ends_in es address) (other_address (address_of name) address of.1 un (address_of name == address) refl) h) h h
-bare_step f v k e (EndSized name room) a es address of allowed un h =
-    end_event_cases (λ x. BareIn x address) (a == live_word name.turn (room / 16)) false (Event.End k name e) (Event.Reject k name (sized_reason name room a)) es
-    (λ hit. bare_ended (address_of name == address) address (live_in es address) (gives_in es address) (ends_in es address) (other_address (address_of name) address of.0.1 un (address_of name == address) refl) h) h h
-bare_step f v k e s a es address of allowed un h = h
+bare_step f v k e s a es address of allowed un h = search (arith, event_if, bare_give, other_address, end_event_cases, bare_ended)
 
 -- No block ever began at an address that isn't a multiple of 16.
 pub bare_of : (f : Profile) (l : Whole) → Legal f l → (address : ℕ) → address % 16 ≢ 0
     → IsBare address (live_in (visible l) address) (gives_in (visible l) address) (ends_in (visible l) address)
 bare_of f [] legal address un = record { no_block = refl; no_give = refl; no_end = refl }
-bare_of f (t ∷ l) legal address un = bare_step f (part t.actor l) t.actor (epoch_of (part t.actor l)) t.made.step t.made.answer (visible l) address legal.0.of_region legal.0.allowed un (bare_of f l legal.1 address un)
+bare_of f (t ∷ l) legal address un = search (arith, bare_step, bare_of f l legal.1 address un)
 
 -- no block lives at an address that is no multiple of 16
 pub live_is_aligned : (f : Profile) (l : Whole) → Legal f l → (address : ℕ) (b : Live) → live_in (visible l) address ≡ Some b → address % 16 ≡ 0
@@ -299,7 +273,7 @@ count_gives (e ∷ es) = gives_counted e (count_gives es)
 -- the gives at one address are some of all
 gives_few : (es : List Event) (address : ℕ) → gives_in es address ≤ count_gives es
 gives_few [] address = omega arith
-gives_few (Event.Give k block ∷ es) address = cond_both (address_of block.name == address) (gives_in es address + 1) (gives_in es address) (λ n. n ≤ (count_gives es) + 1) (λ here. omega (arith, gives_few es address)) (λ other. omega (arith, gives_few es address))
+gives_few (Event.Give k block ∷ es) address = search (arith, cond_both, gives_few es address)
 gives_few (e ∷ es) address = gives_few es address
 
 -- each give is an event

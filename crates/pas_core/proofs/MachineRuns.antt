@@ -119,10 +119,7 @@ sized_admits : (f : Profile) (z y : Bool) (k ep g a word room : ℕ) (name : Nam
     → IsLifeOf f g word (live_in es (address_of name)) (gives_in es (address_of name)) (ends_in es (address_of name))
     → (a == live_word name.turn (room / 16)) ≡ z → (is_live a && (turn_of a == name.turn)) ≡ y
     → Run f (with_event (if z then Some (Event.End k name ep) else Some (Event.Reject k name (if y then Why.SizeDiffers room else reason_of name a))) es)
-sized_admits f true y k ep g a word room name es run of is small life ze ye = end_admits f true y k ep g a word (room / 16) name es run of is small life ze ye
-sized_admits f false true k ep g a word room name es run of is small life ze ye =
-    search (arith, and_parts, other_room, eqb-true)
-sized_admits f false false k ep g a word room name es run of is small life ze ye = ((of, refused f g word a name es is life ye), run)
+sized_admits f z y k ep g a word room name es run of is small life ze ye = search (arith, end_admits, and_parts, other_room, eqb-true, refused)
 
 give_admits : (f : Profile) (l : Whole) → IsValid f → Legal f l → (k : ℕ) (block : Block) → IsBlockOf f block → Allowed f (part k l) (Give block)
     → MayGive f (visible l) block
@@ -166,15 +163,8 @@ unback_admits f l valid legal k page of may =
 
 admits : (f : Profile) (l : Whole) → IsValid f → Legal f l → (k : ℕ) (s : Step) (a : ℕ) → IsStepOf f s → Allowed f (part k l) s → a ≡ word_after l (target s)
     → Run f (visible l) → Run f (with_event (event_of k (epoch_of (part k l)) s a) (visible l))
-admits f l valid legal k (Deed q d) a of allowed is run = cond_both (a == 0) (Some (Event.Deed k q d)) None (λ o. Run f (with_event o (visible l))) (λ z. ((of.0, of.1.heap, no_deed (deed_in (visible l) q) (sym (eqb-true a 0 z) ∙ is ∙ deed_of f l legal q)), run)) (λ none. run)
-admits f l valid legal k (Back q) a of allowed is run = cond_both (a == 0) (Some (Event.Back k q)) None (λ o. Run f (with_event o (visible l))) (λ z. (
-  (
-    of,
-    some_deed (deed_in (visible l) q) (λ none. allowed.1 (known_is (known_deed (part k l) q) (word_after l (Word.Deed q)) (deeds_known f l legal k q) allowed.1 ∙ deed_of f l legal q ∙ none)),
-    is_backed true (backed_in (visible l) q) a (is ∙ backed_of f l legal q) z,
-  ),
-  run,
-)) (λ none. run)
+admits f l valid legal k (Deed q d) a of allowed is run = search (arith, cond_both, eqb-true, deed_of)
+admits f l valid legal k (Back q) a of allowed is run = search (arith, cond_both, some_deed, known_is, deeds_known, deed_of, is_backed, backed_of)
 admits f l valid legal k (Give block) a of allowed is run = (give_admits f l valid legal k block of allowed, run)
 admits f l valid legal k (End name guess) a of allowed is run =
     end_admits f (a == live_word name.turn guess) (is_live a && (turn_of a == name.turn)) k (epoch_of (part k l)) (grain_of name) a (word_after l (life_word_at (grain_of name))) guess name (visible l) run (of.0, of.1) is of.2 (life_at f l valid legal (address_of name) of.1) refl refl
@@ -288,7 +278,7 @@ stamp_is_known : (age : ℕ) → known_stamp (ticked age) 1 ≡ Some 0
 stamp_is_known age = cc (holds_each (ticked age) all_taken, holds_each looked all_taken)
 
 may_unback : (f : Profile) → MayUnback f (ticked f.age) 1
-may_unback f = record { held = all_taken; stamped = refl; backed = backed_is_known f.age; stamp = 0; known = stamp_is_known f.age; read = tt; old = omega arith }
+may_unback f = search (arith, all_taken, backed_is_known, stamp_is_known)
 
 -- ---- the list
 pub can_unback : (f : Profile) → IsValid f → (l : Whole) × Legal f l × (more : List Event) × (visible l ≡ Event.Unback 0 1 f.age ∷ more)

@@ -1,6 +1,6 @@
 -- One step more.
-use Rattle.std.proofs.Common.{arith, ◌≡◌, ℕ, ◌≤◌, ◌∷◌, sym, subst, Bool, true, false, if◌then◌else◌, List, length-set, refl, ap, ◌≢◌, ◌==◌, ◌++◌, []}
-use Rattle.std.proofs.Common.{slice_index, slice_set, eq-eqb, eqb-true, ne_eqb}
+use Rattle.std.proofs.Common.{arith, ◌≡◌, ℕ, ◌≤◌, ◌∷◌, sym, subst, Bool, if◌then◌else◌, List, length-set, refl, ap, ◌≢◌, ◌==◌, ◌++◌, [], slice_index, slice_set}
+use Rattle.std.proofs.Common.{eq-eqb, eqb-true, ne_eqb}
 use Rattle.pas_profile.specs.{Profiles.IsValid, Profiles.IsWordOf, Layouts.index_of, Layouts.same_word}
 use Rattle.pas_profile.specs.declared.{profile.Profile.Profile, word.Word.Word}
 use Rattle.pas_steps.specs.{Effects.target, Effects.new_value, Views.View, Views.epoch_of, Allowed.Allowed, Allowed.IsStepOf, Agreement.Agrees}
@@ -65,8 +65,7 @@ with_step_others j k m own ne = ap (λ (b : Bool). if b then m ∷ own j else ow
 
 order_next_at : (l : Whole) (own : ℕ → View) (k : ℕ) (m : Made) (j : ℕ) → IsOneOrder l own → (same : Bool) → (j == k) ≡ same
     → part j (triple k m ∷ l) ≡ with_step k m own j
-order_next_at l own k m j order true e = search (arith, part_of_own, with_step_own, eqb-true)
-order_next_at l own k m j order false e = search (arith, false≢true, eq-eqb, part_of_others, with_step_others)
+order_next_at l own k m j order same e = search (arith, part_of_own, with_step_own, eqb-true, false≢true, eq-eqb, part_of_others, with_step_others)
 
 -- the list with the step is one order of the own lists with the step
 pub one_order_next : (l : Whole) (own : ℕ → View) (k : ℕ) (m : Made) → IsOneOrder l own → IsOneOrder (triple k m ∷ l) (with_step k m own)

@@ -6,7 +6,7 @@ use Rattle.std.proofs.lemmas.Bool.{false≢true, and_parts, cases_Bool, false_fr
 use Rattle.std.proofs.lemmas.Bool.{cases_lt, cases_eq}
 use Rattle.std.proofs.lemmas.Nat.{and_le_r}
 use Rattle.pas_bits.specs.Bits.{has_bit}
-use Rattle.pas_profile.specs.{Layouts.same_word, Profiles.IsValid, Directories.directory_read}
+use Rattle.pas_profile.specs.{Profiles.IsValid, Directories.directory_read}
 use Rattle.pas_profile.specs.declared.{profile.Profile.Profile, word.Word.Word}
 use Rattle.pas_steps.specs.{Effects.free_word_at, Effects.target, Allowed.Allowed, Allowed.IsStepOf, Allowed.HoldsOn, Desks.made, Desks.triple, Desks.triples}
 use Rattle.pas_steps.specs.{Clear.IsClear}
@@ -66,9 +66,9 @@ back_not_empty f l valid legal j q p on free h =
 was_empty : (f : Profile) (l : Whole) → IsValid f → Legal f l → (j : ℕ) (s : Step) (a p : ℕ) → IsStepOf f s → Allowed f (part j l) s → puts s p ≡ false
     → IsEmptyBacked (triple j (made s a) ∷ l) p → IsEmptyBacked l p
 was_empty f l valid legal j (Look word) a p of allowed other h = search (arith, looked)
-was_empty f l valid legal j (Back q) a p of allowed other h = record { backed = back_was (q == p) (word_after l (Word.Backed p)) (back_not_empty f l valid legal j q p allowed.0 h.free) h.backed; free = h.free }
-was_empty f l valid legal j (Take q w mask) a p of allowed other h = record { backed = h.backed; free = λ g e. clear_was ((w == g / 64 % 4) && (q == g / 256)) (word_after l (free_word_at g)) mask (g % 64) of.2 (omega arith) (h.free g e) }
-was_empty f l valid legal j (Put q w mask) a p of allowed other h = record { backed = h.backed; free = λ g e. ap (λ t. has_bit (if t then bit_or (word_after l (free_word_at g)) mask else word_after l (free_word_at g)) (g % 64)) (sym (put_misses q w p g other e)) ∙ h.free g e }
+was_empty f l valid legal j (Back q) a p of allowed other h = search (arith, back_was, back_not_empty)
+was_empty f l valid legal j (Take q w mask) a p of allowed other h = search (arith, clear_was)
+was_empty f l valid legal j (Put q w mask) a p of allowed other h = search (arith, put_misses)
 was_empty f l valid legal j (Unback q) a p of allowed other h = record { backed = unback_was (q == p) (word_after l (Word.Backed p)) h.backed; free = h.free }
 was_empty f l valid legal j s a p of allowed other h = record { backed = h.backed; free = h.free }
 
@@ -85,10 +85,7 @@ put_owes s a p was h = grind (arith, false≢true)
 -- a look at a free word of the page, or at its backed word, ends nothing
 look_free_keeps : (f : Profile) (l : Whole) → IsValid f → Legal f l → (q w a p : ℕ) → w < 4 → a ≡ word_after l (Word.Free q w) → IsEmptyBacked l p
     → ((q == p) && not (a == all_ones)) ≡ false
-look_free_keeps f l valid legal q w a p hw is empty = false_from_ne_true ((q == p) && not (a == all_ones)) (λ h.
-    let parts = and_parts (q == p) (not (a == all_ones)) h in
-    let full : a ≡ all_ones = is ∙ ap (λ x. word_after l (Word.Free x w)) (eqb-true q p parts.0) ∙ full_word f l valid legal p w hw empty in
-    false≢true (sym (ap not (eq-eqb a all_ones full)) ∙ parts.1))
+look_free_keeps f l valid legal q w a p hw is empty = search (arith, false_from_ne_true, and_parts, eqb-true, full_word, false≢true, eq-eqb)
 
 look_backed_keeps : (l : Whole) (q a p : ℕ) → a ≡ word_after l (Word.Backed q) → IsEmptyBacked l p → ((q == p) && (a == 0)) ≡ false
 look_backed_keeps l q a p is empty = search (arith, false_from_ne_true, and_parts, eqb-true)
@@ -128,11 +125,12 @@ unhint_bit l j q a p is true e set =
     inr (inr (record { actor = j; examines_it = ap (λ b. examines (if b then (made (Unhint q) a) ∷ (part j l) else (part j l)) p) (eq-eqb j j refl) ∙ ap (λ t. if t && has_bit a (p % 64) then true else examines (part j l) p) e ∙ ap (λ t. if t then true else examines (part j l) p) read }))
 unhint_bit l j q a p is false e set = inl (page_bit-clear q p (word_after l (Word.Empty (p / 64))) true ∙ cond-false (q == p) false (empty_bit l p) e ∙ set)
 
+-- what a step leaves of a page's hint; a look at hints changes no word, so that what the view said of the page it says still
 minded_step : (f : Profile) (l : Whole) → IsValid f → Legal f l → (j : ℕ) (s : Step) (a p : ℕ) → IsStepOf f s → a ≡ word_after l (target s) → IsEmptyBacked l p
     → IsEmptyBacked (triple j (made s a) ∷ l) p → IsMinded l p → IsMinded (triple j (made s a) ∷ l) p
-minded_step f l valid legal j (Look (Word.Free q w)) a p of is was now h = keeps l j (Look (Word.Free q w)) a p (cond-false ((q == p) && not (a == all_ones)) false true (look_free_keeps f l valid legal q w a p of.2 is was)) (cond-false ((q == p) && not (a == all_ones)) false true (look_free_keeps f l valid legal q w a p of.2 is was)) (λ set. inl set) h
-minded_step f l valid legal j (Look (Word.Backed q)) a p of is was now h = keeps l j (Look (Word.Backed q)) a p (cond-false ((q == p) && (a == 0)) false true (look_backed_keeps l q a p is was)) (cond-false ((q == p) && (a == 0)) false true (look_backed_keeps l q a p is was)) (λ set. inl set) h
-minded_step f l valid legal j (Look (Word.Empty i)) a p of is was now h = keeps l j (Look (Word.Empty i)) a p refl refl (λ set. inl (ap (λ n. has_bit n (p % 64)) (looked (same_word (Word.Empty i) (Word.Empty (p / 64))) (word_after l (Word.Empty (p / 64)))) ∙ set)) h
+minded_step f l valid legal j (Look (Word.Free q w)) a p of is was now h = search (arith, cond-false, look_free_keeps)
+minded_step f l valid legal j (Look (Word.Backed q)) a p of is was now h = search (arith, cond-false, look_backed_keeps)
+minded_step f l valid legal j (Look (Word.Empty i)) a p of is was now h = search arith
 minded_step f l valid legal j (Take q w mask) a p of is was now h = keeps l j (Take q w mask) a p (cond-false ((q == p) && (not (a == all_ones) || not (bit_and a mask == 0))) false true (take_keeps f l valid legal j q w mask a p of.1 of.2 is was now)) (cond-false ((q == p) && (not (a == all_ones) || not (bit_and a mask == 0))) false true (take_keeps f l valid legal j q w mask a p of.1 of.2 is was now)) (λ set. inl set) h
 minded_step f l valid legal j (Put q w mask) a p of is was now h = keeps l j (Put q w mask) a p (stays_set (q == p) true refl) refl (λ set. inl set) h
 minded_step f l valid legal j (Hint q) a p of is was now h = hint_keeps l j q a p (q == p) refl h
@@ -163,11 +161,7 @@ stays_owed l s a p w k = check_after s a p w (has_right (part k l) p) (known_dee
 
 -- a debt stays where its own actor's step leaves it
 keeps_owed : (l : Whole) (j : ℕ) (s : Step) (a p w : ℕ) → ((k : ℕ) → stays_owed l s a p w k ≡ true) → IsOwed l p w → IsOwed (triple j (made s a) ∷ l) p w
-keeps_owed l j s a p w keep owed = record {
-  actor = owed.actor;
-  owes = cond_both (j == owed.actor) (made s a ∷ part owed.actor l) (part owed.actor l) (λ v. owes_check v p w ≡ true)
-      (λ own. ap (check_after s a p w (has_right (part owed.actor l) p) (known_deed (part owed.actor l) p)) owed.owes ∙ keep owed.actor) (λ other. owed.owes);
-}
+keeps_owed l j s a p w keep owed = search (arith, cond_both)
 
 -- the actor of the step owes it now
 owes_now : (l : Whole) (j : ℕ) (s : Step) (a p w : ℕ)
@@ -223,8 +217,7 @@ owed_step : (f : Profile) (l : Whole) (j e : ℕ) (s : Step) (a p w b : ℕ) →
 owed_step f l j e (Look (Word.Free q u)) a p w b small at of is before usable o free =
     search (arith, looked, keeps_owed, cond-false, look_keeps)
 owed_step f l j e (Deed q d) a p w b small at of is before usable o free = search (arith, was_parked, keeps_owed)
-owed_step f l j e (Take q u mask) a p w b small at of is before usable o free =
-    keeps_owed l j (Take q u mask) a p w (λ k. refl) (before o (clear_was ((u == w) && (q == p)) (word_after l (Word.Free p w)) mask b of.2 small free))
+owed_step f l j e (Take q u mask) a p w b small at of is before usable o free = search (arith, keeps_owed, clear_was)
 owed_step f l j e (Put q u mask) a p w b small at of is before usable o free = put_owed l j q u mask a p w b at o (before o) ((u == w) && (q == p)) refl free
 owed_step f l j e (TakeRight q d) a p w b small at of is before usable o free = search (arith, was_parked, keeps_owed)
 owed_step f l j e (Offer q d) a p w b small at of is before usable o free =
@@ -268,8 +261,7 @@ free_is_offered f l legal p w b deed free lacks paid = offered_place f l legal p
 -- an actor past the threads makes no step
 pub no_other_actor : (f : Profile) (l : Whole) → Legal f l → (k : ℕ) → f.threads < k → part k l ≡ []
 no_other_actor f [] legal k past = refl
-no_other_actor f (t ∷ l) legal k past =
-    ap (λ x. if x then t.made ∷ part k l else part k l) (ne_eqb t.actor k (λ e. omega (arith, e, legal.0.actor, past))) ∙ no_other_actor f l legal.1 k past
+no_other_actor f (t ∷ l) legal k past = search (arith, ne_eqb, no_other_actor f l legal.1 k past)
 
 -- ---- all at rest
 clear_owes : (f : Profile) (l : Whole) → Legal f l → AllClear f l → (p w : ℕ) → w < 4 → NobodyOwes l p w

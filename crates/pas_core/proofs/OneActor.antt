@@ -1,20 +1,18 @@
 -- Laws of one actor alone, in a list that is legal as a whole: what its steps leave as it was, which grains are free and where rights are before and
 -- after them, and what its search finds.
 use Rattle.std.proofs.Common.{◌≡◌, ℕ, ◌/◌, true, false, if◌then◌else◌, List, [], ◌∷◌, ◌++◌, refl, ap, ◌∙◌, true≢false, ◌≢◌, ◌+◌, ◌*◌, ◌%◌, ◌<◌, ◌==◌, Bool}
-use Rattle.std.proofs.Common.{◌&&◌, ◌||◌, sym, arith, inl, inr, None, Some, subst, Result, Ok, Err, eq-eqb, eqb-true}
+use Rattle.std.proofs.Common.{◌||◌, sym, arith, inl, inr, None, Some, subst, Result, Ok, Err, eq-eqb, eqb-true}
 use Rattle.pas_bits.specs.Bits.{has_bit}
-use Rattle.pas_profile.specs.{Directories.number_of, Directories.deed_word_of, Directories.deed_word_numbered, Layouts.same_word, Profiles.IsValid}
-use Rattle.pas_profile.specs.{Profiles.IsDirectoryOf}
+use Rattle.pas_profile.specs.{Directories.number_of, Directories.deed_word_of, Layouts.same_word, Profiles.IsValid, Profiles.IsDirectoryOf}
 use Rattle.pas_profile.specs.declared.{word.Word.Word, profile.Profile.Profile, event.Event.Event, directory.Directory.Directory, event.NoRoom.NoRoom}
 use Rattle.pas_profile.specs.declared.{event.NoRoom.TheVariants.NoSpace}
 use Rattle.pas_steps.specs.{Effects.target, Effects.new_value, Effects.free_word_at, Desks.triples, Desks.triple, Past.Once, Past.Always, Events.event_of}
 use Rattle.pas_steps.specs.{Allowed.Allowed, Agreement.Agrees}
-use Rattle.pas_steps.specs.Views.{epoch_of, View, Move, Stays, Gets, Puts, Gives, Ends, grain_move, held_after, holds, Way, Rests, ByDeed, FromOffer, ToOffer}
-use Rattle.pas_steps.specs.Views.{ToParked, way, had_after, has_right, deed_after, known_deed, KnowsDeed}
+use Rattle.pas_steps.specs.Views.{epoch_of, View, Move, Stays, Gets, Puts, Gives, Ends, grain_move, held_after, holds, Way, Rests, way, had_after, has_right}
+use Rattle.pas_steps.specs.Views.{deed_after, known_deed, KnowsDeed}
 use Rattle.pas_steps.specs.Lists.{Whole, part, word_after, Legal}
-use Rattle.pas_steps.specs.Kinds.{Kinds, kind_of, place_of, is_in, apart, Only, Taking, Claiming, Deeding, lending}
-use Rattle.pas_steps.specs.declared.step.{Made.Made, Step.Step}
-use Rattle.pas_steps.specs.declared.step.Step.TheVariants.{Look, Deed, TakeRight, Offer, Park, Unpark}
+use Rattle.pas_steps.specs.Kinds.{Kinds, kind_of, is_in, apart, Only, Taking, Claiming, Deeding, lending}
+use Rattle.pas_steps.specs.declared.step.{Made.Made, Step.Step, Step.TheVariants.Look, Step.TheVariants.Deed}
 use Rattle.pas_steps.proofs.{Apart.in_apart, Past.since_once, Past.always_map, Past.once_map, Parts.part_of_own, Parts.part_of_others, Parts.each_part}
 use Rattle.pas_steps.proofs.{Adding.triples_append, Frames.right_own, Frames.right_of_own, Frames.lacks_now, Kept.deed_stays}
 use Rattle.pas_core.proofs.Deeds.{looked, deed_kept, deed_was_none, known_is, numbered_ne}
@@ -38,8 +36,7 @@ over : (Q : ℕ → Type 0) (x : Word) (ks ls : Kinds)
     → ((e : ℕ) (s : Step) (old : ℕ) → is_in ls (kind_of s) ≡ false → Q old → Q (if same_word (target s) x then new_value e s old else old)) → apart ks ls ≡ true
     → (k : ℕ) (xs : List Made) (l : Whole) → Only ks xs → Q (word_after l x) → Q (word_after (triples k xs ++ l) x)
 over Q x ks ls step w k [] l only h = h
-over Q x ks ls step w k (m ∷ xs) l only h =
-    step (epoch_of (part k (triples k xs ++ l))) m.step (word_after (triples k xs ++ l) x) (in_apart ks ls (place_of (kind_of m.step)) w only.0) (over Q x ks ls step w k xs l only.1 h)
+over Q x ks ls step w k (m ∷ xs) l only h = search (arith, in_apart, over Q x ks ls step w k xs l only.1 h)
 
 frees_kept : (e : ℕ) (s : Step) (p w old b : ℕ) → is_in (Taking ∷ []) (kind_of s) ≡ false → has_bit old b ≡ true
     → has_bit (if same_word (target s) (Word.Free p w) then new_value e s old else old) b ≡ true
@@ -87,7 +84,7 @@ LendsNone = Always (λ m before. is_in lending (kind_of m.step) ≡ false)
 
 -- Steps of kinds apart from gives and ends give and end no block.
 pub lends_none : (ks : Kinds) → apart ks lending ≡ true → (xs : List Made) → Only ks xs → LendsNone xs
-lends_none ks w xs = always_map (λ m before. is_in ks (kind_of m.step) ≡ true) (λ m before. is_in lending (kind_of m.step) ≡ false) xs (λ m before is. in_apart ks lending (place_of (kind_of m.step)) w is)
+lends_none ks w xs = search (arith, always_map, in_apart)
 
 abbrev bit_of : Whole → ℕ → Bool
 bit_of l g = has_bit (word_after l (free_word_at g)) (g % 64)
@@ -140,9 +137,9 @@ used_all f k l g (m ∷ xs) valid legal lends used = used_next f k l g m xs vali
 free_read : (page word : ℕ) (s : Step) (w : Whole) → ReadsFree page word s → word_after w (target s) ≡ word_after w (Word.Free page word)
 free_read page word s w e = grind arith
 
+-- the page and the word of a grain, by division
 word_of_page : (page b : ℕ) → b < 256 → free_word_at (page * 256 + b) ≡ Word.Free page (b / 64)
-word_of_page page b lt = let x : (page * 256 + b) / 256 ≡ page = omega (arith, lt) in let y : (page * 256 + b) / 64 % 4 ≡ b / 64 = omega (arith, lt) in
-    ap (λ p. Word.Free p ((page * 256 + b) / 64 % 4)) x ∙ ap (λ w. Word.Free page w) y
+word_of_page page b lt = search arith
 
 shown : (f : Profile) (k : ℕ) (l : Whole) (page b : ℕ) (r : Readings) (m : Made) (xs : List Made) → Legal f (triples k (m ∷ xs) ++ l) → b < 256
     → ShowsHere page (b / 64) r m xs → r b ≡ (bit_of (triples k xs ++ l) (page * 256 + b) || holds xs (page * 256 + b))
@@ -257,7 +254,7 @@ deed_step w e s a p is quiet = refl
 pub deed_quiet : (f : Profile) (k : ℕ) (l : Whole) (p : ℕ) (xs : List Made) → Legal f (triples k xs ++ l) → MakesNoEvent xs
     → word_after (triples k xs ++ l) (Word.Deed p) ≡ word_after l (Word.Deed p)
 deed_quiet f k l p [] legal quiet = refl
-deed_quiet f k l p (m ∷ xs) legal quiet = deed_step (triples k xs ++ l) (epoch_of (part k (triples k xs ++ l))) m.step m.answer p legal.0.answer_is quiet.0 ∙ deed_quiet f k l p xs legal.1 quiet.1
+deed_quiet f k l p (m ∷ xs) legal quiet = search (arith, deed_step, deed_quiet f k l p xs legal.1 quiet.1)
 
 -- A look at a page's deed word reads that word.
 pub deed_read : (p : ℕ) (s : Step) (w : Whole) → ReadsDeed p s → word_after w (target s) ≡ word_after w (Word.Deed p)
@@ -294,13 +291,7 @@ pub spot_same : (f : Profile) (k : ℕ) (l : Whole) (p : ℕ) (xs : List Made) �
     → Always (LacksAfter p) xs → spot_of (triples k xs ++ l) p ≡ spot_of l p
 spot_same f k l p [] legal none lacks = refl
 spot_same f k l p (m ∷ xs) legal none lacks =
-    let w : Whole = triples k xs ++ l in
-    let at : IsSpotted w p = spotted f w legal.1 p in
-    let own : has_right xs p ≡ false = lacks_now p xs lacks.1 in
-    let view : has_right (part k w) p ≡ false = ap (λ v. has_right v p) (part_of_own k xs l) ∙ right_own p xs (part k l) none ∙ own in
-    let moved : had_after (way m.step m.answer p) false ≡ false = ap (had_after (way m.step m.answer p)) (sym own) ∙ lacks.0 in
-    stays_put k (way m.step m.answer p) (spot_of w p) moved (step_suits f w k m.step m.answer p at legal.0.allowed legal.0.answer_is) (not_with w k p at view)
-    ∙ spot_same f k l p xs legal.1 none lacks.1
+    search (arith, spotted, lacks_now, part_of_own, right_own, stays_put, step_suits, not_with, spot_same f k l p xs legal.1 none lacks.1)
 
 -- ---- readings of the page's bits
 eligible_read : (d : Directory) (p : ℕ) (s : Step) (w : Whole) → ReadsEligible d p s
@@ -348,17 +339,10 @@ got_if : (t : Bool) (w : Way) → had_after (if t then w else Rests) false ≡ t
 got_if t w h = grind (arith, false≢true)
 
 deed_here : (t z : Bool) (d : Directory) (a known : ℕ) → t ≡ true → z ≡ true → (if t then (if z then deed_word_of d else a) else known) ≢ 0
-deed_here t z d a known ht hz e = deed_word_of-positive d (sym (ap (λ x. if x then (if z then deed_word_of d else a) else known) ht ∙ ap (λ x. if x then deed_word_of d else a) hz) ∙ e)
+deed_here t z d a known ht hz e = search (arith, deed_word_of-positive)
 
 gains_known : (f : Profile) (v : View) (s : Step) (a p : ℕ) → Allowed f v s → had_after (way s a p) false ≡ true → deed_after s a p (known_deed v p) ≢ 0
-gains_known f v (Deed q d) a p allowed h = let parts = and_parts (q == p) (a == 0) (got_if ((q == p) && (a == 0)) ByDeed h).0 in deed_here (q == p) (a == 0) d a (known_deed v p) parts.0 parts.1
-gains_known f v (TakeRight q d) a p allowed h =
-    let parts = and_parts (q == p) (has_bit a (p % 64)) (got_if ((q == p) && has_bit a (p % 64)) (FromOffer (number_of d)) h).0 in
-    cond_both ((q / 64 == p / 64) && has_bit a (p % 64)) (deed_word_numbered (number_of d)) (known_deed v p) (λ x. x ≢ 0) (λ here. (numbered_ne (number_of d))) (λ other. (λ z. deed_word_of-positive d (sym allowed ∙ ap (known_deed v) (eqb-true q p parts.0) ∙ z)))
-gains_known f v (Offer q d) a p allowed h = absurd (false≢true (got_if (q == p) (ToOffer (number_of d)) h).1)
-gains_known f v (Park q) a p allowed h = absurd (false≢true (got_if (q == p) ToParked h).1)
-gains_known f v (Unpark q) a p allowed h = search (arith, and_parts, got_if, eqb-true)
-gains_known f v s a p allowed h = absurd (false≢true h)
+gains_known f v s a p allowed h = search (arith, and_parts, got_if, deed_here, cond_both, numbered_ne, deed_word_of-positive, eqb-true, false≢true)
 
 own_known : (f : Profile) (v : View) (m : Made) (p : ℕ) → Allowed f v m.step → Agrees f v m.step m.answer → (has_right v p ≡ true → known_deed v p ≢ 0)
     → (had : Bool) → has_right v p ≡ had → had_after (way m.step m.answer p) had ≡ true → known_deed (m ∷ v) p ≢ 0

@@ -13,7 +13,7 @@ use Rattle.pas_steps.specs.Views.{Way, Rests, ByDeed, FromOffer, FromParked, ToO
 use Rattle.pas_steps.specs.Views.{free_after, known_free, View, holds, holds_on, backed_after, knows_backed}
 use Rattle.pas_steps.specs.Lists.{Whole, part, word_after, IsNext, Legal, Triple}
 use Rattle.pas_steps.specs.declared.step.Step.{Step}
-use Rattle.pas_steps.specs.declared.step.Step.TheVariants.{Look, Deed, TakeRight, Offer, Park, Unpark, Take, Hint, Unhint}
+use Rattle.pas_steps.specs.declared.step.Step.TheVariants.{Look, Deed, TakeRight, Offer, Park, Unpark, Take}
 use Rattle.pas_core.specs.Rights.{parked_bit, eligible_bit, empty_bit, IsRightInOnePlace}
 use Rattle.pas_bits.proofs.{Words.none_of_zero, Words.bit_cleared, Words.bit_of_or, PageVectors.page_bit-clear, PageVectors.page_bit-set}
 use Rattle.pas_core.proofs.Deeds.{next_value, looked, IsKnown, known_is, word_stays, deed_tells, look_tells, deed_at, numbered_ne, deed_words, deed_has_page}
@@ -138,14 +138,7 @@ parked_rests y was m h = cond_both y m Rests (λ x. was ≡ parked_moved x was) 
 
 parked_step : (l : Whole) (e : ℕ) (s : Step) (a p : ℕ) → a ≡ word_after l (target s)
     → has_bit (next_value e s (Word.Parked (p / 64)) (word_after l (Word.Parked (p / 64)))) (p % 64) ≡ parked_moved (way s a p) (parked_bit l p)
-parked_step l e (Look word) a p is = ap (λ n. has_bit n (p % 64)) (looked (same_word word (Word.Parked (p / 64))) (word_after l (Word.Parked (p / 64))))
-parked_step l e (Deed q d) a p is = parked_rests ((q == p) && (a == 0)) (parked_bit l p) ByDeed (λ b. refl)
-parked_step l e (TakeRight q d) a p is = parked_rests ((q == p) && has_bit a (p % 64)) (parked_bit l p) (FromOffer (number_of d)) (λ b. refl)
-parked_step l e (Offer q d) a p is = parked_rests (q == p) (parked_bit l p) (ToOffer (number_of d)) (λ b. refl)
-parked_step l e (Park q) a p is = page_bit-set q p (word_after l (Word.Parked (p / 64))) true ∙ park_cases (q == p) (parked_bit l p)
-parked_step l e (Unpark q) a p is = page_bit-clear q p (word_after l (Word.Parked (p / 64))) true
-    ∙ unpark_cases (q == p) (has_bit a (p % 64)) (parked_bit l p) (λ h. ap (λ n. has_bit n (p % 64)) (is ∙ ap (λ x. word_after l (Word.Parked (x / 64))) (eqb-true q p h)))
-parked_step l e s a p is = refl
+parked_step l e s a p is = search (arith, parked_rests, page_bit-set, park_cases, page_bit-clear, unpark_cases, eqb-true)
 
 -- ---- the eligible words
 take_right_cases : (x y g was : Bool) (m n : ℕ) → (m == n) ≡ x → (x ≡ true → y ≡ true → g ≡ was)
@@ -160,14 +153,14 @@ offered_rests y was n m h = cond_both y m Rests (λ x. was ≡ offered_moved x n
 
 eligible_at : (l : Whole) (a m n q p : ℕ) → a ≡ word_after l (Word.Eligible m (q / 64)) → (m == n) ≡ true → (q == p) ≡ true
     → has_bit a (p % 64) ≡ eligible_bit l n p
-eligible_at l a m n q p is x y = ap (λ b. has_bit b (p % 64)) (is ∙ ap (λ i. word_after l (Word.Eligible i (q / 64))) (eqb-true m n x) ∙ ap (λ i. word_after l (Word.Eligible n (i / 64))) (eqb-true q p y))
+eligible_at l a m n q p is x y = search (arith, eqb-true)
 
 eligible_step : (l : Whole) (e : ℕ) (s : Step) (a p n : ℕ) → a ≡ word_after l (target s)
     → has_bit (next_value e s (Word.Eligible n (p / 64)) (word_after l (Word.Eligible n (p / 64)))) (p % 64) ≡ offered_moved (way s a p) n (eligible_bit l n p)
 eligible_step l e (Look word) a p n is = ap (λ n. has_bit n (p % 64)) (looked (same_word word (Word.Eligible n (p / 64))) (word_after l (Word.Eligible n (p / 64))))
 eligible_step l e (Deed q d) a p n is = offered_rests ((q == p) && (a == 0)) (eligible_bit l n p) n ByDeed (λ b. refl)
 eligible_step l e (TakeRight q d) a p n is = search (arith, page_bit-clear, take_right_cases, eligible_at)
-eligible_step l e (Offer q d) a p n is = page_bit-set q p (word_after l (Word.Eligible n (p / 64))) (number_of d == n) ∙ offer_cases (number_of d == n) (q == p) (eligible_bit l n p) (number_of d) n refl
+eligible_step l e (Offer q d) a p n is = search (arith, page_bit-set, offer_cases)
 eligible_step l e (Park q) a p n is = offered_rests (q == p) (eligible_bit l n p) n ToParked (λ b. refl)
 eligible_step l e (Unpark q) a p n is = offered_rests ((q == p) && has_bit a (p % 64)) (eligible_bit l n p) n FromParked (λ b. refl)
 eligible_step l e s a p n is = refl
@@ -178,7 +171,7 @@ suits_if j m o t h = cond_both t m Rests (λ x. Suits j x o) h (λ other. tt)
 
 offered_here : (l : Whole) (a n j p : ℕ) → IsSpotted l p → a ≡ word_after l (Word.Eligible n j) → j ≡ p / 64 → has_bit a (p % 64) ≡ true
     → spot_of l p ≡ Offered n
-offered_here l a n j p at is here set = is_offered-true n (spot_of l p) (sym (at.eligible n) ∙ ap (λ b. has_bit b (p % 64)) (ap (λ i. word_after l (Word.Eligible n i)) (sym here) ∙ sym is) ∙ set)
+offered_here l a n j p at is here set = search (arith, is_offered-true)
 
 with_here : (f : Profile) (l : Whole) (j q p : ℕ) → IsSpotted l p → has_right (part j l) q ≡ true → (q == p) ≡ true → spot_of l p ≡ With j
 with_here f l j q p at has h = is_with-true j (spot_of l p) (sym (at.has j) ∙ ap (has_right (part j l)) (sym (eqb-true q p h)) ∙ has)
@@ -186,12 +179,7 @@ with_here f l j q p at has h = is_with-true j (spot_of l p) (sym (at.has j) ∙ 
 -- A legal step finds each right where its move takes it from.
 pub step_suits : (f : Profile) (l : Whole) (j : ℕ) (s : Step) (a p : ℕ) → IsSpotted l p → Allowed f (part j l) s → a ≡ word_after l (target s)
     → Suits j (way s a p) (spot_of l p)
-step_suits f l j (Deed q d) a p at allowed is = search (arith, suits_if, and_parts, eqb-true, no_deed)
-step_suits f l j (TakeRight q d) a p at allowed is = search (arith, suits_if, and_parts, offered_here, eqb-true)
-step_suits f l j (Offer q d) a p at allowed is = suits_if j (ToOffer (number_of d)) (spot_of l p) (q == p) (λ h. with_here f l j q p at allowed.0 h)
-step_suits f l j (Park q) a p at allowed is = suits_if j ToParked (spot_of l p) (q == p) (λ h. with_here f l j q p at allowed h)
-step_suits f l j (Unpark q) a p at allowed is = search (arith, suits_if, and_parts, is_parked-true, eqb-true)
-step_suits f l j s a p at allowed is = tt
+step_suits f l j s a p at allowed is = search (arith, suits_if, and_parts, eqb-true, offered_here, with_here, is_parked-true)
 
 suits_then : (j : ℕ) (m : Way) (o : Spot) (t : Bool) → t ≡ true → Suits j (if t then m else Rests) o → Suits j m o
 suits_then j m o t e h = subst (λ b. Suits j (if b then m else Rests) o) e h
@@ -216,13 +204,7 @@ known_here l j q p d at knows h = search (arith, eqb-true, known_is, deed_word_o
 fits_step : (f : Profile) (l : Whole) (j e : ℕ) (s : Step) (a p : ℕ) → IsSpotted l p → IsStepOf f s → Allowed f (part j l) s → a ≡ word_after l (target s)
     → Suits j (way s a p) (spot_of l p)
     → DeedFits (spot_after j (way s a p) (spot_of l p)) (next_value e s (Word.Deed p) (word_after l (Word.Deed p)))
-fits_step f l j e (Look word) a p at of allowed is suits = subst (DeedFits (spot_of l p)) (sym (looked (same_word word (Word.Deed p)) (word_after l (Word.Deed p)))) at.deed
-fits_step f l j e (Deed q d) a p at of allowed is suits = deed_fits (q == p) (a == 0) d (word_after l (Word.Deed p)) j (spot_of l p) (λ h. ap (λ n. n == 0) (ap (λ x. word_after l (Word.Deed x)) (sym (eqb-true q p h)) ∙ sym is)) at.deed
-fits_step f l j e (TakeRight q d) a p at of allowed is suits = search (arith, moved_fits, somewhere, suits_then)
-fits_step f l j e (Offer q d) a p at of allowed is suits = search (arith, moved_fits, known_here, numbered)
-fits_step f l j e (Park q) a p at of allowed is suits = search (arith, moved_fits, somewhere, suits_then)
-fits_step f l j e (Unpark q) a p at of allowed is suits = search (arith, moved_fits, somewhere, suits_then)
-fits_step f l j e s a p at of allowed is suits = at.deed
+fits_step f l j e s a p at of allowed is suits = search (arith, deed_fits, eqb-true, moved_fits, somewhere, suits_then, known_here, numbered)
 
 -- ---- what is known of deeds
 -- a set bit of an eligible word tells the deed
@@ -237,12 +219,7 @@ offered_deed l a n j p at is h = search (arith, and_parts, offered_here, eqb-tru
 -- an actor's own step tells it the word
 deed_learns : (l : Whole) (e : ℕ) (s : Step) (a p known : ℕ) → IsSpotted l p → a ≡ word_after l (target s) → IsKnown known (word_after l (Word.Deed p))
     → IsKnown (deed_after s a p known) (next_value e s (Word.Deed p) (word_after l (Word.Deed p)))
-deed_learns l e (Look (Word.Deed q)) a p known at is h = look_tells (q == p) (word_after l (Word.Deed p)) a known (deed_at l a q p is) h
-deed_learns l e (Look (Word.Eligible n j)) a p known at is h = eligible_tells ((j == p / 64) && has_bit a (p % 64)) (word_after l (Word.Deed p)) known n (offered_deed l a n j p at is) h
-deed_learns l e (TakeRight q d) a p known at is h = eligible_tells ((q / 64 == p / 64) && has_bit a (p % 64)) (word_after l (Word.Deed p)) known (number_of d) (offered_deed l a (number_of d) (q / 64) p at is) h
-deed_learns l e (Offer q d) a p known at is h = eligible_tells ((q / 64 == p / 64) && has_bit a (p % 64)) (word_after l (Word.Deed p)) known (number_of d) (offered_deed l a (number_of d) (q / 64) p at is) h
-deed_learns l e (Deed q d) a p known at is h = deed_tells (q == p) d (word_after l (Word.Deed p)) a known (deed_at l a q p is) h
-deed_learns l e s a p known at is h = h
+deed_learns l e s a p known at is h = search (arith, look_tells, deed_at, eligible_tells, offered_deed, deed_tells)
 
 -- ---- the induction
 -- the right of each page is at one spot
@@ -315,16 +292,7 @@ in_place : (f : Profile) (l : Whole) (p : ℕ) (o : Spot) → ((k : ℕ) → has
     → IsDeedWord f (word_after l (Word.Deed p)) → IsRightInOnePlace f l p
 in_place f l p Nowhere has eligible parked deed word = inl (record { no_deed = deed; nobody = has; not_offered = eligible; not_parked = parked })
 in_place f l p (With j) has eligible parked deed word = inr (inl (record { a_deed = deed; actor = j; holder = has; not_offered = eligible; not_parked = parked }))
-in_place f l p (Offered n) has eligible parked deed word =
-    let told : (d : Directory) × (word_after l (Word.Deed p) ≡ deed_word_of d) × IsDirectoryOf f d = word (λ z. numbered_ne n (sym deed ∙ z)) in
-    inr (inr (inl (record {
-      directory = told.0;
-      of_profile = told.2;
-      deed = told.1;
-      nobody = has;
-      offered = λ m. eligible m ∙ ap (λ x. x == m) (sym (number_told told.0 n told.2.kind (sym told.1 ∙ deed)));
-      not_parked = parked;
-    })))
+in_place f l p (Offered n) has eligible parked deed word = search (arith, numbered_ne, number_told)
 in_place f l p InParked has eligible parked deed word = inr (inr (inr (record { a_deed = deed; nobody = has; not_offered = eligible; parked = parked })))
 
 -- the right of each page that has a deed is in exactly one place
@@ -364,17 +332,12 @@ hint_if f x was q p e of h set = grind (arith, eqb-true)
 
 hint_next : (f : Profile) (e : ℕ) (s : Step) (p old : ℕ) → IsStepOf f s → (has_bit old (p % 64) ≡ true → IsPage f p)
     → has_bit (next_value e s (Word.Empty (p / 64)) old) (p % 64) ≡ true → IsPage f p
-hint_next f e (Look word) p old of h set = h (ap (λ n. has_bit n (p % 64)) (sym (looked (same_word word (Word.Empty (p / 64))) old)) ∙ set)
-hint_next f e (Hint q) p old of h set = hint_if f (q == p) (has_bit old (p % 64)) q p refl of h (sym (page_bit-set q p old true) ∙ set)
-hint_next f e (Unhint q) p old of h set = h (was_set (q == p) (has_bit old (p % 64)) (sym (page_bit-clear q p old true) ∙ set))
-hint_next f e s p old of h set = h set
+hint_next f e s p old of h set = search (arith, hint_if, page_bit-set, was_set, page_bit-clear)
 
 -- A page whose empty bit is set is one of the region.
 pub hinted_page : (f : Profile) (l : Whole) → Legal f l → (p : ℕ) → empty_bit l p ≡ true → IsPage f p
 hinted_page f [] legal p h = absurd (false≢true (sym (none_of_zero (p % 64)) ∙ h))
-hinted_page f (t ∷ l) legal p h =
-    let next : IsNext f l t = legal.0 in
-    hint_next f (epoch_of (part t.actor l)) t.made.step p (word_after l (Word.Empty (p / 64))) next.of_region (hinted_page f l legal.1 p) h
+hinted_page f (t ∷ l) legal p h = search (arith, hint_next, hinted_page f l legal.1 p)
 
 -- ---- free grains
 -- the free bit of a grain
@@ -462,11 +425,7 @@ not_from x z y h = grind arith
 told_free : (f : Profile) (l : Whole) (j e : ℕ) (s : Step) (a g : ℕ) → IsSpotted l (g / 256) → IsClear l g → Allowed f (part j l) s
     → a ≡ word_after l (target s) → tells_free s a g (has_right (part j l) (g / 256)) ≡ true
     → Known j (spot_after j (way s a (g / 256)) (spot_of l (g / 256))) (has_bit (next_value e s (free_word_at g) (word_after l (free_word_at g))) (g % 64))
-told_free f l j e (Look (Word.Free q w)) a g at clear allowed is h =
-    search (arith, and_parts, eqb-true, is_with-true, looked)
-told_free f l j e (Deed q d) a g at clear allowed is h = search (arith, step_suits)
-told_free f l j e (Unhint q) a g at clear allowed is h = absurd (false≢true h)
-told_free f l j e s a g at clear allowed is h = absurd (false≢true h)
+told_free f l j e s a g at clear allowed is h = search (arith, and_parts, eqb-true, is_with-true, step_suits, false≢true)
 
 -- an actor's own step leaves it a right that it has and doesn't give away
 moved_spot : (j : ℕ) (m : Way) (o : Spot) (x : Bool) → (x ≡ true → spot_after j m o ≡ With j) → o ≡ With j → spot_after j (if x then m else Rests) o ≡ With j
@@ -480,12 +439,7 @@ own_free : (f : Profile) (l : Whole) (j e : ℕ) (s : Step) (a g : ℕ) → IsSp
     → a ≡ word_after l (target s)
     → free_after s a g (has_right (part j l) (g / 256)) (known_free (part j l) g) ≡ true
     → Known j (spot_after j (way s a (g / 256)) (spot_of l (g / 256))) (has_bit (next_value e s (free_word_at g) (word_after l (free_word_at g))) (g % 64))
-own_free f l j e s a g at clear of allowed is h =
-    let cases = or_cases (tells_free s a g (has_right (part j l) (g / 256))) (not (takes s g) && not (leaves s (g / 256)) && known_free (part j l) g) (sym (free_after-is s a g (has_right (part j l) (g / 256)) (known_free (part j l) g)) ∙ h) in
-    elim cases [
-      | inl told ↦ told_free f l j e s a g at clear allowed is told
-      | inr kept ↦ search (arith, not_from, own_spot, free_stays)
-    ]
+own_free f l j e s a g at clear of allowed is h = search (arith, or_cases, free_after-is, told_free, not_from, own_spot, free_stays)
 
 -- and for another, whose right stays and whose grains nobody takes
 other_free : (f : Profile) (l : Whole) (j k e : ℕ) (s : Step) (a g : ℕ) → IsSpotted l (g / 256) → IsClear l g → IsStepOf f s → Allowed f (part j l) s

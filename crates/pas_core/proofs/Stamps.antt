@@ -3,14 +3,14 @@ use Rattle.std.proofs.Common.{◌≡◌, ℕ, ◌+◌, ◌^◌, ◌<◌, ◌≤�
 use Rattle.std.proofs.Common.{◌&&◌, if◌then◌else◌, List, ap, subst, inl, inr, w64, eqb-true, eq-eqb}
 use Rattle.std.specs.Int.{bit_not}
 use Rattle.std.proofs.lemmas.Nat.{and_le_l, or_lt}
-use Rattle.pas_profile.specs.{Directories.deed_word_of, Layouts.opening, Layouts.same_word, Lives.live_word, Profiles.IsValid, Profiles.IsDirectoryOf}
-use Rattle.pas_profile.specs.{Blocks.address_of, Blocks.length_of, Blocks.grain_of}
+use Rattle.pas_profile.specs.{Directories.deed_word_of, Layouts.opening, Lives.live_word, Profiles.IsValid, Profiles.IsDirectoryOf, Blocks.address_of}
+use Rattle.pas_profile.specs.{Blocks.length_of, Blocks.grain_of}
 use Rattle.pas_profile.specs.declared.{profile.Profile.Profile, directory.Directory.Directory, word.Word.Word, name.Name.Name, name.Block.Block}
 use Rattle.pas_profile.specs.declared.{event.Event.Event}
-use Rattle.pas_bits.specs.{Runs.in_run, Runs.meets_page, PageVectors.page_mask, Bits.has_bit}
+use Rattle.pas_bits.specs.{Runs.in_run, Runs.meets_page, PageVectors.page_mask}
 use Rattle.pas_steps.specs.Effects.{target, new_value, life_word_at, in_mask}
-use Rattle.pas_steps.specs.Views.{epoch_after, known_epoch, or_zero, epoch_of, View, Move, Stays, Gets, Puts, Gives, Ends, held_after, holds, holds_all}
-use Rattle.pas_steps.specs.Views.{stamp_after, known_stamp, unstamped_after, is_unstamped, ends_on}
+use Rattle.pas_steps.specs.Views.{epoch_after, known_epoch, or_zero, epoch_of, View, Move, Stays, Ends, held_after, holds, holds_all, stamp_after, known_stamp}
+use Rattle.pas_steps.specs.Views.{unstamped_after, is_unstamped, ends_on}
 use Rattle.pas_steps.specs.Allowed.{IsStepOf, Allowed, HoldsOn, MayPutNow, MayGiveNow}
 use Rattle.pas_steps.specs.Lists.{Triple, Whole, part, word_after, IsNext, Legal, visible}
 use Rattle.pas_steps.specs.declared.step.Step.{Step}
@@ -80,12 +80,7 @@ opening_small s = grind arith
 pub words_fit : (f : Profile) (l : Whole) → IsValid f → Legal f l → (word : Word) → word_after l word < 2 ^ 64
 words_fit f [] valid legal word = opening_small word
 words_fit f (t ∷ l) valid legal word =
-    let next : IsNext f l t = legal.0 in
-    let known : epoch_of (part t.actor l) ≤ word_after l Word.Epoch = epoch_known f l legal.1 t.actor in
-    let epoch : word_after l Word.Epoch < 2 ^ 64 = words_fit f l valid legal.1 Word.Epoch in
-    let old : word_after l word < 2 ^ 64 = words_fit f l valid legal.1 word in
-    cond_both (same_word (target t.made.step) word) (new_value (epoch_of (part t.actor l)) t.made.step (word_after l word)) (word_after l word) (λ m. m < 2 ^ 64)
-    (λ here. value_small f (epoch_of (part t.actor l)) t.made.step (word_after l word) valid next.of_region (omega (arith, known, epoch)) old) (λ other. old)
+    search (arith, epoch_known, cond_both, value_small, words_fit f l valid legal.1 Word.Epoch, words_fit f l valid legal.1 word)
 
 -- ---- the epoch and the stamps are below 2 ^ 40
 epoch_below : (f : Profile) (e : ℕ) (s : Step) (old : ℕ) → IsStepOf f s → old < 2 ^ 40 → next_value e s Word.Epoch old < 2 ^ 40
@@ -94,7 +89,7 @@ epoch_below f e s old of h = grind (arith, looked)
 -- the epoch is below 2 ^ 40
 pub epoch_small : (f : Profile) (l : Whole) → Legal f l → word_after l Word.Epoch < 2 ^ 40
 epoch_small f [] legal = omega arith
-epoch_small f (t ∷ l) legal = let next : IsNext f l t = legal.0 in epoch_below f (epoch_of (part t.actor l)) t.made.step (word_after l Word.Epoch) next.of_region (epoch_small f l legal.1)
+epoch_small f (t ∷ l) legal = search (arith, epoch_below, epoch_small f l legal.1)
 
 stamp_below : (e : ℕ) (s : Step) (p old : ℕ) → e < 2 ^ 40 → old < 2 ^ 40 → next_value e s (Word.Stamp p) old < 2 ^ 40
 stamp_below e s p old he h = grind (arith, looked, cond_both)
@@ -102,9 +97,7 @@ stamp_below e s p old he h = grind (arith, looked, cond_both)
 -- a stamp is an epoch that an actor read, so it is below 2 ^ 40 too
 pub stamp_small : (f : Profile) (l : Whole) → Legal f l → (p : ℕ) → word_after l (Word.Stamp p) < 2 ^ 40
 stamp_small f [] legal p = omega arith
-stamp_small f (t ∷ l) legal p =
-    let known : epoch_of (part t.actor l) ≤ word_after l Word.Epoch = epoch_known f l legal.1 t.actor in
-    stamp_below (epoch_of (part t.actor l)) t.made.step p (word_after l (Word.Stamp p)) (omega (arith, known, epoch_small f l legal.1)) (stamp_small f l legal.1 p)
+stamp_small f (t ∷ l) legal p = search (arith, epoch_known, stamp_below, epoch_small, stamp_small f l legal.1 p)
 
 -- ==== The block that an end finds.
 
@@ -192,8 +185,7 @@ put_misses v q w mask p g may unstamped e = search (arith, false_from_ne_true, a
 
 give_misses : (f : Profile) (v : View) (block : Block) (p g : ℕ) → MayGiveNow f v block → is_unstamped v p ≡ true → g / 256 ≡ p
     → in_run (grain_of block.name) (length_of block) g ≡ false
-give_misses f v block p g may unstamped e = false_from_ne_true (in_run (grain_of block.name) (length_of block) g) (λ h.
-    false≢true (sym (may.bears g h).stamped ∙ ap (is_unstamped v) e ∙ unstamped))
+give_misses f v block p g may unstamped e = search (arith, false_from_ne_true, false≢true)
 
 -- after an end: a page of the block has a grain of it, and another page is as it was
 end_keeps : (v : View) (name : Name) (guess a p : ℕ) → 1 ≤ guess → (is_unstamped v p ≡ true → HoldsOn v p) → (z : Bool) → (a == live_word name.turn guess) ≡ z
@@ -202,14 +194,14 @@ end_keeps : (v : View) (name : Name) (guess a p : ℕ) → 1 ≤ guess → (is_u
 end_keeps v name guess a p some before true ze true ye h =
     let at : IsMet (grain_of name) guess p = met (grain_of name) guess p some ye in
     (at.grain, at.of_page, ap (λ t. held_after (if t then Ends (grain_of name) else Stays) (holds v at.grain)) (and_from (a == live_word name.turn guess) (in_run (grain_of name) guess at.grain) ze at.of_run))
-end_keeps v name guess a p some before true ze false ye h = let was = before h in (was.0, was.1, moved_held ((a == live_word name.turn guess) && in_run (grain_of name) guess was.0) (holds v was.0) (Ends (grain_of name)) (λ here. refl) was.2)
-end_keeps v name guess a p some before false ze y ye h = let was = before h in (was.0, was.1, moved_held ((a == live_word name.turn guess) && in_run (grain_of name) guess was.0) (holds v was.0) (Ends (grain_of name)) (λ here. refl) was.2)
+end_keeps v name guess a p some before true ze false ye h = search (arith, moved_held)
+end_keeps v name guess a p some before false ze y ye h = search (arith, moved_held)
 
 keeps_held : (f : Profile) (v : View) (s : Step) (a p : ℕ) → IsStepOf f s → Allowed f v s → (is_unstamped v p ≡ true → HoldsOn v p)
     → unstamped_after s a p (is_unstamped v p) ≡ true → HoldsOn (made s a ∷ v) p
-keeps_held f v (Take q w mask) a p of allowed before h = let was = before h in (was.0, was.1, moved_held (in_mask q w mask was.0 && has_bit a (was.0 % 64)) (holds v was.0) Gets (λ here. refl) was.2)
-keeps_held f v (Put q w mask) a p of allowed before h = let was = before h in (was.0, was.1, moved_held (in_mask q w mask was.0) (holds v was.0) Puts (λ here. absurd (false≢true (sym (put_misses v q w mask p was.0 allowed h was.1) ∙ here))) was.2)
-keeps_held f v (Give block) a p of allowed before h = let was = before h in (was.0, was.1, moved_held (in_run (grain_of block.name) (length_of block) was.0) (holds v was.0) (Gives (grain_of block.name)) (λ here. absurd (false≢true (sym (give_misses f v block p was.0 allowed h was.1) ∙ here))) was.2)
+keeps_held f v (Take q w mask) a p of allowed before h = search (arith, moved_held)
+keeps_held f v (Put q w mask) a p of allowed before h = search (arith, moved_held, false≢true, put_misses)
+keeps_held f v (Give block) a p of allowed before h = search (arith, moved_held, false≢true, give_misses)
 keeps_held f v (End name guess) a p of allowed before h = end_keeps v name guess a p of.3 before (a == live_word name.turn guess) refl (meets_page (grain_of name) guess p) refl h
 keeps_held f v (EndSized name room) a p of allowed before h = end_keeps v name (room / 16) a p of.0.3 before (a == live_word name.turn (room / 16)) refl (meets_page (grain_of name) (room / 16) p) refl h
 keeps_held f v (Stamp q) a p of allowed before h = let was = before (was_set (q == p) (is_unstamped v p) h) in (was.0, was.1, was.2)
@@ -262,8 +254,7 @@ own_late : (e : ℕ) (s : Step) (a p : ℕ) (was : Bool) (n old : ℕ) → was �
 own_late e s a p was n old h le = grind (arith, stays_set, stamped_now)
 
 late_next : (f : Profile) (t : Triple) (l : Whole) → Legal f (t ∷ l) → (p k n : ℕ) → IsStampedOr l p k n → IsStampedOr (t ∷ l) p k n
-late_next f t l legal p k n (inl le) = let grows = stamp_next (epoch_of (part t.actor l)) t.made.step p (word_after l (Word.Stamp p)) in inl (omega (arith, le, grows))
-late_next f t l legal p k n (inr late) = search (arith, epoch_known, cond_both, epoch_rises, eqb-true, own_late)
+late_next f t l legal p k n before = search (arith, stamp_next, epoch_known, cond_both, epoch_rises, eqb-true, own_late)
 
 -- an end that is made now
 new_unstamped : (s : Step) (a p : ℕ) (was : Bool) → ends_on s a p ≡ true → unstamped_after s a p was ≡ true
@@ -286,7 +277,7 @@ ends_stamped f (t ∷ l) valid legal p =
 -- ---- the machine's epoch of a page
 ends_bound : (es : List Event) (p n : ℕ) → EachEnd (λ k e. e ≤ n) es p → epoch_in es p ≤ n
 ends_bound [] p n h = omega arith
-ends_bound (Event.End k name e ∷ es) p n h = cond_both (touches (live_in es (address_of name)) p) (max (epoch_in es p) e) (epoch_in es p) (λ m. m ≤ n) (λ on. omega (arith, h.0 on, ends_bound es p n h.1)) (λ off. ends_bound es p n h.1)
+ends_bound (Event.End k name e ∷ es) p n h = search (arith, cond_both, ends_bound es p n h.1)
 ends_bound (e ∷ es) p n h = ends_bound es p n h.1
 
 -- where an actor holds each grain of a page that isn't unstamped for it, the stamp is at least the epoch of each end on the page

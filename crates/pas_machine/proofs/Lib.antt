@@ -1,3 +1,2 @@
 pub mod LiveBlocks
 pub mod Verdicts
-mod Ranges

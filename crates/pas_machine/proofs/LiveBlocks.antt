@@ -1,14 +1,18 @@
--- What every run of the machine keeps about its live blocks.
-use Rattle.std.proofs.Common.{◌≡◌, ◌≢◌, ℕ, ◌+◌, ◌/◌, ◌%◌, ◌<◌, ◌==◌, Bool, true, false, if◌then◌else◌, List, [], ◌∷◌, Option, Some, None, refl, ap, sym, ◌∙◌}
-use Rattle.std.proofs.Common.{arith, eqb-true}
-use Rattle.std.proofs.lemmas.{Bool.false≢true, Option.none-some, Option.same_Some}
+-- What every run of the machine keeps about its live blocks, and what holds of each number of a range.
+use Rattle.std.proofs.Common.{ℕ, ◌≢◌, ◌+◌, subst, inl, inr, arith, ◌≡◌, ◌/◌, ◌%◌, ◌<◌, ◌==◌, Bool, true, false, if◌then◌else◌, List, [], ◌∷◌, Option, Some}
+use Rattle.std.proofs.Common.{None, refl, ap, sym, ◌∙◌, eqb-true}
+use Rattle.std.proofs.lemmas.{Bool.Decides.eqb_tells, Bool.false≢true, Option.none-some, Option.same_Some}
+use Rattle.pas_machine.specs.{Places.IsEach, Machine.Run, Machine.MayGive, Machine.Bears}
 use Rattle.pas_profile.specs.declared.{profile.Profile.Profile, directory.Directory.Directory, name.Block.Block, event.Event.Event}
 use Rattle.pas_bits.specs.Runs.{in_run, meets_page}
 use Rattle.pas_profile.specs.Blocks.{address_of, grain_of, length_of}
 use Rattle.pas_bits.proofs.Runs.{first_of_run, run_meets}
 use Rattle.pas_machine.specs.State.{Live, live_in, gives_in, ends_in, deed_in, backed_in, touches}
-use Rattle.pas_machine.specs.Machine.{Run, MayGive, Bears}
 use Rattle.pas_machine.specs.Laws.{AreApart, IsWhere, IsCounted, AreCounted, AreBorne}
+
+-- What is so of each number of a range, and of the next one, is so of the range up to that.
+pub each_more : (from until : ℕ) (P : ℕ → Type 0) → IsEach from until P → P until → IsEach from (until + 1) P
+each_more from until P before last n low high = elim (eqb_tells until n) [ inl h ↦ subst P h.1 last | inr h ↦ let other : until ≢ n = h.1 in before n low (omega arith) ]
 
 -- ---- what holds of each block that is given holds of each live block
 given_if : (P : ℕ → Live → Type 0) (t : Bool) (a k : ℕ) (block : Block) (old : Option Live) (b : Live) → (address_of block.name == a) ≡ t

@@ -3,17 +3,16 @@ use Rattle.std.proofs.Common.{◌≡◌, ℕ, ◌+◌, ◌*◌, ◌/◌, ◌%◌
 use Rattle.std.proofs.Common.{Result, Ok, Err, MatchResult, refl, ap, sym, ◌∙◌, subst, arith, inl, inr, ◌⊎◌, append_assoc, length-append, true≢false, eq-eqb}
 use Rattle.std.proofs.Common.{eqb-true}
 use Rattle.std.proofs.lemmas.Bool.{and_parts, and_from}
-use Rattle.pas_profile.specs.{Profiles.IsPage, Profiles.IsDirectoryOf, Blocks.address_of, Blocks.grain_of, Blocks.length_of}
+use Rattle.pas_profile.specs.{Profiles.IsDirectoryOf, Blocks.address_of, Blocks.grain_of, Blocks.length_of}
 use Rattle.pas_bits.specs.Runs.{in_run}
 use Rattle.pas_profile.specs.declared.{directory.Directory.Directory, event.NoRoom.NoRoom, name.Block.Block, profile.Profile.Profile}
-use Rattle.pas_bits.proofs.Runs.{run_of, to_run}
+use Rattle.pas_bits.proofs.Runs.{to_run}
 use Rattle.pas_rights.specs.Gives.{MayGive, block_of, give_steps, GaveRun, GivesRun}
 use Rattle.pas_rights.specs.Leaves.{MayLeave, Leaves}
 use Rattle.pas_rights.proofs.Gives.{may_give_on, covers}
 use Rattle.pas_steps.specs.Calls.{Calls, Kept, Gained, Lost, now, later, Does}
 use Rattle.pas_steps.specs.Desks.{Seat, Standing, Adds, CanCall, triples}
-use Rattle.pas_steps.specs.{Unknown.HasRoom, Events.events_of, Events.events_by, Kinds.returning}
-use Rattle.pas_steps.specs.Views.{View, holds, has_right, KnowsDeed}
+use Rattle.pas_steps.specs.{Unknown.HasRoom, Events.events_of, Events.events_by, Kinds.returning, Views.View, Views.holds, Views.KnowsDeed}
 use Rattle.pas_steps.specs.declared.step.Made.{Made}
 use Rattle.pas_steps.proofs.{Adding.room_left, Apart.events_same, Calls.does_as, Calls.does_then, Calls.returns_are, Frames.events_split, Sets.same_truth}
 use Rattle.pas_steps.proofs.{SpareRoom.Spares}
@@ -35,18 +34,15 @@ pub room_to_search : {σ : Standing} {f : Profile} {d : Directory} {spare : ℕ}
 room_to_search {f = f} {spare = spare} can =
     record { view = can.view; whole = can.whole; stood = can.stood; met = record { may = can.met.may; room = room_for_one f spare can.view can.met.room } }
 
+-- either way at most one
 few_deeds : (m : ℕ) {A B : Type 0} → (A → m ≡ 0) → (B → m ≡ 1) → A ⊎ B → m ≤ 1
-few_deeds m f g (inl a) = let z = f a in omega (arith, z)
-few_deeds m f g (inr b) = let z = g b in omega (arith, z)
+few_deeds m f g either = search arith
 
 -- a grain that was taken and given is as it was, since it wasn't held
 taken_given : (t u held : Bool) → t ≡ u → (t ≡ true → held ≡ false)
     → (later (if t then Gained else Kept) (if u then Lost else Kept) ≡ Kept)
     ⊎ ((held ≡ false) × (now (later (if t then Gained else Kept) (if u then Lost else Kept)) false ≡ false))
-taken_given true true held e none = inr (none refl, refl)
-taken_given true false held e none = absurd (true≢false e)
-taken_given false true held e none = absurd (true≢false (sym e))
-taken_given false false held e none = inl refl
+taken_given t u held e none = search (arith, true≢false)
 
 abbrev pub may_search : {σ : Standing} {d : Directory} {n spare : ℕ} → CanCall σ (SearchRoom σ.seat.profile d n spare) → CanCall σ (MaySearch d)
 may_search can = record { view = can.view; whole = can.whole; stood = can.stood; met = can.met.may }
@@ -72,27 +68,17 @@ module _ (p : Placement) (is : IsPlacement p) (asked : p.asked) (d : Directory) 
 
   -- the run's grains, by their numbers in the region
   in_region : (g : ℕ) → ((page == g / 256) && in_run first n (g % 256)) ≡ in_run (page * 256 + first) n g
-  in_region g = same_truth ((page == g / 256) && in_run first n (g % 256)) (in_run (page * 256 + first) n g)
-      (λ h.
-      let parts = and_parts (page == g / 256) (in_run first n (g % 256)) h in
-      let at = eqb-true page (g / 256) parts.0 in let x = run_of first n (g % 256) parts.1 in let low = x.0 in let high = x.1 in
-      to_run (page * 256 + first) n g (omega (arith, at, low)) (omega (arith, at, high)))
-      (λ h.
-      let x = run_of (page * 256 + first) n g h in let low = x.0 in let high = x.1 in let w = is_run.within in
-      and_from (page == g / 256) (in_run first n (g % 256)) (eq-eqb page (g / 256) (omega (arith, low, high, w)))
-      (to_run first n (g % 256) (omega (arith, low, high, w)) (omega (arith, low, high, w))))
+  in_region g = search (arith, same_truth, and_parts, eqb-true, to_run, is_run, and_from, eq-eqb)
 
   new_call : Calls σ σ1 (MaySearch d) (KeepsNew (placing p) d served) xs
   new_call = finds_call (placing p) d served adds finds
 
   may_give : (v : View) → MaySearch d v → KeepsNew (placing p) d served v (xs ++ v) → MayGive σ1.seat.profile d.heap page first n (xs ++ v)
-  may_give v met kept = let clear = kept.found.keeps.does.clear page (met.clear.on page) in
-      may_give_on d page first n (subst (λ s. IsDirectoryOf s.profile d) (sym adds.seat_is) of_profile) is_run.within
-      (λ g inside. kept.found.keeps.does.held g ∙ ap (λ t. now (if t then Gained else Kept) (holds v g)) (in_region g ∙ inside)) kept.found.deed kept.found.keeps.backed clear.stamped
+  may_give v met kept = search (arith, may_give_on, is_run, in_region)
 
   -- The run that a search found lies within the region.
   pub run_within : served.page * 256 + served.found.first + served.found.grains ≤ 256 * (σ1.seat.profile.pages + 1)
-  run_within = let of : IsPage σ1.seat.profile page = subst (λ s. IsPage s.profile page) (sym adds.seat_is) finds.page in omega (arith, of.1, is_run.within)
+  run_within = search (arith, is_run)
 
   -- The block of the run that a search found may be given.
   pub can_give : {spare : ℕ} → CanCall σ (SearchRoom σ.seat.profile d 2 spare)
@@ -140,7 +126,7 @@ module _ (p : Placement) (is : IsPlacement p) (asked : p.asked) (d : Directory) 
     ))
 
     may_leave : (v : View) → MaySearch d v → Gave v ((given ++ xs) ++ v) × KnowsDeed page d ((given ++ xs) ++ v) → MayLeave page d ((given ++ xs) ++ v)
-    may_leave v met gave = record { right = gave.0.does.right page ∙ ap (λ t. now (if t then Gained else Kept) (has_right v page)) (eq-eqb page page refl); deed = gave.1 }
+    may_leave v met gave = search (arith, eq-eqb)
 
     -- After its block was given, the page may be left.
     pub can_leave : {spare : ℕ} → CanCall σ (SearchRoom σ.seat.profile d 2 spare) → CanCall σ2 (MayLeave served.page d)
@@ -159,14 +145,14 @@ module _ (p : Placement) (is : IsPlacement p) (asked : p.asked) (d : Directory) 
             turn = gave.0.turn;
           }))
 
-      pub page_is : address_of block.name / 4096 ≡ served.page
+      page_is : address_of block.name / 4096 ≡ served.page
       page_is = ap (λ (b : Block). address_of b.name / 4096) gives.block_is ∙ omega (arith, is_run.within, is_run.some)
 
-      pub given_adds : Adds σ σ3 (MaySearch d) ((left.steps ++ give_steps served.page served.found.first block gives.word gives.answer) ++ xs)
+      given_adds : Adds σ σ3 (MaySearch d) ((left.steps ++ give_steps served.page served.found.first block gives.word gives.answer) ++ xs)
       given_adds = whole_call.adds
 
       -- The block of the run was given, where the page was chosen so.
-      pub given_run : (How : ℕ → List Made → Type 0) → How served.page xs
+      given_run : (How : ℕ → List Made → Type 0) → How served.page xs
           → GivesFound (placed p) p.run σ.seat.profile d How xs (left.steps ++ give_steps served.page served.found.first block gives.word gives.answer) block
       given_run How chosen =
           let it = finds.serves.chosen in
@@ -192,9 +178,7 @@ module _ (p : Placement) (is : IsPlacement p) (asked : p.asked) (d : Directory) 
 -- ---- by a search
 pub one_deed : (p : Placement) (d : Directory) {tells : Bool} {σ σ1 : Standing} (served : Served Run)
     (searches : Searches (placing p) tells d σ σ1 (Ok served)) → deeds_made searches.steps ≤ 1
-one_deed p d {σ = σ} served searches = let f : Profile = σ.seat.profile in let xs : List Made = searches.steps in
-    few_deeds (deeds_made xs) (λ (c : FromOffered p.no_fit d served.page xs). c.no_deed)
-    (λ (c : ByDeed p.no_fit f d served.page xs). c.one_deed) searches.outcome.choice
+one_deed p d {σ = σ} served searches = search (arith, few_deeds)
 
 -- A run that was found, given and left is allocated.
 pub allocates : (p : Placement) (is : IsPlacement p) (asked : p.asked) (d : Directory) {tells : Bool}
@@ -228,7 +212,7 @@ room_to_use can = record { view = can.view; whole = can.whole; stood = can.stood
 
 pub no_deed : (p : Placement) (d : Directory) {ranks : Measure} {tells : Bool} {σ σ1 : Standing} (served : Served Run)
     (tries : TriesBest (placing p) ranks tells d σ σ1 (Some served)) → deeds_made tries.steps ≤ 1
-no_deed p d served tries = let none = tries.outcome.choice.no_deed in omega (arith, none)
+no_deed p d served tries = omega (arith, tries.outcome.choice.no_deed)
 
 pub allocates_best : (p : Placement) (is : IsPlacement p) (asked : p.asked) (d : Directory)
     {ranks : Measure} {tells : Bool} {σ σ1 σ2 σ3 : Standing} (of_profile : IsDirectoryOf σ.seat.profile d)

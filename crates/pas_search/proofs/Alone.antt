@@ -1,5 +1,5 @@
 -- A search whose actor alone made steps meanwhile: its promise is what the law of the lone search asks.
-use Rattle.std.proofs.Common.{arith, ◌≡◌, ◌≢◌, ℕ, Bool, false, List, ◌++◌, ◌⊎◌, inl, inr, refl, ap, sym, ◌∙◌, true≢false, Result, Ok, Err, MatchResult}
+use Rattle.std.proofs.Common.{arith, ◌≡◌, ◌≢◌, ℕ, Bool, false, List, ◌++◌, ◌⊎◌, inl, inr, refl, ap, sym, ◌∙◌, true≢false, Result, Err, MatchResult}
 use Rattle.std.proofs.lemmas.Bool.{cases_eq}
 use Rattle.pas_profile.specs.{Directories.deed_word_of, Profiles.IsValid, Profiles.IsPage, Profiles.IsDirectoryOf}
 use Rattle.pas_profile.specs.declared.{directory.Directory.Directory, event.NoRoom.NoRoom, event.NoRoom.TheVariants.NoSpace, event.NoRoom.TheVariants.Held}
@@ -85,24 +85,7 @@ module _ (no_fit : Readings → Type 0) (f : Profile) (d : Directory) (k : ℕ) 
   held_by_none rest page is = (plain_alone (any_of no_fit) f d k l steps valid of fewer legal searches may rest (Err (Held page)) is).not_held page refl
 
   finds_what_there_is : {A : Type 0} (answer : Result A NoRoom) → IsFoundOrRefused no_fit f d steps answer → FindsWhatThereIs no_fit f d l answer
-  finds_what_there_is (Ok a) found = record {
-    none_fits = λ room bad. absurd cc;
-    refused = λ none b is. could_before found none;
-    not_held = λ rest page bad. absurd cc;
-    no_space = λ rest none. absurd (could_before found none);
-  }
-  finds_what_there_is (Err NoSpace) is = record {
-    none_fits = λ room same. none_before NoSpace is;
-    refused = λ none b bad. absurd cc;
-    not_held = λ rest page bad. absurd cc;
-    no_space = λ rest none. refl;
-  }
-  finds_what_there_is (Err (Held page)) is = record {
-    none_fits = λ room same. none_before (Held page) is;
-    refused = λ none b bad. absurd cc;
-    not_held = λ rest other same. held_by_none rest page is;
-    no_space = λ rest none. absurd (held_by_none rest page is);
-  }
+  finds_what_there_is answer is = search (arith, could_before, none_before, held_by_none)
 
 -- the same of a search after which the actor went on, as the list with its later steps is legal
 pub found_before : {A : Type 0} (no_fit : Readings → Type 0) (f : Profile) (d : Directory) (k : ℕ) (l : Whole) (after searched : List Made) → IsValid f
@@ -126,7 +109,7 @@ OwnLacks k d w = (p : ℕ) → word_after w (Word.Deed p) ≡ deed_word_of d →
 pub still_lacks : (f : Profile) (k : ℕ) (l : Whole) (d : Directory) (steps : List Made) → IsValid f → Legal f (triples k steps ++ l)
     → ((p : ℕ) → KnowsDeed p d (part k l) → has_right (part k l) p ≡ false) → Does nothing (part k l) (steps ++ part k l)
     → OwnLacks k d (triples k steps ++ l)
-still_lacks f k l d steps valid legal may still p deed = ap (λ v. has_right v p) (part_of_own k steps l) ∙ (still.right p ∙ entry_lacks f k l d p steps valid (legal_before f k steps l legal) (may p) deed)
+still_lacks f k l d steps valid legal may still p deed = search (arith, part_of_own, entry_lacks, legal_before)
 
 -- where no other actor has a right there, no page of the directory is in anybody's hands
 pub none_held_there : (f : Profile) (k : ℕ) (d : Directory) (w : Whole) (room : NoRoom) → IsDirectoryOf f d → Legal f w → OwnLacks k d w

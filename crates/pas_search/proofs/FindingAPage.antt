@@ -48,8 +48,7 @@ missing d p (m ∷ more) (inr h) lacks = inr (lacks.0, missing d p more h lacks.
 held_here : (d : Directory) (p : ℕ) (ys xs : List Made) → AreVain ys → has_right xs p ≡ false → Once (ZeroHere d p) xs → Always (LacksAfter p) xs
     → Once (ParkedHere false p) ys → Once (HeldHere d p) (ys ++ xs)
 held_here d p [] xs vain none zero_read lacks h = absurd h
-held_here d p (m ∷ more) xs vain none zero_read lacks (inl k) =
-    inl ((k.0, k.1, right_own p more xs none ∙ k.2), missing d p (more ++ xs) (once_later (ZeroHere d p) more xs zero_read) (vain_lacks p more xs vain.1 none lacks))
+held_here d p (m ∷ more) xs vain none zero_read lacks (inl k) = search (arith, right_own, missing, once_later, vain_lacks)
 held_here d p (m ∷ more) xs vain none zero_read lacks (inr h) = inr (held_here d p more xs vain.1 none zero_read lacks h)
 
 parked_later : (d : Directory) (p : ℕ) (ys xs : List Made) → has_right xs p ≡ false → Once (ZeroHere d p) xs → Once (ParkedHere true p) ys
@@ -228,11 +227,10 @@ pub record Ends {F : Type 0} (rule : Rule F) (d : Directory) (desk desk' : Stand
   pub outcome : MatchResult answer (IsServed rule desk.seat.profile d steps) (IsRefused rule.no_fit desk.seat.profile d steps)
 
 -- A search of offered pages that found one ends with it.
+-- its parts are those of the search of offered pages
 pub ends_offered : {F : Type 0} {rule : Rule F} {σ σ1 : Standing} {d' : Directory} (d : Directory) → d' ≡ d → {marks : List ℕ} {served : Served F}
     → SearchesOffered rule d' σ σ1 marks (Some served) → Ends rule d σ σ1 (Ok served)
-ends_offered {F} {rule} {σ} {σ1} d same {marks} {served} found = let offered : SearchesOffered rule d σ σ1 marks (Some served) = subst (λ x. SearchesOffered rule x σ σ1 marks (Some served)) same found in
-    let o = offered.outcome in
-    record { steps = offered.steps; adds = offered.adds; searches = offered.searches; few = omega (arith, offered.few); outcome = record { page = o.page; keeps = o.keeps; choice = inl o.choice; shows = o.shows; serves = o.serves; marks = o.marks; few = o.few; events = o.events } }
+ends_offered {F} {rule} {σ} {σ1} d same {marks} {served} found = search arith
 
 -- ---- by a deed
 -- a page that was got has a deed

@@ -1,6 +1,6 @@
 -- For callers of a search: what it found, and the page that is left at once.
-use Rattle.std.proofs.Common.{◌≡◌, ℕ, ◌/◌, ◌%◌, ◌<◌, ◌==◌, Bool, true, false, ◌&&◌, if◌then◌else◌, List, [], ◌∷◌, Ok, refl, ap, sym, ◌∙◌, subst, arith, inl}
-use Rattle.std.proofs.Common.{inr, true≢false, eqb-true}
+use Rattle.std.proofs.Common.{◌≡◌, ℕ, ◌/◌, ◌%◌, ◌<◌, ◌==◌, Bool, true, false, ◌&&◌, if◌then◌else◌, List, [], ◌∷◌, Ok, refl, sym, ◌∙◌, subst, arith, inl, inr}
+use Rattle.std.proofs.Common.{true≢false, eqb-true}
 use Rattle.std.proofs.lemmas.Bool.{and_parts, false_from_ne_true}
 use Rattle.pas_profile.specs.declared.{directory.Directory.Directory, profile.Profile.Profile}
 use Rattle.pas_steps.specs.Calls.{Calls, Fate, Kept, Gained, Lost, later, ClearAfter, Effect, on_page, Does}
@@ -21,17 +21,7 @@ pub record KeepsNew {Found : Type 0} (rule : Rule Found) (d : Directory) (served
 pub finds_call : {Found : Type 0} (rule : Rule Found) (d : Directory) {Choice : List Made → Type 0} {σ σ1 : Standing} (served : Served Found)
     {steps : List Made}
     → Adds σ σ1 (MaySearch d) steps → Finds rule σ.seat.profile d Choice steps served → Calls σ σ1 (MaySearch d) (KeepsNew rule d served) steps
-finds_call rule d served adds finds = record {
-  adds = adds;
-  leads = record {
-    from = λ v met agreed. record {
-      found = finds.keeps.from v met agreed;
-      apart = λ g here.
-          let at = and_parts (served.page == g / 256) (rule.kept served.found (g % 256)) here in let shows = finds.shows in
-          false_from_ne_true (holds v g) (λ held. true≢false (sym (shows.took (g % 256) (omega arith) at.1) ∙ shows.held.from v met agreed g (sym (eqb-true served.page (g / 256) at.0)) held));
-    };
-  };
-}
+finds_call rule d served adds finds = search (arith, and_parts, false_from_ne_true, true≢false, eqb-true)
 
 -- A page that a search found is a new one of its actor.
 pub found_call : {Found : Type 0} (rule : Rule Found) (d : Directory) {tells : Bool} {σ σ1 : Standing} (served : Served Found)
@@ -56,31 +46,7 @@ module _ {A B : Type 0} (choice : Choice A) (chosen : Readings → B → Type 0)
   pub finds_as : {f : Profile} {d : Directory} {So How : List Made → Type 0} {steps : List Made}
       → (finds : Finds (choosing choice) f d So steps (served_by page a)) → chosen finds.serves.readings b → How steps
       → Finds (choosing (named choice chosen kept)) f d How steps (served_by page b)
-  finds_as {steps = steps} finds this how = record {
-    page = finds.page;
-    keeps = record {
-      from = λ v met agreed. let was = finds.keeps.from v met agreed in record {
-        keeps = record {
-          does = does_as (served (choosing (named choice chosen kept)) page b) was.keeps.does
-              (λ g. inl (ap (λ t. if (page == g / 256) && t then Gained else Kept) (same (g % 256) (omega arith)))) (λ q. refl) (λ q h. h);
-          backed = was.keeps.backed;
-        };
-        deed = was.deed;
-      };
-    };
-    choice = how;
-    shows = record {
-      readings = finds.shows.readings;
-      fits = finds.shows.fits;
-      took = λ g lt kept. finds.shows.took g lt (same g lt ∙ kept);
-      read = finds.shows.read;
-      held = finds.shows.held;
-    };
-    serves = record { readings = finds.serves.readings; read = finds.serves.read; chosen = this; takes = takes_as steps finds.serves.takes };
-    marks = finds.marks;
-    few = finds.few;
-    events = finds.events;
-  }
+  finds_as {steps = steps} finds this how = search (arith, does_as, takes_as)
 
 -- ---- the page is left
 -- what became of the grains, and of the page's right

@@ -5,10 +5,8 @@ pub mod Found
 mod PagesThatServe
 mod FindingAPage
 mod Surveyed
-mod BestOffered
 pub mod TheBestPage
 pub mod Alone
-mod Parts
 mod Allocated
 mod Placed
 pub mod RunAlone

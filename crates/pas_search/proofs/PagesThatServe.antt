@@ -19,7 +19,7 @@ use Rattle.pas_search.specs.Kinds.{serving, searching, OnlyServes, IsReturnOf, R
 use Rattle.pas_search.specs.Kinds.{makes_deed, deeds_made}
 use Rattle.std.proofs.{Math.Nat.mul-le-mul_right, Math.Nat.suc-mul, lemmas.Bool.cases_Bool, lemmas.Bool.cases_lt, lemmas.Bool.cases_eq}
 use Rattle.pas_bits.specs.Bits.{has_bit}
-use Rattle.pas_profile.specs.{Directories.number_of, Profiles.IsPage}
+use Rattle.pas_profile.specs.Profiles.{IsPage}
 use Rattle.pas_steps.specs.Calls.{Leads, Fate, Kept, Gained, Lost, now, nothing, ClearAfter, Does, grain_fate, way_fate, right_fate, opens, later}
 use Rattle.pas_search.specs.Serving.{righted, IsUntouched, Rule, MayServe, GotBefore, right_of, served, Keeps, ReadsNoneHeld, ServeSteps, ServesPage}
 use Rattle.pas_scan.specs.{Marks.is_marked, Rows.row_end, Rows.row_words, Rows.words_to, Scan.IsFirstOffered, Scan.FindsOffered, Scan.FindsBare}
@@ -35,7 +35,7 @@ use Rattle.pas_steps.proofs.Evidence.{zero_before, deed_known, deed_before, unkn
 -- ---- kinds
 -- a search goes on with a page whose right it got
 pub served_search : (p : ℕ) (ys xs : List Made) → OnlyServes p ys → Always GivesDuly ys → Once (GetsHere p) xs → AreSearch xs → AreSearch (ys ++ xs)
-served_search p ys xs only due got are = record { kinds = only_both searching ys xs (only_within serving searching ys refl only.kinds) are.kinds; returns = duly_on p ys xs only.on due got are.returns }
+served_search p ys xs only due got are = search (arith, only_both, only_within, duly_on)
 
 -- ---- events
 -- the events of steps, where those before made none
@@ -103,10 +103,10 @@ gets_way : (here bit got : Bool) (w : Way) → way_fate w ≡ Gained → (here �
 gets_way here bit got w h same = grind arith
 
 deed_rights : (p : ℕ) (d : Directory) (a : ℕ) (got : Bool) → (a == 0) ≡ got → Rights (gained got p) (made (Deed p d) a)
-deed_rights p d a got e = record { grains = λ x. refl; rights = λ q. gets_way (p == q) (a == 0) got Way.ByDeed refl (λ is. e); opens = λ q. refl; kind = refl; returns = λ q h. elim h [ ] }
+deed_rights p d a got e = search (arith, gets_way)
 
 pub claim_rights : (p : ℕ) (d : Directory) (a : ℕ) (got : Bool) → has_bit a (p % 64) ≡ got → Rights (gained got p) (made (TakeRight p d) a)
-claim_rights p d a got e = record { grains = λ x. refl; rights = λ q. gets_way (p == q) (has_bit a (q % 64)) got (Way.FromOffer (number_of d)) refl (λ is. ap (λ x. has_bit a (x % 64)) (sym (eqb-true p q is)) ∙ e); opens = λ q. refl; kind = refl; returns = λ q h. elim h [ ] }
+claim_rights p d a got e = search (arith, gets_way, eqb-true)
 
 -- the right was got
 gets_rights : (p : ℕ) (s : Step) (a : ℕ) → GetsRight p s a → Rights (gained true p) (made s a)
@@ -202,7 +202,7 @@ got_first t keeps = grind arith
 
 got_served : {F : Type 0} (rule : Rule F) (page : ℕ) (found : F) {v w u : View} → Does (right_of page Gained) v w → Does (served rule page found) w u
     → Does (served rule page found) v u
-got_served rule page found a b = does_as (served rule page found) (does_then a b) (λ x. inl (kept_first ((served rule page found).grains x))) (λ q. got_first (page == q) (rule.keeps_right found)) (λ q h. h)
+got_served rule page found a b = search (arith, does_as, does_then, kept_first, got_first)
 
 pub got_left : (page : ℕ) {v w u : View} → has_right v page ≡ false → Does (right_of page Gained) v w → Does (right_of page Lost) w u → Does nothing v u
 got_left page {v} lacked a b = search (arith, got_lost, eqb-true)
@@ -221,10 +221,10 @@ module _ (f : Profile) (d : Directory) (page : ℕ) (m : Made) (ws : List Made) 
   turns = gets_rights page m.step m.answer gets
 
   got_right : (v : View) → has_right (m ∷ v) page ≡ true
-  got_right v = right_then (λ q. if page == q then Gained else Kept) m v page turns ∙ ap (λ t. now (if t then Gained else Kept) (has_right v page)) (eq-eqb page page refl)
+  got_right v = search (arith, right_then, turns, eq-eqb)
 
   pub got_before : IsUntouched page ws → GotBefore page (m ∷ ws)
-  got_before h = record { right = got_right ws; got = inl gets; none = λ g at. holds_then (λ q. if page == q then Gained else Kept) m ws g turns ∙ h.none g at; newest = gets }
+  got_before h = search (arith, holds_then, turns)
 
   -- A step that gets a page's right is one of a search.
   pub got_search : AreSearch ws → AreSearch (m ∷ ws)
@@ -270,7 +270,7 @@ module _ (f : Profile) (d : Directory) (page : ℕ) (m : Made) (ws : List Made) 
 -- a page whose right the call never had was never got
 pub never_got : (p : ℕ) (xs : List Made) → Always (LacksAfter p) xs → Once (GetsHere p) xs → ⊥
 never_got p [] lacks got = got
-never_got p (m ∷ xs) lacks (inl gets) = true≢false (sym (right_then (λ q. if p == q then Gained else Kept) m xs p (gets_rights p m.step m.answer gets) ∙ ap (λ t. now (if t then Gained else Kept) (has_right xs p)) (eq-eqb p p refl)) ∙ lacks.0)
+never_got p (m ∷ xs) lacks (inl gets) = search (arith, true≢false, right_then, gets_rights, eq-eqb)
 never_got p (m ∷ xs) lacks (inr got) = never_got p xs lacks.1 got
 
 -- ---- how many steps are made
@@ -368,9 +368,9 @@ module _ {F : Type 0} {rule : Rule F} {σ0 σ : Standing} {d : Directory} {next 
   earlier = tries.steps
 
   -- all pages were searched
+  -- the next page is past the last one, so that the marks are those of all pages
   pub all_offered : f.pages < next → SearchesOffered rule d σ0 σ marks None
-  all_offered past = let end : next ≡ f.pages + 1 = omega (arith, past, tries.goes.within) in
-      record { steps = earlier; adds = tries.adds; searches = tries.goes.searching.searches; few = let last : next - 1 ≡ f.pages = omega (arith, end) in subst (λ n. length earlier ≤ offered_steps rule.steps (row_words f.pages) n) last tries.goes.few; outcome = subst (λ n. Searching rule.no_fit f d n marks earlier) end tries.goes.searching }
+  all_offered past = search arith
 
   -- no page is offered any more
   pub none_offered : {σ1 : Standing} {d' : Directory} → d' ≡ d → {next' : ℕ} → 1 ≤ next → next ≤ f.pages → FindsOffered d' next σ σ1 next' None
@@ -410,7 +410,7 @@ module _ {F : Type 0} {rule : Rule F} {σ0 σ : Standing} {d : Directory} {next 
     deed_at v = subst (KnowsDeed page d) (sym (append_assoc find.steps earlier v)) (first.deed (earlier ++ v))
 
     lacked : (v : View) → MaySearch d v → Agreed f v looked → has_right v page ≡ false
-    lacked v met agreed = sym ((tries.goes.searching.still.from v met (agreed_later f v find.steps earlier agreed)).right page) ∙ first.lacks (earlier ++ v) (agreed_first f v find.steps earlier agreed)
+    lacked v met agreed = search (arith, agreed_later, agreed_first)
 
     -- A page that was found offered may be claimed.
     pub claim_can : CanCall σ0 (MaySearch d) → CanCall σ1 (KnowsDeed page d)
@@ -483,7 +483,7 @@ module _ {F : Type 0} {rule : Rule F} {σ0 σ : Standing} {d : Directory} {next 
 
 -- ---- a deed that was made
 deed_frees : (p : ℕ) (d : Directory) (a : ℕ) (v : View) (g : ℕ) → a ≡ 0 → g / 256 ≡ p → known_free (made (Deed p d) a ∷ v) g ≡ true
-deed_frees p d a v g e at = ap (λ t. if t && (a == 0) then true else known_free v g) (eq-eqb p (g / 256) (sym at)) ∙ ap (λ t. if t then true else known_free v g) (eq-eqb a 0 e)
+deed_frees p d a v g e at = search (arith, eq-eqb)
 
 -- Who has room for a page without a deed is clear.
 pub clear_can : {σ : Standing} {f : Profile} {n spare : ℕ} → CanCall σ (BareRoom f n spare) → CanCall σ IsClear

@@ -7,7 +7,7 @@ use Rattle.pas_steps.specs.Kinds.{Kinds, Offering, Parking, Unparking, Hinting, 
 use Rattle.pas_steps.specs.declared.step.{Made.Made, Step.Step, Step.TheVariants.Unpark}
 use Rattle.pas_steps.proofs.Apart.{in_apart}
 use Rattle.pas_steps.proofs.Past.{always_both, always_map, always_pair, once_earlier, once_later}
-use Rattle.pas_search.specs.Kinds.{IsReturnOf, ReturnsGot, ReturnsDuly, KeepsMarks}
+use Rattle.pas_search.specs.Kinds.{IsReturnOf, ReturnsDuly, KeepsMarks}
 
 -- ---- steps of two calls
 duly_later : (m : Made) (before xs : List Made) → ReturnsDuly m before → ReturnsDuly m (before ++ xs)
@@ -29,12 +29,11 @@ no_return ks page s out is returns = true≢false (sym (return_kind page s retur
 
 -- steps of other kinds
 pub duly_none : (ks : Kinds) (steps : List Made) → apart ks turning_back ≡ true → apart ks giving ≡ true → Only ks steps → Always ReturnsDuly steps
-duly_none ks steps out due only =
-    always_pair ReturnsGot GivesDuly steps (always_map (λ m before. is_in ks (kind_of m.step) ≡ true) ReturnsGot steps (λ m before is page returns. absurd (no_return ks page m.step out is returns)) only) (due_none ks steps due only)
+duly_none ks steps out due only = search (arith, always_pair, always_map, no_return, due_none)
 
 -- Steps of kinds that turn no page back keep its marks.
 pub keeps_marks : (ks : Kinds) (page : ℕ) (steps : List Made) → apart ks turning_back ≡ true → Only ks steps → Always (KeepsMarks page) steps
-keeps_marks ks page steps out = always_map (λ m before. is_in ks (kind_of m.step) ≡ true) (KeepsMarks page) steps (λ m before is returns. absurd (no_return ks page m.step out is returns))
+keeps_marks ks page steps out = search (arith, always_map, no_return)
 
 -- ---- pages
 pub return_page : (p q : ℕ) (s : Step) → IsReturnOf q s → IsOnPage p s → q ≡ p

@@ -1,14 +1,12 @@
 -- What an actor that has nothing may ask, and what a request leaves for the next one.
-use Rattle.std.proofs.Common.{◌≡◌, ℕ, ◌+◌, ◌≤◌, ◌==◌, ◌⊎◌, List, ◌++◌, length, Bool, true, false, Ok, Err, Result, if◌then◌else◌, inl, inr, refl, ap, ◌∙◌, sym}
-use Rattle.std.proofs.Common.{subst, arith}
+use Rattle.std.proofs.Common.{◌≡◌, ℕ, ◌+◌, ◌≤◌, ◌==◌, ◌⊎◌, ◌++◌, length, Bool, false, Result, if◌then◌else◌, refl, ◌∙◌, arith}
 use Rattle.pas_profile.specs.Profiles.{IsDirectoryOf, IsValid}
-use Rattle.pas_profile.specs.declared.{directory.Directory.Directory, directory.Kind.TheVariants.Bitfit, event.Event.Event, event.NoRoom.NoRoom}
-use Rattle.pas_profile.specs.declared.{name.Block.Block, profile.Profile.Profile}
+use Rattle.pas_profile.specs.declared.{directory.Directory.Directory, directory.Kind.TheVariants.Bitfit, event.NoRoom.NoRoom, name.Block.Block}
+use Rattle.pas_profile.specs.declared.{profile.Profile.Profile}
 use Rattle.pas_steps.specs.{Agreement.Agreed, Clear.HasNothing, Desks.Standing, Desks.CanCall, Events.events_by, Views.View, Views.has_right}
 use Rattle.pas_steps.specs.Calls.{Kept, Lost, now, Does}
-use Rattle.pas_steps.specs.declared.step.Made.{Made}
 use Rattle.pas_steps.proofs.{Adding.adds_under, Adding.agreed_later, Nothing.can_go_on, Nothing.nothing_still, SpareRoom.Spares, SpareRoom.spare_falls}
-use Rattle.pas_search.specs.{Kinds.deeds_made, Searches.MaySearch, Searches.SearchRoom, Serving.right_of, Allocates.AllocatesRun, Choices.Choice}
+use Rattle.pas_search.specs.{Searches.MaySearch, Searches.SearchRoom, Serving.right_of, Allocates.AllocatesRun, Choices.Choice}
 use Rattle.pas_search.proofs.ForBackEnds.{events_quiet}
 use Rattle.pas_search.specs.declared.placing.Run.{Run}
 
@@ -17,22 +15,18 @@ may_search : (d : Directory) (v : View) → HasNothing v → MaySearch d v
 may_search d v none = record { rights = λ p of. none.rights p; clear = none.clear }
 
 -- an actor that has nothing may ask where there is room for three events, whatever is known of the pages
+-- three events leave room for two and one more
 pub can_ask : {σ : Standing} {spare : ℕ} (d : Directory) → 3 ≤ spare → CanCall σ HasNothing → CanCall σ (SearchRoom σ.seat.profile d 2 spare)
-can_ask d room can = record {
-  view = can.view;
-  whole = can.whole;
-  stood = can.stood;
-  met = record { may = may_search d can.view can.met; room = (omega (arith, room), inr (omega (arith, room))) };
-}
+can_ask d room can = search arith
 
 -- each region has bit-fit pages of heap 0
 pub bitfit_of_first : (f : Profile) → IsValid f → IsDirectoryOf f (record { heap = 0; kind = Bitfit })
-bitfit_of_first f valid = let some = valid.some_heap in record { heap = omega (arith, some); kind = tt; class = tt }
+bitfit_of_first f valid = record { heap = omega (arith, valid.some_heap); kind = tt; class = tt }
 
 -- ---- what is left
+-- a right that is lost or kept was not there before
 still_none : (here had : Bool) → had ≡ false → now (if here then Lost else Kept) had ≡ false
-still_none true had none = refl
-still_none false had none = none
+still_none here had none = search arith
 
 nothing_left : (page : ℕ) (v w : View) → HasNothing v → Does (right_of page Lost) v w → HasNothing w
 nothing_left page v w none does = record {
@@ -41,33 +35,18 @@ nothing_left page v w none does = record {
   clear = record { on = λ q. does.clear q (none.clear.on q) };
 }
 
+-- either way at most one
 one_deed : (m : ℕ) {A B : Type 0} → (A → m ≡ 0) → (B → m ≡ 1) → A ⊎ B → m ≤ 1
-one_deed m f g (inl a) = let z = f a in omega (arith, z)
-one_deed m f g (inr b) = let z = g b in omega (arith, z)
+one_deed m f g either = search arith
 
 module _ {Found : Type 0} {σ σ' : Standing} {tells : Bool} {choice : Choice Found} {run : Found → Run} (d : Directory) where
   leads : (answer : Result Block NoRoom) (asks : AllocatesRun choice run d tells σ σ' answer) (v : View) → HasNothing v
       → Agreed σ.seat.profile v (asks.after ++ asks.searched) → HasNothing ((asks.after ++ asks.searched) ++ v)
-  leads (Ok block) asks v none agreed =
-      let given = asks.outcome in
-      nothing_left given.page v ((asks.after ++ asks.searched) ++ v) none (given.gave.from v (may_search d v none) agreed).does
-  leads (Err why) asks v none agreed =
-      let only = ap (λ (xs : List Made). xs ++ asks.searched) asks.outcome.1 in
-      subst (λ (xs : List Made). Agreed σ.seat.profile v xs → HasNothing (xs ++ v)) (sym only)
-      (λ same. nothing_still (asks.outcome.0.still.from v (may_search d v none) same) none) agreed
+  leads answer asks v none agreed = search (arith, nothing_left, nothing_still)
 
   few : (answer : Result Block NoRoom) (asks : AllocatesRun choice run d tells σ σ' answer) (k : ℕ) (v : View) → MaySearch d v
       → Agreed σ.seat.profile v (asks.after ++ asks.searched) → length (events_by k v (asks.after ++ asks.searched)) ≤ 3
-  few (Ok block) asks k v may agreed =
-      let given = asks.outcome in
-      let searched = (given.served.few k v (agreed_later σ.seat.profile v asks.after asks.searched agreed)).0 in
-      let deeds : deeds_made asks.searched ≤ 1 = one_deed (deeds_made asks.searched) (λ c. c.no_deed) (λ c. c.one_deed) given.served.choice in
-      let all = ap (λ (es : List Event). length es) (given.events k v) in
-      omega (arith, searched, deeds, all)
-  few (Err why) asks k v may agreed =
-      let only = ap (λ (xs : List Made). length (events_by k v (xs ++ asks.searched))) asks.outcome.1 in
-      let none = ap (λ (es : List Event). length es) (events_quiet k v asks.searched asks.outcome.0.quiet) in
-      omega (arith, only, none)
+  few answer asks k v may agreed = search (arith, agreed_later, events_quiet)
 
   -- the actor has nothing again, and may go on
   pub can_ask_again : (answer : Result Block NoRoom) → AllocatesRun choice run d tells σ σ' answer → CanCall σ HasNothing → CanCall σ' HasNothing

@@ -22,12 +22,12 @@ use Rattle.pas_search.specs.declared.surveying.Best.{Best}
 use Rattle.pas_search.proofs.PagesThatServe.{offered_further, row_within}
 
 -- ---- looks
-pub looks_both : (ys xs : List Made) → AreLooks ys → AreLooks xs → AreLooks (ys ++ xs)
+looks_both : (ys xs : List Made) → AreLooks ys → AreLooks xs → AreLooks (ys ++ xs)
 looks_both [] xs a b = b
 looks_both (y ∷ ys) xs a b = (a.0, looks_both ys xs a.1 b)
 
 -- they get no right
-pub looks_lack : (p : ℕ) (xs : List Made) → AreLooks xs → has_right xs p ≡ false
+looks_lack : (p : ℕ) (xs : List Made) → AreLooks xs → has_right xs p ≡ false
 looks_lack p xs looks = ap (λ s. has_right s p) (sym (append-nil xs)) ∙ right_reads p xs [] (looks_read xs looks)
 
 -- ---- what is read of a page
@@ -54,21 +54,15 @@ module _ (ranks : Measure) (d : Directory) where
 
   -- with later steps
   ranked_later : (page : ℕ) (rank : Option ℕ) (ys xs : List Made) → IsRanked ranks d page rank xs → IsRanked ranks d page rank (ys ++ xs)
-  ranked_later page rank ys xs is = record {
-    offered = once_later (OneHere d page) ys xs is.offered;
-    readings = is.readings;
-    read = λ word lt. once_later (SeenHere page word is.readings) ys xs (is.read word lt);
-    ranked = is.ranked;
-  }
+  ranked_later page rank ys xs is = search (arith, once_later)
 
   seen_later : (Holds : Option ℕ → Type 0) (page : ℕ) (ys xs : List Made) → IsSeen ranks d Holds page xs → IsSeen ranks d Holds page (ys ++ xs)
-  seen_later Holds page ys xs (inl z) = inl (once_later (ZeroHere d page) ys xs z)
-  seen_later Holds page ys xs (inr s) = inr (s.0, ranked_later page s.0 ys xs s.1, s.2)
+  seen_later Holds page ys xs seen = search (arith, once_later, ranked_later)
 
+  -- the same reading serves
   seen_as : (Holds Also : Option ℕ → Type 0) (page : ℕ) (xs : List Made) → ((rank : Option ℕ) → Holds rank → Also rank) → IsSeen ranks d Holds page xs
       → IsSeen ranks d Also page xs
-  seen_as Holds Also page xs more (inl z) = inl z
-  seen_as Holds Also page xs more (inr s) = inr (s.0, s.1, more s.0 s.2)
+  seen_as Holds Also page xs more seen = search arith
 
   -- the pages from `next` to below `end` were read as not offered
   all_later : (Holds : ℕ → Option ℕ → Type 0) (next end : ℕ) (ys xs : List Made) → ((p : ℕ) → next ≤ p → p < end → Once (ZeroHere d p) (ys ++ xs))
@@ -122,17 +116,9 @@ module _ (ranks : Measure) (d : Directory) where
 
       old_best : (best : Best) (rank : Option ℕ) → IsRanked ranks d page rank xs → ((n : ℕ) → rank ≡ Some n → best.rank ≤ n)
           → IsBestBelow f ranks d page best xs → IsBestBelow f ranks d (page + 1) best xs
-      old_best best rank is worse old = record {
-        page = old.page;
-        below = omega (arith, old.below);
-        this = old.this;
-        others = all_more (IsNoBetter best.page best.rank) (IsNoBetter best.page best.rank) page rank xs (λ p other lt holds. holds) is
-            (λ n e. (worse n e, λ same. omega (arith, old.below))) old.others;
-        deed = old.deed;
-        lacks = old.lacks;
-      }
+      old_best best rank is worse old = search (arith, all_more)
 
-      pub best_more : (best : Option Best) (rank : Option ℕ) (better : Option Best) → IsBetterOf best page rank better → IsRanked ranks d page rank xs
+      best_more : (best : Option Best) (rank : Option ℕ) (better : Option Best) → IsBetterOf best page rank better → IsRanked ranks d page rank xs
           → IsSurvey f ranks d page xs best → IsSurvey f ranks d (page + 1) xs better
       best_more None None better so is all =
           subst (IsSurvey f ranks d (page + 1) xs) (sym (so.old (λ n e. absurd cc))) (all_more HasNone HasNone page None xs (λ p other lt holds. holds) is refl all)
@@ -140,13 +126,7 @@ module _ (ranks : Measure) (d : Directory) where
           subst (IsSurvey f ranks d (page + 1) xs) (sym (so.old (λ n e. absurd cc))) (old_best best None is (λ n e. absurd cc) old)
       best_more None (Some rank) better so is all =
           subst (IsSurvey f ranks d (page + 1) xs) (sym (so.new rank refl tt)) (new_best rank HasNone (λ p other n holds e. absurd cc) is all)
-      best_more (Some best) (Some rank) better so is old = elim (cases_lt rank best.rank) [
-        | inl less ↦ subst (IsSurvey f ranks d (page + 1) xs) (sym (so.new rank refl less))
-            (new_best rank (IsNoBetter best.page best.rank) (λ p other n holds same. let no = holds n same in omega (arith, less, no.0)) is old.others)
-        | inr low ↦
-            let no_less : (n : ℕ) → Some rank ≡ Some n → best.rank ≤ n = λ n same. let here : rank ≡ n = cc in omega (arith, low, here) in
-            subst (IsSurvey f ranks d (page + 1) xs) (sym (so.old (λ n same less. let no = no_less n same in omega (arith, no, less)))) (old_best best (Some rank) is no_less old)
-      ]
+      best_more (Some best) (Some rank) better so is old = search (arith, cases_lt, new_best, old_best)
 
 -- ---- the survey so far
 pub record SurveysTo (ranks : Measure) (d : Directory) (next : ℕ) (best : Option Best) (desk desk' : Standing) : Type 0 where
@@ -215,9 +195,6 @@ module _ {ranks : Measure} {d : Directory} {next : ℕ} {best : Option Best} {σ
     pub next_is : next' ≡ page + 1
     next_is = find.outcome.0
 
-    pub page_is : IsPage f page
-    page_is = first.of_region
-
     looked_adds : Adds σ0 σ1 AnyView looked
     looked_adds = adds_call {D = AnyView} surveys.adds find.adds (λ v l stood met. tt)
 
@@ -225,8 +202,7 @@ module _ {ranks : Measure} {d : Directory} {next : ℕ} {best : Option Best} {σ
     looked_looks = looks_both find.steps earlier (scans_look find.steps find.scans) surveys.looks
 
     offered : Once (OneHere d page) looked
-    offered = once_earlier (OneHere d page) (OneHere d page) find.steps earlier
-        (λ m before z. (z.0, z.1, right_own page before earlier (looks_lack page earlier surveys.looks) ∙ z.2)) first.one
+    offered = search (arith, once_earlier, right_own, looks_lack)
 
     module _ {σ2 : Standing} (free : Mask4) (reads : ReadsPage page σ1 σ2 free) (rank : Option ℕ) (ranked : ranks (is_set free) rank) where
       abbrev ys : List Made

@@ -1,43 +1,101 @@
--- The best page of a survey is claimed, and serves or comes to nothing; and where it came to nothing the search goes on.
-use Rattle.std.proofs.Common.{◌≡◌, ℕ, ◌+◌, ◌%◌, ◌≤◌, Bool, true, false, List, [], ◌∷◌, ◌++◌, length, Option, None, Some, Result, refl, ap, sym, ◌∙◌, subst}
-use Rattle.std.proofs.Common.{arith, inl, inr, append-nil, length-append, true≢false, MatchResult}
-use Rattle.std.proofs.lemmas.Bool.{cases_eq}
+-- The best page of a survey is claimed, and serves or comes to nothing; where it came to nothing the search goes on. What a survey of looks and the claim
+-- that follows it say of the state at entry, where no other actor makes a step meanwhile.
+use Rattle.std.proofs.Common.{◌≡◌, ℕ, ◌+◌, ◌*◌, ◌/◌, ◌%◌, ◌<◌, Bool, true, false, if◌then◌else◌, List, [], ◌∷◌, ◌++◌, Option, Some, inl, inr, refl, ap, sym}
+use Rattle.std.proofs.Common.{◌∙◌, subst, arith, true≢false, ◌≤◌, length, None, Result, append-nil, length-append}
 use Rattle.pas_bits.specs.Bits.{has_bit}
+use Rattle.pas_profile.specs.{Directories.number_of, Layouts.same_word, Profiles.IsValid}
+use Rattle.pas_profile.specs.declared.{directory.Directory.Directory, profile.Profile.Profile, word.Word.Word, event.NoRoom.NoRoom}
+use Rattle.pas_steps.specs.{Agreement.Agreed, Effects.target, Effects.new_value, Effects.free_word_at, Frames.IsLook, Frames.AreLooks, Past.Once, Calls.Leads}
+use Rattle.pas_steps.specs.{Calls.nothing, Calls.Does, Events.events_by, Events.events_of, Unknown.HasRoom, Views.has_right, Views.View, Views.KnowsDeed}
+use Rattle.pas_steps.specs.Desks.{triples, Seat, Standing, Adds, CanCall, made}
+use Rattle.pas_steps.specs.Evidence.{Readings, ReadsEligible, IsAntitone, GetsRight}
+use Rattle.pas_steps.specs.Lists.{Whole, Legal, part, word_after}
+use Rattle.pas_steps.specs.declared.step.{Made.Made, Step.Step, Step.TheVariants.TakeRight}
+use Rattle.pas_core.specs.Rights.{eligible_bit, free_of_page}
+use Rattle.pas_core.proofs.{Deeds.looked, OneActor.fit_entry, OneActor.legal_earlier, OneActor.lends_none}
+use Rattle.pas_search.specs.Kinds.{searching, AreSearch, AreQuiet, IsQuiet}
+use Rattle.pas_search.specs.Serving.{Rule, ShowsFit, MayServe, ServeSteps, ServesPage}
+use Rattle.pas_search.specs.Searches.{MaySearch, Searching, SearchRoom, FewEvents, Searches}
+use Rattle.pas_search.specs.Ranks.{Measure, IsOfGrains, SeenHere, IsRanked, TriesPage, FromSurvey, IsBestOffered, MayRank, RankRoom, Surveys, TriesBest}
+use Rattle.pas_search.specs.Ranks.{StoodBefore, having_made, FallsBack}
+use Rattle.std.proofs.lemmas.Bool.{cases_eq}
 use Rattle.pas_bits.proofs.Words.{none_of_zero}
-use Rattle.pas_profile.specs.Profiles.{IsValid}
-use Rattle.pas_profile.specs.declared.{directory.Directory.Directory, event.NoRoom.NoRoom, profile.Profile.Profile}
 use Rattle.pas_scan.specs.Marks.{is_marked}
-use Rattle.pas_steps.specs.{Agreement.Agreed, Calls.Leads, Calls.nothing, Calls.Does, Events.events_by, Events.events_of, Evidence.Readings, Evidence.GetsRight}
-use Rattle.pas_steps.specs.{Evidence.IsAntitone, Frames.AreLooks, Lists.Whole, Lists.Legal, Lists.part, Unknown.HasRoom}
-use Rattle.pas_steps.specs.Desks.{Seat, Standing, Adds, CanCall, made, triples}
-use Rattle.pas_steps.specs.Views.{View, has_right, known_deed, KnowsDeed}
-use Rattle.pas_steps.specs.declared.step.{Made.Made, Step.TheVariants.TakeRight}
 use Rattle.pas_steps.proofs.Adding.{adds_call, adds_under, can_call, legal_after}
 use Rattle.pas_steps.proofs.Calls.{does_none, leads_none, leads_then, still_clear}
 use Rattle.pas_steps.proofs.{Kept.deed_stays, Kept.knows_still, Kept.looks_read, Past.always_both, Unknown.all_known}
-use Rattle.pas_search.specs.{Kinds.AreQuiet, Kinds.IsQuiet, Telling.IsTold}
-use Rattle.pas_search.specs.Searches.{Searching, MaySearch, SearchRoom, IsServed, IsRefused, search_steps, FewEvents, Searches}
-use Rattle.pas_search.specs.Serving.{Rule, MayServe, ServeSteps, ServesPage}
-use Rattle.pas_search.specs.Ranks.{Measure, IsOfGrains, MayRank, RankRoom, Surveys, TriesPage, FromSurvey, TriesBest, StoodBefore, having_made, FallsBack}
 use Rattle.pas_search.specs.declared.{serving.Served.Served, surveying.Best.Best}
-use Rattle.pas_search.proofs.{ForBackEnds.room_kept, BestOffered.best_offered}
+use Rattle.pas_search.proofs.ForBackEnds.{room_kept}
 use Rattle.pas_search.proofs.PagesThatServe.{IsReady, reads_vain, vain_searching, claim_rights, ready, got_search, got_before, served_search, finds, never_got}
 use Rattle.pas_search.proofs.PagesThatServe.{deeds_serves, no_deeds, got_left, events_after_quiet}
+
+-- ---- looks leave each word as it was
+look_keeps : (e : ℕ) (s : Step) (w : Word) (old : ℕ) → IsLook s → (if same_word (target s) w then new_value e s old else old) ≡ old
+look_keeps e s w old is = grind (arith, looked)
+
+words_same : (k : ℕ) (xs : List Made) (l : Whole) (w : Word) → AreLooks xs → word_after (triples k xs ++ l) w ≡ word_after l w
+words_same k [] l w looks = refl
+words_same k (m ∷ xs) l w looks = search (arith, look_keeps, words_same k xs l w looks.1)
+
+eligible_read : (d : Directory) (p : ℕ) (s : Step) (w : Whole) → ReadsEligible d p s
+    → word_after w (target s) ≡ word_after w (Word.Eligible (number_of d) (p / 64))
+eligible_read d p s w e = grind arith
+
+-- the word of a grain is that of its page, by division
+word_of_page : (page b : ℕ) → b < 256 → free_word_at (page * 256 + b) ≡ Word.Free page (b / 64)
+word_of_page page b lt = search arith
+
+-- ---- so what they read is true of the state before them
+module _ (f : Profile) (k : ℕ) (l : Whole) where
+  -- an eligible bit
+  bit_told : (d : Directory) (p : ℕ) (bit : Bool) (xs : List Made) → Legal f (triples k xs ++ l) → AreLooks xs
+      → Once (λ m before. ReadsEligible d p m.step × (has_bit m.answer (p % 64) ≡ bit) × (has_right before p ≡ false)) xs → eligible_bit l (number_of d) p ≡ bit
+  bit_told d p bit [] legal looks h = absurd h
+  bit_told d p bit (m ∷ xs) legal looks (inl z) = search (arith, words_same, eligible_read)
+  bit_told d p bit (m ∷ xs) legal looks (inr h) = bit_told d p bit xs legal.1 looks.1 h
+
+  -- a grain
+  grain_told : (page b : ℕ) (r : Readings) (xs : List Made) → Legal f (triples k xs ++ l) → AreLooks xs → b < 256 → Once (SeenHere page (b / 64) r) xs
+      → r b ≡ free_of_page l page b
+  grain_told page b r [] legal looks lt h = absurd h
+  grain_told page b r (m ∷ xs) legal looks lt (inr h) = grain_told page b r xs legal.1 looks.1 lt h
+  grain_told page b r (m ∷ xs) legal looks lt (inl z) = search (arith, words_same, word_of_page)
+
+  module _ (ranks : Measure) (alike : IsOfGrains ranks) (d : Directory) where
+    -- the rank of a page
+    rank_told : (page : ℕ) (rank : Option ℕ) (xs : List Made) → Legal f (triples k xs ++ l) → AreLooks xs → IsRanked ranks d page rank xs
+        → ranks (free_of_page l page) rank
+    rank_told page rank xs legal looks is = alike is.readings (free_of_page l page) rank
+        (λ b lt. grain_told page b is.readings xs legal looks lt (is.read (b / 64) (omega (arith, lt)))) is.ranked
+
+    -- ---- the page that was served from
+    best_offered : {F : Type 0} (rule : Rule F) (page : ℕ) (kept : ℕ → Bool) (steps : List Made) → IsValid f → IsAntitone rule.no_fit
+        → Legal f (triples k steps ++ l) → AreSearch steps → MaySearch d (part k l) → Agreed f (part k l) steps
+        → FromSurvey f ranks d page steps → ShowsFit rule.no_fit kept f page (MaySearch d) steps steps → IsBestOffered rule.no_fit f ranks d l page
+    best_offered rule page kept steps valid fewer legal searches may agreed from shows =
+        let tries : TriesPage f ranks d page steps = from.tries in let ws : List Made = tries.surveyed in
+        let all : Legal f (triples k (tries.serve ++ (_ ∷ ws)) ++ l) = subst (λ xs. Legal f (triples k xs ++ l)) tries.steps_are legal in
+        let surveyed : Legal f (triples k ws ++ l) = (legal_earlier f k tries.serve (_ ∷ ws) l all).1 in record {
+          this = record {
+            of_region = tries.best.page;
+            offered = bit_told d page true ws surveyed tries.looks tries.best.this.offered;
+            fits = fit_entry rule.no_fit f k l page shows.readings steps fewer valid legal
+                (lends_none searching refl steps searches.kinds) shows.fits shows.read (shows.held.from (part k l) may agreed);
+          };
+          rank = tries.rank;
+          ranked = rank_told page (Some tries.rank) ws surveyed tries.looks tries.best.this;
+          best = λ other is offered. elim (tries.best.others other is.0 (omega (arith, is.1))) [
+            | inl zero ↦ absurd (true≢false (sym offered ∙ bit_told d other false ws surveyed tries.looks zero))
+            | inr seen ↦ (seen.0, rank_told other seen.0 ws surveyed tries.looks seen.1, seen.2)
+          ];
+        }
 
 -- ---- after looks alone all is as it was
 unmarked : (p : ℕ) → is_marked [] p ≡ false
 unmarked p = none_of_zero (p % 64)
 
 none_searched : (no_fit : Readings → Type 0) (f : Profile) (d : Directory) → Searching no_fit f d 1 [] []
-none_searched no_fit f d = record {
-  still = leads_none (λ v met. does_none v);
-  searches = record { kinds = tt; returns = tt };
-  quiet = tt;
-  untouched = λ p. record { right = refl; none = λ g at. refl };
-  marked = λ p mark. absurd (true≢false (sym mark ∙ unmarked p));
-  zeros = λ p low high mark. absurd (omega (arith, low, high));
-  lacked = λ p mark. tt;
-}
+none_searched no_fit f d = search (arith, leads_none, does_none, true≢false, unmarked)
 
 looked_over : {F : Type 0} (rule : Rule F) (f : Profile) (d : Directory) (ws : List Made) → AreLooks ws → Searching rule.no_fit f d 1 [] ws
 looked_over rule f d ws looks = subst (Searching rule.no_fit f d 1 []) (append-nil ws)
@@ -182,14 +240,7 @@ module _ {F : Type 0} {rule : Rule F} {ranks : Measure} {tells : Bool} {d : Dire
   xs = tries.steps
 
   may_again : (v : View) → MayRank d v → Agreed σ.seat.profile v xs → MaySearch d (xs ++ v)
-  may_again v met agreed =
-      let still = tries.outcome.still.from v met.may agreed in record {
-        rights = λ p knows. still.right p ∙ elim (cases_eq (known_deed v p) 0) [
-          | inl none ↦ met.known p none
-          | inr some ↦ met.may.rights p (sym (deed_stays σ.seat.profile xs v p agreed some) ∙ knows)
-        ];
-        clear = still_clear still met.may.clear;
-      }
+  may_again v met agreed = search (arith, cases_eq, deed_stays, still_clear)
 
   profile_kept : σ1.seat.profile ≡ σ.seat.profile
   profile_kept = ap (λ (seat : Seat). seat.profile) tries.adds.seat_is
@@ -208,40 +259,21 @@ module _ {F : Type 0} {rule : Rule F} {ranks : Measure} {tells : Bool} {d : Dire
             (keep n met.room.0, elim met.room.1 [ inl all ↦ inl (all_known σ.seat.profile xs v agreed all) | inr wide ↦ inr (keep (n + 1) wide) ]);
       })
 
+  -- its parts are those of the try
   pub falls_back : {Goes : Standing → Type 0} → Goes (having_made σ (MayRank d) tries.steps) → FallsBack rule.no_fit rule.steps ranks d σ Goes
-  falls_back goes = record {
-    tried = xs;
-    agreed = λ v l stood met. tries.adds.agreed v l stood met.may;
-    searches = tries.searches;
-    few = tries.few;
-    outcome = tries.outcome;
-    goes = goes;
-  }
+  falls_back goes = search arith
 
   -- ---- what is said of the desk then is said of the one that made these steps
   abbrev pub before : Standing
   before = having_made σ (MayRank d) tries.steps
 
+  -- the state after the try is the one that it adds to
   pub stood_then : (v : View) (l : Whole) → StoodBefore σ (MayRank d) tries.steps v l → σ1.stands v l
-  stood_then v l b = subst (λ w. σ1.stands w l) (sym b.view_is) (subst (σ1.stands (xs ++ b.view)) (sym b.whole_is)
-      (tries.adds.added b.view b.whole b.stood b.met.may))
+  stood_then v l b = search arith
 
   pub adds_then : {σ2 : Standing} {C : View → Type 0} {ys : List Made} → Adds σ1 σ2 C ys → Adds (having_made σ (MayRank d) tries.steps) σ2 C ys
-  adds_then {σ2} {C} {ys} adds = record {
-    seat_is = adds.seat_is ∙ tries.adds.seat_is;
-    added = λ v l b met. subst (λ (seat : Seat). σ2.stands (ys ++ v) (triples seat.actor ys ++ l)) tries.adds.seat_is (adds.added v l (stood_then v l b) met);
-    agreed = λ v l b met. subst (λ (seat : Seat). Agreed seat.profile v ys) tries.adds.seat_is (adds.agreed v l (stood_then v l b) met);
-  }
+  adds_then {σ2} {C} {ys} adds = search (arith, stood_then)
 
   pub searches_then : {σ2 : Standing} {answer : Result (Served F) NoRoom} → Searches rule tells d σ1 σ2 answer
       → Searches rule tells d (having_made σ (MayRank d) tries.steps) σ2 answer
-  searches_then {σ2} {answer} searches = let ys : List Made = searches.steps in record {
-    steps = ys;
-    adds = adds_then searches.adds;
-    searches = searches.searches;
-    few = subst (λ (seat : Seat). length ys ≤ search_steps rule.steps seat.profile.pages) tries.adds.seat_is searches.few;
-    outcome = subst (λ (seat : Seat). MatchResult answer (IsServed rule seat.profile d ys)
-        (IsRefused rule.no_fit seat.profile d ys)) tries.adds.seat_is searches.outcome;
-    told = λ t v l b met. subst (λ (seat : Seat). IsTold (λ (served : Served F). served.page) rule.no_fit seat.profile d l
-        (triples seat.actor ys ++ l) answer) tries.adds.seat_is (searches.told t v l (stood_then v l b) met);
-  }
+  searches_then {σ2} {answer} searches = search (arith, adds_then, stood_then)

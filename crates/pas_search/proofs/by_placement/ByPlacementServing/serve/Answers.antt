@@ -1,8 +1,8 @@
 use Rattle.std.proofs.Common.{false}
 use Rattle.pas_bits.specs.Masks.{is_set}
-use Rattle.pas_search.proofs.{ForBackEnds.room_kept, Pages.quiet_by, Pages.can_leave, Pages.can_back, Placed.placed_fits, Placed.unfit, Placed.run_chosen}
+use Rattle.pas_search.proofs.{ForBackEnds.room_kept, Placed.placed_fits, Placed.unfit, Placed.run_chosen}
+use Rattle.pas_search.proofs.Pages.{quiet_by, can_leave, can_back, looked_at, leaves_unfit, can_take, taken_from, keeps_chosen}
 use Rattle.pas_search.specs.Placements.{by_run, placing}
-use Rattle.pas_search.proofs.Parts.{looked_at, leaves_unfit, can_take, taken_from, keeps_chosen}
 use Rattle.pas_search.proofs.by_placement.ByPlacementServing.serve.Goals as goal
 
 pub leave-requires-clause-can : goal.leave-requires-clause-can
