@@ -5,13 +5,10 @@
 //! the words behind the last whole group one by one. No call refuses, and none allocates.
 #![tactic(auto)]
 
-mod compare;
-mod count;
-mod search;
+mod row_compare;
+mod row_count;
+mod row_search;
 
-pub use compare::any_and_not;
-pub use count::count_ones;
-pub use search::{all_zero, first_set};
-
-/// Words in a group.
-pub const LANES: usize = 8;
+pub use row_compare::any_and_not;
+pub use row_count::count_ones;
+pub use row_search::{LANES, all_zero, first_set};

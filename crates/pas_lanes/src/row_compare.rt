@@ -2,7 +2,7 @@
 ghost use Rattle.std.specs.Prelude.{◌≡◌, ℕ, ◌*◌, ◌≤◌, MatchBool, length};
 ghost use Rattle.pas_lanes.specs.Rows.{HasMemberOutside, IsWithin, IsWithinBelow};
 
-use crate::LANES;
+use crate::row_search::LANES;
 use std::simd::prelude::*;
 
 /// How many words come before the first group with a bit that is set in `a` and clear in `b`, or before the rest behind

@@ -2,7 +2,6 @@
 ghost use Rattle.std.specs.Prelude.{◌≡◌, ℕ, ◌*◌, ◌^◌, ◌<◌, ◌≤◌, MatchBool, MatchOption, length};
 ghost use Rattle.pas_lanes.specs.Rows.{HasMember, IsClearBelow, IsEmpty, IsLowestSet};
 
-use crate::LANES;
 use std::simd::prelude::*;
 
 /// How many words come before the first group that has a set bit, or before the rest behind the last group where none

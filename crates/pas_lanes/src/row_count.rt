@@ -2,7 +2,7 @@
 ghost use Rattle.std.specs.Prelude.{◌≡◌, ℕ, ◌*◌, ◌^◌, ◌<◌, ◌≤◌, length};
 ghost use Rattle.pas_lanes.specs.Rows.{set_count};
 
-use crate::LANES;
+use crate::row_search::LANES;
 use std::simd::prelude::*;
 
 /// How many bits are set. The row has fewer than 2^57 words, so the number fits. Reads each word once.
