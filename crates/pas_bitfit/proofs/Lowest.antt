@@ -1,6 +1,6 @@
 -- The lowest place of a mask as the lowest run that fits.
 use Rattle.std.proofs.Common.{ℕ, refl, arith, sym, ◌∙◌, true≢false}
-use Rattle.pas_lanes.specs.Rows.{IsEmpty}
+use Rattle.pas_bits.specs.Rows.{IsEmpty}
 use Rattle.pas_bits.specs.declared.mask.Mask4.{Mask4}
 use Rattle.pas_bits.specs.Masks.{is_set, IsPlace, IsLowestPlace}
 use Rattle.pas_search.specs.Placements.{IsPlaced}

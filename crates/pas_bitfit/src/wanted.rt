@@ -1,6 +1,5 @@
 //! The lowest run of free grains that fits.
-use pas_bits::Mask4;
-use pas_lanes::all_zero;
+use pas_bits::{Mask4, all_zero};
 use pas_search::{Placing, Run};
 
 /// The run of free grains that a request wants: so many, 1 to 256, of which the first is a multiple of the alignment, 1 to 256 grains.

@@ -5,3 +5,4 @@ pub mod Words
 mod Masks
 pub mod MovedMasks
 pub mod PageVectors
+pub mod Rows

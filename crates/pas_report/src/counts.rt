@@ -4,7 +4,7 @@ ghost use Rattle.pas_profile.specs.Profiles.{IsPage};
 ghost use Rattle.pas_steps.specs.States.{profile_of};
 ghost use Rattle.pas_report.specs.Counts.{AreCounted, backed_counted, deeds_counted, ended_counted, free_counted_on, live_counted, live_counted_on};
 
-use pas_lanes::count_ones;
+use pas_bits::count_ones;
 use pas_profile::{Word, read_life};
 use pas_steps::State;
 

@@ -17,8 +17,8 @@ use Rattle.pas_steps.specs.declared.step.{Made.Made, Step.TheVariants.Look}
 use Rattle.pas_steps.proofs.Past.{once_later, once_earlier}
 use Rattle.pas_scan.specs.Rows.{eligible_looks, WordReadHere, shows_page, IsLowestShown, ShowsNone}
 use Rattle.pas_scan.proofs.Reading.{right_scans, scans_lack, looks_count, looks_scan, looks_single}
-use Rattle.pas_lanes.specs.Rows.{is_set, IsEmpty, IsLowestSet, IsWithin}
-use Rattle.pas_lanes.proofs.Rows.{none_past}
+use Rattle.pas_bits.specs.Rows.{is_set, IsEmpty, IsLowestSet, IsWithin}
+use Rattle.pas_bits.proofs.Rows.{none_past}
 
 -- ==== The set of marked pages.
 

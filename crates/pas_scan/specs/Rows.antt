@@ -1,7 +1,7 @@
 -- Rows of eligible words, which are read before any of them is searched. The page p of a row whose first word is that of a block stands in
 -- bit p % 64 of the word p / 64 - block.
 use Rattle.std.specs.Prelude.{ℕ, ◌+◌, ◌-◌, ◌*◌, ◌/◌, ◌<◌, ◌≤◌, ◌≡◌, min, Bool, true, false, List, [], ◌∷◌, length, slice_index}
-use Rattle.pas_lanes.specs.Rows.{is_set}
+use Rattle.pas_bits.specs.Rows.{is_set}
 use Rattle.pas_profile.specs.Directories.{number_of}
 use Rattle.pas_profile.specs.declared.{directory.Directory.Directory, profile.Profile.Profile, word.Word.Word as TheWord, word.Word.Word}
 use Rattle.pas_steps.specs.Desks.{Standing, AnyView, Adds, made}

@@ -6,7 +6,7 @@ ghost use Rattle.pas_scan.specs.Scan.{FindsOffered};
 
 use crate::looked::Looked;
 use crate::row::{lowest_in_row, read_row};
-use pas_lanes::LANES;
+use pas_bits::LANES;
 use pas_steps::Desk;
 
 /// The lowest page from `next` on whose eligible bit was read as 1. The search goes on after it.

@@ -5,7 +5,7 @@ ghost use Rattle.pas_profile.specs.Profiles.{IsDirectoryOf};
 ghost use Rattle.pas_steps.specs.Desks.{AnyView, CanCall};
 ghost use Rattle.pas_scan.specs.Rows.{ReadsRow, ShowsNone, IsLowestShown};
 
-use pas_lanes::{LANES, any_and_not, first_set};
+use pas_bits::{LANES, any_and_not, first_set};
 use pas_profile::{Directory, Word};
 use pas_steps::Desk;
 

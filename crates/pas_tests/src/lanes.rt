@@ -1,4 +1,4 @@
-use pas_lanes::{all_zero, any_and_not, count_ones, first_set};
+use pas_bits::{all_zero, any_and_not, count_ones, first_set};
 
 /// One bit, behind a group of eight words.
 const LAST: [u64; 9] = [0, 0, 0, 0, 0, 0, 0, 0, 0x8000000000000000];

@@ -2,7 +2,7 @@
 ghost use Rattle.std.specs.Prelude.{◌≡◌, ◌<◌, ◌≤◌, length};
 
 use crate::lanes::{MOST_WORDS, plain};
-use pas_lanes::{all_zero, any_and_not, count_ones, first_set};
+use pas_bits::{all_zero, any_and_not, count_ones, first_set};
 
 /// Which of the four calls.
 #[derive(Clone, Copy, PartialEq, Eq)]

@@ -1,6 +1,6 @@
 use Rattle.std.proofs.Common.{◌*◌}
-use Rattle.pas_lanes.specs.Rows.{IsClearBelow}
-use Rattle.pas_lanes.proofs.row_search.first_set.Given as goal
+use Rattle.pas_bits.specs.Rows.{IsClearBelow}
+use Rattle.pas_bits.proofs.row_search.first_set.Given as goal
 
 -- no bit of the words so far is set
 abbrev pub invariant-loop-word : goal.invariant-loop-word

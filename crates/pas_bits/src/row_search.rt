@@ -1,6 +1,6 @@
 //! The lowest set bit of a row, and whether there is one.
 ghost use Rattle.std.specs.Prelude.{◌≡◌, ℕ, ◌*◌, ◌^◌, ◌<◌, ◌≤◌, MatchBool, MatchOption, length};
-ghost use Rattle.pas_lanes.specs.Rows.{HasMember, IsClearBelow, IsEmpty, IsLowestSet};
+ghost use Rattle.pas_bits.specs.Rows.{HasMember, IsClearBelow, IsEmpty, IsLowestSet};
 
 use std::simd::prelude::*;
 

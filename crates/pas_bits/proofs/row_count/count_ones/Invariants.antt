@@ -1,7 +1,7 @@
 use Rattle.std.proofs.Common.{◌≡◌, ◌-◌, ◌≤◌, length}
 use Rattle.std.specs.Simd.Lanes.{sum_l}
-use Rattle.pas_lanes.proofs.Rows.{count_before}
-use Rattle.pas_lanes.proofs.row_count.count_ones.Given as goal
+use Rattle.pas_bits.proofs.Rows.{count_before}
+use Rattle.pas_bits.proofs.row_count.count_ones.Given as goal
 
 -- the lanes have the set bits of the groups so far
 abbrev pub invariant-loop-start : goal.invariant-loop-start

@@ -1,8 +1,8 @@
 use Rattle.std.proofs.Common.{◌≡◌, ◌+◌, length, refl, sym, ◌∙◌, ap, arith, w64}
 use Rattle.std.specs.Simd.Lanes.{chunk, sum_l}
 use Rattle.std.proofs.lemmas.Simd.{adds_fit, fold-sum, length-zip2, sum-zip2, sum_fits}
-use Rattle.pas_lanes.proofs.Rows.{before_most, count_before, group_more, lane_counts, length_counts, none_before, whole_before, word_more}
-use Rattle.pas_lanes.proofs.row_count.count_ones.Goals as goal
+use Rattle.pas_bits.proofs.Rows.{before_most, count_before, group_more, lane_counts, length_counts, none_before, whole_before, word_more}
+use Rattle.pas_bits.proofs.row_count.count_ones.Goals as goal
 
 pub loop-start-init : goal.loop-start-init
 loop-start-init c = (omega arith, refl, sym (none_before c.args.words.now))

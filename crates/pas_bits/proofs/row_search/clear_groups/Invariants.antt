@@ -1,6 +1,6 @@
 use Rattle.std.proofs.Common.{◌*◌, ◌-◌, ◌≤◌, length}
-use Rattle.pas_lanes.specs.Rows.{IsClearBelow}
-use Rattle.pas_lanes.proofs.row_search.clear_groups.Given as goal
+use Rattle.pas_bits.specs.Rows.{IsClearBelow}
+use Rattle.pas_bits.proofs.row_search.clear_groups.Given as goal
 
 -- no bit of the groups so far is set
 abbrev pub invariant-loop-start : goal.invariant-loop-start

@@ -1,6 +1,6 @@
 //! Two rows beside each other.
 ghost use Rattle.std.specs.Prelude.{◌≡◌, ℕ, ◌*◌, ◌≤◌, MatchBool, length};
-ghost use Rattle.pas_lanes.specs.Rows.{HasMemberOutside, IsWithin, IsWithinBelow};
+ghost use Rattle.pas_bits.specs.Rows.{HasMemberOutside, IsWithin, IsWithinBelow};
 
 use crate::row_search::LANES;
 use std::simd::prelude::*;

@@ -1,6 +1,6 @@
 use Rattle.std.proofs.Common.{◌*◌, ◌-◌, ◌≤◌, length}
-use Rattle.pas_lanes.specs.Rows.{IsWithinBelow}
-use Rattle.pas_lanes.proofs.row_compare.groups_within.Given as goal
+use Rattle.pas_bits.specs.Rows.{IsWithinBelow}
+use Rattle.pas_bits.proofs.row_compare.groups_within.Given as goal
 
 -- of the groups so far each number of the first row is one of the second
 abbrev pub invariant-loop-start : goal.invariant-loop-start

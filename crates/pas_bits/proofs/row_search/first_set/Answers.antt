@@ -1,5 +1,5 @@
-use Rattle.pas_lanes.proofs.Rows.{lowest_set}
-use Rattle.pas_lanes.proofs.row_search.first_set.Goals as goal
+use Rattle.pas_bits.proofs.Rows.{lowest_set}
+use Rattle.pas_bits.proofs.row_search.first_set.Goals as goal
 
 pub returns-then-bits-ne0 : goal.returns-then-bits-ne0
 returns-then-bits-ne0 c =

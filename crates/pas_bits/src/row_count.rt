@@ -1,6 +1,6 @@
 //! How many bits of a row are set.
 ghost use Rattle.std.specs.Prelude.{◌≡◌, ℕ, ◌*◌, ◌^◌, ◌<◌, ◌≤◌, length};
-ghost use Rattle.pas_lanes.specs.Rows.{set_count};
+ghost use Rattle.pas_bits.specs.Rows.{set_count};
 
 use crate::row_search::LANES;
 use std::simd::prelude::*;

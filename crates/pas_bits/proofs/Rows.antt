@@ -8,7 +8,7 @@ use Rattle.std.proofs.{lemmas.Nat.le_or_r, lemmas.Nat.Bits.bit_at-trailing_zeros
 use Rattle.std.proofs.{Math.Seq.drop-cons}
 use Rattle.pas_bits.specs.Bits.{has_bit, count_below}
 use Rattle.pas_bits.proofs.Words.{none_of_zero, bit_of_and, bit_of_not}
-use Rattle.pas_lanes.specs.Rows.{is_set, IsClearBelow, HasMember, IsLowestSet, IsWithinBelow, HasMemberOutside, set_count}
+use Rattle.pas_bits.specs.Rows.{is_set, IsClearBelow, HasMember, IsLowestSet, IsWithinBelow, HasMemberOutside, set_count}
 use Rattle.std.specs.Simd.Lanes.{chunk, fold_l, zip2, sum_l}
 use Rattle.pas_bits.proofs.Counts.{count_same, count_add, count_suc, ones_counted}
 

@@ -1,5 +1,5 @@
-use Rattle.pas_lanes.proofs.Rows.{has_outside, within_one}
-use Rattle.pas_lanes.proofs.row_compare.any_and_not.Goals as goal
+use Rattle.pas_bits.proofs.Rows.{has_outside, within_one}
+use Rattle.pas_bits.proofs.row_compare.any_and_not.Goals as goal
 
 pub returns-then-outside-ne0 : goal.returns-then-outside-ne0
 returns-then-outside-ne0 c =

@@ -1,6 +1,6 @@
 use Rattle.std.proofs.Common.{◌+◌, arith}
-use Rattle.pas_lanes.proofs.Rows.{group_within, within_more}
-use Rattle.pas_lanes.proofs.row_compare.groups_within.Goals as goal
+use Rattle.pas_bits.proofs.Rows.{group_within, within_more}
+use Rattle.pas_bits.proofs.row_compare.groups_within.Goals as goal
 
 pub loop-start-preserved : goal.loop-start-preserved
 loop-start-preserved c =
