@@ -3,11 +3,10 @@
 
 mod editing;
 mod index;
-mod laws;
+mod index_laws;
 mod searching;
 mod span;
 
 pub use index::{Full, LargeIndex};
-pub use laws::one_list_of_ranges;
-pub use pas_profile::Range;
+pub use index_laws::one_list_of_ranges;
 pub use span::Span;
