@@ -13,3 +13,4 @@ mod ToldReasons
 mod ToldByDoor
 pub mod Alone
 pub mod Lifted
+mod Spans

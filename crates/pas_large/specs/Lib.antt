@@ -9,3 +9,5 @@ pub mod Allocates
 pub mod Doors
 pub mod Telling
 pub mod Alone
+pub mod Spans
+pub mod Sets

@@ -1,6 +1,6 @@
 -- What a door to plain indexes tells, as the definition of a replay says it.
 use Rattle.std.proofs.Common.{arith, ◌≡◌, ℕ, List, [], ◌∷◌, ◌++◌, length, drop, take, Option, ap, sym, ◌∙◌, subst, refl, length-set, take_at}
-use Rattle.pas_large_index.specs.Spans.{span_of, added}
+use Rattle.pas_large.specs.Spans.{span_of, added}
 use Rattle.pas_profile.specs.declared.{directory.Route.Route, event.Range.Range, profile.Profile.Profile}
 use Rattle.pas_free_log.specs.declared.noting.EndedRun.{EndedRun}
 use Rattle.pas_large.specs.Doors.{Indexes, ranges_of, found_in, cut_in, added_in}

@@ -14,7 +14,7 @@ use crate::taking::{Keeps, Takes};
 use pas_acts::{books_for, caches_for, outcomes_from, region_of, rooms_of};
 use pas_answers::Remake;
 use pas_answers::names::Names;
-use pas_large_index::LargeIndex;
+use pas_large::LargeIndex;
 use pas_plain::{PlainPass, PlainRegion, close};
 use pas_profile::NoMemory;
 use pas_report::Records;

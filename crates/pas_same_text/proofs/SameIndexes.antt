@@ -19,7 +19,7 @@ use Rattle.pas_same_text.proofs.CacheLists.{many_with}
 use Rattle.pas_same_text.proofs.StillIndexes.{same_many, each_keeps, minds_keep, flushes_keep, stops_keep, idle_keeps, logs_keep, frees_keep, what_keeps}
 use Rattle.pas_same_text.proofs.StillIndexes.{deeds_keep, backs_keep, class_keeps, places_keep, run_keeps, pass_keeps, same_indexes}
 use Rattle.pas_large.specs.Doors.{Indexes, no_ranges}
-use Rattle.pas_large_index.specs.declared.span.Span.{Span}
+use Rattle.pas_large.specs.declared.span.Span.{Span}
 use Rattle.pas_answers.specs.Indexes.{unless_suited, request_made, request_by, after_request, after_operation, with_noted, indexes_after}
 use Rattle.pas_answers.specs.Calls.{block_behind}
 use Rattle.pas_same_text.specs.Acts.{IsTaken, HandsOnOwn, KeepsIndexes}

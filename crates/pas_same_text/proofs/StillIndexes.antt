@@ -5,7 +5,7 @@ use Rattle.pas_profile.specs.{Blocks.address_of, Requests.class_home, Requests.i
 use Rattle.pas_profile.specs.declared.{directory.Directory.Directory, event.Event.Event, event.NoRoom.NoRoom, event.Outcome.Outcome, name.Block.Block}
 use Rattle.pas_profile.specs.declared.{name.Name.Name, profile.Profile.Profile}
 use Rattle.pas_machine.specs.State.{backed_in}
-use Rattle.pas_large_index.specs.declared.span.Span.{Span}
+use Rattle.pas_large.specs.declared.span.Span.{Span}
 use Rattle.pas_free_log.specs.Logs.{sized_entry}
 use Rattle.pas_free_log.specs.declared.log.Entry.{Entry}
 use Rattle.pas_report.specs.declared.record.{Record.Record, Said.Said}

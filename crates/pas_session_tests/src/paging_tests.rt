@@ -2,8 +2,7 @@
 ghost use Rattle.std.specs.Prelude.{IfOk};
 
 use pas_cache::ThreadCache;
-use pas_large::{Door, NoIndex, PlainDoor, SharedDoor};
-use pas_large_index::LargeIndex;
+use pas_large::{Door, LargeIndex, NoIndex, PlainDoor, SharedDoor};
 use pas_plain::alone;
 use pas_profile::*;
 use pas_steps::Desk;

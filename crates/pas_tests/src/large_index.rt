@@ -1,7 +1,7 @@
 //! An index that is full, and one more page that joins two ranges.
 ghost use Rattle.std.specs.Prelude.{◌≤◌, ◌<◌};
 
-use pas_large_index::LargeIndex;
+use pas_large::LargeIndex;
 use pas_profile::Range;
 
 /// Whether the index takes this page.

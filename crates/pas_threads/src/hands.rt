@@ -9,7 +9,7 @@ use crate::workers::{Worker, perform};
 use pas_acts::gate::Gate;
 use pas_acts::names::NameBook;
 use pas_answers::Remake;
-use pas_large_index::LargeIndex;
+use pas_large::LargeIndex;
 use pas_shared::SharedRegion;
 use pas_trace::Op;
 use std::sync::{Mutex, Wait};

@@ -9,7 +9,7 @@ use crate::ahead::{Ahead, Spare};
 use crate::making::{indexes_for, move_rooms, team_for};
 use crate::phases::Team;
 use pas_acts::{region_of, rooms_of};
-use pas_large_index::LargeIndex;
+use pas_large::LargeIndex;
 use pas_profile::{EventRoom, NoMemory};
 use pas_shared::{Opening, SharedPass, SharedRegion};
 use pas_trace::Plan;

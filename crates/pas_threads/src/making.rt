@@ -22,7 +22,7 @@ use pas_acts::names::{NameBook, Requests};
 use pas_acts::{active, books_for, caches_for, outcomes_from};
 use pas_cache::ThreadCache;
 use pas_guard::GuardBook;
-use pas_large_index::LargeIndex;
+use pas_large::LargeIndex;
 use pas_profile::{EventRoom, NoMemory};
 use pas_report::{Records, room_for_replay};
 use pas_shared::SharedPass;

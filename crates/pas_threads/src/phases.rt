@@ -23,7 +23,7 @@ use pas_acts::gate::Gate;
 use pas_acts::names::NameBook;
 use pas_answers::Remake;
 use pas_bits::Mask4;
-use pas_large_index::LargeIndex;
+use pas_large::LargeIndex;
 use pas_report::{Record, Records};
 use pas_shared::{Ledger, SharedRegion};
 use pas_trace::{Op, Phase};
