@@ -11,8 +11,8 @@ use Rattle.pas_profile.specs.{Classes.IsSlotStart, Directories.IsKind, Directori
 use Rattle.pas_profile.specs.Requests.{is_shared, kind_of_class, kind_of_route, route_in, room_in, class_home}
 use Rattle.pas_profile.specs.declared.{directory.Kind.Kind as TheKind, directory.Route.Route, profile.Profile.Profile, directory.Directory.Directory}
 use Rattle.pas_profile.specs.declared.{event.Event.Event, event.NoRoom.NoRoom, name.Block.Block}
-use Rattle.pas_heap.specs.Heaps.{marks_of, is_marked}
-use Rattle.pas_heap.specs.declared.table.HeapTable.{HeapTable}
+use Rattle.pas_utility.specs.Heaps.{marks_of, is_marked}
+use Rattle.pas_utility.specs.declared.table.HeapTable.{HeapTable}
 use Rattle.pas_profile.proofs.{ClassFacts.class_suits, ClassFacts.class_known, ClassFacts.routed_slot_aligned, Codecs.deed_word_of-positive}
 use Rattle.pas_cache.specs.{Caches.Cached, Caches.AtRest, Calls.MayAllocate, Calls.Allocates, Changes.GivesSlot, Changes.LeavesSpent, Kinds.releasing}
 use Rattle.pas_cache.specs.{Kinds.allocating}

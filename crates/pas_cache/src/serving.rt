@@ -9,7 +9,7 @@ use crate::cache::ThreadCache;
 use crate::giving::give_lowest;
 use crate::obtaining::obtain;
 use arrayvec::ArrayVec;
-use pas_heap::HeapTable;
+use pas_utility::HeapTable;
 use pas_large::{Door, NoIndex};
 use pas_profile::limits::{GRAIN_BYTES, MOST_LOCALS};
 use pas_profile::{Block, Directory, NoRoom, Route};

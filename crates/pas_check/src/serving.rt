@@ -8,7 +8,7 @@ ghost use Rattle.pas_check.specs.Calls.{asked_for, GiveTaken, IsFitting, IsGiven
 ghost use Rattle.pas_check.specs.States.{Stand};
 
 use crate::taking::{event_read, step};
-use pas_heap::HeapTable;
+use pas_utility::HeapTable;
 use pas_machine::Machine;
 use pas_profile::{Block, Directory, Event, Kind, Profile, Route};
 use pas_report::{Record, Said};

@@ -1,4 +1,4 @@
-use pas_heap::HeapTable;
+use pas_utility::HeapTable;
 use pas_profile::{Kind, Profile};
 
 #[test]

@@ -1,7 +1,7 @@
 -- What a table of heaps means.
 use Rattle.std.specs.Prelude.{ℕ, ◌==◌, Bool}
 use Rattle.std.specs.Int.{bit_at}
-use Rattle.pas_heap.specs.declared.table.HeapTable.{HeapTable}
+use Rattle.pas_utility.specs.declared.table.HeapTable.{HeapTable}
 
 -- the marks of shared heaps, those of the profile that the table was made from
 abbrev pub marks_of : HeapTable → ℕ
