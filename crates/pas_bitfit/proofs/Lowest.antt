@@ -1,8 +1,7 @@
 -- The lowest place of a mask as the lowest run that fits.
 use Rattle.std.proofs.Common.{ℕ, refl, arith, sym, ◌∙◌, true≢false}
-use Rattle.pas_bits.specs.Rows.{IsEmpty}
+use Rattle.pas_bits.specs.{Rows.IsEmpty, Masks.is_set, Masks.IsPlace, Masks.IsLowestPlace}
 use Rattle.pas_bits.specs.declared.mask.Mask4.{Mask4}
-use Rattle.pas_bits.specs.Masks.{is_set, IsPlace, IsLowestPlace}
 use Rattle.pas_search.specs.Placements.{IsPlaced}
 use Rattle.pas_bitfit.specs.Runs.{IsWanted, Fits, NoneFits, lowest_run, run_at}
 use Rattle.pas_bitfit.specs.declared.wanted.Wanted.{Wanted}

@@ -9,12 +9,12 @@ use crate::cache::ThreadCache;
 use crate::giving::give_lowest;
 use crate::obtaining::obtain;
 use arrayvec::ArrayVec;
-use pas_utility::HeapTable;
 use pas_large::{Door, NoIndex};
 use pas_profile::limits::{GRAIN_BYTES, MOST_LOCALS};
 use pas_profile::{Block, Directory, NoRoom, Route};
 use pas_segregated::Slots;
 use pas_steps::Desk;
+use pas_utility::HeapTable;
 
 /// Serves a request of the class, which is at home in the directory, from the local allocators.
 #[inline(always)]

@@ -8,10 +8,10 @@ ghost use Rattle.pas_check.specs.Calls.{asked_for, GiveTaken, IsFitting, IsGiven
 ghost use Rattle.pas_check.specs.States.{Stand};
 
 use crate::taking::{event_read, step};
-use pas_utility::HeapTable;
 use pas_machine::Machine;
 use pas_profile::{Block, Directory, Event, Kind, Profile, Route};
 use pas_report::{Record, Said};
+use pas_utility::HeapTable;
 
 /// What a request asks for: a block for this name, of this room, at a multiple of this alignment, on pages of this directory.
 #[derive(Clone, Copy, Drop)]

@@ -2,8 +2,8 @@
 ghost use Rattle.std.specs.Prelude.{◌≡◌};
 ghost use Rattle.pas_large.specs.Doors.{found_in, cut_in, added_in};
 
-use crate::door::Door;
 use crate::LargeIndex;
+use crate::door::Door;
 use pas_profile::Range;
 
 /// A door to indexes that nobody else asks meanwhile: the one at place h is that of heap h. It tells what they hold.

@@ -1,6 +1,6 @@
 //! The indexes of the heaps, where threads share them.
-use crate::door::Door;
 use crate::LargeIndex;
+use crate::door::Door;
 use pas_profile::Range;
 use std::sync::{Mutex, Wait};
 

@@ -26,7 +26,11 @@ pub fn write_lines<K: Sink>(records: &[Record], sink: &mut K) -> Result<(), Fail
 
 /// The same by the lines of the caller, who writes more than once: they are emptied first, and what they hold in the end says nothing.
 #[inline(never)]
-pub fn write_lines_by<K: Sink>(lines: &mut Lines, records: &[Record], sink: &mut K) -> Result<(), Failed>
+pub fn write_lines_by<K: Sink>(
+    lines: &mut Lines,
+    records: &[Record],
+    sink: &mut K,
+) -> Result<(), Failed>
     requires { All CanShow records.now }
     ensures whole { OnOk result (Writes (K.held sink.old) (K.held sink.new) (lines_of records.now)) }
     ensures front { OnErr result (WritesFront (K.held sink.old) (K.held sink.new) (lines_of records.now)) }

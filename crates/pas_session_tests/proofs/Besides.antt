@@ -92,7 +92,8 @@ whole_room w next region seat =
 
 -- .. and it may search where that is more than is asked
 pub seated_may_search : {desk : PlainDesk} {pass : PlainPass} {room : ℕ} (w : Waits desk pass room) (next : PlainDesk) → region_of next ≡ region_of desk
-    → pass_of next ≡ pass → (d : Directory) (n : ℕ) → n < room → CanCall (standing_of next) (SearchRoom (profile_of (region_of next)) d n (spare_in (pass_of next)))
+    → pass_of next ≡ pass → (d : Directory) (n : ℕ) → n < room
+    → CanCall (standing_of next) (SearchRoom (profile_of (region_of next)) d n (spare_in (pass_of next)))
 seated_may_search w next region seat d n fits =
     let whole = whole_room w next region seat in
     record {

@@ -93,7 +93,8 @@ in_row row v heaps d j b i n sized few low low' false e =
     cc)
 
 pub eligible_written : (old new : PagedWords) (d j n : ℕ) → IsWordIn old.layout.pages old.layout.heaps (Word.Eligible d j)
-    → new.layout ≡ old.layout → new.epoch ≡ old.epoch → new.pages ≡ old.pages → new.lives ≡ old.lives → new.deeds ≡ old.deeds → new.parked ≡ old.parked → new.empty ≡ old.empty
+    → new.layout ≡ old.layout → new.epoch ≡ old.epoch → new.pages ≡ old.pages → new.lives ≡ old.lives → new.deeds ≡ old.deeds → new.parked ≡ old.parked
+    → new.empty ≡ old.empty
     → new.eligible.items ≡ slice_set old.eligible.items (d * vector_words old.layout.pages + j) n
     → (w : Word) → IsWordIn old.layout.pages old.layout.heaps w → value_in new w ≡ (if same_word (Word.Eligible d j) w then n else value_in old w)
 eligible_written old new d j n of layout epoch pages lives deeds parked empty eligible (Word.Eligible b i) of' =

@@ -1,5 +1,5 @@
-use pas_utility::HeapTable;
 use pas_profile::{Kind, Profile};
+use pas_utility::HeapTable;
 
 #[test]
 fn a_shared_heap_and_another(rt: HostRuntime) {
