@@ -4,6 +4,9 @@ ghost use Rattle.pas_bits.specs.Rows.{HasMember, IsClearBelow, IsEmpty, IsLowest
 
 use std::simd::prelude::*;
 
+/// Words in a group.
+pub const LANES: usize = 8;
+
 /// How many words come before the first group that has a set bit, or before the rest behind the last group where none
 /// has one.
 #[inline]
