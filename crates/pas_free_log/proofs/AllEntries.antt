@@ -2,7 +2,7 @@
 use Rattle.std.proofs.Common.{◌≡◌, ℕ, Bool, ◌+◌, ◌*◌, ◌/◌, ◌≤◌, List, [], ◌∷◌, ◌++◌, length, ap, sym, ◌∙◌, arith, length-append, zero, suc, ◌-◌, ◌<◌, Some}
 use Rattle.std.proofs.Common.{refl, append_assoc, take, get_or, subst, map, reverse, append-nil}
 use Rattle.std.specs.List.{flat_map}
-use Rattle.std.proofs.lemmas.List.{length-map, length-reverse, flat_map_more, reverse-append, take_more}
+use Rattle.std.proofs.lemmas.List.{length-map, length-reverse, flat_map_more, reverse-append, take_more, reverse-reverse}
 use Rattle.pas_profile.specs.{Directories.deed_word_of, Directories.directory_read, Blocks.address_of, Blocks.grain_of}
 use Rattle.pas_profile.specs.declared.{name.Name.Name, word.Word.Word}
 use Rattle.pas_steps.specs.{Desks.made, Desks.Standing, Clear.IsClear, Calls.nothing, Calls.Does, Calls.Calls, Kinds.Only, Events.events_by}
@@ -12,10 +12,11 @@ use Rattle.pas_steps.proofs.{Past.in_turn_length, Apart.only_within, Apart.only_
 use Rattle.pas_rights.proofs.{Orders.return_few, Puts.puts_few}
 use Rattle.pas_free_log.specs.{Stamps.pages_met, Stamps.stamps_with, Stamps.stamps_by, Endings.guess_by, Endings.TriesBy, Endings.EndSteps, Logs.is_sized}
 use Rattle.pas_free_log.specs.{Returns.PageSteps, Returns.first_on, Returns.count_on, Frames.ending, Frames.freeing, Noted.IsRange, Noted.AreRanges}
-use Rattle.pas_free_log.specs.{Conditions.MayEnd}
+use Rattle.pas_free_log.specs.{Conditions.MayEnd, Logs.entry_of}
 use Rattle.pas_free_log.specs.declared.{log.Entry.Entry, ending.Outcome.Outcome, ending.Outcome.TheVariants.Ended, ending.Outcome.TheVariants.Refused}
 use Rattle.pas_free_log.specs.declared.{noting.EndedRun.EndedRun}
 use Rattle.pas_free_log.specs.Flushes.{Settled, stamps_by_outcome, stamps_for, AfterEnd, EntriesSteps, event_for, shown_for, noted_for, noted_after, Flushes}
+use Rattle.pas_free_log.specs.Flushes.{EndsName}
 use Rattle.std.proofs.lemmas.List.Elements.{All-append, All-take}
 use Rattle.pas_free_log.proofs.OneEntry.{stamps_append}
 
@@ -151,4 +152,29 @@ flushed {σ} {σ'} epoch settled logged ended ended' entries noted ranges entrie
       stamps = λ v. stamps_append v entries look ∙ append-nil (stamps_by (look ++ v) entries) ∙ stamps (look ++ v) refl;
       few = (let few = entries_few epoch settled entries order in let n = length-append entries look in let count = settled_count settled logged entries_are in omega (arith, few, n, count));
       epoch_known = λ v. epoch_after_entries epoch entries v kinds;
+    }
+
+-- ---- a list of one
+one_settled : (settled : List Settled) (entry : Entry) → map (λ (s : Settled). s.entry) settled ≡ entry ∷ []
+    → (s : Settled) × (settled ≡ s ∷ []) × (s.entry ≡ entry)
+one_settled [] entry e = absurd (let none : [] ≡ entry ∷ [] = e in cc)
+one_settled (s ∷ []) entry e = (s, refl, (let one : s.entry ∷ [] ≡ entry ∷ [] = e in cc))
+one_settled (s ∷ t ∷ more) entry e = absurd (let two : s.entry ∷ t.entry ∷ map (λ (s : Settled). s.entry) more ≡ entry ∷ [] = e in cc)
+
+-- ---- the flush
+pub ends_name : {σ σ' : Standing} (name : Name) (logged : List Entry) (before after : List EndedRun) → logged ≡ entry_of name ∷ [] → before ≡ []
+    → Flushes logged before after σ σ' → EndsName name σ σ'
+ends_name {σ} {σ'} name logged before after is none flushed =
+    let all : Flushes (entry_of name ∷ []) [] after σ σ' =
+    subst (λ (z : List Entry × List EndedRun). Flushes z.0 z.1 after σ σ') (λ i. (is i, none i)) flushed in
+    let one = one_settled all.settled (entry_of name) (sym (reverse-reverse (map (λ (s : Settled). s.entry) all.settled)) ∙ ap reverse all.entries_are) in
+    let settled : Entry → List Settled = λ e. record { entry = e; outcome = one.0.outcome; directory = one.0.directory } ∷ [] in
+    record {
+      noted = after;
+      flushes = all;
+      outcome = one.0.outcome;
+      directory = one.0.directory;
+      settled_is = one.1 ∙ ap settled one.2;
+      event = λ v. all.events v ∙ (ap (map (shown_for σ.seat.actor all.epoch)) one.1
+          ∙ ap (λ (e : Entry). event_for σ.seat.actor all.epoch e one.0.outcome ∷ []) one.2);
     }

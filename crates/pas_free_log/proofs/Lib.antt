@@ -1,3 +1,2 @@
 pub mod OneEntry
 mod AllEntries
-mod OneName

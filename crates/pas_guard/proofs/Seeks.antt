@@ -20,9 +20,8 @@ use Rattle.pas_steps.specs.declared.step.{Step.Step, Made.Made, Step.TheVariants
 use Rattle.pas_steps.specs.Kinds.{Kinds, Deeding, Only, kind_of, is_in, place_of, apart, moving}
 use Rattle.pas_steps.specs.Views.{View, held_after, holds, has_right, KnowsDeed}
 use Rattle.pas_steps.proofs.Adding.{adds_none, adds_step, adds_call, agreed_first, agreed_later}
-use Rattle.pas_steps.proofs.Apart.{in_apart, grain_same, no_events, only_both, only_within, holds_same}
-use Rattle.pas_steps.proofs.{Called.call_then, Called.next_call, Frames.right_own, Kept.right_on, Kept.knows_still, SpareRoom.Spares, Unknown.unknown_no_more}
-use Rattle.pas_steps.proofs.{Evidence.unknown}
+use Rattle.pas_steps.proofs.Apart.{in_apart, grain_same, only_both, only_within, holds_same}
+use Rattle.pas_steps.proofs.{Called.call_then, Called.next_call, Frames.right_own, Kept.right_on, Kept.knows_still, SpareRoom.Spares, Evidence.unknown}
 use Rattle.pas_steps.proofs.Calls.{does_none, does_idly, leads_none, leads_at}
 use Rattle.pas_steps.proofs.Past.{once_later, once_earlier, once_map, always_both, always_map}
 use Rattle.pas_search.specs.Kinds.{ReturnsDuly}
@@ -33,9 +32,8 @@ use Rattle.pas_large.specs.Evidence.{LostHere, BrokenHere, BadHere, AllUsable, F
 use Rattle.pas_large.specs.{Finds.MayFind, Finds.FindRoom, Pages.OnceAfter, Pages.OnlyDeedsShow, Pages.claiming}
 use Rattle.pas_large.proofs.Finds.{DeedOf, bad_later, alone_looks, knew, deeds_map, may_find}
 use Rattle.pas_large.proofs.Pages.{shows_both, below_both, below_wider, rise_both}
-use Rattle.pas_guard.proofs.Spans.{no_span, span_kept, span_beside, span_joined, claim_keeps}
-use Rattle.pas_guard.proofs.HeldSpans.{span_of_none, span_then, span_lost, span_both, out_later, but_first, span_slid}
-use Rattle.pas_guard.proofs.Returns.{rise_later, below_later, release_duly, first_duly}
+use Rattle.pas_guard.proofs.HeldSpans.{shows_later, no_span, span_kept, span_beside, span_joined, claim_keeps, span_of_none, span_then, span_lost, span_both}
+use Rattle.pas_guard.proofs.HeldSpans.{out_later, but_first, span_slid, rise_later, below_later, release_duly, first_duly}
 use Rattle.pas_guard.specs.Evidence.{BackedReadHere, HoldsRunWhole, OuterBackedHere, IsBad, OuterFailsHere, HasFailedOnce}
 use Rattle.pas_guard.specs.Guarded.{LeavesGuard}
 use Rattle.pas_guard.specs.Seeks.{LeftSince, backed_looks, ZeroBackedHere, SomeBackedHere, LooksBacked, HoldsWhole, HasSpan, seeking, Seeks}
@@ -168,7 +166,7 @@ sought_none d k = record {
   deeds = λ v met agreed. tt;
 }
 
-module _ {σ σ1 : Standing} (d : Directory) (k from free next : ℕ) (so : Sought d k from free next σ σ1) where
+module _ {σ σ1 : Standing} {d : Directory} {k from free next : ℕ} (so : Sought d k from free next σ σ1) where
   abbrev f : Profile
   f = σ.seat.profile
 
@@ -239,7 +237,7 @@ module _ {σ σ1 : Standing} (d : Directory) (k from free next : ℕ) (so : Soug
     looked_returns = duly_both ys xs (duly_none page_looks ys refl refl find.kinds) so.returns
 
     looked_shows : OnlyDeedsShow f (ys ++ xs)
-    looked_shows = shows_both f ys xs (λ n v agreed. let none = ap (λ es. length es) (no_events page_looks refl n v ys find.kinds) in let stays = unknown_no_more f ys v agreed in omega (arith, none, stays)) so.shows
+    looked_shows = shows_later page_looks refl f ys xs find.kinds so.shows
 
     looked_lacks : (p : ℕ) → in_span from free p ≡ false → has_right (ys ++ xs) p ≡ false
     looked_lacks p out = right_own p ys xs (so.lacks p out) ∙ lacks_by page_looks refl p ys find.kinds
@@ -290,7 +288,7 @@ module _ {σ σ1 : Standing} (d : Directory) (k from free next : ℕ) (so : Soug
         kinds = only_both seeking rs (ys ++ xs) (only_within giving_back seeking rs refl r.kinds) (looked_kinds find);
         rise = rise_later giving_back free rs (ys ++ xs) refl r.kinds (looked_below find) (looked_rise find);
         returns = release_duly d from free (looked find) can (looked_returns find) r;
-        shows = shows_both f rs (ys ++ xs) (λ n v agreed. let none = ap (λ es. length es) (no_events giving_back refl n v rs r.kinds) in let stays = unknown_no_more f rs v agreed in omega (arith, none, stays)) (looked_shows find);
+        shows = shows_later giving_back refl f rs (ys ++ xs) r.kinds (looked_shows find);
         few = (let i = length-append rs (ys ++ xs) in let j = length-append ys xs in let e = ap (λ (x : Profile). x.pages) same in omega (arith, i, j, r.few, find.few, so.few, e, order, first, in_region));
         steady = put_steady find r;
         outcome = record {
@@ -347,7 +345,7 @@ module _ {σ σ1 : Standing} (d : Directory) (k from free next : ℕ) (so : Soug
         steps = rs ++ (ys ++ xs);
         adds = calls.adds;
         got = record { from = λ v met agreed. span_of_none d page (calls.leads.from v met agreed) };
-        shows = shows_both f rs (ys ++ xs) (λ n v agreed. let none = ap (λ es. length es) (no_events giving_back refl n v rs r.kinds) in let stays = unknown_no_more f rs v agreed in omega (arith, none, stays)) (looked_shows find);
+        shows = shows_later giving_back refl f rs (ys ++ xs) r.kinds (looked_shows find);
         lacks = λ p out. r.lacks (ys ++ xs) p (λ out. looked_lacks find p out);
         kinds = only_both seeking rs (ys ++ xs) (only_within giving_back seeking rs refl r.kinds) (looked_kinds find);
         rise = rise_later giving_back free rs (ys ++ xs) refl r.kinds (looked_below find) (looked_rise find);
@@ -480,7 +478,7 @@ module _ {σ σ1 : Standing} (d : Directory) (k from free next : ℕ) (so : Soug
             steps = rs ++ (ws ++ xs);
             adds = calls.adds;
             got = record { from = λ v met agreed. span_of_none d (page + 1) (calls.leads.from v met agreed) };
-            shows = shows_both f rs (ws ++ xs) (λ n v agreed. let none = ap (λ es. length es) (no_events giving_back refl n v rs r.kinds) in let stays = unknown_no_more f rs v agreed in omega (arith, none, stays)) (claim_shows claim);
+            shows = shows_later giving_back refl f rs (ws ++ xs) r.kinds (claim_shows claim);
             lacks = λ p out. r.lacks (ws ++ xs) p (λ out. lost_lacks p out);
             kinds = only_both seeking rs (ws ++ xs) (only_within giving_back seeking rs refl r.kinds) (claim_kinds claim);
             rise = rise_later giving_back (page + 1) rs (ws ++ xs) refl r.kinds lost_below (claim_rise claim);
@@ -546,12 +544,12 @@ abbrev HeldRun : View → Directory → ℕ → ℕ → List Made → Type 0
 HeldRun v d k first before = AllUsable d (k + 2) first before × HoldsRunWhole v k first before
 
 -- Whatever a search did, its desk may make a step that asks nothing of the view.
-pub anything_goes : {σ σ1 : Standing} (d : Directory) (k from next : ℕ) → Sought d k from next next σ σ1 → CanCall σ (MayFind d) → CanCall σ1 AnyView
-anything_goes d k from next so can = record { view = so.steps ++ can.view; whole = _; stood = so.adds.added can.view can.whole can.stood can.met; met = tt }
+pub anything_goes : {σ σ1 : Standing} {d : Directory} {k from next : ℕ} → Sought d k from next next σ σ1 → CanCall σ (MayFind d) → CanCall σ1 AnyView
+anything_goes so can = record { view = so.steps ++ can.view; whole = _; stood = so.adds.added can.view can.whole can.stood can.met; met = tt }
 
 -- ---- the whole run is held, and its outer pages are looked at
-module _ {σ σ1 σ2 : Standing} (d : Directory) (k from next high : ℕ) (whole : next ≡ from + (k + 2)) (last : high + 1 ≡ next)
-    (so : Sought d k from next next σ σ1) {bare : Bool} (looks : LooksBacked from high σ1 σ2 bare) where
+module _ {σ σ1 σ2 : Standing} {d : Directory} {k from next : ℕ} (so : Sought d k from next next σ σ1) (high : ℕ) (whole : next ≡ from + (k + 2))
+    (last : high + 1 ≡ next) {bare : Bool} (looks : LooksBacked from high σ1 σ2 bare) where
   abbrev g_ : Profile
   g_ = σ.seat.profile
 
@@ -573,7 +571,7 @@ module _ {σ σ1 σ2 : Standing} (d : Directory) (k from next high : ℕ) (whole
       (λ v met has. tt) (λ v met has kept. span_then d from next has kept.0 kept.1)
 
   look_shows : OnlyDeedsShow g_ (ls ++ us)
-  look_shows = shows_both g_ ls us (λ n v agreed. let none = ap (λ es. length es) (no_events backed_looks refl n v ls looks.kinds) in let stays = unknown_no_more g_ ls v agreed in omega (arith, none, stays)) so.shows
+  look_shows = shows_later backed_looks refl g_ ls us looks.kinds so.shows
 
   look_kinds : Only seeking (ls ++ us)
   look_kinds = only_both seeking ls us (only_within backed_looks seeking ls refl looks.kinds) so.kinds
@@ -611,33 +609,33 @@ module _ {σ σ1 σ2 : Standing} (d : Directory) (k from next high : ℕ) (whole
   look_deeds v met agreed P its more = deeds_none backed_looks d (k + 2) P ls us refl looks.kinds
       (deeds_map d (k + 2) (λ s. ((s ≡ from) × (next ≡ from + (k + 2))) ⊎ ((s < from) × HasFailedOnce v d k s us)) P us (λ s h. elim h [ inl run ↦ subst P (sym run.0) its | inr failed ↦ more s failed.0 failed.1 ]) (so.deeds v met (agreed_later g_ v ls us agreed)))
 
-module _ {σ σ1 σ2 : Standing} (d : Directory) (k from next high : ℕ) (whole : next ≡ from + (k + 2)) (last : high + 1 ≡ next)
-    (so : Sought d k from next next σ σ1) where
+module _ {σ σ1 σ2 : Standing} {d : Directory} {k from next : ℕ} (so : Sought d k from next next σ σ1) (high : ℕ) (whole : next ≡ from + (k + 2))
+    (last : high + 1 ≡ next) where
   -- neither is backed
   pub seek_found : LooksBacked from high σ1 σ2 true → Seeks d k σ σ2 (Some from)
   seek_found looks =
-      let f = σ.seat.profile in let ls = looks.steps in let us = so.steps in let call = look_call d k from next high whole last so looks in record {
+      let f = σ.seat.profile in let ls = looks.steps in let us = so.steps in let call = look_call so high whole last looks in record {
         steps = ls ++ us;
         adds = call.adds;
-        kinds = look_kinds d k from next high whole last so looks;
-        rise = look_rise d k from next high whole last so looks;
-        returns = look_returns d k from next high whole last so looks;
-        shows = look_shows d k from next high whole last so looks;
+        kinds = look_kinds so high whole last looks;
+        rise = look_rise so high whole last looks;
+        returns = look_returns so high whole last looks;
+        shows = look_shows so high whole last looks;
         few = (let j = length-append ls us in omega (arith, j, looks.few, so.few, so.within.1, so.order.0));
-        steady = look_steady d k from next high whole last so looks;
+        steady = look_steady so high whole last looks;
         outcome = record {
           of_region = (so.low, omega (arith, whole, so.within.1));
           got = subst (λ x. Leads f (MayFind d) (HasSpan d from x) (ls ++ us)) whole call.leads;
-          usable = usable_now d k from next high whole last so looks ls;
+          usable = usable_now so high whole last looks ls;
           taken = λ v met agreed.
               let held = span_kept from next ls us (λ p ge lt. keeps_by p backed_looks ls refl looks.kinds) (so.holding v met (agreed_later f v ls us agreed)) in record {
-                usable = usable_now d k from next high whole last so looks ls;
+                usable = usable_now so high whole last looks ls;
                 right = λ p is. held.right p is.0 (omega (arith, is.1, whole));
                 whole = λ p word is small. held.whole p word is.0 (omega (arith, is.1, whole)) small;
               };
           bare = search (arith, agreed_later, outer_zero, held_page, high_is);
-          lower = look_bad d k from next high whole last so looks;
-          deeds = λ v met agreed. look_deeds d k from next high whole last so looks v met agreed (λ s. (s ≡ from) ⊎ ((s < from) × HasFailedOnce v d k s (ls ++ us))) (inl refl) (λ s lt h. inr (lt, failed_more v d k s ls us h));
+          lower = look_bad so high whole last looks;
+          deeds = λ v met agreed. look_deeds so high whole last looks v met agreed (λ s. (s ≡ from) ⊎ ((s < from) × HasFailedOnce v d k s (ls ++ us))) (inl refl) (λ s lt h. inr (lt, failed_more v d k s ls us h));
         };
       }
 
@@ -651,10 +649,10 @@ module _ {σ σ1 σ2 : Standing} (d : Directory) (k from next high : ℕ) (whole
 
     outer : (v : View) (met : MayFind d v) → Agreed σ.seat.profile v (ls_ ++ us_) → Once (OuterFailsHere v d k from) (ls_ ++ us_)
     outer v met agreed =
-        let f = σ.seat.profile in let before = agreed_later f v ls_ us_ agreed in let had = held_run d k from next high whole last so looks v met before in let R = HeldRun v d k from in elim looks.outcome [
-          | inl low ↦ once_map (λ m b. R b × BackedReadHere v from 1 m b) (OuterFailsHere v d k from) (ls_ ++ us_) (λ m b x. (x.0.0, (x.0.1, inl x.1))) (outer_some f v from R ls_ us_ had looks.kinds agreed (held_page d k from next high whole last so looks v met before from (omega arith) (omega (arith, whole))) low)
-          | inr up ↦ once_map (λ m b. R b × BackedReadHere v high 1 m b) (OuterFailsHere v d k from) (ls_ ++ us_) (λ m b x. (x.0.0, (x.0.1, inr (subst (λ p. BackedReadHere v p 1 m b) (high_is d k from next high whole last so looks) x.1))))
-              (outer_some f v high R ls_ us_ had looks.kinds agreed (held_page d k from next high whole last so looks v met before high (omega (arith, whole, last)) (omega (arith, last))) up)
+        let f = σ.seat.profile in let before = agreed_later f v ls_ us_ agreed in let had = held_run so high whole last looks v met before in let R = HeldRun v d k from in elim looks.outcome [
+          | inl low ↦ once_map (λ m b. R b × BackedReadHere v from 1 m b) (OuterFailsHere v d k from) (ls_ ++ us_) (λ m b x. (x.0.0, (x.0.1, inl x.1))) (outer_some f v from R ls_ us_ had looks.kinds agreed (held_page so high whole last looks v met before from (omega arith) (omega (arith, whole))) low)
+          | inr up ↦ once_map (λ m b. R b × BackedReadHere v high 1 m b) (OuterFailsHere v d k from) (ls_ ++ us_) (λ m b x. (x.0.0, (x.0.1, inr (subst (λ p. BackedReadHere v p 1 m b) (high_is so high whole last looks) x.1))))
+              (outer_some f v high R ls_ us_ had looks.kinds agreed (held_page so high whole last looks v met before high (omega (arith, whole, last)) (omega (arith, last))) up)
         ]
 
     may_slide : (v : View) → MayFind d v → HasSpan d from next v (ls_ ++ (us_ ++ v)) → MayPutAndLeave from d (masked from full) (ls_ ++ (us_ ++ v))
@@ -671,12 +669,12 @@ module _ {σ σ1 σ2 : Standing} (d : Directory) (k from next high : ℕ) (whole
 
     -- After the looks at the outer pages of a run, its first page may be put back and left.
     pub can_slide : CanCall σ (MayFind d) → CanCall σ2 (MayPutAndLeave from d (masked from full))
-    can_slide can = next_call (look_call d k from next high whole last so looks) can slide_may
+    can_slide can = next_call (look_call so high whole last looks) can slide_may
 
     -- After its first page was left, the run slides one page on.
     pub seek_slide : {σ3 : Standing} → CanCall σ (MayFind d) → PutsAndLeaves from d full σ2 σ3 → Sought d k (from + 1) next next σ σ3
     seek_slide can h =
-        let f = σ.seat.profile in let ps = h.after ++ h.puts in let call = look_call d k from next high whole last so looks in let left = leads_at call.adds.seat_is h.calls.leads in record {
+        let f = σ.seat.profile in let ps = h.after ++ h.puts in let call = look_call so high whole last looks in let left = leads_at call.adds.seat_is h.calls.leads in record {
           steps = ps ++ (ls_ ++ us_);
           adds = adds_call call.adds h.calls.adds (λ v l stood met. slide_may v met (call.leads.from v met (call.adds.agreed v l stood met)));
           got = record {
@@ -684,15 +682,15 @@ module _ {σ σ1 σ2 : Standing} (d : Directory) (k from next high : ℕ) (whole
                 let before = agreed_later f v ps (ls_ ++ us_) agreed in let after = agreed_first f v ps (ls_ ++ us_) agreed in let span = call.leads.from v met before in
                 subst (HasSpan d (from + 1) next v) (sym (append_assoc ps (ls_ ++ us_) v)) (span_slid d from next (omega (arith, whole)) span (left.from ((ls_ ++ us_) ++ v) (slide_may v met span) after) (λ p knows. knows_still f d p ps ((ls_ ++ us_) ++ v) after knows));
           };
-          shows = shows_both f ps (ls_ ++ us_) (λ n v agreed. let none = ap (λ es. length es) (no_events giving_back refl n v ps h.kinds) in let stays = unknown_no_more f ps v agreed in omega (arith, none, stays)) (look_shows d k from next high whole last so looks);
+          shows = shows_later giving_back refl f ps (ls_ ++ us_) h.kinds (look_shows so high whole last looks);
           lacks = λ p out. elim (cases_eq p from) [
             | inl e ↦ ap (has_right (ps ++ (ls_ ++ us_))) e ∙ h.lacks (ls_ ++ us_)
-            | inr ne ↦ right_on from p ps (ls_ ++ us_) h.on ne ∙ look_lacks d k from next high whole last so looks p (but_first from next p ne ∙ out)
+            | inr ne ↦ right_on from p ps (ls_ ++ us_) h.on ne ∙ look_lacks so high whole last looks p (but_first from next p ne ∙ out)
           ];
-          kinds = only_both seeking ps (ls_ ++ us_) (only_within giving_back seeking ps refl h.kinds) (look_kinds d k from next high whole last so looks);
-          rise = rise_later giving_back next ps (ls_ ++ us_) refl h.kinds (look_below d k from next high whole last so looks) (look_rise d k from next high whole last so looks);
-          below = below_later giving_back next ps (ls_ ++ us_) refl h.kinds (look_below d k from next high whole last so looks);
-          returns = first_duly d from next call can (look_returns d k from next high whole last so looks) (omega (arith, whole)) h;
+          kinds = only_both seeking ps (ls_ ++ us_) (only_within giving_back seeking ps refl h.kinds) (look_kinds so high whole last looks);
+          rise = rise_later giving_back next ps (ls_ ++ us_) refl h.kinds (look_below so high whole last looks) (look_rise so high whole last looks);
+          below = below_later giving_back next ps (ls_ ++ us_) refl h.kinds (look_below so high whole last looks);
+          returns = first_duly d from next call can (look_returns so high whole last looks) (omega (arith, whole)) h;
           low = omega arith;
           order = (omega (arith, whole), omega arith);
           within = (omega (arith, whole), so.within.1);
@@ -703,15 +701,15 @@ module _ {σ σ1 σ2 : Standing} (d : Directory) (k from next high : ℕ) (whole
               span_beside from (from + 1) next ps (ls_ ++ us_) h.on (λ p ge lt e. absurd (omega (arith, e, ge))) (record { right = λ p ge lt. held.right p (omega (arith, ge)) lt; whole = λ p word ge lt small. held.whole p word (omega (arith, ge)) lt small });
           alone = λ p ge. alone_on from p ps (ls_ ++ us_) h.on (λ e. absurd (omega (arith, e, ge, whole))) (alone_still p ls_ us_ looks.kinds (so.alone p ge));
           steady = λ v met agreed p kept_whole g at. let before = agreed_later f v ps (ls_ ++ us_) agreed in
-              let out = held_apart d k from next next so v met (agreed_later f v ls_ us_ before) p kept_whole g at in
-              steady_both g ps (ls_ ++ us_) (steady_on from g ps h.on (out_of from next (g / 256) from out (omega arith) (omega (arith, whole)))) (look_steady d k from next high whole last so looks v met before p kept_whole g at);
+              let out = held_apart so v met (agreed_later f v ls_ us_ before) p kept_whole g at in
+              steady_both g ps (ls_ ++ us_) (steady_on from g ps h.on (out_of from next (g / 256) from out (omega arith) (omega (arith, whole)))) (look_steady so high whole last looks v met before p kept_whole g at);
           bad = λ v met agreed s one under. let before = agreed_later f v ps (ls_ ++ us_) agreed in bad_more v d k s ps (ls_ ++ us_) (elim (cases_lt s from) [
-            | inl below ↦ look_bad d k from next high whole last so looks v met before s one below
+            | inl below ↦ look_bad so high whole last looks v met before s one below
             | inr above ↦ (let e : from ≡ s = omega (arith, above, under) in inr (subst (λ x. Once (OuterBackedHere v k x) (ls_ ++ us_)) e (once_map (OuterFailsHere v d k from) (OuterBackedHere v k from) (ls_ ++ us_) (λ m b x. x.1) (outer v met before))))
           ]);
           deeds = λ v met agreed. let before = agreed_later f v ps (ls_ ++ us_) agreed in
               deeds_none giving_back d (k + 2) (λ s. ((s ≡ from + 1) × (next ≡ from + 1 + (k + 2))) ⊎ ((s < from + 1) × HasFailedOnce v d k s (ps ++ (ls_ ++ us_)))) ps (ls_ ++ us_) refl h.kinds
-              (look_deeds d k from next high whole last so looks v met before (λ s. ((s ≡ from + 1) × (next ≡ from + 1 + (k + 2))) ⊎ ((s < from + 1) × HasFailedOnce v d k s (ps ++ (ls_ ++ us_))))
+              (look_deeds so high whole last looks v met before (λ s. ((s ≡ from + 1) × (next ≡ from + 1 + (k + 2))) ⊎ ((s < from + 1) × HasFailedOnce v d k s (ps ++ (ls_ ++ us_))))
               (inr (omega arith, failed_more v d k from ps (ls_ ++ us_) (inr (outer v met before)))) (λ s lt h. inr (omega (arith, lt), failed_more v d k s ps (ls_ ++ us_) (failed_more v d k s ls_ us_ h))));
         }
 

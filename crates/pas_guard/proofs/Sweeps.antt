@@ -163,10 +163,9 @@ no_rest kept [] le = refl
 no_rest kept (g ∷ rest) le = absurd (let n = length-append kept (g ∷ rest) in omega (arith, n, le))
 
 -- Once all guards that are up were looked over, the book is swept.
-pub swept_all : {σ σ1 : Standing} (all : Bool) (guards up : List Guard) (place : ℕ) (said said' : List Record)
-    (so : SweptSoFar all guards up place said said' σ σ1)
-    → length up ≤ place → Sweeps all guards up said said' σ σ1
-swept_all {σ} all guards up place said said' so le =
+pub swept_all : {σ σ1 : Standing} {all : Bool} {guards up : List Guard} {place : ℕ} {said said' : List Record}
+    → SweptSoFar all guards up place said said' σ σ1 → length up ≤ place → Sweeps all guards up said said' σ σ1
+swept_all {σ} {all = all} {guards = guards} {up = up} so le =
     let none = no_rest so.kept so.rest (let e = ap (λ (xs : List Guard). length xs) so.up in omega (arith, e, so.at, le)) in
     let done : guards ≡ so.done = so.whole ∙ ap (λ xs. so.done ++ xs) none ∙ append-nil so.done in
     let kept : up ≡ so.kept = so.up ∙ ap (λ xs. so.kept ++ xs) none ∙ append-nil so.kept in
@@ -189,8 +188,8 @@ next_guard kept [] up place d is at lt = absurd (let e = ap (λ (xs : List Guard
 next_guard kept (g ∷ rest) up place d is at lt =
     record { later = rest; rest_is = ap (λ x. x ∷ rest) (sym (ap (λ n. slice_index_or up n d) (sym at) ∙ ap (λ xs. slice_index_or xs (length kept) d) is ∙ at_place kept rest g d)) }
 
-module _ {σ σ1 : Standing} (all : Bool) (guards up : List Guard) (place : ℕ) (said said' : List Record) (so : SweptSoFar all guards up place said said' σ σ1)
-    (guard : Guard) (later : List Guard) (rest_is : so.rest ≡ guard ∷ later) where
+module _ {σ σ1 : Standing} {all : Bool} {guards up : List Guard} {place : ℕ} {said said' : List Record} (so : SweptSoFar all guards up place said said' σ σ1)
+    {guard : Guard} {later : List Guard} (rest_is : so.rest ≡ guard ∷ later) where
   abbrev f : Profile
   f = σ.seat.profile
 
@@ -257,9 +256,9 @@ module _ {σ σ1 : Standing} (all : Bool) (guards up : List Guard) (place : ℕ)
       met_low : (v : View) → FitsBook f up ((ls ++ so.steps) ++ v) → MayLower f guard ((ls ++ so.steps) ++ v)
       met_low v fits = may_lower f so.kept later guard ((ls ++ so.steps) ++ v) (fits_split ((ls ++ so.steps) ++ v) fits)
 
-      goes_down : (up' : List Guard) (said'' : List Record) → up' ≡ remove up place → said'' ≡ said' ++ lowered_record σ.seat.actor guard ∷ []
+      goes_down : {up' : List Guard} {said'' : List Record} → up' ≡ remove up place → said'' ≡ said' ++ lowered_record σ.seat.actor guard ∷ []
           → SweptSoFar all guards up' place said said'' σ σ3
-      goes_down up' said'' out pushed =
+      goes_down {up'} out pushed =
           let test : (all || is_over guard look.word) ≡ true = sym look.down_is ∙ falls in
           let less : up' ≡ so.kept ++ later = out ∙ ap (λ n. remove up n) (sym so.at) ∙ ap (λ xs. remove xs (length so.kept)) up_is ∙ taken_out so.kept later guard in
           let steps = ps ++ (ls ++ so.steps) in record {
@@ -286,16 +285,16 @@ module _ {σ σ1 : Standing} (all : Bool) (guards up : List Guard) (place : ℕ)
           }
 
 -- ---- the guard at the place, as it was read
-module _ {σ σ1 : Standing} (all : Bool) (guards up : List Guard) (place : ℕ) (said said' : List Record) (so : SweptSoFar all guards up place said said' σ σ1)
-    (guard d : Guard) (read : guard ≡ slice_index_or up place d) (lt : place < length up) where
+module _ {σ σ1 : Standing} {all : Bool} {guards up : List Guard} {place : ℕ} {said said' : List Record} (so : SweptSoFar all guards up place said said' σ σ1)
+    {guard : Guard} (read : guard ≡ slice_index_or up place no_guard) (lt : place < length up) where
   next : NextGuard up so.kept so.rest guard
-  next = subst (NextGuard up so.kept so.rest) (sym read) (next_guard so.kept so.rest up place d so.up so.at lt)
+  next = subst (NextGuard up so.kept so.rest) (sym read) (next_guard so.kept so.rest up place no_guard so.up so.at lt)
 
   -- its block stands in the region
   pub its_page : CanCall σ (FitsBook σ.seat.profile guards) → IsPage σ1.seat.profile (address_of guard.block.name / 4096)
   its_page can =
       let fits = so.calls.leads.from can.view can.met (so.calls.adds.agreed can.view can.whole can.stood can.met) in
-      let its = each_split (IsGuardOf σ.seat.profile) so.kept next.later guard (fits_split all guards up place said said' so guard next.later next.rest_is (so.steps ++ can.view) fits).of_region in
+      let its = each_split (IsGuardOf σ.seat.profile) so.kept next.later guard (fits_split so next.rest_is (so.steps ++ can.view) fits).of_region in
       subst (λ (s : Seat). IsPage s.profile (address_of guard.block.name / 4096)) (sym so.calls.adds.seat_is) its.0.block
 
   -- A keeper that fits its book may look over the next guard.
@@ -305,20 +304,20 @@ module _ {σ σ1 : Standing} (all : Bool) (guards up : List Guard) (place : ℕ)
   module _ {σ2 : Standing} {down : Bool} (look : LooksOver all guard σ1 σ2 down) where
     -- After the look over a guard, it may be lowered.
     pub can_lower_it : CanCall σ (FitsBook σ.seat.profile guards) → CanCall σ2 (MayLower σ2.seat.profile guard)
-    can_lower_it can = can_lower all guards up place said said' so guard next.later next.rest_is look can
+    can_lower_it can = can_lower so next.rest_is look can
 
     -- A guard that stays up is looked over, and the sweep goes on with the next one.
     pub it_stays : down ≡ false → SweptSoFar all guards up (place + 1) said said' σ σ2
-    it_stays stays = stays_up all guards up place said said' so guard next.later next.rest_is look stays
+    it_stays stays = stays_up so next.rest_is look stays
 
     -- A guard that was lowered is taken out of the book, and its line is said.
-    pub it_goes : {σ3 : Standing} → down ≡ true → Lowers guard σ2 σ3 → (up' : List Guard) (said'' : List Record) → up' ≡ remove up place
+    pub it_goes : {σ3 : Standing} {up' : List Guard} {said'' : List Record} → down ≡ true → Lowers guard σ2 σ3 → up' ≡ remove up place
         → said'' ≡ said' ++ lowered_record σ.seat.actor guard ∷ [] → SweptSoFar all guards up' place said said'' σ σ3
-    it_goes falls low up' said'' out pushed = goes_down all guards up place said said' so guard next.later next.rest_is look falls low up' said'' out pushed
+    it_goes falls low out pushed = goes_down so next.rest_is look falls low out pushed
 
   -- A guard that was taken out of the book leaves one fewer up.
-  pub one_less : (up' : List Guard) → up' ≡ remove up place → length up' + 1 ≡ length up
-  one_less up' out =
+  pub one_less : {up' : List Guard} → up' ≡ remove up place → length up' + 1 ≡ length up
+  one_less out =
       let split = so.up ∙ ap (λ xs. so.kept ++ xs) next.rest_is in
       let less = out ∙ ap (λ n. remove up n) (sym so.at) ∙ ap (λ xs. remove xs (length so.kept)) split ∙ taken_out so.kept next.later guard in
       let a = ap (λ (xs : List Guard). length xs) less in let b = ap (λ (xs : List Guard). length xs) split in let m = length-append so.kept next.later in let n = length-append so.kept (guard ∷ next.later) in

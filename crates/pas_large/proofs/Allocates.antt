@@ -1,9 +1,10 @@
 -- A large block: the run that was found is given, or the refusal has its reason.
-use Rattle.pas_steps.proofs.{SpareRoom.Spares, Called.call_then, Called.next_call, Calls.leads_then, Calls.leads_idly, Calls.does_then, Apart.only_both}
+use Rattle.pas_steps.proofs.{SpareRoom.Spares, Called.call_then, Called.next_call, Apart.only_both}
+use Rattle.pas_steps.proofs.Calls.{leads_then, leads_idly, does_then, leads_as}
 use Rattle.std.proofs.Common.{◌≡◌, ℕ, ◌+◌, ◌*◌, ◌≤◌, true, List, ◌++◌, length-append, Option, Some, None, Result, MatchResult, Ok, Err, inl, inr, refl, ap, sym}
-use Rattle.std.proofs.Common.{◌∙◌, subst, arith, append_assoc, ◌/◌, Bool}
+use Rattle.std.proofs.Common.{◌∙◌, subst, arith, append_assoc, ◌/◌, Bool, false, [], append-nil}
 use Rattle.pas_profile.specs.declared.{directory.Directory.Directory, event.NoRoom.NoRoom, name.Block.Block, profile.Profile.Profile}
-use Rattle.pas_scan.specs.{Runs.large_directory, Usable.DeedReadHere, Usable.WholeHere}
+use Rattle.pas_scan.specs.{Runs.large_directory, Usable.DeedReadHere, Usable.WholeHere, Runs.IsInRun}
 use Rattle.pas_steps.specs.Calls.{Leads, Calls, nothing, Does}
 use Rattle.pas_steps.specs.Desks.{Seat, Standing, CanCall, triples, AnyView}
 use Rattle.pas_steps.specs.Kinds.{looking, kind_of, is_in, Only}
@@ -11,13 +12,14 @@ use Rattle.pas_steps.specs.{Frames.IsScan, Frames.OnlyScans, Views.View, Views.h
 use Rattle.pas_steps.specs.{Evidence.KeptHere}
 use Rattle.pas_steps.specs.declared.step.{Step.Step, Made.Made}
 use Rattle.pas_steps.proofs.Past.{always_map, once_later, once_map, since_once}
-use Rattle.pas_steps.proofs.Adding.{Tells, adds_call, agreed_later, legal_after, triples_append}
+use Rattle.pas_steps.proofs.Adding.{Tells, adds_call, agreed_later, legal_after, triples_append, adds_under}
 use Rattle.pas_large.specs.Allocates.{GaveLarge, IsAllocatedLarge, IsRefusedLarge, AllocatesByScan, AllocatesLarge}
-use Rattle.pas_large.specs.{Named.HoldsNamed, Named.ClaimsNamed, Evidence.TakenWholeHere, Telling.IsNamedWhole, Telling.IsToldLarge, Claims.in_span}
-use Rattle.pas_large.specs.{Claims.HasPages, Gives.GivesRun, Pages.GotPages, Pages.OnlyDeedsShow, Pages.claiming_old, Refusals.IsReason, Refusals.Refuses}
-use Rattle.pas_large.proofs.{Named.named_steps, Claims.has_got, Claims.room_after, Claims.span_in, ToldReasons.none_after, ToldReasons.true_reason}
+use Rattle.pas_large.specs.{Named.HoldsNamed, Named.ClaimsNamed, Evidence.TakenWholeHere, Telling.IsNamedWhole, Telling.IsToldLarge, Gives.GivesRun}
+use Rattle.pas_large.specs.{Pages.GotPages, Pages.OnlyDeedsShow, Pages.claiming_old, Refusals.IsReason, Refusals.Refuses, Named.missed_steps}
+use Rattle.pas_large.specs.Claims.{in_span, HasPages, ClaimsRun, HoldsSpan, LacksAll, MayClaimPages}
+use Rattle.pas_large.proofs.Claims.{has_got, room_after, span_in, alone_at_first}
+use Rattle.pas_large.proofs.ToldByDoor.{none_after, true_reason, never_missed, got_whole, usable_later, usable_earlier, told_earlier}
 use Rattle.pas_large.proofs.{Pages.undone, Refusals.reason_before, Finds.may_find}
-use Rattle.pas_large.proofs.ToldByDoor.{never_missed, got_whole, usable_later, usable_earlier, told_earlier}
 use Rattle.pas_large.specs.Finds.{MayFind, FindRoom, LooksAlone, Finds}
 use Rattle.pas_rights.specs.Gives.{give_steps}
 use Rattle.pas_search.specs.Kinds.{ReturnsDuly}
@@ -25,7 +27,58 @@ use Rattle.pas_profile.specs.{Blocks.address_of, Directories.IsKind, Profiles.Is
 use Rattle.pas_core.proofs.OneActor.{legal_earlier}
 use Rattle.pas_large.proofs.Lifted.{find_again, after_still, found_run, found_none}
 
-module _ {σ σ1 : Standing} (d : Directory) (n first : ℕ) (tells : Bool) (find : Finds d n tells σ σ1 (Some first)) where
+-- ---- the claim of the run that a door names
+-- whatever the door names may be claimed
+may_claim_named : (d : Directory) (first end : ℕ) (v : View) → MayFind d v → MayClaimPages d first end v
+may_claim_named d first end v met = record { lacks = λ p low high knows. met.lacks p knows; clear = met.clear }
+
+some_none : (first : ℕ) (found : Option ℕ) → found ≡ Some first → found ≡ None → ⊥
+some_none first found named none = cc
+
+-- what may be spent with a run that was named
+pub named_steps : (n first : ℕ) (found : Option ℕ) → found ≡ Some first → missed_steps found n ≡ 48 * n
+named_steps n first found named = ap (λ o. missed_steps o n) named
+
+-- The claim of a named run that got all its pages holds the named run.
+pub holds_named : {σ σ1 : Standing} (d : Directory) (n first : ℕ) (found : Option ℕ) → found ≡ Some first → (1 ≤ first) × (first + n ≤ σ.seat.profile.pages + 1)
+    → ClaimsRun false d first (first + n) σ σ1 None → ClaimsNamed d n found σ σ1 (Some first)
+holds_named d n first found named region claim = record {
+  steps = claim.steps;
+  adds = adds_under claim.adds (λ v l stood met. may_claim_named d first (first + n) v met);
+  old = claim.old refl;
+  returns = claim.returns;
+  shows = claim.shows;
+  outcome = record {
+    named = named;
+    of_region = region;
+    got = leads_as claim.outcome.got (λ v met. may_claim_named d first (first + n) v met) (λ v w met got. got);
+    of = claim.of refl refl;
+    holding = subst (HoldsSpan first (first + n)) (append-nil claim.steps) (claim.outcome.holding [] (alone_at_first first));
+    few = (omega (arith, claim.outcome.few));
+  };
+}
+
+-- The claim of a named run that failed at a page misses the named run.
+pub misses_named : {σ σ1 : Standing} (d : Directory) (n first page : ℕ) (found : Option ℕ) → found ≡ Some first
+    → ClaimsRun false d first (first + n) σ σ1 (Some page) → ClaimsNamed d n found σ σ1 None
+misses_named d n first page found named claim = record {
+  steps = claim.steps;
+  adds = adds_under claim.adds (λ v l stood met. may_claim_named d first (first + n) v met);
+  old = claim.old refl;
+  returns = claim.returns;
+  shows = claim.shows;
+  outcome = record {
+    unnamed = λ none. absurd (some_none first found named none);
+    missed = λ other is some within. let same : first ≡ other = let both = sym named ∙ is in cc in (page, subst (λ s. IsInRun s n page) same claim.outcome.in_run, claim.outcome.missed refl);
+    still = leads_as claim.outcome.still (λ v met. may_claim_named d first (first + n) v met) (λ v w met does. does);
+    lacks = subst LacksAll (append-nil claim.steps) (claim.outcome.lacks [] (λ p. refl));
+    left = claim.outcome.left refl;
+    few = (let most = named_steps n first found named in omega (arith, claim.outcome.few, claim.outcome.in_run.1, most));
+  };
+}
+
+-- ---- a run that the scan found
+module _ {σ σ1 : Standing} {d : Directory} {n first : ℕ} {tells : Bool} (find : Finds d n tells σ σ1 (Some first)) where
   found_call : Calls σ σ1 (MayFind d) (GotPages (in_span first (first + n)) d) find.steps
   found_call = record { adds = find.adds; leads = find.outcome.got }
 
@@ -56,7 +109,7 @@ pub allocates : {σ σ1 σ2 : Standing} (heap n first : ℕ) (tells : Bool) (fin
     → GivesRun (large_directory heap) first n block σ1 σ2 → AllocatesByScan heap n tells σ σ2 (Ok block)
 allocates heap n first tells find block give =
     let d = large_directory heap in
-    let calls = call_then (GaveLarge d first n block) (found_call d n first tells find) give.calls (has_pages d n first tells find)
+    let calls = call_then (GaveLarge d first n block) (found_call find) give.calls (has_pages find)
     (λ v met got gave. record { does = undone (λ g. in_span first (first + n) (g / 256)) (in_span first (first + n)) got.apart got.lacked got.does gave.does; apart = got.apart; deeds = gave.deeds; turn = gave.turn }) in
     record {
       searched = find.steps;
@@ -122,7 +175,7 @@ refuses_large {σ} {σ1} heap n tells find why laws parts refused =
     }
 
 -- ---- the run that the door named
-module _ {σ σ1 : Standing} (d : Directory) (n first : ℕ) (found : Option ℕ) (claim : ClaimsNamed d n found σ σ1 (Some first)) where
+module _ {σ σ1 : Standing} {d : Directory} {n first : ℕ} {found : Option ℕ} (claim : ClaimsNamed d n found σ σ1 (Some first)) where
   named_call : Calls σ σ1 (MayFind d) (GotPages (in_span first (first + n)) d) claim.steps
   named_call = record { adds = claim.adds; leads = claim.outcome.got }
 
@@ -134,9 +187,9 @@ module _ {σ σ1 : Standing} (d : Directory) (n first : ℕ) (found : Option ℕ
   can_give_named can = next_call named_call can named_pages
 
 -- A named run that was claimed is one of the region.
-pub region_named : {σ σ1 : Standing} (d : Directory) (n first : ℕ) (found : Option ℕ) → ClaimsNamed d n found σ σ1 (Some first)
+pub region_named : {σ σ1 : Standing} {d : Directory} {n first : ℕ} {found : Option ℕ} → ClaimsNamed d n found σ σ1 (Some first)
     → first + n ≤ σ1.seat.profile.pages + 1
-region_named d n first found claim = subst (λ (s : Seat). first + n ≤ s.profile.pages + 1) (sym claim.adds.seat_is) claim.outcome.of_region.1
+region_named {n = n} {first = first} claim = subst (λ (s : Seat). first + n ≤ s.profile.pages + 1) (sym claim.adds.seat_is) claim.outcome.of_region.1
 
 -- room for so many events is left
 pub room_named : {σ σ1 : Standing} (d : Directory) (n k : ℕ) {found result : Option ℕ} (claim : ClaimsNamed d n found σ σ1 result) (spare spare1 : ℕ)
@@ -189,7 +242,7 @@ pub serves_named : {σ σ1 σ2 : Standing} (heap n first : ℕ) (found : Option 
     → AllocatesLarge heap n found tells σ σ2 (Ok block)
 serves_named {σ} heap n first found tells claim block valid laws parts give =
     let d = large_directory heap in
-    let calls = call_then (GaveLarge d first n block) (named_call d n first found claim) give.calls (named_pages d n first found claim)
+    let calls = call_then (GaveLarge d first n block) (named_call claim) give.calls (named_pages claim)
     (λ v met got gave. record { does = undone (λ g. in_span first (first + n) (g / 256)) (in_span first (first + n)) got.apart got.lacked got.does gave.does; apart = got.apart; deeds = gave.deeds; turn = gave.turn }) in
     let k = length-append (give.left ++ (give_steps first 0 block give.word give.answer ++ give.backs)) claim.steps in let a = give.few in let b = claim.outcome.few in
     record {

@@ -17,8 +17,8 @@ use Rattle.pas_search.proofs.Alone.{none_in_hands, OwnLacks, still_lacks}
 use Rattle.pas_large.specs.Allocates.{IsRefusedLarge, IsServedNamed, IsScanned, AllocatesLarge}
 use Rattle.pas_large.specs.{Alone.GoesByDoor, Alone.FindsTheRunThereIs, Evidence.BadHere, Evidence.IsVain, Finds.MayFind, Finds.LooksAlone, Pages.claiming_old}
 use Rattle.pas_large.specs.Telling.{IsUsablePage, HasNoUsableRun, IsNamedWhole, TakesNamed}
-use Rattle.pas_large.proofs.{Allocates.scans_only, Allocates.holds_whole, Lifted.find_again, Told.once_of, Told.unusable_here, ToldByDoor.never_missed}
-use Rattle.pas_large.proofs.{ToldByDoor.usable_later, ToldReasons.none_after, ToldReasons.true_reason}
+use Rattle.pas_large.proofs.{Allocates.scans_only, Allocates.holds_whole, Lifted.find_again, Told.once_of, Told.unusable_here}
+use Rattle.pas_large.proofs.ToldByDoor.{never_missed, usable_later, none_after, true_reason}
 
 -- ---- looks alone lose and break no page
 is_look_of : (s t : Step) → is_in looking (kind_of s) ≡ true → s ≡ t → is_in looking (kind_of t) ≡ false → ⊥

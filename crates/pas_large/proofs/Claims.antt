@@ -192,7 +192,7 @@ deeds_below d first stop end xs le = always_map (MadeIn d first stop) (λ m befo
 pub deeds_from : (d : Directory) (first stop : ℕ) (xs : List Made) → DeedsIn d first stop xs → DeedsFrom first xs
 deeds_from d first stop xs = always_map (MadeIn d first stop) (λ m before. (p : ℕ) (e : Directory) → m.step ≡ Deed p e → m.answer ≡ 0 → first ≤ p) xs (λ m before h p e same z. (h p e same z).1)
 
-module _ {σ σ1 : Standing} (deeds : Bool) (d : Directory) (first end page : ℕ) (high : page < end) (below : ClaimedBelow deeds d first page σ σ1) where
+module _ {σ σ1 : Standing} {deeds : Bool} {d : Directory} {first page : ℕ} (end : ℕ) (below : ClaimedBelow deeds d first page σ σ1) (high : page < end) where
   abbrev so_far : ClaimsPages deeds d first page σ σ1 page
   so_far = below.so_far
 
@@ -346,10 +346,10 @@ module _ {σ σ1 : Standing} (deeds : Bool) (d : Directory) (first end page : �
         (λ bare p out. others_left bare p (not_in first page p low out) (narrower first page (page + 1) p (omega arith) out))
 
 -- A page that was got whole makes the claimed pages of its run one more.
-pub won_turn : {σ σ1 σ2 : Standing} (deeds : Bool) (d : Directory) (first page : ℕ) → ClaimedBelow deeds d first page σ σ1
+pub won_turn : {σ σ1 σ2 : Standing} {deeds : Bool} {d : Directory} {first page : ℕ} → ClaimedBelow deeds d first page σ σ1
     → (h : ClaimsPage deeds d page σ1 σ2 Claimed.Whole) → ClaimedBelow deeds d first (page + 1) σ σ2
 unfolding won_claims turned
-won_turn deeds d first page below h = record { so_far = won_claims deeds d first (page + 1) page (omega arith) below h refl h.outcome; alone = turn_alone deeds d first (page + 1) page (omega arith) below h }
+won_turn {page = page} below h = record { so_far = won_claims (page + 1) below (omega arith) h refl h.outcome; alone = turn_alone (page + 1) below (omega arith) h }
 
 -- ---- the pages are left, one page more
 pub has_got : {v w : View} (d : Directory) (first stop : ℕ) → IsClear v → GotPages (in_span first stop) d v w → HasPages d first stop w
@@ -391,7 +391,7 @@ left_none d first = record {
   steady = λ g out. tt;
 }
 
-module _ {σ σ1 : Standing} (d : Directory) (first end page : ℕ) (low : first ≤ page) (high : page < end) (so_far : Releases d first page σ σ1) where
+module _ {σ σ1 : Standing} {d : Directory} {first page : ℕ} (end : ℕ) (so_far : Releases d first page σ σ1) (low : first ≤ page) (high : page < end) where
   known : Calls σ σ1 (HasPages d first end) (λ v w. Does (of_pages (in_span first page) Lost) v w
       × ((p : ℕ) → in_span first end p ≡ true → KnowsDeed p d w)) so_far.steps
   known = call_knowing d (in_span first end) (pages_call d first page end (omega (arith, high)) so_far.calls) (λ v met. met.deeds)
@@ -428,7 +428,7 @@ left_more d directory first page low so_far h =
     let ys = h.after ++ h.puts in
     record {
       steps = ys ++ so_far.steps;
-      calls = call_then (Does (of_pages (in_span first (page + 1)) Lost)) (known d first (page + 1) page low (omega arith) so_far) h.calls (leave_may d first (page + 1) page low (omega arith) so_far)
+      calls = call_then (Does (of_pages (in_span first (page + 1)) Lost)) (known (page + 1) so_far low (omega arith)) h.calls (leave_may (page + 1) so_far low (omega arith))
           (λ v met a b. does_as (of_pages (in_span first (page + 1)) Lost) (does_then a.0 b)
           (λ g. inl (both_fates Lost (in_span first page (g / 256)) (masked page full g) (in_span first (page + 1) (g / 256)) refl (ap (λ t. in_span first page (g / 256) || t) (on_full page g) ∙ span_more first page (g / 256) low)))
           (λ q. both_fates Lost (in_span first page q) (page == q) (in_span first (page + 1) q) refl (span_more first page q low)) (λ q h. h));
@@ -450,14 +450,14 @@ left_more d directory first page low so_far h =
           (so_far.due before (λ g is. held g (span_wider first page (page + 1) (g / 256) (omega arith) is)) all) h);
       few = let n = length-append ys so_far.steps in omega (arith, n, h.few, so_far.few, low);
       lacks = search (arith, append_assoc, cases_eq, right_on, span_apart);
-      alone = λ before p ge alone. subst (LeftAlone p) (sym (append_assoc ys so_far.steps before)) (alone_on page p ys (so_far.steps ++ before) h.on (λ e. absurd (omega (arith, e, ge))) (so_far.alone before p (omega (arith, ge)) alone));
+      alone = λ before p ge alone. rw (append_assoc ys so_far.steps before) (alone_on page p ys (so_far.steps ++ before) h.on (λ e. absurd (omega (arith, e, ge))) (so_far.alone before p (omega (arith, ge)) alone));
       steady = λ g out. steady_both g ys so_far.steps (steady_on page g ys h.on (out_of first (page + 1) (g / 256) page out low (omega arith))) (so_far.steady g (narrower first page (page + 1) (g / 256) (omega arith) out));
     }
 
 -- ---- the claim of a run
-pub run_claimed : {σ σ1 : Standing} (deeds : Bool) (d : Directory) (first end stop : ℕ) → stop ≡ end → ClaimsPages deeds d first end σ σ1 stop
+pub run_claimed : {σ σ1 : Standing} {deeds : Bool} {d : Directory} {first end stop : ℕ} → stop ≡ end → ClaimsPages deeds d first end σ σ1 stop
     → ClaimsRun deeds d first end σ σ1 None
-run_claimed {σ} {σ1} deeds d first end stop e h =
+run_claimed {σ} {σ1} {deeds} {d} {first} {end} {stop} e h =
     let all = subst (ClaimsPages deeds d first end σ σ1) e h in
     record {
       steps = all.steps;
@@ -473,7 +473,7 @@ run_claimed {σ} {σ1} deeds d first end stop e h =
       outcome = record { few = (omega (arith, all.few)); got = all.got; holding = all.holding; lacks = all.lacks; alone = λ before free p ge. all.alone before free p (omega (arith, ge)) };
     }
 
-module _ {σ σ1 : Standing} (deeds : Bool) (d : Directory) (first end stop : ℕ) (ne : stop ≢ end) (h : ClaimsPages deeds d first end σ σ1 stop) where
+module _ {σ σ1 : Standing} {deeds : Bool} {d : Directory} {first end stop : ℕ} (h : ClaimsPages deeds d first end σ σ1 stop) (ne : stop ≢ end) where
   before_end : stop < end
   before_end = omega (arith, ne, h.span.1)
 
@@ -514,7 +514,7 @@ module _ {σ σ1 : Standing} (deeds : Bool) (d : Directory) (first end stop : �
           few = (let n = length-append r.steps h.steps in omega (arith, n, r.few, h.few, h.span.0, before_end));
           still = calls.leads;
           lacks = λ before none p. ap (λ s. has_right s p) (append_assoc r.steps h.steps before) ∙ r.lacks (h.steps ++ before) p (λ out. h.lacks before none p out);
-          alone = λ before free p ge. subst (LeftAlone p) (sym (append_assoc r.steps h.steps before)) (r.alone (h.steps ++ before) p (omega (arith, ge)) (h.alone before free p (omega (arith, ge))));
+          alone = λ before free p ge. rw (append_assoc r.steps h.steps before) (r.alone (h.steps ++ before) p (omega (arith, ge)) (h.alone before free p (omega (arith, ge))));
           failed = λ may before v free usable agreed.
               let mine : Agreed σ.seat.profile v (h.steps ++ before) = agreed_later σ.seat.profile v r.steps (h.steps ++ before) (subst (Agreed σ.seat.profile v) (append_assoc r.steps h.steps before) agreed) in
               elim (h.failed before_end may before v free usable mine) [

@@ -71,8 +71,8 @@ vain_ends f d n from next ys xs some so_far none = record {
 }
 
 -- it found one
-module _ (f : Profile) (d : Directory) (n from next first : ℕ) (some : 1 ≤ from) (ys xs : List Made) (so_far : VainSoFar d n from next xs)
-    (looks : Only page_looks ys) (found : IsFirstRun f d from next n ys first) where
+module _ {f : Profile} {d : Directory} {n from next first : ℕ} {ys xs : List Made} (so_far : VainSoFar d n from next xs)
+    (found : IsFirstRun f d from next n ys first) (some : 1 ≤ from) (looks : Only page_looks ys) where
   abbrev before : List Made
   before = ys ++ xs
 
@@ -190,7 +190,7 @@ none_searched σ d n some = refl
 abbrev pub may_find : {σ : Standing} {f : Profile} {d : Directory} {n spare : ℕ} → CanCall σ (FindRoom f d n spare) → CanCall σ (MayFind d)
 may_find can = record { view = can.view; whole = can.whole; stood = can.stood; met = can.met.may }
 
-module _ {σ σ1 : Standing} (d : Directory) (n from next : ℕ) (low : 1 ≤ from) (so_far : SearchedRuns d n from next σ σ1) where
+module _ {σ σ1 : Standing} {d : Directory} {n from next : ℕ} (so_far : SearchedRuns d n from next σ σ1) (low : 1 ≤ from) where
   abbrev f : Profile
   f = σ.seat.profile
 
@@ -265,7 +265,7 @@ module _ {σ σ1 : Standing} (d : Directory) (n from next : ℕ) (low : 1 ≤ fr
   }
 
   -- it found one
-  module _ {σ2 : Standing} (first : ℕ) (find : FindsRun d from next n σ1 σ2 (Some first)) where
+  module _ {σ2 : Standing} {first : ℕ} (find : FindsRun d from next n σ1 σ2 (Some first)) where
     abbrev ls : List Made
     ls = find.steps ++ xs
 
@@ -273,7 +273,7 @@ module _ {σ σ1 : Standing} (d : Directory) (n from next : ℕ) (low : 1 ≤ fr
     run_at = subst (λ x. IsFirstRun x d from next n find.steps first) (same find) find.outcome
 
     usable : AllUsable d n first (find.steps ++ xs)
-    usable = all_usable f d n from next first low find.steps xs so_far.vain find.kinds run_at
+    usable = all_usable so_far.vain run_at low find.kinds
 
     run_may : (v : View) → MayFind d v → Agreed f v (find.steps ++ xs) → MayClaimPages d first (first + n) ((find.steps ++ xs) ++ v)
     run_may v met agreed =
@@ -319,7 +319,7 @@ module _ {σ σ1 : Standing} (d : Directory) (n from next : ℕ) (low : 1 ≤ fr
 
       claim_deeds : (P : ℕ → Type 0) → P first → ((s : ℕ) → HasFailed d n s xs → P s) → DeedsOf d n P (zs ++ ls)
       claim_deeds P its more = always_both (λ m before. (p : ℕ) (e : Directory) → m.step ≡ Deed p e → m.answer ≡ 0 → (e ≡ d) × (first ≤ p) × (p < first + n)) (DeedOf d n P) zs ls
-          (λ m before h p e is z. let at = h p e is z in (at.0, (first, (at.1, at.2), usable_still f d n from next first low find.steps xs so_far.vain find.kinds run_at before, its)))
+          (λ m before h p e is z. let at = h p e is z in (at.0, (first, (at.1, at.2), usable_still so_far.vain run_at low find.kinds before, its)))
           claim.made (deeds_looks d n P find.steps xs find.kinds (deeds_map d n (λ other. HasFailed d n other xs) P xs more so_far.deeds))
 
     -- where no other actor made a step between them all its pages are usable
@@ -346,7 +346,7 @@ module _ {σ σ1 : Standing} (d : Directory) (n from next : ℕ) (low : 1 ≤ fr
         fails_told f k l d n first (claim.steps ++ ls) kind legal (lends_none finding refl (claim.steps ++ ls) (claim_kinds claim))
         (usable_alone k l looks at)
         (λ p here. met.lacks p (knew f d p ls (part k l) (agreed_later f (part k l) claim.steps ls agreed) (usable p here)))
-        (run_has_failed f d n from next first low find.steps xs so_far.vain find.kinds run_at page claim.steps fails (part k l) agreed)
+        (run_has_failed so_far.vain run_at low find.kinds page claim.steps fails (part k l) agreed)
 
     -- on a desk that tells the whole state
     pub never_fails : {σ3 : Standing} → IsKind d.kind → IsValid f → Tells σ3 → (page : ℕ) → (claim : ClaimsRun true d first (first + n) σ2 σ3 (Some page))
@@ -360,14 +360,14 @@ module _ {σ σ1 : Standing} (d : Directory) (n from next : ℕ) (low : 1 ≤ fr
         let fails = subst (λ x. FailsRun true x d first (first + n) page claim.steps) (same2 claim) claim.outcome in
         let adds = claim_adds claim in
         let agreed = adds.agreed can.view can.whole can.stood can.met in
-        let failed = run_has_failed f d n from next first low find.steps xs so_far.vain find.kinds run_at page claim.steps fails can.view agreed in
+        let failed = run_has_failed so_far.vain run_at low find.kinds page claim.steps fails can.view agreed in
         record {
           steps = claim.steps ++ ls;
           adds = adds;
           still = record {
             from = λ v met agreed.
                 let before = agreed_later f v claim.steps ls agreed in
-                subst (Does nothing v) (sym (append_assoc claim.steps ls v)) (does_then ((look_still find).from v met before) (fails.still.from (ls ++ v) (run_may v met before) (agreed_first f v claim.steps ls agreed)));
+                rw (append_assoc claim.steps ls v) (does_then ((look_still find).from v met before) (fails.still.from (ls ++ v) (run_may v met before) (agreed_first f v claim.steps ls agreed)));
           };
           kinds = claim_kinds claim;
           returns = claim_returns claim;
@@ -377,7 +377,7 @@ module _ {σ σ1 : Standing} (d : Directory) (n from next : ℕ) (low : 1 ≤ fr
           lacks = fails.lacks ls (look_lacks find);
           within = run_at.of_region;
           few = (let k = length-append claim.steps ls in let j = length-append find.steps xs in omega (arith, k, j, find.few, so_far.few, fails.few, run_at.from_there));
-          vain = vain_goes_on f d n from next first low find.steps xs so_far.vain find.kinds run_at page claim.steps fails can.view agreed;
+          vain = vain_goes_on so_far.vain run_at low find.kinds page claim.steps fails can.view agreed;
           deeds = claim_deeds claim (λ other. HasFailed d n other (claim.steps ++ ls)) failed (λ s h. once_later _ claim.steps ls (once_later _ find.steps xs h));
         }
 
@@ -395,7 +395,7 @@ module _ {σ σ1 : Standing} (d : Directory) (n from next : ℕ) (low : 1 ≤ fr
         → ClaimsRun true d first (first + n) σ2 σ3 None → Finds d n tells σ σ3 (Some first)
     finds_run tells laws alone some claim =
         let holds_it = subst (λ x. HoldsRun x d first (first + n) claim.steps) (same2 claim) claim.outcome in
-        let span = holds_it.holding ls (first_alone f d n from next first low find.steps xs so_far.vain find.kinds run_at) in
+        let span = holds_it.holding ls (first_alone so_far.vain run_at low find.kinds) in
         record {
           steps = claim.steps ++ ls;
           adds = claim_adds claim;
@@ -411,14 +411,14 @@ module _ {σ σ1 : Standing} (d : Directory) (n from next : ℕ) (low : 1 ≤ fr
               from = λ v met agreed.
                   let before = agreed_later f v claim.steps ls agreed in
                   let does = (look_still find).from v met before in
-                  subst (GotPages (in_span first (first + n)) d v) (sym (append_assoc claim.steps ls v)) (got_after (in_span first (first + n)) d does (holds_it.got.from (ls ++ v) (run_may v met before) (agreed_first f v claim.steps ls agreed)));
+                  rw (append_assoc claim.steps ls v) (got_after (in_span first (first + n)) d does (holds_it.got.from (ls ++ v) (run_may v met before) (agreed_first f v claim.steps ls agreed)));
             };
             taken = record {
-              usable = usable_still f d n from next first low find.steps xs so_far.vain find.kinds run_at claim.steps;
+              usable = usable_still so_far.vain run_at low find.kinds claim.steps;
               right = λ p is. span.right p is.0 is.1;
               whole = λ p word is lt. span.whole p word is.0 is.1 lt;
             };
-            lower = lower_bad f d n from next first low find.steps xs so_far.vain find.kinds run_at claim.steps;
+            lower = lower_bad so_far.vain run_at low find.kinds claim.steps;
             rise = claim_rise claim;
             deeds = claim_deeds claim (λ other. (other ≡ first) ⊎ HasFailed d n other (claim.steps ++ ls)) (inl refl) (λ s h. inr (once_later _ claim.steps ls (once_later _ find.steps xs h)));
           };

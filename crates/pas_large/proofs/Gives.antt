@@ -57,7 +57,7 @@ pub can_back : {σ : Standing} {page : ℕ} (d : Directory) (first end : ℕ) �
     → CanCall σ (HasPages d first end) → CanMake σ (Back page)
 can_back {σ} {page} d first end low high is can = record { of_region = is; view = can.view; whole = can.whole; stood = can.stood; allowed = may_back_page σ.seat.profile d first end page low high can.view can.met }
 
-module _ {σ σ1 : Standing} (d : Directory) (first end page : ℕ) (low : first ≤ page) (high : page < end) (so_far : BacksRun d first page σ σ1) where
+module _ {σ σ1 : Standing} {d : Directory} {first page : ℕ} (end : ℕ) (so_far : BacksRun d first page σ σ1) (low : first ≤ page) (high : page < end) where
   abbrev xs : List Made
   xs = so_far.steps
 
@@ -117,7 +117,7 @@ left_run_none d first = record {
   few = omega arith;
 }
 
-module _ {σ σ1 : Standing} (d : Directory) (first end page : ℕ) (low : first ≤ page) (high : page < end) (so_far : LeavesRun d first page σ σ1) where
+module _ {σ σ1 : Standing} {d : Directory} {first page : ℕ} (end : ℕ) (so_far : LeavesRun d first page σ σ1) (low : first ≤ page) (high : page < end) where
   leaves_fewer : (v : View) → MayLeaveRun d first end v → MayLeaveRun d first page v
   leaves_fewer v met = record { right = λ p is. met.right p (span_wider first page end p (omega (arith, high)) is); deeds = λ p is. met.deeds p (span_wider first page end p (omega (arith, high)) is) }
 
@@ -134,10 +134,10 @@ module _ {σ σ1 : Standing} (d : Directory) (first end page : ℕ) (low : first
   can_leave_next can = next_call so_left can may_leave
 
 -- A page that was left makes the left pages of its run one more.
-pub left_run_more : {σ σ1 σ2 : Standing} (d : Directory) (first page : ℕ) → first ≤ page → LeavesRun d first page σ σ1 → Leaves page d σ1 σ2
+pub left_run_more : {σ σ1 σ2 : Standing} {d : Directory} {first page : ℕ} → first ≤ page → LeavesRun d first page σ σ1 → Leaves page d σ1 σ2
     → LeavesRun d first (page + 1) σ σ2
-left_run_more d first page low so_far h =
-    let calls = call_then (Does (left_run first (page + 1))) (so_left d first (page + 1) page low (omega arith) so_far) h.calls (may_leave d first (page + 1) page low (omega arith) so_far)
+left_run_more {d = d} {first = first} {page = page} low so_far h =
+    let calls = call_then (Does (left_run first (page + 1))) (so_left (page + 1) so_far low (omega arith)) h.calls (may_leave (page + 1) so_far low (omega arith))
     (λ v met a b. does_as (left_run first (page + 1)) (does_then a.0.does b.does) (λ g. inl refl) (λ q. both_fates Lost (in_span first page q) (page == q) (in_span first (page + 1) q) refl (span_more first page q low))
     (λ q c. subst (λ t. ClearAfter t q v (h.steps ++ (so_far.steps ++ v))) (kept_kept (page == q)) c)) in
     record {

@@ -273,7 +273,7 @@ released page d is before got h =
         | inl parks ↦ inl (parks_both page all before (parks_both page h.after h.puts parks (parks_none (Putting ∷ []) page h.puts refl putting)) got.parks)
         | inr broken ↦ inr (
           once_later (OfHere d page) all before got.of,
-          subst (Once (BrokenHere page)) (sym (append_assoc h.after h.puts before)) (once_earlier (λ m b. BrokenHere page m (b ++ ws)) (BrokenHere page) h.after ws (λ m b x. x) broken),
+          rw (append_assoc h.after h.puts before) (once_earlier (λ m b. BrokenHere page m (b ++ ws)) (BrokenHere page) h.after ws (λ m b x. x) broken),
         )
       ];
     }

@@ -5,11 +5,9 @@ mod Refusals
 pub mod InOrder
 pub mod Gives
 pub mod Finds
-mod Named
 pub mod Allocates
 pub mod Outcomes
 pub mod Told
-mod ToldReasons
 mod ToldByDoor
 pub mod Alone
 pub mod Lifted

@@ -123,7 +123,7 @@ after_still {f} {R} d ys xs join still leads = record {
   from = λ v met agreed.
       let first = agreed_later f v ys xs agreed in
       let does = still.from v met first in
-      subst (R v) (sym (append_assoc ys xs v)) (join v (xs ++ v) (ys ++ (xs ++ v)) does (leads.from (xs ++ v) (find_again f d v xs met first does) (agreed_first f v ys xs agreed)));
+      rw (append_assoc ys xs v) (join v (xs ++ v) (ys ++ (xs ++ v)) does (leads.from (xs ++ v) (find_again f d v xs met first does) (agreed_first f v ys xs agreed)));
 }
 
 module _ (f : Profile) (d : Directory) (n : ℕ) (xs ys : List Made) (old : Only claiming_old xs) (left : (p : ℕ) → LeftOrBroken d p xs)

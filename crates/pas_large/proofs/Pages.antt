@@ -319,8 +319,8 @@ pub knew_before : (f : Profile) (d : Directory) (p : ℕ) (xs : List Made) (v : 
 knew_before f d p xs v agreed after = search (arith, cases_eq, deed_stays)
 
 -- ---- the claim of one page of a run: its right, and then its grains
-pub claim_lost : {σ σ1 : Standing} (deeds : Bool) (d : Directory) (page : ℕ) → GetsPage deeds d page σ σ1 false → ClaimsPage deeds d page σ σ1 Claimed.Lost
-claim_lost deeds d page get = record {
+pub claim_lost : {σ σ1 : Standing} {deeds : Bool} {d : Directory} {page : ℕ} → GetsPage deeds d page σ σ1 false → ClaimsPage deeds d page σ σ1 Claimed.Lost
+claim_lost get = record {
   steps = get.steps;
   adds = adds_under get.adds (λ v l stood met. tt);
   on = get.on;
@@ -410,7 +410,7 @@ pub undone : {v w u : View} (grains rights : ℕ → Bool) → ((g : ℕ) → gr
     → Does (record { grains = λ g. if grains g then Lost else Kept; rights = λ q. if rights q then Lost else Kept; clears = λ q. Kept }) w u → Does nothing v u
 undone {v} grains rights apart lacks a b = search (arith, cases_Bool, true≢false)
 
-module _ (deeds : Bool) (d : Directory) (page : ℕ) {σ σ1 : Standing} (get : GetsPage deeds d page σ σ1 true) where
+module _ {deeds : Bool} {d : Directory} {page : ℕ} {σ σ1 : Standing} (get : GetsPage deeds d page σ σ1 true) where
   module _ {σ2 : Standing} {whole : Bool} (takes : TakesPage d page σ1 σ2 whole) where
     abbrev all : List Made
     all = takes.steps ++ get.steps
@@ -472,7 +472,7 @@ module _ (deeds : Bool) (d : Directory) (page : ℕ) {σ σ1 : Standing} (get : 
           parks = parks_both page takes.steps get.steps (parks_kept page takes.steps takes.outcome.keeps) (parks_none getting page get.steps refl get.kinds);
         };
         right = λ before alone. ap (λ s. has_right s page) (append_assoc takes.steps get.steps before) ∙ rights_stay takes.steps (get.steps ++ before) page takes.outcome.keeps (get.outcome.got before alone).right;
-        whole = λ before alone word lt. subst (Since (TakenWholeHere page word) (KeptHere page)) (sym (append_assoc takes.steps get.steps before)) (takes.outcome.whole (get.steps ++ before) (get.outcome.got before alone) word lt);
+        whole = λ before alone word lt. rw (append_assoc takes.steps get.steps before) (takes.outcome.whole (get.steps ++ before) (get.outcome.got before alone) word lt);
       })
 
   -- ---- some weren't free
@@ -484,7 +484,7 @@ module _ (deeds : Bool) (d : Directory) (page : ℕ) {σ σ1 : Standing} (get : 
           from = λ v met agreed.
               let f = σ.seat.profile in let zs = takes.steps in
               let got = get.outcome.leads.from v met (agreed_later f v zs get.steps agreed) in
-              subst (Does nothing v) (sym (append_assoc zs get.steps v)) (undone (λ g. false) (λ q. page == q) (λ g e. cc) (λ q e. subst (λ r. has_right v r ≡ false) (eqb-true page q e) (got_lacked v met (agreed_later f v zs get.steps agreed))) got.does (left.from (get.steps ++ v) got.may (agreed_first f v zs get.steps agreed)));
+              rw (append_assoc zs get.steps v) (undone (λ g. false) (λ q. page == q) (λ g e. cc) (λ q e. subst (λ r. has_right v r ≡ false) (eqb-true page q e) (got_lacked v met (agreed_later f v zs get.steps agreed))) got.does (left.from (get.steps ++ v) got.may (agreed_first f v zs get.steps agreed)));
         };
         lacks = λ before none. ap (λ s. has_right s page) (append_assoc takes.steps get.steps before) ∙ takes.outcome.lacks (get.steps ++ before);
         left = λ none. record {

@@ -75,9 +75,7 @@ grain_bit l p word b small lt =
     let page : (p * 256 + (64 * word + b)) / 256 ≡ p = omega (arith, small, lt) in
     let at : (p * 256 + (64 * word + b)) / 64 % 4 ≡ word = omega (arith, small, lt) in
     let bit : (64 * word + b) % 64 ≡ b = omega (arith, lt) in
-    ap (λ q. has_bit (word_after l (Word.Free q word)) b) (sym page)
-    ∙ ap (λ w. has_bit (word_after l (Word.Free ((p * 256 + (64 * word + b)) / 256) w)) b) (sym at)
-    ∙ ap (has_bit (word_after l (free_word_at (p * 256 + (64 * word + b))))) (sym bit)
+    cc
 
 -- A grain of a page is free where its bit of the free word is set.
 pub of_page : (l : Whole) (page b : ℕ) → free_of_page l page b ≡ has_bit (word_after l (free_word_at (page * 256 + b))) ((page * 256 + b) % 64)

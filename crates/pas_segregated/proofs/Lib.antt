@@ -1,5 +1,4 @@
 pub mod Starts
 mod GivenUp
 mod WholeSlots
-mod Serve
 pub mod Alone

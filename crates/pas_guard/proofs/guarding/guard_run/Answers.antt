@@ -1,4 +1,4 @@
-use Rattle.pas_guard.proofs.Guards.{can_give_inner, can_leave_low, can_leave_high, guards}
+use Rattle.pas_guard.proofs.Guarded.{can_give_inner, can_leave_low, can_leave_high, guards}
 use Rattle.pas_guard.proofs.guarding.guard_run.Goals as goal
 
 pub give_run-block-requires-clause-can : goal.give_run-block-requires-clause-can

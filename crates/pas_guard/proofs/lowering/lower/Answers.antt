@@ -1,4 +1,4 @@
-use Rattle.pas_guard.proofs.Lowers.{can_low, can_high, lowers}
+use Rattle.pas_guard.proofs.Guarded.{can_low, can_high, lowers}
 use Rattle.pas_guard.proofs.lowering.lower.Goals as goal
 
 pub put_and_return-requires-clause-can : goal.put_and_return-requires-clause-can

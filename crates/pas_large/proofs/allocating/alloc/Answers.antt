@@ -5,10 +5,10 @@ use Rattle.pas_large.proofs.Finds.{may_find}
 use Rattle.pas_large.proofs.allocating.alloc.Goals as goal
 
 pub give_run-requires-clause-can : goal.give_run-requires-clause-can
-give_run-requires-clause-can g c = let names = c.in-Some.ensures.names in can_give_named (large_directory c.args.heap) c.args.pages c.in-Some.first names.0 names.2 (may_find c.requires.can)
+give_run-requires-clause-can g c = let names = c.in-Some.ensures.names in can_give_named names.2 (may_find c.requires.can)
 
 pub give_run-requires-clause-region : goal.give_run-requires-clause-region
-give_run-requires-clause-region g c = let names = c.in-Some.ensures.names in region_named (large_directory c.args.heap) c.args.pages c.in-Some.first names.0 names.2
+give_run-requires-clause-region g c = let names = c.in-Some.ensures.names in region_named names.2
 
 pub give_run-requires-clause-room : goal.give_run-requires-clause-room
 give_run-requires-clause-room g c = let names = c.in-Some.ensures.names in room_named (large_directory c.args.heap) c.args.pages (c.args.pages + 1) names.2 (g.D.Desk.spare_of c.args.desk.now) _ c.requires.can (g.met.D.Desk.spares c.args.desk.now) (g.met.D.Desk.spares c.claim_named.new.desk)

@@ -1,13 +1,12 @@
-use Rattle.pas_scan.specs.Runs.{large_directory}
 use Rattle.pas_large.proofs.Allocates.{can_give_run, room_to_give_run, allocates, refuses_large}
 use Rattle.pas_large.proofs.Finds.{may_find}
 use Rattle.pas_large.proofs.allocating.alloc_by_scan.Goals as goal
 
 pub give_run-requires-clause-can : goal.give_run-requires-clause-can
-give_run-requires-clause-can g c = can_give_run (large_directory c.args.heap) c.args.pages c.in-Some.first g.D.Desk.tells c.in-Some.ensures.finds (may_find c.requires.can)
+give_run-requires-clause-can g c = can_give_run c.in-Some.ensures.finds (may_find c.requires.can)
 
 pub give_run-requires-clause-room : goal.give_run-requires-clause-room
-give_run-requires-clause-room g c = room_to_give_run (large_directory c.args.heap) c.args.pages c.in-Some.first g.D.Desk.tells c.in-Some.ensures.finds (g.D.Desk.spare_of c.args.desk.now) _ c.requires.can (g.met.D.Desk.spares c.args.desk.now) (g.met.D.Desk.spares c.find_run.new.desk)
+give_run-requires-clause-room g c = room_to_give_run c.in-Some.ensures.finds (g.D.Desk.spare_of c.args.desk.now) _ c.requires.can (g.met.D.Desk.spares c.args.desk.now) (g.met.D.Desk.spares c.find_run.new.desk)
 
 pub returns-in-Some-clause-allocates : goal.returns-in-Some-clause-allocates
 returns-in-Some-clause-allocates g c = allocates c.args.heap c.args.pages c.in-Some.first g.D.Desk.tells c.in-Some.ensures.finds c.give_run.result c.give_run.ensures.gives

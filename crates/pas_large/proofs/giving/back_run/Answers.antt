@@ -12,7 +12,7 @@ pub back_page-requires-clause-region : goal.back_page-requires-clause-region
 back_page-requires-clause-region g c = subst (λ s. c.args.end ≤ s.profile.pages + 1) (sym c.loop-page.invariant.so_far.calls.adds.seat_is) c.requires.region
 
 pub back_page-requires-clause-can : goal.back_page-requires-clause-can
-back_page-requires-clause-can g c = let i = c.loop-page.invariant in can_back_next c.args.directory c.args.first c.args.end c.loop-page.page c.loop-page.auto.page c.loop-page-test.true i.so_far c.requires.can
+back_page-requires-clause-can g c = let i = c.loop-page.invariant in can_back_next c.args.end i.so_far c.loop-page.auto.page c.loop-page-test.true c.requires.can
 
 pub back_page-requires-clause-room : goal.back_page-requires-clause-room
 back_page-requires-clause-room g c = let i = c.loop-page.invariant in let few = backs_few c.args.first (c.loop-page.page - c.args.first) i.so_far.steps i.so_far.order in let room = c.requires.room in let low = c.loop-page.auto.page in let test = c.loop-page-test.true in
@@ -21,7 +21,7 @@ back_page-requires-clause-room g c = let i = c.loop-page.invariant in let few = 
 
 pub loop-page-preserved : goal.loop-page-preserved
 loop-page-preserved g c = let i = c.loop-page.invariant in
-    record { so_far = backed_more c.args.directory c.args.first (c.loop-page.page + 1) c.loop-page.page c.loop-page.auto.page (omega arith) i.so_far refl c.back_page.ensures.backs.0 c.back_page.ensures.backs.1; home = c.back_page.ensures.home ∙ i.home }
+    record { so_far = backed_more (c.loop-page.page + 1) i.so_far c.loop-page.auto.page (omega arith) refl c.back_page.ensures.backs.0 c.back_page.ensures.backs.1; home = c.back_page.ensures.home ∙ i.home }
 
 pub returns-clause-backs : goal.returns-clause-backs
 returns-clause-backs g c = let past = c.loop-page-test.false in let most = c.loop-page.auto.page-end c.requires.span in

@@ -7,11 +7,11 @@ pub loop-page-init : goal.loop-page-init
 loop-page-init g c = record { so_far = left_run_none c.args.directory c.args.first; home = refl }
 
 pub leave-requires-clause-can : goal.leave-requires-clause-can
-leave-requires-clause-can g c = can_leave_next c.args.directory c.args.first c.args.end c.loop-page.page c.loop-page.auto.page c.loop-page-test.true c.loop-page.invariant.so_far c.requires.can
+leave-requires-clause-can g c = can_leave_next c.args.end c.loop-page.invariant.so_far c.loop-page.auto.page c.loop-page-test.true c.requires.can
 
 pub loop-page-preserved : goal.loop-page-preserved
 loop-page-preserved g c = let i = c.loop-page.invariant in
-    record { so_far = left_run_more c.args.directory c.args.first c.loop-page.page c.loop-page.auto.page i.so_far c.leave.ensures.leaves; home = c.leave.ensures.home ∙ i.home }
+    record { so_far = left_run_more c.loop-page.auto.page i.so_far c.leave.ensures.leaves; home = c.leave.ensures.home ∙ i.home }
 
 pub returns-clause-leaves : goal.returns-clause-leaves
 returns-clause-leaves g c = let past = c.loop-page-test.false in let most = c.loop-page.auto.page-end c.requires.span in

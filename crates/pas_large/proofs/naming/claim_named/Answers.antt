@@ -1,7 +1,7 @@
 use Rattle.std.proofs.Common.{◌+◌, ◌≤◌, Some, refl, rules, subst}
 use Rattle.pas_profile.specs.declared.profile.Profile.{Profile}
 use Rattle.pas_scan.specs.Runs.{large_directory}
-use Rattle.pas_large.proofs.Named.{holds_named, misses_named}
+use Rattle.pas_large.proofs.Allocates.{holds_named, misses_named}
 use Rattle.pas_large.proofs.naming.claim_named.Goals as goal
 
 pub returns-in-None-clause-names : goal.returns-in-None-clause-names

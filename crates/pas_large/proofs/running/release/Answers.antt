@@ -8,7 +8,7 @@ pub loop-page-init : goal.loop-page-init
 loop-page-init g c = record { so_far = left_none c.args.directory c.args.first; home = refl }
 
 pub put_and_leave-requires-clause-can : goal.put_and_leave-requires-clause-can
-put_and_leave-requires-clause-can g c = leave_call c.args.directory c.args.first c.args.end c.loop-page.page c.loop-page.auto.page c.loop-page-test.true c.loop-page.invariant.so_far c.requires.can
+put_and_leave-requires-clause-can g c = leave_call c.args.end c.loop-page.invariant.so_far c.loop-page.auto.page c.loop-page-test.true c.requires.can
 
 pub loop-page-preserved : goal.loop-page-preserved
 loop-page-preserved g c = let i = c.loop-page.invariant in

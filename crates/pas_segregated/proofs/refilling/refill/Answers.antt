@@ -1,4 +1,4 @@
-use Rattle.pas_segregated.proofs.Serve.{refills_ok, refills_err}
+use Rattle.pas_segregated.proofs.GivenUp.{refills_ok, refills_err}
 use Rattle.pas_segregated.proofs.refilling.refill.Goals as goal
 
 pub returns-in-Ok-clause-refills : goal.returns-in-Ok-clause-refills

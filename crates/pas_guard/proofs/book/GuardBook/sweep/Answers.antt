@@ -11,29 +11,29 @@ loop-place-init g c = let room = c.requires.room in record { so_far = swept_none
 pub goes_down-requires : goal.goes_down-requires
 goes_down-requires g c = let i = c.loop-place.invariant in let lt = c.loop-place-test.true in let many = ap length c.guards.ensures in
     let read = ap (λ (xs : List Guard). slice_index_or xs c.loop-place.place no_guard) c.guards-in-loop-place.ensures in record {
-      page = its_page c.args.all (guards_in c.args.self.now) (guards_in c.loop-place.self) c.loop-place.place (records_in c.args.lowered.now) (records_in c.loop-place.lowered) i.so_far (slice_index_or c.guards-in-loop-place.result.now c.loop-place.place no_guard) no_guard read (omega (arith, lt, many)) c.requires.can;
-      can = may_look c.args.all (guards_in c.args.self.now) (guards_in c.loop-place.self) c.loop-place.place (records_in c.args.lowered.now) (records_in c.loop-place.lowered) i.so_far (slice_index_or c.guards-in-loop-place.result.now c.loop-place.place no_guard) no_guard read (omega (arith, lt, many)) c.requires.can;
+      page = its_page i.so_far read (omega (arith, lt, many)) c.requires.can;
+      can = may_look i.so_far read (omega (arith, lt, many)) c.requires.can;
     }
 
 pub lower-requires : goal.lower-requires
 lower-requires g c = let i = c.loop-place.invariant in let lt = c.loop-place-test.true in let many = ap length c.guards.ensures in
     let read = ap (λ (xs : List Guard). slice_index_or xs c.loop-place.place no_guard) c.guards-in-loop-place.ensures in record {
-      can = can_lower_it c.args.all (guards_in c.args.self.now) (guards_in c.loop-place.self) c.loop-place.place (records_in c.args.lowered.now) (records_in c.loop-place.lowered) i.so_far (slice_index_or c.guards-in-loop-place.result.now c.loop-place.place no_guard) no_guard read (omega (arith, lt, many)) c.goes_down.ensures.looks c.requires.can;
+      can = can_lower_it i.so_far read (omega (arith, lt, many)) c.goes_down.ensures.looks c.requires.can;
     }
 
 pub loop-place-smaller-then-goes_down : goal.loop-place-smaller-then-goes_down
 loop-place-smaller-then-goes_down g c = let i = c.loop-place.invariant in let lt = c.loop-place-test.true in let many = ap length c.guards.ensures in
     let read = ap (λ (xs : List Guard). slice_index_or xs c.loop-place.place no_guard) c.guards-in-loop-place.ensures in
-    let less = one_less c.args.all (guards_in c.args.self.now) (guards_in c.loop-place.self) c.loop-place.place (records_in c.args.lowered.now) (records_in c.loop-place.lowered) i.so_far (slice_index_or c.guards-in-loop-place.result.now c.loop-place.place no_guard) no_guard read (omega (arith, lt, many)) (guards_in c.take_out.new.self) c.take_out.ensures.taken in
+    let less = one_less i.so_far read (omega (arith, lt, many)) c.take_out.ensures.taken in
     omega (arith, less, lt, many)
 
 pub loop-place-preserved-then-goes_down : goal.loop-place-preserved-then-goes_down
 loop-place-preserved-then-goes_down g c = let i = c.loop-place.invariant in let lt = c.loop-place-test.true in let many = ap length c.guards.ensures in
     let read = ap (λ (xs : List Guard). slice_index_or xs c.loop-place.place no_guard) c.guards-in-loop-place.ensures in
-    let less = one_less c.args.all (guards_in c.args.self.now) (guards_in c.loop-place.self) c.loop-place.place (records_in c.args.lowered.now) (records_in c.loop-place.lowered) i.so_far (slice_index_or c.guards-in-loop-place.result.now c.loop-place.place no_guard) no_guard read (omega (arith, lt, many)) (guards_in c.take_out.new.self) c.take_out.ensures.taken in
+    let less = one_less i.so_far read (omega (arith, lt, many)) c.take_out.ensures.taken in
     let more = ap length c.push.ensures.added in let n = length-append (records_in c.loop-place.lowered) (lowered_record c.actor-actor.result (slice_index_or c.guards-in-loop-place.result.now c.loop-place.place no_guard) ∷ []) in let room = i.room in let same = c.push.ensures.size in record {
-      so_far = it_goes c.args.all (guards_in c.args.self.now) (guards_in c.loop-place.self) c.loop-place.place (records_in c.args.lowered.now) (records_in c.loop-place.lowered) i.so_far (slice_index_or c.guards-in-loop-place.result.now c.loop-place.place no_guard) no_guard read (omega (arith, lt, many)) c.goes_down.ensures.looks c.if-goes_down.true c.lower.ensures.lowers
-          (guards_in c.take_out.new.self) (records_in c.push.new.self) c.take_out.ensures.taken (c.push.ensures.added ∙ ap (λ k. records_in c.loop-place.lowered ++ lowered_record k (slice_index_or c.guards-in-loop-place.result.now c.loop-place.place no_guard) ∷ []) c.actor-actor.ensures);
+      so_far = it_goes i.so_far read (omega (arith, lt, many)) c.goes_down.ensures.looks c.if-goes_down.true c.lower.ensures.lowers c.take_out.ensures.taken
+          (c.push.ensures.added ∙ ap (λ k. records_in c.loop-place.lowered ++ lowered_record k (slice_index_or c.guards-in-loop-place.result.now c.loop-place.place no_guard) ∷ []) c.actor-actor.ensures);
       actor = c.actor-actor.ensures;
       room = omega (arith, less, more, n, room, same, lt, many);
       rooms = same ∙ i.rooms;
@@ -44,7 +44,7 @@ loop-place-preserved-then-goes_down g c = let i = c.loop-place.invariant in let 
 pub loop-place-preserved : goal.loop-place-preserved
 loop-place-preserved g c = let i = c.loop-place.invariant in let lt = c.loop-place-test.true in let many = ap length c.guards.ensures in
     let read = ap (λ (xs : List Guard). slice_index_or xs c.loop-place.place no_guard) c.guards-in-loop-place.ensures in let room = i.room in record {
-      so_far = it_stays c.args.all (guards_in c.args.self.now) (guards_in c.loop-place.self) c.loop-place.place (records_in c.args.lowered.now) (records_in c.loop-place.lowered) i.so_far (slice_index_or c.guards-in-loop-place.result.now c.loop-place.place no_guard) no_guard read (omega (arith, lt, many)) c.goes_down.ensures.looks c.if-goes_down.false;
+      so_far = it_stays i.so_far read (omega (arith, lt, many)) c.goes_down.ensures.looks c.if-goes_down.false;
       actor = i.actor;
       room = omega (arith, room);
       rooms = i.rooms;
@@ -54,4 +54,4 @@ loop-place-preserved g c = let i = c.loop-place.invariant in let lt = c.loop-pla
 
 pub returns-clause-sweeps : goal.returns-clause-sweeps
 returns-clause-sweeps g c = let i = c.loop-place.invariant in let past = c.loop-place-test.false in let many = ap length c.guards.ensures in
-    swept_all c.args.all (guards_in c.args.self.now) (guards_in c.loop-place.self) c.loop-place.place (records_in c.args.lowered.now) (records_in c.loop-place.lowered) i.so_far (omega (arith, past, many))
+    swept_all i.so_far (omega (arith, past, many))
