@@ -1,14 +1,9 @@
 mod Aligning
-pub mod Valid
 pub mod Operations
-mod Traces
 pub mod Digits
 mod Splits
 mod Says
-mod Headers
-mod Reading
-mod Checks
+pub mod Checks
 mod Listed
-mod Steps
 mod Whole
-mod Plans
+mod Steps

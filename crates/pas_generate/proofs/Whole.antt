@@ -1,17 +1,53 @@
 -- The whole text is read, one operation after the other.
-use Rattle.std.proofs.Common.{◌≡◌, ◌≢◌, ℕ, zero, suc, ◌+◌, ◌*◌, ◌/◌, ◌%◌, ◌<◌, ◌≤◌, List, [], ◌∷◌, ◌++◌, length, codes, inl, inr, Ok, Err, refl, sym, ap, subst}
-use Rattle.std.proofs.Common.{◌∙◌, arith, ne_eqb, Global}
+use Rattle.std.proofs.Common.{◌≡◌, ℕ, ◌+◌, List, [], ◌++◌, add-one, append_assoc, refl, sym, ap, ◌∙◌, append-nil, ◌≢◌, zero, suc, ◌*◌, ◌/◌, ◌%◌, ◌<◌, ◌≤◌, ◌∷◌}
+use Rattle.std.proofs.Common.{length, codes, inl, inr, Ok, Err, subst, arith, ne_eqb, Global}
+use Rattle.pas_generate.specs.Operations.{State, first_state, operation_at, after_operation}
+use Rattle.pas_generate.specs.declared.operation.Operation.{Operation}
+use Rattle.pas_generate.specs.Lines.{line_of, header}
+use Rattle.pas_generate.specs.Traces.{state_after, lines_of, IsJob, trace_text}
 use Rattle.std.proofs.lemmas.{Bool.cases_eq, List.Elements.All-nil}
 use Rattle.pas_trace.specs.Plans.{parsed, IsPlanOf}
 use Rattle.pas_trace.specs.declared.{fault.TraceFault.TraceFault, plan.Plan.Plan, item.Item.Item, item.Item.TheVariants.Shares, item.Item.TheVariants.Scavenges}
 use Rattle.pas_trace.specs.declared.{item.Item.TheVariants.NextPhase, plan.Chore.Chore}
-use Rattle.pas_generate.specs.{Lines.header, Lines.line_of, Operations.State, Operations.operation_at, Operations.after_operation}
-use Rattle.pas_generate.specs.Traces.{IsJob, state_after, lines_of, trace_text}
-use Rattle.pas_generate.proofs.{Operations.tick_at, Operations.pass_at, Operations.drawn_at, Splits.lacks-by, Splits.line-then, Headers.header_words}
-use Rattle.pas_generate.proofs.{Headers.header-line, Headers.header-says, Plans.has-plan}
+use Rattle.pas_generate.proofs.{Operations.tick_at, Operations.pass_at, Operations.drawn_at, Splits.lacks-by, Splits.line-then}
+use Rattle.pas_generate.proofs.Says.{header_words, header-line, header-says, Reads, reads-none, reads-both, reads-line, parsed-by}
+use Rattle.pas_generate.proofs.Steps.{has-plan, Follows, Step, tick-step, pass-step, drawn-step}
 use Rattle.pas_generate.specs.Meant.{heading, with_drawn, with_operation, items_after, meant}
-use Rattle.pas_generate.proofs.Reading.{Reads, reads-none, reads-both, reads-line, parsed-by}
-use Rattle.pas_generate.proofs.Steps.{Follows, Step, tick-step, pass-step, drawn-step}
+
+-- ==== One operation more.
+
+-- The first state of a seed is that after no operation.
+pub no_state : (threads seed : ℕ) (s : State) → s ≡ first_state seed → s ≡ state_after threads seed 0
+unfolding state_after
+no_state threads seed s is = is
+
+-- The text after no operation is what stood in front.
+pub no_lines : (threads seed : ℕ) (text old front : List ℕ) → old ≡ [] → text ≡ old ++ front → text ≡ front ++ lines_of threads seed 0
+unfolding lines_of
+no_lines threads seed text old front empty is = is ∙ ap (λ (o : List ℕ). o ++ front) empty ∙ sym (append-nil front)
+
+state_step : (threads seed n : ℕ) → state_after threads seed (n + 1) ≡ after_operation threads (n + 1) (state_after threads seed n)
+unfolding state_after
+state_step threads seed n = rw add-one refl
+
+lines_step : (threads seed n : ℕ)
+    → lines_of threads seed (n + 1) ≡ lines_of threads seed n ++ line_of (operation_at threads (n + 1) (state_after threads seed n))
+unfolding lines_of
+lines_step threads seed n = rw add-one refl
+
+-- The state after one operation more follows from that before it.
+pub more_state : (threads seed n own : ℕ) (s now : State) → own ≡ threads → s ≡ state_after threads seed n → now ≡ after_operation own (n + 1) s
+    → now ≡ state_after threads seed (n + 1)
+more_state threads seed n own s now same is next = next ∙ (λ i. after_operation (same i) (n + 1) (is i)) ∙ sym (state_step threads seed n)
+
+-- The text of one operation more is that before with its line.
+pub more_lines : (threads seed n own : ℕ) (s : State) (made : Operation) (front text now : List ℕ) → own ≡ threads → s ≡ state_after threads seed n
+    → made ≡ operation_at own (n + 1) s → text ≡ front ++ lines_of threads seed n → now ≡ text ++ line_of made → now ≡ front ++ lines_of threads seed (n + 1)
+more_lines threads seed n own s made front text now same is made_is so_far next =
+    let planned : made ≡ operation_at threads (n + 1) (state_after threads seed n) = made_is ∙ (λ i. operation_at (same i) (n + 1) (is i)) in
+    next ∙ (λ i. so_far i ++ line_of (planned i)) ∙ append_assoc front (lines_of threads seed n) (line_of (operation_at threads (n + 1) (state_after threads seed n))) ∙ ap (λ (t : List ℕ). front ++ t) (sym (lines_step threads seed n))
+
+-- ==== The whole text is read, one operation after the other.
 
 -- ---- the operation of a number
 with-tick : (threads number : ℕ) (s : State) (items : List Item) → number % 1000 ≡ 999
@@ -34,7 +70,7 @@ same-step : (pages threads n : ℕ) (items : List Item) (text other : List ℕ) 
     → after ≡ later → Step pages threads n items other next later
     → Step pages threads n items text now after
 same-step pages threads n items text other now next after later t s a h =
-    subst (λ (x : List ℕ). Step pages threads n items x now after) (sym t) (subst (λ (x : State). Step pages threads n items other x after) (sym s) (subst (λ (x : List Item). Step pages threads n items other next x) (sym a) h))
+    rw (t, s, a) h
 
 operation-step : (ops threads pages n : ℕ) (s : State) (items : List Item) → IsJob ops threads pages → n < ops → Follows pages threads n s items
     → Step pages threads n items (line_of (operation_at threads (n + 1) s)) (after_operation threads (n + 1) s) (with_operation threads (n + 1) s items)

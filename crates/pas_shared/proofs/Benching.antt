@@ -1,22 +1,20 @@
 -- The rule of the shared words when a bench is laid out, looks and gives actors away; and for which lists a desk at a bench stands.
-use Rattle.std.proofs.Common.{suc, arith, List, [], ◌∷◌, ◌++◌, sym, subst, ◌≡◌, ◌≢◌, ◌⊎◌, inl, inr, ⊎_elim, ℕ, length, set, Bool, true, false, true≢false, eqb}
-use Rattle.std.proofs.Common.{eqb-true, eq-eqb, ne_eqb, refl, ap, ◌∙◌, if◌then◌else◌, append-nil, length-append}
-use Rattle.std.proofs.lemmas.List.{set-get_or}
-use mathlib.Core.Option.{some}
-use lib.ListN.{get_elem?}
+use Rattle.std.proofs.Common.{suc, arith, List, [], ◌∷◌, ◌++◌, sym, subst, ◌≡◌, ◌≢◌, ◌⊎◌, inl, inr, ⊎_elim, ℕ, length, Bool, true, false, true≢false, eqb-true}
+use Rattle.std.proofs.Common.{eq-eqb, refl, ap, ◌∙◌, append-nil, length-append}
+use Rattle.std.proofs.lemmas.Bool.{false_from_ne_true}
 use Rattle.atomic_table.specs.Table.{Me, keeps, Allows, Splits, Enters}
-use Rattle.atomic_table.proofs.Lists.{at_set}
 use Rattle.pas_profile.specs.declared.profile.Profile.{Profile}
 use Rattle.pas_steps.specs.{Views.View, Lists.Triple, Lists.Whole, Lists.part}
-use Rattle.pas_core.specs.{Orders.steps_by, WordLists.AreWordsAfter}
+use Rattle.pas_core.specs.Orders.{steps_by}
 use Rattle.pas_steps.specs.declared.step.Made.{Made}
 use Rattle.pas_steps.proofs.Parts.{part_of_own}
 use Rattle.pas_core.proofs.Choosing.{steps_by_nobody, no_steps_by_fewer, part_of_chosen, as_many_steps, steps_by_both}
 use Rattle.pas_shared.specs.declared.{bench.Member.Member, rule.Entry.Entry, rule.Row.Row, rule.Roster.Roster, rule.Roster.TheVariants.Benched}
-use Rattle.pas_shared.specs.Ruled.{Names, AreNamed, Holds, steps_of, among, made_in, HasRow, rows_in, row_with, with_made, only, only_this, leaver_of, alone}
-use Rattle.pas_shared.specs.Ruled.{isnt, row_of_only, left_of, picked_of, all_actors, IsEmptyBench, IsRowOf, AreRowsOf, SettlesAll}
+use Rattle.pas_shared.specs.Ruled.{Names, Holds, steps_of, among, made_in, HasRow, rows_in, row_with, with_made, only, only_this, leaver_of, alone, isnt}
+use Rattle.pas_shared.specs.Ruled.{row_of_only, left_of, picked_of, all_actors, IsEmptyBench, IsRowOf, AreRowsOf, SettlesAll}
 use Rattle.pas_shared.specs.Benches.{empty_row, SitsInRow, StandsOver}
-use Rattle.pas_shared.proofs.Ruling.{Apart, SawOf, RowsOf, nothing_seen, entries_for, entries_same, know_set, know_end, know_split, at_end}
+use Rattle.pas_shared.proofs.Pasts.{part_both}
+use Rattle.pas_shared.proofs.Ruling.{Fits, entries_for, entries_same, enter, learns, split_by, split_one}
 
 -- ---- a bench on which nobody sits
 empty_row_of : (l : Whole) → IsRowOf empty_row l
@@ -28,80 +26,21 @@ nobody_there k v (inr h) = h
 
 -- A bench that enters a region has no row.
 pub lays_out : (f : Profile) (slots i : ℕ) → Enters (Holds f) slots i (λ n w. IsEmptyBench (w, []))
-lays_out f slots i s h len fits = (
-  Benched (empty_row ∷ []),
-  record {
-    whole = h.whole;
-    legal = h.legal;
-    words_are = h.words_are;
-    own = h.own;
-    one_order = h.one_order;
-    seat_number = h.seat_number;
-    named = named;
-    apart = know_end Apart s.views (Benched (empty_row ∷ [])) h.apart tt;
-    seen = know_end (SawOf h.whole) s.views (Benched (empty_row ∷ [])) h.seen (nothing_seen h.whole);
-    rows = know_end (RowsOf h.whole) s.views (Benched (empty_row ∷ [])) h.rows (empty_row_of h.whole, tt);
-  },
-  refl,
-)
-  where
-    named : AreNamed h.own h.seat_number (s.views ++ Benched (empty_row ∷ []) ∷ [])
-    named j u k v e its = ⊎_elim
-        (λ was. h.named j u k v was its)
-        (λ (t : (j ≡ length s.views) × (Benched (empty_row ∷ []) ≡ u)). absurd (nobody_there k v (subst (λ (y : Roster). Names y k v) (sym t.1) its)))
-        (at_end s.views (Benched (empty_row ∷ [])) u j e)
+lays_out f slots i s h len fits = (Benched (empty_row ∷ []), enter h (Benched (empty_row ∷ [])) nobody_there (tt, tt, (empty_row_of h.whole, tt)), refl)
 
 -- ---- some get a bench of their own
-among_more : (n k : ℕ) (ns : List ℕ) → among ns k ≡ true → among (n ∷ ns) k ≡ true
-among_more n k ns h = at (eqb n k) refl
-  where
-    at : (b : Bool) → eqb n k ≡ b → among (n ∷ ns) k ≡ true
-    at true e = ap (λ (b : Bool). if b then true else among ns k) e
-    at false e = ap (λ (b : Bool). if b then true else among ns k) e ∙ h
-
-among_first : (n k : ℕ) (ns : List ℕ) → eqb n k ≡ true → among (n ∷ ns) k ≡ true
-among_first n k ns e = ap (λ (b : Bool). if b then true else among ns k) e
-
-among_rest : (n k : ℕ) (ns : List ℕ) → eqb n k ≡ false → among (n ∷ ns) k ≡ among ns k
-among_rest n k ns e = ap (λ (b : Bool). if b then true else among ns k) e
-
 -- those that a test picks
 pub among_only : (test : ℕ → Bool) (ns : List ℕ) (k : ℕ) → among (only test ns) k ≡ true → (among ns k ≡ true) × (test k ≡ true)
 among_only test [] k h = absurd (true≢false (sym h))
-among_only test (n ∷ ns) k h = at (among_only test ns k) (test n) refl
-  where
-    first : (among (only test ns) k ≡ true → (among ns k ≡ true) × (test k ≡ true)) → test n ≡ true → among (n ∷ only test ns) k ≡ true → (b : Bool)
-        → eqb n k ≡ b → (among (n ∷ ns) k ≡ true) × (test k ≡ true)
-    first again its h true e = (among_first n k ns e, ap test (sym (eqb-true n k e)) ∙ its)
-    first again its h false e = let rest = again (sym (among_rest n k (only test ns) e) ∙ h) in (among_more n k ns rest.0, rest.1)
-
-    at : (among (only test ns) k ≡ true → (among ns k ≡ true) × (test k ≡ true)) → (b : Bool) → test n ≡ b → (among (n ∷ ns) k ≡ true) × (test k ≡ true)
-    at again true e = first again e (sym (ap (λ (b : Bool). among (if b then n ∷ only test ns else only test ns) k) e) ∙ h) (eqb n k) refl
-    at again false e = let rest = again (sym (ap (λ (b : Bool). among (if b then n ∷ only test ns else only test ns) k) e) ∙ h) in (among_more n k ns rest.0, rest.1)
+among_only test (n ∷ ns) k h = let again = among_only test ns k in grind (arith, eqb-true, again)
 
 -- An actor that passes a test is among the picked ones.
 pub among_picked : (test : ℕ → Bool) (ns : List ℕ) (k : ℕ) → among ns k ≡ true → test k ≡ true → among (only test ns) k ≡ true
 among_picked test [] k h its = absurd (true≢false (sym h))
-among_picked test (n ∷ ns) k h its = at (among_picked test ns k) (test n) refl
-  where
-    kept : (among ns k ≡ true → test k ≡ true → among (only test ns) k ≡ true) → (b : Bool) → eqb n k ≡ b → among (n ∷ only test ns) k ≡ true
-    kept again true e = among_first n k (only test ns) e
-    kept again false e = among_rest n k (only test ns) e ∙ again (sym (among_rest n k ns e) ∙ h) its
-
-    dropped : (among ns k ≡ true → test k ≡ true → among (only test ns) k ≡ true) → test n ≡ false → (b : Bool) → eqb n k ≡ b → among (only test ns) k ≡ true
-    dropped again other true e = absurd (true≢false (sym its ∙ (ap test (sym (eqb-true n k e)) ∙ other)))
-    dropped again other false e = again (sym (among_rest n k ns e) ∙ h) its
-
-    at : (among ns k ≡ true → test k ≡ true → among (only test ns) k ≡ true) → (b : Bool) → test n ≡ b → among (only test (n ∷ ns)) k ≡ true
-    at again true e = ap (λ (b : Bool). among (if b then n ∷ only test ns else only test ns) k) e ∙ kept again (eqb n k) refl
-    at again false e = ap (λ (b : Bool). among (if b then n ∷ only test ns else only test ns) k) e ∙ dropped again e (eqb n k) refl
+among_picked test (n ∷ ns) k h its = let again = among_picked test ns k in grind (arith, eqb-true, again)
 
 isnt_true : (test : ℕ → Bool) (k : ℕ) → isnt test k ≡ true → test k ≡ false
-isnt_true test k h = at (test k) refl
-  where
-    at : (b : Bool) → test k ≡ b → test k ≡ false
-    at true e = absurd (true≢false (sym h ∙ ap (λ (b : Bool). if b then false else true) e))
-    at false e = e
+isnt_true test k h = grind arith
 
 -- a row of fewer actors, none of which made a step
 row_of_fewer : (test : ℕ → Bool) (r : Row) (l : Whole) → r.made ≡ [] → IsRowOf r l → IsRowOf (row_of_only test r) l
@@ -111,136 +50,39 @@ row_of_fewer test r l none h = record {
   made_is = no_steps_by_fewer (among (only test r.actors)) (among r.actors) h.since (λ k its. (among_only test r.actors k its).0) (h.made_is ∙ ap steps_of none) ∙ sym (ap steps_of none);
 }
 
+-- The row with some of its actors names these, with what they made.
+only_names : (test : ℕ → Bool) (r : Row) (k : ℕ) (v : View) → HasRow (row_of_only test r ∷ []) k v
+    → (among (only test r.actors) k ≡ true) × (test k ≡ true) × HasRow (r ∷ []) k v
+only_names test r k v (inl p) = let its = among_only test r.actors k p.0 in (p.0, its.1, inl (its.0, p.1))
+only_names test r k v (inr p) = absurd p
+
+row_fits : (test : ℕ → Bool) (r : Row) (l : Whole) → r.made ≡ [] → AreRowsOf (r ∷ []) l → Fits l (Benched (row_of_only test r ∷ []))
+row_fits test r l none rows = (tt, tt, (row_of_fewer test r l none rows.0, tt))
+
 gives : (f : Profile) (id : ℕ) (test : ℕ → Bool) (r : Row) → r.made ≡ []
     → Splits (Holds f) id (Benched (r ∷ [])) (Benched (row_of_only (isnt test) r ∷ [])) (Benched (row_of_only test r ∷ []))
-gives f id test r none s h there = record {
-  whole = h.whole;
-  legal = h.legal;
-  words_are = h.words_are;
-  own = h.own;
-  one_order = h.one_order;
-  seat_number = seat_number;
-  named = all_named;
-  apart = know_split Apart s.views id stays goes h.apart tt tt;
-  seen = know_split (SawOf h.whole) s.views id stays goes h.seen (nothing_seen h.whole) (nothing_seen h.whole);
-  rows = know_split (RowsOf h.whole) s.views id stays goes h.rows (row_of_fewer (isnt test) r h.whole none (h.rows id (Benched (r ∷ [])) there).0, tt) (row_of_fewer test r h.whole none (h.rows id (Benched (r ∷ [])) there).0, tt);
-}
-  where
-    stays : Roster
-    stays = Benched (row_of_only (isnt test) r ∷ [])
-
-    goes : Roster
-    goes = Benched (row_of_only test r ∷ [])
-
-    k : ℕ
-    k = length (set s.views id stays)
-
-    seat_number : ℕ → ℕ
-    seat_number b = (if among (only test r.actors) b then k else h.seat_number b)
-
-    moved : (b : ℕ) → among (only test r.actors) b ≡ true → seat_number b ≡ k
-    moved b e = ap (λ c. if c then k else h.seat_number b) e
-
-    still : (b i : ℕ) → (c : Bool) → among (only test r.actors) b ≡ c → (among (only test r.actors) b ≡ true → ⊥) → h.seat_number b ≡ i → seat_number b ≡ i
-    still b i true e never its = absurd (never e)
-    still b i false e never its = ap (λ c. if c then k else h.seat_number b) e ∙ its
-
-    own : (b : ℕ) → among r.actors b ≡ true → (h.seat_number b ≡ id) × (h.own b ≡ made_in r b)
-    own b its = h.named id (Benched (r ∷ [])) b (made_in r b) there (inl (its, refl))
-
-    stayed : (i b : ℕ) (x : View) → i ≡ id → HasRow (row_of_only (isnt test) r ∷ []) b x → (seat_number b ≡ i) × (h.own b ≡ x)
-    stayed i b x z (inl p) =
-        let its = among_only (isnt test) r.actors b p.0 in
-        let old = own b its.0 in
-        (still b i (among (only test r.actors) b) refl (λ picked. true≢false (sym (among_only test r.actors b picked).1 ∙ isnt_true test b its.1)) (old.0 ∙ sym z), old.1 ∙ p.1)
-    stayed i b x z (inr p) = absurd p
-
-    went : (i b : ℕ) (x : View) → i ≡ k → HasRow (row_of_only test r ∷ []) b x → (seat_number b ≡ i) × (h.own b ≡ x)
-    went i b x z (inl p) = (moved b p.0 ∙ sym z, (own b (among_only test r.actors b p.0).0).1 ∙ p.1)
-    went i b x z (inr p) = absurd p
-
-    kept : (i : ℕ) (y : Roster) (b : ℕ) (x : View) → Names y b x → ((i ≡ id) × (stays ≡ y)) ⊎ ((i ≢ id) × (get_elem? s.views i ≡ some y))
-        → (seat_number b ≡ i) × (h.own b ≡ x)
-    kept i y b x named (inl t) = stayed i b x t.0 (subst (λ (z : Roster). Names z b x) (sym t.1) named)
-    kept i y b x named (inr t) =
-        let old = h.named i y b x t.1 named in
-        (still b i (among (only test r.actors) b) refl (λ picked. t.0 (sym old.0 ∙ (own b (among_only test r.actors b picked).0).0)) old.0, old.1)
-
-    all_named : AreNamed h.own seat_number (set s.views id stays ++ goes ∷ [])
-    all_named i y b x e named = ⊎_elim
-        (λ was. kept i y b x named (at_set s.views id i stays y was))
-        (λ (t : (i ≡ k) × (goes ≡ y)). went i b x t.0 (subst (λ (z : Roster). Names z b x) (sym t.1) named))
-        (at_end (set s.views id stays) goes y i e)
+gives f id test r none s h there =
+    let rows = h.rows id (Benched (r ∷ [])) there in
+    let stay : (k : ℕ) (v : View) → HasRow (row_of_only (isnt test) r ∷ []) k v → (among (only test r.actors) k ≡ false) × HasRow (r ∷ []) k v = λ k v named.
+    let p = only_names (isnt test) r k v named in
+    (false_from_ne_true (among (only test r.actors) k) (λ picked. true≢false (sym (among_only test r.actors k picked).1 ∙ isnt_true test k p.1)), p.2) in
+    split_by h id (Benched (r ∷ [])) (Benched (row_of_only (isnt test) r ∷ [])) (Benched (row_of_only test r ∷ [])) (among (only test r.actors)) there stay
+    (λ k v named. let p = only_names test r k v named in (p.0, p.2))
+    (λ k e. (h.named id (Benched (r ∷ [])) k (made_in r k) there (inl ((among_only test r.actors k e).0, refl))).0)
+    (row_fits (isnt test) r h.whole none rows) (row_fits test r h.whole none rows)
 
 -- ---- one gets a seat for itself
 leaves : (f : Profile) (id k : ℕ) (r : Row) → r.made ≡ [] → among r.actors k ≡ true
     → Splits (Holds f) id (Benched (r ∷ [])) (Benched (row_of_only (isnt (only_this k)) r ∷ [])) (alone k (made_in r k))
-leaves f id a r none sits s h there = record {
-  whole = h.whole;
-  legal = h.legal;
-  words_are = h.words_are;
-  own = h.own;
-  one_order = h.one_order;
-  seat_number = seat_number;
-  named = all_named;
-  apart = know_split Apart s.views id stays goes h.apart tt ((λ x none. none), tt);
-  seen = know_split (SawOf h.whole) s.views id stays goes h.seen (nothing_seen h.whole) (nothing_seen h.whole);
-  rows = know_split (RowsOf h.whole) s.views id stays goes h.rows (row_of_fewer (isnt (only_this a)) r h.whole none (h.rows id (Benched (r ∷ [])) there).0, tt) tt;
-}
-  where
-    stays : Roster
-    stays = Benched (row_of_only (isnt (only_this a)) r ∷ [])
-
-    goes : Roster
-    goes = alone a (made_in r a)
-
-    k : ℕ
-    k = length (set s.views id stays)
-
-    seat_number : ℕ → ℕ
-    seat_number b = (if eqb b a then k else h.seat_number b)
-
-    moved : (b : ℕ) → a ≡ b → seat_number b ≡ k
-    moved b e = ap (λ c. if c then k else h.seat_number b) (eq-eqb b a (sym e))
-
-    still : (b i : ℕ) → b ≢ a → h.seat_number b ≡ i → seat_number b ≡ i
-    still b i ne its = ap (λ c. if c then k else h.seat_number b) (ne_eqb b a ne) ∙ its
-
-    own : (b : ℕ) → among r.actors b ≡ true → (h.seat_number b ≡ id) × (h.own b ≡ made_in r b)
-    own b its = h.named id (Benched (r ∷ [])) b (made_in r b) there (inl (its, refl))
-
-    stayed : (i b : ℕ) (x : View) → i ≡ id → HasRow (row_of_only (isnt (only_this a)) r ∷ []) b x → (seat_number b ≡ i) × (h.own b ≡ x)
-    stayed i b x z (inl p) =
-        let its = among_only (isnt (only_this a)) r.actors b p.0 in
-        let old = own b its.0 in
-        (still b i (λ e. true≢false (sym (eq-eqb b a e) ∙ isnt_true (only_this a) b its.1)) (old.0 ∙ sym z), old.1 ∙ p.1)
-    stayed i b x z (inr p) = absurd p
-
-    went : (i b : ℕ) (x : View) → i ≡ k → Names goes b x → (seat_number b ≡ i) × (h.own b ≡ x)
-    went i b x z (inl p) = (moved b p.0 ∙ sym z, subst (λ (c : ℕ). h.own c ≡ x) p.0 ((own a sits).1 ∙ p.1))
-    went i b x z (inr p) = absurd p
-
-    kept : (i : ℕ) (y : Roster) (b : ℕ) (x : View) → Names y b x → ((i ≡ id) × (stays ≡ y)) ⊎ ((i ≢ id) × (get_elem? s.views i ≡ some y))
-        → (seat_number b ≡ i) × (h.own b ≡ x)
-    kept i y b x named (inl t) = stayed i b x t.0 (subst (λ (z : Roster). Names z b x) (sym t.1) named)
-    kept i y b x named (inr t) =
-        let old = h.named i y b x t.1 named in
-        (still b i (λ e. t.0 (sym old.0 ∙ (ap h.seat_number e ∙ (own a sits).0))) old.0, old.1)
-
-    all_named : AreNamed h.own seat_number (set s.views id stays ++ goes ∷ [])
-    all_named i y b x e named = ⊎_elim
-        (λ was. kept i y b x named (at_set s.views id i stays y was))
-        (λ (t : (i ≡ k) × (goes ≡ y)). went i b x t.0 (subst (λ (z : Roster). Names z b x) (sym t.1) named))
-        (at_end (set s.views id stays) goes y i e)
+leaves f id a r none sits s h there =
+    split_one h id (Benched (r ∷ [])) (Benched (row_of_only (isnt (only_this a)) r ∷ [])) a (made_in r a) there (inl (sits, refl))
+    (λ k v named. let p = only_names (isnt (only_this a)) r k v named in ((λ e. true≢false (sym (eq-eqb k a e) ∙ isnt_true (only_this a) k p.1)), p.2))
+    (row_fits (isnt (only_this a)) r h.whole none (h.rows id (Benched (r ∷ [])) there))
 
 -- ---- a look
 among_both : (ms ns : List ℕ) (k : ℕ) → among (ms ++ ns) k ≡ true → (among ms k ≡ true) ⊎ (among ns k ≡ true)
 among_both [] ns k h = inr h
-among_both (m ∷ ms) ns k h = at (among_both ms ns k) (eqb m k) refl
-  where
-    at : (among (ms ++ ns) k ≡ true → (among ms k ≡ true) ⊎ (among ns k ≡ true)) → (b : Bool) → eqb m k ≡ b → (among (m ∷ ms) k ≡ true) ⊎ (among ns k ≡ true)
-    at again true e = inl (among_first m k ms e)
-    at again false e = ⊎_elim (λ its. inl (among_more m k ms its)) inr (again (sym (among_rest m k (ms ++ ns) e) ∙ h))
+among_both (m ∷ ms) ns k h = let again = among_both ms ns k in grind (arith, again)
 
 has_a_row : (rs : List Row) (k : ℕ) → among (all_actors rs) k ≡ true → (v : View) × HasRow rs k v
 has_a_row [] k h = absurd (true≢false (sym h))
@@ -251,18 +93,7 @@ settles f slots id i rs s h len there fits = (
   now,
   keeps,
   tt,
-  record {
-    whole = h.whole;
-    legal = h.legal;
-    words_are = subst (λ (ws : List ℕ). AreWordsAfter f ws h.whole) (sym (set-get_or s.words i 0)) h.words_are;
-    own = h.own;
-    one_order = h.one_order;
-    seat_number = h.seat_number;
-    named = named;
-    apart = know_set Apart s.views id now h.apart tt;
-    seen = know_set (SawOf h.whole) s.views id now h.seen (nothing_seen h.whole);
-    rows = know_set (RowsOf h.whole) s.views id now h.rows (record { since = []; goes_on = sym same; made_is = refl }, tt);
-  },
+  learns h i id now its (tt, tt, (record { since = []; goes_on = sym same; made_is = refl }, tt)),
   record {
     entries = entries_for h.whole;
     after_is = refl;
@@ -273,24 +104,15 @@ settles f slots id i rs s h len there fits = (
     same : steps_of (entries_for h.whole) ≡ h.whole
     same = entries_same h.whole
 
-    row : Row
-    row = record { actors = all_actors rs; made = []; base = entries_for h.whole }
-
     now : Roster
-    now = Benched (row ∷ [])
+    now = Benched (record { actors = all_actors rs; made = []; base = entries_for h.whole } ∷ [])
 
-    its : (k : ℕ) (v : View) → HasRow (row ∷ []) k v → (h.seat_number k ≡ id) × (h.own k ≡ v)
+    its : (k : ℕ) (v : View) → Names now k v → (h.seat_number k ≡ id) × (h.own k ≡ v)
     its k v (inl p) =
         let one = has_a_row rs k p.0 in
         let old = h.named id (Benched rs) k one.0 there one.1 in
         (old.0, sym (h.one_order k) ∙ (sym (ap (part k) same) ∙ p.1))
     its k v (inr p) = absurd p
-
-    named : AreNamed h.own h.seat_number (set s.views id now)
-    named j u k v e has = ⊎_elim
-        (λ (t : (j ≡ id) × (now ≡ u)). let old = its k v (subst (λ (y : Roster). Names y k v) (sym t.1) has) in (old.0 ∙ sym t.0, old.1))
-        (λ (t : (j ≢ id) × (get_elem? s.views j ≡ some u)). h.named j u k v t.1 has)
-        (at_set s.views id j now u e)
 
 -- ---- at a seat that is known by an equation
 pub gives_as : (f : Profile) (id : ℕ) (test : ℕ → Bool) (me : Me (Unit {0}) Roster) (r : Row) → me ≡ (Benched (rows_in me.0), []) → rows_in me.0 ≡ r ∷ []
@@ -359,14 +181,6 @@ leaves_as f id k me r benched is none sits =
     subst (λ (m : Me (Unit {0}) Roster). Splits (Holds f) id m.0 (left_of (only_this k) m.0) (leaver_of k m.0)) (sym (benched ∙ ap (λ (rs : List Row). (Benched rs, [])) is)) (leaves f id k r none sits)
 
 -- ---- each actor's part of a list for which a desk of the row stands
-part_both : (k : ℕ) (l m : Whole) → part k (l ++ m) ≡ part k l ++ part k m
-part_both k [] m = refl
-part_both k (t ∷ l) m = at (part_both k l m) (eqb t.actor k) refl
-  where
-    at : part k (l ++ m) ≡ part k l ++ part k m → (b : Bool) → eqb t.actor k ≡ b → part k (t ∷ (l ++ m)) ≡ part k (t ∷ l) ++ part k m
-    at again true e = ap (λ (b : Bool). if b then t.made ∷ part k (l ++ m) else part k (l ++ m)) e ∙ (ap (λ (v : View). t.made ∷ v) again ∙ sym (ap (λ (b : Bool). (if b then t.made ∷ part k l else part k l) ++ part k m) e))
-    at again false e = ap (λ (b : Bool). if b then t.made ∷ part k (l ++ m) else part k (l ++ m)) e ∙ (again ∙ sym (ap (λ (b : Bool). (if b then t.made ∷ part k l else part k l) ++ part k m) e))
-
 -- A row that stands over a list says of each actor what the list tells.
 pub row_tells : (r : Row) (l : Whole) (k : ℕ) → StandsOver r l → among r.actors k ≡ true → part k l ≡ made_in r k
 row_tells r l k h its = search (arith, part_of_chosen, part_both)

@@ -1,6 +1,6 @@
 -- The rule of the shared words, step by step and at the close.
-use Rattle.std.proofs.Common.{◌==◌, eqb-true, true≢false, List, [], ◌∷◌, ◌++◌, sym, subst, ◌≡◌, ◌≢◌, ◌⊎◌, inl, inr, ⊎_elim, ℕ, suc, zero, ◌+◌, ◌<◌, ◌≤◌, length}
-use Rattle.std.proofs.Common.{set, Bool, true, false, eqb, eq-eqb, ne_eqb, refl, ap, ◌∙◌, arith, if◌then◌else◌, get_or, append-nil, slice_index, slice_set}
+use Rattle.std.proofs.Common.{◌==◌, eqb-true, List, [], ◌∷◌, ◌++◌, sym, subst, ◌≡◌, ◌≢◌, ◌⊎◌, inl, inr, ⊎_elim, ℕ, suc, zero, ◌+◌, ◌<◌, ◌≤◌, length, set, Bool}
+use Rattle.std.proofs.Common.{true, false, eqb, eq-eqb, ne_eqb, refl, ap, ◌∙◌, arith, if◌then◌else◌, get_or, append-nil, slice_index, slice_set}
 use Rattle.pas_profile.specs.{Profiles.IsValid, Layouts.index_of, Layouts.words_of, Profiles.IsWordOf}
 use Rattle.pas_profile.specs.declared.{event.Event.Event, profile.Profile.Profile, word.Word.Word}
 use Rattle.pas_machine.specs.Machine.{Run}
@@ -13,7 +13,7 @@ use Rattle.pas_core.proofs.{Choosing.steps_by_one}
 use Rattle.pas_core.proofs.Rights.{right_in_one_place, free_without_deed, free_known, deeds_known, backed_known}
 use Rattle.pas_core.proofs.Stamps.{ends_stamped, unstamped_is_held, stamp_known, epoch_known}
 use Rattle.pas_shared.specs.{Kept.IsGood, Kept.NoneIsEarly, Left.IsLeftBy}
-use Rattle.std.proofs.lemmas.{Bool.cases_eq, List.set-get_or, List.Elements.All-weaker}
+use Rattle.std.proofs.lemmas.{Bool.cases_eq, Bool.false_from_ne_true, List.set-get_or, List.Elements.All-weaker}
 use prog.Atomic.{either}
 use mathlib.Core.Option.{some, some-injective, some-ne-none}
 use lib.ListN.{get_elem?}
@@ -75,16 +75,7 @@ sits_named : (u : Roster) (k : ℕ) (v : View) → SitsFor u k v → Names u k v
 sits_named u k v h = grind arith
 
 view_with : (own : ℕ → View) (k : ℕ) (m : Made) (l : Whole) (b : ℕ) → own b ≡ part b l → with_step k m own b ≡ part b (triple k m ∷ l)
-view_with own k m l b is = ⊎_elim here there (cases_eq b k)
-  where
-    at_own : own k ≡ part k l → with_step k m own k ≡ part k (triple k m ∷ l)
-    at_own e = with_step_own k m own ∙ (ap (λ (v : View). m ∷ v) e ∙ sym (part_of_own k (m ∷ []) l))
-
-    here : b ≡ k → with_step k m own b ≡ part b (triple k m ∷ l)
-    here e = subst (λ (j : ℕ). with_step k m own j ≡ part j (triple k m ∷ l)) (sym e) (at_own (ap own (sym e) ∙ (is ∙ ap (λ (j : ℕ). part j l) e)))
-
-    there : b ≢ k → with_step k m own b ≡ part b (triple k m ∷ l)
-    there ne = with_step_others b k m own ne ∙ (is ∙ sym (part_of_others b k (m ∷ []) l (λ e. ne (sym e))))
+view_with own k m l b is = search (arith, cases_eq, with_step_own, with_step_others, part_of_own, part_of_others)
 
 -- all whom the seat names are at it, with their own lists
 abbrev IsNamedAt : (ℕ → View) → (ℕ → ℕ) → ℕ → Roster → Type 0
@@ -120,7 +111,7 @@ grows own seat_number rosters id k v m u h at sits i y b x e named = ⊎_elim
     there ne p = (p.0, with_step_others b k m own (λ z. ne (sym p.0 ∙ (ap seat_number z ∙ (h id u k v at (sits_named u k v sits)).0))) ∙ p.1)
 
 -- ---- what is so of all seats
-pub know_set : (P : Roster → Type 0) (rosters : List Roster) (id : ℕ) (w : Roster) → AllKnow P rosters → P w → AllKnow P (set rosters id w)
+know_set : (P : Roster → Type 0) (rosters : List Roster) (id : ℕ) (w : Roster) → AllKnow P rosters → P w → AllKnow P (set rosters id w)
 know_set P rosters id w all new i u e = ⊎_elim (λ (t : (i ≡ id) × (w ≡ u)). subst P t.1 new) (λ (t : (i ≢ id) × (get_elem? rosters i ≡ some u)). all i u t.1) (at_set rosters id i w u e)
 
 -- .. where it is so anew of all but the one that changed
@@ -135,11 +126,39 @@ abbrev pub SawOf : Whole → Roster → Type 0
 SawOf l u = AreEarlier (looks_in u) l
 
 -- What saw nothing saw the first steps of each list.
-pub nothing_seen : (l : Whole) → AreEarlier [] l
+nothing_seen : (l : Whole) → AreEarlier [] l
 nothing_seen l = tt
 
 abbrev pub RowsOf : Whole → Roster → Type 0
 RowsOf l u = AreRowsOf (rows_in u) l
+
+-- what the rule says of a roster beside whom it names
+abbrev pub Fits : Whole → Roster → Type 0
+Fits l u = Apart u × SawOf l u × RowsOf l u
+
+-- A seat of one actor that saw nothing fits every list.
+alone_fits : (l : Whole) (k : ℕ) (v : View) → Fits l (alone k v)
+alone_fits l k v = (((λ x none. none), tt), tt, tt)
+
+-- The rosters of the rule fit its list.
+all_fit : {f : Profile} {words : List ℕ} {rosters : List Roster} (h : AreAfterOneList f words rosters) → AllKnow (Fits h.whole) rosters
+all_fit h i u e = (h.apart i u e, h.seen i u e, h.rows i u e)
+
+-- The rule goes on with other rosters where words and list stay.
+seated : {f : Profile} {words : List ℕ} {rosters : List Roster} (h : AreAfterOneList f words rosters) (now : List Roster) (seat_number : ℕ → ℕ)
+    → AreNamed h.own seat_number now → AllKnow (Fits h.whole) now → AreAfterOneList f words now
+seated h now seat_number named fit = record {
+  whole = h.whole;
+  legal = h.legal;
+  words_are = h.words_are;
+  own = h.own;
+  one_order = h.one_order;
+  seat_number = seat_number;
+  named = named;
+  apart = λ i u e. (fit i u e).0;
+  seen = λ i u e. (fit i u e).1;
+  rows = λ i u e. (fit i u e).2;
+}
 
 -- what was seen at the first look
 pub first_earlier : (looks : List (List Entry)) (l : Whole) → AreEarlier looks l → IsEarlier (first_look looks) l
@@ -307,71 +326,76 @@ either_if true x y = refl
 either_if false x y = refl
 
 -- ---- a split
-pub at_end : {A : Type 0} (l : List A) (a b : A) (j : ℕ) → get_elem? (l ++ a ∷ []) j ≡ some b → (get_elem? l j ≡ some b) ⊎ ((j ≡ length l) × (a ≡ b))
+at_end : {A : Type 0} (l : List A) (a b : A) (j : ℕ) → get_elem? (l ++ a ∷ []) j ≡ some b → (get_elem? l j ≡ some b) ⊎ ((j ≡ length l) × (a ≡ b))
 at_end [] a b zero e = inr (refl, some-injective a b e)
 at_end [] a b (suc j) e = absurd (some-ne-none b (sym e))
 at_end (x ∷ xs) a b zero e = inl e
 at_end (x ∷ xs) a b (suc j) e = ⊎_elim inl (λ (t : (j ≡ length xs) × (a ≡ b)). inr (ap suc t.0, t.1)) (at_end xs a b j e)
 
 -- One more roster that is so makes all of them so.
-pub know_end : (P : Roster → Type 0) (rosters : List Roster) (w : Roster) → AllKnow P rosters → P w → AllKnow P (rosters ++ w ∷ [])
+know_end : (P : Roster → Type 0) (rosters : List Roster) (w : Roster) → AllKnow P rosters → P w → AllKnow P (rosters ++ w ∷ [])
 know_end P rosters w all new i u e = ⊎_elim (λ was. all i u was) (λ (t : (i ≡ length rosters) × (w ≡ u)). subst P t.1 new) (at_end rosters w u i e)
 
 -- .. of the one whose view is cut in two, and of the new one
-pub know_split : (P : Roster → Type 0) (rosters : List Roster) (id : ℕ) (left right : Roster) → AllKnow P rosters → P left → P right
+know_split : (P : Roster → Type 0) (rosters : List Roster) (id : ℕ) (left right : Roster) → AllKnow P rosters → P left → P right
     → AllKnow P (set rosters id left ++ right ∷ [])
 know_split P rosters id left right all one other = know_end P (set rosters id left) right (know_set P rosters id left all one) other
 
--- The first of the actors that nobody used may be taken away.
-pub splits : (f : Profile) (id n : ℕ) → Splits (Holds f) id (Unused n) (all_but_first (Unused n)) (first_alone (Unused n))
-splits f id n s h there = record {
-  whole = h.whole;
-  legal = h.legal;
-  words_are = h.words_are;
-  own = h.own;
-  one_order = h.one_order;
-  seat_number = seat_number;
-  named = all_named;
-  apart = know_split Apart s.views id (Unused (n + 1)) (alone n []) h.apart tt ((λ x none. none), tt);
-  seen = know_split (SawOf h.whole) s.views id (Unused (n + 1)) (alone n []) h.seen (nothing_seen h.whole) (nothing_seen h.whole);
-  rows = know_split (RowsOf h.whole) s.views id (Unused (n + 1)) (alone n []) h.rows tt tt;
-}
+-- The actors of a seat whom a test tells get a new one.
+pub split_by : {f : Profile} {words : List ℕ} {rosters : List Roster} (h : AreAfterOneList f words rosters) (id : ℕ) (u stays goes : Roster) (went : ℕ → Bool)
+    → get_elem? rosters id ≡ some u
+    → ((k : ℕ) (v : View) → Names stays k v → (went k ≡ false) × Names u k v)
+    → ((k : ℕ) (v : View) → Names goes k v → (went k ≡ true) × Names u k v)
+    → ((k : ℕ) → went k ≡ true → h.seat_number k ≡ id)
+    → Fits h.whole stays → Fits h.whole goes → AreAfterOneList f words (set rosters id stays ++ goes ∷ [])
+split_by {rosters = rosters} h id u stays goes went there stay go its one other =
+    seated h (set rosters id stays ++ goes ∷ []) seat_number all_named (know_split (Fits h.whole) rosters id stays goes (all_fit h) one other)
   where
     k : ℕ
-    k = length (set s.views id (Unused (n + 1)))
+    k = length (set rosters id stays)
 
     seat_number : ℕ → ℕ
-    seat_number b = (if eqb b n then k else h.seat_number b)
+    seat_number b = (if went b then k else h.seat_number b)
 
-    as_was : (b i : ℕ) → b ≢ n → h.seat_number b ≡ i → seat_number b ≡ i
-    as_was b i ne e = ap (λ c. if c then k else h.seat_number b) (ne_eqb b n ne) ∙ e
+    as_was : (b i : ℕ) → went b ≡ false → h.seat_number b ≡ i → seat_number b ≡ i
+    as_was b i e is = ap (λ c. if c then k else h.seat_number b) e ∙ is
 
-    mine_now : (b : ℕ) → n ≡ b → seat_number b ≡ k
-    mine_now b e = ap (λ c. if c then k else h.seat_number b) (eq-eqb b n (sym e))
-
-    own : h.seat_number n ≡ id
-    own = (h.named id (Unused n) n [] there (omega arith, refl)).0
-
-    kept : (i : ℕ) (u : Roster) (b : ℕ) (x : View) → Names u b x → ((i ≡ id) × (Unused (n + 1) ≡ u)) ⊎ ((i ≢ id) × (get_elem? s.views i ≡ some u))
+    kept : (i : ℕ) (y : Roster) (b : ℕ) (x : View) → Names y b x → ((i ≡ id) × (stays ≡ y)) ⊎ ((i ≢ id) × (get_elem? rosters i ≡ some y))
         → (seat_number b ≡ i) × (h.own b ≡ x)
-    kept i u b x named (inl t) =
-        let q : (n + 1 ≤ b) × (x ≡ []) = subst (λ (y : Roster). Names y b x) (sym t.1) named in
-        let le = q.0 in
-        let old = h.named id (Unused n) b x there (omega arith, q.1) in
-        (as_was b i (λ e. omega arith) (old.0 ∙ sym t.0), old.1)
-    kept i u b x named (inr t) =
-        let old = h.named i u b x t.1 named in
-        (as_was b i (λ e. t.0 (sym old.0 ∙ (ap h.seat_number e ∙ own))) old.0, old.1)
+    kept i y b x named (inl t) =
+        let p = stay b x (subst (λ (z : Roster). Names z b x) (sym t.1) named) in
+        let old = h.named id u b x there p.1 in
+        (as_was b i p.0 (old.0 ∙ sym t.0), old.1)
+    kept i y b x named (inr t) =
+        let old = h.named i y b x t.1 named in
+        (as_was b i (false_from_ne_true (went b) (λ e. t.0 (sym old.0 ∙ its b e))) old.0, old.1)
 
-    new : (i : ℕ) (u : Roster) (b : ℕ) (x : View) → i ≡ k → Names (alone n []) b x → (seat_number b ≡ i) × (h.own b ≡ x)
-    new i u b x z (inl p) = (mine_now b p.0 ∙ sym z, (h.named id (Unused n) b x there (let e = p.0 in omega arith, sym p.1)).1)
-    new i u b x z (inr p) = absurd p
+    new : (i b : ℕ) (x : View) → i ≡ k → Names goes b x → (seat_number b ≡ i) × (h.own b ≡ x)
+    new i b x z named = let p = go b x named in (ap (λ c. if c then k else h.seat_number b) p.0 ∙ sym z, (h.named id u b x there p.1).1)
 
-    all_named : AreNamed h.own seat_number (set s.views id (Unused (n + 1)) ++ alone n [] ∷ [])
-    all_named i u b x e named = ⊎_elim
-        (λ was. kept i u b x named (at_set s.views id i (Unused (n + 1)) u was))
-        (λ (t : (i ≡ k) × (alone n [] ≡ u)). new i u b x t.0 (subst (λ (y : Roster). Names y b x) (sym t.1) named))
-        (at_end (set s.views id (Unused (n + 1))) (alone n []) u i e)
+    all_named : AreNamed h.own seat_number (set rosters id stays ++ goes ∷ [])
+    all_named i y b x e named = ⊎_elim
+        (λ was. kept i y b x named (at_set rosters id i stays y was))
+        (λ (t : (i ≡ k) × (goes ≡ y)). new i b x t.0 (subst (λ (z : Roster). Names z b x) (sym t.1) named))
+        (at_end (set rosters id stays) goes y i e)
+
+-- One of its actors gets a seat for itself.
+pub split_one : {f : Profile} {words : List ℕ} {rosters : List Roster} (h : AreAfterOneList f words rosters) (id : ℕ) (u stays : Roster) (a : ℕ) (w : View)
+    → get_elem? rosters id ≡ some u → Names u a w → ((k : ℕ) (v : View) → Names stays k v → (k ≢ a) × Names u k v) → Fits h.whole stays
+    → AreAfterOneList f words (set rosters id stays ++ alone a w ∷ [])
+split_one h id u stays a w there has stay fit =
+    split_by h id u stays (alone a w) (λ k. k == a) there (λ k v named. let p = stay k v named in (ne_eqb k a p.0, p.1)) gone
+    (λ k e. (h.named id u k w there (subst (λ j. Names u j w) (sym (eqb-true k a e)) has)).0) fit (alone_fits h.whole a w)
+  where
+    gone : (k : ℕ) (v : View) → Names (alone a w) k v → ((k == a) ≡ true) × Names u k v
+    gone k v (inl q) = (eq-eqb k a (sym q.0), subst (λ (z : ℕ × View). Names u z.0 z.1) (λ i. (q.0 i, q.1 i)) has)
+    gone k v (inr q) = absurd q
+
+-- The first of the actors that nobody used may be taken away.
+pub splits : (f : Profile) (id n : ℕ) → Splits (Holds f) id (Unused n) (all_but_first (Unused n)) (first_alone (Unused n))
+splits f id n s h there =
+    split_one h id (Unused n) (Unused (n + 1)) n [] there (omega arith, refl)
+    (λ k v (q : (n + 1 ≤ k) × (v ≡ [])). let le = q.0 in ((λ e. omega arith), (omega arith, q.1))) (tt, tt, tt)
 
 -- ---- a join
 has_either : (ps qs : List Part) (k : ℕ) (v : View) → HasPart (ps ++ qs) k v → HasPart ps k v ⊎ HasPart qs k v
@@ -389,11 +413,7 @@ entries_are k [] = refl
 entries_are k (m ∷ v) = ap (λ (l : Whole). triple k m ∷ l) (entries_are k v)
 
 among_one : (n k : ℕ) → among (n ∷ []) k ≡ true → n ≡ k
-among_one n k h = at (n == k) refl h
-  where
-    at : (b : Bool) → (n == k) ≡ b → (if n == k then true else false) ≡ true → n ≡ k
-    at true e h = eqb-true n k e
-    at false e h = absurd (true≢false (sym h ∙ ap (λ (b : Bool). if b then true else false) e))
+among_one n k h = grind (arith, eqb-true)
 
 -- a row of one actor names it alone
 row_of_one : (p : Part) (k : ℕ) (v : View) → SitsIn (record { actors = p.actor ∷ []; made = entries_by p.actor p.made; base = [] }) k v
@@ -475,18 +495,13 @@ rows_joined _ _ l one other own = tt
 
 -- Two rosters that are joined are one of both, and nothing is left.
 pub joins : (f : Profile) (id : ℕ) (u : Roster) (other : ℕ) (w : Roster) → Joins (Holds f) id u other w (joined u w) (Listed [])
-joins f id u other w s h here apart there = record {
-  whole = h.whole;
-  legal = h.legal;
-  words_are = h.words_are;
-  own = h.own;
-  one_order = h.one_order;
-  seat_number = seat_number;
-  named = all_named;
-  apart = know_set Apart (set s.views id (joined u w)) other (Listed []) (know_set Apart s.views id (joined u w) h.apart (apart_joined u w (h.apart id u here) (h.apart other w theirs) at_one)) tt;
-  seen = know_set (SawOf h.whole) (set s.views id (joined u w)) other (Listed []) (know_set (SawOf h.whole) s.views id (joined u w) h.seen (seen_joined u w h.whole (h.seen id u here) (h.seen other w theirs) (h.rows other w theirs))) (nothing_seen h.whole);
-  rows = know_set (RowsOf h.whole) (set s.views id (joined u w)) other (Listed []) (know_set (RowsOf h.whole) s.views id (joined u w) h.rows (rows_joined u w h.whole (h.rows id u here) (h.rows other w theirs) own_part)) tt;
-}
+joins f id u other w s h here apart there =
+    let fit = know_set (Fits h.whole) s.views id (joined u w) (all_fit h) (
+      apart_joined u w (h.apart id u here) (h.apart other w theirs) at_one,
+      seen_joined u w h.whole (h.seen id u here) (h.seen other w theirs) (h.rows other w theirs),
+      rows_joined u w h.whole (h.rows id u here) (h.rows other w theirs) own_part,
+    ) in
+    seated h (set (set s.views id (joined u w)) other (Listed [])) seat_number all_named (know_set (Fits h.whole) (set s.views id (joined u w)) other (Listed []) fit (tt, tt, tt))
   where
     seat_number : ℕ → ℕ
     seat_number b = (if eqb (h.seat_number b) other then id else h.seat_number b)
@@ -586,156 +601,62 @@ read_at (x ∷ xs) zero a d e = some-injective x a e
 read_at (x ∷ xs) (suc i) a d e = read_at xs i a d e
 
 -- ---- a seat that comes, names nobody and saw nothing
-pub arrives : (f : Profile) (slots i : ℕ) → Enters (Holds f) slots i (λ n w. SawNothing (w, []))
-arrives f slots i s h len fits = (
-  Settled [] [],
-  record {
-    whole = h.whole;
-    legal = h.legal;
-    words_are = h.words_are;
-    own = h.own;
-    one_order = h.one_order;
-    seat_number = h.seat_number;
-    named = named;
-    apart = know_end Apart s.views (Settled [] []) h.apart tt;
-    seen = know_end (SawOf h.whole) s.views (Settled [] []) h.seen (nothing_seen h.whole);
-    rows = know_end (RowsOf h.whole) s.views (Settled [] []) h.rows tt;
-  },
-  refl,
-)
+pub enter : {f : Profile} {words : List ℕ} {rosters : List Roster} (h : AreAfterOneList f words rosters) (u : Roster) → ((k : ℕ) (v : View) → Names u k v → ⊥)
+    → Fits h.whole u → AreAfterOneList f words (rosters ++ u ∷ [])
+enter {rosters = rosters} h u nobody fit = seated h (rosters ++ u ∷ []) h.seat_number named (know_end (Fits h.whole) rosters u (all_fit h) fit)
   where
-    nobody : (u : Roster) (i k : ℕ) (v : View) → Settled [] [] ≡ u → Names u k v → (h.seat_number k ≡ i) × (h.own k ≡ v)
-    nobody u i k v e its = absurd (subst (λ (y : Roster). Names y k v) (sym e) its)
+    named : AreNamed h.own h.seat_number (rosters ++ u ∷ [])
+    named j y k v e its = ⊎_elim
+        (λ was. h.named j y k v was its)
+        (λ (t : (j ≡ length rosters) × (u ≡ y)). absurd (nobody k v (subst (λ (z : Roster). Names z k v) (sym t.1) its)))
+        (at_end rosters u y j e)
 
-    named : AreNamed h.own h.seat_number (s.views ++ Settled [] [] ∷ [])
-    named j u k v e its = ⊎_elim (λ was. h.named j u k v was its) (λ (t : (j ≡ length s.views) × (Settled [] [] ≡ u)). nobody u j k v t.1 its) (at_end s.views (Settled [] []) u j e)
+pub arrives : (f : Profile) (slots i : ℕ) → Enters (Holds f) slots i (λ n w. SawNothing (w, []))
+arrives f slots i s h len fits = (Settled [] [], enter h (Settled [] []) (λ k v none. none) (tt, tt, tt), refl)
 
 -- ==== A ledger: it takes actors in, looks at all steps so far, and gives the actors their seats back.
 
 -- ---- all actors of a seat get another
 pub splits_all : (f : Profile) (id : ℕ) (u : Roster) → Splits (Holds f) id u (Listed []) u
-splits_all f id u s h there = record {
-  whole = h.whole;
-  legal = h.legal;
-  words_are = h.words_are;
-  own = h.own;
-  one_order = h.one_order;
-  seat_number = seat_number;
-  named = all_named;
-  apart = know_split Apart s.views id (Listed []) u h.apart tt (h.apart id u there);
-  seen = know_split (SawOf h.whole) s.views id (Listed []) u h.seen (nothing_seen h.whole) (h.seen id u there);
-  rows = know_split (RowsOf h.whole) s.views id (Listed []) u h.rows tt (h.rows id u there);
-}
-  where
-    k : ℕ
-    k = length (set s.views id (Listed []))
-
-    seat_number : ℕ → ℕ
-    seat_number b = (if eqb (h.seat_number b) id then k else h.seat_number b)
-
-    moved : (b : ℕ) → h.seat_number b ≡ id → seat_number b ≡ k
-    moved b e = ap (λ c. if c then k else h.seat_number b) (eq-eqb (h.seat_number b) id e)
-
-    as_was : (b i : ℕ) → i ≢ id → h.seat_number b ≡ i → seat_number b ≡ i
-    as_was b i ne e = ap (λ c. if c then k else h.seat_number b) (ne_eqb (h.seat_number b) id (λ z. ne (sym e ∙ z))) ∙ e
-
-    kept : (i : ℕ) (y : Roster) (b : ℕ) (x : View) → Names y b x → ((i ≡ id) × (Listed [] ≡ y)) ⊎ ((i ≢ id) × (get_elem? s.views i ≡ some y))
-        → (seat_number b ≡ i) × (h.own b ≡ x)
-    kept i y b x named (inl t) = absurd (subst (λ (z : Roster). Names z b x) (sym t.1) named)
-    kept i y b x named (inr t) = let old = h.named i y b x t.1 named in (as_was b i t.0 old.0, old.1)
-
-    new : (i b : ℕ) (x : View) → i ≡ k → Names u b x → (seat_number b ≡ i) × (h.own b ≡ x)
-    new i b x z named = let old = h.named id u b x there named in (moved b old.0 ∙ sym z, old.1)
-
-    all_named : AreNamed h.own seat_number (set s.views id (Listed []) ++ u ∷ [])
-    all_named i y b x e named = ⊎_elim
-        (λ was. kept i y b x named (at_set s.views id i (Listed []) y was))
-        (λ (t : (i ≡ k) × (u ≡ y)). new i b x t.0 (subst (λ (z : Roster). Names z b x) (sym t.1) named))
-        (at_end (set s.views id (Listed [])) u y i e)
+splits_all f id u s h there =
+    split_by h id u (Listed []) u (λ k. h.seat_number k == id) there (λ k v none. absurd none)
+    (λ k v its. (eq-eqb (h.seat_number k) id (h.named id u k v there its).0, its)) (λ k e. eqb-true (h.seat_number k) id e) (tt, tt, tt) (all_fit h id u there)
 
 -- ---- the actor that was taken in last gets one
 pub splits_last : (f : Profile) (id : ℕ) (es : List (List Entry)) (p : Part) (ps : List Part)
     → Splits (Holds f) id (Settled es (p ∷ ps)) (Settled es ps) (Listed (p ∷ []))
-splits_last f id es p ps s h there = record {
-  whole = h.whole;
-  legal = h.legal;
-  words_are = h.words_are;
-  own = h.own;
-  one_order = h.one_order;
-  seat_number = seat_number;
-  named = all_named;
-  apart = know_split Apart s.views id (Settled es ps) (Listed (p ∷ [])) h.apart (h.apart id (Settled es (p ∷ ps)) there).1 ((λ x none. none), tt);
-  seen = know_split (SawOf h.whole) s.views id (Settled es ps) (Listed (p ∷ [])) h.seen (h.seen id (Settled es (p ∷ ps)) there) (nothing_seen h.whole);
-  rows = know_split (RowsOf h.whole) s.views id (Settled es ps) (Listed (p ∷ [])) h.rows tt tt;
-}
-  where
-    k : ℕ
-    k = length (set s.views id (Settled es ps))
-
-    seat_number : ℕ → ℕ
-    seat_number b = (if eqb b p.actor then k else h.seat_number b)
-
-    as_was : (b i : ℕ) → b ≢ p.actor → h.seat_number b ≡ i → seat_number b ≡ i
-    as_was b i ne e = ap (λ c. if c then k else h.seat_number b) (ne_eqb b p.actor ne) ∙ e
-
-    mine_now : (b : ℕ) → p.actor ≡ b → seat_number b ≡ k
-    mine_now b e = ap (λ c. if c then k else h.seat_number b) (eq-eqb b p.actor (sym e))
-
-    own : (h.seat_number p.actor ≡ id) × (h.own p.actor ≡ p.made)
-    own = h.named id (Settled es (p ∷ ps)) p.actor p.made there (inl (refl, refl))
-
-    kept : (i : ℕ) (y : Roster) (b : ℕ) (x : View) → Names y b x → ((i ≡ id) × (Settled es ps ≡ y)) ⊎ ((i ≢ id) × (get_elem? s.views i ≡ some y))
-        → (seat_number b ≡ i) × (h.own b ≡ x)
-    kept i y b x named (inl t) =
-        let has : HasPart ps b x = subst (λ (z : Roster). Names z b x) (sym t.1) named in
-        let old = h.named id (Settled es (p ∷ ps)) b x there (inr has) in
-        (as_was b i (λ e. (h.apart id (Settled es (p ∷ ps)) there).0 x (subst (λ (c : ℕ). HasPart ps c x) e has)) (old.0 ∙ sym t.0), old.1)
-    kept i y b x named (inr t) =
-        let old = h.named i y b x t.1 named in
-        (as_was b i (λ e. t.0 (sym old.0 ∙ (ap h.seat_number e ∙ own.0))) old.0, old.1)
-
-    new : (i b : ℕ) (x : View) → i ≡ k → Names (Listed (p ∷ [])) b x → (seat_number b ≡ i) × (h.own b ≡ x)
-    new i b x z (inl q) = (mine_now b q.0 ∙ sym z, subst (λ (c : ℕ). h.own c ≡ x) q.0 (own.1 ∙ q.1))
-    new i b x z (inr q) = absurd q
-
-    all_named : AreNamed h.own seat_number (set s.views id (Settled es ps) ++ Listed (p ∷ []) ∷ [])
-    all_named i y b x e named = ⊎_elim
-        (λ was. kept i y b x named (at_set s.views id i (Settled es ps) y was))
-        (λ (t : (i ≡ k) × (Listed (p ∷ []) ≡ y)). new i b x t.0 (subst (λ (z : Roster). Names z b x) (sym t.1) named))
-        (at_end (set s.views id (Settled es ps)) (Listed (p ∷ [])) y i e)
+splits_last f id es p ps s h there =
+    let apart = h.apart id (Settled es (p ∷ ps)) there in
+    split_one h id (Settled es (p ∷ ps)) (Settled es ps) p.actor p.made there (inl (refl, refl))
+    (λ k v (has : HasPart ps k v). ((λ e. apart.0 v (subst (λ (c : ℕ). HasPart ps c v) e has)), inr has)) (apart.1, h.seen id (Settled es (p ∷ ps)) there, tt)
 
 -- ---- a look
+-- A seat that looks may be another, which names nobody anew.
+pub learns : {f : Profile} {words : List ℕ} {rosters : List Roster} (h : AreAfterOneList f words rosters) (i id : ℕ) (now : Roster)
+    → ((k : ℕ) (v : View) → Names now k v → (h.seat_number k ≡ id) × (h.own k ≡ v)) → Fits h.whole now
+    → AreAfterOneList f (set words i (get_or words i 0)) (set rosters id now)
+learns {f = f} {words = words} {rosters = rosters} h i id now its fit =
+    subst (λ (ws : List ℕ). AreAfterOneList f ws (set rosters id now)) (sym (set-get_or words i 0))
+    (seated h (set rosters id now) h.seat_number named (know_set (Fits h.whole) rosters id now (all_fit h) fit))
+  where
+    named : AreNamed h.own h.seat_number (set rosters id now)
+    named j u k v e has = ⊎_elim
+        (λ (t : (j ≡ id) × (now ≡ u)). let old = its k v (subst (λ (y : Roster). Names y k v) (sym t.1) has) in (old.0 ∙ sym t.0, old.1))
+        (λ (t : (j ≢ id) × (get_elem? rosters j ≡ some u)). h.named j u k v t.1 has)
+        (at_set rosters id j now u e)
+
 pub looks : (f : Profile) (slots id i : ℕ) (es : List (List Entry)) (ps : List Part)
     → Allows (Holds f) slots id (Settled es ps, []) i (λ n. n) (λ n me. SeesAll (Settled es ps, []) me)
-looks f slots id i es ps s h len there fits = (
-  now,
-  keeps,
-  tt,
-  record {
-    whole = h.whole;
-    legal = h.legal;
-    words_are = subst (λ (ws : List ℕ). AreWordsAfter f ws h.whole) (sym (set-get_or s.words i 0)) h.words_are;
-    own = h.own;
-    one_order = h.one_order;
-    seat_number = h.seat_number;
-    named = named;
-    apart = know_set Apart s.views id now h.apart (h.apart id (Settled es ps) there);
-    seen = know_set (SawOf h.whole) s.views id now h.seen (([], sym (entries_same h.whole)), tt);
-    rows = know_set (RowsOf h.whole) s.views id now h.rows tt;
-  },
-  record {
-    entries = entries_for h.whole;
-    after_is = refl;
-    earlier = subst (λ (l : Whole). AreEarlier es l) (sym (entries_same h.whole)) (h.seen id (Settled es ps) there);
-    all = λ k v has. ap (λ (l : Whole). part k l) (entries_same h.whole) ∙ (h.one_order k ∙ (h.named id (Settled es ps) k v there has).1);
-  },
-)
-  where
-    now : Roster
-    now = Settled (entries_for h.whole ∷ []) ps
-
-    named : AreNamed h.own h.seat_number (set s.views id now)
-    named j u k v e its = ⊎_elim
-        (λ (t : (j ≡ id) × (now ≡ u)). let old = h.named id (Settled es ps) k v there (subst (λ (y : Roster). Names y k v) (sym t.1) its) in (old.0 ∙ sym t.0, old.1))
-        (λ (t : (j ≢ id) × (get_elem? s.views j ≡ some u)). h.named j u k v t.1 its)
-        (at_set s.views id j now u e)
+looks f slots id i es ps s h len there fits =
+    let same = entries_same h.whole in (
+      Settled (entries_for h.whole ∷ []) ps,
+      keeps,
+      tt,
+      learns h i id (Settled (entries_for h.whole ∷ []) ps) (λ k v has. h.named id (Settled es ps) k v there has) (h.apart id (Settled es ps) there, (([], sym same), tt), tt),
+      record {
+        entries = entries_for h.whole;
+        after_is = refl;
+        earlier = subst (λ (l : Whole). AreEarlier es l) (sym same) (h.seen id (Settled es ps) there);
+        all = λ k v has. ap (λ (l : Whole). part k l) same ∙ (h.one_order k ∙ (h.named id (Settled es ps) k v there has).1);
+      },
+    )

@@ -1,19 +1,15 @@
 -- What a view meets after a deed, and after a look at a deed word.
-use Rattle.std.proofs.Common.{◌≡◌, ℕ, ◌&&◌, ◌==◌, if◌then◌else◌, ◌∷◌, ap, sym, ◌∙◌, subst}
+use Rattle.std.proofs.Common.{arith, ◌≡◌, ℕ, if◌then◌else◌, ◌∷◌, ap, ◌∙◌}
 use Rattle.pas_profile.specs.Directories.{deed_word_of}
 use Rattle.pas_profile.specs.declared.{directory.Directory.Directory, word.Word.Word}
-use Rattle.pas_steps.specs.Desks.{made}
-use Rattle.pas_steps.specs.Views.{View, Rests, ByDeed, had_after, has_right, known_deed, KnowsDeed}
+use Rattle.pas_steps.specs.{Desks.made, Views.View, Views.known_deed, Views.KnowsDeed}
 use Rattle.pas_steps.specs.declared.step.Step.TheVariants.{Look, Deed}
 use Rattle.pas_rights.specs.Leaves.{MayLeave}
 use Rattle.pas_rights.proofs.Orders.{same_page}
 
 -- a deed that the page hadn't gives the right
 pub deed_gives : (p : ℕ) (d : Directory) (a : ℕ) (v : View) → a ≡ 0 → MayLeave p d (made (Deed p d) a ∷ v)
-deed_gives p d a v e = subst (λ x. MayLeave p d (made (Deed p d) x ∷ v)) (sym e) (record {
-  right = ap (λ t. had_after (if t && (0 == 0) then ByDeed else Rests) (has_right v p)) (same_page p);
-  deed = ap (λ t. if t then deed_word_of d else known_deed v p) (same_page p);
-})
+deed_gives p d a v e = search (arith, same_page)
 
 -- a deed word that is read is known
 pub look_reads : (p a : ℕ) (v : View) → known_deed (made (Look (Word.Deed p)) a ∷ v) p ≡ a

@@ -9,9 +9,9 @@ pub offered_found : {σ σ' : Standing} {d' : Directory} {n n' : ℕ} (o : Optio
     → (h : FindsOffered d' n σ σ' n' o)
     → MatchOption o (NoneOffered f d 1 h.steps) (IsFirstOffered f d 1 h.steps)
 offered_found {σ} {σ'} {d'} {n} {n'} None f d ef ed en h =
-    subst (λ (x : ℕ). NoneOffered f d x h.steps) en (subst (λ (x : Directory). NoneOffered f x n h.steps) ed (subst (λ (x : Profile). NoneOffered x d' n h.steps) ef h.outcome.1))
+    rw (ef, ed, en) at h.outcome.1
 offered_found {σ} {σ'} {d'} {n} {n'} (Some p) f d ef ed en h =
-    subst (λ (x : ℕ). IsFirstOffered f d x h.steps p) en (subst (λ (x : Directory). IsFirstOffered f x n h.steps p) ed (subst (λ (x : Profile). IsFirstOffered x d' n h.steps p) ef h.outcome.1))
+    rw (ef, ed, en) at h.outcome.1
 
 -- The page that a search of pages without a deed found, or none, is the first one that was read so.
 pub bare_found : {σ σ' : Standing} {from : ℕ} {o : Option ℕ} (f : Profile) → σ.seat.profile ≡ f → (h : FindsBare from σ σ' o)

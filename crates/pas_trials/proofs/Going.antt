@@ -1,4 +1,4 @@
--- Errands of an actor that is at rest with its cache.
+-- Errands of an actor that is at rest with its cache, and what an actor that has nothing did.
 use Rattle.std.proofs.Common.{◌≡◌, ℕ, zero, suc, ◌≤◌, List, [], ◌∷◌, ◌++◌, ◌==◌, Bool, true, false, if◌then◌else◌, Option, None, Result, refl, ap, sym, ◌∙◌}
 use Rattle.std.proofs.Common.{subst, arith}
 use Rattle.pas_profile.specs.declared.{event.NoRoom.NoRoom, name.Block.Block, profile.Profile.Profile}
@@ -6,14 +6,16 @@ use Rattle.pas_steps.specs.{Calls.Calls, Clear.HasNothing, Kinds.Ticking, Unknow
 use Rattle.pas_steps.specs.Desks.{Standing, Seat, CanCall, Makes, made}
 use Rattle.pas_steps.specs.declared.step.{Made.Made, Step.TheVariants.Tick}
 use Rattle.pas_steps.proofs.{Adding.adds_under, Calls.does_idly, Unknown.has_room, Nothing.nothing_still}
-use Rattle.pas_steps.proofs.Called.{call_none, call_step, call_as, call_then}
+use Rattle.pas_steps.proofs.Called.{call_none, call_step, call_as, call_then, next_call}
 use Rattle.pas_free_log.specs.Flushes.{Flushes}
 use Rattle.pas_free_log.specs.declared.{log.Entry.Entry, noting.EndedRun.EndedRun}
 use Rattle.pas_cache.specs.{Caches.Cached, Caches.AtRest, Serves.Wanted}
-use Rattle.pas_cache.specs.Calls.{MayAllocate, Allocates, MayAllocatePages, AllocatesPages, StopsCache}
+use Rattle.pas_cache.specs.Calls.{MayAllocate, Allocates, MayAllocatePages, AllocatesPages, StopsCache, Rests}
 use Rattle.pas_cache.proofs.{Budget.log_kept, FlushesAndFrees.rests_empty, Resting.rests_kept}
 use Rattle.pas_plain.specs.Storms.{Acts}
-use Rattle.pas_trials.specs.Borrowing.{Borrows}
+use Rattle.pas_trials.specs.{Borrowing.Borrows, SharedStorms.IsWorking}
+
+-- ==== Errands of an actor that is at rest with its cache.
 
 -- ---- room
 at_most_one : (t : Bool) → (if t then 1 else 0) ≤ 1
@@ -93,9 +95,22 @@ module _ {σ σ1 : Standing} {c c1 : Cached} (locals : c.locals ≡ []) (log : c
   rests_then : (v : View) → AtRest σ.seat.profile c1 v → AtRest σ1.seat.profile c1 v
   rests_then v rest = subst (λ (s : Seat). AtRest s.profile c1 v) (sym goes.rests.adds.seat_is) rest
 
-  -- An errand of an actor that had nothing, and the stop of its cache, are a visit.
+  -- After an errand of an actor that had nothing its cache may be stopped,
+  pub may_stop : CanCall σ HasNothing → CanCall σ1 (AtRest σ1.seat.profile c1)
+  may_stop can = next_call from_nothing can (λ v none rest. rests_then (goes.steps ++ v) rest)
+
+  -- .. and both are a visit.
   pub visited : {σ2 : Standing} {c2 : Cached} → StopsCache c1 c2 σ1 σ2 → Acts σ σ2
   visited stops = record {
     steps = (stops.stopped ++ stops.flushed) ++ goes.steps;
     calls = call_then (λ v w. HasNothing w) from_nothing stops.calls (λ v none rest. rests_then (goes.steps ++ v) rest) (λ v none rest done. done.1);
   }
+
+-- ==== After a call of a cache its actor goes on.
+
+-- An actor that works with a cache goes on working after a call that leaves it at rest.
+pub works_on : {σ σ' : Standing} {c c' : Cached} {steps : List Made} (room : ℕ) → IsWorking σ c room → Rests c c' σ σ' steps → IsWorking σ' c' room
+works_on {σ} {σ'} {c} {c'} room working calls = record {
+  room_is = ap (λ (s : Seat). s.room) calls.adds.seat_is ∙ working.room_is;
+  rest = subst (λ (s : Seat). CanCall σ' (AtRest s.profile c')) (sym calls.adds.seat_is) (next_call calls working.rest (λ v met rests. rests));
+}

@@ -165,7 +165,7 @@ shown_both k (m ∷ xs) l =
 
 shown_lone : (k : ℕ) (v : View) (l : Whole) → part k l ≡ [] → visible (triples k v ++ l) ≡ events_of k v ++ visible l
 shown_lone k v l none =
-    shown_both k v l ∙ ap (λ (es : List Event). es ++ visible l) (ap (λ (w : View). events_by k w v) none ∙ (sym (events_all k v) ∙ ap (events_of k) (append-nil v)))
+    cc (shown_both k v l, events_all k v, append-nil v)
 
 -- ==== A run in which the block was given last has no refusal of its name next.
 
@@ -218,7 +218,7 @@ handed_over f l first second v w block name d before epoch outcome valid legal t
     ap visible (second_is ∙ sym (append-nil (triples 1 v))) ∙ (shown_lone 1 v [] refl ∙ (append-nil (events_of 1 v) ∙ gave)) in
     let all : visible l ≡ event_for 2 epoch (entry_of block.name) outcome ∷ Event.Give 1 block ∷ before =
     ap visible whole_is ∙ (shown_lone 2 w second fresh ∙ (λ i. (ended ∙ ap (λ (n : Name). event_for 2 epoch (entry_of n) outcome ∷ []) (sym name_is)) i ++ first_events i)) in
-    subst (λ (n : Name). event_for 2 epoch (entry_of n) outcome ≡ Event.End 2 n epoch) name_is (is_end f block d before epoch outcome prepared (subst (Run f) all (runs f l valid legal)))
+    rw name_is at (is_end f block d before epoch outcome prepared (subst (Run f) all (runs f l valid legal)))
 
 -- A gift that the second actor freed was handed over.
 pub is_handed_over : (region : SharedRegion) (gift : Gift) (scavenger giver taker : SharedPass) (past : Past) (state : State) (event : Option Event)
@@ -232,13 +232,11 @@ is_handed_over region gift scavenger giver taker past state event threads idle o
     let l : Whole = after.whole in
     let others = others_are (λ (p : SharedPass). part (seat_of p).actor l ≡ view_of p) (scavenger ∷ giver ∷ taker ∷ []) scavenger (giver ∷ taker ∷ []) refl after.parts in
     let last = others_are (λ (p : SharedPass). part (seat_of p).actor l ≡ view_of p) (giver ∷ taker ∷ []) giver (taker ∷ []) refl others in
-    let none : part 0 l ≡ [] = ap (λ (k : ℕ). part k l) (sym idle.actor) ∙ (first_is (λ (p : SharedPass). part (seat_of p).actor l ≡ view_of p) (scavenger ∷ giver ∷ taker ∷ []) scavenger (giver ∷ taker ∷ []) refl after.parts ∙ idle.fresh.no_steps) in
+    let none : part 0 l ≡ [] = cc (first_is (λ (p : SharedPass). part (seat_of p).actor l ≡ view_of p) (scavenger ∷ giver ∷ taker ∷ []) scavenger (giver ∷ taker ∷ []) refl after.parts) in
     let of_giver : part 1 l ≡ view_of giver = ap (λ (k : ℕ). part k l) (sym one.actor) ∙ first_is (λ (p : SharedPass). part (seat_of p).actor l ≡ view_of p) (giver ∷ taker ∷ []) giver (taker ∷ []) refl others in
     let of_taker : part 2 l ≡ view_of taker = ap (λ (k : ℕ). part k l) (sym two.actor) ∙ first_is (λ (p : SharedPass). part (seat_of p).actor l ≡ view_of p) (taker ∷ []) taker [] refl last in
     let noted : events_noted taker.notes ≡ event_for 2 free.epoch (entry_of gift.name) free.outcome ∷ [] = taker.noted.shown ∙ ap reverse (ap (λ (k : ℕ). events_of k (view_of taker)) two.actor ∙ free.events) in
     record {
       epoch = free.epoch;
-      ended = tells (event_for 2 free.epoch (entry_of gift.name) free.outcome) [] noted
-          ∙ ap Some (handed_over region.profile l (told gift.past) (told past) (view_of giver) (view_of taker) given.block gift.name given.directory given.before free.epoch free.outcome
-          region.valid after.legal threads free.earlier ends.begins given.own free.own none of_giver of_taker given.name_is given.events given.prepared free.events);
+      ended = cc (tells (event_for 2 free.epoch (entry_of gift.name) free.outcome) [] noted, handed_over region.profile l (told gift.past) (told past) (view_of giver) (view_of taker) given.block gift.name given.directory given.before free.epoch free.outcome region.valid after.legal threads free.earlier ends.begins given.own free.own none of_giver of_taker given.name_is given.events given.prepared free.events);
     }

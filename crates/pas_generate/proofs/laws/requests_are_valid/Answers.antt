@@ -1,4 +1,4 @@
-use Rattle.pas_generate.proofs.Valid.{valid}
+use Rattle.pas_generate.proofs.Checks.{valid}
 use Rattle.pas_generate.proofs.laws.requests_are_valid.Goals as goal
 
 pub returns : goal.returns

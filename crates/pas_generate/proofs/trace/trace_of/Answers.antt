@@ -1,6 +1,6 @@
 use Rattle.std.proofs.Common.{rules}
 use Rattle.pas_generate.specs.{Operations.state_of, Lines.header}
-use Rattle.pas_generate.proofs.Traces.{no_state, no_lines, more_state, more_lines}
+use Rattle.pas_generate.proofs.Whole.{no_state, no_lines, more_state, more_lines}
 use Rattle.pas_generate.proofs.trace.trace_of.Goals as goal
 
 pub loop-done-init : goal.loop-done-init

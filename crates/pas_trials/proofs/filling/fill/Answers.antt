@@ -4,7 +4,7 @@ use Rattle.pas_search.specs.Searches.{MaySearch}
 use Rattle.pas_segregated.specs.Stops.{class_directory, directory_of, MayStop}
 use Rattle.pas_steps.specs.Desks.{Seat}
 use Rattle.pas_steps.proofs.Adding.{adds_call, can_call}
-use Rattle.pas_trials.proofs.Fills.{given_directory, may_stop_then}
+use Rattle.pas_trials.proofs.Firsts.{given_directory, may_stop_then}
 use Rattle.pas_trials.proofs.filling.fill.Goals as goal
 
 pub stop_where-requires-clause-directory : goal.stop_where-requires-clause-directory

@@ -1,6 +1,6 @@
 use Rattle.std.proofs.Common.{arith}
-use Rattle.pas_trials.proofs.Borrowed.{empty_few, one_logged, budget_call, call_budget, rest_call, freed_call, freed_budget}
-use Rattle.pas_trials.proofs.WholePages.{flushed_budget, settled_budget, two_logged}
+use Rattle.pas_trials.proofs.Borrowed.{empty_few, one_logged, budget_call, call_budget, rest_call, freed_call, freed_budget, flushed_budget, settled_budget}
+use Rattle.pas_trials.proofs.Borrowed.{two_logged}
 use Rattle.pas_trials.proofs.paging.end_last_two.Goals as goal
 
 pub free-requires-clause-room : goal.free-requires-clause-room

@@ -1,5 +1,5 @@
 use Rattle.pas_cache.proofs.Routes.{is_small}
-use Rattle.pas_trials.proofs.Working.{works_on}
+use Rattle.pas_trials.proofs.Going.{works_on}
 use Rattle.pas_trials.proofs.shared_storm.ask_once.Goals as goal
 
 pub alloc-requires-clause-route : goal.alloc-requires-clause-route

@@ -1,6 +1,6 @@
 use Rattle.std.proofs.Common.{refl, ◌∙◌, arith}
 use Rattle.pas_cache.proofs.{Budget.may_allocate, Routes.is_small}
-use Rattle.pas_trials.proofs.Borrowing.{none_yet, one_more}
+use Rattle.pas_trials.proofs.Borrowed.{none_yet, one_more}
 use Rattle.pas_trials.proofs.storming.borrow_many.Goals as goal
 
 pub loop-done-init : goal.loop-done-init

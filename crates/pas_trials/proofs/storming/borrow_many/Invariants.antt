@@ -1,6 +1,6 @@
 use Rattle.std.proofs.Common.{◌*◌, ◌-◌, ◌≡◌}
 use Rattle.pas_cache.specs.Caches.{cached}
-use Rattle.pas_trials.proofs.Borrowing.{BorrowsSoFar}
+use Rattle.pas_trials.proofs.Borrowed.{BorrowsSoFar}
 use Rattle.pas_trials.proofs.storming.borrow_many.Given as goal
 
 -- the requests so far leave room for the others
